@@ -1,0 +1,6 @@
+//! Distances and near lists.
+#![tactic(auto)]
+
+mod metric;
+
+pub use metric::{Metric, Planar};
