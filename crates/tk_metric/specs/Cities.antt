@@ -1,6 +1,10 @@
 -- The cities of an instance.
-use Rattle.std.specs.Prelude.{ℕ, ◌≤◌}
+use Rattle.std.specs.Prelude.{ℕ, List, ◌≤◌, ◌-◌, slice_index}
 
 -- c is one of the cities 1 to n
 abbrev pub IsCity : ℕ → ℕ → Type 0
 IsCity n c = (1 ≤ c) × (c ≤ n)
+
+-- the city numbered c, from 1, in a list of cities
+abbrev pub city_at : List ℕ → ℕ → ℕ
+city_at cities c = slice_index cities (c - 1)

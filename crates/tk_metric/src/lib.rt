@@ -1,6 +1,31 @@
 //! Distances and near lists.
 #![tactic(auto)]
 
+#[cfg(test)]
+mod near_tests;
+#[cfg(test)]
+mod tests;
+mod fine;
+mod guess;
+mod keep;
+mod lines;
 mod metric;
+mod near;
+mod planes;
+mod roots;
+mod sub;
+mod sweep;
+mod table;
+mod triangle;
+mod turned;
+mod whole;
 
 pub use metric::{Metric, Planar};
+pub use near::{Near, near_lists_agree, near_scan};
+pub use planes::Planes;
+pub use roots::{root, root_up};
+pub use sub::Sub;
+pub use sweep::near_sweep;
+pub use table::Table;
+pub use triangle::Triangle;
+pub use turned::Turned;

@@ -33,12 +33,13 @@ pub trait Metric {
     ghost distance_limit: { (m : Self) (a b : ℕ) → distance m a b ≤ 4000000000 };
 }
 
-/// A metric over places in the plane, in which a distance is at least a function of the difference in x.
+/// A metric over places in the plane, in which a distance is at least a function of the difference in x, and the same
+/// function of the difference in y.
 pub trait Planar: Metric {
     /// The place of a city.
     ghost place_of: { Self → ℕ → Point };
 
-    /// The least distance at a difference in x.
+    /// The least distance at a difference in x or in y.
     ghost floor: { Self → ℕ → ℕ };
 
     /// The place of a city.
@@ -46,14 +47,18 @@ pub trait Planar: Metric {
         requires { IsCity (Self.size_of self.now) c }
         ensures { result ≡ place_of self.now c };
 
-    /// No two cities with this difference in x, in units of 10^-9, are nearer than this.
+    /// No two cities with this difference in x, or in y, in units of 10^-9, are nearer than this.
     fn floor_x(&self, dx: u64) -> i64
         requires { dx ≤ 2000000000000000000 }
         ensures { result ≡ pos (floor self.now dx) };
 
     ghost wide: { (m : Self) (a b : ℕ) → unsigned_abs ((place_of m a).x -ℤ (place_of m b).x) ≤ 2000000000000000000 };
 
+    ghost tall: { (m : Self) (a b : ℕ) → unsigned_abs ((place_of m a).y -ℤ (place_of m b).y) ≤ 2000000000000000000 };
+
     ghost floor_rises: { (m : Self) (s t : ℕ) → s ≤ t → t ≤ 2000000000000000000 → floor m s ≤ floor m t };
 
     ghost floor_bounds: { (m : Self) (a b : ℕ) → floor m (unsigned_abs ((place_of m a).x -ℤ (place_of m b).x)) ≤ Self.distance m a b };
+
+    ghost floor_bounds_y: { (m : Self) (a b : ℕ) → floor m (unsigned_abs ((place_of m a).y -ℤ (place_of m b).y)) ≤ Self.distance m a b };
 }

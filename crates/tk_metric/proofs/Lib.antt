@@ -1,0 +1,12 @@
+pub mod Covering
+pub mod Inserting
+pub mod Keeping
+pub mod Laws
+pub mod OneEach
+pub mod Placing
+pub mod PlaneReads
+pub mod RootLemmas
+pub mod Rounding
+pub mod Sweeping
+pub mod Tables
+pub mod XOrder

@@ -1,0 +1,98 @@
+-- A number is the rounded root of a square where it lies between its two neighbours.
+use Rattle.std.proofs.Common.{◌≡◌, ℕ, ◌+◌, ◌-◌, ◌*◌, ◌<◌, ◌≤◌, ◌/◌, subst, refl, inl, inr, arith}
+use Rattle.std.proofs.lemmas.Bool.{cases_lt}
+use Rattle.std.proofs.lemmas.Nat.{mul-le}
+use Rattle.tk_metric.specs.Distance.{IsGreatest, RootReaches, Reaches, square_sum}
+
+-- ---- squares in units of 10^-18
+
+-- a number above d is too great; o is its double less one
+too_great : (square d j o : ℕ) → square < (d * 1000000000 + 500000000) * (d * 1000000000 + 500000000)
+    → o ≡ 2 * d + 1 + 2 * j → o * o * (1000000000 * 1000000000) ≤ 4 * square → ⊥
+too_great square d j o high is r =
+    let P : ℕ → Type 0 = λ x. x * x * (1000000000 * 1000000000) ≤ 4 * square in
+    let s : P (2 * d + 1 + 2 * j) = subst P is r in
+    omega arith
+
+reaches_at : (square k o : ℕ) → (k * 1000000000 + 500000000) * (k * 1000000000 + 500000000) ≤ square
+    → 2 * k + 1 ≡ o → o * o * (1000000000 * 1000000000) ≤ 4 * square
+reaches_at square k o low is =
+    let P : ℕ → Type 0 = λ x. x * x * (1000000000 * 1000000000) ≤ 4 * square in
+    let s : P (2 * k + 1) = omega arith in
+    subst P is s
+
+reaches_above : (square d m : ℕ) → 1 ≤ d → m ≡ d * 1000000000 - 500000000 → m * m ≤ square → RootReaches square d
+reaches_above square d m some is low =
+    let m_is : m ≡ (d - 1) * 1000000000 + 500000000 = omega arith in
+    reaches_at square (d - 1) (2 * d - 1) (subst (λ (x : ℕ). x * x ≤ square) m_is low) (omega arith)
+
+pub nearest_between : (square d : ℕ) → (d * 1000000000 - 500000000) * (d * 1000000000 - 500000000) ≤ square
+    → square < (d * 1000000000 + 500000000) * (d * 1000000000 + 500000000) → IsGreatest (RootReaches square) d
+nearest_between square d low high = record {
+  holds = λ some. reaches_above square d (d * 1000000000 - 500000000) some refl low;
+  greatest = λ e one r. elim (cases_lt d e) [
+    | inl lt ↦ absurd (too_great square d (e - (d + 1)) (2 * e - 1) high (omega arith) r)
+    | inr le ↦ le
+  ];
+}
+
+-- the rounded root from the root
+pub nearest_from_root : (square r d : ℕ) → r * r ≤ square → square < (r + 1) * (r + 1)
+    → d ≡ (r / 500000000 + 1) / 2 → IsGreatest (RootReaches square) d
+nearest_from_root square r d low high is =
+    let a : d * 1000000000 - 500000000 ≤ r = omega arith in
+    let b : r + 1 ≤ d * 1000000000 + 500000000 = omega arith in
+    let la = mul-le (d * 1000000000 - 500000000) (d * 1000000000 - 500000000) r r a a in
+    let lb = mul-le (r + 1) (r + 1) (d * 1000000000 + 500000000) (d * 1000000000 + 500000000) b b in
+    nearest_between square d (omega (arith, la)) (omega (arith, lb))
+
+-- ---- whole squares
+
+too_great_whole : (n d j o : ℕ) → n ≤ d * d + d → o ≡ 2 * d + 1 + 2 * j
+    → o * o * (1000000000 * 1000000000) ≤ 4 * (n * (1000000000 * 1000000000)) → ⊥
+too_great_whole n d j o high is r =
+    let P : ℕ → Type 0 = λ x. x * x * (1000000000 * 1000000000) ≤ 4 * (n * (1000000000 * 1000000000)) in
+    let s : P (2 * d + 1 + 2 * j) = subst P is r in
+    omega arith
+
+reaches_whole : (n k o : ℕ) → (k + 1) * (k + 1) < n + (k + 1) → 2 * k + 1 ≡ o
+    → o * o * (1000000000 * 1000000000) ≤ 4 * (n * (1000000000 * 1000000000))
+reaches_whole n k o low is =
+    let P : ℕ → Type 0 = λ x. x * x * (1000000000 * 1000000000) ≤ 4 * (n * (1000000000 * 1000000000)) in
+    let s : P (2 * k + 1) = omega arith in
+    subst P is s
+
+pub nearest_whole : (n d : ℕ) → n ≤ d * d + d → (1 ≤ d → d * d < n + d)
+    → IsGreatest (RootReaches (n * (1000000000 * 1000000000))) d
+nearest_whole n d high low = record {
+  holds = λ some.
+      let is : d ≡ d - 1 + 1 = omega arith in
+      let P : ℕ → Type 0 = λ x. x * x < n + x in
+      reaches_whole n (d - 1) (2 * d - 1) (subst P is (low some)) (omega arith);
+  greatest = λ e one r. elim (cases_lt d e) [
+    | inl lt ↦ absurd (too_great_whole n d (e - (d + 1)) (2 * e - 1) high (omega arith) r)
+    | inr le ↦ le
+  ];
+}
+
+-- ---- along an axis
+
+squares-le : (a b : ℕ) → a * a ≤ b * b → a ≤ b
+squares-le a b h = elim (cases_lt b a) [
+  | inl lt ↦ let more = mul-le (b + 1) (b + 1) a a (omega arith) (omega arith) in absurd (omega (arith, more, h))
+  | inr le ↦ le
+]
+
+root_reaches : (x o s : ℕ) → s ≡ o * 1000000000 → s ≤ 2 * x → o * o * (1000000000 * 1000000000) ≤ 4 * square_sum x 0
+root_reaches x o s is le =
+    let more = mul-le (o * 1000000000) (o * 1000000000) (2 * x) (2 * x) (omega arith) (omega arith) in
+    omega (arith, more)
+
+reaches_root : (x o : ℕ) → o * o * (1000000000 * 1000000000) ≤ 4 * square_sum x 0 → o * 1000000000 ≤ 2 * x
+reaches_root x o h = squares-le (o * 1000000000) (2 * x) (omega (arith, h))
+
+pub nearest_along : (x d : ℕ) → IsGreatest (Reaches x) d → IsGreatest (RootReaches (square_sum x 0)) d
+nearest_along x d is = record {
+  holds = λ some. root_reaches x (2 * d - 1) ((2 * d - 1) * 1000000000) refl (is.holds some);
+  greatest = λ e one h. is.greatest e one (reaches_root x (2 * e - 1) h);
+}

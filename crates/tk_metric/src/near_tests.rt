@@ -1,0 +1,119 @@
+//! Known near lists, and that a sweep gives what a scan does.
+ghost use Rattle.std.specs.Prelude.{◌≡◌, ◌≤◌, IfOk, length};
+ghost use Rattle.tk_text.specs.Places.{IsNearOrigin};
+
+use crate::{Metric, Near, Planes, Turned, near_lists_agree, near_scan, near_sweep};
+use std::alloc::{AllocError, Global};
+use std::test::Fail;
+use tk_text::{PlaneKind, Point, Points};
+
+fn place(x: u16, y: u16, whole: bool) -> Point
+    ensures { IsNearOrigin result }
+{
+    if whole {
+        Point {
+            x: x as i64 * 1_000_000_000,
+            y: y as i64 * 1_000_000_000,
+        }
+    } else {
+        Point {
+            x: x as i64 * 300_000_000,
+            y: y as i64 * 300_000_000,
+        }
+    }
+}
+
+fn places(alloc: Global, corners: &[(u16, u16)], whole: bool) -> Result<Points, AllocError>
+    ensures { IfOk result (λ ps. length ps ≡ length corners.now) }
+{
+    let mut points = Points::at_origin(alloc, corners.len())?;
+    for (i, corner) in corners.iter().enumerate() {
+        let (x, y) = *corner;
+        points.set(i, place(x, y, whole))?;
+    }
+    Ok(points)
+}
+
+// The lists of all cities, one after another.
+fn entries_of(alloc: Global, near: &Near) -> Result<Vec<u32>, AllocError> {
+    let mut entries = Vec::new(alloc);
+    for c in 1..near.size() + 1 {
+        for city in near.of(c) {
+            entries.push(*city)?;
+        }
+    }
+    Ok(entries)
+}
+
+#[test]
+fn known_lists(rt: HostRuntime) -> Result<(), Fail> {
+    let alloc = rt.alloc();
+    let square = places(alloc, &[(0, 0), (10, 10), (10, 0), (0, 10)], true)?;
+    let corner = places(alloc, &[(5, 0), (0, 5), (0, 0)], true)?;
+    let rows: [(&Points, u32, &[u32]); 4] = [
+        (&square, 2, &[3, 4, 3, 4, 1, 2, 1, 2]),
+        (&square, 3, &[3, 4, 2, 3, 4, 1, 1, 2, 4, 1, 2, 3]),
+        (&corner, 1, &[3, 3, 1]),
+        (&corner, 2, &[3, 2, 3, 1, 1, 2]),
+    ];
+    for (points, k, want) in rows {
+        assert!(rt; points.len() <= 4);
+        let m = Planes::new(PlaneKind::Euc2d, points);
+        assert!(rt; k < m.size());
+        let scanned = near_scan(alloc, &m, k)?;
+        assert_eq!(rt; entries_of(alloc, &scanned)?.as_slice(), want);
+        assert_eq!(rt; scanned.width(), k);
+        let swept = near_sweep(alloc, &m, k)?;
+        assert_eq!(rt; entries_of(alloc, &swept)?.as_slice(), want);
+        let turned = near_sweep(alloc, &Turned(&m), k)?;
+        assert_eq!(rt; entries_of(alloc, &turned)?.as_slice(), want);
+    }
+    Ok(())
+}
+
+// Corners in a box, some of them more than once.
+fn sample(alloc: Global, wide: u16, tall: u16) -> Result<Vec<(u16, u16)>, AllocError>
+    requires wide { 1 ≤ wide }
+    requires tall { 1 ≤ tall }
+{
+    let mut corners = Vec::new(alloc);
+    let mut state: u64 = 20250101;
+    for _ in 0..300 {
+        state = state
+            .wrapping_mul(6364136223846793005)
+            .wrapping_add(1442695040888963407);
+        let x = (state >> 33) % wide as u64;
+        let y = (state >> 48) % tall as u64;
+        corners.push((x as u16, y as u16))?;
+    }
+    Ok(corners)
+}
+
+#[test]
+fn sweep_agrees_with_scan(rt: HostRuntime) -> Result<(), Fail> {
+    let alloc = rt.alloc();
+    let rows = [
+        (PlaneKind::Euc2d, 1000, 1000, true, 5),
+        (PlaneKind::Euc2d, 1000, 2, true, 100),
+        (PlaneKind::Euc2d, 2, 1000, true, 7),
+        (PlaneKind::Euc2d, 1, 1, true, 10),
+        (PlaneKind::Euc2d, 60, 60, false, 5),
+        (PlaneKind::Ceil2d, 30, 30, false, 5),
+        (PlaneKind::Man2d, 40, 20, false, 5),
+        (PlaneKind::Max2d, 20, 40, true, 5),
+        (PlaneKind::Att, 100, 100, true, 5),
+    ];
+    for (kind, wide, tall, whole, k) in rows {
+        let corners = sample(alloc, wide, tall)?;
+        assert!(rt; corners.len() == 300);
+        let points = places(alloc, &corners, whole)?;
+        let m = Planes::new(kind, &points);
+        let scanned = near_scan(alloc, &m, k)?;
+        let swept = near_sweep(alloc, &m, k)?;
+        for c in 1..m.size() + 1 {
+            assert_eq!(rt; swept.of(c), scanned.of(c), "city {c} of {wide} by {tall}");
+            near_lists_agree(&m, c, k, swept.of(c), scanned.of(c));
+        }
+    }
+    Ok(())
+}

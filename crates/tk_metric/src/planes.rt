@@ -1,0 +1,101 @@
+//! Distances in the plane.
+ghost use Rattle.std.specs.Prelude.{◌≡◌, ◌≤◌, ◌-◌, All, length, pos};
+ghost use Rattle.tk_text.specs.Places.{IsNearOrigin};
+ghost use Rattle.tk_text.specs.PlacesOf.{places_of};
+
+use crate::fine::{fine_between, floor_distance};
+use crate::metric::{Metric, Planar};
+use crate::whole::whole_between;
+use tk_text::{Places, PlaneKind, Point, Points};
+
+/// The distances of a plane type among the places of a list, whose cities are numbered from 1 in its order.
+/// They are those of exact arithmetic (G. Reinelt, "TSPLIB 95", section 2, "The distance functions").
+#[derive(Clone, Copy)]
+pub struct Planes<'a> {
+    pub kind: PlaneKind,
+    pub places: Places<'a>,
+    ghost near: { All IsNearOrigin (places_of places) },
+    ghost few: { length (places_of places) ≤ 100000 },
+}
+
+impl<'a> Planes<'a> {
+    /// The distances among at most 100,000 places.
+    pub fn new(kind: PlaneKind, points: &'a Points) -> Planes<'a>
+        requires few { length points.now ≤ 100000 }
+        ensures kind { result.kind ≡ kind }
+        ensures places { places_of result.places ≡ points.now }
+    {
+        Planes {
+            kind,
+            places: points.places(),
+        }
+    }
+}
+
+impl Metric for Planes<'_> {
+    ghost use Rattle.std.specs.Int.RustNames.{unsigned_abs};
+    ghost use Rattle.tk_metric.specs.Cities.{IsCity};
+    ghost use Rattle.tk_metric.specs.PlaneOf.{city_place, city_distance, IsCityDistance};
+    ghost use Rattle.tk_metric.specs.PlaneLaws.{distance_of-swap, distance_of-same, city_distance-limit};
+
+    ghost size_of = { λ m. length (places_of m.places) };
+
+    ghost distance = { λ m. city_distance m.kind (places_of m.places) };
+
+    ghost size_limit = { λ m. m.few };
+
+    ghost symmetric = { λ m a b. distance_of-swap m.kind (city_place (places_of m.places) a) (city_place (places_of m.places) b) };
+
+    ghost diagonal = { λ m a. distance_of-same m.kind (city_place (places_of m.places) a) };
+
+    ghost distance_limit = { λ m. city_distance-limit m.kind (places_of m.places) m.near };
+
+    #[inline]
+    fn size(&self) -> u32 {
+        self.places.len() as u32
+    }
+
+    #[inline]
+    fn dist(&self, a: u32, b: u32) -> i64
+        requires a { IsCity (length (places_of self.now.places)) a }
+        requires b { IsCity (length (places_of self.now.places)) b }
+        ensures value { result ≡ pos (city_distance self.now.kind (places_of self.now.places) a b) }
+        ensures exact { IsCityDistance self.now.kind (places_of self.now.places) a b (unsigned_abs result) }
+    {
+        let (a, b) = (a as usize - 1, b as usize - 1);
+        match self.places {
+            Places::Whole(places) => whole_between(self.kind, places[a], places[b]) as i64,
+            Places::Fine(places) => fine_between(self.kind, places[a], places[b]) as i64,
+        }
+    }
+}
+
+impl Planar for Planes<'_> {
+    ghost use Rattle.tk_metric.specs.PlaneDistance.{distance_at};
+    ghost use Rattle.tk_metric.specs.PlaneOf.{city_place};
+    ghost use Rattle.tk_metric.specs.PlaneLaws.{city_gap-limit, city_gap_y-limit, floor-rises, floor-bounds, floor-bounds_y};
+
+    ghost place_of = { λ m c. city_place (places_of m.places) c };
+
+    ghost floor = { λ m dx. distance_at m.kind dx 0 };
+
+    ghost wide = { λ m. city_gap-limit (places_of m.places) m.near };
+
+    ghost tall = { λ m. city_gap_y-limit (places_of m.places) m.near };
+
+    ghost floor_rises = { λ m s t below _. floor-rises m.kind s t below };
+
+    ghost floor_bounds = { λ m a b. floor-bounds m.kind (city_place (places_of m.places) a) (city_place (places_of m.places) b) };
+
+    ghost floor_bounds_y = { λ m a b. floor-bounds_y m.kind (city_place (places_of m.places) a) (city_place (places_of m.places) b) };
+
+    #[inline]
+    fn place(&self, c: u32) -> Point {
+        self.places.get(c as usize - 1)
+    }
+
+    #[inline]
+    fn floor_x(&self, dx: u64) -> i64 {
+        floor_distance(self.kind, dx) as i64
+    }
+}

@@ -1,0 +1,302 @@
+//! Known distances, and how often a guess is right.
+ghost use Rattle.std.specs.Prelude.{◌<◌, ◌≤◌};
+
+use crate::guess::{PER_UNIT, PER_UNIT_AND_ROOT_OF_TEN, near_root, near_scaled_root, rounded};
+use crate::{Metric, Planar, Planes, Sub, Table, Triangle, root, root_up};
+use std::alloc::{AllocError, Global};
+use std::test::Fail;
+use tk_text::{Places, PlaneKind, Point, Points, Problem, Weights};
+
+const UNIT: i64 = 1_000_000_000;
+
+const FAR: i64 = 1_000_000_000_000_000_000;
+
+fn pair(alloc: Global, x: i64, y: i64) -> Result<Points, AllocError> {
+    let mut points = Points::at_origin(alloc, 2)?;
+    if x.unsigned_abs() <= FAR as u64 && y.unsigned_abs() <= FAR as u64 {
+        points.set(1, Point { x, y })?;
+    }
+    Ok(points)
+}
+
+/// The distance from the origin.
+fn from_origin(alloc: Global, kind: PlaneKind, x: i64, y: i64) -> Result<i64, AllocError> {
+    let points = pair(alloc, x, y)?;
+    if points.len() != 2 {
+        return Ok(-1);
+    }
+    Ok(Planes::new(kind, &points).dist(1, 2))
+}
+
+/// The distance across the greatest square.
+fn across(alloc: Global, kind: PlaneKind) -> Result<i64, AllocError> {
+    let mut points = Points::at_origin(alloc, 2)?;
+    points.set(0, Point { x: -FAR, y: -FAR })?;
+    points.set(1, Point { x: FAR, y: FAR })?;
+    Ok(Planes::new(kind, &points).dist(1, 2))
+}
+
+#[test]
+fn euclidean(rt: HostRuntime) -> Result<(), Fail> {
+    let alloc = rt.alloc();
+    assert_eq!(rt; from_origin(alloc, PlaneKind::Euc2d, 0, 500_000_000)?, 1);
+    assert_eq!(rt; from_origin(alloc, PlaneKind::Euc2d, UNIT, UNIT)?, 1);
+    assert_eq!(rt; from_origin(alloc, PlaneKind::Euc2d, 0, 499_999_999)?, 0);
+    assert_eq!(rt; across(alloc, PlaneKind::Euc2d)?, 2_828_427_125);
+    Ok(())
+}
+
+#[test]
+fn pseudo_euclidean(rt: HostRuntime) -> Result<(), Fail> {
+    let alloc = rt.alloc();
+    assert_eq!(rt;
+        from_origin(alloc, PlaneKind::Att, 10 * UNIT, 10 * UNIT)?,
+        5
+    );
+    assert_eq!(rt; from_origin(alloc, PlaneKind::Att, UNIT, 3 * UNIT)?, 1);
+    assert_eq!(rt; across(alloc, PlaneKind::Att)?, 894_427_191);
+    Ok(())
+}
+
+#[test]
+fn rounded_up(rt: HostRuntime) -> Result<(), Fail> {
+    let alloc = rt.alloc();
+    assert_eq!(rt; from_origin(alloc, PlaneKind::Ceil2d, UNIT, UNIT)?, 2);
+    assert_eq!(rt;
+        from_origin(alloc, PlaneKind::Ceil2d, 3 * UNIT, 4 * UNIT)?,
+        5
+    );
+    assert_eq!(rt; across(alloc, PlaneKind::Ceil2d)?, 2_828_427_125);
+    Ok(())
+}
+
+#[test]
+fn manhattan_and_maximum(rt: HostRuntime) -> Result<(), Fail> {
+    let alloc = rt.alloc();
+    assert_eq!(rt;
+        from_origin(alloc, PlaneKind::Man2d, 1_200_000_000, 1_300_000_000)?,
+        3
+    );
+    assert_eq!(rt; across(alloc, PlaneKind::Man2d)?, 4_000_000_000);
+    assert_eq!(rt;
+        from_origin(alloc, PlaneKind::Max2d, 2_400_000_000, 2_500_000_000)?,
+        3
+    );
+    assert_eq!(rt; across(alloc, PlaneKind::Max2d)?, 2_000_000_000);
+    Ok(())
+}
+
+#[test]
+fn floors(rt: HostRuntime) -> Result<(), Fail> {
+    let points = Points::at_origin(rt.alloc(), 2)?;
+    assert_eq!(rt;
+        Planes::new(PlaneKind::Euc2d, &points).floor_x(1_500_000_000),
+        2
+    );
+    assert_eq!(rt;
+        Planes::new(PlaneKind::Ceil2d, &points).floor_x(1_000_000_001),
+        2
+    );
+    assert_eq!(rt;
+        Planes::new(PlaneKind::Man2d, &points).floor_x(1_499_999_999),
+        1
+    );
+    assert_eq!(rt;
+        Planes::new(PlaneKind::Max2d, &points).floor_x(2_000_000_000_000_000_000),
+        2_000_000_000
+    );
+    assert_eq!(rt;
+        Planes::new(PlaneKind::Att, &points).floor_x(10_000_000_000),
+        4
+    );
+    Ok(())
+}
+
+#[test]
+fn places_of_a_list(rt: HostRuntime) -> Result<(), Fail> {
+    let alloc = rt.alloc();
+    let mut points = Points::at_origin(alloc, 3)?;
+    points.set(
+        1,
+        Point {
+            x: 7 * UNIT,
+            y: -8 * UNIT,
+        },
+    )?;
+    assert!(rt; matches!(points.places(), Places::Whole(_)));
+    assert_eq!(rt;
+        points.get(1),
+        Point {
+            x: 7 * UNIT,
+            y: -8 * UNIT
+        }
+    );
+    points.set(2, Point { x: 5, y: -FAR })?;
+    assert!(rt; matches!(points.places(), Places::Fine(_)));
+    assert_eq!(rt; points.get(0), Point { x: 0, y: 0 });
+    assert_eq!(rt;
+        points.get(1),
+        Point {
+            x: 7 * UNIT,
+            y: -8 * UNIT
+        }
+    );
+    assert_eq!(rt; points.len(), 3);
+    let planes = Planes::new(PlaneKind::Euc2d, &points);
+    assert_eq!(rt; planes.place(3), Point { x: 5, y: -FAR });
+    assert_eq!(rt; planes.size(), 3);
+    assert_eq!(rt; planes.dist(1, 2), 11);
+    Ok(())
+}
+
+#[test]
+fn explicit_weights(rt: HostRuntime) {
+    // UPPER_ROW `1 2 3 4 5 6`
+    let triangle = Triangle {
+        n: 4,
+        weights: &[1, 2, 4, 3, 5, 6],
+    };
+    assert_eq!(rt; triangle.size(), 4);
+    assert_eq!(rt; triangle.dist(1, 2), 1);
+    assert_eq!(rt; triangle.dist(1, 3), 2);
+    assert_eq!(rt; triangle.dist(4, 1), 3);
+    assert_eq!(rt; triangle.dist(2, 3), 4);
+    assert_eq!(rt; triangle.dist(4, 2), 5);
+    assert_eq!(rt; triangle.dist(3, 4), 6);
+    assert_eq!(rt; triangle.dist(3, 3), 0);
+}
+
+#[test]
+fn some_of_the_cities(rt: HostRuntime) {
+    let triangle = Triangle {
+        n: 4,
+        weights: &[1, 2, 4, 3, 5, 6],
+    };
+    let some = Sub::new(&triangle, &[4, 2, 4]);
+    assert_eq!(rt; some.size(), 3);
+    assert_eq!(rt; some.dist(1, 2), 5);
+    assert_eq!(rt; some.dist(2, 3), 5);
+    assert_eq!(rt; some.dist(1, 3), 0);
+    let none = Sub::new(&triangle, &[]);
+    assert_eq!(rt; none.size(), 0);
+}
+
+#[test]
+fn tables(rt: HostRuntime) -> Result<(), Fail> {
+    let alloc = rt.alloc();
+    let weights = Vec::from_slice(alloc, &[1, 2, 4, 3, 5, 6])?;
+    assert!(rt; weights.iter().all(|weight| *weight <= 4_000_000_000));
+    let explicit = Problem {
+        name: Vec::new(alloc),
+        n: 4,
+        weights: Weights::Lower(weights),
+        routing: None,
+    };
+    let table = Table::of(&explicit);
+    assert_eq!(rt; table.size(), 4);
+    assert_eq!(rt; table.dist(4, 2), 5);
+    let points = pair(alloc, 3 * UNIT, 4 * UNIT)?;
+    assert_eq!(rt; points.len(), 2);
+    let plane = Problem {
+        name: Vec::new(alloc),
+        n: 2,
+        weights: Weights::Points(PlaneKind::Max2d, points),
+        routing: None,
+    };
+    let table = Table::of(&plane);
+    assert_eq!(rt; table.size(), 2);
+    assert_eq!(rt; table.dist(1, 2), 4);
+    Ok(())
+}
+
+#[test]
+fn roots(rt: HostRuntime) {
+    assert_eq!(rt; root(0), 0);
+    assert_eq!(rt; root(99), 9);
+    assert_eq!(rt; root(100), 10);
+    assert_eq!(rt; root(8_000_000_000_000_000_000), 2_828_427_124);
+    assert_eq!(rt;
+        root(340_282_366_920_938_463_463_374_607_431_768_211_455),
+        18_446_744_073_709_551_615
+    );
+    assert_eq!(rt; root_up(0), 0);
+    assert_eq!(rt; root_up(100), 10);
+    assert_eq!(rt; root_up(101), 11);
+    assert_eq!(rt;
+        root_up(340_282_366_920_938_463_463_374_607_431_768_211_455),
+        18_446_744_073_709_551_616
+    );
+}
+
+const SAMPLE: u32 = 20_000;
+
+fn next(state: &mut u64) -> u64 {
+    *state = state
+        .wrapping_mul(6_364_136_223_846_793_005)
+        .wrapping_add(1_442_695_040_888_963_407);
+    *state >> 11
+}
+
+/// How many of a sample of whole distances the guess misses.
+fn missed_whole(span: u64) -> u32
+    requires low { 0 < span }
+    requires high { span ≤ 1000000000 }
+{
+    let mut state = span;
+    let mut missed: u32 = 0;
+    for _ in 0..SAMPLE {
+        let dx = next(&mut state) % (2 * span);
+        let dy = next(&mut state) % (2 * span);
+        let square = dx.wrapping_mul(dx).wrapping_add(dy.wrapping_mul(dy));
+        let guess = rounded(near_root(square));
+        let middle = guess.wrapping_mul(guess);
+        let right = square <= middle.wrapping_add(guess)
+            && middle < square.wrapping_add(guess.max(1));
+        missed = missed.saturating_add(u32::from(!right));
+    }
+    missed
+}
+
+/// The same of distances with nine decimals, of which a square has `parts`.
+fn missed_fine(span: u64, parts: u128, factor: u64) -> u32
+    requires low { 0 < span }
+    requires high { span ≤ 1000000000 }
+{
+    let mut state = span;
+    let mut missed: u32 = 0;
+    for _ in 0..SAMPLE {
+        let dx = (next(&mut state) << 11) % (2 * span * 1_000_000_000);
+        let dy = (next(&mut state) << 11) % (2 * span * 1_000_000_000);
+        let (x, y) = (dx as u128, dy as u128);
+        let square = x.wrapping_mul(x).wrapping_add(y.wrapping_mul(y));
+        let guess = rounded(near_scaled_root(square, factor));
+        let middle = (guess as u128).wrapping_mul(1_000_000_000);
+        let low = middle.saturating_sub(500_000_000);
+        let high = middle.wrapping_add(500_000_000);
+        let right = parts.wrapping_mul(low.wrapping_mul(low)) <= square
+            && square < parts.wrapping_mul(high.wrapping_mul(high));
+        missed = missed.saturating_add(u32::from(!right));
+    }
+    missed
+}
+
+#[test]
+fn guesses_are_mostly_right(rt: HostRuntime) {
+    let spans: [u64; 9] = [
+        10,
+        100,
+        1_000,
+        10_000,
+        100_000,
+        1_000_000,
+        10_000_000,
+        100_000_000,
+        1_000_000_000,
+    ];
+    for span in spans {
+        assert!(rt; 0 < span && span <= 1_000_000_000);
+        assert!(rt; missed_whole(span) < SAMPLE / 1000);
+        assert!(rt; missed_fine(span, 1, PER_UNIT) < SAMPLE / 1000);
+        assert!(rt; missed_fine(span, 10, PER_UNIT_AND_ROOT_OF_TEN) < SAMPLE / 1000);
+    }
+}

@@ -1,0 +1,42 @@
+use Rattle.std.proofs.Common.{◌∷◌, [], ◌++◌, sym, ◌∙◌, arith}
+use Rattle.std.proofs.lemmas.List.{length-append}
+use Rattle.std.proofs.lemmas.Result.{err_from_is_err_and}
+use Rattle.tk_text.specs.Reader.{anything, this, DecidesIf, a_gap}
+use Rattle.tk_text.proofs.Feeds.{at_place, told_at, told_byte, this_within, or_false}
+use Rattle.tk_text.proofs.InSteps.{run_more}
+use Rattle.tk_text.proofs.AfterSteps.{after_byte}
+use Rattle.tk_text.proofs.OneSteps.{one_other, none_long, begins_more}
+use Rattle.tk_text.proofs.Steps.{line_behind-byte}
+use Rattle.tk_text.proofs.reader.PieceReader.feed_one.Goals as goal
+
+pub returns-then-is_full-clause-err : goal.returns-then-is_full-clause-err
+returns-then-is_full-clause-err g c = λ bs fed.
+    let at = at_place g.F.Form.format g.F.Form.holds g.F.Form.wants (this c.args.byte) c.args.self.now.form c.args.self.now.line c.args.self.now.held c.args.self.now.scan bs c.args.self.now.place _ c.requires.place fed.1 in
+    let solid = (or_false _ _ (sym c.blank_or_end.ensures ∙ c.if-not-blank_or_end.true)) in
+    let now = after_byte g.F.Form.format g.F.Form.holds c.args.self.now.form c.args.self.now.line c.args.byte bs c.args.on_line c.args.self.now.held solid.1 at.1 in
+    let run = run_more c.args.self.now.held c.args.byte at.0.0.0 solid.0 in
+    told_at (DecidesIf g.F.Form.format anything (bs ++ c.args.byte ∷ [])) _ _ c.fault.ensures
+    (one_other g.F.Form.format g.F.Form.holds anything c.args.self.now.form c.args.self.now.line (c.args.self.now.held ++ c.args.byte ∷ []) (bs ++ c.args.byte ∷ []) run (begins_more c.args.self.now.held c.args.byte at.0.0.0 ∙ at.0.1)
+    (λ e more n. none_long (c.args.self.now.held ++ c.args.byte ∷ []) c.args.self.now.line run (omega (arith, c.is_full.ensures.full c.if-is_full.true, length-append c.args.self.now.held (c.args.byte ∷ []))) e more) c.args.on_line now)
+
+pub returns-then-not-blank_or_end-clause-more : goal.returns-then-not-blank_or_end-clause-more
+returns-then-not-blank_or_end-clause-more g c = λ bs fed.
+    let at = at_place g.F.Form.format g.F.Form.holds g.F.Form.wants (this c.args.byte) c.args.self.now.form c.args.self.now.line c.args.self.now.held c.args.self.now.scan bs c.args.self.now.place _ c.requires.place fed.1 in
+    let solid = (or_false _ _ (sym c.blank_or_end.ensures ∙ c.if-not-blank_or_end.true)) in
+    (fed.0 ∙ sym (line_behind-byte bs c.args.byte solid.1), rw (c.requires.place, c.push.ensures) (((run_more c.args.self.now.held c.args.byte at.0.0.0 solid.0, omega (arith, c.is_full.ensures.not_full c.if-is_full.false, length-append c.args.self.now.held (c.args.byte ∷ []))), begins_more c.args.self.now.held c.args.byte at.0.0.0 ∙ at.0.1), after_byte g.F.Form.format g.F.Form.holds c.args.self.now.form c.args.self.now.line c.args.byte bs c.args.on_line c.args.self.now.held solid.1 at.1))
+
+pub returns-in_err-end_one-clause-err : goal.returns-in_err-end_one-clause-err
+returns-in_err-end_one-clause-err g c = λ bs fed.
+    let p = err_from_is_err_and c.from_residual.result c.from_residual.ensures.1 in
+    rw (p.1, p.2) (told_byte g.F.Form.format c.args.byte bs c.in_err-end_one.field-0.0 (c.in_err-end_one.ensures.err (this c.args.byte) bs (this_within c.args.byte a_gap (λ e more. sym c.blank_or_end.ensures ∙ c.if-not-blank_or_end.false)) fed))
+
+pub feed_close-requires-clause-known : goal.feed_close-requires-clause-known
+feed_close-requires-clause-known g c =
+    let bs = c.requires.known.0 in
+    (bs, c.in_ok-end_one.ensures.ended (this c.args.byte) bs (this_within c.args.byte a_gap (λ e more. sym c.blank_or_end.ensures ∙ c.if-not-blank_or_end.false)) c.requires.known.1)
+
+pub returns-clause-more : goal.returns-clause-more
+returns-clause-more g c = λ bs fed. c.feed_close.ensures.more bs (c.in_ok-end_one.ensures.ended (this c.args.byte) bs (this_within c.args.byte a_gap (λ e more. sym c.blank_or_end.ensures ∙ c.if-not-blank_or_end.false)) fed)
+
+pub returns-clause-err : goal.returns-clause-err
+returns-clause-err g c = λ bs fed. c.feed_close.ensures.err bs (c.in_ok-end_one.ensures.ended (this c.args.byte) bs (this_within c.args.byte a_gap (λ e more. sym c.blank_or_end.ensures ∙ c.if-not-blank_or_end.false)) fed)

@@ -1,0 +1,46 @@
+-- What the reader of the depot has taken.
+use Rattle.std.specs.Prelude.{◌≡◌, ◌≤◌, ℕ, Bool, true, false, not, ◌&&◌, ◌||◌, List, [], ◌∷◌, ◌++◌, length, Option, Some, None}
+use Rattle.tk_text.specs.declared.depot.Depot.{Depot}
+use Rattle.tk_text.specs.declared.keyword.Keyword.TheVariants as words
+use Rattle.tk_text.specs.declared.fault.TextKind.{TextKind}
+use Rattle.tk_text.specs.declared.form.Taken.{Taken}
+use Rattle.tk_text.specs.declared.form.Taken.TheVariants as takens
+use Rattle.tk_text.specs.Lex.{Token, is_empty}
+use Rattle.tk_text.specs.Pieces.{Piece, Fault, first_at, is_ending}
+use Rattle.tk_text.specs.Tour.{is_eof}
+use Rattle.tk_text.specs.Rows.{number_in}
+use Rattle.tk_text.specs.FixedSections.{all_tests, tokens_stop}
+use Rattle.tk_text.specs.DepotList.{depot_tests}
+use Rattle.tk_text.specs.Problem.{size_of, word_tests}
+
+-- the node that the only token names, or no token
+abbrev pub IsDepot : ℕ → Option ℕ → List Token → Type 0
+IsDepot n None toks = toks ≡ []
+IsDepot n (Some node) toks = (t : Token) × (toks ≡ t ∷ []) × (number_in t ≡ node) × (1 ≤ node) × (node ≤ n)
+
+-- of n nodes, these tokens were taken
+pub record HasDepot (n : ℕ) (s : Depot) (toks : List Token) : Type 0 where
+  pub size : s.size ≡ n
+  pub node : IsDepot n s.node toks
+  pub good : tokens_stop (depot_tests n) [] toks ≡ None
+
+abbrev pub is_list_end : Token → Bool
+is_list_end t = is_ending t || t.whole && is_eof t.bytes
+
+-- what a token does behind these tokens
+abbrev pub DepotTakes : ℕ → Depot → Depot → List Token → Token → Taken → Type 0
+DepotTakes n old new toks t takens.More = HasDepot n new (toks ++ t ∷ [])
+DepotTakes n old new toks t takens.Last = ⊥
+DepotTakes n old new toks t takens.Ending = (new ≡ old) × (is_empty toks ≡ false) × (is_ending t ≡ true)
+DepotTakes n old new toks t takens.Eof = (new ≡ old) × (is_empty toks ≡ false) × (is_ending t ≡ false) × ((t.whole && is_eof t.bytes) ≡ true)
+
+-- a token of the list at which the first test that holds tells this kind
+pub record DepotRefuses (n : ℕ) (toks : List Token) (t : Token) (k : TextKind) : Type 0 where
+  pub goes : (not (is_empty toks) && is_list_end t) ≡ false
+  pub fault : first_at t.line (all_tests (depot_tests n) toks t) ≡ Some (Fault t.line k)
+
+-- the section of a depot, at whose word nothing stops, and tokens of it without a fault
+pub record HasDepotTokens (before : List Piece) (n : ℕ) (toks : List Token) : Type 0 where
+  pub word : first_at n (word_tests before words.DepotSection) ≡ None
+  pub few : length toks ≤ 1
+  pub good : tokens_stop (depot_tests (size_of before)) [] toks ≡ None

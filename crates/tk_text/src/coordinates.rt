@@ -1,0 +1,153 @@
+//! The coordinates of a problem, token by token.
+ghost use Rattle.std.specs.Prelude.{◌≡◌, ◌+◌, ◌*◌, ◌<◌, ◌≤◌, ℕ, List, [], ◌∷◌, ◌++◌, length, None, Some, IfOk, IfErr, OnErr};
+ghost use Rattle.tk_text.specs.FixedSections.{fixed_taken};
+ghost use Rattle.tk_text.specs.Forms.{whole, IsToldWord};
+ghost use Rattle.tk_text.specs.Lex.{Token};
+ghost use Rattle.tk_text.specs.Pieces.{first_at, Fault};
+ghost use Rattle.tk_text.specs.Rows.{place_tests, places_of};
+
+use crate::decimals::decimal;
+use crate::fault::TextKind;
+use crate::form::Taken;
+use crate::nodes::Nodes;
+use crate::point::Point;
+use crate::points::Points;
+use std::alloc::Global;
+use std::marker::Model;
+
+/// What the next token of a row of coordinates is.
+#[derive(Clone, Copy, Debug, PartialEq, Eq)]
+enum Wanted {
+    Node,
+    X { index: usize },
+    Y { index: usize, x: i64 },
+}
+
+/// NODE_COORD_SECTION: a node, x and y for each of n nodes.
+#[derive(Drop)]
+pub struct Coordinates {
+    places: Points,
+    nodes: Nodes,
+    wanted: Wanted,
+}
+
+impl Model for Coordinates {
+    ghost use Rattle.tk_text.specs.Coordinates.{Placing, IsPlacing};
+
+    ghost Value = { Placing };
+
+    ghost view = { λ s. record { places = s.places; nodes = s.nodes; wanted = s.wanted } };
+
+    ghost invariant = { λ s. IsPlacing s.places s.nodes s.wanted };
+}
+
+impl Coordinates {
+    ghost use Rattle.tk_text.specs.Coordinates.{HasPlaces};
+
+    /// Of n nodes, none of them placed.
+    pub fn new(alloc: Global, n: u32) -> Result<Self, TextKind>
+        ensures ok { IfOk result (λ s. HasPlaces n s []) }
+        ensures err { IfErr result (λ k. k ≡ TextKind.NoMemory) }
+    {
+        match Points::at_origin(alloc, n as usize) {
+            Ok(places) => Ok(Coordinates {
+                places,
+                nodes: Nodes::new(alloc, n)?,
+                wanted: Wanted::Node,
+            }),
+            Err(_) => Err(TextKind::NoMemory),
+        }
+    }
+
+    /// Takes a token. After an error nothing was taken.
+    pub fn take(&mut self, token: &[u8]) -> Result<Taken, TextKind>
+        requires { length token.now ≤ 64 }
+        ensures ok { (n : ℕ) (toks : List Token) (line : ℕ) → HasPlaces n self.old toks → length toks < 3 * n
+            → IfOk result (λ taken. (first_at line (place_tests n toks (whole token.now line)) ≡ None)
+            × HasPlaces n self.new (toks ++ whole token.now line ∷ []) × (taken ≡ fixed_taken (3 * n) toks)) }
+        ensures err { (n : ℕ) (toks : List Token) (line : ℕ) → HasPlaces n self.old toks
+            → IfErr result (IsToldWord (λ k.
+            first_at line (place_tests n toks (whole token.now line)) ≡ Some (Fault line k))) }
+        ensures kept { OnErr result (self.new ≡ self.old) }
+    {
+        match self.wanted {
+            Wanted::Node => {
+                let index = self.nodes.name(token)?;
+                self.wanted = Wanted::X { index };
+            }
+            Wanted::X { index } => {
+                let x = decimal(token)?;
+                self.wanted = Wanted::Y { index, x };
+            }
+            Wanted::Y { index, x } => {
+                let y = decimal(token)?;
+                if self.places.set(index, Point { x, y }).is_err() {
+                    return Err(TextKind::NoMemory);
+                }
+                self.wanted = Wanted::Node;
+                if self.nodes.are_all() {
+                    return Ok(Taken::Last);
+                }
+            }
+        }
+        Ok(Taken::More)
+    }
+
+    /// The places by node.
+    pub fn into_places(self) -> Points
+        ensures { (n : ℕ) (toks : List Token) → HasPlaces n self toks → length toks ≡ 3 * n
+            → result ≡ places_of n toks }
+    {
+        self.places
+    }
+}
+
+#[cfg(test)]
+mod tests {
+    use super::*;
+    use std::test::Fail;
+
+    #[test]
+    fn in_any_order(rt: HostRuntime) -> Result<(), Fail> {
+        let mut coordinates = Coordinates::new(rt.alloc(), 2)?;
+        assert!(rt; coordinates.take(b"2")? == Taken::More);
+        assert!(rt; coordinates.take(b"3")? == Taken::More);
+        assert!(rt; coordinates.take(b"-4.5")? == Taken::More);
+        assert!(rt; coordinates.take(b"+1")? == Taken::More);
+        assert!(rt; coordinates.take(b"1e9")? == Taken::More);
+        assert!(rt; coordinates.take(b".5")? == Taken::Last);
+        let places = coordinates.into_places();
+        assert_eq!(rt; places.len(), 2);
+        assert_eq!(rt;
+            places.get(0),
+            Point {
+                x: 1_000_000_000_000_000_000,
+                y: 500_000_000
+            }
+        );
+        assert_eq!(rt;
+            places.get(1),
+            Point {
+                x: 3_000_000_000,
+                y: -4_500_000_000
+            }
+        );
+        Ok(())
+    }
+
+    #[test]
+    fn faults(rt: HostRuntime) -> Result<(), Fail> {
+        let mut coordinates = Coordinates::new(rt.alloc(), 2)?;
+        assert_eq!(rt; coordinates.take(b"x").err(), Some(TextKind::BadNumber));
+        assert_eq!(rt; coordinates.take(b"1.5").err(), Some(TextKind::BadNumber));
+        assert_eq!(rt; coordinates.take(b"0").err(), Some(TextKind::BadNode));
+        assert_eq!(rt; coordinates.take(b"3").err(), Some(TextKind::BadNode));
+        assert_eq!(rt; coordinates.take(b"1").err(), None);
+        assert_eq!(rt; coordinates.take(b"1e10").err(), Some(TextKind::OutOfLimit));
+        assert_eq!(rt; coordinates.take(b"x").err(), Some(TextKind::BadNumber));
+        assert_eq!(rt; coordinates.take(b"1").err(), None);
+        assert_eq!(rt; coordinates.take(b"1").err(), None);
+        assert_eq!(rt; coordinates.take(b"1").err(), Some(TextKind::BadNode));
+        Ok(())
+    }
+}

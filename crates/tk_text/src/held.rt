@@ -1,0 +1,107 @@
+//! Some bytes of a text, and what a byte is.
+ghost use Rattle.std.specs.Prelude.{◌≡◌, ◌<◌, ◌≤◌, ◌||◌, ◌==◌, true, false, List, ℕ, [], ◌∷◌, ◌++◌, length, take};
+ghost use Rattle.tk_text.specs.Lex.{is_blank, is_letter, is_word_byte};
+ghost use Rattle.tk_text.specs.Words.{spells};
+
+use std::marker::Model;
+
+/// Up to N bytes.
+#[derive(Drop)]
+pub struct Held<const N: usize> {
+    bytes: [u8; N],
+    len: usize,
+}
+
+impl<const N: usize> Model for Held<N> {
+    ghost Value = { List ℕ };
+
+    ghost view = { λ s. take s.len s.bytes };
+
+    ghost invariant = { λ s. s.len ≤ N };
+}
+
+impl<const N: usize> Held<N> {
+    pub fn new() -> Self
+        ensures { result ≡ [] }
+    {
+        Held {
+            bytes: [0; N],
+            len: 0,
+        }
+    }
+
+    pub fn is_full(&self) -> bool
+        ensures full { result ≡ true → length self.now ≡ N }
+        ensures not_full { result ≡ false → length self.now < N }
+    {
+        self.len == N
+    }
+
+    pub fn clear(&mut self)
+        ensures { self.new ≡ [] }
+    {
+        self.len = 0;
+    }
+
+    pub fn push(&mut self, byte: u8)
+        requires { length self.old < N }
+        ensures { self.new ≡ self.old ++ byte ∷ [] }
+    {
+        self.bytes[self.len] = byte;
+        self.len += 1;
+    }
+
+    /// Takes a byte, where there is room.
+    pub fn keep(&mut self, byte: u8)
+        ensures { self.new ≡ take N (self.old ++ byte ∷ []) }
+    {
+        if !self.is_full() {
+            self.push(byte);
+        }
+    }
+
+    pub fn as_slice(&self) -> &[u8]
+        ensures { result.now ≡ self.now }
+    {
+        &self.bytes[..self.len]
+    }
+}
+
+pub fn blank(byte: u8) -> bool
+    ensures { result ≡ is_blank byte }
+{
+    byte == b' ' || byte == b'\t' || byte == b'\r'
+}
+
+pub fn letter(byte: u8) -> bool
+    ensures { result ≡ is_letter byte }
+{
+    (b'A' <= byte && byte <= b'Z') || (b'a' <= byte && byte <= b'z')
+}
+
+pub fn word_byte(byte: u8) -> bool
+    ensures { result ≡ is_word_byte byte }
+{
+    letter(byte) || byte.is_ascii_digit() || byte == b'_'
+}
+
+pub fn blank_or_end(byte: u8) -> bool
+    ensures { result ≡ (is_blank byte || byte == 10) }
+{
+    blank(byte) || byte == b'\n'
+}
+
+/// Whether bytes spell a text in capitals.
+pub fn spelled(bytes: &[u8], text: &[u8]) -> bool
+    ensures { result ≡ spells bytes.now text.now }
+{
+    if bytes.len() != text.len() {
+        return false;
+    }
+    for i in 0..bytes.len() {
+        if bytes[i].to_ascii_uppercase() != text[i] {
+            return false;
+        }
+    }
+    true
+}

@@ -1,0 +1,22 @@
+//! How great a thing of a text may be.
+
+/// The bytes of a text.
+pub const TEXT_LIMIT: u64 = 1_073_741_824;
+
+/// The bytes of a header's line behind its word.
+pub const HEADER_LIMIT: u32 = 4096;
+
+/// The entries of a tour's list.
+pub const TOUR_LIMIT: usize = 1_000_000;
+
+/// The cities of a problem.
+pub const SIZE_LIMIT: u32 = 100_000;
+
+/// The nodes of a problem with explicit weights, or with demands.
+pub const TABLE_LIMIT: u32 = 5_000;
+
+/// An explicit weight.
+pub const WEIGHT_LIMIT: u32 = 4_000_000_000;
+
+/// A demand, and a capacity.
+pub const LOAD_LIMIT: u32 = 2_000_000_000;

@@ -1,0 +1,154 @@
+//! The section of a problem whose tokens come.
+ghost use Rattle.std.specs.Prelude.{◌≡◌, ◌≤◌, ◌-◌, ◌==◌, ◌++◌, ℕ, true, false, List, length, Some, None, if◌then◌else◌, IfOk, IfErr};
+ghost use Rattle.tk_text.specs.declared.keyword.Keyword.{Keyword};
+ghost use Rattle.tk_text.specs.Forms.{whole, IsToldWord, HasTaken, StopsAt};
+ghost use Rattle.tk_text.specs.Lex.{Token};
+ghost use Rattle.tk_text.specs.Pieces.{Piece};
+ghost use Rattle.tk_text.specs.Problem.{problem_format};
+ghost use Rattle.tk_text.specs.Tour.{is_keyword};
+
+use crate::coordinates::Coordinates;
+use crate::demands::Demands;
+use crate::depot::Depot;
+use crate::entries::keyword_in;
+use crate::explicit_weights::ExplicitWeights;
+use crate::fault::TextKind;
+use crate::form::Taken;
+
+/// The section whose tokens come.
+#[derive(Drop)]
+pub enum OpenSection {
+    /// None.
+    Nothing,
+    /// NODE_COORD_SECTION.
+    Places(Coordinates),
+    /// EDGE_WEIGHT_SECTION.
+    Explicit(ExplicitWeights),
+    /// DEMAND_SECTION.
+    Loads(Demands),
+    /// DEPOT_SECTION.
+    Home(Depot),
+    /// DISPLAY_DATA_SECTION, of which so many tokens are left.
+    Display(u32),
+}
+
+impl OpenSection {
+    ghost use Rattle.tk_text.specs.declared.fault.TextKind.TheVariants as kinds;
+    ghost use Rattle.tk_text.specs.Forms.{a_section};
+    ghost use Rattle.tk_text.specs.OpenSections.{IsOpen, IsCounted, IsPast};
+    ghost use Rattle.tk_text.specs.Pieces.{Early, Fault};
+
+    /// Takes a token.
+    pub fn take(&mut self, token: &[u8]) -> Result<Taken, TextKind>
+        requires { length token.now ≤ 64 }
+        ensures ok { (before : List Piece) (word : Keyword) (n : ℕ) (toks : List Token) (line : ℕ) → IsOpen before word n toks self.old → IfOk result (HasTaken problem_format (IsPast before word n self.new) (λ ps w m ts. IsOpen ps w m ts self.new) before word n toks (whole token.now line)) }
+        ensures err { (before : List Piece) (word : Keyword) (n : ℕ) (toks : List Token) (line : ℕ) → IsOpen before word n toks self.old → IfErr result (IsToldWord (StopsAt problem_format before word n toks (whole token.now line))) }
+    {
+        if let OpenSection::Home(section) = self {
+            return section.take(token);
+        }
+        if keyword_in(token).is_some() {
+            return Err(TextKind::Truncated);
+        }
+        self.take_number(token)
+    }
+
+    /// Takes a token that is no word, in a section of a fixed count.
+    fn take_number(&mut self, token: &[u8]) -> Result<Taken, TextKind>
+        requires { length token.now ≤ 64 }
+        ensures ok { (before : List Piece) (word : Keyword) (n : ℕ) (toks : List Token) (line : ℕ) → IsCounted self.old → is_keyword token.now ≡ false → IsOpen before word n toks self.old → IfOk result (HasTaken problem_format (IsPast before word n self.new) (λ ps w m ts. IsOpen ps w m ts self.new) before word n toks (whole token.now line)) }
+        ensures err { (before : List Piece) (word : Keyword) (n : ℕ) (toks : List Token) (line : ℕ) → IsCounted self.old → is_keyword token.now ≡ false → IsOpen before word n toks self.old → IfErr result (IsToldWord (StopsAt problem_format before word n toks (whole token.now line))) }
+    {
+        match self {
+            OpenSection::Nothing | OpenSection::Home(_) => Ok(Taken::More),
+            OpenSection::Places(section) => section.take(token),
+            OpenSection::Explicit(section) => section.take(token),
+            OpenSection::Loads(section) => section.take(token),
+            OpenSection::Display(left) => Ok(count(left)),
+        }
+    }
+
+    /// Whether the text may end behind the tokens that were taken: only behind a depot.
+    pub fn may_end(&self) -> bool
+        ensures yes { (before : List Piece) (word : Keyword) (n : ℕ) (toks : List Token) (line : ℕ) → IsOpen before word n toks self.now → result ≡ true → IsPast before word n self.now (before ++ a_section word n toks (Early line true)) × (problem_format.section before word n toks (Early line true) ≡ None) }
+        ensures no { (before : List Piece) (word : Keyword) (n : ℕ) (toks : List Token) (line : ℕ) → IsOpen before word n toks self.now → result ≡ false → problem_format.section before word n toks (Early line true) ≡ Some (Fault line kinds.Truncated) }
+    {
+        match self {
+            OpenSection::Home(section) => section.node.is_some(),
+            _ => false,
+        }
+    }
+}
+
+/// One token less is to come.
+fn count(left: &mut u32) -> Taken
+    ensures last { result ≡ (if left.new == 0 then Taken.Last else Taken.More) }
+    ensures fewer { left.new ≡ left.old - 1 }
+{
+    *left = left.saturating_sub(1);
+    if *left == 0 {
+        return Taken::Last;
+    }
+    Taken::More
+}
+
+#[cfg(test)]
+mod tests {
+    use super::*;
+    use crate::weights::Format;
+    use std::test::Fail;
+
+    #[test]
+    fn places(rt: HostRuntime) -> Result<(), Fail> {
+        let mut section = OpenSection::Places(Coordinates::new(rt.alloc(), 1)?);
+        assert_eq!(rt; section.take(b"EOF").err(), Some(TextKind::Truncated));
+        assert_eq!(rt; section.take(b"2").err(), Some(TextKind::BadNode));
+        assert!(rt; section.take(b"1")? == Taken::More);
+        assert!(rt; section.take(b"-4.5")? == Taken::More);
+        assert!(rt; section.take(b"7")? == Taken::Last);
+        Ok(())
+    }
+
+    #[test]
+    fn explicit(rt: HostRuntime) -> Result<(), Fail> {
+        let weights = ExplicitWeights::new(rt.alloc(), 3, Format::UpperRow)?;
+        let mut section = OpenSection::Explicit(weights);
+        assert!(rt; section.take(b"5")? == Taken::More);
+        assert_eq!(rt; section.take(b"x").err(), Some(TextKind::BadNumber));
+        assert!(rt; section.take(b"6")? == Taken::More);
+        assert!(rt; section.take(b"7")? == Taken::Last);
+        Ok(())
+    }
+
+    #[test]
+    fn loads(rt: HostRuntime) -> Result<(), Fail> {
+        let mut section = OpenSection::Loads(Demands::new(rt.alloc(), 1)?);
+        assert_eq!(rt;
+            section.take(b"DEPOT_SECTION").err(),
+            Some(TextKind::Truncated)
+        );
+        assert!(rt; section.take(b"1")? == Taken::More);
+        assert!(rt; section.take(b"9")? == Taken::Last);
+        Ok(())
+    }
+
+    #[test]
+    fn home(rt: HostRuntime) -> Result<(), Fail> {
+        let mut section = OpenSection::Home(Depot::new(6));
+        assert_eq!(rt; section.take(b"EOF").err(), Some(TextKind::Truncated));
+        assert!(rt; section.take(b"2")? == Taken::More);
+        assert!(rt; section.take(b"EOF")? == Taken::Eof);
+        assert!(rt; section.take(b"-1")? == Taken::Ending);
+        Ok(())
+    }
+
+    #[test]
+    fn display(rt: HostRuntime) -> Result<(), Fail> {
+        let mut section = OpenSection::Display(3);
+        assert!(rt; section.take(b"x")? == Taken::More);
+        assert_eq!(rt; section.take(b"Type:").err(), Some(TextKind::Truncated));
+        assert!(rt; section.take(b"2.5")? == Taken::More);
+        assert!(rt; section.take(b"1")? == Taken::Last);
+        Ok(())
+    }
+}

@@ -1,0 +1,243 @@
+//! Texts that are written piece by piece.
+ghost use Rattle.std.specs.Prelude.{◌≡◌, ◌+◌, ◌≤◌, ◌<◌, ◌^◌, Bool, true, List, [], ℕ, length, take, Option, MatchResult};
+ghost use Rattle.std.specs.Io.KnownBytes.{Appends};
+ghost use Rattle.tk_text.specs.Puts.{IsPut, Stops};
+
+use crate::page::Page;
+use crate::sink::Sink;
+use itoa::Buffer;
+
+/// No page goes out behind this many bytes: 2^63.
+const LONGEST: u64 = 1 << 63;
+
+/// A write failed, and exactly the first bytes of the text went out.
+#[derive(Clone, Copy, Debug, PartialEq, Eq)]
+pub struct WriteFault {
+    /// How many bytes these are.
+    pub written: u64,
+}
+
+/// Writes a text to a sink through a page in memory.
+///
+/// After a write that failed it writes no more, and `end` tells the fault.
+#[derive(Drop)]
+pub struct Pen<'a, W> {
+    pub sink: &'a mut W,
+    pub page: Page,
+    /// How many bytes the sink has taken.
+    pub written: u64,
+    /// Whether a write has failed.
+    pub stopped: bool,
+    ghost short: { written ≤ 2 ^ 63 + 8192 },
+}
+
+/// Writes bytes until the sink has taken them all or fails, and says how many it took.
+fn write_whole<W: Sink>(sink: &mut W, bytes: &[u8]) -> usize
+    ensures bound { result ≤ length bytes.now }
+    ensures sent { Appends (W.taken sink.old) (W.taken sink.new) (take result bytes.now) }
+    ensures whole { result ≡ length bytes.now → W.broken sink.new ≡ W.broken sink.old }
+    ensures part { result < length bytes.now → W.broken sink.new ≡ true }
+{
+    let mut taken = 0;
+    while taken < bytes.len() {
+        match sink.write(&bytes[taken..]) {
+            Ok(n) if n > 0 => taken += n,
+            _ => return taken,
+        }
+    }
+    taken
+}
+
+/// Sends a page behind `written` bytes, and says how many have gone out then and whether it has stopped.
+fn send<W: Sink>(sink: &mut W, written: u64, stopped: bool, page: &[u8]) -> (u64, bool)
+    requires count { written ≤ 2 ^ 63 + 8192 }
+    requires page { length page.now ≤ 8192 }
+    ensures count { result.0 ≤ 2 ^ 63 + 8192 }
+    ensures put { (start : Option (List ℕ)) (failed : Bool) (text : List ℕ)
+        → IsPut W.taken W.broken start failed text sink.old written stopped page.now
+        → IsPut W.taken W.broken start failed text sink.new result.0 result.1 [] }
+{
+    if stopped || page.is_empty() {
+        return (written, stopped);
+    }
+    if written >= LONGEST {
+        return (written, true);
+    }
+    let taken = write_whole(sink, page);
+    (written + taken as u64, taken < page.len())
+}
+
+/// Sends the last page behind `written` bytes.
+fn send_last<W: Sink>(
+    sink: &mut W,
+    written: u64,
+    stopped: bool,
+    page: &[u8],
+) -> Result<(), WriteFault>
+    requires count { written ≤ 2 ^ 63 + 8192 }
+    requires page { length page.now ≤ 8192 }
+    ensures { (start : Option (List ℕ)) (failed : Bool) (text : List ℕ)
+        → IsPut W.taken W.broken start failed text sink.old written stopped page.now
+        → MatchResult result (λ _. Appends start (W.taken sink.new) text × (W.broken sink.new ≡ failed)) (λ f. Stops W.taken W.broken start text sink.new f) }
+{
+    let (written, stopped) = send(sink, written, stopped, page);
+    if stopped {
+        return Err(WriteFault { written });
+    }
+    Ok(())
+}
+
+impl<'a, W: Sink> Pen<'a, W> {
+    ghost use Rattle.std.specs.Prelude.{decimal};
+    ghost use Rattle.tk_text.specs.Pens.{Holds, Puts, Ends};
+    ghost use Rattle.tk_text.specs.Written.{spaced_numbers};
+
+    /// A pen that has written nothing.
+    pub fn new(sink: &'a mut W) -> Pen<'a, W>
+        ensures same { result.sink.ghost_name ≡ sink.entry.ghost_name }
+        ensures empty { Holds W.taken W.broken (W.taken sink.old) (W.broken sink.old) [] result }
+    {
+        Pen {
+            sink,
+            page: Page::new(),
+            written: 0,
+            stopped: false,
+        }
+    }
+
+    /// Writes bytes behind all that was put before.
+    #[inline(always)]
+    pub fn put(&mut self, bytes: &[u8])
+        ensures { Puts W.taken W.broken self.old self.new bytes.now }
+    {
+        if bytes.len() <= self.page.room() {
+            self.page.push(bytes);
+        } else {
+            self.put_past_page(bytes);
+        }
+    }
+
+    #[cold]
+    #[inline(never)]
+    fn put_past_page(&mut self, bytes: &[u8])
+        ensures { Puts W.taken W.broken self.old self.new bytes.now }
+    {
+        let mut rest = bytes;
+        while rest.len() > self.page.room() {
+            let (piece, more) = rest.split_at(self.page.room());
+            self.page.push(piece);
+            self.send_page();
+            rest = more;
+        }
+        self.page.push(rest);
+    }
+
+    /// Sends what waits.
+    fn send_page(&mut self)
+        ensures puts { Puts W.taken W.broken self.old self.new [] }
+        ensures empty { self.new.page ≡ [] }
+    {
+        let (written, stopped) = send(self.sink, self.written, self.stopped, self.page.as_slice());
+        self.written = written;
+        self.stopped = stopped;
+        self.page.clear();
+    }
+
+    /// Writes a number's decimal digits behind all that was put before.
+    pub fn put_number(&mut self, number: u64)
+        ensures { Puts W.taken W.broken self.old self.new (decimal number) }
+    {
+        let mut buffer = Buffer::new();
+        self.put(buffer.format(number).as_bytes());
+    }
+
+    /// Writes numbers, single spaces between them, behind all that was put before.
+    pub fn put_spaced(&mut self, numbers: &[u32])
+        ensures { Puts W.taken W.broken self.old self.new (spaced_numbers numbers.now) }
+    {
+        let Some((first, rest)) = numbers.split_first() else {
+            return;
+        };
+        self.put_number(*first as u64);
+        for number in rest {
+            self.put(b" ");
+            self.put_number(*number as u64);
+        }
+    }
+
+    /// Sends what waits. All that was put has gone out then, or the fault says how much of it.
+    pub fn end(self) -> Result<(), WriteFault>
+        ensures { Ends W.taken W.broken self.entry self.exit.0.now result }
+    {
+        let Pen {
+            sink,
+            page,
+            written,
+            stopped,
+        } = self;
+        send_last(sink, written, stopped, page.as_slice())
+    }
+}
+
+#[cfg(test)]
+mod tests {
+    use super::*;
+    use crate::fake_sink::FakeSink;
+    use crate::sink::ToWrite;
+    use std::test::Fail;
+
+    // `abcde0/18446744073709551615: 7 10`
+    fn write_pieces<W: Sink>(sink: &mut W) -> Result<(), WriteFault> {
+        let mut pen = Pen::new(sink);
+        pen.put(b"abc");
+        pen.put(b"");
+        pen.put(b"de");
+        pen.put_number(0);
+        pen.put(b"/");
+        pen.put_number(u64::MAX);
+        pen.put(b": ");
+        pen.put_spaced(&[]);
+        pen.put_spaced(&[7, 10]);
+        pen.end()
+    }
+
+    #[test]
+    fn writes_all_pieces(rt: HostRuntime) -> Result<(), Fail> {
+        let mut sink = ToWrite::new(Vec::new(rt.alloc()));
+        assert_eq!(rt; write_pieces(&mut sink), Ok(()));
+        assert!(rt; !sink.failed());
+        assert_eq!(rt;
+            sink.inner.as_slice(),
+            b"abcde0/18446744073709551615: 7 10".as_slice()
+        );
+        Ok(())
+    }
+
+    #[test]
+    fn says_how_much_went_out(rt: HostRuntime) {
+        let text = b"abcde0/18446744073709551615: 7 10";
+        for limit in 0..text.len() {
+            for errs in [false, true] {
+                let mut sink = FakeSink::new(limit, errs);
+                let written = limit as u64;
+                assert_eq!(rt; write_pieces(&mut sink), Err(WriteFault { written }));
+                assert!(rt; sink.failed());
+                assert_eq!(rt; sink.taken(), &text[..limit]);
+            }
+        }
+    }
+
+    #[test]
+    fn writes_more_than_a_page(rt: HostRuntime) -> Result<(), Fail> {
+        let piece = [b'x'; 5000];
+        let mut sink = ToWrite::new(Vec::new(rt.alloc()));
+        let mut pen = Pen::new(&mut sink);
+        pen.put(&piece);
+        pen.put(&piece);
+        pen.put(b"y");
+        assert_eq!(rt; pen.end(), Ok(()));
+        assert_eq!(rt; sink.inner.len(), 10_001);
+        assert_eq!(rt; sink.inner.last(), Some(&b'y'));
+        Ok(())
+    }
+}

@@ -1,0 +1,40 @@
+//! Integers within limits.
+ghost use Rattle.std.specs.Prelude.{◌≡◌, ◌≤◌, ℕ, pos, None, Some, IfOk, IfErr, OnOk};
+ghost use Rattle.tk_text.specs.Lex as Lex;
+ghost use Rattle.tk_text.specs.Pieces.{first_at, Fault};
+ghost use Rattle.tk_text.specs.Tour.{number_tests};
+
+use crate::fault::TextKind;
+use crate::integers::integer;
+
+/// An integer from `low` to `high`. `BadNumber` where the word is no integer, `OutOfLimit` for
+/// another number.
+pub fn number_of(word: &[u8], low: u32, high: u32) -> Result<u32, TextKind>
+    ensures value { IfOk result (λ value. Lex.integer word.now ≡ Some (pos value)) }
+    ensures limits { IfOk result (λ value. (low ≤ value) × (value ≤ high)) }
+    ensures ok { (line : ℕ) → OnOk result (first_at line (number_tests low high word.now) ≡ None) }
+    ensures err { (line : ℕ)
+        → IfErr result (λ k. first_at line (number_tests low high word.now) ≡ Some (Fault line k)) }
+{
+    match integer(word) {
+        None => Err(TextKind::BadNumber),
+        Some(value) if value < low as i64 || value > high as i64 => Err(TextKind::OutOfLimit),
+        Some(value) => Ok(value as u32),
+    }
+}
+
+#[cfg(test)]
+mod tests {
+    use super::*;
+
+    #[test]
+    fn limits(rt: HostRuntime) {
+        assert_eq!(rt; number_of(b"2", 2, 5), Ok(2));
+        assert_eq!(rt; number_of(b"+5", 2, 5), Ok(5));
+        assert_eq!(rt; number_of(b"1", 2, 5), Err(TextKind::OutOfLimit));
+        assert_eq!(rt; number_of(b"6", 2, 5), Err(TextKind::OutOfLimit));
+        assert_eq!(rt; number_of(b"-3", 2, 5), Err(TextKind::OutOfLimit));
+        assert_eq!(rt; number_of(b"", 0, 5), Err(TextKind::BadNumber));
+        assert_eq!(rt; number_of(b"3x", 0, 5), Err(TextKind::BadNumber));
+    }
+}
