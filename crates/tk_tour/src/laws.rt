@@ -1,0 +1,62 @@
+//! A segment's move is two flips, or three where it keeps its direction, and a double bridge is four.
+
+ghost use Rattle.std.specs.Prelude.{◌≡◌, ◌≤◌, ◌+◌, ◌*◌, ◌/◌, length};
+ghost use Rattle.tk_tour.specs.Moves.{CutInFour, IsBridged, CutInThree, MovesReversed, MovesStraight, OrMove};
+
+use crate::store::TourStore;
+
+/// Moves the segment from x to e, which stands between a and b, to between c and d, turned round.
+pub fn move_reversed<S: TourStore>(tour: &mut S, a: u32, x: u32, e: u32, b: u32, c: u32, d: u32)
+    requires { CutInThree (S.cities tour.old) a x e b c d }
+    ensures moved { MovesReversed (S.cities tour.old) (S.cities tour.new) a x e b c d }
+    ensures made { (cut : CutInThree (S.cities tour.old) a x e b c d) → OrMove (length cut.segment) (S.cities tour.old) (S.cities tour.new) a x e b d c }
+    ensures kept { S.FlipsOnly tour.old tour.new }
+    ensures size { length (S.cities tour.new) ≡ length (S.cities tour.old) }
+    ensures rises { S.swap_count tour.old ≤ S.swap_count tour.new }
+    ensures swaps { S.swap_count tour.new ≤ S.swap_count tour.old + 2 * (length (S.cities tour.old) / 4) }
+    ensures flips { S.flip_count tour.new ≤ S.flip_count tour.old + 2 }
+{
+    let _ = tour.flip(a, x, c, d);
+    let _ = tour.flip(a, c, b, e);
+}
+
+/// Moves the segment from x to e, which stands between a and b, to between c and d, as it runs.
+pub fn move_straight<S: TourStore>(tour: &mut S, a: u32, x: u32, e: u32, b: u32, c: u32, d: u32)
+    requires { CutInThree (S.cities tour.old) a x e b c d }
+    ensures moved { MovesStraight (S.cities tour.old) (S.cities tour.new) a x e b c d }
+    ensures made { (cut : CutInThree (S.cities tour.old) a x e b c d) → OrMove (length cut.segment) (S.cities tour.old) (S.cities tour.new) a x e b c d }
+    ensures kept { S.FlipsOnly tour.old tour.new }
+    ensures size { length (S.cities tour.new) ≡ length (S.cities tour.old) }
+    ensures rises { S.swap_count tour.old ≤ S.swap_count tour.new }
+    ensures swaps { S.swap_count tour.new ≤ S.swap_count tour.old + 3 * (length (S.cities tour.old) / 4) }
+    ensures flips { S.flip_count tour.new ≤ S.flip_count tour.old + 3 }
+{
+    move_reversed(tour, a, x, e, b, c, d);
+    let _ = tour.flip(c, e, x, d);
+}
+
+/// The cycle runs along four paths, from a1 to an and so on; the second and the fourth change places.
+pub fn double_bridge<S: TourStore>(
+    tour: &mut S,
+    a1: u32,
+    an: u32,
+    b1: u32,
+    bn: u32,
+    c1: u32,
+    cn: u32,
+    d1: u32,
+    dn: u32,
+)
+    requires { CutInFour (S.cities tour.old) a1 an b1 bn c1 cn d1 dn }
+    ensures bridged { IsBridged (S.cities tour.old) (S.cities tour.new) a1 an b1 bn c1 cn d1 dn }
+    ensures kept { S.FlipsOnly tour.old tour.new }
+    ensures size { length (S.cities tour.new) ≡ length (S.cities tour.old) }
+    ensures rises { S.swap_count tour.old ≤ S.swap_count tour.new }
+    ensures swaps { S.swap_count tour.new ≤ S.swap_count tour.old + 4 * (length (S.cities tour.old) / 4) }
+    ensures flips { S.flip_count tour.new ≤ S.flip_count tour.old + 4 }
+{
+    let _ = tour.flip(an, b1, dn, a1);
+    let _ = tour.flip(an, dn, d1, cn);
+    let _ = tour.flip(dn, cn, c1, bn);
+    let _ = tour.flip(cn, bn, b1, a1);
+}

@@ -1,0 +1,24 @@
+//! The length of a tour.
+ghost use Rattle.std.specs.Prelude.{◌≡◌, ◌≤◌, pos, length, All};
+ghost use Rattle.tk_metric.specs.Cities.{IsCity};
+ghost use Rattle.tk_tour.specs.Tour.{tour_length};
+
+use tk_metric::Metric;
+
+/// The sum of the distances along a closed tour through the cities, in their order: 0 for none, and for two the one distance twice.
+pub fn length<M: Metric>(metric: &M, cities: &[u32]) -> i64
+    requires cities { All (IsCity (M.size_of metric.now)) cities.now }
+    requires count { length cities.now ≤ 2000000000 }
+    ensures { result ≡ pos (tour_length (M.distance metric.now) cities.now) }
+{
+    let Some((&first, others)) = cities.split_first() else {
+        return 0;
+    };
+    let mut from = first;
+    let mut total = 0;
+    for &city in others {
+        total += metric.dist(from, city);
+        from = city;
+    }
+    total + metric.dist(from, first)
+}

@@ -1,0 +1,31 @@
+//! The exchanges of a reversal.
+ghost use Rattle.std.specs.Prelude.{◌≡◌, ◌≤◌, ◌<◌, ℕ, length};
+ghost use Rattle.tk_tour.specs.Reversal.{IsInverse, reversed_places};
+
+// Reverses `count` places from `first` on, modulo the length, by `count / 2` exchanges.
+pub(crate) fn reverse_places(order: &mut [u32], place: &mut [u32], first: usize, count: usize)
+    requires first_in { first < length order.old }
+    requires count_in { count ≤ length order.old }
+    requires size { length order.old ≤ 100000 }
+    requires places { IsInverse order.old place.old }
+    ensures reversed { order.new ≡ reversed_places first count order.old }
+    ensures places { IsInverse order.new place.new }
+{
+    let n = order.len();
+    let mut low = first;
+    let mut high = if count < n - first {
+        first + count
+    } else {
+        first + count - n
+    };
+    for done in 0..count / 2 {
+        high = if high == 0 { n - 1 } else { high - 1 };
+        let x = order[low];
+        let y = order[high];
+        order[low] = y;
+        order[high] = x;
+        place[y as usize - 1] = low as u32;
+        place[x as usize - 1] = high as u32;
+        low = if low + 1 == n { 0 } else { low + 1 };
+    }
+}

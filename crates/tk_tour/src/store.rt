@@ -1,0 +1,84 @@
+//! A tour under flips.
+ghost use Rattle.std.specs.Prelude.{◌≡◌, ◌≤◌, ◌+◌, ◌-◌, ◌*◌, ◌/◌, ℕ, List, length, slice_index};
+ghost use Rattle.tk_metric.specs.Cities.{IsCity};
+ghost use Rattle.tk_tour.specs.Tour.{IsSizedTour, next_city, prev_city};
+ghost use Rattle.tk_tour.specs.Moves.{CanFlip, IsShorterSide, ReplacesSteps, TwoOptMove};
+ghost use Rattle.tk_tour.specs.Reversal.{reversed_places};
+ghost use Rattle.tk_tour.specs.Counters.{saturated};
+
+/// The places that a flip reversed: `count` of them from `first` on, counted from 1 and modulo the number of cities.
+#[derive(Clone, Copy, PartialEq, Eq, Debug)]
+pub struct Flip {
+    pub first: u32,
+    pub count: u32,
+}
+
+/// A tour of 2 to 100,000 cities under flips, seen as the list of its cities.
+pub trait TourStore {
+    /// The cities in their order.
+    ghost cities: { Self → List ℕ };
+
+    /// How many swaps the flips took.
+    ghost swap_count: { Self → ℕ };
+
+    /// How many flips there were.
+    ghost flip_count: { Self → ℕ };
+
+    /// The second came from the first by flips alone.
+    ghost FlipsOnly: { Self → Self → Type 0 };
+
+    /// How many cities there are.
+    fn size(&self) -> u32
+        ensures { result ≡ length (cities self.now) };
+
+    /// The city after c.
+    fn next(&self, c: u32) -> u32
+        requires { IsCity (length (cities self.now)) c }
+        ensures { result ≡ next_city (cities self.now) c };
+
+    /// The city before c.
+    fn prev(&self, c: u32) -> u32
+        requires { IsCity (length (cities self.now)) c }
+        ensures { result ≡ prev_city (cities self.now) c };
+
+    /// The city at the k-th place, from 1.
+    fn at(&self, k: u32) -> u32
+        requires { IsCity (length (cities self.now)) k }
+        ensures { result ≡ slice_index (cities self.now) (k - 1) };
+
+    /// How many swaps the flips took.
+    fn swaps(&self) -> u64
+        ensures { result ≡ swap_count self.now };
+
+    /// How many flips there were.
+    fn flips(&self) -> u64
+        ensures { result ≡ flip_count self.now };
+
+    /// Replaces the steps a-b and c-d by a-c and b-d, by reversing the shorter side.
+    fn flip(&mut self, a: u32, b: u32, c: u32, d: u32) -> Flip
+        requires { CanFlip (cities self.old) a b c d }
+
+        // the move
+        ensures made { TwoOptMove (cities self.old) (cities self.new) a b c d }
+        ensures steps { ReplacesSteps (cities self.old) (cities self.new) a b c d }
+
+        // the places that it reversed
+        ensures places { cities self.new ≡ reversed_places (result.first - 1) result.count (cities self.old) }
+        ensures undone { reversed_places (result.first - 1) result.count (cities self.new) ≡ cities self.old }
+        ensures first { IsCity (length (cities self.old)) result.first }
+        ensures side { IsShorterSide (cities self.old) result.count a b c d }
+        ensures shorter { 2 * result.count ≤ length (cities self.old) }
+
+        // what it counts and what it keeps
+        ensures swaps { swap_count self.new ≡ saturated (swap_count self.old + result.count / 2) }
+        ensures rises { swap_count self.old ≤ swap_count self.new }
+        ensures flips { flip_count self.new ≡ saturated (flip_count self.old + 1) }
+        ensures size { length (cities self.new) ≡ length (cities self.old) }
+        ensures kept { FlipsOnly self.old self.new };
+
+    ghost flips_none: { (s : Self) → FlipsOnly s s };
+
+    ghost flips_more: { (r s t : Self) → FlipsOnly r s → FlipsOnly s t → FlipsOnly r t };
+
+    ghost is_tour: { (s : Self) → IsSizedTour (cities s) };
+}

@@ -1,0 +1,252 @@
+//! Worked examples, and each call once at a concrete type.
+ghost use Rattle.std.specs.Prelude.{ℕ, ◌+◌, ◌-◌, min, ◌≤◌};
+
+use super::*;
+use std::process::Abort;
+use std::test::Fail;
+use tk_metric::Metric;
+
+// A flip of the steps from a to b and from c to d, which run ahead.
+fn flip_ahead<S: TourStore>(rt: &impl Abort, tour: &mut S, a: u32, b: u32, c: u32, d: u32) -> Flip {
+    let n = tour.size();
+    assert!(rt; a > 0);
+    assert!(rt; a <= n);
+    assert!(rt; c > 0);
+    assert!(rt; c <= n);
+    assert!(rt; a != c);
+    let after_a = tour.next(a);
+    assert!(rt; b == after_a);
+    let after_c = tour.next(c);
+    assert!(rt; d == after_c);
+    tour.flip(a, b, c, d)
+}
+
+#[test]
+fn flips_the_inner_side(rt: HostRuntime) -> Result<(), Fail> {
+    let mut tour = ArrayTour::from_list(rt.alloc(), &[1, 2, 3, 4])?;
+    let flip = flip_ahead(&rt, &mut tour, 1, 2, 3, 4);
+    assert_eq!(rt; flip, Flip { first: 2, count: 2 });
+    assert_eq!(rt; tour.order(), [1, 3, 2, 4].as_slice());
+    assert_eq!(rt; tour.swaps(), 1);
+    assert_eq!(rt; tour.flips(), 1);
+    let printed = tour.canonical(rt.alloc())?;
+    assert_eq!(rt; printed.as_slice(), [1, 3, 2, 4].as_slice());
+    tour.undo(&flip);
+    assert_eq!(rt; tour.order(), [1, 2, 3, 4].as_slice());
+    assert_eq!(rt; tour.undo_swaps(), 1);
+    Ok(())
+}
+
+#[test]
+fn flips_the_outer_side(rt: HostRuntime) -> Result<(), Fail> {
+    let mut tour = ArrayTour::from_list(rt.alloc(), &[1, 2, 3, 4, 5, 6, 7, 8])?;
+    let flip = flip_ahead(&rt, &mut tour, 1, 2, 7, 8);
+    assert_eq!(rt; flip, Flip { first: 8, count: 2 });
+    assert_eq!(rt; tour.order(), [8, 2, 3, 4, 5, 6, 7, 1].as_slice());
+    assert_eq!(rt; tour.swaps(), 1);
+    tour.undo(&flip);
+    assert_eq!(rt; tour.order(), [1, 2, 3, 4, 5, 6, 7, 8].as_slice());
+    assert_eq!(rt; tour.undo_swaps(), 1);
+    assert_eq!(rt; tour.swaps(), 1);
+    Ok(())
+}
+
+#[test]
+fn prints_towards_the_smaller_neighbour(rt: HostRuntime) -> Result<(), Fail> {
+    let lists: [([u32; 4], [u32; 4]); 3] = [
+        ([3, 1, 4, 2], [1, 3, 2, 4]),
+        ([2, 4, 1, 3], [1, 3, 2, 4]),
+        ([4, 3, 2, 1], [1, 2, 3, 4]),
+    ];
+    for (list, want) in &lists {
+        let tour = ArrayTour::from_list(rt.alloc(), list)?;
+        let printed = tour.canonical(rt.alloc())?;
+        assert_eq!(rt; printed.as_slice(), want.as_slice());
+    }
+    Ok(())
+}
+
+#[test]
+fn refuses_lists(rt: HostRuntime) {
+    let rows: [(&[u32], TourFault); 4] = [
+        (&[1], TourFault::WrongCount),
+        (&[1, 3], TourFault::OutOfRange(2)),
+        (&[0, 0], TourFault::OutOfRange(1)),
+        (&[2, 1, 2], TourFault::RepeatedCity(3)),
+    ];
+    for (list, want) in rows {
+        match ArrayTour::from_list(rt.alloc(), list) {
+            Ok(_) => assert!(rt; false),
+            Err(fault) => assert_eq!(rt; fault, want),
+        }
+    }
+}
+
+#[test]
+fn shows_faults(rt: HostRuntime) -> Result<(), Fail> {
+    let rows = [
+        (
+            TourFault::WrongCount,
+            "wrong count: a tour has 2 to 100,000 cities",
+        ),
+        (TourFault::OutOfRange(4), "out of range at place 4"),
+        (TourFault::RepeatedCity(3), "repeated city at place 3"),
+        (TourFault::NoMemory, "out of memory"),
+    ];
+    for (fault, want) in rows {
+        let shown = format!(in rt.alloc(); "{fault}")?;
+        assert_eq!(rt; shown.as_str(), want);
+    }
+    Ok(())
+}
+
+#[test]
+fn copies(rt: HostRuntime) -> Result<(), Fail> {
+    let mut tour = ArrayTour::from_list(rt.alloc(), &[1, 2, 3, 4])?;
+    let other = ArrayTour::from_list(rt.alloc(), &[4, 2, 1, 3])?;
+    let (n, m) = (tour.size(), other.size());
+    assert!(rt; n == m);
+    tour.copy_from(&other);
+    assert_eq!(rt; tour.order(), [4, 2, 1, 3].as_slice());
+    assert_eq!(rt; tour.copied(), 4);
+    assert_eq!(rt; tour.at(2), 2);
+    assert_eq!(rt; tour.prev(4), 3);
+    Ok(())
+}
+
+#[test]
+fn rewinds(rt: HostRuntime) -> Result<(), Fail> {
+    let tour = ArrayTour::from_list(rt.alloc(), &[1, 2, 3, 4, 5, 6, 7, 8])?;
+    let mut tour = JournalTour::new(rt.alloc(), tour, 2)?;
+    let _ = flip_ahead(&rt, &mut tour, 1, 2, 7, 8);
+    let _ = flip_ahead(&rt, &mut tour, 2, 3, 4, 5);
+    assert_eq!(rt; tour.tour().order(), [8, 2, 4, 3, 5, 6, 7, 1].as_slice());
+    assert!(rt; !tour.lost());
+    assert_eq!(rt; tour.flips(), 2);
+    assert!(rt; tour.rewind());
+    assert_eq!(rt; tour.tour().order(), [1, 2, 3, 4, 5, 6, 7, 8].as_slice());
+    assert_eq!(rt; tour.tour().undo_swaps(), 2);
+    assert_eq!(rt; tour.swaps(), 2);
+    assert_eq!(rt; tour.flips(), 0);
+    Ok(())
+}
+
+#[test]
+fn rewinds_to_the_last_settle(rt: HostRuntime) -> Result<(), Fail> {
+    let tour = ArrayTour::from_list(rt.alloc(), &[1, 2, 3, 4, 5, 6, 7, 8])?;
+    let mut tour = JournalTour::new(rt.alloc(), tour, 1)?;
+    let _ = flip_ahead(&rt, &mut tour, 1, 2, 7, 8);
+    tour.settle();
+    let _ = flip_ahead(&rt, &mut tour, 2, 3, 4, 5);
+    assert!(rt; tour.rewind());
+    assert_eq!(rt; tour.tour().order(), [8, 2, 3, 4, 5, 6, 7, 1].as_slice());
+    Ok(())
+}
+
+#[test]
+fn restores_where_flips_were_lost(rt: HostRuntime) -> Result<(), Fail> {
+    let start = ArrayTour::from_list(rt.alloc(), &[1, 2, 3, 4, 5, 6, 7, 8])?;
+    let tour = ArrayTour::from_list(rt.alloc(), &[1, 2, 3, 4, 5, 6, 7, 8])?;
+    let mut tour = JournalTour::new(rt.alloc(), tour, 1)?;
+    let _ = flip_ahead(&rt, &mut tour, 1, 2, 7, 8);
+    let _ = flip_ahead(&rt, &mut tour, 2, 3, 4, 5);
+    assert!(rt; tour.lost());
+    assert!(rt; !tour.rewind());
+    assert_eq!(rt; tour.tour().order(), [8, 2, 4, 3, 5, 6, 7, 1].as_slice());
+    let (n, m) = (tour.size(), start.size());
+    assert!(rt; n == m);
+    tour.restore(&start);
+    assert!(rt; !tour.lost());
+    assert_eq!(rt; tour.tour().order(), [1, 2, 3, 4, 5, 6, 7, 8].as_slice());
+    assert_eq!(rt; tour.tour().copied(), 8);
+    assert_eq!(rt; tour.at(3), 3);
+    assert_eq!(rt; tour.next(8), 1);
+    assert_eq!(rt; tour.prev(8), 7);
+    Ok(())
+}
+
+#[test]
+fn checks_lists(rt: HostRuntime) -> Result<(), Fail> {
+    let rows: [(&[u32], Verdict); 5] = [
+        (&[3, 1, 4, 2], Verdict::Tour),
+        (&[1, 2, 2, 4], Verdict::RepeatedCity(3)),
+        (&[1, 2, 3, 5], Verdict::OutOfRange(4)),
+        (&[1, 2, 3, 4, 1], Verdict::WrongCount),
+        (&[], Verdict::WrongCount),
+    ];
+    for (list, want) in rows {
+        assert_eq!(rt; check(rt.alloc(), 4, list)?, want);
+    }
+    Ok(())
+}
+
+#[test]
+fn moves_a_segment_turned_round(rt: HostRuntime) -> Result<(), Fail> {
+    let mut tour = ArrayTour::from_list(rt.alloc(), &[1, 2, 3, 4, 5, 6, 7, 8])?;
+    laws::move_reversed(&mut tour, 1, 2, 3, 4, 5, 6);
+    let printed = tour.canonical(rt.alloc())?;
+    assert_eq!(rt; printed.as_slice(), [1, 4, 5, 3, 2, 6, 7, 8].as_slice());
+    Ok(())
+}
+
+#[test]
+fn moves_a_segment_as_it_runs(rt: HostRuntime) -> Result<(), Fail> {
+    let mut tour = ArrayTour::from_list(rt.alloc(), &[1, 2, 3, 4, 5, 6, 7, 8])?;
+    laws::move_straight(&mut tour, 1, 2, 3, 4, 5, 6);
+    let printed = tour.canonical(rt.alloc())?;
+    assert_eq!(rt; printed.as_slice(), [1, 4, 5, 2, 3, 6, 7, 8].as_slice());
+    Ok(())
+}
+
+#[test]
+fn bridges_doubly(rt: HostRuntime) -> Result<(), Fail> {
+    let mut tour = ArrayTour::from_list(rt.alloc(), &[1, 2, 3, 4, 5, 6, 7, 8])?;
+    laws::double_bridge(&mut tour, 1, 2, 3, 4, 5, 6, 7, 8);
+    let printed = tour.canonical(rt.alloc())?;
+    assert_eq!(rt; printed.as_slice(), [1, 2, 7, 8, 5, 6, 3, 4].as_slice());
+    Ok(())
+}
+
+// Cities along a line, one apart.
+#[derive(Drop)]
+struct Line {
+    size: u32,
+    ghost limit: { size ≤ 100000 },
+}
+
+impl Metric for Line {
+    ghost use Rattle.std.proofs.Common.{arith};
+
+    ghost size_of = { λ m. m.size };
+
+    ghost distance = { λ m a b. min (a - b + (b - a)) 4000000000 };
+
+    fn size(&self) -> u32 {
+        self.size
+    }
+
+    fn dist(&self, a: u32, b: u32) -> i64 {
+        if a < b {
+            (b - a) as i64
+        } else {
+            (a - b) as i64
+        }
+    }
+
+    ghost size_limit = { λ m. m.limit };
+
+    ghost symmetric = { λ m a b. Prim.omega arith };
+
+    ghost diagonal = { λ m a. Prim.omega arith };
+
+    ghost distance_limit = { λ m a b. Prim.omega arith };
+}
+
+#[test]
+fn measures(rt: HostRuntime) {
+    let line = Line { size: 4 };
+    assert_eq!(rt; length(&line, &[1, 3, 2, 4]), 8);
+    assert_eq!(rt; length(&line, &[1, 4]), 6);
+    assert_eq!(rt; length(&line, &[3]), 0);
+    assert_eq!(rt; length(&line, &[]), 0);
+}
