@@ -1,0 +1,23 @@
+-- Paths, as lists whose first and last city compute.
+use Rattle.std.proofs.Common.{◌≡◌, ◌≤◌, ℕ, ◌↔◌, true, List, [], ◌∷◌, length}
+use Rattle.tk_metric.specs.Cities.{IsCity}
+use Rattle.tk_descent.specs.Awake.{holds, IsDistinct}
+
+-- the last city of a path that begins with a
+abbrev pub last_from : ℕ → List ℕ → ℕ
+last_from a [] = a
+last_from a (b ∷ xs) = last_from b xs
+
+-- a non-empty path from its first city to its last
+abbrev pub Spans : List ℕ → ℕ → ℕ → Type 0
+Spans [] a z = ⊥
+Spans (b ∷ xs) a z = (b ≡ a) × (last_from b xs ≡ z)
+
+-- each of 1 to the length once
+pub record IsRound (C : List ℕ) : Type 0 where
+  pub members : (c : ℕ) → (holds C c ≡ true) ↔ IsCity (length C) c
+  pub distinct : IsDistinct C
+
+-- distances: symmetric, with a zero diagonal, at most 4,000,000,000
+abbrev pub IsTable : (ℕ → ℕ → ℕ) → Type 0
+IsTable dist = ((a b : ℕ) → dist a b ≡ dist b a) × ((a : ℕ) → dist a a ≡ 0) × ((a b : ℕ) → dist a b ≤ 4000000000)

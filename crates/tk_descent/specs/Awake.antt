@@ -1,0 +1,38 @@
+-- The cities that wait for a look.
+use Rattle.std.specs.Prelude.{◌≡◌, ℕ, zero, suc, ◌≤◌, ◌<◌, Bool, true, false, ◌||◌, ◌==◌, List, [], ◌∷◌, ◌++◌, if◌then◌else◌, length, count_by, slice_index_or}
+
+-- whether a city is in a list
+abbrev pub holds : List ℕ → ℕ → Bool
+holds [] c = false
+holds (b ∷ xs) c = (b == c) || holds xs c
+
+-- no city is in it twice
+abbrev pub IsDistinct : List ℕ → Type 0
+IsDistinct [] = Unit {0}
+IsDistinct (b ∷ xs) = (holds xs b ≡ false) × IsDistinct xs
+
+-- the cities that wait for a look, in their order, of 1..size
+pub record Awake : Type 0 where
+  pub queue : List ℕ
+  pub size : ℕ
+
+-- a queue with c woken: behind the others, where it slept
+abbrev pub woken : List ℕ → ℕ → List ℕ
+woken W c = if holds W c then W else W ++ c ∷ []
+
+-- a queue with each of a list woken in turn
+abbrev pub woken_each : List ℕ → List ℕ → List ℕ
+woken_each W [] = W
+woken_each W (c ∷ cs) = woken_each (woken W c) cs
+
+-- the queue has each city whose flag is set, once
+pub record IsWaking (items : List ℕ) (flags : List Bool) : Type 0 where
+  pub count : count_by (λ b. b) flags ≡ length items
+  pub flag : (c : ℕ) → c < length flags → slice_index_or flags c false ≡ holds items c
+  pub range : (c : ℕ) → holds items c ≡ true → (1 ≤ c) × (c < length flags)
+  pub distinct : IsDistinct items
+
+-- 1, 2, .. to n
+abbrev pub one_to : ℕ → List ℕ
+one_to zero = []
+one_to (suc n) = one_to n ++ suc n ∷ []

@@ -1,0 +1,36 @@
+-- The wake machine: local search with a set of cities that wait for a look (don't-look bits: J. L. Bentley, 1992).
+use Rattle.std.specs.Prelude.{◌≡◌, ℕ, ◌<◌, true, ◌⊎◌, ◌↔◌, ◌≢◌, List}
+use Rattle.tk_tour.specs.Tour.{tour_length}
+use Rattle.tk_descent.specs.Awake.{holds}
+use Rattle.tk_descent.specs.Offers.{Makes, ends}
+use Rattle.tk_descent.specs.declared.offer.Offer.{Offer}
+use Rattle.tk_descent.specs.declared.offer.Offer.TheVariants.{Two, Or}
+
+-- the move adds a step from x to one of its near cities; an Or-move's x is an end of its segment
+abbrev pub IsOf : (ℕ → List ℕ) → ℕ → Offer → Type 0
+IsOf near x (Two a b c d) = ((a ≡ x) × (holds (near x) c ≡ true)) ⊎ ((c ≡ x) × (holds (near x) a ≡ true)) ⊎ ((b ≡ x) × (holds (near x) d ≡ true)) ⊎ ((d ≡ x) × (holds (near x) b ≡ true))
+IsOf near x (Or a s e b y w) = ((s ≡ x) × (holds (near x) y ≡ true)) ⊎ ((e ≡ x) × (holds (near x) w ≡ true))
+
+-- an offer of x on C with positive gain, by the lengths of the whole cycles
+abbrev pub Improves : (ℕ → ℕ → ℕ) → (ℕ → List ℕ) → ℕ → ℕ → List ℕ → Offer → List ℕ → Type 0
+Improves dist near m x C o D = IsOf near x o × Makes m o C D × (tour_length dist D < tour_length dist C)
+
+-- no offer of x on C has positive gain
+abbrev pub HasNoOffer : (ℕ → ℕ → ℕ) → (ℕ → List ℕ) → ℕ → ℕ → List ℕ → Type 0
+HasNoOffer dist near m x C = (o : Offer) (D : List ℕ) → Improves dist near m x C o D → ⊥
+
+-- a cycle on which no offer of any city has positive gain
+abbrev pub IsLocalOptimum : (ℕ → ℕ → ℕ) → (ℕ → List ℕ) → ℕ → List ℕ → Type 0
+IsLocalOptimum dist near m C = (x : ℕ) → holds C x ≡ true → HasNoOffer dist near m x C
+
+-- The wake machine: from a cycle and a set of waking cities, as a list whose order and repetitions say nothing.
+pub data Wakes (dist : ℕ → ℕ → ℕ) (near : ℕ → List ℕ) (m : ℕ) (T W : List ℕ) : List ℕ → List ℕ → Type 0 where
+  start : Wakes dist near m T W T W
+  asleep : {C V U : List ℕ} (x : ℕ) → Wakes dist near m T W C V → holds V x ≡ true →
+      HasNoOffer dist near m x C →
+      ((c : ℕ) → (holds U c ≡ true) ↔ ((holds V c ≡ true) × (c ≢ x))) →
+      Wakes dist near m T W C U
+  move : {C V U D : List ℕ} (x : ℕ) (o : Offer) → Wakes dist near m T W C V → holds V x ≡ true →
+      Improves dist near m x C o D →
+      ((c : ℕ) → (holds U c ≡ true) ↔ ((holds V c ≡ true) ⊎ (holds (ends o) c ≡ true))) →
+      Wakes dist near m T W D U

@@ -1,0 +1,26 @@
+//! Gains of moves, the queue of waking cities, looks, and the descent by 2-opt and Or-opt over near lists.
+#![tactic(auto)]
+
+#[cfg(test)]
+mod tests;
+mod descent;
+mod gains;
+mod looking;
+mod making;
+mod memo;
+mod offer;
+mod on_tour;
+mod optimum;
+mod probe;
+mod sweep;
+mod waking;
+
+pub use descent::{Report, descend};
+pub use gains::Gains;
+pub use looking::look;
+pub use making::make;
+pub use offer::Offer;
+pub use optimum::is_local_optimum;
+pub use probe::Probe;
+pub use sweep::{SweptReport, descend_swept};
+pub use waking::Waking;

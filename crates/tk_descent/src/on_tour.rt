@@ -1,0 +1,35 @@
+//! The steps of a tour, with the facts that a look needs of them.
+ghost use Rattle.std.specs.Prelude.{◌≡◌, ◌≤◌, length};
+ghost use Rattle.tk_metric.specs.Cities.{IsCity};
+ghost use Rattle.tk_tour.specs.Tour.{next_city, prev_city};
+
+use tk_tour::TourStore;
+
+/// How many cities the tour has.
+#[inline]
+pub(crate) fn size<S: TourStore>(s: &S) -> u32
+    ensures count { result ≡ length (S.cities s.now) }
+    ensures limits { (2 ≤ result) × (result ≤ 100000) }
+{
+    s.size()
+}
+
+/// The city after c.
+#[inline]
+pub(crate) fn next<S: TourStore>(s: &S, c: u32) -> u32
+    requires city { IsCity (length (S.cities s.now)) c }
+    ensures value { result ≡ next_city (S.cities s.now) c }
+    ensures city { IsCity (length (S.cities s.now)) result }
+{
+    s.next(c)
+}
+
+/// The city before c.
+#[inline]
+pub(crate) fn prev<S: TourStore>(s: &S, c: u32) -> u32
+    requires city { IsCity (length (S.cities s.now)) c }
+    ensures value { result ≡ prev_city (S.cities s.now) c }
+    ensures city { IsCity (length (S.cities s.now)) result }
+{
+    s.prev(c)
+}

@@ -1,0 +1,89 @@
+//! Descents until a tour is a local optimum.
+ghost use Rattle.std.specs.Prelude.{◌≡◌, pos, ◌+◌, ◌-◌, ◌*◌, ◌/◌, ◌≤◌, [], length};
+ghost use Rattle.tk_metric.specs.Near.{near_of};
+ghost use Rattle.tk_tour.specs.Tour.{tour_length, IsTour};
+ghost use Rattle.tk_descent.specs.Sweeps.{Sweeps};
+ghost use Rattle.tk_descent.specs.WakeMachine.{IsLocalOptimum};
+
+use crate::descent::{Report, descend};
+use crate::gains::Gains;
+use crate::on_tour::size;
+use crate::waking::Waking;
+use tk_metric::Near;
+use tk_tour::TourStore;
+
+/// What several passes did together.
+#[derive(Clone, Copy)]
+pub struct SweptReport {
+    /// All passes as one descent. The looks stand still at 2^64 - 1.
+    pub descent: Report,
+    /// How many descents there were.
+    pub passes: u64,
+}
+
+/// Puts all cities to sleep.
+fn put_to_sleep(waking: &mut Waking)
+    ensures queue { waking.new.queue ≡ [] }
+    ensures size { waking.new.size ≡ waking.old.size }
+{
+    while let Some(_city) = waking.take() {}
+}
+
+/// Descends with all cities awake, again and again, until a pass makes no move. Whatever was awake before.
+pub fn descend_swept<S: TourStore, G: Gains>(
+    s: &mut S,
+    g: &mut G,
+    near: &Near,
+    waking: &mut Waking,
+    m: u32,
+    before: i64,
+) -> SweptReport
+    requires fits { (G.size_of g.old ≡ length (S.cities s.old)) × (near.now.size ≡ length (S.cities s.old)) × (waking.old.size ≡ length (S.cities s.old)) }
+    requires most { (1 ≤ m) × (m ≤ 3) }
+    requires before { before ≡ pos (tour_length (G.distance g.old) (S.cities s.old)) }
+    ensures sweeps { Sweeps (G.distance g.old) (near_of near.now) m (S.cities s.old) (S.cities s.new) result.passes result.descent.looks result.descent.moves }
+    ensures optimum { IsLocalOptimum (G.distance g.old) (near_of near.now) m (S.cities s.new) }
+    ensures stored { length near.now.entries ≡ length (S.cities s.old) * near.now.width }
+    ensures asleep { waking.new.queue ≡ [] }
+    ensures passes { result.passes ≤ result.descent.moves + 1 }
+    ensures tour { IsTour (length (S.cities s.old)) (S.cities s.new) }
+    ensures lengths { (result.descent.before ≡ before) × (result.descent.after ≡ pos (tour_length (G.distance g.old) (S.cities s.new))) }
+    ensures moves { result.descent.moves + tour_length (G.distance g.old) (S.cities s.new) ≤ tour_length (G.distance g.old) (S.cities s.old) }
+    ensures tests { result.descent.tests ≤ 4 * m * near.now.width * (length (S.cities s.old) * result.passes + 6 * result.descent.moves) }
+    ensures tested { result.descent.tests ≡ G.test_count g.new - G.test_count g.old }
+    ensures swaps { result.descent.swaps ≤ 3 * (length (S.cities s.old) / 4) * result.descent.moves }
+    ensures swapped { result.descent.swaps ≡ S.swap_count s.new - S.swap_count s.old }
+    ensures flips { S.flip_count s.new ≤ S.flip_count s.old + 3 * result.descent.moves }
+    ensures flips_only { S.FlipsOnly s.old s.new }
+    ensures rises { (G.test_count g.old ≤ G.test_count g.new) × (S.swap_count s.old ≤ S.swap_count s.new) }
+    ensures kept { (G.distance g.new ≡ G.distance g.old) × (G.size_of g.new ≡ G.size_of g.old) × (length (S.cities s.new) ≡ length (S.cities s.old)) × (waking.new.size ≡ waking.old.size) }
+{
+    let (tests, swaps) = (g.tests(), s.swaps());
+    let (_cities, _candidates) = (size(s), near.width());
+    put_to_sleep(waking);
+    let mut after = before;
+    let mut passes = 0u64;
+    let mut looks = 0u64;
+    let mut moves = 0u64;
+    'sweeping: loop {
+        waking.wake_all();
+        let pass = descend(s, g, near, waking, m, after);
+        after = pass.after;
+        passes += 1;
+        looks = looks.saturating_add(pass.looks);
+        moves += pass.moves;
+        if pass.moves == 0 {
+            return SweptReport {
+                descent: Report {
+                    before,
+                    after,
+                    moves,
+                    looks,
+                    tests: g.tests() - tests,
+                    swaps: s.swaps() - swaps,
+                },
+                passes,
+            };
+        }
+    }
+}

@@ -1,0 +1,271 @@
+//! Worked examples, and each call once at concrete types.
+ghost use Rattle.std.specs.Prelude.{◌≡◌, ◌≤◌, ◌<◌, pos, length};
+ghost use Rattle.tk_tour.specs.Tour.{tour_length};
+
+use super::*;
+use std::alloc::Global;
+use std::process::Abort;
+use std::test::Fail;
+use tk_metric::{Metric, Near, near_scan};
+use tk_tour::{ArrayTour, TourStore, length};
+
+/// The distances of at most five cities, in rows of five.
+#[derive(Drop)]
+struct Rows {
+    n: u32,
+    rows: [u32; 25],
+    ghost few: { n ≤ 5 },
+}
+
+impl Metric for Rows {
+    ghost use Rattle.tk_descent.specs.Rows.{row_distance, row_distance-same, row_distance-swap, row_distance-limit, few_cities};
+
+    ghost size_of = { λ t. t.n };
+
+    ghost distance = { λ t. row_distance t.rows };
+
+    fn size(&self) -> u32 {
+        self.n
+    }
+
+    fn dist(&self, a: u32, b: u32) -> i64 {
+        if a == b {
+            return 0;
+        }
+        let (low, high) = (a.min(b) as usize, a.max(b) as usize);
+        self.rows[(low - 1) * 5 + (high - 1)].min(4_000_000_000) as i64
+    }
+
+    ghost size_limit = { λ t. few_cities t.n t.few };
+
+    ghost symmetric = { λ t a b. row_distance-swap t.rows a b };
+
+    ghost diagonal = { λ t a. row_distance-same t.rows a };
+
+    ghost distance_limit = { λ t a b. row_distance-limit t.rows a b };
+}
+
+/// The length of a tour of the cities of these distances.
+fn length_of(metric: &Rows, tour: &ArrayTour) -> i64
+    requires { metric.now.n ≡ length (⟦<ArrayTour as TourStore>⟧.cities tour.now) }
+    ensures { result ≡ pos (tour_length (⟦<Rows as Metric>⟧.distance metric.now) (⟦<ArrayTour as TourStore>⟧.cities tour.now)) }
+{
+    length(metric, tour.order())
+}
+
+/// A descent: its report, and whether the tour is then a local optimum.
+fn descent(
+    rt: &impl Abort,
+    alloc: Global,
+    metric: &Rows,
+    cities: &[u32],
+    k: u32,
+    m: u32,
+    awake: bool,
+) -> Result<(ArrayTour, Report, bool), Fail> {
+    let mut tour = ArrayTour::from_list(alloc, cities)?;
+    assert!(rt; metric.n == tour.size());
+    assert!(rt; 1 <= k && k < metric.n);
+    assert!(rt; 1 <= m && m <= 3);
+    let near = near_scan(alloc, metric, k)?;
+    let mut gains = Probe::new(metric);
+    let mut waking = Waking::new(alloc, metric.n)?;
+    if awake {
+        waking.wake_all();
+    }
+    let before = length_of(metric, &tour);
+    let report = descend(&mut tour, &mut gains, &near, &mut waking, m, before);
+    let optimum = is_local_optimum(&tour, metric, &near, m);
+    Ok((tour, report, optimum))
+}
+
+/// A swept descent: its report, the tests of its first pass alone, and whether the tour is then a local optimum.
+fn sweep(
+    rt: &impl Abort,
+    alloc: Global,
+    metric: &Rows,
+    cities: &[u32],
+    k: u32,
+) -> Result<(SweptReport, bool), Fail> {
+    let mut tour = ArrayTour::from_list(alloc, cities)?;
+    assert!(rt; metric.n == tour.size());
+    assert!(rt; 1 <= k && k < metric.n);
+    let near = near_scan(alloc, metric, k)?;
+    let mut gains = Probe::new(metric);
+    let mut waking = Waking::new(alloc, metric.n)?;
+    waking.wake(2);
+    let before = length_of(metric, &tour);
+    let report = descend_swept(&mut tour, &mut gains, &near, &mut waking, 3, before);
+    let optimum = is_local_optimum(&tour, metric, &near, 3);
+    assert!(rt; waking.take().is_none());
+    Ok((report, optimum))
+}
+
+/// before, after, moves, looks, tests and swaps
+fn numbers(r: &Report) -> (i64, i64, u64, u64, u64, u64) {
+    (r.before, r.after, r.moves, r.looks, r.tests, r.swaps)
+}
+
+/// (0,0) (3,0) (0,4), EUC_2D
+fn right_angle() -> Rows {
+    Rows {
+        n: 3,
+        rows: [
+            0, 3, 4, 0, 0, 0, 0, 5, 0, 0, 0, 0, 0, 0, 0, 0, 0, 0, 0, 0, 0, 0, 0, 0, 0,
+        ],
+    }
+}
+
+/// (0,0) (10,10) (10,0) (0,10), EUC_2D
+fn square() -> Rows
+    ensures { result.n ≡ 4 }
+{
+    Rows {
+        n: 4,
+        rows: [
+            0, 14, 10, 10, 0, 0, 0, 10, 10, 0, 0, 0, 0, 14, 0, 0, 0, 0, 0, 0, 0, 0, 0, 0, 0,
+        ],
+    }
+}
+
+/// UPPER_ROW 10 1 10 10 1 100 10 10 10 10
+fn five_cities() -> Rows {
+    Rows {
+        n: 5,
+        rows: [
+            0, 10, 1, 10, 10, 0, 0, 1, 100, 10, 0, 0, 0, 10, 10, 0, 0, 0, 0, 10, 0, 0, 0, 0, 0,
+        ],
+    }
+}
+
+#[test]
+fn three_cities_right_angle(rt: HostRuntime) -> Result<(), Fail> {
+    let (_, report, optimum) = descent(&rt, rt.alloc(), &right_angle(), &[1, 2, 3], 2, 3, true)?;
+    assert_eq!(rt; numbers(&report), (12, 12, 0, 3, 18, 0));
+    assert!(rt; optimum);
+    let (report, optimum) = sweep(&rt, rt.alloc(), &right_angle(), &[1, 2, 3], 2)?;
+    assert_eq!(rt; (report.passes, report.descent.tests), (1, 18));
+    assert!(rt; optimum);
+    Ok(())
+}
+
+#[test]
+fn two_cities(rt: HostRuntime) -> Result<(), Fail> {
+    let metric = Rows {
+        n: 2,
+        rows: [
+            0, 5, 0, 0, 0, 0, 0, 0, 0, 0, 0, 0, 0, 0, 0, 0, 0, 0, 0, 0, 0, 0, 0, 0, 0,
+        ],
+    };
+    let (_, report, optimum) = descent(&rt, rt.alloc(), &metric, &[1, 2], 1, 3, true)?;
+    assert_eq!(rt; numbers(&report), (10, 10, 0, 2, 4, 0));
+    assert!(rt; optimum);
+    Ok(())
+}
+
+#[test]
+fn crossed_square(rt: HostRuntime) -> Result<(), Fail> {
+    let cities = [1, 2, 3, 4];
+    for (m, tests) in [(3, 57), (2, 57), (1, 41)] {
+        let (tour, report, optimum) = descent(&rt, rt.alloc(), &square(), &cities, 3, m, true)?;
+        assert_eq!(rt; numbers(&report), (48, 40, 1, 5, tests, 1));
+        assert!(rt; optimum);
+        let printed = tour.canonical(rt.alloc())?;
+        assert_eq!(rt; printed.as_slice(), [1, 3, 2, 4].as_slice());
+    }
+    Ok(())
+}
+
+#[test]
+fn crossed_square_asleep(rt: HostRuntime) -> Result<(), Fail> {
+    let (tour, report, optimum) = descent(&rt, rt.alloc(), &square(), &[1, 2, 3, 4], 3, 3, false)?;
+    assert_eq!(rt; numbers(&report), (48, 48, 0, 0, 0, 0));
+    assert!(rt; !optimum);
+    assert_eq!(rt; tour.order(), [1, 2, 3, 4].as_slice());
+    Ok(())
+}
+
+#[test]
+fn crossed_square_swept(rt: HostRuntime) -> Result<(), Fail> {
+    let (report, optimum) = sweep(&rt, rt.alloc(), &square(), &[1, 2, 3, 4], 3)?;
+    assert_eq!(rt; numbers(&report.descent), (48, 40, 1, 9, 113, 1));
+    assert_eq!(rt; report.passes, 2);
+    assert!(rt; optimum);
+    Ok(())
+}
+
+#[test]
+fn each_tour_as_long(rt: HostRuntime) -> Result<(), Fail> {
+    let metric = Rows {
+        n: 4,
+        rows: [
+            0, 1, 2, 3, 0, 0, 0, 4, 5, 0, 0, 0, 0, 6, 0, 0, 0, 0, 0, 0, 0, 0, 0, 0, 0,
+        ],
+    };
+    let (_, report, optimum) = descent(&rt, rt.alloc(), &metric, &[1, 2, 3, 4], 3, 3, true)?;
+    assert_eq!(rt; numbers(&report), (14, 14, 0, 4, 56, 0));
+    assert!(rt; optimum);
+    Ok(())
+}
+
+#[test]
+fn one_segment_moves(rt: HostRuntime) -> Result<(), Fail> {
+    let cities = [1, 2, 3, 4, 5];
+    for (m, tests) in [(3, 31), (2, 26), (1, 19)] {
+        let (tour, report, _) = descent(&rt, rt.alloc(), &five_cities(), &cities, 1, m, true)?;
+        assert_eq!(rt; numbers(&report), (41, 32, 1, 6, tests, 2));
+        let printed = tour.canonical(rt.alloc())?;
+        assert_eq!(rt; printed.as_slice(), [1, 3, 2, 5, 4].as_slice());
+    }
+    let (report, optimum) = sweep(&rt, rt.alloc(), &five_cities(), &cities, 1)?;
+    assert_eq!(rt; numbers(&report.descent), (41, 32, 1, 11, 59, 2));
+    assert_eq!(rt; report.passes, 2);
+    assert!(rt; optimum);
+    Ok(())
+}
+
+#[test]
+fn looks_and_makes(rt: HostRuntime) -> Result<(), Fail> {
+    let metric = square();
+    let mut tour = ArrayTour::from_list(rt.alloc(), &[1, 2, 3, 4])?;
+    assert!(rt; metric.n == tour.size());
+    let near = near_scan(rt.alloc(), &metric, 3)?;
+    let mut gains = Probe::new(&metric);
+    let Some(offer) = look(&tour, &mut gains, &near, 3, 1) else {
+        return Err(Fail::from("no offer"));
+    };
+    assert_eq!(rt; gains.tests(), 1);
+    make(&mut tour, &offer);
+    let printed = tour.canonical(rt.alloc())?;
+    assert_eq!(rt; printed.as_slice(), [1, 3, 2, 4].as_slice());
+    assert!(rt; look(&tour, &mut gains, &near, 3, 1).is_none());
+    assert_eq!(rt; gains.tests(), 15);
+    Ok(())
+}
+
+#[test]
+fn gains_of_the_square(rt: HostRuntime) -> Result<(), Fail> {
+    let metric = square();
+    let mut gains = Probe::new(&metric);
+    assert_eq!(rt; gains.gain2(1, 2, 3, 4), 8);
+    assert_eq!(rt; gains.gain2(1, 3, 2, 4), -8);
+    assert_eq!(rt; gains.gain3(1, 2, 2, 3, 4, 1), 0);
+    assert_eq!(rt; gains.tests(), 3);
+    Ok(())
+}
+
+#[test]
+fn wakes_in_order(rt: HostRuntime) -> Result<(), Fail> {
+    let mut waking = Waking::new(rt.alloc(), 3)?;
+    waking.wake_all();
+    waking.wake(2);
+    assert_eq!(rt; waking.take(), Some(1));
+    assert_eq!(rt; waking.take(), Some(2));
+    assert_eq!(rt; waking.take(), Some(3));
+    assert_eq!(rt; waking.take(), None);
+    waking.wake_each(&[3, 1, 3]);
+    assert_eq!(rt; waking.take(), Some(3));
+    assert_eq!(rt; waking.take(), Some(1));
+    assert_eq!(rt; waking.take(), None);
+    Ok(())
+}
