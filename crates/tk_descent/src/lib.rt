@@ -1,8 +1,6 @@
 //! Gains of moves, the queue of waking cities, looks, and the descent by 2-opt and Or-opt over near lists.
 #![tactic(auto)]
 
-#[cfg(test)]
-mod tests;
 mod descent;
 mod gains;
 mod looking;
@@ -13,6 +11,8 @@ mod on_tour;
 mod optimum;
 mod probe;
 mod sweep;
+#[cfg(test)]
+mod tests;
 mod waking;
 
 pub use descent::{Report, descend};

@@ -1,21 +1,21 @@
 //! Distances and near lists.
 #![tactic(auto)]
 
-#[cfg(test)]
-mod near_tests;
-#[cfg(test)]
-mod tests;
 mod fine;
 mod guess;
 mod keep;
 mod lines;
 mod metric;
 mod near;
+#[cfg(test)]
+mod near_tests;
 mod planes;
 mod roots;
 mod sub;
 mod sweep;
 mod table;
+#[cfg(test)]
+mod tests;
 mod triangle;
 mod turned;
 mod whole;

@@ -125,7 +125,7 @@ module _ (h : Headers) (ps : List Piece) (v : List ℕ) (n : ℕ) (k : HasHeader
 
   -- the name comes, and the bytes are those that it gives
   pub with_name : (named : Headers) → named ≡ record h { has_name = true; name = named.name } → named.name.items ≡ name_of v → has words.Name ps ≡ false
-    → HasHeaders named (ps ++ a_header words.Name v n)
+      → HasHeaders named (ps ++ a_header words.Name v n)
   with_name named same is fresh = rw same (record {
     named = noted words.Name ps v n refl;
     name = is ∙ ap (λ (o : Option (List ℕ)). name_of (unwrap_or o [])) (sym (value_of-new words.Name words.Name ps v n refl fresh));
@@ -145,7 +145,7 @@ module _ (h : Headers) (ps : List Piece) (v : List ℕ) (n : ℕ) (k : HasHeader
 module _ (h : Headers) (word : Keyword) (ps : List Piece) (n : ℕ) (toks : List Token) (after : After) (k : HasHeaders h ps) where
   -- a section of a word that is no header changes nothing
   pub past_section : same_word word words.Name ≡ false → same_word word words.Type ≡ false → same_word word words.Dimension ≡ false → same_word word words.Capacity ≡ false → same_word word words.EdgeWeightType ≡ false
-    → same_word word words.EdgeWeightFormat ≡ false → same_word word words.NodeCoordType ≡ false → same_word word words.DisplayDataType ≡ false → HasHeaders h (ps ++ a_section word n toks after)
+      → same_word word words.EdgeWeightFormat ≡ false → same_word word words.NodeCoordType ≡ false → same_word word words.DisplayDataType ≡ false → HasHeaders h (ps ++ a_section word n toks after)
   past_section o1 o2 o3 o4 o5 o6 o7 o8 = record {
     named = k.named ∙ sym (has_past words.Name word ps n toks after o1);
     name = k.name ∙ ap (λ (o : Option (List ℕ)). name_of (unwrap_or o [])) (sym (value_of-section words.Name word ps n toks after));

@@ -166,42 +166,42 @@ module _ (p : Parts) (ps : List Piece) (w : Keyword) (v : List ℕ) (n : ℕ) (h
   after_format differ fresh =
       let none = k.formatted fresh in
       record {
-    headers = new;
-    places = keeps_on words.NodeCoordSection w (λ x. x) (points_of ps) (points_of after) p.places ps v n is.places (same_points differ) k.places;
-    lower = keeps_none words.EdgeWeightSection w (λ x. x.items) (lower_of ps) (lower_of after) p.lower ps v n is.lower none k.lower;
-    demand = keeps_on words.DemandSection w (λ x. x.items) (demands_of ps) (demands_of after) p.demand ps v n is.demand (same_demands differ) k.demand;
-    depot = keeps_on words.DepotSection w (λ d. d) (depot_of ps) (depot_of after) p.depot ps v n is.depot same_depot k.depot;
-    display = display_stays;
-    sized = λ gone. no_section (k.sized (sym (has_other words.Dimension w ps v n differ) ∙ gone));
-    formatted = λ _. lower_stays none;
-    lower_fits = none_of p.lower (sym k.lower.came ∙ none) (λ x. WeightsFit (size_of after) (Lower x));
-    demand_small = subst (λ m. IfSome p.demand (λ _. m ≤ 5000)) (same_size differ) k.demand_small;
-    depot_in = subst (λ m. IfSome p.depot (λ d. (1 ≤ d) × (d ≤ m))) (same_size differ) k.depot_in;
-  }
+        headers = new;
+        places = keeps_on words.NodeCoordSection w (λ x. x) (points_of ps) (points_of after) p.places ps v n is.places (same_points differ) k.places;
+        lower = keeps_none words.EdgeWeightSection w (λ x. x.items) (lower_of ps) (lower_of after) p.lower ps v n is.lower none k.lower;
+        demand = keeps_on words.DemandSection w (λ x. x.items) (demands_of ps) (demands_of after) p.demand ps v n is.demand (same_demands differ) k.demand;
+        depot = keeps_on words.DepotSection w (λ d. d) (depot_of ps) (depot_of after) p.depot ps v n is.depot same_depot k.depot;
+        display = display_stays;
+        sized = λ gone. no_section (k.sized (sym (has_other words.Dimension w ps v n differ) ∙ gone));
+        formatted = λ _. lower_stays none;
+        lower_fits = none_of p.lower (sym k.lower.came ∙ none) (λ x. WeightsFit (size_of after) (Lower x));
+        demand_small = subst (λ m. IfSome p.demand (λ _. m ≤ 5000)) (same_size differ) k.demand_small;
+        depot_in = subst (λ m. IfSome p.depot (λ d. (1 ≤ d) × (d ≤ m))) (same_size differ) k.depot_in;
+      }
 
   after_dimension : has words.Dimension ps ≡ false → HasParts (record p { headers = headers }) after
   after_dimension fresh =
       let none = k.sized fresh in
       record {
-    headers = new;
-    places = keeps_none words.NodeCoordSection w (λ x. x) (points_of ps) (points_of after) p.places ps v n is.places none.places k.places;
-    lower = keeps_none words.EdgeWeightSection w (λ x. x.items) (lower_of ps) (lower_of after) p.lower ps v n is.lower none.lower k.lower;
-    demand = keeps_none words.DemandSection w (λ x. x.items) (demands_of ps) (demands_of after) p.demand ps v n is.demand none.demand k.demand;
-    depot = keeps_none words.DepotSection w (λ d. d) (depot_of ps) (depot_of after) p.depot ps v n is.depot none.depot k.depot;
-    display = display_stays;
-    sized = λ _. no_section none;
-    formatted = λ _. lower_stays none.lower;
-    lower_fits = none_of p.lower (sym k.lower.came ∙ none.lower) (λ x. WeightsFit (size_of after) (Lower x));
-    demand_small = none_of p.demand (sym k.demand.came ∙ none.demand) (λ _. size_of after ≤ 5000);
-    depot_in = none_of p.depot (sym k.depot.came ∙ none.depot) (λ d. (1 ≤ d) × (d ≤ size_of after));
-  }
+        headers = new;
+        places = keeps_none words.NodeCoordSection w (λ x. x) (points_of ps) (points_of after) p.places ps v n is.places none.places k.places;
+        lower = keeps_none words.EdgeWeightSection w (λ x. x.items) (lower_of ps) (lower_of after) p.lower ps v n is.lower none.lower k.lower;
+        demand = keeps_none words.DemandSection w (λ x. x.items) (demands_of ps) (demands_of after) p.demand ps v n is.demand none.demand k.demand;
+        depot = keeps_none words.DepotSection w (λ d. d) (depot_of ps) (depot_of after) p.depot ps v n is.depot none.depot k.depot;
+        display = display_stays;
+        sized = λ _. no_section none;
+        formatted = λ _. lower_stays none.lower;
+        lower_fits = none_of p.lower (sym k.lower.came ∙ none.lower) (λ x. WeightsFit (size_of after) (Lower x));
+        demand_small = none_of p.demand (sym k.demand.came ∙ none.demand) (λ _. size_of after ≤ 5000);
+        depot_in = none_of p.depot (sym k.depot.came ∙ none.depot) (λ d. (1 ≤ d) × (d ≤ size_of after));
+      }
 
 -- a header that is taken
 pub after_header : (p : Parts) (ps : List Piece) (w : Keyword) (v : List ℕ) (n : ℕ) (headers : Headers) → HasHeaders headers (ps ++ a_header w v n) → HasParts p ps → first_at n (problem_header ps w v) ≡ None
     → HasParts (record p { headers = headers }) (ps ++ a_header w v n)
 after_header p ps w v n headers new k fine =
     elim (header_kind w ps v n fine) [
-    | other o ↦ after_other p ps w v n headers new k (header_words w ps v n fine) o
-    | dimension fresh ↦ after_dimension p ps w v n headers new k (header_words w ps v n fine) fresh
-    | format d fresh ↦ after_format p ps w v n headers new k (header_words w ps v n fine) d fresh
+      | other o ↦ after_other p ps w v n headers new k (header_words w ps v n fine) o
+      | dimension fresh ↦ after_dimension p ps w v n headers new k (header_words w ps v n fine) fresh
+      | format d fresh ↦ after_format p ps w v n headers new k (header_words w ps v n fine) d fresh
     ]

@@ -84,17 +84,17 @@ with_places p ps n toks after k sized fresh x is =
     let here : tokens_in words.NodeCoordSection (ps ++ a_section words.NodeCoordSection n toks after) ≡ toks = tokens_in-new words.NodeCoordSection ps (a_section words.NodeCoordSection n toks after) fresh in
     let new : x ≡ points_of (ps ++ a_section words.NodeCoordSection n toks after) = is ∙ ap (λ (m : ℕ). places_of m toks) (same_size p ps words.NodeCoordSection n toks after k sized) ∙ rw here refl in
     record {
-    headers = past_section p.headers words.NodeCoordSection ps n toks after k.headers refl refl refl refl refl refl refl refl;
-    places = keeps_now words.NodeCoordSection (λ x. x) (points_of (now p ps words.NodeCoordSection n toks after k sized)) x ps n toks after refl new;
-    lower = keeps_past words.EdgeWeightSection words.NodeCoordSection (λ x. x.items) (lower_of ps) (lower_of (now p ps words.NodeCoordSection n toks after k sized)) p.lower ps n toks after refl (lower_stays p ps words.NodeCoordSection n toks after k sized refl) k.lower;
-    demand = keeps_past words.DemandSection words.NodeCoordSection (λ x. x.items) (demands_of ps) (demands_of (now p ps words.NodeCoordSection n toks after k sized)) p.demand ps n toks after refl (demands_stay p ps words.NodeCoordSection n toks after k sized refl) k.demand;
-    depot = keeps_past words.DepotSection words.NodeCoordSection (λ d. d) (depot_of ps) (depot_of (now p ps words.NodeCoordSection n toks after k sized)) p.depot ps n toks after refl (depot_stays p ps words.NodeCoordSection n toks after k sized refl) k.depot;
-    display = k.display ∙ sym (has_past words.DisplayDataSection words.NodeCoordSection ps n toks after refl);
-    sized = still_sized p ps words.NodeCoordSection n toks after k sized refl;
-    formatted = λ gone. has_past words.EdgeWeightSection words.NodeCoordSection ps n toks after refl ∙ k.formatted (sym (has_past words.EdgeWeightFormat words.NodeCoordSection ps n toks after refl) ∙ gone);
-    lower_fits = fits p ps words.NodeCoordSection n toks after k sized;
-    demand_small = small p ps words.NodeCoordSection n toks after k sized;
-    depot_in = inside p ps words.NodeCoordSection n toks after k sized;
+      headers = past_section p.headers words.NodeCoordSection ps n toks after k.headers refl refl refl refl refl refl refl refl;
+      places = keeps_now words.NodeCoordSection (λ x. x) (points_of (now p ps words.NodeCoordSection n toks after k sized)) x ps n toks after refl new;
+      lower = keeps_past words.EdgeWeightSection words.NodeCoordSection (λ x. x.items) (lower_of ps) (lower_of (now p ps words.NodeCoordSection n toks after k sized)) p.lower ps n toks after refl (lower_stays p ps words.NodeCoordSection n toks after k sized refl) k.lower;
+      demand = keeps_past words.DemandSection words.NodeCoordSection (λ x. x.items) (demands_of ps) (demands_of (now p ps words.NodeCoordSection n toks after k sized)) p.demand ps n toks after refl (demands_stay p ps words.NodeCoordSection n toks after k sized refl) k.demand;
+      depot = keeps_past words.DepotSection words.NodeCoordSection (λ d. d) (depot_of ps) (depot_of (now p ps words.NodeCoordSection n toks after k sized)) p.depot ps n toks after refl (depot_stays p ps words.NodeCoordSection n toks after k sized refl) k.depot;
+      display = k.display ∙ sym (has_past words.DisplayDataSection words.NodeCoordSection ps n toks after refl);
+      sized = still_sized p ps words.NodeCoordSection n toks after k sized refl;
+      formatted = λ gone. has_past words.EdgeWeightSection words.NodeCoordSection ps n toks after refl ∙ k.formatted (sym (has_past words.EdgeWeightFormat words.NodeCoordSection ps n toks after refl) ∙ gone);
+      lower_fits = fits p ps words.NodeCoordSection n toks after k sized;
+      demand_small = small p ps words.NodeCoordSection n toks after k sized;
+      depot_in = inside p ps words.NodeCoordSection n toks after k sized;
     }
 
 -- EdgeWeightSection
@@ -104,17 +104,17 @@ with_lower p ps n toks after k sized fresh x is formatted fit =
     let here : tokens_in words.EdgeWeightSection (ps ++ a_section words.EdgeWeightSection n toks after) ≡ toks = tokens_in-new words.EdgeWeightSection ps (a_section words.EdgeWeightSection n toks after) fresh in
     let new : x.items ≡ lower_of (ps ++ a_section words.EdgeWeightSection n toks after) = is ∙ ap (λ (m : ℕ). lower_weights m (format_in ps) toks) (same_size p ps words.EdgeWeightSection n toks after k sized) ∙ ap (λ (f : Format). lower_weights (size_of (now p ps words.EdgeWeightSection n toks after k sized)) f toks) (same_format p ps words.EdgeWeightSection n toks after k sized) ∙ rw here refl in
     record {
-    headers = past_section p.headers words.EdgeWeightSection ps n toks after k.headers refl refl refl refl refl refl refl refl;
-    places = keeps_past words.NodeCoordSection words.EdgeWeightSection (λ x. x) (points_of ps) (points_of (now p ps words.EdgeWeightSection n toks after k sized)) p.places ps n toks after refl (points_stay p ps words.EdgeWeightSection n toks after k sized refl) k.places;
-    lower = keeps_now words.EdgeWeightSection (λ x. x.items) (lower_of (now p ps words.EdgeWeightSection n toks after k sized)) x ps n toks after refl new;
-    demand = keeps_past words.DemandSection words.EdgeWeightSection (λ x. x.items) (demands_of ps) (demands_of (now p ps words.EdgeWeightSection n toks after k sized)) p.demand ps n toks after refl (demands_stay p ps words.EdgeWeightSection n toks after k sized refl) k.demand;
-    depot = keeps_past words.DepotSection words.EdgeWeightSection (λ d. d) (depot_of ps) (depot_of (now p ps words.EdgeWeightSection n toks after k sized)) p.depot ps n toks after refl (depot_stays p ps words.EdgeWeightSection n toks after k sized refl) k.depot;
-    display = k.display ∙ sym (has_past words.DisplayDataSection words.EdgeWeightSection ps n toks after refl);
-    sized = still_sized p ps words.EdgeWeightSection n toks after k sized refl;
-    formatted = λ gone. let e = sym formatted ∙ sym (has_past words.EdgeWeightFormat words.EdgeWeightSection ps n toks after refl) ∙ gone in absurd (let f = e in cc);
-    lower_fits = subst (λ m. WeightsFit m (Lower x)) (same_size p ps words.EdgeWeightSection n toks after k sized) fit;
-    demand_small = small p ps words.EdgeWeightSection n toks after k sized;
-    depot_in = inside p ps words.EdgeWeightSection n toks after k sized;
+      headers = past_section p.headers words.EdgeWeightSection ps n toks after k.headers refl refl refl refl refl refl refl refl;
+      places = keeps_past words.NodeCoordSection words.EdgeWeightSection (λ x. x) (points_of ps) (points_of (now p ps words.EdgeWeightSection n toks after k sized)) p.places ps n toks after refl (points_stay p ps words.EdgeWeightSection n toks after k sized refl) k.places;
+      lower = keeps_now words.EdgeWeightSection (λ x. x.items) (lower_of (now p ps words.EdgeWeightSection n toks after k sized)) x ps n toks after refl new;
+      demand = keeps_past words.DemandSection words.EdgeWeightSection (λ x. x.items) (demands_of ps) (demands_of (now p ps words.EdgeWeightSection n toks after k sized)) p.demand ps n toks after refl (demands_stay p ps words.EdgeWeightSection n toks after k sized refl) k.demand;
+      depot = keeps_past words.DepotSection words.EdgeWeightSection (λ d. d) (depot_of ps) (depot_of (now p ps words.EdgeWeightSection n toks after k sized)) p.depot ps n toks after refl (depot_stays p ps words.EdgeWeightSection n toks after k sized refl) k.depot;
+      display = k.display ∙ sym (has_past words.DisplayDataSection words.EdgeWeightSection ps n toks after refl);
+      sized = still_sized p ps words.EdgeWeightSection n toks after k sized refl;
+      formatted = λ gone. let e = sym formatted ∙ sym (has_past words.EdgeWeightFormat words.EdgeWeightSection ps n toks after refl) ∙ gone in absurd (let f = e in cc);
+      lower_fits = subst (λ m. WeightsFit m (Lower x)) (same_size p ps words.EdgeWeightSection n toks after k sized) fit;
+      demand_small = small p ps words.EdgeWeightSection n toks after k sized;
+      depot_in = inside p ps words.EdgeWeightSection n toks after k sized;
     }
 
 -- DemandSection
@@ -124,17 +124,17 @@ with_demand p ps n toks after k sized fresh x is few =
     let here : tokens_in words.DemandSection (ps ++ a_section words.DemandSection n toks after) ≡ toks = tokens_in-new words.DemandSection ps (a_section words.DemandSection n toks after) fresh in
     let new : x.items ≡ demands_of (ps ++ a_section words.DemandSection n toks after) = is ∙ ap (λ (m : ℕ). Rows.demands_of m toks) (same_size p ps words.DemandSection n toks after k sized) ∙ rw here refl in
     record {
-    headers = past_section p.headers words.DemandSection ps n toks after k.headers refl refl refl refl refl refl refl refl;
-    places = keeps_past words.NodeCoordSection words.DemandSection (λ x. x) (points_of ps) (points_of (now p ps words.DemandSection n toks after k sized)) p.places ps n toks after refl (points_stay p ps words.DemandSection n toks after k sized refl) k.places;
-    lower = keeps_past words.EdgeWeightSection words.DemandSection (λ x. x.items) (lower_of ps) (lower_of (now p ps words.DemandSection n toks after k sized)) p.lower ps n toks after refl (lower_stays p ps words.DemandSection n toks after k sized refl) k.lower;
-    demand = keeps_now words.DemandSection (λ x. x.items) (demands_of (now p ps words.DemandSection n toks after k sized)) x ps n toks after refl new;
-    depot = keeps_past words.DepotSection words.DemandSection (λ d. d) (depot_of ps) (depot_of (now p ps words.DemandSection n toks after k sized)) p.depot ps n toks after refl (depot_stays p ps words.DemandSection n toks after k sized refl) k.depot;
-    display = k.display ∙ sym (has_past words.DisplayDataSection words.DemandSection ps n toks after refl);
-    sized = still_sized p ps words.DemandSection n toks after k sized refl;
-    formatted = λ gone. has_past words.EdgeWeightSection words.DemandSection ps n toks after refl ∙ k.formatted (sym (has_past words.EdgeWeightFormat words.DemandSection ps n toks after refl) ∙ gone);
-    lower_fits = fits p ps words.DemandSection n toks after k sized;
-    demand_small = subst (λ m. m ≤ 5000) (same_size p ps words.DemandSection n toks after k sized) few;
-    depot_in = inside p ps words.DemandSection n toks after k sized;
+      headers = past_section p.headers words.DemandSection ps n toks after k.headers refl refl refl refl refl refl refl refl;
+      places = keeps_past words.NodeCoordSection words.DemandSection (λ x. x) (points_of ps) (points_of (now p ps words.DemandSection n toks after k sized)) p.places ps n toks after refl (points_stay p ps words.DemandSection n toks after k sized refl) k.places;
+      lower = keeps_past words.EdgeWeightSection words.DemandSection (λ x. x.items) (lower_of ps) (lower_of (now p ps words.DemandSection n toks after k sized)) p.lower ps n toks after refl (lower_stays p ps words.DemandSection n toks after k sized refl) k.lower;
+      demand = keeps_now words.DemandSection (λ x. x.items) (demands_of (now p ps words.DemandSection n toks after k sized)) x ps n toks after refl new;
+      depot = keeps_past words.DepotSection words.DemandSection (λ d. d) (depot_of ps) (depot_of (now p ps words.DemandSection n toks after k sized)) p.depot ps n toks after refl (depot_stays p ps words.DemandSection n toks after k sized refl) k.depot;
+      display = k.display ∙ sym (has_past words.DisplayDataSection words.DemandSection ps n toks after refl);
+      sized = still_sized p ps words.DemandSection n toks after k sized refl;
+      formatted = λ gone. has_past words.EdgeWeightSection words.DemandSection ps n toks after refl ∙ k.formatted (sym (has_past words.EdgeWeightFormat words.DemandSection ps n toks after refl) ∙ gone);
+      lower_fits = fits p ps words.DemandSection n toks after k sized;
+      demand_small = subst (λ m. m ≤ 5000) (same_size p ps words.DemandSection n toks after k sized) few;
+      depot_in = inside p ps words.DemandSection n toks after k sized;
     }
 
 -- DepotSection
@@ -144,31 +144,31 @@ with_depot p ps n toks after k sized fresh x is within =
     let here : tokens_in words.DepotSection (ps ++ a_section words.DepotSection n toks after) ≡ toks = tokens_in-new words.DepotSection ps (a_section words.DepotSection n toks after) fresh in
     let new : x ≡ depot_of (ps ++ a_section words.DepotSection n toks after) = is ∙ refl ∙ rw here refl in
     record {
-    headers = past_section p.headers words.DepotSection ps n toks after k.headers refl refl refl refl refl refl refl refl;
-    places = keeps_past words.NodeCoordSection words.DepotSection (λ x. x) (points_of ps) (points_of (now p ps words.DepotSection n toks after k sized)) p.places ps n toks after refl (points_stay p ps words.DepotSection n toks after k sized refl) k.places;
-    lower = keeps_past words.EdgeWeightSection words.DepotSection (λ x. x.items) (lower_of ps) (lower_of (now p ps words.DepotSection n toks after k sized)) p.lower ps n toks after refl (lower_stays p ps words.DepotSection n toks after k sized refl) k.lower;
-    demand = keeps_past words.DemandSection words.DepotSection (λ x. x.items) (demands_of ps) (demands_of (now p ps words.DepotSection n toks after k sized)) p.demand ps n toks after refl (demands_stay p ps words.DepotSection n toks after k sized refl) k.demand;
-    depot = keeps_now words.DepotSection (λ d. d) (depot_of (now p ps words.DepotSection n toks after k sized)) x ps n toks after refl new;
-    display = k.display ∙ sym (has_past words.DisplayDataSection words.DepotSection ps n toks after refl);
-    sized = still_sized p ps words.DepotSection n toks after k sized refl;
-    formatted = λ gone. has_past words.EdgeWeightSection words.DepotSection ps n toks after refl ∙ k.formatted (sym (has_past words.EdgeWeightFormat words.DepotSection ps n toks after refl) ∙ gone);
-    lower_fits = fits p ps words.DepotSection n toks after k sized;
-    demand_small = small p ps words.DepotSection n toks after k sized;
-    depot_in = subst (λ m. (1 ≤ x) × (x ≤ m)) (same_size p ps words.DepotSection n toks after k sized) within;
+      headers = past_section p.headers words.DepotSection ps n toks after k.headers refl refl refl refl refl refl refl refl;
+      places = keeps_past words.NodeCoordSection words.DepotSection (λ x. x) (points_of ps) (points_of (now p ps words.DepotSection n toks after k sized)) p.places ps n toks after refl (points_stay p ps words.DepotSection n toks after k sized refl) k.places;
+      lower = keeps_past words.EdgeWeightSection words.DepotSection (λ x. x.items) (lower_of ps) (lower_of (now p ps words.DepotSection n toks after k sized)) p.lower ps n toks after refl (lower_stays p ps words.DepotSection n toks after k sized refl) k.lower;
+      demand = keeps_past words.DemandSection words.DepotSection (λ x. x.items) (demands_of ps) (demands_of (now p ps words.DepotSection n toks after k sized)) p.demand ps n toks after refl (demands_stay p ps words.DepotSection n toks after k sized refl) k.demand;
+      depot = keeps_now words.DepotSection (λ d. d) (depot_of (now p ps words.DepotSection n toks after k sized)) x ps n toks after refl new;
+      display = k.display ∙ sym (has_past words.DisplayDataSection words.DepotSection ps n toks after refl);
+      sized = still_sized p ps words.DepotSection n toks after k sized refl;
+      formatted = λ gone. has_past words.EdgeWeightSection words.DepotSection ps n toks after refl ∙ k.formatted (sym (has_past words.EdgeWeightFormat words.DepotSection ps n toks after refl) ∙ gone);
+      lower_fits = fits p ps words.DepotSection n toks after k sized;
+      demand_small = small p ps words.DepotSection n toks after k sized;
+      depot_in = subst (λ m. (1 ≤ x) × (x ≤ m)) (same_size p ps words.DepotSection n toks after k sized) within;
     }
 
 -- DisplayDataSection
 pub with_display : (p : Parts) (ps : List Piece) (n : ℕ) (toks : List Token) (after : After) → HasParts p ps → has words.Dimension ps ≡ true → HasParts (record p { has_display = true }) (ps ++ a_section words.DisplayDataSection n toks after)
 with_display p ps n toks after k sized = record {
-    headers = past_section p.headers words.DisplayDataSection ps n toks after k.headers refl refl refl refl refl refl refl refl;
-    places = keeps_past words.NodeCoordSection words.DisplayDataSection (λ x. x) (points_of ps) (points_of (now p ps words.DisplayDataSection n toks after k sized)) p.places ps n toks after refl (points_stay p ps words.DisplayDataSection n toks after k sized refl) k.places;
-    lower = keeps_past words.EdgeWeightSection words.DisplayDataSection (λ x. x.items) (lower_of ps) (lower_of (now p ps words.DisplayDataSection n toks after k sized)) p.lower ps n toks after refl (lower_stays p ps words.DisplayDataSection n toks after k sized refl) k.lower;
-    demand = keeps_past words.DemandSection words.DisplayDataSection (λ x. x.items) (demands_of ps) (demands_of (now p ps words.DisplayDataSection n toks after k sized)) p.demand ps n toks after refl (demands_stay p ps words.DisplayDataSection n toks after k sized refl) k.demand;
-    depot = keeps_past words.DepotSection words.DisplayDataSection (λ d. d) (depot_of ps) (depot_of (now p ps words.DisplayDataSection n toks after k sized)) p.depot ps n toks after refl (depot_stays p ps words.DisplayDataSection n toks after k sized refl) k.depot;
-    display = sym (has-section words.DisplayDataSection words.DisplayDataSection ps n toks after ∙ or_true (has words.DisplayDataSection ps));
-    sized = still_sized p ps words.DisplayDataSection n toks after k sized refl;
-    formatted = λ gone. has_past words.EdgeWeightSection words.DisplayDataSection ps n toks after refl ∙ k.formatted (sym (has_past words.EdgeWeightFormat words.DisplayDataSection ps n toks after refl) ∙ gone);
-    lower_fits = fits p ps words.DisplayDataSection n toks after k sized;
-    demand_small = small p ps words.DisplayDataSection n toks after k sized;
-    depot_in = inside p ps words.DisplayDataSection n toks after k sized;
-    }
+  headers = past_section p.headers words.DisplayDataSection ps n toks after k.headers refl refl refl refl refl refl refl refl;
+  places = keeps_past words.NodeCoordSection words.DisplayDataSection (λ x. x) (points_of ps) (points_of (now p ps words.DisplayDataSection n toks after k sized)) p.places ps n toks after refl (points_stay p ps words.DisplayDataSection n toks after k sized refl) k.places;
+  lower = keeps_past words.EdgeWeightSection words.DisplayDataSection (λ x. x.items) (lower_of ps) (lower_of (now p ps words.DisplayDataSection n toks after k sized)) p.lower ps n toks after refl (lower_stays p ps words.DisplayDataSection n toks after k sized refl) k.lower;
+  demand = keeps_past words.DemandSection words.DisplayDataSection (λ x. x.items) (demands_of ps) (demands_of (now p ps words.DisplayDataSection n toks after k sized)) p.demand ps n toks after refl (demands_stay p ps words.DisplayDataSection n toks after k sized refl) k.demand;
+  depot = keeps_past words.DepotSection words.DisplayDataSection (λ d. d) (depot_of ps) (depot_of (now p ps words.DisplayDataSection n toks after k sized)) p.depot ps n toks after refl (depot_stays p ps words.DisplayDataSection n toks after k sized refl) k.depot;
+  display = sym (has-section words.DisplayDataSection words.DisplayDataSection ps n toks after ∙ or_true (has words.DisplayDataSection ps));
+  sized = still_sized p ps words.DisplayDataSection n toks after k sized refl;
+  formatted = λ gone. has_past words.EdgeWeightSection words.DisplayDataSection ps n toks after refl ∙ k.formatted (sym (has_past words.EdgeWeightFormat words.DisplayDataSection ps n toks after refl) ∙ gone);
+  lower_fits = fits p ps words.DisplayDataSection n toks after k sized;
+  demand_small = small p ps words.DisplayDataSection n toks after k sized;
+  depot_in = inside p ps words.DisplayDataSection n toks after k sized;
+}

@@ -105,7 +105,7 @@ module _ (p : Parts) (ps : List Piece) (k : HasParts p ps) (n : ℕ) (size : siz
       let came : has words.EdgeWeightSection ps ≡ true = (two_tests (has words.EdgeWeightType ps) (has words.EdgeWeightSection ps) _ _ ends).1 in
       let lower = some_of p.lower (sym k.lower.came ∙ came) in
       explicit_with lower.0 is lower.1 so (subst (λ m. WeightsFit m (Lower lower.0)) size (subst (λ o. IfSome o (λ x. WeightsFit (size_of ps) (Lower x))) lower.1 k.lower_fits))
-          (subst (λ o. IfSome o (λ x. x.items ≡ lower_of ps)) lower.1 k.lower.is)
+      (subst (λ o. IfSome o (λ x. x.items ≡ lower_of ps)) lower.1 k.lower.is)
 
   plane_with : (kind : PlaneKind) (places : List Point) → p.headers.weight_type ≡ Some (types.Plane kind) → p.places ≡ Some places → weight_type ps ≡ Some (types.Plane kind) → places ≡ points_of ps → WeightsDone
   plane_with kind places is kept so items = rw (is, kept, so) (ap length items ∙ points_fit, ap (value.Points kind) items)

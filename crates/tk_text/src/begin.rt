@@ -82,11 +82,7 @@ fn begin_places(alloc: Global, size: u32) -> Result<OpenSection, TextKind>
     Ok(OpenSection::Places(Coordinates::new(alloc, size)?))
 }
 
-fn begin_loads(
-    alloc: Global,
-    problem_type: ProblemType,
-    size: u32,
-) -> Result<OpenSection, TextKind>
+fn begin_loads(alloc: Global, problem_type: ProblemType, size: u32) -> Result<OpenSection, TextKind>
     ensures ok { (before : List Piece) → problem_type_in before ≡ Some problem_type → size_of before ≡ size → IfOk result (IsReady before words.DemandSection) }
     ensures err { (before : List Piece) (n : ℕ) → problem_type_in before ≡ Some problem_type → size_of before ≡ size → IfErr result (IsToldWord (λ k. first_at n (section_tests before words.DemandSection) ≡ Some (Fault n k))) }
 {

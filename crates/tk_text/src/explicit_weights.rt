@@ -104,10 +104,7 @@ impl ExplicitWeights {
         if self.lower.weight() == weight {
             return Ok(weight);
         }
-        Err(TextKind::NotSymmetric(
-            place.column.saturating_add(1),
-            place.row.saturating_add(1),
-        ))
+        Err(TextKind::NotSymmetric(place.column.saturating_add(1), place.row.saturating_add(1)))
     }
 
     /// Whether a full matrix has the pair of a place already.

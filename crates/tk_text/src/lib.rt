@@ -1,30 +1,18 @@
 //! The texts of the field: TSPLIB 95 problems and tours, read and written.
 #![tactic(auto)]
 
-#[cfg(test)]
-mod drip;
-#[cfg(test)]
-mod fake_sink;
-#[cfg(test)]
-mod problem_header_tests;
-#[cfg(test)]
-mod problem_routing_tests;
-#[cfg(test)]
-mod problem_section_tests;
-#[cfg(test)]
-mod problem_tests;
-#[cfg(test)]
-mod read_both_ways;
-#[cfg(test)]
-mod tour_tests;
 mod begin;
 mod coordinates;
 mod decimals;
 mod demands;
 mod depot;
+#[cfg(test)]
+mod drip;
 mod drive;
 mod entries;
 mod explicit_weights;
+#[cfg(test)]
+mod fake_sink;
 mod fault;
 mod finish;
 mod form;
@@ -46,7 +34,17 @@ mod point;
 mod points;
 mod problem;
 mod problem_form;
+#[cfg(test)]
+mod problem_header_tests;
+#[cfg(test)]
+mod problem_routing_tests;
+#[cfg(test)]
+mod problem_section_tests;
+#[cfg(test)]
+mod problem_tests;
 mod problem_text;
+#[cfg(test)]
+mod read_both_ways;
 mod reader;
 mod routing;
 mod scan;
@@ -54,6 +52,8 @@ mod sink;
 mod solution_writer;
 mod source;
 mod tour;
+#[cfg(test)]
+mod tour_tests;
 mod tour_writer;
 mod weight_order;
 mod weights;

@@ -1,16 +1,16 @@
 //! Tours: an array tour and its flips, a journal of flips, and the check and the length of a list.
 #![tactic(auto)]
 
-#[cfg(test)]
-mod tests;
 mod array;
 mod fault;
 mod journal;
+pub mod laws;
 mod measure;
 mod reversal;
 mod store;
+#[cfg(test)]
+mod tests;
 mod verdict;
-pub mod laws;
 
 pub use array::ArrayTour;
 pub use fault::TourFault;

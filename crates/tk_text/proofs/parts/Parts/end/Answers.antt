@@ -22,4 +22,4 @@ returns-in-None-clause-fault c = λ ps k.
     let sized : is_none c.args.self.now.headers.dimension ≡ false = search rules in
     let P : TextKind → Type 0 = λ x. first_kind (routing_ends_of ps) ≡ Some x in
     some_map c.routing_end.result (IsToldWord P) (IsToldWord (λ x. problem_end ps ≡ Some x))
-        (λ x. told_map P (λ y. problem_end ps ≡ Some y) x (λ e. end_goes c.args.self.now ps k typed sized none ∙ e)) (c.routing_end.ensures.fault ps k)
+    (λ x. told_map P (λ y. problem_end ps ≡ Some y) x (λ e. end_goes c.args.self.now ps k typed sized none ∙ e)) (c.routing_end.ensures.fault ps k)

@@ -33,4 +33,3 @@ returns-else-is_full c = λ v h. rw (c.push.ensures, c.keep.ensures) (first_more
 
 pub returns-else-blank-4 : goal.returns-else-blank-4
 returns-else-blank-4 c = λ v h. rw c.keep-in-Rest.ensures (rest_solid c.args.self.now v c.args.byte h c.in-Rest.is (sym c.blank-in-Rest.ensures ∙ c.if-blank-4.false))
-

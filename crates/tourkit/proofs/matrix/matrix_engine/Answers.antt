@@ -1,0 +1,17 @@
+use Rattle.std.proofs.Common.{refl}
+use Rattle.tk_text.specs.Parts.{problem_is}
+use Rattle.tourkit.specs.MatrixOf.{matrix_of}
+use Rattle.tourkit.proofs.matrix.matrix_engine.Goals as goal
+
+pub returns-clause-err : goal.returns-clause-err
+returns-clause-err g c =
+    let problem = problem_is c.in-Ok.problem in (
+      record {
+        problem = problem;
+        said = c.in-Ok.ensures.ok;
+        text = matrix_of problem c.args.format;
+        is = (c.if-problem-gt-MATRIX_LIMIT.false, refl);
+        writes = c.in-Err-write_problem.ensures.text;
+      },
+      c.in-Err-write_problem.ensures.failed,
+    )

@@ -1,0 +1,5 @@
+pub mod Check
+pub mod Engine
+pub mod MatrixOf
+pub mod NearText
+pub mod Outcome

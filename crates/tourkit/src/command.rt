@@ -1,0 +1,31 @@
+//! The words that the program takes.
+use crate::matrix_command::matrix;
+use crate::near_command::near;
+use clap::{Arg, Command, Error};
+use std::alloc::Global;
+
+/// The program with its subcommands.
+pub fn tourkit<'a>(alloc: Global) -> Result<Command<'a>, Error> {
+    let made = Command::new(alloc, "tourkit")
+        .version("0.1.0")
+        .about("Reads, checks and improves tours and routes")
+        .subcommand_required(true)
+        .subcommand(check(alloc)?)?
+        .subcommand(matrix(alloc)?)?
+        .subcommand(near(alloc)?)?;
+    Ok(made)
+}
+
+fn check<'a>(alloc: Global) -> Result<Command<'a>, Error> {
+    let problem = Arg::new(alloc, "PROBLEM")
+        .help("a TSPLIB or CVRPLIB problem file")
+        .required(true);
+    let tour = Arg::new(alloc, "TOUR")
+        .help("a TSPLIB tour file")
+        .required(true);
+    let made = Command::new(alloc, "check")
+        .about("Checks a tour and tells its length")
+        .arg(problem)?
+        .arg(tour)?;
+    Ok(made)
+}

@@ -1,0 +1,64 @@
+//! `tourkit`: symmetric travelling salesman problems and tours, read alike and checked.
+#![tactic(auto)]
+
+mod check;
+mod command;
+mod fault;
+mod matrix;
+mod matrix_command;
+mod near;
+mod near_command;
+mod report;
+mod runs;
+mod stop;
+mod verdict_line;
+
+use clap::error::ErrorKind;
+use clap::{ArgMatches, Error};
+use report::{SYSTEM, USAGE};
+use std::process::ExitCode;
+
+/// Reads the program's words, and runs what they ask for.
+fn main(rt: HostRuntime) -> ExitCode {
+    let collected = match std::env::args(&rt) {
+        Ok(args) => args.collect::<Vec<String>>(rt.alloc()),
+        Err(_) => return ExitCode::from(USAGE),
+    };
+    match collected {
+        Ok(words) => parse(&rt, words.as_slice()),
+        Err(_) => ExitCode::from(SYSTEM),
+    }
+}
+
+/// Runs the subcommand that the words name, or shows what is wrong with them.
+fn parse(rt: &HostRuntime, words: &[String]) -> ExitCode {
+    let matches = match command::tourkit(rt.alloc()) {
+        Ok(command) => command.try_get_matches_from(words),
+        Err(error) => Err(error),
+    };
+    match matches {
+        Ok(matches) => run(rt, &matches),
+        Err(error) => refuse(rt, &error),
+    }
+}
+
+/// Shows help, the version, or what is wrong with the words.
+fn refuse(rt: &HostRuntime, error: &Error) -> ExitCode {
+    if error.kind() == ErrorKind::OutOfMemory {
+        return report::no_memory(rt);
+    }
+    match error.print(rt) {
+        Ok(()) => ExitCode::from(error.exit_code() as u8),
+        Err(_) => report::write_fault(rt),
+    }
+}
+
+/// Runs a subcommand.
+fn run(rt: &HostRuntime, matches: &ArgMatches<'_>) -> ExitCode {
+    match matches.subcommand() {
+        Some(("check", words)) => runs::check(rt, words),
+        Some(("matrix", words)) => matrix_command::run(rt, words),
+        Some(("near", words)) => near_command::run(rt, words),
+        _ => ExitCode::from(USAGE),
+    }
+}

@@ -1,0 +1,144 @@
+//! The matrix of a problem.
+ghost use Rattle.std.specs.Prelude.{◌≡◌, ◌≤◌, true, length, pos, Ok, OnErr, IfOk, IfErr};
+ghost use Rattle.tk_metric.specs.Cities.{IsCity};
+ghost use Rattle.tk_metric.specs.Tables.{table_size, table_distance};
+ghost use Rattle.tk_text.specs.Drive.{IsAnswerWhereTold, IsTold};
+ghost use Rattle.tk_text.specs.Parts.{problem_is};
+ghost use Rattle.tk_text.specs.Problem.{problem_decided};
+ghost use Rattle.tk_text.specs.Puts.{Writes};
+ghost use Rattle.tk_text.specs.Tour.{text_limit};
+ghost use Rattle.tourkit.specs.MatrixOf.{IsMatrixText, IsTooLarge, matrix_of};
+ghost use Rattle.tourkit.specs.Outcome.{HasWritten, IsWhole, Reads, Stopped};
+
+use crate::fault::Fault;
+use std::alloc::Global;
+use tk_metric::{Metric, Table};
+use tk_text::{Format, Problem, Sink, Source, WriteFault, read_problem, write_matrix};
+
+/// The most nodes of a problem whose matrix is written.
+const MATRIX_LIMIT: u32 = 5_000;
+
+/// Writes the matrix of a problem.
+fn write_problem<W: Sink>(out: &mut W, problem: &Problem, format: Format) -> Result<(), WriteFault>
+    requires few { problem.now.n ≤ 5000 }
+    ensures text { Writes W.taken W.broken out.old out.new result (matrix_of (problem_is problem.now) format) }
+    ensures failed { length problem.now.name.items ≤ 1024 → OnErr result (W.broken out.new ≡ true) }
+{
+    let table = Table::of(problem);
+    let distance = |a: u32, b: u32| -> i64
+        requires a { IsCity (table_size table) a }
+        requires b { IsCity (table_size table) b }
+        ensures { result ≡ pos (table_distance table.entry a b) }
+    { table.dist(a, b) };
+    write_matrix(out, &problem.name, problem.n, &distance, format)
+}
+
+/// Writes a problem as one with explicit weights in this format: the distances of its cities.
+///
+/// The whole text is read before a byte is written.
+///
+/// # Errors
+/// The fault of the text, of writing, or of memory; `TooLarge` over 5,000 nodes.
+pub fn matrix_engine<R: Source, W: Sink>(
+    alloc: Global,
+    problem: &mut R,
+    format: Format,
+    out: &mut W,
+) -> Result<(), Fault>
+    ensures ok { IfOk result (λ _. HasWritten (Reads (R.left problem.old) (R.left problem.new)) (IsMatrixText format) W.taken W.broken out.old out.new (Ok tt)) }
+    ensures err { IfErr result (Stopped (IsTold (R.broken problem.new ≡ true) (IsAnswerWhereTold problem_decided text_limit (R.left problem.old) (R.left problem.new))) (IsTooLarge (Reads (R.left problem.old) (R.left problem.new))) (λ r. (h : HasWritten (Reads (R.left problem.old) (R.left problem.new)) (IsMatrixText format) W.taken W.broken out.old out.new r) × (length h.problem.name ≤ 1024 → W.broken out.new ≡ true)) (out.new ≡ out.old)) }
+    ensures intact { IsWhole (R.broken problem.old) (R.broken problem.new) result }
+{
+    let problem = match read_problem(alloc, problem) {
+        Ok(problem) => problem,
+        Err(fault) => return Err(Fault::Problem(fault)),
+    };
+    if problem.n > MATRIX_LIMIT {
+        return Err(Fault::TooLarge);
+    }
+    match write_problem(out, &problem, format) {
+        Ok(()) => Ok(()),
+        Err(fault) => Err(Fault::Write(fault)),
+    }
+}
+
+#[cfg(test)]
+mod tests {
+    use super::*;
+    use std::test::Fail;
+    use tk_text::{FromRead, TextFault, TextKind, ToWrite};
+
+    const TRI: &[u8] =
+        b"NAME : p\nTYPE : TSP\nDIMENSION : 3\nEDGE_WEIGHT_TYPE : EUC_2D\nNODE_COORD_SECTION\n1 0 0\n2 3 0\n3 0 4\nEOF\n";
+
+    const LOWER_DIAG: &[u8] =
+        b"NAME : p\nTYPE : TSP\nDIMENSION : 3\nEDGE_WEIGHT_TYPE : EXPLICIT\nEDGE_WEIGHT_FORMAT : LOWER_DIAG_ROW\nEDGE_WEIGHT_SECTION\n0\n3 0\n4 5 0\nEOF\n";
+
+    const FULL: &[u8] =
+        b"NAME : p\nTYPE : TSP\nDIMENSION : 3\nEDGE_WEIGHT_TYPE : EXPLICIT\nEDGE_WEIGHT_FORMAT : FULL_MATRIX\nEDGE_WEIGHT_SECTION\n0 3 4\n3 0 5\n4 5 0\nEOF\n";
+
+    /// What the engine answers and what it writes.
+    fn matrix(alloc: Global, problem: &[u8], format: Format) -> (Result<(), Fault>, Vec<u8>) {
+        let mut problem = FromRead::new(problem);
+        let mut out = ToWrite::new(Vec::new(alloc));
+        let answer = matrix_engine(alloc, &mut problem, format, &mut out);
+        (answer, out.inner)
+    }
+
+    #[test]
+    fn writes_known_matrices(rt: HostRuntime) {
+        for problem in [TRI, LOWER_DIAG, FULL] {
+            for (format, want) in [
+                (Format::LowerDiagRow, LOWER_DIAG),
+                (Format::FullMatrix, FULL),
+            ] {
+                let (answer, text) = matrix(rt.alloc(), problem, format);
+                assert_eq!(rt; answer, Ok(()));
+                assert_eq!(rt; text.as_slice(), want);
+            }
+        }
+    }
+
+    /// A problem of n cities at the origin.
+    fn cities(alloc: Global, n: u32) -> Result<String, Fail> {
+        let mut text = format!(in alloc;
+            "TYPE : TSP\nDIMENSION : {n}\nEDGE_WEIGHT_TYPE : EUC_2D\nNODE_COORD_SECTION\n"
+        )?;
+        for city in 0..n {
+            let line = format!(in alloc; "{} 0 0\n", city as u64 + 1)?;
+            text.push_str(&line)?;
+        }
+        text.push_str("EOF\n")?;
+        Ok(text)
+    }
+
+    #[test]
+    fn writes_nothing_over_the_limit(rt: HostRuntime) -> Result<(), Fail> {
+        let text = cities(rt.alloc(), 5_001)?;
+        let (answer, written) = matrix(rt.alloc(), text.as_bytes(), Format::UpperRow);
+        assert_eq!(rt; answer, Err(Fault::TooLarge));
+        assert!(rt; written.is_empty());
+        Ok(())
+    }
+
+    #[test]
+    fn writes_nothing_on_a_faulty_text(rt: HostRuntime) {
+        let (answer, written) = matrix(rt.alloc(), b"TYPE : ATSP\n", Format::UpperRow);
+        let fault = TextFault {
+            line: 1,
+            kind: TextKind::Unsupported,
+        };
+        assert_eq!(rt; answer, Err(Fault::Problem(fault)));
+        assert!(rt; written.is_empty());
+    }
+
+    #[test]
+    fn says_how_much_of_a_matrix_went_out(rt: HostRuntime) {
+        let mut problem = FromRead::new(TRI);
+        let mut room = [0; 20];
+        let mut out = ToWrite::new(room.as_mut_slice());
+        let answer = matrix_engine(rt.alloc(), &mut problem, Format::UpperRow, &mut out);
+        assert_eq!(rt; answer, Err(Fault::Write(WriteFault { written: 20 })));
+        assert!(rt; out.failed());
+    }
+}

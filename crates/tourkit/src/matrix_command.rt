@@ -1,0 +1,81 @@
+//! The subcommand `matrix`.
+ghost use Rattle.std.specs.Prelude.{◌≡◌, ◌≢◌, IfSome};
+ghost use Rattle.tk_text.specs.MatrixText.{format_word};
+ghost use Rattle.tk_text.specs.declared.weights.Format.{Format};
+
+use crate::matrix::matrix_engine;
+use crate::report::{self, USAGE};
+use crate::stop::stopped;
+use clap::builder::ValueParser;
+use clap::{Arg, ArgMatches, Command, Error};
+use std::alloc::Global;
+use std::fs::File;
+use std::process::ExitCode;
+use tk_text::{Format, FromRead, ToWrite};
+
+/// The words of the formats.
+static FORMATS: [&str; 9] = [
+    "FULL_MATRIX",
+    "UPPER_ROW",
+    "LOWER_ROW",
+    "UPPER_DIAG_ROW",
+    "LOWER_DIAG_ROW",
+    "UPPER_COL",
+    "LOWER_COL",
+    "UPPER_DIAG_COL",
+    "LOWER_DIAG_COL",
+];
+
+/// The format of a word.
+fn format_of(word: &str) -> Option<Format>
+    ensures some { IfSome result (λ f. word.now ≡ format_word f) }
+    ensures none { result ≡ None → (f : Format) → word.now ≢ format_word f }
+{
+    match word {
+        "FULL_MATRIX" => Some(Format::FullMatrix),
+        "UPPER_ROW" => Some(Format::UpperRow),
+        "LOWER_ROW" => Some(Format::LowerRow),
+        "UPPER_DIAG_ROW" => Some(Format::UpperDiagRow),
+        "LOWER_DIAG_ROW" => Some(Format::LowerDiagRow),
+        "UPPER_COL" => Some(Format::UpperCol),
+        "LOWER_COL" => Some(Format::LowerCol),
+        "UPPER_DIAG_COL" => Some(Format::UpperDiagCol),
+        "LOWER_DIAG_COL" => Some(Format::LowerDiagCol),
+        _ => None,
+    }
+}
+
+/// The words of `matrix`.
+pub fn matrix<'a>(alloc: Global) -> Result<Command<'a>, Error> {
+    let problem = Arg::new(alloc, "PROBLEM")
+        .help("a TSPLIB or CVRPLIB problem file")
+        .required(true);
+    let format = Arg::new(alloc, "FORMAT")
+        .help("the order of the weights")
+        .value_parser(ValueParser::Names(FORMATS.as_slice()))
+        .required(true);
+    let made = Command::new(alloc, "matrix")
+        .about("Prints a problem as a TSP with explicit weights")
+        .arg(problem)?
+        .arg(format)?;
+    Ok(made)
+}
+
+/// `matrix PROBLEM FORMAT`.
+pub fn run(rt: &HostRuntime, words: &ArgMatches<'_>) -> ExitCode {
+    let (Some(file), Some(word)) = (words.get_str("PROBLEM"), words.get_str("FORMAT")) else {
+        return ExitCode::from(USAGE);
+    };
+    let Some(format) = format_of(word) else {
+        return ExitCode::from(USAGE);
+    };
+    let Ok(problem) = File::open(rt, file) else {
+        return report::unopened(rt, file);
+    };
+    let mut problem = FromRead::new(problem);
+    let mut out = ToWrite::new(rt.stdout());
+    match matrix_engine(rt.alloc(), &mut problem, format, &mut out) {
+        Ok(()) => ExitCode::SUCCESS,
+        Err(fault) => stopped(rt, file, &fault),
+    }
+}

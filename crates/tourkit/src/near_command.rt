@@ -1,0 +1,45 @@
+//! The subcommand `near`.
+use crate::near::near_engine;
+use crate::report::{self, USAGE};
+use crate::stop::stopped;
+use clap::builder::ValueParser;
+use clap::{Arg, ArgMatches, Command, Error};
+use std::alloc::Global;
+use std::fs::File;
+use std::process::ExitCode;
+use tk_text::{FromRead, ToWrite};
+
+/// The words of `near`.
+pub fn near<'a>(alloc: Global) -> Result<Command<'a>, Error> {
+    let problem = Arg::new(alloc, "PROBLEM")
+        .help("a TSPLIB or CVRPLIB problem file")
+        .required(true);
+    let count = Arg::new(alloc, "k")
+        .short('k')
+        .value_name("N")
+        .help("how many cities a list has, 1 to 100")
+        .value_parser(ValueParser::Unsigned(1, 100))
+        .default_value("5");
+    let made = Command::new(alloc, "near")
+        .about("Prints the nearest other cities of each city")
+        .arg(problem)?
+        .arg(count)?;
+    Ok(made)
+}
+
+/// `near PROBLEM -k N`.
+pub fn run(rt: &HostRuntime, words: &ArgMatches<'_>) -> ExitCode {
+    let (Some(file), Some(k @ 1..=100)) = (words.get_str("PROBLEM"), words.get_one::<u32>("k"))
+    else {
+        return ExitCode::from(USAGE);
+    };
+    let Ok(problem) = File::open(rt, file) else {
+        return report::unopened(rt, file);
+    };
+    let mut problem = FromRead::new(problem);
+    let mut out = ToWrite::new(rt.stdout());
+    match near_engine(rt.alloc(), &mut problem, k, &mut out) {
+        Ok(()) => ExitCode::SUCCESS,
+        Err(fault) => stopped(rt, file, &fault),
+    }
+}

@@ -1,0 +1,41 @@
+//! What standard error and the exit status tell.
+use crate::fault::Fault;
+use std::io;
+use std::process::ExitCode;
+use tk_text::{TextFault, TextKind};
+
+/// A check found a fault.
+pub const FOUND: u8 = 1;
+
+/// Words, a text or a parameter were refused.
+pub const USAGE: u8 = 2;
+
+/// A file could not be opened, read or written, or memory was wanting.
+pub const SYSTEM: u8 = 3;
+
+/// Tells that a file cannot be opened.
+pub fn unopened(rt: &HostRuntime, file: &str) -> ExitCode {
+    let _ = eprintln!(rt; "tourkit: {file}: cannot be opened");
+    ExitCode::from(SYSTEM)
+}
+
+/// Tells the fault of a text.
+pub fn text_fault(rt: &HostRuntime, file: &str, fault: &TextFault) -> ExitCode {
+    let _ = eprintln!(rt; "tourkit: {file}:{fault}");
+    ExitCode::from(match fault.kind {
+        TextKind::Read | TextKind::NoMemory => SYSTEM,
+        _ => USAGE,
+    })
+}
+
+/// Tells that the output could not be written.
+pub fn write_fault(rt: &HostRuntime) -> ExitCode {
+    let _ = eprintln!(rt; "tourkit: write fault");
+    ExitCode::from(SYSTEM)
+}
+
+/// Tells that memory was wanting.
+pub fn no_memory(rt: &HostRuntime) -> ExitCode {
+    let _ = eprintln!(rt; "tourkit: out of memory");
+    ExitCode::from(SYSTEM)
+}

@@ -1,0 +1,33 @@
+//! The subcommands over real files.
+use crate::check::check_engine;
+use crate::fault::Fault;
+use crate::report::{self, FOUND, USAGE};
+use crate::stop::stopped;
+use clap::ArgMatches;
+use std::fs::File;
+use std::process::ExitCode;
+use tk_text::{FromRead, ToWrite};
+use tk_tour::Verdict;
+
+/// `check PROBLEM TOUR`. Both files are opened before either is read.
+pub fn check(rt: &HostRuntime, words: &ArgMatches<'_>) -> ExitCode {
+    let (Some(problem_file), Some(tour_file)) = (words.get_str("PROBLEM"), words.get_str("TOUR"))
+    else {
+        return ExitCode::from(USAGE);
+    };
+    let Ok(problem) = File::open(rt, problem_file) else {
+        return report::unopened(rt, problem_file);
+    };
+    let Ok(tour) = File::open(rt, tour_file) else {
+        return report::unopened(rt, tour_file);
+    };
+    let mut problem = FromRead::new(problem);
+    let mut tour = FromRead::new(tour);
+    let mut out = ToWrite::new(rt.stdout());
+    match check_engine(rt.alloc(), &mut problem, &mut tour, &mut out) {
+        Ok(Verdict::Tour) => ExitCode::SUCCESS,
+        Ok(_) => ExitCode::from(FOUND),
+        Err(Fault::Tour(fault)) => report::text_fault(rt, tour_file, &fault),
+        Err(fault) => stopped(rt, problem_file, &fault),
+    }
+}
