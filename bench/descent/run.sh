@@ -11,6 +11,7 @@ work=${TMPDIR:-/tmp}/descent_bench
 mkdir -p "$work/crates/descent_bench"
 for name in tk_text tk_metric tk_tour tk_descent; do
     mkdir -p "$work/crates/$name"
+    rm -rf "$work/crates/$name/src" "$work/crates/$name/specs" "$work/crates/$name/proofs"
     (cd "$top/crates/$name" && tar cf - --exclude=./out .) | (cd "$work/crates/$name" && tar xf -)
 done
 bench=$work/crates/descent_bench

@@ -1,10 +1,11 @@
 -- Each offer of the list is one on the cycle.
 use Rattle.std.proofs.Common.{◌≡◌, ℕ, suc, ◌<◌, ◌≤◌, ◌≢◌, ◌⊎◌, Bool, true, false, cond, ◌||◌, eqb, List, [], ◌∷◌, ◌++◌, length, reverse, Option, Some, refl, sym, ◌∙◌, ap, arith, inl, inr, subst, ◌&&◌, leb, take, flat_map, slice_index, append_assoc, length-append}
 use Rattle.std.proofs.lemmas.Bool.{or_parts, or_cases, or_from, and_parts, leb-true, eqb-false, eqb-true, ne_eqb, both_ways}
-use Rattle.std.proofs.lemmas.List.{append-nil, reverse-reverse}
+use Rattle.std.proofs.lemmas.List.{reverse-reverse}
 use Rattle.std.specs.List.{All}
 use Rattle.tk_metric.specs.Near.{IsOther}
 use Rattle.tk_descent.specs.Machine.{IsOfferOn}
+use Rattle.tk_tour.proofs.Cycle.{IsRotation-refl}
 use Rattle.tk_tour.specs.Tour.{IsRotation, SameCycle, next_city, prev_city}
 use Rattle.tk_descent.proofs.Views.{IsMadeOn, offer_on}
 use Rattle.tk_descent.proofs.Paths.{Spans, last_from, IsRound}
@@ -20,7 +21,7 @@ use Rattle.tk_descent.proofs.Made.{length-reverse}
 use Rattle.tk_descent.proofs.Steps.{Apart, turned, rotation-trans, rotation-reverse, turned_back, next_of, prev_of, distinct-rotation, distinct-reverse, distinct-parts, apart-ne, holds-first, holds-last, holds-reverse}
 
 same_cycle : (D : List ℕ) → SameCycle D D
-same_cycle D = inl (record { front = []; back = D; before = refl; after = sym (append-nil D) })
+same_cycle D = inl (IsRotation-refl D)
 
 split_cons : (b : ℕ) (xs : List ℕ) (y : ℕ) → ((eqb b y ≡ true) ⊎ ((us : List ℕ) × ((vs : List ℕ) × (xs ≡ us ++ y ∷ vs)))) → (us : List ℕ) × ((vs : List ℕ) × (b ∷ xs ≡ us ++ y ∷ vs))
 split_cons b xs y (inl e) = ([], (xs, ap (λ z. z ∷ xs) (eqb-true b y e)))

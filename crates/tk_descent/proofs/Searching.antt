@@ -1,12 +1,16 @@
 -- A search of a list in pieces.
-use Rattle.std.proofs.Common.{◌≡◌, ℕ, suc, ◌+◌, ◌<◌, Bool, true, false, cond, List, [], ◌∷◌, ◌++◌, length, get_or, take, drop, Option, Some, None, refl, sym, ◌∙◌, ap, arith, append-nil, take-append-drop, subst}
+use Rattle.std.proofs.Common.{◌≡◌, ℕ, suc, ◌+◌, ◌<◌, Bool, true, false, cond, List, [], ◌∷◌, ◌++◌, length, get_or, take, drop, Option, Some, None, refl, sym, ◌∙◌, ap, arith, append-nil, take-append-drop, subst, map}
 use Rattle.std.specs.List.{flat_map}
-use Rattle.std.proofs.lemmas.List.{take_more}
+use Rattle.std.proofs.lemmas.List.{take_more, take-map}
+use Rattle.std.proofs.lemmas.List.Folds.{flat_map-map}
 use Rattle.std.proofs.lemmas.List.Concat.{flat_map-append}
 use Rattle.std.specs.List.{All}
 use Rattle.std.proofs.lemmas.List.Elements.{All-cons, All-nil}
 use Rattle.tk_tour.specs.Counters.{saturated}
-use Rattle.tk_descent.specs.Offers.{first_gain, tests_to, Searched, improves, IsSegmentIn, or_offers, offers_with}
+use Rattle.tk_descent.specs.Offers.{first_gain, tests_to, Searched, improves, or_offers, offers_with, segments, segment_count, all_segments}
+use Rattle.tk_descent.specs.Sharing.{segment_of, piece_offers}
+use Rattle.tk_descent.specs.declared.sharing.Beside.{Beside}
+use Rattle.tk_descent.specs.declared.sharing.Piece.{Piece}
 use Rattle.tk_descent.specs.declared.offer.Offer.TheVariants.{Two}
 use Rattle.tk_descent.specs.declared.offer.Segment.{Segment}
 use Rattle.tk_descent.specs.declared.offer.Offer.{Offer}
@@ -72,9 +76,13 @@ module _ {X : Type 0} (d : ℕ → ℕ → ℕ) (f : X → List Offer) (xs : Lis
   pub Searched-early : (r : Found) → Searched d (flat_map f (take i xs)) None t u → Searched d (f (get_or xs i x)) (Some r) u v → Searched d (flat_map f xs) (Some r) t v
   Searched-early r h k = rw pieces (Searched-stop d (flat_map f (take i xs) ++ f (get_or xs i x)) (flat_map f (drop (i + 1) xs)) r t v (Searched-on d (flat_map f (take i xs)) (f (get_or xs i x)) (Some r) t u v h k))
 
-pub segments_in : (n : ℕ) (s1 s2 s3 s4 s5 : Segment) → IsSegmentIn n s1 → IsSegmentIn n s2 → IsSegmentIn n s3 → IsSegmentIn n s4 → IsSegmentIn n s5 → All (IsSegmentIn n) (s1 ∷ s2 ∷ s3 ∷ s4 ∷ s5 ∷ [])
-segments_in n s1 s2 s3 s4 s5 h1 h2 h3 h4 h5 =
-    All-cons (IsSegmentIn n) s1 (s2 ∷ s3 ∷ s4 ∷ s5 ∷ []) h1 (All-cons (IsSegmentIn n) s2 (s3 ∷ s4 ∷ s5 ∷ []) h2 (All-cons (IsSegmentIn n) s3 (s4 ∷ s5 ∷ []) h3 (All-cons (IsSegmentIn n) s4 (s5 ∷ []) h4 (All-cons (IsSegmentIn n) s5 [] h5 (All-nil (IsSegmentIn n))))))
+-- a search of nothing
+pub Searched-none : (d : ℕ → ℕ → ℕ) (t : ℕ) → t < 18446744073709551616 → Searched d [] None t t
+Searched-none d t h = record { found = refl; worth = tt; tests = omega (arith, h) }
+
+pub all_of_five : {X : Type 0} (P : X → Type 0) (a b c d e : X) → P a → P b → P c → P d → P e → All P (a ∷ b ∷ c ∷ d ∷ e ∷ [])
+all_of_five P a b c d e h1 h2 h3 h4 h5 =
+    All-cons P a (b ∷ c ∷ d ∷ e ∷ []) h1 (All-cons P b (c ∷ d ∷ e ∷ []) h2 (All-cons P c (d ∷ e ∷ []) h3 (All-cons P d (e ∷ []) h4 (All-cons P e [] h5 (All-nil P)))))
 
 pub at_table : (d e : ℕ → ℕ → ℕ) (os : List Offer) (r : Option Found) (t u : ℕ) → e ≡ d → Searched e os r t u → Searched d os r t u
 at_table d e os r t u same h = subst (λ z. Searched z os r t u) same h
@@ -82,10 +90,15 @@ at_table d e os r t u same h = subst (λ z. Searched z os r t u) same h
 pub on_list : (d : ℕ → ℕ → ℕ) (os qs : List Offer) (r : Option Found) (t u : ℕ) → os ≡ qs → Searched d os r t u → Searched d qs r t u
 on_list d os qs r t u same h = subst (λ z. Searched d z r t u) same h
 
+pub pieces_are : (next prev : ℕ → ℕ) (n m k x z : ℕ) (all : List Piece) → k ≡ segment_count n m → z ≡ x → map segment_of all ≡ all_segments next prev z → map segment_of (take k all) ≡ segments next prev n m x
+pieces_are next prev n m k x z all h1 h2 h3 =
+    sym (take-map segment_of k all) ∙ ap (take k) h3 ∙ ap (λ i. take i (all_segments next prev z)) h1 ∙ ap (λ i. take (segment_count n m) (all_segments next prev i)) h2
+
 -- what a search with the cities beside x and y in hand says of the offers of x with y
-pub with_city : (next prev : ℕ → ℕ) (ss rs : List Segment) (x y ax bx ay by : ℕ) (d e : ℕ → ℕ → ℕ) (r : Option Found) (t u : ℕ) →
-    ax ≡ next x → bx ≡ prev x → ay ≡ next y → by ≡ prev y → rs ≡ ss → e ≡ d →
-    Searched e (Two x ax y ay ∷ Two x bx y by ∷ flat_map (or_offers x y ay by) rs) r t u → Searched d (offers_with next prev ss x y) r t u
-with_city next prev ss rs x y ax bx ay by d e r t u h1 h2 h3 h4 h5 h6 h =
-    let same : (Two x ax y ay ∷ Two x bx y by ∷ flat_map (or_offers x y ay by) rs) ≡ offers_with next prev ss x y = cc in
-    at_table d e _ r t u h6 (on_list e _ _ r t u same h)
+pub with_city : (next prev : ℕ → ℕ) (ss : List Segment) (ps : List Piece) (a b : Beside) (x y : ℕ) (d : ℕ → ℕ → ℕ) (r : Option Found) (t u : ℕ) →
+    a.city ≡ x → a.after ≡ next x → a.before ≡ prev x → b.city ≡ y → b.after ≡ next y → b.before ≡ prev y → map segment_of ps ≡ ss →
+    Searched d (Two a.city a.after b.city b.after ∷ Two a.city a.before b.city b.before ∷ flat_map (piece_offers a.city b) ps) r t u → Searched d (offers_with next prev ss x y) r t u
+with_city next prev ss ps a b x y d r t u h1 h2 h3 h4 h5 h6 h7 h =
+    let rest : flat_map (piece_offers a.city b) ps ≡ flat_map (or_offers a.city b.city b.after b.before) ss = sym (flat_map-map (or_offers a.city b.city b.after b.before) segment_of ps) ∙ ap (flat_map (or_offers a.city b.city b.after b.before)) h7 in
+    let same : (Two a.city a.after b.city b.after ∷ Two a.city a.before b.city b.before ∷ flat_map (piece_offers a.city b) ps) ≡ offers_with next prev ss x y = cc in
+    on_list d _ _ r t u same h

@@ -8,7 +8,6 @@ ghost use Rattle.tk_descent.specs.Machine.{Run};
 ghost use Rattle.tk_descent.specs.WakeMachine.{Wakes};
 
 use crate::gains::Gains;
-use crate::looking::find_offer;
 use crate::making::make;
 use crate::offer::Offer;
 use crate::on_tour::size;
@@ -97,7 +96,7 @@ pub fn descend<S: TourStore, G: Gains>(
     let mut looks = 0;
     while let Some(x) = waking.take() {
         looks += 1;
-        if let Some(found) = find_offer(s, g, near, m, x) {
+        if let Some(found) = g.find_offer(s, near, m, x) {
             make(s, &found.offer);
             wake_ends(waking, &found.offer);
             after -= found.gain;

@@ -1,8 +1,15 @@
 //! Gains of moves: the only way by which a descent learns distances.
-ghost use Rattle.std.specs.Prelude.{◌≡◌, ℕ, ◌+◌, ◌-◌, ◌^◌, ◌≤◌};
+ghost use Rattle.std.specs.Prelude.{◌≡◌, ℕ, ◌+◌, ◌-◌, ◌*◌, ◌^◌, ◌≤◌, IfSome, length};
+ghost use Rattle.tk_metric.specs.Cities.{IsCity};
+ghost use Rattle.tk_metric.specs.Near.{near_of};
 ghost use Rattle.tk_tour.specs.Counters.{saturated};
-ghost use Rattle.tk_descent.specs.Offers.{gain, EndsIn};
+ghost use Rattle.tk_descent.specs.Offers.{gain, offers, Searched, EndsIn};
+ghost use Rattle.tk_descent.specs.Machine.{IsOfferOn};
 ghost use Rattle.tk_descent.specs.declared.offer.Offer.TheVariants.{Two, Or};
+
+use crate::offer::Found;
+use tk_metric::Near;
+use tk_tour::TourStore;
 
 /// Gains of moves by a table of distances, and a count of them.
 pub trait Gains {
@@ -31,6 +38,16 @@ pub trait Gains {
         requires { EndsIn (size_of self.old) (Or a x e b y w) }
         ensures value { result ≡ gain (distance self.old) (Or a x e b y w) }
         ensures count { test_count self.new ≡ saturated (test_count self.old + 1) }
+        ensures same { (distance self.new ≡ distance self.old) × (size_of self.new ≡ size_of self.old) };
+
+    /// Looks at x: its first offer with positive gain, and the gain. It computes the gains of the offers up to that one.
+    fn find_offer<S: TourStore>(&mut self, s: &S, near: &Near, m: u32, x: u32) -> Option<Found>
+        requires fits { (size_of self.old ≡ length (S.cities s.now)) × (near.now.size ≡ length (S.cities s.now)) }
+        requires city { IsCity (length (S.cities s.now)) x }
+        requires most { (1 ≤ m) × (m ≤ 3) }
+        ensures searched { Searched (distance self.old) (offers (S.cities s.now) m (near_of near.now x) x) result (test_count self.old) (test_count self.new) }
+        ensures on_cycle { IfSome result (λ f. IsOfferOn m f.offer (S.cities s.now) × EndsIn (length (S.cities s.now)) f.offer) }
+        ensures bound { test_count self.new ≤ test_count self.old + 4 * m * near.now.width }
         ensures same { (distance self.new ≡ distance self.old) × (size_of self.new ≡ size_of self.old) };
 
     ghost symmetric: { (g : Self) (a b : ℕ) → distance g a b ≡ distance g b a };

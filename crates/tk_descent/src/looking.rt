@@ -1,9 +1,9 @@
 //! A look at a city goes through its offers in order.
-ghost use Rattle.std.specs.Prelude.{◌≡◌, ◌≤◌, ◌<◌, [], ◌∷◌, length, flat_map, All, IfSome, None, ◌+◌, ◌*◌};
+ghost use Rattle.std.specs.Prelude.{◌≡◌, ◌≤◌, ◌<◌, [], ◌∷◌, length, flat_map, All, IfSome, None, ◌+◌, ◌*◌, pos, true, false};
 ghost use Rattle.tk_metric.specs.Near.{near_of};
 ghost use Rattle.tk_tour.specs.Counters.{saturated};
-ghost use Rattle.tk_tour.specs.Tour.{next_city, prev_city};
-ghost use Rattle.tk_descent.specs.Offers.{covers, segments, Searched, or_offer, or_offers, offers, EndsIn, IsSegmentIn, all_segments, segment_count, first_gain, tests_to};
+ghost use Rattle.tk_descent.specs.Offers.{covers, gain, improves, Searched, or_offer, offers, EndsIn, segment_count, first_gain, tests_to};
+ghost use Rattle.tk_descent.specs.Sharing.{IsBeside, IsPiece, piece_offers};
 ghost use Rattle.tk_metric.specs.Cities.{IsCity};
 ghost use Rattle.tk_descent.specs.Machine.{IsOfferOn};
 ghost use Rattle.tk_descent.specs.WakeMachine.{HasNoOffer};
@@ -11,8 +11,9 @@ ghost use Rattle.tk_descent.specs.declared.offer.Offer.TheVariants.{Two, Or};
 
 use crate::gains::Gains;
 use crate::offer::{Found, Offer, Segment};
-use crate::on_tour::{next, prev, size};
-use tk_metric::Near;
+use crate::on_tour::size;
+use crate::sharing::{Beside, Piece, look_beside, pieces_of};
+use tk_metric::{Metric, Near};
 use tk_tour::TourStore;
 
 impl Segment {
@@ -25,14 +26,28 @@ impl Segment {
     }
 }
 
-/// Tests a 2-opt offer.
+/// Tests a 2-opt offer, whose removed steps and whose step a-c have these distances.
 #[inline(always)]
-fn try_two<G: Gains>(g: &mut G, a: u32, b: u32, c: u32, d: u32) -> Option<Found>
-    requires cities { EndsIn (G.size_of g.old) (Two a b c d) }
-    ensures searched { Searched (G.distance g.old) (Two a b c d ∷ []) result (G.test_count g.old) (G.test_count g.new) }
-    ensures same { (G.distance g.new ≡ G.distance g.old) × (G.size_of g.new ≡ G.size_of g.old) }
+fn try_two<M: Metric>(
+    metric: &M,
+    count: &mut u64,
+    a: u32,
+    b: u32,
+    c: u32,
+    d: u32,
+    removed: i64,
+    across: i64,
+) -> Option<Found>
+    requires cities { EndsIn (M.size_of metric.now) (Two a b c d) }
+    requires removed { removed ≡ pos (M.distance metric.now a b + M.distance metric.now c d) }
+    requires across { across ≡ pos (M.distance metric.now a c) }
+    ensures { Searched (M.distance metric.now) (Two a b c d ∷ []) result count.old count.new }
 {
-    let gain = g.gain2(a, b, c, d);
+    *count = count.saturating_add(1);
+    if removed <= across {
+        return None;
+    }
+    let gain = removed - (across + metric.dist(b, d));
     if gain > 0 {
         Some(Found {
             offer: Offer::Two { a, b, c, d },
@@ -43,18 +58,88 @@ fn try_two<G: Gains>(g: &mut G, a: u32, b: u32, c: u32, d: u32) -> Option<Found>
     }
 }
 
-/// Tests the Or-offer of a segment between y and w, where neither lies in it.
+/// Whether a move of a segment between y and w adds too much even without its last step; x-y and y-w have these distances.
 #[inline(always)]
-fn try_or<G: Gains>(g: &mut G, x: u32, y: u32, segment: &Segment, w: u32) -> Option<Found>
-    requires cities { IsCity (G.size_of g.old) x × IsCity (G.size_of g.old) y × IsCity (G.size_of g.old) w }
-    requires segment { IsCity (G.size_of g.old) segment.now.before × IsCity (G.size_of g.old) segment.now.last × IsCity (G.size_of g.old) segment.now.after }
-    ensures searched { Searched (G.distance g.old) (or_offer x y segment.now w) result (G.test_count g.old) (G.test_count g.new) }
-    ensures same { (G.distance g.new ≡ G.distance g.old) × (G.size_of g.new ≡ G.size_of g.old) }
+fn adds_too_much<M: Metric>(
+    metric: &M,
+    x: u32,
+    y: u32,
+    piece: &Piece,
+    w: u32,
+    across: i64,
+    beside: i64,
+) -> bool
+    requires piece { IsPiece (M.size_of metric.now) (M.distance metric.now) x piece.now }
+    requires across { across ≡ pos (M.distance metric.now x y) }
+    requires beside { beside ≡ pos (M.distance metric.now y w) }
+    ensures { result ≡ true → improves (M.distance metric.now) (Or piece.now.segment.before x piece.now.segment.last piece.now.segment.after y w) ≡ false }
 {
+    piece.removed + beside <= piece.closing + across
+}
+
+/// What it gains to move a segment between y and w, and one more test; x-y and y-w have these distances.
+#[inline(always)]
+fn gain_of_move<M: Metric>(
+    metric: &M,
+    count: &mut u64,
+    x: u32,
+    y: u32,
+    piece: &Piece,
+    w: u32,
+    across: i64,
+    beside: i64,
+) -> i64
+    requires cities { IsCity (M.size_of metric.now) x × IsCity (M.size_of metric.now) y × IsCity (M.size_of metric.now) w }
+    requires piece { IsPiece (M.size_of metric.now) (M.distance metric.now) x piece.now }
+    requires across { across ≡ pos (M.distance metric.now x y) }
+    requires beside { beside ≡ pos (M.distance metric.now y w) }
+    ensures value { result ≡ gain (M.distance metric.now) (Or piece.now.segment.before x piece.now.segment.last piece.now.segment.after y w) }
+    ensures count { count.new ≡ saturated (count.old + 1) }
+{
+    *count = count.saturating_add(1);
+    let removed = piece.removed + beside;
+    removed - added_by_move(metric, x, y, piece, w, across)
+}
+
+/// The distances that a move of a segment between y and w adds.
+#[inline(always)]
+fn added_by_move<M: Metric>(metric: &M, x: u32, y: u32, piece: &Piece, w: u32, across: i64) -> i64
+    requires city { IsCity (M.size_of metric.now) w }
+    requires piece { IsPiece (M.size_of metric.now) (M.distance metric.now) x piece.now }
+    requires across { across ≡ pos (M.distance metric.now x y) }
+    ensures { result ≡ pos (M.distance metric.now piece.now.segment.before piece.now.segment.after + M.distance metric.now x y + M.distance metric.now piece.now.segment.last w) }
+{
+    piece.closing + across + metric.dist(piece.segment.last, w)
+}
+
+/// Tests the Or-offer of a segment between y and w, where neither lies in it; x-y and y-w have these distances.
+#[inline(always)]
+fn try_or<M: Metric>(
+    metric: &M,
+    count: &mut u64,
+    x: u32,
+    y: u32,
+    piece: &Piece,
+    w: u32,
+    across: i64,
+    beside: i64,
+) -> Option<Found>
+    requires cities { IsCity (M.size_of metric.now) x × IsCity (M.size_of metric.now) y × IsCity (M.size_of metric.now) w }
+    requires piece { IsPiece (M.size_of metric.now) (M.distance metric.now) x piece.now }
+    requires across { across ≡ pos (M.distance metric.now x y) }
+    requires beside { beside ≡ pos (M.distance metric.now y w) }
+    ensures { Searched (M.distance metric.now) (or_offer x y piece.now.segment w) result count.old count.new }
+{
+    let _counted = *count;
+    let segment = piece.segment;
     if segment.covers(x, y) || segment.covers(x, w) {
         return None;
     }
-    let gain = g.gain3(segment.before, x, segment.last, segment.after, y, w);
+    if adds_too_much(metric, x, y, piece, w, across, beside) {
+        *count = count.saturating_add(1);
+        return None;
+    }
+    let gain = gain_of_move(metric, count, x, y, piece, w, across, beside);
     if gain > 0 {
         Some(Found {
             offer: Offer::Or {
@@ -74,24 +159,35 @@ fn try_or<G: Gains>(g: &mut G, x: u32, y: u32, segment: &Segment, w: u32) -> Opt
 
 /// Tests the Or-offers of segments beside y.
 #[inline(always)]
-fn try_segments<G: Gains>(
-    g: &mut G,
+fn try_segments<M: Metric>(
+    metric: &M,
+    count: &mut u64,
     x: u32,
-    y: u32,
-    after_y: u32,
-    before_y: u32,
-    segments: &[Segment],
+    pieces: &[Piece],
+    y: &Beside,
+    across: i64,
 ) -> Option<Found>
-    requires cities { IsCity (G.size_of g.old) x × IsCity (G.size_of g.old) y × IsCity (G.size_of g.old) after_y × IsCity (G.size_of g.old) before_y }
-    requires segments { All (IsSegmentIn (G.size_of g.old)) segments.now }
-    ensures searched { Searched (G.distance g.old) (flat_map (or_offers x y after_y before_y) segments.now) result (G.test_count g.old) (G.test_count g.new) }
-    ensures same { (G.distance g.new ≡ G.distance g.old) × (G.size_of g.new ≡ G.size_of g.old) }
+    requires city { IsCity (M.size_of metric.now) x }
+    requires pieces { All (IsPiece (M.size_of metric.now) (M.distance metric.now) x) pieces.now }
+    requires beside { IsBeside (M.size_of metric.now) (M.distance metric.now) y.now }
+    requires across { across ≡ pos (M.distance metric.now x y.now.city) }
+    ensures { Searched (M.distance metric.now) (flat_map (piece_offers x y.now) pieces.now) result count.old count.new }
 {
-    for segment in segments {
-        if let Some(found) = try_or(g, x, y, segment, after_y) {
+    let _counted = *count;
+    for piece in pieces {
+        if let Some(found) = try_or(metric, count, x, y.city, piece, y.after, across, y.to_after) {
             return Some(found);
         }
-        if let Some(found) = try_or(g, x, y, segment, before_y) {
+        if let Some(found) = try_or(
+            metric,
+            count,
+            x,
+            y.city,
+            piece,
+            y.before,
+            across,
+            y.to_before,
+        ) {
             return Some(found);
         }
     }
@@ -100,52 +196,57 @@ fn try_segments<G: Gains>(
 
 /// Tests the offers of x with y.
 #[inline(always)]
-fn try_city<G: Gains>(
-    g: &mut G,
-    x: u32,
-    after_x: u32,
-    before_x: u32,
-    segments: &[Segment],
-    y: u32,
-    after_y: u32,
-    before_y: u32,
+fn try_city<M: Metric>(
+    metric: &M,
+    count: &mut u64,
+    x: &Beside,
+    pieces: &[Piece],
+    y: &Beside,
 ) -> Option<Found>
-    requires cities { IsCity (G.size_of g.old) x × IsCity (G.size_of g.old) after_x × IsCity (G.size_of g.old) before_x × IsCity (G.size_of g.old) y × IsCity (G.size_of g.old) after_y × IsCity (G.size_of g.old) before_y }
-    requires segments { All (IsSegmentIn (G.size_of g.old)) segments.now }
-    ensures searched { Searched (G.distance g.old) (Two x after_x y after_y ∷ Two x before_x y before_y ∷ flat_map (or_offers x y after_y before_y) segments.now) result (G.test_count g.old) (G.test_count g.new) }
-    ensures same { (G.distance g.new ≡ G.distance g.old) × (G.size_of g.new ≡ G.size_of g.old) }
+    requires from { IsBeside (M.size_of metric.now) (M.distance metric.now) x.now }
+    requires pieces { All (IsPiece (M.size_of metric.now) (M.distance metric.now) x.now.city) pieces.now }
+    requires beside { IsBeside (M.size_of metric.now) (M.distance metric.now) y.now }
+    ensures { Searched (M.distance metric.now) (Two x.now.city x.now.after y.now.city y.now.after ∷ Two x.now.city x.now.before y.now.city y.now.before ∷ flat_map (piece_offers x.now.city y.now) pieces.now) result count.old count.new }
 {
-    if let Some(found) = try_two(g, x, after_x, y, after_y) {
+    let across = metric.dist(x.city, y.city);
+    let removed = x.to_after + y.to_after;
+    if let Some(found) = try_two(
+        metric, count, x.city, x.after, y.city, y.after, removed, across,
+    ) {
         return Some(found);
     }
-    if let Some(found) = try_two(g, x, before_x, y, before_y) {
+    let removed = x.to_before + y.to_before;
+    if let Some(found) = try_two(
+        metric, count, x.city, x.before, y.city, y.before, removed, across,
+    ) {
         return Some(found);
     }
-    try_segments(g, x, y, after_y, before_y, segments)
+    try_segments(metric, count, x.city, pieces, y, across)
 }
 
-/// Looks at x: its first offer with positive gain, and the gain.
-pub(crate) fn find_offer<S: TourStore, G: Gains>(
+/// Looks at x: its first offer with positive gain, and the gain. It adds the tests to the count.
+pub(crate) fn find_offer<S: TourStore, M: Metric>(
     s: &S,
-    g: &mut G,
+    metric: &M,
+    count: &mut u64,
     near: &Near,
     m: u32,
     x: u32,
 ) -> Option<Found>
-    requires fits { (G.size_of g.old ≡ length (S.cities s.now)) × (near.now.size ≡ length (S.cities s.now)) }
+    requires fits { (M.size_of metric.now ≡ length (S.cities s.now)) × (near.now.size ≡ length (S.cities s.now)) }
     requires city { IsCity (length (S.cities s.now)) x }
     requires most { (1 ≤ m) × (m ≤ 3) }
-    ensures searched { Searched (G.distance g.old) (offers (S.cities s.now) m (near_of near.now x) x) result (G.test_count g.old) (G.test_count g.new) }
+    ensures searched { Searched (M.distance metric.now) (offers (S.cities s.now) m (near_of near.now x) x) result count.old count.new }
     ensures on_cycle { IfSome result (λ f. IsOfferOn m f.offer (S.cities s.now) × EndsIn (length (S.cities s.now)) f.offer) }
-    ensures bound { G.test_count g.new ≤ G.test_count g.old + 4 * m * near.now.width }
-    ensures same { (G.distance g.new ≡ G.distance g.old) × (G.size_of g.new ≡ G.size_of g.old) }
+    ensures bound { count.new ≤ count.old + 4 * m * near.now.width }
 {
-    let (after_x, before_x) = (next(s, x), prev(s, x));
-    let all = segments_of(s, x);
-    let segments = &all[..segment_count(size(s), m)];
+    let _counted = *count;
+    let from = look_beside(s, metric, x);
+    let all = pieces_of(s, metric, &from);
+    let pieces = &all[..segment_count(size(s), m)];
     for y in near.of(x) {
-        let (after_y, before_y) = (next(s, *y), prev(s, *y));
-        if let Some(found) = try_city(g, x, after_x, before_x, segments, *y, after_y, before_y) {
+        let y = look_beside(s, metric, *y);
+        if let Some(found) = try_city(metric, count, &from, pieces, &y) {
             return Some(found);
         }
     }
@@ -168,50 +269,6 @@ fn segment_count(n: u32, m: u32) -> usize
     }
 }
 
-/// The segments that begin at x: of one city, of two forward and backward, of three forward and backward.
-#[inline]
-fn segments_of<S: TourStore>(s: &S, x: u32) -> [Segment; 5]
-    requires { IsCity (length (S.cities s.now)) x }
-    ensures value { result ≡ all_segments (next_city (S.cities s.now)) (prev_city (S.cities s.now)) x }
-    ensures cities { All (IsSegmentIn (length (S.cities s.now))) result }
-{
-    let (after_1, before_1) = (next(s, x), prev(s, x));
-    let (after_2, before_2) = (next(s, after_1), prev(s, before_1));
-    let (after_3, before_3) = (next(s, after_2), prev(s, before_2));
-    [
-        Segment {
-            before: before_1,
-            middle: x,
-            last: x,
-            after: after_1,
-        },
-        Segment {
-            before: before_1,
-            middle: x,
-            last: after_1,
-            after: after_2,
-        },
-        Segment {
-            before: after_1,
-            middle: x,
-            last: before_1,
-            after: before_2,
-        },
-        Segment {
-            before: before_1,
-            middle: after_1,
-            last: after_2,
-            after: after_3,
-        },
-        Segment {
-            before: after_1,
-            middle: before_1,
-            last: before_2,
-            after: before_3,
-        },
-    ]
-}
-
 /// Looks at x: its first offer with positive gain.
 pub fn look<S: TourStore, G: Gains>(s: &S, g: &mut G, near: &Near, m: u32, x: u32) -> Option<Offer>
     requires fits { (G.size_of g.old ≡ length (S.cities s.now)) × (near.now.size ≡ length (S.cities s.now)) }
@@ -224,7 +281,7 @@ pub fn look<S: TourStore, G: Gains>(s: &S, g: &mut G, near: &Near, m: u32, x: u3
     ensures bound { G.test_count g.new ≤ G.test_count g.old + 4 * m * near.now.width }
     ensures same { (G.distance g.new ≡ G.distance g.old) × (G.size_of g.new ≡ G.size_of g.old) }
 {
-    match find_offer(s, g, near, m, x) {
+    match g.find_offer(s, near, m, x) {
         Some(found) => Some(found.offer),
         None => None,
     }

@@ -23,7 +23,7 @@ pub enum Offer {
 
 /// An offer and its gain.
 #[derive(Clone, Copy)]
-pub(crate) struct Found {
+pub struct Found {
     pub offer: Offer,
     pub gain: i64,
 }

@@ -1,22 +1,20 @@
 //! Gains by a metric.
-ghost use Rattle.std.specs.Prelude.{◌≡◌, ◌≤◌, ◌<◌, ◌+◌, ◌-◌, ◌^◌, pos, All};
-ghost use Rattle.tk_metric.specs.Cities.{IsCity};
-ghost use Rattle.tk_descent.specs.Memo.{IsKept};
+ghost use Rattle.std.specs.Prelude.{◌≡◌, ◌≤◌, ◌+◌, ◌-◌, ◌^◌, pos};
 ghost use Rattle.tk_descent.specs.Offers.{EndsIn};
 ghost use Rattle.tk_descent.specs.declared.offer.Offer.TheVariants.{Two, Or};
 
 use crate::gains::Gains;
-use crate::memo::{Kept, SLOTS, slot};
-use tk_metric::Metric;
+use crate::looking::find_offer;
+use crate::offer::Found;
+use tk_metric::{Metric, Near};
+use tk_tour::TourStore;
 
-/// The gains by a metric's distances. It keeps some of the last distances, since a look asks for the same few again and again.
+/// The gains by a metric's distances.
 #[derive(Drop)]
 pub struct Probe<'a, M: Metric> {
     metric: &'a M,
     count: u64,
-    kept: [Kept; SLOTS],
     ghost count_limit: { count ≤ 2 ^ 64 - 1 },
-    ghost exact: { All (IsKept (M.distance metric.now)) kept },
 }
 
 impl<'a, M: Metric> Probe<'a, M> {
@@ -26,71 +24,25 @@ impl<'a, M: Metric> Probe<'a, M> {
         ensures table { ⟦<Probe<'a, M> as Gains>⟧.distance result ≡ M.distance metric.now }
         ensures count { ⟦<Probe<'a, M> as Gains>⟧.test_count result ≡ 0 }
     {
-        let nothing = Kept {
-            from: 0,
-            to: 0,
-            distance: 0,
-        };
-        Probe {
-            metric,
-            count: 0,
-            kept: [nothing; SLOTS],
-        }
-    }
-
-    /// The distance of two cities.
-    #[inline(always)]
-    fn dist(&mut self, a: u32, b: u32) -> i64
-        requires a { IsCity (M.size_of self.old.metric.now) a }
-        requires b { IsCity (M.size_of self.old.metric.now) b }
-        ensures value { result ≡ pos (M.distance self.old.metric.now a b) }
-        ensures same { (self.new.metric ≡ self.old.metric) × (self.new.count ≡ self.old.count) }
-    {
-        let at = slot(a, b);
-        let kept = self.kept[at];
-        if kept.from == a && kept.to == b {
-            kept.distance as i64
-        } else {
-            self.measure(at, a, b)
-        }
-    }
-
-    /// The distance of two cities, which is then kept at this place.
-    #[inline(never)]
-    fn measure(&mut self, at: usize, a: u32, b: u32) -> i64
-        requires at { at < SLOTS }
-        requires a { IsCity (M.size_of self.old.metric.now) a }
-        requires b { IsCity (M.size_of self.old.metric.now) b }
-        ensures value { result ≡ pos (M.distance self.old.metric.now a b) }
-        ensures same { (self.new.metric ≡ self.old.metric) × (self.new.count ≡ self.old.count) }
-    {
-        let distance = self.metric.dist(a, b);
-        self.kept[at] = Kept {
-            from: a,
-            to: b,
-            distance: distance as u32,
-        };
-        distance
+        Probe { metric, count: 0 }
     }
 
     /// The sum of two distances.
-    #[inline(always)]
-    fn sum_two(&mut self, a: u32, b: u32, c: u32, d: u32) -> i64
-        requires { EndsIn (M.size_of self.old.metric.now) (Two a b c d) }
-        ensures value { result ≡ pos (M.distance self.old.metric.now a b + M.distance self.old.metric.now c d) }
-        ensures same { (self.new.metric ≡ self.old.metric) × (self.new.count ≡ self.old.count) }
+    #[inline]
+    fn sum_two(&self, a: u32, b: u32, c: u32, d: u32) -> i64
+        requires { EndsIn (M.size_of self.now.metric.now) (Two a b c d) }
+        ensures { result ≡ pos (M.distance self.now.metric.now a b + M.distance self.now.metric.now c d) }
     {
-        self.dist(a, b) + self.dist(c, d)
+        self.metric.dist(a, b) + self.metric.dist(c, d)
     }
 
     /// The sum of three distances.
-    #[inline(always)]
-    fn sum_three(&mut self, a: u32, b: u32, c: u32, d: u32, e: u32, f: u32) -> i64
-        requires { EndsIn (M.size_of self.old.metric.now) (Or a b c d e f) }
-        ensures value { result ≡ pos (M.distance self.old.metric.now a b + M.distance self.old.metric.now c d + M.distance self.old.metric.now e f) }
-        ensures same { (self.new.metric ≡ self.old.metric) × (self.new.count ≡ self.old.count) }
+    #[inline]
+    fn sum_three(&self, a: u32, b: u32, c: u32, d: u32, e: u32, f: u32) -> i64
+        requires { EndsIn (M.size_of self.now.metric.now) (Or a b c d e f) }
+        ensures { result ≡ pos (M.distance self.now.metric.now a b + M.distance self.now.metric.now c d + M.distance self.now.metric.now e f) }
     {
-        self.dist(a, b) + self.dist(c, d) + self.dist(e, f)
+        self.metric.dist(a, b) + self.metric.dist(c, d) + self.metric.dist(e, f)
     }
 }
 
@@ -101,21 +53,26 @@ impl<'a, M: Metric> Gains for Probe<'a, M> {
 
     ghost test_count = { λ p. p.count };
 
-    #[inline(always)]
+    #[inline]
     fn tests(&self) -> u64 {
         self.count
     }
 
-    #[inline(always)]
+    #[inline]
     fn gain2(&mut self, a: u32, b: u32, c: u32, d: u32) -> i64 {
         self.count = self.count.saturating_add(1);
         self.sum_two(a, b, c, d) - self.sum_two(a, c, b, d)
     }
 
-    #[inline(always)]
+    #[inline]
     fn gain3(&mut self, a: u32, x: u32, e: u32, b: u32, y: u32, w: u32) -> i64 {
         self.count = self.count.saturating_add(1);
         self.sum_three(a, x, e, b, y, w) - self.sum_three(a, b, x, y, e, w)
+    }
+
+    #[inline]
+    fn find_offer<S: TourStore>(&mut self, s: &S, near: &Near, m: u32, x: u32) -> Option<Found> {
+        find_offer(s, self.metric, &mut self.count, near, m, x)
     }
 
     ghost symmetric = { λ p. M.symmetric p.metric.now };

@@ -65,7 +65,7 @@ loop-x-smaller-in-Some-find_offer g c =
     let less : tour_length d D + 1 ≤ tour_length d C = less_move d _ _ f _ _ c.args.m C D (g.met.G.Gains.symmetric c.args.g.now, g.met.G.Gains.diagonal c.args.g.now, g.met.G.Gains.distance_limit c.args.g.now) i.table c.in-Some-find_offer.ensures.searched made in
     let left : length c.wake_ends.new.waking.queue + 1 ≤ length c.loop-x.waking.queue + 6 = queue_left c.loop-x.waking.queue c.take.new.self.queue c.wake_ends.new.waking.queue _ f.offer c.in-Some.ensures.taken c.wake_ends.ensures.queue in
     let before : tour_length (g.G.Gains.distance c.loop-x.g) C ≡ tour_length d C = ap (λ z. tour_length z C) i.table in
-    let after : tour_length (g.G.Gains.distance c.find_offer.new.g) D ≡ tour_length d D = ap (λ z. tour_length z D) (c.find_offer.ensures.same.0 ∙ i.table) in
+    let after : tour_length (g.G.Gains.distance c.find_offer.new.self) D ≡ tour_length d D = ap (λ z. tour_length z D) (c.find_offer.ensures.same.0 ∙ i.table) in
     omega (arith, less, left, before, after)
 
 pub loop-x-preserved-in-Some-find_offer : goal.loop-x-preserved-in-Some-find_offer

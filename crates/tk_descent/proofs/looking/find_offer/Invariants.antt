@@ -1,4 +1,4 @@
-use Rattle.std.proofs.Common.{◌≡◌, take, flat_map, None, length}
+use Rattle.std.proofs.Common.{take, flat_map, None, length}
 use Rattle.tk_tour.specs.Tour.{next_city, prev_city}
 use Rattle.tk_descent.specs.Offers.{Searched, offers_with, segments}
 use Rattle.tk_descent.proofs.looking.find_offer.Given as goal
@@ -6,8 +6,4 @@ use Rattle.tk_descent.proofs.looking.find_offer.Given as goal
 abbrev pub invariant-loop-y : goal.invariant-loop-y
 invariant-loop-y g l =
     let C = g.S.TourStore.cities l.s in
-    record {
-      searched : Searched (g.G.Gains.distance l.fn.g) (flat_map (offers_with (next_city C) (prev_city C) (segments (next_city C) (prev_city C) (length C) l.m l.x) l.x) (take l.y-index l.y-items)) None (g.G.Gains.test_count l.fn.g) (g.G.Gains.test_count l.g);
-      table : g.G.Gains.distance l.g ≡ g.G.Gains.distance l.fn.g;
-      range : g.G.Gains.size_of l.g ≡ g.G.Gains.size_of l.fn.g;
-    }
+    Searched (g.M.Metric.distance l.metric) (flat_map (offers_with (next_city C) (prev_city C) (segments (next_city C) (prev_city C) (length C) l.m l.x) l.x) (take l.y-index l.y-items)) None l.fn.count l.count
