@@ -111,12 +111,12 @@ or_comm true false = refl
 or_comm false true = refl
 or_comm false false = refl
 
-weight_from : (i j w : ℕ) (es : List (Place × ℕ)) → fold (λ w e. cond (is_of i j e.0) e.1 w) w es ≡ fold (λ w e. cond (is_of j i e.0) e.1 w) w es
-weight_from i j w [] = refl
-weight_from i j w (e ∷ es) =
+weight_from : (w i j : ℕ) (es : List (Place × ℕ)) → fold (λ w e. cond (is_of i j e.0) e.1 w) w es ≡ fold (λ w e. cond (is_of j i e.0) e.1 w) w es
+weight_from w i j [] = refl
+weight_from w i j (e ∷ es) =
     let p : Place = e.0 in
     let same : is_of i j p ≡ is_of j i p = or_comm (eqb p.row i && eqb p.column j) (eqb p.row j && eqb p.column i) in
-    ap (λ t. fold (λ w e. cond (is_of i j e.0) e.1 w) (cond t e.1 w) es) same ∙ weight_from i j (cond (is_of j i p) e.1 w) es
+    ap (λ t. fold (λ w e. cond (is_of i j e.0) e.1 w) (cond t e.1 w) es) same ∙ weight_from (cond (is_of j i p) e.1 w) i j es
 
 weight_at_index : (n hi lo : ℕ) (es : List (Place × ℕ)) → lo < hi → hi < n → get_or (lower_of n es) (pairs hi + lo) 0 ≡ weight_of hi lo es
 weight_at_index n hi lo es less within =
@@ -127,7 +127,7 @@ weight_at n es p row_in column_in apart = elim (cases_lt p.column p.row) as (λ 
   | inl less ↦ ap (λ k. get_or (lower_of n es) k 0) (lower_index-below p.row p.column less) ∙ weight_at_index n p.row p.column es less row_in
   | inr more ↦
       let less : p.row < p.column = omega arith in
-      ap (λ k. get_or (lower_of n es) k 0) (lower_index-above p.column p.row less) ∙ weight_at_index n p.column p.row es less column_in ∙ weight_from p.column p.row 0 es
+      ap (λ k. get_or (lower_of n es) k 0) (lower_index-above p.column p.row less) ∙ weight_at_index n p.column p.row es less column_in ∙ weight_from 0 p.column p.row es
 ]
 
 pub lower_index-lt : (n : ℕ) (p : Place) → p.row < n → p.column < n → p.row ≢ p.column → lower_index p < pairs n

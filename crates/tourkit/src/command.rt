@@ -1,4 +1,5 @@
 //! The words that the program takes.
+use crate::check_command::check;
 use crate::matrix_command::matrix;
 use crate::near_command::near;
 use clap::{Arg, Command, Error};
@@ -16,16 +17,9 @@ pub fn tourkit<'a>(alloc: Global) -> Result<Command<'a>, Error> {
     Ok(made)
 }
 
-fn check<'a>(alloc: Global) -> Result<Command<'a>, Error> {
-    let problem = Arg::new(alloc, "PROBLEM")
+/// The file that every subcommand names first.
+pub fn problem_file<'a>(alloc: Global) -> Arg<'a> {
+    Arg::new(alloc, "PROBLEM")
         .help("a TSPLIB or CVRPLIB problem file")
-        .required(true);
-    let tour = Arg::new(alloc, "TOUR")
-        .help("a TSPLIB tour file")
-        .required(true);
-    let made = Command::new(alloc, "check")
-        .about("Checks a tour and tells its length")
-        .arg(problem)?
-        .arg(tour)?;
-    Ok(made)
+        .required(true)
 }

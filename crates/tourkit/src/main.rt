@@ -2,6 +2,7 @@
 #![tactic(auto)]
 
 mod check;
+mod check_command;
 mod command;
 mod fault;
 mod matrix;
@@ -9,8 +10,6 @@ mod matrix_command;
 mod near;
 mod near_command;
 mod report;
-mod runs;
-mod stop;
 mod verdict_line;
 
 use clap::error::ErrorKind;
@@ -56,7 +55,7 @@ fn refuse(rt: &HostRuntime, error: &Error) -> ExitCode {
 /// Runs a subcommand.
 fn run(rt: &HostRuntime, matches: &ArgMatches<'_>) -> ExitCode {
     match matches.subcommand() {
-        Some(("check", words)) => runs::check(rt, words),
+        Some(("check", words)) => check_command::run(rt, words),
         Some(("matrix", words)) => matrix_command::run(rt, words),
         Some(("near", words)) => near_command::run(rt, words),
         _ => ExitCode::from(USAGE),

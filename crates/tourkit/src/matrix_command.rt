@@ -3,9 +3,9 @@ ghost use Rattle.std.specs.Prelude.{◌≡◌, ◌≢◌, IfSome};
 ghost use Rattle.tk_text.specs.MatrixText.{format_word};
 ghost use Rattle.tk_text.specs.declared.weights.Format.{Format};
 
+use crate::command::problem_file;
 use crate::matrix::matrix_engine;
 use crate::report::{self, USAGE};
-use crate::stop::stopped;
 use clap::builder::ValueParser;
 use clap::{Arg, ArgMatches, Command, Error};
 use std::alloc::Global;
@@ -47,16 +47,13 @@ fn format_of(word: &str) -> Option<Format>
 
 /// The words of `matrix`.
 pub fn matrix<'a>(alloc: Global) -> Result<Command<'a>, Error> {
-    let problem = Arg::new(alloc, "PROBLEM")
-        .help("a TSPLIB or CVRPLIB problem file")
-        .required(true);
     let format = Arg::new(alloc, "FORMAT")
         .help("the order of the weights")
         .value_parser(ValueParser::Names(FORMATS.as_slice()))
         .required(true);
     let made = Command::new(alloc, "matrix")
         .about("Prints a problem as a TSP with explicit weights")
-        .arg(problem)?
+        .arg(problem_file(alloc))?
         .arg(format)?;
     Ok(made)
 }
@@ -76,6 +73,6 @@ pub fn run(rt: &HostRuntime, words: &ArgMatches<'_>) -> ExitCode {
     let mut out = ToWrite::new(rt.stdout());
     match matrix_engine(rt.alloc(), &mut problem, format, &mut out) {
         Ok(()) => ExitCode::SUCCESS,
-        Err(fault) => stopped(rt, file, &fault),
+        Err(fault) => report::stopped(rt, file, &fault),
     }
 }

@@ -1,7 +1,7 @@
 //! The subcommand `near`.
+use crate::command::problem_file;
 use crate::near::near_engine;
 use crate::report::{self, USAGE};
-use crate::stop::stopped;
 use clap::builder::ValueParser;
 use clap::{Arg, ArgMatches, Command, Error};
 use std::alloc::Global;
@@ -11,9 +11,6 @@ use tk_text::{FromRead, ToWrite};
 
 /// The words of `near`.
 pub fn near<'a>(alloc: Global) -> Result<Command<'a>, Error> {
-    let problem = Arg::new(alloc, "PROBLEM")
-        .help("a TSPLIB or CVRPLIB problem file")
-        .required(true);
     let count = Arg::new(alloc, "k")
         .short('k')
         .value_name("N")
@@ -22,7 +19,7 @@ pub fn near<'a>(alloc: Global) -> Result<Command<'a>, Error> {
         .default_value("5");
     let made = Command::new(alloc, "near")
         .about("Prints the nearest other cities of each city")
-        .arg(problem)?
+        .arg(problem_file(alloc))?
         .arg(count)?;
     Ok(made)
 }
@@ -40,6 +37,6 @@ pub fn run(rt: &HostRuntime, words: &ArgMatches<'_>) -> ExitCode {
     let mut out = ToWrite::new(rt.stdout());
     match near_engine(rt.alloc(), &mut problem, k, &mut out) {
         Ok(()) => ExitCode::SUCCESS,
-        Err(fault) => stopped(rt, file, &fault),
+        Err(fault) => report::stopped(rt, file, &fault),
     }
 }

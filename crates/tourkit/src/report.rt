@@ -19,6 +19,16 @@ pub fn unopened(rt: &HostRuntime, file: &str) -> ExitCode {
     ExitCode::from(SYSTEM)
 }
 
+/// Tells the fault of an engine over the problem of a file.
+pub fn stopped(rt: &HostRuntime, file: &str, fault: &Fault) -> ExitCode {
+    match fault {
+        Fault::Problem(fault) | Fault::Tour(fault) => text_fault(rt, file, fault),
+        Fault::TooLarge => too_large(rt, file),
+        Fault::Write(_) => write_fault(rt),
+        Fault::NoMemory => no_memory(rt),
+    }
+}
+
 /// Tells the fault of a text.
 pub fn text_fault(rt: &HostRuntime, file: &str, fault: &TextFault) -> ExitCode {
     let _ = eprintln!(rt; "tourkit: {file}:{fault}");
@@ -38,4 +48,10 @@ pub fn write_fault(rt: &HostRuntime) -> ExitCode {
 pub fn no_memory(rt: &HostRuntime) -> ExitCode {
     let _ = eprintln!(rt; "tourkit: out of memory");
     ExitCode::from(SYSTEM)
+}
+
+/// Tells that a problem has too many nodes for a matrix.
+fn too_large(rt: &HostRuntime, file: &str) -> ExitCode {
+    let _ = eprintln!(rt; "tourkit: {file}: too large for a matrix");
+    ExitCode::from(USAGE)
 }

@@ -1,16 +1,29 @@
-//! The subcommands over real files.
+//! The subcommand `check`.
 use crate::check::check_engine;
+use crate::command::problem_file;
 use crate::fault::Fault;
 use crate::report::{self, FOUND, USAGE};
-use crate::stop::stopped;
-use clap::ArgMatches;
+use clap::{Arg, ArgMatches, Command, Error};
+use std::alloc::Global;
 use std::fs::File;
 use std::process::ExitCode;
 use tk_text::{FromRead, ToWrite};
 use tk_tour::Verdict;
 
+/// The words of `check`.
+pub fn check<'a>(alloc: Global) -> Result<Command<'a>, Error> {
+    let tour = Arg::new(alloc, "TOUR")
+        .help("a TSPLIB tour file")
+        .required(true);
+    let made = Command::new(alloc, "check")
+        .about("Checks a tour and tells its length")
+        .arg(problem_file(alloc))?
+        .arg(tour)?;
+    Ok(made)
+}
+
 /// `check PROBLEM TOUR`. Both files are opened before either is read.
-pub fn check(rt: &HostRuntime, words: &ArgMatches<'_>) -> ExitCode {
+pub fn run(rt: &HostRuntime, words: &ArgMatches<'_>) -> ExitCode {
     let (Some(problem_file), Some(tour_file)) = (words.get_str("PROBLEM"), words.get_str("TOUR"))
     else {
         return ExitCode::from(USAGE);
@@ -28,6 +41,6 @@ pub fn check(rt: &HostRuntime, words: &ArgMatches<'_>) -> ExitCode {
         Ok(Verdict::Tour) => ExitCode::SUCCESS,
         Ok(_) => ExitCode::from(FOUND),
         Err(Fault::Tour(fault)) => report::text_fault(rt, tour_file, &fault),
-        Err(fault) => stopped(rt, problem_file, &fault),
+        Err(fault) => report::stopped(rt, problem_file, &fault),
     }
 }
