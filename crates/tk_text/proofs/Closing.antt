@@ -71,7 +71,7 @@ take_from n zero ts h = tt
 take_from n (suc k) [] h = tt
 take_from n (suc k) (t ∷ ts) h = (h.0, take_from n k ts h.1)
 
-last_line-append : (m : ℕ) (xs ys : List Token) → last_line m (xs ++ ys) ≡ last_line (last_line m xs) ys
+pub last_line-append : (m : ℕ) (xs ys : List Token) → last_line m (xs ++ ys) ≡ last_line (last_line m xs) ys
 last_line-append m [] ys = refl
 last_line-append m (x ∷ xs) ys = last_line-append x.line xs ys
 

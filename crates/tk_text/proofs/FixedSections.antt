@@ -40,7 +40,7 @@ module _ (t : Token) (tests : List (Bool × TextKind)) where
   checked-open : t.whole ≡ false → length t.bytes ≤ 64 → checked 64 t tests ≡ Some Open
   checked-open partial h = rw (le-ltb _ _ h, partial) refl
 
-  checked-ready : IsReady t → checked 64 t tests ≡ first_at t.line tests
+  pub checked-ready : IsReady t → checked 64 t tests ≡ first_at t.line tests
   checked-ready r = rw (le-ltb _ _ r.short, r.whole) refl
 
 none_of_both : (x y : Option Stop) → or_else x y ≡ None → (x ≡ None) × (y ≡ None)
@@ -56,11 +56,11 @@ module _ (tests : TokenTests) where
       let n = none_of_both (checked 64 t (all_tests tests before t)) _ h in
       rw n.0 (tokens_stop-append (before ++ t ∷ []) toks more n.1 ∙ ap (λ bs. tokens_stop tests bs more) (append_assoc before (t ∷ []) toks))
 
-  at_once : (before more : List Token) (t : Token) (s : Option Stop) → checked 64 t (all_tests tests before t) ≡ s → tokens_stop tests before (t ∷ more) ≡ or_else s (tokens_stop tests (before ++ t ∷ []) more)
+  pub at_once : (before more : List Token) (t : Token) (s : Option Stop) → checked 64 t (all_tests tests before t) ≡ s → tokens_stop tests before (t ∷ more) ≡ or_else s (tokens_stop tests (before ++ t ∷ []) more)
   unfolding tokens_stop
   at_once before more t s h = rw h refl
 
-  tokens_stop-none : (before : List Token) → tokens_stop tests before [] ≡ None
+  pub tokens_stop-none : (before : List Token) → tokens_stop tests before [] ≡ None
   unfolding tokens_stop
   tokens_stop-none before = refl
 

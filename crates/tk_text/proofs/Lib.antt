@@ -36,6 +36,7 @@ pub mod PieceValues
 pub mod PlaceRows
 pub mod Placing
 pub mod ProblemForms
+pub mod ReadBack
 pub mod Resume
 pub mod Rows
 pub mod Runs
@@ -52,3 +53,8 @@ pub mod Values
 pub mod WeightCounts
 pub mod WeightLines
 pub mod WeightTokens
+pub mod WrittenHeaders
+pub mod WrittenLines
+pub mod WrittenNumbers
+pub mod WrittenPlaces
+pub mod WrittenWeights

@@ -14,7 +14,7 @@ use Rattle.tk_text.proofs.Triangle.{pairs, pairs-below, lower_index-below, lower
 
 -- ---- the places of a pair
 
-two_ways : (a b c d : Bool) → (a && b || c && d) ≡ true → ((a ≡ true) × (b ≡ true)) ⊎ ((c ≡ true) × (d ≡ true))
+pub two_ways : (a b c d : Bool) → (a && b || c && d) ≡ true → ((a ≡ true) × (b ≡ true)) ⊎ ((c ≡ true) × (d ≡ true))
 two_ways true true c d e = inl (refl, refl)
 two_ways true false true true e = inr (refl, refl)
 two_ways true false true false e = cc
@@ -23,7 +23,7 @@ two_ways false b true true e = inr (refl, refl)
 two_ways false b true false e = cc
 two_ways false b false d e = cc
 
-same_number : (a b : ℕ) → eqb a b ≡ true → a ≡ b
+pub same_number : (a b : ℕ) → eqb a b ≡ true → a ≡ b
 same_number a b e = grind (arith, nat_tests)
 
 lower_index-of : (i j : ℕ) (p : Place) → j < i → is_of i j p ≡ true → lower_index p ≡ pairs i + j
@@ -39,7 +39,7 @@ is_of-diagonal i j p less e = grind (arith, nat_tests)
 is_of-below : (i j : ℕ) → is_of i j (place i j) ≡ true
 is_of-below i j = grind (arith, nat_tests)
 
-is_of-above : (i j : ℕ) → is_of i j (place j i) ≡ true
+pub is_of-above : (i j : ℕ) → is_of i j (place j i) ≡ true
 is_of-above i j = grind (arith, nat_tests)
 
 -- ---- one entry more
@@ -140,7 +140,7 @@ lower_index-lt n p row_in column_in apart = elim (cases_lt p.column p.row) as (�
 
 -- ---- the places of a format
 
-abbrev IsWithin : ℕ → Place → Type 0
+abbrev pub IsWithin : ℕ → Place → Type 0
 IsWithin n p = (p.row < n) × (p.column < n)
 
 All-line : (P : Place → Type 0) (h : ℕ → Place) (s c : ℕ) → ((m : ℕ) → m < s + c → P (h m)) → All P (map h (range_with_len s c))

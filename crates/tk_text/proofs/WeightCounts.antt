@@ -21,7 +21,7 @@ abbrev total : (ℕ → ℕ) → ℕ → ℕ
 total v zero = 0
 total v (suc c) = total v c + v c
 
-flat_map-suc : (g : ℕ → List Place) (c : ℕ) → flat_map g (range_with_len 0 (suc c)) ≡ flat_map g (range_with_len 0 c) ++ g c
+pub flat_map-suc : (g : ℕ → List Place) (c : ℕ) → flat_map g (range_with_len 0 (suc c)) ≡ flat_map g (range_with_len 0 c) ++ g c
 flat_map-suc g c =
     let last : 0 + c ≡ c = omega arith in
     ap (flat_map g) (range_more 0 c) ∙ flat_map-append g (range_with_len 0 c) ((0 + c) ∷ []) ∙ ap (λ ps. flat_map g (range_with_len 0 c) ++ ps) (append-nil (g (0 + c))) ∙ ap (λ k. flat_map g (range_with_len 0 c) ++ g k) last

@@ -24,6 +24,7 @@ pub mod PlacesOf
 pub mod Problem
 pub mod ProblemForm
 pub mod Puts
+pub mod ReadBack
 pub mod Reader
 pub mod Rows
 pub mod Scan

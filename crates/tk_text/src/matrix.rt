@@ -5,6 +5,7 @@ ghost use Rattle.tk_text.specs.FormatLines.{by_columns, on_line, place};
 ghost use Rattle.tk_text.specs.MatrixText.{format_word, Gives, matrix_head, matrix_line, matrix_text};
 ghost use Rattle.tk_text.specs.Pens.{Puts};
 ghost use Rattle.tk_text.specs.Puts.{Writes};
+ghost use Rattle.tk_text.specs.ReadBack.{IsName, IsTable, ReadsBack};
 
 use crate::pen::{Pen, WriteFault};
 use crate::sink::Sink;
@@ -121,6 +122,7 @@ fn put_matrix<W: Sink, D: Fn(u32, u32) -> i64>(
 }
 
 /// Writes a TSP with explicit weights: the distances that `d` gives of the cities 1 to `n`.
+/// A reader gives back the name and these distances, where a problem can have them (`read_back`).
 pub fn write_matrix<W: Sink, D: Fn(u32, u32) -> i64>(
     w: &mut W,
     name: &[u8],
@@ -132,6 +134,8 @@ pub fn write_matrix<W: Sink, D: Fn(u32, u32) -> i64>(
     requires table { (table : ℕ → ℕ → ℕ) × Gives (D.pre d.now) (D.post d.now) n table }
     ensures text { (table : ℕ → ℕ → ℕ) → Gives (D.pre d.now) (D.post d.now) n table
         → Writes W.taken W.broken w.old w.new result (matrix_text name.now n table f) }
+    ensures read_back { (table : ℕ → ℕ → ℕ) → Gives (D.pre d.now) (D.post d.now) n table → IsName name.now → IsTable n table → 2 ≤ n
+        → ReadsBack name.now n table f }
     ensures failed { length name.now ≤ 1024 → OnErr result (W.broken w.new ≡ true) }
 {
     let mut pen = Pen::new(w);

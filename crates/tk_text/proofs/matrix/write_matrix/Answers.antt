@@ -1,6 +1,7 @@
 use Rattle.std.proofs.Common.{rules}
 use Rattle.tk_text.specs.MatrixText.{matrix_text}
 use Rattle.tk_text.proofs.MatrixLength.{length_matrix_text}
+use Rattle.tk_text.proofs.ReadBack.{reads_back}
 use Rattle.tk_text.proofs.Penned.{Writes-end, broken_at_err}
 use Rattle.tk_text.proofs.matrix.write_matrix.Goals as goal
 
@@ -16,3 +17,6 @@ returns-clause-failed g c = λ short.
     (length_matrix_text c.args.name.now c.args.n table c.args.f short c.requires.few)
     (Writes-end g.W.Sink.taken g.W.Sink.broken c.args.w.now _ _ _ _ _ (matrix_text c.args.name.now c.args.n table c.args.f)
     c.new-pen.ensures.empty (c.put_matrix.ensures.puts table c.requires.table.1) c.end.ensures (search rules))
+
+pub returns-clause-read_back : goal.returns-clause-read_back
+returns-clause-read_back g c = λ table gives is_name is_table low. reads_back c.args.name.now c.args.n table c.args.f is_name is_table low c.requires.few

@@ -1,0 +1,29 @@
+-- What a matrix text says to a reader.
+use Rattle.std.specs.Prelude.{◌≡◌, ◌≢◌, ℕ, ◌-◌, ◌^◌, ◌<◌, ◌≤◌, false, true, List, All, length, map, flat_map, Some, None, Ok}
+use Rattle.std.specs.List.{range_with_len}
+use Rattle.tk_text.specs.declared.weights.Format.{Format}
+use Rattle.tk_text.specs.Lex.{LF, is_empty, trim}
+use Rattle.tk_text.specs.MatrixText.{matrix_text}
+use Rattle.tk_text.specs.Problem.{Lower, problem_decided}
+
+-- a name as a reader gives it: some bytes on one line, with no blanks at their ends
+pub record IsName (name : List ℕ) : Type 0 where
+  pub some : is_empty name ≡ false
+  pub short : length name ≤ 1024
+  pub one_line : All (λ b. b ≢ LF) name
+  pub trimmed : trim name ≡ name
+
+-- a table of weights as a problem can have them
+pub record IsTable (n : ℕ) (table : ℕ → ℕ → ℕ) : Type 0 where
+  pub symmetric : (a b : ℕ) → 1 ≤ a → a ≤ n → 1 ≤ b → b ≤ n → table a b ≡ table b a
+  pub weights : (a b : ℕ) → 1 ≤ a → a ≤ n → 1 ≤ b → b ≤ n → a ≢ b → table a b ≤ 4000000000
+  pub diagonal : (a : ℕ) → 1 ≤ a → a ≤ n → table a a < 10 ^ 18
+
+-- the table below its diagonal, row by row
+abbrev pub lower_triangle : ℕ → (ℕ → ℕ → ℕ) → List ℕ
+lower_triangle n table = flat_map (λ a. map (table a) (range_with_len 1 (a - 1))) (range_with_len 1 n)
+
+-- the text is read as a problem of this name and these weights
+abbrev pub ReadsBack : List ℕ → ℕ → (ℕ → ℕ → ℕ) → Format → Type 0
+ReadsBack name n table f =
+    problem_decided true (matrix_text name n table f) ≡ Some (Ok (record { name = name; n = n; weights = Lower (lower_triangle n table); routing = None }))
