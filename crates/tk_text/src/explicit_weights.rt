@@ -1,5 +1,5 @@
 //! The explicit weights of a problem, token by token.
-ghost use Rattle.std.specs.Prelude.{◌≡◌, ◌≢◌, ◌<◌, ◌≤◌, ℕ, suc, List, [], ◌∷◌, ◌++◌, length, None, Some, pos, slice_get, nat_lt, ◌&&◌, IfOk, IfErr, IfSome};
+ghost use Rattle.std.specs.Prelude.{◌≡◌, ◌≢◌, ◌<◌, ◌≤◌, ℕ, suc, List, [], ◌∷◌, ◌++◌, length, None, Some, pos, slice_get, nat_lt, ◌&&◌, IfOk, IfErr, IfSome, OnErr};
 ghost use Rattle.tk_text.specs.declared.weights.Format.{Format};
 ghost use Rattle.tk_text.specs.declared.weights.Weights.TheVariants as weights;
 ghost use Rattle.tk_text.specs.FixedSections.{fixed_taken};
@@ -42,10 +42,11 @@ impl ExplicitWeights {
         }
     }
 
-    /// Takes a token.
+    /// Takes a token. After an error nothing was taken.
     pub fn take(&mut self, token: &[u8]) -> Result<Taken, TextKind>
         ensures ok { (n : ℕ) (f : Format) (toks : List Token) (line : ℕ) → HasWeights n f self.old toks → length toks < weight_count n f → IfOk result (λ taken. (first_at line (weight_tests n f toks (whole token.now line)) ≡ None) × HasWeights n f self.new (toks ++ whole token.now line ∷ []) × (taken ≡ fixed_taken (weight_count n f) toks)) }
         ensures err { (n : ℕ) (f : Format) (toks : List Token) (line : ℕ) → HasWeights n f self.old toks → IfErr result (IsToldWord (λ k. first_at line (weight_tests n f toks (whole token.now line)) ≡ Some (Fault line k))) }
+        ensures kept { OnErr result (self.new ≡ self.old) }
     {
         let Some(number) = integer(token) else {
             return Err(TextKind::BadNumber);
@@ -60,11 +61,12 @@ impl ExplicitWeights {
         Ok(Taken::More)
     }
 
-    /// Puts a number at the next place.
+    /// Puts a number at the next place. After an error nothing was put.
     fn put(&mut self, number: i64) -> Result<(), TextKind>
         requires { 0 < length self.old.lower.places }
         ensures ok { (n : ℕ) (f : Format) (toks : List Token) (t : Token) → HasWeights n f self.old toks → integer t.bytes ≡ Some number → IfOk result (λ _. (first_at t.line (weight_tests n f toks t) ≡ None) × HasWeights n f self.new (toks ++ t ∷ [])) }
         ensures err { (n : ℕ) (f : Format) (toks : List Token) (t : Token) → HasWeights n f self.old toks → integer t.bytes ≡ Some number → IfErr result (IsToldWord (λ k. first_at t.line (weight_tests n f toks t) ≡ Some (Fault t.line k))) }
+        ensures kept { OnErr result (self.new ≡ self.old) }
     {
         if self.lower.place().is_diagonal() {
             self.lower.skip();

@@ -1,5 +1,5 @@
 //! The section of a problem whose tokens come.
-ghost use Rattle.std.specs.Prelude.{◌≡◌, ◌≤◌, ◌-◌, ◌==◌, ◌++◌, ℕ, true, false, List, length, Some, None, if◌then◌else◌, IfOk, IfErr};
+ghost use Rattle.std.specs.Prelude.{◌≡◌, ◌≤◌, ◌-◌, ◌==◌, ◌++◌, ℕ, true, false, List, length, Some, None, if◌then◌else◌, IfOk, IfErr, OnErr};
 ghost use Rattle.tk_text.specs.declared.keyword.Keyword.{Keyword};
 ghost use Rattle.tk_text.specs.Forms.{whole, IsToldWord, HasTaken, StopsAt};
 ghost use Rattle.tk_text.specs.Lex.{Token};
@@ -38,11 +38,12 @@ impl OpenSection {
     ghost use Rattle.tk_text.specs.OpenSections.{IsOpen, IsCounted, IsPast};
     ghost use Rattle.tk_text.specs.Pieces.{Early, Fault};
 
-    /// Takes a token.
+    /// Takes a token. After an error nothing was taken.
     pub fn take(&mut self, token: &[u8]) -> Result<Taken, TextKind>
         requires { length token.now ≤ 64 }
         ensures ok { (before : List Piece) (word : Keyword) (n : ℕ) (toks : List Token) (line : ℕ) → IsOpen before word n toks self.old → IfOk result (HasTaken problem_format (IsPast before word n self.new) (λ ps w m ts. IsOpen ps w m ts self.new) before word n toks (whole token.now line)) }
         ensures err { (before : List Piece) (word : Keyword) (n : ℕ) (toks : List Token) (line : ℕ) → IsOpen before word n toks self.old → IfErr result (IsToldWord (StopsAt problem_format before word n toks (whole token.now line))) }
+        ensures kept { OnErr result (self.new ≡ self.old) }
     {
         if let OpenSection::Home(section) = self {
             return section.take(token);
@@ -58,6 +59,7 @@ impl OpenSection {
         requires { length token.now ≤ 64 }
         ensures ok { (before : List Piece) (word : Keyword) (n : ℕ) (toks : List Token) (line : ℕ) → IsCounted self.old → is_keyword token.now ≡ false → IsOpen before word n toks self.old → IfOk result (HasTaken problem_format (IsPast before word n self.new) (λ ps w m ts. IsOpen ps w m ts self.new) before word n toks (whole token.now line)) }
         ensures err { (before : List Piece) (word : Keyword) (n : ℕ) (toks : List Token) (line : ℕ) → IsCounted self.old → is_keyword token.now ≡ false → IsOpen before word n toks self.old → IfErr result (IsToldWord (StopsAt problem_format before word n toks (whole token.now line))) }
+        ensures kept { OnErr result (self.new ≡ self.old) }
     {
         match self {
             OpenSection::Nothing | OpenSection::Home(_) => Ok(Taken::More),

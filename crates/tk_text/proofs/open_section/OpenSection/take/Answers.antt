@@ -1,4 +1,4 @@
-use Rattle.std.proofs.Common.{◌≡◌, true, false, subst, sym, ap, ◌∙◌}
+use Rattle.std.proofs.Common.{◌≡◌, true, false, refl, subst, sym, ap, ◌∙◌}
 use Rattle.tk_text.specs.Tour.{is_keyword, is_some_word}
 use Rattle.tk_text.specs.OpenSections.{IsOpen}
 use Rattle.tk_text.proofs.OpenSections.{not_home, keyword_is, at_keyword, home_take, home_refuse}
@@ -17,6 +17,7 @@ returns-then-is_some c =
     let is : is_keyword c.args.token.now ≡ true = ap is_some_word (sym c.keyword_in.ensures) ∙ keyword_is c.keyword_in.result true (sym c.is_some.ensures ∙ c.if-is_some.true) in
     record {
       ok = λ before word n toks line is_open. tt;
+      kept = refl;
       err = λ before word n toks line is_open. at_keyword c.args.token.now c.requires before n toks line word c.args.self.now (not_home before word n toks c.args.self.now c.in_default.not-Home is_open) is is_open;
     }
 
@@ -26,4 +27,5 @@ returns c =
     record {
       ok = λ before word n toks line is_open. c.take_number.ensures.ok before word n toks line (not_home before word n toks c.args.self.now c.in_default.not-Home is_open) number is_open;
       err = λ before word n toks line is_open. c.take_number.ensures.err before word n toks line (not_home before word n toks c.args.self.now c.in_default.not-Home is_open) number is_open;
+      kept = c.take_number.ensures.kept;
     }
