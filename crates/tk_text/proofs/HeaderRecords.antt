@@ -1,6 +1,6 @@
 -- The headers of a problem, with one piece more.
 use Rattle.std.proofs.lemmas.Bool.{eqb-true}
-use Rattle.std.proofs.Common.{◌≡◌, ℕ, Bool, true, false, eqb, length, arith, List, [], ◌∷◌, ◌++◌, Option, refl, sym, ap, ◌∙◌}
+use Rattle.std.proofs.Common.{◌≡◌, ◌≤◌, ℕ, Bool, true, false, eqb, length, arith, List, [], ◌∷◌, ◌++◌, Option, refl, sym, ap, ◌∙◌}
 use Rattle.std.specs.Prelude.{unwrap_or}
 use Rattle.tk_text.specs.declared.keyword.Keyword.{Keyword}
 use Rattle.tk_text.specs.declared.keyword.Keyword.TheVariants as words
@@ -23,6 +23,7 @@ module _ (h : Headers) (ps : List Piece) (v : List ℕ) (n : ℕ) (k : HasHeader
   with_problem_type x new = record {
     named = k.named ∙ sym (has_other words.Name words.Type ps v n refl);
     name = k.name ∙ ap (λ (o : Option (List ℕ)). name_of (unwrap_or o [])) (sym (value_of-other words.Name words.Type ps v n refl));
+    short = k.short;
     problem_type = new;
     dimension = keeps_other words.Dimension words.Type (number_of 2 100000) h.dimension ps v n refl k.dimension;
     capacity = keeps_other words.Capacity words.Type (number_of 1 2000000000) h.capacity ps v n refl k.capacity;
@@ -36,6 +37,7 @@ module _ (h : Headers) (ps : List Piece) (v : List ℕ) (n : ℕ) (k : HasHeader
   with_dimension x new = record {
     named = k.named ∙ sym (has_other words.Name words.Dimension ps v n refl);
     name = k.name ∙ ap (λ (o : Option (List ℕ)). name_of (unwrap_or o [])) (sym (value_of-other words.Name words.Dimension ps v n refl));
+    short = k.short;
     problem_type = keeps_other words.Type words.Dimension problem_type_of h.problem_type ps v n refl k.problem_type;
     dimension = new;
     capacity = keeps_other words.Capacity words.Dimension (number_of 1 2000000000) h.capacity ps v n refl k.capacity;
@@ -49,6 +51,7 @@ module _ (h : Headers) (ps : List Piece) (v : List ℕ) (n : ℕ) (k : HasHeader
   with_capacity x new = record {
     named = k.named ∙ sym (has_other words.Name words.Capacity ps v n refl);
     name = k.name ∙ ap (λ (o : Option (List ℕ)). name_of (unwrap_or o [])) (sym (value_of-other words.Name words.Capacity ps v n refl));
+    short = k.short;
     problem_type = keeps_other words.Type words.Capacity problem_type_of h.problem_type ps v n refl k.problem_type;
     dimension = keeps_other words.Dimension words.Capacity (number_of 2 100000) h.dimension ps v n refl k.dimension;
     capacity = new;
@@ -62,6 +65,7 @@ module _ (h : Headers) (ps : List Piece) (v : List ℕ) (n : ℕ) (k : HasHeader
   with_weight_type x new = record {
     named = k.named ∙ sym (has_other words.Name words.EdgeWeightType ps v n refl);
     name = k.name ∙ ap (λ (o : Option (List ℕ)). name_of (unwrap_or o [])) (sym (value_of-other words.Name words.EdgeWeightType ps v n refl));
+    short = k.short;
     problem_type = keeps_other words.Type words.EdgeWeightType problem_type_of h.problem_type ps v n refl k.problem_type;
     dimension = keeps_other words.Dimension words.EdgeWeightType (number_of 2 100000) h.dimension ps v n refl k.dimension;
     capacity = keeps_other words.Capacity words.EdgeWeightType (number_of 1 2000000000) h.capacity ps v n refl k.capacity;
@@ -75,6 +79,7 @@ module _ (h : Headers) (ps : List Piece) (v : List ℕ) (n : ℕ) (k : HasHeader
   with_weight_format x new = record {
     named = k.named ∙ sym (has_other words.Name words.EdgeWeightFormat ps v n refl);
     name = k.name ∙ ap (λ (o : Option (List ℕ)). name_of (unwrap_or o [])) (sym (value_of-other words.Name words.EdgeWeightFormat ps v n refl));
+    short = k.short;
     problem_type = keeps_other words.Type words.EdgeWeightFormat problem_type_of h.problem_type ps v n refl k.problem_type;
     dimension = keeps_other words.Dimension words.EdgeWeightFormat (number_of 2 100000) h.dimension ps v n refl k.dimension;
     capacity = keeps_other words.Capacity words.EdgeWeightFormat (number_of 1 2000000000) h.capacity ps v n refl k.capacity;
@@ -88,6 +93,7 @@ module _ (h : Headers) (ps : List Piece) (v : List ℕ) (n : ℕ) (k : HasHeader
   with_coordinate_type x new = record {
     named = k.named ∙ sym (has_other words.Name words.NodeCoordType ps v n refl);
     name = k.name ∙ ap (λ (o : Option (List ℕ)). name_of (unwrap_or o [])) (sym (value_of-other words.Name words.NodeCoordType ps v n refl));
+    short = k.short;
     problem_type = keeps_other words.Type words.NodeCoordType problem_type_of h.problem_type ps v n refl k.problem_type;
     dimension = keeps_other words.Dimension words.NodeCoordType (number_of 2 100000) h.dimension ps v n refl k.dimension;
     capacity = keeps_other words.Capacity words.NodeCoordType (number_of 1 2000000000) h.capacity ps v n refl k.capacity;
@@ -101,6 +107,7 @@ module _ (h : Headers) (ps : List Piece) (v : List ℕ) (n : ℕ) (k : HasHeader
   with_display_type x new = record {
     named = k.named ∙ sym (has_other words.Name words.DisplayDataType ps v n refl);
     name = k.name ∙ ap (λ (o : Option (List ℕ)). name_of (unwrap_or o [])) (sym (value_of-other words.Name words.DisplayDataType ps v n refl));
+    short = k.short;
     problem_type = keeps_other words.Type words.DisplayDataType problem_type_of h.problem_type ps v n refl k.problem_type;
     dimension = keeps_other words.Dimension words.DisplayDataType (number_of 2 100000) h.dimension ps v n refl k.dimension;
     capacity = keeps_other words.Capacity words.DisplayDataType (number_of 1 2000000000) h.capacity ps v n refl k.capacity;
@@ -114,6 +121,7 @@ module _ (h : Headers) (ps : List Piece) (v : List ℕ) (n : ℕ) (k : HasHeader
   with_comment = record {
     named = k.named ∙ sym (has_other words.Name words.Comment ps v n refl);
     name = k.name ∙ ap (λ (o : Option (List ℕ)). name_of (unwrap_or o [])) (sym (value_of-other words.Name words.Comment ps v n refl));
+    short = k.short;
     problem_type = keeps_other words.Type words.Comment problem_type_of h.problem_type ps v n refl k.problem_type;
     dimension = keeps_other words.Dimension words.Comment (number_of 2 100000) h.dimension ps v n refl k.dimension;
     capacity = keeps_other words.Capacity words.Comment (number_of 1 2000000000) h.capacity ps v n refl k.capacity;
@@ -124,11 +132,12 @@ module _ (h : Headers) (ps : List Piece) (v : List ℕ) (n : ℕ) (k : HasHeader
   }
 
   -- the name comes, and the bytes are those that it gives
-  pub with_name : (named : Headers) → named ≡ record h { has_name = true; name = named.name } → named.name.items ≡ name_of v → has words.Name ps ≡ false
+  pub with_name : (named : Headers) → named ≡ record h { has_name = true; name = named.name } → named.name.items ≡ name_of v → length named.name.items ≤ 1024 → has words.Name ps ≡ false
       → HasHeaders named (ps ++ a_header words.Name v n)
-  with_name named same is fresh = rw same (record {
+  with_name named same is small fresh = rw same (record {
     named = noted words.Name ps v n refl;
     name = is ∙ ap (λ (o : Option (List ℕ)). name_of (unwrap_or o [])) (sym (value_of-new words.Name words.Name ps v n refl fresh));
+    short = small;
     problem_type = keeps_other words.Type words.Name problem_type_of h.problem_type ps v n refl k.problem_type;
     dimension = keeps_other words.Dimension words.Name (number_of 2 100000) h.dimension ps v n refl k.dimension;
     capacity = keeps_other words.Capacity words.Name (number_of 1 2000000000) h.capacity ps v n refl k.capacity;
@@ -149,6 +158,7 @@ module _ (h : Headers) (word : Keyword) (ps : List Piece) (n : ℕ) (toks : List
   past_section o1 o2 o3 o4 o5 o6 o7 o8 = record {
     named = k.named ∙ sym (has_past words.Name word ps n toks after o1);
     name = k.name ∙ ap (λ (o : Option (List ℕ)). name_of (unwrap_or o [])) (sym (value_of-section words.Name word ps n toks after));
+    short = k.short;
     problem_type = keeps_section words.Type word problem_type_of h.problem_type ps n toks after o2 k.problem_type;
     dimension = keeps_section words.Dimension word (number_of 2 100000) h.dimension ps n toks after o3 k.dimension;
     capacity = keeps_section words.Capacity word (number_of 1 2000000000) h.capacity ps n toks after o4 k.capacity;

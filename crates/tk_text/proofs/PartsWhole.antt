@@ -190,6 +190,6 @@ whole_parts p ps k none =
     let limits = number_in_limits 2 100000 dimension.0 (value_of words.Dimension ps) (k.headers.dimension.says ∙ dimension.1) in
     let weights = weights_done p ps k dimension.0 size rest.0 in
     let routing = routing_done p ps k dimension.0 size rest.1 in
-    let w : IsWhole p = record { n = dimension.0; size = dimension.1; low = limits.0; high = limits.1; weights = weights.0; routing = routing.0 } in
+    let w : IsWhole p = record { short = k.headers.short; n = dimension.0; size = dimension.1; low = limits.0; high = limits.1; weights = weights.0; routing = routing.0 } in
     let sized : unwrap_or p.headers.dimension 0 ≡ size_of ps = ap (λ (o : Option ℕ). unwrap_or o 0) (sym k.headers.dimension.says) in
     (w, same_problem (problem_in p) (problem_value ps) k.headers.name sized weights.1 routing.1)

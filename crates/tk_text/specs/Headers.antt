@@ -1,5 +1,5 @@
 -- What is kept of the headers among a problem's pieces.
-use Rattle.std.specs.Prelude.{◌≡◌, List, [], unwrap_or}
+use Rattle.std.specs.Prelude.{◌≡◌, ◌≤◌, List, [], length, unwrap_or}
 use Rattle.tk_text.specs.declared.keyword.Keyword.TheVariants as words
 use Rattle.tk_text.specs.declared.headers.Headers.{Headers}
 use Rattle.tk_text.specs.HeaderValues.{problem_type_of, weight_type_of, weight_format_of, number_of, name_of}
@@ -9,6 +9,7 @@ use Rattle.tk_text.specs.Kept.{Keeps}
 pub record HasHeaders (h : Headers) (ps : List Piece) : Type 0 where
   pub named : h.has_name ≡ has words.Name ps
   pub name : h.name.items ≡ name_of (unwrap_or (value_of words.Name ps) [])
+  pub short : length h.name.items ≤ 1024
   pub problem_type : Keeps words.Type problem_type_of h.problem_type ps
   pub dimension : Keeps words.Dimension (number_of 2 100000) h.dimension ps
   pub capacity : Keeps words.Capacity (number_of 1 2000000000) h.capacity ps

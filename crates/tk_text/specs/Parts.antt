@@ -1,5 +1,5 @@
 -- What is kept of the pieces of a problem.
-use Rattle.std.specs.Prelude.{◌≡◌, ◌≤◌, ℕ, false, List, [], Option, Some, None, IfSome, is_some, unwrap_or, Vec}
+use Rattle.std.specs.Prelude.{◌≡◌, ◌≤◌, ℕ, false, List, [], length, Option, Some, None, IfSome, is_some, unwrap_or, Vec}
 use Rattle.std.specs.declared.alloc.Global.{Global}
 use Rattle.tk_text.specs.declared.point.Point.{Point}
 use Rattle.tk_text.specs.declared.weights.Weights.{Weights}
@@ -83,6 +83,7 @@ routing_in _ capacity demand depot = None
 
 -- the parts make a problem
 pub record IsWhole (p : Parts) : Type 0 where
+  pub short : length p.headers.name.items ≤ 1024
   pub n : ℕ
   pub size : p.headers.dimension ≡ Some n
   pub low : 2 ≤ n

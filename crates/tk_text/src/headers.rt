@@ -1,5 +1,5 @@
 //! The headers of a problem that came so far.
-ghost use Rattle.std.specs.Prelude.{◌≡◌, ◌++◌, ℕ, Bool, true, false, List, [], Option, Some, None, IfOk, IfErr};
+ghost use Rattle.std.specs.Prelude.{◌≡◌, ◌≤◌, ◌++◌, ℕ, Bool, true, false, List, [], length, Option, Some, None, IfOk, IfErr};
 ghost use Rattle.tk_text.specs.declared.keyword.Keyword.{Keyword};
 ghost use Rattle.tk_text.specs.declared.fault.TextKind.{TextKind};
 ghost use Rattle.tk_text.specs.Words.{same_word};
@@ -127,7 +127,7 @@ impl Headers {
 
     /// Keeps the name.
     fn keep_name(&mut self, alloc: Global, name: &[u8]) -> Result<(), TextKind>
-        ensures ok { (ps : List Piece) (v : List ℕ) (n : ℕ) → HasHeaders self.old ps → name.now ≡ trim (after_word v) → IfOk result (λ _. HasHeaders self.new (ps ++ a_header words.Name v n) × (has words.Name ps ≡ false)) }
+        ensures ok { (ps : List Piece) (v : List ℕ) (n : ℕ) → HasHeaders self.old ps → name.now ≡ trim (after_word v) → length name.now ≤ 1024 → IfOk result (λ _. HasHeaders self.new (ps ++ a_header words.Name v n) × (has words.Name ps ≡ false)) }
         ensures err { (ps : List Piece) → HasHeaders self.old ps → IfErr result (IsToldWord (λ k. (k ≡ TextKind.Repeated) × (has words.Name ps ≡ true))) }
     {
         if self.has_name {

@@ -1,5 +1,5 @@
 //! What a problem text and a tour text hold.
-ghost use Rattle.std.specs.Prelude.{◌≤◌};
+ghost use Rattle.std.specs.Prelude.{◌≤◌, length};
 ghost use Rattle.tk_text.specs.Shape.{WeightsFit, RoutingFits};
 
 use crate::routing::Routing;
@@ -12,6 +12,7 @@ pub struct Problem {
     pub n: u32,
     pub weights: Weights,
     pub routing: Option<Routing>,
+    ghost short: { length name.items ≤ 1024 },
     ghost low: { 2 ≤ n },
     ghost high: { n ≤ 100000 },
     ghost weights_fit: { ∥ WeightsFit n weights ∥₁ },

@@ -1,5 +1,5 @@
 //! The matrix of a problem.
-ghost use Rattle.std.specs.Prelude.{◌≡◌, ◌≤◌, true, length, pos, Ok, OnErr, IfOk, IfErr};
+ghost use Rattle.std.specs.Prelude.{◌≡◌, ◌≤◌, true, pos, Ok, OnErr, IfOk, IfErr};
 ghost use Rattle.tk_metric.specs.Cities.{IsCity};
 ghost use Rattle.tk_metric.specs.Tables.{table_size, table_distance};
 ghost use Rattle.tk_text.specs.Drive.{IsAnswerWhereTold, IsTold};
@@ -22,7 +22,7 @@ const MATRIX_LIMIT: u32 = 5_000;
 fn write_problem<W: Sink>(out: &mut W, problem: &Problem, format: Format) -> Result<(), WriteFault>
     requires few { problem.now.n ≤ 5000 }
     ensures text { Writes W.taken W.broken out.old out.new result (matrix_of (problem_is problem.now) format) }
-    ensures failed { length problem.now.name.items ≤ 1024 → OnErr result (W.broken out.new ≡ true) }
+    ensures failed { OnErr result (W.broken out.new ≡ true) }
 {
     let table = Table::of(problem);
     let distance = |a: u32, b: u32| -> i64
@@ -46,7 +46,7 @@ pub fn matrix_engine<R: Source, W: Sink>(
     out: &mut W,
 ) -> Result<(), Fault>
     ensures ok { IfOk result (λ _. HasWritten (Reads (R.left problem.old) (R.left problem.new)) (IsMatrixText format) W.taken W.broken out.old out.new (Ok tt)) }
-    ensures err { IfErr result (Stopped (IsTold (R.broken problem.new ≡ true) (IsAnswerWhereTold problem_decided text_limit (R.left problem.old) (R.left problem.new))) (IsTooLarge (Reads (R.left problem.old) (R.left problem.new))) (λ r. (h : HasWritten (Reads (R.left problem.old) (R.left problem.new)) (IsMatrixText format) W.taken W.broken out.old out.new r) × (length h.problem.name ≤ 1024 → W.broken out.new ≡ true)) (out.new ≡ out.old)) }
+    ensures err { IfErr result (Stopped (IsTold (R.broken problem.new ≡ true) (IsAnswerWhereTold problem_decided text_limit (R.left problem.old) (R.left problem.new))) (IsTooLarge (Reads (R.left problem.old) (R.left problem.new))) (λ r. HasWritten (Reads (R.left problem.old) (R.left problem.new)) (IsMatrixText format) W.taken W.broken out.old out.new r × (W.broken out.new ≡ true)) (out.new ≡ out.old)) }
     ensures intact { IsWhole (R.broken problem.old) (R.broken problem.new) result }
 {
     let problem = match read_problem(alloc, problem) {
