@@ -2,4 +2,3 @@ pub mod Check
 pub mod Engine
 pub mod MatrixOf
 pub mod NearText
-pub mod Outcome

@@ -1,5 +1,5 @@
 -- The matrix of a problem.
-use Rattle.std.specs.Prelude.{◌≡◌, ℕ, ◌≤◌, ◌<◌, List}
+use Rattle.std.specs.Prelude.{◌≡◌, ℕ, ◌≤◌, List}
 use Rattle.tk_text.specs.declared.weights.Format.{Format}
 use Rattle.tk_text.specs.MatrixText.{matrix_text}
 use Rattle.tk_text.specs.Problem.{ProblemIs}
@@ -10,7 +10,3 @@ matrix_of p format = matrix_text p.name p.n (read_distance p.weights) format
 
 abbrev pub IsMatrixText : Format → ProblemIs → List ℕ → Type 0
 IsMatrixText format p text = (p.n ≤ 5000) × (text ≡ matrix_of p format)
-
--- the text says a problem of too many nodes
-abbrev pub IsTooLarge : (ProblemIs → Type 0) → Type 0
-IsTooLarge Says = (p : ProblemIs) × Says p × (5000 < p.n)

@@ -1,11 +1,10 @@
 //! The check of a tour.
 ghost use Rattle.std.specs.Prelude.{◌≡◌, true, Ok, Err, IfOk, IfErr};
-ghost use Rattle.std.specs.Io.KnownBytes.{Appends};
 ghost use Rattle.tk_text.specs.Problem.{problem_decided};
 ghost use Rattle.tk_text.specs.Puts.{Stops};
 ghost use Rattle.tk_text.specs.Tour.{tour_decided};
 ghost use Rattle.tourkit.specs.Check.{IsChecked, IsStopped};
-ghost use Rattle.tourkit.specs.Engine.{IsRead, IsRefused, IsUntouched, UnlessWrite, AtWrite, AtProblem};
+ghost use Rattle.tourkit.specs.Engine.{IsRead, IsRefused, IsUntouched, Took, UnlessWrite, AtWrite, AtProblem};
 
 use crate::fault::Fault;
 use crate::verdict_line::write_verdict;
@@ -26,7 +25,7 @@ pub fn check_engine<P: Source, T: Source, W: Sink>(
     out: &mut W,
 ) -> Result<Verdict, Fault>
     ensures ok { IfOk result (IsChecked (IsRead P.left P.broken problem_decided problem.old problem.new) (IsRead T.left T.broken tour_decided tour.old tour.new)
-        (λ line. Appends (W.taken out.old) (W.taken out.new) line × (W.broken out.new ≡ W.broken out.old))) }
+        (Took W.taken W.broken out.old out.new)) }
     ensures err { IfErr result (IsStopped (IsRead P.left P.broken problem_decided problem.old problem.new) (IsRefused P.left P.broken problem_decided problem.old problem.new)
         (IsRead T.left T.broken tour_decided tour.old tour.new) (IsRefused T.left T.broken tour_decided tour.old tour.new)
         (λ f line. Stops W.taken W.broken (W.taken out.old) line out.new f)) }

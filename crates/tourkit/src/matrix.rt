@@ -1,14 +1,12 @@
 //! The matrix of a problem.
-ghost use Rattle.std.specs.Prelude.{◌≡◌, ◌≤◌, true, pos, Ok, OnErr, IfOk, IfErr};
+ghost use Rattle.std.specs.Prelude.{◌≡◌, ◌≤◌, ◌<◌, true, pos, OnErr, IfOk, IfErr};
 ghost use Rattle.tk_metric.specs.Cities.{IsCity};
 ghost use Rattle.tk_metric.specs.Tables.{table_size, table_distance};
-ghost use Rattle.tk_text.specs.Drive.{IsAnswerWhereTold, IsTold};
 ghost use Rattle.tk_text.specs.Parts.{problem_is};
 ghost use Rattle.tk_text.specs.Problem.{problem_decided};
-ghost use Rattle.tk_text.specs.Puts.{Writes};
-ghost use Rattle.tk_text.specs.Tour.{text_limit};
-ghost use Rattle.tourkit.specs.MatrixOf.{IsMatrixText, IsTooLarge, matrix_of};
-ghost use Rattle.tourkit.specs.Outcome.{HasWritten, IsWhole, Reads, Stopped};
+ghost use Rattle.tk_text.specs.Puts.{Stops, Writes};
+ghost use Rattle.tourkit.specs.Engine.{IsRead, IsRefused, IsTextStopped, IsTextTold, IsUntouched, Took, UnlessWrite, AtWrite};
+ghost use Rattle.tourkit.specs.MatrixOf.{IsMatrixText, matrix_of};
 
 use crate::fault::Fault;
 use std::alloc::Global;
@@ -45,9 +43,11 @@ pub fn matrix_engine<R: Source, W: Sink>(
     format: Format,
     out: &mut W,
 ) -> Result<(), Fault>
-    ensures ok { IfOk result (λ _. HasWritten (Reads (R.left problem.old) (R.left problem.new)) (IsMatrixText format) W.taken W.broken out.old out.new (Ok tt)) }
-    ensures err { IfErr result (Stopped (IsTold (R.broken problem.new ≡ true) (IsAnswerWhereTold problem_decided text_limit (R.left problem.old) (R.left problem.new))) (IsTooLarge (Reads (R.left problem.old) (R.left problem.new))) (λ r. HasWritten (Reads (R.left problem.old) (R.left problem.new)) (IsMatrixText format) W.taken W.broken out.old out.new r × (W.broken out.new ≡ true)) (out.new ≡ out.old)) }
-    ensures intact { IsWhole (R.broken problem.old) (R.broken problem.new) result }
+    ensures ok { IfOk result (λ _. IsTextTold (IsRead R.left R.broken problem_decided problem.old problem.new) (IsMatrixText format) (Took W.taken W.broken out.old out.new)) }
+    ensures err { IfErr result (IsTextStopped (IsRead R.left R.broken problem_decided problem.old problem.new) (IsRefused R.left R.broken problem_decided problem.old problem.new) (λ p. 5000 < p.n)
+        (IsMatrixText format) (λ f text. Stops W.taken W.broken (W.taken out.old) text out.new f)) }
+    ensures quiet { IfErr result (UnlessWrite (IsUntouched W.taken W.broken out.old out.new)) }
+    ensures failed { IfErr result (AtWrite (W.broken out.new ≡ true)) }
 {
     let problem = match read_problem(alloc, problem) {
         Ok(problem) => problem,

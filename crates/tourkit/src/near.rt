@@ -1,13 +1,11 @@
 //! The near lists of a problem.
-ghost use Rattle.std.specs.Prelude.{◌≡◌, ◌≤◌, true, Ok, OnErr, IfOk, IfErr};
-ghost use Rattle.tk_text.specs.Drive.{IsAnswerWhereTold, IsTold};
+ghost use Rattle.std.specs.Prelude.{◌≡◌, ◌≤◌, true, OnErr, IfOk, IfErr};
 ghost use Rattle.tk_text.specs.Parts.{problem_is};
 ghost use Rattle.tk_text.specs.Pens.{Puts};
 ghost use Rattle.tk_text.specs.Problem.{problem_decided};
-ghost use Rattle.tk_text.specs.Puts.{Writes};
-ghost use Rattle.tk_text.specs.Tour.{text_limit};
+ghost use Rattle.tk_text.specs.Puts.{Stops, Writes};
+ghost use Rattle.tourkit.specs.Engine.{IsRead, IsRefused, IsTextStopped, IsTextTold, IsUntouched, Took, UnlessWrite, AtWrite};
 ghost use Rattle.tourkit.specs.NearText.{IsNearOf, IsNearText, near_text};
-ghost use Rattle.tourkit.specs.Outcome.{HasWritten, IsWhole, Reads, Stopped};
 
 use crate::fault::Fault;
 use std::alloc::{AllocError, Global};
@@ -65,9 +63,11 @@ pub fn near_engine<R: Source, W: Sink>(
 ) -> Result<(), Fault>
     requires low { 1 ≤ k }
     requires limit { k ≤ 100 }
-    ensures ok { IfOk result (λ _. HasWritten (Reads (R.left problem.old) (R.left problem.new)) (IsNearText k) W.taken W.broken out.old out.new (Ok tt)) }
-    ensures err { IfErr result (Stopped (IsTold (R.broken problem.new ≡ true) (IsAnswerWhereTold problem_decided text_limit (R.left problem.old) (R.left problem.new))) ⊥ (λ r. HasWritten (Reads (R.left problem.old) (R.left problem.new)) (IsNearText k) W.taken W.broken out.old out.new r × (W.broken out.new ≡ true)) (out.new ≡ out.old)) }
-    ensures intact { IsWhole (R.broken problem.old) (R.broken problem.new) result }
+    ensures ok { IfOk result (λ _. IsTextTold (IsRead R.left R.broken problem_decided problem.old problem.new) (IsNearText k) (Took W.taken W.broken out.old out.new)) }
+    ensures err { IfErr result (IsTextStopped (IsRead R.left R.broken problem_decided problem.old problem.new) (IsRefused R.left R.broken problem_decided problem.old problem.new) (λ _. ⊥)
+        (IsNearText k) (λ f text. Stops W.taken W.broken (W.taken out.old) text out.new f)) }
+    ensures quiet { IfErr result (UnlessWrite (IsUntouched W.taken W.broken out.old out.new)) }
+    ensures failed { IfErr result (AtWrite (W.broken out.new ≡ true)) }
 {
     let problem = match read_problem(alloc, problem) {
         Ok(problem) => problem,

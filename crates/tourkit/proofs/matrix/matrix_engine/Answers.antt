@@ -5,13 +5,11 @@ use Rattle.tourkit.proofs.matrix.matrix_engine.Goals as goal
 
 pub returns-clause-err : goal.returns-clause-err
 returns-clause-err g c =
-    let problem = problem_is c.in-Ok.problem in (
-      record {
-        problem = problem;
-        said = c.in-Ok.ensures.ok;
-        text = matrix_of problem c.args.format;
-        is = (c.if-problem-gt-MATRIX_LIMIT.false, refl);
-        writes = c.in-Err-write_problem.ensures.text;
-      },
-      c.in-Err-write_problem.ensures.failed,
-    )
+    let problem = problem_is c.in-Ok.problem in
+    record {
+      problem = problem;
+      is_problem = record { answer = c.in-Ok.ensures.ok; intact = c.in-Ok.ensures.intact };
+      text = matrix_of problem c.args.format;
+      is_text = (c.if-problem-gt-MATRIX_LIMIT.false, refl);
+      told = c.in-Err-write_problem.ensures.text;
+    }
