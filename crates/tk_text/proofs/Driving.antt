@@ -30,6 +30,11 @@ answers_decided d limit bs a h le more =
 pub answers_more : {V : Type 0} (d : Decided V) (limit : ℕ) (bs rest : List ℕ) (a : Result V TextFault) → Answers d limit bs a → Answers d limit (bs ++ rest) a
 answers_more d limit bs rest a h more = rw append_assoc (h (rest ++ more))
 
+-- all of a text that is not too long
+pub answer_ended : {V : Type 0} (d : Decided V) (limit : ℕ) (bs : List ℕ) (a : Result V TextFault) → length bs ≤ limit → d true bs ≡ Some a → answer_of d limit bs ≡ a
+unfolding answer_of
+answer_ended d limit bs a le h = let short : leb (length bs) limit ≡ true = le-leb _ _ le in rw (short, h) refl
+
 -- a byte too many, with nothing decided
 pub answers_too_long : {V : Type 0} (d : Decided V) (limit : ℕ) (bs : List ℕ) (b : ℕ) → length bs ≡ limit → d false (bs ++ b ∷ []) ≡ None → Answers d limit (bs ++ b ∷ []) (Err (record { line = line_behind bs; kind = kinds.TooLong }))
 unfolding answer_of
@@ -79,11 +84,9 @@ module _ {V : Type 0} (d : Decided V) (limit : ℕ) (bs : List ℕ) (a : Result 
       (rest, refl, record { read = bs ++ piece; parts = sym whole; answer = rw (← whole) (h rest); unread = λ _. h })
 
   pub where_ended : (old mid new : Option (List ℕ)) → length bs ≤ limit → d true bs ≡ Some a → Consumes old mid bs → Consumes mid new [] → IsAtEnd new → IsAnswerWhereTold d limit old new a
-  unfolding answer_of
   where_ended None mid new le h p q e = tt
   where_ended (Some text) None new le h p q e = absurd p
   where_ended (Some text) (Some between) None le h p q e = absurd q
   where_ended (Some text) (Some between) (Some rest) le h p q e =
       let whole : text ≡ bs = p ∙ ap (λ (x : List ℕ). bs ++ x) (q ∙ e) ∙ append-nil bs in
-      let short : leb (length bs) limit ≡ true = le-leb _ _ le in
-      (rest, refl, record { read = bs; parts = p ∙ ap (λ (x : List ℕ). bs ++ x) q; answer = rw (whole, short, h) refl; unread = λ ne. absurd (ne e) })
+      (rest, refl, record { read = bs; parts = p ∙ ap (λ (x : List ℕ). bs ++ x) q; answer = rw whole (answer_ended d limit bs a le h); unread = λ ne. absurd (ne e) })

@@ -37,6 +37,7 @@ pub mod PlaceRows
 pub mod Placing
 pub mod ProblemForms
 pub mod ReadBack
+pub mod ReadNames
 pub mod Resume
 pub mod Rows
 pub mod Runs

@@ -3,6 +3,7 @@ ghost use Rattle.std.specs.Prelude.{◌≡◌, true, Ok, IfOk, IfErr};
 ghost use Rattle.tk_text.specs.Drive.{IsAnswerWhereTold, IsIntact, IsTold};
 ghost use Rattle.tk_text.specs.Parts.{problem_is};
 ghost use Rattle.tk_text.specs.Problem.{problem_decided};
+ghost use Rattle.tk_text.specs.ReadBack.{IsName};
 ghost use Rattle.tk_text.specs.Tour.{text_limit};
 
 use crate::drive::read_text;
@@ -18,6 +19,7 @@ use std::alloc::Global;
 /// `Read`, where the source fails, and `NoMemory`.
 pub fn read_problem<R: Source>(alloc: Global, source: &mut R) -> Result<Problem, TextFault>
     ensures ok { IfOk result (λ problem. IsAnswerWhereTold problem_decided text_limit (R.left source.old) (R.left source.new) (Ok (problem_is problem))) }
+    ensures named { IfOk result (λ problem. IsName (problem_is problem).name) }
     ensures err { IfErr result (IsTold (R.broken source.new ≡ true) (IsAnswerWhereTold problem_decided text_limit (R.left source.old) (R.left source.new))) }
     ensures intact { IsIntact (R.broken source.old) (R.broken source.new) result }
 {
