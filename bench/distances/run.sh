@@ -15,7 +15,7 @@ for name in tk_text tk_metric; do
 done
 cp main.rt.txt "$crates/distances/src/main.rt"
 cat > "$room/crates.txt" <<'LIST'
-tk_text: thiserror
+tk_text: itoa thiserror
 tk_metric: tk_text
 distances: tk_text tk_metric
 LIST
