@@ -27,6 +27,8 @@ pub fn fine_between(kind: PlaneKind, p: Point, q: Point) -> u64
 }
 
 /// The square of the distance in the plane.
+///
+/// One difference is turned round: of two alike LLVM makes a vector, only to take it apart for the products.
 #[inline]
 fn square_between(p: Point, q: Point) -> u128
     requires p_near { IsNearOrigin p }
@@ -34,7 +36,7 @@ fn square_between(p: Point, q: Point) -> u128
     ensures value { result ≡ square_sum (gap p.x q.x) (gap p.y q.y) }
     ensures bound { result ≤ 2 * (reach * reach) }
 {
-    squared(p.x - q.x) + squared(p.y - q.y)
+    squared(p.x - q.x) + squared(q.y - p.y)
 }
 
 /// The square of a difference.
