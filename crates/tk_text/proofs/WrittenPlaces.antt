@@ -67,7 +67,7 @@ line_values : (f : Format) (n : ℕ) (table : ℕ → ℕ → ℕ) (k : ℕ) →
 line_values f n table k h =
     ap (λ ms. map (λ p. table p.0 p.1) (map (Written.place f (suc k)) ms)) (on_line-items f n k h) ∙ values-from f table k (first_item f k) (end_item f n k - first_item f k)
 
--- lines from line 1 on are those of the rows from row 0 on
+-- the lines are those of the rows, from the first of both on
 lines-from : (n : ℕ) (table : ℕ → ℕ → ℕ) (f : Format) (s c : ℕ) → s + c ≤ n
     → flat_map (matrix_line n table f) (range_with_len (suc s) c) ≡ flat_map number_line (map (row_values n table f) (range_with_len s c))
 lines-from n table f s zero h = refl

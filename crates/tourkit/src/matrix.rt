@@ -5,8 +5,9 @@ ghost use Rattle.tk_metric.specs.Tables.{table_size, table_distance};
 ghost use Rattle.tk_text.specs.Parts.{problem_is};
 ghost use Rattle.tk_text.specs.Problem.{problem_decided};
 ghost use Rattle.tk_text.specs.Puts.{Stops, Writes};
+ghost use Rattle.tk_text.specs.ReadBack.{IsName};
 ghost use Rattle.tourkit.specs.Engine.{IsRead, IsRefused, IsTextStopped, IsTextTold, IsUntouched, Took, UnlessWrite, AtWrite};
-ghost use Rattle.tourkit.specs.MatrixOf.{IsMatrixText, matrix_of};
+ghost use Rattle.tourkit.specs.MatrixOf.{by_distances, IsMatrixText, IsReadAs, matrix_of};
 
 use crate::fault::Fault;
 use std::alloc::Global;
@@ -20,6 +21,7 @@ const MATRIX_LIMIT: u32 = 5_000;
 fn write_problem<W: Sink>(out: &mut W, problem: &Problem, format: Format) -> Result<(), WriteFault>
     requires few { problem.now.n ≤ 5000 }
     ensures text { Writes W.taken W.broken out.old out.new result (matrix_of (problem_is problem.now) format) }
+    ensures read_back { IsName problem.now.name.items → IsReadAs (matrix_of (problem_is problem.now) format) (by_distances (problem_is problem.now)) }
     ensures failed { OnErr result (W.broken out.new ≡ true) }
 {
     let table = Table::of(problem);
