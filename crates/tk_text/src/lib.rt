@@ -10,6 +10,8 @@ mod depot;
 mod drip;
 mod drive;
 mod entries;
+#[cfg(test)]
+mod examples;
 mod explicit_weights;
 #[cfg(test)]
 mod fake_sink;

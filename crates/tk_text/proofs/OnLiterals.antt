@@ -1,0 +1,14 @@
+-- What an answer unfolds to compute the definitions at an example.
+use Rattle.std.specs.Prelude.{⊤}
+use Rattle.std.specs.Fmt.{digits}
+use Rattle.tk_text.specs.Lex.{lines, tokens_of}
+use Rattle.tk_text.specs.Drive.{answer_of}
+use Rattle.tk_text.specs.Words.{keyword_of, section_word, rest_word}
+use Rattle.tk_text.specs.Pieces.{cut, judge, decided_by}
+use Rattle.tk_text.specs.Tour.{list_extent, entries, entry_stop, entries_stop}
+use Rattle.tk_text.specs.Rows.{place_rows, demand_rows}
+use Rattle.tk_text.specs.FixedSections.{tokens_stop}
+
+unfoldable pub on_literals : ⊤
+unfolding digits lines tokens_of keyword_of section_word rest_word cut judge decided_by answer_of list_extent entries entry_stop entries_stop place_rows demand_rows tokens_stop
+on_literals = tt

@@ -1,0 +1,155 @@
+-- Examples of tour texts: what they list, what is wrong with them and on which line, and what their beginnings decide.
+use Rattle.std.specs.Prelude.{ℕ, true, false, List, [], ◌∷◌, ◌++◌, Option, Some, None, Result, Ok, Err, codes, replicate}
+use Rattle.tk_text.specs.declared.keyword.Keyword.TheVariants as words
+use Rattle.tk_text.specs.declared.fault.TextKind.{TextKind}
+use Rattle.tk_text.specs.declared.fault.TextKind.TheVariants as kinds
+use Rattle.tk_text.specs.declared.fault.TextFault.{TextFault}
+use Rattle.tk_text.specs.Drive.{answer_of}
+use Rattle.tk_text.specs.Tour.{tour_decided}
+
+abbrev pub TourAnswer : Type 0
+TourAnswer = Option (Result (List ℕ) TextFault)
+
+-- what a text says
+abbrev pub tour_of : List ℕ → TourAnswer
+tour_of text = tour_decided true text
+
+-- what all texts say that begin so
+abbrev pub tour_begun : List ℕ → TourAnswer
+tour_begun text = tour_decided false text
+
+-- these cities; a fault on this line; or nothing, since more bytes decide
+abbrev pub lists : List ℕ → TourAnswer
+lists cities = Some (Ok cities)
+
+abbrev pub fault : ℕ → TextKind → TourAnswer
+fault line kind = Some (Err (record { line = line; kind = kind }))
+
+abbrev pub undecided : TourAnswer
+undecided = None
+
+-- what a text says of which at most so many bytes are read
+abbrev pub tour_within : ℕ × List ℕ → TourAnswer
+tour_within (limit, text) = Some (answer_of tour_decided limit text)
+
+-- a text whose numbers begin on line 3
+abbrev pub tour : List ℕ → List ℕ
+tour numbers = codes "TYPE : TOUR\nTOUR_SECTION\n" ++ numbers
+
+abbrev pub tours : List (List ℕ × TourAnswer)
+tours =
+    (codes "NAME : p.40.tour\nCOMMENT : Length = 40\nTYPE : TOUR\nDIMENSION : 4\nTOUR_SECTION\n1\n3\n2\n4\n-1\nEOF\n", lists (1 ∷ 3 ∷ 2 ∷ 4 ∷ []))
+    -- one -1 more, on any line; the end of the text or EOF in place of -1
+    ∷ (tour (codes "1 2 3 4\n-1\n-1\n"), lists (1 ∷ 2 ∷ 3 ∷ 4 ∷ []))
+    ∷ (tour (codes "1 2 -1 -1\nEOF"), lists (1 ∷ 2 ∷ []))
+    ∷ (tour (codes "1 2\n-1\n\n -001"), lists (1 ∷ 2 ∷ []))
+    ∷ (tour (codes "3 1 2"), lists (3 ∷ 1 ∷ 2 ∷ []))
+    ∷ (tour (codes "3 1\n2\n"), lists (3 ∷ 1 ∷ 2 ∷ []))
+    ∷ (tour (codes "3 1 2 EOF\njunk"), lists (3 ∷ 1 ∷ 2 ∷ []))
+    ∷ (tour (codes "3 1 2\neof: junk"), lists (3 ∷ 1 ∷ 2 ∷ []))
+    ∷ (tour (codes "-1"), lists [])
+    ∷ (tour (codes ""), lists [])
+    -- nothing behind EOF counts
+    ∷ (tour (codes "2 1 -1\nEOF x\n%"), lists (2 ∷ 1 ∷ []))
+    -- small letters, tabs and CR, no colon, blank lines, numbers on the word's own line
+    ∷ (codes "\r\n\ttype:tour (best)\r\n dimension 2 cities\r\n\r\nTour_Section : +2 01\r\n-1\r\neof\r\n", lists (2 ∷ 1 ∷ []))
+    ∷ (codes "COMMENT\nCOMMENT : x\nTOUR_SECTION\n1 -1\nTYPE : TOUR\n", lists (1 ∷ []))
+    -- whether it is a tour does not matter here
+    ∷ (tour (codes "0 4294967295 7 7 -1"), lists (0 ∷ 4294967295 ∷ 7 ∷ 7 ∷ []))
+    ∷ []
+
+abbrev pub tour_faults : List (List ℕ × TourAnswer)
+tour_faults =
+    (codes "TYPE : TOUR\nCOST : 5\n", fault 2 kinds.UnknownKeyword)
+    ∷ (codes "TYPE : TOUR\nTOUR SECTION\n", fault 2 kinds.UnknownKeyword)
+    ∷ (codes "TYPE : TOUR\n\ntype : TSP\n", fault 3 kinds.Repeated)
+    ∷ (codes "NAME : a\nNAME : b\n", fault 2 kinds.Repeated)
+    ∷ (codes "DIMENSION : 3\nDIMENSION : x\n", fault 2 kinds.Repeated)
+    ∷ (tour (codes "1 -1\nTOUR_SECTION\nx\n"), fault 4 kinds.Repeated)
+    ∷ (codes "", fault 1 (kinds.Missing words.Type))
+    ∷ (codes "NAME : a\n", fault 2 (kinds.Missing words.Type))
+    ∷ (codes "TOUR_SECTION\n1 2\n\n EOF", fault 4 (kinds.Missing words.Type))
+    ∷ (codes "TYPE : TOUR", fault 1 (kinds.Missing words.TourSection))
+    ∷ (codes "TYPE : TOUR\nEOF\n", fault 2 (kinds.Missing words.TourSection))
+    ∷ (codes "TYPE : TSP\n", fault 1 kinds.Unsupported)
+    ∷ (codes "TYPE :\n", fault 1 kinds.Unsupported)
+    ∷ (codes "CAPACITY : 5\n", fault 1 kinds.Unsupported)
+    ∷ (codes "VEHICLES : 5\n", fault 1 kinds.Unsupported)
+    ∷ (codes "TYPE : TOUR\nDEPOT_SECTION\n1\n", fault 2 kinds.Unsupported)
+    ∷ (codes "FIXED_EDGES_SECTION\n", fault 1 kinds.Unsupported)
+    ∷ (codes "DIMENSION : 3x\n", fault 1 kinds.BadNumber)
+    ∷ (codes "DIMENSION :\n", fault 1 kinds.BadNumber)
+    ∷ (tour (codes "1 2\n3, 4"), fault 4 kinds.BadNumber)
+    ∷ (tour (codes "1 EOF-x"), fault 3 kinds.BadNumber)
+    ∷ (codes "DIMENSION : 0\n", fault 1 kinds.OutOfLimit)
+    ∷ (codes "DIMENSION : 1000001\n", fault 1 kinds.OutOfLimit)
+    ∷ (tour (codes "1\n-2"), fault 4 kinds.OutOfLimit)
+    ∷ (tour (codes "4294967296"), fault 3 kinds.OutOfLimit)
+    ∷ (tour (codes "1 2\nName: 3"), fault 4 kinds.Truncated)
+    ∷ (tour (codes "1 2 EDGE_DATA_SECTION"), fault 3 kinds.Truncated)
+    ∷ (codes "TYPE : TOUR\n5\n", fault 2 kinds.TrailingData)
+    ∷ (tour (codes "1 -1 x\n"), fault 3 kinds.TrailingData)
+    ∷ (tour (codes "1 -1 EOF\n"), fault 3 kinds.TrailingData)
+    ∷ (tour (codes "1 -1 -1 -1\n"), fault 3 kinds.TrailingData)
+    ∷ (tour (codes "1 2 -1\n3\n"), fault 4 kinds.TrailingData)
+    ∷ (tour (codes "1 2 -1\n-1\n-1\n"), fault 5 kinds.TrailingData)
+    ∷ (tour (replicate 65 48), fault 3 kinds.TooLong)
+    ∷ (replicate 65 65 ++ codes "\n", fault 1 kinds.TooLong)
+    ∷ (codes "NAME : " ++ replicate 1025 120, fault 1 kinds.TooLong)
+    ∷ []
+
+abbrev pub tour_beginnings : List (List ℕ × TourAnswer)
+tour_beginnings =
+    (codes "", undecided)
+    ∷ (codes "\n ", undecided)
+    ∷ (codes "%", fault 1 kinds.TrailingData)
+    -- a word may go on
+    ∷ (codes "FOO", undecided)
+    ∷ (codes "FOO ", fault 1 kinds.UnknownKeyword)
+    ∷ (replicate 65 65, fault 1 kinds.TooLong)
+    -- a header's value may go on
+    ∷ (codes "TYPE : ATSP", undecided)
+    ∷ (codes "TYPE : ATSP ", undecided)
+    ∷ (codes "TYPE : ATSP\n", fault 1 kinds.Unsupported)
+    ∷ (codes "TYPE : TOUR\nEO", undecided)
+    ∷ (codes "TYPE : TOUR\nEOF", undecided)
+    ∷ (codes "TYPE : TOUR\nEOF ", fault 2 (kinds.Missing words.TourSection))
+    -- a section word counts once it ends, a number too
+    ∷ (codes "DEPOT_SECTION:", fault 1 kinds.Unsupported)
+    ∷ (tour (codes "1 2x"), undecided)
+    ∷ (tour (codes "1 2x "), fault 3 kinds.BadNumber)
+    ∷ (tour (replicate 65 48), fault 3 kinds.TooLong)
+    -- behind -1 may stand one -1 more
+    ∷ (tour (codes "1 2 -1"), undecided)
+    ∷ (tour (codes "1 2 -1\n"), undecided)
+    ∷ (tour (codes "1 2 -1\n-"), undecided)
+    ∷ (tour (codes "1 2 -1\n-1"), undecided)
+    ∷ (tour (codes "1 2 -1\nEOF"), undecided)
+    ∷ (tour (codes "1 2 -1\nEOF\n"), lists (1 ∷ 2 ∷ []))
+    ∷ (tour (codes "1 2 -1 x"), fault 3 kinds.TrailingData)
+    ∷ (tour (codes "1 2 -1 -1\n3"), fault 4 kinds.TrailingData)
+    ∷ (tour (codes "1 2 EOF "), lists (1 ∷ 2 ∷ []))
+    ∷ []
+
+-- numbers begin behind 25 bytes. Of a text that is too long only what its bytes up to the first too many show counts
+abbrev pub tours_within : List ((ℕ × List ℕ) × TourAnswer)
+tours_within =
+    ((31, tour (codes "2 1 -1")), lists (2 ∷ 1 ∷ []))
+    ∷ ((30, tour (codes "2 1 -1")), fault 3 kinds.TooLong)
+    -- the line is that of the first byte too many
+    ∷ ((12, tour (codes "2 1 -1")), fault 2 kinds.TooLong)
+    ∷ ((11, tour (codes "2 1 -1")), fault 1 kinds.TooLong)
+    ∷ ((0, tour (codes "2 1 -1")), fault 1 kinds.TooLong)
+    -- what stands behind EOF is not read
+    ∷ ((32, tour (codes "2 1 EOF junk")), lists (2 ∷ 1 ∷ []))
+    ∷ ((31, tour (codes "2 1 EOF junk")), fault 3 kinds.TooLong)
+    -- a fault that the bytes show
+    ∷ ((28, tour (codes "2 x -1")), fault 3 kinds.BadNumber)
+    ∷ ((27, tour (codes "2 x -1")), fault 3 kinds.TooLong)
+    ∷ ((11, codes "TYPE : ATSP\n%"), fault 1 kinds.Unsupported)
+    ∷ ((10, codes "TYPE : ATSP\n%"), fault 1 kinds.TooLong)
+    ∷ ((3, codes "FOO BAR"), fault 1 kinds.UnknownKeyword)
+    ∷ ((2, codes "FOO BAR"), fault 1 kinds.TooLong)
+    ∷ ((0, codes "%"), fault 1 kinds.TrailingData)
+    ∷ ((30, tour (codes "1 -1 x")), fault 3 kinds.TrailingData)
+    ∷ []
