@@ -96,3 +96,12 @@ nearest_along x d is = record {
   holds = λ some. root_reaches x (2 * d - 1) ((2 * d - 1) * 1000000000) refl (is.holds some);
   greatest = λ e one h. is.greatest e one (reaches_root x (2 * e - 1) h);
 }
+
+-- ---- lengths in units of 10^-9
+
+-- twice a length lies between the odd numbers beside twice a number
+pub nearest_length : (length d : ℕ) → (2 * d - 1) * 1000000000 ≤ 2 * length → 2 * length < (2 * d + 1) * 1000000000 → IsGreatest (Reaches length) d
+nearest_length length d low high = record {
+  holds = λ some. low;
+  greatest = λ e one r. omega arith;
+}

@@ -1,5 +1,6 @@
 pub mod Cities
 pub mod Distance
+pub mod DistanceExamples
 pub mod DistanceLaws
 pub mod Keeping
 pub mod Near

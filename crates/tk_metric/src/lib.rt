@@ -1,6 +1,8 @@
 //! Distances and near lists.
 #![tactic(auto)]
 
+#[cfg(test)]
+mod examples;
 mod fine;
 mod guess;
 mod keep;

@@ -163,8 +163,18 @@ length_faults =
     ∷ (plane (replicate 65 48), fault 5 kinds.TooLong)
     ∷ []
 
--- explicit weights and routes are for at most 5,000 nodes
-abbrev pub size_faults : List (List ℕ × ProblemAnswer)
-size_faults =
-    (codes "TYPE : TSP\nDIMENSION : 5001\nEDGE_WEIGHT_TYPE : EXPLICIT\nEDGE_WEIGHT_FORMAT : UPPER_ROW\nEDGE_WEIGHT_SECTION\n", fault 5 kinds.OutOfLimit)
+-- numbers at their limits are no fault, so that another is told; explicit weights and routes are for at most 5,000 nodes
+abbrev pub at_limits : List (List ℕ × ProblemAnswer)
+at_limits =
+    (codes "DIMENSION : 2\n", fault 2 (kinds.Missing words.Type))
+    ∷ (codes "DIMENSION : 100000\n", fault 2 (kinds.Missing words.Type))
+    ∷ (codes "CAPACITY : 1\n", fault 2 (kinds.Missing words.Type))
+    ∷ (codes "CAPACITY : 2000000000\n", fault 2 (kinds.Missing words.Type))
+    ∷ (full_matrix (codes "999999999999999999 4000000000 0\n4000000000 x"), fault 7 kinds.BadNumber)
+    ∷ (plane (codes "2 1000000000 -1e9\n1 x"), fault 6 kinds.BadNumber)
+    ∷ (routing (codes "DEMAND_SECTION\n1 2000000000\n2 x"), fault 10 kinds.BadNumber)
+    ∷ (routing (codes "DEMAND_SECTION\n1 0\n2 6\nDEPOT_SECTION\n1"), fault 12 (kinds.DemandOverCapacity 2))
+    ∷ (codes "TYPE : CVRP\nDIMENSION : 5000\nDEMAND_SECTION\n", fault 4 kinds.Truncated)
+    ∷ (codes "TYPE : CVRP\nDIMENSION : 5001\nDEMAND_SECTION\n", fault 3 kinds.OutOfLimit)
+    ∷ (codes "TYPE : TSP\nDIMENSION : 5001\nEDGE_WEIGHT_TYPE : EXPLICIT\nEDGE_WEIGHT_FORMAT : UPPER_ROW\nEDGE_WEIGHT_SECTION\n", fault 5 kinds.OutOfLimit)
     ∷ []

@@ -5,7 +5,8 @@ use Rattle.tk_text.specs.declared.fault.TextKind.{TextKind}
 use Rattle.tk_text.specs.declared.fault.TextKind.TheVariants as kinds
 use Rattle.tk_text.specs.declared.fault.TextFault.{TextFault}
 use Rattle.tk_text.specs.Drive.{answer_of}
-use Rattle.tk_text.specs.Tour.{tour_decided}
+use Rattle.tk_text.specs.Pieces.{Stop, Fault}
+use Rattle.tk_text.specs.Tour.{entry_stop, tour_decided}
 
 abbrev pub TourAnswer : Type 0
 TourAnswer = Option (Result (List ℕ) TextFault)
@@ -82,6 +83,7 @@ tour_faults =
     ∷ (tour (codes "1 2\n3, 4"), fault 4 kinds.BadNumber)
     ∷ (tour (codes "1 EOF-x"), fault 3 kinds.BadNumber)
     ∷ (codes "DIMENSION : 0\n", fault 1 kinds.OutOfLimit)
+    ∷ (codes "DIMENSION : 1000000\n", fault 2 (kinds.Missing words.Type))
     ∷ (codes "DIMENSION : 1000001\n", fault 1 kinds.OutOfLimit)
     ∷ (tour (codes "1\n-2"), fault 4 kinds.OutOfLimit)
     ∷ (tour (codes "4294967296"), fault 3 kinds.OutOfLimit)
@@ -152,4 +154,16 @@ tours_within =
     ∷ ((2, codes "FOO BAR"), fault 1 kinds.TooLong)
     ∷ ((0, codes "%"), fault 1 kinds.TrailingData)
     ∷ ((30, tour (codes "1 -1 x")), fault 3 kinds.TrailingData)
+    ∷ []
+
+-- a number behind so many others, of which there may be 1,000,000
+abbrev pub entry_after : ℕ × List ℕ → Option Stop
+entry_after (count, bytes) = entry_stop count (record { bytes = bytes; line = 7; whole = true })
+
+abbrev pub entries_after : List ((ℕ × List ℕ) × Option Stop)
+entries_after =
+    ((0, codes "5"), None)
+    ∷ ((999999, codes "5"), None)
+    ∷ ((1000000, codes "5"), Some (Fault 7 kinds.OutOfLimit))
+    ∷ ((1000000, codes "x"), Some (Fault 7 kinds.BadNumber))
     ∷ []

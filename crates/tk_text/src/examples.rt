@@ -49,6 +49,7 @@ fn tours()
     ensures refused { HasTable Tours.tour_of Tours.tour_faults }
     ensures begun { HasTable Tours.tour_begun Tours.tour_beginnings }
     ensures within { HasTable Tours.tour_within Tours.tours_within }
+    ensures entries { HasTable Tours.entry_after Tours.entries_after }
 {}
 
 fn problems()
@@ -66,7 +67,7 @@ fn problem_faults()
 
 fn lengths()
     ensures lengths { HasTable Problems.problem_of Faults.length_faults }
-    ensures sizes { HasTable Problems.problem_of Faults.size_faults }
+    ensures at_limits { HasTable Problems.problem_of Faults.at_limits }
 {}
 
 #[test]

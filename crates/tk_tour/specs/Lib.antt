@@ -7,4 +7,5 @@ pub mod Moves
 pub mod Printed
 pub mod Reversal
 pub mod Tour
+pub mod TourExamples
 pub mod Verdict

@@ -2,6 +2,8 @@
 #![tactic(auto)]
 
 mod array;
+#[cfg(test)]
+mod examples;
 mod fault;
 mod journal;
 pub mod laws;

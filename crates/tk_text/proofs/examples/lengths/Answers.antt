@@ -6,6 +6,6 @@ pub returns-clause-lengths : goal.returns-clause-lengths
 unfolding on_literals
 returns-clause-lengths c = refl
 
-pub returns-clause-sizes : goal.returns-clause-sizes
+pub returns-clause-at_limits : goal.returns-clause-at_limits
 unfolding on_literals
-returns-clause-sizes c = refl
+returns-clause-at_limits c = refl

@@ -17,3 +17,7 @@ returns-clause-begun c = refl
 pub returns-clause-within : goal.returns-clause-within
 unfolding on_literals
 returns-clause-within c = refl
+
+pub returns-clause-entries : goal.returns-clause-entries
+unfolding on_literals
+returns-clause-entries c = refl
