@@ -104,6 +104,8 @@ problem_beginnings =
     ∷ (codes "NAME : p\nTYPE : ATSP\n", fault 2 kinds.Unsupported)
     ∷ (codes "NODE_COORD_SECTION", undecided)
     ∷ (codes "NODE_COORD_SECTION:", fault 1 (kinds.Missing words.Type))
+    ∷ (plane (codes ""), undecided)
+    ∷ (plane (codes "1 0 0\n"), undecided)
     -- a number may go on
     ∷ (plane (codes "1 0 0\n1"), undecided)
     ∷ (plane (codes "1 0 0\n1 "), fault 6 kinds.BadNode)

@@ -83,6 +83,7 @@ tour_faults =
     ∷ (tour (codes "1 2\n3, 4"), fault 4 kinds.BadNumber)
     ∷ (tour (codes "1 EOF-x"), fault 3 kinds.BadNumber)
     ∷ (codes "DIMENSION : 0\n", fault 1 kinds.OutOfLimit)
+    ∷ (codes "DIMENSION : 1\n", fault 2 (kinds.Missing words.Type))
     ∷ (codes "DIMENSION : 1000000\n", fault 2 (kinds.Missing words.Type))
     ∷ (codes "DIMENSION : 1000001\n", fault 1 kinds.OutOfLimit)
     ∷ (tour (codes "1\n-2"), fault 4 kinds.OutOfLimit)
