@@ -29,7 +29,7 @@ use Rattle.tk_text.specs.Problem as value
 
 -- ---- one by one
 
-some_of : {A : Type 0} (o : Option A) → is_some o ≡ true → (a : A) × (o ≡ Some a)
+pub some_of : {A : Type 0} (o : Option A) → is_some o ≡ true → (a : A) × (o ≡ Some a)
 some_of None h = absurd cc
 some_of (Some a) h = (a, refl)
 

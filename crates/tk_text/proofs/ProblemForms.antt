@@ -18,8 +18,10 @@ use Rattle.tk_text.specs.Coordinates.{Placing, HasPlaces}
 use Rattle.tk_text.specs.Demands.{Loading, HasDemands}
 use Rattle.tk_text.specs.DepotTaken.{IsDepot}
 use Rattle.tk_text.specs.OpenSections.{IsOpen, IsPast, IsFirst}
+use Rattle.tk_text.proofs.DepotTaken.{node_of}
 use Rattle.tk_text.proofs.FixedSections as Fixed
 use Rattle.tk_text.proofs.DepotList as Home
+use Rattle.tk_text.proofs.PartsWhole.{some_of}
 
 -- ---- behind a section
 
@@ -74,16 +76,12 @@ early_stop before word n toks (Home s) line is none = by_node s.node refl
         rw is.0 (Home.ends_early is.1 (ap is_empty no_token) line)
 
 module _ (before : List Piece) (word : Keyword) (n : ℕ) (toks : List Token) (s : Depot) (line : ℕ) (is : IsOpen before word n toks (Home s)) (some : is_some s.node ≡ true) where
-  one_token : (d : Option ℕ) → is_some d ≡ true → IsDepot (size_of before) d toks → is_empty toks ≡ false
-  one_token None none h = absurd cc
-  one_token (Some x) none h = rw h.1 refl
-
-  first_token : (d : Option ℕ) → is_some d ≡ true → IsDepot (size_of before) d toks → IsFirst (size_of before) (slice_index (map number_in toks) 0) d
-  first_token None none h = absurd cc
-  first_token (Some x) none h = rw h.1 (sym h.2, h.3, h.4)
-
   pub home_past : IsPast before word n (Home s) (before ++ a_section word n toks (Early line true)) × (problem_format.section before word n toks (Early line true) ≡ None)
-  home_past = (record { toks = toks; after = Early line true; are = refl; full = (is.0, first_token s.node some is.2.node) }, rw is.0 (Home.ends_behind is.1 (one_token s.node some is.2.node) line))
+  home_past =
+      let node = some_of s.node some in
+      let first = node_of (size_of before) s toks is.2 node.0 node.1 in
+      let is_first = subst (IsFirst (size_of before) (slice_index (map number_in toks) 0)) (sym node.1) (first.1, first.2, first.3) in
+      (record { toks = toks; after = Early line true; are = refl; full = (is.0, is_first) }, rw is.0 (Home.ends_behind is.1 first.0 line))
 
 -- ---- what a token does
 
