@@ -68,7 +68,7 @@ pub use entries::{Entry, entry_of, keyword_in, minus_one};
 pub use fault::{TextFault, TextKind};
 pub use integers::integer;
 pub use keyword::{Keyword, Role};
-pub use limits::TEXT_LIMIT;
+pub use limits::{TABLE_LIMIT, TEXT_LIMIT};
 pub use lower_weights::LowerWeights;
 pub use matrix::write_matrix;
 pub use page::Page;

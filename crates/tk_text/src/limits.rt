@@ -12,7 +12,7 @@ pub const TOUR_LIMIT: usize = 1_000_000;
 /// The cities of a problem.
 pub const SIZE_LIMIT: u32 = 100_000;
 
-/// The nodes of a problem with explicit weights, or with demands.
+/// The nodes of a problem with explicit weights or with demands, or whose matrix is written.
 pub const TABLE_LIMIT: u32 = 5_000;
 
 /// An explicit weight.

@@ -12,10 +12,7 @@ ghost use Rattle.tourkit.specs.MatrixOf.{by_distances, IsMatrixText, IsReadAs, m
 use crate::fault::Fault;
 use std::alloc::Global;
 use tk_metric::{Metric, Table};
-use tk_text::{Format, Problem, Sink, Source, WriteFault, read_problem, write_matrix};
-
-/// The most nodes of a problem whose matrix is written.
-const MATRIX_LIMIT: u32 = 5_000;
+use tk_text::{Format, Problem, Sink, Source, TABLE_LIMIT, WriteFault, read_problem, write_matrix};
 
 /// Writes the matrix of a problem.
 fn write_problem<W: Sink>(out: &mut W, problem: &Problem, format: Format) -> Result<(), WriteFault>
@@ -55,7 +52,7 @@ pub fn matrix_engine<R: Source, W: Sink>(
         Ok(problem) => problem,
         Err(fault) => return Err(Fault::Problem(fault)),
     };
-    if problem.n > MATRIX_LIMIT {
+    if problem.n > TABLE_LIMIT {
         return Err(Fault::TooLarge);
     }
     match write_problem(out, &problem, format) {

@@ -10,6 +10,6 @@ returns-clause-err g c =
       problem = problem;
       is_problem = record { answer = c.in-Ok.ensures.ok; intact = c.in-Ok.ensures.intact };
       text = matrix_of problem c.args.format;
-      is_text = record { few = c.if-problem-gt-MATRIX_LIMIT.false; is = refl; read_back = c.in-Err-write_problem.ensures.read_back c.in-Ok.ensures.named };
+      is_text = record { few = c.if-problem-gt-TABLE_LIMIT.false; is = refl; read_back = c.in-Err-write_problem.ensures.read_back c.in-Ok.ensures.named };
       told = c.in-Err-write_problem.ensures.text;
     }
