@@ -13,7 +13,8 @@ use Rattle.tk_text.specs.Places.{origin, place_of_whole}
 use Rattle.tk_text.specs.PlacesOf.{places_of}
 use Rattle.tk_metric.specs.Cities.{IsCity}
 use Rattle.tk_metric.specs.Distance.{IsDistanceOf, IsGreatest, RootReaches, gap, square_sum}
-use Rattle.tk_metric.specs.PlaneLaws.{distance_of-unique, whole_places}
+use Rattle.tk_metric.specs.DistanceLaws.{distance_at-is}
+use Rattle.tk_metric.specs.PlaneLaws.{distance_of-unique, gap-scaled, whole_places}
 use Rattle.tk_metric.specs.PlaneOf.{city_place, city_distance, IsCityDistance}
 
 city_place-whole : (places : Places) (ws : Bor (List WholePoint)) (c : ℕ) (p : WholePoint) → places ≡ Whole ws
@@ -37,6 +38,15 @@ pub whole_cities : (kind : PlaneKind) (places : Places) (ws : Bor (List WholePoi
     → IsCityDistance kind (places_of places) a b d
 whole_cities kind places ws a b p q d is in_a in_b at_a at_b =
     moved kind _ _ _ _ d (city_place-whole places ws a p is in_a at_a) (city_place-whole places ws b q is in_b at_b)
+
+-- the distance of two cities, of the places that they have in a list of whole ones
+pub whole_city_distance : (kind : PlaneKind) (places : Places) (ws : Bor (List WholePoint)) (a b : ℕ) (p q : WholePoint)
+    → places ≡ Whole ws → IsCity (length (places_of places)) a → IsCity (length (places_of places)) b
+    → p ≡ get_or ws.now (a - 1) p → q ≡ get_or ws.now (b - 1) q
+    → IsDistanceOf kind (place_of_whole p) (place_of_whole q) (city_distance kind (places_of places) a b)
+whole_city_distance kind places ws a b p q is in_a in_b at_a at_b =
+    moved kind _ _ _ _ _ (sym (city_place-whole places ws a p is in_a at_a)) (sym (city_place-whole places ws b q is in_b at_b))
+    (distance_at-is kind (gap (city_place (places_of places) a).x (city_place (places_of places) b).x) (gap (city_place (places_of places) a).y (city_place (places_of places) b).y))
 
 pub fine_cities : (kind : PlaneKind) (places : Places) (ps : Bor (List Point)) (a b d : ℕ) → places ≡ Fine ps
     → IsCityDistance kind ps.now a b d
@@ -67,3 +77,16 @@ whole_euclid kind p q square d euclid is nearest =
     let there : IsDistanceOf Euc2d (place_of_whole p) (place_of_whole q) d =
     whole_places Euc2d p q (gap p.x q.x) (gap p.y q.y) d refl refl (subst (λ (s : ℕ). IsGreatest (RootReaches s) d) scaled nearest) in
     subst (λ (k : PlaneKind). IsDistanceOf k (place_of_whole p) (place_of_whole q) d) (sym euclid) there
+
+-- the distance of EUC_2D is the rounded root of the square of whole differences
+pub euclid_root : (kind : PlaneKind) (p q : WholePoint) (square d : ℕ) → kind ≡ Euc2d → square ≡ square_sum (gap p.x q.x) (gap p.y q.y)
+    → IsDistanceOf kind (place_of_whole p) (place_of_whole q) d → IsGreatest (RootReaches (square * (1000000000 * 1000000000))) d
+euclid_root kind p q square d euclid is distance =
+    let there : IsDistanceOf Euc2d (place_of_whole p) (place_of_whole q) d =
+    subst (λ (k : PlaneKind). IsDistanceOf k (place_of_whole p) (place_of_whole q) d) euclid distance in
+    let same : square_sum (gap (place_of_whole p).x (place_of_whole q).x) (gap (place_of_whole p).y (place_of_whole q).y) ≡ square * (1000000000 * 1000000000) =
+    ap (λ g. square_sum g (gap (place_of_whole p).y (place_of_whole q).y)) (gap-scaled p.x q.x)
+    ∙ ap (λ g. square_sum (gap p.x q.x * 1000000000) g) (gap-scaled p.y q.y)
+    ∙ sym (square-scaled (gap p.x q.x) (gap p.y q.y))
+    ∙ ap (λ s. s * (1000000000 * 1000000000)) (sym is) in
+    subst (λ (s : ℕ). IsGreatest (RootReaches s) d) same there

@@ -1,6 +1,7 @@
 -- A number is the rounded root of a square where it lies between its two neighbours.
-use Rattle.std.proofs.Common.{◌≡◌, ℕ, ◌+◌, ◌-◌, ◌*◌, ◌<◌, ◌≤◌, ◌/◌, subst, refl, inl, inr, arith}
+use Rattle.std.proofs.Common.{◌≡◌, ℕ, ◌+◌, ◌-◌, ◌*◌, ◌<◌, ◌≤◌, ◌/◌, ◌↔◌, ◌&&◌, nat_lt, nat_le, IsTrue, subst, refl, inl, inr, arith}
 use Rattle.std.proofs.lemmas.Bool.{cases_lt}
+use Rattle.std.proofs.lemmas.Bool.Decides.{nat_tests}
 use Rattle.std.proofs.lemmas.Nat.{mul-le}
 use Rattle.tk_metric.specs.Distance.{IsGreatest, RootReaches, Reaches, square_sum}
 
@@ -74,6 +75,35 @@ nearest_whole n d high low = record {
     | inr le ↦ le
   ];
 }
+
+-- the rounded root is below a number from 1 on just where the square is below that of the number less 1/2
+pub root_below : (n d t : ℕ) → 1 ≤ t → IsGreatest (RootReaches (n * (1000000000 * 1000000000))) d → ((n + t ≤ t * t) ↔ (d < t))
+root_below n d t some is = (below, within)
+  where
+    below : n + t ≤ t * t → d < t
+    below low = elim (cases_lt d t) [
+      | inl lt ↦ lt
+      | inr le ↦ absurd (too_great_whole n (t - 1) (d - t) (2 * d - 1) (under (t - 1) (omega arith) low) (omega arith) (is.holds (omega arith)))
+    ]
+      where
+        under : (k : ℕ) → t ≡ k + 1 → n + t ≤ t * t → n ≤ k * k + k
+        under k is low = let P : ℕ → Type 0 = λ x. n + x ≤ x * x in let s : P (k + 1) = subst P is low in omega (arith, s)
+
+    within : d < t → n + t ≤ t * t
+    within lt = elim (cases_lt (t * t) (n + t)) [
+      | inl more ↦ absurd (omega (arith, lt, is.greatest t some (reaches (t - 1) (omega arith) more)))
+      | inr le ↦ le
+    ]
+      where
+        reaches : (k : ℕ) → t ≡ k + 1 → t * t < n + t → RootReaches (n * (1000000000 * 1000000000)) t
+        reaches k is more = let P : ℕ → Type 0 = λ x. x * x < n + x in reaches_whole n k (2 * t - 1) (subst P is more) (omega (arith, is))
+
+-- the same as a test
+pub root_test : (n d t : ℕ) → IsGreatest (RootReaches (n * (1000000000 * 1000000000))) d → (IsTrue (nat_lt 0 t && nat_le (n + t) (t * t)) ↔ (d < t))
+root_test n d t is = by_test n d t (λ some. root_below n d t some is)
+  where
+    by_test : (n d t : ℕ) → (1 ≤ t → ((n + t ≤ t * t) ↔ (d < t))) → (IsTrue (nat_lt 0 t && nat_le (n + t) (t * t)) ↔ (d < t))
+    by_test n d t h = (λ yes. grind (arith, nat_tests, yes, h), λ lt. grind (arith, nat_tests, h, lt))
 
 -- ---- along an axis
 

@@ -13,6 +13,7 @@ mod near;
 mod near_tests;
 mod planes;
 mod roots;
+mod short;
 mod sub;
 mod sweep;
 mod table;

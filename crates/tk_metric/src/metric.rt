@@ -1,5 +1,5 @@
 //! What a distance is.
-ghost use Rattle.std.specs.Prelude.{◌≡◌, ℕ, ℤ, ◌≤◌, pos, ◌-ℤ◌};
+ghost use Rattle.std.specs.Prelude.{◌≡◌, ℕ, ℤ, ◌≤◌, ◌<ℤ◌, ◌↔◌, IsTrue, pos, ◌-ℤ◌};
 ghost use Rattle.std.specs.Int.RustNames.{unsigned_abs};
 ghost use Rattle.tk_metric.specs.Cities.{IsCity};
 ghost use Rattle.tk_text.specs.declared.point.Point.{Point};
@@ -23,6 +23,16 @@ pub trait Metric {
         requires a { IsCity (size_of self.now) a }
         requires b { IsCity (size_of self.now) b }
         ensures { result ≡ pos (distance self.now a b) };
+
+    /// Whether two cities are nearer than a limit.
+    #[inline]
+    fn is_nearer(&self, a: u32, b: u32, limit: i64) -> bool
+        requires a { IsCity (size_of self.now) a }
+        requires b { IsCity (size_of self.now) b }
+        ensures { IsTrue result ↔ (pos (distance self.now a b) <ℤ limit) }
+    {
+        self.dist(a, b) < limit
+    }
 
     ghost size_limit: { (m : Self) → size_of m ≤ 100000 };
 

@@ -1,11 +1,11 @@
 //! Distances in the plane.
-ghost use Rattle.std.specs.Prelude.{◌≡◌, ◌≤◌, ◌-◌, All, length, pos};
+ghost use Rattle.std.specs.Prelude.{◌≡◌, ℕ, ◌≤◌, ◌<◌, ◌<ℤ◌, ◌↔◌, ◌-◌, All, length, pos};
 ghost use Rattle.tk_text.specs.Places.{IsNearOrigin};
 ghost use Rattle.tk_text.specs.PlacesOf.{places_of};
 
 use crate::fine::{fine_between, floor_distance};
 use crate::metric::{Metric, Planar};
-use crate::whole::whole_between;
+use crate::whole::{is_whole_nearer, whole_between};
 use tk_text::{Places, PlaneKind, Point, Points};
 
 /// The distances of a plane type among the places of a list, whose cities are numbered from 1 in its order.
@@ -68,6 +68,25 @@ impl Metric for Planes<'_> {
             Places::Fine(places) => fine_between(self.kind, places[a], places[b]) as i64,
         }
     }
+
+    #[inline]
+    fn is_nearer(&self, a: u32, b: u32, limit: i64) -> bool {
+        let (a, b) = (a as usize - 1, b as usize - 1);
+        let bound = bound_of(limit);
+        match self.places {
+            Places::Whole(places) => is_whole_nearer(self.kind, places[a], places[b], bound),
+            Places::Fine(places) => fine_between(self.kind, places[a], places[b]) < bound,
+        }
+    }
+}
+
+/// A number that is above the same distances as a limit.
+#[inline]
+fn bound_of(limit: i64) -> u64
+    ensures value { (d : ℕ) → d ≤ 4000000000 → ((d < result) ↔ (pos d <ℤ limit)) }
+    ensures bound { result ≤ 4000000001 }
+{
+    limit.max(0).min(4_000_000_001) as u64
 }
 
 impl Planar for Planes<'_> {

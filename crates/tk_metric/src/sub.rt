@@ -61,4 +61,10 @@ impl<M: Metric> Metric for Sub<'_, M> {
         self.metric
             .dist(self.cities[a as usize - 1], self.cities[b as usize - 1])
     }
+
+    #[inline]
+    fn is_nearer(&self, a: u32, b: u32, limit: i64) -> bool {
+        let (a, b) = (self.cities[a as usize - 1], self.cities[b as usize - 1]);
+        self.metric.is_nearer(a, b, limit)
+    }
 }

@@ -62,4 +62,12 @@ impl Metric for Table<'_> {
             Table::Triangle(triangle) => triangle.dist(a, b),
         }
     }
+
+    #[inline]
+    fn is_nearer(&self, a: u32, b: u32, limit: i64) -> bool {
+        match self {
+            Table::Planes(planes) => planes.is_nearer(a, b, limit),
+            Table::Triangle(triangle) => triangle.is_nearer(a, b, limit),
+        }
+    }
 }

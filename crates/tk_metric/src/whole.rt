@@ -1,10 +1,11 @@
 //! Distances of whole coordinates, in 64 bits.
-ghost use Rattle.std.specs.Prelude.{◌≡◌, ◌+◌, ◌*◌, ◌<◌, ◌≤◌};
+ghost use Rattle.std.specs.Prelude.{◌≡◌, ℕ, ◌+◌, ◌*◌, ◌<◌, ◌≤◌, ◌^◌, ◌↔◌, IsTrue, true};
 ghost use Rattle.std.specs.Int.RustNames.{unsigned_abs};
 ghost use Rattle.tk_metric.specs.Distance.{scale, IsGreatest, IsLeast, IsDistance, IsDistanceOf, RootReaches, Covers, gap, square_sum};
 ghost use Rattle.tk_text.specs.Places.{place_of_whole};
 
 use crate::guess::{near_root, rounded};
+use crate::short::{SHORT, short_root};
 use tk_text::{PlaneKind, WholePoint};
 
 /// The distance of two places of whole coordinates.
@@ -17,6 +18,28 @@ pub fn whole_between(kind: PlaneKind, p: WholePoint, q: WholePoint) -> u64
         return nearest(square_between(p, q));
     }
     rarer_between(kind, p, q)
+}
+
+/// Whether the distance of two places of whole coordinates is below a bound.
+#[inline]
+pub fn is_whole_nearer(kind: PlaneKind, p: WholePoint, q: WholePoint, bound: u64) -> bool
+    requires { bound ≤ 4000000001 }
+    ensures { (d : ℕ) → IsDistanceOf kind (place_of_whole p) (place_of_whole q) d → (IsTrue result ↔ (d < bound)) }
+{
+    if let PlaneKind::Euc2d = kind {
+        return is_root_below(square_between(p, q), bound);
+    }
+    rarer_between(kind, p, q) < bound
+}
+
+/// Whether the root of a square, rounded to the nearest, is below a bound. There is no branch in it.
+#[inline]
+fn is_root_below(square: u64, bound: u64) -> bool
+    requires square { square ≤ 8000000000000000000 }
+    requires bound { bound ≤ 4000000001 }
+    ensures { (d : ℕ) → IsGreatest (RootReaches (square * (scale * scale))) d → (IsTrue result ↔ (d < bound)) }
+{
+    (bound > 0) & (square + bound <= bound * bound)
 }
 
 /// The square of the distance in the plane.
@@ -71,9 +94,34 @@ fn nearest(square: u64) -> u64
     requires { square ≤ 8000000000000000000 }
     ensures { IsGreatest (RootReaches (square * (scale * scale))) result }
 {
-    let guess = rounded(near_root(square));
+    if square < SHORT {
+        let guess = short_root(square);
+        if is_rounded_root(square, guess) {
+            return guess;
+        }
+    }
+    nearest_of_far(square)
+}
+
+/// Whether a number is the root of a square, rounded to the nearest.
+#[inline]
+fn is_rounded_root(square: u64, guess: u64) -> bool
+    requires square { square ≤ 8000000000000000000 }
+    requires guess { guess < 2 ^ 32 }
+    ensures { result ≡ true → IsGreatest (RootReaches (square * (scale * scale))) guess }
+{
     let middle = guess * guess;
-    if middle < square + guess.max(1) && square <= middle + guess {
+    middle < square + guess.max(1) && square <= middle + guess
+}
+
+/// The root rounded to the nearest, mostly of a great square.
+#[inline(never)]
+fn nearest_of_far(square: u64) -> u64
+    requires { square ≤ 8000000000000000000 }
+    ensures { IsGreatest (RootReaches (square * (scale * scale))) result }
+{
+    let guess = rounded(near_root(square));
+    if is_rounded_root(square, guess) {
         guess
     } else {
         nearest_searched(square)

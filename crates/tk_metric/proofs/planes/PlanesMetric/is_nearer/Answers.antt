@@ -1,0 +1,30 @@
+use Rattle.std.proofs.Common.{arith, rules, subst, pos, w64, SFits, ◌≡◌, ◌<◌, ◌<ℤ◌, ◌↔◌}
+use Rattle.std.proofs.lemmas.Int.{to_z-of_z}
+use Rattle.std.proofs.lemmas.Bool.Decides.{nat_tests}
+use Rattle.tk_text.specs.PlacesOf.{places_of}
+use Rattle.tk_metric.specs.PlaneOf.{city_distance, city_place}
+use Rattle.tk_metric.specs.PlaneLaws.{city_distance-limit, distance_of-unique}
+use Rattle.tk_metric.proofs.PlaneReads.{whole_city_distance, fine_cities}
+use Rattle.tk_metric.proofs.planes.PlanesMetric.is_nearer.Goals as goal
+
+pub returns-in-Whole : goal.returns-in-Whole
+returns-in-Whole c =
+    let m = c.args.self.now in
+    let places = places_of m.places in
+    let d = city_distance m.kind places c.args.a c.args.b in
+    let fits : SFits w64 c.args.limit = search rules in
+    let bound = subst (λ z. (d < c.bound_of-bound.result) ↔ (pos d <ℤ z)) (to_z-of_z w64 c.args.limit fits) (c.bound_of-bound.ensures.value d (city_distance-limit m.kind places m.near c.args.a c.args.b)) in
+    let nearer = c.is_whole_nearer.ensures d
+    (whole_city_distance m.kind m.places c.in-Whole.places c.args.a c.args.b c.index-places-a.result c.index-places-b.result c.in-Whole.is c.requires.a c.requires.b c.index-places-a.is c.index-places-b.is) in
+    (λ yes. bound.0 (nearer.0 yes), λ below. nearer.1 (bound.1 below))
+
+pub returns-in-Fine : goal.returns-in-Fine
+returns-in-Fine c =
+    let m = c.args.self.now in
+    let places = places_of m.places in
+    let d = city_distance m.kind places c.args.a c.args.b in
+    let fits : SFits w64 c.args.limit = search rules in
+    let bound = subst (λ z. (d < c.bound_of-bound.result) ↔ (pos d <ℤ z)) (to_z-of_z w64 c.args.limit fits) (c.bound_of-bound.ensures.value d (city_distance-limit m.kind places m.near c.args.a c.args.b)) in
+    let same : c.fine_between.result ≡ d =
+    distance_of-unique m.kind (city_place places c.args.a) (city_place places c.args.b) _ (fine_cities m.kind m.places c.in-Fine.places c.args.a c.args.b c.fine_between.result c.in-Fine.is c.fine_between.ensures.distance) in
+    (λ yes. bound.0 (grind (arith, nat_tests, yes, same)), λ below. let low = bound.1 below in grind (arith, nat_tests, low, same))
