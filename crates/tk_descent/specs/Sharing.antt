@@ -1,5 +1,5 @@
 -- What the gains of a look share.
-use Rattle.std.specs.Prelude.{◌≡◌, ℕ, pos, ◌+◌, List}
+use Rattle.std.specs.Prelude.{◌≡◌, ℕ, ℤ, pos, ◌+◌, ◌-ℤ◌, List}
 use Rattle.tk_metric.specs.Cities.{IsCity}
 use Rattle.tk_descent.specs.Offers.{or_offers, IsSegmentIn}
 use Rattle.tk_descent.specs.declared.offer.Offer.{Offer}
@@ -12,10 +12,18 @@ abbrev pub IsBeside : ℕ → (ℕ → ℕ → ℕ) → Beside → Type 0
 IsBeside n dist b =
     IsCity n b.city × IsCity n b.after × IsCity n b.before × (b.to_after ≡ pos (dist b.city b.after)) × (b.to_before ≡ pos (dist b.city b.before))
 
--- a segment from x among n cities, with the distances at its ends and the distance over the gap that it leaves
+-- a segment from x among n cities, with what taking it out frees: the distances at its ends less that over the gap
 abbrev pub IsPiece : ℕ → (ℕ → ℕ → ℕ) → ℕ → Piece → Type 0
 IsPiece n dist x p =
-    IsSegmentIn n p.segment × (p.removed ≡ pos (dist p.segment.before x + dist p.segment.last p.segment.after)) × (p.closing ≡ pos (dist p.segment.before p.segment.after))
+    IsSegmentIn n p.segment × (p.freed ≡ pos (dist p.segment.before x + dist p.segment.last p.segment.after) -ℤ pos (dist p.segment.before p.segment.after))
+
+-- what a 2-opt move gains before its second new step is paid
+abbrev pub two_margin : (ℕ → ℕ → ℕ) → ℕ → ℕ → ℕ → ℕ → ℤ
+two_margin dist a b c d = pos (dist a b + dist c d) -ℤ pos (dist a c)
+
+-- what an Or-move of a segment from x between y and w gains before its step to w is paid
+abbrev pub or_margin : (ℕ → ℕ → ℕ) → ℕ → ℕ → Segment → ℕ → ℤ
+or_margin dist x y s w = pos (dist s.before x + dist s.last s.after + dist y w) -ℤ pos (dist s.before s.after + dist x y)
 
 abbrev pub segment_of : Piece → Segment
 segment_of p = p.segment

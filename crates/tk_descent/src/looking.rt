@@ -2,8 +2,8 @@
 ghost use Rattle.std.specs.Prelude.{◌≡◌, ◌≤◌, ◌<◌, [], ◌∷◌, length, flat_map, All, IfSome, None, ◌+◌, ◌*◌, pos, true, false};
 ghost use Rattle.tk_metric.specs.Near.{near_of};
 ghost use Rattle.tk_tour.specs.Counters.{saturated};
-ghost use Rattle.tk_descent.specs.Offers.{covers, gain, improves, Searched, or_offer, offers, EndsIn, segment_count, first_gain, tests_to};
-ghost use Rattle.tk_descent.specs.Sharing.{IsBeside, IsPiece, piece_offers};
+ghost use Rattle.tk_descent.specs.Offers.{covers, Searched, or_offer, offers, EndsIn, segment_count, first_gain, tests_to};
+ghost use Rattle.tk_descent.specs.Sharing.{IsBeside, IsPiece, piece_offers, two_margin, or_margin};
 ghost use Rattle.tk_metric.specs.Cities.{IsCity};
 ghost use Rattle.tk_descent.specs.Machine.{IsOfferOn};
 ghost use Rattle.tk_descent.specs.WakeMachine.{HasNoOffer};
@@ -26,7 +26,7 @@ impl Segment {
     }
 }
 
-/// Tests a 2-opt offer, whose removed steps and whose step a-c have these distances.
+/// Tests a 2-opt offer; a gain is what is left of `margin` once the step b-d is added.
 #[inline(always)]
 fn try_two<M: Metric>(
     metric: &M,
@@ -35,53 +35,63 @@ fn try_two<M: Metric>(
     b: u32,
     c: u32,
     d: u32,
-    removed: i64,
-    across: i64,
+    margin: i64,
 ) -> Option<Found>
     requires cities { EndsIn (M.size_of metric.now) (Two a b c d) }
-    requires removed { removed ≡ pos (M.distance metric.now a b + M.distance metric.now c d) }
-    requires across { across ≡ pos (M.distance metric.now a c) }
+    requires margin { margin ≡ two_margin (M.distance metric.now) a b c d }
     ensures { Searched (M.distance metric.now) (Two a b c d ∷ []) result count.old count.new }
 {
     *count = count.saturating_add(1);
-    if removed <= across {
+    if !metric.is_nearer(b, d, margin) {
         return None;
     }
-    let gain = removed - (across + metric.dist(b, d));
-    if gain > 0 {
-        Some(Found {
-            offer: Offer::Two { a, b, c, d },
-            gain,
-        })
-    } else {
-        None
-    }
+    Some(Found {
+        offer: Offer::Two { a, b, c, d },
+        gain: margin - metric.dist(b, d),
+    })
 }
 
-/// Whether a move of a segment between y and w adds too much even without its last step; x-y and y-w have these distances.
+/// Tests the Or-offer of a segment between y and w, where neither lies in it; a gain is what is left of `margin` once the step
+/// from the segment's last city to w is added.
 #[inline(always)]
-fn adds_too_much<M: Metric>(
-    metric: &M,
-    x: u32,
-    y: u32,
-    piece: &Piece,
-    w: u32,
-    across: i64,
-    beside: i64,
-) -> bool
-    requires piece { IsPiece (M.size_of metric.now) (M.distance metric.now) x piece.now }
-    requires across { across ≡ pos (M.distance metric.now x y) }
-    requires beside { beside ≡ pos (M.distance metric.now y w) }
-    ensures { result ≡ true → improves (M.distance metric.now) (Or piece.now.segment.before x piece.now.segment.last piece.now.segment.after y w) ≡ false }
-{
-    piece.removed + beside <= piece.closing + across
-}
-
-/// What it gains to move a segment between y and w, and one more test; x-y and y-w have these distances.
-#[inline(always)]
-fn gain_of_move<M: Metric>(
+fn try_or<M: Metric>(
     metric: &M,
     count: &mut u64,
+    x: u32,
+    y: u32,
+    segment: &Segment,
+    w: u32,
+    margin: i64,
+) -> Option<Found>
+    requires cities { IsCity (M.size_of metric.now) segment.now.last × IsCity (M.size_of metric.now) w }
+    requires margin { margin ≡ or_margin (M.distance metric.now) x y segment.now w }
+    ensures { Searched (M.distance metric.now) (or_offer x y segment.now w) result count.old count.new }
+{
+    let _counted = *count;
+    if segment.covers(x, y) || segment.covers(x, w) {
+        return None;
+    }
+    *count = count.saturating_add(1);
+    if !metric.is_nearer(segment.last, w, margin) {
+        return None;
+    }
+    Some(Found {
+        offer: Offer::Or {
+            a: segment.before,
+            x,
+            e: segment.last,
+            b: segment.after,
+            y,
+            w,
+        },
+        gain: margin - metric.dist(segment.last, w),
+    })
+}
+
+/// What moving a segment between y and w gains before its step to w is paid; x-y and y-w have these distances.
+#[inline(always)]
+fn margin_of<M: Metric>(
+    metric: &M,
     x: u32,
     y: u32,
     piece: &Piece,
@@ -89,72 +99,12 @@ fn gain_of_move<M: Metric>(
     across: i64,
     beside: i64,
 ) -> i64
-    requires cities { IsCity (M.size_of metric.now) x × IsCity (M.size_of metric.now) y × IsCity (M.size_of metric.now) w }
     requires piece { IsPiece (M.size_of metric.now) (M.distance metric.now) x piece.now }
     requires across { across ≡ pos (M.distance metric.now x y) }
     requires beside { beside ≡ pos (M.distance metric.now y w) }
-    ensures value { result ≡ gain (M.distance metric.now) (Or piece.now.segment.before x piece.now.segment.last piece.now.segment.after y w) }
-    ensures count { count.new ≡ saturated (count.old + 1) }
+    ensures { result ≡ or_margin (M.distance metric.now) x y piece.now.segment w }
 {
-    *count = count.saturating_add(1);
-    let removed = piece.removed + beside;
-    removed - added_by_move(metric, x, y, piece, w, across)
-}
-
-/// The distances that a move of a segment between y and w adds.
-#[inline(always)]
-fn added_by_move<M: Metric>(metric: &M, x: u32, y: u32, piece: &Piece, w: u32, across: i64) -> i64
-    requires city { IsCity (M.size_of metric.now) w }
-    requires piece { IsPiece (M.size_of metric.now) (M.distance metric.now) x piece.now }
-    requires across { across ≡ pos (M.distance metric.now x y) }
-    ensures { result ≡ pos (M.distance metric.now piece.now.segment.before piece.now.segment.after + M.distance metric.now x y + M.distance metric.now piece.now.segment.last w) }
-{
-    piece.closing + across + metric.dist(piece.segment.last, w)
-}
-
-/// Tests the Or-offer of a segment between y and w, where neither lies in it; x-y and y-w have these distances.
-#[inline(always)]
-fn try_or<M: Metric>(
-    metric: &M,
-    count: &mut u64,
-    x: u32,
-    y: u32,
-    piece: &Piece,
-    w: u32,
-    across: i64,
-    beside: i64,
-) -> Option<Found>
-    requires cities { IsCity (M.size_of metric.now) x × IsCity (M.size_of metric.now) y × IsCity (M.size_of metric.now) w }
-    requires piece { IsPiece (M.size_of metric.now) (M.distance metric.now) x piece.now }
-    requires across { across ≡ pos (M.distance metric.now x y) }
-    requires beside { beside ≡ pos (M.distance metric.now y w) }
-    ensures { Searched (M.distance metric.now) (or_offer x y piece.now.segment w) result count.old count.new }
-{
-    let _counted = *count;
-    let segment = piece.segment;
-    if segment.covers(x, y) || segment.covers(x, w) {
-        return None;
-    }
-    if adds_too_much(metric, x, y, piece, w, across, beside) {
-        *count = count.saturating_add(1);
-        return None;
-    }
-    let gain = gain_of_move(metric, count, x, y, piece, w, across, beside);
-    if gain > 0 {
-        Some(Found {
-            offer: Offer::Or {
-                a: segment.before,
-                x,
-                e: segment.last,
-                b: segment.after,
-                y,
-                w,
-            },
-            gain,
-        })
-    } else {
-        None
-    }
+    piece.freed - across + beside
 }
 
 /// Tests the Or-offers of segments beside y.
@@ -175,19 +125,12 @@ fn try_segments<M: Metric>(
 {
     let _counted = *count;
     for piece in pieces {
-        if let Some(found) = try_or(metric, count, x, y.city, piece, y.after, across, y.to_after) {
+        let margin = margin_of(metric, x, y.city, piece, y.after, across, y.to_after);
+        if let Some(found) = try_or(metric, count, x, y.city, &piece.segment, y.after, margin) {
             return Some(found);
         }
-        if let Some(found) = try_or(
-            metric,
-            count,
-            x,
-            y.city,
-            piece,
-            y.before,
-            across,
-            y.to_before,
-        ) {
+        let margin = margin_of(metric, x, y.city, piece, y.before, across, y.to_before);
+        if let Some(found) = try_or(metric, count, x, y.city, &piece.segment, y.before, margin) {
             return Some(found);
         }
     }
@@ -209,16 +152,12 @@ fn try_city<M: Metric>(
     ensures { Searched (M.distance metric.now) (Two x.now.city x.now.after y.now.city y.now.after ∷ Two x.now.city x.now.before y.now.city y.now.before ∷ flat_map (piece_offers x.now.city y.now) pieces.now) result count.old count.new }
 {
     let across = metric.dist(x.city, y.city);
-    let removed = x.to_after + y.to_after;
-    if let Some(found) = try_two(
-        metric, count, x.city, x.after, y.city, y.after, removed, across,
-    ) {
+    let margin = x.to_after + y.to_after - across;
+    if let Some(found) = try_two(metric, count, x.city, x.after, y.city, y.after, margin) {
         return Some(found);
     }
-    let removed = x.to_before + y.to_before;
-    if let Some(found) = try_two(
-        metric, count, x.city, x.before, y.city, y.before, removed, across,
-    ) {
+    let margin = x.to_before + y.to_before - across;
+    if let Some(found) = try_two(metric, count, x.city, x.before, y.city, y.before, margin) {
         return Some(found);
     }
     try_segments(metric, count, x.city, pieces, y, across)

@@ -20,12 +20,11 @@ pub(crate) struct Beside {
     pub to_before: i64,
 }
 
-/// A segment from some x with the sum of the distances at its ends, and the distance over the gap that it leaves.
+/// A segment from some x, and what the tour becomes shorter by where it is taken out.
 #[derive(Clone, Copy)]
 pub(crate) struct Piece {
     pub segment: Segment,
-    pub removed: i64,
-    pub closing: i64,
+    pub freed: i64,
 }
 
 /// A city with its neighbours.
@@ -48,19 +47,19 @@ pub(crate) fn look_beside<S: TourStore, M: Metric>(s: &S, metric: &M, c: u32) ->
     }
 }
 
-/// A segment from x, which is `begin` from the city before it.
+/// A segment from x, whose ends are `begin` and `end` from the cities beside it.
 #[inline]
-fn measure_piece<M: Metric>(metric: &M, x: u32, begin: i64, segment: Segment) -> Piece
+fn measure_piece<M: Metric>(metric: &M, x: u32, begin: i64, end: i64, segment: Segment) -> Piece
     requires city { IsCity (M.size_of metric.now) x }
     requires segment { IsSegmentIn (M.size_of metric.now) segment }
     requires begin { begin ≡ pos (M.distance metric.now segment.before x) }
+    requires end { end ≡ pos (M.distance metric.now segment.last segment.after) }
     ensures segment { result.segment ≡ segment }
     ensures shared { IsPiece (M.size_of metric.now) (M.distance metric.now) x result }
 {
     Piece {
         segment,
-        removed: begin + metric.dist(segment.last, segment.after),
-        closing: metric.dist(segment.before, segment.after),
+        freed: begin + end - metric.dist(segment.before, segment.after),
     }
 }
 
@@ -82,6 +81,7 @@ pub(crate) fn pieces_of<S: TourStore, M: Metric>(s: &S, metric: &M, x: &Beside) 
             metric,
             city,
             x.to_before,
+            x.to_after,
             Segment {
                 before: x.before,
                 middle: city,
@@ -93,6 +93,7 @@ pub(crate) fn pieces_of<S: TourStore, M: Metric>(s: &S, metric: &M, x: &Beside) 
             metric,
             city,
             x.to_before,
+            metric.dist(x.after, after_2),
             Segment {
                 before: x.before,
                 middle: city,
@@ -104,6 +105,7 @@ pub(crate) fn pieces_of<S: TourStore, M: Metric>(s: &S, metric: &M, x: &Beside) 
             metric,
             city,
             x.to_after,
+            metric.dist(x.before, before_2),
             Segment {
                 before: x.after,
                 middle: city,
@@ -115,6 +117,7 @@ pub(crate) fn pieces_of<S: TourStore, M: Metric>(s: &S, metric: &M, x: &Beside) 
             metric,
             city,
             x.to_before,
+            metric.dist(after_2, after_3),
             Segment {
                 before: x.before,
                 middle: x.after,
@@ -126,6 +129,7 @@ pub(crate) fn pieces_of<S: TourStore, M: Metric>(s: &S, metric: &M, x: &Beside) 
             metric,
             city,
             x.to_after,
+            metric.dist(before_2, before_3),
             Segment {
                 before: x.after,
                 middle: x.before,
