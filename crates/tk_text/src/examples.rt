@@ -10,7 +10,7 @@ ghost use Rattle.tk_text.specs.ProblemExamples as Problems;
 ghost use Rattle.tk_text.specs.Scan.{first_word};
 ghost use Rattle.tk_text.specs.Tour.{is_eof, is_keyword};
 ghost use Rattle.tk_text.specs.TourExamples as Tours;
-ghost use Rattle.tk_text.specs.WeightExamples as Weights;
+ghost use Rattle.tk_text.specs.WeightExamples as WeightTables;
 ghost use Rattle.tk_text.specs.WordExamples as Words;
 ghost use Rattle.tk_text.specs.Words.{keyword_of};
 ghost use Rattle.tk_text.specs.WrittenExamples as Written;
@@ -33,8 +33,8 @@ fn numbers()
 {}
 
 fn weights()
-    ensures orders { HasTable Weights.entries_of_3 Weights.entry_orders }
-    ensures lists { HasTable Weights.pair_weights Weights.weight_lists }
+    ensures orders { HasTable WeightTables.entries_of_3 WeightTables.entry_orders }
+    ensures lists { HasTable WeightTables.pair_weights WeightTables.weight_lists }
 {}
 
 fn written_texts()
