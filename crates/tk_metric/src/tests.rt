@@ -2,6 +2,7 @@
 ghost use Rattle.std.specs.Prelude.{◌<◌, ◌≤◌};
 
 use crate::guess::{PER_UNIT, PER_UNIT_AND_ROOT_OF_TEN, near_root, near_scaled_root, rounded};
+use crate::short::{SHORT, short_root};
 use crate::{Metric, Planar, Planes, Sub, Table, Triangle, root, root_up};
 use std::alloc::{AllocError, Global};
 use std::test::Fail;
@@ -237,6 +238,28 @@ fn next(state: &mut u64) -> u64 {
     *state >> 11
 }
 
+/// Whether a guess is the root of a square, rounded to the nearest.
+fn is_right(square: u64, guess: u64) -> bool {
+    let middle = guess.wrapping_mul(guess);
+    square <= middle.wrapping_add(guess) && middle < square.wrapping_add(guess.max(1))
+}
+
+/// How many of a sample of short distances the guess from one line misses.
+fn missed_short(span: u64) -> u32
+    requires low { 0 < span }
+    requires high { span ≤ 1000000000 }
+{
+    let mut state = span;
+    let mut missed: u32 = 0;
+    for _ in 0..SAMPLE {
+        let dx = next(&mut state) % (2 * span);
+        let dy = next(&mut state) % (2 * span);
+        let square = dx.wrapping_mul(dx).wrapping_add(dy.wrapping_mul(dy)) % SHORT;
+        missed = missed.saturating_add(u32::from(!is_right(square, short_root(square))));
+    }
+    missed
+}
+
 /// How many of a sample of whole distances the guess misses.
 fn missed_whole(span: u64) -> u32
     requires low { 0 < span }
@@ -249,10 +272,7 @@ fn missed_whole(span: u64) -> u32
         let dy = next(&mut state) % (2 * span);
         let square = dx.wrapping_mul(dx).wrapping_add(dy.wrapping_mul(dy));
         let guess = rounded(near_root(square));
-        let middle = guess.wrapping_mul(guess);
-        let right = square <= middle.wrapping_add(guess)
-            && middle < square.wrapping_add(guess.max(1));
-        missed = missed.saturating_add(u32::from(!right));
+        missed = missed.saturating_add(u32::from(!is_right(square, guess)));
     }
     missed
 }
@@ -295,6 +315,7 @@ fn guesses_are_mostly_right(rt: HostRuntime) {
     ];
     for span in spans {
         assert!(rt; 0 < span && span <= 1_000_000_000);
+        assert!(rt; missed_short(span) < SAMPLE / 50);
         assert!(rt; missed_whole(span) < SAMPLE / 1000);
         assert!(rt; missed_fine(span, 1, PER_UNIT) < SAMPLE / 1000);
         assert!(rt; missed_fine(span, 10, PER_UNIT_AND_ROOT_OF_TEN) < SAMPLE / 1000);
