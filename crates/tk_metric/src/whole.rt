@@ -115,7 +115,7 @@ fn is_rounded_root(square: u64, guess: u64) -> bool
 }
 
 /// The root rounded to the nearest, mostly of a great square.
-#[inline(never)]
+#[inline]
 fn nearest_of_far(square: u64) -> u64
     requires { square ≤ 8000000000000000000 }
     ensures { IsGreatest (RootReaches (square * (scale * scale))) result }
