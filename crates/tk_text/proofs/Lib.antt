@@ -24,7 +24,6 @@ pub mod MatrixLines
 pub mod Narrow
 pub mod NoWord
 pub mod Numbers
-pub mod OnLiterals
 pub mod OneSteps
 pub mod OpenSections
 pub mod PairWeights

@@ -6,8 +6,6 @@ pub mod DepotList
 pub mod DepotTaken
 pub mod Drive
 pub mod Entry
-pub mod Examples
-pub mod FaultExamples
 pub mod FixedSections
 pub mod FormatLines
 pub mod Forms
@@ -17,7 +15,6 @@ pub mod Kept
 pub mod Lex
 pub mod MatrixText
 pub mod Nodes
-pub mod NumberExamples
 pub mod OpenSections
 pub mod Parts
 pub mod Pens
@@ -25,7 +22,6 @@ pub mod Pieces
 pub mod Places
 pub mod PlacesOf
 pub mod Problem
-pub mod ProblemExamples
 pub mod ProblemForm
 pub mod Puts
 pub mod ReadBack
@@ -36,17 +32,13 @@ pub mod Shape
 pub mod SolutionWritten
 pub mod Stored
 pub mod Tour
-pub mod TourExamples
 pub mod TourForm
 pub mod TourWritten
 pub mod Weighing
-pub mod WeightExamples
 pub mod WeightLines
 pub mod WeightOrder
 pub mod WeightSection
 pub mod WeightsSoFar
-pub mod WordExamples
 pub mod Words
 pub mod Writes
 pub mod Written
-pub mod WrittenExamples

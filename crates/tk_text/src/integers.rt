@@ -31,34 +31,3 @@ pub fn integer(bytes: &[u8]) -> Option<i64>
         _ => natural(bytes),
     }
 }
-
-#[cfg(test)]
-mod tests {
-    use super::*;
-
-    #[test]
-    fn integers(rt: HostRuntime) {
-        assert_eq!(rt; integer(b"0"), Some(0));
-        assert_eq!(rt; integer(b"+7"), Some(7));
-        assert_eq!(rt; integer(b"-1"), Some(-1));
-        assert_eq!(rt; integer(b"-0"), Some(0));
-        assert_eq!(rt; integer(b"007"), Some(7));
-        assert_eq!(rt; integer(b"999999999999999999"), Some(999999999999999999));
-        assert_eq!(rt; integer(b"-999999999999999999"), Some(-999999999999999999));
-        assert_eq!(rt; integer(b"+000000000000000001"), Some(1));
-    }
-
-    #[test]
-    fn others(rt: HostRuntime) {
-        assert_eq!(rt; integer(b""), None);
-        assert_eq!(rt; integer(b"-"), None);
-        assert_eq!(rt; integer(b"+"), None);
-        assert_eq!(rt; integer(b"--1"), None);
-        assert_eq!(rt; integer(b"1000000000000000000"), None);
-        assert_eq!(rt; integer(b"0000000000000000001"), None);
-        assert_eq!(rt; integer(b"1.0"), None);
-        assert_eq!(rt; integer(b"12a"), None);
-        assert_eq!(rt; integer(b"1/"), None);
-        assert_eq!(rt; integer(b"1:"), None);
-    }
-}

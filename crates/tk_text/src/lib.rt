@@ -6,15 +6,9 @@ mod coordinates;
 mod decimals;
 mod demands;
 mod depot;
-#[cfg(test)]
-mod drip;
 mod drive;
 mod entries;
-#[cfg(test)]
-mod examples;
 mod explicit_weights;
-#[cfg(test)]
-mod fake_sink;
 mod fault;
 mod finish;
 mod form;
@@ -36,17 +30,7 @@ mod point;
 mod points;
 mod problem;
 mod problem_form;
-#[cfg(test)]
-mod problem_header_tests;
-#[cfg(test)]
-mod problem_routing_tests;
-#[cfg(test)]
-mod problem_section_tests;
-#[cfg(test)]
-mod problem_tests;
 mod problem_text;
-#[cfg(test)]
-mod read_both_ways;
 mod reader;
 mod routing;
 mod scan;
@@ -54,8 +38,6 @@ mod sink;
 mod solution_writer;
 mod source;
 mod tour;
-#[cfg(test)]
-mod tour_tests;
 mod tour_writer;
 mod weight_order;
 mod weights;

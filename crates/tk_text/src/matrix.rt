@@ -142,6 +142,3 @@ pub fn write_matrix<W: Sink, D: Fn(u32, u32) -> i64>(
     put_matrix(&mut pen, name, n, d, f);
     pen.end()
 }
-
-#[cfg(test)]
-mod tests;

@@ -83,23 +83,3 @@ fn node_of(token: &[u8], count: usize) -> Result<usize, TextKind>
     }
     Ok(number as usize - 1)
 }
-
-#[cfg(test)]
-mod tests {
-    use super::*;
-    use std::test::Fail;
-
-    #[test]
-    fn each_once(rt: HostRuntime) -> Result<(), Fail> {
-        let mut nodes = Nodes::new(rt.alloc(), 2)?;
-        assert_eq!(rt; nodes.name(b"2"), Ok(1));
-        assert!(rt; !nodes.are_all());
-        assert_eq!(rt; nodes.name(b"2"), Err(TextKind::BadNode));
-        assert_eq!(rt; nodes.name(b"3"), Err(TextKind::BadNode));
-        assert_eq!(rt; nodes.name(b"one"), Err(TextKind::BadNumber));
-        assert!(rt; !nodes.are_all());
-        assert_eq!(rt; nodes.name(b"+01"), Ok(0));
-        assert!(rt; nodes.are_all());
-        Ok(())
-    }
-}

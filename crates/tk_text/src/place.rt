@@ -29,28 +29,3 @@ impl Place {
         greater * (greater - 1) / 2 + lesser
     }
 }
-
-#[cfg(test)]
-mod tests {
-    use super::*;
-
-    fn at(row: u32, column: u32) -> Place
-        ensures { result ≡ record { row = row; column = column } }
-    {
-        Place { row, column }
-    }
-
-    #[test]
-    fn diagonal(rt: HostRuntime) {
-        assert!(rt; at(2, 2).is_diagonal());
-        assert!(rt; !at(2, 3).is_diagonal());
-    }
-
-    #[test]
-    fn indices(rt: HostRuntime) {
-        assert_eq!(rt; at(1, 0).lower_index(), 0);
-        assert_eq!(rt; at(2, 0).lower_index(), 1);
-        assert_eq!(rt; at(1, 2).lower_index(), 2);
-        assert_eq!(rt; at(4999, 4998).lower_index(), 12_497_499);
-    }
-}

@@ -49,37 +49,3 @@ pub fn write_solution<W: Sink>(w: &mut W, routes: &[Vec<u32>], cost: i64) -> Res
     put_solution(&mut pen, routes, cost.unsigned_abs());
     pen.end()
 }
-
-#[cfg(test)]
-mod tests {
-    use super::*;
-    use crate::fake_sink::FakeSink;
-    use crate::sink::ToWrite;
-    use std::test::Fail;
-
-    const TEXT: &[u8] = b"Route #1: 1 2\nRoute #2: 3 4\nCost 44\n";
-
-    #[test]
-    fn writes_a_solution(rt: HostRuntime) -> Result<(), Fail> {
-        let routes = [vec![in rt.alloc(); 1, 2]?, vec![in rt.alloc(); 3, 4]?];
-        let mut sink = ToWrite::new(Vec::new(rt.alloc()));
-        assert_eq!(rt; write_solution(&mut sink, &routes, 44), Ok(()));
-        assert_eq!(rt; sink.inner.as_slice(), TEXT);
-        Ok(())
-    }
-
-    #[test]
-    fn says_how_much_of_a_solution_went_out(rt: HostRuntime) -> Result<(), Fail> {
-        let routes = [vec![in rt.alloc(); 1, 2]?, vec![in rt.alloc(); 3, 4]?];
-        for limit in 0..TEXT.len() {
-            let mut sink = FakeSink::new(limit, limit % 2 == 0);
-            let written = limit as u64;
-            assert_eq!(rt;
-                write_solution(&mut sink, &routes, 44),
-                Err(WriteFault { written })
-            );
-            assert_eq!(rt; sink.taken(), &TEXT[..limit]);
-        }
-        Ok(())
-    }
-}

@@ -58,33 +58,3 @@ pub fn write_tour<W: Sink>(
     put_tour(&mut pen, name, length.unsigned_abs(), cities);
     pen.end()
 }
-
-#[cfg(test)]
-mod tests {
-    use super::*;
-    use crate::fake_sink::FakeSink;
-    use crate::sink::ToWrite;
-
-    const TEXT: &[u8] =
-        b"NAME : p.40.tour\nCOMMENT : Length = 40\nTYPE : TOUR\nDIMENSION : 4\nTOUR_SECTION\n1\n3\n2\n4\n-1\nEOF\n";
-
-    #[test]
-    fn writes_a_tour(rt: HostRuntime) {
-        let mut sink = ToWrite::new(Vec::new(rt.alloc()));
-        assert_eq!(rt; write_tour(&mut sink, b"p", 40, &[1, 3, 2, 4]), Ok(()));
-        assert_eq!(rt; sink.inner.as_slice(), TEXT);
-    }
-
-    #[test]
-    fn says_how_much_of_a_tour_went_out(rt: HostRuntime) {
-        for limit in 0..TEXT.len() {
-            let mut sink = FakeSink::new(limit, limit % 2 == 0);
-            let written = limit as u64;
-            assert_eq!(rt;
-                write_tour(&mut sink, b"p", 40, &[1, 3, 2, 4]),
-                Err(WriteFault { written })
-            );
-            assert_eq!(rt; sink.taken(), &TEXT[..limit]);
-        }
-    }
-}

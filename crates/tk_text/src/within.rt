@@ -22,19 +22,3 @@ pub fn number_of(word: &[u8], low: u32, high: u32) -> Result<u32, TextKind>
         Some(value) => Ok(value as u32),
     }
 }
-
-#[cfg(test)]
-mod tests {
-    use super::*;
-
-    #[test]
-    fn limits(rt: HostRuntime) {
-        assert_eq!(rt; number_of(b"2", 2, 5), Ok(2));
-        assert_eq!(rt; number_of(b"+5", 2, 5), Ok(5));
-        assert_eq!(rt; number_of(b"1", 2, 5), Err(TextKind::OutOfLimit));
-        assert_eq!(rt; number_of(b"6", 2, 5), Err(TextKind::OutOfLimit));
-        assert_eq!(rt; number_of(b"-3", 2, 5), Err(TextKind::OutOfLimit));
-        assert_eq!(rt; number_of(b"", 0, 5), Err(TextKind::BadNumber));
-        assert_eq!(rt; number_of(b"3x", 0, 5), Err(TextKind::BadNumber));
-    }
-}
