@@ -1,11 +1,11 @@
 -- What a byte does behind the -1 that ends a section.
-use Rattle.std.proofs.Common.{◌≡◌, ℕ, ◌+◌, ◌<◌, Bool, true, false, cond, eqb, not, ◌&&◌, ◌||◌, List, [], ◌∷◌, ◌++◌, length, leb, pos, Option, Some, None, Err, refl, ap, subst, ◌∙◌, arith}
+use Rattle.std.proofs.Common.{◌≡◌, ℕ, ◌+◌, ◌<◌, Bool, true, false, cond, eqb, not, ◌&&◌, ◌||◌, List, [], ◌∷◌, ◌++◌, length, Option, Some, None, Err, refl, ap, subst, ◌∙◌, arith}
 use Rattle.std.proofs.lemmas.List.{append-nil}
 use Rattle.std.proofs.lemmas.Bool.{eqb-true}
 use Rattle.tk_text.specs.declared.keyword.Keyword.{Keyword}
 use Rattle.tk_text.specs.declared.fault.TextKind.TheVariants as kinds
-use Rattle.tk_text.specs.Lex.{LF, Token, tokens, lines, is_blank, is_letter, integer, natural, signed}
-use Rattle.tk_text.specs.Pieces.{Piece, Clean, Trailing, Stop, Fault, Format, last_line, stopped, prepend, from_line, in_section, is_minus_one, one_more}
+use Rattle.tk_text.specs.Lex.{LF, Token, tokens, lines, is_blank, is_letter}
+use Rattle.tk_text.specs.Pieces.{Piece, Clean, Trailing, Stop, Fault, Format, last_line, stopped, prepend, from_line, in_section, one_more}
 use Rattle.tk_text.specs.Forms.{whole, Ends, a_section}
 use Rattle.tk_text.specs.Reader.{Next, Within, anything, this, a_gap, DecidesIf, IsRun, AtLine, AtToken, AtAfter, IsLastLine}
 use Rattle.tk_text.proofs.Sections.{in_section-byte, in_section-next}
@@ -14,29 +14,18 @@ use Rattle.tk_text.proofs.Inside.{in_section-drop, in_section-trailing, first_to
 use Rattle.tk_text.proofs.Steps.{says_byte}
 use Rattle.tk_text.proofs.Lines.{blank_letter}
 use Rattle.tk_text.proofs.InSteps.{same_now, last_is}
-
-no_minus : (o : Option ℕ) → is_minus_one (signed pos o) ≡ false
-no_minus None = refl
-no_minus (Some n) = refl
-
-letter_integer : (b : ℕ) (y : List ℕ) → is_letter b ≡ true → is_minus_one (integer (b ∷ y)) ≡ false
-letter_integer b y h = by_minus (eqb b 45) refl (eqb b 43) refl
-  where
-    by_minus : (s : Bool) → eqb b 45 ≡ s → (t : Bool) → eqb b 43 ≡ t → is_minus_one (integer (b ∷ y)) ≡ false
-    by_minus true p t q = let is = eqb-true b 45 p in absurd (let k = rw is at h in cc)
-    by_minus false p true q = rw (p, q) (no_minus (natural y))
-    by_minus false p false q = rw (p, q) (no_minus (natural (b ∷ y)))
+use Rattle.tk_text.proofs.MinusOne.{other_integer}
 
 letter_more : (b n : ℕ) (y : List ℕ) (w : Bool) (more : List Token) → is_letter b ≡ true → one_more (record { bytes = b ∷ y; line = n; whole = w } ∷ more) ≡ 0
-letter_more b n y w more h = rw (letter_integer b y h, h) (by_whole w)
+letter_more b n y w more h = let other = no_minus (eqb b 45) refl in rw (other_integer b y other, other_integer b (y ++ 49 ∷ []) other) (by_whole w)
   where
-    by_whole : (w : Bool) → ◌≡◌ {A = ℕ} (cond ((w && false) || (not w && leb (length (b ∷ y)) 64 && false)) 1 0) 0
+    no_minus : (t : Bool) → eqb b 45 ≡ t → eqb b 45 ≡ false
+    no_minus true is = let minus = eqb-true b 45 is in absurd (let k = rw minus at h in cc)
+    no_minus false is = is
+
+    by_whole : (w : Bool) → ◌≡◌ {A = ℕ} (cond ((w && false) || (not w && (false || false))) 1 0) 0
     by_whole true = refl
-    by_whole false = by_short (leb (length (b ∷ y)) 64)
-      where
-        by_short : (t : Bool) → ◌≡◌ {A = ℕ} (cond (t && false) 1 0) 0
-        by_short true = refl
-        by_short false = refl
+    by_whole false = refl
 
 module _ {V S : Type 0} (f : Format V) (H : S → List Piece → Type 0) (form : S) (line b : ℕ) (bs : List ℕ) where
   earlier : (o : Bool) (last : ℕ) → IsLastLine o last line → last < line + 1

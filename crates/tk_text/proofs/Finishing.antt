@@ -152,7 +152,7 @@ module _ {V S : Type 0} (f : Format V) (H : S → List Piece → Type 0) (W : S 
   open_place places.Token a = open_token f form line bs W held a.0.0 a.0.1 a.1
   open_place places.Close a = open_close f form line bs H a
   open_place (places.After o) a = open_after f form line bs H o a
-  open_place (places.One o) a = open_one f H form line held bs o a.0.0.0 a.0.0.1 a.0.1 a.1
+  open_place (places.One o) a = open_one f H form line held bs o a.0.0 a.0.1 a.1
 
 -- ---- the first byte
 

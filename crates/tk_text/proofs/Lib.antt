@@ -21,6 +21,7 @@ pub mod Lists
 pub mod Lookups
 pub mod MatrixLength
 pub mod MatrixLines
+pub mod MinusOne
 pub mod Narrow
 pub mod NoWord
 pub mod Numbers

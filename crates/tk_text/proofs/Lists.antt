@@ -10,7 +10,7 @@ use Rattle.tk_text.specs.Tour.{is_eof, without_colon, list_extent, entries, entr
 use Rattle.tk_text.specs.TourForm.{AreEntries}
 use Rattle.tk_text.proofs.Closing.{take_past}
 use Rattle.tk_text.proofs.NoWord.{keyword_of-long}
-use Rattle.tk_text.proofs.OneSteps.{integer_long}
+use Rattle.tk_text.proofs.MinusOne.{integer_long}
 
 pub list_extent-entries : (ts more : List Token) → AreEntries ts → list_extent (ts ++ more) ≡ record { count = length ts + (list_extent more).count; closed = (list_extent more).closed; at_eof = (list_extent more).at_eof }
 unfolding list_extent

@@ -5,10 +5,13 @@ use Rattle.std.specs.Char.{to_ascii_uppercase, is_ascii_digit}
 use Rattle.std.proofs.lemmas.Bool.{eqb-true, ne_eqb, le-leb, leb-true, ltb-true, ltb-false, lt-leb}
 use Rattle.tk_text.specs.Lex.{is_letter, natural, integer}
 use Rattle.tk_text.specs.Words.{same_bytes, spells, keyword_of, section_word, rest_word}
-use Rattle.tk_text.specs.Pieces.{begins_word}
 use Rattle.tk_text.proofs.Resume.{and_false}
 use Rattle.tk_text.proofs.Sections.{or_true}
 use Rattle.tk_text.specs.Tour.{without_colon}
+
+abbrev pub begins_word : List ℕ → Bool
+begins_word [] = false
+begins_word (b ∷ bs) = is_letter b
 
 -- no word is spelled where no text is that begins with a letter and has at most 20 bytes
 pub keyword_of-none : (bs : List ℕ) → ((text : List ℕ) → (begins_word text && leb (length text) 20) ≡ true → spells bs text ≡ false) → keyword_of bs ≡ None

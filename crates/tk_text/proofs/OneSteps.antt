@@ -1,18 +1,22 @@
 -- Where a token behind the -1 ends.
-use Rattle.std.proofs.Common.{◌≡◌, ℕ, ◌+◌, ◌<◌, ◌≤◌, Bool, true, false, cond, eqb, leb, ltb, not, ◌&&◌, ◌||◌, List, [], ◌∷◌, ◌++◌, length, Option, Some, None, Err, pos, neg_ℤ, refl, ap, subst, ◌∙◌, append_assoc, arith}
+use Rattle.std.proofs.Common.{◌≡◌, ℕ, ◌+◌, ◌<◌, Bool, true, false, cond, eqb, leb, not, ◌&&◌, ◌||◌, List, [], ◌∷◌, ◌++◌, length, Option, Some, None, Err, refl, ap, subst, ◌∙◌, append_assoc, arith}
 use Rattle.std.proofs.lemmas.List.{append-nil, length-append}
-use Rattle.std.proofs.lemmas.Bool.{eq-eqb, lt-leb, le-leb, lt-ltb}
+use Rattle.std.proofs.lemmas.Bool.{eq-eqb, lt-leb, le-leb}
 use Rattle.tk_text.specs.declared.keyword.Keyword.{Keyword}
 use Rattle.tk_text.specs.declared.fault.TextKind.TheVariants as kinds
-use Rattle.tk_text.specs.Lex.{Token, integer, natural, signed, tokens, lines, is_empty}
-use Rattle.tk_text.specs.Pieces.{Piece, Clean, Trailing, Stop, Fault, Extent, Format, last_line, prepend, cut, judge, stopped, decided_by, from_line, in_section, goes, new_pieces, is_minus_one, one_more, begins_word}
+use Rattle.tk_text.specs.Lex.{Token, integer, tokens, lines, is_empty, is_blank, is_letter, LF}
+use Rattle.tk_text.specs.Pieces.{Piece, Clean, Trailing, Stop, Fault, Extent, Format, last_line, prepend, cut, judge, stopped, decided_by, from_line, in_section, goes, new_pieces, is_minus_one, one_more, begins_minus_one}
 use Rattle.tk_text.specs.Forms.{whole, Closed, Ends, a_section}
-use Rattle.tk_text.specs.Reader.{Next, Within, anything, a_gap, DecidesIf, IsRun, AtClose, AtAfter}
+use Rattle.tk_text.specs.Reader.{Next, Within, anything, this, a_gap, DecidesIf, IsRun, AtClose, AtAfter}
 use Rattle.tk_text.proofs.Resume.{and_false}
 use Rattle.tk_text.proofs.Sections.{run_head}
 use Rattle.tk_text.proofs.Closing.{first_line, take_whole, in_section-closed}
 use Rattle.tk_text.proofs.Inside.{in_section-token, front_token, get_behind, split_at}
 use Rattle.tk_text.proofs.Ending.{at_none, tokens_of-open, get_end, take_all}
+use Rattle.tk_text.proofs.MinusOne.{begins_minus, no_more, no_more_with_one, other_begins}
+use Rattle.tk_text.proofs.AfterSteps.{after_byte}
+use Rattle.tk_text.proofs.InSteps.{run_more}
+use Rattle.tk_text.proofs.NoWord.{begins_word}
 
 module _ {V S : Type 0} (f : Format V) (H : S → List Piece → Type 0) (next : Next) (form : S) (line : ℕ) (o : Bool) (held bs : List ℕ) (within : Within next a_gap) (run : IsRun held) (a : AtAfter f H next form line o held bs) where
   -- one -1 more ends the section
@@ -93,49 +97,50 @@ none_whole held line next within run minus e more n =
     let s = split_at held e line more run (within e more n) in
     rw (s.first.is, s.split, minus) refl
 
--- nor in a long one
-natural_long : (bs : List ℕ) → 18 < length bs → natural bs ≡ None
-natural_long [] h = absurd (omega arith)
-natural_long (b ∷ bs) h = let t : ltb 18 (length (b ∷ bs)) ≡ true = lt-ltb _ _ h in rw t refl
-
-pub integer_long : (bs : List ℕ) → 19 < length bs → integer bs ≡ None
-integer_long [] h = absurd (omega arith)
-integer_long (b ∷ bs) h =
-    let tail : natural bs ≡ None = natural_long bs (omega arith) in
-    let all : natural (b ∷ bs) ≡ None = natural_long (b ∷ bs) (omega arith) in
-    by_sign (eqb b 45) (eqb b 43) (natural bs) (natural (b ∷ bs)) tail all
-  where
-    by_sign : (s t : Bool) (x y : Option ℕ) → x ≡ None → y ≡ None → cond s (signed (λ n. neg_ℤ (pos n)) x) (cond t (signed pos x) (signed pos y)) ≡ None
-    by_sign true t x y p q = rw p refl
-    by_sign false true x y p q = rw p refl
-    by_sign false false x y p q = rw q refl
-
-pub none_long : (held : List ℕ) (line : ℕ) → IsRun held → 64 < length held → (e : Bool) (more : List ℕ) → one_more (tokens (prepend held (lines e line more))) ≡ 0
-none_long held line run long e more =
+-- nor where the bytes show that it is none
+pub none_shown : (b : ℕ) (t : List ℕ) (line : ℕ) → IsRun (b ∷ t) → begins_minus_one (b ∷ t) ≡ false
+    → (e : Bool) (more : List ℕ) → one_more (tokens (prepend (b ∷ t) (lines e line more))) ≡ 0
+none_shown b t line run other e more =
     let k = first_line e line more in
-    let u = front_token k.whole line held k.bytes run in
-    let longer : 64 < length (held ++ u.bytes) = omega (arith, long, length-append held u.bytes) in
-    let none : integer (held ++ u.bytes) ≡ None = integer_long (held ++ u.bytes) (omega arith) in
-    let over : leb (length (held ++ u.bytes)) 64 ≡ false = lt-leb _ _ longer in
-    rw (k.is, u.is, none, over) (by_whole u.whole (not (begins_word (held ++ u.bytes))))
+    let u = front_token k.whole line (b ∷ t) k.bytes run in
+    rw (k.is, u.is, no_more b t u.bytes other, no_more_with_one b t u.bytes other) (by_whole u.whole)
   where
-    by_whole : (w x : Bool) → ◌≡◌ {A = ℕ} (cond ((w && false) || (not w && false && x)) 1 0) 0
-    by_whole true x = refl
-    by_whole false x = refl
+    by_whole : (w : Bool) → ◌≡◌ {A = ℕ} (cond ((w && false) || (not w && (false || false))) 1 0) 0
+    by_whole true = refl
+    by_whole false = refl
 
-pub begins_more : (held : List ℕ) (b : ℕ) → IsRun held → begins_word (held ++ b ∷ []) ≡ begins_word held
-begins_more [] b run = absurd run
-begins_more (c ∷ held) b run = refl
+-- what may be -1 begins with no letter
+pub minus_first : (held : List ℕ) → IsRun held → begins_minus_one held ≡ true → begins_word held ≡ false
+minus_first [] run more = absurd run
+minus_first (b ∷ held) run more = let is = begins_minus b held more in rw is refl
+
+-- ---- a byte that shows it
+
+module _ {V S : Type 0} (f : Format V) (H : S → List Piece → Type 0) (form : S) (line b : ℕ) where
+  -- the first byte behind the -1
+  pub shown_first : (bs : List ℕ) (o : Bool) → eqb b LF ≡ false → is_blank b ≡ false → is_letter b ≡ false → eqb b 45 ≡ false → AtAfter f H (this b) form line o [] bs
+      → DecidesIf f anything (bs ++ b ∷ []) (Err (record { line = line; kind = kinds.TrailingData }))
+  shown_first bs o other solid no_letter no_minus a =
+      one_other f H anything form line (b ∷ []) (bs ++ b ∷ []) solid no_letter (λ e more n. none_shown b [] line solid (other_begins b [] no_minus) e more) o
+      (after_byte f H form line b bs o [] other a)
+
+  -- a byte of the token
+  pub shown_later : (held bs : List ℕ) (o : Bool) → IsRun held → begins_minus_one held ≡ true → is_blank b ≡ false → eqb b LF ≡ false → begins_minus_one (held ++ b ∷ []) ≡ false → AtAfter f H (this b) form line o held bs
+      → DecidesIf f anything (bs ++ b ∷ []) (Err (record { line = line; kind = kinds.TrailingData }))
+  shown_later [] bs o run begun solid other none a = absurd run
+  shown_later (c ∷ held) bs o run begun solid other none a =
+      let more : IsRun ((c ∷ held) ++ b ∷ []) = run_more (c ∷ held) b run solid in
+      one_other f H anything form line (c ∷ (held ++ b ∷ [])) (bs ++ b ∷ []) more (minus_first (c ∷ held) run begun) (λ e rest n. none_shown c (held ++ b ∷ []) line more none e rest) o
+      (after_byte f H form line b bs o (c ∷ held) other a)
 
 -- ---- nothing is decided before the token has ended
 
 module _ {V S : Type 0} (f : Format V) (H : S → List Piece → Type 0) (form : S) (line : ℕ) (held bs : List ℕ) where
-  open_one_law : (before : List Piece) (word : Keyword) (n0 : ℕ) (toks : List Token) → IsRun held → length held ≤ 64 → begins_word held ≡ false → Ends f before word n0 toks → in_section f before word n0 toks held false line [] ≡ None
+  open_one_law : (before : List Piece) (word : Keyword) (n0 : ℕ) (toks : List Token) → IsRun held → begins_minus_one held ≡ true → Ends f before word n0 toks → in_section f before word n0 toks held false line [] ≡ None
   unfolding in_section goes new_pieces cut judge lines
-  open_one_law before word n0 toks run short other ends =
+  open_one_law before word n0 toks run begun ends =
       let t : Token = record { bytes = held; line = line; whole = false } in
-      let le : leb (length held) 64 ≡ true = le-leb _ _ short in
-      let extent : f.extent before word (toks ++ t ∷ []) ≡ record { count = length (toks ++ t ∷ []); closed = true; at_eof = false } = ends.extent (t ∷ []) ∙ rw (le, other) (ap (λ (k : ℕ). record { count = k; closed = true; at_eof = false }) (omega (arith, length-append toks (t ∷ [])))) in
+      let extent : f.extent before word (toks ++ t ∷ []) ≡ record { count = length (toks ++ t ∷ []); closed = true; at_eof = false } = ends.extent (t ∷ []) ∙ rw begun (ap (λ (k : ℕ). record { count = k; closed = true; at_eof = false }) (omega (arith, length-append toks (t ∷ [])))) in
       let last : last_line n0 (toks ++ t ∷ []) ≡ line = last_is_line toks n0 t in
       let clean : f.section before word n0 (toks ++ t ∷ []) Clean ≡ None = ends.clean (t ∷ []) in
       rw (append-nil held, tokens_of-open line held run, extent, take_all (toks ++ t ∷ []), get_end (toks ++ t ∷ []), and_false, clean, last, eq-leb line) refl
@@ -147,5 +152,5 @@ module _ {V S : Type 0} (f : Format V) (H : S → List Piece → Type 0) (form :
       eq-leb : (n : ℕ) → leb n n ≡ true
       eq-leb n = le-leb _ _ (omega arith)
 
-  pub open_one : (o : Bool) → IsRun held → length held ≤ 64 → begins_word held ≡ false → AtAfter f H anything form line o held bs → decided_by f false bs ≡ None
-  open_one o run short other a = at_none f form line bs _ (a.same false [] refl) (open_one_law a.before a.word a.first a.toks run short other a.ends)
+  pub open_one : (o : Bool) → IsRun held → begins_minus_one held ≡ true → AtAfter f H anything form line o held bs → decided_by f false bs ≡ None
+  open_one o run begun a = at_none f form line bs _ (a.same false [] refl) (open_one_law a.before a.word a.first a.toks run begun a.ends)

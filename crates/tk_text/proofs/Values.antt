@@ -11,7 +11,7 @@ use Rattle.tk_text.specs.Words.{spells}
 use Rattle.tk_text.specs.Pieces.{first_at, Fault}
 use Rattle.tk_text.specs.Tour.{in_range, number_tests}
 use Rattle.tk_text.specs.Entry.{IsNumber}
-use Rattle.tk_text.proofs.OneSteps.{integer_long}
+use Rattle.tk_text.proofs.MinusOne.{integer_long}
 
 pub spells-take : (k : ℕ) (w text : List ℕ) → length text < k → spells (take k w) text ≡ spells w text
 spells-take zero w text h = absurd (omega arith)

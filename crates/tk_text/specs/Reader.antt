@@ -15,7 +15,7 @@ use Rattle.tk_text.specs.declared.drive.Step.TheVariants as steps
 use Rattle.tk_text.specs.Lex.{LF, Token, is_blank, is_letter, is_word_byte, behind}
 use Rattle.tk_text.specs.Words.{keyword_of, role}
 use Rattle.tk_text.specs.declared.keyword.Role.TheVariants.{BeginsHeader, BeginsSection}
-use Rattle.tk_text.specs.Pieces.{Piece, Header, stop, Clean, Format, ended, decided_by, from_line, in_section, last_line, begins_word}
+use Rattle.tk_text.specs.Pieces.{Piece, Header, stop, Clean, Format, ended, decided_by, from_line, in_section, last_line, begins_minus_one}
 use Rattle.tk_text.specs.Scan.{Scans}
 use Rattle.tk_text.specs.Forms.{Goes, Closed, Ends, a_section, a_header, whole}
 use Rattle.tk_text.specs.Drive.{line_behind}
@@ -149,7 +149,7 @@ pub record AtAfter {V S : Type 0} (f : Format V) (H : S → List Piece → Type 
 
 -- what stands behind the -1, and may be one more
 abbrev pub IsMore : List ℕ → Type 0
-IsMore held = IsToken held × (begins_word held ≡ false)
+IsMore held = IsRun held × (begins_minus_one held ≡ true)
 
 abbrev pub AtPlace : {V S : Type 0} → Format V → (S → List Piece → Type 0) → (S → List Piece → Keyword → ℕ → List Token → Type 0) → Next → S → ℕ → List ℕ → Scan → List ℕ → Place → Type 0
 AtPlace f holds wants next form line held scan bs places.Start = AtLine f holds next form line [] bs

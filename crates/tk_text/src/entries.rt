@@ -1,11 +1,12 @@
 //! What a token is where a number is wanted.
-ghost use Rattle.std.specs.Prelude.{◌≡◌, ◌≤◌, pos, false, Some, None, IfSome};
+ghost use Rattle.std.specs.Prelude.{◌≡◌, ◌<◌, ◌≤◌, length, pos, false, Some, None, IfSome};
 ghost use Rattle.tk_text.specs.Lex as Lex;
 ghost use Rattle.tk_text.specs.Words as Words;
-ghost use Rattle.tk_text.specs.Pieces.{is_minus_one};
+ghost use Rattle.tk_text.specs.Pieces as Pieces;
 ghost use Rattle.tk_text.specs.Tour as Tour;
 ghost use Rattle.tk_text.specs.Entry.{IsEntry};
 
+use crate::held::Held;
 use crate::integers::integer;
 use crate::keyword::Keyword;
 use crate::words::keyword_of;
@@ -25,12 +26,20 @@ pub enum Entry {
 
 /// Whether bytes are an integer of the value -1.
 pub fn minus_one(bytes: &[u8]) -> bool
-    ensures { result ≡ is_minus_one (Lex.integer bytes.now) }
+    ensures { result ≡ Pieces.is_minus_one (Lex.integer bytes.now) }
 {
     match integer(bytes) {
         Some(number) => number == -1,
         None => false,
     }
+}
+
+/// Whether bytes are -1, or become -1 with a 1 behind them.
+pub fn begins_minus_one(held: &Held<64>) -> bool
+    requires room { length held.now < 64 }
+    ensures { result ≡ Pieces.begins_minus_one held.now }
+{
+    minus_one(held.as_slice()) || minus_one(held.followed_by(b'1').as_slice())
 }
 
 /// A number, where it is within limits.

@@ -51,6 +51,19 @@ impl<const N: usize> Held<N> {
         self.len += 1;
     }
 
+    /// The bytes, and one more.
+    pub fn followed_by(&self, byte: u8) -> Self
+        requires { length self.now < N }
+        ensures { result ≡ self.now ++ byte ∷ [] }
+    {
+        let mut longer = Held {
+            bytes: self.bytes,
+            len: self.len,
+        };
+        longer.push(byte);
+        longer
+    }
+
     /// Takes a byte, where there is room.
     pub fn keep(&mut self, byte: u8)
         ensures { self.new ≡ take N (self.old ++ byte ∷ []) }

@@ -3,7 +3,7 @@ ghost use Rattle.std.specs.Prelude.{◌≡◌, ◌^◌, ◌≤◌, ℕ, List, []
 ghost use Rattle.tk_text.specs.Reader.{Fed, anything};
 
 use crate::drive::Step;
-use crate::entries::minus_one;
+use crate::entries::{begins_minus_one, minus_one};
 use crate::fault::{TextFault, TextKind};
 use crate::form::{Form, Taken};
 use crate::held::{Held, blank, blank_or_end, letter, word_byte};
@@ -33,7 +33,7 @@ pub enum Place {
     Close,
     /// Behind the `-1` that ends a section, on its line or later.
     After(bool),
-    /// In a token behind that.
+    /// In a token behind that, which may be one more `-1`.
     One(bool),
 }
 
@@ -332,6 +332,9 @@ impl<F: Form> PieceReader<F> {
             self.place = Place::Word;
             return Ok(Step::More);
         }
+        if byte != b'-' {
+            return Err(self.fault(TextKind::TrailingData));
+        }
         self.held.clear();
         self.held.push(byte);
         self.place = Place::One(on_line);
@@ -387,11 +390,11 @@ impl<F: Form> PieceReader<F> {
         ensures goes { result ≡ Ok steps.Done → ⊥ }
     {
         if !blank_or_end(byte) {
-            if self.held.is_full() {
-                return Err(self.fault(TextKind::TrailingData));
-            }
             self.held.push(byte);
-            return Ok(Step::More);
+            if begins_minus_one(&self.held) {
+                return Ok(Step::More);
+            }
+            return Err(self.fault(TextKind::TrailingData));
         }
         self.end_one(on_line)?;
         self.feed_close(byte)

@@ -127,6 +127,12 @@ tour_beginnings =
     ∷ (tour (codes "1 2 -1\n"), undecided)
     ∷ (tour (codes "1 2 -1\n-"), undecided)
     ∷ (tour (codes "1 2 -1\n-1"), undecided)
+    ∷ (tour (codes "1 2 -1 -00"), undecided)
+    ∷ (tour (codes "1 2 -1 -" ++ replicate 17 48), undecided)
+    ∷ (tour (codes "1 2 -1 -" ++ replicate 18 48), fault 3 kinds.TrailingData)
+    ∷ (tour (codes "1 2 -1 -2"), fault 3 kinds.TrailingData)
+    ∷ (tour (codes "1 2 -1 -12"), fault 3 kinds.TrailingData)
+    ∷ (tour (codes "1 2 -1\n+"), fault 4 kinds.TrailingData)
     ∷ (tour (codes "1 2 -1\nEOF"), undecided)
     ∷ (tour (codes "1 2 -1\nEOF\n"), lists (1 ∷ 2 ∷ []))
     ∷ (tour (codes "1 2 -1 x"), fault 3 kinds.TrailingData)
@@ -155,6 +161,8 @@ tours_within =
     ∷ ((2, codes "FOO BAR"), fault 1 kinds.TooLong)
     ∷ ((0, codes "%"), fault 1 kinds.TrailingData)
     ∷ ((30, tour (codes "1 -1 x")), fault 3 kinds.TrailingData)
+    ∷ ((30, tour (codes "1 -1 5")), fault 3 kinds.TrailingData)
+    ∷ ((30, tour (codes "1 -1 -1")), fault 3 kinds.TooLong)
     ∷ []
 
 -- a number behind so many others, of which there may be 1,000,000

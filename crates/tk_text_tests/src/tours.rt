@@ -334,3 +334,41 @@ fn failing_sources(rt: HostRuntime) -> Result<(), Fail> {
     );
     Ok(())
 }
+
+/// Behind an ending `-1` a source is read on only while one `-1` more may stand there.
+#[test]
+fn one_ending_more(rt: HostRuntime) {
+    let a = rt.alloc();
+    let rows = [
+        (
+            b"TYPE : TOUR\nTOUR_SECTION 1 -1 -".as_slice(),
+            2,
+            TextKind::Read,
+        ),
+        (b"TYPE : TOUR\nTOUR_SECTION 1 -1 -0", 2, TextKind::Read),
+        (b"TYPE : TOUR\nTOUR_SECTION 1 -1\n -1", 3, TextKind::Read),
+        (
+            b"TYPE : TOUR\nTOUR_SECTION 1 -1 5",
+            2,
+            TextKind::TrailingData,
+        ),
+        (
+            b"TYPE : TOUR\nTOUR_SECTION 1 -1 -2",
+            2,
+            TextKind::TrailingData,
+        ),
+        (
+            b"TYPE : TOUR\nTOUR_SECTION 1 -1 -11",
+            2,
+            TextKind::TrailingData,
+        ),
+        (
+            b"TYPE : TOUR\nTOUR_SECTION 1 -1\n +",
+            3,
+            TextKind::TrailingData,
+        ),
+    ];
+    for (text, line, kind) in rows {
+        assert!(rt; is_fault(read_dripping(a, text, true), line, kind));
+    }
+}

@@ -1,29 +1,44 @@
-use Rattle.std.proofs.Common.{◌∷◌, [], ◌++◌, sym, ◌∙◌, arith}
+use Rattle.std.proofs.Common.{◌∷◌, [], ◌++◌, length, sym, ap, ◌∙◌, arith}
 use Rattle.std.proofs.lemmas.List.{length-append}
 use Rattle.std.proofs.lemmas.Result.{err_from_is_err_and}
+use Rattle.tk_text.specs.Pieces.{begins_minus_one}
 use Rattle.tk_text.specs.Reader.{anything, this, DecidesIf, a_gap}
 use Rattle.tk_text.proofs.Feeds.{at_place, told_at, told_byte, this_within, or_false}
 use Rattle.tk_text.proofs.InSteps.{run_more}
+use Rattle.tk_text.proofs.MinusOne.{begins_short}
 use Rattle.tk_text.proofs.AfterSteps.{after_byte}
-use Rattle.tk_text.proofs.OneSteps.{one_other, none_long, begins_more}
+use Rattle.tk_text.proofs.OneSteps.{shown_later}
 use Rattle.tk_text.proofs.Steps.{line_behind-byte}
 use Rattle.tk_text.proofs.reader.PieceReader.feed_one.Goals as goal
 
-pub returns-then-is_full-clause-err : goal.returns-then-is_full-clause-err
-returns-then-is_full-clause-err g c = λ bs fed.
+pub push-requires : goal.push-requires
+push-requires g c =
+    let bs = c.requires.known.0 in
+    let fed = c.requires.known.1 in
     let at = at_place g.F.Form.format g.F.Form.holds g.F.Form.wants (this c.args.byte) c.args.self.now.form c.args.self.now.line c.args.self.now.held c.args.self.now.scan bs c.args.self.now.place _ c.requires.place fed.1 in
-    let solid = (or_false _ _ (sym c.blank_or_end.ensures ∙ c.if-not-blank_or_end.true)) in
-    let now = after_byte g.F.Form.format g.F.Form.holds c.args.self.now.form c.args.self.now.line c.args.byte bs c.args.on_line c.args.self.now.held solid.1 at.1 in
-    let run = run_more c.args.self.now.held c.args.byte at.0.0.0 solid.0 in
-    told_at (DecidesIf g.F.Form.format anything (bs ++ c.args.byte ∷ [])) _ _ c.fault.ensures
-    (one_other g.F.Form.format g.F.Form.holds anything c.args.self.now.form c.args.self.now.line (c.args.self.now.held ++ c.args.byte ∷ []) (bs ++ c.args.byte ∷ []) run (begins_more c.args.self.now.held c.args.byte at.0.0.0 ∙ at.0.1)
-    (λ e more n. none_long (c.args.self.now.held ++ c.args.byte ∷ []) c.args.self.now.line run (omega (arith, c.is_full.ensures.full c.if-is_full.true, length-append c.args.self.now.held (c.args.byte ∷ []))) e more) c.args.on_line now)
+    omega (arith, begins_short c.args.self.now.held at.0.1)
 
-pub returns-then-not-blank_or_end-clause-more : goal.returns-then-not-blank_or_end-clause-more
-returns-then-not-blank_or_end-clause-more g c = λ bs fed.
+pub begins_minus_one-requires : goal.begins_minus_one-requires
+begins_minus_one-requires g c =
+    let bs = c.requires.known.0 in
+    let fed = c.requires.known.1 in
+    let at = at_place g.F.Form.format g.F.Form.holds g.F.Form.wants (this c.args.byte) c.args.self.now.form c.args.self.now.line c.args.self.now.held c.args.self.now.scan bs c.args.self.now.place _ c.requires.place fed.1 in
+    omega (arith, ap length c.push.ensures, begins_short c.args.self.now.held at.0.1, length-append c.args.self.now.held (c.args.byte ∷ []))
+
+pub returns-then-begins_minus_one-clause-more : goal.returns-then-begins_minus_one-clause-more
+returns-then-begins_minus_one-clause-more g c = λ bs fed.
     let at = at_place g.F.Form.format g.F.Form.holds g.F.Form.wants (this c.args.byte) c.args.self.now.form c.args.self.now.line c.args.self.now.held c.args.self.now.scan bs c.args.self.now.place _ c.requires.place fed.1 in
     let solid = (or_false _ _ (sym c.blank_or_end.ensures ∙ c.if-not-blank_or_end.true)) in
-    (fed.0 ∙ sym (line_behind-byte bs c.args.byte solid.1), rw (c.requires.place, c.push.ensures) (((run_more c.args.self.now.held c.args.byte at.0.0.0 solid.0, omega (arith, c.is_full.ensures.not_full c.if-is_full.false, length-append c.args.self.now.held (c.args.byte ∷ []))), begins_more c.args.self.now.held c.args.byte at.0.0.0 ∙ at.0.1), after_byte g.F.Form.format g.F.Form.holds c.args.self.now.form c.args.self.now.line c.args.byte bs c.args.on_line c.args.self.now.held solid.1 at.1))
+    let begun = sym (c.begins_minus_one.ensures ∙ ap begins_minus_one c.push.ensures) ∙ c.if-begins_minus_one.true in
+    (fed.0 ∙ sym (line_behind-byte bs c.args.byte solid.1), rw (c.requires.place, c.push.ensures) ((run_more c.args.self.now.held c.args.byte at.0.0 solid.0, begun), after_byte g.F.Form.format g.F.Form.holds c.args.self.now.form c.args.self.now.line c.args.byte bs c.args.on_line c.args.self.now.held solid.1 at.1))
+
+pub returns-then-not-blank_or_end-clause-err : goal.returns-then-not-blank_or_end-clause-err
+returns-then-not-blank_or_end-clause-err g c = λ bs fed.
+    let at = at_place g.F.Form.format g.F.Form.holds g.F.Form.wants (this c.args.byte) c.args.self.now.form c.args.self.now.line c.args.self.now.held c.args.self.now.scan bs c.args.self.now.place _ c.requires.place fed.1 in
+    let solid = (or_false _ _ (sym c.blank_or_end.ensures ∙ c.if-not-blank_or_end.true)) in
+    let none = sym (c.begins_minus_one.ensures ∙ ap begins_minus_one c.push.ensures) ∙ c.if-begins_minus_one.false in
+    told_at (DecidesIf g.F.Form.format anything (bs ++ c.args.byte ∷ [])) _ _ c.fault.ensures
+    (shown_later g.F.Form.format g.F.Form.holds c.args.self.now.form c.args.self.now.line c.args.byte c.args.self.now.held bs c.args.on_line at.0.0 at.0.1 solid.0 solid.1 none at.1)
 
 pub returns-in_err-end_one-clause-err : goal.returns-in_err-end_one-clause-err
 returns-in_err-end_one-clause-err g c = λ bs fed.
