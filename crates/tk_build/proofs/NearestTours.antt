@@ -9,7 +9,7 @@ use Rattle.std.proofs.lemmas.List.Sorted.{IsPermutation-swap, Contains-permutati
 use Rattle.tk_metric.specs.Cities.{IsCity}
 use Rattle.tk_tour.specs.Tour.{IsTour}
 use Rattle.tk_tour.proofs.Tours.{IsTour-from_distinct}
-use Rattle.tk_build.specs.NearestTour.{IsNearestTo, IsNearestTour}
+use Rattle.tk_build.specs.NearestTour.{IsNearestTo, IsNearestTour, IsNearestPath}
 use Rattle.tk_metric.specs.Keeping.{rank, candidate}
 use Rattle.tk_metric.proofs.OneEach.{OneEach-swap}
 use Rattle.tk_metric.proofs.Keeping.{closer_from_rank}
@@ -93,26 +93,28 @@ IsNearestTo-start dist n start xs city size entries =
       each = λ i li. absurd (omega arith);
     }
 
-nearest_city : (dist : ℕ → ℕ → ℕ) (n start : ℕ) (xs : List ℕ) → IsCity n start → IsNearestTour dist n start xs → (k : ℕ) → k < length xs → IsCity (length xs) (slice_index xs k)
-nearest_city dist n start xs city h k lk = ⊎_elim
-    (λ (e : k ≡ 0). let here : slice_index xs k ≡ start = ap (slice_index xs) e ∙ h.first in rw (here, h.count) city)
+-- what the definition says of each city of such a list: it is one of 1 to n, and new
+pub path_city : (dist : ℕ → ℕ → ℕ) (n start : ℕ) (xs : List ℕ) → IsCity n start → IsNearestPath dist n start xs → (k : ℕ) → k < length xs → IsCity n (slice_index xs k)
+path_city dist n start xs city h k lk = ⊎_elim
+    (λ (e : k ≡ 0). let here : slice_index xs k ≡ start = ap (slice_index xs) e ∙ h.first in rw here city)
     (λ ne.
     let e : k - 1 + 1 ≡ k = omega arith in
-    let m = (h.each (k - 1) (omega (arith, h.count))).member.0 in
-    rw h.count (rw e at m))
+    let m = (h.each (k - 1) (omega arith)).member.0 in
+    rw e at m)
     (cases_eq k 0)
 
-nearest_apart : (dist : ℕ → ℕ → ℕ) (n start : ℕ) (xs : List ℕ) → IsNearestTour dist n start xs → (i j : ℕ) → i < j → j < length xs → slice_index xs i ≢ slice_index xs j
-nearest_apart dist n start xs h i j lt lj =
+pub path_apart : (dist : ℕ → ℕ → ℕ) (n start : ℕ) (xs : List ℕ) → IsNearestPath dist n start xs → (i j : ℕ) → i < j → j < length xs → slice_index xs i ≢ slice_index xs j
+path_apart dist n start xs h i j lt lj =
     let e : j - 1 + 1 ≡ j = omega arith in
-    let m = (h.each (j - 1) (omega (arith, h.count))).member.1 i (omega arith) in
+    let m = (h.each (j - 1) (omega arith)).member.1 i (omega arith) in
     rw e at m
 
 pub IsNearestTour-from : (dist : ℕ → ℕ → ℕ) (n start : ℕ) (xs : List ℕ) → IsNearestTo dist n start n xs → IsNearestTour dist n start xs
 IsNearestTour-from dist n start xs h = record { count = h.count; first = h.first; each = h.each }
 
--- the definition makes it a tour: each city is one of 1 to n, and new
+-- so it is a tour
 pub IsTour-nearest : (dist : ℕ → ℕ → ℕ) (n start : ℕ) (xs : List ℕ) → IsCity n start → IsNearestTour dist n start xs → IsTour n xs
 IsTour-nearest dist n start xs city h =
-    let in_range : (k : ℕ) → k < length xs → (0 < slice_index xs k) × (slice_index xs k ≤ length xs) = λ k lk. let m = nearest_city dist n start xs city h k lk in (omega (arith, m.0), m.1) in
-    subst (λ v. IsTour v xs) h.count (IsTour-from_distinct xs in_range (λ i j lt lj. nearest_apart dist n start xs h i j lt lj))
+    let path : IsNearestPath dist n start xs = record { some = omega (arith, h.count, city.0, city.1); first = h.first; each = λ j l. h.each j (omega (arith, h.count)) } in
+    let in_range : (k : ℕ) → k < length xs → (0 < slice_index xs k) × (slice_index xs k ≤ length xs) = λ k lk. let m = path_city dist n start xs city path k lk in (omega (arith, m.0), omega (arith, m.1, h.count)) in
+    subst (λ v. IsTour v xs) h.count (IsTour-from_distinct xs in_range (λ i j lt lj. path_apart dist n start xs path i j lt lj))

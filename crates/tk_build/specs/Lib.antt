@@ -1,1 +1,2 @@
 pub mod NearestTour
+pub mod Unvisited

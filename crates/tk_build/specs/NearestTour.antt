@@ -23,3 +23,9 @@ pub record IsNearestTo (dist : ℕ → ℕ → ℕ) (n start j : ℕ) (cities : 
   pub apart : (i k : ℕ) → i < n → k < n → slice_index cities i ≡ slice_index cities k → i ≡ k
   pub whole : (b : ℕ) → IsCity n b → (q : ℕ) × (q < n) × (slice_index cities q ≡ b)
   pub each : (i : ℕ) → i + 1 < j → IsNearestAt dist n cities i
+
+-- the beginning of a nearest-neighbour tour
+pub record IsNearestPath (dist : ℕ → ℕ → ℕ) (n start : ℕ) (cities : List ℕ) : Type 0 where
+  pub some : 0 < length cities
+  pub first : slice_index cities 0 ≡ start
+  pub each : (j : ℕ) → j + 1 < length cities → IsNearestAt dist n cities j
