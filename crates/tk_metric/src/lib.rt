@@ -23,12 +23,13 @@ mod triangle;
 mod turned;
 mod whole;
 
+pub use keep::{Candidate, measure};
 pub use metric::{Metric, Planar};
 pub use near::{Near, near_lists_agree, near_scan};
 pub use planes::Planes;
 pub use roots::{root, root_up};
 pub use sub::Sub;
-pub use sweep::near_sweep;
+pub use sweep::{Placed, near_sweep, order_by_x};
 pub use table::Table;
 pub use triangle::Triangle;
-pub use turned::Turned;
+pub use turned::{Turned, is_tall};

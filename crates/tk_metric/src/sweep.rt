@@ -19,8 +19,8 @@ pub struct Placed {
 }
 
 impl Placed {
-    /// The difference in x.
-    fn gap_x(self, other: Placed) -> u64
+    /// The difference in x, in units of 10^-9.
+    pub fn gap_x(self, other: Placed) -> u64
         ensures { result ≡ x_gap self other }
     {
         self.place.x.abs_diff(other.place.x)
@@ -34,8 +34,11 @@ impl Placed {
     }
 }
 
-/// The cities in x order.
-fn order_by_x<P: Planar>(alloc: Global, m: &P) -> Result<Vec<Placed>, AllocError>
+/// The cities in the order of x, and of their numbers where x is equal.
+///
+/// # Errors
+/// `AllocError` where there is no memory for the row.
+pub fn order_by_x<P: Planar>(alloc: Global, m: &P) -> Result<Vec<Placed>, AllocError>
     ensures { IfOk result (λ v. IsXOrder (P.size_of m.now) (P.place_of m.now) v.items) }
 {
     let mut row = Vec::with_capacity(alloc, m.size() as usize)?;

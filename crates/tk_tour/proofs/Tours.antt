@@ -211,3 +211,17 @@ IsTour-from_inverse order place h =
     let b = (h.1 j le).2 in
     let same : i ≡ j = sym a ∙ ap (λ v. get_or place (v - 1) 0) e ∙ b in
     omega (arith, same))
+
+-- a list that holds no city twice, all of 1 to n, has at most n entries
+pub length-distinct : (n : ℕ) (xs : List ℕ) → ((k : ℕ) → k < length xs → (0 < get_or xs k 0) × (get_or xs k 0 ≤ n)) → HoldsOnce xs → length xs ≤ n
+length-distinct n xs r once = omega (arith, entries_to-all n xs r, entries_to-le n xs once)
+
+entries_to-least : (m : ℕ) (xs : List ℕ) → ((c : ℕ) → 0 < c → c ≤ m → 1 ≤ occurrences c xs) → m ≤ entries_to m xs
+unfolding entries_to
+entries_to-least zero xs h = omega arith
+entries_to-least (suc m) xs h =
+    omega (arith, entries_to-least m xs (λ c low high. h c low (omega arith)), h (suc m) (omega arith) (omega arith))
+
+-- and at least n where it holds them all
+pub length-whole : (n : ℕ) (xs : List ℕ) → ((k : ℕ) → k < length xs → (0 < get_or xs k 0) × (get_or xs k 0 ≤ n)) → ((c : ℕ) → 0 < c → c ≤ n → 1 ≤ occurrences c xs) → n ≤ length xs
+length-whole n xs r h = omega (arith, entries_to-all n xs r, entries_to-least n xs h)

@@ -1,0 +1,3 @@
+pub mod Linking
+pub mod NearestPaths
+pub mod NearestTours

@@ -1,0 +1,2 @@
+pub mod NearestTour
+pub mod Unvisited
