@@ -4,6 +4,7 @@ pub mod ListsHeld
 pub mod PairsFound
 pub mod PairsMerged
 pub mod PartLoads
+pub mod PartsConnected
 pub mod PartsJoined
 pub mod PathLists
 pub mod PathWalked

@@ -48,6 +48,10 @@ abbrev pub last_from : ℕ → List ℕ → ℕ
 last_from a [] = a
 last_from a (b ∷ xs) = last_from b xs
 
+-- a path of joints leads from a to b
+abbrev pub IsConnected : List Pair → ℕ → ℕ → Type 0
+IsConnected E a b = (xs : List ℕ) × (IsChain E a xs × (last_from a xs ≡ b))
+
 -- the part of the first city as the path of its joints, not ending lower than it begins
 unfoldable pub IsPartPath : List Pair → List ℕ → Type 0
 IsPartPath E [] = ⊥
