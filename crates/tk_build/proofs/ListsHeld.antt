@@ -152,6 +152,11 @@ unfolding IsPartPath
 path-distinct E [] h = tt
 path-distinct E (a ∷ xs) h = h.1
 
+pub path-filled : (E : List Pair) (xs : List ℕ) → IsPartPath E xs → 1 ≤ length xs
+unfolding IsPartPath
+path-filled E [] h = absurd h
+path-filled E (a ∷ xs) h = omega arith
+
 path-sum : (load : ℕ → ℕ) (E : List Pair) (n : ℕ) (xs : List ℕ) → IsPartPath E xs → ((b : ℕ) → holds xs b ≡ true → IsCity n b) →
     (a : ℕ) × ((holds xs a ≡ true) × (sum_by load xs ≡ part_load load E n (part E a)))
 unfolding IsPartPath

@@ -53,9 +53,9 @@ pub fn savings_lists<M: Metric>(
     requires loads { length loads.now ≡ M.size_of metric.now }
     ensures lists { IfOk result (λ v. AreSavingsLists (M.distance metric.now) (near_of near.now) (M.size_of metric.now) hub (load_of loads.now) capacity (map (λ x. x.items) v.items)) }
     ensures once { IfOk result (λ v. IsTour (M.size_of metric.now) (hub ∷ flat_map (λ x. x.items) v.items)) }
+    ensures filled { IfOk result (λ v. All (λ list. 1 ≤ length list.items) v.items) }
     ensures within { AreLight (M.size_of metric.now) hub (load_of loads.now) capacity → IfOk result (λ v. All (λ list. sum_by (load_of loads.now) list.items ≤ capacity) v.items) }
 {
-    let _size = metric.size();
     let pairs = candidate_pairs(alloc, metric, hub, near)?;
     let paths = joined_paths(alloc, loads, capacity, &pairs)?;
     let lists = paths.lists(alloc, hub)?;

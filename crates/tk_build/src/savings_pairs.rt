@@ -11,8 +11,11 @@ use tk_metric::{Metric, Near};
 /// Two cities i < j, and what is saved by going from the one to the other in place of twice to the hub.
 #[derive(Clone, Copy, PartialEq, Eq, PartialOrd, Ord, Drop)]
 pub struct Pair {
+    /// What is saved: the greatest comes first.
     pub saving: Reverse<u64>,
+    /// The lesser city.
     pub i: u32,
+    /// The greater city.
     pub j: u32,
 }
 

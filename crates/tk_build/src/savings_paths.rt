@@ -57,6 +57,7 @@ impl Paths {
             && self.load[i as usize] <= capacity - self.load[j as usize]
     }
 
+    /// Whether c ends a path: it has at most one neighbour.
     fn is_end(&self, c: u32) -> bool
         requires sizes { vec_len self.now.two ≡ vec_len self.now.one }
         requires city { c < vec_len self.now.one }
@@ -87,6 +88,7 @@ impl Paths {
         self.load[last as usize] = load;
     }
 
+    /// Gives an end c the neighbour d.
     fn link(&mut self, c: u32, d: u32)
         requires sizes { vec_len self.old.two ≡ vec_len self.old.one }
         requires city { c < vec_len self.old.one }
@@ -102,7 +104,7 @@ impl Paths {
         }
     }
 
-    /// The other neighbour of c.
+    /// The neighbour of c that is not `before`, from which c was reached.
     fn neighbour_past(&self, c: u32, before: u32) -> u32
         requires sizes { vec_len self.now.two ≡ vec_len self.now.one }
         requires city { c < vec_len self.now.one }

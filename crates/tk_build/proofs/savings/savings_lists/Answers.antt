@@ -2,7 +2,7 @@ use Rattle.std.proofs.Common.{◌≡◌, ℕ, ◌-◌, [], length, vec_len, subs
 use Rattle.tk_build.specs.PathEnds.{AreJoined, load_of}
 use Rattle.tk_build.specs.Joints.{joints}
 use Rattle.tk_build.proofs.HubApart.{all_within, finished}
-use Rattle.tk_build.proofs.SavingsLaws.{tour_of_lists, light_lists}
+use Rattle.tk_build.proofs.SavingsLaws.{tour_of_lists, light_lists, filled_lists}
 use Rattle.tk_build.proofs.savings.savings_lists.Goals as goal
 
 pub joined_paths-requires-clause-within : goal.joined_paths-requires-clause-within
@@ -28,3 +28,7 @@ returns-clause-once g c =
 pub returns-clause-within : goal.returns-clause-within
 returns-clause-within g c light =
     light_lists _ _ _ _ (load_of c.args.loads.now) c.args.capacity (λ x. x.items) c.in_ok-lists.lists.items (returns-clause-lists g c) light
+
+pub returns-clause-filled : goal.returns-clause-filled
+returns-clause-filled g c =
+    filled_lists _ _ _ _ (load_of c.args.loads.now) c.args.capacity (λ x. x.items) c.in_ok-lists.lists.items (returns-clause-lists g c)
