@@ -1,4 +1,9 @@
--- The savings merges, as a set of joints among the pairs.
+-- The savings merges as joints among the pairs (G. Clarke and J. W. Wright, 1964). E holds the joints made so far, the last one first.
+--     joints_at E c      how many joints a city has
+--     part E c      the name of a city's part: cities that joints connect have the same
+--     may_join load n capacity E p      whether the pair may become a joint
+--     joints load n capacity [] pairs      the joints among the pairs, taken in their order
+--     ArePartPaths n hub E lists      the parts of the cities but the hub, each as the path of its joints
 use Rattle.std.specs.Prelude.{◌≡◌, ◌≢◌, ℕ, suc, zero, ◌+◌, ◌<◌, ◌≤◌, Bool, true, false, ◌&&◌, ◌||◌, not, nat_le, List, [], ◌∷◌, ◌==◌, if◌then◌else◌, length, ◌↔◌, slice_index_or}
 use Rattle.std.specs.List.{All}
 use Rattle.tk_build.specs.Holding.{holds, IsDistinct}

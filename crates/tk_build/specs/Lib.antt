@@ -1,4 +1,5 @@
 pub mod Holding
+pub mod JointExamples
 pub mod Joints
 pub mod PathEnds
 pub mod SavingPairs

@@ -1,3 +1,8 @@
+-- The pairs of cities that the savings rule goes through (G. Clarke and J. W. Wright, 1964), over near lists.
+--     saving_of dist hub i j      what joining i and j saves
+--     IsPair dist n hub p      two cities i < j other than the hub, with a positive saving
+--     IsCandidate dist near n hub p      such a pair of which one is near the other
+--     AreCandidates dist near n hub pairs      all of them, each once, in the rule's order
 use Rattle.std.specs.Prelude.{◌≡◌, ◌≢◌, ℕ, ◌+◌, ◌-◌, ◌<◌, true, List, ◌⊎◌, ◌↔◌}
 use Rattle.std.specs.List.{AllPairs, Contains}
 use Rattle.tk_build.specs.Holding.{holds}

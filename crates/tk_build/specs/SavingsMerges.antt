@@ -1,4 +1,4 @@
--- The savings merges, whole.
+-- The lists of the savings merges (G. Clarke and J. W. Wright, 1964).
 use Rattle.std.specs.Prelude.{◌≢◌, ◌≤◌, ℕ, List, []}
 use Rattle.tk_metric.specs.Cities.{IsCity}
 use Rattle.tk_build.specs.SavingPairs.{AreCandidates}

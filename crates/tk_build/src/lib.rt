@@ -2,6 +2,8 @@
 #![tactic(auto)]
 
 mod savings;
+#[cfg(test)]
+mod savings_examples;
 mod savings_laws;
 mod savings_pairs;
 mod savings_paths;
