@@ -1,4 +1,4 @@
-//! Building tours.
+//! Starting tours, kicks and the trials of a search.
 #![tactic(auto)]
 
 mod nearest_by_x;
@@ -6,6 +6,17 @@ mod nearest_links;
 mod nearest_scan;
 #[cfg(test)]
 mod nearest_tests;
+mod savings;
+#[cfg(test)]
+mod savings_examples;
+mod savings_laws;
+mod savings_pairs;
+mod savings_paths;
+#[cfg(test)]
+mod savings_tests;
 
 pub use nearest_by_x::nearest_sweep;
 pub use nearest_scan::nearest;
+pub use savings::{savings_lists, savings_tour};
+pub use savings_laws::parts_are_connected;
+pub use savings_pairs::Pair;

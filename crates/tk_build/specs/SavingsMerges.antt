@@ -1,0 +1,15 @@
+-- The lists of the savings merges (G. Clarke and J. W. Wright, 1964).
+use Rattle.std.specs.Prelude.{◌≢◌, ◌≤◌, ℕ, List, []}
+use Rattle.tk_metric.specs.Cities.{IsCity}
+use Rattle.tk_build.specs.SavingPairs.{AreCandidates}
+use Rattle.tk_build.specs.Joints.{joints, ArePartPaths}
+use Rattle.tk_build.specs.declared.savings_pairs.Pair.{Pair}
+
+-- the lists are the parts that the joints among the candidate pairs make of the cities but the hub
+abbrev pub AreSavingsLists : (ℕ → ℕ → ℕ) → (ℕ → List ℕ) → ℕ → ℕ → (ℕ → ℕ) → ℕ → List (List ℕ) → Type 0
+AreSavingsLists dist near n hub load capacity lists =
+    (pairs : List Pair) × (AreCandidates dist near n hub pairs × ArePartPaths n hub (joints load n capacity [] pairs) lists)
+
+-- each city but the hub is within the capacity by itself
+abbrev pub AreLight : ℕ → ℕ → (ℕ → ℕ) → ℕ → Type 0
+AreLight n hub load capacity = (c : ℕ) → IsCity n c → c ≢ hub → load c ≤ capacity
