@@ -1,1 +1,3 @@
 pub mod Kicks
+pub mod TrialSteps
+pub mod Woken

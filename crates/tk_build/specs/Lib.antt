@@ -1,1 +1,5 @@
 pub mod Cuts
+pub mod Descents
+pub mod Settled
+pub mod Totals
+pub mod Trials

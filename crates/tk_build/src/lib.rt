@@ -2,9 +2,15 @@
 #![tactic(auto)]
 
 mod cuts;
+mod descending;
+mod keeping;
 #[cfg(test)]
 mod kick_tests;
 mod kicking;
+mod state;
+mod totals;
 
 pub use cuts::Cuts;
+pub use descending::SearchRules;
 pub use kicking::kick;
+pub use totals::{Totals, TrialReport};
