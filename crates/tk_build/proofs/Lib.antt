@@ -1,5 +1,6 @@
 pub mod EndsJoined
 pub mod HubApart
+pub mod Kicks
 pub mod Linking
 pub mod ListsHeld
 pub mod NearestPaths
@@ -13,3 +14,5 @@ pub mod PathLists
 pub mod PathWalked
 pub mod PathsRead
 pub mod SavingsLaws
+pub mod TrialSteps
+pub mod Woken

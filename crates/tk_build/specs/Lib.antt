@@ -1,3 +1,5 @@
+pub mod Cuts
+pub mod Descents
 pub mod Holding
 pub mod JointExamples
 pub mod Joints
@@ -5,4 +7,7 @@ pub mod NearestTour
 pub mod PathEnds
 pub mod SavingPairs
 pub mod SavingsMerges
+pub mod Settled
+pub mod Totals
+pub mod Trials
 pub mod Unvisited

@@ -1,6 +1,7 @@
 //! A segment's move is two flips, or three where it keeps its direction, and a double bridge is four.
 
 ghost use Rattle.std.specs.Prelude.{◌≡◌, ◌≤◌, ◌+◌, ◌*◌, ◌/◌, length};
+ghost use Rattle.tk_tour.specs.Counters.{saturated};
 ghost use Rattle.tk_tour.specs.Moves.{CutInFour, IsBridged, CutInThree, MovesReversed, MovesStraight, OrMove};
 
 use crate::store::TourStore;
@@ -53,7 +54,7 @@ pub fn double_bridge<S: TourStore>(
     ensures size { length (S.cities tour.new) ≡ length (S.cities tour.old) }
     ensures rises { S.swap_count tour.old ≤ S.swap_count tour.new }
     ensures swaps { S.swap_count tour.new ≤ S.swap_count tour.old + 4 * (length (S.cities tour.old) / 4) }
-    ensures flips { S.flip_count tour.new ≤ S.flip_count tour.old + 4 }
+    ensures flips { S.flip_count tour.new ≡ saturated (S.flip_count tour.old + 4) }
 {
     let _ = tour.flip(an, b1, dn, a1);
     let _ = tour.flip(an, dn, d1, cn);
