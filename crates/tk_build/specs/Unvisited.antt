@@ -25,6 +25,14 @@ abbrev pub IsFirstEntryLeft : List ℕ → List Bool → ℕ → Type 0
 IsFirstEntryLeft near visited b =
     (j : ℕ) × (j < length near) × (slice_index near j ≡ b) × IsLeft visited b × ((i : ℕ) → i < j → IsLeft visited (slice_index near i) → ⊥)
 
+-- no entry of a near list is left
+abbrev pub HasNoEntryLeft : List ℕ → List Bool → Type 0
+HasNoEntryLeft near visited = (i : ℕ) → i < length near → IsLeft visited (slice_index near i) → ⊥
+
+-- the best is there, and its distance is below this one
+abbrev pub IsNearerThan : Option Candidate → ℕ → Type 0
+IsNearerThan best d = (b : Candidate) × (best ≡ Some b) × (b.distance < d)
+
 -- the first m of a list are visited, and no other city
 abbrev pub AreVisited : ℕ → List Bool → ℕ → List ℕ → Type 0
 AreVisited n visited m cities = (c : ℕ) → IsCity n c → IsLeft visited c ↔ IsNew cities m c

@@ -1,11 +1,10 @@
 //! The unvisited cities in x order, each linked with the next and the one before.
-ghost use Rattle.std.specs.Prelude.{◌≡◌, ◌≢◌, ℕ, ◌+◌, ◌-◌, ◌≤◌, ◌<◌, ◌⊎◌, IfOk, IfSome, IsTrue, MatchOption, Some, All, length, slice_index, slice_set, replicate, true, false, ⊤};
+ghost use Rattle.std.specs.Prelude.{◌≡◌, ◌≢◌, ℕ, ◌+◌, ◌-◌, ◌≤◌, ◌<◌, ◌⊎◌, ◌↔◌, IfOk, IfSome, IsTrue, MatchOption, Some, All, length, slice_index, slice_set, replicate, true, false, ⊤};
 ghost use Rattle.tk_metric.specs.Cities.{IsCity};
 ghost use Rattle.tk_metric.specs.Keeping.{rank};
 ghost use Rattle.tk_metric.specs.Near.{AreNearest};
 ghost use Rattle.tk_metric.specs.Sweep.{IsXOrder, city_at};
-ghost use Rattle.tk_metric.specs.declared.keep.Candidate.{Candidate as Seen};
-ghost use Rattle.tk_build.specs.Unvisited.{HoldsEach, IsPlaceTable, IsLinked, IsLeft, IsLeftAt, IsNext, IsPrev, IsSearched, IsFirstLeft, IsFirstEntryLeft, AreAllVisited};
+ghost use Rattle.tk_build.specs.Unvisited.{HoldsEach, IsPlaceTable, IsLinked, IsLeft, IsLeftAt, IsNext, IsPrev, IsSearched, IsFirstLeft, IsFirstEntryLeft, HasNoEntryLeft, IsNearerThan, AreAllVisited};
 
 use std::alloc::{AllocError, Global};
 use tk_metric::{Candidate, Near, Placed, Planar, measure, order_by_x};
@@ -210,7 +209,7 @@ fn predecessors(alloc: Global, n: usize) -> Result<Vec<u32>, AllocError>
 /// The first entry of a near list that is left, if any.
 fn first_entry_left(near: &[u32], visited: &[bool]) -> Option<u32>
     requires cities { All (IsCity (length visited.now)) near.now }
-    ensures { IfSome result (λ b. IsFirstEntryLeft near.now visited.now b) }
+    ensures { MatchOption result (HasNoEntryLeft near.now visited.now) (λ b. IsFirstEntryLeft near.now visited.now b) }
 {
     for city in near {
         if !visited[*city as usize - 1] {
@@ -223,7 +222,7 @@ fn first_entry_left(near: &[u32], visited: &[bool]) -> Option<u32>
 /// Whether there is a best that no city at this difference in x can come before.
 fn is_past<P: Planar>(metric: &P, difference: u64, best: Option<Candidate>) -> bool
     requires { difference ≤ 2000000000000000000 }
-    ensures { IsTrue result → (b : Seen) × (best ≡ Some b) × (b.distance < P.floor metric.now difference) }
+    ensures { IsTrue result ↔ IsNearerThan best (P.floor metric.now difference) }
 {
     match best {
         Some(b) => metric.floor_x(difference) > b.distance as i64,

@@ -31,7 +31,7 @@ returns-then-is_past-clause-searched g c =
     record { wide = g.met.P.Planar.wide m; rises = g.met.P.Planar.floor_rises m; bounds = g.met.P.Planar.floor_bounds m } in
     let limit = g.met.P.Metric.size_limit m in
     let small : g.P.Metric.size_of m < 4294967296 = omega (arith, limit) in
-    let past = c.is_past.ensures c.if-is_past.true in
+    let past = c.is_past.ensures.0 c.if-is_past.true in
     let far = rw (here, there) at (rw c.gap_x.ensures at past.2) in
     let size : c.len.result ≡ length row = omega (arith, c.len.ensures) in
     rw (past.1, size) (searched_far_up (g.P.Metric.distance m) (g.P.Metric.size_of m) (g.P.Planar.place_of m) (g.P.Planar.floor m) row s.visited.items s.next.items s.prev.items c.args.p c.args.low c.args.high c.requires.order small c.requires.here c.requires.right.1 c.requires.right.0 past.0 laws (rw past.1 at c.requires.searched) far)
