@@ -1,3 +1,5 @@
+pub mod Bounds
 pub mod Kicks
+pub mod Searches
 pub mod TrialSteps
 pub mod Woken

@@ -1,5 +1,6 @@
 pub mod Cuts
 pub mod Descents
+pub mod Searching
 pub mod Settled
 pub mod Totals
 pub mod Trials

@@ -7,10 +7,12 @@ mod keeping;
 #[cfg(test)]
 mod kick_tests;
 mod kicking;
+mod searching;
 mod state;
 mod totals;
 
 pub use cuts::Cuts;
 pub use descending::SearchRules;
 pub use kicking::kick;
+pub use searching::Search;
 pub use totals::{Totals, TrialReport};
