@@ -1,3 +1,4 @@
+pub mod Bounds
 pub mod EndsJoined
 pub mod HubApart
 pub mod Kicks
@@ -14,5 +15,6 @@ pub mod PathLists
 pub mod PathWalked
 pub mod PathsRead
 pub mod SavingsLaws
+pub mod Searches
 pub mod TrialSteps
 pub mod Woken

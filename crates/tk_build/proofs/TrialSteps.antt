@@ -1,5 +1,5 @@
 -- One trial of a search.
-use Rattle.std.proofs.Common.{◌≡◌, ℕ, ◌<◌, Bool, true, false, List, length, refl, sym, ap, ◌∙◌, subst, arith}
+use Rattle.std.proofs.Common.{◌≡◌, ℕ, ◌+◌, ◌-◌, ◌<◌, ◌≤◌, Bool, true, false, List, length, refl, sym, ap, ◌∙◌, subst, arith}
 use Rattle.std.specs.Prelude.{ℤ, pos, ◌-ℤ◌, ◌↔◌, IsTrue}
 use Rattle.std.specs.Int.RustNames.{unsigned_abs}
 use Rattle.std.proofs.lemmas.Int.{to_z-of_z, ints}
@@ -34,3 +34,12 @@ gain_bits p a b x y r fp fa ep ea eb h =
     let inner : to_z w64 (of_z w64 p) -ℤ to_z w64 (of_z w64 a) ≡ pos x -ℤ pos y = ap (λ v. v -ℤ to_z w64 (of_z w64 a)) px ∙ ap (λ v. pos x -ℤ v) (to_z-of_z w64 a fa ∙ ea) in
     h ∙ ap (λ v. unsigned_abs (to_z w64 (of_z w64 v))) inner ∙ ap unsigned_abs (to_z-of_z w64 (pos x -ℤ pos y) fits) ∙
     ap (λ v. unsigned_abs (v -ℤ pos y)) (sym (eb ∙ px)) ∙ ap (λ v. unsigned_abs (b -ℤ v)) (sym ea)
+
+-- a move gains at least one
+pub moves_gain : (b a : ℤ) (x y moves : ℕ) → b ≡ pos x → a ≡ pos y → moves + y ≤ x → moves ≤ unsigned_abs (b -ℤ a)
+moves_gain b a x y moves eb ea h =
+    let e : unsigned_abs (b -ℤ a) ≡ x - y = ap (λ v. unsigned_abs (v -ℤ a)) eb ∙ ap (λ v. unsigned_abs (pos x -ℤ v)) ea ∙ apart in
+    omega arith
+  where
+    apart : unsigned_abs (pos x -ℤ pos y) ≡ x - y
+    apart = grind (arith, ints)

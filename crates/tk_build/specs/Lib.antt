@@ -7,6 +7,7 @@ pub mod NearestTour
 pub mod PathEnds
 pub mod SavingPairs
 pub mod SavingsMerges
+pub mod Searching
 pub mod Settled
 pub mod Totals
 pub mod Trials

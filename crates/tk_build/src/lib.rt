@@ -20,6 +20,7 @@ mod savings_pairs;
 mod savings_paths;
 #[cfg(test)]
 mod savings_tests;
+mod searching;
 mod state;
 mod totals;
 
@@ -31,4 +32,5 @@ pub use nearest_scan::nearest;
 pub use savings::{savings_lists, savings_tour};
 pub use savings_laws::parts_are_connected;
 pub use savings_pairs::Pair;
+pub use searching::Search;
 pub use totals::{Totals, TrialReport};

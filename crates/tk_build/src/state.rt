@@ -1,5 +1,5 @@
 //! Where a search stands, and its next trial.
-ghost use Rattle.std.specs.Prelude.{◌≡◌, pos, ◌+◌, ◌-◌, ◌*◌, ◌/◌, ◌<◌, ◌≤◌, [], length, true, false, All};
+ghost use Rattle.std.specs.Prelude.{◌≡◌, pos, ◌+◌, ◌-◌, ◌*◌, ◌/◌, ◌^◌, ◌<◌, ◌≤◌, [], length, true, false, All};
 ghost use Rattle.tk_metric.specs.Cities.{IsCity};
 ghost use Rattle.tk_descent.specs.Awake.{one_to, woken_each};
 ghost use Rattle.tk_metric.specs.Near.{near_of};
@@ -72,6 +72,8 @@ impl State {
         // what it counts
         ensures adds { AddsTrial self.old.totals self.new.totals result (gain_of result) }
         ensures counts { AreCountsOf self.new.totals self.new.tour self.new.best }
+        ensures small { (self.new.totals.swaps < 2 ^ 64) × (self.new.totals.copied < 2 ^ 65) }
+        ensures moves { result.descent.moves ≤ gain_of result }
         ensures tests_once { rules.sweep ≡ false → result.descent.tests ≤ 4 * rules.or_segment * near.now.width * (length self.old.waking.queue + 6 * result.descent.moves) }
         ensures tests_swept { rules.sweep ≡ true → result.descent.tests ≤ 4 * rules.or_segment * near.now.width * (length (order_of self.old.best) * result.passes + 6 * result.descent.moves) }
         ensures swapped { swaps_of (tour_of self.new.tour) ≡ swaps_of (tour_of self.old.tour) + result.descent.swaps }
@@ -113,6 +115,7 @@ impl State {
         ensures flips { flips_since self.new.tour ≡ saturated (flips_since self.old.tour + 4) }
         ensures swaps { (swaps_of (tour_of self.old.tour) ≤ swaps_of (tour_of self.new.tour)) × (swaps_of (tour_of self.new.tour) ≤ swaps_of (tour_of self.old.tour) + 4 * (length (order_of (tour_of self.old.tour)) / 4)) }
         ensures kept { KeepsSettled self.old.tour self.new.tour }
+        ensures size { length (order_of (tour_of self.new.tour)) ≡ length (order_of (tour_of self.old.tour)) }
         ensures others { (self.new.best ≡ self.old.best) × (self.new.shortest ≡ self.old.shortest) × (self.new.totals ≡ self.old.totals) × (self.new.waking.size ≡ self.old.waking.size) }
     {
         let cuts = Cuts::draw(rng, self.tour.size());

@@ -1,5 +1,5 @@
 //! What a search counts.
-ghost use Rattle.std.specs.Prelude.{◌≡◌, ◌≤◌, ◌-ℤ◌, pos};
+ghost use Rattle.std.specs.Prelude.{◌≡◌, ◌<◌, ◌^◌};
 
 use tk_descent::Report;
 use tk_tour::{ArrayTour, JournalTour, TourStore};
@@ -74,6 +74,7 @@ impl Totals {
     ) -> Totals
         ensures adds { AddsTrial self result report.now gained }
         ensures counts { AreCountsOf result tour.now best.now }
+        ensures small { (result.swaps < 2 ^ 64) × (result.copied < 2 ^ 65) }
     {
         let descent = &report.descent;
         let now = tour.tour();

@@ -5,7 +5,7 @@ use Rattle.std.specs.Prelude.{pos}
 use Rattle.tk_tour.specs.Tour.{tour_length}
 use Rattle.tk_tour.specs.ArrayTours.{order_of}
 use Rattle.tk_tour.specs.JournalTours.{tour_of, slots_of, flips_since, KeepsSettled}
-use Rattle.tk_build.proofs.TrialSteps.{same_size, less_of, gain_is, gain_bits}
+use Rattle.tk_build.proofs.TrialSteps.{same_size, less_of, gain_is, gain_bits, moves_gain}
 use Rattle.tk_build.proofs.state.State.descend.Goals as goal
 use Rattle.tk_build.proofs.state.State.descend.Goals.{then-better, else-better}
 use mir.Syntax.{w64}
@@ -75,3 +75,9 @@ returns-clause-copied_back g c = λ h.
     let k = c.keep_better.ensures.rewound h room in
     omega (arith, k.0, k.1, kept.copied))
     (cases_lt (slots_of tour) (flips_since tour))
+
+pub returns-clause-moves : goal.returns-clause-moves
+returns-clause-moves g c =
+    let e = c.descend_by-passes.ensures in
+    let fp : SFits w64 c.args.before = search rules in
+    moves_gain _ _ _ _ _ (e.lengths.0 ∙ to_z-of_z w64 c.args.before fp ∙ c.requires.before) e.lengths.1 e.moves

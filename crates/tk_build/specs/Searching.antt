@@ -1,0 +1,71 @@
+-- Searches by trials.
+--     Searching      what callers see of a search
+--     IsFirstTrial, IsKickedTrial, IsNoTrial      its next trial
+use Rattle.std.specs.Prelude.{◌≡◌, ℕ, ◌≤◌, List, [], length, pos, true, false}
+use Rattle.rand_core.specs.Stream.{Stream}
+use Rattle.tk_metric.specs.Near.{NearLists, near_of}
+use Rattle.tk_tour.specs.ArrayTours.{order_of}
+use Rattle.tk_tour.specs.JournalTours.{slots_of}
+use Rattle.tk_tour.specs.Tour.{tour_length}
+use Rattle.tk_descent.specs.Awake.{one_to}
+use Rattle.tk_build.specs.Settled.{IsAtBest}
+use Rattle.tk_build.specs.Totals.{AddsTrial, AreCountsOf, IsBounded}
+use Rattle.tk_build.specs.Trials.{IsTrial, IsKick, gain_of}
+use Rattle.tk_build.specs.declared.descending.SearchRules.{SearchRules}
+use Rattle.tk_build.specs.declared.state.State.{State}
+use Rattle.tk_build.specs.declared.totals.Totals.{Totals}
+use Rattle.tk_build.specs.declared.totals.TrialReport.{TrialReport}
+
+-- the distances, the near lists and the rules of a search, the best tour so far and what was counted
+pub record Searching : Type 0 where
+  pub distance : ℕ → ℕ → ℕ
+  pub near : NearLists
+  pub rules : SearchRules
+  pub best : List ℕ
+  pub totals : Totals
+
+abbrev pub searching : (ℕ → ℕ → ℕ) → NearLists → SearchRules → State → Searching
+searching distance near rules state = record { distance = distance; near = near; rules = rules; best = order_of state.best; totals = state.totals }
+
+-- a search before its first trial: the best tour is the start
+pub record IsBegun (search : Searching) (distance : ℕ → ℕ → ℕ) (near : NearLists) (rules : SearchRules) (start : List ℕ) : Type 0 where
+  pub table : (search.distance ≡ distance) × (search.near ≡ near) × (search.rules ≡ rules)
+  pub best : search.best ≡ start
+  pub trials : search.totals.trials ≡ 0
+  pub length_is : search.totals.start ≡ pos (tour_length distance start)
+
+-- the first trial: a descent from the best tour, which is the start, with all cities awake
+pub record IsFirstTrial (old new : Searching) (report : TrialReport) : Type 0 where
+  pub trial : IsTrial old.distance (near_of old.near) old.rules old.best (one_to (length old.best)) old.best new.best report
+  pub kicked : report.kicked ≡ false
+  pub adds : AddsTrial old.totals new.totals report (gain_of report)
+
+-- a later trial: a descent from a kick of the best tour
+pub record IsKickedTrial (old : Searching) (words : Stream) (new : Searching) (rest : Stream) (report : TrialReport) : Type 0 where
+  pub tour : List ℕ
+  pub awake : List ℕ
+  pub kick : IsKick old.best words old.rules.sweep [] tour rest awake
+  pub trial : IsTrial old.distance (near_of old.near) old.rules tour awake old.best new.best report
+  pub kicked : report.kicked ≡ true
+  pub adds : AddsTrial old.totals new.totals report (gain_of report)
+
+-- no trial: both lengths are the best tour's, and nothing was counted
+pub record IsNoTrial (search : Searching) (report : TrialReport) : Type 0 where
+  pub flags : (report.kicked ≡ false) × (report.better ≡ false)
+  pub before : report.descent.before ≡ pos (tour_length search.distance search.best)
+  pub after : report.descent.after ≡ pos (tour_length search.distance search.best)
+  pub counts : (report.passes ≡ 0) × (report.descent.moves ≡ 0) × (report.descent.looks ≡ 0) × (report.descent.tests ≡ 0) × (report.descent.swaps ≡ 0)
+
+-- what holds between two trials
+pub record IsSearching (size : ℕ) (distance : ℕ → ℕ → ℕ) (near : NearLists) (rules : SearchRules) (state : State) : Type 0 where
+  pub cities : size ≡ length (order_of state.best)
+  pub lists : near.size ≡ length (order_of state.best)
+  pub queue : state.waking.size ≡ length (order_of state.best)
+  pub asleep : state.waking.queue ≡ []
+  pub segment : (1 ≤ rules.or_segment) × (rules.or_segment ≤ 3)
+  pub at_best : IsAtBest state.tour state.best
+  pub slots : slots_of state.tour ≡ length (order_of state.best)
+  pub shortest : state.shortest ≡ pos (tour_length distance (order_of state.best))
+  pub counts : AreCountsOf state.totals state.tour state.best
+  pub untried : state.totals.trials ≡ 0 → state.totals.tests ≡ 0
+  pub bounds : IsBounded (length (order_of state.best)) near.width rules (tour_length distance (order_of state.best)) state.totals
