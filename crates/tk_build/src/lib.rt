@@ -7,6 +7,8 @@ mod keeping;
 #[cfg(test)]
 mod kick_tests;
 mod kicking;
+#[cfg(test)]
+mod search_tests;
 mod searching;
 mod state;
 mod totals;
