@@ -20,6 +20,8 @@ mod savings_pairs;
 mod savings_paths;
 #[cfg(test)]
 mod savings_tests;
+#[cfg(test)]
+mod search_tests;
 mod searching;
 mod state;
 mod totals;
