@@ -1,5 +1,5 @@
 -- Bytes that are none of the formats' words.
-use Rattle.std.proofs.Common.{◌≡◌, ◌≢◌, ℕ, suc, ◌-◌, ◌<◌, ◌≤◌, Bool, true, false, cond, eqb, leb, ltb, ◌&&◌, List, [], ◌∷◌, length, get_or, take, map, Option, Some, None, ℤ, refl, sym, ap, ◌∙◌, arith}
+use Rattle.std.proofs.Common.{◌≡◌, ◌≢◌, ℕ, suc, ◌-◌, ◌<◌, ◌≤◌, Bool, true, false, cond, eqb, leb, ltb, ◌&&◌, List, [], ◌∷◌, length, slice_index_or, get_or, take, map, Option, Some, None, ℤ, refl, sym, ap, ◌∙◌, arith}
 use Rattle.std.specs.Prelude.{codes}
 use Rattle.std.specs.Char.{to_ascii_uppercase, is_ascii_digit}
 use Rattle.std.proofs.lemmas.Bool.{eqb-true, ne_eqb, le-leb, leb-true, ltb-true, ltb-false, lt-leb}
@@ -143,7 +143,18 @@ no_integer b bs h = by_sign (eqb b 45) refl (eqb b 43) refl
     by_sign false p true q = let is = eqb-true b 43 q in absurd (let k = rw is at h in cc)
     by_sign false p false q = rw (p, q, no_natural b bs h) refl
 
--- a word begins with a letter, and no integer does
+-- a word begins with a letter
+pub none-no_word : (bs : List ℕ) → length bs < 1 → keyword_of (without_colon bs) ≡ None
+unfolding keyword_of section_word rest_word
+none-no_word [] h = refl
+none-no_word (b ∷ bs) h = absurd (omega (arith, h))
+
+pub other-no_word : (bs : List ℕ) → is_letter (slice_index_or bs 0 0) ≡ false → keyword_of (without_colon bs) ≡ None
+unfolding keyword_of section_word rest_word
+other-no_word [] h = refl
+other-no_word (b ∷ bs) h = headed b bs h
+
+-- and no integer does
 pub integer-no_word : (bs : List ℕ) (z : ℤ) → integer bs ≡ Some z → keyword_of (without_colon bs) ≡ None
 unfolding keyword_of section_word rest_word
 integer-no_word [] z h = refl

@@ -6,7 +6,7 @@ ghost use Rattle.tk_text.specs.Pieces as Pieces;
 ghost use Rattle.tk_text.specs.Tour as Tour;
 ghost use Rattle.tk_text.specs.Entry.{IsEntry};
 
-use crate::held::Held;
+use crate::held::{Held, letter};
 use crate::integers::integer;
 use crate::keyword::Keyword;
 use crate::words::keyword_of;
@@ -71,7 +71,11 @@ fn without_colon(bytes: &[u8]) -> &[u8]
 pub fn keyword_in(bytes: &[u8]) -> Option<Keyword>
     ensures { result ≡ Words.keyword_of (Tour.without_colon bytes.now) }
 {
-    keyword_of(without_colon(bytes))
+    // Numbers come far more often than words, and a word begins with a letter.
+    match bytes {
+        [first, ..] if letter(*first) => keyword_of(without_colon(bytes)),
+        _ => None,
+    }
 }
 
 /// What a token is where a number is wanted.

@@ -58,7 +58,7 @@ pub use pen::{Pen, WriteFault};
 pub use place::Place;
 pub use point::{Point, SCALE, WholePoint};
 pub use points::{Places, Points};
-pub use problem::{Problem, TourText};
+pub use problem::{Problem, SolText, TourText};
 pub use problem_text::read_problem;
 pub use routing::Routing;
 pub use sink::{Sink, ToWrite};

@@ -1,4 +1,4 @@
-//! What a problem text and a tour text hold.
+//! What a problem text, a tour text and a solution text hold.
 ghost use Rattle.std.specs.Prelude.{◌≤◌, length};
 ghost use Rattle.tk_text.specs.Shape.{WeightsFit, RoutingFits};
 
@@ -23,4 +23,11 @@ pub struct Problem {
 #[derive(Drop)]
 pub struct TourText {
     pub cities: Vec<u32>,
+}
+
+/// The routes that a solution text lists, as numbers of customers, and the cost that it tells.
+#[derive(Drop)]
+pub struct SolText {
+    pub routes: Vec<Vec<u32>>,
+    pub cost: i64,
 }
