@@ -1,8 +1,8 @@
 -- What bytes decide, they decide for every text that begins with them.
-use Rattle.std.proofs.Common.{◌≡◌, ℕ, zero, suc, ◌+◌, ◌-◌, ◌<◌, ◌≤◌, Bool, true, false, cond, leb, List, [], ◌∷◌, ◌++◌, length, get_or, take, drop, Option, Some, None, Result, Err, refl, sym, ap, subst, ◌∙◌, append_assoc, arith}
+use Rattle.std.proofs.Common.{◌≡◌, ℕ, zero, suc, ◌+◌, ◌-◌, ◌<◌, ◌≤◌, Bool, true, false, cond, leb, List, [], ◌∷◌, ◌++◌, length, get_or, take, take-add, drop, Option, Some, None, Result, Err, refl, sym, ap, subst, ◌∙◌, append_assoc, arith}
 use Rattle.std.specs.Prelude.{unwrap_or}
 use Rattle.std.proofs.lemmas.Bool.{lt-leb, le-leb}
-use Rattle.std.proofs.lemmas.List.{length-append, take_at, length-take, drop_more, take-append-drop, append-nil}
+use Rattle.std.proofs.lemmas.List.{length-append, take_at, take_more, take-take, length-take, drop_more, take-append-drop, append-nil}
 use Rattle.tk_text.specs.declared.fault.TextFault.{TextFault}
 use Rattle.tk_text.specs.declared.fault.TextKind.{TextKind}
 use Rattle.tk_text.specs.declared.fault.TextKind.TheVariants as kinds
@@ -70,6 +70,14 @@ module _ {V : Type 0} (d : Decided V) (limit : ℕ) (bs piece : List ℕ) (i : �
       let len : length (bs ++ take i piece) ≡ limit = omega (arith, length-append bs (take i piece), length-take i piece) in
       let a : Result V TextFault = Err (record { line = line_behind (bs ++ take i piece); kind = kinds.TooLong }) in
       subst (λ (x : List ℕ). Answers d limit x a) (sym (split_piece bs piece i lt)) (answers_more d limit _ (drop (i + 1) piece) a (answers_too_long d limit (bs ++ take i piece) (get_or piece i 0) len none))
+
+-- a byte, and a run of the bytes behind it
+pub taken_on : (bs piece : List ℕ) (i run room : ℕ) → i < length piece → run ≤ room → ((bs ++ take i piece) ++ get_or piece i 0 ∷ []) ++ take run (take room (drop (i + 1) piece)) ≡ bs ++ take (i + 1 + run) piece
+taken_on bs piece i run room lt le =
+    let behind = take run (drop (i + 1) piece) in
+    let front : (bs ++ take i piece) ++ get_or piece i 0 ∷ [] ≡ bs ++ take (i + 1) piece = rw (take_more piece i 0 lt) (append_assoc bs (take i piece) (get_or piece i 0 ∷ [])) in
+    ap (λ (l : List ℕ). ((bs ++ take i piece) ++ get_or piece i 0 ∷ []) ++ l) (take-take run room (drop (i + 1) piece) le)
+    ∙ ap (λ (l : List ℕ). l ++ behind) front ∙ rw (take-add (i + 1) run piece) (append_assoc bs (take (i + 1) piece) behind)
 
 -- ---- what a source has left
 

@@ -49,6 +49,7 @@ pub mod Spelling
 pub mod Steps
 pub mod Taking
 pub mod Told
+pub mod TokenRuns
 pub mod Tours
 pub mod Triangle
 pub mod Values

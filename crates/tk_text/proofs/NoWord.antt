@@ -1,17 +1,13 @@
 -- Bytes that are none of the formats' words.
-use Rattle.std.proofs.Common.{◌≡◌, ◌≢◌, ℕ, suc, ◌-◌, ◌<◌, ◌≤◌, Bool, true, false, cond, eqb, leb, ltb, ◌&&◌, List, [], ◌∷◌, length, slice_index_or, get_or, take, map, Option, Some, None, ℤ, refl, sym, ap, ◌∙◌, arith}
+use Rattle.std.proofs.Common.{◌≡◌, ◌≢◌, ℕ, suc, ◌-◌, ◌<◌, ◌≤◌, Bool, true, false, cond, eqb, leb, ltb, ◌&&◌, List, [], ◌∷◌, length, get_or, take, map, Option, Some, None, ℤ, refl, sym, ap, ◌∙◌, arith}
 use Rattle.std.specs.Prelude.{codes}
 use Rattle.std.specs.Char.{to_ascii_uppercase, is_ascii_digit}
 use Rattle.std.proofs.lemmas.Bool.{eqb-true, ne_eqb, le-leb, leb-true, ltb-true, ltb-false, lt-leb}
 use Rattle.tk_text.specs.Lex.{is_letter, natural, integer}
-use Rattle.tk_text.specs.Words.{same_bytes, spells, keyword_of, section_word, rest_word}
+use Rattle.tk_text.specs.Words.{same_bytes, spells, begins_word, keyword_of, section_word, rest_word}
 use Rattle.tk_text.proofs.Resume.{and_false}
 use Rattle.tk_text.proofs.Sections.{or_true}
 use Rattle.tk_text.specs.Tour.{without_colon}
-
-abbrev pub begins_word : List ℕ → Bool
-begins_word [] = false
-begins_word (b ∷ bs) = is_letter b
 
 -- no word is spelled where no text is that begins with a letter and has at most 20 bytes
 pub keyword_of-none : (bs : List ℕ) → ((text : List ℕ) → (begins_word text && leb (length text) 20) ≡ true → spells bs text ≡ false) → keyword_of bs ≡ None
@@ -144,12 +140,7 @@ no_integer b bs h = by_sign (eqb b 45) refl (eqb b 43) refl
     by_sign false p false q = rw (p, q, no_natural b bs h) refl
 
 -- a word begins with a letter
-pub none-no_word : (bs : List ℕ) → length bs < 1 → keyword_of (without_colon bs) ≡ None
-unfolding keyword_of section_word rest_word
-none-no_word [] h = refl
-none-no_word (b ∷ bs) h = absurd (omega (arith, h))
-
-pub other-no_word : (bs : List ℕ) → is_letter (slice_index_or bs 0 0) ≡ false → keyword_of (without_colon bs) ≡ None
+pub other-no_word : (bs : List ℕ) → begins_word bs ≡ false → keyword_of (without_colon bs) ≡ None
 unfolding keyword_of section_word rest_word
 other-no_word [] h = refl
 other-no_word (b ∷ bs) h = headed b bs h

@@ -16,7 +16,7 @@ use Rattle.tk_text.proofs.Ending.{at_none, tokens_of-open, get_end, take_all}
 use Rattle.tk_text.proofs.MinusOne.{begins_minus, no_more, no_more_with_one, other_begins}
 use Rattle.tk_text.proofs.AfterSteps.{after_byte}
 use Rattle.tk_text.proofs.InSteps.{run_more}
-use Rattle.tk_text.proofs.NoWord.{begins_word}
+use Rattle.tk_text.specs.Words.{begins_word}
 
 module _ {V S : Type 0} (f : Format V) (H : S → List Piece → Type 0) (next : Next) (form : S) (line : ℕ) (o : Bool) (held bs : List ℕ) (within : Within next a_gap) (run : IsRun held) (a : AtAfter f H next form line o held bs) where
   -- one -1 more ends the section

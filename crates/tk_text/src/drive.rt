@@ -47,6 +47,11 @@ pub trait TextReader: Drop {
         ensures err { (bs : List ℕ) → fed self.old bs → IfErr result (IsTold ⊥ (Decides decided (bs ++ byte ∷ []))) }
         ensures complete { (bs : List ℕ) → fed self.old bs → result ≡ Ok Step.Done → complete self.new };
 
+    /// Takes as many of the bytes as go on what it stands in, at least none, and says how many.
+    fn feed_run(&mut self, bytes: &[u8]) -> usize
+        ensures count { result ≤ length bytes.now }
+        ensures fed { (bs : List ℕ) → fed self.old bs → fed self.new (bs ++ take result bytes.now) };
+
     /// The answer at the end of the bytes.
     fn finish(self) -> Result<Self::Out, TextFault>
         requires { (bs : List ℕ) × fed self bs }
@@ -74,20 +79,22 @@ pub fn feed_piece<P: TextReader>(
     ensures room { result ≡ Ok Step.More → count + length piece.now ≤ limit }
     ensures complete { (bs : List ℕ) → P.fed reader.old bs → length bs ≡ count → result ≡ Ok Step.Done → P.complete reader.new }
 {
-    let mut done = count;
-    for byte in piece {
+    let end = piece.len().min((limit - count) as usize);
+    let mut index = 0;
+    while index < piece.len() {
         let line = reader.line();
-        match reader.feed(*byte)? {
+        match reader.feed(piece[index])? {
             Step::Done => return Ok(Step::Done),
             Step::More => {}
         }
-        if done == limit {
+        if index == end {
             return Err(TextFault {
                 line,
                 kind: TextKind::TooLong,
             });
         }
-        done += 1;
+        index += 1;
+        index += reader.feed_run(&piece[index..end]);
     }
     Ok(Step::More)
 }

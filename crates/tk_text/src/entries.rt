@@ -67,15 +67,25 @@ fn without_colon(bytes: &[u8]) -> &[u8]
     bytes
 }
 
+/// Whether bytes begin as every word does.
+fn begins_word(bytes: &[u8]) -> bool
+    ensures { result ≡ Words.begins_word bytes.now }
+{
+    match bytes {
+        [first, ..] => letter(*first),
+        [] => false,
+    }
+}
+
 /// The word that a token is, with or without a colon at its end.
 pub fn keyword_in(bytes: &[u8]) -> Option<Keyword>
     ensures { result ≡ Words.keyword_of (Tour.without_colon bytes.now) }
 {
-    // Numbers come far more often than words, and a word begins with a letter.
-    match bytes {
-        [first, ..] if letter(*first) => keyword_of(without_colon(bytes)),
-        _ => None,
+    // Most tokens are numbers.
+    if !begins_word(bytes) {
+        return None;
     }
+    keyword_of(without_colon(bytes))
 }
 
 /// What a token is where a number is wanted.

@@ -133,6 +133,10 @@ impl<F: Form> TextReader for PieceReader<F> {
         self.feed_byte(byte)
     }
 
+    fn feed_run(&mut self, bytes: &[u8]) -> usize {
+        self.feed_token_run(bytes)
+    }
+
     fn finish(self) -> Result<F::Out, TextFault> {
         let mut reader = self;
         reader.end_bytes()?;

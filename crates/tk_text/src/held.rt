@@ -1,5 +1,5 @@
 //! Some bytes of a text, and what a byte is.
-ghost use Rattle.std.specs.Prelude.{◌≡◌, ◌<◌, ◌≤◌, ◌||◌, ◌==◌, true, false, List, ℕ, [], ◌∷◌, ◌++◌, length, take};
+ghost use Rattle.std.specs.Prelude.{◌≡◌, ◌<◌, ◌≤◌, ◌||◌, ◌==◌, true, false, List, ℕ, [], ◌∷◌, ◌++◌, All, length, take};
 ghost use Rattle.tk_text.specs.Lex.{is_blank, is_letter, is_word_byte};
 ghost use Rattle.tk_text.specs.Words.{spells};
 
@@ -71,6 +71,26 @@ impl<const N: usize> Held<N> {
         if !self.is_full() {
             self.push(byte);
         }
+    }
+
+    /// Takes bytes while there is room, up to one that ends a token, and says how many it took.
+    pub fn push_token(&mut self, bytes: &[u8]) -> usize
+        ensures count { result ≤ length bytes.now }
+        ensures held { self.new ≡ self.old ++ take result bytes.now }
+        ensures room { length self.new ≤ N }
+        ensures solid { All (λ b. (is_blank b || b == 10) ≡ false) (take result bytes.now) }
+    {
+        let mut end = self.len;
+        for byte in bytes {
+            if end == N || blank_or_end(*byte) {
+                break;
+            }
+            self.bytes[end] = *byte;
+            end += 1;
+        }
+        let count = end - self.len;
+        self.len = end;
+        count
     }
 
     pub fn as_slice(&self) -> &[u8]

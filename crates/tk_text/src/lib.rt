@@ -33,6 +33,7 @@ mod problem_form;
 mod problem_text;
 mod reader;
 mod routing;
+mod run;
 mod scan;
 mod sink;
 mod solution_writer;
