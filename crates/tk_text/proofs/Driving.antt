@@ -79,6 +79,20 @@ taken_on bs piece i run room lt le =
     ap (λ (l : List ℕ). ((bs ++ take i piece) ++ get_or piece i 0 ∷ []) ++ l) (take-take run room (drop (i + 1) piece) le)
     ∙ ap (λ (l : List ℕ). l ++ behind) front ∙ rw (take-add (i + 1) run piece) (append_assoc bs (take (i + 1) piece) behind)
 
+module _ {V : Type 0} (d : Decided V) (limit : ℕ) (bs piece : List ℕ) (i n room : ℕ) (lt : i < length piece) (within : n ≤ length (take room (drop (i + 1) piece))) (short : length bs + (i + 1 + room) ≤ limit) where
+  run_le : n ≤ room
+  run_le = omega (arith, within, length-take room (drop (i + 1) piece))
+
+  pub run_decided : (a : Result V TextFault) → Decides d (((bs ++ take i piece) ++ get_or piece i 0 ∷ []) ++ take n (take room (drop (i + 1) piece))) a → Answers d limit (bs ++ piece) a
+  run_decided a h =
+      let front : Decides d (bs ++ take (i + 1 + n) piece) a = subst (λ (x : List ℕ). Decides d x a) (taken_on bs piece i n room lt run_le) h in
+      let len : length (bs ++ take (i + 1 + n) piece) ≤ suc limit = omega (arith, short, run_le, length-append bs (take (i + 1 + n) piece), length-take (i + 1 + n) piece) in
+      let parts : (bs ++ take (i + 1 + n) piece) ++ drop (i + 1 + n) piece ≡ bs ++ piece = append_assoc bs (take (i + 1 + n) piece) (drop (i + 1 + n) piece) ∙ ap (λ (x : List ℕ). bs ++ x) (take-append-drop (i + 1 + n) piece) in
+      subst (λ (x : List ℕ). Answers d limit x a) parts (answers_more d limit _ (drop (i + 1 + n) piece) a (answers_decided d limit _ a front len))
+
+  pub run_told : (f : TextFault) → IsTold ⊥ (Decides d (((bs ++ take i piece) ++ get_or piece i 0 ∷ []) ++ take n (take room (drop (i + 1) piece)))) f → IsTold ⊥ (Answers d limit (bs ++ piece)) f
+  run_told f h = told_kind ⊥ (Decides d (((bs ++ take i piece) ++ get_or piece i 0 ∷ []) ++ take n (take room (drop (i + 1) piece)))) (Answers d limit (bs ++ piece)) f f.kind (run_decided (Err f)) h
+
 -- ---- what a source has left
 
 -- all that a source gave stands before what it has left

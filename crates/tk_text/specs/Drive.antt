@@ -5,6 +5,8 @@ use Rattle.tk_text.specs.declared.fault.TextKind.TheVariants as kinds
 use Rattle.tk_text.specs.declared.fault.TextFault.{TextFault}
 use Rattle.tk_text.specs.declared.drive.Step.{Step}
 use Rattle.tk_text.specs.declared.drive.Step.TheVariants as steps
+use Rattle.tk_text.specs.declared.drive.Run.{Run}
+use Rattle.tk_text.specs.declared.drive.Run.TheVariants as runs
 
 -- what bytes say, of which true says that none stand behind them; None where more decide
 abbrev pub Decided : Type 0 → Type 0
@@ -61,6 +63,15 @@ IsIntact old new (Err f) = f.kind ≢ kinds.Read → new ≡ old
 abbrev pub FedMore : {V : Type 0} → Decided V → (List ℕ → Type 0) → V → List ℕ → Step → Type 0
 FedMore decided fed held bs steps.More = fed bs × (decided false bs ≡ None)
 FedMore decided fed held bs steps.Done = Decides decided bs (Ok held)
+
+-- bytes taken at once behind these: some of them, or as many as make the text whole
+abbrev pub HasRun : {V : Type 0} → Decided V → (List ℕ → Type 0) → V → List ℕ → List ℕ → Run → Type 0
+HasRun decided fed held bs run (runs.Taken n) = (n ≤ length run) × fed (bs ++ take n run)
+HasRun decided fed held bs run runs.Whole = (n : ℕ) × (n ≤ length run) × Decides decided (bs ++ take n run) (Ok held)
+
+-- a fault that some of the bytes behind these tell
+abbrev pub IsToldWithin : {V : Type 0} → Decided V → List ℕ → List ℕ → TextFault → Type 0
+IsToldWithin decided bs run f = (n : ℕ) × (n ≤ length run) × IsTold ⊥ (Decides decided (bs ++ take n run)) f
 
 abbrev pub FedAll : {V : Type 0} → Decided V → ℕ → (List ℕ → Type 0) → V → List ℕ → Step → Type 0
 FedAll decided limit fed held bs steps.More = fed bs × (length bs ≤ limit)

@@ -166,6 +166,10 @@ AtPlace f holds wants next form line held scan bs (places.One on_line) = IsMore 
 abbrev pub Fed : {V S : Type 0} → Format V → (S → List Piece → Type 0) → (S → List Piece → Keyword → ℕ → List Token → Type 0) → Next → PieceReader S → List ℕ → Type 0
 Fed f holds wants next s bs = (s.line ≡ line_behind bs) × AtPlace f holds wants next s.form s.line s.held s.scan bs s.place
 
+-- it stands in a section, and of a token these bytes stand behind it
+abbrev pub IsIn : {V S : Type 0} → Format V → (S → List Piece → Keyword → ℕ → List Token → Type 0) → Next → PieceReader S → List ℕ → List ℕ → Type 0
+IsIn f wants next s token bs = (s.line ≡ line_behind bs) × AtToken f wants next s.form s.line token bs
+
 -- a step of a byte
 abbrev pub HasFed : {V : Type 0} → Format V → Next → (List ℕ → Type 0) → V → List ℕ → Step → Type 0
 HasFed f next fed held bs steps.More = fed bs

@@ -1,7 +1,7 @@
 //! Bytes of a source, one after the other, to what reads a text.
 ghost use Rattle.std.specs.Prelude.{◌≡◌, ◌≢◌, ℕ, ◌+◌, ◌-◌, ◌<◌, ◌≤◌, ◌^◌, Bool, true, false, List, [], ◌∷◌, ◌++◌, length, take, Option, Result, Ok, Err, IfOk, IfErr, IfSome, OnOk};
 ghost use Rattle.tk_text.specs.declared.fault.TextFault.{TextFault};
-ghost use Rattle.tk_text.specs.Drive.{Decided, Decides, DecidesEnded, answer_of, IsTold, FedMore, FedAll, Answers, line_behind, IsAnswerWhereTold, IsIntact};
+ghost use Rattle.tk_text.specs.Drive.{Decided, Decides, DecidesEnded, answer_of, IsTold, FedMore, HasRun, IsToldWithin, FedAll, Answers, line_behind, IsAnswerWhereTold, IsIntact};
 
 use crate::fault::{TextFault, TextKind};
 use crate::source::Source;
@@ -11,6 +11,15 @@ use crate::source::Source;
 pub enum Step {
     More,
     Done,
+}
+
+/// How far bytes were taken at once.
+#[derive(Clone, Copy, Debug, PartialEq, Eq)]
+pub enum Run {
+    /// So many of them, and the text goes on.
+    Taken(usize),
+    /// As many as make the text whole.
+    Whole,
 }
 
 /// What takes the bytes of a text one by one.
@@ -47,10 +56,12 @@ pub trait TextReader: Drop {
         ensures err { (bs : List ℕ) → fed self.old bs → IfErr result (IsTold ⊥ (Decides decided (bs ++ byte ∷ []))) }
         ensures complete { (bs : List ℕ) → fed self.old bs → result ≡ Ok Step.Done → complete self.new };
 
-    /// Takes as many of the bytes as go on what it stands in, at least none, and says how many.
-    fn feed_run(&mut self, bytes: &[u8]) -> usize
-        ensures count { result ≤ length bytes.now }
-        ensures fed { (bs : List ℕ) → fed self.old bs → fed self.new (bs ++ take result bytes.now) };
+    /// Takes as many of the bytes as it can at once, at least none.
+    fn feed_run(&mut self, bytes: &[u8]) -> Result<Run, TextFault>
+        requires { (bs : List ℕ) × fed self.old bs × (length bs + length bytes.now < 2 ^ 63) }
+        ensures more { (bs : List ℕ) → fed self.old bs → IfOk result (HasRun decided (fed self.new) (held self.new) bs bytes.now) }
+        ensures err { (bs : List ℕ) → fed self.old bs → IfErr result (IsToldWithin decided bs bytes.now) }
+        ensures complete { (bs : List ℕ) → fed self.old bs → result ≡ Ok Run.Whole → complete self.new };
 
     /// The answer at the end of the bytes.
     fn finish(self) -> Result<Self::Out, TextFault>
@@ -94,7 +105,10 @@ pub fn feed_piece<P: TextReader>(
             });
         }
         index += 1;
-        index += reader.feed_run(&piece[index..end]);
+        match reader.feed_run(&piece[index..end])? {
+            Run::Whole => return Ok(Step::Done),
+            Run::Taken(count) => index += count,
+        }
     }
     Ok(Step::More)
 }

@@ -5,7 +5,7 @@ ghost use Rattle.tk_text.specs.Drive.{DecidesEnded, IsTold};
 ghost use Rattle.tk_text.specs.Pieces.{decided_by};
 ghost use Rattle.tk_text.specs.Reader.{Fed, anything, at_end, AtToken, AtEnd};
 
-use crate::drive::{Step, TextReader};
+use crate::drive::{Run, Step, TextReader};
 use crate::fault::TextFault;
 use crate::form::Form;
 use crate::keyword::Keyword;
@@ -133,8 +133,8 @@ impl<F: Form> TextReader for PieceReader<F> {
         self.feed_byte(byte)
     }
 
-    fn feed_run(&mut self, bytes: &[u8]) -> usize {
-        self.feed_token_run(bytes)
+    fn feed_run(&mut self, bytes: &[u8]) -> Result<Run, TextFault> {
+        self.feed_tokens(bytes)
     }
 
     fn finish(self) -> Result<F::Out, TextFault> {

@@ -1,5 +1,5 @@
 //! Some bytes of a text, and what a byte is.
-ghost use Rattle.std.specs.Prelude.{◌≡◌, ◌<◌, ◌≤◌, ◌||◌, ◌==◌, true, false, List, ℕ, [], ◌∷◌, ◌++◌, All, length, take};
+ghost use Rattle.std.specs.Prelude.{◌≡◌, ◌<◌, ◌≤◌, ◌||◌, ◌==◌, true, false, List, ℕ, [], ◌∷◌, ◌++◌, All, length, slice_index_or, take};
 ghost use Rattle.tk_text.specs.Lex.{is_blank, is_letter, is_word_byte};
 ghost use Rattle.tk_text.specs.Words.{spells};
 
@@ -73,26 +73,6 @@ impl<const N: usize> Held<N> {
         }
     }
 
-    /// Takes bytes while there is room, up to one that ends a token, and says how many it took.
-    pub fn push_token(&mut self, bytes: &[u8]) -> usize
-        ensures count { result ≤ length bytes.now }
-        ensures held { self.new ≡ self.old ++ take result bytes.now }
-        ensures room { length self.new ≤ N }
-        ensures solid { All (λ b. (is_blank b || b == 10) ≡ false) (take result bytes.now) }
-    {
-        let mut end = self.len;
-        for byte in bytes {
-            if end == N || blank_or_end(*byte) {
-                break;
-            }
-            self.bytes[end] = *byte;
-            end += 1;
-        }
-        let count = end - self.len;
-        self.len = end;
-        count
-    }
-
     pub fn as_slice(&self) -> &[u8]
         ensures { result.now ≡ self.now }
     {
@@ -122,6 +102,20 @@ pub fn blank_or_end(byte: u8) -> bool
     ensures { result ≡ (is_blank byte || byte == 10) }
 {
     blank(byte) || byte == b'\n'
+}
+
+/// How many bytes stand before the first that ends a token.
+pub fn token_length(bytes: &[u8]) -> usize
+    ensures count { result ≤ length bytes.now }
+    ensures solid { All (λ b. (is_blank b || b == 10) ≡ false) (take result bytes.now) }
+    ensures ended { result < length bytes.now → (is_blank (slice_index_or bytes.now result 0) || slice_index_or bytes.now result 0 == 10) ≡ true }
+{
+    for i in 0..bytes.len() {
+        if blank_or_end(bytes[i]) {
+            return i;
+        }
+    }
+    bytes.len()
 }
 
 /// Whether bytes spell a text in capitals.

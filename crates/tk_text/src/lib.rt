@@ -46,7 +46,7 @@ mod within;
 mod words;
 
 pub use decimals::decimal;
-pub use drive::{Step, TextReader, feed_piece, read_text};
+pub use drive::{Run, Step, TextReader, feed_piece, read_text};
 pub use entries::{Entry, entry_of, keyword_in, minus_one};
 pub use fault::{TextFault, TextKind};
 pub use integers::integer;

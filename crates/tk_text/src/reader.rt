@@ -1,5 +1,6 @@
 //! The pieces of a text, byte by byte.
-ghost use Rattle.std.specs.Prelude.{◌≡◌, ◌^◌, ◌≤◌, ℕ, List, [], ◌∷◌, ◌++◌, length, IfOk, IfErr, Ok};
+ghost use Rattle.std.specs.Prelude.{◌≡◌, ◌^◌, ◌≤◌, ◌||◌, ◌==◌, ℕ, true, List, [], ◌∷◌, ◌++◌, length, IfOk, IfErr, Ok};
+ghost use Rattle.tk_text.specs.Lex.{is_blank};
 ghost use Rattle.tk_text.specs.Reader.{Fed, anything};
 
 use crate::drive::Step;
@@ -10,6 +11,7 @@ use crate::held::{Held, blank, blank_or_end, letter, word_byte};
 use crate::keyword::{Keyword, Role};
 use crate::scan::Scan;
 use crate::words::{keyword_of, role};
+use std::mem;
 
 /// The most bytes between a header's word and the end of its line.
 const HEADER_LIMIT: u32 = 4096;
@@ -71,7 +73,7 @@ impl<F: Form> PieceReader<F> {
     ghost use Rattle.tk_text.specs.declared.drive.Step.TheVariants as steps;
     ghost use Rattle.tk_text.specs.declared.keyword.Keyword.{Keyword};
     ghost use Rattle.tk_text.specs.Drive.{IsTold};
-    ghost use Rattle.tk_text.specs.Reader.{HasFed, HasWent, DecidesIf, Next, Within, this, no_word, a_line_end, a_gap, HeaderTaken, HasEnded};
+    ghost use Rattle.tk_text.specs.Reader.{HasFed, HasWent, DecidesIf, Next, Within, this, no_word, a_line_end, a_gap, IsRun, IsToken, IsIn, HeaderTaken, HasEnded};
 
     /// A reader of a whole text, for a form that has taken no piece.
     pub fn new(form: F) -> Self
@@ -276,16 +278,15 @@ impl<F: Form> PieceReader<F> {
         Err(self.fault(TextKind::TrailingData))
     }
 
-    /// Ends a token of a section.
-    pub fn end_token(&mut self) -> Result<Ended, TextFault>
-        requires place { self.old.place ≡ places.Token }
-        requires short { length self.old.held ≤ 64 }
+    /// Takes a whole token of a section.
+    pub fn take_token(&mut self, token: &[u8]) -> Result<Ended, TextFault>
+        requires short { length token.now ≤ 64 }
         ensures line { self.new.line ≡ self.old.line }
-        ensures ended { (next : Next) (bs : List ℕ) → Within next a_gap → Fed F.format F.holds F.wants next self.old bs → IfOk result (HasEnded F.format next (Fed F.format F.holds F.wants next self.new) self.new.place (F.held self.new.form) bs) }
-        ensures err { (next : Next) (bs : List ℕ) → Within next a_gap → Fed F.format F.holds F.wants next self.old bs → IfErr result (IsTold ⊥ (DecidesIf F.format next bs)) }
-        ensures complete { (next : Next) (bs : List ℕ) → Fed F.format F.holds F.wants next self.old bs → result ≡ Ok endeds.Done → F.complete self.new.form }
+        ensures ended { (next : Next) (bs : List ℕ) → Within next a_gap → IsRun token.now → IsIn F.format F.wants next self.old token.now bs → IfOk result (HasEnded F.format next (Fed F.format F.holds F.wants next self.new) self.new.place (F.held self.new.form) bs) }
+        ensures err { (next : Next) (bs : List ℕ) → Within next a_gap → IsRun token.now → IsIn F.format F.wants next self.old token.now bs → IfErr result (IsTold ⊥ (DecidesIf F.format next bs)) }
+        ensures complete { (next : Next) (bs : List ℕ) → IsIn F.format F.wants next self.old token.now bs → result ≡ Ok endeds.Done → F.complete self.new.form }
     {
-        match self.form.token(self.held.as_slice()) {
+        match self.form.token(token) {
             Err(kind) => Err(self.fault(kind)),
             Ok(Taken::More) => {
                 self.place = Place::Gap;
@@ -304,6 +305,19 @@ impl<F: Form> PieceReader<F> {
                 Some(kind) => Err(self.fault(kind)),
             },
         }
+    }
+
+    /// Ends a token of a section.
+    pub fn end_token(&mut self) -> Result<Ended, TextFault>
+        requires place { self.old.place ≡ places.Token }
+        requires short { length self.old.held ≤ 64 }
+        ensures line { self.new.line ≡ self.old.line }
+        ensures ended { (next : Next) (bs : List ℕ) → Within next a_gap → Fed F.format F.holds F.wants next self.old bs → IfOk result (HasEnded F.format next (Fed F.format F.holds F.wants next self.new) self.new.place (F.held self.new.form) bs) }
+        ensures err { (next : Next) (bs : List ℕ) → Within next a_gap → Fed F.format F.holds F.wants next self.old bs → IfErr result (IsTold ⊥ (DecidesIf F.format next bs)) }
+        ensures complete { (next : Next) (bs : List ℕ) → Fed F.format F.holds F.wants next self.old bs → result ≡ Ok endeds.Done → F.complete self.new.form }
+    {
+        let token = mem::replace(&mut self.held, Held::new());
+        self.take_token(token.as_slice())
     }
 
     /// Takes a byte behind the `-1` that ends a section.
@@ -341,6 +355,24 @@ impl<F: Form> PieceReader<F> {
         Ok(Step::More)
     }
 
+    /// Takes a whole token of a section, and the byte behind it.
+    pub fn feed_whole(&mut self, token: &[u8], byte: u8) -> Result<Step, TextFault>
+        requires run { IsToken token.now }
+        requires gap { (is_blank byte || byte == 10) ≡ true }
+        requires room { self.old.line ≤ 2 ^ 63 }
+        requires known { (bs : List ℕ) × IsIn F.format F.wants (this byte) self.old token.now bs }
+        ensures more { (bs : List ℕ) → IsIn F.format F.wants (this byte) self.old token.now bs → IfOk result (HasFed F.format anything (Fed F.format F.holds F.wants anything self.new) (F.held self.new.form) (bs ++ byte ∷ [])) }
+        ensures err { (bs : List ℕ) → IsIn F.format F.wants (this byte) self.old token.now bs → IfErr result (IsTold ⊥ (DecidesIf F.format anything (bs ++ byte ∷ []))) }
+        ensures complete { (bs : List ℕ) → IsIn F.format F.wants (this byte) self.old token.now bs → result ≡ Ok steps.Done → F.complete self.new.form }
+    {
+        match self.take_token(token)? {
+            Ended::Done => Ok(Step::Done),
+            Ended::Gap => self.feed_gap(byte),
+            Ended::Close => self.feed_close(byte),
+            Ended::After => self.feed_after(byte, true),
+        }
+    }
+
     /// Takes a byte of a section's token.
     fn feed_token(&mut self, byte: u8) -> Result<Step, TextFault>
         requires place { self.old.place ≡ places.Token }
@@ -357,12 +389,8 @@ impl<F: Form> PieceReader<F> {
             self.held.push(byte);
             return Ok(Step::More);
         }
-        match self.end_token()? {
-            Ended::Done => Ok(Step::Done),
-            Ended::Gap => self.feed_gap(byte),
-            Ended::Close => self.feed_close(byte),
-            Ended::After => self.feed_after(byte, true),
-        }
+        let token = mem::replace(&mut self.held, Held::new());
+        self.feed_whole(token.as_slice(), byte)
     }
 
     /// Ends a token behind the `-1` that ends a section.

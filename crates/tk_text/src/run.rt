@@ -1,35 +1,36 @@
-//! Bytes that stand together in a section, taken at once.
-ghost use Rattle.std.specs.Prelude.{◌≡◌, ◌≤◌, ℕ, List, ◌++◌, length, take};
-ghost use Rattle.tk_text.specs.declared.reader.Place.TheVariants as places;
+//! Whole tokens of a section, one after the other.
+ghost use Rattle.std.specs.Prelude.{◌≡◌, ◌<◌, ◌^◌, ◌+◌, ℕ, List, length, Ok, IfOk, IfErr};
+ghost use Rattle.tk_text.specs.declared.drive.Run.TheVariants as runs;
+ghost use Rattle.tk_text.specs.Drive.{HasRun, IsToldWithin};
+ghost use Rattle.tk_text.specs.Pieces.{decided_by};
 ghost use Rattle.tk_text.specs.Reader.{Fed, anything};
 
+use crate::drive::{Run, Step};
+use crate::fault::TextFault;
 use crate::form::Form;
+use crate::held::token_length;
 use crate::reader::{PieceReader, Place};
 
 impl<F: Form> PieceReader<F> {
-    /// Takes those of the bytes that are of one token, where it stands in one or before one, and says how many.
-    pub fn feed_token_run(&mut self, bytes: &[u8]) -> usize
-        ensures count { result ≤ length bytes.now }
-        ensures fed { (bs : List ℕ) → Fed F.format F.holds F.wants anything self.old bs → Fed F.format F.holds F.wants anything self.new (bs ++ take result bytes.now) }
+    /// Takes the tokens of a section that stand whole in the bytes, each with the byte behind it, up to two blanks or
+    /// what is no such token.
+    pub fn feed_tokens(&mut self, bytes: &[u8]) -> Result<Run, TextFault>
+        requires { (bs : List ℕ) × Fed F.format F.holds F.wants anything self.old bs × (length bs + length bytes.now < 2 ^ 63) }
+        ensures more { (bs : List ℕ) → Fed F.format F.holds F.wants anything self.old bs → IfOk result (HasRun (decided_by F.format) (Fed F.format F.holds F.wants anything self.new) (F.held self.new.form) bs bytes.now) }
+        ensures err { (bs : List ℕ) → Fed F.format F.holds F.wants anything self.old bs → IfErr result (IsToldWithin (decided_by F.format) bs bytes.now) }
+        ensures complete { (bs : List ℕ) → Fed F.format F.holds F.wants anything self.old bs → result ≡ Ok runs.Whole → F.complete self.new.form }
     {
-        match self.place {
-            Place::Token => self.held.push_token(bytes),
-            Place::Gap => self.begin_token(bytes),
-            _ => 0,
+        let mut start = 0;
+        while let Place::Gap = self.place {
+            let end = start + token_length(&bytes[start..]);
+            if end == start || end == bytes.len() || end - start > 64 {
+                break;
+            }
+            match self.feed_whole(&bytes[start..end], bytes[end])? {
+                Step::Done => return Ok(Run::Whole),
+                Step::More => start = end + 1,
+            }
         }
-    }
-
-    /// Takes those of the bytes that are of a token which begins with the first of them.
-    fn begin_token(&mut self, bytes: &[u8]) -> usize
-        requires place { self.old.place ≡ places.Gap }
-        ensures count { result ≤ length bytes.now }
-        ensures fed { (bs : List ℕ) → Fed F.format F.holds F.wants anything self.old bs → Fed F.format F.holds F.wants anything self.new (bs ++ take result bytes.now) }
-    {
-        self.held.clear();
-        let count = self.held.push_token(bytes);
-        if count > 0 {
-            self.place = Place::Token;
-        }
-        count
+        Ok(Run::Taken(start))
     }
 }

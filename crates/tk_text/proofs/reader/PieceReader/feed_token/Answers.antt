@@ -1,11 +1,10 @@
-use Rattle.std.proofs.Common.{◌∷◌, [], ◌++◌, sym, ◌∙◌, arith, ap, Ok}
+use Rattle.std.proofs.Common.{◌∷◌, [], ◌++◌, sym, ◌∙◌, arith}
 use Rattle.std.proofs.lemmas.List.{length-append}
 use Rattle.tk_text.proofs.Feeds.{or_false}
-use Rattle.std.proofs.lemmas.Result.{err_from_is_err_and}
-use Rattle.tk_text.specs.Reader.{anything, this, DecidesIf, a_gap}
-use Rattle.tk_text.proofs.Feeds.{at_place, told_at, told_byte, this_within}
+use Rattle.tk_text.specs.Reader.{anything, this, DecidesIf}
+use Rattle.tk_text.proofs.Feeds.{at_place, told_at}
 use Rattle.tk_text.proofs.InSteps.{token_byte, run_more, token_long}
-use Rattle.tk_text.proofs.Steps.{line_behind-byte, decides_byte}
+use Rattle.tk_text.proofs.Steps.{line_behind-byte}
 use Rattle.tk_text.proofs.reader.PieceReader.feed_token.Goals as goal
 
 pub returns-then-is_full-clause-err : goal.returns-then-is_full-clause-err
@@ -18,96 +17,8 @@ returns-then-not-blank_or_end-clause-more g c = λ bs fed.
     let at = at_place g.F.Form.format g.F.Form.holds g.F.Form.wants (this c.args.byte) c.args.self.now.form c.args.self.now.line c.args.self.now.held c.args.self.now.scan bs c.args.self.now.place _ c.requires.place fed.1 in
     (fed.0 ∙ sym (line_behind-byte bs c.args.byte (or_false _ _ (sym c.blank_or_end.ensures ∙ c.if-not-blank_or_end.true)).1), rw (c.requires.place, c.push.ensures) ((run_more c.args.self.now.held c.args.byte at.0.0 (or_false _ _ (sym c.blank_or_end.ensures ∙ c.if-not-blank_or_end.true)).0, omega (arith, c.is_full.ensures.not_full c.if-is_full.false, length-append c.args.self.now.held (c.args.byte ∷ []))), token_byte g.F.Form.format g.F.Form.wants c.args.self.now.form c.args.self.now.line c.args.byte bs c.args.self.now.held (or_false _ _ (sym c.blank_or_end.ensures ∙ c.if-not-blank_or_end.true)).1 at.1))
 
-pub returns-in_err-end_token-clause-err : goal.returns-in_err-end_token-clause-err
-returns-in_err-end_token-clause-err g c = λ bs fed.
-    let p = err_from_is_err_and c.from_residual.result c.from_residual.ensures.1 in
-    rw (p.1, p.2) (told_byte g.F.Form.format c.args.byte bs c.in_err-end_token.field-0.0 (c.in_err-end_token.ensures.err (this c.args.byte) bs (this_within c.args.byte a_gap (λ e more. sym c.blank_or_end.ensures ∙ c.if-not-blank_or_end.false)) fed))
 
-pub end_token-requires-clause-short : goal.end_token-requires-clause-short
-end_token-requires-clause-short g c = let bs = c.requires.known.0 in
-    let fed = c.requires.known.1 in
+pub returns-clause-complete : goal.returns-clause-complete
+returns-clause-complete g c = λ bs fed done.
     let at = at_place g.F.Form.format g.F.Form.holds g.F.Form.wants (this c.args.byte) c.args.self.now.form c.args.self.now.line c.args.self.now.held c.args.self.now.scan bs c.args.self.now.place _ c.requires.place fed.1 in
-    at.0.1
-
-pub returns-in-Done-clause-more : goal.returns-in-Done-clause-more
-returns-in-Done-clause-more g c = λ bs fed.
-    let ended = rw c.in-Done.is at (c.in_ok-end_token.ensures.ended (this c.args.byte) bs (this_within c.args.byte a_gap (λ e more. sym c.blank_or_end.ensures ∙ c.if-not-blank_or_end.false)) fed) in
-    decides_byte g.F.Form.format c.args.byte bs _ ended
-
-pub feed_gap-requires-clause-place : goal.feed_gap-requires-clause-place
-feed_gap-requires-clause-place g c = let bs = c.requires.known.0 in
-    let fed = c.requires.known.1 in
-    let ended = rw c.in-Gap.is at (c.in_ok-end_token.ensures.ended (this c.args.byte) bs (this_within c.args.byte a_gap (λ e more. sym c.blank_or_end.ensures ∙ c.if-not-blank_or_end.false)) fed) in
-    ended.0
-
-pub feed_gap-requires-clause-known : goal.feed_gap-requires-clause-known
-feed_gap-requires-clause-known g c = let bs = c.requires.known.0 in
-    let fed = c.requires.known.1 in
-    let ended = rw c.in-Gap.is at (c.in_ok-end_token.ensures.ended (this c.args.byte) bs (this_within c.args.byte a_gap (λ e more. sym c.blank_or_end.ensures ∙ c.if-not-blank_or_end.false)) fed) in
-    (bs, ended.1)
-
-pub returns-in-Gap-clause-more : goal.returns-in-Gap-clause-more
-returns-in-Gap-clause-more g c = λ bs fed.
-    let ended = rw c.in-Gap.is at (c.in_ok-end_token.ensures.ended (this c.args.byte) bs (this_within c.args.byte a_gap (λ e more. sym c.blank_or_end.ensures ∙ c.if-not-blank_or_end.false)) fed) in
-    c.feed_gap.ensures.more bs ended.1
-
-pub returns-in-Gap-clause-err : goal.returns-in-Gap-clause-err
-returns-in-Gap-clause-err g c = λ bs fed.
-    let ended = rw c.in-Gap.is at (c.in_ok-end_token.ensures.ended (this c.args.byte) bs (this_within c.args.byte a_gap (λ e more. sym c.blank_or_end.ensures ∙ c.if-not-blank_or_end.false)) fed) in
-    c.feed_gap.ensures.err bs ended.1
-
-pub feed_close-requires-clause-place : goal.feed_close-requires-clause-place
-feed_close-requires-clause-place g c = let bs = c.requires.known.0 in
-    let fed = c.requires.known.1 in
-    let ended = rw c.in-Close.is at (c.in_ok-end_token.ensures.ended (this c.args.byte) bs (this_within c.args.byte a_gap (λ e more. sym c.blank_or_end.ensures ∙ c.if-not-blank_or_end.false)) fed) in
-    ended.0
-
-pub feed_close-requires-clause-known : goal.feed_close-requires-clause-known
-feed_close-requires-clause-known g c = let bs = c.requires.known.0 in
-    let fed = c.requires.known.1 in
-    let ended = rw c.in-Close.is at (c.in_ok-end_token.ensures.ended (this c.args.byte) bs (this_within c.args.byte a_gap (λ e more. sym c.blank_or_end.ensures ∙ c.if-not-blank_or_end.false)) fed) in
-    (bs, ended.1)
-
-pub returns-in-Close-clause-more : goal.returns-in-Close-clause-more
-returns-in-Close-clause-more g c = λ bs fed.
-    let ended = rw c.in-Close.is at (c.in_ok-end_token.ensures.ended (this c.args.byte) bs (this_within c.args.byte a_gap (λ e more. sym c.blank_or_end.ensures ∙ c.if-not-blank_or_end.false)) fed) in
-    c.feed_close.ensures.more bs ended.1
-
-pub returns-in-Close-clause-err : goal.returns-in-Close-clause-err
-returns-in-Close-clause-err g c = λ bs fed.
-    let ended = rw c.in-Close.is at (c.in_ok-end_token.ensures.ended (this c.args.byte) bs (this_within c.args.byte a_gap (λ e more. sym c.blank_or_end.ensures ∙ c.if-not-blank_or_end.false)) fed) in
-    c.feed_close.ensures.err bs ended.1
-
-pub feed_after-requires-clause-place : goal.feed_after-requires-clause-place
-feed_after-requires-clause-place g c = let bs = c.requires.known.0 in
-    let fed = c.requires.known.1 in
-    let ended = rw c.in-After.is at (c.in_ok-end_token.ensures.ended (this c.args.byte) bs (this_within c.args.byte a_gap (λ e more. sym c.blank_or_end.ensures ∙ c.if-not-blank_or_end.false)) fed) in
-    ended.0
-
-pub feed_after-requires-clause-known : goal.feed_after-requires-clause-known
-feed_after-requires-clause-known g c = let bs = c.requires.known.0 in
-    let fed = c.requires.known.1 in
-    let ended = rw c.in-After.is at (c.in_ok-end_token.ensures.ended (this c.args.byte) bs (this_within c.args.byte a_gap (λ e more. sym c.blank_or_end.ensures ∙ c.if-not-blank_or_end.false)) fed) in
-    (bs, ended.1)
-
-pub returns-in-After-clause-more : goal.returns-in-After-clause-more
-returns-in-After-clause-more g c = λ bs fed.
-    let ended = rw c.in-After.is at (c.in_ok-end_token.ensures.ended (this c.args.byte) bs (this_within c.args.byte a_gap (λ e more. sym c.blank_or_end.ensures ∙ c.if-not-blank_or_end.false)) fed) in
-    c.feed_after.ensures.more bs ended.1
-
-pub returns-in-After-clause-err : goal.returns-in-After-clause-err
-returns-in-After-clause-err g c = λ bs fed.
-    let ended = rw c.in-After.is at (c.in_ok-end_token.ensures.ended (this c.args.byte) bs (this_within c.args.byte a_gap (λ e more. sym c.blank_or_end.ensures ∙ c.if-not-blank_or_end.false)) fed) in
-    c.feed_after.ensures.err bs ended.1
-
-pub returns-in-Done-clause-complete : goal.returns-in-Done-clause-complete
-returns-in-Done-clause-complete g c = λ bs fed _. c.in_ok-end_token.ensures.complete (this c.args.byte) bs fed (ap Ok c.in-Done.is)
-
-pub returns-in-Gap-clause-complete : goal.returns-in-Gap-clause-complete
-returns-in-Gap-clause-complete g c = λ bs fed e. absurd (c.feed_gap.ensures.goes e)
-
-pub returns-in-Close-clause-complete : goal.returns-in-Close-clause-complete
-returns-in-Close-clause-complete g c = λ bs fed e. absurd (c.feed_close.ensures.goes e)
-
-pub returns-in-After-clause-complete : goal.returns-in-After-clause-complete
-returns-in-After-clause-complete g c = λ bs fed e. absurd (c.feed_after.ensures.goes e)
+    c.feed_whole.ensures.complete bs (fed.0, rw (c.as_slice.ensures ∙ c.replace-token.ensures.value) at.1) done
