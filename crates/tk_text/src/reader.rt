@@ -279,6 +279,7 @@ impl<F: Form> PieceReader<F> {
     }
 
     /// Takes a whole token of a section.
+    #[inline(always)]
     pub fn take_token(&mut self, token: &[u8]) -> Result<Ended, TextFault>
         requires short { length token.now ≤ 64 }
         ensures line { self.new.line ≡ self.old.line }
@@ -356,6 +357,7 @@ impl<F: Form> PieceReader<F> {
     }
 
     /// Takes a whole token of a section, and the byte behind it.
+    #[inline(always)]
     pub fn feed_whole(&mut self, token: &[u8], byte: u8) -> Result<Step, TextFault>
         requires run { IsToken token.now }
         requires gap { (is_blank byte || byte == 10) ≡ true }

@@ -1,4 +1,4 @@
-//! Problem texts, read at once and byte by byte.
+//! Problem texts, read at once, byte by byte and in small pieces.
 
 use crate::drip::Drip;
 use std::alloc::Global;
@@ -7,22 +7,30 @@ use tk_text::{
     FromRead, Point, Points, Problem, Routing, TextFault, TextKind, Weights, read_problem,
 };
 
-/// Reads a text byte by byte, from a source that may fail behind its last byte.
-pub fn read_dripping(alloc: Global, text: &[u8], fails: bool) -> Result<Problem, TextFault> {
+/// Reads a text in pieces of so many bytes, from a source that may fail behind its last byte.
+fn read_pieces(alloc: Global, text: &[u8], most: usize, fails: bool) -> Result<Problem, TextFault> {
     let mut source = Drip {
         bytes: text,
+        most,
         fails,
         failed: false,
     };
     read_problem(alloc, &mut source)
 }
 
-/// Reads a text at once and byte by byte, with equal answers.
+/// Reads a text byte by byte, from a source that may fail behind its last byte.
+pub fn read_dripping(alloc: Global, text: &[u8], fails: bool) -> Result<Problem, TextFault> {
+    read_pieces(alloc, text, 1, fails)
+}
+
+/// Reads a text at once, byte by byte and in pieces of 7 bytes, with equal answers.
 pub fn read<A: Abort>(rt: &A, alloc: Global, text: &[u8]) -> Result<Problem, TextFault> {
     let mut source = FromRead::new(text);
     let whole = read_problem(alloc, &mut source);
     let dripping = read_dripping(alloc, text, false);
     assert!(rt; is_same(&whole, &dripping));
+    let pieces = read_pieces(alloc, text, 7, false);
+    assert!(rt; is_same(&whole, &pieces));
     whole
 }
 

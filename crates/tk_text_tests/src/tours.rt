@@ -1,4 +1,4 @@
-//! Tour texts, read at once and byte by byte.
+//! Tour texts, read at once, byte by byte and in small pieces.
 
 use crate::drip::Drip;
 use crate::padded::Padded;
@@ -11,13 +11,23 @@ fn read_whole(alloc: Global, text: &[u8]) -> Result<TourText, TextFault> {
     read_tour(alloc, &mut source)
 }
 
-fn read_dripping(alloc: Global, text: &[u8], fails: bool) -> Result<TourText, TextFault> {
+fn read_pieces(
+    alloc: Global,
+    text: &[u8],
+    most: usize,
+    fails: bool,
+) -> Result<TourText, TextFault> {
     let mut source = Drip {
         bytes: text,
+        most,
         fails,
         failed: false,
     };
     read_tour(alloc, &mut source)
+}
+
+fn read_dripping(alloc: Global, text: &[u8], fails: bool) -> Result<TourText, TextFault> {
+    read_pieces(alloc, text, 1, fails)
 }
 
 fn is_list(answer: Result<TourText, TextFault>, cities: &[u32]) -> bool {
@@ -34,15 +44,18 @@ fn is_fault(answer: Result<TourText, TextFault>, line: u64, kind: TextKind) -> b
     }
 }
 
-/// Read at once and byte by byte, the text lists these cities.
+/// Read at once, byte by byte and in pieces of 7 bytes, the text lists these cities.
 fn lists(alloc: Global, text: &[u8], cities: &[u32]) -> bool {
-    is_list(read_whole(alloc, text), cities) && is_list(read_dripping(alloc, text, false), cities)
+    is_list(read_whole(alloc, text), cities)
+        && is_list(read_dripping(alloc, text, false), cities)
+        && is_list(read_pieces(alloc, text, 7, false), cities)
 }
 
-/// Read at once and byte by byte, the text has this fault.
+/// Read at once, byte by byte and in pieces of 7 bytes, the text has this fault.
 fn refuses(alloc: Global, text: &[u8], line: u64, kind: TextKind) -> bool {
     is_fault(read_whole(alloc, text), line, kind)
         && is_fault(read_dripping(alloc, text, false), line, kind)
+        && is_fault(read_pieces(alloc, text, 7, false), line, kind)
 }
 
 #[test]

@@ -17,7 +17,6 @@ returns-then-not-blank_or_end-clause-more g c = λ bs fed.
     let at = at_place g.F.Form.format g.F.Form.holds g.F.Form.wants (this c.args.byte) c.args.self.now.form c.args.self.now.line c.args.self.now.held c.args.self.now.scan bs c.args.self.now.place _ c.requires.place fed.1 in
     (fed.0 ∙ sym (line_behind-byte bs c.args.byte (or_false _ _ (sym c.blank_or_end.ensures ∙ c.if-not-blank_or_end.true)).1), rw (c.requires.place, c.push.ensures) ((run_more c.args.self.now.held c.args.byte at.0.0 (or_false _ _ (sym c.blank_or_end.ensures ∙ c.if-not-blank_or_end.true)).0, omega (arith, c.is_full.ensures.not_full c.if-is_full.false, length-append c.args.self.now.held (c.args.byte ∷ []))), token_byte g.F.Form.format g.F.Form.wants c.args.self.now.form c.args.self.now.line c.args.byte bs c.args.self.now.held (or_false _ _ (sym c.blank_or_end.ensures ∙ c.if-not-blank_or_end.true)).1 at.1))
 
-
 pub returns-clause-complete : goal.returns-clause-complete
 returns-clause-complete g c = λ bs fed done.
     let at = at_place g.F.Form.format g.F.Form.holds g.F.Form.wants (this c.args.byte) c.args.self.now.form c.args.self.now.line c.args.self.now.held c.args.self.now.scan bs c.args.self.now.place _ c.requires.place fed.1 in

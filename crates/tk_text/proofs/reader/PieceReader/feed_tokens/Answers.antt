@@ -70,6 +70,6 @@ loop-self-preserved g c =
     record {
       within = omega (arith, within);
       fed = λ bs fed.
-        let stands = token_stands bytes s n within c.token_length.ensures.solid g.F.Form.format g.F.Form.holds g.F.Form.wants c.loop-self.self bs c.in-Gap.is (c.loop-self.invariant.fed bs fed) in
-        subst (λ (l : List ℕ). Fed g.F.Form.format g.F.Form.holds g.F.Form.wants anything c.feed_whole.new.self l) (token_taken bytes s n within c.token_length.ensures.solid bs) (rw c.in-More.is at (c.in_ok-feed_whole.ensures.more _ stands));
+          let stands = token_stands bytes s n within c.token_length.ensures.solid g.F.Form.format g.F.Form.holds g.F.Form.wants c.loop-self.self bs c.in-Gap.is (c.loop-self.invariant.fed bs fed) in
+          subst (λ (l : List ℕ). Fed g.F.Form.format g.F.Form.holds g.F.Form.wants anything c.feed_whole.new.self l) (token_taken bytes s n within c.token_length.ensures.solid bs) (rw c.in-More.is at (c.in_ok-feed_whole.ensures.more _ stands));
     }
