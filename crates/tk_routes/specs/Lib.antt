@@ -1,0 +1,5 @@
+pub mod Cvrps
+pub mod Instance
+pub mod Routes
+pub mod RouteVerdicts
+pub mod Serving
