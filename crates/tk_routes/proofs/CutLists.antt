@@ -1,8 +1,8 @@
 -- Lists that are cut at a place.
-use Rattle.std.proofs.Common.{◌≡◌, ℕ, ◌+◌, ◌<◌, List, [], ◌∷◌, ◌++◌, length, take, drop, get_or, sym, ap, ◌∙◌, ◌≤◌, append-nil, arith}
+use Rattle.std.proofs.Common.{◌≡◌, ℕ, ◌+◌, ◌<◌, List, [], ◌∷◌, ◌++◌, length, take, drop, get_or, set, sym, ap, ◌∙◌, ◌≤◌, append-nil, append_assoc, arith}
 use Rattle.std.specs.Prelude.{map}
 use Rattle.std.specs.List.{All, concat}
-use Rattle.std.proofs.lemmas.List.{take-append-drop, take_all, take_more, drop_more, map-append, length-map, length-take}
+use Rattle.std.proofs.lemmas.List.{take-append-drop, take_all, take_more, drop_more, map-append, length-map, length-take, length-take-le, get_or_at, set_at, drop_all}
 use Rattle.std.proofs.lemmas.List.Elements.{All-cons, All-head, All-tail}
 use Rattle.std.proofs.lemmas.List.Folds.{concat-append}
 
@@ -42,3 +42,18 @@ length-before f xs k lt = omega (arith, length-map (take k xs) f, length-take k 
 
 pub map-take_all : {X : Type 0} (f : X → List ℕ) (xs : List X) (k : ℕ) → length xs ≤ k → map f (take k xs) ≡ map f xs
 map-take_all f xs k le = ap (map f) (take_all k xs le)
+
+-- a list whose first k elements were mapped, with one more
+pub mapped_on : {Y : Type 0} (f : Y → Y) (zs ys : List Y) (k : ℕ) (z d : Y) → k < length ys → zs ≡ map f (take k ys) ++ drop k ys → z ≡ f (get_or zs k d) →
+    set zs k z ≡ map f (take (k + 1) ys) ++ drop (k + 1) ys
+mapped_on f zs ys k z d lt is new =
+    let le : k ≤ length ys = omega arith in
+    let size : length (map f (take k ys)) ≡ k = length-map (take k ys) f ∙ length-take-le k ys le in
+    let cut : zs ≡ map f (take k ys) ++ get_or ys k d ∷ drop (k + 1) ys = is ∙ ap (λ v. map f (take k ys) ++ v) (drop_more ys k d lt) in
+    let old : get_or zs k d ≡ get_or ys k d = ap (λ v. get_or v k d) cut ∙ get_or_at (map f (take k ys)) (get_or ys k d) (drop (k + 1) ys) d k size in
+    let front : map f (take (k + 1) ys) ≡ map f (take k ys) ++ f (get_or ys k d) ∷ [] = ap (map f) (take_more ys k d lt) ∙ map-append f (take k ys) (get_or ys k d ∷ []) in
+    ap (λ v. set v k z) cut ∙ set_at (map f (take k ys)) (get_or ys k d) (drop (k + 1) ys) z k size ∙ ap (λ v. map f (take k ys) ++ v ∷ drop (k + 1) ys) (new ∙ ap f old)
+    ∙ sym (append_assoc (map f (take k ys)) (f (get_or ys k d) ∷ []) (drop (k + 1) ys)) ∙ ap (λ v. v ++ drop (k + 1) ys) (sym front)
+
+pub mapped_all : {Y : Type 0} (f : Y → Y) (zs ys : List Y) (k : ℕ) → length ys ≤ k → zs ≡ map f (take k ys) ++ drop k ys → zs ≡ map f ys
+mapped_all f zs ys k le is = is ∙ ap (λ v. map f v ++ drop k ys) (take_all k ys le) ∙ ap (λ v. map f ys ++ v) (drop_all k ys le) ∙ append-nil (map f ys)

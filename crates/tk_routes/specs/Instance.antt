@@ -31,7 +31,7 @@ node_of depot k = if nat_lt k depot then k else k + 1
 
 -- the customer of a node other than the depot
 abbrev pub customer_of : ℕ → ℕ → ℕ
-customer_of depot c = if nat_lt c depot then c else c - 1
+customer_of depot c = if nat_lt depot c then c - 1 else c
 
 -- the demand of a customer
 abbrev pub demand_of : Instance → ℕ → ℕ

@@ -10,10 +10,10 @@ use tk_text::Problem;
 /// Customer k is the k-th node that is not the depot.
 #[derive(Clone, Copy)]
 pub struct Cvrp<'a> {
-    table: Table<'a>,
-    demands: &'a [u32],
-    capacity: u32,
-    depot: u32,
+    pub(crate) table: Table<'a>,
+    pub(crate) demands: &'a [u32],
+    pub(crate) capacity: u32,
+    pub(crate) depot: u32,
     ghost low: { 2 ≤ table_size table },
     ghost few: { table_size table ≤ 5000 },
     ghost each: { length demands.now ≡ table_size table },
