@@ -1,0 +1,7 @@
+pub mod Cvrps
+pub mod Instance
+pub mod RouteLists
+pub mod Routes
+pub mod RouteVerdicts
+pub mod SavingsRoutes
+pub mod Serving

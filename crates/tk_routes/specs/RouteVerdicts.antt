@@ -1,0 +1,81 @@
+-- What a verdict says of claimed routes and their claimed cost.
+--     StandsAt routes r x earlier      x stands on the r-th route, after the customers `earlier` in the order of the text
+--     AreServedOnce m xs      customers of 1 to m, none of them twice
+--     IsFirstOver i routes r load      the r-th route is the first whose load is over the capacity
+--     filled_of routes      the routes that hold a customer
+--     IsRouteVerdict i routes cost verdict      the first fault, or that there is none
+use Rattle.std.specs.Prelude.{◌≡◌, ◌≢◌, ◌+◌, ◌<◌, ◌≤◌, ℕ, ℤ, pos, List, ◌∷◌, ◌++◌, length, nat_lt, filter}
+use Rattle.std.specs.List.{All, concat}
+use Rattle.tk_metric.specs.Cities.{IsCity}
+use Rattle.tk_tour.specs.Tour.{occurrences}
+use Rattle.tk_routes.specs.Instance.{Instance, customer_count}
+use Rattle.tk_routes.specs.Routes.{AreRoutes, IsLight, route_load, routes_cost}
+use Rattle.tk_routes.specs.declared.verdict.RouteVerdict.{RouteVerdict}
+use Rattle.tk_routes.specs.declared.verdict.RouteVerdict.TheVariants.{Valid, BadCustomer, ServedTwice, OverCapacity, NotServed, WrongCost}
+
+-- x stands on the r-th route, from 1, and `earlier` are the customers before it in the order of the text
+pub record StandsAt (routes : List (List ℕ)) (r x : ℕ) (earlier : List ℕ) : Type 0 where
+  pub before : List (List ℕ)
+  pub front : List ℕ
+  pub back : List ℕ
+  pub after : List (List ℕ)
+  pub text : routes ≡ before ++ (front ++ x ∷ back) ∷ after
+  pub number : r ≡ length before + 1
+  pub earlier_is : earlier ≡ concat before ++ front
+
+-- each is one of the customers 1 to m, and none stands twice
+pub record AreServedOnce (m : ℕ) (xs : List ℕ) : Type 0 where
+  pub known : All (IsCity m) xs
+  pub once : (c : ℕ) → occurrences c xs ≤ 1
+
+-- a customer that is none of 1 to m, or one that stands earlier too, after customers without a fault
+abbrev pub IsCustomerFault : ℕ → List (List ℕ) → RouteVerdict → Type 0
+IsCustomerFault m routes (BadCustomer r x) = (earlier : List ℕ) × (StandsAt routes r x earlier × AreServedOnce m earlier × (¬ IsCity m x))
+IsCustomerFault m routes (ServedTwice x) = (r : ℕ) × ((earlier : List ℕ) × (StandsAt routes r x earlier × AreServedOnce m earlier × (1 ≤ occurrences x earlier)))
+IsCustomerFault m routes (Valid k cost) = ⊥
+IsCustomerFault m routes (OverCapacity r load) = ⊥
+IsCustomerFault m routes (NotServed x) = ⊥
+IsCustomerFault m routes (WrongCost read counted) = ⊥
+
+-- the r-th route, from 1, is the first whose load is over the capacity
+pub record IsFirstOver (i : Instance) (routes : List (List ℕ)) (r load : ℕ) : Type 0 where
+  pub before : List (List ℕ)
+  pub route : List ℕ
+  pub after : List (List ℕ)
+  pub text : routes ≡ before ++ route ∷ after
+  pub number : r ≡ length before + 1
+  pub light : All (IsLight i) before
+  pub load_is : load ≡ route_load i route
+  pub over : i.capacity < load
+
+-- the verdict tells the first such route
+abbrev pub IsFirstOverIn : Instance → List (List ℕ) → RouteVerdict → Type 0
+IsFirstOverIn i routes (OverCapacity r load) = IsFirstOver i routes r load
+IsFirstOverIn i routes (Valid k cost) = ⊥
+IsFirstOverIn i routes (BadCustomer r x) = ⊥
+IsFirstOverIn i routes (ServedTwice x) = ⊥
+IsFirstOverIn i routes (NotServed x) = ⊥
+IsFirstOverIn i routes (WrongCost read counted) = ⊥
+
+-- x is the lowest of 1 to m that does not stand in the list
+pub record IsFirstMissing (m : ℕ) (xs : List ℕ) (x : ℕ) : Type 0 where
+  pub known : IsCity m x
+  pub missing : occurrences x xs ≡ 0
+  pub lowest : (c : ℕ) → 1 ≤ c → c < x → occurrences c xs ≡ 1
+
+-- the routes that hold a customer
+abbrev pub filled_of : List (List ℕ) → List (List ℕ)
+filled_of routes = filter (λ route. nat_lt 0 (length route)) routes
+
+-- the first fault: customer by customer in the order of the text, then by capacity, then the lowest customer that is on no
+-- route, then by cost. Without one, the routes that hold a customer are routes of that cost.
+abbrev pub IsRouteVerdict : Instance → List (List ℕ) → ℤ → RouteVerdict → Type 0
+IsRouteVerdict i routes cost (BadCustomer r x) = IsCustomerFault (customer_count i) routes (BadCustomer r x)
+IsRouteVerdict i routes cost (ServedTwice x) = IsCustomerFault (customer_count i) routes (ServedTwice x)
+IsRouteVerdict i routes cost (OverCapacity r load) = AreServedOnce (customer_count i) (concat routes) × IsFirstOver i routes r load
+IsRouteVerdict i routes cost (NotServed x) =
+    AreServedOnce (customer_count i) (concat routes) × All (IsLight i) routes × IsFirstMissing (customer_count i) (concat routes) x
+IsRouteVerdict i routes cost (WrongCost read counted) =
+    AreRoutes i (filled_of routes) × (read ≡ cost) × (counted ≡ pos (routes_cost i (filled_of routes))) × (read ≢ counted)
+IsRouteVerdict i routes cost (Valid k counted) =
+    AreRoutes i (filled_of routes) × (k ≡ length (filled_of routes)) × (counted ≡ pos (routes_cost i (filled_of routes))) × (counted ≡ cost)

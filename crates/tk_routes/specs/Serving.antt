@@ -1,0 +1,19 @@
+-- The marks of the customers that were served.
+use Rattle.std.specs.Prelude.{◌≡◌, ◌-◌, ◌<◌, ℕ, Bool, true, false, List, Option, MatchOption, length, nat_lt, slice_index_or}
+use Rattle.tk_metric.specs.Cities.{IsCity}
+use Rattle.tk_tour.specs.Tour.{occurrences}
+use Rattle.tk_routes.specs.RouteVerdicts.{AreServedOnce}
+
+-- the customers were served, each once, and these alone are marked
+pub record AreServed (served : List Bool) (xs : List ℕ) : Type 0 where
+  pub once : AreServedOnce (length served) xs
+  pub marks : (c : ℕ) → IsCity (length served) c → slice_index_or served (c - 1) false ≡ nat_lt 0 (occurrences c xs)
+
+-- the first k are marked
+abbrev pub AreMarked : List Bool → ℕ → Type 0
+AreMarked served k = (j : ℕ) → j < k → slice_index_or served j false ≡ true
+
+-- the lowest customer without a mark, where there is one
+abbrev pub IsLowestFree : List Bool → Option ℕ → Type 0
+IsLowestFree served r =
+    MatchOption r (AreMarked served (length served)) (λ x. IsCity (length served) x × (slice_index_or served (x - 1) false ≡ false) × AreMarked served (x - 1))

@@ -1,0 +1,112 @@
+//! A capacitated routing problem.
+ghost use Rattle.std.specs.Prelude.{◌≡◌, ◌≤◌, ◌-◌, ◌*◌, All, None, IfNone, IfSome, length, pos, slice_index};
+ghost use Rattle.tk_metric.specs.Cities.{IsCity};
+ghost use Rattle.tk_metric.specs.Tables.{table_size};
+
+use tk_metric::{Metric, Table};
+use tk_text::Problem;
+
+/// A capacitated routing problem: the distances among its nodes, their demands, the capacity of a vehicle and the depot's node.
+/// Customer k is the k-th node that is not the depot.
+#[derive(Clone, Copy)]
+pub struct Cvrp<'a> {
+    pub(crate) table: Table<'a>,
+    pub(crate) demands: &'a [u32],
+    pub(crate) capacity: u32,
+    pub(crate) depot: u32,
+    ghost low: { 2 ≤ table_size table },
+    ghost few: { table_size table ≤ 5000 },
+    ghost each: { length demands.now ≡ table_size table },
+    ghost loads: { All (λ q. q ≤ capacity) demands.now },
+    ghost limit: { capacity ≤ 2000000000 },
+    ghost known: { IsCity (table_size table) depot },
+    ghost rests: { slice_index demands.now (depot - 1) ≡ 0 },
+}
+
+impl<'a> Cvrp<'a> {
+    ghost use Rattle.tk_routes.specs.Cvrps.{instance_of};
+    ghost use Rattle.tk_routes.specs.Instance.{IsInstanceOf, customer_count, demand_of, node_of};
+    ghost use Rattle.tk_routes.specs.Routes.{route_length, route_load};
+
+    /// The routing problem that a problem gives: none for a TSP.
+    pub fn of(problem: &'a Problem) -> Option<Cvrp<'a>>
+        ensures some { IfSome result (λ c. IsInstanceOf problem.now (instance_of c)) }
+        ensures none { IfNone result (problem.now.routing ≡ None) }
+    {
+        let routing = problem.routing.as_ref()?;
+        Some(Cvrp {
+            table: Table::of(problem),
+            demands: &routing.demand,
+            capacity: routing.capacity,
+            depot: routing.depot,
+        })
+    }
+
+    /// How many customers there are.
+    pub fn customers(&self) -> u32
+        ensures value { result ≡ customer_count (instance_of self.now) }
+        ensures some { 1 ≤ result }
+        ensures few { result ≤ 4999 }
+    {
+        self.table.size() - 1
+    }
+
+    /// The greatest load of a vehicle.
+    pub fn capacity(&self) -> u32
+        ensures value { result ≡ (instance_of self.now).capacity }
+        ensures limit { result ≤ 2000000000 }
+    {
+        self.capacity
+    }
+
+    /// The node of a customer.
+    pub fn node(&self, customer: u32) -> u32
+        requires { IsCity (customer_count (instance_of self.now)) customer }
+        ensures value { result ≡ node_of (instance_of self.now).depot customer }
+        ensures known { IsCity (instance_of self.now).size result }
+    {
+        if customer < self.depot {
+            customer
+        } else {
+            customer + 1
+        }
+    }
+
+    /// The demand of a customer.
+    pub fn demand(&self, customer: u32) -> u32
+        requires { IsCity (customer_count (instance_of self.now)) customer }
+        ensures value { result ≡ demand_of (instance_of self.now) customer }
+        ensures limit { result ≤ 2000000000 }
+    {
+        self.demands[self.node(customer) as usize - 1]
+    }
+
+    /// The sum of the demands of a route's customers.
+    pub fn load(&self, route: &[u32]) -> u64
+        requires known { All (IsCity (customer_count (instance_of self.now))) route.now }
+        requires few { length route.now ≤ 100000 }
+        ensures { result ≡ route_load (instance_of self.now) route.now }
+    {
+        let mut load = 0;
+        for &customer in route {
+            load += self.demand(customer) as u64;
+        }
+        load
+    }
+
+    /// The length of a route, from the depot and back: 0 where it holds no customer.
+    pub fn length(&self, route: &[u32]) -> i64
+        requires known { All (IsCity (customer_count (instance_of self.now))) route.now }
+        requires few { length route.now ≤ 100000 }
+        ensures { result ≡ pos (route_length (instance_of self.now) route.now) }
+    {
+        let mut from = self.depot;
+        let mut total = 0;
+        for &customer in route {
+            let node = self.node(customer);
+            total += self.table.dist(from, node);
+            from = node;
+        }
+        total + self.table.dist(from, self.depot)
+    }
+}
