@@ -1,4 +1,4 @@
-//! The texts of the field: TSPLIB 95 problems and tours, read and written.
+//! The texts of the field: TSPLIB 95 problems and tours, CVRPLIB solutions, read and written.
 #![tactic(auto)]
 
 mod begin;
