@@ -48,6 +48,7 @@ pub mod SoFar
 pub mod SolutionEnds
 pub mod SolutionLines
 pub mod SolutionPlaces
+pub mod SolutionReadBack
 pub mod SolutionSteps
 pub mod SolutionTexts
 pub mod SolutionWords
