@@ -45,6 +45,13 @@ pub mod Runs
 pub mod Scanning
 pub mod Sections
 pub mod SoFar
+pub mod SolutionEnds
+pub mod SolutionLines
+pub mod SolutionPlaces
+pub mod SolutionReadBack
+pub mod SolutionSteps
+pub mod SolutionTexts
+pub mod SolutionWords
 pub mod Spelling
 pub mod Steps
 pub mod Taking

@@ -13,13 +13,13 @@ use Rattle.tk_text.proofs.Sections.{token, tokens_of-run, tokens_of-last}
 
 -- ---- digits
 
-abbrev IsDigit : ℕ → Type 0
+abbrev pub IsDigit : ℕ → Type 0
 IsDigit b = (48 ≤ b) × (b ≤ 57)
 
-is_digit : (b : ℕ) → IsDigit b → is_ascii_digit b ≡ true
+pub is_digit : (b : ℕ) → IsDigit b → is_ascii_digit b ≡ true
 is_digit b h = let low : leb 48 b ≡ true = le-leb _ _ h.0 in let high : leb b 57 ≡ true = le-leb _ _ h.1 in rw (low, high) refl
 
-digit_solid : (b : ℕ) → IsDigit b → is_blank b ≡ false
+pub digit_solid : (b : ℕ) → IsDigit b → is_blank b ≡ false
 digit_solid b h =
     let s : eqb b 32 ≡ false = ne_eqb b 32 (λ e. omega (arith, h.0)) in
     let t : eqb b 9 ≡ false = ne_eqb b 9 (λ e. omega (arith, h.0)) in
@@ -27,7 +27,7 @@ digit_solid b h =
     rw (s, t, c) refl
 
 -- digits that spell a number, and are a run
-record Spelled (n : ℕ) (ds : List ℕ) : Type 0 where
+pub record Spelled (n : ℕ) (ds : List ℕ) : Type 0 where
   pub all : AllByRecursion IsDigit ds
   pub some : is_empty ds ≡ false
   pub is : digits 0 ds ≡ Some n
@@ -62,7 +62,7 @@ spelled_more n ds many s =
 abbrev pub IsShort : ℕ → Type 0
 IsShort n = n < 1000000000000000000
 
-spelled : (n : ℕ) → IsShort n → Spelled n (decimal n)
+pub spelled : (n : ℕ) → IsShort n → Spelled n (decimal n)
 spelled n small = decimal_by_steps Spelled spelled_one spelled_more n (omega arith)
 
 pub short_decimal : (n : ℕ) → IsShort n → length (decimal n) ≤ 18

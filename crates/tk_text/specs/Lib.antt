@@ -29,6 +29,8 @@ pub mod Reader
 pub mod Rows
 pub mod Scan
 pub mod Shape
+pub mod Solution
+pub mod SolutionReader
 pub mod SolutionWritten
 pub mod Stored
 pub mod Tour

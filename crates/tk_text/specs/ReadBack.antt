@@ -1,9 +1,11 @@
--- What a matrix text says to a reader.
-use Rattle.std.specs.Prelude.{◌≡◌, ◌≢◌, ℕ, ◌-◌, ◌^◌, ◌<◌, ◌≤◌, false, true, List, All, length, map, flat_map, Some, None, Ok}
-use Rattle.std.specs.List.{range_with_len}
+-- What a matrix text and a solution text say to a reader.
+use Rattle.std.specs.Prelude.{◌≡◌, ◌≢◌, ℕ, ◌-◌, ◌^◌, ◌<◌, ◌≤◌, false, true, List, All, length, map, flat_map, Some, None, Ok, pos}
+use Rattle.std.specs.List.{range_with_len, concat, AllByRecursion}
 use Rattle.tk_text.specs.declared.weights.Format.{Format}
 use Rattle.tk_text.specs.Lex.{LF, is_empty, trim}
 use Rattle.tk_text.specs.MatrixText.{matrix_text}
+use Rattle.tk_text.specs.Solution.{solution_decided}
+use Rattle.tk_text.specs.SolutionWritten.{solution_text}
 use Rattle.tk_text.specs.Problem.{Lower, problem_decided}
 
 -- a name as a reader gives it: some bytes on one line, with no blanks at their ends
@@ -27,3 +29,14 @@ lower_triangle n table = flat_map (λ a. map (table a) (range_with_len 1 (a - 1)
 abbrev pub ReadsBack : List ℕ → ℕ → (ℕ → ℕ → ℕ) → Format → Type 0
 ReadsBack name n table f =
     problem_decided true (matrix_text name n table f) ≡ Some (Ok (record { name = name; n = n; weights = Lower (lower_triangle n table); routing = None }))
+
+-- routes and a cost as a solution text can have them
+pub record IsSolution (routes : List (List ℕ)) (cost : ℕ) : Type 0 where
+  pub few : length routes ≤ 100000
+  pub customers : length (concat routes) ≤ 1000000
+  pub small : AllByRecursion (AllByRecursion (λ customer. customer ≤ 4294967295)) routes
+  pub cheap : cost < 10 ^ 18
+
+-- the text is read as these routes and this cost
+abbrev pub SolutionReadsBack : List (List ℕ) → ℕ → Type 0
+SolutionReadsBack routes cost = solution_decided true (solution_text routes cost) ≡ Some (Ok (routes, pos cost))

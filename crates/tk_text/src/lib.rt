@@ -1,4 +1,4 @@
-//! The texts of the field: TSPLIB 95 problems and tours, read and written.
+//! The texts of the field: TSPLIB 95 problems and tours, CVRPLIB solutions, read and written.
 #![tactic(auto)]
 
 mod begin;
@@ -32,10 +32,14 @@ mod problem;
 mod problem_form;
 mod problem_text;
 mod reader;
+mod route_head;
 mod routing;
 mod run;
 mod scan;
 mod sink;
+mod solution;
+mod solution_form;
+mod solution_reader;
 mod solution_writer;
 mod source;
 mod tour;
@@ -63,6 +67,7 @@ pub use problem::{Problem, SolText, TourText};
 pub use problem_text::read_problem;
 pub use routing::Routing;
 pub use sink::{Sink, ToWrite};
+pub use solution::read_solution;
 pub use solution_writer::write_solution;
 pub use source::{Failed, FromRead, Source};
 pub use tour::read_tour;

@@ -9,6 +9,12 @@ pub const HEADER_LIMIT: u32 = 4096;
 /// The entries of a tour's list.
 pub const TOUR_LIMIT: usize = 1_000_000;
 
+/// The routes of a solution.
+pub const ROUTE_LIMIT: usize = 100_000;
+
+/// The customers of a solution, of all its routes together.
+pub const CUSTOMER_LIMIT: usize = 1_000_000;
+
 /// The cities of a problem.
 pub const SIZE_LIMIT: u32 = 100_000;
 

@@ -4,6 +4,7 @@ ghost use Rattle.std.specs.List.{concat};
 ghost use Rattle.std.specs.Int.RustNames.{unsigned_abs};
 ghost use Rattle.tk_text.specs.Pens.{Puts};
 ghost use Rattle.tk_text.specs.Puts.{Writes};
+ghost use Rattle.tk_text.specs.ReadBack.{IsSolution, SolutionReadsBack};
 ghost use Rattle.tk_text.specs.SolutionWritten.{route_line, route_lines, solution_text};
 
 use crate::pen::{Pen, WriteFault};
@@ -39,10 +40,12 @@ fn put_solution<W: Sink>(pen: &mut Pen<'_, W>, routes: &[Vec<u32>], cost: u64)
     pen.put(b"\n");
 }
 
-/// Writes routes, each a list of customers, and their cost.
+/// Writes routes, each a list of customers, and their cost. A reader gives back the same routes and the same cost, where
+/// a solution text can have them (`read_back`).
 pub fn write_solution<W: Sink>(w: &mut W, routes: &[Vec<u32>], cost: i64) -> Result<(), WriteFault>
     requires { pos 0 ≤ℤ cost }
     ensures text { Writes W.taken W.broken w.old w.new result (solution_text (map (λ r. r.items) routes.now) (unsigned_abs cost)) }
+    ensures read_back { IsSolution (map (λ r. r.items) routes.now) (unsigned_abs cost) → SolutionReadsBack (map (λ r. r.items) routes.now) (unsigned_abs cost) }
     ensures failed { length routes.now ≤ 100000 → length (concat (map (λ r. r.items) routes.now)) ≤ 1000000 → OnErr result (W.broken w.new ≡ true) }
 {
     let mut pen = Pen::new(w);

@@ -8,6 +8,8 @@ ghost use Rattle.tk_text.specs.Lex.{after_word, integer, trim};
 ghost use Rattle.tk_text_tests.specs.NumberExamples as Numbers;
 ghost use Rattle.tk_text_tests.specs.ProblemExamples as Problems;
 ghost use Rattle.tk_text.specs.Scan.{first_word};
+ghost use Rattle.tk_text.specs.Solution.{route_head};
+ghost use Rattle.tk_text_tests.specs.SolutionExamples as Solutions;
 ghost use Rattle.tk_text.specs.Tour.{is_eof, is_keyword};
 ghost use Rattle.tk_text_tests.specs.TourExamples as Tours;
 ghost use Rattle.tk_text_tests.specs.WeightExamples as WeightTables;
@@ -52,6 +54,15 @@ fn tours()
     ensures entries { HasTable Tours.entry_after Tours.entries_after }
 {}
 
+fn solutions()
+    ensures accepted { HasTable Solutions.solution_of Solutions.solutions }
+    ensures refused { HasTable Solutions.solution_of Solutions.solution_faults }
+    ensures begun { HasTable Solutions.solution_begun Solutions.solution_beginnings }
+    ensures within { HasTable Solutions.solution_within Solutions.solutions_within }
+    ensures heads { HasTable route_head Solutions.heads }
+    ensures customers { HasTable Solutions.customer_after Solutions.customers_after }
+{}
+
 fn problems()
     ensures accepted { HasTable Problems.problem_of Problems.problems }
     ensures begun { HasTable Problems.problem_begun Problems.problem_beginnings }
@@ -77,6 +88,7 @@ fn examples() {
     weights();
     written_texts();
     tours();
+    solutions();
     problems();
     problem_faults();
     lengths();

@@ -28,6 +28,8 @@ mod problems;
 #[cfg(test)]
 mod read_both_ways;
 #[cfg(test)]
+mod solutions;
+#[cfg(test)]
 mod tours;
 #[cfg(test)]
 mod weight_orders;

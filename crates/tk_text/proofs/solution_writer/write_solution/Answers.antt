@@ -6,6 +6,7 @@ use Rattle.tk_text.specs.Pens.{Puts}
 use Rattle.tk_text.specs.SolutionWritten.{solution_text}
 use Rattle.tk_text.proofs.ListLength.{length_solution_text}
 use Rattle.tk_text.proofs.Penned.{Writes-end, broken_at_err}
+use Rattle.tk_text.proofs.SolutionReadBack.{solution_read_back}
 use Rattle.tk_text.proofs.solution_writer.write_solution.Goals as goal
 
 pub returns-clause-text : goal.returns-clause-text
@@ -21,3 +22,6 @@ returns-clause-failed g c = λ few customers.
     broken_at_err g.W.Sink.taken g.W.Sink.broken c.args.w.now _ _ (solution_text (map (λ r. r.items) c.args.routes.now) c.unsigned_abs.result)
     (length_solution_text (map (λ r. r.items) c.args.routes.now) c.unsigned_abs.result (rw length-map few) customers)
     (Writes-end g.W.Sink.taken g.W.Sink.broken c.args.w.now _ _ _ _ _ _ c.new-pen.ensures.empty c.put_solution.ensures c.end.ensures (search rules))
+
+pub returns-clause-read_back : goal.returns-clause-read_back
+returns-clause-read_back g c = solution_read_back (map (λ r. r.items) c.args.routes.now) (unsigned_abs c.args.cost)
