@@ -56,12 +56,15 @@ pub trait TextReader: Drop {
         ensures err { (bs : List ℕ) → fed self.old bs → IfErr result (IsTold ⊥ (Decides decided (bs ++ byte ∷ []))) }
         ensures complete { (bs : List ℕ) → fed self.old bs → result ≡ Ok Step.Done → complete self.new };
 
-    /// Takes as many of the bytes as it can at once, at least none.
+    /// Takes as many of the bytes as it can at once: none, unless a reader says otherwise.
     fn feed_run(&mut self, bytes: &[u8]) -> Result<Run, TextFault>
         requires { (bs : List ℕ) × fed self.old bs × (length bs + length bytes.now < 2 ^ 63) }
         ensures more { (bs : List ℕ) → fed self.old bs → IfOk result (HasRun decided (fed self.new) (held self.new) bs bytes.now) }
         ensures err { (bs : List ℕ) → fed self.old bs → IfErr result (IsToldWithin decided bs bytes.now) }
-        ensures complete { (bs : List ℕ) → fed self.old bs → result ≡ Ok Run.Whole → complete self.new };
+        ensures complete { (bs : List ℕ) → fed self.old bs → result ≡ Ok Run.Whole → complete self.new }
+    {
+        Ok(Run::Taken(0))
+    }
 
     /// The answer at the end of the bytes.
     fn finish(self) -> Result<Self::Out, TextFault>

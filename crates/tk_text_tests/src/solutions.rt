@@ -11,6 +11,7 @@ use tk_text::{
 fn read_dripping(alloc: Global, text: &[u8], fails: bool) -> Result<SolText, TextFault> {
     let mut source = Drip {
         bytes: text,
+        most: 1,
         fails,
         failed: false,
     };
