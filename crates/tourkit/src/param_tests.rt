@@ -192,42 +192,64 @@ fn padded(
     Ok(text)
 }
 
+/// Bytes of one kind, with a text behind them, have the fault.
+fn refuse_padded<A: Abort>(
+    rt: &A,
+    alloc: Global,
+    padding: (u8, usize),
+    rest: &[u8],
+    line: u64,
+    kind: ParamKind,
+) {
+    let text = padded(alloc, padding.0, padding.1, rest).expect(rt, "memory");
+    let fault = Some(ParamFault { line, kind });
+    assert_eq!(rt; read(alloc, &text).err(), fault);
+}
+
 #[test]
 fn refuses_what_is_too_long(rt: HostRuntime) {
-    let rows = [
-        (
-            b'\n',
-            1_048_577,
-            b"".as_slice(),
-            1_048_577,
-            ParamKind::TooLong,
-        ),
-        (b'\n', 1_048_576, b"EOF", 1_048_577, ParamKind::TooLong),
-        (
-            b'\n',
-            1_048_573,
-            b"EOF",
-            1_048_574,
-            ParamKind::MissingProblem,
-        ),
-        (
-            b'\n',
-            1_048_573,
-            b"EOF x",
-            1_048_574,
-            ParamKind::MissingProblem,
-        ),
-        (b' ', 4096, b"\n", 2, ParamKind::MissingProblem),
-        (b' ', 4097, b"\n", 1, ParamKind::TooLong),
-        (b' ', 4093, b"EOF and more\n", 1, ParamKind::MissingProblem),
-        (b' ', 4094, b"EOF\n", 1, ParamKind::TooLong),
-        (b'A', 64, b"", 1, ParamKind::UnknownKey),
-        (b'A', 65, b"", 1, ParamKind::TooLong),
-    ];
-    for (byte, count, rest, line, kind) in rows {
-        let text = padded(rt.alloc(), byte, count, rest).expect(&rt, "memory");
-        refuse(&rt, rt.alloc(), [(text.as_slice(), line, kind)].as_slice());
-    }
+    let alloc = rt.alloc();
+    refuse_padded(
+        &rt,
+        alloc,
+        (b' ', 4096),
+        b"\n",
+        2,
+        ParamKind::MissingProblem,
+    );
+    refuse_padded(&rt, alloc, (b' ', 4097), b"\n", 1, ParamKind::TooLong);
+    refuse_padded(
+        &rt,
+        alloc,
+        (b' ', 4093),
+        b"EOF and more\n",
+        1,
+        ParamKind::MissingProblem,
+    );
+    refuse_padded(&rt, alloc, (b' ', 4094), b"EOF\n", 1, ParamKind::TooLong);
+    refuse_padded(&rt, alloc, (b'A', 64), b"", 1, ParamKind::UnknownKey);
+    refuse_padded(&rt, alloc, (b'A', 65), b"", 1, ParamKind::TooLong);
+}
+
+#[test]
+fn stops_at_the_limit_of_a_text(rt: HostRuntime) {
+    let alloc = rt.alloc();
+    refuse_padded(
+        &rt,
+        alloc,
+        (b'\n', 1_048_577),
+        b"",
+        1_048_577,
+        ParamKind::TooLong,
+    );
+    refuse_padded(
+        &rt,
+        alloc,
+        (b'\n', 1_048_573),
+        b"EOF x",
+        1_048_574,
+        ParamKind::MissingProblem,
+    );
 }
 
 #[test]
