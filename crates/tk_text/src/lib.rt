@@ -53,6 +53,7 @@ pub use decimals::decimal;
 pub use drive::{Run, Step, TextReader, feed_piece, read_text};
 pub use entries::{Entry, entry_of, keyword_in, minus_one};
 pub use fault::{TextFault, TextKind};
+pub use held::{blank, letter, spelled, word_byte};
 pub use integers::integer;
 pub use keyword::{Keyword, Role};
 pub use limits::{TABLE_LIMIT, TEXT_LIMIT};
