@@ -1,5 +1,5 @@
 -- A search after one more trial.
-use Rattle.std.proofs.Common.{◌≡◌, ℕ, ◌+◌, ◌-◌, ◌*◌, ◌/◌, ◌^◌, ◌<◌, ◌≤◌, true, false, List, [], length, sym, ap, ◌∙◌, subst, arith, pos, map}
+use Rattle.std.proofs.Common.{◌≡◌, ℕ, ◌+◌, ◌-◌, ◌*◌, ◌^◌, ◌<◌, ◌≤◌, true, false, List, [], length, sym, ap, ◌∙◌, subst, arith, pos, map}
 use Rattle.std.specs.Prelude.{IsTrue}
 use Rattle.std.proofs.Math.Nat.{mul-le-mul_left}
 use Rattle.tk_metric.specs.Near.{NearLists}
@@ -14,7 +14,7 @@ use Rattle.tk_build.specs.declared.cuts.Cuts.{Cuts}
 use Rattle.tk_build.specs.Searching.{IsSearching}
 use Rattle.tk_build.specs.Settled.{IsAtBest}
 use Rattle.tk_build.specs.Totals.{AddsTrial, AreCountsOf, IsBounded}
-use Rattle.tk_build.specs.Trials.{IsTrial, gain_of}
+use Rattle.tk_build.specs.Trials.{IsTrial, IsBoundedTrial, gain_of}
 use Rattle.tk_build.specs.declared.descending.SearchRules.{SearchRules}
 use Rattle.tk_build.specs.declared.state.State.{State}
 use Rattle.tk_build.specs.declared.totals.TrialReport.{TrialReport}
@@ -46,8 +46,27 @@ few_ends asleep awake xs n cuts none e =
     let le : length (woken_each asleep (map (city_at xs) (end_places n cuts))) ≤ length asleep + 8 = woken_each-le (map (city_at xs) (end_places n cuts)) asleep in
     omega (arith, le, ap length e, ap length none)
 
+-- at most as much work with more cities awake
+pub more_awake : (n width awake more : ℕ) (rules : SearchRules) (report : TrialReport) → (rules.sweep ≡ false → awake ≤ more) → IsBoundedTrial n width awake rules report → IsBoundedTrial n width more rules report
+more_awake n width awake more rules report le h =
+    let c : ℕ = 4 * rules.or_segment * width in
+    let k : ℕ = 6 * report.descent.moves in
+    record {
+      moves = h.moves;
+      swaps = h.swaps;
+      passes = h.passes;
+      looks = λ o. omega (arith, h.looks o, le o);
+      tests = λ o.
+          let least : awake + k ≤ more + k = omega (arith, le o) in
+          let wide : c * (awake + k) ≤ c * (more + k) = mul-le-mul_left c least in
+          let x : report.descent.tests ≤ c * (awake + k) = h.tests o in
+          omega (arith, x, wide);
+      swept_looks = h.swept_looks;
+      swept_tests = h.swept_tests;
+    }
+
 -- what a trial leaves, by the state before it
-pub record Leaves (near : NearLists) (dist : ℕ → ℕ → ℕ) (rules : SearchRules) (s t : State) (report : TrialReport) : Type 0 where
+pub record Leaves (near : NearLists) (dist : ℕ → ℕ → ℕ) (rules : SearchRules) (s t : State) (awake : ℕ) (report : TrialReport) : Type 0 where
   pub size : length (order_of t.best) ≡ length (order_of s.best)
   pub slots : slots_of t.tour ≡ slots_of s.tour
   pub asleep : t.waking.queue ≡ []
@@ -57,17 +76,15 @@ pub record Leaves (near : NearLists) (dist : ℕ → ℕ → ℕ) (rules : Searc
   pub counts : AreCountsOf t.totals t.tour t.best
   pub adds : AddsTrial s.totals t.totals report (gain_of report)
   pub small : (t.totals.swaps < 2 ^ 64) × (t.totals.copied < 2 ^ 65)
-  pub moves : report.descent.moves ≤ gain_of report
-  pub swaps : report.descent.swaps ≤ 3 * (length (order_of s.best) / 4) * report.descent.moves
+  pub bounded : IsBoundedTrial (length (order_of s.best)) near.width awake rules report
   pub swapped : t.totals.swaps ≤ s.totals.swaps + length (order_of s.best) + report.descent.swaps
-  pub swept : rules.sweep ≡ true → report.descent.tests ≤ 4 * rules.or_segment * near.width * (length (order_of s.best) * report.passes + 6 * report.descent.moves)
   pub copied_to : report.better ≡ true → t.totals.copied ≤ s.totals.copied + length (order_of s.best)
   pub copied_back : report.better ≡ false → t.totals.copied ≤ s.totals.copied + (4 + 3 * report.descent.moves - 1)
   pub less : report.better ≡ true → tour_length dist (order_of t.best) < tour_length dist (order_of s.best)
   pub same : report.better ≡ false → tour_length dist (order_of t.best) ≡ tour_length dist (order_of s.best)
 
-module _ (size : ℕ) (dist : ℕ → ℕ → ℕ) (near : NearLists) (rules : SearchRules) (s t : State) (report : TrialReport)
-    (h : IsSearching size dist near rules s) (k : Leaves near dist rules s t report) where
+module _ (size : ℕ) (dist : ℕ → ℕ → ℕ) (near : NearLists) (rules : SearchRules) (s t : State) (awake : ℕ) (report : TrialReport)
+    (h : IsSearching size dist near rules s) (k : Leaves near dist rules s t awake report) where
   bounded : (rules.sweep ≡ false → t.totals.tests ≤ 4 * rules.or_segment * near.width * (length (order_of s.best) + 8 * (t.totals.trials - 1) + 6 * t.totals.moves)) →
       IsBounded (length (order_of s.best)) near.width rules (tour_length dist (order_of t.best)) t.totals
   bounded tests =
@@ -76,10 +93,10 @@ module _ (size : ℕ) (dist : ℕ → ℕ → ℕ) (near : NearLists) (rules : S
       let now : ℕ = tour_length dist (order_of t.best) in
       record {
         tests = tests;
-        swept = λ e. tests_swept n near.width was now 0 4 rules s.totals t.totals report k.adds h.bounds (h.bounds.swept e) (k.swept e);
-        swaps = swaps_more n near.width was now 0 4 rules s.totals t.totals report k.adds h.bounds k.small.0 k.swaps k.swapped;
+        swept = λ e. tests_swept n near.width was now 0 4 rules s.totals t.totals report k.adds h.bounds (h.bounds.swept e) (k.bounded.swept_tests e);
+        swaps = swaps_more n near.width was now 0 4 rules s.totals t.totals report k.adds h.bounds k.small.0 k.bounded.swaps k.swapped;
         undo_swaps = k.counts.undone;
-        moves = moves_more n near.width was now 0 4 rules s.totals t.totals report k.adds h.bounds k.moves;
+        moves = moves_more n near.width was now 0 4 rules s.totals t.totals report k.adds h.bounds k.bounded.moves;
         better = better_more n near.width was now 0 4 rules s.totals t.totals report k.adds h.bounds k.less k.same;
         copied = copied_more n near.width was now 0 4 rules s.totals t.totals report k.adds h.bounds k.small.1 (omega arith) k.copied_to k.copied_back;
       }
@@ -102,20 +119,12 @@ module _ (size : ℕ) (dist : ℕ → ℕ → ℕ) (near : NearLists) (rules : S
         bounds = subst P (sym k.size) (bounded tests);
       }
 
-  pub searches_first : s.totals.trials ≡ 0 → (queue : List ℕ) → length queue ≡ length (order_of s.best) → (rules.sweep ≡ false → report.descent.tests ≤ 4 * rules.or_segment * near.width * (length queue + 6 * report.descent.moves)) →
-      IsSearching size dist near rules t
-  searches_first none queue e once =
-      let n : ℕ = length (order_of s.best) in
+  pub searches_first : s.totals.trials ≡ 0 → awake ≡ length (order_of s.best) → IsSearching size dist near rules t
+  searches_first none all =
       let P : ℕ → Type 0 = λ v. report.descent.tests ≤ 4 * rules.or_segment * near.width * (v + 6 * report.descent.moves) in
-      searches (λ o. tests_first n near.width (tour_length dist (order_of s.best)) 0 0 4 rules s.totals t.totals report k.adds h.bounds (h.untried none) (subst P e (once o)))
+      searches (λ o. tests_first (length (order_of s.best)) near.width (tour_length dist (order_of s.best)) 0 0 4 rules s.totals t.totals report k.adds h.bounds (h.untried none) (subst P all (k.bounded.tests o)))
 
-  pub searches_kicked : 1 ≤ s.totals.trials → (queue : List ℕ) → (rules.sweep ≡ false → length queue ≤ 8) → (rules.sweep ≡ false → report.descent.tests ≤ 4 * rules.or_segment * near.width * (length queue + 6 * report.descent.moves)) →
-      IsSearching size dist near rules t
-  searches_kicked begun queue few once =
-      let n : ℕ = length (order_of s.best) in
-      let c : ℕ = 4 * rules.or_segment * near.width in
-      searches (λ o.
-      let le : length queue + 6 * report.descent.moves ≤ 8 + 6 * report.descent.moves = omega (arith, few o) in
-      let wide : c * (length queue + 6 * report.descent.moves) ≤ c * (8 + 6 * report.descent.moves) = mul-le-mul_left c le in
-      let x : report.descent.tests ≤ c * (length queue + 6 * report.descent.moves) = once o in
-      tests_kicked n near.width (tour_length dist (order_of s.best)) 0 0 4 rules s.totals t.totals report k.adds h.bounds begun (h.bounds.tests o) (omega (arith, x, wide)))
+  pub searches_kicked : 1 ≤ s.totals.trials → awake ≡ 8 → IsSearching size dist near rules t
+  searches_kicked begun ends =
+      let P : ℕ → Type 0 = λ v. report.descent.tests ≤ 4 * rules.or_segment * near.width * (v + 6 * report.descent.moves) in
+      searches (λ o. tests_kicked (length (order_of s.best)) near.width (tour_length dist (order_of s.best)) 0 0 4 rules s.totals t.totals report k.adds h.bounds begun (h.bounds.tests o) (subst P ends (k.bounded.tests o)))

@@ -1,7 +1,7 @@
 -- Searches by trials.
 --     Searching      what callers see of a search
 --     IsFirstTrial, IsKickedTrial, IsNoTrial      its next trial
-use Rattle.std.specs.Prelude.{◌≡◌, ℕ, ◌≤◌, List, [], length, pos, true, false}
+use Rattle.std.specs.Prelude.{◌≡◌, ℕ, ◌+◌, ◌≤◌, List, [], length, pos, true, false}
 use Rattle.rand_core.specs.Stream.{Stream}
 use Rattle.tk_metric.specs.Near.{NearLists, near_of}
 use Rattle.tk_tour.specs.ArrayTours.{order_of}
@@ -10,7 +10,7 @@ use Rattle.tk_tour.specs.Tour.{tour_length}
 use Rattle.tk_descent.specs.Awake.{one_to}
 use Rattle.tk_build.specs.Settled.{IsAtBest}
 use Rattle.tk_build.specs.Totals.{AddsTrial, AreCountsOf, IsBounded}
-use Rattle.tk_build.specs.Trials.{IsTrial, IsKick, gain_of}
+use Rattle.tk_build.specs.Trials.{IsTrial, IsBoundedTrial, IsKick, gain_of}
 use Rattle.tk_build.specs.declared.descending.SearchRules.{SearchRules}
 use Rattle.tk_build.specs.declared.state.State.{State}
 use Rattle.tk_build.specs.declared.totals.Totals.{Totals}
@@ -33,14 +33,17 @@ pub record IsBegun (search : Searching) (distance : ℕ → ℕ → ℕ) (near :
   pub best : search.best ≡ start
   pub trials : search.totals.trials ≡ 0
   pub length_is : search.totals.start ≡ pos (tour_length distance start)
+  pub none : (search.totals.better ≡ 0) × (search.totals.moves ≡ 0) × (search.totals.gained ≡ 0) × (search.totals.tests ≡ 0) × (search.totals.swaps ≡ 0) × (search.totals.undo_swaps ≡ 0) × (search.totals.copied ≡ 0) × (search.totals.passes ≡ 0)
 
 -- the first trial: a descent from the best tour, which is the start, with all cities awake
 pub record IsFirstTrial (old new : Searching) (report : TrialReport) : Type 0 where
   pub trial : IsTrial old.distance (near_of old.near) old.rules old.best (one_to (length old.best)) old.best new.best report
   pub kicked : report.kicked ≡ false
   pub adds : AddsTrial old.totals new.totals report (gain_of report)
+  pub swaps : new.totals.swaps ≡ old.totals.swaps + report.descent.swaps
+  pub bounded : IsBoundedTrial (length old.best) old.near.width (length old.best) old.rules report
 
--- a later trial: a descent from a kick of the best tour
+-- a later trial: a descent from a kick of the best tour, which wakes at most 8 cities where it does not wake all
 pub record IsKickedTrial (old : Searching) (words : Stream) (new : Searching) (rest : Stream) (report : TrialReport) : Type 0 where
   pub tour : List ℕ
   pub awake : List ℕ
@@ -48,6 +51,8 @@ pub record IsKickedTrial (old : Searching) (words : Stream) (new : Searching) (r
   pub trial : IsTrial old.distance (near_of old.near) old.rules tour awake old.best new.best report
   pub kicked : report.kicked ≡ true
   pub adds : AddsTrial old.totals new.totals report (gain_of report)
+  pub swaps : (old.totals.swaps + report.descent.swaps ≤ new.totals.swaps) × (new.totals.swaps ≤ old.totals.swaps + length old.best + report.descent.swaps)
+  pub bounded : IsBoundedTrial (length old.best) old.near.width 8 old.rules report
 
 -- no trial: both lengths are the best tour's, and nothing was counted
 pub record IsNoTrial (search : Searching) (report : TrialReport) : Type 0 where

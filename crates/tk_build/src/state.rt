@@ -9,7 +9,7 @@ ghost use Rattle.tk_tour.specs.Counters.{saturated};
 ghost use Rattle.tk_tour.specs.JournalTours.{tour_of, slots_of, flips_since, settled_order, KeepsSettled};
 ghost use Rattle.tk_build.specs.Settled.{IsAtBest};
 ghost use Rattle.tk_build.specs.Totals.{AddsTrial, AreCountsOf};
-ghost use Rattle.tk_build.specs.Trials.{IsTrial, IsKick, gain_of};
+ghost use Rattle.tk_build.specs.Trials.{IsTrial, IsBoundedTrial, IsKick, gain_of};
 
 use crate::cuts::Cuts;
 use crate::descending::{SearchRules, descend_by};
@@ -73,11 +73,8 @@ impl State {
         ensures adds { AddsTrial self.old.totals self.new.totals result (gain_of result) }
         ensures counts { AreCountsOf self.new.totals self.new.tour self.new.best }
         ensures small { (self.new.totals.swaps < 2 ^ 64) × (self.new.totals.copied < 2 ^ 65) }
-        ensures moves { result.descent.moves ≤ gain_of result }
-        ensures tests_once { rules.sweep ≡ false → result.descent.tests ≤ 4 * rules.or_segment * near.now.width * (length self.old.waking.queue + 6 * result.descent.moves) }
-        ensures tests_swept { rules.sweep ≡ true → result.descent.tests ≤ 4 * rules.or_segment * near.now.width * (length (order_of self.old.best) * result.passes + 6 * result.descent.moves) }
+        ensures bounded { IsBoundedTrial (length (order_of self.old.best)) near.now.width (length self.old.waking.queue) rules result }
         ensures swapped { swaps_of (tour_of self.new.tour) ≡ swaps_of (tour_of self.old.tour) + result.descent.swaps }
-        ensures swaps { result.descent.swaps ≤ 3 * (length (order_of self.old.best) / 4) * result.descent.moves }
         ensures copied_to { result.better ≡ true → copied_of (tour_of self.new.tour) + copied_of self.new.best ≤ copied_of (tour_of self.old.tour) + copied_of self.old.best + length (order_of self.old.best) }
         ensures copied_back { result.better ≡ false → copied_of (tour_of self.new.tour) + copied_of self.new.best ≤ copied_of (tour_of self.old.tour) + copied_of self.old.best + (flips_since self.old.tour + 3 * result.descent.moves - 1) }
     {

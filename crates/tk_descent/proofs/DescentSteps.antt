@@ -1,9 +1,11 @@
 -- The steps of a descent.
-use Rattle.std.proofs.Common.{◌≡◌, ℕ, ◌+◌, ◌*◌, ◌≤◌, List, ◌∷◌, length, Option, Some, None, sym, ◌∙◌, ap, arith, subst, ℤ, pos, ◌-ℤ◌, FitsSigned, w64, to_z, of_z}
+use Rattle.std.proofs.Common.{◌≡◌, ℕ, ◌+◌, ◌-◌, ◌*◌, ◌<◌, ◌≤◌, List, ◌∷◌, length, Option, Some, None, sym, ◌∙◌, ap, arith, subst, ℤ, pos, ◌-ℤ◌, FitsSigned, w64, to_z, of_z}
+use Rattle.std.proofs.Math.Nat.{mul-le-mul}
 use Rattle.std.proofs.lemmas.Int.{ints, to_z-of_z}
 use Rattle.tk_descent.proofs.Paths.{IsTable}
+use Rattle.tk_tour.specs.Counters.{saturated}
 use Rattle.tk_tour.specs.Tour.{tour_length}
-use Rattle.tk_descent.specs.Offers.{first_gain, offers, Makes, removed, added, Searched, gain, ends}
+use Rattle.tk_descent.specs.Offers.{first_gain, tests_to, offers, Makes, removed, added, Searched, gain, ends}
 use Rattle.tk_descent.specs.Awake.{woken_each}
 use Rattle.tk_descent.specs.Machine.{Run}
 use Rattle.tk_descent.specs.Machine.Run.{asleep, move}
@@ -14,16 +16,21 @@ use Rattle.tk_descent.proofs.Searching.{at_table}
 use Rattle.tk_descent.proofs.GainLaw.{gain_law}
 use Rattle.tk_descent.proofs.Count.{found_improves, woken_each-le, ends-le, tour_length-le, gain_after}
 
-module _ (d : ℕ → ℕ → ℕ) (near : ℕ → List ℕ) (m : ℕ) (T W C U V : List ℕ) (x looks moves : ℕ) where
-  pub run_asleep : Run d near m T W C U looks moves → U ≡ x ∷ V → (e : ℕ → ℕ → ℕ) (t u : ℕ) → e ≡ d → Searched e (offers C m (near x) x) None t u → Run d near m T W C V (looks + 1) moves
-  run_asleep run front e t u same h = asleep (subst (λ z. Run d near m T W C z looks moves) front run) (sym (at_table d e (offers C m (near x) x) None t u same h).found)
+module _ (d : ℕ → ℕ → ℕ) (near : ℕ → List ℕ) (m : ℕ) (T W C U V : List ℕ) (x looks moves tests : ℕ) where
+  pub run_asleep : Run d near m T W C U looks moves tests → U ≡ x ∷ V → (e : ℕ → ℕ → ℕ) (t u : ℕ) → e ≡ d → Searched e (offers C m (near x) x) None t u → Run d near m T W C V (looks + 1) moves (tests + tests_to d (offers C m (near x) x))
+  run_asleep run front e t u same h = asleep (subst (λ z. Run d near m T W C z looks moves tests) front run) (sym (at_table d e (offers C m (near x) x) None t u same h).found)
 
   module _ (D Z : List ℕ) (f : Found) (e : ℕ → ℕ → ℕ) (t u : ℕ) (same : e ≡ d) (h : Searched e (offers C m (near x) x) (Some f) t u) where
     found : Some f.offer ≡ first_gain d (offers C m (near x) x)
     found = (at_table d e (offers C m (near x) x) (Some f) t u same h).found
 
-    pub run_move : Run d near m T W C U looks moves → U ≡ x ∷ V → Makes m f.offer C D → Z ≡ woken_each V (ends f.offer) → Run d near m T W D Z (looks + 1) (moves + 1)
-    run_move run front made woken = subst (λ z. Run d near m T W D z (looks + 1) (moves + 1)) (sym woken) (move (subst (λ z. Run d near m T W C z looks moves) front run) (sym found) made)
+    pub run_move : Run d near m T W C U looks moves tests → U ≡ x ∷ V → Makes m f.offer C D → Z ≡ woken_each V (ends f.offer) → Run d near m T W D Z (looks + 1) (moves + 1) (tests + tests_to d (offers C m (near x) x))
+    run_move run front made woken =
+        subst (λ z. Run d near m T W D z (looks + 1) (moves + 1) (tests + tests_to d (offers C m (near x) x))) (sym woken) (move (subst (λ z. Run d near m T W C z looks moves tests) front run) (sym found) made)
+
+-- a counter after a look, from the count before the descent and the descent's tests
+pub count_look : (d e : ℕ → ℕ → ℕ) (os : List Offer) (r : Option Found) (before t u tests : ℕ) → e ≡ d → Searched e os r t u → t ≡ saturated (before + tests) → u ≡ saturated (before + (tests + tests_to d os))
+count_look d e os r before t u tests same h counted = omega (arith, (at_table d e os r t u same h).tests, counted)
 
 pub queue_left : (U V Z : List ℕ) (x : ℕ) (o : Offer) → U ≡ x ∷ V → Z ≡ woken_each V (ends o) → length Z + 1 ≤ length U + 6
 queue_left U V Z x o front woken = omega (arith, ap length front, ap length woken, woken_each-le (ends o) V, ends-le o)
@@ -64,3 +71,15 @@ tests_rise d os r a t u h l k = omega (arith, h.tests)
 
 pub less_move : (d e : ℕ → ℕ → ℕ) (os : List Offer) (f : Found) (t u m : ℕ) (C D : List ℕ) → IsTable d → e ≡ d → Searched e os (Some f) t u → Makes m f.offer C D → tour_length d D + 1 ≤ tour_length d C
 less_move d e os f t u m C D is same h made = omega (arith, gain_law d is.0 C D m f.offer made, found_improves d os f.offer (sym (at_table d e os (Some f) t u same h).found))
+
+-- a descent has fewer than 3 * 10^18 tests
+pub few_tests : (m k n moves tests L : ℕ) → m ≤ 3 → k ≤ 100 → n ≤ 100000 → moves ≤ L → L ≤ 400000000000000 → tests ≤ 4 * m * k * (n + 6 * moves) → tests < 18446744073709551615
+few_tests m k n moves tests L h j l f e b =
+    let p : m * k ≤ 300 = mul-le-mul h j in
+    let few : n + 6 * moves ≤ 2400000000100000 = omega arith in
+    let q : m * k * (n + 6 * moves) ≤ 300 * 2400000000100000 = mul-le-mul p few in
+    omega (arith, q, b)
+
+-- a counter from nothing that did not come to its end counts all
+pub fresh_count : (before after tests r : ℕ) → after ≡ saturated (before + tests) → r ≡ after - before → before ≡ 0 → r < 18446744073709551615 → tests ≡ r
+fresh_count before after tests r h j z few = omega arith

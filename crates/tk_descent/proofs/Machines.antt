@@ -161,7 +161,7 @@ module _ (V : List ℕ) (x : ℕ) (dis : IsDistinct (x ∷ V)) where
     joins_back c (inr h) = holds-woken_each es V c ∙ or_right (holds V c) (holds es c) h
 
 module _ (d : ℕ → ℕ → ℕ) (near : ℕ → List ℕ) (m : ℕ) (T W : List ℕ) (is : IsTable d) (small : m ≤ 3) (tour : IsDistinct T) (once : IsDistinct W) where
-  run_wakes_all : {C V : List ℕ} {looks moves : ℕ} → Run d near m T W C V looks moves → Wakes d near m T W C V × IsDistinct C × IsDistinct V
+  run_wakes_all : {C V : List ℕ} {looks moves tests : ℕ} → Run d near m T W C V looks moves tests → Wakes d near m T W C V × IsDistinct C × IsDistinct V
   run_wakes_all start = (begin, tour, once)
   run_wakes_all (asleep {C = C} {V = V} {x = x} r e) =
       let i = run_wakes_all r in
@@ -174,11 +174,11 @@ module _ (d : ℕ → ℕ → ℕ) (near : ℕ → List ℕ) (m : ℕ) (T W : Li
         distinct-woken_each (ends o) V i.2.1,
       )
 
-  pub run_wakes : {C V : List ℕ} {looks moves : ℕ} → Run d near m T W C V looks moves → Wakes d near m T W C V
+  pub run_wakes : {C V : List ℕ} {looks moves tests : ℕ} → Run d near m T W C V looks moves tests → Wakes d near m T W C V
   run_wakes r = (run_wakes_all r).0
 
 -- a run without a move leaves the cycle, and puts to sleep only cities without an offer
-pub still : (d : ℕ → ℕ → ℕ) (near : ℕ → List ℕ) (m : ℕ) (T W : List ℕ) {C V : List ℕ} {looks moves : ℕ} → Run d near m T W C V looks moves → moves ≡ 0 →
+pub still : (d : ℕ → ℕ → ℕ) (near : ℕ → List ℕ) (m : ℕ) (T W : List ℕ) {C V : List ℕ} {looks moves tests : ℕ} → Run d near m T W C V looks moves tests → moves ≡ 0 →
     (C ≡ T) × ((c : ℕ) → holds W c ≡ true → (holds V c ≡ true) ⊎ (first_gain d (offers T m (near c) c) ≡ None))
 still d near m T W start z = (refl, λ c h. inl h)
 still d near m T W (asleep {C = C} {V = V} {x = x} r e) z =
@@ -191,8 +191,8 @@ still d near m T W (asleep {C = C} {V = V} {x = x} r e) z =
     )
 still d near m T W (move r e made) z = absurd (omega arith)
 
-pub still_optimum : (d : ℕ → ℕ → ℕ) (near : ℕ → List ℕ) (m : ℕ) (T W C : List ℕ) (looks moves : ℕ) → IsTable d → m ≤ 3 → IsDistinct T → ((c : ℕ) → holds T c ≡ true → holds W c ≡ true) → Run d near m T W C [] looks moves → moves ≡ 0 → IsLocalOptimum d near m C
-still_optimum d near m T W C looks moves is small dis all r z =
+pub still_optimum : (d : ℕ → ℕ → ℕ) (near : ℕ → List ℕ) (m : ℕ) (T W C : List ℕ) (looks moves tests : ℕ) → IsTable d → m ≤ 3 → IsDistinct T → ((c : ℕ) → holds T c ≡ true → holds W c ≡ true) → Run d near m T W C [] looks moves tests → moves ≡ 0 → IsLocalOptimum d near m C
+still_optimum d near m T W C looks moves tests is small dis all r z =
     let i = still d near m T W r z in
     subst (λ v. IsLocalOptimum d near m v) (sym i.0)
     (λ x h. elim (i.1 x (all x h)) [ inl k ↦ absurd (both_ways false refl k) | inr k ↦ none_improves d near m x T is dis small k ])

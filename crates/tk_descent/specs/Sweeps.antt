@@ -4,23 +4,26 @@ use Rattle.tk_tour.specs.Counters.{saturated}
 use Rattle.tk_descent.specs.Awake.{one_to}
 use Rattle.tk_descent.specs.Machine.{Run}
 
--- a descent from a tour with all cities awake, with its looks and moves
-abbrev pub Pass : (ℕ → ℕ → ℕ) → (ℕ → List ℕ) → ℕ → List ℕ → List ℕ → ℕ → ℕ → Type 0
-Pass dist near m T C looks moves = Run dist near m T (one_to (length T)) C [] looks moves
+-- a descent from a tour with all cities awake, with its looks, moves and tests
+abbrev pub Pass : (ℕ → ℕ → ℕ) → (ℕ → List ℕ) → ℕ → List ℕ → List ℕ → ℕ → ℕ → ℕ → Type 0
+Pass dist near m T C looks moves tests = Run dist near m T (one_to (length T)) C [] looks moves tests
 
--- passes one after another from the tour T, each with a move, and the counts of passes, looks and moves
-pub data Moving (dist : ℕ → ℕ → ℕ) (near : ℕ → List ℕ) (m : ℕ) (T : List ℕ) : List ℕ → ℕ → ℕ → ℕ → Type 0 where
-  start : Moving dist near m T T 0 0 0
-  pass : {C D : List ℕ} {passes looks moves more made : ℕ} → Moving dist near m T C passes looks moves → Pass dist near m C D more made → 1 ≤ made →
-      Moving dist near m T D (passes + 1) (saturated (looks + more)) (moves + made)
+-- passes one after another from the tour T, each with a move, and the counts of passes, looks, moves and tests
+pub data Moving (dist : ℕ → ℕ → ℕ) (near : ℕ → List ℕ) (m : ℕ) (T : List ℕ) : List ℕ → ℕ → ℕ → ℕ → ℕ → Type 0 where
+  start : Moving dist near m T T 0 0 0 0
+  pass : {C D : List ℕ} {passes looks moves tests more made tried : ℕ} → Moving dist near m T C passes looks moves tests → Pass dist near m C D more made tried → 1 ≤ made →
+      Moving dist near m T D (passes + 1) (saturated (looks + more)) (moves + made) (saturated (tests + tried))
 
 -- passes one after another, each but the last with a move
-pub record Sweeps (dist : ℕ → ℕ → ℕ) (near : ℕ → List ℕ) (m : ℕ) (T D : List ℕ) (passes looks moves : ℕ) : Type 0 where
+pub record Sweeps (dist : ℕ → ℕ → ℕ) (near : ℕ → List ℕ) (m : ℕ) (T D : List ℕ) (passes looks moves tests : ℕ) : Type 0 where
   pub tour : List ℕ
   pub moving : ℕ
   pub looked : ℕ
   pub more : ℕ
-  pub chain : Moving dist near m T tour moving looked moves
-  pub last : Pass dist near m tour D more 0
+  pub tested : ℕ
+  pub tried : ℕ
+  pub chain : Moving dist near m T tour moving looked moves tested
+  pub last : Pass dist near m tour D more 0 tried
   pub passes_are : passes ≡ moving + 1
   pub looks_are : looks ≡ saturated (looked + more)
+  pub tests_are : tests ≡ saturated (tested + tried)

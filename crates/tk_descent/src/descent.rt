@@ -1,6 +1,7 @@
 //! The descent.
-ghost use Rattle.std.specs.Prelude.{◌≡◌, pos, ◌+◌, ◌-◌, ◌*◌, ◌/◌, ◌≤◌, [], length};
+ghost use Rattle.std.specs.Prelude.{◌≡◌, ℕ, pos, ◌+◌, ◌-◌, ◌*◌, ◌/◌, ◌≤◌, [], length};
 ghost use Rattle.tk_metric.specs.Near.{near_of};
+ghost use Rattle.tk_tour.specs.Counters.{saturated};
 ghost use Rattle.tk_tour.specs.Tour.{tour_length, IsTour};
 ghost use Rattle.tk_descent.specs.Offers.{ends, EndsIn};
 ghost use Rattle.tk_descent.specs.Awake.{woken_each};
@@ -71,7 +72,8 @@ pub fn descend<S: TourStore, G: Gains>(
     requires fits { (G.size_of g.old ≡ length (S.cities s.old)) × (near.now.size ≡ length (S.cities s.old)) × (waking.old.size ≡ length (S.cities s.old)) }
     requires most { (1 ≤ m) × (m ≤ 3) }
     requires before { before ≡ pos (tour_length (G.distance g.old) (S.cities s.old)) }
-    ensures run { Run (G.distance g.old) (near_of near.now) m (S.cities s.old) waking.old.queue (S.cities s.new) [] result.looks result.moves }
+    ensures run { (tests : ℕ) × Run (G.distance g.old) (near_of near.now) m (S.cities s.old) waking.old.queue (S.cities s.new) [] result.looks result.moves tests × (G.test_count g.new ≡ saturated (G.test_count g.old + tests)) }
+    ensures fresh { G.test_count g.old ≡ 0 → Run (G.distance g.old) (near_of near.now) m (S.cities s.old) waking.old.queue (S.cities s.new) [] result.looks result.moves result.tests }
     ensures wakes { Wakes (G.distance g.old) (near_of near.now) m (S.cities s.old) waking.old.queue (S.cities s.new) [] }
     ensures asleep { waking.new.queue ≡ [] }
     ensures stored { length near.now.entries ≡ length (S.cities s.old) * near.now.width }

@@ -1,6 +1,7 @@
 //! Descents until a tour is a local optimum.
-ghost use Rattle.std.specs.Prelude.{◌≡◌, pos, ◌+◌, ◌-◌, ◌*◌, ◌/◌, ◌≤◌, [], length};
+ghost use Rattle.std.specs.Prelude.{◌≡◌, ℕ, pos, ◌+◌, ◌-◌, ◌*◌, ◌/◌, ◌≤◌, [], length};
 ghost use Rattle.tk_metric.specs.Near.{near_of};
+ghost use Rattle.tk_tour.specs.Counters.{saturated};
 ghost use Rattle.tk_tour.specs.Tour.{tour_length, IsTour};
 ghost use Rattle.tk_descent.specs.Sweeps.{Sweeps};
 ghost use Rattle.tk_descent.specs.WakeMachine.{IsLocalOptimum};
@@ -15,7 +16,7 @@ use tk_tour::TourStore;
 /// What several passes did together.
 #[derive(Clone, Copy)]
 pub struct SweptReport {
-    /// All passes as one descent. The looks stand still at 2^64 - 1.
+    /// All passes as one descent. The looks and the tests stand still at 2^64 - 1.
     pub descent: Report,
     /// How many descents there were.
     pub passes: u64,
@@ -41,7 +42,8 @@ pub fn descend_swept<S: TourStore, G: Gains>(
     requires fits { (G.size_of g.old ≡ length (S.cities s.old)) × (near.now.size ≡ length (S.cities s.old)) × (waking.old.size ≡ length (S.cities s.old)) }
     requires most { (1 ≤ m) × (m ≤ 3) }
     requires before { before ≡ pos (tour_length (G.distance g.old) (S.cities s.old)) }
-    ensures sweeps { Sweeps (G.distance g.old) (near_of near.now) m (S.cities s.old) (S.cities s.new) result.passes result.descent.looks result.descent.moves }
+    ensures sweeps { (tests : ℕ) × Sweeps (G.distance g.old) (near_of near.now) m (S.cities s.old) (S.cities s.new) result.passes result.descent.looks result.descent.moves tests × (G.test_count g.new ≡ saturated (G.test_count g.old + tests)) }
+    ensures fresh { G.test_count g.old ≡ 0 → Sweeps (G.distance g.old) (near_of near.now) m (S.cities s.old) (S.cities s.new) result.passes result.descent.looks result.descent.moves result.descent.tests }
     ensures optimum { IsLocalOptimum (G.distance g.old) (near_of near.now) m (S.cities s.new) }
     ensures stored { length near.now.entries ≡ length (S.cities s.old) * near.now.width }
     ensures asleep { waking.new.queue ≡ [] }
@@ -49,6 +51,7 @@ pub fn descend_swept<S: TourStore, G: Gains>(
     ensures tour { IsTour (length (S.cities s.old)) (S.cities s.new) }
     ensures lengths { (result.descent.before ≡ before) × (result.descent.after ≡ pos (tour_length (G.distance g.old) (S.cities s.new))) }
     ensures moves { result.descent.moves + tour_length (G.distance g.old) (S.cities s.new) ≤ tour_length (G.distance g.old) (S.cities s.old) }
+    ensures looks { result.descent.looks ≤ length (S.cities s.old) * result.passes + 6 * result.descent.moves }
     ensures tests { result.descent.tests ≤ 4 * m * near.now.width * (length (S.cities s.old) * result.passes + 6 * result.descent.moves) }
     ensures tested { result.descent.tests ≡ G.test_count g.new - G.test_count g.old }
     ensures swaps { result.descent.swaps ≤ 3 * (length (S.cities s.old) / 4) * result.descent.moves }

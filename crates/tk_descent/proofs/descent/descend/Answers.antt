@@ -1,10 +1,11 @@
-use Rattle.std.proofs.Common.{arith, ◌-◌, rules, refl, ◌+◌, ◌*◌, ◌/◌, ◌≤◌, ap, ◌∙◌, length, ◌≡◌, subst}
+use Rattle.std.proofs.Common.{arith, [], ◌-◌, rules, refl, ◌+◌, ◌*◌, ◌/◌, ◌≤◌, ap, ◌∙◌, length, ◌≡◌, subst}
 use Rattle.tk_metric.specs.Near.{near_of}
 use Rattle.tk_descent.proofs.OnCycle.{more_on}
 use Rattle.tk_tour.specs.Tour.{tour_length, IsTour}
+use Rattle.tk_descent.specs.Machine.{Run}
 use Rattle.tk_descent.specs.Machine.Run.{start}
 use Rattle.tk_descent.proofs.Rounds.{round_of}
-use Rattle.tk_descent.proofs.DescentSteps.{run_asleep, run_move, less_move, worth_move, queue_left, fits_length, more_swaps, tests_rise}
+use Rattle.tk_descent.proofs.DescentSteps.{run_asleep, run_move, less_move, worth_move, queue_left, fits_length, more_swaps, tests_rise, count_look, few_tests, fresh_count}
 use Rattle.tk_descent.proofs.Count.{fewer}
 use Rattle.tk_descent.specs.WakeMachine.{Wakes}
 use Rattle.tk_descent.proofs.Machines.{run_wakes}
@@ -12,7 +13,7 @@ use Rattle.tk_descent.proofs.descent.descend.Goals as goal
 
 pub loop-x-init : goal.loop-x-init
 loop-x-init g c = record {
-  run = start;
+  run = (0, start, omega (arith, g.met.G.Gains.count_limit c.args.g.now));
   table = refl;
   range = c.requires.fits.0;
   size = refl;
@@ -76,7 +77,11 @@ loop-x-preserved-in-Some-find_offer g c =
     let made = c.make.ensures.made c.args.m c.in-Some-find_offer.ensures.on_cycle.0 in
     let less = less_move d _ _ f _ _ c.args.m (g.S.TourStore.cities c.loop-x.s) (g.S.TourStore.cities c.make.new.s) (g.met.G.Gains.symmetric c.args.g.now, g.met.G.Gains.diagonal c.args.g.now, g.met.G.Gains.distance_limit c.args.g.now) i.table c.in-Some-find_offer.ensures.searched made in
     record {
-      run = run_move d _ c.args.m _ _ _ _ _ _ _ _ _ _ f _ _ _ i.table c.in-Some-find_offer.ensures.searched i.run c.in-Some.ensures.taken made c.wake_ends.ensures.queue;
+      run = (
+        _,
+        run_move d _ c.args.m _ _ _ _ _ _ _ _ _ _ _ f _ _ _ i.table c.in-Some-find_offer.ensures.searched i.run.1 c.in-Some.ensures.taken made c.wake_ends.ensures.queue,
+        count_look d _ _ _ _ _ _ _ i.table c.in-Some-find_offer.ensures.searched i.run.2,
+      );
       table = c.find_offer.ensures.same.0 ∙ i.table;
       range = c.find_offer.ensures.same.1 ∙ i.range;
       size = c.make.ensures.size ∙ i.size;
@@ -99,7 +104,11 @@ loop-x-preserved g c =
     let i = c.loop-x.invariant in
     let d = g.G.Gains.distance c.args.g.now in
     record {
-      run = run_asleep d _ c.args.m _ _ _ _ _ _ _ _ i.run c.in-Some.ensures.taken _ _ _ i.table c.in_default-find_offer.ensures.searched;
+      run = (
+        _,
+        run_asleep d _ c.args.m _ _ _ _ _ _ _ _ _ i.run.1 c.in-Some.ensures.taken _ _ _ i.table c.in_default-find_offer.ensures.searched,
+        count_look d _ _ _ _ _ _ _ i.table c.in_default-find_offer.ensures.searched i.run.2,
+      );
       table = c.find_offer.ensures.same.0 ∙ i.table;
       range = c.find_offer.ensures.same.1 ∙ i.range;
       size = i.size;
@@ -129,7 +138,7 @@ returns-clause-tests g c =
 pub returns-clause-wakes : goal.returns-clause-wakes
 returns-clause-wakes g c =
     subst (λ z. Wakes (g.G.Gains.distance c.args.g.now) (near_of c.args.near.now) c.args.m (g.S.TourStore.cities c.args.s.now) c.args.waking.now.queue (g.S.TourStore.cities c.loop-x.s) z) c.in_default.ensures.taken.0
-    (run_wakes (g.G.Gains.distance c.args.g.now) (near_of c.args.near.now) c.args.m (g.S.TourStore.cities c.args.s.now) c.args.waking.now.queue (g.met.G.Gains.symmetric c.args.g.now, g.met.G.Gains.diagonal c.args.g.now, g.met.G.Gains.distance_limit c.args.g.now) c.requires.most.1 (round_of _ (g.met.S.TourStore.is_tour c.args.s.now)).distinct c.len-awake.ensures.distinct c.loop-x.invariant.run)
+    (run_wakes (g.G.Gains.distance c.args.g.now) (near_of c.args.near.now) c.args.m (g.S.TourStore.cities c.args.s.now) c.args.waking.now.queue (g.met.G.Gains.symmetric c.args.g.now, g.met.G.Gains.diagonal c.args.g.now, g.met.G.Gains.distance_limit c.args.g.now) c.requires.most.1 (round_of _ (g.met.S.TourStore.is_tour c.args.s.now)).distinct c.len-awake.ensures.distinct c.loop-x.invariant.run.1)
 
 pub returns-clause-stored : goal.returns-clause-stored
 returns-clause-stored g c = c.width-candidates.ensures.stored ∙ ap (λ z. z * c.args.near.now.width) c.requires.fits.1
@@ -145,3 +154,18 @@ returns-clause-headline g c =
 
 pub returns-clause-tour : goal.returns-clause-tour
 returns-clause-tour g c = subst (λ z. IsTour z (g.S.TourStore.cities c.loop-x.s)) c.loop-x.invariant.size (g.met.S.TourStore.is_tour c.loop-x.s).2
+
+pub returns-clause-run : goal.returns-clause-run
+returns-clause-run g c =
+    let r = c.loop-x.invariant.run in
+    (r.0, subst (λ z. Run (g.G.Gains.distance c.args.g.now) (near_of c.args.near.now) c.args.m (g.S.TourStore.cities c.args.s.now) c.args.waking.now.queue (g.S.TourStore.cities c.loop-x.s) z c.loop-x.looks c.loop-x.moves r.0) c.in_default.ensures.taken.0 r.1, r.2)
+
+pub returns-clause-fresh : goal.returns-clause-fresh
+returns-clause-fresh g c = λ fresh.
+    let i = c.loop-x.invariant in
+    let r = returns-clause-run g c in
+    let d = g.G.Gains.distance c.args.g.now in
+    subst (λ z. Run d (near_of c.args.near.now) c.args.m (g.S.TourStore.cities c.args.s.now) c.args.waking.now.queue (g.S.TourStore.cities c.loop-x.s) [] c.loop-x.looks c.loop-x.moves z) (fresh_count _ _ r.0 _ r.2 (omega (arith, c.tests-tests.ensures, c.tests.ensures)) fresh
+    (few_tests c.args.m c.args.near.now.width (length c.args.waking.now.queue) c.loop-x.moves _ (tour_length d (g.S.TourStore.cities c.args.s.now)) c.requires.most.1 (omega (arith, c.width-candidates.ensures.value, c.width-candidates.ensures.limit))
+    (omega (arith, c.len-awake.ensures.value, c.len-awake.ensures.limit, c.requires.fits.2, c.size-cities.ensures.count, c.size-cities.ensures.limits.1)) (omega (arith, i.gained))
+    (fits_length d (g.S.TourStore.cities c.args.s.now) (g.met.G.Gains.symmetric c.args.g.now, g.met.G.Gains.diagonal c.args.g.now, g.met.G.Gains.distance_limit c.args.g.now) (omega (arith, c.size-cities.ensures.count, c.size-cities.ensures.limits.1))) (returns-clause-tests g c))) r.1

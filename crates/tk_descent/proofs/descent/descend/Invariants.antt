@@ -1,5 +1,6 @@
-use Rattle.std.proofs.Common.{◌≡◌, ◌+◌, ◌*◌, ◌/◌, ◌≤◌, pos, length}
+use Rattle.std.proofs.Common.{◌≡◌, ℕ, ◌+◌, ◌*◌, ◌/◌, ◌≤◌, pos, length}
 use Rattle.tk_metric.specs.Near.{near_of}
+use Rattle.tk_tour.specs.Counters.{saturated}
 use Rattle.tk_tour.specs.Tour.{tour_length}
 use Rattle.tk_descent.specs.Machine.{Run}
 use Rattle.tk_descent.proofs.descent.descend.Given as goal
@@ -10,7 +11,7 @@ invariant-loop-x g l =
     let T = g.S.TourStore.cities l.fn.s in
     let C = g.S.TourStore.cities l.s in
     record {
-      run : Run dist (near_of l.near) l.m T l.fn.waking.queue C l.waking.queue l.looks l.moves;
+      run : (tests : ℕ) × Run dist (near_of l.near) l.m T l.fn.waking.queue C l.waking.queue l.looks l.moves tests × (g.G.Gains.test_count l.g ≡ saturated (g.G.Gains.test_count l.fn.g + tests));
       table : g.G.Gains.distance l.g ≡ dist;
       range : g.G.Gains.size_of l.g ≡ length T;
       size : length C ≡ length T;

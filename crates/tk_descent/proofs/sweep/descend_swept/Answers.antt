@@ -1,17 +1,18 @@
 use Rattle.std.proofs.Common.{arith, rules, refl, sym, ◌∙◌, ap, subst, ◌≡◌, ◌≤◌, ◌+◌, ◌*◌, ◌/◌, length}
 use Rattle.tk_metric.specs.Near.{near_of}
+use Rattle.tk_tour.specs.Counters.{saturated}
 use Rattle.tk_tour.specs.Tour.{tour_length, IsTour}
 use Rattle.tk_descent.specs.Awake.{one_to}
 use Rattle.tk_descent.specs.Sweeps.{Moving}
 use Rattle.tk_descent.specs.Sweeps.Moving.{start, pass}
 use Rattle.tk_descent.proofs.Rounds.{round_of}
 use Rattle.tk_descent.proofs.Woken.{one_to-length}
-use Rattle.tk_descent.proofs.Passes.{all_awake, pass_of, pass_optimum, after_bits, more_tests, more_swaps, swept}
+use Rattle.tk_descent.proofs.Passes.{all_awake, pass_of, pass_optimum, after_bits, more_looks, more_tests, more_swaps, swept, count_pass, fresh_sweep}
 use Rattle.tk_descent.proofs.sweep.descend_swept.Goals as goal
 
 pub sweeping-init : goal.sweeping-init
 sweeping-init g c = record {
-  chain = start;
+  chain = (0, start, omega (arith, g.met.G.Gains.count_limit c.args.g.now));
   table = refl;
   range = c.requires.fits.0;
   size = refl;
@@ -19,6 +20,7 @@ sweeping-init g c = record {
   none = c.put_to_sleep.ensures.queue;
   after = search rules;
   passed = omega arith;
+  looked = omega arith;
   gained = omega arith;
   tests = omega arith;
   tests_rise = omega arith;
@@ -31,15 +33,25 @@ sweeping-init g c = record {
 pub returns-then-pass-eq0-clause-sweeps : goal.returns-then-pass-eq0-clause-sweeps
 returns-then-pass-eq0-clause-sweeps g c =
     let i = c.sweeping.invariant in
-    swept (g.G.Gains.distance c.args.g.now) (near_of c.args.near.now) c.args.m (g.S.TourStore.cities c.args.s.now) (g.S.TourStore.cities c.sweeping.s) (g.S.TourStore.cities c.descend-pass.new.s) c.sweeping.passes c.sweeping.looks c.sweeping.moves _ _ _ i.chain
-    (pass_of _ (g.G.Gains.distance c.sweeping.g) _ _ _ _ _ _ _ i.table (all_awake _ c.sweeping.waking.queue c.sweeping.waking.size _ c.wake_all.ensures.queue i.none (i.awake ∙ sym i.size)) c.descend-pass.ensures.run) c.if-pass-eq0.true c.saturating_add-looks.ensures
+    let r = c.descend-pass.ensures.run in (
+      _,
+      swept (g.G.Gains.distance c.args.g.now) (near_of c.args.near.now) c.args.m (g.S.TourStore.cities c.args.s.now) (g.S.TourStore.cities c.sweeping.s) (g.S.TourStore.cities c.descend-pass.new.s) c.sweeping.passes c.sweeping.looks c.sweeping.moves _ _ _ _ _ _ i.chain.1
+          (pass_of _ (g.G.Gains.distance c.sweeping.g) _ _ _ _ _ _ _ _ i.table (all_awake _ c.sweeping.waking.queue c.sweeping.waking.size _ c.wake_all.ensures.queue i.none (i.awake ∙ sym i.size)) r.1) c.if-pass-eq0.true c.saturating_add-looks.ensures refl,
+      count_pass _ _ _ i.chain.0 r.0 i.chain.2 r.2,
+    )
+
+pub returns-then-pass-eq0-clause-fresh : goal.returns-then-pass-eq0-clause-fresh
+returns-then-pass-eq0-clause-fresh g c = λ fresh.
+    let r = returns-then-pass-eq0-clause-sweeps g c in
+    fresh_sweep (g.G.Gains.distance c.args.g.now) (near_of c.args.near.now) c.args.m (g.S.TourStore.cities c.args.s.now) (g.S.TourStore.cities c.descend-pass.new.s) _ _ _ r.0 (g.G.Gains.test_count c.args.g.now) (g.G.Gains.test_count c.descend-pass.new.g) _ r.1 r.2
+    (omega (arith, c.tests-tests.ensures, c.tests.ensures)) fresh
 
 pub returns-then-pass-eq0-clause-optimum : goal.returns-then-pass-eq0-clause-optimum
 returns-then-pass-eq0-clause-optimum g c =
     let i = c.sweeping.invariant in
-    pass_optimum (g.G.Gains.distance c.args.g.now) (near_of c.args.near.now) c.args.m (g.S.TourStore.cities c.sweeping.s) (g.S.TourStore.cities c.descend-pass.new.s) c.descend-pass.result.looks c.descend-pass.result.moves
+    pass_optimum (g.G.Gains.distance c.args.g.now) (near_of c.args.near.now) c.args.m (g.S.TourStore.cities c.sweeping.s) (g.S.TourStore.cities c.descend-pass.new.s) c.descend-pass.result.looks c.descend-pass.result.moves _
     (g.met.G.Gains.symmetric c.args.g.now, g.met.G.Gains.diagonal c.args.g.now, g.met.G.Gains.distance_limit c.args.g.now) c.requires.most.1 (round_of _ (g.met.S.TourStore.is_tour c.sweeping.s))
-    (pass_of _ (g.G.Gains.distance c.sweeping.g) _ _ _ _ _ _ _ i.table (all_awake _ c.sweeping.waking.queue c.sweeping.waking.size _ c.wake_all.ensures.queue i.none (i.awake ∙ sym i.size)) c.descend-pass.ensures.run) c.if-pass-eq0.true
+    (pass_of _ (g.G.Gains.distance c.sweeping.g) _ _ _ _ _ _ _ _ i.table (all_awake _ c.sweeping.waking.queue c.sweeping.waking.size _ c.wake_all.ensures.queue i.none (i.awake ∙ sym i.size)) c.descend-pass.ensures.run.1) c.if-pass-eq0.true
 
 pub returns-then-pass-eq0-clause-tests : goal.returns-then-pass-eq0-clause-tests
 returns-then-pass-eq0-clause-tests g c =
@@ -54,6 +66,13 @@ returns-then-pass-eq0-clause-tests g c =
           (g.G.Gains.test_count c.args.g.now) (g.G.Gains.test_count c.sweeping.g) (g.G.Gains.test_count c.descend-pass.new.g) i.tests e.tested e.rises.0 e.tests (ap length front ∙ one_to-length _),
     )
 
+pub returns-then-pass-eq0-clause-looks : goal.returns-then-pass-eq0-clause-looks
+returns-then-pass-eq0-clause-looks g c =
+    let i = c.sweeping.invariant in
+    let e = c.descend-pass.ensures in
+    let front : c.wake_all.new.self.queue ≡ one_to (length (g.S.TourStore.cities c.args.s.now)) = all_awake _ c.sweeping.waking.queue c.sweeping.waking.size _ c.wake_all.ensures.queue i.none i.awake in
+    more_looks (length (g.S.TourStore.cities c.args.s.now)) c.sweeping.passes c.sweeping.moves c.descend-pass.result.moves (length c.wake_all.new.self.queue) c.descend-pass.result.looks c.sweeping.looks _ i.looked e.looks (ap length front ∙ one_to-length _) c.saturating_add-looks.ensures
+
 pub sweeping-preserved : goal.sweeping-preserved
 sweeping-preserved g c =
     let i = c.sweeping.invariant in
@@ -64,8 +83,12 @@ sweeping-preserved g c =
     let front : c.wake_all.new.self.queue ≡ one_to (length (g.S.TourStore.cities c.args.s.now)) = all_awake _ c.sweeping.waking.queue c.sweeping.waking.size _ c.wake_all.ensures.queue i.none i.awake in
     let less : c.descend-pass.result.moves + tour_length d D ≤ tour_length d C = subst (λ z. c.descend-pass.result.moves + tour_length z D ≤ tour_length z C) i.table e.moves in
     record {
-      chain = subst (λ z. Moving d (near_of c.args.near.now) c.args.m (g.S.TourStore.cities c.args.s.now) D (c.sweeping.passes + 1) z (c.sweeping.moves + c.descend-pass.result.moves)) (sym c.saturating_add-looks.ensures)
-          (pass i.chain (pass_of _ (g.G.Gains.distance c.sweeping.g) _ _ _ _ _ _ _ i.table (front ∙ ap one_to (sym i.size)) e.run) (omega (arith, c.if-pass-eq0.false)));
+      chain = (
+        saturated (i.chain.0 + e.run.0),
+        subst (λ z. Moving d (near_of c.args.near.now) c.args.m (g.S.TourStore.cities c.args.s.now) D (c.sweeping.passes + 1) z (c.sweeping.moves + c.descend-pass.result.moves) (saturated (i.chain.0 + e.run.0))) (sym c.saturating_add-looks.ensures)
+            (pass i.chain.1 (pass_of _ (g.G.Gains.distance c.sweeping.g) _ _ _ _ _ _ _ _ i.table (front ∙ ap one_to (sym i.size)) e.run.1) (omega (arith, c.if-pass-eq0.false))),
+        count_pass _ _ _ i.chain.0 e.run.0 i.chain.2 e.run.2,
+      );
       table = e.kept.0 ∙ i.table;
       range = e.kept.1 ∙ i.range;
       size = e.kept.2 ∙ i.size;
@@ -74,6 +97,7 @@ sweeping-preserved g c =
       after = after_bits d (g.G.Gains.distance c.sweeping.g) D c.descend-pass.result.after (g.met.G.Gains.symmetric c.args.g.now, g.met.G.Gains.diagonal c.args.g.now, g.met.G.Gains.distance_limit c.args.g.now) i.table (omega (arith, e.kept.2, i.size, c.size-cities.ensures.count, c.size-cities.ensures.limits.1)) e.lengths.1;
       passed = omega (arith, i.passed, c.if-pass-eq0.false);
       gained = omega (arith, i.gained, less);
+      looked = more_looks (length (g.S.TourStore.cities c.args.s.now)) c.sweeping.passes c.sweeping.moves c.descend-pass.result.moves (length c.wake_all.new.self.queue) c.descend-pass.result.looks c.sweeping.looks _ i.looked e.looks (ap length front ∙ one_to-length _) c.saturating_add-looks.ensures;
       tests = more_tests (4 * c.args.m * c.args.near.now.width) (length (g.S.TourStore.cities c.args.s.now)) c.sweeping.passes c.sweeping.moves c.descend-pass.result.moves (length c.wake_all.new.self.queue) c.descend-pass.result.tests
           (g.G.Gains.test_count c.args.g.now) (g.G.Gains.test_count c.sweeping.g) (g.G.Gains.test_count c.descend-pass.new.g) i.tests e.tested e.rises.0 e.tests (ap length front ∙ one_to-length _);
       tests_rise = omega (arith, i.tests_rise, e.rises.0);

@@ -1,4 +1,4 @@
-use Rattle.std.proofs.Common.{rules, ◌≤◌, ◌+◌, ◌*◌, ◌<◌, ⊎_elim, ℕ, arith, ap, ◌∙◌, sym, subst}
+use Rattle.std.proofs.Common.{rules, ◌≤◌, ◌+◌, ◌*◌, ◌/◌, ◌<◌, ⊎_elim, ℕ, arith, ap, ◌∙◌, sym, subst}
 use Rattle.std.proofs.lemmas.Bool.{cases_lt}
 use Rattle.std.proofs.lemmas.Int.{to_z-of_z}
 use Rattle.std.specs.Prelude.{pos}
@@ -48,12 +48,6 @@ returns-clause-adds g c =
     let fa : SFits w64 c.descend_by-passes.result.descent.after = search rules in
     gain_is _ _ _ _ _ (gain_bits _ _ _ _ _ _ fp fa c.requires.before e.lengths.1 e.lengths.0 c.unsigned_abs-gained.ensures.value) c.with_trial-self.ensures.adds
 
-pub returns-clause-tests_swept : goal.returns-clause-tests_swept
-returns-clause-tests_swept g c =
-    let d = c.descend_by-passes.result.descent in
-    let P : ℕ → Type 0 = λ v. d.tests ≤ 4 * c.args.rules.or_segment * c.args.near.now.width * (v * c.descend_by-passes.result.passes + 6 * d.moves) in
-    λ h. subst P c.requires.size (c.descend_by-passes.ensures.tests_swept h)
-
 pub returns-clause-swapped : goal.returns-clause-swapped
 returns-clause-swapped g c = c.keep_better.ensures.swaps ∙ c.descend_by-passes.ensures.swapped
 
@@ -76,8 +70,20 @@ returns-clause-copied_back g c = λ h.
     omega (arith, k.0, k.1, kept.copied))
     (cases_lt (slots_of tour) (flips_since tour))
 
-pub returns-clause-moves : goal.returns-clause-moves
-returns-clause-moves g c =
+pub returns-clause-bounded : goal.returns-clause-bounded
+returns-clause-bounded g c =
     let e = c.descend_by-passes.ensures in
+    let r = c.descend_by-passes.result in
     let fp : SFits w64 c.args.before = search rules in
-    moves_gain _ _ _ _ _ (e.lengths.0 ∙ to_z-of_z w64 c.args.before fp ∙ c.requires.before) e.lengths.1 e.moves
+    let Swaps : ℕ → Type 0 = λ v. r.descent.swaps ≤ 3 * (v / 4) * r.descent.moves in
+    let Looks : ℕ → Type 0 = λ v. r.descent.looks ≤ v * r.passes + 6 * r.descent.moves in
+    let Tests : ℕ → Type 0 = λ v. r.descent.tests ≤ 4 * c.args.rules.or_segment * c.args.near.now.width * (v * r.passes + 6 * r.descent.moves) in
+    record {
+      moves = moves_gain _ _ _ _ _ (e.lengths.0 ∙ to_z-of_z w64 c.args.before fp ∙ c.requires.before) e.lengths.1 e.moves;
+      swaps = subst Swaps c.requires.size e.swaps;
+      passes = e.passes;
+      looks = e.looks_once;
+      tests = e.tests_once;
+      swept_looks = λ h. subst Looks c.requires.size (e.looks_swept h);
+      swept_tests = λ h. subst Tests c.requires.size (e.tests_swept h);
+    }
