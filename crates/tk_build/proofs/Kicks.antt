@@ -4,10 +4,11 @@ use Rattle.std.proofs.Math.Seq.{take-length}
 use Rattle.std.proofs.lemmas.List.{append-nil, get_or-drop, get_or-take, length-drop, length-take-le, take-take, take-append-drop}
 use Rattle.tk_metric.specs.Cities.{city_at}
 use Rattle.tk_tour.specs.Moves.{CutInFour, IsBridged}
-use Rattle.tk_tour.specs.Tour.{IsPath, SameCycle}
+use Rattle.tk_tour.specs.Tour.{IsPath, SameCycle, tour_length}
 use Rattle.tk_tour.proofs.Places.{IsPath-from_ends}
-use Rattle.tk_build.specs.Cuts.{AreCuts, bridged, end_places, part_a, part_b, part_c, part_d}
+use Rattle.tk_build.specs.Cuts.{AreCuts, bridged, end_places, part_a, part_b, part_c, part_d, steps_in, steps_out}
 use Rattle.tk_build.specs.declared.cuts.Cuts.{Cuts}
+use Rattle.tk_build.proofs.BridgeLength.{exchanged}
 
 -- the places from i to below j are a path
 path : (xs : List ℕ) (i j from to : ℕ) → i < j → j ≤ length xs → get_or xs i 0 ≡ from → get_or xs (j - 1) 0 ≡ to → IsPath from (drop i (take j xs)) to
@@ -59,3 +60,10 @@ module _ (xs e : List ℕ) (cuts : Cuts) (are : AreCuts (length xs) cuts) (ends 
   bridged_at_ends ys h =
       let P : List ℕ → Type 0 = λ v. IsBridged xs ys (get_or v 0 0) (get_or v 1 0) (get_or v 2 0) (get_or v 3 0) (get_or v 4 0) (get_or v 5 0) (get_or v 6 0) (get_or v 7 0) in
       subst P ends h (cut xs cuts are)
+
+  -- the lengths before and after, by the steps at the ends of the parts
+  pub length_at_ends : (d : ℕ → ℕ → ℕ) → ((a b : ℕ) → d a b ≡ d b a) → (ys : List ℕ) → SameCycle ys (bridged cuts xs) → tour_length d ys + steps_out d e ≡ tour_length d xs + steps_in d e
+  unfolding cut
+  length_at_ends d s ys h =
+      let P : List ℕ → Type 0 = λ v. tour_length d ys + steps_out d v ≡ tour_length d xs + steps_in d v in
+      subst P (sym ends) (exchanged d s xs ys _ _ _ _ _ _ _ _ (cut xs cuts are) h)

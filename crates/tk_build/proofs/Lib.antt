@@ -1,4 +1,5 @@
 pub mod Bounds
+pub mod BridgeLength
 pub mod EndsJoined
 pub mod HubApart
 pub mod Kicks

@@ -1,30 +1,11 @@
 -- The cities that a kick wakes.
-use Rattle.std.proofs.Common.{◌≡◌, ℕ, suc, zero, ◌+◌, ◌-◌, ◌<◌, ◌≤◌, List, [], ◌∷◌, length, map, get_or, refl, sym, subst, arith}
+use Rattle.std.proofs.Common.{◌≡◌, ℕ, suc, zero, ◌+◌, ◌-◌, ◌<◌, ◌≤◌, List, length, map, get_or, sym, subst, arith}
 use Rattle.std.specs.List.{All}
 use Rattle.tk_metric.specs.Cities.{IsCity, city_at}
 use Rattle.tk_tour.specs.Tour.{IsTour}
 use Rattle.tk_tour.proofs.Tours.{city_in_range}
 use Rattle.tk_build.specs.Cuts.{AreCuts, end_places}
 use Rattle.tk_build.specs.declared.cuts.Cuts.{Cuts}
-
--- an entry, whatever stands past the end
-read : (xs : List ℕ) (k d : ℕ) → k < length xs → get_or xs k 0 ≡ get_or xs k d
-read [] k d lt = absurd (omega arith)
-read (x ∷ xs) zero d lt = refl
-read (x ∷ xs) (suc k) d lt = read xs k d (omega arith)
-
--- each entry of a tour is a city
-entries : (xs : List ℕ) → IsTour (length xs) xs → All (IsCity (length xs)) xs
-entries xs tour = λ k d lt.
-    let P : ℕ → Type 0 = λ v. IsCity (length xs) v in
-    let r = city_in_range (length xs) xs k tour lt in
-    subst P (read xs k d lt) (r.0, r.1)
-
-pub all_cities : (xs ys : List ℕ) (n : ℕ) → IsTour (length xs) xs → ys ≡ xs → length xs ≡ n → All (IsCity n) ys
-all_cities xs ys n tour e size =
-    let P : List ℕ → Type 0 = λ v. All (IsCity n) v in
-    let Q : ℕ → Type 0 = λ v. All (IsCity v) xs in
-    subst P (sym e) (subst Q size (entries xs tour))
 
 -- the ends of the parts are cities
 module _ (xs : List ℕ) (cuts : Cuts) (tour : IsTour (length xs) xs) (are : AreCuts (length xs) cuts) where

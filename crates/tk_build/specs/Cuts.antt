@@ -2,8 +2,9 @@
 --     AreCuts n cuts      none of the four parts of n places is empty
 --     drawn_cuts n s      the cuts that a stream of random words gives
 --     end_places n cuts      where the parts begin and end
+--     steps_out d ends, steps_in d ends      what the double bridge takes out of the length and puts in
 --     bridged cuts cities      the double bridge (O. Martin, S. W. Otto and E. W. Felten, 1991)
-use Rattle.std.specs.Prelude.{ℕ, ◌+◌, ◌-◌, ◌^◌, ◌≤◌, ◌<◌, List, [], ◌∷◌, ◌++◌, take, drop}
+use Rattle.std.specs.Prelude.{ℕ, ◌+◌, ◌-◌, ◌^◌, ◌≤◌, ◌<◌, List, [], ◌∷◌, ◌++◌, take, drop, slice_index}
 use Rattle.rand_core.specs.Stream.{Stream, next_u32}
 use Rattle.rand.specs.Draw.{draw_map}
 use Rattle.rand.specs.Uniform.{canon}
@@ -48,3 +49,14 @@ part_d cuts cities = drop cuts.r cities
 -- the double bridge: the second part and the fourth change places
 abbrev pub bridged : Cuts → List ℕ → List ℕ
 bridged cuts cities = part_a cuts cities ++ part_d cuts cities ++ part_c cuts cities ++ part_b cuts cities
+
+-- the steps that the double bridge takes out, and those that it puts in, by the first and the last city of each part
+abbrev pub steps_out : (ℕ → ℕ → ℕ) → List ℕ → ℕ
+steps_out d ends =
+    let e : ℕ → ℕ = slice_index ends in
+    d (e 1) (e 2) + d (e 3) (e 4) + d (e 5) (e 6) + d (e 7) (e 0)
+
+abbrev pub steps_in : (ℕ → ℕ → ℕ) → List ℕ → ℕ
+steps_in d ends =
+    let e : ℕ → ℕ = slice_index ends in
+    d (e 1) (e 6) + d (e 7) (e 4) + d (e 5) (e 2) + d (e 3) (e 0)

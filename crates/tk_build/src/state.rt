@@ -14,12 +14,12 @@ ghost use Rattle.tk_build.specs.Trials.{IsTrial, IsBoundedTrial, IsKick, gain_of
 use crate::cuts::Cuts;
 use crate::descending::{SearchRules, descend_by};
 use crate::keeping::keep_better;
-use crate::kicking::kick;
+use crate::kicking::{bridged_length, kick};
 use crate::totals::{Totals, TrialReport};
 use rand_core::Rng;
 use tk_descent::{SweptReport, Waking};
 use tk_metric::{Metric, Near};
-use tk_tour::{ArrayTour, JournalTour, TourStore, length};
+use tk_tour::{ArrayTour, JournalTour, TourStore};
 
 /// Wakes the ends of a kick, or where all is swept all cities.
 fn wake_kicked(waking: &mut Waking, ends: &[u32], sweep: bool)
@@ -107,6 +107,7 @@ impl State {
     pub(crate) fn kick<M: Metric, R: Rng>(&mut self, metric: &M, rng: &mut R, sweep: bool) -> i64
         requires many { 8 ≤ length (order_of (tour_of self.old.tour)) }
         requires fits { (M.size_of metric.now ≡ length (order_of (tour_of self.old.tour))) × (self.old.waking.size ≡ length (order_of (tour_of self.old.tour))) }
+        requires shortest { self.old.shortest ≡ pos (tour_length (M.distance metric.now) (order_of (tour_of self.old.tour))) }
         ensures kicked { IsKick (order_of (tour_of self.old.tour)) (R.stream rng.old) sweep self.old.waking.queue (order_of (tour_of self.new.tour)) (R.stream rng.new) self.new.waking.queue }
         ensures length { result ≡ pos (tour_length (M.distance metric.now) (order_of (tour_of self.new.tour))) }
         ensures flips { flips_since self.new.tour ≡ saturated (flips_since self.old.tour + 4) }
@@ -119,6 +120,6 @@ impl State {
         let ends = cuts.ends(&self.tour);
         kick(&mut self.tour, cuts);
         wake_kicked(&mut self.waking, &ends, sweep);
-        length(metric, self.tour.tour().order())
+        bridged_length(metric, self.shortest, ends)
     }
 }
