@@ -1,4 +1,5 @@
 pub mod Cvrps
+pub mod ImprovedRoutes
 pub mod Instance
 pub mod RouteLists
 pub mod Routes

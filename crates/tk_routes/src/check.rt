@@ -70,7 +70,7 @@ fn first_missing(served: &[bool]) -> Option<u32>
 }
 
 /// The sum of the lengths of the routes.
-fn cost_of(cvrp: &Cvrp<'_>, routes: &[Vec<u32>]) -> i64
+pub(crate) fn cost_of(cvrp: &Cvrp<'_>, routes: &[Vec<u32>]) -> i64
     requires { AreServedOnce (customer_count (instance_of cvrp.now)) (concat (map (λ r. r.items) routes.now)) }
     ensures { result ≡ pos (routes_cost (instance_of cvrp.now) (map (λ r. r.items) routes.now)) }
 {

@@ -1,12 +1,17 @@
-//! Capacitated routes: the check of claimed routes, and routes by savings.
+//! Capacitated routes: the check of claimed routes, routes by savings, and routes made shorter.
 #![tactic(auto)]
 
 mod check;
 #[cfg(test)]
 mod check_tests;
 mod cvrp;
+#[cfg(test)]
+mod improve_tests;
+mod improving;
 mod laws;
 mod merging;
+mod one_route;
+mod route_report;
 mod routes;
 #[cfg(test)]
 mod savings_tests;
@@ -14,7 +19,9 @@ mod verdict;
 
 pub use check::check_routes;
 pub use cvrp::Cvrp;
+pub use improving::improve;
 pub use laws::customers_are_the_other_nodes;
 pub use merging::savings;
+pub use route_report::RouteReport;
 pub use routes::Routes;
 pub use verdict::RouteVerdict;

@@ -3,7 +3,7 @@ ghost use Rattle.std.specs.Prelude.{◌≡◌, IfOk, map};
 ghost use Rattle.tk_metric.specs.Near.{near_of};
 ghost use Rattle.tk_routes.specs.Cvrps.{instance_of};
 ghost use Rattle.tk_routes.specs.Instance.{customer_of};
-ghost use Rattle.tk_routes.specs.RouteLists.{routes_of};
+ghost use Rattle.tk_routes.specs.RouteLists.{instance_of_routes, routes_of};
 ghost use Rattle.tk_routes.specs.Routes.{AreRoutes};
 ghost use Rattle.tk_routes.specs.SavingsRoutes.{AreSavingsRoutes};
 
@@ -38,9 +38,10 @@ fn number_all(depot: u32, lists: &mut [Vec<u32>])
 ///
 /// # Errors
 /// `AllocError` where there is no memory for the merges or the routes.
-pub fn savings(alloc: Global, cvrp: &Cvrp<'_>, near: &Near) -> Result<Routes, AllocError>
+pub fn savings<'a>(alloc: Global, cvrp: &Cvrp<'a>, near: &Near) -> Result<Routes<'a>, AllocError>
     requires { near.now.size ≡ (instance_of cvrp.now).size }
     ensures merged { IfOk result (λ v. AreSavingsRoutes (instance_of cvrp.now) (near_of near.now) (routes_of v)) }
+    ensures instance { IfOk result (λ v. instance_of_routes v ≡ instance_of cvrp.now) }
     ensures routes { IfOk result (λ v. AreRoutes (instance_of cvrp.now) (routes_of v)) }
 {
     let mut lists = savings_lists(
@@ -52,5 +53,5 @@ pub fn savings(alloc: Global, cvrp: &Cvrp<'_>, near: &Near) -> Result<Routes, Al
         near,
     )?;
     number_all(cvrp.depot, &mut lists);
-    Ok(Routes { lists })
+    Ok(Routes { cvrp: *cvrp, lists })
 }

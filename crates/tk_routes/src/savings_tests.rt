@@ -11,11 +11,11 @@ use tk_text::{FromRead, SolText, read_problem};
 const ROOM_FOR_ALL: &[u8] =
     b"NAME : v\nTYPE : CVRP\nDIMENSION : 5\nEDGE_WEIGHT_TYPE : EUC_2D\nCAPACITY : 4\nNODE_COORD_SECTION\n1 0 0\n2 10 0\n3 11 0\n4 -10 0\n5 -11 0\nDEMAND_SECTION\n1 0\n2 1\n3 1\n4 1\n5 1\nDEPOT_SECTION\n1\n-1\nEOF\n";
 
-const LISTED: &[u8] =
+pub(crate) const LISTED: &[u8] =
     b"NAME : v\nTYPE : CVRP\nDIMENSION : 5\nCAPACITY : 4\nEDGE_WEIGHT_TYPE : EXPLICIT\nEDGE_WEIGHT_FORMAT : UPPER_ROW\nEDGE_WEIGHT_SECTION\n10 10 10 10\n10 11 11\n12 19\n20\nDEMAND_SECTION\n1 0\n2 1\n3 1\n4 1\n5 1\nDEPOT_SECTION\n1\n-1\nEOF\n";
 
 /// Whether the routes are these.
-fn are(routes: &Routes, want: &[&[u32]]) -> bool {
+pub(crate) fn are(routes: &Routes<'_>, want: &[&[u32]]) -> bool {
     let lists = routes.lists();
     lists.len() == want.len()
         && lists

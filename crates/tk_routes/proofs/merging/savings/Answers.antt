@@ -11,11 +11,8 @@ invariant_of-result c =
     let items = λ (r : Vec ℕ Global). r.items in
     let numbered = numbered_lists items cvrp.depot lists c.deref_mut.result.now c.number_all.new.lists c.deref_mut.ensures.value (c.number_all.auto.lists ∙ c.deref_mut.ensures.len) c.number_all.ensures in
     record {
-      valid = ∣ (
-        instance_of cvrp,
-        AreRoutes-merged items (instance_of cvrp) lists.items _ cvrp.known numbered c.in_ok-lists.ensures.once c.in_ok-lists.ensures.filled
-            (c.in_ok-lists.ensures.within (AreLight-demands _ cvrp.depot cvrp.capacity cvrp.demands.now cvrp.each cvrp.loads)),
-      ) ∣₁;
+      valid = AreRoutes-merged items (instance_of cvrp) lists.items _ cvrp.known numbered c.in_ok-lists.ensures.once c.in_ok-lists.ensures.filled
+          (c.in_ok-lists.ensures.within (AreLight-demands _ cvrp.depot cvrp.capacity cvrp.demands.now cvrp.each cvrp.loads));
     }
 
 pub returns-clause-merged : goal.returns-clause-merged
