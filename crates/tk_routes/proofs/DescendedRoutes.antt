@@ -22,21 +22,21 @@ pub queue_length : (Q : List ℕ) (n : ℕ) → Q ≡ one_to n → length Q ≡ 
 queue_length Q n e = ap length e ∙ one_to-length n
 
 -- a descent from 1 to n with all cities awake
-pub Pass-from : (d e : ℕ → ℕ → ℕ) (near : ℕ → List ℕ) (m n : ℕ) (C T Q : List ℕ) (looks moves : ℕ) → e ≡ d → C ≡ one_to n → Q ≡ one_to n → Run e near m C Q T [] looks moves →
-    Pass d near m (one_to n) T looks moves
-Pass-from d e near m n C T Q looks moves table start queue run =
+pub Pass-from : (d e : ℕ → ℕ → ℕ) (near : ℕ → List ℕ) (m n : ℕ) (C T Q : List ℕ) (looks moves tests : ℕ) → e ≡ d → C ≡ one_to n → Q ≡ one_to n → Run e near m C Q T [] looks moves tests →
+    Pass d near m (one_to n) T looks moves tests
+Pass-from d e near m n C T Q looks moves tests table start queue run =
     let all : Q ≡ one_to (length (one_to n)) = queue ∙ ap one_to (sym (one_to-length n)) in
-    subst (λ (v : List ℕ). Run d near m (one_to n) v T [] looks moves) all
-    (subst (λ (v : List ℕ). Run d near m v Q T [] looks moves) start (subst (λ (v : ℕ → ℕ → ℕ). Run v near m C Q T [] looks moves) table run))
+    subst (λ (v : List ℕ). Run d near m (one_to n) v T [] looks moves tests) all
+    (subst (λ (v : List ℕ). Run d near m v Q T [] looks moves tests) start (subst (λ (v : ℕ → ℕ → ℕ). Run v near m C Q T [] looks moves tests) table run))
 
 pub IsReadOff-cycle : (route T cycle new : List ℕ) → SameCycle T cycle → IsReadOff route cycle new → IsReadOff route T new
 IsReadOff-cycle route T cycle new same read = record { places = read.places; same = SameCycle-trans same read.same; read = read.read; turned = read.turned }
 
 -- the route of such a descent over its places
-pub IsImproved-read : (i : Instance) (k m : ℕ) (route new T cycle : List ℕ) (d : ℕ → ℕ → ℕ) (n : ℕ) (v : NearLists) (looks moves : ℕ) →
+pub IsImproved-read : (i : Instance) (k m : ℕ) (route new T cycle : List ℕ) (d : ℕ → ℕ → ℕ) (n : ℕ) (v : NearLists) (looks moves tests : ℕ) →
     d ≡ place_distance i.distance (route_nodes i route) → n ≡ length route + 1 → v.size ≡ n → v.width ≡ min k (length route) → AreNearest d v →
-    Pass d (near_of v) m (one_to n) T looks moves → SameCycle T cycle → IsReadOff route cycle new → IsImproved i k m route new moves
-IsImproved-read i k m route new T cycle d n v looks moves table size lists width nearest pass same read =
+    Pass d (near_of v) m (one_to n) T looks moves tests → SameCycle T cycle → IsReadOff route cycle new → IsImproved i k m route new moves tests
+IsImproved-read i k m route new T cycle d n v looks moves tests table size lists width nearest pass same read =
     let e : ℕ → ℕ → ℕ = place_distance i.distance (route_nodes i route) in
     let whole : v.size ≡ length route + 1 = lists ∙ size in
     let near : (c : ℕ) → IsCity (length route + 1) c → IsNear e (length route + 1) (min k (length route)) c (near_of v c) = λ c city.
@@ -48,7 +48,7 @@ IsImproved-read i k m route new T cycle d n v looks moves table size lists width
       nearest = near;
       cycle = T;
       looks = looks;
-      descent = subst (λ (u : ℕ). Pass e (near_of v) m (one_to u) T looks moves) size (subst (λ (u : ℕ → ℕ → ℕ). Pass u (near_of v) m (one_to n) T looks moves) table pass);
+      descent = subst (λ (u : ℕ). Pass e (near_of v) m (one_to u) T looks moves tests) size (subst (λ (u : ℕ → ℕ → ℕ). Pass u (near_of v) m (one_to n) T looks moves tests) table pass);
       read = IsReadOff-cycle route T cycle new same read;
     }
 

@@ -19,6 +19,7 @@ pub record IsImprovedTo (i : Instance) (k m : ℕ) (olds now : List (List ℕ)) 
   pub part : IsImprovedPart i k m olds now
   pub count : length part.done ≡ j
   pub moves_are : part.moves ≡ moves
+  pub tests_are : part.tests ≡ tests
   pub olds_are : AreRoutes i olds
   pub routes : AreRoutes i now
   pub cost : moves + routes_cost i now ≤ routes_cost i olds
@@ -29,9 +30,10 @@ pub record IsImprovedTo (i : Instance) (k m : ℕ) (olds now : List (List ℕ)) 
 
 pub IsImprovedTo-none : (i : Instance) (k m : ℕ) (olds : List (List ℕ)) → AreRoutes i olds → IsImprovedTo i k m olds olds 0 0 0 0
 IsImprovedTo-none i k m olds h = record {
-  part = record { front = []; done = []; back = olds; moves = 0; most = 0; before = refl; after = refl; improved = none };
+  part = record { front = []; done = []; back = olds; moves = 0; tests = 0; most = 0; before = refl; after = refl; improved = none };
   count = refl;
   moves_are = refl;
+  tests_are = refl;
   olds_are = h;
   routes = h;
   cost = omega arith;
@@ -59,7 +61,7 @@ more_tests : (b l f moves q made t u : ℕ) → t ≤ b * (l + f + 6 * moves) �
 more_tests b l f moves q made t u h g = omega arith
 
 pub IsImprovedTo-more : (i : Instance) (k m : ℕ) (olds now : List (List ℕ)) (j moves swaps tests : ℕ) → IsImprovedTo i k m olds now j moves swaps tests → i.size ≤ 5000 →
-    (old new : List ℕ) (made s t : ℕ) → j < length now → old ≡ get_or now j [] → IsImproved i k m old new made → IsPermutation old new →
+    (old new : List ℕ) (made s t : ℕ) → j < length now → old ≡ get_or now j [] → IsImproved i k m old new made t → IsPermutation old new →
     made + route_length i new ≤ route_length i old → t ≤ 4 * m * k * (length old + 1 + 6 * made) → s ≤ 3 * ((length old + 1) / 4) * made →
     IsImprovedTo i k m olds (set now j new) (j + 1) (moves + made) (swaps + s) (tests + t)
 IsImprovedTo-more i k m olds now j moves swaps tests h few old new made s t lt at improved same goes tested swapped =
@@ -88,6 +90,7 @@ IsImprovedTo-more i k m olds now j moves swaps tests h few old new made s t lt a
         done = done ++ new ∷ [];
         back = rest;
         moves = h.part.moves + made;
+        tests = h.part.tests + t;
         most = h.part.most + 3 * ((length old + 1) / 4) * made;
         before = h.part.before ∙ ap (λ v. front ++ v) place.is ∙ sym (append_assoc front (old ∷ []) rest);
         after = new_is ∙ sym (append_assoc done (new ∷ []) rest);
@@ -95,6 +98,7 @@ IsImprovedTo-more i k m olds now j moves swaps tests h few old new made s t lt a
       };
       count = length-append done (new ∷ []) ∙ omega (arith, h.count);
       moves_are = ap (λ v. v + made) h.moves_are;
+      tests_are = ap (λ v. v + t) h.tests_are;
       olds_are = h.olds_are;
       routes = subst (λ (v : List (List ℕ)). AreRoutes i v) (sym new_is) (AreRoutes-exchanged i done rest old new routes same);
       cost = omega (arith, h.cost, goes, cost_now, cost_new, old_cost, new_cost);
@@ -160,15 +164,17 @@ at_end : (i : Instance) (k m : ℕ) (olds now : List (List ℕ)) (j moves swaps 
 at_end i k m olds now j moves swaps tests h le = nil_end h.part.done h.part.back j h.count (omega (arith, le, ap length h.part.after))
 
 pub improved_all : (i : Instance) (k m : ℕ) (olds now : List (List ℕ)) (j moves swaps tests : ℕ) → IsImprovedTo i k m olds now j moves swaps tests → length now ≤ j →
-    (most : ℕ) × (AreImproved i k m olds now moves most × (swaps ≤ most))
+    (most : ℕ) × (AreImproved i k m olds now moves tests most × (swaps ≤ most))
 improved_all i k m olds now j moves swaps tests h le =
     let none_left = at_end i k m olds now j moves swaps tests h le in
     let before : h.part.front ≡ olds = sym (h.part.before ∙ ap (λ v. h.part.front ++ v) none_left ∙ append-nil h.part.front) in
     let after : h.part.done ≡ now = sym (h.part.after ∙ ap (λ v. h.part.done ++ v) none_left ∙ append-nil h.part.done) in
-    let all : AreImproved i k m olds now moves h.part.most =
-    subst (λ (v : ℕ). AreImproved i k m olds now v h.part.most) h.moves_are
-    (subst (λ (v : List (List ℕ)). AreImproved i k m olds v h.part.moves h.part.most) after (subst (λ (v : List (List ℕ)). AreImproved i k m v h.part.done h.part.moves h.part.most) before h.part.improved)) in
-    (h.part.most, (all, h.swapped))
+    let all : AreImproved i k m olds now h.part.moves h.part.tests h.part.most =
+    subst (λ (v : List (List ℕ)). AreImproved i k m olds v h.part.moves h.part.tests h.part.most) after
+    (subst (λ (v : List (List ℕ)). AreImproved i k m v h.part.done h.part.moves h.part.tests h.part.most) before h.part.improved) in
+    let counted : AreImproved i k m olds now moves tests h.part.most =
+    subst (λ (v : ℕ). AreImproved i k m olds now moves v h.part.most) h.tests_are (subst (λ (v : ℕ). AreImproved i k m olds now v h.part.tests h.part.most) h.moves_are all) in
+    (h.part.most, (counted, h.swapped))
 
 pub tested_all : (i : Instance) (k m : ℕ) (olds now : List (List ℕ)) (j moves swaps tests : ℕ) → IsImprovedTo i k m olds now j moves swaps tests → length now ≤ j →
     tests ≤ 4 * m * k * (customer_count i + length olds + 6 * moves)

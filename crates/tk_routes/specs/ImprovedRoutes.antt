@@ -1,8 +1,8 @@
 -- Routes that are improved, each by itself.
 --     place_distance dist nodes      the distances among the places of a list of nodes, from 1
 --     IsReadOff route cycle new      a cycle of places as a route again
---     IsImproved i k m route new moves      a descent from the depot and the route, read off from the depot
---     AreImproved i k m olds news moves most      each route so improved
+--     IsImproved i k m route new moves tests      a descent from the depot and the route, read off from the depot
+--     AreImproved i k m olds news moves tests most      each route so improved
 --     IsImprovedPart i k m olds news      the routes before some place so improved
 use Rattle.std.specs.Prelude.{◌≡◌, ℕ, ◌+◌, ◌-◌, ◌*◌, ◌/◌, ◌≤◌, min, List, [], ◌∷◌, ◌++◌, length, map, slice_index}
 use Rattle.tk_metric.specs.Cities.{IsCity, city_at}
@@ -33,21 +33,21 @@ pub record IsReadOff (route cycle new : List ℕ) : Type 0 where
 
 -- A descent with all cities awake, over the places of the depot and the route and their near lists, with at most k candidates for
 -- each. The new route is its result, read off.
-pub record IsImproved (i : Instance) (k m : ℕ) (route new : List ℕ) (moves : ℕ) : Type 0 where
+pub record IsImproved (i : Instance) (k m : ℕ) (route new : List ℕ) (moves tests : ℕ) : Type 0 where
   pub near : ℕ → List ℕ
   pub nearest : (c : ℕ) → IsCity (length route + 1) c →
       IsNear (place_distance i.distance (route_nodes i route)) (length route + 1) (min k (length route)) c (near c)
   pub cycle : List ℕ
   pub looks : ℕ
-  pub descent : Pass (place_distance i.distance (route_nodes i route)) near m (one_to (length route + 1)) cycle looks moves
+  pub descent : Pass (place_distance i.distance (route_nodes i route)) near m (one_to (length route + 1)) cycle looks moves tests
   pub read : IsReadOff route cycle new
 
--- each route so improved, with the moves in all and the most swaps that they take
-pub data AreImproved (i : Instance) (k m : ℕ) : List (List ℕ) → List (List ℕ) → ℕ → ℕ → Type 0 where
-  none : AreImproved i k m [] [] 0 0
-  more : {olds news : List (List ℕ)} {old new : List ℕ} {moves most made : ℕ} → AreImproved i k m olds news moves most →
-      IsImproved i k m old new made →
-      AreImproved i k m (olds ++ old ∷ []) (news ++ new ∷ []) (moves + made) (most + 3 * ((length old + 1) / 4) * made)
+-- each route so improved, with the moves and tests in all and the most swaps that they take
+pub data AreImproved (i : Instance) (k m : ℕ) : List (List ℕ) → List (List ℕ) → ℕ → ℕ → ℕ → Type 0 where
+  none : AreImproved i k m [] [] 0 0 0
+  more : {olds news : List (List ℕ)} {old new : List ℕ} {moves tests most made tried : ℕ} → AreImproved i k m olds news moves tests most →
+      IsImproved i k m old new made tried →
+      AreImproved i k m (olds ++ old ∷ []) (news ++ new ∷ []) (moves + made) (tests + tried) (most + 3 * ((length old + 1) / 4) * made)
 
 -- the routes before some place so improved, and the others as they were
 pub record IsImprovedPart (i : Instance) (k m : ℕ) (olds news : List (List ℕ)) : Type 0 where
@@ -55,7 +55,8 @@ pub record IsImprovedPart (i : Instance) (k m : ℕ) (olds news : List (List ℕ
   pub done : List (List ℕ)
   pub back : List (List ℕ)
   pub moves : ℕ
+  pub tests : ℕ
   pub most : ℕ
   pub before : olds ≡ front ++ back
   pub after : news ≡ done ++ back
-  pub improved : AreImproved i k m front done moves most
+  pub improved : AreImproved i k m front done moves tests most

@@ -53,7 +53,7 @@ fn descend_awake<M: Metric>(
     requires some { 2 ≤ M.size_of metric.now }
     requires fits { near.now.size ≡ M.size_of metric.now }
     requires most { (1 ≤ m) × (m ≤ 3) }
-    ensures pass { IfOk result (λ r. Pass (M.distance metric.now) (near_of near.now) m (one_to (M.size_of metric.now)) (order_of r.0) r.1.looks r.1.moves) }
+    ensures pass { IfOk result (λ r. Pass (M.distance metric.now) (near_of near.now) m (one_to (M.size_of metric.now)) (order_of r.0) r.1.looks r.1.moves r.1.tests) }
     ensures tour { IfOk result (λ r. IsTour (M.size_of metric.now) (order_of r.0)) }
     ensures before { IfOk result (λ r. r.1.before ≡ pos (tour_length (M.distance metric.now) (one_to (M.size_of metric.now)))) }
     ensures after { IfOk result (λ r. r.1.after ≡ pos (tour_length (M.distance metric.now) (order_of r.0))) }
@@ -107,7 +107,7 @@ pub(crate) fn improve_route(
     requires few { length route.now < 100000 }
     requires candidates { (1 ≤ max_candidates) × (max_candidates ≤ 100) }
     requires most { (1 ≤ m) × (m ≤ 3) }
-    ensures improved { IfOk result (λ r. IsImproved (instance_of cvrp.now) max_candidates m route.now r.0.items r.1.moves) }
+    ensures improved { IfOk result (λ r. IsImproved (instance_of cvrp.now) max_candidates m route.now r.0.items r.1.moves r.1.tests) }
     ensures same { IfOk result (λ r. IsPermutation route.now r.0.items) }
     ensures before { IfOk result (λ r. r.1.before ≡ pos (route_length (instance_of cvrp.now) route.now)) }
     ensures after { IfOk result (λ r. r.1.after ≡ pos (route_length (instance_of cvrp.now) r.0.items)) }

@@ -40,7 +40,7 @@ returns-clause-improved c =
     let distances : given ≡ place_distance i.distance (route_nodes i route) =
     ap (λ (t : Table). place_distance (table_distance t) c.new-metric.result.cities.now) c.new-metric.ensures.metric ∙ ap (place_distance i.distance) cities in
     let width : c.in_ok-near.near.width ≡ min c.args.max_candidates (length route) = c.in_ok-near.ensures.width ∙ c.min.ensures in
-    IsImproved-read i c.args.max_candidates c.args.m route new T T given (length c.new-metric.result.cities.now) c.in_ok-near.near c.in_ok-tour.report.looks c.in_ok-tour.report.moves
+    IsImproved-read i c.args.max_candidates c.args.m route new T T given (length c.new-metric.result.cities.now) c.in_ok-near.near c.in_ok-tour.report.looks c.in_ok-tour.report.moves c.in_ok-tour.report.tests
     distances size c.in_ok-near.ensures.size width c.in_ok-near.ensures.near c.in_ok-tour.ensures.pass (inl (IsRotation-refl T)) read
 
 pub returns-clause-same : goal.returns-clause-same
