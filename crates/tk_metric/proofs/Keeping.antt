@@ -131,7 +131,7 @@ Climbing-append f (x ∷ xs) zs h g a = (
   Climbing-append f xs zs h.1 g (All-tail (λ x. All (λ z. f x ≤ f z) zs) x xs a),
 )
 
-Climbing-replicate : {X : Type 0} (f : X → ℕ) (k : ℕ) (x : X) → Climbing f (replicate k x)
+pub Climbing-replicate : {X : Type 0} (f : X → ℕ) (k : ℕ) (x : X) → Climbing f (replicate k x)
 Climbing-replicate f zero x = tt
 Climbing-replicate f (suc k) x = (All-replicate (λ y. f x ≤ f y) k x (omega arith), Climbing-replicate f k x)
 

@@ -3,6 +3,7 @@ pub mod Inserting
 pub mod Keeping
 pub mod Laws
 pub mod OneEach
+pub mod Parting
 pub mod Placing
 pub mod PlaneReads
 pub mod RootLemmas

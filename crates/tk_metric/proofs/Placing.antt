@@ -1,32 +1,29 @@
 -- A candidate goes to its place in a list that keeps its length.
-use Rattle.std.proofs.Common.{◌≡◌, ℕ, zero, suc, ◌+◌, ◌-◌, ◌<◌, ◌≤◌, List, [], ◌∷◌, ◌++◌, length, take, drop, set, refl, sym, ap, ◌∙◌, arith, true, cond, get_or}
-use Rattle.std.specs.Prelude.{nat_lt, insert, swap}
-use Rattle.std.proofs.lemmas.List.Edits.{swap_is, length-insert, get_or-insert_below}
+use Rattle.std.proofs.Common.{◌≡◌, ℕ, zero, suc, ◌-◌, ◌<◌, ◌≤◌, List, [], ◌∷◌, ◌++◌, length, take, drop, set, refl, sym, ap, ◌∙◌, arith, true, cond, get_or}
+use Rattle.std.specs.Prelude.{nat_lt, insert}
+use Rattle.std.proofs.lemmas.List.Edits.{get_or-insert_below}
 use Rattle.std.proofs.lemmas.List.{length-take-le}
 use Rattle.std.proofs.lemmas.Bool.Decides.{nat_tests}
 use native.Mathlib.Numerals.{unary_clauses}
 use Rattle.tk_metric.specs.Keeping.{Climbing, insert_by}
 use Rattle.tk_metric.proofs.Inserting.{Climbing-take, insert_by-below, insert_by-pop}
 
--- a write at the end
-pub set_last : {X : Type 0} (n : ℕ) (xs : List X) (x : X) → length xs ≡ suc n → set xs n x ≡ insert (take n xs) n x
-set_last n [] x l = absurd (omega arith)
-set_last zero (y ∷ []) x l = refl
-set_last zero (y ∷ z ∷ zs) x l = absurd (omega arith)
-set_last (suc n) (y ∷ ys) x l = ap (λ v. y ∷ v) (set_last n ys x (omega arith))
-
 pub drop-take_same : {X : Type 0} (n : ℕ) (xs : List X) → drop n (take n xs) ≡ []
 drop-take_same zero xs = refl
 drop-take_same (suc n) [] = refl
 drop-take_same (suc n) (y ∷ ys) = drop-take_same n ys
 
--- one place down
-pub swap_down : {X : Type 0} (j : ℕ) (xs : List X) (x : X) → j < length xs → swap (insert xs (suc j) x) j (suc j) ≡ insert xs j x
-swap_down j [] x l = absurd (omega arith)
-swap_down zero (y ∷ ys) x l = refl
-swap_down (suc j) (y ∷ ys) x l =
-    let n : length (insert ys (suc j) x) ≡ length ys + 1 = length-insert ys (suc j) x (omega arith) in
-    ap (λ v. y ∷ v) (swap_is (insert ys (suc j) x) j (suc j) y (omega arith) (omega arith) ∙ swap_down j ys x (omega arith))
+-- a write where an element went in
+set_inserted : {X : Type 0} (i : ℕ) (xs : List X) (y x : X) → i ≤ length xs → set (insert xs i y) i x ≡ insert xs i x
+set_inserted zero xs y x l = refl
+set_inserted (suc i) [] y x l = absurd (omega arith)
+set_inserted (suc i) (z ∷ zs) y x l = ap (λ v. z ∷ v) (set_inserted i zs y x (omega arith))
+
+-- the element below is written over what went in: now it is there twice
+set_below : {X : Type 0} (j : ℕ) (xs : List X) (y d : X) → j < length xs → set (insert xs (suc j) y) (suc j) (get_or xs j d) ≡ insert xs j (get_or xs j d)
+set_below j [] y d l = absurd (omega arith)
+set_below zero (z ∷ zs) y d l = refl
+set_below (suc j) (z ∷ zs) y d l = ap (λ v. z ∷ v) (set_below j zs y d (omega arith))
 
 -- before an element that is after it
 pub insert_by-drop : {X : Type 0} (f : X → ℕ) (x : X) (j : ℕ) (xs : List X) (d : X) → j < length xs → f x < f (get_or xs j d) → insert_by f x (drop j xs) ≡ x ∷ drop j xs
@@ -36,14 +33,16 @@ insert_by-drop f x zero (y ∷ ys) d l b =
     ap (λ v. cond v (x ∷ y ∷ ys) (y ∷ insert_by f x ys)) e
 insert_by-drop f x (suc j) (y ∷ ys) d l b = insert_by-drop f x j ys d (omega arith) b
 
--- what the loop keeps: x stands at i among the others, and goes before those from i on
-pub keep_step : {X : Type 0} (f : X → ℕ) (x : X) (i : ℕ) (front kept : List X) (d : X) → 0 < i → i ≤ length front → kept ≡ insert front i x → f x < f (get_or kept (i - 1) d) → (swap kept (i - 1) i ≡ insert front (i - 1) x) × (insert_by f x (drop (i - 1) front) ≡ x ∷ drop (i - 1) front)
-keep_step f x zero front kept d o l e b = absurd (omega arith)
-keep_step f x (suc j) front kept d o l e b =
-    let b' : f x < f (get_or (insert front (suc j) x) j d) = rw e at (simp unary_clauses at b) in
-    let at : get_or (insert front (suc j) x) j d ≡ get_or front j d = get_or-insert_below front (suc j) x d j (omega arith) l in
+-- what the loop keeps: some y stands at i among the others, and x goes before those from i on
+pub keep_step : {X : Type 0} (f : X → ℕ) (x y : X) (i : ℕ) (front kept : List X) (d : X) → 0 < i → i ≤ length front → kept ≡ insert front i y → f x < f (get_or kept (i - 1) d) → (set kept i (get_or kept (i - 1) d) ≡ insert front (i - 1) (get_or kept (i - 1) d)) × (insert_by f x (drop (i - 1) front) ≡ x ∷ drop (i - 1) front)
+keep_step f x y zero front kept d o l e b = absurd (omega arith)
+keep_step f x y (suc j) front kept d o l e b =
+    let at : get_or kept j d ≡ get_or front j d = ap (λ v. get_or v j d) e ∙ get_or-insert_below front (suc j) y d j (omega arith) l in
+    let b' : f x < f (get_or kept j d) = simp unary_clauses at b in
     let c : f x < f (get_or front j d) = rw at at b' in
-    simp unary_clauses (ap (λ v. swap v j (suc j)) e ∙ swap_down j front x (omega arith), insert_by-drop f x j front d (omega arith) c)
+    let written : set kept (suc j) (get_or kept j d) ≡ insert front j (get_or kept j d) =
+    rw at (ap (λ v. set v (suc j) (get_or front j d)) e ∙ set_below j front y d (omega arith)) in
+    simp unary_clauses (written, insert_by-drop f x j front d (omega arith) c)
 
 insert_done : {X : Type 0} (f : X → ℕ) (x : X) (i : ℕ) (front : List X) (d : X) → Climbing f front → i ≤ length front → insert_by f x (drop i front) ≡ x ∷ drop i front → (0 < i → f (get_or (insert front i x) (i - 1) d) ≤ f x) → insert front i x ≡ insert_by f x front
 insert_done f x zero front d up l e b = sym e
@@ -53,8 +52,23 @@ insert_done f x (suc j) front d up l e b =
     let c : f (get_or front j d) ≤ f x = rw at at b' in
     ap (λ v. take (suc j) front ++ v) (sym e) ∙ sym (insert_by-below f x j front d up (omega arith) c)
 
-pub keep_end : {X : Type 0} (f : X → ℕ) (x : X) (i : ℕ) (xs kept : List X) (d : X) → Climbing f xs → 1 ≤ length xs → f x < f (get_or xs (length xs - 1) d) → i < length xs → kept ≡ insert (take (length xs - 1) xs) i x → insert_by f x (drop i (take (length xs - 1) xs)) ≡ x ∷ drop i (take (length xs - 1) xs) → (0 < i → f (get_or kept (i - 1) d) ≤ f x) → kept ≡ take (length xs) (insert_by f x xs)
-keep_end f x i xs kept d up one b l e last stop =
+below_inserted : {X : Type 0} (f : X → ℕ) (x y : X) (i : ℕ) (front kept : List X) (d : X) → i ≤ length front → kept ≡ insert front i y → (0 < i → f (get_or kept (i - 1) d) ≤ f x) → 0 < i → f (get_or (insert front i x) (i - 1) d) ≤ f x
+below_inserted f x y i front kept d l e stop o =
+    let at : get_or kept (i - 1) d ≡ get_or (insert front i x) (i - 1) d =
+    ap (λ v. get_or v (i - 1) d) e ∙ get_or-insert_below front i y d (i - 1) (omega arith) l ∙ sym (get_or-insert_below front i x d (i - 1) (omega arith) l) in
+    rw at at (stop o)
+
+pub keep_end : {X : Type 0} (f : X → ℕ) (x y : X) (i : ℕ) (xs kept : List X) (d : X) → Climbing f xs → 1 ≤ length xs → f x < f (get_or xs (length xs - 1) d) → i < length xs → kept ≡ insert (take (length xs - 1) xs) i y → insert_by f x (drop i (take (length xs - 1) xs)) ≡ x ∷ drop i (take (length xs - 1) xs) → (0 < i → f (get_or kept (i - 1) d) ≤ f x) → set kept i x ≡ take (length xs) (insert_by f x xs)
+keep_end f x y i xs kept d up one b l e last stop =
     let n : length (take (length xs - 1) xs) ≡ length xs - 1 = length-take-le (length xs - 1) xs (omega arith) in
-    e ∙ insert_done f x i (take (length xs - 1) xs) d (Climbing-take f (length xs - 1) xs up) (omega arith) last (rw e at stop)
+    let in' : i ≤ length (take (length xs - 1) xs) = omega arith in
+    ap (λ v. set v i x) e ∙ set_inserted i (take (length xs - 1) xs) y x in'
+    ∙ insert_done f x i (take (length xs - 1) xs) d (Climbing-take f (length xs - 1) xs up) in' last (below_inserted f x y i (take (length xs - 1) xs) kept d in' e stop)
     ∙ insert_by-pop f x (length xs) xs d refl one b
+
+-- the last stands behind the others
+pub last_inserted : {X : Type 0} (n : ℕ) (xs : List X) (d : X) → length xs ≡ suc n → xs ≡ insert (take n xs) n (get_or xs n d)
+last_inserted n [] d l = absurd (omega arith)
+last_inserted zero (y ∷ []) d l = refl
+last_inserted zero (y ∷ z ∷ zs) d l = absurd (omega arith)
+last_inserted (suc n) (y ∷ ys) d l = ap (λ v. y ∷ v) (last_inserted n ys d (omega arith))

@@ -11,6 +11,7 @@ pub mod Roots
 pub mod Searching
 pub mod Sweep
 pub mod Tables
+pub mod Tree
 pub mod Turned
 pub mod WeightLaws
 pub mod Weights

@@ -49,11 +49,11 @@ pub fn keep(kept: &mut [Candidate], x: Candidate)
     if !x.is_before(kept[i]) {
         return;
     }
-    kept[i] = x;
     while i > 0 && x.is_before(kept[i - 1]) {
-        kept.swap(i - 1, i);
+        kept[i] = kept[i - 1];
         i -= 1;
     }
+    kept[i] = x;
 }
 
 /// Writes the cities of the kept as the list of city c.

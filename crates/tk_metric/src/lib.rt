@@ -19,6 +19,7 @@ mod sweep;
 mod table;
 #[cfg(test)]
 mod tests;
+mod tree;
 mod triangle;
 mod turned;
 mod whole;
@@ -31,5 +32,6 @@ pub use roots::{root, root_up};
 pub use sub::Sub;
 pub use sweep::{Placed, near_sweep, order_by_x};
 pub use table::Table;
+pub use tree::near_tree;
 pub use triangle::Triangle;
 pub use turned::{Turned, is_tall};

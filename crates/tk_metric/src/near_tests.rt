@@ -2,7 +2,7 @@
 ghost use Rattle.std.specs.Prelude.{◌≡◌, ◌≤◌, IfOk, length};
 ghost use Rattle.tk_text.specs.Places.{IsNearOrigin};
 
-use crate::{Metric, Near, Planes, Turned, near_lists_agree, near_scan, near_sweep};
+use crate::{Metric, Near, Planes, Turned, near_lists_agree, near_scan, near_sweep, near_tree};
 use std::alloc::{AllocError, Global};
 use std::test::Fail;
 use tk_text::{PlaneKind, Point, Points};
@@ -67,6 +67,8 @@ fn known_lists(rt: HostRuntime) -> Result<(), Fail> {
         assert_eq!(rt; entries_of(alloc, &swept)?.as_slice(), want);
         let turned = near_sweep(alloc, &Turned(&m), k)?;
         assert_eq!(rt; entries_of(alloc, &turned)?.as_slice(), want);
+        let found = near_tree(alloc, &m, k)?;
+        assert_eq!(rt; entries_of(alloc, &found)?.as_slice(), want);
     }
     Ok(())
 }
@@ -113,6 +115,34 @@ fn sweep_agrees_with_scan(rt: HostRuntime) -> Result<(), Fail> {
         for c in 1..m.size() + 1 {
             assert_eq!(rt; swept.of(c), scanned.of(c), "city {c} of {wide} by {tall}");
             near_lists_agree(&m, c, k, swept.of(c), scanned.of(c));
+        }
+    }
+    Ok(())
+}
+
+#[test]
+fn tree_agrees_with_scan(rt: HostRuntime) -> Result<(), Fail> {
+    let alloc = rt.alloc();
+    let rows = [
+        (PlaneKind::Euc2d, 1000, 1000, true, 5),
+        (PlaneKind::Euc2d, 1000, 2, true, 100),
+        (PlaneKind::Euc2d, 2, 1000, true, 7),
+        (PlaneKind::Euc2d, 1, 1, true, 10),
+        (PlaneKind::Euc2d, 17, 17, false, 9),
+        (PlaneKind::Ceil2d, 30, 30, false, 5),
+        (PlaneKind::Man2d, 40, 20, false, 5),
+        (PlaneKind::Max2d, 20, 40, true, 5),
+        (PlaneKind::Att, 100, 100, true, 5),
+    ];
+    for (kind, wide, tall, whole, k) in rows {
+        let corners = sample(alloc, wide, tall)?;
+        assert!(rt; corners.len() == 300);
+        let points = places(alloc, &corners, whole)?;
+        let m = Planes::new(kind, &points);
+        let scanned = near_scan(alloc, &m, k)?;
+        let found = near_tree(alloc, &m, k)?;
+        for c in 1..m.size() + 1 {
+            assert_eq!(rt; found.of(c), scanned.of(c), "city {c} of {wide} by {tall}");
         }
     }
     Ok(())

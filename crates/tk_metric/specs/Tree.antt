@@ -1,0 +1,61 @@
+-- A tree of parts of the cities, and what is kept of them.
+use Rattle.std.specs.Prelude.{◌≡◌, ◌≢◌, ℕ, ◌≤ℤ◌, ◌+◌, ◌*◌, ◌-◌, ◌<◌, ◌≤◌, ◌⊎◌, ◌==◌, if◌then◌else◌, List, [], ◌∷◌, ◌++◌, length, slice_index_or, All, ⊤}
+use Rattle.tk_text.specs.declared.point.Point.{Point}
+use Rattle.tk_metric.specs.declared.keep.Candidate.{Candidate}
+use Rattle.tk_metric.specs.declared.sweep.Placed.{Placed}
+use Rattle.tk_metric.specs.declared.tree.Frame.{Frame}
+use Rattle.tk_metric.specs.declared.tree.Tree.{Tree, Leaf, Cut'}
+use Rattle.tk_metric.specs.Cities.{IsCity}
+use Rattle.tk_metric.specs.Keeping.{candidate, with_candidate, open_place, rank}
+use Rattle.tk_metric.specs.Sweep.{IsPlaced, city_at, x_gap, y_gap}
+
+-- the cities of a tree, in its order
+abbrev pub entries_of : Tree → List Placed
+entries_of (Leaf row) = row.items
+entries_of (Cut' a p s b q t) = entries_of s ++ entries_of t
+
+-- a city stands in a box
+pub record IsWithin (f : Frame) (p : Placed) : Type 0 where
+  pub left : f.left ≤ℤ p.place.x
+  pub right : p.place.x ≤ℤ f.right
+  pub bottom : f.bottom ≤ℤ p.place.y
+  pub top : p.place.y ≤ℤ f.top
+  pub least : f.least ≤ p.city
+
+-- the cities of each part stand in its box
+abbrev pub IsFramed : Tree → Type 0
+IsFramed (Leaf row) = ⊤
+IsFramed (Cut' a p s b q t) = All (IsWithin a) (entries_of s) × All (IsWithin b) (entries_of t) × IsFramed s × IsFramed t
+
+-- p has this difference in x, or in y, from here
+abbrev pub IsBeyond : Placed → ℕ → Placed → Type 0
+IsBeyond here gap p = (gap ≤ x_gap here p) ⊎ (gap ≤ y_gap here p)
+
+-- and no lesser number
+abbrev pub IsPast : Placed → ℕ → ℕ → Placed → Type 0
+IsPast here gap least p = IsBeyond here gap p × (least ≤ p.city)
+
+-- no candidate at this distance or beyond, and with no lesser number, comes before the last of the kept
+abbrev pub IsOut : ℕ → ℕ → List Candidate → Type 0
+IsOut bound least kept = rank (slice_index_or kept (length kept - 1) open_place) ≤ bound * 4294967296 + least
+
+-- the kept, once c has seen a city
+abbrev pub with_city : (ℕ → ℕ → ℕ) → ℕ → Placed → List Candidate → List Candidate
+with_city dist c p kept = if p.city == c then kept else with_candidate (candidate dist c p.city) kept
+
+-- the kept, once c has seen some cities
+abbrev pub with_cities : (ℕ → ℕ → ℕ) → ℕ → List Placed → List Candidate → List Candidate
+with_cities dist c [] kept = kept
+with_cities dist c (p ∷ ps) kept = with_cities dist c ps (with_city dist c p kept)
+
+-- each city once with its place
+pub record IsRow (n : ℕ) (place_of : ℕ → Point) (row : List Placed) : Type 0 where
+  pub count : length row ≡ n
+  pub each : All (IsPlaced n place_of) row
+  pub apart : (i j : ℕ) → i < j → j < length row → city_at row i ≢ city_at row j
+  pub whole : (b : ℕ) → IsCity n b → (q : ℕ) × (q < length row) × (city_at row q ≡ b)
+
+-- how many parts a tree has
+abbrev pub parts_of : Tree → ℕ
+parts_of (Leaf row) = 1
+parts_of (Cut' a p s b q t) = parts_of s + parts_of t + 1
