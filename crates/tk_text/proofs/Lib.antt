@@ -42,6 +42,7 @@ pub mod ReadNames
 pub mod Resume
 pub mod Rows
 pub mod Runs
+pub mod Saying
 pub mod Scanning
 pub mod Sections
 pub mod SoFar
@@ -57,6 +58,7 @@ pub mod Steps
 pub mod Taking
 pub mod Told
 pub mod TokenRuns
+pub mod TourReadBack
 pub mod Tours
 pub mod Triangle
 pub mod Values

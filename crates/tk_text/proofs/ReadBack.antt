@@ -1,18 +1,17 @@
 -- A matrix text is read as the problem that it was written of.
-use Rattle.std.proofs.Common.{◌≡◌, ◌≢◌, ℕ, suc, ◌<◌, ◌≤◌, Bool, true, false, eqb, leb, ltb, ◌||◌, List, [], ◌∷◌, ◌++◌, length, map, min, get_or, All, Some, None, Ok, refl, sym, ap, ◌∙◌, arith, append_assoc, inl, inr}
+use Rattle.std.proofs.Common.{◌≡◌, ℕ, suc, ◌<◌, ◌≤◌, true, false, leb, ltb, List, [], ◌∷◌, ◌++◌, length, map, min, Some, None, Ok, refl, sym, ap, ◌∙◌, arith, append_assoc, inl, inr}
 use Rattle.std.specs.Prelude.{codes, decimal, flat_map, unwrap_or, option_map}
-use Rattle.std.specs.List.{AllByRecursion, list_any}
-use Rattle.std.proofs.lemmas.Bool.{lt-leb, le-leb, le-ltb, ne_eqb, cases_eq}
+use Rattle.std.specs.List.{AllByRecursion}
+use Rattle.std.proofs.lemmas.Bool.{le-leb, le-ltb, cases_eq}
 use Rattle.std.proofs.lemmas.List.{length-map, length-append}
-use Rattle.std.proofs.lemmas.List.Elements.{All-head, All-tail}
 use Rattle.tk_text.specs.declared.keyword.Keyword.TheVariants as words
 use Rattle.tk_text.specs.declared.weights.Format.{Format}
 use Rattle.tk_text.specs.declared.weights.Format.TheVariants as formats
 use Rattle.tk_text.specs.FixedSections.{tokens_stop, fixed_extent}
-use Rattle.tk_text.specs.Lex.{LF, Line, Token, is_blank, behind, lines, tokens, tokens_of}
+use Rattle.tk_text.specs.Lex.{Line, Token, is_blank, behind, lines, tokens, tokens_of}
 use Rattle.tk_text.specs.MatrixText.{format_word, matrix_text, number_line}
-use Rattle.tk_text.specs.Pieces.{Piece, Section, Clean, cut, end_piece, end_token, judge, last_line, pieces_at, section_at, stop, or_else, first_at, after_tokens, decided_by}
-use Rattle.tk_text.specs.Problem.{ProblemIs, Lower, problem_decided, problem_format, problem_value, wanted, size_of, format_in, listed_format, token_tests, word_tests}
+use Rattle.tk_text.specs.Pieces.{Piece, Section, Clean, end_piece, end_token, last_line, pieces_at, section_at, stop, or_else, first_at}
+use Rattle.tk_text.specs.Problem.{ProblemIs, Lower, problem_format, problem_value, wanted, size_of, format_in, listed_format, token_tests, word_tests}
 use Rattle.tk_text.specs.Rows.{number_in}
 use Rattle.tk_text.specs.ReadBack.{IsName, IsTable, ReadsBack, lower_triangle}
 use Rattle.tk_text.specs.WeightOrder.{order}
@@ -20,26 +19,15 @@ use Rattle.tk_text.specs.WeightSection.{weight_count, weight_tests, lower_weight
 use Rattle.tk_text.specs.Words.{keyword_of, section_word, rest_word}
 use Rattle.tk_text.specs.Written.{line}
 use Rattle.tk_text.proofs.Closing.{take_whole}
+use Rattle.tk_text.proofs.Saying.{one_line, name_line, whole_lines, lines-listed, lines-none, clean, says, says-header, says-section, says-rows, says-eof, decided-says}
 use Rattle.tk_text.proofs.Sections.{token}
-use Rattle.tk_text.proofs.WrittenHeaders.{after_1, after_2, after_3, after_4, after_5, after_6, name_value, size_value, format_value, says, says-header, name_piece, type_piece, size_piece, weight_type_piece, format_piece, name_passes, type_passes, size_passes, size_read, weight_type_passes, format_passes, format_read, name_read}
-use Rattle.tk_text.proofs.WrittenLines.{whole_line, lines-written, lines-rows, row_lines, row_tokens, next_line, tokens-rows, last_of_rows, cut-rows, rows_written, numbers_written, AreWritten, ShortRows}
+use Rattle.tk_text.proofs.WrittenHeaders.{after_1, after_2, after_3, after_4, after_5, after_6, name_value, size_value, format_value, name_piece, type_piece, size_piece, weight_type_piece, format_piece, name_passes, type_passes, size_passes, size_read, weight_type_passes, format_passes, format_read, name_read}
+use Rattle.tk_text.proofs.WrittenLines.{whole_line, lines-written, lines-rows, row_lines, row_tokens, next_line, tokens-rows, last_of_rows, rows_written, numbers_written, AreWritten, ShortRows}
 use Rattle.tk_text.proofs.WrittenNumbers.{IsShort, OnOneLine, one_line_append, decimal_line}
 use Rattle.tk_text.proofs.WrittenPlaces.{at_place, rows_of, matrix_lines, rows-order, rows-short}
 use Rattle.tk_text.proofs.WrittenWeights.{weights_accepted, lower_read}
 
 -- ---- the lines of the text
-
-one_line : (bs : List ℕ) → list_any (λ b. eqb b LF) bs ≡ false → OnOneLine bs
-one_line [] h = tt
-one_line (b ∷ bs) h = by_test (eqb b LF) refl (one_line bs) h
-  where
-    by_test : (t : Bool) → eqb b LF ≡ t → (list_any (λ c. eqb c LF) bs ≡ false → OnOneLine bs) → (t || list_any (λ c. eqb c LF) bs) ≡ false → OnOneLine (b ∷ bs)
-    by_test true e ih k = absurd cc
-    by_test false e ih k = (e, ih k)
-
-name_line : (name : List ℕ) → All (λ b. b ≢ LF) name → OnOneLine name
-name_line [] all = tt
-name_line (b ∷ bs) all = (ne_eqb b LF (All-head (λ c. c ≢ LF) b bs all), name_line bs (All-tail (λ c. c ≢ LF) b bs all))
 
 word_line : (f : Format) → OnOneLine (format_word f)
 word_line formats.FullMatrix = one_line (codes "FULL_MATRIX") refl
@@ -51,25 +39,6 @@ word_line formats.UpperCol = one_line (codes "UPPER_COL") refl
 word_line formats.LowerCol = one_line (codes "LOWER_COL") refl
 word_line formats.UpperDiagCol = one_line (codes "UPPER_DIAG_COL") refl
 word_line formats.LowerDiagCol = one_line (codes "LOWER_DIAG_COL") refl
-
--- lines, each whole, and the number of the next
-abbrev whole_lines : ℕ → List (List ℕ) → List Line
-whole_lines n [] = []
-whole_lines n (bs ∷ bss) = whole_line n bs ∷ whole_lines (suc n) bss
-
-abbrev behind_lines : ℕ → List (List ℕ) → ℕ
-behind_lines n [] = n
-behind_lines n (bs ∷ bss) = behind_lines (suc n) bss
-
-lines-listed : (n : ℕ) (bss : List (List ℕ)) (rest : List ℕ) → AllByRecursion OnOneLine bss → lines true n (flat_map line bss ++ rest) ≡ whole_lines n bss ++ lines true (behind_lines n bss) rest
-lines-listed n [] rest h = refl
-lines-listed n (bs ∷ bss) rest h =
-    ap (lines true n) (append_assoc (line bs) (flat_map line bss) rest) ∙ lines-written n bs (flat_map line bss ++ rest) h.0
-    ∙ ap (λ (ls : List Line). whole_line n bs ∷ ls) (lines-listed (suc n) bss rest h.1)
-
-lines-none : (n : ℕ) → lines true n [] ≡ whole_line n [] ∷ []
-unfolding lines
-lines-none n = refl
 
 -- the last lines
 abbrev ends : ℕ → List Line
@@ -112,27 +81,6 @@ section_piece : (before : List Piece) (ls : List Line)
     ≡ section_at problem_format.extent before words.EdgeWeightSection 6 (tokens ls) (end_token (whole_line 6 (codes "EDGE_WEIGHT_SECTION")) ls)
 unfolding keyword_of section_word rest_word tokens_of
 section_piece before ls = refl
-
-clean : (last : ℕ) (toks : List Token) (eof end : Token) → last < eof.line → after_tokens last true (get_or (toks ++ eof ∷ []) (length toks) end) ≡ Clean
-clean last [] eof end lt = let later : eqb eof.line last ≡ false = ne_eqb _ _ (λ e. omega (arith, e, lt)) in rw later refl
-clean last (t ∷ toks) eof end lt = clean last toks eof end lt
-
-says-section : (before : List Piece) (ls : List Line) (end : List Piece) (toks : List Token)
-    → pieces_at problem_format.extent before (whole_line 6 (codes "EDGE_WEIGHT_SECTION")) ls (behind is_blank (codes "EDGE_WEIGHT_SECTION")) ≡ Section words.EdgeWeightSection 6 toks Clean ∷ []
-    → stop problem_format before (Section words.EdgeWeightSection 6 toks Clean) ≡ None
-    → says before 0 (whole_line 6 (codes "EDGE_WEIGHT_SECTION") ∷ ls) end ≡ says (before ++ Section words.EdgeWeightSection 6 toks Clean ∷ []) (last_line 6 toks) ls end
-unfolding says cut judge
-says-section before ls end toks piece none = rw (piece, none) refl
-
-says-rows : (before : List Piece) (upto n : ℕ) (rows : List (List ℕ)) (ls : List Line) (end : List Piece) → next_line n rows ≤ suc upto → says before upto (row_lines n rows ++ ls) end ≡ says before upto ls end
-unfolding says
-says-rows before upto n rows ls end covered = ap (λ (ps : List Piece). judge problem_format before (ps ++ end)) (cut-rows problem_format.extent before upto n rows ls covered)
-
-says-eof : (before : List Piece) (upto e : ℕ) (ls : List Line) (end : List Piece) → upto < e → problem_format.at_end before ≡ None → says before upto (whole_line e (codes "EOF") ∷ ls) end ≡ Some (Ok (problem_value before))
-unfolding says cut judge keyword_of section_word rest_word
-says-eof before upto e ls end lt none =
-    let later : leb e upto ≡ false = lt-leb _ _ lt in
-    rw (later, none) refl
 
 abbrev answer : List ℕ → ℕ → List ℕ → ProblemIs
 answer name n weights = record { name = name; n = n; weights = Lower weights; routing = None }
@@ -182,10 +130,6 @@ module _ (name : List ℕ) (n : ℕ) (f : Format) (low : 2 ≤ n) (high : n ≤ 
 
 -- ---- the text
 
-decided-says : (bs : List ℕ) → problem_decided true bs ≡ says [] 0 (lines true 1 bs) (end_piece (lines true 1 bs))
-unfolding decided_by says
-decided-says bs = refl
-
 module _ (name : List ℕ) (n : ℕ) (f : Format) (is_name : IsName name) (low : 2 ≤ n) (high : n ≤ 5000) (ls : List Line) (end : List Piece) where
   abbrev line_6 : List Line
   line_6 = whole_line 6 (codes "EDGE_WEIGHT_SECTION") ∷ ls
@@ -202,13 +146,13 @@ module _ (name : List ℕ) (n : ℕ) (f : Format) (is_name : IsName name) (low :
   abbrev line_2 : List Line
   line_2 = whole_line 2 (codes "TYPE : TSP") ∷ line_3
 
-  says-head : says [] 0 (whole_line 1 (codes "NAME : " ++ name) ∷ line_2) end ≡ says (after_5 name n f) 0 line_6 end
+  says-head : says problem_format [] 0 (whole_line 1 (codes "NAME : " ++ name) ∷ line_2) end ≡ says problem_format (after_5 name n f) 0 line_6 end
   says-head =
-      says-header [] 0 (codes "NAME : " ++ name) line_2 end words.Name (name_value name) (name_piece [] name line_2) (name_passes name is_name)
-      ∙ says-header (after_1 name) 1 (codes "TYPE : TSP") line_3 end words.Type (codes " : TSP") (type_piece (after_1 name) line_3) (type_passes name)
-      ∙ says-header (after_2 name) 2 (codes "DIMENSION : " ++ decimal n) line_4 end words.Dimension (size_value n) (size_piece (after_2 name) n line_4) (size_passes n low high name)
-      ∙ says-header (after_3 name n) 3 (codes "EDGE_WEIGHT_TYPE : EXPLICIT") line_5 end words.EdgeWeightType (codes " : EXPLICIT") (weight_type_piece (after_3 name n) line_5) (weight_type_passes n low high name)
-      ∙ says-header (after_4 name n) 4 (codes "EDGE_WEIGHT_FORMAT : " ++ format_word f) line_6 end words.EdgeWeightFormat (format_value f) (format_piece (after_4 name n) f line_6) (format_passes n low high name f)
+      says-header problem_format [] 0 (codes "NAME : " ++ name) line_2 end words.Name (name_value name) (name_piece [] name line_2) (name_passes name is_name)
+      ∙ says-header problem_format (after_1 name) 1 (codes "TYPE : TSP") line_3 end words.Type (codes " : TSP") (type_piece (after_1 name) line_3) (type_passes name)
+      ∙ says-header problem_format (after_2 name) 2 (codes "DIMENSION : " ++ decimal n) line_4 end words.Dimension (size_value n) (size_piece (after_2 name) n line_4) (size_passes n low high name)
+      ∙ says-header problem_format (after_3 name n) 3 (codes "EDGE_WEIGHT_TYPE : EXPLICIT") line_5 end words.EdgeWeightType (codes " : EXPLICIT") (weight_type_piece (after_3 name n) line_5) (weight_type_passes n low high name)
+      ∙ says-header problem_format (after_4 name n) 4 (codes "EDGE_WEIGHT_FORMAT : " ++ format_word f) line_6 end words.EdgeWeightFormat (format_value f) (format_piece (after_4 name n) f line_6) (format_passes n low high name f)
 
 module _ (name : List ℕ) (n : ℕ) (table : ℕ → ℕ → ℕ) (f : Format) (is_name : IsName name) (is_table : IsTable n table) (low : 2 ≤ n) (high : n ≤ 5000) where
   abbrev rows : List (List ℕ)
@@ -248,11 +192,11 @@ module _ (name : List ℕ) (n : ℕ) (table : ℕ → ℕ → ℕ) (f : Format) 
       ∙ ap (λ ts. section_at problem_format.extent (after_5 name n f) words.EdgeWeightSection 6 ts end) tokens_are
       ∙ section_made name n f low high toks (token (codes "EOF") last) end count (omega (arith, before_last))
 
-  says-body : (end : List Piece) → says (after_5 name n f) 0 (whole_line 6 (codes "EDGE_WEIGHT_SECTION") ∷ section_lines rows) end ≡ Some (Ok (answer name n (lower_triangle n table)))
+  says-body : (end : List Piece) → says problem_format (after_5 name n f) 0 (whole_line 6 (codes "EDGE_WEIGHT_SECTION") ∷ section_lines rows) end ≡ Some (Ok (answer name n (lower_triangle n table)))
   says-body end =
-      says-section (after_5 name n f) (section_lines rows) end toks piece (section_passes name n f low high table is_table toks written)
-      ∙ says-rows (after_6 name n f toks) (last_line 6 toks) 7 rows (ends last) end (omega (arith, before_last))
-      ∙ says-eof (after_6 name n f toks) (last_line 6 toks) last (whole_line (suc last) [] ∷ []) end (omega (arith, before_last)) (at_end_passes name n f low high toks)
+      says-section problem_format (after_5 name n f) 5 (codes "EDGE_WEIGHT_SECTION") (section_lines rows) end words.EdgeWeightSection toks piece (section_passes name n f low high table is_table toks written)
+      ∙ says-rows problem_format (after_6 name n f toks) (last_line 6 toks) 7 rows (ends last) end (omega (arith, before_last))
+      ∙ says-eof problem_format (after_6 name n f toks) (last_line 6 toks) last (whole_line (suc last) [] ∷ []) end (omega (arith, before_last)) (at_end_passes name n f low high toks)
       ∙ ap (λ v. Some (Ok v)) (value_is name n f low high table is_table toks written is_name)
 
   text_lines : lines true 1 (matrix_text name n table f) ≡ whole_lines 1 (head_lines name n f) ++ section_lines rows
@@ -264,7 +208,7 @@ module _ (name : List ℕ) (n : ℕ) (table : ℕ → ℕ → ℕ) (f : Format) 
   pub reads_back : ReadsBack name n table f
   reads_back =
       let all : List Line = whole_lines 1 (head_lines name n f) ++ section_lines rows in
-      decided-says (matrix_text name n table f)
-      ∙ ap (λ (ls : List Line). says [] 0 ls (end_piece ls)) text_lines
+      decided-says problem_format (matrix_text name n table f)
+      ∙ ap (λ (ls : List Line). says problem_format [] 0 ls (end_piece ls)) text_lines
       ∙ says-head name n f is_name low high (section_lines rows) (end_piece all)
       ∙ says-body (end_piece all)

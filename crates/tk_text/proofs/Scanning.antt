@@ -124,7 +124,7 @@ take_trimmed (x ∷ xs) = by_end (is_blank x && is_empty (trim_end xs)) refl (ta
     by_end true e before = rw e refl
     by_end false e before = rw e (ap (λ (r : List ℕ). x ∷ r) before)
 
-trimmed_short : (xs : List ℕ) → length (trim_end xs) ≤ length xs
+pub trimmed_short : (xs : List ℕ) → length (trim_end xs) ≤ length xs
 trimmed_short [] = omega arith
 trimmed_short (x ∷ xs) = by_end (is_blank x && is_empty (trim_end xs)) refl (trimmed_short xs)
   where

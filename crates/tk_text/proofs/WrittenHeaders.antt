@@ -1,18 +1,17 @@
 -- The headers of a matrix text, as pieces without a fault.
-use Rattle.std.proofs.Common.{◌≡◌, ℕ, suc, ◌≤◌, true, false, leb, ltb, List, [], ◌∷◌, ◌++◌, length, Option, Some, None, Result, pos, refl, ap, ◌∙◌, arith}
+use Rattle.std.proofs.Common.{◌≡◌, ℕ, ◌≤◌, true, false, leb, ltb, List, [], ◌∷◌, ◌++◌, length, Some, None, pos, refl, ap, ◌∙◌, arith}
 use Rattle.std.specs.Prelude.{codes, decimal}
-use Rattle.std.proofs.lemmas.Bool.{lt-leb, le-leb, le-ltb}
+use Rattle.std.proofs.lemmas.Bool.{le-leb, le-ltb}
 use Rattle.tk_text.specs.declared.keyword.Keyword.{Keyword}
 use Rattle.tk_text.specs.declared.keyword.Keyword.TheVariants as words
-use Rattle.tk_text.specs.declared.fault.TextFault.{TextFault}
 use Rattle.tk_text.specs.declared.header_values.WeightFormat.TheVariants as weight_formats
 use Rattle.tk_text.specs.declared.weights.Format as Layout
 use Rattle.tk_text.specs.declared.weights.Format.TheVariants as formats
 use Rattle.tk_text.specs.HeaderValues.{weight_format_of, number_of, name_of}
 use Rattle.tk_text.specs.Lex.{Line, Token, is_blank, behind, front, integer, trim}
 use Rattle.tk_text.specs.MatrixText.{format_word}
-use Rattle.tk_text.specs.Pieces.{Piece, Header, Section, Clean, cut, judge, pieces_at, stop}
-use Rattle.tk_text.specs.Problem.{ProblemIs, problem_format}
+use Rattle.tk_text.specs.Pieces.{Piece, Header, Section, Clean, pieces_at, stop}
+use Rattle.tk_text.specs.Problem.{problem_format}
 use Rattle.tk_text.specs.ReadBack.{IsName}
 use Rattle.tk_text.specs.Reader.{IsRun}
 use Rattle.tk_text.specs.Scan.{first_word, not_blank}
@@ -52,19 +51,6 @@ after_5 name n f = after_4 name n ++ headed words.EdgeWeightFormat (format_value
 
 abbrev pub after_6 : List ℕ → ℕ → Layout.Format → List Token → List Piece
 after_6 name n f toks = after_5 name n f ++ Section words.EdgeWeightSection 6 toks Clean ∷ []
-
--- what lines say behind pieces
-unfoldable pub says : List Piece → ℕ → List Line → List Piece → Option (Result ProblemIs TextFault)
-says before upto ls end = judge problem_format before (cut problem_format.extent before upto ls ++ end)
-
-pub says-header : (before : List Piece) (n : ℕ) (bs : List ℕ) (ls : List Line) (end : List Piece) (word : Keyword) (value : List ℕ)
-    → pieces_at problem_format.extent before (whole_line (suc n) bs) ls (behind is_blank bs) ≡ headed word value (suc n) ∷ []
-    → stop problem_format before (headed word value (suc n)) ≡ None
-    → says before 0 (whole_line (suc n) bs ∷ ls) end ≡ says (before ++ headed word value (suc n) ∷ []) 0 ls end
-unfolding says cut judge
-says-header before n bs ls end word value piece none =
-    let later : leb (suc n) 0 ≡ false = lt-leb _ _ (omega arith) in
-    rw (later, piece, none) refl
 
 -- the pieces of the lines
 pub name_piece : (before : List Piece) (name : List ℕ) (ls : List Line)
@@ -112,7 +98,7 @@ front_run [] run = absurd run
 front_run (b ∷ []) run = rw run refl
 front_run (b ∷ c ∷ ds) run = let first = run.0 in rw first (ap (λ (bs : List ℕ). b ∷ bs) (front_run (c ∷ ds) run.1))
 
-first_word_run : (ds : List ℕ) → IsRun ds → first_word (codes " : " ++ ds) ≡ ds
+pub first_word_run : (ds : List ℕ) → IsRun ds → first_word (codes " : " ++ ds) ≡ ds
 first_word_run ds run = ap (front not_blank) (behind_run ds run) ∙ front_run ds run
 
 module _ (n : ℕ) (low : 2 ≤ n) (high : n ≤ 5000) where

@@ -1,11 +1,13 @@
--- What a matrix text and a solution text say to a reader.
-use Rattle.std.specs.Prelude.{◌≡◌, ◌≢◌, ℕ, ◌-◌, ◌^◌, ◌<◌, ◌≤◌, false, true, List, All, length, map, flat_map, Some, None, Ok, pos}
+-- What a matrix text, a solution text and a tour text say to a reader.
+use Rattle.std.specs.Prelude.{◌≡◌, ◌≢◌, ℕ, ◌-◌, ◌*◌, ◌^◌, ◌<◌, ◌≤◌, false, true, List, All, length, map, flat_map, Some, None, Ok, pos}
 use Rattle.std.specs.List.{range_with_len, concat, AllByRecursion}
 use Rattle.tk_text.specs.declared.weights.Format.{Format}
 use Rattle.tk_text.specs.Lex.{LF, is_empty, trim}
 use Rattle.tk_text.specs.MatrixText.{matrix_text}
 use Rattle.tk_text.specs.Solution.{solution_decided}
 use Rattle.tk_text.specs.SolutionWritten.{solution_text}
+use Rattle.tk_text.specs.Tour.{tour_decided}
+use Rattle.tk_text.specs.TourWritten.{tour_text}
 use Rattle.tk_text.specs.Problem.{Lower, problem_decided}
 
 -- a name as a reader gives it: some bytes on one line, with no blanks at their ends
@@ -40,3 +42,16 @@ pub record IsSolution (routes : List (List ℕ)) (cost : ℕ) : Type 0 where
 -- the text is read as these routes and this cost
 abbrev pub SolutionReadsBack : List (List ℕ) → ℕ → Type 0
 SolutionReadsBack routes cost = solution_decided true (solution_text routes cost) ≡ Some (Ok (routes, pos cost))
+
+-- a name, a length and cities as a tour text can have them: behind the name there is room for the length and the text's ending
+pub record IsTour (name : List ℕ) (size : ℕ) (cities : List ℕ) : Type 0 where
+  pub named : IsName name
+  pub room : length name ≤ 1000
+  pub cheap : size ≤ 4 * 10 ^ 14
+  pub some : 1 ≤ length cities
+  pub few : length cities ≤ 1000000
+  pub small : AllByRecursion (λ city. city ≤ 4294967295) cities
+
+-- the text is read as these cities
+abbrev pub TourReadsBack : List ℕ → ℕ → List ℕ → Type 0
+TourReadsBack name size cities = tour_decided true (tour_text name size cities) ≡ Some (Ok cities)

@@ -3,6 +3,7 @@ ghost use Rattle.std.specs.Prelude.{◌≡◌, ◌≤◌, length as count, true,
 ghost use Rattle.std.specs.Int.RustNames.{unsigned_abs};
 ghost use Rattle.tk_text.specs.Pens.{Puts};
 ghost use Rattle.tk_text.specs.Puts.{Writes};
+ghost use Rattle.tk_text.specs.ReadBack.{IsTour, TourReadsBack};
 ghost use Rattle.tk_text.specs.TourWritten.{tour_head, tour_text};
 ghost use Rattle.tk_text.specs.Written.{line};
 
@@ -43,7 +44,8 @@ fn put_tour<W: Sink>(pen: &mut Pen<'_, W>, name: &[u8], size: u64, cities: &[u32
     pen.put(b"-1\nEOF\n");
 }
 
-/// Writes a tour of an instance of this name: its length, and its cities in their order.
+/// Writes a tour of an instance of this name: its length, and its cities in their order. A reader gives back the same
+/// cities, where a tour text can have them (`read_back`).
 pub fn write_tour<W: Sink>(
     w: &mut W,
     name: &[u8],
@@ -52,6 +54,7 @@ pub fn write_tour<W: Sink>(
 ) -> Result<(), WriteFault>
     requires { pos 0 ≤ℤ length }
     ensures text { Writes W.taken W.broken w.old w.new result (tour_text name.now (unsigned_abs length) cities.now) }
+    ensures read_back { IsTour name.now (unsigned_abs length) cities.now → TourReadsBack name.now (unsigned_abs length) cities.now }
     ensures failed { count name.now ≤ 1024 → count cities.now ≤ 1000000 → OnErr result (W.broken w.new ≡ true) }
 {
     let mut pen = Pen::new(w);

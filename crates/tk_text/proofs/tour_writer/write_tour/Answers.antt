@@ -4,6 +4,7 @@ use Rattle.tk_text.specs.Pens.{Puts}
 use Rattle.tk_text.specs.TourWritten.{tour_text}
 use Rattle.tk_text.proofs.ListLength.{length_tour_text}
 use Rattle.tk_text.proofs.Penned.{Writes-end, broken_at_err}
+use Rattle.tk_text.proofs.TourReadBack.{tour_read_back}
 use Rattle.tk_text.proofs.tour_writer.write_tour.Goals as goal
 
 pub returns-clause-text : goal.returns-clause-text
@@ -19,3 +20,6 @@ returns-clause-failed g c = λ short few.
     broken_at_err g.W.Sink.taken g.W.Sink.broken c.args.w.now _ _ (tour_text c.args.name.now c.unsigned_abs.result c.args.cities.now)
     (length_tour_text c.args.name.now c.unsigned_abs.result c.args.cities.now short few)
     (Writes-end g.W.Sink.taken g.W.Sink.broken c.args.w.now _ _ _ _ _ _ c.new-pen.ensures.empty c.put_tour.ensures c.end.ensures (search rules))
+
+pub returns-clause-read_back : goal.returns-clause-read_back
+returns-clause-read_back g c = tour_read_back c.args.name.now (unsigned_abs c.args.length) c.args.cities.now
