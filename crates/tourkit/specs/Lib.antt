@@ -2,8 +2,3 @@ pub mod Check
 pub mod Engine
 pub mod MatrixOf
 pub mod NearText
-pub mod ParamKeys
-pub mod ParamReaders
-pub mod ParamReading
-pub mod Params
-pub mod ParamValues

@@ -9,14 +9,6 @@ mod matrix;
 mod matrix_command;
 mod near;
 mod near_command;
-mod param_fault;
-mod param_key;
-mod param_line;
-mod param_reader;
-#[cfg(test)]
-mod param_tests;
-mod param_value;
-mod params;
 mod report;
 mod verdict_line;
 

@@ -1,0 +1,5 @@
+pub mod Feeds
+pub mod Looks
+pub mod Steps
+pub mod Told
+pub mod Words

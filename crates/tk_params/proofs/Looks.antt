@@ -1,0 +1,122 @@
+-- Looking up settings.
+use Rattle.std.proofs.Common.{◌≡◌, ◌∙◌, ◌++◌, ◌≤◌, ℕ, eqb, length, get_or, arith, Bool, true, false, Bor, List, [], ◌∷◌, Option, None, Some, cond, map, option_map, refl, sym, ap}
+use Rattle.std.proofs.lemmas.Map.Made.{lookup-map_values}
+use Rattle.std.proofs.lemmas.List.{append-nil, map-append}
+use Rattle.std.proofs.lemmas.Bool.{cond-false, cond-true, eq-eqb, eqb-true, false_from_ne_true, le-ltb}
+use Rattle.std.specs.Prelude.{codes}
+use Rattle.tk_text.specs.Words.{spells}
+use Rattle.std.proofs.lemmas.Str.{IsUtf8-from_is_utf8, is_utf8-from_IsUtf8}
+use Rattle.std.specs.Str.{IsUtf8, is_utf8}
+use Rattle.indexmap.proofs.CallerLemmas.{insert_entry-new}
+use Rattle.indexmap.specs.IndexMap.{IndexMap, insert_entry}
+use Rattle.std.specs.Map.{lookup}
+use Rattle.std.specs.Option.{option_copied, is_some}
+use Rattle.tk_params.specs.declared.value.Setting.{Setting}
+use Rattle.tk_params.specs.Readers.{HasTaken, entry_is, value_is}
+use Rattle.tk_params.specs.contracts.key.KeyPartialEq.TheImpl.{eq-value}
+use Rattle.tk_params.specs.declared.key.Key.{Key}
+use Rattle.tk_params.specs.declared.key.Key.TheVariants as keys
+use Rattle.tk_params.specs.Values.{Value, File, Meaning, Nothing, ParamsAre, Settings, line_means, words_mean, file_of, has, has_dollar, ignored_keys, is_ignored, key_means, look, same_key, value_of}
+
+-- keys are equal where they have one place
+pub equal_keys : (a b : Key) → eq-value.it a b ≡ same_key a b
+equal_keys keys.ProblemFile keys.ProblemFile = refl
+equal_keys keys.ProblemFile _ = refl
+equal_keys keys.TourFile keys.TourFile = refl
+equal_keys keys.TourFile _ = refl
+equal_keys keys.SolutionFile keys.SolutionFile = refl
+equal_keys keys.SolutionFile _ = refl
+equal_keys keys.InitialTourFile keys.InitialTourFile = refl
+equal_keys keys.InitialTourFile _ = refl
+equal_keys keys.Runs keys.Runs = refl
+equal_keys keys.Runs _ = refl
+equal_keys keys.MaxTrials keys.MaxTrials = refl
+equal_keys keys.MaxTrials _ = refl
+equal_keys keys.Seed keys.Seed = refl
+equal_keys keys.Seed _ = refl
+equal_keys keys.MaxCandidates keys.MaxCandidates = refl
+equal_keys keys.MaxCandidates _ = refl
+equal_keys keys.Construction keys.Construction = refl
+equal_keys keys.Construction _ = refl
+equal_keys keys.FinalSweep keys.FinalSweep = refl
+equal_keys keys.FinalSweep _ = refl
+equal_keys keys.OrSegment keys.OrSegment = refl
+equal_keys keys.OrSegment _ = refl
+equal_keys keys.MoveType keys.MoveType = refl
+equal_keys keys.MoveType _ = refl
+equal_keys keys.PatchingA keys.PatchingA = refl
+equal_keys keys.PatchingA _ = refl
+equal_keys keys.PatchingC keys.PatchingC = refl
+equal_keys keys.PatchingC _ = refl
+equal_keys keys.Precision keys.Precision = refl
+equal_keys keys.Precision _ = refl
+equal_keys keys.TraceLevel keys.TraceLevel = refl
+equal_keys keys.TraceLevel _ = refl
+equal_keys keys.Optimum keys.Optimum = refl
+equal_keys keys.Optimum _ = refl
+
+lookup_same : {X : Type 0} (key : Key) (es : List (Key × X)) → lookup (eq-value.it key) es ≡ lookup (same_key key) es
+lookup_same key [] = refl
+lookup_same key (e ∷ es) = ap (λ t. cond t (Some e.1) (lookup (eq-value.it key) es)) (equal_keys key e.0) ∙ ap (λ r. cond (same_key key e.0) (Some e.1) r) (lookup_same key es)
+
+-- a look-up among what is stored
+pub equal_looks : (key : Key) (es : List (Key × Setting)) → option_map value_is (lookup (eq-value.it key) es) ≡ look key (map entry_is es)
+equal_looks key es = ap (option_map value_is) (lookup_same key es) ∙ sym (lookup-map_values value_is (same_key key) es)
+
+pub option_values : (o : Option (Bor Setting)) {s : Option Setting} {v : Option Value} → option_copied o ≡ s → option_map value_is s ≡ v → option_map (λ x. value_is x.now) o ≡ v
+option_values None e f = ap (option_map value_is) e ∙ f
+option_values (Some x) e f = ap (option_map value_is) e ∙ f
+
+none_stored : (o : Option Setting) (v : Option Value) → option_map value_is o ≡ v → is_some v ≡ false → o ≡ None
+none_stored None v e f = refl
+none_stored (Some x) v e f = absurd (let k = rw (← e) at f in cc)
+
+-- a new key goes last among what is stored
+pub stored_last : {S : Type 0} (m : IndexMap Key Setting S) (key : Key) (setting : Setting) → has key (map entry_is m.entries) ≡ false
+    → map entry_is (insert_entry eq-value.it m.entries key setting) ≡ map entry_is m.entries ++ (key, value_is setting) ∷ []
+stored_last m key setting absent =
+    ap (map entry_is) (insert_entry-new eq-value.it m key setting (none_stored _ _ (equal_looks key m.entries) absent)) ∙ map-append entry_is m.entries ((key, setting) ∷ [])
+
+-- ---- file names
+
+pub file_none : (bs : List ℕ) → (IsUtf8 bs → ⊥) → file_of bs ≡ None
+file_none [] h = refl
+file_none (b ∷ bs) h = let e : is_utf8 (b ∷ bs) ≡ false = false_from_ne_true _ (λ t. h (IsUtf8-from_is_utf8 _ t)) in rw e refl
+
+pub file_some : (bs : List ℕ) → eqb (length bs) 0 ≡ false → IsUtf8 bs → file_of bs ≡ Some (File bs)
+file_some [] h u = absurd cc
+file_some (b ∷ bs) h u = let e : is_utf8 (b ∷ bs) ≡ true = is_utf8-from_IsUtf8 _ u in rw e refl
+
+-- ---- a key is taken
+
+ignored_one : (key : Key) (v : Value) (old new : List Key) → new ≡ cond (is_ignored v) (old ++ key ∷ []) old → new ≡ old ++ ignored_keys ((key, v) ∷ [])
+unfolding ignored_keys
+ignored_one key v old new h = by_test (is_ignored v) h
+  where
+    by_test : (t : Bool) → new ≡ cond t (old ++ key ∷ []) old → new ≡ old ++ cond t (key ∷ []) []
+    by_test true k = k
+    by_test false k = k ∙ sym (append-nil old)
+
+pub taken_key : (old new : ParamsAre) (key : Key) (bs : List ℕ) (v : Value) → has key old.settings ≡ false → has_dollar key bs ≡ false → value_of key bs ≡ Some v
+    → new.settings ≡ old.settings ++ (key, v) ∷ [] → new.ignored ≡ cond (is_ignored v) (old.ignored ++ key ∷ []) old.ignored → HasTaken old new (key_means old.settings key bs)
+taken_key old new key bs v h d e s i = rw (h, d, e) (record { sound = tt; settings = s; ignored = ignored_one key v old.ignored new.ignored i })
+
+-- ---- lines that say nothing
+
+pub nothing_taken : (p : ParamsAre) (m : Meaning) → m ≡ Nothing → HasTaken p p m
+unfolding ignored_keys
+nothing_taken p m e = rw e (record { sound = tt; settings = sym (append-nil p.settings); ignored = sym (append-nil p.ignored) })
+
+pub comment_means : (before : Settings) (word rest : List ℕ) → length word ≤ 64 → spells word (codes "COMMENT") ≡ true → words_mean before word rest ≡ Nothing
+unfolding words_mean
+comment_means before word rest le s = cond-false _ _ _ (le-ltb _ _ le) ∙ cond-true _ _ _ s
+
+pub empty_means : (before : Settings) (line : List ℕ) → eqb (length line) 0 ≡ true → line_means before line ≡ Nothing
+unfolding line_means
+empty_means before [] h = refl
+empty_means before (b ∷ bs) h = absurd (let e = eqb-true _ _ h in omega (arith, e))
+
+pub hash_means : (before : Settings) (line : List ℕ) → eqb (length line) 0 ≡ false → get_or line 0 0 ≡ 35 → line_means before line ≡ Nothing
+unfolding line_means
+hash_means before [] h e = absurd cc
+hash_means before (b ∷ bs) h e = cond-true _ _ _ (eq-eqb _ _ e)

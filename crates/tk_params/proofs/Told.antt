@@ -1,0 +1,136 @@
+-- What a parameter reader tells.
+use Rattle.std.proofs.Common.{◌≡◌, ℕ, suc, eqb, leb, ltb, not, length, take, Bool, true, false, cond, List, [], ◌∷◌, ◌++◌, Option, Some, None, Result, Ok, Err, IfErr, ap, subst}
+use Rattle.std.specs.Prelude.{codes, unwrap_or}
+use Rattle.std.proofs.lemmas.Bool.{cond_both}
+use Rattle.tk_text.specs.declared.fault.TextFault.{TextFault}
+use Rattle.tk_text.specs.declared.fault.TextKind.{TextKind}
+use Rattle.tk_text.specs.declared.fault.TextKind.TheVariants as text
+use Rattle.tk_text.specs.Drive.{answer_of, line_behind, IsAnswerWhereTold, IsTold, IsToldKind}
+use Rattle.tk_text.specs.Lex.{Line, is_blank, is_letter, is_word_byte, front, behind, lines}
+use Rattle.tk_text.specs.Words.{spells}
+use Rattle.tk_params.specs.declared.fault.ParamFault.{ParamFault}
+use Rattle.tk_params.specs.declared.fault.ParamKind.{ParamKind}
+use Rattle.tk_params.specs.declared.fault.ParamKind.TheVariants as kinds
+use Rattle.tk_params.specs.declared.key.Key.{Key}
+use Rattle.tk_params.specs.declared.key.Key.TheVariants as keys
+use Rattle.tk_params.specs.Keys.{key_of}
+use Rattle.tk_params.specs.Values.{Settings, Value, Meaning, Nothing, Faulty, Sets, has, has_dollar, key_means, line_means, sets, settings_of, value_behind, value_of, word_means, words_mean}
+use Rattle.tk_params.specs.Params.{Answer, IsParamAnswerWhereTold, IsParamTold, IsParamToldKind, after, at_end, counted, is_end, line_limit, joined, judge, kind_of, params_decided, params_limit, said}
+
+-- ---- a text has no fault of reading
+
+abbrev IsOfText : ParamKind → Type 0
+IsOfText kinds.Read = ⊥
+IsOfText _ = Unit {0}
+
+abbrev OfMeaning : Meaning → Type 0
+OfMeaning (Faulty kind) = IsOfText kind
+OfMeaning _ = Unit {0}
+
+abbrev OfAnswer : Option Answer → Type 0
+OfAnswer (Some (Err f)) = IsOfText f.kind
+OfAnswer _ = Unit {0}
+
+abbrev OfResult : Result Answer TextFault → Type 0
+OfResult (Ok a) = OfAnswer (Some a)
+OfResult (Err f) = Unit {0}
+
+abbrev OfSaid : Option (Result Answer TextFault) → Type 0
+OfSaid None = Unit {0}
+OfSaid (Some r) = OfResult r
+
+sets_of_text : (key : Key) (v : Option Value) → OfMeaning (sets key v)
+sets_of_text key None = tt
+sets_of_text key (Some v) = tt
+
+key_of_text : (before : Settings) (key : Key) (bs : List ℕ) → OfMeaning (key_means before key bs)
+key_of_text before key bs = cond_both (has key before) _ _ OfMeaning (λ e. tt) (λ e. cond_both (has_dollar key bs) _ _ OfMeaning (λ d. tt) (λ d. sets_of_text key (value_of key bs)))
+
+word_of_text : (before : Settings) (key : Option Key) (bs : List ℕ) → OfMeaning (word_means before key bs)
+word_of_text before None bs = tt
+word_of_text before (Some key) bs = key_of_text before key (value_behind bs)
+
+two_tests : (a b : Bool) (x y z : Meaning) → OfMeaning x → OfMeaning y → OfMeaning z → OfMeaning (cond a x (cond b y z))
+two_tests true b x y z p q r = p
+two_tests false true x y z p q r = q
+two_tests false false x y z p q r = r
+
+words_of_text : (before : Settings) (word rest : List ℕ) → OfMeaning (words_mean before word rest)
+unfolding words_mean
+words_of_text before word rest = two_tests (ltb 64 (length word)) (spells word (codes "COMMENT")) (Faulty kinds.TooLong) Nothing (word_means before (key_of word) rest) tt tt (word_of_text before (key_of word) rest)
+
+line_of_text : (before : Settings) (bs : List ℕ) → OfMeaning (line_means before bs)
+unfolding line_means
+line_of_text before [] = tt
+line_of_text before (b ∷ bs) =
+    let word = front is_word_byte (b ∷ bs) in
+    let rest = behind is_word_byte (b ∷ bs) in
+    two_tests (eqb b 35) (not (is_letter b)) Nothing (Faulty kinds.UnknownKey) (words_mean before word rest) tt tt (words_of_text before word rest)
+
+end_of_text : (n : ℕ) (before : Settings) → OfAnswer (Some (at_end n before))
+end_of_text n before = cond_both (has keys.ProblemFile before) _ _ (λ a. OfAnswer (Some a)) (λ e. tt) (λ e. tt)
+
+after_of_text : (n : ℕ) (m : Meaning) (r : Option Answer) → OfMeaning m → OfAnswer r → OfAnswer (after n m r)
+after_of_text n Nothing r h k = k
+after_of_text n (Faulty kind) r h k = h
+after_of_text n (Sets key value) r h k = k
+
+three_tests : (a b c : Bool) (x y z w : Option Answer) → OfAnswer x → OfAnswer y → OfAnswer z → OfAnswer w → OfAnswer (cond a x (cond b y (cond c z w)))
+three_tests true b c x y z w p q r s = p
+three_tests false true c x y z w p q r s = q
+three_tests false false true x y z w p q r s = r
+three_tests false false false x y z w p q r s = s
+
+judge_of_text : (n : ℕ) (before : Settings) (ls : List Line) → OfAnswer (judge n before ls)
+unfolding judge
+judge_of_text n before [] = end_of_text n before
+judge_of_text n before (l ∷ ls) =
+    let m = line_means before (behind is_blank l.bytes) in
+    let rest = judge l.number (before ++ settings_of m) ls in
+    three_tests (ltb line_limit (counted l)) (is_end l) (not l.whole) (Some (Err (record { line = l.number; kind = kinds.TooLong }))) (Some (at_end l.number before)) None (after l.number m rest)
+    tt (end_of_text l.number before) tt (after_of_text l.number m rest (line_of_text before (behind is_blank l.bytes)) (judge_of_text l.number (before ++ settings_of m) ls))
+
+said_of_text : (o : Option Answer) → OfAnswer o → OfSaid (said o)
+said_of_text None h = tt
+said_of_text (Some a) h = h
+
+unwrapped : (o : Option (Result Answer TextFault)) (f : TextFault) → OfSaid o → OfResult (unwrap_or o (Err f))
+unwrapped None f h = tt
+unwrapped (Some r) f h = h
+
+decided_of_text : (e : Bool) (bs : List ℕ) → OfSaid (params_decided e bs)
+unfolding params_decided
+decided_of_text e bs = said_of_text (judge 1 [] (lines e 1 bs)) (judge_of_text 1 [] (lines e 1 bs))
+
+answer_of_text : (bs : List ℕ) → OfResult (answer_of params_decided params_limit bs)
+unfolding answer_of
+answer_of_text bs =
+    unwrapped (cond (leb (length bs) params_limit) (params_decided true bs) (params_decided false (take (suc params_limit) bs))) (record { line = line_behind (take params_limit bs); kind = text.TooLong })
+    (cond_both (leb (length bs) params_limit) (params_decided true bs) (params_decided false (take (suc params_limit) bs)) OfSaid (λ e. decided_of_text true bs) (λ e. decided_of_text false (take (suc params_limit) bs)))
+
+-- ---- what is told
+
+pub where_told : (old new : Option (List ℕ)) (r : Result Answer TextFault) → IsAnswerWhereTold params_decided params_limit old new r → IsParamAnswerWhereTold old new (joined r)
+where_told None new r h = tt
+where_told (Some bs) new r h =
+    (h.0, h.1, record { read = h.2.read; parts = h.2.parts; answer = ap joined h.2.answer; unread = λ ne more. ap joined (h.2.unread ne more) })
+
+told_kind : (R : Type 0) (P : Answer → Type 0) (f : ParamFault) (k : ParamKind) → IsOfText k → P (Err f) → IsParamToldKind R P f k
+told_kind R P f kinds.NoMemory h p = tt
+told_kind R P f kinds.Read h p = absurd h
+told_kind R P f _ h p = p
+
+pub told_answer : (R : Type 0) (old new : Option (List ℕ)) (a : Answer) → ((bs : List ℕ) × (answer_of params_decided params_limit bs ≡ Ok a)) → IsAnswerWhereTold params_decided params_limit old new (Ok a)
+    → IfErr a (IsParamTold R (IsParamAnswerWhereTold old new))
+told_answer R old new (Ok p) t h = tt
+told_answer R old new (Err f) t h = told_kind R (IsParamAnswerWhereTold old new) f f.kind (subst OfResult t.1 (answer_of_text t.0)) (where_told old new (Ok (Err f)) h)
+
+refused_kind : (R : Type 0) (old new : Option (List ℕ)) (f : TextFault) (k : TextKind) → IsToldKind R (IsAnswerWhereTold params_decided params_limit old new) f k
+    → IsParamToldKind R (IsParamAnswerWhereTold old new) (record { line = f.line; kind = kind_of k }) (kind_of k)
+refused_kind R old new f text.NoMemory h = tt
+refused_kind R old new f text.Read h = h
+refused_kind R old new f _ h = where_told old new (Err f) h
+
+pub told_fault : (R : Type 0) (old new : Option (List ℕ)) (f : TextFault) → IsTold R (IsAnswerWhereTold params_decided params_limit old new) f
+    → IsParamTold R (IsParamAnswerWhereTold old new) (record { line = f.line; kind = kind_of f.kind })
+told_fault R old new f h = refused_kind R old new f f.kind h

@@ -1,0 +1,110 @@
+-- Parameter texts (K. Helsgaun, LKH user guide; the limits and the keys are this project's).
+use Rattle.std.specs.Prelude.{◌≡◌, ◌≢◌, ℕ, ◌-◌, Bool, not, ◌&&◌, ◌||◌, nat_lt, List, [], ◌∷◌, ◌++◌, length, Option, Some, None, Result, Ok, Err, IfSome, if◌then◌else◌, codes}
+use Rattle.tk_text.specs.declared.fault.TextFault.{TextFault}
+use Rattle.tk_text.specs.declared.fault.TextKind.{TextKind}
+use Rattle.tk_text.specs.declared.fault.TextKind.TheVariants as text
+use Rattle.tk_text.specs.Drive.{Decided, answer_of}
+use Rattle.tk_text.specs.Lex.{Line, is_blank, is_word_byte, is_empty, front, behind, lines}
+use Rattle.tk_text.specs.Words.{spells}
+use Rattle.tk_params.specs.declared.fault.ParamFault.{ParamFault}
+use Rattle.tk_params.specs.declared.fault.ParamKind.{ParamKind}
+use Rattle.tk_params.specs.declared.fault.ParamKind.TheVariants as kinds
+use Rattle.tk_params.specs.declared.key.Key.TheVariants as keys
+use Rattle.tk_params.specs.Values.{Settings, ParamsAre, params_of, Meaning, Faulty, settings_of, has, line_means}
+
+abbrev pub line_limit : ℕ
+line_limit = 4096
+
+-- the most bytes of a text
+abbrev pub params_limit : ℕ
+params_limit = 1048576
+
+-- what a text or a fault is
+abbrev pub Answer : Type 0
+Answer = Result ParamsAre ParamFault
+
+-- the word of a line, and what stands behind it
+abbrev pub word_of : List ℕ → List ℕ
+word_of bs = front is_word_byte (behind is_blank bs)
+
+abbrev pub behind_word : List ℕ → List ℕ
+behind_word bs = behind is_word_byte (behind is_blank bs)
+
+abbrev pub is_eof : List ℕ → Bool
+is_eof word = spells word (codes "EOF")
+
+-- at this line the text ends, whatever follows
+abbrev pub is_end : Line → Bool
+is_end l = is_eof (word_of l.bytes) && (l.whole || not (is_empty (behind_word l.bytes)))
+
+-- the bytes of a line that count: of the line of EOF those up to the end of EOF
+abbrev pub counted : Line → ℕ
+counted l = length l.bytes - (if is_end l then length (behind_word l.bytes) else 0)
+
+abbrev pub at_end : ℕ → Settings → Answer
+at_end n before = if has keys.ProblemFile before then Ok (params_of before) else Err (record { line = n; kind = kinds.MissingProblem })
+
+abbrev pub after : ℕ → Meaning → Option Answer → Option Answer
+after n (Faulty kind) rest = Some (Err (record { line = n; kind = kind }))
+after n _ rest = rest
+
+-- what lines say behind these settings, of which the last before them has number n; None where later bytes decide
+unfoldable pub judge : ℕ → Settings → List Line → Option Answer
+judge n before [] = Some (at_end n before)
+judge n before (l ∷ ls) =
+    let means = line_means before (behind is_blank l.bytes) in
+    let rest = judge l.number (before ++ settings_of means) ls in
+    if nat_lt line_limit (counted l) then Some (Err (record { line = l.number; kind = kinds.TooLong }))
+    else (if is_end l then Some (at_end l.number before)
+    else (if not l.whole then None
+    else after l.number means rest))
+
+-- a fault of the text is what it says
+abbrev pub said : Option Answer → Option (Result Answer TextFault)
+said None = None
+said (Some a) = Some (Ok a)
+
+-- what bytes say, as a text that begins with them
+unfoldable pub params_decided : Decided Answer
+params_decided ended bs = said (judge 1 [] (lines ended 1 bs))
+
+-- a text that is too long has that fault
+abbrev pub joined : Result Answer TextFault → Answer
+joined (Ok a) = a
+joined (Err f) = Err (record { line = f.line; kind = kinds.TooLong })
+
+-- the answer to a text. Of one that is too long, only what its bytes up to and with the first too many decide counts
+abbrev pub params_answer : List ℕ → Answer
+params_answer text = joined (answer_of params_decided params_limit text)
+
+-- what a reader answered, by the text and what is left of it: it is the text's answer, and where not all of the text
+-- was read, it is the answer to every text that begins with the bytes read
+pub record IsParamAnswer (text rest : List ℕ) (a : Answer) : Type 0 where
+  pub read : List ℕ
+  pub parts : text ≡ read ++ rest
+  pub answer : params_answer text ≡ a
+  pub unread : rest ≢ [] → (more : List ℕ) → params_answer (read ++ more) ≡ a
+
+-- the same where the bytes are told
+abbrev pub IsParamAnswerWhereTold : Option (List ℕ) → Option (List ℕ) → Answer → Type 0
+IsParamAnswerWhereTold old new a = IfSome old (λ text. (rest : List ℕ) × (new ≡ Some rest) × IsParamAnswer text rest a)
+
+-- a fault other than of memory is an answer with P, or one of reading under R
+abbrev pub IsParamToldKind : Type 0 → (Answer → Type 0) → ParamFault → ParamKind → Type 0
+IsParamToldKind R P f kinds.NoMemory = Unit {0}
+IsParamToldKind R P f kinds.Read = R
+IsParamToldKind R P f _ = P (Err f)
+
+abbrev pub IsParamTold : Type 0 → (Answer → Type 0) → ParamFault → Type 0
+IsParamTold R P f = IsParamToldKind R P f f.kind
+
+-- what a fault of the source, of memory or of the text's limit is
+abbrev pub kind_of : TextKind → ParamKind
+kind_of text.Read = kinds.Read
+kind_of text.NoMemory = kinds.NoMemory
+kind_of _ = kinds.TooLong
+
+-- but for a fault of reading, the source is as whole as before
+abbrev pub IsParamIntact : {V : Type 0} → Bool → Bool → Result V ParamFault → Type 0
+IsParamIntact old new (Ok v) = new ≡ old
+IsParamIntact old new (Err f) = f.kind ≢ kinds.Read → new ≡ old

@@ -1,0 +1,17 @@
+//! Parameter files: the settings of a search, read from any source, with the faults of the text and their lines.
+#![tactic(auto)]
+
+mod fault;
+mod key;
+mod line;
+mod params;
+mod reader;
+#[cfg(test)]
+mod tests;
+mod value;
+
+pub use fault::{ParamFault, ParamKind};
+pub use key::Key;
+pub use params::Params;
+pub use reader::read_params;
+pub use value::Construction;

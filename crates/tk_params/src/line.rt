@@ -1,0 +1,124 @@
+//! A line of a parameter file.
+ghost use Rattle.std.specs.Prelude.{◌≡◌, ◌≤◌, List, length, take, drop, OnOk, IfErr};
+ghost use Rattle.tk_text.specs.Lex.{behind, front, is_blank, is_word_byte, trim_end};
+ghost use Rattle.tk_params.specs.Readers.{HasTaken, IsToldOf};
+ghost use Rattle.tk_params.specs.Values;
+
+use crate::fault::ParamKind;
+use crate::key::{Key, key_of};
+use crate::params::Params;
+use crate::value::setting_of;
+use std::alloc::Global;
+use tk_text::{blank, letter, spelled, word_byte};
+
+/// The most bytes of a key.
+const KEY_LIMIT: usize = 64;
+
+/// How many bytes of a word stand at the front.
+fn word_end(line: &[u8]) -> usize
+    ensures within { result ≤ length line.now }
+    ensures word { take result line.now ≡ front is_word_byte line.now }
+    ensures rest { drop result line.now ≡ behind is_word_byte line.now }
+{
+    for i in 0..line.len() {
+        if !word_byte(line[i]) {
+            return i;
+        }
+    }
+    line.len()
+}
+
+/// The bytes without the blanks at their front.
+fn without_blanks(bytes: &[u8]) -> &[u8]
+    ensures { result.now ≡ behind is_blank bytes.now }
+{
+    for i in 0..bytes.len() {
+        if !blank(bytes[i]) {
+            return &bytes[i..];
+        }
+    }
+    &bytes[bytes.len()..]
+}
+
+/// The bytes without the blanks at their end.
+fn trimmed(bytes: &[u8]) -> &[u8]
+    ensures { result.now ≡ trim_end bytes.now }
+{
+    let mut end = bytes.len();
+    while end > 0 && blank(bytes[end - 1]) {
+        end -= 1;
+    }
+    &bytes[..end]
+}
+
+/// The value behind a key: blanks, at most one equals sign, and the value between blanks.
+fn value_behind(bytes: &[u8]) -> &[u8]
+    ensures { result.now ≡ Values.value_behind bytes.now }
+{
+    match without_blanks(bytes) {
+        [b'=', value @ ..] => trimmed(without_blanks(value)),
+        value => trimmed(without_blanks(value)),
+    }
+}
+
+/// Whether the value is a file name with a `$`.
+fn has_dollar(key: Key, value: &[u8]) -> bool
+    ensures { result ≡ Values.has_dollar key value.now }
+{
+    key.is_file() && value.contains(&b'$')
+}
+
+/// Takes a key and its value.
+fn take_key(alloc: Global, params: &mut Params, key: Key, value: &[u8]) -> Result<(), ParamKind>
+    ensures ok { OnOk result (HasTaken params.old params.new (Values.key_means params.old.settings key value.now)) }
+    ensures err { IfErr result (IsToldOf (λ k. Values.key_means params.old.settings key value.now ≡ Values.Faulty k)) }
+{
+    if params.has(key) {
+        return Err(ParamKind::RepeatedKey);
+    }
+    if has_dollar(key, value) {
+        return Err(ParamKind::DollarInName);
+    }
+    let setting = setting_of(alloc, key, value)?;
+    match params.set(key, setting) {
+        Ok(()) => Ok(()),
+        Err(_) => Err(ParamKind::NoMemory),
+    }
+}
+
+/// Takes a line that begins with this word.
+#[tactic(auto, unfolding(crate::specs::Values::words_mean))]
+fn take_words(alloc: Global, params: &mut Params, word: &[u8], rest: &[u8]) -> Result<(), ParamKind>
+    ensures ok { OnOk result (HasTaken params.old params.new (Values.words_mean params.old.settings word.now rest.now)) }
+    ensures err { IfErr result (IsToldOf (λ k. Values.words_mean params.old.settings word.now rest.now ≡ Values.Faulty k)) }
+{
+    if word.len() > KEY_LIMIT {
+        return Err(ParamKind::TooLong);
+    }
+    if spelled(word, b"COMMENT") {
+        return Ok(());
+    }
+    let Some(key) = key_of(word) else {
+        return Err(ParamKind::UnknownKey);
+    };
+    take_key(alloc, params, key, value_behind(rest))
+}
+
+/// Takes a line that is not the one of EOF, without the blanks at its front.
+#[tactic(auto, unfolding(crate::specs::Values::line_means))]
+pub fn take_line(alloc: Global, params: &mut Params, line: &[u8]) -> Result<(), ParamKind>
+    ensures ok { OnOk result (HasTaken params.old params.new (Values.line_means params.old.settings line.now)) }
+    ensures err { IfErr result (IsToldOf (λ k. Values.line_means params.old.settings line.now ≡ Values.Faulty k)) }
+{
+    if line.is_empty() {
+        return Ok(());
+    }
+    if line[0] == b'#' {
+        return Ok(());
+    }
+    if !letter(line[0]) {
+        return Err(ParamKind::UnknownKey);
+    }
+    let end = word_end(line);
+    take_words(alloc, params, &line[..end], &line[end..])
+}

@@ -1,0 +1,131 @@
+//! The values of a parameter file's keys.
+ghost use Rattle.std.specs.Prelude.{◌≡◌, false, Some, None, IfOk, IfErr, option_map};
+ghost use Rattle.tk_params.specs.Keys;
+ghost use Rattle.tk_params.specs.Readers.{IsToldOf, value_is};
+ghost use Rattle.tk_params.specs.Values;
+ghost use Rattle.tk_params.specs.declared.fault.ParamKind.TheVariants as kinds;
+
+use crate::fault::ParamKind;
+use crate::key::Key;
+use std::alloc::Global;
+use tk_text::{integer, spelled};
+
+/// How the tour is made that a run begins with.
+#[derive(Clone, Copy, Debug, PartialEq, Eq)]
+pub enum Construction {
+    /// By nearest neighbours.
+    Nearest,
+    /// By savings.
+    Savings,
+}
+
+/// What a key says.
+#[derive(Debug, Drop)]
+pub enum Setting {
+    File(String),
+    Number(u32),
+    Construction(Construction),
+    Switch(bool),
+    Ignored,
+}
+
+impl Setting {
+    /// Whether the key is read and not used.
+    pub fn is_ignored(&self) -> bool
+        ensures { result ≡ Values.is_ignored (value_is self.now) }
+    {
+        match self {
+            Setting::Ignored => true,
+            _ => false,
+        }
+    }
+}
+
+/// The value as an integer within limits, with nothing after it.
+fn number_of(value: &[u8], low: u32, high: u32) -> Option<u32>
+    ensures { result ≡ Values.number_of low high value.now }
+{
+    let number = u32::try_from(integer(value)?).ok()?;
+    if number < low || number > high {
+        return None;
+    }
+    Some(number)
+}
+
+/// The construction that the value spells.
+fn construction_of(value: &[u8]) -> Option<Construction>
+    ensures { result ≡ Values.construction_of value.now }
+{
+    if spelled(value, b"NEAREST") {
+        return Some(Construction::Nearest);
+    }
+    if spelled(value, b"SAVINGS") {
+        return Some(Construction::Savings);
+    }
+    None
+}
+
+/// Whether the value says yes or no.
+fn switch_of(value: &[u8]) -> Option<bool>
+    ensures { result ≡ Values.switch_of value.now }
+{
+    if spelled(value, b"YES") {
+        return Some(true);
+    }
+    if spelled(value, b"NO") {
+        return Some(false);
+    }
+    None
+}
+
+/// The value as a file name.
+fn file_of(alloc: Global, value: &[u8]) -> Result<Setting, ParamKind>
+    ensures ok { IfOk result (λ s. Values.file_of value.now ≡ Some (value_is s)) }
+    ensures err { IfErr result (IsToldOf (λ k. (k ≡ kinds.BadValue) × (Values.file_of value.now ≡ None))) }
+{
+    if value.is_empty() {
+        return Err(ParamKind::BadValue);
+    }
+    let Ok(name) = std::str::from_utf8(value) else {
+        return Err(ParamKind::BadValue);
+    };
+    match String::from_str(alloc, name) {
+        Ok(name) => Ok(Setting::File(name)),
+        Err(_) => Err(ParamKind::NoMemory),
+    }
+}
+
+/// A number within limits.
+fn numeric(value: &[u8], low: u32, high: u32) -> Option<Setting>
+    ensures { option_map value_is result ≡ option_map Values.Number (Values.number_of low high value.now) }
+{
+    Some(Setting::Number(number_of(value, low, high)?))
+}
+
+/// What a key says that is no file.
+fn plain_of(key: Key, value: &[u8]) -> Option<Setting>
+    requires { Keys.is_file key ≡ false }
+    ensures { option_map value_is result ≡ Values.value_of key value.now }
+{
+    match key {
+        Key::Runs => numeric(value, 1, 10_000),
+        Key::MaxTrials => numeric(value, 1, 1_000_000),
+        Key::Seed => numeric(value, 0, u32::MAX),
+        Key::MaxCandidates => numeric(value, 1, 100),
+        Key::OrSegment => numeric(value, 1, 3),
+        Key::Construction => Some(Setting::Construction(construction_of(value)?)),
+        Key::FinalSweep => Some(Setting::Switch(switch_of(value)?)),
+        _ => Some(Setting::Ignored),
+    }
+}
+
+/// What a key says with this value.
+pub fn setting_of(alloc: Global, key: Key, value: &[u8]) -> Result<Setting, ParamKind>
+    ensures ok { IfOk result (λ s. Values.value_of key value.now ≡ Some (value_is s)) }
+    ensures err { IfErr result (IsToldOf (λ k. (k ≡ kinds.BadValue) × (Values.value_of key value.now ≡ None))) }
+{
+    if key.is_file() {
+        return file_of(alloc, value);
+    }
+    plain_of(key, value).ok_or(ParamKind::BadValue)
+}

@@ -1,7 +1,0 @@
-use Rattle.std.proofs.Common.{◌∙◌, sym, arith}
-use Rattle.tourkit.proofs.ParamLooks.{comment_means, nothing_taken}
-use Rattle.tourkit.proofs.param_line.take_words.Goals as goal
-
-pub returns-then-spelled-clause-ok : goal.returns-then-spelled-clause-ok
-returns-then-spelled-clause-ok c =
-    nothing_taken c.args.params.now _ (comment_means c.args.params.now.settings c.args.word.now c.args.rest.now (omega (arith, c.if-word-gt-KEY_LIMIT.false)) (sym c.spelled.ensures ∙ c.if-spelled.true))
