@@ -1,12 +1,11 @@
 //! The subcommand `check`.
-use crate::check::check_engine;
 use crate::command::problem_file;
-use crate::fault::Fault;
 use crate::report::{self, FOUND, USAGE};
 use clap::{Arg, ArgMatches, Command, Error};
 use std::alloc::Global;
 use std::fs::File;
 use std::process::ExitCode;
+use tk_engines::{Fault, check_engine};
 use tk_text::{FromRead, ToWrite};
 use tk_tour::Verdict;
 

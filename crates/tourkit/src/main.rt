@@ -1,16 +1,11 @@
 //! `tourkit`: symmetric travelling salesman problems and tours, read alike and checked.
 #![tactic(auto)]
 
-mod check;
 mod check_command;
 mod command;
-mod fault;
-mod matrix;
 mod matrix_command;
-mod near;
 mod near_command;
 mod report;
-mod verdict_line;
 
 use clap::error::ErrorKind;
 use clap::{ArgMatches, Error};

@@ -4,13 +4,13 @@ ghost use Rattle.tk_text.specs.MatrixText.{format_word};
 ghost use Rattle.tk_text.specs.declared.weights.Format.{Format};
 
 use crate::command::problem_file;
-use crate::matrix::matrix_engine;
 use crate::report::{self, USAGE};
 use clap::builder::ValueParser;
 use clap::{Arg, ArgMatches, Command, Error};
 use std::alloc::Global;
 use std::fs::File;
 use std::process::ExitCode;
+use tk_engines::matrix_engine;
 use tk_text::{Format, FromRead, ToWrite};
 
 /// The words of the formats.

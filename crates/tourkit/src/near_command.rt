@@ -1,12 +1,12 @@
 //! The subcommand `near`.
 use crate::command::problem_file;
-use crate::near::near_engine;
 use crate::report::{self, USAGE};
 use clap::builder::ValueParser;
 use clap::{Arg, ArgMatches, Command, Error};
 use std::alloc::Global;
 use std::fs::File;
 use std::process::ExitCode;
+use tk_engines::near_engine;
 use tk_text::{FromRead, ToWrite};
 
 /// The words of `near`.

@@ -1,7 +1,7 @@
 //! What standard error and the exit status tell.
-use crate::fault::Fault;
 use std::io;
 use std::process::ExitCode;
+use tk_engines::Fault;
 use tk_text::{TextFault, TextKind};
 
 /// A check found a fault.

@@ -1,0 +1,24 @@
+-- The matrix of a problem.
+use Rattle.std.specs.Prelude.{◌≡◌, ℕ, ◌≤◌, true, List, Some, None, Ok}
+use Rattle.tk_text.specs.declared.weights.Format.{Format}
+use Rattle.tk_text.specs.MatrixText.{matrix_text}
+use Rattle.tk_text.specs.Problem.{ProblemIs, Lower, problem_decided}
+use Rattle.tk_text.specs.ReadBack.{lower_triangle}
+use Rattle.tk_engines.specs.Check.{read_distance}
+
+abbrev pub matrix_of : ProblemIs → Format → List ℕ
+matrix_of p format = matrix_text p.name p.n (read_distance p.weights) format
+
+-- the TSP of a problem's name and its distances
+abbrev pub by_distances : ProblemIs → ProblemIs
+by_distances p = record { name = p.name; n = p.n; weights = Lower (lower_triangle p.n (read_distance p.weights)); routing = None }
+
+-- read, a text says this problem
+abbrev pub IsReadAs : List ℕ → ProblemIs → Type 0
+IsReadAs text p = problem_decided true text ≡ Some (Ok p)
+
+-- the text of a problem's matrix, which is read as the problem's distances
+pub record IsMatrixText (format : Format) (p : ProblemIs) (text : List ℕ) : Type 0 where
+  pub few : p.n ≤ 5000
+  pub is : text ≡ matrix_of p format
+  pub read_back : IsReadAs text (by_distances p)

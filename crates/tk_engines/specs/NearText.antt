@@ -1,0 +1,20 @@
+-- The text of a problem's near lists.
+use Rattle.std.specs.Prelude.{◌≡◌, ℕ, ◌-◌, min, List, flat_map}
+use Rattle.std.specs.List.{range_with_len}
+use Rattle.tk_metric.specs.Near.{NearLists, AreNearest, near_of}
+use Rattle.tk_text.specs.Problem.{ProblemIs}
+use Rattle.tk_text.specs.Written.{near_line}
+use Rattle.tk_engines.specs.Check.{read_distance}
+
+-- a line for each city
+abbrev pub near_text : NearLists → List ℕ
+near_text v = flat_map (λ c. near_line c (near_of v c)) (range_with_len 1 v.size)
+
+-- the near lists of a problem: k cities each, or all others where there are fewer
+pub record IsNearOf (p : ProblemIs) (k : ℕ) (v : NearLists) : Type 0 where
+  pub size : v.size ≡ p.n
+  pub width : v.width ≡ min k (p.n - 1)
+  pub near : AreNearest (read_distance p.weights) v
+
+abbrev pub IsNearText : ℕ → ProblemIs → List ℕ → Type 0
+IsNearText k p text = (v : NearLists) × IsNearOf p k v × (text ≡ near_text v)

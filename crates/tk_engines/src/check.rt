@@ -1,0 +1,156 @@
+//! The check of a tour.
+ghost use Rattle.std.specs.Prelude.{◌≡◌, true, Ok, Err, IfOk, IfErr};
+ghost use Rattle.tk_text.specs.Problem.{problem_decided};
+ghost use Rattle.tk_text.specs.Puts.{Stops};
+ghost use Rattle.tk_text.specs.Tour.{tour_decided};
+ghost use Rattle.tk_engines.specs.Check.{IsChecked, IsStopped};
+ghost use Rattle.tk_engines.specs.Engine.{IsRead, IsRefused, IsUntouched, Took, UnlessWrite, AtWrite, AtProblem};
+
+use crate::fault::Fault;
+use crate::verdict_line::write_verdict;
+use std::alloc::Global;
+use tk_text::{Sink, Source, read_problem, read_tour};
+use tk_tour::{Verdict, check};
+
+/// Checks the tour of one text against the problem of another, writes one line on it, and returns the verdict.
+///
+/// Both texts are read before a byte is written.
+///
+/// # Errors
+/// The fault of either text, of writing, or of memory.
+pub fn check_engine<P: Source, T: Source, W: Sink>(
+    alloc: Global,
+    problem: &mut P,
+    tour: &mut T,
+    out: &mut W,
+) -> Result<Verdict, Fault>
+    ensures ok { IfOk result (IsChecked (IsRead P.left P.broken problem_decided problem.old problem.new) (IsRead T.left T.broken tour_decided tour.old tour.new)
+        (Took W.taken W.broken out.old out.new)) }
+    ensures err { IfErr result (IsStopped (IsRead P.left P.broken problem_decided problem.old problem.new) (IsRefused P.left P.broken problem_decided problem.old problem.new)
+        (IsRead T.left T.broken tour_decided tour.old tour.new) (IsRefused T.left T.broken tour_decided tour.old tour.new)
+        (λ f line. Stops W.taken W.broken (W.taken out.old) line out.new f)) }
+    ensures quiet { IfErr result (UnlessWrite (IsUntouched W.taken W.broken out.old out.new)) }
+    ensures failed { IfErr result (AtWrite (W.broken out.new ≡ true)) }
+    ensures unread { IfErr result (AtProblem (IsUntouched T.left T.broken tour.old tour.new)) }
+{
+    let problem = match read_problem(alloc, problem) {
+        Ok(problem) => problem,
+        Err(fault) => return Err(Fault::Problem(fault)),
+    };
+    let tour = match read_tour(alloc, tour) {
+        Ok(tour) => tour,
+        Err(fault) => return Err(Fault::Tour(fault)),
+    };
+    let Ok(verdict) = check(alloc, problem.n, &tour.cities) else {
+        return Err(Fault::NoMemory);
+    };
+    match write_verdict(out, &problem, &tour.cities, verdict) {
+        Ok(()) => Ok(verdict),
+        Err(fault) => Err(Fault::Write(fault)),
+    }
+}
+
+#[cfg(test)]
+mod tests {
+    use super::*;
+    use std::test::Fail;
+    use tk_text::{FromRead, Keyword, TextFault, TextKind, ToWrite, WriteFault};
+
+    const TRI: &[u8] =
+        b"NAME : p\nTYPE : TSP\nDIMENSION : 3\nEDGE_WEIGHT_TYPE : EUC_2D\nNODE_COORD_SECTION\n1 0 0\n2 3 0\n3 0 4\nEOF\n";
+
+    const SQUARE: &[u8] =
+        b"NAME : p\nTYPE : TSP\nDIMENSION : 4\nEDGE_WEIGHT_TYPE : EUC_2D\nNODE_COORD_SECTION\n1 0 0\n2 10 10\n3 10 0\n4 0 10\nEOF\n";
+
+    const MATRIX: &[u8] =
+        b"TYPE : TSP\nDIMENSION : 4\nEDGE_WEIGHT_TYPE : EXPLICIT\nEDGE_WEIGHT_FORMAT : UPPER_ROW\nEDGE_WEIGHT_SECTION\n1 2 3 4 5 6\nEOF\n";
+
+    /// What the engine answers and what it writes.
+    fn checked(alloc: Global, problem: &[u8], tour: &[u8]) -> (Result<Verdict, Fault>, Vec<u8>) {
+        let mut problem = FromRead::new(problem);
+        let mut tour = FromRead::new(tour);
+        let mut out = ToWrite::new(Vec::new(alloc));
+        let answer = check_engine(alloc, &mut problem, &mut tour, &mut out);
+        (answer, out.inner)
+    }
+
+    #[test]
+    fn tells_the_length_of_a_tour(rt: HostRuntime) {
+        let (answer, line) = checked(rt.alloc(), TRI, b"TYPE : TOUR\nTOUR_SECTION\n1 2 3 -1\n");
+        assert_eq!(rt; answer, Ok(Verdict::Tour));
+        assert_eq!(rt;
+            line.as_slice(),
+            b"tour of 3 cities, length 12\n".as_slice()
+        );
+        let (answer, line) = checked(
+            rt.alloc(),
+            MATRIX,
+            b"TYPE : TOUR\nTOUR_SECTION\n1 2 3 4 -1\n",
+        );
+        assert_eq!(rt; answer, Ok(Verdict::Tour));
+        assert_eq!(rt;
+            line.as_slice(),
+            b"tour of 4 cities, length 14\n".as_slice()
+        );
+    }
+
+    #[test]
+    fn tells_the_first_fault_of_a_list(rt: HostRuntime) {
+        let (answer, line) = checked(
+            rt.alloc(),
+            SQUARE,
+            b"TYPE : TOUR\nTOUR_SECTION\n1 2 2 4 -1\n",
+        );
+        assert_eq!(rt; answer, Ok(Verdict::RepeatedCity(3)));
+        assert_eq!(rt;
+            line.as_slice(),
+            b"repeated city at place 3: 2\n".as_slice()
+        );
+        let (answer, line) = checked(
+            rt.alloc(),
+            SQUARE,
+            b"TYPE : TOUR\nTOUR_SECTION\n1 2 3 5 -1\n",
+        );
+        assert_eq!(rt; answer, Ok(Verdict::OutOfRange(4)));
+        assert_eq!(rt; line.as_slice(), b"out of range at place 4: 5\n".as_slice());
+        let (answer, line) = checked(
+            rt.alloc(),
+            SQUARE,
+            b"TYPE : TOUR\nTOUR_SECTION\n1 2 3 4 1 -1\n-1\n",
+        );
+        assert_eq!(rt; answer, Ok(Verdict::WrongCount));
+        assert_eq!(rt;
+            line.as_slice(),
+            b"wrong count: 4 wanted, 5 read\n".as_slice()
+        );
+    }
+
+    #[test]
+    fn writes_nothing_on_a_faulty_text(rt: HostRuntime) {
+        let (answer, line) = checked(rt.alloc(), b"TYPE : ATSP\n", b"TYPE : CVRP\n");
+        let fault = TextFault {
+            line: 1,
+            kind: TextKind::Unsupported,
+        };
+        assert_eq!(rt; answer, Err(Fault::Problem(fault)));
+        assert!(rt; line.is_empty());
+        let (answer, line) = checked(rt.alloc(), TRI, b"TYPE : TOUR\n");
+        let fault = TextFault {
+            line: 2,
+            kind: TextKind::Missing(Keyword::TourSection),
+        };
+        assert_eq!(rt; answer, Err(Fault::Tour(fault)));
+        assert!(rt; line.is_empty());
+    }
+
+    #[test]
+    fn says_how_much_of_the_line_went_out(rt: HostRuntime) {
+        let mut problem = FromRead::new(TRI);
+        let mut tour = FromRead::new(b"TYPE : TOUR\nTOUR_SECTION\n1 2 3 -1\n".as_slice());
+        let mut room = [0; 5];
+        let mut out = ToWrite::new(room.as_mut_slice());
+        let answer = check_engine(rt.alloc(), &mut problem, &mut tour, &mut out);
+        assert_eq!(rt; answer, Err(Fault::Write(WriteFault { written: 5 })));
+        assert!(rt; out.failed());
+    }
+}

@@ -1,4 +1,0 @@
-pub mod Check
-pub mod Engine
-pub mod MatrixOf
-pub mod NearText
