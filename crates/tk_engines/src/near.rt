@@ -9,7 +9,7 @@ ghost use Rattle.tk_engines.specs.NearText.{IsNearOf, IsNearText, near_text};
 
 use crate::fault::Fault;
 use std::alloc::{AllocError, Global};
-use tk_metric::{Near, Table, near_scan, near_sweep};
+use tk_metric::{Near, Table, near_scan, near_tree};
 use tk_text::{Pen, Problem, Sink, Source, WriteFault, read_problem};
 
 /// The near lists of a problem: k cities each, or all others where there are fewer.
@@ -20,7 +20,7 @@ fn near_lists(alloc: Global, problem: &Problem, k: u32) -> Result<Near, AllocErr
 {
     let k = k.min(problem.n - 1);
     match Table::of(problem) {
-        Table::Planes(planes) => near_sweep(alloc, &planes, k),
+        Table::Planes(planes) => near_tree(alloc, &planes, k),
         Table::Triangle(triangle) => near_scan(alloc, &triangle, k),
     }
 }
