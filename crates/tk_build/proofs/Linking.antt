@@ -1,11 +1,9 @@
 -- The list of the cities that are left without one of them, and a search along it.
-use Rattle.std.proofs.Common.{◌≡◌, ◌≢◌, ℕ, ◌+◌, ◌-◌, ◌<◌, ◌≤◌, ◌⊎◌, ⊎_elim, inl, inr, List, length, refl, sym, ap, ◌∙◌, arith, subst}
-use Rattle.std.specs.Prelude.{slice_index}
+use Rattle.std.proofs.Common.{◌≡◌, ◌≢◌, ℕ, ◌+◌, ◌-◌, ◌<◌, ◌≤◌, ◌⊎◌, ⊎_elim, inl, inr, List, length, refl, sym, ap, ◌∙◌, arith, subst, true, false, Bool, Some, None, Option}
+use Rattle.std.specs.Prelude.{slice_index, slice_index_or, IfSome, MatchOption, ℤ, ◌-ℤ◌, ◌≤ℤ◌}
 use Rattle.std.proofs.Math.ListN.{set}
 use Rattle.std.proofs.lemmas.Bool.{cases_eq, cases_lt}
 use Rattle.std.proofs.lemmas.List.{get_or-set_same, get_or-set_other, length-set}
-use Rattle.std.proofs.Common.{true, false, Bool, Some, None, Option}
-use Rattle.std.specs.Prelude.{slice_index_or, IfSome, MatchOption, ℤ, ◌-ℤ◌, ◌≤ℤ◌}
 use Rattle.std.proofs.lemmas.Int.{ints}
 use Rattle.std.specs.Int.RustNames.{unsigned_abs}
 use Rattle.tk_metric.specs.declared.keep.Candidate.{Candidate}
@@ -16,7 +14,7 @@ use Rattle.tk_metric.specs.Keeping.{rank, candidate}
 use Rattle.tk_metric.specs.Near.{IsNear}
 use Rattle.tk_metric.specs.Sweep.{IsXOrder, IsFloor, city_at, place_at, nowhere, x_gap}
 use Rattle.tk_build.specs.Unvisited.{IsLinked, IsNext, IsPrev, IsLeft, IsLeftAt, IsSearched, HasRankUpTo, IsFirstLeft, AreAllVisited, IsPlaceTable, IsFirstEntryLeft}
-use Rattle.tk_text.specs.declared.point.Point.{Point}
+use Rattle.tk_problem.specs.declared.point.Point.{Point}
 
 pub next_at : {n : ℕ} {Left : ℕ → Type 0} {q r : ℕ} → IsNext n Left q r → Left r ⊎ (r ≡ n + 1)
 next_at {n} {Left} {q} {r} h = ⊎_elim (λ l. inl (h.at (omega arith))) (λ g. inr (omega (arith, h.within))) (cases_lt r (n + 1))

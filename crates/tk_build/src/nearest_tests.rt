@@ -1,12 +1,12 @@
 //! Known nearest-neighbour tours.
 ghost use Rattle.std.specs.Prelude.{◌≡◌, ◌≤◌, IfOk, length};
-ghost use Rattle.tk_text.specs.Places.{IsNearOrigin};
+ghost use Rattle.tk_problem.specs.Places.{IsNearOrigin};
 
 use crate::{nearest, nearest_sweep};
 use std::alloc::{AllocError, Global};
 use std::test::Fail;
 use tk_metric::{Metric, Planes, Triangle, Turned, near_scan};
-use tk_text::{PlaneKind, Point, Points};
+use tk_problem::{PlaneKind, Point, Points};
 
 fn place(x: u16, y: u16) -> Point
     ensures { IsNearOrigin result }

@@ -3,10 +3,10 @@ use Rattle.std.proofs.Common.{◌≡◌, ℕ, ◌-◌, ◌^◌, ◌≤◌, List,
 use Rattle.std.proofs.lemmas.List.Elements.{All-from_get_or}
 use Rattle.tk_text.specs.Parts.{weights_are, problem_is}
 use Rattle.tk_text.specs.Problem.{ProblemIs}
-use Rattle.tk_text.specs.declared.problem.Problem.{Problem}
-use Rattle.tk_text.specs.declared.weights.Weights.{Weights}
-use Rattle.tk_text.specs.declared.weights.Weights.TheVariants.{Points, Lower}
-use Rattle.tk_text.proofs.MatrixLength.{length_decimal}
+use Rattle.tk_text.specs.declared.Problem.{Problem}
+use Rattle.tk_text.specs.declared.Weights.{Weights}
+use Rattle.tk_text.specs.declared.Weights.TheVariants.{Points, Lower}
+use Rattle.tk_writers.proofs.MatrixLength.{length_decimal}
 use Rattle.tk_metric.specs.Cities.{IsCity}
 use Rattle.tk_metric.specs.Weights.{problem_distance}
 use Rattle.tk_tour.specs.Tour.{IsTour, walk, tour_length}

@@ -6,9 +6,9 @@ use Rattle.tk_metric.specs.Near.{NearLists, AreNearest}
 use Rattle.tk_metric.specs.Tables.{table_size, table_distance, table_distance-swap, table_distance-limit}
 use Rattle.tk_metric.specs.Weights.{problem_distance}
 use Rattle.tk_metric.specs.declared.table.Table.{Table}
-use Rattle.tk_text.specs.declared.problem.Problem.{Problem}
-use Rattle.tk_text.specs.declared.weights.Weights.{Weights}
-use Rattle.tk_text.specs.declared.weights.Weights.TheVariants.{Points, Lower}
+use Rattle.tk_text.specs.declared.Problem.{Problem}
+use Rattle.tk_text.specs.declared.Weights.{Weights}
+use Rattle.tk_text.specs.declared.Weights.TheVariants.{Points, Lower}
 use Rattle.tk_text.specs.Parts.{weights_are, problem_is}
 use Rattle.tk_text.specs.ReadBack.{IsTable}
 use Rattle.tk_engines.specs.Check.{read_distance}

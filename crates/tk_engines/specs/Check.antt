@@ -3,8 +3,8 @@ use Rattle.std.specs.Prelude.{ℕ, ◌-◌, List, length, slice_index}
 use Rattle.tk_text.specs.Written.{tour_line, wrong_count_line, out_of_range_line, repeated_city_line}
 use Rattle.tk_text.specs.Problem.{ProblemIs, WeightsAre}
 use Rattle.tk_text.specs.Problem as value
-use Rattle.tk_text.specs.declared.fault.TextFault.{TextFault}
-use Rattle.tk_text.specs.declared.pen.WriteFault.{WriteFault}
+use Rattle.tk_text.specs.declared.TextFault.{TextFault}
+use Rattle.tk_text.specs.declared.WriteFault.{WriteFault}
 use Rattle.tk_metric.specs.PlaneOf.{city_distance}
 use Rattle.tk_metric.specs.Weights.{weight_between}
 use Rattle.tk_tour.specs.Tour.{tour_length}

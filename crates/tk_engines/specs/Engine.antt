@@ -1,12 +1,11 @@
 -- How engines end: what they leave of their sources and their sink.
 use Rattle.std.specs.Prelude.{◌≡◌, ◌≢◌, ℕ, Bool, true, List, Option, Ok}
 use Rattle.std.specs.Io.KnownBytes.{Appends}
-use Rattle.tk_text.specs.Drive.{Decided, IsAnswerWhereTold, IsTold}
+use Rattle.tk_text.specs.Drive.{Decided, IsAnswerWhereTold, IsTold, text_limit}
 use Rattle.tk_text.specs.Problem.{ProblemIs}
-use Rattle.tk_text.specs.Tour.{text_limit}
-use Rattle.tk_text.specs.declared.fault.TextFault.{TextFault}
-use Rattle.tk_text.specs.declared.fault.TextKind.TheVariants as kinds
-use Rattle.tk_text.specs.declared.pen.WriteFault.{WriteFault}
+use Rattle.tk_text.specs.declared.TextFault.{TextFault}
+use Rattle.tk_text.specs.declared.TextKind.TheVariants as kinds
+use Rattle.tk_text.specs.declared.WriteFault.{WriteFault}
 use Rattle.tk_engines.specs.declared.fault.Fault.{Fault}
 use Rattle.tk_engines.specs.declared.fault.Fault.TheVariants as faults
 

@@ -1,6 +1,6 @@
 -- The matrix of a problem.
 use Rattle.std.specs.Prelude.{◌≡◌, ℕ, ◌≤◌, true, List, Some, None, Ok}
-use Rattle.tk_text.specs.declared.weights.Format.{Format}
+use Rattle.tk_text.specs.declared.Format.{Format}
 use Rattle.tk_text.specs.MatrixText.{matrix_text}
 use Rattle.tk_text.specs.Problem.{ProblemIs, Lower, problem_decided}
 use Rattle.tk_text.specs.ReadBack.{lower_triangle}

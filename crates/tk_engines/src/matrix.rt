@@ -5,7 +5,7 @@ ghost use Rattle.tk_metric.specs.Tables.{table_size, table_distance};
 ghost use Rattle.tk_text.specs.Parts.{problem_is};
 ghost use Rattle.tk_text.specs.Problem.{problem_decided};
 ghost use Rattle.tk_text.specs.Puts.{Stops, Writes};
-ghost use Rattle.tk_text.specs.ReadBack.{IsName};
+ghost use Rattle.tk_text.specs.Names.{IsName};
 ghost use Rattle.tk_engines.specs.Engine.{IsRead, IsRefused, IsTextStopped, IsTextTold, IsUntouched, Took, UnlessWrite, AtWrite};
 ghost use Rattle.tk_engines.specs.MatrixOf.{by_distances, IsMatrixText, IsReadAs, matrix_of};
 

@@ -9,7 +9,7 @@ use Rattle.std.proofs.lemmas.List.{length-take-le, take_all, take_more, get_or_d
 use Rattle.std.proofs.Math.Seq.{take-suc}
 use Rattle.std.proofs.lemmas.List.Elements.{All-cons, All-nil, All-weaker, All-head, All-tail, All-from_get_or}
 use Rattle.std.proofs.lemmas.List.Sorted.{All-permutation, Contains-permutation, IsPermutation-keeps, length_permutation}
-use Rattle.tk_text.specs.declared.point.Point.{Point}
+use Rattle.tk_problem.specs.declared.point.Point.{Point}
 use Rattle.tk_metric.specs.declared.keep.Candidate.{Candidate}
 use Rattle.tk_metric.specs.declared.sweep.Placed.{Placed}
 use Rattle.tk_metric.specs.Cities.{IsCity}

@@ -3,14 +3,14 @@ use Rattle.std.proofs.Common.{◌≡◌, ℕ, ◌*◌, refl, ◌-◌, ◌<◌, �
 use Rattle.std.proofs.lemmas.List.{get_or-map, length-map}
 use Rattle.std.proofs.lemmas.Int.{ints}
 use Rattle.std.specs.Int.RustNames.{unsigned_abs}
-use Rattle.tk_text.specs.declared.point.Point.{Point}
-use Rattle.tk_text.specs.declared.point.WholePoint.{WholePoint}
-use Rattle.tk_text.specs.declared.points.Places.{Places}
-use Rattle.tk_text.specs.declared.points.Places.TheVariants.{Whole, Fine}
-use Rattle.tk_text.specs.declared.weights.PlaneKind.{PlaneKind}
-use Rattle.tk_text.specs.declared.weights.PlaneKind.TheVariants.{Euc2d}
-use Rattle.tk_text.specs.Places.{origin, place_of_whole}
-use Rattle.tk_text.specs.PlacesOf.{places_of}
+use Rattle.tk_problem.specs.declared.point.Point.{Point}
+use Rattle.tk_problem.specs.declared.point.WholePoint.{WholePoint}
+use Rattle.tk_problem.specs.declared.points.Places.{Places}
+use Rattle.tk_problem.specs.declared.points.Places.TheVariants.{Whole, Fine}
+use Rattle.tk_problem.specs.declared.weights.PlaneKind.{PlaneKind}
+use Rattle.tk_problem.specs.declared.weights.PlaneKind.TheVariants.{Euc2d}
+use Rattle.tk_problem.specs.Places.{origin, place_of_whole}
+use Rattle.tk_problem.specs.PlacesOf.{places_of}
 use Rattle.tk_metric.specs.Cities.{IsCity}
 use Rattle.tk_metric.specs.Distance.{IsDistanceOf, IsGreatest, RootReaches, gap, square_sum}
 use Rattle.tk_metric.specs.DistanceLaws.{distance_at-is}

@@ -6,7 +6,7 @@ use Rattle.std.specs.Int.RustNames.{unsigned_abs}
 use Rattle.std.proofs.lemmas.Int.{ints}
 use Rattle.std.proofs.lemmas.Bool.{cases_lt, cases_eq}
 use Rattle.std.proofs.lemmas.List.{get_or-take, length-take-le}
-use Rattle.tk_text.specs.declared.point.Point.{Point}
+use Rattle.tk_problem.specs.declared.point.Point.{Point}
 use Rattle.tk_metric.specs.declared.keep.Candidate.{Candidate}
 use Rattle.tk_metric.specs.declared.sweep.Placed.{Placed}
 use Rattle.tk_metric.specs.Cities.{IsCity}

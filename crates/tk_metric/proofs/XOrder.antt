@@ -1,7 +1,6 @@
 -- What a sort by x gives.
-use Rattle.std.proofs.Common.{◌≡◌, ℕ, zero, suc, ◌+◌, ◌-◌, ◌<◌, ◌≤◌, List, length, refl, sym, ap, ◌∙◌, arith, true, false, cond, get_or, subst}
+use Rattle.std.proofs.Common.{◌≡◌, ℕ, zero, suc, ◌+◌, ◌-◌, ◌<◌, ◌≤◌, List, length, refl, sym, ap, ◌∙◌, arith, true, false, cond, get_or, subst, Ordering, Less, Equal, Greater}
 use Rattle.std.specs.Prelude.{ℤ, ◌≤ℤ◌}
-use Rattle.std.proofs.Common.{Ordering, Less, Equal, Greater}
 use Rattle.std.specs.Ordering.{is_lt, int_cmp, nat_cmp, ordering_then}
 use Rattle.std.specs.List.Sorted.{IsPermutation}
 use Rattle.std.specs.Int.RustNames.{int_lt}
@@ -10,7 +9,7 @@ use Rattle.std.proofs.lemmas.List.{get_or_default}
 use Rattle.std.proofs.lemmas.List.Sorted.{All-permutation, Contains-permutation, IsPermutation-keeps, length_permutation}
 use Rattle.tk_metric.proofs.OneEach.{OneEach, OneEach-swap}
 use Rattle.tk_metric.specs.declared.sweep.Placed.{Placed}
-use Rattle.tk_text.specs.declared.point.Point.{Point}
+use Rattle.tk_problem.specs.declared.point.Point.{Point}
 use Rattle.tk_metric.specs.Sweep.{placed, nowhere, place_at, city_at, IsPlaced, IsXOrder}
 
 not_less : (a b : ℤ) (o : Ordering) → is_lt (ordering_then (int_cmp a b) o) ≡ false → b ≤ℤ a

@@ -2,9 +2,9 @@
 -- Source: G. Reinelt, "TSPLIB 95", section 2, "The distance functions".
 use Rattle.std.specs.Prelude.{ℕ, ℤ, ◌+◌, ◌-◌, ◌*◌, ◌≤◌, ◌-ℤ◌, max}
 use Rattle.std.specs.Int.RustNames.{unsigned_abs}
-use Rattle.tk_text.specs.declared.point.Point.{Point}
-use Rattle.tk_text.specs.declared.weights.PlaneKind.{PlaneKind}
-use Rattle.tk_text.specs.declared.weights.PlaneKind.TheVariants.{Euc2d, Ceil2d, Man2d, Max2d, Att}
+use Rattle.tk_problem.specs.declared.point.Point.{Point}
+use Rattle.tk_problem.specs.declared.weights.PlaneKind.{PlaneKind}
+use Rattle.tk_problem.specs.declared.weights.PlaneKind.TheVariants.{Euc2d, Ceil2d, Man2d, Max2d, Att}
 
 -- how many units make one
 abbrev pub scale : ℕ

@@ -1,7 +1,7 @@
 -- Examples of distances.
 use Rattle.std.specs.Prelude.{ℕ, List, [], ◌∷◌}
-use Rattle.tk_text.specs.declared.weights.PlaneKind.{PlaneKind}
-use Rattle.tk_text.specs.declared.weights.PlaneKind.TheVariants.{Euc2d, Ceil2d, Man2d, Max2d, Att}
+use Rattle.tk_problem.specs.declared.weights.PlaneKind.{PlaneKind}
+use Rattle.tk_problem.specs.declared.weights.PlaneKind.TheVariants.{Euc2d, Ceil2d, Man2d, Max2d, Att}
 use Rattle.tk_metric.specs.Distance.{IsDistance}
 
 -- a type, how far two coordinates differ, in billionths, and the distance

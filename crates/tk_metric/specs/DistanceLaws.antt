@@ -4,8 +4,8 @@ use Rattle.std.proofs.lemmas.Bool.{leb-true, le-leb, cases_lt}
 use Rattle.std.specs.Bool.{Decides}
 use Rattle.std.specs.Prelude.{nat_le}
 use Rattle.std.proofs.lemmas.Nat.{mul-le}
-use Rattle.tk_text.specs.declared.weights.PlaneKind.{PlaneKind}
-use Rattle.tk_text.specs.declared.weights.PlaneKind.TheVariants.{Euc2d, Ceil2d, Man2d, Max2d, Att}
+use Rattle.tk_problem.specs.declared.weights.PlaneKind.{PlaneKind}
+use Rattle.tk_problem.specs.declared.weights.PlaneKind.TheVariants.{Euc2d, Ceil2d, Man2d, Max2d, Att}
 use Rattle.tk_metric.specs.Distance.{IsGreatest, IsLeast, Reaches, RootReaches, Covers, IsDistance, square_sum}
 use Rattle.tk_metric.specs.PlaneDistance.{rounded_length, rounded_root, covering_root, distance_at}
 use Rattle.tk_metric.specs.Searching.{last_passing-is, first_passing-is, greatest-unique}

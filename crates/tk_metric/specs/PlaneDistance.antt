@@ -1,8 +1,8 @@
 -- The distance of each plane type as a function: the number that `Distance.IsDistance` describes.
 use Rattle.std.specs.Prelude.{ℕ, zero, suc, ◌+◌, ◌-◌, ◌*◌, Bool, nat_le, max, if◌then◌else◌}
-use Rattle.tk_text.specs.declared.point.Point.{Point}
-use Rattle.tk_text.specs.declared.weights.PlaneKind.{PlaneKind}
-use Rattle.tk_text.specs.declared.weights.PlaneKind.TheVariants.{Euc2d, Ceil2d, Man2d, Max2d, Att}
+use Rattle.tk_problem.specs.declared.point.Point.{Point}
+use Rattle.tk_problem.specs.declared.weights.PlaneKind.{PlaneKind}
+use Rattle.tk_problem.specs.declared.weights.PlaneKind.TheVariants.{Euc2d, Ceil2d, Man2d, Max2d, Att}
 use Rattle.tk_metric.specs.Distance.{scale, square_sum, gap}
 
 -- the greatest number from 1 to n that passes, or 0

@@ -4,10 +4,10 @@ use Rattle.std.proofs.lemmas.Bool.{cases_lt}
 use Rattle.std.proofs.lemmas.Int.{ints, unsigned_abs-mul}
 use Rattle.std.proofs.lemmas.List.{get_or_past}
 use Rattle.std.specs.Int.RustNames.{unsigned_abs}
-use Rattle.tk_text.specs.declared.point.Point.{Point}
-use Rattle.tk_text.specs.declared.weights.PlaneKind.{PlaneKind}
-use Rattle.tk_text.specs.declared.point.WholePoint.{WholePoint}
-use Rattle.tk_text.specs.Places.{IsNearOrigin, origin, place_of_whole}
+use Rattle.tk_problem.specs.declared.point.Point.{Point}
+use Rattle.tk_problem.specs.declared.weights.PlaneKind.{PlaneKind}
+use Rattle.tk_problem.specs.declared.point.WholePoint.{WholePoint}
+use Rattle.tk_problem.specs.Places.{IsNearOrigin, origin, place_of_whole}
 use Rattle.tk_metric.specs.Distance.{gap, IsDistance, IsDistanceOf}
 use Rattle.tk_metric.specs.PlaneDistance.{distance_at, distance_of}
 use Rattle.tk_metric.specs.PlaneOf.{city_place, city_distance}

@@ -1,8 +1,8 @@
 -- The places of a metric in the plane.
 use Rattle.std.specs.Prelude.{ℕ, List, ◌-◌, slice_index_or}
-use Rattle.tk_text.specs.declared.point.Point.{Point}
-use Rattle.tk_text.specs.declared.weights.PlaneKind.{PlaneKind}
-use Rattle.tk_text.specs.Places.{origin}
+use Rattle.tk_problem.specs.declared.point.Point.{Point}
+use Rattle.tk_problem.specs.declared.weights.PlaneKind.{PlaneKind}
+use Rattle.tk_problem.specs.Places.{origin}
 use Rattle.tk_metric.specs.Distance.{IsDistanceOf}
 use Rattle.tk_metric.specs.PlaneDistance.{distance_of}
 

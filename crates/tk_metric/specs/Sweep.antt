@@ -1,8 +1,8 @@
 -- The cities in x order, and a sweep from one of them to both sides.
 use Rattle.std.specs.Prelude.{◌≡◌, ◌≢◌, ℕ, ◌-ℤ◌, ◌≤ℤ◌, ◌-◌, ◌*◌, ◌<◌, ◌≤◌, List, length, slice_index_or}
 use Rattle.std.specs.Int.RustNames.{unsigned_abs}
-use Rattle.tk_text.specs.declared.point.Point.{Point}
-use Rattle.tk_text.specs.Places.{origin}
+use Rattle.tk_problem.specs.declared.point.Point.{Point}
+use Rattle.tk_problem.specs.Places.{origin}
 use Rattle.tk_metric.specs.declared.keep.Candidate.{Candidate}
 use Rattle.tk_metric.specs.declared.sweep.Placed.{Placed}
 use Rattle.tk_metric.specs.Cities.{IsCity}

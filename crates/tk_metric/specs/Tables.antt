@@ -1,6 +1,6 @@
 -- The distances of a table.
 use Rattle.std.specs.Prelude.{◌≡◌, ◌≤◌, ℕ, length}
-use Rattle.tk_text.specs.PlacesOf.{places_of}
+use Rattle.tk_problem.specs.PlacesOf.{places_of}
 use Rattle.tk_metric.specs.declared.table.Table.{Table}
 use Rattle.tk_metric.specs.declared.table.Table.TheVariants.{Planes, Triangle}
 use Rattle.tk_metric.specs.PlaneLaws.{distance_of-swap, distance_of-same, city_distance-limit}

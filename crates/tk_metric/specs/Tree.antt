@@ -1,6 +1,6 @@
 -- A tree of parts of the cities, and what is kept of them.
 use Rattle.std.specs.Prelude.{◌≡◌, ◌≢◌, ℕ, ◌≤ℤ◌, ◌+◌, ◌*◌, ◌-◌, ◌<◌, ◌≤◌, ◌⊎◌, ◌==◌, if◌then◌else◌, List, [], ◌∷◌, ◌++◌, length, slice_index_or, All, ⊤}
-use Rattle.tk_text.specs.declared.point.Point.{Point}
+use Rattle.tk_problem.specs.declared.point.Point.{Point}
 use Rattle.tk_metric.specs.declared.keep.Candidate.{Candidate}
 use Rattle.tk_metric.specs.declared.sweep.Placed.{Placed}
 use Rattle.tk_metric.specs.declared.tree.Frame.{Frame}

@@ -1,5 +1,5 @@
 -- Places with x and y exchanged.
-use Rattle.tk_text.specs.declared.point.Point.{Point}
+use Rattle.tk_problem.specs.declared.point.Point.{Point}
 
 abbrev pub turned : Point → Point
 turned p = record { x = p.y; y = p.x }

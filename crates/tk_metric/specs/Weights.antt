@@ -1,7 +1,7 @@
 -- Distances that a problem gives.
 use Rattle.std.specs.Prelude.{ℕ, List, ◌+◌, ◌-◌, ◌*◌, ◌/◌, ◌==◌, min, max, slice_index, if◌then◌else◌}
-use Rattle.tk_text.specs.declared.weights.Weights.{Weights}
-use Rattle.tk_text.specs.declared.weights.Weights.TheVariants.{Points, Lower}
+use Rattle.tk_problem.specs.declared.weights.Weights.{Weights}
+use Rattle.tk_problem.specs.declared.weights.Weights.TheVariants.{Points, Lower}
 use Rattle.tk_metric.specs.PlaneOf.{city_distance}
 
 -- where the weight of two cities stands, in a lower triangle row by row without its diagonal:

@@ -2,11 +2,11 @@
 ghost use Rattle.std.specs.Prelude.{◌≡◌, ◌+◌, ◌*◌, ◌^◌, ◌<◌, ◌≤◌, ◌↔◌, IsTrue};
 ghost use Rattle.std.specs.Int.RustNames.{unsigned_abs};
 ghost use Rattle.tk_metric.specs.Distance.{gap, reach, square_sum, IsGreatest, IsLeast, IsDistance, IsDistanceOf, Reaches, RootReaches, Covers};
-ghost use Rattle.tk_text.specs.Places.{IsNearOrigin};
+ghost use Rattle.tk_problem.specs.Places.{IsNearOrigin};
 
 use crate::guess::{PER_UNIT, PER_UNIT_AND_ROOT_OF_TEN, near_scaled_root, rounded, rounded_up};
 use crate::roots::root_up;
-use tk_text::{PlaneKind, Point};
+use tk_problem::{PlaneKind, Point};
 
 const SCALE: u64 = 1_000_000_000;
 

@@ -2,9 +2,9 @@
 ghost use Rattle.std.specs.Prelude.{◌≡◌, ℕ, ℤ, ◌≤◌, ◌<ℤ◌, ◌↔◌, IsTrue, pos, ◌-ℤ◌};
 ghost use Rattle.std.specs.Int.RustNames.{unsigned_abs};
 ghost use Rattle.tk_metric.specs.Cities.{IsCity};
-ghost use Rattle.tk_text.specs.declared.point.Point.{Point};
+ghost use Rattle.tk_problem.specs.declared.point.Point.{Point};
 
-use tk_text::Point;
+use tk_problem::Point;
 
 /// Symmetric distances among the cities 1 to `size`.
 pub trait Metric {

@@ -1,11 +1,11 @@
 //! Known near lists, and that a sweep gives what a scan does.
 ghost use Rattle.std.specs.Prelude.{◌≡◌, ◌≤◌, IfOk, length};
-ghost use Rattle.tk_text.specs.Places.{IsNearOrigin};
+ghost use Rattle.tk_problem.specs.Places.{IsNearOrigin};
 
 use crate::{Metric, Near, Planes, Turned, near_lists_agree, near_scan, near_sweep, near_tree};
 use std::alloc::{AllocError, Global};
 use std::test::Fail;
-use tk_text::{PlaneKind, Point, Points};
+use tk_problem::{PlaneKind, Point, Points};
 
 fn place(x: u16, y: u16, whole: bool) -> Point
     ensures { IsNearOrigin result }

@@ -1,12 +1,12 @@
 //! Distances in the plane.
 ghost use Rattle.std.specs.Prelude.{◌≡◌, ℕ, ◌≤◌, ◌<◌, ◌<ℤ◌, ◌↔◌, ◌-◌, All, length, pos};
-ghost use Rattle.tk_text.specs.Places.{IsNearOrigin};
-ghost use Rattle.tk_text.specs.PlacesOf.{places_of};
+ghost use Rattle.tk_problem.specs.Places.{IsNearOrigin};
+ghost use Rattle.tk_problem.specs.PlacesOf.{places_of};
 
 use crate::fine::{fine_between, floor_distance};
 use crate::metric::{Metric, Planar};
 use crate::whole::{is_whole_nearer, whole_between};
-use tk_text::{Places, PlaneKind, Point, Points};
+use tk_problem::{Places, PlaneKind, Point, Points};
 
 /// The distances of a plane type among the places of a list, whose cities are numbered from 1 in its order.
 /// They are those of exact arithmetic (G. Reinelt, "TSPLIB 95", section 2, "The distance functions").

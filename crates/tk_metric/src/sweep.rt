@@ -9,7 +9,7 @@ use crate::metric::Planar;
 use crate::near::Near;
 use crate::turned::{Turned, is_tall};
 use std::alloc::{AllocError, Global};
-use tk_text::Point;
+use tk_problem::Point;
 
 /// A city with its place.
 #[derive(Clone, Copy, Drop)]

@@ -4,7 +4,7 @@ ghost use Rattle.std.specs.Prelude.{◌≡◌, ℕ};
 use crate::metric::Metric;
 use crate::planes::Planes;
 use crate::triangle::Triangle;
-use tk_text::{Problem, Weights};
+use tk_problem::{Problem, Weights};
 
 /// The distances among the cities of a problem.
 #[derive(Clone, Copy)]

@@ -6,7 +6,7 @@ use crate::short::{SHORT, short_root};
 use crate::{Metric, Planar, Planes, Sub, Table, Triangle, root, root_up};
 use std::alloc::{AllocError, Global};
 use std::test::Fail;
-use tk_text::{Places, PlaneKind, Point, Points, Problem, Weights};
+use tk_problem::{Places, PlaneKind, Point, Points, Problem, Weights};
 
 const UNIT: i64 = 1_000_000_000;
 

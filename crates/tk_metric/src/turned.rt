@@ -1,10 +1,10 @@
 //! Places with x and y exchanged.
 ghost use Rattle.std.specs.Prelude.{◌≡◌, ◌≤◌, ℕ};
-ghost use Rattle.tk_text.specs.declared.point.Point.{Point};
+ghost use Rattle.tk_problem.specs.declared.point.Point.{Point};
 ghost use Rattle.tk_metric.specs.Turned.{turned};
 
 use crate::metric::{Metric, Planar};
-use tk_text::Point;
+use tk_problem::Point;
 
 /// The same metric with x and y of each place exchanged.
 #[derive(Drop)]

@@ -2,11 +2,11 @@
 ghost use Rattle.std.specs.Prelude.{◌≡◌, ℕ, ◌+◌, ◌*◌, ◌<◌, ◌≤◌, ◌^◌, ◌↔◌, IsTrue, true};
 ghost use Rattle.std.specs.Int.RustNames.{unsigned_abs};
 ghost use Rattle.tk_metric.specs.Distance.{scale, IsGreatest, IsLeast, IsDistance, IsDistanceOf, RootReaches, Covers, gap, square_sum};
-ghost use Rattle.tk_text.specs.Places.{place_of_whole};
+ghost use Rattle.tk_problem.specs.Places.{place_of_whole};
 
 use crate::guess::{near_root, rounded};
 use crate::short::{SHORT, short_root};
-use tk_text::{PlaneKind, WholePoint};
+use tk_problem::{PlaneKind, WholePoint};
 
 /// The distance of two places of whole coordinates.
 #[inline]

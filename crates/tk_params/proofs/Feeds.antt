@@ -2,12 +2,12 @@
 use Rattle.std.proofs.Common.{◌≡◌, ◌≢◌, ℕ, suc, ◌+◌, ◌<◌, Bool, true, false, cond, eqb, List, [], ◌∷◌, ◌++◌, length, Some, None, Ok, Err, refl, sym, ap, subst, ◌∙◌, append_assoc, arith}
 use Rattle.std.proofs.lemmas.Bool.{eqb-true, ne_eqb}
 use Rattle.std.proofs.lemmas.List.{append-nil, length-append}
-use Rattle.tk_text.proofs.Resume.{prepend-nil}
-use Rattle.tk_text.proofs.Steps.{line_behind-byte, line_behind-LF}
-use Rattle.tk_text.proofs.Runs.{behind-all, behind-on}
-use Rattle.tk_text.specs.Scan.{IsEmpty}
-use Rattle.tk_text.specs.Drive.{Decides}
-use Rattle.tk_text.specs.Lex.{is_blank, is_word_byte, behind, lines}
+use Rattle.tk_lines.proofs.MiddleOfLine.{prepend-nil}
+use Rattle.tk_lines.proofs.LineSteps.{line_behind-byte, line_behind-LF}
+use Rattle.tk_lines.proofs.ByteRuns.{behind-all, behind-on}
+use Rattle.tk_lines.specs.Scan.{IsEmpty}
+use Rattle.tk_words.specs.Drive.{Decides}
+use Rattle.tk_words.specs.Lex.{is_blank, is_word_byte, behind, lines}
 use Rattle.tk_params.proofs.Steps.{push_open, from_byte, from_over, from_eof, from_end_eof, from_open, from_LF, from_LF_fault, from_end, from_end_fault}
 use Rattle.tk_params.specs.declared.fault.ParamKind.{ParamKind}
 use Rattle.tk_params.specs.declared.fault.ParamKind.TheVariants as kinds

@@ -4,7 +4,7 @@ use Rattle.std.proofs.lemmas.Map.Made.{lookup-map_values}
 use Rattle.std.proofs.lemmas.List.{append-nil, map-append}
 use Rattle.std.proofs.lemmas.Bool.{cond-false, cond-true, eq-eqb, eqb-true, false_from_ne_true, le-ltb}
 use Rattle.std.specs.Prelude.{codes}
-use Rattle.tk_text.specs.Words.{spells}
+use Rattle.tk_words.specs.Words.{spells}
 use Rattle.std.proofs.lemmas.Str.{IsUtf8-from_is_utf8, is_utf8-from_IsUtf8}
 use Rattle.std.specs.Str.{IsUtf8, is_utf8}
 use Rattle.indexmap.proofs.CallerLemmas.{insert_entry-new}

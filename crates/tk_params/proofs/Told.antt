@@ -2,12 +2,12 @@
 use Rattle.std.proofs.Common.{◌≡◌, ℕ, suc, eqb, leb, ltb, not, length, take, Bool, true, false, cond, List, [], ◌∷◌, ◌++◌, Option, Some, None, Result, Ok, Err, IfErr, ap, subst}
 use Rattle.std.specs.Prelude.{codes, unwrap_or}
 use Rattle.std.proofs.lemmas.Bool.{cond_both}
-use Rattle.tk_text.specs.declared.fault.TextFault.{TextFault}
-use Rattle.tk_text.specs.declared.fault.TextKind.{TextKind}
-use Rattle.tk_text.specs.declared.fault.TextKind.TheVariants as text
-use Rattle.tk_text.specs.Drive.{answer_of, line_behind, IsAnswerWhereTold, IsTold, IsToldKind}
-use Rattle.tk_text.specs.Lex.{Line, is_blank, is_letter, is_word_byte, front, behind, lines}
-use Rattle.tk_text.specs.Words.{spells}
+use Rattle.tk_words.specs.declared.fault.TextFault.{TextFault}
+use Rattle.tk_words.specs.declared.fault.TextKind.{TextKind}
+use Rattle.tk_words.specs.declared.fault.TextKind.TheVariants as text
+use Rattle.tk_words.specs.Drive.{answer_of, line_behind, IsAnswerWhereTold, IsTold, IsToldKind}
+use Rattle.tk_words.specs.Lex.{Line, is_blank, is_letter, is_word_byte, front, behind, lines}
+use Rattle.tk_words.specs.Words.{spells}
 use Rattle.tk_params.specs.declared.fault.ParamFault.{ParamFault}
 use Rattle.tk_params.specs.declared.fault.ParamKind.{ParamKind}
 use Rattle.tk_params.specs.declared.fault.ParamKind.TheVariants as kinds

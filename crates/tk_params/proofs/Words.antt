@@ -1,8 +1,8 @@
 -- Where a run of bytes ends.
 use Rattle.std.proofs.Common.{◌≡◌, ℕ, ◌+◌, ◌-◌, ◌<◌, ◌≤◌, Bool, true, false, List, [], ◌∷◌, ◌++◌, length, get_or, take, drop, refl, sym, ap, ◌∙◌, arith}
 use Rattle.std.proofs.lemmas.List.{append-nil, drop_more, length-drop, take-append-drop, take_more}
-use Rattle.tk_text.proofs.Runs.{behind-all, front-all, front-whole, trim_end-blank, trim_end-solid}
-use Rattle.tk_text.specs.Lex.{front, behind, is_blank, trim_end}
+use Rattle.tk_lines.proofs.ByteRuns.{behind-all, front-all, front-whole, trim_end-blank, trim_end-solid}
+use Rattle.tk_words.specs.Lex.{front, behind, is_blank, trim_end}
 
 take_length : (xs : List ℕ) → take (length xs) xs ≡ xs
 take_length [] = refl

@@ -1,6 +1,6 @@
 -- The keys of parameter files (K. Helsgaun, LKH user guide; "own" in docs/FORMATS.md where they are this project's).
 use Rattle.std.specs.Prelude.{ℕ, Bool, true, false, List, Option, Some, None, if◌then◌else◌, codes}
-use Rattle.tk_text.specs.Words.{spells}
+use Rattle.tk_words.specs.Words.{spells}
 use Rattle.tk_params.specs.declared.key.Key.{Key}
 use Rattle.tk_params.specs.declared.key.Key.TheVariants as keys
 

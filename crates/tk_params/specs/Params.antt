@@ -1,11 +1,11 @@
 -- Parameter texts (K. Helsgaun, LKH user guide; the limits and the keys are this project's).
 use Rattle.std.specs.Prelude.{◌≡◌, ◌≢◌, ℕ, ◌-◌, Bool, not, ◌&&◌, ◌||◌, nat_lt, List, [], ◌∷◌, ◌++◌, length, Option, Some, None, Result, Ok, Err, IfSome, if◌then◌else◌, codes}
-use Rattle.tk_text.specs.declared.fault.TextFault.{TextFault}
-use Rattle.tk_text.specs.declared.fault.TextKind.{TextKind}
-use Rattle.tk_text.specs.declared.fault.TextKind.TheVariants as text
-use Rattle.tk_text.specs.Drive.{Decided, answer_of}
-use Rattle.tk_text.specs.Lex.{Line, is_blank, is_word_byte, is_empty, front, behind, lines}
-use Rattle.tk_text.specs.Words.{spells}
+use Rattle.tk_words.specs.declared.fault.TextFault.{TextFault}
+use Rattle.tk_words.specs.declared.fault.TextKind.{TextKind}
+use Rattle.tk_words.specs.declared.fault.TextKind.TheVariants as text
+use Rattle.tk_words.specs.Drive.{Decided, answer_of}
+use Rattle.tk_words.specs.Lex.{Line, is_blank, is_word_byte, is_empty, front, behind, lines}
+use Rattle.tk_words.specs.Words.{spells}
 use Rattle.tk_params.specs.declared.fault.ParamFault.{ParamFault}
 use Rattle.tk_params.specs.declared.fault.ParamKind.{ParamKind}
 use Rattle.tk_params.specs.declared.fault.ParamKind.TheVariants as kinds

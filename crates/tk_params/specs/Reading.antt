@@ -1,11 +1,11 @@
 -- A parameter reader's place in a text.
 use Rattle.std.specs.Prelude.{◌≡◌, ◌≤◌, ℕ, Bool, false, not, ◌&&◌, List, ◌++◌, length, Option, Some, None, Result, Ok, Err}
-use Rattle.tk_text.specs.declared.drive.Step.{Step}
-use Rattle.tk_text.specs.declared.drive.Step.TheVariants as steps
-use Rattle.tk_text.specs.declared.fault.TextFault.{TextFault}
-use Rattle.tk_text.specs.Drive.{line_behind}
-use Rattle.tk_text.specs.Lex.{is_blank, is_empty, behind, lines}
-use Rattle.tk_text.specs.Pieces.{prepend}
+use Rattle.tk_words.specs.declared.drive.Step.{Step}
+use Rattle.tk_words.specs.declared.drive.Step.TheVariants as steps
+use Rattle.tk_words.specs.declared.fault.TextFault.{TextFault}
+use Rattle.tk_words.specs.Drive.{line_behind}
+use Rattle.tk_words.specs.Lex.{is_blank, is_empty, behind, lines}
+use Rattle.tk_lines.specs.Pieces.{prepend}
 use Rattle.tk_params.specs.declared.fault.ParamFault.{ParamFault}
 use Rattle.tk_params.specs.declared.fault.ParamKind.{ParamKind}
 use Rattle.tk_params.specs.declared.reader.ParamReader.{ParamReader}

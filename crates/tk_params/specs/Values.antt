@@ -3,9 +3,9 @@ use Rattle.std.specs.Prelude.{ℕ, Bool, true, false, not, ◌&&◌, ◌||◌, �
 use Rattle.std.specs.List.{list_any}
 use Rattle.std.specs.Map.{lookup}
 use Rattle.std.specs.Str.{is_utf8}
-use Rattle.tk_text.specs.Lex.{is_blank, is_letter, is_word_byte, is_empty, front, behind, trim, integer}
-use Rattle.tk_text.specs.Words.{spells}
-use Rattle.tk_text.specs.Tour.{in_range, natural_or_zero}
+use Rattle.tk_words.specs.Lex.{is_blank, is_letter, is_word_byte, is_empty, front, behind, trim, integer}
+use Rattle.tk_words.specs.Words.{spells}
+use Rattle.tk_words.specs.Entry.{in_range, natural_or_zero}
 use Rattle.tk_params.specs.declared.key.Key.{Key}
 use Rattle.tk_params.specs.declared.key.Key.TheVariants as keys
 use Rattle.tk_params.specs.declared.value.Construction.{Construction}

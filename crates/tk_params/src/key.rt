@@ -3,7 +3,7 @@ ghost use Rattle.std.specs.Prelude.{◌≡◌};
 ghost use Rattle.tk_params.specs.Keys;
 
 use std::fmt;
-use tk_text::spelled;
+use tk_words::spelled;
 
 /// A key of a parameter file, with the names of the LKH user guide. Those from `MoveType` on are read and not used.
 #[derive(Clone, Copy, Debug, PartialEq, Eq, Hash)]

@@ -1,6 +1,6 @@
 //! A line of a parameter file.
 ghost use Rattle.std.specs.Prelude.{◌≡◌, ◌≤◌, List, length, take, drop, OnOk, IfErr};
-ghost use Rattle.tk_text.specs.Lex.{behind, front, is_blank, is_word_byte, trim_end};
+ghost use Rattle.tk_words.specs.Lex.{behind, front, is_blank, is_word_byte, trim_end};
 ghost use Rattle.tk_params.specs.Readers.{HasTaken, IsToldOf};
 ghost use Rattle.tk_params.specs.Values;
 
@@ -9,7 +9,7 @@ use crate::key::{Key, key_of};
 use crate::params::Params;
 use crate::value::setting_of;
 use std::alloc::Global;
-use tk_text::{blank, letter, spelled, word_byte};
+use tk_words::{blank, letter, spelled, word_byte};
 
 /// The most bytes of a key.
 const KEY_LIMIT: usize = 64;

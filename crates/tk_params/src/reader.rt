@@ -1,8 +1,8 @@
 //! Parameter files, read from a source.
 ghost use Rattle.std.specs.Prelude.{◌≡◌, ◌≢◌, ◌<◌, ◌^◌, ◌++◌, ◌∷◌, ℕ, List, [], length, true, false, None, Ok, Err, IfOk, IfErr, OnOk};
-ghost use Rattle.tk_text.specs.Drive.{FedMore};
-ghost use Rattle.tk_text.specs.Lex.{behind, is_blank, is_word_byte};
-ghost use Rattle.tk_text.specs.declared.fault.TextKind.TheVariants as kinds;
+ghost use Rattle.tk_words.specs.Drive.{FedMore};
+ghost use Rattle.tk_words.specs.Lex.{behind, is_blank, is_word_byte};
+ghost use Rattle.tk_words.specs.declared.fault.TextKind.TheVariants as kinds;
 ghost use Rattle.tk_params.specs.Reading.{Feeds, IsKept, TakesLine, answer_in};
 ghost use Rattle.tk_params.specs.Params as Text;
 ghost use Rattle.tk_params.specs.Params.{IsParamAnswerWhereTold, IsParamIntact, IsParamTold, is_eof};
@@ -12,7 +12,7 @@ use crate::key::Key;
 use crate::line::take_line;
 use crate::params::Params;
 use std::alloc::{AllocError, Global};
-use tk_text::{
+use tk_words::{
     Source, Step, TextFault, TextKind, TextReader, blank, read_text, spelled, word_byte,
 };
 

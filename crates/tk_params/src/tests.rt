@@ -9,7 +9,7 @@ use crate::value::Construction;
 use std::alloc::Global;
 use std::process::Abort;
 use std::test::Fail;
-use tk_text::{Failed, FromRead, Source};
+use tk_words::{Failed, FromRead, Source};
 
 /// Gives its bytes one by one, and then fails where it is told to.
 #[derive(Drop)]

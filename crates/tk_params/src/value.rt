@@ -8,7 +8,7 @@ ghost use Rattle.tk_params.specs.declared.fault.ParamKind.TheVariants as kinds;
 use crate::fault::ParamKind;
 use crate::key::Key;
 use std::alloc::Global;
-use tk_text::{integer, spelled};
+use tk_words::{integer, spelled};
 
 /// How the tour is made that a run begins with.
 #[derive(Clone, Copy, Debug, PartialEq, Eq)]

@@ -1,5 +1,5 @@
 -- Routes of which one gives way to a permutation of it.
-use Rattle.std.proofs.Common.{◌≡◌, ℕ, ◌+◌, ◌≤◌, List, [], ◌∷◌, ◌++◌, length, sym, ◌∙◌, subst, arith, length-append}
+use Rattle.std.proofs.Common.{◌≡◌, ℕ, ◌+◌, ◌≤◌, List, [], ◌∷◌, ◌++◌, length, sym, ◌∙◌, subst, arith, length-append, eqb, cond}
 use Rattle.std.specs.List.{All, concat}
 use Rattle.std.specs.List.Sorted.{IsPermutation}
 use Rattle.std.proofs.lemmas.List.{get_or_default}
@@ -7,7 +7,6 @@ use Rattle.std.proofs.lemmas.List.Elements.{All-cons, All-head, All-tail, All-ap
 use Rattle.std.proofs.lemmas.List.Folds.{concat-append}
 use Rattle.std.proofs.lemmas.List.Sorted.{sum_by-IsPermutation, length_permutation, IsPermutation-append_left, IsPermutation-append_right}
 use Rattle.std.proofs.lemmas.List.Sums.{sum_by-append, sum_by-cons}
-use Rattle.std.proofs.Common.{eqb, cond}
 use Rattle.tk_metric.specs.Cities.{IsCity}
 use Rattle.tk_tour.specs.Tour.{IsTour, occurrences}
 use Rattle.tk_tour.proofs.Tours.{HoldsOnce-tour, city_in_range}

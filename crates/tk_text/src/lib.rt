@@ -1,77 +1,18 @@
 //! The texts of the field: TSPLIB 95 problems and tours, CVRPLIB solutions, read and written.
+//!
+//! Its rooms are crates of their own; this one is what callers use.
 #![tactic(auto)]
 
-mod begin;
-mod coordinates;
-mod decimals;
-mod demands;
-mod depot;
-mod drive;
-mod entries;
-mod explicit_weights;
-mod fault;
-mod finish;
-mod form;
-mod header_values;
-mod headers;
-mod held;
-mod integers;
-mod keyword;
-mod limits;
-mod lower_weights;
-mod matrix;
-mod nodes;
-mod open_section;
-mod page;
-mod parts;
-mod pen;
-mod place;
-mod point;
-mod points;
-mod problem;
-mod problem_form;
-mod problem_text;
-mod reader;
-mod route_head;
-mod routing;
-mod run;
-mod scan;
-mod sink;
-mod solution;
-mod solution_form;
-mod solution_reader;
-mod solution_writer;
-mod source;
-mod tour;
-mod tour_writer;
-mod weight_order;
-mod weights;
-mod within;
-mod words;
-
-pub use decimals::decimal;
-pub use drive::{Run, Step, TextReader, feed_piece, read_text};
-pub use entries::{Entry, entry_of, keyword_in, minus_one};
-pub use fault::{TextFault, TextKind};
-pub use held::{blank, letter, spelled, word_byte};
-pub use integers::integer;
-pub use keyword::{Keyword, Role};
-pub use limits::{TABLE_LIMIT, TEXT_LIMIT};
-pub use lower_weights::LowerWeights;
-pub use matrix::write_matrix;
-pub use page::Page;
-pub use pen::{Pen, WriteFault};
-pub use place::Place;
-pub use point::{Point, SCALE, WholePoint};
-pub use points::{Places, Points};
-pub use problem::{Problem, SolText, TourText};
-pub use problem_text::read_problem;
-pub use routing::Routing;
-pub use sink::{Sink, ToWrite};
-pub use solution::read_solution;
-pub use solution_writer::write_solution;
-pub use source::{Failed, FromRead, Source};
-pub use tour::read_tour;
-pub use tour_writer::write_tour;
-pub use weight_order::WeightCursor;
-pub use weights::{Format, PlaneKind, Weights};
+pub use tk_lists::{SolText, TourText, read_solution, read_tour};
+pub use tk_pen::{Page, Pen, Sink, ToWrite, WriteFault};
+pub use tk_problem::{
+    Format, LowerWeights, Place, Places, PlaneKind, Point, Points, Problem, Routing, SCALE,
+    WeightCursor, Weights, WholePoint,
+};
+pub use tk_problem_text::{TABLE_LIMIT, read_problem};
+pub use tk_words::{
+    Entry, Failed, FromRead, Keyword, Role, Run, Source, Step, TEXT_LIMIT, TextFault, TextKind,
+    TextReader, blank, decimal, entry_of, feed_piece, integer, keyword_in, letter, minus_one,
+    read_text, spelled, word_byte,
+};
+pub use tk_writers::{write_matrix, write_solution, write_tour};

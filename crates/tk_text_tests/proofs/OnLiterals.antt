@@ -5,7 +5,8 @@ use Rattle.tk_text.specs.Lex.{lines, tokens_of}
 use Rattle.tk_text.specs.Drive.{answer_of}
 use Rattle.tk_text.specs.Words.{keyword_of, section_word, rest_word}
 use Rattle.tk_text.specs.Pieces.{cut, judge, decided_by}
-use Rattle.tk_text.specs.Tour.{list_extent, entries, entry_stop, entries_stop}
+use Rattle.tk_text.specs.Lists.{list_extent, entries}
+use Rattle.tk_text.specs.Tour.{entry_stop, entries_stop}
 use Rattle.tk_text.specs.Solution.{judge_lines, solution_decided}
 use Rattle.tk_text.specs.Rows.{place_rows, demand_rows}
 use Rattle.tk_text.specs.FixedSections.{tokens_stop}

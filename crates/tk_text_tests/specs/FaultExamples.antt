@@ -1,7 +1,7 @@
 -- Examples of problem texts that are refused: what is wrong, and on which line.
 use Rattle.std.specs.Prelude.{ℕ, List, [], ◌∷◌, ◌++◌, codes, replicate}
-use Rattle.tk_text.specs.declared.keyword.Keyword.TheVariants as words
-use Rattle.tk_text.specs.declared.fault.TextKind.TheVariants as kinds
+use Rattle.tk_text.specs.declared.Keyword.TheVariants as words
+use Rattle.tk_text.specs.declared.TextKind.TheVariants as kinds
 use Rattle.tk_text_tests.specs.ProblemExamples.{ProblemAnswer, fault, plane, full_matrix, routing}
 
 -- a problem of two nodes, whose further headers begin on line 3

@@ -1,7 +1,7 @@
 -- Examples of numbers.
 use Rattle.std.specs.Prelude.{ℕ, ◌^◌, List, [], ◌∷◌, Option, Some, None, Result, Ok, Err, ℤ, pos, neg_ℤ, codes}
-use Rattle.tk_text.specs.declared.fault.TextKind.{TextKind}
-use Rattle.tk_text.specs.declared.fault.TextKind.TheVariants as kinds
+use Rattle.tk_text.specs.declared.TextKind.{TextKind}
+use Rattle.tk_text.specs.declared.TextKind.TheVariants as kinds
 use Rattle.tk_text.specs.Decimal.{decimal_of, limited}
 
 abbrev pub minus : ℕ → ℤ

@@ -1,12 +1,12 @@
 -- Examples of problem texts that are accepted, and what their beginnings decide.
 use Rattle.std.specs.Prelude.{ℕ, ◌*◌, true, false, List, [], ◌∷◌, ◌++◌, Option, Some, None, Result, Ok, Err, pos, negsuc, codes}
-use Rattle.tk_text.specs.declared.keyword.Keyword.TheVariants as words
-use Rattle.tk_text.specs.declared.fault.TextKind.{TextKind}
-use Rattle.tk_text.specs.declared.fault.TextKind.TheVariants as kinds
-use Rattle.tk_text.specs.declared.fault.TextFault.{TextFault}
-use Rattle.tk_text.specs.declared.point.Point.{Point}
-use Rattle.tk_text.specs.declared.weights.PlaneKind.{PlaneKind}
-use Rattle.tk_text.specs.declared.weights.PlaneKind.TheVariants as planes
+use Rattle.tk_text.specs.declared.Keyword.TheVariants as words
+use Rattle.tk_text.specs.declared.TextKind.{TextKind}
+use Rattle.tk_text.specs.declared.TextKind.TheVariants as kinds
+use Rattle.tk_text.specs.declared.TextFault.{TextFault}
+use Rattle.tk_text.specs.declared.Point.{Point}
+use Rattle.tk_text.specs.declared.PlaneKind.{PlaneKind}
+use Rattle.tk_text.specs.declared.PlaneKind.TheVariants as planes
 use Rattle.tk_text.specs.Problem.{ProblemIs, WeightsAre, Points, Lower, problem_decided}
 
 abbrev pub ProblemAnswer : Type 0

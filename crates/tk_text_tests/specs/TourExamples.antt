@@ -1,9 +1,9 @@
 -- Examples of tour texts: what they list, what is wrong with them and on which line, and what their beginnings decide.
 use Rattle.std.specs.Prelude.{ℕ, true, false, List, [], ◌∷◌, ◌++◌, Option, Some, None, Result, Ok, Err, codes, replicate}
-use Rattle.tk_text.specs.declared.keyword.Keyword.TheVariants as words
-use Rattle.tk_text.specs.declared.fault.TextKind.{TextKind}
-use Rattle.tk_text.specs.declared.fault.TextKind.TheVariants as kinds
-use Rattle.tk_text.specs.declared.fault.TextFault.{TextFault}
+use Rattle.tk_text.specs.declared.Keyword.TheVariants as words
+use Rattle.tk_text.specs.declared.TextKind.{TextKind}
+use Rattle.tk_text.specs.declared.TextKind.TheVariants as kinds
+use Rattle.tk_text.specs.declared.TextFault.{TextFault}
 use Rattle.tk_text.specs.Drive.{answer_of}
 use Rattle.tk_text.specs.Pieces.{Stop, Fault}
 use Rattle.tk_text.specs.Tour.{entry_stop, tour_decided}

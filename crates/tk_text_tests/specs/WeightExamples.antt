@@ -1,7 +1,7 @@
 -- Examples of explicit weights, in all nine formats.
 use Rattle.std.specs.Prelude.{ℕ, suc, ◌+◌, ◌*◌, true, List, [], ◌∷◌, map, codes}
-use Rattle.tk_text.specs.declared.weights.Format.{Format}
-use Rattle.tk_text.specs.declared.weights.Format.TheVariants as formats
+use Rattle.tk_text.specs.declared.Format.{Format}
+use Rattle.tk_text.specs.declared.Format.TheVariants as formats
 use Rattle.tk_text.specs.Lex.{tokens_of}
 use Rattle.tk_text.specs.WeightOrder.{order}
 use Rattle.tk_text.specs.WeightSection.{lower_weights}

@@ -1,7 +1,7 @@
 -- Examples of words, values, lines and tokens.
 use Rattle.std.specs.Prelude.{ℕ, Bool, true, false, List, [], ◌∷◌, Option, Some, None, codes}
-use Rattle.tk_text.specs.declared.keyword.Keyword.{Keyword}
-use Rattle.tk_text.specs.declared.keyword.Keyword.TheVariants as words
+use Rattle.tk_text.specs.declared.Keyword.{Keyword}
+use Rattle.tk_text.specs.declared.Keyword.TheVariants as words
 use Rattle.tk_text.specs.Lex.{Line, Token, lines, tokens}
 
 -- the words that begin lines, in capitals or not, and some that do not

@@ -1,7 +1,7 @@
 -- Examples of written texts.
 use Rattle.std.specs.Prelude.{ℕ, ◌+◌, ◌==◌, List, [], ◌∷◌, ◌++◌, codes, if◌then◌else◌}
-use Rattle.tk_text.specs.declared.weights.Format.{Format}
-use Rattle.tk_text.specs.declared.weights.Format.TheVariants as formats
+use Rattle.tk_text.specs.declared.Format.{Format}
+use Rattle.tk_text.specs.declared.Format.TheVariants as formats
 use Rattle.tk_text.specs.Written.{tour_line, wrong_count_line, out_of_range_line, repeated_city_line, near_line}
 use Rattle.tk_text.specs.MatrixText.{matrix_text}
 use Rattle.tk_text.specs.TourWritten.{tour_text}

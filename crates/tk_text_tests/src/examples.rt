@@ -10,7 +10,7 @@ ghost use Rattle.tk_text_tests.specs.ProblemExamples as Problems;
 ghost use Rattle.tk_text.specs.Scan.{first_word};
 ghost use Rattle.tk_text.specs.Solution.{route_head};
 ghost use Rattle.tk_text_tests.specs.SolutionExamples as Solutions;
-ghost use Rattle.tk_text.specs.Tour.{is_eof, is_keyword};
+ghost use Rattle.tk_text.specs.Entry.{is_eof, is_keyword};
 ghost use Rattle.tk_text_tests.specs.TourExamples as Tours;
 ghost use Rattle.tk_text_tests.specs.WeightExamples as WeightTables;
 ghost use Rattle.tk_text_tests.specs.WordExamples as Words;

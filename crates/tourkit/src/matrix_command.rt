@@ -1,7 +1,7 @@
 //! The subcommand `matrix`.
 ghost use Rattle.std.specs.Prelude.{◌≡◌, ◌≢◌, IfSome};
 ghost use Rattle.tk_text.specs.MatrixText.{format_word};
-ghost use Rattle.tk_text.specs.declared.weights.Format.{Format};
+ghost use Rattle.tk_text.specs.declared.Format.{Format};
 
 use crate::command::problem_file;
 use crate::report::{self, USAGE};

@@ -1,7 +1,8 @@
 use Rattle.std.proofs.Common.{◌≡◌, ℕ, List, ap, subst, ◌∙◌, pos, arith}
 use Rattle.tk_metric.specs.Tables.{table_distance}
 use Rattle.tk_text.specs.Parts.{weights_are}
-use Rattle.tk_text.specs.ReadBack.{IsName, ReadsBack}
+use Rattle.tk_text.specs.Names.{IsName}
+use Rattle.tk_text.specs.ReadBack.{ReadsBack}
 use Rattle.tk_engines.proofs.ProblemTables.{IsTable-table, read_distance-weights}
 use Rattle.tk_engines.specs.Check.{read_distance}
 use Rattle.tk_engines.proofs.matrix.write_problem.Goals as goal

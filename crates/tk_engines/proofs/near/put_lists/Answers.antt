@@ -4,8 +4,8 @@ use Rattle.std.specs.List.{range_with_len}
 use Rattle.tk_metric.specs.Near.{near_of}
 use Rattle.tk_text.specs.Pens.{Puts}
 use Rattle.tk_text.specs.Written.{near_line, spaced_numbers}
-use Rattle.tk_text.proofs.MatrixLines.{lines_more}
-use Rattle.tk_text.proofs.Penned.{Puts-then}
+use Rattle.tk_writers.proofs.MatrixLines.{lines_more}
+use Rattle.tk_pen.proofs.Putting.{Puts-then}
 use Rattle.tk_engines.proofs.near.put_lists.Goals as goal
 
 pub loop-city-preserved : goal.loop-city-preserved

@@ -1,5 +1,5 @@
 use Rattle.std.proofs.Common.{rules}
-use Rattle.tk_text.proofs.Penned.{Writes-end, broken_at_err}
+use Rattle.tk_pen.proofs.Putting.{Writes-end, broken_at_err}
 use Rattle.tk_engines.specs.NearText.{near_text}
 use Rattle.tk_engines.proofs.NearLines.{length_near_text}
 use Rattle.tk_engines.proofs.near.write_lists.Goals as goal

@@ -1,5 +1,5 @@
 -- put_count_line
-use Rattle.tk_text.proofs.Penned.{Puts-then}
+use Rattle.tk_pen.proofs.Putting.{Puts-then}
 use Rattle.tk_engines.proofs.verdict_line.put_count_line.Goals as goal
 
 pub returns : goal.returns

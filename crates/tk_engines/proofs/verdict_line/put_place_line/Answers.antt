@@ -1,5 +1,5 @@
 -- put_place_line
-use Rattle.tk_text.proofs.Penned.{Puts-then}
+use Rattle.tk_pen.proofs.Putting.{Puts-then}
 use Rattle.tk_engines.proofs.verdict_line.put_place_line.Goals as goal
 
 pub returns : goal.returns

@@ -1,6 +1,6 @@
 -- write_verdict
 use Rattle.std.proofs.Common.{rules}
-use Rattle.tk_text.proofs.Penned.{Writes-end, broken_at_err}
+use Rattle.tk_pen.proofs.Putting.{Writes-end, broken_at_err}
 use Rattle.tk_metric.specs.Weights.{problem_distance}
 use Rattle.tk_engines.proofs.Lengths.{verdict_line_short}
 use Rattle.tk_engines.proofs.verdict_line.write_verdict.Goals as goal

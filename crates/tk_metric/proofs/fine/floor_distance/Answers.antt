@@ -1,6 +1,6 @@
 use Rattle.std.proofs.Common.{ℕ, ◌*◌, ◌+◌, ◌<◌, ◌≤◌, arith, subst, sym}
 use Rattle.std.proofs.lemmas.Grind.{div_ceil_times}
-use Rattle.tk_text.specs.declared.weights.PlaneKind.{PlaneKind}
+use Rattle.tk_problem.specs.declared.weights.PlaneKind.{PlaneKind}
 use Rattle.tk_metric.specs.Distance.{IsDistance}
 use Rattle.tk_metric.proofs.Covering.{least_along}
 use Rattle.tk_metric.proofs.Rounding.{nearest_along}

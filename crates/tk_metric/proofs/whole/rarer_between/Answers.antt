@@ -1,6 +1,6 @@
 use Rattle.std.proofs.Common.{◌≡◌, arith}
 use Rattle.std.proofs.lemmas.Int.{ints}
-use Rattle.tk_text.specs.Places.{place_of_whole}
+use Rattle.tk_problem.specs.Places.{place_of_whole}
 use Rattle.tk_metric.specs.Distance.{gap}
 use Rattle.tk_metric.specs.PlaneLaws.{whole_places, place_of_whole-near, IsDistanceOf-limit}
 use Rattle.tk_metric.proofs.whole.rarer_between.Goals as goal

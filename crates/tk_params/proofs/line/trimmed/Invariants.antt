@@ -1,5 +1,5 @@
 use Rattle.std.proofs.Common.{◌≡◌, ◌≤◌, length, take}
-use Rattle.tk_text.specs.Lex.{trim_end}
+use Rattle.tk_words.specs.Lex.{trim_end}
 use Rattle.tk_params.proofs.line.trimmed.Given as goal
 
 abbrev pub invariant-loop-end : goal.invariant-loop-end

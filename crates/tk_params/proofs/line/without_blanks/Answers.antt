@@ -1,5 +1,5 @@
 use Rattle.std.proofs.Common.{◌∙◌, sym, arith}
-use Rattle.tk_text.specs.Lex.{is_blank}
+use Rattle.tk_words.specs.Lex.{is_blank}
 use Rattle.tk_params.proofs.Words.{behind_at, run_more, take_rest}
 use Rattle.tk_params.proofs.line.without_blanks.Goals as goal
 

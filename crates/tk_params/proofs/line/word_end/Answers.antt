@@ -1,5 +1,5 @@
 use Rattle.std.proofs.Common.{◌≡◌, ◌∙◌, [], take, subst, sym, arith}
-use Rattle.tk_text.specs.Lex.{behind, is_word_byte}
+use Rattle.tk_words.specs.Lex.{behind, is_word_byte}
 use Rattle.tk_params.proofs.Words.{front_all, behind_at, front_at, run_more}
 use Rattle.tk_params.proofs.line.word_end.Goals as goal
 

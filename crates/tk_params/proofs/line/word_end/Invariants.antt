@@ -1,5 +1,5 @@
 use Rattle.std.proofs.Common.{◌≡◌, [], take}
-use Rattle.tk_text.specs.Lex.{behind, is_word_byte}
+use Rattle.tk_words.specs.Lex.{behind, is_word_byte}
 use Rattle.tk_params.proofs.line.word_end.Given as goal
 
 abbrev pub invariant-loop-i : goal.invariant-loop-i

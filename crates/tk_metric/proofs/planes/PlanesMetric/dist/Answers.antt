@@ -1,4 +1,4 @@
-use Rattle.tk_text.specs.PlacesOf.{places_of}
+use Rattle.tk_problem.specs.PlacesOf.{places_of}
 use Rattle.tk_metric.proofs.PlaneReads.{whole_cities, fine_cities, signed_value, signed_distance}
 use Rattle.tk_metric.proofs.planes.PlanesMetric.dist.Goals as goal
 

@@ -1,7 +1,7 @@
 use Rattle.std.proofs.Common.{arith, rules, subst, pos, w64, SFits, ◌≡◌, ◌<◌, ◌<ℤ◌, ◌↔◌}
 use Rattle.std.proofs.lemmas.Int.{to_z-of_z}
 use Rattle.std.proofs.lemmas.Bool.Decides.{nat_tests}
-use Rattle.tk_text.specs.PlacesOf.{places_of}
+use Rattle.tk_problem.specs.PlacesOf.{places_of}
 use Rattle.tk_metric.specs.PlaneOf.{city_distance, city_place}
 use Rattle.tk_metric.specs.PlaneLaws.{city_distance-limit, distance_of-unique}
 use Rattle.tk_metric.proofs.PlaneReads.{whole_city_distance, fine_cities}

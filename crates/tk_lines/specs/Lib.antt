@@ -1,0 +1,5 @@
+pub mod Forms
+pub mod Lists
+pub mod Pieces
+pub mod Reader
+pub mod Scan

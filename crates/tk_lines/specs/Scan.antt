@@ -1,0 +1,40 @@
+-- What is kept of a header's value.
+use Rattle.std.specs.Prelude.{◌≡◌, ◌≤◌, ℕ, Bool, not, List, [], ◌∷◌, ◌++◌, length, take}
+use Rattle.tk_lines.specs.declared.scan.Phase.{Phase}
+use Rattle.tk_lines.specs.declared.scan.Phase.TheVariants as phases
+use Rattle.tk_lines.specs.declared.scan.Scan.{Scan}
+use Rattle.tk_words.specs.Lex.{is_blank, front, behind, after_word, trim_end}
+
+abbrev pub not_blank : ℕ → Bool
+not_blank b = not (is_blank b)
+
+-- a value from its first byte on that is no blank
+abbrev pub body : List ℕ → List ℕ
+body v = behind is_blank (after_word v)
+
+-- the first word of a header's value
+abbrev pub first_word : List ℕ → List ℕ
+first_word v = front not_blank (body v)
+
+-- the byte that settles the colon has come
+abbrev pub Settled : List ℕ → Type 0
+Settled v = (more : List ℕ) → after_word (v ++ more) ≡ after_word v ++ more
+
+abbrev pub IsEmpty : List ℕ → Type 0
+IsEmpty [] = Unit {0}
+IsEmpty (b ∷ bs) = ⊥
+
+abbrev pub InPhase : Phase → List ℕ → Type 0
+InPhase phases.Before v = behind is_blank v ≡ []
+InPhase phases.Behind v = Settled v × (body v ≡ [])
+InPhase phases.First v = Settled v × (behind not_blank (body v) ≡ []) × (IsEmpty (body v) → ⊥)
+InPhase phases.Rest v = Settled v × (IsEmpty (behind not_blank (body v)) → ⊥)
+
+pub record Scans (s : Scan) (v : List ℕ) : Type 0 where
+  pub phase : InPhase s.phase v
+  pub count : s.count ≡ length v
+  pub first : s.first ≡ take 64 (first_word v)
+  pub text : s.text ≡ take 1024 (body v)
+  pub small : s.seen ≤ s.count
+  pub seen : s.seen ≡ length (body v)
+  pub trimmed : s.trimmed ≡ length (trim_end (body v))

@@ -1,0 +1,12 @@
+//! Lines, headers and sections: a text as pieces, byte by byte.
+#![tactic(auto)]
+
+mod finish;
+mod form;
+mod reader;
+mod run;
+mod scan;
+
+pub use form::{Form, Taken};
+pub use reader::PieceReader;
+pub use scan::Scan;

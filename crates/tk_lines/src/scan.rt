@@ -1,0 +1,151 @@
+//! The value of a header, byte by byte.
+ghost use Rattle.std.specs.Prelude.{◌≡◌, ◌≤◌, ◌<◌, ℕ, List, [], ◌∷◌, ◌++◌, length, Some, None, IfSome, IfOk, IfErr, take};
+ghost use Rattle.tk_lines.specs.Scan.{Scans, first_word};
+ghost use Rattle.tk_words.specs.Lex.{trim, after_word};
+ghost use Rattle.tk_words.specs.Words.{spells};
+ghost use Rattle.tk_lines.specs.Pieces.{first_at, Fault};
+ghost use Rattle.tk_words.specs.Entry.{number_tests, IsNumber};
+ghost use Rattle.tk_lines.specs.Forms.{IsToldWord};
+
+use tk_words::{Held, TextKind, blank, integer, limited, spelled};
+
+/// How far a value is read.
+#[derive(Clone, Copy, PartialEq, Eq)]
+pub enum Phase {
+    Before,
+    Behind,
+    First,
+    Rest,
+}
+
+/// What is kept of a header's value: its first word up to 64 bytes, its first 1,024 bytes, and its length without outer blanks.
+#[derive(Drop)]
+pub struct Scan {
+    pub phase: Phase,
+    pub count: u32,
+    pub first: Held<64>,
+    pub text: Held<1024>,
+    pub seen: u32,
+    pub trimmed: u32,
+}
+
+impl Scan {
+    pub fn new() -> Self
+        ensures { Scans result [] }
+    {
+        Scan {
+            phase: Phase::Before,
+            count: 0,
+            first: Held::new(),
+            text: Held::new(),
+            seen: 0,
+            trimmed: 0,
+        }
+    }
+
+    pub fn clear(&mut self)
+        ensures { Scans self.new [] }
+    {
+        self.phase = Phase::Before;
+        self.count = 0;
+        self.first.clear();
+        self.text.clear();
+        self.seen = 0;
+        self.trimmed = 0;
+    }
+
+    pub fn push(&mut self, byte: u8)
+        requires room { (self.old.count < 5000) × (self.old.seen < 5000) }
+        requires known { (v : List ℕ) × Scans self.old v }
+        ensures { (v : List ℕ) → Scans self.old v → Scans self.new (v ++ byte ∷ []) }
+    {
+        self.count += 1;
+        match self.phase {
+            Phase::Before => {
+                if blank(byte) {
+                    return;
+                }
+                if byte == b':' {
+                    self.phase = Phase::Behind;
+                    return;
+                }
+                self.begin(byte);
+            }
+            Phase::Behind => {
+                if blank(byte) {
+                    return;
+                }
+                self.begin(byte);
+            }
+            Phase::First => {
+                self.seen += 1;
+                self.text.keep(byte);
+                if blank(byte) {
+                    self.phase = Phase::Rest;
+                    return;
+                }
+                self.trimmed = self.seen;
+                if self.first.is_full() {
+                    return;
+                }
+                self.first.push(byte);
+            }
+            Phase::Rest => {
+                self.seen += 1;
+                self.text.keep(byte);
+                if blank(byte) {
+                    return;
+                }
+                self.trimmed = self.seen;
+            }
+        }
+    }
+
+    /// The value as a name, without outer blanks; `None` where it is longer than 1,024 bytes.
+    pub fn name(&self) -> Option<&[u8]>
+        ensures long { (v : List ℕ) → Scans self.now v → result ≡ None → 1024 < length (trim (after_word v)) }
+        ensures name { (v : List ℕ) → Scans self.now v → IfSome result (λ s. (s.now ≡ trim (after_word v)) × (length s.now ≤ 1024)) }
+    {
+        let text = self.text.as_slice();
+        let end = self.trimmed as usize;
+        if end > text.len() {
+            return None;
+        }
+        Some(&text[..end])
+    }
+
+    /// Whether the value's first word spells a text in capitals.
+    pub fn is(&self, text: &[u8]) -> bool
+        requires { length text.now < 64 }
+        ensures { (v : List ℕ) → Scans self.now v → result ≡ spells (first_word v) text.now }
+    {
+        spelled(self.first.as_slice(), text)
+    }
+
+    /// The value's first word as an integer within limits.
+    pub fn number(&self, low: u32, high: u32) -> Result<u32, TextKind>
+        ensures ok { (v : List ℕ) → Scans self.now v → IfOk result (λ n. IsNumber low high (first_word v) n) }
+        ensures err { (v : List ℕ) (line : ℕ) → Scans self.now v → IfErr result (IsToldWord (λ k. first_at line (number_tests low high (first_word v)) ≡ Some (Fault line k))) }
+    {
+        let Some(number) = integer(self.first.as_slice()) else {
+            return Err(TextKind::BadNumber);
+        };
+        match limited(number, low, high) {
+            Some(number) => Ok(number),
+            None => Err(TextKind::OutOfLimit),
+        }
+    }
+
+    fn begin(&mut self, byte: u8)
+        requires { (self.old.first ≡ []) × (self.old.text ≡ []) }
+        ensures { self.new ≡ record self.old { phase = phases.First; first = byte ∷ []; text = byte ∷ []; seen = 1; trimmed = 1 } }
+    {
+        self.phase = Phase::First;
+        self.seen = 1;
+        self.trimmed = 1;
+        self.first.push(byte);
+        self.text.push(byte);
+    }
+
+    ghost use Rattle.tk_lines.specs.declared.scan.Phase.TheVariants as phases;
+}

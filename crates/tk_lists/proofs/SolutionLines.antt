@@ -1,0 +1,160 @@
+-- Look-ups in the lines of a solution text.
+use Rattle.std.proofs.Common.{◌≡◌, ℕ, suc, ◌+◌, ◌<◌, ◌≤◌, leb, ltb, Option, Some, None, Bool, true, false, cond, not, ◌||◌, List, [], ◌∷◌, ◌++◌, length, map, ℤ, pos, negsuc, refl, sym, ap, ◌∙◌, append_assoc, arith}
+use Rattle.std.proofs.lemmas.Bool.{le-leb, lt-leb, le-ltb}
+use Rattle.std.proofs.lemmas.List.{append-nil, length-append}
+use Rattle.tk_lists.specs.declared.solution_form.SolutionForm.{SolutionForm}
+use Rattle.tk_words.specs.Lex.{Token, integer}
+use Rattle.tk_lists.specs.Solution.{SolutionLine, Route, Cost, is_natural, cost_stop, trailing_stop, customer_stop, customers_stop, routes_on, routes_of, count_on, count_of, is_cost, has_cost, cost_on, cost_of}
+use Rattle.tk_lists.specs.SolutionReader.{Keeps, IsRoute, IsPriced}
+use Rattle.tk_lines.specs.Forms.{whole}
+use Rattle.tk_words.specs.declared.fault.TextKind.TheVariants as kinds
+use Rattle.tk_lines.specs.Pieces.{Stop, Open, Fault, or_else}
+use Rattle.std.specs.Int.Signed.{lt_z}
+use Rattle.std.specs.Prelude.{is_none}
+use Rattle.tk_lists.proofs.Lists.{numbers_more}
+
+pub routes_of-append : (xs ys : List SolutionLine) → routes_of (xs ++ ys) ≡ routes_of xs ++ routes_of ys
+routes_of-append [] ys = refl
+routes_of-append (x ∷ xs) ys = ap (λ (rs : List (List ℕ)). routes_on x ++ rs) (routes_of-append xs ys) ∙ sym (append_assoc (routes_on x) (routes_of xs) (routes_of ys))
+
+pub count_of-append : (xs ys : List SolutionLine) → count_of (xs ++ ys) ≡ count_of xs + count_of ys
+count_of-append [] ys = omega arith
+count_of-append (x ∷ xs) ys = omega (arith, count_of-append xs ys)
+
+pub has_cost-append : (xs ys : List SolutionLine) → has_cost (xs ++ ys) ≡ (has_cost xs || has_cost ys)
+has_cost-append [] ys = refl
+has_cost-append (x ∷ xs) ys = by_test (is_cost x) (has_cost-append xs ys)
+  where
+    by_test : (t : Bool) → has_cost (xs ++ ys) ≡ (has_cost xs || has_cost ys) → (t || has_cost (xs ++ ys)) ≡ ((t || has_cost xs) || has_cost ys)
+    by_test true h = refl
+    by_test false h = h
+
+-- the cost that a first line tells is the one that counts
+pub cost_of-append : (xs ys : List SolutionLine) → cost_of (xs ++ ys) ≡ cond (has_cost xs) (cost_of xs) (cost_of ys)
+cost_of-append [] ys = refl
+cost_of-append (x ∷ xs) ys = by_test (is_cost x) (cost_of-append xs ys)
+  where
+    by_test : (t : Bool) → cost_of (xs ++ ys) ≡ cond (has_cost xs) (cost_of xs) (cost_of ys) → cond t (cost_on x) (cost_of (xs ++ ys)) ≡ cond (t || has_cost xs) (cond t (cost_on x) (cost_of xs)) (cost_of ys)
+    by_test true h = refl
+    by_test false h = h
+
+pub no_cost : (xs : List SolutionLine) → has_cost xs ≡ false → cost_of xs ≡ pos 0
+no_cost [] h = refl
+no_cost (x ∷ xs) h = by_test (is_cost x) (no_cost xs) h
+  where
+    by_test : (t : Bool) → (has_cost xs ≡ false → cost_of xs ≡ pos 0) → (t || has_cost xs) ≡ false → cond t (cost_on x) (cost_of xs) ≡ pos 0
+    by_test true rest h = absurd cc
+    by_test false rest h = rest h
+
+-- a line of which nothing is kept
+pub keeps_line : (s : SolutionForm) (before : List SolutionLine) (l : SolutionLine) → routes_on l ≡ [] → count_on l ≡ 0 → is_cost l ≡ false → Keeps s before [] → Keeps s (before ++ l ∷ []) []
+keeps_line s before l no_route no_customer plain k = record {
+  routes = k.routes ∙ sym (routes_of-append before (l ∷ []) ∙ rw no_route (append-nil (routes_of before)));
+  route = k.route;
+  customers = omega (arith, k.customers, count_of-append before (l ∷ []), no_customer);
+  priced = k.priced ∙ sym (has_cost-append before (l ∷ []) ∙ rw plain (or_false (has_cost before)));
+  cost = k.cost ∙ sym (cost_of-append before (l ∷ []) ∙ rw plain (same (has_cost before) before refl));
+}
+  where
+    or_false : (t : Bool) → (t || false) ≡ t
+    or_false true = refl
+    or_false false = refl
+
+    same : (t : Bool) (xs : List SolutionLine) → has_cost xs ≡ t → cond t (cost_of xs) (pos 0) ≡ cost_of xs
+    same true xs h = refl
+    same false xs h = sym (no_cost xs h)
+
+-- a route that is whole
+pub keeps_route : (s t : SolutionForm) (before : List SolutionLine) (toks : List Token) → Keeps s before toks → has_cost before ≡ false → map (λ r. r.items) t.routes.items ≡ map (λ r. r.items) s.routes.items ++ s.route.items ∷ [] → t.route.items ≡ []
+    → t.customers ≡ s.customers → t.priced ≡ s.priced → t.cost ≡ s.cost → Keeps t (before ++ Route toks ∷ []) []
+keeps_route s t before toks k unpriced routes route customers priced cost = record {
+  routes = routes ∙ rw (k.routes, k.route, routes_of-append before (Route toks ∷ [])) refl;
+  route = route;
+  customers = omega (arith, customers, k.customers, count_of-append before (Route toks ∷ []));
+  priced = priced ∙ k.priced ∙ unpriced ∙ sym (has_cost-append before (Route toks ∷ []) ∙ rw unpriced refl);
+  cost = cost ∙ k.cost ∙ no_cost before unpriced ∙ sym (cost_of-append before (Route toks ∷ []) ∙ rw unpriced refl);
+}
+
+-- ---- customers
+
+nothing_before : (x y : Option Stop) → or_else x y ≡ None → (x ≡ None) × (y ≡ None)
+nothing_before None y h = (refl, h)
+nothing_before (Some s) y h = absurd cc
+
+pub customers_more : (k : ℕ) (ts : List Token) (t : Token) → customers_stop k ts ≡ None → customer_stop (k + length ts) t ≡ None → customers_stop k (ts ++ t ∷ []) ≡ None
+customers_more k [] t fine here = let h : customer_stop k t ≡ None = ap (λ (j : ℕ). customer_stop j t) (omega arith) ∙ here in rw h refl
+customers_more k (x ∷ ts) t fine here =
+    let n = nothing_before (customer_stop k x) (customers_stop (suc k) ts) fine in
+    rw n.0 (customers_more (suc k) ts t n.1 (ap (λ (j : ℕ). customer_stop j t) (omega arith) ∙ here))
+
+-- the first customer at which something stops, stops the line
+pub customers_at : (k : ℕ) (ts more : List Token) (t : Token) (s : Stop) → customers_stop k ts ≡ None → customer_stop (k + length ts) t ≡ Some s → customers_stop k (ts ++ t ∷ more) ≡ Some s
+customers_at k [] more t s fine stop =
+    let here : customer_stop k t ≡ Some s = ap (λ (j : ℕ). customer_stop j t) (omega arith) ∙ stop in
+    rw here refl
+customers_at k (x ∷ ts) more t s fine stop =
+    let n = nothing_before (customer_stop k x) (customers_stop (suc k) ts) fine in
+    rw n.0 (customers_at (suc k) ts more t s n.1 (ap (λ (j : ℕ). customer_stop j t) (omega arith) ∙ stop))
+
+customer_fine : (k n m : ℕ) (bs : List ℕ) → length bs ≤ 64 → integer bs ≡ Some (pos m) → m ≤ 4294967295 → k < 1000000 → customer_stop k (whole bs n) ≡ None
+customer_fine k n m bs short is low few =
+    let a : ltb 64 (length bs) ≡ false = le-ltb _ _ short in
+    let b : leb m 4294967295 ≡ true = le-leb _ _ low in
+    let c : leb 1000000 k ≡ false = lt-leb _ _ few in
+    let z : leb 0 m ≡ true = le-leb _ _ (omega arith) in
+    rw (a, is, z, b, c) refl
+
+-- one customer more
+pub keeps_customer : (s t : SolutionForm) (before : List SolutionLine) (toks : List Token) (n m : ℕ) (bs : List ℕ) → length bs ≤ 64 → integer bs ≡ Some (pos m) → m ≤ 4294967295 → s.customers < 1000000
+    → t.routes ≡ s.routes → t.route.items ≡ s.route.items ++ m ∷ [] → t.customers ≡ s.customers + 1 → t.priced ≡ s.priced → t.cost ≡ s.cost
+    → Keeps s before toks → IsRoute before toks → Keeps t before (toks ++ whole bs n ∷ []) × IsRoute before (toks ++ whole bs n ∷ [])
+keeps_customer s t before toks n m bs short is low few routes route customers priced cost k may = (
+  record {
+    routes = rw routes k.routes;
+    route = route ∙ rw k.route (sym (numbers_more toks (whole bs n) ∙ rw is refl));
+    customers = omega (arith, customers, k.customers, length-append toks (whole bs n ∷ []));
+    priced = priced ∙ k.priced;
+    cost = cost ∙ k.cost;
+  },
+  record {
+    priced = may.priced;
+    may = may.may;
+    fine = customers_more (count_of before) toks (whole bs n) may.fine (customer_fine _ n m bs short is low (omega (arith, k.customers)));
+  },
+)
+
+-- ---- the cost
+
+natural_line : (t : Token) (ts : List Token) (n : ℕ) (ended : Bool) → ltb 64 (length t.bytes) ≡ false → t.whole ≡ true → is_natural (integer t.bytes) ≡ true → cost_stop n ended (t ∷ ts) ≡ trailing_stop n ts
+natural_line t ts n ended short all is = by_value (integer t.bytes) is
+  where
+    by_value : (z : Option ℤ) → is_natural z ≡ true
+        → or_else (cond (ltb 64 (length t.bytes)) (Some (Fault t.line kinds.TooLong)) (cond (not t.whole) (Some Open) (cond (is_none z) (Some (Fault t.line kinds.BadNumber)) (cond (not (is_natural z)) (Some (Fault t.line kinds.OutOfLimit)) None)))) (trailing_stop n ts) ≡ trailing_stop n ts
+    by_value None h = absurd cc
+    by_value (Some z) h = rw (short, all, h) refl
+
+pub keeps_cost : (s t : SolutionForm) (before : List SolutionLine) (n : ℕ) (bs : List ℕ) (z : ℤ) → length bs ≤ 64 → integer bs ≡ Some z → lt_z z (pos 0) ≡ false
+    → t.routes ≡ s.routes → t.route ≡ s.route → t.customers ≡ s.customers → t.priced ≡ true → t.cost ≡ z
+    → Keeps s before [] → has_cost before ≡ false → IsPriced t before n (whole bs n ∷ [])
+keeps_cost s t before n bs z short is low routes route customers priced cost k unpriced =
+    let here : SolutionLine = Cost (whole bs n ∷ []) in
+    let fits : ltb 64 (length bs) ≡ false = le-ltb _ _ short in
+    let nat : is_natural (integer bs) ≡ true = rw is (natural_from z low) in
+    record {
+      price = whole bs n;
+      is = refl;
+      fine = λ ended. natural_line (whole bs n) [] n ended fits refl nat;
+      trailing = λ ended t ts. natural_line (whole bs n) (t ∷ ts) n ended fits refl nat;
+      priced = unpriced;
+      keeps = record {
+        routes = rw routes (k.routes ∙ sym (routes_of-append before (here ∷ []) ∙ append-nil (routes_of before)));
+        route = rw route k.route;
+        customers = omega (arith, customers, k.customers, count_of-append before (here ∷ []));
+        priced = priced ∙ sym (has_cost-append before (here ∷ []) ∙ rw unpriced refl);
+        cost = cost ∙ sym (cost_of-append before (here ∷ []) ∙ rw (unpriced, is) refl);
+      };
+    }
+  where
+    natural_from : (z : ℤ) → lt_z z (pos 0) ≡ false → is_natural (Some z) ≡ true
+    natural_from (pos m) h = refl
+    natural_from (negsuc m) h = absurd cc

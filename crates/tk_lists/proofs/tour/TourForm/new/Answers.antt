@@ -1,0 +1,7 @@
+use Rattle.std.proofs.Common.{refl}
+use Rattle.tk_lines.specs.Lists.{entries}
+use Rattle.tk_lists.proofs.tour.TourForm.new.Goals as goal
+
+pub returns : goal.returns
+unfolding entries
+returns c = record { seen = record { name = refl; kind = refl; dimension = refl }; section = refl; cities = c.new.ensures.items }

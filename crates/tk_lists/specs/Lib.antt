@@ -1,0 +1,4 @@
+pub mod Solution
+pub mod SolutionReader
+pub mod Tour
+pub mod TourForm

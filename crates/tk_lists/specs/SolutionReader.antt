@@ -1,0 +1,145 @@
+-- A reader's place in a solution text.
+use Rattle.std.specs.Prelude.{◌≡◌, ◌<◌, ◌≤◌, ℕ, ◌+◌, Bool, true, false, List, [], ◌∷◌, ◌++◌, length, map, Option, Some, None, Result, codes}
+use Rattle.tk_words.specs.declared.fault.TextKind.{TextKind}
+use Rattle.tk_words.specs.declared.fault.TextKind.TheVariants as kinds
+use Rattle.tk_words.specs.declared.fault.TextFault.{TextFault}
+use Rattle.tk_lists.specs.declared.route_head.HeadPlace.{HeadPlace}
+use Rattle.tk_lists.specs.declared.route_head.HeadPlace.TheVariants as heads
+use Rattle.tk_lists.specs.declared.route_head.HeadStep.{HeadStep}
+use Rattle.tk_lists.specs.declared.route_head.HeadStep.TheVariants as steps
+use Rattle.tk_lists.specs.declared.solution_form.SolutionForm.{SolutionForm}
+use Rattle.tk_lists.specs.declared.solution_reader.LinePlace.{LinePlace}
+use Rattle.tk_lists.specs.declared.solution_reader.LinePlace.TheVariants as places
+use Rattle.tk_lists.specs.declared.solution_reader.LineWord.{LineWord}
+use Rattle.tk_lists.specs.declared.solution_reader.LineWord.TheVariants as line_words
+use Rattle.tk_lists.specs.declared.solution_reader.SolutionReader.{SolutionReader}
+use Rattle.tk_words.specs.Lex.{Line, Token, lines, tokens_of, is_blank, is_word_byte, behind, after_word}
+use Rattle.tk_lines.specs.Pieces.{Fault, first_at, stopped}
+use Rattle.tk_words.specs.Words.{spells}
+use Rattle.tk_words.specs.Entry.{numbers_of}
+use Rattle.tk_lines.specs.Reader.{IsToken}
+use Rattle.tk_words.specs.Drive.{line_behind}
+use Rattle.tk_lists.specs.Solution.{Solution, Head, Bad, Behind, colon_head, digits_head, number_head, route_head, SolutionLine, Other, Route, Cost, route_line, may_be_word, solid_line, line_of, routes_of, count_of, has_cost, cost_of, customers_stop, cost_stop, route_tests, line_stop, judge_lines, solution_decided}
+
+-- ---- the head of a Route line
+
+-- what the bytes behind a place make of the head
+abbrev pub head_from : HeadPlace → List ℕ → Head
+head_from heads.Word bs = route_head bs
+head_from heads.Number bs = number_head bs
+head_from (heads.Digits k) bs = digits_head k bs
+head_from heads.Colon bs = colon_head (behind is_blank bs)
+
+abbrev pub IsHead : HeadPlace → Type 0
+IsHead (heads.Digits k) = k ≤ 18
+IsHead _ = Unit {0}
+
+abbrev pub HasStepped : HeadPlace → ℕ → HeadStep → Type 0
+HasStepped p b (steps.At q) = IsHead q × ((bs : List ℕ) → head_from p (b ∷ bs) ≡ head_from q bs)
+HasStepped p b steps.Behind = (bs : List ℕ) → head_from p (b ∷ bs) ≡ Behind bs
+HasStepped p b steps.Bad = (bs : List ℕ) → head_from p (b ∷ bs) ≡ Bad
+
+-- ---- what is kept
+
+-- of these lines, and of these customers on the line behind them
+pub record Keeps (s : SolutionForm) (before : List SolutionLine) (toks : List Token) : Type 0 where
+  pub routes : map (λ r. r.items) s.routes.items ≡ routes_of before
+  pub route : s.route.items ≡ numbers_of toks
+  pub customers : s.customers ≡ count_of before + length toks
+  pub priced : s.priced ≡ has_cost before
+  pub cost : s.cost ≡ cost_of before
+
+-- ---- on a line
+
+-- a line, by what stands behind a place on it
+abbrev pub line_from : ℕ → List ℕ → List Token → LinePlace → List ℕ → Bool → SolutionLine
+line_from n held toks places.Start bs whole = line_of n whole bs
+line_from n held toks places.Word bs whole = solid_line n whole (held ++ bs)
+line_from n held toks places.Skip bs whole = Other
+line_from n held toks (places.Head p) bs whole = route_line n whole (head_from p bs)
+line_from n held toks places.Gap bs whole = Route (toks ++ tokens_of whole n bs)
+line_from n held toks places.Customer bs whole = Route (toks ++ tokens_of whole n (held ++ bs))
+line_from n held toks places.Colon bs whole = Cost (tokens_of whole n (after_word bs))
+line_from n held toks places.Price bs whole = Cost (tokens_of whole n bs)
+line_from n held toks places.Digits bs whole = Cost (tokens_of whole n (held ++ bs))
+line_from n held toks places.Close bs whole = Cost (toks ++ tokens_of whole n bs)
+
+-- what a word is
+abbrev pub IsWordOf : List ℕ → LineWord → Type 0
+IsWordOf bs line_words.Route = spells bs (codes "ROUTE") ≡ true
+IsWordOf bs line_words.Cost = (spells bs (codes "ROUTE") ≡ false) × (spells bs (codes "COST") ≡ true)
+IsWordOf bs line_words.Other = (spells bs (codes "ROUTE") ≡ false) × (spells bs (codes "COST") ≡ false)
+
+-- bytes that more may make Route or Cost
+abbrev pub IsFront : List ℕ → Type 0
+IsFront bs = (behind is_word_byte bs ≡ []) × (may_be_word bs ≡ true)
+
+abbrev pub IsLineWord : List ℕ → Type 0
+IsLineWord bs = (0 < length bs) × IsFront bs
+
+-- a Route line may stand behind these lines, with these customers
+pub record IsRoute (before : List SolutionLine) (toks : List Token) : Type 0 where
+  pub priced : has_cost before ≡ false
+  pub may : (n : ℕ) → first_at n (route_tests before) ≡ None
+  pub fine : customers_stop (count_of before) toks ≡ None
+
+-- the line Cost with this one number
+pub record IsPriced (s : SolutionForm) (before : List SolutionLine) (n : ℕ) (toks : List Token) : Type 0 where
+  pub price : Token
+  pub is : toks ≡ price ∷ []
+  pub fine : (whole : Bool) → cost_stop n whole toks ≡ None
+  pub trailing : (whole : Bool) (t : Token) (ts : List Token) → cost_stop n whole (toks ++ t ∷ ts) ≡ Some (Fault n kinds.TrailingData)
+  pub priced : has_cost before ≡ false
+  pub keeps : Keeps s (before ++ Cost toks ∷ []) []
+
+abbrev pub IsAt : SolutionForm → List SolutionLine → List ℕ → ℕ → List Token → LinePlace → Type 0
+IsAt s before held n toks places.Start = (toks ≡ []) × Keeps s before []
+IsAt s before held n toks places.Word = (toks ≡ []) × Keeps s before [] × IsLineWord held
+IsAt s before held n toks places.Skip = (toks ≡ []) × Keeps s before [] × (has_cost before ≡ true)
+IsAt s before held n toks (places.Head p) = (toks ≡ []) × Keeps s before [] × IsRoute before [] × IsHead p
+IsAt s before held n toks places.Gap = Keeps s before toks × IsRoute before toks
+IsAt s before held n toks places.Customer = Keeps s before toks × IsRoute before toks × IsToken held
+IsAt s before held n toks places.Colon = (toks ≡ []) × Keeps s before [] × (has_cost before ≡ false)
+IsAt s before held n toks places.Price = (toks ≡ []) × Keeps s before [] × (has_cost before ≡ false)
+IsAt s before held n toks places.Digits = (toks ≡ []) × Keeps s before [] × (has_cost before ≡ false) × IsToken held
+IsAt s before held n toks places.Close = IsPriced s before n toks
+
+-- the reader stands on a line behind these lines
+abbrev pub Stands : SolutionReader → List SolutionLine → List Token → Type 0
+Stands s before toks = IsAt s.form before s.held s.line toks s.place
+
+-- what is left of its line
+abbrev pub rest_of : SolutionReader → List Token → List ℕ → Bool → SolutionLine
+rest_of s toks = line_from s.line s.held toks s.place
+
+-- a byte has brought it on
+pub record Went (before : List SolutionLine) (b : ℕ) (g : List ℕ → Bool → SolutionLine) (s : SolutionReader) : Type 0 where
+  pub toks : List Token
+  pub stands : Stands s before toks
+  pub same : (bs : List ℕ) (whole : Bool) → g (b ∷ bs) whole ≡ rest_of s toks bs whole
+
+-- a byte stops at its line, whatever follows
+abbrev pub StopsAt : List SolutionLine → ℕ → ℕ → (List ℕ → Bool → SolutionLine) → TextKind → Type 0
+StopsAt before n b g k = (bs : List ℕ) (whole : Bool) → line_stop before n whole (g (b ∷ bs) whole) ≡ Some (Fault n k)
+
+-- a line has ended
+pub record HasEnded (before : List SolutionLine) (n : ℕ) (here : SolutionLine) (s : SolutionForm) : Type 0 where
+  pub fine : line_stop before n true here ≡ None
+  pub keeps : Keeps s (before ++ here ∷ []) []
+
+-- ---- in the text
+
+-- what lines say, of which the first is told by what is left of it
+unfoldable pub from : List SolutionLine → (List ℕ → Bool → SolutionLine) → List Line → Option (Result Solution TextFault)
+from before g [] = None
+from before g (l ∷ ls) =
+    let here = g l.bytes l.whole in
+    stopped (line_stop before l.number l.whole here) (judge_lines (before ++ here ∷ []) l.number l.whole ls)
+
+-- the reader has taken these bytes
+pub record Fed (s : SolutionReader) (bs : List ℕ) : Type 0 where
+  pub line : s.line ≡ line_behind bs
+  pub before : List SolutionLine
+  pub toks : List Token
+  pub stands : Stands s before toks
+  pub same : (ended : Bool) (more : List ℕ) → solution_decided ended (bs ++ more) ≡ from before (rest_of s toks) (lines ended s.line more)

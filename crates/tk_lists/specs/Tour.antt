@@ -1,0 +1,61 @@
+-- Tour texts.
+use Rattle.std.specs.Prelude.{ℕ, suc, Bool, true, false, not, ◌||◌, nat_lt, nat_le, List, [], ◌∷◌, length, Option, Some, None, Result, if◌then◌else◌, codes, is_none}
+use Rattle.tk_words.specs.declared.keyword.Keyword.{Keyword}
+use Rattle.tk_words.specs.declared.keyword.Keyword.TheVariants as words
+use Rattle.tk_words.specs.declared.fault.TextKind.{TextKind}
+use Rattle.tk_words.specs.declared.fault.TextKind.TheVariants as kinds
+use Rattle.tk_words.specs.declared.fault.TextFault.{TextFault}
+use Rattle.tk_words.specs.Lex.{Token, after_word, trim, integer}
+use Rattle.tk_words.specs.Words.{spells}
+use Rattle.tk_lines.specs.Scan.{first_word}
+use Rattle.tk_lines.specs.Pieces.{Piece, Extent, Stop, After, first_at, checked, or_else, has, tokens_in, Format, decided_by}
+use Rattle.tk_words.specs.Entry.{in_range, is_keyword, number_tests, numbers_of}
+use Rattle.tk_lines.specs.Lists.{entries, list_extent, trailing_stop}
+
+abbrev pub tour_extent : List Piece → Keyword → List Token → Extent
+tour_extent before words.TourSection toks = list_extent toks
+tour_extent before _ toks = record { count = 0; closed = true; at_eof = false }
+
+-- what stops at an entry, of which k stand before it
+unfoldable pub entry_stop : ℕ → Token → Option Stop
+entry_stop k t =
+    checked 64 t ((is_keyword t.bytes, kinds.Truncated) ∷ (is_none (integer t.bytes), kinds.BadNumber) ∷ (not (in_range 0 4294967295 (integer t.bytes)) || nat_le 1000000 k, kinds.OutOfLimit) ∷ [])
+
+-- the first stop among the entries
+unfoldable pub entries_stop : ℕ → List Token → Option Stop
+entries_stop k [] = None
+entries_stop k (t ∷ ts) = or_else (entry_stop k t) (entries_stop (suc k) ts)
+
+-- the tests of a header, besides its length
+abbrev pub tour_header : List Piece → Keyword → List ℕ → List (Bool × TextKind)
+tour_header before words.Name bs = (nat_lt 1024 (length (trim (after_word bs))), kinds.TooLong) ∷ (has words.Name before, kinds.Repeated) ∷ []
+tour_header before words.Comment bs = []
+tour_header before words.Type bs = (has words.Type before, kinds.Repeated) ∷ (not (spells (first_word bs) (codes "TOUR")), kinds.Unsupported) ∷ []
+tour_header before words.Dimension bs = (has words.Dimension before, kinds.Repeated) ∷ number_tests 1 1000000 (first_word bs)
+tour_header before _ bs = (true, kinds.Unsupported) ∷ []
+
+-- what stops at a section: its word, its tokens, and what stands behind its last token on that token's line
+abbrev pub tour_section : List Piece → Keyword → ℕ → List Token → After → Option Stop
+tour_section before words.TourSection n toks after =
+    or_else (first_at n ((has words.TourSection before, kinds.Repeated) ∷ []))
+    (or_else (entries_stop 0 (entries toks)) (trailing_stop after))
+tour_section before _ n toks after = first_at n ((true, kinds.Unsupported) ∷ [])
+
+abbrev pub tour_end : List Piece → Option TextKind
+tour_end before =
+    if not (has words.Type before) then Some (kinds.Missing words.Type)
+    else (if not (has words.TourSection before) then Some (kinds.Missing words.TourSection) else None)
+
+-- what stands in a tour text
+abbrev pub tour_format : Format (List ℕ)
+tour_format = record {
+  extent = tour_extent;
+  header = tour_header;
+  section = tour_section;
+  at_end = tour_end;
+  value = λ before. numbers_of (entries (tokens_in words.TourSection before));
+}
+
+-- what bytes decide: all of the text where it has ended, else what it begins with
+abbrev pub tour_decided : Bool → List ℕ → Option (Result (List ℕ) TextFault)
+tour_decided = decided_by tour_format

@@ -1,0 +1,94 @@
+//! The head of a Route line, byte by byte.
+ghost use Rattle.tk_lists.specs.SolutionReader.{IsHead, HasStepped};
+
+use tk_words::blank;
+
+/// Where a head goes on.
+#[derive(Clone, Copy, PartialEq, Eq)]
+pub enum HeadPlace {
+    /// Behind the word: a `#` or the number.
+    Word,
+    /// Before the number.
+    Number,
+    /// In the number, behind its sign and as many digits.
+    Digits(u8),
+    /// Behind the number.
+    Colon,
+}
+
+/// What a byte does to a head.
+#[derive(Clone, Copy, PartialEq, Eq)]
+pub enum HeadStep {
+    /// It goes on here.
+    At(HeadPlace),
+    /// It is whole.
+    Behind,
+    /// It is of another form.
+    Bad,
+}
+
+/// Takes a byte of the number.
+fn step_in_digits(count: u8, byte: u8) -> HeadStep
+    requires { IsHead (HeadPlace.Digits count) }
+    ensures { HasStepped (HeadPlace.Digits count) byte result }
+{
+    if byte.is_ascii_digit() {
+        if count == 18 {
+            return HeadStep::Bad;
+        }
+        return HeadStep::At(HeadPlace::Digits(count + 1));
+    }
+    if count == 0 {
+        return HeadStep::Bad;
+    }
+    step_behind_number(byte)
+}
+
+/// Takes a byte behind the number.
+fn step_behind_number(byte: u8) -> HeadStep
+    ensures { HasStepped HeadPlace.Colon byte result }
+{
+    if blank(byte) {
+        return HeadStep::At(HeadPlace::Colon);
+    }
+    if byte == b':' {
+        return HeadStep::Behind;
+    }
+    HeadStep::Bad
+}
+
+/// Takes a byte before the number.
+fn step_to_number(byte: u8) -> HeadStep
+    ensures { HasStepped HeadPlace.Number byte result }
+{
+    if blank(byte) {
+        return HeadStep::At(HeadPlace::Number);
+    }
+    if byte == b'+' || byte == b'-' {
+        return HeadStep::At(HeadPlace::Digits(0));
+    }
+    step_in_digits(0, byte)
+}
+
+impl HeadPlace {
+    /// Takes a byte.
+    pub fn step(self, byte: u8) -> HeadStep
+        requires { IsHead self }
+        ensures { HasStepped self byte result }
+    {
+        match self {
+            HeadPlace::Word => {
+                if blank(byte) {
+                    return HeadStep::At(HeadPlace::Word);
+                }
+                if byte == b'#' {
+                    return HeadStep::At(HeadPlace::Number);
+                }
+                step_to_number(byte)
+            }
+            HeadPlace::Number => step_to_number(byte),
+            HeadPlace::Digits(count) => step_in_digits(count, byte),
+            HeadPlace::Colon => step_behind_number(byte),
+        }
+    }
+}

@@ -1,0 +1,84 @@
+//! Solution texts.
+ghost use Rattle.std.specs.Prelude.{◌≡◌, true, List, [], map, Ok, IfOk, IfErr};
+ghost use Rattle.tk_words.specs.Drive.{IsAnswerWhereTold, IsIntact, IsTold, text_limit};
+ghost use Rattle.tk_lists.specs.Solution.{Solution, solution_decided};
+ghost use Rattle.tk_lists.specs.SolutionReader.{Fed};
+
+use crate::solution_reader::{LinePlace, SolutionReader};
+use crate::texts::SolText;
+use std::alloc::Global;
+use tk_words::{Keyword, Source, Step, TEXT_LIMIT, TextFault, TextKind, TextReader, read_text};
+
+impl SolutionReader {
+    /// A fault on this line.
+    fn fault(&self, kind: TextKind) -> TextFault
+        ensures { result ≡ record { line = self.now.line; kind = kind } }
+    {
+        TextFault {
+            line: self.line,
+            kind,
+        }
+    }
+}
+
+impl TextReader for SolutionReader {
+    type Out = SolText;
+
+    ghost Value = { Solution };
+
+    ghost view = { λ s. (map (λ r. r.items) s.routes.items, s.cost) };
+
+    ghost decided = { solution_decided };
+
+    ghost fed = { Fed };
+
+    ghost held = { λ s. (map (λ r. r.items) s.form.routes.items, s.form.cost) };
+
+    ghost complete = { λ _. Unit {0} };
+
+    fn line(&self) -> u64 {
+        self.line
+    }
+
+    fn feed(&mut self, byte: u8) -> Result<Step, TextFault> {
+        if byte != b'\n' {
+            return match self.feed_line(byte) {
+                Ok(()) => Ok(Step::More),
+                Err(kind) => Err(self.fault(kind)),
+            };
+        }
+        match self.end_line() {
+            Ok(()) => {}
+            Err(kind) => return Err(self.fault(kind)),
+        }
+        self.line += 1;
+        self.place = LinePlace::Start;
+        Ok(Step::More)
+    }
+
+    fn finish(self) -> Result<SolText, TextFault> {
+        let mut reader = self;
+        match reader.end_line() {
+            Ok(()) => {}
+            Err(kind) => return Err(reader.fault(kind)),
+        }
+        if !reader.form.priced {
+            return Err(reader.fault(TextKind::Missing(Keyword::Cost)));
+        }
+        Ok(reader.value())
+    }
+
+    fn value(self) -> SolText {
+        self.form.into_solution()
+    }
+}
+
+/// Reads a solution text. What it answers is what every text says that begins with the bytes that it read, but for
+/// `Read`, where the source fails, and `NoMemory`.
+pub fn read_solution<R: Source>(alloc: Global, source: &mut R) -> Result<SolText, TextFault>
+    ensures ok { IfOk result (λ solution. IsAnswerWhereTold solution_decided text_limit (R.left source.old) (R.left source.new) (Ok (map (λ r. r.items) solution.routes.items, solution.cost))) }
+    ensures err { IfErr result (IsTold (R.broken source.new ≡ true) (IsAnswerWhereTold solution_decided text_limit (R.left source.old) (R.left source.new))) }
+    ensures intact { IsIntact (R.broken source.old) (R.broken source.new) result }
+{
+    read_text(source, SolutionReader::new(alloc), TEXT_LIMIT)
+}

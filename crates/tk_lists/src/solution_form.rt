@@ -1,0 +1,147 @@
+//! What a solution text says, line by line.
+ghost use Rattle.std.specs.Prelude.{◌≡◌, ◌≤◌, ℕ, ◌+◌, Bool, true, false, List, [], ◌∷◌, ◌++◌, length, Some, None, IfOk, IfErr};
+ghost use Rattle.tk_words.specs.declared.fault.TextKind.TheVariants as kinds;
+ghost use Rattle.tk_lines.specs.Forms.{IsToldWord, whole};
+ghost use Rattle.tk_words.specs.Lex.{Token};
+ghost use Rattle.tk_lines.specs.Pieces.{Fault, first_at};
+ghost use Rattle.tk_lists.specs.Solution.{SolutionLine, Route, Cost, has_cost, count_of, route_tests, cost_tests, other_tests, customer_stop, cost_stop};
+ghost use Rattle.tk_lists.specs.SolutionReader.{Keeps, IsRoute, IsPriced};
+
+use crate::texts::SolText;
+use std::alloc::Global;
+use std::mem;
+use tk_words::{TextKind, integer, limited};
+
+/// The customers of a solution, of all its routes together.
+pub const CUSTOMER_LIMIT: usize = 1_000_000;
+
+/// The routes of a solution.
+pub const ROUTE_LIMIT: usize = 100_000;
+
+/// The routes and the cost of a text so far, and the route of its last line.
+#[derive(Drop)]
+pub struct SolutionForm {
+    pub alloc: Global,
+    pub routes: Vec<Vec<u32>>,
+    pub route: Vec<u32>,
+    pub customers: usize,
+    pub priced: bool,
+    pub cost: i64,
+}
+
+impl SolutionForm {
+    pub fn new(alloc: Global) -> Self
+        ensures { Keeps result [] [] }
+    {
+        SolutionForm {
+            alloc,
+            routes: Vec::new(alloc),
+            route: Vec::new(alloc),
+            customers: 0,
+            priced: false,
+            cost: 0,
+        }
+    }
+
+    /// Whether a Route line may stand here.
+    pub fn begin_route(&self) -> Result<(), TextKind>
+        ensures ok { (before : List SolutionLine) → Keeps self.now before [] → IfOk result (λ _. IsRoute before []) }
+        ensures err { (before : List SolutionLine) (n : ℕ) → Keeps self.now before [] → IfErr result (IsToldWord (λ k. first_at n (route_tests before) ≡ Some (Fault n k))) }
+    {
+        if self.priced {
+            return Err(TextKind::TrailingData);
+        }
+        if self.routes.len() >= ROUTE_LIMIT {
+            return Err(TextKind::OutOfLimit);
+        }
+        Ok(())
+    }
+
+    /// Takes a customer of the route.
+    pub fn take_customer(&mut self, bytes: &[u8]) -> Result<(), TextKind>
+        requires { length bytes.now ≤ 64 }
+        ensures ok { (before : List SolutionLine) (toks : List Token) (n : ℕ) → Keeps self.old before toks → IsRoute before toks → IfOk result (λ _. Keeps self.new before (toks ++ whole bytes.now n ∷ []) × IsRoute before (toks ++ whole bytes.now n ∷ [])) }
+        ensures err { (before : List SolutionLine) (toks : List Token) (n : ℕ) → Keeps self.old before toks → IsRoute before toks → IfErr result (IsToldWord (λ k. customer_stop (count_of before + length toks) (whole bytes.now n) ≡ Some (Fault n k))) }
+    {
+        let Some(number) = integer(bytes) else {
+            return Err(TextKind::BadNumber);
+        };
+        let Some(customer) = limited(number, 0, u32::MAX) else {
+            return Err(TextKind::OutOfLimit);
+        };
+        if self.customers >= CUSTOMER_LIMIT {
+            return Err(TextKind::OutOfLimit);
+        }
+        match self.route.push(customer) {
+            Ok(()) => {
+                self.customers += 1;
+                Ok(())
+            }
+            Err(_) => Err(TextKind::NoMemory),
+        }
+    }
+
+    /// Keeps the route.
+    pub fn end_route(&mut self) -> Result<(), TextKind>
+        ensures ok { (before : List SolutionLine) (toks : List Token) → Keeps self.old before toks → IsRoute before toks → IfOk result (λ _. Keeps self.new (before ++ Route toks ∷ []) []) }
+        ensures err { IfErr result (λ k. k ≡ kinds.NoMemory) }
+    {
+        let route = mem::replace(&mut self.route, Vec::new(self.alloc));
+        match self.routes.push(route) {
+            Ok(()) => {}
+            Err(_) => return Err(TextKind::NoMemory),
+        }
+        Ok(())
+    }
+
+    /// Whether the line of the cost may stand here.
+    pub fn begin_cost(&self) -> Result<(), TextKind>
+        ensures ok { (before : List SolutionLine) → Keeps self.now before [] → IfOk result (λ _. has_cost before ≡ false) }
+        ensures err { (before : List SolutionLine) (n : ℕ) → Keeps self.now before [] → IfErr result (IsToldWord (λ k. first_at n (cost_tests before) ≡ Some (Fault n k))) }
+    {
+        if self.priced {
+            return Err(TextKind::TrailingData);
+        }
+        Ok(())
+    }
+
+    /// Takes the cost.
+    pub fn take_cost(&mut self, bytes: &[u8]) -> Result<(), TextKind>
+        requires { length bytes.now ≤ 64 }
+        ensures ok { (before : List SolutionLine) (n : ℕ) → Keeps self.old before [] → has_cost before ≡ false → IfOk result (λ _. IsPriced self.new before n (whole bytes.now n ∷ [])) }
+        ensures err { (before : List SolutionLine) (n : ℕ) → Keeps self.old before [] → has_cost before ≡ false → IfErr result (IsToldWord (λ k. (ended : Bool) (toks : List Token) → cost_stop n ended (whole bytes.now n ∷ toks) ≡ Some (Fault n k))) }
+    {
+        let Some(number) = integer(bytes) else {
+            return Err(TextKind::BadNumber);
+        };
+        if number < 0 {
+            return Err(TextKind::OutOfLimit);
+        }
+        self.priced = true;
+        self.cost = number;
+        Ok(())
+    }
+
+    /// Whether a line of another word may stand here.
+    pub fn skip(&self) -> Result<(), TextKind>
+        ensures ok { (before : List SolutionLine) → Keeps self.now before [] → IfOk result (λ _. has_cost before ≡ true) }
+        ensures err { (before : List SolutionLine) (n : ℕ) → Keeps self.now before [] → IfErr result (IsToldWord (λ k. first_at n (other_tests before) ≡ Some (Fault n k))) }
+    {
+        if self.priced {
+            return Ok(());
+        }
+        Err(TextKind::UnknownKeyword)
+    }
+
+    /// The routes and the cost.
+    pub fn into_solution(self) -> SolText
+        ensures routes { result.routes ≡ self.routes }
+        ensures cost { result.cost ≡ self.cost }
+    {
+        let cost = self.cost;
+        SolText {
+            routes: self.routes,
+            cost,
+        }
+    }
+}

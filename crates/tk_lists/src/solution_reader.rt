@@ -1,0 +1,309 @@
+//! The lines of a solution text, byte by byte.
+ghost use Rattle.std.specs.Prelude.{◌≡◌, ◌≤◌, true, false, List, [], ◌∷◌, length, Some, IfOk, IfErr};
+ghost use Rattle.tk_words.specs.Lex.{Token};
+ghost use Rattle.tk_lines.specs.Pieces.{Fault};
+ghost use Rattle.tk_lines.specs.Forms.{IsToldWord};
+ghost use Rattle.tk_lists.specs.Solution.{SolutionLine, Other, has_cost, may_be_word, solid_line, line_stop};
+ghost use Rattle.tk_lists.specs.SolutionReader.{Keeps, IsAt, IsHead, IsWordOf, IsFront, IsLineWord, IsRoute, Stands, Went, StopsAt, HasEnded, line_from, rest_of};
+ghost use Rattle.tk_lists.specs.declared.solution_reader.LinePlace.TheVariants as places;
+
+use crate::route_head::{HeadPlace, HeadStep};
+use crate::solution_form::SolutionForm;
+use std::alloc::Global;
+use tk_words::{Held, TextKind, blank, spelled, word_byte};
+
+/// Where a reader stands on a line.
+#[derive(Clone, Copy, PartialEq, Eq)]
+pub enum LinePlace {
+    /// Before its word.
+    Start,
+    /// In its word, which may become `Route` or `Cost`.
+    Word,
+    /// On a line that is passed over.
+    Skip,
+    /// In the head of a Route line.
+    Head(HeadPlace),
+    /// Between the customers of a route.
+    Gap,
+    /// In a customer.
+    Customer,
+    /// Behind `Cost`, before its colon.
+    Colon,
+    /// Before the cost.
+    Price,
+    /// In the cost.
+    Digits,
+    /// Behind the cost.
+    Close,
+}
+
+/// A word of a solution text.
+#[derive(Clone, Copy, PartialEq, Eq)]
+pub enum LineWord {
+    Route,
+    Cost,
+    Other,
+}
+
+/// Takes the bytes of a solution text, and keeps its routes and its cost.
+#[derive(Drop)]
+pub struct SolutionReader {
+    pub line: u64,
+    pub place: LinePlace,
+    pub held: Held<64>,
+    pub form: SolutionForm,
+}
+
+/// Whether bytes begin to spell a text in capitals.
+fn begins(bytes: &[u8], text: &[u8]) -> bool
+    ensures { result ≡ Rattle.tk_lists.specs.Solution.begins bytes.now text.now }
+{
+    bytes.len() <= text.len() && spelled(bytes, &text[..bytes.len()])
+}
+
+/// Whether more bytes may make a word of these.
+fn may_become_word(bytes: &[u8]) -> bool
+    ensures { result ≡ may_be_word bytes.now }
+{
+    begins(bytes, b"ROUTE") || begins(bytes, b"COST")
+}
+
+/// The word that bytes are.
+fn word_of(bytes: &[u8]) -> LineWord
+    ensures { IsWordOf bytes.now result }
+{
+    if spelled(bytes, b"ROUTE") {
+        return LineWord::Route;
+    }
+    if spelled(bytes, b"COST") {
+        return LineWord::Cost;
+    }
+    LineWord::Other
+}
+
+impl SolutionReader {
+    pub fn new(alloc: Global) -> Self
+        ensures stands { Stands result [] [] }
+        ensures line { result.line ≡ 1 }
+        ensures start { result.place ≡ places.Start }
+    {
+        SolutionReader {
+            line: 1,
+            place: LinePlace::Start,
+            held: Held::new(),
+            form: SolutionForm::new(alloc),
+        }
+    }
+
+    /// Begins a token.
+    fn begin_token(&mut self, byte: u8, place: LinePlace)
+        ensures kept { (self.new.line ≡ self.old.line) × (self.new.form ≡ self.old.form) }
+        ensures begun { (self.new.held ≡ byte ∷ []) × (self.new.place ≡ place) }
+    {
+        self.held.clear();
+        self.held.push(byte);
+        self.place = place;
+    }
+
+    /// Passes over the rest of a line of another word.
+    fn skip(&mut self, byte: u8) -> Result<(), TextKind>
+        ensures line { self.new.line ≡ self.old.line }
+        ensures ok { (before : List SolutionLine) → Keeps self.old.form before [] → IfOk result (λ _. Went before byte (λ bs whole. Other) self.new) }
+        ensures err { (before : List SolutionLine) → Keeps self.old.form before [] → IfErr result (IsToldWord (StopsAt before self.old.line byte (λ bs whole. Other))) }
+    {
+        self.form.skip()?;
+        self.place = LinePlace::Skip;
+        Ok(())
+    }
+
+    /// Takes a byte of a Route line's head.
+    fn feed_head(&mut self, place: HeadPlace, byte: u8) -> Result<(), TextKind>
+        requires { IsHead place }
+        ensures line { self.new.line ≡ self.old.line }
+        ensures ok { (before : List SolutionLine) → Keeps self.old.form before [] → IsRoute before [] → IfOk result (λ _. Went before byte (line_from self.old.line [] [] (places.Head place)) self.new) }
+        ensures err { (before : List SolutionLine) → IsRoute before [] → IfErr result (IsToldWord (StopsAt before self.old.line byte (line_from self.old.line [] [] (places.Head place)))) }
+    {
+        self.place = match place.step(byte) {
+            HeadStep::At(next) => LinePlace::Head(next),
+            HeadStep::Behind => LinePlace::Gap,
+            HeadStep::Bad => return Err(TextKind::BadNumber),
+        };
+        Ok(())
+    }
+
+    /// Takes a byte before the cost.
+    fn feed_price(&mut self, byte: u8)
+        ensures line { self.new.line ≡ self.old.line }
+        ensures went { (before : List SolutionLine) → Keeps self.old.form before [] → has_cost before ≡ false → Went before byte (line_from self.old.line [] [] places.Price) self.new }
+    {
+        if blank(byte) {
+            self.place = LinePlace::Price;
+        } else {
+            self.begin_token(byte, LinePlace::Digits);
+        }
+    }
+
+    /// Takes a byte behind `Cost`, before the colon.
+    fn feed_colon(&mut self, byte: u8)
+        ensures line { self.new.line ≡ self.old.line }
+        ensures went { (before : List SolutionLine) → Keeps self.old.form before [] → has_cost before ≡ false → Went before byte (line_from self.old.line [] [] places.Colon) self.new }
+    {
+        if blank(byte) {
+            self.place = LinePlace::Colon;
+        } else if byte == b':' {
+            self.place = LinePlace::Price;
+        } else {
+            self.feed_price(byte);
+        }
+    }
+
+    /// Takes a byte of a line's word.
+    fn feed_word(&mut self, byte: u8) -> Result<(), TextKind>
+        requires { IsFront self.old.held }
+        ensures line { self.new.line ≡ self.old.line }
+        ensures ok { (before : List SolutionLine) → Keeps self.old.form before [] → IfOk result (λ _. Went before byte (line_from self.old.line self.old.held [] places.Word) self.new) }
+        ensures err { (before : List SolutionLine) → Keeps self.old.form before [] → IfErr result (IsToldWord (StopsAt before self.old.line byte (line_from self.old.line self.old.held [] places.Word))) }
+    {
+        if word_byte(byte) {
+            self.held.push(byte);
+            if may_become_word(self.held.as_slice()) {
+                self.place = LinePlace::Word;
+                return Ok(());
+            }
+            return self.skip(byte);
+        }
+        match word_of(self.held.as_slice()) {
+            LineWord::Route => {
+                self.form.begin_route()?;
+                self.feed_head(HeadPlace::Word, byte)
+            }
+            LineWord::Cost => {
+                self.form.begin_cost()?;
+                self.feed_colon(byte);
+                Ok(())
+            }
+            LineWord::Other => self.skip(byte),
+        }
+    }
+
+    /// Takes a byte of a customer.
+    fn feed_customer(&mut self, byte: u8) -> Result<(), TextKind>
+        requires { length self.old.held ≤ 64 }
+        ensures line { self.new.line ≡ self.old.line }
+        ensures ok { (before : List SolutionLine) (toks : List Token) → IsAt self.old.form before self.old.held self.old.line toks places.Customer → IfOk result (λ _. Went before byte (line_from self.old.line self.old.held toks places.Customer) self.new) }
+        ensures err { (before : List SolutionLine) (toks : List Token) → IsAt self.old.form before self.old.held self.old.line toks places.Customer → IfErr result (IsToldWord (StopsAt before self.old.line byte (line_from self.old.line self.old.held toks places.Customer))) }
+    {
+        if blank(byte) {
+            self.form.take_customer(self.held.as_slice())?;
+            self.place = LinePlace::Gap;
+            return Ok(());
+        }
+        if self.held.is_full() {
+            return Err(TextKind::TooLong);
+        }
+        self.held.push(byte);
+        self.place = LinePlace::Customer;
+        Ok(())
+    }
+
+    /// Takes a byte of the cost.
+    fn feed_digits(&mut self, byte: u8) -> Result<(), TextKind>
+        requires { length self.old.held ≤ 64 }
+        ensures line { self.new.line ≡ self.old.line }
+        ensures ok { (before : List SolutionLine) (toks : List Token) → IsAt self.old.form before self.old.held self.old.line toks places.Digits → IfOk result (λ _. Went before byte (line_from self.old.line self.old.held toks places.Digits) self.new) }
+        ensures err { (before : List SolutionLine) (toks : List Token) → IsAt self.old.form before self.old.held self.old.line toks places.Digits → IfErr result (IsToldWord (StopsAt before self.old.line byte (line_from self.old.line self.old.held toks places.Digits))) }
+    {
+        if blank(byte) {
+            self.form.take_cost(self.held.as_slice())?;
+            self.place = LinePlace::Close;
+            return Ok(());
+        }
+        if self.held.is_full() {
+            return Err(TextKind::TooLong);
+        }
+        self.held.push(byte);
+        self.place = LinePlace::Digits;
+        Ok(())
+    }
+
+    /// Takes a byte that is no LF.
+    pub fn feed_line(&mut self, byte: u8) -> Result<(), TextKind>
+        requires { (before : List SolutionLine) × (toks : List Token) × Stands self.old before toks }
+        ensures line { self.new.line ≡ self.old.line }
+        ensures ok { (before : List SolutionLine) (toks : List Token) → Stands self.old before toks → IfOk result (λ _. Went before byte (rest_of self.old toks) self.new) }
+        ensures err { (before : List SolutionLine) (toks : List Token) → Stands self.old before toks → IfErr result (IsToldWord (StopsAt before self.old.line byte (rest_of self.old toks))) }
+    {
+        match self.place {
+            LinePlace::Start => {
+                if blank(byte) {
+                    return Ok(());
+                }
+                self.held.clear();
+                self.feed_word(byte)
+            }
+            LinePlace::Word => self.feed_word(byte),
+            LinePlace::Skip => Ok(()),
+            LinePlace::Head(place) => self.feed_head(place, byte),
+            LinePlace::Gap => {
+                if !blank(byte) {
+                    self.begin_token(byte, LinePlace::Customer);
+                }
+                Ok(())
+            }
+            LinePlace::Customer => self.feed_customer(byte),
+            LinePlace::Colon => {
+                self.feed_colon(byte);
+                Ok(())
+            }
+            LinePlace::Price => {
+                self.feed_price(byte);
+                Ok(())
+            }
+            LinePlace::Digits => self.feed_digits(byte),
+            LinePlace::Close => {
+                if blank(byte) {
+                    return Ok(());
+                }
+                Err(TextKind::TrailingData)
+            }
+        }
+    }
+
+    /// Ends a line in its word.
+    fn end_word(&self) -> Result<(), TextKind>
+        requires { IsLineWord self.now.held }
+        ensures ok { (before : List SolutionLine) → Keeps self.now.form before [] → IfOk result (λ _. (solid_line self.now.line true self.now.held ≡ Other) × (has_cost before ≡ true)) }
+        ensures err { (before : List SolutionLine) → Keeps self.now.form before [] → IfErr result (IsToldWord (λ k. line_stop before self.now.line true (solid_line self.now.line true self.now.held) ≡ Some (Fault self.now.line k))) }
+    {
+        match word_of(self.held.as_slice()) {
+            LineWord::Route => self.form.begin_route()?,
+            LineWord::Cost => self.form.begin_cost()?,
+            LineWord::Other => return self.form.skip(),
+        }
+        Err(TextKind::BadNumber)
+    }
+
+    /// Ends a line.
+    pub fn end_line(&mut self) -> Result<(), TextKind>
+        requires { (before : List SolutionLine) × (toks : List Token) × Stands self.old before toks }
+        ensures line { self.new.line ≡ self.old.line }
+        ensures ok { (before : List SolutionLine) (toks : List Token) → Stands self.old before toks → IfOk result (λ _. HasEnded before self.old.line (rest_of self.old toks [] true) self.new.form) }
+        ensures err { (before : List SolutionLine) (toks : List Token) → Stands self.old before toks → IfErr result (IsToldWord (λ k. line_stop before self.old.line true (rest_of self.old toks [] true) ≡ Some (Fault self.old.line k))) }
+    {
+        match self.place {
+            LinePlace::Start => Ok(()),
+            LinePlace::Word => self.end_word(),
+            LinePlace::Skip => Ok(()),
+            LinePlace::Head(_) => Err(TextKind::BadNumber),
+            LinePlace::Gap => self.form.end_route(),
+            LinePlace::Customer => {
+                self.form.take_customer(self.held.as_slice())?;
+                self.form.end_route()
+            }
+            LinePlace::Colon => Err(TextKind::BadNumber),
+            LinePlace::Price => Err(TextKind::BadNumber),
+            LinePlace::Digits => self.form.take_cost(self.held.as_slice()),
+            LinePlace::Close => Ok(()),
+        }
+    }
+}

@@ -1,0 +1,192 @@
+//! Tour texts.
+ghost use Rattle.std.specs.Prelude.{◌≡◌, ◌<◌, ℕ, true, false, List, [], ◌∷◌, ◌++◌, length, Some, None, Ok, IfOk, IfErr};
+ghost use Rattle.tk_words.specs.declared.fault.TextKind.TheVariants as kinds;
+ghost use Rattle.tk_lines.specs.declared.form.Taken.TheVariants as takens;
+ghost use Rattle.tk_words.specs.declared.keyword.Keyword.TheVariants as words;
+ghost use Rattle.tk_words.specs.Drive.{IsAnswerWhereTold, IsIntact, IsTold, text_limit};
+ghost use Rattle.tk_lines.specs.Pieces.{Piece, Fault, first_at};
+ghost use Rattle.tk_lines.specs.Scan.{Scans};
+ghost use Rattle.tk_lines.specs.Forms.{IsToldWord, a_header};
+ghost use Rattle.tk_lists.specs.Tour.{tour_format, tour_header, tour_decided};
+ghost use Rattle.tk_lists.specs.TourForm.{TourHolds, TourWants, IsNext, IsOut};
+
+use crate::texts::TourText;
+use std::alloc::Global;
+use tk_lines::{Form, PieceReader, Scan, Taken};
+use tk_words::{
+    Entry, Keyword, Source, TEXT_LIMIT, TextFault, TextKind, entry_of, limited, read_text,
+};
+
+/// The entries of a tour's list.
+pub const TOUR_LIMIT: usize = 1_000_000;
+
+/// Which words a tour text has had.
+#[derive(Clone, Copy, Drop)]
+pub struct TourWords {
+    pub name: bool,
+    pub kind: bool,
+    pub dimension: bool,
+    pub section: bool,
+}
+
+/// What a tour text has said so far.
+#[derive(Drop)]
+pub struct TourForm {
+    pub seen: TourWords,
+    pub cities: Vec<u32>,
+}
+
+/// Notes a word that may come once.
+fn once(seen: &mut bool) -> Result<(), TextKind>
+    ensures ok { IfOk result (λ _. (seen.old ≡ false) × (seen.new ≡ true)) }
+    ensures err { IfErr result (λ k. (k ≡ kinds.Repeated) × (seen.old ≡ true)) }
+{
+    if *seen {
+        return Err(TextKind::Repeated);
+    }
+    *seen = true;
+    Ok(())
+}
+
+impl TourForm {
+    pub fn new(alloc: Global) -> Self
+        ensures { TourHolds result [] }
+    {
+        TourForm {
+            seen: TourWords {
+                name: false,
+                kind: false,
+                dimension: false,
+                section: false,
+            },
+            cities: Vec::new(alloc),
+        }
+    }
+
+    fn name(&mut self, value: &Scan) -> Result<(), TextKind>
+        ensures ok { (before : List Piece) (v : List ℕ) (n : ℕ) → TourHolds self.old before → Scans value.now v → IfOk result (λ _. TourHolds self.new (before ++ a_header words.Name v n) × (first_at n (tour_header before words.Name v) ≡ None)) }
+        ensures err { (before : List Piece) (v : List ℕ) (n : ℕ) → TourHolds self.old before → Scans value.now v → IfErr result (IsToldWord (λ k. first_at n (tour_header before words.Name v) ≡ Some (Fault n k))) }
+    {
+        if value.trimmed > 1024 {
+            return Err(TextKind::TooLong);
+        }
+        once(&mut self.seen.name)
+    }
+
+    fn kind(&mut self, value: &Scan) -> Result<(), TextKind>
+        ensures ok { (before : List Piece) (v : List ℕ) (n : ℕ) → TourHolds self.old before → Scans value.now v → IfOk result (λ _. TourHolds self.new (before ++ a_header words.Type v n) × (first_at n (tour_header before words.Type v) ≡ None)) }
+        ensures err { (before : List Piece) (v : List ℕ) (n : ℕ) → TourHolds self.old before → Scans value.now v → IfErr result (IsToldWord (λ k. first_at n (tour_header before words.Type v) ≡ Some (Fault n k))) }
+    {
+        once(&mut self.seen.kind)?;
+        if value.is(b"TOUR") {
+            return Ok(());
+        }
+        Err(TextKind::Unsupported)
+    }
+
+    fn dimension(&mut self, value: &Scan) -> Result<(), TextKind>
+        ensures ok { (before : List Piece) (v : List ℕ) (n : ℕ) → TourHolds self.old before → Scans value.now v → IfOk result (λ _. TourHolds self.new (before ++ a_header words.Dimension v n) × (first_at n (tour_header before words.Dimension v) ≡ None)) }
+        ensures err { (before : List Piece) (v : List ℕ) (n : ℕ) → TourHolds self.old before → Scans value.now v → IfErr result (IsToldWord (λ k. first_at n (tour_header before words.Dimension v) ≡ Some (Fault n k))) }
+    {
+        once(&mut self.seen.dimension)?;
+        value.number(1, 1_000_000)?;
+        Ok(())
+    }
+
+    /// Takes a number of the list.
+    fn number(&mut self, number: i64) -> Result<Taken, TextKind>
+        ensures seen { self.new.seen ≡ self.old.seen }
+        ensures ok { IfOk result (λ t. (t ≡ takens.More) × (length self.old.cities.items < 1000000) × IsNext number self.old.cities.items self.new.cities.items) }
+        ensures err { IfErr result (IsToldWord (λ k. (k ≡ kinds.OutOfLimit) × IsOut number (length self.old.cities.items))) }
+    {
+        let Some(city) = limited(number, 0, u32::MAX) else {
+            return Err(TextKind::OutOfLimit);
+        };
+        if self.cities.len() >= TOUR_LIMIT {
+            return Err(TextKind::OutOfLimit);
+        }
+        match self.cities.push(city) {
+            Ok(()) => Ok(Taken::More),
+            Err(_) => Err(TextKind::NoMemory),
+        }
+    }
+}
+
+impl Form for TourForm {
+    type Out = TourText;
+
+    ghost Value = { List ℕ };
+
+    ghost view = { λ t. t.cities.items };
+
+    ghost format = { tour_format };
+
+    ghost holds = { TourHolds };
+
+    ghost wants = { TourWants };
+
+    ghost held = { λ s. s.cities.items };
+
+    ghost complete = { λ _. Unit {0} };
+
+    fn header(&mut self, word: Keyword, value: &Scan) -> Result<(), TextKind> {
+        match word {
+            Keyword::Name => self.name(value),
+            Keyword::Comment => Ok(()),
+            Keyword::Type => self.kind(value),
+            Keyword::Dimension => self.dimension(value),
+            _ => Err(TextKind::Unsupported),
+        }
+    }
+
+    fn section(&mut self, word: Keyword) -> Result<(), TextKind> {
+        match word {
+            Keyword::TourSection => once(&mut self.seen.section),
+            _ => Err(TextKind::Unsupported),
+        }
+    }
+
+    fn token(&mut self, bytes: &[u8]) -> Result<Taken, TextKind> {
+        match entry_of(bytes) {
+            Entry::Number(number) => {
+                if number == -1 {
+                    return Ok(Taken::Ending);
+                }
+                self.number(number)
+            }
+            Entry::Eof => Ok(Taken::Eof),
+            Entry::Word => Err(TextKind::Truncated),
+            Entry::Other => Err(TextKind::BadNumber),
+        }
+    }
+
+    fn end_section(&mut self) -> Result<(), TextKind> {
+        Ok(())
+    }
+
+    fn end(&self) -> Option<TextKind> {
+        if !self.seen.kind {
+            return Some(TextKind::Missing(Keyword::Type));
+        }
+        if !self.seen.section {
+            return Some(TextKind::Missing(Keyword::TourSection));
+        }
+        None
+    }
+
+    fn value(self) -> TourText {
+        TourText {
+            cities: self.cities,
+        }
+    }
+}
+
+/// Reads a tour text. What it answers is what every text says that begins with the bytes that it read, but for
+/// `Read`, where the source fails, and `NoMemory`.
+pub fn read_tour<R: Source>(alloc: Global, source: &mut R) -> Result<TourText, TextFault>
+    ensures ok { IfOk result (λ tour. IsAnswerWhereTold tour_decided text_limit (R.left source.old) (R.left source.new) (Ok tour.cities.items)) }
+    ensures err { IfErr result (IsTold (R.broken source.new ≡ true) (IsAnswerWhereTold tour_decided text_limit (R.left source.old) (R.left source.new))) }
+    ensures intact { IsIntact (R.broken source.old) (R.broken source.new) result }
+{
+    read_text(source, PieceReader::new(TourForm::new(alloc)), TEXT_LIMIT)
+}

@@ -1,0 +1,3 @@
+pub mod PutEach
+pub mod Putting
+pub mod Writing

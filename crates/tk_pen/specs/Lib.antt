@@ -1,0 +1,4 @@
+pub mod Pens
+pub mod Puts
+pub mod Writes
+pub mod Written

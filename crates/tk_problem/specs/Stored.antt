@@ -1,0 +1,13 @@
+-- The places that a list keeps.
+use Rattle.std.specs.Prelude.{List, All, map}
+use Rattle.tk_problem.specs.declared.point.Point.{Point}
+use Rattle.tk_problem.specs.declared.points.Stored.{Stored}
+use Rattle.tk_problem.specs.declared.points.Stored.TheVariants.{Whole, Fine}
+use Rattle.tk_problem.specs.Places.{IsNearOrigin, place_of_whole}
+
+abbrev pub stored_places : Stored → List Point
+stored_places (Whole places) = map place_of_whole places.items
+stored_places (Fine places) = places.items
+
+abbrev pub IsStoredNear : Stored → Type 0
+IsStoredNear s = All IsNearOrigin (stored_places s)

@@ -1,0 +1,42 @@
+-- The order of explicit weights, by the rows or columns that a cursor walks.
+use Rattle.std.specs.Prelude.{ℕ, ◌+◌, ◌-◌, List, ◌++◌, map, flat_map}
+use Rattle.std.specs.List.{range_with_len}
+use Rattle.tk_problem.specs.declared.place.Place.{Place}
+use Rattle.tk_problem.specs.declared.weights.Format.{Format}
+use Rattle.tk_problem.specs.declared.weights.Format.TheVariants.{UpperRow, LowerRow, UpperDiagRow, LowerDiagRow, UpperCol, LowerCol, UpperDiagCol, LowerDiagCol}
+use Rattle.tk_problem.specs.WeightOrder.{place}
+
+-- the first item of a line that has an entry, and the item behind the last
+abbrev pub first_item : Format → ℕ → ℕ
+first_item UpperRow line = line + 1
+first_item LowerCol line = line + 1
+first_item UpperDiagRow line = line
+first_item LowerDiagCol line = line
+first_item _ line = 0
+
+abbrev pub end_item : Format → ℕ → ℕ → ℕ
+end_item LowerRow n line = line
+end_item UpperCol n line = line
+end_item LowerDiagRow n line = line + 1
+end_item UpperDiagCol n line = line + 1
+end_item _ n line = n
+
+-- lines are rows or columns
+abbrev pub place_on : Format → ℕ → ℕ → Place
+place_on UpperCol line item = place item line
+place_on LowerCol line item = place item line
+place_on UpperDiagCol line item = place item line
+place_on LowerDiagCol line item = place item line
+place_on _ line item = place line item
+
+-- the places of a line from an item on
+abbrev pub items : Format → ℕ → ℕ → ℕ → List Place
+items f line from end = map (place_on f line) (range_with_len from (end - from))
+
+-- the places of a number of lines
+abbrev pub lines : Format → ℕ → ℕ → ℕ → List Place
+lines f n from count = flat_map (λ line. items f line (first_item f line) (end_item f n line)) (range_with_len from count)
+
+-- the places from an item of a line on
+abbrev pub places_from : Format → ℕ → ℕ → ℕ → ℕ → List Place
+places_from f n line item end = items f line item end ++ lines f n (line + 1) (n - (line + 1))

@@ -1,0 +1,20 @@
+//! What a problem is.
+ghost use Rattle.std.specs.Prelude.{◌≤◌, length};
+ghost use Rattle.tk_problem.specs.Shape.{WeightsFit, RoutingFits};
+
+use crate::routing::Routing;
+use crate::weights::Weights;
+
+/// A problem: a TSP, or a CVRP where it has a routing. Cities are numbered from 1.
+#[derive(Drop)]
+pub struct Problem {
+    pub name: Vec<u8>,
+    pub n: u32,
+    pub weights: Weights,
+    pub routing: Option<Routing>,
+    ghost short: { length name.items ≤ 1024 },
+    ghost low: { 2 ≤ n },
+    ghost high: { n ≤ 100000 },
+    ghost weights_fit: { ∥ WeightsFit n weights ∥₁ },
+    ghost routing_fits: { ∥ RoutingFits n routing ∥₁ },
+}

@@ -1,0 +1,11 @@
+pub mod DepotList
+pub mod HeaderRecords
+pub mod KeptHeaders
+pub mod OpenSections
+pub mod PartEnds
+pub mod PartHeaders
+pub mod PartSections
+pub mod PartsWhole
+pub mod ProblemForms
+pub mod ReadNames
+pub mod SectionBegins

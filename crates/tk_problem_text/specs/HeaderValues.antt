@@ -1,0 +1,65 @@
+-- What the values of a problem's headers say.
+use Rattle.std.specs.Prelude.{ℕ, Bool, nat_le, ◌&&◌, ◌||◌, List, Option, Some, None, ℤ, pos, if◌then◌else◌, codes, option_map}
+use Rattle.tk_problem.specs.declared.weights.PlaneKind.{PlaneKind}
+use Rattle.tk_problem.specs.declared.weights.PlaneKind.TheVariants as planes
+use Rattle.tk_problem.specs.declared.weights.Format.{Format}
+use Rattle.tk_problem.specs.declared.weights.Format.TheVariants as formats
+use Rattle.tk_problem_text.specs.declared.header_values.ProblemType.{ProblemType}
+use Rattle.tk_problem_text.specs.declared.header_values.ProblemType.TheVariants as types
+use Rattle.tk_problem_text.specs.declared.header_values.WeightType.{WeightType}
+use Rattle.tk_problem_text.specs.declared.header_values.WeightType.TheVariants as weight_types
+use Rattle.tk_problem_text.specs.declared.header_values.WeightFormat.{WeightFormat}
+use Rattle.tk_problem_text.specs.declared.header_values.WeightFormat.TheVariants as weight_formats
+use Rattle.tk_words.specs.Lex.{integer, trim, after_word, is_empty}
+use Rattle.tk_words.specs.Words.{spells}
+use Rattle.tk_lines.specs.Scan.{first_word}
+
+-- the first word of a header's value spells this text, without regard to case
+abbrev pub says : List ℕ → List ℕ → Bool
+says bs text = spells (first_word bs) text
+
+abbrev pub problem_type_of : List ℕ → Option ProblemType
+problem_type_of bs =
+    if says bs (codes "TSP") then Some types.Tsp
+    else (if says bs (codes "CVRP") then Some types.Cvrp else None)
+
+abbrev pub plane_of : List ℕ → Option PlaneKind
+plane_of bs =
+    if says bs (codes "EUC_2D") then Some planes.Euc2d
+    else (if says bs (codes "CEIL_2D") then Some planes.Ceil2d
+    else (if says bs (codes "MAN_2D") then Some planes.Man2d
+    else (if says bs (codes "MAX_2D") then Some planes.Max2d
+    else (if says bs (codes "ATT") then Some planes.Att else None))))
+
+abbrev pub weight_type_of : List ℕ → Option WeightType
+weight_type_of bs = if says bs (codes "EXPLICIT") then Some weight_types.Explicit else option_map weight_types.Plane (plane_of bs)
+
+abbrev pub format_of : List ℕ → Option Format
+format_of bs =
+    if says bs (codes "FULL_MATRIX") then Some formats.FullMatrix
+    else (if says bs (codes "UPPER_ROW") then Some formats.UpperRow
+    else (if says bs (codes "LOWER_ROW") then Some formats.LowerRow
+    else (if says bs (codes "UPPER_DIAG_ROW") then Some formats.UpperDiagRow
+    else (if says bs (codes "LOWER_DIAG_ROW") then Some formats.LowerDiagRow
+    else (if says bs (codes "UPPER_COL") then Some formats.UpperCol
+    else (if says bs (codes "LOWER_COL") then Some formats.LowerCol
+    else (if says bs (codes "UPPER_DIAG_COL") then Some formats.UpperDiagCol
+    else (if says bs (codes "LOWER_DIAG_COL") then Some formats.LowerDiagCol else None))))))))
+
+abbrev pub weight_format_of : List ℕ → Option WeightFormat
+weight_format_of bs = if says bs (codes "FUNCTION") then Some weight_formats.Function else option_map weight_formats.Listed (format_of bs)
+
+abbrev pub is_coordinate_type : List ℕ → Bool
+is_coordinate_type bs = says bs (codes "TWOD_COORDS") || says bs (codes "NO_COORDS")
+
+abbrev pub between : ℕ → ℕ → Option ℤ → Option ℕ
+between low high (Some (pos n)) = if nat_le low n && nat_le n high then Some n else None
+between low high _ = None
+
+-- the first word of a header's value as an integer within these limits
+abbrev pub number_of : ℕ → ℕ → List ℕ → Option ℕ
+number_of low high bs = between low high (integer (first_word bs))
+
+-- the name that a header's value gives
+abbrev pub name_of : List ℕ → List ℕ
+name_of bs = let name = trim (after_word bs) in if is_empty name then codes "Unnamed" else name

@@ -1,0 +1,9 @@
+pub mod BegunSections
+pub mod HeaderValues
+pub mod Headers
+pub mod Kept
+pub mod Names
+pub mod OpenSections
+pub mod Parts
+pub mod Problem
+pub mod ProblemForm

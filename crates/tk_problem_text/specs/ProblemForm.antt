@@ -1,0 +1,25 @@
+-- What is held of a problem text's pieces.
+use Rattle.std.specs.Prelude.{◌≡◌, ℕ, true, false, List}
+use Rattle.tk_words.specs.declared.keyword.Keyword.{Keyword}
+use Rattle.tk_words.specs.declared.keyword.Keyword.TheVariants as words
+use Rattle.tk_problem_text.specs.declared.problem_form.ProblemForm.{ProblemForm}
+use Rattle.tk_words.specs.Lex.{Token}
+use Rattle.tk_lines.specs.Pieces.{Piece, has}
+use Rattle.tk_problem_text.specs.Parts.{HasParts, IsWhole, problem_in}
+use Rattle.tk_problem_text.specs.Problem.{ProblemIs}
+use Rattle.tk_problem_text.specs.OpenSections.{IsOpen}
+
+abbrev pub ProblemHolds : ProblemForm → List Piece → Type 0
+ProblemHolds s before = HasParts s.parts before
+
+pub record ProblemWants (s : ProblemForm) (before : List Piece) (word : Keyword) (n : ℕ) (toks : List Token) : Type 0 where
+  pub parts : HasParts s.parts before
+  pub sized : has words.Dimension before ≡ true
+  pub fresh : has word before ≡ false
+  pub section : IsOpen before word n toks s.current
+
+abbrev pub problem_held : ProblemForm → ProblemIs
+problem_held s = problem_in s.parts
+
+abbrev pub IsComplete : ProblemForm → Type 0
+IsComplete s = IsWhole s.parts

@@ -1,0 +1,131 @@
+//! What the values of a problem's headers say.
+ghost use Rattle.std.specs.Prelude.{◌≡◌, List, ℕ};
+ghost use Rattle.tk_problem_text.specs.HeaderValues as Values;
+ghost use Rattle.tk_lines.specs.Scan.{Scans};
+
+use tk_lines::Scan;
+use tk_problem::{Format, PlaneKind};
+
+/// The problems that are read.
+#[derive(Clone, Copy, Debug, PartialEq, Eq)]
+pub enum ProblemType {
+    Tsp,
+    Cvrp,
+}
+
+/// Where distances come from.
+#[derive(Clone, Copy, Debug, PartialEq, Eq)]
+pub enum WeightType {
+    Plane(PlaneKind),
+    Explicit,
+}
+
+/// How explicit weights are given.
+#[derive(Clone, Copy, Debug, PartialEq, Eq)]
+pub enum WeightFormat {
+    Function,
+    Listed(Format),
+}
+
+/// The value of TYPE.
+pub fn problem_type_of(value: &Scan) -> Option<ProblemType>
+    ensures { (v : List ℕ) → Scans value.now v → result ≡ Values.problem_type_of v }
+{
+    if value.is(b"TSP") {
+        return Some(ProblemType::Tsp);
+    }
+    if value.is(b"CVRP") {
+        return Some(ProblemType::Cvrp);
+    }
+    None
+}
+
+/// The value of EDGE_WEIGHT_TYPE.
+pub fn weight_type_of(value: &Scan) -> Option<WeightType>
+    ensures { (v : List ℕ) → Scans value.now v → result ≡ Values.weight_type_of v }
+{
+    if value.is(b"EXPLICIT") {
+        return Some(WeightType::Explicit);
+    }
+    match plane_of(value) {
+        Some(kind) => Some(WeightType::Plane(kind)),
+        None => None,
+    }
+}
+
+fn plane_of(value: &Scan) -> Option<PlaneKind>
+    ensures { (v : List ℕ) → Scans value.now v → result ≡ Values.plane_of v }
+{
+    if value.is(b"EUC_2D") {
+        return Some(PlaneKind::Euc2d);
+    }
+    if value.is(b"CEIL_2D") {
+        return Some(PlaneKind::Ceil2d);
+    }
+    if value.is(b"MAN_2D") {
+        return Some(PlaneKind::Man2d);
+    }
+    if value.is(b"MAX_2D") {
+        return Some(PlaneKind::Max2d);
+    }
+    if value.is(b"ATT") {
+        return Some(PlaneKind::Att);
+    }
+    None
+}
+
+/// The value of EDGE_WEIGHT_FORMAT.
+pub fn weight_format_of(value: &Scan) -> Option<WeightFormat>
+    ensures { (v : List ℕ) → Scans value.now v → result ≡ Values.weight_format_of v }
+{
+    if value.is(b"FUNCTION") {
+        return Some(WeightFormat::Function);
+    }
+    match format_of(value) {
+        Some(format) => Some(WeightFormat::Listed(format)),
+        None => None,
+    }
+}
+
+fn format_of(value: &Scan) -> Option<Format>
+    ensures { (v : List ℕ) → Scans value.now v → result ≡ Values.format_of v }
+{
+    if value.is(b"FULL_MATRIX") {
+        return Some(Format::FullMatrix);
+    }
+    if value.is(b"UPPER_ROW") {
+        return Some(Format::UpperRow);
+    }
+    if value.is(b"LOWER_ROW") {
+        return Some(Format::LowerRow);
+    }
+    if value.is(b"UPPER_DIAG_ROW") {
+        return Some(Format::UpperDiagRow);
+    }
+    if value.is(b"LOWER_DIAG_ROW") {
+        return Some(Format::LowerDiagRow);
+    }
+    if value.is(b"UPPER_COL") {
+        return Some(Format::UpperCol);
+    }
+    if value.is(b"LOWER_COL") {
+        return Some(Format::LowerCol);
+    }
+    if value.is(b"UPPER_DIAG_COL") {
+        return Some(Format::UpperDiagCol);
+    }
+    if value.is(b"LOWER_DIAG_COL") {
+        return Some(Format::LowerDiagCol);
+    }
+    None
+}
+
+/// Whether a value of NODE_COORD_TYPE is one that is read.
+pub fn is_coordinate_type(value: &Scan) -> bool
+    ensures { (v : List ℕ) → Scans value.now v → result ≡ Values.is_coordinate_type v }
+{
+    if value.is(b"TWOD_COORDS") {
+        return true;
+    }
+    value.is(b"NO_COORDS")
+}

@@ -1,0 +1,151 @@
+//! The headers of a problem that came so far.
+ghost use Rattle.std.specs.Prelude.{◌≡◌, ◌≤◌, ◌++◌, ℕ, Bool, true, false, List, [], length, Option, Some, None, IfOk, IfErr};
+ghost use Rattle.tk_words.specs.declared.keyword.Keyword.{Keyword};
+ghost use Rattle.tk_words.specs.declared.fault.TextKind.{TextKind};
+ghost use Rattle.tk_words.specs.Words.{same_word};
+ghost use Rattle.tk_lines.specs.Pieces.{Piece, has, first_at, Fault};
+ghost use Rattle.tk_problem_text.specs.Kept.{Keeps, Says, once};
+ghost use Rattle.tk_lines.specs.Forms.{IsToldWord, a_header};
+ghost use Rattle.tk_problem_text.specs.Problem.{problem_header};
+ghost use Rattle.tk_lines.specs.Scan.{Scans};
+ghost use Rattle.tk_words.specs.Lex.{trim, after_word};
+
+use crate::header_values::{
+    ProblemType, WeightFormat, WeightType, is_coordinate_type, problem_type_of, weight_format_of,
+    weight_type_of,
+};
+use std::alloc::{AllocError, Global};
+use tk_lines::Scan;
+use tk_sections::LOAD_LIMIT;
+use tk_words::{Keyword, TextKind};
+
+/// The cities of a problem.
+pub const SIZE_LIMIT: u32 = 100_000;
+
+/// The headers of a problem that came so far.
+#[derive(Drop)]
+pub struct Headers {
+    pub has_name: bool,
+    pub name: Vec<u8>,
+    pub problem_type: Option<ProblemType>,
+    pub dimension: Option<u32>,
+    pub capacity: Option<u32>,
+    pub weight_type: Option<WeightType>,
+    pub weight_format: Option<WeightFormat>,
+    pub has_coordinate_type: bool,
+    pub has_display_type: bool,
+}
+
+/// Keeps what a header says, which may come once.
+fn keep<A: Copy>(kept: &mut Option<A>, said: Result<A, TextKind>) -> Result<(), TextKind>
+    ensures ok { (word : Keyword) (f : List ℕ → Option A) (tests : List (Bool × TextKind)) (ps : List Piece) (v : List ℕ) (n : ℕ) → same_word word word ≡ true → Keeps word f kept.old ps → Says f tests v said → IfOk result (λ _. Keeps word f kept.new (ps ++ a_header word v n) × (first_at n (once word ps tests) ≡ None)) }
+    ensures err { (word : Keyword) (f : List ℕ → Option A) (tests : List (Bool × TextKind)) (ps : List Piece) (v : List ℕ) (n : ℕ) → Keeps word f kept.old ps → Says f tests v said → IfErr result (IsToldWord (λ k. first_at n (once word ps tests) ≡ Some (Fault n k))) }
+{
+    if kept.is_some() {
+        return Err(TextKind::Repeated);
+    }
+    *kept = Some(said?);
+    Ok(())
+}
+
+/// Notes a header, which may come once.
+fn note(came: &mut bool) -> Result<(), TextKind>
+    ensures ok { (word : Keyword) (ps : List Piece) (v : List ℕ) (n : ℕ) → same_word word word ≡ true → came.old ≡ has word ps → IfOk result (λ _. (came.new ≡ has word (ps ++ a_header word v n)) × (has word ps ≡ false)) }
+    ensures err { (word : Keyword) (ps : List Piece) → came.old ≡ has word ps → IfErr result (λ k. (k ≡ TextKind.Repeated) × (has word ps ≡ true)) }
+{
+    if *came {
+        return Err(TextKind::Repeated);
+    }
+    *came = true;
+    Ok(())
+}
+
+impl Headers {
+    ghost use Rattle.tk_problem_text.specs.Headers.{HasHeaders};
+    ghost use Rattle.tk_words.specs.declared.keyword.Keyword.TheVariants as words;
+
+    /// Before the first one.
+    pub fn new(alloc: Global) -> Result<Self, AllocError>
+        ensures { IfOk result (λ h. HasHeaders h []) }
+    {
+        Ok(Headers {
+            has_name: false,
+            name: Vec::from_slice(alloc, b"Unnamed")?,
+            problem_type: None,
+            dimension: None,
+            capacity: None,
+            weight_type: None,
+            weight_format: None,
+            has_coordinate_type: false,
+            has_display_type: false,
+        })
+    }
+
+    /// Takes a header.
+    pub fn take(&mut self, alloc: Global, word: Keyword, value: &Scan) -> Result<(), TextKind>
+        ensures ok { (ps : List Piece) (v : List ℕ) (n : ℕ) → HasHeaders self.old ps → Scans value.now v → IfOk result (λ _. HasHeaders self.new (ps ++ a_header word v n) × (first_at n (problem_header ps word v) ≡ None)) }
+        ensures err { (ps : List Piece) (v : List ℕ) (n : ℕ) → HasHeaders self.old ps → Scans value.now v → IfErr result (IsToldWord (λ k. first_at n (problem_header ps word v) ≡ Some (Fault n k))) }
+    {
+        match word {
+            Keyword::Name => self.take_name(alloc, value),
+            Keyword::Comment => Ok(()),
+            Keyword::Type => keep(
+                &mut self.problem_type,
+                problem_type_of(value).ok_or(TextKind::Unsupported),
+            ),
+            Keyword::Dimension => keep(&mut self.dimension, value.number(2, SIZE_LIMIT)),
+            Keyword::Capacity => keep(&mut self.capacity, value.number(1, LOAD_LIMIT)),
+            Keyword::EdgeWeightType => keep(
+                &mut self.weight_type,
+                weight_type_of(value).ok_or(TextKind::Unsupported),
+            ),
+            Keyword::EdgeWeightFormat => keep(
+                &mut self.weight_format,
+                weight_format_of(value).ok_or(TextKind::Unsupported),
+            ),
+            Keyword::NodeCoordType => {
+                note(&mut self.has_coordinate_type)?;
+                if is_coordinate_type(value) {
+                    Ok(())
+                } else {
+                    Err(TextKind::Unsupported)
+                }
+            }
+            Keyword::DisplayDataType => note(&mut self.has_display_type),
+            _ => Err(TextKind::Unsupported),
+        }
+    }
+
+    /// Takes the name.
+    fn take_name(&mut self, alloc: Global, value: &Scan) -> Result<(), TextKind>
+        ensures ok { (ps : List Piece) (v : List ℕ) (n : ℕ) → HasHeaders self.old ps → Scans value.now v → IfOk result (λ _. HasHeaders self.new (ps ++ a_header words.Name v n) × (first_at n (problem_header ps words.Name v) ≡ None)) }
+        ensures err { (ps : List Piece) (v : List ℕ) (n : ℕ) → HasHeaders self.old ps → Scans value.now v → IfErr result (IsToldWord (λ k. first_at n (problem_header ps words.Name v) ≡ Some (Fault n k))) }
+    {
+        match value.name() {
+            None => Err(TextKind::TooLong),
+            Some(name) => self.keep_name(alloc, name),
+        }
+    }
+
+    /// Keeps the name.
+    fn keep_name(&mut self, alloc: Global, name: &[u8]) -> Result<(), TextKind>
+        ensures ok { (ps : List Piece) (v : List ℕ) (n : ℕ) → HasHeaders self.old ps → name.now ≡ trim (after_word v) → length name.now ≤ 1024 → IfOk result (λ _. HasHeaders self.new (ps ++ a_header words.Name v n) × (has words.Name ps ≡ false)) }
+        ensures err { (ps : List Piece) → HasHeaders self.old ps → IfErr result (IsToldWord (λ k. (k ≡ TextKind.Repeated) × (has words.Name ps ≡ true))) }
+    {
+        if self.has_name {
+            return Err(TextKind::Repeated);
+        }
+        if name.is_empty() {
+            self.has_name = true;
+            return Ok(());
+        }
+        match Vec::from_slice(alloc, name) {
+            Ok(name) => {
+                self.name = name;
+                self.has_name = true;
+                Ok(())
+            }
+            Err(_) => Err(TextKind::NoMemory),
+        }
+    }
+}

@@ -1,0 +1,255 @@
+//! The headers and sections of a problem that came so far.
+ghost use Rattle.std.specs.Prelude.{◌≡◌, ◌≤◌, ◌<◌, ◌-◌, ◌^◌, ◌++◌, ℕ, List, [], Some, None, IfOk, IfErr, IfSome, length, slice_index};
+ghost use Rattle.tk_lines.specs.Pieces.{Piece, first_at, Fault};
+ghost use Rattle.tk_lines.specs.Forms.{IsToldWord, a_header};
+ghost use Rattle.tk_problem_text.specs.Problem.{problem_header, problem_end, first_kind, weights_ends, routing_ends_of, over_capacity};
+ghost use Rattle.tk_lines.specs.Scan.{Scans};
+ghost use Rattle.tk_problem_text.specs.Parts.{MakesWeights, MakesRouting, weights_are, weights_in, routing_is, routing_in};
+ghost use Rattle.tk_problem.specs.Shape.{WeightsFit, RoutingFits};
+
+use crate::header_values::{ProblemType, WeightType};
+use crate::headers::Headers;
+use std::alloc::{AllocError, Global};
+use tk_lines::Scan;
+use tk_problem::{Points, Problem, Routing, Weights};
+use tk_words::{Keyword, TextKind};
+
+/// The headers and sections of a problem that came so far.
+#[derive(Drop)]
+pub struct Parts {
+    pub headers: Headers,
+    pub places: Option<Points>,
+    pub lower: Option<Vec<u32>>,
+    pub demand: Option<Vec<u32>>,
+    pub depot: Option<u32>,
+    pub has_display: bool,
+}
+
+impl Parts {
+    ghost use Rattle.std.specs.Prelude.{true, false, map};
+    ghost use Rattle.tk_words.specs.declared.keyword.Keyword.TheVariants as words;
+    ghost use Rattle.tk_problem.specs.declared.weights.Weights.TheVariants as weights;
+    ghost use Rattle.tk_words.specs.Lex.{Token};
+    ghost use Rattle.tk_lines.specs.Pieces.{After, has};
+    ghost use Rattle.tk_lines.specs.Forms.{a_section};
+    ghost use Rattle.tk_sections.specs.Rows.{places_of, demands_of, number_in};
+    ghost use Rattle.tk_sections.specs.WeightSection.{lower_weights};
+    ghost use Rattle.tk_problem_text.specs.Problem.{size_of, format_in};
+    ghost use Rattle.tk_problem_text.specs.Parts.{HasParts, IsWhole, problem_is, problem_in};
+
+    /// Before the first one.
+    pub fn new(alloc: Global) -> Result<Self, AllocError>
+        ensures { IfOk result (λ p. HasParts p []) }
+    {
+        Ok(Parts {
+            headers: Headers::new(alloc)?,
+            places: None,
+            lower: None,
+            demand: None,
+            depot: None,
+            has_display: false,
+        })
+    }
+
+    /// Takes a header.
+    pub fn take_header(
+        &mut self,
+        alloc: Global,
+        word: Keyword,
+        value: &Scan,
+    ) -> Result<(), TextKind>
+        ensures ok { (ps : List Piece) (v : List ℕ) (n : ℕ) → HasParts self.old ps → Scans value.now v → IfOk result (λ _. HasParts self.new (ps ++ a_header word v n) × (first_at n (problem_header ps word v) ≡ None)) }
+        ensures err { (ps : List Piece) (v : List ℕ) (n : ℕ) → HasParts self.old ps → Scans value.now v → IfErr result (IsToldWord (λ k. first_at n (problem_header ps word v) ≡ Some (Fault n k))) }
+    {
+        self.headers.take(alloc, word, value)
+    }
+
+    /// Keeps the places of NODE_COORD_SECTION.
+    pub fn keep_places(&mut self, places: Points)
+        ensures { (ps : List Piece) (n : ℕ) (toks : List Token) (after : After) → HasParts self.old ps → has words.Dimension ps ≡ true → has words.NodeCoordSection ps ≡ false → places ≡ places_of (size_of ps) toks → HasParts self.new (ps ++ a_section words.NodeCoordSection n toks after) }
+    {
+        self.places = Some(places);
+    }
+
+    /// Keeps the lower triangle of EDGE_WEIGHT_SECTION.
+    pub fn keep_lower(&mut self, lower: Vec<u32>)
+        ensures { (ps : List Piece) (n : ℕ) (toks : List Token) (after : After) → HasParts self.old ps → has words.Dimension ps ≡ true → has words.EdgeWeightSection ps ≡ false → lower.items ≡ lower_weights (size_of ps) (format_in ps) toks → has words.EdgeWeightFormat ps ≡ true → WeightsFit (size_of ps) (weights.Lower lower) → HasParts self.new (ps ++ a_section words.EdgeWeightSection n toks after) }
+    {
+        self.lower = Some(lower);
+    }
+
+    /// Keeps the demands of DEMAND_SECTION.
+    pub fn keep_demand(&mut self, demand: Vec<u32>)
+        ensures { (ps : List Piece) (n : ℕ) (toks : List Token) (after : After) → HasParts self.old ps → has words.Dimension ps ≡ true → has words.DemandSection ps ≡ false → demand.items ≡ demands_of (size_of ps) toks → size_of ps ≤ 5000 → HasParts self.new (ps ++ a_section words.DemandSection n toks after) }
+    {
+        self.demand = Some(demand);
+    }
+
+    /// Keeps the node of DEPOT_SECTION.
+    pub fn keep_depot(&mut self, depot: u32)
+        ensures { (ps : List Piece) (n : ℕ) (toks : List Token) (after : After) → HasParts self.old ps → has words.Dimension ps ≡ true → has words.DepotSection ps ≡ false → depot ≡ slice_index (map number_in toks) 0 → (1 ≤ depot) × (depot ≤ size_of ps) → HasParts self.new (ps ++ a_section words.DepotSection n toks after) }
+    {
+        self.depot = Some(depot);
+    }
+
+    /// Notes DISPLAY_DATA_SECTION.
+    pub fn note_display(&mut self)
+        ensures { (ps : List Piece) (n : ℕ) (toks : List Token) (after : After) → HasParts self.old ps → has words.Dimension ps ≡ true → HasParts self.new (ps ++ a_section words.DisplayDataSection n toks after) }
+    {
+        self.has_display = true;
+    }
+
+    /// What is wrong at the end of the text.
+    pub fn end(&self) -> Option<TextKind>
+        ensures fault { (ps : List Piece) → HasParts self.now ps → IfSome result (IsToldWord (λ k. problem_end ps ≡ Some k)) }
+        ensures none { (ps : List Piece) → HasParts self.now ps → result ≡ None → problem_end ps ≡ None }
+    {
+        if self.headers.problem_type.is_none() {
+            return Some(TextKind::Missing(Keyword::Type));
+        }
+        if self.headers.dimension.is_none() {
+            return Some(TextKind::Missing(Keyword::Dimension));
+        }
+        match self.weights_end() {
+            Some(kind) => Some(kind),
+            None => self.routing_end(),
+        }
+    }
+
+    /// The problem, where nothing is wrong.
+    pub fn into_problem(self) -> Problem
+        requires { IsWhole self }
+        ensures { problem_is result ≡ problem_in self }
+    {
+        let Parts {
+            headers,
+            places,
+            lower,
+            demand,
+            depot,
+            has_display: _,
+        } = self;
+        let weights = weights_from(headers.weight_type, places, lower);
+        let routing = routing_from(headers.problem_type, headers.capacity, demand, depot);
+        Problem {
+            name: headers.name,
+            n: headers.dimension.unwrap(),
+            weights,
+            routing,
+        }
+    }
+
+    /// What is wrong with the weights.
+    fn weights_end(&self) -> Option<TextKind>
+        ensures fault { (ps : List Piece) → HasParts self.now ps → IfSome result (IsToldWord (λ k. first_kind (weights_ends ps) ≡ Some k)) }
+        ensures none { (ps : List Piece) → HasParts self.now ps → result ≡ None → first_kind (weights_ends ps) ≡ None }
+    {
+        match self.headers.weight_type {
+            None => Some(TextKind::Missing(Keyword::EdgeWeightType)),
+            Some(WeightType::Explicit) => {
+                if self.lower.is_some() {
+                    None
+                } else {
+                    Some(TextKind::Missing(Keyword::EdgeWeightSection))
+                }
+            }
+            Some(WeightType::Plane(_)) => {
+                if self.places.is_some() {
+                    None
+                } else {
+                    Some(TextKind::Missing(Keyword::NodeCoordSection))
+                }
+            }
+        }
+    }
+
+    /// What is wrong with the routing, where there is one.
+    fn routing_end(&self) -> Option<TextKind>
+        ensures fault { (ps : List Piece) → HasParts self.now ps → IfSome result (IsToldWord (λ k. first_kind (routing_ends_of ps) ≡ Some k)) }
+        ensures none { (ps : List Piece) → HasParts self.now ps → result ≡ None → first_kind (routing_ends_of ps) ≡ None }
+    {
+        match self.headers.problem_type {
+            Some(ProblemType::Cvrp) => {}
+            _ => return None,
+        }
+        let Some(capacity) = self.headers.capacity else {
+            return Some(TextKind::Missing(Keyword::Capacity));
+        };
+        let Some(demand) = &self.demand else {
+            return Some(TextKind::Missing(Keyword::DemandSection));
+        };
+        let Some(depot) = self.depot else {
+            return Some(TextKind::Missing(Keyword::DepotSection));
+        };
+        if demand_at(demand, depot) != 0 {
+            return Some(TextKind::BadDepot);
+        }
+        match first_over(demand, capacity) {
+            Some(node) => Some(TextKind::DemandOverCapacity(node)),
+            None => None,
+        }
+    }
+}
+
+/// The weights of n cities.
+fn weights_from(
+    weight_type: Option<WeightType>,
+    places: Option<Points>,
+    lower: Option<Vec<u32>>,
+) -> Weights
+    requires { (n : ℕ) × MakesWeights n weight_type places lower }
+    ensures is { weights_are result ≡ weights_in weight_type places lower }
+    ensures fit { (n : ℕ) → MakesWeights n weight_type places lower → WeightsFit n result }
+{
+    match weight_type {
+        Some(WeightType::Plane(kind)) => Weights::Points(kind, places.unwrap()),
+        _ => Weights::Lower(lower.unwrap()),
+    }
+}
+
+/// The routing of n nodes.
+fn routing_from(
+    problem_type: Option<ProblemType>,
+    capacity: Option<u32>,
+    demand: Option<Vec<u32>>,
+    depot: Option<u32>,
+) -> Option<Routing>
+    requires { (n : ℕ) × MakesRouting n problem_type capacity demand depot }
+    ensures is { routing_is result ≡ routing_in problem_type capacity demand depot }
+    ensures fit { (n : ℕ) → MakesRouting n problem_type capacity demand depot → RoutingFits n result }
+{
+    match problem_type {
+        Some(ProblemType::Cvrp) => Some(Routing {
+            capacity: capacity.unwrap(),
+            demand: demand.unwrap(),
+            depot: depot.unwrap(),
+        }),
+        _ => None,
+    }
+}
+
+/// The demand of a node, 0 where there is no such node.
+fn demand_at(demand: &[u32], node: u32) -> u32
+    ensures { 1 ≤ node → result ≡ slice_index demand.now (node - 1) }
+{
+    let index = node as usize;
+    if index == 0 || index > demand.len() {
+        return 0;
+    }
+    demand[index - 1]
+}
+
+/// The first node that has more demand than a vehicle holds.
+fn first_over(demand: &[u32], capacity: u32) -> Option<u32>
+    ensures some { length demand.now < 2 ^ 32 → IfSome result (λ node. first_kind (over_capacity capacity 1 demand.now) ≡ Some (TextKind.DemandOverCapacity node)) }
+    ensures none { length demand.now < 2 ^ 32 → result ≡ None → first_kind (over_capacity capacity 1 demand.now) ≡ None }
+{
+    let mut node: u32 = 0;
+    for load in demand {
+        node = node.saturating_add(1);
+        if *load > capacity {
+            return Some(node);
+        }
+    }
+    None
+}

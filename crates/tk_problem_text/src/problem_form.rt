@@ -1,0 +1,111 @@
+//! What a problem text says so far.
+ghost use Rattle.std.specs.Prelude.{◌≡◌, ◌≤◌, ℕ, true, false, List, [], length, IfOk, IfErr};
+ghost use Rattle.tk_words.specs.declared.keyword.Keyword.{Keyword};
+ghost use Rattle.tk_words.specs.declared.keyword.Keyword.TheVariants as words;
+ghost use Rattle.tk_problem_text.specs.OpenSections.{IsPast};
+ghost use Rattle.tk_problem_text.specs.Parts.{HasParts, problem_is};
+ghost use Rattle.tk_lines.specs.Pieces.{Piece, has};
+ghost use Rattle.tk_problem_text.specs.Problem.{ProblemIs, problem_format};
+ghost use Rattle.tk_problem_text.specs.ProblemForm.{ProblemHolds, ProblemWants, problem_held, IsComplete};
+
+use crate::begin::begin;
+use crate::open_section::OpenSection;
+use crate::parts::Parts;
+use std::alloc::{AllocError, Global};
+use std::mem;
+use tk_lines::{Form, Scan, Taken};
+use tk_problem::Problem;
+use tk_words::{Keyword, TextKind};
+
+/// What a problem text says so far, and the section whose tokens come.
+#[derive(Drop)]
+pub struct ProblemForm {
+    pub alloc: Global,
+    pub parts: Parts,
+    pub current: OpenSection,
+}
+
+impl ProblemForm {
+    /// Before the first piece.
+    pub fn new(alloc: Global) -> Result<Self, AllocError>
+        ensures { IfOk result (λ s. ProblemHolds s []) }
+    {
+        Ok(ProblemForm {
+            alloc,
+            parts: Parts::new(alloc)?,
+            current: OpenSection::Nothing,
+        })
+    }
+
+    /// Keeps what a section gave, behind its last token.
+    fn close(&mut self)
+        ensures { (before : List Piece) (word : Keyword) (n : ℕ) (ps : List Piece) → HasParts self.old.parts before → has words.Dimension before ≡ true → has word before ≡ false → IsPast before word n self.old.current ps → HasParts self.new.parts ps }
+    {
+        match mem::replace(&mut self.current, OpenSection::Nothing) {
+            OpenSection::Nothing => {}
+            OpenSection::Places(section) => self.parts.keep_places(section.into_places()),
+            OpenSection::Explicit(section) => self.parts.keep_lower(section.into_lower()),
+            OpenSection::Loads(section) => self.parts.keep_demand(section.into_loads()),
+            OpenSection::Home(section) => {
+                if let Some(node) = section.node {
+                    self.parts.keep_depot(node);
+                }
+            }
+            OpenSection::Display(_) => self.parts.note_display(),
+        }
+    }
+}
+
+impl Form for ProblemForm {
+    type Out = Problem;
+
+    ghost Value = { ProblemIs };
+
+    ghost view = { problem_is };
+
+    ghost format = { problem_format };
+
+    ghost holds = { ProblemHolds };
+
+    ghost wants = { ProblemWants };
+
+    ghost held = { problem_held };
+
+    ghost complete = { IsComplete };
+
+    fn header(&mut self, word: Keyword, value: &Scan) -> Result<(), TextKind> {
+        self.parts.take_header(self.alloc, word, value)
+    }
+
+    fn section(&mut self, word: Keyword) -> Result<(), TextKind> {
+        self.current = begin(self.alloc, &self.parts, word)?;
+        Ok(())
+    }
+
+    fn token(&mut self, bytes: &[u8]) -> Result<Taken, TextKind> {
+        let taken = self.current.take(bytes)?;
+        match taken {
+            Taken::More => Ok(taken),
+            _ => {
+                self.close();
+                Ok(taken)
+            }
+        }
+    }
+
+    fn end_section(&mut self) -> Result<(), TextKind> {
+        if !self.current.may_end() {
+            return Err(TextKind::Truncated);
+        }
+        self.close();
+        Ok(())
+    }
+
+    fn end(&self) -> Option<TextKind> {
+        self.parts.end()
+    }
+
+    fn value(self) -> Problem {
+        self.parts.into_problem()
+    }
+}

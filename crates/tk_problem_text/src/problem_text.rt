@@ -1,0 +1,29 @@
+//! Problem texts.
+ghost use Rattle.std.specs.Prelude.{◌≡◌, true, Ok, IfOk, IfErr};
+ghost use Rattle.tk_words.specs.Drive.{IsAnswerWhereTold, IsIntact, IsTold, text_limit};
+ghost use Rattle.tk_problem_text.specs.Parts.{problem_is};
+ghost use Rattle.tk_problem_text.specs.Problem.{problem_decided};
+ghost use Rattle.tk_problem_text.specs.Names.{IsName};
+
+use crate::problem_form::ProblemForm;
+use std::alloc::Global;
+use tk_lines::PieceReader;
+use tk_problem::Problem;
+use tk_words::{Source, TEXT_LIMIT, TextFault, TextKind, read_text};
+
+/// Reads a problem text. What it answers is what every text says that begins with the bytes that it read, but for
+/// `Read`, where the source fails, and `NoMemory`.
+pub fn read_problem<R: Source>(alloc: Global, source: &mut R) -> Result<Problem, TextFault>
+    ensures ok { IfOk result (λ problem. IsAnswerWhereTold problem_decided text_limit (R.left source.old) (R.left source.new) (Ok (problem_is problem))) }
+    ensures named { IfOk result (λ problem. IsName (problem_is problem).name) }
+    ensures err { IfErr result (IsTold (R.broken source.new ≡ true) (IsAnswerWhereTold problem_decided text_limit (R.left source.old) (R.left source.new))) }
+    ensures intact { IsIntact (R.broken source.old) (R.broken source.new) result }
+{
+    match ProblemForm::new(alloc) {
+        Ok(form) => read_text(source, PieceReader::new(form), TEXT_LIMIT),
+        Err(_) => Err(TextFault {
+            line: 1,
+            kind: TextKind::NoMemory,
+        }),
+    }
+}

@@ -1,0 +1,9 @@
+pub mod Coordinates
+pub mod Demands
+pub mod DepotList
+pub mod DepotTaken
+pub mod FixedSections
+pub mod Nodes
+pub mod Rows
+pub mod Weighing
+pub mod WeightSection

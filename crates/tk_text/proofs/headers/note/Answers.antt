@@ -1,6 +1,0 @@
-use Rattle.std.proofs.Common.{sym, ◌∙◌}
-use Rattle.tk_text.proofs.KeptHeaders.{noted}
-use Rattle.tk_text.proofs.headers.note.Goals as goal
-
-pub returns-clause-ok : goal.returns-clause-ok
-returns-clause-ok c = λ word ps v n same h. (noted word ps v n same, sym h ∙ c.if-came.false)

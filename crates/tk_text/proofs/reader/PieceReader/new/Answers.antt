@@ -1,6 +1,0 @@
-use Rattle.std.proofs.Common.{refl}
-use Rattle.tk_text.proofs.Finishing.{from_first}
-use Rattle.tk_text.proofs.reader.PieceReader.new.Goals as goal
-
-pub returns : goal.returns
-returns g c = (refl, from_first g.F.Form.format g.F.Form.holds c.args.form c.requires)

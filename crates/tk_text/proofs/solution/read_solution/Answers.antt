@@ -1,5 +1,0 @@
-use Rattle.tk_text.proofs.SolutionTexts.{fed_none}
-use Rattle.tk_text.proofs.solution.read_solution.Goals as goal
-
-pub read_text-requires-clause-fresh : goal.read_text-requires-clause-fresh
-read_text-requires-clause-fresh g c = fed_none c.new.result c.new.ensures.line c.new.ensures.start c.new.ensures.stands

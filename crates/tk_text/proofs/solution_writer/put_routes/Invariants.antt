@@ -1,9 +1,0 @@
--- the routes before this one are put
-use Rattle.std.proofs.Common.{take}
-use Rattle.std.specs.Prelude.{map}
-use Rattle.tk_text.specs.Pens.{Puts}
-use Rattle.tk_text.specs.SolutionWritten.{route_lines}
-use Rattle.tk_text.proofs.solution_writer.put_routes.Given as goal
-
-abbrev pub invariant-loop-i : goal.invariant-loop-i
-invariant-loop-i g l = Puts g.W.Sink.taken g.W.Sink.broken l.initial.pen l.pen (route_lines 1 (map (λ r. r.items) (take l.i l.routes)))

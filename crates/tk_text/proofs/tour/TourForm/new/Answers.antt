@@ -1,7 +1,0 @@
-use Rattle.std.proofs.Common.{refl}
-use Rattle.tk_text.specs.Tour.{entries}
-use Rattle.tk_text.proofs.tour.TourForm.new.Goals as goal
-
-pub returns : goal.returns
-unfolding entries
-returns c = record { seen = record { name = refl; kind = refl; dimension = refl }; section = refl; cities = c.new.ensures.items }

@@ -1,6 +1,0 @@
-use Rattle.std.proofs.Common.{◌≡◌, ◌-◌}
-use Rattle.tk_text.specs.WeightLines.{lines}
-use Rattle.tk_text.proofs.weight_order.next_line.Given as goal
-
-abbrev pub invariant-loop-line : goal.invariant-loop-line
-invariant-loop-line l = lines l.format l.n l.from (l.n - l.from) ≡ lines l.format l.n l.line (l.n - l.line)

@@ -1,0 +1,62 @@
+-- Decimal numbers, in billionths.
+use Rattle.std.specs.Prelude.{ℕ, ◌+◌, ◌-◌, ◌*◌, ◌/◌, ◌^◌, ◌&&◌, ◌||◌, ◌==◌, nat_lt, nat_le, List, [], ◌∷◌, ◌++◌, length, Option, Some, None, Result, Ok, Err, ℤ, pos, neg_ℤ, if◌then◌else◌, option_map, fold}
+use Rattle.std.specs.Char.{is_ascii_digit}
+use Rattle.std.specs.Int.RustNames.{unsigned_abs}
+use Rattle.tk_words.specs.declared.fault.TextKind.{TextKind}
+use Rattle.tk_words.specs.declared.fault.TextKind.TheVariants as kinds
+use Rattle.tk_words.specs.Lex.{front, behind, is_empty, natural}
+
+-- the number that digits spell behind those that make n
+abbrev pub number_behind : ℕ → List ℕ → ℕ
+number_behind n digits = fold (λ m d. m * 10 + (d - 48)) n digits
+
+abbrev pub number_of : List ℕ → ℕ
+number_of digits = number_behind 0 digits
+
+-- the digits behind a point, and what stands behind them
+abbrev pub fraction : List ℕ → List ℕ
+fraction [] = []
+fraction (b ∷ bs) = if b == 46 then front is_ascii_digit bs else []
+
+abbrev pub behind_fraction : List ℕ → List ℕ
+behind_fraction [] = []
+behind_fraction (b ∷ bs) = if b == 46 then behind is_ascii_digit bs else b ∷ bs
+
+-- 1 to 3 digits
+abbrev pub small : List ℕ → Option ℕ
+small bs = if nat_lt 3 (length bs) then None else natural bs
+
+-- powers of ten up and down
+abbrev pub Powers : Type 0
+Powers = ℕ × ℕ
+
+abbrev pub powers : List ℕ → Option Powers
+powers [] = None
+powers (b ∷ bs) =
+    if b == 45 then option_map (λ n. (0, n)) (small bs)
+    else option_map (λ n. (n, 0)) (small (if b == 43 then bs else b ∷ bs))
+
+-- nothing, or an exponent: `e`, an optional sign and 1 to 3 digits
+abbrev pub exponent : List ℕ → Option Powers
+exponent [] = Some (0, 0)
+exponent (b ∷ bs) = if b == 101 || b == 69 then powers bs else None
+
+-- a number without its sign: digits with at most one point, at least one digit; rounded down
+abbrev pub billionths : List ℕ → Option ℕ
+billionths bs =
+    let whole = front is_ascii_digit bs in
+    let rest = behind is_ascii_digit bs in
+    if is_empty whole && is_empty (fraction rest) then None
+    else option_map (λ e. number_of (whole ++ fraction rest) * 10 ^ (9 + e.0) / 10 ^ (length (fraction rest) + e.1)) (exponent (behind_fraction rest))
+
+-- rounded towards zero
+abbrev pub decimal_of : List ℕ → Option ℤ
+decimal_of [] = None
+decimal_of (b ∷ bs) =
+    if b == 45 then option_map (λ n. neg_ℤ (pos n)) (billionths bs)
+    else option_map pos (billionths (if b == 43 then bs else b ∷ bs))
+
+-- a magnitude of at most 10^9
+abbrev pub limited : Option ℤ → Result ℤ TextKind
+limited None = Err kinds.BadNumber
+limited (Some z) = if nat_le (unsigned_abs z) (10 ^ 18) then Ok z else Err kinds.OutOfLimit

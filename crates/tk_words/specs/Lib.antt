@@ -1,0 +1,6 @@
+pub mod Decimal
+pub mod Drive
+pub mod Entry
+pub mod Lex
+pub mod MinusOne
+pub mod Words

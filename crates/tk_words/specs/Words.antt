@@ -1,0 +1,97 @@
+-- The words of the formats.
+use Rattle.std.specs.Prelude.{ℕ, Bool, true, false, ◌&&◌, ◌==◌, List, [], ◌∷◌, map, Option, Some, None, if◌then◌else◌, codes}
+use Rattle.std.specs.Char.{to_ascii_uppercase}
+use Rattle.tk_words.specs.Lex.{is_letter}
+use Rattle.tk_words.specs.declared.keyword.Keyword.{Keyword}
+use Rattle.tk_words.specs.declared.keyword.Keyword.TheVariants as words
+use Rattle.tk_words.specs.declared.keyword.Role.{Role}
+use Rattle.tk_words.specs.declared.keyword.Role.TheVariants.{BeginsHeader, BeginsSection, EndsText}
+
+abbrev pub same_bytes : List ℕ → List ℕ → Bool
+same_bytes [] [] = true
+same_bytes (a ∷ as') (b ∷ bs) = a == b && same_bytes as' bs
+same_bytes _ _ = false
+
+-- the bytes spell the text, which is in capitals, without regard to case
+abbrev pub spells : List ℕ → List ℕ → Bool
+spells bs text = same_bytes (map to_ascii_uppercase bs) text
+
+-- the bytes begin as every word does
+abbrev pub begins_word : List ℕ → Bool
+begins_word [] = false
+begins_word (b ∷ bs) = is_letter b
+
+-- the word that the bytes spell
+unfoldable pub rest_word : List ℕ → Option Keyword
+rest_word bs =
+    if spells bs (codes "DISTANCE") then Some words.Distance
+    else (if spells bs (codes "SERVICE_TIME") then Some words.ServiceTime
+    else (if spells bs (codes "VEHICLES") then Some words.Vehicles
+    else (if spells bs (codes "EDGE_DATA_SECTION") then Some words.EdgeDataSection
+    else (if spells bs (codes "FIXED_EDGES_SECTION") then Some words.FixedEdgesSection
+    else None))))
+
+unfoldable pub section_word : List ℕ → Option Keyword
+section_word bs =
+    if spells bs (codes "NODE_COORD_SECTION") then Some words.NodeCoordSection
+    else (if spells bs (codes "EDGE_WEIGHT_SECTION") then Some words.EdgeWeightSection
+    else (if spells bs (codes "DEMAND_SECTION") then Some words.DemandSection
+    else (if spells bs (codes "DEPOT_SECTION") then Some words.DepotSection
+    else (if spells bs (codes "DISPLAY_DATA_SECTION") then Some words.DisplayDataSection
+    else (if spells bs (codes "TOUR_SECTION") then Some words.TourSection
+    else (if spells bs (codes "EOF") then Some words.Eof
+    else rest_word bs))))))
+
+unfoldable pub keyword_of : List ℕ → Option Keyword
+keyword_of bs =
+    if spells bs (codes "NAME") then Some words.Name
+    else (if spells bs (codes "COMMENT") then Some words.Comment
+    else (if spells bs (codes "TYPE") then Some words.Type
+    else (if spells bs (codes "DIMENSION") then Some words.Dimension
+    else (if spells bs (codes "CAPACITY") then Some words.Capacity
+    else (if spells bs (codes "EDGE_WEIGHT_TYPE") then Some words.EdgeWeightType
+    else (if spells bs (codes "EDGE_WEIGHT_FORMAT") then Some words.EdgeWeightFormat
+    else (if spells bs (codes "NODE_COORD_TYPE") then Some words.NodeCoordType
+    else (if spells bs (codes "DISPLAY_DATA_TYPE") then Some words.DisplayDataType
+    else section_word bs))))))))
+
+-- a place for each word
+abbrev pub code : Keyword → ℕ
+code words.Name = 0
+code words.Comment = 1
+code words.Type = 2
+code words.Dimension = 3
+code words.Capacity = 4
+code words.EdgeWeightType = 5
+code words.EdgeWeightFormat = 6
+code words.NodeCoordType = 7
+code words.DisplayDataType = 8
+code words.Distance = 9
+code words.ServiceTime = 10
+code words.Vehicles = 11
+code words.NodeCoordSection = 12
+code words.EdgeWeightSection = 13
+code words.DemandSection = 14
+code words.DepotSection = 15
+code words.DisplayDataSection = 16
+code words.EdgeDataSection = 17
+code words.FixedEdgesSection = 18
+code words.TourSection = 19
+code words.Eof = 20
+code words.Cost = 21
+
+abbrev pub same_word : Keyword → Keyword → Bool
+same_word a b = code a == code b
+
+-- what a word begins
+abbrev pub role : Keyword → Role
+role words.NodeCoordSection = BeginsSection
+role words.EdgeWeightSection = BeginsSection
+role words.DemandSection = BeginsSection
+role words.DepotSection = BeginsSection
+role words.DisplayDataSection = BeginsSection
+role words.EdgeDataSection = BeginsSection
+role words.FixedEdgesSection = BeginsSection
+role words.TourSection = BeginsSection
+role words.Eof = EndsText
+role _ = BeginsHeader

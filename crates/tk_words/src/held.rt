@@ -1,0 +1,134 @@
+//! Some bytes of a text, and what a byte is.
+ghost use Rattle.std.specs.Prelude.{◌≡◌, ◌<◌, ◌≤◌, ◌||◌, ◌==◌, true, false, List, ℕ, [], ◌∷◌, ◌++◌, All, length, slice_index_or, take};
+ghost use Rattle.tk_words.specs.Lex.{is_blank, is_letter, is_word_byte};
+ghost use Rattle.tk_words.specs.Words.{spells};
+
+use std::marker::Model;
+
+/// Up to N bytes.
+#[derive(Drop)]
+pub struct Held<const N: usize> {
+    bytes: [u8; N],
+    len: usize,
+}
+
+impl<const N: usize> Model for Held<N> {
+    ghost Value = { List ℕ };
+
+    ghost view = { λ s. take s.len s.bytes };
+
+    ghost invariant = { λ s. s.len ≤ N };
+}
+
+impl<const N: usize> Held<N> {
+    pub fn new() -> Self
+        ensures { result ≡ [] }
+    {
+        Held {
+            bytes: [0; N],
+            len: 0,
+        }
+    }
+
+    pub fn is_full(&self) -> bool
+        ensures full { result ≡ true → length self.now ≡ N }
+        ensures not_full { result ≡ false → length self.now < N }
+    {
+        self.len == N
+    }
+
+    pub fn clear(&mut self)
+        ensures { self.new ≡ [] }
+    {
+        self.len = 0;
+    }
+
+    pub fn push(&mut self, byte: u8)
+        requires { length self.old < N }
+        ensures { self.new ≡ self.old ++ byte ∷ [] }
+    {
+        self.bytes[self.len] = byte;
+        self.len += 1;
+    }
+
+    /// The bytes, and one more.
+    pub fn followed_by(&self, byte: u8) -> Self
+        requires { length self.now < N }
+        ensures { result ≡ self.now ++ byte ∷ [] }
+    {
+        let mut longer = Held {
+            bytes: self.bytes,
+            len: self.len,
+        };
+        longer.push(byte);
+        longer
+    }
+
+    /// Takes a byte, where there is room.
+    pub fn keep(&mut self, byte: u8)
+        ensures { self.new ≡ take N (self.old ++ byte ∷ []) }
+    {
+        if !self.is_full() {
+            self.push(byte);
+        }
+    }
+
+    pub fn as_slice(&self) -> &[u8]
+        ensures { result.now ≡ self.now }
+    {
+        &self.bytes[..self.len]
+    }
+}
+
+pub fn blank(byte: u8) -> bool
+    ensures { result ≡ is_blank byte }
+{
+    byte == b' ' || byte == b'\t' || byte == b'\r'
+}
+
+pub fn letter(byte: u8) -> bool
+    ensures { result ≡ is_letter byte }
+{
+    (b'A' <= byte && byte <= b'Z') || (b'a' <= byte && byte <= b'z')
+}
+
+pub fn word_byte(byte: u8) -> bool
+    ensures { result ≡ is_word_byte byte }
+{
+    letter(byte) || byte.is_ascii_digit() || byte == b'_'
+}
+
+pub fn blank_or_end(byte: u8) -> bool
+    ensures { result ≡ (is_blank byte || byte == 10) }
+{
+    blank(byte) || byte == b'\n'
+}
+
+/// How many bytes stand before the first that ends a token.
+pub fn token_length(bytes: &[u8]) -> usize
+    ensures count { result ≤ length bytes.now }
+    ensures solid { All (λ b. (is_blank b || b == 10) ≡ false) (take result bytes.now) }
+    ensures ended { result < length bytes.now → (is_blank (slice_index_or bytes.now result 0) || slice_index_or bytes.now result 0 == 10) ≡ true }
+{
+    for i in 0..bytes.len() {
+        if blank_or_end(bytes[i]) {
+            return i;
+        }
+    }
+    bytes.len()
+}
+
+/// Whether bytes spell a text in capitals.
+pub fn spelled(bytes: &[u8], text: &[u8]) -> bool
+    ensures { result ≡ spells bytes.now text.now }
+{
+    if bytes.len() != text.len() {
+        return false;
+    }
+    for i in 0..bytes.len() {
+        if bytes[i].to_ascii_uppercase() != text[i] {
+            return false;
+        }
+    }
+    true
+}

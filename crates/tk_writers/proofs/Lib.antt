@@ -1,0 +1,13 @@
+pub mod LinePieces
+pub mod ListLength
+pub mod MatrixLength
+pub mod MatrixLines
+pub mod ReadBack
+pub mod Saying
+pub mod SolutionReadBack
+pub mod TourReadBack
+pub mod WrittenHeaders
+pub mod WrittenLines
+pub mod WrittenNumbers
+pub mod WrittenPlaces
+pub mod WrittenWeights

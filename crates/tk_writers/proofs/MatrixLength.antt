@@ -1,0 +1,74 @@
+-- How long a matrix text is at most.
+use Rattle.std.proofs.Common.{ℕ, zero, suc, ◌+◌, ◌*◌, ◌/◌, ◌%◌, ◌^◌, ◌≤◌, Bool, true, false, List, [], ◌∷◌, ◌++◌, length, subst, arith, length-append}
+use Rattle.std.proofs.lemmas.List.{length-map}
+use Rattle.std.specs.Prelude.{map, flat_map, codes, decimal, ◌==◌, if◌then◌else◌}
+use Rattle.std.specs.Fmt.{digits, digits_onto, digit_glyph}
+use Rattle.std.specs.List.{range_with_len, join_by}
+use Rattle.std.proofs.lemmas.List.FromFn.{length-range_with_len}
+use Rattle.std.proofs.lemmas.List.Sums.{length-filter, count_by-le-length}
+use Rattle.tk_writers.specs.FormatLines.{on_line, place, has_entry}
+use Rattle.tk_writers.specs.MatrixText.{number_line, format_word, matrix_line, matrix_head, matrix_text}
+use Rattle.tk_problem.specs.declared.weights.Format.{Format}
+use Rattle.tk_problem.specs.declared.weights.Format.TheVariants as formats
+
+-- no numeral of std has over 64 digits
+length_digits_onto : (k base : ℕ) (upper : Bool) (n : ℕ) (acc : List ℕ) → length (digits_onto k base upper n acc) ≤ k + length acc
+length_digits_onto zero base upper n acc = omega arith
+length_digits_onto (suc k) base upper n acc =
+    elim (n / base == 0) as (λ b. length (if b then digit_glyph upper (n % base) ∷ acc else digits_onto k base upper (n / base) (digit_glyph upper (n % base) ∷ acc)) ≤ suc k + length acc) [
+      | true ↦ omega arith
+      | false ↦ omega (arith, length_digits_onto k base upper (n / base) (digit_glyph upper (n % base) ∷ acc))
+    ]
+
+pub length_decimal : (n : ℕ) → length (decimal n) ≤ 64
+unfolding digits
+length_decimal n = omega (arith, length_digits_onto 64 10 false n [])
+
+pub length_flat_map : {X : Type 0} (f : X → List ℕ) (most : ℕ) → ((x : X) → length (f x) ≤ most) → (xs : List X) → length (flat_map f xs) ≤ length xs * most
+length_flat_map f most short [] = omega arith
+length_flat_map f most short (x ∷ xs) = omega (arith, short x, length_flat_map f most short xs, length-append (f x) (flat_map f xs))
+
+length_number_line : (xs : List ℕ) → length (number_line xs) ≤ length xs * 65
+length_number_line [] = omega arith
+length_number_line (x ∷ xs) =
+    let rest = length_flat_map (λ y. codes " " ++ decimal y) 65 (λ y. omega (arith, length_decimal y)) xs in
+    let first = length_decimal x in
+    let parts = length-append (decimal x) (flat_map (λ y. codes " " ++ decimal y) xs) in
+    let ends = length-append (join_by decimal (codes " ") (x ∷ xs)) (10 ∷ []) in
+    omega arith
+
+length_matrix_line : (n : ℕ) (table : ℕ → ℕ → ℕ) (f : Format) (k : ℕ) → length (matrix_line n table f k) ≤ n * 65
+length_matrix_line n table f k =
+    let test : ℕ → Bool = λ m. has_entry f (place f k m).0 (place f k m).1 in
+    let few = count_by-le-length test (range_with_len 1 n) in
+    let numbers : ℕ × ℕ → ℕ = λ p. table p.0 p.1 in
+    let places = map (place f k) (on_line n f k) in
+    let count : length (map numbers places) ≤ n = simp length-map (omega (arith, few, length-filter test (range_with_len 1 n), length-range_with_len 1 n)) in
+    let lines = length_number_line (map numbers places) in
+    omega arith
+
+length_format_word : (f : Format) → length (format_word f) ≤ 14
+length_format_word formats.FullMatrix = omega arith
+length_format_word formats.UpperRow = omega arith
+length_format_word formats.LowerRow = omega arith
+length_format_word formats.UpperDiagRow = omega arith
+length_format_word formats.LowerDiagRow = omega arith
+length_format_word formats.UpperCol = omega arith
+length_format_word formats.LowerCol = omega arith
+length_format_word formats.UpperDiagCol = omega arith
+length_format_word formats.LowerDiagCol = omega arith
+
+length_matrix_head : (name : List ℕ) (n : ℕ) (f : Format) → length (matrix_head name n f) ≤ length name + 200
+length_matrix_head name n f =
+    let word = length_format_word f in
+    let number = length_decimal n in
+    simp length-append (omega arith)
+
+pub length_matrix_text : (name : List ℕ) (n : ℕ) (table : ℕ → ℕ → ℕ) (f : Format) → length name ≤ 1024 → n ≤ 5000 → length (matrix_text name n table f) ≤ 2 ^ 63
+length_matrix_text name n table f short few =
+    let head = length_matrix_head name n f in
+    let body = flat_map (matrix_line n table f) (range_with_len 1 n) in
+    let lines = length_flat_map (matrix_line n table f) 325000 (λ k. omega (arith, length_matrix_line n table f k)) (range_with_len 1 n) in
+    let count = length-range_with_len 1 n in
+    let size : length body ≤ n * 325000 = subst (λ m. length body ≤ m * 325000) count lines in
+    omega (arith, size, length-append (matrix_head name n f) body, length-append (matrix_head name n f ++ body) (codes "EOF" ++ 10 ∷ []))

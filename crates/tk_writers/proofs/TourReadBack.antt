@@ -1,0 +1,341 @@
+-- A tour text that is written is read as the cities that it was written of.
+use Rattle.std.proofs.Common.{◌≡◌, ℕ, suc, ◌+◌, ◌≤◌, ◌<◌, Bool, true, false, cond, leb, ltb, List, [], ◌∷◌, ◌++◌, length, map, Some, None, Ok, pos, refl, sym, ap, subst, ◌∙◌, append_assoc, arith}
+use Rattle.std.specs.Prelude.{codes, decimal, flat_map}
+use Rattle.std.specs.List.{AllByRecursion}
+use Rattle.std.proofs.lemmas.Bool.{lt-leb, le-leb, le-ltb}
+use Rattle.std.proofs.lemmas.List.{append-nil, length-append}
+use Rattle.tk_words.specs.declared.keyword.Keyword.TheVariants as words
+use Rattle.tk_words.specs.Lex.{Line, Token, is_blank, behind, integer, lines, tokens, tokens_of, trim}
+use Rattle.tk_writers.specs.MatrixText.{number_line}
+use Rattle.tk_lines.specs.Pieces.{Piece, Section, Clean, end_piece, end_token, last_line, pieces_at, section_at, stop}
+use Rattle.tk_writers.specs.ReadBack.{IsTour, TourReadsBack}
+use Rattle.tk_lines.specs.Scan.{first_word}
+use Rattle.tk_lines.specs.Lists.{entries, list_extent, AreEntries}
+use Rattle.tk_lists.specs.Tour.{entries_stop, entry_stop, tour_format}
+use Rattle.tk_words.specs.Entry.{is_eof, is_eof_word, is_keyword, is_some_word, natural_or_zero, numbers_of}
+use Rattle.tk_writers.specs.TourWritten.{tour_head, tour_text}
+use Rattle.tk_words.specs.Words.{keyword_of, section_word, rest_word}
+use Rattle.tk_pen.specs.Written.{line}
+use Rattle.tk_lines.proofs.SectionEnds.{take_whole, last_line-append}
+use Rattle.tk_lists.proofs.Lists.{entries_ended, list_ended}
+use Rattle.tk_words.proofs.NoWord.{integer-no_word}
+use Rattle.tk_writers.proofs.Saying.{one_line, name_line, whole_lines, lines-listed, lines-none, clean, says, says-header, says-section, says-rows, says-covered, says-eof, decided-says}
+use Rattle.tk_lines.proofs.HeaderBytes.{trimmed_short}
+use Rattle.tk_lines.proofs.MiddleOfSection.{token}
+use Rattle.tk_writers.proofs.WrittenHeaders.{headed, size_value, first_word_run}
+use Rattle.tk_writers.proofs.WrittenLines.{whole_line, lines-rows, row_lines, row_tokens, next_line, tokens-rows, rows_written, in_rows, AreWritten, IsWritten, ShortRows}
+use Rattle.tk_writers.proofs.WrittenNumbers.{IsShort, one_line_append, decimal_line, decimal_run, integer_decimal, short_decimal}
+use Rattle.tk_lines.proofs.Lines.{OnOneLine}
+
+-- ---- the cities, each on a line of its own
+
+abbrev Small : List ℕ → Type 0
+Small xs = AllByRecursion (λ city. city ≤ 4294967295) xs
+
+abbrev rows_of : List ℕ → List (List ℕ)
+rows_of cities = map (λ c. c ∷ []) cities
+
+rows-short : (cities : List ℕ) → Small cities → ShortRows (rows_of cities)
+rows-short [] h = tt
+rows-short (c ∷ cs) h = ((omega (arith, h.0), tt), rows-short cs h.1)
+
+rows-lines : (cities : List ℕ) → flat_map (λ c. line (decimal c)) cities ≡ flat_map number_line (rows_of cities)
+rows-lines [] = refl
+rows-lines (c ∷ cs) =
+    ap (λ (bs : List ℕ). line bs ++ flat_map (λ d. line (decimal d)) cs) (sym (append-nil (decimal c)))
+    ∙ ap (λ (bs : List ℕ). number_line (c ∷ []) ++ bs) (rows-lines cs)
+
+rows-values : (cities : List ℕ) → in_rows (rows_of cities) ≡ cities
+rows-values [] = refl
+rows-values (c ∷ cs) = ap (λ (ks : List ℕ). c ∷ ks) (rows-values cs)
+
+-- ---- tokens of numbers as entries
+
+are_entries : (ts : List Token) (xs : List ℕ) → AreWritten ts xs → AreEntries ts
+are_entries [] xs h = tt
+are_entries (t ∷ ts) [] h = absurd h
+are_entries (t ∷ ts) (x ∷ xs) h =
+    let whole = h.0.whole in
+    let number = h.0.is in
+    let no_eof : is_eof t.bytes ≡ false = ap is_eof_word (integer-no_word t.bytes (pos x) h.0.is) in
+    (rw (whole, number) refl, rw (whole, no_eof) refl, are_entries ts xs h.1)
+
+entry_fine : (k x : ℕ) (t : Token) → IsWritten t x → x ≤ 4294967295 → k < 1000000 → entry_stop k t ≡ None
+unfolding entry_stop
+entry_fine k x t is small few =
+    let whole = is.whole in
+    let number = is.is in
+    let short : ltb 64 (length t.bytes) ≡ false = le-ltb _ _ is.short in
+    let no_word : is_keyword t.bytes ≡ false = ap is_some_word (integer-no_word t.bytes (pos x) is.is) in
+    let low : leb 0 x ≡ true = le-leb _ _ (omega arith) in
+    let high : leb x 4294967295 ≡ true = le-leb _ _ small in
+    let room : leb 1000000 k ≡ false = lt-leb _ _ few in
+    rw (short, whole, no_word, number, low, high, room) refl
+
+entries_fine : (k : ℕ) (ts : List Token) (xs : List ℕ) → AreWritten ts xs → Small xs → k + length xs ≤ 1000000 → entries_stop k ts ≡ None
+unfolding entries_stop
+entries_fine k [] xs h small few = refl
+entries_fine k (t ∷ ts) [] h small few = absurd h
+entries_fine k (t ∷ ts) (x ∷ xs) h small few =
+    let here = entry_fine k x t h.0 small.0 (omega (arith, few)) in
+    rw here (entries_fine (suc k) ts xs h.1 small.1 (omega (arith, few)))
+
+numbers_are : (ts : List Token) (xs : List ℕ) → AreWritten ts xs → numbers_of ts ≡ xs
+numbers_are [] [] h = refl
+numbers_are [] (x ∷ xs) h = absurd h
+numbers_are (t ∷ ts) [] h = absurd h
+numbers_are (t ∷ ts) (x ∷ xs) h =
+    let first : natural_or_zero (integer t.bytes) ≡ x = ap natural_or_zero h.0.is in
+    ap (λ k. k ∷ numbers_of ts) first ∙ ap (λ (ks : List ℕ). x ∷ ks) (numbers_are ts xs h.1)
+
+-- ---- the headers
+
+abbrev labelled : List ℕ → ℕ → List ℕ
+labelled name size = name ++ codes "." ++ decimal size ++ codes ".tour"
+
+abbrev name_value : List ℕ → ℕ → List ℕ
+name_value name size = codes " : " ++ labelled name size
+
+abbrev length_value : ℕ → List ℕ
+length_value size = codes " : Length = " ++ decimal size
+
+abbrev after_1 : List ℕ → ℕ → List Piece
+after_1 name size = headed words.Name (name_value name size) 1 ∷ []
+
+abbrev after_2 : List ℕ → ℕ → List Piece
+after_2 name size = after_1 name size ++ headed words.Comment (length_value size) 2 ∷ []
+
+abbrev after_3 : List ℕ → ℕ → List Piece
+after_3 name size = after_2 name size ++ headed words.Type (codes " : TOUR") 3 ∷ []
+
+abbrev after_4 : List ℕ → ℕ → ℕ → List Piece
+after_4 name size n = after_3 name size ++ headed words.Dimension (size_value n) 4 ∷ []
+
+abbrev after_5 : List ℕ → ℕ → ℕ → List Token → List Piece
+after_5 name size n toks = after_4 name size n ++ Section words.TourSection 5 toks Clean ∷ []
+
+abbrev name_bytes : List ℕ → ℕ → List ℕ
+name_bytes name size = codes "NAME : " ++ name ++ codes "." ++ decimal size ++ codes ".tour"
+
+-- the pieces of the lines
+name_piece : (before : List Piece) (name : List ℕ) (size : ℕ) (ls : List Line)
+    → pieces_at tour_format.extent before (whole_line 1 (name_bytes name size)) ls (behind is_blank (name_bytes name size)) ≡ headed words.Name (name_value name size) 1 ∷ []
+unfolding keyword_of section_word rest_word
+name_piece before name size ls = refl
+
+length_piece : (before : List Piece) (size : ℕ) (ls : List Line)
+    → pieces_at tour_format.extent before (whole_line 2 (codes "COMMENT : Length = " ++ decimal size)) ls (behind is_blank (codes "COMMENT : Length = " ++ decimal size)) ≡ headed words.Comment (length_value size) 2 ∷ []
+unfolding keyword_of section_word rest_word
+length_piece before size ls = refl
+
+type_piece : (before : List Piece) (ls : List Line)
+    → pieces_at tour_format.extent before (whole_line 3 (codes "TYPE : TOUR")) ls (behind is_blank (codes "TYPE : TOUR")) ≡ headed words.Type (codes " : TOUR") 3 ∷ []
+unfolding keyword_of section_word rest_word
+type_piece before ls = refl
+
+size_piece : (before : List Piece) (n : ℕ) (ls : List Line)
+    → pieces_at tour_format.extent before (whole_line 4 (codes "DIMENSION : " ++ decimal n)) ls (behind is_blank (codes "DIMENSION : " ++ decimal n)) ≡ headed words.Dimension (size_value n) 4 ∷ []
+unfolding keyword_of section_word rest_word
+size_piece before n ls = refl
+
+section_piece : (before : List Piece) (ls : List Line)
+    → pieces_at tour_format.extent before (whole_line 5 (codes "TOUR_SECTION")) ls (behind is_blank (codes "TOUR_SECTION"))
+    ≡ section_at tour_format.extent before words.TourSection 5 (tokens ls) (end_token (whole_line 5 (codes "TOUR_SECTION")) ls)
+unfolding keyword_of section_word rest_word tokens_of
+section_piece before ls = refl
+
+-- the tests of the headers
+behind_short : (bs : List ℕ) → length (behind is_blank bs) ≤ length bs
+behind_short [] = omega arith
+behind_short (b ∷ bs) = by_test (is_blank b) (behind_short bs)
+  where
+    by_test : (t : Bool) → length (behind is_blank bs) ≤ length bs → length (cond t (behind is_blank bs) (b ∷ bs)) ≤ length (b ∷ bs)
+    by_test true ih = omega (arith, ih)
+    by_test false ih = omega arith
+
+labelled_short : (name : List ℕ) (size : ℕ) → length name ≤ 1000 → IsShort size → length (labelled name size) ≤ 1024
+labelled_short name size room cheap =
+    let number = short_decimal size cheap in
+    omega (arith, number, room, length-append name (codes "."), length-append (name ++ codes ".") (decimal size), length-append (name ++ codes "." ++ decimal size) (codes ".tour"))
+
+name_passes : (name : List ℕ) (size : ℕ) → length name ≤ 1000 → IsShort size → stop tour_format [] (headed words.Name (name_value name size) 1) ≡ None
+name_passes name size room cheap =
+    let short = labelled_short name size room cheap in
+    let all : ltb 4096 (length (name_value name size)) ≡ false = le-ltb _ _ (omega (arith, short)) in
+    let kept : length (trim (labelled name size)) ≤ 1024 = omega (arith, short, behind_short (labelled name size), trimmed_short (behind is_blank (labelled name size))) in
+    let some : ltb 1024 (length (trim (labelled name size))) ≡ false = le-ltb _ _ kept in
+    rw (all, some) refl
+
+length_passes : (name : List ℕ) (size : ℕ) → IsShort size → stop tour_format (after_1 name size) (headed words.Comment (length_value size) 2) ≡ None
+length_passes name size cheap =
+    let short : ltb 4096 (length (length_value size)) ≡ false = le-ltb _ _ (omega (arith, short_decimal size cheap)) in
+    rw short refl
+
+type_passes : (name : List ℕ) (size : ℕ) → stop tour_format (after_2 name size) (headed words.Type (codes " : TOUR") 3) ≡ None
+type_passes name size = refl
+
+size_passes : (name : List ℕ) (size n : ℕ) → 1 ≤ n → n ≤ 1000000 → stop tour_format (after_3 name size) (headed words.Dimension (size_value n) 4) ≡ None
+size_passes name size n low high =
+    let short : ltb 4096 (length (size_value n)) ≡ false = le-ltb _ _ (omega (arith, short_decimal n (omega arith))) in
+    let number : integer (first_word (size_value n)) ≡ Some (pos n) = ap integer (first_word_run (decimal n) (decimal_run n (omega arith))) ∙ integer_decimal n (omega arith) in
+    let above : leb 1 n ≡ true = le-leb _ _ low in
+    let below : leb n 1000000 ≡ true = le-leb _ _ high in
+    rw (short, number, above, below) refl
+
+-- ---- the section and the text's end
+
+abbrev minus : ℕ → Token
+minus e = token (codes "-1") e
+
+abbrev ends : ℕ → List Line
+ends e = whole_line e (codes "-1") ∷ whole_line (suc e) (codes "EOF") ∷ whole_line (suc (suc e)) [] ∷ []
+
+lines-ends : (e : ℕ) → lines true e (flat_map line (codes "-1" ∷ codes "EOF" ∷ [])) ≡ ends e
+lines-ends e =
+    lines-listed e (codes "-1" ∷ codes "EOF" ∷ []) [] (one_line (codes "-1") refl, (one_line (codes "EOF") refl, tt))
+    ∙ ap (λ (ls : List Line). whole_lines e (codes "-1" ∷ codes "EOF" ∷ []) ++ ls) (lines-none (suc (suc e)))
+
+tokens-ends : (e : ℕ) → tokens (ends e) ≡ minus e ∷ token (codes "EOF") (suc e) ∷ []
+unfolding tokens_of
+tokens-ends e = refl
+
+module _ (toks : List Token) (xs : List ℕ) (written : AreWritten toks xs) (small : Small xs) (few : length xs ≤ 1000000) (e : ℕ) where
+  abbrev all : List Token
+  all = toks ++ minus e ∷ []
+
+  are : AreEntries toks
+  are = are_entries toks xs written
+
+  fine : entries_stop 0 toks ≡ None
+  fine = entries_fine 0 toks xs written small (omega (arith, few))
+
+  last_is : last_line 5 all ≡ e
+  last_is = last_line-append 5 toks (minus e ∷ [])
+
+  section_made : (before : List Piece) (end : Token) → section_at tour_format.extent before words.TourSection 5 (toks ++ minus e ∷ token (codes "EOF") (suc e) ∷ []) end ≡ Section words.TourSection 5 all Clean ∷ []
+  section_made before end =
+      let eof : Token = token (codes "EOF") (suc e) in
+      let extent : list_extent (all ++ eof ∷ []) ≡ record { count = length all; closed = true; at_eof = false } =
+      list_ended toks are fine (minus e) (eof ∷ []) refl ∙ ap (λ (k : ℕ). record { count = k; closed = true; at_eof = false }) (omega arith) in
+      ap (λ (ts : List Token). section_at tour_format.extent before words.TourSection 5 ts end) (sym (append_assoc toks (minus e ∷ []) (eof ∷ [])))
+      ∙ rw (extent, take_whole all (eof ∷ []), clean (last_line 5 all) all eof end (omega (arith, last_is))) refl
+
+  entries_are : entries all ≡ toks
+  entries_are = entries_ended toks [] (minus e) are refl
+
+  numbers_read : numbers_of (entries all) ≡ xs
+  numbers_read = ap numbers_of entries_are ∙ numbers_are toks xs written
+
+  all_fine : entries_stop 0 (entries all) ≡ None
+  all_fine = ap (entries_stop 0) entries_are ∙ fine
+
+-- ---- the text
+
+module _ (name : List ℕ) (size : ℕ) (cities : List ℕ) (h : IsTour name size cities) where
+  abbrev n : ℕ
+  n = length cities
+
+  abbrev rows : List (List ℕ)
+  rows = rows_of cities
+
+  abbrev e : ℕ
+  e = next_line 6 (rows_of cities)
+
+  abbrev toks : List Token
+  toks = row_tokens 6 (rows_of cities)
+
+  abbrev taken : List Token
+  taken = toks ++ minus e ∷ []
+
+  abbrev section_lines : List Line
+  section_lines = row_lines 6 rows ++ ends e
+
+  cheap : IsShort size
+  cheap = omega (arith, h.cheap)
+
+  short : IsShort n
+  short = omega (arith, h.few)
+
+  small : ShortRows rows
+  small = rows-short cities h.small
+
+  written : AreWritten toks cities
+  written = subst (AreWritten (row_tokens 6 rows)) (rows-values cities) (rows_written 6 rows small)
+
+  name_whole : OnOneLine (name_bytes name size)
+  name_whole =
+      one_line_append (codes "NAME : " ++ name ++ codes "." ++ decimal size) (codes ".tour") (
+      one_line_append (codes "NAME : " ++ name ++ codes ".") (decimal size) (
+      one_line_append (codes "NAME : " ++ name) (codes ".") (
+      one_line_append (codes "NAME : ") name (one_line (codes "NAME : ") refl) (name_line name h.named.one_line))
+      (one_line (codes ".") refl)) (decimal_line size cheap)) (one_line (codes ".tour") refl)
+
+  head_whole : AllByRecursion OnOneLine (tour_head name size n)
+  head_whole =
+      let length_whole = one_line_append (codes "COMMENT : Length = ") (decimal size) (one_line (codes "COMMENT : Length = ") refl) (decimal_line size cheap) in
+      let size_whole = one_line_append (codes "DIMENSION : ") (decimal n) (one_line (codes "DIMENSION : ") refl) (decimal_line n short) in
+      (name_whole, (length_whole, (one_line (codes "TYPE : TOUR") refl, (size_whole, (one_line (codes "TOUR_SECTION") refl, tt)))))
+
+  text_lines : lines true 1 (tour_text name size cities) ≡ whole_lines 1 (tour_head name size n) ++ section_lines
+  text_lines =
+      let last : List ℕ = flat_map line (codes "-1" ∷ codes "EOF" ∷ []) in
+      ap (λ (body : List ℕ). lines true 1 ((flat_map line (tour_head name size n) ++ body) ++ last)) (rows-lines cities)
+      ∙ ap (lines true 1) (append_assoc (flat_map line (tour_head name size n)) (flat_map number_line rows) last)
+      ∙ lines-listed 1 (tour_head name size n) (flat_map number_line rows ++ last) head_whole
+      ∙ ap (λ (ls : List Line). whole_lines 1 (tour_head name size n) ++ ls) (
+      lines-rows 6 rows last small ∙ ap (λ (ls : List Line). row_lines 6 rows ++ ls) (lines-ends e))
+
+  abbrev line_5 : List Line
+  line_5 = whole_line 5 (codes "TOUR_SECTION") ∷ section_lines
+
+  abbrev line_4 : List Line
+  line_4 = whole_line 4 (codes "DIMENSION : " ++ decimal n) ∷ line_5
+
+  abbrev line_3 : List Line
+  line_3 = whole_line 3 (codes "TYPE : TOUR") ∷ line_4
+
+  abbrev line_2 : List Line
+  line_2 = whole_line 2 (codes "COMMENT : Length = " ++ decimal size) ∷ line_3
+
+  says-head : (end : List Piece) → says tour_format [] 0 (whole_line 1 (name_bytes name size) ∷ line_2) end ≡ says tour_format (after_4 name size n) 0 line_5 end
+  says-head end =
+      says-header tour_format [] 0 (name_bytes name size) line_2 end words.Name (name_value name size) (name_piece [] name size line_2) (name_passes name size h.room cheap)
+      ∙ says-header tour_format (after_1 name size) 1 (codes "COMMENT : Length = " ++ decimal size) line_3 end words.Comment (length_value size) (length_piece (after_1 name size) size line_3) (length_passes name size cheap)
+      ∙ says-header tour_format (after_2 name size) 2 (codes "TYPE : TOUR") line_4 end words.Type (codes " : TOUR") (type_piece (after_2 name size) line_4) (type_passes name size)
+      ∙ says-header tour_format (after_3 name size) 3 (codes "DIMENSION : " ++ decimal n) line_5 end words.Dimension (size_value n) (size_piece (after_3 name size) n line_5) (size_passes name size n h.some h.few)
+
+  tokens_are : tokens section_lines ≡ toks ++ minus e ∷ token (codes "EOF") (suc e) ∷ []
+  tokens_are = tokens-rows 6 rows (ends e) small ∙ ap (λ (ts : List Token). toks ++ ts) (tokens-ends e)
+
+  piece : pieces_at tour_format.extent (after_4 name size n) (whole_line 5 (codes "TOUR_SECTION")) section_lines (behind is_blank (codes "TOUR_SECTION")) ≡ Section words.TourSection 5 taken Clean ∷ []
+  piece =
+      let end : Token = end_token (whole_line 5 (codes "TOUR_SECTION")) section_lines in
+      section_piece (after_4 name size n) section_lines
+      ∙ ap (λ (ts : List Token). section_at tour_format.extent (after_4 name size n) words.TourSection 5 ts end) tokens_are
+      ∙ section_made toks cities written h.small h.few e (after_4 name size n) end
+
+  section_passes : stop tour_format (after_4 name size n) (Section words.TourSection 5 taken Clean) ≡ None
+  section_passes = rw (all_fine toks cities written h.small h.few e) refl
+
+  at_end_passes : tour_format.at_end (after_5 name size n taken) ≡ None
+  at_end_passes = refl
+
+  says-body : (end : List Piece) → says tour_format (after_4 name size n) 0 line_5 end ≡ Some (Ok cities)
+  says-body end =
+      says-section tour_format (after_4 name size n) 4 (codes "TOUR_SECTION") section_lines end words.TourSection taken piece section_passes
+      ∙ ap (λ (m : ℕ). says tour_format (after_5 name size n taken) m section_lines end) (last_is toks cities written h.small h.few e)
+      ∙ says-rows tour_format (after_5 name size n taken) e 6 rows (ends e) end (omega arith)
+      ∙ says-covered tour_format (after_5 name size n taken) e (whole_line e (codes "-1")) (whole_line (suc e) (codes "EOF") ∷ whole_line (suc (suc e)) [] ∷ []) end (omega arith)
+      ∙ says-eof tour_format (after_5 name size n taken) e (suc e) (whole_line (suc (suc e)) [] ∷ []) end (omega arith) at_end_passes
+      ∙ ap (λ (cs : List ℕ). Some (Ok cs)) (numbers_read toks cities written h.small h.few e)
+
+  reads_back : TourReadsBack name size cities
+  reads_back =
+      let all : List Line = whole_lines 1 (tour_head name size n) ++ section_lines in
+      decided-says tour_format (tour_text name size cities)
+      ∙ ap (λ (ls : List Line). says tour_format [] 0 ls (end_piece ls)) text_lines
+      ∙ says-head (end_piece all)
+      ∙ says-body (end_piece all)
+
+pub tour_read_back : (name : List ℕ) (size : ℕ) (cities : List ℕ) → IsTour name size cities → TourReadsBack name size cities
+tour_read_back name size cities h = reads_back name size cities h

@@ -1,0 +1,13 @@
+use Rattle.std.proofs.Common.{subst}
+use Rattle.tk_pen.specs.Pens.{Puts}
+use Rattle.tk_writers.proofs.LinePieces.{route_line-pieces}
+use Rattle.tk_pen.proofs.Putting.{Puts-then}
+use Rattle.tk_writers.proofs.solution_writer.put_route.Goals as goal
+
+pub returns : goal.returns
+returns g c =
+    subst (Puts _ _ _ _) (route_line-pieces c.args.number c.args.customers.now)
+    (Puts-then _ _ _ _ _ _ _ c.put.ensures
+    (Puts-then _ _ _ _ _ _ _ c.put_number.ensures
+    (Puts-then _ _ _ _ _ _ _ c.put-2.ensures
+    (Puts-then _ _ _ _ _ _ _ c.put_spaced.ensures c.put-3.ensures))))

@@ -1,0 +1,10 @@
+use Rattle.std.specs.Prelude.{decimal}
+use Rattle.tk_pen.specs.Written.{line}
+use Rattle.tk_pen.proofs.PutEach.{flat_map_take}
+use Rattle.tk_pen.proofs.Putting.{Puts-then}
+use Rattle.tk_writers.proofs.tour_writer.put_cities.Goals as goal
+
+pub loop-city-preserved : goal.loop-city-preserved
+loop-city-preserved g c =
+    rw (flat_map_take (λ x. line (decimal x)) c.args.cities.now c.loop-city.city-index c.loop-city-test.true)
+    (Puts-then _ _ _ _ _ _ _ c.loop-city.invariant (Puts-then _ _ _ _ _ _ _ c.put_number.ensures c.put.ensures))

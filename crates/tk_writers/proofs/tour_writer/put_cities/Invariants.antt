@@ -1,0 +1,9 @@
+-- the cities before this one are put
+use Rattle.std.proofs.Common.{take}
+use Rattle.std.specs.Prelude.{flat_map, decimal}
+use Rattle.tk_pen.specs.Pens.{Puts}
+use Rattle.tk_pen.specs.Written.{line}
+use Rattle.tk_writers.proofs.tour_writer.put_cities.Given as goal
+
+abbrev pub invariant-loop-city : goal.invariant-loop-city
+invariant-loop-city g l = Puts g.W.Sink.taken g.W.Sink.broken l.initial.pen l.pen (flat_map (λ c. line (decimal c)) (take l.city-index l.cities))

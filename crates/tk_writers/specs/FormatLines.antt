@@ -1,0 +1,41 @@
+-- Which entries of a matrix a format writes, line by line (G. Reinelt, "TSPLIB 95", EDGE_WEIGHT_FORMAT).
+use Rattle.std.specs.Prelude.{ℕ, Bool, true, false, List, nat_lt, nat_le, if◌then◌else◌, map, filter}
+use Rattle.std.specs.List.{range_with_len}
+use Rattle.tk_problem.specs.declared.weights.Format.{Format}
+use Rattle.tk_problem.specs.declared.weights.Format.TheVariants as formats
+
+-- whether a format has the entry of row i and column j
+abbrev pub has_entry : Format → ℕ → ℕ → Bool
+has_entry formats.FullMatrix i j = true
+has_entry formats.UpperRow i j = nat_lt i j
+has_entry formats.LowerRow i j = nat_lt j i
+has_entry formats.UpperDiagRow i j = nat_le i j
+has_entry formats.LowerDiagRow i j = nat_le j i
+has_entry formats.UpperCol i j = nat_lt i j
+has_entry formats.LowerCol i j = nat_lt j i
+has_entry formats.UpperDiagCol i j = nat_le i j
+has_entry formats.LowerDiagCol i j = nat_le j i
+
+-- whether its lines are the columns and not the rows
+abbrev pub by_columns : Format → Bool
+by_columns formats.FullMatrix = false
+by_columns formats.UpperRow = false
+by_columns formats.LowerRow = false
+by_columns formats.UpperDiagRow = false
+by_columns formats.LowerDiagRow = false
+by_columns formats.UpperCol = true
+by_columns formats.LowerCol = true
+by_columns formats.UpperDiagCol = true
+by_columns formats.LowerDiagCol = true
+
+-- the row and the column of place m of line k
+abbrev pub place : Format → ℕ → ℕ → ℕ × ℕ
+place f k m = if by_columns f then (m, k) else (k, m)
+
+-- the places of line k that the format has
+abbrev pub on_line : ℕ → Format → ℕ → List ℕ
+on_line n f k = filter (λ m. has_entry f (place f k m).0 (place f k m).1) (range_with_len 1 n)
+
+-- the rows and columns of all entries, in their order
+abbrev pub line_places : ℕ → Format → ℕ → List (ℕ × ℕ)
+line_places n f k = map (place f k) (on_line n f k)

@@ -1,0 +1,5 @@
+pub mod FormatLines
+pub mod MatrixText
+pub mod ReadBack
+pub mod SolutionWritten
+pub mod TourWritten

@@ -1,0 +1,48 @@
+-- The text of a TSP with explicit weights (G. Reinelt, "TSPLIB 95").
+use Rattle.std.specs.Prelude.{◌≡◌, ℕ, ◌≤◌, ℤ, pos, List, [], ◌∷◌, ◌++◌, codes, decimal, map, flat_map}
+use Rattle.std.specs.List.{range_with_len}
+use Rattle.tk_writers.specs.FormatLines.{line_places}
+use Rattle.tk_pen.specs.Written.{line, spaced_numbers}
+use Rattle.tk_problem.specs.declared.weights.Format.{Format}
+use Rattle.tk_problem.specs.declared.weights.Format.TheVariants as formats
+
+-- the word of a format
+abbrev pub format_word : Format → List ℕ
+format_word formats.FullMatrix = codes "FULL_MATRIX"
+format_word formats.UpperRow = codes "UPPER_ROW"
+format_word formats.LowerRow = codes "LOWER_ROW"
+format_word formats.UpperDiagRow = codes "UPPER_DIAG_ROW"
+format_word formats.LowerDiagRow = codes "LOWER_DIAG_ROW"
+format_word formats.UpperCol = codes "UPPER_COL"
+format_word formats.LowerCol = codes "LOWER_COL"
+format_word formats.UpperDiagCol = codes "UPPER_DIAG_COL"
+format_word formats.LowerDiagCol = codes "LOWER_DIAG_COL"
+
+-- a line of numbers, single spaces between them, and no line where there are none
+abbrev pub number_line : List ℕ → List ℕ
+number_line [] = []
+number_line (x ∷ xs) = line (spaced_numbers (x ∷ xs))
+
+abbrev pub matrix_head : List ℕ → ℕ → Format → List ℕ
+matrix_head name n f = flat_map line
+    ((codes "NAME : " ++ name)
+    ∷ codes "TYPE : TSP"
+    ∷ (codes "DIMENSION : " ++ decimal n)
+    ∷ codes "EDGE_WEIGHT_TYPE : EXPLICIT"
+    ∷ (codes "EDGE_WEIGHT_FORMAT : " ++ format_word f)
+    ∷ codes "EDGE_WEIGHT_SECTION" ∷ [])
+
+-- row or column k, whose numbers are the table's
+abbrev pub matrix_line : ℕ → (ℕ → ℕ → ℕ) → Format → ℕ → List ℕ
+matrix_line n table f k = number_line (map (λ p. table p.0 p.1) (line_places n f k))
+
+abbrev pub matrix_text : List ℕ → ℕ → (ℕ → ℕ → ℕ) → Format → List ℕ
+matrix_text name n table f =
+    matrix_head name n f
+    ++ flat_map (matrix_line n table f) (range_with_len 1 n)
+    ++ line (codes "EOF")
+
+-- calls at two of the cities 1 to n may be made, and give what the table has
+pub record Gives (pre : ℕ → ℕ → Type 0) (post : ℕ → ℕ → ℤ → Type 0) (n : ℕ) (table : ℕ → ℕ → ℕ) : Type 0 where
+  pub calls : (a b : ℕ) → 1 ≤ a → a ≤ n → 1 ≤ b → b ≤ n → pre a b
+  pub gives : (a b : ℕ) (r : ℤ) → 1 ≤ a → a ≤ n → 1 ≤ b → b ≤ n → post a b r → r ≡ pos (table a b)

@@ -1,0 +1,50 @@
+-- What a matrix text, a solution text and a tour text say to a reader.
+use Rattle.std.specs.Prelude.{◌≡◌, ◌≢◌, ℕ, ◌-◌, ◌*◌, ◌^◌, ◌<◌, ◌≤◌, true, List, length, map, flat_map, Some, None, Ok, pos}
+use Rattle.std.specs.List.{range_with_len, concat, AllByRecursion}
+use Rattle.tk_problem.specs.declared.weights.Format.{Format}
+use Rattle.tk_writers.specs.MatrixText.{matrix_text}
+use Rattle.tk_lists.specs.Solution.{solution_decided}
+use Rattle.tk_writers.specs.SolutionWritten.{solution_text}
+use Rattle.tk_lists.specs.Tour.{tour_decided}
+use Rattle.tk_writers.specs.TourWritten.{tour_text}
+use Rattle.tk_problem_text.specs.Problem.{Lower, problem_decided}
+use Rattle.tk_problem_text.specs.Names.{IsName}
+
+-- a table of weights as a problem can have them
+pub record IsTable (n : ℕ) (table : ℕ → ℕ → ℕ) : Type 0 where
+  pub symmetric : (a b : ℕ) → 1 ≤ a → a ≤ n → 1 ≤ b → b ≤ n → table a b ≡ table b a
+  pub weights : (a b : ℕ) → 1 ≤ a → a ≤ n → 1 ≤ b → b ≤ n → a ≢ b → table a b ≤ 4000000000
+  pub diagonal : (a : ℕ) → 1 ≤ a → a ≤ n → table a a < 10 ^ 18
+
+-- the table below its diagonal, row by row
+abbrev pub lower_triangle : ℕ → (ℕ → ℕ → ℕ) → List ℕ
+lower_triangle n table = flat_map (λ a. map (table a) (range_with_len 1 (a - 1))) (range_with_len 1 n)
+
+-- the text is read as a problem of this name and these weights
+abbrev pub ReadsBack : List ℕ → ℕ → (ℕ → ℕ → ℕ) → Format → Type 0
+ReadsBack name n table f =
+    problem_decided true (matrix_text name n table f) ≡ Some (Ok (record { name = name; n = n; weights = Lower (lower_triangle n table); routing = None }))
+
+-- routes and a cost as a solution text can have them
+pub record IsSolution (routes : List (List ℕ)) (cost : ℕ) : Type 0 where
+  pub few : length routes ≤ 100000
+  pub customers : length (concat routes) ≤ 1000000
+  pub small : AllByRecursion (AllByRecursion (λ customer. customer ≤ 4294967295)) routes
+  pub cheap : cost < 10 ^ 18
+
+-- the text is read as these routes and this cost
+abbrev pub SolutionReadsBack : List (List ℕ) → ℕ → Type 0
+SolutionReadsBack routes cost = solution_decided true (solution_text routes cost) ≡ Some (Ok (routes, pos cost))
+
+-- a name, a length and cities as a tour text can have them: behind the name there is room for the length and the text's ending
+pub record IsTour (name : List ℕ) (size : ℕ) (cities : List ℕ) : Type 0 where
+  pub named : IsName name
+  pub room : length name ≤ 1000
+  pub cheap : size ≤ 4 * 10 ^ 14
+  pub some : 1 ≤ length cities
+  pub few : length cities ≤ 1000000
+  pub small : AllByRecursion (λ city. city ≤ 4294967295) cities
+
+-- the text is read as these cities
+abbrev pub TourReadsBack : List ℕ → ℕ → List ℕ → Type 0
+TourReadsBack name size cities = tour_decided true (tour_text name size cities) ≡ Some (Ok cities)

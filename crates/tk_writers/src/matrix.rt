@@ -1,0 +1,144 @@
+//! Writes a table of distances as explicit weights.
+ghost use Rattle.std.specs.Prelude.{◌≡◌, ℕ, ◌+◌, ◌-◌, ◌≤◌, ◌<◌, ◌++◌, true, length, decimal, codes, pos, IsTrue, OnErr, flat_map};
+ghost use Rattle.std.specs.List.{range_with_len};
+ghost use Rattle.tk_writers.specs.FormatLines.{by_columns, on_line, place};
+ghost use Rattle.tk_writers.specs.MatrixText.{format_word, Gives, matrix_head, matrix_line, matrix_text};
+ghost use Rattle.tk_pen.specs.Pens.{Puts};
+ghost use Rattle.tk_pen.specs.Puts.{Writes};
+ghost use Rattle.tk_problem_text.specs.Names.{IsName};
+ghost use Rattle.tk_writers.specs.ReadBack.{IsTable, ReadsBack};
+
+use tk_pen::{Pen, Sink, WriteFault};
+use tk_problem::Format;
+
+/// The word of a format.
+fn format_word(f: Format) -> &'static [u8]
+    ensures { result.now ≡ format_word f }
+{
+    match f {
+        Format::FullMatrix => b"FULL_MATRIX",
+        Format::UpperRow => b"UPPER_ROW",
+        Format::LowerRow => b"LOWER_ROW",
+        Format::UpperDiagRow => b"UPPER_DIAG_ROW",
+        Format::LowerDiagRow => b"LOWER_DIAG_ROW",
+        Format::UpperCol => b"UPPER_COL",
+        Format::LowerCol => b"LOWER_COL",
+        Format::UpperDiagCol => b"UPPER_DIAG_COL",
+        Format::LowerDiagCol => b"LOWER_DIAG_COL",
+    }
+}
+
+/// Whether the lines of a format are columns.
+fn is_by_columns(f: Format) -> bool
+    ensures { result ≡ by_columns f }
+{
+    matches!(
+        f,
+        Format::UpperCol | Format::LowerCol | Format::UpperDiagCol | Format::LowerDiagCol
+    )
+}
+
+/// The places of row or column k that a format has: from the first on, up to but not with the second.
+fn places_on_line(n: u32, f: Format, k: u32) -> (u32, u32)
+    requires city { (1 ≤ k) × (k ≤ n) }
+    requires few { n ≤ 5000 }
+    ensures places { on_line n f k ≡ range_with_len result.0 (result.1 - result.0) }
+    ensures order { result.0 ≤ result.1 }
+    ensures cities { (1 ≤ result.0) × (result.1 ≤ n + 1) }
+{
+    match f {
+        Format::FullMatrix => (1, n + 1),
+        Format::UpperRow | Format::LowerCol => (k + 1, n + 1),
+        Format::LowerRow | Format::UpperCol => (1, k),
+        Format::UpperDiagRow | Format::LowerDiagCol => (k, n + 1),
+        Format::LowerDiagRow | Format::UpperDiagCol => (1, k + 1),
+    }
+}
+
+/// The entry at place m of row or column k.
+fn entry<D: Fn(u32, u32) -> i64>(n: u32, d: &D, f: Format, k: u32, m: u32) -> u64
+    requires k { (1 ≤ k) × (k ≤ n) }
+    requires m { (1 ≤ m) × (m ≤ n) }
+    requires table { (table : ℕ → ℕ → ℕ) × Gives (D.pre d.now) (D.post d.now) n table }
+    ensures { (table : ℕ → ℕ → ℕ) → Gives (D.pre d.now) (D.post d.now) n table → result ≡ table (place f k m).0 (place f k m).1 }
+{
+    let distance = if is_by_columns(f) { d(m, k) } else { d(k, m) };
+    distance as u64
+}
+
+/// Writes the lines before the entries.
+fn put_head<W: Sink>(pen: &mut Pen<'_, W>, name: &[u8], n: u32, f: Format)
+    ensures { Puts W.taken W.broken pen.old pen.new (matrix_head name.now n f) }
+{
+    pen.put(b"NAME : ");
+    pen.put(name);
+    pen.put(b"\nTYPE : TSP\nDIMENSION : ");
+    pen.put_number(n as u64);
+    pen.put(b"\nEDGE_WEIGHT_TYPE : EXPLICIT\nEDGE_WEIGHT_FORMAT : ");
+    pen.put(format_word(f));
+    pen.put(b"\nEDGE_WEIGHT_SECTION\n");
+}
+
+/// Writes row or column k.
+fn put_line<W: Sink, D: Fn(u32, u32) -> i64>(pen: &mut Pen<'_, W>, n: u32, d: &D, f: Format, k: u32)
+    requires few { n ≤ 5000 }
+    requires k { (1 ≤ k) × (k ≤ n) }
+    requires table { (table : ℕ → ℕ → ℕ) × Gives (D.pre d.now) (D.post d.now) n table }
+    ensures same { pen.new.sink.ghost_name ≡ pen.old.sink.ghost_name }
+    ensures puts { (table : ℕ → ℕ → ℕ) → Gives (D.pre d.now) (D.post d.now) n table
+        → Puts W.taken W.broken pen.old pen.new (matrix_line n table f k) }
+{
+    let (first, end) = places_on_line(n, f, k);
+    if first == end {
+        return;
+    }
+    pen.put_number(entry(n, d, f, k, first));
+    for m in first + 1..end {
+        pen.put(b" ");
+        pen.put_number(entry(n, d, f, k, m));
+    }
+    pen.put(b"\n");
+}
+
+/// Writes the whole text.
+fn put_matrix<W: Sink, D: Fn(u32, u32) -> i64>(
+    pen: &mut Pen<'_, W>,
+    name: &[u8],
+    n: u32,
+    d: &D,
+    f: Format,
+)
+    requires few { n ≤ 5000 }
+    requires table { (table : ℕ → ℕ → ℕ) × Gives (D.pre d.now) (D.post d.now) n table }
+    ensures same { pen.new.sink.ghost_name ≡ pen.old.sink.ghost_name }
+    ensures puts { (table : ℕ → ℕ → ℕ) → Gives (D.pre d.now) (D.post d.now) n table
+        → Puts W.taken W.broken pen.old pen.new (matrix_text name.now n table f) }
+{
+    put_head(pen, name, n, f);
+    for k in 1..n + 1 {
+        put_line(pen, n, d, f, k);
+    }
+    pen.put(b"EOF\n");
+}
+
+/// Writes a TSP with explicit weights: the distances that `d` gives of the cities 1 to `n`.
+/// A reader gives back the name and these distances, where a problem can have them (`read_back`).
+pub fn write_matrix<W: Sink, D: Fn(u32, u32) -> i64>(
+    w: &mut W,
+    name: &[u8],
+    n: u32,
+    d: &D,
+    f: Format,
+) -> Result<(), WriteFault>
+    requires few { n ≤ 5000 }
+    requires table { (table : ℕ → ℕ → ℕ) × Gives (D.pre d.now) (D.post d.now) n table }
+    ensures text { (table : ℕ → ℕ → ℕ) → Gives (D.pre d.now) (D.post d.now) n table
+        → Writes W.taken W.broken w.old w.new result (matrix_text name.now n table f) }
+    ensures read_back { (table : ℕ → ℕ → ℕ) → Gives (D.pre d.now) (D.post d.now) n table → IsName name.now → IsTable n table → 2 ≤ n
+        → ReadsBack name.now n table f }
+    ensures failed { length name.now ≤ 1024 → OnErr result (W.broken w.new ≡ true) }
+{
+    let mut pen = Pen::new(w);
+    put_matrix(&mut pen, name, n, d, f);
+    pen.end()
+}

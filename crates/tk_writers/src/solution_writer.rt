@@ -1,0 +1,53 @@
+//! Writes the routes of a vehicle routing problem.
+ghost use Rattle.std.specs.Prelude.{◌≡◌, ◌≤◌, length, true, pos, ◌≤ℤ◌, map, OnErr};
+ghost use Rattle.std.specs.List.{concat};
+ghost use Rattle.std.specs.Int.RustNames.{unsigned_abs};
+ghost use Rattle.tk_pen.specs.Pens.{Puts};
+ghost use Rattle.tk_pen.specs.Puts.{Writes};
+ghost use Rattle.tk_writers.specs.ReadBack.{IsSolution, SolutionReadsBack};
+ghost use Rattle.tk_writers.specs.SolutionWritten.{route_line, route_lines, solution_text};
+
+use tk_pen::{Pen, Sink, WriteFault};
+
+/// Writes a route's line.
+fn put_route<W: Sink>(pen: &mut Pen<'_, W>, number: u64, customers: &[u32])
+    ensures { Puts W.taken W.broken pen.old pen.new (route_line number customers.now) }
+{
+    pen.put(b"Route #");
+    pen.put_number(number);
+    pen.put(b": ");
+    pen.put_spaced(customers);
+    pen.put(b"\n");
+}
+
+/// Writes the lines of all routes.
+fn put_routes<W: Sink>(pen: &mut Pen<'_, W>, routes: &[Vec<u32>])
+    ensures { Puts W.taken W.broken pen.old pen.new (route_lines 1 (map (λ r. r.items) routes.now)) }
+{
+    for (i, route) in routes.iter().enumerate() {
+        put_route(pen, i as u64 + 1, route.as_slice());
+    }
+}
+
+/// Writes the whole text.
+fn put_solution<W: Sink>(pen: &mut Pen<'_, W>, routes: &[Vec<u32>], cost: u64)
+    ensures { Puts W.taken W.broken pen.old pen.new (solution_text (map (λ r. r.items) routes.now) cost) }
+{
+    put_routes(pen, routes);
+    pen.put(b"Cost ");
+    pen.put_number(cost);
+    pen.put(b"\n");
+}
+
+/// Writes routes, each a list of customers, and their cost. A reader gives back the same routes and the same cost, where
+/// a solution text can have them (`read_back`).
+pub fn write_solution<W: Sink>(w: &mut W, routes: &[Vec<u32>], cost: i64) -> Result<(), WriteFault>
+    requires { pos 0 ≤ℤ cost }
+    ensures text { Writes W.taken W.broken w.old w.new result (solution_text (map (λ r. r.items) routes.now) (unsigned_abs cost)) }
+    ensures read_back { IsSolution (map (λ r. r.items) routes.now) (unsigned_abs cost) → SolutionReadsBack (map (λ r. r.items) routes.now) (unsigned_abs cost) }
+    ensures failed { length routes.now ≤ 100000 → length (concat (map (λ r. r.items) routes.now)) ≤ 1000000 → OnErr result (W.broken w.new ≡ true) }
+{
+    let mut pen = Pen::new(w);
+    put_solution(&mut pen, routes, cost.unsigned_abs());
+    pen.end()
+}

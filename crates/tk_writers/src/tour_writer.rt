@@ -1,0 +1,62 @@
+//! Writes tours.
+ghost use Rattle.std.specs.Prelude.{◌≡◌, ◌≤◌, length as count, true, pos, ◌≤ℤ◌, decimal, flat_map, OnErr};
+ghost use Rattle.std.specs.Int.RustNames.{unsigned_abs};
+ghost use Rattle.tk_pen.specs.Pens.{Puts};
+ghost use Rattle.tk_pen.specs.Puts.{Writes};
+ghost use Rattle.tk_writers.specs.ReadBack.{IsTour, TourReadsBack};
+ghost use Rattle.tk_writers.specs.TourWritten.{tour_head, tour_text};
+ghost use Rattle.tk_pen.specs.Written.{line};
+
+use tk_pen::{Pen, Sink, WriteFault};
+
+/// Writes the lines before the cities.
+fn put_tour_head<W: Sink>(pen: &mut Pen<'_, W>, name: &[u8], size: u64, cities: u64)
+    ensures { Puts W.taken W.broken pen.old pen.new (flat_map line (tour_head name.now size cities)) }
+{
+    pen.put(b"NAME : ");
+    pen.put(name);
+    pen.put(b".");
+    pen.put_number(size);
+    pen.put(b".tour\nCOMMENT : Length = ");
+    pen.put_number(size);
+    pen.put(b"\nTYPE : TOUR\nDIMENSION : ");
+    pen.put_number(cities);
+    pen.put(b"\nTOUR_SECTION\n");
+}
+
+/// Writes each city on a line.
+fn put_cities<W: Sink>(pen: &mut Pen<'_, W>, cities: &[u32])
+    ensures { Puts W.taken W.broken pen.old pen.new (flat_map (λ c. line (decimal c)) cities.now) }
+{
+    for city in cities {
+        pen.put_number(*city as u64);
+        pen.put(b"\n");
+    }
+}
+
+/// Writes the whole text.
+fn put_tour<W: Sink>(pen: &mut Pen<'_, W>, name: &[u8], size: u64, cities: &[u32])
+    ensures { Puts W.taken W.broken pen.old pen.new (tour_text name.now size cities.now) }
+{
+    put_tour_head(pen, name, size, cities.len() as u64);
+    put_cities(pen, cities);
+    pen.put(b"-1\nEOF\n");
+}
+
+/// Writes a tour of an instance of this name: its length, and its cities in their order. A reader gives back the same
+/// cities, where a tour text can have them (`read_back`).
+pub fn write_tour<W: Sink>(
+    w: &mut W,
+    name: &[u8],
+    length: i64,
+    cities: &[u32],
+) -> Result<(), WriteFault>
+    requires { pos 0 ≤ℤ length }
+    ensures text { Writes W.taken W.broken w.old w.new result (tour_text name.now (unsigned_abs length) cities.now) }
+    ensures read_back { IsTour name.now (unsigned_abs length) cities.now → TourReadsBack name.now (unsigned_abs length) cities.now }
+    ensures failed { count name.now ≤ 1024 → count cities.now ≤ 1000000 → OnErr result (W.broken w.new ≡ true) }
+{
+    let mut pen = Pen::new(w);
+    put_tour(&mut pen, name, length.unsigned_abs(), cities);
+    pen.end()
+}
