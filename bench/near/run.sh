@@ -4,7 +4,7 @@
 set -e
 here=$(cd "$(dirname "$0")" && pwd)
 . "$here/../build.sh"
-build near 'tk_text tk_metric'
+build near 'tk_problem tk_metric'
 round=0
 while [ "$round" -lt "${1:-3}" ]; do
     "$program" | sed 's/^/rattle /'

@@ -8,7 +8,7 @@ use Rattle.std.specs.Prelude.{ℕ, ◌+◌, ◌-◌, ◌^◌, ◌≤◌, ◌<◌
 use Rattle.rand_core.specs.Stream.{Stream, next_u32}
 use Rattle.rand.specs.Draw.{draw_map}
 use Rattle.rand.specs.Uniform.{canon}
-use Rattle.tk_build.specs.declared.cuts.Cuts.{Cuts}
+use Rattle.tk_build.specs.declared.double_bridges.cuts.Cuts.{Cuts}
 
 -- each cut lies behind the one before it and before the end, so that no part is empty
 pub record AreCuts (n : ℕ) (cuts : Cuts) : Type 0 where

@@ -2,7 +2,7 @@
 use Rattle.std.specs.Prelude.{◌≡◌, ℕ, List, [], true, false}
 use Rattle.tk_descent.specs.Machine.{Run}
 use Rattle.tk_descent.specs.Sweeps.{Sweeps}
-use Rattle.tk_build.specs.declared.descending.SearchRules.{SearchRules}
+use Rattle.tk_build.specs.declared.trials.descending.SearchRules.{SearchRules}
 
 -- By the rules, from the tour T to the tour D: descents with all cities awake until one makes no move, or one descent with W awake.
 pub record Descends (dist : ℕ → ℕ → ℕ) (near : ℕ → List ℕ) (rules : SearchRules) (T W D : List ℕ) (passes looks moves tests : ℕ) : Type 0 where

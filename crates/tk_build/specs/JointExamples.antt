@@ -1,6 +1,6 @@
 -- Pairs and loads, by which the joints are shown.
 use Rattle.std.specs.Prelude.{ℕ, ◌==◌, if◌then◌else◌}
-use Rattle.tk_build.specs.declared.savings_pairs.Pair.{Pair}
+use Rattle.tk_build.specs.declared.merges.pairs.Pair.{Pair}
 
 -- i and j with this saving
 abbrev pub pair : ℕ → ℕ → ℕ → Pair

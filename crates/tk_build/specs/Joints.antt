@@ -8,7 +8,7 @@ use Rattle.std.specs.Prelude.{◌≡◌, ◌≢◌, ℕ, suc, zero, ◌+◌, ◌
 use Rattle.std.specs.List.{All}
 use Rattle.tk_build.specs.Holding.{holds, IsDistinct}
 use Rattle.tk_metric.specs.Cities.{IsCity}
-use Rattle.tk_build.specs.declared.savings_pairs.Pair.{Pair}
+use Rattle.tk_build.specs.declared.merges.pairs.Pair.{Pair}
 
 -- how many joints a city has
 unfoldable pub joints_at : List Pair → ℕ → ℕ

@@ -3,7 +3,7 @@ use Rattle.std.specs.Prelude.{◌≡◌, ◌≢◌, ℕ, ◌+◌, ◌<◌, true,
 use Rattle.tk_build.specs.Holding.{holds, IsDistinct}
 use Rattle.tk_metric.specs.Cities.{IsCity}
 use Rattle.tk_build.specs.Joints.{part, part_load, joints_at, IsChain, last_from}
-use Rattle.tk_build.specs.declared.savings_pairs.Pair.{Pair}
+use Rattle.tk_build.specs.declared.merges.pairs.Pair.{Pair}
 
 -- the two are x and y, in either order
 abbrev pub AreBoth : ℕ → ℕ → ℕ → ℕ → Type 0

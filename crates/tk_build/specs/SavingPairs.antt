@@ -7,7 +7,7 @@ use Rattle.std.specs.Prelude.{◌≡◌, ◌≢◌, ℕ, ◌+◌, ◌-◌, ◌<�
 use Rattle.std.specs.List.{AllPairs, Contains}
 use Rattle.tk_build.specs.Holding.{holds}
 use Rattle.tk_metric.specs.Cities.{IsCity}
-use Rattle.tk_build.specs.declared.savings_pairs.Pair.{Pair}
+use Rattle.tk_build.specs.declared.merges.pairs.Pair.{Pair}
 
 -- what is saved by going from i to j in place of twice to the hub, where that is positive
 abbrev pub saving_of : (ℕ → ℕ → ℕ) → ℕ → ℕ → ℕ → ℕ

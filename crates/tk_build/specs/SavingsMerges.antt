@@ -3,7 +3,7 @@ use Rattle.std.specs.Prelude.{◌≢◌, ◌≤◌, ℕ, List, []}
 use Rattle.tk_metric.specs.Cities.{IsCity}
 use Rattle.tk_build.specs.SavingPairs.{AreCandidates}
 use Rattle.tk_build.specs.Joints.{joints, ArePartPaths}
-use Rattle.tk_build.specs.declared.savings_pairs.Pair.{Pair}
+use Rattle.tk_build.specs.declared.merges.pairs.Pair.{Pair}
 
 -- the lists are the parts that the joints among the candidate pairs make of the cities but the hub
 abbrev pub AreSavingsLists : (ℕ → ℕ → ℕ) → (ℕ → List ℕ) → ℕ → ℕ → (ℕ → ℕ) → ℕ → List (List ℕ) → Type 0

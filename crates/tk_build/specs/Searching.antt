@@ -11,10 +11,10 @@ use Rattle.tk_descent.specs.Awake.{one_to}
 use Rattle.tk_build.specs.Settled.{IsAtBest}
 use Rattle.tk_build.specs.Totals.{AddsTrial, AreCountsOf, IsBounded}
 use Rattle.tk_build.specs.Trials.{IsTrial, IsBoundedTrial, IsKick, gain_of}
-use Rattle.tk_build.specs.declared.descending.SearchRules.{SearchRules}
-use Rattle.tk_build.specs.declared.state.State.{State}
-use Rattle.tk_build.specs.declared.totals.Totals.{Totals}
-use Rattle.tk_build.specs.declared.totals.TrialReport.{TrialReport}
+use Rattle.tk_build.specs.declared.trials.descending.SearchRules.{SearchRules}
+use Rattle.tk_build.specs.declared.trials.state.State.{State}
+use Rattle.tk_build.specs.declared.trials.totals.Totals.{Totals}
+use Rattle.tk_build.specs.declared.trials.totals.TrialReport.{TrialReport}
 
 -- the distances, the near lists and the rules of a search, the best tour so far and what was counted
 pub record Searching : Type 0 where

@@ -7,9 +7,9 @@ use Rattle.tk_tour.specs.ArrayTours.{swaps_of, undo_swaps_of, copied_of}
 use Rattle.tk_tour.specs.JournalTours.{tour_of}
 use Rattle.tk_tour.specs.declared.array.ArrayTour.{ArrayTour}
 use Rattle.tk_tour.specs.declared.journal.JournalTour.{JournalTour}
-use Rattle.tk_build.specs.declared.descending.SearchRules.{SearchRules}
-use Rattle.tk_build.specs.declared.totals.Totals.{Totals}
-use Rattle.tk_build.specs.declared.totals.TrialReport.{TrialReport}
+use Rattle.tk_build.specs.declared.trials.descending.SearchRules.{SearchRules}
+use Rattle.tk_build.specs.declared.trials.totals.Totals.{Totals}
+use Rattle.tk_build.specs.declared.trials.totals.TrialReport.{TrialReport}
 
 -- a count of 128 bits, or its greatest value where the count is greater: there it stands still
 abbrev pub capped : ℕ → ℕ

@@ -7,9 +7,9 @@ use Rattle.tk_tour.specs.Tour.{SameCycle, tour_length}
 use Rattle.tk_descent.specs.Awake.{one_to, woken_each}
 use Rattle.tk_build.specs.Cuts.{bridged, drawn_cuts, end_places}
 use Rattle.tk_build.specs.Descents.{Descends}
-use Rattle.tk_build.specs.declared.cuts.Cuts.{Cuts}
-use Rattle.tk_build.specs.declared.descending.SearchRules.{SearchRules}
-use Rattle.tk_build.specs.declared.totals.TrialReport.{TrialReport}
+use Rattle.tk_build.specs.declared.double_bridges.cuts.Cuts.{Cuts}
+use Rattle.tk_build.specs.declared.trials.descending.SearchRules.{SearchRules}
+use Rattle.tk_build.specs.declared.trials.totals.TrialReport.{TrialReport}
 
 -- what its descent made the tour shorter by
 abbrev pub gain_of : TrialReport → ℕ

@@ -1,8 +1,8 @@
 -- The cities in x order, and those of them that are not visited yet as a doubly linked list: the row's places count from 1,
 -- between the ends 0 and n + 1.
 use Rattle.std.specs.Prelude.{◌≡◌, ◌≢◌, ℕ, ◌+◌, ◌-◌, ◌<◌, ◌≤◌, ◌⊎◌, ◌↔◌, List, length, slice_index, Option, Some, None, IfSome, Bool, true, false, slice_index_or}
-use Rattle.tk_metric.specs.declared.keep.Candidate.{Candidate}
-use Rattle.tk_metric.specs.declared.sweep.Placed.{Placed}
+use Rattle.tk_metric.specs.declared.near_lists.keep.Candidate.{Candidate}
+use Rattle.tk_metric.specs.declared.near_lists.sweep.Placed.{Placed}
 use Rattle.tk_metric.specs.Cities.{IsCity}
 use Rattle.tk_metric.specs.Keeping.{rank, candidate}
 use Rattle.tk_metric.specs.Near.{IsFirst, IsNew}

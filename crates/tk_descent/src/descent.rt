@@ -69,16 +69,19 @@ pub fn descend<S: TourStore, G: Gains>(
     m: u32,
     before: i64,
 ) -> Report
-    requires fits { (G.size_of g.old ≡ length (S.cities s.old)) × (near.now.size ≡ length (S.cities s.old)) × (waking.old.size ≡ length (S.cities s.old)) }
+    requires fits { (G.size_of g.old ≡ length (S.cities s.old)) × (near.now.size ≡ length (S.cities s.old))
+        × (waking.old.size ≡ length (S.cities s.old)) }
     requires most { (1 ≤ m) × (m ≤ 3) }
     requires before { before ≡ pos (tour_length (G.distance g.old) (S.cities s.old)) }
     ensures run { (tests : ℕ) × Run (G.distance g.old) (near_of near.now) m (S.cities s.old) waking.old.queue (S.cities s.new) [] result.looks result.moves tests × (G.test_count g.new ≡ saturated (G.test_count g.old + tests)) }
-    ensures fresh { G.test_count g.old ≡ 0 → Run (G.distance g.old) (near_of near.now) m (S.cities s.old) waking.old.queue (S.cities s.new) [] result.looks result.moves result.tests }
+    ensures fresh { G.test_count g.old ≡ 0
+        → Run (G.distance g.old) (near_of near.now) m (S.cities s.old) waking.old.queue (S.cities s.new) [] result.looks result.moves result.tests }
     ensures wakes { Wakes (G.distance g.old) (near_of near.now) m (S.cities s.old) waking.old.queue (S.cities s.new) [] }
     ensures asleep { waking.new.queue ≡ [] }
     ensures stored { length near.now.entries ≡ length (S.cities s.old) * near.now.width }
     ensures tour { IsTour (length (S.cities s.old)) (S.cities s.new) }
-    ensures lengths { (result.before ≡ before) × (result.after ≡ pos (tour_length (G.distance g.old) (S.cities s.new))) }
+    ensures lengths { (result.before ≡ before)
+        × (result.after ≡ pos (tour_length (G.distance g.old) (S.cities s.new))) }
     ensures moves { result.moves + tour_length (G.distance g.old) (S.cities s.new) ≤ tour_length (G.distance g.old) (S.cities s.old) }
     ensures looks { result.looks ≤ length waking.old.queue + 6 * result.moves }
     ensures tests { result.tests ≤ 4 * m * near.now.width * (length waking.old.queue + 6 * result.moves) }
@@ -89,7 +92,8 @@ pub fn descend<S: TourStore, G: Gains>(
     ensures flips { S.flip_count s.new ≤ S.flip_count s.old + 3 * result.moves }
     ensures flips_only { S.FlipsOnly s.old s.new }
     ensures rises { (G.test_count g.old ≤ G.test_count g.new) × (S.swap_count s.old ≤ S.swap_count s.new) }
-    ensures kept { (G.distance g.new ≡ G.distance g.old) × (G.size_of g.new ≡ G.size_of g.old) × (length (S.cities s.new) ≡ length (S.cities s.old)) × (waking.new.size ≡ waking.old.size) }
+    ensures kept { (G.distance g.new ≡ G.distance g.old) × (G.size_of g.new ≡ G.size_of g.old)
+        × (length (S.cities s.new) ≡ length (S.cities s.old)) × (waking.new.size ≡ waking.old.size) }
 {
     let (tests, swaps) = (g.tests(), s.swaps());
     let (_cities, _awake, _candidates) = (size(s), waking.len(), near.width());

@@ -46,7 +46,8 @@ pub trait Gains {
         requires city { IsCity (length (S.cities s.now)) x }
         requires most { (1 ≤ m) × (m ≤ 3) }
         ensures searched { Searched (distance self.old) (offers (S.cities s.now) m (near_of near.now x) x) result (test_count self.old) (test_count self.new) }
-        ensures on_cycle { IfSome result (λ f. IsOfferOn m f.offer (S.cities s.now) × EndsIn (length (S.cities s.now)) f.offer) }
+        ensures on_cycle { IfSome result (λ f. IsOfferOn m f.offer (S.cities s.now)
+            × EndsIn (length (S.cities s.now)) f.offer) }
         ensures bound { test_count self.new ≤ test_count self.old + 4 * m * near.now.width }
         ensures same { (distance self.new ≡ distance self.old) × (size_of self.new ≡ size_of self.old) };
 

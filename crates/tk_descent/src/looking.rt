@@ -176,7 +176,8 @@ pub(crate) fn find_offer<S: TourStore, M: Metric>(
     requires city { IsCity (length (S.cities s.now)) x }
     requires most { (1 ≤ m) × (m ≤ 3) }
     ensures searched { Searched (M.distance metric.now) (offers (S.cities s.now) m (near_of near.now x) x) result count.old count.new }
-    ensures on_cycle { IfSome result (λ f. IsOfferOn m f.offer (S.cities s.now) × EndsIn (length (S.cities s.now)) f.offer) }
+    ensures on_cycle { IfSome result (λ f. IsOfferOn m f.offer (S.cities s.now)
+        × EndsIn (length (S.cities s.now)) f.offer) }
     ensures bound { count.new ≤ count.old + 4 * m * near.now.width }
 {
     let _counted = *count;

@@ -15,7 +15,8 @@ fn move_forward<S: TourStore>(s: &mut S, a: u32, x: u32, e: u32, b: u32, y: u32,
     requires offer { IsOfferOn 3 (Or a x e b y w) (S.cities s.old) }
     requires cities { EndsIn (length (S.cities s.old)) (Or a x e b y w) }
     requires forward { next_city (S.cities s.old) a ≡ x }
-    ensures made { (m : ℕ) → IsOfferOn m (Or a x e b y w) (S.cities s.old) → Makes m (Or a x e b y w) (S.cities s.old) (S.cities s.new) }
+    ensures made { (m : ℕ) → IsOfferOn m (Or a x e b y w) (S.cities s.old)
+        → Makes m (Or a x e b y w) (S.cities s.old) (S.cities s.new) }
     ensures rises { S.swap_count s.old ≤ S.swap_count s.new }
     ensures swaps { S.swap_count s.new ≤ S.swap_count s.old + 3 * (length (S.cities s.old) / 4) }
     ensures flips { S.flip_count s.new ≤ S.flip_count s.old + 3 }
@@ -35,7 +36,8 @@ fn move_forward<S: TourStore>(s: &mut S, a: u32, x: u32, e: u32, b: u32, y: u32,
 pub fn make<S: TourStore>(s: &mut S, offer: &Offer)
     requires offer { IsOfferOn 3 offer.now (S.cities s.old) }
     requires cities { EndsIn (length (S.cities s.old)) offer.now }
-    ensures made { (m : ℕ) → IsOfferOn m offer.now (S.cities s.old) → Makes m offer.now (S.cities s.old) (S.cities s.new) }
+    ensures made { (m : ℕ) → IsOfferOn m offer.now (S.cities s.old)
+        → Makes m offer.now (S.cities s.old) (S.cities s.new) }
     ensures rises { S.swap_count s.old ≤ S.swap_count s.new }
     ensures swaps { S.swap_count s.new ≤ S.swap_count s.old + 3 * (length (S.cities s.old) / 4) }
     ensures flips { S.flip_count s.new ≤ S.flip_count s.old + 3 }

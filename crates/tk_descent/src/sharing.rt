@@ -70,7 +70,8 @@ pub(crate) fn pieces_of<S: TourStore, M: Metric>(s: &S, metric: &M, x: &Beside) 
     requires after { x.now.after ≡ next_city (S.cities s.now) x.now.city }
     requires before { x.now.before ≡ prev_city (S.cities s.now) x.now.city }
     requires shared { IsBeside (M.size_of metric.now) (M.distance metric.now) x.now }
-    ensures value { map segment_of result ≡ all_segments (next_city (S.cities s.now)) (prev_city (S.cities s.now)) x.now.city }
+    ensures value { map segment_of result
+        ≡ all_segments (next_city (S.cities s.now)) (prev_city (S.cities s.now)) x.now.city }
     ensures shared { All (IsPiece (M.size_of metric.now) (M.distance metric.now) x.now.city) result }
 {
     let city = x.city;

@@ -39,17 +39,20 @@ pub fn descend_swept<S: TourStore, G: Gains>(
     m: u32,
     before: i64,
 ) -> SweptReport
-    requires fits { (G.size_of g.old ≡ length (S.cities s.old)) × (near.now.size ≡ length (S.cities s.old)) × (waking.old.size ≡ length (S.cities s.old)) }
+    requires fits { (G.size_of g.old ≡ length (S.cities s.old)) × (near.now.size ≡ length (S.cities s.old))
+        × (waking.old.size ≡ length (S.cities s.old)) }
     requires most { (1 ≤ m) × (m ≤ 3) }
     requires before { before ≡ pos (tour_length (G.distance g.old) (S.cities s.old)) }
     ensures sweeps { (tests : ℕ) × Sweeps (G.distance g.old) (near_of near.now) m (S.cities s.old) (S.cities s.new) result.passes result.descent.looks result.descent.moves tests × (G.test_count g.new ≡ saturated (G.test_count g.old + tests)) }
-    ensures fresh { G.test_count g.old ≡ 0 → Sweeps (G.distance g.old) (near_of near.now) m (S.cities s.old) (S.cities s.new) result.passes result.descent.looks result.descent.moves result.descent.tests }
+    ensures fresh { G.test_count g.old ≡ 0
+        → Sweeps (G.distance g.old) (near_of near.now) m (S.cities s.old) (S.cities s.new) result.passes result.descent.looks result.descent.moves result.descent.tests }
     ensures optimum { IsLocalOptimum (G.distance g.old) (near_of near.now) m (S.cities s.new) }
     ensures stored { length near.now.entries ≡ length (S.cities s.old) * near.now.width }
     ensures asleep { waking.new.queue ≡ [] }
     ensures passes { result.passes ≤ result.descent.moves + 1 }
     ensures tour { IsTour (length (S.cities s.old)) (S.cities s.new) }
-    ensures lengths { (result.descent.before ≡ before) × (result.descent.after ≡ pos (tour_length (G.distance g.old) (S.cities s.new))) }
+    ensures lengths { (result.descent.before ≡ before)
+        × (result.descent.after ≡ pos (tour_length (G.distance g.old) (S.cities s.new))) }
     ensures moves { result.descent.moves + tour_length (G.distance g.old) (S.cities s.new) ≤ tour_length (G.distance g.old) (S.cities s.old) }
     ensures looks { result.descent.looks ≤ length (S.cities s.old) * result.passes + 6 * result.descent.moves }
     ensures tests { result.descent.tests ≤ 4 * m * near.now.width * (length (S.cities s.old) * result.passes + 6 * result.descent.moves) }
@@ -59,7 +62,8 @@ pub fn descend_swept<S: TourStore, G: Gains>(
     ensures flips { S.flip_count s.new ≤ S.flip_count s.old + 3 * result.descent.moves }
     ensures flips_only { S.FlipsOnly s.old s.new }
     ensures rises { (G.test_count g.old ≤ G.test_count g.new) × (S.swap_count s.old ≤ S.swap_count s.new) }
-    ensures kept { (G.distance g.new ≡ G.distance g.old) × (G.size_of g.new ≡ G.size_of g.old) × (length (S.cities s.new) ≡ length (S.cities s.old)) × (waking.new.size ≡ waking.old.size) }
+    ensures kept { (G.distance g.new ≡ G.distance g.old) × (G.size_of g.new ≡ G.size_of g.old)
+        × (length (S.cities s.new) ≡ length (S.cities s.old)) × (waking.new.size ≡ waking.old.size) }
 {
     let (tests, swaps) = (g.tests(), s.swaps());
     let (_cities, _candidates) = (size(s), near.width());

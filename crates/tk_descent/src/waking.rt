@@ -22,7 +22,8 @@ impl Model for Waking {
 
     ghost view = { λ w. record { queue = w.queue.items; size = vec_len w.awake - 1 } };
 
-    ghost invariant = { λ w. (w.queue.capacity ≡ vec_len w.awake) × (1 ≤ vec_len w.awake) × IsWaking w.queue.items w.awake.items × (vec_len w.awake ≤ 4294967296) };
+    ghost invariant = { λ w. (w.queue.capacity ≡ vec_len w.awake) × (1 ≤ vec_len w.awake)
+        × IsWaking w.queue.items w.awake.items × (vec_len w.awake ≤ 4294967296) };
 }
 
 impl Waking {
@@ -88,7 +89,8 @@ impl Waking {
 
     /// Takes the first city, which then sleeps.
     pub fn take(&mut self) -> Option<u32>
-        ensures taken { MatchOption result ((self.old.queue ≡ []) × (self.new.queue ≡ [])) (λ x. self.old.queue ≡ x ∷ self.new.queue) }
+        ensures taken { MatchOption result ((self.old.queue ≡ [])
+            × (self.new.queue ≡ [])) (λ x. self.old.queue ≡ x ∷ self.new.queue) }
         ensures city { IfSome result (λ x. IsCity self.old.size x) }
         ensures distinct { IsDistinct self.old.queue }
         ensures size { self.new.size ≡ self.old.size }

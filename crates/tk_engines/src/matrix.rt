@@ -18,7 +18,8 @@ use tk_text::{Format, Problem, Sink, Source, TABLE_LIMIT, WriteFault, read_probl
 fn write_problem<W: Sink>(out: &mut W, problem: &Problem, format: Format) -> Result<(), WriteFault>
     requires few { problem.now.n ≤ 5000 }
     ensures text { Writes W.taken W.broken out.old out.new result (matrix_of (problem_is problem.now) format) }
-    ensures read_back { IsName problem.now.name.items → IsReadAs (matrix_of (problem_is problem.now) format) (by_distances (problem_is problem.now)) }
+    ensures read_back { IsName problem.now.name.items
+        → IsReadAs (matrix_of (problem_is problem.now) format) (by_distances (problem_is problem.now)) }
     ensures failed { OnErr result (W.broken out.new ≡ true) }
 {
     let table = Table::of(problem);

@@ -16,8 +16,8 @@ use Rattle.tk_words.specs.Drive.{line_behind}
 use Rattle.tk_lines.specs.Forms.{whole, a_header}
 use Rattle.tk_lines.specs.Reader.{Next, Within, anything, this, no_word, a_line_end, Says, DecidesIf, IsWord, AtLine, AtTail, HeaderTaken}
 use Rattle.tk_lines.proofs.MiddleOfLine.{with_bytes, from_line-byte, from_line-blank}
-use Rattle.tk_lines.proofs.SectionEnds.{first_line}
-use Rattle.tk_lines.proofs.ByteRuns.{behind-all, front-all}
+use Rattle.tk_lines.proofs.Sections.SectionEnds.{first_line}
+use Rattle.tk_lines.proofs.Headers.ByteRuns.{behind-all, front-all}
 use Rattle.tk_lines.proofs.Lines.{from_line-unknown, from_line-eof, from_line-section, from_line-long, from_line-header, from_line-last, blank_letter}
 
 -- ---- lines of bytes

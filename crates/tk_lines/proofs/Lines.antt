@@ -14,8 +14,8 @@ use Rattle.tk_lines.specs.Reader.{no_word, IsWord}
 use Rattle.tk_lines.specs.Forms.{whole}
 use Rattle.tk_lines.proofs.MiddleOfLine.{prepend-nil, lines-byte, lines-LF, end_token-bytes, from_line-LF}
 use Rattle.tk_words.proofs.Bools.{and_false}
-use Rattle.tk_lines.proofs.SectionEnds.{First, first_line}
-use Rattle.tk_lines.proofs.ByteRuns.{behind-all, front-all}
+use Rattle.tk_lines.proofs.Sections.SectionEnds.{First, first_line}
+use Rattle.tk_lines.proofs.Headers.ByteRuns.{behind-all, front-all}
 use Rattle.std.specs.List.{AllByRecursion}
 
 -- no line ends among them

@@ -11,7 +11,7 @@ use Rattle.tk_lines.specs.Reader.{anything, this, IsIn, Fed, AtToken}
 use Rattle.tk_lines.specs.declared.reader.PieceReader.{PieceReader}
 use Rattle.tk_lines.specs.declared.reader.Place.TheVariants as places
 use Rattle.tk_lines.proofs.KnownPlaces.{at_place, or_false}
-use Rattle.tk_lines.proofs.SectionSteps.{token_byte}
+use Rattle.tk_lines.proofs.Sections.SectionSteps.{token_byte}
 use Rattle.tk_lines.proofs.NarrowPlaces.{token_narrow}
 use Rattle.tk_lines.proofs.LineSteps.{line_behind-byte}
 

@@ -12,9 +12,12 @@ use tk_words::{Keyword, Run, Step, TextFault, TextReader};
 impl<F: Form> PieceReader<F> {
     /// Ends the text, where nothing is open.
     fn end_text(&self) -> Result<(), TextFault>
-        ensures ok { (bs : List ℕ) → AtEnd F.format F.holds self.now.form self.now.line bs → IfOk result (λ _. DecidesEnded (decided_by F.format) bs (Ok (F.held self.now.form))) }
-        ensures err { (bs : List ℕ) → AtEnd F.format F.holds self.now.form self.now.line bs → IfErr result (IsTold ⊥ (DecidesEnded (decided_by F.format) bs)) }
-        ensures complete { (bs : List ℕ) → AtEnd F.format F.holds self.now.form self.now.line bs → IfOk result (λ _. F.complete self.now.form) }
+        ensures ok { (bs : List ℕ) → AtEnd F.format F.holds self.now.form self.now.line bs
+            → IfOk result (λ _. DecidesEnded (decided_by F.format) bs (Ok (F.held self.now.form))) }
+        ensures err { (bs : List ℕ) → AtEnd F.format F.holds self.now.form self.now.line bs
+            → IfErr result (IsTold ⊥ (DecidesEnded (decided_by F.format) bs)) }
+        ensures complete { (bs : List ℕ) → AtEnd F.format F.holds self.now.form self.now.line bs
+            → IfOk result (λ _. F.complete self.now.form) }
     {
         match self.form.end() {
             None => Ok(()),
@@ -24,9 +27,12 @@ impl<F: Form> PieceReader<F> {
 
     /// Ends the text in a section, between tokens.
     fn end_section(&mut self) -> Result<(), TextFault>
-        ensures ok { (bs : List ℕ) → AtToken F.format F.wants at_end self.old.form self.old.line [] bs → IfOk result (λ _. DecidesEnded (decided_by F.format) bs (Ok (F.held self.new.form))) }
-        ensures err { (bs : List ℕ) → AtToken F.format F.wants at_end self.old.form self.old.line [] bs → IfErr result (IsTold ⊥ (DecidesEnded (decided_by F.format) bs)) }
-        ensures complete { (bs : List ℕ) → AtToken F.format F.wants at_end self.old.form self.old.line [] bs → IfOk result (λ _. F.complete self.new.form) }
+        ensures ok { (bs : List ℕ) → AtToken F.format F.wants at_end self.old.form self.old.line [] bs
+            → IfOk result (λ _. DecidesEnded (decided_by F.format) bs (Ok (F.held self.new.form))) }
+        ensures err { (bs : List ℕ) → AtToken F.format F.wants at_end self.old.form self.old.line [] bs
+            → IfErr result (IsTold ⊥ (DecidesEnded (decided_by F.format) bs)) }
+        ensures complete { (bs : List ℕ) → AtToken F.format F.wants at_end self.old.form self.old.line [] bs
+            → IfOk result (λ _. F.complete self.new.form) }
     {
         match self.form.end_section() {
             Err(kind) => Err(self.fault(kind)),
@@ -37,9 +43,12 @@ impl<F: Form> PieceReader<F> {
     /// Ends the text in a header's value.
     fn end_value(&mut self, word: Keyword) -> Result<(), TextFault>
         requires place { self.old.place ≡ places.Value word }
-        ensures ok { (bs : List ℕ) → Fed F.format F.holds F.wants at_end self.old bs → IfOk result (λ _. DecidesEnded (decided_by F.format) bs (Ok (F.held self.new.form))) }
-        ensures err { (bs : List ℕ) → Fed F.format F.holds F.wants at_end self.old bs → IfErr result (IsTold ⊥ (DecidesEnded (decided_by F.format) bs)) }
-        ensures complete { (bs : List ℕ) → Fed F.format F.holds F.wants at_end self.old bs → IfOk result (λ _. F.complete self.new.form) }
+        ensures ok { (bs : List ℕ) → Fed F.format F.holds F.wants at_end self.old bs
+            → IfOk result (λ _. DecidesEnded (decided_by F.format) bs (Ok (F.held self.new.form))) }
+        ensures err { (bs : List ℕ) → Fed F.format F.holds F.wants at_end self.old bs
+            → IfErr result (IsTold ⊥ (DecidesEnded (decided_by F.format) bs)) }
+        ensures complete { (bs : List ℕ) → Fed F.format F.holds F.wants at_end self.old bs
+            → IfOk result (λ _. F.complete self.new.form) }
     {
         self.end_header(word)?;
         self.end_text()
@@ -49,9 +58,12 @@ impl<F: Form> PieceReader<F> {
     fn end_in_word(&mut self) -> Result<(), TextFault>
         requires place { self.old.place ≡ places.Word }
         requires known { (bs : List ℕ) × Fed F.format F.holds F.wants at_end self.old bs }
-        ensures ok { (bs : List ℕ) → Fed F.format F.holds F.wants at_end self.old bs → IfOk result (λ _. DecidesEnded (decided_by F.format) bs (Ok (F.held self.new.form))) }
-        ensures err { (bs : List ℕ) → Fed F.format F.holds F.wants at_end self.old bs → IfErr result (IsTold ⊥ (DecidesEnded (decided_by F.format) bs)) }
-        ensures complete { (bs : List ℕ) → Fed F.format F.holds F.wants at_end self.old bs → IfOk result (λ _. F.complete self.new.form) }
+        ensures ok { (bs : List ℕ) → Fed F.format F.holds F.wants at_end self.old bs
+            → IfOk result (λ _. DecidesEnded (decided_by F.format) bs (Ok (F.held self.new.form))) }
+        ensures err { (bs : List ℕ) → Fed F.format F.holds F.wants at_end self.old bs
+            → IfErr result (IsTold ⊥ (DecidesEnded (decided_by F.format) bs)) }
+        ensures complete { (bs : List ℕ) → Fed F.format F.holds F.wants at_end self.old bs
+            → IfOk result (λ _. F.complete self.new.form) }
     {
         match self.end_word()? {
             Went::Done => Ok(()),
@@ -64,9 +76,12 @@ impl<F: Form> PieceReader<F> {
     fn end_in_token(&mut self) -> Result<(), TextFault>
         requires place { self.old.place ≡ places.Token }
         requires known { (bs : List ℕ) × Fed F.format F.holds F.wants at_end self.old bs }
-        ensures ok { (bs : List ℕ) → Fed F.format F.holds F.wants at_end self.old bs → IfOk result (λ _. DecidesEnded (decided_by F.format) bs (Ok (F.held self.new.form))) }
-        ensures err { (bs : List ℕ) → Fed F.format F.holds F.wants at_end self.old bs → IfErr result (IsTold ⊥ (DecidesEnded (decided_by F.format) bs)) }
-        ensures complete { (bs : List ℕ) → Fed F.format F.holds F.wants at_end self.old bs → IfOk result (λ _. F.complete self.new.form) }
+        ensures ok { (bs : List ℕ) → Fed F.format F.holds F.wants at_end self.old bs
+            → IfOk result (λ _. DecidesEnded (decided_by F.format) bs (Ok (F.held self.new.form))) }
+        ensures err { (bs : List ℕ) → Fed F.format F.holds F.wants at_end self.old bs
+            → IfErr result (IsTold ⊥ (DecidesEnded (decided_by F.format) bs)) }
+        ensures complete { (bs : List ℕ) → Fed F.format F.holds F.wants at_end self.old bs
+            → IfOk result (λ _. F.complete self.new.form) }
     {
         match self.end_token()? {
             Ended::Done => Ok(()),
@@ -79,9 +94,12 @@ impl<F: Form> PieceReader<F> {
     /// Ends the text in a token behind the `-1` that ends a section.
     fn end_in_one(&mut self, on_line: bool) -> Result<(), TextFault>
         requires place { self.old.place ≡ places.One on_line }
-        ensures ok { (bs : List ℕ) → Fed F.format F.holds F.wants at_end self.old bs → IfOk result (λ _. DecidesEnded (decided_by F.format) bs (Ok (F.held self.new.form))) }
-        ensures err { (bs : List ℕ) → Fed F.format F.holds F.wants at_end self.old bs → IfErr result (IsTold ⊥ (DecidesEnded (decided_by F.format) bs)) }
-        ensures complete { (bs : List ℕ) → Fed F.format F.holds F.wants at_end self.old bs → IfOk result (λ _. F.complete self.new.form) }
+        ensures ok { (bs : List ℕ) → Fed F.format F.holds F.wants at_end self.old bs
+            → IfOk result (λ _. DecidesEnded (decided_by F.format) bs (Ok (F.held self.new.form))) }
+        ensures err { (bs : List ℕ) → Fed F.format F.holds F.wants at_end self.old bs
+            → IfErr result (IsTold ⊥ (DecidesEnded (decided_by F.format) bs)) }
+        ensures complete { (bs : List ℕ) → Fed F.format F.holds F.wants at_end self.old bs
+            → IfOk result (λ _. F.complete self.new.form) }
     {
         self.end_one(on_line)?;
         self.end_text()
@@ -90,9 +108,12 @@ impl<F: Form> PieceReader<F> {
     /// Ends the text, wherever it stands.
     fn end_bytes(&mut self) -> Result<(), TextFault>
         requires known { (bs : List ℕ) × Fed F.format F.holds F.wants at_end self.old bs }
-        ensures ok { (bs : List ℕ) → Fed F.format F.holds F.wants at_end self.old bs → IfOk result (λ _. DecidesEnded (decided_by F.format) bs (Ok (F.held self.new.form))) }
-        ensures err { (bs : List ℕ) → Fed F.format F.holds F.wants at_end self.old bs → IfErr result (IsTold ⊥ (DecidesEnded (decided_by F.format) bs)) }
-        ensures complete { (bs : List ℕ) → Fed F.format F.holds F.wants at_end self.old bs → IfOk result (λ _. F.complete self.new.form) }
+        ensures ok { (bs : List ℕ) → Fed F.format F.holds F.wants at_end self.old bs
+            → IfOk result (λ _. DecidesEnded (decided_by F.format) bs (Ok (F.held self.new.form))) }
+        ensures err { (bs : List ℕ) → Fed F.format F.holds F.wants at_end self.old bs
+            → IfErr result (IsTold ⊥ (DecidesEnded (decided_by F.format) bs)) }
+        ensures complete { (bs : List ℕ) → Fed F.format F.holds F.wants at_end self.old bs
+            → IfOk result (λ _. F.complete self.new.form) }
     {
         match self.place {
             Place::Start => self.end_text(),

@@ -50,29 +50,47 @@ pub trait Form: Drop {
 
     /// Takes a header.
     fn header(&mut self, word: Keyword, value: &Scan) -> Result<(), TextKind>
-        ensures ok { (before : List Piece) (v : List ℕ) (n : ℕ) → holds self.old before → Scans value.now v → IfOk result (λ _. holds self.new (before ++ a_header word v n) × (first_at n (format.header before word v) ≡ None)) }
-        ensures err { (before : List Piece) (v : List ℕ) (n : ℕ) → holds self.old before → Scans value.now v → IfErr result (IsToldWord (λ k. first_at n (format.header before word v) ≡ Some (Fault n k))) };
+        ensures ok { (before : List Piece) (v : List ℕ) (n : ℕ) → holds self.old before → Scans value.now v
+            → IfOk result (λ _. holds self.new (before ++ a_header word v n)
+            × (first_at n (format.header before word v) ≡ None)) }
+        ensures err { (before : List Piece) (v : List ℕ) (n : ℕ) → holds self.old before → Scans value.now v
+            → IfErr result (IsToldWord (λ k. first_at n (format.header before word v) ≡ Some (Fault n k))) };
 
     /// Begins a section.
     fn section(&mut self, word: Keyword) -> Result<(), TextKind>
-        ensures ok { (before : List Piece) (n : ℕ) → holds self.old before → IfOk result (λ _. wants self.new before word n [] × Goes format before word n []) }
-        ensures err { (before : List Piece) (n : ℕ) → holds self.old before → IfErr result (IsToldWord (λ k. (toks : List Token) (after : After) → format.section before word n toks after ≡ Some (Fault n k))) };
+        ensures ok { (before : List Piece) (n : ℕ) → holds self.old before
+            → IfOk result (λ _. wants self.new before word n [] × Goes format before word n []) }
+        ensures err { (before : List Piece) (n : ℕ) → holds self.old before
+            → IfErr result (IsToldWord (λ k. (toks : List Token) (after : After)
+            → format.section before word n toks after ≡ Some (Fault n k))) };
 
     /// Takes a token of a section.
     fn token(&mut self, bytes: &[u8]) -> Result<Taken, TextKind>
         requires { length bytes.now ≤ 64 }
-        ensures ok { (before : List Piece) (word : Keyword) (n : ℕ) (toks : List Token) (line : ℕ) → wants self.old before word n toks → IfOk result (HasTaken format (holds self.new) (wants self.new) before word n toks (whole bytes.now line)) }
-        ensures err { (before : List Piece) (word : Keyword) (n : ℕ) (toks : List Token) (line : ℕ) → wants self.old before word n toks → IfErr result (IsToldWord (StopsAt format before word n toks (whole bytes.now line))) };
+        ensures ok { (before : List Piece) (word : Keyword) (n : ℕ) (toks : List Token) (line : ℕ)
+            → wants self.old before word n toks
+            → IfOk result (HasTaken format (holds self.new) (wants self.new) before word n toks (whole bytes.now line)) }
+        ensures err { (before : List Piece) (word : Keyword) (n : ℕ) (toks : List Token) (line : ℕ)
+            → wants self.old before word n toks
+            → IfErr result (IsToldWord (StopsAt format before word n toks (whole bytes.now line))) };
 
     /// Ends a section at the end of the bytes.
     fn end_section(&mut self) -> Result<(), TextKind>
-        ensures ok { (before : List Piece) (word : Keyword) (n : ℕ) (toks : List Token) (line : ℕ) → wants self.old before word n toks → IfOk result (λ _. holds self.new (before ++ a_section word n toks (Early line true)) × (format.section before word n toks (Early line true) ≡ None)) }
-        ensures err { (before : List Piece) (word : Keyword) (n : ℕ) (toks : List Token) (line : ℕ) → wants self.old before word n toks → IfErr result (IsToldWord (λ k. format.section before word n toks (Early line true) ≡ Some (Fault line k))) };
+        ensures ok { (before : List Piece) (word : Keyword) (n : ℕ) (toks : List Token) (line : ℕ)
+            → wants self.old before word n toks
+            → IfOk result (λ _. holds self.new (before ++ a_section word n toks (Early line true))
+            × (format.section before word n toks (Early line true) ≡ None)) }
+        ensures err { (before : List Piece) (word : Keyword) (n : ℕ) (toks : List Token) (line : ℕ)
+            → wants self.old before word n toks
+            → IfErr result (IsToldWord (λ k. format.section before word n toks (Early line true)
+            ≡ Some (Fault line k))) };
 
     /// What is wrong at the end of the text.
     fn end(&self) -> Option<TextKind>
-        ensures fault { (before : List Piece) → holds self.now before → IfSome result (IsToldWord (λ k. format.at_end before ≡ Some k)) }
-        ensures value { (before : List Piece) → holds self.now before → result ≡ None → (format.at_end before ≡ None) × (held self.now ≡ format.value before) }
+        ensures fault { (before : List Piece) → holds self.now before
+            → IfSome result (IsToldWord (λ k. format.at_end before ≡ Some k)) }
+        ensures value { (before : List Piece) → holds self.now before → result ≡ None → (format.at_end before ≡ None)
+            × (held self.now ≡ format.value before) }
         ensures complete { (before : List Piece) → holds self.now before → result ≡ None → complete self.now };
 
     /// What was read.

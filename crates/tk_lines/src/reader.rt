@@ -103,8 +103,10 @@ impl<F: Form> PieceReader<F> {
         requires place { self.old.place ≡ places.Start }
         requires room { self.old.line ≤ 2 ^ 63 }
         requires known { (bs : List ℕ) × Fed F.format F.holds F.wants (this byte) self.old bs }
-        ensures more { (bs : List ℕ) → Fed F.format F.holds F.wants (this byte) self.old bs → IfOk result (HasFed F.format anything (Fed F.format F.holds F.wants anything self.new) (F.held self.new.form) (bs ++ byte ∷ [])) }
-        ensures err { (bs : List ℕ) → Fed F.format F.holds F.wants (this byte) self.old bs → IfErr result (IsTold ⊥ (DecidesIf F.format anything (bs ++ byte ∷ []))) }
+        ensures more { (bs : List ℕ) → Fed F.format F.holds F.wants (this byte) self.old bs
+            → IfOk result (HasFed F.format anything (Fed F.format F.holds F.wants anything self.new) (F.held self.new.form) (bs ++ byte ∷ [])) }
+        ensures err { (bs : List ℕ) → Fed F.format F.holds F.wants (this byte) self.old bs
+            → IfErr result (IsTold ⊥ (DecidesIf F.format anything (bs ++ byte ∷ []))) }
         ensures goes { result ≡ Ok steps.Done → ⊥ }
     {
         if byte == b'\n' {
@@ -126,10 +128,14 @@ impl<F: Form> PieceReader<F> {
     /// Ends a line's word.
     pub fn end_word(&mut self) -> Result<Went, TextFault>
         requires place { self.old.place ≡ places.Word }
-        ensures went { (next : Next) (bs : List ℕ) → Within next no_word → Fed F.format F.holds F.wants next self.old bs → IfOk result (HasWent F.format next (Fed F.format F.holds F.wants next self.new) self.new.place (F.held self.new.form) bs) }
+        ensures went { (next : Next) (bs : List ℕ) → Within next no_word
+            → Fed F.format F.holds F.wants next self.old bs
+            → IfOk result (HasWent F.format next (Fed F.format F.holds F.wants next self.new) self.new.place (F.held self.new.form) bs) }
         ensures line { self.new.line ≡ self.old.line }
-        ensures err { (next : Next) (bs : List ℕ) → Within next no_word → Fed F.format F.holds F.wants next self.old bs → IfErr result (IsTold ⊥ (DecidesIf F.format next bs)) }
-        ensures complete { (next : Next) (bs : List ℕ) → Fed F.format F.holds F.wants next self.old bs → result ≡ Ok wents.Done → F.complete self.new.form }
+        ensures err { (next : Next) (bs : List ℕ) → Within next no_word
+            → Fed F.format F.holds F.wants next self.old bs → IfErr result (IsTold ⊥ (DecidesIf F.format next bs)) }
+        ensures complete { (next : Next) (bs : List ℕ) → Fed F.format F.holds F.wants next self.old bs
+            → result ≡ Ok wents.Done → F.complete self.new.form }
     {
         let word = match keyword_of(self.held.as_slice()) {
             None => return Err(self.fault(TextKind::UnknownKeyword)),
@@ -160,8 +166,11 @@ impl<F: Form> PieceReader<F> {
         requires place { self.old.place ≡ places.Value word }
         ensures line { self.new.line ≡ self.old.line }
         ensures place { IfOk result (λ _. self.new.place ≡ places.Start) }
-        ensures ok { (next : Next) (bs : List ℕ) → Within next a_line_end → Fed F.format F.holds F.wants next self.old bs → IfOk result (λ _. HeaderTaken F.format F.holds next self.new.form self.new.line self.old.held word bs) }
-        ensures err { (next : Next) (bs : List ℕ) → Within next a_line_end → Fed F.format F.holds F.wants next self.old bs → IfErr result (IsTold ⊥ (DecidesIf F.format next bs)) }
+        ensures ok { (next : Next) (bs : List ℕ) → Within next a_line_end
+            → Fed F.format F.holds F.wants next self.old bs
+            → IfOk result (λ _. HeaderTaken F.format F.holds next self.new.form self.new.line self.old.held word bs) }
+        ensures err { (next : Next) (bs : List ℕ) → Within next a_line_end
+            → Fed F.format F.holds F.wants next self.old bs → IfErr result (IsTold ⊥ (DecidesIf F.format next bs)) }
     {
         match self.form.header(word, &self.scan) {
             Err(kind) => Err(self.fault(kind)),
@@ -177,8 +186,10 @@ impl<F: Form> PieceReader<F> {
         requires place { self.old.place ≡ places.Value word }
         requires room { self.old.line ≤ 2 ^ 63 }
         requires known { (bs : List ℕ) × Fed F.format F.holds F.wants (this byte) self.old bs }
-        ensures more { (bs : List ℕ) → Fed F.format F.holds F.wants (this byte) self.old bs → IfOk result (HasFed F.format anything (Fed F.format F.holds F.wants anything self.new) (F.held self.new.form) (bs ++ byte ∷ [])) }
-        ensures err { (bs : List ℕ) → Fed F.format F.holds F.wants (this byte) self.old bs → IfErr result (IsTold ⊥ (DecidesIf F.format anything (bs ++ byte ∷ []))) }
+        ensures more { (bs : List ℕ) → Fed F.format F.holds F.wants (this byte) self.old bs
+            → IfOk result (HasFed F.format anything (Fed F.format F.holds F.wants anything self.new) (F.held self.new.form) (bs ++ byte ∷ [])) }
+        ensures err { (bs : List ℕ) → Fed F.format F.holds F.wants (this byte) self.old bs
+            → IfErr result (IsTold ⊥ (DecidesIf F.format anything (bs ++ byte ∷ []))) }
         ensures goes { result ≡ Ok steps.Done → ⊥ }
     {
         if byte == b'\n' {
@@ -198,8 +209,10 @@ impl<F: Form> PieceReader<F> {
         requires place { self.old.place ≡ places.Gap }
         requires room { self.old.line ≤ 2 ^ 63 }
         requires known { (bs : List ℕ) × Fed F.format F.holds F.wants (this byte) self.old bs }
-        ensures more { (bs : List ℕ) → Fed F.format F.holds F.wants (this byte) self.old bs → IfOk result (HasFed F.format anything (Fed F.format F.holds F.wants anything self.new) (F.held self.new.form) (bs ++ byte ∷ [])) }
-        ensures err { (bs : List ℕ) → Fed F.format F.holds F.wants (this byte) self.old bs → IfErr result (IsTold ⊥ (DecidesIf F.format anything (bs ++ byte ∷ []))) }
+        ensures more { (bs : List ℕ) → Fed F.format F.holds F.wants (this byte) self.old bs
+            → IfOk result (HasFed F.format anything (Fed F.format F.holds F.wants anything self.new) (F.held self.new.form) (bs ++ byte ∷ [])) }
+        ensures err { (bs : List ℕ) → Fed F.format F.holds F.wants (this byte) self.old bs
+            → IfErr result (IsTold ⊥ (DecidesIf F.format anything (bs ++ byte ∷ []))) }
         ensures goes { result ≡ Ok steps.Done → ⊥ }
     {
         if byte == b'\n' {
@@ -220,8 +233,10 @@ impl<F: Form> PieceReader<F> {
         requires place { self.old.place ≡ places.Begin }
         requires room { self.old.line ≤ 2 ^ 63 }
         requires known { (bs : List ℕ) × Fed F.format F.holds F.wants (this byte) self.old bs }
-        ensures more { (bs : List ℕ) → Fed F.format F.holds F.wants (this byte) self.old bs → IfOk result (HasFed F.format anything (Fed F.format F.holds F.wants anything self.new) (F.held self.new.form) (bs ++ byte ∷ [])) }
-        ensures err { (bs : List ℕ) → Fed F.format F.holds F.wants (this byte) self.old bs → IfErr result (IsTold ⊥ (DecidesIf F.format anything (bs ++ byte ∷ []))) }
+        ensures more { (bs : List ℕ) → Fed F.format F.holds F.wants (this byte) self.old bs
+            → IfOk result (HasFed F.format anything (Fed F.format F.holds F.wants anything self.new) (F.held self.new.form) (bs ++ byte ∷ [])) }
+        ensures err { (bs : List ℕ) → Fed F.format F.holds F.wants (this byte) self.old bs
+            → IfErr result (IsTold ⊥ (DecidesIf F.format anything (bs ++ byte ∷ []))) }
         ensures goes { result ≡ Ok steps.Done → ⊥ }
     {
         if blank(byte) {
@@ -239,9 +254,12 @@ impl<F: Form> PieceReader<F> {
         requires place { self.old.place ≡ places.Word }
         requires room { self.old.line ≤ 2 ^ 63 }
         requires known { (bs : List ℕ) × Fed F.format F.holds F.wants (this byte) self.old bs }
-        ensures more { (bs : List ℕ) → Fed F.format F.holds F.wants (this byte) self.old bs → IfOk result (HasFed F.format anything (Fed F.format F.holds F.wants anything self.new) (F.held self.new.form) (bs ++ byte ∷ [])) }
-        ensures err { (bs : List ℕ) → Fed F.format F.holds F.wants (this byte) self.old bs → IfErr result (IsTold ⊥ (DecidesIf F.format anything (bs ++ byte ∷ []))) }
-        ensures complete { (bs : List ℕ) → Fed F.format F.holds F.wants (this byte) self.old bs → result ≡ Ok steps.Done → F.complete self.new.form }
+        ensures more { (bs : List ℕ) → Fed F.format F.holds F.wants (this byte) self.old bs
+            → IfOk result (HasFed F.format anything (Fed F.format F.holds F.wants anything self.new) (F.held self.new.form) (bs ++ byte ∷ [])) }
+        ensures err { (bs : List ℕ) → Fed F.format F.holds F.wants (this byte) self.old bs
+            → IfErr result (IsTold ⊥ (DecidesIf F.format anything (bs ++ byte ∷ []))) }
+        ensures complete { (bs : List ℕ) → Fed F.format F.holds F.wants (this byte) self.old bs
+            → result ≡ Ok steps.Done → F.complete self.new.form }
     {
         if word_byte(byte) {
             if self.held.is_full() {
@@ -262,8 +280,10 @@ impl<F: Form> PieceReader<F> {
         requires place { self.old.place ≡ places.Close }
         requires room { self.old.line ≤ 2 ^ 63 }
         requires known { (bs : List ℕ) × Fed F.format F.holds F.wants (this byte) self.old bs }
-        ensures more { (bs : List ℕ) → Fed F.format F.holds F.wants (this byte) self.old bs → IfOk result (HasFed F.format anything (Fed F.format F.holds F.wants anything self.new) (F.held self.new.form) (bs ++ byte ∷ [])) }
-        ensures err { (bs : List ℕ) → Fed F.format F.holds F.wants (this byte) self.old bs → IfErr result (IsTold ⊥ (DecidesIf F.format anything (bs ++ byte ∷ []))) }
+        ensures more { (bs : List ℕ) → Fed F.format F.holds F.wants (this byte) self.old bs
+            → IfOk result (HasFed F.format anything (Fed F.format F.holds F.wants anything self.new) (F.held self.new.form) (bs ++ byte ∷ [])) }
+        ensures err { (bs : List ℕ) → Fed F.format F.holds F.wants (this byte) self.old bs
+            → IfErr result (IsTold ⊥ (DecidesIf F.format anything (bs ++ byte ∷ []))) }
         ensures goes { result ≡ Ok steps.Done → ⊥ }
     {
         if byte == b'\n' {
@@ -282,9 +302,14 @@ impl<F: Form> PieceReader<F> {
     pub fn take_token(&mut self, token: &[u8]) -> Result<Ended, TextFault>
         requires short { length token.now ≤ 64 }
         ensures line { self.new.line ≡ self.old.line }
-        ensures ended { (next : Next) (bs : List ℕ) → Within next a_gap → IsRun token.now → IsIn F.format F.wants next self.old token.now bs → IfOk result (HasEnded F.format next (Fed F.format F.holds F.wants next self.new) self.new.place (F.held self.new.form) bs) }
-        ensures err { (next : Next) (bs : List ℕ) → Within next a_gap → IsRun token.now → IsIn F.format F.wants next self.old token.now bs → IfErr result (IsTold ⊥ (DecidesIf F.format next bs)) }
-        ensures complete { (next : Next) (bs : List ℕ) → IsIn F.format F.wants next self.old token.now bs → result ≡ Ok endeds.Done → F.complete self.new.form }
+        ensures ended { (next : Next) (bs : List ℕ) → Within next a_gap → IsRun token.now
+            → IsIn F.format F.wants next self.old token.now bs
+            → IfOk result (HasEnded F.format next (Fed F.format F.holds F.wants next self.new) self.new.place (F.held self.new.form) bs) }
+        ensures err { (next : Next) (bs : List ℕ) → Within next a_gap → IsRun token.now
+            → IsIn F.format F.wants next self.old token.now bs
+            → IfErr result (IsTold ⊥ (DecidesIf F.format next bs)) }
+        ensures complete { (next : Next) (bs : List ℕ) → IsIn F.format F.wants next self.old token.now bs
+            → result ≡ Ok endeds.Done → F.complete self.new.form }
     {
         match self.form.token(token) {
             Err(kind) => Err(self.fault(kind)),
@@ -312,9 +337,13 @@ impl<F: Form> PieceReader<F> {
         requires place { self.old.place ≡ places.Token }
         requires short { length self.old.held ≤ 64 }
         ensures line { self.new.line ≡ self.old.line }
-        ensures ended { (next : Next) (bs : List ℕ) → Within next a_gap → Fed F.format F.holds F.wants next self.old bs → IfOk result (HasEnded F.format next (Fed F.format F.holds F.wants next self.new) self.new.place (F.held self.new.form) bs) }
-        ensures err { (next : Next) (bs : List ℕ) → Within next a_gap → Fed F.format F.holds F.wants next self.old bs → IfErr result (IsTold ⊥ (DecidesIf F.format next bs)) }
-        ensures complete { (next : Next) (bs : List ℕ) → Fed F.format F.holds F.wants next self.old bs → result ≡ Ok endeds.Done → F.complete self.new.form }
+        ensures ended { (next : Next) (bs : List ℕ) → Within next a_gap
+            → Fed F.format F.holds F.wants next self.old bs
+            → IfOk result (HasEnded F.format next (Fed F.format F.holds F.wants next self.new) self.new.place (F.held self.new.form) bs) }
+        ensures err { (next : Next) (bs : List ℕ) → Within next a_gap → Fed F.format F.holds F.wants next self.old bs
+            → IfErr result (IsTold ⊥ (DecidesIf F.format next bs)) }
+        ensures complete { (next : Next) (bs : List ℕ) → Fed F.format F.holds F.wants next self.old bs
+            → result ≡ Ok endeds.Done → F.complete self.new.form }
     {
         let token = mem::replace(&mut self.held, Held::new());
         self.take_token(token.as_slice())
@@ -325,8 +354,10 @@ impl<F: Form> PieceReader<F> {
         requires place { self.old.place ≡ places.After on_line }
         requires room { self.old.line ≤ 2 ^ 63 }
         requires known { (bs : List ℕ) × Fed F.format F.holds F.wants (this byte) self.old bs }
-        ensures more { (bs : List ℕ) → Fed F.format F.holds F.wants (this byte) self.old bs → IfOk result (HasFed F.format anything (Fed F.format F.holds F.wants anything self.new) (F.held self.new.form) (bs ++ byte ∷ [])) }
-        ensures err { (bs : List ℕ) → Fed F.format F.holds F.wants (this byte) self.old bs → IfErr result (IsTold ⊥ (DecidesIf F.format anything (bs ++ byte ∷ []))) }
+        ensures more { (bs : List ℕ) → Fed F.format F.holds F.wants (this byte) self.old bs
+            → IfOk result (HasFed F.format anything (Fed F.format F.holds F.wants anything self.new) (F.held self.new.form) (bs ++ byte ∷ [])) }
+        ensures err { (bs : List ℕ) → Fed F.format F.holds F.wants (this byte) self.old bs
+            → IfErr result (IsTold ⊥ (DecidesIf F.format anything (bs ++ byte ∷ []))) }
         ensures goes { result ≡ Ok steps.Done → ⊥ }
     {
         if byte == b'\n' {
@@ -362,9 +393,12 @@ impl<F: Form> PieceReader<F> {
         requires gap { (is_blank byte || byte == 10) ≡ true }
         requires room { self.old.line ≤ 2 ^ 63 }
         requires known { (bs : List ℕ) × IsIn F.format F.wants (this byte) self.old token.now bs }
-        ensures more { (bs : List ℕ) → IsIn F.format F.wants (this byte) self.old token.now bs → IfOk result (HasFed F.format anything (Fed F.format F.holds F.wants anything self.new) (F.held self.new.form) (bs ++ byte ∷ [])) }
-        ensures err { (bs : List ℕ) → IsIn F.format F.wants (this byte) self.old token.now bs → IfErr result (IsTold ⊥ (DecidesIf F.format anything (bs ++ byte ∷ []))) }
-        ensures complete { (bs : List ℕ) → IsIn F.format F.wants (this byte) self.old token.now bs → result ≡ Ok steps.Done → F.complete self.new.form }
+        ensures more { (bs : List ℕ) → IsIn F.format F.wants (this byte) self.old token.now bs
+            → IfOk result (HasFed F.format anything (Fed F.format F.holds F.wants anything self.new) (F.held self.new.form) (bs ++ byte ∷ [])) }
+        ensures err { (bs : List ℕ) → IsIn F.format F.wants (this byte) self.old token.now bs
+            → IfErr result (IsTold ⊥ (DecidesIf F.format anything (bs ++ byte ∷ []))) }
+        ensures complete { (bs : List ℕ) → IsIn F.format F.wants (this byte) self.old token.now bs
+            → result ≡ Ok steps.Done → F.complete self.new.form }
     {
         match self.take_token(token)? {
             Ended::Done => Ok(Step::Done),
@@ -379,9 +413,12 @@ impl<F: Form> PieceReader<F> {
         requires place { self.old.place ≡ places.Token }
         requires room { self.old.line ≤ 2 ^ 63 }
         requires known { (bs : List ℕ) × Fed F.format F.holds F.wants (this byte) self.old bs }
-        ensures more { (bs : List ℕ) → Fed F.format F.holds F.wants (this byte) self.old bs → IfOk result (HasFed F.format anything (Fed F.format F.holds F.wants anything self.new) (F.held self.new.form) (bs ++ byte ∷ [])) }
-        ensures err { (bs : List ℕ) → Fed F.format F.holds F.wants (this byte) self.old bs → IfErr result (IsTold ⊥ (DecidesIf F.format anything (bs ++ byte ∷ []))) }
-        ensures complete { (bs : List ℕ) → Fed F.format F.holds F.wants (this byte) self.old bs → result ≡ Ok steps.Done → F.complete self.new.form }
+        ensures more { (bs : List ℕ) → Fed F.format F.holds F.wants (this byte) self.old bs
+            → IfOk result (HasFed F.format anything (Fed F.format F.holds F.wants anything self.new) (F.held self.new.form) (bs ++ byte ∷ [])) }
+        ensures err { (bs : List ℕ) → Fed F.format F.holds F.wants (this byte) self.old bs
+            → IfErr result (IsTold ⊥ (DecidesIf F.format anything (bs ++ byte ∷ []))) }
+        ensures complete { (bs : List ℕ) → Fed F.format F.holds F.wants (this byte) self.old bs
+            → result ≡ Ok steps.Done → F.complete self.new.form }
     {
         if !blank_or_end(byte) {
             if self.held.is_full() {
@@ -399,8 +436,11 @@ impl<F: Form> PieceReader<F> {
         requires place { self.old.place ≡ places.One on_line }
         ensures line { self.new.line ≡ self.old.line }
         ensures place { IfOk result (λ _. self.new.place ≡ places.Close) }
-        ensures ended { (next : Next) (bs : List ℕ) → Within next a_gap → Fed F.format F.holds F.wants next self.old bs → IfOk result (λ _. Fed F.format F.holds F.wants next self.new bs) }
-        ensures err { (next : Next) (bs : List ℕ) → Within next a_gap → Fed F.format F.holds F.wants next self.old bs → IfErr result (IsTold ⊥ (DecidesIf F.format next bs)) }
+        ensures ended { (next : Next) (bs : List ℕ) → Within next a_gap
+            → Fed F.format F.holds F.wants next self.old bs
+            → IfOk result (λ _. Fed F.format F.holds F.wants next self.new bs) }
+        ensures err { (next : Next) (bs : List ℕ) → Within next a_gap → Fed F.format F.holds F.wants next self.old bs
+            → IfErr result (IsTold ⊥ (DecidesIf F.format next bs)) }
     {
         if minus_one(self.held.as_slice()) {
             self.place = Place::Close;
@@ -414,8 +454,10 @@ impl<F: Form> PieceReader<F> {
         requires place { self.old.place ≡ places.One on_line }
         requires room { self.old.line ≤ 2 ^ 63 }
         requires known { (bs : List ℕ) × Fed F.format F.holds F.wants (this byte) self.old bs }
-        ensures more { (bs : List ℕ) → Fed F.format F.holds F.wants (this byte) self.old bs → IfOk result (HasFed F.format anything (Fed F.format F.holds F.wants anything self.new) (F.held self.new.form) (bs ++ byte ∷ [])) }
-        ensures err { (bs : List ℕ) → Fed F.format F.holds F.wants (this byte) self.old bs → IfErr result (IsTold ⊥ (DecidesIf F.format anything (bs ++ byte ∷ []))) }
+        ensures more { (bs : List ℕ) → Fed F.format F.holds F.wants (this byte) self.old bs
+            → IfOk result (HasFed F.format anything (Fed F.format F.holds F.wants anything self.new) (F.held self.new.form) (bs ++ byte ∷ [])) }
+        ensures err { (bs : List ℕ) → Fed F.format F.holds F.wants (this byte) self.old bs
+            → IfErr result (IsTold ⊥ (DecidesIf F.format anything (bs ++ byte ∷ []))) }
         ensures goes { result ≡ Ok steps.Done → ⊥ }
     {
         if !blank_or_end(byte) {
@@ -433,9 +475,12 @@ impl<F: Form> PieceReader<F> {
     pub fn feed_byte(&mut self, byte: u8) -> Result<Step, TextFault>
         requires room { self.old.line ≤ 2 ^ 63 }
         requires known { (bs : List ℕ) × Fed F.format F.holds F.wants anything self.old bs }
-        ensures more { (bs : List ℕ) → Fed F.format F.holds F.wants anything self.old bs → IfOk result (HasFed F.format anything (Fed F.format F.holds F.wants anything self.new) (F.held self.new.form) (bs ++ byte ∷ [])) }
-        ensures err { (bs : List ℕ) → Fed F.format F.holds F.wants anything self.old bs → IfErr result (IsTold ⊥ (DecidesIf F.format anything (bs ++ byte ∷ []))) }
-        ensures complete { (bs : List ℕ) → Fed F.format F.holds F.wants anything self.old bs → result ≡ Ok steps.Done → F.complete self.new.form }
+        ensures more { (bs : List ℕ) → Fed F.format F.holds F.wants anything self.old bs
+            → IfOk result (HasFed F.format anything (Fed F.format F.holds F.wants anything self.new) (F.held self.new.form) (bs ++ byte ∷ [])) }
+        ensures err { (bs : List ℕ) → Fed F.format F.holds F.wants anything self.old bs
+            → IfErr result (IsTold ⊥ (DecidesIf F.format anything (bs ++ byte ∷ []))) }
+        ensures complete { (bs : List ℕ) → Fed F.format F.holds F.wants anything self.old bs → result ≡ Ok steps.Done
+            → F.complete self.new.form }
     {
         match self.place {
             Place::Start => self.feed_start(byte),

@@ -104,7 +104,8 @@ impl Scan {
     /// The value as a name, without outer blanks; `None` where it is longer than 1,024 bytes.
     pub fn name(&self) -> Option<&[u8]>
         ensures long { (v : List ℕ) → Scans self.now v → result ≡ None → 1024 < length (trim (after_word v)) }
-        ensures name { (v : List ℕ) → Scans self.now v → IfSome result (λ s. (s.now ≡ trim (after_word v)) × (length s.now ≤ 1024)) }
+        ensures name { (v : List ℕ) → Scans self.now v
+            → IfSome result (λ s. (s.now ≡ trim (after_word v)) × (length s.now ≤ 1024)) }
     {
         let text = self.text.as_slice();
         let end = self.trimmed as usize;
@@ -125,7 +126,9 @@ impl Scan {
     /// The value's first word as an integer within limits.
     pub fn number(&self, low: u32, high: u32) -> Result<u32, TextKind>
         ensures ok { (v : List ℕ) → Scans self.now v → IfOk result (λ n. IsNumber low high (first_word v) n) }
-        ensures err { (v : List ℕ) (line : ℕ) → Scans self.now v → IfErr result (IsToldWord (λ k. first_at line (number_tests low high (first_word v)) ≡ Some (Fault line k))) }
+        ensures err { (v : List ℕ) (line : ℕ) → Scans self.now v
+            → IfErr result (IsToldWord (λ k. first_at line (number_tests low high (first_word v))
+            ≡ Some (Fault line k))) }
     {
         let Some(number) = integer(self.first.as_slice()) else {
             return Err(TextKind::BadNumber);

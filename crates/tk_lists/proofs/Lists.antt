@@ -9,7 +9,7 @@ use Rattle.tk_words.specs.MinusOne.{is_ending, one_more}
 use Rattle.tk_words.specs.Entry.{is_eof, numbers_of, natural_or_zero}
 use Rattle.tk_lines.specs.Lists.{list_extent, entries, AreEntries}
 use Rattle.tk_lists.specs.Tour.{entry_stop, entries_stop}
-use Rattle.tk_lines.proofs.SectionEnds.{take_past}
+use Rattle.tk_lines.proofs.Sections.SectionEnds.{take_past}
 
 pub list_extent-entries : (ts more : List Token) → AreEntries ts → list_extent (ts ++ more) ≡ record { count = length ts + (list_extent more).count; closed = (list_extent more).closed; at_eof = (list_extent more).at_eof }
 unfolding list_extent

@@ -12,8 +12,8 @@ use Rattle.tk_lines.specs.Forms.{whole}
 use Rattle.tk_lines.specs.Reader.{IsToken}
 use Rattle.tk_lists.specs.Solution.{SolutionLine, Empty, Other, Route, has_cost, count_of, solid_line, line_stop, customer_stop, cost_stop}
 use Rattle.tk_lists.specs.SolutionReader.{Keeps, IsRoute, IsPriced, IsAt, HasEnded, StopsAt, line_from}
-use Rattle.tk_lines.proofs.SectionBytes.{first_token}
-use Rattle.tk_lines.proofs.MiddleOfSection.{tokens_of-none, tokens_of-last}
+use Rattle.tk_lines.proofs.Sections.SectionBytes.{first_token}
+use Rattle.tk_lines.proofs.Sections.MiddleOfSection.{tokens_of-none, tokens_of-last}
 use Rattle.tk_lists.proofs.SolutionLines.{keeps_line, customers_at}
 use Rattle.tk_lists.proofs.SolutionPlaces.{short_head}
 

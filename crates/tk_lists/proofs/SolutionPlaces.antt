@@ -13,10 +13,10 @@ use Rattle.tk_lines.specs.Pieces.{Open, Fault, stopped}
 use Rattle.tk_lists.specs.Solution.{Solution, Short, SolutionLine, Unsure, solid_line, line_stop, at_end, judge_lines, count_of, customer_stop}
 use Rattle.tk_lists.specs.SolutionReader.{head_from, IsHead, line_from, IsLineWord, IsAt, from}
 use Rattle.tk_lines.proofs.MiddleOfLine.{lines-byte, lines-LF}
-use Rattle.tk_lines.proofs.SectionEnds.{first_line}
-use Rattle.tk_lines.proofs.ByteRuns.{front-whole}
-use Rattle.tk_lines.proofs.TextEnds.{tokens_of-open}
-use Rattle.tk_lines.proofs.MiddleOfSection.{tokens_of-none}
+use Rattle.tk_lines.proofs.Sections.SectionEnds.{first_line}
+use Rattle.tk_lines.proofs.Headers.ByteRuns.{front-whole}
+use Rattle.tk_lines.proofs.Endings.TextEnds.{tokens_of-open}
+use Rattle.tk_lines.proofs.Sections.MiddleOfSection.{tokens_of-none}
 use Rattle.tk_lists.proofs.SolutionLines.{customers_at}
 
 module _ (before : List SolutionLine) (g : List ℕ → Bool → SolutionLine) (n : ℕ) where

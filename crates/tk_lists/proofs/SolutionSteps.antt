@@ -12,9 +12,9 @@ use Rattle.tk_lines.specs.Forms.{whole}
 use Rattle.tk_lines.specs.Reader.{IsToken}
 use Rattle.tk_lists.specs.Solution.{SolutionLine, Route, Cost, has_cost, count_of, customer_stop, cost_stop}
 use Rattle.tk_lists.specs.SolutionReader.{IsRoute, line_from, Went, StopsAt}
-use Rattle.tk_lines.proofs.SectionSteps.{run_more}
-use Rattle.tk_lines.proofs.SectionBytes.{front_token}
-use Rattle.tk_lines.proofs.MiddleOfSection.{tokens_of-run}
+use Rattle.tk_lines.proofs.Sections.SectionSteps.{run_more}
+use Rattle.tk_lines.proofs.Sections.SectionBytes.{front_token}
+use Rattle.tk_lines.proofs.Sections.MiddleOfSection.{tokens_of-run}
 use Rattle.tk_lists.proofs.SolutionLines.{customers_at}
 
 -- the same line, told in two ways

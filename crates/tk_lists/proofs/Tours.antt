@@ -19,9 +19,9 @@ use Rattle.tk_words.specs.Entry.{is_keyword, is_eof, in_range, number_tests, num
 use Rattle.tk_lines.specs.Lists.{entries, trailing_stop, AreEntries}
 use Rattle.tk_lists.specs.Tour.{entry_stop, entries_stop, tour_header, tour_section, tour_format}
 use Rattle.tk_lists.specs.TourForm.{IsSeen, TourHolds, TourWants, IsNext, IsOut}
-use Rattle.tk_lines.proofs.PieceLookups.{has-kept, has-new, tokens_in-new, tokens_in-header, tokens_in-none}
+use Rattle.tk_lines.proofs.Pieces.PieceLookups.{has-kept, has-new, tokens_in-new, tokens_in-header, tokens_in-none}
 use Rattle.tk_lists.proofs.Lists.{are_more, entries_all, entries_ended, fine_more, fine_none, numbers_more, length-numbers, list_stops, list_ended, list_eof, list_open, list_covers, entry_long, entry_open}
-use Rattle.tk_lines.proofs.ListTokens.{long_goes, open_goes}
+use Rattle.tk_lines.proofs.Sections.ListTokens.{long_goes, open_goes}
 
 -- ---- headers
 

@@ -46,7 +46,8 @@ impl SolutionForm {
     /// Whether a Route line may stand here.
     pub fn begin_route(&self) -> Result<(), TextKind>
         ensures ok { (before : List SolutionLine) → Keeps self.now before [] → IfOk result (λ _. IsRoute before []) }
-        ensures err { (before : List SolutionLine) (n : ℕ) → Keeps self.now before [] → IfErr result (IsToldWord (λ k. first_at n (route_tests before) ≡ Some (Fault n k))) }
+        ensures err { (before : List SolutionLine) (n : ℕ) → Keeps self.now before []
+            → IfErr result (IsToldWord (λ k. first_at n (route_tests before) ≡ Some (Fault n k))) }
     {
         if self.priced {
             return Err(TextKind::TrailingData);
@@ -60,8 +61,12 @@ impl SolutionForm {
     /// Takes a customer of the route.
     pub fn take_customer(&mut self, bytes: &[u8]) -> Result<(), TextKind>
         requires { length bytes.now ≤ 64 }
-        ensures ok { (before : List SolutionLine) (toks : List Token) (n : ℕ) → Keeps self.old before toks → IsRoute before toks → IfOk result (λ _. Keeps self.new before (toks ++ whole bytes.now n ∷ []) × IsRoute before (toks ++ whole bytes.now n ∷ [])) }
-        ensures err { (before : List SolutionLine) (toks : List Token) (n : ℕ) → Keeps self.old before toks → IsRoute before toks → IfErr result (IsToldWord (λ k. customer_stop (count_of before + length toks) (whole bytes.now n) ≡ Some (Fault n k))) }
+        ensures ok { (before : List SolutionLine) (toks : List Token) (n : ℕ) → Keeps self.old before toks
+            → IsRoute before toks → IfOk result (λ _. Keeps self.new before (toks ++ whole bytes.now n ∷ [])
+            × IsRoute before (toks ++ whole bytes.now n ∷ [])) }
+        ensures err { (before : List SolutionLine) (toks : List Token) (n : ℕ) → Keeps self.old before toks
+            → IsRoute before toks → IfErr result (IsToldWord
+            (λ k. customer_stop (count_of before + length toks) (whole bytes.now n) ≡ Some (Fault n k))) }
     {
         let Some(number) = integer(bytes) else {
             return Err(TextKind::BadNumber);
@@ -83,7 +88,8 @@ impl SolutionForm {
 
     /// Keeps the route.
     pub fn end_route(&mut self) -> Result<(), TextKind>
-        ensures ok { (before : List SolutionLine) (toks : List Token) → Keeps self.old before toks → IsRoute before toks → IfOk result (λ _. Keeps self.new (before ++ Route toks ∷ []) []) }
+        ensures ok { (before : List SolutionLine) (toks : List Token) → Keeps self.old before toks
+            → IsRoute before toks → IfOk result (λ _. Keeps self.new (before ++ Route toks ∷ []) []) }
         ensures err { IfErr result (λ k. k ≡ kinds.NoMemory) }
     {
         let route = mem::replace(&mut self.route, Vec::new(self.alloc));
@@ -96,8 +102,10 @@ impl SolutionForm {
 
     /// Whether the line of the cost may stand here.
     pub fn begin_cost(&self) -> Result<(), TextKind>
-        ensures ok { (before : List SolutionLine) → Keeps self.now before [] → IfOk result (λ _. has_cost before ≡ false) }
-        ensures err { (before : List SolutionLine) (n : ℕ) → Keeps self.now before [] → IfErr result (IsToldWord (λ k. first_at n (cost_tests before) ≡ Some (Fault n k))) }
+        ensures ok { (before : List SolutionLine) → Keeps self.now before []
+            → IfOk result (λ _. has_cost before ≡ false) }
+        ensures err { (before : List SolutionLine) (n : ℕ) → Keeps self.now before []
+            → IfErr result (IsToldWord (λ k. first_at n (cost_tests before) ≡ Some (Fault n k))) }
     {
         if self.priced {
             return Err(TextKind::TrailingData);
@@ -108,8 +116,11 @@ impl SolutionForm {
     /// Takes the cost.
     pub fn take_cost(&mut self, bytes: &[u8]) -> Result<(), TextKind>
         requires { length bytes.now ≤ 64 }
-        ensures ok { (before : List SolutionLine) (n : ℕ) → Keeps self.old before [] → has_cost before ≡ false → IfOk result (λ _. IsPriced self.new before n (whole bytes.now n ∷ [])) }
-        ensures err { (before : List SolutionLine) (n : ℕ) → Keeps self.old before [] → has_cost before ≡ false → IfErr result (IsToldWord (λ k. (ended : Bool) (toks : List Token) → cost_stop n ended (whole bytes.now n ∷ toks) ≡ Some (Fault n k))) }
+        ensures ok { (before : List SolutionLine) (n : ℕ) → Keeps self.old before [] → has_cost before ≡ false
+            → IfOk result (λ _. IsPriced self.new before n (whole bytes.now n ∷ [])) }
+        ensures err { (before : List SolutionLine) (n : ℕ) → Keeps self.old before [] → has_cost before ≡ false
+            → IfErr result (IsToldWord (λ k. (ended : Bool) (toks : List Token)
+            → cost_stop n ended (whole bytes.now n ∷ toks) ≡ Some (Fault n k))) }
     {
         let Some(number) = integer(bytes) else {
             return Err(TextKind::BadNumber);
@@ -124,8 +135,10 @@ impl SolutionForm {
 
     /// Whether a line of another word may stand here.
     pub fn skip(&self) -> Result<(), TextKind>
-        ensures ok { (before : List SolutionLine) → Keeps self.now before [] → IfOk result (λ _. has_cost before ≡ true) }
-        ensures err { (before : List SolutionLine) (n : ℕ) → Keeps self.now before [] → IfErr result (IsToldWord (λ k. first_at n (other_tests before) ≡ Some (Fault n k))) }
+        ensures ok { (before : List SolutionLine) → Keeps self.now before []
+            → IfOk result (λ _. has_cost before ≡ true) }
+        ensures err { (before : List SolutionLine) (n : ℕ) → Keeps self.now before []
+            → IfErr result (IsToldWord (λ k. first_at n (other_tests before) ≡ Some (Fault n k))) }
     {
         if self.priced {
             return Ok(());

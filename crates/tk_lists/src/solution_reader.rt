@@ -108,8 +108,10 @@ impl SolutionReader {
     /// Passes over the rest of a line of another word.
     fn skip(&mut self, byte: u8) -> Result<(), TextKind>
         ensures line { self.new.line ≡ self.old.line }
-        ensures ok { (before : List SolutionLine) → Keeps self.old.form before [] → IfOk result (λ _. Went before byte (λ bs whole. Other) self.new) }
-        ensures err { (before : List SolutionLine) → Keeps self.old.form before [] → IfErr result (IsToldWord (StopsAt before self.old.line byte (λ bs whole. Other))) }
+        ensures ok { (before : List SolutionLine) → Keeps self.old.form before []
+            → IfOk result (λ _. Went before byte (λ bs whole. Other) self.new) }
+        ensures err { (before : List SolutionLine) → Keeps self.old.form before []
+            → IfErr result (IsToldWord (StopsAt before self.old.line byte (λ bs whole. Other))) }
     {
         self.form.skip()?;
         self.place = LinePlace::Skip;
@@ -120,8 +122,10 @@ impl SolutionReader {
     fn feed_head(&mut self, place: HeadPlace, byte: u8) -> Result<(), TextKind>
         requires { IsHead place }
         ensures line { self.new.line ≡ self.old.line }
-        ensures ok { (before : List SolutionLine) → Keeps self.old.form before [] → IsRoute before [] → IfOk result (λ _. Went before byte (line_from self.old.line [] [] (places.Head place)) self.new) }
-        ensures err { (before : List SolutionLine) → IsRoute before [] → IfErr result (IsToldWord (StopsAt before self.old.line byte (line_from self.old.line [] [] (places.Head place)))) }
+        ensures ok { (before : List SolutionLine) → Keeps self.old.form before [] → IsRoute before []
+            → IfOk result (λ _. Went before byte (line_from self.old.line [] [] (places.Head place)) self.new) }
+        ensures err { (before : List SolutionLine) → IsRoute before []
+            → IfErr result (IsToldWord (StopsAt before self.old.line byte (line_from self.old.line [] [] (places.Head place)))) }
     {
         self.place = match place.step(byte) {
             HeadStep::At(next) => LinePlace::Head(next),
@@ -134,7 +138,8 @@ impl SolutionReader {
     /// Takes a byte before the cost.
     fn feed_price(&mut self, byte: u8)
         ensures line { self.new.line ≡ self.old.line }
-        ensures went { (before : List SolutionLine) → Keeps self.old.form before [] → has_cost before ≡ false → Went before byte (line_from self.old.line [] [] places.Price) self.new }
+        ensures went { (before : List SolutionLine) → Keeps self.old.form before [] → has_cost before ≡ false
+            → Went before byte (line_from self.old.line [] [] places.Price) self.new }
     {
         if blank(byte) {
             self.place = LinePlace::Price;
@@ -146,7 +151,8 @@ impl SolutionReader {
     /// Takes a byte behind `Cost`, before the colon.
     fn feed_colon(&mut self, byte: u8)
         ensures line { self.new.line ≡ self.old.line }
-        ensures went { (before : List SolutionLine) → Keeps self.old.form before [] → has_cost before ≡ false → Went before byte (line_from self.old.line [] [] places.Colon) self.new }
+        ensures went { (before : List SolutionLine) → Keeps self.old.form before [] → has_cost before ≡ false
+            → Went before byte (line_from self.old.line [] [] places.Colon) self.new }
     {
         if blank(byte) {
             self.place = LinePlace::Colon;
@@ -161,8 +167,10 @@ impl SolutionReader {
     fn feed_word(&mut self, byte: u8) -> Result<(), TextKind>
         requires { IsFront self.old.held }
         ensures line { self.new.line ≡ self.old.line }
-        ensures ok { (before : List SolutionLine) → Keeps self.old.form before [] → IfOk result (λ _. Went before byte (line_from self.old.line self.old.held [] places.Word) self.new) }
-        ensures err { (before : List SolutionLine) → Keeps self.old.form before [] → IfErr result (IsToldWord (StopsAt before self.old.line byte (line_from self.old.line self.old.held [] places.Word))) }
+        ensures ok { (before : List SolutionLine) → Keeps self.old.form before []
+            → IfOk result (λ _. Went before byte (line_from self.old.line self.old.held [] places.Word) self.new) }
+        ensures err { (before : List SolutionLine) → Keeps self.old.form before []
+            → IfErr result (IsToldWord (StopsAt before self.old.line byte (line_from self.old.line self.old.held [] places.Word))) }
     {
         if word_byte(byte) {
             self.held.push(byte);
@@ -190,8 +198,12 @@ impl SolutionReader {
     fn feed_customer(&mut self, byte: u8) -> Result<(), TextKind>
         requires { length self.old.held ≤ 64 }
         ensures line { self.new.line ≡ self.old.line }
-        ensures ok { (before : List SolutionLine) (toks : List Token) → IsAt self.old.form before self.old.held self.old.line toks places.Customer → IfOk result (λ _. Went before byte (line_from self.old.line self.old.held toks places.Customer) self.new) }
-        ensures err { (before : List SolutionLine) (toks : List Token) → IsAt self.old.form before self.old.held self.old.line toks places.Customer → IfErr result (IsToldWord (StopsAt before self.old.line byte (line_from self.old.line self.old.held toks places.Customer))) }
+        ensures ok { (before : List SolutionLine) (toks : List Token)
+            → IsAt self.old.form before self.old.held self.old.line toks places.Customer
+            → IfOk result (λ _. Went before byte (line_from self.old.line self.old.held toks places.Customer) self.new) }
+        ensures err { (before : List SolutionLine) (toks : List Token)
+            → IsAt self.old.form before self.old.held self.old.line toks places.Customer
+            → IfErr result (IsToldWord (StopsAt before self.old.line byte (line_from self.old.line self.old.held toks places.Customer))) }
     {
         if blank(byte) {
             self.form.take_customer(self.held.as_slice())?;
@@ -210,8 +222,12 @@ impl SolutionReader {
     fn feed_digits(&mut self, byte: u8) -> Result<(), TextKind>
         requires { length self.old.held ≤ 64 }
         ensures line { self.new.line ≡ self.old.line }
-        ensures ok { (before : List SolutionLine) (toks : List Token) → IsAt self.old.form before self.old.held self.old.line toks places.Digits → IfOk result (λ _. Went before byte (line_from self.old.line self.old.held toks places.Digits) self.new) }
-        ensures err { (before : List SolutionLine) (toks : List Token) → IsAt self.old.form before self.old.held self.old.line toks places.Digits → IfErr result (IsToldWord (StopsAt before self.old.line byte (line_from self.old.line self.old.held toks places.Digits))) }
+        ensures ok { (before : List SolutionLine) (toks : List Token)
+            → IsAt self.old.form before self.old.held self.old.line toks places.Digits
+            → IfOk result (λ _. Went before byte (line_from self.old.line self.old.held toks places.Digits) self.new) }
+        ensures err { (before : List SolutionLine) (toks : List Token)
+            → IsAt self.old.form before self.old.held self.old.line toks places.Digits
+            → IfErr result (IsToldWord (StopsAt before self.old.line byte (line_from self.old.line self.old.held toks places.Digits))) }
     {
         if blank(byte) {
             self.form.take_cost(self.held.as_slice())?;
@@ -230,8 +246,10 @@ impl SolutionReader {
     pub fn feed_line(&mut self, byte: u8) -> Result<(), TextKind>
         requires { (before : List SolutionLine) × (toks : List Token) × Stands self.old before toks }
         ensures line { self.new.line ≡ self.old.line }
-        ensures ok { (before : List SolutionLine) (toks : List Token) → Stands self.old before toks → IfOk result (λ _. Went before byte (rest_of self.old toks) self.new) }
-        ensures err { (before : List SolutionLine) (toks : List Token) → Stands self.old before toks → IfErr result (IsToldWord (StopsAt before self.old.line byte (rest_of self.old toks))) }
+        ensures ok { (before : List SolutionLine) (toks : List Token) → Stands self.old before toks
+            → IfOk result (λ _. Went before byte (rest_of self.old toks) self.new) }
+        ensures err { (before : List SolutionLine) (toks : List Token) → Stands self.old before toks
+            → IfErr result (IsToldWord (StopsAt before self.old.line byte (rest_of self.old toks))) }
     {
         match self.place {
             LinePlace::Start => {
@@ -272,8 +290,10 @@ impl SolutionReader {
     /// Ends a line in its word.
     fn end_word(&self) -> Result<(), TextKind>
         requires { IsLineWord self.now.held }
-        ensures ok { (before : List SolutionLine) → Keeps self.now.form before [] → IfOk result (λ _. (solid_line self.now.line true self.now.held ≡ Other) × (has_cost before ≡ true)) }
-        ensures err { (before : List SolutionLine) → Keeps self.now.form before [] → IfErr result (IsToldWord (λ k. line_stop before self.now.line true (solid_line self.now.line true self.now.held) ≡ Some (Fault self.now.line k))) }
+        ensures ok { (before : List SolutionLine) → Keeps self.now.form before []
+            → IfOk result (λ _. (solid_line self.now.line true self.now.held ≡ Other) × (has_cost before ≡ true)) }
+        ensures err { (before : List SolutionLine) → Keeps self.now.form before []
+            → IfErr result (IsToldWord (λ k. line_stop before self.now.line true (solid_line self.now.line true self.now.held) ≡ Some (Fault self.now.line k))) }
     {
         match word_of(self.held.as_slice()) {
             LineWord::Route => self.form.begin_route()?,
@@ -287,8 +307,11 @@ impl SolutionReader {
     pub fn end_line(&mut self) -> Result<(), TextKind>
         requires { (before : List SolutionLine) × (toks : List Token) × Stands self.old before toks }
         ensures line { self.new.line ≡ self.old.line }
-        ensures ok { (before : List SolutionLine) (toks : List Token) → Stands self.old before toks → IfOk result (λ _. HasEnded before self.old.line (rest_of self.old toks [] true) self.new.form) }
-        ensures err { (before : List SolutionLine) (toks : List Token) → Stands self.old before toks → IfErr result (IsToldWord (λ k. line_stop before self.old.line true (rest_of self.old toks [] true) ≡ Some (Fault self.old.line k))) }
+        ensures ok { (before : List SolutionLine) (toks : List Token) → Stands self.old before toks
+            → IfOk result (λ _. HasEnded before self.old.line (rest_of self.old toks [] true) self.new.form) }
+        ensures err { (before : List SolutionLine) (toks : List Token) → Stands self.old before toks
+            → IfErr result (IsToldWord (λ k. line_stop before self.old.line true (rest_of self.old toks [] true)
+            ≡ Some (Fault self.old.line k))) }
     {
         match self.place {
             LinePlace::Start => Ok(()),

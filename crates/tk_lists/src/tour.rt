@@ -64,8 +64,11 @@ impl TourForm {
     }
 
     fn name(&mut self, value: &Scan) -> Result<(), TextKind>
-        ensures ok { (before : List Piece) (v : List ℕ) (n : ℕ) → TourHolds self.old before → Scans value.now v → IfOk result (λ _. TourHolds self.new (before ++ a_header words.Name v n) × (first_at n (tour_header before words.Name v) ≡ None)) }
-        ensures err { (before : List Piece) (v : List ℕ) (n : ℕ) → TourHolds self.old before → Scans value.now v → IfErr result (IsToldWord (λ k. first_at n (tour_header before words.Name v) ≡ Some (Fault n k))) }
+        ensures ok { (before : List Piece) (v : List ℕ) (n : ℕ) → TourHolds self.old before → Scans value.now v
+            → IfOk result (λ _. TourHolds self.new (before ++ a_header words.Name v n)
+            × (first_at n (tour_header before words.Name v) ≡ None)) }
+        ensures err { (before : List Piece) (v : List ℕ) (n : ℕ) → TourHolds self.old before → Scans value.now v
+            → IfErr result (IsToldWord (λ k. first_at n (tour_header before words.Name v) ≡ Some (Fault n k))) }
     {
         if value.trimmed > 1024 {
             return Err(TextKind::TooLong);
@@ -74,8 +77,11 @@ impl TourForm {
     }
 
     fn kind(&mut self, value: &Scan) -> Result<(), TextKind>
-        ensures ok { (before : List Piece) (v : List ℕ) (n : ℕ) → TourHolds self.old before → Scans value.now v → IfOk result (λ _. TourHolds self.new (before ++ a_header words.Type v n) × (first_at n (tour_header before words.Type v) ≡ None)) }
-        ensures err { (before : List Piece) (v : List ℕ) (n : ℕ) → TourHolds self.old before → Scans value.now v → IfErr result (IsToldWord (λ k. first_at n (tour_header before words.Type v) ≡ Some (Fault n k))) }
+        ensures ok { (before : List Piece) (v : List ℕ) (n : ℕ) → TourHolds self.old before → Scans value.now v
+            → IfOk result (λ _. TourHolds self.new (before ++ a_header words.Type v n)
+            × (first_at n (tour_header before words.Type v) ≡ None)) }
+        ensures err { (before : List Piece) (v : List ℕ) (n : ℕ) → TourHolds self.old before → Scans value.now v
+            → IfErr result (IsToldWord (λ k. first_at n (tour_header before words.Type v) ≡ Some (Fault n k))) }
     {
         once(&mut self.seen.kind)?;
         if value.is(b"TOUR") {
@@ -85,8 +91,11 @@ impl TourForm {
     }
 
     fn dimension(&mut self, value: &Scan) -> Result<(), TextKind>
-        ensures ok { (before : List Piece) (v : List ℕ) (n : ℕ) → TourHolds self.old before → Scans value.now v → IfOk result (λ _. TourHolds self.new (before ++ a_header words.Dimension v n) × (first_at n (tour_header before words.Dimension v) ≡ None)) }
-        ensures err { (before : List Piece) (v : List ℕ) (n : ℕ) → TourHolds self.old before → Scans value.now v → IfErr result (IsToldWord (λ k. first_at n (tour_header before words.Dimension v) ≡ Some (Fault n k))) }
+        ensures ok { (before : List Piece) (v : List ℕ) (n : ℕ) → TourHolds self.old before → Scans value.now v
+            → IfOk result (λ _. TourHolds self.new (before ++ a_header words.Dimension v n)
+            × (first_at n (tour_header before words.Dimension v) ≡ None)) }
+        ensures err { (before : List Piece) (v : List ℕ) (n : ℕ) → TourHolds self.old before → Scans value.now v
+            → IfErr result (IsToldWord (λ k. first_at n (tour_header before words.Dimension v) ≡ Some (Fault n k))) }
     {
         once(&mut self.seen.dimension)?;
         value.number(1, 1_000_000)?;
@@ -96,8 +105,10 @@ impl TourForm {
     /// Takes a number of the list.
     fn number(&mut self, number: i64) -> Result<Taken, TextKind>
         ensures seen { self.new.seen ≡ self.old.seen }
-        ensures ok { IfOk result (λ t. (t ≡ takens.More) × (length self.old.cities.items < 1000000) × IsNext number self.old.cities.items self.new.cities.items) }
-        ensures err { IfErr result (IsToldWord (λ k. (k ≡ kinds.OutOfLimit) × IsOut number (length self.old.cities.items))) }
+        ensures ok { IfOk result (λ t. (t ≡ takens.More) × (length self.old.cities.items < 1000000)
+            × IsNext number self.old.cities.items self.new.cities.items) }
+        ensures err { IfErr result (IsToldWord (λ k. (k ≡ kinds.OutOfLimit)
+            × IsOut number (length self.old.cities.items))) }
     {
         let Some(city) = limited(number, 0, u32::MAX) else {
             return Err(TextKind::OutOfLimit);
@@ -185,7 +196,8 @@ impl Form for TourForm {
 /// `Read`, where the source fails, and `NoMemory`.
 pub fn read_tour<R: Source>(alloc: Global, source: &mut R) -> Result<TourText, TextFault>
     ensures ok { IfOk result (λ tour. IsAnswerWhereTold tour_decided text_limit (R.left source.old) (R.left source.new) (Ok tour.cities.items)) }
-    ensures err { IfErr result (IsTold (R.broken source.new ≡ true) (IsAnswerWhereTold tour_decided text_limit (R.left source.old) (R.left source.new))) }
+    ensures err { IfErr result (IsTold (R.broken source.new
+        ≡ true) (IsAnswerWhereTold tour_decided text_limit (R.left source.old) (R.left source.new))) }
     ensures intact { IsIntact (R.broken source.old) (R.broken source.new) result }
 {
     read_text(source, PieceReader::new(TourForm::new(alloc)), TEXT_LIMIT)

@@ -10,14 +10,14 @@ use Rattle.std.proofs.Math.Seq.{take-suc}
 use Rattle.std.proofs.lemmas.List.Elements.{All-cons, All-nil, All-weaker, All-head, All-tail, All-from_get_or}
 use Rattle.std.proofs.lemmas.List.Sorted.{All-permutation, Contains-permutation, IsPermutation-keeps, length_permutation}
 use Rattle.tk_problem.specs.declared.point.Point.{Point}
-use Rattle.tk_metric.specs.declared.keep.Candidate.{Candidate}
-use Rattle.tk_metric.specs.declared.sweep.Placed.{Placed}
+use Rattle.tk_metric.specs.declared.near_lists.keep.Candidate.{Candidate}
+use Rattle.tk_metric.specs.declared.near_lists.sweep.Placed.{Placed}
 use Rattle.tk_metric.specs.Cities.{IsCity}
 use Rattle.tk_metric.specs.Near.{IsNear}
 use Rattle.tk_metric.specs.Keeping.{Climbing, insert_by, with_candidate, rank, candidate, open_place, cities_of, KeepsFirst}
 use Rattle.tk_metric.specs.Sweep.{IsPlaced, IsXOrder, IsAt, city_at, nowhere}
-use Rattle.tk_metric.specs.declared.tree.Frame.{Frame}
-use Rattle.tk_metric.specs.declared.tree.Tree.{Tree}
+use Rattle.tk_metric.specs.declared.near_lists.tree.Frame.{Frame}
+use Rattle.tk_metric.specs.declared.near_lists.tree.Tree.{Tree}
 use Rattle.tk_metric.specs.Tree.{IsPast, IsOut, IsRow, IsWithin, IsBeyond, entries_of, parts_of, with_city, with_cities}
 use Rattle.tk_metric.proofs.OneEach.{OneEach, OneEach-swap}
 use Rattle.tk_metric.proofs.Inserting.{take-insert_by, length-insert_by, IsPermutation-insert_by, Climbing-take, insert_by-full}

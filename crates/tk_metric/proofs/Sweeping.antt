@@ -7,8 +7,8 @@ use Rattle.std.proofs.lemmas.Int.{ints}
 use Rattle.std.proofs.lemmas.Bool.{cases_lt, cases_eq}
 use Rattle.std.proofs.lemmas.List.{get_or-take, length-take-le}
 use Rattle.tk_problem.specs.declared.point.Point.{Point}
-use Rattle.tk_metric.specs.declared.keep.Candidate.{Candidate}
-use Rattle.tk_metric.specs.declared.sweep.Placed.{Placed}
+use Rattle.tk_metric.specs.declared.near_lists.keep.Candidate.{Candidate}
+use Rattle.tk_metric.specs.declared.near_lists.sweep.Placed.{Placed}
 use Rattle.tk_metric.specs.Cities.{IsCity}
 use Rattle.tk_metric.specs.Near.{IsNear}
 use Rattle.tk_metric.specs.Keeping.{Climbing, insert_by, rank, candidate, open_place, cities_of, KeepsFirst}

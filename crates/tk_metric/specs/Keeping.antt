@@ -1,6 +1,6 @@
 -- The candidates of a city, kept in order.
 use Rattle.std.specs.Prelude.{◌≡◌, ℕ, ◌+◌, ◌*◌, ◌<◌, ◌≤◌, List, [], ◌∷◌, ◌++◌, length, take, drop, replicate, map, nat_lt, if◌then◌else◌, All, Contains, ⊤}
-use Rattle.tk_metric.specs.declared.keep.Candidate.{Candidate}
+use Rattle.tk_metric.specs.declared.near_lists.keep.Candidate.{Candidate}
 use Rattle.tk_metric.specs.Cities.{IsCity}
 use Rattle.tk_metric.specs.Near.{IsNear, block}
 

@@ -3,8 +3,8 @@ use Rattle.std.specs.Prelude.{◌≡◌, ◌≢◌, ℕ, ◌-ℤ◌, ◌≤ℤ�
 use Rattle.std.specs.Int.RustNames.{unsigned_abs}
 use Rattle.tk_problem.specs.declared.point.Point.{Point}
 use Rattle.tk_problem.specs.Places.{origin}
-use Rattle.tk_metric.specs.declared.keep.Candidate.{Candidate}
-use Rattle.tk_metric.specs.declared.sweep.Placed.{Placed}
+use Rattle.tk_metric.specs.declared.near_lists.keep.Candidate.{Candidate}
+use Rattle.tk_metric.specs.declared.near_lists.sweep.Placed.{Placed}
 use Rattle.tk_metric.specs.Cities.{IsCity}
 use Rattle.tk_metric.specs.Keeping.{KeepsFirst, open_place, rank}
 

@@ -1,10 +1,10 @@
 -- A tree of parts of the cities, and what is kept of them.
 use Rattle.std.specs.Prelude.{◌≡◌, ◌≢◌, ℕ, ◌≤ℤ◌, ◌+◌, ◌*◌, ◌-◌, ◌<◌, ◌≤◌, ◌⊎◌, ◌==◌, if◌then◌else◌, List, [], ◌∷◌, ◌++◌, length, slice_index_or, All, ⊤}
 use Rattle.tk_problem.specs.declared.point.Point.{Point}
-use Rattle.tk_metric.specs.declared.keep.Candidate.{Candidate}
-use Rattle.tk_metric.specs.declared.sweep.Placed.{Placed}
-use Rattle.tk_metric.specs.declared.tree.Frame.{Frame}
-use Rattle.tk_metric.specs.declared.tree.Tree.{Tree, Leaf, Cut'}
+use Rattle.tk_metric.specs.declared.near_lists.keep.Candidate.{Candidate}
+use Rattle.tk_metric.specs.declared.near_lists.sweep.Placed.{Placed}
+use Rattle.tk_metric.specs.declared.near_lists.tree.Frame.{Frame}
+use Rattle.tk_metric.specs.declared.near_lists.tree.Tree.{Tree, Leaf, Cut'}
 use Rattle.tk_metric.specs.Cities.{IsCity}
 use Rattle.tk_metric.specs.Keeping.{candidate, with_candidate, open_place, rank}
 use Rattle.tk_metric.specs.Sweep.{IsPlaced, city_at, x_gap, y_gap}

@@ -1,37 +1,27 @@
 //! Distances and near lists.
 #![tactic(auto)]
 
+mod exact;
 #[cfg(test)]
 mod examples;
-mod fine;
-mod guess;
-mod keep;
-mod lines;
 mod metric;
-mod near;
-#[cfg(test)]
-mod near_tests;
+mod near_lists;
 mod planes;
-mod roots;
-mod short;
 mod sub;
-mod sweep;
 mod table;
 #[cfg(test)]
 mod tests;
-mod tree;
 mod triangle;
 mod turned;
-mod whole;
 
-pub use keep::{Candidate, measure};
+pub use exact::roots::{root, root_up};
 pub use metric::{Metric, Planar};
-pub use near::{Near, near_lists_agree, near_scan};
+pub use near_lists::keep::{Candidate, measure};
+pub use near_lists::near::{Near, near_lists_agree, near_scan};
+pub use near_lists::sweep::{Placed, near_sweep, order_by_x};
+pub use near_lists::tree::near_tree;
 pub use planes::Planes;
-pub use roots::{root, root_up};
 pub use sub::Sub;
-pub use sweep::{Placed, near_sweep, order_by_x};
 pub use table::Table;
-pub use tree::near_tree;
 pub use triangle::Triangle;
 pub use turned::{Turned, is_tall};

@@ -68,7 +68,9 @@ pub trait Planar: Metric {
 
     ghost floor_rises: { (m : Self) (s t : ℕ) → s ≤ t → t ≤ 2000000000000000000 → floor m s ≤ floor m t };
 
-    ghost floor_bounds: { (m : Self) (a b : ℕ) → floor m (unsigned_abs ((place_of m a).x -ℤ (place_of m b).x)) ≤ Self.distance m a b };
+    ghost floor_bounds: { (m : Self) (a b : ℕ)
+        → floor m (unsigned_abs ((place_of m a).x -ℤ (place_of m b).x)) ≤ Self.distance m a b };
 
-    ghost floor_bounds_y: { (m : Self) (a b : ℕ) → floor m (unsigned_abs ((place_of m a).y -ℤ (place_of m b).y)) ≤ Self.distance m a b };
+    ghost floor_bounds_y: { (m : Self) (a b : ℕ)
+        → floor m (unsigned_abs ((place_of m a).y -ℤ (place_of m b).y)) ≤ Self.distance m a b };
 }

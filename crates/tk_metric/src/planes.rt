@@ -3,9 +3,9 @@ ghost use Rattle.std.specs.Prelude.{◌≡◌, ℕ, ◌≤◌, ◌<◌, ◌<ℤ�
 ghost use Rattle.tk_problem.specs.Places.{IsNearOrigin};
 ghost use Rattle.tk_problem.specs.PlacesOf.{places_of};
 
-use crate::fine::{fine_between, floor_distance};
+use crate::exact::fine::{fine_between, floor_distance};
+use crate::exact::whole::{is_whole_nearer, whole_between};
 use crate::metric::{Metric, Planar};
-use crate::whole::{is_whole_nearer, whole_between};
 use tk_problem::{Places, PlaneKind, Point, Points};
 
 /// The distances of a plane type among the places of a list, whose cities are numbered from 1 in its order.

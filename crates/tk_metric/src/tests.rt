@@ -1,8 +1,10 @@
 //! Known distances, and how often a guess is right.
 ghost use Rattle.std.specs.Prelude.{◌<◌, ◌≤◌};
 
-use crate::guess::{PER_UNIT, PER_UNIT_AND_ROOT_OF_TEN, near_root, near_scaled_root, rounded};
-use crate::short::{SHORT, short_root};
+use crate::exact::guess::{
+    PER_UNIT, PER_UNIT_AND_ROOT_OF_TEN, near_root, near_scaled_root, rounded,
+};
+use crate::exact::short::{SHORT, short_root};
 use crate::{Metric, Planar, Planes, Sub, Table, Triangle, root, root_up};
 use std::alloc::{AllocError, Global};
 use std::test::Fail;

@@ -4,7 +4,7 @@ use Rattle.std.proofs.lemmas.Bool.{eqb-true, ne_eqb}
 use Rattle.std.proofs.lemmas.List.{append-nil, length-append}
 use Rattle.tk_lines.proofs.MiddleOfLine.{prepend-nil}
 use Rattle.tk_lines.proofs.LineSteps.{line_behind-byte, line_behind-LF}
-use Rattle.tk_lines.proofs.ByteRuns.{behind-all, behind-on}
+use Rattle.tk_lines.proofs.Headers.ByteRuns.{behind-all, behind-on}
 use Rattle.tk_lines.specs.Scan.{IsEmpty}
 use Rattle.tk_words.specs.Drive.{Decides}
 use Rattle.tk_words.specs.Lex.{is_blank, is_word_byte, behind, lines}

@@ -3,10 +3,10 @@ use Rattle.std.proofs.Common.{◌≡◌, ℕ, suc, ◌-◌, ◌<◌, ◌≤◌, 
 use Rattle.std.proofs.lemmas.Bool.{eqb-true, ltb-true, ltb-false, lt-ltb, le-ltb, le-leb, and_parts, and_from, and_left, or_right, false_from_ne_true, cond-true, cond-false}
 use Rattle.std.proofs.lemmas.List.{append-nil, length-append}
 use Rattle.std.specs.Char.{to_ascii_uppercase}
-use Rattle.tk_lines.proofs.SectionEnds.{first_line}
+use Rattle.tk_lines.proofs.Sections.SectionEnds.{first_line}
 use Rattle.tk_lines.proofs.Lines.{begins_no, behind_none}
 use Rattle.tk_lines.proofs.MiddleOfLine.{prepend-nil, prepend-onto, lines-byte, lines-LF, lines_cons}
-use Rattle.tk_lines.proofs.ByteRuns.{behind-all, behind-on, front-all, front-on, front-whole}
+use Rattle.tk_lines.proofs.Headers.ByteRuns.{behind-all, behind-on, front-all, front-on, front-whole}
 use Rattle.tk_words.specs.Lex.{LF, Line, is_letter, is_blank, is_word_byte, is_empty, front, behind, lines}
 use Rattle.tk_lines.specs.Pieces.{prepend}
 use Rattle.tk_lines.specs.Scan.{IsEmpty}

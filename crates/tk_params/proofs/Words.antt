@@ -1,7 +1,7 @@
 -- Where a run of bytes ends.
 use Rattle.std.proofs.Common.{◌≡◌, ℕ, ◌+◌, ◌-◌, ◌<◌, ◌≤◌, Bool, true, false, List, [], ◌∷◌, ◌++◌, length, get_or, take, drop, refl, sym, ap, ◌∙◌, arith}
 use Rattle.std.proofs.lemmas.List.{append-nil, drop_more, length-drop, take-append-drop, take_more}
-use Rattle.tk_lines.proofs.ByteRuns.{behind-all, front-all, front-whole, trim_end-blank, trim_end-solid}
+use Rattle.tk_lines.proofs.Headers.ByteRuns.{behind-all, front-all, front-whole, trim_end-blank, trim_end-solid}
 use Rattle.tk_words.specs.Lex.{front, behind, is_blank, trim_end}
 
 take_length : (xs : List ℕ) → take (length xs) xs ≡ xs

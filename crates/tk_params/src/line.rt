@@ -90,7 +90,8 @@ fn take_key(alloc: Global, params: &mut Params, key: Key, value: &[u8]) -> Resul
 #[tactic(auto, unfolding(crate::specs::Values::words_mean))]
 fn take_words(alloc: Global, params: &mut Params, word: &[u8], rest: &[u8]) -> Result<(), ParamKind>
     ensures ok { OnOk result (HasTaken params.old params.new (Values.words_mean params.old.settings word.now rest.now)) }
-    ensures err { IfErr result (IsToldOf (λ k. Values.words_mean params.old.settings word.now rest.now ≡ Values.Faulty k)) }
+    ensures err { IfErr result (IsToldOf (λ k. Values.words_mean params.old.settings word.now rest.now
+        ≡ Values.Faulty k)) }
 {
     if word.len() > KEY_LIMIT {
         return Err(ParamKind::TooLong);

@@ -46,7 +46,8 @@ impl Params {
     pub(crate) fn set(&mut self, key: Key, setting: Setting) -> Result<(), AllocError>
         requires { Values.has key self.old.settings ≡ false }
         ensures settings { OnOk result (self.new.settings ≡ self.old.settings ++ (key, value_is setting) ∷ []) }
-        ensures ignored { OnOk result (self.new.ignored ≡ (if Values.is_ignored (value_is setting) then self.old.ignored ++ key ∷ [] else self.old.ignored)) }
+        ensures ignored { OnOk result (self.new.ignored
+            ≡ (if Values.is_ignored (value_is setting) then self.old.ignored ++ key ∷ [] else self.old.ignored)) }
     {
         let unused = setting.is_ignored();
         match self.settings.insert(key, setting) {

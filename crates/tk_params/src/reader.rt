@@ -36,7 +36,8 @@ pub struct ParamReader {
 
 /// Takes a byte behind those of a line that are held without the blanks at their front.
 fn hold(held: &mut Vec<u8>, byte: u8) -> Result<(), AllocError>
-    ensures { (pre : List ℕ) → held.old.items ≡ behind is_blank pre → OnOk result (held.new.items ≡ behind is_blank (pre ++ byte ∷ [])) }
+    ensures { (pre : List ℕ) → held.old.items ≡ behind is_blank pre
+        → OnOk result (held.new.items ≡ behind is_blank (pre ++ byte ∷ [])) }
 {
     if !held.as_slice().is_empty() {
         held.push(byte)?;
@@ -104,7 +105,8 @@ impl ParamReader {
     /// Takes the end of a line.
     fn end_line(&mut self) -> Result<Step, TextFault>
         requires { (bs : List ℕ) × Feeds self.old bs × (length bs < 2 ^ 63) × (is_eof self.old.held.items ≡ false) }
-        ensures ok { (bs : List ℕ) → Feeds self.old bs → is_eof self.old.held.items ≡ false → IfOk result (FedMore Text.params_decided (Feeds self.new) (answer_in self.new) (bs ++ 10 ∷ [])) }
+        ensures ok { (bs : List ℕ) → Feeds self.old bs → is_eof self.old.held.items ≡ false
+            → IfOk result (FedMore Text.params_decided (Feeds self.new) (answer_in self.new) (bs ++ 10 ∷ [])) }
         ensures err { IfErr result (λ f. f.kind ≡ kinds.NoMemory) }
     {
         match self.take_held()? {
@@ -123,7 +125,8 @@ impl ParamReader {
         requires line { byte ≢ 10 }
         requires end { is_eof self.old.held.items ≡ true → is_word_byte byte ≡ true }
         requires known { (bs : List ℕ) × Feeds self.old bs }
-        ensures ok { (bs : List ℕ) → Feeds self.old bs → IfOk result (FedMore Text.params_decided (Feeds self.new) (answer_in self.new) (bs ++ byte ∷ [])) }
+        ensures ok { (bs : List ℕ) → Feeds self.old bs
+            → IfOk result (FedMore Text.params_decided (Feeds self.new) (answer_in self.new) (bs ++ byte ∷ [])) }
         ensures err { IfErr result (λ f. f.kind ≡ kinds.NoMemory) }
     {
         if self.count == LINE_LIMIT {
@@ -230,7 +233,8 @@ fn fault_of(fault: TextFault) -> ParamFault
 /// The first fault of the text by line; `Read` where the source fails; `NoMemory` where a growth is refused.
 pub fn read_params<R: Source>(alloc: Global, source: &mut R) -> Result<Params, ParamFault>
     ensures ok { IfOk result (λ p. IsParamAnswerWhereTold (R.left source.old) (R.left source.new) (Ok p)) }
-    ensures err { IfErr result (IsParamTold (R.broken source.new ≡ true) (IsParamAnswerWhereTold (R.left source.old) (R.left source.new))) }
+    ensures err { IfErr result (IsParamTold (R.broken source.new
+        ≡ true) (IsParamAnswerWhereTold (R.left source.old) (R.left source.new))) }
     ensures intact { IsParamIntact (R.broken source.old) (R.broken source.new) result }
 {
     match read_text(source, ParamReader::new(alloc), PARAMS_LIMIT) {

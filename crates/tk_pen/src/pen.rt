@@ -78,7 +78,8 @@ fn send_last<W: Sink>(
     requires page { length page.now ≤ 8192 }
     ensures { (start : Option (List ℕ)) (failed : Bool) (text : List ℕ)
         → IsPut W.taken W.broken start failed text sink.old written stopped page.now
-        → MatchResult result (λ _. Appends start (W.taken sink.new) text × (W.broken sink.new ≡ failed)) (λ f. Stops W.taken W.broken start text sink.new f) }
+        → MatchResult result (λ _. Appends start (W.taken sink.new) text
+        × (W.broken sink.new ≡ failed)) (λ f. Stops W.taken W.broken start text sink.new f) }
 {
     let (written, stopped) = send(sink, written, stopped, page);
     if stopped {

@@ -23,7 +23,8 @@ impl Model for LowerWeights {
 
     ghost view = { λ s. record { places = s.places; weights = s.weights.items } };
 
-    ghost invariant = { λ s. All (λ p. p.row ≢ p.column → Order.lower_index p < length s.weights.items) s.places × All (λ w. w ≤ 4000000000) s.weights.items };
+    ghost invariant = { λ s. All (λ p. p.row ≢ p.column → Order.lower_index p < length s.weights.items) s.places
+        × All (λ w. w ≤ 4000000000) s.weights.items };
 }
 
 impl LowerWeights {
@@ -58,7 +59,8 @@ impl LowerWeights {
         requires more { 0 < length self.now.places }
         requires pair { IfSome (slice_get self.now.places 0) (λ p. p.row ≢ p.column) }
         ensures { (f : Format) (n : ℕ) (ws : List ℕ) → IsSoFar self.now f n ws
-            → IfSome (slice_get self.now.places 0) (λ p. result ≡ Order.weight_of p.row p.column (Order.entries f n ws)) }
+            → IfSome (slice_get self.now.places 0)
+            (λ p. result ≡ Order.weight_of p.row p.column (Order.entries f n ws)) }
     {
         self.weights[self.places.place().lower_index()]
     }
@@ -68,7 +70,8 @@ impl LowerWeights {
         requires more { 0 < length self.old.places }
         requires pair { IfSome (slice_get self.old.places 0) (λ p. p.row ≢ p.column) }
         requires limit { weight ≤ 4000000000 }
-        ensures { (f : Format) (n : ℕ) (ws : List ℕ) → IsSoFar self.old f n ws → IsSoFar self.new f n (ws ++ weight ∷ []) }
+        ensures { (f : Format) (n : ℕ) (ws : List ℕ) → IsSoFar self.old f n ws
+            → IsSoFar self.new f n (ws ++ weight ∷ []) }
     {
         let index = self.places.place().lower_index();
         self.weights[index] = weight;
@@ -79,7 +82,8 @@ impl LowerWeights {
     pub fn skip(&mut self)
         requires more { 0 < length self.old.places }
         requires diagonal { IfSome (slice_get self.old.places 0) (λ p. p.row ≡ p.column) }
-        ensures { (f : Format) (n : ℕ) (ws : List ℕ) (w : ℕ) → IsSoFar self.old f n ws → IsSoFar self.new f n (ws ++ w ∷ []) }
+        ensures { (f : Format) (n : ℕ) (ws : List ℕ) (w : ℕ) → IsSoFar self.old f n ws
+            → IsSoFar self.new f n (ws ++ w ∷ []) }
     {
         // What stands on the diagonal is not kept.
         self.places.advance();
@@ -89,7 +93,8 @@ impl LowerWeights {
     pub fn into_weights(self) -> Vec<u32>
         ensures value { result.items ≡ self.weights }
         ensures limit { All (λ w. w ≤ 4000000000) result.items }
-        ensures count { (f : Format) (n : ℕ) (ws : List ℕ) → IsSoFar self f n ws → length result.items ≡ n * (n - 1) / 2 }
+        ensures count { (f : Format) (n : ℕ) (ws : List ℕ) → IsSoFar self f n ws
+            → length result.items ≡ n * (n - 1) / 2 }
     {
         let LowerWeights { places: _, weights } = self;
         weights

@@ -63,7 +63,8 @@ impl Model for WeightCursor {
 
     ghost view = { λ s. Lines.places_from s.format s.n s.line s.item s.end };
 
-    ghost invariant = { λ s. (s.n < 2 ^ 32 - 1) × (s.line ≤ s.n) × (s.end ≤ s.n) × (s.end ≤ s.item → Lines.lines s.format s.n (s.line + 1) (s.n - (s.line + 1)) ≡ []) };
+    ghost invariant = { λ s. (s.n < 2 ^ 32 - 1) × (s.line ≤ s.n) × (s.end ≤ s.n)
+        × (s.end ≤ s.item → Lines.lines s.format s.n (s.line + 1) (s.n - (s.line + 1)) ≡ []) };
 }
 
 impl WeightCursor {
@@ -72,7 +73,8 @@ impl WeightCursor {
         requires { n < 2 ^ 32 - 1 }
         ensures places { result ≡ Order.order format n }
         ensures count { length result ≡ Order.entry_count format n }
-        ensures pairs { (i : ℕ) (j : ℕ) → j < i → i < n → count_by (Order.is_of i j) result ≡ Order.times_written format }
+        ensures pairs { (i : ℕ) (j : ℕ) → j < i → i < n
+            → count_by (Order.is_of i j) result ≡ Order.times_written format }
     {
         match next_line(format, n, 0) {
             Some(line) => WeightCursor {

@@ -27,8 +27,8 @@ use Rattle.tk_problem_text.specs.OpenSections.{HasDepotTokens}
 use Rattle.tk_problem_text.specs.Problem.{problem_format, size_of, word_tests}
 use Rattle.tk_sections.proofs.FixedSections.{IsReady, stop_at, stop_at_long, stop_at_open}
 use Rattle.tk_sections.proofs.DepotTaken.{has_none}
-use Rattle.tk_lines.proofs.ListTokens.{long_goes, open_goes}
-use Rattle.tk_lines.proofs.ToldFaults.{told_word}
+use Rattle.tk_lines.proofs.Sections.ListTokens.{long_goes, open_goes}
+use Rattle.tk_lines.proofs.Pieces.ToldFaults.{told_word}
 
 neither : (a b : Bool) → (a || b) ≡ false → (a ≡ false) × (b ≡ false)
 neither true b h = absurd cc

@@ -15,7 +15,7 @@ use Rattle.tk_lines.specs.Pieces.{Piece, After, has}
 use Rattle.tk_lines.specs.Forms.{a_header, a_section}
 use Rattle.tk_problem_text.specs.Kept.{Keeps}
 use Rattle.tk_problem_text.specs.Headers.{HasHeaders}
-use Rattle.tk_lines.proofs.PieceValues.{value_of-other, value_of-section, value_of-new, value_of-none}
+use Rattle.tk_lines.proofs.Pieces.PieceValues.{value_of-other, value_of-section, value_of-new, value_of-none}
 use Rattle.tk_problem_text.proofs.KeptHeaders.{has_other, has_past, keeps_other, keeps_section, noted}
 
 module _ (h : Headers) (ps : List Piece) (v : List ℕ) (n : ℕ) (k : HasHeaders h ps) where

@@ -14,7 +14,7 @@ use Rattle.tk_words.specs.declared.fault.TextKind.TheVariants as kinds
 use Rattle.tk_lines.specs.Scan.{first_word}
 use Rattle.tk_words.specs.Entry.{number_tests, IsNumber}
 use Rattle.tk_problem_text.specs.HeaderValues.{number_of}
-use Rattle.tk_lines.proofs.PieceValues.{has-header, has-section, value_of-other, value_of-section, value_of-new}
+use Rattle.tk_lines.proofs.Pieces.PieceValues.{has-header, has-section, value_of-other, value_of-section, value_of-new}
 
 or_false : (a : Bool) → (a || false) ≡ a
 or_false true = refl

@@ -15,8 +15,8 @@ use Rattle.tk_problem_text.specs.Headers.{HasHeaders}
 use Rattle.tk_problem_text.specs.Parts.{HasParts, KeepsValue, HasNoSection}
 use Rattle.tk_problem_text.specs.Problem.{problem_header, size_of, format_in, points_of, lower_of, demands_of, depot_of}
 use Rattle.tk_problem_text.specs.HeaderValues.{number_of}
-use Rattle.tk_lines.proofs.PieceLookups.{tokens_in-header}
-use Rattle.tk_lines.proofs.PieceValues.{value_of-other}
+use Rattle.tk_lines.proofs.Pieces.PieceLookups.{tokens_in-header}
+use Rattle.tk_lines.proofs.Pieces.PieceValues.{value_of-other}
 use Rattle.tk_problem_text.proofs.KeptHeaders.{has_other}
 
 -- a header's word that is none of those on which sections rest

@@ -19,8 +19,8 @@ use Rattle.std.specs.declared.alloc.Global.{Global}
 use Rattle.tk_sections.specs.Rows.{places_of, number_in}
 use Rattle.tk_sections.specs.Rows as Rows
 use Rattle.tk_sections.specs.WeightSection.{lower_weights}
-use Rattle.tk_lines.proofs.PieceLookups.{tokens_in-new}
-use Rattle.tk_lines.proofs.PieceValues.{has-section, value_of-section, tokens_in-append}
+use Rattle.tk_lines.proofs.Pieces.PieceLookups.{tokens_in-new}
+use Rattle.tk_lines.proofs.Pieces.PieceValues.{has-section, value_of-section, tokens_in-append}
 use Rattle.tk_problem_text.proofs.KeptHeaders.{has_past}
 use Rattle.tk_problem_text.proofs.HeaderRecords.{past_section}
 

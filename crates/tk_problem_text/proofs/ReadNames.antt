@@ -19,7 +19,7 @@ use Rattle.tk_problem_text.specs.Problem.{ProblemIs, problem_decided, problem_fo
 use Rattle.tk_problem_text.specs.Names.{IsName}
 use Rattle.tk_words.specs.Words.{keyword_of, role}
 use Rattle.tk_lines.proofs.Lines.{begins_no, behind_none, OnOneLine}
-use Rattle.tk_lines.proofs.PieceValues.{value_of-append, value_of-unseen}
+use Rattle.tk_lines.proofs.Pieces.PieceValues.{value_of-append, value_of-unseen}
 
 -- ---- a trimmed text is trimmed
 

@@ -22,7 +22,8 @@ pub const TABLE_LIMIT: u32 = 5_000;
 /// The section of a word, behind these parts.
 pub fn begin(alloc: Global, parts: &Parts, word: Keyword) -> Result<OpenSection, TextKind>
     ensures ok { (before : List Piece) (n : ℕ) → HasParts parts.now before → IfOk result (IsBegun before word n) }
-    ensures err { (before : List Piece) (n : ℕ) → HasParts parts.now before → IfErr result (IsToldWord (λ k. first_at n (word_tests before word) ≡ Some (Fault n k))) }
+    ensures err { (before : List Piece) (n : ℕ) → HasParts parts.now before
+        → IfErr result (IsToldWord (λ k. first_at n (word_tests before word) ≡ Some (Fault n k))) }
 {
     let Some(came) = came(parts, word) else {
         return Err(TextKind::Unsupported);
@@ -61,8 +62,12 @@ fn begin_known(
     problem_type: ProblemType,
     size: u32,
 ) -> Result<OpenSection, TextKind>
-    ensures ok { (before : List Piece) → HasParts parts.now before → parts.now.headers.problem_type ≡ Some problem_type → size_of before ≡ size → size ≤ 100000 → is_known_section word ≡ true → IfOk result (IsReady before word) }
-    ensures err { (before : List Piece) (n : ℕ) → HasParts parts.now before → parts.now.headers.problem_type ≡ Some problem_type → size_of before ≡ size → IfErr result (IsToldWord (λ k. first_at n (section_tests before word) ≡ Some (Fault n k))) }
+    ensures ok { (before : List Piece) → HasParts parts.now before
+        → parts.now.headers.problem_type ≡ Some problem_type → size_of before ≡ size → size ≤ 100000
+        → is_known_section word ≡ true → IfOk result (IsReady before word) }
+    ensures err { (before : List Piece) (n : ℕ) → HasParts parts.now before
+        → parts.now.headers.problem_type ≡ Some problem_type → size_of before ≡ size
+        → IfErr result (IsToldWord (λ k. first_at n (section_tests before word) ≡ Some (Fault n k))) }
 {
     match word {
         Keyword::NodeCoordSection => begin_places(alloc, size),
@@ -81,8 +86,10 @@ fn begin_places(alloc: Global, size: u32) -> Result<OpenSection, TextKind>
 }
 
 fn begin_loads(alloc: Global, problem_type: ProblemType, size: u32) -> Result<OpenSection, TextKind>
-    ensures ok { (before : List Piece) → problem_type_in before ≡ Some problem_type → size_of before ≡ size → IfOk result (IsReady before words.DemandSection) }
-    ensures err { (before : List Piece) (n : ℕ) → problem_type_in before ≡ Some problem_type → size_of before ≡ size → IfErr result (IsToldWord (λ k. first_at n (section_tests before words.DemandSection) ≡ Some (Fault n k))) }
+    ensures ok { (before : List Piece) → problem_type_in before ≡ Some problem_type → size_of before ≡ size
+        → IfOk result (IsReady before words.DemandSection) }
+    ensures err { (before : List Piece) (n : ℕ) → problem_type_in before ≡ Some problem_type → size_of before ≡ size
+        → IfErr result (IsToldWord (λ k. first_at n (section_tests before words.DemandSection) ≡ Some (Fault n k))) }
 {
     if problem_type == ProblemType::Tsp {
         return Err(TextKind::Unsupported);
@@ -94,8 +101,10 @@ fn begin_loads(alloc: Global, problem_type: ProblemType, size: u32) -> Result<Op
 }
 
 fn begin_depot(problem_type: ProblemType, size: u32) -> Result<OpenSection, TextKind>
-    ensures ok { (before : List Piece) → problem_type_in before ≡ Some problem_type → size_of before ≡ size → IfOk result (IsReady before words.DepotSection) }
-    ensures err { (before : List Piece) (n : ℕ) → problem_type_in before ≡ Some problem_type → IfErr result (IsToldWord (λ k. first_at n (section_tests before words.DepotSection) ≡ Some (Fault n k))) }
+    ensures ok { (before : List Piece) → problem_type_in before ≡ Some problem_type → size_of before ≡ size
+        → IfOk result (IsReady before words.DepotSection) }
+    ensures err { (before : List Piece) (n : ℕ) → problem_type_in before ≡ Some problem_type
+        → IfErr result (IsToldWord (λ k. first_at n (section_tests before words.DepotSection) ≡ Some (Fault n k))) }
 {
     if problem_type == ProblemType::Tsp {
         return Err(TextKind::Unsupported);
@@ -104,8 +113,11 @@ fn begin_depot(problem_type: ProblemType, size: u32) -> Result<OpenSection, Text
 }
 
 fn begin_weights(alloc: Global, parts: &Parts, size: u32) -> Result<OpenSection, TextKind>
-    ensures ok { (before : List Piece) → HasParts parts.now before → size_of before ≡ size → IfOk result (IsReady before words.EdgeWeightSection) }
-    ensures err { (before : List Piece) (n : ℕ) → HasParts parts.now before → size_of before ≡ size → IfErr result (IsToldWord (λ k. first_at n (section_tests before words.EdgeWeightSection) ≡ Some (Fault n k))) }
+    ensures ok { (before : List Piece) → HasParts parts.now before → size_of before ≡ size
+        → IfOk result (IsReady before words.EdgeWeightSection) }
+    ensures err { (before : List Piece) (n : ℕ) → HasParts parts.now before → size_of before ≡ size
+        → IfErr result (IsToldWord (λ k. first_at n (section_tests before words.EdgeWeightSection)
+        ≡ Some (Fault n k))) }
 {
     let Some(weight_type) = parts.headers.weight_type else {
         return Err(TextKind::Missing(Keyword::EdgeWeightType));

@@ -38,8 +38,14 @@ pub struct Headers {
 
 /// Keeps what a header says, which may come once.
 fn keep<A: Copy>(kept: &mut Option<A>, said: Result<A, TextKind>) -> Result<(), TextKind>
-    ensures ok { (word : Keyword) (f : List ℕ → Option A) (tests : List (Bool × TextKind)) (ps : List Piece) (v : List ℕ) (n : ℕ) → same_word word word ≡ true → Keeps word f kept.old ps → Says f tests v said → IfOk result (λ _. Keeps word f kept.new (ps ++ a_header word v n) × (first_at n (once word ps tests) ≡ None)) }
-    ensures err { (word : Keyword) (f : List ℕ → Option A) (tests : List (Bool × TextKind)) (ps : List Piece) (v : List ℕ) (n : ℕ) → Keeps word f kept.old ps → Says f tests v said → IfErr result (IsToldWord (λ k. first_at n (once word ps tests) ≡ Some (Fault n k))) }
+    ensures ok { (word : Keyword) (f : List ℕ
+        → Option A) (tests : List (Bool × TextKind)) (ps : List Piece) (v : List ℕ) (n : ℕ)
+        → same_word word word ≡ true → Keeps word f kept.old ps → Says f tests v said
+        → IfOk result (λ _. Keeps word f kept.new (ps ++ a_header word v n)
+        × (first_at n (once word ps tests) ≡ None)) }
+    ensures err { (word : Keyword) (f : List ℕ
+        → Option A) (tests : List (Bool × TextKind)) (ps : List Piece) (v : List ℕ) (n : ℕ) → Keeps word f kept.old ps
+        → Says f tests v said → IfErr result (IsToldWord (λ k. first_at n (once word ps tests) ≡ Some (Fault n k))) }
 {
     if kept.is_some() {
         return Err(TextKind::Repeated);
@@ -50,8 +56,11 @@ fn keep<A: Copy>(kept: &mut Option<A>, said: Result<A, TextKind>) -> Result<(), 
 
 /// Notes a header, which may come once.
 fn note(came: &mut bool) -> Result<(), TextKind>
-    ensures ok { (word : Keyword) (ps : List Piece) (v : List ℕ) (n : ℕ) → same_word word word ≡ true → came.old ≡ has word ps → IfOk result (λ _. (came.new ≡ has word (ps ++ a_header word v n)) × (has word ps ≡ false)) }
-    ensures err { (word : Keyword) (ps : List Piece) → came.old ≡ has word ps → IfErr result (λ k. (k ≡ TextKind.Repeated) × (has word ps ≡ true)) }
+    ensures ok { (word : Keyword) (ps : List Piece) (v : List ℕ) (n : ℕ) → same_word word word ≡ true
+        → came.old ≡ has word ps → IfOk result (λ _. (came.new ≡ has word (ps ++ a_header word v n))
+        × (has word ps ≡ false)) }
+    ensures err { (word : Keyword) (ps : List Piece) → came.old ≡ has word ps
+        → IfErr result (λ k. (k ≡ TextKind.Repeated) × (has word ps ≡ true)) }
 {
     if *came {
         return Err(TextKind::Repeated);
@@ -83,8 +92,11 @@ impl Headers {
 
     /// Takes a header.
     pub fn take(&mut self, alloc: Global, word: Keyword, value: &Scan) -> Result<(), TextKind>
-        ensures ok { (ps : List Piece) (v : List ℕ) (n : ℕ) → HasHeaders self.old ps → Scans value.now v → IfOk result (λ _. HasHeaders self.new (ps ++ a_header word v n) × (first_at n (problem_header ps word v) ≡ None)) }
-        ensures err { (ps : List Piece) (v : List ℕ) (n : ℕ) → HasHeaders self.old ps → Scans value.now v → IfErr result (IsToldWord (λ k. first_at n (problem_header ps word v) ≡ Some (Fault n k))) }
+        ensures ok { (ps : List Piece) (v : List ℕ) (n : ℕ) → HasHeaders self.old ps → Scans value.now v
+            → IfOk result (λ _. HasHeaders self.new (ps ++ a_header word v n)
+            × (first_at n (problem_header ps word v) ≡ None)) }
+        ensures err { (ps : List Piece) (v : List ℕ) (n : ℕ) → HasHeaders self.old ps → Scans value.now v
+            → IfErr result (IsToldWord (λ k. first_at n (problem_header ps word v) ≡ Some (Fault n k))) }
     {
         match word {
             Keyword::Name => self.take_name(alloc, value),
@@ -118,8 +130,11 @@ impl Headers {
 
     /// Takes the name.
     fn take_name(&mut self, alloc: Global, value: &Scan) -> Result<(), TextKind>
-        ensures ok { (ps : List Piece) (v : List ℕ) (n : ℕ) → HasHeaders self.old ps → Scans value.now v → IfOk result (λ _. HasHeaders self.new (ps ++ a_header words.Name v n) × (first_at n (problem_header ps words.Name v) ≡ None)) }
-        ensures err { (ps : List Piece) (v : List ℕ) (n : ℕ) → HasHeaders self.old ps → Scans value.now v → IfErr result (IsToldWord (λ k. first_at n (problem_header ps words.Name v) ≡ Some (Fault n k))) }
+        ensures ok { (ps : List Piece) (v : List ℕ) (n : ℕ) → HasHeaders self.old ps → Scans value.now v
+            → IfOk result (λ _. HasHeaders self.new (ps ++ a_header words.Name v n)
+            × (first_at n (problem_header ps words.Name v) ≡ None)) }
+        ensures err { (ps : List Piece) (v : List ℕ) (n : ℕ) → HasHeaders self.old ps → Scans value.now v
+            → IfErr result (IsToldWord (λ k. first_at n (problem_header ps words.Name v) ≡ Some (Fault n k))) }
     {
         match value.name() {
             None => Err(TextKind::TooLong),
@@ -129,8 +144,11 @@ impl Headers {
 
     /// Keeps the name.
     fn keep_name(&mut self, alloc: Global, name: &[u8]) -> Result<(), TextKind>
-        ensures ok { (ps : List Piece) (v : List ℕ) (n : ℕ) → HasHeaders self.old ps → name.now ≡ trim (after_word v) → length name.now ≤ 1024 → IfOk result (λ _. HasHeaders self.new (ps ++ a_header words.Name v n) × (has words.Name ps ≡ false)) }
-        ensures err { (ps : List Piece) → HasHeaders self.old ps → IfErr result (IsToldWord (λ k. (k ≡ TextKind.Repeated) × (has words.Name ps ≡ true))) }
+        ensures ok { (ps : List Piece) (v : List ℕ) (n : ℕ) → HasHeaders self.old ps → name.now ≡ trim (after_word v)
+            → length name.now ≤ 1024 → IfOk result (λ _. HasHeaders self.new (ps ++ a_header words.Name v n)
+            × (has words.Name ps ≡ false)) }
+        ensures err { (ps : List Piece) → HasHeaders self.old ps
+            → IfErr result (IsToldWord (λ k. (k ≡ TextKind.Repeated) × (has words.Name ps ≡ true))) }
     {
         if self.has_name {
             return Err(TextKind::Repeated);

@@ -37,8 +37,13 @@ impl OpenSection {
     /// Takes a token. After an error nothing was taken.
     pub fn take(&mut self, token: &[u8]) -> Result<Taken, TextKind>
         requires { length token.now ≤ 64 }
-        ensures ok { (before : List Piece) (word : Keyword) (n : ℕ) (toks : List Token) (line : ℕ) → IsOpen before word n toks self.old → IfOk result (HasTaken problem_format (IsPast before word n self.new) (λ ps w m ts. IsOpen ps w m ts self.new) before word n toks (whole token.now line)) }
-        ensures err { (before : List Piece) (word : Keyword) (n : ℕ) (toks : List Token) (line : ℕ) → IsOpen before word n toks self.old → IfErr result (IsToldWord (StopsAt problem_format before word n toks (whole token.now line))) }
+        ensures ok { (before : List Piece) (word : Keyword) (n : ℕ) (toks : List Token) (line : ℕ)
+            → IsOpen before word n toks self.old
+            → IfOk result (HasTaken problem_format (IsPast before word n self.new)
+            (λ ps w m ts. IsOpen ps w m ts self.new) before word n toks (whole token.now line)) }
+        ensures err { (before : List Piece) (word : Keyword) (n : ℕ) (toks : List Token) (line : ℕ)
+            → IsOpen before word n toks self.old
+            → IfErr result (IsToldWord (StopsAt problem_format before word n toks (whole token.now line))) }
         ensures kept { OnErr result (self.new ≡ self.old) }
     {
         if let OpenSection::Home(section) = self {
@@ -53,8 +58,13 @@ impl OpenSection {
     /// Takes a token that is no word, in a section of a fixed count.
     fn take_number(&mut self, token: &[u8]) -> Result<Taken, TextKind>
         requires { length token.now ≤ 64 }
-        ensures ok { (before : List Piece) (word : Keyword) (n : ℕ) (toks : List Token) (line : ℕ) → IsCounted self.old → is_keyword token.now ≡ false → IsOpen before word n toks self.old → IfOk result (HasTaken problem_format (IsPast before word n self.new) (λ ps w m ts. IsOpen ps w m ts self.new) before word n toks (whole token.now line)) }
-        ensures err { (before : List Piece) (word : Keyword) (n : ℕ) (toks : List Token) (line : ℕ) → IsCounted self.old → is_keyword token.now ≡ false → IsOpen before word n toks self.old → IfErr result (IsToldWord (StopsAt problem_format before word n toks (whole token.now line))) }
+        ensures ok { (before : List Piece) (word : Keyword) (n : ℕ) (toks : List Token) (line : ℕ)
+            → IsCounted self.old → is_keyword token.now ≡ false → IsOpen before word n toks self.old
+            → IfOk result (HasTaken problem_format (IsPast before word n self.new)
+            (λ ps w m ts. IsOpen ps w m ts self.new) before word n toks (whole token.now line)) }
+        ensures err { (before : List Piece) (word : Keyword) (n : ℕ) (toks : List Token) (line : ℕ)
+            → IsCounted self.old → is_keyword token.now ≡ false → IsOpen before word n toks self.old
+            → IfErr result (IsToldWord (StopsAt problem_format before word n toks (whole token.now line))) }
         ensures kept { OnErr result (self.new ≡ self.old) }
     {
         match self {
@@ -68,8 +78,13 @@ impl OpenSection {
 
     /// Whether the text may end behind the tokens that were taken: only behind a depot.
     pub fn may_end(&self) -> bool
-        ensures yes { (before : List Piece) (word : Keyword) (n : ℕ) (toks : List Token) (line : ℕ) → IsOpen before word n toks self.now → result ≡ true → IsPast before word n self.now (before ++ a_section word n toks (Early line true)) × (problem_format.section before word n toks (Early line true) ≡ None) }
-        ensures no { (before : List Piece) (word : Keyword) (n : ℕ) (toks : List Token) (line : ℕ) → IsOpen before word n toks self.now → result ≡ false → problem_format.section before word n toks (Early line true) ≡ Some (Fault line kinds.Truncated) }
+        ensures yes { (before : List Piece) (word : Keyword) (n : ℕ) (toks : List Token) (line : ℕ)
+            → IsOpen before word n toks self.now → result ≡ true
+            → IsPast before word n self.now (before ++ a_section word n toks (Early line true))
+            × (problem_format.section before word n toks (Early line true) ≡ None) }
+        ensures no { (before : List Piece) (word : Keyword) (n : ℕ) (toks : List Token) (line : ℕ)
+            → IsOpen before word n toks self.now → result ≡ false
+            → problem_format.section before word n toks (Early line true) ≡ Some (Fault line kinds.Truncated) }
     {
         match self {
             OpenSection::Home(section) => section.node.is_some(),

@@ -58,50 +58,69 @@ impl Parts {
         word: Keyword,
         value: &Scan,
     ) -> Result<(), TextKind>
-        ensures ok { (ps : List Piece) (v : List ℕ) (n : ℕ) → HasParts self.old ps → Scans value.now v → IfOk result (λ _. HasParts self.new (ps ++ a_header word v n) × (first_at n (problem_header ps word v) ≡ None)) }
-        ensures err { (ps : List Piece) (v : List ℕ) (n : ℕ) → HasParts self.old ps → Scans value.now v → IfErr result (IsToldWord (λ k. first_at n (problem_header ps word v) ≡ Some (Fault n k))) }
+        ensures ok { (ps : List Piece) (v : List ℕ) (n : ℕ) → HasParts self.old ps → Scans value.now v
+            → IfOk result (λ _. HasParts self.new (ps ++ a_header word v n)
+            × (first_at n (problem_header ps word v) ≡ None)) }
+        ensures err { (ps : List Piece) (v : List ℕ) (n : ℕ) → HasParts self.old ps → Scans value.now v
+            → IfErr result (IsToldWord (λ k. first_at n (problem_header ps word v) ≡ Some (Fault n k))) }
     {
         self.headers.take(alloc, word, value)
     }
 
     /// Keeps the places of NODE_COORD_SECTION.
     pub fn keep_places(&mut self, places: Points)
-        ensures { (ps : List Piece) (n : ℕ) (toks : List Token) (after : After) → HasParts self.old ps → has words.Dimension ps ≡ true → has words.NodeCoordSection ps ≡ false → places ≡ places_of (size_of ps) toks → HasParts self.new (ps ++ a_section words.NodeCoordSection n toks after) }
+        ensures { (ps : List Piece) (n : ℕ) (toks : List Token) (after : After) → HasParts self.old ps
+            → has words.Dimension ps ≡ true → has words.NodeCoordSection ps ≡ false
+            → places ≡ places_of (size_of ps) toks
+            → HasParts self.new (ps ++ a_section words.NodeCoordSection n toks after) }
     {
         self.places = Some(places);
     }
 
     /// Keeps the lower triangle of EDGE_WEIGHT_SECTION.
     pub fn keep_lower(&mut self, lower: Vec<u32>)
-        ensures { (ps : List Piece) (n : ℕ) (toks : List Token) (after : After) → HasParts self.old ps → has words.Dimension ps ≡ true → has words.EdgeWeightSection ps ≡ false → lower.items ≡ lower_weights (size_of ps) (format_in ps) toks → has words.EdgeWeightFormat ps ≡ true → WeightsFit (size_of ps) (weights.Lower lower) → HasParts self.new (ps ++ a_section words.EdgeWeightSection n toks after) }
+        ensures { (ps : List Piece) (n : ℕ) (toks : List Token) (after : After) → HasParts self.old ps
+            → has words.Dimension ps ≡ true → has words.EdgeWeightSection ps ≡ false
+            → lower.items ≡ lower_weights (size_of ps) (format_in ps) toks → has words.EdgeWeightFormat ps ≡ true
+            → WeightsFit (size_of ps) (weights.Lower lower)
+            → HasParts self.new (ps ++ a_section words.EdgeWeightSection n toks after) }
     {
         self.lower = Some(lower);
     }
 
     /// Keeps the demands of DEMAND_SECTION.
     pub fn keep_demand(&mut self, demand: Vec<u32>)
-        ensures { (ps : List Piece) (n : ℕ) (toks : List Token) (after : After) → HasParts self.old ps → has words.Dimension ps ≡ true → has words.DemandSection ps ≡ false → demand.items ≡ demands_of (size_of ps) toks → size_of ps ≤ 5000 → HasParts self.new (ps ++ a_section words.DemandSection n toks after) }
+        ensures { (ps : List Piece) (n : ℕ) (toks : List Token) (after : After) → HasParts self.old ps
+            → has words.Dimension ps ≡ true → has words.DemandSection ps ≡ false
+            → demand.items ≡ demands_of (size_of ps) toks → size_of ps ≤ 5000
+            → HasParts self.new (ps ++ a_section words.DemandSection n toks after) }
     {
         self.demand = Some(demand);
     }
 
     /// Keeps the node of DEPOT_SECTION.
     pub fn keep_depot(&mut self, depot: u32)
-        ensures { (ps : List Piece) (n : ℕ) (toks : List Token) (after : After) → HasParts self.old ps → has words.Dimension ps ≡ true → has words.DepotSection ps ≡ false → depot ≡ slice_index (map number_in toks) 0 → (1 ≤ depot) × (depot ≤ size_of ps) → HasParts self.new (ps ++ a_section words.DepotSection n toks after) }
+        ensures { (ps : List Piece) (n : ℕ) (toks : List Token) (after : After) → HasParts self.old ps
+            → has words.Dimension ps ≡ true → has words.DepotSection ps ≡ false
+            → depot ≡ slice_index (map number_in toks) 0 → (1 ≤ depot) × (depot ≤ size_of ps)
+            → HasParts self.new (ps ++ a_section words.DepotSection n toks after) }
     {
         self.depot = Some(depot);
     }
 
     /// Notes DISPLAY_DATA_SECTION.
     pub fn note_display(&mut self)
-        ensures { (ps : List Piece) (n : ℕ) (toks : List Token) (after : After) → HasParts self.old ps → has words.Dimension ps ≡ true → HasParts self.new (ps ++ a_section words.DisplayDataSection n toks after) }
+        ensures { (ps : List Piece) (n : ℕ) (toks : List Token) (after : After) → HasParts self.old ps
+            → has words.Dimension ps ≡ true
+            → HasParts self.new (ps ++ a_section words.DisplayDataSection n toks after) }
     {
         self.has_display = true;
     }
 
     /// What is wrong at the end of the text.
     pub fn end(&self) -> Option<TextKind>
-        ensures fault { (ps : List Piece) → HasParts self.now ps → IfSome result (IsToldWord (λ k. problem_end ps ≡ Some k)) }
+        ensures fault { (ps : List Piece) → HasParts self.now ps
+            → IfSome result (IsToldWord (λ k. problem_end ps ≡ Some k)) }
         ensures none { (ps : List Piece) → HasParts self.now ps → result ≡ None → problem_end ps ≡ None }
     {
         if self.headers.problem_type.is_none() {
@@ -141,7 +160,8 @@ impl Parts {
 
     /// What is wrong with the weights.
     fn weights_end(&self) -> Option<TextKind>
-        ensures fault { (ps : List Piece) → HasParts self.now ps → IfSome result (IsToldWord (λ k. first_kind (weights_ends ps) ≡ Some k)) }
+        ensures fault { (ps : List Piece) → HasParts self.now ps
+            → IfSome result (IsToldWord (λ k. first_kind (weights_ends ps) ≡ Some k)) }
         ensures none { (ps : List Piece) → HasParts self.now ps → result ≡ None → first_kind (weights_ends ps) ≡ None }
     {
         match self.headers.weight_type {
@@ -165,8 +185,10 @@ impl Parts {
 
     /// What is wrong with the routing, where there is one.
     fn routing_end(&self) -> Option<TextKind>
-        ensures fault { (ps : List Piece) → HasParts self.now ps → IfSome result (IsToldWord (λ k. first_kind (routing_ends_of ps) ≡ Some k)) }
-        ensures none { (ps : List Piece) → HasParts self.now ps → result ≡ None → first_kind (routing_ends_of ps) ≡ None }
+        ensures fault { (ps : List Piece) → HasParts self.now ps
+            → IfSome result (IsToldWord (λ k. first_kind (routing_ends_of ps) ≡ Some k)) }
+        ensures none { (ps : List Piece) → HasParts self.now ps → result ≡ None
+            → first_kind (routing_ends_of ps) ≡ None }
     {
         match self.headers.problem_type {
             Some(ProblemType::Cvrp) => {}
@@ -241,8 +263,11 @@ fn demand_at(demand: &[u32], node: u32) -> u32
 
 /// The first node that has more demand than a vehicle holds.
 fn first_over(demand: &[u32], capacity: u32) -> Option<u32>
-    ensures some { length demand.now < 2 ^ 32 → IfSome result (λ node. first_kind (over_capacity capacity 1 demand.now) ≡ Some (TextKind.DemandOverCapacity node)) }
-    ensures none { length demand.now < 2 ^ 32 → result ≡ None → first_kind (over_capacity capacity 1 demand.now) ≡ None }
+    ensures some { length demand.now < 2 ^ 32
+        → IfSome result (λ node. first_kind (over_capacity capacity 1 demand.now)
+        ≡ Some (TextKind.DemandOverCapacity node)) }
+    ensures none { length demand.now < 2 ^ 32 → result ≡ None
+        → first_kind (over_capacity capacity 1 demand.now) ≡ None }
 {
     let mut node: u32 = 0;
     for load in demand {

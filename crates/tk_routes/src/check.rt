@@ -32,7 +32,8 @@ fn serve(number: u64, route: &[u32], served: &mut [bool]) -> Option<RouteVerdict
 /// Notes the customers of all routes as served, up to the first fault among them.
 fn serve_all(routes: &[Vec<u32>], served: &mut [bool]) -> Option<RouteVerdict>
     requires { AreServed served.old [] }
-    ensures { MatchOption result (AreServed served.new (concat (map (λ r. r.items) routes.now))) (IsCustomerFault (length served.old) (map (λ r. r.items) routes.now)) }
+    ensures { MatchOption result (AreServed served.new (concat (map
+        (λ r. r.items) routes.now))) (IsCustomerFault (length served.old) (map (λ r. r.items) routes.now)) }
 {
     for (k, route) in routes.iter().enumerate() {
         if let Some(fault) = serve(k as u64 + 1, route, served) {
@@ -45,7 +46,8 @@ fn serve_all(routes: &[Vec<u32>], served: &mut [bool]) -> Option<RouteVerdict>
 /// The first route whose load is over the capacity.
 fn first_over(cvrp: &Cvrp<'_>, routes: &[Vec<u32>]) -> Option<RouteVerdict>
     requires { AreServedOnce (customer_count (instance_of cvrp.now)) (concat (map (λ r. r.items) routes.now)) }
-    ensures { MatchOption result (All (IsLight (instance_of cvrp.now)) (map (λ r. r.items) routes.now)) (IsFirstOverIn (instance_of cvrp.now) (map (λ r. r.items) routes.now)) }
+    ensures { MatchOption result (All (IsLight (instance_of cvrp.now)) (map
+        (λ r. r.items) routes.now)) (IsFirstOverIn (instance_of cvrp.now) (map (λ r. r.items) routes.now)) }
 {
     for (k, route) in routes.iter().enumerate() {
         let load = cvrp.load(route);
@@ -126,7 +128,8 @@ pub fn check_routes(
     cvrp: &Cvrp<'_>,
     text: &SolText,
 ) -> Result<RouteVerdict, AllocError>
-    ensures { IfOk result (IsRouteVerdict (instance_of cvrp.now) (map (λ r. r.items) text.now.routes.items) text.now.cost) }
+    ensures { IfOk result (IsRouteVerdict (instance_of cvrp.now) (map
+        (λ r. r.items) text.now.routes.items) text.now.cost) }
 {
     let mut served = vec![in alloc; false; cvrp.customers() as usize]?;
     if let Some(fault) = serve_all(&text.routes, &mut served) {

@@ -24,15 +24,22 @@ fn improve_each(
     requires routes { AreRoutes (instance_of cvrp.now) (map (λ r. r.items) lists.old) }
     requires candidates { (1 ≤ max_candidates) × (max_candidates ≤ 100) }
     requires most { (1 ≤ m) × (m ≤ 3) }
-    ensures improved { IfOk result (λ r. (most : ℕ) × (AreImproved (instance_of cvrp.now) max_candidates m (map (λ r. r.items) lists.old) (map (λ r. r.items) lists.new) r.moves r.tests most × (r.swaps ≤ most))) }
-    ensures before { IfOk result (λ r. r.before ≡ pos (routes_cost (instance_of cvrp.now) (map (λ r. r.items) lists.old))) }
-    ensures after { IfOk result (λ r. r.after ≡ pos (routes_cost (instance_of cvrp.now) (map (λ r. r.items) lists.new))) }
-    ensures moves { IfOk result (λ r. r.moves + routes_cost (instance_of cvrp.now) (map (λ r. r.items) lists.new) ≤ routes_cost (instance_of cvrp.now) (map (λ r. r.items) lists.old)) }
+    ensures improved { IfOk result (λ r. (most : ℕ)
+        × (AreImproved (instance_of cvrp.now) max_candidates m (map (λ r. r.items) lists.old) (map
+        (λ r. r.items) lists.new) r.moves r.tests most × (r.swaps ≤ most))) }
+    ensures before { IfOk result (λ r. r.before
+        ≡ pos (routes_cost (instance_of cvrp.now) (map (λ r. r.items) lists.old))) }
+    ensures after { IfOk result (λ r. r.after
+        ≡ pos (routes_cost (instance_of cvrp.now) (map (λ r. r.items) lists.new))) }
+    ensures moves { IfOk result (λ r. r.moves + routes_cost (instance_of cvrp.now) (map
+        (λ r. r.items) lists.new) ≤ routes_cost (instance_of cvrp.now) (map (λ r. r.items) lists.old)) }
     ensures tests { IfOk result (λ r. r.tests ≤ 4 * m * max_candidates * (customer_count (instance_of cvrp.now) + length lists.old + 6 * r.moves)) }
     ensures headline { IfOk result (λ r. r.tests ≤ 4 * m * max_candidates * (customer_count (instance_of cvrp.now) + length lists.old + 6 * (routes_cost (instance_of cvrp.now) (map (λ r. r.items) lists.old) - routes_cost (instance_of cvrp.now) (map (λ r. r.items) lists.new)))) }
-    ensures part { IfErr result (λ _. IsImprovedPart (instance_of cvrp.now) max_candidates m (map (λ r. r.items) lists.old) (map (λ r. r.items) lists.new)) }
+    ensures part { IfErr result (λ _. IsImprovedPart (instance_of cvrp.now) max_candidates m (map
+        (λ r. r.items) lists.old) (map (λ r. r.items) lists.new)) }
     ensures routes { AreRoutes (instance_of cvrp.now) (map (λ r. r.items) lists.new) }
-    ensures cost { routes_cost (instance_of cvrp.now) (map (λ r. r.items) lists.new) ≤ routes_cost (instance_of cvrp.now) (map (λ r. r.items) lists.old) }
+    ensures cost { routes_cost (instance_of cvrp.now) (map
+        (λ r. r.items) lists.new) ≤ routes_cost (instance_of cvrp.now) (map (λ r. r.items) lists.old) }
 {
     let before = cost_of(cvrp, lists);
     let mut after = before;
@@ -72,7 +79,8 @@ pub fn improve(
     requires same { instance_of_routes routes.old ≡ instance_of cvrp.now }
     requires candidates { (1 ≤ max_candidates) × (max_candidates ≤ 100) }
     requires most { (1 ≤ m) × (m ≤ 3) }
-    ensures improved { IfOk result (λ r. (most : ℕ) × (AreImproved (instance_of cvrp.now) max_candidates m (routes_of routes.old) (routes_of routes.new) r.moves r.tests most × (r.swaps ≤ most))) }
+    ensures improved { IfOk result (λ r. (most : ℕ)
+        × (AreImproved (instance_of cvrp.now) max_candidates m (routes_of routes.old) (routes_of routes.new) r.moves r.tests most × (r.swaps ≤ most))) }
     ensures before { IfOk result (λ r. r.before ≡ pos (routes_cost (instance_of cvrp.now) (routes_of routes.old))) }
     ensures after { IfOk result (λ r. r.after ≡ pos (routes_cost (instance_of cvrp.now) (routes_of routes.new))) }
     ensures moves { IfOk result (λ r. r.moves + routes_cost (instance_of cvrp.now) (routes_of routes.new) ≤ routes_cost (instance_of cvrp.now) (routes_of routes.old)) }

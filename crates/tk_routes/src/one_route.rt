@@ -55,7 +55,8 @@ fn descend_awake<M: Metric>(
     requires most { (1 ≤ m) × (m ≤ 3) }
     ensures pass { IfOk result (λ r. Pass (M.distance metric.now) (near_of near.now) m (one_to (M.size_of metric.now)) (order_of r.0) r.1.looks r.1.moves r.1.tests) }
     ensures tour { IfOk result (λ r. IsTour (M.size_of metric.now) (order_of r.0)) }
-    ensures before { IfOk result (λ r. r.1.before ≡ pos (tour_length (M.distance metric.now) (one_to (M.size_of metric.now)))) }
+    ensures before { IfOk result (λ r. r.1.before
+        ≡ pos (tour_length (M.distance metric.now) (one_to (M.size_of metric.now)))) }
     ensures after { IfOk result (λ r. r.1.after ≡ pos (tour_length (M.distance metric.now) (order_of r.0))) }
     ensures moves { IfOk result (λ r. r.1.moves + tour_length (M.distance metric.now) (order_of r.0) ≤ tour_length (M.distance metric.now) (one_to (M.size_of metric.now))) }
     ensures tests { IfOk result (λ r. r.1.tests ≤ 4 * m * near.now.width * (M.size_of metric.now + 6 * r.1.moves)) }

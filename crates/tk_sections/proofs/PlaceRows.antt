@@ -22,7 +22,7 @@ use Rattle.tk_sections.specs.Coordinates.{Placing, IsWithin, HasPlaces}
 use Rattle.tk_sections.specs.Rows.{number_in, coordinate_in, is_near, nodes_in, place_rows, places_of, node_tests, coordinate_tests, place_tests}
 use Rattle.tk_lines.specs.Forms.{IsToldWord}
 use Rattle.tk_sections.proofs.Rows.{by_node-push}
-use Rattle.tk_lines.proofs.ToldFaults.{told_first}
+use Rattle.tk_lines.proofs.Pieces.ToldFaults.{told_first}
 use Rattle.tk_sections.proofs.FixedSections.{fixed_taken-last, fixed_taken-more}
 
 -- ---- the rows

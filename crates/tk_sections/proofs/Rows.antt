@@ -13,7 +13,7 @@ use Rattle.tk_words.specs.Entry.{number_tests}
 use Rattle.tk_lines.specs.Forms.{IsToldWord}
 use Rattle.tk_sections.specs.Nodes.{Named, HasNamed}
 use Rattle.tk_sections.specs.Rows.{number_in, is_among, nodes_in, row_of, by_node, node_tests}
-use Rattle.tk_lines.proofs.ToldFaults.{told_first}
+use Rattle.tk_lines.proofs.Pieces.ToldFaults.{told_first}
 
 -- ---- a table with an entry for each of 1..n
 

@@ -34,8 +34,10 @@ impl Depot {
     /// error nothing was taken.
     pub fn take(&mut self, token: &[u8]) -> Result<Taken, TextKind>
         requires { length token.now ≤ 64 }
-        ensures ok { (n : ℕ) (toks : List Token) (line : ℕ) → HasDepot n self.old toks → IfOk result (DepotTakes n self.old self.new toks (whole token.now line)) }
-        ensures err { (n : ℕ) (toks : List Token) (line : ℕ) → HasDepot n self.old toks → IfErr result (IsToldWord (DepotRefuses n toks (whole token.now line))) }
+        ensures ok { (n : ℕ) (toks : List Token) (line : ℕ) → HasDepot n self.old toks
+            → IfOk result (DepotTakes n self.old self.new toks (whole token.now line)) }
+        ensures err { (n : ℕ) (toks : List Token) (line : ℕ) → HasDepot n self.old toks
+            → IfErr result (IsToldWord (DepotRefuses n toks (whole token.now line))) }
         ensures kept { OnErr result (self.new ≡ self.old) }
     {
         match self.node {
@@ -52,7 +54,8 @@ impl Depot {
 /// The node that a token names where none stands before it.
 fn first_node(token: &[u8], size: u32) -> Result<u32, TextKind>
     ensures node { IfOk result (IsNumber 1 size token.now) }
-    ensures ok { (line : ℕ) → OnOk result (first_at line (all_tests (depot_tests size) [] (whole token.now line)) ≡ None) }
+    ensures ok { (line : ℕ) → OnOk result (first_at line (all_tests (depot_tests size) [] (whole token.now line))
+        ≡ None) }
     ensures err { (line : ℕ) → IfErr result (IsToldWord (DepotRefuses size [] (whole token.now line))) }
 {
     match entry_of(token) {
@@ -67,8 +70,10 @@ fn first_node(token: &[u8], size: u32) -> Result<u32, TextKind>
 
 /// What a token does behind the node.
 fn behind_node(token: &[u8]) -> Result<Taken, TextKind>
-    ensures ok { (n : ℕ) (depot : Depot) (node : Token) (line : ℕ) → IfOk result (DepotTakes n depot depot (node ∷ []) (whole token.now line)) }
-    ensures err { (n : ℕ) (node : Token) (line : ℕ) → IfErr result (IsToldWord (DepotRefuses n (node ∷ []) (whole token.now line))) }
+    ensures ok { (n : ℕ) (depot : Depot) (node : Token) (line : ℕ)
+        → IfOk result (DepotTakes n depot depot (node ∷ []) (whole token.now line)) }
+    ensures err { (n : ℕ) (node : Token) (line : ℕ)
+        → IfErr result (IsToldWord (DepotRefuses n (node ∷ []) (whole token.now line))) }
 {
     match entry_of(token) {
         Entry::Number(number) => {

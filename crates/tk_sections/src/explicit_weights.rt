@@ -42,8 +42,14 @@ impl ExplicitWeights {
 
     /// Takes a token. After an error nothing was taken.
     pub fn take(&mut self, token: &[u8]) -> Result<Taken, TextKind>
-        ensures ok { (n : ℕ) (f : Format) (toks : List Token) (line : ℕ) → HasWeights n f self.old toks → length toks < weight_count n f → IfOk result (λ taken. (first_at line (weight_tests n f toks (whole token.now line)) ≡ None) × HasWeights n f self.new (toks ++ whole token.now line ∷ []) × (taken ≡ fixed_taken (weight_count n f) toks)) }
-        ensures err { (n : ℕ) (f : Format) (toks : List Token) (line : ℕ) → HasWeights n f self.old toks → IfErr result (IsToldWord (λ k. first_at line (weight_tests n f toks (whole token.now line)) ≡ Some (Fault line k))) }
+        ensures ok { (n : ℕ) (f : Format) (toks : List Token) (line : ℕ) → HasWeights n f self.old toks
+            → length toks < weight_count n f
+            → IfOk result (λ taken. (first_at line (weight_tests n f toks (whole token.now line)) ≡ None)
+            × HasWeights n f self.new (toks ++ whole token.now line ∷ [])
+            × (taken ≡ fixed_taken (weight_count n f) toks)) }
+        ensures err { (n : ℕ) (f : Format) (toks : List Token) (line : ℕ) → HasWeights n f self.old toks
+            → IfErr result (IsToldWord (λ k. first_at line (weight_tests n f toks (whole token.now line))
+            ≡ Some (Fault line k))) }
         ensures kept { OnErr result (self.new ≡ self.old) }
     {
         let Some(number) = integer(token) else {
@@ -62,8 +68,13 @@ impl ExplicitWeights {
     /// Puts a number at the next place. After an error nothing was put.
     fn put(&mut self, number: i64) -> Result<(), TextKind>
         requires { 0 < length self.old.lower.places }
-        ensures ok { (n : ℕ) (f : Format) (toks : List Token) (t : Token) → HasWeights n f self.old toks → integer t.bytes ≡ Some number → IfOk result (λ _. (first_at t.line (weight_tests n f toks t) ≡ None) × HasWeights n f self.new (toks ++ t ∷ [])) }
-        ensures err { (n : ℕ) (f : Format) (toks : List Token) (t : Token) → HasWeights n f self.old toks → integer t.bytes ≡ Some number → IfErr result (IsToldWord (λ k. first_at t.line (weight_tests n f toks t) ≡ Some (Fault t.line k))) }
+        ensures ok { (n : ℕ) (f : Format) (toks : List Token) (t : Token) → HasWeights n f self.old toks
+            → integer t.bytes ≡ Some number
+            → IfOk result (λ _. (first_at t.line (weight_tests n f toks t) ≡ None)
+            × HasWeights n f self.new (toks ++ t ∷ [])) }
+        ensures err { (n : ℕ) (f : Format) (toks : List Token) (t : Token) → HasWeights n f self.old toks
+            → integer t.bytes ≡ Some number
+            → IfErr result (IsToldWord (λ k. first_at t.line (weight_tests n f toks t) ≡ Some (Fault t.line k))) }
         ensures kept { OnErr result (self.new ≡ self.old) }
     {
         if self.lower.place().is_diagonal() {
@@ -79,9 +90,12 @@ impl ExplicitWeights {
     fn weight(&self, number: i64) -> Result<u32, TextKind>
         requires more { 0 < length self.now.lower.places }
         requires pair { IfSome (slice_get self.now.lower.places 0) (λ p. p.row ≢ p.column) }
-        ensures ok { (n : ℕ) (f : Format) (toks : List Token) (t : Token) → HasWeights n f self.now toks → integer t.bytes ≡ Some number → IfOk result (λ w. first_at t.line (weight_tests n f toks t) ≡ None) }
+        ensures ok { (n : ℕ) (f : Format) (toks : List Token) (t : Token) → HasWeights n f self.now toks
+            → integer t.bytes ≡ Some number → IfOk result (λ w. first_at t.line (weight_tests n f toks t) ≡ None) }
         ensures is { IfOk result (λ w. (number ≡ pos w) × (w ≤ 4000000000)) }
-        ensures err { (n : ℕ) (f : Format) (toks : List Token) (t : Token) → HasWeights n f self.now toks → integer t.bytes ≡ Some number → IfErr result (IsToldWord (λ k. first_at t.line (weight_tests n f toks t) ≡ Some (Fault t.line k))) }
+        ensures err { (n : ℕ) (f : Format) (toks : List Token) (t : Token) → HasWeights n f self.now toks
+            → integer t.bytes ≡ Some number
+            → IfErr result (IsToldWord (λ k. first_at t.line (weight_tests n f toks t) ≡ Some (Fault t.line k))) }
     {
         let place = self.lower.place();
         let Some(weight) = limited(number, 0, WEIGHT_LIMIT) else {
@@ -98,8 +112,11 @@ impl ExplicitWeights {
         requires next { slice_get self.now.lower.places 0 ≡ Some place }
         requires below { place.column < place.row }
         ensures same { IfOk result (λ w. w ≡ weight) }
-        ensures ok { (n : ℕ) (f : Format) (toks : List Token) → HasWeights n f self.now toks → IfOk result (λ w. w ≡ weight_of place.row place.column (entries f n (weights_in toks))) }
-        ensures err { (n : ℕ) (f : Format) (toks : List Token) → HasWeights n f self.now toks → IfErr result (λ k. (k ≡ TextKind.NotSymmetric (suc place.column) (suc place.row)) × (weight ≢ weight_of place.row place.column (entries f n (weights_in toks)))) }
+        ensures ok { (n : ℕ) (f : Format) (toks : List Token) → HasWeights n f self.now toks
+            → IfOk result (λ w. w ≡ weight_of place.row place.column (entries f n (weights_in toks))) }
+        ensures err { (n : ℕ) (f : Format) (toks : List Token) → HasWeights n f self.now toks
+            → IfErr result (λ k. (k ≡ TextKind.NotSymmetric (suc place.column) (suc place.row))
+            × (weight ≢ weight_of place.row place.column (entries f n (weights_in toks)))) }
     {
         if self.lower.weight() == weight {
             return Ok(weight);
@@ -119,7 +136,8 @@ impl ExplicitWeights {
 
     /// The lower triangle, at the end.
     pub fn into_lower(self) -> Vec<u32>
-        ensures { (n : ℕ) (f : Format) (toks : List Token) → HasWeights n f self toks → (result.items ≡ lower_weights n f toks) × WeightsFit n (weights.Lower result) }
+        ensures { (n : ℕ) (f : Format) (toks : List Token) → HasWeights n f self toks
+            → (result.items ≡ lower_weights n f toks) × WeightsFit n (weights.Lower result) }
     {
         self.lower.into_weights()
     }

@@ -107,7 +107,8 @@ impl ArrayTour {
     pub fn from_list(alloc: Global, cities: &[u32]) -> Result<ArrayTour, TourFault>
         ensures tour { OnOk result (IsSizedTour cities.now) }
         ensures order { IfOk result (λ t. order_of t ≡ cities.now) }
-        ensures counts { IfOk result (λ t. (swaps_of t ≡ 0) × (undo_swaps_of t ≡ 0) × (flips_of t ≡ 0) × (copied_of t ≡ 0)) }
+        ensures counts { IfOk result (λ t. (swaps_of t ≡ 0) × (undo_swaps_of t ≡ 0) × (flips_of t ≡ 0)
+            × (copied_of t ≡ 0)) }
         ensures fault { IfErr result (λ e. IsFaultOf cities.now e) }
     {
         let n = cities.len();
@@ -177,7 +178,8 @@ impl ArrayTour {
         requires first { first < length self.old.order.items }
         requires count { count ≤ length self.old.order.items }
         ensures order { self.new.order.items ≡ reversed_places first count self.old.order.items }
-        ensures counts { (self.new.swaps ≡ self.old.swaps) × (self.new.undo_swaps ≡ self.old.undo_swaps) × (self.new.flips ≡ self.old.flips) × (self.new.copied ≡ self.old.copied) }
+        ensures counts { (self.new.swaps ≡ self.old.swaps) × (self.new.undo_swaps ≡ self.old.undo_swaps)
+            × (self.new.flips ≡ self.old.flips) × (self.new.copied ≡ self.old.copied) }
     {
         reverse_places(&mut self.order, &mut self.place, first, count);
     }
@@ -188,7 +190,8 @@ impl ArrayTour {
         requires count { flip.now.count ≤ length (order_of self.old) }
         ensures places { order_of self.new ≡ reversed_places (flip.now.first - 1) flip.now.count (order_of self.old) }
         ensures undo_swaps { undo_swaps_of self.new ≡ saturated (undo_swaps_of self.old + flip.now.count / 2) }
-        ensures others { (swaps_of self.new ≡ swaps_of self.old) × (flips_of self.new ≡ flips_of self.old) × (copied_of self.new ≡ copied_of self.old) }
+        ensures others { (swaps_of self.new ≡ swaps_of self.old) × (flips_of self.new ≡ flips_of self.old)
+            × (copied_of self.new ≡ copied_of self.old) }
     {
         self.reverse(flip.first as usize - 1, flip.count as usize);
         self.undo_swaps = self.undo_swaps.saturating_add(flip.count as u64 / 2);
@@ -197,7 +200,8 @@ impl ArrayTour {
     // All counts begin again at 0.
     pub(crate) fn reset_counts(&mut self)
         ensures order { order_of self.new ≡ order_of self.old }
-        ensures counts { (swaps_of self.new ≡ 0) × (undo_swaps_of self.new ≡ 0) × (flips_of self.new ≡ 0) × (copied_of self.new ≡ 0) }
+        ensures counts { (swaps_of self.new ≡ 0) × (undo_swaps_of self.new ≡ 0) × (flips_of self.new ≡ 0)
+            × (copied_of self.new ≡ 0) }
     {
         self.swaps = 0;
         self.undo_swaps = 0;
@@ -231,7 +235,8 @@ impl ArrayTour {
         requires { length (order_of self.old) ≡ length (order_of other.now) }
         ensures order { order_of self.new ≡ order_of other.now }
         ensures copied { copied_of self.new ≡ saturated (copied_of self.old + length (order_of self.old)) }
-        ensures others { (swaps_of self.new ≡ swaps_of self.old) × (flips_of self.new ≡ flips_of self.old) × (undo_swaps_of self.new ≡ undo_swaps_of self.old) }
+        ensures others { (swaps_of self.new ≡ swaps_of self.old) × (flips_of self.new ≡ flips_of self.old)
+            × (undo_swaps_of self.new ≡ undo_swaps_of self.old) }
     {
         self.order.copy_from_slice(&other.order);
         self.place.copy_from_slice(&other.place);
@@ -244,7 +249,8 @@ impl ArrayTour {
     /// `AllocError` where there is no memory for the list.
     pub fn canonical(&self, alloc: Global) -> Result<Vec<u32>, AllocError>
         ensures printed { IfOk result (λ cities. IsPrintedForm (order_of self.now) cities.items) }
-        ensures only { IfOk result (λ cities. (list : List ℕ) → IsPrintedForm (order_of self.now) list → list ≡ cities.items) }
+        ensures only { IfOk result (λ cities. (list : List ℕ) → IsPrintedForm (order_of self.now) list
+            → list ≡ cities.items) }
     {
         let mut cities = Vec::from_slice(alloc, &self.order)?;
         let mut first = self.place_of(1);

@@ -102,7 +102,8 @@ impl JournalTour {
         ensures swaps { IfOk result (λ t. swaps_to_rewind t ≡ 0) }
         ensures slots { IfOk result (λ t. slots_of t ≡ slots) }
         ensures flips { IfOk result (λ t. flips_since t ≡ 0) }
-        ensures counts { IfOk result (λ t. (swaps_of (tour_of t) ≡ 0) × (undo_swaps_of (tour_of t) ≡ 0) × (copied_of (tour_of t) ≡ 0)) }
+        ensures counts { IfOk result (λ t. (swaps_of (tour_of t) ≡ 0) × (undo_swaps_of (tour_of t) ≡ 0)
+            × (copied_of (tour_of t) ≡ 0)) }
     {
         let mut tour = tour;
         tour.reset_counts();
@@ -148,9 +149,12 @@ impl JournalTour {
         ensures order { IsTrue result → order_of (tour_of self.new) ≡ settled_order self.old }
         ensures settled { IsTrue result → settled_order self.new ≡ settled_order self.old }
         ensures flips { IsTrue result → flips_since self.new ≡ 0 }
-        ensures undo_swaps { IsTrue result → undo_swaps_of (tour_of self.new) ≡ saturated (undo_swaps_of (tour_of self.old) + swaps_to_rewind self.old) }
+        ensures undo_swaps { IsTrue result
+            → undo_swaps_of (tour_of self.new)
+            ≡ saturated (undo_swaps_of (tour_of self.old) + swaps_to_rewind self.old) }
         ensures rewound { IsTrue result → swaps_to_rewind self.new ≡ 0 }
-        ensures counts { (swaps_of (tour_of self.new) ≡ swaps_of (tour_of self.old)) × (copied_of (tour_of self.new) ≡ copied_of (tour_of self.old)) }
+        ensures counts { (swaps_of (tour_of self.new) ≡ swaps_of (tour_of self.old))
+            × (copied_of (tour_of self.new) ≡ copied_of (tour_of self.old)) }
         ensures slots { slots_of self.new ≡ slots_of self.old }
         ensures unchanged { result ≡ false → self.new ≡ self.old }
     {
@@ -171,8 +175,10 @@ impl JournalTour {
         ensures settled { settled_order self.new ≡ order_of other.now }
         ensures swaps { swaps_to_rewind self.new ≡ 0 }
         ensures flips { flips_since self.new ≡ 0 }
-        ensures copied { copied_of (tour_of self.new) ≡ saturated (copied_of (tour_of self.old) + length (order_of other.now)) }
-        ensures others { (swaps_of (tour_of self.new) ≡ swaps_of (tour_of self.old)) × (undo_swaps_of (tour_of self.new) ≡ undo_swaps_of (tour_of self.old)) }
+        ensures copied { copied_of (tour_of self.new)
+            ≡ saturated (copied_of (tour_of self.old) + length (order_of other.now)) }
+        ensures others { (swaps_of (tour_of self.new) ≡ swaps_of (tour_of self.old))
+            × (undo_swaps_of (tour_of self.new) ≡ undo_swaps_of (tour_of self.old)) }
         ensures slots { slots_of self.new ≡ slots_of self.old }
     {
         self.tour.copy_from(other);

@@ -10,7 +10,8 @@ use crate::store::TourStore;
 pub fn move_reversed<S: TourStore>(tour: &mut S, a: u32, x: u32, e: u32, b: u32, c: u32, d: u32)
     requires { CutInThree (S.cities tour.old) a x e b c d }
     ensures moved { MovesReversed (S.cities tour.old) (S.cities tour.new) a x e b c d }
-    ensures made { (cut : CutInThree (S.cities tour.old) a x e b c d) → OrMove (length cut.segment) (S.cities tour.old) (S.cities tour.new) a x e b d c }
+    ensures made { (cut : CutInThree (S.cities tour.old) a x e b c d)
+        → OrMove (length cut.segment) (S.cities tour.old) (S.cities tour.new) a x e b d c }
     ensures kept { S.FlipsOnly tour.old tour.new }
     ensures size { length (S.cities tour.new) ≡ length (S.cities tour.old) }
     ensures rises { S.swap_count tour.old ≤ S.swap_count tour.new }
@@ -25,7 +26,8 @@ pub fn move_reversed<S: TourStore>(tour: &mut S, a: u32, x: u32, e: u32, b: u32,
 pub fn move_straight<S: TourStore>(tour: &mut S, a: u32, x: u32, e: u32, b: u32, c: u32, d: u32)
     requires { CutInThree (S.cities tour.old) a x e b c d }
     ensures moved { MovesStraight (S.cities tour.old) (S.cities tour.new) a x e b c d }
-    ensures made { (cut : CutInThree (S.cities tour.old) a x e b c d) → OrMove (length cut.segment) (S.cities tour.old) (S.cities tour.new) a x e b c d }
+    ensures made { (cut : CutInThree (S.cities tour.old) a x e b c d)
+        → OrMove (length cut.segment) (S.cities tour.old) (S.cities tour.new) a x e b c d }
     ensures kept { S.FlipsOnly tour.old tour.new }
     ensures size { length (S.cities tour.new) ≡ length (S.cities tour.old) }
     ensures rises { S.swap_count tour.old ≤ S.swap_count tour.new }

@@ -55,14 +55,16 @@ pub trait TextReader: Drop {
     /// Takes a byte.
     fn feed(&mut self, byte: u8) -> Result<Step, TextFault>
         requires { (bs : List ℕ) × fed self.old bs × (length bs < 2 ^ 63) }
-        ensures more { (bs : List ℕ) → fed self.old bs → IfOk result (λ s. FedMore (decided) (fed self.new) (held self.new) (bs ++ byte ∷ []) s) }
+        ensures more { (bs : List ℕ) → fed self.old bs
+            → IfOk result (λ s. FedMore (decided) (fed self.new) (held self.new) (bs ++ byte ∷ []) s) }
         ensures err { (bs : List ℕ) → fed self.old bs → IfErr result (IsTold ⊥ (Decides decided (bs ++ byte ∷ []))) }
         ensures complete { (bs : List ℕ) → fed self.old bs → result ≡ Ok Step.Done → complete self.new };
 
     /// Takes as many of the bytes as it can at once: none, unless a reader says otherwise.
     fn feed_run(&mut self, bytes: &[u8]) -> Result<Run, TextFault>
         requires { (bs : List ℕ) × fed self.old bs × (length bs + length bytes.now < 2 ^ 63) }
-        ensures more { (bs : List ℕ) → fed self.old bs → IfOk result (HasRun decided (fed self.new) (held self.new) bs bytes.now) }
+        ensures more { (bs : List ℕ) → fed self.old bs
+            → IfOk result (HasRun decided (fed self.new) (held self.new) bs bytes.now) }
         ensures err { (bs : List ℕ) → fed self.old bs → IfErr result (IsToldWithin decided bs bytes.now) }
         ensures complete { (bs : List ℕ) → fed self.old bs → result ≡ Ok Run.Whole → complete self.new }
     {
@@ -91,10 +93,13 @@ pub fn feed_piece<P: TextReader>(
     requires within { count ≤ limit }
     requires room { limit < 2 ^ 63 }
     requires known { (bs : List ℕ) × P.fed reader.old bs × (length bs ≡ count) }
-    ensures more { (bs : List ℕ) → P.fed reader.old bs → length bs ≡ count → IfOk result (λ s. FedAll P.decided limit (P.fed reader.new) (P.held reader.new) (bs ++ piece.now) s) }
-    ensures err { (bs : List ℕ) → P.fed reader.old bs → length bs ≡ count → IfErr result (IsTold ⊥ (Answers P.decided limit (bs ++ piece.now))) }
+    ensures more { (bs : List ℕ) → P.fed reader.old bs → length bs ≡ count
+        → IfOk result (λ s. FedAll P.decided limit (P.fed reader.new) (P.held reader.new) (bs ++ piece.now) s) }
+    ensures err { (bs : List ℕ) → P.fed reader.old bs → length bs ≡ count
+        → IfErr result (IsTold ⊥ (Answers P.decided limit (bs ++ piece.now))) }
     ensures room { result ≡ Ok Step.More → count + length piece.now ≤ limit }
-    ensures complete { (bs : List ℕ) → P.fed reader.old bs → length bs ≡ count → result ≡ Ok Step.Done → P.complete reader.new }
+    ensures complete { (bs : List ℕ) → P.fed reader.old bs → length bs ≡ count → result ≡ Ok Step.Done
+        → P.complete reader.new }
 {
     let end = piece.len().min((limit - count) as usize);
     let mut index = 0;
@@ -129,7 +134,8 @@ pub fn read_text<R: Source, P: TextReader>(
     requires room { limit < 2 ^ 63 }
     ensures ok { IfOk result (λ v. IsAnswerWhereTold P.decided limit (R.left source.old) (R.left source.new) (Ok (P.view v))) }
     ensures some_text { IfOk result (λ v. (text : List ℕ) × (answer_of P.decided limit text ≡ Ok (P.view v))) }
-    ensures err { IfErr result (IsTold (R.broken source.new ≡ true) (IsAnswerWhereTold P.decided limit (R.left source.old) (R.left source.new))) }
+    ensures err { IfErr result (IsTold (R.broken source.new
+        ≡ true) (IsAnswerWhereTold P.decided limit (R.left source.old) (R.left source.new))) }
     ensures intact { IsIntact (R.broken source.old) (R.broken source.new) result }
 {
     let mut reader = reader;

@@ -108,7 +108,8 @@ pub fn blank_or_end(byte: u8) -> bool
 pub fn token_length(bytes: &[u8]) -> usize
     ensures count { result ≤ length bytes.now }
     ensures solid { All (λ b. (is_blank b || b == 10) ≡ false) (take result bytes.now) }
-    ensures ended { result < length bytes.now → (is_blank (slice_index_or bytes.now result 0) || slice_index_or bytes.now result 0 == 10) ≡ true }
+    ensures ended { result < length bytes.now
+        → (is_blank (slice_index_or bytes.now result 0) || slice_index_or bytes.now result 0 == 10) ≡ true }
 {
     for i in 0..bytes.len() {
         if blank_or_end(bytes[i]) {

@@ -10,7 +10,7 @@ use Rattle.tk_words.specs.Lex.{LF, Line, Token, is_blank, behind, lines}
 use Rattle.tk_lines.specs.Pieces.{Piece, Header, Section, Clean, Format, cut, decided_by, end_piece, judge, last_line, pieces_at, stop, after_tokens}
 use Rattle.tk_words.specs.Words.{keyword_of, section_word, rest_word}
 use Rattle.tk_pen.specs.Written.{line}
-use Rattle.tk_lines.proofs.MiddleOfSection.{cut-covered, token}
+use Rattle.tk_lines.proofs.Sections.MiddleOfSection.{cut-covered, token}
 use Rattle.tk_writers.proofs.WrittenLines.{whole_line, lines-written, row_lines, next_line, cut-rows}
 use Rattle.tk_lines.proofs.Lines.{OnOneLine}
 

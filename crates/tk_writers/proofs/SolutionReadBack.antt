@@ -11,8 +11,8 @@ use Rattle.tk_pen.specs.Written.{line, spaced_numbers}
 use Rattle.tk_writers.specs.SolutionWritten.{route_lines}
 use Rattle.tk_lists.specs.Solution.{Behind, route_line, number_head, SolutionLine, Route, Cost, Empty, routes_of, count_of, has_cost, cost_of, customers_stop, line_of, line_stop, judge_lines, solution_decided}
 use Rattle.tk_writers.specs.ReadBack.{IsSolution, SolutionReadsBack}
-use Rattle.tk_lines.proofs.ByteRuns.{front-all, behind-all}
-use Rattle.tk_lines.proofs.MiddleOfSection.{tokens_of-gap, tokens_of-none, tokens_of-last}
+use Rattle.tk_lines.proofs.Headers.ByteRuns.{front-all, behind-all}
+use Rattle.tk_lines.proofs.Sections.MiddleOfSection.{tokens_of-gap, tokens_of-none, tokens_of-last}
 use Rattle.tk_lists.proofs.SolutionLines.{routes_of-append, count_of-append, has_cost-append, cost_of-append}
 use Rattle.tk_writers.proofs.WrittenLines.{whole_line, lines-written}
 use Rattle.tk_writers.proofs.WrittenNumbers.{IsDigit, is_digit, digit_solid, spelled, IsShort, short_decimal, integer_decimal, decimal_run, decimal_line, one_line_append, AllShort, numbers_line, numbers_tokens, number_token}

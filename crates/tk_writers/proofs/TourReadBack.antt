@@ -16,12 +16,12 @@ use Rattle.tk_words.specs.Entry.{is_eof, is_eof_word, is_keyword, is_some_word, 
 use Rattle.tk_writers.specs.TourWritten.{tour_head, tour_text}
 use Rattle.tk_words.specs.Words.{keyword_of, section_word, rest_word}
 use Rattle.tk_pen.specs.Written.{line}
-use Rattle.tk_lines.proofs.SectionEnds.{take_whole, last_line-append}
+use Rattle.tk_lines.proofs.Sections.SectionEnds.{take_whole, last_line-append}
 use Rattle.tk_lists.proofs.Lists.{entries_ended, list_ended}
 use Rattle.tk_words.proofs.NoWord.{integer-no_word}
 use Rattle.tk_writers.proofs.Saying.{one_line, name_line, whole_lines, lines-listed, lines-none, clean, says, says-header, says-section, says-rows, says-covered, says-eof, decided-says}
-use Rattle.tk_lines.proofs.HeaderBytes.{trimmed_short}
-use Rattle.tk_lines.proofs.MiddleOfSection.{token}
+use Rattle.tk_lines.proofs.Headers.HeaderBytes.{trimmed_short}
+use Rattle.tk_lines.proofs.Sections.MiddleOfSection.{token}
 use Rattle.tk_writers.proofs.WrittenHeaders.{headed, size_value, first_word_run}
 use Rattle.tk_writers.proofs.WrittenLines.{whole_line, lines-rows, row_lines, row_tokens, next_line, tokens-rows, rows_written, in_rows, AreWritten, IsWritten, ShortRows}
 use Rattle.tk_writers.proofs.WrittenNumbers.{IsShort, one_line_append, decimal_line, decimal_run, integer_decimal, short_decimal}

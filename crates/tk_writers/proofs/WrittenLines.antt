@@ -9,8 +9,8 @@ use Rattle.tk_sections.specs.Rows.{number_in}
 use Rattle.tk_words.specs.Entry.{natural_or_zero}
 use Rattle.tk_pen.specs.Written.{line, spaced_numbers}
 use Rattle.tk_lines.proofs.MiddleOfLine.{lines-byte, lines-LF}
-use Rattle.tk_lines.proofs.MiddleOfSection.{cut-covered}
-use Rattle.tk_lines.proofs.SectionEnds.{last_line-append}
+use Rattle.tk_lines.proofs.Sections.MiddleOfSection.{cut-covered}
+use Rattle.tk_lines.proofs.Sections.SectionEnds.{last_line-append}
 use Rattle.tk_lines.proofs.Lines.{OnOneLine}
 use Rattle.tk_writers.proofs.WrittenNumbers.{AllShort, number_token, numbers_line, numbers_tokens, integer_decimal, short_decimal}
 

@@ -60,7 +60,8 @@ fn entry<D: Fn(u32, u32) -> i64>(n: u32, d: &D, f: Format, k: u32, m: u32) -> u6
     requires k { (1 ≤ k) × (k ≤ n) }
     requires m { (1 ≤ m) × (m ≤ n) }
     requires table { (table : ℕ → ℕ → ℕ) × Gives (D.pre d.now) (D.post d.now) n table }
-    ensures { (table : ℕ → ℕ → ℕ) → Gives (D.pre d.now) (D.post d.now) n table → result ≡ table (place f k m).0 (place f k m).1 }
+    ensures { (table : ℕ → ℕ → ℕ) → Gives (D.pre d.now) (D.post d.now) n table
+        → result ≡ table (place f k m).0 (place f k m).1 }
 {
     let distance = if is_by_columns(f) { d(m, k) } else { d(k, m) };
     distance as u64
@@ -134,7 +135,8 @@ pub fn write_matrix<W: Sink, D: Fn(u32, u32) -> i64>(
     requires table { (table : ℕ → ℕ → ℕ) × Gives (D.pre d.now) (D.post d.now) n table }
     ensures text { (table : ℕ → ℕ → ℕ) → Gives (D.pre d.now) (D.post d.now) n table
         → Writes W.taken W.broken w.old w.new result (matrix_text name.now n table f) }
-    ensures read_back { (table : ℕ → ℕ → ℕ) → Gives (D.pre d.now) (D.post d.now) n table → IsName name.now → IsTable n table → 2 ≤ n
+    ensures read_back { (table : ℕ → ℕ → ℕ) → Gives (D.pre d.now) (D.post d.now) n table → IsName name.now
+        → IsTable n table → 2 ≤ n
         → ReadsBack name.now n table f }
     ensures failed { length name.now ≤ 1024 → OnErr result (W.broken w.new ≡ true) }
 {

@@ -43,9 +43,12 @@ fn put_solution<W: Sink>(pen: &mut Pen<'_, W>, routes: &[Vec<u32>], cost: u64)
 /// a solution text can have them (`read_back`).
 pub fn write_solution<W: Sink>(w: &mut W, routes: &[Vec<u32>], cost: i64) -> Result<(), WriteFault>
     requires { pos 0 ≤ℤ cost }
-    ensures text { Writes W.taken W.broken w.old w.new result (solution_text (map (λ r. r.items) routes.now) (unsigned_abs cost)) }
-    ensures read_back { IsSolution (map (λ r. r.items) routes.now) (unsigned_abs cost) → SolutionReadsBack (map (λ r. r.items) routes.now) (unsigned_abs cost) }
-    ensures failed { length routes.now ≤ 100000 → length (concat (map (λ r. r.items) routes.now)) ≤ 1000000 → OnErr result (W.broken w.new ≡ true) }
+    ensures text { Writes W.taken W.broken w.old w.new result (solution_text (map
+        (λ r. r.items) routes.now) (unsigned_abs cost)) }
+    ensures read_back { IsSolution (map (λ r. r.items) routes.now) (unsigned_abs cost)
+        → SolutionReadsBack (map (λ r. r.items) routes.now) (unsigned_abs cost) }
+    ensures failed { length routes.now ≤ 100000 → length (concat (map (λ r. r.items) routes.now)) ≤ 1000000
+        → OnErr result (W.broken w.new ≡ true) }
 {
     let mut pen = Pen::new(w);
     put_solution(&mut pen, routes, cost.unsigned_abs());

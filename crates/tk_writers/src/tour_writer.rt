@@ -53,7 +53,8 @@ pub fn write_tour<W: Sink>(
 ) -> Result<(), WriteFault>
     requires { pos 0 ≤ℤ length }
     ensures text { Writes W.taken W.broken w.old w.new result (tour_text name.now (unsigned_abs length) cities.now) }
-    ensures read_back { IsTour name.now (unsigned_abs length) cities.now → TourReadsBack name.now (unsigned_abs length) cities.now }
+    ensures read_back { IsTour name.now (unsigned_abs length) cities.now
+        → TourReadsBack name.now (unsigned_abs length) cities.now }
     ensures failed { count name.now ≤ 1024 → count cities.now ≤ 1000000 → OnErr result (W.broken w.new ≡ true) }
 {
     let mut pen = Pen::new(w);

@@ -1,6 +1,6 @@
 use Rattle.std.proofs.Common.{◌∷◌, [], ◌++◌}
 use Rattle.std.proofs.lemmas.Result.{IfOk-weaker, IfErr-weaker}
-use Rattle.tk_lines.proofs.ReaderEnds.{fed_more, told_all}
+use Rattle.tk_lines.proofs.Endings.ReaderEnds.{fed_more, told_all}
 use Rattle.tk_lines.proofs.finish.PieceReaderTextReader.feed.Goals as goal
 
 pub returns-clause-more : goal.returns-clause-more

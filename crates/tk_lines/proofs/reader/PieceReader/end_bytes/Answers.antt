@@ -1,7 +1,7 @@
 use Rattle.tk_lines.specs.declared.reader.Place.TheVariants as places
 use Rattle.tk_lines.specs.Reader.{at_end}
 use Rattle.tk_lines.proofs.KnownPlaces.{at_place}
-use Rattle.tk_lines.proofs.ReaderEnds.{end_line, end_begin, end_close, end_after}
+use Rattle.tk_lines.proofs.Endings.ReaderEnds.{end_line, end_begin, end_close, end_after}
 use Rattle.tk_lines.proofs.reader.PieceReader.end_bytes.Goals as goal
 
 pub returns-in-Start-clause-ok : goal.returns-in-Start-clause-ok

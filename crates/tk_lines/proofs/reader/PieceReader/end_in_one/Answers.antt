@@ -2,7 +2,7 @@ use Rattle.std.proofs.lemmas.Result.{err_from_is_err_and}
 use Rattle.tk_lines.specs.declared.reader.Place.TheVariants as places
 use Rattle.tk_lines.specs.Reader.{at_end}
 use Rattle.tk_lines.proofs.KnownPlaces.{at_place}
-use Rattle.tk_lines.proofs.ReaderEnds.{end_in_gap, told_ended, end_close}
+use Rattle.tk_lines.proofs.Endings.ReaderEnds.{end_in_gap, told_ended, end_close}
 use Rattle.tk_lines.proofs.reader.PieceReader.end_in_one.Goals as goal
 
 pub returns-in_err-end_one-clause-err : goal.returns-in_err-end_one-clause-err

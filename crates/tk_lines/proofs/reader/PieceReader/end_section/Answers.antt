@@ -2,7 +2,7 @@ use Rattle.std.proofs.Common.{◌≡◌, Some, true}
 use Rattle.tk_lines.specs.Pieces.{Early, Fault, decided_by}
 use Rattle.tk_words.specs.Drive.{DecidesEnded}
 use Rattle.tk_lines.proofs.KnownPlaces.{told_kind_word, told_at}
-use Rattle.tk_lines.proofs.ReaderEnds.{end_section, end_section_err}
+use Rattle.tk_lines.proofs.Endings.ReaderEnds.{end_section, end_section_err}
 use Rattle.tk_lines.proofs.reader.PieceReader.end_section.Goals as goal
 
 pub returns-in-Err-clause-err : goal.returns-in-Err-clause-err

@@ -1,6 +1,6 @@
 use Rattle.std.proofs.lemmas.Result.{err_from_is_err_and}
 use Rattle.tk_lines.specs.Reader.{at_end}
-use Rattle.tk_lines.proofs.ReaderEnds.{end_in_line_end, told_ended, end_header}
+use Rattle.tk_lines.proofs.Endings.ReaderEnds.{end_in_line_end, told_ended, end_header}
 use Rattle.tk_lines.proofs.reader.PieceReader.end_value.Goals as goal
 
 pub returns-in_err-end_header-clause-err : goal.returns-in_err-end_header-clause-err

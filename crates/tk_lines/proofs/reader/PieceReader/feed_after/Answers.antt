@@ -2,8 +2,8 @@ use Rattle.std.proofs.Common.{◌∷◌, [], ◌++◌, refl, sym, ap, subst, ◌
 use Rattle.std.proofs.lemmas.Bool.{ne_eqb}
 use Rattle.tk_lines.specs.Reader.{anything, this, DecidesIf, AtAfter}
 use Rattle.tk_lines.proofs.KnownPlaces.{at_place, told_at}
-use Rattle.tk_lines.proofs.MinusOneSteps.{after_LF, after_blank, after_byte, after_trailing, after_word}
-use Rattle.tk_lines.proofs.AfterMinusOne.{shown_first}
+use Rattle.tk_lines.proofs.Endings.MinusOneSteps.{after_LF, after_blank, after_byte, after_trailing, after_word}
+use Rattle.tk_lines.proofs.Endings.AfterMinusOne.{shown_first}
 use Rattle.tk_lines.proofs.LineSteps.{is_letter-word, line_behind-byte, line_behind-LF}
 use Rattle.tk_lines.proofs.reader.PieceReader.feed_after.Goals as goal
 

@@ -2,7 +2,7 @@ use Rattle.std.proofs.Common.{refl, sym, ◌∙◌}
 use Rattle.std.proofs.lemmas.Bool.{ne_eqb}
 use Rattle.tk_lines.specs.Reader.{this}
 use Rattle.tk_lines.proofs.KnownPlaces.{at_place}
-use Rattle.tk_lines.proofs.SectionSteps.{begin_blank, begin_colon, begin_other}
+use Rattle.tk_lines.proofs.Sections.SectionSteps.{begin_blank, begin_colon, begin_other}
 use Rattle.tk_lines.proofs.LineSteps.{blank_not_LF, line_behind-byte}
 use Rattle.tk_lines.proofs.reader.PieceReader.feed_begin.Goals as goal
 

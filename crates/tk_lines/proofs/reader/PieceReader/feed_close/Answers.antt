@@ -2,7 +2,7 @@ use Rattle.std.proofs.Common.{◌∷◌, [], ◌++◌, sym, ◌∙◌, arith}
 use Rattle.std.proofs.lemmas.Bool.{ne_eqb}
 use Rattle.tk_lines.specs.Reader.{anything, this, DecidesIf}
 use Rattle.tk_lines.proofs.KnownPlaces.{at_place, told_at}
-use Rattle.tk_lines.proofs.SectionSteps.{close_LF, close_blank, close_trailing}
+use Rattle.tk_lines.proofs.Sections.SectionSteps.{close_LF, close_blank, close_trailing}
 use Rattle.tk_lines.proofs.LineSteps.{line_behind-byte, line_behind-LF}
 use Rattle.tk_lines.proofs.reader.PieceReader.feed_close.Goals as goal
 

@@ -4,10 +4,10 @@ use Rattle.std.proofs.lemmas.Result.{err_from_is_err_and}
 use Rattle.tk_words.specs.MinusOne.{begins_minus_one}
 use Rattle.tk_lines.specs.Reader.{anything, this, DecidesIf, a_gap}
 use Rattle.tk_lines.proofs.KnownPlaces.{at_place, told_at, told_byte, this_within, or_false}
-use Rattle.tk_lines.proofs.SectionSteps.{run_more}
+use Rattle.tk_lines.proofs.Sections.SectionSteps.{run_more}
 use Rattle.tk_words.proofs.MinusOne.{begins_short}
-use Rattle.tk_lines.proofs.MinusOneSteps.{after_byte}
-use Rattle.tk_lines.proofs.AfterMinusOne.{shown_later}
+use Rattle.tk_lines.proofs.Endings.MinusOneSteps.{after_byte}
+use Rattle.tk_lines.proofs.Endings.AfterMinusOne.{shown_later}
 use Rattle.tk_lines.proofs.LineSteps.{line_behind-byte}
 use Rattle.tk_lines.proofs.reader.PieceReader.feed_one.Goals as goal
 

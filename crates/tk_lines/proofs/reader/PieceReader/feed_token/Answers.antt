@@ -2,7 +2,7 @@ use Rattle.std.proofs.Common.{◌∷◌, [], ◌++◌, sym, ◌∙◌, arith}
 use Rattle.std.proofs.lemmas.List.{length-append}
 use Rattle.tk_lines.proofs.KnownPlaces.{or_false, at_place, told_at}
 use Rattle.tk_lines.specs.Reader.{anything, this, DecidesIf}
-use Rattle.tk_lines.proofs.SectionSteps.{token_byte, run_more, token_long}
+use Rattle.tk_lines.proofs.Sections.SectionSteps.{token_byte, run_more, token_long}
 use Rattle.tk_lines.proofs.LineSteps.{line_behind-byte}
 use Rattle.tk_lines.proofs.reader.PieceReader.feed_token.Goals as goal
 

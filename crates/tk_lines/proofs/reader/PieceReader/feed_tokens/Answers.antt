@@ -4,7 +4,7 @@ use Rattle.std.proofs.lemmas.Result.{err_from_is_err_and}
 use Rattle.tk_words.specs.Drive.{Decides, IsTold}
 use Rattle.tk_lines.specs.Pieces.{decided_by}
 use Rattle.tk_lines.specs.Reader.{Fed, anything}
-use Rattle.tk_lines.proofs.ReaderEnds.{told_all}
+use Rattle.tk_lines.proofs.Endings.ReaderEnds.{told_all}
 use Rattle.tk_lines.proofs.TokenRuns.{token_ends, token_run, token_taken, token_stands, line_within}
 use Rattle.tk_lines.proofs.reader.PieceReader.feed_tokens.Goals as goal
 

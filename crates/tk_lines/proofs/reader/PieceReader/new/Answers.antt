@@ -1,5 +1,5 @@
 use Rattle.std.proofs.Common.{refl}
-use Rattle.tk_lines.proofs.ReaderEnds.{from_first}
+use Rattle.tk_lines.proofs.Endings.ReaderEnds.{from_first}
 use Rattle.tk_lines.proofs.reader.PieceReader.new.Goals as goal
 
 pub returns : goal.returns

@@ -3,8 +3,8 @@ use Rattle.tk_lines.specs.Pieces.{Early}
 use Rattle.tk_lines.specs.Reader.{DecidesIf}
 use Rattle.tk_lines.specs.Forms.{StopsAt, a_section, whole}
 use Rattle.tk_lines.proofs.KnownPlaces.{told_kind_word, told_at}
-use Rattle.tk_lines.proofs.SectionSteps.{token_more, token_stops, token_eof_ok, token_eof_err, token_last}
-use Rattle.tk_lines.proofs.MinusOneSteps.{token_ending}
+use Rattle.tk_lines.proofs.Sections.SectionSteps.{token_more, token_stops, token_eof_ok, token_eof_err, token_last}
+use Rattle.tk_lines.proofs.Endings.MinusOneSteps.{token_ending}
 use Rattle.tk_lines.proofs.reader.PieceReader.take_token.Goals as goal
 
 pub returns-in-Err-clause-err : goal.returns-in-Err-clause-err

@@ -1,5 +1,5 @@
 use Rattle.std.proofs.Common.{◌∙◌}
-use Rattle.tk_lines.proofs.HeaderNumbers.{value_spells}
+use Rattle.tk_lines.proofs.Headers.HeaderNumbers.{value_spells}
 use Rattle.tk_lines.proofs.scan.Scan.is.Goals as goal
 
 pub returns : goal.returns

@@ -1,5 +1,5 @@
 use Rattle.std.proofs.Common.{◌≤◌, length, ap, arith}
-use Rattle.tk_lines.proofs.HeaderBytes.{name_kept, name_long, name_room}
+use Rattle.tk_lines.proofs.Headers.HeaderBytes.{name_kept, name_long, name_room}
 use Rattle.tk_lines.proofs.scan.Scan.name.Goals as goal
 
 pub returns-then-end-text-clause-long : goal.returns-then-end-text-clause-long

@@ -6,7 +6,7 @@ use Rattle.tk_lines.specs.Pieces.{Fault}
 use Rattle.tk_lists.specs.Solution.{line_stop, count_of, customer_stop, cost_stop}
 use Rattle.tk_lists.specs.SolutionReader.{line_from}
 use Rattle.tk_lists.specs.declared.solution_reader.LinePlace.TheVariants as places
-use Rattle.tk_lines.proofs.ToldFaults.{told_word}
+use Rattle.tk_lines.proofs.Pieces.ToldFaults.{told_word}
 use Rattle.tk_lists.proofs.SolutionEnds.{end_start, end_skip, end_other, end_close, end_gap, end_customer, end_customer_stops, end_digits, end_digits_stops, end_head_stops, end_colon_stops}
 use Rattle.tk_lists.proofs.solution_reader.SolutionReader.end_line.Goals as goal
 

@@ -2,7 +2,7 @@ use Rattle.std.proofs.Common.{◌≡◌, [], true, Some, refl}
 use Rattle.std.proofs.lemmas.Result.{err_from_is_err_and, IfOk-weaker, IfErr-weaker}
 use Rattle.tk_lines.specs.Pieces.{Fault, first_at}
 use Rattle.tk_lists.specs.Solution.{solid_line, line_stop, route_head, route_tests, cost_tests, other_tests}
-use Rattle.tk_lines.proofs.ToldFaults.{told_word}
+use Rattle.tk_lines.proofs.Pieces.ToldFaults.{told_word}
 use Rattle.tk_lists.proofs.SolutionWords.{whole_route, whole_cost, whole_other, route_stops}
 use Rattle.tk_lists.proofs.solution_reader.SolutionReader.end_word.Goals as goal
 

@@ -5,7 +5,7 @@ use Rattle.tk_lines.specs.Pieces.{Fault}
 use Rattle.tk_lists.specs.Solution.{count_of, customer_stop}
 use Rattle.tk_lists.specs.SolutionReader.{StopsAt, line_from}
 use Rattle.tk_lists.specs.declared.solution_reader.LinePlace.TheVariants as places
-use Rattle.tk_lines.proofs.ToldFaults.{told_word}
+use Rattle.tk_lines.proofs.Pieces.ToldFaults.{told_word}
 use Rattle.tk_lists.proofs.SolutionSteps.{customer_same, customer_more, customer_stops, customer_long, token_grows}
 use Rattle.tk_lists.proofs.solution_reader.SolutionReader.feed_customer.Goals as goal
 

@@ -4,8 +4,8 @@ use Rattle.tk_words.specs.Lex.{Token}
 use Rattle.tk_lists.specs.Solution.{Route, Cost}
 use Rattle.tk_lists.specs.SolutionReader.{StopsAt, line_from, rest_of}
 use Rattle.tk_lists.specs.declared.solution_reader.LinePlace.TheVariants as places
-use Rattle.tk_lines.proofs.ToldFaults.{told_word}
-use Rattle.tk_lines.proofs.MiddleOfSection.{tokens_of-gap}
+use Rattle.tk_lines.proofs.Pieces.ToldFaults.{told_word}
+use Rattle.tk_lines.proofs.Sections.MiddleOfSection.{tokens_of-gap}
 use Rattle.tk_lists.proofs.SolutionEnds.{close_stops}
 use Rattle.tk_lists.proofs.SolutionSteps.{stops_same}
 use Rattle.tk_lists.proofs.solution_reader.SolutionReader.feed_line.Goals as goal

@@ -1,6 +1,6 @@
 use Rattle.std.proofs.Common.{refl, sym, ap, ◌∙◌, []}
 use Rattle.tk_lists.specs.Solution.{Cost}
-use Rattle.tk_lines.proofs.MiddleOfSection.{tokens_of-gap}
+use Rattle.tk_lines.proofs.Sections.MiddleOfSection.{tokens_of-gap}
 use Rattle.tk_lists.proofs.solution_reader.SolutionReader.feed_price.Goals as goal
 
 pub returns-then-blank-clause-went : goal.returns-then-blank-clause-went

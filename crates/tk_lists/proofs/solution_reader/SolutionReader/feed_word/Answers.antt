@@ -6,7 +6,7 @@ use Rattle.tk_lists.specs.Solution.{solid_line, Other, may_be_word, route_head, 
 use Rattle.tk_lists.specs.SolutionReader.{StopsAt, line_from}
 use Rattle.tk_lists.specs.declared.route_head.HeadPlace.TheVariants as heads
 use Rattle.tk_lists.specs.declared.solution_reader.LinePlace.TheVariants as places
-use Rattle.tk_lines.proofs.ToldFaults.{told_word}
+use Rattle.tk_lines.proofs.Pieces.ToldFaults.{told_word}
 use Rattle.tk_lists.proofs.SolutionSteps.{went_same, stops_same}
 use Rattle.tk_lists.proofs.SolutionWords.{front_short, word_goes_on, grown_other, ended_route, ended_cost, ended_other, route_stops}
 use Rattle.tk_lists.proofs.solution_reader.SolutionReader.feed_word.Goals as goal

@@ -5,9 +5,9 @@ use Rattle.tk_lines.specs.Pieces.{first_at, Fault}
 use Rattle.tk_lines.specs.Scan.{first_word}
 use Rattle.tk_words.specs.Entry.{number_tests}
 use Rattle.tk_lists.specs.Tour.{tour_header}
-use Rattle.tk_lines.proofs.HeaderNumbers.{tests_fine}
+use Rattle.tk_lines.proofs.Headers.HeaderNumbers.{tests_fine}
 use Rattle.tk_lists.proofs.Tours.{dimension_ok, dimension_err}
-use Rattle.tk_lines.proofs.ToldFaults.{told_word}
+use Rattle.tk_lines.proofs.Pieces.ToldFaults.{told_word}
 use Rattle.tk_lists.proofs.tour.TourForm.dimension.Goals as goal
 
 pub returns-in_err-number-clause-err : goal.returns-in_err-number-clause-err

@@ -7,7 +7,7 @@ use Rattle.tk_lines.specs.Forms.{whole, StopsAt}
 use Rattle.tk_lists.specs.Tour.{tour_format}
 use Rattle.tk_lists.specs.TourForm.{IsNext, IsOut}
 use Rattle.tk_lists.proofs.Tours.{token_ending, token_eof, word_stops, other_stops, out_stops, token_more, minus_is, minus_not}
-use Rattle.tk_lines.proofs.ToldFaults.{told_word}
+use Rattle.tk_lines.proofs.Pieces.ToldFaults.{told_word}
 use Rattle.tk_lists.proofs.tour.TourFormForm.token.Goals as goal
 
 pub returns-then-number-clause-ok : goal.returns-then-number-clause-ok

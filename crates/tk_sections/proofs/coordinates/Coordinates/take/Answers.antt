@@ -6,7 +6,7 @@ use Rattle.tk_words.specs.Decimal.{decimal_of}
 use Rattle.tk_lines.specs.Forms.{whole}
 use Rattle.tk_lines.specs.Pieces.{first_at}
 use Rattle.tk_sections.specs.Rows.{place_tests, node_tests, coordinate_tests, nodes_in, place_rows}
-use Rattle.tk_lines.proofs.ToldFaults.{told_same}
+use Rattle.tk_lines.proofs.Pieces.ToldFaults.{told_same}
 use Rattle.tk_sections.proofs.Rows.{node_tests-told}
 use Rattle.tk_sections.proofs.PlaceRows.{opened, at_node, node_taken, place_tests-node, fewer_nodes, node_more, place_tests-x, x_more, x_taken, place_tests-y, y_last, y_more, y_taken, coordinate_tests-ok, coordinate_tests-err, limited-ok, fits, within_y, on_ok}
 use Rattle.tk_sections.proofs.coordinates.Coordinates.take.Goals as goal

@@ -1,0 +1,2 @@
+pub mod BridgeLength
+pub mod Kicks

@@ -1,0 +1,13 @@
+pub mod EndsJoined
+pub mod HubApart
+pub mod Linking
+pub mod ListsHeld
+pub mod PairsFound
+pub mod PairsMerged
+pub mod PartLoads
+pub mod PartsConnected
+pub mod PartsJoined
+pub mod PathLists
+pub mod PathWalked
+pub mod PathsRead
+pub mod SavingsLaws

@@ -1,0 +1,2 @@
+pub mod NearestPaths
+pub mod NearestTours

@@ -1,0 +1,4 @@
+pub mod Bounds
+pub mod Searches
+pub mod TrialSteps
+pub mod Woken

@@ -1,0 +1,6 @@
+//! Kicks of a tour, by a double bridge.
+
+pub mod cuts;
+pub mod kicking;
+#[cfg(test)]
+mod tests;

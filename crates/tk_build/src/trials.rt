@@ -1,0 +1,9 @@
+//! The trials of a search.
+
+pub mod descending;
+pub mod keeping;
+pub mod searching;
+pub mod state;
+#[cfg(test)]
+mod tests;
+pub mod totals;

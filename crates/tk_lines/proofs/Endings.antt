@@ -1,0 +1,4 @@
+pub mod AfterMinusOne
+pub mod MinusOneSteps
+pub mod ReaderEnds
+pub mod TextEnds

@@ -1,0 +1,3 @@
+pub mod ByteRuns
+pub mod HeaderBytes
+pub mod HeaderNumbers

@@ -1,0 +1,3 @@
+pub mod PieceLookups
+pub mod PieceValues
+pub mod ToldFaults

@@ -1,0 +1,8 @@
+//! Near lists: for each city the cities that are nearest.
+
+pub mod keep;
+pub mod near;
+pub mod sweep;
+#[cfg(test)]
+mod tests;
+pub mod tree;
