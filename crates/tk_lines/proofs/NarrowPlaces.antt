@@ -30,4 +30,4 @@ module _ {V S : Type 0} (f : Format V) (H : S → List Piece → Type 0) (W : S 
   place_narrow places.Token a = (a.0, token_narrow f W next form line bs held a.1)
   place_narrow places.Close a = record { before = a.before; word = a.word; first = a.first; toks = a.toks; holds = a.holds; closed = a.closed; last = a.last; same = λ e more n. a.same e more refl }
   place_narrow (places.After o) a = after_narrow o [] a
-  place_narrow (places.One o) a = (a.0, after_narrow o held a.1)
+  place_narrow (places.MinusOne o) a = (a.0, after_narrow o held a.1)

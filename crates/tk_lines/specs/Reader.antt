@@ -155,7 +155,7 @@ AtPlace f holds wants next form line held scan bs places.Gap = AtToken f wants n
 AtPlace f holds wants next form line held scan bs places.Token = IsToken held × AtToken f wants next form line held bs
 AtPlace f holds wants next form line held scan bs places.Close = AtClose f holds next form line bs
 AtPlace f holds wants next form line held scan bs (places.After on_line) = AtAfter f holds next form line on_line [] bs
-AtPlace f holds wants next form line held scan bs (places.One on_line) = IsMore held × AtAfter f holds next form line on_line held bs
+AtPlace f holds wants next form line held scan bs (places.MinusOne on_line) = IsMore held × AtAfter f holds next form line on_line held bs
 
 -- the reader has taken these bytes, and what follows is so
 abbrev pub Fed : {V S : Type 0} → Format V → (S → List Piece → Type 0) → (S → List Piece → Keyword → ℕ → List Token → Type 0) → Next → PieceReader S → List ℕ → Type 0

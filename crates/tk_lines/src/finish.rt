@@ -92,8 +92,8 @@ impl<F: Form> PieceReader<F> {
     }
 
     /// Ends the text in a token behind the `-1` that ends a section.
-    fn end_in_one(&mut self, on_line: bool) -> Result<(), TextFault>
-        requires place { self.old.place ≡ places.One on_line }
+    fn end_in_minus_one(&mut self, on_line: bool) -> Result<(), TextFault>
+        requires place { self.old.place ≡ places.MinusOne on_line }
         ensures ok { (bs : List ℕ) → Fed F.format F.holds F.wants at_end self.old bs
             → IfOk result (λ _. DecidesEnded (decided_by F.format) bs (Ok (F.held self.new.form))) }
         ensures err { (bs : List ℕ) → Fed F.format F.holds F.wants at_end self.old bs
@@ -101,7 +101,7 @@ impl<F: Form> PieceReader<F> {
         ensures complete { (bs : List ℕ) → Fed F.format F.holds F.wants at_end self.old bs
             → IfOk result (λ _. F.complete self.new.form) }
     {
-        self.end_one(on_line)?;
+        self.end_minus_one(on_line)?;
         self.end_text()
     }
 
@@ -124,7 +124,7 @@ impl<F: Form> PieceReader<F> {
             Place::Token => self.end_in_token(),
             Place::Close => self.end_text(),
             Place::After(_) => self.end_text(),
-            Place::One(on_line) => self.end_in_one(on_line),
+            Place::MinusOne(on_line) => self.end_in_minus_one(on_line),
         }
     }
 }

@@ -34,7 +34,7 @@ pub enum Place {
     /// Behind the `-1` that ends a section, on its line or later.
     After(bool),
     /// In a token behind that, which may be one more `-1`.
-    One(bool),
+    MinusOne(bool),
 }
 
 /// What a word began.
@@ -382,7 +382,7 @@ impl<F: Form> PieceReader<F> {
         }
         self.held.clear();
         self.held.push(byte);
-        self.place = Place::One(on_line);
+        self.place = Place::MinusOne(on_line);
         Ok(Step::More)
     }
 
@@ -432,8 +432,8 @@ impl<F: Form> PieceReader<F> {
     }
 
     /// Ends a token behind the `-1` that ends a section.
-    pub fn end_one(&mut self, on_line: bool) -> Result<(), TextFault>
-        requires place { self.old.place ≡ places.One on_line }
+    pub fn end_minus_one(&mut self, on_line: bool) -> Result<(), TextFault>
+        requires place { self.old.place ≡ places.MinusOne on_line }
         ensures line { self.new.line ≡ self.old.line }
         ensures place { IfOk result (λ _. self.new.place ≡ places.Close) }
         ensures ended { (next : Next) (bs : List ℕ) → Within next a_gap
@@ -450,8 +450,8 @@ impl<F: Form> PieceReader<F> {
     }
 
     /// Takes a byte of a token behind the `-1` that ends a section.
-    fn feed_one(&mut self, byte: u8, on_line: bool) -> Result<Step, TextFault>
-        requires place { self.old.place ≡ places.One on_line }
+    fn feed_minus_one(&mut self, byte: u8, on_line: bool) -> Result<Step, TextFault>
+        requires place { self.old.place ≡ places.MinusOne on_line }
         requires room { self.old.line ≤ 2 ^ 63 }
         requires known { (bs : List ℕ) × Fed F.format F.holds F.wants (this byte) self.old bs }
         ensures more { (bs : List ℕ) → Fed F.format F.holds F.wants (this byte) self.old bs
@@ -467,7 +467,7 @@ impl<F: Form> PieceReader<F> {
             }
             return Err(self.fault(TextKind::TrailingData));
         }
-        self.end_one(on_line)?;
+        self.end_minus_one(on_line)?;
         self.feed_close(byte)
     }
 
@@ -491,7 +491,7 @@ impl<F: Form> PieceReader<F> {
             Place::Token => self.feed_token(byte),
             Place::Close => self.feed_close(byte),
             Place::After(on_line) => self.feed_after(byte, on_line),
-            Place::One(on_line) => self.feed_one(byte, on_line),
+            Place::MinusOne(on_line) => self.feed_minus_one(byte, on_line),
         }
     }
 }

@@ -153,5 +153,5 @@ module _ {V S : Type 0} (f : Format V) (H : S → List Piece → Type 0) (form :
       eq-leb : (n : ℕ) → leb n n ≡ true
       eq-leb n = le-leb _ _ (omega arith)
 
-  pub open_one : (o : Bool) → IsRun held → begins_minus_one held ≡ true → AtAfter f H anything form line o held bs → decided_by f false bs ≡ None
-  open_one o run begun a = at_none f form line bs _ (a.same false [] refl) (open_one_law a.before a.word a.first a.toks run begun a.ends)
+  pub open_minus_one : (o : Bool) → IsRun held → begins_minus_one held ≡ true → AtAfter f H anything form line o held bs → decided_by f false bs ≡ None
+  open_minus_one o run begun a = at_none f form line bs _ (a.same false [] refl) (open_one_law a.before a.word a.first a.toks run begun a.ends)

@@ -21,7 +21,7 @@ use Rattle.tk_lines.proofs.Lines.{word_ends_behind, from_line-last}
 use Rattle.tk_lines.proofs.Sections.SectionEnds.{First}
 use Rattle.tk_lines.proofs.Sections.SectionBytes.{from_line-inside, from_line-tokens, first_same, plain_after, plain}
 use Rattle.tk_lines.proofs.Endings.TextEnds.{at_none, from_line-end, in_section-end, in_section-shut, open_start, open_word, open_value_law, open_gap, open_token, open_close, open_after}
-use Rattle.tk_lines.proofs.Endings.AfterMinusOne.{open_one}
+use Rattle.tk_lines.proofs.Endings.AfterMinusOne.{open_minus_one}
 
 -- ---- the end of the bytes ends a word, a token and a line
 
@@ -152,7 +152,7 @@ module _ {V S : Type 0} (f : Format V) (H : S → List Piece → Type 0) (W : S 
   open_place places.Token a = open_token f form line bs W held a.0.0 a.0.1 a.1
   open_place places.Close a = open_close f form line bs H a
   open_place (places.After o) a = open_after f form line bs H o a
-  open_place (places.One o) a = open_one f H form line held bs o a.0.0 a.0.1 a.1
+  open_place (places.MinusOne o) a = open_minus_one f H form line held bs o a.0.0 a.0.1 a.1
 
 -- ---- the first byte
 

@@ -130,15 +130,15 @@ returns-in-After-clause-err g c = λ bs fed.
     let near = place_narrow g.F.Form.format g.F.Form.holds g.F.Form.wants (this c.args.byte) c.args.self.now.form c.args.self.now.line c.args.self.now.held c.args.self.now.scan bs c.args.self.now.place fed.1 in
     c.feed_after.ensures.err bs (fed.0, near)
 
-pub returns-in-One-clause-more : goal.returns-in-One-clause-more
-returns-in-One-clause-more g c = λ bs fed.
+pub returns-in-MinusOne-clause-more : goal.returns-in-MinusOne-clause-more
+returns-in-MinusOne-clause-more g c = λ bs fed.
     let near = place_narrow g.F.Form.format g.F.Form.holds g.F.Form.wants (this c.args.byte) c.args.self.now.form c.args.self.now.line c.args.self.now.held c.args.self.now.scan bs c.args.self.now.place fed.1 in
-    c.feed_one.ensures.more bs (fed.0, near)
+    c.feed_minus_one.ensures.more bs (fed.0, near)
 
-pub returns-in-One-clause-err : goal.returns-in-One-clause-err
-returns-in-One-clause-err g c = λ bs fed.
+pub returns-in-MinusOne-clause-err : goal.returns-in-MinusOne-clause-err
+returns-in-MinusOne-clause-err g c = λ bs fed.
     let near = place_narrow g.F.Form.format g.F.Form.holds g.F.Form.wants (this c.args.byte) c.args.self.now.form c.args.self.now.line c.args.self.now.held c.args.self.now.scan bs c.args.self.now.place fed.1 in
-    c.feed_one.ensures.err bs (fed.0, near)
+    c.feed_minus_one.ensures.err bs (fed.0, near)
 
 pub returns-in-Start-clause-complete : goal.returns-in-Start-clause-complete
 returns-in-Start-clause-complete g c = λ bs fed e. absurd (c.feed_start.ensures.goes e)
@@ -168,5 +168,5 @@ returns-in-Close-clause-complete g c = λ bs fed e. absurd (c.feed_close.ensures
 pub returns-in-After-clause-complete : goal.returns-in-After-clause-complete
 returns-in-After-clause-complete g c = λ bs fed e. absurd (c.feed_after.ensures.goes e)
 
-pub returns-in-One-clause-complete : goal.returns-in-One-clause-complete
-returns-in-One-clause-complete g c = λ bs fed e. absurd (c.feed_one.ensures.goes e)
+pub returns-in-MinusOne-clause-complete : goal.returns-in-MinusOne-clause-complete
+returns-in-MinusOne-clause-complete g c = λ bs fed e. absurd (c.feed_minus_one.ensures.goes e)

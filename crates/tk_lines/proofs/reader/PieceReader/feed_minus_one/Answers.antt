@@ -9,7 +9,7 @@ use Rattle.tk_words.proofs.MinusOne.{begins_short}
 use Rattle.tk_lines.proofs.Endings.MinusOneSteps.{after_byte}
 use Rattle.tk_lines.proofs.Endings.AfterMinusOne.{shown_later}
 use Rattle.tk_lines.proofs.LineSteps.{line_behind-byte}
-use Rattle.tk_lines.proofs.reader.PieceReader.feed_one.Goals as goal
+use Rattle.tk_lines.proofs.reader.PieceReader.feed_minus_one.Goals as goal
 
 pub push-requires : goal.push-requires
 push-requires g c =
@@ -40,18 +40,18 @@ returns-then-not-blank_or_end-clause-err g c = λ bs fed.
     told_at (DecidesIf g.F.Form.format anything (bs ++ c.args.byte ∷ [])) _ _ c.fault.ensures
     (shown_later g.F.Form.format g.F.Form.holds c.args.self.now.form c.args.self.now.line c.args.byte c.args.self.now.held bs c.args.on_line at.0.0 at.0.1 solid.0 solid.1 none at.1)
 
-pub returns-in_err-end_one-clause-err : goal.returns-in_err-end_one-clause-err
-returns-in_err-end_one-clause-err g c = λ bs fed.
+pub returns-in_err-end_minus_one-clause-err : goal.returns-in_err-end_minus_one-clause-err
+returns-in_err-end_minus_one-clause-err g c = λ bs fed.
     let p = err_from_is_err_and c.from_residual.result c.from_residual.ensures.1 in
-    rw (p.1, p.2) (told_byte g.F.Form.format c.args.byte bs c.in_err-end_one.field-0.0 (c.in_err-end_one.ensures.err (this c.args.byte) bs (this_within c.args.byte a_gap (λ e more. sym c.blank_or_end.ensures ∙ c.if-not-blank_or_end.false)) fed))
+    rw (p.1, p.2) (told_byte g.F.Form.format c.args.byte bs c.in_err-end_minus_one.field-0.0 (c.in_err-end_minus_one.ensures.err (this c.args.byte) bs (this_within c.args.byte a_gap (λ e more. sym c.blank_or_end.ensures ∙ c.if-not-blank_or_end.false)) fed))
 
 pub feed_close-requires-clause-known : goal.feed_close-requires-clause-known
 feed_close-requires-clause-known g c =
     let bs = c.requires.known.0 in
-    (bs, c.in_ok-end_one.ensures.ended (this c.args.byte) bs (this_within c.args.byte a_gap (λ e more. sym c.blank_or_end.ensures ∙ c.if-not-blank_or_end.false)) c.requires.known.1)
+    (bs, c.in_ok-end_minus_one.ensures.ended (this c.args.byte) bs (this_within c.args.byte a_gap (λ e more. sym c.blank_or_end.ensures ∙ c.if-not-blank_or_end.false)) c.requires.known.1)
 
 pub returns-clause-more : goal.returns-clause-more
-returns-clause-more g c = λ bs fed. c.feed_close.ensures.more bs (c.in_ok-end_one.ensures.ended (this c.args.byte) bs (this_within c.args.byte a_gap (λ e more. sym c.blank_or_end.ensures ∙ c.if-not-blank_or_end.false)) fed)
+returns-clause-more g c = λ bs fed. c.feed_close.ensures.more bs (c.in_ok-end_minus_one.ensures.ended (this c.args.byte) bs (this_within c.args.byte a_gap (λ e more. sym c.blank_or_end.ensures ∙ c.if-not-blank_or_end.false)) fed)
 
 pub returns-clause-err : goal.returns-clause-err
-returns-clause-err g c = λ bs fed. c.feed_close.ensures.err bs (c.in_ok-end_one.ensures.ended (this c.args.byte) bs (this_within c.args.byte a_gap (λ e more. sym c.blank_or_end.ensures ∙ c.if-not-blank_or_end.false)) fed)
+returns-clause-err g c = λ bs fed. c.feed_close.ensures.err bs (c.in_ok-end_minus_one.ensures.ended (this c.args.byte) bs (this_within c.args.byte a_gap (λ e more. sym c.blank_or_end.ensures ∙ c.if-not-blank_or_end.false)) fed)

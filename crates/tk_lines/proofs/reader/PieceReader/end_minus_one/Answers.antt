@@ -4,7 +4,7 @@ use Rattle.tk_words.specs.MinusOne.{is_minus_one}
 use Rattle.tk_lines.specs.Reader.{DecidesIf}
 use Rattle.tk_lines.proofs.KnownPlaces.{at_place, told_at}
 use Rattle.tk_lines.proofs.Endings.AfterMinusOne.{one_ends, one_other, none_whole, minus_first}
-use Rattle.tk_lines.proofs.reader.PieceReader.end_one.Goals as goal
+use Rattle.tk_lines.proofs.reader.PieceReader.end_minus_one.Goals as goal
 
 pub returns-then-minus_one-clause-ended : goal.returns-then-minus_one-clause-ended
 returns-then-minus_one-clause-ended g c = λ next bs within fed.
