@@ -6,7 +6,7 @@ use Rattle.tk_text.specs.Problem.{ProblemIs}
 use Rattle.tk_text.specs.declared.Problem.{Problem}
 use Rattle.tk_text.specs.declared.Weights.{Weights}
 use Rattle.tk_text.specs.declared.Weights.TheVariants.{Points, Lower}
-use Rattle.tk_writers.proofs.MatrixLength.{length_decimal}
+use Rattle.tk_writers.proofs.Lengths.MatrixLength.{length_decimal}
 use Rattle.tk_metric.specs.Cities.{IsCity}
 use Rattle.tk_metric.specs.Weights.{problem_distance}
 use Rattle.tk_tour.specs.Tour.{IsTour, walk, tour_length}

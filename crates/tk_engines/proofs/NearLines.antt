@@ -6,7 +6,7 @@ use Rattle.std.proofs.lemmas.List.FromFn.{length-range_with_len}
 use Rattle.std.proofs.lemmas.List.{length-take}
 use Rattle.tk_metric.specs.Near.{NearLists, near_of}
 use Rattle.tk_text.specs.Written.{near_line, spaced_numbers}
-use Rattle.tk_writers.proofs.MatrixLength.{length_decimal, length_flat_map}
+use Rattle.tk_writers.proofs.Lengths.MatrixLength.{length_decimal, length_flat_map}
 use Rattle.tk_engines.specs.NearText.{near_text}
 
 length_spaced : (xs : List ℕ) → length (spaced_numbers xs) ≤ length xs * 65

@@ -1,13 +1,4 @@
-pub mod Covering
-pub mod Inserting
-pub mod Keeping
+pub mod ExactRoots
 pub mod Laws
-pub mod OneEach
-pub mod Parting
-pub mod Placing
+pub mod Nearest
 pub mod PlaneReads
-pub mod RootLemmas
-pub mod Rounding
-pub mod Sweeping
-pub mod Tables
-pub mod XOrder

@@ -9,7 +9,7 @@ use Rattle.tk_tour.proofs.Cycle.{SameCycle-trans}
 use Rattle.tk_descent.specs.Awake.{one_to, woken_each}
 use Rattle.tk_descent.specs.Machine.{Run}
 use Rattle.tk_descent.specs.Sweeps.{Pass}
-use Rattle.tk_descent.proofs.Woken.{one_to-length, woken_all}
+use Rattle.tk_descent.proofs.WakeRuns.Woken.{one_to-length, woken_all}
 use Rattle.tk_routes.specs.Instance.{Instance}
 use Rattle.tk_routes.specs.Routes.{route_nodes}
 use Rattle.tk_routes.specs.ImprovedRoutes.{IsImproved, IsReadOff, place_distance}

@@ -11,7 +11,7 @@ use Rattle.tk_tour.proofs.Cycle.{IsRotation-refl}
 use Rattle.tk_tour.proofs.Once.{occurrences-append, occurrences-cycle}
 use Rattle.tk_tour.proofs.Tours.{occurrences-same, occurrences-outside, inside_or_not}
 use Rattle.tk_descent.specs.Awake.{one_to}
-use Rattle.tk_descent.proofs.Length.{length-cycle}
+use Rattle.tk_descent.proofs.MovesOnTours.Length.{length-cycle}
 use Rattle.tk_routes.specs.Instance.{Instance, node_of, customer_of}
 use Rattle.tk_routes.specs.Routes.{route_nodes, route_length}
 use Rattle.tk_routes.specs.ImprovedRoutes.{IsReadOff, IsTurned, customer_at, place_distance}

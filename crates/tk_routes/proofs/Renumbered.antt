@@ -10,7 +10,7 @@ use Rattle.tk_tour.specs.Tour.{IsTour, occurrences, walk, tour_length}
 use Rattle.tk_tour.proofs.Once.{occurrences-append}
 use Rattle.tk_tour.proofs.Tours.{occurrences-nil, occurrences-same, occurrences-other, place_found, city_in_range}
 use Rattle.tk_descent.specs.Awake.{one_to}
-use Rattle.tk_descent.proofs.Woken.{one_to-length}
+use Rattle.tk_descent.proofs.WakeRuns.Woken.{one_to-length}
 use Rattle.tk_routes.proofs.CutLists.{cut_at}
 
 -- 1 to n as a tour

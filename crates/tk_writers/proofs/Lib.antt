@@ -1,13 +1,7 @@
-pub mod LinePieces
-pub mod ListLength
-pub mod MatrixLength
+pub mod Lengths
 pub mod MatrixLines
 pub mod ReadBack
 pub mod Saying
 pub mod SolutionReadBack
 pub mod TourReadBack
-pub mod WrittenHeaders
-pub mod WrittenLines
-pub mod WrittenNumbers
-pub mod WrittenPlaces
-pub mod WrittenWeights
+pub mod Written

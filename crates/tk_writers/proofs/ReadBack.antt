@@ -22,12 +22,12 @@ use Rattle.tk_pen.specs.Written.{line}
 use Rattle.tk_lines.proofs.Sections.SectionEnds.{take_whole}
 use Rattle.tk_writers.proofs.Saying.{one_line, name_line, whole_lines, lines-listed, lines-none, clean, says, says-header, says-section, says-rows, says-eof, decided-says}
 use Rattle.tk_lines.proofs.Sections.MiddleOfSection.{token}
-use Rattle.tk_writers.proofs.WrittenHeaders.{after_1, after_2, after_3, after_4, after_5, after_6, name_value, size_value, format_value, name_piece, type_piece, size_piece, weight_type_piece, format_piece, name_passes, type_passes, size_passes, size_read, weight_type_passes, format_passes, format_read, name_read}
-use Rattle.tk_writers.proofs.WrittenLines.{whole_line, lines-written, lines-rows, row_lines, row_tokens, next_line, tokens-rows, last_of_rows, rows_written, numbers_written, AreWritten, ShortRows}
-use Rattle.tk_writers.proofs.WrittenNumbers.{IsShort, one_line_append, decimal_line}
+use Rattle.tk_writers.proofs.Written.WrittenHeaders.{after_1, after_2, after_3, after_4, after_5, after_6, name_value, size_value, format_value, name_piece, type_piece, size_piece, weight_type_piece, format_piece, name_passes, type_passes, size_passes, size_read, weight_type_passes, format_passes, format_read, name_read}
+use Rattle.tk_writers.proofs.Written.WrittenLines.{whole_line, lines-written, lines-rows, row_lines, row_tokens, next_line, tokens-rows, last_of_rows, rows_written, numbers_written, AreWritten, ShortRows}
+use Rattle.tk_writers.proofs.Written.WrittenNumbers.{IsShort, one_line_append, decimal_line}
 use Rattle.tk_lines.proofs.Lines.{OnOneLine}
-use Rattle.tk_writers.proofs.WrittenPlaces.{at_place, rows_of, matrix_lines, rows-order, rows-short}
-use Rattle.tk_writers.proofs.WrittenWeights.{weights_accepted, lower_read}
+use Rattle.tk_writers.proofs.Written.WrittenPlaces.{at_place, rows_of, matrix_lines, rows-order, rows-short}
+use Rattle.tk_writers.proofs.Written.WrittenWeights.{weights_accepted, lower_read}
 
 -- ---- the lines of the text
 

@@ -11,7 +11,7 @@ use Rattle.tk_lines.specs.Pieces.{Piece, Header, Section, Clean, Format, cut, de
 use Rattle.tk_words.specs.Words.{keyword_of, section_word, rest_word}
 use Rattle.tk_pen.specs.Written.{line}
 use Rattle.tk_lines.proofs.Sections.MiddleOfSection.{cut-covered, token}
-use Rattle.tk_writers.proofs.WrittenLines.{whole_line, lines-written, row_lines, next_line, cut-rows}
+use Rattle.tk_writers.proofs.Written.WrittenLines.{whole_line, lines-written, row_lines, next_line, cut-rows}
 use Rattle.tk_lines.proofs.Lines.{OnOneLine}
 
 -- ---- the lines of a text

@@ -14,8 +14,8 @@ use Rattle.tk_writers.specs.ReadBack.{IsSolution, SolutionReadsBack}
 use Rattle.tk_lines.proofs.Headers.ByteRuns.{front-all, behind-all}
 use Rattle.tk_lines.proofs.Sections.MiddleOfSection.{tokens_of-gap, tokens_of-none, tokens_of-last}
 use Rattle.tk_lists.proofs.SolutionLines.{routes_of-append, count_of-append, has_cost-append, cost_of-append}
-use Rattle.tk_writers.proofs.WrittenLines.{whole_line, lines-written}
-use Rattle.tk_writers.proofs.WrittenNumbers.{IsDigit, is_digit, digit_solid, spelled, IsShort, short_decimal, integer_decimal, decimal_run, decimal_line, one_line_append, AllShort, numbers_line, numbers_tokens, number_token}
+use Rattle.tk_writers.proofs.Written.WrittenLines.{whole_line, lines-written}
+use Rattle.tk_writers.proofs.Written.WrittenNumbers.{IsDigit, is_digit, digit_solid, spelled, IsShort, short_decimal, integer_decimal, decimal_run, decimal_line, one_line_append, AllShort, numbers_line, numbers_tokens, number_token}
 use Rattle.tk_lines.proofs.Lines.{OnOneLine}
 
 -- ---- the lines

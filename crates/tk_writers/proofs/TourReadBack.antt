@@ -22,9 +22,9 @@ use Rattle.tk_words.proofs.NoWord.{integer-no_word}
 use Rattle.tk_writers.proofs.Saying.{one_line, name_line, whole_lines, lines-listed, lines-none, clean, says, says-header, says-section, says-rows, says-covered, says-eof, decided-says}
 use Rattle.tk_lines.proofs.Headers.HeaderBytes.{trimmed_short}
 use Rattle.tk_lines.proofs.Sections.MiddleOfSection.{token}
-use Rattle.tk_writers.proofs.WrittenHeaders.{headed, size_value, first_word_run}
-use Rattle.tk_writers.proofs.WrittenLines.{whole_line, lines-rows, row_lines, row_tokens, next_line, tokens-rows, rows_written, in_rows, AreWritten, IsWritten, ShortRows}
-use Rattle.tk_writers.proofs.WrittenNumbers.{IsShort, one_line_append, decimal_line, decimal_run, integer_decimal, short_decimal}
+use Rattle.tk_writers.proofs.Written.WrittenHeaders.{headed, size_value, first_word_run}
+use Rattle.tk_writers.proofs.Written.WrittenLines.{whole_line, lines-rows, row_lines, row_tokens, next_line, tokens-rows, rows_written, in_rows, AreWritten, IsWritten, ShortRows}
+use Rattle.tk_writers.proofs.Written.WrittenNumbers.{IsShort, one_line_append, decimal_line, decimal_run, integer_decimal, short_decimal}
 use Rattle.tk_lines.proofs.Lines.{OnOneLine}
 
 -- ---- the cities, each on a line of its own

@@ -4,9 +4,9 @@ use Rattle.std.proofs.lemmas.Int.{ints, to_z-of_z}
 use Rattle.std.specs.Prelude.{slice_index}
 use Rattle.tk_tour.specs.Moves.{CutInFour}
 use Rattle.tk_tour.specs.Tour.{SameCycle, tour_length}
-use Rattle.tk_descent.proofs.Length.{Spans-append, closed, inner, inner-append, length-cycle}
-use Rattle.tk_descent.proofs.Paths.{Spans}
-use Rattle.tk_descent.proofs.Views.{spans_of}
+use Rattle.tk_descent.proofs.MovesOnTours.Length.{Spans-append, closed, inner, inner-append, length-cycle}
+use Rattle.tk_descent.proofs.MovesOnTours.Paths.{Spans}
+use Rattle.tk_descent.proofs.MovesOnTours.Views.{spans_of}
 use Rattle.tk_build.specs.Cuts.{steps_in, steps_out}
 
 -- the way along four paths end to end, and round

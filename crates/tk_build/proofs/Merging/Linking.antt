@@ -9,7 +9,7 @@ use Rattle.std.specs.Int.RustNames.{unsigned_abs}
 use Rattle.tk_metric.specs.declared.near_lists.keep.Candidate.{Candidate}
 use Rattle.tk_metric.specs.declared.near_lists.sweep.Placed.{Placed}
 use Rattle.tk_metric.specs.Cities.{IsCity}
-use Rattle.tk_metric.proofs.Keeping.{closer_from_rank}
+use Rattle.tk_metric.proofs.Nearest.Keeping.{closer_from_rank}
 use Rattle.tk_metric.specs.Keeping.{rank, candidate}
 use Rattle.tk_metric.specs.Near.{IsNear}
 use Rattle.tk_metric.specs.Sweep.{IsXOrder, IsFloor, city_at, place_at, nowhere, x_gap}

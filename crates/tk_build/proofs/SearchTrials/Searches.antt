@@ -8,7 +8,7 @@ use Rattle.tk_tour.specs.JournalTours.{slots_of}
 use Rattle.tk_tour.specs.Tour.{tour_length}
 use Rattle.tk_metric.specs.Cities.{city_at}
 use Rattle.tk_descent.specs.Awake.{woken_each}
-use Rattle.tk_descent.proofs.Count.{woken_each-le}
+use Rattle.tk_descent.proofs.OfferLists.Count.{woken_each-le}
 use Rattle.tk_build.specs.Cuts.{end_places}
 use Rattle.tk_build.specs.declared.double_bridges.cuts.Cuts.{Cuts}
 use Rattle.tk_build.specs.Searching.{IsSearching}

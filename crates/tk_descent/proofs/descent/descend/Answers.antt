@@ -1,14 +1,14 @@
 use Rattle.std.proofs.Common.{arith, [], ◌-◌, rules, refl, ◌+◌, ◌*◌, ◌/◌, ◌≤◌, ap, ◌∙◌, length, ◌≡◌, subst}
 use Rattle.tk_metric.specs.Near.{near_of}
-use Rattle.tk_descent.proofs.OnCycle.{more_on}
+use Rattle.tk_descent.proofs.OfferLists.OnCycle.{more_on}
 use Rattle.tk_tour.specs.Tour.{tour_length, IsTour}
 use Rattle.tk_descent.specs.Machine.{Run}
 use Rattle.tk_descent.specs.Machine.Run.{start}
-use Rattle.tk_descent.proofs.Rounds.{round_of}
-use Rattle.tk_descent.proofs.DescentSteps.{run_asleep, run_move, less_move, worth_move, queue_left, fits_length, more_swaps, tests_rise, count_look, few_tests, fresh_count}
-use Rattle.tk_descent.proofs.Count.{fewer}
+use Rattle.tk_descent.proofs.MovesOnTours.Rounds.{round_of}
+use Rattle.tk_descent.proofs.WakeRuns.DescentSteps.{run_asleep, run_move, less_move, worth_move, queue_left, fits_length, more_swaps, tests_rise, count_look, few_tests, fresh_count}
+use Rattle.tk_descent.proofs.OfferLists.Count.{fewer}
 use Rattle.tk_descent.specs.WakeMachine.{Wakes}
-use Rattle.tk_descent.proofs.Machines.{run_wakes}
+use Rattle.tk_descent.proofs.WakeRuns.Machines.{run_wakes}
 use Rattle.tk_descent.proofs.descent.descend.Goals as goal
 
 pub loop-x-init : goal.loop-x-init

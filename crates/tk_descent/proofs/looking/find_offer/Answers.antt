@@ -2,10 +2,10 @@ use Rattle.std.proofs.Common.{◌∙◌, length, ap, flat_map, arith, sym}
 use Rattle.tk_metric.specs.Near.{near_of}
 use Rattle.tk_tour.specs.Tour.{next_city, prev_city}
 use Rattle.tk_descent.specs.Offers.{segments, offers_with, first_gain, offers, segment_count}
-use Rattle.tk_descent.proofs.Searching.{Searched-more, Searched-early, Searched-none, with_city, on_list, pieces_are}
-use Rattle.tk_descent.proofs.Count.{tested, tested_part}
-use Rattle.tk_descent.proofs.OnCycle.{offers_on}
-use Rattle.tk_descent.proofs.Rounds.{round_of}
+use Rattle.tk_descent.proofs.OfferLists.Searching.{Searched-more, Searched-early, Searched-none, with_city, on_list, pieces_are}
+use Rattle.tk_descent.proofs.OfferLists.Count.{tested, tested_part}
+use Rattle.tk_descent.proofs.OfferLists.OnCycle.{offers_on}
+use Rattle.tk_descent.proofs.MovesOnTours.Rounds.{round_of}
 use Rattle.tk_descent.proofs.looking.find_offer.Goals as goal
 
 pub loop-y-init : goal.loop-y-init

@@ -1,7 +1,7 @@
 use Rattle.std.proofs.Common.{sym}
 use Rattle.tk_metric.specs.Near.{near_of}
-use Rattle.tk_descent.proofs.Rounds.{round_of}
-use Rattle.tk_descent.proofs.Machines.{none_improves}
+use Rattle.tk_descent.proofs.MovesOnTours.Rounds.{round_of}
+use Rattle.tk_descent.proofs.WakeRuns.Machines.{none_improves}
 use Rattle.tk_descent.proofs.looking.look.Goals as goal
 
 pub returns-in-None-clause-none : goal.returns-in-None-clause-none

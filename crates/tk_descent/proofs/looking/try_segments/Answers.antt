@@ -1,5 +1,5 @@
 use Rattle.tk_descent.specs.Sharing.{piece_offers}
-use Rattle.tk_descent.proofs.Searching.{Searched-more, Searched-early, Searched-on, Searched-stop, Searched-none}
+use Rattle.tk_descent.proofs.OfferLists.Searching.{Searched-more, Searched-early, Searched-on, Searched-stop, Searched-none}
 use Rattle.tk_descent.proofs.looking.try_segments.Goals as goal
 
 pub loop-piece-init : goal.loop-piece-init

@@ -1,9 +1,9 @@
 use Rattle.std.proofs.Common.{sym, ◌∙◌, subst}
 use Rattle.tk_descent.specs.Machine.{IsOfferOn}
 use Rattle.tk_descent.specs.Offers.{Makes, EndsIn}
-use Rattle.tk_descent.proofs.Made.{two_steps, mirrored_move, forward_back}
-use Rattle.tk_descent.proofs.Rounds.{round_of, can_flip}
-use Rattle.tk_descent.proofs.Views.{made_on}
+use Rattle.tk_descent.proofs.OfferLists.Made.{two_steps, mirrored_move, forward_back}
+use Rattle.tk_descent.proofs.MovesOnTours.Rounds.{round_of, can_flip}
+use Rattle.tk_descent.proofs.MovesOnTours.Views.{made_on}
 use Rattle.std.proofs.Common.{length}
 use Rattle.tk_descent.specs.declared.offer.Offer.TheVariants.{Two}
 use Rattle.tk_descent.proofs.making.make.Goals as goal

@@ -1,6 +1,6 @@
 use Rattle.std.proofs.Common.{sym, ◌∙◌}
-use Rattle.tk_descent.proofs.Made.{cut_then, cut_else, makes_straight, makes_turned, makes_alone}
-use Rattle.tk_descent.proofs.Rounds.{round_of}
+use Rattle.tk_descent.proofs.OfferLists.Made.{cut_then, cut_else, makes_straight, makes_turned, makes_alone}
+use Rattle.tk_descent.proofs.MovesOnTours.Rounds.{round_of}
 use Rattle.tk_descent.proofs.making.move_forward.Goals as goal
 
 pub move_reversed-requires : goal.move_reversed-requires

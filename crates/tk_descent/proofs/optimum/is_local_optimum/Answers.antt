@@ -3,8 +3,8 @@ use Rattle.std.proofs.lemmas.Bool.{cases_eq, both_ways}
 use Rattle.tk_metric.specs.Near.{near_of}
 use Rattle.tk_descent.specs.Offers.{first_gain, offers}
 use Rattle.tk_descent.specs.WakeMachine.{HasNoOffer}
-use Rattle.tk_descent.proofs.Rounds.{round_of}
-use Rattle.tk_descent.proofs.Machines.{some_improves}
+use Rattle.tk_descent.proofs.MovesOnTours.Rounds.{round_of}
+use Rattle.tk_descent.proofs.WakeRuns.Machines.{some_improves}
 use Rattle.tk_descent.proofs.optimum.is_local_optimum.Goals as goal
 
 pub loop-x-preserved : goal.loop-x-preserved

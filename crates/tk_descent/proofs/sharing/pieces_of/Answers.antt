@@ -1,5 +1,5 @@
 use Rattle.tk_descent.specs.Sharing.{IsPiece}
-use Rattle.tk_descent.proofs.Searching.{all_of_five}
+use Rattle.tk_descent.proofs.OfferLists.Searching.{all_of_five}
 use Rattle.tk_descent.proofs.sharing.pieces_of.Goals as goal
 
 pub returns-clause-shared : goal.returns-clause-shared

@@ -5,9 +5,9 @@ use Rattle.tk_tour.specs.Tour.{tour_length, IsTour}
 use Rattle.tk_descent.specs.Awake.{one_to}
 use Rattle.tk_descent.specs.Sweeps.{Moving}
 use Rattle.tk_descent.specs.Sweeps.Moving.{start, pass}
-use Rattle.tk_descent.proofs.Rounds.{round_of}
-use Rattle.tk_descent.proofs.Woken.{one_to-length}
-use Rattle.tk_descent.proofs.Passes.{all_awake, pass_of, pass_optimum, after_bits, more_looks, more_tests, more_swaps, swept, count_pass, fresh_sweep}
+use Rattle.tk_descent.proofs.MovesOnTours.Rounds.{round_of}
+use Rattle.tk_descent.proofs.WakeRuns.Woken.{one_to-length}
+use Rattle.tk_descent.proofs.WakeRuns.Passes.{all_awake, pass_of, pass_optimum, after_bits, more_looks, more_tests, more_swaps, swept, count_pass, fresh_sweep}
 use Rattle.tk_descent.proofs.sweep.descend_swept.Goals as goal
 
 pub sweeping-init : goal.sweeping-init

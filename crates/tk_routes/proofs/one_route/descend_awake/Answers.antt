@@ -3,7 +3,7 @@ use Rattle.tk_metric.specs.Near.{near_of}
 use Rattle.tk_tour.specs.Tour.{IsTour}
 use Rattle.tk_tour.specs.ArrayTours.{order_of}
 use Rattle.tk_descent.specs.Awake.{one_to}
-use Rattle.tk_descent.proofs.Woken.{one_to-length}
+use Rattle.tk_descent.proofs.WakeRuns.Woken.{one_to-length}
 use Rattle.tk_routes.proofs.DescendedRoutes.{queue_is, queue_length, Pass-from}
 use Rattle.tk_routes.proofs.Renumbered.{All-one_to}
 use Rattle.tk_routes.proofs.one_route.descend_awake.Goals as goal

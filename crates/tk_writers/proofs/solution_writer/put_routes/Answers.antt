@@ -1,4 +1,4 @@
-use Rattle.tk_writers.proofs.LinePieces.{route_lines_take}
+use Rattle.tk_writers.proofs.Written.LinePieces.{route_lines_take}
 use Rattle.tk_pen.proofs.Putting.{Puts-then}
 use Rattle.tk_writers.proofs.solution_writer.put_routes.Goals as goal
 

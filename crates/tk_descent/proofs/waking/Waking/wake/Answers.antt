@@ -1,5 +1,5 @@
 use Rattle.std.proofs.Common.{arith, ap, ◌∙◌, ◌<◌, length}
-use Rattle.tk_descent.proofs.Queue.{pushed_ring, IsWaking-wake}
+use Rattle.tk_descent.proofs.WakeRuns.Queue.{pushed_ring, IsWaking-wake}
 use Rattle.tk_descent.proofs.waking.Waking.wake.Goals as goal
 
 pub invariant_of-self : goal.invariant_of-self

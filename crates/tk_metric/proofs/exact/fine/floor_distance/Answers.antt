@@ -2,8 +2,8 @@ use Rattle.std.proofs.Common.{ℕ, ◌*◌, ◌+◌, ◌<◌, ◌≤◌, arith, 
 use Rattle.std.proofs.lemmas.Grind.{div_ceil_times}
 use Rattle.tk_problem.specs.declared.weights.PlaneKind.{PlaneKind}
 use Rattle.tk_metric.specs.Distance.{IsDistance}
-use Rattle.tk_metric.proofs.Covering.{least_along}
-use Rattle.tk_metric.proofs.Rounding.{nearest_along}
+use Rattle.tk_metric.proofs.ExactRoots.Covering.{least_along}
+use Rattle.tk_metric.proofs.ExactRoots.Rounding.{nearest_along}
 use Rattle.tk_metric.proofs.exact.fine.floor_distance.Goals as goal
 
 pub returns-in-Euc2d : goal.returns-in-Euc2d

@@ -3,7 +3,7 @@ use Rattle.std.proofs.lemmas.Nat.{mul-le}
 use Rattle.std.proofs.lemmas.Bool.{cases_lt}
 use Rattle.std.proofs.lemmas.Grind.{div_ceil_times}
 use Rattle.std.specs.Int.{div_ceil}
-use Rattle.tk_metric.proofs.Covering.{least_from_root, root_up_small}
+use Rattle.tk_metric.proofs.ExactRoots.Covering.{least_from_root, root_up_small}
 use Rattle.tk_metric.proofs.exact.fine.least_searched.Goals as goal
 
 quotient_small : (square parts q : ℕ) → 1 ≤ parts → q ≡ div_ceil square parts → square ≤ 8000000000000000000000000000000000000 → q ≤ 8000000000000000000000000000000000000

@@ -1,5 +1,5 @@
 use Rattle.std.proofs.Common.{◌≤◌, ◌*◌, ℕ, subst}
-use Rattle.tk_metric.proofs.Rounding.{nearest_between}
+use Rattle.tk_metric.proofs.ExactRoots.Rounding.{nearest_between}
 use Rattle.tk_metric.proofs.exact.fine.nearest.Goals as goal
 
 pub returns-then-square-high : goal.returns-then-square-high

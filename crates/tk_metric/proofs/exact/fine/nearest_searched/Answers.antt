@@ -1,5 +1,5 @@
 use Rattle.std.proofs.Common.{refl}
-use Rattle.tk_metric.proofs.Rounding.{nearest_from_root}
+use Rattle.tk_metric.proofs.ExactRoots.Rounding.{nearest_from_root}
 use Rattle.tk_metric.proofs.exact.fine.nearest_searched.Goals as goal
 
 pub returns : goal.returns

@@ -1,5 +1,5 @@
 use Rattle.std.proofs.Common.{arith}
-use Rattle.tk_metric.proofs.RootLemmas.{root_between}
+use Rattle.tk_metric.proofs.ExactRoots.RootLemmas.{root_between}
 use Rattle.tk_metric.proofs.exact.roots.root.Goals as goal
 
 pub returns-then-x-square : goal.returns-then-x-square

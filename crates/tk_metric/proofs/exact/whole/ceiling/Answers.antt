@@ -1,5 +1,5 @@
 use Rattle.std.proofs.Common.{arith}
-use Rattle.tk_metric.proofs.Covering.{least_whole}
+use Rattle.tk_metric.proofs.ExactRoots.Covering.{least_whole}
 use Rattle.tk_metric.proofs.exact.whole.ceiling.Goals as goal
 
 pub returns-else-middle-square-2 : goal.returns-else-middle-square-2

@@ -1,4 +1,4 @@
-use Rattle.tk_metric.proofs.Rounding.{root_test}
+use Rattle.tk_metric.proofs.ExactRoots.Rounding.{root_test}
 use Rattle.tk_metric.proofs.exact.whole.is_root_below.Goals as goal
 
 pub returns : goal.returns

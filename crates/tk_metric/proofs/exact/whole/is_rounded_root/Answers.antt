@@ -1,6 +1,6 @@
 use Rattle.std.proofs.Common.{arith}
 use Rattle.std.proofs.lemmas.Bool.{leb-true}
-use Rattle.tk_metric.proofs.Rounding.{nearest_whole}
+use Rattle.tk_metric.proofs.ExactRoots.Rounding.{nearest_whole}
 use Rattle.tk_metric.proofs.exact.whole.is_rounded_root.Goals as goal
 
 pub returns-then-middle-square : goal.returns-then-middle-square

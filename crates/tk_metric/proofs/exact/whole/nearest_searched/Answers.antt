@@ -1,5 +1,5 @@
 use Rattle.std.proofs.Common.{◌+◌, arith}
-use Rattle.tk_metric.proofs.Rounding.{nearest_whole}
+use Rattle.tk_metric.proofs.ExactRoots.Rounding.{nearest_whole}
 use Rattle.tk_metric.proofs.exact.whole.nearest_searched.Goals as goal
 
 pub returns-then-root-square : goal.returns-then-root-square

@@ -1,7 +1,7 @@
 use Rattle.std.proofs.Common.{arith, ◌≡◌, ℕ, ◌-◌, ◌<◌, ◌≤◌, take, drop, length, List, [], ◌∷◌, sym, ap, ◌∙◌, get_or}
 use Rattle.tk_metric.specs.Keeping.{rank, insert_by}
-use Rattle.tk_metric.proofs.Inserting.{insert_by-full, before_false, before_true}
-use Rattle.tk_metric.proofs.Placing.{drop-take_same, keep_step, keep_end, last_inserted}
+use Rattle.tk_metric.proofs.Nearest.Inserting.{insert_by-full, before_false, before_true}
+use Rattle.tk_metric.proofs.Nearest.Placing.{drop-take_same, keep_step, keep_end, last_inserted}
 use Rattle.std.proofs.lemmas.List.{length-take-le}
 use Rattle.tk_metric.specs.declared.near_lists.keep.Candidate.{Candidate}
 use Rattle.tk_metric.proofs.near_lists.keep.keep.Goals as goal

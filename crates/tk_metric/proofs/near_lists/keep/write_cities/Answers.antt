@@ -1,6 +1,6 @@
 use Rattle.std.proofs.Common.{arith, ◌+◌, ◌*◌, ◌-◌, ◌<◌, length, ap, ◌∙◌, slice_set, slice_index_or}
 use Rattle.tk_metric.specs.declared.near_lists.keep.Candidate.{Candidate}
-use Rattle.tk_metric.proofs.Tables.{written_more, product_step}
+use Rattle.tk_metric.proofs.Nearest.Tables.{written_more, product_step}
 use Rattle.tk_metric.proofs.near_lists.keep.write_cities.Goals as goal
 
 pub loop-i-preserved : goal.loop-i-preserved

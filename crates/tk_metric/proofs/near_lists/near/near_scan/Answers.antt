@@ -3,7 +3,7 @@ use Rattle.std.proofs.lemmas.Bool.{cases_eq}
 use Rattle.std.proofs.lemmas.List.{take_at}
 use Rattle.tk_metric.specs.Cities.{IsCity}
 use Rattle.tk_metric.specs.Keeping.{AreFilled}
-use Rattle.tk_metric.proofs.Tables.{AreFilled-write}
+use Rattle.tk_metric.proofs.Nearest.Tables.{AreFilled-write}
 use Rattle.tk_metric.specs.declared.near_lists.keep.Candidate.{Candidate}
 use Rattle.tk_metric.proofs.near_lists.near.near_scan.Goals as goal
 

@@ -2,7 +2,7 @@ use Rattle.std.proofs.Common.{arith, ◌≡◌, ◌≢◌, ℕ, ◌+◌, ◌-◌
 use Rattle.std.specs.Prelude.{nat_lt, replicate}
 use Rattle.std.proofs.lemmas.Bool.{cases_eq}
 use Rattle.tk_metric.specs.Keeping.{open_place}
-use Rattle.tk_metric.proofs.Keeping.{KeepsFirst-none, KeepsFirst-more, KeepsFirst-same, KeepsFirst-count, IsNear-from_kept, kept_climbing, kept_length, same_twice, count_others, count_self, count_all}
+use Rattle.tk_metric.proofs.Nearest.Keeping.{KeepsFirst-none, KeepsFirst-more, KeepsFirst-same, KeepsFirst-count, IsNear-from_kept, kept_climbing, kept_length, same_twice, count_others, count_self, count_all}
 use Rattle.tk_metric.proofs.near_lists.near.scan_city.Goals as goal
 use Rattle.tk_metric.proofs.near_lists.near.scan_city.Goals.{then-b-c, else-b-c}
 

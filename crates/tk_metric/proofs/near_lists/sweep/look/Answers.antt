@@ -1,5 +1,5 @@
 use Rattle.std.proofs.Common.{arith}
-use Rattle.tk_metric.proofs.Sweeping.{gap_in_y, kept_without_y}
+use Rattle.tk_metric.proofs.Nearest.Sweeping.{gap_in_y, kept_without_y}
 use Rattle.tk_metric.proofs.near_lists.sweep.look.Goals as goal
 
 pub returns-then-gap_y-far-clause-kept : goal.returns-then-gap_y-far-clause-kept

@@ -1,5 +1,5 @@
 use Rattle.std.proofs.Common.{refl}
-use Rattle.tk_metric.proofs.Sweeping.{kept_without_y, far_kept, greater_gap}
+use Rattle.tk_metric.proofs.Nearest.Sweeping.{kept_without_y, far_kept, greater_gap}
 use Rattle.tk_metric.proofs.near_lists.sweep.meet.Goals as goal
 
 pub returns-then-is_far-clause-kept : goal.returns-then-is_far-clause-kept

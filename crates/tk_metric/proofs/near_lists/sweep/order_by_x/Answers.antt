@@ -1,7 +1,7 @@
 use Rattle.std.proofs.Common.{arith, rules, ◌≡◌, ◌-◌}
 use Rattle.std.proofs.lemmas.List.Sorted.{answers_always}
 use Rattle.tk_metric.specs.declared.near_lists.sweep.Placed.{Placed}
-use Rattle.tk_metric.proofs.XOrder.{IsXOrder-from_sort}
+use Rattle.tk_metric.proofs.Nearest.XOrder.{IsXOrder-from_sort}
 use Rattle.tk_metric.proofs.near_lists.sweep.order_by_x.Goals as goal
 
 pub returns : goal.returns

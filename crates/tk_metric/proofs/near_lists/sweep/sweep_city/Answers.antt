@@ -1,6 +1,6 @@
 use Rattle.std.proofs.Common.{arith, ◌≡◌, ℕ, length, replicate}
 use Rattle.tk_metric.specs.Keeping.{open_place}
-use Rattle.tk_metric.proofs.Sweeping.{IsSwept-none, IsNear-from_swept}
+use Rattle.tk_metric.proofs.Nearest.Sweeping.{IsSwept-none, IsNear-from_swept}
 use Rattle.tk_metric.proofs.near_lists.sweep.sweep_city.Goals as goal
 
 pub loop-low-init : goal.loop-low-init

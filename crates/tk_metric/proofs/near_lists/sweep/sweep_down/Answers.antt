@@ -1,6 +1,6 @@
 use Rattle.std.proofs.Common.{arith}
 use Rattle.tk_metric.specs.Sweep.{IsFloor}
-use Rattle.tk_metric.proofs.Sweeping.{swept_climbing, swept_down_near, swept_down_far}
+use Rattle.tk_metric.proofs.Nearest.Sweeping.{swept_climbing, swept_down_near, swept_down_far}
 use Rattle.tk_metric.proofs.near_lists.sweep.sweep_down.Goals as goal
 
 pub look-requires-clause-climbing : goal.look-requires-clause-climbing

@@ -1,5 +1,5 @@
 use Rattle.std.proofs.lemmas.List.Sorted.{IsPermutation-append, IsPermutation-trans}
-use Rattle.tk_metric.proofs.Parting.{planted_within}
+use Rattle.tk_metric.proofs.Nearest.Parting.{planted_within}
 use Rattle.tk_metric.proofs.near_lists.tree.+plant.Goals as goal
 
 pub returns-clause-moved : goal.returns-clause-moved

@@ -2,7 +2,7 @@ use Rattle.std.proofs.Common.{arith, ◌++◌, ap, inl, inr}
 use Rattle.std.specs.Prelude.{All}
 use Rattle.tk_metric.specs.Sweep.{IsPlaced}
 use Rattle.tk_metric.specs.Tree.{entries_of, parts_of}
-use Rattle.tk_metric.proofs.Parting.{AreFloors, IsSmall, kept_without_part, all_front, all_back, part_past, part_smaller, seen_both, seen_both_back, placed_small}
+use Rattle.tk_metric.proofs.Nearest.Parting.{AreFloors, IsSmall, kept_without_part, all_front, all_back, part_past, part_smaller, seen_both, seen_both_back, placed_small}
 use Rattle.tk_metric.proofs.near_lists.tree.+search.Goals as goal
 
 pub returns-then-is_out-clause-kept : goal.returns-then-is_out-clause-kept

@@ -1,7 +1,7 @@
 use Rattle.std.proofs.Common.{arith, ◌≡◌, ◌+◌, ◌<◌, ◌∙◌, ap, inl, inr, ⊎_elim, length, sym}
 use Rattle.std.proofs.lemmas.Bool.{cases_eq}
 use Rattle.tk_metric.specs.Sweep.{IsAt, city_at, nowhere}
-use Rattle.tk_metric.proofs.Tables.{AreFilled-write, AreFilled-none, AreFilled-same}
+use Rattle.tk_metric.proofs.Nearest.Tables.{AreFilled-write, AreFilled-none, AreFilled-same}
 use Rattle.tk_metric.proofs.near_lists.tree.fill_from_tree.Goals as goal
 
 pub loop-here-init : goal.loop-here-init

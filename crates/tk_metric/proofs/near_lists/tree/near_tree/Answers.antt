@@ -1,7 +1,7 @@
 use Rattle.std.proofs.Common.{◌∙◌, drop, length}
 use Rattle.std.proofs.lemmas.List.{take_at}
 use Rattle.std.proofs.lemmas.List.Sorted.{length_permutation}
-use Rattle.tk_metric.proofs.Parting.{IsRow-from_order}
+use Rattle.tk_metric.proofs.Nearest.Parting.{IsRow-from_order}
 use Rattle.tk_metric.proofs.near_lists.tree.near_tree.Goals as goal
 
 pub fill_from_tree-requires-clause-row : goal.fill_from_tree-requires-clause-row

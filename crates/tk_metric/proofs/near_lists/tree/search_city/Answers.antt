@@ -1,8 +1,8 @@
 use Rattle.std.proofs.Common.{◌≡◌, ℕ, ◌∙◌, ap, length, replicate}
 use Rattle.tk_metric.specs.Keeping.{rank, open_place}
 use Rattle.tk_metric.specs.Tree.{entries_of, with_cities}
-use Rattle.tk_metric.proofs.Keeping.{Climbing-replicate}
-use Rattle.tk_metric.proofs.Parting.{all_past, IsNear-from_row}
+use Rattle.tk_metric.proofs.Nearest.Keeping.{Climbing-replicate}
+use Rattle.tk_metric.proofs.Nearest.Parting.{all_past, IsNear-from_row}
 use Rattle.tk_metric.proofs.near_lists.tree.search_city.Goals as goal
 
 pub search-requires-clause-past : goal.search-requires-clause-past

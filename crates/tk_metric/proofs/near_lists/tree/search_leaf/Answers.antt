@@ -1,6 +1,6 @@
 use Rattle.std.proofs.Common.{arith}
 use Rattle.tk_metric.specs.Sweep.{nowhere}
-use Rattle.tk_metric.proofs.Parting.{seen_more, seen_same, with_candidate_climbing}
+use Rattle.tk_metric.proofs.Nearest.Parting.{seen_more, seen_same, with_candidate_climbing}
 use Rattle.tk_metric.proofs.near_lists.tree.search_leaf.Goals as goal
 use Rattle.tk_metric.proofs.near_lists.tree.search_leaf.Goals.{then-there-here, else-there-here}
 

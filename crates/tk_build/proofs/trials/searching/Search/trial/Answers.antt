@@ -4,8 +4,8 @@ use Rattle.tk_tour.specs.JournalTours.{tour_of}
 use Rattle.tk_tour.specs.Tour.{tour_length}
 use Rattle.tk_tour.specs.declared.array.ArrayTour.{ArrayTour}
 use Rattle.tk_descent.specs.Awake.{one_to}
-use Rattle.tk_descent.proofs.Passes.{all_awake}
-use Rattle.tk_descent.proofs.Woken.{one_to-length}
+use Rattle.tk_descent.proofs.WakeRuns.Passes.{all_awake}
+use Rattle.tk_descent.proofs.WakeRuns.Woken.{one_to-length}
 use Rattle.tk_build.specs.Totals.{AddsTrial}
 use Rattle.tk_build.specs.Trials.{gain_of, IsTrial, IsBoundedTrial, IsKick}
 use Rattle.tk_metric.specs.Near.{near_of}

@@ -1,6 +1,6 @@
 use Rattle.std.proofs.Common.{ℕ, List, ◌≤◌, length, ap, ◌∙◌, sym, subst, arith}
 use Rattle.std.proofs.lemmas.Int.{ints}
-use Rattle.tk_descent.proofs.DescentSteps.{fits_length}
+use Rattle.tk_descent.proofs.WakeRuns.DescentSteps.{fits_length}
 use Rattle.tk_descent.specs.Awake.{one_to, woken_each}
 use Rattle.tk_tour.specs.ArrayTours.{order_of}
 use Rattle.tk_tour.specs.JournalTours.{tour_of}

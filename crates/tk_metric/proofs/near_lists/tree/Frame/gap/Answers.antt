@@ -3,7 +3,7 @@ use Rattle.std.specs.Prelude.{◌-ℤ◌}
 use Rattle.std.specs.Int.RustNames.{unsigned_abs}
 use Rattle.std.proofs.lemmas.Int.{ints}
 use Rattle.tk_metric.proofs.near_lists.tree.Frame.gap.Goals as goal
-use Rattle.tk_metric.proofs.Parting.{one_of_max}
+use Rattle.tk_metric.proofs.Nearest.Parting.{one_of_max}
 
 pub returns-clause-beyond : goal.returns-clause-beyond
 returns-clause-beyond c = λ p w.

@@ -16,8 +16,8 @@ use Rattle.tk_problem_text.specs.Names.{IsName}
 use Rattle.tk_lines.specs.Scan.{first_word, not_blank}
 use Rattle.tk_words.specs.Words.{keyword_of, section_word, rest_word}
 use Rattle.tk_lines.proofs.Sections.MiddleOfSection.{token, run_head}
-use Rattle.tk_writers.proofs.WrittenLines.{whole_line}
-use Rattle.tk_writers.proofs.WrittenNumbers.{decimal_run, integer_decimal, short_decimal}
+use Rattle.tk_writers.proofs.Written.WrittenLines.{whole_line}
+use Rattle.tk_writers.proofs.Written.WrittenNumbers.{decimal_run, integer_decimal, short_decimal}
 
 -- ---- the headers
 

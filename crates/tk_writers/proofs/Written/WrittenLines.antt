@@ -12,7 +12,7 @@ use Rattle.tk_lines.proofs.MiddleOfLine.{lines-byte, lines-LF}
 use Rattle.tk_lines.proofs.Sections.MiddleOfSection.{cut-covered}
 use Rattle.tk_lines.proofs.Sections.SectionEnds.{last_line-append}
 use Rattle.tk_lines.proofs.Lines.{OnOneLine}
-use Rattle.tk_writers.proofs.WrittenNumbers.{AllShort, number_token, numbers_line, numbers_tokens, integer_decimal, short_decimal}
+use Rattle.tk_writers.proofs.Written.WrittenNumbers.{AllShort, number_token, numbers_line, numbers_tokens, integer_decimal, short_decimal}
 
 abbrev pub whole_line : ℕ → List ℕ → Line
 whole_line n bs = record { number = n; bytes = bs; whole = true }

@@ -1,12 +1,12 @@
 -- What a move does to the length.
 use Rattle.std.proofs.Common.{◌≡◌, ℕ, ◌+◌, List, ◌++◌, reverse, arith, inl, inr}
 use Rattle.tk_tour.specs.Tour.{SameCycle, tour_length}
-use Rattle.tk_descent.proofs.Views.{Made, made_of}
-use Rattle.tk_descent.proofs.Paths.{Spans}
+use Rattle.tk_descent.proofs.MovesOnTours.Views.{Made, made_of}
+use Rattle.tk_descent.proofs.MovesOnTours.Paths.{Spans}
 use Rattle.tk_descent.specs.Offers.{Makes, removed, added}
 use Rattle.tk_descent.specs.declared.offer.Offer.{Offer}
 use Rattle.tk_descent.specs.declared.offer.Offer.TheVariants.{Two, Or}
-use Rattle.tk_descent.proofs.Length.{length-cycle, length-two, length-three, inner-reverse, Spans-reverse}
+use Rattle.tk_descent.proofs.MovesOnTours.Length.{length-cycle, length-two, length-three, inner-reverse, Spans-reverse}
 
 module _ (d : ℕ → ℕ → ℕ) (s : (a b : ℕ) → d a b ≡ d b a) (old new : List ℕ) where
   two_gain : (A B : List ℕ) (a b c e : ℕ) → SameCycle old (A ++ B) → Spans A e a → Spans B b c → SameCycle new (A ++ reverse B) → tour_length d old + (d a c + d b e) ≡ tour_length d new + (d a b + d c e)

@@ -14,8 +14,8 @@ use Rattle.tk_problem.specs.WeightOrder.{order}
 use Rattle.tk_problem.specs.WeightLines.{first_item, end_item, place_on, items}
 use Rattle.tk_writers.proofs.MatrixLines.{on_line-all, on_line-from_k, on_line-behind_k, on_line-to_k, on_line-before_k}
 use Rattle.tk_problem.proofs.WeightLines.{order-lines}
-use Rattle.tk_writers.proofs.WrittenNumbers.{IsShort, AllShort}
-use Rattle.tk_writers.proofs.WrittenLines.{in_rows, ShortRows}
+use Rattle.tk_writers.proofs.Written.WrittenNumbers.{IsShort, AllShort}
+use Rattle.tk_writers.proofs.Written.WrittenLines.{in_rows, ShortRows}
 
 -- a table at a place, whose rows and columns count from 0
 abbrev pub at_place : (ℕ → ℕ → ℕ) → Place → ℕ

@@ -10,7 +10,7 @@ use Rattle.tk_metric.specs.declared.near_lists.keep.Candidate.{Candidate}
 use Rattle.tk_metric.specs.Cities.{IsCity}
 use Rattle.tk_metric.specs.Near.{IsNear}
 use Rattle.tk_metric.specs.Keeping.{Rising, Climbing, insert_by, rank, candidate, open_place, cities_of, KeepsFirst}
-use Rattle.tk_metric.proofs.Inserting.{Rising-insert_by, Climbing-take, length-insert_by, IsPermutation-insert_by, take-insert_by, insert_by-append}
+use Rattle.tk_metric.proofs.Nearest.Inserting.{Rising-insert_by, Climbing-take, length-insert_by, IsPermutation-insert_by, take-insert_by, insert_by-append}
 
 -- the order of (distance, number) is that of the ranks
 pub closer_from_rank : (p q v a : ℕ) → v < 4294967296 → a < 4294967296 → p * 4294967296 + v < q * 4294967296 + a → (p < q) ⊎ ((p ≡ q) × (v < a))

@@ -6,12 +6,12 @@ use Rattle.tk_descent.specs.Machine.{IsOfferOn}
 use Rattle.tk_descent.specs.Offers.{Makes}
 use Rattle.tk_tour.specs.Moves.{CutInThree, MovesStraight, MovesReversed}
 use Rattle.tk_tour.specs.Tour.{IsRotation, SameCycle, next_city}
-use Rattle.tk_descent.proofs.Views.{Made, IsMadeOn, path_of, made_of, makes_of, made_on}
-use Rattle.tk_descent.proofs.Paths.{Spans}
+use Rattle.tk_descent.proofs.MovesOnTours.Views.{Made, IsMadeOn, path_of, made_of, makes_of, made_on}
+use Rattle.tk_descent.proofs.MovesOnTours.Paths.{Spans}
 use Rattle.tk_descent.specs.Awake.{IsDistinct, holds}
 use Rattle.tk_descent.specs.declared.offer.Offer.TheVariants.{Two, Or}
-use Rattle.tk_descent.proofs.Length.{Spans-reverse, Spans-append, reverse-cons}
-use Rattle.tk_descent.proofs.Steps.{turned, rotation-trans, distinct-rotation, next_of, cycle-turn, cycle-same, cycle-reverse, steps_of, distinct-cycle, distinct-parts, apart-ne, holds-last, Steps, one_city}
+use Rattle.tk_descent.proofs.MovesOnTours.Length.{Spans-reverse, Spans-append, reverse-cons}
+use Rattle.tk_descent.proofs.MovesOnTours.Steps.{turned, rotation-trans, distinct-rotation, next_of, cycle-turn, cycle-same, cycle-reverse, steps_of, distinct-cycle, distinct-parts, apart-ne, holds-last, Steps, one_city}
 
 -- on three cities or more the first of a round is not followed by its last
 pub not_next : (C D : List ℕ) (p q : ℕ) → IsRotation C D → IsDistinct C → Spans D p q → 3 ≤ length D → next_city C p ≡ q → ⊥

@@ -7,7 +7,7 @@ use Rattle.std.specs.Int.RustNames.{int_lt}
 use Rattle.std.proofs.lemmas.Int.{ints}
 use Rattle.std.proofs.lemmas.List.{get_or_default}
 use Rattle.std.proofs.lemmas.List.Sorted.{All-permutation, Contains-permutation, IsPermutation-keeps, length_permutation}
-use Rattle.tk_metric.proofs.OneEach.{OneEach, OneEach-swap}
+use Rattle.tk_metric.proofs.Nearest.OneEach.{OneEach, OneEach-swap}
 use Rattle.tk_metric.specs.declared.near_lists.sweep.Placed.{Placed}
 use Rattle.tk_problem.specs.declared.point.Point.{Point}
 use Rattle.tk_metric.specs.Sweep.{placed, nowhere, place_at, city_at, IsPlaced, IsXOrder}

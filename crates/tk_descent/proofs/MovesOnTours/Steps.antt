@@ -8,10 +8,10 @@ use Rattle.tk_tour.proofs.Cycle.{IsRotation-append, IsRotation-trans, IsRotation
 use Rattle.tk_tour.proofs.Once.{HoldsOnce}
 use Rattle.tk_tour.proofs.Tours.{occurrences-other, occurrences-same, occurrences-nil}
 use Rattle.tk_tour.proofs.Steps.{Neighbours-rotation}
-use Rattle.tk_descent.proofs.Paths.{last_from, Spans}
+use Rattle.tk_descent.proofs.MovesOnTours.Paths.{last_from, Spans}
 use Rattle.tk_descent.specs.Awake.{holds, IsDistinct}
 use Rattle.tk_descent.proofs.Lists.{holds-append, or-comm, holds-push, holds-push_same, distinct-push}
-use Rattle.tk_descent.proofs.Length.{reverse-cons, Spans-reverse, Spans-append}
+use Rattle.tk_descent.proofs.MovesOnTours.Length.{reverse-cons, Spans-reverse, Spans-append}
 
 -- rotations and cycles
 

@@ -7,8 +7,8 @@ use Rattle.tk_metric.specs.Near.{IsOther}
 use Rattle.tk_descent.specs.Machine.{IsOfferOn}
 use Rattle.tk_tour.proofs.Cycle.{IsRotation-refl}
 use Rattle.tk_tour.specs.Tour.{IsRotation, SameCycle, next_city, prev_city}
-use Rattle.tk_descent.proofs.Views.{IsMadeOn, offer_on}
-use Rattle.tk_descent.proofs.Paths.{Spans, last_from, IsRound}
+use Rattle.tk_descent.proofs.MovesOnTours.Views.{IsMadeOn, offer_on}
+use Rattle.tk_descent.proofs.MovesOnTours.Paths.{Spans, last_from, IsRound}
 use Rattle.tk_descent.specs.Awake.{IsDistinct, holds}
 use Rattle.tk_descent.specs.Offers.{first_gain, improves, covers, segment_of_one, segment_of_two, segment_of_three, all_segments, segments, or_offer, or_offers, offers_with, offers, EndsIn}
 use Rattle.tk_metric.specs.Cities.{IsCity}
@@ -16,9 +16,9 @@ use Rattle.tk_descent.specs.declared.offer.Segment.{Segment}
 use Rattle.tk_descent.specs.declared.offer.Offer.{Offer}
 use Rattle.tk_descent.specs.declared.offer.Offer.TheVariants.{Two, Or}
 use Rattle.tk_descent.proofs.Lists.{holds-append, or-comm, holds-push_other}
-use Rattle.tk_descent.proofs.Length.{Spans-append, Spans-reverse, last_from-append}
-use Rattle.tk_descent.proofs.Made.{length-reverse}
-use Rattle.tk_descent.proofs.Steps.{Apart, turned, rotation-trans, rotation-reverse, turned_back, next_of, prev_of, distinct-rotation, distinct-reverse, distinct-parts, apart-ne, holds-first, holds-last, holds-reverse}
+use Rattle.tk_descent.proofs.MovesOnTours.Length.{Spans-append, Spans-reverse, last_from-append}
+use Rattle.tk_descent.proofs.OfferLists.Made.{length-reverse}
+use Rattle.tk_descent.proofs.MovesOnTours.Steps.{Apart, turned, rotation-trans, rotation-reverse, turned_back, next_of, prev_of, distinct-rotation, distinct-reverse, distinct-parts, apart-ne, holds-first, holds-last, holds-reverse}
 
 same_cycle : (D : List ℕ) → SameCycle D D
 same_cycle D = inl (IsRotation-refl D)

@@ -19,9 +19,9 @@ use Rattle.tk_metric.specs.Sweep.{IsPlaced, IsXOrder, IsAt, city_at, nowhere}
 use Rattle.tk_metric.specs.declared.near_lists.tree.Frame.{Frame}
 use Rattle.tk_metric.specs.declared.near_lists.tree.Tree.{Tree}
 use Rattle.tk_metric.specs.Tree.{IsPast, IsOut, IsRow, IsWithin, IsBeyond, entries_of, parts_of, with_city, with_cities}
-use Rattle.tk_metric.proofs.OneEach.{OneEach, OneEach-swap}
-use Rattle.tk_metric.proofs.Inserting.{take-insert_by, length-insert_by, IsPermutation-insert_by, Climbing-take, insert_by-full}
-use Rattle.tk_metric.proofs.Keeping.{KeepsFirst-none, KeepsFirst-more, KeepsFirst-same, KeepsFirst-count, IsNear-from_kept, kept_length, same_twice}
+use Rattle.tk_metric.proofs.Nearest.OneEach.{OneEach, OneEach-swap}
+use Rattle.tk_metric.proofs.Nearest.Inserting.{take-insert_by, length-insert_by, IsPermutation-insert_by, Climbing-take, insert_by-full}
+use Rattle.tk_metric.proofs.Nearest.Keeping.{KeepsFirst-none, KeepsFirst-more, KeepsFirst-same, KeepsFirst-count, IsNear-from_kept, kept_length, same_twice}
 
 -- ---- the order of two candidates
 

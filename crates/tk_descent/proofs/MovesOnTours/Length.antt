@@ -2,7 +2,7 @@
 use Rattle.std.proofs.Common.{◌≡◌, ℕ, ◌+◌, List, [], ◌∷◌, ◌++◌, reverse, refl, sym, ◌∙◌, ap, arith, inl, inr, subst, append-nil}
 use Rattle.std.proofs.lemmas.List.{reverse-append}
 use Rattle.tk_tour.specs.Tour.{IsRotation, SameCycle, walk, tour_length}
-use Rattle.tk_descent.proofs.Paths.{last_from, Spans}
+use Rattle.tk_descent.proofs.MovesOnTours.Paths.{last_from, Spans}
 
 pub last_from-append : (a : ℕ) (xs ys : List ℕ) → last_from a (xs ++ ys) ≡ last_from (last_from a xs) ys
 last_from-append a [] ys = refl

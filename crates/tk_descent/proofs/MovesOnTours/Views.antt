@@ -5,8 +5,8 @@ use Rattle.tk_descent.specs.Offers.{Makes}
 use Rattle.tk_descent.specs.Machine.{IsOfferOn}
 use Rattle.tk_descent.specs.declared.offer.Offer.{Offer}
 use Rattle.tk_descent.specs.declared.offer.Offer.TheVariants.{Two, Or}
-use Rattle.tk_descent.proofs.Paths.{Spans, last_from}
-use Rattle.tk_descent.proofs.Steps.{split_last}
+use Rattle.tk_descent.proofs.MovesOnTours.Paths.{Spans, last_from}
+use Rattle.tk_descent.proofs.MovesOnTours.Steps.{split_last}
 
 first_of : (X : List ℕ) (b a : ℕ) → Spans X b a → (rest : List ℕ) × (X ≡ b ∷ rest)
 first_of [] b a h = absurd h

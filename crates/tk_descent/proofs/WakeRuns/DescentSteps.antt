@@ -2,7 +2,7 @@
 use Rattle.std.proofs.Common.{◌≡◌, ℕ, ◌+◌, ◌-◌, ◌*◌, ◌<◌, ◌≤◌, List, ◌∷◌, length, Option, Some, None, sym, ◌∙◌, ap, arith, subst, ℤ, pos, ◌-ℤ◌, FitsSigned, w64, to_z, of_z}
 use Rattle.std.proofs.Math.Nat.{mul-le-mul}
 use Rattle.std.proofs.lemmas.Int.{ints, to_z-of_z}
-use Rattle.tk_descent.proofs.Paths.{IsTable}
+use Rattle.tk_descent.proofs.MovesOnTours.Paths.{IsTable}
 use Rattle.tk_tour.specs.Counters.{saturated}
 use Rattle.tk_tour.specs.Tour.{tour_length}
 use Rattle.tk_descent.specs.Offers.{first_gain, tests_to, offers, Makes, removed, added, Searched, gain, ends}
@@ -12,9 +12,9 @@ use Rattle.tk_descent.specs.Machine.Run.{asleep, move}
 use Rattle.tk_descent.specs.declared.offer.Offer.{Offer}
 use Rattle.tk_descent.specs.declared.offer.Offer.TheVariants.{Two, Or}
 use Rattle.tk_descent.specs.declared.offer.Found.{Found}
-use Rattle.tk_descent.proofs.Searching.{at_table}
-use Rattle.tk_descent.proofs.GainLaw.{gain_law}
-use Rattle.tk_descent.proofs.Count.{found_improves, woken_each-le, ends-le, tour_length-le, gain_after}
+use Rattle.tk_descent.proofs.OfferLists.Searching.{at_table}
+use Rattle.tk_descent.proofs.MovesOnTours.GainLaw.{gain_law}
+use Rattle.tk_descent.proofs.OfferLists.Count.{found_improves, woken_each-le, ends-le, tour_length-le, gain_after}
 
 module _ (d : ℕ → ℕ → ℕ) (near : ℕ → List ℕ) (m : ℕ) (T W C U V : List ℕ) (x looks moves tests : ℕ) where
   pub run_asleep : Run d near m T W C U looks moves tests → U ≡ x ∷ V → (e : ℕ → ℕ → ℕ) (t u : ℕ) → e ≡ d → Searched e (offers C m (near x) x) None t u → Run d near m T W C V (looks + 1) moves (tests + tests_to d (offers C m (near x) x))

@@ -13,8 +13,8 @@ use Rattle.tk_metric.specs.Cities.{IsCity}
 use Rattle.tk_metric.specs.Near.{IsNear}
 use Rattle.tk_metric.specs.Keeping.{Climbing, insert_by, rank, candidate, open_place, cities_of, KeepsFirst}
 use Rattle.tk_metric.specs.Sweep.{IsXOrder, IsPlaced, IsFloor, IsAt, IsSwept, IsBelow, AreFar, city_at, place_at}
-use Rattle.tk_metric.proofs.Inserting.{insert_by-full, insert_by-lower, length-insert_by}
-use Rattle.tk_metric.proofs.Keeping.{KeepsFirst-none, KeepsFirst-more, KeepsFirst-count, IsNear-from_kept, kept_climbing, kept_length}
+use Rattle.tk_metric.proofs.Nearest.Inserting.{insert_by-full, insert_by-lower, length-insert_by}
+use Rattle.tk_metric.proofs.Nearest.Keeping.{KeepsFirst-none, KeepsFirst-more, KeepsFirst-count, IsNear-from_kept, kept_climbing, kept_length}
 
 wider_down : (a b c : ℤ) → a ≤ℤ b → b ≤ℤ c → unsigned_abs (c -ℤ b) ≤ unsigned_abs (c -ℤ a)
 wider_down a b c p q = omega (arith, ints)

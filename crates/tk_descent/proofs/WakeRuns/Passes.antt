@@ -3,14 +3,14 @@ use Rattle.std.proofs.Common.{◌≡◌, ℕ, ◌+◌, ◌-◌, ◌*◌, ◌≤�
 use Rattle.std.proofs.lemmas.Int.{to_z-of_z}
 use Rattle.tk_tour.specs.Counters.{saturated}
 use Rattle.tk_tour.specs.Tour.{tour_length}
-use Rattle.tk_descent.proofs.Paths.{IsRound, IsTable}
+use Rattle.tk_descent.proofs.MovesOnTours.Paths.{IsRound, IsTable}
 use Rattle.tk_descent.specs.Awake.{woken_each, one_to}
 use Rattle.tk_descent.specs.Machine.{Run}
 use Rattle.tk_descent.specs.Sweeps.{Pass, Moving, Sweeps}
 use Rattle.tk_descent.specs.WakeMachine.{IsLocalOptimum}
-use Rattle.tk_descent.proofs.Woken.{woken_all, one_to-holds}
-use Rattle.tk_descent.proofs.Machines.{still_optimum}
-use Rattle.tk_descent.proofs.DescentSteps.{fits_length, length_fits}
+use Rattle.tk_descent.proofs.WakeRuns.Woken.{woken_all, one_to-holds}
+use Rattle.tk_descent.proofs.WakeRuns.Machines.{still_optimum}
+use Rattle.tk_descent.proofs.WakeRuns.DescentSteps.{fits_length, length_fits}
 
 pub all_awake : (Q V : List ℕ) (n k : ℕ) → Q ≡ woken_each V (one_to n) → V ≡ [] → n ≡ k → Q ≡ one_to k
 all_awake Q V n k h e same = h ∙ ap (λ z. woken_each z (one_to n)) e ∙ woken_all n ∙ ap one_to same

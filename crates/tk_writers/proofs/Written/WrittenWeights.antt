@@ -23,8 +23,8 @@ use Rattle.tk_words.proofs.Bools.{or_true}
 use Rattle.tk_problem.proofs.Triangle.{place-lower, length-lower}
 use Rattle.tk_problem.proofs.WeightCounts.{flat_map-suc, pair-order}
 use Rattle.tk_sections.proofs.WeightTokens.{weight_on_diagonal, weight_once, weight_same}
-use Rattle.tk_writers.proofs.WrittenLines.{IsWritten, AreWritten}
-use Rattle.tk_writers.proofs.WrittenPlaces.{at_place, triangle-order}
+use Rattle.tk_writers.proofs.Written.WrittenLines.{IsWritten, AreWritten}
+use Rattle.tk_writers.proofs.Written.WrittenPlaces.{at_place, triangle-order}
 
 -- ---- a pair among places
 

@@ -2,25 +2,25 @@
 use Rattle.std.proofs.Common.{◌≡◌, ℕ, ◌<◌, ◌≤◌, ◌≢◌, ◌⊎◌, Bool, true, false, cond, ◌||◌, eqb, List, [], ◌∷◌, ◌++◌, length, reverse, Option, Some, None, refl, sym, ◌∙◌, ap, arith, inl, inr, subst, flat_map}
 use Rattle.std.proofs.lemmas.Bool.{or_cases, or_left, or_right, eqb-true, eq-eqb, ne_eqb, both_ways, ltb-false, cases_eq}
 use Rattle.tk_tour.specs.Tour.{SameCycle, next_city, prev_city}
-use Rattle.tk_descent.proofs.Views.{Made, made_of}
-use Rattle.tk_descent.proofs.Paths.{IsTable}
+use Rattle.tk_descent.proofs.MovesOnTours.Views.{Made, made_of}
+use Rattle.tk_descent.proofs.MovesOnTours.Paths.{IsTable}
 use Rattle.tk_descent.specs.Offers.{first_gain, improves, or_offer, or_offers, offers_with, offers, segments, Makes, removed, added, ends}
 use Rattle.tk_descent.specs.Awake.{woken, woken_each, IsDistinct, holds}
 use Rattle.tk_descent.specs.Machine.{Run, IsOfferOn}
 use Rattle.tk_descent.specs.Machine.Run.{start, asleep, move}
 use Rattle.tk_descent.specs.WakeMachine.{IsOf, Improves, HasNoOffer, IsLocalOptimum, Wakes}
 use Rattle.tk_descent.specs.WakeMachine.Wakes.{start as begin, asleep as fall_asleep, move as go_on}
-use Rattle.tk_descent.proofs.Listed.{IsListed}
+use Rattle.tk_descent.proofs.OfferLists.Listed.{IsListed}
 use Rattle.tk_descent.specs.declared.offer.Segment.{Segment}
 use Rattle.tk_descent.specs.declared.offer.Offer.{Offer}
 use Rattle.tk_descent.specs.declared.offer.Offer.TheVariants.{Two, Or}
 use Rattle.tk_tour.proofs.Cycle.{SameCycle-sym}
 use Rattle.tk_descent.proofs.Lists.{holds-push, distinct-push}
-use Rattle.tk_descent.proofs.GainLaw.{gain_law}
-use Rattle.tk_descent.proofs.Count.{found_improves}
-use Rattle.tk_descent.proofs.Complete.{complete}
-use Rattle.tk_descent.proofs.OnCycle.{Each, each-append, found_has, each_or, holds-turn}
-use Rattle.tk_descent.proofs.Steps.{distinct-parts, distinct-join, distinct-turn, distinct-reverse, distinct-cycle, holds-reverse}
+use Rattle.tk_descent.proofs.MovesOnTours.GainLaw.{gain_law}
+use Rattle.tk_descent.proofs.OfferLists.Count.{found_improves}
+use Rattle.tk_descent.proofs.OfferLists.Complete.{complete}
+use Rattle.tk_descent.proofs.OfferLists.OnCycle.{Each, each-append, found_has, each_or, holds-turn}
+use Rattle.tk_descent.proofs.MovesOnTours.Steps.{distinct-parts, distinct-join, distinct-turn, distinct-reverse, distinct-cycle, holds-reverse}
 
 -- asleep
 

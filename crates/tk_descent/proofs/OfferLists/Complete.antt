@@ -3,20 +3,20 @@ use Rattle.std.proofs.Common.{◌≡◌, ℕ, zero, suc, ◌+◌, ◌≤◌, ◌
 use Rattle.std.proofs.lemmas.List.{reverse-append}
 use Rattle.std.proofs.lemmas.Bool.{or_cases, or_from, or_left, or_right, le-leb, and_from, eqb-true, ne_eqb, both_ways, cond-true}
 use Rattle.tk_tour.specs.Tour.{IsRotation, SameCycle, next_city, prev_city}
-use Rattle.tk_descent.proofs.Views.{Made, made_of}
-use Rattle.tk_descent.proofs.Paths.{Spans, last_from}
+use Rattle.tk_descent.proofs.MovesOnTours.Views.{Made, made_of}
+use Rattle.tk_descent.proofs.MovesOnTours.Paths.{Spans, last_from}
 use Rattle.tk_descent.specs.Awake.{IsDistinct, holds}
 use Rattle.tk_descent.specs.Offers.{covers, segment_of_one, segment_of_two, segment_of_three, segment_count, segments, or_offer, or_offers, offers_with, offers, removed, added}
 use Rattle.tk_descent.specs.WakeMachine.{IsOf}
-use Rattle.tk_descent.proofs.Listed.{IsListed, HasSameSteps, IsComplete}
+use Rattle.tk_descent.proofs.OfferLists.Listed.{IsListed, HasSameSteps, IsComplete}
 use Rattle.tk_descent.specs.declared.offer.Segment.{Segment}
 use Rattle.tk_descent.specs.declared.offer.Offer.{Offer}
 use Rattle.tk_descent.specs.declared.offer.Offer.TheVariants.{Two, Or}
 use Rattle.tk_descent.proofs.Lists.{holds-append}
-use Rattle.tk_descent.proofs.Length.{Spans-append, Spans-reverse}
-use Rattle.tk_descent.proofs.Made.{mirrored, two_steps, length-reverse}
-use Rattle.tk_descent.proofs.OnCycle.{Ways, ways_on, ways_back}
-use Rattle.tk_descent.proofs.Steps.{Apart, turned, rotation-trans, turned_back, distinct-rotation, distinct-parts, apart-ne, holds-first, holds-last, cycle-turn, cycle-same, cycle-reverse, steps_of, Steps}
+use Rattle.tk_descent.proofs.MovesOnTours.Length.{Spans-append, Spans-reverse}
+use Rattle.tk_descent.proofs.OfferLists.Made.{mirrored, two_steps, length-reverse}
+use Rattle.tk_descent.proofs.OfferLists.OnCycle.{Ways, ways_on, ways_back}
+use Rattle.tk_descent.proofs.MovesOnTours.Steps.{Apart, turned, rotation-trans, turned_back, distinct-rotation, distinct-parts, apart-ne, holds-first, holds-last, cycle-turn, cycle-same, cycle-reverse, steps_of, Steps}
 
 -- members of a list of offers
 

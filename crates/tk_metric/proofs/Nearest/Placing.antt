@@ -6,7 +6,7 @@ use Rattle.std.proofs.lemmas.List.{length-take-le}
 use Rattle.std.proofs.lemmas.Bool.Decides.{nat_tests}
 use native.Mathlib.Numerals.{unary_clauses}
 use Rattle.tk_metric.specs.Keeping.{Climbing, insert_by}
-use Rattle.tk_metric.proofs.Inserting.{Climbing-take, insert_by-below, insert_by-pop}
+use Rattle.tk_metric.proofs.Nearest.Inserting.{Climbing-take, insert_by-below, insert_by-pop}
 
 pub drop-take_same : {X : Type 0} (n : ℕ) (xs : List X) → drop n (take n xs) ≡ []
 drop-take_same zero xs = refl

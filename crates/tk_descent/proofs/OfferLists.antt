@@ -1,0 +1,6 @@
+pub mod Complete
+pub mod Count
+pub mod Listed
+pub mod Made
+pub mod OnCycle
+pub mod Searching

@@ -1,0 +1,5 @@
+pub mod DescentSteps
+pub mod Machines
+pub mod Passes
+pub mod Queue
+pub mod Woken

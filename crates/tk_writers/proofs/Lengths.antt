@@ -1,0 +1,2 @@
+pub mod ListLength
+pub mod MatrixLength

@@ -1,0 +1,6 @@
+pub mod LinePieces
+pub mod WrittenHeaders
+pub mod WrittenLines
+pub mod WrittenNumbers
+pub mod WrittenPlaces
+pub mod WrittenWeights
