@@ -31,13 +31,13 @@ IsFramed (Cut' a p s b q t) = All (IsWithin a) (entries_of s) × All (IsWithin b
 abbrev pub IsBeyond : Placed → ℕ → Placed → Type 0
 IsBeyond here gap p = (gap ≤ x_gap here p) ⊎ (gap ≤ y_gap here p)
 
--- and no lesser number
-abbrev pub IsPast : Placed → ℕ → ℕ → Placed → Type 0
-IsPast here gap least p = IsBeyond here gap p × (least ≤ p.city)
+-- seen from c, a city does not come before this
+abbrev pub IsFrom : (ℕ → ℕ → ℕ) → ℕ → Candidate → Placed → Type 0
+IsFrom dist c first p = rank first ≤ rank (candidate dist c p.city)
 
--- no candidate at this distance or beyond, and with no lesser number, comes before the last of the kept
-abbrev pub IsOut : ℕ → ℕ → List Candidate → Type 0
-IsOut bound least kept = rank (slice_index_or kept (length kept - 1) open_place) ≤ bound * 4294967296 + least
+-- nor does the last of the kept come after it
+abbrev pub IsOut : Candidate → List Candidate → Type 0
+IsOut first kept = rank (slice_index_or kept (length kept - 1) open_place) ≤ rank first
 
 -- the kept, once c has seen a city
 abbrev pub with_city : (ℕ → ℕ → ℕ) → ℕ → Placed → List Candidate → List Candidate

@@ -18,7 +18,7 @@ use Rattle.tk_metric.specs.Keeping.{Climbing, insert_by, with_candidate, rank, c
 use Rattle.tk_metric.specs.Sweep.{IsPlaced, IsXOrder, IsAt, city_at, nowhere}
 use Rattle.tk_metric.specs.declared.near_lists.tree.Frame.{Frame}
 use Rattle.tk_metric.specs.declared.near_lists.tree.Tree.{Tree}
-use Rattle.tk_metric.specs.Tree.{IsPast, IsOut, IsRow, IsWithin, IsBeyond, entries_of, parts_of, with_city, with_cities}
+use Rattle.tk_metric.specs.Tree.{IsFrom, IsRow, IsWithin, IsBeyond, entries_of, parts_of, with_city, with_cities}
 use Rattle.tk_metric.proofs.Nearest.OneEach.{OneEach, OneEach-swap}
 use Rattle.tk_metric.proofs.Nearest.Inserting.{take-insert_by, length-insert_by, IsPermutation-insert_by, Climbing-take, insert_by-full}
 use Rattle.tk_metric.proofs.Nearest.Keeping.{KeepsFirst-none, KeepsFirst-more, KeepsFirst-same, KeepsFirst-count, IsNear-from_kept, kept_length, same_twice}
@@ -163,8 +163,8 @@ pub record AreFloors (dist : ℕ → ℕ → ℕ) (place_of : ℕ → Point) (fl
   pub bounds_y : (a b : ℕ) → floor (unsigned_abs ((place_of a).y -ℤ (place_of b).y)) ≤ dist a b
 
 module _ (dist : ℕ → ℕ → ℕ) (n : ℕ) (place_of : ℕ → Point) (floor : ℕ → ℕ) (f : AreFloors dist place_of floor) where
-  floor_below : (here p : Placed) (gap least : ℕ) → IsPlaced n place_of here → IsPlaced n place_of p → IsPast here gap least p → floor gap ≤ dist here.city p.city
-  floor_below here p gap least h t past =
+  pub floor_below : (here p : Placed) (gap : ℕ) → IsPlaced n place_of here → IsPlaced n place_of p → IsBeyond here gap p → floor gap ≤ dist here.city p.city
+  floor_below here p gap h t beyond =
       ⊎_elim
       (λ l.
       let e : unsigned_abs (here.place.x -ℤ p.place.x) ≡ unsigned_abs ((place_of here.city).x -ℤ (place_of p.city).x) = ap (λ (v : Point). unsigned_abs (v.x -ℤ p.place.x)) h.1 ∙ ap (λ (v : Point). unsigned_abs ((place_of here.city).x -ℤ v.x)) t.1 in
@@ -174,16 +174,13 @@ module _ (dist : ℕ → ℕ → ℕ) (n : ℕ) (place_of : ℕ → Point) (floo
       let e : unsigned_abs (here.place.y -ℤ p.place.y) ≡ unsigned_abs ((place_of here.city).y -ℤ (place_of p.city).y) = ap (λ (v : Point). unsigned_abs (v.y -ℤ p.place.y)) h.1 ∙ ap (λ (v : Point). unsigned_abs ((place_of here.city).y -ℤ v.y)) t.1 in
       let rises = f.rises gap _ (rw e at l) (f.tall here.city p.city) in
       omega (arith, rises, f.bounds_y here.city p.city))
-      past.0
+      beyond
 
-  -- a part that is out changes nothing
-  pub kept_without_part : (here : Placed) (gap least : ℕ) (ps : List Placed) (kept : List Candidate) → IsPlaced n place_of here → All (IsPlaced n place_of) ps → All (IsPast here gap least) ps → Climbing rank kept → 1 ≤ length kept → IsOut (floor gap) least kept → kept ≡ with_cities dist here.city ps kept
-  kept_without_part here gap least ps kept h all past up room out =
-      sym (with_cities-out dist here.city ps kept up room
-      (λ k d l.
-      let below = floor_below here (get_or ps k d) gap least h (all k d l) (past k d l) in
-      let p = past k d l in
-      omega (arith, out, p.1, below)))
+-- a part of which no city comes before the last of the kept changes nothing
+pub kept_without_part : (dist : ℕ → ℕ → ℕ) (c : ℕ) (first : Candidate) (ps : List Placed) (kept : List Candidate) → All (IsFrom dist c first) ps → Climbing rank kept → 1 ≤ length kept
+    → rank (get_or kept (length kept - 1) open_place) ≤ rank first → kept ≡ with_cities dist c ps kept
+kept_without_part dist c first ps kept from up room out =
+    sym (with_cities-out dist c ps kept up room (λ k d l. let one = from k d l in omega (arith, one, out)))
 
 -- ---- all cities of a row
 
@@ -279,8 +276,10 @@ pub all_back : {X : Type 0} (P : X → Type 0) (xs ys : List X) → All P (xs ++
 all_back P [] ys h = h
 all_back P (x ∷ xs) ys h = all_back P xs ys (All-tail P x (xs ++ ys) h)
 
-pub part_past : (here : Placed) (frame : Frame) (gap : ℕ) (ps : List Placed) → ((p : Placed) → IsWithin frame p → IsBeyond here gap p) → All (IsWithin frame) ps → All (IsPast here gap frame.least) ps
-part_past here frame gap ps beyond all = All-weaker (IsWithin frame) (IsPast here gap frame.least) (λ p w. (beyond p w, w.least)) ps all
+-- the cities of a part do not come before what none of its box comes before
+pub part_from : (dist : ℕ → ℕ → ℕ) (n : ℕ) (place_of : ℕ → Point) (c : ℕ) (frame : Frame) (first : Candidate) (ps : List Placed)
+    → ((p : Placed) → IsPlaced n place_of p → IsWithin frame p → IsFrom dist c first p) → All (IsPlaced n place_of) ps → All (IsWithin frame) ps → All (IsFrom dist c first) ps
+part_from dist n place_of c frame first ps from placed within = λ k d l. from (get_or ps k d) (placed k d l) (within k d l)
 
 -- the cities of a planted part stand in the box that was found before they were moved
 pub planted_within : (frame : Frame) (before after : List Placed) (tree value : Tree) → All (IsWithin frame) before → IsPermutation before after → entries_of tree ≡ after → value ≡ tree → All (IsWithin frame) (entries_of value)
@@ -321,6 +320,3 @@ IsRow-from_order n place_of first row o moved =
           let w = Contains-permutation first row (get_or first at.0 nowhere) moved (at.0, at.1, get_or_default first at.0 _ _ at.1) in
           (w.0, w.1, ap (λ (v : Placed). v.city) (get_or_default row w.0 nowhere (get_or first at.0 nowhere) w.1 ∙ w.2) ∙ at.2);
     }
-
-pub all_past : (here : Placed) (ps : List Placed) → All (IsPast here 0 0) ps
-all_past here ps = λ k d l. (inl (omega arith), omega arith)

@@ -5,7 +5,7 @@ ghost use Rattle.tk_metric.specs.declared.near_lists.sweep.Placed.{Placed};
 ghost use Rattle.tk_metric.specs.Near.{IsNear, AreNearest};
 ghost use Rattle.tk_metric.specs.Keeping.{AreFilled, rank, Climbing, cities_of};
 ghost use Rattle.tk_metric.specs.Sweep.{IsPlaced};
-ghost use Rattle.tk_metric.specs.Tree.{entries_of, IsWithin, IsFramed, IsBeyond, IsPast, IsOut, with_cities, IsRow};
+ghost use Rattle.tk_metric.specs.Tree.{entries_of, IsWithin, IsFramed, IsBeyond, IsFrom, IsOut, with_cities, IsRow};
 
 use crate::metric::Planar;
 use crate::near_lists::keep::{Candidate, OPEN, keep, measure, write_cities};
@@ -45,6 +45,12 @@ const NOTHING: Frame = Frame {
     least: u32::MAX,
 };
 
+/// What no city comes before.
+const NEAREST: Candidate = Candidate {
+    distance: 0,
+    city: 0,
+};
+
 /// The distance of a coordinate from a range.
 fn gap_between(at: i64, low: i64, high: i64) -> u64
     ensures { (z : ℤ) → low ≤ℤ z → z ≤ℤ high → result ≤ unsigned_abs (at -ℤ z) }
@@ -81,6 +87,19 @@ impl Frame {
         let gap_x = gap_between(here.place.x, self.left, self.right);
         let gap_y = gap_between(here.place.y, self.bottom, self.top);
         gap_x.max(gap_y).min(WIDEST)
+    }
+
+    /// What no city of the box comes before, seen from here.
+    fn first<P: Planar>(self, m: &P, here: Placed) -> Candidate
+        requires { IsPlaced (P.size_of m.now) (P.place_of m.now) here }
+        ensures { (p : Placed) → IsPlaced (P.size_of m.now) (P.place_of m.now) p → IsWithin self p
+            → IsFrom (P.distance m.now) here.city result p }
+    {
+        let floor = m.floor_x(self.gap(here)) as u64;
+        Candidate {
+            distance: floor.min(OPEN.distance as u64) as u32,
+            city: self.least,
+        }
     }
 
     /// Whether the box takes more room in y than in x.
@@ -134,15 +153,12 @@ fn plant(alloc: Global, row: &mut [Placed], frame: Frame) -> Result<Tree, AllocE
     Ok(Tree::Cut(lower_frame, lower_box, upper_frame, upper_box))
 }
 
-/// Whether no city with this difference in x, or in y, and no lesser number comes before the last of the kept.
-fn is_out<P: Planar>(m: &P, gap: u64, least: u32, kept: &[Candidate]) -> bool
-    requires gap { gap ≤ 2000000000000000000 }
-    requires room { 1 ≤ length kept.now }
-    ensures { IsTrue result ↔ IsOut (P.floor m.now gap) least kept.now }
+/// Whether nothing that `first` comes before, or is, can enter the kept.
+fn is_out(first: Candidate, kept: &[Candidate]) -> bool
+    requires { 1 ≤ length kept.now }
+    ensures { IsTrue result ↔ IsOut first kept.now }
 {
-    let last = kept[kept.len() - 1];
-    let floor = m.floor_x(gap);
-    floor > last.distance as i64 || floor == last.distance as i64 && least >= last.city
+    !first.is_before(kept[kept.len() - 1])
 }
 
 /// Keeps what is near of a leaf.
@@ -161,32 +177,31 @@ fn search_leaf<P: Planar>(m: &P, here: Placed, leaf: &[Placed], kept: &mut [Cand
     }
 }
 
-/// Keeps what is near of a part whose cities all have this difference in x, or in y, and no lesser number.
-fn search<P: Planar>(m: &P, here: Placed, gap: u64, least: u32, tree: &Tree, kept: &mut [Candidate])
+/// Keeps what is near of a part of which no city comes before `first`.
+fn search<P: Planar>(m: &P, here: Placed, first: Candidate, tree: &Tree, kept: &mut [Candidate])
     requires here { IsPlaced (P.size_of m.now) (P.place_of m.now) here }
     requires placed { All (IsPlaced (P.size_of m.now) (P.place_of m.now)) (entries_of tree.now) }
     requires framed { IsFramed tree.now }
-    requires gap { gap ≤ 2000000000000000000 }
-    requires past { All (IsPast here gap least) (entries_of tree.now) }
+    requires first { All (IsFrom (P.distance m.now) here.city first) (entries_of tree.now) }
     requires room { 1 ≤ length kept.old }
     requires climbing { Climbing rank kept.old }
     ensures kept { kept.new ≡ with_cities (P.distance m.now) here.city (entries_of tree.now) kept.old }
     ensures climbing { Climbing rank kept.new }
 {
-    if is_out(m, gap, least, kept) {
+    if is_out(first, kept) {
         return;
     }
     match tree {
         Tree::Leaf(leaf) => search_leaf(m, here, leaf, kept),
         Tree::Cut(lower_frame, lower, upper_frame, upper) => {
-            let lower_gap = lower_frame.gap(here);
-            let upper_gap = upper_frame.gap(here);
-            if lower_gap <= upper_gap {
-                search(m, here, lower_gap, lower_frame.least, lower, kept);
-                search(m, here, upper_gap, upper_frame.least, upper, kept);
+            let lower_first = lower_frame.first(m, here);
+            let upper_first = upper_frame.first(m, here);
+            if lower_first.is_before(upper_first) {
+                search(m, here, lower_first, lower, kept);
+                search(m, here, upper_first, upper, kept);
             } else {
-                search(m, here, upper_gap, upper_frame.least, upper, kept);
-                search(m, here, lower_gap, lower_frame.least, lower, kept);
+                search(m, here, upper_first, upper, kept);
+                search(m, here, lower_first, lower, kept);
             }
         }
     }
@@ -203,7 +218,7 @@ fn search_city<P: Planar>(m: &P, here: Placed, tree: &Tree, kept: &mut [Candidat
     ensures near { IsNear (P.distance m.now) (P.size_of m.now) (length kept.old) here.city (cities_of kept.new) }
 {
     kept.fill(OPEN);
-    search(m, here, 0, 0, tree, kept);
+    search(m, here, NEAREST, tree, kept);
 }
 
 /// Fills the list of each city, in the order of the tree.

@@ -1,12 +1,12 @@
-use Rattle.std.proofs.Common.{◌≡◌, ℕ, ◌∙◌, ap, length, replicate}
+use Rattle.std.proofs.Common.{arith, ◌≡◌, ℕ, ◌∙◌, ap, length, replicate}
 use Rattle.tk_metric.specs.Keeping.{rank, open_place}
 use Rattle.tk_metric.specs.Tree.{entries_of, with_cities}
 use Rattle.tk_metric.proofs.Nearest.Keeping.{Climbing-replicate}
-use Rattle.tk_metric.proofs.Nearest.Parting.{all_past, IsNear-from_row}
+use Rattle.tk_metric.proofs.Nearest.Parting.{IsNear-from_row}
 use Rattle.tk_metric.proofs.near_lists.tree.search_city.Goals as goal
 
-pub search-requires-clause-past : goal.search-requires-clause-past
-search-requires-clause-past g c = all_past c.args.here (entries_of c.args.tree.now)
+pub search-requires-clause-first : goal.search-requires-clause-first
+search-requires-clause-first g c = λ k d l. omega arith
 
 pub search-requires-clause-climbing : goal.search-requires-clause-climbing
 search-requires-clause-climbing g c =
