@@ -1,3 +1,4 @@
+pub mod FirstLeft
 pub mod Inserting
 pub mod Keeping
 pub mod OneEach

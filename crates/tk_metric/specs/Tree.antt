@@ -1,5 +1,5 @@
 -- A tree of parts of the cities, and what is kept of them.
-use Rattle.std.specs.Prelude.{◌≡◌, ◌≢◌, ℕ, ◌≤ℤ◌, ◌+◌, ◌*◌, ◌-◌, ◌<◌, ◌≤◌, ◌⊎◌, ◌==◌, if◌then◌else◌, List, [], ◌∷◌, ◌++◌, length, slice_index_or, All, ⊤}
+use Rattle.std.specs.Prelude.{◌≡◌, ◌≢◌, ℕ, ◌≤ℤ◌, ◌+◌, ◌*◌, ◌-◌, ◌<◌, ◌≤◌, ◌⊎◌, ◌==◌, if◌then◌else◌, List, [], ◌∷◌, ◌++◌, length, slice_index_or, All, IsPermutation, ⊤}
 use Rattle.tk_problem.specs.declared.point.Point.{Point}
 use Rattle.tk_metric.specs.declared.near_lists.keep.Candidate.{Candidate}
 use Rattle.tk_metric.specs.declared.near_lists.sweep.Placed.{Placed}
@@ -21,6 +21,7 @@ pub record IsWithin (f : Frame) (p : Placed) : Type 0 where
   pub bottom : f.bottom ≤ℤ p.place.y
   pub top : p.place.y ≤ℤ f.top
   pub least : f.least ≤ p.city
+  pub greatest : p.city ≤ f.greatest
 
 -- the cities of each part stand in its box
 abbrev pub IsFramed : Tree → Type 0
@@ -59,3 +60,17 @@ pub record IsRow (n : ℕ) (place_of : ℕ → Point) (row : List Placed) : Type
 abbrev pub parts_of : Tree → ℕ
 parts_of (Leaf row) = 1
 parts_of (Cut' a p s b q t) = parts_of s + parts_of t + 1
+
+-- the city is taken out of the row, which may stand in another order then
+pub record IsTakenOut (p : Placed) (old new : List Placed) : Type 0 where
+  pub taken : Placed
+  pub is : taken.city ≡ p.city
+  pub others : IsPermutation old (taken ∷ new)
+
+-- the city does not stand in the row
+abbrev pub IsNotIn : Placed → List Placed → Type 0
+IsNotIn p row = All (λ q. q ≢ p) row
+
+-- a city that stands in the row, but c
+abbrev pub IsOtherIn : List Placed → ℕ → ℕ → Type 0
+IsOtherIn row c b = (q : ℕ) × (q < length row) × (city_at row q ≡ b) × (b ≢ c)

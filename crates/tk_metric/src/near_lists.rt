@@ -1,6 +1,7 @@
 //! Near lists: for each city the cities that are nearest.
 
 pub mod keep;
+pub mod left;
 pub mod near;
 pub mod sweep;
 #[cfg(test)]

@@ -1,5 +1,5 @@
 -- What is kept of the cities of a tree, whatever the order.
-use Rattle.std.proofs.Common.{◌≡◌, ◌≢◌, ℕ, zero, suc, ◌+◌, ◌*◌, ◌-◌, ◌<◌, ◌≤◌, ◌⊎◌, ⊎_elim, inl, inr, List, [], ◌∷◌, ◌++◌, length, take, replicate, refl, sym, ap, ◌∙◌, arith, cond, true, false, get_or, subst, max}
+use Rattle.std.proofs.Common.{append_assoc, ◌≡◌, ◌≢◌, ℕ, zero, suc, ◌+◌, ◌*◌, ◌-◌, ◌<◌, ◌≤◌, ◌⊎◌, ⊎_elim, inl, inr, List, [], ◌∷◌, ◌++◌, length, take, replicate, refl, sym, ap, ◌∙◌, arith, cond, true, false, get_or, subst, max}
 use Rattle.std.specs.Prelude.{All, ◌==◌, nat_lt, ◌-ℤ◌}
 use Rattle.std.specs.Int.RustNames.{unsigned_abs}
 use Rattle.std.specs.List.Sorted.{IsPermutation}
@@ -8,7 +8,8 @@ use Rattle.std.proofs.lemmas.Bool.{cases_lt, cases_eq}
 use Rattle.std.proofs.lemmas.List.{length-take-le, take_all, take_more, get_or_default}
 use Rattle.std.proofs.Math.Seq.{take-suc}
 use Rattle.std.proofs.lemmas.List.Elements.{All-cons, All-nil, All-weaker, All-head, All-tail, All-from_get_or}
-use Rattle.std.proofs.lemmas.List.Sorted.{All-permutation, Contains-permutation, IsPermutation-keeps, length_permutation}
+use Rattle.std.specs.List.{swap_remove}
+use Rattle.std.proofs.lemmas.List.Sorted.{All-permutation, Contains-permutation, IsPermutation-keeps, IsPermutation-swap_remove, IsPermutation-trans, IsPermutation-append_left, IsPermutation-append_right, IsPermutation-to_front, length_permutation}
 use Rattle.tk_problem.specs.declared.point.Point.{Point}
 use Rattle.tk_metric.specs.declared.near_lists.keep.Candidate.{Candidate}
 use Rattle.tk_metric.specs.declared.near_lists.sweep.Placed.{Placed}
@@ -18,7 +19,7 @@ use Rattle.tk_metric.specs.Keeping.{Climbing, insert_by, with_candidate, rank, c
 use Rattle.tk_metric.specs.Sweep.{IsPlaced, IsXOrder, IsAt, city_at, nowhere}
 use Rattle.tk_metric.specs.declared.near_lists.tree.Frame.{Frame}
 use Rattle.tk_metric.specs.declared.near_lists.tree.Tree.{Tree}
-use Rattle.tk_metric.specs.Tree.{IsFrom, IsRow, IsWithin, IsBeyond, entries_of, parts_of, with_city, with_cities}
+use Rattle.tk_metric.specs.Tree.{IsTakenOut, IsFrom, IsRow, IsWithin, IsBeyond, entries_of, parts_of, with_city, with_cities}
 use Rattle.tk_metric.proofs.Nearest.OneEach.{OneEach, OneEach-swap}
 use Rattle.tk_metric.proofs.Nearest.Inserting.{take-insert_by, length-insert_by, IsPermutation-insert_by, Climbing-take, insert_by-full}
 use Rattle.tk_metric.proofs.Nearest.Keeping.{KeepsFirst-none, KeepsFirst-more, KeepsFirst-same, KeepsFirst-count, IsNear-from_kept, kept_length, same_twice}
@@ -320,3 +321,27 @@ IsRow-from_order n place_of first row o moved =
           let w = Contains-permutation first row (get_or first at.0 nowhere) moved (at.0, at.1, get_or_default first at.0 _ _ at.1) in
           (w.0, w.1, ap (λ (v : Placed). v.city) (get_or_default row w.0 nowhere (get_or first at.0 nowhere) w.1 ∙ w.2) ∙ at.2);
     }
+
+-- ---- a city that is taken out
+
+pub taken_out : (p : Placed) (row : List Placed) (i : ℕ) (q : Placed) → (i < length row) × (city_at row i ≡ p.city) → q ≡ get_or row i q → IsTakenOut p row (swap_remove row i q)
+taken_out p row i q at is = record {
+  taken = q;
+  is = ap (λ (v : Placed). v.city) (is ∙ get_or_default row i q nowhere at.0) ∙ at.1;
+  others = IsPermutation-swap_remove row i q at.0 is;
+}
+
+pub taken_behind : (p : Placed) (front old new : List Placed) → IsTakenOut p old new → IsTakenOut p (front ++ old) (front ++ new)
+taken_behind p front old new h = record {
+  taken = h.taken;
+  is = h.is;
+  others = IsPermutation-trans (front ++ old) (front ++ h.taken ∷ new) (h.taken ∷ front ++ new) (IsPermutation-append_right front old (h.taken ∷ new) h.others)
+      (rw (sym (append_assoc front (h.taken ∷ []) new)) (IsPermutation-append_left new (front ++ h.taken ∷ []) (h.taken ∷ front) (IsPermutation-to_front front h.taken)));
+}
+
+pub taken_before : (p : Placed) (old new back : List Placed) → IsTakenOut p old new → IsTakenOut p (old ++ back) (new ++ back)
+taken_before p old new back h = record {
+  taken = h.taken;
+  is = h.is;
+  others = IsPermutation-append_left back old (h.taken ∷ new) h.others;
+}

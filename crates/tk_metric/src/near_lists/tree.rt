@@ -19,7 +19,7 @@ const LEAF: usize = 8;
 /// The most that two places differ in a coordinate.
 const WIDEST: u64 = 2_000_000_000_000_000_000;
 
-/// A box round the cities of a part, and a number that none of theirs is below.
+/// A box round the cities of a part, and the range of their numbers.
 #[derive(Clone, Copy, Drop)]
 pub struct Frame {
     pub left: i64,
@@ -27,6 +27,7 @@ pub struct Frame {
     pub bottom: i64,
     pub top: i64,
     pub least: u32,
+    pub greatest: u32,
 }
 
 /// Cities in parts.
@@ -43,10 +44,11 @@ const NOTHING: Frame = Frame {
     bottom: i64::MAX,
     top: i64::MIN,
     least: u32::MAX,
+    greatest: 0,
 };
 
 /// What no city comes before.
-const NEAREST: Candidate = Candidate {
+pub const NEAREST: Candidate = Candidate {
     distance: 0,
     city: 0,
 };
@@ -76,7 +78,36 @@ impl Frame {
             bottom: self.bottom.min(p.place.y),
             top: self.top.max(p.place.y),
             least: self.least.min(p.city),
+            greatest: self.greatest.max(p.city),
         }
+    }
+
+    /// The least box that has the cities of both.
+    pub fn joined(self, other: Frame) -> Frame
+        ensures first { (p : Placed) → IsWithin self p → IsWithin result p }
+        ensures second { (p : Placed) → IsWithin other p → IsWithin result p }
+    {
+        Frame {
+            left: self.left.min(other.left),
+            right: self.right.max(other.right),
+            bottom: self.bottom.min(other.bottom),
+            top: self.top.max(other.top),
+            least: self.least.min(other.least),
+            greatest: self.greatest.max(other.greatest),
+        }
+    }
+
+    /// Whether the city may be one of the box.
+    pub fn may_have(self, p: Placed) -> bool
+        ensures { IsWithin self p → IsTrue result }
+    {
+        if p.city < self.least || self.greatest < p.city {
+            return false;
+        }
+        if p.place.x < self.left || self.right < p.place.x {
+            return false;
+        }
+        self.bottom <= p.place.y && p.place.y <= self.top
     }
 
     /// A difference in x, or in y, that each city of the box has from here.
@@ -109,7 +140,7 @@ impl Frame {
 }
 
 /// The box of these cities.
-fn frame_of(row: &[Placed]) -> Frame
+pub fn frame_of(row: &[Placed]) -> Frame
     ensures { All (IsWithin result) row.now }
 {
     let mut frame = NOTHING;
@@ -131,7 +162,7 @@ fn halve(row: &mut [Placed], is_tall: bool)
 }
 
 /// The tree of these cities, which are put in its order.
-fn plant(alloc: Global, row: &mut [Placed], frame: Frame) -> Result<Tree, AllocError>
+pub fn plant(alloc: Global, row: &mut [Placed], frame: Frame) -> Result<Tree, AllocError>
     ensures moved { IfOk result (λ _. IsPermutation row.old row.new) }
     ensures entries { IfOk result (λ t. entries_of t ≡ row.new) }
     ensures framed { IfOk result (λ t. IsFramed t) }
@@ -178,7 +209,7 @@ fn search_leaf<P: Planar>(m: &P, here: Placed, leaf: &[Placed], kept: &mut [Cand
 }
 
 /// Keeps what is near of a part of which no city comes before `first`.
-fn search<P: Planar>(m: &P, here: Placed, first: Candidate, tree: &Tree, kept: &mut [Candidate])
+pub fn search<P: Planar>(m: &P, here: Placed, first: Candidate, tree: &Tree, kept: &mut [Candidate])
     requires here { IsPlaced (P.size_of m.now) (P.place_of m.now) here }
     requires placed { All (IsPlaced (P.size_of m.now) (P.place_of m.now)) (entries_of tree.now) }
     requires framed { IsFramed tree.now }

@@ -9,6 +9,7 @@ returns-clause-this c = record {
   bottom = omega (arith, ints);
   top = omega (arith, ints);
   least = omega arith;
+  greatest = omega arith;
 }
 
 pub returns-clause-others : goal.returns-clause-others
@@ -18,4 +19,5 @@ returns-clause-others c = λ q w. record {
   bottom = omega (arith, ints);
   top = omega (arith, ints);
   least = omega arith;
+  greatest = omega arith;
 }
