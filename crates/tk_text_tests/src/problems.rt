@@ -4,10 +4,18 @@ use crate::read_both_ways::{are_places, fault, is_routing, read, read_dripping};
 use std::alloc::{AllocError, Global};
 use std::process::Abort;
 use std::test::Fail;
-use tk_text::{Keyword, PlaneKind, Point, TextFault, TextKind, Weights};
+use tk_text::{Keyword, PlaneKind, Point, Problem, TextFault, TextKind, Weights};
 
-/// Bytes, and what a text says that ends behind any of them.
-type Run<'a> = (&'a [u8], Option<TextFault>);
+/// Bytes, and the line and the kind of the fault of a text that ends behind any of them, or none.
+type Run<'a> = (&'a [u8], Option<(u64, TextKind)>);
+
+/// A fault of a table.
+fn listed(answer: &Option<(u64, TextKind)>) -> Option<TextFault> {
+    match answer {
+        Some((line, kind)) => fault(*line, *kind),
+        None => None,
+    }
+}
 
 /// Reads the text behind each byte that is added to it.
 fn grow<A: Abort>(
@@ -17,9 +25,10 @@ fn grow<A: Abort>(
     runs: &[Run<'_>],
 ) -> Result<(), AllocError> {
     for (bytes, answer) in runs {
+        let wanted = listed(answer);
         for byte in *bytes {
             text.push(*byte)?;
-            assert_eq!(rt; read(rt, alloc, text).err(), *answer);
+            assert_eq!(rt; read(rt, alloc, text).err(), wanted);
         }
     }
     Ok(())
@@ -38,31 +47,34 @@ fn beginnings_of_places(rt: HostRuntime) -> Result<(), Fail> {
         a,
         &mut text,
         &[
-            (b"NAM", fault(1, TextKind::UnknownKeyword)),
-            (b"E : p", fault(1, TextKind::Missing(Keyword::Type))),
-            (b"\n", fault(2, TextKind::Missing(Keyword::Type))),
-            (b"TYP", fault(2, TextKind::UnknownKeyword)),
-            (b"E : TS", fault(2, TextKind::Unsupported)),
-            (b"P", fault(2, TextKind::Missing(Keyword::Dimension))),
-            (b"\n", fault(3, TextKind::Missing(Keyword::Dimension))),
-            (b"DIMENSIO", fault(3, TextKind::UnknownKeyword)),
-            (b"N : ", fault(3, TextKind::BadNumber)),
-            (b"3", fault(3, TextKind::Missing(Keyword::EdgeWeightType))),
-            (b"\n", fault(4, TextKind::Missing(Keyword::EdgeWeightType))),
-            (b"EDGE_WEIGHT_TYP", fault(4, TextKind::UnknownKeyword)),
-            (b"E : EUC_2", fault(4, TextKind::Unsupported)),
-            (b"D", fault(4, TextKind::Missing(Keyword::NodeCoordSection))),
+            (b"NAM", Some((1, TextKind::UnknownKeyword))),
+            (b"E : p", Some((1, TextKind::Missing(Keyword::Type)))),
+            (b"\n", Some((2, TextKind::Missing(Keyword::Type)))),
+            (b"TYP", Some((2, TextKind::UnknownKeyword))),
+            (b"E : TS", Some((2, TextKind::Unsupported))),
+            (b"P", Some((2, TextKind::Missing(Keyword::Dimension)))),
+            (b"\n", Some((3, TextKind::Missing(Keyword::Dimension)))),
+            (b"DIMENSIO", Some((3, TextKind::UnknownKeyword))),
+            (b"N : ", Some((3, TextKind::BadNumber))),
+            (b"3", Some((3, TextKind::Missing(Keyword::EdgeWeightType)))),
+            (b"\n", Some((4, TextKind::Missing(Keyword::EdgeWeightType)))),
+            (b"EDGE_WEIGHT_TYP", Some((4, TextKind::UnknownKeyword))),
+            (b"E : EUC_2", Some((4, TextKind::Unsupported))),
+            (
+                b"D",
+                Some((4, TextKind::Missing(Keyword::NodeCoordSection))),
+            ),
             (
                 b"\n",
-                fault(5, TextKind::Missing(Keyword::NodeCoordSection)),
+                Some((5, TextKind::Missing(Keyword::NodeCoordSection))),
             ),
-            (b"NODE_COORD_SECTIO", fault(5, TextKind::UnknownKeyword)),
-            (b"N", fault(5, TextKind::Truncated)),
-            (b"\n1 0 0", fault(6, TextKind::Truncated)),
-            (b"\n2 3 0", fault(7, TextKind::Truncated)),
-            (b"\n3 0 ", fault(8, TextKind::Truncated)),
+            (b"NODE_COORD_SECTIO", Some((5, TextKind::UnknownKeyword))),
+            (b"N", Some((5, TextKind::Truncated))),
+            (b"\n1 0 0", Some((6, TextKind::Truncated))),
+            (b"\n2 3 0", Some((7, TextKind::Truncated))),
+            (b"\n3 0 ", Some((8, TextKind::Truncated))),
             (b"4\n", None),
-            (b"EO", fault(9, TextKind::UnknownKeyword)),
+            (b"EO", Some((9, TextKind::UnknownKeyword))),
             (b"F\njunk", None),
         ],
     )?;
@@ -78,41 +90,41 @@ fn beginnings_of_weights(rt: HostRuntime) -> Result<(), Fail> {
         a,
         &mut text,
         &[
-            (b"TYP", fault(1, TextKind::UnknownKeyword)),
-            (b"E : TS", fault(1, TextKind::Unsupported)),
-            (b"P", fault(1, TextKind::Missing(Keyword::Dimension))),
-            (b"\n", fault(2, TextKind::Missing(Keyword::Dimension))),
-            (b"DIMENSIO", fault(2, TextKind::UnknownKeyword)),
-            (b"N : ", fault(2, TextKind::BadNumber)),
-            (b"3", fault(2, TextKind::Missing(Keyword::EdgeWeightType))),
-            (b"\n", fault(3, TextKind::Missing(Keyword::EdgeWeightType))),
-            (b"EDGE_WEIGHT_TYP", fault(3, TextKind::UnknownKeyword)),
-            (b"E : EXPLICI", fault(3, TextKind::Unsupported)),
+            (b"TYP", Some((1, TextKind::UnknownKeyword))),
+            (b"E : TS", Some((1, TextKind::Unsupported))),
+            (b"P", Some((1, TextKind::Missing(Keyword::Dimension)))),
+            (b"\n", Some((2, TextKind::Missing(Keyword::Dimension)))),
+            (b"DIMENSIO", Some((2, TextKind::UnknownKeyword))),
+            (b"N : ", Some((2, TextKind::BadNumber))),
+            (b"3", Some((2, TextKind::Missing(Keyword::EdgeWeightType)))),
+            (b"\n", Some((3, TextKind::Missing(Keyword::EdgeWeightType)))),
+            (b"EDGE_WEIGHT_TYP", Some((3, TextKind::UnknownKeyword))),
+            (b"E : EXPLICI", Some((3, TextKind::Unsupported))),
             (
                 b"T",
-                fault(3, TextKind::Missing(Keyword::EdgeWeightSection)),
+                Some((3, TextKind::Missing(Keyword::EdgeWeightSection))),
             ),
             (
                 b"\n",
-                fault(4, TextKind::Missing(Keyword::EdgeWeightSection)),
+                Some((4, TextKind::Missing(Keyword::EdgeWeightSection))),
             ),
-            (b"EDGE_WEIGHT_FORMA", fault(4, TextKind::UnknownKeyword)),
-            (b"T : FULL_MATRI", fault(4, TextKind::Unsupported)),
+            (b"EDGE_WEIGHT_FORMA", Some((4, TextKind::UnknownKeyword))),
+            (b"T : FULL_MATRI", Some((4, TextKind::Unsupported))),
             (
                 b"X",
-                fault(4, TextKind::Missing(Keyword::EdgeWeightSection)),
+                Some((4, TextKind::Missing(Keyword::EdgeWeightSection))),
             ),
             (
                 b"\n",
-                fault(5, TextKind::Missing(Keyword::EdgeWeightSection)),
+                Some((5, TextKind::Missing(Keyword::EdgeWeightSection))),
             ),
-            (b"EDGE_WEIGHT_SECTIO", fault(5, TextKind::UnknownKeyword)),
-            (b"N", fault(5, TextKind::Truncated)),
-            (b"\n0 3 5", fault(6, TextKind::Truncated)),
-            (b"\n", fault(7, TextKind::Truncated)),
+            (b"EDGE_WEIGHT_SECTIO", Some((5, TextKind::UnknownKeyword))),
+            (b"N", Some((5, TextKind::Truncated))),
+            (b"\n0 3 5", Some((6, TextKind::Truncated))),
+            (b"\n", Some((7, TextKind::Truncated))),
             (
                 b"4 0 6\n5 6 0\nEOF\n",
-                fault(7, TextKind::NotSymmetric(1, 2)),
+                Some((7, TextKind::NotSymmetric(1, 2))),
             ),
         ],
     )?;
@@ -126,47 +138,53 @@ fn grow_routing<A: Abort>(rt: &A, alloc: Global, text: &mut Vec<u8>) -> Result<(
         alloc,
         text,
         &[
-            (b"NAM", fault(1, TextKind::UnknownKeyword)),
-            (b"E : v", fault(1, TextKind::Missing(Keyword::Type))),
-            (b"\n", fault(2, TextKind::Missing(Keyword::Type))),
-            (b"TYP", fault(2, TextKind::UnknownKeyword)),
-            (b"E : CVR", fault(2, TextKind::Unsupported)),
-            (b"P", fault(2, TextKind::Missing(Keyword::Dimension))),
-            (b"\n", fault(3, TextKind::Missing(Keyword::Dimension))),
-            (b"DIMENSIO", fault(3, TextKind::UnknownKeyword)),
-            (b"N : ", fault(3, TextKind::BadNumber)),
-            (b"5", fault(3, TextKind::Missing(Keyword::EdgeWeightType))),
-            (b"\n", fault(4, TextKind::Missing(Keyword::EdgeWeightType))),
-            (b"EDGE_WEIGHT_TYP", fault(4, TextKind::UnknownKeyword)),
-            (b"E : EUC_2", fault(4, TextKind::Unsupported)),
-            (b"D", fault(4, TextKind::Missing(Keyword::NodeCoordSection))),
+            (b"NAM", Some((1, TextKind::UnknownKeyword))),
+            (b"E : v", Some((1, TextKind::Missing(Keyword::Type)))),
+            (b"\n", Some((2, TextKind::Missing(Keyword::Type)))),
+            (b"TYP", Some((2, TextKind::UnknownKeyword))),
+            (b"E : CVR", Some((2, TextKind::Unsupported))),
+            (b"P", Some((2, TextKind::Missing(Keyword::Dimension)))),
+            (b"\n", Some((3, TextKind::Missing(Keyword::Dimension)))),
+            (b"DIMENSIO", Some((3, TextKind::UnknownKeyword))),
+            (b"N : ", Some((3, TextKind::BadNumber))),
+            (b"5", Some((3, TextKind::Missing(Keyword::EdgeWeightType)))),
+            (b"\n", Some((4, TextKind::Missing(Keyword::EdgeWeightType)))),
+            (b"EDGE_WEIGHT_TYP", Some((4, TextKind::UnknownKeyword))),
+            (b"E : EUC_2", Some((4, TextKind::Unsupported))),
+            (
+                b"D",
+                Some((4, TextKind::Missing(Keyword::NodeCoordSection))),
+            ),
             (
                 b"\n",
-                fault(5, TextKind::Missing(Keyword::NodeCoordSection)),
+                Some((5, TextKind::Missing(Keyword::NodeCoordSection))),
             ),
-            (b"CAPACIT", fault(5, TextKind::UnknownKeyword)),
-            (b"Y : ", fault(5, TextKind::BadNumber)),
-            (b"2", fault(5, TextKind::Missing(Keyword::NodeCoordSection))),
+            (b"CAPACIT", Some((5, TextKind::UnknownKeyword))),
+            (b"Y : ", Some((5, TextKind::BadNumber))),
+            (
+                b"2",
+                Some((5, TextKind::Missing(Keyword::NodeCoordSection))),
+            ),
             (
                 b"\n",
-                fault(6, TextKind::Missing(Keyword::NodeCoordSection)),
+                Some((6, TextKind::Missing(Keyword::NodeCoordSection))),
             ),
-            (b"NODE_COORD_SECTIO", fault(6, TextKind::UnknownKeyword)),
-            (b"N", fault(6, TextKind::Truncated)),
-            (b"\n1 0 0", fault(7, TextKind::Truncated)),
-            (b"\n2 10 0", fault(8, TextKind::Truncated)),
-            (b"\n3 11 0", fault(9, TextKind::Truncated)),
-            (b"\n4 ", fault(10, TextKind::Truncated)),
-            (b"-", fault(10, TextKind::BadNumber)),
-            (b"10 0", fault(10, TextKind::Truncated)),
-            (b"\n5 ", fault(11, TextKind::Truncated)),
-            (b"-", fault(11, TextKind::BadNumber)),
-            (b"11 ", fault(11, TextKind::Truncated)),
-            (b"0", fault(11, TextKind::Missing(Keyword::DemandSection))),
-            (b"\n", fault(12, TextKind::Missing(Keyword::DemandSection))),
-            (b"DEMAND_SECTIO", fault(12, TextKind::UnknownKeyword)),
-            (b"N", fault(12, TextKind::Truncated)),
-            (b"\n1 0", fault(13, TextKind::Truncated)),
+            (b"NODE_COORD_SECTIO", Some((6, TextKind::UnknownKeyword))),
+            (b"N", Some((6, TextKind::Truncated))),
+            (b"\n1 0 0", Some((7, TextKind::Truncated))),
+            (b"\n2 10 0", Some((8, TextKind::Truncated))),
+            (b"\n3 11 0", Some((9, TextKind::Truncated))),
+            (b"\n4 ", Some((10, TextKind::Truncated))),
+            (b"-", Some((10, TextKind::BadNumber))),
+            (b"10 0", Some((10, TextKind::Truncated))),
+            (b"\n5 ", Some((11, TextKind::Truncated))),
+            (b"-", Some((11, TextKind::BadNumber))),
+            (b"11 ", Some((11, TextKind::Truncated))),
+            (b"0", Some((11, TextKind::Missing(Keyword::DemandSection)))),
+            (b"\n", Some((12, TextKind::Missing(Keyword::DemandSection)))),
+            (b"DEMAND_SECTIO", Some((12, TextKind::UnknownKeyword))),
+            (b"N", Some((12, TextKind::Truncated))),
+            (b"\n1 0", Some((13, TextKind::Truncated))),
         ],
     )
 }
@@ -178,16 +196,24 @@ fn grow_demands<A: Abort>(rt: &A, alloc: Global, text: &mut Vec<u8>) -> Result<(
         alloc,
         text,
         &[
-            (b"\n3 1", fault(15, TextKind::Truncated)),
-            (b"\n4 1", fault(16, TextKind::Truncated)),
-            (b"\n5 ", fault(17, TextKind::Truncated)),
-            (b"1", fault(17, TextKind::Missing(Keyword::DepotSection))),
-            (b"\n", fault(18, TextKind::Missing(Keyword::DepotSection))),
-            (b"DEPOT_SECTIO", fault(18, TextKind::UnknownKeyword)),
-            (b"N", fault(18, TextKind::Truncated)),
-            (b"\n", fault(19, TextKind::Truncated)),
+            (b"\n3 1", Some((15, TextKind::Truncated))),
+            (b"\n4 1", Some((16, TextKind::Truncated))),
+            (b"\n5 ", Some((17, TextKind::Truncated))),
+            (b"1", Some((17, TextKind::Missing(Keyword::DepotSection)))),
+            (b"\n", Some((18, TextKind::Missing(Keyword::DepotSection)))),
+            (b"DEPOT_SECTIO", Some((18, TextKind::UnknownKeyword))),
+            (b"N", Some((18, TextKind::Truncated))),
+            (b"\n", Some((19, TextKind::Truncated))),
         ],
     )
+}
+
+/// Whether a problem has a routing of this capacity, these demands and this depot.
+fn has_routing(problem: &Problem, capacity: u32, demand: &[u32], depot: u32) -> bool {
+    match &problem.routing {
+        Some(routing) => is_routing(routing, capacity, demand, depot),
+        None => false,
+    }
 }
 
 #[test]
@@ -199,7 +225,7 @@ fn beginnings_of_a_routing(rt: HostRuntime) -> Result<(), Fail> {
         &rt,
         a,
         &mut text,
-        &[(b"\n2 1", fault(14, TextKind::Truncated))],
+        &[(b"\n2 1", Some((14, TextKind::Truncated)))],
     )?;
     grow_demands(&rt, a, &mut text)?;
     grow(
@@ -208,20 +234,15 @@ fn beginnings_of_a_routing(rt: HostRuntime) -> Result<(), Fail> {
         &mut text,
         &[
             (b"1\n", None),
-            (b"-", fault(20, TextKind::BadNumber)),
+            (b"-", Some((20, TextKind::BadNumber))),
             (b"1\n", None),
-            (b"EO", fault(21, TextKind::UnknownKeyword)),
+            (b"EO", Some((21, TextKind::UnknownKeyword))),
             (b"F\n", None),
         ],
     )?;
     let problem = read(&rt, a, &text)?;
     assert_eq!(rt; problem.n, 5);
-    assert!(rt;
-        match &problem.routing {
-            Some(routing) => is_routing(routing, 2, &[0, 1, 1, 1, 1], 1),
-            None => false,
-        }
-    );
+    assert!(rt; has_routing(&problem, 2, &[0, 1, 1, 1, 1], 1));
     Ok(())
 }
 
@@ -234,7 +255,7 @@ fn beginnings_of_a_load_too_great(rt: HostRuntime) -> Result<(), Fail> {
         &rt,
         a,
         &mut text,
-        &[(b"\n2 3", fault(14, TextKind::Truncated))],
+        &[(b"\n2 3", Some((14, TextKind::Truncated)))],
     )?;
     grow_demands(&rt, a, &mut text)?;
     grow(
@@ -242,61 +263,79 @@ fn beginnings_of_a_load_too_great(rt: HostRuntime) -> Result<(), Fail> {
         a,
         &mut text,
         &[
-            (b"1", fault(19, TextKind::DemandOverCapacity(2))),
-            (b"\n", fault(20, TextKind::DemandOverCapacity(2))),
-            (b"-", fault(20, TextKind::BadNumber)),
-            (b"1", fault(20, TextKind::DemandOverCapacity(2))),
-            (b"\n", fault(21, TextKind::DemandOverCapacity(2))),
-            (b"EO", fault(21, TextKind::UnknownKeyword)),
-            (b"F\n", fault(21, TextKind::DemandOverCapacity(2))),
+            (b"1", Some((19, TextKind::DemandOverCapacity(2)))),
+            (b"\n", Some((20, TextKind::DemandOverCapacity(2)))),
+            (b"-", Some((20, TextKind::BadNumber))),
+            (b"1", Some((20, TextKind::DemandOverCapacity(2)))),
+            (b"\n", Some((21, TextKind::DemandOverCapacity(2)))),
+            (b"EO", Some((21, TextKind::UnknownKeyword))),
+            (b"F\n", Some((21, TextKind::DemandOverCapacity(2)))),
         ],
     )?;
     Ok(())
 }
 
+/// Reads a text byte by byte, from a source that fails behind its last byte, to this fault or none.
+fn expect_dripping(rt: &impl Abort, alloc: Global, text: &[u8], answer: Option<(u64, TextKind)>) {
+    assert_eq!(rt; read_dripping(alloc, text, true).err(), listed(&answer));
+}
+
+/// Reads a text byte by byte, from a source that fails behind its last byte, to a fault of the source.
+fn expect_failed_source(rt: &impl Abort, alloc: Global, text: &[u8]) {
+    let told = read_dripping(alloc, text, true).err();
+    assert_eq!(rt; told.map(|fault| fault.kind), Some(TextKind::Read));
+}
+
 /// Behind what decides, a source is not read.
 #[test]
-fn failing_sources(rt: HostRuntime) -> Result<(), Fail> {
+fn failing_sources(rt: HostRuntime) {
     let a = rt.alloc();
     let text: &[u8] =
         b"NAME : p\nTYPE : TSP\nDIMENSION : 3\nEDGE_WEIGHT_TYPE : EUC_2D\nNODE_COORD_SECTION\n1 0 0\n2 3 0\n3 0 4\nEOF\n";
     assert_eq!(rt; text.len(), 101);
     for end in 0..101usize {
-        assert_eq!(rt;
-            read_dripping(a, &text[..end], true)
-                .err()
-                .map(|fault| fault.kind),
-            Some(TextKind::Read)
-        );
+        expect_failed_source(&rt, a, &text[..end]);
     }
-    assert_eq!(rt; read_dripping(a, text, true).err(), None);
-    assert_eq!(rt;
-        read_dripping(a, &text[..100], true).err(),
-        fault(9, TextKind::Read)
-    );
-    assert_eq!(rt;
-        read_dripping(a, b"FOO\n", true).err(),
-        fault(1, TextKind::UnknownKeyword)
-    );
-    assert_eq!(rt;
-        read_dripping(a, b"FOO", true).err(),
-        fault(1, TextKind::Read)
-    );
-    Ok(())
+    expect_dripping(&rt, a, text, None);
+    expect_dripping(&rt, a, &text[..100], Some((9, TextKind::Read)));
+    expect_dripping(&rt, a, b"FOO\n", Some((1, TextKind::UnknownKeyword)));
+    expect_dripping(&rt, a, b"FOO", Some((1, TextKind::Read)));
+}
+
+/// Reads a text of two parts.
+fn read_joined<A: Abort>(
+    rt: &A,
+    alloc: Global,
+    first: &[u8],
+    second: &[u8],
+) -> Result<Problem, Fail> {
+    let mut text = Vec::new(alloc);
+    text.extend_from_slice(first)?;
+    text.extend_from_slice(second)?;
+    Ok(read(rt, alloc, &text)?)
 }
 
 /// The weights of a text behind a TSP's headers up to the type of its weights.
 fn explicit<A: Abort>(rt: &A, alloc: Global, format: &[u8]) -> Result<Weights, Fail> {
-    let mut text = Vec::new(alloc);
-    text.extend_from_slice(
+    let problem = read_joined(
+        rt,
+        alloc,
         b"TYPE : TSP\nDIMENSION : 4\nEDGE_WEIGHT_TYPE : EXPLICIT\nEDGE_WEIGHT_FORMAT : ",
+        format,
     )?;
-    text.extend_from_slice(format)?;
-    let problem = read(rt, alloc, &text)?;
     assert_eq!(rt; problem.n, 4);
     assert_eq!(rt; problem.name.as_slice(), b"Unnamed".as_slice());
     assert!(rt; problem.routing.is_none());
     Ok(problem.weights)
+}
+
+/// The weights of such a text are listed in a lower triangle as these.
+fn expect_lower(rt: &impl Abort, alloc: Global, format: &[u8], wanted: &[u32]) -> Result<(), Fail> {
+    match explicit(rt, alloc, format)? {
+        Weights::Lower(lower) => assert_eq!(rt; lower.as_slice(), wanted),
+        Weights::Points(_, _) => assert!(rt; false),
+    }
+    Ok(())
 }
 
 /// Each format of one table; what stands on its diagonal is not kept.
@@ -314,13 +353,7 @@ fn formats(rt: HostRuntime) -> Result<(), Fail> {
         b"LOWER_DIAG_COL\nEDGE_WEIGHT_SECTION\n0 1 2 3\n0 4 5\n0 6\n0\nEOF\n",
     ];
     for text in texts {
-        match explicit(&rt, rt.alloc(), text)? {
-            Weights::Lower(lower) => assert_eq!(rt;
-                lower.as_slice(),
-                [1, 2, 4, 3, 5, 6].as_slice()
-            ),
-            Weights::Points(_, _) => assert!(rt; false),
-        }
+        expect_lower(&rt, rt.alloc(), text, &[1, 2, 4, 3, 5, 6])?;
     }
     Ok(())
 }
@@ -328,18 +361,12 @@ fn formats(rt: HostRuntime) -> Result<(), Fail> {
 /// Weights at their limits.
 #[test]
 fn weights_at_their_limits(rt: HostRuntime) -> Result<(), Fail> {
-    match explicit(
+    expect_lower(
         &rt,
         rt.alloc(),
         b"UPPER_ROW\nEDGE_WEIGHT_SECTION\n0 4000000000 -0 +5 01 2\nEOF\n",
-    )? {
-        Weights::Lower(lower) => assert_eq!(rt;
-            lower.as_slice(),
-            [0, 4_000_000_000, 5, 0, 1, 2].as_slice()
-        ),
-        Weights::Points(_, _) => assert!(rt; false),
-    }
-    Ok(())
+        &[0, 4_000_000_000, 5, 0, 1, 2],
+    )
 }
 
 /// The coordinates of a text, in units of 10^-9.
@@ -373,10 +400,37 @@ fn coordinates(rt: HostRuntime) -> Result<(), Fail> {
     Ok(())
 }
 
+/// Two places of this kind of the plane.
+fn expect_kind(rt: &impl Abort, alloc: Global, word: &[u8], wanted: PlaneKind) -> Result<(), Fail> {
+    let problem = read_joined(
+        rt,
+        alloc,
+        b"TYPE TSP\nDIMENSION 2\nNODE_COORD_SECTION 2 5 0 1 3 4\nEDGE_WEIGHT_TYPE ",
+        word,
+    )?;
+    let places = [
+        Point {
+            x: 3_000_000_000,
+            y: 4_000_000_000,
+        },
+        Point {
+            x: 5_000_000_000,
+            y: 0,
+        },
+    ];
+    match &problem.weights {
+        Weights::Points(kind, points) => {
+            assert_eq!(rt; *kind, wanted);
+            assert!(rt; are_places(points, &places));
+        }
+        Weights::Lower(_) => assert!(rt; false),
+    }
+    Ok(())
+}
+
 /// The kinds of the plane, in any case.
 #[test]
 fn kinds(rt: HostRuntime) -> Result<(), Fail> {
-    let a = rt.alloc();
     let rows: [(&[u8], PlaneKind); 6] = [
         (b"EUC_2D", PlaneKind::Euc2d),
         (b"CEIL_2D", PlaneKind::Ceil2d),
@@ -386,41 +440,27 @@ fn kinds(rt: HostRuntime) -> Result<(), Fail> {
         (b"euc_2d : ATT", PlaneKind::Euc2d),
     ];
     for (word, wanted) in rows {
-        let mut text = Vec::new(a);
-        text.extend_from_slice(
-            b"TYPE TSP\nDIMENSION 2\nNODE_COORD_SECTION 2 5 0 1 3 4\nEDGE_WEIGHT_TYPE ",
-        )?;
-        text.extend_from_slice(word)?;
-        let problem = read(&rt, a, &text)?;
-        match &problem.weights {
-            Weights::Points(kind, points) => {
-                assert_eq!(rt; *kind, wanted);
-                assert!(rt;
-                    are_places(
-                        points,
-                        &[
-                            Point {
-                                x: 3_000_000_000,
-                                y: 4_000_000_000
-                            },
-                            Point {
-                                x: 5_000_000_000,
-                                y: 0
-                            },
-                        ]
-                    )
-                );
-            }
-            Weights::Lower(_) => assert!(rt; false),
-        }
+        expect_kind(&rt, rt.alloc(), word, wanted)?;
     }
+    Ok(())
+}
+
+/// A routing whose depot is the second node, behind whose section this stands.
+fn expect_depot(rt: &impl Abort, alloc: Global, end: &[u8]) -> Result<(), Fail> {
+    let problem = read_joined(
+        rt,
+        alloc,
+        b"name : a b  c \nTYPE : CVRP : x\nDIMENSION 3\nEDGE_WEIGHT_TYPE EUC_2D\nCAPACITY : 2000000000\nNODE_COORD_SECTION\n1 10 0\n2 0 0\n3 11 0\nDEMAND_SECTION\n3 2000000000\n1 1\n2 0\nDISPLAY_DATA_SECTION\n1 x y 2 x y 3 x y\nDEPOT_SECTION ",
+        end,
+    )?;
+    assert_eq!(rt; problem.name.as_slice(), b"a b  c".as_slice());
+    assert!(rt; has_routing(&problem, 2_000_000_000, &[1, 0, 2_000_000_000], 2));
     Ok(())
 }
 
 /// A routing whose depot is not its first node, at each way that its section may end.
 #[test]
 fn depots(rt: HostRuntime) -> Result<(), Fail> {
-    let a = rt.alloc();
     let ends: [&[u8]; 6] = [
         b"2",
         b"2 EOF",
@@ -430,27 +470,27 @@ fn depots(rt: HostRuntime) -> Result<(), Fail> {
         b"+2\n-1\nCOMMENT x\nEOF\n",
     ];
     for end in ends {
-        let mut text = Vec::new(a);
-        text.extend_from_slice(
-            b"name : a b  c \nTYPE : CVRP : x\nDIMENSION 3\nEDGE_WEIGHT_TYPE EUC_2D\nCAPACITY : 2000000000\nNODE_COORD_SECTION\n1 10 0\n2 0 0\n3 11 0\nDEMAND_SECTION\n3 2000000000\n1 1\n2 0\nDISPLAY_DATA_SECTION\n1 x y 2 x y 3 x y\nDEPOT_SECTION ",
-        )?;
-        text.extend_from_slice(end)?;
-        let problem = read(&rt, a, &text)?;
-        assert_eq!(rt; problem.name.as_slice(), b"a b  c".as_slice());
-        assert!(rt;
-            match &problem.routing {
-                Some(routing) => is_routing(routing, 2_000_000_000, &[1, 0, 2_000_000_000], 2),
-                None => false,
-            }
-        );
+        expect_depot(&rt, rt.alloc(), end)?;
     }
+    Ok(())
+}
+
+/// The name of a problem with this behind its places.
+fn expect_name(rt: &impl Abort, alloc: Global, head: &[u8], name: &[u8]) -> Result<(), Fail> {
+    let problem = read_joined(
+        rt,
+        alloc,
+        b"TYPE : TSP\nDIMENSION : 2\nEDGE_WEIGHT_TYPE : MAX_2D\nNODE_COORD_SECTION\n1 0 0\n2 0 0\n",
+        head,
+    )?;
+    assert_eq!(rt; problem.name.as_slice(), name);
+    assert!(rt; problem.routing.is_none());
     Ok(())
 }
 
 /// Names, and what is not kept.
 #[test]
 fn names(rt: HostRuntime) -> Result<(), Fail> {
-    let a = rt.alloc();
     let rows: [(&[u8], &[u8]); 7] = [
         (b"", b"Unnamed"),
         (b"NAME\n", b"Unnamed"),
@@ -464,14 +504,7 @@ fn names(rt: HostRuntime) -> Result<(), Fail> {
         ),
     ];
     for (head, name) in rows {
-        let mut text = Vec::new(a);
-        text.extend_from_slice(
-            b"TYPE : TSP\nDIMENSION : 2\nEDGE_WEIGHT_TYPE : MAX_2D\nNODE_COORD_SECTION\n1 0 0\n2 0 0\n",
-        )?;
-        text.extend_from_slice(head)?;
-        let problem = read(&rt, a, &text)?;
-        assert_eq!(rt; problem.name.as_slice(), name);
-        assert!(rt; problem.routing.is_none());
+        expect_name(&rt, rt.alloc(), head, name)?;
     }
     Ok(())
 }
