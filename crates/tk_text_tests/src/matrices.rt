@@ -1,7 +1,7 @@
 //! What is written of small tables.
 ghost use Rattle.std.specs.Prelude.{◌≡◌, ◌+◌, ◌-◌, ◌*◌, ◌≤◌, pos, slice_index};
 
-use crate::fake_sink::FakeSink;
+use crate::harness::fake_sink::FakeSink;
 use std::alloc::{AllocError, Global};
 use std::process::Abort;
 use std::test::Fail;

@@ -1,7 +1,7 @@
 //! Tour texts, read at once, byte by byte and in small pieces.
 
-use crate::drip::Drip;
-use crate::padded::Padded;
+use crate::harness::drip::Drip;
+use crate::harness::padded::Padded;
 use std::alloc::{AllocError, Global};
 use std::test::Fail;
 use tk_text::{FromRead, Keyword, TEXT_LIMIT, TextFault, TextKind, TourText, read_tour};

@@ -1,6 +1,6 @@
 //! What is written of pieces, tours and routes, whole and to sinks that fail.
 
-use crate::fake_sink::FakeSink;
+use crate::harness::fake_sink::FakeSink;
 use std::test::Fail;
 use tk_text::{Pen, Sink, ToWrite, WriteFault, write_solution, write_tour};
 
