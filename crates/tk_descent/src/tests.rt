@@ -106,6 +106,49 @@ fn numbers(r: &Report) -> (i64, i64, u64, u64, u64, u64) {
     (r.before, r.after, r.moves, r.looks, r.tests, r.swaps)
 }
 
+/// A descent of all cities makes a tour, with these numbers: whether that is then a local optimum.
+fn expect_descent(
+    rt: &impl Abort,
+    alloc: Global,
+    metric: &Rows,
+    cities: &[u32],
+    (k, m): (u32, u32),
+    want: (i64, i64, u64, u64, u64, u64),
+) -> Result<(ArrayTour, bool), Fail> {
+    let (tour, report, optimum) = descent(rt, alloc, metric, cities, k, m, true)?;
+    assert_eq!(rt; numbers(&report), want);
+    Ok((tour, optimum))
+}
+
+/// A swept descent makes a local optimum in so many passes, with these numbers.
+fn expect_sweep(
+    rt: &impl Abort,
+    alloc: Global,
+    metric: &Rows,
+    cities: &[u32],
+    k: u32,
+    passes: u64,
+    want: (i64, i64, u64, u64, u64, u64),
+) -> Result<(), Fail> {
+    let (report, optimum) = sweep(rt, alloc, metric, cities, k)?;
+    assert_eq!(rt; numbers(&report.descent), want);
+    assert_eq!(rt; report.passes, passes);
+    assert!(rt; optimum);
+    Ok(())
+}
+
+/// The tour is printed as this list.
+fn expect_printed(
+    rt: &impl Abort,
+    alloc: Global,
+    tour: &ArrayTour,
+    want: &[u32],
+) -> Result<(), Fail> {
+    let printed = tour.canonical(alloc)?;
+    assert_eq!(rt; printed.as_slice(), want);
+    Ok(())
+}
+
 /// (0,0) (3,0) (0,4), EUC_2D
 fn right_angle() -> Rows {
     Rows {
@@ -140,8 +183,8 @@ fn five_cities() -> Rows {
 
 #[test]
 fn three_cities_right_angle(rt: HostRuntime) -> Result<(), Fail> {
-    let (_, report, optimum) = descent(&rt, rt.alloc(), &right_angle(), &[1, 2, 3], 2, 3, true)?;
-    assert_eq!(rt; numbers(&report), (12, 12, 0, 3, 18, 0));
+    let want = (12, 12, 0, 3, 18, 0);
+    let (_, optimum) = expect_descent(&rt, rt.alloc(), &right_angle(), &[1, 2, 3], (2, 3), want)?;
     assert!(rt; optimum);
     let (report, optimum) = sweep(&rt, rt.alloc(), &right_angle(), &[1, 2, 3], 2)?;
     assert_eq!(rt; (report.passes, report.descent.tests), (1, 18));
@@ -157,8 +200,8 @@ fn two_cities(rt: HostRuntime) -> Result<(), Fail> {
             0, 5, 0, 0, 0, 0, 0, 0, 0, 0, 0, 0, 0, 0, 0, 0, 0, 0, 0, 0, 0, 0, 0, 0, 0,
         ],
     };
-    let (_, report, optimum) = descent(&rt, rt.alloc(), &metric, &[1, 2], 1, 3, true)?;
-    assert_eq!(rt; numbers(&report), (10, 10, 0, 2, 4, 0));
+    let want = (10, 10, 0, 2, 4, 0);
+    let (_, optimum) = expect_descent(&rt, rt.alloc(), &metric, &[1, 2], (1, 3), want)?;
     assert!(rt; optimum);
     Ok(())
 }
@@ -167,11 +210,10 @@ fn two_cities(rt: HostRuntime) -> Result<(), Fail> {
 fn crossed_square(rt: HostRuntime) -> Result<(), Fail> {
     let cities = [1, 2, 3, 4];
     for (m, tests) in [(3, 57), (2, 57), (1, 41)] {
-        let (tour, report, optimum) = descent(&rt, rt.alloc(), &square(), &cities, 3, m, true)?;
-        assert_eq!(rt; numbers(&report), (48, 40, 1, 5, tests, 1));
+        let want = (48, 40, 1, 5, tests, 1);
+        let (tour, optimum) = expect_descent(&rt, rt.alloc(), &square(), &cities, (3, m), want)?;
         assert!(rt; optimum);
-        let printed = tour.canonical(rt.alloc())?;
-        assert_eq!(rt; printed.as_slice(), [1, 3, 2, 4].as_slice());
+        expect_printed(&rt, rt.alloc(), &tour, &[1, 3, 2, 4])?;
     }
     Ok(())
 }
@@ -187,11 +229,8 @@ fn crossed_square_asleep(rt: HostRuntime) -> Result<(), Fail> {
 
 #[test]
 fn crossed_square_swept(rt: HostRuntime) -> Result<(), Fail> {
-    let (report, optimum) = sweep(&rt, rt.alloc(), &square(), &[1, 2, 3, 4], 3)?;
-    assert_eq!(rt; numbers(&report.descent), (48, 40, 1, 9, 113, 1));
-    assert_eq!(rt; report.passes, 2);
-    assert!(rt; optimum);
-    Ok(())
+    let want = (48, 40, 1, 9, 113, 1);
+    expect_sweep(&rt, rt.alloc(), &square(), &[1, 2, 3, 4], 3, 2, want)
 }
 
 #[test]
@@ -202,8 +241,8 @@ fn each_tour_as_long(rt: HostRuntime) -> Result<(), Fail> {
             0, 1, 2, 3, 0, 0, 0, 4, 5, 0, 0, 0, 0, 6, 0, 0, 0, 0, 0, 0, 0, 0, 0, 0, 0,
         ],
     };
-    let (_, report, optimum) = descent(&rt, rt.alloc(), &metric, &[1, 2, 3, 4], 3, 3, true)?;
-    assert_eq!(rt; numbers(&report), (14, 14, 0, 4, 56, 0));
+    let want = (14, 14, 0, 4, 56, 0);
+    let (_, optimum) = expect_descent(&rt, rt.alloc(), &metric, &[1, 2, 3, 4], (3, 3), want)?;
     assert!(rt; optimum);
     Ok(())
 }
@@ -212,16 +251,12 @@ fn each_tour_as_long(rt: HostRuntime) -> Result<(), Fail> {
 fn one_segment_moves(rt: HostRuntime) -> Result<(), Fail> {
     let cities = [1, 2, 3, 4, 5];
     for (m, tests) in [(3, 31), (2, 26), (1, 19)] {
-        let (tour, report, _) = descent(&rt, rt.alloc(), &five_cities(), &cities, 1, m, true)?;
-        assert_eq!(rt; numbers(&report), (41, 32, 1, 6, tests, 2));
-        let printed = tour.canonical(rt.alloc())?;
-        assert_eq!(rt; printed.as_slice(), [1, 3, 2, 5, 4].as_slice());
+        let want = (41, 32, 1, 6, tests, 2);
+        let (tour, _) = expect_descent(&rt, rt.alloc(), &five_cities(), &cities, (1, m), want)?;
+        expect_printed(&rt, rt.alloc(), &tour, &[1, 3, 2, 5, 4])?;
     }
-    let (report, optimum) = sweep(&rt, rt.alloc(), &five_cities(), &cities, 1)?;
-    assert_eq!(rt; numbers(&report.descent), (41, 32, 1, 11, 59, 2));
-    assert_eq!(rt; report.passes, 2);
-    assert!(rt; optimum);
-    Ok(())
+    let want = (41, 32, 1, 11, 59, 2);
+    expect_sweep(&rt, rt.alloc(), &five_cities(), &cities, 1, 2, want)
 }
 
 #[test]
@@ -236,8 +271,7 @@ fn looks_and_makes(rt: HostRuntime) -> Result<(), Fail> {
     };
     assert_eq!(rt; gains.tests(), 1);
     make(&mut tour, &offer);
-    let printed = tour.canonical(rt.alloc())?;
-    assert_eq!(rt; printed.as_slice(), [1, 3, 2, 4].as_slice());
+    expect_printed(&rt, rt.alloc(), &tour, &[1, 3, 2, 4])?;
     assert!(rt; look(&tour, &mut gains, &near, 3, 1).is_none());
     assert_eq!(rt; gains.tests(), 15);
     Ok(())
@@ -247,11 +281,19 @@ fn looks_and_makes(rt: HostRuntime) -> Result<(), Fail> {
 fn gains_of_the_square(rt: HostRuntime) -> Result<(), Fail> {
     let metric = square();
     let mut gains = Probe::new(&metric);
-    assert_eq!(rt; gains.gain2(1, 2, 3, 4), 8);
-    assert_eq!(rt; gains.gain2(1, 3, 2, 4), -8);
-    assert_eq!(rt; gains.gain3(1, 2, 2, 3, 4, 1), 0);
+    let crossed = gains.gain2(1, 2, 3, 4);
+    let straight = gains.gain2(1, 3, 2, 4);
+    let moved = gains.gain3(1, 2, 2, 3, 4, 1);
+    assert_eq!(rt; (crossed, straight, moved), (8, -8, 0));
     assert_eq!(rt; gains.tests(), 3);
     Ok(())
+}
+
+/// This city is the next to be taken, or none is.
+fn expect_next(rt: &impl Abort, waking: &mut Waking, want: Option<u32>)
+    ensures { waking.new.size ≡ waking.old.size }
+{
+    assert_eq!(rt; waking.take(), want);
 }
 
 #[test]
@@ -259,13 +301,13 @@ fn wakes_in_order(rt: HostRuntime) -> Result<(), Fail> {
     let mut waking = Waking::new(rt.alloc(), 3)?;
     waking.wake_all();
     waking.wake(2);
-    assert_eq!(rt; waking.take(), Some(1));
-    assert_eq!(rt; waking.take(), Some(2));
-    assert_eq!(rt; waking.take(), Some(3));
-    assert_eq!(rt; waking.take(), None);
+    expect_next(&rt, &mut waking, Some(1));
+    expect_next(&rt, &mut waking, Some(2));
+    expect_next(&rt, &mut waking, Some(3));
+    expect_next(&rt, &mut waking, None);
     waking.wake_each(&[3, 1, 3]);
-    assert_eq!(rt; waking.take(), Some(3));
-    assert_eq!(rt; waking.take(), Some(1));
-    assert_eq!(rt; waking.take(), None);
+    expect_next(&rt, &mut waking, Some(3));
+    expect_next(&rt, &mut waking, Some(1));
+    expect_next(&rt, &mut waking, None);
     Ok(())
 }

@@ -53,7 +53,7 @@ pub fn check_engine<P: Source, T: Source, W: Sink>(
 #[cfg(test)]
 mod tests {
     use super::*;
-    use std::test::Fail;
+    use std::process::Abort;
     use tk_text::{FromRead, Keyword, TextFault, TextKind, ToWrite, WriteFault};
 
     const TRI: &[u8] =
@@ -74,73 +74,88 @@ mod tests {
         (answer, out.inner)
     }
 
+    /// The engine gives this verdict, and writes this line.
+    fn expect_verdict(
+        rt: &impl Abort,
+        alloc: Global,
+        problem: &[u8],
+        tour: &[u8],
+        verdict: Verdict,
+        line: &[u8],
+    ) {
+        let (answer, written) = checked(alloc, problem, tour);
+        assert_eq!(rt; answer, Ok(verdict));
+        assert_eq!(rt; written.as_slice(), line);
+    }
+
     #[test]
     fn tells_the_length_of_a_tour(rt: HostRuntime) {
-        let (answer, line) = checked(rt.alloc(), TRI, b"TYPE : TOUR\nTOUR_SECTION\n1 2 3 -1\n");
-        assert_eq!(rt; answer, Ok(Verdict::Tour));
-        assert_eq!(rt;
-            line.as_slice(),
-            b"tour of 3 cities, length 12\n".as_slice()
-        );
-        let (answer, line) = checked(
-            rt.alloc(),
-            MATRIX,
-            b"TYPE : TOUR\nTOUR_SECTION\n1 2 3 4 -1\n",
-        );
-        assert_eq!(rt; answer, Ok(Verdict::Tour));
-        assert_eq!(rt;
-            line.as_slice(),
-            b"tour of 4 cities, length 14\n".as_slice()
-        );
+        let rows: [(&[u8], &[u8], &[u8]); 2] = [
+            (
+                TRI,
+                b"TYPE : TOUR\nTOUR_SECTION\n1 2 3 -1\n",
+                b"tour of 3 cities, length 12\n",
+            ),
+            (
+                MATRIX,
+                b"TYPE : TOUR\nTOUR_SECTION\n1 2 3 4 -1\n",
+                b"tour of 4 cities, length 14\n",
+            ),
+        ];
+        for (problem, tour, line) in rows {
+            expect_verdict(&rt, rt.alloc(), problem, tour, Verdict::Tour, line);
+        }
     }
 
     #[test]
     fn tells_the_first_fault_of_a_list(rt: HostRuntime) {
-        let (answer, line) = checked(
-            rt.alloc(),
-            SQUARE,
-            b"TYPE : TOUR\nTOUR_SECTION\n1 2 2 4 -1\n",
-        );
-        assert_eq!(rt; answer, Ok(Verdict::RepeatedCity(3)));
-        assert_eq!(rt;
-            line.as_slice(),
-            b"repeated city at place 3: 2\n".as_slice()
-        );
-        let (answer, line) = checked(
-            rt.alloc(),
-            SQUARE,
-            b"TYPE : TOUR\nTOUR_SECTION\n1 2 3 5 -1\n",
-        );
-        assert_eq!(rt; answer, Ok(Verdict::OutOfRange(4)));
-        assert_eq!(rt; line.as_slice(), b"out of range at place 4: 5\n".as_slice());
-        let (answer, line) = checked(
-            rt.alloc(),
-            SQUARE,
-            b"TYPE : TOUR\nTOUR_SECTION\n1 2 3 4 1 -1\n-1\n",
-        );
-        assert_eq!(rt; answer, Ok(Verdict::WrongCount));
-        assert_eq!(rt;
-            line.as_slice(),
-            b"wrong count: 4 wanted, 5 read\n".as_slice()
-        );
+        let rows: [(&[u8], Verdict, &[u8]); 3] = [
+            (
+                b"TYPE : TOUR\nTOUR_SECTION\n1 2 2 4 -1\n",
+                Verdict::RepeatedCity(3),
+                b"repeated city at place 3: 2\n",
+            ),
+            (
+                b"TYPE : TOUR\nTOUR_SECTION\n1 2 3 5 -1\n",
+                Verdict::OutOfRange(4),
+                b"out of range at place 4: 5\n",
+            ),
+            (
+                b"TYPE : TOUR\nTOUR_SECTION\n1 2 3 4 1 -1\n-1\n",
+                Verdict::WrongCount,
+                b"wrong count: 4 wanted, 5 read\n",
+            ),
+        ];
+        for (tour, verdict, line) in rows {
+            expect_verdict(&rt, rt.alloc(), SQUARE, tour, verdict, line);
+        }
+    }
+
+    /// The engine answers this fault, and writes nothing.
+    fn expect_fault(rt: &impl Abort, alloc: Global, problem: &[u8], tour: &[u8], fault: Fault) {
+        let (answer, line) = checked(alloc, problem, tour);
+        assert_eq!(rt; answer, Err(fault));
+        assert!(rt; line.is_empty());
     }
 
     #[test]
     fn writes_nothing_on_a_faulty_text(rt: HostRuntime) {
-        let (answer, line) = checked(rt.alloc(), b"TYPE : ATSP\n", b"TYPE : CVRP\n");
         let fault = TextFault {
             line: 1,
             kind: TextKind::Unsupported,
         };
-        assert_eq!(rt; answer, Err(Fault::Problem(fault)));
-        assert!(rt; line.is_empty());
-        let (answer, line) = checked(rt.alloc(), TRI, b"TYPE : TOUR\n");
+        expect_fault(
+            &rt,
+            rt.alloc(),
+            b"TYPE : ATSP\n",
+            b"TYPE : CVRP\n",
+            Fault::Problem(fault),
+        );
         let fault = TextFault {
             line: 2,
             kind: TextKind::Missing(Keyword::TourSection),
         };
-        assert_eq!(rt; answer, Err(Fault::Tour(fault)));
-        assert!(rt; line.is_empty());
+        expect_fault(&rt, rt.alloc(), TRI, b"TYPE : TOUR\n", Fault::Tour(fault));
     }
 
     #[test]

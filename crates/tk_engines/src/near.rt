@@ -85,6 +85,7 @@ pub fn near_engine<R: Source, W: Sink>(
 #[cfg(test)]
 mod tests {
     use super::*;
+    use std::process::Abort;
     use tk_text::{FromRead, TextFault, TextKind, ToWrite};
 
     const SQUARE: &[u8] =
@@ -104,24 +105,31 @@ mod tests {
         (answer, out.inner)
     }
 
+    /// The engine writes these lists.
+    fn expect_lists(rt: &impl Abort, alloc: Global, problem: &[u8], k: u32, want: &[u8])
+        requires low { 1 ≤ k }
+        requires limit { k ≤ 100 }
+    {
+        let (answer, text) = lists(alloc, problem, k);
+        assert_eq!(rt; answer, Ok(()));
+        assert_eq!(rt; text.as_slice(), want);
+    }
+
     #[test]
     fn writes_known_lists(rt: HostRuntime) {
-        let (answer, text) = lists(rt.alloc(), SQUARE, 2);
-        assert_eq!(rt; answer, Ok(()));
-        assert_eq!(rt;
-            text.as_slice(),
-            b"1: 3 4\n2: 3 4\n3: 1 2\n4: 1 2\n".as_slice()
+        expect_lists(
+            &rt,
+            rt.alloc(),
+            SQUARE,
+            2,
+            b"1: 3 4\n2: 3 4\n3: 1 2\n4: 1 2\n",
         );
-        let (answer, text) = lists(rt.alloc(), LISTED, 1);
-        assert_eq!(rt; answer, Ok(()));
-        assert_eq!(rt; text.as_slice(), b"1: 3\n2: 3\n3: 1\n".as_slice());
+        expect_lists(&rt, rt.alloc(), LISTED, 1, b"1: 3\n2: 3\n3: 1\n");
     }
 
     #[test]
     fn has_no_more_than_all_others(rt: HostRuntime) {
-        let (answer, text) = lists(rt.alloc(), LISTED, 100);
-        assert_eq!(rt; answer, Ok(()));
-        assert_eq!(rt; text.as_slice(), b"1: 3 2\n2: 3 1\n3: 1 2\n".as_slice());
+        expect_lists(&rt, rt.alloc(), LISTED, 100, b"1: 3 2\n2: 3 1\n3: 1 2\n");
     }
 
     #[test]

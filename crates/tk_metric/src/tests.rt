@@ -7,6 +7,7 @@ use crate::exact::guess::{
 use crate::exact::short::{SHORT, short_root};
 use crate::{Metric, Planar, Planes, Sub, Table, Triangle, root, root_up};
 use std::alloc::{AllocError, Global};
+use std::process::Abort;
 use std::test::Fail;
 use tk_problem::{Places, PlaneKind, Point, Points, Problem, Weights};
 
@@ -39,79 +40,68 @@ fn across(alloc: Global, kind: PlaneKind) -> Result<i64, AllocError> {
     Ok(Planes::new(kind, &points).dist(1, 2))
 }
 
+/// The distances of these points from the origin, and the one across the greatest square.
+fn expect_distances(
+    rt: &impl Abort,
+    alloc: Global,
+    kind: PlaneKind,
+    rows: &[(i64, i64, i64)],
+    greatest: i64,
+) -> Result<(), Fail> {
+    for (x, y, want) in rows {
+        assert_eq!(rt; from_origin(alloc, kind, *x, *y)?, *want);
+    }
+    assert_eq!(rt; across(alloc, kind)?, greatest);
+    Ok(())
+}
+
 #[test]
 fn euclidean(rt: HostRuntime) -> Result<(), Fail> {
-    let alloc = rt.alloc();
-    assert_eq!(rt; from_origin(alloc, PlaneKind::Euc2d, 0, 500_000_000)?, 1);
-    assert_eq!(rt; from_origin(alloc, PlaneKind::Euc2d, UNIT, UNIT)?, 1);
-    assert_eq!(rt; from_origin(alloc, PlaneKind::Euc2d, 0, 499_999_999)?, 0);
-    assert_eq!(rt; across(alloc, PlaneKind::Euc2d)?, 2_828_427_125);
-    Ok(())
+    let rows = [(0, 500_000_000, 1), (UNIT, UNIT, 1), (0, 499_999_999, 0)];
+    expect_distances(&rt, rt.alloc(), PlaneKind::Euc2d, &rows, 2_828_427_125)
 }
 
 #[test]
 fn pseudo_euclidean(rt: HostRuntime) -> Result<(), Fail> {
-    let alloc = rt.alloc();
-    assert_eq!(rt;
-        from_origin(alloc, PlaneKind::Att, 10 * UNIT, 10 * UNIT)?,
-        5
-    );
-    assert_eq!(rt; from_origin(alloc, PlaneKind::Att, UNIT, 3 * UNIT)?, 1);
-    assert_eq!(rt; across(alloc, PlaneKind::Att)?, 894_427_191);
-    Ok(())
+    let rows = [(10 * UNIT, 10 * UNIT, 5), (UNIT, 3 * UNIT, 1)];
+    expect_distances(&rt, rt.alloc(), PlaneKind::Att, &rows, 894_427_191)
 }
 
 #[test]
 fn rounded_up(rt: HostRuntime) -> Result<(), Fail> {
-    let alloc = rt.alloc();
-    assert_eq!(rt; from_origin(alloc, PlaneKind::Ceil2d, UNIT, UNIT)?, 2);
-    assert_eq!(rt;
-        from_origin(alloc, PlaneKind::Ceil2d, 3 * UNIT, 4 * UNIT)?,
-        5
-    );
-    assert_eq!(rt; across(alloc, PlaneKind::Ceil2d)?, 2_828_427_125);
-    Ok(())
+    let rows = [(UNIT, UNIT, 2), (3 * UNIT, 4 * UNIT, 5)];
+    expect_distances(&rt, rt.alloc(), PlaneKind::Ceil2d, &rows, 2_828_427_125)
 }
 
 #[test]
 fn manhattan_and_maximum(rt: HostRuntime) -> Result<(), Fail> {
-    let alloc = rt.alloc();
-    assert_eq!(rt;
-        from_origin(alloc, PlaneKind::Man2d, 1_200_000_000, 1_300_000_000)?,
-        3
-    );
-    assert_eq!(rt; across(alloc, PlaneKind::Man2d)?, 4_000_000_000);
-    assert_eq!(rt;
-        from_origin(alloc, PlaneKind::Max2d, 2_400_000_000, 2_500_000_000)?,
-        3
-    );
-    assert_eq!(rt; across(alloc, PlaneKind::Max2d)?, 2_000_000_000);
-    Ok(())
+    let rows = [(1_200_000_000, 1_300_000_000, 3)];
+    expect_distances(&rt, rt.alloc(), PlaneKind::Man2d, &rows, 4_000_000_000)?;
+    let rows = [(2_400_000_000, 2_500_000_000, 3)];
+    expect_distances(&rt, rt.alloc(), PlaneKind::Max2d, &rows, 2_000_000_000)
+}
+
+/// No two places with this difference are nearer than this.
+fn expect_floor(rt: &impl Abort, points: &Points, kind: PlaneKind, difference: u64, want: i64) {
+    assert!(rt; points.len() == 2);
+    assert!(rt; difference <= 2_000_000_000_000_000_000);
+    assert_eq!(rt; Planes::new(kind, points).floor_x(difference), want);
 }
 
 #[test]
 fn floors(rt: HostRuntime) -> Result<(), Fail> {
     let points = Points::at_origin(rt.alloc(), 2)?;
-    assert_eq!(rt;
-        Planes::new(PlaneKind::Euc2d, &points).floor_x(1_500_000_000),
-        2
+    expect_floor(&rt, &points, PlaneKind::Euc2d, 1_500_000_000, 2);
+    expect_floor(&rt, &points, PlaneKind::Ceil2d, 1_000_000_001, 2);
+    expect_floor(&rt, &points, PlaneKind::Man2d, 1_499_999_999, 1);
+    expect_floor(
+        &rt,
+        &points,
+        PlaneKind::Max2d,
+        2_000_000_000_000_000_000,
+        2_000_000_000,
     );
-    assert_eq!(rt;
-        Planes::new(PlaneKind::Ceil2d, &points).floor_x(1_000_000_001),
-        2
-    );
-    assert_eq!(rt;
-        Planes::new(PlaneKind::Man2d, &points).floor_x(1_499_999_999),
-        1
-    );
-    assert_eq!(rt;
-        Planes::new(PlaneKind::Max2d, &points).floor_x(2_000_000_000_000_000_000),
-        2_000_000_000
-    );
-    assert_eq!(rt;
-        Planes::new(PlaneKind::Att, &points).floor_x(10_000_000_000),
-        4
-    );
+    expect_floor(&rt, &points, PlaneKind::Att, 10_000_000_000, 4);
     Ok(())
 }
 
@@ -152,6 +142,15 @@ fn places_of_a_list(rt: HostRuntime) -> Result<(), Fail> {
     Ok(())
 }
 
+/// The distances of these pairs of cities.
+fn expect_pairs<M: Metric>(rt: &impl Abort, metric: &M, rows: &[(u32, u32, i64)]) {
+    let n = metric.size();
+    for (a, b, want) in rows {
+        assert!(rt; 1 <= *a && *a <= n && 1 <= *b && *b <= n);
+        assert_eq!(rt; metric.dist(*a, *b), *want);
+    }
+}
+
 #[test]
 fn explicit_weights(rt: HostRuntime) {
     // UPPER_ROW `1 2 3 4 5 6`
@@ -160,13 +159,16 @@ fn explicit_weights(rt: HostRuntime) {
         weights: &[1, 2, 4, 3, 5, 6],
     };
     assert_eq!(rt; triangle.size(), 4);
-    assert_eq!(rt; triangle.dist(1, 2), 1);
-    assert_eq!(rt; triangle.dist(1, 3), 2);
-    assert_eq!(rt; triangle.dist(4, 1), 3);
-    assert_eq!(rt; triangle.dist(2, 3), 4);
-    assert_eq!(rt; triangle.dist(4, 2), 5);
-    assert_eq!(rt; triangle.dist(3, 4), 6);
-    assert_eq!(rt; triangle.dist(3, 3), 0);
+    let rows = [
+        (1, 2, 1),
+        (1, 3, 2),
+        (4, 1, 3),
+        (2, 3, 4),
+        (4, 2, 5),
+        (3, 4, 6),
+        (3, 3, 0),
+    ];
+    expect_pairs(&rt, &triangle, &rows);
 }
 
 #[test]
@@ -177,9 +179,7 @@ fn some_of_the_cities(rt: HostRuntime) {
     };
     let some = Sub::new(&triangle, &[4, 2, 4]);
     assert_eq!(rt; some.size(), 3);
-    assert_eq!(rt; some.dist(1, 2), 5);
-    assert_eq!(rt; some.dist(2, 3), 5);
-    assert_eq!(rt; some.dist(1, 3), 0);
+    expect_pairs(&rt, &some, &[(1, 2, 5), (2, 3, 5), (1, 3, 0)]);
     let none = Sub::new(&triangle, &[]);
     assert_eq!(rt; none.size(), 0);
 }

@@ -2,31 +2,19 @@
 #![tactic(auto)]
 
 #[cfg(test)]
-mod drip;
-#[cfg(test)]
 mod examples;
 #[cfg(test)]
-mod fake_sink;
-#[cfg(test)]
 mod faults;
+#[cfg(test)]
+mod harness;
 #[cfg(test)]
 mod matrices;
 #[cfg(test)]
 mod numbers;
 #[cfg(test)]
-mod padded;
-#[cfg(test)]
 mod points;
 #[cfg(test)]
-mod problem_headers;
-#[cfg(test)]
-mod problem_routing;
-#[cfg(test)]
-mod problem_sections;
-#[cfg(test)]
-mod problems;
-#[cfg(test)]
-mod read_both_ways;
+mod problem_texts;
 #[cfg(test)]
 mod solutions;
 #[cfg(test)]

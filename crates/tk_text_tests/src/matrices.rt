@@ -1,7 +1,9 @@
 //! What is written of small tables.
 ghost use Rattle.std.specs.Prelude.{◌≡◌, ◌+◌, ◌-◌, ◌*◌, ◌≤◌, pos, slice_index};
 
-use crate::fake_sink::FakeSink;
+use crate::harness::fake_sink::FakeSink;
+use std::alloc::{AllocError, Global};
+use std::process::Abort;
 use std::test::Fail;
 use tk_text::{Format, Sink, ToWrite, WriteFault, write_matrix};
 
@@ -46,6 +48,39 @@ fn writes_a_lower_triangle_with_its_diagonal(rt: HostRuntime) {
     assert_eq!(rt; sink.inner.as_slice(), THREE_TEXT);
 }
 
+/// The parts of a text, one behind another.
+fn joined(alloc: Global, parts: &[&[u8]]) -> Result<Vec<u8>, AllocError> {
+    let mut text = Vec::new(alloc);
+    for part in parts {
+        text.extend_from_slice(part)?;
+    }
+    Ok(text)
+}
+
+/// The table of four cities is written in this format, which has this word, as these lines.
+fn expect_four(
+    rt: &impl Abort,
+    alloc: Global,
+    format: Format,
+    word: &str,
+    lines: &str,
+) -> Result<(), Fail> {
+    let mut sink = ToWrite::new(Vec::new(alloc));
+    assert_eq!(rt; write_four(&mut sink, format), Ok(()));
+    let text = joined(
+        alloc,
+        &[
+            b"NAME : a b\nTYPE : TSP\nDIMENSION : 4\nEDGE_WEIGHT_TYPE : EXPLICIT\nEDGE_WEIGHT_FORMAT : ",
+            word.as_bytes(),
+            b"\nEDGE_WEIGHT_SECTION\n",
+            lines.as_bytes(),
+            b"EOF\n",
+        ],
+    )?;
+    assert_eq!(rt; sink.inner.as_slice(), text.as_slice());
+    Ok(())
+}
+
 #[test]
 fn writes_each_format(rt: HostRuntime) -> Result<(), Fail> {
     let full = "0 1 2 3\n1 0 4 5\n2 4 0 6\n3 5 6 0\n";
@@ -65,12 +100,7 @@ fn writes_each_format(rt: HostRuntime) -> Result<(), Fail> {
         (Format::UpperDiagCol, "UPPER_DIAG_COL", lower_diag),
     ];
     for (format, word, lines) in formats {
-        let mut sink = ToWrite::new(Vec::new(rt.alloc()));
-        assert_eq!(rt; write_four(&mut sink, format), Ok(()));
-        let text = format!(in rt.alloc();
-            "NAME : a b\nTYPE : TSP\nDIMENSION : 4\nEDGE_WEIGHT_TYPE : EXPLICIT\nEDGE_WEIGHT_FORMAT : {word}\nEDGE_WEIGHT_SECTION\n{lines}EOF\n"
-        )?;
-        assert_eq!(rt; sink.inner.as_slice(), text.as_bytes(), "{word}");
+        expect_four(&rt, rt.alloc(), format, word, lines)?;
     }
     Ok(())
 }

@@ -1,6 +1,6 @@
 //! Solution texts, read at once and byte by byte.
 
-use crate::drip::Drip;
+use crate::harness::drip::Drip;
 use std::alloc::{AllocError, Global};
 use std::process::Abort;
 use std::test::Fail;

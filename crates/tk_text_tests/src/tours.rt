@@ -1,7 +1,7 @@
 //! Tour texts, read at once, byte by byte and in small pieces.
 
-use crate::drip::Drip;
-use crate::padded::Padded;
+use crate::harness::drip::Drip;
+use crate::harness::padded::Padded;
 use std::alloc::{AllocError, Global};
 use std::test::Fail;
 use tk_text::{FromRead, Keyword, TEXT_LIMIT, TextFault, TextKind, TourText, read_tour};
@@ -285,11 +285,17 @@ fn line_of(alloc: Global, word: &[u8], count: usize) -> Result<Vec<u8>, AllocErr
 fn long_headers(rt: HostRuntime) -> Result<(), Fail> {
     let a = rt.alloc();
     let missing = TextKind::Missing(Keyword::Type);
-    assert!(rt; refuses(a, &line_of(a, b"COMMENT ", 4095)?, 2, missing));
-    assert!(rt; refuses(a, &line_of(a, b"COMMENT ", 4096)?, 1, TextKind::TooLong));
-    assert!(rt; refuses(a, &line_of(a, b"CAPACITY ", 4096)?, 1, TextKind::TooLong));
-    assert!(rt; refuses(a, &line_of(a, b"NAME : ", 1024)?, 2, missing));
-    assert!(rt; refuses(a, &line_of(a, b"NAME : ", 1025)?, 1, TextKind::TooLong));
+    let rows: [(&[u8], usize, u64, TextKind); 5] = [
+        (b"COMMENT ", 4095, 2, missing),
+        (b"COMMENT ", 4096, 1, TextKind::TooLong),
+        (b"CAPACITY ", 4096, 1, TextKind::TooLong),
+        (b"NAME : ", 1024, 2, missing),
+        (b"NAME : ", 1025, 1, TextKind::TooLong),
+    ];
+    for (word, count, line, kind) in rows {
+        let text = line_of(a, word, count)?;
+        assert!(rt; refuses(a, &text, line, kind));
+    }
     Ok(())
 }
 

@@ -1,6 +1,6 @@
 //! What is written of pieces, tours and routes, whole and to sinks that fail.
 
-use crate::fake_sink::FakeSink;
+use crate::harness::fake_sink::FakeSink;
 use std::test::Fail;
 use tk_text::{Pen, Sink, ToWrite, WriteFault, write_solution, write_tour};
 
@@ -45,15 +45,20 @@ fn says_how_much_went_out(rt: HostRuntime) {
     }
 }
 
-#[test]
-fn writes_more_than_a_page(rt: HostRuntime) -> Result<(), Fail> {
+// 10,000 times `x`, and `y`
+fn write_long<W: Sink>(sink: &mut W) -> Result<(), WriteFault> {
     let piece = [b'x'; 5000];
-    let mut sink = ToWrite::new(Vec::new(rt.alloc()));
-    let mut pen = Pen::new(&mut sink);
+    let mut pen = Pen::new(sink);
     pen.put(&piece);
     pen.put(&piece);
     pen.put(b"y");
-    assert_eq!(rt; pen.end(), Ok(()));
+    pen.end()
+}
+
+#[test]
+fn writes_more_than_a_page(rt: HostRuntime) -> Result<(), Fail> {
+    let mut sink = ToWrite::new(Vec::new(rt.alloc()));
+    assert_eq!(rt; write_long(&mut sink), Ok(()));
     assert_eq!(rt; sink.inner.len(), 10_001);
     assert_eq!(rt; sink.inner.last(), Some(&b'y'));
     Ok(())

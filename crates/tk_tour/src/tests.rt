@@ -2,6 +2,7 @@
 ghost use Rattle.std.specs.Prelude.{ℕ, ◌+◌, ◌-◌, min, ◌≤◌};
 
 use super::*;
+use std::alloc::Global;
 use std::process::Abort;
 use std::test::Fail;
 use tk_metric::Metric;
@@ -21,33 +22,56 @@ fn flip_ahead<S: TourStore>(rt: &impl Abort, tour: &mut S, a: u32, b: u32, c: u3
     tour.flip(a, b, c, d)
 }
 
+// The cities stand in this order.
+fn expect_order(rt: &impl Abort, tour: &ArrayTour, want: &[u32]) {
+    assert_eq!(rt; tour.order(), want);
+}
+
+// The tour is printed as this list.
+fn expect_printed(
+    rt: &impl Abort,
+    alloc: Global,
+    tour: &ArrayTour,
+    want: &[u32],
+) -> Result<(), Fail> {
+    let printed = tour.canonical(alloc)?;
+    assert_eq!(rt; printed.as_slice(), want);
+    Ok(())
+}
+
+// The flip is undone by one swap, which leads back to this order.
+fn expect_undone(rt: &impl Abort, tour: &mut ArrayTour, flip: &Flip, want: &[u32]) {
+    let n = tour.size();
+    assert!(rt; 1 <= flip.first && flip.first <= n && flip.count <= n);
+    tour.undo(flip);
+    expect_order(rt, tour, want);
+    assert_eq!(rt; tour.undo_swaps(), 1);
+    assert_eq!(rt; tour.swaps(), 1);
+}
+
 #[test]
 fn flips_the_inner_side(rt: HostRuntime) -> Result<(), Fail> {
-    let mut tour = ArrayTour::from_list(rt.alloc(), &[1, 2, 3, 4])?;
+    let cities = [1, 2, 3, 4];
+    let mut tour = ArrayTour::from_list(rt.alloc(), &cities)?;
     let flip = flip_ahead(&rt, &mut tour, 1, 2, 3, 4);
     assert_eq!(rt; flip, Flip { first: 2, count: 2 });
-    assert_eq!(rt; tour.order(), [1, 3, 2, 4].as_slice());
+    expect_order(&rt, &tour, &[1, 3, 2, 4]);
     assert_eq!(rt; tour.swaps(), 1);
     assert_eq!(rt; tour.flips(), 1);
-    let printed = tour.canonical(rt.alloc())?;
-    assert_eq!(rt; printed.as_slice(), [1, 3, 2, 4].as_slice());
-    tour.undo(&flip);
-    assert_eq!(rt; tour.order(), [1, 2, 3, 4].as_slice());
-    assert_eq!(rt; tour.undo_swaps(), 1);
+    expect_printed(&rt, rt.alloc(), &tour, &[1, 3, 2, 4])?;
+    expect_undone(&rt, &mut tour, &flip, &cities);
     Ok(())
 }
 
 #[test]
 fn flips_the_outer_side(rt: HostRuntime) -> Result<(), Fail> {
-    let mut tour = ArrayTour::from_list(rt.alloc(), &[1, 2, 3, 4, 5, 6, 7, 8])?;
+    let cities = [1, 2, 3, 4, 5, 6, 7, 8];
+    let mut tour = ArrayTour::from_list(rt.alloc(), &cities)?;
     let flip = flip_ahead(&rt, &mut tour, 1, 2, 7, 8);
     assert_eq!(rt; flip, Flip { first: 8, count: 2 });
-    assert_eq!(rt; tour.order(), [8, 2, 3, 4, 5, 6, 7, 1].as_slice());
+    expect_order(&rt, &tour, &[8, 2, 3, 4, 5, 6, 7, 1]);
     assert_eq!(rt; tour.swaps(), 1);
-    tour.undo(&flip);
-    assert_eq!(rt; tour.order(), [1, 2, 3, 4, 5, 6, 7, 8].as_slice());
-    assert_eq!(rt; tour.undo_swaps(), 1);
-    assert_eq!(rt; tour.swaps(), 1);
+    expect_undone(&rt, &mut tour, &flip, &cities);
     Ok(())
 }
 
@@ -60,8 +84,7 @@ fn prints_towards_the_smaller_neighbour(rt: HostRuntime) -> Result<(), Fail> {
     ];
     for (list, want) in &lists {
         let tour = ArrayTour::from_list(rt.alloc(), list)?;
-        let printed = tour.canonical(rt.alloc())?;
-        assert_eq!(rt; printed.as_slice(), want.as_slice());
+        expect_printed(&rt, rt.alloc(), &tour, want)?;
     }
     Ok(())
 }
@@ -107,24 +130,35 @@ fn copies(rt: HostRuntime) -> Result<(), Fail> {
     let (n, m) = (tour.size(), other.size());
     assert!(rt; n == m);
     tour.copy_from(&other);
-    assert_eq!(rt; tour.order(), [4, 2, 1, 3].as_slice());
+    expect_order(&rt, &tour, &[4, 2, 1, 3]);
     assert_eq!(rt; tour.copied(), 4);
+    assert!(rt; n == 4);
     assert_eq!(rt; tour.at(2), 2);
     assert_eq!(rt; tour.prev(4), 3);
     Ok(())
 }
 
+// Eight cities in their own order, with a journal of so many flips.
+fn journal_of_eight(alloc: Global, slots: u32) -> Result<JournalTour, Fail> {
+    let tour = ArrayTour::from_list(alloc, &[1, 2, 3, 4, 5, 6, 7, 8])?;
+    Ok(JournalTour::new(alloc, tour, slots)?)
+}
+
+// Flips the outer side, and then an inner one.
+fn flip_twice(rt: &impl Abort, tour: &mut JournalTour) {
+    let _ = flip_ahead(rt, tour, 1, 2, 7, 8);
+    let _ = flip_ahead(rt, tour, 2, 3, 4, 5);
+    expect_order(rt, tour.tour(), &[8, 2, 4, 3, 5, 6, 7, 1]);
+}
+
 #[test]
 fn rewinds(rt: HostRuntime) -> Result<(), Fail> {
-    let tour = ArrayTour::from_list(rt.alloc(), &[1, 2, 3, 4, 5, 6, 7, 8])?;
-    let mut tour = JournalTour::new(rt.alloc(), tour, 2)?;
-    let _ = flip_ahead(&rt, &mut tour, 1, 2, 7, 8);
-    let _ = flip_ahead(&rt, &mut tour, 2, 3, 4, 5);
-    assert_eq!(rt; tour.tour().order(), [8, 2, 4, 3, 5, 6, 7, 1].as_slice());
+    let mut tour = journal_of_eight(rt.alloc(), 2)?;
+    flip_twice(&rt, &mut tour);
     assert!(rt; !tour.lost());
     assert_eq!(rt; tour.flips(), 2);
     assert!(rt; tour.rewind());
-    assert_eq!(rt; tour.tour().order(), [1, 2, 3, 4, 5, 6, 7, 8].as_slice());
+    expect_order(&rt, tour.tour(), &[1, 2, 3, 4, 5, 6, 7, 8]);
     assert_eq!(rt; tour.tour().undo_swaps(), 2);
     assert_eq!(rt; tour.swaps(), 2);
     assert_eq!(rt; tour.flips(), 0);
@@ -133,35 +167,39 @@ fn rewinds(rt: HostRuntime) -> Result<(), Fail> {
 
 #[test]
 fn rewinds_to_the_last_settle(rt: HostRuntime) -> Result<(), Fail> {
-    let tour = ArrayTour::from_list(rt.alloc(), &[1, 2, 3, 4, 5, 6, 7, 8])?;
-    let mut tour = JournalTour::new(rt.alloc(), tour, 1)?;
+    let mut tour = journal_of_eight(rt.alloc(), 1)?;
     let _ = flip_ahead(&rt, &mut tour, 1, 2, 7, 8);
     tour.settle();
     let _ = flip_ahead(&rt, &mut tour, 2, 3, 4, 5);
     assert!(rt; tour.rewind());
-    assert_eq!(rt; tour.tour().order(), [8, 2, 3, 4, 5, 6, 7, 1].as_slice());
+    expect_order(&rt, tour.tour(), &[8, 2, 3, 4, 5, 6, 7, 1]);
     Ok(())
+}
+
+// The third of eight cities is 3, and 8 stands between 7 and 1.
+fn expect_eight_in_order(rt: &impl Abort, tour: &JournalTour) {
+    expect_order(rt, tour.tour(), &[1, 2, 3, 4, 5, 6, 7, 8]);
+    let n = tour.size();
+    assert!(rt; n == 8);
+    assert_eq!(rt; tour.at(3), 3);
+    assert_eq!(rt; tour.next(8), 1);
+    assert_eq!(rt; tour.prev(8), 7);
 }
 
 #[test]
 fn restores_where_flips_were_lost(rt: HostRuntime) -> Result<(), Fail> {
     let start = ArrayTour::from_list(rt.alloc(), &[1, 2, 3, 4, 5, 6, 7, 8])?;
-    let tour = ArrayTour::from_list(rt.alloc(), &[1, 2, 3, 4, 5, 6, 7, 8])?;
-    let mut tour = JournalTour::new(rt.alloc(), tour, 1)?;
-    let _ = flip_ahead(&rt, &mut tour, 1, 2, 7, 8);
-    let _ = flip_ahead(&rt, &mut tour, 2, 3, 4, 5);
+    let mut tour = journal_of_eight(rt.alloc(), 1)?;
+    flip_twice(&rt, &mut tour);
     assert!(rt; tour.lost());
     assert!(rt; !tour.rewind());
-    assert_eq!(rt; tour.tour().order(), [8, 2, 4, 3, 5, 6, 7, 1].as_slice());
+    expect_order(&rt, tour.tour(), &[8, 2, 4, 3, 5, 6, 7, 1]);
     let (n, m) = (tour.size(), start.size());
     assert!(rt; n == m);
     tour.restore(&start);
     assert!(rt; !tour.lost());
-    assert_eq!(rt; tour.tour().order(), [1, 2, 3, 4, 5, 6, 7, 8].as_slice());
     assert_eq!(rt; tour.tour().copied(), 8);
-    assert_eq!(rt; tour.at(3), 3);
-    assert_eq!(rt; tour.next(8), 1);
-    assert_eq!(rt; tour.prev(8), 7);
+    expect_eight_in_order(&rt, &tour);
     Ok(())
 }
 
@@ -184,8 +222,7 @@ fn checks_lists(rt: HostRuntime) -> Result<(), Fail> {
 fn moves_a_segment_turned_round(rt: HostRuntime) -> Result<(), Fail> {
     let mut tour = ArrayTour::from_list(rt.alloc(), &[1, 2, 3, 4, 5, 6, 7, 8])?;
     laws::move_reversed(&mut tour, 1, 2, 3, 4, 5, 6);
-    let printed = tour.canonical(rt.alloc())?;
-    assert_eq!(rt; printed.as_slice(), [1, 4, 5, 3, 2, 6, 7, 8].as_slice());
+    expect_printed(&rt, rt.alloc(), &tour, &[1, 4, 5, 3, 2, 6, 7, 8])?;
     Ok(())
 }
 
@@ -193,8 +230,7 @@ fn moves_a_segment_turned_round(rt: HostRuntime) -> Result<(), Fail> {
 fn moves_a_segment_as_it_runs(rt: HostRuntime) -> Result<(), Fail> {
     let mut tour = ArrayTour::from_list(rt.alloc(), &[1, 2, 3, 4, 5, 6, 7, 8])?;
     laws::move_straight(&mut tour, 1, 2, 3, 4, 5, 6);
-    let printed = tour.canonical(rt.alloc())?;
-    assert_eq!(rt; printed.as_slice(), [1, 4, 5, 2, 3, 6, 7, 8].as_slice());
+    expect_printed(&rt, rt.alloc(), &tour, &[1, 4, 5, 2, 3, 6, 7, 8])?;
     Ok(())
 }
 
@@ -202,8 +238,7 @@ fn moves_a_segment_as_it_runs(rt: HostRuntime) -> Result<(), Fail> {
 fn bridges_doubly(rt: HostRuntime) -> Result<(), Fail> {
     let mut tour = ArrayTour::from_list(rt.alloc(), &[1, 2, 3, 4, 5, 6, 7, 8])?;
     laws::double_bridge(&mut tour, 1, 2, 3, 4, 5, 6, 7, 8);
-    let printed = tour.canonical(rt.alloc())?;
-    assert_eq!(rt; printed.as_slice(), [1, 2, 7, 8, 5, 6, 3, 4].as_slice());
+    expect_printed(&rt, rt.alloc(), &tour, &[1, 2, 7, 8, 5, 6, 3, 4])?;
     Ok(())
 }
 

@@ -4,6 +4,7 @@ ghost use Rattle.tk_problem.specs.Places.{IsNearOrigin};
 
 use crate::{Metric, Near, Planes, Turned, near_lists_agree, near_scan, near_sweep, near_tree};
 use std::alloc::{AllocError, Global};
+use std::process::Abort;
 use std::test::Fail;
 use tk_problem::{PlaneKind, Point, Points};
 
@@ -45,6 +46,29 @@ fn entries_of(alloc: Global, near: &Near) -> Result<Vec<u32>, AllocError> {
     Ok(entries)
 }
 
+// The lists of a scan, of a sweep in either direction and of a tree are these.
+fn expect_lists(
+    rt: &impl Abort,
+    alloc: Global,
+    points: &Points,
+    k: u32,
+    want: &[u32],
+) -> Result<(), Fail> {
+    assert!(rt; points.len() <= 4);
+    let m = Planes::new(PlaneKind::Euc2d, points);
+    assert!(rt; 1 <= k && k < m.size());
+    let scanned = near_scan(alloc, &m, k)?;
+    assert_eq!(rt; entries_of(alloc, &scanned)?.as_slice(), want);
+    assert_eq!(rt; scanned.width(), k);
+    let swept = near_sweep(alloc, &m, k)?;
+    assert_eq!(rt; entries_of(alloc, &swept)?.as_slice(), want);
+    let turned = near_sweep(alloc, &Turned(&m), k)?;
+    assert_eq!(rt; entries_of(alloc, &turned)?.as_slice(), want);
+    let found = near_tree(alloc, &m, k)?;
+    assert_eq!(rt; entries_of(alloc, &found)?.as_slice(), want);
+    Ok(())
+}
+
 #[test]
 fn known_lists(rt: HostRuntime) -> Result<(), Fail> {
     let alloc = rt.alloc();
@@ -57,18 +81,7 @@ fn known_lists(rt: HostRuntime) -> Result<(), Fail> {
         (&corner, 2, &[3, 2, 3, 1, 1, 2]),
     ];
     for (points, k, want) in rows {
-        assert!(rt; points.len() <= 4);
-        let m = Planes::new(PlaneKind::Euc2d, points);
-        assert!(rt; k < m.size());
-        let scanned = near_scan(alloc, &m, k)?;
-        assert_eq!(rt; entries_of(alloc, &scanned)?.as_slice(), want);
-        assert_eq!(rt; scanned.width(), k);
-        let swept = near_sweep(alloc, &m, k)?;
-        assert_eq!(rt; entries_of(alloc, &swept)?.as_slice(), want);
-        let turned = near_sweep(alloc, &Turned(&m), k)?;
-        assert_eq!(rt; entries_of(alloc, &turned)?.as_slice(), want);
-        let found = near_tree(alloc, &m, k)?;
-        assert_eq!(rt; entries_of(alloc, &found)?.as_slice(), want);
+        expect_lists(&rt, alloc, points, k, want)?;
     }
     Ok(())
 }
@@ -91,9 +104,45 @@ fn sample(alloc: Global, wide: u16, tall: u16) -> Result<Vec<(u16, u16)>, AllocE
     Ok(corners)
 }
 
+// 300 places in a box.
+fn sampled(
+    rt: &impl Abort,
+    alloc: Global,
+    wide: u16,
+    tall: u16,
+    whole: bool,
+) -> Result<Points, Fail>
+    ensures { IfOk result (λ ps. length ps ≡ 300) }
+{
+    assert!(rt; 1 <= wide && 1 <= tall);
+    let corners = sample(alloc, wide, tall)?;
+    assert!(rt; corners.len() == 300);
+    Ok(places(alloc, &corners, whole)?)
+}
+
+// A sweep of 300 places in a box finds the lists of a scan.
+fn expect_swept(
+    rt: &impl Abort,
+    alloc: Global,
+    kind: PlaneKind,
+    (wide, tall): (u16, u16),
+    whole: bool,
+    k: u32,
+) -> Result<(), Fail> {
+    let points = sampled(rt, alloc, wide, tall, whole)?;
+    let m = Planes::new(kind, &points);
+    assert!(rt; 1 <= k && k <= 100);
+    let scanned = near_scan(alloc, &m, k)?;
+    let swept = near_sweep(alloc, &m, k)?;
+    for c in 1..m.size() + 1 {
+        assert_eq!(rt; swept.of(c), scanned.of(c), "city {c} of {wide} by {tall}");
+        near_lists_agree(&m, c, k, swept.of(c), scanned.of(c));
+    }
+    Ok(())
+}
+
 #[test]
 fn sweep_agrees_with_scan(rt: HostRuntime) -> Result<(), Fail> {
-    let alloc = rt.alloc();
     let rows = [
         (PlaneKind::Euc2d, 1000, 1000, true, 5),
         (PlaneKind::Euc2d, 1000, 2, true, 100),
@@ -106,23 +155,33 @@ fn sweep_agrees_with_scan(rt: HostRuntime) -> Result<(), Fail> {
         (PlaneKind::Att, 100, 100, true, 5),
     ];
     for (kind, wide, tall, whole, k) in rows {
-        let corners = sample(alloc, wide, tall)?;
-        assert!(rt; corners.len() == 300);
-        let points = places(alloc, &corners, whole)?;
-        let m = Planes::new(kind, &points);
-        let scanned = near_scan(alloc, &m, k)?;
-        let swept = near_sweep(alloc, &m, k)?;
-        for c in 1..m.size() + 1 {
-            assert_eq!(rt; swept.of(c), scanned.of(c), "city {c} of {wide} by {tall}");
-            near_lists_agree(&m, c, k, swept.of(c), scanned.of(c));
-        }
+        expect_swept(&rt, rt.alloc(), kind, (wide, tall), whole, k)?;
+    }
+    Ok(())
+}
+
+// A tree of 300 places in a box finds the lists of a scan.
+fn expect_found(
+    rt: &impl Abort,
+    alloc: Global,
+    kind: PlaneKind,
+    (wide, tall): (u16, u16),
+    whole: bool,
+    k: u32,
+) -> Result<(), Fail> {
+    let points = sampled(rt, alloc, wide, tall, whole)?;
+    let m = Planes::new(kind, &points);
+    assert!(rt; 1 <= k && k <= 100);
+    let scanned = near_scan(alloc, &m, k)?;
+    let found = near_tree(alloc, &m, k)?;
+    for c in 1..m.size() + 1 {
+        assert_eq!(rt; found.of(c), scanned.of(c), "city {c} of {wide} by {tall}");
     }
     Ok(())
 }
 
 #[test]
 fn tree_agrees_with_scan(rt: HostRuntime) -> Result<(), Fail> {
-    let alloc = rt.alloc();
     let rows = [
         (PlaneKind::Euc2d, 1000, 1000, true, 5),
         (PlaneKind::Euc2d, 1000, 2, true, 100),
@@ -135,15 +194,7 @@ fn tree_agrees_with_scan(rt: HostRuntime) -> Result<(), Fail> {
         (PlaneKind::Att, 100, 100, true, 5),
     ];
     for (kind, wide, tall, whole, k) in rows {
-        let corners = sample(alloc, wide, tall)?;
-        assert!(rt; corners.len() == 300);
-        let points = places(alloc, &corners, whole)?;
-        let m = Planes::new(kind, &points);
-        let scanned = near_scan(alloc, &m, k)?;
-        let found = near_tree(alloc, &m, k)?;
-        for c in 1..m.size() + 1 {
-            assert_eq!(rt; found.of(c), scanned.of(c), "city {c} of {wide} by {tall}");
-        }
+        expect_found(&rt, rt.alloc(), kind, (wide, tall), whole, k)?;
     }
     Ok(())
 }

@@ -1,7 +1,8 @@
 //! Problem texts whose lines and headers are refused.
 
-use crate::read_both_ways::refuse;
+use crate::harness::read_both_ways::refuse;
 use std::alloc::{AllocError, Global};
+use std::process::Abort;
 use std::test::Fail;
 use tk_text::{Keyword, TextKind};
 
@@ -197,21 +198,33 @@ fn line_of(alloc: Global, word: &[u8], count: usize) -> Result<Vec<u8>, AllocErr
     Ok(text)
 }
 
+/// A line of a word and a value of so many bytes has the fault.
+fn refuse_line(
+    rt: &impl Abort,
+    alloc: Global,
+    word: &[u8],
+    count: usize,
+    line: u64,
+    kind: TextKind,
+) -> Result<(), AllocError> {
+    let text = line_of(alloc, word, count)?;
+    refuse(rt, alloc, &[(&text, line, kind)]);
+    Ok(())
+}
+
 #[test]
 fn long_headers(rt: HostRuntime) -> Result<(), Fail> {
-    let a = rt.alloc();
     let missing = TextKind::Missing(Keyword::Type);
-    refuse(
-        &rt,
-        a,
-        &[
-            (&line_of(a, b"NAME : ", 1024)?, 2, missing),
-            (&line_of(a, b"NAME : ", 1025)?, 1, TextKind::TooLong),
-            (&line_of(a, b"COMMENT ", 4095)?, 2, missing),
-            (&line_of(a, b"COMMENT ", 4096)?, 1, TextKind::TooLong),
-            (&line_of(a, b"TYPE ", 4096)?, 1, TextKind::TooLong),
-            (&line_of(a, b"CAPACITY ", 4095)?, 1, TextKind::BadNumber),
-        ],
-    );
+    let rows: [(&[u8], usize, u64, TextKind); 6] = [
+        (b"NAME : ", 1024, 2, missing),
+        (b"NAME : ", 1025, 1, TextKind::TooLong),
+        (b"COMMENT ", 4095, 2, missing),
+        (b"COMMENT ", 4096, 1, TextKind::TooLong),
+        (b"TYPE ", 4096, 1, TextKind::TooLong),
+        (b"CAPACITY ", 4095, 1, TextKind::BadNumber),
+    ];
+    for (word, count, line, kind) in rows {
+        refuse_line(&rt, rt.alloc(), word, count, line, kind)?;
+    }
     Ok(())
 }

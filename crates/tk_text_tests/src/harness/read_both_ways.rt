@@ -1,6 +1,6 @@
 //! Problem texts, read at once, byte by byte and in small pieces.
 
-use crate::drip::Drip;
+use crate::harness::drip::Drip;
 use std::alloc::Global;
 use std::process::Abort;
 use tk_text::{

@@ -1,0 +1,6 @@
+//! Problem texts.
+
+pub mod headers;
+pub mod routing;
+pub mod sections;
+pub mod whole;
