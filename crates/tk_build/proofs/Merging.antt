@@ -1,6 +1,5 @@
 pub mod EndsJoined
 pub mod HubApart
-pub mod Linking
 pub mod ListsHeld
 pub mod PairsFound
 pub mod PairsMerged

@@ -11,7 +11,7 @@ pub use double_bridges::kicking::kick;
 pub use merges::laws::parts_are_connected;
 pub use merges::pairs::Pair;
 pub use merges::savings::{savings_lists, savings_tour};
-pub use nearest_tours::by_x::nearest_sweep;
+pub use nearest_tours::by_tree::nearest_tree;
 pub use nearest_tours::scan::nearest;
 pub use trials::descending::SearchRules;
 pub use trials::searching::Search;

@@ -1,7 +1,6 @@
 //! Tours that go on to the nearest city.
 
-pub mod by_x;
-pub mod links;
+pub mod by_tree;
 pub mod scan;
 #[cfg(test)]
 mod tests;

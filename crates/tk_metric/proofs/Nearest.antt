@@ -1,6 +1,7 @@
 pub mod FirstLeft
 pub mod Inserting
 pub mod Keeping
+pub mod LeftLaws
 pub mod OneEach
 pub mod Parting
 pub mod Placing

@@ -74,3 +74,12 @@ IsNotIn p row = All (λ q. q ≢ p) row
 -- a city that stands in the row, but c
 abbrev pub IsOtherIn : List Placed → ℕ → ℕ → Type 0
 IsOtherIn row c b = (q : ℕ) × (q < length row) × (city_at row q ≡ b) × (b ≢ c)
+
+-- the city stands in the row
+abbrev pub Stands : List Placed → ℕ → Type 0
+Stands row b = (q : ℕ) × (q < length row) × (city_at row q ≡ b)
+
+-- no city stands in the row twice, and each has its place
+pub record AreApart (n : ℕ) (place_of : ℕ → Point) (row : List Placed) : Type 0 where
+  pub each : All (IsPlaced n place_of) row
+  pub apart : (i j : ℕ) → i < j → j < length row → city_at row i ≢ city_at row j

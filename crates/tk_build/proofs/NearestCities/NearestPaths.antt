@@ -1,15 +1,20 @@
--- The nearest-neighbour tour, one city after another, with flags for those that are visited.
+-- The nearest-neighbour tour, one city after another, with a row of those that are left.
 use Rattle.std.proofs.Common.{◌≡◌, ◌≢◌, ℕ, ◌+◌, ◌-◌, ◌<◌, ◌≤◌, ⊎_elim, List, [], ◌∷◌, ◌++◌, Bool, true, false, length, refl, sym, ap, ◌∙◌, arith, subst}
-use Rattle.std.specs.Prelude.{slice_index, slice_index_or}
+use Rattle.std.specs.Prelude.{slice_index, Option, Some, None, MatchOption}
 use Rattle.std.proofs.Math.ListN.{set}
 use Rattle.std.proofs.lemmas.Bool.{cases_lt}
 use Rattle.std.proofs.lemmas.List.{get_or-set_same, get_or-set_other, get_or_append_left, get_or-append_right, length-append}
 use Rattle.tk_metric.specs.Cities.{IsCity}
-use Rattle.tk_metric.specs.Near.{IsNew}
+use Rattle.tk_metric.specs.Near.{IsFirst, IsNew}
+use Rattle.tk_metric.specs.Sweep.{nowhere}
 use Rattle.tk_tour.specs.Tour.{occurrences}
 use Rattle.tk_tour.proofs.Tours.{HoldsOnce-from_distinct, length-distinct, length-whole, occurrences-index}
 use Rattle.tk_build.specs.NearestTour.{IsNearestPath, IsNearestTour}
-use Rattle.tk_build.specs.Unvisited.{IsLeft, IsFirstLeft, AreAllVisited, AreVisited}
+use Rattle.tk_build.specs.Unvisited.{IsFirstLeft, AreAllVisited, AreVisited}
+use Rattle.tk_metric.specs.Tree.{AreApart, IsOtherIn, IsTakenOut, Stands}
+use Rattle.tk_metric.proofs.Nearest.LeftLaws.{Stands-old, Stands-new, gone}
+use Rattle.tk_metric.specs.declared.near_lists.sweep.Placed.{Placed}
+use Rattle.tk_problem.specs.declared.point.Point.{Point}
 use Rattle.tk_build.proofs.NearestCities.NearestTours.{path_city, path_apart}
 
 -- reads of a list with one more entry
@@ -28,33 +33,28 @@ module _ (xs : List ℕ) (b : ℕ) where
   new_of_front : (m c : ℕ) → m ≤ length xs → IsNew (xs ++ b ∷ []) m c → IsNew xs m c
   new_of_front m c l h = λ i li e. h i li (front_of i (omega arith) ∙ e)
 
--- the start alone, and nothing visited
+-- the start alone
 pub IsNearestPath-start : (dist : ℕ → ℕ → ℕ) (n start : ℕ) → IsNearestPath dist n start (start ∷ [])
 IsNearestPath-start dist n start = record { some = omega arith; first = refl; each = λ j l. absurd (omega arith) }
 
 -- one more city is visited
-pub visited_more : (n m here : ℕ) (visited now : List Bool) (cities : List ℕ) → AreVisited n visited m cities → slice_index cities m ≡ here → IsCity n here → length visited ≡ n → now ≡ set visited (here - 1) true → AreVisited n now (m + 1) cities
-visited_more n m here visited now cities h is city size e c cc' =
-    let same : slice_index_or (set visited (here - 1) true) (here - 1) true ≡ true = get_or-set_same visited (here - 1) true true (omega (arith, city.0, city.1)) in (
-      λ left i li at.
-          let left' : IsLeft (set visited (here - 1) true) c = subst (λ w. IsLeft w c) e left in
-          let ne : c - 1 ≢ here - 1 = λ d.
-          let f : slice_index_or (set visited (here - 1) true) (here - 1) true ≡ false = subst (λ v. slice_index_or (set visited (here - 1) true) v true ≡ false) d left' in
-          let clash : true ≡ false = sym same ∙ f in cc in
-          let was : IsLeft visited c = sym (get_or-set_other visited (here - 1) (c - 1) true true ne) ∙ left' in
-          ⊎_elim
-          (λ before. (h c cc').0 was i before at)
-          (λ last. let k : i ≡ m = omega arith in let d : c ≡ here = sym at ∙ ap (slice_index cities) k ∙ is in ne (ap (λ v. v - 1) d))
-          (cases_lt i m),
-      λ new.
-          let ne : c - 1 ≢ here - 1 = λ d. new m (omega arith) (is ∙ omega (arith, d, cc'.0, city.0)) in
-          let was : IsLeft visited c = (h c cc').1 (λ i li. new i (omega arith)) in
-          subst (λ w. IsLeft w c) (sym e) (get_or-set_other visited (here - 1) (c - 1) true true ne ∙ was),
-    )
+pub visited_more : (n m : ℕ) (place_of : ℕ → Point) (p : Placed) (left now : List Placed) (cities : List ℕ) → AreVisited n left m cities → slice_index cities m ≡ p.city → AreApart n place_of left → IsTakenOut p left now → AreVisited n now (m + 1) cities
+visited_more n m place_of p left now cities h is apart taken c cc = (
+  λ stands i li at.
+      let was = Stands-old n place_of p left now apart taken c stands in
+      ⊎_elim
+      (λ before. (h c cc).0 was i before at)
+      (λ last.
+      let k : i ≡ m = omega arith in
+      let e : c ≡ p.city = sym at ∙ ap (slice_index cities) k ∙ is in
+      gone n place_of p left now apart taken (subst (Stands now) e stands))
+      (cases_lt i m),
+  λ new. Stands-new n place_of p left now apart taken c (λ e. new m (omega arith) (is ∙ sym e)) ((h c cc).1 (λ i li. new i (omega arith))),
+)
 
 -- and the first of those that are left is the next of the tour
-pub IsNearestPath-more : (dist : ℕ → ℕ → ℕ) (n start here b : ℕ) (visited : List Bool) (cities : List ℕ) → IsNearestPath dist n start cities → AreVisited n visited (length cities) cities → slice_index cities (length cities - 1) ≡ here → IsFirstLeft dist n visited here b → IsNearestPath dist n start (cities ++ b ∷ [])
-IsNearestPath-more dist n start here b visited cities h v is first = record {
+pub IsNearestPath-more : (dist : ℕ → ℕ → ℕ) (n start here b : ℕ) (left : List Placed) (cities : List ℕ) → IsNearestPath dist n start cities → AreVisited n left (length cities) cities → slice_index cities (length cities - 1) ≡ here → IsFirstLeft dist n left here b → IsNearestPath dist n start (cities ++ b ∷ [])
+IsNearestPath-more dist n start here b left cities h v is first = record {
   some = omega (arith, length-append cities (b ∷ []), h.some);
   first = front_of cities b 0 h.some ∙ h.first;
   each = λ j l. ⊎_elim
@@ -77,26 +77,26 @@ IsNearestPath-more dist n start here b visited cities h v is first = record {
 }
 
 -- a list of cities that are visited but for the last
-pub record IsUnderWay (dist : ℕ → ℕ → ℕ) (n start here : ℕ) (visited : List Bool) (cities : List ℕ) : Type 0 where
+pub record IsUnderWay (dist : ℕ → ℕ → ℕ) (n start here : ℕ) (left : List Placed) (cities : List ℕ) : Type 0 where
   pub path : IsNearestPath dist n start cities
-  pub marked : AreVisited n visited (length cities - 1) cities
+  pub marked : AreVisited n left (length cities - 1) cities
   pub last : slice_index cities (length cities - 1) ≡ here
 
-module _ (dist : ℕ → ℕ → ℕ) (n start here : ℕ) (visited : List Bool) (cities : List ℕ) (city : IsCity n start) (h : IsUnderWay dist n start here visited cities) where
+module _ (dist : ℕ → ℕ → ℕ) (n start here : ℕ) (left : List Placed) (cities : List ℕ) (city : IsCity n start) (h : IsUnderWay dist n start here left cities) where
   pub here_city : IsCity n here
   here_city = subst (IsCity n) h.last (path_city dist n start cities city h.path (length cities - 1) (omega (arith, h.path.some)))
 
-  pub here_left : IsLeft visited here
+  pub here_left : Stands left here
   here_left = (h.marked here here_city).1 (λ i li e. path_apart dist n start cities h.path i (length cities - 1) li (omega (arith, h.path.some)) (e ∙ sym h.last))
 
-  all_visited : (now : List Bool) → length visited ≡ n → now ≡ set visited (here - 1) true → AreVisited n now (length cities) cities
-  all_visited now size e =
+  all_visited : (place_of : ℕ → Point) (p : Placed) (now : List Placed) → p.city ≡ here → AreApart n place_of left → IsTakenOut p left now → AreVisited n now (length cities) cities
+  all_visited place_of p now is apart taken =
       let k : length cities - 1 + 1 ≡ length cities = omega (arith, h.path.some) in
-      subst (λ m. AreVisited n now m cities) k (visited_more n (length cities - 1) here visited now cities h.marked h.last here_city size e)
+      subst (λ m. AreVisited n now m cities) k (visited_more n (length cities - 1) place_of p left now cities h.marked (h.last ∙ sym is) apart taken)
 
-  pub IsUnderWay-more : (now : List Bool) (b : ℕ) → length visited ≡ n → now ≡ set visited (here - 1) true → IsFirstLeft dist n now here b → IsUnderWay dist n start b now (cities ++ b ∷ [])
-  IsUnderWay-more now b size e first =
-      let v = all_visited now size e in
+  pub IsUnderWay-more : (place_of : ℕ → Point) (p : Placed) (now : List Placed) (b : ℕ) → p.city ≡ here → AreApart n place_of left → IsTakenOut p left now → IsFirstLeft dist n now here b → IsUnderWay dist n start b now (cities ++ b ∷ [])
+  IsUnderWay-more place_of p now b is apart taken first =
+      let v = all_visited place_of p now is apart taken in
       let k : length (cities ++ b ∷ []) - 1 ≡ length cities = omega (arith, length-append cities (b ∷ [])) in
       record {
         path = IsNearestPath-more dist n start here b now cities h.path v h.last first;
@@ -111,9 +111,9 @@ module _ (dist : ℕ → ℕ → ℕ) (n start here : ℕ) (visited : List Bool)
   length_limit = length-distinct n cities in_range (HoldsOnce-from_distinct cities (λ i j lt lj. path_apart dist n start cities h.path i j lt lj))
 
   -- once no city is left, the list is whole
-  pub IsNearestTour-whole : (now : List Bool) → length visited ≡ n → now ≡ set visited (here - 1) true → AreAllVisited n now → IsNearestTour dist n start cities
-  IsNearestTour-whole now size e all =
-      let v = all_visited now size e in
+  pub IsNearestTour-whole : (place_of : ℕ → Point) (p : Placed) (now : List Placed) → p.city ≡ here → AreApart n place_of left → IsTakenOut p left now → AreAllVisited n now → IsNearestTour dist n start cities
+  IsNearestTour-whole place_of p now is apart taken all =
+      let v = all_visited place_of p now is apart taken in
       let held : (c : ℕ) → 0 < c → c ≤ n → 1 ≤ occurrences c cities = λ c low high. ⊎_elim
       (λ some. omega arith)
       (λ none.
@@ -126,9 +126,20 @@ module _ (dist : ℕ → ℕ → ℕ) (n start here : ℕ) (visited : List Bool)
       let count : length cities ≡ n = omega (arith, least, length_limit) in
       record { count = count; first = h.path.first; each = λ j l. h.path.each j (omega arith) }
 
-pub IsUnderWay-start : (dist : ℕ → ℕ → ℕ) (n start : ℕ) (visited : List Bool) → ((c : ℕ) → IsCity n c → IsLeft visited c) → IsUnderWay dist n start start visited (start ∷ [])
-IsUnderWay-start dist n start visited none = record {
+pub IsUnderWay-start : (dist : ℕ → ℕ → ℕ) (n start : ℕ) (left : List Placed) → ((c : ℕ) → IsCity n c → Stands left c) → IsUnderWay dist n start start left (start ∷ [])
+IsUnderWay-start dist n start left none = record {
   path = IsNearestPath-start dist n start;
   marked = λ c city. (λ left i li e. absurd (omega arith), λ new. none c city);
   last = refl;
+}
+
+-- where c does not stand in a row, the first of its other cities is the first of all
+pub first_of_left : (dist : ℕ → ℕ → ℕ) (n : ℕ) (place_of : ℕ → Point) (c : ℕ) (row : List Placed) → AreApart n place_of row → (Stands row c → ⊥) → (o : Option ℕ)
+    → MatchOption o ((b : ℕ) → IsOtherIn row c b → ⊥) (λ b. IsFirst dist c (IsOtherIn row c) b) → MatchOption o (AreAllVisited n row) (λ b. IsFirstLeft dist n row c b)
+first_of_left dist n place_of c row apart gone None h = λ b city s. h b (s.0, s.1, s.2, λ e. gone (subst (Stands row) e s))
+first_of_left dist n place_of c row apart gone (Some b) h = record {
+  member =
+      let s = h.member in
+      (subst (IsCity n) s.2 (apart.each s.0 nowhere s.1).0, (s.0, s.1, s.2));
+  before = λ a p ne. h.before a (p.1.0, p.1.1, p.1.2, λ e. gone (subst (Stands row) e p.1)) ne;
 }

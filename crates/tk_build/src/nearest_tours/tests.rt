@@ -2,10 +2,10 @@
 ghost use Rattle.std.specs.Prelude.{◌≡◌, ◌≤◌, IfOk, length};
 ghost use Rattle.tk_problem.specs.Places.{IsNearOrigin};
 
-use crate::{nearest, nearest_sweep};
+use crate::{nearest, nearest_tree};
 use std::alloc::{AllocError, Global};
 use std::test::Fail;
-use tk_metric::{Metric, Planes, Triangle, Turned, near_scan};
+use tk_metric::{Metric, Planes, Triangle};
 use tk_problem::{PlaneKind, Point, Points};
 
 fn place(x: u16, y: u16) -> Point
@@ -59,11 +59,8 @@ fn known_tours(rt: HostRuntime) -> Result<(), Fail> {
         assert!(rt; 1 <= start && start <= metric.size());
         let tour = nearest(alloc, &metric, start)?;
         assert_eq!(rt; tour.as_slice(), want, "from {start}");
-        let near = near_scan(alloc, &metric, 1)?;
-        let swept = nearest_sweep(alloc, &metric, &near, start)?;
-        assert_eq!(rt; swept.as_slice(), want, "swept from {start}");
-        let turned = nearest_sweep(alloc, &Turned(&metric), &near, start)?;
-        assert_eq!(rt; turned.as_slice(), want, "turned from {start}");
+        let found = nearest_tree(alloc, &metric, start)?;
+        assert_eq!(rt; found.as_slice(), want, "by a tree from {start}");
     }
     Ok(())
 }
@@ -87,29 +84,28 @@ fn sample(alloc: Global, wide: u16, tall: u16) -> Result<Vec<(u16, u16)>, AllocE
 }
 
 #[test]
-fn sweep_agrees_with_scan(rt: HostRuntime) -> Result<(), Fail> {
+fn tree_agrees_with_scan(rt: HostRuntime) -> Result<(), Fail> {
     let alloc = rt.alloc();
     let rows = [
-        (PlaneKind::Euc2d, 1000, 1000, 5, 1),
-        (PlaneKind::Euc2d, 1000, 2, 1, 300),
-        (PlaneKind::Euc2d, 2, 1000, 7, 17),
-        (PlaneKind::Euc2d, 1, 1, 10, 150),
-        (PlaneKind::Ceil2d, 30, 30, 5, 2),
-        (PlaneKind::Man2d, 40, 20, 3, 299),
-        (PlaneKind::Max2d, 20, 40, 5, 5),
-        (PlaneKind::Att, 100, 100, 2, 9),
+        (PlaneKind::Euc2d, 1000, 1000, 1),
+        (PlaneKind::Euc2d, 1000, 2, 300),
+        (PlaneKind::Euc2d, 2, 1000, 17),
+        (PlaneKind::Euc2d, 1, 1, 150),
+        (PlaneKind::Ceil2d, 30, 30, 2),
+        (PlaneKind::Man2d, 40, 20, 299),
+        (PlaneKind::Max2d, 20, 40, 5),
+        (PlaneKind::Att, 100, 100, 9),
     ];
-    for (kind, wide, tall, k, start) in rows {
+    for (kind, wide, tall, start) in rows {
         let corners = sample(alloc, wide, tall)?;
         assert!(rt; corners.len() == 300);
         let points = places(alloc, &corners)?;
         let metric = Planes::new(kind, &points);
         assert!(rt; 1 <= start && start <= metric.size());
-        let near = near_scan(alloc, &metric, k)?;
         let scanned = nearest(alloc, &metric, start)?;
-        let swept = nearest_sweep(alloc, &metric, &near, start)?;
+        let found = nearest_tree(alloc, &metric, start)?;
         assert_eq!(rt;
-            swept.as_slice(),
+            found.as_slice(),
             scanned.as_slice(),
             "{wide} by {tall} from {start}"
         );
