@@ -10,9 +10,6 @@ use Rattle.tk_problem.specs.declared.weights.Format.TheVariants.{FullMatrix, Upp
 use Rattle.tk_problem.specs.WeightOrder.{order, place}
 use Rattle.tk_problem.specs.WeightLines.{first_item, end_item, place_on, items, lines, places_from}
 
-pub items_none : (f : Format) (line from end : ℕ) → end ≤ from → items f line from end ≡ []
-items_none f line from end over = let none : end - from ≡ 0 = omega arith in rw none refl
-
 pub items_more : (f : Format) (line from end : ℕ) → from < end → items f line from end ≡ place_on f line from ∷ items f line (from + 1) end
 items_more f line from end less = let some : end - from ≡ suc (end - (from + 1)) = omega arith in rw some refl
 

@@ -54,6 +54,3 @@ mapped_on f zs ys k z d lt is new =
     let front : map f (take (k + 1) ys) ≡ map f (take k ys) ++ f (get_or ys k d) ∷ [] = ap (map f) (take_more ys k d lt) ∙ map-append f (take k ys) (get_or ys k d ∷ []) in
     ap (λ v. set v k z) cut ∙ set_at (map f (take k ys)) (get_or ys k d) (drop (k + 1) ys) z k size ∙ ap (λ v. map f (take k ys) ++ v ∷ drop (k + 1) ys) (new ∙ ap f old)
     ∙ sym (append_assoc (map f (take k ys)) (f (get_or ys k d) ∷ []) (drop (k + 1) ys)) ∙ ap (λ v. v ++ drop (k + 1) ys) (sym front)
-
-pub mapped_all : {Y : Type 0} (f : Y → Y) (zs ys : List Y) (k : ℕ) → length ys ≤ k → zs ≡ map f (take k ys) ++ drop k ys → zs ≡ map f ys
-mapped_all f zs ys k le is = is ∙ ap (λ v. map f v ++ drop k ys) (take_all k ys le) ∙ ap (λ v. map f ys ++ v) (drop_all k ys le) ∙ append-nil (map f ys)

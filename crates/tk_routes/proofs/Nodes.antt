@@ -13,17 +13,11 @@ use Rattle.tk_tour.proofs.Once.{occurrences-append}
 use Rattle.tk_tour.proofs.Tours.{occurrences-nil, occurrences-same, occurrences-other}
 use Rattle.tk_routes.specs.Instance.{Instance, node_of, customer_of, demand_of}
 
-pub node_of-rising : (depot k l : ℕ) → k < l → node_of depot k < node_of depot l
-node_of-rising depot k l lt = grind (arith, nat_tests)
-
 pub node_of-city : (n depot k : ℕ) → IsCity (n - 1) k → IsCity n (node_of depot k)
 node_of-city n depot k h = grind (arith, nat_tests, h.0, h.1)
 
 pub node_of-other : (depot k : ℕ) → node_of depot k ≢ depot
 node_of-other depot k e = grind (arith, nat_tests, e)
-
-pub customer_of-city : (n depot c : ℕ) → IsCity n depot → IsCity n c → c ≢ depot → IsCity (n - 1) (customer_of depot c)
-customer_of-city n depot c d h ne = grind (arith, nat_tests, d.0, d.1, h.0, h.1, ne)
 
 pub node_of-customer_of : (depot c : ℕ) → c ≢ depot → node_of depot (customer_of depot c) ≡ c
 node_of-customer_of depot c ne = grind (arith, nat_tests, ne)

@@ -24,9 +24,6 @@ use Rattle.tk_sections.proofs.FixedSections.{fixed_taken-last, fixed_taken-more}
 use Rattle.tk_problem.proofs.PairWeights.{origin}
 use Rattle.tk_problem.proofs.WeightsSoFar.{IsNext, next_place}
 
-pub bad_weight : (n : ℕ) (f : Format) (toks : List Token) (t : Token) → integer t.bytes ≡ None → first_at t.line (weight_tests n f toks t) ≡ Some (Fault t.line kinds.BadNumber)
-bad_weight n f toks t bad = rw bad refl
-
 -- where this is the next place
 module _ (n : ℕ) (f : Format) (toks : List Token) (t : Token) (p : Place) (here : place_behind n f toks ≡ p) where
   pub weight_on_diagonal : (z : ℤ) → integer t.bytes ≡ Some z → p.row ≡ p.column → first_at t.line (weight_tests n f toks t) ≡ None
@@ -36,11 +33,6 @@ module _ (n : ℕ) (f : Format) (toks : List Token) (t : Token) (p : Place) (her
       rw (here, is, equal, behind, and-false (is_full f)) refl
 
   module _ (apart : p.row ≢ p.column) where
-    pub weight_out : (z : ℤ) → integer t.bytes ≡ Some z → in_range 0 4000000000 (Some z) ≡ false → first_at t.line (weight_tests n f toks t) ≡ Some (Fault t.line kinds.OutOfLimit)
-    weight_out z is out =
-        let unequal : eqb p.row p.column ≡ false = ne_eqb p.row p.column apart in
-        rw (here, is, unequal, out) refl
-
     module _ (w : ℕ) (is : integer t.bytes ≡ Some (pos w)) (small : w ≤ 4000000000) where
       pub weight_once : (is_full f && ltb p.column p.row) ≡ false → first_at t.line (weight_tests n f toks t) ≡ None
       weight_once once =
@@ -77,9 +69,6 @@ module _ (n : ℕ) (f : Format) (s : ExplicitWeights) (toks : List Token) (has :
 
   places_left : length s.lower.places ≡ weight_count n f - length toks
   places_left = ap length has.so_far.places ∙ length-drop (length (weights_in toks)) (order f n) ∙ ap (λ k. weight_count n f - k) (length-map toks number_in)
-
-  pub not_done : length toks < weight_count n f → eqb (length s.lower.places) 0 ≡ false
-  not_done fewer = ne_eqb _ 0 (λ e. omega (arith, places_left, e, fewer))
 
   pub is_last : (before : List Token) (t : Token) → toks ≡ before ++ t ∷ [] → length before < weight_count n f → eqb (length s.lower.places) 0 ≡ true → takens.Last ≡ fixed_taken (weight_count n f) before
   is_last before t are fewer done = fixed_taken-last (weight_count n f) before (omega (arith, fewer, places_left, ap length are, length_push before t, eqb-true _ 0 done))

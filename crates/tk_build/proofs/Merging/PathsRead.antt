@@ -80,17 +80,6 @@ pub record AreRead (n hub : ℕ) (E : List Pair) (one two other : ℕ → ℕ) (
   pub begun : (k : ℕ) → k < length lists → IsBegun n E one two other c (get_or lists k [])
   pub once : (b k l : ℕ) → k < length lists → l < length lists → holds (get_or lists k []) b ≡ true → holds (get_or lists l []) b ≡ true → k ≡ l
 
-pub AreRead-init : (n hub : ℕ) (E : List Pair) (one two other : ℕ → ℕ) → AreRead n hub E one two other 1 []
-AreRead-init n hub E one two other = record {
-  paths = λ k d h. absurd (omega (arith, h));
-  sound = λ k b h m. absurd (omega (arith, h));
-  found = λ e b r l h ne le k. absurd (omega (arith, r.0, l));
-  order = λ k h. absurd (omega (arith, h));
-  below = λ k h. absurd (omega (arith, h));
-  begun = λ k h. absurd (omega (arith, h));
-  once = λ b k l h. absurd (omega (arith, h));
-}
-
 -- c is not the smaller end of a path, or it is the hub
 pub AreRead-skip : (n hub : ℕ) (E : List Pair) (one two other : ℕ → ℕ) (c : ℕ) (lists : List (List ℕ)) → (IsEnd one two c → c ≢ hub → c ≤ other c → ⊥) → AreRead n hub E one two other c lists → AreRead n hub E one two other (c + 1) lists
 AreRead-skip n hub E one two other c lists never s = record {

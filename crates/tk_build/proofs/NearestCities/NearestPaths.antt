@@ -1,9 +1,8 @@
 -- The nearest-neighbour tour, one city after another, with a row of those that are left.
-use Rattle.std.proofs.Common.{◌≡◌, ◌≢◌, ℕ, ◌+◌, ◌-◌, ◌<◌, ◌≤◌, ⊎_elim, List, [], ◌∷◌, ◌++◌, Bool, true, false, length, refl, sym, ap, ◌∙◌, arith, subst}
+use Rattle.std.proofs.Common.{◌≡◌, ℕ, ◌+◌, ◌-◌, ◌<◌, ◌≤◌, ⊎_elim, List, [], ◌∷◌, ◌++◌, length, refl, sym, ap, ◌∙◌, arith, subst}
 use Rattle.std.specs.Prelude.{slice_index, Option, Some, None, MatchOption}
-use Rattle.std.proofs.Math.ListN.{set}
 use Rattle.std.proofs.lemmas.Bool.{cases_lt}
-use Rattle.std.proofs.lemmas.List.{get_or-set_same, get_or-set_other, get_or_append_left, get_or-append_right, length-append}
+use Rattle.std.proofs.lemmas.List.{get_or_append_left, get_or-append_right, length-append}
 use Rattle.tk_metric.specs.Cities.{IsCity}
 use Rattle.tk_metric.specs.Near.{IsFirst, IsNew}
 use Rattle.tk_metric.specs.Sweep.{nowhere}
@@ -32,10 +31,6 @@ module _ (xs : List ℕ) (b : ℕ) where
 
   new_of_front : (m c : ℕ) → m ≤ length xs → IsNew (xs ++ b ∷ []) m c → IsNew xs m c
   new_of_front m c l h = λ i li e. h i li (front_of i (omega arith) ∙ e)
-
--- the start alone
-pub IsNearestPath-start : (dist : ℕ → ℕ → ℕ) (n start : ℕ) → IsNearestPath dist n start (start ∷ [])
-IsNearestPath-start dist n start = record { some = omega arith; first = refl; each = λ j l. absurd (omega arith) }
 
 -- one more city is visited
 pub visited_more : (n m : ℕ) (place_of : ℕ → Point) (p : Placed) (left now : List Placed) (cities : List ℕ) → AreVisited n left m cities → slice_index cities m ≡ p.city → AreApart n place_of left → IsTakenOut p left now → AreVisited n now (m + 1) cities
@@ -125,13 +120,6 @@ module _ (dist : ℕ → ℕ → ℕ) (n start here : ℕ) (left : List Placed) 
       let least = length-whole n cities in_range held in
       let count : length cities ≡ n = omega (arith, least, length_limit) in
       record { count = count; first = h.path.first; each = λ j l. h.path.each j (omega arith) }
-
-pub IsUnderWay-start : (dist : ℕ → ℕ → ℕ) (n start : ℕ) (left : List Placed) → ((c : ℕ) → IsCity n c → Stands left c) → IsUnderWay dist n start start left (start ∷ [])
-IsUnderWay-start dist n start left none = record {
-  path = IsNearestPath-start dist n start;
-  marked = λ c city. (λ left i li e. absurd (omega arith), λ new. none c city);
-  last = refl;
-}
 
 -- where c does not stand in a row, the first of its other cities is the first of all
 pub first_of_left : (dist : ℕ → ℕ → ℕ) (n : ℕ) (place_of : ℕ → Point) (c : ℕ) (row : List Placed) → AreApart n place_of row → (Stands row c → ⊥) → (o : Option ℕ)

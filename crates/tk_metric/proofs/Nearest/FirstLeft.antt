@@ -1,12 +1,12 @@
 -- The first of the cities of a row, by one place that keeps it.
-use Rattle.std.proofs.Common.{◌≡◌, ◌≢◌, ℕ, zero, suc, ◌+◌, ◌*◌, ◌-◌, ◌<◌, ◌≤◌, ◌⊎◌, ⊎_elim, inl, inr, List, [], ◌∷◌, length, take, refl, sym, ap, ◌∙◌, arith, cond, true, false, get_or}
-use Rattle.std.specs.Prelude.{nat_lt, ◌==◌}
+use Rattle.std.proofs.Common.{◌≡◌, ◌≢◌, ℕ, zero, suc, ◌+◌, ◌*◌, ◌<◌, ◌≤◌, ◌⊎◌, ⊎_elim, inl, inr, List, [], ◌∷◌, length, take, refl, sym, ap, ◌∙◌, arith, cond, true, false}
+use Rattle.std.specs.Prelude.{nat_lt}
 use Rattle.std.proofs.lemmas.Bool.Decides.{nat_tests}
 use Rattle.std.proofs.lemmas.Bool.{cases_eq}
 use Rattle.tk_metric.specs.declared.near_lists.keep.Candidate.{Candidate}
 use Rattle.tk_metric.specs.declared.near_lists.sweep.Placed.{Placed}
 use Rattle.tk_metric.specs.Near.{IsFirst}
-use Rattle.tk_metric.specs.Keeping.{rank, candidate, open_place, with_candidate, insert_by}
+use Rattle.tk_metric.specs.Keeping.{rank, candidate, open_place, with_candidate}
 use Rattle.tk_metric.proofs.Nearest.Keeping.{closer_from_rank}
 use Rattle.tk_metric.specs.Sweep.{city_at}
 use Rattle.tk_metric.specs.Tree.{IsOtherIn, with_city, with_cities}

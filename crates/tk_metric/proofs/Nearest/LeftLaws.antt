@@ -1,23 +1,17 @@
 -- Cities that are left, once one of them was taken out.
-use Rattle.std.proofs.Common.{◌≡◌, ◌≢◌, ℕ, zero, suc, ◌+◌, ◌-◌, ◌<◌, ◌≤◌, ◌⊎◌, ⊎_elim, inl, inr, List, [], ◌∷◌, length, refl, sym, ap, ◌∙◌, arith, get_or, subst}
+use Rattle.std.proofs.Common.{◌≡◌, ◌≢◌, ℕ, zero, suc, ◌<◌, ⊎_elim, List, ◌∷◌, length, refl, sym, ap, ◌∙◌, arith, get_or}
 use Rattle.std.specs.Prelude.{All, MatchBool, Bool, true, false}
-use Rattle.std.specs.List.Sorted.{IsPermutation}
-use Rattle.std.proofs.lemmas.Bool.{cases_lt, cases_eq}
+use Rattle.std.proofs.lemmas.Bool.{cases_lt}
 use Rattle.std.proofs.lemmas.List.{get_or_default}
 use Rattle.std.proofs.lemmas.List.Elements.{All-tail}
 use Rattle.std.proofs.lemmas.List.Sorted.{All-permutation, Contains-permutation, IsPermutation-keeps, IsPermutation-sym}
 use Rattle.tk_problem.specs.declared.point.Point.{Point}
 use Rattle.tk_metric.specs.declared.near_lists.sweep.Placed.{Placed}
-use Rattle.tk_metric.specs.Cities.{IsCity}
-use Rattle.tk_metric.specs.Near.{IsFirst}
 use Rattle.tk_metric.specs.Sweep.{IsPlaced, city_at, nowhere}
-use Rattle.tk_metric.specs.Tree.{AreApart, IsNotIn, IsOtherIn, IsRow, IsTakenOut, Stands}
+use Rattle.tk_metric.specs.Tree.{AreApart, IsNotIn, IsTakenOut, Stands}
 use Rattle.tk_metric.proofs.Nearest.OneEach.{OneEach, OneEach-swap}
 
 module _ (n : ℕ) (place_of : ℕ → Point) where
-  pub AreApart-row : (row : List Placed) → IsRow n place_of row → AreApart n place_of row
-  AreApart-row row h = record { each = h.each; apart = h.apart }
-
   module _ (p : Placed) (old new : List Placed) (h : AreApart n place_of old) (t : IsTakenOut p old new) where
     all : All (IsPlaced n place_of) (t.taken ∷ new)
     all = All-permutation (IsPlaced n place_of) old (t.taken ∷ new) t.others h.each

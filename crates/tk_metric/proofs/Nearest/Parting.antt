@@ -260,9 +260,6 @@ module _ (dist : ℕ → ℕ → ℕ) (limit : (a b : ℕ) → dist a b ≤ 4000
       let w = o.whole c city in
       subst (λ v. IsNear dist n k v (cities_of (with_cities dist v row (replicate k open_place)))) w.2 (near_at w.0 k w.1 kn)
 
-  pub all_small : All IsSmall row
-  all_small = λ k d l. let e = o.each k d l in omega (arith, e.0.1)
-
 -- ---- the greater of two gaps, cut off
 pub one_of_max : (gap x y a b : ℕ) → gap ≤ max x y → x ≤ a → y ≤ b → (gap ≤ a) ⊎ (gap ≤ b)
 one_of_max gap x y a b h l m = ⊎_elim (λ lt. inr (omega arith)) (λ le. inl (omega arith)) (cases_lt x y)

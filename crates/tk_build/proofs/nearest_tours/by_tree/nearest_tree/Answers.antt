@@ -1,4 +1,4 @@
-use Rattle.std.proofs.Common.{arith, length, ◌∙◌, ◌≡◌, ◌≤◌, ◌+◌, ◌∷◌, ◌++◌, [], refl}
+use Rattle.std.proofs.Common.{arith, length, ◌≡◌, ◌≤◌, ◌+◌, ◌∷◌, ◌++◌, [], refl}
 use Rattle.std.proofs.lemmas.List.{length-append}
 use Rattle.tk_build.proofs.NearestCities.NearestPaths.{here_left, IsUnderWay-more, IsNearestTour-whole, length_limit}
 use Rattle.tk_build.proofs.NearestCities.NearestTours.{IsTour-nearest}

@@ -1,5 +1,5 @@
-use Rattle.std.proofs.Common.{◌≡◌, ◌++◌, refl, ap, ◌∙◌, sym}
-use Rattle.tk_metric.specs.Tree.{entries_of, IsTakenOut}
+use Rattle.std.proofs.Common.{◌≡◌, refl, ap, ◌∙◌}
+use Rattle.tk_metric.specs.Tree.{entries_of}
 use Rattle.tk_metric.proofs.Nearest.Parting.{taken_before, taken_behind}
 use Rattle.tk_metric.proofs.near_lists.left.+take_from.Goals as goal
 use Rattle.tk_metric.proofs.near_lists.left.+take_from.Goals.{else-may_have-via-then-may_have+else-take_from, else-may_have-via-else-may_have}

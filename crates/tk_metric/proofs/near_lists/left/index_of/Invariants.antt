@@ -1,4 +1,4 @@
-use Rattle.std.proofs.Common.{◌≡◌, ◌≢◌, ℕ, ◌<◌}
+use Rattle.std.proofs.Common.{◌≢◌, ℕ, ◌<◌}
 use Rattle.tk_metric.specs.Sweep.{city_at}
 use Rattle.tk_metric.proofs.near_lists.left.index_of.Given as goal
 

@@ -1,4 +1,3 @@
-use Rattle.std.proofs.Common.{◌≡◌, ◌<◌, ap, arith, length}
 use Rattle.tk_metric.proofs.Nearest.Parting.{taken_out}
 use Rattle.tk_metric.proofs.near_lists.left.take_from_leaf.Goals as goal
 

@@ -1,4 +1,3 @@
-use Rattle.std.proofs.Common.{length}
 use Rattle.tk_metric.proofs.Nearest.Parting.{IsRow-from_order}
 use Rattle.tk_metric.proofs.near_lists.left.Left.all.Goals as goal
 
