@@ -3,4 +3,5 @@
 pub mod headers;
 pub mod routing;
 pub mod sections;
+pub mod sources;
 pub mod whole;

@@ -1,6 +1,6 @@
 //! Problem texts that are accepted, and each beginning of some.
 
-use crate::harness::read_both_ways::{are_places, fault, is_routing, read, read_dripping};
+use crate::harness::read_both_ways::{are_places, fault, is_routing, read};
 use std::alloc::{AllocError, Global};
 use std::process::Abort;
 use std::test::Fail;
@@ -10,7 +10,7 @@ use tk_text::{Keyword, PlaneKind, Point, Problem, TextFault, TextKind, Weights};
 type Run<'a> = (&'a [u8], Option<(u64, TextKind)>);
 
 /// A fault of a table.
-fn listed(answer: &Option<(u64, TextKind)>) -> Option<TextFault> {
+pub fn listed(answer: &Option<(u64, TextKind)>) -> Option<TextFault> {
     match answer {
         Some((line, kind)) => fault(*line, *kind),
         None => None,
@@ -273,33 +273,6 @@ fn beginnings_of_a_load_too_great(rt: HostRuntime) -> Result<(), Fail> {
         ],
     )?;
     Ok(())
-}
-
-/// Reads a text byte by byte, from a source that fails behind its last byte, to this fault or none.
-fn expect_dripping(rt: &impl Abort, alloc: Global, text: &[u8], answer: Option<(u64, TextKind)>) {
-    assert_eq!(rt; read_dripping(alloc, text, true).err(), listed(&answer));
-}
-
-/// Reads a text byte by byte, from a source that fails behind its last byte, to a fault of the source.
-fn expect_failed_source(rt: &impl Abort, alloc: Global, text: &[u8]) {
-    let told = read_dripping(alloc, text, true).err();
-    assert_eq!(rt; told.map(|fault| fault.kind), Some(TextKind::Read));
-}
-
-/// Behind what decides, a source is not read.
-#[test]
-fn failing_sources(rt: HostRuntime) {
-    let a = rt.alloc();
-    let text: &[u8] =
-        b"NAME : p\nTYPE : TSP\nDIMENSION : 3\nEDGE_WEIGHT_TYPE : EUC_2D\nNODE_COORD_SECTION\n1 0 0\n2 3 0\n3 0 4\nEOF\n";
-    assert_eq!(rt; text.len(), 101);
-    for end in 0..101usize {
-        expect_failed_source(&rt, a, &text[..end]);
-    }
-    expect_dripping(&rt, a, text, None);
-    expect_dripping(&rt, a, &text[..100], Some((9, TextKind::Read)));
-    expect_dripping(&rt, a, b"FOO\n", Some((1, TextKind::UnknownKeyword)));
-    expect_dripping(&rt, a, b"FOO", Some((1, TextKind::Read)));
 }
 
 /// Reads a text of two parts.
