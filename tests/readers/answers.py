@@ -1,0 +1,184 @@
+#!/usr/bin/env python3
+"""What tourkit answers, from the readers of texts.py: standard output, standard error and status. Run as a program it takes the
+words of tourkit, so that tests/run can try it on the cases. A solve that is not refused is beyond it."""
+
+from math import isqrt
+import os
+import sys
+
+sys.dont_write_bytecode = True
+
+from texts import Fault, ParamFault, UNIT, places, read_params, read_problem, read_solution, read_tour
+
+
+class Refused(Exception):
+    """The line of standard error, and the status."""
+
+
+def half_up(x):
+    """x units as a whole number: nearest, halves up."""
+    return (2 * x + UNIT) // (2 * UNIT)
+
+
+def distance(problem, a, b):
+    if a == b:
+        return 0
+    if problem.kind == b"EXPLICIT":
+        return problem.weights[a, b]
+    dx, dy = (abs(p - q) for p, q in zip(problem.points[a], problem.points[b]))
+    square = dx * dx + dy * dy
+    if problem.kind == b"EUC_2D":
+        return (isqrt(4 * square) + UNIT) // (2 * UNIT)
+    if problem.kind == b"CEIL_2D":
+        return root_up(square, UNIT * UNIT)
+    if problem.kind == b"MAN_2D":
+        return half_up(dx + dy)
+    if problem.kind == b"MAX_2D":
+        return half_up(max(dx, dy))
+    return root_up(square, 10 * UNIT * UNIT)
+
+
+def root_up(square, unit):
+    """The least d with d * d * unit >= square."""
+    d = isqrt(square // unit)
+    return d if d * d * unit >= square else d + 1
+
+
+def read_file(name, opened, read):
+    """Reads a file that was opened."""
+    if os.path.isdir(name):
+        fault = ParamFault if read is read_params else Fault
+        raise Refused(f"tourkit: {name}:{fault(1, 'Read')}", 3)
+    try:
+        return read(opened.read())
+    except Fault as fault:
+        raise Refused(f"tourkit: {name}:{fault}", 2) from None
+
+
+def open_file(name):
+    try:
+        return os.path.isdir(name) or open(name, "rb")
+    except (OSError, ValueError):
+        raise Refused(f"tourkit: {name}: cannot be opened", 3) from None
+
+
+def tour_fault(n, cities):
+    """The first fault of a list: its name, its place, and the line that check prints."""
+    if len(cities) != n:
+        return "1 WrongCount", f"wrong count: {n} wanted, {len(cities)} read"
+    met = set()
+    for place, city in enumerate(cities, 1):
+        if not 1 <= city <= n:
+            return f"2 OutOfRange {place}", f"out of range at place {place}: {city}"
+        if city in met:
+            return f"3 RepeatedCity {place}", f"repeated city at place {place}: {city}"
+        met.add(city)
+    return None
+
+
+def cycle_length(problem, cities):
+    return sum(distance(problem, a, b) for a, b in zip(cities, cities[1:] + cities[:1]))
+
+
+def check(problem_file, tour_file):
+    opened = open_file(problem_file), open_file(tour_file)
+    problem = read_file(problem_file, opened[0], read_problem)
+    cities = read_file(tour_file, opened[1], read_tour)
+    fault = tour_fault(problem.n, cities)
+    if fault:
+        return fault[1] + "\n", 1
+    return f"tour of {problem.n} cities, length {cycle_length(problem, cities)}\n", 0
+
+
+def near(problem_file, k):
+    problem = read_file(problem_file, open_file(problem_file), read_problem)
+    cities = range(1, problem.n + 1)
+    lines = []
+    for a in cities:
+        others = sorted((distance(problem, a, b), b) for b in cities if b != a)
+        lines.append(f"{a}: {' '.join(str(b) for _, b in others[:k])}\n")
+    return "".join(lines), 0
+
+
+def matrix(problem_file, form):
+    problem = read_file(problem_file, open_file(problem_file), read_problem)
+    if problem.n > 5000:
+        raise Refused(f"tourkit: {problem_file}: too large for a matrix", 2)
+    rows = {}
+    for i, j in places(form, problem.n):
+        rows.setdefault(j if form.endswith("COL") else i, []).append(str(distance(problem, i, j)))
+    head = [b"NAME : " + problem.name, b"TYPE : TSP", b"DIMENSION : %d" % problem.n, b"EDGE_WEIGHT_TYPE : EXPLICIT",
+            b"EDGE_WEIGHT_FORMAT : " + form.encode(), b"EDGE_WEIGHT_SECTION"]
+    return b"".join(line + b"\n" for line in [*head, *(" ".join(row).encode() for row in rows.values()), b"EOF"]), 0
+
+
+def checksol(problem_file, solution_file):
+    opened = open_file(problem_file), open_file(solution_file)
+    problem = read_file(problem_file, opened[0], read_problem)
+    if not problem.cvrp:
+        raise Refused(f"tourkit: {problem_file}: not a CVRP", 2)
+    routes, cost = read_file(solution_file, opened[1], read_solution)
+    line = solution_fault(problem, routes, cost)
+    if line:
+        return line + "\n", 1
+    return f"{sum(map(bool, routes))} routes, cost {cost}\n", 0
+
+
+def solution_fault(problem, routes, cost):
+    """The first fault of claimed routes, or None."""
+    node = [None] + [c for c in range(1, problem.n + 1) if c != problem.depot]
+    met = set()
+    for r, route in enumerate(routes, 1):
+        for customer in route:
+            if not 1 <= customer < problem.n:
+                return f"bad customer in route {r}: {customer}"
+            if customer in met:
+                return f"customer served twice: {customer}"
+            met.add(customer)
+    for r, route in enumerate(routes, 1):
+        load = sum(problem.demand[node[c]] for c in route)
+        if load > problem.capacity:
+            return f"over capacity in route {r}: {load}"
+    for customer in range(1, problem.n):
+        if customer not in met:
+            return f"customer not served: {customer}"
+    counted = sum(cycle_length(problem, [problem.depot] + [node[c] for c in route]) for route in routes)
+    if counted != cost:
+        return f"wrong cost: {cost} read, {counted} counted"
+    return None
+
+
+def solve(par_file):
+    """Refuses what solve refuses. Of a run that is not refused: the lines that name ignored keys, and None for the status."""
+    values, ignored = read_file(par_file, open_file(par_file), read_params)
+    problem_file, initial_file = values[b"PROBLEM_FILE"], values.get(b"INITIAL_TOUR_FILE")
+    opened = open_file(problem_file), initial_file and open_file(initial_file)
+    problem = read_file(problem_file, opened[0], read_problem)
+    for key in [b"SOLUTION_FILE"] if not problem.cvrp else [b"TOUR_FILE", b"INITIAL_TOUR_FILE"]:
+        if key in values:
+            raise Refused(f"tourkit: {problem_file}: {key.decode()} does not fit the problem's type", 2)
+    if initial_file:
+        fault = tour_fault(problem.n, read_file(initial_file, opened[1], read_tour))
+        if fault:
+            raise Refused(f"tourkit: {initial_file}: initial tour: {fault[0]}", 2)
+    return "".join(f"ignored {key.decode()}\n" for key in ignored), None
+
+
+def answer(words):
+    """Standard output, standard error and status."""
+    commands = {"check": check, "near": near, "matrix": matrix, "checksol": checksol, "solve": solve}
+    if words[0] == "near":
+        words = words[:2] + [int(words[3]) if len(words) > 2 else 5]
+    try:
+        out, status = commands[words[0]](*words[1:])
+        return out if isinstance(out, bytes) else out.encode(), b"", status
+    except Refused as refused:
+        line, status = refused.args
+        return b"", line.encode() + b"\n", status
+
+
+if __name__ == "__main__":
+    written, told, code = answer(sys.argv[1:])
+    sys.stdout.buffer.write(written)
+    sys.stderr.buffer.write(told)
+    sys.exit(0 if code is None else code)
