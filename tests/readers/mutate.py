@@ -1,5 +1,6 @@
-"""Makes cases for the comparison of the readers: the words of a command and the files it reads. Each case is a right text of random
-shape with up to a few faults put into it. The same random generator gives the same case."""
+"""Makes cases for the comparison of the readers: the words of a command and the files it reads. Each case is a valid text of random
+shape into which up to three faults are put. The same random generator gives the same case. A file may also be None, where there is no
+such file, or DIRECTORY."""
 
 import answers
 from texts import FORMATS, HEADERS, IGNORED_KEYS, NUMBER_KEYS, PLANES, SECTIONS, Fault, places, read_problem, read_solution
@@ -26,6 +27,9 @@ LINES = [b"NAME : " + b"y" * 1024, b"NAME : " + b"y" * 1025, b"COMMENT : " + b"y
          b"OR_SEGMENT = 4", b"OR_SEGMENT = 2", b"INITIAL_TOUR_FILE = t", b"INITIAL_TOUR_FILE = gone", b"SOLUTION_FILE = o",
          b"TOUR_FILE = o", b"Route #1: 1", b"Route 1 : 1 2", b"Route # 3:", b"Route #x: 1", b"Route: 1", b"Route#-7:1", b"Cost 10",
          b"Cost : 10", b"Cost", b"Cost 10 11", b"Cost -1", b"Cost " + b"0" * 64, b"Cost " + b"0" * 65, b"Route #1: " + b"0" * 65]
+
+
+DIRECTORY = "directory"
 
 
 def cased(random, word):
@@ -217,6 +221,42 @@ def case(random, commands):
     elif command == "solve":
         files["x"] = text(random, params(random, cvrp), faulty == "x")
         files["t"] = text(random, tour(random, n), random.random() < 0.2)
+    if random.random() < 0.03:
+        files[random.choice(list(files))] = random.choice([None, DIRECTORY])
     words = {"near": ["near", "p"] + random.choice([[], ["-k", "1"], ["-k", "3"], ["-k", "100"]]),
              "matrix": ["matrix", "p", random.choice(FORMATS).decode()], "solve": ["solve", "x"]}
     return words.get(command) or [command, "p", other], files
+
+
+def plane(n, kind=b"EUC_2D", cvrp=False):
+    """A problem of n nodes on a grid; for a CVRP, of demands 1 and capacity 7."""
+    nodes = range(1, n + 1)
+    lines = [b"TYPE : CVRP\nCAPACITY : 7" if cvrp else b"TYPE : TSP", b"DIMENSION : %d" % n, b"EDGE_WEIGHT_TYPE : " + kind,
+             b"NODE_COORD_SECTION", *(b"%d %d %d" % (node, node % 71, node // 71) for node in nodes)]
+    if cvrp:
+        lines += [b"DEMAND_SECTION", *(b"%d %d" % (node, node > 1) for node in nodes), b"DEPOT_SECTION 1"]
+    return b"\n".join(lines)
+
+
+def large_cases(commands):
+    """Cases at the limits on sizes, which random cases do not reach."""
+    tour_head = b"TYPE : TOUR\nTOUR_SECTION\n"
+    cases = []
+    for n in [100_000, 100_001]:
+        cities = b"\n".join(b"%d" % city for city in range(n, 0, -1))
+        cases.append((["check", "p", "t"], {"p": plane(n, b"CEIL_2D"), "t": tour_head + cities}))
+        routes = b"Route #1:\n" * (n - 1) + b"Route #2: 1\nCost 2\n"
+        cases.append((["checksol", "p", "s"], {"p": plane(2, cvrp=True), "s": routes}))
+    for count in [1_000_000, 1_000_001]:
+        cases.append((["check", "p", "t"], {"p": plane(2), "t": tour_head + b"1\n" * count + b"-1"}))
+        cases.append((["checksol", "p", "s"], {"p": plane(2, cvrp=True), "s": b"Route #1: " + b"1 " * count + b"\nCost 2"}))
+    for n in [5000, 5001]:
+        cases.append((["check", "p", "t"], {"p": plane(n, b"ATT", cvrp=True), "t": tour_head + b"1 2 3"}))
+    cases.append((["matrix", "p", "UPPER_ROW"], {"p": plane(5001)}))
+    for end in [b"", b"\n", b"#", b"EOF", b"\nRUNS = 0"]:
+        for size in [1_048_576, 1_048_575, 1_048_573, 1_048_568]:
+            lines = b"PROBLEM_FILE = p\nRUNS = 1\n"
+            rest = size - len(lines)
+            comments = (b"#".ljust(4095, b"x") + b"\n") * (rest // 4096) + b"#" * (rest % 4096)
+            cases.append((["solve", "x"], {"x": lines + comments + end, "p": plane(2)}))
+    return [case for case in cases if case[0][0] in commands]

@@ -16,6 +16,7 @@ HEADERS = [b"NAME", b"TYPE", b"COMMENT", b"DIMENSION", b"CAPACITY", b"EDGE_WEIGH
            b"DISPLAY_DATA_TYPE", b"DISTANCE", b"SERVICE_TIME", b"VEHICLES"]
 SECTIONS = [b"NODE_COORD_SECTION", b"EDGE_WEIGHT_SECTION", b"DEMAND_SECTION", b"DEPOT_SECTION", b"DISPLAY_DATA_SECTION",
             b"EDGE_DATA_SECTION", b"FIXED_EDGES_SECTION", b"TOUR_SECTION"]
+KEYWORDS = {*HEADERS, *SECTIONS, b"EOF"}
 PLANES = [b"EUC_2D", b"CEIL_2D", b"MAN_2D", b"MAX_2D", b"ATT"]
 FORMATS = [b"FULL_MATRIX", b"UPPER_ROW", b"LOWER_ROW", b"UPPER_DIAG_ROW", b"LOWER_DIAG_ROW", b"UPPER_COL", b"LOWER_COL",
            b"UPPER_DIAG_COL", b"LOWER_DIAG_COL"]
@@ -81,7 +82,7 @@ class Text:
         return Fault(1 + self.data.count(b"\n", 0, self.at if at is None else at), name, *values)
 
     def skip(self, some):
-        while self.at < len(self.data) and self.data[self.at] in some:
+        while not self.ended() and self.data[self.at] in some:
             self.at += 1
 
     def ended(self):
@@ -93,12 +94,12 @@ class Text:
 
     def word(self):
         """The word that stands here."""
-        return re.match(rb"[A-Za-z0-9_]*", self.data[self.at:self.at + 10_000_000])[0]
+        return re.compile(rb"[A-Za-z0-9_]*").match(self.data, self.at)[0]
 
     def peek(self):
         """Goes to the next token: its bytes, empty at the end of the text."""
         self.skip(BLANKS + b"\n")
-        return re.match(rb"[^ \t\r\n]*", self.data[self.at:])[0]
+        return re.compile(rb"[^ \t\r\n]*").match(self.data, self.at)[0]
 
     def token(self):
         """The next token, and where it begins."""
@@ -116,7 +117,7 @@ class Text:
         """The number at the next token, in its limits."""
         token, begins = token or self.token()
         bare = token[:-1] if token.endswith(b":") else token
-        if token == b"" or bare.upper() in HEADERS + SECTIONS + [b"EOF"]:
+        if token == b"" or bare.upper() in KEYWORDS:
             raise self.fault("Truncated", at=begins)
         value = read(token)
         if value is None:
@@ -293,7 +294,6 @@ class ProblemForm(Form):
         depot, begins = text.number(integer, *ANY)
         if not 1 <= depot <= n:
             raise text.fault("BadDepot", at=begins)
-        begins = text.at
         if text.is_end(text.peek()):
             return depot
         last, begins = text.number(integer, *ANY)
