@@ -6,10 +6,16 @@ use std::ops::{Add, Sub};
 
 /// A whole number that distances are counted in.
 pub trait Number: Copy + PartialOrd + Add<Output = Self> + Sub<Output = Self> {
+    fn of(distance: u32) -> Self;
     fn whole(self) -> i64;
 }
 
 impl Number for i64 {
+    #[inline(always)]
+    fn of(distance: u32) -> i64 {
+        distance as i64
+    }
+
     #[inline(always)]
     fn whole(self) -> i64 {
         self
@@ -17,6 +23,11 @@ impl Number for i64 {
 }
 
 impl Number for f64 {
+    #[inline(always)]
+    fn of(distance: u32) -> f64 {
+        distance as f64
+    }
+
     #[inline(always)]
     fn whole(self) -> i64 {
         self as i64
@@ -30,11 +41,15 @@ pub trait Metric: Sized {
 
     fn dist(&self, a: u32, b: u32) -> Self::Length;
 
-    /// Whether the distance is below a limit.
-    #[inline(always)]
-    fn is_nearer(&self, a: u32, b: u32, limit: Self::Length) -> bool {
-        self.dist(a, b) < limit
-    }
+    /// What `gaining` needs of the last cities of the segments.
+    type Fan;
+
+    fn fan(&self, lasts: [u32; 5]) -> Self::Fan;
+
+    /// Bits of the offers of a look at one candidate whose gain is positive: two of 2-opt, whose steps lead from the second and the third
+    /// last city, then for each segment those with the first and the second city beside the candidate. A gain is what is freed (`ends`
+    /// for 2-opt) with the step to that city (`to`), less the step from the last city there.
+    fn gaining(&self, lasts: &Self::Fan, ends: [Self::Length; 2], freed: [Self::Length; 5], to: [Self::Length; 2], beside: [u32; 2]) -> u32;
 
     /// The distances among these cities alone.
     fn among(&self, cities: &[u32]) -> Self;
@@ -51,13 +66,34 @@ pub trait Metric: Sized {
     }
 }
 
+/// `gaining` by the distances themselves.
+#[inline(always)]
+fn gaining_one_by_one<M: Metric>(
+    metric: &M,
+    lasts: &[u32; 5],
+    ends: [M::Length; 2],
+    freed: [M::Length; 5],
+    to: [M::Length; 2],
+    beside: [u32; 2],
+) -> u32 {
+    let mut bits = 0;
+    for j in 0..2 {
+        bits |= ((metric.dist(lasts[1 + j], beside[j]) < ends[j] + to[j]) as u32) << j;
+        for k in 0..5 {
+            bits |= ((metric.dist(lasts[k], beside[j]) < freed[k] + to[j]) as u32) << (2 * k + j + 2);
+        }
+    }
+    bits
+}
+
 /// EUC_2D over whole coordinates so near to each other that the roots of the processor round as the exact ones do.
 pub struct ShortEuclid {
     places: Vec<(f64, f64)>,
 }
 
-/// Squares stay below 2^48: a root is at least 2^-27 from each half, and the processor's is nearer to it than that.
-const SHORT_SIDE: i64 = 11_800_000;
+/// Squares stay below 2^47: a root is at least 2^-27 from each half, and the processor's is nearer to it than that.
+/// Limits stay below 2^26, so that their squares have no more than 52 bits.
+const SHORT_SIDE: i64 = 8_000_000;
 
 /// Numbers below 2^51 are rounded to the nearest whole number where this is added and taken away.
 const ROUNDING: f64 = 6_755_399_441_055_744.0;
@@ -93,10 +129,33 @@ impl Metric for ShortEuclid {
         (self.square(a, b).sqrt() + ROUNDING) - ROUNDING
     }
 
-    /// d < m exactly where the root is below m - 1/2, so where its square D is at most m*m - m.
+    type Fan = [(f64, f64); 5];
+
     #[inline(always)]
-    fn is_nearer(&self, a: u32, b: u32, limit: f64) -> bool {
-        limit > 0.0 && self.square(a, b) <= limit * limit - limit
+    fn fan(&self, lasts: [u32; 5]) -> [(f64, f64); 5] {
+        lasts.map(|c| self.places[c as usize])
+    }
+
+    /// d < m exactly where the root is below m - 1/2.
+    #[inline(always)]
+    fn gaining(&self, lasts: &[(f64, f64); 5], ends: [f64; 2], freed: [f64; 5], to: [f64; 2], beside: [u32; 2]) -> u32 {
+        let w = beside.map(|c| self.places[c as usize]);
+        let to = to.map(|t| t - 0.5);
+        let mut squares = [[0.0; 2]; 5];
+        let mut bits = 0;
+        for k in 0..5 {
+            for j in 0..2 {
+                let (dx, dy) = (lasts[k].0 - w[j].0, lasts[k].1 - w[j].1);
+                squares[k][j] = dx * dx + dy * dy;
+                let limit = freed[k] + to[j];
+                bits |= ((squares[k][j] < limit * limit.abs()) as u32) << (2 * k + j + 2);
+            }
+        }
+        for j in 0..2 {
+            let limit = ends[j] + to[j];
+            bits |= ((squares[1 + j][j] < limit * limit.abs()) as u32) << j;
+        }
+        bits
     }
 
     fn among(&self, cities: &[u32]) -> ShortEuclid {
@@ -144,6 +203,17 @@ impl<F: Function> Metric for Plane<F> {
     fn dist(&self, a: u32, b: u32) -> i64 {
         let (p, q) = (self.places[a as usize], self.places[b as usize]);
         self.across(p.0 - q.0, p.1 - q.1)
+    }
+
+    type Fan = [u32; 5];
+
+    fn fan(&self, lasts: [u32; 5]) -> [u32; 5] {
+        lasts
+    }
+
+    #[inline(always)]
+    fn gaining(&self, lasts: &[u32; 5], ends: [i64; 2], freed: [i64; 5], to: [i64; 2], beside: [u32; 2]) -> u32 {
+        gaining_one_by_one(self, lasts, ends, freed, to, beside)
     }
 
     fn among(&self, cities: &[u32]) -> Plane<F> {
@@ -310,6 +380,17 @@ impl Metric for Triangle {
     fn dist(&self, a: u32, b: u32) -> i64 {
         let (row, column) = (a.max(b) as usize, a.min(b) as usize);
         if row == column { 0 } else { self.lower[row * (row - 1) / 2 + column] as i64 }
+    }
+
+    type Fan = [u32; 5];
+
+    fn fan(&self, lasts: [u32; 5]) -> [u32; 5] {
+        lasts
+    }
+
+    #[inline(always)]
+    fn gaining(&self, lasts: &[u32; 5], ends: [i64; 2], freed: [i64; 5], to: [i64; 2], beside: [u32; 2]) -> u32 {
+        gaining_one_by_one(self, lasts, ends, freed, to, beside)
     }
 
     fn among(&self, cities: &[u32]) -> Triangle {

@@ -2,18 +2,28 @@
 
 use crate::metric::{Metric, Number};
 
+#[derive(Clone, Copy, Default)]
+pub struct Neighbour {
+    pub city: u32,
+    pub distance: u32,
+}
+
 /// The first cities of each by (distance, number).
 pub struct Near {
     pub width: usize,
-    pub cities: Vec<u32>,
+    entries: Vec<Neighbour>,
 }
 
 impl Near {
     #[inline(always)]
-    pub fn of(&self, c: u32) -> &[u32] {
+    pub fn of(&self, c: u32) -> &[Neighbour] {
         let from = c as usize * self.width;
-        &self.cities[from..from + self.width]
+        &self.entries[from..from + self.width]
     }
+}
+
+fn neighbour(key: u64) -> Neighbour {
+    Neighbour { city: key as u32, distance: (key >> 32) as u32 }
 }
 
 /// A distance and a city in one number, whose order is theirs.
@@ -124,23 +134,23 @@ impl<'a, M: Metric> Tree<'a, M> {
     }
 
     fn near(&self, width: usize) -> Near {
-        let mut cities = vec![0; self.spots.len() * width];
+        let mut entries = vec![Neighbour::default(); self.spots.len() * width];
         let mut list = vec![0; width];
         for q in &self.spots {
             list.fill(u64::MAX);
             self.search(0, *q, 0, 0, &mut list);
             let from = q.city as usize * width;
-            for (entry, key) in cities[from..from + width].iter_mut().zip(&list) {
-                *entry = *key as u32;
+            for (entry, key) in entries[from..from + width].iter_mut().zip(&list) {
+                *entry = neighbour(*key);
             }
         }
-        Near { width, cities }
+        Near { width, entries }
     }
 }
 
 fn scan_near<M: Metric>(metric: &M, width: usize) -> Near {
     let n = metric.size() as u32;
-    let mut cities = Vec::with_capacity(n as usize * width);
+    let mut entries = Vec::with_capacity(n as usize * width);
     let mut list = vec![0; width];
     for a in 0..n {
         list.fill(u64::MAX);
@@ -150,9 +160,9 @@ fn scan_near<M: Metric>(metric: &M, width: usize) -> Near {
                 insert(&mut list, key);
             }
         }
-        cities.extend(list.iter().map(|key| *key as u32));
+        entries.extend(list.iter().map(|key| neighbour(*key)));
     }
-    Near { width, cities }
+    Near { width, entries }
 }
 
 const FEW: usize = 100;

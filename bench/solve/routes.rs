@@ -1,8 +1,8 @@
 //! Savings merges (G. Clarke and J. W. Wright, 1964), and routes that are improved one by one.
 
-use crate::descent::{Counts, Waking, descend};
+use crate::descent::{Counts, Rules, Waking};
 use crate::metric::{Metric, Number};
-use crate::near::{Near, near_lists};
+use crate::near::{Near, Neighbour, near_lists};
 use crate::text::Routing;
 use crate::tour::Tour;
 
@@ -12,11 +12,11 @@ fn pairs<M: Metric>(metric: &M, hub: u32, near: &Near) -> Vec<(u32, u32)> {
     let to_hub: Vec<i64> = (0..n).map(|c| metric.dist(hub, c).whole()).collect();
     let mut keys = Vec::with_capacity(n as usize * near.width);
     for a in (0..n).filter(|a| *a != hub) {
-        for &b in near.of(a) {
-            if b == hub || b < a && near.of(b).contains(&a) {
+        for &Neighbour { city: b, distance } in near.of(a) {
+            if b == hub || b < a && near.of(b).iter().any(|c| c.city == a) {
                 continue;
             }
-            let saving = to_hub[a as usize] + to_hub[b as usize] - metric.dist(a, b).whole();
+            let saving = to_hub[a as usize] + to_hub[b as usize] - distance as i64;
             if saving > 0 {
                 keys.push((u64::MAX - saving as u64, (a.min(b) as u64) << 32 | a.max(b) as u64));
             }
@@ -116,7 +116,7 @@ pub fn solve<M: Metric>(metric: &M, routing: &Routing, max_candidates: usize, m:
         let mut tour = Tour::new(&(0..cities.len() as u32).collect::<Vec<u32>>());
         let mut waking = Waking::new(cities.len());
         waking.wake_all();
-        let one = descend(&mut tour, &alone, &near, &mut waking, m);
+        let one = Rules::new(&alone, &near, m).descend(&mut tour, &mut waking);
         counts = Counts { moves: counts.moves + one.moves, tests: counts.tests + one.tests, gained: counts.gained + one.gained };
         swaps += tour.swaps;
         *route = Tour::printed(&tour.order)[1..].iter().map(|k| cities[*k as usize]).collect();

@@ -1,8 +1,9 @@
 //! Trials: descents from kicks of the best tour (O. Martin, S. W. Otto and E. W. Felten, 1991).
 
-use crate::descent::{Waking, descend, descend_swept};
+use crate::descent::{Rules, Waking};
 use crate::metric::{Metric, Number};
 use crate::near::Near;
+use crate::params::Params;
 use crate::tour::Tour;
 use std::ops::RangeInclusive;
 
@@ -51,12 +52,6 @@ impl Pcg32 {
     }
 }
 
-#[derive(Clone, Copy)]
-pub struct Rules {
-    pub sweep: bool,
-    pub or_segment: u32,
-}
-
 #[derive(Default)]
 pub struct Totals {
     pub start: i64,
@@ -69,8 +64,8 @@ pub struct Totals {
 
 struct Search<'a, M> {
     metric: &'a M,
-    near: &'a Near,
-    rules: Rules,
+    rules: Rules<'a, M>,
+    sweep: bool,
     tour: Tour,
     waking: Waking,
     totals: Totals,
@@ -79,8 +74,8 @@ struct Search<'a, M> {
 impl<M: Metric> Search<'_, M> {
     /// Descends from a length; the result is kept where it is shorter than the best.
     fn descend(&mut self, before: i64) {
-        let descend = if self.rules.sweep { descend_swept } else { descend };
-        let counts = descend(&mut self.tour, self.metric, self.near, &mut self.waking, self.rules.or_segment);
+        let descend = if self.sweep { Rules::descend_swept } else { Rules::descend };
+        let counts = descend(&self.rules, &mut self.tour, &mut self.waking);
         let after = before - counts.gained;
         if after < self.totals.best {
             self.totals.best = after;
@@ -106,7 +101,7 @@ impl<M: Metric> Search<'_, M> {
         self.tour.flip(an, dn, d1, cn);
         self.tour.flip(dn, cn, c1, bn);
         self.tour.flip(cn, bn, b1, a1);
-        if !self.rules.sweep {
+        if !self.sweep {
             ends.iter().for_each(|c| self.waking.wake(*c));
         }
         let dist = |a, b| self.metric.dist(a, b).whole();
@@ -116,10 +111,16 @@ impl<M: Metric> Search<'_, M> {
 }
 
 /// The best tour of so many trials from a start, and what they counted.
-pub fn search<M: Metric>(metric: &M, near: &Near, rules: Rules, start: &[u32], trials: u32, seed: u64) -> (Vec<u32>, Totals) {
+pub fn search<M: Metric>(metric: &M, near: &Near, params: &Params, start: &[u32], trials: u32, seed: u64) -> (Vec<u32>, Totals) {
     let length = metric.length(start);
-    let totals = Totals { start: length, best: length, ..Totals::default() };
-    let mut search = Search { metric, near, rules, tour: Tour::new(start), waking: Waking::new(start.len()), totals };
+    let mut search = Search {
+        metric,
+        rules: Rules::new(metric, near, params.or_segment),
+        sweep: params.sweep,
+        tour: Tour::new(start),
+        waking: Waking::new(start.len()),
+        totals: Totals { start: length, best: length, ..Totals::default() },
+    };
     let mut rng = Pcg32::seed_from_u64(seed);
     search.waking.wake_all();
     search.descend(length);

@@ -97,7 +97,6 @@ fn solve_tour<M: Metric>(metric: &M, name: &[u8], given: Option<Vec<u32>>, param
     times.end("near");
     let fixed = given.or_else(|| params.savings.then(|| routes::savings_tour(metric, &near)));
     let nearest = if fixed.is_some() { None } else { Some(Nearest::new(metric)) };
-    let rules = search::Rules { sweep: params.sweep, or_segment: params.or_segment };
     let trials = if n < 8 { 1 } else { params.max_trials.unwrap_or(n as u32) };
     let mut out = String::new();
     let mut best: Option<(i64, Vec<u32>)> = None;
@@ -108,7 +107,7 @@ fn solve_tour<M: Metric>(metric: &M, name: &[u8], given: Option<Vec<u32>>, param
             _ => unreachable!(),
         };
         times.end("start");
-        let (tour, t) = search::search(metric, &near, rules, &start, trials, params.seed as u64 + j as u64);
+        let (tour, t) = search::search(metric, &near, params, &start, trials, params.seed as u64 + j as u64);
         times.end("search");
         writeln!(
             out,
