@@ -17,8 +17,8 @@ impl Waking {
         Waking { ring: vec![0; n], first: 0, count: 0, awake: vec![false; n] }
     }
 
-    pub fn wake_all(&mut self) {
-        (0..self.ring.len() as u32).for_each(|c| self.wake(c));
+    pub fn wake_all(&mut self, cities: &[u32]) {
+        cities.iter().for_each(|c| self.wake(*c));
     }
 
     #[inline(always)]
@@ -146,6 +146,8 @@ fn existing_by_city(x: u32, around: &[[u32; 3]; 2], y: u32, ys: [u32; 2]) -> u32
 pub struct Rules<'a, M> {
     metric: &'a M,
     near: &'a Near,
+    /// All cities in the order in which they wake.
+    cities: &'a [u32],
     /// The bits of the offers with segments that are short enough.
     offers: u32,
     /// `existing` from -3 places on.
@@ -154,14 +156,14 @@ pub struct Rules<'a, M> {
 
 impl<'a, M: Metric> Rules<'a, M> {
     /// m is the greatest number of cities of a segment.
-    pub fn new(metric: &'a M, near: &'a Near, m: u32) -> Rules<'a, M> {
+    pub fn new(metric: &'a M, near: &'a Near, m: u32, cities: &'a [u32]) -> Rules<'a, M> {
         let offers = match (metric.size(), m) {
             (5.., 3) => 0xfff,
             (4.., 2..) => 0xff,
             (3.., _) => 0xf,
             _ => 0x3,
         };
-        Rules { metric, near, offers, beside: [-3, -2, -1, 0, 1, 2, 3].map(existing) }
+        Rules { metric, near, cities, offers, beside: [-3, -2, -1, 0, 1, 2, 3].map(existing) }
     }
 
     /// The bits of the offers of x and y that exist.
@@ -230,7 +232,7 @@ impl<'a, M: Metric> Rules<'a, M> {
     pub fn descend_swept(&self, s: &mut Tour, waking: &mut Waking) -> Counts {
         let mut sum = Counts::default();
         loop {
-            waking.wake_all();
+            waking.wake_all(self.cities);
             let pass = self.descend(s, waking);
             sum.moves += pass.moves;
             sum.tests += pass.tests;

@@ -113,10 +113,11 @@ pub fn solve<M: Metric>(metric: &M, routing: &Routing, max_candidates: usize, m:
         saved += metric.length(&cities);
         let alone = metric.among(&cities);
         let near = near_lists(&alone, max_candidates.min(route.len()));
-        let mut tour = Tour::new(&(0..cities.len() as u32).collect::<Vec<u32>>());
+        let places: Vec<u32> = (0..cities.len() as u32).collect();
+        let mut tour = Tour::new(&places);
         let mut waking = Waking::new(cities.len());
-        waking.wake_all();
-        let one = Rules::new(&alone, &near, m).descend(&mut tour, &mut waking);
+        waking.wake_all(&places);
+        let one = Rules::new(&alone, &near, m, &places).descend(&mut tour, &mut waking);
         counts = Counts { moves: counts.moves + one.moves, tests: counts.tests + one.tests, gained: counts.gained + one.gained };
         swaps += tour.swaps;
         *route = Tour::printed(&tour.order)[1..].iter().map(|k| cities[*k as usize]).collect();

@@ -110,23 +110,36 @@ impl<M: Metric> Search<'_, M> {
     }
 }
 
-/// The best tour of so many trials from a start, and what they counted.
-pub fn search<M: Metric>(metric: &M, near: &Near, params: &Params, start: &[u32], trials: u32, seed: u64) -> (Vec<u32>, Totals) {
+/// The best tour of so many trials from a start, and what they counted. Inside, cities are numbered by an order of them: where that is the
+/// start, neighbours on the tour are mostly neighbours in memory.
+pub fn search<M: Metric>(
+    metric: &M,
+    near: &Near,
+    params: &Params,
+    start: &[u32],
+    order: &[u32],
+    trials: u32,
+    seed: u64,
+) -> (Vec<u32>, Totals) {
     let length = metric.length(start);
+    let places = Tour::new(order).place;
+    let metric = &metric.among(order);
+    let near = &near.renumbered(order, &places);
+    let start: Vec<u32> = start.iter().map(|c| places[*c as usize]).collect();
     let mut search = Search {
         metric,
-        rules: Rules::new(metric, near, params.or_segment),
+        rules: Rules::new(metric, near, params.or_segment, &places),
         sweep: params.sweep,
-        tour: Tour::new(start),
+        tour: Tour::new(&start),
         waking: Waking::new(start.len()),
         totals: Totals { start: length, best: length, ..Totals::default() },
     };
     let mut rng = Pcg32::seed_from_u64(seed);
-    search.waking.wake_all();
+    search.waking.wake_all(&places);
     search.descend(length);
     for _ in 1..trials {
         let before = search.kick(&mut rng);
         search.descend(before);
     }
-    (search.tour.order, search.totals)
+    (search.tour.order.iter().map(|c| order[*c as usize]).collect(), search.totals)
 }

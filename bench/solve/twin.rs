@@ -1,6 +1,9 @@
 //! `tourkit solve` in plain Rust: the same files, the same search, the same bytes.
 //!
-//! usage: twin solve PAR [--times]; with --times a line of standard error tells how long each part took.
+//! usage: twin solve PAR [--times] [--as-given]
+//!
+//! With --times a line of standard error tells how long each part took. With --as-given the search numbers cities as the problem does,
+//! and not by their places in the start.
 
 mod descent;
 mod metric;
@@ -91,8 +94,21 @@ fn initial(name: &str, n: usize) -> Vec<u32> {
     cities.iter().map(|c| c - 1).collect()
 }
 
-fn solve_tour<M: Metric>(metric: &M, name: &[u8], given: Option<Vec<u32>>, params: &Params, times: &mut Times) -> (String, Vec<u8>) {
+struct Flags {
+    times: bool,
+    as_given: bool,
+}
+
+fn solve_tour<M: Metric>(
+    metric: &M,
+    name: &[u8],
+    given: Option<Vec<u32>>,
+    params: &Params,
+    flags: &Flags,
+    times: &mut Times,
+) -> (String, Vec<u8>) {
     let n = metric.size();
+    let as_given: Vec<u32> = (0..n as u32).collect();
     let near = near_lists(metric, n.min(params.max_candidates as usize + 1) - 1);
     times.end("near");
     let fixed = given.or_else(|| params.savings.then(|| routes::savings_tour(metric, &near)));
@@ -107,7 +123,8 @@ fn solve_tour<M: Metric>(metric: &M, name: &[u8], given: Option<Vec<u32>>, param
             _ => unreachable!(),
         };
         times.end("start");
-        let (tour, t) = search::search(metric, &near, params, &start, trials, params.seed as u64 + j as u64);
+        let order = if flags.as_given { &as_given } else { &start };
+        let (tour, t) = search::search(metric, &near, params, &start, order, trials, params.seed as u64 + j as u64);
         times.end("search");
         writeln!(
             out,
@@ -162,10 +179,12 @@ fn solve_routes<M: Metric>(metric: &M, routing: &Routing, params: &Params, times
 
 fn main() {
     let words: Vec<String> = std::env::args().skip(1).collect();
-    let (parameter_file, with_times) = match words.iter().map(String::as_str).collect::<Vec<_>>()[..] {
-        ["solve", file] => (file, false),
-        ["solve", file, "--times"] => (file, true),
-        _ => fail(2, "usage: twin solve PAR [--times]".to_string()),
+    let (parameter_file, flags) = match &words[..] {
+        [command, file, rest @ ..] if command == "solve" => {
+            let has = |flag: &str| rest.iter().any(|word| word == flag);
+            (file, Flags { times: has("--times"), as_given: has("--as-given") })
+        }
+        _ => fail(2, "usage: twin solve PAR [--times] [--as-given]".to_string()),
     };
     let mut times = Times { begin: Instant::now(), parts: vec![] };
     let params = accepted(parameter_file, params::read_params(&text_of(parameter_file)));
@@ -182,7 +201,7 @@ fn main() {
     let given = params.initial_tour_file.as_ref().map(|file| initial(file, n));
     times.end("read");
     let (lines, file) = with_metric!(weights, n, metric => match &routing {
-        None => solve_tour(&metric, &title, given, &params, &mut times),
+        None => solve_tour(&metric, &title, given, &params, &flags, &mut times),
         Some(routing) => solve_routes(&metric, routing, &params, &mut times),
     });
     let ignored: String = params.ignored.iter().map(|key| format!("ignored {key}\n")).collect();
@@ -192,7 +211,7 @@ fn main() {
     }
     create(if routing.is_some() { &params.solution_file } else { &params.tour_file }, &file);
     times.end("write");
-    if with_times {
+    if flags.times {
         times.tell(if n < 8 { 0 } else { params.runs as u64 * params.max_trials.unwrap_or(n as u32) as u64 });
     }
 }
