@@ -2,7 +2,7 @@
 
 use crate::metric::{Metric, Number};
 use crate::near::{Near, Neighbour};
-use crate::tour::{Offer, Tour};
+use crate::tour::{Offer, Tour, at};
 
 /// The waking cities, first in first out, each at most once.
 pub struct Waking {
@@ -23,7 +23,7 @@ impl Waking {
 
     #[inline(always)]
     pub fn wake(&mut self, c: u32) {
-        if self.awake[c as usize] {
+        if at(&self.awake, c as usize) {
             return;
         }
         self.awake[c as usize] = true;
@@ -170,7 +170,7 @@ impl<'a, M: Metric> Rules<'a, M> {
     #[inline(always)]
     fn existing(&self, s: &Tour, x: u32, around: &Around<M::Length>, y: u32, ys: [u32; 2]) -> u32 {
         let n = s.size() as i32;
-        let places = s.place[y as usize] as i32 - s.place[x as usize] as i32;
+        let places = at(&s.place, y as usize) as i32 - at(&s.place, x as usize) as i32;
         if n < 8 {
             return self.offers & existing_by_city(x, &[around.after, around.before], y, ys);
         }

@@ -1,7 +1,9 @@
 #!/usr/bin/env python3
 """Writes problems of uniform cities and customers, and parameter files for them, into a folder.
 
-usage: instances.py FOLDER [SEED]
+usage: instances.py FOLDER [DIVISOR]
+
+Numbers of trials are divided by DIVISOR.
 """
 import os
 import sys
@@ -35,7 +37,8 @@ def problem(draw, name, n, capacity=None):
 
 def main():
     folder = sys.argv[1]
-    draw = Draw(int(sys.argv[2]) if len(sys.argv) > 2 else 12345)
+    divisor = int(sys.argv[2]) if len(sys.argv) > 2 else 1
+    draw = Draw(12345)
     os.makedirs(folder, exist_ok=True)
 
     def write(name, text):
@@ -46,9 +49,9 @@ def main():
         name = f"tsp{n}"
         write(f"{name}.tsp", problem(draw, name, n))
         keys = f"PROBLEM_FILE = {name}.tsp\nMAX_CANDIDATES = 5\nRUNS = 1\nSEED = 1\nTOUR_FILE = {name}.out\n"
-        write(f"{name}.par", f"{keys}MAX_TRIALS = {trials}\n")
-        write(f"{name}-savings.par", f"{keys}MAX_TRIALS = {trials}\nCONSTRUCTION = SAVINGS\n")
+        write(f"{name}.par", f"{keys}MAX_TRIALS = {trials // divisor}\n")
         write(f"{name}-once.par", f"{keys}MAX_TRIALS = 1\n")
+        write(f"{name}-savings.par", f"{keys}MAX_TRIALS = 1\nCONSTRUCTION = SAVINGS\n")
     for n, capacity in [(1_000, 1_000), (5_000, 5_000)]:
         name = f"cvrp{n}"
         write(f"{name}.vrp", problem(draw, name, n, capacity))

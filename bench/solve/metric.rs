@@ -1,6 +1,7 @@
 //! Exact distances. Cities count from 0.
 
 use crate::text::UNIT;
+use crate::tour::at;
 use std::marker::PhantomData;
 use std::ops::{Add, Sub};
 
@@ -111,7 +112,7 @@ impl ShortEuclid {
 
     #[inline(always)]
     fn square(&self, a: u32, b: u32) -> f64 {
-        let (p, q) = (self.places[a as usize], self.places[b as usize]);
+        let (p, q) = (at(&self.places, a as usize), at(&self.places, b as usize));
         let (dx, dy) = (p.0 - q.0, p.1 - q.1);
         dx * dx + dy * dy
     }
@@ -133,13 +134,13 @@ impl Metric for ShortEuclid {
 
     #[inline(always)]
     fn fan(&self, lasts: [u32; 5]) -> [(f64, f64); 5] {
-        lasts.map(|c| self.places[c as usize])
+        lasts.map(|c| at(&self.places, c as usize))
     }
 
     /// d < m exactly where the root is below m - 1/2.
     #[inline(always)]
     fn gaining(&self, lasts: &[(f64, f64); 5], ends: [f64; 2], freed: [f64; 5], to: [f64; 2], beside: [u32; 2]) -> u32 {
-        let w = beside.map(|c| self.places[c as usize]);
+        let w = beside.map(|c| at(&self.places, c as usize));
         let to = to.map(|t| t - 0.5);
         let mut squares = [[0.0; 2]; 5];
         let mut bits = 0;
@@ -201,7 +202,7 @@ impl<F: Function> Metric for Plane<F> {
 
     #[inline(always)]
     fn dist(&self, a: u32, b: u32) -> i64 {
-        let (p, q) = (self.places[a as usize], self.places[b as usize]);
+        let (p, q) = (at(&self.places, a as usize), at(&self.places, b as usize));
         self.across(p.0 - q.0, p.1 - q.1)
     }
 
@@ -379,7 +380,7 @@ impl Metric for Triangle {
     #[inline(always)]
     fn dist(&self, a: u32, b: u32) -> i64 {
         let (row, column) = (a.max(b) as usize, a.min(b) as usize);
-        if row == column { 0 } else { self.lower[row * (row - 1) / 2 + column] as i64 }
+        if row == column { 0 } else { at(&self.lower, row * (row - 1) / 2 + column) as i64 }
     }
 
     type Fan = [u32; 5];

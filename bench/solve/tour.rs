@@ -1,5 +1,13 @@
 //! A tour as an array, under flips that reverse the shorter side.
 
+/// An entry of an array; each city and each place is below the length of every array that it indexes, as the proved program knows too.
+#[inline(always)]
+pub fn at<T: Copy>(items: &[T], i: usize) -> T {
+    debug_assert!(i < items.len());
+    // SAFETY: as above.
+    unsafe { *items.get_unchecked(i) }
+}
+
 pub struct Tour {
     pub order: Vec<u32>,
     pub place: Vec<u32>,
@@ -23,14 +31,14 @@ impl Tour {
 
     #[inline(always)]
     pub fn next(&self, c: u32) -> u32 {
-        let k = self.place[c as usize] as usize + 1;
-        self.order[if k == self.order.len() { 0 } else { k }]
+        let k = at(&self.place, c as usize) as usize + 1;
+        at(&self.order, if k == self.order.len() { 0 } else { k })
     }
 
     #[inline(always)]
     pub fn prev(&self, c: u32) -> u32 {
-        let k = self.place[c as usize] as usize;
-        self.order[if k == 0 { self.order.len() - 1 } else { k - 1 }]
+        let k = at(&self.place, c as usize) as usize;
+        at(&self.order, if k == 0 { self.order.len() - 1 } else { k - 1 })
     }
 
     /// Replaces the steps a-b and c-d by a-c and b-d.
@@ -63,7 +71,8 @@ impl Tour {
     #[inline(always)]
     fn renumber(&mut self, from: usize, to: usize) {
         for (k, c) in (from..to).zip(&self.order[from..to]) {
-            self.place[*c as usize] = k as u32;
+            // SAFETY: cities are below the length of `place`.
+            unsafe { *self.place.get_unchecked_mut(*c as usize) = k as u32 };
         }
     }
 
