@@ -43,6 +43,25 @@ fn file(value: &[u8]) -> Result<String, &'static str> {
     if name.is_empty() { Err("BadValue") } else { Ok(name) }
 }
 
+impl Default for Params {
+    fn default() -> Params {
+        Params {
+            problem_file: String::new(),
+            tour_file: None,
+            solution_file: None,
+            initial_tour_file: None,
+            runs: 10,
+            max_trials: None,
+            seed: 1,
+            max_candidates: 5,
+            savings: false,
+            sweep: false,
+            or_segment: 3,
+            ignored: vec![],
+        }
+    }
+}
+
 impl Params {
     fn set(&mut self, key: &str, value: &[u8]) -> Result<(), &'static str> {
         match key {
@@ -65,20 +84,7 @@ impl Params {
 }
 
 pub fn read_params(text: &[u8]) -> Result<Params, Fault> {
-    let mut params = Params {
-        problem_file: String::new(),
-        tour_file: None,
-        solution_file: None,
-        initial_tour_file: None,
-        runs: 10,
-        max_trials: None,
-        seed: 1,
-        max_candidates: 5,
-        savings: false,
-        sweep: false,
-        or_segment: 3,
-        ignored: vec![],
-    };
+    let mut params = Params::default();
     let mut seen = vec![];
     let mut last = 1;
     for (place, line) in text.split(|b| *b == b'\n').enumerate() {

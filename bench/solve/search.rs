@@ -5,6 +5,7 @@ use crate::metric::{Metric, Number};
 use crate::near::Near;
 use crate::params::Params;
 use crate::tour::Tour;
+use std::fmt;
 use std::ops::RangeInclusive;
 
 /// PCG XSH RR 64/32 (M. E. O'Neill, 2014), as `rand_pcg` seeds it and `rand` draws from it.
@@ -60,6 +61,13 @@ pub struct Totals {
     pub moves: u64,
     pub tests: u64,
     pub swaps: u64,
+}
+
+impl fmt::Display for Totals {
+    fn fmt(&self, f: &mut fmt::Formatter) -> fmt::Result {
+        write!(f, "start {}, best {}, trials {}, ", self.start, self.best, self.trials)?;
+        write!(f, "moves {}, tests {}, swaps {}", self.moves, self.tests, self.swaps)
+    }
 }
 
 struct Search<'a, M> {

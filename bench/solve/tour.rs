@@ -12,8 +12,16 @@ pub struct Tour {
     pub order: Vec<u32>,
     pub place: Vec<u32>,
     pub swaps: u64,
-    /// The first place and the count of each flip since the last `settle` or `rewind`.
-    journal: Vec<(u32, u32)>,
+    /// The changes since the last `settle` or `rewind`.
+    journal: Vec<Change>,
+}
+
+/// What became of the places of a range.
+#[derive(Clone, Copy)]
+enum Change {
+    Reversed { first: u32, count: u32 },
+    /// So many cities at one end went to the other end; and were turned round there.
+    Shifted { first: u32, count: u32, cities: u8, to_right: bool, turned: bool },
 }
 
 impl Tour {
@@ -45,7 +53,7 @@ impl Tour {
     pub fn flip(&mut self, a: u32, b: u32, c: u32, d: u32) {
         let (first, count) = if self.next(a) == b { self.shorter_side(b, c, d) } else { self.shorter_side(c, b, a) };
         self.swaps += count as u64 / 2;
-        self.journal.push((first as u32, count as u32));
+        self.journal.push(Change::Reversed { first: first as u32, count: count as u32 });
         self.reverse(first, count);
     }
 
@@ -89,6 +97,24 @@ impl Tour {
         }
     }
 
+    /// Moves a few cities from one end of a range to the other, and turns them round.
+    fn shift(&mut self, first: usize, count: usize, cities: usize, to_right: bool, turned: bool) {
+        let end = first + count;
+        let (from, to) = if to_right { (first, end - cities) } else { (end - cities, first) };
+        let mut moved = [0; 3];
+        moved[..cities].copy_from_slice(&self.order[from..from + cities]);
+        if turned {
+            moved[..cities].reverse();
+        }
+        if to_right {
+            self.order.copy_within(first + cities..end, first);
+        } else {
+            self.order.copy_within(first..end - cities, first + cities);
+        }
+        self.order[to..to + cities].copy_from_slice(&moved[..cities]);
+        self.renumber(first, end);
+    }
+
     /// The tour that stands is the one that `rewind` goes back to.
     pub fn settle(&mut self) {
         self.journal.clear();
@@ -96,8 +122,13 @@ impl Tour {
 
     /// Undoes all flips since the last `settle`.
     pub fn rewind(&mut self) {
-        while let Some((first, count)) = self.journal.pop() {
-            self.reverse(first as usize, count as usize);
+        while let Some(change) = self.journal.pop() {
+            match change {
+                Change::Reversed { first, count } => self.reverse(first as usize, count as usize),
+                Change::Shifted { first, count, cities, to_right, turned } => {
+                    self.shift(first as usize, count as usize, cities as usize, !to_right, turned)
+                }
+            }
         }
     }
 }
@@ -119,10 +150,37 @@ impl Tour {
         }
     }
 
+    /// How many places there are from one city to another, both counted.
+    fn path(&self, from: u32, to: u32) -> usize {
+        let (from, to) = (self.place[from as usize] as usize, self.place[to as usize] as usize);
+        if from <= to { to - from + 1 } else { to + self.size() - from + 1 }
+    }
+
+    /// Does what three flips do, where these only shift the segment past a range that does not go over the end of the array:
+    /// past the path from b to c where this is shorter than the rest, or past the rest where that is far shorter.
+    fn shift_past(&mut self, x: u32, e: u32, b: u32, c: u32, d: u32, ahead: bool) -> bool {
+        let (segment, path) = (self.path(x, e), self.path(b, c));
+        let rest = self.size() - segment - path;
+        let to_right = segment + path <= rest;
+        let (start, passed) = if to_right { (x, path) } else { (d, rest) };
+        let (first, count) = (self.place[start as usize] as usize, segment + passed);
+        if !to_right && path <= segment + rest || first + count > self.size() {
+            return false;
+        }
+        self.swaps += (count / 2 + passed / 2 + if ahead { segment / 2 } else { 0 }) as u64;
+        let cities = segment as u8;
+        self.journal.push(Change::Shifted { first: first as u32, count: count as u32, cities, to_right, turned: !ahead });
+        self.shift(first, count, segment, to_right, !ahead);
+        true
+    }
+
     /// Moves a segment that runs forward from x to e.
     fn move_forward(&mut self, a: u32, x: u32, e: u32, b: u32, y: u32, w: u32) {
         let ahead = self.next(y) == w;
         let (c, d) = if ahead { (y, w) } else { (w, y) };
+        if self.shift_past(x, e, b, c, d, ahead) {
+            return;
+        }
         self.flip(a, x, c, d);
         self.flip(a, c, b, e);
         if ahead && x != e {

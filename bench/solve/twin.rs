@@ -126,31 +126,24 @@ fn solve_tour<M: Metric>(
         let order = if flags.as_given { &as_given } else { &start };
         let (tour, t) = search::search(metric, &near, params, &start, order, trials, params.seed as u64 + j as u64);
         times.end("search");
-        writeln!(
-            out,
-            "run {}: start {}, best {}, trials {}, moves {}, tests {}, swaps {}",
-            j + 1,
-            t.start,
-            t.best,
-            t.trials,
-            t.moves,
-            t.tests,
-            t.swaps
-        )
-        .unwrap();
+        writeln!(out, "run {}: {t}", j + 1).unwrap();
         if best.as_ref().is_none_or(|b| t.best < b.0) {
             best = Some((t.best, tour));
         }
     }
     let (length, tour) = best.unwrap();
     writeln!(out, "best {length}").unwrap();
+    (out, tour_text(name, length, &tour))
+}
+
+fn tour_text(name: &[u8], length: i64, tour: &[u32]) -> Vec<u8> {
     let mut file = [b"NAME : ", name, format!(".{length}.tour\nCOMMENT : Length = {length}\n").as_bytes()].concat();
-    write!(file, "TYPE : TOUR\nDIMENSION : {n}\nTOUR_SECTION\n").unwrap();
-    for city in Tour::printed(&tour) {
+    write!(file, "TYPE : TOUR\nDIMENSION : {}\nTOUR_SECTION\n", tour.len()).unwrap();
+    for city in Tour::printed(tour) {
         writeln!(file, "{}", city + 1).unwrap();
     }
     file.extend_from_slice(b"-1\nEOF\n");
-    (out, file)
+    file
 }
 
 fn solve_routes<M: Metric>(metric: &M, routing: &Routing, params: &Params, times: &mut Times) -> (String, Vec<u8>) {
