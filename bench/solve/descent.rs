@@ -174,7 +174,13 @@ impl<'a, M: Metric> Rules<'a, M> {
         if n < 8 {
             return self.offers & existing_by_city(x, &[around.after, around.before], y, ys);
         }
-        let places = if places > n - 4 { places - n } else if places < 4 - n { places + n } else { places };
+        let places = if places > n - 4 {
+            places - n
+        } else if places < 4 - n {
+            places + n
+        } else {
+            places
+        };
         match self.beside.get((places + 3) as usize) {
             Some(bits) => self.offers & bits,
             None => self.offers,

@@ -50,7 +50,8 @@ pub trait Metric: Sized {
     /// Bits of the offers of a look at one candidate whose gain is positive: two of 2-opt, whose steps lead from the second and the third
     /// last city, then for each segment those with the first and the second city beside the candidate. A gain is what is freed (`ends`
     /// for 2-opt) with the step to that city (`to`), less the step from the last city there.
-    fn gaining(&self, lasts: &Self::Fan, ends: [Self::Length; 2], freed: [Self::Length; 5], to: [Self::Length; 2], beside: [u32; 2]) -> u32;
+    fn gaining(&self, lasts: &Self::Fan, ends: [Self::Length; 2], freed: [Self::Length; 5], to: [Self::Length; 2], beside: [u32; 2])
+    -> u32;
 
     /// The distances among these cities alone.
     fn among(&self, cities: &[u32]) -> Self;

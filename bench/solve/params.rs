@@ -22,7 +22,7 @@ const IGNORED: [&str; 6] = ["MOVE_TYPE", "PATCHING_A", "PATCHING_C", "PRECISION"
 
 fn number(value: &[u8], from: u32, to: u32) -> Result<u32, &'static str> {
     let range = from as i64..=to as i64;
-    integer(value).filter(|v| range.contains(v)).map(|v| v as u32).ok_or("BadValue")
+    integer(value).filter(|v| range.contains(v)).map(|v| v as u32).ok_or("3 BadValue")
 }
 
 fn choice(value: &[u8], no: &str, yes: &str) -> Result<bool, &'static str> {
@@ -31,16 +31,16 @@ fn choice(value: &[u8], no: &str, yes: &str) -> Result<bool, &'static str> {
     } else if value.eq_ignore_ascii_case(no.as_bytes()) {
         Ok(false)
     } else {
-        Err("BadValue")
+        Err("3 BadValue")
     }
 }
 
 fn file(value: &[u8]) -> Result<String, &'static str> {
     if value.contains(&b'$') {
-        return Err("DollarInName");
+        return Err("5 DollarInName");
     }
-    let name = String::from_utf8(value.to_vec()).map_err(|_| "BadValue")?;
-    if name.is_empty() { Err("BadValue") } else { Ok(name) }
+    let name = String::from_utf8(value.to_vec()).map_err(|_| "3 BadValue")?;
+    if name.is_empty() { Err("3 BadValue") } else { Ok(name) }
 }
 
 impl Default for Params {
@@ -77,7 +77,7 @@ impl Params {
             "FINAL_SWEEP" => self.sweep = choice(value, "NO", "YES")?,
             "OR_SEGMENT" => self.or_segment = number(value, 1, 3)?,
             _ if IGNORED.contains(&key) => self.ignored.push(key.to_string()),
-            _ => return Err("UnknownKey"),
+            _ => return Err("1 UnknownKey"),
         }
         Ok(())
     }
@@ -90,6 +90,9 @@ pub fn read_params(text: &[u8]) -> Result<Params, Fault> {
     for (place, line) in text.split(|b| *b == b'\n').enumerate() {
         let fault = |what: &str| (place + 1, what.to_string());
         last = place + 1;
+        if line.len() > 4096 {
+            return Err(fault("6 TooLong"));
+        }
         let line = line.trim_ascii();
         if line.is_empty() || line[0] == b'#' {
             continue;
@@ -98,6 +101,9 @@ pub fn read_params(text: &[u8]) -> Result<Params, Fault> {
         let key = String::from_utf8_lossy(&line[..end]).to_ascii_uppercase();
         let rest = line[end..].trim_ascii_start();
         let value = rest.strip_prefix(b"=").unwrap_or(rest).trim_ascii_start();
+        if key.len() > 64 {
+            return Err(fault("6 TooLong"));
+        }
         if key == "EOF" {
             break;
         }
@@ -105,13 +111,13 @@ pub fn read_params(text: &[u8]) -> Result<Params, Fault> {
             continue;
         }
         if seen.contains(&key) {
-            return Err(fault("RepeatedKey"));
+            return Err(fault("2 RepeatedKey"));
         }
         params.set(&key, value).map_err(fault)?;
         seen.push(key);
     }
     if params.problem_file.is_empty() {
-        return Err((last, "MissingProblem".to_string()));
+        return Err((last, "4 MissingProblem".to_string()));
     }
     Ok(params)
 }

@@ -3,9 +3,9 @@
 #
 # usage: bench/solve/run.sh [-n ROUNDS] [-s] [TOURKIT]
 #
-# TOURKIT is a program that has the command solve; without one the twin alone is timed. The table has the least wall time of all rounds
-# (3 by default) in seconds, and for a tour the trials per second of the twin's search alone, without reading, near lists and starts.
-# -s takes a hundredth of the trials. On a machine with other work: `taskset -c CORE nice bench/solve/run.sh ..`.
+# TOURKIT is a program that has the command solve; without one the twin alone is timed. The table has the least processor time (user and
+# system) of all rounds, 3 by default, in seconds, and for a tour the trials per second of the twin's search alone, without reading, near
+# lists and starts, by the wall clock. -s takes a hundredth of the trials.
 set -eu
 here=$(cd "$(dirname "$0")" && pwd)
 rounds=3
@@ -27,17 +27,15 @@ rm -rf "$work/in"
 python3 "$here/instances.py" "$work/in" "$divisor"
 cd "$work/in"
 
-# Runs a program on a parameter file: its time in seconds, and its output and file beside each other under a name.
+# Runs a program on a parameter file: its processor time, and its output and file beside each other under a name.
 timed() {
-    local name=$1 output file
+    local name=$1 file TIMEFORMAT='%3U %3S'
     shift
     file=$(sed -n 's/^\(TOUR\|SOLUTION\)_FILE = //p' "$2")
     rm -f "$file"
-    local from=$EPOCHREALTIME
-    "$1" solve "$2" "${@:3}" >"$work/$name.out" 2>"$work/$name.err" || { cat "$work/$name.err" >&2; exit 1; }
-    local to=$EPOCHREALTIME
+    { time "$1" solve "$2" "${@:3}" >"$work/$name.out" 2>"$work/$name.err"; } 2>"$work/time" || { cat "$work/$name.err" >&2; exit 1; }
     mv "$file" "$work/$name.file"
-    awk -v from="$from" -v to="$to" 'BEGIN { printf "%.4f\n", to - from }'
+    awk '{ printf "%.3f\n", $1 + $2 }' "$work/time"
 }
 
 least() {
@@ -65,7 +63,7 @@ for parameters in *.par; do
     ratio=-
     if [ -n "$tourkit" ]; then
         by_tourkit=$(least "$work/tourkit.times")
-        ratio=$(awk -v a="$by_tourkit" -v b="$by_twin" 'BEGIN { printf "%.2f", a / b }')
+        ratio=$(awk -v a="$by_tourkit" -v b="$by_twin" 'BEGIN { if (b > 0) printf "%.2f", a / b; else print "-" }')
     fi
     rate=$(sort -g "$work/rates" | tail -1)
     printf '%-18s %10s %10s %7s %8s %12s\n' "$input" "$by_tourkit" "$by_twin" "$ratio" "$same" "${rate:--}"

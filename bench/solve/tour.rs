@@ -19,9 +19,18 @@ pub struct Tour {
 /// What became of the places of a range.
 #[derive(Clone, Copy)]
 enum Change {
-    Reversed { first: u32, count: u32 },
+    Reversed {
+        first: u32,
+        count: u32,
+    },
     /// So many cities at one end went to the other end; and were turned round there.
-    Shifted { first: u32, count: u32, cities: u8, to_right: bool, turned: bool },
+    Shifted {
+        first: u32,
+        count: u32,
+        cities: u8,
+        to_right: bool,
+        turned: bool,
+    },
 }
 
 impl Tour {
