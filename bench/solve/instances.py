@@ -1,0 +1,61 @@
+#!/usr/bin/env python3
+"""Writes problems of uniform cities and customers, and parameter files for them, into a folder.
+
+usage: instances.py FOLDER [DIVISOR]
+
+Numbers of trials are divided by DIVISOR.
+"""
+import os
+import sys
+
+SIDE = 1_000_000
+
+
+class Draw:
+    """A congruential generator, so that the files are the same on every machine."""
+
+    def __init__(self, seed):
+        self.state = seed
+
+    def below(self, bound):
+        self.state = (self.state * 6364136223846793005 + 1442695040888963407) % 2**64
+        return (self.state >> 33) % bound
+
+
+def problem(draw, name, n, capacity=None):
+    lines = [f"NAME : {name}", f"TYPE : {'TSP' if capacity is None else 'CVRP'}", f"DIMENSION : {n}", "EDGE_WEIGHT_TYPE : EUC_2D"]
+    if capacity is not None:
+        lines.append(f"CAPACITY : {capacity}")
+    lines.append("NODE_COORD_SECTION")
+    lines += [f"{i} {draw.below(SIDE)} {draw.below(SIDE)}" for i in range(1, n + 1)]
+    if capacity is not None:
+        lines.append("DEMAND_SECTION")
+        lines += [f"{i} {0 if i == 1 else 1 + draw.below(100)}" for i in range(1, n + 1)]
+        lines += ["DEPOT_SECTION", "1", "-1"]
+    return "\n".join(lines + ["EOF", ""])
+
+
+def main():
+    folder = sys.argv[1]
+    divisor = int(sys.argv[2]) if len(sys.argv) > 2 else 1
+    draw = Draw(12345)
+    os.makedirs(folder, exist_ok=True)
+
+    def write(name, text):
+        with open(os.path.join(folder, name), "w") as file:
+            file.write(text)
+
+    for n, trials in [(1_000, 30_000), (10_000, 10_000), (100_000, 1_000)]:
+        name = f"tsp{n}"
+        write(f"{name}.tsp", problem(draw, name, n))
+        keys = f"PROBLEM_FILE = {name}.tsp\nMAX_CANDIDATES = 5\nRUNS = 1\nSEED = 1\nTOUR_FILE = {name}.out\n"
+        write(f"{name}.par", f"{keys}MAX_TRIALS = {trials // divisor}\n")
+        write(f"{name}-once.par", f"{keys}MAX_TRIALS = 1\n")
+        write(f"{name}-savings.par", f"{keys}MAX_TRIALS = 1\nCONSTRUCTION = SAVINGS\n")
+    for n, capacity in [(1_000, 1_000), (5_000, 5_000)]:
+        name = f"cvrp{n}"
+        write(f"{name}.vrp", problem(draw, name, n, capacity))
+        write(f"{name}.par", f"PROBLEM_FILE = {name}.vrp\nMAX_CANDIDATES = 5\nSOLUTION_FILE = {name}.out\n")
+
+
+main()
