@@ -1,5 +1,7 @@
 pub mod Feeds
+pub mod Limits
 pub mod Looks
 pub mod Steps
+pub mod Taken
 pub mod Told
 pub mod Words

@@ -1,5 +1,7 @@
+pub mod Asked
 pub mod Keys
 pub mod Params
 pub mod Readers
 pub mod Reading
+pub mod Stored
 pub mod Values
