@@ -1,5 +1,5 @@
 -- A parameter reader, byte by byte.
-use Rattle.std.proofs.Common.{◌≡◌, ◌≢◌, ℕ, suc, ◌+◌, ◌<◌, Bool, true, false, cond, eqb, List, [], ◌∷◌, ◌++◌, length, Some, None, Ok, Err, refl, sym, ap, subst, ◌∙◌, append_assoc, arith}
+use Rattle.std.proofs.Common.{◌≡◌, ◌≢◌, ℕ, suc, ◌+◌, ◌<◌, Bool, true, false, eqb, List, [], ◌∷◌, ◌++◌, length, Some, None, Ok, Err, refl, sym, ap, subst, ◌∙◌, append_assoc, arith}
 use Rattle.std.proofs.lemmas.Bool.{eqb-true, ne_eqb}
 use Rattle.std.proofs.lemmas.List.{append-nil, length-append}
 use Rattle.tk_lines.proofs.MiddleOfLine.{prepend-nil}
@@ -16,7 +16,7 @@ use Rattle.tk_params.specs.declared.fault.ParamKind.TheVariants as kinds
 use Rattle.tk_params.specs.declared.reader.ParamReader.{ParamReader}
 use Rattle.tk_params.specs.Readers.{IsSound}
 use Rattle.tk_params.specs.Reading.{Feeds, IsTaken, TakesLine, answer_in, from_line}
-use Rattle.tk_params.specs.Values.{Settings, Meaning, Faulty, line_means, settings_of}
+use Rattle.tk_params.specs.Values.{Meaning, Faulty, line_means, settings_of}
 use Rattle.tk_params.specs.Params.{at_end, is_eof, judge, line_limit, said, params_decided}
 
 -- nothing is read

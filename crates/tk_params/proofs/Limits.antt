@@ -1,5 +1,5 @@
 -- What settings have, and what they ask for, is within the limits of the keys.
-use Rattle.std.proofs.Common.{◌≡◌, ◌≢◌, ◌∙◌, ℕ, ◌≤◌, eqb, leb, get_or, arith, Bool, true, false, not, ◌&&◌, ◌||◌, List, [], ◌∷◌, Option, None, Some, ℤ, pos, negsuc, cond, option_map, refl, sym, ap, subst}
+use Rattle.std.proofs.Common.{◌≡◌, ◌≢◌, ◌∙◌, ℕ, ◌≤◌, eqb, leb, get_or, arith, Bool, true, false, not, ◌&&◌, List, [], ◌∷◌, Option, None, Some, ℤ, pos, negsuc, cond, option_map, refl, sym, ap, subst}
 use Rattle.std.proofs.lemmas.Bool.{eqb-true, leb-true, and_parts}
 use Rattle.std.proofs.lemmas.List.Elements.{All-cons, All-head, All-nil, All-tail}
 use Rattle.std.specs.List.{All, list_any}
@@ -12,8 +12,8 @@ use Rattle.tk_params.specs.declared.key.Key.{Key}
 use Rattle.tk_params.specs.declared.key.Key.TheVariants as keys
 use Rattle.tk_params.specs.declared.value.Construction.{Construction}
 use Rattle.tk_params.specs.Keys.{all_keys, code}
-use Rattle.tk_params.specs.Values.{File, Number, Way, Switch, Ignored, Settings, Value, construction_of, file_of, greatest, has_dollar, least, look, number_of, same_key, switch_of, value_of}
-use Rattle.tk_params.specs.Asked.{AreSettings, AreWithinLimits, IsFileName, IsSetting, IsWithin, ParamsAre, asked, asked_of, file_in, number_in}
+use Rattle.tk_params.specs.Values.{File, Number, Way, Switch, Ignored, Settings, Value, construction_of, file_of, greatest, has_dollar, least, look, same_key, switch_of, value_of}
+use Rattle.tk_params.specs.Asked.{AreSettings, AreWithinLimits, IsFileName, IsSetting, IsWithin, asked_of, file_in, number_in}
 
 -- ---- a key's value
 

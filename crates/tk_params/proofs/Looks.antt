@@ -15,7 +15,7 @@ use Rattle.std.specs.Option.{option_copied, is_some}
 use Rattle.tk_params.specs.declared.value.Setting.{Setting}
 use Rattle.tk_params.specs.Readers.{HasTaken}
 use Rattle.tk_params.specs.Stored.{AreStored, entry_is, value_is}
-use Rattle.tk_params.specs.Asked.{AreSettings, IsSetting, ignored_keys, is_ignored}
+use Rattle.tk_params.specs.Asked.{IsSetting, ignored_keys, is_ignored}
 use Rattle.tk_params.specs.contracts.key.KeyPartialEq.TheImpl.{eq-value}
 use Rattle.tk_params.specs.declared.key.Key.{Key}
 use Rattle.tk_params.specs.declared.key.Key.TheVariants as keys

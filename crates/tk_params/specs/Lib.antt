@@ -1,5 +1,6 @@
 pub mod Asked
 pub mod Keys
+pub mod ParamExamples
 pub mod Params
 pub mod Readers
 pub mod Reading

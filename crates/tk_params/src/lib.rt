@@ -2,6 +2,8 @@
 #![tactic(auto)]
 
 mod entries;
+#[cfg(test)]
+mod examples;
 mod fault;
 mod key;
 mod line;

@@ -1,6 +1,5 @@
-use Rattle.std.proofs.Common.{◌≡◌, ◌∙◌, refl, sym, ap}
 use Rattle.tk_params.specs.Stored.{settings_in}
-use Rattle.tk_params.proofs.Taken.{AreLookedUp, looked_within, some_asked}
+use Rattle.tk_params.proofs.Taken.{looked_within, some_asked}
 use Rattle.tk_params.proofs.params.Params.from_settings.Goals as goal
 
 pub invariant_of-result : goal.invariant_of-result

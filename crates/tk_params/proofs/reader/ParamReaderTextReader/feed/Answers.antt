@@ -1,5 +1,5 @@
 use Rattle.std.proofs.Common.{◌∙◌, ap, sym}
-use Rattle.tk_params.specs.Params.{at_end, is_eof}
+use Rattle.tk_params.specs.Params.{is_eof}
 use Rattle.tk_params.proofs.Feeds.{eof_ends}
 use Rattle.tk_params.proofs.reader.ParamReaderTextReader.feed.Goals as goal
 

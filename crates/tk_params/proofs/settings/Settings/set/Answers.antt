@@ -1,4 +1,4 @@
-use Rattle.std.proofs.Common.{◌∙◌, false, sym, not}
+use Rattle.std.proofs.Common.{◌∙◌, sym}
 use Rattle.tk_params.specs.Stored.{settings_in, value_is}
 use Rattle.tk_params.proofs.Looks.{one_more_ignored, one_more_used}
 use Rattle.tk_params.proofs.settings.Settings.set.Goals as goal
