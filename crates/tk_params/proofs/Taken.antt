@@ -4,13 +4,10 @@ use Rattle.std.specs.Option.{unwrap_or}
 use Rattle.tk_params.specs.declared.key.Key.{Key}
 use Rattle.tk_params.specs.declared.key.Key.TheVariants as keys
 use Rattle.tk_params.specs.declared.value.Construction.TheVariants.{Nearest}
+use Rattle.tk_params.specs.Stored.{LosesOnly}
 use Rattle.tk_params.specs.Values.{Settings, look, same_key}
 use Rattle.tk_params.specs.Asked.{AreSettings, AreWithinLimits, ParamsAre, asked, asked_of, file_in, ignored_keys, number_in, switch_in, way_in}
 use Rattle.tk_params.proofs.Limits.{asked_within}
-
--- the look-ups of the other keys are the same
-abbrev LosesOnly : Key → Settings → Settings → Type 0
-LosesOnly key old new = (other : Key) → same_key key other ≡ false → look other new ≡ look other old
 
 -- the fields of parameters, as they are looked up: s1 to s4 are the settings after each of the four files
 pub record AreLookedUp (ss s0 s1 s2 s3 s4 : Settings) (p : ParamsAre) : Type 0 where

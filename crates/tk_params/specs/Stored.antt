@@ -1,5 +1,5 @@
 -- How settings and parameters are stored.
-use Rattle.std.specs.Prelude.{◌≡◌, List, option_map, map}
+use Rattle.std.specs.Prelude.{◌≡◌, false, List, option_map, map}
 use Rattle.std.specs.String.{string_bytes}
 use Rattle.indexmap.specs.IndexMap.{IndexMap}
 use Rattle.tk_params.specs.declared.key.Key.{Key}
@@ -7,7 +7,7 @@ use Rattle.tk_params.specs.declared.value.Setting.{Setting}
 use Rattle.tk_params.specs.declared.value.Setting.TheVariants as stored
 use Rattle.tk_params.specs.declared.params.Params.TheInside.{Inside as Fields}
 use Rattle.tk_params.specs.Asked.{AreSettings, ParamsAre, ignored_keys}
-use Rattle.tk_params.specs.Values.{Value, File, Number, Way, Switch, Ignored, Settings}
+use Rattle.tk_params.specs.Values.{Value, File, Number, Way, Switch, Ignored, Settings, look, same_key}
 
 -- what a stored setting says
 abbrev pub value_is : Setting → Value
@@ -23,6 +23,10 @@ entry_is e = (e.0, value_is e.1)
 -- the settings that a map holds
 abbrev pub settings_in : {S : Type 0} → IndexMap Key Setting S → Settings
 settings_in entries = map entry_is entries.entries
+
+-- the other keys say what they said
+abbrev pub LosesOnly : Key → Settings → Settings → Type 0
+LosesOnly key old new = (other : Key) → same_key key other ≡ false → look other new ≡ look other old
 
 -- stored settings have their limits, and the keys that are not used stand beside them
 pub record AreStored (settings : Settings) (unused : List Key) : Type 0 where

@@ -2,7 +2,7 @@
 ghost use Rattle.std.specs.Prelude.{◌≡◌, ◌++◌, ◌∷◌, [], false, OnErr, OnOk, option_map};
 ghost use Rattle.std.specs.String.{string_bytes};
 ghost use Rattle.tk_params.specs.Asked.{file_in, number_in, switch_in, way_in};
-ghost use Rattle.tk_params.specs.Stored.{settings_in, value_is};
+ghost use Rattle.tk_params.specs.Stored.{LosesOnly, settings_in, value_is};
 ghost use Rattle.tk_params.specs.Values;
 
 use crate::key::Key;
@@ -34,8 +34,7 @@ pub fn append(entries: &mut Entries, key: Key, setting: Setting) -> Result<(), A
 /// Takes out what a key says.
 fn take(entries: &mut Entries, key: Key) -> Option<Setting>
     ensures setting { option_map value_is result ≡ Values.look key (settings_in entries.old) }
-    ensures others { (other : Key) → Values.same_key key other ≡ false
-        → Values.look other (settings_in entries.new) ≡ Values.look other (settings_in entries.old) }
+    ensures others { LosesOnly key (settings_in entries.old) (settings_in entries.new) }
 {
     entries.swap_remove(&key)
 }
@@ -43,8 +42,7 @@ fn take(entries: &mut Entries, key: Key) -> Option<Setting>
 /// Takes out the file that a key names.
 pub fn take_file(entries: &mut Entries, key: Key) -> Option<String>
     ensures file { option_map string_bytes result ≡ file_in (Values.look key (settings_in entries.old)) }
-    ensures others { (other : Key) → Values.same_key key other ≡ false
-        → Values.look other (settings_in entries.new) ≡ Values.look other (settings_in entries.old) }
+    ensures others { LosesOnly key (settings_in entries.old) (settings_in entries.new) }
 {
     match take(entries, key) {
         Some(Setting::File(name)) => Some(name),

@@ -1,5 +1,5 @@
 //! What the lines of a parameter file have said so far.
-ghost use Rattle.std.specs.Prelude.{◌≡◌, ◌++◌, ◌∷◌, [], false, OnOk};
+ghost use Rattle.std.specs.Prelude.{◌≡◌, ◌++◌, ◌∷◌, [], false, OnErr, OnOk};
 ghost use Rattle.tk_params.specs.Asked.{AreSettings, IsSetting, ignored_keys};
 ghost use Rattle.tk_params.specs.Stored.{settings_in, value_is};
 ghost use Rattle.tk_params.specs.Values;
@@ -51,7 +51,8 @@ impl Settings {
     pub fn set(&mut self, key: Key, setting: Setting) -> Result<(), AllocError>
         requires fresh { Values.has key self.old ≡ false }
         requires limits { IsSetting key (value_is setting) }
-        ensures { OnOk result (self.new ≡ self.old ++ (key, value_is setting) ∷ []) }
+        ensures ok { OnOk result (self.new ≡ self.old ++ (key, value_is setting) ∷ []) }
+        ensures err { OnErr result (self.new ≡ self.old) }
     {
         if !setting.is_ignored() {
             append(&mut self.entries, key, setting)?;
