@@ -87,6 +87,8 @@ impl Key {
 
 /// The key as parameter files write it.
 impl fmt::Display for Key {
+    ghost output = { λ key. Some (Keys.word key) };
+
     fn fmt<W: fmt::Write>(&self, f: &mut fmt::Formatter<W>) -> fmt::Result {
         f.write_str(self.word())
     }
