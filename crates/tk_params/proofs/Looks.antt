@@ -1,9 +1,10 @@
 -- Looking up settings.
-use Rattle.std.proofs.Common.{◌≡◌, ◌∙◌, ◌++◌, ◌≤◌, ℕ, eqb, length, get_or, arith, Bool, true, false, Bor, List, [], ◌∷◌, Option, None, Some, cond, map, option_map, refl, sym, ap}
+use Rattle.std.proofs.Common.{◌≡◌, ◌∙◌, ◌++◌, ◌≤◌, ℕ, eqb, length, get_or, arith, Bool, true, false, Bor, List, [], ◌∷◌, Option, None, Some, cond, map, option_map, refl, sym, ap, subst}
 use Rattle.std.proofs.lemmas.Map.Made.{lookup-map_values}
 use Rattle.std.proofs.lemmas.List.{append-nil, map-append}
 use Rattle.std.proofs.lemmas.Bool.{cond-false, cond-true, eq-eqb, eqb-true, false_from_ne_true, le-ltb}
 use Rattle.std.specs.Prelude.{codes}
+use Rattle.std.proofs.lemmas.List.Elements.{All-nil, All-push}
 use Rattle.tk_words.specs.Words.{spells}
 use Rattle.std.proofs.lemmas.Str.{IsUtf8-from_is_utf8, is_utf8-from_IsUtf8}
 use Rattle.std.specs.Str.{IsUtf8, is_utf8}
@@ -12,11 +13,13 @@ use Rattle.indexmap.specs.IndexMap.{IndexMap, insert_entry}
 use Rattle.std.specs.Map.{lookup}
 use Rattle.std.specs.Option.{option_copied, is_some}
 use Rattle.tk_params.specs.declared.value.Setting.{Setting}
-use Rattle.tk_params.specs.Readers.{HasTaken, entry_is, value_is}
+use Rattle.tk_params.specs.Readers.{HasTaken}
+use Rattle.tk_params.specs.Stored.{AreStored, entry_is, value_is}
+use Rattle.tk_params.specs.Asked.{IsSetting, ignored_keys, is_ignored}
 use Rattle.tk_params.specs.contracts.key.KeyPartialEq.TheImpl.{eq-value}
 use Rattle.tk_params.specs.declared.key.Key.{Key}
 use Rattle.tk_params.specs.declared.key.Key.TheVariants as keys
-use Rattle.tk_params.specs.Values.{Value, File, Meaning, Nothing, ParamsAre, Settings, line_means, words_mean, file_of, has, has_dollar, ignored_keys, is_ignored, key_means, look, same_key, value_of}
+use Rattle.tk_params.specs.Values.{Value, File, Meaning, Nothing, Settings, line_means, words_mean, file_of, has, has_dollar, key_means, look, same_key, value_of}
 
 -- keys are equal where they have one place
 pub equal_keys : (a b : Key) → eq-value.it a b ≡ same_key a b
@@ -77,6 +80,47 @@ pub stored_last : {S : Type 0} (m : IndexMap Key Setting S) (key : Key) (setting
 stored_last m key setting absent =
     ap (map entry_is) (insert_entry-new eq-value.it m key setting (none_stored _ _ (equal_looks key m.entries) absent)) ∙ map-append entry_is m.entries ((key, setting) ∷ [])
 
+-- a look-up of another key, after one is taken out
+pub other_look : (m n : List (Key × Setting)) (key other : Key) → lookup (eq-value.it other) n ≡ cond (eq-value.it key other) None (lookup (eq-value.it other) m) → same_key key other ≡ false
+    → look other (map entry_is n) ≡ look other (map entry_is m)
+other_look m n key other e apart = sym (equal_looks other n) ∙ ap (option_map value_is) (e ∙ cond-false _ _ _ (equal_keys key other ∙ apart)) ∙ equal_looks other m
+
+-- ---- settings with one more
+
+ignored_append : (xs ys : Settings) → ignored_keys (xs ++ ys) ≡ ignored_keys xs ++ ignored_keys ys
+unfolding ignored_keys
+ignored_append [] ys = refl
+ignored_append (x ∷ xs) ys = ap (λ ks. cond (is_ignored x.1) (x.0 ∷ ks) ks) (ignored_append xs ys) ∙ by_test (is_ignored x.1)
+  where
+    by_test : (t : Bool) → cond t (x.0 ∷ (ignored_keys xs ++ ignored_keys ys)) (ignored_keys xs ++ ignored_keys ys) ≡ cond t (x.0 ∷ ignored_keys xs) (ignored_keys xs) ++ ignored_keys ys
+    by_test true = refl
+    by_test false = refl
+
+ignored_one : (key : Key) (v : Value) (t : Bool) → is_ignored v ≡ t → ignored_keys ((key, v) ∷ []) ≡ cond t (key ∷ []) []
+unfolding ignored_keys
+ignored_one key v t e = ap (λ (b : Bool). cond b (key ∷ []) []) e
+
+pub none_kept : AreStored [] []
+unfolding ignored_keys
+none_kept = record { limits = All-nil (λ (x : Key × Value). IsSetting x.0 x.1); ignored = refl }
+
+module _ (ss : Settings) (ks : List Key) (key : Key) (v : Value) (kept : AreStored ss ks) (limits : IsSetting key v) where
+  one_more : (t : Bool) → is_ignored v ≡ t → AreStored (ss ++ (key, v) ∷ []) (ks ++ cond t (key ∷ []) [])
+  one_more t e =
+      record {
+        limits = All-push (λ (x : Key × Value). IsSetting x.0 x.1) ss (key, v) kept.limits limits;
+        ignored =
+            ap (λ (xs : List Key). xs ++ cond t (key ∷ []) []) kept.ignored
+            ∙ ap (λ (xs : List Key). ignored_keys ss ++ xs) (sym (ignored_one key v t e))
+            ∙ sym (ignored_append ss ((key, v) ∷ []));
+      }
+
+  pub one_more_used : (new : Settings) → new ≡ ss ++ (key, v) ∷ [] → is_ignored v ≡ false → AreStored new ks
+  one_more_used new n e = rw n (subst (λ (xs : List Key). AreStored (ss ++ (key, v) ∷ []) xs) (append-nil ks) (one_more false e))
+
+  pub one_more_ignored : (new : Settings) (more : List Key) → new ≡ ss ++ (key, v) ∷ [] → more ≡ ks ++ key ∷ [] → is_ignored v ≡ true → AreStored new more
+  one_more_ignored new more n m e = rw (n, m) (one_more true e)
+
 -- ---- file names
 
 pub file_none : (bs : List ℕ) → (IsUtf8 bs → ⊥) → file_of bs ≡ None
@@ -89,23 +133,14 @@ file_some (b ∷ bs) h u = let e : is_utf8 (b ∷ bs) ≡ true = is_utf8-from_Is
 
 -- ---- a key is taken
 
-ignored_one : (key : Key) (v : Value) (old new : List Key) → new ≡ cond (is_ignored v) (old ++ key ∷ []) old → new ≡ old ++ ignored_keys ((key, v) ∷ [])
-unfolding ignored_keys
-ignored_one key v old new h = by_test (is_ignored v) h
-  where
-    by_test : (t : Bool) → new ≡ cond t (old ++ key ∷ []) old → new ≡ old ++ cond t (key ∷ []) []
-    by_test true k = k
-    by_test false k = k ∙ sym (append-nil old)
-
-pub taken_key : (old new : ParamsAre) (key : Key) (bs : List ℕ) (v : Value) → has key old.settings ≡ false → has_dollar key bs ≡ false → value_of key bs ≡ Some v
-    → new.settings ≡ old.settings ++ (key, v) ∷ [] → new.ignored ≡ cond (is_ignored v) (old.ignored ++ key ∷ []) old.ignored → HasTaken old new (key_means old.settings key bs)
-taken_key old new key bs v h d e s i = rw (h, d, e) (record { sound = tt; settings = s; ignored = ignored_one key v old.ignored new.ignored i })
+pub taken_key : (old new : Settings) (key : Key) (bs : List ℕ) (v : Value) → has key old ≡ false → has_dollar key bs ≡ false → value_of key bs ≡ Some v → new ≡ old ++ (key, v) ∷ []
+    → HasTaken old new (key_means old key bs)
+taken_key old new key bs v h d e s = rw (h, d, e) (record { sound = tt; settings = s })
 
 -- ---- lines that say nothing
 
-pub nothing_taken : (p : ParamsAre) (m : Meaning) → m ≡ Nothing → HasTaken p p m
-unfolding ignored_keys
-nothing_taken p m e = rw e (record { sound = tt; settings = sym (append-nil p.settings); ignored = sym (append-nil p.ignored) })
+pub nothing_taken : (old : Settings) (m : Meaning) → m ≡ Nothing → HasTaken old old m
+nothing_taken old m e = rw e (record { sound = tt; settings = sym (append-nil old) })
 
 pub comment_means : (before : Settings) (word rest : List ℕ) → length word ≤ 64 → spells word (codes "COMMENT") ≡ true → words_mean before word rest ≡ Nothing
 unfolding words_mean

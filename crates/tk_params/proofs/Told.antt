@@ -12,7 +12,8 @@ use Rattle.tk_params.specs.declared.fault.ParamFault.{ParamFault}
 use Rattle.tk_params.specs.declared.fault.ParamKind.{ParamKind}
 use Rattle.tk_params.specs.declared.fault.ParamKind.TheVariants as kinds
 use Rattle.tk_params.specs.declared.key.Key.{Key}
-use Rattle.tk_params.specs.declared.key.Key.TheVariants as keys
+use Rattle.std.specs.Option.{ok_or}
+use Rattle.tk_params.specs.Asked.{ParamsAre, asked}
 use Rattle.tk_params.specs.Keys.{key_of}
 use Rattle.tk_params.specs.Values.{Settings, Value, Meaning, Nothing, Faulty, Sets, has, has_dollar, key_means, line_means, sets, settings_of, value_behind, value_of, word_means, words_mean}
 use Rattle.tk_params.specs.Params.{Answer, IsParamAnswerWhereTold, IsParamTold, IsParamToldKind, after, at_end, counted, is_end, line_limit, joined, judge, kind_of, params_decided, params_limit, said}
@@ -68,7 +69,11 @@ line_of_text before (b ∷ bs) =
     two_tests (eqb b 35) (not (is_letter b)) Nothing (Faulty kinds.UnknownKey) (words_mean before word rest) tt tt (words_of_text before word rest)
 
 end_of_text : (n : ℕ) (before : Settings) → OfAnswer (Some (at_end n before))
-end_of_text n before = cond_both (has keys.ProblemFile before) _ _ (λ a. OfAnswer (Some a)) (λ e. tt) (λ e. tt)
+end_of_text n before = missing (asked before)
+  where
+    missing : (a : Option ParamsAre) → OfAnswer (Some (ok_or a (record { line = n; kind = kinds.MissingProblem })))
+    missing None = tt
+    missing (Some p) = tt
 
 after_of_text : (n : ℕ) (m : Meaning) (r : Option Answer) → OfMeaning m → OfAnswer r → OfAnswer (after n m r)
 after_of_text n Nothing r h k = k

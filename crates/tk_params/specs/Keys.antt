@@ -1,40 +1,53 @@
 -- The keys of parameter files (K. Helsgaun, LKH user guide; "own" in docs/FORMATS.md where they are this project's).
-use Rattle.std.specs.Prelude.{ℕ, Bool, true, false, List, Option, Some, None, if◌then◌else◌, codes}
+use Rattle.std.specs.Prelude.{ℕ, Bool, true, false, List, [], ◌∷◌, Option, codes, find}
 use Rattle.tk_words.specs.Words.{spells}
 use Rattle.tk_params.specs.declared.key.Key.{Key}
 use Rattle.tk_params.specs.declared.key.Key.TheVariants as keys
 
--- the key that is read and not used, which the bytes spell
-unfoldable pub ignored_key : List ℕ → Option Key
-ignored_key bs =
-    if spells bs (codes "MOVE_TYPE") then Some keys.MoveType
-    else (if spells bs (codes "PATCHING_A") then Some keys.PatchingA
-    else (if spells bs (codes "PATCHING_C") then Some keys.PatchingC
-    else (if spells bs (codes "PRECISION") then Some keys.Precision
-    else (if spells bs (codes "TRACE_LEVEL") then Some keys.TraceLevel
-    else (if spells bs (codes "OPTIMUM") then Some keys.Optimum
-    else None)))))
+-- the word of a key
+abbrev pub word : Key → List ℕ
+word keys.ProblemFile = codes "PROBLEM_FILE"
+word keys.TourFile = codes "TOUR_FILE"
+word keys.SolutionFile = codes "SOLUTION_FILE"
+word keys.InitialTourFile = codes "INITIAL_TOUR_FILE"
+word keys.Runs = codes "RUNS"
+word keys.MaxTrials = codes "MAX_TRIALS"
+word keys.Seed = codes "SEED"
+word keys.MaxCandidates = codes "MAX_CANDIDATES"
+word keys.Construction = codes "CONSTRUCTION"
+word keys.FinalSweep = codes "FINAL_SWEEP"
+word keys.OrSegment = codes "OR_SEGMENT"
+word keys.MoveType = codes "MOVE_TYPE"
+word keys.PatchingA = codes "PATCHING_A"
+word keys.PatchingC = codes "PATCHING_C"
+word keys.Precision = codes "PRECISION"
+word keys.TraceLevel = codes "TRACE_LEVEL"
+word keys.Optimum = codes "OPTIMUM"
 
--- the key of a number or of a choice, or one that is not used
-unfoldable pub other_key : List ℕ → Option Key
-other_key bs =
-    if spells bs (codes "RUNS") then Some keys.Runs
-    else (if spells bs (codes "MAX_TRIALS") then Some keys.MaxTrials
-    else (if spells bs (codes "SEED") then Some keys.Seed
-    else (if spells bs (codes "MAX_CANDIDATES") then Some keys.MaxCandidates
-    else (if spells bs (codes "CONSTRUCTION") then Some keys.Construction
-    else (if spells bs (codes "FINAL_SWEEP") then Some keys.FinalSweep
-    else (if spells bs (codes "OR_SEGMENT") then Some keys.OrSegment
-    else ignored_key bs))))))
+abbrev pub all_keys : List Key
+all_keys =
+    keys.ProblemFile
+    ∷ keys.TourFile
+    ∷ keys.SolutionFile
+    ∷ keys.InitialTourFile
+    ∷ keys.Runs
+    ∷ keys.MaxTrials
+    ∷ keys.Seed
+    ∷ keys.MaxCandidates
+    ∷ keys.Construction
+    ∷ keys.FinalSweep
+    ∷ keys.OrSegment
+    ∷ keys.MoveType
+    ∷ keys.PatchingA
+    ∷ keys.PatchingC
+    ∷ keys.Precision
+    ∷ keys.TraceLevel
+    ∷ keys.Optimum
+    ∷ []
 
 -- the key that the bytes spell, without regard to case
 unfoldable pub key_of : List ℕ → Option Key
-key_of bs =
-    if spells bs (codes "PROBLEM_FILE") then Some keys.ProblemFile
-    else (if spells bs (codes "TOUR_FILE") then Some keys.TourFile
-    else (if spells bs (codes "SOLUTION_FILE") then Some keys.SolutionFile
-    else (if spells bs (codes "INITIAL_TOUR_FILE") then Some keys.InitialTourFile
-    else other_key bs)))
+key_of bs = find (λ key. spells bs (word key)) all_keys
 
 -- a place for each key
 abbrev pub code : Key → ℕ

@@ -1,5 +1,8 @@
+pub mod Asked
 pub mod Keys
+pub mod ParamExamples
 pub mod Params
 pub mod Readers
 pub mod Reading
+pub mod Stored
 pub mod Values

@@ -1,5 +1,6 @@
 -- Parameter texts (K. Helsgaun, LKH user guide; the limits and the keys are this project's).
 use Rattle.std.specs.Prelude.{◌≡◌, ◌≢◌, ℕ, ◌-◌, Bool, not, ◌&&◌, ◌||◌, nat_lt, List, [], ◌∷◌, ◌++◌, length, Option, Some, None, Result, Ok, Err, IfSome, if◌then◌else◌, codes}
+use Rattle.std.specs.Option.{ok_or}
 use Rattle.tk_words.specs.declared.fault.TextFault.{TextFault}
 use Rattle.tk_words.specs.declared.fault.TextKind.{TextKind}
 use Rattle.tk_words.specs.declared.fault.TextKind.TheVariants as text
@@ -9,8 +10,8 @@ use Rattle.tk_words.specs.Words.{spells}
 use Rattle.tk_params.specs.declared.fault.ParamFault.{ParamFault}
 use Rattle.tk_params.specs.declared.fault.ParamKind.{ParamKind}
 use Rattle.tk_params.specs.declared.fault.ParamKind.TheVariants as kinds
-use Rattle.tk_params.specs.declared.key.Key.TheVariants as keys
-use Rattle.tk_params.specs.Values.{Settings, ParamsAre, params_of, Meaning, Faulty, settings_of, has, line_means}
+use Rattle.tk_params.specs.Asked.{ParamsAre, asked}
+use Rattle.tk_params.specs.Values.{Settings, Meaning, Faulty, settings_of, line_means}
 
 abbrev pub line_limit : ℕ
 line_limit = 4096
@@ -42,7 +43,7 @@ abbrev pub counted : Line → ℕ
 counted l = length l.bytes - (if is_end l then length (behind_word l.bytes) else 0)
 
 abbrev pub at_end : ℕ → Settings → Answer
-at_end n before = if has keys.ProblemFile before then Ok (params_of before) else Err (record { line = n; kind = kinds.MissingProblem })
+at_end n before = ok_or (asked before) (record { line = n; kind = kinds.MissingProblem })
 
 abbrev pub after : ℕ → Meaning → Option Answer → Option Answer
 after n (Faulty kind) rest = Some (Err (record { line = n; kind = kind }))

@@ -1,5 +1,5 @@
 -- A parameter reader's place in a text.
-use Rattle.std.specs.Prelude.{◌≡◌, ◌≤◌, ℕ, Bool, false, not, ◌&&◌, List, ◌++◌, length, Option, Some, None, Result, Ok, Err}
+use Rattle.std.specs.Prelude.{◌≡◌, ◌≤◌, ℕ, Bool, false, not, ◌&&◌, List, ◌++◌, length, Option, Some, None, Result, Err}
 use Rattle.tk_words.specs.declared.drive.Step.{Step}
 use Rattle.tk_words.specs.declared.drive.Step.TheVariants as steps
 use Rattle.tk_words.specs.declared.fault.TextFault.{TextFault}
@@ -10,19 +10,16 @@ use Rattle.tk_params.specs.declared.fault.ParamFault.{ParamFault}
 use Rattle.tk_params.specs.declared.fault.ParamKind.{ParamKind}
 use Rattle.tk_params.specs.declared.reader.ParamReader.{ParamReader}
 use Rattle.tk_params.specs.Readers.{HasTaken}
-use Rattle.tk_params.specs.Values.{Settings, ParamsAre, Faulty, ignored_keys, line_means}
-use Rattle.tk_params.specs.Params.{Answer, line_limit, is_eof, word_of, behind_word, judge, said, params_decided}
+use Rattle.tk_params.specs.Values.{Settings, Faulty, line_means}
+use Rattle.tk_params.specs.Params.{Answer, at_end, line_limit, is_eof, word_of, behind_word, judge, said, params_decided}
 
-abbrev pub answer_with : Option ParamFault → ParamsAre → Answer
-answer_with None p = Ok p
-answer_with (Some f) p = Err f
+abbrev pub answer_with : Option ParamFault → ℕ → Settings → Answer
+answer_with None n before = at_end n before
+answer_with (Some f) n before = Err f
 
 -- what a reader answers
 abbrev pub answer_in : ParamReader → Answer
-answer_in s = answer_with s.fault s.params
-
-abbrev pub IsKept : ParamsAre → Type 0
-IsKept p = p.ignored ≡ ignored_keys p.settings
+answer_in s = answer_with s.fault s.line s.settings
 
 -- EOF stands at the front, and something behind it
 abbrev pub ends_in : List ℕ → Bool
@@ -37,22 +34,21 @@ pub record Feeds (s : ParamReader) (bs : List ℕ) : Type 0 where
   pub pre : List ℕ
   pub line : s.line ≡ line_behind bs
   pub fault : s.fault ≡ None
-  pub kept : IsKept s.params
   pub count : s.count ≡ length pre
   pub short : length pre ≤ line_limit
   pub held : s.held.items ≡ behind is_blank pre
   pub going : ends_in pre ≡ false
-  pub same : (ended : Bool) (more : List ℕ) → params_decided ended (bs ++ more) ≡ from_line s.line s.params.settings pre ended more
+  pub same : (ended : Bool) (more : List ℕ) → params_decided ended (bs ++ more) ≡ from_line s.line s.settings pre ended more
 
 -- the line at hand has a fault
 pub record IsStopped (old new : ParamReader) : Type 0 where
   pub kind : ParamKind
-  pub means : line_means old.params.settings old.held.items ≡ Faulty kind
+  pub means : line_means old.settings old.held.items ≡ Faulty kind
   pub answer : answer_in new ≡ Err (record { line = old.line; kind = kind })
 
 -- the line at hand is taken
 pub record IsTaken (old new : ParamReader) : Type 0 where
-  pub taken : HasTaken old.params new.params (line_means old.params.settings old.held.items)
+  pub taken : HasTaken old.settings new.settings (line_means old.settings old.held.items)
   pub line : new.line ≡ old.line
   pub fault : new.fault ≡ old.fault
 

@@ -36,31 +36,28 @@ look key ss = lookup (same_key key) ss
 abbrev pub has : Key → Settings → Bool
 has key ss = is_some (look key ss)
 
-abbrev pub is_ignored : Value → Bool
-is_ignored Ignored = true
-is_ignored _ = false
-
--- the keys that are read and not used
-unfoldable pub ignored_keys : Settings → List Key
-ignored_keys [] = []
-ignored_keys (s ∷ ss) = let rest = ignored_keys ss in if is_ignored s.1 then s.0 ∷ rest else rest
-
--- what a parameter file says: each key, and those that are not used
-pub record ParamsAre : Type 0 where
-  pub settings : Settings
-  pub ignored : List Key
-
-abbrev pub no_params : ParamsAre
-no_params = record { settings = []; ignored = [] }
-
-abbrev pub params_of : Settings → ParamsAre
-params_of ss = record { settings = ss; ignored = ignored_keys ss }
-
 -- ---- values
 
+-- the limits of a key's number
+abbrev pub least : Key → ℕ
+least keys.Seed = 0
+least _ = 1
+
+abbrev pub greatest : Key → ℕ
+greatest keys.Runs = 10000
+greatest keys.MaxTrials = 1000000
+greatest keys.Seed = 4294967295
+greatest keys.MaxCandidates = 100
+greatest keys.OrSegment = 3
+greatest _ = 0
+
 -- an integer within limits
-abbrev pub number_of : ℕ → ℕ → List ℕ → Option ℕ
-number_of low high bs = if in_range low high (integer bs) then Some (natural_or_zero (integer bs)) else None
+abbrev pub number_within : ℕ → ℕ → List ℕ → Option ℕ
+number_within low high bs = if in_range low high (integer bs) then Some (natural_or_zero (integer bs)) else None
+
+-- a number that a key may have
+abbrev pub number_of : Key → List ℕ → Option Value
+number_of key bs = option_map Number (number_within (least key) (greatest key) bs)
 
 abbrev pub construction_of : List ℕ → Option Construction
 construction_of bs = if spells bs (codes "NEAREST") then Some Nearest else (if spells bs (codes "SAVINGS") then Some Savings else None)
@@ -74,11 +71,11 @@ file_of bs = if is_empty bs || not (is_utf8 bs) then None else Some (File bs)
 
 -- what a key with this value says
 abbrev pub value_of : Key → List ℕ → Option Value
-value_of keys.Runs bs = option_map Number (number_of 1 10000 bs)
-value_of keys.MaxTrials bs = option_map Number (number_of 1 1000000 bs)
-value_of keys.Seed bs = option_map Number (number_of 0 4294967295 bs)
-value_of keys.MaxCandidates bs = option_map Number (number_of 1 100 bs)
-value_of keys.OrSegment bs = option_map Number (number_of 1 3 bs)
+value_of keys.Runs bs = number_of keys.Runs bs
+value_of keys.MaxTrials bs = number_of keys.MaxTrials bs
+value_of keys.Seed bs = number_of keys.Seed bs
+value_of keys.MaxCandidates bs = number_of keys.MaxCandidates bs
+value_of keys.OrSegment bs = number_of keys.OrSegment bs
 value_of keys.Construction bs = option_map Way (construction_of bs)
 value_of keys.FinalSweep bs = option_map Switch (switch_of bs)
 value_of keys.MoveType bs = Some Ignored

@@ -1,5 +1,5 @@
 //! The keys of parameter files.
-ghost use Rattle.std.specs.Prelude.{◌≡◌};
+ghost use Rattle.std.specs.Prelude.{◌≡◌, Some};
 ghost use Rattle.tk_params.specs.Keys;
 
 use std::fmt;
@@ -27,22 +27,33 @@ pub enum Key {
     Optimum,
 }
 
+/// The keys, in the order of the enum.
+const KEYS: [Key; 17] = [
+    Key::ProblemFile,
+    Key::TourFile,
+    Key::SolutionFile,
+    Key::InitialTourFile,
+    Key::Runs,
+    Key::MaxTrials,
+    Key::Seed,
+    Key::MaxCandidates,
+    Key::Construction,
+    Key::FinalSweep,
+    Key::OrSegment,
+    Key::MoveType,
+    Key::PatchingA,
+    Key::PatchingC,
+    Key::Precision,
+    Key::TraceLevel,
+    Key::Optimum,
+];
+
 impl Key {
-    /// Whether the key's value is a file name.
-    pub fn is_file(self) -> bool
-        ensures { result ≡ Keys.is_file self }
+    /// The word of the key, in capitals.
+    pub fn word(self) -> &'static str
+        ensures { result.now ≡ Keys.word self }
     {
         match self {
-            Key::ProblemFile | Key::TourFile | Key::SolutionFile | Key::InitialTourFile => true,
-            _ => false,
-        }
-    }
-}
-
-/// The key as parameter files write it.
-impl fmt::Display for Key {
-    fn fmt<W: fmt::Write>(&self, f: &mut fmt::Formatter<W>) -> fmt::Result {
-        f.write_str(match self {
             Key::ProblemFile => "PROBLEM_FILE",
             Key::TourFile => "TOUR_FILE",
             Key::SolutionFile => "SOLUTION_FILE",
@@ -60,81 +71,40 @@ impl fmt::Display for Key {
             Key::Precision => "PRECISION",
             Key::TraceLevel => "TRACE_LEVEL",
             Key::Optimum => "OPTIMUM",
-        })
+        }
+    }
+
+    /// Whether the key's value is a file name.
+    pub fn is_file(self) -> bool
+        ensures { result ≡ Keys.is_file self }
+    {
+        match self {
+            Key::ProblemFile | Key::TourFile | Key::SolutionFile | Key::InitialTourFile => true,
+            _ => false,
+        }
     }
 }
 
-/// The key that is read and not used, which a word spells.
-#[tactic(auto, unfolding(crate::specs::Keys::ignored_key))]
-fn ignored_key(word: &[u8]) -> Option<Key>
-    ensures { result ≡ Keys.ignored_key word.now }
-{
-    if spelled(word, b"MOVE_TYPE") {
-        return Some(Key::MoveType);
+/// The key as parameter files write it.
+impl fmt::Display for Key {
+    ghost output = { λ key. Some (Keys.word key) };
+
+    fn fmt<W: fmt::Write>(&self, f: &mut fmt::Formatter<W>) -> fmt::Result {
+        f.write_str(self.word())
     }
-    if spelled(word, b"PATCHING_A") {
-        return Some(Key::PatchingA);
-    }
-    if spelled(word, b"PATCHING_C") {
-        return Some(Key::PatchingC);
-    }
-    if spelled(word, b"PRECISION") {
-        return Some(Key::Precision);
-    }
-    if spelled(word, b"TRACE_LEVEL") {
-        return Some(Key::TraceLevel);
-    }
-    if spelled(word, b"OPTIMUM") {
-        return Some(Key::Optimum);
-    }
-    None
 }
 
-/// The key of a number or of a choice that a word spells, or one that is not used.
-#[tactic(auto, unfolding(crate::specs::Keys::other_key))]
-fn other_key(word: &[u8]) -> Option<Key>
-    ensures { result ≡ Keys.other_key word.now }
-{
-    if spelled(word, b"RUNS") {
-        return Some(Key::Runs);
-    }
-    if spelled(word, b"MAX_TRIALS") {
-        return Some(Key::MaxTrials);
-    }
-    if spelled(word, b"SEED") {
-        return Some(Key::Seed);
-    }
-    if spelled(word, b"MAX_CANDIDATES") {
-        return Some(Key::MaxCandidates);
-    }
-    if spelled(word, b"CONSTRUCTION") {
-        return Some(Key::Construction);
-    }
-    if spelled(word, b"FINAL_SWEEP") {
-        return Some(Key::FinalSweep);
-    }
-    if spelled(word, b"OR_SEGMENT") {
-        return Some(Key::OrSegment);
-    }
-    ignored_key(word)
-}
+/// A law: the word of a key spells that key.
+pub fn each_word_spells_its_key()
+    ensures { (key : Key) → Keys.key_of (Keys.word key) ≡ Some key }
+{}
 
 /// The key that a word spells, without regard to case.
 #[tactic(auto, unfolding(crate::specs::Keys::key_of))]
 pub fn key_of(word: &[u8]) -> Option<Key>
     ensures { result ≡ Keys.key_of word.now }
 {
-    if spelled(word, b"PROBLEM_FILE") {
-        return Some(Key::ProblemFile);
-    }
-    if spelled(word, b"TOUR_FILE") {
-        return Some(Key::TourFile);
-    }
-    if spelled(word, b"SOLUTION_FILE") {
-        return Some(Key::SolutionFile);
-    }
-    if spelled(word, b"INITIAL_TOUR_FILE") {
-        return Some(Key::InitialTourFile);
-    }
-    other_key(word)
+    KEYS.iter()
+        .copied()
+        .find(|key| spelled(word, key.word().as_bytes()))
 }

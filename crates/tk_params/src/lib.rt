@@ -1,17 +1,21 @@
 //! Parameter files: the settings of a search, read from any source, with the faults of the text and their lines.
 #![tactic(auto)]
 
+mod entries;
+#[cfg(test)]
+mod examples;
 mod fault;
 mod key;
 mod line;
 mod params;
 mod reader;
+mod settings;
 #[cfg(test)]
 mod tests;
 mod value;
 
 pub use fault::{ParamFault, ParamKind};
-pub use key::Key;
+pub use key::{Key, each_word_spells_its_key};
 pub use params::Params;
 pub use reader::read_params;
 pub use value::Construction;

@@ -6,7 +6,7 @@ ghost use Rattle.tk_params.specs.Values;
 
 use crate::fault::ParamKind;
 use crate::key::{Key, key_of};
-use crate::params::Params;
+use crate::settings::Settings;
 use crate::value::setting_of;
 use std::alloc::Global;
 use tk_words::{blank, letter, spelled, word_byte};
@@ -69,18 +69,18 @@ fn has_dollar(key: Key, value: &[u8]) -> bool
 }
 
 /// Takes a key and its value.
-fn take_key(alloc: Global, params: &mut Params, key: Key, value: &[u8]) -> Result<(), ParamKind>
-    ensures ok { OnOk result (HasTaken params.old params.new (Values.key_means params.old.settings key value.now)) }
-    ensures err { IfErr result (IsToldOf (λ k. Values.key_means params.old.settings key value.now ≡ Values.Faulty k)) }
+fn take_key(alloc: Global, settings: &mut Settings, key: Key, value: &[u8]) -> Result<(), ParamKind>
+    ensures ok { OnOk result (HasTaken settings.old settings.new (Values.key_means settings.old key value.now)) }
+    ensures err { IfErr result (IsToldOf (λ k. Values.key_means settings.old key value.now ≡ Values.Faulty k)) }
 {
-    if params.has(key) {
+    if settings.has(key) {
         return Err(ParamKind::RepeatedKey);
     }
     if has_dollar(key, value) {
         return Err(ParamKind::DollarInName);
     }
     let setting = setting_of(alloc, key, value)?;
-    match params.set(key, setting) {
+    match settings.set(key, setting) {
         Ok(()) => Ok(()),
         Err(_) => Err(ParamKind::NoMemory),
     }
@@ -88,9 +88,14 @@ fn take_key(alloc: Global, params: &mut Params, key: Key, value: &[u8]) -> Resul
 
 /// Takes a line that begins with this word.
 #[tactic(auto, unfolding(crate::specs::Values::words_mean))]
-fn take_words(alloc: Global, params: &mut Params, word: &[u8], rest: &[u8]) -> Result<(), ParamKind>
-    ensures ok { OnOk result (HasTaken params.old params.new (Values.words_mean params.old.settings word.now rest.now)) }
-    ensures err { IfErr result (IsToldOf (λ k. Values.words_mean params.old.settings word.now rest.now
+fn take_words(
+    alloc: Global,
+    settings: &mut Settings,
+    word: &[u8],
+    rest: &[u8],
+) -> Result<(), ParamKind>
+    ensures ok { OnOk result (HasTaken settings.old settings.new (Values.words_mean settings.old word.now rest.now)) }
+    ensures err { IfErr result (IsToldOf (λ k. Values.words_mean settings.old word.now rest.now
         ≡ Values.Faulty k)) }
 {
     if word.len() > KEY_LIMIT {
@@ -102,14 +107,14 @@ fn take_words(alloc: Global, params: &mut Params, word: &[u8], rest: &[u8]) -> R
     let Some(key) = key_of(word) else {
         return Err(ParamKind::UnknownKey);
     };
-    take_key(alloc, params, key, value_behind(rest))
+    take_key(alloc, settings, key, value_behind(rest))
 }
 
 /// Takes a line that is not the one of EOF, without the blanks at its front.
 #[tactic(auto, unfolding(crate::specs::Values::line_means))]
-pub fn take_line(alloc: Global, params: &mut Params, line: &[u8]) -> Result<(), ParamKind>
-    ensures ok { OnOk result (HasTaken params.old params.new (Values.line_means params.old.settings line.now)) }
-    ensures err { IfErr result (IsToldOf (λ k. Values.line_means params.old.settings line.now ≡ Values.Faulty k)) }
+pub fn take_line(alloc: Global, settings: &mut Settings, line: &[u8]) -> Result<(), ParamKind>
+    ensures ok { OnOk result (HasTaken settings.old settings.new (Values.line_means settings.old line.now)) }
+    ensures err { IfErr result (IsToldOf (λ k. Values.line_means settings.old line.now ≡ Values.Faulty k)) }
 {
     if line.is_empty() {
         return Ok(());
@@ -121,5 +126,5 @@ pub fn take_line(alloc: Global, params: &mut Params, line: &[u8]) -> Result<(), 
         return Err(ParamKind::UnknownKey);
     }
     let end = word_end(line);
-    take_words(alloc, params, &line[..end], &line[end..])
+    take_words(alloc, settings, &line[..end], &line[end..])
 }

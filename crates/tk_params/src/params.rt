@@ -1,146 +1,150 @@
-//! What a parameter file says.
-ghost use Rattle.std.specs.Prelude.{◌≡◌, ◌++◌, ◌∷◌, [], false, Option, Some, None, OnOk, map, option_map, unwrap_or, if◌then◌else◌};
-ghost use Rattle.tk_params.specs.Readers.{entry_is, file_in, number_in, switch_in, value_is, way_in};
-ghost use Rattle.tk_params.specs.Values;
-ghost use Rattle.tk_params.specs.declared.value.Construction.TheVariants as ways;
+//! What a parameter file asks for.
+ghost use Rattle.std.specs.Prelude.{◌≡◌, IfSome, option_map};
+ghost use Rattle.tk_params.specs.Asked.{IsFileName, IsWithin, asked};
 
+use crate::entries::{number, switch, take_file, way};
 use crate::key::Key;
-use crate::value::{Construction, Setting};
-use indexmap::IndexMap;
-use std::alloc::{AllocError, Global};
+use crate::settings::Settings;
+use crate::value::Construction;
 use std::marker::Model;
 
-/// What a parameter file says. A key that it does not have has its default.
+/// What a parameter file asks for, with the defaults of the keys that it does not have. Each number is within the
+/// limits of its key, and no file name is empty or has a `$`.
 #[derive(Drop)]
 pub struct Params {
-    // in the order of the file
-    settings: IndexMap<Key, Setting>,
+    problem_file: String,
+    tour_file: Option<String>,
+    solution_file: Option<String>,
+    initial_tour_file: Option<String>,
+    runs: u32,
+    max_trials: Option<u32>,
+    seed: u32,
+    max_candidates: u32,
+    construction: Construction,
+    final_sweep: bool,
+    or_segment: u32,
     ignored: Vec<Key>,
 }
 
 impl Model for Params {
-    ghost Value = { Values.ParamsAre };
+    ghost use Rattle.tk_params.specs.Asked.{AreWithinLimits, ParamsAre};
 
-    ghost view = { λ s. record { settings = map entry_is s.settings.entries; ignored = s.ignored.items } };
+    ghost Value = { ParamsAre };
+
+    ghost use Rattle.tk_params.specs.Stored.{params_in};
+
+    ghost view = { params_in };
+
+    ghost invariant = { λ s. AreWithinLimits (params_in s) };
 }
 
 impl Params {
-    /// No key.
-    pub(crate) fn new(alloc: Global) -> Self
-        ensures { result ≡ Values.no_params }
+    /// What the settings ask for; `None` where they do not name the problem's file.
+    pub(crate) fn from_settings(settings: Settings) -> Option<Params>
+        ensures { result ≡ asked settings }
     {
-        Params {
-            settings: IndexMap::new(alloc),
-            ignored: Vec::new(alloc),
-        }
-    }
-
-    /// Whether the key is there.
-    pub(crate) fn has(&self, key: Key) -> bool
-        ensures { result ≡ Values.has key self.now.settings }
-    {
-        self.stored(key).is_some()
-    }
-
-    /// Keeps what a new key says.
-    pub(crate) fn set(&mut self, key: Key, setting: Setting) -> Result<(), AllocError>
-        requires { Values.has key self.old.settings ≡ false }
-        ensures settings { OnOk result (self.new.settings ≡ self.old.settings ++ (key, value_is setting) ∷ []) }
-        ensures ignored { OnOk result (self.new.ignored
-            ≡ (if Values.is_ignored (value_is setting) then self.old.ignored ++ key ∷ [] else self.old.ignored)) }
-    {
-        let unused = setting.is_ignored();
-        match self.settings.insert(key, setting) {
-            Ok(_) => {}
-            Err(_) => return Err(AllocError),
-        }
-        if unused {
-            self.ignored.push(key)?;
-        }
-        Ok(())
+        let (mut entries, ignored) = settings.into_parts();
+        let problem_file = take_file(&mut entries, Key::ProblemFile)?;
+        Some(Params {
+            problem_file,
+            tour_file: take_file(&mut entries, Key::TourFile),
+            solution_file: take_file(&mut entries, Key::SolutionFile),
+            initial_tour_file: take_file(&mut entries, Key::InitialTourFile),
+            runs: number(&entries, Key::Runs).unwrap_or(10),
+            max_trials: number(&entries, Key::MaxTrials),
+            seed: number(&entries, Key::Seed).unwrap_or(1),
+            max_candidates: number(&entries, Key::MaxCandidates).unwrap_or(5),
+            construction: way(&entries, Key::Construction).unwrap_or(Construction::Nearest),
+            final_sweep: switch(&entries, Key::FinalSweep).unwrap_or(false),
+            or_segment: number(&entries, Key::OrSegment).unwrap_or(3),
+            ignored,
+        })
     }
 
     /// The problem's file.
     pub fn problem_file(&self) -> &str
-        ensures { result.now ≡ unwrap_or (file_in (Values.look Key.ProblemFile self.now.settings)) [] }
+        ensures value { result.now ≡ self.now.problem_file }
+        ensures name { IsFileName result.now }
     {
-        self.file(Key::ProblemFile).unwrap_or("")
+        &self.problem_file
     }
 
     /// The file to which the best tour is written; `None` for none.
     pub fn tour_file(&self) -> Option<&str>
-        ensures { option_map (λ s. s.now) result ≡ file_in (Values.look Key.TourFile self.now.settings) }
+        ensures value { option_map (λ s. s.now) result ≡ self.now.tour_file }
+        ensures name { IfSome result (λ s. IsFileName s.now) }
     {
-        self.file(Key::TourFile)
+        self.tour_file.as_deref()
     }
 
     /// The file to which the routes are written; `None` for none.
     pub fn solution_file(&self) -> Option<&str>
-        ensures { option_map (λ s. s.now) result ≡ file_in (Values.look Key.SolutionFile self.now.settings) }
+        ensures value { option_map (λ s. s.now) result ≡ self.now.solution_file }
+        ensures name { IfSome result (λ s. IsFileName s.now) }
     {
-        self.file(Key::SolutionFile)
+        self.solution_file.as_deref()
     }
 
     /// The file of the tour that each run begins with; `None` where a tour is constructed.
     pub fn initial_tour_file(&self) -> Option<&str>
-        ensures { option_map (λ s. s.now) result ≡ file_in (Values.look Key.InitialTourFile self.now.settings) }
+        ensures value { option_map (λ s. s.now) result ≡ self.now.initial_tour_file }
+        ensures name { IfSome result (λ s. IsFileName s.now) }
     {
-        self.file(Key::InitialTourFile)
+        self.initial_tour_file.as_deref()
     }
 
     /// How many runs there are, 1 to 10,000; 10 by default.
     pub fn runs(&self) -> u32
-        ensures { result ≡ unwrap_or (number_in (Values.look Key.Runs self.now.settings)) 10 }
+        ensures value { result ≡ self.now.runs }
+        ensures limits { IsWithin 1 10000 result }
     {
-        self.number(Key::Runs).unwrap_or(10)
+        self.runs
     }
 
     /// How many trials a run has, 1 to 1,000,000; `None`, the default, stands for as many as there are cities.
     pub fn max_trials(&self) -> Option<u32>
-        ensures { result ≡ number_in (Values.look Key.MaxTrials self.now.settings) }
+        ensures value { result ≡ self.now.max_trials }
+        ensures limits { IfSome result (IsWithin 1 1000000) }
     {
-        self.number(Key::MaxTrials)
+        self.max_trials
     }
 
     /// What the random numbers begin with; 1 by default.
     pub fn seed(&self) -> u32
-        ensures { result ≡ unwrap_or (number_in (Values.look Key.Seed self.now.settings)) 1 }
+        ensures value { result ≡ self.now.seed }
+        ensures limits { IsWithin 0 4294967295 result }
     {
-        self.number(Key::Seed).unwrap_or(1)
+        self.seed
     }
 
     /// How many near cities of each city are tried, 1 to 100; 5 by default.
     pub fn max_candidates(&self) -> u32
-        ensures { result ≡ unwrap_or (number_in (Values.look Key.MaxCandidates self.now.settings)) 5 }
+        ensures value { result ≡ self.now.max_candidates }
+        ensures limits { IsWithin 1 100 result }
     {
-        self.number(Key::MaxCandidates).unwrap_or(5)
+        self.max_candidates
     }
 
     /// How the tour is made that a run begins with; by nearest neighbours by default.
     pub fn construction(&self) -> Construction
-        ensures { result ≡ unwrap_or (way_in (Values.look Key.Construction self.now.settings)) ways.Nearest }
+        ensures { result ≡ self.now.construction }
     {
-        match self.stored(Key::Construction) {
-            Some(Setting::Construction(construction)) => *construction,
-            _ => Construction::Nearest,
-        }
+        self.construction
     }
 
     /// Whether each trial ends in a local optimum that all cities were tried for; no by default.
     pub fn final_sweep(&self) -> bool
-        ensures { result ≡ unwrap_or (switch_in (Values.look Key.FinalSweep self.now.settings)) false }
+        ensures { result ≡ self.now.final_sweep }
     {
-        match self.stored(Key::FinalSweep) {
-            Some(Setting::Switch(switch)) => *switch,
-            _ => false,
-        }
+        self.final_sweep
     }
 
     /// The most cities of a segment that is moved, 1 to 3; 3 by default.
     pub fn or_segment(&self) -> u32
-        ensures { result ≡ unwrap_or (number_in (Values.look Key.OrSegment self.now.settings)) 3 }
+        ensures value { result ≡ self.now.or_segment }
+        ensures limits { IsWithin 1 3 result }
     {
-        self.number(Key::OrSegment).unwrap_or(3)
+        self.or_segment
     }
 
     /// The keys that were read and are not used, in the order of the file.
@@ -148,29 +152,5 @@ impl Params {
         ensures { result.now ≡ self.now.ignored }
     {
         &self.ignored
-    }
-
-    fn stored(&self, key: Key) -> Option<&Setting>
-        ensures { option_map (λ s. value_is s.now) result ≡ Values.look key self.now.settings }
-    {
-        self.settings.get(&key)
-    }
-
-    fn file(&self, key: Key) -> Option<&str>
-        ensures { option_map (λ s. s.now) result ≡ file_in (Values.look key self.now.settings) }
-    {
-        match self.stored(key) {
-            Some(Setting::File(name)) => Some(name.as_str()),
-            _ => None,
-        }
-    }
-
-    fn number(&self, key: Key) -> Option<u32>
-        ensures { result ≡ number_in (Values.look key self.now.settings) }
-    {
-        match self.stored(key) {
-            Some(Setting::Number(number)) => Some(*number),
-            _ => None,
-        }
     }
 }

@@ -1,16 +1,16 @@
 //! Parameter files, read from a source.
-ghost use Rattle.std.specs.Prelude.{◌≡◌, ◌≢◌, ◌<◌, ◌^◌, ◌++◌, ◌∷◌, ℕ, List, [], length, true, false, None, Ok, Err, IfOk, IfErr, OnOk};
+ghost use Rattle.std.specs.Prelude.{◌≡◌, ◌≢◌, ◌<◌, ◌^◌, ◌++◌, ◌∷◌, ℕ, List, [], length, true, false, Ok, Err, IfOk, IfErr, OnOk};
 ghost use Rattle.tk_words.specs.Drive.{FedMore};
 ghost use Rattle.tk_words.specs.Lex.{behind, is_blank, is_word_byte};
 ghost use Rattle.tk_words.specs.declared.fault.TextKind.TheVariants as kinds;
-ghost use Rattle.tk_params.specs.Reading.{Feeds, IsKept, TakesLine, answer_in};
+ghost use Rattle.tk_params.specs.Reading.{Feeds, TakesLine, answer_in};
 ghost use Rattle.tk_params.specs.Params as Text;
 ghost use Rattle.tk_params.specs.Params.{IsParamAnswerWhereTold, IsParamIntact, IsParamTold, is_eof};
 
 use crate::fault::{ParamFault, ParamKind};
-use crate::key::Key;
 use crate::line::take_line;
 use crate::params::Params;
+use crate::settings::Settings;
 use std::alloc::{AllocError, Global};
 use tk_words::{
     Source, Step, TextFault, TextKind, TextReader, blank, read_text, spelled, word_byte,
@@ -30,7 +30,7 @@ pub struct ParamReader {
     line: u64,
     count: u32,
     held: Vec<u8>,
-    params: Params,
+    settings: Settings,
     fault: Option<ParamFault>,
 }
 
@@ -60,7 +60,7 @@ impl ParamReader {
             line: 1,
             count: 0,
             held: Vec::new(alloc),
-            params: Params::new(alloc),
+            settings: Settings::new(alloc),
             fault: None,
         }
     }
@@ -77,25 +77,12 @@ impl ParamReader {
         Step::Done
     }
 
-    /// Ends where no line follows.
-    fn end(&mut self) -> Step
-        requires going { self.old.fault ≡ None }
-        requires kept { IsKept self.old.params }
-        ensures step { result ≡ Step.Done }
-        ensures answer { answer_in self.new ≡ Text.at_end self.old.line self.old.params.settings }
-    {
-        if self.params.has(Key::ProblemFile) {
-            return Step::Done;
-        }
-        self.stop(ParamKind::MissingProblem)
-    }
-
     /// Takes the line at hand.
     fn take_held(&mut self) -> Result<Step, TextFault>
         ensures ok { IfOk result (TakesLine self.old self.new) }
         ensures err { IfErr result (λ f. f.kind ≡ kinds.NoMemory) }
     {
-        match take_line(self.alloc, &mut self.params, &self.held) {
+        match take_line(self.alloc, &mut self.settings, &self.held) {
             Ok(()) => Ok(Step::More),
             Err(ParamKind::NoMemory) => Err(self.no_memory()),
             Err(kind) => Ok(self.stop(kind)),
@@ -156,7 +143,10 @@ impl ParamReader {
     {
         match self.fault {
             Some(fault) => Err(fault),
-            None => Ok(self.params),
+            None => Params::from_settings(self.settings).ok_or(ParamFault {
+                line: self.line,
+                kind: ParamKind::MissingProblem,
+            }),
         }
     }
 }
@@ -182,7 +172,7 @@ impl TextReader for ParamReader {
 
     fn feed(&mut self, byte: u8) -> Result<Step, TextFault> {
         if !word_byte(byte) && spelled(&self.held, b"EOF") {
-            return Ok(self.end());
+            return Ok(Step::Done);
         }
         if byte == b'\n' {
             return self.end_line();
@@ -193,16 +183,10 @@ impl TextReader for ParamReader {
     fn finish(self) -> Result<Result<Params, ParamFault>, TextFault> {
         let mut reader = self;
         if spelled(&reader.held, b"EOF") {
-            reader.end();
             return Ok(reader.answer());
         }
-        match reader.take_held()? {
-            Step::Done => Ok(reader.answer()),
-            Step::More => {
-                reader.end();
-                Ok(reader.answer())
-            }
-        }
+        reader.take_held()?;
+        Ok(reader.answer())
     }
 
     fn value(self) -> Result<Params, ParamFault> {

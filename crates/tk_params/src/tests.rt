@@ -2,7 +2,7 @@
 ghost use Rattle.std.specs.Prelude.{None};
 
 use crate::fault::{ParamFault, ParamKind};
-use crate::key::Key;
+use crate::key::{Key, each_word_spells_its_key, key_of};
 use crate::params::Params;
 use crate::reader::read_params;
 use crate::value::Construction;
@@ -104,6 +104,15 @@ fn has_defaults(rt: HostRuntime) {
     assert!(rt; !params.final_sweep());
     assert_eq!(rt; params.or_segment(), 3);
     assert!(rt; params.ignored().is_empty());
+}
+
+#[test]
+fn shows_a_key_as_its_word(rt: HostRuntime) {
+    each_word_spells_its_key();
+    assert_eq!(rt; Key::PatchingA.word(), "PATCHING_A");
+    assert_eq!(rt; key_of(b"patching_a"), Some(Key::PatchingA));
+    let shown = format!(in rt.alloc(); "ignored {}", Key::MoveType).expect(&rt, "memory");
+    assert_eq!(rt; shown.as_str(), "ignored MOVE_TYPE");
 }
 
 #[test]

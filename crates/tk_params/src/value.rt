@@ -1,7 +1,9 @@
 //! The values of a parameter file's keys.
 ghost use Rattle.std.specs.Prelude.{◌≡◌, false, Some, None, IfOk, IfErr, option_map};
 ghost use Rattle.tk_params.specs.Keys;
-ghost use Rattle.tk_params.specs.Readers.{IsToldOf, value_is};
+ghost use Rattle.tk_params.specs.Asked.{is_ignored};
+ghost use Rattle.tk_params.specs.Readers.{IsToldOf};
+ghost use Rattle.tk_params.specs.Stored.{value_is};
 ghost use Rattle.tk_params.specs.Values;
 ghost use Rattle.tk_params.specs.declared.fault.ParamKind.TheVariants as kinds;
 
@@ -32,7 +34,7 @@ pub enum Setting {
 impl Setting {
     /// Whether the key is read and not used.
     pub fn is_ignored(&self) -> bool
-        ensures { result ≡ Values.is_ignored (value_is self.now) }
+        ensures { result ≡ is_ignored (value_is self.now) }
     {
         match self {
             Setting::Ignored => true,
@@ -43,7 +45,7 @@ impl Setting {
 
 /// The value as an integer within limits, with nothing after it.
 fn number_of(value: &[u8], low: u32, high: u32) -> Option<u32>
-    ensures { result ≡ Values.number_of low high value.now }
+    ensures { result ≡ Values.number_within low high value.now }
 {
     let number = u32::try_from(integer(value)?).ok()?;
     if number < low || number > high {
@@ -97,7 +99,7 @@ fn file_of(alloc: Global, value: &[u8]) -> Result<Setting, ParamKind>
 
 /// A number within limits.
 fn numeric(value: &[u8], low: u32, high: u32) -> Option<Setting>
-    ensures { option_map value_is result ≡ option_map Values.Number (Values.number_of low high value.now) }
+    ensures { option_map value_is result ≡ option_map Values.Number (Values.number_within low high value.now) }
 {
     Some(Setting::Number(number_of(value, low, high)?))
 }

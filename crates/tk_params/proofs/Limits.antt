@@ -1,0 +1,151 @@
+-- What settings have, and what they ask for, is within the limits of the keys.
+use Rattle.std.proofs.Common.{◌≡◌, ◌≢◌, ◌∙◌, ℕ, ◌≤◌, eqb, leb, get_or, arith, Bool, true, false, not, ◌&&◌, List, [], ◌∷◌, Option, None, Some, ℤ, pos, negsuc, cond, option_map, refl, sym, ap, subst}
+use Rattle.std.proofs.lemmas.Bool.{eqb-true, leb-true, and_parts}
+use Rattle.std.proofs.lemmas.List.Elements.{All-cons, All-head, All-nil, All-tail}
+use Rattle.std.specs.List.{All, list_any}
+use Rattle.std.specs.Option.{IfSome, unwrap_or}
+use Rattle.std.specs.Str.{is_utf8}
+use Rattle.tk_lines.proofs.Pieces.PieceLookups.{either_false}
+use Rattle.tk_words.specs.Entry.{in_range, natural_or_zero}
+use Rattle.tk_words.specs.Lex.{integer}
+use Rattle.tk_params.specs.declared.key.Key.{Key}
+use Rattle.tk_params.specs.declared.key.Key.TheVariants as keys
+use Rattle.tk_params.specs.declared.value.Construction.{Construction}
+use Rattle.tk_params.specs.Keys.{all_keys, code}
+use Rattle.tk_params.specs.Values.{File, Number, Way, Switch, Ignored, Settings, Value, construction_of, file_of, greatest, has_dollar, least, look, same_key, switch_of, value_of}
+use Rattle.tk_params.specs.Asked.{AreSettings, AreWithinLimits, IsFileName, IsSetting, IsWithin, asked_of, file_in, number_in}
+
+-- ---- a key's value
+
+not_dollar : (b : ℕ) → eqb b 36 ≡ false → b ≢ 36
+not_dollar b h e = let k : eqb 36 36 ≡ false = subst (λ c. eqb c 36 ≡ false) e h in absurd cc
+
+no_dollar : (bs : List ℕ) → list_any (λ b. eqb b 36) bs ≡ false → All (λ b. b ≢ 36) bs
+no_dollar [] h = All-nil (λ b. b ≢ 36)
+no_dollar (b ∷ bs) h = let k = either_false (eqb b 36) _ h in All-cons (λ c. c ≢ 36) b bs (not_dollar b k.0) (no_dollar bs k.1)
+
+file_setting : (key : Key) (bs : List ℕ) (v : Value) → file_of bs ≡ Some v → list_any (λ b. eqb b 36) bs ≡ false → IsSetting key v
+file_setting key [] v e h = absurd cc
+file_setting key (b ∷ bs) v e h = by_test (is_utf8 (b ∷ bs)) e
+  where
+    by_test : (t : Bool) → cond (not t) None (Some (File (b ∷ bs))) ≡ Some v → IsSetting key v
+    by_test true f = let is : File (b ∷ bs) ≡ v = cc in subst (IsSetting key) is (record { some = λ n. absurd cc; no_dollar = no_dollar (b ∷ bs) h })
+    by_test false f = absurd cc
+
+within : (key : Key) (o : Option ℤ) (v : Value) → option_map Number (cond (in_range (least key) (greatest key) o) (Some (natural_or_zero o)) None) ≡ Some v → IsSetting key v
+within key None v e = absurd cc
+within key (Some (negsuc n)) v e = absurd cc
+within key (Some (pos n)) v e = by_test (leb (least key) n && leb n (greatest key)) refl e
+  where
+    by_test : (t : Bool) → (leb (least key) n && leb n (greatest key)) ≡ t → option_map Number (cond t (Some n) None) ≡ Some v → IsSetting key v
+    by_test true h f =
+        let b = and_parts (leb (least key) n) _ h in
+        let is : Number n ≡ v = cc in
+        subst (IsSetting key) is (record { least = leb-true _ _ b.0; greatest = leb-true _ _ b.1 })
+    by_test false h f = absurd cc
+
+way_setting : (key : Key) (o : Option Construction) (v : Value) → option_map Way o ≡ Some v → IsSetting key v
+way_setting key None v e = absurd cc
+way_setting key (Some way) v e = let is : Way way ≡ v = cc in subst (IsSetting key) is tt
+
+switch_setting : (key : Key) (o : Option Bool) (v : Value) → option_map Switch o ≡ Some v → IsSetting key v
+switch_setting key None v e = absurd cc
+switch_setting key (Some on) v e = let is : Switch on ≡ v = cc in subst (IsSetting key) is tt
+
+ignored_setting : (key : Key) (v : Value) → Some Ignored ≡ Some v → IsSetting key v
+ignored_setting key v e = let is : Ignored ≡ v = cc in subst (IsSetting key) is tt
+
+pub is_setting : (key : Key) (bs : List ℕ) (v : Value) → has_dollar key bs ≡ false → value_of key bs ≡ Some v → IsSetting key v
+is_setting keys.ProblemFile bs v h e = file_setting keys.ProblemFile bs v e h
+is_setting keys.TourFile bs v h e = file_setting keys.TourFile bs v e h
+is_setting keys.SolutionFile bs v h e = file_setting keys.SolutionFile bs v e h
+is_setting keys.InitialTourFile bs v h e = file_setting keys.InitialTourFile bs v e h
+is_setting keys.Runs bs v h e = within keys.Runs (integer bs) v e
+is_setting keys.MaxTrials bs v h e = within keys.MaxTrials (integer bs) v e
+is_setting keys.Seed bs v h e = within keys.Seed (integer bs) v e
+is_setting keys.MaxCandidates bs v h e = within keys.MaxCandidates (integer bs) v e
+is_setting keys.OrSegment bs v h e = within keys.OrSegment (integer bs) v e
+is_setting keys.Construction bs v h e = way_setting keys.Construction (construction_of bs) v e
+is_setting keys.FinalSweep bs v h e = switch_setting keys.FinalSweep (switch_of bs) v e
+is_setting keys.MoveType bs v h e = ignored_setting keys.MoveType v e
+is_setting keys.PatchingA bs v h e = ignored_setting keys.PatchingA v e
+is_setting keys.PatchingC bs v h e = ignored_setting keys.PatchingC v e
+is_setting keys.Precision bs v h e = ignored_setting keys.Precision v e
+is_setting keys.TraceLevel bs v h e = ignored_setting keys.TraceLevel v e
+is_setting keys.Optimum bs v h e = ignored_setting keys.Optimum v e
+
+-- ---- look-ups
+
+at_code : (key : Key) → get_or all_keys (code key) keys.Optimum ≡ key
+at_code keys.ProblemFile = refl
+at_code keys.TourFile = refl
+at_code keys.SolutionFile = refl
+at_code keys.InitialTourFile = refl
+at_code keys.Runs = refl
+at_code keys.MaxTrials = refl
+at_code keys.Seed = refl
+at_code keys.MaxCandidates = refl
+at_code keys.Construction = refl
+at_code keys.FinalSweep = refl
+at_code keys.OrSegment = refl
+at_code keys.MoveType = refl
+at_code keys.PatchingA = refl
+at_code keys.PatchingC = refl
+at_code keys.Precision = refl
+at_code keys.TraceLevel = refl
+at_code keys.Optimum = refl
+
+one_key : (a b : Key) → same_key a b ≡ true → b ≡ a
+one_key a b e = sym (at_code b) ∙ ap (λ n. get_or all_keys n keys.Optimum) (sym (eqb-true _ _ e)) ∙ at_code a
+
+look_step : (key : Key) (s : Key × Value) (rest : Option Value) (t : Bool) → same_key key s.0 ≡ t → IsSetting s.0 s.1 → IfSome rest (IsSetting key) → IfSome (cond t (Some s.1) rest) (IsSetting key)
+look_step key s rest true e h k = subst (λ (x : Key). IsSetting x s.1) (one_key key s.0 e) h
+look_step key s rest false e h k = k
+
+look_setting : (key : Key) (ss : Settings) → AreSettings ss → IfSome (look key ss) (IsSetting key)
+look_setting key [] h = tt
+look_setting key (s ∷ ss) h =
+    let P : Key × Value → Type 0 = λ (x : Key × Value). IsSetting x.0 x.1 in
+    look_step key s (look key ss) (same_key key s.0) refl (All-head P s ss h) (look_setting key ss (All-tail P s ss h))
+
+file_limits : (key : Key) (o : Option Value) → IfSome o (IsSetting key) → IfSome (file_in o) IsFileName
+file_limits key None h = tt
+file_limits key (Some (File name)) h = h
+file_limits key (Some (Number n)) h = tt
+file_limits key (Some (Way way)) h = tt
+file_limits key (Some (Switch on)) h = tt
+file_limits key (Some Ignored) h = tt
+
+number_limits : (key : Key) (o : Option Value) → IfSome o (IsSetting key) → IfSome (number_in o) (IsWithin (least key) (greatest key))
+number_limits key None h = tt
+number_limits key (Some (File name)) h = tt
+number_limits key (Some (Number n)) h = h
+number_limits key (Some (Way way)) h = tt
+number_limits key (Some (Switch on)) h = tt
+number_limits key (Some Ignored) h = tt
+
+or_default : (low high d : ℕ) (o : Option ℕ) → IfSome o (IsWithin low high) → low ≤ d → d ≤ high → IsWithin low high (unwrap_or o d)
+or_default low high d None h a b = record { least = a; greatest = b }
+or_default low high d (Some n) h a b = h
+
+module _ (ss : Settings) (sound : AreSettings ss) where
+  file_at : (key : Key) → IfSome (file_in (look key ss)) IsFileName
+  file_at key = file_limits key (look key ss) (look_setting key ss sound)
+
+  number_at : (key : Key) → IfSome (number_in (look key ss)) (IsWithin (least key) (greatest key))
+  number_at key = number_limits key (look key ss) (look_setting key ss sound)
+
+  pub asked_within : (problem : List ℕ) → file_in (look keys.ProblemFile ss) ≡ Some problem → AreWithinLimits (asked_of problem ss)
+  unfolding asked_of
+  asked_within problem e =
+      record {
+        problem_file = subst (λ o. IfSome o IsFileName) e (file_at keys.ProblemFile);
+        tour_file = file_at keys.TourFile;
+        solution_file = file_at keys.SolutionFile;
+        initial_tour_file = file_at keys.InitialTourFile;
+        runs = or_default 1 10000 10 _ (number_at keys.Runs) (omega arith) (omega arith);
+        max_trials = number_at keys.MaxTrials;
+        seed = or_default 0 4294967295 1 _ (number_at keys.Seed) (omega arith) (omega arith);
+        max_candidates = or_default 1 100 5 _ (number_at keys.MaxCandidates) (omega arith) (omega arith);
+        or_segment = or_default 1 3 3 _ (number_at keys.OrSegment) (omega arith) (omega arith);
+      }

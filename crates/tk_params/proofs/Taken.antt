@@ -1,0 +1,61 @@
+-- What is asked for, of the settings of which the files are taken out one by one.
+use Rattle.std.proofs.Common.{◌≡◌, ◌∙◌, false, Some, option_map, refl, sym, ap, subst}
+use Rattle.std.specs.Option.{unwrap_or}
+use Rattle.tk_params.specs.declared.key.Key.{Key}
+use Rattle.tk_params.specs.declared.key.Key.TheVariants as keys
+use Rattle.tk_params.specs.declared.value.Construction.TheVariants.{Nearest}
+use Rattle.tk_params.specs.Stored.{LosesOnly}
+use Rattle.tk_params.specs.Values.{Settings, look, same_key}
+use Rattle.tk_params.specs.Asked.{AreSettings, AreWithinLimits, ParamsAre, asked, asked_of, file_in, ignored_keys, number_in, switch_in, way_in}
+use Rattle.tk_params.proofs.Limits.{asked_within}
+
+-- the fields of parameters, as they are looked up: s1 to s4 are the settings after each of the four files
+pub record AreLookedUp (ss s0 s1 s2 s3 s4 : Settings) (p : ParamsAre) : Type 0 where
+  pub start : s0 ≡ ss
+  pub first : LosesOnly keys.ProblemFile s0 s1
+  pub second : LosesOnly keys.TourFile s1 s2
+  pub third : LosesOnly keys.SolutionFile s2 s3
+  pub fourth : LosesOnly keys.InitialTourFile s3 s4
+  pub problem_file : Some p.problem_file ≡ file_in (look keys.ProblemFile s0)
+  pub tour_file : p.tour_file ≡ file_in (look keys.TourFile s1)
+  pub solution_file : p.solution_file ≡ file_in (look keys.SolutionFile s2)
+  pub initial_tour_file : p.initial_tour_file ≡ file_in (look keys.InitialTourFile s3)
+  pub runs : p.runs ≡ unwrap_or (number_in (look keys.Runs s4)) 10
+  pub max_trials : p.max_trials ≡ number_in (look keys.MaxTrials s4)
+  pub seed : p.seed ≡ unwrap_or (number_in (look keys.Seed s4)) 1
+  pub max_candidates : p.max_candidates ≡ unwrap_or (number_in (look keys.MaxCandidates s4)) 5
+  pub construction : p.construction ≡ unwrap_or (way_in (look keys.Construction s4)) Nearest
+  pub final_sweep : p.final_sweep ≡ unwrap_or (switch_in (look keys.FinalSweep s4)) false
+  pub or_segment : p.or_segment ≡ unwrap_or (number_in (look keys.OrSegment s4)) 3
+  pub unused : p.ignored ≡ ignored_keys ss
+
+module _ (ss s0 s1 s2 s3 s4 : Settings) (p : ParamsAre) (l : AreLookedUp ss s0 s1 s2 s3 s4 p) where
+  begun : (key : Key) → look key s0 ≡ look key ss
+  begun key = ap (look key) l.start
+
+  after_all : (key : Key) → same_key keys.ProblemFile key ≡ false → same_key keys.TourFile key ≡ false → same_key keys.SolutionFile key ≡ false → same_key keys.InitialTourFile key ≡ false → look key s4 ≡ look key ss
+  after_all key a b c d = l.fourth key d ∙ l.third key c ∙ l.second key b ∙ l.first key a ∙ begun key
+
+  named : file_in (look keys.ProblemFile ss) ≡ Some p.problem_file
+  named = sym (l.problem_file ∙ ap file_in (begun keys.ProblemFile))
+
+  is_asked : p ≡ asked_of p.problem_file ss
+  unfolding asked_of
+  is_asked =
+      let tour = l.tour_file ∙ ap file_in (l.first keys.TourFile refl ∙ begun keys.TourFile) in
+      let solution = l.solution_file ∙ ap file_in (l.second keys.SolutionFile refl ∙ l.first keys.SolutionFile refl ∙ begun keys.SolutionFile) in
+      let initial = l.initial_tour_file ∙ ap file_in (l.third keys.InitialTourFile refl ∙ l.second keys.InitialTourFile refl ∙ l.first keys.InitialTourFile refl ∙ begun keys.InitialTourFile) in
+      let runs = l.runs ∙ ap (λ o. unwrap_or (number_in o) 10) (after_all keys.Runs refl refl refl refl) in
+      let trials = l.max_trials ∙ ap number_in (after_all keys.MaxTrials refl refl refl refl) in
+      let seed = l.seed ∙ ap (λ o. unwrap_or (number_in o) 1) (after_all keys.Seed refl refl refl refl) in
+      let candidates = l.max_candidates ∙ ap (λ o. unwrap_or (number_in o) 5) (after_all keys.MaxCandidates refl refl refl refl) in
+      let construction = l.construction ∙ ap (λ o. unwrap_or (way_in o) Nearest) (after_all keys.Construction refl refl refl refl) in
+      let sweep = l.final_sweep ∙ ap (λ o. unwrap_or (switch_in o) false) (after_all keys.FinalSweep refl refl refl refl) in
+      let segment = l.or_segment ∙ ap (λ o. unwrap_or (number_in o) 3) (after_all keys.OrSegment refl refl refl refl) in
+      rw (← tour, ← solution, ← initial, ← runs, ← trials, ← seed, ← candidates, ← construction, ← sweep, ← segment, ← l.unused) refl
+
+  pub some_asked : Some p ≡ asked ss
+  some_asked = ap Some is_asked ∙ ap (option_map (λ problem. asked_of problem ss)) (sym named)
+
+  pub looked_within : AreSettings ss → AreWithinLimits p
+  looked_within sound = subst AreWithinLimits (sym is_asked) (asked_within ss sound p.problem_file named)

@@ -1,0 +1,102 @@
+-- What a parameter file asks for: what its keys say, and the defaults of the others.
+use Rattle.std.specs.Prelude.{◌≢◌, ◌≤◌, ℕ, Bool, true, false, List, [], ◌∷◌, Option, Some, None, All, IfSome, option_map, unwrap_or, if◌then◌else◌}
+use Rattle.tk_params.specs.declared.key.Key.{Key}
+use Rattle.tk_params.specs.declared.key.Key.TheVariants as keys
+use Rattle.tk_params.specs.declared.value.Construction.{Construction}
+use Rattle.tk_params.specs.declared.value.Construction.TheVariants.{Nearest}
+use Rattle.tk_params.specs.Values.{Value, File, Number, Way, Switch, Ignored, Settings, greatest, least, look}
+
+-- the files, numbers and choices of a search, and the keys that were read and are not used, in the order of the file.
+-- Without max_trials a run has as many trials as there are cities
+pub record ParamsAre : Type 0 where
+  pub problem_file : List ℕ
+  pub tour_file : Option (List ℕ)
+  pub solution_file : Option (List ℕ)
+  pub initial_tour_file : Option (List ℕ)
+  pub runs : ℕ
+  pub max_trials : Option ℕ
+  pub seed : ℕ
+  pub max_candidates : ℕ
+  pub construction : Construction
+  pub final_sweep : Bool
+  pub or_segment : ℕ
+  pub ignored : List Key
+
+abbrev pub file_in : Option Value → Option (List ℕ)
+file_in (Some (File name)) = Some name
+file_in _ = None
+
+abbrev pub number_in : Option Value → Option ℕ
+number_in (Some (Number n)) = Some n
+number_in _ = None
+
+abbrev pub way_in : Option Value → Option Construction
+way_in (Some (Way way)) = Some way
+way_in _ = None
+
+abbrev pub switch_in : Option Value → Option Bool
+switch_in (Some (Switch on)) = Some on
+switch_in _ = None
+
+abbrev pub is_ignored : Value → Bool
+is_ignored Ignored = true
+is_ignored _ = false
+
+-- the keys that are read and not used
+unfoldable pub ignored_keys : Settings → List Key
+ignored_keys [] = []
+ignored_keys (s ∷ ss) = let rest = ignored_keys ss in if is_ignored s.1 then s.0 ∷ rest else rest
+
+-- what settings ask for that name the problem's file
+unfoldable pub asked_of : List ℕ → Settings → ParamsAre
+asked_of problem ss =
+    record {
+      problem_file = problem;
+      tour_file = file_in (look keys.TourFile ss);
+      solution_file = file_in (look keys.SolutionFile ss);
+      initial_tour_file = file_in (look keys.InitialTourFile ss);
+      runs = unwrap_or (number_in (look keys.Runs ss)) 10;
+      max_trials = number_in (look keys.MaxTrials ss);
+      seed = unwrap_or (number_in (look keys.Seed ss)) 1;
+      max_candidates = unwrap_or (number_in (look keys.MaxCandidates ss)) 5;
+      construction = unwrap_or (way_in (look keys.Construction ss)) Nearest;
+      final_sweep = unwrap_or (switch_in (look keys.FinalSweep ss)) false;
+      or_segment = unwrap_or (number_in (look keys.OrSegment ss)) 3;
+      ignored = ignored_keys ss;
+    }
+
+-- what settings ask for; None where they do not name the problem's file
+abbrev pub asked : Settings → Option ParamsAre
+asked ss = option_map (λ problem. asked_of problem ss) (file_in (look keys.ProblemFile ss))
+
+-- ---- limits
+
+-- a name of a file: it is not empty, and has no dollar sign
+pub record IsFileName (name : List ℕ) : Type 0 where
+  pub some : name ≢ []
+  pub no_dollar : All (λ b. b ≢ 36) name
+
+pub record IsWithin (low high n : ℕ) : Type 0 where
+  pub least : low ≤ n
+  pub greatest : n ≤ high
+
+-- what a key may say
+abbrev pub IsSetting : Key → Value → Type 0
+IsSetting key (File name) = IsFileName name
+IsSetting key (Number n) = IsWithin (least key) (greatest key) n
+IsSetting key _ = Unit {0}
+
+abbrev pub AreSettings : Settings → Type 0
+AreSettings ss = All (λ s. IsSetting s.0 s.1) ss
+
+-- parameters within the limits of their keys
+pub record AreWithinLimits (p : ParamsAre) : Type 0 where
+  pub problem_file : IsFileName p.problem_file
+  pub tour_file : IfSome p.tour_file IsFileName
+  pub solution_file : IfSome p.solution_file IsFileName
+  pub initial_tour_file : IfSome p.initial_tour_file IsFileName
+  pub runs : IsWithin 1 10000 p.runs
+  pub max_trials : IfSome p.max_trials (IsWithin 1 1000000)
+  pub seed : IsWithin 0 4294967295 p.seed
+  pub max_candidates : IsWithin 1 100 p.max_candidates
+  pub or_segment : IsWithin 1 3 p.or_segment

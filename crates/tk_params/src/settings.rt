@@ -1,0 +1,79 @@
+//! What the lines of a parameter file have said so far.
+ghost use Rattle.std.specs.Prelude.{◌≡◌, ◌++◌, ◌∷◌, [], false, OnErr, OnOk};
+ghost use Rattle.tk_params.specs.Asked.{AreSettings, IsSetting, ignored_keys};
+ghost use Rattle.tk_params.specs.Stored.{settings_in, value_is};
+ghost use Rattle.tk_params.specs.Values;
+
+use crate::entries::{Entries, append, stored};
+use crate::key::Key;
+use crate::value::Setting;
+use indexmap::IndexMap;
+use std::alloc::{AllocError, Global};
+use std::marker::Model;
+
+/// Keys with what they say, each once, in the order of the file.
+#[derive(Drop)]
+pub struct Settings {
+    entries: Entries,
+    ignored: Vec<Key>,
+}
+
+impl Model for Settings {
+    ghost use Rattle.tk_params.specs.Stored.{AreStored, settings_in};
+    ghost use Rattle.tk_params.specs.Values;
+
+    ghost Value = { Values.Settings };
+
+    ghost view = { λ s. settings_in s.entries };
+
+    ghost invariant = { λ s. AreStored (settings_in s.entries) s.ignored.items };
+}
+
+impl Settings {
+    /// No key.
+    pub fn new(alloc: Global) -> Self
+        ensures { result ≡ [] }
+    {
+        Settings {
+            entries: IndexMap::new(alloc),
+            ignored: Vec::new(alloc),
+        }
+    }
+
+    /// Whether the key is there.
+    pub fn has(&self, key: Key) -> bool
+        ensures { result ≡ Values.has key self.now }
+    {
+        stored(&self.entries, key).is_some()
+    }
+
+    /// Keeps what a new key says.
+    pub fn set(&mut self, key: Key, setting: Setting) -> Result<(), AllocError>
+        requires fresh { Values.has key self.old ≡ false }
+        requires limits { IsSetting key (value_is setting) }
+        ensures ok { OnOk result (self.new ≡ self.old ++ (key, value_is setting) ∷ []) }
+        ensures err { OnErr result (self.new ≡ self.old) }
+    {
+        if !setting.is_ignored() {
+            append(&mut self.entries, key, setting)?;
+            return Ok(());
+        }
+        self.ignored.push(key)?;
+        match append(&mut self.entries, key, setting) {
+            Ok(()) => Ok(()),
+            Err(fault) => {
+                self.ignored.pop();
+                Err(fault)
+            }
+        }
+    }
+
+    /// The keys with what they say, and those of them that are not used.
+    pub fn into_parts(self) -> (Entries, Vec<Key>)
+        ensures settings { settings_in result.0 ≡ self }
+        ensures ignored { result.1.items ≡ ignored_keys self }
+        ensures limits { AreSettings self }
+    {
+        (self.entries, self.ignored)
+    }
+}
