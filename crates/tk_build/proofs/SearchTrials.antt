@@ -1,4 +1,5 @@
 pub mod Bounds
+pub mod Runs
 pub mod Searches
 pub mod TrialSteps
 pub mod Woken

@@ -7,6 +7,8 @@ pub mod NearestTour
 pub mod PathEnds
 pub mod SavingPairs
 pub mod SavingsMerges
+pub mod SearchLaws
+pub mod SearchOf
 pub mod Searching
 pub mod Settled
 pub mod Totals

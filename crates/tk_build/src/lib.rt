@@ -14,5 +14,6 @@ pub use merges::savings::{savings_lists, savings_tour};
 pub use nearest_tours::by_tree::nearest_tree;
 pub use nearest_tours::scan::nearest;
 pub use trials::descending::SearchRules;
+pub use trials::laws::best_is_first_of_the_shortest;
 pub use trials::searching::Search;
 pub use trials::totals::{Totals, TrialReport};

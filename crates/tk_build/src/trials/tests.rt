@@ -1,8 +1,10 @@
 //! A search by example.
 ghost use Rattle.std.specs.Prelude.{◌≤◌, ◌+◌, ◌-◌, min};
+ghost use Rattle.tk_build.specs.Searching.{SearchRun};
+ghost use Rattle.tk_build.specs.SearchOf.{search_of};
 
 use crate::*;
-use rand_core::SeedableRng;
+use rand_core::{Rng, SeedableRng};
 use rand_pcg::Pcg32;
 use std::test::Fail;
 use tk_metric::{Metric, near_scan};
@@ -55,10 +57,7 @@ fn keeps_a_shortest_tour(rt: HostRuntime) -> Result<(), Fail> {
     };
     let mut search = Search::new(rt.alloc(), &line, &near, start, rules)?;
     let mut rng = Pcg32::seed_from_u64(1);
-    for _ in 0..50 {
-        let report = search.trial(&mut rng);
-        assert!(rt; !report.better);
-    }
+    trials(&mut search, &mut rng, 50);
     assert_eq!(rt; search.best(), [1, 2, 3, 4, 5, 6, 7, 8].as_slice());
     let totals = search.totals();
     assert_eq!(rt; totals.start, 14);
@@ -66,4 +65,13 @@ fn keeps_a_shortest_tour(rt: HostRuntime) -> Result<(), Fail> {
     assert_eq!(rt; totals.better, 0);
     assert!(rt; totals.undo_swaps <= totals.swaps);
     Ok(())
+}
+
+// Some trials one after another.
+fn trials<M: Metric, R: Rng>(search: &mut Search<M>, rng: &mut R, times: u32)
+    ensures { SearchRun (search_of search.old) (R.stream rng.old) times (search_of search.new) (R.stream rng.new) }
+{
+    for _ in 0..times {
+        let _ = search.trial(rng);
+    }
 }

@@ -1,5 +1,6 @@
-use Rattle.std.proofs.Common.{◌≡◌, ℕ, ◌<◌, List, length, refl, sym, ap, ◌∙◌, subst, arith}
-use Rattle.tk_tour.specs.ArrayTours.{order_of, copied_of}
+use Rattle.std.proofs.Common.{◌≡◌, ℕ, ◌-◌, ◌*◌, ◌/◌, ◌<◌, List, length, refl, sym, ap, ◌∙◌, subst, arith}
+use Rattle.tk_tour.specs.ArrayTours.{order_of, swaps_of, copied_of}
+use Rattle.tk_build.specs.Searching.{first, kicked}
 use Rattle.tk_tour.specs.JournalTours.{tour_of}
 use Rattle.tk_tour.specs.Tour.{tour_length}
 use Rattle.tk_tour.specs.declared.array.ArrayTour.{ArrayTour}
@@ -18,12 +19,21 @@ pub descend-requires-2-clause-size : goal.descend-requires-2-clause-size
 descend-requires-2-clause-size g c =
     c.kick-before.ensures.size ∙ ap length c.args.self.now.holds.at_best.order ∙ sym (ap (λ v. length (order_of v)) c.kick-before.ensures.others.0)
 
-pub returns-then-self-eq0-clause-first : goal.returns-then-self-eq0-clause-first
-returns-then-self-eq0-clause-first g c = λ none.
+pub returns-then-self-eq0-clause-next : goal.returns-then-self-eq0-clause-next
+returns-then-self-eq0-clause-next g c =
     let h = c.args.self.now.holds in
     let front : c.wake_all.new.self.queue ≡ one_to (length (order_of c.args.self.now.state.best)) = all_awake _ _ _ _ c.wake_all.ensures.queue h.asleep h.queue in
     let d = c.descend.ensures in
-    (record { trial = trial_at _ _ _ _ _ _ _ _ _ _ h.at_best.order front d.trial; kicked = d.kicked; adds = d.adds; swaps = omega (arith, d.counts.swaps, d.swapped, h.counts.swaps); bounded = more_awake _ _ _ _ _ _ (λ o. let e : length c.wake_all.new.self.queue ≡ length (order_of c.args.self.now.state.best) = ap length front ∙ one_to-length _ in omega arith) d.bounded }, refl)
+    first (omega arith)
+    (record {
+      given = record { distance = refl; near = refl; rules = refl };
+      trial = trial_at _ _ _ _ _ _ _ _ _ _ h.at_best.order front d.trial;
+      kicked = d.kicked;
+      adds = d.adds;
+      swaps = omega (arith, d.counts.swaps, d.swapped, h.counts.swaps);
+      bounded = more_awake _ _ _ _ _ _ (λ o. let e : length c.wake_all.new.self.queue ≡ length (order_of c.args.self.now.state.best) = ap length front ∙ one_to-length _ in omega arith) d.bounded;
+    })
+    refl
 
 pub invariant_of-self : goal.invariant_of-self
 invariant_of-self g c =
@@ -86,8 +96,8 @@ invariant_of-self-2 g c =
           (omega arith) refl;
     }
 
-pub returns-clause-kicked : goal.returns-clause-kicked
-returns-clause-kicked g c = λ begun many.
+pub returns-clause-next : goal.returns-clause-next
+returns-clause-next g c =
     let s = c.args.self.now.state in
     let h = c.args.self.now.holds in
     let k = c.kick-before.ensures in
@@ -106,13 +116,19 @@ returns-clause-kicked g c = λ begun many.
     let Adds : Totals → Type 0 = λ v. AddsTrial v c.descend-2.new.self.totals r (gain_of r) in
     let a = subst Adds k.others.2 d.adds in
     let Bounded : ArrayTour → Type 0 = λ v. IsBoundedTrial (length (order_of v)) c.args.self.now.near.now.width (length c.kick-before.new.self.waking.queue) c.args.self.now.rules r in
-    record {
+    let before : ℕ = swaps_of (tour_of s.tour) in
+    let after : ℕ = swaps_of (tour_of c.kick-before.new.self.tour) in
+    kicked (omega arith) (omega (arith, ap length h.at_best.order))
+    (record {
+      given = record { distance = refl; near = refl; rules = refl };
       tour = tour;
       awake = awake;
+      kick_swaps = after - before;
       kick = kick;
       trial = t;
       kicked = d.kicked;
       adds = a;
-      swaps = (omega (arith, d.counts.swaps, d.swapped, h.counts.swaps, k.swaps.0), omega (arith, d.counts.swaps, d.swapped, h.counts.swaps, k.swaps.1, ap length h.at_best.order));
+      few_swaps = omega (arith, k.swaps.1, ap (λ v. 4 * (length v / 4)) h.at_best.order);
+      swaps = omega (arith, d.counts.swaps, d.swapped, h.counts.swaps, k.swaps.0);
       bounded = more_awake _ _ _ _ _ _ (λ o. few_ends s.waking.queue c.kick-before.new.self.waking.queue (order_of (tour_of s.tour)) (length (order_of (tour_of s.tour))) k.kicked.cuts h.asleep (k.kicked.ends o)) (subst Bounded k.others.0 d.bounded);
-    }
+    })
