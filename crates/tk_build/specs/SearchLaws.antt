@@ -1,14 +1,11 @@
 -- Laws of runs of trials. The functions of `src/trials/laws.rt` carry them.
 --     found_in run      the tours that the trials of a run found
 --     IsFirstShortest dist tours best      the first of the shortest tours of a list
-use Rattle.std.specs.Prelude.{◌≡◌, ℕ, ◌<◌, ◌≤◌, List, [], ◌∷◌, ◌++◌, length}
+use Rattle.std.specs.Prelude.{◌≡◌, ℕ, ◌<◌, ◌≤◌, List, [], ◌∷◌, ◌++◌}
 use Rattle.std.specs.List.{All}
 use Rattle.rand_core.specs.Stream.{Stream}
-use Rattle.tk_metric.specs.Near.{NearLists}
-use Rattle.tk_tour.specs.Tour.{IsTour, tour_length}
-use Rattle.tk_build.specs.Searching.{Searching, IsBegun, IsBoundedSearch, NextTrial, first, kicked, none, SearchRun, begin, trial}
-use Rattle.tk_build.specs.Totals.{capped}
-use Rattle.tk_build.specs.declared.trials.descending.SearchRules.{SearchRules}
+use Rattle.tk_tour.specs.Tour.{tour_length}
+use Rattle.tk_build.specs.Searching.{Searching, NextTrial, first, kicked, none, SearchRun, begin, trial}
 use Rattle.tk_build.specs.declared.trials.totals.TrialReport.{TrialReport}
 
 -- the tour that a trial found, where there was one
