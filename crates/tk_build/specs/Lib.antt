@@ -1,5 +1,6 @@
 pub mod Cuts
 pub mod Descents
+pub mod Ending
 pub mod Holding
 pub mod JointExamples
 pub mod Joints

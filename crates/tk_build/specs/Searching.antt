@@ -11,7 +11,7 @@ use Rattle.tk_tour.specs.JournalTours.{slots_of}
 use Rattle.tk_tour.specs.Tour.{tour_length}
 use Rattle.tk_descent.specs.Awake.{one_to}
 use Rattle.tk_build.specs.Settled.{IsAtBest}
-use Rattle.tk_build.specs.Totals.{AddsTrial, AreCountsOf, IsBounded}
+use Rattle.tk_build.specs.Totals.{AddsTrial, SettlesTrial, AreCountsOf, IsBounded}
 use Rattle.tk_build.specs.Trials.{IsTrial, IsBoundedTrial, IsKick, gain_of}
 use Rattle.tk_build.specs.declared.trials.descending.SearchRules.{SearchRules}
 use Rattle.tk_build.specs.declared.trials.state.State.{State}
@@ -54,6 +54,7 @@ pub record IsFirstTrial (old new : Searching) (report : TrialReport) : Type 0 wh
   pub kicked : report.kicked ≡ false
   pub adds : AddsTrial old.totals new.totals report (gain_of report)
   pub swaps : new.totals.swaps ≡ old.totals.swaps + report.descent.swaps
+  pub settles : SettlesTrial (length old.best) 0 report.descent.swaps old.totals new.totals report
   pub bounded : IsBoundedTrial (length old.best) old.near.width (length old.best) old.rules report
 
 -- a later trial: a descent from a kick of the best tour, which wakes at most 8 cities where it does not wake all, and takes a few swaps
@@ -68,6 +69,7 @@ pub record IsKickedTrial (old : Searching) (words : Stream) (new : Searching) (r
   pub adds : AddsTrial old.totals new.totals report (gain_of report)
   pub few_swaps : kick_swaps ≤ 4 * (length old.best / 4)
   pub swaps : new.totals.swaps ≡ old.totals.swaps + kick_swaps + report.descent.swaps
+  pub settles : SettlesTrial (length old.best) 4 (kick_swaps + report.descent.swaps) old.totals new.totals report
   pub bounded : IsBoundedTrial (length old.best) old.near.width 8 old.rules report
 
 -- no trial: both lengths are the best tour's, and nothing was counted

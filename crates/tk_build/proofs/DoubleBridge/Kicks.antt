@@ -24,7 +24,7 @@ joined : (xs : List ℕ) (i j : ℕ) → i ≤ j → take i xs ++ drop i (take j
 joined xs i j le = ap (λ v. v ++ drop i (take j xs)) (sym (take-take i j xs le)) ∙ take-append-drop i (take j xs)
 
 -- the parts make up the list
-parts_join : (xs : List ℕ) (cuts : Cuts) → AreCuts (length xs) cuts → part_a cuts xs ++ part_b cuts xs ++ part_c cuts xs ++ part_d cuts xs ≡ xs
+pub parts_join : (xs : List ℕ) (cuts : Cuts) → AreCuts (length xs) cuts → part_a cuts xs ++ part_b cuts xs ++ part_c cuts xs ++ part_d cuts xs ≡ xs
 parts_join xs cuts are =
     ap (λ v. v ++ part_c cuts xs ++ part_d cuts xs) (joined xs cuts.p cuts.q (omega (arith, are.second))) ∙
     ap (λ v. v ++ part_d cuts xs) (joined xs cuts.q cuts.r (omega (arith, are.third))) ∙

@@ -13,7 +13,7 @@ use Rattle.tk_build.specs.declared.trials.descending.SearchRules.{SearchRules}
 use Rattle.tk_build.specs.declared.trials.totals.TrialReport.{TrialReport}
 
 -- what a search was given stays
-given_next : {old new : Searching} {words rest : Stream} {report : TrialReport} → NextTrial old words new rest report → SameGiven old new
+pub given_next : {old new : Searching} {words rest : Stream} {report : TrialReport} → NextTrial old words new rest report → SameGiven old new
 given_next (first untried h same) = h.given
 given_next (kicked tried many h) = h.given
 given_next (none tried few h stays same) = record { distance = ap (λ s. s.distance) stays; near = ap (λ s. s.near) stays; rules = ap (λ s. s.rules) stays }
@@ -73,3 +73,13 @@ first_run {begun = begun} (trial {old = old} {new = new} run next) =
     let Q : (ℕ → ℕ → ℕ) → Type 0 = λ v. IsFirstShortest v (begun.best ∷ (found_in run ++ found_by next)) new.best in
     let same = (given_run run).distance in
     subst Q same (first_next next (begun.best ∷ found_in run) (subst P (sym same) (first_run run)))
+
+-- the first of the shortest is not longer than the first
+no_longer : (dist : ℕ → ℕ → ℕ) (from best : List ℕ) (tours before behind : List (List ℕ)) → from ∷ tours ≡ before ++ best ∷ behind → All (λ tour. tour_length dist best < tour_length dist tour) before →
+    tour_length dist best ≤ tour_length dist from
+no_longer dist from best tours [] behind e longer = let same : from ≡ best = cc in omega (arith, ap (tour_length dist) same)
+no_longer dist from best tours (x ∷ xs) behind e longer = let same : from ≡ x = cc in omega (arith, ap (tour_length dist) same, longer 0 x (omega arith))
+
+pub no_longer_run : {begun : Searching} {words : Stream} {t : ℕ} {search : Searching} {rest : Stream} → SearchRun begun words t search rest →
+    tour_length begun.distance search.best ≤ tour_length begun.distance begun.best
+no_longer_run {begun = begun} {search = after} run = let f = first_run run in no_longer begun.distance begun.best after.best (found_in run) f.before f.behind f.stands f.longer

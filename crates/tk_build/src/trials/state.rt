@@ -4,9 +4,10 @@ ghost use Rattle.tk_metric.specs.Cities.{IsCity};
 ghost use Rattle.tk_descent.specs.Awake.{one_to, woken_each};
 ghost use Rattle.tk_metric.specs.Near.{near_of};
 ghost use Rattle.tk_tour.specs.Tour.{tour_length};
-ghost use Rattle.tk_tour.specs.ArrayTours.{order_of, swaps_of, copied_of};
+ghost use Rattle.tk_tour.specs.ArrayTours.{order_of, swaps_of};
 ghost use Rattle.tk_tour.specs.Counters.{saturated};
 ghost use Rattle.tk_tour.specs.JournalTours.{tour_of, slots_of, flips_since, settled_order, KeepsSettled};
+ghost use Rattle.tk_build.specs.Ending.{EndsTrial};
 ghost use Rattle.tk_build.specs.Settled.{IsAtBest};
 ghost use Rattle.tk_build.specs.Totals.{AddsTrial, AreCountsOf};
 ghost use Rattle.tk_build.specs.Trials.{IsTrial, IsBoundedTrial, IsKick, gain_of};
@@ -79,10 +80,7 @@ impl State {
         ensures small { (self.new.totals.swaps < 2 ^ 64) × (self.new.totals.copied < 2 ^ 65) }
         ensures bounded { IsBoundedTrial (length (order_of self.old.best)) near.now.width (length self.old.waking.queue) rules result }
         ensures swapped { swaps_of (tour_of self.new.tour) ≡ swaps_of (tour_of self.old.tour) + result.descent.swaps }
-        ensures copied_to { result.better ≡ true
-            → copied_of (tour_of self.new.tour) + copied_of self.new.best ≤ copied_of (tour_of self.old.tour) + copied_of self.old.best + length (order_of self.old.best) }
-        ensures copied_back { result.better ≡ false
-            → copied_of (tour_of self.new.tour) + copied_of self.new.best ≤ copied_of (tour_of self.old.tour) + copied_of self.old.best + (flips_since self.old.tour + 3 * result.descent.moves - 1) }
+        ensures ends { EndsTrial self.old self.new result }
     {
         let SweptReport { descent, passes } = descend_by(
             &mut self.tour,

@@ -1,4 +1,4 @@
-use Rattle.std.proofs.Common.{◌≡◌, ℕ, ◌-◌, ◌*◌, ◌/◌, ◌<◌, List, length, refl, sym, ap, ◌∙◌, subst, arith}
+use Rattle.std.proofs.Common.{◌≡◌, ℕ, ◌+◌, ◌-◌, ◌*◌, ◌/◌, ◌<◌, List, length, refl, sym, ap, ◌∙◌, subst, arith}
 use Rattle.tk_tour.specs.ArrayTours.{order_of, swaps_of, copied_of}
 use Rattle.tk_build.specs.Searching.{first, kicked}
 use Rattle.tk_tour.specs.JournalTours.{tour_of}
@@ -13,6 +13,7 @@ use Rattle.tk_metric.specs.Near.{near_of}
 use Rattle.rand_core.specs.Stream.{Stream}
 use Rattle.tk_build.specs.declared.trials.totals.Totals.{Totals}
 use Rattle.tk_build.proofs.SearchTrials.Searches.{few_ends, more_awake, same_best, searches_first, searches_kicked, shorter_best, trial_at}
+use Rattle.tk_build.proofs.SearchTrials.Settling.{settles}
 use Rattle.tk_build.proofs.trials.searching.Search.trial.Goals as goal
 
 pub descend-requires-2-clause-size : goal.descend-requires-2-clause-size
@@ -31,6 +32,7 @@ returns-then-self-eq0-clause-next g c =
       kicked = d.kicked;
       adds = d.adds;
       swaps = omega (arith, d.counts.swaps, d.swapped, h.counts.swaps);
+      settles = settles _ 0 _ 0 _ _ _ _ d.ends d.counts refl h.slots h.at_best.flips (omega (arith, h.counts.swaps, c.args.self.now.state.tour.tour.fits.0)) h.at_best.swaps h.counts.undo_swaps h.counts.copied (omega (arith, d.counts.swaps, d.swapped, h.counts.swaps)) d.small;
       bounded = more_awake _ _ _ _ _ _ (λ o. let e : length c.wake_all.new.self.queue ≡ length (order_of c.args.self.now.state.best) = ap length front ∙ one_to-length _ in omega arith) d.bounded;
     })
     refl
@@ -41,7 +43,7 @@ invariant_of-self g c =
     let d = c.descend.ensures in
     let front : c.wake_all.new.self.queue ≡ one_to (length (order_of c.args.self.now.state.best)) = all_awake _ _ _ _ c.wake_all.ensures.queue h.asleep h.queue in
     record {
-      holds = searches_first _ _ _ _ c.args.self.now.state c.descend.new.self _ c.descend.result h
+      holds = searches_first _ _ _ _ c.args.self.now.state c.descend.new.self _ 0 c.descend.result.descent.swaps c.descend.result h
           (record {
             size = d.size.0;
             slots = d.size.1;
@@ -51,11 +53,10 @@ invariant_of-self g c =
             shortest = d.shortest;
             counts = d.counts;
             adds = d.adds;
-            small = d.small;
             bounded = more_awake _ _ _ _ _ _ (λ o. let e : length c.wake_all.new.self.queue ≡ length (order_of c.args.self.now.state.best) = ap length front ∙ one_to-length _ in omega arith) d.bounded;
             swapped = omega (arith, d.counts.swaps, d.swapped, h.counts.swaps);
-            copied_to = λ e. omega (arith, d.counts.copied, h.counts.copied, d.copied_to e);
-            copied_back = λ e. omega (arith, d.counts.copied, h.counts.copied, d.copied_back e, h.at_best.flips);
+            settles = settles _ 0 _ 0 _ _ _ _ d.ends d.counts refl h.slots h.at_best.flips (omega (arith, h.counts.swaps, c.args.self.now.state.tour.tour.fits.0)) h.at_best.swaps h.counts.undo_swaps h.counts.copied (omega (arith, d.counts.swaps, d.swapped, h.counts.swaps)) d.small;
+            few = omega arith;
             less = shorter_best _ _ _ _ _ _ _ _ d.trial;
             same = same_best _ _ _ _ _ _ _ _ d.trial;
           })
@@ -73,9 +74,11 @@ invariant_of-self-2 g c =
     let best : List ℕ = order_of c.descend-2.new.self.best in
     let Adds : Totals → Type 0 = λ v. AddsTrial v c.descend-2.new.self.totals r (gain_of r) in
     let Bounded : ArrayTour → Type 0 = λ v. IsBoundedTrial (length (order_of v)) c.args.self.now.near.now.width (length c.kick-before.new.self.waking.queue) c.args.self.now.rules r in
+    let n : ℕ = length (order_of s.best) in
+    let more = k.kept.swaps (omega (arith, k.flips, h.at_best.flips, k.kept.slots, h.slots, ap length h.at_best.order)) in
     let Less : ArrayTour → Type 0 = λ v. tour_length dist best < tour_length dist (order_of v) in
     record {
-      holds = searches_kicked _ _ _ _ s c.descend-2.new.self _ r h
+      holds = searches_kicked _ _ _ _ s c.descend-2.new.self _ 4 _ r h
           (record {
             size = d.size.0 ∙ ap (λ v. length (order_of v)) k.others.0;
             slots = d.size.1 ∙ k.kept.slots;
@@ -85,11 +88,10 @@ invariant_of-self-2 g c =
             shortest = d.shortest;
             counts = d.counts;
             adds = subst Adds k.others.2 d.adds;
-            small = d.small;
             bounded = more_awake _ _ _ _ _ _ (λ o. few_ends s.waking.queue c.kick-before.new.self.waking.queue (order_of (tour_of s.tour)) (length (order_of (tour_of s.tour))) k.kicked.cuts h.asleep (k.kicked.ends o)) (subst Bounded k.others.0 d.bounded);
             swapped = omega (arith, d.counts.swaps, d.swapped, h.counts.swaps, k.swaps.1, ap length h.at_best.order);
-            copied_to = λ e. omega (arith, d.counts.copied, h.counts.copied, d.copied_to e, k.kept.copied, ap copied_of k.others.0, ap (λ v. length (order_of v)) k.others.0);
-            copied_back = λ e. omega (arith, d.counts.copied, h.counts.copied, d.copied_back e, k.kept.copied, ap copied_of k.others.0, k.flips, h.at_best.flips);
+            settles = settles n 4 (swaps_of (tour_of c.kick-before.new.self.tour) - swaps_of (tour_of s.tour) + r.descent.swaps) more.0 s.totals c.kick-before.new.self c.descend-2.new.self r d.ends d.counts (ap (λ v. length (order_of v)) k.others.0) (k.kept.slots ∙ h.slots) (omega (arith, k.flips, h.at_best.flips)) (omega (arith, more.2, h.counts.swaps)) (omega (arith, more.1, h.at_best.swaps)) (h.counts.undo_swaps ∙ sym k.kept.undo_swaps) (omega (arith, h.counts.copied, k.kept.copied, ap copied_of k.others.0)) (omega (arith, d.counts.swaps, d.swapped, h.counts.swaps, k.swaps.0)) d.small;
+            few = omega arith;
             less = λ e. subst Less k.others.0 (shorter_best _ _ _ _ _ _ _ _ d.trial e);
             same = λ e. same_best _ _ _ _ _ _ _ _ d.trial e ∙ ap (λ v. tour_length dist (order_of v)) k.others.0;
           })
@@ -116,6 +118,8 @@ returns-clause-next g c =
     let Adds : Totals → Type 0 = λ v. AddsTrial v c.descend-2.new.self.totals r (gain_of r) in
     let a = subst Adds k.others.2 d.adds in
     let Bounded : ArrayTour → Type 0 = λ v. IsBoundedTrial (length (order_of v)) c.args.self.now.near.now.width (length c.kick-before.new.self.waking.queue) c.args.self.now.rules r in
+    let n : ℕ = length (order_of s.best) in
+    let more = k.kept.swaps (omega (arith, k.flips, h.at_best.flips, k.kept.slots, h.slots, ap length h.at_best.order)) in
     let before : ℕ = swaps_of (tour_of s.tour) in
     let after : ℕ = swaps_of (tour_of c.kick-before.new.self.tour) in
     kicked (omega arith) (omega (arith, ap length h.at_best.order))
@@ -130,5 +134,6 @@ returns-clause-next g c =
       adds = a;
       few_swaps = omega (arith, k.swaps.1, ap (λ v. 4 * (length v / 4)) h.at_best.order);
       swaps = omega (arith, d.counts.swaps, d.swapped, h.counts.swaps, k.swaps.0);
+      settles = settles n 4 (swaps_of (tour_of c.kick-before.new.self.tour) - swaps_of (tour_of s.tour) + r.descent.swaps) more.0 s.totals c.kick-before.new.self c.descend-2.new.self r d.ends d.counts (ap (λ v. length (order_of v)) k.others.0) (k.kept.slots ∙ h.slots) (omega (arith, k.flips, h.at_best.flips)) (omega (arith, more.2, h.counts.swaps)) (omega (arith, more.1, h.at_best.swaps)) (h.counts.undo_swaps ∙ sym k.kept.undo_swaps) (omega (arith, h.counts.copied, k.kept.copied, ap copied_of k.others.0)) (omega (arith, d.counts.swaps, d.swapped, h.counts.swaps, k.swaps.0)) d.small;
       bounded = more_awake _ _ _ _ _ _ (λ o. few_ends s.waking.queue c.kick-before.new.self.waking.queue (order_of (tour_of s.tour)) (length (order_of (tour_of s.tour))) k.kicked.cuts h.asleep (k.kicked.ends o)) (subst Bounded k.others.0 d.bounded);
     })

@@ -16,6 +16,7 @@ wake_kicked-requires g c =
 pub returns-clause-kicked : goal.returns-clause-kicked
 returns-clause-kicked g c = record {
   cuts = c.draw-cuts.result;
+  are = let Are : ℕ → Type 0 = λ v. AreCuts v c.draw-cuts.result in subst Are c.size.ensures c.draw-cuts.ensures.cuts;
   drawn = c.draw-cuts.ensures.drawn ∙ ap (λ v. drawn_cuts v (g.R.Rng.stream c.args.rng.now)) c.size.ensures;
   bridge = c.kick.ensures.bridged;
   swept = λ h. c.wake_kicked.ensures.swept h ∙ ap (λ v. woken_each c.args.self.now.waking.queue (one_to v)) c.requires.fits.1;
