@@ -12,6 +12,7 @@ pub use merges::laws::parts_are_connected;
 pub use merges::pairs::Pair;
 pub use merges::savings::{savings_lists, savings_tour};
 pub use nearest_tours::by_tree::nearest_tree;
+pub use nearest_tours::laws::nearest_tours_agree;
 pub use nearest_tours::scan::nearest;
 pub use trials::descending::SearchRules;
 pub use trials::laws::{

@@ -1,4 +1,3 @@
-use Rattle.std.proofs.Common.{◌≡◌}
 use Rattle.tk_build.specs.Searching.{SearchRun}
 use Rattle.tk_build.specs.SearchOf.{search_of}
 use Rattle.tk_build.proofs.trials.tests.trials.Given as goal
