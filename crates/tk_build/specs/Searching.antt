@@ -10,6 +10,8 @@ use Rattle.tk_tour.specs.ArrayTours.{order_of}
 use Rattle.tk_tour.specs.JournalTours.{slots_of}
 use Rattle.tk_tour.specs.Tour.{tour_length}
 use Rattle.tk_descent.specs.Awake.{one_to}
+use Rattle.tk_tour.specs.Counters.{saturated}
+use Rattle.tk_build.specs.Cuts.{kick_swaps}
 use Rattle.tk_build.specs.Settled.{IsAtBest}
 use Rattle.tk_build.specs.Totals.{AddsTrial, SettlesTrial, AreCountsOf, IsBounded}
 use Rattle.tk_build.specs.Trials.{IsTrial, IsBoundedTrial, IsKick, gain_of}
@@ -57,19 +59,17 @@ pub record IsFirstTrial (old new : Searching) (report : TrialReport) : Type 0 wh
   pub settles : SettlesTrial (length old.best) 0 report.descent.swaps old.totals new.totals report
   pub bounded : IsBoundedTrial (length old.best) old.near.width (length old.best) old.rules report
 
--- a later trial: a descent from a kick of the best tour, which wakes at most 8 cities where it does not wake all, and takes a few swaps
+-- a later trial: a descent from a kick of the best tour, which wakes at most 8 cities where it does not wake all
 pub record IsKickedTrial (old : Searching) (words : Stream) (new : Searching) (rest : Stream) (report : TrialReport) : Type 0 where
   pub given : SameGiven old new
   pub tour : List ℕ
   pub awake : List ℕ
-  pub kick_swaps : ℕ
   pub kick : IsKick old.best words old.rules.sweep [] tour rest awake
   pub trial : IsTrial old.distance (near_of old.near) old.rules tour awake old.best new.best report
   pub kicked : report.kicked ≡ true
   pub adds : AddsTrial old.totals new.totals report (gain_of report)
-  pub few_swaps : kick_swaps ≤ 4 * (length old.best / 4)
-  pub swaps : new.totals.swaps ≡ old.totals.swaps + kick_swaps + report.descent.swaps
-  pub settles : SettlesTrial (length old.best) 4 (kick_swaps + report.descent.swaps) old.totals new.totals report
+  pub swaps : new.totals.swaps ≡ saturated (old.totals.swaps + kick_swaps (length old.best) kick.cuts) + report.descent.swaps
+  pub settles : SettlesTrial (length old.best) 4 (kick_swaps (length old.best) kick.cuts + report.descent.swaps) old.totals new.totals report
   pub bounded : IsBoundedTrial (length old.best) old.near.width 8 old.rules report
 
 -- no trial: both lengths are the best tour's, and nothing was counted

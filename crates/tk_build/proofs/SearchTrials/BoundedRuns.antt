@@ -9,6 +9,8 @@ use Rattle.tk_build.specs.Searching.{Searching, IsBegun, IsBoundedSearch, NextTr
 use Rattle.tk_build.specs.Totals.{IsBounded, capped}
 use Rattle.tk_build.specs.declared.trials.descending.SearchRules.{SearchRules}
 use Rattle.tk_build.specs.declared.trials.totals.TrialReport.{TrialReport}
+use Rattle.tk_build.specs.Cuts.{kick_swaps}
+use Rattle.tk_build.proofs.DoubleBridge.KickSwaps.{kick_few}
 use Rattle.tk_build.proofs.SearchTrials.Bounds.{bounded_more, tests_first, tests_kicked}
 use Rattle.tk_build.proofs.SearchTrials.Cities.{cities_after, cities_next}
 use Rattle.tk_build.proofs.SearchTrials.Searches.{same_best, shorter_best}
@@ -51,8 +53,8 @@ within_next {old = old} {new = new} {report = report} (kicked tried many h) w =
     let n : ℕ = length old.best in
     let was : ℕ = tour_length old.distance old.best in
     let now : ℕ = tour_length old.distance new.best in
-    let swaps : ℕ = h.kick_swaps + report.descent.swaps in
-    let b = bounded_more n old.near.width was now 4 swaps old.rules old.totals new.totals report h.adds w.bounds h.settles (omega arith) (omega (arith, h.swaps, h.few_swaps)) h.bounded (shorter_best _ _ _ _ _ _ _ _ h.trial) (same_best _ _ _ _ _ _ _ _ h.trial)
+    let swaps : ℕ = kick_swaps n h.kick.cuts + report.descent.swaps in
+    let b = bounded_more n old.near.width was now 4 swaps old.rules old.totals new.totals report h.adds w.bounds h.settles (omega arith) (omega (arith, h.swaps, kick_few n h.kick.cuts)) h.bounded (shorter_best _ _ _ _ _ _ _ _ h.trial) (same_best _ _ _ _ _ _ _ _ h.trial)
     (λ o. tests_kicked n old.near.width was now 4 swaps old.rules old.totals new.totals report h.adds w.bounds tried (w.bounds.tests o) (h.bounded.tests o)) in
     record { bounds = bounded_given old new h.given (cities_next (kicked tried many h)).count b; untried = λ e. absurd (omega (arith, e, h.adds.trials)) }
 within_next (none tried few h stays same) w = subst IsWithin (sym stays) w

@@ -1,7 +1,8 @@
 -- A search after one more trial.
-use Rattle.std.proofs.Common.{◌≡◌, ℕ, ◌+◌, ◌-◌, ◌*◌, ◌<◌, ◌≤◌, true, false, List, [], length, sym, ap, ◌∙◌, subst, arith, pos, map}
+use Rattle.std.proofs.Common.{◌≡◌, ℕ, ◌+◌, ◌-◌, ◌*◌, ◌<◌, ◌≤◌, refl, Bool, true, false, List, [], length, sym, ap, ◌∙◌, subst, arith, pos, map}
 use Rattle.std.specs.Prelude.{IsTrue}
 use Rattle.std.proofs.Math.Nat.{mul-le-mul_left}
+use Rattle.rand_core.specs.Stream.{Stream}
 use Rattle.tk_metric.specs.Near.{NearLists}
 use Rattle.tk_tour.specs.ArrayTours.{order_of}
 use Rattle.tk_tour.specs.JournalTours.{slots_of}
@@ -14,7 +15,7 @@ use Rattle.tk_build.specs.declared.double_bridges.cuts.Cuts.{Cuts}
 use Rattle.tk_build.specs.Searching.{IsSearching}
 use Rattle.tk_build.specs.Settled.{IsAtBest}
 use Rattle.tk_build.specs.Totals.{AddsTrial, AreCountsOf, IsBounded, SettlesTrial}
-use Rattle.tk_build.specs.Trials.{IsTrial, IsBoundedTrial, gain_of}
+use Rattle.tk_build.specs.Trials.{IsTrial, IsBoundedTrial, IsKick, gain_of}
 use Rattle.tk_build.specs.declared.trials.descending.SearchRules.{SearchRules}
 use Rattle.tk_build.specs.declared.trials.state.State.{State}
 use Rattle.tk_build.specs.declared.trials.totals.TrialReport.{TrialReport}
@@ -27,6 +28,14 @@ trial_at dist near rules from from' awake awake' best new report ef ea h =
     let P : List ℕ → Type 0 = λ v. IsTrial dist near rules v awake best new report in
     let Q : List ℕ → Type 0 = λ v. IsTrial dist near rules from' v best new report in
     subst Q ea (subst P ef h)
+
+-- the same kick in other words, at the same cuts
+pub kick_at : (best best' asleep asleep' tour awake : List ℕ) (words rest : Stream) (sweep : Bool) → best ≡ best' → asleep ≡ asleep' → (k : IsKick best words sweep asleep tour rest awake) →
+    (k' : IsKick best' words sweep asleep' tour rest awake) × (k'.cuts ≡ k.cuts)
+kick_at best best' asleep asleep' tour awake words rest sweep eb ea k =
+    let P : List ℕ → Type 0 = λ v. (k' : IsKick v words sweep asleep tour rest awake) × (k'.cuts ≡ k.cuts) in
+    let Q : List ℕ → Type 0 = λ v. (k' : IsKick best' words sweep v tour rest awake) × (k'.cuts ≡ k.cuts) in
+    subst Q ea (subst P eb (k, refl))
 
 -- the best tour after a trial is shorter, or the same
 pub shorter_best : (dist : ℕ → ℕ → ℕ) (near : ℕ → List ℕ) (rules : SearchRules) (from awake best new : List ℕ) (report : TrialReport) → IsTrial dist near rules from awake best new report →

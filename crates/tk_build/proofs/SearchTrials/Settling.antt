@@ -16,7 +16,7 @@ undone_swaps s0 s1 s2 u0 u2 m0 m1 e1 e2 eu le lt = omega arith
 -- from the state `s` before a descent, whose best is that of totals, to `t`
 pub settles : (n kick swaps first : ℕ) (old : Totals) (s t : State) (report : TrialReport) → EndsTrial s t report → AreCountsOf t.totals t.tour t.best →
     length (order_of s.best) ≡ n → slots_of s.tour ≡ n → flips_since s.tour ≡ kick → swaps_of (tour_of s.tour) ≡ saturated (old.swaps + first) → swaps_to_rewind s.tour ≡ first →
-    old.undo_swaps ≡ undo_swaps_of (tour_of s.tour) → old.copied ≡ all_copied s → t.totals.swaps ≡ old.swaps + swaps → (t.totals.swaps < 2 ^ 64) × (t.totals.copied < 2 ^ 65) →
+    old.undo_swaps ≡ undo_swaps_of (tour_of s.tour) → old.copied ≡ all_copied s → (t.totals.swaps < 2 ^ 64 - 1 → t.totals.swaps ≡ old.swaps + swaps) → (t.totals.swaps < 2 ^ 64) × (t.totals.copied < 2 ^ 65) →
     SettlesTrial n kick swaps old t.totals report
 settles n kick swaps first old s t report h counts size slots flips kicked rewind undo copied total small = record {
   flips = h.flips;
@@ -27,7 +27,7 @@ settles n kick swaps first old s t report h counts size slots flips kicked rewin
         λ few.
             let u : undo_swaps_of (tour_of t.tour) ≡ saturated (old.undo_swaps + (first + k.0)) = k.2 ∙ ap (λ v. saturated (undo_swaps_of (tour_of s.tour) + (v + k.0))) rewind ∙ ap (λ v. saturated (v + (first + k.0))) (sym undo) in
             let x = undone_swaps old.swaps (swaps_of (tour_of s.tour)) (swaps_of (tour_of t.tour)) old.undo_swaps (undo_swaps_of (tour_of t.tour)) first k.0 kicked k.1 u (omega (arith, counts.undone, counts.swaps, counts.undo_swaps)) (omega (arith, counts.swaps, few)) in
-            omega (arith, x, counts.undo_swaps, counts.swaps, total),
+            omega (arith, x, counts.undo_swaps, counts.swaps, total few),
         omega (arith, counts.copied, k.3, copied),
       );
   restored = λ e many. let k = h.restored e (omega (arith, many, slots)) in (counts.undo_swaps ∙ k.0 ∙ sym undo, record { most = omega (arith, counts.copied, k.1.most, copied, size); exact = λ few. let x = k.1.exact (omega (arith, counts.copied, few)) in omega (arith, counts.copied, x, copied, size) });

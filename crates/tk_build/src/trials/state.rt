@@ -7,6 +7,7 @@ ghost use Rattle.tk_tour.specs.Tour.{tour_length};
 ghost use Rattle.tk_tour.specs.ArrayTours.{order_of, swaps_of};
 ghost use Rattle.tk_tour.specs.Counters.{saturated};
 ghost use Rattle.tk_tour.specs.JournalTours.{tour_of, slots_of, flips_since, settled_order, KeepsSettled};
+ghost use Rattle.tk_build.specs.Cuts.{kick_swaps};
 ghost use Rattle.tk_build.specs.Ending.{EndsTrial};
 ghost use Rattle.tk_build.specs.Settled.{IsAtBest};
 ghost use Rattle.tk_build.specs.Totals.{AddsTrial, AreCountsOf};
@@ -114,11 +115,11 @@ impl State {
             × (self.old.waking.size ≡ length (order_of (tour_of self.old.tour))) }
         requires shortest { self.old.shortest
             ≡ pos (tour_length (M.distance metric.now) (order_of (tour_of self.old.tour))) }
-        ensures kicked { IsKick (order_of (tour_of self.old.tour)) (R.stream rng.old) sweep self.old.waking.queue (order_of (tour_of self.new.tour)) (R.stream rng.new) self.new.waking.queue }
+        ensures kicked { (kick : IsKick (order_of (tour_of self.old.tour)) (R.stream rng.old) sweep self.old.waking.queue (order_of (tour_of self.new.tour)) (R.stream rng.new) self.new.waking.queue)
+            × (swaps_of (tour_of self.new.tour)
+            ≡ saturated (swaps_of (tour_of self.old.tour) + kick_swaps (length (order_of (tour_of self.old.tour))) kick.cuts)) }
         ensures length { result ≡ pos (tour_length (M.distance metric.now) (order_of (tour_of self.new.tour))) }
         ensures flips { flips_since self.new.tour ≡ saturated (flips_since self.old.tour + 4) }
-        ensures swaps { (swaps_of (tour_of self.old.tour) ≤ swaps_of (tour_of self.new.tour))
-            × (swaps_of (tour_of self.new.tour) ≤ swaps_of (tour_of self.old.tour) + 4 * (length (order_of (tour_of self.old.tour)) / 4)) }
         ensures kept { KeepsSettled self.old.tour self.new.tour }
         ensures size { length (order_of (tour_of self.new.tour)) ≡ length (order_of (tour_of self.old.tour)) }
         ensures others { (self.new.best ≡ self.old.best) × (self.new.shortest ≡ self.old.shortest)
