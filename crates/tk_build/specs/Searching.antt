@@ -3,7 +3,7 @@
 --     IsBegun      a search before its first trial
 --     NextTrial      its next trial: IsFirstTrial, IsKickedTrial or IsNoTrial
 --     SearchRun      t trials one after another
-use Rattle.std.specs.Prelude.{◌≡◌, ℕ, ◌+◌, ◌*◌, ◌/◌, ◌<◌, ◌≤◌, List, [], length, pos, true, false}
+use Rattle.std.specs.Prelude.{◌≡◌, ℕ, ◌+◌, ◌<◌, ◌≤◌, List, [], length, pos, true, false}
 use Rattle.rand_core.specs.Stream.{Stream}
 use Rattle.tk_metric.specs.Near.{NearLists, near_of}
 use Rattle.tk_tour.specs.ArrayTours.{order_of}

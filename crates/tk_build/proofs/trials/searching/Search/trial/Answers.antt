@@ -1,4 +1,4 @@
-use Rattle.std.proofs.Common.{◌≡◌, ℕ, ◌+◌, ◌-◌, ◌*◌, ◌/◌, ◌<◌, List, length, refl, sym, ap, ◌∙◌, subst, arith}
+use Rattle.std.proofs.Common.{◌≡◌, ℕ, ◌+◌, ◌<◌, List, length, refl, sym, ap, ◌∙◌, subst, arith}
 use Rattle.tk_tour.specs.ArrayTours.{order_of, swaps_of, copied_of}
 use Rattle.tk_build.specs.Searching.{first, kicked}
 use Rattle.tk_tour.specs.JournalTours.{tour_of}
@@ -9,7 +9,7 @@ use Rattle.tk_descent.proofs.WakeRuns.Passes.{all_awake}
 use Rattle.tk_descent.proofs.WakeRuns.Woken.{one_to-length}
 use Rattle.tk_build.specs.Totals.{AddsTrial, SettlesTrial}
 use Rattle.tk_build.specs.declared.double_bridges.cuts.Cuts.{Cuts}
-use Rattle.tk_build.specs.Trials.{gain_of, IsTrial, IsBoundedTrial, IsKick}
+use Rattle.tk_build.specs.Trials.{gain_of, IsTrial, IsBoundedTrial}
 use Rattle.tk_metric.specs.Near.{near_of}
 use Rattle.rand_core.specs.Stream.{Stream}
 use Rattle.tk_build.specs.declared.trials.totals.Totals.{Totals}
