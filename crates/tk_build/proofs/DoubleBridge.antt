@@ -1,2 +1,3 @@
 pub mod BridgeLength
 pub mod Kicks
+pub mod KickSwaps

@@ -1,2 +1,3 @@
 pub mod NearestPaths
 pub mod NearestTours
+pub mod OneTour

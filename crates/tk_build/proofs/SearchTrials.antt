@@ -1,4 +1,8 @@
 pub mod Bounds
+pub mod BoundedRuns
+pub mod Cities
+pub mod Runs
 pub mod Searches
+pub mod Settling
 pub mod TrialSteps
 pub mod Woken

@@ -3,8 +3,9 @@
 --     drawn_cuts n s      the cuts that a stream of random words gives
 --     end_places n cuts      where the parts begin and end
 --     steps_out d ends, steps_in d ends      what the double bridge takes out of the length and puts in
+--     kick_swaps n cuts      the swaps of its flips
 --     bridged cuts cities      the double bridge (O. Martin, S. W. Otto and E. W. Felten, 1991)
-use Rattle.std.specs.Prelude.{ℕ, ◌+◌, ◌-◌, ◌^◌, ◌≤◌, ◌<◌, List, [], ◌∷◌, ◌++◌, take, drop, slice_index}
+use Rattle.std.specs.Prelude.{ℕ, ◌+◌, ◌-◌, ◌/◌, ◌^◌, ◌≤◌, ◌<◌, min, List, [], ◌∷◌, ◌++◌, take, drop, slice_index}
 use Rattle.rand_core.specs.Stream.{Stream, next_u32}
 use Rattle.rand.specs.Draw.{draw_map}
 use Rattle.rand.specs.Uniform.{canon}
@@ -49,6 +50,14 @@ part_d cuts cities = drop cuts.r cities
 -- the double bridge: the second part and the fourth change places
 abbrev pub bridged : Cuts → List ℕ → List ℕ
 bridged cuts cities = part_a cuts cities ++ part_d cuts cities ++ part_c cuts cities ++ part_b cuts cities
+
+-- the swaps that turn k of n places round, or the others where these are fewer
+abbrev pub turn_swaps : ℕ → ℕ → ℕ
+turn_swaps n k = min k (n - k) / 2
+
+-- the swaps of the four flips of a double bridge: each turns one part round, or all others
+abbrev pub kick_swaps : ℕ → Cuts → ℕ
+kick_swaps n cuts = turn_swaps n cuts.p + turn_swaps n (cuts.q - cuts.p) + turn_swaps n (cuts.r - cuts.q) + turn_swaps n (n - cuts.r)
 
 -- the steps that the double bridge takes out, and those that it puts in, by the first and the last city of each part
 abbrev pub steps_out : (ℕ → ℕ → ℕ) → List ℕ → ℕ

@@ -1,5 +1,6 @@
 pub mod Cuts
 pub mod Descents
+pub mod Ending
 pub mod Holding
 pub mod JointExamples
 pub mod Joints
@@ -7,6 +8,8 @@ pub mod NearestTour
 pub mod PathEnds
 pub mod SavingPairs
 pub mod SavingsMerges
+pub mod SearchLaws
+pub mod SearchOf
 pub mod Searching
 pub mod Settled
 pub mod Totals

@@ -5,7 +5,7 @@ use Rattle.rand_core.specs.Stream.{Stream}
 use Rattle.tk_metric.specs.Cities.{city_at}
 use Rattle.tk_tour.specs.Tour.{SameCycle, tour_length}
 use Rattle.tk_descent.specs.Awake.{one_to, woken_each}
-use Rattle.tk_build.specs.Cuts.{bridged, drawn_cuts, end_places}
+use Rattle.tk_build.specs.Cuts.{AreCuts, bridged, drawn_cuts, end_places}
 use Rattle.tk_build.specs.Descents.{Descends}
 use Rattle.tk_build.specs.declared.double_bridges.cuts.Cuts.{Cuts}
 use Rattle.tk_build.specs.declared.trials.descending.SearchRules.{SearchRules}
@@ -40,6 +40,7 @@ pub record IsBoundedTrial (n width awake : ℕ) (rules : SearchRules) (report : 
 -- the four parts, or where all is swept all cities.
 pub record IsKick (best : List ℕ) (words : Stream) (sweep : Bool) (asleep kicked : List ℕ) (rest : Stream) (awake : List ℕ) : Type 0 where
   pub cuts : Cuts
+  pub are : AreCuts (length best) cuts
   pub drawn : (cuts, rest) ≡ drawn_cuts (length best) words
   pub bridge : SameCycle kicked (bridged cuts best)
   pub swept : sweep ≡ true → awake ≡ woken_each asleep (one_to (length best))

@@ -1,6 +1,7 @@
 //! Tours that go on to the nearest city.
 
 pub mod by_tree;
+pub mod laws;
 pub mod scan;
 #[cfg(test)]
-mod tests;
+pub mod tests;

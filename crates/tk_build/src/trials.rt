@@ -2,6 +2,7 @@
 
 pub mod descending;
 pub mod keeping;
+pub mod laws;
 pub mod searching;
 pub mod state;
 #[cfg(test)]

@@ -24,7 +24,7 @@ joined : (xs : List ℕ) (i j : ℕ) → i ≤ j → take i xs ++ drop i (take j
 joined xs i j le = ap (λ v. v ++ drop i (take j xs)) (sym (take-take i j xs le)) ∙ take-append-drop i (take j xs)
 
 -- the parts make up the list
-parts_join : (xs : List ℕ) (cuts : Cuts) → AreCuts (length xs) cuts → part_a cuts xs ++ part_b cuts xs ++ part_c cuts xs ++ part_d cuts xs ≡ xs
+pub parts_join : (xs : List ℕ) (cuts : Cuts) → AreCuts (length xs) cuts → part_a cuts xs ++ part_b cuts xs ++ part_c cuts xs ++ part_d cuts xs ≡ xs
 parts_join xs cuts are =
     ap (λ v. v ++ part_c cuts xs ++ part_d cuts xs) (joined xs cuts.p cuts.q (omega (arith, are.second))) ∙
     ap (λ v. v ++ part_d cuts xs) (joined xs cuts.q cuts.r (omega (arith, are.third))) ∙
@@ -49,11 +49,30 @@ cut xs cuts are =
       cycle = inl (record { front = xs; back = []; before = sym (append-nil xs); after = parts_join xs cuts are });
     }
 
+-- such a cut, with as many cities in each part as the cuts leave there
+pub record SizedCut (xs : List ℕ) (a1 an b1 bn c1 cn d1 dn : ℕ) (cuts : Cuts) : Type 0 where
+  pub cut : CutInFour xs a1 an b1 bn c1 cn d1 dn
+  pub a : length cut.a ≡ cuts.p
+  pub b : length cut.b ≡ cuts.q - cuts.p
+  pub c : length cut.c ≡ cuts.r - cuts.q
+  pub d : length cut.d ≡ length xs - cuts.r
+
+sized : (xs : List ℕ) (cuts : Cuts) → AreCuts (length xs) cuts →
+    SizedCut xs (get_or xs 0 0) (get_or xs (cuts.p - 1) 0) (get_or xs (cuts.p + 1 - 1) 0) (get_or xs (cuts.q - 1) 0) (get_or xs (cuts.q + 1 - 1) 0) (get_or xs (cuts.r - 1) 0) (get_or xs (cuts.r + 1 - 1) 0) (get_or xs (length xs - 1) 0) cuts
+unfolding cut
+sized xs cuts are = record {
+  cut = cut xs cuts are;
+  a = length-take-le cuts.p xs (omega (arith, are.second, are.third, are.last));
+  b = length-drop cuts.p (take cuts.q xs) ∙ ap (λ v. v - cuts.p) (length-take-le cuts.q xs (omega (arith, are.third, are.last)));
+  c = length-drop cuts.q (take cuts.r xs) ∙ ap (λ v. v - cuts.q) (length-take-le cuts.r xs (omega (arith, are.last)));
+  d = length-drop cuts.r xs;
+}
+
 module _ (xs e : List ℕ) (cuts : Cuts) (are : AreCuts (length xs) cuts) (ends : e ≡ map (city_at xs) (end_places (length xs) cuts)) where
-  pub cut_at_ends : CutInFour xs (get_or e 0 0) (get_or e 1 0) (get_or e 2 0) (get_or e 3 0) (get_or e 4 0) (get_or e 5 0) (get_or e 6 0) (get_or e 7 0)
+  pub cut_at_ends : SizedCut xs (get_or e 0 0) (get_or e 1 0) (get_or e 2 0) (get_or e 3 0) (get_or e 4 0) (get_or e 5 0) (get_or e 6 0) (get_or e 7 0) cuts
   cut_at_ends =
-      let P : List ℕ → Type 0 = λ v. CutInFour xs (get_or v 0 0) (get_or v 1 0) (get_or v 2 0) (get_or v 3 0) (get_or v 4 0) (get_or v 5 0) (get_or v 6 0) (get_or v 7 0) in
-      subst P (sym ends) (cut xs cuts are)
+      let P : List ℕ → Type 0 = λ v. SizedCut xs (get_or v 0 0) (get_or v 1 0) (get_or v 2 0) (get_or v 3 0) (get_or v 4 0) (get_or v 5 0) (get_or v 6 0) (get_or v 7 0) cuts in
+      subst P (sym ends) (sized xs cuts are)
 
   pub bridged_at_ends : (ys : List ℕ) → IsBridged xs ys (get_or e 0 0) (get_or e 1 0) (get_or e 2 0) (get_or e 3 0) (get_or e 4 0) (get_or e 5 0) (get_or e 6 0) (get_or e 7 0) → SameCycle ys (bridged cuts xs)
   unfolding cut

@@ -4,8 +4,8 @@ use Rattle.std.specs.Prelude.{if◌then◌else◌}
 use Rattle.std.proofs.Math.Nat.{mul-le-mul_left}
 use Rattle.std.proofs.lemmas.Bool.{cases_lt}
 use Rattle.std.proofs.lemmas.Int.{ints}
-use Rattle.tk_build.specs.Totals.{AddsTrial, IsBounded, capped}
-use Rattle.tk_build.specs.Trials.{gain_of}
+use Rattle.tk_build.specs.Totals.{AddsTrial, IsBounded, SettlesTrial, capped}
+use Rattle.tk_build.specs.Trials.{IsBoundedTrial, gain_of}
 use Rattle.tk_build.specs.declared.trials.descending.SearchRules.{SearchRules}
 use Rattle.tk_build.specs.declared.trials.totals.Totals.{Totals}
 use Rattle.tk_build.specs.declared.trials.totals.TrialReport.{TrialReport}
@@ -34,7 +34,7 @@ more c A B C X x h k le =
     let last : c * capped (A + B) ≤ c * C = mul-le-mul_left c le in
     omega arith
 
-module _ (n width shortest shorter awake flips : ℕ) (rules : SearchRules) (old new : Totals) (report : TrialReport)
+module _ (n width shortest shorter kick swaps : ℕ) (rules : SearchRules) (old new : Totals) (report : TrialReport)
     (adds : AddsTrial old new report (gain_of report)) (bound : IsBounded n width rules shortest old) where
   pub tests_first : old.tests ≡ 0 → report.descent.tests ≤ 4 * rules.or_segment * width * (n + 6 * report.descent.moves) →
       new.tests ≤ 4 * rules.or_segment * width * (n + 8 * (new.trials - 1) + 6 * new.moves)
@@ -70,28 +70,36 @@ module _ (n width shortest shorter awake flips : ℕ) (rules : SearchRules) (old
       let s : report.descent.swaps ≤ q * report.descent.moves = h in
       omega arith
 
-  pub copied_more : new.copied < 2 ^ 65 → flips ≤ 4 →
-      (report.better ≡ true → new.copied ≤ old.copied + n) → (report.better ≡ false → new.copied ≤ old.copied + (flips + 3 * report.descent.moves - 1)) →
-      new.copied ≤ n * new.better + 3 * (new.moves + new.trials)
-  copied_more small few to back = by report.better refl
+  pub copied_more : SettlesTrial n kick swaps old new report → kick ≤ 4 → new.copied ≤ n * new.better + 3 * (new.moves + new.trials)
+  copied_more k few = by report.better refl
     where
+      small : new.copied < 2 ^ 65
+      small = k.limits.2
+
+      b : old.copied ≤ n * old.better + 3 * (old.moves + old.trials)
+      b = bound.copied
+
+      back : report.better ≡ false → new.copied ≤ old.copied + (3 + 3 * report.descent.moves)
+      back e =
+          ⊎_elim
+          (λ (lost : n < k.flips). omega (arith, (k.restored e lost).1.most, k.made.1, few))
+          (λ (room : k.flips ≤ n). omega (arith, (k.undone e room).1))
+          (cases_lt n k.flips)
+
       by : (b : Bool) → report.better ≡ b → new.copied ≤ n * new.better + 3 * (new.moves + new.trials)
       by true e =
-          let k = to e in
+          let to : new.copied ≤ old.copied + n = (k.taken e).1.most in
           let one : new.better ≡ capped (old.better + 1) = adds.better ∙ ap (λ v. capped (old.better + (if v then 1 else 0))) e in
           let eb : n * new.better ≡ n * capped (old.better + 1) = ap (λ v. n * v) one in
           let cb = capped_mul n (old.better + 1) in
           let d : n * (old.better + 1) ≡ n * old.better + n = omega arith in
-          let b = bound.copied in
-          omega (arith, adds.moves, adds.trials)
+          omega (arith, small, b, to, eb, cb, d, adds.moves, adds.trials)
       by false e =
-          let k = back e in
           let none : new.better ≡ capped (old.better + 0) = adds.better ∙ ap (λ v. capped (old.better + (if v then 1 else 0))) e in
           let eb : n * new.better ≡ n * capped (old.better + 0) = ap (λ v. n * v) none in
           let cb = capped_mul n (old.better + 0) in
           let d : n * (old.better + 0) ≡ n * old.better = omega arith in
-          let b = bound.copied in
-          omega (arith, adds.moves, adds.trials)
+          omega (arith, small, b, back e, eb, cb, d, adds.moves, adds.trials)
 
   pub moves_more : report.descent.moves ≤ gain_of report → new.moves ≤ new.gained
   moves_more h = omega (arith, adds.moves, adds.gained, bound.moves)
@@ -108,3 +116,17 @@ module _ (n width shortest shorter awake flips : ℕ) (rules : SearchRules) (old
           let k = same e in
           let none : new.better ≡ capped (old.better + 0) = adds.better ∙ ap (λ v. capped (old.better + (if v then 1 else 0))) e in
           omega (arith, ints, bound.better, adds.start)
+
+  -- all bounds after one more trial
+  pub bounded_more : {awake : ℕ} → SettlesTrial n kick swaps old new report → kick ≤ 4 → new.swaps ≤ old.swaps + n + report.descent.swaps → IsBoundedTrial n width awake rules report →
+      (report.better ≡ true → shorter < shortest) → (report.better ≡ false → shorter ≡ shortest) →
+      (rules.sweep ≡ false → new.tests ≤ 4 * rules.or_segment * width * (n + 8 * (new.trials - 1) + 6 * new.moves)) → IsBounded n width rules shorter new
+  bounded_more k few more b less same tests = record {
+    tests = tests;
+    swept = λ e. tests_swept (bound.swept e) (b.swept_tests e);
+    swaps = swaps_more k.limits.0 b.swaps more;
+    undo_swaps = k.limits.1;
+    moves = moves_more b.moves;
+    better = better_more less same;
+    copied = copied_more k few;
+  }

@@ -1,7 +1,8 @@
 -- A search after one more trial.
-use Rattle.std.proofs.Common.{◌≡◌, ℕ, ◌+◌, ◌-◌, ◌*◌, ◌^◌, ◌<◌, ◌≤◌, true, false, List, [], length, sym, ap, ◌∙◌, subst, arith, pos, map}
+use Rattle.std.proofs.Common.{◌≡◌, ℕ, ◌+◌, ◌-◌, ◌*◌, ◌<◌, ◌≤◌, refl, Bool, true, false, List, [], length, sym, ap, ◌∙◌, subst, arith, pos, map}
 use Rattle.std.specs.Prelude.{IsTrue}
 use Rattle.std.proofs.Math.Nat.{mul-le-mul_left}
+use Rattle.rand_core.specs.Stream.{Stream}
 use Rattle.tk_metric.specs.Near.{NearLists}
 use Rattle.tk_tour.specs.ArrayTours.{order_of}
 use Rattle.tk_tour.specs.JournalTours.{slots_of}
@@ -13,12 +14,12 @@ use Rattle.tk_build.specs.Cuts.{end_places}
 use Rattle.tk_build.specs.declared.double_bridges.cuts.Cuts.{Cuts}
 use Rattle.tk_build.specs.Searching.{IsSearching}
 use Rattle.tk_build.specs.Settled.{IsAtBest}
-use Rattle.tk_build.specs.Totals.{AddsTrial, AreCountsOf, IsBounded}
-use Rattle.tk_build.specs.Trials.{IsTrial, IsBoundedTrial, gain_of}
+use Rattle.tk_build.specs.Totals.{AddsTrial, AreCountsOf, IsBounded, SettlesTrial}
+use Rattle.tk_build.specs.Trials.{IsTrial, IsBoundedTrial, IsKick, gain_of}
 use Rattle.tk_build.specs.declared.trials.descending.SearchRules.{SearchRules}
 use Rattle.tk_build.specs.declared.trials.state.State.{State}
 use Rattle.tk_build.specs.declared.trials.totals.TrialReport.{TrialReport}
-use Rattle.tk_build.proofs.SearchTrials.Bounds.{tests_first, tests_kicked, tests_swept, swaps_more, copied_more, moves_more, better_more}
+use Rattle.tk_build.proofs.SearchTrials.Bounds.{tests_first, tests_kicked, bounded_more}
 
 -- the same trial in other words
 pub trial_at : (dist : ℕ → ℕ → ℕ) (near : ℕ → List ℕ) (rules : SearchRules) (from from' awake awake' best new : List ℕ) (report : TrialReport) → from ≡ from' → awake ≡ awake' →
@@ -27,6 +28,14 @@ trial_at dist near rules from from' awake awake' best new report ef ea h =
     let P : List ℕ → Type 0 = λ v. IsTrial dist near rules v awake best new report in
     let Q : List ℕ → Type 0 = λ v. IsTrial dist near rules from' v best new report in
     subst Q ea (subst P ef h)
+
+-- the same kick in other words, at the same cuts
+pub kick_at : (best best' asleep asleep' tour awake : List ℕ) (words rest : Stream) (sweep : Bool) → best ≡ best' → asleep ≡ asleep' → (k : IsKick best words sweep asleep tour rest awake) →
+    (k' : IsKick best' words sweep asleep' tour rest awake) × (k'.cuts ≡ k.cuts)
+kick_at best best' asleep asleep' tour awake words rest sweep eb ea k =
+    let P : List ℕ → Type 0 = λ v. (k' : IsKick v words sweep asleep tour rest awake) × (k'.cuts ≡ k.cuts) in
+    let Q : List ℕ → Type 0 = λ v. (k' : IsKick best' words sweep v tour rest awake) × (k'.cuts ≡ k.cuts) in
+    subst Q ea (subst P eb (k, refl))
 
 -- the best tour after a trial is shorter, or the same
 pub shorter_best : (dist : ℕ → ℕ → ℕ) (near : ℕ → List ℕ) (rules : SearchRules) (from awake best new : List ℕ) (report : TrialReport) → IsTrial dist near rules from awake best new report →
@@ -66,7 +75,7 @@ more_awake n width awake more rules report le h =
     }
 
 -- what a trial leaves, by the state before it
-pub record Leaves (near : NearLists) (dist : ℕ → ℕ → ℕ) (rules : SearchRules) (s t : State) (awake : ℕ) (report : TrialReport) : Type 0 where
+pub record Leaves (near : NearLists) (dist : ℕ → ℕ → ℕ) (rules : SearchRules) (s t : State) (awake kick swaps : ℕ) (report : TrialReport) : Type 0 where
   pub size : length (order_of t.best) ≡ length (order_of s.best)
   pub slots : slots_of t.tour ≡ slots_of s.tour
   pub asleep : t.waking.queue ≡ []
@@ -75,31 +84,20 @@ pub record Leaves (near : NearLists) (dist : ℕ → ℕ → ℕ) (rules : Searc
   pub shortest : t.shortest ≡ pos (tour_length dist (order_of t.best))
   pub counts : AreCountsOf t.totals t.tour t.best
   pub adds : AddsTrial s.totals t.totals report (gain_of report)
-  pub small : (t.totals.swaps < 2 ^ 64) × (t.totals.copied < 2 ^ 65)
   pub bounded : IsBoundedTrial (length (order_of s.best)) near.width awake rules report
   pub swapped : t.totals.swaps ≤ s.totals.swaps + length (order_of s.best) + report.descent.swaps
-  pub copied_to : report.better ≡ true → t.totals.copied ≤ s.totals.copied + length (order_of s.best)
-  pub copied_back : report.better ≡ false → t.totals.copied ≤ s.totals.copied + (4 + 3 * report.descent.moves - 1)
+  pub settles : SettlesTrial (length (order_of s.best)) kick swaps s.totals t.totals report
+  pub few : kick ≤ 4
   pub less : report.better ≡ true → tour_length dist (order_of t.best) < tour_length dist (order_of s.best)
   pub same : report.better ≡ false → tour_length dist (order_of t.best) ≡ tour_length dist (order_of s.best)
 
-module _ (size : ℕ) (dist : ℕ → ℕ → ℕ) (near : NearLists) (rules : SearchRules) (s t : State) (awake : ℕ) (report : TrialReport)
-    (h : IsSearching size dist near rules s) (k : Leaves near dist rules s t awake report) where
+module _ (size : ℕ) (dist : ℕ → ℕ → ℕ) (near : NearLists) (rules : SearchRules) (s t : State) (awake kick swaps : ℕ) (report : TrialReport)
+    (h : IsSearching size dist near rules s) (k : Leaves near dist rules s t awake kick swaps report) where
   bounded : (rules.sweep ≡ false → t.totals.tests ≤ 4 * rules.or_segment * near.width * (length (order_of s.best) + 8 * (t.totals.trials - 1) + 6 * t.totals.moves)) →
       IsBounded (length (order_of s.best)) near.width rules (tour_length dist (order_of t.best)) t.totals
   bounded tests =
-      let n : ℕ = length (order_of s.best) in
-      let was : ℕ = tour_length dist (order_of s.best) in
-      let now : ℕ = tour_length dist (order_of t.best) in
-      record {
-        tests = tests;
-        swept = λ e. tests_swept n near.width was now 0 4 rules s.totals t.totals report k.adds h.bounds (h.bounds.swept e) (k.bounded.swept_tests e);
-        swaps = swaps_more n near.width was now 0 4 rules s.totals t.totals report k.adds h.bounds k.small.0 k.bounded.swaps k.swapped;
-        undo_swaps = k.counts.undone;
-        moves = moves_more n near.width was now 0 4 rules s.totals t.totals report k.adds h.bounds k.bounded.moves;
-        better = better_more n near.width was now 0 4 rules s.totals t.totals report k.adds h.bounds k.less k.same;
-        copied = copied_more n near.width was now 0 4 rules s.totals t.totals report k.adds h.bounds k.small.1 (omega arith) k.copied_to k.copied_back;
-      }
+      bounded_more (length (order_of s.best)) near.width (tour_length dist (order_of s.best)) (tour_length dist (order_of t.best)) kick swaps rules s.totals t.totals report k.adds h.bounds
+      k.settles k.few k.swapped k.bounded k.less k.same tests
 
   searches : (rules.sweep ≡ false → t.totals.tests ≤ 4 * rules.or_segment * near.width * (length (order_of s.best) + 8 * (t.totals.trials - 1) + 6 * t.totals.moves)) →
       IsSearching size dist near rules t
@@ -122,9 +120,9 @@ module _ (size : ℕ) (dist : ℕ → ℕ → ℕ) (near : NearLists) (rules : S
   pub searches_first : s.totals.trials ≡ 0 → awake ≡ length (order_of s.best) → IsSearching size dist near rules t
   searches_first none all =
       let P : ℕ → Type 0 = λ v. report.descent.tests ≤ 4 * rules.or_segment * near.width * (v + 6 * report.descent.moves) in
-      searches (λ o. tests_first (length (order_of s.best)) near.width (tour_length dist (order_of s.best)) 0 0 4 rules s.totals t.totals report k.adds h.bounds (h.untried none) (subst P all (k.bounded.tests o)))
+      searches (λ o. tests_first (length (order_of s.best)) near.width (tour_length dist (order_of s.best)) 0 kick swaps rules s.totals t.totals report k.adds h.bounds (h.untried none) (subst P all (k.bounded.tests o)))
 
   pub searches_kicked : 1 ≤ s.totals.trials → awake ≡ 8 → IsSearching size dist near rules t
   searches_kicked begun ends =
       let P : ℕ → Type 0 = λ v. report.descent.tests ≤ 4 * rules.or_segment * near.width * (v + 6 * report.descent.moves) in
-      searches (λ o. tests_kicked (length (order_of s.best)) near.width (tour_length dist (order_of s.best)) 0 0 4 rules s.totals t.totals report k.adds h.bounds begun (h.bounds.tests o) (subst P ends (k.bounded.tests o)))
+      searches (λ o. tests_kicked (length (order_of s.best)) near.width (tour_length dist (order_of s.best)) 0 kick swaps rules s.totals t.totals report k.adds h.bounds begun (h.bounds.tests o) (subst P ends (k.bounded.tests o)))

@@ -3,14 +3,14 @@ ghost use Rattle.std.specs.Prelude.{◌≡◌, ◌≤◌, ◌+◌, ◌*◌, ◌/
 ghost use Rattle.tk_metric.specs.Cities.{IsCity};
 ghost use Rattle.tk_tour.specs.Tour.{SameCycle};
 ghost use Rattle.tk_tour.specs.Counters.{saturated};
-ghost use Rattle.tk_build.specs.Cuts.{AreCuts, bridged, steps_out, steps_in};
+ghost use Rattle.tk_build.specs.Cuts.{AreCuts, bridged, kick_swaps, steps_out, steps_in};
 
 use crate::double_bridges::cuts::Cuts;
 use tk_metric::Metric;
 use tk_tour::TourStore;
-use tk_tour::laws::double_bridge;
 
 /// The double bridge: of the four parts that the cuts make of the tour, the second and the fourth change places, by four flips.
+/// The first turns all parts but the first round, and each of the others turns one of them back.
 pub fn kick<S: TourStore>(store: &mut S, cuts: Cuts)
     requires { AreCuts (length (S.cities store.old)) cuts }
     ensures bridged { SameCycle (S.cities store.new) (bridged cuts (S.cities store.old)) }
@@ -18,10 +18,15 @@ pub fn kick<S: TourStore>(store: &mut S, cuts: Cuts)
     ensures size { length (S.cities store.new) ≡ length (S.cities store.old) }
     ensures flips { S.flip_count store.new ≡ saturated (S.flip_count store.old + 4) }
     ensures rises { S.swap_count store.old ≤ S.swap_count store.new }
-    ensures swaps { S.swap_count store.new ≤ S.swap_count store.old + 4 * (length (S.cities store.old) / 4) }
+    ensures swaps { S.swap_count store.new
+        ≡ saturated (S.swap_count store.old + kick_swaps (length (S.cities store.old)) cuts) }
+    ensures few { kick_swaps (length (S.cities store.old)) cuts ≤ 4 * (length (S.cities store.old) / 4) }
 {
     let [a1, an, b1, bn, c1, cn, d1, dn] = cuts.ends(store);
-    double_bridge(store, a1, an, b1, bn, c1, cn, d1, dn);
+    let _ = store.flip(an, b1, dn, a1);
+    let _ = store.flip(an, dn, d1, cn);
+    let _ = store.flip(dn, cn, c1, bn);
+    let _ = store.flip(cn, bn, b1, a1);
 }
 
 /// The length of a tour after the double bridge, by its length before and the first and the last city of each part.

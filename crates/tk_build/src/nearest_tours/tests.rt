@@ -17,7 +17,7 @@ fn place(x: u16, y: u16) -> Point
     }
 }
 
-fn places(alloc: Global, corners: &[(u16, u16)]) -> Result<Points, AllocError>
+pub(crate) fn places(alloc: Global, corners: &[(u16, u16)]) -> Result<Points, AllocError>
     ensures { IfOk result (λ ps. length ps ≡ length corners.now) }
 {
     let mut points = Points::at_origin(alloc, corners.len())?;

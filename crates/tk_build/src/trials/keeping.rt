@@ -1,8 +1,8 @@
 //! The end of a trial: its result is taken as the best tour, or the best tour stands again.
 ghost use Rattle.std.specs.Prelude.{◌≡◌, ◌≤◌, ◌<◌, ◌+◌, true, false, length};
 ghost use Rattle.tk_tour.specs.Counters.{saturated};
-ghost use Rattle.tk_tour.specs.ArrayTours.{order_of, swaps_of, copied_of};
-ghost use Rattle.tk_tour.specs.JournalTours.{tour_of, slots_of, flips_since, settled_order};
+ghost use Rattle.tk_tour.specs.ArrayTours.{order_of, swaps_of, undo_swaps_of, copied_of};
+ghost use Rattle.tk_tour.specs.JournalTours.{tour_of, slots_of, flips_since, settled_order, swaps_to_rewind};
 ghost use Rattle.tk_build.specs.Settled.{IsAtBest};
 
 use tk_tour::{ArrayTour, JournalTour};
@@ -16,13 +16,14 @@ pub(crate) fn keep_better(tour: &mut JournalTour, best: &mut ArrayTour, better: 
     ensures at_best { IsAtBest tour.new best.new }
     ensures swaps { swaps_of (tour_of tour.new) ≡ swaps_of (tour_of tour.old) }
     ensures slots { slots_of tour.new ≡ slots_of tour.old }
-    ensures copied { better ≡ true → (copied_of best.new
-        ≡ saturated (copied_of best.old + length (order_of best.old)))
+    ensures taken { better ≡ true → (undo_swaps_of (tour_of tour.new) ≡ undo_swaps_of (tour_of tour.old))
+        × (copied_of best.new ≡ saturated (copied_of best.old + length (order_of best.old)))
         × (copied_of (tour_of tour.new) ≡ copied_of (tour_of tour.old)) }
     ensures rewound { better ≡ false → flips_since tour.old ≤ slots_of tour.old
-        → (copied_of best.new ≡ copied_of best.old) × (copied_of (tour_of tour.new) ≡ copied_of (tour_of tour.old)) }
+        → (undo_swaps_of (tour_of tour.new) ≡ saturated (undo_swaps_of (tour_of tour.old) + swaps_to_rewind tour.old))
+        × (copied_of best.new ≡ copied_of best.old) × (copied_of (tour_of tour.new) ≡ copied_of (tour_of tour.old)) }
     ensures restored { better ≡ false → slots_of tour.old < flips_since tour.old
-        → (copied_of best.new ≡ copied_of best.old)
+        → (undo_swaps_of (tour_of tour.new) ≡ undo_swaps_of (tour_of tour.old)) × (copied_of best.new ≡ copied_of best.old)
         × (copied_of (tour_of tour.new) ≡ saturated (copied_of (tour_of tour.old) + length (order_of best.old))) }
 {
     if better {

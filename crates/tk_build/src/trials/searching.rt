@@ -1,9 +1,7 @@
 //! A search: descents from a start, and then from kicks of the best tour.
-ghost use Rattle.std.specs.Prelude.{◌≡◌, pos, ◌≤◌, ◌<◌, IfOk, length, false};
-ghost use Rattle.tk_tour.specs.Tour.{tour_length};
+ghost use Rattle.std.specs.Prelude.{◌≡◌, ◌≤◌, ◌<◌, IfOk, length, false};
 ghost use Rattle.tk_tour.specs.ArrayTours.{order_of};
-ghost use Rattle.tk_build.specs.Totals.{IsBounded};
-ghost use Rattle.tk_build.specs.Searching.{IsSearching, IsBegun, IsFirstTrial, IsKickedTrial, IsNoTrial, searching};
+ghost use Rattle.tk_build.specs.Searching.{IsSearching, IsBegun, IsBoundedSearch, NextTrial};
 
 use crate::trials::descending::SearchRules;
 use crate::trials::state::State;
@@ -47,6 +45,8 @@ pub struct Search<'a, M: Metric> {
 }
 
 impl<'a, M: Metric> Search<'a, M> {
+    ghost use Rattle.tk_build.specs.SearchOf.{search_of};
+
     /// A search from a tour, before its first trial. All its growths are made here.
     ///
     /// # Errors
@@ -60,7 +60,7 @@ impl<'a, M: Metric> Search<'a, M> {
     ) -> Result<Search<'a, M>, AllocError>
         requires fits { (M.size_of metric.now ≡ length (order_of start)) × (near.now.size ≡ length (order_of start)) }
         requires most { (1 ≤ rules.or_segment) × (rules.or_segment ≤ 3) }
-        ensures begun { IfOk result (λ s. IsBegun (searching (M.distance s.metric.now) s.near.now s.rules s.state) (M.distance metric.now) near.now rules (order_of start)) }
+        ensures begun { IfOk result (λ s. IsBegun (search_of s) (M.distance metric.now) near.now rules (order_of start)) }
     {
         let shortest = length(metric, start.order());
         let Ok(best) = ArrayTour::from_list(alloc, start.order()) else {
@@ -83,11 +83,8 @@ impl<'a, M: Metric> Search<'a, M> {
 
     /// The next trial. After the first one, a trial on fewer than 8 cities does nothing.
     pub fn trial<R: Rng>(&mut self, rng: &mut R) -> TrialReport
-        ensures first { let old = searching (M.distance self.old.metric.now) self.old.near.now self.old.rules self.old.state in let new = searching (M.distance self.new.metric.now) self.new.near.now self.new.rules self.new.state in old.totals.trials ≡ 0 → IsFirstTrial old new result × (rng.new ≡ rng.old) }
-        ensures kicked { let old = searching (M.distance self.old.metric.now) self.old.near.now self.old.rules self.old.state in let new = searching (M.distance self.new.metric.now) self.new.near.now self.new.rules self.new.state in 1 ≤ old.totals.trials → 8 ≤ length old.best → IsKickedTrial old (R.stream rng.old) new (R.stream rng.new) result }
-        ensures none { let old = searching (M.distance self.old.metric.now) self.old.near.now self.old.rules self.old.state in 1 ≤ old.totals.trials → length old.best < 8 → (self.new ≡ self.old) × IsNoTrial old result × (rng.new ≡ rng.old) }
-        ensures kept { (self.new.metric.now ≡ self.old.metric.now) × (self.new.near.now ≡ self.old.near.now)
-            × (self.new.rules ≡ self.old.rules) }
+        ensures next { NextTrial (search_of self.old) (R.stream rng.old) (search_of self.new) (R.stream rng.new) result }
+        ensures undrawn { result.kicked ≡ false → rng.new ≡ rng.old }
     {
         if self.state.totals.trials == 0 {
             let before = self.state.shortest;
@@ -106,15 +103,15 @@ impl<'a, M: Metric> Search<'a, M> {
 
     /// The best tour so far: the cities in their order.
     pub fn best(&self) -> &[u32]
-        ensures { result.now ≡ (searching (M.distance self.now.metric.now) self.now.near.now self.now.rules self.now.state).best }
+        ensures { result.now ≡ (search_of self.now).best }
     {
         self.state.best.order()
     }
 
     /// What the search counted so far.
     pub fn totals(&self) -> Totals
-        ensures value { result ≡ (searching (M.distance self.now.metric.now) self.now.near.now self.now.rules self.now.state).totals }
-        ensures bounded { let search = searching (M.distance self.now.metric.now) self.now.near.now self.now.rules self.now.state in IsBounded (length search.best) search.near.width search.rules (tour_length search.distance search.best) result }
+        ensures value { result ≡ (search_of self.now).totals }
+        ensures bounded { IsBoundedSearch (search_of self.now) }
     {
         self.state.totals
     }

@@ -4,9 +4,11 @@ ghost use Rattle.tk_metric.specs.Cities.{IsCity};
 ghost use Rattle.tk_descent.specs.Awake.{one_to, woken_each};
 ghost use Rattle.tk_metric.specs.Near.{near_of};
 ghost use Rattle.tk_tour.specs.Tour.{tour_length};
-ghost use Rattle.tk_tour.specs.ArrayTours.{order_of, swaps_of, copied_of};
+ghost use Rattle.tk_tour.specs.ArrayTours.{order_of, swaps_of};
 ghost use Rattle.tk_tour.specs.Counters.{saturated};
 ghost use Rattle.tk_tour.specs.JournalTours.{tour_of, slots_of, flips_since, settled_order, KeepsSettled};
+ghost use Rattle.tk_build.specs.Cuts.{kick_swaps};
+ghost use Rattle.tk_build.specs.Ending.{EndsTrial};
 ghost use Rattle.tk_build.specs.Settled.{IsAtBest};
 ghost use Rattle.tk_build.specs.Totals.{AddsTrial, AreCountsOf};
 ghost use Rattle.tk_build.specs.Trials.{IsTrial, IsBoundedTrial, IsKick, gain_of};
@@ -79,10 +81,7 @@ impl State {
         ensures small { (self.new.totals.swaps < 2 ^ 64) × (self.new.totals.copied < 2 ^ 65) }
         ensures bounded { IsBoundedTrial (length (order_of self.old.best)) near.now.width (length self.old.waking.queue) rules result }
         ensures swapped { swaps_of (tour_of self.new.tour) ≡ swaps_of (tour_of self.old.tour) + result.descent.swaps }
-        ensures copied_to { result.better ≡ true
-            → copied_of (tour_of self.new.tour) + copied_of self.new.best ≤ copied_of (tour_of self.old.tour) + copied_of self.old.best + length (order_of self.old.best) }
-        ensures copied_back { result.better ≡ false
-            → copied_of (tour_of self.new.tour) + copied_of self.new.best ≤ copied_of (tour_of self.old.tour) + copied_of self.old.best + (flips_since self.old.tour + 3 * result.descent.moves - 1) }
+        ensures ends { EndsTrial self.old self.new result }
     {
         let SweptReport { descent, passes } = descend_by(
             &mut self.tour,
@@ -116,11 +115,11 @@ impl State {
             × (self.old.waking.size ≡ length (order_of (tour_of self.old.tour))) }
         requires shortest { self.old.shortest
             ≡ pos (tour_length (M.distance metric.now) (order_of (tour_of self.old.tour))) }
-        ensures kicked { IsKick (order_of (tour_of self.old.tour)) (R.stream rng.old) sweep self.old.waking.queue (order_of (tour_of self.new.tour)) (R.stream rng.new) self.new.waking.queue }
+        ensures kicked { (kick : IsKick (order_of (tour_of self.old.tour)) (R.stream rng.old) sweep self.old.waking.queue (order_of (tour_of self.new.tour)) (R.stream rng.new) self.new.waking.queue)
+            × (swaps_of (tour_of self.new.tour)
+            ≡ saturated (swaps_of (tour_of self.old.tour) + kick_swaps (length (order_of (tour_of self.old.tour))) kick.cuts)) }
         ensures length { result ≡ pos (tour_length (M.distance metric.now) (order_of (tour_of self.new.tour))) }
         ensures flips { flips_since self.new.tour ≡ saturated (flips_since self.old.tour + 4) }
-        ensures swaps { (swaps_of (tour_of self.old.tour) ≤ swaps_of (tour_of self.new.tour))
-            × (swaps_of (tour_of self.new.tour) ≤ swaps_of (tour_of self.old.tour) + 4 * (length (order_of (tour_of self.old.tour)) / 4)) }
         ensures kept { KeepsSettled self.old.tour self.new.tour }
         ensures size { length (order_of (tour_of self.new.tour)) ≡ length (order_of (tour_of self.old.tour)) }
         ensures others { (self.new.best ≡ self.old.best) × (self.new.shortest ≡ self.old.shortest)

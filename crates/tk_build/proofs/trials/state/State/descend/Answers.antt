@@ -1,5 +1,4 @@
-use Rattle.std.proofs.Common.{rules, ◌≤◌, ◌+◌, ◌*◌, ◌/◌, ◌<◌, ⊎_elim, ℕ, arith, ap, ◌∙◌, sym, subst}
-use Rattle.std.proofs.lemmas.Bool.{cases_lt}
+use Rattle.std.proofs.Common.{rules, ◌≤◌, ◌+◌, ◌*◌, ◌/◌, ℕ, arith, ap, ◌∙◌, sym, subst}
 use Rattle.std.proofs.lemmas.Int.{to_z-of_z}
 use Rattle.std.specs.Prelude.{pos}
 use Rattle.tk_tour.specs.Tour.{tour_length}
@@ -51,24 +50,24 @@ returns-clause-adds g c =
 pub returns-clause-swapped : goal.returns-clause-swapped
 returns-clause-swapped g c = c.keep_better.ensures.swaps ∙ c.descend_by-passes.ensures.swapped
 
-pub returns-clause-copied_to : goal.returns-clause-copied_to
-returns-clause-copied_to g c = λ h.
-    let kept : KeepsSettled c.args.self.now.tour c.descend_by-passes.new.store = c.descend_by-passes.ensures.flips_only in
-    let k = c.keep_better.ensures.copied h in
-    omega (arith, k.0, k.1, kept.copied)
-
-pub returns-clause-copied_back : goal.returns-clause-copied_back
-returns-clause-copied_back g c = λ h.
+pub returns-clause-ends : goal.returns-clause-ends
+returns-clause-ends g c =
     let tour = c.descend_by-passes.new.store in
     let kept : KeepsSettled c.args.self.now.tour tour = c.descend_by-passes.ensures.flips_only in
-    ⊎_elim
-    (λ (lost : slots_of tour < flips_since tour).
-    let k = c.keep_better.ensures.restored h lost in
-    omega (arith, k.0, k.1, kept.copied, kept.slots, c.requires.slots, c.descend_by-passes.ensures.flips))
-    (λ (room : flips_since tour ≤ slots_of tour).
-    let k = c.keep_better.ensures.rewound h room in
-    omega (arith, k.0, k.1, kept.copied))
-    (cases_lt (slots_of tour) (flips_since tour))
+    let k = c.keep_better.ensures in
+    record {
+      flips = flips_since tour;
+      made = (kept.flips, c.descend_by-passes.ensures.flips);
+      taken = λ h. let t = k.taken h in (t.0 ∙ kept.undo_swaps, record { most = omega (arith, t.1, t.2, kept.copied); exact = λ few. omega (arith, t.1, t.2, kept.copied, few) });
+      undone = λ h room.
+          let fits : flips_since tour ≤ slots_of tour = omega (arith, room, kept.slots) in
+          let r = k.rewound h fits in
+          let more = kept.swaps fits in
+          (more.0, k.swaps ∙ more.2, omega (arith, r.0, kept.undo_swaps, more.1), omega (arith, r.1, r.2, kept.copied));
+      restored = λ h many.
+          let r = k.restored h (omega (arith, many, kept.slots)) in
+          (r.0 ∙ kept.undo_swaps, record { most = omega (arith, r.1, r.2, kept.copied); exact = λ few. omega (arith, r.1, r.2, kept.copied, few) });
+    }
 
 pub returns-clause-bounded : goal.returns-clause-bounded
 returns-clause-bounded g c =
