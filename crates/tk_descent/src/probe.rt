@@ -71,8 +71,14 @@ impl<'a, M: Metric> Gains for Probe<'a, M> {
     }
 
     #[inline]
-    fn find_offer<S: TourStore>(&mut self, s: &S, near: &Near, m: u32, x: u32) -> Option<Found> {
-        find_offer(s, self.metric, &mut self.count, near, m, x)
+    fn find_offer<S: TourStore>(
+        &mut self,
+        tour: &S,
+        near: &Near,
+        or_segment: u32,
+        city: u32,
+    ) -> Option<Found> {
+        find_offer(tour, self.metric, &mut self.count, near, or_segment, city)
     }
 
     ghost symmetric = { λ p. M.symmetric p.metric.now };
