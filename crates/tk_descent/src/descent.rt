@@ -57,8 +57,8 @@ fn wake_ends(waking: &mut Waking, offer: &Offer)
     }
 }
 
-/// Looks at the waking cities in turn, first in first out. Where a look finds an offer its move is made and the ends of the move
-/// are woken. It ends when no city is awake.
+/// Looks at the waking cities in turn, first in first out. Where a look finds an offer its move is made and the ends of the
+/// move are woken. It ends when no city is awake.
 ///
 /// `or_segment` is the greatest length of a segment that an Or-move moves, and `before` the length of the tour.
 pub fn descend<S: TourStore, G: Gains>(
@@ -73,25 +73,32 @@ pub fn descend<S: TourStore, G: Gains>(
         × (waking.old.size ≡ length (S.cities tour.old)) }
     requires most { (1 ≤ or_segment) × (or_segment ≤ 3) }
     requires before { before ≡ pos (tour_length (G.distance gains.old) (S.cities tour.old)) }
-    ensures run { (tests : ℕ) × Run (G.distance gains.old) (near_of near.now) or_segment (S.cities tour.old) waking.old.queue (S.cities tour.new) [] result.looks result.moves tests × (G.test_count gains.new ≡ saturated (G.test_count gains.old + tests)) }
+    ensures run { (tests : ℕ) × Run (G.distance gains.old) (near_of near.now) or_segment
+        (S.cities tour.old) waking.old.queue (S.cities tour.new) [] result.looks result.moves tests
+        × (G.test_count gains.new ≡ saturated (G.test_count gains.old + tests)) }
     ensures fresh { G.test_count gains.old ≡ 0
-        → Run (G.distance gains.old) (near_of near.now) or_segment (S.cities tour.old) waking.old.queue (S.cities tour.new) [] result.looks result.moves result.tests }
-    ensures wakes { Wakes (G.distance gains.old) (near_of near.now) or_segment (S.cities tour.old) waking.old.queue (S.cities tour.new) [] }
+        → Run (G.distance gains.old) (near_of near.now) or_segment (S.cities tour.old) waking.old.queue
+        (S.cities tour.new) [] result.looks result.moves result.tests }
+    ensures wakes { Wakes (G.distance gains.old) (near_of near.now) or_segment (S.cities tour.old) waking.old.queue
+        (S.cities tour.new) [] }
     ensures asleep { waking.new.queue ≡ [] }
     ensures stored { length near.now.entries ≡ length (S.cities tour.old) * near.now.width }
     ensures tour { IsTour (length (S.cities tour.old)) (S.cities tour.new) }
     ensures lengths { (result.before ≡ before)
         × (result.after ≡ pos (tour_length (G.distance gains.old) (S.cities tour.new))) }
-    ensures moves { result.moves + tour_length (G.distance gains.old) (S.cities tour.new) ≤ tour_length (G.distance gains.old) (S.cities tour.old) }
+    ensures moves { result.moves + tour_length (G.distance gains.old) (S.cities tour.new)
+        ≤ tour_length (G.distance gains.old) (S.cities tour.old) }
     ensures looks { result.looks ≤ length waking.old.queue + 6 * result.moves }
     ensures tests { result.tests ≤ 4 * or_segment * near.now.width * (length waking.old.queue + 6 * result.moves) }
-    ensures headline { result.tests ≤ 4 * or_segment * near.now.width * (length (S.cities tour.old) + 6 * (tour_length (G.distance gains.old) (S.cities tour.old) - tour_length (G.distance gains.old) (S.cities tour.new))) }
+    ensures headline { result.tests ≤ 4 * or_segment * near.now.width * (length (S.cities tour.old)
+        + 6 * (tour_length (G.distance gains.old) (S.cities tour.old) - tour_length (G.distance gains.old) (S.cities tour.new))) }
     ensures tested { result.tests ≡ G.test_count gains.new - G.test_count gains.old }
     ensures swaps { result.swaps ≤ 3 * (length (S.cities tour.old) / 4) * result.moves }
     ensures swapped { result.swaps ≡ S.swap_count tour.new - S.swap_count tour.old }
     ensures flips { S.flip_count tour.new ≤ S.flip_count tour.old + 3 * result.moves }
     ensures flips_only { S.FlipsOnly tour.old tour.new }
-    ensures rises { (G.test_count gains.old ≤ G.test_count gains.new) × (S.swap_count tour.old ≤ S.swap_count tour.new) }
+    ensures rises { (G.test_count gains.old ≤ G.test_count gains.new)
+        × (S.swap_count tour.old ≤ S.swap_count tour.new) }
     ensures kept { (G.distance gains.new ≡ G.distance gains.old) × (G.size_of gains.new ≡ G.size_of gains.old)
         × (length (S.cities tour.new) ≡ length (S.cities tour.old)) × (waking.new.size ≡ waking.old.size) }
 {

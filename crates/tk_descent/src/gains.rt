@@ -84,7 +84,8 @@ pub trait Gains {
         requires fits { (size_of self.old ≡ length (S.cities tour.now)) × (near.now.size ≡ length (S.cities tour.now)) }
         requires city { IsCity (length (S.cities tour.now)) city }
         requires most { (1 ≤ or_segment) × (or_segment ≤ 3) }
-        ensures searched { Searched (distance self.old) (offers (S.cities tour.now) or_segment (near_of near.now city) city) result (test_count self.old) (test_count self.new) }
+        ensures searched { Searched (distance self.old) (offers (S.cities tour.now) or_segment (near_of near.now city) city)
+            result (test_count self.old) (test_count self.new) }
         ensures on_cycle { IfSome result (λ f. IsOfferOn or_segment f.offer (S.cities tour.now)
             × EndsIn (length (S.cities tour.now)) f.offer) }
         ensures bound { test_count self.new ≤ test_count self.old + 4 * or_segment * near.now.width }

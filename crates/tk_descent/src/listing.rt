@@ -72,7 +72,9 @@ impl OfferList {
 pub(crate) fn offers_with<S: TourStore>(tour: &S, or_segment: u32, x: u32, y: u32) -> OfferList
     requires x { IsCity (length (S.cities tour.now)) x }
     requires y { IsCity (length (S.cities tour.now)) y }
-    ensures { result ≡ offers_with (next_city (S.cities tour.now)) (prev_city (S.cities tour.now)) (segments (next_city (S.cities tour.now)) (prev_city (S.cities tour.now)) (length (S.cities tour.now)) or_segment x) x y }
+    ensures { result ≡ offers_with (next_city (S.cities tour.now)) (prev_city (S.cities tour.now))
+        (segments (next_city (S.cities tour.now)) (prev_city (S.cities tour.now))
+        (length (S.cities tour.now)) or_segment x) x y }
 {
     let (x_after, x_before) = (next(tour, x), prev(tour, x));
     let (y_after, y_before) = (next(tour, y), prev(tour, y));

@@ -133,7 +133,9 @@ fn try_city<M: Metric>(
     requires from { IsBeside (M.size_of metric.now) (M.distance metric.now) x.now }
     requires pieces { All (IsPiece (M.size_of metric.now) (M.distance metric.now) x.now.city) pieces.now }
     requires beside { IsBeside (M.size_of metric.now) (M.distance metric.now) y.now }
-    ensures { Searched (M.distance metric.now) (Two x.now.city x.now.after y.now.city y.now.after ∷ Two x.now.city x.now.before y.now.city y.now.before ∷ flat_map (piece_offers x.now.city y.now) pieces.now) result count.old count.new }
+    ensures { Searched (M.distance metric.now)
+        (Two x.now.city x.now.after y.now.city y.now.after ∷ Two x.now.city x.now.before y.now.city y.now.before
+        ∷ flat_map (piece_offers x.now.city y.now) pieces.now) result count.old count.new }
 {
     let across = metric.dist(x.city, y.city);
     let margin = x.to_after + y.to_after - across;
@@ -159,7 +161,8 @@ pub(crate) fn find_offer<S: TourStore, M: Metric>(
     requires fits { (M.size_of metric.now ≡ length (S.cities tour.now)) × (near.now.size ≡ length (S.cities tour.now)) }
     requires city { IsCity (length (S.cities tour.now)) city }
     requires most { (1 ≤ or_segment) × (or_segment ≤ 3) }
-    ensures searched { Searched (M.distance metric.now) (offers (S.cities tour.now) or_segment (near_of near.now city) city) result count.old count.new }
+    ensures searched { Searched (M.distance metric.now)
+        (offers (S.cities tour.now) or_segment (near_of near.now city) city) result count.old count.new }
     ensures on_cycle { IfSome result (λ f. IsOfferOn or_segment f.offer (S.cities tour.now)
         × EndsIn (length (S.cities tour.now)) f.offer) }
     ensures bound { count.new ≤ count.old + 4 * or_segment * near.now.width }
@@ -188,10 +191,15 @@ pub fn look<S: TourStore, G: Gains>(
     requires fits { (G.size_of gains.old ≡ length (S.cities tour.now)) × (near.now.size ≡ length (S.cities tour.now)) }
     requires city { IsCity (length (S.cities tour.now)) city }
     requires most { (1 ≤ or_segment) × (or_segment ≤ 3) }
-    ensures first { result ≡ first_gain (G.distance gains.old) (offers (S.cities tour.now) or_segment (near_of near.now city) city) }
-    ensures tests { G.test_count gains.new ≡ saturated (G.test_count gains.old + tests_to (G.distance gains.old) (offers (S.cities tour.now) or_segment (near_of near.now city) city)) }
-    ensures on_cycle { IfSome result (λ o. IsOfferOn or_segment o (S.cities tour.now) × EndsIn (length (S.cities tour.now)) o) }
-    ensures none { result ≡ None → HasNoOffer (G.distance gains.old) (near_of near.now) or_segment city (S.cities tour.now) }
+    ensures first { result ≡ first_gain (G.distance gains.old)
+        (offers (S.cities tour.now) or_segment (near_of near.now city) city) }
+    ensures tests { G.test_count gains.new
+        ≡ saturated (G.test_count gains.old + tests_to (G.distance gains.old)
+        (offers (S.cities tour.now) or_segment (near_of near.now city) city)) }
+    ensures on_cycle { IfSome result (λ o. IsOfferOn or_segment o (S.cities tour.now)
+        × EndsIn (length (S.cities tour.now)) o) }
+    ensures none { result ≡ None → HasNoOffer (G.distance gains.old) (near_of near.now) or_segment city
+        (S.cities tour.now) }
     ensures bound { G.test_count gains.new ≤ G.test_count gains.old + 4 * or_segment * near.now.width }
     ensures same { (G.distance gains.new ≡ G.distance gains.old) × (G.size_of gains.new ≡ G.size_of gains.old) }
 {
