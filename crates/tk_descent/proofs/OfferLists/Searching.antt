@@ -63,13 +63,9 @@ Searched-stop d xs ys f t u h =
     let e : first_gain d xs ≡ Some f.offer = sym h.found in
     record { found = sym (first_gain-found d xs ys f.offer e); worth = h.worth; tests = h.tests ∙ ap (λ z. saturated (t + z)) (sym (tests_to-found d xs ys f.offer e)) }
 
--- one more of what gives offers
-pub flat_map-more : {X : Type 0} (f : X → List Offer) (xs : List X) (i : ℕ) (x : X) → i < length xs → flat_map f (take (i + 1) xs) ≡ flat_map f (take i xs) ++ f (get_or xs i x)
-flat_map-more f xs i x at = ap (flat_map f) (take_more xs i x at) ∙ flat_map-append f (take i xs) (get_or xs i x ∷ []) ∙ ap (λ z. flat_map f (take i xs) ++ z) (append-nil (f (get_or xs i x)))
-
 module _ {X : Type 0} (d : ℕ → ℕ → ℕ) (f : X → List Offer) (xs : List X) (i : ℕ) (x : X) (at : i < length xs) (t u v : ℕ) where
   one_more : flat_map f (take (i + 1) xs) ≡ flat_map f (take i xs) ++ f (get_or xs i x)
-  one_more = flat_map-more f xs i x at
+  one_more = ap (flat_map f) (take_more xs i x at) ∙ flat_map-append f (take i xs) (get_or xs i x ∷ []) ∙ ap (λ z. flat_map f (take i xs) ++ z) (append-nil (f (get_or xs i x)))
 
   pub Searched-more : Searched d (flat_map f (take i xs)) None t u → Searched d (f (get_or xs i x)) None u v → Searched d (flat_map f (take (i + 1) xs)) None t v
   Searched-more h k = rw one_more (Searched-on d (flat_map f (take i xs)) (f (get_or xs i x)) None t u v h k)

@@ -2,7 +2,6 @@
 use Rattle.std.proofs.Common.{◌≡◌, ℕ, ◌+◌, ◌*◌, ◌≤◌, List, ◌∷◌, ◌++◌, length, reverse, refl, ◌∙◌, ap, arith, inl, inr, length-append}
 use Rattle.tk_tour.specs.Tour.{IsRotation, SameCycle, IsSizedTour, occurrences}
 use Rattle.tk_tour.proofs.Once.{occurrences-append, occurrences-reverse, occurrences-cycle}
-use Rattle.tk_descent.specs.Offers.{Makes, ends}
 use Rattle.tk_descent.specs.declared.offer.Offer.{Offer}
 use Rattle.tk_descent.specs.declared.offer.Offer.TheVariants.{Two, Or}
 use Rattle.tk_descent.specs.Machine.{Run}
