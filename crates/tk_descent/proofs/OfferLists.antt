@@ -3,4 +3,5 @@ pub mod Count
 pub mod Listed
 pub mod Made
 pub mod OnCycle
+pub mod OneByOne
 pub mod Searching

@@ -1,4 +1,5 @@
 pub mod DescentSteps
+pub mod Kept
 pub mod Machines
 pub mod Passes
 pub mod Queue

@@ -57,53 +57,60 @@ fn wake_ends(waking: &mut Waking, offer: &Offer)
     }
 }
 
-/// Looks at the waking cities in turn, first in first out. Where a look finds an offer its move is made and the ends of the move
-/// are woken. It ends when no city is awake.
+/// Looks at the waking cities in turn, first in first out. Where a look finds an offer its move is made and the ends of the
+/// move are woken. It ends when no city is awake.
 ///
-/// `m` is the greatest segment length of an Or-move, and `before` the length of the tour.
+/// `or_segment` is the greatest length of a segment that an Or-move moves, and `before` the length of the tour.
 pub fn descend<S: TourStore, G: Gains>(
-    s: &mut S,
-    g: &mut G,
+    tour: &mut S,
+    gains: &mut G,
     near: &Near,
     waking: &mut Waking,
-    m: u32,
+    or_segment: u32,
     before: i64,
 ) -> Report
-    requires fits { (G.size_of g.old ≡ length (S.cities s.old)) × (near.now.size ≡ length (S.cities s.old))
-        × (waking.old.size ≡ length (S.cities s.old)) }
-    requires most { (1 ≤ m) × (m ≤ 3) }
-    requires before { before ≡ pos (tour_length (G.distance g.old) (S.cities s.old)) }
-    ensures run { (tests : ℕ) × Run (G.distance g.old) (near_of near.now) m (S.cities s.old) waking.old.queue (S.cities s.new) [] result.looks result.moves tests × (G.test_count g.new ≡ saturated (G.test_count g.old + tests)) }
-    ensures fresh { G.test_count g.old ≡ 0
-        → Run (G.distance g.old) (near_of near.now) m (S.cities s.old) waking.old.queue (S.cities s.new) [] result.looks result.moves result.tests }
-    ensures wakes { Wakes (G.distance g.old) (near_of near.now) m (S.cities s.old) waking.old.queue (S.cities s.new) [] }
+    requires fits { (G.size_of gains.old ≡ length (S.cities tour.old)) × (near.now.size ≡ length (S.cities tour.old))
+        × (waking.old.size ≡ length (S.cities tour.old)) }
+    requires most { (1 ≤ or_segment) × (or_segment ≤ 3) }
+    requires before { before ≡ pos (tour_length (G.distance gains.old) (S.cities tour.old)) }
+    ensures run { (tests : ℕ) × Run (G.distance gains.old) (near_of near.now) or_segment
+        (S.cities tour.old) waking.old.queue (S.cities tour.new) [] result.looks result.moves tests
+        × (G.test_count gains.new ≡ saturated (G.test_count gains.old + tests)) }
+    ensures fresh { G.test_count gains.old ≡ 0
+        → Run (G.distance gains.old) (near_of near.now) or_segment (S.cities tour.old) waking.old.queue
+        (S.cities tour.new) [] result.looks result.moves result.tests }
+    ensures wakes { Wakes (G.distance gains.old) (near_of near.now) or_segment (S.cities tour.old) waking.old.queue
+        (S.cities tour.new) [] }
     ensures asleep { waking.new.queue ≡ [] }
-    ensures stored { length near.now.entries ≡ length (S.cities s.old) * near.now.width }
-    ensures tour { IsTour (length (S.cities s.old)) (S.cities s.new) }
+    ensures stored { length near.now.entries ≡ length (S.cities tour.old) * near.now.width }
+    ensures tour { IsTour (length (S.cities tour.old)) (S.cities tour.new) }
     ensures lengths { (result.before ≡ before)
-        × (result.after ≡ pos (tour_length (G.distance g.old) (S.cities s.new))) }
-    ensures moves { result.moves + tour_length (G.distance g.old) (S.cities s.new) ≤ tour_length (G.distance g.old) (S.cities s.old) }
+        × (result.after ≡ pos (tour_length (G.distance gains.old) (S.cities tour.new))) }
+    ensures moves { result.moves + tour_length (G.distance gains.old) (S.cities tour.new)
+        ≤ tour_length (G.distance gains.old) (S.cities tour.old) }
     ensures looks { result.looks ≤ length waking.old.queue + 6 * result.moves }
-    ensures tests { result.tests ≤ 4 * m * near.now.width * (length waking.old.queue + 6 * result.moves) }
-    ensures headline { result.tests ≤ 4 * m * near.now.width * (length (S.cities s.old) + 6 * (tour_length (G.distance g.old) (S.cities s.old) - tour_length (G.distance g.old) (S.cities s.new))) }
-    ensures tested { result.tests ≡ G.test_count g.new - G.test_count g.old }
-    ensures swaps { result.swaps ≤ 3 * (length (S.cities s.old) / 4) * result.moves }
-    ensures swapped { result.swaps ≡ S.swap_count s.new - S.swap_count s.old }
-    ensures flips { S.flip_count s.new ≤ S.flip_count s.old + 3 * result.moves }
-    ensures flips_only { S.FlipsOnly s.old s.new }
-    ensures rises { (G.test_count g.old ≤ G.test_count g.new) × (S.swap_count s.old ≤ S.swap_count s.new) }
-    ensures kept { (G.distance g.new ≡ G.distance g.old) × (G.size_of g.new ≡ G.size_of g.old)
-        × (length (S.cities s.new) ≡ length (S.cities s.old)) × (waking.new.size ≡ waking.old.size) }
+    ensures tests { result.tests ≤ 4 * or_segment * near.now.width * (length waking.old.queue + 6 * result.moves) }
+    ensures headline { result.tests ≤ 4 * or_segment * near.now.width * (length (S.cities tour.old)
+        + 6 * (tour_length (G.distance gains.old) (S.cities tour.old) - tour_length (G.distance gains.old) (S.cities tour.new))) }
+    ensures tested { result.tests ≡ G.test_count gains.new - G.test_count gains.old }
+    ensures swaps { result.swaps ≤ 3 * (length (S.cities tour.old) / 4) * result.moves }
+    ensures swapped { result.swaps ≡ S.swap_count tour.new - S.swap_count tour.old }
+    ensures flips { S.flip_count tour.new ≤ S.flip_count tour.old + 3 * result.moves }
+    ensures flips_only { S.FlipsOnly tour.old tour.new }
+    ensures rises { (G.test_count gains.old ≤ G.test_count gains.new)
+        × (S.swap_count tour.old ≤ S.swap_count tour.new) }
+    ensures kept { (G.distance gains.new ≡ G.distance gains.old) × (G.size_of gains.new ≡ G.size_of gains.old)
+        × (length (S.cities tour.new) ≡ length (S.cities tour.old)) × (waking.new.size ≡ waking.old.size) }
 {
-    let (tests, swaps) = (g.tests(), s.swaps());
-    let (_cities, _awake, _candidates) = (size(s), waking.len(), near.width());
+    let (tests, swaps) = (gains.tests(), tour.swaps());
+    let (_cities, _awake, _candidates) = (size(tour), waking.len(), near.width());
     let mut after = before;
     let mut moves = 0;
     let mut looks = 0;
     while let Some(x) = waking.take() {
         looks += 1;
-        if let Some(found) = g.find_offer(s, near, m, x) {
-            make(s, &found.offer);
+        if let Some(found) = gains.find_offer(tour, near, or_segment, x) {
+            make(tour, &found.offer);
             wake_ends(waking, &found.offer);
             after -= found.gain;
             moves += 1;
@@ -114,7 +121,7 @@ pub fn descend<S: TourStore, G: Gains>(
         after,
         moves,
         looks,
-        tests: g.tests() - tests,
-        swaps: s.swaps() - swaps,
+        tests: gains.tests() - tests,
+        swaps: tour.swaps() - swaps,
     }
 }

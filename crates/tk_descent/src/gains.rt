@@ -1,5 +1,5 @@
 //! Gains of moves: the only way by which a descent learns distances.
-ghost use Rattle.std.specs.Prelude.{◌≡◌, ℕ, ◌+◌, ◌-◌, ◌*◌, ◌^◌, ◌≤◌, IfSome, length};
+ghost use Rattle.std.specs.Prelude.{◌≡◌, ℕ, ◌+◌, ◌-◌, ◌*◌, ◌^◌, ◌≤◌, All, IfSome, length};
 ghost use Rattle.tk_metric.specs.Cities.{IsCity};
 ghost use Rattle.tk_metric.specs.Near.{near_of};
 ghost use Rattle.tk_tour.specs.Counters.{saturated};
@@ -7,7 +7,8 @@ ghost use Rattle.tk_descent.specs.Offers.{gain, offers, Searched, EndsIn};
 ghost use Rattle.tk_descent.specs.Machine.{IsOfferOn};
 ghost use Rattle.tk_descent.specs.declared.offer.Offer.TheVariants.{Two, Or};
 
-use crate::offer::Found;
+use crate::listing::offers_with;
+use crate::offer::{Found, Offer};
 use tk_metric::Near;
 use tk_tour::TourStore;
 
@@ -40,16 +41,65 @@ pub trait Gains {
         ensures count { test_count self.new ≡ saturated (test_count self.old + 1) }
         ensures same { (distance self.new ≡ distance self.old) × (size_of self.new ≡ size_of self.old) };
 
-    /// Looks at x: its first offer with positive gain, and the gain. It computes the gains of the offers up to that one.
-    fn find_offer<S: TourStore>(&mut self, s: &S, near: &Near, m: u32, x: u32) -> Option<Found>
-        requires fits { (size_of self.old ≡ length (S.cities s.now)) × (near.now.size ≡ length (S.cities s.now)) }
-        requires city { IsCity (length (S.cities s.now)) x }
-        requires most { (1 ≤ m) × (m ≤ 3) }
-        ensures searched { Searched (distance self.old) (offers (S.cities s.now) m (near_of near.now x) x) result (test_count self.old) (test_count self.new) }
-        ensures on_cycle { IfSome result (λ f. IsOfferOn m f.offer (S.cities s.now)
-            × EndsIn (length (S.cities s.now)) f.offer) }
-        ensures bound { test_count self.new ≤ test_count self.old + 4 * m * near.now.width }
-        ensures same { (distance self.new ≡ distance self.old) × (size_of self.new ≡ size_of self.old) };
+    /// What an offer gains.
+    fn gain(&mut self, offer: &Offer) -> i64
+        requires { EndsIn (size_of self.old) offer.now }
+        ensures value { result ≡ gain (distance self.old) offer.now }
+        ensures count { test_count self.new ≡ saturated (test_count self.old + 1) }
+        ensures same { (distance self.new ≡ distance self.old) × (size_of self.new ≡ size_of self.old) }
+    {
+        match *offer {
+            Offer::Two { a, b, c, d } => self.gain2(a, b, c, d),
+            Offer::Or { a, x, e, b, y, w } => self.gain3(a, x, e, b, y, w),
+        }
+    }
+
+    /// The first of these offers with positive gain, and the gain. It computes the gains of the offers up to that one.
+    fn find_in(&mut self, offers: &[Offer]) -> Option<Found>
+        requires { All (EndsIn (size_of self.old)) offers.now }
+        ensures searched { Searched (distance self.old) offers.now result (test_count self.old) (test_count self.new) }
+        ensures same { (distance self.new ≡ distance self.old) × (size_of self.new ≡ size_of self.old) }
+    {
+        let _counted = self.tests();
+        for offer in offers {
+            let gain = self.gain(offer);
+            if gain > 0 {
+                return Some(Found {
+                    offer: *offer,
+                    gain,
+                });
+            }
+        }
+        None
+    }
+
+    /// Looks at a city: its first offer with positive gain, and the gain. It computes the gains of the offers up to that one.
+    fn find_offer<S: TourStore>(
+        &mut self,
+        tour: &S,
+        near: &Near,
+        or_segment: u32,
+        city: u32,
+    ) -> Option<Found>
+        requires fits { (size_of self.old ≡ length (S.cities tour.now)) × (near.now.size ≡ length (S.cities tour.now)) }
+        requires city { IsCity (length (S.cities tour.now)) city }
+        requires most { (1 ≤ or_segment) × (or_segment ≤ 3) }
+        ensures searched { Searched (distance self.old) (offers (S.cities tour.now) or_segment (near_of near.now city) city)
+            result (test_count self.old) (test_count self.new) }
+        ensures on_cycle { IfSome result (λ f. IsOfferOn or_segment f.offer (S.cities tour.now)
+            × EndsIn (length (S.cities tour.now)) f.offer) }
+        ensures bound { test_count self.new ≤ test_count self.old + 4 * or_segment * near.now.width }
+        ensures same { (distance self.new ≡ distance self.old) × (size_of self.new ≡ size_of self.old) }
+    {
+        let _counted = self.tests();
+        for near_city in near.of(city) {
+            let offers = offers_with(tour, or_segment, city, *near_city);
+            if let Some(found) = self.find_in(offers.as_slice()) {
+                return Some(found);
+            }
+        }
+        None
+    }
 
     ghost symmetric: { (g : Self) (a b : ℕ) → distance g a b ≡ distance g b a };
 

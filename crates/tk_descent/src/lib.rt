@@ -3,12 +3,15 @@
 
 mod descent;
 mod gains;
+pub mod laws;
+mod listing;
 mod looking;
 mod making;
 mod offer;
 mod on_tour;
 mod optimum;
 mod probe;
+mod segments;
 mod sharing;
 mod sweep;
 #[cfg(test)]

@@ -12,19 +12,10 @@ ghost use Rattle.tk_descent.specs.declared.offer.Offer.TheVariants.{Two, Or};
 use crate::gains::Gains;
 use crate::offer::{Found, Offer, Segment};
 use crate::on_tour::size;
+use crate::segments::segment_count;
 use crate::sharing::{Beside, Piece, look_beside, pieces_of};
 use tk_metric::{Metric, Near};
 use tk_tour::TourStore;
-
-impl Segment {
-    /// Whether c is one of the cities of the segment from x.
-    #[inline(always)]
-    fn covers(&self, x: u32, c: u32) -> bool
-        ensures { result ≡ covers x self.now c }
-    {
-        c == x || c == self.middle || c == self.last
-    }
-}
 
 /// Tests a 2-opt offer; a gain is what is left of `margin` once the step b-d is added.
 #[inline(always)]
@@ -76,14 +67,7 @@ fn try_or<M: Metric>(
         return None;
     }
     Some(Found {
-        offer: Offer::Or {
-            a: segment.before,
-            x,
-            e: segment.last,
-            b: segment.after,
-            y,
-            w,
-        },
+        offer: segment.offer(x, y, w),
         gain: margin - metric.dist(segment.last, w),
     })
 }
@@ -149,7 +133,9 @@ fn try_city<M: Metric>(
     requires from { IsBeside (M.size_of metric.now) (M.distance metric.now) x.now }
     requires pieces { All (IsPiece (M.size_of metric.now) (M.distance metric.now) x.now.city) pieces.now }
     requires beside { IsBeside (M.size_of metric.now) (M.distance metric.now) y.now }
-    ensures { Searched (M.distance metric.now) (Two x.now.city x.now.after y.now.city y.now.after ∷ Two x.now.city x.now.before y.now.city y.now.before ∷ flat_map (piece_offers x.now.city y.now) pieces.now) result count.old count.new }
+    ensures { Searched (M.distance metric.now)
+        (Two x.now.city x.now.after y.now.city y.now.after ∷ Two x.now.city x.now.before y.now.city y.now.before
+        ∷ flat_map (piece_offers x.now.city y.now) pieces.now) result count.old count.new }
 {
     let across = metric.dist(x.city, y.city);
     let margin = x.to_after + y.to_after - across;
@@ -163,29 +149,30 @@ fn try_city<M: Metric>(
     try_segments(metric, count, x.city, pieces, y, across)
 }
 
-/// Looks at x: its first offer with positive gain, and the gain. It adds the tests to the count.
+/// Looks at a city: its first offer with positive gain, and the gain. It adds the tests to the count.
 pub(crate) fn find_offer<S: TourStore, M: Metric>(
-    s: &S,
+    tour: &S,
     metric: &M,
     count: &mut u64,
     near: &Near,
-    m: u32,
-    x: u32,
+    or_segment: u32,
+    city: u32,
 ) -> Option<Found>
-    requires fits { (M.size_of metric.now ≡ length (S.cities s.now)) × (near.now.size ≡ length (S.cities s.now)) }
-    requires city { IsCity (length (S.cities s.now)) x }
-    requires most { (1 ≤ m) × (m ≤ 3) }
-    ensures searched { Searched (M.distance metric.now) (offers (S.cities s.now) m (near_of near.now x) x) result count.old count.new }
-    ensures on_cycle { IfSome result (λ f. IsOfferOn m f.offer (S.cities s.now)
-        × EndsIn (length (S.cities s.now)) f.offer) }
-    ensures bound { count.new ≤ count.old + 4 * m * near.now.width }
+    requires fits { (M.size_of metric.now ≡ length (S.cities tour.now)) × (near.now.size ≡ length (S.cities tour.now)) }
+    requires city { IsCity (length (S.cities tour.now)) city }
+    requires most { (1 ≤ or_segment) × (or_segment ≤ 3) }
+    ensures searched { Searched (M.distance metric.now)
+        (offers (S.cities tour.now) or_segment (near_of near.now city) city) result count.old count.new }
+    ensures on_cycle { IfSome result (λ f. IsOfferOn or_segment f.offer (S.cities tour.now)
+        × EndsIn (length (S.cities tour.now)) f.offer) }
+    ensures bound { count.new ≤ count.old + 4 * or_segment * near.now.width }
 {
     let _counted = *count;
-    let from = look_beside(s, metric, x);
-    let all = pieces_of(s, metric, &from);
-    let pieces = &all[..segment_count(size(s), m)];
-    for y in near.of(x) {
-        let y = look_beside(s, metric, *y);
+    let from = look_beside(tour, metric, city);
+    let all = pieces_of(tour, metric, &from);
+    let pieces = &all[..segment_count(size(tour), or_segment)];
+    for y in near.of(city) {
+        let y = look_beside(tour, metric, *y);
         if let Some(found) = try_city(metric, count, &from, pieces, &y) {
             return Some(found);
         }
@@ -193,35 +180,30 @@ pub(crate) fn find_offer<S: TourStore, M: Metric>(
     None
 }
 
-/// How many of the five segments there are on n cities.
-fn segment_count(n: u32, m: u32) -> usize
-    ensures value { result ≡ segment_count n m }
-    ensures limit { result ≤ 5 }
+/// Looks at a city: its first offer with positive gain.
+pub fn look<S: TourStore, G: Gains>(
+    tour: &S,
+    gains: &mut G,
+    near: &Near,
+    or_segment: u32,
+    city: u32,
+) -> Option<Offer>
+    requires fits { (G.size_of gains.old ≡ length (S.cities tour.now)) × (near.now.size ≡ length (S.cities tour.now)) }
+    requires city { IsCity (length (S.cities tour.now)) city }
+    requires most { (1 ≤ or_segment) × (or_segment ≤ 3) }
+    ensures first { result ≡ first_gain (G.distance gains.old)
+        (offers (S.cities tour.now) or_segment (near_of near.now city) city) }
+    ensures tests { G.test_count gains.new
+        ≡ saturated (G.test_count gains.old + tests_to (G.distance gains.old)
+        (offers (S.cities tour.now) or_segment (near_of near.now city) city)) }
+    ensures on_cycle { IfSome result (λ o. IsOfferOn or_segment o (S.cities tour.now)
+        × EndsIn (length (S.cities tour.now)) o) }
+    ensures none { result ≡ None → HasNoOffer (G.distance gains.old) (near_of near.now) or_segment city
+        (S.cities tour.now) }
+    ensures bound { G.test_count gains.new ≤ G.test_count gains.old + 4 * or_segment * near.now.width }
+    ensures same { (G.distance gains.new ≡ G.distance gains.old) × (G.size_of gains.new ≡ G.size_of gains.old) }
 {
-    if n >= 5 && m >= 3 {
-        5
-    } else if n >= 4 && m >= 2 {
-        3
-    } else if n >= 3 {
-        1
-    } else {
-        0
-    }
-}
-
-/// Looks at x: its first offer with positive gain.
-pub fn look<S: TourStore, G: Gains>(s: &S, g: &mut G, near: &Near, m: u32, x: u32) -> Option<Offer>
-    requires fits { (G.size_of g.old ≡ length (S.cities s.now)) × (near.now.size ≡ length (S.cities s.now)) }
-    requires city { IsCity (length (S.cities s.now)) x }
-    requires most { (1 ≤ m) × (m ≤ 3) }
-    ensures first { result ≡ first_gain (G.distance g.old) (offers (S.cities s.now) m (near_of near.now x) x) }
-    ensures tests { G.test_count g.new ≡ saturated (G.test_count g.old + tests_to (G.distance g.old) (offers (S.cities s.now) m (near_of near.now x) x)) }
-    ensures on_cycle { IfSome result (λ o. IsOfferOn m o (S.cities s.now) × EndsIn (length (S.cities s.now)) o) }
-    ensures none { result ≡ None → HasNoOffer (G.distance g.old) (near_of near.now) m x (S.cities s.now) }
-    ensures bound { G.test_count g.new ≤ G.test_count g.old + 4 * m * near.now.width }
-    ensures same { (G.distance g.new ≡ G.distance g.old) × (G.size_of g.new ≡ G.size_of g.old) }
-{
-    match g.find_offer(s, near, m, x) {
+    match gains.find_offer(tour, near, or_segment, city) {
         Some(found) => Some(found.offer),
         None => None,
     }

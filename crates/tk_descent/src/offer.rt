@@ -1,7 +1,7 @@
 //! What a look may find.
 
 /// A move that a look may find, by the arguments of its gain.
-#[derive(Clone, Copy)]
+#[derive(Clone, Copy, PartialEq, Eq, Debug)]
 pub enum Offer {
     /// The 2-opt move that replaces the steps a-b and c-d by a-c and b-d.
     Two {
@@ -22,7 +22,7 @@ pub enum Offer {
 }
 
 /// An offer and its gain.
-#[derive(Clone, Copy)]
+#[derive(Clone, Copy, PartialEq, Eq, Debug)]
 pub struct Found {
     pub offer: Offer,
     pub gain: i64,

@@ -7,29 +7,29 @@ use tk_tour::TourStore;
 
 /// How many cities the tour has.
 #[inline]
-pub(crate) fn size<S: TourStore>(s: &S) -> u32
-    ensures count { result ≡ length (S.cities s.now) }
+pub(crate) fn size<S: TourStore>(tour: &S) -> u32
+    ensures count { result ≡ length (S.cities tour.now) }
     ensures limits { (2 ≤ result) × (result ≤ 100000) }
 {
-    s.size()
+    tour.size()
 }
 
 /// The city after c.
 #[inline]
-pub(crate) fn next<S: TourStore>(s: &S, c: u32) -> u32
-    requires city { IsCity (length (S.cities s.now)) c }
-    ensures value { result ≡ next_city (S.cities s.now) c }
-    ensures city { IsCity (length (S.cities s.now)) result }
+pub(crate) fn next<S: TourStore>(tour: &S, c: u32) -> u32
+    requires city { IsCity (length (S.cities tour.now)) c }
+    ensures value { result ≡ next_city (S.cities tour.now) c }
+    ensures city { IsCity (length (S.cities tour.now)) result }
 {
-    s.next(c)
+    tour.next(c)
 }
 
 /// The city before c.
 #[inline]
-pub(crate) fn prev<S: TourStore>(s: &S, c: u32) -> u32
-    requires city { IsCity (length (S.cities s.now)) c }
-    ensures value { result ≡ prev_city (S.cities s.now) c }
-    ensures city { IsCity (length (S.cities s.now)) result }
+pub(crate) fn prev<S: TourStore>(tour: &S, c: u32) -> u32
+    requires city { IsCity (length (S.cities tour.now)) c }
+    ensures value { result ≡ prev_city (S.cities tour.now) c }
+    ensures city { IsCity (length (S.cities tour.now)) result }
 {
-    s.prev(c)
+    tour.prev(c)
 }

@@ -10,14 +10,19 @@ use tk_metric::{Metric, Near};
 use tk_tour::TourStore;
 
 /// Whether no city has an offer with positive gain.
-pub fn is_local_optimum<S: TourStore, M: Metric>(s: &S, metric: &M, near: &Near, m: u32) -> bool
-    requires fits { (M.size_of metric.now ≡ length (S.cities s.now)) × (near.now.size ≡ length (S.cities s.now)) }
-    requires most { (1 ≤ m) × (m ≤ 3) }
-    ensures { IsTrue result ↔ IsLocalOptimum (M.distance metric.now) (near_of near.now) m (S.cities s.now) }
+pub fn is_local_optimum<S: TourStore, M: Metric>(
+    tour: &S,
+    metric: &M,
+    near: &Near,
+    or_segment: u32,
+) -> bool
+    requires fits { (M.size_of metric.now ≡ length (S.cities tour.now)) × (near.now.size ≡ length (S.cities tour.now)) }
+    requires most { (1 ≤ or_segment) × (or_segment ≤ 3) }
+    ensures { IsTrue result ↔ IsLocalOptimum (M.distance metric.now) (near_of near.now) or_segment (S.cities tour.now) }
 {
-    let mut g = Probe::new(metric);
-    for x in 1..size(s) + 1 {
-        if let Some(_offer) = look(s, &mut g, near, m, x) {
+    let mut gains = Probe::new(metric);
+    for x in 1..size(tour) + 1 {
+        if let Some(_offer) = look(tour, &mut gains, near, or_segment, x) {
             return false;
         }
     }

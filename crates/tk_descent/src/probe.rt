@@ -40,7 +40,8 @@ impl<'a, M: Metric> Probe<'a, M> {
     #[inline]
     fn sum_three(&self, a: u32, b: u32, c: u32, d: u32, e: u32, f: u32) -> i64
         requires { EndsIn (M.size_of self.now.metric.now) (Or a b c d e f) }
-        ensures { result ≡ pos (M.distance self.now.metric.now a b + M.distance self.now.metric.now c d + M.distance self.now.metric.now e f) }
+        ensures { result ≡ pos (M.distance self.now.metric.now a b + M.distance self.now.metric.now c d
+            + M.distance self.now.metric.now e f) }
     {
         self.metric.dist(a, b) + self.metric.dist(c, d) + self.metric.dist(e, f)
     }
@@ -71,8 +72,14 @@ impl<'a, M: Metric> Gains for Probe<'a, M> {
     }
 
     #[inline]
-    fn find_offer<S: TourStore>(&mut self, s: &S, near: &Near, m: u32, x: u32) -> Option<Found> {
-        find_offer(s, self.metric, &mut self.count, near, m, x)
+    fn find_offer<S: TourStore>(
+        &mut self,
+        tour: &S,
+        near: &Near,
+        or_segment: u32,
+        city: u32,
+    ) -> Option<Found> {
+        find_offer(tour, self.metric, &mut self.count, near, or_segment, city)
     }
 
     ghost symmetric = { λ p. M.symmetric p.metric.now };

@@ -7,6 +7,7 @@ ghost use Rattle.tk_descent.specs.Sharing.{IsBeside, IsPiece, segment_of};
 
 use crate::offer::Segment;
 use crate::on_tour::{next, prev};
+use crate::segments::segments_of;
 use tk_metric::Metric;
 use tk_tour::TourStore;
 
@@ -29,15 +30,15 @@ pub(crate) struct Piece {
 
 /// A city with its neighbours.
 #[inline]
-pub(crate) fn look_beside<S: TourStore, M: Metric>(s: &S, metric: &M, c: u32) -> Beside
-    requires size { M.size_of metric.now ≡ length (S.cities s.now) }
-    requires city { IsCity (length (S.cities s.now)) c }
+pub(crate) fn look_beside<S: TourStore, M: Metric>(tour: &S, metric: &M, c: u32) -> Beside
+    requires size { M.size_of metric.now ≡ length (S.cities tour.now) }
+    requires city { IsCity (length (S.cities tour.now)) c }
     ensures city { result.city ≡ c }
-    ensures after { result.after ≡ next_city (S.cities s.now) c }
-    ensures before { result.before ≡ prev_city (S.cities s.now) c }
+    ensures after { result.after ≡ next_city (S.cities tour.now) c }
+    ensures before { result.before ≡ prev_city (S.cities tour.now) c }
     ensures shared { IsBeside (M.size_of metric.now) (M.distance metric.now) result }
 {
-    let (after, before) = (next(s, c), prev(s, c));
+    let (after, before) = (next(tour, c), prev(tour, c));
     Beside {
         city: c,
         after,
@@ -63,80 +64,48 @@ fn measure_piece<M: Metric>(metric: &M, x: u32, begin: i64, end: i64, segment: S
     }
 }
 
-/// The segments that begin at x: of one city, of two forward and backward, of three forward and backward.
+/// The segments that begin at x, each with what it frees.
 #[inline]
-pub(crate) fn pieces_of<S: TourStore, M: Metric>(s: &S, metric: &M, x: &Beside) -> [Piece; 5]
-    requires size { M.size_of metric.now ≡ length (S.cities s.now) }
-    requires after { x.now.after ≡ next_city (S.cities s.now) x.now.city }
-    requires before { x.now.before ≡ prev_city (S.cities s.now) x.now.city }
+pub(crate) fn pieces_of<S: TourStore, M: Metric>(tour: &S, metric: &M, x: &Beside) -> [Piece; 5]
+    requires size { M.size_of metric.now ≡ length (S.cities tour.now) }
+    requires after { x.now.after ≡ next_city (S.cities tour.now) x.now.city }
+    requires before { x.now.before ≡ prev_city (S.cities tour.now) x.now.city }
     requires shared { IsBeside (M.size_of metric.now) (M.distance metric.now) x.now }
     ensures value { map segment_of result
-        ≡ all_segments (next_city (S.cities s.now)) (prev_city (S.cities s.now)) x.now.city }
+        ≡ all_segments (next_city (S.cities tour.now)) (prev_city (S.cities tour.now)) x.now.city }
     ensures shared { All (IsPiece (M.size_of metric.now) (M.distance metric.now) x.now.city) result }
 {
     let city = x.city;
-    let (after_2, before_2) = (next(s, x.after), prev(s, x.before));
-    let (after_3, before_3) = (next(s, after_2), prev(s, before_2));
+    let [one, two, two_back, three, three_back] = segments_of(tour, city, x.after, x.before);
     [
+        measure_piece(metric, city, x.to_before, x.to_after, one),
         measure_piece(
             metric,
             city,
             x.to_before,
-            x.to_after,
-            Segment {
-                before: x.before,
-                middle: city,
-                last: city,
-                after: x.after,
-            },
-        ),
-        measure_piece(
-            metric,
-            city,
-            x.to_before,
-            metric.dist(x.after, after_2),
-            Segment {
-                before: x.before,
-                middle: city,
-                last: x.after,
-                after: after_2,
-            },
+            metric.dist(two.last, two.after),
+            two,
         ),
         measure_piece(
             metric,
             city,
             x.to_after,
-            metric.dist(x.before, before_2),
-            Segment {
-                before: x.after,
-                middle: city,
-                last: x.before,
-                after: before_2,
-            },
+            metric.dist(two_back.last, two_back.after),
+            two_back,
         ),
         measure_piece(
             metric,
             city,
             x.to_before,
-            metric.dist(after_2, after_3),
-            Segment {
-                before: x.before,
-                middle: x.after,
-                last: after_2,
-                after: after_3,
-            },
+            metric.dist(three.last, three.after),
+            three,
         ),
         measure_piece(
             metric,
             city,
             x.to_after,
-            metric.dist(before_2, before_3),
-            Segment {
-                before: x.after,
-                middle: x.before,
-                last: before_2,
-                after: before_3,
-            },
+            metric.dist(three_back.last, three_back.after),
+            three_back,
         ),
     ]
 }

@@ -32,41 +32,47 @@ fn put_to_sleep(waking: &mut Waking)
 
 /// Descends with all cities awake, again and again, until a pass makes no move. Whatever was awake before.
 pub fn descend_swept<S: TourStore, G: Gains>(
-    s: &mut S,
-    g: &mut G,
+    tour: &mut S,
+    gains: &mut G,
     near: &Near,
     waking: &mut Waking,
-    m: u32,
+    or_segment: u32,
     before: i64,
 ) -> SweptReport
-    requires fits { (G.size_of g.old ≡ length (S.cities s.old)) × (near.now.size ≡ length (S.cities s.old))
-        × (waking.old.size ≡ length (S.cities s.old)) }
-    requires most { (1 ≤ m) × (m ≤ 3) }
-    requires before { before ≡ pos (tour_length (G.distance g.old) (S.cities s.old)) }
-    ensures sweeps { (tests : ℕ) × Sweeps (G.distance g.old) (near_of near.now) m (S.cities s.old) (S.cities s.new) result.passes result.descent.looks result.descent.moves tests × (G.test_count g.new ≡ saturated (G.test_count g.old + tests)) }
-    ensures fresh { G.test_count g.old ≡ 0
-        → Sweeps (G.distance g.old) (near_of near.now) m (S.cities s.old) (S.cities s.new) result.passes result.descent.looks result.descent.moves result.descent.tests }
-    ensures optimum { IsLocalOptimum (G.distance g.old) (near_of near.now) m (S.cities s.new) }
-    ensures stored { length near.now.entries ≡ length (S.cities s.old) * near.now.width }
+    requires fits { (G.size_of gains.old ≡ length (S.cities tour.old)) × (near.now.size ≡ length (S.cities tour.old))
+        × (waking.old.size ≡ length (S.cities tour.old)) }
+    requires most { (1 ≤ or_segment) × (or_segment ≤ 3) }
+    requires before { before ≡ pos (tour_length (G.distance gains.old) (S.cities tour.old)) }
+    ensures sweeps { (tests : ℕ) × Sweeps (G.distance gains.old) (near_of near.now) or_segment (S.cities tour.old)
+        (S.cities tour.new) result.passes result.descent.looks result.descent.moves tests
+        × (G.test_count gains.new ≡ saturated (G.test_count gains.old + tests)) }
+    ensures fresh { G.test_count gains.old ≡ 0
+        → Sweeps (G.distance gains.old) (near_of near.now) or_segment (S.cities tour.old)
+        (S.cities tour.new) result.passes result.descent.looks result.descent.moves result.descent.tests }
+    ensures optimum { IsLocalOptimum (G.distance gains.old) (near_of near.now) or_segment (S.cities tour.new) }
+    ensures stored { length near.now.entries ≡ length (S.cities tour.old) * near.now.width }
     ensures asleep { waking.new.queue ≡ [] }
     ensures passes { result.passes ≤ result.descent.moves + 1 }
-    ensures tour { IsTour (length (S.cities s.old)) (S.cities s.new) }
+    ensures tour { IsTour (length (S.cities tour.old)) (S.cities tour.new) }
     ensures lengths { (result.descent.before ≡ before)
-        × (result.descent.after ≡ pos (tour_length (G.distance g.old) (S.cities s.new))) }
-    ensures moves { result.descent.moves + tour_length (G.distance g.old) (S.cities s.new) ≤ tour_length (G.distance g.old) (S.cities s.old) }
-    ensures looks { result.descent.looks ≤ length (S.cities s.old) * result.passes + 6 * result.descent.moves }
-    ensures tests { result.descent.tests ≤ 4 * m * near.now.width * (length (S.cities s.old) * result.passes + 6 * result.descent.moves) }
-    ensures tested { result.descent.tests ≡ G.test_count g.new - G.test_count g.old }
-    ensures swaps { result.descent.swaps ≤ 3 * (length (S.cities s.old) / 4) * result.descent.moves }
-    ensures swapped { result.descent.swaps ≡ S.swap_count s.new - S.swap_count s.old }
-    ensures flips { S.flip_count s.new ≤ S.flip_count s.old + 3 * result.descent.moves }
-    ensures flips_only { S.FlipsOnly s.old s.new }
-    ensures rises { (G.test_count g.old ≤ G.test_count g.new) × (S.swap_count s.old ≤ S.swap_count s.new) }
-    ensures kept { (G.distance g.new ≡ G.distance g.old) × (G.size_of g.new ≡ G.size_of g.old)
-        × (length (S.cities s.new) ≡ length (S.cities s.old)) × (waking.new.size ≡ waking.old.size) }
+        × (result.descent.after ≡ pos (tour_length (G.distance gains.old) (S.cities tour.new))) }
+    ensures moves { result.descent.moves + tour_length (G.distance gains.old) (S.cities tour.new)
+        ≤ tour_length (G.distance gains.old) (S.cities tour.old) }
+    ensures looks { result.descent.looks ≤ length (S.cities tour.old) * result.passes + 6 * result.descent.moves }
+    ensures tests { result.descent.tests ≤ 4 * or_segment * near.now.width *
+        (length (S.cities tour.old) * result.passes + 6 * result.descent.moves) }
+    ensures tested { result.descent.tests ≡ G.test_count gains.new - G.test_count gains.old }
+    ensures swaps { result.descent.swaps ≤ 3 * (length (S.cities tour.old) / 4) * result.descent.moves }
+    ensures swapped { result.descent.swaps ≡ S.swap_count tour.new - S.swap_count tour.old }
+    ensures flips { S.flip_count tour.new ≤ S.flip_count tour.old + 3 * result.descent.moves }
+    ensures flips_only { S.FlipsOnly tour.old tour.new }
+    ensures rises { (G.test_count gains.old ≤ G.test_count gains.new)
+        × (S.swap_count tour.old ≤ S.swap_count tour.new) }
+    ensures kept { (G.distance gains.new ≡ G.distance gains.old) × (G.size_of gains.new ≡ G.size_of gains.old)
+        × (length (S.cities tour.new) ≡ length (S.cities tour.old)) × (waking.new.size ≡ waking.old.size) }
 {
-    let (tests, swaps) = (g.tests(), s.swaps());
-    let (_cities, _candidates) = (size(s), near.width());
+    let (tests, swaps) = (gains.tests(), tour.swaps());
+    let (_cities, _candidates) = (size(tour), near.width());
     put_to_sleep(waking);
     let mut after = before;
     let mut passes = 0u64;
@@ -74,7 +80,7 @@ pub fn descend_swept<S: TourStore, G: Gains>(
     let mut moves = 0u64;
     'sweeping: loop {
         waking.wake_all();
-        let pass = descend(s, g, near, waking, m, after);
+        let pass = descend(tour, gains, near, waking, or_segment, after);
         after = pass.after;
         passes += 1;
         looks = looks.saturating_add(pass.looks);
@@ -86,8 +92,8 @@ pub fn descend_swept<S: TourStore, G: Gains>(
                     after,
                     moves,
                     looks,
-                    tests: g.tests() - tests,
-                    swaps: s.swaps() - swaps,
+                    tests: gains.tests() - tests,
+                    swaps: tour.swaps() - swaps,
                 },
                 passes,
             };

@@ -7,7 +7,7 @@ use std::alloc::Global;
 use std::process::Abort;
 use std::test::Fail;
 use tk_metric::{Metric, Near, near_scan};
-use tk_tour::{ArrayTour, TourStore, length};
+use tk_tour::{ArrayTour, JournalTour, TourStore, length};
 
 /// The distances of at most five cities, in rows of five.
 #[derive(Drop)]
@@ -45,6 +45,38 @@ impl Metric for Rows {
     ghost distance_limit = { λ t a b. row_distance-limit t.rows a b };
 }
 
+/// The gains of another, with the look that every `Gains` has.
+#[derive(Drop)]
+struct Plain<G>(G);
+
+impl<G: Gains> Gains for Plain<G> {
+    ghost size_of = { λ p. G.size_of p.0 };
+
+    ghost distance = { λ p. G.distance p.0 };
+
+    ghost test_count = { λ p. G.test_count p.0 };
+
+    fn tests(&self) -> u64 {
+        self.0.tests()
+    }
+
+    fn gain2(&mut self, a: u32, b: u32, c: u32, d: u32) -> i64 {
+        self.0.gain2(a, b, c, d)
+    }
+
+    fn gain3(&mut self, a: u32, x: u32, e: u32, b: u32, y: u32, w: u32) -> i64 {
+        self.0.gain3(a, x, e, b, y, w)
+    }
+
+    ghost symmetric = { λ p. G.symmetric p.0 };
+
+    ghost diagonal = { λ p. G.diagonal p.0 };
+
+    ghost distance_limit = { λ p. G.distance_limit p.0 };
+
+    ghost count_limit = { λ p. G.count_limit p.0 };
+}
+
 /// The length of a tour of the cities of these distances.
 fn length_of(metric: &Rows, tour: &ArrayTour) -> i64
     requires { metric.now.n ≡ length (⟦<ArrayTour as TourStore>⟧.cities tour.now) }
@@ -79,24 +111,25 @@ fn descent(
     Ok((tour, report, optimum))
 }
 
-/// A swept descent: its report, the tests of its first pass alone, and whether the tour is then a local optimum.
+/// A swept descent: its report, and whether the tour is then a local optimum.
 fn sweep(
     rt: &impl Abort,
     alloc: Global,
     metric: &Rows,
     cities: &[u32],
-    k: u32,
+    (k, m): (u32, u32),
 ) -> Result<(SweptReport, bool), Fail> {
     let mut tour = ArrayTour::from_list(alloc, cities)?;
     assert!(rt; metric.n == tour.size());
     assert!(rt; 1 <= k && k < metric.n);
+    assert!(rt; 1 <= m && m <= 3);
     let near = near_scan(alloc, metric, k)?;
     let mut gains = Probe::new(metric);
     let mut waking = Waking::new(alloc, metric.n)?;
     waking.wake(2);
     let before = length_of(metric, &tour);
-    let report = descend_swept(&mut tour, &mut gains, &near, &mut waking, 3, before);
-    let optimum = is_local_optimum(&tour, metric, &near, 3);
+    let report = descend_swept(&mut tour, &mut gains, &near, &mut waking, m, before);
+    let optimum = is_local_optimum(&tour, metric, &near, m);
     assert!(rt; waking.take().is_none());
     Ok((report, optimum))
 }
@@ -126,11 +159,11 @@ fn expect_sweep(
     alloc: Global,
     metric: &Rows,
     cities: &[u32],
-    k: u32,
+    (k, m): (u32, u32),
     passes: u64,
     want: (i64, i64, u64, u64, u64, u64),
 ) -> Result<(), Fail> {
-    let (report, optimum) = sweep(rt, alloc, metric, cities, k)?;
+    let (report, optimum) = sweep(rt, alloc, metric, cities, (k, m))?;
     assert_eq!(rt; numbers(&report.descent), want);
     assert_eq!(rt; report.passes, passes);
     assert!(rt; optimum);
@@ -181,12 +214,22 @@ fn five_cities() -> Rows {
     }
 }
 
+/// UPPER_ROW 5 1 1 6 9 5 7 8 9 1
+fn uneven_cities() -> Rows {
+    Rows {
+        n: 5,
+        rows: [
+            0, 5, 1, 1, 6, 0, 0, 9, 5, 7, 0, 0, 0, 8, 9, 0, 0, 0, 0, 1, 0, 0, 0, 0, 0,
+        ],
+    }
+}
+
 #[test]
 fn three_cities_right_angle(rt: HostRuntime) -> Result<(), Fail> {
     let want = (12, 12, 0, 3, 18, 0);
     let (_, optimum) = expect_descent(&rt, rt.alloc(), &right_angle(), &[1, 2, 3], (2, 3), want)?;
     assert!(rt; optimum);
-    let (report, optimum) = sweep(&rt, rt.alloc(), &right_angle(), &[1, 2, 3], 2)?;
+    let (report, optimum) = sweep(&rt, rt.alloc(), &right_angle(), &[1, 2, 3], (2, 3))?;
     assert_eq!(rt; (report.passes, report.descent.tests), (1, 18));
     assert!(rt; optimum);
     Ok(())
@@ -230,7 +273,7 @@ fn crossed_square_asleep(rt: HostRuntime) -> Result<(), Fail> {
 #[test]
 fn crossed_square_swept(rt: HostRuntime) -> Result<(), Fail> {
     let want = (48, 40, 1, 9, 113, 1);
-    expect_sweep(&rt, rt.alloc(), &square(), &[1, 2, 3, 4], 3, 2, want)
+    expect_sweep(&rt, rt.alloc(), &square(), &[1, 2, 3, 4], (3, 3), 2, want)
 }
 
 #[test]
@@ -256,7 +299,107 @@ fn one_segment_moves(rt: HostRuntime) -> Result<(), Fail> {
         expect_printed(&rt, rt.alloc(), &tour, &[1, 3, 2, 5, 4])?;
     }
     let want = (41, 32, 1, 11, 59, 2);
-    expect_sweep(&rt, rt.alloc(), &five_cities(), &cities, 1, 2, want)
+    expect_sweep(&rt, rt.alloc(), &five_cities(), &cities, (1, 3), 2, want)
+}
+
+#[test]
+fn longer_segments(rt: HostRuntime) -> Result<(), Fail> {
+    let cities = [1, 2, 3, 4, 5];
+    for (m, after, moves, looks, tests, swaps) in [
+        (1, 21, 2, 7, 37, 2),
+        (2, 19, 3, 9, 71, 4),
+        (3, 19, 3, 9, 83, 4),
+    ] {
+        let want = (29, after, moves, looks, tests, swaps);
+        let (tour, optimum) = expect_descent(
+            &rt,
+            rt.alloc(),
+            &uneven_cities(),
+            &cities,
+            (2, m),
+            want,
+        )?;
+        assert!(rt; optimum);
+        let printed = if m == 1 {
+            [1, 2, 4, 5, 3]
+        } else {
+            [1, 3, 2, 5, 4]
+        };
+        expect_printed(&rt, rt.alloc(), &tour, &printed)?;
+    }
+    expect_sweep(
+        &rt,
+        rt.alloc(),
+        &uneven_cities(),
+        &cities,
+        (2, 1),
+        2,
+        (29, 21, 2, 12, 71, 2),
+    )?;
+    expect_sweep(
+        &rt,
+        rt.alloc(),
+        &uneven_cities(),
+        &cities,
+        (2, 2),
+        2,
+        (29, 19, 3, 14, 123, 4),
+    )
+}
+
+/// The look that every `Gains` has finds what a probe's look finds, after as many tests, at each city.
+fn expect_same_looks(
+    rt: &impl Abort,
+    alloc: Global,
+    metric: &Rows,
+    cities: &[u32],
+    (k, m): (u32, u32),
+) -> Result<(), Fail> {
+    let tour = ArrayTour::from_list(alloc, cities)?;
+    assert!(rt; metric.n == tour.size());
+    assert!(rt; 1 <= k && k < metric.n);
+    assert!(rt; 1 <= m && m <= 3);
+    let near = near_scan(alloc, metric, k)?;
+    for city in 1..metric.n + 1 {
+        let (mut plain, mut probe) = (Plain(Probe::new(metric)), Probe::new(metric));
+        let found = plain.find_offer(&tour, &near, m, city);
+        assert_eq!(rt; found, probe.find_offer(&tour, &near, m, city));
+        assert_eq!(rt; plain.tests(), probe.tests());
+    }
+    Ok(())
+}
+
+#[test]
+fn looks_by_plain_gains(rt: HostRuntime) -> Result<(), Fail> {
+    for m in [1, 2, 3] {
+        expect_same_looks(&rt, rt.alloc(), &square(), &[1, 2, 3, 4], (3, m))?;
+        expect_same_looks(&rt, rt.alloc(), &square(), &[1, 3, 2, 4], (3, m))?;
+        expect_same_looks(&rt, rt.alloc(), &uneven_cities(), &[1, 2, 3, 4, 5], (2, m))?;
+        expect_same_looks(&rt, rt.alloc(), &uneven_cities(), &[1, 2, 4, 5, 3], (4, m))?;
+    }
+    Ok(())
+}
+
+#[test]
+fn journal_by_plain_gains(rt: HostRuntime) -> Result<(), Fail> {
+    let metric = uneven_cities();
+    let start = ArrayTour::from_list(rt.alloc(), &[1, 2, 3, 4, 5])?;
+    assert!(rt; metric.n == start.size());
+    let near = near_scan(rt.alloc(), &metric, 2)?;
+    let before = length_of(&metric, &start);
+    let mut tour = JournalTour::new(rt.alloc(), start, 9)?;
+    let mut waking = Waking::new(rt.alloc(), metric.n)?;
+    waking.wake_all();
+    let report = descend(
+        &mut tour,
+        &mut Plain(Probe::new(&metric)),
+        &near,
+        &mut waking,
+        2,
+        before,
+    );
+    assert_eq!(rt; numbers(&report), (29, 19, 3, 9, 71, 4));
+    expect_printed(&rt, rt.alloc(), tour.tour(), &[1, 3, 2, 5, 4])
 }
 
 #[test]

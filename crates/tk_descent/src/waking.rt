@@ -46,15 +46,15 @@ impl Waking {
         self.queue.len()
     }
 
-    /// Wakes c, where it sleeps.
-    pub fn wake(&mut self, c: u32)
-        requires { IsCity self.old.size c }
-        ensures queue { self.new.queue ≡ woken self.old.queue c }
+    /// Wakes a city, where it sleeps.
+    pub fn wake(&mut self, city: u32)
+        requires { IsCity self.old.size city }
+        ensures queue { self.new.queue ≡ woken self.old.queue city }
         ensures size { self.new.size ≡ self.old.size }
     {
-        if !self.awake[c as usize] {
-            self.awake[c as usize] = true;
-            let _dropped = self.queue.push_back(c);
+        if !self.awake[city as usize] {
+            self.awake[city as usize] = true;
+            let _dropped = self.queue.push_back(city);
         }
     }
 

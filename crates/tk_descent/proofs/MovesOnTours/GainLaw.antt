@@ -1,9 +1,10 @@
 -- What a move does to the length.
-use Rattle.std.proofs.Common.{◌≡◌, ℕ, ◌+◌, List, ◌++◌, reverse, arith, inl, inr}
+use Rattle.std.proofs.Common.{◌≡◌, ℕ, ◌+◌, List, ◌++◌, reverse, arith, inl, inr, pos, ◌-ℤ◌}
+use Rattle.std.proofs.lemmas.Int.{ints}
 use Rattle.tk_tour.specs.Tour.{SameCycle, tour_length}
 use Rattle.tk_descent.proofs.MovesOnTours.Views.{Made, made_of}
 use Rattle.tk_descent.proofs.MovesOnTours.Paths.{Spans}
-use Rattle.tk_descent.specs.Offers.{Makes, removed, added}
+use Rattle.tk_descent.specs.Offers.{Makes, removed, added, gain}
 use Rattle.tk_descent.specs.declared.offer.Offer.{Offer}
 use Rattle.tk_descent.specs.declared.offer.Offer.TheVariants.{Two, Or}
 use Rattle.tk_descent.proofs.MovesOnTours.Length.{length-cycle, length-two, length-three, inner-reverse, Spans-reverse}
@@ -29,3 +30,6 @@ module _ (d : ℕ → ℕ → ℕ) (s : (a b : ℕ) → d a b ≡ d b a) (old ne
   -- the formula of four or six distances is the difference of the whole lengths
   pub gain_law : (m : ℕ) (o : Offer) → Makes m o old new → tour_length d old + added d o ≡ tour_length d new + removed d o
   gain_law m o makes = made_gain m o (made_of m o old new makes)
+
+  pub gain_difference : (m : ℕ) (o : Offer) → Makes m o old new → gain d o ≡ pos (tour_length d old) -ℤ pos (tour_length d new)
+  gain_difference m o makes = omega (arith, ints, gain_law m o makes)

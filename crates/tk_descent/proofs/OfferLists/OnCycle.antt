@@ -3,6 +3,7 @@ use Rattle.std.proofs.Common.{◌≡◌, ℕ, suc, ◌<◌, ◌≤◌, ◌≢◌
 use Rattle.std.proofs.lemmas.Bool.{or_parts, or_cases, or_from, and_parts, leb-true, eqb-false, eqb-true, ne_eqb, both_ways}
 use Rattle.std.proofs.lemmas.List.{reverse-reverse}
 use Rattle.std.specs.List.{All}
+use Rattle.std.proofs.lemmas.List.Elements.{All-cons, All-nil}
 use Rattle.tk_metric.specs.Near.{IsOther}
 use Rattle.tk_descent.specs.Machine.{IsOfferOn}
 use Rattle.tk_tour.proofs.Cycle.{IsRotation-refl}
@@ -407,6 +408,18 @@ offers_on d C near m x n o tour size low in' others e =
     (each-near (OnCycle C m) (offers_with (next_city C) (prev_city C) (segments (next_city C) (prev_city C) (length C) m x) x) near
     (λ k l. let q = others k 0 l in with_on C m x (slice_index near k) tour low ((tour.members x).1 in') ((tour.members (slice_index near k)).1 (q.0.0, omega (arith, size, q.0.1))) q.1)) e in
     (offer_on m o C r.0, r.1)
+
+each_ends : (C : List ℕ) (m : ℕ) (os : List Offer) → Each (OnCycle C m) os → All (EndsIn (length C)) os
+each_ends C m [] h = All-nil (EndsIn (length C))
+each_ends C m (o ∷ os) h = All-cons (EndsIn (length C)) o os h.0.1 (each_ends C m os h.1)
+
+-- the ends of the offers of x with a near city are cities
+pub with_ends : (C near : List ℕ) (m x n k i : ℕ) (os : List Offer) → IsRound C → n ≡ length C → k ≡ length C → 1 ≤ m → IsCity (length C) x → All (IsOther n x) near → i < length near →
+    os ≡ offers_with (next_city C) (prev_city C) (segments (next_city C) (prev_city C) (length C) m x) x (slice_index near i) → All (EndsIn k) os
+with_ends C near m x n k i os tour size many low in' others at same =
+    let q = others i 0 at in
+    let h = with_on C m x (slice_index near i) tour low ((tour.members x).1 in') ((tour.members (slice_index near i)).1 (q.0.0, omega (arith, size, q.0.1))) q.1 in
+    subst (λ z. All (EndsIn z) os) (sym many) (each_ends C m os (subst (λ z. Each (OnCycle C m) z) (sym same) h))
 
 pub more_on : (m : ℕ) (o : Offer) (C : List ℕ) → m ≤ 3 → IsOfferOn m o C → IsOfferOn 3 o C
 more_on m (Two a b c d) C h (D, k) = (D, k)

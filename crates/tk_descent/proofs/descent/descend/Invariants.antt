@@ -7,25 +7,25 @@ use Rattle.tk_descent.proofs.descent.descend.Given as goal
 
 abbrev pub invariant-loop-x : goal.invariant-loop-x
 invariant-loop-x g l =
-    let dist = g.G.Gains.distance l.fn.g in
-    let T = g.S.TourStore.cities l.fn.s in
-    let C = g.S.TourStore.cities l.s in
+    let dist = g.G.Gains.distance l.fn.gains in
+    let T = g.S.TourStore.cities l.fn.tour in
+    let C = g.S.TourStore.cities l.tour in
     record {
-      run : (tests : ℕ) × Run dist (near_of l.near) l.m T l.fn.waking.queue C l.waking.queue l.looks l.moves tests × (g.G.Gains.test_count l.g ≡ saturated (g.G.Gains.test_count l.fn.g + tests));
-      table : g.G.Gains.distance l.g ≡ dist;
-      range : g.G.Gains.size_of l.g ≡ length T;
+      run : (tests : ℕ) × Run dist (near_of l.near) l.or_segment T l.fn.waking.queue C l.waking.queue l.looks l.moves tests × (g.G.Gains.test_count l.gains ≡ saturated (g.G.Gains.test_count l.fn.gains + tests));
+      table : g.G.Gains.distance l.gains ≡ dist;
+      range : g.G.Gains.size_of l.gains ≡ length T;
       size : length C ≡ length T;
       awake : l.waking.size ≡ length T;
       after : l.after ≡ pos (tour_length dist C);
       gained : l.moves + tour_length dist C ≤ tour_length dist T;
       looked : l.looks + length l.waking.queue ≤ length l.fn.waking.queue + 6 * l.moves;
-      tests : g.G.Gains.test_count l.g ≤ g.G.Gains.test_count l.fn.g + 4 * l.m * l.near.width * l.looks;
-      tests_rise : g.G.Gains.test_count l.fn.g ≤ g.G.Gains.test_count l.g;
-      swaps_rise : g.S.TourStore.swap_count l.fn.s ≤ g.S.TourStore.swap_count l.s;
-      swaps : g.S.TourStore.swap_count l.s ≤ g.S.TourStore.swap_count l.fn.s + 3 * (length T / 4) * l.moves;
-      flips : g.S.TourStore.flip_count l.s ≤ g.S.TourStore.flip_count l.fn.s + 3 * l.moves;
-      kept : g.S.TourStore.FlipsOnly l.fn.s l.s;
+      tests : g.G.Gains.test_count l.gains ≤ g.G.Gains.test_count l.fn.gains + 4 * l.or_segment * l.near.width * l.looks;
+      tests_rise : g.G.Gains.test_count l.fn.gains ≤ g.G.Gains.test_count l.gains;
+      swaps_rise : g.S.TourStore.swap_count l.fn.tour ≤ g.S.TourStore.swap_count l.tour;
+      swaps : g.S.TourStore.swap_count l.tour ≤ g.S.TourStore.swap_count l.fn.tour + 3 * (length T / 4) * l.moves;
+      flips : g.S.TourStore.flip_count l.tour ≤ g.S.TourStore.flip_count l.fn.tour + 3 * l.moves;
+      kept : g.S.TourStore.FlipsOnly l.fn.tour l.tour;
     }
 
 abbrev pub decreases-loop-x : goal.decreases-loop-x
-decreases-loop-x g l = length l.waking.queue + 6 * tour_length (g.G.Gains.distance l.g) (g.S.TourStore.cities l.s)
+decreases-loop-x g l = length l.waking.queue + 6 * tour_length (g.G.Gains.distance l.gains) (g.S.TourStore.cities l.tour)

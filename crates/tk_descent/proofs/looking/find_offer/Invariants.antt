@@ -5,5 +5,5 @@ use Rattle.tk_descent.proofs.looking.find_offer.Given as goal
 
 abbrev pub invariant-loop-y : goal.invariant-loop-y
 invariant-loop-y g l =
-    let C = g.S.TourStore.cities l.s in
-    Searched (g.M.Metric.distance l.metric) (flat_map (offers_with (next_city C) (prev_city C) (segments (next_city C) (prev_city C) (length C) l.m l.x) l.x) (take l.y-index l.y-items)) None l.fn.count l.count
+    let C = g.S.TourStore.cities l.tour in
+    Searched (g.M.Metric.distance l.metric) (flat_map (offers_with (next_city C) (prev_city C) (segments (next_city C) (prev_city C) (length C) l.or_segment l.city) l.city) (take l.y-index l.y-items)) None l.fn.count l.count

@@ -25,7 +25,7 @@ returns-clause-pass g c =
     let n : ℕ = g.M.Metric.size_of c.args.metric.now in
     let start : order_of c.in-Ok.tour ≡ one_to n = c.in-Ok.ensures.order ∙ c.deref.ensures.value ∙ c.in_ok-places.ensures ∙ ap one_to c.size-n.ensures in
     let asleep = c.in_ok-waking.ensures in
-    Pass-from (g.M.Metric.distance c.args.metric.now) _ (near_of c.args.near.now) c.args.m n (order_of c.in-Ok.tour) (order_of c.descend-report.new.s) c.wake_all.new.self.queue
+    Pass-from (g.M.Metric.distance c.args.metric.now) _ (near_of c.args.near.now) c.args.m n (order_of c.in-Ok.tour) (order_of c.descend-report.new.tour) c.wake_all.new.self.queue
     c.descend-report.result.looks c.descend-report.result.moves c.descend-report.result.tests c.new-gains.ensures.table start
     (queue_is c.wake_all.new.self.queue c.in_ok-waking.waking.queue c.in_ok-waking.waking.size n c.wake_all.ensures.queue asleep.0 (asleep.1 ∙ c.size-n.ensures)) (c.descend-report.ensures.fresh c.new-gains.ensures.count)
 
@@ -33,7 +33,7 @@ pub returns-clause-tour : goal.returns-clause-tour
 returns-clause-tour g c =
     let n : ℕ = g.M.Metric.size_of c.args.metric.now in
     let start : order_of c.in-Ok.tour ≡ one_to n = c.in-Ok.ensures.order ∙ c.deref.ensures.value ∙ c.in_ok-places.ensures ∙ ap one_to c.size-n.ensures in
-    subst (λ (v : ℕ). IsTour v (order_of c.descend-report.new.s)) (ap length start ∙ one_to-length n) c.descend-report.ensures.tour
+    subst (λ (v : ℕ). IsTour v (order_of c.descend-report.new.tour)) (ap length start ∙ one_to-length n) c.descend-report.ensures.tour
 
 pub returns-clause-tests : goal.returns-clause-tests
 returns-clause-tests g c =

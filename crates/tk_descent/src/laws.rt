@@ -1,0 +1,66 @@
+//! What the definitions of a descent say together. The functions do no work: each is a theorem, stated by its contract.
+ghost use Rattle.std.specs.Prelude.{◌≡◌, ◌+◌, ◌*◌, ◌-ℤ◌, ◌≤◌, [], length, pos};
+ghost use Rattle.tk_metric.specs.Near.{near_of};
+ghost use Rattle.tk_tour.specs.Tour.{tour_length, IsSizedTour};
+ghost use Rattle.tk_descent.specs.Awake.{IsDistinct};
+ghost use Rattle.tk_descent.specs.Machine.{Run};
+ghost use Rattle.tk_descent.specs.Offers.{gain, Makes};
+ghost use Rattle.tk_descent.specs.Sweeps.{Sweeps};
+ghost use Rattle.tk_descent.specs.WakeMachine.{IsLocalOptimum, Wakes};
+
+use crate::descent::Report;
+use crate::offer::Offer;
+use crate::sweep::SweptReport;
+use tk_metric::{Metric, Near};
+
+/// A law: the gain of an offer, by four distances (2-opt) or six (Or-opt), is the length of the whole tour before its move less
+/// the length after it.
+pub fn gain_is_the_difference<M: Metric>(
+    metric: &M,
+    or_segment: u32,
+    offer: &Offer,
+    before: &[u32],
+    after: &[u32],
+)
+    requires { Makes or_segment offer.now before.now after.now }
+    ensures { gain (M.distance metric.now) offer.now
+        ≡ pos (tour_length (M.distance metric.now) before.now) -ℤ pos (tour_length (M.distance metric.now) after.now) }
+{}
+
+/// A law: a descent's run, up to any of its steps, is a run of the machine that leaves the choices open. Each look takes a city
+/// that was awake at first or that a move woke, so there are at most as many as were awake and six for each move.
+pub fn descents_are_wake_runs<M: Metric>(
+    metric: &M,
+    near: &Near,
+    or_segment: u32,
+    before: &[u32],
+    awake: &[u32],
+    after: &[u32],
+    left: &[u32],
+    report: &Report,
+)
+    requires most { or_segment ≤ 3 }
+    requires tour { IsSizedTour before.now }
+    requires distinct { IsDistinct awake.now }
+    requires run { Run (M.distance metric.now) (near_of near.now) or_segment before.now awake.now after.now left.now
+        report.now.looks report.now.moves report.now.tests }
+    ensures wakes { Wakes (M.distance metric.now) (near_of near.now) or_segment
+        before.now awake.now after.now left.now }
+    ensures looks { report.now.looks + length left.now ≤ length awake.now + 6 * report.now.moves }
+{}
+
+/// A law: passes one after another, each with all cities awake and the last without a move, end in a local optimum.
+pub fn sweeps_end_in_local_optima<M: Metric>(
+    metric: &M,
+    near: &Near,
+    or_segment: u32,
+    before: &[u32],
+    after: &[u32],
+    report: &SweptReport,
+)
+    requires most { or_segment ≤ 3 }
+    requires tour { IsSizedTour before.now }
+    requires sweeps { Sweeps (M.distance metric.now) (near_of near.now) or_segment before.now after.now
+        report.now.passes report.now.descent.looks report.now.descent.moves report.now.descent.tests }
+    ensures { IsLocalOptimum (M.distance metric.now) (near_of near.now) or_segment after.now }
+{}
