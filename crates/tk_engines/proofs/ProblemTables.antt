@@ -1,6 +1,6 @@
 -- The table of a problem has the distances that its text says.
-use Rattle.std.proofs.Common.{◌≡◌, ℕ, ◌-◌, ◌<◌, ◌≤◌, min, Option, Some, None, Result, Ok, Err, refl, sym, ap, ◌∙◌, subst, arith}
-use Rattle.std.proofs.lemmas.Bool.{lt-ltb, le-ltb}
+use Rattle.std.proofs.Common.{◌≡◌, ℕ, ◌-◌, ◌≤◌, min, Option, Some, None, Result, Ok, Err, refl, sym, ap, ◌∙◌, subst, arith}
+use Rattle.std.proofs.lemmas.Bool.{le-ltb}
 use mathlib.Core.Path.{fun_ext}
 use Rattle.std.specs.Prelude.{Bool, IfOk, if◌then◌else◌}
 use Rattle.tk_metric.specs.Near.{NearLists, AreNearest}
@@ -44,11 +44,9 @@ IsNearOf-table t p k (Ok v) same is size width near = record {
 }
 IsNearOf-table t p k (Err e) same is size width near = tt
 
-large_by : Bool → Option Fault
+abbrev large_by : Bool → Option Fault
 large_by b = if b then Some TooLarge else None
 
-pub is_too_large : (p : ProblemIs) → 5000 < p.n → too_large p ≡ Some TooLarge
-is_too_large p over = ap large_by (lt-ltb 5000 p.n over)
-
+-- a problem of at most 5,000 nodes is not too large
 pub is_not_too_large : (p : ProblemIs) → p.n ≤ 5000 → too_large p ≡ None
 is_not_too_large p few = ap large_by (le-ltb 5000 p.n few)

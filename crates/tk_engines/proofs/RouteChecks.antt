@@ -39,6 +39,7 @@ verdict_read p i routes cost v is right = verdict_read_of p p.routing i routes c
 
 fits_of : (o : Option Routing) (P : Routing → Type 0) → IsSomeAnd o P → (if is_none (routing_is o) then Some WrongType else None) ≡ None
 fits_of (Some r) P some = refl
+fits_of None P some = elim some [ ]
 
 pub routing_fits : (p : Problem) (i : Instance) → IsInstanceOf p i → without_routing (problem_is p) ≡ None
 routing_fits p i is = fits_of p.routing _ is.routing

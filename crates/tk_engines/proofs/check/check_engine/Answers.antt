@@ -4,10 +4,19 @@ use Rattle.tk_text.specs.Parts.{problem_is}
 use Rattle.tk_engines.proofs.Lengths.{IsCheck-of}
 use Rattle.tk_engines.proofs.check.check_engine.Goals as goal
 
+pub returns-in-Err-read_tour-clause-ends : goal.returns-in-Err-read_tour-clause-ends
+returns-in-Err-read_tour-clause-ends g c = record {
+  problem = problem_is c.in-Ok.problem;
+  is_problem = record { answer = c.in-Ok.ensures.ok; intact = c.in-Ok.ensures.intact };
+  fits = refl;
+  refused = (c.in-Err-read_tour.fault, refl, record { told = c.in-Err-read_tour.ensures.err; intact = c.in-Err-read_tour.ensures.intact });
+}
+
 pub returns-in-Ok-write_verdict-clause-ends : goal.returns-in-Ok-write_verdict-clause-ends
 returns-in-Ok-write_verdict-clause-ends g c = record {
   problem = problem_is c.in-Ok.problem;
   second = c.in-Ok-read_tour.tour.cities.items;
+  text = _;
   read = record {
     is_problem = record { answer = c.in-Ok.ensures.ok; intact = c.in-Ok.ensures.intact };
     fits = refl;
@@ -24,6 +33,7 @@ returns-clause-ends g c = (
   record {
     problem = problem_is c.in-Ok.problem;
     second = c.in-Ok-read_tour.tour.cities.items;
+    text = _;
     read = record {
       is_problem = record { answer = c.in-Ok.ensures.ok; intact = c.in-Ok.ensures.intact };
       fits = refl;

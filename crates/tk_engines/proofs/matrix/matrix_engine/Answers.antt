@@ -7,6 +7,7 @@ pub returns-in-Ok-write_problem-clause-ends : goal.returns-in-Ok-write_problem-c
 returns-in-Ok-write_problem-clause-ends g c = record {
   problem = problem_is c.in-Ok.problem;
   second = tt;
+  text = _;
   read = record {
     is_problem = record { answer = c.in-Ok.ensures.ok; intact = c.in-Ok.ensures.intact };
     fits = is_not_too_large (problem_is c.in-Ok.problem) c.if-problem-gt-TABLE_LIMIT.false;
@@ -23,6 +24,7 @@ returns-clause-ends g c = (
   record {
     problem = problem_is c.in-Ok.problem;
     second = tt;
+    text = _;
     read = record {
       is_problem = record { answer = c.in-Ok.ensures.ok; intact = c.in-Ok.ensures.intact };
       fits = is_not_too_large (problem_is c.in-Ok.problem) c.if-problem-gt-TABLE_LIMIT.false;
