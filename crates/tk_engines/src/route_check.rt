@@ -163,12 +163,24 @@ mod tests {
             line: 1,
             kind: TextKind::Unsupported,
         };
-        expect_fault(&rt, rt.alloc(), b"TYPE : ATSP\n", b"Tour\n", Fault::Problem(fault));
+        expect_fault(
+            &rt,
+            rt.alloc(),
+            b"TYPE : ATSP\n",
+            b"Tour\n",
+            Fault::Problem(fault),
+        );
         let fault = TextFault {
             line: 2,
             kind: TextKind::Missing(Keyword::Cost),
         };
-        expect_fault(&rt, rt.alloc(), TWO_SIDES, b"Route #1: 1 2\n", Fault::Solution(fault));
+        expect_fault(
+            &rt,
+            rt.alloc(),
+            TWO_SIDES,
+            b"Route #1: 1 2\n",
+            Fault::Solution(fault),
+        );
     }
 
     /// A problem without a routing is told before the solution is read.
