@@ -1,5 +1,5 @@
 -- The routing of a problem, and the instance that its text gives.
-use Rattle.std.proofs.Common.{◌≡◌, ℕ, ◌^◌, ◌≤◌, List, ◌++◌, length, length-append, Option, Some, None, refl, sym, ap, ◌∙◌, subst, arith}
+use Rattle.std.proofs.Common.{◌≡◌, ℕ, ◌^◌, ◌≤◌, List, length, length-append, Option, Some, None, refl, ap, ◌∙◌, subst, arith}
 use Rattle.std.specs.Prelude.{ℤ, IsSomeAnd, if◌then◌else◌, is_none}
 use Rattle.std.specs.Int.RustNames.{unsigned_abs}
 use Rattle.tk_text.specs.declared.Problem.{Problem}
@@ -13,7 +13,6 @@ use Rattle.tk_routes.specs.declared.verdict.RouteVerdict.TheVariants.{Valid, Bad
 use Rattle.tk_engines.proofs.ProblemTables.{distances_read}
 use Rattle.tk_engines.specs.Check.{read_distance}
 use Rattle.tk_engines.specs.RouteCheck.{instance_in, route_verdict_line, without_routing}
-use Rattle.tk_engines.specs.declared.fault.Fault.{Fault}
 use Rattle.tk_engines.specs.declared.fault.Fault.TheVariants.{WrongType}
 
 -- instances that are the same part by part
