@@ -2,7 +2,6 @@
 use Rattle.std.proofs.Common.{◌≡◌, ℕ, ◌-◌, ◌^◌, ◌≤◌, List, [], ◌∷◌, ◌++◌, length, length-append, slice_index, All, arith, refl, ap, ◌∙◌, subst}
 use Rattle.std.proofs.lemmas.List.Elements.{All-from_get_or}
 use Rattle.tk_text.specs.Parts.{weights_are, problem_is}
-use Rattle.tk_text.specs.Problem.{ProblemIs}
 use Rattle.tk_text.specs.declared.Problem.{Problem}
 use Rattle.tk_text.specs.declared.Weights.{Weights}
 use Rattle.tk_text.specs.declared.Weights.TheVariants.{Points, Lower}
@@ -14,7 +13,7 @@ use Rattle.tk_tour.specs.declared.verdict.Verdict.{Verdict}
 use Rattle.tk_tour.specs.declared.verdict.Verdict.TheVariants.{Tour, WrongCount, OutOfRange, RepeatedCity}
 use Rattle.tk_tour.proofs.Tours.{city_in_range}
 use Rattle.tk_tour.specs.Verdict.{IsVerdict}
-use Rattle.tk_engines.specs.Check.{verdict_line, read_distance, IsChecked}
+use Rattle.tk_engines.specs.Check.{verdict_line, read_distance, IsCheck}
 
 -- the entries of a tour are cities
 pub cities_of_tour : (n m : ℕ) (cities : List ℕ) → m ≡ n → IsTour n cities → All (IsCity m) cities
@@ -44,13 +43,10 @@ verdict_line_short n distance cities WrongCount = let a = length_decimal n in le
 verdict_line_short n distance cities (OutOfRange p) = let a = length_decimal p in let b = length_decimal (slice_index cities (p - 1)) in simp length-append (omega arith)
 verdict_line_short n distance cities (RepeatedCity p) = let a = length_decimal p in let b = length_decimal (slice_index cities (p - 1)) in simp length-append (omega arith)
 
-pub IsChecked-of : (Says : ProblemIs → Type 0) (Lists : List ℕ → Type 0) (Told : List ℕ → Type 0) (p : Problem) (cities tried told : List ℕ) (v : Verdict)
-    → Says (problem_is p) → Lists cities → tried ≡ cities → told ≡ cities → IsVerdict p.n tried v → Told (verdict_line p.n (problem_distance p.weights) told v) → IsChecked Says Lists Told v
-IsChecked-of Says Lists Told p cities tried told v says lists is_tried is_told right line = record {
-  problem = problem_is p;
-  cities = cities;
-  is_problem = says;
-  are_cities = lists;
+-- a verdict on a list, and its line, by what the texts say
+pub IsCheck-of : (p : Problem) (cities tried told : List ℕ) (v : Verdict) → tried ≡ cities → told ≡ cities → IsVerdict p.n tried v
+    → IsCheck (problem_is p) cities v (verdict_line p.n (problem_distance p.weights) told v)
+IsCheck-of p cities tried told v is_tried is_told right = record {
   right = subst (λ l. IsVerdict p.n l v) is_tried right;
-  told = subst Told (ap (λ l. verdict_line p.n (problem_distance p.weights) l v) is_told ∙ verdict_line_is p.n p.weights cities v) line;
+  line = ap (λ l. verdict_line p.n (problem_distance p.weights) l v) is_told ∙ verdict_line_is p.n p.weights cities v;
 }

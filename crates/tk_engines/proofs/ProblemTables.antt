@@ -1,7 +1,8 @@
 -- The table of a problem has the distances that its text says.
-use Rattle.std.proofs.Common.{◌≡◌, ℕ, ◌-◌, min, Result, Ok, Err, refl, sym, ◌∙◌, subst, arith}
+use Rattle.std.proofs.Common.{◌≡◌, ℕ, ◌-◌, ◌≤◌, min, Option, Some, None, Result, Ok, Err, refl, sym, ap, ◌∙◌, subst, arith}
+use Rattle.std.proofs.lemmas.Bool.{le-ltb}
 use mathlib.Core.Path.{fun_ext}
-use Rattle.std.specs.Prelude.{IfOk}
+use Rattle.std.specs.Prelude.{Bool, IfOk, if◌then◌else◌}
 use Rattle.tk_metric.specs.Near.{NearLists, AreNearest}
 use Rattle.tk_metric.specs.Tables.{table_size, table_distance, table_distance-swap, table_distance-limit}
 use Rattle.tk_metric.specs.Weights.{problem_distance}
@@ -10,9 +11,13 @@ use Rattle.tk_text.specs.declared.Problem.{Problem}
 use Rattle.tk_text.specs.declared.Weights.{Weights}
 use Rattle.tk_text.specs.declared.Weights.TheVariants.{Points, Lower}
 use Rattle.tk_text.specs.Parts.{weights_are, problem_is}
+use Rattle.tk_text.specs.Problem.{ProblemIs}
 use Rattle.tk_text.specs.ReadBack.{IsTable}
 use Rattle.tk_engines.specs.Check.{read_distance}
+use Rattle.tk_engines.specs.MatrixOf.{too_large}
 use Rattle.tk_engines.specs.NearText.{IsNearOf}
+use Rattle.tk_engines.specs.declared.fault.Fault.{Fault}
+use Rattle.tk_engines.specs.declared.fault.Fault.TheVariants.{TooLarge}
 
 pub read_distance-weights : (w : Weights) (a b : ℕ) → problem_distance w a b ≡ read_distance (weights_are w) a b
 read_distance-weights (Points kind places) a b = refl
@@ -38,3 +43,10 @@ IsNearOf-table t p k (Ok v) same is size width near = record {
   near = subst (λ (d : ℕ → ℕ → ℕ). AreNearest d v) (distances_read (table_distance t) p.weights is) near;
 }
 IsNearOf-table t p k (Err e) same is size width near = tt
+
+abbrev large_by : Bool → Option Fault
+large_by b = if b then Some TooLarge else None
+
+-- a problem of at most 5,000 nodes is not too large
+pub is_not_too_large : (p : ProblemIs) → p.n ≤ 5000 → too_large p ≡ None
+is_not_too_large p few = ap large_by (le-ltb 5000 p.n few)

@@ -1,10 +1,13 @@
 -- The matrix of a problem.
-use Rattle.std.specs.Prelude.{◌≡◌, ℕ, ◌≤◌, true, List, Some, None, Ok}
+use Rattle.std.specs.Prelude.{◌≡◌, ℕ, true, false, List, Option, Some, None, Ok, nat_lt, if◌then◌else◌}
 use Rattle.tk_text.specs.declared.Format.{Format}
 use Rattle.tk_text.specs.MatrixText.{matrix_text}
 use Rattle.tk_text.specs.Problem.{ProblemIs, Lower, problem_decided}
 use Rattle.tk_text.specs.ReadBack.{lower_triangle}
 use Rattle.tk_engines.specs.Check.{read_distance}
+use Rattle.tk_engines.specs.Engine.{Task, NoClash}
+use Rattle.tk_engines.specs.declared.fault.Fault.{Fault}
+use Rattle.tk_engines.specs.declared.fault.Fault.TheVariants.{TooLarge}
 
 abbrev pub matrix_of : ProblemIs → Format → List ℕ
 matrix_of p format = matrix_text p.name p.n (read_distance p.weights) format
@@ -19,6 +22,13 @@ IsReadAs text p = problem_decided true text ≡ Some (Ok p)
 
 -- the text of a problem's matrix, which is read as the problem's distances
 pub record IsMatrixText (format : Format) (p : ProblemIs) (text : List ℕ) : Type 0 where
-  pub few : p.n ≤ 5000
   pub is : text ≡ matrix_of p format
   pub read_back : IsReadAs text (by_distances p)
+
+-- a matrix has at most 5,000 nodes
+abbrev pub too_large : ProblemIs → Option Fault
+too_large p = if nat_lt 5000 p.n then Some TooLarge else None
+
+-- the matrix of a problem is written, which takes no memory
+abbrev pub matrix_task : Format → Task (Unit {0}) (Unit {0}) (List ℕ)
+matrix_task format = record { misfit = too_large; IsClash = NoClash; takes_memory = false; Gives = λ p _ _. IsMatrixText format p }

@@ -1,10 +1,11 @@
 -- The text of a problem's near lists.
-use Rattle.std.specs.Prelude.{◌≡◌, ℕ, ◌-◌, min, List, flat_map}
+use Rattle.std.specs.Prelude.{◌≡◌, ℕ, ◌-◌, true, min, List, None, flat_map}
 use Rattle.std.specs.List.{range_with_len}
 use Rattle.tk_metric.specs.Near.{NearLists, AreNearest, near_of}
 use Rattle.tk_text.specs.Problem.{ProblemIs}
 use Rattle.tk_text.specs.Written.{near_line}
 use Rattle.tk_engines.specs.Check.{read_distance}
+use Rattle.tk_engines.specs.Engine.{Task, NoClash}
 
 -- a line for each city
 abbrev pub near_text : NearLists → List ℕ
@@ -18,3 +19,7 @@ pub record IsNearOf (p : ProblemIs) (k : ℕ) (v : NearLists) : Type 0 where
 
 abbrev pub IsNearText : ℕ → ProblemIs → List ℕ → Type 0
 IsNearText k p text = (v : NearLists) × IsNearOf p k v × (text ≡ near_text v)
+
+-- the near lists of any problem are written
+abbrev pub near_task : ℕ → Task (Unit {0}) (Unit {0}) (List ℕ)
+near_task k = record { misfit = λ _. None; IsClash = NoClash; takes_memory = true; Gives = λ p _ _. IsNearText k p }

@@ -1,10 +1,8 @@
 //! The check of a tour.
-ghost use Rattle.std.specs.Prelude.{◌≡◌, true, Ok, Err, IfOk, IfErr};
-ghost use Rattle.tk_text.specs.Problem.{problem_decided};
-ghost use Rattle.tk_text.specs.Puts.{Stops};
-ghost use Rattle.tk_text.specs.Tour.{tour_decided};
-ghost use Rattle.tk_engines.specs.Check.{IsChecked, IsStopped};
-ghost use Rattle.tk_engines.specs.Engine.{IsRead, IsRefused, IsUntouched, Took, UnlessWrite, AtWrite, AtProblem};
+ghost use Rattle.std.specs.Prelude.{◌≡◌, true, IfErr};
+ghost use Rattle.tk_text.specs.Puts.{Writes};
+ghost use Rattle.tk_engines.specs.Check.{check_task};
+ghost use Rattle.tk_engines.specs.Engine.{Ends, ReadsProblem, ReadsTour, IsUntouched, BeforeSecond, UnlessWrite, AtWrite};
 
 use crate::fault::Fault;
 use crate::verdict_line::write_verdict;
@@ -24,14 +22,11 @@ pub fn check_engine<P: Source, T: Source, W: Sink>(
     tour: &mut T,
     out: &mut W,
 ) -> Result<Verdict, Fault>
-    ensures ok { IfOk result (IsChecked (IsRead P.left P.broken problem_decided problem.old problem.new) (IsRead T.left T.broken tour_decided tour.old tour.new)
-        (Took W.taken W.broken out.old out.new)) }
-    ensures err { IfErr result (IsStopped (IsRead P.left P.broken problem_decided problem.old problem.new) (IsRefused P.left P.broken problem_decided problem.old problem.new)
-        (IsRead T.left T.broken tour_decided tour.old tour.new) (IsRefused T.left T.broken tour_decided tour.old tour.new)
-        (λ f line. Stops W.taken W.broken (W.taken out.old) line out.new f)) }
+    ensures ends { Ends check_task (ReadsProblem P.left P.broken problem.old problem.new) (ReadsTour T.left T.broken tour.old tour.new)
+        (Writes W.taken W.broken out.old out.new) result }
     ensures quiet { IfErr result (UnlessWrite (IsUntouched W.taken W.broken out.old out.new)) }
     ensures failed { IfErr result (AtWrite (W.broken out.new ≡ true)) }
-    ensures unread { IfErr result (AtProblem (IsUntouched T.left T.broken tour.old tour.new)) }
+    ensures unread { IfErr result (BeforeSecond (IsUntouched T.left T.broken tour.old tour.new)) }
 {
     let problem = match read_problem(alloc, problem) {
         Ok(problem) => problem,

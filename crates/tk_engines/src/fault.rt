@@ -1,6 +1,7 @@
 //! Why an engine stopped.
 use thiserror::Error;
 use tk_text::{TextFault, WriteFault};
+use tk_tour::TourFault;
 
 /// Why an engine stopped. It has written nothing, but for what a write fault tells.
 #[derive(Clone, Copy, Debug, PartialEq, Eq, Error)]
@@ -11,6 +12,15 @@ pub enum Fault {
     /// The tour text has this fault.
     #[error("tour text: {0}")]
     Tour(TextFault),
+    /// The solution text has this fault.
+    #[error("solution text: {0}")]
+    Solution(TextFault),
+    /// The tour to begin with is no tour of the problem's cities.
+    #[error("initial tour: {0}")]
+    Initial(TourFault),
+    /// The problem has no routing, and so no routes.
+    #[error("not a CVRP")]
+    WrongType,
     /// The problem has over 5,000 nodes, too many for a matrix.
     #[error("too large for a matrix")]
     TooLarge,

@@ -1,13 +1,12 @@
 //! The matrix of a problem.
-ghost use Rattle.std.specs.Prelude.{◌≡◌, ◌≤◌, ◌<◌, true, pos, OnErr, IfOk, IfErr};
+ghost use Rattle.std.specs.Prelude.{◌≡◌, ◌≤◌, true, pos, OnErr, IfErr};
 ghost use Rattle.tk_metric.specs.Cities.{IsCity};
 ghost use Rattle.tk_metric.specs.Tables.{table_size, table_distance};
 ghost use Rattle.tk_text.specs.Parts.{problem_is};
-ghost use Rattle.tk_text.specs.Problem.{problem_decided};
-ghost use Rattle.tk_text.specs.Puts.{Stops, Writes};
+ghost use Rattle.tk_text.specs.Puts.{Writes};
 ghost use Rattle.tk_text.specs.Names.{IsName};
-ghost use Rattle.tk_engines.specs.Engine.{IsRead, IsRefused, IsTextStopped, IsTextTold, IsUntouched, Took, UnlessWrite, AtWrite};
-ghost use Rattle.tk_engines.specs.MatrixOf.{by_distances, IsMatrixText, IsReadAs, matrix_of};
+ghost use Rattle.tk_engines.specs.Engine.{Ends, ReadsProblem, NoText, IsUntouched, UnlessWrite, AtWrite};
+ghost use Rattle.tk_engines.specs.MatrixOf.{by_distances, IsReadAs, matrix_of, matrix_task};
 
 use crate::fault::Fault;
 use std::alloc::Global;
@@ -43,9 +42,7 @@ pub fn matrix_engine<R: Source, W: Sink>(
     format: Format,
     out: &mut W,
 ) -> Result<(), Fault>
-    ensures ok { IfOk result (λ _. IsTextTold (IsRead R.left R.broken problem_decided problem.old problem.new) (IsMatrixText format) (Took W.taken W.broken out.old out.new)) }
-    ensures err { IfErr result (IsTextStopped (IsRead R.left R.broken problem_decided problem.old problem.new) (IsRefused R.left R.broken problem_decided problem.old problem.new) (λ p. 5000 < p.n)
-        (IsMatrixText format) (λ f text. Stops W.taken W.broken (W.taken out.old) text out.new f)) }
+    ensures ends { Ends (matrix_task format) (ReadsProblem R.left R.broken problem.old problem.new) NoText (Writes W.taken W.broken out.old out.new) result }
     ensures quiet { IfErr result (UnlessWrite (IsUntouched W.taken W.broken out.old out.new)) }
     ensures failed { IfErr result (AtWrite (W.broken out.new ≡ true)) }
 {

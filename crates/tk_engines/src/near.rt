@@ -2,10 +2,9 @@
 ghost use Rattle.std.specs.Prelude.{◌≡◌, ◌≤◌, true, OnErr, IfOk, IfErr};
 ghost use Rattle.tk_text.specs.Parts.{problem_is};
 ghost use Rattle.tk_text.specs.Pens.{Puts};
-ghost use Rattle.tk_text.specs.Problem.{problem_decided};
-ghost use Rattle.tk_text.specs.Puts.{Stops, Writes};
-ghost use Rattle.tk_engines.specs.Engine.{IsRead, IsRefused, IsTextStopped, IsTextTold, IsUntouched, Took, UnlessWrite, AtWrite};
-ghost use Rattle.tk_engines.specs.NearText.{IsNearOf, IsNearText, near_text};
+ghost use Rattle.tk_text.specs.Puts.{Writes};
+ghost use Rattle.tk_engines.specs.Engine.{Ends, ReadsProblem, NoText, IsUntouched, UnlessWrite, AtWrite};
+ghost use Rattle.tk_engines.specs.NearText.{IsNearOf, near_task, near_text};
 
 use crate::fault::Fault;
 use std::alloc::{AllocError, Global};
@@ -63,9 +62,7 @@ pub fn near_engine<R: Source, W: Sink>(
 ) -> Result<(), Fault>
     requires low { 1 ≤ k }
     requires limit { k ≤ 100 }
-    ensures ok { IfOk result (λ _. IsTextTold (IsRead R.left R.broken problem_decided problem.old problem.new) (IsNearText k) (Took W.taken W.broken out.old out.new)) }
-    ensures err { IfErr result (IsTextStopped (IsRead R.left R.broken problem_decided problem.old problem.new) (IsRefused R.left R.broken problem_decided problem.old problem.new) (λ _. ⊥)
-        (IsNearText k) (λ f text. Stops W.taken W.broken (W.taken out.old) text out.new f)) }
+    ensures ends { Ends (near_task k) (ReadsProblem R.left R.broken problem.old problem.new) NoText (Writes W.taken W.broken out.old out.new) result }
     ensures quiet { IfErr result (UnlessWrite (IsUntouched W.taken W.broken out.old out.new)) }
     ensures failed { IfErr result (AtWrite (W.broken out.new ≡ true)) }
 {

@@ -1,5 +1,6 @@
 //! The words that the program takes.
 use crate::check_command::check;
+use crate::checksol_command::checksol;
 use crate::matrix_command::matrix;
 use crate::near_command::near;
 use clap::{Arg, Command, Error};
@@ -12,6 +13,7 @@ pub fn tourkit<'a>(alloc: Global) -> Result<Command<'a>, Error> {
         .about("Reads, checks and improves tours and routes")
         .subcommand_required(true)
         .subcommand(check(alloc)?)?
+        .subcommand(checksol(alloc)?)?
         .subcommand(matrix(alloc)?)?
         .subcommand(near(alloc)?)?;
     Ok(made)

@@ -2,6 +2,7 @@
 #![tactic(auto)]
 
 mod check_command;
+mod checksol_command;
 mod command;
 mod matrix_command;
 mod near_command;
@@ -51,6 +52,7 @@ fn refuse(rt: &HostRuntime, error: &Error) -> ExitCode {
 fn run(rt: &HostRuntime, matches: &ArgMatches<'_>) -> ExitCode {
     match matches.subcommand() {
         Some(("check", words)) => check_command::run(rt, words),
+        Some(("checksol", words)) => checksol_command::run(rt, words),
         Some(("matrix", words)) => matrix_command::run(rt, words),
         Some(("near", words)) => near_command::run(rt, words),
         _ => ExitCode::from(USAGE),

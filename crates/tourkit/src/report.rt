@@ -3,6 +3,7 @@ use std::io;
 use std::process::ExitCode;
 use tk_engines::Fault;
 use tk_text::{TextFault, TextKind};
+use tk_tour::TourFault;
 
 /// A check found a fault.
 pub const FOUND: u8 = 1;
@@ -22,7 +23,11 @@ pub fn unopened(rt: &HostRuntime, file: &str) -> ExitCode {
 /// Tells the fault of an engine over the problem of a file.
 pub fn stopped(rt: &HostRuntime, file: &str, fault: &Fault) -> ExitCode {
     match fault {
-        Fault::Problem(fault) | Fault::Tour(fault) => text_fault(rt, file, fault),
+        Fault::Problem(fault) | Fault::Tour(fault) | Fault::Solution(fault) => {
+            text_fault(rt, file, fault)
+        }
+        Fault::Initial(fault) => initial_fault(rt, file, fault),
+        Fault::WrongType => wrong_type(rt, file),
         Fault::TooLarge => too_large(rt, file),
         Fault::Write(_) => write_fault(rt),
         Fault::NoMemory => no_memory(rt),
@@ -48,6 +53,27 @@ pub fn write_fault(rt: &HostRuntime) -> ExitCode {
 pub fn no_memory(rt: &HostRuntime) -> ExitCode {
     let _ = eprintln!(rt; "tourkit: out of memory");
     ExitCode::from(SYSTEM)
+}
+
+/// Tells that the tour of a file is no tour to begin with.
+fn initial_fault(rt: &HostRuntime, file: &str, fault: &TourFault) -> ExitCode {
+    let _ = match fault {
+        TourFault::WrongCount => eprintln!(rt; "tourkit: {file}: initial tour: 1 WrongCount"),
+        TourFault::OutOfRange(place) => {
+            eprintln!(rt; "tourkit: {file}: initial tour: 2 OutOfRange {place}")
+        }
+        TourFault::RepeatedCity(place) => {
+            eprintln!(rt; "tourkit: {file}: initial tour: 3 RepeatedCity {place}")
+        }
+        TourFault::NoMemory => return no_memory(rt),
+    };
+    ExitCode::from(USAGE)
+}
+
+/// Tells that a problem has no routing.
+fn wrong_type(rt: &HostRuntime, file: &str) -> ExitCode {
+    let _ = eprintln!(rt; "tourkit: {file}: not a CVRP");
+    ExitCode::from(USAGE)
 }
 
 /// Tells that a problem has too many nodes for a matrix.
