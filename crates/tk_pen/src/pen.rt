@@ -152,6 +152,15 @@ impl<'a, W: Sink> Pen<'a, W> {
         self.put(buffer.format(number).as_bytes());
     }
 
+    /// The same for a number of up to 128 bits.
+    pub fn put_wide(&mut self, number: u128)
+        ensures { Puts W.taken W.broken self.old self.new (decimal number) }
+    {
+        let mut buffer = Buffer::new();
+        let digits = buffer.format(number);
+        self.put(digits.as_bytes());
+    }
+
     /// Writes numbers, single spaces between them, behind all that was put before.
     pub fn put_spaced(&mut self, numbers: &[u32])
         ensures { Puts W.taken W.broken self.old self.new (spaced_numbers numbers.now) }
