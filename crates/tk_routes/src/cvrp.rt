@@ -1,7 +1,7 @@
 //! A capacitated routing problem.
 ghost use Rattle.std.specs.Prelude.{◌≡◌, ◌≤◌, ◌-◌, ◌*◌, All, None, IfNone, IfSome, length, pos, slice_index};
 ghost use Rattle.tk_metric.specs.Cities.{IsCity};
-ghost use Rattle.tk_metric.specs.Tables.{table_size};
+ghost use Rattle.tk_metric.specs.Tables.{table_size, table_distance};
 
 use tk_metric::{Metric, Table};
 use tk_text::Problem;
@@ -40,6 +40,14 @@ impl<'a> Cvrp<'a> {
             capacity: routing.capacity,
             depot: routing.depot,
         })
+    }
+
+    /// The distances among its nodes.
+    pub fn table(&self) -> Table<'a>
+        ensures size { table_size result ≡ (instance_of self.now).size }
+        ensures distance { table_distance result ≡ (instance_of self.now).distance }
+    {
+        self.table
     }
 
     /// How many customers there are.
