@@ -1,0 +1,4 @@
+pub mod Both
+pub mod Cities
+pub mod FirstShortest
+pub mod SoFar

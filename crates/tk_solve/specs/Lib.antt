@@ -1,0 +1,5 @@
+pub mod Outcomes
+pub mod Runs
+pub mod SolvedRoutes
+pub mod SolvedTours
+pub mod Starts

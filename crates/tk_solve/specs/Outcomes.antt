@@ -1,0 +1,19 @@
+-- What is kept of the runs so far.
+use Rattle.std.specs.Prelude.{◌≡◌, ◌≢◌, ◌<ℤ◌, ◌≤ℤ◌, ℕ, List, [], ◌∷◌, ◌++◌, pos}
+use Rattle.tk_metric.specs.Near.{NearLists}
+use Rattle.tk_tour.specs.Tour.{tour_length}
+use Rattle.tk_build.specs.Searching.{Searching}
+use Rattle.tk_solve.specs.declared.outcome.Outcome.{Outcome}
+use Rattle.tk_solve.specs.Runs.{Run, AreSoFar}
+use Rattle.tk_solve.specs.Starts.{TourTask}
+
+-- a report of each run, and the best tour of the first one with the least length
+abbrev pub AreKept : TourTask → NearLists → List Run → Outcome → Type 0
+AreKept task near runs outcome = AreSoFar task near runs outcome.reports.items outcome.cities.items outcome.shortest
+
+-- one more run was noted, which ended with this search: its best tour is kept where none was before, or where it is shorter
+pub record IsTaken (distance : ℕ → ℕ → ℕ) (ended : Searching) (old new : Outcome) : Type 0 where
+  pub reports : new.reports.items ≡ old.reports.items ++ record { best = pos (tour_length distance ended.best); totals = ended.totals } ∷ []
+  pub first : old.reports.items ≡ [] → (new.cities.items ≡ ended.best) × (new.shortest ≡ pos (tour_length distance ended.best))
+  pub shorter : pos (tour_length distance ended.best) <ℤ old.shortest → (new.cities.items ≡ ended.best) × (new.shortest ≡ pos (tour_length distance ended.best))
+  pub kept : old.reports.items ≢ [] → old.shortest ≤ℤ pos (tour_length distance ended.best) → (new.cities ≡ old.cities) × (new.shortest ≡ old.shortest)

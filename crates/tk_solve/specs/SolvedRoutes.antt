@@ -1,0 +1,23 @@
+-- What a search for routes answers.
+use Rattle.std.specs.Prelude.{◌≡◌, ℕ, ◌-◌, ◌≤◌, List, min, pos}
+use Rattle.tk_metric.specs.Near.{NearLists, AreNearest, near_of}
+use Rattle.tk_routes.specs.ImprovedRoutes.{AreImproved}
+use Rattle.tk_routes.specs.Instance.{Instance}
+use Rattle.tk_routes.specs.Routes.{routes_cost}
+use Rattle.tk_routes.specs.SavingsRoutes.{AreSavingsRoutes}
+use Rattle.tk_routes.specs.declared.route_report.RouteReport.{RouteReport}
+
+-- The routes of the savings merges over near lists of the nodes, each then improved by itself by a descent with all its nodes awake.
+-- `most` is the most swaps that the moves take.
+pub record AreSolved (i : Instance) (candidates segment : ℕ) (routes : List (List ℕ)) (report : RouteReport) : Type 0 where
+  pub near : NearLists
+  pub nearest : AreNearest i.distance near
+  pub size : near.size ≡ i.size
+  pub width : near.width ≡ min candidates (i.size - 1)
+  pub merged : List (List ℕ)
+  pub savings : AreSavingsRoutes i (near_of near) merged
+  pub most : ℕ
+  pub improved : AreImproved i candidates segment merged routes report.moves report.tests most
+  pub swaps : report.swaps ≤ most
+  pub before : report.before ≡ pos (routes_cost i merged)
+  pub after : report.after ≡ pos (routes_cost i routes)

@@ -1,0 +1,19 @@
+//! What `solve` does between reading and writing: the runs of a search for a tour, and the routes of a routing problem.
+#![tactic(auto)]
+
+mod on_table;
+mod options;
+mod outcome;
+mod routes;
+mod search;
+mod starts;
+#[cfg(test)]
+mod tests;
+mod tour;
+mod watch;
+
+pub use options::{RouteOptions, Start, TourOptions};
+pub use outcome::RunReport;
+pub use routes::solve_routes;
+pub use tour::{SolvedTour, solve_tour};
+pub use watch::{Progress, Unwatched, Watch};

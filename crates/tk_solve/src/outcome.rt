@@ -1,0 +1,102 @@
+//! What is kept of the runs so far.
+ghost use Rattle.std.specs.Prelude.{◌≡◌, ◌≢◌, ◌<ℤ◌, ◌≤ℤ◌, ◌+◌, ◌<◌, List, ◌++◌, ◌∷◌, [], OnOk, length, pos};
+ghost use Rattle.tk_metric.specs.Tables.{table_size, table_distance};
+ghost use Rattle.tk_tour.specs.ArrayTours.{order_of};
+ghost use Rattle.tk_tour.specs.Tour.{IsTour, tour_length};
+
+use crate::options::TourOptions;
+use crate::search::search_run;
+use crate::watch::Watch;
+use std::alloc::{AllocError, Global};
+use tk_build::{Search, Totals};
+use tk_metric::{Metric, Near, Table};
+use tk_tour::{ArrayTour, length};
+
+/// What a run gave.
+#[derive(Clone, Copy, PartialEq, Eq, Debug)]
+pub struct RunReport {
+    /// The length of its best tour.
+    pub best: i64,
+    /// What it counted; `start` is the length of the tour that it began with.
+    pub totals: Totals,
+}
+
+/// What is kept of the runs so far: a report of each, and the best tour of the first one with the least length.
+#[derive(Drop)]
+pub(crate) struct Outcome {
+    pub(crate) reports: Vec<RunReport>,
+    pub(crate) cities: Vec<u32>,
+    pub(crate) shortest: i64,
+}
+
+impl Outcome {
+    ghost use Rattle.tk_build.specs.SearchOf.{search_of};
+    ghost use Rattle.tk_solve.specs.Outcomes.{AreKept};
+    ghost use Rattle.tk_solve.specs.Runs.{Run};
+    ghost use Rattle.tk_solve.specs.Starts.{IsStart, task_of};
+
+    /// Before the first run.
+    pub(crate) fn new(alloc: Global) -> Outcome
+        ensures reports { result.reports.items ≡ [] }
+    {
+        Outcome {
+            reports: Vec::new(alloc),
+            cities: Vec::new(alloc),
+            shortest: 0,
+        }
+    }
+
+    /// Takes note of a run that ended with this search.
+    fn take<M: Metric>(&mut self, metric: &M, search: &Search<'_, M>) -> Result<(), AllocError>
+        requires tour { IsTour (M.size_of metric.now) (search_of search.now).best }
+        ensures reports { OnOk result (self.new.reports.items ≡ self.old.reports.items
+            ++ record { best = pos (tour_length (M.distance metric.now) (search_of search.now).best); totals = (search_of search.now).totals } ∷ []) }
+        ensures first { self.old.reports.items ≡ []
+            → OnOk result ((self.new.cities.items ≡ (search_of search.now).best) × (self.new.shortest ≡ pos (tour_length (M.distance metric.now) (search_of search.now).best))) }
+        ensures shorter { pos (tour_length (M.distance metric.now) (search_of search.now).best) <ℤ self.old.shortest
+            → OnOk result ((self.new.cities.items ≡ (search_of search.now).best) × (self.new.shortest ≡ pos (tour_length (M.distance metric.now) (search_of search.now).best))) }
+        ensures kept { self.old.reports.items ≢ [] → self.old.shortest ≤ℤ pos (tour_length (M.distance metric.now) (search_of search.now).best)
+            → OnOk result ((self.new.cities ≡ self.old.cities) × (self.new.shortest ≡ self.old.shortest)) }
+    {
+        let best = length(metric, search.best());
+        if self.reports.is_empty() || best < self.shortest {
+            self.cities.clear();
+            self.cities.extend_from_slice(search.best())?;
+            self.shortest = best;
+        }
+        self.reports.push(RunReport {
+            best,
+            totals: search.totals(),
+        })?;
+        Ok(())
+    }
+
+    /// Run j, from 0, from a tour of a table's cities.
+    pub(crate) fn add_run<W: Watch>(
+        &mut self,
+        alloc: Global,
+        table: &Table<'_>,
+        near: &Near,
+        start: ArrayTour,
+        options: &TourOptions<'_>,
+        j: u32,
+        watch: &mut W,
+    ) -> Result<(), AllocError>
+        requires fits { (table_size table.now ≡ length (order_of start)) × (near.now.size ≡ length (order_of start)) }
+        requires run { j < options.now.runs }
+        requires start { IsStart (task_of table.now options.now) near.now j (order_of start) }
+        ensures { OnOk result ((runs : List Run) → length runs ≡ j → AreKept (task_of table.now options.now) near.now runs self.old
+            → (run : Run) × AreKept (task_of table.now options.now) near.now (runs ++ run ∷ []) self.new) }
+    {
+        match table {
+            Table::Planes(planes) => {
+                let search = search_run(alloc, planes, near, start, options, j, watch)?;
+                self.take(planes, &search)
+            }
+            Table::Triangle(triangle) => {
+                let search = search_run(alloc, triangle, near, start, options, j, watch)?;
+                self.take(triangle, &search)
+            }
+        }
+    }
+}

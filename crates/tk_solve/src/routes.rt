@@ -1,0 +1,34 @@
+//! The routes of a routing problem: by savings, and then each by itself.
+ghost use Rattle.std.specs.Prelude.{IfOk};
+ghost use Rattle.tk_routes.specs.RouteLists.{routes_of};
+ghost use Rattle.tk_routes.specs.Cvrps.{instance_of};
+ghost use Rattle.tk_solve.specs.SolvedRoutes.{AreSolved};
+
+use crate::on_table::near_lists;
+use crate::options::RouteOptions;
+use std::alloc::{AllocError, Global};
+use tk_routes::{Cvrp, RouteReport, Routes, improve, savings};
+
+/// Routes of a routing problem: those of the savings merges over its near lists, each then improved by itself.
+///
+/// # Errors
+/// `AllocError` where there is no memory for near lists, merges or a descent.
+pub fn solve_routes<'a>(
+    alloc: Global,
+    cvrp: &Cvrp<'a>,
+    options: RouteOptions,
+) -> Result<(Routes<'a>, RouteReport), AllocError>
+    ensures { IfOk result (λ r. AreSolved (instance_of cvrp.now) options.candidates options.or_segment (routes_of r.0) r.1) }
+{
+    let table = cvrp.table();
+    let near = near_lists(alloc, &table, options.candidates.min(cvrp.customers()))?;
+    let mut routes = savings(alloc, cvrp, &near)?;
+    let report = improve(
+        alloc,
+        cvrp,
+        &mut routes,
+        options.candidates,
+        options.or_segment,
+    )?;
+    Ok((routes, report))
+}

@@ -1,0 +1,92 @@
+//! The runs of a search for a tour.
+ghost use Rattle.std.specs.Prelude.{◌≡◌, ◌≤◌, IfOk, List, length, option_map, pos};
+ghost use Rattle.tk_metric.specs.Tables.{table_size, table_distance};
+ghost use Rattle.tk_tour.specs.Printed.{IsPrintedForm};
+ghost use Rattle.tk_tour.specs.Tour.{IsTour, tour_length};
+ghost use Rattle.tk_solve.specs.Outcomes.{AreKept};
+ghost use Rattle.tk_solve.specs.Runs.{Run};
+ghost use Rattle.tk_solve.specs.SolvedTours.{IsSolved};
+ghost use Rattle.tk_solve.specs.Starts.{IsCommonStart, IsGivenTour, task_of};
+
+use crate::on_table::near_lists;
+use crate::options::TourOptions;
+use crate::outcome::{Outcome, RunReport};
+use crate::starts::{common_start, savings_start, start_of};
+use crate::watch::Watch;
+use std::alloc::{AllocError, Global};
+use tk_metric::{Metric, Near, Table};
+use tk_tour::{ArrayTour, length};
+
+/// What a search for a tour gave.
+#[derive(Drop)]
+pub struct SolvedTour {
+    /// The best tour of the first run with the least length, in printed form: from city 1 on, towards the smaller of its neighbours.
+    pub cities: Vec<u32>,
+    /// Its length.
+    pub length: i64,
+    /// A report of each run.
+    pub runs: Vec<RunReport>,
+}
+
+/// The answer after all runs.
+fn solved(alloc: Global, table: &Table<'_>, outcome: Outcome) -> Result<SolvedTour, AllocError>
+    requires tour { IsTour (table_size table.now) outcome.cities.items }
+    requires cities { 2 ≤ table_size table.now }
+    ensures runs { IfOk result (λ s. s.runs ≡ outcome.reports) }
+    ensures printed { IfOk result (λ s. IsPrintedForm outcome.cities.items s.cities.items) }
+    ensures length { IfOk result (λ s. s.length ≡ pos (tour_length (table_distance table.now) s.cities.items)) }
+{
+    let Ok(tour) = ArrayTour::from_list(alloc, &outcome.cities) else {
+        return Err(AllocError);
+    };
+    let cities = tour.canonical(alloc)?;
+    let length = length(table, &cities);
+    Ok(SolvedTour {
+        cities,
+        length,
+        runs: outcome.reports,
+    })
+}
+
+/// All runs, each from the common start, or from a nearest-neighbour tour of its own where there is none.
+fn run_all<W: Watch>(
+    alloc: Global,
+    table: &Table<'_>,
+    near: &Near,
+    common: Option<&[u32]>,
+    options: &TourOptions<'_>,
+    watch: &mut W,
+) -> Result<Outcome, AllocError>
+    requires some { 1 ≤ table_size table.now }
+    requires size { near.now.size ≡ table_size table.now }
+    requires start { IsCommonStart (task_of table.now options.now) near.now (option_map (λ c. c.now) common) }
+    ensures { IfOk result (λ o. (runs : List Run) × (length runs ≡ options.now.runs) × AreKept (task_of table.now options.now) near.now runs o) }
+{
+    let mut outcome = Outcome::new(alloc);
+    for j in 0..options.runs {
+        let start = start_of(alloc, table, common, j)?;
+        outcome.add_run(alloc, table, near, start, options, j, watch)?;
+    }
+    Ok(outcome)
+}
+
+/// Searches for a short tour of a table's cities: `runs` runs, each of `trials` trials. Tells `watch` of each trial.
+///
+/// # Errors
+/// `AllocError` where there is no memory for the near lists, a start, a search or a report.
+pub fn solve_tour<W: Watch>(
+    alloc: Global,
+    table: &Table<'_>,
+    options: &TourOptions<'_>,
+    watch: &mut W,
+) -> Result<SolvedTour, AllocError>
+    requires cities { 2 ≤ table_size table.now }
+    requires given { IsGivenTour (table_size table.now) options.now.start }
+    ensures solved { IfOk result (IsSolved (task_of table.now options.now)) }
+{
+    let near = near_lists(alloc, table, options.candidates.min(table.size() - 1))?;
+    let savings = savings_start(alloc, table, &near, options.start)?;
+    let common = common_start(options.start, &savings);
+    let outcome = run_all(alloc, table, &near, common, options, watch)?;
+    solved(alloc, table, outcome)
+}
