@@ -2,3 +2,5 @@ pub mod Lengths
 pub mod NearLines
 pub mod ProblemTables
 pub mod RouteChecks
+pub mod RunLines
+pub mod SolveEnds

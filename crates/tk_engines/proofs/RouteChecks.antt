@@ -1,10 +1,11 @@
 -- The routing of a problem, and the instance that its text gives.
 use Rattle.std.proofs.Common.{◌≡◌, ℕ, ◌^◌, ◌≤◌, List, length, length-append, Option, Some, None, refl, ap, ◌∙◌, subst, arith}
-use Rattle.std.specs.Prelude.{ℤ, IsSomeAnd, if◌then◌else◌, is_none}
+use Rattle.std.specs.Prelude.{ℤ, IsSomeAnd, MatchOption, if◌then◌else◌, is_none}
 use Rattle.std.specs.Int.RustNames.{unsigned_abs}
 use Rattle.tk_text.specs.declared.Problem.{Problem}
 use Rattle.tk_text.specs.declared.Routing.{Routing}
 use Rattle.tk_text.specs.Parts.{problem_is, routing_is, weights_are}
+use Rattle.tk_text.specs.Problem.{RoutingIs}
 use Rattle.tk_writers.proofs.Lengths.MatrixLength.{length_decimal}
 use Rattle.tk_routes.specs.Instance.{Instance, IsInstanceOf}
 use Rattle.tk_routes.specs.RouteVerdicts.{IsRouteVerdict}
@@ -51,3 +52,18 @@ route_line_short (ServedTwice customer) = let a = length_decimal customer in sim
 route_line_short (OverCapacity route load) = let a = length_decimal route in let b = length_decimal load in simp length-append (omega arith)
 route_line_short (NotServed customer) = let a = length_decimal customer in simp length-append (omega arith)
 route_line_short (WrongCost read counted) = let a = length_decimal (unsigned_abs read) in let b = length_decimal (unsigned_abs counted) in simp length-append (omega arith)
+
+-- what holds of an instance of a problem holds of the one that its text gives
+instance_read_of : (p : Problem) (o : Option Routing) (i : Instance) (N : Type 0) (P : Instance → Type 0) → i.size ≡ p.n → i.distance ≡ read_distance (weights_are p.weights)
+    → IsSomeAnd o (λ r. (i.demands ≡ r.demand.items) × (i.capacity ≡ r.capacity) × (i.depot ≡ r.depot)) → P i
+    → MatchOption (routing_is o) N (λ r. P (instance_in (problem_is p) r))
+instance_read_of p (Some r) i N P size distance routing holds = subst P (instance_same i _ size distance routing.0 routing.1 routing.2) holds
+instance_read_of p None i N P size distance routing holds = elim routing [ ]
+
+pub instance_read : (p : Problem) (i : Instance) (N : Type 0) (P : Instance → Type 0) → IsInstanceOf p i → P i
+    → MatchOption (routing_is p.routing) N (λ r. P (instance_in (problem_is p) r))
+instance_read p i N P is holds = instance_read_of p p.routing i N P is.size (distances_read i.distance p.weights is.distance) is.routing holds
+
+-- a problem without a routing
+pub unrouted : (o : Option Routing) (N : Type 0) (P : RoutingIs → Type 0) → o ≡ None → N → MatchOption (routing_is o) N P
+unrouted o N P none holds = rw none holds

@@ -108,6 +108,7 @@ pub record IsGiven {B R T : Type 0} (task : Task B R T) (Problem : Reading Probl
 abbrev pub Stopped : {B R T : Type 0} → Task B R T → Reading ProblemIs → Reading B → Writing T → Fault → Type 0
 Stopped task Problem Second Writes (faults.Problem f) = Problem (Err (faults.Problem f))
 Stopped task Problem Second Writes faults.WrongType = IsMisfit task Problem faults.WrongType
+Stopped task Problem Second Writes (faults.NotForType key) = IsMisfit task Problem (faults.NotForType key)
 Stopped task Problem Second Writes faults.TooLarge = IsMisfit task Problem faults.TooLarge
 Stopped task Problem Second Writes (faults.Tour f) = IsSecondRefused task Problem Second (faults.Tour f)
 Stopped task Problem Second Writes (faults.Solution f) = IsSecondRefused task Problem Second (faults.Solution f)
@@ -126,6 +127,7 @@ Ends task Problem Second Writes (Err f) = Stopped task Problem Second Writes f
 abbrev pub BeforeSecond : Type 0 → Fault → Type 0
 BeforeSecond P (faults.Problem f) = P
 BeforeSecond P faults.WrongType = P
+BeforeSecond P (faults.NotForType key) = P
 BeforeSecond P faults.TooLarge = P
 BeforeSecond P _ = Unit {0}
 

@@ -3,6 +3,8 @@ pub mod Engine
 pub mod MatrixOf
 pub mod NearText
 pub mod RouteCheck
+pub mod Solve
+pub mod SolveLines
 pub use Rattle.tk_text.specs.Problem
 pub use Rattle.tk_text.specs.Puts
 pub use Rattle.tk_text.specs.Solution

@@ -1,5 +1,6 @@
 //! Why an engine stopped.
 use thiserror::Error;
+use tk_params::Key;
 use tk_text::{TextFault, WriteFault};
 use tk_tour::TourFault;
 
@@ -21,6 +22,9 @@ pub enum Fault {
     /// The problem has no routing, and so no routes.
     #[error("not a CVRP")]
     WrongType,
+    /// The parameters have a key that a problem of this type has no use for.
+    #[error("{0} does not fit the problem's type")]
+    NotForType(Key),
     /// The problem has over 5,000 nodes, too many for a matrix.
     #[error("too large for a matrix")]
     TooLarge,

@@ -10,6 +10,9 @@ mod matrix;
 mod near;
 mod route_check;
 mod route_line;
+mod solve;
+mod solve_given;
+mod solve_lines;
 mod verdict_line;
 
 pub use check::check_engine;
@@ -17,3 +20,4 @@ pub use fault::Fault;
 pub use matrix::matrix_engine;
 pub use near::near_engine;
 pub use route_check::route_check_engine;
+pub use solve::solve_engine;

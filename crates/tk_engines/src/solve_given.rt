@@ -1,0 +1,121 @@
+//! What `solve` is given: whether its keys fit the problem, the tour to begin with, and the options of the search.
+ghost use Rattle.std.specs.Prelude.{◌≡◌, ◌≤◌, true, false, IfOk, IfErr, OnOk, Ok, Err, Some, None, MatchOption, option_map};
+ghost use Rattle.tk_text.specs.Parts.{problem_is, weights_are};
+ghost use Rattle.tk_tour.specs.Tour.{IsTour};
+ghost use Rattle.tk_solve.specs.Starts.{task_over};
+ghost use Rattle.tk_engines.specs.Check.{read_distance};
+ghost use Rattle.tk_engines.specs.Engine.{IsUntouched, ReadsTour};
+ghost use Rattle.tk_engines.specs.Solve.{IsInitial, IsInitialRefused, ReadsInitial, tour_task, unfit_key};
+
+use crate::fault::Fault;
+use std::alloc::Global;
+use tk_build::SearchRules;
+use tk_params::{Construction, Key, Params};
+use tk_solve::{Start, TourOptions};
+use tk_text::{Problem, Source, TourText, read_tour};
+use tk_tour::{TourFault, Verdict, check};
+
+/// The first key that a problem of this type has no use for.
+pub(crate) fn unfit(params: &Params, problem: &Problem) -> Option<Key>
+    ensures { result ≡ unfit_key params.now (problem_is problem.now) }
+{
+    if problem.routing.is_none() {
+        if params.solution_file().is_some() {
+            return Some(Key::SolutionFile);
+        }
+        return None;
+    }
+    if params.tour_file().is_some() {
+        return Some(Key::TourFile);
+    }
+    if params.initial_tour_file().is_some() {
+        return Some(Key::InitialTourFile);
+    }
+    None
+}
+
+/// The tour to begin with, where there is a text of one.
+pub(crate) fn read_initial<I: Source>(
+    alloc: Global,
+    given: bool,
+    initial: &mut I,
+) -> Result<Option<TourText>, Fault>
+    ensures ok { IfOk result (λ tour. ReadsInitial given (ReadsTour I.left I.broken initial.old initial.new) (Ok (option_map (λ t. t.cities.items) tour))) }
+    ensures err { IfErr result (λ f. ReadsInitial given (ReadsTour I.left I.broken initial.old initial.new) (Err f)) }
+{
+    if !given {
+        return Ok(None);
+    }
+    match read_tour(alloc, initial) {
+        Ok(tour) => Ok(Some(tour)),
+        Err(fault) => Err(Fault::Tour(fault)),
+    }
+}
+
+/// The cities of the tour to begin with, where there is one.
+pub(crate) fn cities_of(tour: &Option<TourText>) -> Option<&[u32]>
+    ensures { option_map (λ c. c.now) result ≡ option_map (λ t. t.cities.items) tour.now }
+{
+    match tour {
+        Some(tour) => Some(&tour.cities),
+        None => None,
+    }
+}
+
+/// Whether the tour to begin with is one of the problem's cities.
+fn check_cities(alloc: Global, problem: &Problem, cities: &[u32]) -> Result<(), Fault>
+    ensures ok { OnOk result (IsTour problem.now.n cities.now) }
+    ensures is { OnOk result (IsInitial (problem_is problem.now) (Some cities.now) None) }
+    ensures err { IfErr result (IsInitialRefused (problem_is problem.now) (Some cities.now)) }
+{
+    match check(alloc, problem.n, cities) {
+        Ok(Verdict::Tour) => Ok(()),
+        Ok(Verdict::WrongCount) => Err(Fault::Initial(TourFault::WrongCount)),
+        Ok(Verdict::OutOfRange(place)) => Err(Fault::Initial(TourFault::OutOfRange(place))),
+        Ok(Verdict::RepeatedCity(place)) => Err(Fault::Initial(TourFault::RepeatedCity(place))),
+        Err(_) => Err(Fault::NoMemory),
+    }
+}
+
+/// The same where there may be none.
+pub(crate) fn check_initial(
+    alloc: Global,
+    problem: &Problem,
+    initial: Option<&[u32]>,
+) -> Result<(), Fault>
+    ensures ok { OnOk result (MatchOption initial.entry (Unit {0}) (λ c. IsTour problem.now.n c.now)) }
+    ensures is { OnOk result (IsInitial (problem_is problem.now) (option_map (λ c. c.now) initial.entry) None) }
+    ensures err { IfErr result (IsInitialRefused (problem_is problem.now) (option_map (λ c. c.now) initial.entry)) }
+{
+    match initial {
+        Some(cities) => check_cities(alloc, problem, cities),
+        None => Ok(()),
+    }
+}
+
+/// What the parameters ask of a problem's cities.
+pub(crate) fn options_of<'a>(
+    params: &Params,
+    problem: &Problem,
+    initial: Option<&'a [u32]>,
+) -> TourOptions<'a>
+    ensures { task_over problem.now.n (read_distance (weights_are problem.now.weights)) result
+        ≡ tour_task params.now (problem_is problem.now) (option_map (λ c. c.now) initial.entry) }
+{
+    let start = match (initial, params.construction()) {
+        (Some(cities), _) => Start::Tour(cities),
+        (None, Construction::Nearest) => Start::Nearest,
+        (None, Construction::Savings) => Start::Savings,
+    };
+    TourOptions {
+        start,
+        runs: params.runs(),
+        trials: params.max_trials().unwrap_or(problem.n),
+        seed: params.seed(),
+        candidates: params.max_candidates(),
+        rules: SearchRules {
+            sweep: params.final_sweep(),
+            or_segment: params.or_segment(),
+        },
+    }
+}
