@@ -3,6 +3,7 @@ use crate::check_command::check;
 use crate::checksol_command::checksol;
 use crate::matrix_command::matrix;
 use crate::near_command::near;
+use crate::solve_command::solve;
 use clap::{Arg, Command, Error};
 use std::alloc::Global;
 
@@ -15,7 +16,8 @@ pub fn tourkit<'a>(alloc: Global) -> Result<Command<'a>, Error> {
         .subcommand(check(alloc)?)?
         .subcommand(checksol(alloc)?)?
         .subcommand(matrix(alloc)?)?
-        .subcommand(near(alloc)?)?;
+        .subcommand(near(alloc)?)?
+        .subcommand(solve(alloc)?)?;
     Ok(made)
 }
 

@@ -6,7 +6,9 @@ mod checksol_command;
 mod command;
 mod matrix_command;
 mod near_command;
+mod progress;
 mod report;
+mod solve_command;
 
 use clap::error::ErrorKind;
 use clap::{ArgMatches, Error};
@@ -55,6 +57,7 @@ fn run(rt: &HostRuntime, matches: &ArgMatches<'_>) -> ExitCode {
         Some(("checksol", words)) => checksol_command::run(rt, words),
         Some(("matrix", words)) => matrix_command::run(rt, words),
         Some(("near", words)) => near_command::run(rt, words),
+        Some(("solve", words)) => solve_command::run(rt, words),
         _ => ExitCode::from(USAGE),
     }
 }

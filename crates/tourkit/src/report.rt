@@ -2,6 +2,7 @@
 use std::io;
 use std::process::ExitCode;
 use tk_engines::Fault;
+use tk_params::{Key, ParamFault, ParamKind};
 use tk_text::{TextFault, TextKind};
 use tk_tour::TourFault;
 
@@ -11,7 +12,7 @@ pub const FOUND: u8 = 1;
 /// Words, a text or a parameter were refused.
 pub const USAGE: u8 = 2;
 
-/// A file could not be opened, read or written, or memory was wanting.
+/// A file could not be opened, read or written, or there was no memory.
 pub const SYSTEM: u8 = 3;
 
 /// Tells that a file cannot be opened.
@@ -28,6 +29,7 @@ pub fn stopped(rt: &HostRuntime, file: &str, fault: &Fault) -> ExitCode {
         }
         Fault::Initial(fault) => initial_fault(rt, file, fault),
         Fault::WrongType => wrong_type(rt, file),
+        Fault::NotForType(key) => not_for_type(rt, file, *key),
         Fault::TooLarge => too_large(rt, file),
         Fault::Write(_) => write_fault(rt),
         Fault::NoMemory => no_memory(rt),
@@ -43,13 +45,22 @@ pub fn text_fault(rt: &HostRuntime, file: &str, fault: &TextFault) -> ExitCode {
     })
 }
 
+/// Tells the fault of a parameter file.
+pub fn param_fault(rt: &HostRuntime, file: &str, fault: &ParamFault) -> ExitCode {
+    let _ = eprintln!(rt; "tourkit: {file}:{fault}");
+    ExitCode::from(match fault.kind {
+        ParamKind::Read | ParamKind::NoMemory => SYSTEM,
+        _ => USAGE,
+    })
+}
+
 /// Tells that the output could not be written.
 pub fn write_fault(rt: &HostRuntime) -> ExitCode {
     let _ = eprintln!(rt; "tourkit: write fault");
     ExitCode::from(SYSTEM)
 }
 
-/// Tells that memory was wanting.
+/// Tells that there was no memory.
 pub fn no_memory(rt: &HostRuntime) -> ExitCode {
     let _ = eprintln!(rt; "tourkit: out of memory");
     ExitCode::from(SYSTEM)
@@ -73,6 +84,12 @@ fn initial_fault(rt: &HostRuntime, file: &str, fault: &TourFault) -> ExitCode {
 /// Tells that a problem has no routing.
 fn wrong_type(rt: &HostRuntime, file: &str) -> ExitCode {
     let _ = eprintln!(rt; "tourkit: {file}: not a CVRP");
+    ExitCode::from(USAGE)
+}
+
+/// Tells that a problem's type has no use for a key.
+fn not_for_type(rt: &HostRuntime, file: &str, key: Key) -> ExitCode {
+    let _ = eprintln!(rt; "tourkit: {file}: {key} does not fit the problem's type");
     ExitCode::from(USAGE)
 }
 
