@@ -1,5 +1,5 @@
 //! The nearest candidates of a city, kept in order.
-ghost use Rattle.std.specs.Prelude.{◌≡◌, ℕ, ◌≤◌, ◌<◌, ◌-◌, ◌*◌, ◌↔◌, IsTrue, length};
+ghost use Rattle.std.specs.Prelude.{◌≡◌, ℕ, ◌≤◌, ◌<◌, ◌-◌, ◌*◌, ◌↔◌, IsTrue, length, nat_le};
 ghost use Rattle.tk_metric.specs.Cities.{IsCity};
 ghost use Rattle.tk_metric.specs.Keeping.{candidate, rank, Climbing, with_candidate, overwritten, cities_of};
 
@@ -45,15 +45,17 @@ pub fn keep(kept: &mut [Candidate], x: Candidate)
     requires climbing { Climbing rank kept.old }
     ensures { kept.new ≡ with_candidate x kept.old }
 {
-    let mut i = kept.len() - 1;
-    if !x.is_before(kept[i]) {
+    let last = kept.len() - 1;
+    if !x.is_before(kept[last]) {
         return;
     }
-    while i > 0 && x.is_before(kept[i - 1]) {
-        kept[i] = kept[i - 1];
-        i -= 1;
-    }
-    kept[i] = x;
+    let at = kept.partition_point(
+        |y: &Candidate| -> bool
+            ensures { result ≡ nat_le (rank y.now) (rank x) }
+        { !x.is_before(*y) },
+    );
+    kept.copy_within(at..last, at + 1);
+    kept[at] = x;
 }
 
 /// Writes the cities of the kept as the list of city c.

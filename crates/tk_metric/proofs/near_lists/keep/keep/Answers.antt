@@ -1,40 +1,45 @@
-use Rattle.std.proofs.Common.{arith, ◌≡◌, ℕ, ◌-◌, ◌<◌, ◌≤◌, take, drop, length, List, [], ◌∷◌, sym, ap, ◌∙◌, get_or}
-use Rattle.tk_metric.specs.Keeping.{rank, insert_by}
+use Rattle.std.proofs.Common.{arith, rules, of_calls, ◌≤◌, ◌+◌, ◌-◌, length}
+use Rattle.std.specs.Prelude.{nat_le}
+use Rattle.std.proofs.lemmas.List.Sorted.{IsPartitionPoint-from_clause}
+use Rattle.tk_metric.specs.Keeping.{rank}
 use Rattle.tk_metric.proofs.Nearest.Inserting.{insert_by-full, before_false, before_true}
-use Rattle.tk_metric.proofs.Nearest.Placing.{drop-take_same, keep_step, keep_end, last_inserted}
-use Rattle.std.proofs.lemmas.List.{length-take-le}
-use Rattle.tk_metric.specs.declared.near_lists.keep.Candidate.{Candidate}
+use Rattle.tk_metric.proofs.Nearest.Placing.{parted, IsPointOf, point_within, placed_at}
 use Rattle.tk_metric.proofs.near_lists.keep.keep.Goals as goal
-use Rattle.tk_metric.proofs.near_lists.keep.keep.Goals.{then-loop-i-test+else-is_before, else-loop-i-test}
 
 pub returns-then-not-is_before : goal.returns-then-not-is_before
 returns-then-not-is_before c =
     let b = before_false c.is_before.ensures c.if-not-is_before.true in
     insert_by-full rank c.args.x (length c.args.kept.now) c.args.kept.now _ c.requires.climbing (omega arith) c.requires.room b
 
-pub loop-i-init : goal.loop-i-init
-loop-i-init c =
-    let n : ℕ = length c.args.kept.now - 1 in
-    let d : Candidate = record { distance = 0; city = 0 } in
-    let last : c.args.x ∷ [] ≡ c.args.x ∷ drop n (take n c.args.kept.now) = ap (λ v. c.args.x ∷ v) (sym (drop-take_same n c.args.kept.now)) in
-    (omega arith, (get_or c.args.kept.now n d, last_inserted n c.args.kept.now d (omega arith)), ap (insert_by rank c.args.x) (drop-take_same n c.args.kept.now) ∙ last)
+pub copy_within-requires-clause-start_le_end : goal.copy_within-requires-clause-start_le_end
+copy_within-requires-clause-start_le_end c =
+    let kept = c.args.kept.now in
+    let point : IsPointOf rank c.args.x kept c.partition_point-at.result =
+    IsPartitionPoint-from_clause (λ y. nat_le (rank y) (rank c.args.x)) kept _ c.partition_point-at.ensures.partitioned (parted rank c.args.x kept c.requires.climbing) (λ a r f k. search (rules, of_calls)) in
+    let within = point_within rank c.args.x kept c.partition_point-at.result _ c.requires.room (before_true c.is_before.ensures c.if-not-is_before.false) point in
+    omega arith
 
-pub loop-i-preserved : goal.loop-i-preserved
-loop-i-preserved c =
-    let front : List Candidate = take (length c.args.kept.now - 1) c.args.kept.now in
-    let n : length front ≡ length c.args.kept.now - 1 = length-take-le _ c.args.kept.now (omega arith) in
-    let within = c.loop-i.invariant.0 in
-    let y = c.loop-i.invariant.1 in
-    let h = keep_step rank c.args.x y.0 c.loop-i.i front c.loop-i.kept _ (omega arith) (omega arith) y.1 (before_true c.is_before-in-loop-i.ensures c.if-is_before.true) in
-    (omega arith, (_, h.0), h.1)
+pub copy_within-requires-clause-dest_in_bounds : goal.copy_within-requires-clause-dest_in_bounds
+copy_within-requires-clause-dest_in_bounds c =
+    let kept = c.args.kept.now in
+    let point : IsPointOf rank c.args.x kept c.partition_point-at.result =
+    IsPartitionPoint-from_clause (λ y. nat_le (rank y) (rank c.args.x)) kept _ c.partition_point-at.ensures.partitioned (parted rank c.args.x kept c.requires.climbing) (λ a r f k. search (rules, of_calls)) in
+    let within = point_within rank c.args.x kept c.partition_point-at.result _ c.requires.room (before_true c.is_before.ensures c.if-not-is_before.false) point in
+    let fits : c.partition_point-at.result + 1 + (length kept - 1 - c.partition_point-at.result) ≤ length kept = omega arith in
+    fits
+
+pub bounds-kept-at : goal.bounds-kept-at
+bounds-kept-at c =
+    let kept = c.args.kept.now in
+    let point : IsPointOf rank c.args.x kept c.partition_point-at.result =
+    IsPartitionPoint-from_clause (λ y. nat_le (rank y) (rank c.args.x)) kept _ c.partition_point-at.ensures.partitioned (parted rank c.args.x kept c.requires.climbing) (λ a r f k. search (rules, of_calls)) in
+    let within = point_within rank c.args.x kept c.partition_point-at.result _ c.requires.room (before_true c.is_before.ensures c.if-not-is_before.false) point in
+    omega (arith, c.copy_within.ensures.len)
 
 pub returns : goal.returns
 returns c =
-    let y = c.loop-i.invariant.1 in
-    let d : Candidate = record { distance = 0; city = 0 } in
-    let stop : 0 < c.loop-i.i → rank (get_or c.loop-i.kept (c.loop-i.i - 1) d) ≤ rank c.args.x =
-    elim c.loop-i-test.branch [
-      | then-loop-i-test+else-is_before w ↦ λ o. before_false w.is_before-in-loop-i.ensures w.if-is_before.false
-      | else-loop-i-test w ↦ λ o. omega arith
-    ] in
-    keep_end rank c.args.x y.0 c.loop-i.i c.args.kept.now c.loop-i.kept d c.requires.climbing c.requires.room (before_true c.is_before.ensures c.if-not-is_before.false) c.loop-i.invariant.0 y.1 c.loop-i.invariant.2 stop
+    let kept = c.args.kept.now in
+    let point : IsPointOf rank c.args.x kept c.partition_point-at.result =
+    IsPartitionPoint-from_clause (λ y. nat_le (rank y) (rank c.args.x)) kept _ c.partition_point-at.ensures.partitioned (parted rank c.args.x kept c.requires.climbing) (λ a r f k. search (rules, of_calls)) in
+    let within = point_within rank c.args.x kept c.partition_point-at.result _ c.requires.room (before_true c.is_before.ensures c.if-not-is_before.false) point in
+    placed_at rank c.args.x c.partition_point-at.result kept c.copy_within.new.self within c.copy_within.ensures.after point
