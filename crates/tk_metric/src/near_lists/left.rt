@@ -57,7 +57,8 @@ impl Left {
             (λ b. IsFirst (P.distance m.now) here.city (IsOtherIn self.now here.city) b) }
     {
         let mut kept = [OPEN];
-        search(m, here, NEAREST, &self.tree, &mut kept);
+        let mut filled = 0;
+        search(m, here, NEAREST, &self.tree, &mut kept, &mut filled);
         if kept[0].distance == OPEN.distance {
             None
         } else {

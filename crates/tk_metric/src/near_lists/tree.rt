@@ -3,13 +3,13 @@ ghost use Rattle.std.specs.Prelude.{◌≡◌, ℕ, ℤ, ◌*◌, ◌≤◌, ◌
 ghost use Rattle.std.specs.Int.RustNames.{unsigned_abs};
 ghost use Rattle.tk_metric.specs.declared.near_lists.sweep.Placed.{Placed};
 ghost use Rattle.tk_metric.specs.Near.{IsNear, AreNearest};
-ghost use Rattle.tk_metric.specs.Keeping.{AreFilled, rank, Climbing, cities_of};
+ghost use Rattle.tk_metric.specs.Keeping.{AreFilled, AreOpenFrom, rank, Climbing, cities_of};
 ghost use Rattle.tk_metric.specs.Sweep.{IsPlaced, IsRow};
 ghost use Rattle.tk_metric.specs.Tree.{entries_of, IsWithin, IsFramed, IsBeyond, IsFrom, IsOut, with_cities};
 
 use crate::metric::Planar;
 use crate::near_lists::halve::halve;
-use crate::near_lists::keep::{Candidate, OPEN, keep, measure, write_cities};
+use crate::near_lists::keep::{Candidate, OPEN, keep_among, measure, write_cities};
 use crate::near_lists::near::Near;
 use crate::near_lists::sweep::{Placed, row_of};
 use std::alloc::{AllocError, Global};
@@ -198,46 +198,63 @@ fn is_out(first: Candidate, kept: &[Candidate]) -> bool
 }
 
 /// Keeps what is near of a leaf.
-fn search_leaf<P: Planar>(m: &P, here: Placed, leaf: &[Placed], kept: &mut [Candidate])
+fn search_leaf<P: Planar>(
+    m: &P,
+    here: Placed,
+    leaf: &[Placed],
+    kept: &mut [Candidate],
+    filled: &mut usize,
+)
     requires here { IsPlaced (P.size_of m.now) (P.place_of m.now) here }
     requires placed { All (IsPlaced (P.size_of m.now) (P.place_of m.now)) leaf.now }
     requires room { 1 ≤ length kept.old }
     requires climbing { Climbing rank kept.old }
+    requires vacant { AreOpenFrom filled.old kept.old }
     ensures kept { kept.new ≡ with_cities (P.distance m.now) here.city leaf.now kept.old }
     ensures climbing { Climbing rank kept.new }
+    ensures vacant { AreOpenFrom filled.new kept.new }
 {
     for there in leaf {
         if there.city != here.city {
-            keep(kept, measure(m, here.city, there.city));
+            keep_among(kept, filled, measure(m, here.city, there.city));
         }
     }
 }
 
 /// Keeps what is near of a part of which no city comes before `first`.
-pub fn search<P: Planar>(m: &P, here: Placed, first: Candidate, tree: &Tree, kept: &mut [Candidate])
+pub fn search<P: Planar>(
+    m: &P,
+    here: Placed,
+    first: Candidate,
+    tree: &Tree,
+    kept: &mut [Candidate],
+    filled: &mut usize,
+)
     requires here { IsPlaced (P.size_of m.now) (P.place_of m.now) here }
     requires placed { All (IsPlaced (P.size_of m.now) (P.place_of m.now)) (entries_of tree.now) }
     requires framed { IsFramed tree.now }
     requires first { All (IsFrom (P.distance m.now) here.city first) (entries_of tree.now) }
     requires room { 1 ≤ length kept.old }
     requires climbing { Climbing rank kept.old }
+    requires vacant { AreOpenFrom filled.old kept.old }
     ensures kept { kept.new ≡ with_cities (P.distance m.now) here.city (entries_of tree.now) kept.old }
     ensures climbing { Climbing rank kept.new }
+    ensures vacant { AreOpenFrom filled.new kept.new }
 {
     if is_out(first, kept) {
         return;
     }
     match tree {
-        Tree::Leaf(leaf) => search_leaf(m, here, leaf, kept),
+        Tree::Leaf(leaf) => search_leaf(m, here, leaf, kept, filled),
         Tree::Cut(lower_frame, lower, upper_frame, upper) => {
             let lower_first = lower_frame.first(m, here);
             let upper_first = upper_frame.first(m, here);
             if lower_first.is_before(upper_first) {
-                search(m, here, lower_first, lower, kept);
-                search(m, here, upper_first, upper, kept);
+                search(m, here, lower_first, lower, kept, filled);
+                search(m, here, upper_first, upper, kept, filled);
             } else {
-                search(m, here, upper_first, upper, kept);
-                search(m, here, lower_first, lower, kept);
+                search(m, here, upper_first, upper, kept, filled);
+                search(m, here, lower_first, lower, kept, filled);
             }
         }
     }
@@ -254,7 +271,8 @@ fn search_city<P: Planar>(m: &P, here: Placed, tree: &Tree, kept: &mut [Candidat
     ensures near { IsNear (P.distance m.now) (P.size_of m.now) (length kept.old) here.city (cities_of kept.new) }
 {
     kept.fill(OPEN);
-    search(m, here, NEAREST, tree, kept);
+    let mut filled = 0;
+    search(m, here, NEAREST, tree, kept, &mut filled);
 }
 
 /// Fills the list of each city, in the order of the tree.
