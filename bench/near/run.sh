@@ -1,17 +1,27 @@
 #!/bin/sh
-# Times near_sweep (K = 5, 100,000 cities) against its twin in plain Rust, in turn on one machine: least time of each.
-# usage: bench/near/run.sh [ROUNDS]
+# Times near_tree (lists of 5 and of 100, 100,000 cities) against the same in plain Rust, in turn on one core: least time of
+# each. The kinds of input are uniform cities and those that are hard for a sweep. The lists are compared.
+# usage: bench/near/run.sh [ROUNDS [CORE]]
 set -e
 here=$(cd "$(dirname "$0")" && pwd)
 . "$here/../build.sh"
 build near 'tk_problem tk_metric'
 round=0
 while [ "$round" -lt "${1:-3}" ]; do
-    "$program" | sed 's/^/rattle /'
-    "$twin" | sed 's/^/rust /'
+    taskset -c "${2:-0}" "$program" | sed 's/^/rattle /'
+    taskset -c "${2:-0}" "$twin" | sed 's/^/rust /'
     round=$((round + 1))
 done | awk '
-    { box = $2 " " $3 " " $4 " " $5 " lists " $NF; time = $6 }
-    $1 == "rattle" && (!(box in rattle) || time < rattle[box]) { rattle[box] = time }
-    $1 == "rust" && (!(box in rust) || time < rust[box]) { rust[box] = time }
-    END { for (box in rattle) printf "%s: rattle %d us, rust %d us, ratio %.2f\n", box, rattle[box], rust[box], rattle[box] / rust[box] }'
+    { task = $2 " " $3 }
+    $1 == "rust" && $3 == "start" { next }
+    !(task in result) { tasks[++count] = task; result[task] = $5 }
+    result[task] != $5 { print task ": other results"; failed = 1 }
+    !(($1, task) in least) || $4 < least[$1, task] { least[$1, task] = $4 }
+    END {
+        for (i = 1; i <= count; i++) {
+            rattle = least["rattle", tasks[i]]
+            rust = least["rust", tasks[i]]
+            printf "%-20s rattle %8d us, rust %8d us, ratio %.2f\n", tasks[i], rattle, rust, rattle / rust
+        }
+        exit failed
+    }'

@@ -1,179 +1,261 @@
-//! The same sweep in plain Rust, to compare with.
+//! The same lists and tours by a k-d tree in plain Rust, to compare with (J. L. Bentley, 1975).
 use std::time::Instant;
 
+const CITIES: u32 = 100_000;
+const SCALE: i64 = 1_000_000_000;
+const LEAF: usize = 8;
+
 #[derive(Clone, Copy)]
-struct Point {
+struct Place {
     x: i64,
     y: i64,
+    city: u32,
 }
 
+/// What is seen of a city: its distance and number.
+type Seen = (i64, u32);
+
+/// A part: its cut (none in a leaf), and the least number and the count of its cities.
 #[derive(Clone, Copy)]
-struct WholePoint {
-    x: i32,
-    y: i32,
+struct Part {
+    cut: Cut,
+    low: i64,
+    high: i64,
+    least: u32,
+    count: u32,
 }
 
-#[derive(Clone, Copy)]
-enum Kind {
-    Euc2d,
-    Att,
+#[derive(Clone, Copy, PartialEq)]
+enum Cut {
+    None,
+    X,
+    Y,
 }
 
-const SCALE: u64 = 1_000_000_000;
-
-struct Planes {
-    kind: Kind,
-    places: Vec<WholePoint>,
+/// Places in the order of a tree. The children of part i are the parts 2i + 1 and 2i + 2.
+struct Tree {
+    places: Vec<Place>,
+    parts: Vec<Part>,
+    unit: i64,
 }
 
-impl Planes {
-    fn sample(kind: Kind, count: u32, wide: u32, tall: u32) -> Planes {
-        let mut places = Vec::with_capacity(count as usize);
-        let mut state: u64 = 20250101;
-        for _ in 0..count {
-            state = state.wrapping_mul(6364136223846793005).wrapping_add(1442695040888963407);
-            let x = (state >> 33) % wide as u64;
-            state = state.wrapping_mul(6364136223846793005).wrapping_add(1442695040888963407);
-            let y = (state >> 33) % tall as u64;
-            places.push(WholePoint { x: x as i32, y: y as i32 });
+impl Tree {
+    fn plant(places: Vec<Place>, unit: i64) -> Tree {
+        let mut tree = Tree { places, parts: Vec::new(), unit };
+        tree.cut(0, 0, tree.places.len());
+        tree
+    }
+
+    fn cut(&mut self, i: usize, from: usize, to: usize) {
+        let empty = Part { cut: Cut::None, low: 0, high: 0, least: u32::MAX, count: 0 };
+        if self.parts.len() <= i {
+            self.parts.resize(i + 1, empty);
         }
-        Planes { kind, places }
+        let row = &mut self.places[from..to];
+        let least = row.iter().map(|p| p.city).min().unwrap();
+        let count = row.len() as u32;
+        self.parts[i] = Part { least, count, ..empty };
+        if row.len() <= LEAF {
+            return;
+        }
+        let (mut left, mut right, mut bottom, mut top) = (i64::MAX, i64::MIN, i64::MAX, i64::MIN);
+        for p in row.iter() {
+            left = left.min(p.x);
+            right = right.max(p.x);
+            bottom = bottom.min(p.y);
+            top = top.max(p.y);
+        }
+        let middle = row.len() / 2;
+        let (cut, low, high);
+        if right - left >= top - bottom {
+            row.select_nth_unstable_by_key(middle, |p| (p.x, p.city));
+            cut = Cut::X;
+            low = row[..middle].iter().map(|p| p.x).max().unwrap();
+            high = row[middle..].iter().map(|p| p.x).min().unwrap();
+        } else {
+            row.select_nth_unstable_by_key(middle, |p| (p.y, p.city));
+            cut = Cut::Y;
+            low = row[..middle].iter().map(|p| p.y).max().unwrap();
+            high = row[middle..].iter().map(|p| p.y).min().unwrap();
+        }
+        self.parts[i] = Part { cut, low, high, least, count };
+        self.cut(2 * i + 1, from, from + middle);
+        self.cut(2 * i + 2, from + middle, to);
     }
 
-    fn size(&self) -> u32 {
-        self.places.len() as u32
-    }
-
-    fn place(&self, c: u32) -> Point {
-        let p = self.places[c as usize - 1];
-        Point { x: p.x as i64 * SCALE as i64, y: p.y as i64 * SCALE as i64 }
-    }
-
-    fn dist(&self, a: u32, b: u32) -> i64 {
-        let from = self.places[a as usize - 1];
-        let to = self.places[b as usize - 1];
-        let dx = from.x.abs_diff(to.x) as u64;
-        let dy = from.y.abs_diff(to.y) as u64;
-        let square = (dx * dx + dy * dy) as f64;
-        match self.kind {
-            Kind::Euc2d => (square.sqrt() + 0.5) as i64,
-            Kind::Att => (square / 10.0).sqrt().ceil() as i64,
+    #[inline(always)]
+    fn distance(&self, a: &Place, b: &Place) -> i64 {
+        let (dx, dy) = ((a.x - b.x) as f64, (a.y - b.y) as f64);
+        let root = (dx * dx + dy * dy).sqrt();
+        if self.unit == 1 {
+            (root + 0.5) as i64
+        } else {
+            (root / self.unit as f64 + 0.5) as i64
         }
     }
 
-    fn floor(&self, d: u64) -> i64 {
-        match self.kind {
-            Kind::Euc2d => ((d + SCALE / 2) / SCALE) as i64,
-            Kind::Att => {
-                let d = d as f64 / SCALE as f64;
-                (d * d / 10.0).sqrt().ceil() as i64
+    /// The least distance at a difference in one coordinate.
+    #[inline(always)]
+    fn floor(&self, gap: i64) -> i64 {
+        if self.unit == 1 { gap } else { (gap + self.unit / 2) / self.unit }
+    }
+
+    /// The first of both halves of part i as seen from here, that with the lesser gap first: its index and range.
+    #[inline(always)]
+    fn halves(&self, i: usize, from: usize, to: usize, here: &Place) -> [(i64, usize, usize, usize); 2] {
+        let part = &self.parts[i];
+        let middle = (from + to) / 2;
+        let at = if part.cut == Cut::X { here.x } else { here.y };
+        let lower = (self.floor((at - part.low).max(0)), 2 * i + 1, from, middle);
+        let upper = (self.floor((part.high - at).max(0)), 2 * i + 2, middle, to);
+        if lower.0 <= upper.0 { [lower, upper] } else { [upper, lower] }
+    }
+
+    fn list(&self, i: usize, from: usize, to: usize, here: &Place, k: usize, list: &mut Vec<Seen>) {
+        if self.parts[i].cut == Cut::None {
+            for p in &self.places[from..to] {
+                if p.city == here.city {
+                    continue;
+                }
+                let seen = (self.distance(here, p), p.city);
+                if list.len() == k {
+                    if seen >= list[k - 1] {
+                        continue;
+                    }
+                    list.pop();
+                }
+                let at = list.partition_point(|f| *f < seen);
+                list.insert(at, seen);
+            }
+            return;
+        }
+        for (gap, part, from, to) in self.halves(i, from, to, here) {
+            if list.len() < k || (gap, self.parts[part].least) < list[k - 1] {
+                self.list(part, from, to, here, k, list);
             }
         }
     }
-}
 
-#[derive(Clone, Copy, PartialEq, Eq, PartialOrd, Ord)]
-struct Candidate {
-    distance: u32,
-    city: u32,
-}
-
-const OPEN: Candidate = Candidate { distance: u32::MAX, city: u32::MAX };
-
-#[derive(Clone, Copy)]
-struct Placed {
-    place: Point,
-    city: u32,
-}
-
-fn keep(kept: &mut [Candidate], x: Candidate) {
-    let mut i = kept.len() - 1;
-    if x >= kept[i] {
-        return;
-    }
-    kept[i] = x;
-    while i > 0 && x < kept[i - 1] {
-        kept.swap(i - 1, i);
-        i -= 1;
-    }
-}
-
-fn look(m: &Planes, here: Placed, there: Placed, kept: &mut [Candidate], far: &mut u64) -> bool {
-    let dx = here.place.x.abs_diff(there.place.x);
-    if dx >= *far {
-        return false;
-    }
-    let dy = here.place.y.abs_diff(there.place.y);
-    if dy >= *far {
-        return true;
-    }
-    let gap = dx.max(dy);
-    if m.floor(gap) > kept[kept.len() - 1].distance as i64 {
-        *far = gap;
-        return dx < gap;
-    }
-    let distance = m.dist(here.city, there.city) as u32;
-    keep(kept, Candidate { distance, city: there.city });
-    true
-}
-
-fn sweep_city(m: &Planes, row: &[Placed], p: usize, kept: &mut [Candidate]) {
-    kept.fill(OPEN);
-    let here = row[p];
-    let mut far = u64::MAX;
-    let mut low = p;
-    let mut high = p + 1;
-    while low > 0 || high < row.len() {
-        if low > 0 {
-            low = if look(m, here, row[low - 1], kept, &mut far) { low - 1 } else { 0 };
+    fn first(&self, i: usize, from: usize, to: usize, here: &Place, best: &mut Seen) {
+        if self.parts[i].cut == Cut::None {
+            for p in &self.places[from..from + self.parts[i].count as usize] {
+                *best = (*best).min((self.distance(here, p), p.city));
+            }
+            return;
         }
-        if high < row.len() {
-            high = if look(m, here, row[high], kept, &mut far) { high + 1 } else { row.len() };
+        for (gap, part, from, to) in self.halves(i, from, to, here) {
+            if self.parts[part].count > 0 && (gap, self.parts[part].least) < *best {
+                self.first(part, from, to, here, best);
+            }
         }
     }
+
+    /// Takes out the place at an index: the places of a leaf that are left stand first.
+    fn take(&mut self, at: usize, indices: &mut [usize]) {
+        let (mut i, mut from, mut to) = (0, 0, self.places.len());
+        loop {
+            self.parts[i].count -= 1;
+            if self.parts[i].cut == Cut::None {
+                break;
+            }
+            let middle = (from + to) / 2;
+            if at < middle {
+                (i, to) = (2 * i + 1, middle);
+            } else {
+                (i, from) = (2 * i + 2, middle);
+            }
+        }
+        let last = from + self.parts[i].count as usize;
+        self.places.swap(at, last);
+        indices[self.places[at].city as usize - 1] = at;
+        indices[self.places[last].city as usize - 1] = last;
+    }
 }
 
-fn near_sweep(m: &Planes, k: usize) -> Vec<u32> {
-    let place = |city: u32| m.place(city);
-    let left = (1..m.size() + 1).map(|c| place(c).x).min().unwrap();
-    let right = (1..m.size() + 1).map(|c| place(c).x).max().unwrap();
-    let bottom = (1..m.size() + 1).map(|c| place(c).y).min().unwrap();
-    let top = (1..m.size() + 1).map(|c| place(c).y).max().unwrap();
-    let turned = top - bottom > right - left;
-    let mut row: Vec<Placed> = (1..m.size() + 1)
-        .map(|city| {
-            let p = place(city);
-            let place = if turned { Point { x: p.y, y: p.x } } else { p };
-            Placed { place, city }
-        })
-        .collect();
-    row.sort_unstable_by_key(|p| (p.place.x, p.city));
-    let mut kept = vec![OPEN; k];
-    let mut entries = vec![0; m.places.len() * k];
-    for p in 0..row.len() {
-        sweep_city(m, &row, p, &mut kept);
-        let from = (row[p].city as usize - 1) * k;
-        for (i, x) in kept.iter().enumerate() {
-            entries[from + i] = x.city;
+fn near_lists(places: Vec<Place>, unit: i64, k: usize) -> Vec<u32> {
+    let tree = Tree::plant(places, unit);
+    let n = tree.places.len();
+    let mut entries = vec![0; n * k];
+    let mut list = Vec::with_capacity(k + 1);
+    for here in &tree.places {
+        list.clear();
+        tree.list(0, 0, n, here, k, &mut list);
+        let row = &mut entries[(here.city as usize - 1) * k..][..k];
+        for (entry, seen) in row.iter_mut().zip(&list) {
+            *entry = seen.1;
         }
     }
     entries
 }
 
-fn time(name: &str, kind: Kind, wide: u32, tall: u32) {
-    let m = Planes::sample(kind, 100000, wide, tall);
-    let start = Instant::now();
-    let entries = near_sweep(&m, 5);
-    let micros = start.elapsed().as_micros();
-    let digest = entries.iter().fold(0u64, |digest, c| digest.wrapping_mul(31).wrapping_add(*c as u64));
-    println!("{name} {wide} by {tall}: {micros} us, lists {digest}");
+fn nearest_tour(places: Vec<Place>, unit: i64) -> Vec<u32> {
+    let mut tree = Tree::plant(places, unit);
+    let n = tree.places.len();
+    let mut indices = vec![0; n];
+    for (at, p) in tree.places.iter().enumerate() {
+        indices[p.city as usize - 1] = at;
+    }
+    let mut cities = vec![1];
+    while cities.len() < n {
+        let at = indices[cities[cities.len() - 1] as usize - 1];
+        let here = tree.places[at];
+        tree.take(at, &mut indices);
+        let mut best = (i64::MAX, u32::MAX);
+        tree.first(0, 0, n, &here, &mut best);
+        cities.push(best.1);
+    }
+    cities
+}
+
+/// A place of one of the kinds of input, in units of 10^-9.
+fn place(input: &str, i: u32, r: u32, s: u32) -> (i64, i64) {
+    let whole = |x: u32, y: u32| (x as i64 * SCALE, y as i64 * SCALE);
+    let (x, y) = (r % 1_000_000, s % 1_000_000);
+    match input {
+        "uniform" => whole(x, y),
+        "one_place" => whole(7, 7),
+        "lattice" => whole(i % 316, i / 316),
+        "axes" if i % 2 == 0 => whole(x, 0),
+        "axes" => whole(0, y),
+        "columns" => whole(i % 2 * 1_000_000_000, i / 2),
+        "clusters" => whole(i % 30 * 377_777 % 1_000_000 + x % 20_000, i % 30 * 611_953 % 1_000_000 + y % 20_000),
+        "diagonal" => whole(x, x + y % 10),
+        _ => (r as i64 * 465_661, s as i64 * 465_661),
+    }
+}
+
+fn sample(input: &str) -> Vec<Place> {
+    let mut state: u64 = 20250101;
+    let mut draw = || {
+        state = state.wrapping_mul(6364136223846793005).wrapping_add(1442695040888963407);
+        (state >> 33) as u32
+    };
+    let unit = if input == "decimals" { 1 } else { SCALE };
+    (0..CITIES)
+        .map(|i| {
+            let (r, s) = (draw(), draw());
+            let (x, y) = place(input, i, r, s);
+            Place { x: x / unit, y: y / unit, city: i + 1 }
+        })
+        .collect()
+}
+
+fn digest(cities: &[u32]) -> u64 {
+    cities.iter().fold(0, |digest: u64, city| digest.wrapping_mul(31).wrapping_add(*city as u64))
 }
 
 fn main() {
-    for _ in 0..3 {
-        time("EUC_2D", Kind::Euc2d, 1000000, 1000000);
-        time("EUC_2D", Kind::Euc2d, 1000000, 100);
-        time("EUC_2D", Kind::Euc2d, 100, 1000000);
-        time("ATT", Kind::Att, 1000000, 1000000);
+    for input in ["uniform", "one_place", "lattice", "axes", "columns", "clusters", "diagonal", "decimals"] {
+        let unit = if input == "decimals" { SCALE } else { 1 };
+        for k in [5, 100] {
+            let places = sample(input);
+            let start = Instant::now();
+            let entries = near_lists(places, unit, k);
+            println!("{input} near-{k} {} {}", start.elapsed().as_micros(), digest(&entries));
+        }
+        let places = sample(input);
+        let start = Instant::now();
+        let cities = nearest_tour(places, unit);
+        println!("{input} start {} {}", start.elapsed().as_micros(), digest(&cities));
     }
 }

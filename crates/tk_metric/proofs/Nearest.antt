@@ -5,6 +5,7 @@ pub mod LeftLaws
 pub mod OneEach
 pub mod Parting
 pub mod Placing
+pub mod Rows
 pub mod Sweeping
 pub mod Tables
 pub mod XOrder

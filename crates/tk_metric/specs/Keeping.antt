@@ -1,5 +1,5 @@
 -- The candidates of a city, kept in order.
-use Rattle.std.specs.Prelude.{◌≡◌, ℕ, ◌+◌, ◌*◌, ◌<◌, ◌≤◌, List, [], ◌∷◌, ◌++◌, length, take, drop, replicate, map, nat_lt, if◌then◌else◌, All, Contains, ⊤}
+use Rattle.std.specs.Prelude.{◌≡◌, ℕ, ◌+◌, ◌*◌, ◌<◌, ◌≤◌, List, [], ◌∷◌, ◌++◌, length, take, drop, replicate, map, nat_lt, slice_index_or, if◌then◌else◌, All, Contains, ⊤}
 use Rattle.tk_metric.specs.declared.near_lists.keep.Candidate.{Candidate}
 use Rattle.tk_metric.specs.Cities.{IsCity}
 use Rattle.tk_metric.specs.Near.{IsNear, block}
@@ -14,6 +14,10 @@ candidate dist c b = record { distance = dist c b; city = b }
 -- a place that no city has taken: it comes after each city
 abbrev pub open_place : Candidate
 open_place = record { distance = 4294967295; city = 4294967295 }
+
+-- the places from i on are open
+abbrev pub AreOpenFrom : ℕ → List Candidate → Type 0
+AreOpenFrom i kept = (j : ℕ) (d : Candidate) → i ≤ j → j < length kept → slice_index_or kept j d ≡ open_place
 
 abbrev pub cities_of : List Candidate → List ℕ
 cities_of = map (λ x. x.city)

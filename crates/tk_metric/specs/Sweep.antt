@@ -1,5 +1,5 @@
 -- The cities in x order, and a sweep from one of them to both sides.
-use Rattle.std.specs.Prelude.{◌≡◌, ◌≢◌, ℕ, ◌-ℤ◌, ◌≤ℤ◌, ◌-◌, ◌*◌, ◌<◌, ◌≤◌, List, length, slice_index_or}
+use Rattle.std.specs.Prelude.{◌≡◌, ◌≢◌, ℕ, ◌-ℤ◌, ◌≤ℤ◌, ◌-◌, ◌*◌, ◌<◌, ◌≤◌, List, length, slice_index_or, All}
 use Rattle.std.specs.Int.RustNames.{unsigned_abs}
 use Rattle.tk_problem.specs.declared.point.Point.{Point}
 use Rattle.tk_problem.specs.Places.{origin}
@@ -30,6 +30,13 @@ y_gap here there = unsigned_abs (here.place.y -ℤ there.place.y)
 -- a city with its place
 abbrev pub IsPlaced : ℕ → (ℕ → Point) → Placed → Type 0
 IsPlaced n place_of p = IsCity n p.city × (p.place ≡ place_of p.city)
+
+-- each city once with its place
+pub record IsRow (n : ℕ) (place_of : ℕ → Point) (row : List Placed) : Type 0 where
+  pub count : length row ≡ n
+  pub each : All (IsPlaced n place_of) row
+  pub apart : (i j : ℕ) → i < j → j < length row → city_at row i ≢ city_at row j
+  pub whole : (b : ℕ) → IsCity n b → (q : ℕ) × (q < length row) × (city_at row q ≡ b)
 
 -- each city once with its place, in x order
 pub record IsXOrder (n : ℕ) (place_of : ℕ → Point) (row : List Placed) : Type 0 where

@@ -5,7 +5,6 @@ use Rattle.tk_metric.specs.declared.near_lists.keep.Candidate.{Candidate}
 use Rattle.tk_metric.specs.declared.near_lists.sweep.Placed.{Placed}
 use Rattle.tk_metric.specs.declared.near_lists.tree.Frame.{Frame}
 use Rattle.tk_metric.specs.declared.near_lists.tree.Tree.{Tree, Leaf, Cut'}
-use Rattle.tk_metric.specs.Cities.{IsCity}
 use Rattle.tk_metric.specs.Keeping.{candidate, with_candidate, open_place, rank}
 use Rattle.tk_metric.specs.Sweep.{IsPlaced, city_at, x_gap, y_gap}
 
@@ -48,13 +47,6 @@ with_city dist c p kept = if p.city == c then kept else with_candidate (candidat
 abbrev pub with_cities : (ℕ → ℕ → ℕ) → ℕ → List Placed → List Candidate → List Candidate
 with_cities dist c [] kept = kept
 with_cities dist c (p ∷ ps) kept = with_cities dist c ps (with_city dist c p kept)
-
--- each city once with its place
-pub record IsRow (n : ℕ) (place_of : ℕ → Point) (row : List Placed) : Type 0 where
-  pub count : length row ≡ n
-  pub each : All (IsPlaced n place_of) row
-  pub apart : (i j : ℕ) → i < j → j < length row → city_at row i ≢ city_at row j
-  pub whole : (b : ℕ) → IsCity n b → (q : ℕ) × (q < length row) × (city_at row q ≡ b)
 
 -- how many parts a tree has
 abbrev pub parts_of : Tree → ℕ

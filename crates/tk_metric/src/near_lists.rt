@@ -1,5 +1,6 @@
 //! Near lists: for each city the cities that are nearest.
 
+pub mod halve;
 pub mod keep;
 pub mod left;
 pub mod near;

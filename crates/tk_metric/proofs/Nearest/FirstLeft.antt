@@ -1,6 +1,7 @@
 -- The first of the cities of a row, by one place that keeps it.
-use Rattle.std.proofs.Common.{◌≡◌, ◌≢◌, ℕ, zero, suc, ◌+◌, ◌*◌, ◌<◌, ◌≤◌, ◌⊎◌, ⊎_elim, inl, inr, List, [], ◌∷◌, length, take, refl, sym, ap, ◌∙◌, arith, cond, true, false}
-use Rattle.std.specs.Prelude.{nat_lt}
+use Rattle.std.proofs.Common.{◌≡◌, ◌≢◌, ℕ, zero, suc, ◌+◌, ◌*◌, ◌<◌, ◌≤◌, ◌⊎◌, ⊎_elim, inl, inr, List, [], ◌∷◌, length, take, refl, sym, ap, ◌∙◌, arith, cond, true, false, get_or}
+use Rattle.std.specs.Prelude.{All, nat_lt}
+use Rattle.tk_problem.specs.declared.point.Point.{Point}
 use Rattle.std.proofs.lemmas.Bool.Decides.{nat_tests}
 use Rattle.std.proofs.lemmas.Bool.{cases_eq}
 use Rattle.tk_metric.specs.declared.near_lists.keep.Candidate.{Candidate}
@@ -8,7 +9,7 @@ use Rattle.tk_metric.specs.declared.near_lists.sweep.Placed.{Placed}
 use Rattle.tk_metric.specs.Near.{IsFirst}
 use Rattle.tk_metric.specs.Keeping.{rank, candidate, open_place, with_candidate}
 use Rattle.tk_metric.proofs.Nearest.Keeping.{closer_from_rank}
-use Rattle.tk_metric.specs.Sweep.{city_at}
+use Rattle.tk_metric.specs.Sweep.{IsPlaced, city_at, nowhere}
 use Rattle.tk_metric.specs.Tree.{IsOtherIn, with_city, with_cities}
 use Rattle.tk_metric.proofs.Nearest.Parting.{with_city-same, with_city-other}
 
@@ -91,3 +92,20 @@ module _ (dist : ℕ → ℕ → ℕ) (c : ℕ) (limit : (a b : ℕ) → dist a 
                 let same : city_at row s.0 ≡ a = s.2 in
                 closer_from_rank (dist c (city_at row q)) (dist c a) (city_at row q) a (omega (arith, mine)) (omega (arith, theirs, same)) (rank_less q s.0 a same least city far other mine (omega (arith, theirs, same)));
           }
+
+-- what one place keeps of a row
+module _ (dist : ℕ → ℕ → ℕ) (c : ℕ) (limit : (a b : ℕ) → dist a b ≤ 4000000000) (n : ℕ) (place_of : ℕ → Point) (few : n ≤ 100000) (row : List Placed) (placed : All (IsPlaced n place_of) row) (kept : List Candidate) (seen : kept ≡ with_cities dist c row (open_place ∷ [])) where
+  small_city : (q : ℕ) → q < length row → city_at row q ≤ 100000
+  small_city q l = let e = placed q nowhere l in omega (arith, e.0.1, few)
+
+  pub none_kept : (d : Candidate) → (get_or kept 0 d).distance ≡ 4294967295 → (b : ℕ) → IsOtherIn row c b → ⊥
+  none_kept d unseen =
+      let r = least_of dist c row open_place in
+      let one : kept ≡ r.0 ∷ [] = seen ∙ r.1.kept in
+      none_left dist c limit row small_city r.0 r.1 (rw one at unseen)
+
+  pub first_kept : (d : Candidate) → (get_or kept 0 d).distance ≢ 4294967295 → IsFirst dist c (IsOtherIn row c) (get_or kept 0 d).city
+  first_kept d there =
+      let r = least_of dist c row open_place in
+      let one : kept ≡ r.0 ∷ [] = seen ∙ r.1.kept in
+      rw one (first_left dist c limit row small_city r.0 r.1 (rw one at there))

@@ -7,20 +7,19 @@ use Rattle.std.proofs.lemmas.Bool.Decides.{nat_tests}
 use Rattle.std.proofs.lemmas.Bool.{cases_lt, cases_eq}
 use Rattle.std.proofs.lemmas.List.{length-take-le, take_all, take_more, get_or_default}
 use Rattle.std.proofs.Math.Seq.{take-suc}
-use Rattle.std.proofs.lemmas.List.Elements.{All-cons, All-nil, All-weaker, All-head, All-tail, All-from_get_or}
+use Rattle.std.proofs.lemmas.List.Elements.{All-cons, All-nil, All-weaker, All-head, All-tail}
 use Rattle.std.specs.List.{swap_remove}
-use Rattle.std.proofs.lemmas.List.Sorted.{All-permutation, Contains-permutation, IsPermutation-keeps, IsPermutation-swap_remove, IsPermutation-trans, IsPermutation-append_left, IsPermutation-append_right, IsPermutation-to_front, length_permutation}
+use Rattle.std.proofs.lemmas.List.Sorted.{All-permutation, IsPermutation-swap_remove, IsPermutation-trans, IsPermutation-append_left, IsPermutation-append_right, IsPermutation-to_front}
 use Rattle.tk_problem.specs.declared.point.Point.{Point}
 use Rattle.tk_metric.specs.declared.near_lists.keep.Candidate.{Candidate}
 use Rattle.tk_metric.specs.declared.near_lists.sweep.Placed.{Placed}
 use Rattle.tk_metric.specs.Cities.{IsCity}
 use Rattle.tk_metric.specs.Near.{IsNear}
 use Rattle.tk_metric.specs.Keeping.{Climbing, insert_by, with_candidate, rank, candidate, open_place, cities_of, KeepsFirst}
-use Rattle.tk_metric.specs.Sweep.{IsPlaced, IsXOrder, IsAt, city_at, nowhere}
+use Rattle.tk_metric.specs.Sweep.{IsPlaced, IsRow, IsAt, city_at, nowhere}
 use Rattle.tk_metric.specs.declared.near_lists.tree.Frame.{Frame}
 use Rattle.tk_metric.specs.declared.near_lists.tree.Tree.{Tree}
-use Rattle.tk_metric.specs.Tree.{IsTakenOut, IsFrom, IsRow, IsWithin, IsBeyond, entries_of, parts_of, with_city, with_cities}
-use Rattle.tk_metric.proofs.Nearest.OneEach.{OneEach, OneEach-swap}
+use Rattle.tk_metric.specs.Tree.{IsTakenOut, IsFrom, IsWithin, IsBeyond, entries_of, parts_of, with_city, with_cities}
 use Rattle.tk_metric.proofs.Nearest.Inserting.{take-insert_by, length-insert_by, IsPermutation-insert_by, Climbing-take, insert_by-full}
 use Rattle.tk_metric.proofs.Nearest.Keeping.{KeepsFirst-none, KeepsFirst-more, KeepsFirst-same, KeepsFirst-count, IsNear-from_kept, kept_length, same_twice}
 
@@ -302,22 +301,6 @@ placed_small n place_of ps few all = λ k d l. let e = all k d l in omega (arith
 pub part_smaller : (tree lower upper s : Tree) (t : ℕ) → parts_of tree ≡ t → parts_of tree ≡ parts_of lower + parts_of upper + 1 → (s ≡ lower) ⊎ (s ≡ upper) → parts_of s < t
 part_smaller tree lower upper s t is cut part =
     ⊎_elim (λ e. let same = ap parts_of e in omega arith) (λ e. let same = ap parts_of e in omega arith) part
-
--- ---- a row in another order
-pub IsRow-from_order : (n : ℕ) (place_of : ℕ → Point) (first row : List Placed) → IsXOrder n place_of first → IsPermutation first row → IsRow n place_of row
-IsRow-from_order n place_of first row o moved =
-    let start : OneEach (λ (v : Placed). v.city) nowhere first = λ i j li lj e.
-    ⊎_elim (λ l. absurd (o.apart i j l lj e)) (λ g. ⊎_elim (λ l. absurd (o.apart j i l li (sym e))) (λ h. omega arith) (cases_lt j i)) (cases_lt i j) in
-    let once : OneEach (λ (v : Placed). v.city) nowhere row = IsPermutation-keeps first (OneEach (λ (v : Placed). v.city) nowhere) start (λ l a b. OneEach-swap (λ (v : Placed). v.city) nowhere l a b) row moved in
-    record {
-      count = length_permutation first row moved ∙ o.count;
-      each = All-permutation (IsPlaced n place_of) first row moved (All-from_get_or (IsPlaced n place_of) first nowhere o.each);
-      apart = λ i j l m e. let same = once i j (omega arith) m e in omega arith;
-      whole = λ b city.
-          let at = o.whole b city in
-          let w = Contains-permutation first row (get_or first at.0 nowhere) moved (at.0, at.1, get_or_default first at.0 _ _ at.1) in
-          (w.0, w.1, ap (λ (v : Placed). v.city) (get_or_default row w.0 nowhere (get_or first at.0 nowhere) w.1 ∙ w.2) ∙ at.2);
-    }
 
 -- ---- a city that is taken out
 

@@ -1,11 +1,12 @@
 -- A candidate goes to its place in a list that keeps its length.
-use Rattle.std.proofs.Common.{◌≡◌, ℕ, zero, suc, ◌-◌, ◌<◌, ◌≤◌, List, [], ◌∷◌, ◌++◌, length, take, drop, set, refl, sym, ap, ◌∙◌, arith, true, cond, get_or}
+use Rattle.std.proofs.Common.{◌≡◌, ℕ, zero, suc, ◌+◌, ◌-◌, ◌<◌, ◌≤◌, ◌⊎◌, ⊎_elim, inl, inr, List, [], ◌∷◌, ◌++◌, length, take, drop, set, refl, sym, ap, ◌∙◌, arith, true, cond, get_or}
 use Rattle.std.specs.Prelude.{nat_lt, insert}
-use Rattle.std.proofs.lemmas.List.Edits.{get_or-insert_below}
-use Rattle.std.proofs.lemmas.List.{length-take-le}
+use Rattle.std.proofs.lemmas.List.Edits.{get_or-insert_above, get_or-insert_below}
+use Rattle.std.proofs.lemmas.List.{get_or-take, length-take-le}
 use Rattle.std.proofs.lemmas.Bool.Decides.{nat_tests}
 use native.Mathlib.Numerals.{unary_clauses}
-use Rattle.tk_metric.specs.Keeping.{Climbing, insert_by}
+use Rattle.tk_metric.specs.declared.near_lists.keep.Candidate.{Candidate}
+use Rattle.tk_metric.specs.Keeping.{AreOpenFrom, Climbing, insert_by, rank}
 use Rattle.tk_metric.proofs.Nearest.Inserting.{Climbing-take, insert_by-below, insert_by-pop}
 
 pub drop-take_same : {X : Type 0} (n : ℕ) (xs : List X) → drop n (take n xs) ≡ []
@@ -66,9 +67,45 @@ keep_end f x y i xs kept d up one b l e last stop =
     ∙ insert_done f x i (take (length xs - 1) xs) d (Climbing-take f (length xs - 1) xs up) in' last (below_inserted f x y i (take (length xs - 1) xs) kept d in' e stop)
     ∙ insert_by-pop f x (length xs) xs d refl one b
 
--- the last stands behind the others
-pub last_inserted : {X : Type 0} (n : ℕ) (xs : List X) (d : X) → length xs ≡ suc n → xs ≡ insert (take n xs) n (get_or xs n d)
-last_inserted n [] d l = absurd (omega arith)
-last_inserted zero (y ∷ []) d l = refl
-last_inserted zero (y ∷ z ∷ zs) d l = absurd (omega arith)
-last_inserted (suc n) (y ∷ ys) d l = ap (λ v. y ∷ v) (last_inserted n ys d (omega arith))
+shift_same : {X : Type 0} (n : ℕ) (y : X) (ys : List X) (d : X) → length ys ≡ n → ((j : ℕ) → j < n → get_or (y ∷ ys) j d ≡ get_or ys j d) → ys ≡ take n (y ∷ ys)
+shift_same zero y [] d l same = refl
+shift_same zero y (z ∷ zs) d l same = absurd (omega arith)
+shift_same (suc n) y [] d l same = absurd (omega arith)
+shift_same (suc n) y (z ∷ zs) d l same =
+    let here : y ≡ z = same 0 (omega arith) in
+    ap (λ v. v ∷ zs) (sym here) ∙ ap (λ v. y ∷ v) (shift_same n z zs d (omega arith) (λ j m. same (suc j) (omega arith)))
+
+-- one of those that are all the same from i on, to the last, stands at i among the others
+same_inserted : {X : Type 0} (i n : ℕ) (xs : List X) (d : X) → length xs ≡ suc n → i ≤ n → ((j : ℕ) → i ≤ j → j < n → get_or xs j d ≡ get_or xs (suc j) d) → xs ≡ insert (take n xs) i (get_or xs i d)
+same_inserted i n [] d e l same = absurd (omega arith)
+same_inserted zero n (y ∷ ys) d e l same = ap (λ v. y ∷ v) (shift_same n y ys d (omega arith) (λ j m. same j (omega arith) m))
+same_inserted (suc i) zero (y ∷ ys) d e l same = absurd (omega arith)
+same_inserted (suc i) (suc n) (y ∷ ys) d e l same = ap (λ v. y ∷ v) (same_inserted i n ys d (omega arith) (omega arith) (λ j a b. same (suc j) (omega arith) (omega arith)))
+
+-- before the loop
+pub keep_start : (x : Candidate) (n end filled : ℕ) (xs : List Candidate) (d : Candidate) → length xs ≡ suc n → ((filled < n) × (end ≡ filled)) ⊎ (end ≡ n) → AreOpenFrom filled xs → rank x < rank (get_or xs n d)
+    → (xs ≡ insert (take n xs) end (get_or xs end d)) × (insert_by rank x (drop end (take n xs)) ≡ x ∷ drop end (take n xs))
+keep_start x n end filled xs d l ends opens first = elim ends [
+  | inl e ↦
+      let at : get_or xs end d ≡ get_or xs n d = opens end d (omega arith) (omega arith) ∙ sym (opens n d (omega arith) (omega arith)) in
+      let front : get_or (take n xs) end d ≡ get_or xs n d = get_or-take n xs end d (omega arith) ∙ at in
+      let size = length-take-le n xs (omega arith) in (
+        same_inserted end n xs d l (omega arith) (λ j a b. opens j d (omega arith) (omega arith) ∙ sym (opens (suc j) d (omega arith) (omega arith))),
+        insert_by-drop rank x end (take n xs) d (omega arith) (rw front first),
+      )
+  | inr e ↦
+      let none : drop end (take n xs) ≡ [] = ap (λ v. drop v (take n xs)) e ∙ drop-take_same n xs in (
+        same_inserted end n xs d l (omega arith) (λ j a b. absurd (omega arith)),
+        ap (insert_by rank x) none ∙ ap (λ v. x ∷ v) (sym none),
+      )
+]
+
+-- behind the loop
+pub still_open : (x y : Candidate) (n i end filled : ℕ) (xs kept new : List Candidate) → length xs ≡ suc n → ((filled < n) × (end ≡ filled)) ⊎ (end ≡ n) → AreOpenFrom filled xs → i ≤ end → kept ≡ insert (take n xs) i y → new ≡ set kept i x → length new ≡ length xs → AreOpenFrom (end + 1) new
+still_open x y n i end filled xs kept new l ends opens low is written size = λ j d a b.
+    let m : length (take n xs) ≡ n = length-take-le n xs (omega arith) in
+    let now : new ≡ insert (take n xs) i x = written ∙ ap (λ v. set v i x) is ∙ set_inserted i (take n xs) y x (⊎_elim (λ e. omega arith) (λ e. omega arith) ends) in
+    let next : j - 1 + 1 ≡ j = omega arith in
+    let behind : get_or new (j - 1 + 1) d ≡ get_or xs (j - 1) d =
+    ap (λ v. get_or v (j - 1 + 1) d) now ∙ get_or-insert_above (take n xs) i x d (j - 1) (omega arith) (⊎_elim (λ e. omega arith) (λ e. omega arith) ends) ∙ get_or-take n xs (j - 1) d (omega arith) in
+    ap (λ v. get_or new v d) (sym next) ∙ behind ∙ ⊎_elim (λ e. opens (j - 1) d (omega arith) (omega arith)) (λ e. absurd (omega arith)) ends

@@ -1,7 +1,7 @@
 //! The nearest candidates of a city, kept in order.
 ghost use Rattle.std.specs.Prelude.{◌≡◌, ℕ, ◌≤◌, ◌<◌, ◌-◌, ◌*◌, ◌↔◌, IsTrue, length};
 ghost use Rattle.tk_metric.specs.Cities.{IsCity};
-ghost use Rattle.tk_metric.specs.Keeping.{candidate, rank, Climbing, with_candidate, overwritten, cities_of};
+ghost use Rattle.tk_metric.specs.Keeping.{AreOpenFrom, candidate, rank, Climbing, with_candidate, overwritten, cities_of};
 
 use crate::metric::Metric;
 
@@ -39,21 +39,37 @@ pub fn measure<M: Metric>(m: &M, c: u32, b: u32) -> Candidate
     }
 }
 
-/// Puts a candidate in its place and lets the last go, or lets it go itself where it comes last.
-pub fn keep(kept: &mut [Candidate], x: Candidate)
+/// Puts a candidate in its place and lets the last go, or lets it go itself where it comes last. The places from `filled` on
+/// are open: they stay where they are.
+pub fn keep_among(kept: &mut [Candidate], filled: &mut usize, x: Candidate)
     requires room { 1 ≤ length kept.old }
     requires climbing { Climbing rank kept.old }
-    ensures { kept.new ≡ with_candidate x kept.old }
+    requires vacant { AreOpenFrom filled.old kept.old }
+    ensures kept { kept.new ≡ with_candidate x kept.old }
+    ensures vacant { AreOpenFrom filled.new kept.new }
 {
-    let mut i = kept.len() - 1;
-    if !x.is_before(kept[i]) {
+    let last = kept.len() - 1;
+    if !x.is_before(kept[last]) {
         return;
     }
+    let end = last.min(*filled);
+    let mut i = end;
     while i > 0 && x.is_before(kept[i - 1]) {
         kept[i] = kept[i - 1];
         i -= 1;
     }
     kept[i] = x;
+    *filled = end + 1;
+}
+
+/// The same where it is not known which places are open.
+pub fn keep(kept: &mut [Candidate], x: Candidate)
+    requires room { 1 ≤ length kept.old }
+    requires climbing { Climbing rank kept.old }
+    ensures { kept.new ≡ with_candidate x kept.old }
+{
+    let mut filled = kept.len();
+    keep_among(kept, &mut filled, x);
 }
 
 /// Writes the cities of the kept as the list of city c.

@@ -2,13 +2,13 @@
 ghost use Rattle.std.specs.Prelude.{◌≡◌, ℕ, ◌<◌, ◌≤◌, All, length, IfOk, IsTrue, MatchBool, MatchOption, slice_index};
 ghost use Rattle.tk_metric.specs.declared.near_lists.sweep.Placed.{Placed};
 ghost use Rattle.tk_metric.specs.Near.{IsFirst};
-ghost use Rattle.tk_metric.specs.Sweep.{IsPlaced, city_at};
-ghost use Rattle.tk_metric.specs.Tree.{entries_of, IsFramed, IsWithin, IsTakenOut, IsNotIn, IsOtherIn, IsRow};
+ghost use Rattle.tk_metric.specs.Sweep.{IsPlaced, IsRow, city_at};
+ghost use Rattle.tk_metric.specs.Tree.{entries_of, IsFramed, IsWithin, IsTakenOut, IsNotIn, IsOtherIn};
 
 use crate::metric::Planar;
 use crate::near_lists::keep::OPEN;
-use crate::near_lists::sweep::{Placed, order_by_x};
-use crate::near_lists::tree::{Frame, NEAREST, Tree, frame_of, plant, search};
+use crate::near_lists::sweep::Placed;
+use crate::near_lists::tree::{Frame, NEAREST, Tree, frame_of, planted, search};
 use std::alloc::{AllocError, Global};
 use std::marker::Model;
 
@@ -38,9 +38,7 @@ impl Left {
     pub fn all<P: Planar>(alloc: Global, m: &P) -> Result<Left, AllocError>
         ensures { IfOk result (λ left. IsRow (P.size_of m.now) (P.place_of m.now) left) }
     {
-        let mut row = order_by_x(alloc, m)?;
-        let frame = frame_of(&row);
-        let tree = plant(alloc, &mut row, frame)?;
+        let (_, tree) = planted(alloc, m)?;
         Ok(Left { tree })
     }
 
@@ -59,7 +57,8 @@ impl Left {
             (λ b. IsFirst (P.distance m.now) here.city (IsOtherIn self.now here.city) b) }
     {
         let mut kept = [OPEN];
-        search(m, here, NEAREST, &self.tree, &mut kept);
+        let mut filled = 0;
+        search(m, here, NEAREST, &self.tree, &mut kept, &mut filled);
         if kept[0].distance == OPEN.distance {
             None
         } else {

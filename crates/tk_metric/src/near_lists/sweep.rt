@@ -2,7 +2,7 @@
 ghost use Rattle.std.specs.Prelude.{◌≡◌, ℕ, ◌*◌, ◌≤◌, ◌<◌, ◌↔◌, IfOk, length, IsTrue, MatchBool, ⊤};
 ghost use Rattle.tk_metric.specs.Near.{IsNear, AreNearest};
 ghost use Rattle.tk_metric.specs.Keeping.{AreFilled, rank, Climbing, with_candidate, candidate, cities_of};
-ghost use Rattle.tk_metric.specs.Sweep.{IsXOrder, IsSwept, IsBelow, AreFar, IsPlaced, city_at, x_gap, y_gap};
+ghost use Rattle.tk_metric.specs.Sweep.{IsRow, IsXOrder, IsSwept, IsBelow, AreFar, IsPlaced, city_at, x_gap, y_gap};
 
 use crate::metric::Planar;
 use crate::near_lists::keep::{Candidate, OPEN, keep, measure, write_cities};
@@ -34,6 +34,21 @@ impl Placed {
     }
 }
 
+/// The cities with their places, in the order of their numbers.
+///
+/// # Errors
+/// `AllocError` where there is no memory for the row.
+pub fn row_of<P: Planar>(alloc: Global, m: &P) -> Result<Vec<Placed>, AllocError>
+    ensures { IfOk result (λ v. IsRow (P.size_of m.now) (P.place_of m.now) v.items) }
+{
+    let mut row = Vec::with_capacity(alloc, m.size() as usize)?;
+    for c in 1..m.size() + 1 {
+        let place = m.place(c);
+        row.push(Placed { place, city: c })?;
+    }
+    Ok(row)
+}
+
 /// The cities in the order of x, and of their numbers where x is equal.
 ///
 /// # Errors
@@ -41,11 +56,7 @@ impl Placed {
 pub fn order_by_x<P: Planar>(alloc: Global, m: &P) -> Result<Vec<Placed>, AllocError>
     ensures { IfOk result (λ v. IsXOrder (P.size_of m.now) (P.place_of m.now) v.items) }
 {
-    let mut row = Vec::with_capacity(alloc, m.size() as usize)?;
-    for c in 1..m.size() + 1 {
-        let place = m.place(c);
-        row.push(Placed { place, city: c })?;
-    }
+    let mut row = row_of(alloc, m)?;
     row.sort_unstable_by_key(|p| (p.place.x, p.city));
     Ok(row)
 }

@@ -3,14 +3,15 @@ ghost use Rattle.std.specs.Prelude.{◌≡◌, ℕ, ℤ, ◌*◌, ◌≤◌, ◌
 ghost use Rattle.std.specs.Int.RustNames.{unsigned_abs};
 ghost use Rattle.tk_metric.specs.declared.near_lists.sweep.Placed.{Placed};
 ghost use Rattle.tk_metric.specs.Near.{IsNear, AreNearest};
-ghost use Rattle.tk_metric.specs.Keeping.{AreFilled, rank, Climbing, cities_of};
-ghost use Rattle.tk_metric.specs.Sweep.{IsPlaced};
-ghost use Rattle.tk_metric.specs.Tree.{entries_of, IsWithin, IsFramed, IsBeyond, IsFrom, IsOut, with_cities, IsRow};
+ghost use Rattle.tk_metric.specs.Keeping.{AreFilled, AreOpenFrom, rank, Climbing, cities_of};
+ghost use Rattle.tk_metric.specs.Sweep.{IsPlaced, IsRow};
+ghost use Rattle.tk_metric.specs.Tree.{entries_of, IsWithin, IsFramed, IsBeyond, IsFrom, IsOut, with_cities};
 
 use crate::metric::Planar;
-use crate::near_lists::keep::{Candidate, OPEN, keep, measure, write_cities};
+use crate::near_lists::halve::halve;
+use crate::near_lists::keep::{Candidate, OPEN, keep_among, measure, write_cities};
 use crate::near_lists::near::Near;
-use crate::near_lists::sweep::{Placed, order_by_x};
+use crate::near_lists::sweep::{Placed, row_of};
 use std::alloc::{AllocError, Global};
 
 /// At most so many cities stand in a leaf.
@@ -150,19 +151,8 @@ pub fn frame_of(row: &[Placed]) -> Frame
     frame
 }
 
-/// Brings the lower half of the cities to the front, by the coordinate in which they take more room.
-fn halve(row: &mut [Placed], is_tall: bool)
-    ensures { IsPermutation row.old row.new }
-{
-    if is_tall {
-        row.sort_unstable_by_key(|p| (p.place.y, p.city));
-    } else {
-        row.sort_unstable_by_key(|p| (p.place.x, p.city));
-    }
-}
-
 /// The tree of these cities, which are put in its order.
-pub fn plant(alloc: Global, row: &mut [Placed], frame: Frame) -> Result<Tree, AllocError>
+fn plant(alloc: Global, row: &mut [Placed], frame: Frame) -> Result<Tree, AllocError>
     ensures moved { IfOk result (λ _. IsPermutation row.old row.new) }
     ensures entries { IfOk result (λ t. entries_of t ≡ row.new) }
     ensures framed { IfOk result (λ t. IsFramed t) }
@@ -184,6 +174,21 @@ pub fn plant(alloc: Global, row: &mut [Placed], frame: Frame) -> Result<Tree, Al
     Ok(Tree::Cut(lower_frame, lower_box, upper_frame, upper_box))
 }
 
+/// The cities of a metric in the order of a tree, and that tree.
+///
+/// # Errors
+/// `AllocError` where there is no memory for them.
+pub fn planted<P: Planar>(alloc: Global, m: &P) -> Result<(Vec<Placed>, Tree), AllocError>
+    ensures row { IfOk result (λ r. IsRow (P.size_of m.now) (P.place_of m.now) r.0.items) }
+    ensures entries { IfOk result (λ r. entries_of r.1 ≡ r.0.items) }
+    ensures framed { IfOk result (λ r. IsFramed r.1) }
+{
+    let mut row = row_of(alloc, m)?;
+    let frame = frame_of(&row);
+    let tree = plant(alloc, &mut row, frame)?;
+    Ok((row, tree))
+}
+
 /// Whether nothing that `first` comes before, or is, can enter the kept.
 fn is_out(first: Candidate, kept: &[Candidate]) -> bool
     requires { 1 ≤ length kept.now }
@@ -193,46 +198,63 @@ fn is_out(first: Candidate, kept: &[Candidate]) -> bool
 }
 
 /// Keeps what is near of a leaf.
-fn search_leaf<P: Planar>(m: &P, here: Placed, leaf: &[Placed], kept: &mut [Candidate])
+fn search_leaf<P: Planar>(
+    m: &P,
+    here: Placed,
+    leaf: &[Placed],
+    kept: &mut [Candidate],
+    filled: &mut usize,
+)
     requires here { IsPlaced (P.size_of m.now) (P.place_of m.now) here }
     requires placed { All (IsPlaced (P.size_of m.now) (P.place_of m.now)) leaf.now }
     requires room { 1 ≤ length kept.old }
     requires climbing { Climbing rank kept.old }
+    requires vacant { AreOpenFrom filled.old kept.old }
     ensures kept { kept.new ≡ with_cities (P.distance m.now) here.city leaf.now kept.old }
     ensures climbing { Climbing rank kept.new }
+    ensures vacant { AreOpenFrom filled.new kept.new }
 {
     for there in leaf {
         if there.city != here.city {
-            keep(kept, measure(m, here.city, there.city));
+            keep_among(kept, filled, measure(m, here.city, there.city));
         }
     }
 }
 
 /// Keeps what is near of a part of which no city comes before `first`.
-pub fn search<P: Planar>(m: &P, here: Placed, first: Candidate, tree: &Tree, kept: &mut [Candidate])
+pub fn search<P: Planar>(
+    m: &P,
+    here: Placed,
+    first: Candidate,
+    tree: &Tree,
+    kept: &mut [Candidate],
+    filled: &mut usize,
+)
     requires here { IsPlaced (P.size_of m.now) (P.place_of m.now) here }
     requires placed { All (IsPlaced (P.size_of m.now) (P.place_of m.now)) (entries_of tree.now) }
     requires framed { IsFramed tree.now }
     requires first { All (IsFrom (P.distance m.now) here.city first) (entries_of tree.now) }
     requires room { 1 ≤ length kept.old }
     requires climbing { Climbing rank kept.old }
+    requires vacant { AreOpenFrom filled.old kept.old }
     ensures kept { kept.new ≡ with_cities (P.distance m.now) here.city (entries_of tree.now) kept.old }
     ensures climbing { Climbing rank kept.new }
+    ensures vacant { AreOpenFrom filled.new kept.new }
 {
     if is_out(first, kept) {
         return;
     }
     match tree {
-        Tree::Leaf(leaf) => search_leaf(m, here, leaf, kept),
+        Tree::Leaf(leaf) => search_leaf(m, here, leaf, kept, filled),
         Tree::Cut(lower_frame, lower, upper_frame, upper) => {
             let lower_first = lower_frame.first(m, here);
             let upper_first = upper_frame.first(m, here);
             if lower_first.is_before(upper_first) {
-                search(m, here, lower_first, lower, kept);
-                search(m, here, upper_first, upper, kept);
+                search(m, here, lower_first, lower, kept, filled);
+                search(m, here, upper_first, upper, kept, filled);
             } else {
-                search(m, here, upper_first, upper, kept);
-                search(m, here, lower_first, lower, kept);
+                search(m, here, upper_first, upper, kept, filled);
+                search(m, here, lower_first, lower, kept, filled);
             }
         }
     }
@@ -249,7 +271,8 @@ fn search_city<P: Planar>(m: &P, here: Placed, tree: &Tree, kept: &mut [Candidat
     ensures near { IsNear (P.distance m.now) (P.size_of m.now) (length kept.old) here.city (cities_of kept.new) }
 {
     kept.fill(OPEN);
-    search(m, here, NEAREST, tree, kept);
+    let mut filled = 0;
+    search(m, here, NEAREST, tree, kept, &mut filled);
 }
 
 /// Fills the list of each city, in the order of the tree.
@@ -284,9 +307,7 @@ pub fn near_tree<P: Planar>(alloc: Global, m: &P, k: u32) -> Result<Near, AllocE
     ensures near { IfOk result (λ v. AreNearest (P.distance m.now) v) }
 {
     let width = k as usize;
-    let mut row = order_by_x(alloc, m)?;
-    let frame = frame_of(&row);
-    let tree = plant(alloc, &mut row, frame)?;
+    let (row, tree) = planted(alloc, m)?;
     let mut kept = vec![in alloc; OPEN; width]?;
     let mut entries = vec![in alloc; 0u32; m.size() as usize * width]?;
     fill_from_tree(m, &row, &tree, &mut kept, &mut entries);

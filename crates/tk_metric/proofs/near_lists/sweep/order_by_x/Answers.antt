@@ -1,4 +1,4 @@
-use Rattle.std.proofs.Common.{arith, rules, ◌≡◌, ◌-◌}
+use Rattle.std.proofs.Common.{rules}
 use Rattle.std.proofs.lemmas.List.Sorted.{answers_always}
 use Rattle.tk_metric.specs.declared.near_lists.sweep.Placed.{Placed}
 use Rattle.tk_metric.proofs.Nearest.XOrder.{IsXOrder-from_sort}
@@ -6,7 +6,6 @@ use Rattle.tk_metric.proofs.near_lists.sweep.order_by_x.Goals as goal
 
 pub returns : goal.returns
 returns g c =
-    let end : c.loop-c.c - 1 ≡ g.P.Metric.size_of c.args.m.now = omega arith in
-    let h = rw end at c.loop-c.invariant in
+    let m = c.args.m.now in
     let sorted = c.sort_unstable_by_key.ensures.sorted (λ (p : Placed). (p.place.x, p.city)) (answers_always _ _ _ (λ f a r g h. search rules)) in
-    IsXOrder-from_sort (g.P.Metric.size_of c.args.m.now) (g.P.Planar.place_of c.args.m.now) c.loop-c.row.items c.sort_unstable_by_key.new.self.items h.0 h.1 c.sort_unstable_by_key.ensures.permutation sorted
+    IsXOrder-from_sort (g.P.Metric.size_of m) (g.P.Planar.place_of m) c.in_ok-row.row.items c.sort_unstable_by_key.new.self.items c.in_ok-row.ensures c.sort_unstable_by_key.ensures.permutation sorted

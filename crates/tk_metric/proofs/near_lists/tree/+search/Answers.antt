@@ -17,7 +17,7 @@ search-requires g t c κs within =
     let e = c.deref-then-is_before.ensures in
     let mine = all_front (IsPlaced (g.P.Metric.size_of m) (g.P.Planar.place_of m)) (entries_of c.in-Cut.lower.value) (entries_of c.in-Cut.upper.value) placed in
     let from = part_from (g.P.Metric.distance m) (g.P.Metric.size_of m) (g.P.Planar.place_of m) c.args.here.city c.in-Cut.lower_frame c.first-lower_first.result (entries_of c.in-Cut.lower.value) c.first-lower_first.ensures mine framed.0 in
-    (part_smaller c.args.tree.now c.in-Cut.lower.value c.in-Cut.upper.value _ t c.decreases (ap parts_of c.in-Cut.is) (inl e), (within, (c.requires.here, (rw e mine, (rw e framed.2, (rw e from, (c.requires.room, c.requires.climbing)))))))
+    (part_smaller c.args.tree.now c.in-Cut.lower.value c.in-Cut.upper.value _ t c.decreases (ap parts_of c.in-Cut.is) (inl e), (within, (c.requires.here, (rw e mine, (rw e framed.2, (rw e from, (c.requires.room, (c.requires.climbing, c.requires.vacant))))))))
 
 pub search-requires-then-is_before : goal.search-requires-then-is_before
 search-requires-then-is_before g t c κs within =
@@ -27,7 +27,7 @@ search-requires-then-is_before g t c κs within =
     let e = c.deref-then-is_before-2.ensures in
     let mine = all_back (IsPlaced (g.P.Metric.size_of m) (g.P.Planar.place_of m)) (entries_of c.in-Cut.lower.value) (entries_of c.in-Cut.upper.value) placed in
     let from = part_from (g.P.Metric.distance m) (g.P.Metric.size_of m) (g.P.Planar.place_of m) c.args.here.city c.in-Cut.upper_frame c.first-upper_first.result (entries_of c.in-Cut.upper.value) c.first-upper_first.ensures mine framed.1 in
-    (part_smaller c.args.tree.now c.in-Cut.lower.value c.in-Cut.upper.value _ t c.decreases (ap parts_of c.in-Cut.is) (inr e), (within, (c.requires.here, (rw e mine, (rw e framed.3, (rw e from, (omega arith, c.search.ensures.climbing)))))))
+    (part_smaller c.args.tree.now c.in-Cut.lower.value c.in-Cut.upper.value _ t c.decreases (ap parts_of c.in-Cut.is) (inr e), (within, (c.requires.here, (rw e mine, (rw e framed.3, (rw e from, (omega arith, (c.search.ensures.climbing, c.search.ensures.vacant))))))))
 
 pub search-requires-else-is_before : goal.search-requires-else-is_before
 search-requires-else-is_before g t c κs within =
@@ -37,7 +37,7 @@ search-requires-else-is_before g t c κs within =
     let e = c.deref-else-is_before.ensures in
     let mine = all_back (IsPlaced (g.P.Metric.size_of m) (g.P.Planar.place_of m)) (entries_of c.in-Cut.lower.value) (entries_of c.in-Cut.upper.value) placed in
     let from = part_from (g.P.Metric.distance m) (g.P.Metric.size_of m) (g.P.Planar.place_of m) c.args.here.city c.in-Cut.upper_frame c.first-upper_first.result (entries_of c.in-Cut.upper.value) c.first-upper_first.ensures mine framed.1 in
-    (part_smaller c.args.tree.now c.in-Cut.lower.value c.in-Cut.upper.value _ t c.decreases (ap parts_of c.in-Cut.is) (inr e), (within, (c.requires.here, (rw e mine, (rw e framed.3, (rw e from, (c.requires.room, c.requires.climbing)))))))
+    (part_smaller c.args.tree.now c.in-Cut.lower.value c.in-Cut.upper.value _ t c.decreases (ap parts_of c.in-Cut.is) (inr e), (within, (c.requires.here, (rw e mine, (rw e framed.3, (rw e from, (c.requires.room, (c.requires.climbing, c.requires.vacant))))))))
 
 pub search-requires-else-is_before-2 : goal.search-requires-else-is_before-2
 search-requires-else-is_before-2 g t c κs within =
@@ -47,7 +47,7 @@ search-requires-else-is_before-2 g t c κs within =
     let e = c.deref-else-is_before-2.ensures in
     let mine = all_front (IsPlaced (g.P.Metric.size_of m) (g.P.Planar.place_of m)) (entries_of c.in-Cut.lower.value) (entries_of c.in-Cut.upper.value) placed in
     let from = part_from (g.P.Metric.distance m) (g.P.Metric.size_of m) (g.P.Planar.place_of m) c.args.here.city c.in-Cut.lower_frame c.first-lower_first.result (entries_of c.in-Cut.lower.value) c.first-lower_first.ensures mine framed.0 in
-    (part_smaller c.args.tree.now c.in-Cut.lower.value c.in-Cut.upper.value _ t c.decreases (ap parts_of c.in-Cut.is) (inl e), (within, (c.requires.here, (rw e mine, (rw e framed.2, (rw e from, (omega arith, c.search-else-is_before.ensures.climbing)))))))
+    (part_smaller c.args.tree.now c.in-Cut.lower.value c.in-Cut.upper.value _ t c.decreases (ap parts_of c.in-Cut.is) (inl e), (within, (c.requires.here, (rw e mine, (rw e framed.2, (rw e from, (omega arith, (c.search-else-is_before.ensures.climbing, c.search-else-is_before.ensures.vacant))))))))
 
 pub returns-then-is_before-clause-kept : goal.returns-then-is_before-clause-kept
 returns-then-is_before-clause-kept g t c =

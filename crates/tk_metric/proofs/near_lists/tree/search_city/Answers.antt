@@ -1,4 +1,5 @@
-use Rattle.std.proofs.Common.{arith, ◌≡◌, ℕ, ◌∙◌, ap, length, replicate}
+use Rattle.std.proofs.Common.{arith, ◌≡◌, ℕ, ◌∙◌, ap, length, refl, replicate}
+use Rattle.std.proofs.lemmas.List.Elements.{All-replicate}
 use Rattle.tk_metric.specs.Keeping.{rank, open_place}
 use Rattle.tk_metric.specs.Tree.{entries_of, with_cities}
 use Rattle.tk_metric.proofs.Nearest.Keeping.{Climbing-replicate}
@@ -13,6 +14,12 @@ search-requires-clause-climbing g c =
     let k : ℕ = length c.args.kept.now in
     let clear : c.fill.new.self ≡ replicate k open_place = c.fill.ensures.after (λ y e. e) in
     rw clear (Climbing-replicate rank k open_place)
+
+pub search-requires-clause-vacant : goal.search-requires-clause-vacant
+search-requires-clause-vacant g c =
+    let k : ℕ = length c.args.kept.now in
+    let clear : c.fill.new.self ≡ replicate k open_place = c.fill.ensures.after (λ y e. e) in
+    rw clear (λ j d a l. All-replicate (λ y. y ≡ open_place) k open_place refl j d l)
 
 pub returns-clause-near : goal.returns-clause-near
 returns-clause-near g c =

@@ -1,24 +1,23 @@
-use Rattle.std.proofs.Common.{◌≡◌, [], ◌∷◌, ap, ◌∙◌, arith}
+use Rattle.std.proofs.Common.{◌≡◌, [], ◌∷◌, ap, ◌∙◌, refl}
+use Rattle.std.proofs.lemmas.List.Elements.{All-replicate}
 use Rattle.tk_metric.specs.Keeping.{open_place}
-use Rattle.tk_metric.specs.Sweep.{nowhere}
 use Rattle.tk_metric.specs.Tree.{with_cities}
-use Rattle.tk_metric.proofs.Nearest.FirstLeft.{least_of, none_left, first_left}
+use Rattle.tk_metric.proofs.Nearest.FirstLeft.{none_kept, first_kept}
 use Rattle.tk_metric.proofs.near_lists.left.Left.first.Goals as goal
+
+pub search-requires-clause-vacant : goal.search-requires-clause-vacant
+search-requires-clause-vacant g c = λ j d a l. All-replicate (λ y. y ≡ open_place) 1 open_place refl j d l
 
 pub returns-then-kept : goal.returns-then-kept
 returns-then-kept g c =
     let m = c.args.m.now in
     let dist = g.P.Metric.distance m in
-    let row = c.args.self.now in
-    let r = least_of dist c.args.here.city row open_place in
-    let kept : c.search.new.kept ≡ r.0 ∷ [] = c.search.ensures.kept ∙ ap (λ v. with_cities dist c.args.here.city v (open_place ∷ [])) c.self.view_is ∙ r.1.kept in
-    none_left dist c.args.here.city (g.met.P.Metric.distance_limit m) row (λ q l. let e = c.requires.placed q nowhere l in omega (arith, e.0.1, g.met.P.Metric.size_limit m)) r.0 r.1 (rw kept at c.if-kept.true)
+    let seen = c.search.ensures.kept ∙ ap (λ v. with_cities dist c.args.here.city v (open_place ∷ [])) c.self.view_is in
+    none_kept dist c.args.here.city (g.met.P.Metric.distance_limit m) (g.P.Metric.size_of m) (g.P.Planar.place_of m) (g.met.P.Metric.size_limit m) c.args.self.now c.requires.placed c.search.new.kept seen _ c.if-kept.true
 
 pub returns-else-kept : goal.returns-else-kept
 returns-else-kept g c =
     let m = c.args.m.now in
     let dist = g.P.Metric.distance m in
-    let row = c.args.self.now in
-    let r = least_of dist c.args.here.city row open_place in
-    let kept : c.search.new.kept ≡ r.0 ∷ [] = c.search.ensures.kept ∙ ap (λ v. with_cities dist c.args.here.city v (open_place ∷ [])) c.self.view_is ∙ r.1.kept in
-    rw kept (first_left dist c.args.here.city (g.met.P.Metric.distance_limit m) row (λ q l. let e = c.requires.placed q nowhere l in omega (arith, e.0.1, g.met.P.Metric.size_limit m)) r.0 r.1 (rw kept at c.if-kept.false))
+    let seen = c.search.ensures.kept ∙ ap (λ v. with_cities dist c.args.here.city v (open_place ∷ [])) c.self.view_is in
+    first_kept dist c.args.here.city (g.met.P.Metric.distance_limit m) (g.P.Metric.size_of m) (g.P.Planar.place_of m) (g.met.P.Metric.size_limit m) c.args.self.now c.requires.placed c.search.new.kept seen _ c.if-kept.false
