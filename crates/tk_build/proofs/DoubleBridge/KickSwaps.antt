@@ -54,8 +54,8 @@ four_turns n cuts la lb lc ld m1 m2 m3 m4 s0 s1 s2 s3 s4 are ea eb ec ed e1 e2 e
     let t3 : m3 / 2 ≡ turn_swaps n (cuts.r - cuts.q) = turn_is n (cuts.r - cuts.q) (lb + la + ld) lc m3 e3 (omega (arith, sum)) (inr ec) in
     let t4 : m4 / 2 ≡ turn_swaps n (cuts.q - cuts.p) = turn_is n (cuts.q - cuts.p) (la + ld + lc) lb m4 e4 (omega (arith, sum)) (inr eb) in
     let all : s4 ≡ saturated (s0 + (m1 / 2 + (m2 / 2 + (m3 / 2 + m4 / 2)))) =
-        f4 ∙ ap (λ v. saturated (v + m4 / 2)) f3 ∙ saturated_twice s2 (m3 / 2) (m4 / 2) ∙ ap (λ v. saturated (v + (m3 / 2 + m4 / 2))) f2 ∙ saturated_twice s1 (m2 / 2) (m3 / 2 + m4 / 2) ∙
-        ap (λ v. saturated (v + (m2 / 2 + (m3 / 2 + m4 / 2)))) f1 ∙ saturated_twice s0 (m1 / 2) (m2 / 2 + (m3 / 2 + m4 / 2)) in
+    f4 ∙ ap (λ v. saturated (v + m4 / 2)) f3 ∙ saturated_twice s2 (m3 / 2) (m4 / 2) ∙ ap (λ v. saturated (v + (m3 / 2 + m4 / 2))) f2 ∙ saturated_twice s1 (m2 / 2) (m3 / 2 + m4 / 2) ∙
+    ap (λ v. saturated (v + (m2 / 2 + (m3 / 2 + m4 / 2)))) f1 ∙ saturated_twice s0 (m1 / 2) (m2 / 2 + (m3 / 2 + m4 / 2)) in
     all ∙ ap saturated (ap (λ v. s0 + v) (turned m1 m2 m3 m4 t1 t2 t3 t4))
   where
     turned : (w x y z : ℕ) → w / 2 ≡ turn_swaps n cuts.p → x / 2 ≡ turn_swaps n (n - cuts.r) → y / 2 ≡ turn_swaps n (cuts.r - cuts.q) → z / 2 ≡ turn_swaps n (cuts.q - cuts.p) →

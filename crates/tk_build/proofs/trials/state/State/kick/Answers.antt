@@ -14,14 +14,17 @@ wake_kicked-requires g c =
     ends_are_cities (order_of (tour_of c.args.self.now.tour)) _ _ _ c.args.self.now.tour.tour.tour.2 c.draw-cuts.result c.size.ensures c.draw-cuts.ensures.cuts c.ends-ends.ensures (sym c.requires.fits.1)
 
 pub returns-clause-kicked : goal.returns-clause-kicked
-returns-clause-kicked g c = (record {
-  cuts = c.draw-cuts.result;
-  are = let Are : ℕ → Type 0 = λ v. AreCuts v c.draw-cuts.result in subst Are c.size.ensures c.draw-cuts.ensures.cuts;
-  drawn = c.draw-cuts.ensures.drawn ∙ ap (λ v. drawn_cuts v (g.R.Rng.stream c.args.rng.now)) c.size.ensures;
-  bridge = c.kick.ensures.bridged;
-  swept = λ h. c.wake_kicked.ensures.swept h ∙ ap (λ v. woken_each c.args.self.now.waking.queue (one_to v)) c.requires.fits.1;
-  ends = λ h. c.wake_kicked.ensures.ends h ∙ ap (woken_each c.args.self.now.waking.queue) c.ends-ends.ensures;
-}, c.kick.ensures.swaps)
+returns-clause-kicked g c = (
+  record {
+    cuts = c.draw-cuts.result;
+    are = let Are : ℕ → Type 0 = λ v. AreCuts v c.draw-cuts.result in subst Are c.size.ensures c.draw-cuts.ensures.cuts;
+    drawn = c.draw-cuts.ensures.drawn ∙ ap (λ v. drawn_cuts v (g.R.Rng.stream c.args.rng.now)) c.size.ensures;
+    bridge = c.kick.ensures.bridged;
+    swept = λ h. c.wake_kicked.ensures.swept h ∙ ap (λ v. woken_each c.args.self.now.waking.queue (one_to v)) c.requires.fits.1;
+    ends = λ h. c.wake_kicked.ensures.ends h ∙ ap (woken_each c.args.self.now.waking.queue) c.ends-ends.ensures;
+  },
+  c.kick.ensures.swaps,
+)
 
 pub bridged_length-requires-clause-before : goal.bridged_length-requires-clause-before
 bridged_length-requires-clause-before g c =
