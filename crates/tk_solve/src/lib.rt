@@ -7,8 +7,6 @@ mod outcome;
 mod routes;
 mod search;
 mod starts;
-#[cfg(test)]
-mod tests;
 mod tour;
 mod watch;
 
