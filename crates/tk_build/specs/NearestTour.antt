@@ -2,7 +2,7 @@
 --     IsNearestTour dist n start cities      from the start on, each next city is the first of those that are left
 use Rattle.std.specs.Prelude.{◌≡◌, ℕ, ◌+◌, ◌<◌, List, length, slice_index}
 use Rattle.tk_metric.specs.Cities.{IsCity}
-use Rattle.tk_metric.specs.Near.{IsFirst, IsNew}
+use Rattle.tk_near.specs.Near.{IsFirst, IsNew}
 
 -- the city behind place j, from 0, is the first, seen from that at place j, of those that do not stand before it
 abbrev pub IsNearestAt : (ℕ → ℕ → ℕ) → ℕ → List ℕ → ℕ → Type 0

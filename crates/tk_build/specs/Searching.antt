@@ -5,7 +5,7 @@
 --     SearchRun      t trials one after another
 use Rattle.std.specs.Prelude.{◌≡◌, ℕ, ◌+◌, ◌<◌, ◌≤◌, List, [], length, pos, true, false}
 use Rattle.rand_core.specs.Stream.{Stream}
-use Rattle.tk_metric.specs.Near.{NearLists, near_of}
+use Rattle.tk_near.specs.Near.{NearLists, near_of}
 use Rattle.tk_tour.specs.ArrayTours.{order_of}
 use Rattle.tk_tour.specs.JournalTours.{slots_of}
 use Rattle.tk_tour.specs.Tour.{tour_length}

@@ -1,6 +1,6 @@
 //! The descent.
 ghost use Rattle.std.specs.Prelude.{◌≡◌, ℕ, pos, ◌+◌, ◌-◌, ◌*◌, ◌/◌, ◌≤◌, [], length};
-ghost use Rattle.tk_metric.specs.Near.{near_of};
+ghost use Rattle.tk_near.specs.Near.{near_of};
 ghost use Rattle.tk_tour.specs.Counters.{saturated};
 ghost use Rattle.tk_tour.specs.Tour.{tour_length, IsTour};
 ghost use Rattle.tk_descent.specs.Offers.{ends, EndsIn};
@@ -13,7 +13,7 @@ use crate::making::make;
 use crate::offer::Offer;
 use crate::on_tour::size;
 use crate::waking::Waking;
-use tk_metric::Near;
+use tk_near::Near;
 use tk_tour::TourStore;
 
 /// What a descent did.

@@ -1,7 +1,7 @@
 //! Gains of moves: the only way by which a descent learns distances.
 ghost use Rattle.std.specs.Prelude.{◌≡◌, ℕ, ◌+◌, ◌-◌, ◌*◌, ◌^◌, ◌≤◌, All, IfSome, length};
 ghost use Rattle.tk_metric.specs.Cities.{IsCity};
-ghost use Rattle.tk_metric.specs.Near.{near_of};
+ghost use Rattle.tk_near.specs.Near.{near_of};
 ghost use Rattle.tk_tour.specs.Counters.{saturated};
 ghost use Rattle.tk_descent.specs.Offers.{gain, offers, Searched, EndsIn};
 ghost use Rattle.tk_descent.specs.Machine.{IsOfferOn};
@@ -9,7 +9,7 @@ ghost use Rattle.tk_descent.specs.declared.offer.Offer.TheVariants.{Two, Or};
 
 use crate::listing::offers_with;
 use crate::offer::{Found, Offer};
-use tk_metric::Near;
+use tk_near::Near;
 use tk_tour::TourStore;
 
 /// Gains of moves by a table of distances, and a count of them.

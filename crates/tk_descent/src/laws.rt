@@ -1,6 +1,6 @@
 //! What the definitions of a descent say together. The functions do no work: each is a theorem, stated by its contract.
 ghost use Rattle.std.specs.Prelude.{◌≡◌, ◌+◌, ◌*◌, ◌-ℤ◌, ◌≤◌, [], length, pos};
-ghost use Rattle.tk_metric.specs.Near.{near_of};
+ghost use Rattle.tk_near.specs.Near.{near_of};
 ghost use Rattle.tk_tour.specs.Tour.{tour_length, IsSizedTour};
 ghost use Rattle.tk_descent.specs.Awake.{IsDistinct};
 ghost use Rattle.tk_descent.specs.Machine.{Run};
@@ -11,7 +11,8 @@ ghost use Rattle.tk_descent.specs.WakeMachine.{IsLocalOptimum, Wakes};
 use crate::descent::Report;
 use crate::offer::Offer;
 use crate::sweep::SweptReport;
-use tk_metric::{Metric, Near};
+use tk_metric::Metric;
+use tk_near::Near;
 
 /// A law: the gain of an offer, by four distances (2-opt) or six (Or-opt), is the length of the whole tour before its move less
 /// the length after it.

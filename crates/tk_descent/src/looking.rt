@@ -1,6 +1,6 @@
 //! A look at a city goes through its offers in order.
 ghost use Rattle.std.specs.Prelude.{◌≡◌, ◌≤◌, ◌<◌, [], ◌∷◌, length, flat_map, All, IfSome, None, ◌+◌, ◌*◌, pos, true, false};
-ghost use Rattle.tk_metric.specs.Near.{near_of};
+ghost use Rattle.tk_near.specs.Near.{near_of};
 ghost use Rattle.tk_tour.specs.Counters.{saturated};
 ghost use Rattle.tk_descent.specs.Offers.{covers, Searched, or_offer, offers, EndsIn, segment_count, first_gain, tests_to};
 ghost use Rattle.tk_descent.specs.Sharing.{IsBeside, IsPiece, piece_offers, two_margin, or_margin};
@@ -14,7 +14,8 @@ use crate::offer::{Found, Offer, Segment};
 use crate::on_tour::size;
 use crate::segments::segment_count;
 use crate::sharing::{Beside, Piece, look_beside, pieces_of};
-use tk_metric::{Metric, Near};
+use tk_metric::Metric;
+use tk_near::Near;
 use tk_tour::TourStore;
 
 /// Tests a 2-opt offer; a gain is what is left of `margin` once the step b-d is added.

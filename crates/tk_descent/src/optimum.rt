@@ -1,12 +1,13 @@
 //! Whether a tour is a local optimum.
 ghost use Rattle.std.specs.Prelude.{◌≡◌, ◌≤◌, ◌↔◌, IsTrue, length};
-ghost use Rattle.tk_metric.specs.Near.{near_of};
+ghost use Rattle.tk_near.specs.Near.{near_of};
 ghost use Rattle.tk_descent.specs.WakeMachine.{IsLocalOptimum};
 
 use crate::looking::look;
 use crate::on_tour::size;
 use crate::probe::Probe;
-use tk_metric::{Metric, Near};
+use tk_metric::Metric;
+use tk_near::Near;
 use tk_tour::TourStore;
 
 /// Whether no city has an offer with positive gain.

@@ -6,7 +6,8 @@ ghost use Rattle.tk_descent.specs.declared.offer.Offer.TheVariants.{Two, Or};
 use crate::gains::Gains;
 use crate::looking::find_offer;
 use crate::offer::Found;
-use tk_metric::{Metric, Near};
+use tk_metric::Metric;
+use tk_near::Near;
 use tk_tour::TourStore;
 
 /// The gains by a metric's distances.

@@ -1,6 +1,6 @@
 //! Descents until a tour is a local optimum.
 ghost use Rattle.std.specs.Prelude.{◌≡◌, ℕ, pos, ◌+◌, ◌-◌, ◌*◌, ◌/◌, ◌≤◌, [], length};
-ghost use Rattle.tk_metric.specs.Near.{near_of};
+ghost use Rattle.tk_near.specs.Near.{near_of};
 ghost use Rattle.tk_tour.specs.Counters.{saturated};
 ghost use Rattle.tk_tour.specs.Tour.{tour_length, IsTour};
 ghost use Rattle.tk_descent.specs.Sweeps.{Sweeps};
@@ -10,7 +10,7 @@ use crate::descent::{Report, descend};
 use crate::gains::Gains;
 use crate::on_tour::size;
 use crate::waking::Waking;
-use tk_metric::Near;
+use tk_near::Near;
 use tk_tour::TourStore;
 
 /// What several passes did together.

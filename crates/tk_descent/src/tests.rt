@@ -6,7 +6,8 @@ use super::*;
 use std::alloc::Global;
 use std::process::Abort;
 use std::test::Fail;
-use tk_metric::{Metric, Near, near_scan};
+use tk_metric::Metric;
+use tk_near::{Near, near_scan};
 use tk_tour::{ArrayTour, JournalTour, TourStore, length};
 
 /// The distances of at most five cities, in rows of five.

@@ -1,6 +1,2 @@
-pub mod Lengths
-pub mod NearLines
-pub mod ProblemTables
-pub mod RouteChecks
 pub mod RunLines
 pub mod SolveEnds

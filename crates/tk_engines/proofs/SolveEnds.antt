@@ -2,10 +2,10 @@
 use Rattle.std.proofs.Common.{◌≡◌, List, ℕ, Option, Some, None, Result, Ok, Err, refl}
 use Rattle.tk_text.specs.Problem.{ProblemIs}
 use Rattle.tk_params.specs.Asked.{ParamsAre}
-use Rattle.tk_engines.specs.Engine.{AreRead, Ends, Reading, Stopped, Writing}
+use Rattle.tk_checks.specs.Engine.{AreRead, Ends, Reading, Stopped, Writing}
 use Rattle.tk_engines.specs.Solve.{Files, Gives, IsInitial, IsInitialRefused, solve_task}
-use Rattle.tk_engines.specs.declared.fault.Fault.{Fault}
-use Rattle.tk_engines.specs.declared.fault.Fault.TheVariants as faults
+use Rattle.tk_checks.specs.declared.fault.Fault.{Fault}
+use Rattle.tk_checks.specs.declared.fault.Fault.TheVariants as faults
 
 module _ (p : ParamsAre) (Problem : Reading ProblemIs) (Second : Reading (Option (List ℕ))) (Writes : Writing Files) (problem : ProblemIs) (initial : Option (List ℕ))
     (read : AreRead (solve_task p) Problem Second problem initial) where

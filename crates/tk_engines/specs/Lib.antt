@@ -1,10 +1,10 @@
-pub mod Check
-pub mod Engine
-pub mod MatrixOf
-pub mod NearText
-pub mod RouteCheck
 pub mod Solve
 pub mod SolveLines
+pub use Rattle.tk_checks.specs.Check
+pub use Rattle.tk_checks.specs.Engine
+pub use Rattle.tk_checks.specs.MatrixOf
+pub use Rattle.tk_checks.specs.NearText
+pub use Rattle.tk_checks.specs.RouteCheck
 pub use Rattle.tk_text.specs.Problem
 pub use Rattle.tk_text.specs.Puts
 pub use Rattle.tk_text.specs.Solution

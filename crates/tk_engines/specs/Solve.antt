@@ -23,12 +23,12 @@ use Rattle.tk_solve.specs.SolvedRoutes.{AreSolved}
 use Rattle.tk_solve.specs.SolvedTours.{IsSolved}
 use Rattle.tk_solve.specs.Starts.{Begins, AtNearest, AtSavings, At, TourTask}
 use Rattle.tk_solve.specs.declared.tour.SolvedTour.{SolvedTour}
-use Rattle.tk_engines.specs.Check.{read_distance}
-use Rattle.tk_engines.specs.Engine.{Reading, Task, Writing}
-use Rattle.tk_engines.specs.RouteCheck.{instance_in}
+use Rattle.tk_checks.specs.Check.{read_distance}
+use Rattle.tk_checks.specs.Engine.{Reading, Task, Writing}
+use Rattle.tk_checks.specs.RouteCheck.{instance_in}
 use Rattle.tk_engines.specs.SolveLines.{route_lines, tour_lines}
-use Rattle.tk_engines.specs.declared.fault.Fault.{Fault}
-use Rattle.tk_engines.specs.declared.fault.Fault.TheVariants.{Initial, NoMemory, NotForType, Write}
+use Rattle.tk_checks.specs.declared.fault.Fault.{Fault}
+use Rattle.tk_checks.specs.declared.fault.Fault.TheVariants.{Initial, NoMemory, NotForType, Write}
 
 -- ---- what is given
 

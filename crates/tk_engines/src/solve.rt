@@ -6,13 +6,13 @@ ghost use Rattle.tk_tour.specs.Tour.{IsTour};
 ghost use Rattle.tk_routes.specs.Cvrps.{instance_of};
 ghost use Rattle.tk_routes.specs.RouteLists.{routes_of};
 ghost use Rattle.tk_solve.specs.SolvedTours.{IsSolved};
-ghost use Rattle.tk_engines.specs.Engine.{BeforeSecond, Ends, IsUntouched, ReadsProblem, ReadsTour, UnlessWrite};
+ghost use Rattle.tk_checks.specs.Engine.{BeforeSecond, Ends, IsUntouched, ReadsProblem, ReadsTour, UnlessWrite};
 ghost use Rattle.tk_engines.specs.Solve.{AreRoutesOf, Gives, IsTourWritten, ReadsInitial, WritesFiles, route_files, solve_task, tour_files, tour_task};
 
-use crate::fault::Fault;
 use crate::solve_given::{check_initial, cities_of, options_of, read_initial, unfit};
 use crate::solve_lines::{write_route_lines, write_tour_lines};
 use std::alloc::{AllocError, Global};
+use tk_checks::Fault;
 use tk_metric::Table;
 use tk_params::Params;
 use tk_routes::{Cvrp, RouteReport, Routes};

@@ -3,13 +3,13 @@ ghost use Rattle.std.specs.Prelude.{◌≡◌, ◌≤◌, true, false, IfOk, IfE
 ghost use Rattle.tk_text.specs.Parts.{problem_is, weights_are};
 ghost use Rattle.tk_tour.specs.Tour.{IsTour};
 ghost use Rattle.tk_solve.specs.Starts.{task_over};
-ghost use Rattle.tk_engines.specs.Check.{read_distance};
-ghost use Rattle.tk_engines.specs.Engine.{IsUntouched, ReadsTour};
+ghost use Rattle.tk_checks.specs.Check.{read_distance};
+ghost use Rattle.tk_checks.specs.Engine.{IsUntouched, ReadsTour};
 ghost use Rattle.tk_engines.specs.Solve.{IsInitial, IsInitialRefused, ReadsInitial, tour_task, unfit_key};
 
-use crate::fault::Fault;
 use std::alloc::Global;
 use tk_build::SearchRules;
+use tk_checks::Fault;
 use tk_params::{Construction, Key, Params};
 use tk_solve::{Start, TourOptions};
 use tk_text::{Problem, Source, TourText, read_tour};

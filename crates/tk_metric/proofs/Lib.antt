@@ -1,4 +1,2 @@
 pub mod ExactRoots
-pub mod Laws
-pub mod Nearest
 pub mod PlaneReads

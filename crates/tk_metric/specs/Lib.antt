@@ -2,16 +2,12 @@ pub mod Cities
 pub mod Distance
 pub mod DistanceExamples
 pub mod DistanceLaws
-pub mod Keeping
-pub mod Near
 pub mod PlaneDistance
 pub mod PlaneLaws
 pub mod PlaneOf
 pub mod Roots
 pub mod Searching
-pub mod Sweep
 pub mod Tables
-pub mod Tree
 pub mod Turned
 pub mod WeightLaws
 pub mod Weights

@@ -3,7 +3,7 @@ use Rattle.std.proofs.Common.{◌≡◌, ℕ, ◌+◌, ◌*◌, ◌≤◌, List,
 use Rattle.std.specs.Prelude.{min}
 use Rattle.std.proofs.Math.Nat.{mul-le-mul_left, mul-le-mul_right}
 use Rattle.tk_metric.specs.Cities.{IsCity}
-use Rattle.tk_metric.specs.Near.{NearLists, near_of, AreNearest, IsNear}
+use Rattle.tk_near.specs.Near.{NearLists, near_of, AreNearest, IsNear}
 use Rattle.tk_tour.specs.Tour.{SameCycle}
 use Rattle.tk_tour.proofs.Cycle.{SameCycle-trans}
 use Rattle.tk_descent.specs.Awake.{one_to, woken_each}

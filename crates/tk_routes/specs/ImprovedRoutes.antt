@@ -6,7 +6,7 @@
 --     IsImprovedPart i k m olds news      the routes before some place so improved
 use Rattle.std.specs.Prelude.{◌≡◌, ℕ, ◌+◌, ◌-◌, ◌*◌, ◌/◌, ◌≤◌, min, List, [], ◌∷◌, ◌++◌, length, map, slice_index}
 use Rattle.tk_metric.specs.Cities.{IsCity, city_at}
-use Rattle.tk_metric.specs.Near.{IsNear}
+use Rattle.tk_near.specs.Near.{IsNear}
 use Rattle.tk_tour.specs.Tour.{SameCycle}
 use Rattle.tk_descent.specs.Awake.{one_to}
 use Rattle.tk_descent.specs.Sweeps.{Pass}

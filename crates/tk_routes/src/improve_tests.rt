@@ -5,7 +5,8 @@ use crate::{Cvrp, RouteReport, improve, savings};
 use std::alloc::Global;
 use std::process::Abort;
 use std::test::Fail;
-use tk_metric::{Table, near_scan};
+use tk_metric::Table;
+use tk_near::near_scan;
 use tk_text::{FromRead, read_problem};
 
 /// The savings routes over the near lists of all other nodes become these, with this report.

@@ -1,6 +1,6 @@
 //! The first routes, by savings.
 ghost use Rattle.std.specs.Prelude.{◌≡◌, IfOk, map};
-ghost use Rattle.tk_metric.specs.Near.{near_of};
+ghost use Rattle.tk_near.specs.Near.{near_of};
 ghost use Rattle.tk_routes.specs.Cvrps.{instance_of};
 ghost use Rattle.tk_routes.specs.Instance.{customer_of};
 ghost use Rattle.tk_routes.specs.RouteLists.{instance_of_routes, routes_of};
@@ -11,7 +11,7 @@ use crate::cvrp::Cvrp;
 use crate::routes::Routes;
 use std::alloc::{AllocError, Global};
 use tk_build::savings_lists;
-use tk_metric::Near;
+use tk_near::Near;
 
 /// Puts the number of its customer in the place of each node.
 fn number_customers(depot: u32, nodes: &mut [u32])

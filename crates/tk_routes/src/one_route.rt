@@ -2,7 +2,7 @@
 ghost use Rattle.std.specs.Prelude.{◌≡◌, pos, ◌+◌, ◌*◌, ◌/◌, ◌<◌, ◌≤◌, IfOk, All, length, slice_index};
 ghost use Rattle.std.specs.List.Sorted.{IsPermutation};
 ghost use Rattle.tk_metric.specs.Cities.{IsCity};
-ghost use Rattle.tk_metric.specs.Near.{near_of};
+ghost use Rattle.tk_near.specs.Near.{near_of};
 ghost use Rattle.tk_tour.specs.ArrayTours.{order_of};
 ghost use Rattle.tk_tour.specs.Tour.{IsTour, tour_length};
 ghost use Rattle.tk_descent.specs.Awake.{one_to};
@@ -15,7 +15,8 @@ ghost use Rattle.tk_routes.specs.ImprovedRoutes.{IsImproved, IsReadOff};
 use crate::cvrp::Cvrp;
 use std::alloc::{AllocError, Global};
 use tk_descent::{Probe, Report, Waking, descend};
-use tk_metric::{Metric, Near, Sub, near_scan};
+use tk_metric::{Metric, Sub};
+use tk_near::{Near, near_scan};
 use tk_tour::{ArrayTour, length};
 
 /// The depot and the nodes of a route.

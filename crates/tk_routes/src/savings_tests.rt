@@ -4,7 +4,8 @@ use crate::{Cvrp, RouteVerdict, Routes, check_routes, savings};
 use std::alloc::Global;
 use std::process::Abort;
 use std::test::Fail;
-use tk_metric::{Table, near_scan};
+use tk_metric::Table;
+use tk_near::near_scan;
 use tk_text::{FromRead, SolText, read_problem};
 
 /// As `TWO_SIDES`, with vehicles for all.

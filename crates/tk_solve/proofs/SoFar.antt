@@ -4,7 +4,7 @@ use Rattle.std.specs.Prelude.{◌<ℤ◌, ◌≤ℤ◌}
 use Rattle.std.proofs.lemmas.Bool.{cases_lt}
 use Rattle.std.proofs.lemmas.Int.{ints}
 use Rattle.std.proofs.lemmas.List.{map-append}
-use Rattle.tk_metric.specs.Near.{NearLists}
+use Rattle.tk_near.specs.Near.{NearLists}
 use Rattle.tk_tour.specs.Tour.{IsTour, tour_length}
 use Rattle.tk_build.specs.SearchLaws.{IsFirstShortest}
 use Rattle.tk_build.specs.Searching.{Searching}

@@ -1,6 +1,6 @@
 -- What is kept of the runs so far.
 use Rattle.std.specs.Prelude.{◌≡◌, ◌≢◌, ◌<ℤ◌, ◌≤ℤ◌, ℕ, List, [], ◌∷◌, ◌++◌, pos}
-use Rattle.tk_metric.specs.Near.{NearLists}
+use Rattle.tk_near.specs.Near.{NearLists}
 use Rattle.tk_tour.specs.Tour.{tour_length}
 use Rattle.tk_build.specs.Searching.{Searching}
 use Rattle.tk_solve.specs.declared.outcome.Outcome.{Outcome}

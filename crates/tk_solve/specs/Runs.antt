@@ -8,7 +8,7 @@ use Rattle.rand_core.specs.Pcg32Seed.{pcg32_seed}
 use Rattle.rand_core.specs.Steps.{stream_of, steps_u32}
 use Rattle.rand_core.specs.Stream.{Stream}
 use Rattle.rand_pcg.specs.Pcg.{pcg32, pcg32_of_seed}
-use Rattle.tk_metric.specs.Near.{NearLists}
+use Rattle.tk_near.specs.Near.{NearLists}
 use Rattle.tk_tour.specs.Tour.{IsTour, tour_length}
 use Rattle.tk_build.specs.Searching.{Searching, IsBegun, SearchRun}
 use Rattle.tk_build.specs.SearchLaws.{IsFirstShortest}

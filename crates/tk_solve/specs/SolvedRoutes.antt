@@ -1,6 +1,6 @@
 -- What a search for routes answers.
 use Rattle.std.specs.Prelude.{◌≡◌, ℕ, ◌-◌, ◌≤◌, List, min, pos}
-use Rattle.tk_metric.specs.Near.{NearLists, AreNearest, near_of}
+use Rattle.tk_near.specs.Near.{NearLists, AreNearest, near_of}
 use Rattle.tk_routes.specs.ImprovedRoutes.{AreImproved}
 use Rattle.tk_routes.specs.Instance.{Instance}
 use Rattle.tk_routes.specs.Routes.{routes_cost}

@@ -1,6 +1,6 @@
 -- What a search for a tour answers.
 use Rattle.std.specs.Prelude.{◌≡◌, ℕ, List, length, map, pos}
-use Rattle.tk_metric.specs.Near.{NearLists}
+use Rattle.tk_near.specs.Near.{NearLists}
 use Rattle.tk_tour.specs.Printed.{IsPrintedForm}
 use Rattle.tk_tour.specs.Tour.{tour_length}
 use Rattle.tk_solve.specs.declared.tour.SolvedTour.{SolvedTour}

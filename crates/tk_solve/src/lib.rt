@@ -1,7 +1,6 @@
 //! What `solve` does between reading and writing: the runs of a search for a tour, and the routes of a routing problem.
 #![tactic(auto)]
 
-mod on_table;
 mod options;
 mod outcome;
 mod routes;

@@ -9,7 +9,8 @@ use crate::search::search_run;
 use crate::watch::Watch;
 use std::alloc::{AllocError, Global};
 use tk_build::{Search, Totals};
-use tk_metric::{Metric, Near, Table};
+use tk_metric::{Metric, Table};
+use tk_near::Near;
 use tk_tour::{ArrayTour, length};
 
 /// What a run gave.

@@ -4,9 +4,9 @@ ghost use Rattle.tk_routes.specs.RouteLists.{routes_of};
 ghost use Rattle.tk_routes.specs.Cvrps.{instance_of};
 ghost use Rattle.tk_solve.specs.SolvedRoutes.{AreSolved};
 
-use crate::on_table::near_lists;
 use crate::options::RouteOptions;
 use std::alloc::{AllocError, Global};
+use tk_near::near_lists;
 use tk_routes::{Cvrp, RouteReport, Routes, improve, savings};
 
 /// Routes of a routing problem: those of the savings merges over its near lists, each then improved by itself.

@@ -11,7 +11,8 @@ use rand_core::SeedableRng;
 use rand_pcg::Pcg32;
 use std::alloc::{AllocError, Global};
 use tk_build::Search;
-use tk_metric::{Metric, Near};
+use tk_metric::Metric;
+use tk_near::Near;
 use tk_tour::ArrayTour;
 
 /// The search of run j, from 0, after its trials.

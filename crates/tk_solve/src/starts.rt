@@ -1,16 +1,18 @@
 //! The tours that runs begin with.
 ghost use Rattle.std.specs.Prelude.{◌≡◌, ◌+◌, ◌%◌, ◌≤◌, IfOk, MatchOption, option_map};
-ghost use Rattle.tk_metric.specs.Near.{near_of};
+ghost use Rattle.tk_metric.specs.Cities.{IsCity};
 ghost use Rattle.tk_metric.specs.Tables.{table_size, table_distance};
+ghost use Rattle.tk_near.specs.Near.{near_of};
+ghost use Rattle.tk_tour.specs.Tour.{IsTour};
 ghost use Rattle.tk_tour.specs.ArrayTours.{order_of};
 ghost use Rattle.tk_build.specs.NearestTour.{IsNearestTour};
 ghost use Rattle.tk_solve.specs.Starts.{IsSavedFor, common_of};
 
-use crate::on_table::nearest_tour;
 use crate::options::Start;
 use std::alloc::{AllocError, Global};
-use tk_build::savings_tour;
-use tk_metric::{Metric, Near, Table};
+use tk_build::{nearest, nearest_tree, savings_tour};
+use tk_metric::{Metric, Table};
+use tk_near::Near;
 use tk_tour::ArrayTour;
 
 /// The savings tour of a table's cities, where runs begin with it; else no city.
@@ -41,6 +43,18 @@ pub(crate) fn common_start<'a>(start: Start<'a>, savings: &'a [u32]) -> Option<&
         Start::Nearest => None,
         Start::Savings => Some(savings),
         Start::Tour(cities) => Some(cities),
+    }
+}
+
+/// The nearest-neighbour tour of a table's cities.
+fn nearest_tour(alloc: Global, table: &Table<'_>, start: u32) -> Result<Vec<u32>, AllocError>
+    requires { IsCity (table_size table.now) start }
+    ensures nearest { IfOk result (λ v. IsNearestTour (table_distance table.now) (table_size table.now) start v.items) }
+    ensures tour { IfOk result (λ v. IsTour (table_size table.now) v.items) }
+{
+    match table {
+        Table::Planes(planes) => nearest_tree(alloc, planes, start),
+        Table::Triangle(triangle) => nearest(alloc, triangle, start),
     }
 }
 

@@ -8,13 +8,13 @@ ghost use Rattle.tk_solve.specs.Runs.{Run};
 ghost use Rattle.tk_solve.specs.SolvedTours.{IsSolved};
 ghost use Rattle.tk_solve.specs.Starts.{IsCommonStart, IsGivenTour, task_of};
 
-use crate::on_table::near_lists;
 use crate::options::TourOptions;
 use crate::outcome::{Outcome, RunReport};
 use crate::starts::{common_start, savings_start, start_of};
 use crate::watch::Watch;
 use std::alloc::{AllocError, Global};
-use tk_metric::{Metric, Near, Table};
+use tk_metric::{Metric, Table};
+use tk_near::{Near, near_lists};
 use tk_tour::{ArrayTour, length};
 
 /// What a search for a tour gave.

@@ -4,15 +4,15 @@ use Rattle.std.specs.Prelude.{slice_index, Option, Some, None, MatchOption}
 use Rattle.std.proofs.lemmas.Bool.{cases_lt}
 use Rattle.std.proofs.lemmas.List.{get_or_append_left, get_or-append_right, length-append}
 use Rattle.tk_metric.specs.Cities.{IsCity}
-use Rattle.tk_metric.specs.Near.{IsFirst, IsNew}
-use Rattle.tk_metric.specs.Sweep.{nowhere}
+use Rattle.tk_near.specs.Near.{IsFirst, IsNew}
+use Rattle.tk_near.specs.Sweep.{nowhere}
 use Rattle.tk_tour.specs.Tour.{occurrences}
 use Rattle.tk_tour.proofs.Tours.{HoldsOnce-from_distinct, length-distinct, length-whole, occurrences-index}
 use Rattle.tk_build.specs.NearestTour.{IsNearestPath, IsNearestTour}
 use Rattle.tk_build.specs.Unvisited.{IsFirstLeft, AreAllVisited, AreVisited}
-use Rattle.tk_metric.specs.Tree.{AreApart, IsOtherIn, IsTakenOut, Stands}
-use Rattle.tk_metric.proofs.Nearest.LeftLaws.{Stands-old, Stands-new, gone}
-use Rattle.tk_metric.specs.declared.near_lists.sweep.Placed.{Placed}
+use Rattle.tk_near.specs.Tree.{AreApart, IsOtherIn, IsTakenOut, Stands}
+use Rattle.tk_near.proofs.LeftLaws.{Stands-old, Stands-new, gone}
+use Rattle.tk_near.specs.declared.sweep.Placed.{Placed}
 use Rattle.tk_problem.specs.declared.point.Point.{Point}
 use Rattle.tk_build.proofs.NearestCities.NearestTours.{path_city, path_apart}
 

@@ -10,9 +10,9 @@ use Rattle.tk_metric.specs.Cities.{IsCity}
 use Rattle.tk_tour.specs.Tour.{IsTour}
 use Rattle.tk_tour.proofs.Tours.{IsTour-from_distinct}
 use Rattle.tk_build.specs.NearestTour.{IsNearestTo, IsNearestTour, IsNearestPath}
-use Rattle.tk_metric.specs.Keeping.{rank, candidate}
-use Rattle.tk_metric.proofs.Nearest.OneEach.{OneEach-swap}
-use Rattle.tk_metric.proofs.Nearest.Keeping.{closer_from_rank}
+use Rattle.tk_near.specs.Keeping.{rank, candidate}
+use Rattle.tk_near.proofs.OneEach.{OneEach-swap}
+use Rattle.tk_near.proofs.Keeping.{closer_from_rank}
 
 -- what an exchange of two places keeps of a tour
 module _ (n : ℕ) (xs : List ℕ) (a b : ℕ) (la : a < length xs) (lb : b < length xs) where

@@ -4,8 +4,8 @@ use Rattle.std.specs.Prelude.{slice_index}
 use Rattle.std.proofs.lemmas.Bool.{cases_eq}
 use Rattle.std.proofs.lemmas.List.{ext_get_or}
 use Rattle.tk_metric.specs.Cities.{IsCity}
-use Rattle.tk_metric.specs.Near.{IsFirst, IsNew}
-use Rattle.tk_metric.proofs.Laws.{IsFirst-unique}
+use Rattle.tk_near.specs.Near.{IsFirst, IsNew}
+use Rattle.tk_near.proofs.Laws.{IsFirst-unique}
 use Rattle.tk_build.specs.NearestTour.{IsNearestTour}
 
 module _ (dist : ℕ → ℕ → ℕ) (n from : ℕ) (xs ys : List ℕ) (f : IsNearestTour dist n from xs) (g : IsNearestTour dist n from ys) where

@@ -3,7 +3,7 @@ use Rattle.std.proofs.Common.{◌≡◌, ℕ, ◌+◌, ◌<◌, ◌≤◌, ⊎_e
 use Rattle.std.specs.Prelude.{◌⊎◌}
 use Rattle.std.proofs.lemmas.Int.{ints}
 use Rattle.rand_core.specs.Stream.{Stream}
-use Rattle.tk_metric.specs.Near.{NearLists}
+use Rattle.tk_near.specs.Near.{NearLists}
 use Rattle.tk_tour.specs.Tour.{tour_length}
 use Rattle.tk_build.specs.Searching.{Searching, IsBegun, IsBoundedSearch, NextTrial, first, kicked, none, SameGiven, SearchRun, begin, trial}
 use Rattle.tk_build.specs.Totals.{IsBounded, capped}

@@ -3,7 +3,7 @@ use Rattle.std.proofs.Common.{◌≡◌, ℕ, ◌+◌, ◌-◌, ◌*◌, ◌<◌
 use Rattle.std.specs.Prelude.{IsTrue}
 use Rattle.std.proofs.Math.Nat.{mul-le-mul_left}
 use Rattle.rand_core.specs.Stream.{Stream}
-use Rattle.tk_metric.specs.Near.{NearLists}
+use Rattle.tk_near.specs.Near.{NearLists}
 use Rattle.tk_tour.specs.ArrayTours.{order_of}
 use Rattle.tk_tour.specs.JournalTours.{slots_of}
 use Rattle.tk_tour.specs.Tour.{tour_length}

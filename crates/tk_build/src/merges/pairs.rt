@@ -1,12 +1,13 @@
 //! The pairs of the savings rule, in their order.
 ghost use Rattle.std.specs.Prelude.{◌≡◌, ◌≢◌, IfOk, IfSome};
 ghost use Rattle.tk_metric.specs.Cities.{IsCity};
-ghost use Rattle.tk_metric.specs.Near.{near_of};
+ghost use Rattle.tk_near.specs.Near.{near_of};
 ghost use Rattle.tk_build.specs.SavingPairs.{saving_of, AreCandidates, IsPair, IsOf};
 
 use std::alloc::{AllocError, Global};
 use std::cmp::Reverse;
-use tk_metric::{Metric, Near};
+use tk_metric::Metric;
+use tk_near::Near;
 
 /// Two cities i < j, and what is saved by going from the one to the other in place of twice to the hub.
 #[derive(Clone, Copy, PartialEq, Eq, PartialOrd, Ord, Drop)]

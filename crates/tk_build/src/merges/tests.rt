@@ -5,7 +5,8 @@ use crate::{savings_lists, savings_tour};
 use std::alloc::Global;
 use std::process::Abort;
 use std::test::Fail;
-use tk_metric::{Metric, Triangle, near_scan};
+use tk_metric::{Metric, Triangle};
+use tk_near::near_scan;
 
 /// The lists over the near lists of all other cities.
 fn lists_of(

@@ -1,14 +1,15 @@
 //! The nearest-neighbour tour by a tree of the cities that are left.
 ghost use Rattle.std.specs.Prelude.{◌≡◌, IfOk, MatchOption};
 ghost use Rattle.tk_metric.specs.Cities.{IsCity};
-ghost use Rattle.tk_metric.specs.Sweep.{IsPlaced};
-ghost use Rattle.tk_metric.specs.Tree.{AreApart, IsTakenOut, Stands};
+ghost use Rattle.tk_near.specs.Sweep.{IsPlaced};
+ghost use Rattle.tk_near.specs.Tree.{AreApart, IsTakenOut, Stands};
 ghost use Rattle.tk_tour.specs.Tour.{IsTour};
 ghost use Rattle.tk_build.specs.NearestTour.{IsNearestTour};
 ghost use Rattle.tk_build.specs.Unvisited.{AreAllVisited, IsFirstLeft};
 
 use std::alloc::{AllocError, Global};
-use tk_metric::{Left, Placed, Planar};
+use tk_metric::Planar;
+use tk_near::{Left, Placed};
 
 /// A city with its place.
 fn placed<P: Planar>(metric: &P, city: u32) -> Placed

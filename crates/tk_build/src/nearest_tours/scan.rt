@@ -1,12 +1,13 @@
 //! The nearest-neighbour tour by a scan of all cities that are left.
 ghost use Rattle.std.specs.Prelude.{◌≡◌, ℕ, ◌-◌, ◌≤◌, ◌<◌, IfOk, length, slice_index};
 ghost use Rattle.tk_metric.specs.Cities.{IsCity};
-ghost use Rattle.tk_metric.specs.Keeping.{rank, candidate};
+ghost use Rattle.tk_near.specs.Keeping.{rank, candidate};
 ghost use Rattle.tk_tour.specs.Tour.{IsTour};
 ghost use Rattle.tk_build.specs.NearestTour.{IsNearestTour, IsNearestTo};
 
 use std::alloc::{AllocError, Global};
-use tk_metric::{Metric, measure};
+use tk_metric::Metric;
+use tk_near::measure;
 
 /// The place, from j on, of the first city as seen from the one before place j.
 fn first_from<M: Metric>(metric: &M, cities: &[u32], j: usize) -> usize

@@ -1,11 +1,12 @@
 //! One descent of a search.
 ghost use Rattle.std.specs.Prelude.{◌≡◌, pos, ◌+◌, ◌-◌, ◌*◌, ◌/◌, ◌≤◌, [], length, true, false};
-ghost use Rattle.tk_metric.specs.Near.{near_of};
+ghost use Rattle.tk_near.specs.Near.{near_of};
 ghost use Rattle.tk_tour.specs.Tour.{tour_length};
 ghost use Rattle.tk_build.specs.Descents.{Descends};
 
 use tk_descent::{Probe, SweptReport, Waking, descend, descend_swept};
-use tk_metric::{Metric, Near};
+use tk_metric::Metric;
+use tk_near::Near;
 use tk_tour::TourStore;
 
 /// How a search descends.

@@ -9,7 +9,8 @@ use crate::trials::totals::{Totals, TrialReport};
 use rand_core::Rng;
 use std::alloc::{AllocError, Global};
 use tk_descent::{Report, Waking};
-use tk_metric::{Metric, Near};
+use tk_metric::Metric;
+use tk_near::Near;
 use tk_tour::{ArrayTour, JournalTour, TourStore, length};
 
 /// The report of a trial that does nothing.

@@ -2,7 +2,7 @@
 ghost use Rattle.std.specs.Prelude.{◌≡◌, pos, ◌+◌, ◌-◌, ◌*◌, ◌/◌, ◌^◌, ◌<◌, ◌≤◌, [], length, true, false, All};
 ghost use Rattle.tk_metric.specs.Cities.{IsCity};
 ghost use Rattle.tk_descent.specs.Awake.{one_to, woken_each};
-ghost use Rattle.tk_metric.specs.Near.{near_of};
+ghost use Rattle.tk_near.specs.Near.{near_of};
 ghost use Rattle.tk_tour.specs.Tour.{tour_length};
 ghost use Rattle.tk_tour.specs.ArrayTours.{order_of, swaps_of};
 ghost use Rattle.tk_tour.specs.Counters.{saturated};
@@ -20,7 +20,8 @@ use crate::trials::keeping::keep_better;
 use crate::trials::totals::{Totals, TrialReport};
 use rand_core::Rng;
 use tk_descent::{SweptReport, Waking};
-use tk_metric::{Metric, Near};
+use tk_metric::Metric;
+use tk_near::Near;
 use tk_tour::{ArrayTour, JournalTour, TourStore};
 
 /// Wakes the ends of a kick, or where all is swept all cities.

@@ -10,7 +10,8 @@ use rand_pcg::Pcg32;
 use std::alloc::Global;
 use std::process::Abort;
 use std::test::Fail;
-use tk_metric::{Metric, Near, Planes, Triangle, near_scan};
+use tk_metric::{Metric, Planes, Triangle};
+use tk_near::{Near, near_scan};
 use tk_problem::PlaneKind;
 use tk_tour::{ArrayTour, TourStore};
 

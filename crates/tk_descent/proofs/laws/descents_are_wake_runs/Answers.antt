@@ -1,4 +1,4 @@
-use Rattle.tk_metric.specs.Near.{near_of}
+use Rattle.tk_near.specs.Near.{near_of}
 use Rattle.tk_descent.proofs.MovesOnTours.Rounds.{round_of}
 use Rattle.tk_descent.proofs.WakeRuns.Kept.{run_looks}
 use Rattle.tk_descent.proofs.WakeRuns.Machines.{run_wakes}

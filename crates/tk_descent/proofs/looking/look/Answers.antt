@@ -1,5 +1,5 @@
 use Rattle.std.proofs.Common.{sym}
-use Rattle.tk_metric.specs.Near.{near_of}
+use Rattle.tk_near.specs.Near.{near_of}
 use Rattle.tk_descent.proofs.MovesOnTours.Rounds.{round_of}
 use Rattle.tk_descent.proofs.WakeRuns.Machines.{none_improves}
 use Rattle.tk_descent.proofs.looking.look.Goals as goal

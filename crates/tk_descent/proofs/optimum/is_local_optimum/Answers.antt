@@ -1,6 +1,6 @@
 use Rattle.std.proofs.Common.{◌≡◌, ◌∙◌, arith, inl, inr, subst, sym, refl, Some, false}
 use Rattle.std.proofs.lemmas.Bool.{cases_eq, both_ways}
-use Rattle.tk_metric.specs.Near.{near_of}
+use Rattle.tk_near.specs.Near.{near_of}
 use Rattle.tk_descent.specs.Offers.{first_gain, offers}
 use Rattle.tk_descent.specs.WakeMachine.{HasNoOffer}
 use Rattle.tk_descent.proofs.MovesOnTours.Rounds.{round_of}

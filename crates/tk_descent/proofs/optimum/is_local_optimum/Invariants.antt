@@ -1,5 +1,5 @@
 use Rattle.std.proofs.Common.{◌≡◌, ◌≤◌, ◌<◌, ℕ}
-use Rattle.tk_metric.specs.Near.{near_of}
+use Rattle.tk_near.specs.Near.{near_of}
 use Rattle.tk_descent.specs.WakeMachine.{HasNoOffer}
 use Rattle.tk_descent.proofs.optimum.is_local_optimum.Given as goal
 

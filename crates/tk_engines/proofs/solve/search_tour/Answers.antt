@@ -3,8 +3,8 @@ use Rattle.tk_text.specs.Parts.{weights_are}
 use Rattle.tk_metric.specs.Tables.{table_distance}
 use Rattle.tk_solve.specs.SolvedTours.{IsSolved}
 use Rattle.tk_solve.specs.Starts.{TourTask, task_over}
-use Rattle.tk_engines.specs.Check.{read_distance}
-use Rattle.tk_engines.proofs.ProblemTables.{distances_read}
+use Rattle.tk_checks.specs.Check.{read_distance}
+use Rattle.tk_checks.proofs.ProblemTables.{distances_read}
 use Rattle.tk_engines.proofs.solve.search_tour.Goals as goal
 
 pub returns : goal.returns

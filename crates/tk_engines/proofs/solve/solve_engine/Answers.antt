@@ -4,10 +4,10 @@ use Rattle.tk_text.specs.Parts.{problem_is}
 use Rattle.tk_text.specs.Problem.{ProblemIs}
 use Rattle.tk_text.specs.Puts.{Writes}
 use Rattle.tk_routes.specs.Cvrps.{instance_of}
-use Rattle.tk_engines.specs.Engine.{AreRead, IsUntouched, Reading, ReadsProblem, ReadsTour, Writing}
+use Rattle.tk_checks.specs.Engine.{AreRead, IsUntouched, Reading, ReadsProblem, ReadsTour, Writing}
 use Rattle.tk_engines.specs.Solve.{AreRoutesOf, Files, Gives, IsInitial, IsInitialRefused, IsTourWritten, ReadsInitial, WritesFiles, solve_task, unfit_key}
-use Rattle.tk_engines.specs.declared.fault.Fault.TheVariants.{NotForType}
-use Rattle.tk_engines.proofs.RouteChecks.{instance_read, unrouted}
+use Rattle.tk_checks.specs.declared.fault.Fault.TheVariants.{NotForType}
+use Rattle.tk_checks.proofs.RouteChecks.{instance_read, unrouted}
 use Rattle.tk_engines.proofs.SolveEnds.{initial_stopped, given_ends}
 use Rattle.tk_engines.proofs.solve.solve_engine.Goals as goal
 

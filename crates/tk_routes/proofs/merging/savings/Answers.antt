@@ -1,5 +1,5 @@
 use Rattle.std.proofs.Common.{ℕ, Vec, Global, ◌∙◌}
-use Rattle.tk_metric.specs.Near.{near_of}
+use Rattle.tk_near.specs.Near.{near_of}
 use Rattle.tk_routes.specs.Cvrps.{instance_of}
 use Rattle.tk_routes.proofs.Merged.{AreLight-demands, AreRoutes-merged, AreSavingsRoutes-merged, numbered_lists}
 use Rattle.tk_routes.proofs.merging.savings.Goals as goal

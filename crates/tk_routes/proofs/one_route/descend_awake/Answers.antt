@@ -1,5 +1,5 @@
 use Rattle.std.proofs.Common.{◌≡◌, ◌+◌, ◌*◌, ◌/◌, ◌≤◌, ◌∙◌, length, sym, ap, subst, ℕ}
-use Rattle.tk_metric.specs.Near.{near_of}
+use Rattle.tk_near.specs.Near.{near_of}
 use Rattle.tk_tour.specs.Tour.{IsTour}
 use Rattle.tk_tour.specs.ArrayTours.{order_of}
 use Rattle.tk_descent.specs.Awake.{one_to}

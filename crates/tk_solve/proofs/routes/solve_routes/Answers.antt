@@ -1,6 +1,6 @@
 use Rattle.std.proofs.Common.{◌≡◌, ◌∙◌, subst, rules}
 use Rattle.std.specs.Prelude.{min, ◌-◌}
-use Rattle.tk_metric.specs.Near.{AreNearest}
+use Rattle.tk_near.specs.Near.{AreNearest}
 use Rattle.tk_routes.specs.Cvrps.{instance_of}
 use Rattle.tk_solve.proofs.routes.solve_routes.Goals as goal
 

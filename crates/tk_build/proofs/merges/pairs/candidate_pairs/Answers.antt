@@ -7,7 +7,7 @@ use Rattle.std.specs.List.{Contains, AllPairs}
 use Rattle.tk_build.specs.contracts.merges.pairs.PairEq.TheImpl.Laws.{laws-law}
 use Rattle.tk_build.specs.contracts.merges.pairs.PairOrd.TheImpl.Laws.{total-law, matches_eq-law}
 use Rattle.tk_build.specs.Holding.{holds}
-use Rattle.tk_metric.specs.Near.{near_of}
+use Rattle.tk_near.specs.Near.{near_of}
 use Rattle.tk_build.specs.SavingPairs.{Before}
 use Rattle.tk_build.specs.declared.merges.pairs.Pair.{Pair}
 use Rattle.tk_build.proofs.Merging.PairsFound.{sound_more, kept, here_more, here_same, earlier_more, all_found, holds-at, Before-from_less, none_some, same_pair}

@@ -1,7 +1,7 @@
 use Rattle.std.proofs.Common.{◌≡◌, ℕ, ◌<◌, true, get_or}
 use Rattle.std.specs.List.{Contains}
 use Rattle.tk_build.specs.Holding.{holds}
-use Rattle.tk_metric.specs.Near.{near_of}
+use Rattle.tk_near.specs.Near.{near_of}
 use Rattle.tk_build.specs.SavingPairs.{IsPair, IsCandidate, IsOf}
 use Rattle.tk_build.specs.declared.merges.pairs.Pair.{Pair}
 use Rattle.tk_build.proofs.merges.pairs.candidate_pairs.Given as goal

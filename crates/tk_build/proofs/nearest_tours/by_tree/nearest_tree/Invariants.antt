@@ -1,6 +1,6 @@
 use Rattle.std.proofs.Common.{◌-◌, length}
-use Rattle.tk_metric.specs.Sweep.{IsPlaced}
-use Rattle.tk_metric.specs.Tree.{AreApart}
+use Rattle.tk_near.specs.Sweep.{IsPlaced}
+use Rattle.tk_near.specs.Tree.{AreApart}
 use Rattle.tk_build.proofs.NearestCities.NearestPaths.{IsUnderWay}
 use Rattle.tk_build.proofs.nearest_tours.by_tree.nearest_tree.Given as goal
 

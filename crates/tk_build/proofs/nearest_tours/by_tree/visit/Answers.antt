@@ -1,4 +1,4 @@
-use Rattle.tk_metric.proofs.Nearest.LeftLaws.{AreApart-taken, gone, taken_there}
+use Rattle.tk_near.proofs.LeftLaws.{AreApart-taken, gone, taken_there}
 use Rattle.tk_build.proofs.NearestCities.NearestPaths.{first_of_left}
 use Rattle.tk_build.proofs.nearest_tours.by_tree.visit.Goals as goal
 

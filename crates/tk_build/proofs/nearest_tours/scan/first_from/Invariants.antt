@@ -1,6 +1,6 @@
 use Rattle.std.proofs.Common.{◌≡◌, ℕ, ◌-◌, ◌<◌, ◌≤◌}
 use Rattle.std.specs.Prelude.{slice_index}
-use Rattle.tk_metric.specs.Keeping.{rank, candidate}
+use Rattle.tk_near.specs.Keeping.{rank, candidate}
 use Rattle.tk_build.proofs.nearest_tours.scan.first_from.Given as goal
 
 abbrev pub invariant-loop-i : goal.invariant-loop-i

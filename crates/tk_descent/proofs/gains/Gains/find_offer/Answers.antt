@@ -1,5 +1,5 @@
 use Rattle.std.proofs.Common.{◌∙◌, length, ap, flat_map, arith, sym}
-use Rattle.tk_metric.specs.Near.{near_of}
+use Rattle.tk_near.specs.Near.{near_of}
 use Rattle.tk_tour.specs.Tour.{next_city, prev_city}
 use Rattle.tk_descent.specs.Offers.{segments, offers_with, first_gain, offers}
 use Rattle.tk_descent.proofs.OfferLists.Searching.{Searched-more, Searched-early, at_table, on_list}

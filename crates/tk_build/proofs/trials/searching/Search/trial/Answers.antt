@@ -10,7 +10,7 @@ use Rattle.tk_descent.proofs.WakeRuns.Woken.{one_to-length}
 use Rattle.tk_build.specs.Totals.{AddsTrial, SettlesTrial}
 use Rattle.tk_build.specs.declared.double_bridges.cuts.Cuts.{Cuts}
 use Rattle.tk_build.specs.Trials.{gain_of, IsTrial, IsBoundedTrial}
-use Rattle.tk_metric.specs.Near.{near_of}
+use Rattle.tk_near.specs.Near.{near_of}
 use Rattle.rand_core.specs.Stream.{Stream}
 use Rattle.tk_build.specs.declared.trials.totals.Totals.{Totals}
 use Rattle.tk_build.proofs.SearchTrials.Searches.{few_ends, kick_at, more_awake, same_best, searches_first, searches_kicked, shorter_best, trial_at}

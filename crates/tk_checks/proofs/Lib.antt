@@ -1,0 +1,4 @@
+pub mod Lengths
+pub mod NearLines
+pub mod ProblemTables
+pub mod RouteChecks

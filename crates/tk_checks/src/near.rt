@@ -1,0 +1,149 @@
+//! The near lists of a problem.
+ghost use Rattle.std.specs.Prelude.{◌≡◌, ◌≤◌, true, OnErr, IfOk, IfErr};
+ghost use Rattle.tk_text.specs.Parts.{problem_is};
+ghost use Rattle.tk_text.specs.Pens.{Puts};
+ghost use Rattle.tk_text.specs.Puts.{Writes};
+ghost use Rattle.tk_checks.specs.Engine.{Ends, ReadsProblem, NoText, IsUntouched, UnlessWrite, AtWrite};
+ghost use Rattle.tk_checks.specs.NearText.{IsNearOf, near_task, near_text};
+
+use crate::fault::Fault;
+use std::alloc::{AllocError, Global};
+use tk_metric::Table;
+use tk_near::{Near, near_lists};
+use tk_text::{Pen, Problem, Sink, Source, WriteFault, read_problem};
+
+/// The near lists of a problem: k cities each, or all others where there are fewer.
+fn lists_of(alloc: Global, problem: &Problem, k: u32) -> Result<Near, AllocError>
+    requires low { 1 ≤ k }
+    requires limit { k ≤ 100 }
+    ensures { IfOk result (λ v. IsNearOf (problem_is problem.now) k v) }
+{
+    near_lists(alloc, &Table::of(problem), k.min(problem.n - 1))
+}
+
+/// Writes the list of each city on a line.
+fn put_lists<W: Sink>(pen: &mut Pen<'_, W>, near: &Near)
+    ensures { Puts W.taken W.broken pen.old pen.new (near_text near.now) }
+{
+    for city in 1..near.size() + 1 {
+        pen.put_number(city as u64);
+        pen.put(b": ");
+        pen.put_spaced(near.of(city));
+        pen.put(b"\n");
+    }
+}
+
+/// Writes the lists of all cities.
+fn write_lists<W: Sink>(out: &mut W, near: &Near) -> Result<(), WriteFault>
+    requires few { near.now.size ≤ 100000 }
+    requires narrow { near.now.width ≤ 100 }
+    ensures text { Writes W.taken W.broken out.old out.new result (near_text near.now) }
+    ensures failed { OnErr result (W.broken out.new ≡ true) }
+{
+    let mut pen = Pen::new(out);
+    put_lists(&mut pen, near);
+    pen.end()
+}
+
+/// Writes the near list of each city of a problem: the k nearest others, 1 to 100, or all of them where there are fewer.
+///
+/// The whole text is read before a byte is written.
+///
+/// # Errors
+/// The fault of the text, of writing, or of memory.
+pub fn near_engine<R: Source, W: Sink>(
+    alloc: Global,
+    problem: &mut R,
+    k: u32,
+    out: &mut W,
+) -> Result<(), Fault>
+    requires low { 1 ≤ k }
+    requires limit { k ≤ 100 }
+    ensures ends { Ends (near_task k) (ReadsProblem R.left R.broken problem.old problem.new) NoText (Writes W.taken W.broken out.old out.new) result }
+    ensures quiet { IfErr result (UnlessWrite (IsUntouched W.taken W.broken out.old out.new)) }
+    ensures failed { IfErr result (AtWrite (W.broken out.new ≡ true)) }
+{
+    let problem = match read_problem(alloc, problem) {
+        Ok(problem) => problem,
+        Err(fault) => return Err(Fault::Problem(fault)),
+    };
+    let Ok(near) = lists_of(alloc, &problem, k) else {
+        return Err(Fault::NoMemory);
+    };
+    match write_lists(out, &near) {
+        Ok(()) => Ok(()),
+        Err(fault) => Err(Fault::Write(fault)),
+    }
+}
+
+#[cfg(test)]
+mod tests {
+    use super::*;
+    use std::process::Abort;
+    use tk_text::{FromRead, TextFault, TextKind, ToWrite};
+
+    const SQUARE: &[u8] =
+        b"NAME : p\nTYPE : TSP\nDIMENSION : 4\nEDGE_WEIGHT_TYPE : EUC_2D\nNODE_COORD_SECTION\n1 0 0\n2 10 10\n3 10 0\n4 0 10\nEOF\n";
+
+    const LISTED: &[u8] =
+        b"TYPE : TSP\nDIMENSION : 3\nEDGE_WEIGHT_TYPE : EXPLICIT\nEDGE_WEIGHT_FORMAT : UPPER_ROW\nEDGE_WEIGHT_SECTION\n5 1 2\nEOF\n";
+
+    /// What the engine answers and what it writes.
+    fn lists(alloc: Global, problem: &[u8], k: u32) -> (Result<(), Fault>, Vec<u8>)
+        requires low { 1 ≤ k }
+        requires limit { k ≤ 100 }
+    {
+        let mut problem = FromRead::new(problem);
+        let mut out = ToWrite::new(Vec::new(alloc));
+        let answer = near_engine(alloc, &mut problem, k, &mut out);
+        (answer, out.inner)
+    }
+
+    /// The engine writes these lists.
+    fn expect_lists(rt: &impl Abort, alloc: Global, problem: &[u8], k: u32, want: &[u8])
+        requires low { 1 ≤ k }
+        requires limit { k ≤ 100 }
+    {
+        let (answer, text) = lists(alloc, problem, k);
+        assert_eq!(rt; answer, Ok(()));
+        assert_eq!(rt; text.as_slice(), want);
+    }
+
+    #[test]
+    fn writes_known_lists(rt: HostRuntime) {
+        expect_lists(
+            &rt,
+            rt.alloc(),
+            SQUARE,
+            2,
+            b"1: 3 4\n2: 3 4\n3: 1 2\n4: 1 2\n",
+        );
+        expect_lists(&rt, rt.alloc(), LISTED, 1, b"1: 3\n2: 3\n3: 1\n");
+    }
+
+    #[test]
+    fn has_no_more_than_all_others(rt: HostRuntime) {
+        expect_lists(&rt, rt.alloc(), LISTED, 100, b"1: 3 2\n2: 3 1\n3: 1 2\n");
+    }
+
+    #[test]
+    fn writes_nothing_on_a_faulty_text(rt: HostRuntime) {
+        let (answer, text) = lists(rt.alloc(), b"TYPE : ATSP\n", 5);
+        let fault = TextFault {
+            line: 1,
+            kind: TextKind::Unsupported,
+        };
+        assert_eq!(rt; answer, Err(Fault::Problem(fault)));
+        assert!(rt; text.is_empty());
+    }
+
+    #[test]
+    fn says_how_much_of_the_lists_went_out(rt: HostRuntime) {
+        let mut problem = FromRead::new(SQUARE);
+        let mut room = [0; 9];
+        let mut out = ToWrite::new(room.as_mut_slice());
+        let answer = near_engine(rt.alloc(), &mut problem, 2, &mut out);
+        assert_eq!(rt; answer, Err(Fault::Write(WriteFault { written: 9 })));
+        assert!(rt; out.failed());
+    }
+}

@@ -1,0 +1,4 @@
+pub mod Keeping
+pub mod Near
+pub mod Sweep
+pub mod Tree

@@ -1,0 +1,116 @@
+//! Near lists: for each city the first others by (distance, number).
+ghost use Rattle.std.specs.Prelude.{◌≡◌, ℕ, ◌*◌, ◌≤◌, ◌<◌, IfOk, All, length, ⊤};
+ghost use Rattle.tk_metric.specs.Cities.{IsCity};
+ghost use Rattle.tk_near.specs.Near.{IsNear, IsOther, AreNearest, near_of};
+ghost use Rattle.tk_near.specs.Keeping.{AreFilled, cities_of};
+
+use crate::keep::{Candidate, OPEN, keep, measure, write_cities};
+use std::alloc::{AllocError, Global};
+use std::marker::Model;
+use tk_metric::Metric;
+
+/// The near lists of the cities 1 to `size`, `width` entries for each: the list of a city has its nearest others.
+#[derive(Drop)]
+pub struct Near {
+    size: u32,
+    width: u32,
+    entries: Vec<u32>,
+}
+
+impl Model for Near {
+    ghost use Rattle.tk_near.specs.Near.{NearLists, HasOthers};
+
+    ghost Value = { NearLists };
+
+    ghost view = { λ v. record { size = v.size; width = v.width; entries = v.entries.items } };
+
+    ghost invariant = { λ v. HasOthers (record { size = v.size; width = v.width; entries = v.entries.items }) };
+}
+
+impl Near {
+    /// The lists once those of all cities are filled.
+    pub(crate) fn from_filled<M: Metric>(m: &M, k: u32, entries: Vec<u32>) -> Near
+        requires limit { k ≤ 100 }
+        requires filled { AreFilled (M.distance m.now) (M.size_of m.now) k (λ _. ⊤) entries.items }
+        ensures size { result.size ≡ M.size_of m.now }
+        ensures width { result.width ≡ k }
+        ensures near { AreNearest (M.distance m.now) result }
+    {
+        Near {
+            size: m.size(),
+            width: k,
+            entries,
+        }
+    }
+
+    /// How many cities there are.
+    pub fn size(&self) -> u32
+        ensures value { result ≡ self.now.size }
+        ensures limit { result ≤ 100000 }
+    {
+        self.size
+    }
+
+    /// How many entries each list has.
+    pub fn width(&self) -> u32
+        ensures value { result ≡ self.now.width }
+        ensures stored { length self.now.entries ≡ self.now.size * self.now.width }
+        ensures limit { result ≤ 100 }
+    {
+        self.width
+    }
+
+    /// The near list of a city.
+    pub fn of(&self, c: u32) -> &[u32]
+        requires { IsCity self.now.size c }
+        ensures value { result.now ≡ near_of self.now c }
+        ensures count { length result.now ≡ self.now.width }
+        ensures others { All (IsOther self.now.size c) result.now }
+    {
+        let width = self.width as usize;
+        let from = (c as usize - 1) * width;
+        &self.entries[from..from + width]
+    }
+}
+
+/// The first of the cities other than c, as many as there is room for.
+fn scan_city<M: Metric>(m: &M, c: u32, kept: &mut [Candidate])
+    requires city { IsCity (M.size_of m.now) c }
+    requires low { 1 ≤ length kept.old }
+    requires high { length kept.old < M.size_of m.now }
+    ensures size { length kept.new ≡ length kept.old }
+    ensures near { IsNear (M.distance m.now) (M.size_of m.now) (length kept.old) c (cities_of kept.new) }
+{
+    kept.fill(OPEN);
+    for b in 1..m.size() + 1 {
+        if b != c {
+            keep(kept, measure(m, c, b));
+        }
+    }
+}
+
+/// The near lists by a scan of all cities for each.
+pub fn near_scan<M: Metric>(alloc: Global, m: &M, k: u32) -> Result<Near, AllocError>
+    requires low { 1 ≤ k }
+    requires limit { k ≤ 100 }
+    requires high { k < M.size_of m.now }
+    ensures size { IfOk result (λ v. v.size ≡ M.size_of m.now) }
+    ensures width { IfOk result (λ v. v.width ≡ k) }
+    ensures near { IfOk result (λ v. AreNearest (M.distance m.now) v) }
+{
+    let width = k as usize;
+    let mut kept = vec![in alloc; OPEN; width]?;
+    let mut entries = vec![in alloc; 0u32; m.size() as usize * width]?;
+    for c in 1..m.size() + 1 {
+        scan_city(m, c, &mut kept);
+        write_cities(&mut entries, c, &kept);
+    }
+    Ok(Near::from_filled(m, k, entries))
+}
+
+/// A law: two near lists of one city are equal.
+pub fn near_lists_agree<M: Metric>(m: &M, c: u32, k: u32, xs: &[u32], ys: &[u32])
+    requires first { IsNear (M.distance m.now) (M.size_of m.now) k c xs.now }
+    requires second { IsNear (M.distance m.now) (M.size_of m.now) k c ys.now }
+    ensures { xs.now ≡ ys.now }
+{}
