@@ -1,10 +1,13 @@
 -- What `solve` is given, does and writes.
 --     solve_task p      the task of parameters
---     ReadsInitial given Reads      the tour to begin with is read where the parameters name one
+--     ReadsInitial given      the tour to begin with is read where the parameters name one
 --     WritesFiles      `file` is written before `out`
+--     AreUntouched      both are as before
+--     HasFailed      a write to one of them failed
 use Rattle.std.specs.Prelude.{◌≡◌, ℕ, ◌⊎◌, Bool, true, false, List, length, Option, Some, None, MatchOption, Result, Ok, Err, is_none, is_some, option_map, unwrap_or, if◌then◌else◌}
 use Rattle.std.specs.Int.RustNames.{unsigned_abs}
 use Rattle.tk_text.specs.Problem.{ProblemIs, RoutingIs}
+use Rattle.tk_text.specs.Puts.{Writes}
 use Rattle.tk_text.specs.SolutionWritten.{solution_text}
 use Rattle.tk_text.specs.TourWritten.{tour_text}
 use Rattle.tk_text.specs.declared.WriteFault.{WriteFault}
@@ -20,11 +23,11 @@ use Rattle.tk_params.specs.declared.value.Construction.TheVariants.{Nearest, Sav
 use Rattle.tk_routes.specs.Instance.{Instance}
 use Rattle.tk_routes.specs.declared.route_report.RouteReport.{RouteReport}
 use Rattle.tk_solve.specs.SolvedRoutes.{AreSolved}
-use Rattle.tk_solve.specs.SolvedTours.{IsSolved}
+use Rattle.tk_solve.specs.SolvedTours.{IsSolved, IsSound}
 use Rattle.tk_solve.specs.Starts.{Begins, AtNearest, AtSavings, At, TourTask}
 use Rattle.tk_solve.specs.declared.tour.SolvedTour.{SolvedTour}
 use Rattle.tk_checks.specs.Check.{read_distance}
-use Rattle.tk_checks.specs.Engine.{Reading, Task, Writing}
+use Rattle.tk_checks.specs.Engine.{IsUntouched, Reading, ReadsTour, Task, Writing}
 use Rattle.tk_checks.specs.RouteCheck.{instance_in}
 use Rattle.tk_engines.specs.SolveLines.{route_lines, tour_lines}
 use Rattle.tk_checks.specs.declared.fault.Fault.{Fault}
@@ -38,11 +41,11 @@ unfit_key p problem =
     if is_none problem.routing then (if is_some p.solution_file then Some keys.SolutionFile else None)
     else (if is_some p.tour_file then Some keys.TourFile else (if is_some p.initial_tour_file then Some keys.InitialTourFile else None))
 
--- the tour to begin with is read where the parameters name a file of one
-abbrev pub ReadsInitial : Bool → Reading (List ℕ) → Reading (Option (List ℕ))
-ReadsInitial given Reads (Ok None) = given ≡ false
-ReadsInitial given Reads (Ok (Some cities)) = (given ≡ true) × Reads (Ok cities)
-ReadsInitial given Reads (Err f) = (given ≡ true) × Reads (Err f)
+-- the tour to begin with is read where the parameters name a file of one; else its source is untouched
+abbrev pub ReadsInitial : {S : Type 0} → Bool → (S → Option (List ℕ)) → (S → Bool) → S → S → Reading (Option (List ℕ))
+ReadsInitial given left broken old new (Ok None) = (given ≡ false) × IsUntouched left broken old new
+ReadsInitial given left broken old new (Ok (Some cities)) = (given ≡ true) × ReadsTour left broken old new (Ok cities)
+ReadsInitial given left broken old new (Err f) = (given ≡ true) × ReadsTour left broken old new (Err f)
 
 -- the fault of a tour to begin with
 abbrev pub initial_fault : Verdict → Option Fault
@@ -96,6 +99,7 @@ tour_files p name solved = record { file = tour_text name (unsigned_abs solved.l
 pub record IsTourWritten (p : ParamsAre) (problem : ProblemIs) (initial : Option (List ℕ)) (files : Files) : Type 0 where
   pub solved : SolvedTour
   pub is : IsSolved (tour_task p problem initial) solved
+  pub sound : IsSound (tour_task p problem initial) solved
   pub written : files ≡ tour_files p problem.name solved
 
 -- the text of routes, and the lines on them
@@ -119,10 +123,23 @@ solve_task p =
       Gives = λ problem initial _ files. MatchOption problem.routing (IsTourWritten p problem initial files) (λ r. AreRoutesOf p (instance_in problem r) files);
     }
 
--- `file` is written before `out`: where `file` breaks off, `out` is untouched
-abbrev pub WritesFiles : Writing (List ℕ) → Type 0 → Writing (List ℕ) → Writing Files
-WritesFiles File Untouched Out (Ok _) files = File (Ok tt) files.file × Out (Ok tt) files.out
-WritesFiles File Untouched Out (Err f) files = (File (Err f) files.file × Untouched) ⊎ (File (Ok tt) files.file × Out (Err f) files.out)
+-- the two sinks of the files: their types, and what each has taken and whether a write to it has failed
+module _ {F W : Type 0} (file_taken : F → Option (List ℕ)) (file_broken : F → Bool) (out_taken : W → Option (List ℕ)) (out_broken : W → Bool)
+    (file file' : F) (out out' : W) where
+  -- `file` is written before `out`: where `file` breaks off, `out` is untouched
+  abbrev pub WritesFiles : Writing Files
+  WritesFiles (Ok _) files = Writes file_taken file_broken file file' (Ok tt) files.file × Writes out_taken out_broken out out' (Ok tt) files.out
+  WritesFiles (Err f) files =
+      (Writes file_taken file_broken file file' (Err f) files.file × IsUntouched out_taken out_broken out out')
+      ⊎ (Writes file_taken file_broken file file' (Ok tt) files.file × Writes out_taken out_broken out out' (Err f) files.out)
+
+  -- neither has taken a byte
+  abbrev pub AreUntouched : Type 0
+  AreUntouched = IsUntouched file_taken file_broken file file' × IsUntouched out_taken out_broken out out'
+
+-- a write to one of two sinks failed
+abbrev pub HasFailed : Bool → Bool → Type 0
+HasFailed file out = (file ≡ true) ⊎ (out ≡ true)
 
 -- a tour to begin with is refused with this fault, or there is no memory to check it
 abbrev pub IsInitialRefused : ProblemIs → Option (List ℕ) → Fault → Type 0

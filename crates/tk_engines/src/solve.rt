@@ -1,13 +1,12 @@
 //! The search for a tour or for routes.
 ghost use Rattle.std.specs.Prelude.{◌≡◌, ◌≤ℤ◌, pos, IfOk, IfErr, MatchOption, is_some, option_map};
 ghost use Rattle.tk_text.specs.Parts.{problem_is};
-ghost use Rattle.tk_text.specs.Puts.{Writes};
 ghost use Rattle.tk_tour.specs.Tour.{IsTour};
 ghost use Rattle.tk_routes.specs.Cvrps.{instance_of};
 ghost use Rattle.tk_routes.specs.RouteLists.{routes_of};
-ghost use Rattle.tk_solve.specs.SolvedTours.{IsSolved};
-ghost use Rattle.tk_checks.specs.Engine.{BeforeSecond, Ends, IsUntouched, ReadsProblem, ReadsTour, UnlessWrite};
-ghost use Rattle.tk_engines.specs.Solve.{AreRoutesOf, Gives, IsTourWritten, ReadsInitial, WritesFiles, route_files, solve_task, tour_files, tour_task};
+ghost use Rattle.tk_solve.specs.SolvedTours.{IsSolved, IsSound};
+ghost use Rattle.tk_checks.specs.Engine.{BeforeSecond, Ends, IsUntouched, ReadsProblem, UnlessWrite};
+ghost use Rattle.tk_engines.specs.Solve.{AreRoutesOf, AreUntouched, Gives, IsTourWritten, ReadsInitial, WritesFiles, route_files, solve_task, tour_files, tour_task};
 
 use crate::solve_given::{check_initial, cities_of, options_of, read_initial, unfit};
 use crate::solve_lines::{write_route_lines, write_tour_lines};
@@ -28,7 +27,8 @@ fn search_tour<V: Watch>(
     watch: &mut V,
 ) -> Result<SolvedTour, AllocError>
     requires { MatchOption initial (Unit {0}) (λ c. IsTour problem.now.n c.now) }
-    ensures { IfOk result (IsSolved (tour_task params.now (problem_is problem.now) (option_map (λ c. c.now) initial.entry))) }
+    ensures solved { IfOk result (IsSolved (tour_task params.now (problem_is problem.now) (option_map (λ c. c.now) initial.entry))) }
+    ensures sound { IfOk result (IsSound (tour_task params.now (problem_is problem.now) (option_map (λ c. c.now) initial.entry))) }
 {
     let options = options_of(params, problem, initial);
     solve_tour(alloc, &Table::of(problem), &options, watch)
@@ -43,8 +43,7 @@ fn write_tour_files<F: Sink, W: Sink>(
     solved: &SolvedTour,
 ) -> Result<(), WriteFault>
     requires { pos 0 ≤ℤ solved.now.length }
-    ensures { WritesFiles (Writes F.taken F.broken file.old file.new) (IsUntouched W.taken W.broken out.old out.new) (Writes W.taken W.broken out.old out.new)
-        result (tour_files params.now (problem_is problem.now).name solved.now) }
+    ensures { WritesFiles F.taken F.broken W.taken W.broken file.old file.new out.old out.new result (tour_files params.now (problem_is problem.now).name solved.now) }
 {
     write_tour(file, &problem.name, solved.length, &solved.cities)?;
     write_tour_lines(out, params.ignored(), solved)
@@ -59,8 +58,7 @@ fn write_route_files<F: Sink, W: Sink>(
     report: &RouteReport,
 ) -> Result<(), WriteFault>
     requires { pos 0 ≤ℤ report.now.after }
-    ensures { WritesFiles (Writes F.taken F.broken file.old file.new) (IsUntouched W.taken W.broken out.old out.new) (Writes W.taken W.broken out.old out.new)
-        result (route_files params.now (routes_of routes.now) report.now) }
+    ensures { WritesFiles F.taken F.broken W.taken W.broken file.old file.new out.old out.new result (route_files params.now (routes_of routes.now) report.now) }
 {
     write_solution(file, routes.lists(), report.after)?;
     write_route_lines(out, params.ignored(), routes.lists().len() as u64, report)
@@ -78,8 +76,8 @@ fn solve_tsp<F: Sink, W: Sink, V: Watch>(
 ) -> Result<(), Fault>
     requires { MatchOption initial (Unit {0}) (λ c. IsTour problem.now.n c.now) }
     ensures { Gives (IsTourWritten params.now (problem_is problem.now) (option_map (λ c. c.now) initial.entry))
-        (WritesFiles (Writes F.taken F.broken file.old file.new) (IsUntouched W.taken W.broken out.old out.new) (Writes W.taken W.broken out.old out.new))
-        (IsUntouched F.taken F.broken file.old file.new × IsUntouched W.taken W.broken out.old out.new) result }
+        (WritesFiles F.taken F.broken W.taken W.broken file.old file.new out.old out.new)
+        (AreUntouched F.taken F.broken W.taken W.broken file.old file.new out.old out.new) result }
 {
     let Ok(solved) = search_tour(alloc, params, problem, initial, watch) else {
         return Err(Fault::NoMemory);
@@ -99,8 +97,8 @@ fn solve_cvrp<F: Sink, W: Sink>(
     out: &mut W,
 ) -> Result<(), Fault>
     ensures { Gives (AreRoutesOf params.now (instance_of cvrp.now))
-        (WritesFiles (Writes F.taken F.broken file.old file.new) (IsUntouched W.taken W.broken out.old out.new) (Writes W.taken W.broken out.old out.new))
-        (IsUntouched F.taken F.broken file.old file.new × IsUntouched W.taken W.broken out.old out.new) result }
+        (WritesFiles F.taken F.broken W.taken W.broken file.old file.new out.old out.new)
+        (AreUntouched F.taken F.broken W.taken W.broken file.old file.new out.old out.new) result }
 {
     let options = RouteOptions {
         candidates: params.max_candidates(),
@@ -134,9 +132,9 @@ pub fn solve_engine<P: Source, I: Source, F: Sink, W: Sink, V: Watch>(
     watch: &mut V,
 ) -> Result<(), Fault>
     ensures ends { Ends (solve_task params.now) (ReadsProblem P.left P.broken problem.old problem.new)
-        (ReadsInitial (is_some params.now.initial_tour_file) (ReadsTour I.left I.broken initial.old initial.new))
-        (WritesFiles (Writes F.taken F.broken file.old file.new) (IsUntouched W.taken W.broken out.old out.new) (Writes W.taken W.broken out.old out.new)) result }
-    ensures quiet { IfErr result (UnlessWrite (IsUntouched F.taken F.broken file.old file.new × IsUntouched W.taken W.broken out.old out.new)) }
+        (ReadsInitial (is_some params.now.initial_tour_file) I.left I.broken initial.old initial.new)
+        (WritesFiles F.taken F.broken W.taken W.broken file.old file.new out.old out.new) result }
+    ensures quiet { IfErr result (UnlessWrite (AreUntouched F.taken F.broken W.taken W.broken file.old file.new out.old out.new)) }
     ensures unread { IfErr result (BeforeSecond (IsUntouched I.left I.broken initial.old initial.new)) }
 {
     let problem = match read_problem(alloc, problem) {
@@ -148,10 +146,7 @@ pub fn solve_engine<P: Source, I: Source, F: Sink, W: Sink, V: Watch>(
     }
     let tour = read_initial(alloc, params.initial_tour_file().is_some(), initial)?;
     let cities = cities_of(&tour);
-    match check_initial(alloc, &problem, cities) {
-        Ok(()) => {}
-        Err(fault) => return Err(fault),
-    }
+    check_initial(alloc, &problem, cities)?;
     match Cvrp::of(&problem) {
         Some(cvrp) => solve_cvrp(alloc, params, &cvrp, file, out),
         None => solve_tsp(alloc, params, &problem, cities, file, out, watch),

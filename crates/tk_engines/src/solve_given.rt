@@ -4,7 +4,6 @@ ghost use Rattle.tk_text.specs.Parts.{problem_is, weights_are};
 ghost use Rattle.tk_tour.specs.Tour.{IsTour};
 ghost use Rattle.tk_solve.specs.Starts.{task_over};
 ghost use Rattle.tk_checks.specs.Check.{read_distance};
-ghost use Rattle.tk_checks.specs.Engine.{IsUntouched, ReadsTour};
 ghost use Rattle.tk_engines.specs.Solve.{IsInitial, IsInitialRefused, ReadsInitial, tour_task, unfit_key};
 
 use std::alloc::Global;
@@ -40,8 +39,8 @@ pub(crate) fn read_initial<I: Source>(
     given: bool,
     initial: &mut I,
 ) -> Result<Option<TourText>, Fault>
-    ensures ok { IfOk result (λ tour. ReadsInitial given (ReadsTour I.left I.broken initial.old initial.new) (Ok (option_map (λ t. t.cities.items) tour))) }
-    ensures err { IfErr result (λ f. ReadsInitial given (ReadsTour I.left I.broken initial.old initial.new) (Err f)) }
+    ensures ok { IfOk result (λ tour. ReadsInitial given I.left I.broken initial.old initial.new (Ok (option_map (λ t. t.cities.items) tour))) }
+    ensures err { IfErr result (λ f. ReadsInitial given I.left I.broken initial.old initial.new (Err f)) }
 {
     if !given {
         return Ok(None);

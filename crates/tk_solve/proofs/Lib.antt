@@ -2,3 +2,4 @@ pub mod Both
 pub mod Cities
 pub mod FirstShortest
 pub mod SoFar
+pub mod Sound

@@ -85,7 +85,7 @@ pub run_added : (task : TourTask) (near : NearLists) (j : ℕ) (start : List ℕ
     (runs : List Run) → length runs ≡ j → AreKept task near runs old → (run : Run) × AreKept task near (runs ++ run ∷ []) new
 run_added task near j start ended begins searched tour old new taken runs count kept =
     let run : Run = record { start = start; best = ended.best; totals = ended.totals } in
-    let is : IsRun task near j run = record { start = begins; ended = ended; searched = searched; best = refl; totals = refl } in
+    let is : IsRun task near j run = record { start = begins; tour = tour; ended = ended; searched = searched; best = refl; totals = refl } in
     let at : IsRun task near (length runs) run = subst (λ k. IsRun task near k run) (sym count) is in
     let noted : IsNoted task run old.reports.items old.cities.items old.shortest new.cities.items new.shortest = record {
       first = taken.first;

@@ -36,6 +36,7 @@ pub record IsSearched (task : TourTask) (near : NearLists) (j : ℕ) (start : Li
 -- run j, from 0
 pub record IsRun (task : TourTask) (near : NearLists) (j : ℕ) (run : Run) : Type 0 where
   pub start : IsStart task near j run.start
+  pub tour : IsTour task.size run.start
   pub ended : Searching
   pub searched : IsSearched task near j run.start ended
   pub best : run.best ≡ ended.best

@@ -1,10 +1,15 @@
 -- What a search for a tour answers.
-use Rattle.std.specs.Prelude.{◌≡◌, ℕ, List, length, map, pos}
+--     IsSolved task solved      the best tour of the runs, and a report of each
+--     IsSound task solved      what follows for the tour and the reports, whatever the runs were
+use Rattle.std.specs.Prelude.{◌≡◌, ◌≤ℤ◌, ℕ, ◌-◌, List, All, length, map, min, pos}
+use Rattle.std.specs.Int.RustNames.{unsigned_abs}
 use Rattle.tk_near.specs.Near.{NearLists}
 use Rattle.tk_tour.specs.Printed.{IsPrintedForm}
-use Rattle.tk_tour.specs.Tour.{tour_length}
-use Rattle.tk_solve.specs.declared.tour.SolvedTour.{SolvedTour}
+use Rattle.tk_tour.specs.Tour.{IsTour, tour_length}
 use Rattle.tk_build.specs.SearchLaws.{IsFirstShortest}
+use Rattle.tk_build.specs.Totals.{IsBounded}
+use Rattle.tk_solve.specs.declared.outcome.RunReport.{RunReport}
+use Rattle.tk_solve.specs.declared.tour.SolvedTour.{SolvedTour}
 use Rattle.tk_solve.specs.Runs.{Run, AreRuns, best_tours, report_of}
 use Rattle.tk_solve.specs.Starts.{TourTask, AreCandidates}
 
@@ -20,3 +25,14 @@ pub record IsSolved (task : TourTask) (solved : SolvedTour) : Type 0 where
   pub first : IsFirstShortest task.distance (best_tours runs) winner
   pub printed : IsPrintedForm winner solved.cities.items
   pub length_is : solved.length ≡ pos (tour_length task.distance solved.cities.items)
+
+-- the work of a run is bounded, and its best tour is not longer than its start
+abbrev pub IsBoundedReport : TourTask → RunReport → Type 0
+IsBoundedReport task report = IsBounded task.size (min task.candidates (task.size - 1)) task.rules (unsigned_abs report.best) report.totals
+
+-- a tour of the cities, which is as short as the best of each run, and not longer than any start; and the work of each run is bounded
+pub record IsSound (task : TourTask) (solved : SolvedTour) : Type 0 where
+  pub tour : IsTour task.size solved.cities.items
+  pub least : All (λ r. solved.length ≤ℤ r.best) solved.runs.items
+  pub starts : All (λ r. solved.length ≤ℤ r.totals.start) solved.runs.items
+  pub bounded : All (IsBoundedReport task) solved.runs.items

@@ -5,7 +5,7 @@ ghost use Rattle.tk_tour.specs.Printed.{IsPrintedForm};
 ghost use Rattle.tk_tour.specs.Tour.{IsTour, tour_length};
 ghost use Rattle.tk_solve.specs.Outcomes.{AreKept};
 ghost use Rattle.tk_solve.specs.Runs.{Run};
-ghost use Rattle.tk_solve.specs.SolvedTours.{IsSolved};
+ghost use Rattle.tk_solve.specs.SolvedTours.{IsSolved, IsSound};
 ghost use Rattle.tk_solve.specs.Starts.{IsCommonStart, IsGivenTour, task_of};
 
 use crate::options::TourOptions;
@@ -35,6 +35,7 @@ fn solved(alloc: Global, table: &Table<'_>, outcome: Outcome) -> Result<SolvedTo
     ensures runs { IfOk result (λ s. s.runs ≡ outcome.reports) }
     ensures printed { IfOk result (λ s. IsPrintedForm outcome.cities.items s.cities.items) }
     ensures length { IfOk result (λ s. s.length ≡ pos (tour_length (table_distance table.now) s.cities.items)) }
+    ensures tour { IfOk result (λ s. IsTour (table_size table.now) s.cities.items) }
 {
     let Ok(tour) = ArrayTour::from_list(alloc, &outcome.cities) else {
         return Err(AllocError);
@@ -83,6 +84,7 @@ pub fn solve_tour<W: Watch>(
     requires cities { 2 ≤ table_size table.now }
     requires given { IsGivenTour (table_size table.now) options.now.start }
     ensures solved { IfOk result (IsSolved (task_of table.now options.now)) }
+    ensures sound { IfOk result (IsSound (task_of table.now options.now)) }
 {
     let near = near_lists(alloc, table, options.candidates.min(table.size() - 1))?;
     let savings = savings_start(alloc, table, &near, options.start)?;

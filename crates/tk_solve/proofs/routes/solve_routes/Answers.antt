@@ -22,4 +22,7 @@ returns c =
       swaps = improved.improved.1.1;
       before = improved.before;
       after = improved.after;
+      valid = improved.routes;
+      moves = improved.moves;
+      tests = improved.tests;
     }
