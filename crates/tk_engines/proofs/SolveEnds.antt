@@ -1,8 +1,9 @@
 -- How a search ends, by how its parts end.
-use Rattle.std.proofs.Common.{◌≡◌, List, ℕ, Option, Some, None, Result, Ok, Err, refl}
+use Rattle.std.proofs.Common.{◌≡◌, List, ℕ, Option, None, Result, Ok, Err, refl, subst, sym}
+use Rattle.std.specs.Result.{IsErrAnd}
 use Rattle.tk_text.specs.Problem.{ProblemIs}
 use Rattle.tk_params.specs.Asked.{ParamsAre}
-use Rattle.tk_checks.specs.Engine.{AreRead, Ends, Reading, Stopped, Writing}
+use Rattle.tk_checks.specs.Engine.{AreRead, Ends, Reading, Writing}
 use Rattle.tk_engines.specs.Solve.{Files, Gives, IsInitial, IsInitialRefused, solve_task}
 use Rattle.tk_checks.specs.declared.fault.Fault.{Fault}
 use Rattle.tk_checks.specs.declared.fault.Fault.TheVariants as faults
@@ -10,7 +11,7 @@ use Rattle.tk_checks.specs.declared.fault.Fault.TheVariants as faults
 module _ (p : ParamsAre) (Problem : Reading ProblemIs) (Second : Reading (Option (List ℕ))) (Writes : Writing Files) (problem : ProblemIs) (initial : Option (List ℕ))
     (read : AreRead (solve_task p) Problem Second problem initial) where
   -- the tour to begin with was refused
-  pub initial_stopped : (f : Fault) → IsInitialRefused problem initial f → Ends (solve_task p) Problem Second Writes (Err f)
+  initial_stopped : (f : Fault) → IsInitialRefused problem initial f → Ends (solve_task p) Problem Second Writes (Err f)
   initial_stopped (faults.Initial f) h = (problem, initial, read, h)
   initial_stopped faults.NoMemory h = (problem, initial, read, refl)
   initial_stopped (faults.Problem f) h = elim h [ ]
@@ -20,6 +21,11 @@ module _ (p : ParamsAre) (Problem : Reading ProblemIs) (Second : Reading (Option
   initial_stopped (faults.NotForType key) h = elim h [ ]
   initial_stopped faults.TooLarge h = elim h [ ]
   initial_stopped (faults.Write f) h = elim h [ ]
+
+  -- and the fault was passed on
+  pub initial_failed : (f : Fault) (r : Result (Unit {0}) Fault) → IsErrAnd r (λ e. e ≡ f) → IsInitialRefused problem initial f → Ends (solve_task p) Problem Second Writes r
+  initial_failed f (Err e) is h = subst (λ v. Ends (solve_task p) Problem Second Writes (Err v)) (sym is) (initial_stopped f h)
+  initial_failed f (Ok v) is h = elim is [ ]
 
   -- the work was done
   pub given_ends : (Answer : Files → Type 0) (Quiet : Type 0) → IsInitial problem initial None →

@@ -6,11 +6,11 @@
 --     HasFailed      a write to one of them failed
 use Rattle.std.specs.Prelude.{◌≡◌, ℕ, ◌⊎◌, Bool, true, false, List, length, Option, Some, None, MatchOption, Result, Ok, Err, is_none, is_some, option_map, unwrap_or, if◌then◌else◌}
 use Rattle.std.specs.Int.RustNames.{unsigned_abs}
-use Rattle.tk_text.specs.Problem.{ProblemIs, RoutingIs}
+use Rattle.tk_text.specs.Problem.{ProblemIs}
 use Rattle.tk_text.specs.Puts.{Writes}
 use Rattle.tk_text.specs.SolutionWritten.{solution_text}
 use Rattle.tk_text.specs.TourWritten.{tour_text}
-use Rattle.tk_text.specs.declared.WriteFault.{WriteFault}
+use Rattle.tk_text.specs.declared.TourText.{TourText}
 use Rattle.tk_tour.specs.Verdict.{IsVerdict}
 use Rattle.tk_tour.specs.declared.fault.TourFault.TheVariants as tours
 use Rattle.tk_tour.specs.declared.verdict.Verdict.{Verdict}
@@ -40,6 +40,10 @@ abbrev pub unfit_key : ParamsAre → ProblemIs → Option Key
 unfit_key p problem =
     if is_none problem.routing then (if is_some p.solution_file then Some keys.SolutionFile else None)
     else (if is_some p.tour_file then Some keys.TourFile else (if is_some p.initial_tour_file then Some keys.InitialTourFile else None))
+
+-- the cities of a tour to begin with, where there is one
+abbrev pub cities_in : Option TourText → Option (List ℕ)
+cities_in tour = option_map (λ t. t.cities.items) tour
 
 -- the tour to begin with is read where the parameters name a file of one; else its source is untouched
 abbrev pub ReadsInitial : {S : Type 0} → Bool → (S → Option (List ℕ)) → (S → Bool) → S → S → Reading (Option (List ℕ))

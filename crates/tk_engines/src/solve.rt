@@ -1,14 +1,14 @@
 //! The search for a tour or for routes.
-ghost use Rattle.std.specs.Prelude.{◌≡◌, ◌≤ℤ◌, pos, IfOk, IfErr, MatchOption, is_some, option_map};
+ghost use Rattle.std.specs.Prelude.{◌≡◌, ◌≤ℤ◌, pos, IfOk, IfErr, MatchOption, is_some};
 ghost use Rattle.tk_text.specs.Parts.{problem_is};
 ghost use Rattle.tk_tour.specs.Tour.{IsTour};
 ghost use Rattle.tk_routes.specs.Cvrps.{instance_of};
 ghost use Rattle.tk_routes.specs.RouteLists.{routes_of};
 ghost use Rattle.tk_solve.specs.SolvedTours.{IsSolved, IsSound};
 ghost use Rattle.tk_checks.specs.Engine.{BeforeSecond, Ends, IsUntouched, ReadsProblem, UnlessWrite};
-ghost use Rattle.tk_engines.specs.Solve.{AreRoutesOf, AreUntouched, Gives, IsTourWritten, ReadsInitial, WritesFiles, route_files, solve_task, tour_files, tour_task};
+ghost use Rattle.tk_engines.specs.Solve.{AreRoutesOf, AreUntouched, Gives, IsTourWritten, ReadsInitial, WritesFiles, cities_in, route_files, solve_task, tour_files, tour_task};
 
-use crate::solve_given::{check_initial, cities_of, options_of, read_initial, unfit};
+use crate::solve_given::{check_initial, options_of, read_initial, unfit};
 use crate::solve_lines::{write_route_lines, write_tour_lines};
 use std::alloc::{AllocError, Global};
 use tk_checks::Fault;
@@ -16,19 +16,21 @@ use tk_metric::Table;
 use tk_params::Params;
 use tk_routes::{Cvrp, RouteReport, Routes};
 use tk_solve::{RouteOptions, SolvedTour, Watch, solve_routes, solve_tour};
-use tk_text::{Problem, Sink, Source, WriteFault, read_problem, write_solution, write_tour};
+use tk_text::{
+    Problem, Sink, Source, TourText, WriteFault, read_problem, write_solution, write_tour,
+};
 
 /// The best tour of a TSP.
 fn search_tour<V: Watch>(
     alloc: Global,
     params: &Params,
     problem: &Problem,
-    initial: Option<&[u32]>,
+    initial: &Option<TourText>,
     watch: &mut V,
 ) -> Result<SolvedTour, AllocError>
-    requires { MatchOption initial (Unit {0}) (λ c. IsTour problem.now.n c.now) }
-    ensures solved { IfOk result (IsSolved (tour_task params.now (problem_is problem.now) (option_map (λ c. c.now) initial.entry))) }
-    ensures sound { IfOk result (IsSound (tour_task params.now (problem_is problem.now) (option_map (λ c. c.now) initial.entry))) }
+    requires { MatchOption (cities_in initial.now) (Unit {0}) (IsTour problem.now.n) }
+    ensures solved { IfOk result (IsSolved (tour_task params.now (problem_is problem.now) (cities_in initial.now))) }
+    ensures sound { IfOk result (IsSound (tour_task params.now (problem_is problem.now) (cities_in initial.now))) }
 {
     let options = options_of(params, problem, initial);
     solve_tour(alloc, &Table::of(problem), &options, watch)
@@ -69,13 +71,13 @@ fn solve_tsp<F: Sink, W: Sink, V: Watch>(
     alloc: Global,
     params: &Params,
     problem: &Problem,
-    initial: Option<&[u32]>,
+    initial: &Option<TourText>,
     file: &mut F,
     out: &mut W,
     watch: &mut V,
 ) -> Result<(), Fault>
-    requires { MatchOption initial (Unit {0}) (λ c. IsTour problem.now.n c.now) }
-    ensures { Gives (IsTourWritten params.now (problem_is problem.now) (option_map (λ c. c.now) initial.entry))
+    requires { MatchOption (cities_in initial.now) (Unit {0}) (IsTour problem.now.n) }
+    ensures { Gives (IsTourWritten params.now (problem_is problem.now) (cities_in initial.now))
         (WritesFiles F.taken F.broken W.taken W.broken file.old file.new out.old out.new)
         (AreUntouched F.taken F.broken W.taken W.broken file.old file.new out.old out.new) result }
 {
@@ -144,11 +146,10 @@ pub fn solve_engine<P: Source, I: Source, F: Sink, W: Sink, V: Watch>(
     if let Some(key) = unfit(params, &problem) {
         return Err(Fault::NotForType(key));
     }
-    let tour = read_initial(alloc, params.initial_tour_file().is_some(), initial)?;
-    let cities = cities_of(&tour);
-    check_initial(alloc, &problem, cities)?;
+    let tour = read_initial(alloc, params, initial)?;
+    check_initial(alloc, &problem, &tour)?;
     match Cvrp::of(&problem) {
         Some(cvrp) => solve_cvrp(alloc, params, &cvrp, file, out),
-        None => solve_tsp(alloc, params, &problem, cities, file, out, watch),
+        None => solve_tsp(alloc, params, &problem, &tour, file, out, watch),
     }
 }

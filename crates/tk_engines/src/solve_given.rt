@@ -1,10 +1,10 @@
 //! What `solve` is given: whether its keys fit the problem, the tour to begin with, and the options of the search.
-ghost use Rattle.std.specs.Prelude.{◌≡◌, ◌≤◌, true, false, IfOk, IfErr, OnOk, Ok, Err, Some, None, MatchOption, option_map};
+ghost use Rattle.std.specs.Prelude.{◌≡◌, ◌≤◌, true, false, IfOk, IfErr, OnOk, Ok, Err, Some, None, MatchOption, is_some};
 ghost use Rattle.tk_text.specs.Parts.{problem_is, weights_are};
 ghost use Rattle.tk_tour.specs.Tour.{IsTour};
 ghost use Rattle.tk_solve.specs.Starts.{task_over};
 ghost use Rattle.tk_checks.specs.Check.{read_distance};
-ghost use Rattle.tk_engines.specs.Solve.{IsInitial, IsInitialRefused, ReadsInitial, tour_task, unfit_key};
+ghost use Rattle.tk_engines.specs.Solve.{IsInitial, IsInitialRefused, ReadsInitial, cities_in, tour_task, unfit_key};
 
 use std::alloc::Global;
 use tk_build::SearchRules;
@@ -33,31 +33,21 @@ pub(crate) fn unfit(params: &Params, problem: &Problem) -> Option<Key>
     None
 }
 
-/// The tour to begin with, where there is a text of one.
+/// The tour to begin with, where the parameters name one. Else its source is left alone.
 pub(crate) fn read_initial<I: Source>(
     alloc: Global,
-    given: bool,
+    params: &Params,
     initial: &mut I,
 ) -> Result<Option<TourText>, Fault>
-    ensures ok { IfOk result (λ tour. ReadsInitial given I.left I.broken initial.old initial.new (Ok (option_map (λ t. t.cities.items) tour))) }
-    ensures err { IfErr result (λ f. ReadsInitial given I.left I.broken initial.old initial.new (Err f)) }
+    ensures ok { IfOk result (λ tour. ReadsInitial (is_some params.now.initial_tour_file) I.left I.broken initial.old initial.new (Ok (cities_in tour))) }
+    ensures err { IfErr result (λ f. ReadsInitial (is_some params.now.initial_tour_file) I.left I.broken initial.old initial.new (Err f)) }
 {
-    if !given {
+    if params.initial_tour_file().is_none() {
         return Ok(None);
     }
     match read_tour(alloc, initial) {
         Ok(tour) => Ok(Some(tour)),
         Err(fault) => Err(Fault::Tour(fault)),
-    }
-}
-
-/// The cities of the tour to begin with, where there is one.
-pub(crate) fn cities_of(tour: &Option<TourText>) -> Option<&[u32]>
-    ensures { option_map (λ c. c.now) result ≡ option_map (λ t. t.cities.items) tour.now }
-{
-    match tour {
-        Some(tour) => Some(&tour.cities),
-        None => None,
     }
 }
 
@@ -80,14 +70,14 @@ fn check_cities(alloc: Global, problem: &Problem, cities: &[u32]) -> Result<(), 
 pub(crate) fn check_initial(
     alloc: Global,
     problem: &Problem,
-    initial: Option<&[u32]>,
+    initial: &Option<TourText>,
 ) -> Result<(), Fault>
-    ensures ok { OnOk result (MatchOption initial.entry (Unit {0}) (λ c. IsTour problem.now.n c.now)) }
-    ensures is { OnOk result (IsInitial (problem_is problem.now) (option_map (λ c. c.now) initial.entry) None) }
-    ensures err { IfErr result (IsInitialRefused (problem_is problem.now) (option_map (λ c. c.now) initial.entry)) }
+    ensures ok { OnOk result (MatchOption (cities_in initial.now) (Unit {0}) (IsTour problem.now.n)) }
+    ensures is { OnOk result (IsInitial (problem_is problem.now) (cities_in initial.now) None) }
+    ensures err { IfErr result (IsInitialRefused (problem_is problem.now) (cities_in initial.now)) }
 {
     match initial {
-        Some(cities) => check_cities(alloc, problem, cities),
+        Some(tour) => check_cities(alloc, problem, &tour.cities),
         None => Ok(()),
     }
 }
@@ -96,13 +86,13 @@ pub(crate) fn check_initial(
 pub(crate) fn options_of<'a>(
     params: &Params,
     problem: &Problem,
-    initial: Option<&'a [u32]>,
+    initial: &'a Option<TourText>,
 ) -> TourOptions<'a>
     ensures { task_over problem.now.n (read_distance (weights_are problem.now.weights)) result
-        ≡ tour_task params.now (problem_is problem.now) (option_map (λ c. c.now) initial.entry) }
+        ≡ tour_task params.now (problem_is problem.now) (cities_in initial.now) }
 {
     let start = match (initial, params.construction()) {
-        (Some(cities), _) => Start::Tour(cities),
+        (Some(tour), _) => Start::Tour(&tour.cities),
         (None, Construction::Nearest) => Start::Nearest,
         (None, Construction::Savings) => Start::Savings,
     };

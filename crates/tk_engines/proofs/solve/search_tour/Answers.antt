@@ -1,15 +1,20 @@
-use Rattle.std.proofs.Common.{◌≡◌, ℕ, ap, ◌∙◌, subst, IfOk}
-use Rattle.tk_text.specs.Parts.{weights_are}
+use Rattle.std.proofs.Common.{ℕ, ap, ◌∙◌, subst, IfOk}
 use Rattle.tk_metric.specs.Tables.{table_distance}
-use Rattle.tk_solve.specs.SolvedTours.{IsSolved}
+use Rattle.tk_solve.specs.SolvedTours.{IsSolved, IsSound}
 use Rattle.tk_solve.specs.Starts.{TourTask, task_over}
-use Rattle.tk_checks.specs.Check.{read_distance}
 use Rattle.tk_checks.proofs.ProblemTables.{distances_read}
 use Rattle.tk_engines.proofs.solve.search_tour.Goals as goal
 
-pub returns : goal.returns
-returns g c =
+pub returns-clause-solved : goal.returns-clause-solved
+returns-clause-solved g c =
     let options = c.options_of-options.result in
     let size = ap (λ (n : ℕ). task_over n (table_distance c.of.result) options) c.of.ensures.size in
     let distance = ap (λ (d : ℕ → ℕ → ℕ). task_over c.args.problem.now.n d options) (distances_read (table_distance c.of.result) c.args.problem.now.weights c.of.ensures.distances) in
     subst (λ (task : TourTask). IfOk c.solve_tour.result (IsSolved task)) (size ∙ distance ∙ c.options_of-options.ensures) c.solve_tour.ensures.solved
+
+pub returns-clause-sound : goal.returns-clause-sound
+returns-clause-sound g c =
+    let options = c.options_of-options.result in
+    let size = ap (λ (n : ℕ). task_over n (table_distance c.of.result) options) c.of.ensures.size in
+    let distance = ap (λ (d : ℕ → ℕ → ℕ). task_over c.args.problem.now.n d options) (distances_read (table_distance c.of.result) c.args.problem.now.weights c.of.ensures.distances) in
+    subst (λ (task : TourTask). IfOk c.solve_tour.result (IsSound task)) (size ∙ distance ∙ c.options_of-options.ensures) c.solve_tour.ensures.sound

@@ -1,6 +1,6 @@
 use Rattle.std.proofs.Common.{refl}
 use Rattle.tk_routes.specs.RouteLists.{routes_of}
-use Rattle.tk_engines.specs.Solve.{AreRoutesOf, Files, route_files}
+use Rattle.tk_engines.specs.Solve.{route_files}
 use Rattle.tk_engines.proofs.solve.solve_cvrp.Goals as goal
 
 pub returns-in-Ok-write_route_files : goal.returns-in-Ok-write_route_files
