@@ -1,4 +1,5 @@
 pub mod Feeds
+pub mod Keys
 pub mod Limits
 pub mod Looks
 pub mod OnLiterals

@@ -12,8 +12,9 @@ use Rattle.tk_params.specs.declared.key.Key.{Key}
 use Rattle.tk_params.specs.declared.key.Key.TheVariants as keys
 use Rattle.tk_params.specs.declared.value.Construction.{Construction}
 use Rattle.tk_params.specs.Keys.{all_keys, code}
+use Rattle.tk_params.proofs.Keys.{ignored_few}
 use Rattle.tk_params.specs.Values.{File, Number, Way, Switch, Ignored, Settings, Value, construction_of, file_of, greatest, has_dollar, least, look, same_key, switch_of, value_of}
-use Rattle.tk_params.specs.Asked.{AreSettings, AreWithinLimits, IsFileName, IsSetting, IsWithin, asked_of, file_in, number_in}
+use Rattle.tk_params.specs.Asked.{AreApart, AreSettings, AreWithinLimits, IsFileName, IsSetting, IsWithin, asked_of, file_in, number_in}
 
 -- ---- a key's value
 
@@ -128,7 +129,7 @@ or_default : (low high d : ℕ) (o : Option ℕ) → IfSome o (IsWithin low high
 or_default low high d None h a b = record { least = a; greatest = b }
 or_default low high d (Some n) h a b = h
 
-module _ (ss : Settings) (sound : AreSettings ss) where
+module _ (ss : Settings) (sound : AreSettings ss) (apart : AreApart ss) where
   file_at : (key : Key) → IfSome (file_in (look key ss)) IsFileName
   file_at key = file_limits key (look key ss) (look_setting key ss sound)
 
@@ -148,4 +149,5 @@ module _ (ss : Settings) (sound : AreSettings ss) where
         seed = or_default 0 4294967295 1 _ (number_at keys.Seed) (omega arith) (omega arith);
         max_candidates = or_default 1 100 5 _ (number_at keys.MaxCandidates) (omega arith) (omega arith);
         or_segment = or_default 1 3 3 _ (number_at keys.OrSegment) (omega arith) (omega arith);
+        few_ignored = ignored_few ss apart;
       }

@@ -16,6 +16,8 @@ use Rattle.tk_params.specs.declared.value.Setting.{Setting}
 use Rattle.tk_params.specs.Readers.{HasTaken}
 use Rattle.tk_params.specs.Stored.{AreStored, entry_is, value_is}
 use Rattle.tk_params.specs.Asked.{IsSetting, ignored_keys, is_ignored}
+use Rattle.tk_params.proofs.Keys.{apart_push}
+use Rattle.std.specs.List.{IsDistinct}
 use Rattle.tk_params.specs.contracts.key.KeyPartialEq.TheImpl.{eq-value}
 use Rattle.tk_params.specs.declared.key.Key.{Key}
 use Rattle.tk_params.specs.declared.key.Key.TheVariants as keys
@@ -101,14 +103,15 @@ unfolding ignored_keys
 ignored_one key v t e = ap (λ (b : Bool). cond b (key ∷ []) []) e
 
 pub none_kept : AreStored [] []
-unfolding ignored_keys
-none_kept = record { limits = All-nil (λ (x : Key × Value). IsSetting x.0 x.1); ignored = refl }
+unfolding ignored_keys IsDistinct
+none_kept = record { limits = All-nil (λ (x : Key × Value). IsSetting x.0 x.1); apart = tt; ignored = refl }
 
-module _ (ss : Settings) (ks : List Key) (key : Key) (v : Value) (kept : AreStored ss ks) (limits : IsSetting key v) where
+module _ (ss : Settings) (ks : List Key) (key : Key) (v : Value) (kept : AreStored ss ks) (fresh : has key ss ≡ false) (limits : IsSetting key v) where
   one_more : (t : Bool) → is_ignored v ≡ t → AreStored (ss ++ (key, v) ∷ []) (ks ++ cond t (key ∷ []) [])
   one_more t e =
       record {
         limits = All-push (λ (x : Key × Value). IsSetting x.0 x.1) ss (key, v) kept.limits limits;
+        apart = apart_push ss key v kept.apart fresh;
         ignored =
             ap (λ (xs : List Key). xs ++ cond t (key ∷ []) []) kept.ignored
             ∙ ap (λ (xs : List Key). ignored_keys ss ++ xs) (sym (ignored_one key v t e))

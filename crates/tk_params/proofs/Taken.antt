@@ -6,11 +6,18 @@ use Rattle.tk_params.specs.declared.key.Key.TheVariants as keys
 use Rattle.tk_params.specs.declared.value.Construction.TheVariants.{Nearest}
 use Rattle.tk_params.specs.Stored.{LosesOnly}
 use Rattle.tk_params.specs.Values.{Settings, look, same_key}
-use Rattle.tk_params.specs.Asked.{AreSettings, AreWithinLimits, ParamsAre, asked, asked_of, file_in, ignored_keys, number_in, switch_in, way_in}
+use Rattle.tk_params.specs.Asked.{AreApart, AreSettings, AreWithinLimits, ParamsAre, asked, asked_of, file_in, ignored_keys, number_in, switch_in, way_in}
 use Rattle.tk_params.proofs.Limits.{asked_within}
 
--- the fields of parameters, as they are looked up: s1 to s4 are the settings after each of the four files
-pub record AreLookedUp (ss s0 s1 s2 s3 s4 : Settings) (p : ParamsAre) : Type 0 where
+-- the fields of parameters, as they are looked up in settings: s1 to s4 are what is left of them after each of the four files
+pub record AreLookedUp (ss : Settings) (p : ParamsAre) : Type 0 where
+  pub s0 : Settings
+  pub s1 : Settings
+  pub s2 : Settings
+  pub s3 : Settings
+  pub s4 : Settings
+  pub limits : AreSettings ss
+  pub apart : AreApart ss
   pub start : s0 ≡ ss
   pub first : LosesOnly keys.ProblemFile s0 s1
   pub second : LosesOnly keys.TourFile s1 s2
@@ -29,11 +36,11 @@ pub record AreLookedUp (ss s0 s1 s2 s3 s4 : Settings) (p : ParamsAre) : Type 0 w
   pub or_segment : p.or_segment ≡ unwrap_or (number_in (look keys.OrSegment s4)) 3
   pub unused : p.ignored ≡ ignored_keys ss
 
-module _ (ss s0 s1 s2 s3 s4 : Settings) (p : ParamsAre) (l : AreLookedUp ss s0 s1 s2 s3 s4 p) where
-  begun : (key : Key) → look key s0 ≡ look key ss
+module _ (ss : Settings) (p : ParamsAre) (l : AreLookedUp ss p) where
+  begun : (key : Key) → look key l.s0 ≡ look key ss
   begun key = ap (look key) l.start
 
-  after_all : (key : Key) → same_key keys.ProblemFile key ≡ false → same_key keys.TourFile key ≡ false → same_key keys.SolutionFile key ≡ false → same_key keys.InitialTourFile key ≡ false → look key s4 ≡ look key ss
+  after_all : (key : Key) → same_key keys.ProblemFile key ≡ false → same_key keys.TourFile key ≡ false → same_key keys.SolutionFile key ≡ false → same_key keys.InitialTourFile key ≡ false → look key l.s4 ≡ look key ss
   after_all key a b c d = l.fourth key d ∙ l.third key c ∙ l.second key b ∙ l.first key a ∙ begun key
 
   named : file_in (look keys.ProblemFile ss) ≡ Some p.problem_file
@@ -57,5 +64,5 @@ module _ (ss s0 s1 s2 s3 s4 : Settings) (p : ParamsAre) (l : AreLookedUp ss s0 s
   pub some_asked : Some p ≡ asked ss
   some_asked = ap Some is_asked ∙ ap (option_map (λ problem. asked_of problem ss)) (sym named)
 
-  pub looked_within : AreSettings ss → AreWithinLimits p
-  looked_within sound = subst AreWithinLimits (sym is_asked) (asked_within ss sound p.problem_file named)
+  pub looked_within : AreWithinLimits p
+  looked_within = subst AreWithinLimits (sym is_asked) (asked_within ss l.limits l.apart p.problem_file named)

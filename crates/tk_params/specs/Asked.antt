@@ -1,10 +1,13 @@
 -- What a parameter file asks for: what its keys say, and the defaults of the others.
-use Rattle.std.specs.Prelude.{◌≢◌, ◌≤◌, ℕ, Bool, true, false, List, [], ◌∷◌, Option, Some, None, All, IfSome, option_map, unwrap_or, if◌then◌else◌}
+use Rattle.std.specs.Prelude.{◌≢◌, ◌≤◌, ℕ, Bool, true, false, List, [], ◌∷◌, length, Option, Some, None, All, IfSome, option_map, unwrap_or, if◌then◌else◌}
+use Rattle.std.specs.List.{IsDistinct}
+use Rattle.std.specs.Map.{keys_of}
 use Rattle.tk_params.specs.declared.key.Key.{Key}
 use Rattle.tk_params.specs.declared.key.Key.TheVariants as keys
 use Rattle.tk_params.specs.declared.value.Construction.{Construction}
 use Rattle.tk_params.specs.declared.value.Construction.TheVariants.{Nearest}
-use Rattle.tk_params.specs.Values.{Value, File, Number, Way, Switch, Ignored, Settings, greatest, least, look}
+use Rattle.tk_params.specs.Keys.{all_keys}
+use Rattle.tk_params.specs.Values.{Value, File, Number, Way, Switch, Ignored, Settings, greatest, least, look, same_key}
 
 -- the files, numbers and choices of a search, and the keys that were read and are not used, in the order of the file.
 -- Without max_trials a run has as many trials as there are cities
@@ -89,7 +92,11 @@ IsSetting key _ = Unit {0}
 abbrev pub AreSettings : Settings → Type 0
 AreSettings ss = All (λ s. IsSetting s.0 s.1) ss
 
--- parameters within the limits of their keys
+-- each key stands at most once
+abbrev pub AreApart : Settings → Type 0
+AreApart ss = IsDistinct same_key (keys_of ss)
+
+-- parameters within the limits of their keys, with at most as many ignored keys as there are keys
 pub record AreWithinLimits (p : ParamsAre) : Type 0 where
   pub problem_file : IsFileName p.problem_file
   pub tour_file : IfSome p.tour_file IsFileName
@@ -100,3 +107,4 @@ pub record AreWithinLimits (p : ParamsAre) : Type 0 where
   pub seed : IsWithin 0 4294967295 p.seed
   pub max_candidates : IsWithin 1 100 p.max_candidates
   pub or_segment : IsWithin 1 3 p.or_segment
+  pub few_ignored : length p.ignored ≤ length all_keys

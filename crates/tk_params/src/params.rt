@@ -1,6 +1,7 @@
 //! What a parameter file asks for.
-ghost use Rattle.std.specs.Prelude.{◌≡◌, IfSome, option_map};
+ghost use Rattle.std.specs.Prelude.{◌≡◌, ◌≤◌, IfSome, length, option_map};
 ghost use Rattle.tk_params.specs.Asked.{IsFileName, IsWithin, asked};
+ghost use Rattle.tk_params.specs.Keys.{all_keys};
 
 use crate::entries::{number, switch, take_file, way};
 use crate::key::Key;
@@ -9,7 +10,7 @@ use crate::value::Construction;
 use std::marker::Model;
 
 /// What a parameter file asks for, with the defaults of the keys that it does not have. Each number is within the
-/// limits of its key, and no file name is empty or has a `$`.
+/// limits of its key, no file name is empty or has a `$`, and there are at most as many ignored keys as keys.
 #[derive(Drop)]
 pub struct Params {
     problem_file: String,
@@ -147,9 +148,11 @@ impl Params {
         self.or_segment
     }
 
-    /// The keys that were read and are not used, in the order of the file.
+    /// The keys that were read and are not used, in the order of the file. Each stands there once, so they are at most
+    /// as many as there are keys.
     pub fn ignored(&self) -> &[Key]
-        ensures { result.now ≡ self.now.ignored }
+        ensures value { result.now ≡ self.now.ignored }
+        ensures few { length result.now ≤ length all_keys }
     {
         &self.ignored
     }

@@ -1,6 +1,6 @@
 //! What the lines of a parameter file have said so far.
 ghost use Rattle.std.specs.Prelude.{◌≡◌, ◌++◌, ◌∷◌, [], false, OnErr, OnOk};
-ghost use Rattle.tk_params.specs.Asked.{AreSettings, IsSetting, ignored_keys};
+ghost use Rattle.tk_params.specs.Asked.{AreApart, AreSettings, IsSetting, ignored_keys};
 ghost use Rattle.tk_params.specs.Stored.{settings_in, value_is};
 ghost use Rattle.tk_params.specs.Values;
 
@@ -73,6 +73,7 @@ impl Settings {
         ensures settings { settings_in result.0 ≡ self }
         ensures ignored { result.1.items ≡ ignored_keys self }
         ensures limits { AreSettings self }
+        ensures apart { AreApart self }
     {
         (self.entries, self.ignored)
     }

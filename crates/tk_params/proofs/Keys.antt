@@ -1,0 +1,85 @@
+-- How many keys settings have, and how long the word of a key is.
+use Rattle.std.proofs.Common.{◌≡◌, ◌∙◌, ◌≤◌, ◌++◌, ℕ, suc, Bool, true, false, List, [], ◌∷◌, length, cond, arith, refl, sym, subst}
+use Rattle.std.proofs.lemmas.Cmp.{on_equiv}
+use Rattle.std.proofs.lemmas.List.{map-append}
+use Rattle.std.proofs.lemmas.Map.Entries.{length-keys_of}
+use Rattle.std.proofs.lemmas.Map.Keys.{IsDistinct-push}
+use Rattle.std.proofs.lemmas.Map.Made.{is_some-lookup, length-le_from_is_member}
+use Rattle.std.specs.Cmp.{IsEquivalence, nat_eq_equiv}
+use Rattle.std.specs.List.{IsDistinct}
+use Rattle.std.specs.Map.{keys_of}
+use Rattle.std.specs.Set.{is_member}
+use Rattle.tk_params.specs.declared.key.Key.{Key}
+use Rattle.tk_params.specs.declared.key.Key.TheVariants as keys
+use Rattle.tk_params.specs.Keys.{all_keys, code, word}
+use Rattle.tk_params.specs.Values.{Settings, Value, has, same_key}
+use Rattle.tk_params.specs.Asked.{AreApart, ignored_keys, is_ignored}
+
+-- ---- how many
+
+same_key_laws : IsEquivalence same_key
+same_key_laws = on_equiv code nat_eq_equiv
+
+is_listed : (key : Key) → is_member same_key all_keys key ≡ true
+is_listed keys.ProblemFile = refl
+is_listed keys.TourFile = refl
+is_listed keys.SolutionFile = refl
+is_listed keys.InitialTourFile = refl
+is_listed keys.Runs = refl
+is_listed keys.MaxTrials = refl
+is_listed keys.Seed = refl
+is_listed keys.MaxCandidates = refl
+is_listed keys.Construction = refl
+is_listed keys.FinalSweep = refl
+is_listed keys.OrSegment = refl
+is_listed keys.MoveType = refl
+is_listed keys.PatchingA = refl
+is_listed keys.PatchingC = refl
+is_listed keys.Precision = refl
+is_listed keys.TraceLevel = refl
+is_listed keys.Optimum = refl
+
+settings_few : (ss : Settings) → AreApart ss → length ss ≤ length all_keys
+settings_few ss apart =
+    let few = length-le_from_is_member same_key_laws (keys_of ss) all_keys apart (λ key h. is_listed key) in
+    omega (arith, few, length-keys_of ss)
+
+ignored_step : (t : Bool) (key : Key) (ks : List Key) (n : ℕ) → length ks ≤ n → length (cond t (key ∷ ks) ks) ≤ suc n
+ignored_step true key ks n le = omega (arith, le)
+ignored_step false key ks n le = omega (arith, le)
+
+ignored_among : (ss : Settings) → length (ignored_keys ss) ≤ length ss
+unfolding ignored_keys
+ignored_among [] = omega arith
+ignored_among (s ∷ ss) = ignored_step (is_ignored s.1) s.0 (ignored_keys ss) (length ss) (ignored_among ss)
+
+-- there are at most as many ignored keys as keys
+pub ignored_few : (ss : Settings) → AreApart ss → length (ignored_keys ss) ≤ length all_keys
+ignored_few ss apart = omega (arith, ignored_among ss, settings_few ss apart)
+
+-- a new key behind settings whose keys are apart
+pub apart_push : (ss : Settings) (key : Key) (v : Value) → AreApart ss → has key ss ≡ false → AreApart (ss ++ (key, v) ∷ [])
+apart_push ss key v apart fresh =
+    let absent = sym (is_some-lookup (same_key key) ss) ∙ fresh in
+    subst (IsDistinct same_key) (sym (map-append (λ (s : Key × Value). s.0) ss ((key, v) ∷ []))) (IsDistinct-push same_key_laws (keys_of ss) key apart absent)
+
+-- ---- how long
+
+pub word_short : (key : Key) → length (word key) ≤ 40
+word_short keys.ProblemFile = omega arith
+word_short keys.TourFile = omega arith
+word_short keys.SolutionFile = omega arith
+word_short keys.InitialTourFile = omega arith
+word_short keys.Runs = omega arith
+word_short keys.MaxTrials = omega arith
+word_short keys.Seed = omega arith
+word_short keys.MaxCandidates = omega arith
+word_short keys.Construction = omega arith
+word_short keys.FinalSweep = omega arith
+word_short keys.OrSegment = omega arith
+word_short keys.MoveType = omega arith
+word_short keys.PatchingA = omega arith
+word_short keys.PatchingC = omega arith
+word_short keys.Precision = omega arith
+word_short keys.TraceLevel = omega arith
+word_short keys.Optimum = omega arith
