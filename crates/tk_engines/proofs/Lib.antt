@@ -1,2 +1,3 @@
+pub mod LineLengths
 pub mod RunLines
 pub mod SolveEnds

@@ -1,12 +1,13 @@
 //! The search for a tour or for routes.
-ghost use Rattle.std.specs.Prelude.{◌≡◌, ◌≤ℤ◌, pos, IfOk, IfErr, MatchOption, is_some};
+ghost use Rattle.std.specs.Prelude.{◌≡◌, ◌≤◌, ◌≤ℤ◌, pos, IfOk, IfErr, OnErr, MatchOption, is_some, length};
+ghost use Rattle.std.specs.List.{concat};
 ghost use Rattle.tk_text.specs.Parts.{problem_is};
 ghost use Rattle.tk_tour.specs.Tour.{IsTour};
 ghost use Rattle.tk_routes.specs.Cvrps.{instance_of};
 ghost use Rattle.tk_routes.specs.RouteLists.{routes_of};
 ghost use Rattle.tk_solve.specs.SolvedTours.{IsSolved, IsSound};
-ghost use Rattle.tk_checks.specs.Engine.{BeforeSecond, Ends, IsUntouched, ReadsProblem, UnlessWrite};
-ghost use Rattle.tk_engines.specs.Solve.{AreRoutesOf, AreUntouched, Gives, IsTourWritten, ReadsInitial, WritesFiles, cities_in, route_files, solve_task, tour_files, tour_task};
+ghost use Rattle.tk_checks.specs.Engine.{AtWrite, BeforeSecond, Ends, IsUntouched, ReadsProblem, UnlessWrite};
+ghost use Rattle.tk_engines.specs.Solve.{AreRoutesOf, AreUntouched, Gives, HasFailed, IsTourWritten, ReadsInitial, WritesFiles, cities_in, route_files, solve_task, tour_files, tour_task};
 
 use crate::solve_given::{check_initial, options_of, read_initial, unfit};
 use crate::solve_lines::{write_route_lines, write_tour_lines};
@@ -31,6 +32,7 @@ fn search_tour<V: Watch>(
     requires { MatchOption (cities_in initial.now) (Unit {0}) (IsTour problem.now.n) }
     ensures solved { IfOk result (IsSolved (tour_task params.now (problem_is problem.now) (cities_in initial.now))) }
     ensures sound { IfOk result (IsSound (tour_task params.now (problem_is problem.now) (cities_in initial.now))) }
+    ensures runs { IfOk result (λ s. length s.runs.items ≤ 10000) }
 {
     let options = options_of(params, problem, initial);
     solve_tour(alloc, &Table::of(problem), &options, watch)
@@ -44,8 +46,12 @@ fn write_tour_files<F: Sink, W: Sink>(
     problem: &Problem,
     solved: &SolvedTour,
 ) -> Result<(), WriteFault>
-    requires { pos 0 ≤ℤ solved.now.length }
-    ensures { WritesFiles F.taken F.broken W.taken W.broken file.old file.new out.old out.new result (tour_files params.now (problem_is problem.now).name solved.now) }
+    requires length { pos 0 ≤ℤ solved.now.length }
+    requires cities { length solved.now.cities.items ≤ 100000 }
+    requires runs { length solved.now.runs.items ≤ 10000 }
+    ensures text { WritesFiles F.taken F.broken W.taken W.broken file.old file.new out.old out.new
+        result (tour_files params.now (problem_is problem.now).name solved.now) }
+    ensures failed { OnErr result (HasFailed (F.broken file.new) (W.broken out.new)) }
 {
     write_tour(file, &problem.name, solved.length, &solved.cities)?;
     write_tour_lines(out, params.ignored(), solved)
@@ -59,8 +65,12 @@ fn write_route_files<F: Sink, W: Sink>(
     routes: &Routes<'_>,
     report: &RouteReport,
 ) -> Result<(), WriteFault>
-    requires { pos 0 ≤ℤ report.now.after }
-    ensures { WritesFiles F.taken F.broken W.taken W.broken file.old file.new out.old out.new result (route_files params.now (routes_of routes.now) report.now) }
+    requires cost { pos 0 ≤ℤ report.now.after }
+    requires routes { length (routes_of routes.now) ≤ 100000 }
+    requires customers { length (concat (routes_of routes.now)) ≤ 1000000 }
+    ensures text { WritesFiles F.taken F.broken W.taken W.broken file.old file.new out.old out.new
+        result (route_files params.now (routes_of routes.now) report.now) }
+    ensures failed { OnErr result (HasFailed (F.broken file.new) (W.broken out.new)) }
 {
     write_solution(file, routes.lists(), report.after)?;
     write_route_lines(out, params.ignored(), routes.lists().len() as u64, report)
@@ -77,9 +87,10 @@ fn solve_tsp<F: Sink, W: Sink, V: Watch>(
     watch: &mut V,
 ) -> Result<(), Fault>
     requires { MatchOption (cities_in initial.now) (Unit {0}) (IsTour problem.now.n) }
-    ensures { Gives (IsTourWritten params.now (problem_is problem.now) (cities_in initial.now))
+    ensures gives { Gives (IsTourWritten params.now (problem_is problem.now) (cities_in initial.now))
         (WritesFiles F.taken F.broken W.taken W.broken file.old file.new out.old out.new)
         (AreUntouched F.taken F.broken W.taken W.broken file.old file.new out.old out.new) result }
+    ensures failed { IfErr result (AtWrite (HasFailed (F.broken file.new) (W.broken out.new))) }
 {
     let Ok(solved) = search_tour(alloc, params, problem, initial, watch) else {
         return Err(Fault::NoMemory);
@@ -98,9 +109,10 @@ fn solve_cvrp<F: Sink, W: Sink>(
     file: &mut F,
     out: &mut W,
 ) -> Result<(), Fault>
-    ensures { Gives (AreRoutesOf params.now (instance_of cvrp.now))
+    ensures gives { Gives (AreRoutesOf params.now (instance_of cvrp.now))
         (WritesFiles F.taken F.broken W.taken W.broken file.old file.new out.old out.new)
         (AreUntouched F.taken F.broken W.taken W.broken file.old file.new out.old out.new) result }
+    ensures failed { IfErr result (AtWrite (HasFailed (F.broken file.new) (W.broken out.new))) }
 {
     let options = RouteOptions {
         candidates: params.max_candidates(),
@@ -137,6 +149,7 @@ pub fn solve_engine<P: Source, I: Source, F: Sink, W: Sink, V: Watch>(
         (ReadsInitial (is_some params.now.initial_tour_file) I.left I.broken initial.old initial.new)
         (WritesFiles F.taken F.broken W.taken W.broken file.old file.new out.old out.new) result }
     ensures quiet { IfErr result (UnlessWrite (AreUntouched F.taken F.broken W.taken W.broken file.old file.new out.old out.new)) }
+    ensures failed { IfErr result (AtWrite (HasFailed (F.broken file.new) (W.broken out.new))) }
     ensures unread { IfErr result (BeforeSecond (IsUntouched I.left I.broken initial.old initial.new)) }
 {
     let problem = match read_problem(alloc, problem) {

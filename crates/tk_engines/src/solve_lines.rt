@@ -1,8 +1,9 @@
 //! The lines that `solve` prints.
-ghost use Rattle.std.specs.Prelude.{◌≡◌, ◌++◌, codes, decimal, flat_map};
+ghost use Rattle.std.specs.Prelude.{◌≡◌, ◌≤◌, ◌++◌, OnErr, codes, decimal, flat_map, length, true};
 ghost use Rattle.std.specs.Int.RustNames.{unsigned_abs};
 ghost use Rattle.tk_text.specs.Pens.{Puts};
 ghost use Rattle.tk_text.specs.Puts.{Writes};
+ghost use Rattle.tk_params.specs.Keys.{all_keys};
 ghost use Rattle.tk_engines.specs.SolveLines.{best_line, ignored_line, improved_line, route_lines, run_line, run_lines, savings_line, tour_lines, work_of};
 
 use tk_params::Key;
@@ -126,7 +127,10 @@ pub(crate) fn write_tour_lines<W: Sink>(
     ignored: &[Key],
     solved: &SolvedTour,
 ) -> Result<(), WriteFault>
-    ensures { Writes W.taken W.broken out.old out.new result (tour_lines ignored.now solved.now) }
+    requires ignored { length ignored.now ≤ length all_keys }
+    requires runs { length solved.now.runs.items ≤ 10000 }
+    ensures text { Writes W.taken W.broken out.old out.new result (tour_lines ignored.now solved.now) }
+    ensures failed { OnErr result (W.broken out.new ≡ true) }
 {
     let mut pen = Pen::new(out);
     put_tour_lines(&mut pen, ignored, solved);
@@ -140,7 +144,9 @@ pub(crate) fn write_route_lines<W: Sink>(
     routes: u64,
     report: &RouteReport,
 ) -> Result<(), WriteFault>
-    ensures { Writes W.taken W.broken out.old out.new result (route_lines ignored.now routes report.now) }
+    requires ignored { length ignored.now ≤ length all_keys }
+    ensures text { Writes W.taken W.broken out.old out.new result (route_lines ignored.now routes report.now) }
+    ensures failed { OnErr result (W.broken out.new ≡ true) }
 {
     let mut pen = Pen::new(out);
     put_route_lines(&mut pen, ignored, routes, report);

@@ -43,7 +43,7 @@ returns-in-Some-of-clause-ends g c =
     } in
     given_ends p Problem Second Writes problem initial read (AreRoutesOf p (instance_of c.in-Some-of.cvrp)) _ c.in_ok-check_initial.ensures.is
     (λ files is. instance_read c.in-Ok.problem (instance_of c.in-Some-of.cvrp) (IsTourWritten p problem initial files) (λ i. AreRoutesOf p i files) c.in-Some-of.ensures.some is)
-    c.solve_cvrp.result c.solve_cvrp.ensures
+    c.solve_cvrp.result c.solve_cvrp.ensures.gives
 
 pub returns-clause-ends : goal.returns-clause-ends
 returns-clause-ends g c =
@@ -61,4 +61,4 @@ returns-clause-ends g c =
     } in
     given_ends p Problem Second Writes problem initial read (IsTourWritten p problem initial) _ c.in_ok-check_initial.ensures.is
     (λ files is. unrouted c.in-Ok.problem.routing (IsTourWritten p problem initial files) _ c.in-None.ensures.none is)
-    c.solve_tsp.result c.solve_tsp.ensures
+    c.solve_tsp.result c.solve_tsp.ensures.gives

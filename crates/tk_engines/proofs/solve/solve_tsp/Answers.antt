@@ -3,14 +3,14 @@ use Rattle.tk_text.specs.Parts.{problem_is}
 use Rattle.tk_engines.specs.Solve.{tour_files}
 use Rattle.tk_engines.proofs.solve.solve_tsp.Goals as goal
 
-pub returns-in-Ok-write_tour_files : goal.returns-in-Ok-write_tour_files
-returns-in-Ok-write_tour_files g c = (
+pub returns-in-Ok-write_tour_files-clause-gives : goal.returns-in-Ok-write_tour_files-clause-gives
+returns-in-Ok-write_tour_files-clause-gives g c = (
   tour_files c.args.params.now (problem_is c.args.problem.now).name c.in-Ok.solved,
-  (record { solved = c.in-Ok.solved; is = c.in-Ok.ensures.solved; sound = c.in-Ok.ensures.sound; written = refl }, c.in-Ok-write_tour_files.ensures),
+  (record { solved = c.in-Ok.solved; is = c.in-Ok.ensures.solved; sound = c.in-Ok.ensures.sound; written = refl }, c.in-Ok-write_tour_files.ensures.text),
 )
 
-pub returns : goal.returns
-returns g c = (
+pub returns-clause-gives : goal.returns-clause-gives
+returns-clause-gives g c = (
   tour_files c.args.params.now (problem_is c.args.problem.now).name c.in-Ok.solved,
-  (record { solved = c.in-Ok.solved; is = c.in-Ok.ensures.solved; sound = c.in-Ok.ensures.sound; written = refl }, c.in-Err.ensures),
+  (record { solved = c.in-Ok.solved; is = c.in-Ok.ensures.solved; sound = c.in-Ok.ensures.sound; written = refl }, c.in-Err.ensures.text),
 )
