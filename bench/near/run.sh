@@ -5,7 +5,7 @@
 set -e
 here=$(cd "$(dirname "$0")" && pwd)
 . "$here/../build.sh"
-build near 'tk_problem tk_metric'
+build near 'tk_problem tk_metric tk_near'
 round=0
 while [ "$round" -lt "${1:-3}" ]; do
     taskset -c "${2:-0}" "$program" | sed 's/^/rattle /'
