@@ -1,9 +1,9 @@
 -- The matrix of a problem.
-use Rattle.std.specs.Prelude.{◌≡◌, ℕ, true, false, List, Option, Some, None, Ok, nat_lt, if◌then◌else◌}
+use Rattle.std.specs.Prelude.{◌≡◌, ℕ, false, List, Option, Some, None, nat_lt, if◌then◌else◌}
 use Rattle.tk_text.specs.declared.Format.{Format}
 use Rattle.tk_text.specs.MatrixText.{matrix_text}
 use Rattle.tk_text.specs.Problem.{ProblemIs, Lower, problem_decided}
-use Rattle.tk_text.specs.ReadBack.{lower_triangle}
+use Rattle.tk_text.specs.ReadBack.{IsReadBackAs, lower_triangle}
 use Rattle.tk_checks.specs.Check.{read_distance}
 use Rattle.tk_checks.specs.Engine.{Task, NoClash}
 use Rattle.tk_checks.specs.declared.fault.Fault.{Fault}
@@ -16,9 +16,9 @@ matrix_of p format = matrix_text p.name p.n (read_distance p.weights) format
 abbrev pub by_distances : ProblemIs → ProblemIs
 by_distances p = record { name = p.name; n = p.n; weights = Lower (lower_triangle p.n (read_distance p.weights)); routing = None }
 
--- read, a text says this problem
+-- a text that keeps the limit of texts, and is read as this problem
 abbrev pub IsReadAs : List ℕ → ProblemIs → Type 0
-IsReadAs text p = problem_decided true text ≡ Some (Ok p)
+IsReadAs text p = IsReadBackAs problem_decided text p
 
 -- the text of a problem's matrix, which is read as the problem's distances
 pub record IsMatrixText (format : Format) (p : ProblemIs) (text : List ℕ) : Type 0 where

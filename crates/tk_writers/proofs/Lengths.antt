@@ -1,2 +1,3 @@
 pub mod ListLength
 pub mod MatrixLength
+pub mod ShortMatrix

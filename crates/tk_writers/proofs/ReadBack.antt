@@ -11,7 +11,7 @@ use Rattle.tk_sections.specs.FixedSections.{tokens_stop, fixed_extent}
 use Rattle.tk_words.specs.Lex.{Line, Token, is_blank, behind, lines, tokens, tokens_of}
 use Rattle.tk_writers.specs.MatrixText.{format_word, matrix_text, number_line}
 use Rattle.tk_lines.specs.Pieces.{Piece, Section, Clean, end_piece, end_token, last_line, pieces_at, section_at, stop, or_else, first_at}
-use Rattle.tk_problem_text.specs.Problem.{ProblemIs, Lower, problem_format, problem_value, wanted, size_of, format_in, listed_format, token_tests, word_tests}
+use Rattle.tk_problem_text.specs.Problem.{ProblemIs, Lower, problem_decided, problem_format, problem_value, wanted, size_of, format_in, listed_format, token_tests, word_tests}
 use Rattle.tk_sections.specs.Rows.{number_in}
 use Rattle.tk_problem_text.specs.Names.{IsName}
 use Rattle.tk_writers.specs.ReadBack.{IsTable, ReadsBack, lower_triangle}
@@ -20,7 +20,8 @@ use Rattle.tk_sections.specs.WeightSection.{weight_count, weight_tests, lower_we
 use Rattle.tk_words.specs.Words.{keyword_of, section_word, rest_word}
 use Rattle.tk_pen.specs.Written.{line}
 use Rattle.tk_lines.proofs.Sections.SectionEnds.{take_whole}
-use Rattle.tk_writers.proofs.Saying.{one_line, name_line, whole_lines, lines-listed, lines-none, clean, says, says-header, says-section, says-rows, says-eof, decided-says}
+use Rattle.tk_writers.proofs.Lengths.ShortMatrix.{length_short_matrix}
+use Rattle.tk_writers.proofs.Saying.{one_line, name_line, whole_lines, lines-listed, lines-none, clean, says, says-header, says-section, says-rows, says-eof, decided-says, read_within}
 use Rattle.tk_lines.proofs.Sections.MiddleOfSection.{token}
 use Rattle.tk_writers.proofs.Written.WrittenHeaders.{after_1, after_2, after_3, after_4, after_5, after_6, name_value, size_value, format_value, name_piece, type_piece, size_piece, weight_type_piece, format_piece, name_passes, type_passes, size_passes, size_read, weight_type_passes, format_passes, format_read, name_read}
 use Rattle.tk_writers.proofs.Written.WrittenLines.{whole_line, lines-written, lines-rows, row_lines, row_tokens, next_line, tokens-rows, last_of_rows, rows_written, numbers_written, AreWritten, ShortRows}
@@ -207,10 +208,14 @@ module _ (name : List ℕ) (n : ℕ) (table : ℕ → ℕ → ℕ) (f : Format) 
       ∙ ap (lines true 1) (append_assoc (flat_map line (head_lines name n f)) (flat_map number_line rows) (line (codes "EOF")))
       ∙ lines_of_text name n f is_name high rows small
 
-  pub reads_back : ReadsBack name n table f
-  reads_back =
+  said : problem_decided true (matrix_text name n table f) ≡ Some (Ok (answer name n (lower_triangle n table)))
+  said =
       let all : List Line = whole_lines 1 (head_lines name n f) ++ section_lines rows in
       decided-says problem_format (matrix_text name n table f)
       ∙ ap (λ (ls : List Line). says problem_format [] 0 ls (end_piece ls)) text_lines
       ∙ says-head name n f is_name low high (section_lines rows) (end_piece all)
       ∙ says-body (end_piece all)
+
+  pub reads_back : ReadsBack name n table f
+  reads_back =
+      read_within problem_decided (matrix_text name n table f) (answer name n (lower_triangle n table)) (length_short_matrix name n table f is_name.short high small) said

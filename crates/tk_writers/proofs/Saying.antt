@@ -6,10 +6,13 @@ use Rattle.std.proofs.lemmas.Bool.{lt-leb, ne_eqb}
 use Rattle.std.proofs.lemmas.List.Elements.{All-head, All-tail}
 use Rattle.tk_words.specs.declared.fault.TextFault.{TextFault}
 use Rattle.tk_words.specs.declared.keyword.Keyword.{Keyword}
+use Rattle.tk_words.specs.Drive.{Decided, text_limit}
 use Rattle.tk_words.specs.Lex.{LF, Line, Token, is_blank, behind, lines}
 use Rattle.tk_lines.specs.Pieces.{Piece, Header, Section, Clean, Format, cut, decided_by, end_piece, judge, last_line, pieces_at, stop, after_tokens}
 use Rattle.tk_words.specs.Words.{keyword_of, section_word, rest_word}
 use Rattle.tk_pen.specs.Written.{line}
+use Rattle.tk_writers.specs.ReadBack.{IsReadBackAs}
+use Rattle.tk_words.proofs.Driving.{answer_ended}
 use Rattle.tk_lines.proofs.Sections.MiddleOfSection.{cut-covered, token}
 use Rattle.tk_writers.proofs.Written.WrittenLines.{whole_line, lines-written, row_lines, next_line, cut-rows}
 use Rattle.tk_lines.proofs.Lines.{OnOneLine}
@@ -95,3 +98,8 @@ module _ {V : Type 0} (f : Format V) where
   says-eof before upto e ls end lt none =
       let later : leb e upto ≡ false = lt-leb _ _ lt in
       rw (later, none) refl
+
+-- ---- a text within its limit
+
+pub read_within : {V : Type 0} (d : Decided V) (text : List ℕ) (v : V) → length text ≤ text_limit → d true text ≡ Some (Ok v) → IsReadBackAs d text v
+read_within d text v fits said = record { fits = fits; answer = answer_ended d text_limit text (Ok v) fits said }

@@ -8,12 +8,14 @@ use Rattle.std.proofs.lemmas.List.{append-nil, length-append}
 use Rattle.tk_words.specs.Lex.{Line, Token, lines, tokens_of, after_word, is_empty, front, behind}
 use Rattle.tk_words.specs.Entry.{numbers_of}
 use Rattle.tk_pen.specs.Written.{line, spaced_numbers}
-use Rattle.tk_writers.specs.SolutionWritten.{route_lines}
+use Rattle.tk_writers.specs.SolutionWritten.{route_lines, solution_text}
 use Rattle.tk_lists.specs.Solution.{Behind, route_line, number_head, SolutionLine, Route, Cost, Empty, routes_of, count_of, has_cost, cost_of, customers_stop, line_of, line_stop, judge_lines, solution_decided}
 use Rattle.tk_writers.specs.ReadBack.{IsSolution, SolutionReadsBack}
 use Rattle.tk_lines.proofs.Headers.ByteRuns.{front-all, behind-all}
 use Rattle.tk_lines.proofs.Sections.MiddleOfSection.{tokens_of-gap, tokens_of-none, tokens_of-last}
 use Rattle.tk_lists.proofs.SolutionLines.{routes_of-append, count_of-append, has_cost-append, cost_of-append}
+use Rattle.tk_writers.proofs.Lengths.ListLength.{length_solution_text}
+use Rattle.tk_writers.proofs.Saying.{read_within}
 use Rattle.tk_writers.proofs.Written.WrittenLines.{whole_line, lines-written}
 use Rattle.tk_writers.proofs.Written.WrittenNumbers.{IsDigit, is_digit, digit_solid, spelled, IsShort, short_decimal, integer_decimal, decimal_run, decimal_line, one_line_append, AllShort, numbers_line, numbers_tokens, number_token}
 use Rattle.tk_lines.proofs.Lines.{OnOneLine}
@@ -143,6 +145,10 @@ module _ (c : ℕ) (cheap : IsShort c) where
       let passes : line_stop before n true here ≡ None = rw (unpriced, room, fine) refl in
       ap (judge_lines before m w) split ∙ judged before m n w (route_bytes k r) (lines true (suc n) (route_lines (k + 1) rs ++ line (codes "Cost " ++ decimal c))) here is passes ∙ (rest ∙ rw more (ap (λ (x : List (List ℕ)). Some (Ok (x, pos c))) (append_assoc (routes_of before) (r ∷ []) rs)))
 
-pub solution_read_back : (routes : List (List ℕ)) (cost : ℕ) → IsSolution routes cost → SolutionReadsBack routes cost
+said : (routes : List (List ℕ)) (cost : ℕ) → IsSolution routes cost → solution_decided true (solution_text routes cost) ≡ Some (Ok (routes, pos cost))
 unfolding solution_decided
-solution_read_back routes cost h = reads cost (omega (arith, h.cheap)) [] 1 1 1 true routes refl (omega (arith, h.few)) (omega (arith, h.customers)) h.small (omega (arith, h.few))
+said routes cost h = reads cost (omega (arith, h.cheap)) [] 1 1 1 true routes refl (omega (arith, h.few)) (omega (arith, h.customers)) h.small (omega (arith, h.few))
+
+pub solution_read_back : (routes : List (List ℕ)) (cost : ℕ) → IsSolution routes cost → SolutionReadsBack routes cost
+solution_read_back routes cost h =
+    read_within solution_decided (solution_text routes cost) (routes, pos cost) (length_solution_text routes cost h.few h.customers) (said routes cost h)

@@ -11,7 +11,7 @@ use Rattle.tk_lines.specs.Pieces.{Piece, Section, Clean, end_piece, end_token, l
 use Rattle.tk_writers.specs.ReadBack.{IsTour, TourReadsBack}
 use Rattle.tk_lines.specs.Scan.{first_word}
 use Rattle.tk_lines.specs.Lists.{entries, list_extent, AreEntries}
-use Rattle.tk_lists.specs.Tour.{entries_stop, entry_stop, tour_format}
+use Rattle.tk_lists.specs.Tour.{entries_stop, entry_stop, tour_decided, tour_format}
 use Rattle.tk_words.specs.Entry.{is_eof, is_eof_word, is_keyword, is_some_word, natural_or_zero, numbers_of}
 use Rattle.tk_writers.specs.TourWritten.{tour_head, tour_text}
 use Rattle.tk_words.specs.Words.{keyword_of, section_word, rest_word}
@@ -19,7 +19,8 @@ use Rattle.tk_pen.specs.Written.{line}
 use Rattle.tk_lines.proofs.Sections.SectionEnds.{take_whole, last_line-append}
 use Rattle.tk_lists.proofs.Lists.{entries_ended, list_ended}
 use Rattle.tk_words.proofs.NoWord.{integer-no_word}
-use Rattle.tk_writers.proofs.Saying.{one_line, name_line, whole_lines, lines-listed, lines-none, clean, says, says-header, says-section, says-rows, says-covered, says-eof, decided-says}
+use Rattle.tk_writers.proofs.Saying.{one_line, name_line, whole_lines, lines-listed, lines-none, clean, says, says-header, says-section, says-rows, says-covered, says-eof, decided-says, read_within}
+use Rattle.tk_writers.proofs.Lengths.ListLength.{length_tour_text}
 use Rattle.tk_lines.proofs.Headers.HeaderBytes.{trimmed_short}
 use Rattle.tk_lines.proofs.Sections.MiddleOfSection.{token}
 use Rattle.tk_writers.proofs.Written.WrittenHeaders.{headed, size_value, first_word_run}
@@ -329,8 +330,8 @@ module _ (name : List ℕ) (size : ℕ) (cities : List ℕ) (h : IsTour name siz
       ∙ says-eof tour_format (after_5 name size n taken) e (suc e) (whole_line (suc (suc e)) [] ∷ []) end (omega arith) at_end_passes
       ∙ ap (λ (cs : List ℕ). Some (Ok cs)) (numbers_read toks cities written h.small h.few e)
 
-  reads_back : TourReadsBack name size cities
-  reads_back =
+  said : tour_decided true (tour_text name size cities) ≡ Some (Ok cities)
+  said =
       let all : List Line = whole_lines 1 (tour_head name size n) ++ section_lines in
       decided-says tour_format (tour_text name size cities)
       ∙ ap (λ (ls : List Line). says tour_format [] 0 ls (end_piece ls)) text_lines
@@ -338,4 +339,5 @@ module _ (name : List ℕ) (size : ℕ) (cities : List ℕ) (h : IsTour name siz
       ∙ says-body (end_piece all)
 
 pub tour_read_back : (name : List ℕ) (size : ℕ) (cities : List ℕ) → IsTour name size cities → TourReadsBack name size cities
-tour_read_back name size cities h = reads_back name size cities h
+tour_read_back name size cities h =
+    read_within tour_decided (tour_text name size cities) cities (length_tour_text name size cities h.named.short h.few) (said name size cities h)

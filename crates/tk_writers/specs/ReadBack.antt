@@ -1,7 +1,8 @@
 -- What a matrix text, a solution text and a tour text say to a reader.
-use Rattle.std.specs.Prelude.{◌≡◌, ◌≢◌, ℕ, ◌-◌, ◌*◌, ◌^◌, ◌<◌, ◌≤◌, true, List, length, map, flat_map, Some, None, Ok, pos}
+use Rattle.std.specs.Prelude.{◌≡◌, ◌≢◌, ℕ, ◌-◌, ◌*◌, ◌^◌, ◌<◌, ◌≤◌, List, length, map, flat_map, None, Ok, pos}
 use Rattle.std.specs.List.{range_with_len, concat, AllByRecursion}
 use Rattle.tk_problem.specs.declared.weights.Format.{Format}
+use Rattle.tk_words.specs.Drive.{Decided, answer_of, text_limit}
 use Rattle.tk_writers.specs.MatrixText.{matrix_text}
 use Rattle.tk_lists.specs.Solution.{solution_decided}
 use Rattle.tk_writers.specs.SolutionWritten.{solution_text}
@@ -9,6 +10,11 @@ use Rattle.tk_lists.specs.Tour.{tour_decided}
 use Rattle.tk_writers.specs.TourWritten.{tour_text}
 use Rattle.tk_problem_text.specs.Problem.{Lower, problem_decided}
 use Rattle.tk_problem_text.specs.Names.{IsName}
+
+-- a text that keeps the limit of texts, and whose answer is this value
+pub record IsReadBackAs {V : Type 0} (decided : Decided V) (text : List ℕ) (value : V) : Type 0 where
+  pub fits : length text ≤ text_limit
+  pub answer : answer_of decided text_limit text ≡ Ok value
 
 -- a table of weights as a problem can have them
 pub record IsTable (n : ℕ) (table : ℕ → ℕ → ℕ) : Type 0 where
@@ -23,7 +29,7 @@ lower_triangle n table = flat_map (λ a. map (table a) (range_with_len 1 (a - 1)
 -- the text is read as a problem of this name and these weights
 abbrev pub ReadsBack : List ℕ → ℕ → (ℕ → ℕ → ℕ) → Format → Type 0
 ReadsBack name n table f =
-    problem_decided true (matrix_text name n table f) ≡ Some (Ok (record { name = name; n = n; weights = Lower (lower_triangle n table); routing = None }))
+    IsReadBackAs problem_decided (matrix_text name n table f) (record { name = name; n = n; weights = Lower (lower_triangle n table); routing = None })
 
 -- routes and a cost as a solution text can have them
 pub record IsSolution (routes : List (List ℕ)) (cost : ℕ) : Type 0 where
@@ -34,7 +40,7 @@ pub record IsSolution (routes : List (List ℕ)) (cost : ℕ) : Type 0 where
 
 -- the text is read as these routes and this cost
 abbrev pub SolutionReadsBack : List (List ℕ) → ℕ → Type 0
-SolutionReadsBack routes cost = solution_decided true (solution_text routes cost) ≡ Some (Ok (routes, pos cost))
+SolutionReadsBack routes cost = IsReadBackAs solution_decided (solution_text routes cost) (routes, pos cost)
 
 -- a name, a length and cities as a tour text can have them: behind the name there is room for the length and the text's ending
 pub record IsTour (name : List ℕ) (size : ℕ) (cities : List ℕ) : Type 0 where
@@ -47,4 +53,4 @@ pub record IsTour (name : List ℕ) (size : ℕ) (cities : List ℕ) : Type 0 wh
 
 -- the text is read as these cities
 abbrev pub TourReadsBack : List ℕ → ℕ → List ℕ → Type 0
-TourReadsBack name size cities = tour_decided true (tour_text name size cities) ≡ Some (Ok cities)
+TourReadsBack name size cities = IsReadBackAs tour_decided (tour_text name size cities) cities

@@ -58,7 +58,7 @@ length_format_word formats.LowerCol = omega arith
 length_format_word formats.UpperDiagCol = omega arith
 length_format_word formats.LowerDiagCol = omega arith
 
-length_matrix_head : (name : List ℕ) (n : ℕ) (f : Format) → length (matrix_head name n f) ≤ length name + 200
+pub length_matrix_head : (name : List ℕ) (n : ℕ) (f : Format) → length (matrix_head name n f) ≤ length name + 200
 length_matrix_head name n f =
     let word = length_format_word f in
     let number = length_decimal n in

@@ -1,8 +1,9 @@
 -- The numbers of a matrix text, by the order of its format.
-use Rattle.std.proofs.Common.{◌≡◌, ℕ, zero, suc, ◌+◌, ◌-◌, ◌<◌, ◌≤◌, List, [], ◌∷◌, ◌++◌, map, refl, sym, ap, ◌∙◌, arith}
-use Rattle.std.proofs.lemmas.List.{map-append}
+use Rattle.std.proofs.Common.{◌≡◌, ℕ, zero, suc, ◌+◌, ◌-◌, ◌<◌, ◌≤◌, List, [], ◌∷◌, ◌++◌, length, map, refl, sym, ap, ◌∙◌, arith}
+use Rattle.std.proofs.lemmas.List.{length-map, map-append}
+use Rattle.std.proofs.lemmas.List.FromFn.{length-range_with_len}
 use Rattle.std.specs.Prelude.{flat_map}
-use Rattle.std.specs.List.{range_with_len}
+use Rattle.std.specs.List.{AllByRecursion, range_with_len}
 use Rattle.tk_problem.specs.declared.place.Place.{Place}
 use Rattle.tk_problem.specs.declared.weights.Format.{Format}
 use Rattle.tk_problem.specs.declared.weights.Format.TheVariants as formats
@@ -112,7 +113,7 @@ triangle-from n table s (suc c) h =
 pub triangle-order : (n : ℕ) (table : ℕ → ℕ → ℕ) → lower_triangle n table ≡ map (at_place table) (order formats.LowerRow n)
 triangle-order n table = triangle-from n table 0 n (omega arith) ∙ rows-order n table formats.LowerRow
 
--- ---- numbers that are short
+-- ---- how many numbers
 
 end_item-le : (f : Format) (n k : ℕ) → k < n → end_item f n k ≤ n
 end_item-le formats.FullMatrix n k h = omega arith
@@ -124,6 +125,24 @@ end_item-le formats.UpperCol n k h = omega arith
 end_item-le formats.LowerCol n k h = omega arith
 end_item-le formats.UpperDiagCol n k h = omega arith
 end_item-le formats.LowerDiagCol n k h = omega arith
+
+row-narrow : (n : ℕ) (table : ℕ → ℕ → ℕ) (f : Format) (k : ℕ) → k < n → length (row_values n table f k) ≤ n
+row-narrow n table f k h =
+    let from : ℕ = first_item f k in
+    let count : ℕ = end_item f n k - first_item f k in
+    omega (arith, end_item-le f n k h, length-map (map (place_on f k) (range_with_len from count)) (at_place table), length-map (range_with_len from count) (place_on f k), length-range_with_len from count)
+
+rows-narrow-from : (n : ℕ) (table : ℕ → ℕ → ℕ) (f : Format) (most s c : ℕ) → n ≤ most → s + c ≤ n → AllByRecursion (λ row. length row ≤ most) (map (row_values n table f) (range_with_len s c))
+rows-narrow-from n table f most s zero few h = tt
+rows-narrow-from n table f most s (suc c) few h = (omega (arith, row-narrow n table f s (omega arith)), rows-narrow-from n table f most (s + 1) c few (omega arith))
+
+pub rows-narrow : (n : ℕ) (table : ℕ → ℕ → ℕ) (f : Format) (most : ℕ) → n ≤ most → AllByRecursion (λ row. length row ≤ most) (rows_of n table f)
+rows-narrow n table f most few = rows-narrow-from n table f most 0 n few (omega arith)
+
+pub count_rows : (n : ℕ) (table : ℕ → ℕ → ℕ) (f : Format) → length (rows_of n table f) ≡ n
+count_rows n table f = length-map (range_with_len 0 n) (row_values n table f) ∙ length-range_with_len 0 n
+
+-- ---- numbers that are short
 
 module _ (n : ℕ) (table : ℕ → ℕ → ℕ) (short : (a b : ℕ) → 1 ≤ a → a ≤ n → 1 ≤ b → b ≤ n → IsShort (table a b)) where
   value-short : (f : Format) (k m : ℕ) → k < n → m < n → IsShort (at_place table (place_on f k m))

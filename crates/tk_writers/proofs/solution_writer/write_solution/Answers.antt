@@ -1,4 +1,4 @@
-use Rattle.std.proofs.Common.{rules, subst, ap, ◌≡◌}
+use Rattle.std.proofs.Common.{rules, arith, subst, ap, ◌≡◌}
 use Rattle.std.specs.Prelude.{map}
 use Rattle.std.proofs.lemmas.List.{length-map}
 use Rattle.std.specs.Int.RustNames.{unsigned_abs}
@@ -20,7 +20,7 @@ returns-clause-text g c =
 pub returns-clause-failed : goal.returns-clause-failed
 returns-clause-failed g c = λ few customers.
     broken_at_err g.W.Sink.taken g.W.Sink.broken c.args.w.now _ _ (solution_text (map (λ r. r.items) c.args.routes.now) c.unsigned_abs.result)
-    (length_solution_text (map (λ r. r.items) c.args.routes.now) c.unsigned_abs.result (rw length-map few) customers)
+    (omega (arith, length_solution_text (map (λ r. r.items) c.args.routes.now) c.unsigned_abs.result (rw length-map few) customers))
     (Writes-end g.W.Sink.taken g.W.Sink.broken c.args.w.now _ _ _ _ _ _ c.new-pen.ensures.empty c.put_solution.ensures c.end.ensures (search rules))
 
 pub returns-clause-read_back : goal.returns-clause-read_back

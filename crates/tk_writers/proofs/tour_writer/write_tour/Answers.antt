@@ -1,4 +1,4 @@
-use Rattle.std.proofs.Common.{rules, subst, ap, ◌≡◌}
+use Rattle.std.proofs.Common.{rules, arith, subst, ap, ◌≡◌}
 use Rattle.std.specs.Int.RustNames.{unsigned_abs}
 use Rattle.tk_pen.specs.Pens.{Puts}
 use Rattle.tk_writers.specs.TourWritten.{tour_text}
@@ -18,7 +18,7 @@ returns-clause-text g c =
 pub returns-clause-failed : goal.returns-clause-failed
 returns-clause-failed g c = λ short few.
     broken_at_err g.W.Sink.taken g.W.Sink.broken c.args.w.now _ _ (tour_text c.args.name.now c.unsigned_abs.result c.args.cities.now)
-    (length_tour_text c.args.name.now c.unsigned_abs.result c.args.cities.now short few)
+    (omega (arith, length_tour_text c.args.name.now c.unsigned_abs.result c.args.cities.now short few))
     (Writes-end g.W.Sink.taken g.W.Sink.broken c.args.w.now _ _ _ _ _ _ c.new-pen.ensures.empty c.put_tour.ensures c.end.ensures (search rules))
 
 pub returns-clause-read_back : goal.returns-clause-read_back
