@@ -2,22 +2,24 @@
 """Runs two programs in turn on each parameter file of the current folder, and prints their times beside each other.
 
 usage: compare.py ROUNDS TWIN [TOURKIT]
+
+The twin runs twice: as it is, and with --whole.
 """
 import glob
 import os
 import sys
 
 
-def run(program, parameters):
+def run(program, parameters, *flags):
     """The processor time of a run in milliseconds, and what it wrote: to standard output, and into its file."""
-    file = parameters.removesuffix(".par") + ".out"
+    words = [program, "solve", parameters, *flags]
     with open("stdout", "wb") as out:
-        child = os.posix_spawn(program, [program, "solve", parameters], os.environ, file_actions=[(os.POSIX_SPAWN_DUP2, out.fileno(), 1)])
+        child = os.posix_spawn(program, words, os.environ, file_actions=[(os.POSIX_SPAWN_DUP2, out.fileno(), 1)])
         _, status, usage = os.wait4(child, 0)
     if status != 0:
-        sys.exit(f"{program} solve {parameters}: status {os.waitstatus_to_exitcode(status)}")
+        sys.exit(f"{' '.join(words)}: status {os.waitstatus_to_exitcode(status)}")
     written = []
-    for name in ["stdout", file]:
+    for name in ["stdout", parameters.removesuffix(".par") + ".out"]:
         with open(name, "rb") as text:
             written.append(text.read())
         os.remove(name)
@@ -26,21 +28,24 @@ def run(program, parameters):
 
 def main():
     rounds, twin = int(sys.argv[1]), sys.argv[2]
-    tourkit = sys.argv[3] if len(sys.argv) > 3 else None
-    print(f"{'input':<16} {'tourkit ms':>10} {'twin ms':>10} {'ratio':>6} {'bytes':>7} {'routes':>7}")
-    for parameters in sorted(glob.glob("*.par"), key=lambda name: (len(name.split("-")[0]), len(name))):
-        by_twin, by_tourkit, same = [], [], "-"
+    runs = {"twin": [twin], "whole": [twin, "--whole"]}
+    if len(sys.argv) > 3:
+        runs["tourkit"] = [sys.argv[3]]
+    print(f"{'input':<14}{'tourkit ms':>12}{'twin ms':>10}{'ratio':>7}{'whole ms':>10}{'ratio':>7}{'bytes':>8}{'routes':>8}")
+    for parameters in sorted(glob.glob("*.par"), key=lambda name: (len(name.split("-")[0]), len(name), name)):
+        least, texts = {}, []
         for _ in range(rounds):
-            time, wanted = run(twin, parameters)
-            by_twin.append(time)
-            if tourkit:
-                time, written = run(tourkit, parameters)
-                by_tourkit.append(time)
-                same = "same" if written == wanted and same != "differ" else "differ"
-        routes = wanted[1].count(b"Route")
-        told = f"{min(by_tourkit):>10.2f}" if tourkit else f"{'-':>10}"
-        ratio = f"{min(by_tourkit) / min(by_twin):>6.2f}" if tourkit else f"{'-':>6}"
-        print(f"{parameters.removesuffix('.par'):<16} {told} {min(by_twin):>10.2f} {ratio} {same:>7} {routes:>7}")
+            for name, (program, *flags) in runs.items():
+                time, written = run(program, parameters, *flags)
+                least[name] = min(time, least.get(name, time))
+                texts.append(written)
+        same = "same" if all(written == texts[0] for written in texts) else "differ"
+        tourkit = least.get("tourkit")
+        ratios = [f"{tourkit / least[name]:.2f}" if tourkit else "-" for name in ["twin", "whole"]]
+        print(
+            f"{parameters.removesuffix('.par'):<14}{f'{tourkit:.2f}' if tourkit else '-':>12}{least['twin']:>10.2f}{ratios[0]:>7}"
+            f"{least['whole']:>10.2f}{ratios[1]:>7}{same:>8}{texts[0][1].count(b'Route'):>8}"
+        )
 
 
 main()

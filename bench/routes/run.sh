@@ -5,7 +5,8 @@
 #
 # TOURKIT is a program that has the command solve; without one the twin alone is timed. The twin is that of bench/solve: savings merges over
 # near lists by a k-d tree, in constant time for each pair, and then one descent for each route. The table has the least processor time
-# (user and system) of all rounds, 20 by default, in milliseconds; the name of an input ends in its MAX_CANDIDATES.
+# (user and system) of all rounds, 20 by default, in milliseconds; the name of an input ends in its MAX_CANDIDATES. The twin is timed twice:
+# with distances by the processor's roots, and (whole) by exact roots of whole numbers, as in tourkit.
 set -eu
 here=$(cd "$(dirname "$0")" && pwd)
 rounds=20
