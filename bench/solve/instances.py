@@ -52,10 +52,7 @@ def main():
         write(f"{name}.par", f"{keys}MAX_TRIALS = {trials // divisor}\n")
         write(f"{name}-once.par", f"{keys}MAX_TRIALS = 1\n")
         write(f"{name}-savings.par", f"{keys}MAX_TRIALS = 1\nCONSTRUCTION = SAVINGS\n")
-    for n, capacity in [(1_000, 1_000), (5_000, 5_000)]:
-        name = f"cvrp{n}"
-        write(f"{name}.vrp", problem(draw, name, n, capacity))
-        write(f"{name}.par", f"PROBLEM_FILE = {name}.vrp\nMAX_CANDIDATES = 5\nSOLUTION_FILE = {name}.out\n")
 
 
-main()
+if __name__ == "__main__":
+    main()

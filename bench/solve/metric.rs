@@ -410,16 +410,16 @@ impl Metric for Triangle {
     }
 }
 
-/// Runs `$then` with the metric of a problem's weights.
+/// Runs `$then` with the metric of a problem's weights. Where `$whole` holds, no distance is computed by floating point.
 #[macro_export]
 macro_rules! with_metric {
-    ($weights:expr, $n:expr, $metric:ident => $then:expr) => {
+    ($weights:expr, $n:expr, $whole:expr, $metric:ident => $then:expr) => {
         match $weights {
             Weights::Lower(lower) => {
                 let $metric = Triangle::new($n, lower);
                 $then
             }
-            Weights::Points(Kind::Euc2d, points) => match ShortEuclid::new(&points) {
+            Weights::Points(Kind::Euc2d, points) => match ShortEuclid::new(&points).filter(|_| !$whole) {
                 Some($metric) => $then,
                 None => {
                     let $metric = Plane::<Euclid>::new(&points);

@@ -1,5 +1,5 @@
 #!/bin/bash
-# Times `tourkit solve` against its twin in plain Rust on uniform cities and customers, and compares what they write.
+# Times `tourkit solve` against its twin in plain Rust on uniform cities, and compares what they write.
 #
 # usage: bench/solve/run.sh [-n ROUNDS] [-s] [TOURKIT]
 #

@@ -1,9 +1,10 @@
 //! `tourkit solve` in plain Rust: the same files, the same search, the same bytes.
 //!
-//! usage: twin solve PAR [--times] [--as-given]
+//! usage: twin solve PAR [--times] [--as-given] [--whole]
 //!
 //! With --times a line of standard error tells how long each part took. With --as-given the search numbers cities as the problem does,
-//! and not by their places in the start.
+//! and not by their places in the start. With --whole distances come from exact roots of whole numbers, as in tourkit; without it those of
+//! EUC_2D come from the processor's roots where these are exact.
 
 mod descent;
 mod metric;
@@ -97,6 +98,7 @@ fn initial(name: &str, n: usize) -> Vec<u32> {
 struct Flags {
     times: bool,
     as_given: bool,
+    whole: bool,
 }
 
 fn solve_tour<M: Metric>(
@@ -175,9 +177,9 @@ fn main() {
     let (parameter_file, flags) = match &words[..] {
         [command, file, rest @ ..] if command == "solve" => {
             let has = |flag: &str| rest.iter().any(|word| word == flag);
-            (file, Flags { times: has("--times"), as_given: has("--as-given") })
+            (file, Flags { times: has("--times"), as_given: has("--as-given"), whole: has("--whole") })
         }
-        _ => fail(2, "usage: twin solve PAR [--times] [--as-given]".to_string()),
+        _ => fail(2, "usage: twin solve PAR [--times] [--as-given] [--whole]".to_string()),
     };
     let mut times = Times { begin: Instant::now(), parts: vec![] };
     let params = accepted(parameter_file, params::read_params(&text_of(parameter_file)));
@@ -193,7 +195,7 @@ fn main() {
     }
     let given = params.initial_tour_file.as_ref().map(|file| initial(file, n));
     times.end("read");
-    let (lines, file) = with_metric!(weights, n, metric => match &routing {
+    let (lines, file) = with_metric!(weights, n, flags.whole, metric => match &routing {
         None => solve_tour(&metric, &title, given, &params, &flags, &mut times),
         Some(routing) => solve_routes(&metric, routing, &params, &mut times),
     });

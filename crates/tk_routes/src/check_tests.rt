@@ -15,6 +15,15 @@ pub(crate) const DEPOT_BETWEEN: &[u8] =
 const TSP: &[u8] =
     b"TYPE : TSP\nDIMENSION : 2\nEDGE_WEIGHT_TYPE : EUC_2D\nNODE_COORD_SECTION\n1 0 0\n2 5 0\nEOF\n";
 
+/// These routes as lists.
+pub(crate) fn lists_of(alloc: Global, routes: &[&[u32]]) -> Result<Vec<Vec<u32>>, Fail> {
+    let mut lists = Vec::new(alloc);
+    for route in routes {
+        lists.push(route.to_vec(alloc)?)?;
+    }
+    Ok(lists)
+}
+
 /// The verdict of routes of that cost.
 fn verdict(
     alloc: Global,
@@ -24,12 +33,8 @@ fn verdict(
 ) -> Result<RouteVerdict, Fail> {
     let problem = read_problem(alloc, &mut FromRead::new(problem))?;
     let cvrp = Cvrp::of(&problem).ok_or("a TSP")?;
-    let mut lists = Vec::new(alloc);
-    for route in routes {
-        lists.push(route.to_vec(alloc)?)?;
-    }
     let text = SolText {
-        routes: lists,
+        routes: lists_of(alloc, routes)?,
         cost,
     };
     Ok(check_routes(alloc, &cvrp, &text)?)

@@ -5,16 +5,14 @@ mod check;
 #[cfg(test)]
 mod check_tests;
 mod cvrp;
-#[cfg(test)]
-mod improve_tests;
 mod improving;
 mod laws;
 mod merging;
 mod one_route;
 mod route_report;
-mod routes;
 #[cfg(test)]
-mod savings_tests;
+mod route_tests;
+mod routes;
 mod verdict;
 
 pub use check::check_routes;

@@ -44,6 +44,16 @@ fn list_places(alloc: Global, n: u32) -> Result<Vec<u32>, AllocError>
     Ok(places)
 }
 
+/// The cities 1 to n, all of them awake.
+fn wake_each_city(alloc: Global, n: u32) -> Result<Waking, AllocError>
+    ensures size { IfOk result (λ w. w.size ≡ n) }
+    ensures queue { IfOk result (λ w. w.queue ≡ one_to n) }
+{
+    let mut waking = Waking::new(alloc, n)?;
+    waking.wake_all();
+    Ok(waking)
+}
+
 /// A descent from 1, 2, .. with all cities awake.
 fn descend_awake<M: Metric>(
     alloc: Global,
@@ -68,8 +78,7 @@ fn descend_awake<M: Metric>(
     let Ok(mut tour) = ArrayTour::from_list(alloc, &places) else {
         return Err(AllocError);
     };
-    let mut waking = Waking::new(alloc, n)?;
-    waking.wake_all();
+    let mut waking = wake_each_city(alloc, n)?;
     let before = length(metric, &places);
     let mut gains = Probe::new(metric);
     let report = descend(&mut tour, &mut gains, near, &mut waking, m, before);

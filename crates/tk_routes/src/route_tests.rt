@@ -1,0 +1,169 @@
+//! Worked examples of routes: those of the savings merges, and those that become of them.
+ghost use Rattle.std.specs.Prelude.{◌≡◌, IfOk};
+ghost use Rattle.tk_routes.specs.Cvrps.{instance_of};
+ghost use Rattle.tk_routes.specs.RouteLists.{instance_of_routes};
+
+use crate::check_tests::{DEPOT_BETWEEN, TWO_SIDES, lists_of};
+use crate::{Cvrp, RouteReport, RouteVerdict, Routes, check_routes, improve, savings};
+use std::alloc::{AllocError, Global};
+use std::process::Abort;
+use std::test::Fail;
+use tk_near::near_scan;
+use tk_text::{FromRead, SolText, read_problem};
+
+/// As `TWO_SIDES`, with vehicles for all.
+const ROOM_FOR_ALL: &[u8] =
+    b"NAME : v\nTYPE : CVRP\nDIMENSION : 5\nEDGE_WEIGHT_TYPE : EUC_2D\nCAPACITY : 4\nNODE_COORD_SECTION\n1 0 0\n2 10 0\n3 11 0\n4 -10 0\n5 -11 0\nDEMAND_SECTION\n1 0\n2 1\n3 1\n4 1\n5 1\nDEPOT_SECTION\n1\n-1\nEOF\n";
+
+const LISTED: &[u8] =
+    b"NAME : v\nTYPE : CVRP\nDIMENSION : 5\nCAPACITY : 4\nEDGE_WEIGHT_TYPE : EXPLICIT\nEDGE_WEIGHT_FORMAT : UPPER_ROW\nEDGE_WEIGHT_SECTION\n10 10 10 10\n10 11 11\n12 19\n20\nDEMAND_SECTION\n1 0\n2 1\n3 1\n4 1\n5 1\nDEPOT_SECTION\n1\n-1\nEOF\n";
+
+/// Vehicles for two of three customers. Each pair saves 10.
+const EQUAL_PAIRS: &[u8] =
+    b"TYPE : CVRP\nDIMENSION : 4\nCAPACITY : 2\nEDGE_WEIGHT_TYPE : EXPLICIT\nEDGE_WEIGHT_FORMAT : UPPER_ROW\nEDGE_WEIGHT_SECTION\n10 10 10\n10 10\n10\nDEMAND_SECTION\n1 0\n2 1\n3 1\n4 1\nDEPOT_SECTION\n1\n-1\nEOF\n";
+
+/// The same, but that customers 1 and 2 save only 5 together.
+const EQUAL_WITH_THE_LAST: &[u8] =
+    b"TYPE : CVRP\nDIMENSION : 4\nCAPACITY : 2\nEDGE_WEIGHT_TYPE : EXPLICIT\nEDGE_WEIGHT_FORMAT : UPPER_ROW\nEDGE_WEIGHT_SECTION\n10 10 10\n15 10\n10\nDEMAND_SECTION\n1 0\n2 1\n3 1\n4 1\nDEPOT_SECTION\n1\n-1\nEOF\n";
+
+/// The savings routes over the near lists of all other nodes.
+fn start<'a>(alloc: Global, cvrp: &Cvrp<'a>) -> Result<Routes<'a>, AllocError>
+    ensures { IfOk result (λ v. instance_of_routes v ≡ instance_of cvrp.now) }
+{
+    let near = near_scan(alloc, &cvrp.table(), cvrp.customers().min(100))?;
+    savings(alloc, cvrp, &near)
+}
+
+/// Whether the routes are these, and cost this.
+fn are(
+    alloc: Global,
+    cvrp: &Cvrp<'_>,
+    routes: &Routes<'_>,
+    want: &[&[u32]],
+    cost: i64,
+) -> Result<bool, Fail> {
+    let lists = lists_of(alloc, want)?;
+    let same = routes.lists() == lists.as_slice();
+    let text = SolText {
+        routes: lists,
+        cost,
+    };
+    let valid = RouteVerdict::Valid {
+        routes: want.len() as u64,
+        cost,
+    };
+    Ok(same && check_routes(alloc, cvrp, &text)? == valid)
+}
+
+/// What improving routes is to tell: the costs, then moves, tests and swaps.
+fn report(before: i64, after: i64, [moves, tests, swaps]: [u64; 3]) -> RouteReport {
+    RouteReport {
+        before,
+        after,
+        moves,
+        tests,
+        swaps,
+    }
+}
+
+/// The savings routes are these, and they become those, with this report.
+fn expect(
+    rt: &impl Abort,
+    alloc: Global,
+    problem: &[u8],
+    saved: &[&[u32]],
+    improved: &[&[u32]],
+    report: RouteReport,
+) -> Result<(), Fail> {
+    let problem = read_problem(alloc, &mut FromRead::new(problem))?;
+    let cvrp = Cvrp::of(&problem).ok_or("a TSP")?;
+    let mut routes = start(alloc, &cvrp)?;
+    assert!(rt; are(alloc, &cvrp, &routes, saved, report.before)?);
+    let told = improve(alloc, &cvrp, &mut routes, 5, 3)?;
+    assert_eq!(rt; told, report);
+    assert!(rt; are(alloc, &cvrp, &routes, improved, report.after)?);
+    Ok(())
+}
+
+/// Nothing is gained on two short routes: each has three nodes with two candidates and three tests for each. Routes that save nothing
+/// are not joined, whether or not there is room.
+#[test]
+fn two_sides_of_the_depot(rt: HostRuntime) -> Result<(), Fail> {
+    let told = report(44, 44, [0, 36, 0]);
+    for problem in [TWO_SIDES, ROOM_FOR_ALL] {
+        expect(
+            &rt,
+            rt.alloc(),
+            problem,
+            &[&[1, 2], &[3, 4]],
+            &[&[1, 2], &[3, 4]],
+            told,
+        )?;
+    }
+    Ok(())
+}
+
+/// Customer 2 is node 3.
+#[test]
+fn depot_that_is_not_the_first_node(rt: HostRuntime) -> Result<(), Fail> {
+    expect(
+        &rt,
+        rt.alloc(),
+        DEPOT_BETWEEN,
+        &[&[1, 2]],
+        &[&[1, 2]],
+        report(22, 22, [0, 18, 0]),
+    )
+}
+
+/// The depot's fourth test, of the segment of two that goes backward, gains 7; then come five looks of 26 tests each.
+#[test]
+fn one_move_of_seven(rt: HostRuntime) -> Result<(), Fail> {
+    let told = report(60, 53, [1, 134, 1]);
+    expect(
+        &rt,
+        rt.alloc(),
+        LISTED,
+        &[&[3, 1, 2, 4]],
+        &[&[3, 2, 1, 4]],
+        told,
+    )
+}
+
+/// Of equal savings the pair with the lower first customer is joined, and then the one with the lower second. A route of one customer
+/// takes four tests.
+#[test]
+fn equal_savings(rt: HostRuntime) -> Result<(), Fail> {
+    let told = report(50, 50, [0, 22, 0]);
+    expect(
+        &rt,
+        rt.alloc(),
+        EQUAL_PAIRS,
+        &[&[1, 2], &[3]],
+        &[&[1, 2], &[3]],
+        told,
+    )?;
+    expect(
+        &rt,
+        rt.alloc(),
+        EQUAL_WITH_THE_LAST,
+        &[&[1, 3], &[2]],
+        &[&[1, 3], &[2]],
+        told,
+    )
+}
+
+/// A call that finds no memory leaves the one route as it was, and a second call improves it.
+#[test]
+fn called_again_where_memory_was_refused(rt: HostRuntime) -> Result<(), Fail> {
+    let alloc = rt.alloc();
+    let problem = read_problem(alloc, &mut FromRead::new(LISTED))?;
+    let cvrp = Cvrp::of(&problem).ok_or("a TSP")?;
+    let mut routes = start(alloc, &cvrp)?;
+    if improve(alloc, &cvrp, &mut routes, 5, 3).is_err() {
+        assert!(rt; are(alloc, &cvrp, &routes, &[&[3, 1, 2, 4]], 60)?);
+        improve(alloc, &cvrp, &mut routes, 5, 3)?;
+    }
+    assert!(rt; are(alloc, &cvrp, &routes, &[&[3, 2, 1, 4]], 53)?);
+    Ok(())
+}
