@@ -55,6 +55,11 @@ def read_file(name, opened, read):
         raise Refused(f"tourkit: {name}:{fault}", 2) from None
 
 
+def open_word(name):
+    """Opens a file of the command line."""
+    return sys.stdin.buffer if name == "-" else open_file(name)
+
+
 def open_file(name):
     try:
         return os.path.isdir(name) or open(name, "rb")
@@ -81,7 +86,7 @@ def cycle_length(problem, cities):
 
 
 def check(problem_file, tour_file):
-    opened = open_file(problem_file), open_file(tour_file)
+    opened = open_word(problem_file), open_word(tour_file)
     problem = read_file(problem_file, opened[0], read_problem)
     cities = read_file(tour_file, opened[1], read_tour)
     fault = tour_fault(problem.n, cities)
@@ -91,7 +96,7 @@ def check(problem_file, tour_file):
 
 
 def near(problem_file, k):
-    problem = read_file(problem_file, open_file(problem_file), read_problem)
+    problem = read_file(problem_file, open_word(problem_file), read_problem)
     cities = range(1, problem.n + 1)
     lines = []
     for a in cities:
@@ -101,7 +106,7 @@ def near(problem_file, k):
 
 
 def matrix(problem_file, form):
-    problem = read_file(problem_file, open_file(problem_file), read_problem)
+    problem = read_file(problem_file, open_word(problem_file), read_problem)
     if problem.n > 5000:
         raise Refused(f"tourkit: {problem_file}: too large for a matrix", 2)
     rows = {}
@@ -113,7 +118,7 @@ def matrix(problem_file, form):
 
 
 def checksol(problem_file, solution_file):
-    opened = open_file(problem_file), open_file(solution_file)
+    opened = open_word(problem_file), open_word(solution_file)
     problem = read_file(problem_file, opened[0], read_problem)
     if not problem.cvrp:
         raise Refused(f"tourkit: {problem_file}: not a CVRP", 2)
@@ -150,7 +155,7 @@ def solution_fault(problem, routes, cost):
 
 def solve(par_file):
     """Refuses what solve refuses. Of a run that is not refused: the lines that name ignored keys, and None for the status."""
-    values, ignored = read_file(par_file, open_file(par_file), read_params)
+    values, ignored = read_file(par_file, open_word(par_file), read_params)
     problem_file, initial_file = values[b"PROBLEM_FILE"], values.get(b"INITIAL_TOUR_FILE")
     opened = open_file(problem_file), initial_file and open_file(initial_file)
     problem = read_file(problem_file, opened[0], read_problem)

@@ -1,21 +1,35 @@
 //! The subcommand `check`.
-use crate::command::problem_file;
+use crate::command::{problem_file, twice_standard};
+use crate::input::{STANDARD, open_two};
 use crate::report::{self, FOUND, USAGE};
 use clap::{Arg, ArgMatches, Command, Error};
 use std::alloc::Global;
-use std::fs::File;
 use std::process::ExitCode;
 use tk_engines::{Fault, check_engine};
 use tk_text::{FromRead, ToWrite};
 use tk_tour::Verdict;
 
+/// What `check --help` ends with.
+const HELP: &str = "Reads PROBLEM and TOUR, one of which may be - for standard input.
+Prints the length of the tour, or the first thing that is wrong with it.
+
+Exit status:
+  0  TOUR is a tour of PROBLEM
+  1  it is not
+  2  the arguments are wrong, or a file is invalid
+  3  a file cannot be read, output cannot be written, or memory has run out
+
+Example:
+  tourkit check examples/tri.tsp examples/tri.tour";
+
 /// The words of `check`.
 pub fn check<'a>(alloc: Global) -> Result<Command<'a>, Error> {
     let tour = Arg::new(alloc, "TOUR")
-        .help("a TSPLIB tour file")
+        .help("a TSPLIB tour file, or - for standard input")
         .required(true);
     let made = Command::new(alloc, "check")
-        .about("Checks a tour and tells its length")
+        .about("Checks a tour and prints its length")
+        .after_help(HELP)
         .arg(problem_file(alloc))?
         .arg(tour)?;
     Ok(made)
@@ -27,11 +41,12 @@ pub fn run(rt: &HostRuntime, words: &ArgMatches<'_>) -> ExitCode {
     else {
         return ExitCode::from(USAGE);
     };
-    let Ok(problem) = File::open(rt, problem_file) else {
-        return report::unopened(rt, problem_file);
-    };
-    let Ok(tour) = File::open(rt, tour_file) else {
-        return report::unopened(rt, tour_file);
+    if problem_file == STANDARD && tour_file == STANDARD {
+        return twice_standard(rt, check(rt.alloc()), "tourkit check");
+    }
+    let (problem, tour) = match open_two(rt, problem_file, tour_file) {
+        Ok(opened) => opened,
+        Err(status) => return status,
     };
     let mut problem = FromRead::new(problem);
     let mut tour = FromRead::new(tour);

@@ -4,14 +4,15 @@
 mod check_command;
 mod checksol_command;
 mod command;
+mod input;
 mod matrix_command;
 mod near_command;
+mod output;
 mod progress;
 mod report;
 mod solve_command;
 
-use clap::error::ErrorKind;
-use clap::{ArgMatches, Error};
+use clap::ArgMatches;
 use report::{SYSTEM, USAGE};
 use std::process::ExitCode;
 
@@ -35,18 +36,7 @@ fn parse(rt: &HostRuntime, words: &[String]) -> ExitCode {
     };
     match matches {
         Ok(matches) => run(rt, &matches),
-        Err(error) => refuse(rt, &error),
-    }
-}
-
-/// Shows help, the version, or what is wrong with the words.
-fn refuse(rt: &HostRuntime, error: &Error) -> ExitCode {
-    if error.kind() == ErrorKind::OutOfMemory {
-        return report::no_memory(rt);
-    }
-    match error.print(rt) {
-        Ok(()) => ExitCode::from(error.exit_code() as u8),
-        Err(_) => report::write_fault(rt),
+        Err(error) => report::refused(rt, &error),
     }
 }
 

@@ -4,14 +4,26 @@ ghost use Rattle.tk_text.specs.MatrixText.{format_word};
 ghost use Rattle.tk_text.specs.declared.Format.{Format};
 
 use crate::command::problem_file;
+use crate::input::open;
 use crate::report::{self, USAGE};
 use clap::builder::ValueParser;
 use clap::{Arg, ArgMatches, Command, Error};
 use std::alloc::Global;
-use std::fs::File;
 use std::process::ExitCode;
 use tk_engines::matrix_engine;
 use tk_text::{Format, FromRead, ToWrite};
+
+/// What `matrix --help` ends with.
+const HELP: &str = "Reads PROBLEM, of at most 5,000 nodes.
+Prints a TSPLIB problem file that lists every distance in the order of FORMAT.
+
+Exit status:
+  0  the matrix was printed
+  2  the arguments are wrong, PROBLEM is invalid, or it is too large
+  3  PROBLEM cannot be read, output cannot be written, or memory has run out
+
+Example:
+  tourkit matrix examples/five.tsp LOWER_DIAG_ROW";
 
 /// The words of the formats.
 static FORMATS: [&str; 9] = [
@@ -53,6 +65,7 @@ pub fn matrix<'a>(alloc: Global) -> Result<Command<'a>, Error> {
         .required(true);
     let made = Command::new(alloc, "matrix")
         .about("Prints a problem as a TSP with explicit weights")
+        .after_help(HELP)
         .arg(problem_file(alloc))?
         .arg(format)?;
     Ok(made)
@@ -66,8 +79,9 @@ pub fn run(rt: &HostRuntime, words: &ArgMatches<'_>) -> ExitCode {
     let Some(format) = format_of(word) else {
         return ExitCode::from(USAGE);
     };
-    let Ok(problem) = File::open(rt, file) else {
-        return report::unopened(rt, file);
+    let problem = match open(rt, file) {
+        Ok(problem) => problem,
+        Err(status) => return status,
     };
     let mut problem = FromRead::new(problem);
     let mut out = ToWrite::new(rt.stdout());

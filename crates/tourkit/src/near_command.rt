@@ -1,13 +1,25 @@
 //! The subcommand `near`.
 use crate::command::problem_file;
+use crate::input::open;
 use crate::report::{self, USAGE};
 use clap::builder::ValueParser;
 use clap::{Arg, ArgMatches, Command, Error};
 use std::alloc::Global;
-use std::fs::File;
 use std::process::ExitCode;
 use tk_engines::near_engine;
 use tk_text::{FromRead, ToWrite};
+
+/// What `near --help` ends with.
+const HELP: &str = "Reads PROBLEM.
+Prints a line for each city: its number, and the N nearest other cities by distance and then by number.
+
+Exit status:
+  0  the lists were printed
+  2  the arguments are wrong, or PROBLEM is invalid
+  3  PROBLEM cannot be read, output cannot be written, or memory has run out
+
+Example:
+  zcat berlin52.tsp.gz | tourkit near - -k 5";
 
 /// The words of `near`.
 pub fn near<'a>(alloc: Global) -> Result<Command<'a>, Error> {
@@ -19,6 +31,7 @@ pub fn near<'a>(alloc: Global) -> Result<Command<'a>, Error> {
         .default_value("5");
     let made = Command::new(alloc, "near")
         .about("Prints the nearest other cities of each city")
+        .after_help(HELP)
         .arg(problem_file(alloc))?
         .arg(count)?;
     Ok(made)
@@ -30,8 +43,9 @@ pub fn run(rt: &HostRuntime, words: &ArgMatches<'_>) -> ExitCode {
     else {
         return ExitCode::from(USAGE);
     };
-    let Ok(problem) = File::open(rt, file) else {
-        return report::unopened(rt, file);
+    let problem = match open(rt, file) {
+        Ok(problem) => problem,
+        Err(status) => return status,
     };
     let mut problem = FromRead::new(problem);
     let mut out = ToWrite::new(rt.stdout());

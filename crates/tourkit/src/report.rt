@@ -1,4 +1,6 @@
 //! What standard error and the exit status tell.
+use clap::Error;
+use clap::error::ErrorKind;
 use std::io;
 use std::process::ExitCode;
 use tk_engines::Fault;
@@ -14,6 +16,17 @@ pub const USAGE: u8 = 2;
 
 /// A file could not be opened, read or written, or there was no memory.
 pub const SYSTEM: u8 = 3;
+
+/// Shows help, the version, or what is wrong with the words.
+pub fn refused(rt: &HostRuntime, error: &Error) -> ExitCode {
+    if error.kind() == ErrorKind::OutOfMemory {
+        return no_memory(rt);
+    }
+    match error.print(rt) {
+        Ok(()) => ExitCode::from(error.exit_code() as u8),
+        Err(_) => write_fault(rt),
+    }
+}
 
 /// Tells that a file cannot be opened.
 pub fn unopened(rt: &HostRuntime, file: &str) -> ExitCode {

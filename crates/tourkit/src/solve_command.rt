@@ -1,22 +1,37 @@
 //! The subcommand `solve`.
+use crate::input::open;
+use crate::output;
 use crate::progress::ProgressLine;
 use crate::report::{self, USAGE};
 use clap::{Arg, ArgMatches, Command, Error};
 use std::alloc::Global;
 use std::fs::File;
-use std::io::Write;
 use std::process::ExitCode;
 use tk_engines::{Fault, solve_engine};
 use tk_params::{Params, read_params};
 use tk_text::{FromRead, Source, ToWrite};
 
+/// What `solve --help` ends with.
+const HELP: &str = "Reads PAR, and the problem and the initial tour that it names.
+Prints a line for each run and the best length, or the costs of the routes of a CVRP.
+Writes the best tour to TOUR_FILE, or the routes to SOLUTION_FILE, if PAR names one.
+
+Exit status:
+  0  the search is done
+  2  the arguments are wrong, a file is invalid, or a key does not fit the problem
+  3  a file cannot be read or written, output cannot be written, or memory has run out
+
+Example:
+  tourkit solve examples/bakery.par";
+
 /// The words of `solve`.
 pub fn solve<'a>(alloc: Global) -> Result<Command<'a>, Error> {
     let parameters = Arg::new(alloc, "PAR")
-        .help("a parameter file, as LKH's")
+        .help("a parameter file like LKH's, or - for standard input")
         .required(true);
     let made = Command::new(alloc, "solve")
         .about("Searches for a short tour or for short routes")
+        .after_help(HELP)
         .arg(parameters)?;
     Ok(made)
 }
@@ -26,8 +41,9 @@ pub fn run(rt: &HostRuntime, words: &ArgMatches<'_>) -> ExitCode {
     let Some(file) = words.get_str("PAR") else {
         return ExitCode::from(USAGE);
     };
-    let Ok(parameters) = File::open(rt, file) else {
-        return report::unopened(rt, file);
+    let parameters = match open(rt, file) {
+        Ok(parameters) => parameters,
+        Err(status) => return status,
     };
     let params = match read_params(rt.alloc(), &mut FromRead::new(parameters)) {
         Ok(params) => params,
@@ -93,11 +109,5 @@ fn save(rt: &HostRuntime, params: &Params, text: &[u8]) -> ExitCode {
     let Some(name) = params.tour_file().or(params.solution_file()) else {
         return ExitCode::SUCCESS;
     };
-    let Ok(mut file) = File::create(rt, name) else {
-        return report::unopened(rt, name);
-    };
-    match file.write_all(text) {
-        Ok(()) => ExitCode::SUCCESS,
-        Err(_) => report::write_fault(rt),
-    }
+    output::save(rt, name, text)
 }
