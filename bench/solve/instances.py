@@ -58,4 +58,5 @@ def main():
         write(f"{name}.par", f"PROBLEM_FILE = {name}.vrp\nMAX_CANDIDATES = 5\nSOLUTION_FILE = {name}.out\n")
 
 
-main()
+if __name__ == "__main__":
+    main()
