@@ -16,6 +16,8 @@ mod points;
 #[cfg(test)]
 mod problem_texts;
 #[cfg(test)]
+mod read_back;
+#[cfg(test)]
 mod solutions;
 #[cfg(test)]
 mod tours;

@@ -5,7 +5,7 @@ use crate::harness::fake_sink::FakeSink;
 use std::alloc::{AllocError, Global};
 use std::process::Abort;
 use std::test::Fail;
-use tk_text::{Format, Sink, ToWrite, WriteFault, write_matrix};
+use tk_text::{Format, FromRead, Sink, ToWrite, Weights, WriteFault, read_problem, write_matrix};
 
 /// Four cities, row by row.
 const FOUR: [u32; 16] = [0, 1, 2, 3, 1, 0, 4, 5, 2, 4, 0, 6, 3, 5, 6, 0];
@@ -46,6 +46,27 @@ fn writes_a_lower_triangle_with_its_diagonal(rt: HostRuntime) {
     let written = write_three(&mut sink);
     assert_eq!(rt; written, Ok(()));
     assert_eq!(rt; sink.inner.as_slice(), THREE_TEXT);
+}
+
+/// A matrix that is written is read as its name and the weights below its diagonal.
+#[test]
+fn a_matrix_is_read_back(rt: HostRuntime) -> Result<(), Fail> {
+    let mut sink = ToWrite::new(Vec::new(rt.alloc()));
+    assert_eq!(rt; write_three(&mut sink), Ok(()));
+    let mut source = FromRead::new(sink.inner.as_slice());
+    let problem = read_problem(rt.alloc(), &mut source)?;
+    assert_eq!(rt; problem.name.as_slice(), b"p".as_slice());
+    assert_eq!(rt; problem.n, 3);
+    assert!(rt; are_weights(&problem.weights, &[3, 4, 5]));
+    Ok(())
+}
+
+/// The weights below the diagonal are these.
+fn are_weights(weights: &Weights, below: &[u32]) -> bool {
+    match weights {
+        Weights::Lower(weights) => weights.as_slice() == below,
+        Weights::Points(..) => false,
+    }
 }
 
 /// The parts of a text, one behind another.

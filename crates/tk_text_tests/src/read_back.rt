@@ -1,0 +1,66 @@
+//! What is written to memory is read from there as the same value.
+ghost use Rattle.std.specs.Prelude.{◌≡◌, ◌⊎◌, map, pos, ◌≤ℤ◌, IfOk, IfErr};
+ghost use Rattle.std.specs.Int.RustNames.{unsigned_abs};
+ghost use Rattle.tk_text.specs.ReadBack.{IsSolution, IsTour};
+ghost use Rattle.tk_text.specs.declared.TextKind.TheVariants as kinds;
+
+use std::alloc::Global;
+use std::test::Fail;
+use tk_text::{
+    FromRead, SolText, TextFault, ToWrite, TourText, WriteFault, read_solution, read_tour,
+    write_solution, write_tour,
+};
+
+/// Writes a tour to memory, and reads it from there. Only a lack of memory or a failed read can keep the cities back.
+fn tour_again(
+    alloc: Global,
+    name: &[u8],
+    length: i64,
+    cities: &[u32],
+) -> Result<Result<TourText, TextFault>, WriteFault>
+    requires { pos 0 ≤ℤ length }
+    ensures same { IsTour name.now (unsigned_abs length) cities.now
+        → IfOk result (λ answer. IfOk answer (λ tour. tour.cities.items ≡ cities.now)) }
+    ensures refused { IsTour name.now (unsigned_abs length) cities.now
+        → IfOk result (λ answer. IfErr answer (λ f. (f.kind ≡ kinds.NoMemory) ⊎ (f.kind ≡ kinds.Read))) }
+{
+    let mut sink = ToWrite::new(Vec::new(alloc));
+    write_tour(&mut sink, name, length, cities)?;
+    let mut source = FromRead::new(sink.inner.as_slice());
+    Ok(read_tour(alloc, &mut source))
+}
+
+/// The same for routes and their cost.
+fn solution_again(
+    alloc: Global,
+    routes: &[Vec<u32>],
+    cost: i64,
+) -> Result<Result<SolText, TextFault>, WriteFault>
+    requires { pos 0 ≤ℤ cost }
+    ensures same { IsSolution (map (λ r. r.items) routes.now) (unsigned_abs cost)
+        → IfOk result (λ answer. IfOk answer (λ solution. (map (λ r. r.items) solution.routes.items
+        ≡ map (λ r. r.items) routes.now) × (solution.cost ≡ cost))) }
+    ensures refused { IsSolution (map (λ r. r.items) routes.now) (unsigned_abs cost)
+        → IfOk result (λ answer. IfErr answer (λ f. (f.kind ≡ kinds.NoMemory) ⊎ (f.kind ≡ kinds.Read))) }
+{
+    let mut sink = ToWrite::new(Vec::new(alloc));
+    write_solution(&mut sink, routes, cost)?;
+    let mut source = FromRead::new(sink.inner.as_slice());
+    Ok(read_solution(alloc, &mut source))
+}
+
+#[test]
+fn a_tour_is_read_back(rt: HostRuntime) -> Result<(), Fail> {
+    let tour = tour_again(rt.alloc(), b"p", 40, &[1, 3, 2, 4])??;
+    assert_eq!(rt; tour.cities.as_slice(), [1, 3, 2, 4].as_slice());
+    Ok(())
+}
+
+#[test]
+fn a_solution_is_read_back(rt: HostRuntime) -> Result<(), Fail> {
+    let routes = [vec![in rt.alloc(); 1, 2]?, vec![in rt.alloc(); 3, 4]?];
+    let solution = solution_again(rt.alloc(), &routes, 44)??;
+    assert_eq!(rt; solution.routes.as_slice(), routes.as_slice());
+    assert_eq!(rt; solution.cost, 44);
+    Ok(())
+}
