@@ -1,8 +1,8 @@
 //! Worked examples of the check.
 use crate::{Cvrp, RouteVerdict, check_routes};
-use std::alloc::Global;
+use std::alloc::{AllocError, Global};
 use std::test::Fail;
-use tk_text::{FromRead, SolText, read_problem};
+use tk_text::{FromRead, Problem, SolText, read_problem};
 
 /// Two customers on each side of the depot, and vehicles for two.
 pub(crate) const TWO_SIDES: &[u8] =
@@ -15,99 +15,83 @@ pub(crate) const DEPOT_BETWEEN: &[u8] =
 const TSP: &[u8] =
     b"TYPE : TSP\nDIMENSION : 2\nEDGE_WEIGHT_TYPE : EUC_2D\nNODE_COORD_SECTION\n1 0 0\n2 5 0\nEOF\n";
 
-/// These routes as lists.
-pub(crate) fn lists_of(alloc: Global, routes: &[&[u32]]) -> Result<Vec<Vec<u32>>, Fail> {
+pub(crate) fn problem_of(alloc: Global, text: &[u8]) -> Result<Problem, Fail> {
+    Ok(read_problem(alloc, &mut FromRead::new(text))?)
+}
+
+/// Claimed routes of that cost.
+pub(crate) fn claim(alloc: Global, routes: &[&[u32]], cost: i64) -> Result<SolText, AllocError> {
     let mut lists = Vec::new(alloc);
     for route in routes {
         lists.push(route.to_vec(alloc)?)?;
     }
-    Ok(lists)
+    Ok(SolText {
+        routes: lists,
+        cost,
+    })
 }
 
-/// The verdict of routes of that cost.
+/// The verdict of routes of that cost: none of those of a TSP.
 fn verdict(
     alloc: Global,
     problem: &[u8],
     routes: &[&[u32]],
     cost: i64,
-) -> Result<RouteVerdict, Fail> {
-    let problem = read_problem(alloc, &mut FromRead::new(problem))?;
-    let cvrp = Cvrp::of(&problem).ok_or("a TSP")?;
-    let text = SolText {
-        routes: lists_of(alloc, routes)?,
-        cost,
+) -> Result<Option<RouteVerdict>, Fail> {
+    let problem = problem_of(alloc, problem)?;
+    let Some(cvrp) = Cvrp::of(&problem) else {
+        return Ok(None);
     };
-    Ok(check_routes(alloc, &cvrp, &text)?)
-}
-
-#[test]
-fn two_routes(rt: HostRuntime) -> Result<(), Fail> {
-    let told = verdict(rt.alloc(), TWO_SIDES, &[&[1, 2], &[3, 4]], 44)?;
-    let valid = RouteVerdict::Valid {
-        routes: 2,
-        cost: 44,
-    };
-    assert_eq!(rt; told, valid);
-    Ok(())
+    let text = claim(alloc, routes, cost)?;
+    Ok(Some(check_routes(alloc, &cvrp, &text)?))
 }
 
 /// An empty route counts for nothing but the numbers of the routes behind it.
 #[test]
-fn empty_routes(rt: HostRuntime) -> Result<(), Fail> {
-    let told = verdict(rt.alloc(), TWO_SIDES, &[&[], &[2, 1], &[], &[3, 4]], 44)?;
-    let valid = RouteVerdict::Valid {
+fn two_routes(rt: HostRuntime) -> Result<(), Fail> {
+    let valid = Some(RouteVerdict::Valid {
         routes: 2,
         cost: 44,
-    };
-    assert_eq!(rt; told, valid);
-    let told = verdict(rt.alloc(), TWO_SIDES, &[&[], &[1, 2, 3]], 44)?;
-    assert_eq!(rt; told, RouteVerdict::OverCapacity(2, 3));
+    });
+    let told = verdict(rt.alloc(), TWO_SIDES, &[&[1, 2], &[3, 4]], 44)?;
+    assert!(rt; told == valid);
+    let told = verdict(rt.alloc(), TWO_SIDES, &[&[], &[2, 1], &[], &[3, 4]], 44)?;
+    assert!(rt; told == valid);
     Ok(())
 }
 
+/// A fault among the customers comes before one of capacity, that before a customer who is not served, and that before the cost.
 #[test]
 fn first_faults(rt: HostRuntime) -> Result<(), Fail> {
-    let alloc = rt.alloc();
-    let told = verdict(alloc, TWO_SIDES, &[&[1, 2, 3]], 44)?;
-    assert_eq!(rt; told, RouteVerdict::OverCapacity(1, 3));
-    let told = verdict(alloc, TWO_SIDES, &[&[1, 5]], 44)?;
-    assert_eq!(rt; told, RouteVerdict::BadCustomer(1, 5));
-    let told = verdict(alloc, TWO_SIDES, &[&[1, 1]], 44)?;
-    assert_eq!(rt; told, RouteVerdict::ServedTwice(1));
-    let told = verdict(alloc, TWO_SIDES, &[&[1, 2]], 44)?;
-    assert_eq!(rt; told, RouteVerdict::NotServed(3));
-    let told = verdict(alloc, TWO_SIDES, &[&[1, 2], &[3, 4]], 45)?;
-    assert_eq!(rt; told, RouteVerdict::WrongCost(45, 44));
-    Ok(())
-}
-
-/// A fault among the customers comes before one of capacity, and that before a customer who is not served.
-#[test]
-fn order_of_faults(rt: HostRuntime) -> Result<(), Fail> {
-    let alloc = rt.alloc();
-    let told = verdict(alloc, TWO_SIDES, &[&[1, 2, 3], &[3, 0]], 0)?;
-    assert_eq!(rt; told, RouteVerdict::ServedTwice(3));
-    let told = verdict(alloc, TWO_SIDES, &[&[1, 2, 3], &[0, 3]], 0)?;
-    assert_eq!(rt; told, RouteVerdict::BadCustomer(2, 0));
-    let told = verdict(alloc, TWO_SIDES, &[&[2], &[1, 3, 4]], 0)?;
-    assert_eq!(rt; told, RouteVerdict::OverCapacity(2, 3));
+    let faults: &[(&[&[u32]], RouteVerdict)] = &[
+        (&[&[1, 5]], RouteVerdict::BadCustomer(1, 5)),
+        (&[&[1, 2, 3], &[0, 3]], RouteVerdict::BadCustomer(2, 0)),
+        (&[&[1, 1]], RouteVerdict::ServedTwice(1)),
+        (&[&[1, 2, 3], &[3, 0]], RouteVerdict::ServedTwice(3)),
+        (&[&[1, 2, 3]], RouteVerdict::OverCapacity(1, 3)),
+        (&[&[2], &[1, 3, 4]], RouteVerdict::OverCapacity(2, 3)),
+        (&[&[], &[1, 2, 3]], RouteVerdict::OverCapacity(2, 3)),
+        (&[&[1, 2]], RouteVerdict::NotServed(3)),
+        (&[&[1, 2], &[3, 4]], RouteVerdict::WrongCost(45, 44)),
+    ];
+    for (routes, fault) in faults {
+        assert!(rt; verdict(rt.alloc(), TWO_SIDES, routes, 45)? == Some(*fault));
+    }
     Ok(())
 }
 
 #[test]
 fn depot_that_is_not_the_first_node(rt: HostRuntime) -> Result<(), Fail> {
-    let told = verdict(rt.alloc(), DEPOT_BETWEEN, &[&[1, 2]], 22)?;
-    let valid = RouteVerdict::Valid {
+    let valid = Some(RouteVerdict::Valid {
         routes: 1,
         cost: 22,
-    };
-    assert_eq!(rt; told, valid);
+    });
+    assert!(rt; verdict(rt.alloc(), DEPOT_BETWEEN, &[&[1, 2]], 22)? == valid);
     Ok(())
 }
 
 #[test]
 fn no_routing_of_a_tsp(rt: HostRuntime) -> Result<(), Fail> {
-    let problem = read_problem(rt.alloc(), &mut FromRead::new(TSP))?;
-    assert!(rt; Cvrp::of(&problem).is_none());
+    assert!(rt; verdict(rt.alloc(), TSP, &[&[1]], 10)?.is_none());
     Ok(())
 }

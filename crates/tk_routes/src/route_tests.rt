@@ -3,13 +3,11 @@ ghost use Rattle.std.specs.Prelude.{◌≡◌, IfOk};
 ghost use Rattle.tk_routes.specs.Cvrps.{instance_of};
 ghost use Rattle.tk_routes.specs.RouteLists.{instance_of_routes};
 
-use crate::check_tests::{DEPOT_BETWEEN, TWO_SIDES, lists_of};
+use crate::check_tests::{DEPOT_BETWEEN, TWO_SIDES, claim, problem_of};
 use crate::{Cvrp, RouteReport, RouteVerdict, Routes, check_routes, improve, savings};
 use std::alloc::{AllocError, Global};
-use std::process::Abort;
 use std::test::Fail;
 use tk_near::near_scan;
-use tk_text::{FromRead, SolText, read_problem};
 
 /// As `TWO_SIDES`, with vehicles for all.
 const ROOM_FOR_ALL: &[u8] =
@@ -41,18 +39,13 @@ fn are(
     routes: &Routes<'_>,
     want: &[&[u32]],
     cost: i64,
-) -> Result<bool, Fail> {
-    let lists = lists_of(alloc, want)?;
-    let same = routes.lists() == lists.as_slice();
-    let text = SolText {
-        routes: lists,
-        cost,
-    };
+) -> Result<bool, AllocError> {
+    let text = claim(alloc, want, cost)?;
     let valid = RouteVerdict::Valid {
         routes: want.len() as u64,
         cost,
     };
-    Ok(same && check_routes(alloc, cvrp, &text)? == valid)
+    Ok(routes.lists() == text.routes.as_slice() && check_routes(alloc, cvrp, &text)? == valid)
 }
 
 /// What improving routes is to tell: the costs, then moves, tests and swaps.
@@ -66,23 +59,35 @@ fn report(before: i64, after: i64, [moves, tests, swaps]: [u64; 3]) -> RouteRepo
     }
 }
 
-/// The savings routes are these, and they become those, with this report.
-fn expect(
-    rt: &impl Abort,
+/// Whether the savings routes are these, and become those, with this report.
+fn become_those(
+    alloc: Global,
+    cvrp: &Cvrp<'_>,
+    saved: &[&[u32]],
+    improved: &[&[u32]],
+    want: RouteReport,
+) -> Result<bool, AllocError> {
+    let mut routes = start(alloc, cvrp)?;
+    if !are(alloc, cvrp, &routes, saved, want.before)? {
+        return Ok(false);
+    }
+    let told = improve(alloc, cvrp, &mut routes, 5, 3)?;
+    Ok(told == want && are(alloc, cvrp, &routes, improved, want.after)?)
+}
+
+/// The same of a problem's text.
+fn solves(
     alloc: Global,
     problem: &[u8],
     saved: &[&[u32]],
     improved: &[&[u32]],
-    report: RouteReport,
-) -> Result<(), Fail> {
-    let problem = read_problem(alloc, &mut FromRead::new(problem))?;
-    let cvrp = Cvrp::of(&problem).ok_or("a TSP")?;
-    let mut routes = start(alloc, &cvrp)?;
-    assert!(rt; are(alloc, &cvrp, &routes, saved, report.before)?);
-    let told = improve(alloc, &cvrp, &mut routes, 5, 3)?;
-    assert_eq!(rt; told, report);
-    assert!(rt; are(alloc, &cvrp, &routes, improved, report.after)?);
-    Ok(())
+    want: RouteReport,
+) -> Result<bool, Fail> {
+    let problem = problem_of(alloc, problem)?;
+    let Some(cvrp) = Cvrp::of(&problem) else {
+        return Ok(false);
+    };
+    Ok(become_those(alloc, &cvrp, saved, improved, want)?)
 }
 
 /// Nothing is gained on two short routes: each has three nodes with two candidates and three tests for each. Routes that save nothing
@@ -91,14 +96,15 @@ fn expect(
 fn two_sides_of_the_depot(rt: HostRuntime) -> Result<(), Fail> {
     let told = report(44, 44, [0, 36, 0]);
     for problem in [TWO_SIDES, ROOM_FOR_ALL] {
-        expect(
-            &rt,
-            rt.alloc(),
-            problem,
-            &[&[1, 2], &[3, 4]],
-            &[&[1, 2], &[3, 4]],
-            told,
-        )?;
+        assert!(rt;
+            solves(
+                rt.alloc(),
+                problem,
+                &[&[1, 2], &[3, 4]],
+                &[&[1, 2], &[3, 4]],
+                told
+            )?
+        );
     }
     Ok(())
 }
@@ -106,28 +112,17 @@ fn two_sides_of_the_depot(rt: HostRuntime) -> Result<(), Fail> {
 /// Customer 2 is node 3.
 #[test]
 fn depot_that_is_not_the_first_node(rt: HostRuntime) -> Result<(), Fail> {
-    expect(
-        &rt,
-        rt.alloc(),
-        DEPOT_BETWEEN,
-        &[&[1, 2]],
-        &[&[1, 2]],
-        report(22, 22, [0, 18, 0]),
-    )
+    let told = report(22, 22, [0, 18, 0]);
+    assert!(rt; solves(rt.alloc(), DEPOT_BETWEEN, &[&[1, 2]], &[&[1, 2]], told)?);
+    Ok(())
 }
 
 /// The depot's fourth test, of the segment of two that goes backward, gains 7; then come five looks of 26 tests each.
 #[test]
 fn one_move_of_seven(rt: HostRuntime) -> Result<(), Fail> {
     let told = report(60, 53, [1, 134, 1]);
-    expect(
-        &rt,
-        rt.alloc(),
-        LISTED,
-        &[&[3, 1, 2, 4]],
-        &[&[3, 2, 1, 4]],
-        told,
-    )
+    assert!(rt; solves(rt.alloc(), LISTED, &[&[3, 1, 2, 4]], &[&[3, 2, 1, 4]], told)?);
+    Ok(())
 }
 
 /// Of equal savings the pair with the lower first customer is joined, and then the one with the lower second. A route of one customer
@@ -135,35 +130,43 @@ fn one_move_of_seven(rt: HostRuntime) -> Result<(), Fail> {
 #[test]
 fn equal_savings(rt: HostRuntime) -> Result<(), Fail> {
     let told = report(50, 50, [0, 22, 0]);
-    expect(
-        &rt,
-        rt.alloc(),
-        EQUAL_PAIRS,
-        &[&[1, 2], &[3]],
-        &[&[1, 2], &[3]],
-        told,
-    )?;
-    expect(
-        &rt,
-        rt.alloc(),
-        EQUAL_WITH_THE_LAST,
-        &[&[1, 3], &[2]],
-        &[&[1, 3], &[2]],
-        told,
-    )
+    assert!(rt;
+        solves(
+            rt.alloc(),
+            EQUAL_PAIRS,
+            &[&[1, 2], &[3]],
+            &[&[1, 2], &[3]],
+            told
+        )?
+    );
+    assert!(rt;
+        solves(
+            rt.alloc(),
+            EQUAL_WITH_THE_LAST,
+            &[&[1, 3], &[2]],
+            &[&[1, 3], &[2]],
+            told
+        )?
+    );
+    Ok(())
 }
 
-/// A call that finds no memory leaves the one route as it was, and a second call improves it.
+/// Whether a call that finds no memory leaves the one route as it was, and a second call improves it.
+fn comes_through_a_refusal(alloc: Global, cvrp: &Cvrp<'_>) -> Result<bool, AllocError> {
+    let mut routes = start(alloc, cvrp)?;
+    if improve(alloc, cvrp, &mut routes, 5, 3).is_err() {
+        if !are(alloc, cvrp, &routes, &[&[3, 1, 2, 4]], 60)? {
+            return Ok(false);
+        }
+        improve(alloc, cvrp, &mut routes, 5, 3)?;
+    }
+    are(alloc, cvrp, &routes, &[&[3, 2, 1, 4]], 53)
+}
+
 #[test]
 fn called_again_where_memory_was_refused(rt: HostRuntime) -> Result<(), Fail> {
-    let alloc = rt.alloc();
-    let problem = read_problem(alloc, &mut FromRead::new(LISTED))?;
+    let problem = problem_of(rt.alloc(), LISTED)?;
     let cvrp = Cvrp::of(&problem).ok_or("a TSP")?;
-    let mut routes = start(alloc, &cvrp)?;
-    if improve(alloc, &cvrp, &mut routes, 5, 3).is_err() {
-        assert!(rt; are(alloc, &cvrp, &routes, &[&[3, 1, 2, 4]], 60)?);
-        improve(alloc, &cvrp, &mut routes, 5, 3)?;
-    }
-    assert!(rt; are(alloc, &cvrp, &routes, &[&[3, 2, 1, 4]], 53)?);
+    assert!(rt; comes_through_a_refusal(rt.alloc(), &cvrp)?);
     Ok(())
 }
