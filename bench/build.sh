@@ -1,6 +1,7 @@
 # Builds a program in Rattle and its twin in plain Rust, for the run.sh that sources this.
 #
-# usage: build NAME CRATES: it sets $program and $twin, and $work to a folder for other files.
+# usage: build NAME CRATES [LIBRARIES]: it sets $program and $twin, and $work to a folder for other files.
+# LIBRARIES are those of the kit that the program uses itself, beside anyhow.
 # $here holds main.rt.txt, twin.rs and, for a function that needs invariants, FUNCTION.Invariants.antt.txt.
 #
 # The Rattle program is no crate of the product. It is put together with the crates that it needs in a folder outside the repository,
@@ -10,7 +11,7 @@ build() {
     work=${TMPDIR:-/tmp}/tourkit-bench-$1
     mkdir -p "$work/crates"
     cp "$top/HANDLES" "$work/"
-    echo "$1_bench: $2 anyhow" > "$work/crates.txt"
+    echo "$1_bench: $2 ${3:-} anyhow" > "$work/crates.txt"
     for name in $2; do
         take_crate "$name"
         grep "^$name:" "$top/crates.txt" >> "$work/crates.txt"

@@ -1,6 +1,7 @@
 pub mod EndsJoined
 pub mod HubApart
 pub mod ListsHeld
+pub mod OneMerge
 pub mod PairsFound
 pub mod PairsMerged
 pub mod PartLoads

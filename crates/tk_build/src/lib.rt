@@ -8,7 +8,7 @@ mod trials;
 
 pub use double_bridges::cuts::Cuts;
 pub use double_bridges::kicking::kick;
-pub use merges::laws::parts_are_connected;
+pub use merges::laws::{parts_are_connected, saving_pairs_agree, savings_lists_agree};
 pub use merges::pairs::Pair;
 pub use merges::savings::{savings_lists, savings_tour};
 pub use nearest_tours::by_tree::nearest_tree;

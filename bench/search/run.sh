@@ -1,0 +1,26 @@
+#!/bin/sh
+# Times the first trial of a search from a way along strips of uniform cities (phase 1, K = 5), and then trials that begin with a kick
+# (phase 2), against plain Rust at -O3 that goes by the same method.
+# Each line: cities, phase, trials a second of each, and how many times the twin's time the program takes; the best of all rounds.
+# Both must make the same moves, tests and swaps, as often find a better tour, and gain as much.
+# usage: bench/search/run.sh [ROUNDS]
+set -e
+here=$(cd "$(dirname "$0")" && pwd)
+. "$here/../build.sh"
+build search 'tk_problem tk_metric tk_near tk_tour tk_descent tk_build' 'rand_core rand_pcg'
+round=0
+while [ "$round" -lt "${1:-5}" ]; do
+    "$program"
+    "$twin"
+    round=$((round + 1))
+done | awk '
+    { key = $2 " " $3; counts = $6 " " $7 " " $8 " " $9 " " $10 }
+    key in all && all[key] != counts { print "the two differ at " key; exit 1 }
+    { all[key] = counts; trials[key] = $4 }
+    !(($1 " " key) in least) || $5 < least[$1 " " key] { least[$1 " " key] = $5 }
+    END {
+        for (key in all) {
+            a = least["tourkit " key]; b = least["twin " key]; t = trials[key] * 1e9
+            printf "%s: tourkit %.1f, twin %.1f; ratio %.2f\n", key, t / a, t / b, a / b
+        }
+    }' | sort -n
