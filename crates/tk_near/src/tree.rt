@@ -112,7 +112,7 @@ impl Frame {
     }
 
     /// A difference in x, or in y, that each city of the box has from here.
-    #[inline]
+    #[inline(always)]
     fn gap(&self, here: &Placed) -> u64
         ensures limit { result ≤ 2000000000000000000 }
         ensures beyond { (p : Placed) → IsWithin self.now p → IsBeyond here.now result p }
@@ -123,7 +123,7 @@ impl Frame {
     }
 
     /// What no city of the box comes before, seen from here.
-    #[inline]
+    #[inline(always)]
     fn first<P: Planar>(&self, m: &P, here: &Placed) -> Candidate
         requires { IsPlaced (P.size_of m.now) (P.place_of m.now) here.now }
         ensures { (p : Placed) → IsPlaced (P.size_of m.now) (P.place_of m.now) p → IsWithin self.now p
