@@ -1,11 +1,12 @@
 #!/bin/sh
-# Times near_tree (lists of 5 and of 100, 100,000 cities) against the same in plain Rust, in turn on one core: least time of
-# each. The kinds of input are uniform cities and those that are hard for a sweep. The lists are compared.
+# Times near_tree (lists of 5 and of 100) and nearest_tree (100,000 cities) against the same in plain Rust, in turn on one core:
+# least time of each. The kinds of input are uniform cities and those that are hard for a sweep. The lists and the tours are
+# compared.
 # usage: bench/near/run.sh [ROUNDS [CORE]]
 set -e
 here=$(cd "$(dirname "$0")" && pwd)
 . "$here/../build.sh"
-build near 'tk_problem tk_metric tk_near'
+build near 'tk_problem tk_metric tk_near tk_tour tk_descent tk_build'
 round=0
 while [ "$round" -lt "${1:-3}" ]; do
     taskset -c "${2:-0}" "$program" | sed 's/^/rattle /'
@@ -13,7 +14,6 @@ while [ "$round" -lt "${1:-3}" ]; do
     round=$((round + 1))
 done | awk '
     { task = $2 " " $3 }
-    $1 == "rust" && $3 == "start" { next }
     !(task in result) { tasks[++count] = task; result[task] = $5 }
     result[task] != $5 { print task ": other results"; failed = 1 }
     !(($1, task) in least) || $4 < least[$1, task] { least[$1, task] = $4 }

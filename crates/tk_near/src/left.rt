@@ -58,7 +58,7 @@ impl Left {
     {
         let mut kept = [OPEN];
         let mut filled = 0;
-        search(m, here, NEAREST, &self.tree, &mut kept, &mut filled);
+        search(m, &here, NEAREST, &self.tree, &mut kept, &mut filled);
         if kept[0].distance == OPEN.distance {
             None
         } else {

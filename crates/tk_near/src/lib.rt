@@ -7,8 +7,6 @@ mod left;
 mod near;
 mod sweep;
 mod table;
-#[cfg(test)]
-mod tests;
 mod tree;
 
 pub use keep::{Candidate, measure};

@@ -112,9 +112,10 @@ impl Frame {
     }
 
     /// A difference in x, or in y, that each city of the box has from here.
-    fn gap(self, here: Placed) -> u64
+    #[inline(always)]
+    fn gap(&self, here: &Placed) -> u64
         ensures limit { result ≤ 2000000000000000000 }
-        ensures beyond { (p : Placed) → IsWithin self p → IsBeyond here result p }
+        ensures beyond { (p : Placed) → IsWithin self.now p → IsBeyond here.now result p }
     {
         let gap_x = gap_between(here.place.x, self.left, self.right);
         let gap_y = gap_between(here.place.y, self.bottom, self.top);
@@ -122,12 +123,20 @@ impl Frame {
     }
 
     /// What no city of the box comes before, seen from here.
-    fn first<P: Planar>(self, m: &P, here: Placed) -> Candidate
-        requires { IsPlaced (P.size_of m.now) (P.place_of m.now) here }
-        ensures { (p : Placed) → IsPlaced (P.size_of m.now) (P.place_of m.now) p → IsWithin self p
-            → IsFrom (P.distance m.now) here.city result p }
+    #[inline(always)]
+    fn first<P: Planar>(&self, m: &P, here: &Placed) -> Candidate
+        requires { IsPlaced (P.size_of m.now) (P.place_of m.now) here.now }
+        ensures { (p : Placed) → IsPlaced (P.size_of m.now) (P.place_of m.now) p → IsWithin self.now p
+            → IsFrom (P.distance m.now) here.now.city result p }
     {
-        let floor = m.floor_x(self.gap(here)) as u64;
+        let gap = self.gap(here);
+        if gap == 0 {
+            return Candidate {
+                distance: 0,
+                city: self.least,
+            };
+        }
+        let floor = m.floor_x(gap) as u64;
         Candidate {
             distance: floor.min(OPEN.distance as u64) as u32,
             city: self.least,
@@ -200,17 +209,17 @@ fn is_out(first: Candidate, kept: &[Candidate]) -> bool
 /// Keeps what is near of a leaf.
 fn search_leaf<P: Planar>(
     m: &P,
-    here: Placed,
+    here: &Placed,
     leaf: &[Placed],
     kept: &mut [Candidate],
     filled: &mut usize,
 )
-    requires here { IsPlaced (P.size_of m.now) (P.place_of m.now) here }
+    requires here { IsPlaced (P.size_of m.now) (P.place_of m.now) here.now }
     requires placed { All (IsPlaced (P.size_of m.now) (P.place_of m.now)) leaf.now }
     requires room { 1 ≤ length kept.old }
     requires climbing { Climbing rank kept.old }
     requires vacant { AreOpenFrom filled.old kept.old }
-    ensures kept { kept.new ≡ with_cities (P.distance m.now) here.city leaf.now kept.old }
+    ensures kept { kept.new ≡ with_cities (P.distance m.now) here.now.city leaf.now kept.old }
     ensures climbing { Climbing rank kept.new }
     ensures vacant { AreOpenFrom filled.new kept.new }
 {
@@ -224,20 +233,20 @@ fn search_leaf<P: Planar>(
 /// Keeps what is near of a part of which no city comes before `first`.
 pub fn search<P: Planar>(
     m: &P,
-    here: Placed,
+    here: &Placed,
     first: Candidate,
     tree: &Tree,
     kept: &mut [Candidate],
     filled: &mut usize,
 )
-    requires here { IsPlaced (P.size_of m.now) (P.place_of m.now) here }
+    requires here { IsPlaced (P.size_of m.now) (P.place_of m.now) here.now }
     requires placed { All (IsPlaced (P.size_of m.now) (P.place_of m.now)) (entries_of tree.now) }
     requires framed { IsFramed tree.now }
-    requires first { All (IsFrom (P.distance m.now) here.city first) (entries_of tree.now) }
+    requires first { All (IsFrom (P.distance m.now) here.now.city first) (entries_of tree.now) }
     requires room { 1 ≤ length kept.old }
     requires climbing { Climbing rank kept.old }
     requires vacant { AreOpenFrom filled.old kept.old }
-    ensures kept { kept.new ≡ with_cities (P.distance m.now) here.city (entries_of tree.now) kept.old }
+    ensures kept { kept.new ≡ with_cities (P.distance m.now) here.now.city (entries_of tree.now) kept.old }
     ensures climbing { Climbing rank kept.new }
     ensures vacant { AreOpenFrom filled.new kept.new }
 {
@@ -261,14 +270,14 @@ pub fn search<P: Planar>(
 }
 
 /// The first of the cities other than that here, as many as there is room for.
-fn search_city<P: Planar>(m: &P, here: Placed, tree: &Tree, kept: &mut [Candidate])
-    requires here { IsPlaced (P.size_of m.now) (P.place_of m.now) here }
+fn search_city<P: Planar>(m: &P, here: &Placed, tree: &Tree, kept: &mut [Candidate])
+    requires here { IsPlaced (P.size_of m.now) (P.place_of m.now) here.now }
     requires row { IsRow (P.size_of m.now) (P.place_of m.now) (entries_of tree.now) }
     requires framed { IsFramed tree.now }
     requires low { 1 ≤ length kept.old }
     requires high { length kept.old < P.size_of m.now }
     ensures size { length kept.new ≡ length kept.old }
-    ensures near { IsNear (P.distance m.now) (P.size_of m.now) (length kept.old) here.city (cities_of kept.new) }
+    ensures near { IsNear (P.distance m.now) (P.size_of m.now) (length kept.old) here.now.city (cities_of kept.new) }
 {
     kept.fill(OPEN);
     let mut filled = 0;
@@ -292,7 +301,7 @@ fn fill_from_tree<P: Planar>(
     ensures { AreFilled (P.distance m.now) (P.size_of m.now) (length kept.old) (λ _. ⊤) entries.new }
 {
     for here in row {
-        search_city(m, *here, tree, kept);
+        search_city(m, here, tree, kept);
         write_cities(entries, here.city, kept);
     }
 }

@@ -28,5 +28,5 @@ returns-clause-near g c =
     let dist = g.P.Metric.distance m in
     let row = entries_of c.args.tree.now in
     let clear : c.fill.new.self ≡ replicate k open_place = c.fill.ensures.after (λ y e. e) in
-    let kept = c.search.ensures.kept ∙ ap (with_cities dist c.args.here.city row) clear in
-    rw kept (IsNear-from_row dist (g.met.P.Metric.distance_limit m) (g.P.Metric.size_of m) (g.P.Planar.place_of m) row c.requires.row (g.met.P.Metric.size_limit m) c.args.here.city k c.requires.here.0 c.requires.high)
+    let kept = c.search.ensures.kept ∙ ap (with_cities dist c.args.here.now.city row) clear in
+    rw kept (IsNear-from_row dist (g.met.P.Metric.distance_limit m) (g.P.Metric.size_of m) (g.P.Planar.place_of m) row c.requires.row (g.met.P.Metric.size_limit m) c.args.here.now.city k c.requires.here.0 c.requires.high)

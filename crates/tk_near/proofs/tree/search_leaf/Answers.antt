@@ -10,10 +10,10 @@ loop-there-preserved g c =
     elim c.if-there-here.branch [
       | then-there-here w ↦
           rw (w.kept-is, w.filled-is) (
-            rw (w.keep_among.ensures.kept, w.measure.ensures) (seen_more dist c.args.here.city c.args.leaf.now c.loop-there.there-index nowhere c.args.kept.now c.loop-there.kept (omega arith) c.loop-there.invariant.0 w.if-there-here.true),
+            rw (w.keep_among.ensures.kept, w.measure.ensures) (seen_more dist c.args.here.now.city c.args.leaf.now c.loop-there.there-index nowhere c.args.kept.now c.loop-there.kept (omega arith) c.loop-there.invariant.0 w.if-there-here.true),
             rw (w.keep_among.ensures.kept) (with_candidate_climbing _ c.loop-there.kept c.loop-there.invariant.1),
             w.keep_among.ensures.vacant,
           )
       | else-there-here w ↦
-          rw (w.kept-is, w.filled-is) (seen_same dist c.args.here.city c.args.leaf.now c.loop-there.there-index nowhere c.args.kept.now c.loop-there.kept (omega arith) c.loop-there.invariant.0 w.if-there-here.false, c.loop-there.invariant.1, c.loop-there.invariant.2)
+          rw (w.kept-is, w.filled-is) (seen_same dist c.args.here.now.city c.args.leaf.now c.loop-there.there-index nowhere c.args.kept.now c.loop-there.kept (omega arith) c.loop-there.invariant.0 w.if-there-here.false, c.loop-there.invariant.1, c.loop-there.invariant.2)
     ]
