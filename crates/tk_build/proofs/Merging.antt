@@ -1,7 +1,10 @@
 pub mod EndsJoined
 pub mod HubApart
 pub mod ListsHeld
+pub mod NeighbourArrays
 pub mod OneMerge
+pub mod OnePath
+pub mod OrderedLists
 pub mod PairsFound
 pub mod PairsMerged
 pub mod PartLoads

@@ -1,19 +1,18 @@
 -- What the distances and the near lists determine of the savings merges.
-use Rattle.std.proofs.Common.{◌≡◌, ℕ, suc, zero, ◌+◌, ◌<◌, true, List, [], ◌∷◌, length, refl, sym, ap, ◌∙◌, ◌⊎◌, inl, inr, ◌↔◌, arith, ⊎_elim, subst}
+use Rattle.std.proofs.Common.{◌≡◌, ℕ, ◌+◌, ◌<◌, true, List, [], ◌∷◌, length, map, get_or, refl, sym, ◌∙◌, arith, ⊎_elim, subst}
 use Rattle.std.specs.List.{AllPairs, Contains}
-use Rattle.std.specs.Prelude.{slice_index_or}
 use Rattle.tk_build.specs.Holding.{holds}
-use Rattle.tk_build.specs.Joints.{part, joints, IsPartPath, ArePartPaths}
-use Rattle.tk_build.specs.SavingPairs.{Before, AreCandidates}
+use Rattle.tk_build.specs.Joints.{joints, IsPartPath, first_of, ArePartPaths}
+use Rattle.tk_build.specs.SavingPairs.{Before}
 use Rattle.tk_build.specs.SavingsMerges.{PairsAgree, ListsAgree}
 use Rattle.tk_build.specs.declared.merges.pairs.Pair.{Pair}
-
-Before-not_same : (p q : Pair) → p ≡ q → Before p q → ⊥
-Before-not_same p q e h =
-    let s = ap (λ (x : Pair). x.saving.0) e in
-    let i = ap (λ (x : Pair). x.i) e in
-    let j = ap (λ (x : Pair). x.j) e in
-    ⊎_elim (λ k. omega (arith, s, k)) (λ k. ⊎_elim (λ l. omega (arith, i, l)) (λ l. omega (arith, j, l.1)) k.1) h
+use Rattle.std.proofs.lemmas.List.{get_or-map, get_or_default, length-map}
+use Rattle.std.proofs.lemmas.List.Kept.{AllPairs-from_increasing}
+use Rattle.tk_build.proofs.Merging.HubApart.{all_within}
+use Rattle.tk_build.proofs.Merging.NeighbourArrays.{HasArrays, HasArrays-joints}
+use Rattle.tk_build.proofs.Merging.OnePath.{one_path}
+use Rattle.tk_build.proofs.Merging.OrderedLists.{same_ordered}
+use Rattle.tk_build.proofs.Merging.PathLists.{holds-here}
 
 Before-one_way : (p q : Pair) → Before p q → Before q p → ⊥
 Before-one_way p q h k =
@@ -28,60 +27,42 @@ Before-one_way p q h k =
     k)
     h
 
-none_held : (p : Pair) → Contains [] p → ⊥
-none_held p (k, l, e) = omega (arith, l)
-
-first_held : (x : Pair) (xs : List Pair) → Contains (x ∷ xs) x
-first_held x xs = (0, omega arith, refl)
-
-later_held : (x p : Pair) (xs : List Pair) → Contains xs p → Contains (x ∷ xs) p
-later_held x p xs (k, l, e) = (suc k, omega (arith, l), e)
-
-held_cases : (x p : Pair) (xs : List Pair) → Contains (x ∷ xs) p → (x ≡ p) ⊎ Contains xs p
-held_cases x p xs (zero, l, e) = inl e
-held_cases x p xs (suc k, l, e) = inr (k, omega (arith, l), e)
-
-before_later : (x p : Pair) (xs : List Pair) → AllPairs Before (x ∷ xs) → Contains xs p → Before x p
-before_later x p xs a (k, l, e) = subst (λ (v : Pair). Before x v) e (a 0 (suc k) p (omega arith) (omega (arith, l)))
-
-later_order : (x : Pair) (xs : List Pair) → AllPairs Before (x ∷ xs) → AllPairs Before xs
-later_order x xs a = λ i j d l m. a (suc i) (suc j) d (omega (arith, l)) (omega (arith, m))
-
-same_first : (x y : Pair) (xs ys : List Pair) → AllPairs Before (x ∷ xs) → AllPairs Before (y ∷ ys) → (y ≡ x) ⊎ Contains ys x → (x ≡ y) ⊎ Contains xs y → x ≡ y
-same_first x y xs ys a b h k =
-    ⊎_elim (λ w. sym w) (λ w. ⊎_elim (λ v. v) (λ v. absurd (Before-one_way x y (before_later x y xs a v) (before_later y x ys b w))) k) h
-
-same_pairs : (xs ys : List Pair) → AllPairs Before xs → AllPairs Before ys → ((p : Pair) → Contains xs p ↔ Contains ys p) → xs ≡ ys
-same_pairs [] [] a b m = refl
-same_pairs [] (y ∷ ys) a b m = absurd (none_held y ((m y).1 (first_held y ys)))
-same_pairs (x ∷ xs) [] a b m = absurd (none_held x ((m x).0 (first_held x xs)))
-same_pairs (x ∷ xs) (y ∷ ys) a b m =
-    let e : x ≡ y = same_first x y xs ys a b (held_cases y x ys ((m x).0 (first_held x xs))) (held_cases x y xs ((m y).1 (first_held y ys))) in
-    let rest : xs ≡ ys = same_pairs xs ys (later_order x xs a) (later_order y ys b) (λ p. (
-      λ k. ⊎_elim (λ w. absurd (Before-not_same x p (e ∙ w) (before_later x p xs a k))) (λ w. w) (held_cases y p ys ((m p).0 (later_held x p xs k))),
-      λ k. ⊎_elim (λ w. absurd (Before-not_same y p (sym e ∙ w) (before_later y p ys b k))) (λ w. w) (held_cases x p xs ((m p).1 (later_held y p ys k))),
-    )) in
-    ap (λ (z : Pair). z ∷ xs) e ∙ ap (λ (z : List Pair). y ∷ z) rest
-
 pub pairs_agree : PairsAgree
-pairs_agree dist near n hub xs ys f g = same_pairs xs ys f.order g.order (λ p. (λ k. (g.all p).1 ((f.all p).0 k), λ k. (f.all p).1 ((g.all p).0 k)))
+pairs_agree dist near n hub xs ys f g = same_ordered Before Before-one_way xs ys f.order g.order (λ p. (λ k. (g.all p).1 ((f.all p).0 k), λ k. (f.all p).1 ((g.all p).0 k)))
 
-same_part : (E : List Pair) (xs : List ℕ) → IsPartPath E xs → (c d : ℕ) → holds xs c ≡ true → holds xs d ≡ true → part E d ≡ part E c
-unfolding IsPartPath
-same_part E [] h c d hc hd = absurd h
-same_part E (a ∷ xs) h c d hc hd = (h.3 d).0 hd ∙ sym ((h.3 c).0 hc)
+-- the first city of each list is below those of all later ones
+abbrev Rises : List ℕ → List ℕ → Type 0
+Rises xs ys = first_of xs < first_of ys
 
-held_together : (E : List Pair) (xs : List ℕ) → IsPartPath E xs → (c d : ℕ) → holds xs c ≡ true → part E d ≡ part E c → holds xs d ≡ true
-unfolding IsPartPath
-held_together E [] h c d hc e = absurd h
-held_together E (a ∷ xs) h c d hc e = (h.3 d).1 (e ∙ (h.3 c).0 hc)
+lists_rise : (lists : List (List ℕ)) → ((k : ℕ) → k + 1 < length lists → first_of (get_or lists k []) < first_of (get_or lists (k + 1) [])) → AllPairs Rises lists
+lists_rise lists h i j d l m =
+    let long = length-map lists first_of in
+    let at : (k : ℕ) (d : List ℕ) → k < length lists → get_or (map first_of lists) k 0 ≡ first_of (get_or lists k d) = λ k d w. get_or-map first_of lists k d 0 w in
+    let s = AllPairs-from_increasing (map first_of lists) (λ k w. omega (arith, h k (omega (arith, long, w)), at k [] (omega (arith, long, w)), at (k + 1) [] (omega (arith, long, w)))) i j 0 l (omega (arith, long, m)) in
+    omega (arith, s, at i d (omega (arith, l, m)), at j d m)
+
+holds-first : (E : List Pair) (xs : List ℕ) → IsPartPath E xs → holds xs (first_of xs) ≡ true
+unfolding IsPartPath first_of
+holds-first E [] h = absurd h
+holds-first E (a ∷ xs) h = holds-here a xs
+
+-- a list of the one is a list of the other
+held_too : (n hub : ℕ) (load : ℕ → ℕ) (E : List Pair) → HasArrays n load E → (lists others : List (List ℕ)) → ArePartPaths n hub E lists → ArePartPaths n hub E others →
+    (xs : List ℕ) → Contains lists xs → Contains others xs
+held_too n hub load E arrays lists others a b xs (k, l, e) =
+    let p = a.paths k [] l in
+    let c = first_of (get_or lists k []) in
+    let h = holds-first E (get_or lists k []) p in
+    let (i, t) = (b.cities c).1 ((a.cities c).0 (k, (l, h))) in
+    let same : get_or lists k [] ≡ get_or others i [] = one_path n load E arrays _ _ p (b.paths i [] t.0) c h t.1 (λ d w. ((a.cities d).0 (k, (l, w))).0) (λ d w. ((b.cities d).0 (i, (t.0, w))).0) in
+    (i, t.0, get_or_default others i xs [] t.0 ∙ (sym same ∙ (get_or_default lists k [] xs l ∙ e)))
 
 pub lists_agree : ListsAgree
-lists_agree dist near n hub load capacity lists others s t c d (k, l, hc, hd) =
+lists_agree dist near n hub load capacity lists others s t =
     let E = joints load n capacity [] s.0 in
     let a = s.1.1 in
     let same : t.0 ≡ s.0 = pairs_agree dist near n hub t.0 s.0 t.1.0 s.1.0 in
     let b : ArePartPaths n hub E others = subst (λ (x : List Pair). ArePartPaths n hub (joints load n capacity [] x) others) same t.1.1 in
-    let r = (b.cities c).1 ((a.cities c).0 (k, (l, hc))) in
-    let e = same_part E (slice_index_or lists k []) (a.paths k [] l) c d hc hd in
-    (r.0, r.1.0, r.1.1, held_together E (slice_index_or others r.0 []) (b.paths r.0 [] r.1.0) c d r.1.1 e)
+    let arrays = HasArrays-joints n load capacity s.0 (all_within dist near n hub n s.0 refl s.1.0) in
+    same_ordered Rises (λ xs ys h k. omega (arith, h, k)) lists others (lists_rise lists a.order) (lists_rise others b.order)
+    (λ xs. (held_too n hub load E arrays lists others a b xs, held_too n hub load E arrays others lists b a xs))

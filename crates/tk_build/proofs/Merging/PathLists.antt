@@ -103,7 +103,7 @@ Follows-append one two one' two' i j before a (d ∷ xs) ys l e pos h k f g =
       Follows-append one two one' two' i j a d xs ys l e pos h.1 (or_parts _ _ k).1 f.2 g,
     )
 
-both_last : (p q x y z : ℕ) → AreBoth p q x y → AreBoth p q x z → y ≡ z
+pub both_last : (p q x y z : ℕ) → AreBoth p q x y → AreBoth p q x z → y ≡ z
 both_last p q x y z h k =
     ⊎_elim (λ a. ⊎_elim (λ b. sym a.1 ∙ b.1) (λ b. sym a.1 ∙ (b.1 ∙ (sym a.0 ∙ b.0))) k)
     (λ a. ⊎_elim (λ b. sym a.0 ∙ (b.0 ∙ (sym a.1 ∙ b.1))) (λ b. sym a.0 ∙ b.0) k) h
