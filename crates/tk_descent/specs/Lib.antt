@@ -1,7 +1,6 @@
 pub mod Awake
 pub mod Machine
 pub mod Offers
-pub mod Rows
 pub mod Sharing
 pub mod Sweeps
 pub mod WakeMachine

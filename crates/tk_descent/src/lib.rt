@@ -14,8 +14,6 @@ mod probe;
 mod segments;
 mod sharing;
 mod sweep;
-#[cfg(test)]
-mod tests;
 mod waking;
 
 pub use descent::{Report, descend};

@@ -7,5 +7,4 @@ pub mod Moves
 pub mod Printed
 pub mod Reversal
 pub mod Tour
-pub mod TourExamples
 pub mod Verdict

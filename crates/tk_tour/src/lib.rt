@@ -2,16 +2,12 @@
 #![tactic(auto)]
 
 mod array;
-#[cfg(test)]
-mod examples;
 mod fault;
 mod journal;
 pub mod laws;
 mod measure;
 mod reversal;
 mod store;
-#[cfg(test)]
-mod tests;
 mod verdict;
 
 pub use array::ArrayTour;

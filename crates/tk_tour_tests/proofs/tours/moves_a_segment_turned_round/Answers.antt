@@ -1,5 +1,5 @@
 use Rattle.std.proofs.Common.{[], ◌∷◌, inl, refl}
-use Rattle.tk_tour.proofs.tests.moves_a_segment_turned_round.Goals as goal
+use Rattle.tk_tour_tests.proofs.tours.moves_a_segment_turned_round.Goals as goal
 
 pub move_reversed-requires : goal.move_reversed-requires
 move_reversed-requires g c = record {

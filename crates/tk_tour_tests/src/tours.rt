@@ -1,11 +1,11 @@
 //! Worked examples, and each call once at a concrete type.
 ghost use Rattle.std.specs.Prelude.{ℕ, ◌+◌, ◌-◌, min, ◌≤◌};
 
-use super::*;
 use std::alloc::Global;
 use std::process::Abort;
 use std::test::Fail;
 use tk_metric::Metric;
+use tk_tour::{ArrayTour, Flip, JournalTour, TourFault, TourStore, Verdict, check, laws, length};
 
 // A flip of the steps from a to b and from c to d, which run ahead.
 fn flip_ahead<S: TourStore>(rt: &impl Abort, tour: &mut S, a: u32, b: u32, c: u32, d: u32) -> Flip {

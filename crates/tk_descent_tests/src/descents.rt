@@ -2,10 +2,12 @@
 ghost use Rattle.std.specs.Prelude.{◌≡◌, ◌≤◌, ◌<◌, pos, length};
 ghost use Rattle.tk_tour.specs.Tour.{tour_length};
 
-use super::*;
 use std::alloc::Global;
 use std::process::Abort;
 use std::test::Fail;
+use tk_descent::{
+    Gains, Probe, Report, SweptReport, Waking, descend, descend_swept, is_local_optimum, look, make,
+};
 use tk_metric::Metric;
 use tk_near::{Near, near_scan};
 use tk_tour::{ArrayTour, JournalTour, TourStore, length};
@@ -19,7 +21,7 @@ struct Rows {
 }
 
 impl Metric for Rows {
-    ghost use Rattle.tk_descent.specs.Rows.{row_distance, row_distance-same, row_distance-swap, row_distance-limit, few_cities};
+    ghost use Rattle.tk_descent_tests.specs.Rows.{row_distance, row_distance-same, row_distance-swap, row_distance-limit, few_cities};
 
     ghost size_of = { λ t. t.n };
 

@@ -2,7 +2,7 @@
 ghost use Rattle.std.specs.Prelude.{[], ◌∷◌, ◌≡◌};
 ghost use Rattle.tk_tour.specs.Reversal.{begun_at, reversed_places};
 ghost use Rattle.tk_tour.specs.Tour.{next_city, occurrences, place_of, prev_city, tour_length};
-ghost use Rattle.tk_tour.specs.TourExamples.{triangle};
+ghost use Rattle.tk_tour_tests.specs.TourExamples.{triangle};
 
 fn lengths()
     ensures three { tour_length triangle (1 ∷ 2 ∷ 3 ∷ []) ≡ 12 }

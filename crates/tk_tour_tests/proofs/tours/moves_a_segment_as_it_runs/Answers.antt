@@ -1,5 +1,5 @@
 use Rattle.std.proofs.Common.{[], ◌∷◌, inl, refl}
-use Rattle.tk_tour.proofs.tests.moves_a_segment_as_it_runs.Goals as goal
+use Rattle.tk_tour_tests.proofs.tours.moves_a_segment_as_it_runs.Goals as goal
 
 pub move_straight-requires : goal.move_straight-requires
 move_straight-requires g c = record {
