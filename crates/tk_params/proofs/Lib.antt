@@ -2,7 +2,6 @@ pub mod Feeds
 pub mod Keys
 pub mod Limits
 pub mod Looks
-pub mod OnLiterals
 pub mod Steps
 pub mod Taken
 pub mod Told

@@ -2,16 +2,12 @@
 #![tactic(auto)]
 
 mod entries;
-#[cfg(test)]
-mod examples;
 mod fault;
 mod key;
 mod line;
 mod params;
 mod reader;
 mod settings;
-#[cfg(test)]
-mod tests;
 mod value;
 
 pub use fault::{ParamFault, ParamKind};

@@ -2,8 +2,8 @@
 //! Each clause says that a definition gives what a table has beside its arguments. The prover
 //! computes it: there is nothing to run.
 ghost use Rattle.tk_params.specs.Keys.{key_of};
-ghost use Rattle.tk_params.specs.ParamExamples.{HasTable, begun_by, said_by, said_within};
-ghost use Rattle.tk_params.specs.ParamExamples as Tables;
+ghost use Rattle.tk_params_tests.specs.ParamExamples.{HasTable, begun_by, said_by, said_within};
+ghost use Rattle.tk_params_tests.specs.ParamExamples as Tables;
 
 fn texts()
     ensures keys { HasTable key_of Tables.key_words }

@@ -1,6 +1,6 @@
 use Rattle.std.proofs.Common.{refl}
-use Rattle.tk_params.proofs.OnLiterals.{on_literals}
-use Rattle.tk_params.proofs.examples.texts.Goals as goal
+use Rattle.tk_params_tests.proofs.OnLiterals.{on_literals}
+use Rattle.tk_params_tests.proofs.examples.texts.Goals as goal
 
 pub returns-clause-keys : goal.returns-clause-keys
 unfolding on_literals

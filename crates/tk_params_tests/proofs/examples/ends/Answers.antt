@@ -1,6 +1,6 @@
 use Rattle.std.proofs.Common.{refl}
-use Rattle.tk_params.proofs.OnLiterals.{on_literals}
-use Rattle.tk_params.proofs.examples.ends.Goals as goal
+use Rattle.tk_params_tests.proofs.OnLiterals.{on_literals}
+use Rattle.tk_params_tests.proofs.examples.ends.Goals as goal
 
 pub returns-clause-lengths : goal.returns-clause-lengths
 unfolding on_literals

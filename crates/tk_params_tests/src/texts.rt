@@ -1,0 +1,157 @@
+//! Parameter files that are read where memory is ample: each key, the defaults, and a fault of each kind.
+ghost use Rattle.std.specs.Prelude.{None};
+
+use std::alloc::{AllocError, Global};
+use std::process::Abort;
+use tk_params::{
+    Construction, Key, ParamFault, ParamKind, Params, each_word_spells_its_key, read_params,
+};
+use tk_words::{Failed, FromRead, Source};
+
+/// Gives its bytes one by one, and then fails where it is told to.
+#[derive(Drop)]
+struct Drip<'a> {
+    bytes: &'a [u8],
+    fails: bool,
+    failed: bool,
+}
+
+impl<'a> Source for Drip<'a> {
+    ghost left = { λ s. None };
+
+    ghost broken = { λ s. s.failed };
+
+    fn read(&mut self, buf: &mut [u8]) -> Result<usize, Failed> {
+        match self.bytes {
+            [] => {
+                if self.fails {
+                    self.failed = true;
+                    return Err(Failed);
+                }
+                Ok(0)
+            }
+            [byte, rest @ ..] => {
+                if buf.is_empty() {
+                    return Ok(0);
+                }
+                buf[0] = *byte;
+                self.bytes = rest;
+                Ok(1)
+            }
+        }
+    }
+
+    fn failed(&self) -> bool {
+        self.failed
+    }
+}
+
+/// Reads a text byte by byte, from a source that may fail behind its last byte.
+fn read_dripping(alloc: Global, text: &[u8], fails: bool) -> Result<Params, ParamFault> {
+    let mut source = Drip {
+        bytes: text,
+        fails,
+        failed: false,
+    };
+    read_params(alloc, &mut source)
+}
+
+/// Reads a text at once.
+fn read(alloc: Global, text: &[u8]) -> Result<Params, ParamFault> {
+    let mut source = FromRead::new(text);
+    read_params(alloc, &mut source)
+}
+
+/// The names of the files are these.
+fn expect_files<A: Abort>(rt: &A, params: &Params, problem: &str, others: [&str; 3]) {
+    let [tour, solution, initial] = others;
+    assert!(rt; params.problem_file() == problem);
+    assert!(rt; params.tour_file() == Some(tour));
+    assert!(rt; params.solution_file() == Some(solution));
+    assert!(rt; params.initial_tour_file() == Some(initial));
+}
+
+/// The numbers of the search are these.
+fn expect_numbers<A: Abort>(rt: &A, params: &Params, numbers: [u32; 5]) {
+    let [runs, trials, seed, candidates, segment] = numbers;
+    assert!(rt; params.runs() == runs);
+    assert!(rt; params.max_trials() == Some(trials));
+    assert!(rt; params.seed() == seed);
+    assert!(rt; params.max_candidates() == candidates);
+    assert!(rt; params.or_segment() == segment);
+}
+
+#[test]
+fn reads_each_key(rt: HostRuntime) {
+    let text =
+        b"OPTIMUM = 7 $\n\n TOUR_FILE\t=\t a b \r\nPROBLEM_FILE = = p\nSOLUTION_FILE s\nInitial_Tour_File=t\nRUNS = 10000\nMAX_TRIALS = 1000000\nSEED = +4294967295\nMAX_CANDIDATES = 100\nCONSTRUCTION = Savings\nFINAL_SWEEP = yes\nOR_SEGMENT = 1\nCOMMENT = $\nCOMMENT\nEOF x\nFOO";
+    let params = read(rt.alloc(), text).expect(&rt, "no fault");
+    expect_files(&rt, &params, "= p", ["a b", "s", "t"]);
+    expect_numbers(&rt, &params, [10_000, 1_000_000, 4_294_967_295, 100, 1]);
+    assert!(rt; params.construction() == Construction::Savings);
+    assert!(rt; params.final_sweep());
+    assert!(rt; params.ignored() == [Key::Optimum].as_slice());
+}
+
+#[test]
+fn shows_a_key_as_its_word(rt: HostRuntime) {
+    each_word_spells_its_key();
+    assert!(rt; Key::PatchingA.word() == "PATCHING_A");
+    let shown = format!(in rt.alloc(); "ignored {}", Key::MoveType).expect(&rt, "memory");
+    assert!(rt; shown.as_str() == "ignored MOVE_TYPE");
+}
+
+/// A text has this fault, read at once and byte by byte.
+fn refuse<A: Abort>(rt: &A, alloc: Global, text: &[u8], line: u64, kind: ParamKind) {
+    let fault = Some(ParamFault { line, kind });
+    assert!(rt; read(alloc, text).err() == fault);
+    assert!(rt; read_dripping(alloc, text, false).err() == fault);
+}
+
+#[test]
+fn refuses_what_is_no_setting(rt: HostRuntime) {
+    let rows: [(&[u8], u64, ParamKind); 5] = [
+        (b"# c\nMOVE_TYPE = 5\nFOO = 1\n", 3, ParamKind::UnknownKey),
+        (b"OPTIMUM\noptimum\n", 2, ParamKind::RepeatedKey),
+        (b"PROBLEM_FILE = \xFF", 1, ParamKind::BadValue),
+        (b"RUNS = 1\nEOF\n", 2, ParamKind::MissingProblem),
+        (b"PROBLEM_FILE = a$b", 1, ParamKind::DollarInName),
+    ];
+    for (text, line, kind) in rows {
+        refuse(&rt, rt.alloc(), text, line, kind);
+    }
+}
+
+/// A byte many times.
+fn repeated(alloc: Global, byte: u8, count: usize) -> Result<Vec<u8>, AllocError> {
+    let mut text = Vec::new(alloc);
+    for _ in 0..count {
+        text.push(byte)?;
+    }
+    Ok(text)
+}
+
+/// A key of 65 bytes, a line of 4,097 and a text of 1,048,577 are too long.
+#[test]
+fn refuses_what_is_too_long(rt: HostRuntime) {
+    for (byte, count, line) in [
+        (b'A', 65, 1),
+        (b' ', 4097, 1),
+        (b'\n', 1_048_577, 1_048_577),
+    ] {
+        let text = repeated(rt.alloc(), byte, count).expect(&rt, "memory");
+        refuse(&rt, rt.alloc(), &text, line, ParamKind::TooLong);
+    }
+}
+
+/// A fault of the source is told where the text does not end before it.
+#[test]
+fn tells_a_fault_of_the_source(rt: HostRuntime) {
+    let fault = read_dripping(rt.alloc(), b"PROBLEM_FILE = p\nRUNS", true).err();
+    let read = Some(ParamFault {
+        line: 2,
+        kind: ParamKind::Read,
+    });
+    assert!(rt; fault == read);
+    assert!(rt; read_dripping(rt.alloc(), b"PROBLEM_FILE = p\nEOF\n", true).is_ok());
+}
