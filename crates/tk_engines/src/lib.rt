@@ -7,8 +7,6 @@
 mod solve;
 mod solve_given;
 mod solve_lines;
-#[cfg(test)]
-mod tests;
 
 pub use solve::solve_engine;
 pub use tk_checks::{Fault, check_engine, matrix_engine, near_engine, route_check_engine};

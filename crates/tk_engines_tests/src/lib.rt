@@ -1,0 +1,15 @@
+//! The tests of `tk_engines`, in a crate of their own: the tests of a crate are proved together with all of its functions.
+#![tactic(auto)]
+
+#[cfg(test)]
+mod check;
+#[cfg(test)]
+mod given;
+#[cfg(test)]
+mod matrix;
+#[cfg(test)]
+mod near;
+#[cfg(test)]
+mod route_check;
+#[cfg(test)]
+mod solve;
