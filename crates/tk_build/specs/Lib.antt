@@ -2,6 +2,7 @@ pub mod Cuts
 pub mod Descents
 pub mod Ending
 pub mod Holding
+pub mod HubDistances
 pub mod JointExamples
 pub mod Joints
 pub mod NearestTour

@@ -1,5 +1,6 @@
 -- The pairs found so far.
-use Rattle.std.proofs.Common.{eqb, ◌&&◌, ◌≡◌, ℕ, suc, zero, ◌+◌, ◌≤◌, ◌<◌, true, List, [], ◌∷◌, ◌++◌, Some, None, length, get_or, refl, sym, ap, ◌∙◌, ◌⊎◌, inl, inr, arith, ⊎_elim, subst}
+use Rattle.std.proofs.Common.{eqb, ◌&&◌, ◌||◌, Bool, take, ◌≡◌, ℕ, suc, zero, ◌+◌, ◌≤◌, ◌<◌, true, List, [], ◌∷◌, ◌++◌, Some, None, length, get_or, refl, sym, ap, ◌∙◌, ◌⊎◌, inl, inr, arith, ⊎_elim, subst}
+use Rattle.std.proofs.Math.Bool.{or-false, or_assoc}
 use Rattle.std.specs.List.{Contains}
 use Rattle.std.specs.Ordering.{nat_cmp, ordering_then}
 use Rattle.std.specs.declared.cmp.Ordering.TheVariants.{Less, Greater}
@@ -15,6 +16,18 @@ pub holds-at : (xs : List ℕ) (k : ℕ) → k < length xs → holds xs (get_or 
 holds-at [] k h = absurd (omega (arith, h))
 holds-at (x ∷ xs) zero h = or_left _ _ (eq-eqb x x refl)
 holds-at (x ∷ xs) (suc k) h = or_right _ _ (holds-at xs k (omega (arith, h)))
+
+holds-suc : (xs : List ℕ) (k b : ℕ) → k < length xs → holds (take (suc k) xs) b ≡ (holds (take k xs) b || eqb (get_or xs k 0) b)
+holds-suc [] k b h = absurd (omega (arith, h))
+holds-suc (x ∷ xs) zero b h = or-false (eqb x b)
+holds-suc (x ∷ xs) (suc k) b h =
+    ap (λ (v : Bool). eqb x b || v) (holds-suc xs k b (omega (arith, h))) ∙ sym (or_assoc (eqb x b) (holds (take k xs) b) (eqb (get_or xs k 0) b))
+
+-- what one more place makes of a list's beginning
+pub holds-next : (xs : List ℕ) (k b : ℕ) → k < length xs → holds (take (k + 1) xs) b ≡ (holds (take k xs) b || eqb (get_or xs k 0) b)
+holds-next xs k b h =
+    let more : suc k ≡ k + 1 = omega arith in
+    subst (λ (j : ℕ). holds (take j xs) b ≡ (holds (take k xs) b || eqb (get_or xs k 0) b)) more (holds-suc xs k b h)
 
 pub place : (xs : List ℕ) (b : ℕ) → holds xs b ≡ true → (k : ℕ) × (k < length xs) × (get_or xs k 0 ≡ b)
 place [] b h = absurd (both_ways _ refl h)
@@ -73,6 +86,16 @@ here_same dist n hub c items m pairs s never p h k l o =
     ⊎_elim
     (λ w. s p h k w o)
     (λ w. let t : k ≡ m = omega (arith, l, w) in absurd (never p h (subst (λ (x : ℕ). IsOf c (get_or items x 0) p) t o)))
+    (cases_lt k m)
+
+-- the pair of c and an earlier city that has c near it was found there
+pub here_found : (dist : ℕ → ℕ → ℕ) (near : ℕ → List ℕ) (n hub c : ℕ) (items : List ℕ) (m : ℕ) (pairs : List Pair) →
+    Earlier dist near n hub c pairs → Here dist n hub c items m pairs → get_or items m 0 < c → holds (near (get_or items m 0)) c ≡ true → Here dist n hub c items (m + 1) pairs
+here_found dist near n hub c items m pairs s here before held p h k l o =
+    ⊎_elim
+    (λ w. here p h k w o)
+    (λ w. let t : k ≡ m = omega (arith, l, w) in
+    s p h (get_or items m 0) c (⊎_elim (λ u. inr u) (λ u. inl u) (subst (λ (x : ℕ). IsOf c (get_or items x 0) p) t o)) before held)
     (cases_lt k m)
 
 pub earlier_more : (dist : ℕ → ℕ → ℕ) (near : ℕ → List ℕ) (n hub c : ℕ) (items : List ℕ) (m : ℕ) (pairs : List Pair) → items ≡ near c → length items ≤ m →

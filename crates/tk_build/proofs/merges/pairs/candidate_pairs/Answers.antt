@@ -10,7 +10,7 @@ use Rattle.tk_build.specs.Holding.{holds}
 use Rattle.tk_near.specs.Near.{near_of}
 use Rattle.tk_build.specs.SavingPairs.{Before}
 use Rattle.tk_build.specs.declared.merges.pairs.Pair.{Pair}
-use Rattle.tk_build.proofs.Merging.PairsFound.{sound_more, kept, here_more, here_same, earlier_more, all_found, holds-at, Before-from_less, none_some, same_pair}
+use Rattle.tk_build.proofs.Merging.PairsFound.{sound_more, kept, here_more, here_same, here_found, earlier_more, all_found, holds-at, Before-from_less, none_some, same_pair}
 use Rattle.tk_build.proofs.merges.pairs.candidate_pairs.Goals as goal
 use Rattle.tk_build.proofs.merges.pairs.candidate_pairs.Goals.{in-Some+in_ok-push, in_default}
 
@@ -31,6 +31,13 @@ loop-d-preserved g c =
         here = here_same _ _ _ c.loop-c.c c.of-d-items.result.now c.loop-d.d-index c.loop-d.pairs.items c.loop-d.invariant.here (λ p h o. none_some p (w.in_default.ensures.all p h o));
       })
     ]
+
+pub loop-d-preserved-then-is_near : goal.loop-d-preserved-then-is_near
+loop-d-preserved-then-is_near g c = record {
+  sound = c.loop-d.invariant.sound;
+  earlier = c.loop-d.invariant.earlier;
+  here = here_found _ (near_of c.args.near.now) _ _ c.loop-c.c c.of-d-items.result.now c.loop-d.d-index c.loop-d.pairs.items c.loop-d.invariant.earlier c.loop-d.invariant.here c.if-d-c.true (sym c.if-is_near.ensures);
+}
 
 pub loop-c-preserved : goal.loop-c-preserved
 loop-c-preserved g c = record {
