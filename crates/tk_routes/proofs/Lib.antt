@@ -10,4 +10,5 @@ pub mod Nodes
 pub mod ReadOffs
 pub mod Renumbered
 pub mod RouteSteps
+pub mod RowsRead
 pub mod Served

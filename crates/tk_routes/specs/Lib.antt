@@ -4,5 +4,6 @@ pub mod Instance
 pub mod RouteLists
 pub mod Routes
 pub mod RouteVerdicts
+pub mod Rows
 pub mod SavingsRoutes
 pub mod Serving

@@ -7,6 +7,7 @@ mod check_tests;
 mod cvrp;
 mod improving;
 mod laws;
+mod measured;
 mod merging;
 mod one_route;
 mod route_report;

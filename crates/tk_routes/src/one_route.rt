@@ -10,14 +10,18 @@ ghost use Rattle.tk_descent.specs.Sweeps.{Pass};
 ghost use Rattle.tk_routes.specs.Cvrps.{instance_of};
 ghost use Rattle.tk_routes.specs.Instance.{customer_count};
 ghost use Rattle.tk_routes.specs.Routes.{route_nodes, route_length};
-ghost use Rattle.tk_routes.specs.ImprovedRoutes.{IsImproved, IsReadOff};
+ghost use Rattle.tk_routes.specs.ImprovedRoutes.{IsImproved, IsReadOff, place_distance};
 
 use crate::cvrp::Cvrp;
+use crate::measured::Measured;
 use std::alloc::{AllocError, Global};
 use tk_descent::{Probe, Report, Waking, descend};
 use tk_metric::{Metric, Sub};
 use tk_near::{Near, near_scan};
 use tk_tour::{ArrayTour, length};
+
+/// The distances among at most so many nodes are computed beforehand.
+const MOST_MEASURED: usize = 256;
 
 /// The depot and the nodes of a route.
 fn list_nodes(alloc: Global, cvrp: &Cvrp<'_>, route: &[u32]) -> Result<Vec<u32>, AllocError>
@@ -102,6 +106,36 @@ fn read_off(alloc: Global, route: &[u32], cycle: &[u32]) -> Result<Vec<u32>, All
     Ok(customers)
 }
 
+/// A route after a descent from the depot and the route, with all its nodes awake, and what the descent did. The metric has the
+/// distances among the depot and the nodes of the route.
+fn improve_over<M: Metric>(
+    alloc: Global,
+    cvrp: &Cvrp<'_>,
+    metric: &M,
+    route: &[u32],
+    max_candidates: u32,
+    m: u32,
+) -> Result<(Vec<u32>, Report), AllocError>
+    requires size { M.size_of metric.now ≡ length route.now + 1 }
+    requires distances { M.distance metric.now
+        ≡ place_distance (instance_of cvrp.now).distance (route_nodes (instance_of cvrp.now) route.now) }
+    requires some { 1 ≤ length route.now }
+    requires candidates { (1 ≤ max_candidates) × (max_candidates ≤ 100) }
+    requires most { (1 ≤ m) × (m ≤ 3) }
+    ensures improved { IfOk result (λ r. IsImproved (instance_of cvrp.now) max_candidates m route.now r.0.items r.1.moves r.1.tests) }
+    ensures same { IfOk result (λ r. IsPermutation route.now r.0.items) }
+    ensures before { IfOk result (λ r. r.1.before ≡ pos (route_length (instance_of cvrp.now) route.now)) }
+    ensures after { IfOk result (λ r. r.1.after ≡ pos (route_length (instance_of cvrp.now) r.0.items)) }
+    ensures moves { IfOk result (λ r. r.1.moves + route_length (instance_of cvrp.now) r.0.items ≤ route_length (instance_of cvrp.now) route.now) }
+    ensures tests { IfOk result (λ r. r.1.tests ≤ 4 * m * max_candidates * (length route.now + 1 + 6 * r.1.moves)) }
+    ensures swaps { IfOk result (λ r. r.1.swaps ≤ 3 * ((length route.now + 1) / 4) * r.1.moves) }
+{
+    let near = near_scan(alloc, metric, max_candidates.min(route.len() as u32))?;
+    let (tour, report) = descend_awake(alloc, metric, &near, m)?;
+    let cycle = tour.canonical(alloc)?;
+    Ok((read_off(alloc, route, &cycle)?, report))
+}
+
 /// A route after a descent from the depot and the route, with all its nodes awake, and what the descent did.
 ///
 /// # Errors
@@ -128,8 +162,9 @@ pub(crate) fn improve_route(
 {
     let nodes = list_nodes(alloc, cvrp, route)?;
     let metric = Sub::new(&cvrp.table, &nodes);
-    let near = near_scan(alloc, &metric, max_candidates.min(route.len() as u32))?;
-    let (tour, report) = descend_awake(alloc, &metric, &near, m)?;
-    let cycle = tour.canonical(alloc)?;
-    Ok((read_off(alloc, route, &cycle)?, report))
+    if nodes.len() > MOST_MEASURED {
+        return improve_over(alloc, cvrp, &metric, route, max_candidates, m);
+    }
+    let measured = Measured::of(alloc, &metric)?;
+    improve_over(alloc, cvrp, &measured, route, max_candidates, m)
 }
