@@ -2,8 +2,6 @@
 #![tactic(auto)]
 
 mod check;
-#[cfg(test)]
-mod check_tests;
 mod cvrp;
 mod improving;
 mod laws;
@@ -11,8 +9,6 @@ mod measured;
 mod merging;
 mod one_route;
 mod route_report;
-#[cfg(test)]
-mod route_tests;
 mod routes;
 mod verdict;
 

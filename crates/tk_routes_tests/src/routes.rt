@@ -3,11 +3,11 @@ ghost use Rattle.std.specs.Prelude.{◌≡◌, IfOk};
 ghost use Rattle.tk_routes.specs.Cvrps.{instance_of};
 ghost use Rattle.tk_routes.specs.RouteLists.{instance_of_routes};
 
-use crate::check_tests::{DEPOT_BETWEEN, TWO_SIDES, claim, problem_of};
-use crate::{Cvrp, RouteReport, RouteVerdict, Routes, check_routes, improve, savings};
+use crate::checks::{DEPOT_BETWEEN, TWO_SIDES, claim, problem_of};
 use std::alloc::{AllocError, Global};
 use std::test::Fail;
 use tk_near::near_scan;
+use tk_routes::{Cvrp, RouteReport, RouteVerdict, Routes, check_routes, improve, savings};
 
 /// As `TWO_SIDES`, with vehicles for all.
 const ROOM_FOR_ALL: &[u8] =

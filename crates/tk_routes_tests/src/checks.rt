@@ -1,7 +1,7 @@
 //! Worked examples of the check.
-use crate::{Cvrp, RouteVerdict, check_routes};
 use std::alloc::{AllocError, Global};
 use std::test::Fail;
+use tk_routes::{Cvrp, RouteVerdict, check_routes};
 use tk_text::{FromRead, Problem, SolText, read_problem};
 
 /// Two customers on each side of the depot, and vehicles for two.
