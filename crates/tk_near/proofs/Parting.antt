@@ -325,3 +325,7 @@ taken_before p old new back h = record {
   is = h.is;
   others = IsPermutation-append_left back old (h.taken ∷ new) h.others;
 }
+
+-- what holds of all cities holds of those that are left
+pub All-taken : (P : Placed → Type 0) (p : Placed) (old new : List Placed) → IsTakenOut p old new → All P old → All P new
+All-taken P p old new h all = All-tail P h.taken new (All-permutation P old (h.taken ∷ new) h.others all)

@@ -9,6 +9,9 @@ use crate::sweep::Placed;
 /// At most so many cities are put in order at once.
 const FEW: usize = 12;
 
+/// From so many cities on, the one that parts them is chosen among nine.
+const MANY: usize = 64;
+
 /// Whether a city comes first in y, or in x, and by its number where that is equal.
 #[inline]
 fn comes_first(p: Placed, q: Placed, is_tall: bool) -> bool {
@@ -20,13 +23,8 @@ fn comes_first(p: Placed, q: Placed, is_tall: bool) -> bool {
     (a < b) | ((a == b) & (p.city < q.city))
 }
 
-/// The middle one of three of the cities.
-fn middle_of(row: &[Placed], is_tall: bool) -> Placed
-    requires { 1 ≤ length row.now }
-{
-    let a = row[0];
-    let b = row[row.len() / 2];
-    let c = row[row.len() - 1];
+/// The middle one of three cities.
+fn middle_of_three(a: Placed, b: Placed, c: Placed, is_tall: bool) -> Placed {
     let is_rising = comes_first(a, b, is_tall);
     if comes_first(b, c, is_tall) == is_rising {
         b
@@ -35,6 +33,21 @@ fn middle_of(row: &[Placed], is_tall: bool) -> Placed
     } else {
         c
     }
+}
+
+/// One of the cities, near the middle of them in most rows: the middle one of three, or of three such of a long row.
+fn middle_of(row: &[Placed], is_tall: bool) -> Placed
+    requires { 1 ≤ length row.now }
+{
+    let last = row.len() - 1;
+    if row.len() < MANY {
+        return middle_of_three(row[0], row[row.len() / 2], row[last], is_tall);
+    }
+    let step = row.len() / 8;
+    let a = middle_of_three(row[0], row[step], row[2 * step], is_tall);
+    let b = middle_of_three(row[3 * step], row[4 * step], row[5 * step], is_tall);
+    let c = middle_of_three(row[6 * step], row[7 * step], row[last], is_tall);
+    middle_of_three(a, b, c, is_tall)
 }
 
 /// Brings the cities that come before a city to the front, and tells how many they are.

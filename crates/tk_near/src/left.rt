@@ -79,6 +79,17 @@ fn index_of(row: &[Placed], p: Placed) -> Option<usize>
     None
 }
 
+/// Whether no city is left in a tree, by the boxes of its halves. It has no contract: a box that is not made anew costs
+/// time alone.
+fn has_none(tree: &Tree) -> bool {
+    match tree {
+        Tree::Leaf(row) => row.is_empty(),
+        Tree::Cut(lower_frame, _, upper_frame, _) => {
+            lower_frame.is_void() && upper_frame.is_void()
+        }
+    }
+}
+
 /// The box of the cities of a tree.
 fn frame_over(tree: &Tree) -> Frame
     requires { IsFramed tree.now }
@@ -87,6 +98,21 @@ fn frame_over(tree: &Tree) -> Frame
     match tree {
         Tree::Leaf(row) => frame_of(row),
         Tree::Cut(lower_frame, _, upper_frame, _) => lower_frame.joined(*upper_frame),
+    }
+}
+
+/// The box of a tree from which a city was taken out: a new one once no city is left, so that no search enters it, else the
+/// old one.
+#[inline(always)]
+fn renewed(old: Frame, tree: &Tree) -> Frame
+    requires framed { IsFramed tree.now }
+    requires within { All (IsWithin old) (entries_of tree.now) }
+    ensures { All (IsWithin result) (entries_of tree.now) }
+{
+    if has_none(tree) {
+        frame_over(tree)
+    } else {
+        old
     }
 }
 
@@ -115,11 +141,11 @@ fn take_from(tree: &mut Tree, p: Placed) -> bool
         Tree::Leaf(row) => take_from_leaf(row, p),
         Tree::Cut(lower_frame, lower, upper_frame, upper) => {
             if lower_frame.may_have(p) && take_from(lower, p) {
-                *lower_frame = frame_over(lower);
+                *lower_frame = renewed(*lower_frame, lower);
                 return true;
             }
             if upper_frame.may_have(p) && take_from(upper, p) {
-                *upper_frame = frame_over(upper);
+                *upper_frame = renewed(*upper_frame, upper);
                 return true;
             }
             false

@@ -15,7 +15,7 @@ use std::alloc::{AllocError, Global};
 use tk_metric::Planar;
 
 /// At most so many cities stand in a leaf.
-const LEAF: usize = 8;
+const LEAF: usize = 16;
 
 /// The most that two places differ in a coordinate.
 const WIDEST: u64 = 2_000_000_000_000_000_000;
@@ -141,6 +141,11 @@ impl Frame {
             distance: floor.min(OPEN.distance as u64) as u32,
             city: self.least,
         }
+    }
+
+    /// Whether it is the box of no city.
+    pub fn is_void(&self) -> bool {
+        self.greatest < self.least
     }
 
     /// Whether the box takes more room in y than in x.
