@@ -15,4 +15,4 @@ pub use tk_words::{
     TextReader, blank, decimal, entry_of, feed_piece, integer, keyword_in, letter, minus_one,
     read_text, spelled, word_byte,
 };
-pub use tk_writers::{write_matrix, write_solution, write_tour};
+pub use tk_writers::{format_of, write_matrix, write_solution, write_tour};

@@ -5,6 +5,6 @@ mod matrix;
 mod solution_writer;
 mod tour_writer;
 
-pub use matrix::write_matrix;
+pub use matrix::{format_of, write_matrix};
 pub use solution_writer::write_solution;
 pub use tour_writer::write_tour;

@@ -1,6 +1,7 @@
 //! Writes a table of distances as explicit weights.
-ghost use Rattle.std.specs.Prelude.{◌≡◌, ℕ, ◌+◌, ◌-◌, ◌≤◌, ◌<◌, ◌++◌, true, length, decimal, codes, pos, IsTrue, OnErr, flat_map};
+ghost use Rattle.std.specs.Prelude.{◌≡◌, ◌≢◌, IfSome, ℕ, ◌+◌, ◌-◌, ◌≤◌, ◌<◌, ◌++◌, true, length, decimal, codes, pos, IsTrue, OnErr, flat_map};
 ghost use Rattle.std.specs.List.{range_with_len};
+ghost use Rattle.tk_problem.specs.declared.weights.Format.{Format};
 ghost use Rattle.tk_writers.specs.FormatLines.{by_columns, on_line, place};
 ghost use Rattle.tk_writers.specs.MatrixText.{format_word, Gives, matrix_head, matrix_line, matrix_text};
 ghost use Rattle.tk_pen.specs.Pens.{Puts};
@@ -25,6 +26,25 @@ fn format_word(f: Format) -> &'static [u8]
         Format::LowerCol => b"LOWER_COL",
         Format::UpperDiagCol => b"UPPER_DIAG_COL",
         Format::LowerDiagCol => b"LOWER_DIAG_COL",
+    }
+}
+
+/// The format of a word, if it is one.
+pub fn format_of(word: &str) -> Option<Format>
+    ensures some { IfSome result (λ f. word.now ≡ format_word f) }
+    ensures none { result ≡ None → (f : Format) → word.now ≢ format_word f }
+{
+    match word {
+        "FULL_MATRIX" => Some(Format::FullMatrix),
+        "UPPER_ROW" => Some(Format::UpperRow),
+        "LOWER_ROW" => Some(Format::LowerRow),
+        "UPPER_DIAG_ROW" => Some(Format::UpperDiagRow),
+        "LOWER_DIAG_ROW" => Some(Format::LowerDiagRow),
+        "UPPER_COL" => Some(Format::UpperCol),
+        "LOWER_COL" => Some(Format::LowerCol),
+        "UPPER_DIAG_COL" => Some(Format::UpperDiagCol),
+        "LOWER_DIAG_COL" => Some(Format::LowerDiagCol),
+        _ => None,
     }
 }
 

@@ -13,18 +13,20 @@ mod report;
 mod solve_command;
 
 use clap::ArgMatches;
-use report::{SYSTEM, USAGE};
+use report::USAGE;
+use std::io::ErrorKind;
 use std::process::ExitCode;
 
 /// Reads the program's words, and runs what they ask for.
 fn main(rt: HostRuntime) -> ExitCode {
-    let collected = match std::env::args(&rt) {
+    let words = match std::env::args(&rt) {
         Ok(args) => args.collect::<Vec<String>>(rt.alloc()),
-        Err(_) => return ExitCode::from(USAGE),
+        Err(error) if error.kind() == ErrorKind::OutOfMemory => return report::no_memory(&rt),
+        Err(_) => return report::not_text(&rt),
     };
-    match collected {
+    match words {
         Ok(words) => parse(&rt, words.as_slice()),
-        Err(_) => ExitCode::from(SYSTEM),
+        Err(_) => report::no_memory(&rt),
     }
 }
 

@@ -1,8 +1,4 @@
 //! The subcommand `matrix`.
-ghost use Rattle.std.specs.Prelude.{◌≡◌, ◌≢◌, IfSome};
-ghost use Rattle.tk_text.specs.MatrixText.{format_word};
-ghost use Rattle.tk_text.specs.declared.Format.{Format};
-
 use crate::command::problem_file;
 use crate::input::open;
 use crate::report::{self, USAGE};
@@ -11,7 +7,7 @@ use clap::{Arg, ArgMatches, Command, Error};
 use std::alloc::Global;
 use std::process::ExitCode;
 use tk_engines::matrix_engine;
-use tk_text::{Format, FromRead, ToWrite};
+use tk_text::{FromRead, ToWrite, format_of};
 
 /// What `matrix --help` ends with.
 const HELP: &str = "Reads PROBLEM, of at most 5,000 nodes.
@@ -37,25 +33,6 @@ static FORMATS: [&str; 9] = [
     "UPPER_DIAG_COL",
     "LOWER_DIAG_COL",
 ];
-
-/// The format of a word.
-fn format_of(word: &str) -> Option<Format>
-    ensures some { IfSome result (λ f. word.now ≡ format_word f) }
-    ensures none { result ≡ None → (f : Format) → word.now ≢ format_word f }
-{
-    match word {
-        "FULL_MATRIX" => Some(Format::FullMatrix),
-        "UPPER_ROW" => Some(Format::UpperRow),
-        "LOWER_ROW" => Some(Format::LowerRow),
-        "UPPER_DIAG_ROW" => Some(Format::UpperDiagRow),
-        "LOWER_DIAG_ROW" => Some(Format::LowerDiagRow),
-        "UPPER_COL" => Some(Format::UpperCol),
-        "LOWER_COL" => Some(Format::LowerCol),
-        "UPPER_DIAG_COL" => Some(Format::UpperDiagCol),
-        "LOWER_DIAG_COL" => Some(Format::LowerDiagCol),
-        _ => None,
-    }
-}
 
 /// The words of `matrix`.
 pub fn matrix<'a>(alloc: Global) -> Result<Command<'a>, Error> {

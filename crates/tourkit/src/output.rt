@@ -33,13 +33,17 @@ pub fn save(rt: &HostRuntime, name: &str, text: &[u8]) -> ExitCode {
 
 /// Replaces a file that is there, if it is a plain file that may be written.
 fn replace_old(rt: &HostRuntime, path: &str, text: &[u8]) -> Result<(), Unreplaced> {
-    let Ok(found) = fs::metadata(rt, path) else {
-        return Err(Unreplaced::NoOther);
+    let found = match fs::metadata(rt, path) {
+        Ok(found) => found,
+        Err(error) => return Err(hindered(error.kind())),
     };
-    if !found.is_file() || File::options().write(true).open(rt, path).is_err() {
+    if !found.is_file() {
         return Err(Unreplaced::NoOther);
     }
-    replace(rt, path, text, Some(found.permissions()))
+    match File::options().write(true).open(rt, path) {
+        Ok(_) => replace(rt, path, text, Some(found.permissions())),
+        Err(error) => Err(hindered(error.kind())),
+    }
 }
 
 /// Writes the text to a new file beside the file, and then gives it the file's name.
@@ -55,23 +59,25 @@ fn replace(
     };
     let file = match File::create_new(rt, &part) {
         Ok(file) => file,
-        Err(error) => return Err(uncreated(error.kind())),
+        Err(error) => return Err(hindered(error.kind())),
     };
     if fill(file, text, permissions).is_err() {
         let _ = fs::remove_file(rt, &part);
         return Err(Unreplaced::Unwritten);
     }
-    if fs::rename(rt, &part, path).is_err() {
+    if let Err(error) = fs::rename(rt, &part, path) {
         let _ = fs::remove_file(rt, &part);
-        return Err(Unreplaced::NoOther);
+        return Err(hindered(error.kind()));
     }
     Ok(())
 }
 
-/// What it means that no file can be made: nothing may be written to a full disk, lest the old bytes are lost.
-fn uncreated(kind: ErrorKind) -> Unreplaced {
+/// What it means that a file cannot be made or put in place: where the disk is full or memory has run out, nothing may be written, lest
+/// the old bytes are lost.
+fn hindered(kind: ErrorKind) -> Unreplaced {
     match kind {
         ErrorKind::StorageFull | ErrorKind::QuotaExceeded => Unreplaced::Unwritten,
+        ErrorKind::OutOfMemory => Unreplaced::NoMemory,
         _ => Unreplaced::NoOther,
     }
 }

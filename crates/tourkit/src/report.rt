@@ -28,6 +28,12 @@ pub fn refused(rt: &HostRuntime, error: &Error) -> ExitCode {
     }
 }
 
+/// Tells that the words are no text.
+pub fn not_text(rt: &HostRuntime) -> ExitCode {
+    let _ = eprintln!(rt; "tourkit: an argument is not UTF-8");
+    ExitCode::from(USAGE)
+}
+
 /// Tells that a file cannot be opened.
 pub fn unopened(rt: &HostRuntime, file: &str) -> ExitCode {
     let _ = eprintln!(rt; "tourkit: {file}: cannot be opened");
