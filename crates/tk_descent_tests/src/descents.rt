@@ -350,39 +350,6 @@ fn longer_segments(rt: HostRuntime) -> Result<(), Fail> {
     )
 }
 
-/// The look that every `Gains` has finds what a probe's look finds, after as many tests, at each city.
-fn expect_same_looks(
-    rt: &impl Abort,
-    alloc: Global,
-    metric: &Rows,
-    cities: &[u32],
-    (k, m): (u32, u32),
-) -> Result<(), Fail> {
-    let tour = ArrayTour::from_list(alloc, cities)?;
-    assert!(rt; metric.n == tour.size());
-    assert!(rt; 1 <= k && k < metric.n);
-    assert!(rt; 1 <= m && m <= 3);
-    let near = near_scan(alloc, metric, k)?;
-    for city in 1..metric.n + 1 {
-        let (mut plain, mut probe) = (Plain(Probe::new(metric)), Probe::new(metric));
-        let found = plain.find_offer(&tour, &near, m, city);
-        assert_eq!(rt; found, probe.find_offer(&tour, &near, m, city));
-        assert_eq!(rt; plain.tests(), probe.tests());
-    }
-    Ok(())
-}
-
-#[test]
-fn looks_by_plain_gains(rt: HostRuntime) -> Result<(), Fail> {
-    for m in [1, 2, 3] {
-        expect_same_looks(&rt, rt.alloc(), &square(), &[1, 2, 3, 4], (3, m))?;
-        expect_same_looks(&rt, rt.alloc(), &square(), &[1, 3, 2, 4], (3, m))?;
-        expect_same_looks(&rt, rt.alloc(), &uneven_cities(), &[1, 2, 3, 4, 5], (2, m))?;
-        expect_same_looks(&rt, rt.alloc(), &uneven_cities(), &[1, 2, 4, 5, 3], (4, m))?;
-    }
-    Ok(())
-}
-
 #[test]
 fn journal_by_plain_gains(rt: HostRuntime) -> Result<(), Fail> {
     let metric = uneven_cities();
