@@ -3,7 +3,6 @@ pub mod Descents
 pub mod Ending
 pub mod Holding
 pub mod HubDistances
-pub mod JointExamples
 pub mod Joints
 pub mod NearestTour
 pub mod PathEnds

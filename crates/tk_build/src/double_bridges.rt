@@ -2,5 +2,3 @@
 
 pub mod cuts;
 pub mod kicking;
-#[cfg(test)]
-mod tests;

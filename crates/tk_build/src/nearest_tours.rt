@@ -3,5 +3,3 @@
 pub mod by_tree;
 pub mod laws;
 pub mod scan;
-#[cfg(test)]
-pub mod tests;

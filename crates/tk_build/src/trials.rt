@@ -5,6 +5,4 @@ pub mod keeping;
 pub mod laws;
 pub mod searching;
 pub mod state;
-#[cfg(test)]
-mod tests;
 pub mod totals;

@@ -1,10 +1,10 @@
 //! Worked examples of the savings merges.
 ghost use Rattle.std.specs.Prelude.{◌≡◌};
 
-use crate::{savings_lists, savings_tour};
 use std::alloc::Global;
 use std::process::Abort;
 use std::test::Fail;
+use tk_build::{savings_lists, savings_tour};
 use tk_metric::{Metric, Triangle};
 use tk_near::near_scan;
 
