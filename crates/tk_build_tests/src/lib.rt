@@ -1,4 +1,4 @@
-//! The tests of `tk_build`, in a crate of their own: the tests of a crate are proved together with all of its functions.
+//! The tests of `tk_build`, in a crate of their own: a crate's tests are proved together with all of its functions.
 #![tactic(auto)]
 
 #[cfg(test)]

@@ -45,8 +45,8 @@ fn expect_report(rt: &impl Abort, report: &TrialReport, lengths: [i64; 2], count
     );
 }
 
-// A search on fewer than 8 cities: a trial, and then none. The counts are those of segments of at most 1, 2 and 3 cities, and then
-// the same swept.
+// A search on fewer than 8 cities: a trial, and then none. The counts are those of segments of at most 1, 2 and 3
+// cities, and then the same swept.
 #[derive(Clone, Copy)]
 struct Few<'a> {
     metric: Triangle<'a>,
@@ -158,8 +158,8 @@ fn one_trial_on_few_cities(rt: HostRuntime) -> Result<(), Fail> {
     Ok(())
 }
 
-// A search in the plane, with the totals after some of its trials: trials, better, moves, gained, tests, swaps, undo_swaps, copied
-// and passes.
+// A search in the plane, with the totals after some of its trials: trials, better, moves, gained, tests, swaps,
+// undo_swaps, copied and passes.
 #[derive(Clone, Copy)]
 struct Many<'a> {
     corners: &'a [(u16, u16)],
