@@ -36,7 +36,8 @@ fn solve<F: Sink, W: Sink>(
     )
 }
 
-/// For parameters, a problem and a tour to begin with the engine answers this. It writes one text to the file, and one behind it.
+/// For parameters, a problem and a tour to begin with the engine answers this. It writes one text to the file, and one
+/// behind it.
 fn expect(
     rt: &impl Abort,
     alloc: Global,
