@@ -15,7 +15,7 @@ use std::alloc::{AllocError, Global};
 use tk_metric::Planar;
 
 /// At most so many cities stand in a leaf.
-const LEAF: usize = 16;
+const LEAF: usize = 8;
 
 /// The most that two places differ in a coordinate.
 const WIDEST: u64 = 2_000_000_000_000_000_000;
