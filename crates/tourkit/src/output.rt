@@ -72,8 +72,8 @@ fn replace(
     Ok(())
 }
 
-/// What it means that a file cannot be made or put in place: where the disk is full or memory has run out, nothing may be written, lest
-/// the old bytes are lost.
+/// What it means that a file cannot be made or put in place: where the disk is full or memory has run out, nothing may be
+/// written, lest the old bytes are lost.
 fn hindered(kind: ErrorKind) -> Unreplaced {
     match kind {
         ErrorKind::StorageFull | ErrorKind::QuotaExceeded => Unreplaced::Unwritten,
