@@ -15,8 +15,8 @@ fn draws_cuts_by_the_words(rt: HostRuntime) {
     ];
     for (seed, want, next) in rows {
         let mut rng = Pcg32::seed_from_u64(seed);
-        assert_eq!(rt; Cuts::draw(&mut rng, 12), want);
-        assert_eq!(rt; rng.next_u32(), next);
+        assert!(rt; Cuts::draw(&mut rng, 12) == want);
+        assert!(rt; rng.next_u32() == next);
     }
 }
 
@@ -36,10 +36,10 @@ fn kicks_parts_of_two_cities_and_of_one(rt: HostRuntime) -> Result<(), Fail> {
     ];
     for (cuts, ends, want) in rows {
         let mut tour = ArrayTour::from_list(rt.alloc(), &[1, 2, 3, 4, 5, 6, 7, 8])?;
-        assert_eq!(rt; cuts.ends(&tour), ends);
+        assert!(rt; cuts.ends(&tour) == ends);
         kick(&mut tour, cuts);
         let printed = tour.canonical(rt.alloc())?;
-        assert_eq!(rt; printed.as_slice(), want.as_slice());
+        assert!(rt; printed.as_slice() == want.as_slice());
     }
     Ok(())
 }

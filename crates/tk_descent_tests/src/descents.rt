@@ -152,7 +152,7 @@ fn expect_descent(
     want: (i64, i64, u64, u64, u64, u64),
 ) -> Result<(ArrayTour, bool), Fail> {
     let (tour, report, optimum) = descent(rt, alloc, metric, cities, k, m, true)?;
-    assert_eq!(rt; numbers(&report), want);
+    assert!(rt; numbers(&report) == want);
     Ok((tour, optimum))
 }
 
@@ -167,8 +167,8 @@ fn expect_sweep(
     want: (i64, i64, u64, u64, u64, u64),
 ) -> Result<(), Fail> {
     let (report, optimum) = sweep(rt, alloc, metric, cities, (k, m))?;
-    assert_eq!(rt; numbers(&report.descent), want);
-    assert_eq!(rt; report.passes, passes);
+    assert!(rt; numbers(&report.descent) == want);
+    assert!(rt; report.passes == passes);
     assert!(rt; optimum);
     Ok(())
 }
@@ -181,7 +181,7 @@ fn expect_printed(
     want: &[u32],
 ) -> Result<(), Fail> {
     let printed = tour.canonical(alloc)?;
-    assert_eq!(rt; printed.as_slice(), want);
+    assert!(rt; printed.as_slice() == want);
     Ok(())
 }
 
@@ -233,7 +233,7 @@ fn three_cities_right_angle(rt: HostRuntime) -> Result<(), Fail> {
     let (_, optimum) = expect_descent(&rt, rt.alloc(), &right_angle(), &[1, 2, 3], (2, 3), want)?;
     assert!(rt; optimum);
     let (report, optimum) = sweep(&rt, rt.alloc(), &right_angle(), &[1, 2, 3], (2, 3))?;
-    assert_eq!(rt; (report.passes, report.descent.tests), (1, 18));
+    assert!(rt; (report.passes, report.descent.tests) == (1, 18));
     assert!(rt; optimum);
     Ok(())
 }
@@ -267,9 +267,9 @@ fn crossed_square(rt: HostRuntime) -> Result<(), Fail> {
 #[test]
 fn crossed_square_asleep(rt: HostRuntime) -> Result<(), Fail> {
     let (tour, report, optimum) = descent(&rt, rt.alloc(), &square(), &[1, 2, 3, 4], 3, 3, false)?;
-    assert_eq!(rt; numbers(&report), (48, 48, 0, 0, 0, 0));
+    assert!(rt; numbers(&report) == (48, 48, 0, 0, 0, 0));
     assert!(rt; !optimum);
-    assert_eq!(rt; tour.order(), [1, 2, 3, 4].as_slice());
+    assert!(rt; tour.order() == [1, 2, 3, 4].as_slice());
     Ok(())
 }
 
@@ -368,7 +368,7 @@ fn journal_by_plain_gains(rt: HostRuntime) -> Result<(), Fail> {
         2,
         before,
     );
-    assert_eq!(rt; numbers(&report), (29, 19, 3, 9, 71, 4));
+    assert!(rt; numbers(&report) == (29, 19, 3, 9, 71, 4));
     expect_printed(&rt, rt.alloc(), tour.tour(), &[1, 3, 2, 5, 4])
 }
 
@@ -382,11 +382,11 @@ fn looks_and_makes(rt: HostRuntime) -> Result<(), Fail> {
     let Some(offer) = look(&tour, &mut gains, &near, 3, 1) else {
         return Err(Fail::from("no offer"));
     };
-    assert_eq!(rt; gains.tests(), 1);
+    assert!(rt; gains.tests() == 1);
     make(&mut tour, &offer);
     expect_printed(&rt, rt.alloc(), &tour, &[1, 3, 2, 4])?;
     assert!(rt; look(&tour, &mut gains, &near, 3, 1).is_none());
-    assert_eq!(rt; gains.tests(), 15);
+    assert!(rt; gains.tests() == 15);
     Ok(())
 }
 
@@ -397,8 +397,8 @@ fn gains_of_the_square(rt: HostRuntime) -> Result<(), Fail> {
     let crossed = gains.gain2(1, 2, 3, 4);
     let straight = gains.gain2(1, 3, 2, 4);
     let moved = gains.gain3(1, 2, 2, 3, 4, 1);
-    assert_eq!(rt; (crossed, straight, moved), (8, -8, 0));
-    assert_eq!(rt; gains.tests(), 3);
+    assert!(rt; (crossed, straight, moved) == (8, -8, 0));
+    assert!(rt; gains.tests() == 3);
     Ok(())
 }
 
@@ -406,7 +406,7 @@ fn gains_of_the_square(rt: HostRuntime) -> Result<(), Fail> {
 fn expect_next(rt: &impl Abort, waking: &mut Waking, want: Option<u32>)
     ensures { waking.new.size ≡ waking.old.size }
 {
-    assert_eq!(rt; waking.take(), want);
+    assert!(rt; waking.take() == want);
 }
 
 #[test]

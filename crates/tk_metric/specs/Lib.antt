@@ -1,6 +1,5 @@
 pub mod Cities
 pub mod Distance
-pub mod DistanceExamples
 pub mod DistanceLaws
 pub mod PlaneDistance
 pub mod PlaneLaws

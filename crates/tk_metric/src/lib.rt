@@ -2,14 +2,10 @@
 #![tactic(auto)]
 
 mod exact;
-#[cfg(test)]
-mod examples;
 mod metric;
 mod planes;
 mod sub;
 mod table;
-#[cfg(test)]
-mod tests;
 mod triangle;
 mod turned;
 

@@ -44,19 +44,19 @@ fn write_three<W: Sink>(sink: &mut W) -> Result<(), WriteFault> {
 fn writes_a_lower_triangle_with_its_diagonal(rt: HostRuntime) {
     let mut sink = ToWrite::new(Vec::new(rt.alloc()));
     let written = write_three(&mut sink);
-    assert_eq!(rt; written, Ok(()));
-    assert_eq!(rt; sink.inner.as_slice(), THREE_TEXT);
+    assert!(rt; written == Ok(()));
+    assert!(rt; sink.inner.as_slice() == THREE_TEXT);
 }
 
 /// A matrix that is written is read as its name and the weights below its diagonal.
 #[test]
 fn a_matrix_is_read_back(rt: HostRuntime) -> Result<(), Fail> {
     let mut sink = ToWrite::new(Vec::new(rt.alloc()));
-    assert_eq!(rt; write_three(&mut sink), Ok(()));
+    assert!(rt; write_three(&mut sink) == Ok(()));
     let mut source = FromRead::new(sink.inner.as_slice());
     let problem = read_problem(rt.alloc(), &mut source)?;
-    assert_eq!(rt; problem.name.as_slice(), b"p".as_slice());
-    assert_eq!(rt; problem.n, 3);
+    assert!(rt; problem.name.as_slice() == b"p".as_slice());
+    assert!(rt; problem.n == 3);
     assert!(rt; are_weights(&problem.weights, &[3, 4, 5]));
     Ok(())
 }
@@ -87,7 +87,7 @@ fn expect_four(
     lines: &str,
 ) -> Result<(), Fail> {
     let mut sink = ToWrite::new(Vec::new(alloc));
-    assert_eq!(rt; write_four(&mut sink, format), Ok(()));
+    assert!(rt; write_four(&mut sink, format) == Ok(()));
     let text = joined(
         alloc,
         &[
@@ -98,7 +98,7 @@ fn expect_four(
             b"EOF\n",
         ],
     )?;
-    assert_eq!(rt; sink.inner.as_slice(), text.as_slice());
+    assert!(rt; sink.inner.as_slice() == text.as_slice());
     Ok(())
 }
 
@@ -133,9 +133,9 @@ fn says_how_much_of_a_matrix_went_out(rt: HostRuntime) {
             let mut sink = FakeSink::new(limit, errs);
             let result = write_three(&mut sink);
             let written = limit as u64;
-            assert_eq!(rt; result, Err(WriteFault { written }));
+            assert!(rt; result == Err(WriteFault { written }));
             assert!(rt; sink.failed());
-            assert_eq!(rt; sink.taken(), &THREE_TEXT[..limit]);
+            assert!(rt; sink.taken() == &THREE_TEXT[..limit]);
         }
     }
 }

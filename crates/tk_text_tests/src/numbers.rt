@@ -6,7 +6,7 @@ use tk_text::{TextKind, decimal, integer};
 /// Each text is this whole number, or none.
 fn expect_integers(rt: &impl Abort, rows: &[(&[u8], Option<i64>)]) {
     for (text, want) in rows {
-        assert_eq!(rt; integer(text), *want);
+        assert!(rt; integer(text) == *want);
     }
 }
 
@@ -14,7 +14,7 @@ fn expect_integers(rt: &impl Abort, rows: &[(&[u8], Option<i64>)]) {
 fn expect_decimals(rt: &impl Abort, rows: &[(&[u8], Result<i64, TextKind>)]) {
     for (text, want) in rows {
         assert!(rt; text.len() <= 64);
-        assert_eq!(rt; decimal(text), *want);
+        assert!(rt; decimal(text) == *want);
     }
 }
 

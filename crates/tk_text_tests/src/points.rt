@@ -11,17 +11,17 @@ fn are_whole(points: &Points) -> bool {
 
 /// The point at this index, of three.
 fn expect_point(rt: &impl Abort, points: &Points, index: usize, want: Point) {
-    assert_eq!(rt; points.len(), 3);
+    assert!(rt; points.len() == 3);
     assert!(rt; index < 3);
-    assert_eq!(rt; points.get(index), want);
+    assert!(rt; points.get(index) == want);
 }
 
 /// The same of the places of the points.
 fn expect_place(rt: &impl Abort, points: &Points, index: usize, want: Point) {
     let places = points.places();
-    assert_eq!(rt; places.len(), 3);
+    assert!(rt; places.len() == 3);
     assert!(rt; index < 3);
-    assert_eq!(rt; places.get(index), want);
+    assert!(rt; places.get(index) == want);
 }
 
 #[test]

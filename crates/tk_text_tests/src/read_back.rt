@@ -52,7 +52,7 @@ fn solution_again(
 #[test]
 fn a_tour_is_read_back(rt: HostRuntime) -> Result<(), Fail> {
     let tour = tour_again(rt.alloc(), b"p", 40, &[1, 3, 2, 4])??;
-    assert_eq!(rt; tour.cities.as_slice(), [1, 3, 2, 4].as_slice());
+    assert!(rt; tour.cities.as_slice() == [1, 3, 2, 4].as_slice());
     Ok(())
 }
 
@@ -60,7 +60,7 @@ fn a_tour_is_read_back(rt: HostRuntime) -> Result<(), Fail> {
 fn a_solution_is_read_back(rt: HostRuntime) -> Result<(), Fail> {
     let routes = [vec![in rt.alloc(); 1, 2]?, vec![in rt.alloc(); 3, 4]?];
     let solution = solution_again(rt.alloc(), &routes, 44)??;
-    assert_eq!(rt; solution.routes.as_slice(), routes.as_slice());
-    assert_eq!(rt; solution.cost, 44);
+    assert!(rt; solution.routes.as_slice() == routes.as_slice());
+    assert!(rt; solution.cost == 44);
     Ok(())
 }

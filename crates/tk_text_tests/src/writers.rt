@@ -22,12 +22,9 @@ fn write_pieces<W: Sink>(sink: &mut W) -> Result<(), WriteFault> {
 #[test]
 fn writes_all_pieces(rt: HostRuntime) -> Result<(), Fail> {
     let mut sink = ToWrite::new(Vec::new(rt.alloc()));
-    assert_eq!(rt; write_pieces(&mut sink), Ok(()));
+    assert!(rt; write_pieces(&mut sink) == Ok(()));
     assert!(rt; !sink.failed());
-    assert_eq!(rt;
-        sink.inner.as_slice(),
-        b"abcde0/18446744073709551615: 7 10".as_slice()
-    );
+    assert!(rt; sink.inner.as_slice() == b"abcde0/18446744073709551615: 7 10".as_slice());
     Ok(())
 }
 
@@ -38,9 +35,9 @@ fn says_how_much_went_out(rt: HostRuntime) {
         for errs in [false, true] {
             let mut sink = FakeSink::new(limit, errs);
             let written = limit as u64;
-            assert_eq!(rt; write_pieces(&mut sink), Err(WriteFault { written }));
+            assert!(rt; write_pieces(&mut sink) == Err(WriteFault { written }));
             assert!(rt; sink.failed());
-            assert_eq!(rt; sink.taken(), &text[..limit]);
+            assert!(rt; sink.taken() == &text[..limit]);
         }
     }
 }
@@ -58,9 +55,9 @@ fn write_long<W: Sink>(sink: &mut W) -> Result<(), WriteFault> {
 #[test]
 fn writes_more_than_a_page(rt: HostRuntime) -> Result<(), Fail> {
     let mut sink = ToWrite::new(Vec::new(rt.alloc()));
-    assert_eq!(rt; write_long(&mut sink), Ok(()));
-    assert_eq!(rt; sink.inner.len(), 10_001);
-    assert_eq!(rt; sink.inner.last(), Some(&b'y'));
+    assert!(rt; write_long(&mut sink) == Ok(()));
+    assert!(rt; sink.inner.len() == 10_001);
+    assert!(rt; sink.inner.last() == Some(&b'y'));
     Ok(())
 }
 
@@ -70,8 +67,8 @@ const TOUR_TEXT: &[u8] =
 #[test]
 fn writes_a_tour(rt: HostRuntime) {
     let mut sink = ToWrite::new(Vec::new(rt.alloc()));
-    assert_eq!(rt; write_tour(&mut sink, b"p", 40, &[1, 3, 2, 4]), Ok(()));
-    assert_eq!(rt; sink.inner.as_slice(), TOUR_TEXT);
+    assert!(rt; write_tour(&mut sink, b"p", 40, &[1, 3, 2, 4]) == Ok(()));
+    assert!(rt; sink.inner.as_slice() == TOUR_TEXT);
 }
 
 #[test]
@@ -79,11 +76,8 @@ fn says_how_much_of_a_tour_went_out(rt: HostRuntime) {
     for limit in 0..TOUR_TEXT.len() {
         let mut sink = FakeSink::new(limit, limit % 2 == 0);
         let written = limit as u64;
-        assert_eq!(rt;
-            write_tour(&mut sink, b"p", 40, &[1, 3, 2, 4]),
-            Err(WriteFault { written })
-        );
-        assert_eq!(rt; sink.taken(), &TOUR_TEXT[..limit]);
+        assert!(rt; write_tour(&mut sink, b"p", 40, &[1, 3, 2, 4]) == Err(WriteFault { written }));
+        assert!(rt; sink.taken() == &TOUR_TEXT[..limit]);
     }
 }
 
@@ -93,8 +87,8 @@ const SOLUTION_TEXT: &[u8] = b"Route #1: 1 2\nRoute #2: 3 4\nCost 44\n";
 fn writes_a_solution(rt: HostRuntime) -> Result<(), Fail> {
     let routes = [vec![in rt.alloc(); 1, 2]?, vec![in rt.alloc(); 3, 4]?];
     let mut sink = ToWrite::new(Vec::new(rt.alloc()));
-    assert_eq!(rt; write_solution(&mut sink, &routes, 44), Ok(()));
-    assert_eq!(rt; sink.inner.as_slice(), SOLUTION_TEXT);
+    assert!(rt; write_solution(&mut sink, &routes, 44) == Ok(()));
+    assert!(rt; sink.inner.as_slice() == SOLUTION_TEXT);
     Ok(())
 }
 
@@ -104,11 +98,8 @@ fn says_how_much_of_a_solution_went_out(rt: HostRuntime) -> Result<(), Fail> {
     for limit in 0..SOLUTION_TEXT.len() {
         let mut sink = FakeSink::new(limit, limit % 2 == 0);
         let written = limit as u64;
-        assert_eq!(rt;
-            write_solution(&mut sink, &routes, 44),
-            Err(WriteFault { written })
-        );
-        assert_eq!(rt; sink.taken(), &SOLUTION_TEXT[..limit]);
+        assert!(rt; write_solution(&mut sink, &routes, 44) == Err(WriteFault { written }));
+        assert!(rt; sink.taken() == &SOLUTION_TEXT[..limit]);
     }
     Ok(())
 }

@@ -28,13 +28,20 @@ pub fn tourkit<'a>(alloc: Global) -> Result<Command<'a>, Error> {
         .version("0.1.0")
         .about("Reads, checks and improves tours and routes")
         .after_help(HELP)
-        .subcommand_required(true)
-        .subcommand(check(alloc)?)?
-        .subcommand(checksol(alloc)?)?
-        .subcommand(matrix(alloc)?)?
-        .subcommand(near(alloc)?)?
-        .subcommand(solve(alloc)?)?;
-    Ok(made)
+        .subcommand_required(true);
+    let made = with(made, check(alloc))?;
+    let made = with(made, checksol(alloc))?;
+    let made = with(made, matrix(alloc))?;
+    let made = with(made, near(alloc))?;
+    with(made, solve(alloc))
+}
+
+/// A command with one more subcommand.
+fn with<'a>(
+    command: Command<'a>,
+    subcommand: Result<Command<'a>, Error>,
+) -> Result<Command<'a>, Error> {
+    Ok(command.subcommand(subcommand?)?)
 }
 
 /// The file that every subcommand names first.

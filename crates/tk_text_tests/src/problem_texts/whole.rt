@@ -28,7 +28,7 @@ fn grow<A: Abort>(
         let wanted = listed(answer);
         for byte in *bytes {
             text.push(*byte)?;
-            assert_eq!(rt; read(rt, alloc, text).err(), wanted);
+            assert!(rt; read(rt, alloc, text).err() == wanted);
         }
     }
     Ok(())
@@ -38,10 +38,7 @@ fn grow<A: Abort>(
 fn beginnings_of_places(rt: HostRuntime) -> Result<(), Fail> {
     let a = rt.alloc();
     let mut text = Vec::new(a);
-    assert_eq!(rt;
-        read(&rt, a, &text).err(),
-        fault(1, TextKind::Missing(Keyword::Type))
-    );
+    assert!(rt; read(&rt, a, &text).err() == fault(1, TextKind::Missing(Keyword::Type)));
     grow(
         &rt,
         a,
@@ -241,7 +238,7 @@ fn beginnings_of_a_routing(rt: HostRuntime) -> Result<(), Fail> {
         ],
     )?;
     let problem = read(&rt, a, &text)?;
-    assert_eq!(rt; problem.n, 5);
+    assert!(rt; problem.n == 5);
     assert!(rt; has_routing(&problem, 2, &[0, 1, 1, 1, 1], 1));
     Ok(())
 }
@@ -296,8 +293,8 @@ fn explicit<A: Abort>(rt: &A, alloc: Global, format: &[u8]) -> Result<Weights, F
         b"TYPE : TSP\nDIMENSION : 4\nEDGE_WEIGHT_TYPE : EXPLICIT\nEDGE_WEIGHT_FORMAT : ",
         format,
     )?;
-    assert_eq!(rt; problem.n, 4);
-    assert_eq!(rt; problem.name.as_slice(), b"Unnamed".as_slice());
+    assert!(rt; problem.n == 4);
+    assert!(rt; problem.name.as_slice() == b"Unnamed".as_slice());
     assert!(rt; problem.routing.is_none());
     Ok(problem.weights)
 }
@@ -305,7 +302,7 @@ fn explicit<A: Abort>(rt: &A, alloc: Global, format: &[u8]) -> Result<Weights, F
 /// The weights of such a text are listed in a lower triangle as these.
 fn expect_lower(rt: &impl Abort, alloc: Global, format: &[u8], wanted: &[u32]) -> Result<(), Fail> {
     match explicit(rt, alloc, format)? {
-        Weights::Lower(lower) => assert_eq!(rt; lower.as_slice(), wanted),
+        Weights::Lower(lower) => assert!(rt; lower.as_slice() == wanted),
         Weights::Points(_, _) => assert!(rt; false),
     }
     Ok(())
@@ -365,7 +362,7 @@ fn coordinates(rt: HostRuntime) -> Result<(), Fail> {
     ];
     match &problem.weights {
         Weights::Points(kind, points) => {
-            assert_eq!(rt; *kind, PlaneKind::Att);
+            assert!(rt; *kind == PlaneKind::Att);
             assert!(rt; are_places(points, &places));
         }
         Weights::Lower(_) => assert!(rt; false),
@@ -393,7 +390,7 @@ fn expect_kind(rt: &impl Abort, alloc: Global, word: &[u8], wanted: PlaneKind) -
     ];
     match &problem.weights {
         Weights::Points(kind, points) => {
-            assert_eq!(rt; *kind, wanted);
+            assert!(rt; *kind == wanted);
             assert!(rt; are_places(points, &places));
         }
         Weights::Lower(_) => assert!(rt; false),
@@ -426,7 +423,7 @@ fn expect_depot(rt: &impl Abort, alloc: Global, end: &[u8]) -> Result<(), Fail> 
         b"name : a b  c \nTYPE : CVRP : x\nDIMENSION 3\nEDGE_WEIGHT_TYPE EUC_2D\nCAPACITY : 2000000000\nNODE_COORD_SECTION\n1 10 0\n2 0 0\n3 11 0\nDEMAND_SECTION\n3 2000000000\n1 1\n2 0\nDISPLAY_DATA_SECTION\n1 x y 2 x y 3 x y\nDEPOT_SECTION ",
         end,
     )?;
-    assert_eq!(rt; problem.name.as_slice(), b"a b  c".as_slice());
+    assert!(rt; problem.name.as_slice() == b"a b  c".as_slice());
     assert!(rt; has_routing(&problem, 2_000_000_000, &[1, 0, 2_000_000_000], 2));
     Ok(())
 }
@@ -456,7 +453,7 @@ fn expect_name(rt: &impl Abort, alloc: Global, head: &[u8], name: &[u8]) -> Resu
         b"TYPE : TSP\nDIMENSION : 2\nEDGE_WEIGHT_TYPE : MAX_2D\nNODE_COORD_SECTION\n1 0 0\n2 0 0\n",
         head,
     )?;
-    assert_eq!(rt; problem.name.as_slice(), name);
+    assert!(rt; problem.name.as_slice() == name);
     assert!(rt; problem.routing.is_none());
     Ok(())
 }

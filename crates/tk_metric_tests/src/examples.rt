@@ -1,6 +1,6 @@
 //! The definition of distances, proved at the examples of the tables in
 //! `specs/DistanceExamples.antt`: there is nothing to run.
-ghost use Rattle.tk_metric.specs.DistanceExamples as Examples;
+ghost use Rattle.tk_metric_tests.specs.DistanceExamples as Examples;
 
 fn distances()
     ensures euclidean { Examples.AreDistances Examples.euclidean }

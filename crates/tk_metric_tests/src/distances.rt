@@ -1,14 +1,8 @@
-//! Known distances, and how often a guess is right.
-ghost use Rattle.std.specs.Prelude.{◌<◌, ◌≤◌};
-
-use crate::exact::guess::{
-    PER_UNIT, PER_UNIT_AND_ROOT_OF_TEN, near_root, near_scaled_root, rounded,
-};
-use crate::exact::short::{SHORT, short_root};
-use crate::{Metric, Planar, Planes, Sub, Table, Triangle, root, root_up};
+//! Known distances.
 use std::alloc::{AllocError, Global};
 use std::process::Abort;
 use std::test::Fail;
+use tk_metric::{Metric, Planar, Planes, Sub, Table, Triangle, root, root_up};
 use tk_problem::{Places, PlaneKind, Point, Points, Problem, Weights};
 
 const UNIT: i64 = 1_000_000_000;
@@ -49,9 +43,9 @@ fn expect_distances(
     greatest: i64,
 ) -> Result<(), Fail> {
     for (x, y, want) in rows {
-        assert_eq!(rt; from_origin(alloc, kind, *x, *y)?, *want);
+        assert!(rt; from_origin(alloc, kind, *x, *y)? == *want);
     }
-    assert_eq!(rt; across(alloc, kind)?, greatest);
+    assert!(rt; across(alloc, kind)? == greatest);
     Ok(())
 }
 
@@ -85,7 +79,7 @@ fn manhattan_and_maximum(rt: HostRuntime) -> Result<(), Fail> {
 fn expect_floor(rt: &impl Abort, points: &Points, kind: PlaneKind, difference: u64, want: i64) {
     assert!(rt; points.len() == 2);
     assert!(rt; difference <= 2_000_000_000_000_000_000);
-    assert_eq!(rt; Planes::new(kind, points).floor_x(difference), want);
+    assert!(rt; Planes::new(kind, points).floor_x(difference) == want);
 }
 
 #[test]
@@ -117,28 +111,28 @@ fn places_of_a_list(rt: HostRuntime) -> Result<(), Fail> {
         },
     )?;
     assert!(rt; matches!(points.places(), Places::Whole(_)));
-    assert_eq!(rt;
-        points.get(1),
-        Point {
-            x: 7 * UNIT,
-            y: -8 * UNIT
-        }
+    assert!(rt;
+        points.get(1)
+            == Point {
+                x: 7 * UNIT,
+                y: -8 * UNIT
+            }
     );
     points.set(2, Point { x: 5, y: -FAR })?;
     assert!(rt; matches!(points.places(), Places::Fine(_)));
-    assert_eq!(rt; points.get(0), Point { x: 0, y: 0 });
-    assert_eq!(rt;
-        points.get(1),
-        Point {
-            x: 7 * UNIT,
-            y: -8 * UNIT
-        }
+    assert!(rt; points.get(0) == Point { x: 0, y: 0 });
+    assert!(rt;
+        points.get(1)
+            == Point {
+                x: 7 * UNIT,
+                y: -8 * UNIT
+            }
     );
-    assert_eq!(rt; points.len(), 3);
+    assert!(rt; points.len() == 3);
     let planes = Planes::new(PlaneKind::Euc2d, &points);
-    assert_eq!(rt; planes.place(3), Point { x: 5, y: -FAR });
-    assert_eq!(rt; planes.size(), 3);
-    assert_eq!(rt; planes.dist(1, 2), 11);
+    assert!(rt; planes.place(3) == Point { x: 5, y: -FAR });
+    assert!(rt; planes.size() == 3);
+    assert!(rt; planes.dist(1, 2) == 11);
     Ok(())
 }
 
@@ -147,7 +141,7 @@ fn expect_pairs<M: Metric>(rt: &impl Abort, metric: &M, rows: &[(u32, u32, i64)]
     let n = metric.size();
     for (a, b, want) in rows {
         assert!(rt; 1 <= *a && *a <= n && 1 <= *b && *b <= n);
-        assert_eq!(rt; metric.dist(*a, *b), *want);
+        assert!(rt; metric.dist(*a, *b) == *want);
     }
 }
 
@@ -158,7 +152,7 @@ fn explicit_weights(rt: HostRuntime) {
         n: 4,
         weights: &[1, 2, 4, 3, 5, 6],
     };
-    assert_eq!(rt; triangle.size(), 4);
+    assert!(rt; triangle.size() == 4);
     let rows = [
         (1, 2, 1),
         (1, 3, 2),
@@ -178,10 +172,10 @@ fn some_of_the_cities(rt: HostRuntime) {
         weights: &[1, 2, 4, 3, 5, 6],
     };
     let some = Sub::new(&triangle, &[4, 2, 4]);
-    assert_eq!(rt; some.size(), 3);
+    assert!(rt; some.size() == 3);
     expect_pairs(&rt, &some, &[(1, 2, 5), (2, 3, 5), (1, 3, 0)]);
     let none = Sub::new(&triangle, &[]);
-    assert_eq!(rt; none.size(), 0);
+    assert!(rt; none.size() == 0);
 }
 
 #[test]
@@ -196,10 +190,10 @@ fn tables(rt: HostRuntime) -> Result<(), Fail> {
         routing: None,
     };
     let table = Table::of(&explicit);
-    assert_eq!(rt; table.size(), 4);
-    assert_eq!(rt; table.dist(4, 2), 5);
+    assert!(rt; table.size() == 4);
+    assert!(rt; table.dist(4, 2) == 5);
     let points = pair(alloc, 3 * UNIT, 4 * UNIT)?;
-    assert_eq!(rt; points.len(), 2);
+    assert!(rt; points.len() == 2);
     let plane = Problem {
         name: Vec::new(alloc),
         n: 2,
@@ -207,119 +201,24 @@ fn tables(rt: HostRuntime) -> Result<(), Fail> {
         routing: None,
     };
     let table = Table::of(&plane);
-    assert_eq!(rt; table.size(), 2);
-    assert_eq!(rt; table.dist(1, 2), 4);
+    assert!(rt; table.size() == 2);
+    assert!(rt; table.dist(1, 2) == 4);
     Ok(())
 }
 
 #[test]
 fn roots(rt: HostRuntime) {
-    assert_eq!(rt; root(0), 0);
-    assert_eq!(rt; root(99), 9);
-    assert_eq!(rt; root(100), 10);
-    assert_eq!(rt; root(8_000_000_000_000_000_000), 2_828_427_124);
-    assert_eq!(rt;
-        root(340_282_366_920_938_463_463_374_607_431_768_211_455),
-        18_446_744_073_709_551_615
+    assert!(rt; root(0) == 0);
+    assert!(rt; root(99) == 9);
+    assert!(rt; root(100) == 10);
+    assert!(rt; root(8_000_000_000_000_000_000) == 2_828_427_124);
+    assert!(rt;
+        root(340_282_366_920_938_463_463_374_607_431_768_211_455) == 18_446_744_073_709_551_615
     );
-    assert_eq!(rt; root_up(0), 0);
-    assert_eq!(rt; root_up(100), 10);
-    assert_eq!(rt; root_up(101), 11);
-    assert_eq!(rt;
-        root_up(340_282_366_920_938_463_463_374_607_431_768_211_455),
-        18_446_744_073_709_551_616
+    assert!(rt; root_up(0) == 0);
+    assert!(rt; root_up(100) == 10);
+    assert!(rt; root_up(101) == 11);
+    assert!(rt;
+        root_up(340_282_366_920_938_463_463_374_607_431_768_211_455) == 18_446_744_073_709_551_616
     );
-}
-
-const SAMPLE: u32 = 20_000;
-
-fn next(state: &mut u64) -> u64 {
-    *state = state
-        .wrapping_mul(6_364_136_223_846_793_005)
-        .wrapping_add(1_442_695_040_888_963_407);
-    *state >> 11
-}
-
-/// Whether a guess is the root of a square, rounded to the nearest.
-fn is_right(square: u64, guess: u64) -> bool {
-    let middle = guess.wrapping_mul(guess);
-    square <= middle.wrapping_add(guess) && middle < square.wrapping_add(guess.max(1))
-}
-
-/// How many of a sample of short distances the guess from one line misses.
-fn missed_short(span: u64) -> u32
-    requires low { 0 < span }
-    requires high { span ≤ 1000000000 }
-{
-    let mut state = span;
-    let mut missed: u32 = 0;
-    for _ in 0..SAMPLE {
-        let dx = next(&mut state) % (2 * span);
-        let dy = next(&mut state) % (2 * span);
-        let square = dx.wrapping_mul(dx).wrapping_add(dy.wrapping_mul(dy)) % SHORT;
-        missed = missed.saturating_add(u32::from(!is_right(square, short_root(square))));
-    }
-    missed
-}
-
-/// How many of a sample of whole distances the guess misses.
-fn missed_whole(span: u64) -> u32
-    requires low { 0 < span }
-    requires high { span ≤ 1000000000 }
-{
-    let mut state = span;
-    let mut missed: u32 = 0;
-    for _ in 0..SAMPLE {
-        let dx = next(&mut state) % (2 * span);
-        let dy = next(&mut state) % (2 * span);
-        let square = dx.wrapping_mul(dx).wrapping_add(dy.wrapping_mul(dy));
-        let guess = rounded(near_root(square));
-        missed = missed.saturating_add(u32::from(!is_right(square, guess)));
-    }
-    missed
-}
-
-/// The same of distances with nine decimals, of which a square has `parts`.
-fn missed_fine(span: u64, parts: u128, factor: u64) -> u32
-    requires low { 0 < span }
-    requires high { span ≤ 1000000000 }
-{
-    let mut state = span;
-    let mut missed: u32 = 0;
-    for _ in 0..SAMPLE {
-        let dx = (next(&mut state) << 11) % (2 * span * 1_000_000_000);
-        let dy = (next(&mut state) << 11) % (2 * span * 1_000_000_000);
-        let (x, y) = (dx as u128, dy as u128);
-        let square = x.wrapping_mul(x).wrapping_add(y.wrapping_mul(y));
-        let guess = rounded(near_scaled_root(square, factor));
-        let middle = (guess as u128).wrapping_mul(1_000_000_000);
-        let low = middle.saturating_sub(500_000_000);
-        let high = middle.wrapping_add(500_000_000);
-        let right = parts.wrapping_mul(low.wrapping_mul(low)) <= square
-            && square < parts.wrapping_mul(high.wrapping_mul(high));
-        missed = missed.saturating_add(u32::from(!right));
-    }
-    missed
-}
-
-#[test]
-fn guesses_are_mostly_right(rt: HostRuntime) {
-    let spans: [u64; 9] = [
-        10,
-        100,
-        1_000,
-        10_000,
-        100_000,
-        1_000_000,
-        10_000_000,
-        100_000_000,
-        1_000_000_000,
-    ];
-    for span in spans {
-        assert!(rt; 0 < span && span <= 1_000_000_000);
-        assert!(rt; missed_short(span) < SAMPLE / 50);
-        assert!(rt; missed_whole(span) < SAMPLE / 1000);
-        assert!(rt; missed_fine(span, 1, PER_UNIT) < SAMPLE / 1000);
-        assert!(rt; missed_fine(span, 10, PER_UNIT_AND_ROOT_OF_TEN) < SAMPLE / 1000);
-    }
 }
