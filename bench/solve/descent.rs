@@ -1,4 +1,7 @@
 //! Looks at waking cities, and the moves that they find.
+//!
+//! An offer is looked for in two ways, with the same result: `look` tests all offers of a candidate at once, `look_in_order` one after
+//! another, as tourkit does.
 
 use crate::metric::{Metric, Number};
 use crate::near::{Near, Neighbour};
@@ -152,18 +155,20 @@ pub struct Rules<'a, M> {
     offers: u32,
     /// `existing` from -3 places on.
     beside: [u32; 7],
+    /// Whether offers are tested one after another.
+    in_order: bool,
 }
 
 impl<'a, M: Metric> Rules<'a, M> {
     /// m is the greatest number of cities of a segment.
-    pub fn new(metric: &'a M, near: &'a Near, m: u32, cities: &'a [u32]) -> Rules<'a, M> {
+    pub fn new(metric: &'a M, near: &'a Near, m: u32, cities: &'a [u32], in_order: bool) -> Rules<'a, M> {
         let offers = match (metric.size(), m) {
             (5.., 3) => 0xfff,
             (4.., 2..) => 0xff,
             (3.., _) => 0xf,
             _ => 0x3,
         };
-        Rules { metric, near, cities, offers, beside: [-3, -2, -1, 0, 1, 2, 3].map(existing) }
+        Rules { metric, near, cities, offers, beside: [-3, -2, -1, 0, 1, 2, 3].map(existing), in_order }
     }
 
     /// The bits of the offers of x and y that exist.
@@ -217,11 +222,51 @@ impl<'a, M: Metric> Rules<'a, M> {
         None
     }
 
+    /// The first offer of x with positive gain, and the gain: offers are tested one after another, until one gains.
+    #[inline(always)]
+    fn look_in_order(&self, s: &Tour, tests: &mut u64, x: u32) -> Option<(Offer, i64)> {
+        let metric = self.metric;
+        let around = Around::new(s, metric, x);
+        let Pieces { lasts, freed } = around.pieces(metric, x);
+        let ([a, a2, _], [b, b2, _]) = (around.after, around.before);
+        let segments = [[x, x, x], [x, a, a], [x, b, b], [x, a, a2], [x, b, b2]];
+        let count = (self.offers.count_ones() as usize - 2) / 2;
+        for &Neighbour { city: y, .. } in self.near.of(x) {
+            let ys = [s.next(y), s.prev(y)];
+            let to_ys = ys.map(|w| metric.dist(y, w));
+            let across = metric.dist(x, y);
+            let froms = [around.to_after, around.to_before];
+            for side in 0..2 {
+                *tests += 1;
+                let margin = froms[side] + to_ys[side] - across;
+                if metric.is_nearer(lasts[1 + side], ys[side], margin) {
+                    let gain = margin - metric.dist(lasts[1 + side], ys[side]);
+                    return Some((around.offer(x, y, ys, side as u32), gain.whole()));
+                }
+            }
+            for (k, segment) in segments[..count].iter().enumerate() {
+                for side in 0..2 {
+                    if segment.contains(&y) || segment.contains(&ys[side]) {
+                        continue;
+                    }
+                    *tests += 1;
+                    let margin = freed[k] - across + to_ys[side];
+                    if metric.is_nearer(lasts[k], ys[side], margin) {
+                        let gain = margin - metric.dist(lasts[k], ys[side]);
+                        return Some((around.offer(x, y, ys, (2 * k + side + 2) as u32), gain.whole()));
+                    }
+                }
+            }
+        }
+        None
+    }
+
     /// Descends from the waking cities on.
     pub fn descend(&self, s: &mut Tour, waking: &mut Waking) -> Counts {
         let mut counts = Counts::default();
         while let Some(x) = waking.take() {
-            if let Some((offer, gain)) = self.look(s, &mut counts.tests, x) {
+            let found = if self.in_order { self.look_in_order(s, &mut counts.tests, x) } else { self.look(s, &mut counts.tests, x) };
+            if let Some((offer, gain)) = found {
                 s.make(offer);
                 match offer {
                     Offer::Two(a, b, c, d) => [a, b, c, d].iter().for_each(|c| waking.wake(*c)),

@@ -117,7 +117,7 @@ pub fn solve<M: Metric>(metric: &M, routing: &Routing, max_candidates: usize, m:
         let mut tour = Tour::new(&places);
         let mut waking = Waking::new(cities.len());
         waking.wake_all(&places);
-        let one = Rules::new(&alone, &near, m, &places).descend(&mut tour, &mut waking);
+        let one = Rules::new(&alone, &near, m, &places, false).descend(&mut tour, &mut waking);
         counts = Counts { moves: counts.moves + one.moves, tests: counts.tests + one.tests, gained: counts.gained + one.gained };
         swaps += tour.swaps;
         *route = Tour::printed(&tour.order)[1..].iter().map(|k| cities[*k as usize]).collect();

@@ -3,9 +3,9 @@
 #
 # usage: bench/solve/run.sh [-n ROUNDS] [-s] [TOURKIT]
 #
-# TOURKIT is a program that has the command solve; without one the twin alone is timed. The table has the least processor time (user and
-# system) of all rounds, 3 by default, in seconds, and for a tour the trials per second of the twin's search alone, without reading, near
-# lists and starts, by the wall clock. -s takes a hundredth of the trials.
+# TOURKIT is a program that has the command solve; without one the twin at its best stands in its place. The table has the least processor
+# time (user and system) of all rounds, 3 by default, in seconds: of tourkit, of the twin where its search goes by the same method, and of
+# the twin at its best (see twin.rs), with the ratios to these two. -s takes a hundredth of the trials.
 set -eu
 here=$(cd "$(dirname "$0")" && pwd)
 rounds=3
@@ -42,29 +42,28 @@ least() {
     sort -g "$1" | head -1
 }
 
-printf '%-18s %10s %10s %7s %8s %12s\n' input tourkit twin ratio bytes trials/s
+# A ratio of two times.
+ratio() {
+    awk -v a="$1" -v b="$2" 'BEGIN { if (b > 0) printf "%.2f", a / b; else print "-" }'
+}
+
+printf '%-18s %9s %12s %7s %9s %7s %7s\n' input tourkit same-method ratio at-best ratio bytes
 for parameters in *.par; do
     input=${parameters%.par}
-    rm -f "$work/tourkit.times" "$work/twin.times" "$work/rates"
-    same=-
+    rm -f "$work"/*.times
+    bytes=same
     round=0
     while [ "$round" -lt "$rounds" ]; do
-        timed twin "$twin" "$parameters" --times >>"$work/twin.times"
-        sed -n 's/.*trials per second //p' "$work/twin.err" >>"$work/rates"
-        if [ -n "$tourkit" ]; then
-            timed tourkit "$tourkit" "$parameters" >>"$work/tourkit.times"
-            [ "$same" = differ ] || same=same
-            cmp -s "$work/twin.out" "$work/tourkit.out" && cmp -s "$work/twin.file" "$work/tourkit.file" || same=differ
-        fi
+        timed best "$twin" "$parameters" >>"$work/best.times"
+        timed method "$twin" "$parameters" --same-method >>"$work/method.times"
+        timed tourkit "${tourkit:-$twin}" "$parameters" >>"$work/tourkit.times"
+        for one in best method; do
+            cmp -s "$work/$one.out" "$work/tourkit.out" && cmp -s "$work/$one.file" "$work/tourkit.file" || bytes=differ
+        done
         round=$((round + 1))
     done
-    by_twin=$(least "$work/twin.times")
-    by_tourkit=-
-    ratio=-
-    if [ -n "$tourkit" ]; then
-        by_tourkit=$(least "$work/tourkit.times")
-        ratio=$(awk -v a="$by_tourkit" -v b="$by_twin" 'BEGIN { if (b > 0) printf "%.2f", a / b; else print "-" }')
-    fi
-    rate=$(sort -g "$work/rates" | tail -1)
-    printf '%-18s %10s %10s %7s %8s %12s\n' "$input" "$by_tourkit" "$by_twin" "$ratio" "$same" "${rate:--}"
+    best=$(least "$work/best.times")
+    method=$(least "$work/method.times")
+    own=$(least "$work/tourkit.times")
+    printf '%-18s %9s %12s %7s %9s %7s %7s\n' "$input" "$own" "$method" "$(ratio "$own" "$method")" "$best" "$(ratio "$own" "$best")" "$bytes"
 done

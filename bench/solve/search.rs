@@ -136,12 +136,13 @@ pub fn search<M: Metric>(
     let start: Vec<u32> = start.iter().map(|c| places[*c as usize]).collect();
     let mut search = Search {
         metric,
-        rules: Rules::new(metric, near, params.or_segment, &places),
+        rules: Rules::new(metric, near, params.or_segment, &places, params.same_method),
         sweep: params.sweep,
         tour: Tour::new(&start),
         waking: Waking::new(start.len()),
         totals: Totals { start: length, best: length, ..Totals::default() },
     };
+    search.tour.by_flips = params.same_method;
     let mut rng = Pcg32::seed_from_u64(seed);
     search.waking.wake_all(&places);
     search.descend(length);

@@ -1,10 +1,11 @@
 //! `tourkit solve` in plain Rust: the same files, the same search, the same bytes.
 //!
-//! usage: twin solve PAR [--times] [--as-given] [--whole]
+//! usage: twin solve PAR [--times] [--as-given] [--whole] [--same-method]
 //!
 //! With --times a line of standard error tells how long each part took. With --as-given the search numbers cities as the problem does,
 //! and not by their places in the start. With --whole distances come from exact roots of whole numbers, as in tourkit; without it those of
-//! EUC_2D come from the processor's roots where these are exact.
+//! EUC_2D come from the processor's roots where these are exact. With --same-method the search does what tourkit's does: both of these,
+//! offers tested one after another until one gains, and segments moved by flips.
 
 mod descent;
 mod metric;
@@ -99,6 +100,7 @@ struct Flags {
     times: bool,
     as_given: bool,
     whole: bool,
+    same_method: bool,
 }
 
 fn solve_tour<M: Metric>(
@@ -177,12 +179,14 @@ fn main() {
     let (parameter_file, flags) = match &words[..] {
         [command, file, rest @ ..] if command == "solve" => {
             let has = |flag: &str| rest.iter().any(|word| word == flag);
-            (file, Flags { times: has("--times"), as_given: has("--as-given"), whole: has("--whole") })
+            let same = has("--same-method");
+            (file, Flags { times: has("--times"), as_given: same || has("--as-given"), whole: same || has("--whole"), same_method: same })
         }
-        _ => fail(2, "usage: twin solve PAR [--times] [--as-given] [--whole]".to_string()),
+        _ => fail(2, "usage: twin solve PAR [--times] [--as-given] [--whole] [--same-method]".to_string()),
     };
     let mut times = Times { begin: Instant::now(), parts: vec![] };
-    let params = accepted(parameter_file, params::read_params(&text_of(parameter_file)));
+    let read = accepted(parameter_file, params::read_params(&text_of(parameter_file)));
+    let params = Params { same_method: flags.same_method, ..read };
     let name = &params.problem_file;
     let Problem { name: title, n, weights, routing } = accepted(name, text::read_problem(&text_of(name)));
     let unfit = [
