@@ -1,6 +1,8 @@
 -- The places of a metric in the plane.
-use Rattle.std.specs.Prelude.{ℕ, List, ◌-◌, slice_index_or}
+use Rattle.std.specs.Prelude.{ℕ, List, ◌-◌, slice_index_or, ⊤}
 use Rattle.tk_problem.specs.declared.point.Point.{Point}
+use Rattle.tk_problem.specs.declared.points.Places.{Places}
+use Rattle.tk_problem.specs.declared.points.Places.TheVariants.{Whole, Fine}
 use Rattle.tk_problem.specs.declared.weights.PlaneKind.{PlaneKind}
 use Rattle.tk_problem.specs.Places.{origin}
 use Rattle.tk_metric.specs.Distance.{IsDistanceOf}
@@ -17,3 +19,8 @@ city_distance kind places a b = distance_of kind (city_place places a) (city_pla
 -- d is the distance of two cities
 abbrev pub IsCityDistance : PlaneKind → List Point → ℕ → ℕ → ℕ → Type 0
 IsCityDistance kind places a b d = IsDistanceOf kind (city_place places a) (city_place places b) d
+
+-- places whose coordinates are all whole numbers, and kept as such
+abbrev pub AreWhole : Places → Type 0
+AreWhole (Whole _) = ⊤
+AreWhole (Fine _) = ⊥

@@ -1,6 +1,7 @@
 //! Distances.
 #![tactic(auto)]
 
+mod euclid;
 mod exact;
 mod metric;
 mod planes;
@@ -9,6 +10,7 @@ mod table;
 mod triangle;
 mod turned;
 
+pub use euclid::Euclid;
 pub use exact::roots::{root, root_up};
 pub use metric::{Metric, Planar};
 pub use planes::Planes;

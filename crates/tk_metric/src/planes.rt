@@ -3,6 +3,7 @@ ghost use Rattle.std.specs.Prelude.{◌≡◌, ℕ, ◌≤◌, ◌<◌, ◌<ℤ�
 ghost use Rattle.tk_problem.specs.Places.{IsNearOrigin};
 ghost use Rattle.tk_problem.specs.PlacesOf.{places_of};
 
+use crate::euclid::Euclid;
 use crate::exact::fine::{fine_between, floor_distance};
 use crate::exact::whole::{is_whole_nearer, whole_between};
 use crate::metric::{Metric, Planar};
@@ -19,6 +20,11 @@ pub struct Planes<'a> {
 }
 
 impl<'a> Planes<'a> {
+    ghost use Rattle.std.specs.Prelude.{IfSome, None};
+    ghost use Rattle.tk_problem.specs.declared.points.Places.TheVariants.{Whole};
+    ghost use Rattle.tk_problem.specs.declared.weights.PlaneKind.TheVariants.{Euc2d};
+    ghost use Rattle.tk_metric.specs.PlaneOf.{AreWhole};
+
     /// The distances among at most 100,000 places.
     pub fn new(kind: PlaneKind, points: &'a Points) -> Planes<'a>
         requires few { length points.now ≤ 100000 }
@@ -28,6 +34,17 @@ impl<'a> Planes<'a> {
         Planes {
             kind,
             places: points.places(),
+        }
+    }
+
+    /// The same distances without a look at the kind and at the form of the coordinates, if they are those of EUC_2D among whole ones.
+    pub fn euclid(&self) -> Option<Euclid<'a>>
+        ensures some { IfSome result (λ e. (self.now.kind ≡ Euc2d) × (self.now.places ≡ Whole e.places)) }
+        ensures none { result ≡ None → self.now.kind ≡ Euc2d → AreWhole self.now.places → ⊥ }
+    {
+        match (self.kind, self.places) {
+            (PlaneKind::Euc2d, Places::Whole(places)) => Some(Euclid { places }),
+            _ => None,
         }
     }
 }
@@ -82,7 +99,7 @@ impl Metric for Planes<'_> {
 
 /// A number that is above the same distances as a limit.
 #[inline]
-fn bound_of(limit: i64) -> u64
+pub fn bound_of(limit: i64) -> u64
     ensures value { (d : ℕ) → d ≤ 4000000000 → ((d < result) ↔ (pos d <ℤ limit)) }
     ensures bound { result ≤ 4000000001 }
 {

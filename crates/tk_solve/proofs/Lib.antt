@@ -3,3 +3,4 @@ pub mod Cities
 pub mod FirstShortest
 pub mod SoFar
 pub mod Sound
+pub mod Tables

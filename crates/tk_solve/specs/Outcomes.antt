@@ -1,5 +1,5 @@
 -- What is kept of the runs so far.
-use Rattle.std.specs.Prelude.{◌≡◌, ◌≢◌, ◌<ℤ◌, ◌≤ℤ◌, ℕ, List, [], ◌∷◌, ◌++◌, pos}
+use Rattle.std.specs.Prelude.{◌≡◌, ◌≢◌, ◌<ℤ◌, ◌≤ℤ◌, ℕ, List, [], ◌∷◌, ◌++◌, length, pos}
 use Rattle.tk_near.specs.Near.{NearLists}
 use Rattle.tk_tour.specs.Tour.{tour_length}
 use Rattle.tk_build.specs.Searching.{Searching}
@@ -10,6 +10,11 @@ use Rattle.tk_solve.specs.Starts.{TourTask}
 -- a report of each run, and the best tour of the first one with the least length
 abbrev pub AreKept : TourTask → NearLists → List Run → Outcome → Type 0
 AreKept task near runs outcome = AreSoFar task near runs outcome.reports.items outcome.cities.items outcome.shortest
+
+-- run j was added to the runs before it, whatever these are
+abbrev pub IsRunAdded : TourTask → NearLists → ℕ → Outcome → Outcome → Type 0
+IsRunAdded task near j old new =
+    (runs : List Run) → length runs ≡ j → AreKept task near runs old → (run : Run) × AreKept task near (runs ++ run ∷ []) new
 
 -- one more run was noted, which ended with this search: its best tour is kept where none was before, or where it is shorter
 pub record IsTaken (distance : ℕ → ℕ → ℕ) (ended : Searching) (old new : Outcome) : Type 0 where

@@ -1,5 +1,5 @@
 //! What is kept of the runs so far.
-ghost use Rattle.std.specs.Prelude.{◌≡◌, ◌≢◌, ◌<ℤ◌, ◌≤ℤ◌, ◌+◌, ◌<◌, List, ◌++◌, ◌∷◌, [], OnOk, length, pos};
+ghost use Rattle.std.specs.Prelude.{◌≡◌, ◌≢◌, ◌<ℤ◌, ◌≤ℤ◌, ◌+◌, ◌<◌, ◌++◌, ◌∷◌, [], OnOk, length, pos};
 ghost use Rattle.tk_metric.specs.Tables.{table_size, table_distance};
 ghost use Rattle.tk_tour.specs.ArrayTours.{order_of};
 ghost use Rattle.tk_tour.specs.Tour.{IsTour, tour_length};
@@ -32,9 +32,8 @@ pub(crate) struct Outcome {
 
 impl Outcome {
     ghost use Rattle.tk_build.specs.SearchOf.{search_of};
-    ghost use Rattle.tk_solve.specs.Outcomes.{AreKept};
-    ghost use Rattle.tk_solve.specs.Runs.{Run};
-    ghost use Rattle.tk_solve.specs.Starts.{IsStart, task_of};
+    ghost use Rattle.tk_solve.specs.Outcomes.{IsRunAdded};
+    ghost use Rattle.tk_solve.specs.Starts.{IsStart, task_of, task_over};
 
     /// Before the first run.
     pub(crate) fn new(alloc: Global) -> Outcome
@@ -72,6 +71,28 @@ impl Outcome {
         Ok(())
     }
 
+    /// Run j, from 0, from a tour of a metric's cities.
+    fn add_run_over<M: Metric, W: Watch>(
+        &mut self,
+        alloc: Global,
+        metric: &M,
+        near: &Near,
+        start: ArrayTour,
+        options: &TourOptions<'_>,
+        j: u32,
+        watch: &mut W,
+    ) -> Result<(), AllocError>
+        requires fits { (M.size_of metric.now ≡ length (order_of start)) × (near.now.size ≡ length (order_of start)) }
+        requires run { j < options.now.runs }
+        requires start { IsStart (task_over (M.size_of metric.now) (M.distance metric.now) options.now)
+            near.now j (order_of start) }
+        ensures { OnOk result (IsRunAdded (task_over (M.size_of metric.now) (M.distance metric.now) options.now)
+            near.now j self.old self.new) }
+    {
+        let search = search_run(alloc, metric, near, start, options, j, watch)?;
+        self.take(metric, &search)
+    }
+
     /// Run j, from 0, from a tour of a table's cities.
     pub(crate) fn add_run<W: Watch>(
         &mut self,
@@ -86,17 +107,15 @@ impl Outcome {
         requires fits { (table_size table.now ≡ length (order_of start)) × (near.now.size ≡ length (order_of start)) }
         requires run { j < options.now.runs }
         requires start { IsStart (task_of table.now options.now) near.now j (order_of start) }
-        ensures { OnOk result ((runs : List Run) → length runs ≡ j → AreKept (task_of table.now options.now) near.now runs self.old
-            → (run : Run) × AreKept (task_of table.now options.now) near.now (runs ++ run ∷ []) self.new) }
+        ensures { OnOk result (IsRunAdded (task_of table.now options.now) near.now j self.old self.new) }
     {
         match table {
-            Table::Planes(planes) => {
-                let search = search_run(alloc, planes, near, start, options, j, watch)?;
-                self.take(planes, &search)
-            }
+            Table::Planes(planes) => match planes.euclid() {
+                Some(euclid) => self.add_run_over(alloc, &euclid, near, start, options, j, watch),
+                None => self.add_run_over(alloc, planes, near, start, options, j, watch),
+            },
             Table::Triangle(triangle) => {
-                let search = search_run(alloc, triangle, near, start, options, j, watch)?;
-                self.take(triangle, &search)
+                self.add_run_over(alloc, triangle, near, start, options, j, watch)
             }
         }
     }
