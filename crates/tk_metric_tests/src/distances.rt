@@ -146,6 +146,24 @@ fn expect_pairs<M: Metric>(rt: &impl Abort, metric: &M, rows: &[(u32, u32, i64)]
 }
 
 #[test]
+fn euclid_of_whole_places(rt: HostRuntime) -> Result<(), Fail> {
+    let alloc = rt.alloc();
+    let mut points = pair(alloc, 3 * UNIT, 4 * UNIT)?;
+    assert!(rt; points.len() == 2);
+    let euclid = Planes::new(PlaneKind::Euc2d, &points).euclid();
+    assert!(rt; euclid.is_some());
+    if let Some(euclid) = euclid {
+        assert!(rt; euclid.size() == 2);
+        expect_pairs(&rt, &euclid, &[(1, 2, 5), (2, 1, 5), (2, 2, 0)]);
+        assert!(rt; euclid.is_nearer(1, 2, 6) && !euclid.is_nearer(1, 2, 5));
+    }
+    assert!(rt; Planes::new(PlaneKind::Ceil2d, &points).euclid().is_none());
+    points.set(0, Point { x: 0, y: 1 })?;
+    assert!(rt; Planes::new(PlaneKind::Euc2d, &points).euclid().is_none());
+    Ok(())
+}
+
+#[test]
 fn explicit_weights(rt: HostRuntime) {
     // UPPER_ROW `1 2 3 4 5 6`
     let triangle = Triangle {
