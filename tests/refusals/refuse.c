@@ -2,7 +2,8 @@
  * the environment, it changes nothing:
  *     REFUSE_MOST=N          each read gives at most N bytes
  *     REFUSE_READ=K:FILE     read K of that file fails, counted from 1; so does every later one, and each is noted
- *     REFUSE_WRITE=K:FILE    the file takes K bytes, and then writes fail; FILE is a name or the number of a descriptor
+ *     REFUSE_WRITE=K:FILE    the file takes K bytes, and then writes fail; FILE is a name, the number of a descriptor, or * for all but
+ *                            standard input, output and error
  *     REFUSE_EMPTY=1         such a write takes no bytes in place of failing
  *     REFUSE_MEMORY=N        growth N is refused, counted from 1
  *     REFUSE_NOTES=FILE      where a byte is added for each refusal: 'r', 'w' or 'm' */
@@ -56,6 +57,8 @@ static void note(char refusal) {
 /* Whether a descriptor is open on that file. */
 static int is_on(int descriptor, const char *name) {
     struct stat here, there;
+    if (name[0] == '*' && !name[1])
+        return descriptor > 2;
     if (name[0] >= '0' && name[0] <= '9' && !name[1])
         return descriptor == name[0] - '0';
     return !fstat(descriptor, &here) && !stat(name, &there) && here.st_dev == there.st_dev && here.st_ino == there.st_ino;

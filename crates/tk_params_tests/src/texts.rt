@@ -1,5 +1,5 @@
 //! Parameter files that are read where memory is ample: each key, the defaults, and a fault of each kind.
-ghost use Rattle.std.specs.Prelude.{None};
+ghost use Rattle.std.specs.Prelude.{None, false};
 
 use std::alloc::{AllocError, Global};
 use std::process::Abort;
@@ -110,10 +110,13 @@ fn refuse<A: Abort>(rt: &A, alloc: Global, text: &[u8], line: u64, kind: ParamKi
 
 #[test]
 fn refuses_what_is_no_setting(rt: HostRuntime) {
-    let rows: [(&[u8], u64, ParamKind); 5] = [
+    let rows: [(&[u8], u64, ParamKind); 8] = [
         (b"# c\nMOVE_TYPE = 5\nFOO = 1\n", 3, ParamKind::UnknownKey),
         (b"OPTIMUM\noptimum\n", 2, ParamKind::RepeatedKey),
+        (b"SEED = 1\nSEED = 1\n", 2, ParamKind::RepeatedKey),
+        (b"RUNS = 0\n", 1, ParamKind::BadValue),
         (b"PROBLEM_FILE = \xFF", 1, ParamKind::BadValue),
+        (b"", 1, ParamKind::MissingProblem),
         (b"RUNS = 1\nEOF\n", 2, ParamKind::MissingProblem),
         (b"PROBLEM_FILE = a$b", 1, ParamKind::DollarInName),
     ];
@@ -142,6 +145,36 @@ fn refuses_what_is_too_long(rt: HostRuntime) {
         let text = repeated(rt.alloc(), byte, count).expect(&rt, "memory");
         refuse(&rt, rt.alloc(), &text, line, ParamKind::TooLong);
     }
+}
+
+/// Gives line feeds without end.
+#[derive(Drop)]
+struct LineFeeds;
+
+impl Source for LineFeeds {
+    ghost left = { λ s. None };
+
+    ghost broken = { λ s. false };
+
+    fn read(&mut self, buf: &mut [u8]) -> Result<usize, Failed> {
+        buf.fill(b'\n');
+        Ok(buf.len())
+    }
+
+    fn failed(&self) -> bool {
+        false
+    }
+}
+
+/// A source without an end is stopped at the limit of a text.
+#[test]
+fn stops_at_the_limit(rt: HostRuntime) {
+    let fault = read_params(rt.alloc(), &mut LineFeeds).err();
+    let too_long = Some(ParamFault {
+        line: 1_048_577,
+        kind: ParamKind::TooLong,
+    });
+    assert!(rt; fault == too_long);
 }
 
 /// A fault of the source is told where the text does not end before it.

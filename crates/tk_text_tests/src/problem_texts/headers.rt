@@ -173,16 +173,6 @@ fn lines(rt: HostRuntime) {
                 3,
                 TextKind::Missing(Keyword::EdgeWeightType),
             ),
-            (
-                b"NAME : p\nTYPE : TSP\nEDGE_WEIGHT_TYPE : EUC_2D\nNODE_COORD_SECTION\n1 0 0\n2 3 0\n3 0 4\nEOF\n",
-                4,
-                TextKind::Missing(Keyword::Dimension),
-            ),
-            (
-                b"NAME : p\nTYPE : TSP\nDIMENSION : 3\nDIMENSION : 3\nEDGE_WEIGHT_TYPE : EUC_2D\n",
-                4,
-                TextKind::Repeated,
-            ),
         ],
     );
 }

@@ -325,6 +325,38 @@ fn places(rt: HostRuntime) {
     );
 }
 
+/// Three cities: with a fourth, with two sizes, without a size, and with a city that comes twice.
+#[test]
+fn contradictions(rt: HostRuntime) {
+    let a = rt.alloc();
+    refuse(
+        &rt,
+        a,
+        &[
+            (
+                b"NAME : p\nTYPE : TSP\nDIMENSION : 3\nEDGE_WEIGHT_TYPE : EUC_2D\nNODE_COORD_SECTION\n1 0 0\n2 3 0\n3 0 4\n4 0 0\nEOF\n",
+                9,
+                TextKind::TrailingData,
+            ),
+            (
+                b"NAME : p\nTYPE : TSP\nDIMENSION : 3\nDIMENSION : 3\nEDGE_WEIGHT_TYPE : EUC_2D\nNODE_COORD_SECTION\n1 0 0\n2 3 0\n3 0 4\nEOF\n",
+                4,
+                TextKind::Repeated,
+            ),
+            (
+                b"NAME : p\nTYPE : TSP\nEDGE_WEIGHT_TYPE : EUC_2D\nNODE_COORD_SECTION\n1 0 0\n2 3 0\n3 0 4\nEOF\n",
+                4,
+                TextKind::Missing(Keyword::Dimension),
+            ),
+            (
+                b"NAME : p\nTYPE : TSP\nDIMENSION : 3\nEDGE_WEIGHT_TYPE : EUC_2D\nNODE_COORD_SECTION\n1 0 0\n1 0 0\n3 0 4\nEOF\n",
+                7,
+                TextKind::BadNode,
+            ),
+        ],
+    );
+}
+
 #[test]
 fn explicit_weights(rt: HostRuntime) {
     let a = rt.alloc();
