@@ -6,7 +6,8 @@
  *                            standard input, output and error
  *     REFUSE_EMPTY=1         such a write takes no bytes in place of failing
  *     REFUSE_MEMORY=N        growth N is refused, counted from 1
- *     REFUSE_NOTES=FILE      where a byte is added for each refusal: 'r', 'w' or 'm' */
+ *     REFUSE_LINES=1         each line on standard output is noted
+ *     REFUSE_NOTES=FILE      where a byte is added for each refusal, 'r', 'w' or 'm', and '.' for a line */
 #define _GNU_SOURCE
 #include <dlfcn.h>
 #include <errno.h>
@@ -19,7 +20,7 @@
 
 static long most, read_at, write_room, memory_at, reads, growths;
 static const char *read_file, *write_file, *notes;
-static int is_set_up, is_empty;
+static int is_set_up, is_empty, has_lines;
 
 /* The number before the colon of a setting, and what is after it. */
 static long split(const char *setting, const char **rest) {
@@ -41,17 +42,24 @@ static void set_up(void) {
     if ((setting = getenv("REFUSE_MEMORY")))
         memory_at = atol(setting);
     is_empty = getenv("REFUSE_EMPTY") != NULL;
+    has_lines = getenv("REFUSE_LINES") != NULL;
     notes = getenv("REFUSE_NOTES");
 }
 
-static void note(char refusal) {
+static void note(char event) {
     if (!notes)
         return;
     int file = syscall(SYS_openat, AT_FDCWD, notes, O_WRONLY | O_CREAT | O_APPEND, 0600);
     if (file >= 0) {
-        syscall(SYS_write, file, &refusal, 1);
+        syscall(SYS_write, file, &event, 1);
         syscall(SYS_close, file);
     }
+}
+
+static void note_lines(const char *bytes, size_t count) {
+    for (size_t i = 0; i < count; i++)
+        if (bytes[i] == '\n')
+            note('.');
 }
 
 /* Whether a descriptor is open on that file. */
@@ -78,6 +86,8 @@ ssize_t read(int descriptor, void *bytes, size_t count) {
 ssize_t write(int descriptor, const void *bytes, size_t count) {
     if (!is_set_up)
         set_up();
+    if (has_lines && descriptor == 1)
+        note_lines(bytes, count);
     if (!write_file || !count || !is_on(descriptor, write_file))
         return syscall(SYS_write, descriptor, bytes, count);
     if (!write_room) {

@@ -1,0 +1,65 @@
+//! Routes.
+use crate::again::{Refusal, Stopped, again};
+use crate::instances::ROUTING;
+use crate::readers::problem_of;
+use std::alloc::{AllocError, Global};
+use tk_near::near_scan;
+use tk_routes::{Cvrp, RouteVerdict, Routes, check_routes, improve, savings};
+use tk_text::SolText;
+
+/// The routes as they stand, claimed to have a cost.
+fn claim(alloc: Global, routes: &Routes<'_>, cost: i64) -> Result<SolText, AllocError> {
+    let mut lists = Vec::new(alloc);
+    for route in routes.lists() {
+        lists.push(route.clone()?)?;
+    }
+    Ok(SolText {
+        routes: lists,
+        cost,
+    })
+}
+
+/// Whether the routes are valid, and of this cost.
+fn judge(
+    alloc: Global,
+    cvrp: &Cvrp<'_>,
+    routes: &Routes<'_>,
+    cost: i64,
+) -> Result<RouteVerdict, AllocError> {
+    check_routes(alloc, cvrp, &claim(alloc, routes, cost)?)
+}
+
+/// Tells routes.
+fn show(rt: &HostRuntime, name: &str, lists: &[Vec<u32>]) -> Result<(), Stopped> {
+    println!(rt; "{name}: {lists:?}")?;
+    Ok(())
+}
+
+/// Makes savings routes, checks them and improves them. Where that is refused, they have to be as before.
+pub fn make_calls(rt: &HostRuntime) -> Result<(), Stopped> {
+    let alloc = rt.alloc();
+    let problem = problem_of(rt, ROUTING)?;
+    let Some(cvrp) = Cvrp::of(&problem) else {
+        return Err(Stopped);
+    };
+    let k = cvrp.customers().min(100);
+    let near = again!(rt, "near_scan", near_scan(alloc, &cvrp.table(), k));
+    println!(rt; "near_scan: {} lists of {}", near.size(), near.width())?;
+    let mut routes = again!(rt, "savings", savings(alloc, &cvrp, &near));
+    show(rt, "savings", routes.lists())?;
+    let saved = again!(rt, "check_routes", judge(alloc, &cvrp, &routes, 60));
+    println!(rt; "check_routes: {saved:?}")?;
+    let report = match improve(alloc, &cvrp, &mut routes, 5, 3) {
+        Ok(report) => report,
+        Err(AllocError) => {
+            let kept = judge(alloc, &cvrp, &routes, 60)?;
+            println!(rt; "improve: out of memory, {kept:?}")?;
+            improve(alloc, &cvrp, &mut routes, 5, 3)?
+        }
+    };
+    println!(rt; "improve: {report:?}")?;
+    show(rt, "improved", routes.lists())?;
+    let improved = again!(rt, "check_routes", judge(alloc, &cvrp, &routes, 53));
+    println!(rt; "check_routes: {improved:?}")?;
+    Ok(())
+}

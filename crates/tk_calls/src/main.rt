@@ -1,0 +1,36 @@
+//! Library calls that take memory, made one after another on small instances, each with a line of what it answers.
+//!
+//! A call that is refused memory is told, and made again. `tests/refusals/calls` refuses one growth after another, and
+//! compares the lines.
+#![tactic(auto)]
+
+mod again;
+mod improving;
+mod instances;
+mod lists;
+mod readers;
+mod searches;
+mod starts;
+mod tours;
+mod turns;
+
+use again::Stopped;
+use std::process::ExitCode;
+
+fn main(rt: HostRuntime) -> ExitCode {
+    match make_calls(&rt) {
+        Ok(()) => ExitCode::SUCCESS,
+        Err(Stopped) => ExitCode::FAILURE,
+    }
+}
+
+/// Makes all calls.
+fn make_calls(rt: &HostRuntime) -> Result<(), Stopped> {
+    readers::make_calls(rt)?;
+    tours::make_calls(rt)?;
+    lists::make_calls(rt)?;
+    starts::make_calls(rt)?;
+    improving::make_calls(rt)?;
+    turns::make_calls(rt)?;
+    searches::make_calls(rt)
+}
