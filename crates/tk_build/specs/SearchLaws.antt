@@ -1,7 +1,7 @@
 -- Laws of runs of trials. The functions of `src/trials/laws.rt` carry them.
 --     found_in run      the tours that the trials of a run found
 --     IsFirstShortest dist tours best      the first of the shortest tours of a list
-use Rattle.std.specs.Prelude.{◌≡◌, ℕ, ◌<◌, ◌≤◌, List, [], ◌∷◌, ◌++◌, length}
+use Rattle.std.specs.Prelude.{◌≡◌, ℕ, ◌-◌, ◌^◌, ◌<◌, ◌≤◌, List, [], ◌∷◌, ◌++◌, length}
 use Rattle.std.specs.List.{All}
 use Rattle.rand_core.specs.Stream.{Stream}
 use Rattle.tk_tour.specs.Tour.{IsTour, tour_length}
@@ -64,3 +64,17 @@ abbrev pub EachTrialCounts : Type 0
 EachTrialCounts =
     (begun search : Searching) (words rest : Stream) (t : ℕ) → SearchRun begun words t search rest →
     begun.totals.trials ≡ 0 → 8 ≤ length begun.best → search.totals.trials ≡ capped t
+
+-- two reports tell the same counts
+pub record AreAlike (r s : TrialReport) : Type 0 where
+  pub kicked : r.kicked ≡ s.kicked
+  pub passes : r.passes ≡ s.passes
+  pub moves : r.descent.moves ≡ s.descent.moves
+  pub tests : r.descent.tests ≡ s.descent.tests
+  pub swaps : r.descent.swaps ≡ s.descent.swaps
+
+-- two reports of one trial tell the same counts, as long as no total stands still at its greatest value
+abbrev pub ReportsAgree : Type 0
+ReportsAgree =
+    (old new : Searching) (words rest : Stream) (r s : TrialReport) → NextTrial old words new rest r → NextTrial old words new rest s →
+    new.totals.moves < 2 ^ 128 - 1 → new.totals.tests < 2 ^ 128 - 1 → new.totals.passes < 2 ^ 128 - 1 → AreAlike r s

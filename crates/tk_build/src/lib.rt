@@ -17,7 +17,7 @@ pub use nearest_tours::scan::nearest;
 pub use trials::descending::SearchRules;
 pub use trials::laws::{
     best_is_a_tour, best_is_first_of_the_shortest, best_is_no_longer_than_the_start,
-    each_trial_counts, few_cities_make_one_trial, work_is_bounded,
+    each_trial_counts, few_cities_make_one_trial, reports_agree, work_is_bounded,
 };
 pub use trials::searching::Search;
 pub use trials::totals::{Totals, TrialReport};

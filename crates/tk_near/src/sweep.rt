@@ -48,7 +48,7 @@ pub fn row_of<P: Planar>(alloc: Global, m: &P) -> Result<Vec<Placed>, AllocError
     Ok(row)
 }
 
-/// The cities in the order of x, and of their numbers where x is equal.
+/// The cities in the order of x.
 ///
 /// # Errors
 /// `AllocError` where there is no memory for the row.

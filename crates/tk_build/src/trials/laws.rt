@@ -30,3 +30,8 @@ pub fn few_cities_make_one_trial()
 pub fn each_trial_counts()
     ensures { laws.EachTrialCounts }
 {}
+
+/// A law: two reports of one trial agree.
+pub fn reports_agree()
+    ensures { laws.ReportsAgree }
+{}
