@@ -8,8 +8,10 @@ pub mod Once
 pub mod Places
 pub mod Placing
 pub mod PrintedForm
+pub mod Renumbering
 pub mod Reversing
 pub mod SegmentMove
 pub mod Steps
 pub mod Tours
+pub mod TurnedWithin
 pub mod Undoing

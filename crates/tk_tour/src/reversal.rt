@@ -1,9 +1,40 @@
-//! The exchanges of a reversal.
-ghost use Rattle.std.specs.Prelude.{◌≡◌, ◌≤◌, ◌<◌, ℕ, length};
+//! The reversal of places.
+ghost use Rattle.std.specs.Prelude.{◌≡◌, ◌≤◌, ◌<◌, ◌-◌, ℕ, length};
 ghost use Rattle.tk_tour.specs.Reversal.{IsInverse, reversed_places};
 
-// Reverses `count` places from `first` on, modulo the length, by `count / 2` exchanges.
+// Reverses `count` places from `first` on, modulo the length, by `count / 2` exchanges of two cities.
 pub(crate) fn reverse_places(order: &mut [u32], place: &mut [u32], first: usize, count: usize)
+    requires first_in { first < length order.old }
+    requires count_in { count ≤ length order.old }
+    requires size { length order.old ≤ 100000 }
+    requires places { IsInverse order.old place.old }
+    ensures reversed { order.new ≡ reversed_places first count order.old }
+    ensures places { IsInverse order.new place.new }
+{
+    if count <= order.len() - first {
+        reverse_within(order, place, first, first + count);
+    } else {
+        reverse_round(order, place, first, count);
+    }
+}
+
+// Reverses the places from `first` on, up to `last`.
+fn reverse_within(order: &mut [u32], place: &mut [u32], first: usize, last: usize)
+    requires from { first ≤ last }
+    requires to { last ≤ length order.old }
+    requires size { length order.old ≤ 100000 }
+    requires places { IsInverse order.old place.old }
+    ensures reversed { order.new ≡ reversed_places first (last - first) order.old }
+    ensures places { IsInverse order.new place.new }
+{
+    order[first..last].reverse();
+    for k in first..last {
+        place[order[k] as usize - 1] = k as u32;
+    }
+}
+
+// The same where the places go on from the end to the beginning.
+fn reverse_round(order: &mut [u32], place: &mut [u32], first: usize, count: usize)
     requires first_in { first < length order.old }
     requires count_in { count ≤ length order.old }
     requires size { length order.old ≤ 100000 }
