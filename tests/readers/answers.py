@@ -153,6 +153,59 @@ def solution_fault(problem, routes, cost):
     return None
 
 
+COLOURS = ["#0072B2", "#D55E00", "#009E73", "#CC79A7", "#E69F00", "#56B4E9", "#000000"]
+DASHES = ["none", "120 80", "1 60"]
+ENTITIES = {ord("&"): "&amp;", ord("<"): "&lt;", ord(">"): "&gt;", ord('"'): "&quot;"}
+
+
+def plot(problem_file, claim_file=None):
+    opened = open_word(problem_file), claim_file and open_word(claim_file)
+    problem = read_file(problem_file, opened[0], read_problem)
+    if problem.kind == b"EXPLICIT":
+        raise Refused(f"tourkit: {problem_file}: no coordinates", 2)
+    if not claim_file:
+        return picture(problem, f"{problem.n} cities", []), 0
+    if not problem.cvrp:
+        cities = read_file(claim_file, opened[1], read_tour)
+        fault = tour_fault(problem.n, cities)
+        if fault:
+            raise Refused(fault[1], 1)
+        return picture(problem, f"tour of {problem.n} cities, length {cycle_length(problem, cities)}", [cities]), 0
+    routes, cost = read_file(claim_file, opened[1], read_solution)
+    fault = solution_fault(problem, routes, cost)
+    if fault:
+        raise Refused(fault, 1)
+    node = [None] + [c for c in range(1, problem.n + 1) if c != problem.depot]
+    paths = [[problem.depot] + [node[c] for c in route] for route in routes if route]
+    return picture(problem, f"{len(paths)} routes, cost {cost}", paths), 0
+
+
+def picture(problem, caption, paths):
+    """The text of a picture, of closed lines through cities."""
+    cities = range(1, problem.n + 1)
+    xs, ys = ([problem.points[c][axis] for c in cities] for axis in (0, 1))
+    left, bottom, top = min(xs), min(ys), max(ys)
+    side = max(1, max(xs) - left, top - bottom)
+    spot = {c: f"{(x - left) * 10000 // side},{(top - y) * 10000 // side}" for c, x, y in zip(cities, xs, ys)}
+    height = 80 - (bottom - top) * 1000 // side
+    title = "".join(ENTITIES.get(b, chr(b)) if 32 <= b < 127 else "?" for b in problem.name) + ": " + caption
+    small = problem.n < 2000
+    lines = [f'<svg xmlns="http://www.w3.org/2000/svg" viewBox="0 0 1040 {height}">', f"<title>{title}</title>",
+             '<rect width="100%" height="100%" fill="white"/>',
+             f'<text x="20" y="40" font-family="sans-serif" font-size="24">{title}</text>',
+             '<g transform="translate(20 60) scale(0.1)" fill="none" stroke-linecap="round" stroke-linejoin="round" '
+             f'stroke-width="{20 if small else 6}">']
+    for k, path in enumerate(paths):
+        lines.append(f'<polygon stroke="{COLOURS[k % 7]}" stroke-dasharray="{DASHES[k // 7 % 3]}" points="')
+        lines += [*(spot[c] for c in path), '"/>']
+    if small or not paths:
+        lines.append(f'<path stroke="black" stroke-width="{60 if small else 12}" d="')
+        lines += [*(f"M{spot[c]}h0" for c in cities), '"/>']
+    if problem.cvrp:
+        lines.append(f'<path fill="black" d="M{spot[problem.depot]}m-80,-80h160v160h-160z"/>')
+    return "\n".join([*lines, "</g>", "</svg>", ""])
+
+
 def solve(par_file):
     """Refuses what solve refuses. Of a run that is not refused: the lines that name ignored keys, and None for the status."""
     values, ignored = read_file(par_file, open_word(par_file), read_params)
@@ -171,7 +224,7 @@ def solve(par_file):
 
 def answer(words):
     """Standard output, standard error and status."""
-    commands = {"check": check, "near": near, "matrix": matrix, "checksol": checksol, "solve": solve}
+    commands = {"check": check, "near": near, "matrix": matrix, "checksol": checksol, "plot": plot, "solve": solve}
     if words[0] == "near":
         words = words[:2] + [int(words[3]) if len(words) > 2 else 5]
     try:

@@ -211,19 +211,19 @@ def case(random, commands):
     command = random.choice(commands)
     cvrp = command == "checksol" and random.random() < 0.95 or random.random() < 0.4
     n = random.choice([2, 3, 4, 5, 8, 12])
-    other = {"check": "t", "checksol": "s", "solve": "x"}.get(command)
+    other = {"check": "t", "checksol": "s", "plot": random.choice(["", "s" if cvrp else "t"]), "solve": "x"}.get(command)
     faulty = random.choice(["p", other or "p"]) if random.random() < 0.9 else ""
     files = {"p": text(random, problem(random, n, cvrp), faulty == "p")}
-    if command == "check":
+    if other == "t":
         files["t"] = text(random, tour(random, n), faulty == "t")
-    elif command == "checksol":
+    elif other == "s":
         files["s"] = text(random, solution(random, n, files["p"]), faulty == "s")
     elif command == "solve":
         files["x"] = text(random, params(random, cvrp), faulty == "x")
         files["t"] = text(random, tour(random, n), random.random() < 0.2)
     if random.random() < 0.03:
         files[random.choice(list(files))] = random.choice([None, DIRECTORY])
-    words = {"near": ["near", "p"] + random.choice([[], ["-k", "1"], ["-k", "3"], ["-k", "100"]]),
+    words = {"plot": ["plot", "p"] + [other] * bool(other), "near": ["near", "p"] + random.choice([[], ["-k", "1"], ["-k", "3"], ["-k", "100"]]),
              "matrix": ["matrix", "p", random.choice(FORMATS).decode()], "solve": ["solve", "x"]}
     return words.get(command) or [command, "p", other], files
 

@@ -3,6 +3,7 @@
 --     Task      what an engine does, whatever its sources and sinks
 --     ReadsProblem, ReadsTour, ReadsSolution, NoText      what a source's text says
 --     Ends task Problem Second Writes result      the stage that was reached, and what is known there
+--     EndsByProblem      the same, where it depends on the problem what is read as the second text
 --     BeforeSecond, UnlessWrite, AtWrite      a fact, at some of the stages
 use Rattle.std.specs.Prelude.{◌≡◌, ◌≢◌, ℕ, Bool, true, List, Option, Some, None, Result, Ok, Err}
 use Rattle.tk_text.specs.Drive.{Decided, IsAnswerWhereTold, IsTold, text_limit}
@@ -82,11 +83,11 @@ pub record IsMisfit {B R T : Type 0} (task : Task B R T) (Problem : Reading Prob
   pub misfit : task.misfit problem ≡ Some f
 
 -- a problem was read that fits, and the second text was refused
-pub record IsSecondRefused {B R T : Type 0} (task : Task B R T) (Problem : Reading ProblemIs) (Second : Reading B) (f : Fault) : Type 0 where
+pub record IsSecondRefused {B R T : Type 0} (task : Task B R T) (Problem : Reading ProblemIs) (Second : ProblemIs → Reading B) (f : Fault) : Type 0 where
   pub problem : ProblemIs
   pub is_problem : Problem (Ok problem)
   pub fits : task.misfit problem ≡ None
-  pub refused : Second (Err f)
+  pub refused : Second problem (Err f)
 
 -- a problem was read that fits, and so was the second text
 pub record AreRead {B R T : Type 0} (task : Task B R T) (Problem : Reading ProblemIs) (Second : Reading B) (problem : ProblemIs) (second : B) : Type 0 where
@@ -95,31 +96,36 @@ pub record AreRead {B R T : Type 0} (task : Task B R T) (Problem : Reading Probl
   pub is_second : Second (Ok second)
 
 -- what was read fits, this is the answer to it, and this became of the text that goes with the answer
-pub record IsGiven {B R T : Type 0} (task : Task B R T) (Problem : Reading ProblemIs) (Second : Reading B) (Written : T → Type 0) (answer : R) : Type 0 where
+pub record IsGiven {B R T : Type 0} (task : Task B R T) (Problem : Reading ProblemIs) (Second : ProblemIs → Reading B) (Written : T → Type 0) (answer : R) : Type 0 where
   pub problem : ProblemIs
   pub second : B
   pub text : T
-  pub read : AreRead task Problem Second problem second
+  pub read : AreRead task Problem (Second problem) problem second
   pub together : task.IsClash problem second None
   pub gives : task.Gives problem second answer text
   pub written : Written text
 
 -- the last stage that was reached, by the fault, and what is known there
-abbrev pub Stopped : {B R T : Type 0} → Task B R T → Reading ProblemIs → Reading B → Writing T → Fault → Type 0
+abbrev pub Stopped : {B R T : Type 0} → Task B R T → Reading ProblemIs → (ProblemIs → Reading B) → Writing T → Fault → Type 0
 Stopped task Problem Second Writes (faults.Problem f) = Problem (Err (faults.Problem f))
 Stopped task Problem Second Writes faults.WrongType = IsMisfit task Problem faults.WrongType
 Stopped task Problem Second Writes (faults.NotForType key) = IsMisfit task Problem (faults.NotForType key)
 Stopped task Problem Second Writes faults.TooLarge = IsMisfit task Problem faults.TooLarge
+Stopped task Problem Second Writes faults.NoPlaces = IsMisfit task Problem faults.NoPlaces
 Stopped task Problem Second Writes (faults.Tour f) = IsSecondRefused task Problem Second (faults.Tour f)
 Stopped task Problem Second Writes (faults.Solution f) = IsSecondRefused task Problem Second (faults.Solution f)
-Stopped {B} task Problem Second Writes (faults.Initial f) = (p : ProblemIs) × (second : B) × AreRead task Problem Second p second × task.IsClash p second (Some (faults.Initial f))
-Stopped {B} task Problem Second Writes faults.NoMemory = (p : ProblemIs) × (second : B) × AreRead task Problem Second p second × (task.takes_memory ≡ true)
+Stopped {B} task Problem Second Writes (faults.Initial f) = (p : ProblemIs) × (second : B) × AreRead task Problem (Second p) p second × task.IsClash p second (Some (faults.Initial f))
+Stopped {B} task Problem Second Writes faults.NoMemory = (p : ProblemIs) × (second : B) × AreRead task Problem (Second p) p second × (task.takes_memory ≡ true)
 Stopped {B} {R} task Problem Second Writes (faults.Write f) = (answer : R) × IsGiven task Problem Second (Writes (Err f)) answer
+
+-- an engine ended with all written, or stopped, where the problem says what is read as the second text
+abbrev pub EndsByProblem : {B R T : Type 0} → Task B R T → Reading ProblemIs → (ProblemIs → Reading B) → Writing T → Result R Fault → Type 0
+EndsByProblem task Problem Second Writes (Ok answer) = IsGiven task Problem Second (Writes (Ok tt)) answer
+EndsByProblem task Problem Second Writes (Err f) = Stopped task Problem Second Writes f
 
 -- an engine ended with all written, or stopped
 abbrev pub Ends : {B R T : Type 0} → Task B R T → Reading ProblemIs → Reading B → Writing T → Result R Fault → Type 0
-Ends task Problem Second Writes (Ok answer) = IsGiven task Problem Second (Writes (Ok tt)) answer
-Ends task Problem Second Writes (Err f) = Stopped task Problem Second Writes f
+Ends task Problem Second Writes result = EndsByProblem task Problem (λ _. Second) Writes result
 
 -- ---- a fact, at some of the stages
 
@@ -129,6 +135,7 @@ BeforeSecond P (faults.Problem f) = P
 BeforeSecond P faults.WrongType = P
 BeforeSecond P (faults.NotForType key) = P
 BeforeSecond P faults.TooLarge = P
+BeforeSecond P faults.NoPlaces = P
 BeforeSecond P _ = Unit {0}
 
 -- where an engine stopped otherwise than by a write

@@ -17,3 +17,5 @@ pub use fault::Fault;
 pub use matrix::matrix_engine;
 pub use near::near_engine;
 pub use route_check::route_check_engine;
+pub use route_line::write_route_verdict;
+pub use verdict_line::{length_of, write_verdict};

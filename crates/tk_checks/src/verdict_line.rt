@@ -13,7 +13,7 @@ use tk_text::{Pen, Problem, Sink, WriteFault};
 use tk_tour::{Verdict, length};
 
 /// The length of a tour of a problem's cities.
-fn length_of(problem: &Problem, cities: &[u32]) -> u64
+pub fn length_of(problem: &Problem, cities: &[u32]) -> u64
     requires tour { IsTour problem.now.n cities.now }
     ensures { result ≡ tour_length (problem_distance problem.now.weights) cities.now }
 {

@@ -20,6 +20,7 @@ module _ (p : ParamsAre) (Problem : Reading ProblemIs) (Second : Reading (Option
   initial_stopped faults.WrongType h = elim h [ ]
   initial_stopped (faults.NotForType key) h = elim h [ ]
   initial_stopped faults.TooLarge h = elim h [ ]
+  initial_stopped faults.NoPlaces h = elim h [ ]
   initial_stopped (faults.Write f) h = elim h [ ]
 
   -- and the fault was passed on
@@ -43,3 +44,4 @@ module _ (p : ParamsAre) (Problem : Reading ProblemIs) (Second : Reading (Option
   given_ends Answer Quiet together gives (Err faults.WrongType) h = elim h [ ]
   given_ends Answer Quiet together gives (Err (faults.NotForType key)) h = elim h [ ]
   given_ends Answer Quiet together gives (Err faults.TooLarge) h = elim h [ ]
+  given_ends Answer Quiet together gives (Err faults.NoPlaces) h = elim h [ ]

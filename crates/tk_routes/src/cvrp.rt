@@ -59,6 +59,14 @@ impl<'a> Cvrp<'a> {
         self.table.size() - 1
     }
 
+    /// The depot's node.
+    pub fn depot(&self) -> u32
+        ensures value { result ≡ (instance_of self.now).depot }
+        ensures known { IsCity (instance_of self.now).size result }
+    {
+        self.depot
+    }
+
     /// The greatest load of a vehicle.
     pub fn capacity(&self) -> u32
         ensures value { result ≡ (instance_of self.now).capacity }

@@ -3,6 +3,7 @@ use crate::check_command::check;
 use crate::checksol_command::checksol;
 use crate::matrix_command::matrix;
 use crate::near_command::near;
+use crate::plot_command::plot;
 use crate::report;
 use crate::solve_command::solve;
 use clap::error::ErrorKind;
@@ -33,6 +34,7 @@ pub fn tourkit<'a>(alloc: Global) -> Result<Command<'a>, Error> {
     let made = with(made, checksol(alloc))?;
     let made = with(made, matrix(alloc))?;
     let made = with(made, near(alloc))?;
+    let made = with(made, plot(alloc))?;
     with(made, solve(alloc))
 }
 

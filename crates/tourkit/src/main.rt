@@ -8,6 +8,7 @@ mod input;
 mod matrix_command;
 mod near_command;
 mod output;
+mod plot_command;
 mod progress;
 mod report;
 mod solve_command;
@@ -49,6 +50,7 @@ fn run(rt: &HostRuntime, matches: &ArgMatches<'_>) -> ExitCode {
         Some(("checksol", words)) => checksol_command::run(rt, words),
         Some(("matrix", words)) => matrix_command::run(rt, words),
         Some(("near", words)) => near_command::run(rt, words),
+        Some(("plot", words)) => plot_command::run(rt, words),
         Some(("solve", words)) => solve_command::run(rt, words),
         _ => ExitCode::from(USAGE),
     }

@@ -50,6 +50,7 @@ pub fn stopped(rt: &HostRuntime, file: &str, fault: &Fault) -> ExitCode {
         Fault::WrongType => wrong_type(rt, file),
         Fault::NotForType(key) => not_for_type(rt, file, *key),
         Fault::TooLarge => too_large(rt, file),
+        Fault::NoPlaces => no_places(rt, file),
         Fault::Write(_) => write_fault(rt),
         Fault::NoMemory => no_memory(rt),
     }
@@ -115,5 +116,11 @@ fn not_for_type(rt: &HostRuntime, file: &str, key: Key) -> ExitCode {
 /// Tells that a problem has too many nodes for a matrix.
 fn too_large(rt: &HostRuntime, file: &str) -> ExitCode {
     let _ = eprintln!(rt; "tourkit: {file}: too large for a matrix");
+    ExitCode::from(USAGE)
+}
+
+/// Tells that the cities of a problem have no places.
+fn no_places(rt: &HostRuntime, file: &str) -> ExitCode {
+    let _ = eprintln!(rt; "tourkit: {file}: no coordinates");
     ExitCode::from(USAGE)
 }
