@@ -1,6 +1,6 @@
 //! Routes.
 use crate::again::{Refusal, Stopped, again};
-use crate::instances::ROUTING;
+use crate::instances::{ROUTING, TWO_GROUPS};
 use crate::readers::problem_of;
 use std::alloc::{AllocError, Global};
 use tk_near::near_scan;
@@ -35,8 +35,14 @@ fn show(rt: &HostRuntime, name: &str, lists: &[Vec<u32>]) -> Result<(), Stopped>
     Ok(())
 }
 
-/// Makes savings routes, checks them and improves them. Where that is refused, they have to be as before.
+/// Makes the calls.
 pub fn make_calls(rt: &HostRuntime) -> Result<(), Stopped> {
+    improve_one(rt)?;
+    improve_two(rt)
+}
+
+/// Makes a savings route, checks it and improves it, and then again, with no move left. Where that is refused, the route has to be as before.
+fn improve_one(rt: &HostRuntime) -> Result<(), Stopped> {
     let alloc = rt.alloc();
     let problem = problem_of(rt, ROUTING)?;
     let Some(cvrp) = Cvrp::of(&problem) else {
@@ -61,5 +67,34 @@ pub fn make_calls(rt: &HostRuntime) -> Result<(), Stopped> {
     show(rt, "improved", routes.lists())?;
     let improved = again!(rt, "check_routes", judge(alloc, &cvrp, &routes, 53));
     println!(rt; "check_routes: {improved:?}")?;
+    let unmoved = again!(
+        rt,
+        "improve again",
+        improve(alloc, &cvrp, &mut routes, 5, 3)
+    );
+    println!(rt; "improve again: {unmoved:?}")?;
+    Ok(())
+}
+
+/// Improves two savings routes. Where that is refused, each of them is as before or improved, the first one first.
+fn improve_two(rt: &HostRuntime) -> Result<(), Stopped> {
+    let alloc = rt.alloc();
+    let problem = problem_of(rt, TWO_GROUPS)?;
+    let Some(cvrp) = Cvrp::of(&problem) else {
+        return Err(Stopped);
+    };
+    let near = again!(rt, "near_scan", near_scan(alloc, &cvrp.table(), 3));
+    println!(rt; "near_scan: {} lists of {}", near.size(), near.width())?;
+    let mut routes = again!(rt, "savings", savings(alloc, &cvrp, &near));
+    show(rt, "savings", routes.lists())?;
+    let report = match improve(alloc, &cvrp, &mut routes, 5, 3) {
+        Ok(report) => report,
+        Err(AllocError) => {
+            println!(rt; "improve two: out of memory, {:?}", routes.lists())?;
+            improve(alloc, &cvrp, &mut routes, 5, 3)?
+        }
+    };
+    println!(rt; "improve two: cost {}", report.after)?;
+    show(rt, "improved", routes.lists())?;
     Ok(())
 }

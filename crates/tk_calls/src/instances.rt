@@ -16,6 +16,10 @@ pub const FIVE: &[u8] =
 pub const ROUTING: &[u8] =
     b"TYPE : CVRP\nDIMENSION : 5\nCAPACITY : 4\nEDGE_WEIGHT_TYPE : EXPLICIT\nEDGE_WEIGHT_FORMAT : UPPER_ROW\nEDGE_WEIGHT_SECTION\n10 10 10 10\n10 11 11\n12 19\n20\nDEMAND_SECTION\n1 0\n2 1\n3 1\n4 1\n5 1\nDEPOT_SECTION\n1\n-1\nEOF\n";
 
+/// Eight customers in two groups of four, and vehicles with room for one group each.
+pub const TWO_GROUPS: &[u8] =
+    b"TYPE : CVRP\nDIMENSION : 9\nCAPACITY : 4\nEDGE_WEIGHT_TYPE : EXPLICIT\nEDGE_WEIGHT_FORMAT : UPPER_ROW\nEDGE_WEIGHT_SECTION\n10 10 10 10 10 10 10 10\n10 11 11 20 20 20 20\n12 19 20 20 20 20\n20 20 20 20 20\n20 20 20 20\n10 11 11\n12 19\n20\nDEMAND_SECTION\n1 0\n2 1\n3 1\n4 1\n5 1\n6 1\n7 1\n8 1\n9 1\nDEPOT_SECTION\n1\n-1\nEOF\n";
+
 /// A tour of four cities.
 pub const TOUR: &[u8] = b"TYPE : TOUR\nDIMENSION : 4\nTOUR_SECTION\n1 2 3 4\n-1\nEOF\n";
 
