@@ -83,7 +83,8 @@ fn improve_two(rt: &HostRuntime) -> Result<(), Stopped> {
     let Some(cvrp) = Cvrp::of(&problem) else {
         return Err(Stopped);
     };
-    let near = again!(rt, "near_scan", near_scan(alloc, &cvrp.table(), 3));
+    let k = cvrp.customers().min(3);
+    let near = again!(rt, "near_scan", near_scan(alloc, &cvrp.table(), k));
     println!(rt; "near_scan: {} lists of {}", near.size(), near.width())?;
     let mut routes = again!(rt, "savings", savings(alloc, &cvrp, &near));
     show(rt, "savings", routes.lists())?;
