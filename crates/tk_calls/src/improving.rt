@@ -4,7 +4,8 @@ use crate::instances::{ROUTING, TWO_GROUPS};
 use crate::readers::problem_of;
 use std::alloc::{AllocError, Global};
 use tk_near::near_scan;
-use tk_routes::{Cvrp, RouteVerdict, Routes, check_routes, improve, savings};
+use tk_route_search::{Routes, improve, savings};
+use tk_routes::{Cvrp, RouteVerdict, check_routes};
 use tk_text::SolText;
 
 /// The routes as they stand, claimed to have a cost.
@@ -32,6 +33,12 @@ fn judge(
 /// Tells routes.
 fn show(rt: &HostRuntime, name: &str, lists: &[Vec<u32>]) -> Result<(), Stopped> {
     println!(rt; "{name}: {lists:?}")?;
+    Ok(())
+}
+
+/// Tells routes as a refused call left them.
+fn show_refused(rt: &HostRuntime, name: &str, lists: &[Vec<u32>]) -> Result<(), Stopped> {
+    println!(rt; "{name}: out of memory, {lists:?}")?;
     Ok(())
 }
 
@@ -91,7 +98,7 @@ fn improve_two(rt: &HostRuntime) -> Result<(), Stopped> {
     let report = match improve(alloc, &cvrp, &mut routes, 5, 3) {
         Ok(report) => report,
         Err(AllocError) => {
-            println!(rt; "improve two: out of memory, {:?}", routes.lists())?;
+            show_refused(rt, "improve two", routes.lists())?;
             improve(alloc, &cvrp, &mut routes, 5, 3)?
         }
     };

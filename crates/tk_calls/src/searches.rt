@@ -6,10 +6,11 @@ use crate::readers::problem_of;
 use rand_core::SeedableRng;
 use rand_pcg::Pcg32;
 use std::alloc::Global;
-use tk_build::{Search, SearchRules, Totals};
 use tk_metric::{Metric, Table};
 use tk_near::Near;
-use tk_tour::{ArrayTour, TourFault, TourStore};
+use tk_search::{Search, SearchRules, Totals};
+use tk_stores::ArrayTour;
+use tk_tour::{TourFault, TourStore};
 
 /// A search of that many trials from a tour, over so many candidates.
 #[derive(Clone, Copy)]

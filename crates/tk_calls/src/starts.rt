@@ -3,8 +3,8 @@ use crate::again::{Refusal, Stopped, again};
 use crate::instances::{ROUTING, SQUARE};
 use crate::lists::near_of;
 use crate::readers::problem_of;
-use tk_build::{nearest, savings_lists, savings_tour};
 use tk_metric::{Metric, Table};
+use tk_starts::{nearest, savings_lists, savings_tour};
 
 /// A nearest-neighbour tour and a savings tour.
 fn make_tours(rt: &HostRuntime) -> Result<(), Stopped> {

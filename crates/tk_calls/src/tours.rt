@@ -2,7 +2,8 @@
 use crate::again::{Refusal, Stopped, again};
 use std::alloc::{AllocError, Global};
 use tk_descent::Waking;
-use tk_tour::{ArrayTour, Flip, JournalTour, TourStore, check};
+use tk_stores::{ArrayTour, JournalTour};
+use tk_tour::{Flip, TourStore, check};
 
 /// Reverses the cities from after a to c, or those from after c to a.
 pub fn flip_after<S: TourStore>(tour: &mut S, a: u32, c: u32) -> Result<Flip, Stopped> {

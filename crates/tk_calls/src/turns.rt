@@ -1,7 +1,7 @@
 //! Looks, moves, descents, kicks and flips. What is built before them takes memory, and they take none.
 ghost use Rattle.std.specs.Prelude.{◌≡◌, pos, length};
 ghost use Rattle.tk_metric.specs.Tables.{table_size, table_distance};
-ghost use Rattle.tk_tour.specs.ArrayTours.{order_of};
+ghost use Rattle.tk_stores.specs.ArrayTours.{order_of};
 ghost use Rattle.tk_tour.specs.Tour.{tour_length};
 
 use crate::again::{Refusal, Stopped, again};
@@ -9,11 +9,12 @@ use crate::instances::SQUARE;
 use crate::lists::near_of;
 use crate::readers::problem_of;
 use crate::tours::{flip_after, journal_of, tour_of};
-use tk_build::{Cuts, kick};
 use tk_descent::{Probe, Waking, descend, look, make};
 use tk_metric::{Metric, Table};
 use tk_near::Near;
-use tk_tour::{ArrayTour, TourStore, length};
+use tk_search::{Cuts, kick};
+use tk_stores::ArrayTour;
+use tk_tour::{TourStore, length};
 
 /// The length of a tour of all cities of a table.
 fn length_of(table: &Table<'_>, tour: &ArrayTour) -> i64

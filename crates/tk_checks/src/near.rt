@@ -9,7 +9,8 @@ ghost use Rattle.tk_checks.specs.NearText.{IsNearOf, near_task, near_text};
 use crate::fault::Fault;
 use std::alloc::{AllocError, Global};
 use tk_metric::Table;
-use tk_near::{Near, near_lists};
+use tk_near::Near;
+use tk_plane::near_lists;
 use tk_text::{Pen, Problem, Sink, Source, WriteFault, read_problem};
 
 /// The near lists of a problem: k cities each, or all others where there are fewer.

@@ -10,7 +10,8 @@ use tk_descent::{
 };
 use tk_metric::Metric;
 use tk_near::{Near, near_scan};
-use tk_tour::{ArrayTour, JournalTour, TourStore, length};
+use tk_stores::{ArrayTour, JournalTour};
+use tk_tour::{TourStore, length};
 
 /// The distances of at most five cities, in rows of five.
 #[derive(Drop)]

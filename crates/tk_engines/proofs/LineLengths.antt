@@ -9,7 +9,7 @@ use Rattle.tk_writers.proofs.Lengths.MatrixLength.{length_decimal, length_flat_m
 use Rattle.tk_params.proofs.Keys.{word_short}
 use Rattle.tk_params.specs.Keys.{all_keys}
 use Rattle.tk_params.specs.declared.key.Key.{Key}
-use Rattle.tk_routes.specs.declared.route_report.RouteReport.{RouteReport}
+use Rattle.tk_route_search.specs.declared.route_report.RouteReport.{RouteReport}
 use Rattle.tk_solve.specs.Runs.{report_of}
 use Rattle.tk_solve.specs.SolvedTours.{IsSolved}
 use Rattle.tk_solve.specs.Starts.{TourTask}

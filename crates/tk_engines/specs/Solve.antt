@@ -21,7 +21,7 @@ use Rattle.tk_params.specs.declared.key.Key.TheVariants as keys
 use Rattle.tk_params.specs.declared.value.Construction.{Construction}
 use Rattle.tk_params.specs.declared.value.Construction.TheVariants.{Nearest, Savings}
 use Rattle.tk_routes.specs.Instance.{Instance}
-use Rattle.tk_routes.specs.declared.route_report.RouteReport.{RouteReport}
+use Rattle.tk_route_search.specs.declared.route_report.RouteReport.{RouteReport}
 use Rattle.tk_solve.specs.SolvedRoutes.{AreSolved}
 use Rattle.tk_solve.specs.SolvedTours.{IsSolved, IsSound}
 use Rattle.tk_solve.specs.Starts.{Begins, AtNearest, AtSavings, At, TourTask}

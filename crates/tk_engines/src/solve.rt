@@ -4,7 +4,7 @@ ghost use Rattle.std.specs.List.{concat};
 ghost use Rattle.tk_text.specs.Parts.{problem_is};
 ghost use Rattle.tk_tour.specs.Tour.{IsTour};
 ghost use Rattle.tk_routes.specs.Cvrps.{instance_of};
-ghost use Rattle.tk_routes.specs.RouteLists.{routes_of};
+ghost use Rattle.tk_route_search.specs.RouteLists.{routes_of};
 ghost use Rattle.tk_solve.specs.SolvedTours.{IsSolved, IsSound};
 ghost use Rattle.tk_checks.specs.Engine.{AtWrite, BeforeSecond, Ends, IsUntouched, ReadsProblem, UnlessWrite};
 ghost use Rattle.tk_engines.specs.Solve.{AreRoutesOf, AreUntouched, Gives, HasFailed, IsTourWritten, ReadsInitial, WritesFiles, cities_in, route_files, solve_task, tour_files, tour_task};
@@ -15,7 +15,8 @@ use std::alloc::{AllocError, Global};
 use tk_checks::Fault;
 use tk_metric::Table;
 use tk_params::Params;
-use tk_routes::{Cvrp, RouteReport, Routes};
+use tk_route_search::{RouteReport, Routes};
+use tk_routes::Cvrp;
 use tk_solve::{RouteOptions, SolvedTour, Watch, solve_routes, solve_tour};
 use tk_text::{
     Problem, Sink, Source, TourText, WriteFault, read_problem, write_solution, write_tour,

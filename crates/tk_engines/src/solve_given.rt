@@ -7,9 +7,9 @@ ghost use Rattle.tk_checks.specs.Check.{read_distance};
 ghost use Rattle.tk_engines.specs.Solve.{IsInitial, IsInitialRefused, ReadsInitial, cities_in, tour_task, unfit_key};
 
 use std::alloc::Global;
-use tk_build::SearchRules;
 use tk_checks::Fault;
 use tk_params::{Construction, Key, Params};
+use tk_search::SearchRules;
 use tk_solve::{Start, TourOptions};
 use tk_text::{Problem, Source, TourText, read_tour};
 use tk_tour::{TourFault, Verdict, check};

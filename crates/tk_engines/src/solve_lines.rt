@@ -7,7 +7,7 @@ ghost use Rattle.tk_params.specs.Keys.{all_keys};
 ghost use Rattle.tk_engines.specs.SolveLines.{best_line, ignored_line, improved_line, route_lines, run_line, run_lines, savings_line, tour_lines, work_of};
 
 use tk_params::Key;
-use tk_routes::RouteReport;
+use tk_route_search::RouteReport;
 use tk_solve::{RunReport, SolvedTour};
 use tk_text::{Pen, Sink, WriteFault};
 

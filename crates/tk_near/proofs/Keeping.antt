@@ -6,7 +6,7 @@ use Rattle.std.proofs.lemmas.Bool.{cases_lt}
 use Rattle.std.proofs.lemmas.List.{get_or-map, get_or-take, get_or_default, take_all, take-append-le, length-map, length-take-le, length-replicate, length-append}
 use Rattle.std.proofs.lemmas.List.Elements.{All-cons, All-nil, All-weaker, All-append, All-head, All-tail, All-replicate}
 use Rattle.std.proofs.lemmas.List.Sorted.{All-permutation, Contains-permutation}
-use Rattle.tk_near.specs.declared.keep.Candidate.{Candidate}
+use Rattle.tk_near.specs.declared.candidates.Candidate.{Candidate}
 use Rattle.tk_metric.specs.Cities.{IsCity}
 use Rattle.tk_near.specs.Near.{IsNear}
 use Rattle.tk_near.specs.Keeping.{Rising, Climbing, insert_by, rank, candidate, open_place, cities_of, KeepsFirst}

@@ -1,12 +1,5 @@
-pub mod FirstLeft
 pub mod Inserting
 pub mod Keeping
 pub mod Laws
-pub mod LeftLaws
-pub mod OneEach
-pub mod Parting
 pub mod Placing
-pub mod Rows
-pub mod Sweeping
 pub mod Tables
-pub mod XOrder

@@ -5,7 +5,7 @@ use Rattle.std.proofs.lemmas.List.Edits.{get_or-insert_above, get_or-insert_belo
 use Rattle.std.proofs.lemmas.List.{get_or-take, length-take-le}
 use Rattle.std.proofs.lemmas.Bool.Decides.{nat_tests}
 use native.Mathlib.Numerals.{unary_clauses}
-use Rattle.tk_near.specs.declared.keep.Candidate.{Candidate}
+use Rattle.tk_near.specs.declared.candidates.Candidate.{Candidate}
 use Rattle.tk_near.specs.Keeping.{AreOpenFrom, Climbing, insert_by, rank}
 use Rattle.tk_near.proofs.Inserting.{Climbing-take, insert_by-below, insert_by-pop}
 

@@ -1,4 +1,2 @@
 pub mod Keeping
 pub mod Near
-pub mod Sweep
-pub mod Tree

@@ -4,7 +4,7 @@ ghost use Rattle.tk_metric.specs.Cities.{IsCity};
 ghost use Rattle.tk_near.specs.Near.{IsNear, IsOther, AreNearest, near_of};
 ghost use Rattle.tk_near.specs.Keeping.{AreFilled, cities_of};
 
-use crate::keep::{Candidate, OPEN, keep, measure, write_cities};
+use crate::candidates::{Candidate, OPEN, keep, measure, write_cities};
 use std::alloc::{AllocError, Global};
 use std::marker::Model;
 use tk_metric::Metric;
@@ -29,7 +29,7 @@ impl Model for Near {
 
 impl Near {
     /// The lists once those of all cities are filled.
-    pub(crate) fn from_filled<M: Metric>(m: &M, k: u32, entries: Vec<u32>) -> Near
+    pub fn from_filled<M: Metric>(m: &M, k: u32, entries: Vec<u32>) -> Near
         requires limit { k ≤ 100 }
         requires filled { AreFilled (M.distance m.now) (M.size_of m.now) k (λ _. ⊤) entries.items }
         ensures size { result.size ≡ M.size_of m.now }

@@ -6,7 +6,8 @@ use std::alloc::{AllocError, Global};
 use std::process::Abort;
 use std::test::Fail;
 use tk_metric::{Metric, Planes, Turned};
-use tk_near::{Near, near_lists_agree, near_scan, near_sweep, near_tree};
+use tk_near::{Near, near_lists_agree, near_scan};
+use tk_plane::{near_sweep, near_tree};
 use tk_problem::{PlaneKind, Point, Points};
 
 const WHOLE: u32 = 1_000_000_000;

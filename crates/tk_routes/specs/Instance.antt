@@ -5,7 +5,7 @@
 --     customer_of depot c      the customer of a node
 --     demand_of i k      the demand of customer k
 use Rattle.std.specs.Prelude.{◌≡◌, ℕ, ◌+◌, ◌-◌, List, nat_lt, if◌then◌else◌, IsSomeAnd}
-use Rattle.tk_text.specs.declared.Problem.{Problem}
+use Rattle.tk_problem.specs.declared.problem.Problem.{Problem}
 use Rattle.tk_metric.specs.Cities.{city_at}
 use Rattle.tk_metric.specs.Weights.{problem_distance}
 

@@ -1,9 +1,5 @@
 pub mod Cvrps
-pub mod ImprovedRoutes
 pub mod Instance
-pub mod RouteLists
 pub mod Routes
 pub mod RouteVerdicts
-pub mod Rows
-pub mod SavingsRoutes
 pub mod Serving

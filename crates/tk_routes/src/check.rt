@@ -10,7 +10,7 @@ ghost use Rattle.tk_routes.specs.RouteVerdicts.{AreServedOnce, IsCustomerFault, 
 use crate::cvrp::Cvrp;
 use crate::verdict::RouteVerdict;
 use std::alloc::{AllocError, Global};
-use tk_text::SolText;
+use tk_lists::SolText;
 
 /// Notes the customers of a route as served, up to the first that is no customer, or served before.
 fn serve(number: u64, route: &[u32], served: &mut [bool]) -> Option<RouteVerdict>
@@ -72,7 +72,7 @@ fn first_missing(served: &[bool]) -> Option<u32>
 }
 
 /// The sum of the lengths of the routes.
-pub(crate) fn cost_of(cvrp: &Cvrp<'_>, routes: &[Vec<u32>]) -> i64
+pub fn cost_of(cvrp: &Cvrp<'_>, routes: &[Vec<u32>]) -> i64
     requires { AreServedOnce (customer_count (instance_of cvrp.now)) (concat (map (λ r. r.items) routes.now)) }
     ensures { result ≡ pos (routes_cost (instance_of cvrp.now) (map (λ r. r.items) routes.now)) }
 {

@@ -4,16 +4,20 @@ ghost use Rattle.tk_metric.specs.Cities.{IsCity};
 ghost use Rattle.tk_metric.specs.Tables.{table_size, table_distance};
 
 use tk_metric::{Metric, Table};
-use tk_text::Problem;
+use tk_problem::Problem;
 
 /// A capacitated routing problem: the distances among its nodes, their demands, the capacity of a vehicle and the depot's node.
 /// Customer k is the k-th node that is not the depot.
 #[derive(Clone, Copy)]
 pub struct Cvrp<'a> {
-    pub(crate) table: Table<'a>,
-    pub(crate) demands: &'a [u32],
-    pub(crate) capacity: u32,
-    pub(crate) depot: u32,
+    /// The distances among its nodes.
+    pub table: Table<'a>,
+    /// The demand of each node.
+    pub demands: &'a [u32],
+    /// The greatest load of a vehicle.
+    pub capacity: u32,
+    /// The depot's node.
+    pub depot: u32,
     ghost low: { 2 ≤ table_size table },
     ghost few: { table_size table ≤ 5000 },
     ghost each: { length demands.now ≡ table_size table },

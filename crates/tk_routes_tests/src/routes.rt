@@ -1,13 +1,14 @@
 //! Worked examples of routes: those of the savings merges, and those that become of them.
 ghost use Rattle.std.specs.Prelude.{◌≡◌, IfOk};
 ghost use Rattle.tk_routes.specs.Cvrps.{instance_of};
-ghost use Rattle.tk_routes.specs.RouteLists.{instance_of_routes};
+ghost use Rattle.tk_route_search.specs.RouteLists.{instance_of_routes};
 
 use crate::checks::{DEPOT_BETWEEN, TWO_SIDES, claim, problem_of};
 use std::alloc::{AllocError, Global};
 use std::test::Fail;
 use tk_near::near_scan;
-use tk_routes::{Cvrp, RouteReport, RouteVerdict, Routes, check_routes, improve, savings};
+use tk_route_search::{RouteReport, Routes, improve, savings};
+use tk_routes::{Cvrp, RouteVerdict, check_routes};
 
 /// As `TWO_SIDES`, with vehicles for all.
 const ROOM_FOR_ALL: &[u8] =

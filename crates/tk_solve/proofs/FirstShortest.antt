@@ -3,7 +3,7 @@ use Rattle.std.proofs.Common.{ℕ, ◌<◌, ◌≤◌, List, [], ◌∷◌, ◌+
 use Rattle.std.specs.List.{All}
 use Rattle.std.proofs.lemmas.List.Elements.{All-append, All-cons, All-nil}
 use Rattle.tk_tour.specs.Tour.{tour_length}
-use Rattle.tk_build.specs.SearchLaws.{IsFirstShortest}
+use Rattle.tk_search.specs.SearchLaws.{IsFirstShortest}
 
 -- it is the only one
 pub first_of_one : (dist : ℕ → ℕ → ℕ) (tour : List ℕ) → IsFirstShortest dist (tour ∷ []) tour

@@ -6,9 +6,9 @@ use Rattle.std.proofs.lemmas.Int.{ints}
 use Rattle.std.proofs.lemmas.List.{map-append}
 use Rattle.tk_near.specs.Near.{NearLists}
 use Rattle.tk_tour.specs.Tour.{IsTour, tour_length}
-use Rattle.tk_build.specs.SearchLaws.{IsFirstShortest}
-use Rattle.tk_build.specs.Searching.{Searching}
-use Rattle.tk_build.proofs.SearchTrials.Cities.{tour_after}
+use Rattle.tk_search.specs.SearchLaws.{IsFirstShortest}
+use Rattle.tk_search.specs.Searching.{Searching}
+use Rattle.tk_search.proofs.SearchTrials.Cities.{tour_after}
 use Rattle.tk_solve.specs.declared.outcome.Outcome.{Outcome}
 use Rattle.tk_solve.specs.declared.outcome.RunReport.{RunReport}
 use Rattle.tk_solve.specs.Outcomes.{AreKept, IsTaken}

@@ -5,14 +5,14 @@ use Rattle.std.proofs.lemmas.Int.{ints}
 use Rattle.std.proofs.lemmas.List.{get_or-map, length-map}
 use Rattle.std.proofs.lemmas.List.Elements.{All-append, All-cons, All-map, All-nil}
 use Rattle.tk_near.specs.Near.{NearLists}
-use Rattle.tk_tour.specs.Printed.{IsPrintedForm}
+use Rattle.tk_stores.specs.Printed.{IsPrintedForm}
 use Rattle.tk_tour.specs.Tour.{IsTour, tour_length}
 use Rattle.tk_descent.proofs.MovesOnTours.Length.{length-cycle}
-use Rattle.tk_build.specs.Searching.{IsBegun, IsBoundedSearch}
-use Rattle.tk_build.specs.SearchLaws.{IsFirstShortest}
-use Rattle.tk_build.specs.Totals.{IsBounded}
-use Rattle.tk_build.proofs.SearchTrials.BoundedRuns.{bounded_run}
-use Rattle.tk_build.proofs.SearchTrials.Runs.{given_run}
+use Rattle.tk_search.specs.Searching.{IsBegun, IsBoundedSearch}
+use Rattle.tk_search.specs.SearchLaws.{IsFirstShortest}
+use Rattle.tk_search.specs.Totals.{IsBounded}
+use Rattle.tk_search.proofs.SearchTrials.BoundedRuns.{bounded_run}
+use Rattle.tk_search.proofs.SearchTrials.Runs.{given_run}
 use Rattle.tk_solve.specs.Runs.{Run, IsRun, AreRuns, none, more, best_tours, report_of, run_length}
 use Rattle.tk_solve.specs.SolvedTours.{IsBoundedReport, IsSound}
 use Rattle.tk_solve.specs.Starts.{TourTask, AreCandidates}

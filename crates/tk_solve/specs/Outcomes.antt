@@ -2,7 +2,7 @@
 use Rattle.std.specs.Prelude.{◌≡◌, ◌≢◌, ◌<ℤ◌, ◌≤ℤ◌, ℕ, List, [], ◌∷◌, ◌++◌, length, pos}
 use Rattle.tk_near.specs.Near.{NearLists}
 use Rattle.tk_tour.specs.Tour.{tour_length}
-use Rattle.tk_build.specs.Searching.{Searching}
+use Rattle.tk_search.specs.Searching.{Searching}
 use Rattle.tk_solve.specs.declared.outcome.Outcome.{Outcome}
 use Rattle.tk_solve.specs.Runs.{Run, AreSoFar}
 use Rattle.tk_solve.specs.Starts.{TourTask}

@@ -10,9 +10,9 @@ use Rattle.rand_core.specs.Stream.{Stream}
 use Rattle.rand_pcg.specs.Pcg.{pcg32, pcg32_of_seed}
 use Rattle.tk_near.specs.Near.{NearLists}
 use Rattle.tk_tour.specs.Tour.{IsTour, tour_length}
-use Rattle.tk_build.specs.Searching.{Searching, IsBegun, SearchRun}
-use Rattle.tk_build.specs.SearchLaws.{IsFirstShortest}
-use Rattle.tk_build.specs.declared.trials.totals.Totals.{Totals}
+use Rattle.tk_search.specs.Searching.{Searching, IsBegun, SearchRun}
+use Rattle.tk_search.specs.SearchLaws.{IsFirstShortest}
+use Rattle.tk_search.specs.declared.trials.totals.Totals.{Totals}
 use Rattle.tk_solve.specs.declared.outcome.RunReport.{RunReport}
 use Rattle.tk_solve.specs.Starts.{TourTask, IsStart, trials_of}
 

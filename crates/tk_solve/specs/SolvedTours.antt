@@ -4,10 +4,10 @@
 use Rattle.std.specs.Prelude.{◌≡◌, ◌≤ℤ◌, ℕ, ◌-◌, List, All, length, map, min, pos}
 use Rattle.std.specs.Int.RustNames.{unsigned_abs}
 use Rattle.tk_near.specs.Near.{NearLists}
-use Rattle.tk_tour.specs.Printed.{IsPrintedForm}
+use Rattle.tk_stores.specs.Printed.{IsPrintedForm}
 use Rattle.tk_tour.specs.Tour.{IsTour, tour_length}
-use Rattle.tk_build.specs.SearchLaws.{IsFirstShortest}
-use Rattle.tk_build.specs.Totals.{IsBounded}
+use Rattle.tk_search.specs.SearchLaws.{IsFirstShortest}
+use Rattle.tk_search.specs.Totals.{IsBounded}
 use Rattle.tk_solve.specs.declared.outcome.RunReport.{RunReport}
 use Rattle.tk_solve.specs.declared.tour.SolvedTour.{SolvedTour}
 use Rattle.tk_solve.specs.Runs.{Run, AreRuns, best_tours, report_of}

@@ -8,10 +8,10 @@ use Rattle.tk_near.specs.Near.{NearLists, AreNearest, near_of}
 use Rattle.tk_metric.specs.Tables.{table_size, table_distance}
 use Rattle.tk_metric.specs.declared.table.Table.{Table}
 use Rattle.tk_tour.specs.Tour.{IsTour}
-use Rattle.tk_build.specs.NearestTour.{IsNearestTour}
-use Rattle.tk_build.specs.PathEnds.{load_of}
-use Rattle.tk_build.specs.SavingsMerges.{AreSavingsLists}
-use Rattle.tk_build.specs.declared.trials.descending.SearchRules.{SearchRules}
+use Rattle.tk_starts.specs.NearestTour.{IsNearestTour}
+use Rattle.tk_starts.specs.PathEnds.{load_of}
+use Rattle.tk_starts.specs.SavingsMerges.{AreSavingsLists}
+use Rattle.tk_search.specs.declared.trials.descending.SearchRules.{SearchRules}
 use Rattle.tk_solve.specs.declared.options.Start.{Start}
 use Rattle.tk_solve.specs.declared.options.Start.TheVariants.{Nearest, Savings, Tour}
 use Rattle.tk_solve.specs.declared.options.TourOptions.{TourOptions}

@@ -1,7 +1,7 @@
 //! What a search is asked for.
 ghost use Rattle.std.specs.Prelude.{◌≤◌};
 
-use tk_build::SearchRules;
+use tk_search::SearchRules;
 
 /// What a run begins with.
 #[derive(Clone, Copy)]

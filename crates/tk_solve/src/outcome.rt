@@ -1,17 +1,18 @@
 //! What is kept of the runs so far.
 ghost use Rattle.std.specs.Prelude.{◌≡◌, ◌≢◌, ◌<ℤ◌, ◌≤ℤ◌, ◌+◌, ◌<◌, ◌++◌, ◌∷◌, [], OnOk, length, pos};
 ghost use Rattle.tk_metric.specs.Tables.{table_size, table_distance};
-ghost use Rattle.tk_tour.specs.ArrayTours.{order_of};
+ghost use Rattle.tk_stores.specs.ArrayTours.{order_of};
 ghost use Rattle.tk_tour.specs.Tour.{IsTour, tour_length};
 
 use crate::options::TourOptions;
 use crate::search::search_run;
 use crate::watch::Watch;
 use std::alloc::{AllocError, Global};
-use tk_build::{Search, Totals};
 use tk_metric::{Metric, Table};
 use tk_near::Near;
-use tk_tour::{ArrayTour, length};
+use tk_search::{Search, Totals};
+use tk_stores::ArrayTour;
+use tk_tour::length;
 
 /// What a run gave.
 #[derive(Clone, Copy, PartialEq, Eq, Debug)]
@@ -31,7 +32,7 @@ pub(crate) struct Outcome {
 }
 
 impl Outcome {
-    ghost use Rattle.tk_build.specs.SearchOf.{search_of};
+    ghost use Rattle.tk_search.specs.SearchOf.{search_of};
     ghost use Rattle.tk_solve.specs.Outcomes.{IsRunAdded};
     ghost use Rattle.tk_solve.specs.Starts.{IsStart, task_of, task_over};
 

@@ -4,16 +4,16 @@ ghost use Rattle.tk_metric.specs.Cities.{IsCity};
 ghost use Rattle.tk_metric.specs.Tables.{table_size, table_distance};
 ghost use Rattle.tk_near.specs.Near.{near_of};
 ghost use Rattle.tk_tour.specs.Tour.{IsTour};
-ghost use Rattle.tk_tour.specs.ArrayTours.{order_of};
-ghost use Rattle.tk_build.specs.NearestTour.{IsNearestTour};
+ghost use Rattle.tk_stores.specs.ArrayTours.{order_of};
+ghost use Rattle.tk_starts.specs.NearestTour.{IsNearestTour};
 ghost use Rattle.tk_solve.specs.Starts.{IsSavedFor, common_of};
 
 use crate::options::Start;
 use std::alloc::{AllocError, Global};
-use tk_build::{nearest, nearest_tree, savings_tour};
 use tk_metric::{Metric, Table};
 use tk_near::Near;
-use tk_tour::ArrayTour;
+use tk_starts::{nearest, nearest_tree, savings_tour};
+use tk_stores::ArrayTour;
 
 /// The savings tour of a table's cities, where runs begin with it; else no city.
 pub(crate) fn savings_start(

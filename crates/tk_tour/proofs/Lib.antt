@@ -1,17 +1,8 @@
 pub mod Bridge
-pub mod Canonical
-pub mod Cuts
 pub mod Cycle
-pub mod Flips
 pub mod Lengths
 pub mod Once
-pub mod Places
 pub mod Placing
-pub mod PrintedForm
-pub mod Renumbering
-pub mod Reversing
 pub mod SegmentMove
 pub mod Steps
 pub mod Tours
-pub mod TurnedWithin
-pub mod Undoing

@@ -22,8 +22,8 @@ pub enum Verdict {
 // No city stands at this place.
 const FREE: u32 = u32::MAX;
 
-// Writes down where each city stands, up to the first fault.
-pub(crate) fn place_cities(cities: &[u32], place: &mut [u32]) -> Verdict
+/// Writes down where each city stands, from 0, up to the first fault. The places of all cities are `u32::MAX` before.
+pub fn place_cities(cities: &[u32], place: &mut [u32]) -> Verdict
     requires size { length cities.now ≤ 100000 }
     requires place_size { length place.old ≡ length cities.now }
     requires free { (k : ℕ) → k < length place.old → slice_index place.old k ≡ 2 ^ 32 - 1 }

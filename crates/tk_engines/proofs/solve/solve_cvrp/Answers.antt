@@ -1,7 +1,7 @@
 use Rattle.std.proofs.Common.{arith, refl}
 use Rattle.tk_metric.specs.Tables.{table_size-limit}
 use Rattle.tk_engines.proofs.LineLengths.{count_filled}
-use Rattle.tk_routes.specs.RouteLists.{routes_of}
+use Rattle.tk_route_search.specs.RouteLists.{routes_of}
 use Rattle.tk_engines.specs.Solve.{route_files}
 use Rattle.tk_engines.proofs.solve.solve_cvrp.Goals as goal
 

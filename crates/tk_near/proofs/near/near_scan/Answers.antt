@@ -4,7 +4,7 @@ use Rattle.std.proofs.lemmas.List.{take_at}
 use Rattle.tk_metric.specs.Cities.{IsCity}
 use Rattle.tk_near.specs.Keeping.{AreFilled}
 use Rattle.tk_near.proofs.Tables.{AreFilled-write}
-use Rattle.tk_near.specs.declared.keep.Candidate.{Candidate}
+use Rattle.tk_near.specs.declared.candidates.Candidate.{Candidate}
 use Rattle.tk_near.proofs.near.near_scan.Goals as goal
 
 pub loop-c-preserved : goal.loop-c-preserved

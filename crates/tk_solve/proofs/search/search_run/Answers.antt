@@ -1,8 +1,8 @@
 use Rattle.std.proofs.Common.{◌≡◌, ◌+◌, ℕ, subst, arith, rules}
 use Rattle.rand_core.specs.Steps.{stream_of, steps_u32}
 use Rattle.rand_pcg.specs.Pcg.{pcg32}
-use Rattle.tk_build.specs.SearchOf.{search_of}
-use Rattle.tk_build.specs.Searching.{SearchRun, begin, trial}
+use Rattle.tk_search.specs.SearchOf.{search_of}
+use Rattle.tk_search.specs.Searching.{SearchRun, begin, trial}
 use Rattle.tk_solve.specs.Runs.{words_of}
 use Rattle.tk_solve.specs.Starts.{TourTask, task_over, trials_of}
 use Rattle.tk_solve.proofs.search.search_run.Goals.{then-size-lt8, else-size-lt8}

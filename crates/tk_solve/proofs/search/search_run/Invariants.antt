@@ -1,8 +1,8 @@
 use Rattle.std.proofs.Common.{◌+◌}
 use Rattle.rand_core.specs.Steps.{stream_of, steps_u32}
 use Rattle.rand_pcg.specs.Pcg.{pcg32}
-use Rattle.tk_build.specs.SearchOf.{search_of}
-use Rattle.tk_build.specs.Searching.{SearchRun}
+use Rattle.tk_search.specs.SearchOf.{search_of}
+use Rattle.tk_search.specs.Searching.{SearchRun}
 use Rattle.tk_solve.specs.Runs.{words_of}
 use Rattle.tk_solve.proofs.search.search_run.Given as goal
 

@@ -1,4 +1,0 @@
-pub mod DoubleBridge
-pub mod Merging
-pub mod NearestCities
-pub mod SearchTrials

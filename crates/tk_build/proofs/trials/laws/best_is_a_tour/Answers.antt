@@ -1,5 +1,0 @@
-use Rattle.tk_build.proofs.SearchTrials.Cities.{tour_after}
-use Rattle.tk_build.proofs.trials.laws.best_is_a_tour.Goals as goal
-
-pub returns : goal.returns
-returns c = λ begun after words rest t run. tour_after _ run

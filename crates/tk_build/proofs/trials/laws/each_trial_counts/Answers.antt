@@ -1,5 +1,0 @@
-use Rattle.tk_build.proofs.SearchTrials.BoundedRuns.{counted_run}
-use Rattle.tk_build.proofs.trials.laws.each_trial_counts.Goals as goal
-
-pub returns : goal.returns
-returns c = λ begun after words rest t run. counted_run run

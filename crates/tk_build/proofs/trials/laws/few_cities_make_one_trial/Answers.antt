@@ -1,5 +1,0 @@
-use Rattle.tk_build.proofs.SearchTrials.BoundedRuns.{one_trial}
-use Rattle.tk_build.proofs.trials.laws.few_cities_make_one_trial.Goals as goal
-
-pub returns : goal.returns
-returns c = λ begun after words rest t run. one_trial run

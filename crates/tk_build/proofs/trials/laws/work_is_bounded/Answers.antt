@@ -1,5 +1,0 @@
-use Rattle.tk_build.proofs.SearchTrials.BoundedRuns.{bounded_run}
-use Rattle.tk_build.proofs.trials.laws.work_is_bounded.Goals as goal
-
-pub returns : goal.returns
-returns c = λ begun after words rest t run. bounded_run run

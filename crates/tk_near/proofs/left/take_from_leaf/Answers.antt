@@ -1,9 +1,0 @@
-use Rattle.tk_near.proofs.Parting.{taken_out}
-use Rattle.tk_near.proofs.left.take_from_leaf.Goals as goal
-
-pub returns-in-Some : goal.returns-in-Some
-returns-in-Some c =
-    let row = c.args.row.now.items in
-    let same = c.deref.ensures.value in
-    let at = rw same at c.in-Some.ensures in
-    rw c.swap_remove.ensures.items (taken_out c.args.p row c.in-Some.i c.swap_remove.result at c.swap_remove.ensures.value)

@@ -1,0 +1,7 @@
+pub mod FirstLeft
+pub mod LeftLaws
+pub mod OneEach
+pub mod Parting
+pub mod Rows
+pub mod Sweeping
+pub mod XOrder

@@ -1,0 +1,77 @@
+-- A tree of parts of the cities, and what is kept of them.
+use Rattle.std.specs.Prelude.{◌≡◌, ◌≢◌, ℕ, ◌≤ℤ◌, ◌+◌, ◌-◌, ◌<◌, ◌≤◌, ◌⊎◌, ◌==◌, if◌then◌else◌, List, [], ◌∷◌, ◌++◌, length, slice_index_or, All, IsPermutation, ⊤}
+use Rattle.tk_problem.specs.declared.point.Point.{Point}
+use Rattle.tk_near.specs.declared.candidates.Candidate.{Candidate}
+use Rattle.tk_plane.specs.declared.sweep.Placed.{Placed}
+use Rattle.tk_plane.specs.declared.tree.Frame.{Frame}
+use Rattle.tk_plane.specs.declared.tree.Tree.{Tree, Leaf, Cut'}
+use Rattle.tk_near.specs.Keeping.{candidate, with_candidate, open_place, rank}
+use Rattle.tk_plane.specs.Sweep.{IsPlaced, city_at, x_gap, y_gap}
+
+-- the cities of a tree, in its order
+abbrev pub entries_of : Tree → List Placed
+entries_of (Leaf row) = row.items
+entries_of (Cut' a p s b q t) = entries_of s ++ entries_of t
+
+-- a city stands in a box
+pub record IsWithin (f : Frame) (p : Placed) : Type 0 where
+  pub left : f.left ≤ℤ p.place.x
+  pub right : p.place.x ≤ℤ f.right
+  pub bottom : f.bottom ≤ℤ p.place.y
+  pub top : p.place.y ≤ℤ f.top
+  pub least : f.least ≤ p.city
+  pub greatest : p.city ≤ f.greatest
+
+-- the cities of each part stand in its box
+abbrev pub IsFramed : Tree → Type 0
+IsFramed (Leaf row) = ⊤
+IsFramed (Cut' a p s b q t) = All (IsWithin a) (entries_of s) × All (IsWithin b) (entries_of t) × IsFramed s × IsFramed t
+
+-- p has this difference in x, or in y, from here
+abbrev pub IsBeyond : Placed → ℕ → Placed → Type 0
+IsBeyond here gap p = (gap ≤ x_gap here p) ⊎ (gap ≤ y_gap here p)
+
+-- seen from c, a city does not come before this
+abbrev pub IsFrom : (ℕ → ℕ → ℕ) → ℕ → Candidate → Placed → Type 0
+IsFrom dist c first p = rank first ≤ rank (candidate dist c p.city)
+
+-- nor does the last of the kept come after it
+abbrev pub IsOut : Candidate → List Candidate → Type 0
+IsOut first kept = rank (slice_index_or kept (length kept - 1) open_place) ≤ rank first
+
+-- the kept, once c has seen a city
+abbrev pub with_city : (ℕ → ℕ → ℕ) → ℕ → Placed → List Candidate → List Candidate
+with_city dist c p kept = if p.city == c then kept else with_candidate (candidate dist c p.city) kept
+
+-- the kept, once c has seen some cities
+abbrev pub with_cities : (ℕ → ℕ → ℕ) → ℕ → List Placed → List Candidate → List Candidate
+with_cities dist c [] kept = kept
+with_cities dist c (p ∷ ps) kept = with_cities dist c ps (with_city dist c p kept)
+
+-- how many parts a tree has
+abbrev pub parts_of : Tree → ℕ
+parts_of (Leaf row) = 1
+parts_of (Cut' a p s b q t) = parts_of s + parts_of t + 1
+
+-- the city is taken out of the row, which may stand in another order then
+pub record IsTakenOut (p : Placed) (old new : List Placed) : Type 0 where
+  pub taken : Placed
+  pub is : taken.city ≡ p.city
+  pub others : IsPermutation old (taken ∷ new)
+
+-- the city does not stand in the row
+abbrev pub IsNotIn : Placed → List Placed → Type 0
+IsNotIn p row = All (λ q. q ≢ p) row
+
+-- a city that stands in the row, but c
+abbrev pub IsOtherIn : List Placed → ℕ → ℕ → Type 0
+IsOtherIn row c b = (q : ℕ) × (q < length row) × (city_at row q ≡ b) × (b ≢ c)
+
+-- the city stands in the row
+abbrev pub Stands : List Placed → ℕ → Type 0
+Stands row b = (q : ℕ) × (q < length row) × (city_at row q ≡ b)
+
+-- no city stands in the row twice, and each has its place
+pub record AreApart (n : ℕ) (place_of : ℕ → Point) (row : List Placed) : Type 0 where
+  pub each : All (IsPlaced n place_of) row
+  pub apart : (i j : ℕ) → i < j → j < length row → city_at row i ≢ city_at row j

@@ -1,0 +1,154 @@
+//! Cities that are left: they are taken out of a tree one by one, and the first of the others is found there.
+ghost use Rattle.std.specs.Prelude.{◌≡◌, ℕ, ◌<◌, ◌≤◌, All, length, IfOk, IsTrue, MatchBool, MatchOption, slice_index};
+ghost use Rattle.tk_plane.specs.declared.sweep.Placed.{Placed};
+ghost use Rattle.tk_near.specs.Near.{IsFirst};
+ghost use Rattle.tk_plane.specs.Sweep.{IsPlaced, IsRow, city_at};
+ghost use Rattle.tk_plane.specs.Tree.{entries_of, IsFramed, IsWithin, IsTakenOut, IsNotIn, IsOtherIn};
+
+use crate::sweep::Placed;
+use crate::tree::{Frame, NEAREST, Tree, frame_of, planted, search};
+use std::alloc::{AllocError, Global};
+use std::marker::Model;
+use tk_metric::Planar;
+use tk_near::OPEN;
+
+/// Cities of a metric: at first all, and then those that were not taken out.
+#[derive(Drop)]
+pub struct Left {
+    tree: Tree,
+}
+
+impl Model for Left {
+    ghost use Rattle.std.specs.Prelude.{List};
+    ghost use Rattle.tk_plane.specs.declared.sweep.Placed.{Placed};
+    ghost use Rattle.tk_plane.specs.Tree.{entries_of, IsFramed};
+
+    ghost Value = { List Placed };
+
+    ghost view = { λ v. entries_of v.tree };
+
+    ghost invariant = { λ v. IsFramed v.tree };
+}
+
+impl Left {
+    /// All cities.
+    ///
+    /// # Errors
+    /// `AllocError` where there is no memory for the row of the cities and its tree.
+    pub fn all<P: Planar>(alloc: Global, m: &P) -> Result<Left, AllocError>
+        ensures { IfOk result (λ left. IsRow (P.size_of m.now) (P.place_of m.now) left) }
+    {
+        let (_, tree) = planted(alloc, m)?;
+        Ok(Left { tree })
+    }
+
+    /// Takes a city out, and tells whether it was left.
+    pub fn take(&mut self, p: Placed) -> bool
+        ensures { MatchBool result (IsTakenOut p self.old self.new) ((self.new ≡ self.old) × IsNotIn p self.old) }
+    {
+        take_from(&mut self.tree, p)
+    }
+
+    /// The first of the other cities that are left, by distance and number, seen from here.
+    pub fn first<P: Planar>(&self, m: &P, here: Placed) -> Option<u32>
+        requires here { IsPlaced (P.size_of m.now) (P.place_of m.now) here }
+        requires placed { All (IsPlaced (P.size_of m.now) (P.place_of m.now)) self.now }
+        ensures { MatchOption result ((b : ℕ) → IsOtherIn self.now here.city b → ⊥)
+            (λ b. IsFirst (P.distance m.now) here.city (IsOtherIn self.now here.city) b) }
+    {
+        let mut kept = [OPEN];
+        let mut filled = 0;
+        search(m, &here, NEAREST, &self.tree, &mut kept, &mut filled);
+        if kept[0].distance == OPEN.distance {
+            None
+        } else {
+            Some(kept[0].city)
+        }
+    }
+}
+
+/// Where the city stands in the row.
+fn index_of(row: &[Placed], p: Placed) -> Option<usize>
+    ensures { MatchOption result (IsNotIn p row.now) (λ i. (i < length row.now) × (city_at row.now i ≡ p.city)) }
+{
+    for i in 0..row.len() {
+        if row[i].city == p.city {
+            return Some(i);
+        }
+    }
+    None
+}
+
+/// Whether no city is left in a tree, by the boxes of its halves. It has no contract: a box that is not made anew costs
+/// time alone.
+fn has_none(tree: &Tree) -> bool {
+    match tree {
+        Tree::Leaf(row) => row.is_empty(),
+        Tree::Cut(lower_frame, _, upper_frame, _) => {
+            lower_frame.is_void() && upper_frame.is_void()
+        }
+    }
+}
+
+/// The box of the cities of a tree.
+fn frame_over(tree: &Tree) -> Frame
+    requires { IsFramed tree.now }
+    ensures { All (IsWithin result) (entries_of tree.now) }
+{
+    match tree {
+        Tree::Leaf(row) => frame_of(row),
+        Tree::Cut(lower_frame, _, upper_frame, _) => lower_frame.joined(*upper_frame),
+    }
+}
+
+/// The box of a tree from which a city was taken out: a new one once no city is left, so that no search enters it, else the
+/// old one.
+#[inline(always)]
+fn renewed(old: Frame, tree: &Tree) -> Frame
+    requires framed { IsFramed tree.now }
+    requires within { All (IsWithin old) (entries_of tree.now) }
+    ensures { All (IsWithin result) (entries_of tree.now) }
+{
+    if has_none(tree) {
+        frame_over(tree)
+    } else {
+        old
+    }
+}
+
+/// Takes a city out of a row, and tells whether it was there.
+fn take_from_leaf(row: &mut Vec<Placed>, p: Placed) -> bool
+    ensures { MatchBool result (IsTakenOut p row.old.items row.new.items)
+        ((row.new.items ≡ row.old.items) × IsNotIn p row.old.items) }
+{
+    match index_of(row, p) {
+        Some(i) => {
+            row.swap_remove(i);
+            true
+        }
+        None => false,
+    }
+}
+
+/// Takes a city out of a tree, and tells whether it was there.
+fn take_from(tree: &mut Tree, p: Placed) -> bool
+    requires framed { IsFramed tree.old }
+    ensures framed { IsFramed tree.new }
+    ensures taken { MatchBool result (IsTakenOut p (entries_of tree.old) (entries_of tree.new))
+        ((entries_of tree.new ≡ entries_of tree.old) × IsNotIn p (entries_of tree.old)) }
+{
+    match tree {
+        Tree::Leaf(row) => take_from_leaf(row, p),
+        Tree::Cut(lower_frame, lower, upper_frame, upper) => {
+            if lower_frame.may_have(p) && take_from(lower, p) {
+                *lower_frame = renewed(*lower_frame, lower);
+                return true;
+            }
+            if upper_frame.may_have(p) && take_from(upper, p) {
+                *upper_frame = renewed(*upper_frame, upper);
+                return true;
+            }
+            false
+        }
+    }
+}

@@ -1,0 +1,328 @@
+//! Near lists by a k-d tree (J. L. Bentley, 1975).
+ghost use Rattle.std.specs.Prelude.{◌≡◌, ℕ, ℤ, ◌*◌, ◌≤◌, ◌<◌, ◌-ℤ◌, ◌≤ℤ◌, ◌↔◌, IfOk, IsTrue, All, IsPermutation, length, ⊤};
+ghost use Rattle.std.specs.Int.RustNames.{unsigned_abs};
+ghost use Rattle.tk_plane.specs.declared.sweep.Placed.{Placed};
+ghost use Rattle.tk_near.specs.Near.{IsNear, AreNearest};
+ghost use Rattle.tk_near.specs.Keeping.{AreFilled, AreOpenFrom, rank, Climbing, cities_of};
+ghost use Rattle.tk_plane.specs.Sweep.{IsPlaced, IsRow};
+ghost use Rattle.tk_plane.specs.Tree.{entries_of, IsWithin, IsFramed, IsBeyond, IsFrom, IsOut, with_cities};
+
+use crate::halve::halve;
+use crate::sweep::{Placed, row_of};
+use std::alloc::{AllocError, Global};
+use tk_metric::Planar;
+use tk_near::{Candidate, Near, OPEN, keep_among, measure, write_cities};
+
+/// At most so many cities stand in a leaf.
+const LEAF: usize = 8;
+
+/// The most that two places differ in a coordinate.
+const WIDEST: u64 = 2_000_000_000_000_000_000;
+
+/// A box round the cities of a part, and the range of their numbers.
+#[derive(Clone, Copy, Drop)]
+pub struct Frame {
+    pub left: i64,
+    pub right: i64,
+    pub bottom: i64,
+    pub top: i64,
+    pub least: u32,
+    pub greatest: u32,
+}
+
+/// Cities in parts.
+#[derive(Drop)]
+pub enum Tree {
+    Leaf(Vec<Placed>),
+    Cut(Frame, Box<Tree>, Frame, Box<Tree>),
+}
+
+/// The box of no city.
+const NOTHING: Frame = Frame {
+    left: i64::MAX,
+    right: i64::MIN,
+    bottom: i64::MAX,
+    top: i64::MIN,
+    least: u32::MAX,
+    greatest: 0,
+};
+
+/// What no city comes before.
+pub const NEAREST: Candidate = Candidate {
+    distance: 0,
+    city: 0,
+};
+
+/// The distance of a coordinate from a range.
+fn gap_between(at: i64, low: i64, high: i64) -> u64
+    ensures { (z : ℤ) → low ≤ℤ z → z ≤ℤ high → result ≤ unsigned_abs (at -ℤ z) }
+{
+    if at < low {
+        at.abs_diff(low)
+    } else if high < at {
+        at.abs_diff(high)
+    } else {
+        0
+    }
+}
+
+impl Frame {
+    /// The least box that has a further city.
+    fn widened(self, p: Placed) -> Frame
+        ensures this { IsWithin result p }
+        ensures others { (q : Placed) → IsWithin self q → IsWithin result q }
+    {
+        Frame {
+            left: self.left.min(p.place.x),
+            right: self.right.max(p.place.x),
+            bottom: self.bottom.min(p.place.y),
+            top: self.top.max(p.place.y),
+            least: self.least.min(p.city),
+            greatest: self.greatest.max(p.city),
+        }
+    }
+
+    /// The least box that has the cities of both.
+    pub fn joined(self, other: Frame) -> Frame
+        ensures first { (p : Placed) → IsWithin self p → IsWithin result p }
+        ensures second { (p : Placed) → IsWithin other p → IsWithin result p }
+    {
+        Frame {
+            left: self.left.min(other.left),
+            right: self.right.max(other.right),
+            bottom: self.bottom.min(other.bottom),
+            top: self.top.max(other.top),
+            least: self.least.min(other.least),
+            greatest: self.greatest.max(other.greatest),
+        }
+    }
+
+    /// Whether the city may be one of the box.
+    pub fn may_have(self, p: Placed) -> bool
+        ensures { IsWithin self p → IsTrue result }
+    {
+        if p.city < self.least || self.greatest < p.city {
+            return false;
+        }
+        if p.place.x < self.left || self.right < p.place.x {
+            return false;
+        }
+        self.bottom <= p.place.y && p.place.y <= self.top
+    }
+
+    /// A difference in x, or in y, that each city of the box has from here.
+    #[inline(always)]
+    fn gap(&self, here: &Placed) -> u64
+        ensures limit { result ≤ 2000000000000000000 }
+        ensures beyond { (p : Placed) → IsWithin self.now p → IsBeyond here.now result p }
+    {
+        let gap_x = gap_between(here.place.x, self.left, self.right);
+        let gap_y = gap_between(here.place.y, self.bottom, self.top);
+        gap_x.max(gap_y).min(WIDEST)
+    }
+
+    /// What no city of the box comes before, seen from here.
+    #[inline(always)]
+    fn first<P: Planar>(&self, m: &P, here: &Placed) -> Candidate
+        requires { IsPlaced (P.size_of m.now) (P.place_of m.now) here.now }
+        ensures { (p : Placed) → IsPlaced (P.size_of m.now) (P.place_of m.now) p → IsWithin self.now p
+            → IsFrom (P.distance m.now) here.now.city result p }
+    {
+        let gap = self.gap(here);
+        if gap == 0 {
+            return Candidate {
+                distance: 0,
+                city: self.least,
+            };
+        }
+        let floor = m.floor_x(gap) as u64;
+        Candidate {
+            distance: floor.min(OPEN.distance as u64) as u32,
+            city: self.least,
+        }
+    }
+
+    /// Whether it is the box of no city.
+    pub fn is_void(&self) -> bool {
+        self.greatest < self.least
+    }
+
+    /// Whether the box takes more room in y than in x.
+    fn is_tall(self) -> bool {
+        self.top.abs_diff(self.bottom) > self.right.abs_diff(self.left)
+    }
+}
+
+/// The box of these cities.
+pub fn frame_of(row: &[Placed]) -> Frame
+    ensures { All (IsWithin result) row.now }
+{
+    let mut frame = NOTHING;
+    for p in row {
+        frame = frame.widened(*p);
+    }
+    frame
+}
+
+/// The tree of these cities, which are put in its order.
+fn plant(alloc: Global, row: &mut [Placed], frame: Frame) -> Result<Tree, AllocError>
+    ensures moved { IfOk result (λ _. IsPermutation row.old row.new) }
+    ensures entries { IfOk result (λ t. entries_of t ≡ row.new) }
+    ensures framed { IfOk result (λ t. IsFramed t) }
+{
+    if row.len() <= LEAF {
+        let mut leaf = Vec::with_capacity(alloc, row.len())?;
+        leaf.extend_from_slice(row)?;
+        return Ok(Tree::Leaf(leaf));
+    }
+    halve(row, frame.is_tall());
+    let middle = row.len() / 2;
+    let (lower, upper) = row.split_at_mut(middle);
+    let lower_frame = frame_of(lower);
+    let upper_frame = frame_of(upper);
+    let lower_tree = plant(alloc, lower, lower_frame)?;
+    let upper_tree = plant(alloc, upper, upper_frame)?;
+    let lower_box = Box::new(alloc, lower_tree)?;
+    let upper_box = Box::new(alloc, upper_tree)?;
+    Ok(Tree::Cut(lower_frame, lower_box, upper_frame, upper_box))
+}
+
+/// The cities of a metric in the order of a tree, and that tree.
+///
+/// # Errors
+/// `AllocError` where there is no memory for them.
+pub fn planted<P: Planar>(alloc: Global, m: &P) -> Result<(Vec<Placed>, Tree), AllocError>
+    ensures row { IfOk result (λ r. IsRow (P.size_of m.now) (P.place_of m.now) r.0.items) }
+    ensures entries { IfOk result (λ r. entries_of r.1 ≡ r.0.items) }
+    ensures framed { IfOk result (λ r. IsFramed r.1) }
+{
+    let mut row = row_of(alloc, m)?;
+    let frame = frame_of(&row);
+    let tree = plant(alloc, &mut row, frame)?;
+    Ok((row, tree))
+}
+
+/// Whether nothing that `first` comes before, or is, can enter the kept.
+fn is_out(first: Candidate, kept: &[Candidate]) -> bool
+    requires { 1 ≤ length kept.now }
+    ensures { IsTrue result ↔ IsOut first kept.now }
+{
+    !first.is_before(kept[kept.len() - 1])
+}
+
+/// Keeps what is near of a leaf.
+fn search_leaf<P: Planar>(
+    m: &P,
+    here: &Placed,
+    leaf: &[Placed],
+    kept: &mut [Candidate],
+    filled: &mut usize,
+)
+    requires here { IsPlaced (P.size_of m.now) (P.place_of m.now) here.now }
+    requires placed { All (IsPlaced (P.size_of m.now) (P.place_of m.now)) leaf.now }
+    requires room { 1 ≤ length kept.old }
+    requires climbing { Climbing rank kept.old }
+    requires vacant { AreOpenFrom filled.old kept.old }
+    ensures kept { kept.new ≡ with_cities (P.distance m.now) here.now.city leaf.now kept.old }
+    ensures climbing { Climbing rank kept.new }
+    ensures vacant { AreOpenFrom filled.new kept.new }
+{
+    for there in leaf {
+        if there.city != here.city {
+            keep_among(kept, filled, measure(m, here.city, there.city));
+        }
+    }
+}
+
+/// Keeps what is near of a part of which no city comes before `first`.
+pub fn search<P: Planar>(
+    m: &P,
+    here: &Placed,
+    first: Candidate,
+    tree: &Tree,
+    kept: &mut [Candidate],
+    filled: &mut usize,
+)
+    requires here { IsPlaced (P.size_of m.now) (P.place_of m.now) here.now }
+    requires placed { All (IsPlaced (P.size_of m.now) (P.place_of m.now)) (entries_of tree.now) }
+    requires framed { IsFramed tree.now }
+    requires first { All (IsFrom (P.distance m.now) here.now.city first) (entries_of tree.now) }
+    requires room { 1 ≤ length kept.old }
+    requires climbing { Climbing rank kept.old }
+    requires vacant { AreOpenFrom filled.old kept.old }
+    ensures kept { kept.new ≡ with_cities (P.distance m.now) here.now.city (entries_of tree.now) kept.old }
+    ensures climbing { Climbing rank kept.new }
+    ensures vacant { AreOpenFrom filled.new kept.new }
+{
+    if is_out(first, kept) {
+        return;
+    }
+    match tree {
+        Tree::Leaf(leaf) => search_leaf(m, here, leaf, kept, filled),
+        Tree::Cut(lower_frame, lower, upper_frame, upper) => {
+            let lower_first = lower_frame.first(m, here);
+            let upper_first = upper_frame.first(m, here);
+            if lower_first.is_before(upper_first) {
+                search(m, here, lower_first, lower, kept, filled);
+                search(m, here, upper_first, upper, kept, filled);
+            } else {
+                search(m, here, upper_first, upper, kept, filled);
+                search(m, here, lower_first, lower, kept, filled);
+            }
+        }
+    }
+}
+
+/// The first of the cities other than that here, as many as there is room for.
+fn search_city<P: Planar>(m: &P, here: &Placed, tree: &Tree, kept: &mut [Candidate])
+    requires here { IsPlaced (P.size_of m.now) (P.place_of m.now) here.now }
+    requires row { IsRow (P.size_of m.now) (P.place_of m.now) (entries_of tree.now) }
+    requires framed { IsFramed tree.now }
+    requires low { 1 ≤ length kept.old }
+    requires high { length kept.old < P.size_of m.now }
+    ensures size { length kept.new ≡ length kept.old }
+    ensures near { IsNear (P.distance m.now) (P.size_of m.now) (length kept.old) here.now.city (cities_of kept.new) }
+{
+    kept.fill(OPEN);
+    let mut filled = 0;
+    search(m, here, NEAREST, tree, kept, &mut filled);
+}
+
+/// Fills the list of each city, in the order of the tree.
+fn fill_from_tree<P: Planar>(
+    m: &P,
+    row: &[Placed],
+    tree: &Tree,
+    kept: &mut [Candidate],
+    entries: &mut [u32],
+)
+    requires row { IsRow (P.size_of m.now) (P.place_of m.now) row.now }
+    requires tree { entries_of tree.now ≡ row.now }
+    requires framed { IsFramed tree.now }
+    requires low { 1 ≤ length kept.old }
+    requires high { length kept.old < P.size_of m.now }
+    requires room { length entries.old ≡ P.size_of m.now * length kept.old }
+    ensures { AreFilled (P.distance m.now) (P.size_of m.now) (length kept.old) (λ _. ⊤) entries.new }
+{
+    for here in row {
+        search_city(m, here, tree, kept);
+        write_cities(entries, here.city, kept);
+    }
+}
+
+/// The near lists by a search of a tree for each city.
+pub fn near_tree<P: Planar>(alloc: Global, m: &P, k: u32) -> Result<Near, AllocError>
+    requires low { 1 ≤ k }
+    requires limit { k ≤ 100 }
+    requires high { k < P.size_of m.now }
+    ensures size { IfOk result (λ v. v.size ≡ P.size_of m.now) }
+    ensures width { IfOk result (λ v. v.width ≡ k) }
+    ensures near { IfOk result (λ v. AreNearest (P.distance m.now) v) }
+{
+    let width = k as usize;
+    let (row, tree) = planted(alloc, m)?;
+    let mut kept = vec![in alloc; OPEN; width]?;
+    let mut entries = vec![in alloc; 0u32; m.size() as usize * width]?;
+    fill_from_tree(m, &row, &tree, &mut kept, &mut entries);
+    Ok(Near::from_filled(m, k, entries))
+}

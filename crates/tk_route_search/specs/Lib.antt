@@ -1,0 +1,4 @@
+pub mod ImprovedRoutes
+pub mod RouteLists
+pub mod Rows
+pub mod SavingsRoutes

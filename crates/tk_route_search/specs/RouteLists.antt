@@ -1,0 +1,13 @@
+-- What callers see of a `Routes`.
+use Rattle.std.specs.Prelude.{ℕ, List, map}
+use Rattle.tk_routes.specs.Cvrps.{instance_of}
+use Rattle.tk_routes.specs.Instance.{Instance}
+use Rattle.tk_route_search.specs.declared.routes.Routes.{Routes}
+
+-- the customers of each route
+abbrev pub routes_of : Routes → List (List ℕ)
+routes_of routes = map (λ r. r.items) routes.lists.items
+
+-- the instance that they are routes of
+abbrev pub instance_of_routes : Routes → Instance
+instance_of_routes routes = instance_of routes.cvrp

@@ -1,0 +1,2 @@
+pub mod DoubleBridge
+pub mod SearchTrials

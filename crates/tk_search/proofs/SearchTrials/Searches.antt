@@ -1,0 +1,128 @@
+-- A search after one more trial.
+use Rattle.std.proofs.Common.{◌≡◌, ℕ, ◌+◌, ◌-◌, ◌*◌, ◌<◌, ◌≤◌, refl, Bool, true, false, List, [], length, sym, ap, ◌∙◌, subst, arith, pos, map}
+use Rattle.std.specs.Prelude.{IsTrue}
+use Rattle.std.proofs.Math.Nat.{mul-le-mul_left}
+use Rattle.rand_core.specs.Stream.{Stream}
+use Rattle.tk_near.specs.Near.{NearLists}
+use Rattle.tk_stores.specs.ArrayTours.{order_of}
+use Rattle.tk_stores.specs.JournalTours.{slots_of}
+use Rattle.tk_tour.specs.Tour.{tour_length}
+use Rattle.tk_metric.specs.Cities.{city_at}
+use Rattle.tk_descent.specs.Awake.{woken_each}
+use Rattle.tk_descent.proofs.OfferLists.Count.{woken_each-le}
+use Rattle.tk_search.specs.Cuts.{end_places}
+use Rattle.tk_search.specs.declared.double_bridges.cuts.Cuts.{Cuts}
+use Rattle.tk_search.specs.Searching.{IsSearching}
+use Rattle.tk_search.specs.Settled.{IsAtBest}
+use Rattle.tk_search.specs.Totals.{AddsTrial, AreCountsOf, IsBounded, SettlesTrial}
+use Rattle.tk_search.specs.Trials.{IsTrial, IsBoundedTrial, IsKick, gain_of}
+use Rattle.tk_search.specs.declared.trials.descending.SearchRules.{SearchRules}
+use Rattle.tk_search.specs.declared.trials.state.State.{State}
+use Rattle.tk_search.specs.declared.trials.totals.TrialReport.{TrialReport}
+use Rattle.tk_search.proofs.SearchTrials.Bounds.{tests_first, tests_kicked, bounded_more}
+
+-- the same trial in other words
+pub trial_at : (dist : ℕ → ℕ → ℕ) (near : ℕ → List ℕ) (rules : SearchRules) (from from' awake awake' best new : List ℕ) (report : TrialReport) → from ≡ from' → awake ≡ awake' →
+    IsTrial dist near rules from awake best new report → IsTrial dist near rules from' awake' best new report
+trial_at dist near rules from from' awake awake' best new report ef ea h =
+    let P : List ℕ → Type 0 = λ v. IsTrial dist near rules v awake best new report in
+    let Q : List ℕ → Type 0 = λ v. IsTrial dist near rules from' v best new report in
+    subst Q ea (subst P ef h)
+
+-- the same kick in other words, at the same cuts
+pub kick_at : (best best' asleep asleep' tour awake : List ℕ) (words rest : Stream) (sweep : Bool) → best ≡ best' → asleep ≡ asleep' → (k : IsKick best words sweep asleep tour rest awake) →
+    (k' : IsKick best' words sweep asleep' tour rest awake) × (k'.cuts ≡ k.cuts)
+kick_at best best' asleep asleep' tour awake words rest sweep eb ea k =
+    let P : List ℕ → Type 0 = λ v. (k' : IsKick v words sweep asleep tour rest awake) × (k'.cuts ≡ k.cuts) in
+    let Q : List ℕ → Type 0 = λ v. (k' : IsKick best' words sweep v tour rest awake) × (k'.cuts ≡ k.cuts) in
+    subst Q ea (subst P eb (k, refl))
+
+-- the best tour after a trial is shorter, or the same
+pub shorter_best : (dist : ℕ → ℕ → ℕ) (near : ℕ → List ℕ) (rules : SearchRules) (from awake best new : List ℕ) (report : TrialReport) → IsTrial dist near rules from awake best new report →
+    report.better ≡ true → tour_length dist new < tour_length dist best
+shorter_best dist near rules from awake best new report h e =
+    let P : List ℕ → Type 0 = λ v. tour_length dist v < tour_length dist best in
+    let is : IsTrue report.better = grind (arith, e) in
+    subst P (sym (h.replaced e)) (h.better.0 is)
+
+pub same_best : (dist : ℕ → ℕ → ℕ) (near : ℕ → List ℕ) (rules : SearchRules) (from awake best new : List ℕ) (report : TrialReport) → IsTrial dist near rules from awake best new report →
+    report.better ≡ false → tour_length dist new ≡ tour_length dist best
+same_best dist near rules from awake best new report h e = ap (tour_length dist) (h.kept e)
+
+-- a kick wakes at most eight cities
+pub few_ends : (asleep awake xs : List ℕ) (n : ℕ) (cuts : Cuts) → asleep ≡ [] → awake ≡ woken_each asleep (map (city_at xs) (end_places n cuts)) → length awake ≤ 8
+few_ends asleep awake xs n cuts none e =
+    let le : length (woken_each asleep (map (city_at xs) (end_places n cuts))) ≤ length asleep + 8 = woken_each-le (map (city_at xs) (end_places n cuts)) asleep in
+    omega (arith, le, ap length e, ap length none)
+
+-- at most as much work with more cities awake
+pub more_awake : (n width awake more : ℕ) (rules : SearchRules) (report : TrialReport) → (rules.sweep ≡ false → awake ≤ more) → IsBoundedTrial n width awake rules report → IsBoundedTrial n width more rules report
+more_awake n width awake more rules report le h =
+    let c : ℕ = 4 * rules.or_segment * width in
+    let k : ℕ = 6 * report.descent.moves in
+    record {
+      moves = h.moves;
+      swaps = h.swaps;
+      passes = h.passes;
+      looks = λ o. omega (arith, h.looks o, le o);
+      tests = λ o.
+          let least : awake + k ≤ more + k = omega (arith, le o) in
+          let wide : c * (awake + k) ≤ c * (more + k) = mul-le-mul_left c least in
+          let x : report.descent.tests ≤ c * (awake + k) = h.tests o in
+          omega (arith, x, wide);
+      swept_looks = h.swept_looks;
+      swept_tests = h.swept_tests;
+    }
+
+-- what a trial leaves, by the state before it
+pub record Leaves (near : NearLists) (dist : ℕ → ℕ → ℕ) (rules : SearchRules) (s t : State) (awake kick swaps : ℕ) (report : TrialReport) : Type 0 where
+  pub size : length (order_of t.best) ≡ length (order_of s.best)
+  pub slots : slots_of t.tour ≡ slots_of s.tour
+  pub asleep : t.waking.queue ≡ []
+  pub waking : t.waking.size ≡ s.waking.size
+  pub at_best : IsAtBest t.tour t.best
+  pub shortest : t.shortest ≡ pos (tour_length dist (order_of t.best))
+  pub counts : AreCountsOf t.totals t.tour t.best
+  pub adds : AddsTrial s.totals t.totals report (gain_of report)
+  pub bounded : IsBoundedTrial (length (order_of s.best)) near.width awake rules report
+  pub swapped : t.totals.swaps ≤ s.totals.swaps + length (order_of s.best) + report.descent.swaps
+  pub settles : SettlesTrial (length (order_of s.best)) kick swaps s.totals t.totals report
+  pub few : kick ≤ 4
+  pub less : report.better ≡ true → tour_length dist (order_of t.best) < tour_length dist (order_of s.best)
+  pub same : report.better ≡ false → tour_length dist (order_of t.best) ≡ tour_length dist (order_of s.best)
+
+module _ (size : ℕ) (dist : ℕ → ℕ → ℕ) (near : NearLists) (rules : SearchRules) (s t : State) (awake kick swaps : ℕ) (report : TrialReport)
+    (h : IsSearching size dist near rules s) (k : Leaves near dist rules s t awake kick swaps report) where
+  bounded : (rules.sweep ≡ false → t.totals.tests ≤ 4 * rules.or_segment * near.width * (length (order_of s.best) + 8 * (t.totals.trials - 1) + 6 * t.totals.moves)) →
+      IsBounded (length (order_of s.best)) near.width rules (tour_length dist (order_of t.best)) t.totals
+  bounded tests =
+      bounded_more (length (order_of s.best)) near.width (tour_length dist (order_of s.best)) (tour_length dist (order_of t.best)) kick swaps rules s.totals t.totals report k.adds h.bounds
+      k.settles k.few k.swapped k.bounded k.less k.same tests
+
+  searches : (rules.sweep ≡ false → t.totals.tests ≤ 4 * rules.or_segment * near.width * (length (order_of s.best) + 8 * (t.totals.trials - 1) + 6 * t.totals.moves)) →
+      IsSearching size dist near rules t
+  searches tests =
+      let P : ℕ → Type 0 = λ v. IsBounded v near.width rules (tour_length dist (order_of t.best)) t.totals in
+      record {
+        cities = h.cities ∙ sym k.size;
+        lists = h.lists ∙ sym k.size;
+        queue = k.waking ∙ h.queue ∙ sym k.size;
+        asleep = k.asleep;
+        segment = h.segment;
+        at_best = k.at_best;
+        slots = k.slots ∙ h.slots ∙ sym k.size;
+        shortest = k.shortest;
+        counts = k.counts;
+        untried = λ e. absurd (omega (arith, e, k.adds.trials));
+        bounds = subst P (sym k.size) (bounded tests);
+      }
+
+  pub searches_first : s.totals.trials ≡ 0 → awake ≡ length (order_of s.best) → IsSearching size dist near rules t
+  searches_first none all =
+      let P : ℕ → Type 0 = λ v. report.descent.tests ≤ 4 * rules.or_segment * near.width * (v + 6 * report.descent.moves) in
+      searches (λ o. tests_first (length (order_of s.best)) near.width (tour_length dist (order_of s.best)) 0 kick swaps rules s.totals t.totals report k.adds h.bounds (h.untried none) (subst P all (k.bounded.tests o)))
+
+  pub searches_kicked : 1 ≤ s.totals.trials → awake ≡ 8 → IsSearching size dist near rules t
+  searches_kicked begun ends =
+      let P : ℕ → Type 0 = λ v. report.descent.tests ≤ 4 * rules.or_segment * near.width * (v + 6 * report.descent.moves) in
+      searches (λ o. tests_kicked (length (order_of s.best)) near.width (tour_length dist (order_of s.best)) 0 kick swaps rules s.totals t.totals report k.adds h.bounds begun (h.bounds.tests o) (subst P ends (k.bounded.tests o)))

@@ -1,0 +1,9 @@
+pub mod Cuts
+pub mod Descents
+pub mod Ending
+pub mod SearchLaws
+pub mod SearchOf
+pub mod Searching
+pub mod Settled
+pub mod Totals
+pub mod Trials

@@ -1,0 +1,60 @@
+-- The totals of a search.
+--     AddsTrial old new report gain      the totals after one more trial
+--     SettlesTrial n kick swaps old new report      what it undoes or copies
+--     AreCountsOf totals tour best      swaps and copies, as the tours count them
+--     IsBounded n width rules shortest totals      the bounds on the work of a search
+use Rattle.std.specs.Prelude.{◌≡◌, ℕ, ◌+◌, ◌-◌, ◌*◌, ◌/◌, ◌^◌, ◌<◌, ◌≤◌, pos, ◌≤ℤ◌, min, true, false, if◌then◌else◌}
+use Rattle.tk_stores.specs.ArrayTours.{swaps_of, undo_swaps_of, copied_of}
+use Rattle.tk_stores.specs.JournalTours.{tour_of}
+use Rattle.tk_stores.specs.declared.array.ArrayTour.{ArrayTour}
+use Rattle.tk_stores.specs.declared.journal.JournalTour.{JournalTour}
+use Rattle.tk_search.specs.declared.trials.descending.SearchRules.{SearchRules}
+use Rattle.tk_search.specs.declared.trials.totals.Totals.{Totals}
+use Rattle.tk_search.specs.declared.trials.totals.TrialReport.{TrialReport}
+
+-- a count of 128 bits, or its greatest value where the count is greater: there it stands still
+abbrev pub capped : ℕ → ℕ
+capped count = min count (2 ^ 128 - 1)
+
+-- one more trial, in which the tour became shorter by `gain`
+pub record AddsTrial (old new : Totals) (report : TrialReport) (gain : ℕ) : Type 0 where
+  pub start : new.start ≡ old.start
+  pub trials : new.trials ≡ capped (old.trials + 1)
+  pub better : new.better ≡ capped (old.better + (if report.better then 1 else 0))
+  pub moves : new.moves ≡ capped (old.moves + report.descent.moves)
+  pub gained : new.gained ≡ capped (old.gained + gain)
+  pub tests : new.tests ≡ capped (old.tests + report.descent.tests)
+  pub passes : new.passes ≡ capped (old.passes + report.passes)
+
+-- a count rises by so much, as long as it is below 2^64 - 1: there a counter of 64 bits stands still
+pub record RisesBy (more old new : ℕ) : Type 0 where
+  pub most : new ≤ old + more
+  pub exact : new < 2 ^ 64 - 1 → new ≡ old + more
+
+-- What a trial on n cities undoes or copies after its flips: `kick` of them, and at most three for each move, with so many swaps in all.
+-- A better result is copied to the best. Else the flips are undone by as many swaps again, or where they are more than n the best is copied
+-- back, and nothing else is undone or copied.
+pub record SettlesTrial (n kick swaps : ℕ) (old new : Totals) (report : TrialReport) : Type 0 where
+  pub flips : ℕ
+  pub made : (kick ≤ flips) × (flips ≤ kick + 3 * report.descent.moves)
+  pub taken : report.better ≡ true → (new.undo_swaps ≡ old.undo_swaps) × RisesBy n old.copied new.copied
+  pub undone : report.better ≡ false → flips ≤ n → (new.swaps < 2 ^ 64 - 1 → new.undo_swaps ≡ old.undo_swaps + swaps) × (new.copied ≡ old.copied)
+  pub restored : report.better ≡ false → n < flips → (new.undo_swaps ≡ old.undo_swaps) × RisesBy n old.copied new.copied
+  pub limits : (new.swaps < 2 ^ 64) × (new.undo_swaps ≤ new.swaps) × (new.copied < 2 ^ 65)
+
+-- the swaps and the copies of a search are those of its tours, and no more swaps were undone than made
+pub record AreCountsOf (totals : Totals) (tour : JournalTour) (best : ArrayTour) : Type 0 where
+  pub swaps : totals.swaps ≡ swaps_of (tour_of tour)
+  pub undo_swaps : totals.undo_swaps ≡ undo_swaps_of (tour_of tour)
+  pub copied : totals.copied ≡ copied_of (tour_of tour) + copied_of best
+  pub undone : totals.undo_swaps ≤ totals.swaps
+
+-- The work of a search on n cities with near lists of that width; the best tour has the length `shortest`.
+pub record IsBounded (n width : ℕ) (rules : SearchRules) (shortest : ℕ) (t : Totals) : Type 0 where
+  pub tests : rules.sweep ≡ false → t.tests ≤ 4 * rules.or_segment * width * (n + 8 * (t.trials - 1) + 6 * t.moves)
+  pub swept : rules.sweep ≡ true → t.tests ≤ 4 * rules.or_segment * width * (n * t.passes + 6 * t.moves)
+  pub swaps : t.swaps ≤ 3 * (n / 4) * t.moves + n * t.trials
+  pub undo_swaps : t.undo_swaps ≤ t.swaps
+  pub moves : t.moves ≤ t.gained
+  pub better : pos (shortest + t.better) ≤ℤ t.start
+  pub copied : t.copied ≤ n * t.better + 3 * (t.moves + t.trials)

@@ -1,0 +1,52 @@
+//! Where a kick cuts a tour.
+ghost use Rattle.std.specs.Prelude.{◌≡◌, ◌≤◌, length, map};
+ghost use Rattle.rand_core.specs.Stream.{Stream};
+ghost use Rattle.tk_metric.specs.Cities.{city_at};
+ghost use Rattle.tk_search.specs.Cuts.{AreCuts, drawn_cuts, end_places};
+
+use rand::RngExt;
+use rand_core::Rng;
+use tk_tour::TourStore;
+
+/// Three cuts of a tour of n cities, which make four parts of it: the first `p` places, those on to `q`, those on to `r`, and the others.
+#[derive(Clone, Copy, PartialEq, Eq, Debug)]
+pub struct Cuts {
+    /// How many cities the first part has.
+    pub p: u32,
+    /// How many cities the first two parts have.
+    pub q: u32,
+    /// How many cities the first three parts have.
+    pub r: u32,
+}
+
+impl Cuts {
+    /// Draws the three cuts one after another, each among those that leave a city for every part after it.
+    pub fn draw<R: Rng>(rng: &mut R, n: u32) -> Cuts
+        requires { 8 ≤ n }
+        ensures cuts { AreCuts n result }
+        ensures drawn { (result, R.stream rng.new) ≡ drawn_cuts n (R.stream rng.old) }
+    {
+        let p = rng.random_range(1..=n - 3);
+        let q = rng.random_range(p + 1..=n - 2);
+        let r = rng.random_range(q + 1..=n - 1);
+        Cuts { p, q, r }
+    }
+
+    /// The first and the last city of each part, in their order.
+    pub fn ends<S: TourStore>(&self, store: &S) -> [u32; 8]
+        requires { AreCuts (length (S.cities store.now)) self.now }
+        ensures { result ≡ map (city_at (S.cities store.now)) (end_places (length (S.cities store.now)) self.now) }
+    {
+        let n = store.size();
+        [
+            store.at(1),
+            store.at(self.p),
+            store.at(self.p + 1),
+            store.at(self.q),
+            store.at(self.q + 1),
+            store.at(self.r),
+            store.at(self.r + 1),
+            store.at(n),
+        ]
+    }
+}

@@ -1,0 +1,97 @@
+//! What a search counts.
+ghost use Rattle.std.specs.Prelude.{◌≡◌, ◌<◌, ◌^◌};
+
+use tk_descent::Report;
+use tk_stores::{ArrayTour, JournalTour};
+use tk_tour::TourStore;
+
+/// What a trial of a search did.
+#[derive(Clone, Copy)]
+pub struct TrialReport {
+    /// Whether the descent began with a kick of the best tour.
+    pub kicked: bool,
+    /// Whether its result became the best tour.
+    pub better: bool,
+    /// How many passes the descent made: one where it was not swept.
+    pub passes: u64,
+    /// The descent.
+    pub descent: Report,
+}
+
+/// What a search did so far. A count that would pass its type's greatest value stands still there.
+#[derive(Clone, Copy, PartialEq, Eq, Debug)]
+pub struct Totals {
+    /// The length of the tour that the search began with.
+    pub start: i64,
+    /// How many trials there were.
+    pub trials: u128,
+    /// How many of them found a better tour.
+    pub better: u128,
+    /// The moves of all descents.
+    pub moves: u128,
+    /// What all descents together made their tours shorter by.
+    pub gained: u128,
+    /// The gains that all descents computed.
+    pub tests: u128,
+    /// The swaps of two cities that the flips of kicks and descents took.
+    pub swaps: u128,
+    /// The swaps that undid flips of them.
+    pub undo_swaps: u128,
+    /// The cities that were copied to the best tour, and from it.
+    pub copied: u128,
+    /// The passes of all descents.
+    pub passes: u128,
+}
+
+impl Totals {
+    ghost use Rattle.tk_search.specs.Totals.{AddsTrial, AreCountsOf};
+
+    /// The totals of a search from a tour of this length, before its first trial.
+    pub(crate) fn new(start: i64) -> Totals
+        ensures start { result.start ≡ start }
+        ensures none { (result.trials ≡ 0) × (result.better ≡ 0) × (result.moves ≡ 0) × (result.gained ≡ 0)
+            × (result.tests ≡ 0) × (result.swaps ≡ 0) × (result.undo_swaps ≡ 0) × (result.copied ≡ 0)
+            × (result.passes ≡ 0) }
+    {
+        Totals {
+            start,
+            trials: 0,
+            better: 0,
+            moves: 0,
+            gained: 0,
+            tests: 0,
+            swaps: 0,
+            undo_swaps: 0,
+            copied: 0,
+            passes: 0,
+        }
+    }
+
+    /// The totals with one more trial, whose tour gained that much; swaps and copies as the tours count them.
+    pub(crate) fn with_trial(
+        self,
+        report: &TrialReport,
+        gained: u64,
+        tour: &JournalTour,
+        best: &ArrayTour,
+    ) -> Totals
+        ensures adds { AddsTrial self result report.now gained }
+        ensures counts { AreCountsOf result tour.now best.now }
+        ensures small { (result.swaps < 2 ^ 64) × (result.copied < 2 ^ 65) }
+    {
+        let descent = &report.descent;
+        let now = tour.tour();
+        Totals {
+            start: self.start,
+            trials: self.trials.saturating_add(1),
+            better: self.better.saturating_add(u128::from(report.better)),
+            moves: self.moves.saturating_add(u128::from(descent.moves)),
+            gained: self.gained.saturating_add(u128::from(gained)),
+            tests: self.tests.saturating_add(u128::from(descent.tests)),
+            swaps: u128::from(tour.swaps()),
+            undo_swaps: u128::from(now.undo_swaps()),
+            copied: u128::from(now.copied()) + u128::from(best.copied()),
+            passes: self.passes.saturating_add(u128::from(report.passes)),
+        }
+    }
+}

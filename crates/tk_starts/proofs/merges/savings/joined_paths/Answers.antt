@@ -1,0 +1,52 @@
+use Rattle.std.proofs.Common.{[], get_or, refl, sym, ◌∙◌, arith}
+use Rattle.tk_starts.specs.PathEnds.{at}
+use Rattle.tk_starts.specs.declared.merges.pairs.Pair.{Pair}
+use Rattle.tk_starts.proofs.Merging.PairsMerged.{AreEnds-single, IsTaken-from, taken_step, left_step, going_ends}
+use Rattle.tk_starts.proofs.merges.savings.joined_paths.Goals as goal
+use Rattle.tk_starts.proofs.merges.savings.joined_paths.Goals.{then-may_join, else-may_join}
+
+none : Pair
+none = record { saving = record { 0 = 0 }; i = 0; j = 0 }
+
+pub loop-pair-init : goal.loop-pair-init
+loop-pair-init c =
+    let p = c.in_ok-paths.paths in
+    record {
+      sizes = c.in_ok-paths.ensures.sizes;
+      joined = ([], refl, AreEnds-single _ _ (at p.one.items) (at p.two.items) (at p.other.items) (at p.load.items) c.in_ok-paths.ensures.single);
+    }
+
+pub join-requires-clause-ends : goal.join-requires-clause-ends
+unfolding none
+join-requires-clause-ends c =
+    let p = c.loop-pair.paths in
+    let w = c.requires.within c.loop-pair.pair-index none c.loop-pair-test.true in
+    let t = IsTaken-from _ _ _ (at p.one.items) (at p.two.items) (at p.other.items) (at p.load.items) c.loop-pair.invariant.joined.2 (get_or c.args.pairs.now c.loop-pair.pair-index none) w.0 w.1 w.2 c.args.capacity (sym c.if-may_join.ensures) in
+    (omega (arith, t.far.0, c.loop-pair.invariant.sizes.0), omega (arith, t.far.1, c.loop-pair.invariant.sizes.0), t.far.2)
+
+pub loop-pair-preserved : goal.loop-pair-preserved
+unfolding none
+loop-pair-preserved c =
+    let p = c.loop-pair.paths in
+    let w = c.requires.within c.loop-pair.pair-index none c.loop-pair-test.true in
+    let z = c.loop-pair.invariant.sizes in
+    elim c.if-may_join.branch [
+      | then-may_join b ↦
+          let q = b.join.new.self in
+          rw b.paths-is (record {
+            sizes = (b.join.ensures.sizes.0 ∙ z.0, b.join.ensures.sizes.1 ∙ z.0, b.join.ensures.sizes.2 ∙ z.0, b.join.ensures.sizes.3 ∙ z.0);
+            joined = taken_step _ _ c.args.capacity c.args.pairs.now c.loop-pair.pair-index none (at p.one.items) (at p.two.items) (at p.other.items) (at p.load.items) (at q.one.items) (at q.two.items) (at q.other.items) (at q.load.items)
+                c.loop-pair-test.true w b.if-may_join.ensures b.join.ensures.linked b.join.ensures.far b.join.ensures.heavy c.loop-pair.invariant.joined;
+          })
+      | else-may_join b ↦
+          rw b.paths-is (record {
+            sizes = z;
+            joined = left_step _ _ c.args.capacity c.args.pairs.now c.loop-pair.pair-index none (at p.one.items) (at p.two.items) (at p.other.items) (at p.load.items)
+                c.loop-pair-test.true w b.if-may_join.ensures c.loop-pair.invariant.joined;
+          })
+    ]
+
+pub returns-clause-joined : goal.returns-clause-joined
+returns-clause-joined c =
+    let p = c.loop-pair.paths in
+    going_ends _ _ c.args.capacity c.args.pairs.now c.loop-pair.pair-index (at p.one.items) (at p.two.items) (at p.other.items) (at p.load.items) c.loop-pair-test.false c.loop-pair.invariant.joined

@@ -1,0 +1,91 @@
+//! The savings merges.
+ghost use Rattle.std.specs.Prelude.{◌≡◌, ℕ, ◌+◌, ◌≤◌, IfOk, List, [], length, vec_len, map, replicate, ◌∷◌};
+ghost use Rattle.std.specs.List.{All, flat_map, sum_by};
+ghost use Rattle.tk_metric.specs.Cities.{IsCity};
+ghost use Rattle.tk_near.specs.Near.{near_of};
+ghost use Rattle.tk_tour.specs.Tour.{IsTour};
+ghost use Rattle.tk_starts.specs.SavingsMerges.{AreSavingsLists, AreLight};
+ghost use Rattle.tk_starts.specs.PathEnds.{AreJoined, load_of, IsWithin};
+ghost use Rattle.tk_starts.specs.Joints.{joints};
+
+use crate::merges::pairs::{Pair, candidate_pairs};
+use crate::merges::paths::Paths;
+use std::alloc::{AllocError, Global};
+use tk_metric::Metric;
+use tk_near::Near;
+
+/// The paths of the joints among the pairs, taken in their order.
+fn joined_paths(
+    alloc: Global,
+    loads: &[u32],
+    capacity: u64,
+    pairs: &[Pair],
+) -> Result<Paths, AllocError>
+    requires limit { length loads.now ≤ 100000 }
+    requires within { All (IsWithin (length loads.now)) pairs.now }
+    ensures sizes { IfOk result (λ p. (vec_len p.one ≡ length loads.now + 1) × (vec_len p.two ≡ length loads.now + 1)
+        × (vec_len p.other ≡ length loads.now + 1) × (vec_len p.load ≡ length loads.now + 1)) }
+    ensures joined { IfOk result (λ p. AreJoined (length loads.now) (load_of loads.now) (joints (load_of loads.now) (length loads.now) capacity [] pairs.now) p.one.items p.two.items p.other.items p.load.items) }
+{
+    let mut paths = Paths::new(alloc, loads)?;
+    for pair in pairs {
+        if paths.may_join(pair, capacity) {
+            paths.join(pair.i, pair.j);
+        }
+    }
+    Ok(paths)
+}
+
+/// The lists of the savings merges round a hub: each other city begins as a list of its own, and the pairs of near cities
+/// join lists at their ends, the greatest saving first, as long as the joint load is at most the capacity. Each list
+/// begins at its lesser end, and the lists are ordered by first city.
+///
+/// # Errors
+/// `AllocError` where there is no memory for the pairs, the paths or the lists.
+pub fn savings_lists<M: Metric>(
+    alloc: Global,
+    metric: &M,
+    hub: u32,
+    loads: &[u32],
+    capacity: u64,
+    near: &Near,
+) -> Result<Vec<Vec<u32>>, AllocError>
+    requires hub { IsCity (M.size_of metric.now) hub }
+    requires size { near.now.size ≡ M.size_of metric.now }
+    requires loads { length loads.now ≡ M.size_of metric.now }
+    ensures lists { IfOk result (λ v. AreSavingsLists (M.distance metric.now) (near_of near.now) (M.size_of metric.now) hub (load_of loads.now) capacity (map (λ x. x.items) v.items)) }
+    ensures once { IfOk result (λ v. IsTour (M.size_of metric.now) (hub ∷ flat_map (λ x. x.items) v.items)) }
+    ensures filled { IfOk result (λ v. All (λ list. 1 ≤ length list.items) v.items) }
+    ensures within { AreLight (M.size_of metric.now) hub (load_of loads.now) capacity
+        → IfOk result (λ v. All (λ list. sum_by (load_of loads.now) list.items ≤ capacity) v.items) }
+{
+    let pairs = candidate_pairs(alloc, metric, hub, near)?;
+    let paths = joined_paths(alloc, loads, capacity, &pairs)?;
+    let lists = paths.lists(alloc, hub)?;
+    Ok(lists)
+}
+
+/// City 1 followed by the lists of the savings merges with hub 1 and without loads: a tour of all cities.
+///
+/// # Errors
+/// `AllocError` where there is no memory for the merges or the tour.
+pub fn savings_tour<M: Metric>(
+    alloc: Global,
+    metric: &M,
+    near: &Near,
+) -> Result<Vec<u32>, AllocError>
+    requires some { 1 ≤ M.size_of metric.now }
+    requires size { near.now.size ≡ M.size_of metric.now }
+    ensures lists { IfOk result (λ v. (lists : List (List ℕ))
+        × (AreSavingsLists (M.distance metric.now) (near_of near.now) (M.size_of metric.now) 1 (load_of (replicate (M.size_of metric.now) 0)) 0 lists × (v.items ≡ 1 ∷ flat_map (λ x. x) lists))) }
+    ensures tour { IfOk result (λ v. IsTour (M.size_of metric.now) v.items) }
+{
+    let loads = vec![in alloc; 0; metric.size() as usize]?;
+    let lists = savings_lists(alloc, metric, 1, &loads, 0, near)?;
+    let mut tour = Vec::new(alloc);
+    tour.push(1)?;
+    for list in &lists {
+        tour.extend_from_slice(list)?;
+    }
+    Ok(tour)
+}

@@ -1,0 +1,60 @@
+//! The nearest-neighbour tour by a tree of the cities that are left.
+ghost use Rattle.std.specs.Prelude.{◌≡◌, IfOk, MatchOption};
+ghost use Rattle.tk_metric.specs.Cities.{IsCity};
+ghost use Rattle.tk_plane.specs.Sweep.{IsPlaced};
+ghost use Rattle.tk_plane.specs.Tree.{AreApart, IsTakenOut, Stands};
+ghost use Rattle.tk_tour.specs.Tour.{IsTour};
+ghost use Rattle.tk_starts.specs.NearestTour.{IsNearestTour};
+ghost use Rattle.tk_starts.specs.Unvisited.{AreAllVisited, IsFirstLeft};
+
+use std::alloc::{AllocError, Global};
+use tk_metric::Planar;
+use tk_plane::{Left, Placed};
+
+/// A city with its place.
+fn placed<P: Planar>(metric: &P, city: u32) -> Placed
+    requires { IsCity (P.size_of metric.now) city }
+    ensures city { result.city ≡ city }
+    ensures placed { IsPlaced (P.size_of metric.now) (P.place_of metric.now) result }
+{
+    let place = metric.place(city);
+    Placed { place, city }
+}
+
+/// Takes a city out, and tells the first of those that are left then, if any, by (distance, number).
+fn visit<P: Planar>(left: &mut Left, metric: &P, here: Placed) -> Option<u32>
+    requires here { IsPlaced (P.size_of metric.now) (P.place_of metric.now) here }
+    requires apart { AreApart (P.size_of metric.now) (P.place_of metric.now) left.old }
+    requires left { Stands left.old here.city }
+    ensures taken { IsTakenOut here left.old left.new }
+    ensures apart { AreApart (P.size_of metric.now) (P.place_of metric.now) left.new }
+    ensures first { MatchOption result (AreAllVisited (P.size_of metric.now) left.new)
+        (λ b. IsFirstLeft (P.distance metric.now) (P.size_of metric.now) left.new here.city b) }
+{
+    left.take(here);
+    left.first(metric, here)
+}
+
+/// The tour of `nearest`, by a k-d tree of the cities that are left: each next city is found in it, and then taken out.
+///
+/// # Errors
+/// `AllocError` where there is no memory for the n cities and their tree.
+pub fn nearest_tree<P: Planar>(
+    alloc: Global,
+    metric: &P,
+    start: u32,
+) -> Result<Vec<u32>, AllocError>
+    requires { IsCity (P.size_of metric.now) start }
+    ensures nearest { IfOk result (λ v. IsNearestTour (P.distance metric.now) (P.size_of metric.now) start v.items) }
+    ensures tour { IfOk result (λ v. IsTour (P.size_of metric.now) v.items) }
+{
+    let mut left = Left::all(alloc, metric)?;
+    let mut cities = Vec::with_capacity(alloc, metric.size() as usize)?;
+    cities.push(start)?;
+    let mut here = placed(metric, start);
+    while let Some(city) = visit(&mut left, metric, here) {
+        cities.push(city)?;
+        here = placed(metric, city);
+    }
+    Ok(cities)
+}

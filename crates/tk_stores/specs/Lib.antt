@@ -1,0 +1,4 @@
+pub mod ArrayTours
+pub mod Journal
+pub mod JournalTours
+pub mod Printed
