@@ -7,7 +7,7 @@ use Rattle.std.proofs.lemmas.Bool.Decides.{nat_tests}
 use Rattle.std.proofs.lemmas.Bool.{cases_lt, cases_eq}
 use Rattle.std.proofs.lemmas.List.{length-take-le, take_all, take_more, get_or_default}
 use Rattle.std.proofs.Math.Seq.{take-suc}
-use Rattle.std.proofs.lemmas.List.Elements.{All-cons, All-nil, All-weaker, All-head, All-tail}
+use Rattle.std.proofs.lemmas.List.Elements.{All-append, All-cons, All-nil, All-weaker, All-head, All-tail}
 use Rattle.std.specs.List.{swap_remove}
 use Rattle.std.proofs.lemmas.List.Sorted.{All-permutation, IsPermutation-swap_remove, IsPermutation-trans, IsPermutation-append_left, IsPermutation-append_right, IsPermutation-to_front}
 use Rattle.tk_problem.specs.declared.point.Point.{Point}
@@ -278,10 +278,12 @@ pub part_from : (dist : ℕ → ℕ → ℕ) (n : ℕ) (place_of : ℕ → Point
     → ((p : Placed) → IsPlaced n place_of p → IsWithin frame p → IsFrom dist c first p) → All (IsPlaced n place_of) ps → All (IsWithin frame) ps → All (IsFrom dist c first) ps
 part_from dist n place_of c frame first ps from placed within = λ k d l. from (get_or ps k d) (placed k d l) (within k d l)
 
--- the cities of a planted part stand in the box that was found before they were moved
-pub planted_within : (frame : Frame) (before after : List Placed) (tree value : Tree) → All (IsWithin frame) before → IsPermutation before after → entries_of tree ≡ after → value ≡ tree → All (IsWithin frame) (entries_of value)
-planted_within frame before after tree value all moved entries boxed =
-    subst (λ (v : Tree). All (IsWithin frame) (entries_of v)) (sym boxed) (subst (All (IsWithin frame)) (sym entries) (All-permutation (IsWithin frame) before after moved all))
+-- what stands in either of two boxes stands in a box round both
+pub joined_within : (lower upper whole : Frame) (xs ys : List Placed)
+    → ((p : Placed) → IsWithin lower p → IsWithin whole p) → ((p : Placed) → IsWithin upper p → IsWithin whole p)
+    → All (IsWithin lower) xs → All (IsWithin upper) ys → All (IsWithin whole) (xs ++ ys)
+joined_within lower upper whole xs ys first second lows highs =
+    All-append (IsWithin whole) xs ys (All-weaker (IsWithin lower) (IsWithin whole) first xs lows) (All-weaker (IsWithin upper) (IsWithin whole) second ys highs)
 
 module _ (dist : ℕ → ℕ → ℕ) (c : ℕ) (lower upper tree s t : Tree) (first mid last : List Candidate) where
   pub seen_both : entries_of tree ≡ entries_of lower ++ entries_of upper → s ≡ lower → t ≡ upper → mid ≡ with_cities dist c (entries_of s) first → last ≡ with_cities dist c (entries_of t) mid → last ≡ with_cities dist c (entries_of tree) first

@@ -16,6 +16,9 @@ use tk_near::{Candidate, Near, OPEN, keep_among, measure, write_cities};
 /// At most so many cities stand in a leaf.
 const LEAF: usize = 8;
 
+/// About so many cities of a row tell whether it takes more room in y than in x.
+const SAMPLE: usize = 16;
+
 /// The most that two places differ in a coordinate.
 const WIDEST: u64 = 2_000_000_000_000_000_000;
 
@@ -164,27 +167,39 @@ pub fn frame_of(row: &[Placed]) -> Frame
     frame
 }
 
-/// The tree of these cities, which are put in its order.
-fn plant(alloc: Global, row: &mut [Placed], frame: Frame) -> Result<Tree, AllocError>
+/// Whether a row takes more room in y than in x, as far as some of its cities tell. It has no contract: another answer costs
+/// time alone.
+fn is_tall(row: &[Placed]) -> bool {
+    let mut frame = NOTHING;
+    for part in row.chunks(row.len() / SAMPLE + 1) {
+        if let Some(p) = part.first() {
+            frame = frame.widened(*p);
+        }
+    }
+    frame.is_tall()
+}
+
+/// The tree of these cities, which are put in its order, and their box.
+fn plant(alloc: Global, row: &mut [Placed]) -> Result<(Tree, Frame), AllocError>
     ensures moved { IfOk result (λ _. IsPermutation row.old row.new) }
-    ensures entries { IfOk result (λ t. entries_of t ≡ row.new) }
-    ensures framed { IfOk result (λ t. IsFramed t) }
+    ensures entries { IfOk result (λ r. entries_of r.0 ≡ row.new) }
+    ensures framed { IfOk result (λ r. IsFramed r.0) }
+    ensures within { IfOk result (λ r. All (IsWithin r.1) (entries_of r.0)) }
 {
     if row.len() <= LEAF {
         let mut leaf = Vec::with_capacity(alloc, row.len())?;
         leaf.extend_from_slice(row)?;
-        return Ok(Tree::Leaf(leaf));
+        return Ok((Tree::Leaf(leaf), frame_of(row)));
     }
-    halve(row, frame.is_tall());
-    let middle = row.len() / 2;
-    let (lower, upper) = row.split_at_mut(middle);
-    let lower_frame = frame_of(lower);
-    let upper_frame = frame_of(upper);
-    let lower_tree = plant(alloc, lower, lower_frame)?;
-    let upper_tree = plant(alloc, upper, upper_frame)?;
+    halve(row, is_tall(row));
+    let (lower, upper) = row.split_at_mut(row.len() / 2);
+    let (lower_tree, lower_frame) = plant(alloc, lower)?;
+    let (upper_tree, upper_frame) = plant(alloc, upper)?;
     let lower_box = Box::new(alloc, lower_tree)?;
     let upper_box = Box::new(alloc, upper_tree)?;
-    Ok(Tree::Cut(lower_frame, lower_box, upper_frame, upper_box))
+    let frame = lower_frame.joined(upper_frame);
+    let tree = Tree::Cut(lower_frame, lower_box, upper_frame, upper_box);
+    Ok((tree, frame))
 }
 
 /// The cities of a metric in the order of a tree, and that tree.
@@ -197,8 +212,7 @@ pub fn planted<P: Planar>(alloc: Global, m: &P) -> Result<(Vec<Placed>, Tree), A
     ensures framed { IfOk result (λ r. IsFramed r.1) }
 {
     let mut row = row_of(alloc, m)?;
-    let frame = frame_of(&row);
-    let tree = plant(alloc, &mut row, frame)?;
+    let (tree, _) = plant(alloc, &mut row)?;
     Ok((row, tree))
 }
 

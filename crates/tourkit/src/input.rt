@@ -4,9 +4,7 @@ use std::fs::File;
 use std::io::{self, Read, Stdin};
 use std::os::fd::AsFd;
 use std::process::ExitCode;
-
-/// The name of standard input.
-pub const STANDARD: &str = "-";
+use tk_command_line::STANDARD;
 
 /// An input file that is open, or standard input.
 #[derive(Drop)]

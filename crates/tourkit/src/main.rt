@@ -1,9 +1,10 @@
 //! `tourkit`: symmetric travelling salesman problems and tours, read alike and checked.
 #![tactic(auto)]
 
+ghost use Rattle.tk_command_line.specs.Asking.{IsMeant};
+
 mod check_command;
 mod checksol_command;
-mod command;
 mod input;
 mod matrix_command;
 mod near_command;
@@ -13,10 +14,9 @@ mod progress;
 mod report;
 mod solve_command;
 
-use clap::ArgMatches;
-use report::USAGE;
 use std::io::ErrorKind;
 use std::process::ExitCode;
+use tk_command_line::{Asked, parse};
 
 /// Reads the program's words, and runs what they ask for.
 fn main(rt: HostRuntime) -> ExitCode {
@@ -25,33 +25,25 @@ fn main(rt: HostRuntime) -> ExitCode {
         Err(error) if error.kind() == ErrorKind::OutOfMemory => return report::no_memory(&rt),
         Err(_) => return report::not_text(&rt),
     };
-    match words {
-        Ok(words) => parse(&rt, words.as_slice()),
-        Err(_) => report::no_memory(&rt),
-    }
-}
-
-/// Runs the subcommand that the words name, or shows what is wrong with them.
-fn parse(rt: &HostRuntime, words: &[String]) -> ExitCode {
-    let matches = match command::tourkit(rt.alloc()) {
-        Ok(command) => command.try_get_matches_from(words),
-        Err(error) => Err(error),
+    let Ok(words) = words else {
+        return report::no_memory(&rt);
     };
-    match matches {
-        Ok(matches) => run(rt, &matches),
-        Err(error) => report::refused(rt, &error),
+    match parse(&rt, words.as_slice()) {
+        Ok(asked) => run(&rt, asked),
+        Err(refusal) => report::refused(&rt, refusal),
     }
 }
 
 /// Runs a subcommand.
-fn run(rt: &HostRuntime, matches: &ArgMatches<'_>) -> ExitCode {
-    match matches.subcommand() {
-        Some(("check", words)) => check_command::run(rt, words),
-        Some(("checksol", words)) => checksol_command::run(rt, words),
-        Some(("matrix", words)) => matrix_command::run(rt, words),
-        Some(("near", words)) => near_command::run(rt, words),
-        Some(("plot", words)) => plot_command::run(rt, words),
-        Some(("solve", words)) => solve_command::run(rt, words),
-        _ => ExitCode::from(USAGE),
+fn run(rt: &HostRuntime, asked: Asked<'_>) -> ExitCode
+    requires { IsMeant asked }
+{
+    match asked {
+        Asked::Check { problem, tour } => check_command::run(rt, problem, tour),
+        Asked::Checksol { problem, solution } => checksol_command::run(rt, problem, solution),
+        Asked::Matrix { problem, format } => matrix_command::run(rt, problem, format),
+        Asked::Near { problem, count } => near_command::run(rt, problem, count),
+        Asked::Plot { problem, claim } => plot_command::run(rt, problem, claim),
+        Asked::Solve { parameters } => solve_command::run(rt, parameters),
     }
 }

@@ -1,9 +1,6 @@
 //! The subcommand `plot`.
-use crate::command::{problem_file, twice_standard};
-use crate::input::{Input, STANDARD, open, open_two};
-use crate::report::{self, FOUND, USAGE};
-use clap::{Arg, ArgMatches, Command, Error};
-use std::alloc::Global;
+use crate::input::{Input, open, open_two};
+use crate::report::{self, FOUND};
 use std::process::ExitCode;
 use tk_engines::Fault;
 use tk_plot::{Plotted, plot_engine};
@@ -11,45 +8,11 @@ use tk_routes::RouteVerdict;
 use tk_text::{FromRead, Source, ToWrite};
 use tk_tour::Verdict;
 
-/// What `plot --help` ends with.
-const HELP: &str = "Reads PROBLEM and CLAIM, one of which may be - for standard input.
-Prints a picture as SVG: the cities, the tour or the routes, and the depot of a CVRP.
-CLAIM is checked first. If it is not a tour of PROBLEM, or has no valid routes of it, nothing is drawn,
-and standard error has what check or checksol would print.
-
-Exit status:
-  0  the picture was printed
-  1  CLAIM is not a tour of PROBLEM, or has no valid routes of it
-  2  the arguments are wrong, a file is invalid, or PROBLEM has explicit distances in place of coordinates
-  3  a file cannot be read, output cannot be written, or memory has run out
-
-Example:
-  tourkit plot examples/tri.tsp examples/tri.tour >tri.svg";
-
-/// The words of `plot`.
-pub fn plot<'a>(alloc: Global) -> Result<Command<'a>, Error> {
-    let claim = Arg::new(alloc, "CLAIM").help(
-        "a TSPLIB tour file, or a CVRPLIB solution file if PROBLEM is a CVRP, or - for standard input",
-    );
-    let made = Command::new(alloc, "plot")
-        .about("Draws a problem, and a tour or routes of it, as SVG")
-        .after_help(HELP)
-        .arg(problem_file(alloc))?
-        .arg(claim)?;
-    Ok(made)
-}
-
 /// `plot PROBLEM [CLAIM]`. Both files are opened before either is read.
-pub fn run(rt: &HostRuntime, words: &ArgMatches<'_>) -> ExitCode {
-    let Some(problem_file) = words.get_str("PROBLEM") else {
-        return ExitCode::from(USAGE);
-    };
-    let Some(claim_file) = words.get_str("CLAIM") else {
+pub fn run(rt: &HostRuntime, problem_file: &str, claim_file: Option<&str>) -> ExitCode {
+    let Some(claim_file) = claim_file else {
         return plot_alone(rt, problem_file);
     };
-    if problem_file == STANDARD && claim_file == STANDARD {
-        return twice_standard(rt, plot(rt.alloc()), "tourkit plot");
-    }
     match open_two(rt, problem_file, claim_file) {
         Ok((problem, claim)) => draw(
             rt,

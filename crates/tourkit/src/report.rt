@@ -1,8 +1,7 @@
 //! What standard error and the exit status tell.
-use clap::Error;
-use clap::error::ErrorKind;
 use std::io;
 use std::process::ExitCode;
+use tk_command_line::Refusal;
 use tk_engines::Fault;
 use tk_params::{Key, ParamFault, ParamKind};
 use tk_text::{TextFault, TextKind};
@@ -17,14 +16,12 @@ pub const USAGE: u8 = 2;
 /// A file could not be opened, read or written, or there was no memory.
 pub const SYSTEM: u8 = 3;
 
-/// Shows help, the version, or what is wrong with the words.
-pub fn refused(rt: &HostRuntime, error: &Error) -> ExitCode {
-    if error.kind() == ErrorKind::OutOfMemory {
-        return no_memory(rt);
-    }
-    match error.print(rt) {
-        Ok(()) => ExitCode::from(error.exit_code() as u8),
-        Err(_) => write_fault(rt),
+/// Ends with what came of words that were refused.
+pub fn refused(rt: &HostRuntime, refusal: Refusal) -> ExitCode {
+    match refusal {
+        Refusal::NoMemory => no_memory(rt),
+        Refusal::Unwritten => write_fault(rt),
+        Refusal::Told(status) => ExitCode::from(status),
     }
 }
 

@@ -1,46 +1,15 @@
 //! The subcommand `solve`.
 use crate::input::open;
-use crate::output;
 use crate::progress::ProgressLine;
-use crate::report::{self, USAGE};
-use clap::{Arg, ArgMatches, Command, Error};
-use std::alloc::Global;
+use crate::{output, report};
 use std::fs::File;
 use std::process::ExitCode;
 use tk_engines::{Fault, solve_engine};
 use tk_params::{Params, read_params};
 use tk_text::{FromRead, Source, ToWrite};
 
-/// What `solve --help` ends with.
-const HELP: &str = "Reads PAR, and the problem and the initial tour that it names.
-Prints a line for each run and the best length, or the costs of the routes of a CVRP.
-Writes the best tour to TOUR_FILE, or the routes to SOLUTION_FILE, if PAR names one.
-
-Exit status:
-  0  the search is done
-  2  the arguments are wrong, a file is invalid, or a key does not fit the problem
-  3  a file cannot be read or written, output cannot be written, or memory has run out
-
-Example:
-  tourkit solve examples/bakery.par";
-
-/// The words of `solve`.
-pub fn solve<'a>(alloc: Global) -> Result<Command<'a>, Error> {
-    let parameters = Arg::new(alloc, "PAR")
-        .help("a parameter file like LKH's, or - for standard input")
-        .required(true);
-    let made = Command::new(alloc, "solve")
-        .about("Searches for a short tour or for short routes")
-        .after_help(HELP)
-        .arg(parameters)?;
-    Ok(made)
-}
-
 /// `solve PAR`. The problem's file is opened before that of the initial tour, and both before either is read.
-pub fn run(rt: &HostRuntime, words: &ArgMatches<'_>) -> ExitCode {
-    let Some(file) = words.get_str("PAR") else {
-        return ExitCode::from(USAGE);
-    };
+pub fn run(rt: &HostRuntime, file: &str) -> ExitCode {
     let parameters = match open(rt, file) {
         Ok(parameters) => parameters,
         Err(status) => return status,

@@ -1,0 +1,37 @@
+//! What the words of a call ask for.
+
+/// The name of standard input.
+pub const STANDARD: &str = "-";
+
+/// What the words of a call ask for: a subcommand with its files. [`STANDARD`] names standard input.
+pub enum Asked<'a> {
+    /// `check PROBLEM TOUR`
+    Check {
+        problem: &'a str,
+        tour: &'a str,
+    },
+    /// `checksol PROBLEM SOL`
+    Checksol {
+        problem: &'a str,
+        solution: &'a str,
+    },
+    /// `matrix PROBLEM FORMAT`
+    Matrix {
+        problem: &'a str,
+        format: &'a str,
+    },
+    /// `near PROBLEM -k N`, with 1 to 100 cities for each list
+    Near {
+        problem: &'a str,
+        count: u32,
+    },
+    /// `plot PROBLEM [CLAIM]`
+    Plot {
+        problem: &'a str,
+        claim: Option<&'a str>,
+    },
+    /// `solve PAR`
+    Solve {
+        parameters: &'a str,
+    },
+}

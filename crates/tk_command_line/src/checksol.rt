@@ -1,0 +1,48 @@
+//! The words of `checksol`.
+ghost use Rattle.std.specs.Prelude.{IfSome};
+ghost use Rattle.tk_command_line.specs.Asking.{IsMeant};
+
+use crate::asked::Asked;
+use crate::command::{given, problem_file, subcommand};
+use clap::{ArgMatches, Command, Error};
+use std::alloc::Global;
+
+/// What `checksol --help` ends with.
+const HELP: &str = "Reads PROBLEM and SOL, one of which may be - for standard input.
+Prints how many routes there are and what they cost, or the first thing that is wrong with them.
+
+Exit status:
+  0  SOL has valid routes of PROBLEM, and their cost
+  1  it has not
+  2  the arguments are wrong, a file is invalid, or PROBLEM is not a CVRP
+  3  a file cannot be read, output cannot be written, or memory has run out
+
+Example:
+  tourkit checksol examples/bakery.vrp examples/bakery-plan.sol";
+
+/// The subcommand with its words.
+pub fn command<'a>(alloc: Global) -> Result<Command<'a>, Error> {
+    let solution = given(
+        alloc,
+        "SOL",
+        "a CVRPLIB solution file, or - for standard input",
+    );
+    subcommand(
+        alloc,
+        "checksol",
+        "Checks the routes of a CVRP and their cost",
+        HELP,
+        problem_file(alloc),
+        Some(solution),
+    )
+}
+
+/// What the words ask for.
+pub fn asked<'a>(words: &ArgMatches<'a>) -> Option<Asked<'a>>
+    ensures { IfSome result IsMeant }
+{
+    Some(Asked::Checksol {
+        problem: words.get_str("PROBLEM")?,
+        solution: words.get_str("SOL")?,
+    })
+}

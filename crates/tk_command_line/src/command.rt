@@ -1,0 +1,89 @@
+//! The program with its subcommands.
+use crate::{check, checksol, matrix, near, plot, solve};
+use clap::error::ErrorKind;
+use clap::{Arg, Command, Error};
+use std::alloc::Global;
+
+/// What `--help` ends with.
+const HELP: &str = "An invalid file is reported on standard error as FILE:LINE: NUMBER NAME.
+
+Exit status:
+  0  the command succeeded, or help was shown
+  1  a check found a fault in the tour or in the routes
+  2  the arguments are wrong, or a file is invalid or does not fit
+  3  a file cannot be read or written, output cannot be written, or memory has run out
+
+Example:
+  tourkit check examples/tri.tsp examples/tri.tour";
+
+/// The program with its subcommands.
+pub fn tourkit<'a>(alloc: Global) -> Result<Command<'a>, Error> {
+    let made = Command::new(alloc, "tourkit")
+        .version("0.1.0")
+        .about("Reads, checks and improves tours and routes")
+        .after_help(HELP)
+        .subcommand_required(true);
+    let made = with(made, check::command(alloc))?;
+    let made = with(made, checksol::command(alloc))?;
+    let made = with(made, matrix::command(alloc))?;
+    let made = with(made, near::command(alloc))?;
+    let made = with(made, plot::command(alloc))?;
+    with(made, solve::command(alloc))
+}
+
+/// A command with one more subcommand.
+fn with<'a>(
+    command: Command<'a>,
+    subcommand: Result<Command<'a>, Error>,
+) -> Result<Command<'a>, Error> {
+    Ok(command.subcommand(subcommand?)?)
+}
+
+/// A subcommand with its first word, and another if it takes two. Its help begins with `about` and ends with `more`.
+pub fn subcommand<'a>(
+    alloc: Global,
+    name: &'a str,
+    about: &'a str,
+    more: &'a str,
+    first: Arg<'a>,
+    second: Option<Arg<'a>>,
+) -> Result<Command<'a>, Error> {
+    let made = Command::new(alloc, name)
+        .about(about)
+        .after_help(more)
+        .arg(first)?;
+    match second {
+        Some(second) => Ok(made.arg(second)?),
+        None => Ok(made),
+    }
+}
+
+/// A word that must be given.
+pub fn given<'a>(alloc: Global, name: &'a str, help: &'a str) -> Arg<'a> {
+    Arg::new(alloc, name).help(help).required(true)
+}
+
+/// The file that most subcommands name first.
+pub fn problem_file<'a>(alloc: Global) -> Arg<'a> {
+    given(
+        alloc,
+        "PROBLEM",
+        "a TSPLIB or CVRPLIB problem file, or - for standard input",
+    )
+}
+
+/// What is wrong with words that name standard input twice. `bin_name` is how the command is called.
+pub fn twice_standard(command: Result<Command<'_>, Error>, bin_name: &str) -> Error {
+    match twice_error(command, bin_name) {
+        Ok(error) | Err(error) => error,
+    }
+}
+
+fn twice_error(command: Result<Command<'_>, Error>, bin_name: &str) -> Result<Error, Error> {
+    let mut command = command?.bin_name(bin_name)?;
+    let error = command.error(
+        ErrorKind::ArgumentConflict,
+        "only one of the files can be standard input '-'",
+    )?;
+    Ok(error)
+}

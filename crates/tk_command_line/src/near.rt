@@ -1,0 +1,52 @@
+//! The words of `near`.
+ghost use Rattle.std.specs.Prelude.{IfSome};
+ghost use Rattle.tk_command_line.specs.Asking.{IsMeant};
+
+use crate::asked::Asked;
+use crate::command::{problem_file, subcommand};
+use clap::builder::ValueParser;
+use clap::{Arg, ArgMatches, Command, Error};
+use std::alloc::Global;
+
+/// What `near --help` ends with.
+const HELP: &str = "Reads PROBLEM.
+Prints a line for each city: its number, and the N nearest other cities by distance and then by number.
+
+Exit status:
+  0  the lists were printed
+  2  the arguments are wrong, or PROBLEM is invalid
+  3  PROBLEM cannot be read, output cannot be written, or memory has run out
+
+Example:
+  zcat berlin52.tsp.gz | tourkit near - -k 5";
+
+/// The subcommand with its words.
+pub fn command<'a>(alloc: Global) -> Result<Command<'a>, Error> {
+    let count = Arg::new(alloc, "k")
+        .short('k')
+        .value_name("N")
+        .help("how many cities a list has, 1 to 100")
+        .value_parser(ValueParser::Unsigned(1, 100))
+        .default_value("5");
+    subcommand(
+        alloc,
+        "near",
+        "Prints the nearest other cities of each city",
+        HELP,
+        problem_file(alloc),
+        Some(count),
+    )
+}
+
+/// What the words ask for.
+pub fn asked<'a>(words: &ArgMatches<'a>) -> Option<Asked<'a>>
+    ensures { IfSome result IsMeant }
+{
+    match words.get_one::<u32>("k") {
+        Some(count @ 1..=100) => Some(Asked::Near {
+            problem: words.get_str("PROBLEM")?,
+            count,
+        }),
+        _ => None,
+    }
+}

@@ -1,0 +1,91 @@
+//! From the words of a call to what they ask for.
+ghost use Rattle.std.specs.Prelude.{IfOk, IfSome};
+ghost use Rattle.tk_command_line.specs.Asking.{IsMeant};
+
+use crate::asked::{Asked, STANDARD};
+use crate::command::{tourkit, twice_standard};
+use crate::{check, checksol, matrix, near, plot, solve};
+use clap::error::ErrorKind;
+use clap::{ArgMatches, Error};
+use std::alloc::Global;
+
+/// The exit status of words that are refused.
+const USAGE: u8 = 2;
+
+/// Why nothing is asked for.
+pub enum Refusal {
+    /// There was no memory.
+    NoMemory,
+    /// Help, the version or what is wrong with the words could not be written.
+    Unwritten,
+    /// It was written, and the program ends with this status.
+    Told(u8),
+}
+
+/// What the words of a call ask for. Else help, the version or what is wrong with the words is written.
+///
+/// # Errors
+/// `Refusal`, as it says.
+pub fn parse<'a>(rt: &HostRuntime, words: &'a [String]) -> Result<Asked<'a>, Refusal>
+    ensures { IfOk result IsMeant }
+{
+    match asked(rt.alloc(), words) {
+        Ok(Some(asked)) => Ok(asked),
+        Ok(None) => Err(Refusal::Told(USAGE)),
+        Err(error) => Err(tell(rt, &error)),
+    }
+}
+
+/// Writes help, the version, or what is wrong with the words.
+fn tell(rt: &HostRuntime, error: &Error) -> Refusal {
+    if error.kind() == ErrorKind::OutOfMemory {
+        return Refusal::NoMemory;
+    }
+    match error.print(rt) {
+        Ok(()) => Refusal::Told(error.exit_code() as u8),
+        Err(_) => Refusal::Unwritten,
+    }
+}
+
+/// What the words ask for, if they can be parsed and name standard input once at most.
+fn asked<'a>(alloc: Global, words: &'a [String]) -> Result<Option<Asked<'a>>, Error>
+    ensures { IfOk result (λ r. IfSome r IsMeant) }
+{
+    let matches = tourkit(alloc)?.try_get_matches_from(words)?;
+    match asked_by(&matches) {
+        Some(
+            Asked::Check {
+                problem: STANDARD,
+                tour: STANDARD,
+            },
+        ) => Err(twice_standard(check::command(alloc), "tourkit check")),
+        Some(
+            Asked::Checksol {
+                problem: STANDARD,
+                solution: STANDARD,
+            },
+        ) => Err(twice_standard(checksol::command(alloc), "tourkit checksol")),
+        Some(
+            Asked::Plot {
+                problem: STANDARD,
+                claim: Some(STANDARD),
+            },
+        ) => Err(twice_standard(plot::command(alloc), "tourkit plot")),
+        asked => Ok(asked),
+    }
+}
+
+/// What a subcommand and its words ask for.
+fn asked_by<'a>(matches: &ArgMatches<'a>) -> Option<Asked<'a>>
+    ensures { IfSome result IsMeant }
+{
+    match matches.subcommand()? {
+        ("check", words) => check::asked(words),
+        ("checksol", words) => checksol::asked(words),
+        ("matrix", words) => matrix::asked(words),
+        ("near", words) => near::asked(words),
+        ("plot", words) => plot::asked(words),
+        ("solve", words) => solve::asked(words),
+        _ => None,
+    }
+}

@@ -1,0 +1,47 @@
+//! The words of `solve`.
+ghost use Rattle.std.specs.Prelude.{IfSome};
+ghost use Rattle.tk_command_line.specs.Asking.{IsMeant};
+
+use crate::asked::Asked;
+use crate::command::{given, subcommand};
+use clap::{ArgMatches, Command, Error};
+use std::alloc::Global;
+
+/// What `solve --help` ends with.
+const HELP: &str = "Reads PAR, and the problem and the initial tour that it names.
+Prints a line for each run and the best length, or the costs of the routes of a CVRP.
+Writes the best tour to TOUR_FILE, or the routes to SOLUTION_FILE, if PAR names one.
+
+Exit status:
+  0  the search is done
+  2  the arguments are wrong, a file is invalid, or a key does not fit the problem
+  3  a file cannot be read or written, output cannot be written, or memory has run out
+
+Example:
+  tourkit solve examples/bakery.par";
+
+/// The subcommand with its words.
+pub fn command<'a>(alloc: Global) -> Result<Command<'a>, Error> {
+    let parameters = given(
+        alloc,
+        "PAR",
+        "a parameter file like LKH's, or - for standard input",
+    );
+    subcommand(
+        alloc,
+        "solve",
+        "Searches for a short tour or for short routes",
+        HELP,
+        parameters,
+        None,
+    )
+}
+
+/// What the words ask for.
+pub fn asked<'a>(words: &ArgMatches<'a>) -> Option<Asked<'a>>
+    ensures { IfSome result IsMeant }
+{
+    Some(Asked::Solve {
+        parameters: words.get_str("PAR")?,
+    })
+}
