@@ -54,6 +54,13 @@ pub fine_cities : (kind : PlaneKind) (places : Places) (ps : Bor (List Point)) (
 fine_cities kind places ps a b d is =
     moved kind _ _ _ _ d (ap (λ v. city_place (places_of v) a) is) (ap (λ v. city_place (places_of v) b) is)
 
+-- the distance of two cities, of the places that they have in a list of fine ones
+pub fine_city_distance : (kind : PlaneKind) (places : Places) (ps : Bor (List Point)) (a b : ℕ) → places ≡ Fine ps
+    → IsCityDistance kind ps.now a b (city_distance kind (places_of places) a b)
+fine_city_distance kind places ps a b is =
+    subst (λ (v : Places). IsCityDistance kind ps.now a b (city_distance kind (places_of v) a b)) (sym is)
+    (distance_at-is kind (gap (city_place ps.now a).x (city_place ps.now b).x) (gap (city_place ps.now a).y (city_place ps.now b).y))
+
 -- the distance of two cities as the code's signed number
 pub signed_value : (kind : PlaneKind) (ps : List Point) (a b d : ℕ) → IsCityDistance kind ps a b d → d ≤ 4000000000
     → to_z w64 d ≡ pos (city_distance kind ps a b)

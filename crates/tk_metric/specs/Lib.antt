@@ -10,3 +10,4 @@ pub mod Tables
 pub mod Turned
 pub mod WeightLaws
 pub mod Weights
+pub mod WholeCities

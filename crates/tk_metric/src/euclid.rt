@@ -5,9 +5,9 @@ ghost use Rattle.tk_problem.specs.PlacesOf.{places_of};
 ghost use Rattle.tk_problem.specs.declared.points.Places.TheVariants.{Whole};
 
 use crate::exact::whole::{is_whole_nearer, whole_between};
-use crate::metric::Metric;
+use crate::metric::{Metric, Planar};
 use crate::planes::bound_of;
-use tk_problem::{PlaneKind, WholePoint};
+use tk_problem::{PlaneKind, Point, WholePoint};
 
 /// The EUC_2D distances among places of whole coordinates, as [`Planes`](crate::Planes) has them: neither the kind nor the form of the
 /// coordinates is looked up for each.
@@ -55,5 +55,38 @@ impl Metric for Euclid<'_> {
             self.places[b],
             bound_of(limit),
         )
+    }
+}
+
+impl Planar for Euclid<'_> {
+    ghost use Rattle.tk_metric.specs.WholeCities.{whole_city_place, whole_gap-limit, whole_gap_y-limit, whole_floor, whole_floor_y};
+
+    ghost place_of = { λ m c. whole_city_place m.places.now c };
+
+    ghost floor = { λ m dx. dx };
+
+    ghost wide = { λ m. whole_gap-limit m.places.now };
+
+    ghost tall = { λ m. whole_gap_y-limit m.places.now };
+
+    ghost floor_rises = { λ m s t below _. below };
+
+    ghost floor_bounds = { λ m. whole_floor m.places };
+
+    ghost floor_bounds_y = { λ m. whole_floor_y m.places };
+
+    /// The place of a city in whole numbers: a difference in x, or in y, is then at most the distance itself.
+    #[inline(always)]
+    fn place(&self, c: u32) -> Point {
+        let place = self.places[c as usize - 1];
+        Point {
+            x: place.x as i64,
+            y: place.y as i64,
+        }
+    }
+
+    #[inline(always)]
+    fn floor_x(&self, dx: u64) -> i64 {
+        dx as i64
     }
 }

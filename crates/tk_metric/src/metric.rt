@@ -46,18 +46,18 @@ pub trait Metric {
 /// A metric over places in the plane, in which a distance is at least a function of the difference in x, and the same
 /// function of the difference in y.
 pub trait Planar: Metric {
-    /// The place of a city.
+    /// The place of a city, in units of the metric's own.
     ghost place_of: { Self → ℕ → Point };
 
     /// The least distance at a difference in x or in y.
     ghost floor: { Self → ℕ → ℕ };
 
-    /// The place of a city.
+    /// The place of a city, in units of the metric's own.
     fn place(&self, c: u32) -> Point
         requires { IsCity (Self.size_of self.now) c }
         ensures { result ≡ place_of self.now c };
 
-    /// No two cities with this difference in x, or in y, in units of 10^-9, are nearer than this.
+    /// No two cities whose places differ by this in x, or in y, are nearer than this.
     fn floor_x(&self, dx: u64) -> i64
         requires { dx ≤ 2000000000000000000 }
         ensures { result ≡ pos (floor self.now dx) };

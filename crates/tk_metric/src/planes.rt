@@ -4,7 +4,7 @@ ghost use Rattle.tk_problem.specs.Places.{IsNearOrigin};
 ghost use Rattle.tk_problem.specs.PlacesOf.{places_of};
 
 use crate::euclid::Euclid;
-use crate::exact::fine::{fine_between, floor_distance};
+use crate::exact::fine::{fine_between, floor_distance, is_fine_nearer};
 use crate::exact::whole::{is_whole_nearer, whole_between};
 use crate::metric::{Metric, Planar};
 use tk_problem::{Places, PlaneKind, Point, Points};
@@ -92,7 +92,7 @@ impl Metric for Planes<'_> {
         let bound = bound_of(limit);
         match self.places {
             Places::Whole(places) => is_whole_nearer(self.kind, places[a], places[b], bound),
-            Places::Fine(places) => fine_between(self.kind, places[a], places[b]) < bound,
+            Places::Fine(places) => is_fine_nearer(self.kind, places[a], places[b], bound),
         }
     }
 }

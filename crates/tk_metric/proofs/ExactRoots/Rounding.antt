@@ -37,6 +37,34 @@ nearest_between square d low high = record {
   ];
 }
 
+-- the rounded root is below a number just where the square is below that of the number less 1/2
+pub fine_root_below : (square d t : ℕ) → IsGreatest (RootReaches square) d
+    → ((square < (t * 1000000000 - 500000000) * (t * 1000000000 - 500000000)) ↔ (d < t))
+fine_root_below square d t is = (below, within)
+  where
+    below : square < (t * 1000000000 - 500000000) * (t * 1000000000 - 500000000) → d < t
+    below low = elim (cases_lt d t) [
+      | inl lt ↦ lt
+      | inr le ↦ elim (cases_lt 0 t) [
+        | inl some ↦
+            let m : t * 1000000000 - 500000000 ≡ (t - 1) * 1000000000 + 500000000 = omega arith in
+            let high = subst (λ (x : ℕ). square < x * x) m low in
+            absurd (too_great square (t - 1) (d - t) (2 * d - 1) high (omega arith) (is.holds (omega arith)))
+        | inr none ↦
+            let m : t * 1000000000 - 500000000 ≡ 0 = omega arith in
+            let high = subst (λ (x : ℕ). square < x * x) m low in
+            absurd (omega (arith, high))
+      ]
+    ]
+
+    within : d < t → square < (t * 1000000000 - 500000000) * (t * 1000000000 - 500000000)
+    within lt = elim (cases_lt square ((t * 1000000000 - 500000000) * (t * 1000000000 - 500000000))) [
+      | inl low ↦ low
+      | inr high ↦
+          let least = is.greatest t (omega arith) (reaches_above square t (t * 1000000000 - 500000000) (omega arith) refl high) in
+          absurd (omega (arith, lt, least))
+    ]
+
 -- the rounded root from the root
 pub nearest_from_root : (square r d : ℕ) → r * r ≤ square → square < (r + 1) * (r + 1)
     → d ≡ (r / 500000000 + 1) / 2 → IsGreatest (RootReaches square) d

@@ -1,5 +1,5 @@
 //! Distances of coordinates in units of 10^-9, in 128 bits.
-ghost use Rattle.std.specs.Prelude.{◌≡◌, ◌+◌, ◌*◌, ◌^◌, ◌<◌, ◌≤◌, ◌↔◌, IsTrue};
+ghost use Rattle.std.specs.Prelude.{◌≡◌, ℕ, ◌+◌, ◌*◌, ◌^◌, ◌<◌, ◌≤◌, ◌↔◌, IsTrue};
 ghost use Rattle.std.specs.Int.RustNames.{unsigned_abs};
 ghost use Rattle.tk_metric.specs.Distance.{gap, reach, square_sum, IsGreatest, IsLeast, IsDistance, IsDistanceOf, Reaches, RootReaches, Covers};
 ghost use Rattle.tk_problem.specs.Places.{IsNearOrigin};
@@ -26,6 +26,30 @@ pub fn fine_between(kind: PlaneKind, p: Point, q: Point) -> u64
         return nearest(square_between(p, q));
     }
     fine_distance(kind, p.x.abs_diff(q.x), p.y.abs_diff(q.y))
+}
+
+/// Whether the distance of two places is below a bound.
+#[inline]
+pub fn is_fine_nearer(kind: PlaneKind, p: Point, q: Point, bound: u64) -> bool
+    requires p_near { IsNearOrigin p }
+    requires q_near { IsNearOrigin q }
+    requires bound { bound ≤ 4000000001 }
+    ensures { (d : ℕ) → IsDistanceOf kind p q d → (IsTrue result ↔ (d < bound)) }
+{
+    if let PlaneKind::Euc2d = kind {
+        return is_root_below(square_between(p, q), bound);
+    }
+    fine_between(kind, p, q) < bound
+}
+
+/// Whether the root of a square, rounded to the nearest, is below a bound.
+#[inline]
+fn is_root_below(square: u128, bound: u64) -> bool
+    requires { bound ≤ 4000000001 }
+    ensures { (d : ℕ) → IsGreatest (RootReaches square) d → (IsTrue result ↔ (d < bound)) }
+{
+    let end = (bound * SCALE).saturating_sub(HALF) as u128;
+    square < end * end
 }
 
 /// The square of the distance in the plane.

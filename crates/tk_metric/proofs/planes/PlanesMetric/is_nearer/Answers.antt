@@ -1,10 +1,9 @@
-use Rattle.std.proofs.Common.{arith, rules, subst, pos, w64, SFits, ◌≡◌, ◌<◌, ◌<ℤ◌, ◌↔◌}
+use Rattle.std.proofs.Common.{rules, subst, pos, w64, SFits, ◌<◌, ◌<ℤ◌, ◌↔◌}
 use Rattle.std.proofs.lemmas.Int.{to_z-of_z}
-use Rattle.std.proofs.lemmas.Bool.Decides.{nat_tests}
 use Rattle.tk_problem.specs.PlacesOf.{places_of}
-use Rattle.tk_metric.specs.PlaneOf.{city_distance, city_place}
-use Rattle.tk_metric.specs.PlaneLaws.{city_distance-limit, distance_of-unique}
-use Rattle.tk_metric.proofs.PlaneReads.{whole_city_distance, fine_cities}
+use Rattle.tk_metric.specs.PlaneOf.{city_distance}
+use Rattle.tk_metric.specs.PlaneLaws.{city_distance-limit}
+use Rattle.tk_metric.proofs.PlaneReads.{whole_city_distance, fine_city_distance}
 use Rattle.tk_metric.proofs.planes.PlanesMetric.is_nearer.Goals as goal
 
 pub returns-in-Whole : goal.returns-in-Whole
@@ -25,6 +24,5 @@ returns-in-Fine c =
     let d = city_distance m.kind places c.args.a c.args.b in
     let fits : SFits w64 c.args.limit = search rules in
     let bound = subst (λ z. (d < c.bound_of-bound.result) ↔ (pos d <ℤ z)) (to_z-of_z w64 c.args.limit fits) (c.bound_of-bound.ensures.value d (city_distance-limit m.kind places m.near c.args.a c.args.b)) in
-    let same : c.fine_between.result ≡ d =
-    distance_of-unique m.kind (city_place places c.args.a) (city_place places c.args.b) _ (fine_cities m.kind m.places c.in-Fine.places c.args.a c.args.b c.fine_between.result c.in-Fine.is c.fine_between.ensures.distance) in
-    (λ yes. bound.0 (grind (arith, nat_tests, yes, same)), λ below. let low = bound.1 below in grind (arith, nat_tests, low, same))
+    let nearer = c.is_fine_nearer.ensures d (fine_city_distance m.kind m.places c.in-Fine.places c.args.a c.args.b c.in-Fine.is) in
+    (λ yes. bound.0 (nearer.0 yes), λ below. nearer.1 (bound.1 below))
