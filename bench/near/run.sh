@@ -1,5 +1,5 @@
 #!/bin/sh
-# Times near_tree (lists of 5 and of 100) and nearest_tree (100,000 cities) against the same in plain Rust, in turn on one core:
+# Times near_lists (lists of 5 and of 100) and nearest_tour (100,000 cities) against the same in plain Rust, in turn on one core:
 # least time of each. The kinds of input are uniform cities and those that are hard for a sweep. The lists and the tours are
 # compared.
 # usage: bench/near/run.sh [ROUNDS [CORE]]

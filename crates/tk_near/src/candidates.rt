@@ -19,15 +19,25 @@ pub const OPEN: Candidate = Candidate {
 };
 
 impl Candidate {
+    /// Distance and number as one number.
+    #[inline(always)]
+    fn key(self) -> u64
+        ensures { result ≡ rank self }
+    {
+        self.distance as u64 * 4_294_967_296 + self.city as u64
+    }
+
     /// Whether it comes first by (distance, number).
+    #[inline(always)]
     pub fn is_before(self, other: Candidate) -> bool
         ensures { IsTrue result ↔ (rank self < rank other) }
     {
-        self.distance < other.distance || self.distance == other.distance && self.city < other.city
+        self.key() < other.key()
     }
 }
 
 /// The city b as seen from c.
+#[inline]
 pub fn measure<M: Metric>(m: &M, c: u32, b: u32) -> Candidate
     requires from { IsCity (M.size_of m.now) c }
     requires to { IsCity (M.size_of m.now) b }

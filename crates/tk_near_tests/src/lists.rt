@@ -5,9 +5,9 @@ ghost use Rattle.tk_problem.specs.Places.{IsNearOrigin};
 use std::alloc::{AllocError, Global};
 use std::process::Abort;
 use std::test::Fail;
-use tk_metric::{Metric, Planes, Turned};
+use tk_metric::{Metric, Planes, Table, Turned};
 use tk_near::{Near, near_lists_agree, near_scan};
-use tk_plane::{near_sweep, near_tree};
+use tk_plane::{near_lists, near_sweep, near_tree};
 use tk_problem::{PlaneKind, Point, Points};
 
 const WHOLE: u32 = 1_000_000_000;
@@ -50,7 +50,7 @@ fn expect(rt: &impl Abort, near: &Near, want: &[u32]) {
     }
 }
 
-// The lists of a scan, of a sweep in either direction and of a tree are these.
+// The lists of a scan, of a sweep in either direction, of a tree and of a table are these.
 fn expect_lists(
     rt: &impl Abort,
     alloc: Global,
@@ -70,6 +70,7 @@ fn expect_lists(
     expect(rt, &near_sweep(alloc, &m, k)?, want);
     expect(rt, &near_sweep(alloc, &Turned(&m), k)?, want);
     expect(rt, &near_tree(alloc, &m, k)?, want);
+    expect(rt, &near_lists(alloc, &Table::Planes(m), k)?, want);
     Ok(())
 }
 
@@ -166,7 +167,7 @@ fn expect_same(rt: &impl Abort, near: &Near, other: &Near) {
     }
 }
 
-// A sweep and a tree of 300 places in a box find the lists of a scan.
+// A sweep, a tree and a table of 300 places in a box have the lists of a scan.
 fn expect_agreed(
     rt: &impl Abort,
     alloc: Global,
@@ -188,6 +189,7 @@ fn expect_agreed(
     expect_same(rt, &near_sweep(alloc, &m, k)?, &scanned);
     let found = near_tree(alloc, &m, k)?;
     expect_same(rt, &found, &scanned);
+    expect_same(rt, &near_lists(alloc, &Table::Planes(m), k)?, &scanned);
     for c in 1..m.size() + 1 {
         near_lists_agree(&m, c, k, found.of(c), scanned.of(c));
     }

@@ -2,7 +2,6 @@
 use Rattle.std.proofs.Common.{append_assoc, ◌≡◌, ◌≢◌, ℕ, zero, suc, ◌+◌, ◌*◌, ◌-◌, ◌<◌, ◌≤◌, ◌⊎◌, ⊎_elim, inl, inr, List, [], ◌∷◌, ◌++◌, length, take, replicate, refl, sym, ap, ◌∙◌, arith, cond, true, false, get_or, subst, max}
 use Rattle.std.specs.Prelude.{All, ◌==◌, nat_lt, ◌-ℤ◌}
 use Rattle.std.specs.Int.RustNames.{unsigned_abs}
-use Rattle.std.specs.List.Sorted.{IsPermutation}
 use Rattle.std.proofs.lemmas.Bool.Decides.{nat_tests}
 use Rattle.std.proofs.lemmas.Bool.{cases_lt, cases_eq}
 use Rattle.std.proofs.lemmas.List.{length-take-le, take_all, take_more, get_or_default}
@@ -16,6 +15,7 @@ use Rattle.tk_plane.specs.declared.sweep.Placed.{Placed}
 use Rattle.tk_metric.specs.Cities.{IsCity}
 use Rattle.tk_near.specs.Near.{IsNear}
 use Rattle.tk_near.specs.Keeping.{Climbing, insert_by, with_candidate, rank, candidate, open_place, cities_of, KeepsFirst}
+use Rattle.tk_plane.specs.Kept.{last_of}
 use Rattle.tk_plane.specs.Sweep.{IsPlaced, IsRow, IsAt, city_at, nowhere}
 use Rattle.tk_plane.specs.declared.tree.Frame.{Frame}
 use Rattle.tk_plane.specs.declared.tree.Tree.{Tree}
@@ -71,6 +71,13 @@ with_candidate-swap x y kept one = with_two x y kept ∙ ap (take (length kept))
 one_number : (p q a b : ℕ) → a < 4294967296 → b < 4294967296 → p * 4294967296 + a ≡ q * 4294967296 + b → a ≡ b
 one_number p q a b la lb e = omega arith
 
+pub with_candidate-length : (x : Candidate) (kept : List Candidate) → length (with_candidate x kept) ≡ length kept
+with_candidate-length x kept = length-take-le (length kept) (insert_by rank x kept) (omega (arith, length-insert_by rank x kept))
+
+-- what does not come before the last of the kept changes nothing
+pub with_candidate-out : (x : Candidate) (kept : List Candidate) → Climbing rank kept → 1 ≤ length kept → rank (last_of kept) ≤ rank x → with_candidate x kept ≡ kept
+with_candidate-out x kept up room out = sym (insert_by-full rank x (length kept) kept open_place up refl room out)
+
 -- ---- the order of the cities
 
 abbrev pub IsSmall : Placed → Type 0
@@ -116,22 +123,24 @@ module _ (dist : ℕ → ℕ → ℕ) (c : ℕ) where
   with_cities-more row i d kept l = ap (λ v. with_cities dist c v kept) (take-suc row i d l) ∙ with_cities-append (take i row) (get_or row i d ∷ []) kept
 
   -- a loop over cities
-  pub seen_more : (row : List Placed) (i : ℕ) (d : Placed) (first kept : List Candidate) → i < length row → kept ≡ with_cities dist c (take i row) first → (get_or row i d).city ≢ c → with_candidate (candidate dist c (get_or row i d).city) kept ≡ with_cities dist c (take (i + 1) row) first
-  seen_more row i d first kept l e ne =
-      sym (with_city-other (get_or row i d) kept ne) ∙ ap (with_city dist c (get_or row i d)) e ∙ sym (ap (λ v. with_cities dist c v first) (take_more row i d l) ∙ with_cities-append (take i row) (get_or row i d ∷ []) first)
+  pub seen_more : (row : List Placed) (i : ℕ) (d : Placed) (first kept : List Candidate) → i < length row → kept ≡ with_cities dist c (take i row) first → with_city dist c (get_or row i d) kept ≡ with_cities dist c (take (i + 1) row) first
+  seen_more row i d first kept l e =
+      ap (with_city dist c (get_or row i d)) e ∙ sym (ap (λ v. with_cities dist c v first) (take_more row i d l) ∙ with_cities-append (take i row) (get_or row i d ∷ []) first)
 
-  pub seen_same : (row : List Placed) (i : ℕ) (d : Placed) (first kept : List Candidate) → i < length row → kept ≡ with_cities dist c (take i row) first → (get_or row i d).city ≡ c → kept ≡ with_cities dist c (take (i + 1) row) first
-  seen_same row i d first kept l e same =
-      sym (with_city-same (get_or row i d) kept same) ∙ ap (with_city dist c (get_or row i d)) e ∙ sym (ap (λ v. with_cities dist c v first) (take_more row i d l) ∙ with_cities-append (take i row) (get_or row i d ∷ []) first)
+  pub with_cities-length : (ps : List Placed) (kept : List Candidate) → length (with_cities dist c ps kept) ≡ length kept
+  with_cities-length [] kept = refl
+  with_cities-length (p ∷ ps) kept =
+      let here : length (with_city dist c p kept) ≡ length kept = elim (p.city == c) as (λ b. length (cond b kept (with_candidate (candidate dist c p.city) kept)) ≡ length kept) [ true ↦ refl | false ↦ with_candidate-length (candidate dist c p.city) kept ] in
+      with_cities-length ps (with_city dist c p kept) ∙ here
 
   -- cities that do not come before the last of the kept change nothing
-  pub with_cities-out : (ps : List Placed) (kept : List Candidate) → Climbing rank kept → 1 ≤ length kept → All (λ p. rank (get_or kept (length kept - 1) open_place) ≤ rank (candidate dist c p.city)) ps → with_cities dist c ps kept ≡ kept
+  pub with_cities-out : (ps : List Placed) (kept : List Candidate) → Climbing rank kept → 1 ≤ length kept → All (λ p. rank (last_of kept) ≤ rank (candidate dist c p.city)) ps → with_cities dist c ps kept ≡ kept
   with_cities-out [] kept up room all = refl
   with_cities-out (p ∷ ps) kept up room all =
-      let last = All-head (λ p. rank (get_or kept (length kept - 1) open_place) ≤ rank (candidate dist c p.city)) p ps all in
-      let one : with_candidate (candidate dist c p.city) kept ≡ kept = sym (insert_by-full rank (candidate dist c p.city) (length kept) kept open_place up refl room last) in
+      let last = All-head (λ p. rank (last_of kept) ≤ rank (candidate dist c p.city)) p ps all in
+      let one : with_candidate (candidate dist c p.city) kept ≡ kept = with_candidate-out (candidate dist c p.city) kept up room last in
       let here : with_city dist c p kept ≡ kept = elim (p.city == c) as (λ b. cond b kept (with_candidate (candidate dist c p.city) kept) ≡ kept) [ true ↦ refl | false ↦ one ] in
-      ap (with_cities dist c ps) here ∙ with_cities-out ps kept up room (All-tail (λ p. rank (get_or kept (length kept - 1) open_place) ≤ rank (candidate dist c p.city)) p ps all)
+      ap (with_cities dist c ps) here ∙ with_cities-out ps kept up room (All-tail (λ p. rank (last_of kept) ≤ rank (candidate dist c p.city)) p ps all)
 
 -- ---- the kept stay in order
 
@@ -178,7 +187,7 @@ module _ (dist : ℕ → ℕ → ℕ) (n : ℕ) (place_of : ℕ → Point) (floo
 
 -- a part of which no city comes before the last of the kept changes nothing
 pub kept_without_part : (dist : ℕ → ℕ → ℕ) (c : ℕ) (first : Candidate) (ps : List Placed) (kept : List Candidate) → All (IsFrom dist c first) ps → Climbing rank kept → 1 ≤ length kept
-    → rank (get_or kept (length kept - 1) open_place) ≤ rank first → kept ≡ with_cities dist c ps kept
+    → rank (last_of kept) ≤ rank first → kept ≡ with_cities dist c ps kept
 kept_without_part dist c first ps kept from up room out =
     sym (with_cities-out dist c ps kept up room (λ k d l. let one = from k d l in omega (arith, one, out)))
 
@@ -285,15 +294,16 @@ pub joined_within : (lower upper whole : Frame) (xs ys : List Placed)
 joined_within lower upper whole xs ys first second lows highs =
     All-append (IsWithin whole) xs ys (All-weaker (IsWithin lower) (IsWithin whole) first xs lows) (All-weaker (IsWithin upper) (IsWithin whole) second ys highs)
 
-module _ (dist : ℕ → ℕ → ℕ) (c : ℕ) (lower upper tree s t : Tree) (first mid last : List Candidate) where
-  pub seen_both : entries_of tree ≡ entries_of lower ++ entries_of upper → s ≡ lower → t ≡ upper → mid ≡ with_cities dist c (entries_of s) first → last ≡ with_cities dist c (entries_of t) mid → last ≡ with_cities dist c (entries_of tree) first
-  seen_both cut a b h k =
-      k ∙ ap (λ (v : Tree). with_cities dist c (entries_of v) mid) b ∙ ap (with_cities dist c (entries_of upper)) (h ∙ ap (λ (v : Tree). with_cities dist c (entries_of v) first) a)
+-- both halves were seen, in either order
+module _ (dist : ℕ → ℕ → ℕ) (c : ℕ) (lower upper tree : Tree) (first mid last : List Candidate) where
+  pub seen_both : entries_of tree ≡ entries_of lower ++ entries_of upper → mid ≡ with_cities dist c (entries_of lower) first → last ≡ with_cities dist c (entries_of upper) mid → last ≡ with_cities dist c (entries_of tree) first
+  seen_both cut h k =
+      k ∙ ap (with_cities dist c (entries_of upper)) h
       ∙ sym (ap (λ v. with_cities dist c v first) cut ∙ with_cities-append dist c (entries_of lower) (entries_of upper) first)
 
-  pub seen_both_back : All IsSmall (entries_of lower) → All IsSmall (entries_of upper) → entries_of tree ≡ entries_of lower ++ entries_of upper → s ≡ lower → t ≡ upper → mid ≡ with_cities dist c (entries_of t) first → last ≡ with_cities dist c (entries_of s) mid → last ≡ with_cities dist c (entries_of tree) first
-  seen_both_back ls us cut a b h k =
-      k ∙ ap (λ (v : Tree). with_cities dist c (entries_of v) mid) a ∙ ap (with_cities dist c (entries_of lower)) (h ∙ ap (λ (v : Tree). with_cities dist c (entries_of v) first) b)
+  pub seen_both_back : All IsSmall (entries_of lower) → All IsSmall (entries_of upper) → entries_of tree ≡ entries_of lower ++ entries_of upper → mid ≡ with_cities dist c (entries_of upper) first → last ≡ with_cities dist c (entries_of lower) mid → last ≡ with_cities dist c (entries_of tree) first
+  seen_both_back ls us cut h k =
+      k ∙ ap (with_cities dist c (entries_of lower)) h
       ∙ with_cities-swap dist c (entries_of lower) (entries_of upper) first ls us
       ∙ sym (ap (λ v. with_cities dist c v first) cut ∙ with_cities-append dist c (entries_of lower) (entries_of upper) first)
 

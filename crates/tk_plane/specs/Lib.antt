@@ -1,2 +1,3 @@
+pub mod Kept
 pub mod Sweep
 pub mod Tree

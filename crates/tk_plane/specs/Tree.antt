@@ -1,11 +1,11 @@
 -- A tree of parts of the cities, and what is kept of them.
-use Rattle.std.specs.Prelude.{◌≡◌, ◌≢◌, ℕ, ◌≤ℤ◌, ◌+◌, ◌-◌, ◌<◌, ◌≤◌, ◌⊎◌, ◌==◌, if◌then◌else◌, List, [], ◌∷◌, ◌++◌, length, slice_index_or, All, IsPermutation, ⊤}
+use Rattle.std.specs.Prelude.{◌≡◌, ◌≢◌, ℕ, ◌≤ℤ◌, ◌+◌, ◌<◌, ◌≤◌, ◌⊎◌, ◌==◌, if◌then◌else◌, List, [], ◌∷◌, ◌++◌, length, All, IsPermutation, ⊤}
 use Rattle.tk_problem.specs.declared.point.Point.{Point}
 use Rattle.tk_near.specs.declared.candidates.Candidate.{Candidate}
 use Rattle.tk_plane.specs.declared.sweep.Placed.{Placed}
 use Rattle.tk_plane.specs.declared.tree.Frame.{Frame}
 use Rattle.tk_plane.specs.declared.tree.Tree.{Tree, Leaf, Cut'}
-use Rattle.tk_near.specs.Keeping.{candidate, with_candidate, open_place, rank}
+use Rattle.tk_near.specs.Keeping.{candidate, with_candidate, rank}
 use Rattle.tk_plane.specs.Sweep.{IsPlaced, city_at, x_gap, y_gap}
 
 -- the cities of a tree, in its order
@@ -34,10 +34,6 @@ IsBeyond here gap p = (gap ≤ x_gap here p) ⊎ (gap ≤ y_gap here p)
 -- seen from c, a city does not come before this
 abbrev pub IsFrom : (ℕ → ℕ → ℕ) → ℕ → Candidate → Placed → Type 0
 IsFrom dist c first p = rank first ≤ rank (candidate dist c p.city)
-
--- nor does the last of the kept come after it
-abbrev pub IsOut : Candidate → List Candidate → Type 0
-IsOut first kept = rank (slice_index_or kept (length kept - 1) open_place) ≤ rank first
 
 -- the kept, once c has seen a city
 abbrev pub with_city : (ℕ → ℕ → ℕ) → ℕ → Placed → List Candidate → List Candidate

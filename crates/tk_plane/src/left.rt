@@ -5,12 +5,30 @@ ghost use Rattle.tk_near.specs.Near.{IsFirst};
 ghost use Rattle.tk_plane.specs.Sweep.{IsPlaced, IsRow, city_at};
 ghost use Rattle.tk_plane.specs.Tree.{entries_of, IsFramed, IsWithin, IsTakenOut, IsNotIn, IsOtherIn};
 
+use crate::keeping::One;
 use crate::sweep::Placed;
-use crate::tree::{Frame, NEAREST, Tree, frame_of, planted, search};
+use crate::tree::{Frame, START, Tree, frame_of, planted, search};
 use std::alloc::{AllocError, Global};
 use std::marker::Model;
 use tk_metric::Planar;
 use tk_near::OPEN;
+
+/// A city, and the turns that lead to the part of the tree where it was seen: the lowest bit is the first turn, and 1 goes to the
+/// upper half. Other turns cost time alone.
+#[derive(Clone, Copy)]
+pub struct Found {
+    pub city: u32,
+    sides: u64,
+}
+
+impl Found {
+    /// A city that was not seen yet.
+    pub fn somewhere(city: u32) -> Found
+        ensures { result.city ≡ city }
+    {
+        Found { city, sides: 0 }
+    }
+}
 
 /// Cities of a metric: at first all, and then those that were not taken out.
 #[derive(Drop)]
@@ -42,27 +60,32 @@ impl Left {
         Ok(Left { tree })
     }
 
-    /// Takes a city out, and tells whether it was left.
-    pub fn take(&mut self, p: Placed) -> bool
+    /// Takes a city out, which is looked for where it was found first, and tells whether it was left.
+    pub fn take(&mut self, p: Placed, at: Found) -> bool
         ensures { MatchBool result (IsTakenOut p self.old self.new) ((self.new ≡ self.old) × IsNotIn p self.old) }
     {
-        take_from(&mut self.tree, p)
+        take_from(&mut self.tree, p, at.sides)
     }
 
     /// The first of the other cities that are left, by distance and number, seen from here.
-    pub fn first<P: Planar>(&self, m: &P, here: Placed) -> Option<u32>
+    pub fn first<P: Planar>(&self, m: &P, here: Placed) -> Option<Found>
         requires here { IsPlaced (P.size_of m.now) (P.place_of m.now) here }
         requires placed { All (IsPlaced (P.size_of m.now) (P.place_of m.now)) self.now }
         ensures { MatchOption result ((b : ℕ) → IsOtherIn self.now here.city b → ⊥)
-            (λ b. IsFirst (P.distance m.now) here.city (IsOtherIn self.now here.city) b) }
+            (λ found. IsFirst (P.distance m.now) here.city (IsOtherIn self.now here.city) found.city) }
     {
-        let mut kept = [OPEN];
-        let mut filled = 0;
-        search(m, &here, NEAREST, &self.tree, &mut kept, &mut filled);
-        if kept[0].distance == OPEN.distance {
+        let mut one = One {
+            best: OPEN,
+            sides: 0,
+        };
+        search(m, &here, &self.tree, START, &mut one);
+        if one.best.distance == OPEN.distance {
             None
         } else {
-            Some(kept[0].city)
+            Some(Found {
+                city: one.best.city,
+                sides: one.sides,
+            })
         }
     }
 }
@@ -101,18 +124,15 @@ fn frame_over(tree: &Tree) -> Frame
     }
 }
 
-/// The box of a tree from which a city was taken out: a new one once no city is left, so that no search enters it, else the
-/// old one.
+/// Makes the box of a tree anew once no city is left in it, so that no search enters it.
 #[inline(always)]
-fn renewed(old: Frame, tree: &Tree) -> Frame
+fn renew(frame: &mut Frame, tree: &Tree)
     requires framed { IsFramed tree.now }
-    requires within { All (IsWithin old) (entries_of tree.now) }
-    ensures { All (IsWithin result) (entries_of tree.now) }
+    requires within { All (IsWithin frame.old) (entries_of tree.now) }
+    ensures { All (IsWithin frame.new) (entries_of tree.now) }
 {
     if has_none(tree) {
-        frame_over(tree)
-    } else {
-        old
+        *frame = frame_over(tree);
     }
 }
 
@@ -130,8 +150,8 @@ fn take_from_leaf(row: &mut Vec<Placed>, p: Placed) -> bool
     }
 }
 
-/// Takes a city out of a tree, and tells whether it was there.
-fn take_from(tree: &mut Tree, p: Placed) -> bool
+/// Takes a city out of a tree, and tells whether it was there. The half to which the turns lead is looked through first.
+fn take_from(tree: &mut Tree, p: Placed, sides: u64) -> bool
     requires framed { IsFramed tree.old }
     ensures framed { IsFramed tree.new }
     ensures taken { MatchBool result (IsTakenOut p (entries_of tree.old) (entries_of tree.new))
@@ -140,12 +160,23 @@ fn take_from(tree: &mut Tree, p: Placed) -> bool
     match tree {
         Tree::Leaf(row) => take_from_leaf(row, p),
         Tree::Cut(lower_frame, lower, upper_frame, upper) => {
-            if lower_frame.may_have(p) && take_from(lower, p) {
-                *lower_frame = renewed(*lower_frame, lower);
+            if sides % 2 == 0 {
+                if take_from(lower, p, sides / 2) {
+                    renew(lower_frame, lower);
+                    return true;
+                }
+                if take_from(upper, p, sides / 2) {
+                    renew(upper_frame, upper);
+                    return true;
+                }
+                return false;
+            }
+            if take_from(upper, p, sides / 2) {
+                renew(upper_frame, upper);
                 return true;
             }
-            if upper_frame.may_have(p) && take_from(upper, p) {
-                *upper_frame = renewed(*upper_frame, upper);
+            if take_from(lower, p, sides / 2) {
+                renew(lower_frame, lower);
                 return true;
             }
             false

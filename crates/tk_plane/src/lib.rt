@@ -2,12 +2,13 @@
 #![tactic(auto)]
 
 mod halve;
+mod keeping;
 mod left;
 mod sweep;
 mod table;
 mod tree;
 
-pub use left::Left;
+pub use left::{Found, Left};
 pub use sweep::{Placed, near_sweep, order_by_x};
 pub use table::near_lists;
 pub use tree::near_tree;

@@ -21,7 +21,10 @@ pub fn near_lists(alloc: Global, table: &Table<'_>, k: u32) -> Result<Near, Allo
     ensures near { IfOk result (λ v. AreNearest (table_distance table.now) v) }
 {
     match table {
-        Table::Planes(planes) => near_tree(alloc, planes, k),
+        Table::Planes(planes) => match planes.euclid() {
+            Some(euclid) => near_tree(alloc, &euclid, k),
+            None => near_tree(alloc, planes, k),
+        },
         Table::Triangle(triangle) => near_scan(alloc, triangle, k),
     }
 }

@@ -3,18 +3,20 @@ ghost use Rattle.std.specs.Prelude.{◌≡◌, ℕ, ℤ, ◌*◌, ◌≤◌, ◌
 ghost use Rattle.std.specs.Int.RustNames.{unsigned_abs};
 ghost use Rattle.tk_plane.specs.declared.sweep.Placed.{Placed};
 ghost use Rattle.tk_near.specs.Near.{IsNear, AreNearest};
-ghost use Rattle.tk_near.specs.Keeping.{AreFilled, AreOpenFrom, rank, Climbing, cities_of};
+ghost use Rattle.tk_near.specs.Keeping.{AreFilled, candidate, cities_of, rank};
+ghost use Rattle.tk_metric.specs.Cities.{IsCity};
 ghost use Rattle.tk_plane.specs.Sweep.{IsPlaced, IsRow};
-ghost use Rattle.tk_plane.specs.Tree.{entries_of, IsWithin, IsFramed, IsBeyond, IsFrom, IsOut, with_cities};
+ghost use Rattle.tk_plane.specs.Tree.{entries_of, IsWithin, IsFramed, IsBeyond, IsFrom, with_city, with_cities};
 
 use crate::halve::halve;
+use crate::keeping::{Keeper, Many};
 use crate::sweep::{Placed, row_of};
 use std::alloc::{AllocError, Global};
 use tk_metric::Planar;
-use tk_near::{Candidate, Near, OPEN, keep_among, measure, write_cities};
+use tk_near::{Candidate, Near, OPEN, measure, write_cities};
 
 /// At most so many cities stand in a leaf.
-const LEAF: usize = 8;
+const LEAF: usize = 16;
 
 /// About so many cities of a row tell whether it takes more room in y than in x.
 const SAMPLE: usize = 16;
@@ -48,12 +50,6 @@ const NOTHING: Frame = Frame {
     top: i64::MIN,
     least: u32::MAX,
     greatest: 0,
-};
-
-/// What no city comes before.
-pub const NEAREST: Candidate = Candidate {
-    distance: 0,
-    city: 0,
 };
 
 /// The distance of a coordinate from a range.
@@ -100,19 +96,6 @@ impl Frame {
         }
     }
 
-    /// Whether the city may be one of the box.
-    pub fn may_have(self, p: Placed) -> bool
-        ensures { IsWithin self p → IsTrue result }
-    {
-        if p.city < self.least || self.greatest < p.city {
-            return false;
-        }
-        if p.place.x < self.left || self.right < p.place.x {
-            return false;
-        }
-        self.bottom <= p.place.y && p.place.y <= self.top
-    }
-
     /// A difference in x, or in y, that each city of the box has from here.
     #[inline(always)]
     fn gap(&self, here: &Placed) -> u64
@@ -146,6 +129,7 @@ impl Frame {
     }
 
     /// Whether it is the box of no city.
+    #[inline(always)]
     pub fn is_void(&self) -> bool {
         self.greatest < self.least
     }
@@ -216,90 +200,127 @@ pub fn planted<P: Planar>(alloc: Global, m: &P) -> Result<(Vec<Placed>, Tree), A
     Ok((row, tree))
 }
 
-/// Whether nothing that `first` comes before, or is, can enter the kept.
-fn is_out(first: Candidate, kept: &[Candidate]) -> bool
-    requires { 1 ≤ length kept.now }
-    ensures { IsTrue result ↔ IsOut first kept.now }
-{
-    !first.is_before(kept[kept.len() - 1])
+/// The turns that lead from the whole tree to a part of it: bit i is 1 where turn i goes to the upper half. No contract reads
+/// them: they tell where a city was seen, so that it can be taken out there.
+#[derive(Clone, Copy)]
+pub struct Path {
+    sides: u64,
+    next: u64,
 }
 
-/// Keeps what is near of a leaf.
-fn search_leaf<P: Planar>(
-    m: &P,
-    here: &Placed,
-    leaf: &[Placed],
-    kept: &mut [Candidate],
-    filled: &mut usize,
-)
-    requires here { IsPlaced (P.size_of m.now) (P.place_of m.now) here.now }
-    requires placed { All (IsPlaced (P.size_of m.now) (P.place_of m.now)) leaf.now }
-    requires room { 1 ≤ length kept.old }
-    requires climbing { Climbing rank kept.old }
-    requires vacant { AreOpenFrom filled.old kept.old }
-    ensures kept { kept.new ≡ with_cities (P.distance m.now) here.now.city leaf.now kept.old }
-    ensures climbing { Climbing rank kept.new }
-    ensures vacant { AreOpenFrom filled.new kept.new }
-{
-    for there in leaf {
-        if there.city != here.city {
-            keep_among(kept, filled, measure(m, here.city, there.city));
+/// No turn yet.
+pub const START: Path = Path { sides: 0, next: 1 };
+
+impl Path {
+    #[inline(always)]
+    fn lower(self) -> Path {
+        Path {
+            sides: self.sides,
+            next: self.next << 1,
+        }
+    }
+
+    #[inline(always)]
+    fn upper(self) -> Path {
+        Path {
+            sides: self.sides | self.next,
+            next: self.next << 1,
         }
     }
 }
 
-/// Keeps what is near of a part of which no city comes before `first`.
-pub fn search<P: Planar>(
+/// Whether a part may have a city for the kept, none of whose cities comes before `first`.
+#[inline(always)]
+fn may_enter(first: Candidate, last: Candidate) -> bool
+    ensures { IsTrue result ↔ (rank first < rank last) }
+{
+    first.is_before(last)
+}
+
+/// Whether a city, seen from another, comes before the last of the kept.
+#[inline(always)]
+fn comes_before<P: Planar>(m: &P, here: u32, there: u32, last: Candidate) -> bool
+    requires here { IsCity (P.size_of m.now) here }
+    requires there { IsCity (P.size_of m.now) there }
+    ensures { IsTrue result ↔ (rank (candidate (P.distance m.now) here there) < rank last) }
+{
+    let limit = last.distance as i64 + (there < last.city) as i64;
+    m.is_nearer(here, there, limit)
+}
+
+/// Shows a city to what keeps the first.
+#[inline(always)]
+fn show<P: Planar, K: Keeper>(m: &P, here: &Placed, there: &Placed, sides: u64, keeper: &mut K)
+    requires here { IsPlaced (P.size_of m.now) (P.place_of m.now) here.now }
+    requires there { IsPlaced (P.size_of m.now) (P.place_of m.now) there.now }
+    ensures { K.kept_of keeper.new ≡ with_city (P.distance m.now) here.now.city there.now (K.kept_of keeper.old) }
+{
+    if there.city != here.city && comes_before(m, here.city, there.city, keeper.last()) {
+        keeper.keep(measure(m, here.city, there.city), sides);
+    }
+}
+
+/// Shows the cities of a leaf.
+fn search_leaf<P: Planar, K: Keeper>(
     m: &P,
     here: &Placed,
-    first: Candidate,
-    tree: &Tree,
-    kept: &mut [Candidate],
-    filled: &mut usize,
+    leaf: &[Placed],
+    sides: u64,
+    keeper: &mut K,
 )
+    requires here { IsPlaced (P.size_of m.now) (P.place_of m.now) here.now }
+    requires placed { All (IsPlaced (P.size_of m.now) (P.place_of m.now)) leaf.now }
+    ensures { K.kept_of keeper.new ≡ with_cities (P.distance m.now) here.now.city leaf.now (K.kept_of keeper.old) }
+{
+    for there in leaf {
+        show(m, here, there, sides, keeper);
+    }
+}
+
+/// Shows what is near of a part: a half is left out if no city of its box comes before the last of the kept.
+pub fn search<P: Planar, K: Keeper>(m: &P, here: &Placed, tree: &Tree, path: Path, keeper: &mut K)
     requires here { IsPlaced (P.size_of m.now) (P.place_of m.now) here.now }
     requires placed { All (IsPlaced (P.size_of m.now) (P.place_of m.now)) (entries_of tree.now) }
     requires framed { IsFramed tree.now }
-    requires first { All (IsFrom (P.distance m.now) here.now.city first) (entries_of tree.now) }
-    requires room { 1 ≤ length kept.old }
-    requires climbing { Climbing rank kept.old }
-    requires vacant { AreOpenFrom filled.old kept.old }
-    ensures kept { kept.new ≡ with_cities (P.distance m.now) here.now.city (entries_of tree.now) kept.old }
-    ensures climbing { Climbing rank kept.new }
-    ensures vacant { AreOpenFrom filled.new kept.new }
+    ensures { K.kept_of keeper.new
+        ≡ with_cities (P.distance m.now) here.now.city (entries_of tree.now) (K.kept_of keeper.old) }
 {
-    if is_out(first, kept) {
-        return;
-    }
     match tree {
-        Tree::Leaf(leaf) => search_leaf(m, here, leaf, kept, filled),
+        Tree::Leaf(leaf) => search_leaf(m, here, leaf, path.sides, keeper),
         Tree::Cut(lower_frame, lower, upper_frame, upper) => {
             let lower_first = lower_frame.first(m, here);
             let upper_first = upper_frame.first(m, here);
             if lower_first.is_before(upper_first) {
-                search(m, here, lower_first, lower, kept, filled);
-                search(m, here, upper_first, upper, kept, filled);
+                if may_enter(lower_first, keeper.last()) {
+                    search(m, here, lower, path.lower(), keeper);
+                }
+                if may_enter(upper_first, keeper.last()) {
+                    search(m, here, upper, path.upper(), keeper);
+                }
             } else {
-                search(m, here, upper_first, upper, kept, filled);
-                search(m, here, lower_first, lower, kept, filled);
+                if may_enter(upper_first, keeper.last()) {
+                    search(m, here, upper, path.upper(), keeper);
+                }
+                if may_enter(lower_first, keeper.last()) {
+                    search(m, here, lower, path.lower(), keeper);
+                }
             }
         }
     }
 }
 
 /// The first of the cities other than that here, as many as there is room for.
-fn search_city<P: Planar>(m: &P, here: &Placed, tree: &Tree, kept: &mut [Candidate])
+fn search_city<P: Planar>(m: &P, here: &Placed, tree: &Tree, many: &mut Many)
     requires here { IsPlaced (P.size_of m.now) (P.place_of m.now) here.now }
     requires row { IsRow (P.size_of m.now) (P.place_of m.now) (entries_of tree.now) }
     requires framed { IsFramed tree.now }
-    requires low { 1 ≤ length kept.old }
-    requires high { length kept.old < P.size_of m.now }
-    ensures size { length kept.new ≡ length kept.old }
-    ensures near { IsNear (P.distance m.now) (P.size_of m.now) (length kept.old) here.now.city (cities_of kept.new) }
+    requires high { length many.old.kept.items < P.size_of m.now }
+    ensures size { length many.new.kept.items ≡ length many.old.kept.items }
+    ensures near { IsNear (P.distance m.now) (P.size_of m.now) (length many.old.kept.items) here.now.city
+        (cities_of many.new.kept.items) }
 {
-    kept.fill(OPEN);
-    let mut filled = 0;
-    search(m, here, NEAREST, tree, kept, &mut filled);
+    many.clear();
+    search(m, here, tree, START, many);
 }
 
 /// Fills the list of each city, in the order of the tree.
@@ -307,20 +328,19 @@ fn fill_from_tree<P: Planar>(
     m: &P,
     row: &[Placed],
     tree: &Tree,
-    kept: &mut [Candidate],
+    many: &mut Many,
     entries: &mut [u32],
 )
     requires row { IsRow (P.size_of m.now) (P.place_of m.now) row.now }
     requires tree { entries_of tree.now ≡ row.now }
     requires framed { IsFramed tree.now }
-    requires low { 1 ≤ length kept.old }
-    requires high { length kept.old < P.size_of m.now }
-    requires room { length entries.old ≡ P.size_of m.now * length kept.old }
-    ensures { AreFilled (P.distance m.now) (P.size_of m.now) (length kept.old) (λ _. ⊤) entries.new }
+    requires high { length many.old.kept.items < P.size_of m.now }
+    requires room { length entries.old ≡ P.size_of m.now * length many.old.kept.items }
+    ensures { AreFilled (P.distance m.now) (P.size_of m.now) (length many.old.kept.items) (λ _. ⊤) entries.new }
 {
     for here in row {
-        search_city(m, here, tree, kept);
-        write_cities(entries, here.city, kept);
+        search_city(m, here, tree, many);
+        write_cities(entries, here.city, many.kept());
     }
 }
 
@@ -335,8 +355,8 @@ pub fn near_tree<P: Planar>(alloc: Global, m: &P, k: u32) -> Result<Near, AllocE
 {
     let width = k as usize;
     let (row, tree) = planted(alloc, m)?;
-    let mut kept = vec![in alloc; OPEN; width]?;
+    let mut many = Many::new(alloc, width)?;
     let mut entries = vec![in alloc; 0u32; m.size() as usize * width]?;
-    fill_from_tree(m, &row, &tree, &mut kept, &mut entries);
+    fill_from_tree(m, &row, &tree, &mut many, &mut entries);
     Ok(Near::from_filled(m, k, entries))
 }

@@ -4,11 +4,11 @@ use crate::places::places;
 use std::alloc::Global;
 use std::process::Abort;
 use std::test::Fail;
-use tk_metric::{Metric, Planes, Triangle};
+use tk_metric::{Metric, Planes, Table, Triangle};
 use tk_problem::{PlaneKind, Points};
-use tk_starts::{nearest, nearest_tours_agree, nearest_tree};
+use tk_starts::{nearest, nearest_tour, nearest_tours_agree, nearest_tree};
 
-// The tours of a scan and of a tree are this one.
+// The tours of a scan, of a tree and of a table are this one.
 fn expect_tour(
     rt: &impl Abort,
     alloc: Global,
@@ -22,6 +22,8 @@ fn expect_tour(
     let tour = nearest(alloc, &metric, start)?;
     let found = nearest_tree(alloc, &metric, start)?;
     nearest_tours_agree(&metric, start, &tour, &found);
+    let of_table = nearest_tour(alloc, &Table::Planes(metric), start)?;
+    assert!(rt; of_table.as_slice() == want, "from {start}: {of_table:?}");
     assert!(rt;
         tour.as_slice() == want && found.as_slice() == want,
         "from {start}: {tour:?}, {found:?}"

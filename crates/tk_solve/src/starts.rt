@@ -12,7 +12,7 @@ use crate::options::Start;
 use std::alloc::{AllocError, Global};
 use tk_metric::{Metric, Table};
 use tk_near::Near;
-use tk_starts::{nearest, nearest_tree, savings_tour};
+use tk_starts::{nearest_tour, savings_tour};
 use tk_stores::ArrayTour;
 
 /// The savings tour of a table's cities, where runs begin with it; else no city.
@@ -43,18 +43,6 @@ pub(crate) fn common_start<'a>(start: Start<'a>, savings: &'a [u32]) -> Option<&
         Start::Nearest => None,
         Start::Savings => Some(savings),
         Start::Tour(cities) => Some(cities),
-    }
-}
-
-/// The nearest-neighbour tour of a table's cities.
-fn nearest_tour(alloc: Global, table: &Table<'_>, start: u32) -> Result<Vec<u32>, AllocError>
-    requires { IsCity (table_size table.now) start }
-    ensures nearest { IfOk result (λ v. IsNearestTour (table_distance table.now) (table_size table.now) start v.items) }
-    ensures tour { IfOk result (λ v. IsTour (table_size table.now) v.items) }
-{
-    match table {
-        Table::Planes(planes) => nearest_tree(alloc, planes, start),
-        Table::Triangle(triangle) => nearest(alloc, triangle, start),
     }
 }
 

@@ -9,4 +9,5 @@ pub use merges::pairs::Pair;
 pub use merges::savings::{savings_lists, savings_tour};
 pub use nearest_tours::by_tree::nearest_tree;
 pub use nearest_tours::laws::nearest_tours_agree;
+pub use nearest_tours::of_table::nearest_tour;
 pub use nearest_tours::scan::nearest;

@@ -12,6 +12,7 @@ use Rattle.tk_starts.specs.NearestTour.{IsNearestPath, IsNearestTour}
 use Rattle.tk_starts.specs.Unvisited.{IsFirstLeft, AreAllVisited, AreVisited}
 use Rattle.tk_plane.specs.Tree.{AreApart, IsOtherIn, IsTakenOut, Stands}
 use Rattle.tk_plane.proofs.LeftLaws.{Stands-old, Stands-new, gone}
+use Rattle.tk_plane.specs.declared.left.Found.{Found}
 use Rattle.tk_plane.specs.declared.sweep.Placed.{Placed}
 use Rattle.tk_problem.specs.declared.point.Point.{Point}
 use Rattle.tk_starts.proofs.NearestCities.NearestTours.{path_city, path_apart}
@@ -122,10 +123,10 @@ module _ (dist : ℕ → ℕ → ℕ) (n start here : ℕ) (left : List Placed) 
       record { count = count; first = h.path.first; each = λ j l. h.path.each j (omega arith) }
 
 -- where c does not stand in a row, the first of its other cities is the first of all
-pub first_of_left : (dist : ℕ → ℕ → ℕ) (n : ℕ) (place_of : ℕ → Point) (c : ℕ) (row : List Placed) → AreApart n place_of row → (Stands row c → ⊥) → (o : Option ℕ)
-    → MatchOption o ((b : ℕ) → IsOtherIn row c b → ⊥) (λ b. IsFirst dist c (IsOtherIn row c) b) → MatchOption o (AreAllVisited n row) (λ b. IsFirstLeft dist n row c b)
+pub first_of_left : (dist : ℕ → ℕ → ℕ) (n : ℕ) (place_of : ℕ → Point) (c : ℕ) (row : List Placed) → AreApart n place_of row → (Stands row c → ⊥) → (o : Option Found)
+    → MatchOption o ((b : ℕ) → IsOtherIn row c b → ⊥) (λ f. IsFirst dist c (IsOtherIn row c) f.city) → MatchOption o (AreAllVisited n row) (λ f. IsFirstLeft dist n row c f.city)
 first_of_left dist n place_of c row apart gone None h = λ b city s. h b (s.0, s.1, s.2, λ e. gone (subst (Stands row) e s))
-first_of_left dist n place_of c row apart gone (Some b) h = record {
+first_of_left dist n place_of c row apart gone (Some f) h = record {
   member =
       let s = h.member in
       (subst (IsCity n) s.2 (apart.each s.0 nowhere s.1).0, (s.0, s.1, s.2));

@@ -9,7 +9,7 @@ ghost use Rattle.tk_starts.specs.Unvisited.{AreAllVisited, IsFirstLeft};
 
 use std::alloc::{AllocError, Global};
 use tk_metric::Planar;
-use tk_plane::{Left, Placed};
+use tk_plane::{Found, Left, Placed};
 
 /// A city with its place.
 fn placed<P: Planar>(metric: &P, city: u32) -> Placed
@@ -21,17 +21,17 @@ fn placed<P: Planar>(metric: &P, city: u32) -> Placed
     Placed { place, city }
 }
 
-/// Takes a city out, and tells the first of those that are left then, if any, by (distance, number).
-fn visit<P: Planar>(left: &mut Left, metric: &P, here: Placed) -> Option<u32>
+/// Takes a city out, and finds the first of those that are left then, if any, by (distance, number).
+fn visit<P: Planar>(left: &mut Left, metric: &P, here: Placed, at: Found) -> Option<Found>
     requires here { IsPlaced (P.size_of metric.now) (P.place_of metric.now) here }
     requires apart { AreApart (P.size_of metric.now) (P.place_of metric.now) left.old }
     requires left { Stands left.old here.city }
     ensures taken { IsTakenOut here left.old left.new }
     ensures apart { AreApart (P.size_of metric.now) (P.place_of metric.now) left.new }
     ensures first { MatchOption result (AreAllVisited (P.size_of metric.now) left.new)
-        (λ b. IsFirstLeft (P.distance metric.now) (P.size_of metric.now) left.new here.city b) }
+        (λ found. IsFirstLeft (P.distance metric.now) (P.size_of metric.now) left.new here.city found.city) }
 {
-    left.take(here);
+    left.take(here, at);
     left.first(metric, here)
 }
 
@@ -51,10 +51,10 @@ pub fn nearest_tree<P: Planar>(
     let mut left = Left::all(alloc, metric)?;
     let mut cities = Vec::with_capacity(alloc, metric.size() as usize)?;
     cities.push(start)?;
-    let mut here = placed(metric, start);
-    while let Some(city) = visit(&mut left, metric, here) {
-        cities.push(city)?;
-        here = placed(metric, city);
+    let mut at = Found::somewhere(start);
+    while let Some(found) = visit(&mut left, metric, placed(metric, at.city), at) {
+        cities.push(found.city)?;
+        at = found;
     }
     Ok(cities)
 }

@@ -1,20 +1,31 @@
-use Rattle.std.proofs.Common.{◌≡◌, refl, ap, ◌∙◌}
+use Rattle.std.proofs.Common.{◌≡◌, ap, ◌∙◌}
 use Rattle.tk_plane.specs.Tree.{entries_of, IsWithin}
 use Rattle.tk_plane.proofs.Parting.{All-taken, taken_before, taken_behind}
 use Rattle.tk_plane.proofs.left.+take_from.Goals as goal
-use Rattle.tk_plane.proofs.left.+take_from.Goals.{else-may_have-via-then-may_have+else-take_from, else-may_have-via-else-may_have}
 
-pub renewed-requires-clause-within : goal.renewed-requires-clause-within
-renewed-requires-clause-within t c =
+pub renew-requires-clause-within : goal.renew-requires-clause-within
+renew-requires-clause-within t c =
     let framed = rw c.in-Cut.is at c.requires.framed in
     let here = rw c.deref_mut.ensures.value at c.if-take_from.ensures.taken in
     rw c.deref.ensures (All-taken (IsWithin c.in-Cut.lower_frame) c.args.p (entries_of c.in-Cut.lower.value) (entries_of c.take_from.new.tree) here framed.0)
 
-pub renewed-requires-then-take_from-2-clause-within : goal.renewed-requires-then-take_from-2-clause-within
-renewed-requires-then-take_from-2-clause-within t c =
+pub renew-requires-then-take_from-2-clause-within : goal.renew-requires-then-take_from-2-clause-within
+renew-requires-then-take_from-2-clause-within t c =
     let framed = rw c.in-Cut.is at c.requires.framed in
-    let here = rw c.deref_mut-then-may_have-2.ensures.value at c.if-take_from-2.ensures.taken in
-    rw c.deref-then-take_from-2.ensures (All-taken (IsWithin c.in-Cut.upper_frame) c.args.p (entries_of c.in-Cut.upper.value) (entries_of c.take_from-then-may_have-2.new.tree) here framed.1)
+    let here = rw c.deref_mut-then-sides-eq0.ensures.value at c.if-take_from-2.ensures.taken in
+    rw c.deref-then-take_from-2.ensures (All-taken (IsWithin c.in-Cut.upper_frame) c.args.p (entries_of c.in-Cut.upper.value) (entries_of c.take_from-then-sides-eq0.new.tree) here framed.1)
+
+pub renew-requires-then-take_from-3-clause-within : goal.renew-requires-then-take_from-3-clause-within
+renew-requires-then-take_from-3-clause-within t c =
+    let framed = rw c.in-Cut.is at c.requires.framed in
+    let here = rw c.deref_mut-in-Cut.ensures.value at c.if-take_from-3.ensures.taken in
+    rw c.deref-then-take_from-3.ensures (All-taken (IsWithin c.in-Cut.upper_frame) c.args.p (entries_of c.in-Cut.upper.value) (entries_of c.take_from-in-Cut.new.tree) here framed.1)
+
+pub renew-requires-then-take_from-4-clause-within : goal.renew-requires-then-take_from-4-clause-within
+renew-requires-then-take_from-4-clause-within t c =
+    let framed = rw c.in-Cut.is at c.requires.framed in
+    let here = rw c.deref_mut-in-Cut-2.ensures.value at c.if-take_from-4.ensures.taken in
+    rw c.deref-then-take_from-4.ensures (All-taken (IsWithin c.in-Cut.lower_frame) c.args.p (entries_of c.in-Cut.lower.value) (entries_of c.take_from-in-Cut-2.new.tree) here framed.0)
 
 pub returns-then-take_from-clause-taken : goal.returns-then-take_from-clause-taken
 returns-then-take_from-clause-taken t c =
@@ -25,10 +36,19 @@ returns-then-take_from-clause-taken t c =
 pub returns-then-take_from-2-clause-taken : goal.returns-then-take_from-2-clause-taken
 returns-then-take_from-2-clause-taken t c =
     let old = ap entries_of c.in-Cut.is in
-    let lower : entries_of c.else-may_have.tree.1.1.1.0.value ≡ entries_of c.in-Cut.lower.value =
-    elim c.else-may_have.branch [
-      | else-may_have-via-then-may_have+else-take_from w ↦ rw w.tree-is (w.if-take_from.ensures.taken.0 ∙ ap entries_of w.deref_mut.ensures.value)
-      | else-may_have-via-else-may_have w ↦ rw w.tree-is refl
-    ] in
-    let here = rw c.deref_mut-then-may_have-2.ensures.value at c.if-take_from-2.ensures.taken in
-    rw (old, lower) (taken_behind c.args.p (entries_of c.in-Cut.lower.value) (entries_of c.in-Cut.upper.value) (entries_of c.take_from-then-may_have-2.new.tree) here)
+    let lower : entries_of c.take_from.new.tree ≡ entries_of c.in-Cut.lower.value = c.if-take_from.ensures.taken.0 ∙ ap entries_of c.deref_mut.ensures.value in
+    let here = rw c.deref_mut-then-sides-eq0.ensures.value at c.if-take_from-2.ensures.taken in
+    rw (old, lower) (taken_behind c.args.p (entries_of c.in-Cut.lower.value) (entries_of c.in-Cut.upper.value) (entries_of c.take_from-then-sides-eq0.new.tree) here)
+
+pub returns-then-take_from-3-clause-taken : goal.returns-then-take_from-3-clause-taken
+returns-then-take_from-3-clause-taken t c =
+    let old = ap entries_of c.in-Cut.is in
+    let here = rw c.deref_mut-in-Cut.ensures.value at c.if-take_from-3.ensures.taken in
+    rw old (taken_behind c.args.p (entries_of c.in-Cut.lower.value) (entries_of c.in-Cut.upper.value) (entries_of c.take_from-in-Cut.new.tree) here)
+
+pub returns-then-take_from-4-clause-taken : goal.returns-then-take_from-4-clause-taken
+returns-then-take_from-4-clause-taken t c =
+    let old = ap entries_of c.in-Cut.is in
+    let upper : entries_of c.take_from-in-Cut.new.tree ≡ entries_of c.in-Cut.upper.value = c.if-take_from-3.ensures.taken.0 ∙ ap entries_of c.deref_mut-in-Cut.ensures.value in
+    let here = rw c.deref_mut-in-Cut-2.ensures.value at c.if-take_from-4.ensures.taken in
+    rw (old, upper) (taken_before c.args.p (entries_of c.in-Cut.lower.value) (entries_of c.take_from-in-Cut-2.new.tree) (entries_of c.in-Cut.upper.value) here)

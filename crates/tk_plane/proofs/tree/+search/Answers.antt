@@ -1,61 +1,140 @@
-use Rattle.std.proofs.Common.{arith, ◌++◌, ap, inl, inr}
+use Rattle.std.proofs.Common.{◌≡◌, ◌++◌, ◌∙◌, ap, inl, inr}
 use Rattle.std.specs.Prelude.{All}
+use Rattle.tk_near.proofs.Inserting.{before_false}
 use Rattle.tk_plane.specs.Sweep.{IsPlaced}
-use Rattle.tk_plane.specs.Tree.{entries_of, parts_of}
+use Rattle.tk_plane.specs.Tree.{entries_of, parts_of, with_cities}
 use Rattle.tk_plane.proofs.Parting.{IsSmall, kept_without_part, all_front, all_back, part_from, part_smaller, seen_both, seen_both_back, placed_small}
 use Rattle.tk_plane.proofs.tree.+search.Goals as goal
-
-pub returns-then-is_out-clause-kept : goal.returns-then-is_out-clause-kept
-returns-then-is_out-clause-kept g t c =
-    kept_without_part (g.P.Metric.distance c.args.m.now) c.args.here.now.city c.args.first (entries_of c.args.tree.now) c.args.kept.now c.requires.first c.requires.climbing c.requires.room (c.is_out.ensures.0 c.if-is_out.true)
+use Rattle.tk_plane.proofs.tree.+search.Goals.{then-may_enter, else-may_enter, then-may_enter-3, else-may_enter-3}
 
 pub search-requires : goal.search-requires
 search-requires g t c κs within =
     let m = c.args.m.now in
     let framed = rw c.in-Cut.is at c.requires.framed in
     let placed = rw c.in-Cut.is at c.requires.placed in
-    let e = c.deref-then-is_before.ensures in
+    let e = c.deref-then-may_enter.ensures in
     let mine = all_front (IsPlaced (g.P.Metric.size_of m) (g.P.Planar.place_of m)) (entries_of c.in-Cut.lower.value) (entries_of c.in-Cut.upper.value) placed in
-    let from = part_from (g.P.Metric.distance m) (g.P.Metric.size_of m) (g.P.Planar.place_of m) c.args.here.now.city c.in-Cut.lower_frame c.first-lower_first.result (entries_of c.in-Cut.lower.value) c.first-lower_first.ensures mine framed.0 in
-    (part_smaller c.args.tree.now c.in-Cut.lower.value c.in-Cut.upper.value _ t c.decreases (ap parts_of c.in-Cut.is) (inl e), (within, (c.requires.here, (rw e mine, (rw e framed.2, (rw e from, (c.requires.room, (c.requires.climbing, c.requires.vacant))))))))
+    (part_smaller c.args.tree.now c.in-Cut.lower.value c.in-Cut.upper.value _ t c.decreases (ap parts_of c.in-Cut.is) (inl e), (within.0, (within.1, (c.requires.here, (rw e mine, rw e framed.2)))))
 
-pub search-requires-then-is_before : goal.search-requires-then-is_before
-search-requires-then-is_before g t c κs within =
+pub search-requires-then-may_enter-2 : goal.search-requires-then-may_enter-2
+search-requires-then-may_enter-2 g t c κs within =
     let m = c.args.m.now in
     let framed = rw c.in-Cut.is at c.requires.framed in
     let placed = rw c.in-Cut.is at c.requires.placed in
-    let e = c.deref-then-is_before-2.ensures in
+    let e = c.deref-then-may_enter-2.ensures in
     let mine = all_back (IsPlaced (g.P.Metric.size_of m) (g.P.Planar.place_of m)) (entries_of c.in-Cut.lower.value) (entries_of c.in-Cut.upper.value) placed in
-    let from = part_from (g.P.Metric.distance m) (g.P.Metric.size_of m) (g.P.Planar.place_of m) c.args.here.now.city c.in-Cut.upper_frame c.first-upper_first.result (entries_of c.in-Cut.upper.value) c.first-upper_first.ensures mine framed.1 in
-    (part_smaller c.args.tree.now c.in-Cut.lower.value c.in-Cut.upper.value _ t c.decreases (ap parts_of c.in-Cut.is) (inr e), (within, (c.requires.here, (rw e mine, (rw e framed.3, (rw e from, (omega arith, (c.search.ensures.climbing, c.search.ensures.vacant))))))))
+    (part_smaller c.args.tree.now c.in-Cut.lower.value c.in-Cut.upper.value _ t c.decreases (ap parts_of c.in-Cut.is) (inr e), (within.0, (within.1, (c.requires.here, (rw e mine, rw e framed.3)))))
 
-pub search-requires-else-is_before : goal.search-requires-else-is_before
-search-requires-else-is_before g t c κs within =
+pub search-requires-then-may_enter-3 : goal.search-requires-then-may_enter-3
+search-requires-then-may_enter-3 g t c κs within =
     let m = c.args.m.now in
     let framed = rw c.in-Cut.is at c.requires.framed in
     let placed = rw c.in-Cut.is at c.requires.placed in
-    let e = c.deref-else-is_before.ensures in
+    let e = c.deref-then-may_enter-3.ensures in
     let mine = all_back (IsPlaced (g.P.Metric.size_of m) (g.P.Planar.place_of m)) (entries_of c.in-Cut.lower.value) (entries_of c.in-Cut.upper.value) placed in
-    let from = part_from (g.P.Metric.distance m) (g.P.Metric.size_of m) (g.P.Planar.place_of m) c.args.here.now.city c.in-Cut.upper_frame c.first-upper_first.result (entries_of c.in-Cut.upper.value) c.first-upper_first.ensures mine framed.1 in
-    (part_smaller c.args.tree.now c.in-Cut.lower.value c.in-Cut.upper.value _ t c.decreases (ap parts_of c.in-Cut.is) (inr e), (within, (c.requires.here, (rw e mine, (rw e framed.3, (rw e from, (c.requires.room, (c.requires.climbing, c.requires.vacant))))))))
+    (part_smaller c.args.tree.now c.in-Cut.lower.value c.in-Cut.upper.value _ t c.decreases (ap parts_of c.in-Cut.is) (inr e), (within.0, (within.1, (c.requires.here, (rw e mine, rw e framed.3)))))
 
-pub search-requires-else-is_before-2 : goal.search-requires-else-is_before-2
-search-requires-else-is_before-2 g t c κs within =
+pub search-requires-then-may_enter-4 : goal.search-requires-then-may_enter-4
+search-requires-then-may_enter-4 g t c κs within =
     let m = c.args.m.now in
     let framed = rw c.in-Cut.is at c.requires.framed in
     let placed = rw c.in-Cut.is at c.requires.placed in
-    let e = c.deref-else-is_before-2.ensures in
+    let e = c.deref-then-may_enter-4.ensures in
     let mine = all_front (IsPlaced (g.P.Metric.size_of m) (g.P.Planar.place_of m)) (entries_of c.in-Cut.lower.value) (entries_of c.in-Cut.upper.value) placed in
-    let from = part_from (g.P.Metric.distance m) (g.P.Metric.size_of m) (g.P.Planar.place_of m) c.args.here.now.city c.in-Cut.lower_frame c.first-lower_first.result (entries_of c.in-Cut.lower.value) c.first-lower_first.ensures mine framed.0 in
-    (part_smaller c.args.tree.now c.in-Cut.lower.value c.in-Cut.upper.value _ t c.decreases (ap parts_of c.in-Cut.is) (inl e), (within, (c.requires.here, (rw e mine, (rw e framed.2, (rw e from, (omega arith, (c.search-else-is_before.ensures.climbing, c.search-else-is_before.ensures.vacant))))))))
+    (part_smaller c.args.tree.now c.in-Cut.lower.value c.in-Cut.upper.value _ t c.decreases (ap parts_of c.in-Cut.is) (inl e), (within.0, (within.1, (c.requires.here, (rw e mine, rw e framed.2)))))
 
-pub returns-then-is_before-clause-kept : goal.returns-then-is_before-clause-kept
-returns-then-is_before-clause-kept g t c =
-    seen_both (g.P.Metric.distance c.args.m.now) c.args.here.now.city c.in-Cut.lower.value c.in-Cut.upper.value c.args.tree.now _ _ c.args.kept.now c.search.new.kept c.search-then-is_before.new.kept (ap entries_of c.in-Cut.is) c.deref-then-is_before.ensures c.deref-then-is_before-2.ensures c.search.ensures.kept c.search-then-is_before.ensures.kept
-
-pub returns-else-is_before-clause-kept : goal.returns-else-is_before-clause-kept
-returns-else-is_before-clause-kept g t c =
+pub returns-then-may_enter-2 : goal.returns-then-may_enter-2
+returns-then-may_enter-2 g t c =
     let m = c.args.m.now in
+    let dist = g.P.Metric.distance m in
+    let here = c.args.here.now.city in
+    let lower = c.in-Cut.lower.value in
+    let upper = c.in-Cut.upper.value in
+    let framed = rw c.in-Cut.is at c.requires.framed in
     let placed = rw c.in-Cut.is at c.requires.placed in
-    let small : All IsSmall (entries_of c.in-Cut.lower.value ++ entries_of c.in-Cut.upper.value) = placed_small (g.P.Metric.size_of m) (g.P.Planar.place_of m) (entries_of c.in-Cut.lower.value ++ entries_of c.in-Cut.upper.value) (g.met.P.Metric.size_limit m) placed in
-    seen_both_back (g.P.Metric.distance m) c.args.here.now.city c.in-Cut.lower.value c.in-Cut.upper.value c.args.tree.now _ _ c.args.kept.now c.search-else-is_before.new.kept c.search-else-is_before-2.new.kept (all_front IsSmall _ _ small) (all_back IsSmall _ _ small) (ap entries_of c.in-Cut.is) c.deref-else-is_before-2.ensures c.deref-else-is_before.ensures c.search-else-is_before.ensures.kept c.search-else-is_before-2.ensures.kept
+    let kept = g.K.Keeper.kept_of c.args.keeper.now in
+    let middle = g.K.Keeper.kept_of c.if-may_enter.keeper in
+    let first : middle ≡ with_cities dist here (entries_of lower) kept = elim c.if-may_enter.branch [
+      | then-may_enter w ↦ rw w.keeper-is (w.search.ensures ∙ ap (λ tree. with_cities dist here (entries_of tree) kept) w.deref-then-may_enter.ensures)
+      | else-may_enter w ↦
+          let mine = all_front (IsPlaced (g.P.Metric.size_of m) (g.P.Planar.place_of m)) (entries_of lower) (entries_of upper) placed in
+          let from = part_from dist (g.P.Metric.size_of m) (g.P.Planar.place_of m) here c.in-Cut.lower_frame c.first-lower_first.result (entries_of lower) c.first-lower_first.ensures mine framed.0 in
+          let out = rw c.last.ensures at (before_false c.may_enter.ensures w.if-may_enter.false) in
+          rw w.keeper-is (kept_without_part dist here c.first-lower_first.result (entries_of lower) kept from (g.met.K.Keeper.climbing c.args.keeper.now) (g.met.K.Keeper.room c.args.keeper.now) out)
+    ] in
+    let second = c.search-then-may_enter-2.ensures ∙ ap (λ tree. with_cities dist here (entries_of tree) middle) c.deref-then-may_enter-2.ensures in
+    seen_both dist here lower upper c.args.tree.now kept middle _ (ap entries_of c.in-Cut.is) first second
+
+pub returns-else-may_enter-2 : goal.returns-else-may_enter-2
+returns-else-may_enter-2 g t c =
+    let m = c.args.m.now in
+    let dist = g.P.Metric.distance m in
+    let here = c.args.here.now.city in
+    let lower = c.in-Cut.lower.value in
+    let upper = c.in-Cut.upper.value in
+    let framed = rw c.in-Cut.is at c.requires.framed in
+    let placed = rw c.in-Cut.is at c.requires.placed in
+    let kept = g.K.Keeper.kept_of c.args.keeper.now in
+    let middle = g.K.Keeper.kept_of c.if-may_enter.keeper in
+    let first : middle ≡ with_cities dist here (entries_of lower) kept = elim c.if-may_enter.branch [
+      | then-may_enter w ↦ rw w.keeper-is (w.search.ensures ∙ ap (λ tree. with_cities dist here (entries_of tree) kept) w.deref-then-may_enter.ensures)
+      | else-may_enter w ↦
+          let mine = all_front (IsPlaced (g.P.Metric.size_of m) (g.P.Planar.place_of m)) (entries_of lower) (entries_of upper) placed in
+          let from = part_from dist (g.P.Metric.size_of m) (g.P.Planar.place_of m) here c.in-Cut.lower_frame c.first-lower_first.result (entries_of lower) c.first-lower_first.ensures mine framed.0 in
+          let out = rw c.last.ensures at (before_false c.may_enter.ensures w.if-may_enter.false) in
+          rw w.keeper-is (kept_without_part dist here c.first-lower_first.result (entries_of lower) kept from (g.met.K.Keeper.climbing c.args.keeper.now) (g.met.K.Keeper.room c.args.keeper.now) out)
+    ] in
+    let mine = all_back (IsPlaced (g.P.Metric.size_of m) (g.P.Planar.place_of m)) (entries_of lower) (entries_of upper) placed in
+    let from = part_from dist (g.P.Metric.size_of m) (g.P.Planar.place_of m) here c.in-Cut.upper_frame c.first-upper_first.result (entries_of upper) c.first-upper_first.ensures mine framed.1 in
+    let out = rw c.last-then-is_before.ensures at (before_false c.may_enter-then-is_before.ensures c.if-may_enter-2.false) in
+    let second = kept_without_part dist here c.first-upper_first.result (entries_of upper) middle from (g.met.K.Keeper.climbing c.if-may_enter.keeper) (g.met.K.Keeper.room c.if-may_enter.keeper) out in
+    seen_both dist here lower upper c.args.tree.now kept middle _ (ap entries_of c.in-Cut.is) first second
+
+pub returns-then-may_enter-4 : goal.returns-then-may_enter-4
+returns-then-may_enter-4 g t c =
+    let m = c.args.m.now in
+    let dist = g.P.Metric.distance m in
+    let here = c.args.here.now.city in
+    let lower = c.in-Cut.lower.value in
+    let upper = c.in-Cut.upper.value in
+    let framed = rw c.in-Cut.is at c.requires.framed in
+    let placed = rw c.in-Cut.is at c.requires.placed in
+    let kept = g.K.Keeper.kept_of c.args.keeper.now in
+    let middle = g.K.Keeper.kept_of c.if-may_enter-3.keeper in
+    let first : middle ≡ with_cities dist here (entries_of upper) kept = elim c.if-may_enter-3.branch [
+      | then-may_enter-3 w ↦ rw w.keeper-is (w.search-then-may_enter-3.ensures ∙ ap (λ tree. with_cities dist here (entries_of tree) kept) w.deref-then-may_enter-3.ensures)
+      | else-may_enter-3 w ↦
+          let mine = all_back (IsPlaced (g.P.Metric.size_of m) (g.P.Planar.place_of m)) (entries_of lower) (entries_of upper) placed in
+          let from = part_from dist (g.P.Metric.size_of m) (g.P.Planar.place_of m) here c.in-Cut.upper_frame c.first-upper_first.result (entries_of upper) c.first-upper_first.ensures mine framed.1 in
+          let out = rw c.last-else-is_before.ensures at (before_false c.may_enter-else-is_before.ensures w.if-may_enter-3.false) in
+          rw w.keeper-is (kept_without_part dist here c.first-upper_first.result (entries_of upper) kept from (g.met.K.Keeper.climbing c.args.keeper.now) (g.met.K.Keeper.room c.args.keeper.now) out)
+    ] in
+    let second = c.search-then-may_enter-4.ensures ∙ ap (λ tree. with_cities dist here (entries_of tree) middle) c.deref-then-may_enter-4.ensures in
+    let small : All IsSmall (entries_of lower ++ entries_of upper) = placed_small (g.P.Metric.size_of m) (g.P.Planar.place_of m) (entries_of lower ++ entries_of upper) (g.met.P.Metric.size_limit m) placed in
+    seen_both_back dist here lower upper c.args.tree.now kept middle _ (all_front IsSmall _ _ small) (all_back IsSmall _ _ small) (ap entries_of c.in-Cut.is) first second
+
+pub returns-else-may_enter-4 : goal.returns-else-may_enter-4
+returns-else-may_enter-4 g t c =
+    let m = c.args.m.now in
+    let dist = g.P.Metric.distance m in
+    let here = c.args.here.now.city in
+    let lower = c.in-Cut.lower.value in
+    let upper = c.in-Cut.upper.value in
+    let framed = rw c.in-Cut.is at c.requires.framed in
+    let placed = rw c.in-Cut.is at c.requires.placed in
+    let kept = g.K.Keeper.kept_of c.args.keeper.now in
+    let middle = g.K.Keeper.kept_of c.if-may_enter-3.keeper in
+    let first : middle ≡ with_cities dist here (entries_of upper) kept = elim c.if-may_enter-3.branch [
+      | then-may_enter-3 w ↦ rw w.keeper-is (w.search-then-may_enter-3.ensures ∙ ap (λ tree. with_cities dist here (entries_of tree) kept) w.deref-then-may_enter-3.ensures)
+      | else-may_enter-3 w ↦
+          let mine = all_back (IsPlaced (g.P.Metric.size_of m) (g.P.Planar.place_of m)) (entries_of lower) (entries_of upper) placed in
+          let from = part_from dist (g.P.Metric.size_of m) (g.P.Planar.place_of m) here c.in-Cut.upper_frame c.first-upper_first.result (entries_of upper) c.first-upper_first.ensures mine framed.1 in
+          let out = rw c.last-else-is_before.ensures at (before_false c.may_enter-else-is_before.ensures w.if-may_enter-3.false) in
+          rw w.keeper-is (kept_without_part dist here c.first-upper_first.result (entries_of upper) kept from (g.met.K.Keeper.climbing c.args.keeper.now) (g.met.K.Keeper.room c.args.keeper.now) out)
+    ] in
+    let mine = all_front (IsPlaced (g.P.Metric.size_of m) (g.P.Planar.place_of m)) (entries_of lower) (entries_of upper) placed in
+    let from = part_from dist (g.P.Metric.size_of m) (g.P.Planar.place_of m) here c.in-Cut.lower_frame c.first-lower_first.result (entries_of lower) c.first-lower_first.ensures mine framed.0 in
+    let out = rw c.last-else-is_before-2.ensures at (before_false c.may_enter-else-is_before-2.ensures c.if-may_enter-4.false) in
+    let second = kept_without_part dist here c.first-lower_first.result (entries_of lower) middle from (g.met.K.Keeper.climbing c.if-may_enter-3.keeper) (g.met.K.Keeper.room c.if-may_enter-3.keeper) out in
+    let small : All IsSmall (entries_of lower ++ entries_of upper) = placed_small (g.P.Metric.size_of m) (g.P.Planar.place_of m) (entries_of lower ++ entries_of upper) (g.met.P.Metric.size_limit m) placed in
+    seen_both_back dist here lower upper c.args.tree.now kept middle _ (all_front IsSmall _ _ small) (all_back IsSmall _ _ small) (ap entries_of c.in-Cut.is) first second
