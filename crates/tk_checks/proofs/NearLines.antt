@@ -5,8 +5,8 @@ use Rattle.std.specs.List.{range_with_len}
 use Rattle.std.proofs.lemmas.List.FromFn.{length-range_with_len}
 use Rattle.std.proofs.lemmas.List.{length-take}
 use Rattle.tk_near.specs.Near.{NearLists, near_of}
-use Rattle.tk_text.specs.Written.{near_line, spaced_numbers}
-use Rattle.tk_writers.proofs.Lengths.MatrixLength.{length_decimal, length_flat_map}
+use Rattle.tk_pen.specs.Written.{near_line, spaced_numbers}
+use Rattle.tk_pen.proofs.NumberLengths.{length_decimal, length_flat_map}
 use Rattle.tk_checks.specs.NearText.{near_text}
 
 length_spaced : (xs : List ℕ) → length (spaced_numbers xs) ≤ length xs * 65

@@ -1,30 +1,20 @@
 -- The table of a problem has the distances that its text says.
-use Rattle.std.proofs.Common.{◌≡◌, ℕ, ◌-◌, ◌≤◌, min, Option, Some, None, Result, Ok, Err, refl, sym, ap, ◌∙◌, subst, arith}
+use Rattle.std.proofs.Common.{◌≡◌, ℕ, ◌-◌, ◌≤◌, min, Option, Some, None, Result, Ok, Err, sym, ap, ◌∙◌, subst, arith}
 use Rattle.std.proofs.lemmas.Bool.{le-ltb}
-use mathlib.Core.Path.{fun_ext}
 use Rattle.std.specs.Prelude.{Bool, IfOk, if◌then◌else◌}
 use Rattle.tk_near.specs.Near.{NearLists, AreNearest}
 use Rattle.tk_metric.specs.Tables.{table_size, table_distance, table_distance-swap, table_distance-limit}
 use Rattle.tk_metric.specs.Weights.{problem_distance}
 use Rattle.tk_metric.specs.declared.table.Table.{Table}
-use Rattle.tk_text.specs.declared.Problem.{Problem}
-use Rattle.tk_text.specs.declared.Weights.{Weights}
-use Rattle.tk_text.specs.declared.Weights.TheVariants.{Points, Lower}
-use Rattle.tk_text.specs.Parts.{weights_are, problem_is}
-use Rattle.tk_text.specs.Problem.{ProblemIs}
-use Rattle.tk_text.specs.ReadBack.{IsTable}
-use Rattle.tk_checks.specs.Check.{read_distance}
+use Rattle.tk_problem.specs.declared.problem.Problem.{Problem}
+use Rattle.tk_problem_text.specs.Parts.{problem_is}
+use Rattle.tk_problem_text.specs.Problem.{ProblemIs}
+use Rattle.tk_writers.specs.ReadBack.{IsTable}
+use Rattle.tk_stages.proofs.ReadTables.{distances_read}
 use Rattle.tk_checks.specs.MatrixOf.{too_large}
 use Rattle.tk_checks.specs.NearText.{IsNearOf}
-use Rattle.tk_checks.specs.declared.fault.Fault.{Fault}
-use Rattle.tk_checks.specs.declared.fault.Fault.TheVariants.{TooLarge}
-
-pub read_distance-weights : (w : Weights) (a b : ℕ) → problem_distance w a b ≡ read_distance (weights_are w) a b
-read_distance-weights (Points kind places) a b = refl
-read_distance-weights (Lower weights) a b = refl
-
-pub distances_read : (d : ℕ → ℕ → ℕ) (w : Weights) → ((a b : ℕ) → d a b ≡ problem_distance w a b) → d ≡ read_distance (weights_are w)
-distances_read d w is = fun_ext (λ a. fun_ext (λ b. is a b ∙ read_distance-weights w a b))
+use Rattle.tk_stages.specs.declared.fault.Fault.{Fault}
+use Rattle.tk_stages.specs.declared.fault.Fault.TheVariants.{TooLarge}
 
 -- the distances of a table are weights that a problem can have
 pub IsTable-table : (t : Table) (n : ℕ) (d : ℕ → ℕ → ℕ) → ((a b : ℕ) → table_distance t a b ≡ d a b) → IsTable n d

@@ -1,9 +1,4 @@
 pub mod Check
-pub mod Engine
 pub mod MatrixOf
 pub mod NearText
 pub mod RouteCheck
-pub use Rattle.tk_text.specs.Problem
-pub use Rattle.tk_text.specs.Puts
-pub use Rattle.tk_text.specs.Solution
-pub use Rattle.tk_text.specs.Tour

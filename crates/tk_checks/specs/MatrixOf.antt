@@ -1,13 +1,13 @@
 -- The matrix of a problem.
 use Rattle.std.specs.Prelude.{◌≡◌, ℕ, false, List, Option, Some, None, nat_lt, if◌then◌else◌}
-use Rattle.tk_text.specs.declared.Format.{Format}
-use Rattle.tk_text.specs.MatrixText.{matrix_text}
-use Rattle.tk_text.specs.Problem.{ProblemIs, Lower, problem_decided}
-use Rattle.tk_text.specs.ReadBack.{IsReadBackAs, lower_triangle}
-use Rattle.tk_checks.specs.Check.{read_distance}
-use Rattle.tk_checks.specs.Engine.{Task, NoClash}
-use Rattle.tk_checks.specs.declared.fault.Fault.{Fault}
-use Rattle.tk_checks.specs.declared.fault.Fault.TheVariants.{TooLarge}
+use Rattle.tk_problem.specs.declared.weights.Format.{Format}
+use Rattle.tk_writers.specs.MatrixText.{matrix_text}
+use Rattle.tk_problem_text.specs.Problem.{ProblemIs, Lower, problem_decided}
+use Rattle.tk_writers.specs.ReadBack.{IsReadBackAs, lower_triangle}
+use Rattle.tk_stages.specs.ReadProblems.{read_distance}
+use Rattle.tk_stages.specs.Engine.{Task, NoClash}
+use Rattle.tk_stages.specs.declared.fault.Fault.{Fault}
+use Rattle.tk_stages.specs.declared.fault.Fault.TheVariants.{TooLarge}
 
 abbrev pub matrix_of : ProblemIs → Format → List ℕ
 matrix_of p format = matrix_text p.name p.n (read_distance p.weights) format

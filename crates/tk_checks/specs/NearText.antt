@@ -2,10 +2,10 @@
 use Rattle.std.specs.Prelude.{◌≡◌, ℕ, ◌-◌, true, min, List, None, flat_map}
 use Rattle.std.specs.List.{range_with_len}
 use Rattle.tk_near.specs.Near.{NearLists, AreNearest, near_of}
-use Rattle.tk_text.specs.Problem.{ProblemIs}
-use Rattle.tk_text.specs.Written.{near_line}
-use Rattle.tk_checks.specs.Check.{read_distance}
-use Rattle.tk_checks.specs.Engine.{Task, NoClash}
+use Rattle.tk_problem_text.specs.Problem.{ProblemIs}
+use Rattle.tk_pen.specs.Written.{near_line}
+use Rattle.tk_stages.specs.ReadProblems.{read_distance}
+use Rattle.tk_stages.specs.Engine.{Task, NoClash}
 
 -- a line for each city
 abbrev pub near_text : NearLists → List ℕ

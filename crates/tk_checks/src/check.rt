@@ -1,14 +1,17 @@
 //! The check of a tour.
 ghost use Rattle.std.specs.Prelude.{◌≡◌, true, IfErr};
-ghost use Rattle.tk_text.specs.Puts.{Writes};
+ghost use Rattle.tk_pen.specs.Puts.{Writes};
 ghost use Rattle.tk_checks.specs.Check.{check_task};
-ghost use Rattle.tk_checks.specs.Engine.{Ends, ReadsProblem, ReadsTour, IsUntouched, BeforeSecond, UnlessWrite, AtWrite};
+ghost use Rattle.tk_stages.specs.Engine.{Ends, ReadsProblem, ReadsTour, IsUntouched, BeforeSecond, UnlessWrite, AtWrite};
 
-use crate::fault::Fault;
-use crate::verdict_line::write_verdict;
 use std::alloc::Global;
-use tk_text::{Sink, Source, read_problem, read_tour};
+use tk_lists::read_tour;
+use tk_pen::Sink;
+use tk_problem_text::read_problem;
+use tk_stages::Fault;
 use tk_tour::{Verdict, check};
+use tk_verdicts::write_verdict;
+use tk_words::Source;
 
 /// Checks the tour of one text against the problem of another, writes one line on it, and returns the verdict.
 ///

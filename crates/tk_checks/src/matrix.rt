@@ -2,16 +2,20 @@
 ghost use Rattle.std.specs.Prelude.{◌≡◌, ◌≤◌, true, pos, OnErr, IfErr};
 ghost use Rattle.tk_metric.specs.Cities.{IsCity};
 ghost use Rattle.tk_metric.specs.Tables.{table_size, table_distance};
-ghost use Rattle.tk_text.specs.Parts.{problem_is};
-ghost use Rattle.tk_text.specs.Puts.{Writes};
-ghost use Rattle.tk_text.specs.Names.{IsName};
-ghost use Rattle.tk_checks.specs.Engine.{Ends, ReadsProblem, NoText, IsUntouched, UnlessWrite, AtWrite};
+ghost use Rattle.tk_problem_text.specs.Parts.{problem_is};
+ghost use Rattle.tk_pen.specs.Puts.{Writes};
+ghost use Rattle.tk_problem_text.specs.Names.{IsName};
+ghost use Rattle.tk_stages.specs.Engine.{Ends, ReadsProblem, NoText, IsUntouched, UnlessWrite, AtWrite};
 ghost use Rattle.tk_checks.specs.MatrixOf.{by_distances, IsReadAs, matrix_of, matrix_task};
 
-use crate::fault::Fault;
 use std::alloc::Global;
 use tk_metric::{Metric, Table};
-use tk_text::{Format, Problem, Sink, Source, TABLE_LIMIT, WriteFault, read_problem, write_matrix};
+use tk_pen::{Sink, WriteFault};
+use tk_problem::{Format, Problem};
+use tk_problem_text::{TABLE_LIMIT, read_problem};
+use tk_stages::Fault;
+use tk_words::Source;
+use tk_writers::write_matrix;
 
 /// Writes the matrix of a problem.
 fn write_problem<W: Sink>(out: &mut W, problem: &Problem, format: Format) -> Result<(), WriteFault>

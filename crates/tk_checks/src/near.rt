@@ -1,17 +1,20 @@
 //! The near lists of a problem.
 ghost use Rattle.std.specs.Prelude.{◌≡◌, ◌≤◌, true, OnErr, IfOk, IfErr};
-ghost use Rattle.tk_text.specs.Parts.{problem_is};
-ghost use Rattle.tk_text.specs.Pens.{Puts};
-ghost use Rattle.tk_text.specs.Puts.{Writes};
-ghost use Rattle.tk_checks.specs.Engine.{Ends, ReadsProblem, NoText, IsUntouched, UnlessWrite, AtWrite};
+ghost use Rattle.tk_problem_text.specs.Parts.{problem_is};
+ghost use Rattle.tk_pen.specs.Pens.{Puts};
+ghost use Rattle.tk_pen.specs.Puts.{Writes};
+ghost use Rattle.tk_stages.specs.Engine.{Ends, ReadsProblem, NoText, IsUntouched, UnlessWrite, AtWrite};
 ghost use Rattle.tk_checks.specs.NearText.{IsNearOf, near_task, near_text};
 
-use crate::fault::Fault;
 use std::alloc::{AllocError, Global};
 use tk_metric::Table;
 use tk_near::Near;
+use tk_pen::{Pen, Sink, WriteFault};
 use tk_plane::near_lists;
-use tk_text::{Pen, Problem, Sink, Source, WriteFault, read_problem};
+use tk_problem::Problem;
+use tk_problem_text::read_problem;
+use tk_stages::Fault;
+use tk_words::Source;
 
 /// The near lists of a problem: k cities each, or all others where there are fewer.
 fn lists_of(alloc: Global, problem: &Problem, k: u32) -> Result<Near, AllocError>

@@ -1,14 +1,17 @@
 //! The check of routes.
 ghost use Rattle.std.specs.Prelude.{◌≡◌, true, IfErr};
-ghost use Rattle.tk_text.specs.Puts.{Writes};
-ghost use Rattle.tk_checks.specs.Engine.{Ends, ReadsProblem, ReadsSolution, IsUntouched, BeforeSecond, UnlessWrite, AtWrite};
+ghost use Rattle.tk_pen.specs.Puts.{Writes};
+ghost use Rattle.tk_stages.specs.Engine.{Ends, ReadsProblem, ReadsSolution, IsUntouched, BeforeSecond, UnlessWrite, AtWrite};
 ghost use Rattle.tk_checks.specs.RouteCheck.{route_check_task};
 
-use crate::fault::Fault;
-use crate::route_line::write_route_verdict;
 use std::alloc::Global;
+use tk_lists::read_solution;
+use tk_pen::Sink;
+use tk_problem_text::read_problem;
 use tk_routes::{Cvrp, RouteVerdict, check_routes};
-use tk_text::{Sink, Source, read_problem, read_solution};
+use tk_stages::Fault;
+use tk_verdicts::write_route_verdict;
+use tk_words::Source;
 
 /// Checks the routes of one text against the problem of another, writes one line on them, and returns the verdict.
 ///

@@ -1,4 +1,4 @@
-//! The tests of `tk_engines`, in a crate of their own: the tests of a crate are proved together with all of
+//! The tests of `tk_checks` and `tk_solve_engine`, in a crate of their own: the tests of a crate are proved together with all of
 //! its functions.
 #![tactic(auto)]
 

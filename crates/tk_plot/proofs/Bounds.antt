@@ -1,8 +1,8 @@
 -- The least and the greatest of some numbers, and of one more.
 use Rattle.std.proofs.Common.{◌≡◌, ℕ, zero, suc, ◌<◌, ◌≤◌, ◌⊎◌, inl, inr, List, [], ◌∷◌, ◌++◌, refl, sym, ◌∙◌, subst, arith, ap, length, take, ◌+◌}
 use Rattle.std.proofs.lemmas.List.{take_more, take_all, map-append}
-use Rattle.tk_text.specs.declared.Point.{Point}
-use Rattle.tk_text.specs.Places.{origin}
+use Rattle.tk_problem.specs.declared.point.Point.{Point}
+use Rattle.tk_problem.specs.Places.{origin}
 use Rattle.std.specs.Prelude.{ℤ, ◌≤ℤ◌, All, Contains, map, slice_index_or}
 use Rattle.std.specs.Int.{int_min, int_max}
 use Rattle.std.proofs.lemmas.Int.{ints, clamps, by_lt_z, to_z-of_z}

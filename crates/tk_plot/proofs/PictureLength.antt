@@ -4,8 +4,8 @@ use Rattle.std.specs.Prelude.{flat_map, map, codes, decimal, if◌then◌else◌
 use Rattle.std.specs.List.{range_with_len, concat}
 use Rattle.std.proofs.lemmas.List.FromFn.{length-range_with_len}
 use Rattle.std.proofs.lemmas.List.{length-map}
-use Rattle.tk_writers.proofs.Lengths.MatrixLength.{length_decimal, length_flat_map}
-use Rattle.tk_text.specs.Written.{line}
+use Rattle.tk_pen.proofs.NumberLengths.{length_decimal, length_flat_map}
+use Rattle.tk_pen.specs.Written.{line}
 use Rattle.tk_routes.specs.Cvrps.{instance_of}
 use Rattle.tk_routes.specs.Instance.{Instance, customer_count, node_of}
 use Rattle.tk_routes.specs.RouteVerdicts.{filled_of}
@@ -22,7 +22,7 @@ use Rattle.tk_plot.specs.PictureText.{shown, caption_text, title, colours, dashe
 use Rattle.tk_plot.specs.Pictures.{AreLines, paths_of}
 use Rattle.tk_plot.proofs.Closed.{filled_few}
 use Rattle.tk_metric.specs.PlaneOf.{city_place}
-use Rattle.tk_text.specs.declared.Point.{Point}
+use Rattle.tk_problem.specs.declared.point.Point.{Point}
 
 -- a choice of two texts is no longer than a bound on both
 either_short : (b : Bool) (s t : List ℕ) (most : ℕ) → length s ≤ most → length t ≤ most → length (if b then s else t) ≤ most

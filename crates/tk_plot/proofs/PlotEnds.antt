@@ -1,10 +1,10 @@
 -- How a plot ends, by how it ends once the problem is read.
 use Rattle.std.proofs.Common.{Bool, Result, Ok, Err, subst, sym}
 use Rattle.std.specs.Prelude.{IfErr}
-use Rattle.tk_text.specs.Problem.{ProblemIs}
-use Rattle.tk_checks.specs.Engine.{AreRead, BeforeSecond, EndsByProblem, IsGiven, Reading, Writing}
-use Rattle.tk_checks.specs.declared.fault.Fault.{Fault}
-use Rattle.tk_checks.specs.declared.fault.Fault.TheVariants as faults
+use Rattle.tk_problem_text.specs.Problem.{ProblemIs}
+use Rattle.tk_stages.specs.Engine.{AreRead, BeforeSecond, EndsByProblem, IsGiven, Reading, Writing}
+use Rattle.tk_stages.specs.declared.fault.Fault.{Fault}
+use Rattle.tk_stages.specs.declared.fault.Fault.TheVariants as faults
 use Rattle.tk_plot.specs.declared.plotted.Plotted.{Plotted}
 use Rattle.tk_plot.specs.Plot.{Claim, HasRead, Output, plot_task}
 

@@ -2,11 +2,11 @@
 use Rattle.std.proofs.Common.{◌≡◌, ℕ, List, Option, Some, None, refl, sym, ap, ◌∙◌, subst, true}
 use Rattle.std.specs.Prelude.{ℤ, IsSomeAnd, MatchOption, option_map, is_some}
 use Rattle.std.specs.List.{concat}
-use Rattle.tk_text.specs.declared.Problem.{Problem}
-use Rattle.tk_text.specs.declared.Routing.{Routing}
-use Rattle.tk_text.specs.Parts.{problem_is, routing_is, weights_are}
-use Rattle.tk_text.specs.PlacesOf.{places_of}
-use Rattle.tk_text.specs.Problem.{RoutingIs}
+use Rattle.tk_problem.specs.declared.problem.Problem.{Problem}
+use Rattle.tk_problem.specs.declared.routing.Routing.{Routing}
+use Rattle.tk_problem_text.specs.Parts.{problem_is, routing_is, weights_are}
+use Rattle.tk_problem.specs.PlacesOf.{places_of}
+use Rattle.tk_problem_text.specs.Problem.{RoutingIs}
 use Rattle.tk_metric.specs.Weights.{problem_distance}
 use Rattle.tk_tour.specs.Tour.{IsTour, tour_length}
 use Rattle.tk_tour.specs.Verdict.{IsVerdict}
@@ -19,10 +19,11 @@ use Rattle.tk_routes.specs.Routes.{AreRoutes}
 use Rattle.tk_routes.specs.declared.verdict.RouteVerdict.{RouteVerdict}
 use Rattle.tk_routes.specs.declared.verdict.RouteVerdict.TheVariants as route_verdicts
 use Rattle.tk_routes.proofs.Filled.{concat-filled}
-use Rattle.tk_checks.specs.Check.{read_distance, verdict_line}
-use Rattle.tk_checks.specs.RouteCheck.{route_verdict_line}
-use Rattle.tk_checks.proofs.Lengths.{IsCheck-of, cities_of_tour, tour_length_same}
-use Rattle.tk_checks.proofs.ProblemTables.{read_distance-weights}
+use Rattle.tk_verdicts.specs.TourLine.{verdict_line}
+use Rattle.tk_stages.specs.ReadProblems.{read_distance}
+use Rattle.tk_verdicts.specs.RouteLine.{route_verdict_line}
+use Rattle.tk_verdicts.proofs.TourLines.{cities_of_tour, tour_length_same}
+use Rattle.tk_stages.proofs.ReadTables.{read_distance-weights, read_distance_is}
 use Rattle.tk_plot.specs.declared.caption.Caption.{Caption}
 use Rattle.tk_plot.specs.declared.picture.Lines.{Lines}
 use Rattle.tk_plot.specs.declared.picture.Picture.{Picture}
@@ -64,7 +65,7 @@ told_for p cities line (verdicts.RepeatedCity place) fault is = is
 
 pub tour_told : (p : Problem) (cities : List ℕ) (v : Verdict) → (v ≡ verdicts.Tour → ⊥) → IsVerdict p.n cities v
     → IsTourOutput (problem_is p) cities v (Refused (verdict_line p.n (problem_distance p.weights) cities v))
-tour_told p cities v fault right = told_for p cities _ v fault (IsCheck-of p cities cities cities v refl refl right).line
+tour_told p cities v fault right = told_for p cities _ v fault (ap (λ d. verdict_line p.n d cities v) (read_distance_is p.weights))
 
 pub routes_told : (p : Problem) (i : Instance) (routes : List (List ℕ)) (v : RouteVerdict) → ((count : ℕ) (cost : ℤ) → v ≡ route_verdicts.Valid count cost → ⊥)
     → IsRouteOutput (problem_is p) i routes v (Refused (route_verdict_line v))

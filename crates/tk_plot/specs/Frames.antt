@@ -3,7 +3,7 @@
 --     across f p, down f p      how far a place is from its left side and from its top
 use Rattle.std.specs.Prelude.{ℕ, ◌*◌, ◌/◌, ◌+◌, ℤ, ◌≤ℤ◌, List, All, Contains, map}
 use Rattle.std.specs.Int.{div_ceil}
-use Rattle.tk_text.specs.declared.Point.{Point}
+use Rattle.tk_problem.specs.declared.point.Point.{Point}
 use Rattle.tk_plot.specs.declared.frame.Frame.{Frame}
 use Rattle.tk_plot.specs.Sides.{gap}
 

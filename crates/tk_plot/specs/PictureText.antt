@@ -5,8 +5,8 @@
 --     picture_text f places name caption paths depot      the whole text
 use Rattle.std.specs.Prelude.{ℕ, ◌+◌, ◌/◌, ◌%◌, ◌==◌, Bool, true, ◌||◌, nat_lt, List, [], ◌∷◌, ◌++◌, Option, Some, None, length, slice_index_or, flat_map, codes, decimal, if◌then◌else◌}
 use Rattle.std.specs.List.{range_with_len}
-use Rattle.tk_text.specs.declared.Point.{Point}
-use Rattle.tk_text.specs.Written.{line}
+use Rattle.tk_problem.specs.declared.point.Point.{Point}
+use Rattle.tk_pen.specs.Written.{line}
 use Rattle.tk_metric.specs.PlaneOf.{city_place}
 use Rattle.tk_plot.specs.declared.caption.Caption.{Caption}
 use Rattle.tk_plot.specs.declared.caption.Caption.TheVariants.{Cities, Tour, Routes}

@@ -4,12 +4,12 @@
 --     WritesOutput      a picture goes to the one sink, or the line on a fault to the other
 use Rattle.std.specs.Prelude.{◌≡◌, ℕ, ◌⊎◌, Bool, true, false, List, [], ◌∷◌, Option, Some, None, Ok, Err, IsSomeAnd, MatchOption, length, map, option_map, is_some}
 use Rattle.std.specs.Int.RustNames.{unsigned_abs}
-use Rattle.tk_text.specs.declared.Point.{Point}
-use Rattle.tk_text.specs.Problem.{ProblemIs, WeightsAre}
-use Rattle.tk_text.specs.Problem as value
-use Rattle.tk_text.specs.PlacesOf.{places_of}
-use Rattle.tk_text.specs.Puts.{Writes}
-use Rattle.tk_text.specs.Solution.{Solution}
+use Rattle.tk_problem.specs.declared.point.Point.{Point}
+use Rattle.tk_problem_text.specs.Problem.{ProblemIs, WeightsAre}
+use Rattle.tk_problem_text.specs.Problem as value
+use Rattle.tk_problem.specs.PlacesOf.{places_of}
+use Rattle.tk_pen.specs.Puts.{Writes}
+use Rattle.tk_lists.specs.Solution.{Solution}
 use Rattle.tk_tour.specs.Tour.{tour_length}
 use Rattle.tk_tour.specs.Verdict.{IsVerdict}
 use Rattle.tk_tour.specs.declared.verdict.Verdict.{Verdict}
@@ -19,11 +19,13 @@ use Rattle.tk_routes.specs.RouteVerdicts.{IsRouteVerdict, filled_of}
 use Rattle.tk_routes.specs.Routes.{route_nodes}
 use Rattle.tk_routes.specs.declared.verdict.RouteVerdict.{RouteVerdict}
 use Rattle.tk_routes.specs.declared.verdict.RouteVerdict.TheVariants as route_verdicts
-use Rattle.tk_checks.specs.Check.{read_distance, verdict_line}
-use Rattle.tk_checks.specs.Engine.{IsUntouched, NoClash, Reading, ReadsSolution, ReadsTour, Task, Writing}
-use Rattle.tk_checks.specs.RouteCheck.{instance_in, route_verdict_line}
-use Rattle.tk_checks.specs.declared.fault.Fault.{Fault}
-use Rattle.tk_checks.specs.declared.fault.Fault.TheVariants.{NoPlaces}
+use Rattle.tk_verdicts.specs.TourLine.{verdict_line}
+use Rattle.tk_stages.specs.ReadProblems.{read_distance}
+use Rattle.tk_stages.specs.Engine.{IsUntouched, NoClash, Reading, ReadsSolution, ReadsTour, Task, Writing}
+use Rattle.tk_verdicts.specs.RouteLine.{route_verdict_line}
+use Rattle.tk_stages.specs.ReadProblems.{instance_in}
+use Rattle.tk_stages.specs.declared.fault.Fault.{Fault}
+use Rattle.tk_stages.specs.declared.fault.Fault.TheVariants.{NoPlaces}
 use Rattle.tk_plot.specs.declared.caption.Caption.{Caption}
 use Rattle.tk_plot.specs.declared.caption.Caption.TheVariants as captions
 use Rattle.tk_plot.specs.declared.frame.Frame.{Frame}

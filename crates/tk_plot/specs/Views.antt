@@ -1,6 +1,6 @@
 -- What callers see of a view.
 use Rattle.std.specs.Prelude.{ℕ, List, length}
-use Rattle.tk_text.specs.PlacesOf.{places_of}
+use Rattle.tk_problem.specs.PlacesOf.{places_of}
 use Rattle.tk_plot.specs.declared.view.View.{View}
 use Rattle.tk_plot.specs.PictureText.{spot}
 

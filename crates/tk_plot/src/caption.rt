@@ -1,10 +1,10 @@
 //! The title of a picture.
 ghost use Rattle.std.specs.Prelude.{flat_map};
-ghost use Rattle.tk_text.specs.Pens.{Puts};
+ghost use Rattle.tk_pen.specs.Pens.{Puts};
 ghost use Rattle.tk_plot.specs.declared.caption.Caption.TheVariants.{Cities, Tour, Routes};
 ghost use Rattle.tk_plot.specs.PictureText.{caption_text, shown, title};
 
-use tk_text::{Pen, Sink};
+use tk_pen::{Pen, Sink};
 
 /// What a picture shows.
 #[derive(Clone, Copy)]

@@ -1,7 +1,7 @@
 //! Closed lines through cities.
 ghost use Rattle.std.specs.Prelude.{◌≡◌, ◌+◌, ◌<◌, ◌^◌, [], ◌∷◌, All, length, map};
 ghost use Rattle.std.specs.List.{concat};
-ghost use Rattle.tk_text.specs.Pens.{Puts};
+ghost use Rattle.tk_pen.specs.Pens.{Puts};
 ghost use Rattle.tk_metric.specs.Cities.{IsCity};
 ghost use Rattle.tk_routes.specs.Cvrps.{instance_of};
 ghost use Rattle.tk_routes.specs.Instance.{customer_count};
@@ -11,8 +11,8 @@ ghost use Rattle.tk_plot.specs.PictureText.{closed_line, closed_lines, colours, 
 ghost use Rattle.tk_plot.specs.Views.{city_count, spot_in};
 
 use crate::view::View;
+use tk_pen::{Pen, Sink};
 use tk_routes::Cvrp;
-use tk_text::{Pen, Sink};
 
 /// Puts a colour, of which there are seven.
 fn put_colour<W: Sink>(pen: &mut Pen<'_, W>, number: u64)

@@ -1,14 +1,14 @@
 //! Cities as points.
 ghost use Rattle.std.specs.Prelude.{◌≡◌, Some, length, IfSome};
 ghost use Rattle.std.specs.List.{range_with_len};
-ghost use Rattle.tk_text.specs.Pens.{Puts};
+ghost use Rattle.tk_pen.specs.Pens.{Puts};
 ghost use Rattle.tk_metric.specs.Cities.{IsCity};
 ghost use Rattle.tk_plot.specs.PictureText.{city_dots, city_style, depot_mark, dot, dots, has_dots};
 ghost use Rattle.tk_plot.specs.Views.{city_count, spot_in};
 
 use crate::caption::Caption;
 use crate::view::View;
-use tk_text::{Pen, Sink};
+use tk_pen::{Pen, Sink};
 
 /// From this many cities on, lines and points are thin.
 pub(crate) const MANY: u32 = 2_000;

@@ -2,7 +2,7 @@
 ghost use Rattle.std.specs.Prelude.{◌≡◌};
 ghost use Rattle.tk_plot.specs.Sides.{longer_side};
 
-use tk_text::{Places, Point};
+use tk_problem::{Places, Point};
 
 /// The least rectangle that holds all places of a problem, in units of 10^-9.
 #[derive(Clone, Copy)]
@@ -25,7 +25,7 @@ fn side_of(low: Point, high: Point) -> u64
 
 impl Frame {
     ghost use Rattle.std.specs.Prelude.{◌≤◌, length};
-    ghost use Rattle.tk_text.specs.PlacesOf.{places_of};
+    ghost use Rattle.tk_problem.specs.PlacesOf.{places_of};
     ghost use Rattle.tk_plot.specs.Frames.{IsFrame, across, down, view_height};
 
     /// The frame of some places.

@@ -12,3 +12,4 @@ mod view;
 
 pub use plot::plot_engine;
 pub use plotted::Plotted;
+pub use tk_stages::Fault;

@@ -1,7 +1,7 @@
 //! A picture of a problem.
 ghost use Rattle.std.specs.Prelude.{◌≡◌, ◌≤◌, true, IfSome, OnErr, length};
-ghost use Rattle.tk_text.specs.Pens.{Puts};
-ghost use Rattle.tk_text.specs.Puts.{Writes};
+ghost use Rattle.tk_pen.specs.Pens.{Puts};
+ghost use Rattle.tk_pen.specs.Puts.{Writes};
 ghost use Rattle.tk_metric.specs.Cities.{IsCity};
 ghost use Rattle.tk_plot.specs.Frames.{view_height};
 ghost use Rattle.tk_plot.specs.PictureText.{closed_lines, group_line, head, heading_line, line_width};
@@ -13,8 +13,8 @@ use crate::caption::{Caption, put_title};
 use crate::closed_lines::{put_routes, put_tour};
 use crate::dots::{MANY, put_city_dots, put_depot};
 use crate::view::View;
+use tk_pen::{Pen, Sink, WriteFault};
 use tk_routes::Cvrp;
-use tk_text::{Pen, Sink, WriteFault};
 
 /// The closed lines of a picture.
 #[derive(Clone, Copy)]

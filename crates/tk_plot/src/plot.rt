@@ -1,13 +1,13 @@
 //! The picture of a problem, and of a tour or of routes that fit it.
 ghost use Rattle.std.specs.Prelude.{◌≡◌, true, IfErr, IfSome, OnErr, None, map, option_map};
-ghost use Rattle.tk_text.specs.Parts.{problem_is};
-ghost use Rattle.tk_text.specs.Puts.{Writes};
+ghost use Rattle.tk_problem_text.specs.Parts.{problem_is};
+ghost use Rattle.tk_pen.specs.Puts.{Writes};
 ghost use Rattle.tk_metric.specs.Cities.{IsCity};
 ghost use Rattle.tk_tour.specs.Verdict.{IsVerdict};
 ghost use Rattle.tk_routes.specs.Cvrps.{instance_of};
 ghost use Rattle.tk_routes.specs.Instance.{IsInstanceOf};
 ghost use Rattle.tk_routes.specs.RouteVerdicts.{IsRouteVerdict};
-ghost use Rattle.tk_checks.specs.Engine.{AtWrite, BeforeSecond, EndsByProblem, IsUntouched, ReadsProblem, UnlessWrite};
+ghost use Rattle.tk_stages.specs.Engine.{AtWrite, BeforeSecond, EndsByProblem, IsUntouched, ReadsProblem, UnlessWrite};
 ghost use Rattle.tk_plot.specs.Pictures.{AreLines, paths_of};
 ghost use Rattle.tk_plot.specs.Plot.{AreUntouched, HasFailed, WritesOutput, WritesSome};
 ghost use Rattle.tk_plot.specs.Plot.{HasRead, IsPicture, IsRouteOutput, IsTourOutput, IsViewOf, ReadsClaim, plot_task};
@@ -17,10 +17,15 @@ use crate::picture::{Lines, Picture, write_picture};
 use crate::plotted::Plotted;
 use crate::view::View;
 use std::alloc::Global;
-use tk_checks::{Fault, length_of, write_route_verdict, write_verdict};
+use tk_lists::{SolText, read_solution, read_tour};
+use tk_pen::{Sink, WriteFault};
+use tk_problem::Problem;
+use tk_problem_text::read_problem;
 use tk_routes::{Cvrp, RouteVerdict, check_routes};
-use tk_text::{Problem, Sink, SolText, Source, WriteFault, read_problem, read_solution, read_tour};
+use tk_stages::Fault;
 use tk_tour::{Verdict, check};
+use tk_verdicts::{length_of, write_route_verdict, write_verdict};
+use tk_words::Source;
 
 /// The depot of a problem, where it has a routing.
 fn depot_of(problem: &Problem) -> Option<u32>

@@ -1,10 +1,11 @@
 //! Where cities stand in a picture.
 ghost use Rattle.std.specs.Prelude.{◌≤◌, length};
-ghost use Rattle.tk_text.specs.PlacesOf.{places_of};
+ghost use Rattle.tk_problem.specs.PlacesOf.{places_of};
 
 use crate::frame::Frame;
+use tk_pen::{Pen, Sink};
+use tk_problem::{Places, Problem, Weights};
 use tk_routes::Cvrp;
-use tk_text::{Pen, Places, Problem, Sink, Weights};
 
 /// The places of at most 100,000 cities, and the frame of a picture of them.
 #[derive(Clone, Copy)]
@@ -16,8 +17,8 @@ pub struct View<'a> {
 
 impl<'a> View<'a> {
     ghost use Rattle.std.specs.Prelude.{◌≡◌, Some, IfSome, IfNone};
-    ghost use Rattle.tk_text.specs.Parts.{problem_is};
-    ghost use Rattle.tk_checks.specs.declared.fault.Fault.TheVariants.{NoPlaces};
+    ghost use Rattle.tk_problem_text.specs.Parts.{problem_is};
+    ghost use Rattle.tk_stages.specs.declared.fault.Fault.TheVariants.{NoPlaces};
     ghost use Rattle.tk_plot.specs.Plot.{IsViewOf, without_places};
 
     /// A view of all cities of a problem: none where they have no places.
@@ -38,8 +39,8 @@ impl<'a> View<'a> {
 
 impl View<'_> {
     ghost use Rattle.std.specs.Prelude.{◌≡◌, All, flat_map};
-    ghost use Rattle.tk_text.specs.Pens.{Puts};
-    ghost use Rattle.tk_text.specs.Written.{line};
+    ghost use Rattle.tk_pen.specs.Pens.{Puts};
+    ghost use Rattle.tk_pen.specs.Written.{line};
     ghost use Rattle.tk_metric.specs.Cities.{IsCity};
     ghost use Rattle.tk_routes.specs.Cvrps.{instance_of};
     ghost use Rattle.tk_routes.specs.Instance.{customer_count};

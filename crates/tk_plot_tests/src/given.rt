@@ -1,7 +1,6 @@
 //! What the engine is given, and what it gives.
 use std::alloc::Global;
-use tk_checks::Fault;
-use tk_plot::{Plotted, plot_engine};
+use tk_plot::{Fault, Plotted, plot_engine};
 use tk_text::{FromRead, ToWrite};
 
 /// What the engine answers, what it draws, and what it tells of a fault.

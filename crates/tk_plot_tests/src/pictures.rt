@@ -1,8 +1,7 @@
 //! Pictures, byte by byte.
 use crate::given::{EXPLICIT, Given, RECTANGLE, SHOP, plotted};
 use std::process::Abort;
-use tk_checks::Fault;
-use tk_plot::Plotted;
+use tk_plot::{Fault, Plotted};
 use tk_routes::RouteVerdict;
 use tk_text::{TextFault, TextKind};
 use tk_tour::Verdict;

@@ -1,10 +1,11 @@
 //! The subcommand `check`.
-use crate::input::open_two;
-use crate::report::{self, FOUND};
 use std::process::ExitCode;
-use tk_engines::{Fault, check_engine};
-use tk_text::{FromRead, ToWrite};
+use tk_checks::{Fault, check_engine};
+use tk_console::open_two;
+use tk_console::report::{self, FOUND};
+use tk_pen::ToWrite;
 use tk_tour::Verdict;
+use tk_words::FromRead;
 
 /// `check PROBLEM TOUR`. Both files are opened before either is read.
 pub fn run(rt: &HostRuntime, problem_file: &str, tour_file: &str) -> ExitCode {

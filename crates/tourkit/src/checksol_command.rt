@@ -1,10 +1,11 @@
 //! The subcommand `checksol`.
-use crate::input::open_two;
-use crate::report::{self, FOUND};
 use std::process::ExitCode;
-use tk_engines::{Fault, route_check_engine};
+use tk_checks::{Fault, route_check_engine};
+use tk_console::open_two;
+use tk_console::report::{self, FOUND};
+use tk_pen::ToWrite;
 use tk_routes::RouteVerdict;
-use tk_text::{FromRead, ToWrite};
+use tk_words::FromRead;
 
 /// `checksol PROBLEM SOL`. Both files are opened before either is read.
 pub fn run(rt: &HostRuntime, problem_file: &str, solution_file: &str) -> ExitCode {

@@ -5,18 +5,16 @@ ghost use Rattle.tk_command_line.specs.Asking.{IsMeant};
 
 mod check_command;
 mod checksol_command;
-mod input;
 mod matrix_command;
 mod near_command;
-mod output;
 mod plot_command;
 mod progress;
-mod report;
 mod solve_command;
 
 use std::io::ErrorKind;
 use std::process::ExitCode;
 use tk_command_line::{Asked, parse};
+use tk_console::report;
 
 /// Reads the program's words, and runs what they ask for.
 fn main(rt: HostRuntime) -> ExitCode {

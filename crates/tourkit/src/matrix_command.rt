@@ -1,9 +1,11 @@
 //! The subcommand `matrix`.
-use crate::input::open;
-use crate::report::{self, USAGE};
 use std::process::ExitCode;
-use tk_engines::matrix_engine;
-use tk_text::{FromRead, ToWrite, format_of};
+use tk_checks::matrix_engine;
+use tk_console::open;
+use tk_console::report::{self, USAGE};
+use tk_pen::ToWrite;
+use tk_words::FromRead;
+use tk_writers::format_of;
 
 /// `matrix PROBLEM FORMAT`.
 pub fn run(rt: &HostRuntime, file: &str, word: &str) -> ExitCode {

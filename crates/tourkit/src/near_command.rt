@@ -1,11 +1,11 @@
 //! The subcommand `near`.
 ghost use Rattle.std.specs.Prelude.{◌≤◌};
 
-use crate::input::open;
-use crate::report;
 use std::process::ExitCode;
-use tk_engines::near_engine;
-use tk_text::{FromRead, ToWrite};
+use tk_checks::near_engine;
+use tk_console::{open, report};
+use tk_pen::ToWrite;
+use tk_words::FromRead;
 
 /// `near PROBLEM -k N`.
 pub fn run(rt: &HostRuntime, file: &str, count: u32) -> ExitCode

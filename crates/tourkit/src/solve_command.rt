@@ -1,12 +1,12 @@
 //! The subcommand `solve`.
-use crate::input::open;
 use crate::progress::ProgressLine;
-use crate::{output, report};
 use std::fs::File;
 use std::process::ExitCode;
-use tk_engines::{Fault, solve_engine};
+use tk_console::{open, report, save};
 use tk_params::{Params, read_params};
-use tk_text::{FromRead, Source, ToWrite};
+use tk_pen::ToWrite;
+use tk_solve_engine::{Fault, solve_engine};
+use tk_words::{FromRead, Source};
 
 /// `solve PAR`. The problem's file is opened before that of the initial tour, and both before either is read.
 pub fn run(rt: &HostRuntime, file: &str) -> ExitCode {
@@ -63,7 +63,7 @@ fn search<P: Source, I: Source>(
         &mut out,
         &mut watch,
     ) {
-        Ok(()) => save(rt, params, &file.inner),
+        Ok(()) => save_found(rt, params, &file.inner),
         Err(fault @ (Fault::Tour(_) | Fault::Initial(_))) => report::stopped(
             rt,
             initial_file,
@@ -74,9 +74,9 @@ fn search<P: Source, I: Source>(
 }
 
 /// Writes the text to the file that the parameters name, if any.
-fn save(rt: &HostRuntime, params: &Params, text: &[u8]) -> ExitCode {
+fn save_found(rt: &HostRuntime, params: &Params, text: &[u8]) -> ExitCode {
     let Some(name) = params.tour_file().or(params.solution_file()) else {
         return ExitCode::SUCCESS;
     };
-    output::save(rt, name, text)
+    save(rt, name, text)
 }

@@ -1,6 +1,6 @@
 -- check_engine
 use Rattle.std.proofs.Common.{refl}
-use Rattle.tk_text.specs.Parts.{problem_is}
+use Rattle.tk_problem_text.specs.Parts.{problem_is}
 use Rattle.tk_checks.proofs.Lengths.{IsCheck-of}
 use Rattle.tk_checks.proofs.check.check_engine.Goals as goal
 

@@ -1,10 +1,11 @@
 use Rattle.std.proofs.Common.{◌≡◌, ℕ, List, ap, subst, ◌∙◌, pos, arith}
 use Rattle.tk_metric.specs.Tables.{table_distance}
-use Rattle.tk_text.specs.Parts.{weights_are}
-use Rattle.tk_text.specs.Names.{IsName}
-use Rattle.tk_text.specs.ReadBack.{ReadsBack}
-use Rattle.tk_checks.proofs.ProblemTables.{IsTable-table, read_distance-weights}
-use Rattle.tk_checks.specs.Check.{read_distance}
+use Rattle.tk_problem_text.specs.Parts.{weights_are}
+use Rattle.tk_problem_text.specs.Names.{IsName}
+use Rattle.tk_writers.specs.ReadBack.{ReadsBack}
+use Rattle.tk_checks.proofs.ProblemTables.{IsTable-table}
+use Rattle.tk_stages.proofs.ReadTables.{read_distance-weights}
+use Rattle.tk_stages.specs.ReadProblems.{read_distance}
 use Rattle.tk_checks.proofs.matrix.write_problem.Goals as goal
 
 pub write_matrix-requires-clause-table : goal.write_matrix-requires-clause-table

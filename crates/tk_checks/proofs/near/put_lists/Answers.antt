@@ -2,8 +2,8 @@ use Rattle.std.proofs.Common.{subst, ap, ◌≡◌, ◌-◌, arith}
 use Rattle.std.specs.Prelude.{flat_map}
 use Rattle.std.specs.List.{range_with_len}
 use Rattle.tk_near.specs.Near.{near_of}
-use Rattle.tk_text.specs.Pens.{Puts}
-use Rattle.tk_text.specs.Written.{near_line, spaced_numbers}
+use Rattle.tk_pen.specs.Pens.{Puts}
+use Rattle.tk_pen.specs.Written.{near_line, spaced_numbers}
 use Rattle.tk_writers.proofs.MatrixLines.{lines_more}
 use Rattle.tk_pen.proofs.Putting.{Puts-then}
 use Rattle.tk_checks.proofs.near.put_lists.Goals as goal

@@ -3,8 +3,8 @@ use Rattle.std.proofs.Common.{◌-◌}
 use Rattle.std.specs.Prelude.{flat_map}
 use Rattle.std.specs.List.{range_with_len}
 use Rattle.tk_near.specs.Near.{near_of}
-use Rattle.tk_text.specs.Pens.{Puts}
-use Rattle.tk_text.specs.Written.{near_line}
+use Rattle.tk_pen.specs.Pens.{Puts}
+use Rattle.tk_pen.specs.Written.{near_line}
 use Rattle.tk_checks.proofs.near.put_lists.Given as goal
 
 abbrev pub invariant-loop-city : goal.invariant-loop-city

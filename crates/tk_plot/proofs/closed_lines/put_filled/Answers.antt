@@ -1,7 +1,7 @@
 use Rattle.std.proofs.Common.{length, ap, subst, sym, arith, append-nil, ◌∙◌}
 use Rattle.std.specs.Prelude.{map}
 use Rattle.tk_pen.specs.Pens.{Puts}
-use Rattle.tk_text.specs.PlacesOf.{places_of}
+use Rattle.tk_problem.specs.PlacesOf.{places_of}
 use Rattle.tk_routes.specs.Cvrps.{instance_of}
 use Rattle.tk_routes.specs.Routes.{route_nodes}
 use Rattle.tk_plot.specs.PictureText.{closed_lines, spot}

@@ -2,7 +2,7 @@ use Rattle.std.proofs.Common.{subst, ap, ◌≡◌, ◌-◌, length, arith}
 use Rattle.std.specs.Prelude.{flat_map}
 use Rattle.std.specs.List.{range_with_len}
 use Rattle.tk_pen.specs.Pens.{Puts}
-use Rattle.tk_text.specs.PlacesOf.{places_of}
+use Rattle.tk_problem.specs.PlacesOf.{places_of}
 use Rattle.tk_writers.proofs.MatrixLines.{lines_more}
 use Rattle.tk_pen.proofs.Putting.{Puts-then}
 use Rattle.tk_plot.specs.PictureText.{city_style, dot, spot}

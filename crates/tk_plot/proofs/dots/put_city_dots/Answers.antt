@@ -2,7 +2,7 @@ use Rattle.std.proofs.Common.{Bool, [], ap, sym, ◌∙◌, ◌≡◌, true, fal
 use Rattle.std.specs.Prelude.{if◌then◌else◌}
 use Rattle.std.specs.List.{range_with_len}
 use Rattle.tk_pen.specs.Pens.{Puts}
-use Rattle.tk_text.specs.PlacesOf.{places_of}
+use Rattle.tk_problem.specs.PlacesOf.{places_of}
 use Rattle.tk_plot.specs.PictureText.{city_style, dots, has_dots, spot}
 use Rattle.tk_plot.proofs.PutNothing.{Puts-none}
 use Rattle.tk_plot.proofs.dots.put_city_dots.Goals as goal

@@ -1,7 +1,7 @@
 use Rattle.std.proofs.Common.{append-nil, length, refl, subst, sym}
 use Rattle.tk_pen.specs.Pens.{Puts}
-use Rattle.tk_text.specs.PlacesOf.{places_of}
-use Rattle.tk_checks.proofs.Lengths.{cities_of_tour}
+use Rattle.tk_problem.specs.PlacesOf.{places_of}
+use Rattle.tk_verdicts.proofs.TourLines.{cities_of_tour}
 use Rattle.tk_plot.specs.Pictures.{AreLines}
 use Rattle.tk_plot.proofs.picture.put_lines.Goals as goal
 

@@ -1,6 +1,6 @@
 use Rattle.std.proofs.Common.{rules, length, arith}
 use Rattle.tk_pen.proofs.Putting.{Writes-end, broken_at_err}
-use Rattle.tk_text.specs.PlacesOf.{places_of}
+use Rattle.tk_problem.specs.PlacesOf.{places_of}
 use Rattle.tk_plot.specs.Pictures.{paths_of, text_of}
 use Rattle.tk_plot.proofs.PictureLength.{length_picture, paths_few}
 use Rattle.tk_plot.proofs.picture.write_picture.Goals as goal

@@ -1,6 +1,6 @@
 use Rattle.std.proofs.Common.{ℕ, ap, length, subst, sym, ◌∙◌}
 use Rattle.std.specs.Prelude.{IfSome}
-use Rattle.tk_text.specs.PlacesOf.{places_of}
+use Rattle.tk_problem.specs.PlacesOf.{places_of}
 use Rattle.tk_metric.specs.Cities.{IsCity}
 use Rattle.tk_plot.specs.Pictures.{text_of}
 use Rattle.tk_plot.proofs.Shown.{picture_drawn}

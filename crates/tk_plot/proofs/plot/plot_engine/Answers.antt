@@ -1,5 +1,5 @@
-use Rattle.tk_text.specs.Parts.{problem_is}
-use Rattle.tk_checks.specs.Engine.{ReadsProblem}
+use Rattle.tk_problem_text.specs.Parts.{problem_is}
+use Rattle.tk_stages.specs.Engine.{ReadsProblem}
 use Rattle.tk_plot.specs.Plot.{ReadsClaim, WritesOutput}
 use Rattle.tk_plot.proofs.PlotEnds.{ends_from}
 use Rattle.tk_plot.proofs.plot.plot_engine.Goals as goal

@@ -1,6 +1,6 @@
 use Rattle.std.proofs.Common.{Bool, refl, subst, sym}
-use Rattle.tk_text.specs.Parts.{problem_is}
-use Rattle.tk_checks.specs.Engine.{EndsByProblem, IsUntouched}
+use Rattle.tk_problem_text.specs.Parts.{problem_is}
+use Rattle.tk_stages.specs.Engine.{EndsByProblem, IsUntouched}
 use Rattle.tk_plot.specs.Plot.{Drawn, HasRead, Nothing, ReadsClaim, WritesOutput, plot_task}
 use Rattle.tk_plot.specs.declared.plotted.Plotted.TheVariants as plotted
 use Rattle.tk_plot.proofs.PlotEnds.{before_none}

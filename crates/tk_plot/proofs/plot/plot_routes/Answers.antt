@@ -1,9 +1,9 @@
 use Rattle.std.proofs.Common.{refl}
 use Rattle.std.specs.Prelude.{map}
-use Rattle.tk_text.specs.Parts.{problem_is, routing_is}
+use Rattle.tk_problem_text.specs.Parts.{problem_is, routing_is}
 use Rattle.tk_routes.specs.Cvrps.{instance_of}
 use Rattle.tk_routes.specs.RouteVerdicts.{IsRouteVerdict}
-use Rattle.tk_checks.proofs.RouteChecks.{instance_read}
+use Rattle.tk_stages.proofs.ReadTables.{instance_read}
 use Rattle.tk_plot.specs.declared.plotted.Plotted.TheVariants as plotted
 use Rattle.tk_plot.specs.Plot.{RoutesClaim, IsRouteOutput}
 use Rattle.tk_plot.proofs.Shown.{routed_of, some_of}

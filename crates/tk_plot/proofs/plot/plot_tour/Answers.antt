@@ -1,5 +1,5 @@
 use Rattle.std.proofs.Common.{ap, refl}
-use Rattle.tk_text.specs.Parts.{problem_is, routing_is}
+use Rattle.tk_problem_text.specs.Parts.{problem_is, routing_is}
 use Rattle.tk_plot.specs.declared.plotted.Plotted.TheVariants as plotted
 use Rattle.tk_plot.specs.Plot.{TourClaim}
 use Rattle.tk_plot.proofs.plot.plot_tour.Goals as goal

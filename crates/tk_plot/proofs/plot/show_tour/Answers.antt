@@ -1,5 +1,5 @@
 use Rattle.std.proofs.Common.{ℕ, refl, subst, ◌∙◌, ◌∷◌, []}
-use Rattle.tk_text.specs.Parts.{problem_is}
+use Rattle.tk_problem_text.specs.Parts.{problem_is}
 use Rattle.tk_plot.specs.declared.caption.Caption.TheVariants as captions
 use Rattle.tk_plot.specs.Plot.{Drawn, Refused, IsPicture}
 use Rattle.tk_plot.proofs.Shown.{length_read, tour_told}

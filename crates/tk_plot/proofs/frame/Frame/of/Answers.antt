@@ -2,8 +2,8 @@ use Rattle.std.proofs.Common.{◌<◌, ◌≤◌, List, length, arith, rules, ta
 use Rattle.std.specs.Prelude.{map}
 use mir.Syntax.{w64}
 use mir.Val.{SFits}
-use Rattle.tk_text.specs.declared.Point.{Point}
-use Rattle.tk_text.specs.PlacesOf.{places_of}
+use Rattle.tk_problem.specs.declared.point.Point.{Point}
+use Rattle.tk_problem.specs.PlacesOf.{places_of}
 use Rattle.tk_plot.proofs.Bounds.{coordinates_more, least_next, greatest_next, least_whole, greatest_whole, side_kept}
 use Rattle.tk_plot.proofs.frame.Frame.of.Goals as goal
 

@@ -1,7 +1,7 @@
 -- the least and the greatest coordinates of the places before this one
 use Rattle.std.proofs.Common.{take}
 use Rattle.std.specs.Prelude.{map}
-use Rattle.tk_text.specs.PlacesOf.{places_of}
+use Rattle.tk_problem.specs.PlacesOf.{places_of}
 use Rattle.tk_plot.specs.Frames.{IsLeast, IsGreatest}
 use Rattle.tk_plot.proofs.frame.Frame.of.Given as goal
 

@@ -2,8 +2,8 @@
 use Rattle.std.proofs.Common.{take}
 use Rattle.std.specs.Prelude.{flat_map}
 use Rattle.tk_pen.specs.Pens.{Puts}
-use Rattle.tk_text.specs.PlacesOf.{places_of}
-use Rattle.tk_text.specs.Written.{line}
+use Rattle.tk_problem.specs.PlacesOf.{places_of}
+use Rattle.tk_pen.specs.Written.{line}
 use Rattle.tk_plot.specs.PictureText.{spot}
 use Rattle.tk_plot.proofs.view.View.put_corners.Given as goal
 

@@ -2,7 +2,7 @@ use Rattle.std.proofs.Common.{◌≡◌, ◌++◌, ap, ◌∙◌, subst}
 use Rattle.std.specs.Prelude.{codes, decimal}
 use Rattle.tk_pen.specs.Pens.{Puts}
 use Rattle.tk_pen.proofs.Putting.{Puts-then}
-use Rattle.tk_text.specs.PlacesOf.{places_of}
+use Rattle.tk_problem.specs.PlacesOf.{places_of}
 use Rattle.tk_metric.specs.PlaneOf.{city_place}
 use Rattle.tk_plot.specs.Frames.{across, down}
 use Rattle.tk_plot.specs.PictureText.{spot}

@@ -3,8 +3,8 @@ use Rattle.std.proofs.lemmas.List.Folds.{flat_map-map}
 use Rattle.tk_pen.specs.Pens.{Puts}
 use Rattle.tk_pen.proofs.PutEach.{flat_map_take, flat_map_all}
 use Rattle.tk_pen.proofs.Putting.{Puts-then}
-use Rattle.tk_text.specs.PlacesOf.{places_of}
-use Rattle.tk_text.specs.Written.{line}
+use Rattle.tk_problem.specs.PlacesOf.{places_of}
+use Rattle.tk_pen.specs.Written.{line}
 use Rattle.tk_routes.specs.Cvrps.{instance_of}
 use Rattle.tk_routes.specs.Instance.{node_of}
 use Rattle.tk_plot.specs.PictureText.{spot}

@@ -2,8 +2,8 @@
 use Rattle.std.proofs.Common.{take}
 use Rattle.std.specs.Prelude.{flat_map}
 use Rattle.tk_pen.specs.Pens.{Puts}
-use Rattle.tk_text.specs.PlacesOf.{places_of}
-use Rattle.tk_text.specs.Written.{line}
+use Rattle.tk_problem.specs.PlacesOf.{places_of}
+use Rattle.tk_pen.specs.Written.{line}
 use Rattle.tk_routes.specs.Cvrps.{instance_of}
 use Rattle.tk_routes.specs.Instance.{node_of}
 use Rattle.tk_plot.specs.PictureText.{spot}

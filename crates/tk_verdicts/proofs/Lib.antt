@@ -1,0 +1,2 @@
+pub mod RouteLines
+pub mod TourLines

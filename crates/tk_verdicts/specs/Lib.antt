@@ -1,0 +1,2 @@
+pub mod RouteLine
+pub mod TourLine
