@@ -64,7 +64,7 @@ impl Left {
     pub fn take(&mut self, p: Placed, at: Found) -> bool
         ensures { MatchBool result (IsTakenOut p self.old self.new) ((self.new ≡ self.old) × IsNotIn p self.old) }
     {
-        take_from(&mut self.tree, p, at.sides)
+        take_from(&mut self.tree, p, at.sides).is_some()
     }
 
     /// The first of the other cities that are left, by distance and number, seen from here.
@@ -102,14 +102,17 @@ fn index_of(row: &[Placed], p: Placed) -> Option<usize>
     None
 }
 
-/// Whether no city is left in a tree, by the boxes of its halves. It has no contract: a box that is not made anew costs
-/// time alone.
-fn has_none(tree: &Tree) -> bool {
-    match tree {
-        Tree::Leaf(row) => row.is_empty(),
-        Tree::Cut(lower_frame, _, upper_frame, _) => {
-            lower_frame.is_void() && upper_frame.is_void()
-        }
+/// What is left of a part, from which a city was taken. No contract reads it: it tells which boxes to make anew, and a box that
+/// is not made anew costs time alone.
+#[derive(Clone, Copy)]
+enum Rest {
+    Some,
+    None,
+}
+
+impl Rest {
+    fn of(is_empty: bool) -> Rest {
+        if is_empty { Rest::None } else { Rest::Some }
     }
 }
 
@@ -124,62 +127,67 @@ fn frame_over(tree: &Tree) -> Frame
     }
 }
 
-/// Makes the box of a tree anew once no city is left in it, so that no search enters it.
+/// Makes the box of a tree anew if no city is left in it, so that no search enters it.
 #[inline(always)]
-fn renew(frame: &mut Frame, tree: &Tree)
+fn renew(frame: &mut Frame, tree: &Tree, rest: Rest)
     requires framed { IsFramed tree.now }
     requires within { All (IsWithin frame.old) (entries_of tree.now) }
     ensures { All (IsWithin frame.new) (entries_of tree.now) }
 {
-    if has_none(tree) {
+    if matches!(rest, Rest::None) {
         *frame = frame_over(tree);
     }
 }
 
-/// Takes a city out of a row, and tells whether it was there.
-fn take_from_leaf(row: &mut Vec<Placed>, p: Placed) -> bool
-    ensures { MatchBool result (IsTakenOut p row.old.items row.new.items)
-        ((row.new.items ≡ row.old.items) × IsNotIn p row.old.items) }
-{
-    match index_of(row, p) {
-        Some(i) => {
-            row.swap_remove(i);
-            true
-        }
-        None => false,
+/// What is left of a part, of which one half was left so.
+#[inline(always)]
+fn rest_of(half: Rest, other: &Frame) -> Rest {
+    match half {
+        Rest::Some => Rest::Some,
+        Rest::None => Rest::of(other.is_void()),
     }
 }
 
-/// Takes a city out of a tree, and tells whether it was there. The half to which the turns lead is looked through first.
-fn take_from(tree: &mut Tree, p: Placed, sides: u64) -> bool
+/// Takes a city out of a row, and tells what is left, if it was there.
+fn take_from_leaf(row: &mut Vec<Placed>, p: Placed) -> Option<Rest>
+    ensures { MatchOption result ((row.new.items ≡ row.old.items) × IsNotIn p row.old.items)
+        (λ _. IsTakenOut p row.old.items row.new.items) }
+{
+    let i = index_of(row, p)?;
+    row.swap_remove(i);
+    Some(Rest::of(row.is_empty()))
+}
+
+/// Takes a city out of a tree, and tells what is left, if it was there. The half to which the turns lead is looked through first.
+fn take_from(tree: &mut Tree, p: Placed, sides: u64) -> Option<Rest>
     requires framed { IsFramed tree.old }
     ensures framed { IsFramed tree.new }
-    ensures taken { MatchBool result (IsTakenOut p (entries_of tree.old) (entries_of tree.new))
-        ((entries_of tree.new ≡ entries_of tree.old) × IsNotIn p (entries_of tree.old)) }
+    ensures taken { MatchOption result ((entries_of tree.new ≡ entries_of tree.old) × IsNotIn p (entries_of tree.old))
+        (λ _. IsTakenOut p (entries_of tree.old) (entries_of tree.new)) }
 {
     match tree {
         Tree::Leaf(row) => take_from_leaf(row, p),
         Tree::Cut(lower_frame, lower, upper_frame, upper) => {
             if sides % 2 == 0 {
-                if take_from(lower, p, sides / 2) {
-                    renew(lower_frame, lower);
-                    return true;
+                if let Some(rest) = take_from(lower, p, sides / 2) {
+                    renew(lower_frame, lower, rest);
+                    return Some(rest_of(rest, upper_frame));
                 }
-                if take_from(upper, p, sides / 2) {
-                    renew(upper_frame, upper);
-                    return true;
+                if let Some(rest) = take_from(upper, p, sides / 2) {
+                    renew(upper_frame, upper, rest);
+                    return Some(rest_of(rest, lower_frame));
                 }
-                return false;
+                return None;
             }
-            if take_from(upper, p, sides / 2) {
-                renew(upper_frame, upper);
-                return true;
+            if let Some(rest) = take_from(upper, p, sides / 2) {
+                renew(upper_frame, upper, rest);
+                return Some(rest_of(rest, lower_frame));
             }
-            if take_from(lower, p, sides / 2) {
-                renew(lower_frame, lower);
-                return true;
+            if let Some(rest) = take_from(lower, p, sides / 2) {
+                renew(lower_frame, lower, rest);
+                return Some(rest_of(rest, upper_frame));
             }
-            false
+            None
         }
     }
 }

@@ -1,9 +1,9 @@
 use Rattle.tk_plane.proofs.Parting.{taken_out}
 use Rattle.tk_plane.proofs.left.take_from_leaf.Goals as goal
 
-pub returns-in-Some : goal.returns-in-Some
-returns-in-Some c =
+pub returns : goal.returns
+returns c =
     let row = c.args.row.now.items in
     let same = c.deref.ensures.value in
-    let at = rw same at c.in-Some.ensures in
-    rw c.swap_remove.ensures.items (taken_out c.args.p row c.in-Some.i c.swap_remove.result at c.swap_remove.ensures.value)
+    let at = rw same at c.in_ok-i.ensures in
+    rw c.swap_remove.ensures.items (taken_out c.args.p row c.in_ok-i.i c.swap_remove.result at c.swap_remove.ensures.value)
