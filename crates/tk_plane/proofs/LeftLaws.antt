@@ -1,6 +1,6 @@
 -- Cities that are left, once one of them was taken out.
 use Rattle.std.proofs.Common.{◌≡◌, ◌≢◌, ℕ, zero, suc, ◌<◌, ⊎_elim, List, ◌∷◌, length, refl, sym, ap, ◌∙◌, arith, get_or}
-use Rattle.std.specs.Prelude.{All, MatchBool, Bool, true, false}
+use Rattle.std.specs.Prelude.{All, MatchOption, Option, Some, None}
 use Rattle.std.proofs.lemmas.Bool.{cases_lt}
 use Rattle.std.proofs.lemmas.List.{get_or_default}
 use Rattle.std.proofs.lemmas.List.Elements.{All-tail}
@@ -57,7 +57,8 @@ module _ (n : ℕ) (place_of : ℕ → Point) where
       same_placed : (q r : Placed) → q.city ≡ r.city → q.place ≡ r.place → q ≡ r
       same_placed q r city place = rw (sym city, sym place) refl
 
-  -- so what is told of a city that stands there is that it was taken out
-  pub taken_there : (p : Placed) (old new : List Placed) (b : Bool) → MatchBool b (IsTakenOut p old new) ((new ≡ old) × IsNotIn p old) → AreApart n place_of old → IsPlaced n place_of p → Stands old p.city → IsTakenOut p old new
-  taken_there p old new true t h here s = t
-  taken_there p old new false t h here s = absurd (not_missed p old h here s t.1)
+  -- so a city that stands there was taken out, and what holds once one was taken out holds
+  pub taken_there : {R : Type 0} (p : Placed) (old new : List Placed) (Before After : Type 0) (o : Option R) → MatchOption o ((new ≡ old) × IsNotIn p old) (λ _. IsTakenOut p old new) → MatchOption o Before (λ _. After)
+      → AreApart n place_of old → IsPlaced n place_of p → Stands old p.city → IsTakenOut p old new × After
+  taken_there p old new Before After None t s h here there = absurd (not_missed p old h here there t.1)
+  taken_there p old new Before After (Some r) t s h here there = (t, s)

@@ -1,4 +1,5 @@
 pub mod FirstLeft
+mod Leaving
 pub mod LeftLaws
 pub mod OneEach
 pub mod Parting

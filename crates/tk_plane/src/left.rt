@@ -1,13 +1,13 @@
 //! Cities that are left: they are taken out of a tree one by one, and the first of the others is found there.
-ghost use Rattle.std.specs.Prelude.{◌≡◌, ℕ, ◌<◌, ◌≤◌, All, length, IfOk, IsTrue, MatchBool, MatchOption, slice_index};
+ghost use Rattle.std.specs.Prelude.{◌≡◌, ℕ, ◌<◌, ◌≤◌, All, length, IfOk, MatchOption, slice_index};
 ghost use Rattle.tk_plane.specs.declared.sweep.Placed.{Placed};
 ghost use Rattle.tk_near.specs.Near.{IsFirst};
 ghost use Rattle.tk_plane.specs.Sweep.{IsPlaced, IsRow, city_at};
-ghost use Rattle.tk_plane.specs.Tree.{entries_of, IsFramed, IsWithin, IsTakenOut, IsNotIn, IsOtherIn};
+ghost use Rattle.tk_plane.specs.Tree.{entries_of, AreApart, IsFramed, IsWithin, IsTakenOut, IsNotIn, IsOtherIn, Stands, with_cities};
 
-use crate::keeping::One;
+use crate::keeping::{Keeper, One};
 use crate::sweep::Placed;
-use crate::tree::{Frame, START, Tree, frame_of, planted, search};
+use crate::tree::{Frame, Path, START, Tree, frame_of, planted, search_half, search_leaf};
 use std::alloc::{AllocError, Global};
 use std::marker::Model;
 use tk_metric::Planar;
@@ -60,25 +60,21 @@ impl Left {
         Ok(Left { tree })
     }
 
-    /// Takes a city out, which is looked for where it was found first, and tells whether it was left.
-    pub fn take(&mut self, p: Placed, at: Found) -> bool
-        ensures { MatchBool result (IsTakenOut p self.old self.new) ((self.new ≡ self.old) × IsNotIn p self.old) }
-    {
-        take_from(&mut self.tree, p, at.sides).is_some()
-    }
-
-    /// The first of the other cities that are left, by distance and number, seen from here.
-    pub fn first<P: Planar>(&self, m: &P, here: Placed) -> Option<Found>
+    /// Takes a city out, which is looked for where it was found first, and finds the first of those that are left then, by
+    /// distance and number.
+    pub fn visit<P: Planar>(&mut self, m: &P, here: Placed, at: Found) -> Option<Found>
         requires here { IsPlaced (P.size_of m.now) (P.place_of m.now) here }
-        requires placed { All (IsPlaced (P.size_of m.now) (P.place_of m.now)) self.now }
-        ensures { MatchOption result ((b : ℕ) → IsOtherIn self.now here.city b → ⊥)
-            (λ found. IsFirst (P.distance m.now) here.city (IsOtherIn self.now here.city) found.city) }
+        requires apart { AreApart (P.size_of m.now) (P.place_of m.now) self.old }
+        requires there { Stands self.old here.city }
+        ensures taken { IsTakenOut here self.old self.new }
+        ensures first { MatchOption result ((b : ℕ) → IsOtherIn self.new here.city b → ⊥)
+            (λ found. IsFirst (P.distance m.now) here.city (IsOtherIn self.new here.city) found.city) }
     {
         let mut one = One {
             best: OPEN,
             sides: 0,
         };
-        search(m, &here, &self.tree, START, &mut one);
+        take_from(m, &here, &mut self.tree, at.sides, START, &mut one);
         if one.best.distance == OPEN.distance {
             None
         } else {
@@ -91,8 +87,8 @@ impl Left {
 }
 
 /// Where the city stands in the row.
-fn index_of(row: &[Placed], p: Placed) -> Option<usize>
-    ensures { MatchOption result (IsNotIn p row.now) (λ i. (i < length row.now) × (city_at row.now i ≡ p.city)) }
+fn index_of(row: &[Placed], p: &Placed) -> Option<usize>
+    ensures { MatchOption result (IsNotIn p.now row.now) (λ i. (i < length row.now) × (city_at row.now i ≡ p.now.city)) }
 {
     for i in 0..row.len() {
         if row[i].city == p.city {
@@ -149,43 +145,66 @@ fn rest_of(half: Rest, other: &Frame) -> Rest {
 }
 
 /// Takes a city out of a row, and tells what is left, if it was there.
-fn take_from_leaf(row: &mut Vec<Placed>, p: Placed) -> Option<Rest>
-    ensures { MatchOption result ((row.new.items ≡ row.old.items) × IsNotIn p row.old.items)
-        (λ _. IsTakenOut p row.old.items row.new.items) }
+fn take_from_leaf(row: &mut Vec<Placed>, p: &Placed) -> Option<Rest>
+    ensures { MatchOption result ((row.new.items ≡ row.old.items) × IsNotIn p.now row.old.items)
+        (λ _. IsTakenOut p.now row.old.items row.new.items) }
 {
     let i = index_of(row, p)?;
     row.swap_remove(i);
     Some(Rest::of(row.is_empty()))
 }
 
-/// Takes a city out of a tree, and tells what is left, if it was there. The half to which the turns lead is looked through first.
-fn take_from(tree: &mut Tree, p: Placed, sides: u64) -> Option<Rest>
+/// Takes the city here out of a tree, shows what is near of the others, and tells what is left, if it was there. It is looked for
+/// at the end of these turns first.
+fn take_from<P: Planar, K: Keeper>(
+    m: &P,
+    here: &Placed,
+    tree: &mut Tree,
+    sides: u64,
+    path: Path,
+    keeper: &mut K,
+) -> Option<Rest>
+    requires here { IsPlaced (P.size_of m.now) (P.place_of m.now) here.now }
+    requires placed { All (IsPlaced (P.size_of m.now) (P.place_of m.now)) (entries_of tree.old) }
     requires framed { IsFramed tree.old }
     ensures framed { IsFramed tree.new }
-    ensures taken { MatchOption result ((entries_of tree.new ≡ entries_of tree.old) × IsNotIn p (entries_of tree.old))
-        (λ _. IsTakenOut p (entries_of tree.old) (entries_of tree.new)) }
+    ensures taken { MatchOption result
+        ((entries_of tree.new ≡ entries_of tree.old) × IsNotIn here.now (entries_of tree.old))
+        (λ _. IsTakenOut here.now (entries_of tree.old) (entries_of tree.new)) }
+    ensures shown { MatchOption result
+        (K.kept_of keeper.new ≡ K.kept_of keeper.old)
+        (λ _. K.kept_of keeper.new
+        ≡ with_cities (P.distance m.now) here.now.city (entries_of tree.new) (K.kept_of keeper.old)) }
 {
     match tree {
-        Tree::Leaf(row) => take_from_leaf(row, p),
+        Tree::Leaf(row) => {
+            let rest = take_from_leaf(row, here)?;
+            search_leaf(m, here, row, path.sides(), keeper);
+            Some(rest)
+        }
         Tree::Cut(lower_frame, lower, upper_frame, upper) => {
-            if sides % 2 == 0 {
-                if let Some(rest) = take_from(lower, p, sides / 2) {
-                    renew(lower_frame, lower, rest);
-                    return Some(rest_of(rest, upper_frame));
-                }
-                if let Some(rest) = take_from(upper, p, sides / 2) {
+            if path.goes_up(sides) {
+                if let Some(rest) = take_from(m, here, upper, sides, path.upper(), keeper) {
                     renew(upper_frame, upper, rest);
+                    search_half(m, here, lower_frame, lower, path.lower(), keeper);
                     return Some(rest_of(rest, lower_frame));
+                }
+                if let Some(rest) = take_from(m, here, lower, sides, path.lower(), keeper) {
+                    renew(lower_frame, lower, rest);
+                    search_half(m, here, upper_frame, upper, path.upper(), keeper);
+                    return Some(rest_of(rest, upper_frame));
                 }
                 return None;
             }
-            if let Some(rest) = take_from(upper, p, sides / 2) {
-                renew(upper_frame, upper, rest);
-                return Some(rest_of(rest, lower_frame));
-            }
-            if let Some(rest) = take_from(lower, p, sides / 2) {
+            if let Some(rest) = take_from(m, here, lower, sides, path.lower(), keeper) {
                 renew(lower_frame, lower, rest);
+                search_half(m, here, upper_frame, upper, path.upper(), keeper);
                 return Some(rest_of(rest, upper_frame));
+            }
+            if let Some(rest) = take_from(m, here, upper, sides, path.upper(), keeper) {
+                renew(upper_frame, upper, rest);
+                search_half(m, here, lower_frame, lower, path.lower(), keeper);
+                return Some(rest_of(rest, lower_frame));
             }
             None
         }

@@ -213,7 +213,18 @@ pub const START: Path = Path { sides: 0, next: 1 };
 
 impl Path {
     #[inline(always)]
-    fn lower(self) -> Path {
+    pub fn sides(self) -> u64 {
+        self.sides
+    }
+
+    /// Whether these turns go to the upper half next.
+    #[inline(always)]
+    pub fn goes_up(self, sides: u64) -> bool {
+        sides & self.next != 0
+    }
+
+    #[inline(always)]
+    pub fn lower(self) -> Path {
         Path {
             sides: self.sides,
             next: self.next << 1,
@@ -221,7 +232,7 @@ impl Path {
     }
 
     #[inline(always)]
-    fn upper(self) -> Path {
+    pub fn upper(self) -> Path {
         Path {
             sides: self.sides | self.next,
             next: self.next << 1,
@@ -261,7 +272,7 @@ fn show<P: Planar, K: Keeper>(m: &P, here: &Placed, there: &Placed, sides: u64, 
 }
 
 /// Shows the cities of a leaf.
-fn search_leaf<P: Planar, K: Keeper>(
+pub fn search_leaf<P: Planar, K: Keeper>(
     m: &P,
     here: &Placed,
     leaf: &[Placed],
@@ -306,6 +317,28 @@ pub fn search<P: Planar, K: Keeper>(m: &P, here: &Placed, tree: &Tree, path: Pat
                 }
             }
         }
+    }
+}
+
+/// Shows what is near of a half, which is left out if no city of its box comes before the last of the kept.
+#[inline(always)]
+pub fn search_half<P: Planar, K: Keeper>(
+    m: &P,
+    here: &Placed,
+    frame: &Frame,
+    half: &Tree,
+    path: Path,
+    keeper: &mut K,
+)
+    requires here { IsPlaced (P.size_of m.now) (P.place_of m.now) here.now }
+    requires placed { All (IsPlaced (P.size_of m.now) (P.place_of m.now)) (entries_of half.now) }
+    requires framed { IsFramed half.now }
+    requires within { All (IsWithin frame.now) (entries_of half.now) }
+    ensures { K.kept_of keeper.new
+        ≡ with_cities (P.distance m.now) here.now.city (entries_of half.now) (K.kept_of keeper.old) }
+{
+    if may_enter(frame.first(m, here), keeper.last()) {
+        search(m, here, half, path, keeper);
     }
 }
 

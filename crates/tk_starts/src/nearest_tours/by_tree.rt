@@ -31,8 +31,7 @@ fn visit<P: Planar>(left: &mut Left, metric: &P, here: Placed, at: Found) -> Opt
     ensures first { MatchOption result (AreAllVisited (P.size_of metric.now) left.new)
         (λ found. IsFirstLeft (P.distance metric.now) (P.size_of metric.now) left.new here.city found.city) }
 {
-    left.take(here, at);
-    left.first(metric, here)
+    left.visit(metric, here, at)
 }
 
 /// The tour of `nearest`, by a k-d tree of the cities that are left: each next city is found in it, and then taken out.
