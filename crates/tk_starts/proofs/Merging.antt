@@ -1,4 +1,5 @@
 pub mod EndsJoined
+pub mod FilledArrays
 pub mod HubApart
 pub mod ListsHeld
 pub mod NeighbourArrays

@@ -1,4 +1,4 @@
-use Rattle.std.proofs.Common.{[], get_or, refl, sym, ◌∙◌, arith}
+use Rattle.std.proofs.Common.{◌≡◌, ℕ, ◌+◌, ◌-◌, ◌≤◌, ◌<◌, [], get_or, refl, sym, ◌∙◌, arith, Fits, w64}
 use Rattle.tk_starts.specs.PathEnds.{at}
 use Rattle.tk_starts.specs.declared.merges.pairs.Pair.{Pair}
 use Rattle.tk_starts.proofs.Merging.PairsMerged.{AreEnds-single, IsTaken-from, taken_step, left_step, going_ends}
@@ -8,6 +8,15 @@ use Rattle.tk_starts.proofs.merges.savings.joined_paths.Goals.{then-may_join, el
 none : Pair
 none = record { saving = record { 0 = 0 }; i = 0; j = 0 }
 
+below_size : (n size x : ℕ) → size ≡ n + 1 → x ≤ n → x < size
+below_size n size x is near = omega arith
+
+last_place : (n size x : ℕ) → size ≡ n + 1 → x ≤ n → x ≤ size - 1
+last_place n size x is near = omega arith
+
+fits_sum : (x y capacity : ℕ) → x + y ≤ capacity → Fits w64 capacity → x + y < 18446744073709551616
+fits_sum x y capacity near fits = omega arith
+
 pub loop-pair-init : goal.loop-pair-init
 loop-pair-init c =
     let p = c.in_ok-paths.paths in
@@ -16,13 +25,45 @@ loop-pair-init c =
       joined = ([], refl, AreEnds-single _ _ (at p.one.items) (at p.two.items) (at p.other.items) (at p.load.items) c.in_ok-paths.ensures.single);
     }
 
+pub may_join-requires-clause-sizes : goal.may_join-requires-clause-sizes
+may_join-requires-clause-sizes c =
+    let z = c.loop-pair.invariant.sizes in
+    (z.1 ∙ sym z.0, z.2 ∙ sym z.0, z.3 ∙ sym z.0)
+
+pub may_join-requires-clause-within : goal.may_join-requires-clause-within
+unfolding none
+may_join-requires-clause-within c =
+    let w = c.requires.within c.loop-pair.pair-index none c.loop-pair-test.true in
+    let z = c.loop-pair.invariant.sizes.0 in
+    ((w.0.0, last_place _ _ _ z w.0.1), (w.1.0, last_place _ _ _ z w.1.1), w.2)
+
+pub join-requires-clause-sizes : goal.join-requires-clause-sizes
+join-requires-clause-sizes c =
+    let z = c.loop-pair.invariant.sizes in
+    (z.1 ∙ sym z.0, z.2 ∙ sym z.0, z.3 ∙ sym z.0)
+
+pub join-requires-clause-cities : goal.join-requires-clause-cities
+unfolding none
+join-requires-clause-cities c =
+    let w = c.requires.within c.loop-pair.pair-index none c.loop-pair-test.true in
+    let z = c.loop-pair.invariant.sizes.0 in
+    (below_size _ _ _ z w.0.1, below_size _ _ _ z w.1.1, w.2)
+
+pub join-requires-clause-load : goal.join-requires-clause-load
+unfolding none
+join-requires-clause-load c =
+    let p = c.loop-pair.paths in
+    let w = c.requires.within c.loop-pair.pair-index none c.loop-pair-test.true in
+    let t = IsTaken-from _ _ _ (at p.one.items) (at p.two.items) (at p.other.items) (at p.load.items) c.loop-pair.invariant.joined.2 (get_or c.args.pairs.now c.loop-pair.pair-index none) w.0 w.1 w.2 c.args.capacity (sym c.if-may_join.ensures) in
+    fits_sum _ _ _ t.fits c.ranges.capacity
+
 pub join-requires-clause-ends : goal.join-requires-clause-ends
 unfolding none
 join-requires-clause-ends c =
     let p = c.loop-pair.paths in
     let w = c.requires.within c.loop-pair.pair-index none c.loop-pair-test.true in
     let t = IsTaken-from _ _ _ (at p.one.items) (at p.two.items) (at p.other.items) (at p.load.items) c.loop-pair.invariant.joined.2 (get_or c.args.pairs.now c.loop-pair.pair-index none) w.0 w.1 w.2 c.args.capacity (sym c.if-may_join.ensures) in
-    (omega (arith, t.far.0, c.loop-pair.invariant.sizes.0), omega (arith, t.far.1, c.loop-pair.invariant.sizes.0), t.far.2)
+    (below_size _ _ _ c.loop-pair.invariant.sizes.0 t.far.0.1, below_size _ _ _ c.loop-pair.invariant.sizes.0 t.far.1.1, t.far.2)
 
 pub loop-pair-preserved : goal.loop-pair-preserved
 unfolding none
@@ -50,3 +91,6 @@ pub returns-clause-joined : goal.returns-clause-joined
 returns-clause-joined c =
     let p = c.loop-pair.paths in
     going_ends _ _ c.args.capacity c.args.pairs.now c.loop-pair.pair-index (at p.one.items) (at p.two.items) (at p.other.items) (at p.load.items) c.loop-pair-test.false c.loop-pair.invariant.joined
+
+pub returns-clause-sizes : goal.returns-clause-sizes
+returns-clause-sizes c = c.loop-pair.invariant.sizes
