@@ -13,8 +13,8 @@ use std::marker::Model;
 use tk_metric::Planar;
 use tk_near::OPEN;
 
-/// A city, and the turns that lead to the part of the tree where it was seen: the lowest bit is the first turn, and 1 goes to the
-/// upper half. Other turns cost time alone.
+/// A city, and the turns that lead to the part of the tree where it was seen: the lowest bit is the first turn, and 1
+/// goes to the upper half. Other turns cost time alone.
 #[derive(Clone, Copy)]
 pub struct Found {
     pub city: u32,
@@ -60,8 +60,8 @@ impl Left {
         Ok(Left { tree })
     }
 
-    /// Takes a city out, which is looked for where it was found first, and finds the first of those that are left then, by
-    /// distance and number.
+    /// Takes a city out, which is looked for where it was found first, and finds the first of those that are left then,
+    /// by distance and number.
     pub fn visit<P: Planar>(&mut self, m: &P, here: Placed, at: Found) -> Option<Found>
         requires here { IsPlaced (P.size_of m.now) (P.place_of m.now) here }
         requires apart { AreApart (P.size_of m.now) (P.place_of m.now) self.old }
@@ -98,8 +98,8 @@ fn index_of(row: &[Placed], p: &Placed) -> Option<usize>
     None
 }
 
-/// What is left of a part, from which a city was taken. No contract reads it: it tells which boxes to make anew, and a box that
-/// is not made anew costs time alone.
+/// What is left of a part, from which a city was taken. No contract reads it: it tells which boxes to make anew, and a
+/// box that is not made anew costs time alone.
 #[derive(Clone, Copy)]
 enum Rest {
     Some,
@@ -154,8 +154,8 @@ fn take_from_leaf(row: &mut Vec<Placed>, p: &Placed) -> Option<Rest>
     Some(Rest::of(row.is_empty()))
 }
 
-/// Takes the city here out of a tree, shows what is near of the others, and tells what is left, if it was there. It is looked for
-/// at the end of these turns first.
+/// Takes the city here out of a tree, shows what is near of the others, and tells what is left, if it was there. It is
+/// looked for at the end of these turns first.
 fn take_from<P: Planar, K: Keeper>(
     m: &P,
     here: &Placed,
