@@ -92,12 +92,3 @@ returns-in-Close-clause-complete g c = λ bs fed e. absurd (c.feed_close.ensures
 
 pub returns-in-After-clause-complete : goal.returns-in-After-clause-complete
 returns-in-After-clause-complete g c = λ bs fed e. absurd (c.feed_after.ensures.goes e)
-
-pub feed_gap-requires-clause-room : goal.feed_gap-requires-clause-room
-feed_gap-requires-clause-room g c = rw c.in_ok-take_token.ensures.line c.requires.room
-
-pub feed_close-requires-clause-room : goal.feed_close-requires-clause-room
-feed_close-requires-clause-room g c = rw c.in_ok-take_token.ensures.line c.requires.room
-
-pub feed_after-requires-clause-room : goal.feed_after-requires-clause-room
-feed_after-requires-clause-room g c = rw c.in_ok-take_token.ensures.line c.requires.room
