@@ -1,5 +1,7 @@
-use Rattle.std.proofs.Common.{ℕ, ◌*◌, ◌≤◌, arith}
+use Rattle.std.proofs.Common.{◌≡◌, ℕ, ◌*◌, ◌≤◌, ◌∙◌, ap, arith, drop, length}
+use Rattle.std.proofs.lemmas.List.{length-replicate, take_at}
 use Rattle.std.proofs.lemmas.Nat.{mul-le}
+use Rattle.tk_near.specs.Keeping.{open_place}
 use Rattle.tk_plane.proofs.tree.near_tree.Goals as goal
 
 size_times-near : (n k : ℕ) → n ≤ 100000 → k ≤ 100 → n * k ≤ 10000000
@@ -22,8 +24,21 @@ fill_from_tree-requires-clause-tree g c = rw c.deref.ensures.value c.in_ok-row.e
 pub fill_from_tree-requires-clause-framed : goal.fill_from_tree-requires-clause-framed
 fill_from_tree-requires-clause-framed g c = c.in_ok-row.ensures.framed
 
+pub fill_from_tree-requires-clause-high : goal.fill_from_tree-requires-clause-high
+fill_from_tree-requires-clause-high g c =
+    rw (ap length c.in_ok-many.ensures ∙ length-replicate c.args.k open_place) c.requires.high
+
 pub from_filled-requires-clause-limit : goal.from_filled-requires-clause-limit
 from_filled-requires-clause-limit g c = c.requires.limit
+
+pub from_filled-requires-clause-filled : goal.from_filled-requires-clause-filled
+from_filled-requires-clause-filled g c =
+    let entries = c.fill_from_tree.new.entries in
+    let size : length entries ≡ c.in_ok-entries.entries.len =
+    omega (arith, c.deref_mut.ensures.len, c.fill_from_tree.auto.entries) in
+    let same = take_at entries (drop (length entries) c.in_ok-entries.entries.items) c.in_ok-entries.entries.len size in
+    let kept = ap length c.in_ok-many.ensures ∙ length-replicate c.args.k open_place in
+    rw same (rw kept at c.fill_from_tree.ensures)
 
 pub returns-clause-size : goal.returns-clause-size
 returns-clause-size g c = c.from_filled.ensures.size
