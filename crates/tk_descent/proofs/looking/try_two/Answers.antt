@@ -32,7 +32,7 @@ returns-then-not-is_nearer g c =
     let d = g.M.Metric.distance c.args.metric.now in
     let near = g.met.M.Metric.distance_limit c.args.metric.now in
     passed d _ _ _ (nearer_improves d _ _ _ _ _ c.requires.margin (near _ _) (near _ _) (near _ _) (near _ _) _
-      c.is_nearer.ensures ∙ c.if-not-is_nearer.true) c.saturating_add.ensures
+    c.is_nearer.ensures ∙ c.if-not-is_nearer.true) c.saturating_add.ensures
 
 pub overflow_sub-result : goal.overflow_sub-result
 overflow_sub-result g c =
@@ -45,6 +45,6 @@ returns g c =
     let d = g.M.Metric.distance c.args.metric.now in
     let near = g.met.M.Metric.distance_limit c.args.metric.now in
     taken d _ _ _ (nearer_improves d _ _ _ _ _ c.requires.margin (near _ _) (near _ _) (near _ _) (near _ _) _
-      c.is_nearer.ensures ∙ c.if-not-is_nearer.false)
+    c.is_nearer.ensures ∙ c.if-not-is_nearer.false)
     (rw c.dist.ensures (gain_is d _ _ _ _ _ c.requires.margin (near _ _) (near _ _) (near _ _) (near _ _)))
     c.saturating_add.ensures

@@ -13,6 +13,7 @@ overflow_sub-result g c =
 
 pub returns-clause-shared : goal.returns-clause-shared
 returns-clause-shared g c =
-    let near = g.met.M.Metric.distance_limit c.args.metric.now in
-    (c.requires.segment,
-      margin_is _ _ _ _ _ _ c.requires.begin c.requires.end c.dist.ensures (near _ _) (near _ _) (near _ _))
+    let near = g.met.M.Metric.distance_limit c.args.metric.now in (
+      c.requires.segment,
+      margin_is _ _ _ _ _ _ c.requires.begin c.requires.end c.dist.ensures (near _ _) (near _ _) (near _ _),
+    )

@@ -43,12 +43,12 @@ measure_piece-requires-clause-end g c =
 pub dist-requires-clause-a : goal.dist-requires-clause-a
 dist-requires-clause-a g c =
     (segment_in _ _ 1 _ _ c.requires.size c.segments_of.ensures.inside
-      (ap length c.segments_of.ensures.value) (omega arith)).1
+    (ap length c.segments_of.ensures.value) (omega arith)).1
 
 pub dist-requires-clause-b : goal.dist-requires-clause-b
 dist-requires-clause-b g c =
     (segment_in _ _ 1 _ _ c.requires.size c.segments_of.ensures.inside
-      (ap length c.segments_of.ensures.value) (omega arith)).2
+    (ap length c.segments_of.ensures.value) (omega arith)).2
 
 pub measure_piece-requires-2-clause-segment : goal.measure_piece-requires-2-clause-segment
 measure_piece-requires-2-clause-segment g c =
@@ -68,12 +68,12 @@ measure_piece-requires-2-clause-end g c =
 pub dist-requires-2-clause-a : goal.dist-requires-2-clause-a
 dist-requires-2-clause-a g c =
     (segment_in _ _ 2 _ _ c.requires.size c.segments_of.ensures.inside
-      (ap length c.segments_of.ensures.value) (omega arith)).1
+    (ap length c.segments_of.ensures.value) (omega arith)).1
 
 pub dist-requires-2-clause-b : goal.dist-requires-2-clause-b
 dist-requires-2-clause-b g c =
     (segment_in _ _ 2 _ _ c.requires.size c.segments_of.ensures.inside
-      (ap length c.segments_of.ensures.value) (omega arith)).2
+    (ap length c.segments_of.ensures.value) (omega arith)).2
 
 pub measure_piece-requires-3-clause-segment : goal.measure_piece-requires-3-clause-segment
 measure_piece-requires-3-clause-segment g c =
@@ -93,12 +93,12 @@ measure_piece-requires-3-clause-end g c =
 pub dist-requires-3-clause-a : goal.dist-requires-3-clause-a
 dist-requires-3-clause-a g c =
     (segment_in _ _ 3 _ _ c.requires.size c.segments_of.ensures.inside
-      (ap length c.segments_of.ensures.value) (omega arith)).1
+    (ap length c.segments_of.ensures.value) (omega arith)).1
 
 pub dist-requires-3-clause-b : goal.dist-requires-3-clause-b
 dist-requires-3-clause-b g c =
     (segment_in _ _ 3 _ _ c.requires.size c.segments_of.ensures.inside
-      (ap length c.segments_of.ensures.value) (omega arith)).2
+    (ap length c.segments_of.ensures.value) (omega arith)).2
 
 pub measure_piece-requires-4-clause-segment : goal.measure_piece-requires-4-clause-segment
 measure_piece-requires-4-clause-segment g c =
@@ -118,12 +118,12 @@ measure_piece-requires-4-clause-end g c =
 pub dist-requires-4-clause-a : goal.dist-requires-4-clause-a
 dist-requires-4-clause-a g c =
     (segment_in _ _ 4 _ _ c.requires.size c.segments_of.ensures.inside
-      (ap length c.segments_of.ensures.value) (omega arith)).1
+    (ap length c.segments_of.ensures.value) (omega arith)).1
 
 pub dist-requires-4-clause-b : goal.dist-requires-4-clause-b
 dist-requires-4-clause-b g c =
     (segment_in _ _ 4 _ _ c.requires.size c.segments_of.ensures.inside
-      (ap length c.segments_of.ensures.value) (omega arith)).2
+    (ap length c.segments_of.ensures.value) (omega arith)).2
 
 pub measure_piece-requires-5-clause-segment : goal.measure_piece-requires-5-clause-segment
 measure_piece-requires-5-clause-segment g c =

@@ -29,7 +29,7 @@ returns-then-number-lt1-clause-err c = λ nodes line.
     let fits : SFits w64 c.in-Some.number = search rules in
     let passed : to_z w64 (of_z w64 c.in-Some.number) ≡ c.in-Some.number = to_z-of_z w64 c.in-Some.number fits in
     let out : in_range 1 c.args.count (Some c.in-Some.number) ≡ false = elim c.then-number-lt1.branch [
-        then-number-lt1-via-then-number-lt1 w ↦ out-below c.in-Some.number c.args.count (rw passed at w.if-number-lt1.true)
+      | then-number-lt1-via-then-number-lt1 w ↦ out-below c.in-Some.number c.args.count (rw passed at w.if-number-lt1.true)
       | then-number-lt1-via-else-number-lt1+then-number-count w ↦ out-above c.in-Some.number c.args.count (rw passed at w.if-number-count.true)
     ] in
     rw (sym c.in-Some.ensures, out) refl

@@ -14,25 +14,57 @@ returns-then-spelled-2 c =
 pub returns-then-spelled-3 : goal.returns-then-spelled-3
 unfolding rest_word
 returns-then-spelled-3 c =
-    rw (← c.spelled.ensures, c.if-spelled.false, ← c.spelled-2.ensures, c.if-spelled-2.false, ← c.spelled-3.ensures,
-    c.if-spelled-3.true) refl
+    rw (
+      ← c.spelled.ensures,
+      c.if-spelled.false,
+      ← c.spelled-2.ensures,
+      c.if-spelled-2.false,
+      ← c.spelled-3.ensures,
+      c.if-spelled-3.true,
+    ) refl
 
 pub returns-then-spelled-4 : goal.returns-then-spelled-4
 unfolding rest_word
 returns-then-spelled-4 c =
-    rw (← c.spelled.ensures, c.if-spelled.false, ← c.spelled-2.ensures, c.if-spelled-2.false, ← c.spelled-3.ensures,
-    c.if-spelled-3.false, ← c.spelled-4.ensures, c.if-spelled-4.true) refl
+    rw (
+      ← c.spelled.ensures,
+      c.if-spelled.false,
+      ← c.spelled-2.ensures,
+      c.if-spelled-2.false,
+      ← c.spelled-3.ensures,
+      c.if-spelled-3.false,
+      ← c.spelled-4.ensures,
+      c.if-spelled-4.true,
+    ) refl
 
 pub returns-then-spelled-5 : goal.returns-then-spelled-5
 unfolding rest_word
 returns-then-spelled-5 c =
-    rw (← c.spelled.ensures, c.if-spelled.false, ← c.spelled-2.ensures, c.if-spelled-2.false, ← c.spelled-3.ensures,
-    c.if-spelled-3.false, ← c.spelled-4.ensures, c.if-spelled-4.false, ← c.spelled-5.ensures,
-    c.if-spelled-5.true) refl
+    rw (
+      ← c.spelled.ensures,
+      c.if-spelled.false,
+      ← c.spelled-2.ensures,
+      c.if-spelled-2.false,
+      ← c.spelled-3.ensures,
+      c.if-spelled-3.false,
+      ← c.spelled-4.ensures,
+      c.if-spelled-4.false,
+      ← c.spelled-5.ensures,
+      c.if-spelled-5.true,
+    ) refl
 
 pub returns : goal.returns
 unfolding rest_word
 returns c =
-    rw (← c.spelled.ensures, c.if-spelled.false, ← c.spelled-2.ensures, c.if-spelled-2.false, ← c.spelled-3.ensures,
-    c.if-spelled-3.false, ← c.spelled-4.ensures, c.if-spelled-4.false, ← c.spelled-5.ensures,
-    c.if-spelled-5.false) refl
+    rw (
+      ← c.spelled.ensures,
+      c.if-spelled.false,
+      ← c.spelled-2.ensures,
+      c.if-spelled-2.false,
+      ← c.spelled-3.ensures,
+      c.if-spelled-3.false,
+      ← c.spelled-4.ensures,
+      c.if-spelled-4.false,
+      ← c.spelled-5.ensures,
+      c.if-spelled-5.false,
+    ) refl

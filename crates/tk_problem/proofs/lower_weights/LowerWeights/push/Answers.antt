@@ -18,9 +18,10 @@ still-below ps qs ws i w next below = rw (next, length-set) (All-drop (IsBelow (
 pub invariant_of-self : goal.invariant_of-self
 invariant_of-self c =
     let ws = c.self.inside.weights.items in
-    let i = c.lower_index-index.result in
-    (still-below c.self.inside.places c.advance.new.self ws i c.args.weight c.advance.ensures c.self.invariant.0,
-        All-set (λ w. w ≤ 4000000000) ws i c.args.weight c.requires.limit c.self.invariant.1)
+    let i = c.lower_index-index.result in (
+      still-below c.self.inside.places c.advance.new.self ws i c.args.weight c.advance.ensures c.self.invariant.0,
+      All-set (λ w. w ≤ 4000000000) ws i c.args.weight c.requires.limit c.self.invariant.1,
+    )
 
 pub returns : goal.returns
 returns c = λ f n ws h.

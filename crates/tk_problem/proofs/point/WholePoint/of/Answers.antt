@@ -52,12 +52,12 @@ overflow_cast-result-then-y-place c = narrow-fits (whole c.args.place.y) (near-y
 pub invariant_of-result : goal.invariant_of-result
 invariant_of-result c = record {
   x_near = narrow-near (whole c.args.place.x) (near-x c.args.place c.requires);
-  y_near = narrow-near (whole c.args.place.y) (near-y c.args.place c.requires)
+  y_near = narrow-near (whole c.args.place.y) (near-y c.args.place c.requires);
 }
 
 pub returns-then-y-place-clause-some : goal.returns-then-y-place-clause-some
 returns-then-y-place-clause-some c = same-point c.args.place _ _
     (narrow-same c.args.place.x (whole c.args.place.x) c.requires.x (near-x c.args.place c.requires)
-        c.if-x-place.true)
+    c.if-x-place.true)
     (narrow-same c.args.place.y (whole c.args.place.y) c.requires.y (near-y c.args.place c.requires)
-        c.if-y-place.true)
+    c.if-y-place.true)

@@ -15,10 +15,10 @@ pub returns-then-customer-self-clause-value : goal.returns-then-customer-self-cl
 returns-then-customer-self-clause-value c = node_of-below _ _ c.if-customer-self.true
 
 pub returns-then-customer-self-clause-known : goal.returns-then-customer-self-clause-known
-returns-then-customer-self-clause-known c = (c.requires.0 , omega (arith, c.requires.1, c.args.self.now.known.1))
+returns-then-customer-self-clause-known c = (c.requires.0, omega (arith, c.requires.1, c.args.self.now.known.1))
 
 pub returns-else-customer-self-clause-value : goal.returns-else-customer-self-clause-value
 returns-else-customer-self-clause-value c = node_of-above _ _ c.if-customer-self.false
 
 pub returns-else-customer-self-clause-known : goal.returns-else-customer-self-clause-known
-returns-else-customer-self-clause-known c = (omega arith , omega (arith, c.requires.1, c.args.self.now.low))
+returns-else-customer-self-clause-known c = (omega arith, omega (arith, c.requires.1, c.args.self.now.low))

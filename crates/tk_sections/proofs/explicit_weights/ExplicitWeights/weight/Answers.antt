@@ -33,8 +33,8 @@ returns-then-repeats-clause-ok c = λ n f toks t has is.
     let is_weight = is ∙ ap Some (sym passed ∙ c.in-Some.ensures.some.0) in
     let here = place_here n f c.args.self.now toks has place c.place-place.ensures in
     IfOk-weaker c.again.result (λ _. weight ≡ kept) (λ _. first_at t.line (weight_tests n f toks t) ≡ None)
-      (λ _. weight_same n f toks t place here apart weight is_weight c.in-Some.ensures.some.2)
-      (both_weights c.again.result weight kept c.again.ensures.same (c.again.ensures.ok n f toks has))
+    (λ _. weight_same n f toks t place here apart weight is_weight c.in-Some.ensures.some.2)
+    (both_weights c.again.result weight kept c.again.ensures.same (c.again.ensures.ok n f toks has))
 
 pub returns-then-repeats-clause-is : goal.returns-then-repeats-clause-is
 returns-then-repeats-clause-is c =

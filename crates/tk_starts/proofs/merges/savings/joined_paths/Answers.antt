@@ -55,7 +55,7 @@ join-requires-clause-load c =
     let p = c.loop-pair.paths in
     let w = c.requires.within c.loop-pair.pair-index none c.loop-pair-test.true in
     let t = IsTaken-from _ _ _ (at p.one.items) (at p.two.items) (at p.other.items) (at p.load.items)
-        c.loop-pair.invariant.joined.2 (get_or c.args.pairs.now c.loop-pair.pair-index none) w.0 w.1 w.2 c.args.capacity (sym c.if-may_join.ensures) in
+    c.loop-pair.invariant.joined.2 (get_or c.args.pairs.now c.loop-pair.pair-index none) w.0 w.1 w.2 c.args.capacity (sym c.if-may_join.ensures) in
     fits_sum _ _ _ t.fits c.ranges.capacity
 
 pub join-requires-clause-ends : goal.join-requires-clause-ends

@@ -24,8 +24,9 @@ pub returns-clause-single : goal.returns-clause-single
 returns-clause-single c b city =
     let n = length c.args.loads.now in
     let within : b < n + 1 = omega (arith, city.1) in
-    let passed : b < c.loop-c.c = omega (arith, within, c.loop-c-test.false) in
-    (rw (c.in_ok-one.ensures.items_if_clones_equal (λ y e. e)) (get_or-replicate (n + 1) b 0 0 within),
-    rw (c.in_ok-two.ensures.items_if_clones_equal (λ y e. e)) (get_or-replicate (n + 1) b 0 0 within),
-    c.loop-c.invariant.own b city.0 passed,
-    c.loop-c.invariant.heavy b city.0 passed)
+    let passed : b < c.loop-c.c = omega (arith, within, c.loop-c-test.false) in (
+      rw (c.in_ok-one.ensures.items_if_clones_equal (λ y e. e)) (get_or-replicate (n + 1) b 0 0 within),
+      rw (c.in_ok-two.ensures.items_if_clones_equal (λ y e. e)) (get_or-replicate (n + 1) b 0 0 within),
+      c.loop-c.invariant.own b city.0 passed,
+      c.loop-c.invariant.heavy b city.0 passed,
+    )
