@@ -1,7 +1,6 @@
 pub mod Complete
 pub mod Count
 pub mod Listed
-pub mod Margins
 pub mod Made
 pub mod OnCycle
 pub mod OneByOne

@@ -1,5 +1,4 @@
 pub mod EndsJoined
-pub mod FilledArrays
 pub mod HubApart
 pub mod ListsHeld
 pub mod NeighbourArrays

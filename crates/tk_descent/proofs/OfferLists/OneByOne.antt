@@ -17,14 +17,14 @@ tested_improves : (d : ℕ → ℕ → ℕ) (o : Offer) (v : ℤ) (b : Bool) →
 tested_improves d o v b fits worth test = sym (positive (removed d o) (added d o)) ∙ ap (λ z. lt_z (pos 0) z) (sym (to_z-of_z w64 v fits ∙ worth)) ∙ test
 
 -- the search of a list of one offer
-pub passed : (d : ℕ → ℕ → ℕ) (o : Offer) (t u : ℕ) → improves d o ≡ false → u ≡ saturated (t + 1) → Searched d (o ∷ []) None t u
+passed : (d : ℕ → ℕ → ℕ) (o : Offer) (t u : ℕ) → improves d o ≡ false → u ≡ saturated (t + 1) → Searched d (o ∷ []) None t u
 passed d o t u not count = record {
   found = ap (λ b. cond b (Some o) None) (sym not);
   worth = tt;
   tests = count ∙ ap (λ b. saturated (t + cond b 1 1)) (sym not);
 }
 
-pub taken : (d : ℕ → ℕ → ℕ) (f : Found) (t u : ℕ) → improves d f.offer ≡ true → f.gain ≡ gain d f.offer → u ≡ saturated (t + 1) → Searched d (f.offer ∷ []) (Some f) t u
+taken : (d : ℕ → ℕ → ℕ) (f : Found) (t u : ℕ) → improves d f.offer ≡ true → f.gain ≡ gain d f.offer → u ≡ saturated (t + 1) → Searched d (f.offer ∷ []) (Some f) t u
 taken d f t u does worth count = record {
   found = ap (λ b. cond b (Some f.offer) None) (sym does);
   worth = worth;

@@ -6,9 +6,6 @@ use Rattle.tk_plane.proofs.Leaving.{shown_lower_first, shown_upper_first}
 use Rattle.tk_plane.proofs.Parting.{All-taken, all_back, all_front, IsSmall, part_smaller, placed_small, taken_before, taken_behind}
 use Rattle.tk_plane.proofs.left.+take_from.Goals as goal
 
-pub search_leaf-requires-clause-here : goal.search_leaf-requires-clause-here
-search_leaf-requires-clause-here g t c = c.requires.here
-
 pub search_leaf-requires-clause-placed : goal.search_leaf-requires-clause-placed
 search_leaf-requires-clause-placed g t c =
     let m = c.args.m.now in
@@ -24,42 +21,17 @@ take_from-requires g t c κs within =
     let mine = all_back (IsPlaced (g.P.Metric.size_of m) (g.P.Planar.place_of m)) (entries_of c.in-Cut.lower.value) (entries_of c.in-Cut.upper.value) placed in
     (part_smaller c.args.tree.now c.in-Cut.lower.value c.in-Cut.upper.value _ t c.decreases (ap parts_of c.in-Cut.is) (inr e), (within.0, (within.1, (c.requires.here, (rw e mine, rw e framed.3)))))
 
-pub renew-requires-clause-framed : goal.renew-requires-clause-framed
-renew-requires-clause-framed g t c = rw c.deref-in-Some.ensures c.in-Some.ensures.framed
-
 pub renew-requires-clause-within : goal.renew-requires-clause-within
 renew-requires-clause-within g t c =
     let framed = rw c.in-Cut.is at c.requires.framed in
     let taken = rw c.deref_mut.ensures.value at c.in-Some.ensures.taken in
     rw c.deref-in-Some.ensures (All-taken (IsWithin c.in-Cut.upper_frame) c.args.here.now (entries_of c.in-Cut.upper.value) (entries_of c.take_from.new.tree) taken framed.1)
 
-pub search_half-requires-clause-here : goal.search_half-requires-clause-here
-search_half-requires-clause-here g t c = c.requires.here
-
-pub search_half-requires-clause-framed : goal.search_half-requires-clause-framed
-search_half-requires-clause-framed g t c =
-    let framed = rw c.in-Cut.is at c.requires.framed in
-    rw c.deref-in-Some-2.ensures framed.2
-
-pub search_half-requires-clause-within : goal.search_half-requires-clause-within
-search_half-requires-clause-within g t c =
-    let framed = rw c.in-Cut.is at c.requires.framed in
-    rw c.deref-in-Some-2.ensures framed.0
-
 pub search_half-requires-clause-placed : goal.search_half-requires-clause-placed
 search_half-requires-clause-placed g t c =
     let m = c.args.m.now in
     let placed = rw c.in-Cut.is at c.requires.placed in
     rw c.deref-in-Some-2.ensures (all_front (IsPlaced (g.P.Metric.size_of m) (g.P.Planar.place_of m)) (entries_of c.in-Cut.lower.value) (entries_of c.in-Cut.upper.value) placed)
-
-pub returns-in-Some-clause-framed : goal.returns-in-Some-clause-framed
-returns-in-Some-clause-framed g t c =
-    let framed = rw c.in-Cut.is at c.requires.framed in (
-      framed.0,
-      rw c.deref-in-Some.ensures at c.renew.ensures,
-      framed.2,
-      c.in-Some.ensures.framed,
-    )
 
 pub returns-in-Some-clause-taken : goal.returns-in-Some-clause-taken
 returns-in-Some-clause-taken g t c =
@@ -91,54 +63,23 @@ take_from-requires-then-goes_up g t c κs within =
     let mine = all_front (IsPlaced (g.P.Metric.size_of m) (g.P.Planar.place_of m)) (entries_of c.in-Cut.lower.value) (entries_of c.in-Cut.upper.value) placed in
     (part_smaller c.args.tree.now c.in-Cut.lower.value c.in-Cut.upper.value _ t c.decreases (ap parts_of c.in-Cut.is) (inl e), (within.0, (within.1, (c.requires.here, (rw e mine, rw e framed.2)))))
 
-pub renew-requires-in-Some-take_from-clause-framed : goal.renew-requires-in-Some-take_from-clause-framed
-renew-requires-in-Some-take_from-clause-framed g t c =
-    rw c.deref-in-Some-take_from.ensures c.in-Some-take_from.ensures.framed
-
 pub renew-requires-in-Some-take_from-clause-within : goal.renew-requires-in-Some-take_from-clause-within
 renew-requires-in-Some-take_from-clause-within g t c =
     let framed = rw c.in-Cut.is at c.requires.framed in
     let taken = rw c.deref_mut-then-goes_up.ensures.value at c.in-Some-take_from.ensures.taken in
     rw c.deref-in-Some-take_from.ensures (All-taken (IsWithin c.in-Cut.lower_frame) c.args.here.now (entries_of c.in-Cut.lower.value) (entries_of c.take_from-then-goes_up.new.tree) taken framed.0)
 
-pub search_half-requires-in-Some-take_from-clause-here : goal.search_half-requires-in-Some-take_from-clause-here
-search_half-requires-in-Some-take_from-clause-here g t c = c.requires.here
-
-pub search_half-requires-in-Some-take_from-clause-framed : goal.search_half-requires-in-Some-take_from-clause-framed
-search_half-requires-in-Some-take_from-clause-framed g t c =
-    rw c.deref-in-Some-take_from-2.ensures c.in_default.ensures.framed
-
-pub search_half-requires-in-Some-take_from-clause-within : goal.search_half-requires-in-Some-take_from-clause-within
-search_half-requires-in-Some-take_from-clause-within g t c =
-    let framed = rw c.in-Cut.is at c.requires.framed in
-    let upper : entries_of c.take_from.new.tree ≡ entries_of c.in-Cut.upper.value =
-    c.in_default.ensures.taken.0 ∙ ap entries_of c.deref_mut.ensures.value in
-    rw (c.deref-in-Some-take_from-2.ensures, upper) framed.1
-
 pub search_half-requires-in-Some-take_from-clause-placed : goal.search_half-requires-in-Some-take_from-clause-placed
 search_half-requires-in-Some-take_from-clause-placed g t c =
     let m = c.args.m.now in
     let placed = rw c.in-Cut.is at c.requires.placed in
-    let upper : entries_of c.take_from.new.tree ≡ entries_of c.in-Cut.upper.value =
-    c.in_default.ensures.taken.0 ∙ ap entries_of c.deref_mut.ensures.value in
+    let upper : entries_of c.take_from.new.tree ≡ entries_of c.in-Cut.upper.value = c.in_default.ensures.taken.0 ∙ ap entries_of c.deref_mut.ensures.value in
     rw (c.deref-in-Some-take_from-2.ensures, upper) (all_back (IsPlaced (g.P.Metric.size_of m) (g.P.Planar.place_of m)) (entries_of c.in-Cut.lower.value) (entries_of c.in-Cut.upper.value) placed)
-
-pub returns-in-Some-take_from-clause-framed : goal.returns-in-Some-take_from-clause-framed
-returns-in-Some-take_from-clause-framed g t c =
-    let framed = rw c.in-Cut.is at c.requires.framed in
-    let upper : entries_of c.take_from.new.tree ≡ entries_of c.in-Cut.upper.value =
-    c.in_default.ensures.taken.0 ∙ ap entries_of c.deref_mut.ensures.value in (
-      rw c.deref-in-Some-take_from.ensures at c.renew-in-Some-take_from.ensures,
-      rw upper framed.1,
-      c.in-Some-take_from.ensures.framed,
-      c.in_default.ensures.framed,
-    )
 
 pub returns-in-Some-take_from-clause-taken : goal.returns-in-Some-take_from-clause-taken
 returns-in-Some-take_from-clause-taken g t c =
     let old = ap entries_of c.in-Cut.is in
-    let upper : entries_of c.take_from.new.tree ≡ entries_of c.in-Cut.upper.value =
-    c.in_default.ensures.taken.0 ∙ ap entries_of c.deref_mut.ensures.value in
+    let upper : entries_of c.take_from.new.tree ≡ entries_of c.in-Cut.upper.value = c.in_default.ensures.taken.0 ∙ ap entries_of c.deref_mut.ensures.value in
     let taken = rw c.deref_mut-then-goes_up.ensures.value at c.in-Some-take_from.ensures.taken in
     rw (old, upper) (taken_before c.args.here.now (entries_of c.in-Cut.lower.value) (entries_of c.take_from-then-goes_up.new.tree) (entries_of c.in-Cut.upper.value) taken)
 
@@ -152,19 +93,6 @@ returns-in-Some-take_from-clause-shown g t c =
     let far = c.search_half-in-Some-take_from.ensures ∙ ap (λ tree. with_cities dist here (entries_of tree) middle) c.deref-in-Some-take_from-2.ensures in
     shown_lower_first dist here (entries_of c.take_from-then-goes_up.new.tree) (entries_of c.take_from.new.tree) (g.K.Keeper.kept_of c.args.keeper.now) middle _ near far
 
-pub returns-then-goes_up-clause-framed : goal.returns-then-goes_up-clause-framed
-returns-then-goes_up-clause-framed g t c =
-    let framed = rw c.in-Cut.is at c.requires.framed in
-    let upper : entries_of c.take_from.new.tree ≡ entries_of c.in-Cut.upper.value =
-    c.in_default.ensures.taken.0 ∙ ap entries_of c.deref_mut.ensures.value in
-    let lower : entries_of c.take_from-then-goes_up.new.tree ≡ entries_of c.in-Cut.lower.value =
-    c.in_default-take_from.ensures.taken.0 ∙ ap entries_of c.deref_mut-then-goes_up.ensures.value in (
-      rw lower framed.0,
-      rw upper framed.1,
-      c.in_default-take_from.ensures.framed,
-      c.in_default.ensures.framed,
-    )
-
 pub take_from-requires-in-Cut : goal.take_from-requires-in-Cut
 take_from-requires-in-Cut g t c κs within =
     let m = c.args.m.now in
@@ -174,43 +102,17 @@ take_from-requires-in-Cut g t c κs within =
     let mine = all_front (IsPlaced (g.P.Metric.size_of m) (g.P.Planar.place_of m)) (entries_of c.in-Cut.lower.value) (entries_of c.in-Cut.upper.value) placed in
     (part_smaller c.args.tree.now c.in-Cut.lower.value c.in-Cut.upper.value _ t c.decreases (ap parts_of c.in-Cut.is) (inl e), (within.0, (within.1, (c.requires.here, (rw e mine, rw e framed.2)))))
 
-pub renew-requires-in-Some-take_from-2-clause-framed : goal.renew-requires-in-Some-take_from-2-clause-framed
-renew-requires-in-Some-take_from-2-clause-framed g t c =
-    rw c.deref-in-Some-take_from-2-2.ensures c.in-Some-take_from-2.ensures.framed
-
 pub renew-requires-in-Some-take_from-2-clause-within : goal.renew-requires-in-Some-take_from-2-clause-within
 renew-requires-in-Some-take_from-2-clause-within g t c =
     let framed = rw c.in-Cut.is at c.requires.framed in
     let taken = rw c.deref_mut-in-Cut.ensures.value at c.in-Some-take_from-2.ensures.taken in
     rw c.deref-in-Some-take_from-2-2.ensures (All-taken (IsWithin c.in-Cut.lower_frame) c.args.here.now (entries_of c.in-Cut.lower.value) (entries_of c.take_from-in-Cut.new.tree) taken framed.0)
 
-pub search_half-requires-in-Some-take_from-2-clause-here : goal.search_half-requires-in-Some-take_from-2-clause-here
-search_half-requires-in-Some-take_from-2-clause-here g t c = c.requires.here
-
-pub search_half-requires-in-Some-take_from-2-clause-framed : goal.search_half-requires-in-Some-take_from-2-clause-framed
-search_half-requires-in-Some-take_from-2-clause-framed g t c =
-    let framed = rw c.in-Cut.is at c.requires.framed in
-    rw c.deref-in-Some-take_from-2-3.ensures framed.3
-
-pub search_half-requires-in-Some-take_from-2-clause-within : goal.search_half-requires-in-Some-take_from-2-clause-within
-search_half-requires-in-Some-take_from-2-clause-within g t c =
-    let framed = rw c.in-Cut.is at c.requires.framed in
-    rw c.deref-in-Some-take_from-2-3.ensures framed.1
-
 pub search_half-requires-in-Some-take_from-2-clause-placed : goal.search_half-requires-in-Some-take_from-2-clause-placed
 search_half-requires-in-Some-take_from-2-clause-placed g t c =
     let m = c.args.m.now in
     let placed = rw c.in-Cut.is at c.requires.placed in
     rw c.deref-in-Some-take_from-2-3.ensures (all_back (IsPlaced (g.P.Metric.size_of m) (g.P.Planar.place_of m)) (entries_of c.in-Cut.lower.value) (entries_of c.in-Cut.upper.value) placed)
-
-pub returns-in-Some-take_from-2-clause-framed : goal.returns-in-Some-take_from-2-clause-framed
-returns-in-Some-take_from-2-clause-framed g t c =
-    let framed = rw c.in-Cut.is at c.requires.framed in (
-      rw c.deref-in-Some-take_from-2-2.ensures at c.renew-in-Some-take_from-2.ensures,
-      framed.1,
-      c.in-Some-take_from-2.ensures.framed,
-      framed.3,
-    )
 
 pub returns-in-Some-take_from-2-clause-taken : goal.returns-in-Some-take_from-2-clause-taken
 returns-in-Some-take_from-2-clause-taken g t c =
@@ -237,54 +139,23 @@ take_from-requires-in-Cut-2 g t c κs within =
     let mine = all_back (IsPlaced (g.P.Metric.size_of m) (g.P.Planar.place_of m)) (entries_of c.in-Cut.lower.value) (entries_of c.in-Cut.upper.value) placed in
     (part_smaller c.args.tree.now c.in-Cut.lower.value c.in-Cut.upper.value _ t c.decreases (ap parts_of c.in-Cut.is) (inr e), (within.0, (within.1, (c.requires.here, (rw e mine, rw e framed.3)))))
 
-pub renew-requires-in-Some-take_from-3-clause-framed : goal.renew-requires-in-Some-take_from-3-clause-framed
-renew-requires-in-Some-take_from-3-clause-framed g t c =
-    rw c.deref-in-Some-take_from-3.ensures c.in-Some-take_from-3.ensures.framed
-
 pub renew-requires-in-Some-take_from-3-clause-within : goal.renew-requires-in-Some-take_from-3-clause-within
 renew-requires-in-Some-take_from-3-clause-within g t c =
     let framed = rw c.in-Cut.is at c.requires.framed in
     let taken = rw c.deref_mut-in-Cut-2.ensures.value at c.in-Some-take_from-3.ensures.taken in
     rw c.deref-in-Some-take_from-3.ensures (All-taken (IsWithin c.in-Cut.upper_frame) c.args.here.now (entries_of c.in-Cut.upper.value) (entries_of c.take_from-in-Cut-2.new.tree) taken framed.1)
 
-pub search_half-requires-in-Some-take_from-3-clause-here : goal.search_half-requires-in-Some-take_from-3-clause-here
-search_half-requires-in-Some-take_from-3-clause-here g t c = c.requires.here
-
-pub search_half-requires-in-Some-take_from-3-clause-framed : goal.search_half-requires-in-Some-take_from-3-clause-framed
-search_half-requires-in-Some-take_from-3-clause-framed g t c =
-    rw c.deref-in-Some-take_from-3-2.ensures c.in_default-take_from-2.ensures.framed
-
-pub search_half-requires-in-Some-take_from-3-clause-within : goal.search_half-requires-in-Some-take_from-3-clause-within
-search_half-requires-in-Some-take_from-3-clause-within g t c =
-    let framed = rw c.in-Cut.is at c.requires.framed in
-    let lower : entries_of c.take_from-in-Cut.new.tree ≡ entries_of c.in-Cut.lower.value =
-    c.in_default-take_from-2.ensures.taken.0 ∙ ap entries_of c.deref_mut-in-Cut.ensures.value in
-    rw (c.deref-in-Some-take_from-3-2.ensures, lower) framed.0
-
 pub search_half-requires-in-Some-take_from-3-clause-placed : goal.search_half-requires-in-Some-take_from-3-clause-placed
 search_half-requires-in-Some-take_from-3-clause-placed g t c =
     let m = c.args.m.now in
     let placed = rw c.in-Cut.is at c.requires.placed in
-    let lower : entries_of c.take_from-in-Cut.new.tree ≡ entries_of c.in-Cut.lower.value =
-    c.in_default-take_from-2.ensures.taken.0 ∙ ap entries_of c.deref_mut-in-Cut.ensures.value in
+    let lower : entries_of c.take_from-in-Cut.new.tree ≡ entries_of c.in-Cut.lower.value = c.in_default-take_from-2.ensures.taken.0 ∙ ap entries_of c.deref_mut-in-Cut.ensures.value in
     rw (c.deref-in-Some-take_from-3-2.ensures, lower) (all_front (IsPlaced (g.P.Metric.size_of m) (g.P.Planar.place_of m)) (entries_of c.in-Cut.lower.value) (entries_of c.in-Cut.upper.value) placed)
-
-pub returns-in-Some-take_from-3-clause-framed : goal.returns-in-Some-take_from-3-clause-framed
-returns-in-Some-take_from-3-clause-framed g t c =
-    let framed = rw c.in-Cut.is at c.requires.framed in
-    let lower : entries_of c.take_from-in-Cut.new.tree ≡ entries_of c.in-Cut.lower.value =
-    c.in_default-take_from-2.ensures.taken.0 ∙ ap entries_of c.deref_mut-in-Cut.ensures.value in (
-      rw lower framed.0,
-      rw c.deref-in-Some-take_from-3.ensures at c.renew-in-Some-take_from-3.ensures,
-      c.in_default-take_from-2.ensures.framed,
-      c.in-Some-take_from-3.ensures.framed,
-    )
 
 pub returns-in-Some-take_from-3-clause-taken : goal.returns-in-Some-take_from-3-clause-taken
 returns-in-Some-take_from-3-clause-taken g t c =
     let old = ap entries_of c.in-Cut.is in
-    let lower : entries_of c.take_from-in-Cut.new.tree ≡ entries_of c.in-Cut.lower.value =
-    c.in_default-take_from-2.ensures.taken.0 ∙ ap entries_of c.deref_mut-in-Cut.ensures.value in
+    let lower : entries_of c.take_from-in-Cut.new.tree ≡ entries_of c.in-Cut.lower.value = c.in_default-take_from-2.ensures.taken.0 ∙ ap entries_of c.deref_mut-in-Cut.ensures.value in
     let taken = rw c.deref_mut-in-Cut-2.ensures.value at c.in-Some-take_from-3.ensures.taken in
     rw (old, lower) (taken_behind c.args.here.now (entries_of c.in-Cut.lower.value) (entries_of c.in-Cut.upper.value) (entries_of c.take_from-in-Cut-2.new.tree) taken)
 
@@ -298,8 +169,7 @@ returns-in-Some-take_from-3-clause-shown g t c =
     let far = c.search_half-in-Some-take_from-3.ensures ∙ ap (λ tree. with_cities dist here (entries_of tree) middle) c.deref-in-Some-take_from-3-2.ensures in
     let placed = rw c.in-Cut.is at c.requires.placed in
     let small : All IsSmall (entries_of c.in-Cut.lower.value ++ entries_of c.in-Cut.upper.value) = placed_small (g.P.Metric.size_of m) (g.P.Planar.place_of m) (entries_of c.in-Cut.lower.value ++ entries_of c.in-Cut.upper.value) (g.met.P.Metric.size_limit m) placed in
-    let lower : entries_of c.take_from-in-Cut.new.tree ≡ entries_of c.in-Cut.lower.value =
-    c.in_default-take_from-2.ensures.taken.0 ∙ ap entries_of c.deref_mut-in-Cut.ensures.value in
+    let lower : entries_of c.take_from-in-Cut.new.tree ≡ entries_of c.in-Cut.lower.value = c.in_default-take_from-2.ensures.taken.0 ∙ ap entries_of c.deref_mut-in-Cut.ensures.value in
     let small_lower : All IsSmall (entries_of c.take_from-in-Cut.new.tree) = rw lower (all_front IsSmall _ _ small) in
     let taken = rw c.deref_mut-in-Cut-2.ensures.value at c.in-Some-take_from-3.ensures.taken in
     let small_upper = All-taken IsSmall c.args.here.now (entries_of c.in-Cut.upper.value) (entries_of c.take_from-in-Cut-2.new.tree) taken (all_back IsSmall (entries_of c.in-Cut.lower.value) (entries_of c.in-Cut.upper.value) small) in

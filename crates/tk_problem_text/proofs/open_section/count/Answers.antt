@@ -1,18 +1,9 @@
-use Rattle.std.proofs.Common.{rules, refl, eqb, false, ◌≡◌}
+use Rattle.std.proofs.Common.{refl, eqb, false, ◌≡◌}
 use Rattle.std.proofs.lemmas.Bool.{ne_eqb}
 use Rattle.tk_problem_text.proofs.open_section.count.Goals as goal
 
-pub saturating_sub-requires : goal.saturating_sub-requires
-saturating_sub-requires c = search rules
-
 pub returns-then-left-eq0-clause-last : goal.returns-then-left-eq0-clause-last
 returns-then-left-eq0-clause-last c = rw c.if-left-eq0.true refl
-
-pub returns-then-left-eq0-clause-fewer : goal.returns-then-left-eq0-clause-fewer
-returns-then-left-eq0-clause-fewer c = c.saturating_sub.ensures
-
-pub returns-clause-fewer : goal.returns-clause-fewer
-returns-clause-fewer c = c.saturating_sub.ensures
 
 pub returns-clause-last : goal.returns-clause-last
 returns-clause-last c =

@@ -1,28 +1,13 @@
-use Rattle.std.proofs.Common.{arith, ◌≡◌, ℕ, ◌+◌, ◌<◌, List, ◌∷◌, ◌++◌, length, take, get_or, replicate, sym, ap, ◌∙◌, subst}
+use Rattle.std.proofs.Common.{rules, ◌≡◌, ℕ, List, ◌∷◌, replicate, sym, ap, ◌∙◌, subst}
 use Rattle.std.specs.List.{flat_map}
-use Rattle.std.proofs.lemmas.Grind.{common_steps}
 use Rattle.std.proofs.lemmas.List.{take_all}
 use Rattle.tk_tour.specs.Tour.{IsTour}
 use Rattle.tk_starts.proofs.Merging.HubApart.{tour_made}
 use Rattle.tk_starts.proofs.merges.savings.savings_tour.Goals as goal
 
-list_added : {X : Type 0} (f : X → List ℕ) (xs : List X) (i : ℕ) (x : X) (tour tour' part : List ℕ) → i < length xs →
-    x ≡ get_or xs i x → part ≡ f x → tour ≡ 1 ∷ flat_map f (take i xs) → tour' ≡ tour ++ part →
-    tour' ≡ 1 ∷ flat_map f (take (i + 1) xs)
-list_added f xs i x tour tour' part lt at list before after = grind (arith, common_steps)
-
-pub savings_lists-requires-clause-loads : goal.savings_lists-requires-clause-loads
-savings_lists-requires-clause-loads g c =
-    rw c.deref.ensures.value (sym c.in_ok-loads.loads.ok.0 ∙ (c.in_ok-loads.ensures.len ∙ c.size.ensures))
-
-pub loop-list-preserved : goal.loop-list-preserved
-loop-list-preserved g c =
-    list_added (λ x. x.items) c.deref-list-items.result.now c.loop-list.list-index c.list-item.result _ _ _
-    c.loop-list-test.true c.list-item.is c.deref-in-loop-list.ensures.value c.loop-list.invariant c.in_ok-extend_from_slice.ensures.items
-
 pub returns-clause-lists : goal.returns-clause-lists
 returns-clause-lists g c =
-    let v : c.in_ok-loads.loads.items ≡ replicate c.size.result 0 = c.in_ok-loads.ensures.items_if_clones_equal (λ y e. e) in
+    let v : c.in_ok-loads.loads.items ≡ replicate c.size.result 0 = search rules in
     let e : c.deref.result.now ≡ replicate (g.M.Metric.size_of c.args.metric.now) 0 = c.deref.ensures.value ∙ (v ∙ ap (λ (n : ℕ). replicate n 0) c.size.ensures) in
     tour_made _ _ _ c.deref.result.now _ _ (λ x. x.items) c.deref-list-items.result.now c.in_ok-lists.lists.items c.loop-list.list-index e c.deref-list-items.ensures.value c.loop-list-test.false c.in_ok-lists.ensures.lists c.loop-list.invariant
 
