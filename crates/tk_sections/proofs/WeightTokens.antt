@@ -33,7 +33,8 @@ module _ (n : ℕ) (f : Format) (toks : List Token) (t : Token) (p : Place) (her
       rw (here, is, equal, behind, and-false (is_full f)) refl
 
   module _ (apart : p.row ≢ p.column) where
-    pub weight_beyond : (z : ℤ) → integer t.bytes ≡ Some z → in_range 0 4000000000 (Some z) ≡ false → first_at t.line (weight_tests n f toks t) ≡ Some (Fault t.line kinds.OutOfLimit)
+    pub weight_beyond : (z : ℤ) → integer t.bytes ≡ Some z → in_range 0 4000000000 (Some z) ≡ false
+        → first_at t.line (weight_tests n f toks t) ≡ Some (Fault t.line kinds.OutOfLimit)
     weight_beyond z is beyond =
         let unequal : eqb p.row p.column ≡ false = ne_eqb p.row p.column apart in
         rw (here, is, unequal, beyond) refl

@@ -1,11 +1,13 @@
-use Rattle.std.proofs.Common.{rules, arith, ap, sym, ◌∙◌, refl, ◌≡◌, ◌<◌, ℕ, suc, pos, negsuc, Some, ◌-◌, ◌≤◌, true, false, w64, SFits, to_z, of_z, ℤ}
+use Rattle.std.proofs.Common.{rules, arith, ap, sym, ◌∙◌, refl, ◌≡◌, ◌<◌, ◌-◌, ◌≤◌, ℕ, suc, ℤ, pos, negsuc, Some, true, false}
+use Rattle.std.proofs.Common.{w64, SFits, to_z, of_z}
 use Rattle.std.proofs.lemmas.Bool.{ltb-true, ltb-false, lt-leb, and_left, and_right}
 use Rattle.std.proofs.lemmas.Int.{to_z-of_z}
 use lib.Signed.{lt_z}
 use lib.IntN.{nat_abs}
 use Rattle.tk_words.specs.Entry.{in_range}
 use Rattle.tk_sections.proofs.nodes.node_of.Goals as goal
-use Rattle.tk_sections.proofs.nodes.node_of.Goals.{then-number-lt1-via-then-number-lt1, then-number-lt1-via-else-number-lt1+then-number-count}
+use Rattle.tk_sections.proofs.nodes.node_of.Goals.{then-number-lt1-via-then-number-lt1}
+use Rattle.tk_sections.proofs.nodes.node_of.Goals.{then-number-lt1-via-else-number-lt1+then-number-count}
 
 out-below : (z : ℤ) (count : ℕ) → lt_z z (pos 1) ≡ true → in_range 1 count (Some z) ≡ false
 out-below (pos n) count less = and_left _ _ (lt-leb 1 n (ltb-true n 1 less))
@@ -26,11 +28,13 @@ returns-in_default-clause-err c = λ nodes line. rw (sym c.in_default.ensures) r
 
 pub returns-then-number-lt1-clause-err : goal.returns-then-number-lt1-clause-err
 returns-then-number-lt1-clause-err c = λ nodes line.
-    let fits : SFits w64 c.in-Some.number = search rules in
-    let passed : to_z w64 (of_z w64 c.in-Some.number) ≡ c.in-Some.number = to_z-of_z w64 c.in-Some.number fits in
-    let out : in_range 1 c.args.count (Some c.in-Some.number) ≡ false = elim c.then-number-lt1.branch [
-      | then-number-lt1-via-then-number-lt1 w ↦ out-below c.in-Some.number c.args.count (rw passed at w.if-number-lt1.true)
-      | then-number-lt1-via-else-number-lt1+then-number-count w ↦ out-above c.in-Some.number c.args.count (rw passed at w.if-number-count.true)
+    let number : ℤ = c.in-Some.number in
+    let fits : SFits w64 number = search rules in
+    let passed : to_z w64 (of_z w64 number) ≡ number = to_z-of_z w64 number fits in
+    let out : in_range 1 c.args.count (Some number) ≡ false = elim c.then-number-lt1.branch [
+      | then-number-lt1-via-then-number-lt1 w ↦ out-below number c.args.count (rw passed at w.if-number-lt1.true)
+      | then-number-lt1-via-else-number-lt1+then-number-count w ↦
+          out-above number c.args.count (rw passed at w.if-number-count.true)
     ] in
     rw (sym c.in-Some.ensures, out) refl
 
@@ -38,10 +42,12 @@ pub overflow_sub-result : goal.overflow_sub-result
 overflow_sub-result c = (from_one (to_z w64 (of_z w64 c.in-Some.number)) c.if-number-lt1.false).0
 
 pub returns-clause-index : goal.returns-clause-index
-returns-clause-index c = omega (arith, c.if-number-count.false, (from_one (to_z w64 (of_z w64 c.in-Some.number)) c.if-number-lt1.false).0)
+returns-clause-index c =
+    omega (arith, c.if-number-count.false, (from_one (to_z w64 (of_z w64 c.in-Some.number)) c.if-number-lt1.false).0)
 
 pub returns-clause-ok : goal.returns-clause-ok
 returns-clause-ok c =
     let fits : SFits w64 c.in-Some.number = search rules in
     let number = to_z w64 (of_z w64 c.in-Some.number) in
-    sym c.in-Some.ensures ∙ ap Some (sym (to_z-of_z w64 c.in-Some.number fits) ∙ (from_one number c.if-number-lt1.false).1)
+    sym c.in-Some.ensures
+    ∙ ap Some (sym (to_z-of_z w64 c.in-Some.number fits) ∙ (from_one number c.if-number-lt1.false).1)

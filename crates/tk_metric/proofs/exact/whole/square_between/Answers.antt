@@ -17,7 +17,8 @@ pub overflow_mul-result-2 : goal.overflow_mul-result-2
 overflow_mul-result-2 c = omega (arith, square_of-near _ c.apart-dy.ensures.bound)
 
 pub overflow_add-result : goal.overflow_add-result
-overflow_add-result c = omega (arith, square_of-near _ c.apart-dx.ensures.bound, square_of-near _ c.apart-dy.ensures.bound)
+overflow_add-result c =
+    omega (arith, square_of-near _ c.apart-dx.ensures.bound, square_of-near _ c.apart-dy.ensures.bound)
 
 pub returns-clause-value : goal.returns-clause-value
 returns-clause-value c = squares-same _ _ _ _ (omega (arith, ints)) (omega (arith, ints))

@@ -1,5 +1,6 @@
 use Rattle.std.proofs.lemmas.Int.{to_z-of_z}
-use Rattle.std.proofs.Common.{w64, to_z, of_z, ap, subst, ◌≡◌, ◌≢◌, ◌≤◌, ◌&&◌, ℕ, ltb, false, pos, Some, None, Ok, Err, Result, IfOk, sym, ◌∙◌}
+use Rattle.std.proofs.Common.{ap, subst, sym, ◌∙◌, ◌≡◌, ◌≢◌, ◌≤◌, ◌&&◌, ℕ, ltb, false, pos, w64, to_z, of_z}
+use Rattle.std.proofs.Common.{Some, None, Ok, Err, Result, IfOk}
 use Rattle.std.proofs.lemmas.Bool.{ltb-true, and_parts}
 use Rattle.std.proofs.lemmas.Result.{IfOk-weaker, IfErr-weaker}
 use Rattle.tk_words.specs.declared.fault.TextKind.{TextKind}
@@ -15,8 +16,10 @@ returns-in_default-clause-err c = λ n f toks t has is.
     let place = c.place-place.result in
     let apart : place.row ≢ place.column = if_some (λ p. p.row ≢ p.column) c.place-place.ensures c.requires.pair in
     let here = place_here n f c.args.self.now toks has place c.place-place.ensures in
-    let beyond : in_range 0 4000000000 (Some (to_z w64 (of_z w64 c.args.number))) ≡ false = c.limited.ensures.none c.in_default.is in
-    weight_beyond n f toks t place here apart c.args.number is (rw (to_z-of_z w64 c.args.number c.ranges.number) at beyond)
+    let beyond : in_range 0 4000000000 (Some (to_z w64 (of_z w64 c.args.number))) ≡ false =
+    c.limited.ensures.none c.in_default.is in
+    weight_beyond n f toks t place here apart c.args.number is
+    (rw (to_z-of_z w64 c.args.number c.ranges.number) at beyond)
 
 -- a weight that was taken is both of these
 both_weights : (r : Result ℕ TextKind) (x y : ℕ) → IfOk r (λ w. w ≡ x) → IfOk r (λ w. w ≡ y) → IfOk r (λ _. x ≡ y)
@@ -58,5 +61,6 @@ returns-clause-ok c = λ n f toks t has is.
     let passed = to_z-of_z w64 c.args.number c.ranges.number in
     let is_weight = is ∙ ap Some (sym passed ∙ c.in-Some.ensures.some.0) in
     let here = place_here n f c.args.self.now toks has place c.place-place.ensures in
-    let once = subst (λ f. (is_full f && ltb place.column place.row) ≡ false) has.format (sym c.repeats.ensures ∙ c.if-repeats.false) in
+    let once = subst (λ f. (is_full f && ltb place.column place.row) ≡ false) has.format
+    (sym c.repeats.ensures ∙ c.if-repeats.false) in
     weight_once n f toks t place here apart c.in-Some.weight is_weight c.in-Some.ensures.some.2 once

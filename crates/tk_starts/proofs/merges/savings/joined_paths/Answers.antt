@@ -55,7 +55,8 @@ join-requires-clause-load c =
     let p = c.loop-pair.paths in
     let w = c.requires.within c.loop-pair.pair-index none c.loop-pair-test.true in
     let t = IsTaken-from _ _ _ (at p.one.items) (at p.two.items) (at p.other.items) (at p.load.items)
-    c.loop-pair.invariant.joined.2 (get_or c.args.pairs.now c.loop-pair.pair-index none) w.0 w.1 w.2 c.args.capacity (sym c.if-may_join.ensures) in
+    c.loop-pair.invariant.joined.2 (get_or c.args.pairs.now c.loop-pair.pair-index none) w.0 w.1 w.2
+    c.args.capacity (sym c.if-may_join.ensures) in
     fits_sum _ _ _ t.fits c.ranges.capacity
 
 pub join-requires-clause-ends : goal.join-requires-clause-ends
@@ -64,7 +65,8 @@ join-requires-clause-ends c =
     let p = c.loop-pair.paths in
     let w = c.requires.within c.loop-pair.pair-index none c.loop-pair-test.true in
     let t = IsTaken-from _ _ _ (at p.one.items) (at p.two.items) (at p.other.items) (at p.load.items) c.loop-pair.invariant.joined.2 (get_or c.args.pairs.now c.loop-pair.pair-index none) w.0 w.1 w.2 c.args.capacity (sym c.if-may_join.ensures) in
-    (below_size _ _ _ c.loop-pair.invariant.sizes.0 t.far.0.1, below_size _ _ _ c.loop-pair.invariant.sizes.0 t.far.1.1, t.far.2)
+    let z = c.loop-pair.invariant.sizes.0 in
+    (below_size _ _ _ z t.far.0.1, below_size _ _ _ z t.far.1.1, t.far.2)
 
 pub loop-pair-preserved : goal.loop-pair-preserved
 unfolding none
