@@ -4,6 +4,7 @@
 pub const STANDARD: &str = "-";
 
 /// What the words of a call ask for: a subcommand with its files. [`STANDARD`] names standard input.
+#[derive(Drop)]
 pub enum Asked<'a> {
     /// `check PROBLEM TOUR`
     Check {

@@ -31,6 +31,12 @@ pub fn not_text(rt: &HostRuntime) -> ExitCode {
     ExitCode::from(USAGE)
 }
 
+/// Tells that this program was built without the subcommand.
+pub fn left_out(rt: &HostRuntime) -> ExitCode {
+    let _ = eprintln!(rt; "tourkit: this program was built without plot and solve");
+    ExitCode::from(USAGE)
+}
+
 /// Tells that a file cannot be opened.
 pub fn unopened(rt: &HostRuntime, file: &str) -> ExitCode {
     let _ = eprintln!(rt; "tourkit: {file}: cannot be opened");

@@ -3,28 +3,20 @@
 
 ghost use Rattle.tk_command_line.specs.Asking.{IsMeant};
 
-mod check_command;
-mod checksol_command;
-mod matrix_command;
-mod near_command;
 mod plot_command;
 mod progress;
 mod solve_command;
 
-use std::io::ErrorKind;
 use std::process::ExitCode;
+use tk_check_commands::{check_command, checksol_command, matrix_command, near_command};
 use tk_command_line::{Asked, parse};
-use tk_console::report;
+use tk_console::{report, words_of_call};
 
 /// Reads the program's words, and runs what they ask for.
 fn main(rt: HostRuntime) -> ExitCode {
-    let words = match std::env::args(&rt) {
-        Ok(args) => args.collect::<Vec<String>>(rt.alloc()),
-        Err(error) if error.kind() == ErrorKind::OutOfMemory => return report::no_memory(&rt),
-        Err(_) => return report::not_text(&rt),
-    };
-    let Ok(words) = words else {
-        return report::no_memory(&rt);
+    let words = match words_of_call(&rt) {
+        Ok(words) => words,
+        Err(status) => return status,
     };
     match parse(&rt, words.as_slice()) {
         Ok(asked) => run(&rt, asked),
@@ -37,10 +29,10 @@ fn run(rt: &HostRuntime, asked: Asked<'_>) -> ExitCode
     requires { IsMeant asked }
 {
     match asked {
-        Asked::Check { problem, tour } => check_command::run(rt, problem, tour),
-        Asked::Checksol { problem, solution } => checksol_command::run(rt, problem, solution),
-        Asked::Matrix { problem, format } => matrix_command::run(rt, problem, format),
-        Asked::Near { problem, count } => near_command::run(rt, problem, count),
+        Asked::Check { problem, tour } => check_command(rt, problem, tour),
+        Asked::Checksol { problem, solution } => checksol_command(rt, problem, solution),
+        Asked::Matrix { problem, format } => matrix_command(rt, problem, format),
+        Asked::Near { problem, count } => near_command(rt, problem, count),
         Asked::Plot { problem, claim } => plot_command::run(rt, problem, claim),
         Asked::Solve { parameters } => solve_command::run(rt, parameters),
     }

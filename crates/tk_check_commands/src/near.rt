@@ -8,7 +8,7 @@ use tk_pen::ToWrite;
 use tk_words::FromRead;
 
 /// `near PROBLEM -k N`.
-pub fn run(rt: &HostRuntime, file: &str, count: u32) -> ExitCode
+pub fn near_command(rt: &HostRuntime, file: &str, count: u32) -> ExitCode
     requires { (1 ≤ count) × (count ≤ 100) }
 {
     let problem = match open(rt, file) {

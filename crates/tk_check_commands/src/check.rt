@@ -8,7 +8,7 @@ use tk_tour::Verdict;
 use tk_words::FromRead;
 
 /// `check PROBLEM TOUR`. Both files are opened before either is read.
-pub fn run(rt: &HostRuntime, problem_file: &str, tour_file: &str) -> ExitCode {
+pub fn check_command(rt: &HostRuntime, problem_file: &str, tour_file: &str) -> ExitCode {
     let (problem, tour) = match open_two(rt, problem_file, tour_file) {
         Ok(opened) => opened,
         Err(status) => return status,

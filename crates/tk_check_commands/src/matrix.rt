@@ -8,7 +8,7 @@ use tk_words::FromRead;
 use tk_writers::format_of;
 
 /// `matrix PROBLEM FORMAT`.
-pub fn run(rt: &HostRuntime, file: &str, word: &str) -> ExitCode {
+pub fn matrix_command(rt: &HostRuntime, file: &str, word: &str) -> ExitCode {
     let Some(format) = format_of(word) else {
         return ExitCode::from(USAGE);
     };

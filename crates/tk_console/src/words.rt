@@ -1,0 +1,14 @@
+//! The words of the call.
+use crate::report;
+use std::io::ErrorKind;
+use std::process::ExitCode;
+
+/// The words of the call, the program's name first, or the status after telling why they cannot be had.
+pub fn words_of_call(rt: &HostRuntime) -> Result<Vec<String>, ExitCode> {
+    let words = match std::env::args(rt) {
+        Ok(words) => words.collect::<Vec<String>>(rt.alloc()),
+        Err(error) if error.kind() == ErrorKind::OutOfMemory => return Err(report::no_memory(rt)),
+        Err(_) => return Err(report::not_text(rt)),
+    };
+    words.map_err(|_| report::no_memory(rt))
+}
