@@ -1,12 +1,11 @@
-//! The subcommands `check`, `checksol`, `matrix` and `near` over files: each opens its files, runs its engine, and tells what came of it.
+//! The subcommands `check`, `checksol`, `matrix` and `near` over files: each opens its files, runs its engine, and tells
+//! what came of it. A program has these, and its own `plot` and `solve`.
 #![tactic(auto)]
 
+mod call;
 mod check;
 mod checksol;
 mod matrix;
 mod near;
 
-pub use check::check_command;
-pub use checksol::checksol_command;
-pub use matrix::matrix_command;
-pub use near::near_command;
+pub use call::{Others, run_call};

@@ -4,7 +4,6 @@
 pub const STANDARD: &str = "-";
 
 /// What the words of a call ask for: a subcommand with its files. [`STANDARD`] names standard input.
-#[derive(Drop)]
 pub enum Asked<'a> {
     /// `check PROBLEM TOUR`
     Check {

@@ -1,5 +1,5 @@
-//! What the subcommands share: the words of the call, the files that they read and write, their messages on standard error, and exit
-//! statuses.
+//! What the subcommands share: the words of the call, the files that they read and write, their messages on standard
+//! error, and exit statuses.
 #![tactic(auto)]
 
 mod input;
