@@ -2,7 +2,7 @@
 use std::io;
 use std::process::ExitCode;
 use tk_command_line::Refusal;
-use tk_params::{Key, ParamFault, ParamKind};
+use tk_keys::{Key, ParamFault, ParamKind};
 use tk_stages::Fault;
 use tk_tour::TourFault;
 use tk_words::{TextFault, TextKind};

@@ -12,7 +12,7 @@ use Rattle.tk_lines.specs.Pieces.{Piece, Format}
 use Rattle.tk_words.specs.Drive.{IsTold, IsToldKind}
 use Rattle.tk_lines.specs.Forms.{IsToldWord}
 use Rattle.tk_lines.specs.Reader.{Next, Within, this, anything, DecidesIf, AtPlace}
-use Rattle.tk_words.proofs.Driving.{told_kind}
+use Rattle.tk_words.proofs.Told.{told_kind}
 use Rattle.tk_lines.proofs.LineSteps.{decides_byte}
 
 pub at_place : {V S : Type 0} (f : Format V) (H : S → List Piece → Type 0) (W : S → List Piece → Keyword → ℕ → List Token → Type 0) (next : Next) (form : S) (line : ℕ) (held : List ℕ) (scan : Scan) (bs : List ℕ) (p q : Place) → p ≡ q

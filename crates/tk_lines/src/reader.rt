@@ -68,7 +68,7 @@ impl<F: Form> PieceReader<F> {
     ghost use Rattle.tk_lines.specs.declared.reader.Place.TheVariants as places;
     ghost use Rattle.tk_lines.specs.declared.reader.Went.TheVariants as wents;
     ghost use Rattle.tk_lines.specs.declared.reader.Ended.TheVariants as endeds;
-    ghost use Rattle.tk_words.specs.declared.drive.Step.TheVariants as steps;
+    ghost use Rattle.tk_words.specs.declared.text_reader.Step.TheVariants as steps;
     ghost use Rattle.tk_words.specs.declared.keyword.Keyword.{Keyword};
     ghost use Rattle.tk_words.specs.Drive.{IsTold};
     ghost use Rattle.tk_lines.specs.Reader.{HasFed, HasWent, DecidesIf, Next, Within, this, no_word, a_line_end, a_gap, IsToken, IsIn, HeaderTaken, HasEnded};

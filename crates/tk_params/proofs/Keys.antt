@@ -1,4 +1,4 @@
--- How many keys settings have, and how long the word of a key is.
+-- How many keys settings have.
 use Rattle.std.proofs.Common.{◌≡◌, ◌∙◌, ◌≤◌, ◌++◌, ℕ, suc, Bool, true, false, List, [], ◌∷◌, length, cond, arith, refl, sym, subst}
 use Rattle.std.proofs.lemmas.Cmp.{on_equiv}
 use Rattle.std.proofs.lemmas.List.{map-append}
@@ -9,13 +9,11 @@ use Rattle.std.specs.Cmp.{IsEquivalence, nat_eq_equiv}
 use Rattle.std.specs.List.{IsDistinct}
 use Rattle.std.specs.Map.{keys_of}
 use Rattle.std.specs.Set.{is_member}
-use Rattle.tk_params.specs.declared.key.Key.{Key}
-use Rattle.tk_params.specs.declared.key.Key.TheVariants as keys
-use Rattle.tk_params.specs.Keys.{all_keys, code, word}
+use Rattle.tk_keys.specs.declared.key.Key.{Key}
+use Rattle.tk_keys.specs.declared.key.Key.TheVariants as keys
+use Rattle.tk_keys.specs.Keys.{all_keys, code}
 use Rattle.tk_params.specs.Values.{Settings, Value, has, same_key}
 use Rattle.tk_params.specs.Asked.{AreApart, ignored_keys, is_ignored}
-
--- ---- how many
 
 same_key_laws : IsEquivalence same_key
 same_key_laws = on_equiv code nat_eq_equiv
@@ -62,24 +60,3 @@ pub apart_push : (ss : Settings) (key : Key) (v : Value) → AreApart ss → has
 apart_push ss key v apart fresh =
     let absent = sym (is_some-lookup (same_key key) ss) ∙ fresh in
     subst (IsDistinct same_key) (sym (map-append (λ (s : Key × Value). s.0) ss ((key, v) ∷ []))) (IsDistinct-push same_key_laws (keys_of ss) key apart absent)
-
--- ---- how long
-
-pub word_short : (key : Key) → length (word key) ≤ 40
-word_short keys.ProblemFile = omega arith
-word_short keys.TourFile = omega arith
-word_short keys.SolutionFile = omega arith
-word_short keys.InitialTourFile = omega arith
-word_short keys.Runs = omega arith
-word_short keys.MaxTrials = omega arith
-word_short keys.Seed = omega arith
-word_short keys.MaxCandidates = omega arith
-word_short keys.Construction = omega arith
-word_short keys.FinalSweep = omega arith
-word_short keys.OrSegment = omega arith
-word_short keys.MoveType = omega arith
-word_short keys.PatchingA = omega arith
-word_short keys.PatchingC = omega arith
-word_short keys.Precision = omega arith
-word_short keys.TraceLevel = omega arith
-word_short keys.Optimum = omega arith

@@ -1,5 +1,4 @@
 pub mod Asked
-pub mod Keys
 pub mod Params
 pub mod Readers
 pub mod Reading

@@ -1,13 +1,13 @@
 -- A parameter reader's place in a text.
 use Rattle.std.specs.Prelude.{◌≡◌, ◌≤◌, ℕ, Bool, false, not, ◌&&◌, List, ◌++◌, length, Option, Some, None, Result, Err}
-use Rattle.tk_words.specs.declared.drive.Step.{Step}
-use Rattle.tk_words.specs.declared.drive.Step.TheVariants as steps
+use Rattle.tk_words.specs.declared.text_reader.Step.{Step}
+use Rattle.tk_words.specs.declared.text_reader.Step.TheVariants as steps
 use Rattle.tk_words.specs.declared.fault.TextFault.{TextFault}
 use Rattle.tk_words.specs.Drive.{line_behind}
 use Rattle.tk_words.specs.Lex.{is_blank, is_empty, behind, lines}
 use Rattle.tk_lines.specs.Pieces.{prepend}
-use Rattle.tk_params.specs.declared.fault.ParamFault.{ParamFault}
-use Rattle.tk_params.specs.declared.fault.ParamKind.{ParamKind}
+use Rattle.tk_keys.specs.declared.fault.ParamFault.{ParamFault}
+use Rattle.tk_keys.specs.declared.fault.ParamKind.{ParamKind}
 use Rattle.tk_params.specs.declared.reader.ParamReader.{ParamReader}
 use Rattle.tk_params.specs.Readers.{HasTaken}
 use Rattle.tk_params.specs.Values.{Settings, Faulty, line_means}

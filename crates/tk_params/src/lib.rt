@@ -2,16 +2,13 @@
 #![tactic(auto)]
 
 mod entries;
-mod fault;
-mod key;
 mod line;
 mod params;
 mod reader;
 mod settings;
 mod value;
 
-pub use fault::{ParamFault, ParamKind};
-pub use key::{Key, each_word_spells_its_key};
 pub use params::Params;
 pub use reader::read_params;
+pub use tk_keys::{Key, ParamFault, ParamKind, each_word_spells_its_key};
 pub use value::Construction;

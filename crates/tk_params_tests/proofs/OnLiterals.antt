@@ -4,9 +4,9 @@ use Rattle.std.specs.Fmt.{digits}
 use Rattle.std.specs.Str.{chars, is_utf8}
 use lib.Utf8.{encode}
 use Rattle.tk_words.specs.Lex.{lines}
-use Rattle.tk_words.specs.Drive.{answer_of}
+use Rattle.tk_reading.specs.Texts.{answer_of}
 use Rattle.tk_params.specs.Asked.{asked_of, ignored_keys}
-use Rattle.tk_params.specs.Keys.{key_of}
+use Rattle.tk_keys.specs.Keys.{key_of}
 use Rattle.tk_params.specs.Params.{judge, params_decided}
 use Rattle.tk_params.specs.Values.{line_means, words_mean}
 

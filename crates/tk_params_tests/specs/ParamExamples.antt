@@ -1,11 +1,11 @@
 -- Examples of parameter texts: what they ask for, what is wrong with them and on which line, and what their beginnings decide.
 use Rattle.std.specs.Prelude.{◌≡◌, ℕ, true, false, List, [], ◌∷◌, ◌++◌, map, Option, Some, None, Result, Ok, Err, codes, replicate}
 use Rattle.tk_words.specs.declared.fault.TextFault.{TextFault}
-use Rattle.tk_words.specs.Drive.{answer_of}
-use Rattle.tk_params.specs.declared.fault.ParamKind.{ParamKind}
-use Rattle.tk_params.specs.declared.fault.ParamKind.TheVariants as kinds
-use Rattle.tk_params.specs.declared.key.Key.{Key}
-use Rattle.tk_params.specs.declared.key.Key.TheVariants as keys
+use Rattle.tk_reading.specs.Texts.{answer_of}
+use Rattle.tk_keys.specs.declared.fault.ParamKind.{ParamKind}
+use Rattle.tk_keys.specs.declared.fault.ParamKind.TheVariants as kinds
+use Rattle.tk_keys.specs.declared.key.Key.{Key}
+use Rattle.tk_keys.specs.declared.key.Key.TheVariants as keys
 use Rattle.tk_params.specs.declared.value.Construction.TheVariants.{Nearest, Savings}
 use Rattle.tk_params.specs.Asked.{ParamsAre}
 use Rattle.tk_params.specs.Params.{Answer, joined, params_decided}

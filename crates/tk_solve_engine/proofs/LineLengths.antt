@@ -6,9 +6,9 @@ use Rattle.std.specs.Int.RustNames.{unsigned_abs}
 use Rattle.std.proofs.lemmas.List.{length-map}
 use Rattle.std.proofs.lemmas.List.Elements.{All-tail}
 use Rattle.tk_pen.proofs.NumberLengths.{length_decimal, length_flat_map}
-use Rattle.tk_params.proofs.Keys.{word_short}
-use Rattle.tk_params.specs.Keys.{all_keys}
-use Rattle.tk_params.specs.declared.key.Key.{Key}
+use Rattle.tk_keys.proofs.WordLengths.{word_short}
+use Rattle.tk_keys.specs.Keys.{all_keys}
+use Rattle.tk_keys.specs.declared.key.Key.{Key}
 use Rattle.tk_route_search.specs.declared.route_report.RouteReport.{RouteReport}
 use Rattle.tk_solve.specs.Runs.{report_of}
 use Rattle.tk_solve.specs.SolvedTours.{IsSolved}

@@ -16,8 +16,8 @@ use Rattle.tk_tour.specs.declared.fault.TourFault.TheVariants as tours
 use Rattle.tk_tour.specs.declared.verdict.Verdict.{Verdict}
 use Rattle.tk_tour.specs.declared.verdict.Verdict.TheVariants.{Tour, WrongCount, OutOfRange, RepeatedCity}
 use Rattle.tk_params.specs.Asked.{ParamsAre}
-use Rattle.tk_params.specs.declared.key.Key.{Key}
-use Rattle.tk_params.specs.declared.key.Key.TheVariants as keys
+use Rattle.tk_keys.specs.declared.key.Key.{Key}
+use Rattle.tk_keys.specs.declared.key.Key.TheVariants as keys
 use Rattle.tk_params.specs.declared.value.Construction.{Construction}
 use Rattle.tk_params.specs.declared.value.Construction.TheVariants.{Nearest, Savings}
 use Rattle.tk_routes.specs.Instance.{Instance}

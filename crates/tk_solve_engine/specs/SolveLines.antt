@@ -2,8 +2,8 @@
 use Rattle.std.specs.Prelude.{ℕ, ◌+◌, List, [], ◌∷◌, ◌++◌, codes, decimal, flat_map, length}
 use Rattle.std.specs.Int.RustNames.{unsigned_abs}
 use Rattle.tk_pen.specs.Written.{line}
-use Rattle.tk_params.specs.Keys as keys
-use Rattle.tk_params.specs.declared.key.Key.{Key}
+use Rattle.tk_keys.specs.Keys as keys
+use Rattle.tk_keys.specs.declared.key.Key.{Key}
 use Rattle.tk_route_search.specs.declared.route_report.RouteReport.{RouteReport}
 use Rattle.tk_solve.specs.declared.outcome.RunReport.{RunReport}
 use Rattle.tk_solve.specs.declared.tour.SolvedTour.{SolvedTour}

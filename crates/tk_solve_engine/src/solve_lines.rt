@@ -3,7 +3,7 @@ ghost use Rattle.std.specs.Prelude.{◌≡◌, ◌≤◌, ◌++◌, OnErr, codes
 ghost use Rattle.std.specs.Int.RustNames.{unsigned_abs};
 ghost use Rattle.tk_pen.specs.Pens.{Puts};
 ghost use Rattle.tk_pen.specs.Puts.{Writes};
-ghost use Rattle.tk_params.specs.Keys.{all_keys};
+ghost use Rattle.tk_keys.specs.Keys.{all_keys};
 ghost use Rattle.tk_solve_engine.specs.SolveLines.{best_line, ignored_line, improved_line, route_lines, run_line, run_lines, savings_line, tour_lines, work_of};
 
 use tk_params::Key;

@@ -6,7 +6,8 @@
 --     EndsByProblem      the same, where it depends on the problem what is read as the second text
 --     BeforeSecond, UnlessWrite, AtWrite      a fact, at some of the stages
 use Rattle.std.specs.Prelude.{◌≡◌, ◌≢◌, ℕ, Bool, true, List, Option, Some, None, Result, Ok, Err}
-use Rattle.tk_words.specs.Drive.{Decided, IsAnswerWhereTold, IsTold, text_limit}
+use Rattle.tk_words.specs.Drive.{Decided, IsTold}
+use Rattle.tk_reading.specs.Texts.{IsAnswerWhereTold, text_limit}
 use Rattle.tk_problem_text.specs.Problem.{ProblemIs, problem_decided}
 use Rattle.tk_lists.specs.Solution.{Solution, solution_decided}
 use Rattle.tk_lists.specs.Tour.{tour_decided}

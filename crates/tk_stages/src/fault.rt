@@ -1,6 +1,6 @@
 //! Why an engine stopped.
 use thiserror::Error;
-use tk_params::Key;
+use tk_keys::Key;
 use tk_pen::WriteFault;
 use tk_tour::TourFault;
 use tk_words::TextFault;

@@ -11,6 +11,7 @@ pub use Rattle.tk_words.specs.Entry
 pub use Rattle.tk_words.specs.Lex
 pub use Rattle.tk_words.specs.MinusOne
 pub use Rattle.tk_words.specs.Words
+pub use Rattle.tk_reading.specs.Texts
 pub use Rattle.tk_lines.specs.Forms
 pub use Rattle.tk_lines.specs.Lists
 pub use Rattle.tk_lines.specs.Pieces

@@ -2,7 +2,7 @@
 use Rattle.std.specs.Prelude.{⊤}
 use Rattle.std.specs.Fmt.{digits}
 use Rattle.tk_text.specs.Lex.{lines, tokens_of}
-use Rattle.tk_text.specs.Drive.{answer_of}
+use Rattle.tk_text.specs.Texts.{answer_of}
 use Rattle.tk_text.specs.Words.{keyword_of, section_word, rest_word}
 use Rattle.tk_text.specs.Pieces.{cut, judge, decided_by}
 use Rattle.tk_text.specs.Lists.{list_extent, entries}

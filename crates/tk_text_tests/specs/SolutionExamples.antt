@@ -4,7 +4,7 @@ use Rattle.tk_text.specs.declared.Keyword.TheVariants as words
 use Rattle.tk_text.specs.declared.TextKind.{TextKind}
 use Rattle.tk_text.specs.declared.TextKind.TheVariants as kinds
 use Rattle.tk_text.specs.declared.TextFault.{TextFault}
-use Rattle.tk_text.specs.Drive.{answer_of}
+use Rattle.tk_text.specs.Texts.{answer_of}
 use Rattle.tk_text.specs.Pieces.{Stop, Fault}
 use Rattle.tk_text.specs.Solution.{Solution, Head, Short, Bad, Behind, customer_stop, route_head, solution_decided}
 

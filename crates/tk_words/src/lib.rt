@@ -2,21 +2,21 @@
 #![tactic(auto)]
 
 mod decimals;
-mod drive;
 mod entries;
 mod fault;
 mod held;
 mod integers;
 mod keyword;
 mod source;
+mod text_reader;
 mod words;
 
 pub use decimals::decimal;
-pub use drive::{Run, Step, TEXT_LIMIT, TextReader, feed_piece, read_text};
 pub use entries::{Entry, begins_minus_one, entry_of, keyword_in, limited, minus_one};
 pub use fault::{TextFault, TextKind};
 pub use held::{Held, blank, blank_or_end, letter, spelled, token_length, word_byte};
 pub use integers::integer;
 pub use keyword::{Keyword, Role};
 pub use source::{Failed, FromRead, Source};
+pub use text_reader::{Run, Step, TextReader};
 pub use words::{keyword_of, role};

@@ -5,8 +5,8 @@ use Rattle.tk_words.specs.declared.keyword.Keyword.{Keyword}
 use Rattle.tk_words.specs.declared.fault.TextKind.{TextKind}
 use Rattle.tk_words.specs.declared.fault.TextFault.{TextFault}
 use Rattle.tk_lines.specs.declared.scan.Scan.{Scan}
-use Rattle.tk_words.specs.declared.drive.Step.{Step}
-use Rattle.tk_words.specs.declared.drive.Step.TheVariants as steps
+use Rattle.tk_words.specs.declared.text_reader.Step.{Step}
+use Rattle.tk_words.specs.declared.text_reader.Step.TheVariants as steps
 use Rattle.tk_lines.specs.declared.reader.PieceReader.{PieceReader}
 use Rattle.tk_lines.specs.declared.reader.Place.{Place}
 use Rattle.tk_lines.specs.declared.reader.Place.TheVariants as places
@@ -15,7 +15,7 @@ use Rattle.tk_lines.specs.Pieces.{Piece, Clean, Early, Fault, Stop, Format, cut,
 use Rattle.tk_words.specs.Drive.{Decides, DecidesEnded, IsTold, FedMore}
 use Rattle.tk_lines.specs.Forms.{a_header, a_section}
 use Rattle.tk_lines.specs.Reader.{Within, anything, no_word, a_gap, a_line_end, at_end, DecidesIf, AtLine, AtTail, AtValue, AtBegin, AtToken, AtClose, AtAfter, AtPlace, HeaderTaken, AtEnd, Fed, HasFed}
-use Rattle.tk_words.proofs.Driving.{told_kind}
+use Rattle.tk_words.proofs.Told.{told_kind}
 use Rattle.tk_lines.proofs.MiddleOfLine.{prepend-nil}
 use Rattle.tk_lines.proofs.Lines.{word_ends_behind, from_line-last}
 use Rattle.tk_lines.proofs.Sections.SectionEnds.{First}

@@ -2,7 +2,7 @@
 use Rattle.std.proofs.Common.{ℕ, ◌+◌, ◌*◌, ◌≤◌, List, [], ◌∷◌, ◌++◌, length, arith, length-append}
 use Rattle.std.specs.Prelude.{flat_map, codes, decimal}
 use Rattle.std.specs.List.{concat}
-use Rattle.tk_words.specs.Drive.{text_limit}
+use Rattle.tk_reading.specs.Texts.{text_limit}
 use Rattle.tk_writers.specs.TourWritten.{tour_head, tour_text}
 use Rattle.tk_writers.specs.SolutionWritten.{route_line, route_lines, solution_text}
 use Rattle.tk_pen.specs.Written.{line, spaced_numbers}

@@ -1,8 +1,8 @@
 -- The keys of parameter files (K. Helsgaun, LKH user guide; "own" in docs/FORMATS.md where they are this project's).
 use Rattle.std.specs.Prelude.{ℕ, Bool, true, false, List, [], ◌∷◌, Option, codes, find}
 use Rattle.tk_words.specs.Words.{spells}
-use Rattle.tk_params.specs.declared.key.Key.{Key}
-use Rattle.tk_params.specs.declared.key.Key.TheVariants as keys
+use Rattle.tk_keys.specs.declared.key.Key.{Key}
+use Rattle.tk_keys.specs.declared.key.Key.TheVariants as keys
 
 -- the word of a key
 abbrev pub word : Key → List ℕ

@@ -1,8 +1,8 @@
 use Rattle.std.proofs.Common.{◌≡◌, Some, refl}
-use Rattle.tk_params.specs.Keys.{key_of, word}
-use Rattle.tk_params.specs.declared.key.Key.{Key}
-use Rattle.tk_params.specs.declared.key.Key.TheVariants as keys
-use Rattle.tk_params.proofs.key.each_word_spells_its_key.Goals as goal
+use Rattle.tk_keys.specs.Keys.{key_of, word}
+use Rattle.tk_keys.specs.declared.key.Key.{Key}
+use Rattle.tk_keys.specs.declared.key.Key.TheVariants as keys
+use Rattle.tk_keys.proofs.key.each_word_spells_its_key.Goals as goal
 
 spelled_back : (key : Key) → key_of (word key) ≡ Some key
 unfolding key_of

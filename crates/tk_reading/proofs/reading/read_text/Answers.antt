@@ -1,9 +1,11 @@
 use Rattle.std.proofs.Common.{◌≡◌, ◌++◌, [], take, Ok, Err, true, arith}
 use Rattle.std.specs.Io.KnownBytes.{Consumes, IsAtEnd}
 use Rattle.std.proofs.lemmas.Result.{err_from_is_err_and, IfOk-weaker, IfErr-weaker}
-use Rattle.tk_words.specs.Drive.{Answers, DecidesEnded, IsAnswerWhereTold}
-use Rattle.tk_words.proofs.Driving.{answer_ended, told_kind, where_decided, where_ended}
-use Rattle.tk_words.proofs.drive.read_text.Goals as goal
+use Rattle.tk_words.specs.Drive.{DecidesEnded}
+use Rattle.tk_reading.specs.Texts.{Answers, IsAnswerWhereTold}
+use Rattle.tk_words.proofs.Told.{told_kind}
+use Rattle.tk_reading.proofs.Driving.{answer_ended, where_decided, where_ended}
+use Rattle.tk_reading.proofs.reading.read_text.Goals as goal
 
 pub returns-then-n-eq0-clause-ok : goal.returns-then-n-eq0-clause-ok
 returns-then-n-eq0-clause-ok g c =

@@ -6,7 +6,9 @@ use Rattle.std.proofs.lemmas.List.{length-append, take_at, take_more, take-take,
 use Rattle.tk_words.specs.declared.fault.TextFault.{TextFault}
 use Rattle.tk_words.specs.declared.fault.TextKind.{TextKind}
 use Rattle.tk_words.specs.declared.fault.TextKind.TheVariants as kinds
-use Rattle.tk_words.specs.Drive.{Decided, Decides, Answers, answer_of, line_behind, IsTold, IsToldKind, IsAnswerWhereTold}
+use Rattle.tk_words.specs.Drive.{Decided, Decides, line_behind, IsTold, IsToldKind}
+use Rattle.tk_reading.specs.Texts.{Answers, answer_of, IsAnswerWhereTold}
+use Rattle.tk_words.proofs.Told.{told_kind}
 use Rattle.std.specs.Io.KnownBytes.{Consumes, IsAtEnd}
 
 -- the front of a list, and its rest
@@ -43,11 +45,6 @@ answers_too_long d limit bs b len none more =
     let front : take (suc limit) ((bs ++ b ∷ []) ++ more) ≡ bs ++ b ∷ [] = take_at (bs ++ b ∷ []) more (suc limit) (omega (arith, length-append bs (b ∷ []))) in
     let before : take limit ((bs ++ b ∷ []) ++ more) ≡ bs = rw append_assoc (take_at bs (b ∷ more) limit len) in
     rw (long, front, before, none) refl
-
-pub told_kind : {V : Type 0} (R : Type 0) (P Q : Result V TextFault → Type 0) (f : TextFault) (k : TextKind) → (P (Err f) → Q (Err f)) → IsToldKind ⊥ P f k → IsToldKind R Q f k
-told_kind R P Q f kinds.NoMemory h p = tt
-told_kind R P Q f kinds.Read h p = absurd p
-told_kind R P Q f _ h p = h p
 
 -- a piece, from a byte of it on
 split_piece : (bs piece : List ℕ) (i : ℕ) → i < length piece → bs ++ piece ≡ ((bs ++ take i piece) ++ get_or piece i 0 ∷ []) ++ drop (i + 1) piece

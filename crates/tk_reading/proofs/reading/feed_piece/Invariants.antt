@@ -1,6 +1,6 @@
 -- the bytes before this one are taken, and they are within the limit
 use Rattle.std.proofs.Common.{◌≡◌, ℕ, ◌-◌, ◌≤◌, List, ◌++◌, length, take}
-use Rattle.tk_words.proofs.drive.feed_piece.Given as goal
+use Rattle.tk_reading.proofs.reading.feed_piece.Given as goal
 
 abbrev pub invariant-loop-index : goal.invariant-loop-index
 invariant-loop-index g l =

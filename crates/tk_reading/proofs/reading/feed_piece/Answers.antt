@@ -1,8 +1,8 @@
 use Rattle.std.proofs.Common.{◌+◌, ◌-◌, ◌≤◌, ◌∷◌, [], ◌++◌, take, drop, slice_index_or, arith, subst}
 use Rattle.std.proofs.lemmas.Result.{err_from_is_err_and}
 use Rattle.std.proofs.lemmas.List.{length-take}
-use Rattle.tk_words.proofs.Driving.{decided_at, told_at, too_long_at, taken_on, run_decided, run_told}
-use Rattle.tk_words.proofs.drive.feed_piece.Goals as goal
+use Rattle.tk_reading.proofs.Driving.{decided_at, told_at, too_long_at, taken_on, run_decided, run_told}
+use Rattle.tk_reading.proofs.reading.feed_piece.Goals as goal
 
 pub returns-in_err-feed-clause-err : goal.returns-in_err-feed-clause-err
 returns-in_err-feed-clause-err g c = λ bs fed len.

@@ -1,6 +1,6 @@
 //! The keys of parameter files.
 ghost use Rattle.std.specs.Prelude.{◌≡◌, Some};
-ghost use Rattle.tk_params.specs.Keys;
+ghost use Rattle.tk_keys.specs.Keys;
 
 use std::fmt;
 use tk_words::spelled;
