@@ -4,7 +4,8 @@ use crate::instances::SQUARE;
 use crate::readers::problem_of;
 use tk_metric::{Metric, Table};
 use tk_near::{Near, near_scan};
-use tk_plane::{near_sweep, near_tree};
+use tk_plane::near_tree;
+use tk_sweep::near_sweep;
 
 /// Near lists by a scan, whose number and length are told.
 pub fn near_of<M: Metric>(rt: &HostRuntime, metric: &M, k: u32) -> Result<Near, Stopped> {

@@ -7,8 +7,9 @@ use std::process::Abort;
 use std::test::Fail;
 use tk_metric::{Metric, Planes, Table, Turned};
 use tk_near::{Near, near_lists_agree, near_scan};
-use tk_plane::{near_lists, near_sweep, near_tree};
+use tk_plane::{near_lists, near_tree};
 use tk_problem::{PlaneKind, Point, Points};
+use tk_sweep::near_sweep;
 
 const WHOLE: u32 = 1_000_000_000;
 

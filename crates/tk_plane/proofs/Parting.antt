@@ -1,25 +1,24 @@
 -- What is kept of the cities of a tree, whatever the order.
-use Rattle.std.proofs.Common.{append_assoc, ◌≡◌, ◌≢◌, ℕ, zero, suc, ◌+◌, ◌*◌, ◌-◌, ◌<◌, ◌≤◌, ◌⊎◌, ⊎_elim, inl, inr, List, [], ◌∷◌, ◌++◌, length, take, replicate, refl, sym, ap, ◌∙◌, arith, cond, true, false, get_or, subst, max}
+use Rattle.std.proofs.Common.{◌≡◌, ◌≢◌, ℕ, zero, suc, ◌+◌, ◌*◌, ◌-◌, ◌<◌, ◌≤◌, ◌⊎◌, ⊎_elim, inl, inr, List, [], ◌∷◌, ◌++◌, length, take, replicate, refl, sym, ap, ◌∙◌, arith, cond, true, false, get_or, subst, max}
 use Rattle.std.specs.Prelude.{All, ◌==◌, nat_lt, ◌-ℤ◌}
 use Rattle.std.specs.Int.RustNames.{unsigned_abs}
 use Rattle.std.proofs.lemmas.Bool.Decides.{nat_tests}
 use Rattle.std.proofs.lemmas.Bool.{cases_lt, cases_eq}
-use Rattle.std.proofs.lemmas.List.{length-take-le, take_all, take_more, get_or_default}
+use Rattle.std.proofs.lemmas.List.{length-take-le, take_all, take_more}
 use Rattle.std.proofs.Math.Seq.{take-suc}
 use Rattle.std.proofs.lemmas.List.Elements.{All-append, All-cons, All-nil, All-weaker, All-head, All-tail}
-use Rattle.std.specs.List.{swap_remove}
-use Rattle.std.proofs.lemmas.List.Sorted.{All-permutation, IsPermutation-swap_remove, IsPermutation-trans, IsPermutation-append_left, IsPermutation-append_right, IsPermutation-to_front}
+use Rattle.std.proofs.lemmas.List.Sorted.{All-permutation}
 use Rattle.tk_problem.specs.declared.point.Point.{Point}
 use Rattle.tk_near.specs.declared.candidates.Candidate.{Candidate}
-use Rattle.tk_plane.specs.declared.sweep.Placed.{Placed}
+use Rattle.tk_plane.specs.declared.placed.Placed.{Placed}
 use Rattle.tk_metric.specs.Cities.{IsCity}
 use Rattle.tk_near.specs.Near.{IsNear}
 use Rattle.tk_near.specs.Keeping.{Climbing, insert_by, with_candidate, rank, candidate, open_place, cities_of, KeepsFirst}
 use Rattle.tk_plane.specs.Kept.{last_of}
-use Rattle.tk_plane.specs.Sweep.{IsPlaced, IsRow, IsAt, city_at, nowhere}
+use Rattle.tk_plane.specs.Placed.{IsPlaced, IsRow, IsAt, city_at, nowhere}
 use Rattle.tk_plane.specs.declared.tree.Frame.{Frame}
 use Rattle.tk_plane.specs.declared.tree.Tree.{Tree}
-use Rattle.tk_plane.specs.Tree.{IsTakenOut, IsFrom, IsWithin, IsBeyond, entries_of, parts_of, with_city, with_cities}
+use Rattle.tk_plane.specs.Tree.{IsFrom, IsWithin, IsBeyond, entries_of, parts_of, with_city, with_cities}
 use Rattle.tk_near.proofs.Inserting.{take-insert_by, length-insert_by, IsPermutation-insert_by, Climbing-take, insert_by-full}
 use Rattle.tk_near.proofs.Keeping.{KeepsFirst-none, KeepsFirst-more, KeepsFirst-same, KeepsFirst-count, IsNear-from_kept, kept_length, same_twice}
 
@@ -313,31 +312,3 @@ placed_small n place_of ps few all = λ k d l. let e = all k d l in omega (arith
 pub part_smaller : (tree lower upper s : Tree) (t : ℕ) → parts_of tree ≡ t → parts_of tree ≡ parts_of lower + parts_of upper + 1 → (s ≡ lower) ⊎ (s ≡ upper) → parts_of s < t
 part_smaller tree lower upper s t is cut part =
     ⊎_elim (λ e. let same = ap parts_of e in omega arith) (λ e. let same = ap parts_of e in omega arith) part
-
--- ---- a city that is taken out
-
-pub taken_out : (p : Placed) (row : List Placed) (i : ℕ) (q : Placed) → (i < length row) × (city_at row i ≡ p.city) → q ≡ get_or row i q → IsTakenOut p row (swap_remove row i q)
-taken_out p row i q at is = record {
-  taken = q;
-  is = ap (λ (v : Placed). v.city) (is ∙ get_or_default row i q nowhere at.0) ∙ at.1;
-  others = IsPermutation-swap_remove row i q at.0 is;
-}
-
-pub taken_behind : (p : Placed) (front old new : List Placed) → IsTakenOut p old new → IsTakenOut p (front ++ old) (front ++ new)
-taken_behind p front old new h = record {
-  taken = h.taken;
-  is = h.is;
-  others = IsPermutation-trans (front ++ old) (front ++ h.taken ∷ new) (h.taken ∷ front ++ new) (IsPermutation-append_right front old (h.taken ∷ new) h.others)
-      (rw (sym (append_assoc front (h.taken ∷ []) new)) (IsPermutation-append_left new (front ++ h.taken ∷ []) (h.taken ∷ front) (IsPermutation-to_front front h.taken)));
-}
-
-pub taken_before : (p : Placed) (old new back : List Placed) → IsTakenOut p old new → IsTakenOut p (old ++ back) (new ++ back)
-taken_before p old new back h = record {
-  taken = h.taken;
-  is = h.is;
-  others = IsPermutation-append_left back old (h.taken ∷ new) h.others;
-}
-
--- what holds of all cities holds of those that are left
-pub All-taken : (P : Placed → Type 0) (p : Placed) (old new : List Placed) → IsTakenOut p old new → All P old → All P new
-All-taken P p old new h all = All-tail P h.taken new (All-permutation P old (h.taken ∷ new) h.others all)

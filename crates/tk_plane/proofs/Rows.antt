@@ -5,9 +5,9 @@ use Rattle.std.proofs.lemmas.Bool.{cases_lt}
 use Rattle.std.proofs.lemmas.List.{get_or_default}
 use Rattle.std.proofs.lemmas.List.Sorted.{All-permutation, Contains-permutation, IsPermutation-keeps, length_permutation}
 use Rattle.tk_plane.proofs.OneEach.{OneEach, OneEach-swap}
-use Rattle.tk_plane.specs.declared.sweep.Placed.{Placed}
+use Rattle.tk_plane.specs.declared.placed.Placed.{Placed}
 use Rattle.tk_problem.specs.declared.point.Point.{Point}
-use Rattle.tk_plane.specs.Sweep.{placed, nowhere, city_at, IsPlaced, IsRow}
+use Rattle.tk_plane.specs.Placed.{placed, nowhere, city_at, IsPlaced, IsRow}
 
 -- in the order of their numbers
 pub IsRow-by_number : (n : ℕ) (place_of : ℕ → Point) (row : List Placed) → length row ≡ n → ((j : ℕ) (d : Placed) → j < n → get_or row j d ≡ placed place_of (j + 1)) → IsRow n place_of row

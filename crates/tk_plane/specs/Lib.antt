@@ -1,3 +1,3 @@
 pub mod Kept
-pub mod Sweep
+pub mod Placed
 pub mod Tree

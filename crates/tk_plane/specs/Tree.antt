@@ -1,12 +1,11 @@
 -- A tree of parts of the cities, and what is kept of them.
-use Rattle.std.specs.Prelude.{◌≡◌, ◌≢◌, ℕ, ◌≤ℤ◌, ◌+◌, ◌<◌, ◌≤◌, ◌⊎◌, ◌==◌, if◌then◌else◌, List, [], ◌∷◌, ◌++◌, length, All, IsPermutation, ⊤}
-use Rattle.tk_problem.specs.declared.point.Point.{Point}
+use Rattle.std.specs.Prelude.{ℕ, ◌≤ℤ◌, ◌+◌, ◌≤◌, ◌⊎◌, ◌==◌, if◌then◌else◌, List, [], ◌∷◌, ◌++◌, All, ⊤}
 use Rattle.tk_near.specs.declared.candidates.Candidate.{Candidate}
-use Rattle.tk_plane.specs.declared.sweep.Placed.{Placed}
+use Rattle.tk_plane.specs.declared.placed.Placed.{Placed}
 use Rattle.tk_plane.specs.declared.tree.Frame.{Frame}
 use Rattle.tk_plane.specs.declared.tree.Tree.{Tree, Leaf, Cut'}
 use Rattle.tk_near.specs.Keeping.{candidate, with_candidate, rank}
-use Rattle.tk_plane.specs.Sweep.{IsPlaced, city_at, x_gap, y_gap}
+use Rattle.tk_plane.specs.Placed.{x_gap, y_gap}
 
 -- the cities of a tree, in its order
 abbrev pub entries_of : Tree → List Placed
@@ -48,26 +47,3 @@ with_cities dist c (p ∷ ps) kept = with_cities dist c ps (with_city dist c p k
 abbrev pub parts_of : Tree → ℕ
 parts_of (Leaf row) = 1
 parts_of (Cut' a p s b q t) = parts_of s + parts_of t + 1
-
--- the city is taken out of the row, which may stand in another order then
-pub record IsTakenOut (p : Placed) (old new : List Placed) : Type 0 where
-  pub taken : Placed
-  pub is : taken.city ≡ p.city
-  pub others : IsPermutation old (taken ∷ new)
-
--- the city does not stand in the row
-abbrev pub IsNotIn : Placed → List Placed → Type 0
-IsNotIn p row = All (λ q. q ≢ p) row
-
--- a city that stands in the row, but c
-abbrev pub IsOtherIn : List Placed → ℕ → ℕ → Type 0
-IsOtherIn row c b = (q : ℕ) × (q < length row) × (city_at row q ≡ b) × (b ≢ c)
-
--- the city stands in the row
-abbrev pub Stands : List Placed → ℕ → Type 0
-Stands row b = (q : ℕ) × (q < length row) × (city_at row q ≡ b)
-
--- no city stands in the row twice, and each has its place
-pub record AreApart (n : ℕ) (place_of : ℕ → Point) (row : List Placed) : Type 0 where
-  pub each : All (IsPlaced n place_of) row
-  pub apart : (i j : ℕ) → i < j → j < length row → city_at row i ≢ city_at row j

@@ -4,7 +4,7 @@
 //! no city is lost.
 ghost use Rattle.std.specs.Prelude.{◌≤◌, IsPermutation, length};
 
-use crate::sweep::Placed;
+use crate::placed::Placed;
 
 /// At most so many cities are put in order at once.
 const FEW: usize = 12;

@@ -1,14 +1,13 @@
-//! Near lists in the plane: by a k-d tree and by a sweep, and the cities that a search of the plane has left.
+//! Near lists in the plane by a k-d tree, and what others need to search such a tree or to go through its cities.
 #![tactic(auto)]
 
 mod halve;
 mod keeping;
-mod left;
-mod sweep;
+mod placed;
 mod table;
 mod tree;
 
-pub use left::{Found, Left};
-pub use sweep::{Placed, near_sweep, order_by_x};
+pub use keeping::{Keeper, One};
+pub use placed::{Placed, row_of};
 pub use table::near_lists;
-pub use tree::near_tree;
+pub use tree::{Frame, Path, START, Tree, frame_of, near_tree, planted, search_half, search_leaf};

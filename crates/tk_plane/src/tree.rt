@@ -1,16 +1,16 @@
 //! Near lists by a k-d tree (J. L. Bentley, 1975).
 ghost use Rattle.std.specs.Prelude.{◌≡◌, ℕ, ℤ, ◌*◌, ◌≤◌, ◌<◌, ◌-ℤ◌, ◌≤ℤ◌, ◌↔◌, IfOk, IsTrue, All, IsPermutation, length, ⊤};
 ghost use Rattle.std.specs.Int.RustNames.{unsigned_abs};
-ghost use Rattle.tk_plane.specs.declared.sweep.Placed.{Placed};
+ghost use Rattle.tk_plane.specs.declared.placed.Placed.{Placed};
 ghost use Rattle.tk_near.specs.Near.{IsNear, AreNearest};
 ghost use Rattle.tk_near.specs.Keeping.{AreFilled, candidate, cities_of, rank};
 ghost use Rattle.tk_metric.specs.Cities.{IsCity};
-ghost use Rattle.tk_plane.specs.Sweep.{IsPlaced, IsRow};
+ghost use Rattle.tk_plane.specs.Placed.{IsPlaced, IsRow};
 ghost use Rattle.tk_plane.specs.Tree.{entries_of, IsWithin, IsFramed, IsBeyond, IsFrom, with_city, with_cities};
 
 use crate::halve::halve;
 use crate::keeping::{Keeper, Many};
-use crate::sweep::{Placed, row_of};
+use crate::placed::{Placed, row_of};
 use std::alloc::{AllocError, Global};
 use tk_metric::Planar;
 use tk_near::{Candidate, Near, OPEN, measure, write_cities};

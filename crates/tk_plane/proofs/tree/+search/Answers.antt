@@ -1,7 +1,7 @@
 use Rattle.std.proofs.Common.{◌≡◌, ◌++◌, ◌∙◌, ap, inl, inr}
 use Rattle.std.specs.Prelude.{All}
 use Rattle.tk_near.proofs.Inserting.{before_false}
-use Rattle.tk_plane.specs.Sweep.{IsPlaced}
+use Rattle.tk_plane.specs.Placed.{IsPlaced}
 use Rattle.tk_plane.specs.Tree.{entries_of, parts_of, with_cities}
 use Rattle.tk_plane.proofs.Parting.{IsSmall, kept_without_part, all_front, all_back, part_from, part_smaller, seen_both, seen_both_back, placed_small}
 use Rattle.tk_plane.proofs.tree.+search.Goals as goal

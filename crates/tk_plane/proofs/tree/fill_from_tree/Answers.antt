@@ -1,6 +1,6 @@
 use Rattle.std.proofs.Common.{arith, ◌≡◌, ◌+◌, ◌<◌, ◌∙◌, ap, inl, inr, ⊎_elim, length, sym}
 use Rattle.std.proofs.lemmas.Bool.{cases_eq}
-use Rattle.tk_plane.specs.Sweep.{IsAt, city_at, nowhere}
+use Rattle.tk_plane.specs.Placed.{IsAt, city_at, nowhere}
 use Rattle.tk_near.proofs.Tables.{AreFilled-write, AreFilled-none, AreFilled-same}
 use Rattle.tk_plane.proofs.tree.fill_from_tree.Goals as goal
 

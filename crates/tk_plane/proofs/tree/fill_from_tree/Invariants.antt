@@ -1,6 +1,6 @@
 use Rattle.std.proofs.Common.{◌<◌, ◌≡◌, length}
 use Rattle.tk_near.specs.Keeping.{AreFilled}
-use Rattle.tk_plane.specs.Sweep.{IsAt}
+use Rattle.tk_plane.specs.Placed.{IsAt}
 use Rattle.tk_plane.proofs.tree.fill_from_tree.Given as goal
 
 abbrev pub invariant-loop-here : goal.invariant-loop-here

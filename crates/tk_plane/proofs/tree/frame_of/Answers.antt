@@ -1,7 +1,7 @@
 use Rattle.std.proofs.Common.{arith, take}
 use Rattle.std.proofs.lemmas.List.{take_all}
 use Rattle.std.proofs.lemmas.List.Elements.{All-more, All-weaker}
-use Rattle.tk_plane.specs.Sweep.{nowhere}
+use Rattle.tk_plane.specs.Placed.{nowhere}
 use Rattle.tk_plane.specs.Tree.{IsWithin}
 use Rattle.tk_plane.proofs.tree.frame_of.Goals as goal
 

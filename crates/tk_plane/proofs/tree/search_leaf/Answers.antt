@@ -1,5 +1,5 @@
 use Rattle.std.proofs.Common.{arith, ◌∙◌}
-use Rattle.tk_plane.specs.Sweep.{nowhere}
+use Rattle.tk_plane.specs.Placed.{nowhere}
 use Rattle.tk_plane.proofs.Parting.{seen_more}
 use Rattle.tk_plane.proofs.tree.search_leaf.Goals as goal
 

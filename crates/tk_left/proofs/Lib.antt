@@ -1,0 +1,4 @@
+mod FirstLeft
+mod Leaving
+pub mod LeftLaws
+mod Taking
