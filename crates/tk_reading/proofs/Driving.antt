@@ -4,9 +4,8 @@ use Rattle.std.specs.Prelude.{unwrap_or}
 use Rattle.std.proofs.lemmas.Bool.{lt-leb, le-leb}
 use Rattle.std.proofs.lemmas.List.{length-append, take_at, take_more, take-take, length-take, drop_more, take-append-drop, append-nil}
 use Rattle.tk_words.specs.declared.fault.TextFault.{TextFault}
-use Rattle.tk_words.specs.declared.fault.TextKind.{TextKind}
 use Rattle.tk_words.specs.declared.fault.TextKind.TheVariants as kinds
-use Rattle.tk_words.specs.Drive.{Decided, Decides, line_behind, IsTold, IsToldKind}
+use Rattle.tk_words.specs.Drive.{Decided, Decides, line_behind, IsTold}
 use Rattle.tk_reading.specs.Texts.{Answers, answer_of, IsAnswerWhereTold}
 use Rattle.tk_words.proofs.Told.{told_kind}
 use Rattle.std.specs.Io.KnownBytes.{Consumes, IsAtEnd}

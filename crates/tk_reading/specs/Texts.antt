@@ -30,7 +30,8 @@ pub record IsAnswer {V : Type 0} (decided : Decided V) (limit : ℕ) (text rest 
 
 -- the same where the bytes are told
 abbrev pub IsAnswerWhereTold : {V : Type 0} → Decided V → ℕ → Option (List ℕ) → Option (List ℕ) → Result V TextFault → Type 0
-IsAnswerWhereTold decided limit old new a = IfSome old (λ text. (rest : List ℕ) × (new ≡ Some rest) × IsAnswer decided limit text rest a)
+IsAnswerWhereTold decided limit old new a =
+    IfSome old (λ text. (rest : List ℕ) × (new ≡ Some rest) × IsAnswer decided limit text rest a)
 
 -- but for a fault of reading, the source is as whole as before
 abbrev pub IsIntact : {V : Type 0} → Bool → Bool → Result V TextFault → Type 0

@@ -49,7 +49,8 @@ pub fn feed_piece<P: TextReader>(
     Ok(Step::More)
 }
 
-/// Reads a text from a source, piece by piece. A value is what some text says, also where the source does not tell its bytes.
+/// Reads a text from a source, piece by piece. A value is what some text says, also where the source does not tell its
+/// bytes.
 pub fn read_text<R: Source, P: TextReader>(
     source: &mut R,
     reader: P,
@@ -57,7 +58,8 @@ pub fn read_text<R: Source, P: TextReader>(
 ) -> Result<P::Out, TextFault>
     requires fresh { P.fed reader [] }
     requires room { limit < 2 ^ 63 }
-    ensures ok { IfOk result (λ v. IsAnswerWhereTold P.decided limit (R.left source.old) (R.left source.new) (Ok (P.view v))) }
+    ensures ok { IfOk result (λ v.
+        IsAnswerWhereTold P.decided limit (R.left source.old) (R.left source.new) (Ok (P.view v))) }
     ensures some_text { IfOk result (λ v. (text : List ℕ) × (answer_of P.decided limit text ≡ Ok (P.view v))) }
     ensures err { IfErr result (IsTold (R.broken source.new
         ≡ true) (IsAnswerWhereTold P.decided limit (R.left source.old) (R.left source.new))) }
