@@ -17,12 +17,17 @@ pub fn problem_of(rt: &HostRuntime, text: &[u8]) -> Result<Problem, Stopped> {
     Ok(problem)
 }
 
-/// Reads a text of each form.
-pub fn make_calls(rt: &HostRuntime) -> Result<(), Stopped> {
+/// Reads a tour.
+fn call_for_tour(rt: &HostRuntime) -> Result<(), Stopped> {
     let alloc = rt.alloc();
-    let _ = problem_of(rt, SQUARE)?;
     let tour = again!(rt, "read_tour", read_tour(alloc, &mut FromRead::new(TOUR)));
     println!(rt; "read_tour: {:?}", tour.cities)?;
+    Ok(())
+}
+
+/// Reads a solution.
+fn call_for_solution(rt: &HostRuntime) -> Result<(), Stopped> {
+    let alloc = rt.alloc();
     let solution = again!(
         rt,
         "read_solution",
@@ -32,6 +37,12 @@ pub fn make_calls(rt: &HostRuntime) -> Result<(), Stopped> {
         "read_solution: {:?}, cost {}",
         solution.routes, solution.cost
     )?;
+    Ok(())
+}
+
+/// Reads parameters.
+fn call_for_params(rt: &HostRuntime) -> Result<(), Stopped> {
+    let alloc = rt.alloc();
     let params = again!(
         rt,
         "read_params",
@@ -40,4 +51,12 @@ pub fn make_calls(rt: &HostRuntime) -> Result<(), Stopped> {
     let (file, runs, ignored) = (params.problem_file(), params.runs(), params.ignored());
     println!(rt; "read_params: {file}, {runs} runs, {ignored:?} ignored")?;
     Ok(())
+}
+
+/// Reads a text of each form.
+pub fn make_calls(rt: &HostRuntime) -> Result<(), Stopped> {
+    let _ = problem_of(rt, SQUARE)?;
+    call_for_tour(rt)?;
+    call_for_solution(rt)?;
+    call_for_params(rt)
 }
