@@ -1,5 +1,5 @@
-//! The subcommands `check`, `checksol`, `matrix` and `near` over files: each opens its files, runs its engine, and tells
-//! what came of it. A program has these, and its own `plot` and `solve`.
+//! The subcommands `check`, `checksol`, `matrix` and `near` over files: each opens its files, runs its engine, and
+//! tells what came of it. A program has these, and its own `plot` and `solve`.
 #![tactic(auto)]
 
 mod call;

@@ -14,7 +14,8 @@ matrix_of p format = matrix_text p.name p.n (read_distance p.weights) format
 
 -- the TSP of a problem's name and its distances
 abbrev pub by_distances : ProblemIs → ProblemIs
-by_distances p = record { name = p.name; n = p.n; weights = Lower (lower_triangle p.n (read_distance p.weights)); routing = None }
+by_distances p =
+    record { name = p.name; n = p.n; weights = Lower (lower_triangle p.n (read_distance p.weights)); routing = None }
 
 -- a text that keeps the limit of texts, and is read as this problem
 abbrev pub IsReadAs : List ℕ → ProblemIs → Type 0
@@ -31,4 +32,5 @@ too_large p = if nat_lt 5000 p.n then Some TooLarge else None
 
 -- the matrix of a problem is written, which takes no memory
 abbrev pub matrix_task : Format → Task (Unit {0}) (Unit {0}) (List ℕ)
-matrix_task format = record { misfit = too_large; IsClash = NoClash; takes_memory = false; Gives = λ p _ _. IsMatrixText format p }
+matrix_task format =
+    record { misfit = too_large; IsClash = NoClash; takes_memory = false; Gives = λ p _ _. IsMatrixText format p }

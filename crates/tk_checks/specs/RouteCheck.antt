@@ -11,7 +11,8 @@ use Rattle.tk_stages.specs.declared.fault.Fault.{Fault}
 use Rattle.tk_stages.specs.declared.fault.Fault.TheVariants.{WrongType}
 
 -- of the problem's routing, the routes and their cost this is the verdict, and its line
-pub record IsRouteCheck (problem : ProblemIs) (solution : Solution) (verdict : RouteVerdict) (text : List ℕ) : Type 0 where
+pub record IsRouteCheck (problem : ProblemIs) (solution : Solution) (verdict : RouteVerdict)
+    (text : List ℕ) : Type 0 where
   pub right : IsSomeAnd problem.routing (λ r. IsRouteVerdict (instance_in problem r) solution.0 solution.1 verdict)
   pub line : text ≡ route_verdict_line verdict
 

@@ -25,7 +25,8 @@ pub fn check_engine<P: Source, T: Source, W: Sink>(
     tour: &mut T,
     out: &mut W,
 ) -> Result<Verdict, Fault>
-    ensures ends { Ends check_task (ReadsProblem P.left P.broken problem.old problem.new) (ReadsTour T.left T.broken tour.old tour.new)
+    ensures ends { Ends check_task (ReadsProblem P.left P.broken problem.old problem.new)
+        (ReadsTour T.left T.broken tour.old tour.new)
         (Writes W.taken W.broken out.old out.new) result }
     ensures quiet { IfErr result (UnlessWrite (IsUntouched W.taken W.broken out.old out.new)) }
     ensures failed { IfErr result (AtWrite (W.broken out.new ≡ true)) }

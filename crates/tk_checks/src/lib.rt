@@ -1,7 +1,8 @@
-//! The engines of `check`, `checksol`, `near` and `matrix`: each reads texts from sources, and writes to a sink what they say.
+//! The engines of `check`, `checksol`, `near` and `matrix`: each reads texts from sources, and writes to a sink what
+//! they say.
 //!
-//! An engine reads all of its texts before it writes a byte. Stopped by another fault than one of writing, it has written
-//! nothing.
+//! An engine reads all of its texts before it writes a byte. Stopped by another fault than one of writing, it has
+//! written nothing.
 #![tactic(auto)]
 
 mod check;

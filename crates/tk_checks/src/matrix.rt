@@ -46,7 +46,8 @@ pub fn matrix_engine<R: Source, W: Sink>(
     format: Format,
     out: &mut W,
 ) -> Result<(), Fault>
-    ensures ends { Ends (matrix_task format) (ReadsProblem R.left R.broken problem.old problem.new) NoText (Writes W.taken W.broken out.old out.new) result }
+    ensures ends { Ends (matrix_task format) (ReadsProblem R.left R.broken problem.old problem.new) NoText
+        (Writes W.taken W.broken out.old out.new) result }
     ensures quiet { IfErr result (UnlessWrite (IsUntouched W.taken W.broken out.old out.new)) }
     ensures failed { IfErr result (AtWrite (W.broken out.new ≡ true)) }
 {

@@ -49,7 +49,8 @@ fn write_lists<W: Sink>(out: &mut W, near: &Near) -> Result<(), WriteFault>
     pen.end()
 }
 
-/// Writes the near list of each city of a problem: the k nearest others, 1 to 100, or all of them where there are fewer.
+/// Writes the near list of each city of a problem: the k nearest others, 1 to 100, or all of them where there are
+/// fewer.
 ///
 /// The whole text is read before a byte is written.
 ///
@@ -63,7 +64,8 @@ pub fn near_engine<R: Source, W: Sink>(
 ) -> Result<(), Fault>
     requires low { 1 ≤ k }
     requires limit { k ≤ 100 }
-    ensures ends { Ends (near_task k) (ReadsProblem R.left R.broken problem.old problem.new) NoText (Writes W.taken W.broken out.old out.new) result }
+    ensures ends { Ends (near_task k) (ReadsProblem R.left R.broken problem.old problem.new) NoText
+        (Writes W.taken W.broken out.old out.new) result }
     ensures quiet { IfErr result (UnlessWrite (IsUntouched W.taken W.broken out.old out.new)) }
     ensures failed { IfErr result (AtWrite (W.broken out.new ≡ true)) }
 {

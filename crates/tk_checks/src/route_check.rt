@@ -25,7 +25,8 @@ pub fn route_check_engine<P: Source, S: Source, W: Sink>(
     solution: &mut S,
     out: &mut W,
 ) -> Result<RouteVerdict, Fault>
-    ensures ends { Ends route_check_task (ReadsProblem P.left P.broken problem.old problem.new) (ReadsSolution S.left S.broken solution.old solution.new)
+    ensures ends { Ends route_check_task (ReadsProblem P.left P.broken problem.old problem.new)
+        (ReadsSolution S.left S.broken solution.old solution.new)
         (Writes W.taken W.broken out.old out.new) result }
     ensures quiet { IfErr result (UnlessWrite (IsUntouched W.taken W.broken out.old out.new)) }
     ensures failed { IfErr result (AtWrite (W.broken out.new ≡ true)) }

@@ -36,8 +36,8 @@ pub fn open(rt: &HostRuntime, name: &str) -> Result<Input, ExitCode> {
     }
 }
 
-/// Opens two input files in this order, or reports the first that cannot be opened. Standard input comes first where it is the second:
-/// if it is closed, the other file would be taken for it.
+/// Opens two input files in this order, or reports the first that cannot be opened. Standard input comes first where it
+/// is the second: if it is closed, the other file would be taken for it.
 pub fn open_two(rt: &HostRuntime, first: &str, second: &str) -> Result<(Input, Input), ExitCode> {
     if second == STANDARD {
         let standard = open(rt, second)?;

@@ -14,8 +14,8 @@ enum Unreplaced {
     NoMemory,
 }
 
-/// Writes a text to a file, which keeps its old bytes until all new ones are written. Where the name is that of a device, a pipe or a
-/// directory, or no file can be made beside it, the text is written to it directly.
+/// Writes a text to a file, which keeps its old bytes until all new ones are written. Where the name is that of a
+/// device, a pipe or a directory, or no file can be made beside it, the text is written to it directly.
 pub fn save(rt: &HostRuntime, name: &str, text: &[u8]) -> ExitCode {
     let replaced = match fs::canonicalize(rt, name) {
         Ok(path) => replace_old(rt, path.as_str(), text),
@@ -72,8 +72,8 @@ fn replace(
     Ok(())
 }
 
-/// What it means that a file cannot be made or put in place: where the disk is full or memory has run out, nothing may be
-/// written, lest the old bytes are lost.
+/// What it means that a file cannot be made or put in place: where the disk is full or memory has run out, nothing may
+/// be written, lest the old bytes are lost.
 fn hindered(kind: ErrorKind) -> Unreplaced {
     match kind {
         ErrorKind::StorageFull | ErrorKind::QuotaExceeded => Unreplaced::Unwritten,

@@ -16,7 +16,7 @@ pub record Awake : Type 0 where
   pub queue : List ℕ
   pub size : ℕ
 
--- a queue with c woken: behind the others, where it slept
+-- a queue with c woken: after the others, where it slept
 abbrev pub woken : List ℕ → ℕ → List ℕ
 woken W c = if holds W c then W else W ++ c ∷ []
 

@@ -8,7 +8,8 @@ use Rattle.tk_descent.specs.declared.offer.Offer.{Offer}
 abbrev pub IsOfferOn : ℕ → Offer → List ℕ → Type 0
 IsOfferOn m o C = (D : List ℕ) × Makes m o C D
 
--- A descent's steps from the tour T and the queue W, with the counts of looks, moves and tests so far. Each step takes the front.
+-- A descent's steps from the tour T and the queue W, with the counts of looks, moves and tests so far. Each step takes
+-- the front.
 pub data Run (dist : ℕ → ℕ → ℕ) (near : ℕ → List ℕ) (m : ℕ) (T W : List ℕ) : List ℕ → List ℕ → ℕ → ℕ → ℕ → Type 0 where
   start : Run dist near m T W T W 0 0 0
   asleep : {C V : List ℕ} {x looks moves tests : ℕ} → Run dist near m T W C (x ∷ V) looks moves tests →
@@ -16,4 +17,5 @@ pub data Run (dist : ℕ → ℕ → ℕ) (near : ℕ → List ℕ) (m : ℕ) (T
       Run dist near m T W C V (looks + 1) moves (tests + tests_to dist (offers C m (near x) x))
   move : {C V D : List ℕ} {x looks moves tests : ℕ} {o : Offer} → Run dist near m T W C (x ∷ V) looks moves tests →
       first_gain dist (offers C m (near x) x) ≡ Some o → Makes m o C D →
-      Run dist near m T W D (woken_each V (ends o)) (looks + 1) (moves + 1) (tests + tests_to dist (offers C m (near x) x))
+      Run dist near m T W D (woken_each V (ends o)) (looks + 1) (moves + 1)
+      (tests + tests_to dist (offers C m (near x) x))

@@ -50,7 +50,8 @@ abbrev pub segment_of_two : (ℕ → ℕ) → (ℕ → ℕ) → ℕ → Segment
 segment_of_two ahead back x = record { before = back x; middle = x; last = ahead x; after = ahead (ahead x) }
 
 abbrev pub segment_of_three : (ℕ → ℕ) → (ℕ → ℕ) → ℕ → Segment
-segment_of_three ahead back x = record { before = back x; middle = ahead x; last = ahead (ahead x); after = ahead (ahead (ahead x)) }
+segment_of_three ahead back x =
+    record { before = back x; middle = ahead x; last = ahead (ahead x); after = ahead (ahead (ahead x)) }
 
 -- on n cities there are segments of at most n - 2, and of at most m: one, and for each greater length two
 abbrev pub segment_count : ℕ → ℕ → ℕ
@@ -60,7 +61,8 @@ segment_count n m =
 -- the segments that begin at x: of one city, of two forward and backward, of three forward and backward
 abbrev pub all_segments : (ℕ → ℕ) → (ℕ → ℕ) → ℕ → List Segment
 all_segments next prev x =
-    segment_of_one next prev x ∷ segment_of_two next prev x ∷ segment_of_two prev next x ∷ segment_of_three next prev x ∷ segment_of_three prev next x ∷ []
+    segment_of_one next prev x ∷ segment_of_two next prev x ∷ segment_of_two prev next x ∷ segment_of_three next prev x
+    ∷ segment_of_three prev next x ∷ []
 
 abbrev pub segments : (ℕ → ℕ) → (ℕ → ℕ) → ℕ → ℕ → ℕ → List Segment
 segments next prev n m x = take (segment_count n m) (all_segments next prev x)

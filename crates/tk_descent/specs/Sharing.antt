@@ -10,12 +10,14 @@ use Rattle.tk_descent.specs.declared.sharing.Piece.{Piece}
 -- a city among n and its neighbours, with their distances
 abbrev pub IsBeside : ℕ → (ℕ → ℕ → ℕ) → Beside → Type 0
 IsBeside n dist b =
-    IsCity n b.city × IsCity n b.after × IsCity n b.before × (b.to_after ≡ pos (dist b.city b.after)) × (b.to_before ≡ pos (dist b.city b.before))
+    IsCity n b.city × IsCity n b.after × IsCity n b.before × (b.to_after ≡ pos (dist b.city b.after))
+    × (b.to_before ≡ pos (dist b.city b.before))
 
 -- a segment from x among n cities, with what taking it out frees: the distances at its ends less that over the gap
 abbrev pub IsPiece : ℕ → (ℕ → ℕ → ℕ) → ℕ → Piece → Type 0
 IsPiece n dist x p =
-    IsSegmentIn n p.segment × (p.freed ≡ pos (dist p.segment.before x + dist p.segment.last p.segment.after) -ℤ pos (dist p.segment.before p.segment.after))
+    IsSegmentIn n p.segment × (p.freed ≡ pos (dist p.segment.before x + dist p.segment.last p.segment.after) -ℤ pos
+    (dist p.segment.before p.segment.after))
 
 -- what a 2-opt move gains before its second new step is paid
 abbrev pub two_margin : (ℕ → ℕ → ℕ) → ℕ → ℕ → ℕ → ℕ → ℤ
@@ -23,7 +25,8 @@ two_margin dist a b c d = pos (dist a b + dist c d) -ℤ pos (dist a c)
 
 -- what an Or-move of a segment from x between y and w gains before its step to w is paid
 abbrev pub or_margin : (ℕ → ℕ → ℕ) → ℕ → ℕ → Segment → ℕ → ℤ
-or_margin dist x y s w = pos (dist s.before x + dist s.last s.after + dist y w) -ℤ pos (dist s.before s.after + dist x y)
+or_margin dist x y s w =
+    pos (dist s.before x + dist s.last s.after + dist y w) -ℤ pos (dist s.before s.after + dist x y)
 
 abbrev pub segment_of : Piece → Segment
 segment_of p = p.segment

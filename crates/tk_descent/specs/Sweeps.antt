@@ -11,11 +11,13 @@ Pass dist near m T C looks moves tests = Run dist near m T (one_to (length T)) C
 -- passes one after another from the tour T, each with a move, and the counts of passes, looks, moves and tests
 pub data Moving (dist : ℕ → ℕ → ℕ) (near : ℕ → List ℕ) (m : ℕ) (T : List ℕ) : List ℕ → ℕ → ℕ → ℕ → ℕ → Type 0 where
   start : Moving dist near m T T 0 0 0 0
-  pass : {C D : List ℕ} {passes looks moves tests more made tried : ℕ} → Moving dist near m T C passes looks moves tests → Pass dist near m C D more made tried → 1 ≤ made →
+  pass : {C D : List ℕ} {passes looks moves tests more made tried : ℕ} →
+      Moving dist near m T C passes looks moves tests → Pass dist near m C D more made tried → 1 ≤ made →
       Moving dist near m T D (passes + 1) (saturated (looks + more)) (moves + made) (saturated (tests + tried))
 
 -- passes one after another, each but the last with a move
-pub record Sweeps (dist : ℕ → ℕ → ℕ) (near : ℕ → List ℕ) (m : ℕ) (T D : List ℕ) (passes looks moves tests : ℕ) : Type 0 where
+pub record Sweeps (dist : ℕ → ℕ → ℕ) (near : ℕ → List ℕ) (m : ℕ) (T D : List ℕ)
+    (passes looks moves tests : ℕ) : Type 0 where
   pub tour : List ℕ
   pub moving : ℕ
   pub looked : ℕ

@@ -8,7 +8,8 @@ use Rattle.tk_descent.specs.declared.offer.Offer.TheVariants.{Two, Or}
 
 -- the move adds a step from x to one of its near cities; an Or-move's x is an end of its segment
 abbrev pub IsOf : (ℕ → List ℕ) → ℕ → Offer → Type 0
-IsOf near x (Two a b c d) = ((a ≡ x) × (holds (near x) c ≡ true)) ⊎ ((c ≡ x) × (holds (near x) a ≡ true)) ⊎ ((b ≡ x) × (holds (near x) d ≡ true)) ⊎ ((d ≡ x) × (holds (near x) b ≡ true))
+IsOf near x (Two a b c d) = ((a ≡ x) × (holds (near x) c ≡ true)) ⊎ ((c ≡ x) × (holds (near x) a ≡ true))
+    ⊎ ((b ≡ x) × (holds (near x) d ≡ true)) ⊎ ((d ≡ x) × (holds (near x) b ≡ true))
 IsOf near x (Or a s e b y w) = ((s ≡ x) × (holds (near x) y ≡ true)) ⊎ ((e ≡ x) × (holds (near x) w ≡ true))
 
 -- an offer of x on C with positive gain, by the lengths of the whole cycles

@@ -57,8 +57,8 @@ fn wake_ends(waking: &mut Waking, offer: &Offer)
     }
 }
 
-/// Looks at the waking cities in turn, first in first out. Where a look finds an offer its move is made and the ends of the
-/// move are woken. It ends when no city is awake.
+/// Looks at the waking cities in turn, first in first out. Where a look finds an offer its move is made and the ends of
+/// the move are woken. It ends when no city is awake.
 ///
 /// `or_segment` is the greatest length of a segment that an Or-move moves, and `before` the length of the tour.
 pub fn descend<S: TourStore, G: Gains>(
@@ -91,7 +91,8 @@ pub fn descend<S: TourStore, G: Gains>(
     ensures looks { result.looks ≤ length waking.old.queue + 6 * result.moves }
     ensures tests { result.tests ≤ 4 * or_segment * near.now.width * (length waking.old.queue + 6 * result.moves) }
     ensures headline { result.tests ≤ 4 * or_segment * near.now.width * (length (S.cities tour.old)
-        + 6 * (tour_length (G.distance gains.old) (S.cities tour.old) - tour_length (G.distance gains.old) (S.cities tour.new))) }
+        + 6 * (tour_length (G.distance gains.old) (S.cities tour.old)
+        - tour_length (G.distance gains.old) (S.cities tour.new))) }
     ensures tested { result.tests ≡ G.test_count gains.new - G.test_count gains.old }
     ensures swaps { result.swaps ≤ 3 * (length (S.cities tour.old) / 4) * result.moves }
     ensures swapped { result.swaps ≡ S.swap_count tour.new - S.swap_count tour.old }

@@ -73,7 +73,8 @@ pub trait Gains {
         None
     }
 
-    /// Looks at a city: its first offer with positive gain, and the gain. It computes the gains of the offers up to that one.
+    /// Looks at a city: its first offer with positive gain, and the gain. It computes the gains of the offers up to
+    /// that one.
     fn find_offer<S: TourStore>(
         &mut self,
         tour: &S,
@@ -84,7 +85,8 @@ pub trait Gains {
         requires fits { (size_of self.old ≡ length (S.cities tour.now)) × (near.now.size ≡ length (S.cities tour.now)) }
         requires city { IsCity (length (S.cities tour.now)) city }
         requires most { (1 ≤ or_segment) × (or_segment ≤ 3) }
-        ensures searched { Searched (distance self.old) (offers (S.cities tour.now) or_segment (near_of near.now city) city)
+        ensures searched { Searched (distance self.old)
+            (offers (S.cities tour.now) or_segment (near_of near.now city) city)
             result (test_count self.old) (test_count self.new) }
         ensures on_cycle { IfSome result (λ f. IsOfferOn or_segment f.offer (S.cities tour.now)
             × EndsIn (length (S.cities tour.now)) f.offer) }

@@ -14,8 +14,8 @@ use crate::sweep::SweptReport;
 use tk_metric::Metric;
 use tk_near::Near;
 
-/// A law: the gain of an offer, by four distances (2-opt) or six (Or-opt), is the length of the whole tour before its move less
-/// the length after it.
+/// A law: the gain of an offer, by four distances (2-opt) or six (Or-opt), is the length of the whole tour before its
+/// move less the length after it.
 pub fn gain_is_the_difference<M: Metric>(
     metric: &M,
     or_segment: u32,
@@ -28,8 +28,9 @@ pub fn gain_is_the_difference<M: Metric>(
         ≡ pos (tour_length (M.distance metric.now) before.now) -ℤ pos (tour_length (M.distance metric.now) after.now) }
 {}
 
-/// A law: a descent's run, up to any of its steps, is a run of the machine that leaves the choices open. Each look takes a city
-/// that was awake at first or that a move woke, so there are at most as many as were awake and six for each move.
+/// A law: a descent's run, up to any of its steps, is a run of the machine that leaves the choices open. Each look
+/// takes a city that was awake at first or that a move woke, so there are at most as many as were awake and six for
+/// each move.
 pub fn descents_are_wake_runs<M: Metric>(
     metric: &M,
     near: &Near,

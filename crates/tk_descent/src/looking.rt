@@ -43,8 +43,8 @@ fn try_two<M: Metric>(
     })
 }
 
-/// Tests the Or-offer of a segment between y and w, where neither lies in it; a gain is what is left of `margin` once the step
-/// from the segment's last city to w is added.
+/// Tests the Or-offer of a segment between y and w, where neither lies in it; a gain is what is left of `margin` once
+/// the step from the segment's last city to w is added.
 #[inline(always)]
 fn try_or<M: Metric>(
     metric: &M,

@@ -10,7 +10,8 @@ pub enum Offer {
         c: u32,
         d: u32,
     },
-    /// The Or-move of the segment from x to e, between a and b, to between y and w. It runs forward where a comes before x.
+    /// The Or-move of the segment from x to e, between a and b, to between y and w. It runs forward where a comes
+    /// before x.
     Or {
         a: u32,
         x: u32,

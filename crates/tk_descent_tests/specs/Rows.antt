@@ -17,10 +17,12 @@ pub row_distance-swap : (rows : List ℕ) (a b : ℕ) → row_distance rows a b 
 row_distance-swap rows a b = swap (cases_eq a b)
   where
     swap : (a ≡ b) ⊎ (a ≡ b → ⊥) → row_distance rows a b ≡ row_distance rows b a
-    swap (inl e) = ap (λ z. row_distance rows z b) e ∙ row_distance-same rows b ∙ sym (row_distance-same rows b) ∙ ap (λ z. row_distance rows b z) (sym e)
+    swap (inl e) = ap (λ z. row_distance rows z b) e ∙ row_distance-same rows b ∙ sym (row_distance-same rows b)
+        ∙ ap (λ z. row_distance rows b z) (sym e)
     swap (inr ne) =
         let at : entry_at a b ≡ entry_at b a = omega arith in
-        cond-false (eqb a b) 0 (min 4000000000 (slice_index rows (entry_at a b))) (ne_eqb a b ne) ∙ ap (λ z. min 4000000000 (slice_index rows z)) at ∙
+        cond-false (eqb a b) 0 (min 4000000000 (slice_index rows (entry_at a b))) (ne_eqb a b ne)
+        ∙ ap (λ z. min 4000000000 (slice_index rows z)) at ∙
         sym (cond-false (eqb b a) 0 (min 4000000000 (slice_index rows (entry_at b a))) (ne_eqb b a (λ e. ne (sym e))))
 
 pub row_distance-limit : (rows : List ℕ) (a b : ℕ) → row_distance rows a b ≤ 4000000000

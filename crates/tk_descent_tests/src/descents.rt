@@ -84,7 +84,8 @@ impl<G: Gains> Gains for Plain<G> {
 /// The length of a tour of the cities of these distances.
 fn length_of(metric: &Rows, tour: &ArrayTour) -> i64
     requires { metric.now.n ≡ length (⟦<ArrayTour as TourStore>⟧.cities tour.now) }
-    ensures { result ≡ pos (tour_length (⟦<Rows as Metric>⟧.distance metric.now) (⟦<ArrayTour as TourStore>⟧.cities tour.now)) }
+    ensures { result ≡ pos (tour_length (⟦<Rows as Metric>⟧.distance metric.now)
+        (⟦<ArrayTour as TourStore>⟧.cities tour.now)) }
 {
     length(metric, tour.order())
 }

@@ -1,4 +1,5 @@
-//! The tests of `tk_descent`, in a crate of their own: the tests of a crate are proved together with all of its functions.
+//! The tests of `tk_descent`, in a crate of their own: the tests of a crate are proved together with all of its
+//! functions.
 #![tactic(auto)]
 
 #[cfg(test)]

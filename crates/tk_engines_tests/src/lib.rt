@@ -1,5 +1,5 @@
-//! The tests of `tk_checks` and `tk_solve_engine`, in a crate of their own: the tests of a crate are proved together with all of
-//! its functions.
+//! The tests of `tk_checks` and `tk_solve_engine`, in a crate of their own: the tests of a crate are proved together
+//! with all of its functions.
 #![tactic(auto)]
 
 #[cfg(test)]

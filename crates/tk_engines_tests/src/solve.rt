@@ -37,7 +37,7 @@ fn solve<F: Sink, W: Sink>(
 }
 
 /// For parameters, a problem and a tour to begin with the engine answers this. It writes one text to the file, and one
-/// behind it.
+/// after it.
 fn expect(
     rt: &impl Abort,
     alloc: Global,

@@ -89,7 +89,8 @@ impl Left {
 
 /// Where the city stands in the row.
 fn index_of(row: &[Placed], p: &Placed) -> Option<usize>
-    ensures { MatchOption result (IsNotIn p.now row.now) (λ i. (i < length row.now) × (city_at row.now i ≡ p.now.city)) }
+    ensures { MatchOption result (IsNotIn p.now row.now)
+        (λ i. (i < length row.now) × (city_at row.now i ≡ p.now.city)) }
 {
     for i in 0..row.len() {
         if row[i].city == p.city {

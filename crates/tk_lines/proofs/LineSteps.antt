@@ -31,7 +31,7 @@ line_behind-byte bs b h = ap suc (sum_by-append is_lf bs (b ∷ []) ∙ rw h (om
 pub line_behind-LF : (bs : List ℕ) → line_behind (bs ++ LF ∷ []) ≡ line_behind bs + 1
 line_behind-LF bs = ap suc (sum_by-append is_lf bs (LF ∷ [])) ∙ omega arith
 
--- ---- a line's own bytes count only by what stands behind the blanks
+-- ---- a line's own bytes count only by what comes after the blanks
 
 piece_by-line : (extent : Extents) (before : List Piece) (l : Line) (x : List ℕ) (ls : List Line) (tail : List ℕ) (word : Keyword) (r : Role) → piece_by extent before (with_bytes l x) ls tail word r ≡ piece_by extent before l ls tail word r
 piece_by-line extent before l x ls tail word BeginsHeader = refl

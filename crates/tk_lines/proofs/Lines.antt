@@ -43,7 +43,7 @@ behind_none p (b ∷ bs) h = by_test (p b) h
     by_test true k = absurd cc
     by_test false k = refl
 
--- what stands behind a word on its line, where the word has ended
+-- what comes after a word on its line, where the word has ended
 pub record WordEnds (tail x : List ℕ) (w : Bool) : Type 0 where
   pub begins : begins_no is_word_byte (tail ++ x) ≡ true
   pub known : (not w && is_empty (tail ++ x)) ≡ false
@@ -54,7 +54,7 @@ first-byte e n b bs other = let k = first_line e n bs in record { bytes = b ∷ 
 unfoldable pub first-LF : (e : Bool) (n : ℕ) (bs : List ℕ) → First e n (LF ∷ bs)
 first-LF e n bs = record { bytes = []; whole = true; rest = lines e (suc n) bs; is = lines-LF e n bs }
 
--- the first line of bytes behind which a word has ended
+-- the first line of bytes after which a word has ended
 pub record Behind (tail : List ℕ) (e : Bool) (n : ℕ) (bs : List ℕ) : Type 0 where
   pub first : First e n bs
   pub ends : WordEnds tail first.bytes first.whole
@@ -93,7 +93,7 @@ behind_word [] y h = absurd h
 behind_word (b ∷ t) y h = rw (blank_letter b h.0) refl
 
 module _ {V : Type 0} (f : Format V) (before : List Piece) (upto : ℕ) (held tail : List ℕ) (e : Bool) (n : ℕ) (bs : List ℕ) (lt : upto < n) (is_word : IsWord held) (ends : no_word e (tail ++ bs) ≡ true) where
-  -- a line whose word has ended: its pieces, and those behind
+  -- a line whose word has ended: its pieces, and those after
   unfoldable pub after_line : List Piece → List Line → List Line → Option (Result V TextFault)
   after_line new ls all = judge f before ((new ++ cut f.extent (before ++ new) (covered upto new) ls) ++ end_piece all)
 

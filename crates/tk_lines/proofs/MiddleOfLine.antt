@@ -63,7 +63,7 @@ behind_step : (p : ℕ → Bool) (x : ℕ) (xs more : List ℕ) (c : ℕ) (cs : 
 behind_step p x xs more c cs true e ih k = ih k
 behind_step p x xs more c cs false e ih k = ap (λ (ys : List ℕ). ys ++ more) k
 
--- where something stands behind a run, more bytes stand behind that
+-- where something comes after a run, more bytes come after that
 pub behind-more : (p : ℕ → Bool) (xs more : List ℕ) (c : ℕ) (cs : List ℕ) → behind p xs ≡ c ∷ cs → behind p (xs ++ more) ≡ (c ∷ cs) ++ more
 behind-more p [] more c cs h = absurd cc
 behind-more p (x ∷ xs) more c cs h = behind_step p x xs more c cs (p x) refl (behind-more p xs more c cs) h

@@ -41,7 +41,7 @@ module _ {V S : Type 0} (f : Format V) (W : S → List Piece → Keyword → ℕ
       let rest = token_on (held ++ b ∷ []) (bs ++ b ∷ []) run (solid_tail b run all) next in
       rw (append_assoc held (b ∷ []) run, append_assoc bs (b ∷ []) run) at rest
 
--- ---- a token in some bytes, behind `s` of them
+-- ---- a token in some bytes, after `s` of them
 
 pub token_ends : (bytes : List ℕ) (s n : ℕ) → s ≤ length bytes → n ≤ length (take (length bytes - s) (drop s bytes)) → s + n ≢ length bytes → s + n < length bytes
 token_ends bytes s n le count other = omega (arith, le, count, other, length-take (length bytes - s) (drop s bytes), length-drop s bytes)
@@ -70,6 +70,6 @@ module _ (bytes : List ℕ) (s n : ℕ) (within : s + n < length bytes) (solid :
       let at = at_place f H W anything r.form r.line r.held r.scan (bs ++ take s bytes) r.place places.Gap gap fed.1 in
       (fed.0 ∙ sym (line_on (bs ++ take s bytes) token token_solid), token_narrow f W (this (get_or bytes (s + n) 0)) r.form r.line _ _ (token_on f W r.form r.line [] (bs ++ take s bytes) token token_solid at))
 
--- the line behind some of the bytes
+-- the line after some of the bytes
 pub line_within : (bs bytes : List ℕ) (s : ℕ) → line_behind (bs ++ take s bytes) ≤ length bs + s + 1
 line_within bs bytes s = omega (arith, count_by-le-length (λ b. b == 10) (bs ++ take s bytes), length-append bs (take s bytes), length-take s bytes)

@@ -1,3 +1,4 @@
+pub mod Feeding
 pub mod Forms
 pub mod Lists
 pub mod Pieces

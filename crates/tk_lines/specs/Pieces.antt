@@ -9,7 +9,8 @@ use Rattle.tk_words.specs.Words.{keyword_of, same_word, role}
 use Rattle.tk_words.specs.declared.keyword.Role.{Role}
 use Rattle.tk_words.specs.declared.keyword.Role.TheVariants.{BeginsHeader, BeginsSection, EndsText}
 
--- how a section's tokens end: with nothing else on their last line; with something; or too early, before what stands on a line, which is known or may be more
+-- how a section's tokens end: with nothing else on their last line; with something; or too early, before what stands on
+-- a line, which is known or may be more
 pub data After : Type 0 where
   Clean : After
   Trailing : (line : ℕ) → After
@@ -18,7 +19,7 @@ pub data After : Type 0 where
 pub data Piece : Type 0 where
   -- a line outside the sections that begins with no letter
   Stray : (line : ℕ) → Piece
-  -- a word that is too long; that may go on behind what is known; that is none of the formats'
+  -- a word that is too long; that may go on after what is known; that is none of the formats'
   LongWord : (line : ℕ) → Piece
   OpenWord : (line : ℕ) → Piece
   Unknown : (line : ℕ) → Piece
@@ -34,8 +35,8 @@ abbrev pub end_token : Line → List Line → Token
 end_token l [] = record { bytes = []; line = l.number; whole = l.whole }
 end_token l (k ∷ ls) = end_token k ls
 
--- how many tokens a section takes, given the pieces before it and all tokens behind its word; whether it is then complete;
--- and whether an EOF ends it and the text
+-- how many tokens a section takes, given the pieces before it and all tokens after its word; whether it is then
+-- complete; and whether an EOF ends it and the text
 pub record Extent : Type 0 where
   pub count : ℕ
   pub closed : Bool
@@ -58,19 +59,22 @@ abbrev pub section_at : Extents → List Piece → Keyword → ℕ → List Toke
 section_at extent before word n toks end =
     let e = extent before word toks in
     let next = get_or toks e.count end in
-    Section word n (take e.count toks) (after_tokens (last_line n (take e.count toks)) e.closed next) ∷ (if e.at_eof then End next.line true ∷ [] else [])
+    Section word n (take e.count toks) (after_tokens (last_line n (take e.count toks)) e.closed next)
+    ∷ (if e.at_eof then End next.line true ∷ [] else [])
 
--- a line's pieces by what its word begins; tail is what stands behind the word
+-- a line's pieces by what its word begins; tail is what comes after the word
 abbrev pub piece_by : Extents → List Piece → Line → List Line → List ℕ → Keyword → Role → List Piece
-piece_by extent before l ls tail word BeginsHeader = Header word (record { bytes = tail; line = l.number; whole = l.whole }) ∷ []
-piece_by extent before l ls tail word BeginsSection = section_at extent before word l.number (tokens_of l.whole l.number (after_word tail) ++ tokens ls) (end_token l ls)
+piece_by extent before l ls tail word BeginsHeader =
+    Header word (record { bytes = tail; line = l.number; whole = l.whole }) ∷ []
+piece_by extent before l ls tail word BeginsSection =
+    section_at extent before word l.number (tokens_of l.whole l.number (after_word tail) ++ tokens ls) (end_token l ls)
 piece_by extent before l ls tail word EndsText = End l.number true ∷ []
 
 abbrev pub piece_of : Extents → List Piece → Line → List Line → List ℕ → Option Keyword → List Piece
 piece_of extent before l ls tail None = Unknown l.number ∷ []
 piece_of extent before l ls tail (Some word) = piece_by extent before l ls tail word (role word)
 
--- the pieces that begin on a line, whose bytes behind the blanks are given; ls are the lines behind it
+-- the pieces that begin on a line, whose bytes after the blanks are given; ls are the lines after it
 abbrev pub pieces_at : Extents → List Piece → Line → List Line → List ℕ → List Piece
 pieces_at extent before l ls [] = []
 pieces_at extent before l ls (b ∷ bs) =
@@ -112,7 +116,7 @@ has word (Header w v ∷ ps) = same_word w word || has word ps
 has word (Section w n toks after ∷ ps) = same_word w word || has word ps
 has word (p ∷ ps) = has word ps
 
--- the bytes behind a header's word, of the first such header
+-- the bytes after a header's word, of the first such header
 abbrev pub value_of : Keyword → List Piece → Option (List ℕ)
 value_of word [] = None
 value_of word (Header w v ∷ ps) = let rest = value_of word ps in if same_word w word then Some v.bytes else rest
@@ -147,7 +151,8 @@ abbrev pub or_else : Option Stop → Option Stop → Option Stop
 or_else None s = s
 or_else (Some x) s = Some x
 
--- a format: how far sections go, the tests of a header by its word and the bytes behind it, what stops at a section, and what stops at the end
+-- a format: how far sections go, the tests of a header by its word and the bytes after it, what stops at a section, and
+-- what stops at the end
 pub record Format (V : Type 0) : Type 0 where
   pub extent : Extents
   pub header : List Piece → Keyword → List ℕ → List (Bool × TextKind)
@@ -175,7 +180,7 @@ stopped None rest = rest
 stopped (Some Open) rest = None
 stopped (Some (Fault line kind)) rest = Some (Err (record { line = line; kind = kind }))
 
--- what all pieces say: None where bytes behind them decide
+-- what all pieces say: None where bytes after them decide
 unfoldable pub judge : {V : Type 0} → Format V → List Piece → List Piece → Option (Result V TextFault)
 judge f before [] = None
 judge f before (End line whole ∷ ps) = ended f before line whole (f.at_end before)
@@ -192,11 +197,14 @@ abbrev pub prepend : List ℕ → List Line → List Line
 prepend pre [] = []
 prepend pre (l ∷ ls) = record l { bytes = pre ++ l.bytes } ∷ ls
 
--- what bytes say that go on behind these pieces, on line n, of which `pre` stands before them; lines up to `upto` belong to a section
-unfoldable pub from_line : {V : Type 0} → Format V → List Piece → ℕ → List ℕ → Bool → ℕ → List ℕ → Option (Result V TextFault)
-from_line f before upto pre ended n bs = judge f before (cut f.extent before upto (prepend pre (lines ended n bs)) ++ end_piece (lines ended n bs))
+-- what bytes say that go on after these pieces, on line n, of which `pre` stands before them; lines up to `upto` belong
+-- to a section
+unfoldable pub from_line : {V : Type 0} → Format V → List Piece → ℕ → List ℕ → Bool → ℕ → List ℕ →
+    Option (Result V TextFault)
+from_line f before upto pre ended n bs =
+    judge f before (cut f.extent before upto (prepend pre (lines ended n bs)) ++ end_piece (lines ended n bs))
 
--- what bytes say that go on in a section, behind these tokens of it, on line n, of which `pre` stands before them
+-- what bytes say that go on in a section, after these tokens of it, on line n, of which `pre` stands before them
 unfoldable pub new_pieces : {V : Type 0} → Format V → List Piece → Keyword → ℕ → List Token → Token → List Piece
 new_pieces f before word n0 toks end = section_at f.extent before word n0 toks end
 
@@ -207,8 +215,12 @@ end_of (l ∷ ls) = end_token l ls
 abbrev pub ending : Token → List Piece
 ending t = End t.line t.whole ∷ []
 
-unfoldable pub goes : {V : Type 0} → Format V → List Piece → List Piece → List Line → Token → Option (Result V TextFault)
+unfoldable pub goes : {V : Type 0} → Format V → List Piece → List Piece → List Line → Token →
+    Option (Result V TextFault)
 goes f before new ls end = judge f before ((new ++ cut f.extent (before ++ new) (covered 0 new) ls) ++ ending end)
 
-unfoldable pub in_section : {V : Type 0} → Format V → List Piece → Keyword → ℕ → List Token → List ℕ → Bool → ℕ → List ℕ → Option (Result V TextFault)
-in_section f before word n0 toks pre e n bs = goes f before (new_pieces f before word n0 (toks ++ tokens (prepend pre (lines e n bs))) (end_of (lines e n bs))) (prepend pre (lines e n bs)) (end_of (lines e n bs))
+unfoldable pub in_section : {V : Type 0} → Format V → List Piece → Keyword → ℕ → List Token → List ℕ → Bool → ℕ →
+    List ℕ → Option (Result V TextFault)
+in_section f before word n0 toks pre e n bs =
+    goes f before (new_pieces f before word n0 (toks ++ tokens (prepend pre (lines e n bs))) (end_of (lines e n bs)))
+    (prepend pre (lines e n bs)) (end_of (lines e n bs))

@@ -18,10 +18,10 @@ use Rattle.tk_words.specs.declared.keyword.Role.TheVariants.{BeginsHeader, Begin
 use Rattle.tk_lines.specs.Pieces.{Piece, Header, stop, Clean, Format, ended, decided_by, from_line, in_section, last_line}
 use Rattle.tk_words.specs.MinusOne.{begins_minus_one}
 use Rattle.tk_lines.specs.Scan.{Scans}
-use Rattle.tk_lines.specs.Forms.{Goes, Closed, Ends, a_section, a_header, whole}
+use Rattle.tk_lines.specs.Forms.{Goes, Closed, Ends, Holding, Wanting, a_section, a_header, whole}
 use Rattle.tk_words.specs.Drive.{line_behind}
 
--- what may follow the bytes so far; true: nothing stands behind
+-- what may follow the bytes so far; true: nothing comes after them
 abbrev pub Next : Type 0
 Next = Bool → List ℕ → Bool
 
@@ -68,15 +68,17 @@ IsWord [] = ⊥
 IsWord (b ∷ t) = (is_letter b ≡ true) × (behind is_word_byte (b ∷ t) ≡ []) × (length (b ∷ t) ≤ 64)
 
 -- on a line outside the sections, of which these bytes stand before
-pub record AtLine {V S : Type 0} (f : Format V) (H : S → List Piece → Type 0) (next : Next) (form : S) (line : ℕ) (pre : List ℕ) (bs : List ℕ) : Type 0 where
+pub record AtLine {V S : Type 0} (f : Format V) (H : Holding S) (next : Next) (form : S) (line : ℕ) (pre : List ℕ)
+    (bs : List ℕ) : Type 0 where
   pub before : List Piece
   pub upto : ℕ
   pub holds : H form before
   pub lt : upto < line
   pub same : Says f next bs (λ e more. from_line f before upto pre e line more)
 
--- behind a line's word
-pub record AtTail {V : Type 0} (f : Format V) (next : Next) (line : ℕ) (held : List ℕ) (word : Keyword) (before : List Piece) (tail : List ℕ) (bs : List ℕ) : Type 0 where
+-- after a line's word
+pub record AtTail {V : Type 0} (f : Format V) (next : Next) (line : ℕ) (held : List ℕ) (word : Keyword)
+    (before : List Piece) (tail : List ℕ) (bs : List ℕ) : Type 0 where
   pub upto : ℕ
   pub lt : upto < line
   pub is_word : IsWord held
@@ -84,7 +86,8 @@ pub record AtTail {V : Type 0} (f : Format V) (next : Next) (line : ℕ) (held :
   pub settled : (e : Bool) (more : List ℕ) → next e more ≡ true → no_word e (tail ++ more) ≡ true
   pub same : Says f next bs (λ e more. from_line f before upto (held ++ tail) e line more)
 
-pub record AtValue {V S : Type 0} (f : Format V) (H : S → List Piece → Type 0) (next : Next) (form : S) (line : ℕ) (held : List ℕ) (word : Keyword) (scan : Scan) (bs : List ℕ) : Type 0 where
+pub record AtValue {V S : Type 0} (f : Format V) (H : Holding S) (next : Next) (form : S) (line : ℕ) (held : List ℕ)
+    (word : Keyword) (scan : Scan) (bs : List ℕ) : Type 0 where
   pub before : List Piece
   pub tail : List ℕ
   pub at : AtTail f next line held word before tail bs
@@ -93,7 +96,8 @@ pub record AtValue {V S : Type 0} (f : Format V) (H : S → List Piece → Type 
   pub scans : Scans scan tail
   pub short : length tail ≤ 4096
 
-pub record AtBegin {V S : Type 0} (f : Format V) (W : S → List Piece → Keyword → ℕ → List Token → Type 0) (next : Next) (form : S) (line : ℕ) (held : List ℕ) (bs : List ℕ) : Type 0 where
+pub record AtBegin {V S : Type 0} (f : Format V) (W : Wanting S) (next : Next) (form : S) (line : ℕ) (held : List ℕ)
+    (bs : List ℕ) : Type 0 where
   pub word : Keyword
   pub before : List Piece
   pub tail : List ℕ
@@ -106,8 +110,9 @@ pub record AtBegin {V S : Type 0} (f : Format V) (W : S → List Piece → Keywo
 abbrev pub IsToken : List ℕ → Type 0
 IsToken held = IsRun held × (length held ≤ 64)
 
--- in a section, behind these tokens
-pub record AtToken {V S : Type 0} (f : Format V) (W : S → List Piece → Keyword → ℕ → List Token → Type 0) (next : Next) (form : S) (line : ℕ) (pre : List ℕ) (bs : List ℕ) : Type 0 where
+-- in a section, after these tokens
+pub record AtToken {V S : Type 0} (f : Format V) (W : Wanting S) (next : Next) (form : S) (line : ℕ) (pre : List ℕ)
+    (bs : List ℕ) : Type 0 where
   pub before : List Piece
   pub word : Keyword
   pub first : ℕ
@@ -116,8 +121,9 @@ pub record AtToken {V S : Type 0} (f : Format V) (W : S → List Piece → Keywo
   pub goes : Goes f before word first toks
   pub same : Says f next bs (λ e more. in_section f before word first toks pre e line more)
 
--- behind the last token of a section, on its line
-pub record AtClose {V S : Type 0} (f : Format V) (H : S → List Piece → Type 0) (next : Next) (form : S) (line : ℕ) (bs : List ℕ) : Type 0 where
+-- after the last token of a section, on its line
+pub record AtClose {V S : Type 0} (f : Format V) (H : Holding S) (next : Next) (form : S) (line : ℕ)
+    (bs : List ℕ) : Type 0 where
   pub before : List Piece
   pub word : Keyword
   pub first : ℕ
@@ -131,8 +137,9 @@ abbrev pub IsLastLine : Bool → ℕ → ℕ → Type 0
 IsLastLine true last line = last ≡ line
 IsLastLine false last line = last < line
 
--- behind the -1 that ends a section, on its line or later
-pub record AtAfter {V S : Type 0} (f : Format V) (H : S → List Piece → Type 0) (next : Next) (form : S) (line : ℕ) (on_line : Bool) (pre : List ℕ) (bs : List ℕ) : Type 0 where
+-- after the -1 that ends a section, on its line or later
+pub record AtAfter {V S : Type 0} (f : Format V) (H : Holding S) (next : Next) (form : S) (line : ℕ) (on_line : Bool)
+    (pre : List ℕ) (bs : List ℕ) : Type 0 where
   pub before : List Piece
   pub word : Keyword
   pub first : ℕ
@@ -142,11 +149,12 @@ pub record AtAfter {V S : Type 0} (f : Format V) (H : S → List Piece → Type 
   pub last : IsLastLine on_line (last_line first toks) line
   pub same : Says f next bs (λ e more. in_section f before word first toks pre e line more)
 
--- what stands behind the -1, and may be one more
+-- what comes after the -1, and may be one more
 abbrev pub IsMore : List ℕ → Type 0
 IsMore held = IsRun held × (begins_minus_one held ≡ true)
 
-abbrev pub AtPlace : {V S : Type 0} → Format V → (S → List Piece → Type 0) → (S → List Piece → Keyword → ℕ → List Token → Type 0) → Next → S → ℕ → List ℕ → Scan → List ℕ → Place → Type 0
+abbrev pub AtPlace : {V S : Type 0} → Format V → Holding S → Wanting S → Next → S → ℕ → List ℕ → Scan → List ℕ → Place →
+    Type 0
 AtPlace f holds wants next form line held scan bs places.Start = AtLine f holds next form line [] bs
 AtPlace f holds wants next form line held scan bs places.Word = IsWord held × AtLine f holds next form line held bs
 AtPlace f holds wants next form line held scan bs (places.Value word) = AtValue f holds next form line held word scan bs
@@ -155,14 +163,16 @@ AtPlace f holds wants next form line held scan bs places.Gap = AtToken f wants n
 AtPlace f holds wants next form line held scan bs places.Token = IsToken held × AtToken f wants next form line held bs
 AtPlace f holds wants next form line held scan bs places.Close = AtClose f holds next form line bs
 AtPlace f holds wants next form line held scan bs (places.After on_line) = AtAfter f holds next form line on_line [] bs
-AtPlace f holds wants next form line held scan bs (places.MinusOne on_line) = IsMore held × AtAfter f holds next form line on_line held bs
+AtPlace f holds wants next form line held scan bs (places.MinusOne on_line) =
+    IsMore held × AtAfter f holds next form line on_line held bs
 
 -- the reader has taken these bytes, and what follows is so
-abbrev pub Fed : {V S : Type 0} → Format V → (S → List Piece → Type 0) → (S → List Piece → Keyword → ℕ → List Token → Type 0) → Next → PieceReader S → List ℕ → Type 0
-Fed f holds wants next s bs = (s.line ≡ line_behind bs) × AtPlace f holds wants next s.form s.line s.held s.scan bs s.place
+abbrev pub Fed : {V S : Type 0} → Format V → Holding S → Wanting S → Next → PieceReader S → List ℕ → Type 0
+Fed f holds wants next s bs =
+    (s.line ≡ line_behind bs) × AtPlace f holds wants next s.form s.line s.held s.scan bs s.place
 
--- it stands in a section, and of a token these bytes stand behind it
-abbrev pub IsIn : {V S : Type 0} → Format V → (S → List Piece → Keyword → ℕ → List Token → Type 0) → Next → PieceReader S → List ℕ → List ℕ → Type 0
+-- it stands in a section, and of a token these bytes come after it
+abbrev pub IsIn : {V S : Type 0} → Format V → Wanting S → Next → PieceReader S → List ℕ → List ℕ → Type 0
 IsIn f wants next s token bs = (s.line ≡ line_behind bs) × AtToken f wants next s.form s.line token bs
 
 -- a step of a byte
@@ -176,7 +186,7 @@ HasWent f next fed place held bs wents.Done = DecidesIf f next bs (Ok held)
 HasWent f next fed place held bs (wents.Value word) = (place ≡ places.Value word) × fed bs
 HasWent f next fed place held bs wents.Begin = (place ≡ places.Begin) × fed bs
 
--- what stands behind a token
+-- what comes after a token
 abbrev pub HasEnded : {V : Type 0} → Format V → Next → (List ℕ → Type 0) → Place → V → List ℕ → Ended → Type 0
 HasEnded f next fed place held bs endeds.Done = DecidesIf f next bs (Ok held)
 HasEnded f next fed place held bs endeds.Gap = (place ≡ places.Gap) × fed bs
@@ -184,7 +194,8 @@ HasEnded f next fed place held bs endeds.Close = (place ≡ places.Close) × fed
 HasEnded f next fed place held bs endeds.After = (place ≡ places.After true) × fed bs
 
 -- a header is taken, and its line's end comes
-pub record HeaderTaken {V S : Type 0} (f : Format V) (H : S → List Piece → Type 0) (next : Next) (form : S) (line : ℕ) (held : List ℕ) (word : Keyword) (bs : List ℕ) : Type 0 where
+pub record HeaderTaken {V S : Type 0} (f : Format V) (H : Holding S) (next : Next) (form : S) (line : ℕ) (held : List ℕ)
+    (word : Keyword) (bs : List ℕ) : Type 0 where
   pub before : List Piece
   pub tail : List ℕ
   pub at : AtTail f next line held word before tail bs
@@ -193,7 +204,7 @@ pub record HeaderTaken {V S : Type 0} (f : Format V) (H : S → List Piece → T
   pub none : stop f before (Header word (whole tail line)) ≡ None
 
 -- at the end of the bytes, nothing is open
-pub record AtEnd {V S : Type 0} (f : Format V) (H : S → List Piece → Type 0) (form : S) (line : ℕ) (bs : List ℕ) : Type 0 where
+pub record AtEnd {V S : Type 0} (f : Format V) (H : Holding S) (form : S) (line : ℕ) (bs : List ℕ) : Type 0 where
   pub before : List Piece
   pub holds : H form before
   pub same : decided_by f true bs ≡ ended f before line true (f.at_end before)

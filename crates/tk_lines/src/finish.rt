@@ -4,6 +4,7 @@ ghost use Rattle.tk_lines.specs.declared.reader.Place.TheVariants as places;
 ghost use Rattle.tk_words.specs.Drive.{DecidesEnded, IsTold};
 ghost use Rattle.tk_lines.specs.Pieces.{decided_by};
 ghost use Rattle.tk_lines.specs.Reader.{Fed, anything, at_end, AtToken, AtEnd};
+ghost use Rattle.tk_lines.specs.Feeding.{IsFed, TakesEnd, RefusesEnd, CompletesEnd};
 
 use crate::form::Form;
 use crate::reader::{Ended, PieceReader, Place, Went};
@@ -43,12 +44,9 @@ impl<F: Form> PieceReader<F> {
     /// Ends the text in a header's value.
     fn end_value(&mut self, word: Keyword) -> Result<(), TextFault>
         requires place { self.old.place ≡ places.Value word }
-        ensures ok { (bs : List ℕ) → Fed F.format F.holds F.wants at_end self.old bs
-            → IfOk result (λ _. DecidesEnded (decided_by F.format) bs (Ok (F.held self.new.form))) }
-        ensures err { (bs : List ℕ) → Fed F.format F.holds F.wants at_end self.old bs
-            → IfErr result (IsTold ⊥ (DecidesEnded (decided_by F.format) bs)) }
-        ensures complete { (bs : List ℕ) → Fed F.format F.holds F.wants at_end self.old bs
-            → IfOk result (λ _. F.complete self.new.form) }
+        ensures ok { TakesEnd F.format F.holds F.wants F.held self.old self.new result }
+        ensures err { RefusesEnd F.format F.holds F.wants self.old result }
+        ensures complete { CompletesEnd F.format F.holds F.wants F.complete self.old self.new result }
     {
         self.end_header(word)?;
         self.end_text()
@@ -57,13 +55,10 @@ impl<F: Form> PieceReader<F> {
     /// Ends the text in a line's word.
     fn end_in_word(&mut self) -> Result<(), TextFault>
         requires place { self.old.place ≡ places.Word }
-        requires known { (bs : List ℕ) × Fed F.format F.holds F.wants at_end self.old bs }
-        ensures ok { (bs : List ℕ) → Fed F.format F.holds F.wants at_end self.old bs
-            → IfOk result (λ _. DecidesEnded (decided_by F.format) bs (Ok (F.held self.new.form))) }
-        ensures err { (bs : List ℕ) → Fed F.format F.holds F.wants at_end self.old bs
-            → IfErr result (IsTold ⊥ (DecidesEnded (decided_by F.format) bs)) }
-        ensures complete { (bs : List ℕ) → Fed F.format F.holds F.wants at_end self.old bs
-            → IfOk result (λ _. F.complete self.new.form) }
+        requires known { IsFed F.format F.holds F.wants at_end self.old }
+        ensures ok { TakesEnd F.format F.holds F.wants F.held self.old self.new result }
+        ensures err { RefusesEnd F.format F.holds F.wants self.old result }
+        ensures complete { CompletesEnd F.format F.holds F.wants F.complete self.old self.new result }
     {
         match self.end_word()? {
             Went::Done => Ok(()),
@@ -75,13 +70,10 @@ impl<F: Form> PieceReader<F> {
     /// Ends the text in a section's token.
     fn end_in_token(&mut self) -> Result<(), TextFault>
         requires place { self.old.place ≡ places.Token }
-        requires known { (bs : List ℕ) × Fed F.format F.holds F.wants at_end self.old bs }
-        ensures ok { (bs : List ℕ) → Fed F.format F.holds F.wants at_end self.old bs
-            → IfOk result (λ _. DecidesEnded (decided_by F.format) bs (Ok (F.held self.new.form))) }
-        ensures err { (bs : List ℕ) → Fed F.format F.holds F.wants at_end self.old bs
-            → IfErr result (IsTold ⊥ (DecidesEnded (decided_by F.format) bs)) }
-        ensures complete { (bs : List ℕ) → Fed F.format F.holds F.wants at_end self.old bs
-            → IfOk result (λ _. F.complete self.new.form) }
+        requires known { IsFed F.format F.holds F.wants at_end self.old }
+        ensures ok { TakesEnd F.format F.holds F.wants F.held self.old self.new result }
+        ensures err { RefusesEnd F.format F.holds F.wants self.old result }
+        ensures complete { CompletesEnd F.format F.holds F.wants F.complete self.old self.new result }
     {
         match self.end_token()? {
             Ended::Done => Ok(()),
@@ -91,15 +83,12 @@ impl<F: Form> PieceReader<F> {
         }
     }
 
-    /// Ends the text in a token behind the `-1` that ends a section.
+    /// Ends the text in a token after the `-1` that ends a section.
     fn end_in_minus_one(&mut self, on_line: bool) -> Result<(), TextFault>
         requires place { self.old.place ≡ places.MinusOne on_line }
-        ensures ok { (bs : List ℕ) → Fed F.format F.holds F.wants at_end self.old bs
-            → IfOk result (λ _. DecidesEnded (decided_by F.format) bs (Ok (F.held self.new.form))) }
-        ensures err { (bs : List ℕ) → Fed F.format F.holds F.wants at_end self.old bs
-            → IfErr result (IsTold ⊥ (DecidesEnded (decided_by F.format) bs)) }
-        ensures complete { (bs : List ℕ) → Fed F.format F.holds F.wants at_end self.old bs
-            → IfOk result (λ _. F.complete self.new.form) }
+        ensures ok { TakesEnd F.format F.holds F.wants F.held self.old self.new result }
+        ensures err { RefusesEnd F.format F.holds F.wants self.old result }
+        ensures complete { CompletesEnd F.format F.holds F.wants F.complete self.old self.new result }
     {
         self.end_minus_one(on_line)?;
         self.end_text()
@@ -107,13 +96,10 @@ impl<F: Form> PieceReader<F> {
 
     /// Ends the text, wherever it stands.
     fn end_bytes(&mut self) -> Result<(), TextFault>
-        requires known { (bs : List ℕ) × Fed F.format F.holds F.wants at_end self.old bs }
-        ensures ok { (bs : List ℕ) → Fed F.format F.holds F.wants at_end self.old bs
-            → IfOk result (λ _. DecidesEnded (decided_by F.format) bs (Ok (F.held self.new.form))) }
-        ensures err { (bs : List ℕ) → Fed F.format F.holds F.wants at_end self.old bs
-            → IfErr result (IsTold ⊥ (DecidesEnded (decided_by F.format) bs)) }
-        ensures complete { (bs : List ℕ) → Fed F.format F.holds F.wants at_end self.old bs
-            → IfOk result (λ _. F.complete self.new.form) }
+        requires known { IsFed F.format F.holds F.wants at_end self.old }
+        ensures ok { TakesEnd F.format F.holds F.wants F.held self.old self.new result }
+        ensures err { RefusesEnd F.format F.holds F.wants self.old result }
+        ensures complete { CompletesEnd F.format F.holds F.wants F.complete self.old self.new result }
     {
         match self.place {
             Place::Start => self.end_text(),

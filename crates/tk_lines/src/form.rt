@@ -16,7 +16,7 @@ pub enum Taken {
     More,
     /// It is the last one.
     Last,
-    /// It is the last one, but for a `-1` behind it.
+    /// It is the last one, but for a `-1` after it.
     Ending,
     /// It is an EOF that ends the section.
     Eof,
@@ -69,7 +69,8 @@ pub trait Form: Drop {
         requires { length bytes.now ≤ 64 }
         ensures ok { (before : List Piece) (word : Keyword) (n : ℕ) (toks : List Token) (line : ℕ)
             → wants self.old before word n toks
-            → IfOk result (HasTaken format (holds self.new) (wants self.new) before word n toks (whole bytes.now line)) }
+            → IfOk result (HasTaken format (holds self.new) (wants self.new) before word n toks
+            (whole bytes.now line)) }
         ensures err { (before : List Piece) (word : Keyword) (n : ℕ) (toks : List Token) (line : ℕ)
             → wants self.old before word n toks
             → IfErr result (IsToldWord (StopsAt format before word n toks (whole bytes.now line))) };

@@ -23,17 +23,17 @@ pub enum Place {
     Word,
     /// In a header's value.
     Value(Keyword),
-    /// Behind a section's word, before its colon.
+    /// After a section's word, before its colon.
     Begin,
     /// In a section, between tokens.
     Gap,
     /// In a section's token.
     Token,
-    /// Behind a section's last token, on its line.
+    /// After a section's last token, on its line.
     Close,
-    /// Behind the `-1` that ends a section, on its line or later.
+    /// After the `-1` that ends a section, on its line or later.
     After(bool),
-    /// In a token behind that, which may be one more `-1`.
+    /// In a token after that, which may be one more `-1`.
     MinusOne(bool),
 }
 
@@ -45,7 +45,7 @@ pub enum Went {
     Begin,
 }
 
-/// What stands behind a token.
+/// What comes after a token.
 #[derive(Clone, Copy, PartialEq, Eq)]
 pub enum Ended {
     Done,
@@ -71,7 +71,9 @@ impl<F: Form> PieceReader<F> {
     ghost use Rattle.tk_words.specs.declared.text_reader.Step.TheVariants as steps;
     ghost use Rattle.tk_words.specs.declared.keyword.Keyword.{Keyword};
     ghost use Rattle.tk_words.specs.Drive.{IsTold};
-    ghost use Rattle.tk_lines.specs.Reader.{HasFed, HasWent, DecidesIf, Next, Within, this, no_word, a_line_end, a_gap, IsToken, IsIn, HeaderTaken, HasEnded};
+    ghost use Rattle.tk_lines.specs.Reader.{HasFed, HasWent, DecidesIf, Next, Within, this, no_word, a_line_end};
+    ghost use Rattle.tk_lines.specs.Reader.{a_gap, IsToken, IsIn, HeaderTaken, HasEnded};
+    ghost use Rattle.tk_lines.specs.Feeding.{IsFed, TakesByte, RefusesByte, CompletesByte};
     ghost use Rattle.tk_words.specs.Lex.{IsRun};
 
     /// A reader of a whole text, for a form that has taken no piece.
@@ -102,11 +104,9 @@ impl<F: Form> PieceReader<F> {
     fn feed_start(&mut self, byte: u8) -> Result<Step, TextFault>
         requires place { self.old.place ≡ places.Start }
         requires room { self.old.line ≤ 2 ^ 63 }
-        requires known { (bs : List ℕ) × Fed F.format F.holds F.wants (this byte) self.old bs }
-        ensures more { (bs : List ℕ) → Fed F.format F.holds F.wants (this byte) self.old bs
-            → IfOk result (HasFed F.format anything (Fed F.format F.holds F.wants anything self.new) (F.held self.new.form) (bs ++ byte ∷ [])) }
-        ensures err { (bs : List ℕ) → Fed F.format F.holds F.wants (this byte) self.old bs
-            → IfErr result (IsTold ⊥ (DecidesIf F.format anything (bs ++ byte ∷ []))) }
+        requires known { IsFed F.format F.holds F.wants (this byte) self.old }
+        ensures more { TakesByte F.format F.holds F.wants F.held (this byte) self.old self.new byte result }
+        ensures err { RefusesByte F.format F.holds F.wants (this byte) self.old byte result }
         ensures goes { result ≡ Ok steps.Done → ⊥ }
     {
         if byte == b'\n' {
@@ -130,7 +130,8 @@ impl<F: Form> PieceReader<F> {
         requires place { self.old.place ≡ places.Word }
         ensures went { (next : Next) (bs : List ℕ) → Within next no_word
             → Fed F.format F.holds F.wants next self.old bs
-            → IfOk result (HasWent F.format next (Fed F.format F.holds F.wants next self.new) self.new.place (F.held self.new.form) bs) }
+            → IfOk result (HasWent F.format next (Fed F.format F.holds F.wants next self.new) self.new.place
+            (F.held self.new.form) bs) }
         ensures line { self.new.line ≡ self.old.line }
         ensures err { (next : Next) (bs : List ℕ) → Within next no_word
             → Fed F.format F.holds F.wants next self.old bs → IfErr result (IsTold ⊥ (DecidesIf F.format next bs)) }
@@ -185,11 +186,9 @@ impl<F: Form> PieceReader<F> {
     fn feed_value(&mut self, byte: u8, word: Keyword) -> Result<Step, TextFault>
         requires place { self.old.place ≡ places.Value word }
         requires room { self.old.line ≤ 2 ^ 63 }
-        requires known { (bs : List ℕ) × Fed F.format F.holds F.wants (this byte) self.old bs }
-        ensures more { (bs : List ℕ) → Fed F.format F.holds F.wants (this byte) self.old bs
-            → IfOk result (HasFed F.format anything (Fed F.format F.holds F.wants anything self.new) (F.held self.new.form) (bs ++ byte ∷ [])) }
-        ensures err { (bs : List ℕ) → Fed F.format F.holds F.wants (this byte) self.old bs
-            → IfErr result (IsTold ⊥ (DecidesIf F.format anything (bs ++ byte ∷ []))) }
+        requires known { IsFed F.format F.holds F.wants (this byte) self.old }
+        ensures more { TakesByte F.format F.holds F.wants F.held (this byte) self.old self.new byte result }
+        ensures err { RefusesByte F.format F.holds F.wants (this byte) self.old byte result }
         ensures goes { result ≡ Ok steps.Done → ⊥ }
     {
         if byte == b'\n' {
@@ -208,11 +207,9 @@ impl<F: Form> PieceReader<F> {
     fn feed_gap(&mut self, byte: u8) -> Result<Step, TextFault>
         requires place { self.old.place ≡ places.Gap }
         requires room { self.old.line ≤ 2 ^ 63 }
-        requires known { (bs : List ℕ) × Fed F.format F.holds F.wants (this byte) self.old bs }
-        ensures more { (bs : List ℕ) → Fed F.format F.holds F.wants (this byte) self.old bs
-            → IfOk result (HasFed F.format anything (Fed F.format F.holds F.wants anything self.new) (F.held self.new.form) (bs ++ byte ∷ [])) }
-        ensures err { (bs : List ℕ) → Fed F.format F.holds F.wants (this byte) self.old bs
-            → IfErr result (IsTold ⊥ (DecidesIf F.format anything (bs ++ byte ∷ []))) }
+        requires known { IsFed F.format F.holds F.wants (this byte) self.old }
+        ensures more { TakesByte F.format F.holds F.wants F.held (this byte) self.old self.new byte result }
+        ensures err { RefusesByte F.format F.holds F.wants (this byte) self.old byte result }
         ensures goes { result ≡ Ok steps.Done → ⊥ }
     {
         if byte == b'\n' {
@@ -228,15 +225,13 @@ impl<F: Form> PieceReader<F> {
         Ok(Step::More)
     }
 
-    /// Takes a byte behind a section's word.
+    /// Takes a byte after a section's word.
     fn feed_begin(&mut self, byte: u8) -> Result<Step, TextFault>
         requires place { self.old.place ≡ places.Begin }
         requires room { self.old.line ≤ 2 ^ 63 }
-        requires known { (bs : List ℕ) × Fed F.format F.holds F.wants (this byte) self.old bs }
-        ensures more { (bs : List ℕ) → Fed F.format F.holds F.wants (this byte) self.old bs
-            → IfOk result (HasFed F.format anything (Fed F.format F.holds F.wants anything self.new) (F.held self.new.form) (bs ++ byte ∷ [])) }
-        ensures err { (bs : List ℕ) → Fed F.format F.holds F.wants (this byte) self.old bs
-            → IfErr result (IsTold ⊥ (DecidesIf F.format anything (bs ++ byte ∷ []))) }
+        requires known { IsFed F.format F.holds F.wants (this byte) self.old }
+        ensures more { TakesByte F.format F.holds F.wants F.held (this byte) self.old self.new byte result }
+        ensures err { RefusesByte F.format F.holds F.wants (this byte) self.old byte result }
         ensures goes { result ≡ Ok steps.Done → ⊥ }
     {
         if blank(byte) {
@@ -253,13 +248,10 @@ impl<F: Form> PieceReader<F> {
     fn feed_word(&mut self, byte: u8) -> Result<Step, TextFault>
         requires place { self.old.place ≡ places.Word }
         requires room { self.old.line ≤ 2 ^ 63 }
-        requires known { (bs : List ℕ) × Fed F.format F.holds F.wants (this byte) self.old bs }
-        ensures more { (bs : List ℕ) → Fed F.format F.holds F.wants (this byte) self.old bs
-            → IfOk result (HasFed F.format anything (Fed F.format F.holds F.wants anything self.new) (F.held self.new.form) (bs ++ byte ∷ [])) }
-        ensures err { (bs : List ℕ) → Fed F.format F.holds F.wants (this byte) self.old bs
-            → IfErr result (IsTold ⊥ (DecidesIf F.format anything (bs ++ byte ∷ []))) }
-        ensures complete { (bs : List ℕ) → Fed F.format F.holds F.wants (this byte) self.old bs
-            → result ≡ Ok steps.Done → F.complete self.new.form }
+        requires known { IsFed F.format F.holds F.wants (this byte) self.old }
+        ensures more { TakesByte F.format F.holds F.wants F.held (this byte) self.old self.new byte result }
+        ensures err { RefusesByte F.format F.holds F.wants (this byte) self.old byte result }
+        ensures complete { CompletesByte F.format F.holds F.wants F.complete (this byte) self.old self.new result }
     {
         if word_byte(byte) {
             if self.held.is_full() {
@@ -275,15 +267,13 @@ impl<F: Form> PieceReader<F> {
         }
     }
 
-    /// Takes a byte behind a section's last token.
+    /// Takes a byte after a section's last token.
     fn feed_close(&mut self, byte: u8) -> Result<Step, TextFault>
         requires place { self.old.place ≡ places.Close }
         requires room { self.old.line ≤ 2 ^ 63 }
-        requires known { (bs : List ℕ) × Fed F.format F.holds F.wants (this byte) self.old bs }
-        ensures more { (bs : List ℕ) → Fed F.format F.holds F.wants (this byte) self.old bs
-            → IfOk result (HasFed F.format anything (Fed F.format F.holds F.wants anything self.new) (F.held self.new.form) (bs ++ byte ∷ [])) }
-        ensures err { (bs : List ℕ) → Fed F.format F.holds F.wants (this byte) self.old bs
-            → IfErr result (IsTold ⊥ (DecidesIf F.format anything (bs ++ byte ∷ []))) }
+        requires known { IsFed F.format F.holds F.wants (this byte) self.old }
+        ensures more { TakesByte F.format F.holds F.wants F.held (this byte) self.old self.new byte result }
+        ensures err { RefusesByte F.format F.holds F.wants (this byte) self.old byte result }
         ensures goes { result ≡ Ok steps.Done → ⊥ }
     {
         if byte == b'\n' {
@@ -304,7 +294,8 @@ impl<F: Form> PieceReader<F> {
         ensures line { self.new.line ≡ self.old.line }
         ensures ended { (next : Next) (bs : List ℕ) → Within next a_gap → IsRun token.now
             → IsIn F.format F.wants next self.old token.now bs
-            → IfOk result (HasEnded F.format next (Fed F.format F.holds F.wants next self.new) self.new.place (F.held self.new.form) bs) }
+            → IfOk result (HasEnded F.format next (Fed F.format F.holds F.wants next self.new) self.new.place
+            (F.held self.new.form) bs) }
         ensures err { (next : Next) (bs : List ℕ) → Within next a_gap → IsRun token.now
             → IsIn F.format F.wants next self.old token.now bs
             → IfErr result (IsTold ⊥ (DecidesIf F.format next bs)) }
@@ -339,7 +330,8 @@ impl<F: Form> PieceReader<F> {
         ensures line { self.new.line ≡ self.old.line }
         ensures ended { (next : Next) (bs : List ℕ) → Within next a_gap
             → Fed F.format F.holds F.wants next self.old bs
-            → IfOk result (HasEnded F.format next (Fed F.format F.holds F.wants next self.new) self.new.place (F.held self.new.form) bs) }
+            → IfOk result (HasEnded F.format next (Fed F.format F.holds F.wants next self.new) self.new.place
+            (F.held self.new.form) bs) }
         ensures err { (next : Next) (bs : List ℕ) → Within next a_gap → Fed F.format F.holds F.wants next self.old bs
             → IfErr result (IsTold ⊥ (DecidesIf F.format next bs)) }
         ensures complete { (next : Next) (bs : List ℕ) → Fed F.format F.holds F.wants next self.old bs
@@ -349,15 +341,13 @@ impl<F: Form> PieceReader<F> {
         self.take_token(token.as_slice())
     }
 
-    /// Takes a byte behind the `-1` that ends a section.
+    /// Takes a byte after the `-1` that ends a section.
     fn feed_after(&mut self, byte: u8, on_line: bool) -> Result<Step, TextFault>
         requires place { self.old.place ≡ places.After on_line }
         requires room { self.old.line ≤ 2 ^ 63 }
-        requires known { (bs : List ℕ) × Fed F.format F.holds F.wants (this byte) self.old bs }
-        ensures more { (bs : List ℕ) → Fed F.format F.holds F.wants (this byte) self.old bs
-            → IfOk result (HasFed F.format anything (Fed F.format F.holds F.wants anything self.new) (F.held self.new.form) (bs ++ byte ∷ [])) }
-        ensures err { (bs : List ℕ) → Fed F.format F.holds F.wants (this byte) self.old bs
-            → IfErr result (IsTold ⊥ (DecidesIf F.format anything (bs ++ byte ∷ []))) }
+        requires known { IsFed F.format F.holds F.wants (this byte) self.old }
+        ensures more { TakesByte F.format F.holds F.wants F.held (this byte) self.old self.new byte result }
+        ensures err { RefusesByte F.format F.holds F.wants (this byte) self.old byte result }
         ensures goes { result ≡ Ok steps.Done → ⊥ }
     {
         if byte == b'\n' {
@@ -386,7 +376,7 @@ impl<F: Form> PieceReader<F> {
         Ok(Step::More)
     }
 
-    /// Takes a whole token of a section, and the byte behind it.
+    /// Takes a whole token of a section, and the byte after it.
     #[inline(always)]
     pub fn feed_whole(&mut self, token: &[u8], byte: u8) -> Result<Step, TextFault>
         requires run { IsToken token.now }
@@ -394,7 +384,8 @@ impl<F: Form> PieceReader<F> {
         requires room { self.old.line ≤ 2 ^ 63 }
         requires known { (bs : List ℕ) × IsIn F.format F.wants (this byte) self.old token.now bs }
         ensures more { (bs : List ℕ) → IsIn F.format F.wants (this byte) self.old token.now bs
-            → IfOk result (HasFed F.format anything (Fed F.format F.holds F.wants anything self.new) (F.held self.new.form) (bs ++ byte ∷ [])) }
+            → IfOk result (HasFed F.format anything (Fed F.format F.holds F.wants anything self.new)
+            (F.held self.new.form) (bs ++ byte ∷ [])) }
         ensures err { (bs : List ℕ) → IsIn F.format F.wants (this byte) self.old token.now bs
             → IfErr result (IsTold ⊥ (DecidesIf F.format anything (bs ++ byte ∷ []))) }
         ensures complete { (bs : List ℕ) → IsIn F.format F.wants (this byte) self.old token.now bs
@@ -412,13 +403,10 @@ impl<F: Form> PieceReader<F> {
     fn feed_token(&mut self, byte: u8) -> Result<Step, TextFault>
         requires place { self.old.place ≡ places.Token }
         requires room { self.old.line ≤ 2 ^ 63 }
-        requires known { (bs : List ℕ) × Fed F.format F.holds F.wants (this byte) self.old bs }
-        ensures more { (bs : List ℕ) → Fed F.format F.holds F.wants (this byte) self.old bs
-            → IfOk result (HasFed F.format anything (Fed F.format F.holds F.wants anything self.new) (F.held self.new.form) (bs ++ byte ∷ [])) }
-        ensures err { (bs : List ℕ) → Fed F.format F.holds F.wants (this byte) self.old bs
-            → IfErr result (IsTold ⊥ (DecidesIf F.format anything (bs ++ byte ∷ []))) }
-        ensures complete { (bs : List ℕ) → Fed F.format F.holds F.wants (this byte) self.old bs
-            → result ≡ Ok steps.Done → F.complete self.new.form }
+        requires known { IsFed F.format F.holds F.wants (this byte) self.old }
+        ensures more { TakesByte F.format F.holds F.wants F.held (this byte) self.old self.new byte result }
+        ensures err { RefusesByte F.format F.holds F.wants (this byte) self.old byte result }
+        ensures complete { CompletesByte F.format F.holds F.wants F.complete (this byte) self.old self.new result }
     {
         if !blank_or_end(byte) {
             if self.held.is_full() {
@@ -431,7 +419,7 @@ impl<F: Form> PieceReader<F> {
         self.feed_whole(token.as_slice(), byte)
     }
 
-    /// Ends a token behind the `-1` that ends a section.
+    /// Ends a token after the `-1` that ends a section.
     pub fn end_minus_one(&mut self, on_line: bool) -> Result<(), TextFault>
         requires place { self.old.place ≡ places.MinusOne on_line }
         ensures line { self.new.line ≡ self.old.line }
@@ -449,15 +437,13 @@ impl<F: Form> PieceReader<F> {
         Err(self.fault(TextKind::TrailingData))
     }
 
-    /// Takes a byte of a token behind the `-1` that ends a section.
+    /// Takes a byte of a token after the `-1` that ends a section.
     fn feed_minus_one(&mut self, byte: u8, on_line: bool) -> Result<Step, TextFault>
         requires place { self.old.place ≡ places.MinusOne on_line }
         requires room { self.old.line ≤ 2 ^ 63 }
-        requires known { (bs : List ℕ) × Fed F.format F.holds F.wants (this byte) self.old bs }
-        ensures more { (bs : List ℕ) → Fed F.format F.holds F.wants (this byte) self.old bs
-            → IfOk result (HasFed F.format anything (Fed F.format F.holds F.wants anything self.new) (F.held self.new.form) (bs ++ byte ∷ [])) }
-        ensures err { (bs : List ℕ) → Fed F.format F.holds F.wants (this byte) self.old bs
-            → IfErr result (IsTold ⊥ (DecidesIf F.format anything (bs ++ byte ∷ []))) }
+        requires known { IsFed F.format F.holds F.wants (this byte) self.old }
+        ensures more { TakesByte F.format F.holds F.wants F.held (this byte) self.old self.new byte result }
+        ensures err { RefusesByte F.format F.holds F.wants (this byte) self.old byte result }
         ensures goes { result ≡ Ok steps.Done → ⊥ }
     {
         if !blank_or_end(byte) {
@@ -474,13 +460,10 @@ impl<F: Form> PieceReader<F> {
     /// Takes a byte, wherever it stands.
     pub fn feed_byte(&mut self, byte: u8) -> Result<Step, TextFault>
         requires room { self.old.line ≤ 2 ^ 63 }
-        requires known { (bs : List ℕ) × Fed F.format F.holds F.wants anything self.old bs }
-        ensures more { (bs : List ℕ) → Fed F.format F.holds F.wants anything self.old bs
-            → IfOk result (HasFed F.format anything (Fed F.format F.holds F.wants anything self.new) (F.held self.new.form) (bs ++ byte ∷ [])) }
-        ensures err { (bs : List ℕ) → Fed F.format F.holds F.wants anything self.old bs
-            → IfErr result (IsTold ⊥ (DecidesIf F.format anything (bs ++ byte ∷ []))) }
-        ensures complete { (bs : List ℕ) → Fed F.format F.holds F.wants anything self.old bs → result ≡ Ok steps.Done
-            → F.complete self.new.form }
+        requires known { IsFed F.format F.holds F.wants anything self.old }
+        ensures more { TakesByte F.format F.holds F.wants F.held anything self.old self.new byte result }
+        ensures err { RefusesByte F.format F.holds F.wants anything self.old byte result }
+        ensures complete { CompletesByte F.format F.holds F.wants F.complete anything self.old self.new result }
     {
         match self.place {
             Place::Start => self.feed_start(byte),

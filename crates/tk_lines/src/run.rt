@@ -10,13 +10,14 @@ use crate::reader::{PieceReader, Place};
 use tk_words::{Run, Step, TextFault, token_length};
 
 impl<F: Form> PieceReader<F> {
-    /// Takes the tokens of a section that stand whole in the bytes, each with the byte behind it, up to two blanks or
+    /// Takes the tokens of a section that stand whole in the bytes, each with the byte after it, up to two blanks or
     /// what is no such token.
     pub fn feed_tokens(&mut self, bytes: &[u8]) -> Result<Run, TextFault>
         requires { (bs : List ℕ) × Fed F.format F.holds F.wants anything self.old bs
             × (length bs + length bytes.now < 2 ^ 63) }
         ensures more { (bs : List ℕ) → Fed F.format F.holds F.wants anything self.old bs
-            → IfOk result (HasRun (decided_by F.format) (Fed F.format F.holds F.wants anything self.new) (F.held self.new.form) bs bytes.now) }
+            → IfOk result (HasRun (decided_by F.format) (Fed F.format F.holds F.wants anything self.new)
+            (F.held self.new.form) bs bytes.now) }
         ensures err { (bs : List ℕ) → Fed F.format F.holds F.wants anything self.old bs
             → IfErr result (IsToldWithin (decided_by F.format) bs bytes.now) }
         ensures complete { (bs : List ℕ) → Fed F.format F.holds F.wants anything self.old bs → result ≡ Ok runs.Whole

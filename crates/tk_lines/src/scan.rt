@@ -18,7 +18,8 @@ pub enum Phase {
     Rest,
 }
 
-/// What is kept of a header's value: its first word up to 64 bytes, its first 1,024 bytes, and its length without outer blanks.
+/// What is kept of a header's value: its first word up to 64 bytes, its first 1,024 bytes, and its length without outer
+/// blanks.
 #[derive(Drop)]
 pub struct Scan {
     pub phase: Phase,
@@ -141,7 +142,13 @@ impl Scan {
 
     fn begin(&mut self, byte: u8)
         requires { (self.old.first ≡ []) × (self.old.text ≡ []) }
-        ensures { self.new ≡ record self.old { phase = phases.First; first = byte ∷ []; text = byte ∷ []; seen = 1; trimmed = 1 } }
+        ensures { self.new ≡ record self.old {
+          phase = phases.First;
+          first = byte ∷ [];
+          text = byte ∷ [];
+          seen = 1;
+          trimmed = 1;
+        } }
     {
         self.phase = Phase::First;
         self.seen = 1;

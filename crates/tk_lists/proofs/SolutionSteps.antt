@@ -25,7 +25,7 @@ pub stops_same : (before : List SolutionLine) (n b : ℕ) (g h : List ℕ → Bo
 stops_same before n b g h k same stops bs w = rw (same bs w) (stops bs w)
 
 module _ (before : List SolutionLine) (n b : ℕ) (held : List ℕ) (toks : List Token) where
-  -- a blank behind a token
+  -- a blank after a token
   split : is_blank b ≡ true → IsToken held → (bs : List ℕ) (w : Bool) → toks ++ tokens_of w n (held ++ b ∷ bs) ≡ (toks ++ whole held n ∷ []) ++ tokens_of w n bs
   split blank token bs w = ap (λ (ts : List Token). toks ++ ts) (tokens_of-run w n held b bs token.0 blank) ∙ sym (append_assoc toks (whole held n ∷ []) (tokens_of w n bs))
 

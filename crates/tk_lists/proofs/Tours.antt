@@ -137,7 +137,7 @@ module _ (s s' : TourForm) (before : List Piece) (word : Keyword) (n : ℕ) (tok
   section_seen : (ps : List Piece) → IsSeen s'.seen before → has words.Name ps ≡ false → has words.Type ps ≡ false → has words.Dimension ps ≡ false → IsSeen s'.seen (before ++ ps)
   section_seen ps h a b c = record { name = has-kept words.Name before ps a ∙ h.name; kind = has-kept words.Type before ps b ∙ h.kind; dimension = has-kept words.Dimension before ps c ∙ h.dimension }
 
-  -- behind the section
+  -- after the section
   holds_section : (ts : List Token) (after : After) → s'.cities.items ≡ numbers_of (entries ts) → TourHolds s' (before ++ a_section words.TourSection n ts after)
   holds_section ts after cities = record {
     seen = section_seen (a_section words.TourSection n ts after) still_seen refl refl refl;

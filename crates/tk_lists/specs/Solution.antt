@@ -12,7 +12,7 @@ use Rattle.tk_words.specs.Entry.{in_range, numbers_of}
 
 -- ---- the head of a Route line
 
--- it is cut short; it is of another form; or these bytes stand behind its colon
+-- it is cut short; it is of another form; or these bytes come after its colon
 pub data Head : Type 0 where
   Short : Head
   Bad : Head
@@ -44,7 +44,7 @@ is_hash b = b == 35
 abbrev pub number_head : List ℕ → Head
 number_head bs = digits_head 0 (without_first is_sign (behind is_blank bs))
 
--- the same behind blanks and an optional #
+-- the same after blanks and an optional #
 abbrev pub route_head : List ℕ → Head
 route_head bs = number_head (without_first is_hash (behind is_blank bs))
 
@@ -60,7 +60,7 @@ pub data SolutionLine : Type 0 where
   ShortRoute : SolutionLine
   BadRoute : SolutionLine
   Route : (customers : List Token) → SolutionLine
-  -- what stands behind Cost
+  -- what comes after Cost
   Cost : (tokens : List Token) → SolutionLine
 
 abbrev pub route_line : ℕ → Bool → Head → SolutionLine
@@ -75,7 +75,7 @@ begins bs text = spells bs (take (length bs) text)
 abbrev pub may_be_word : List ℕ → Bool
 may_be_word bs = begins bs (codes "ROUTE") || begins bs (codes "COST")
 
--- a line by its word and what stands behind it
+-- a line by its word and what comes after it
 abbrev pub by_word : ℕ → Bool → List ℕ → List ℕ → SolutionLine
 by_word n whole word tail =
     if spells word (codes "ROUTE") then route_line n whole (route_head tail)
@@ -144,7 +144,8 @@ solution_of ls = (routes_of ls, cost_of ls)
 -- what stops at a customer, of which k stand before it
 abbrev pub customer_stop : ℕ → Token → Option Stop
 customer_stop k t =
-    checked 64 t ((is_none (integer t.bytes), kinds.BadNumber) ∷ (not (in_range 0 4294967295 (integer t.bytes)) || nat_le 1000000 k, kinds.OutOfLimit) ∷ [])
+    checked 64 t ((is_none (integer t.bytes), kinds.BadNumber)
+    ∷ (not (in_range 0 4294967295 (integer t.bytes)) || nat_le 1000000 k, kinds.OutOfLimit) ∷ [])
 
 abbrev pub customers_stop : ℕ → List Token → Option Stop
 customers_stop k [] = None
@@ -165,11 +166,13 @@ cut_short n whole = if whole then Some (Fault n kinds.BadNumber) else Some Open
 abbrev pub cost_stop : ℕ → Bool → List Token → Option Stop
 cost_stop n whole [] = cut_short n whole
 cost_stop n whole (t ∷ ts) =
-    or_else (checked 64 t ((is_none (integer t.bytes), kinds.BadNumber) ∷ (not (is_natural (integer t.bytes)), kinds.OutOfLimit) ∷ [])) (trailing_stop n ts)
+    or_else (checked 64 t ((is_none (integer t.bytes), kinds.BadNumber)
+    ∷ (not (is_natural (integer t.bytes)), kinds.OutOfLimit) ∷ [])) (trailing_stop n ts)
 
 -- the tests of a Route line's word, and of Cost
 abbrev pub route_tests : List SolutionLine → List (Bool × TextKind)
-route_tests before = (has_cost before, kinds.TrailingData) ∷ (nat_le 100000 (length (routes_of before)), kinds.OutOfLimit) ∷ []
+route_tests before =
+    (has_cost before, kinds.TrailingData) ∷ (nat_le 100000 (length (routes_of before)), kinds.OutOfLimit) ∷ []
 
 abbrev pub cost_tests : List SolutionLine → List (Bool × TextKind)
 cost_tests before = (has_cost before, kinds.TrailingData) ∷ []
@@ -184,16 +187,18 @@ line_stop before n whole Unsure = Some Open
 line_stop before n whole Other = first_at n (other_tests before)
 line_stop before n whole ShortRoute = or_else (first_at n (route_tests before)) (cut_short n whole)
 line_stop before n whole BadRoute = or_else (first_at n (route_tests before)) (Some (Fault n kinds.BadNumber))
-line_stop before n whole (Route toks) = or_else (first_at n (route_tests before)) (customers_stop (count_of before) toks)
+line_stop before n whole (Route toks) =
+    or_else (first_at n (route_tests before)) (customers_stop (count_of before) toks)
 line_stop before n whole (Cost toks) = or_else (first_at n (cost_tests before)) (cost_stop n whole toks)
 
 -- at the end of line n, of which whole says that it ends the text
 abbrev pub at_end : List SolutionLine → ℕ → Bool → Option (Result Solution TextFault)
 at_end before n whole =
     if not whole then None
-    else (if has_cost before then Some (Ok (solution_of before)) else Some (Err (record { line = n; kind = kinds.Missing words.Cost })))
+    else (if has_cost before then Some (Ok (solution_of before))
+    else Some (Err (record { line = n; kind = kinds.Missing words.Cost })))
 
--- what the lines say behind these, of which line n is the last
+-- what the lines say after these, of which line n is the last
 unfoldable pub judge_lines : List SolutionLine → ℕ → Bool → List Line → Option (Result Solution TextFault)
 judge_lines before n whole [] = at_end before n whole
 judge_lines before n whole (l ∷ ls) =

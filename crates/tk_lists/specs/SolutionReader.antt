@@ -23,7 +23,7 @@ use Rattle.tk_lists.specs.Solution.{Solution, Head, Bad, Behind, colon_head, dig
 
 -- ---- the head of a Route line
 
--- what the bytes behind a place make of the head
+-- what the bytes after a place make of the head
 abbrev pub head_from : HeadPlace → List ℕ → Head
 head_from heads.Word bs = route_head bs
 head_from heads.Number bs = number_head bs
@@ -41,7 +41,7 @@ HasStepped p b steps.Bad = (bs : List ℕ) → head_from p (b ∷ bs) ≡ Bad
 
 -- ---- what is kept
 
--- of these lines, and of these customers on the line behind them
+-- of these lines, and of these customers on the line after them
 pub record Keeps (s : SolutionForm) (before : List SolutionLine) (toks : List Token) : Type 0 where
   pub routes : map (λ r. r.items) s.routes.items ≡ routes_of before
   pub route : s.route.items ≡ numbers_of toks
@@ -51,7 +51,7 @@ pub record Keeps (s : SolutionForm) (before : List SolutionLine) (toks : List To
 
 -- ---- on a line
 
--- a line, by what stands behind a place on it
+-- a line, by what comes after a place on it
 abbrev pub line_from : ℕ → List ℕ → List Token → LinePlace → List ℕ → Bool → SolutionLine
 line_from n held toks places.Start bs whole = line_of n whole bs
 line_from n held toks places.Word bs whole = solid_line n whole (held ++ bs)
@@ -77,7 +77,7 @@ IsFront bs = (behind is_word_byte bs ≡ []) × (may_be_word bs ≡ true)
 abbrev pub IsLineWord : List ℕ → Type 0
 IsLineWord bs = (0 < length bs) × IsFront bs
 
--- a Route line may stand behind these lines, with these customers
+-- a Route line may come after these lines, with these customers
 pub record IsRoute (before : List SolutionLine) (toks : List Token) : Type 0 where
   pub priced : has_cost before ≡ false
   pub may : (n : ℕ) → first_at n (route_tests before) ≡ None
@@ -88,7 +88,8 @@ pub record IsPriced (s : SolutionForm) (before : List SolutionLine) (n : ℕ) (t
   pub price : Token
   pub is : toks ≡ price ∷ []
   pub fine : (whole : Bool) → cost_stop n whole toks ≡ None
-  pub trailing : (whole : Bool) (t : Token) (ts : List Token) → cost_stop n whole (toks ++ t ∷ ts) ≡ Some (Fault n kinds.TrailingData)
+  pub trailing : (whole : Bool) (t : Token) (ts : List Token) →
+      cost_stop n whole (toks ++ t ∷ ts) ≡ Some (Fault n kinds.TrailingData)
   pub priced : has_cost before ≡ false
   pub keeps : Keeps s (before ++ Cost toks ∷ []) []
 
@@ -104,7 +105,7 @@ IsAt s before held n toks places.Price = (toks ≡ []) × Keeps s before [] × (
 IsAt s before held n toks places.Digits = (toks ≡ []) × Keeps s before [] × (has_cost before ≡ false) × IsToken held
 IsAt s before held n toks places.Close = IsPriced s before n toks
 
--- the reader stands on a line behind these lines
+-- the reader stands on a line after these lines
 abbrev pub Stands : SolutionReader → List SolutionLine → List Token → Type 0
 Stands s before toks = IsAt s.form before s.held s.line toks s.place
 
@@ -113,7 +114,8 @@ abbrev pub rest_of : SolutionReader → List Token → List ℕ → Bool → Sol
 rest_of s toks = line_from s.line s.held toks s.place
 
 -- a byte has brought it on
-pub record Went (before : List SolutionLine) (b : ℕ) (g : List ℕ → Bool → SolutionLine) (s : SolutionReader) : Type 0 where
+pub record Went (before : List SolutionLine) (b : ℕ) (g : List ℕ → Bool → SolutionLine)
+    (s : SolutionReader) : Type 0 where
   pub toks : List Token
   pub stands : Stands s before toks
   pub same : (bs : List ℕ) (whole : Bool) → g (b ∷ bs) whole ≡ rest_of s toks bs whole
@@ -130,7 +132,8 @@ pub record HasEnded (before : List SolutionLine) (n : ℕ) (here : SolutionLine)
 -- ---- in the text
 
 -- what lines say, of which the first is told by what is left of it
-unfoldable pub from : List SolutionLine → (List ℕ → Bool → SolutionLine) → List Line → Option (Result Solution TextFault)
+unfoldable pub from : List SolutionLine → (List ℕ → Bool → SolutionLine) → List Line →
+    Option (Result Solution TextFault)
 from before g [] = None
 from before g (l ∷ ls) =
     let here = g l.bytes l.whole in
@@ -142,4 +145,5 @@ pub record Fed (s : SolutionReader) (bs : List ℕ) : Type 0 where
   pub before : List SolutionLine
   pub toks : List Token
   pub stands : Stands s before toks
-  pub same : (ended : Bool) (more : List ℕ) → solution_decided ended (bs ++ more) ≡ from before (rest_of s toks) (lines ended s.line more)
+  pub same : (ended : Bool) (more : List ℕ) →
+      solution_decided ended (bs ++ more) ≡ from before (rest_of s toks) (lines ended s.line more)

@@ -19,7 +19,8 @@ tour_extent before _ toks = record { count = 0; closed = true; at_eof = false }
 -- what stops at an entry, of which k stand before it
 unfoldable pub entry_stop : ℕ → Token → Option Stop
 entry_stop k t =
-    checked 64 t ((is_keyword t.bytes, kinds.Truncated) ∷ (is_none (integer t.bytes), kinds.BadNumber) ∷ (not (in_range 0 4294967295 (integer t.bytes)) || nat_le 1000000 k, kinds.OutOfLimit) ∷ [])
+    checked 64 t ((is_keyword t.bytes, kinds.Truncated) ∷ (is_none (integer t.bytes), kinds.BadNumber)
+    ∷ (not (in_range 0 4294967295 (integer t.bytes)) || nat_le 1000000 k, kinds.OutOfLimit) ∷ [])
 
 -- the first stop among the entries
 unfoldable pub entries_stop : ℕ → List Token → Option Stop
@@ -28,13 +29,16 @@ entries_stop k (t ∷ ts) = or_else (entry_stop k t) (entries_stop (suc k) ts)
 
 -- the tests of a header, besides its length
 abbrev pub tour_header : List Piece → Keyword → List ℕ → List (Bool × TextKind)
-tour_header before words.Name bs = (nat_lt 1024 (length (trim (after_word bs))), kinds.TooLong) ∷ (has words.Name before, kinds.Repeated) ∷ []
+tour_header before words.Name bs =
+    (nat_lt 1024 (length (trim (after_word bs))), kinds.TooLong) ∷ (has words.Name before, kinds.Repeated) ∷ []
 tour_header before words.Comment bs = []
-tour_header before words.Type bs = (has words.Type before, kinds.Repeated) ∷ (not (spells (first_word bs) (codes "TOUR")), kinds.Unsupported) ∷ []
-tour_header before words.Dimension bs = (has words.Dimension before, kinds.Repeated) ∷ number_tests 1 1000000 (first_word bs)
+tour_header before words.Type bs =
+    (has words.Type before, kinds.Repeated) ∷ (not (spells (first_word bs) (codes "TOUR")), kinds.Unsupported) ∷ []
+tour_header before words.Dimension bs =
+    (has words.Dimension before, kinds.Repeated) ∷ number_tests 1 1000000 (first_word bs)
 tour_header before _ bs = (true, kinds.Unsupported) ∷ []
 
--- what stops at a section: its word, its tokens, and what stands behind its last token on that token's line
+-- what stops at a section: its word, its tokens, and what comes after its last token on that token's line
 abbrev pub tour_section : List Piece → Keyword → ℕ → List Token → After → Option Stop
 tour_section before words.TourSection n toks after =
     or_else (first_at n ((has words.TourSection before, kinds.Repeated) ∷ []))

@@ -30,7 +30,7 @@ pub record TourWants (s : TourForm) (before : List Piece) (word : Keyword) (n : 
   pub fine : entries_stop 0 toks ≡ None
   pub cities : s.cities.items ≡ numbers_of toks
 
--- a number that a list takes next, and one that it doesn't, behind so many
+-- a number that a list takes next, and one that it doesn't, after so many
 pub record IsNext (number : ℤ) (old new : List ℕ) : Type 0 where
   pub city : ℕ
   pub is : number ≡ pos city

@@ -6,13 +6,13 @@ use tk_words::blank;
 /// Where a head goes on.
 #[derive(Clone, Copy, PartialEq, Eq)]
 pub enum HeadPlace {
-    /// Behind the word: a `#` or the number.
+    /// After the word: a `#` or the number.
     Word,
     /// Before the number.
     Number,
-    /// In the number, behind its sign and as many digits.
+    /// In the number, after its sign and as many digits.
     Digits(u8),
-    /// Behind the number.
+    /// After the number.
     Colon,
 }
 
@@ -44,7 +44,7 @@ fn step_in_digits(count: u8, byte: u8) -> HeadStep
     step_behind_number(byte)
 }
 
-/// Takes a byte behind the number.
+/// Takes a byte after the number.
 fn step_behind_number(byte: u8) -> HeadStep
     ensures { HasStepped HeadPlace.Colon byte result }
 {

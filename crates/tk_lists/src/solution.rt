@@ -78,7 +78,8 @@ impl TextReader for SolutionReader {
 /// Reads a solution text. What it answers is what every text says that begins with the bytes that it read, but for
 /// `Read`, where the source fails, and `NoMemory`.
 pub fn read_solution<R: Source>(alloc: Global, source: &mut R) -> Result<SolText, TextFault>
-    ensures ok { IfOk result (λ solution. IsAnswerWhereTold solution_decided text_limit (R.left source.old) (R.left source.new) (Ok (map (λ r. r.items) solution.routes.items, solution.cost))) }
+    ensures ok { IfOk result (λ solution. IsAnswerWhereTold solution_decided text_limit (R.left source.old)
+        (R.left source.new) (Ok (map (λ r. r.items) solution.routes.items, solution.cost))) }
     ensures err { IfErr result (IsTold (R.broken source.new
         ≡ true) (IsAnswerWhereTold solution_decided text_limit (R.left source.old) (R.left source.new))) }
     ensures intact { IsIntact (R.broken source.old) (R.broken source.new) result }

@@ -27,13 +27,13 @@ pub enum LinePlace {
     Gap,
     /// In a customer.
     Customer,
-    /// Behind `Cost`, before its colon.
+    /// After `Cost`, before its colon.
     Colon,
     /// Before the cost.
     Price,
     /// In the cost.
     Digits,
-    /// Behind the cost.
+    /// After the cost.
     Close,
 }
 
@@ -125,7 +125,8 @@ impl SolutionReader {
         ensures ok { (before : List SolutionLine) → Keeps self.old.form before [] → IsRoute before []
             → IfOk result (λ _. Went before byte (line_from self.old.line [] [] (places.Head place)) self.new) }
         ensures err { (before : List SolutionLine) → IsRoute before []
-            → IfErr result (IsToldWord (StopsAt before self.old.line byte (line_from self.old.line [] [] (places.Head place)))) }
+            → IfErr result (IsToldWord (StopsAt before self.old.line byte
+            (line_from self.old.line [] [] (places.Head place)))) }
     {
         self.place = match place.step(byte) {
             HeadStep::At(next) => LinePlace::Head(next),
@@ -148,7 +149,7 @@ impl SolutionReader {
         }
     }
 
-    /// Takes a byte behind `Cost`, before the colon.
+    /// Takes a byte after `Cost`, before the colon.
     fn feed_colon(&mut self, byte: u8)
         ensures line { self.new.line ≡ self.old.line }
         ensures went { (before : List SolutionLine) → Keeps self.old.form before [] → has_cost before ≡ false
@@ -170,7 +171,8 @@ impl SolutionReader {
         ensures ok { (before : List SolutionLine) → Keeps self.old.form before []
             → IfOk result (λ _. Went before byte (line_from self.old.line self.old.held [] places.Word) self.new) }
         ensures err { (before : List SolutionLine) → Keeps self.old.form before []
-            → IfErr result (IsToldWord (StopsAt before self.old.line byte (line_from self.old.line self.old.held [] places.Word))) }
+            → IfErr result (IsToldWord (StopsAt before self.old.line byte
+            (line_from self.old.line self.old.held [] places.Word))) }
     {
         if word_byte(byte) {
             self.held.push(byte);
@@ -200,10 +202,12 @@ impl SolutionReader {
         ensures line { self.new.line ≡ self.old.line }
         ensures ok { (before : List SolutionLine) (toks : List Token)
             → IsAt self.old.form before self.old.held self.old.line toks places.Customer
-            → IfOk result (λ _. Went before byte (line_from self.old.line self.old.held toks places.Customer) self.new) }
+            → IfOk result (λ _. Went before byte (line_from self.old.line self.old.held toks places.Customer)
+            self.new) }
         ensures err { (before : List SolutionLine) (toks : List Token)
             → IsAt self.old.form before self.old.held self.old.line toks places.Customer
-            → IfErr result (IsToldWord (StopsAt before self.old.line byte (line_from self.old.line self.old.held toks places.Customer))) }
+            → IfErr result (IsToldWord (StopsAt before self.old.line byte
+            (line_from self.old.line self.old.held toks places.Customer))) }
     {
         if blank(byte) {
             self.form.take_customer(self.held.as_slice())?;
@@ -227,7 +231,8 @@ impl SolutionReader {
             → IfOk result (λ _. Went before byte (line_from self.old.line self.old.held toks places.Digits) self.new) }
         ensures err { (before : List SolutionLine) (toks : List Token)
             → IsAt self.old.form before self.old.held self.old.line toks places.Digits
-            → IfErr result (IsToldWord (StopsAt before self.old.line byte (line_from self.old.line self.old.held toks places.Digits))) }
+            → IfErr result (IsToldWord (StopsAt before self.old.line byte
+            (line_from self.old.line self.old.held toks places.Digits))) }
     {
         if blank(byte) {
             self.form.take_cost(self.held.as_slice())?;
@@ -293,7 +298,8 @@ impl SolutionReader {
         ensures ok { (before : List SolutionLine) → Keeps self.now.form before []
             → IfOk result (λ _. (solid_line self.now.line true self.now.held ≡ Other) × (has_cost before ≡ true)) }
         ensures err { (before : List SolutionLine) → Keeps self.now.form before []
-            → IfErr result (IsToldWord (λ k. line_stop before self.now.line true (solid_line self.now.line true self.now.held) ≡ Some (Fault self.now.line k))) }
+            → IfErr result (IsToldWord (λ k. line_stop before self.now.line true
+            (solid_line self.now.line true self.now.held) ≡ Some (Fault self.now.line k))) }
     {
         match word_of(self.held.as_slice()) {
             LineWord::Route => self.form.begin_route()?,

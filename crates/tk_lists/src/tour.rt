@@ -195,7 +195,8 @@ impl Form for TourForm {
 /// Reads a tour text. What it answers is what every text says that begins with the bytes that it read, but for
 /// `Read`, where the source fails, and `NoMemory`.
 pub fn read_tour<R: Source>(alloc: Global, source: &mut R) -> Result<TourText, TextFault>
-    ensures ok { IfOk result (λ tour. IsAnswerWhereTold tour_decided text_limit (R.left source.old) (R.left source.new) (Ok tour.cities.items)) }
+    ensures ok { IfOk result (λ tour. IsAnswerWhereTold tour_decided text_limit (R.left source.old) (R.left source.new)
+        (Ok tour.cities.items)) }
     ensures err { IfErr result (IsTold (R.broken source.new
         ≡ true) (IsAnswerWhereTold tour_decided text_limit (R.left source.old) (R.left source.new))) }
     ensures intact { IsIntact (R.broken source.old) (R.broken source.new) result }

@@ -22,14 +22,16 @@ rounded_root-is : (square : ℕ) → IsGreatest (RootReaches square) (rounded_ro
 unfolding rounded_root
 rounded_root-is square =
     last_passing-is (RootReaches square) _ (λ e. Decides-nat_le _ _) (square + 1)
-    (λ e lt h. let more = mul-le 1 (2 * e - 1) (2 * e - 1) (2 * e - 1) (omega arith) (omega arith) in omega (arith, more, h))
+    (λ e lt h. let more = mul-le 1 (2 * e - 1) (2 * e - 1) (2 * e - 1) (omega arith) (omega arith) in
+    omega (arith, more, h))
 
 square-above : (d : ℕ) → d ≤ d * d
 square-above zero = omega arith
 square-above (suc d) = let more = mul-le 1 (suc d) (suc d) (suc d) (omega arith) (omega arith) in omega (arith, more)
 
 covers_by : (parts d s : ℕ) → 1 ≤ parts → d ≤ s → d ≤ parts * (s * (1000000000 * 1000000000))
-covers_by parts d s some le = let more = mul-le 1 (s * (1000000000 * 1000000000)) parts (s * (1000000000 * 1000000000)) some (omega arith) in omega (arith, more)
+covers_by parts d s some le = let more = mul-le 1 (s * (1000000000 * 1000000000)) parts
+    (s * (1000000000 * 1000000000)) some (omega arith) in omega (arith, more)
 
 covers_itself : (parts d : ℕ) → 1 ≤ parts → Covers parts d d
 covers_itself parts d some = covers_by parts d (d * d) some (square-above d)
@@ -80,10 +82,12 @@ square_sum-rises dx dy ex ey x y =
     let b = mul-le dy dy ey ey y y in
     omega (arith, a, b)
 
-rises : (kind : PlaneKind) (dx dy ex ey d e : ℕ) → dx ≤ ex → dy ≤ ey → IsDistance kind dx dy d → IsDistance kind ex ey e → d ≤ e
+rises : (kind : PlaneKind) (dx dy ex ey d e : ℕ) → dx ≤ ex → dy ≤ ey → IsDistance kind dx dy d →
+    IsDistance kind ex ey e → d ≤ e
 rises Euc2d dx dy ex ey d e x y a b =
     let more = square_sum-rises dx dy ex ey x y in
-    greatest-rises (RootReaches (square_sum dx dy)) (RootReaches (square_sum ex ey)) d e (λ k h. omega (arith, h, more)) a b
+    greatest-rises (RootReaches (square_sum dx dy)) (RootReaches (square_sum ex ey)) d e
+    (λ k h. omega (arith, h, more)) a b
 rises Ceil2d dx dy ex ey d e x y a b =
     let more = square_sum-rises dx dy ex ey x y in
     least-rises (Covers 1 (square_sum dx dy)) (Covers 1 (square_sum ex ey)) d e (λ k h. omega (arith, h, more)) a b
@@ -95,7 +99,8 @@ rises Att dx dy ex ey d e x y a b =
     let more = square_sum-rises dx dy ex ey x y in
     least-rises (Covers 10 (square_sum dx dy)) (Covers 10 (square_sum ex ey)) d e (λ k h. omega (arith, h, more)) a b
 
-pub distance_at-rises : (kind : PlaneKind) (dx dy ex ey : ℕ) → dx ≤ ex → dy ≤ ey → distance_at kind dx dy ≤ distance_at kind ex ey
+pub distance_at-rises : (kind : PlaneKind) (dx dy ex ey : ℕ) → dx ≤ ex → dy ≤ ey →
+    distance_at kind dx dy ≤ distance_at kind ex ey
 distance_at-rises kind dx dy ex ey x y =
     rises kind dx dy ex ey _ _ x y (distance_at-is kind dx dy) (distance_at-is kind ex ey)
 
@@ -111,7 +116,8 @@ distance_at-swap Att dx dy = ap (covering_root 10) (add_comm (dx * dx) (dy * dy)
 no_root : IsGreatest (RootReaches (square_sum 0 0)) 0
 no_root = record {
   holds = λ h. absurd (omega arith);
-  greatest = λ e one h. let more = mul-le 1 1 (2 * e - 1) (2 * e - 1) (omega arith) (omega arith) in absurd (omega (arith, more, h));
+  greatest = λ e one h. let more = mul-le 1 1 (2 * e - 1) (2 * e - 1) (omega arith) (omega arith) in
+      absurd (omega (arith, more, h));
 }
 
 -- the distance is 0 where nothing differs
@@ -127,13 +133,15 @@ distance_at-nothing kind = sym (distance-unique kind 0 0 0 (nothing kind))
 
 -- ---- no distance is over 4·10^9
 
-square_sum-far : (dx dy : ℕ) → dx ≤ 2000000000000000000 → dy ≤ 2000000000000000000 → square_sum dx dy ≤ 8000000000000000000000000000000000000
+square_sum-far : (dx dy : ℕ) → dx ≤ 2000000000000000000 → dy ≤ 2000000000000000000 →
+    square_sum dx dy ≤ 8000000000000000000000000000000000000
 square_sum-far dx dy x y =
     let a = mul-le dx dx 2000000000000000000 2000000000000000000 x x in
     let b = mul-le dy dy 2000000000000000000 2000000000000000000 y y in
     omega (arith, a, b)
 
-rounded_root-far : (square d : ℕ) → square ≤ 8000000000000000000000000000000000000 → IsGreatest (RootReaches square) d → d ≤ 4000000000
+rounded_root-far : (square d : ℕ) → square ≤ 8000000000000000000000000000000000000 → IsGreatest (RootReaches square) d →
+    d ≤ 4000000000
 rounded_root-far square d near is = elim (cases_lt 4000000000 d) [
   | inl lt ↦
       let big = mul-le 8000000000 8000000000 (2 * d - 1) (2 * d - 1) (omega arith) (omega arith) in
@@ -148,12 +156,14 @@ below_sum length d near is = elim (cases_lt 4000000000 d) [
   | inr le ↦ le
 ]
 
-pub limit : (kind : PlaneKind) (dx dy d : ℕ) → dx ≤ 2000000000000000000 → dy ≤ 2000000000000000000 → IsDistance kind dx dy d → d ≤ 4000000000
+pub limit : (kind : PlaneKind) (dx dy d : ℕ) → dx ≤ 2000000000000000000 → dy ≤ 2000000000000000000 →
+    IsDistance kind dx dy d → d ≤ 4000000000
 limit Euc2d dx dy d x y is = rounded_root-far (square_sum dx dy) d (square_sum-far dx dy x y) is
 limit Ceil2d dx dy d x y is = is.least 4000000000 (omega (arith, square_sum-far dx dy x y))
 limit Man2d dx dy d x y is = below_sum (dx + dy) d (omega arith) is
 limit Max2d dx dy d x y is = below_sum (max dx dy) d (omega arith) is
 limit Att dx dy d x y is = is.least 4000000000 (omega (arith, square_sum-far dx dy x y))
 
-pub distance_at-limit : (kind : PlaneKind) (dx dy : ℕ) → dx ≤ 2000000000000000000 → dy ≤ 2000000000000000000 → distance_at kind dx dy ≤ 4000000000
+pub distance_at-limit : (kind : PlaneKind) (dx dy : ℕ) → dx ≤ 2000000000000000000 → dy ≤ 2000000000000000000 →
+    distance_at kind dx dy ≤ 4000000000
 distance_at-limit kind dx dy x y = limit kind dx dy _ x y (distance_at-is kind dx dy)

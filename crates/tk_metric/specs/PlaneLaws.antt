@@ -19,7 +19,8 @@ gap-swap x y = omega (arith, ints)
 gap-same : (x : ℤ) → gap x x ≡ 0
 gap-same x = omega (arith, ints)
 
-gap-limit : (x y : ℤ) → unsigned_abs x ≤ 1000000000000000000 → unsigned_abs y ≤ 1000000000000000000 → gap x y ≤ 2000000000000000000
+gap-limit : (x y : ℤ) → unsigned_abs x ≤ 1000000000000000000 → unsigned_abs y ≤ 1000000000000000000 →
+    gap x y ≤ 2000000000000000000
 gap-limit x y a b = omega (arith, ints)
 
 -- whole numbers in units of 10^-9
@@ -41,19 +42,22 @@ city_place-near places near c = elim (cases_lt (c - 1) (length places)) [
   | inr le ↦ subst IsNearOrigin (sym (get_or_past places (c - 1) origin le)) origin-near
 ]
 
-pub city_gap-limit : (places : List Point) → All IsNearOrigin places → (a b : ℕ) → gap (city_place places a).x (city_place places b).x ≤ 2000000000000000000
+pub city_gap-limit : (places : List Point) → All IsNearOrigin places → (a b : ℕ) →
+    gap (city_place places a).x (city_place places b).x ≤ 2000000000000000000
 city_gap-limit places near a b =
     let p = city_place-near places near a in
     let q = city_place-near places near b in
     gap-limit (city_place places a).x (city_place places b).x p.x q.x
 
-pub city_gap_y-limit : (places : List Point) → All IsNearOrigin places → (a b : ℕ) → gap (city_place places a).y (city_place places b).y ≤ 2000000000000000000
+pub city_gap_y-limit : (places : List Point) → All IsNearOrigin places → (a b : ℕ) →
+    gap (city_place places a).y (city_place places b).y ≤ 2000000000000000000
 city_gap_y-limit places near a b =
     let p = city_place-near places near a in
     let q = city_place-near places near b in
     gap-limit (city_place places a).y (city_place places b).y p.y q.y
 
-distance_of-limit : (kind : PlaneKind) (p q : Point) → IsNearOrigin p → IsNearOrigin q → distance_of kind p q ≤ 4000000000
+distance_of-limit : (kind : PlaneKind) (p q : Point) → IsNearOrigin p → IsNearOrigin q →
+    distance_of kind p q ≤ 4000000000
 distance_of-limit kind p q a b =
     distance_at-limit kind (gap p.x q.x) (gap p.y q.y) (gap-limit p.x q.x a.x b.x) (gap-limit p.y q.y a.y b.y)
 
@@ -61,16 +65,21 @@ distance_of-limit kind p q a b =
 pub whole_places : (kind : PlaneKind) (p q : WholePoint) (dx dy d : ℕ) → dx ≡ gap p.x q.x → dy ≡ gap p.y q.y
     → IsDistance kind (dx * 1000000000) (dy * 1000000000) d → IsDistanceOf kind (place_of_whole p) (place_of_whole q) d
 whole_places kind p q dx dy d x y is =
-    let ex : gap (p.x *ℤ pos 1000000000) (q.x *ℤ pos 1000000000) ≡ dx * 1000000000 = gap-scaled p.x q.x ∙ ap (λ g. g * 1000000000) (sym x) in
-    let ey : gap (p.y *ℤ pos 1000000000) (q.y *ℤ pos 1000000000) ≡ dy * 1000000000 = gap-scaled p.y q.y ∙ ap (λ g. g * 1000000000) (sym y) in
+    let ex : gap (p.x *ℤ pos 1000000000) (q.x *ℤ pos 1000000000) ≡ dx * 1000000000 = gap-scaled p.x q.x
+    ∙ ap (λ g. g * 1000000000) (sym x) in
+    let ey : gap (p.y *ℤ pos 1000000000) (q.y *ℤ pos 1000000000) ≡ dy * 1000000000 = gap-scaled p.y q.y
+    ∙ ap (λ g. g * 1000000000) (sym y) in
     subst (λ (g : ℕ). IsDistance kind g (gap (place_of_whole p).y (place_of_whole q).y) d) (sym ex)
     (subst (λ (g : ℕ). IsDistance kind (dx * 1000000000) g d) (sym ey) is)
 
-pub city_distance-limit : (kind : PlaneKind) (places : List Point) → All IsNearOrigin places → (a b : ℕ) → city_distance kind places a b ≤ 4000000000
+pub city_distance-limit : (kind : PlaneKind) (places : List Point) → All IsNearOrigin places → (a b : ℕ) →
+    city_distance kind places a b ≤ 4000000000
 city_distance-limit kind places near a b =
-    distance_of-limit kind (city_place places a) (city_place places b) (city_place-near places near a) (city_place-near places near b)
+    distance_of-limit kind (city_place places a) (city_place places b) (city_place-near places near a)
+    (city_place-near places near b)
 
-pub IsDistanceOf-limit : (kind : PlaneKind) (p q : Point) (d : ℕ) → IsNearOrigin p → IsNearOrigin q → IsDistanceOf kind p q d → d ≤ 4000000000
+pub IsDistanceOf-limit : (kind : PlaneKind) (p q : Point) (d : ℕ) → IsNearOrigin p → IsNearOrigin q →
+    IsDistanceOf kind p q d → d ≤ 4000000000
 IsDistanceOf-limit kind p q d a b is =
     limit kind (gap p.x q.x) (gap p.y q.y) d (gap-limit p.x q.x a.x b.x) (gap-limit p.y q.y a.y b.y) is
 
@@ -95,4 +104,5 @@ floor-bounds kind p q = distance_at-rises kind (gap p.x q.x) 0 (gap p.x q.x) (ga
 -- a difference in y alone makes the same distance as one in x alone
 pub floor-bounds_y : (kind : PlaneKind) (p q : Point) → distance_at kind (gap p.y q.y) 0 ≤ distance_of kind p q
 floor-bounds_y kind p q =
-    rw (distance_at-swap kind (gap p.x q.x) (gap p.y q.y)) (distance_at-rises kind (gap p.y q.y) 0 (gap p.y q.y) (gap p.x q.x) (omega arith) (omega arith))
+    rw (distance_at-swap kind (gap p.x q.x) (gap p.y q.y))
+    (distance_at-rises kind (gap p.y q.y) 0 (gap p.y q.y) (gap p.x q.x) (omega arith) (omega arith))

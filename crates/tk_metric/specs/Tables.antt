@@ -23,7 +23,8 @@ table_size-limit (Planes m) = m.few
 table_size-limit (Triangle m) = few_cities m.n m.few
 
 pub table_distance-swap : (t : Table) (a b : ℕ) → table_distance t a b ≡ table_distance t b a
-table_distance-swap (Planes m) a b = distance_of-swap m.kind (city_place (places_of m.places) a) (city_place (places_of m.places) b)
+table_distance-swap (Planes m) a b =
+    distance_of-swap m.kind (city_place (places_of m.places) a) (city_place (places_of m.places) b)
 table_distance-swap (Triangle m) a b = weight_between-swap m.weights.now a b
 
 pub table_distance-same : (t : Table) (a : ℕ) → table_distance t a a ≡ 0

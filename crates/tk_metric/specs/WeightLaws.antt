@@ -19,7 +19,8 @@ weight-limit ws small k = elim (cases_lt k (length ws)) [
 ]
 
 pub weight_between-limit : (ws : List ℕ) → All (λ w. w ≤ 4000000000) ws → (a b : ℕ) → weight_between ws a b ≤ 4000000000
-weight_between-limit ws small a b = let low = weight-limit ws small (triangle_index (min a b) (max a b)) in grind (arith, nat_tests)
+weight_between-limit ws small a b = let low = weight-limit ws small (triangle_index (min a b) (max a b)) in
+    grind (arith, nat_tests)
 
 pub few_cities : (n : ℕ) → n ≤ 5000 → n ≤ 100000
 few_cities n few = omega arith

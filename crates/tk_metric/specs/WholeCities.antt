@@ -28,13 +28,15 @@ whole_city places c = slice_index_or places (c - 1) whole_origin
 abbrev pub whole_city_place : List WholePoint → ℕ → Point
 whole_city_place places c = record { x = (whole_city places c).x; y = (whole_city places c).y }
 
-pub whole_gap-limit : (places : List WholePoint) (a b : ℕ) → gap (whole_city places a).x (whole_city places b).x ≤ 2000000000000000000
+pub whole_gap-limit : (places : List WholePoint) (a b : ℕ) →
+    gap (whole_city places a).x (whole_city places b).x ≤ 2000000000000000000
 whole_gap-limit places a b =
     let p = (whole_city places a).x_near in
     let q = (whole_city places b).x_near in
     omega (arith, ints, p, q)
 
-pub whole_gap_y-limit : (places : List WholePoint) (a b : ℕ) → gap (whole_city places a).y (whole_city places b).y ≤ 2000000000000000000
+pub whole_gap_y-limit : (places : List WholePoint) (a b : ℕ) →
+    gap (whole_city places a).y (whole_city places b).y ≤ 2000000000000000000
 whole_gap_y-limit places a b =
     let p = (whole_city places a).y_near in
     let q = (whole_city places b).y_near in
@@ -57,12 +59,14 @@ whole_difference g =
     (λ none. omega (arith, none))
     (cases_lt 0 g)
 
-city_place-whole : (places : List WholePoint) (c : ℕ) → city_place (map place_of_whole places) c ≡ place_of_whole (whole_city places c)
+city_place-whole : (places : List WholePoint) (c : ℕ) →
+    city_place (map place_of_whole places) c ≡ place_of_whole (whole_city places c)
 city_place-whole places c = get_or-map place_of_whole places (c - 1) whole_origin
 
 module _ (places : Bor (List WholePoint)) (a b : ℕ) where
   -- a difference in x, or in y, is at most the distance
-  pub whole_floor : gap (whole_city places.now a).x (whole_city places.now b).x ≤ city_distance Euc2d (places_of (Whole places)) a b
+  pub whole_floor : gap (whole_city places.now a).x (whole_city places.now b).x
+      ≤ city_distance Euc2d (places_of (Whole places)) a b
   whole_floor =
       let p = whole_city places.now a in
       let q = whole_city places.now b in
@@ -71,7 +75,8 @@ module _ (places : Bor (List WholePoint)) (a b : ℕ) where
       let floor = floor-bounds Euc2d (place_of_whole p) (place_of_whole q) in
       rw (city_place-whole places.now a, city_place-whole places.now b) (omega (arith, scaled, floor))
 
-  pub whole_floor_y : gap (whole_city places.now a).y (whole_city places.now b).y ≤ city_distance Euc2d (places_of (Whole places)) a b
+  pub whole_floor_y : gap (whole_city places.now a).y (whole_city places.now b).y
+      ≤ city_distance Euc2d (places_of (Whole places)) a b
   whole_floor_y =
       let p = whole_city places.now a in
       let q = whole_city places.now b in

@@ -9,8 +9,8 @@ use crate::metric::{Metric, Planar};
 use crate::planes::bound_of;
 use tk_problem::{PlaneKind, Point, WholePoint};
 
-/// The EUC_2D distances among places of whole coordinates, as [`Planes`](crate::Planes) has them: neither the kind nor the form of the
-/// coordinates is looked up for each.
+/// The EUC_2D distances among places of whole coordinates, as [`Planes`](crate::Planes) has them: neither the kind nor
+/// the form of the coordinates is looked up for each.
 #[derive(Clone, Copy)]
 pub struct Euclid<'a> {
     pub places: &'a [WholePoint],
@@ -29,7 +29,8 @@ impl Metric for Euclid<'_> {
 
     ghost size_limit = { λ m. m.few };
 
-    ghost symmetric = { λ m a b. distance_of-swap Euc2d (city_place (places_of (Whole m.places)) a) (city_place (places_of (Whole m.places)) b) };
+    ghost symmetric = { λ m a b. distance_of-swap Euc2d (city_place (places_of (Whole m.places)) a)
+        (city_place (places_of (Whole m.places)) b) };
 
     ghost diagonal = { λ m a. distance_of-same Euc2d (city_place (places_of (Whole m.places)) a) };
 

@@ -37,7 +37,8 @@ impl<'a> Planes<'a> {
         }
     }
 
-    /// The same distances without a look at the kind and at the form of the coordinates, if they are those of EUC_2D among whole ones.
+    /// The same distances without a look at the kind and at the form of the coordinates, if they are those of EUC_2D
+    /// among whole ones.
     pub fn euclid(&self) -> Option<Euclid<'a>>
         ensures some { IfSome result (λ e. (self.now.kind ≡ Euc2d) × (self.now.places ≡ Whole e.places)) }
         ensures none { result ≡ None → self.now.kind ≡ Euc2d → AreWhole self.now.places → ⊥ }
@@ -61,7 +62,8 @@ impl Metric for Planes<'_> {
 
     ghost size_limit = { λ m. m.few };
 
-    ghost symmetric = { λ m a b. distance_of-swap m.kind (city_place (places_of m.places) a) (city_place (places_of m.places) b) };
+    ghost symmetric = { λ m a b. distance_of-swap m.kind (city_place (places_of m.places) a)
+        (city_place (places_of m.places) b) };
 
     ghost diagonal = { λ m a. distance_of-same m.kind (city_place (places_of m.places) a) };
 
@@ -121,9 +123,11 @@ impl Planar for Planes<'_> {
 
     ghost floor_rises = { λ m s t below _. floor-rises m.kind s t below };
 
-    ghost floor_bounds = { λ m a b. floor-bounds m.kind (city_place (places_of m.places) a) (city_place (places_of m.places) b) };
+    ghost floor_bounds = { λ m a b. floor-bounds m.kind (city_place (places_of m.places) a)
+        (city_place (places_of m.places) b) };
 
-    ghost floor_bounds_y = { λ m a b. floor-bounds_y m.kind (city_place (places_of m.places) a) (city_place (places_of m.places) b) };
+    ghost floor_bounds_y = { λ m a b. floor-bounds_y m.kind (city_place (places_of m.places) a)
+        (city_place (places_of m.places) b) };
 
     #[inline]
     fn place(&self, c: u32) -> Point {

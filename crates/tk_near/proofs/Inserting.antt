@@ -43,7 +43,7 @@ Rising-insert_by f x (y ∷ ys) h a =
           )
     ]) refl
 
--- x goes behind an element that is not greater
+-- x goes after an element that is not greater
 pub insert_by-below : {X : Type 0} (f : X → ℕ) (x : X) (i : ℕ) (xs : List X) (d : X) → Climbing f xs → i < length xs → f (get_or xs i d) ≤ f x → insert_by f x xs ≡ take (suc i) xs ++ insert_by f x (drop (suc i) xs)
 insert_by-below f x i [] d h l b = absurd (omega arith)
 insert_by-below f x zero (y ∷ ys) d h l b =

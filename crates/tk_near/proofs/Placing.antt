@@ -100,7 +100,7 @@ keep_start x n end filled xs d l ends opens first = elim ends [
       )
 ]
 
--- behind the loop
+-- after the loop
 pub still_open : (x y : Candidate) (n i end filled : ℕ) (xs kept new : List Candidate) → length xs ≡ suc n → ((filled < n) × (end ≡ filled)) ⊎ (end ≡ n) → AreOpenFrom filled xs → i ≤ end → kept ≡ insert (take n xs) i y → new ≡ set kept i x → length new ≡ length xs → AreOpenFrom (end + 1) new
 still_open x y n i end filled xs kept new l ends opens low is written size = λ j d a b.
     let m : length (take n xs) ≡ n = length-take-le n xs (omega arith) in

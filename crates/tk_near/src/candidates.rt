@@ -49,8 +49,8 @@ pub fn measure<M: Metric>(m: &M, c: u32, b: u32) -> Candidate
     }
 }
 
-/// Puts a candidate in its place and lets the last go, or lets it go itself where it comes last. The places from `filled` on
-/// are open: they stay where they are.
+/// Puts a candidate in its place and lets the last go, or lets it go itself where it comes last. The places from
+/// `filled` on are open: they stay where they are.
 pub fn keep_among(kept: &mut [Candidate], filled: &mut usize, x: Candidate)
     requires room { 1 ≤ length kept.old }
     requires climbing { Climbing rank kept.old }

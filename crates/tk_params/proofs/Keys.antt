@@ -55,7 +55,7 @@ ignored_among (s ∷ ss) = ignored_step (is_ignored s.1) s.0 (ignored_keys ss) (
 pub ignored_few : (ss : Settings) → AreApart ss → length (ignored_keys ss) ≤ length all_keys
 ignored_few ss apart = omega (arith, ignored_among ss, settings_few ss apart)
 
--- a new key behind settings whose keys are apart
+-- a new key after settings whose keys are apart
 pub apart_push : (ss : Settings) (key : Key) (v : Value) → AreApart ss → has key ss ≡ false → AreApart (ss ++ (key, v) ∷ [])
 apart_push ss key v apart fresh =
     let absent = sym (is_some-lookup (same_key key) ss) ∙ fresh in

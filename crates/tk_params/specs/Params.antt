@@ -25,7 +25,7 @@ params_limit = 1048576
 abbrev pub Answer : Type 0
 Answer = Result ParamsAre ParamFault
 
--- the word of a line, and what stands behind it
+-- the word of a line, and what comes after it
 abbrev pub word_of : List ℕ → List ℕ
 word_of bs = front is_word_byte (behind is_blank bs)
 
@@ -50,7 +50,7 @@ abbrev pub after : ℕ → Meaning → Option Answer → Option Answer
 after n (Faulty kind) rest = Some (Err (record { line = n; kind = kind }))
 after n _ rest = rest
 
--- what lines say behind these settings, of which the last before them has number n; None where later bytes decide
+-- what lines say after these settings, of which the last before them has number n; None where later bytes decide
 unfoldable pub judge : ℕ → Settings → List Line → Option Answer
 judge n before [] = Some (at_end n before)
 judge n before (l ∷ ls) =

@@ -21,11 +21,11 @@ answer_with (Some f) n before = Err f
 abbrev pub answer_in : ParamReader → Answer
 answer_in s = answer_with s.fault s.line s.settings
 
--- EOF stands at the front, and something behind it
+-- EOF stands at the front, and something after it
 abbrev pub ends_in : List ℕ → Bool
 ends_in pre = is_eof (word_of pre) && not (is_empty (behind_word pre))
 
--- what bytes say that go on behind these settings, on line n, of which `pre` stands before them
+-- what bytes say that go on after these settings, on line n, of which `pre` stands before them
 unfoldable pub from_line : ℕ → Settings → List ℕ → Bool → List ℕ → Option (Result Answer TextFault)
 from_line n before pre ended bs = said (judge n before (prepend pre (lines ended n bs)))
 
@@ -38,7 +38,8 @@ pub record Feeds (s : ParamReader) (bs : List ℕ) : Type 0 where
   pub short : length pre ≤ line_limit
   pub held : s.held.items ≡ behind is_blank pre
   pub going : ends_in pre ≡ false
-  pub same : (ended : Bool) (more : List ℕ) → params_decided ended (bs ++ more) ≡ from_line s.line s.settings pre ended more
+  pub same : (ended : Bool) (more : List ℕ) →
+      params_decided ended (bs ++ more) ≡ from_line s.line s.settings pre ended more
 
 -- the line at hand has a fault
 pub record IsStopped (old new : ParamReader) : Type 0 where

@@ -60,7 +60,8 @@ abbrev pub number_of : Key → List ℕ → Option Value
 number_of key bs = option_map Number (number_within (least key) (greatest key) bs)
 
 abbrev pub construction_of : List ℕ → Option Construction
-construction_of bs = if spells bs (codes "NEAREST") then Some Nearest else (if spells bs (codes "SAVINGS") then Some Savings else None)
+construction_of bs =
+    if spells bs (codes "NEAREST") then Some Nearest else (if spells bs (codes "SAVINGS") then Some Savings else None)
 
 abbrev pub switch_of : List ℕ → Option Bool
 switch_of bs = if spells bs (codes "YES") then Some true else (if spells bs (codes "NO") then Some false else None)
@@ -107,14 +108,14 @@ sets key (Some v) = Sets key v
 abbrev pub has_dollar : Key → List ℕ → Bool
 has_dollar key bs = is_file key && list_any (λ b. b == 36) bs
 
--- a key with its value, behind these settings
+-- a key with its value, after these settings
 abbrev pub key_means : Settings → Key → List ℕ → Meaning
 key_means before key bs =
     if has key before then Faulty kinds.RepeatedKey
     else (if has_dollar key bs then Faulty kinds.DollarInName
     else sets key (value_of key bs))
 
--- behind a key: blanks, at most one equals sign, and the value without outer blanks
+-- after a key: blanks, at most one equals sign, and the value without outer blanks
 abbrev pub without_equals : List ℕ → List ℕ
 without_equals [] = []
 without_equals (b ∷ bs) = if b == 61 then bs else b ∷ bs

@@ -19,7 +19,7 @@ pub fn stored(entries: &Entries, key: Key) -> Option<&Setting>
     entries.get(&key)
 }
 
-/// Puts what a new key says behind the others.
+/// Puts what a new key says after the others.
 pub fn append(entries: &mut Entries, key: Key, setting: Setting) -> Result<(), AllocError>
     requires { Values.has key (settings_in entries.old) ≡ false }
     ensures ok { OnOk result (settings_in entries.new ≡ settings_in entries.old ++ (key, value_is setting) ∷ []) }

@@ -50,7 +50,7 @@ fn trimmed(bytes: &[u8]) -> &[u8]
     &bytes[..end]
 }
 
-/// The value behind a key: blanks, at most one equals sign, and the value between blanks.
+/// The value after a key: blanks, at most one equals sign, and the value between blanks.
 fn value_behind(bytes: &[u8]) -> &[u8]
     ensures { result.now ≡ Values.value_behind bytes.now }
 {

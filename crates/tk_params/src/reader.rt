@@ -21,7 +21,7 @@ const LINE_LIMIT: u32 = 4096;
 /// The most bytes of a text.
 const PARAMS_LIMIT: u64 = 1_048_576;
 
-/// What takes the bytes of a parameter file: what its lines said so far, and the bytes of the line at hand behind the
+/// What takes the bytes of a parameter file: what its lines said so far, and the bytes of the line at hand after the
 /// blanks at its front. A fault of the text is its answer.
 #[derive(Drop)]
 pub struct ParamReader {
@@ -33,7 +33,7 @@ pub struct ParamReader {
     fault: Option<ParamFault>,
 }
 
-/// Takes a byte behind those of a line that are held without the blanks at their front.
+/// Takes a byte after those of a line that are held without the blanks at their front.
 fn hold(held: &mut Vec<u8>, byte: u8) -> Result<(), AllocError>
     ensures { (pre : List ℕ) → held.old.items ≡ behind is_blank pre
         → OnOk result (held.new.items ≡ behind is_blank (pre ++ byte ∷ [])) }

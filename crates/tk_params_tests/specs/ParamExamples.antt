@@ -1,4 +1,5 @@
--- Examples of parameter texts: what they ask for, what is wrong with them and on which line, and what their beginnings decide.
+-- Examples of parameter texts: what they ask for, what is wrong with them and on which line, and what their beginnings
+-- decide.
 use Rattle.std.specs.Prelude.{◌≡◌, ℕ, true, false, List, [], ◌∷◌, ◌++◌, map, Option, Some, None, Result, Ok, Err, codes, replicate}
 use Rattle.tk_words.specs.declared.fault.TextFault.{TextFault}
 use Rattle.tk_reading.specs.Texts.{answer_of}
@@ -125,14 +126,28 @@ accepted =
     ∷ (after_p (codes "OR_SEGMENT = 3\n"), asks p)
     ∷ (after_p (codes "RUNS = 003\nSEED = -0\n"), asks (record p { runs = 3; seed = 0 }))
     ∷ (after_p (codes "CONSTRUCTION = NEAREST\nFINAL_SWEEP = NO\n"), asks p)
-    ∷ (after_p (codes "CONSTRUCTION= savings\r\nfinal_sweep = Yes"), asks (record p { construction = Savings; final_sweep = true }))
-    ∷ (after_p (codes "TOUR_FILE = t\nSOLUTION_FILE = s\nINITIAL_TOUR_FILE = i\n"), asks (record p { tour_file = Some (codes "t"); solution_file = Some (codes "s"); initial_tour_file = Some (codes "i") }))
+    ∷ (
+      after_p (codes "CONSTRUCTION= savings\r\nfinal_sweep = Yes"),
+      asks (record p { construction = Savings; final_sweep = true }),
+    )
+    ∷ (
+      after_p (codes "TOUR_FILE = t\nSOLUTION_FILE = s\nINITIAL_TOUR_FILE = i\n"),
+      asks (record p {
+        tour_file = Some (codes "t");
+        solution_file = Some (codes "s");
+        initial_tour_file =
+            Some (codes "i");
+      }),
+    )
     -- lines that are skipped
     ∷ (after_p (codes "\n \t\r\n# RUNS = 0\n  # $\nCOMMENT\nCOMMENT = $\ncomment = x"), asks p)
     -- keys that are not used, in their order; their values are not looked at
-    ∷ (codes "# c\nMOVE_TYPE = 5\nPROBLEM_FILE = p\nRUNS = 1\n", asks (record p { runs = 1; ignored = keys.MoveType ∷ [] }))
+    ∷ (
+      codes "# c\nMOVE_TYPE = 5\nPROBLEM_FILE = p\nRUNS = 1\n",
+      asks (record p { runs = 1; ignored = keys.MoveType ∷ [] }),
+    )
     ∷ (codes "OPTIMUM = 7 $\nTRACE_LEVEL\nPROBLEM_FILE = p\nPRECISION = \nPATCHING_C = = 3\npatching_a 5\nMOVE_TYPE = x y", asks (record p { ignored = keys.Optimum ∷ keys.TraceLevel ∷ keys.Precision ∷ keys.PatchingC ∷ keys.PatchingA ∷ keys.MoveType ∷ [] }))
-    -- behind EOF nothing is of the text
+    -- after EOF nothing is of the text
     ∷ (after_p (codes "EOF"), asks p)
     ∷ (after_p (codes " eof\nFOO = 1\n"), asks p)
     ∷ (after_p (codes "EOF = 1\nRUNS = 0"), asks p)
@@ -238,12 +253,21 @@ prefixes =
     ∷ (codes "# c\nMOVE_TYPE = 5\nPROBLEM_FILE", fault 3 kinds.BadValue)
     ∷ (codes "# c\nMOVE_TYPE = 5\nPROBLEM_FILE = ", fault 3 kinds.BadValue)
     ∷ (codes "# c\nMOVE_TYPE = 5\nPROBLEM_FILE = p", asks (record p { ignored = keys.MoveType ∷ [] }))
-    ∷ (codes "# c\nMOVE_TYPE = 5\nPROBLEM_FILE = p.", asks (record (only (codes "p.")) { ignored = keys.MoveType ∷ [] }))
-    ∷ (codes "# c\nMOVE_TYPE = 5\nPROBLEM_FILE = p.tsp\n", asks (record (only (codes "p.tsp")) { ignored = keys.MoveType ∷ [] }))
+    ∷ (
+      codes "# c\nMOVE_TYPE = 5\nPROBLEM_FILE = p.",
+      asks (record (only (codes "p.")) { ignored = keys.MoveType ∷ [] }),
+    )
+    ∷ (
+      codes "# c\nMOVE_TYPE = 5\nPROBLEM_FILE = p.tsp\n",
+      asks (record (only (codes "p.tsp")) { ignored = keys.MoveType ∷ [] }),
+    )
     ∷ (codes "# c\nMOVE_TYPE = 5\nPROBLEM_FILE = p.tsp\nR", fault 4 kinds.UnknownKey)
     ∷ (codes "# c\nMOVE_TYPE = 5\nPROBLEM_FILE = p.tsp\nRUNS", fault 4 kinds.BadValue)
     ∷ (codes "# c\nMOVE_TYPE = 5\nPROBLEM_FILE = p.tsp\nRUNS = ", fault 4 kinds.BadValue)
-    ∷ (codes "# c\nMOVE_TYPE = 5\nPROBLEM_FILE = p.tsp\nRUNS = 1", asks (record (only (codes "p.tsp")) { runs = 1; ignored = keys.MoveType ∷ [] }))
+    ∷ (
+      codes "# c\nMOVE_TYPE = 5\nPROBLEM_FILE = p.tsp\nRUNS = 1",
+      asks (record (only (codes "p.tsp")) { runs = 1; ignored = keys.MoveType ∷ [] }),
+    )
     ∷ []
 
 abbrev pub lengths : List (List ℕ × TextAnswer)

@@ -46,7 +46,7 @@ impl<'a> Source for Drip<'a> {
     }
 }
 
-/// Reads a text byte by byte, from a source that may fail behind its last byte.
+/// Reads a text byte by byte, from a source that may fail after its last byte.
 fn read_dripping(alloc: Global, text: &[u8], fails: bool) -> Result<Params, ParamFault> {
     let mut source = Drip {
         bytes: text,

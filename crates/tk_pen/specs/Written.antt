@@ -15,7 +15,8 @@ abbrev pub tour_line : ℕ → ℕ → List ℕ
 tour_line cities length = line (codes "tour of " ++ decimal cities ++ codes " cities, length " ++ decimal length)
 
 abbrev pub wrong_count_line : ℕ → ℕ → List ℕ
-wrong_count_line wanted read = line (codes "wrong count: " ++ decimal wanted ++ codes " wanted, " ++ decimal read ++ codes " read")
+wrong_count_line wanted read =
+    line (codes "wrong count: " ++ decimal wanted ++ codes " wanted, " ++ decimal read ++ codes " read")
 
 abbrev pub out_of_range_line : ℕ → ℕ → List ℕ
 out_of_range_line place city = line (codes "out of range at place " ++ decimal place ++ codes ": " ++ decimal city)

@@ -48,7 +48,7 @@ impl Page {
         &self.bytes[..self.len]
     }
 
-    /// Adds bytes behind the others.
+    /// Adds bytes after the others.
     #[inline(always)]
     pub(crate) fn push(&mut self, bytes: &[u8])
         requires { length self.old + length bytes.now ≤ 8192 }

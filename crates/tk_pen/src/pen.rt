@@ -7,7 +7,7 @@ use crate::page::Page;
 use crate::sink::Sink;
 use itoa::Buffer;
 
-/// No page goes out behind this many bytes: 2^63.
+/// No page goes out after this many bytes: 2^63.
 const LONGEST: u64 = 1 << 63;
 
 /// A write failed, and exactly the first bytes of the text went out.
@@ -48,7 +48,7 @@ fn write_whole<W: Sink>(sink: &mut W, bytes: &[u8]) -> usize
     taken
 }
 
-/// Sends a page behind `written` bytes, and says how many have gone out then and whether it has stopped.
+/// Sends a page after `written` bytes, and says how many have gone out then and whether it has stopped.
 fn send<W: Sink>(sink: &mut W, written: u64, stopped: bool, page: &[u8]) -> (u64, bool)
     requires count { written ≤ 2 ^ 63 + 8192 }
     requires page { length page.now ≤ 8192 }
@@ -67,7 +67,7 @@ fn send<W: Sink>(sink: &mut W, written: u64, stopped: bool, page: &[u8]) -> (u64
     (written + taken as u64, taken < page.len())
 }
 
-/// Sends the last page behind `written` bytes.
+/// Sends the last page after `written` bytes.
 fn send_last<W: Sink>(
     sink: &mut W,
     written: u64,
@@ -106,7 +106,7 @@ impl<'a, W: Sink> Pen<'a, W> {
         }
     }
 
-    /// Writes bytes behind all that was put before.
+    /// Writes bytes after all that was put before.
     #[inline(always)]
     pub fn put(&mut self, bytes: &[u8])
         ensures { Puts W.taken W.broken self.old self.new bytes.now }
@@ -144,7 +144,7 @@ impl<'a, W: Sink> Pen<'a, W> {
         self.page.clear();
     }
 
-    /// Writes a number's decimal digits behind all that was put before.
+    /// Writes a number's decimal digits after all that was put before.
     pub fn put_number(&mut self, number: u64)
         ensures { Puts W.taken W.broken self.old self.new (decimal number) }
     {
@@ -161,7 +161,7 @@ impl<'a, W: Sink> Pen<'a, W> {
         self.put(digits.as_bytes());
     }
 
-    /// Writes numbers, single spaces between them, behind all that was put before.
+    /// Writes numbers, single spaces between them, after all that was put before.
     pub fn put_spaced(&mut self, numbers: &[u32])
         ensures { Puts W.taken W.broken self.old self.new (spaced_numbers numbers.now) }
     {

@@ -24,7 +24,8 @@ pub record IsWithin (f : Frame) (p : Placed) : Type 0 where
 -- the cities of each part stand in its box
 abbrev pub IsFramed : Tree → Type 0
 IsFramed (Leaf row) = ⊤
-IsFramed (Cut' a p s b q t) = All (IsWithin a) (entries_of s) × All (IsWithin b) (entries_of t) × IsFramed s × IsFramed t
+IsFramed (Cut' a p s b q t) =
+    All (IsWithin a) (entries_of s) × All (IsWithin b) (entries_of t) × IsFramed s × IsFramed t
 
 -- p has this difference in x, or in y, from here
 abbrev pub IsBeyond : Placed → ℕ → Placed → Type 0

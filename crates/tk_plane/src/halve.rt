@@ -1,7 +1,7 @@
 //! The half of some cities that comes first in x or in y, brought to the front.
 //!
-//! How well they are halved decides how long a search of a tree takes, and not what it finds. So the contracts only say that
-//! no city is lost.
+//! How well they are halved decides how long a search of a tree takes, and not what it finds. So the contracts only say
+//! that no city is lost.
 ghost use Rattle.std.specs.Prelude.{◌≤◌, IsPermutation, length};
 
 use crate::placed::Placed;
@@ -76,7 +76,8 @@ fn sort(row: &mut [Placed], is_tall: bool)
     }
 }
 
-/// Brings the first `count` of the cities to the front: a quickselect (C. A. R. Hoare, 1961), which sorts where its rounds end.
+/// Brings the first `count` of the cities to the front: a quickselect (C. A. R. Hoare, 1961), which sorts where its
+/// rounds end.
 fn select(row: &mut [Placed], count: usize, is_tall: bool, rounds: u32)
     ensures { IsPermutation row.old row.new }
 {

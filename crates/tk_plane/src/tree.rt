@@ -151,8 +151,8 @@ pub fn frame_of(row: &[Placed]) -> Frame
     frame
 }
 
-/// Whether a row takes more room in y than in x, as far as some of its cities tell. It has no contract: another answer costs
-/// time alone.
+/// Whether a row takes more room in y than in x, as far as some of its cities tell. It has no contract: another answer
+/// costs time alone.
 fn is_tall(row: &[Placed]) -> bool {
     let mut frame = NOTHING;
     for part in row.chunks(row.len() / SAMPLE + 1) {
@@ -200,8 +200,8 @@ pub fn planted<P: Planar>(alloc: Global, m: &P) -> Result<(Vec<Placed>, Tree), A
     Ok((row, tree))
 }
 
-/// The turns that lead from the whole tree to a part of it: bit i is 1 where turn i goes to the upper half. No contract reads
-/// them: they tell where a city was seen, so that it can be taken out there.
+/// The turns that lead from the whole tree to a part of it: bit i is 1 where turn i goes to the upper half. No contract
+/// reads them: they tell where a city was seen, so that it can be taken out there.
 #[derive(Clone, Copy)]
 pub struct Path {
     sides: u64,

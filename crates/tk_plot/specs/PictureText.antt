@@ -18,7 +18,8 @@ use Rattle.tk_plot.specs.Frames.{across, down, view_height}
 -- a byte of a name as it can stand in a text of XML
 abbrev pub shown : ℕ → List ℕ
 shown b =
-    if b == 38 then codes "&amp;" else (if b == 60 then codes "&lt;" else (if b == 62 then codes "&gt;" else (if b == 34 then codes "&quot;"
+    if b == 38 then codes "&amp;" else (if b == 60 then codes "&lt;"
+    else (if b == 62 then codes "&gt;" else (if b == 34 then codes "&quot;"
     else (if nat_lt b 32 || nat_lt 126 b then codes "?" else b ∷ []))))
 
 -- what is drawn
@@ -34,7 +35,8 @@ title name caption = flat_map shown name ++ codes ": " ++ caption_text caption
 
 -- seven colours that people with any colour vision can tell apart (M. Okabe and K. Ito)
 abbrev pub colours : List (List ℕ)
-colours = codes "#0072B2" ∷ codes "#D55E00" ∷ codes "#009E73" ∷ codes "#CC79A7" ∷ codes "#E69F00" ∷ codes "#56B4E9" ∷ codes "#000000" ∷ []
+colours = codes "#0072B2" ∷ codes "#D55E00" ∷ codes "#009E73" ∷ codes "#CC79A7" ∷ codes "#E69F00" ∷ codes "#56B4E9"
+    ∷ codes "#000000" ∷ []
 
 -- a whole line, dashes, dots
 abbrev pub dashes : List (List ℕ)
@@ -46,12 +48,14 @@ text_at texts k = slice_index_or texts k []
 
 -- where a city stands
 abbrev pub spot : Frame → List Point → ℕ → List ℕ
-spot f places city = decimal (across f (city_place places city)) ++ codes "," ++ decimal (down f (city_place places city))
+spot f places city =
+    decimal (across f (city_place places city)) ++ codes "," ++ decimal (down f (city_place places city))
 
 -- how the k-th closed line begins, from 0: after seven colours come other dashes
 abbrev pub line_start : ℕ → List ℕ
 line_start k =
-    line (codes "<polygon stroke=\"" ++ text_at colours (k % 7) ++ codes "\" stroke-dasharray=\"" ++ text_at dashes (k / 7 % 3) ++ codes "\" points=\"")
+    line (codes "<polygon stroke=\"" ++ text_at colours (k % 7) ++ codes "\" stroke-dasharray=\""
+    ++ text_at dashes (k / 7 % 3) ++ codes "\" points=\"")
 
 abbrev pub line_end : List ℕ
 line_end = line (codes "\"/>")
@@ -73,7 +77,8 @@ dot spot city = line (codes "M" ++ spot city ++ codes "h0")
 
 -- points of one style
 abbrev pub dots : (ℕ → List ℕ) → List ℕ → List ℕ → List ℕ
-dots spot style cities = line (codes "<path stroke=\"black\" " ++ style ++ codes " d=\"") ++ flat_map (dot spot) cities ++ line_end
+dots spot style cities =
+    line (codes "<path stroke=\"black\" " ++ style ++ codes " d=\"") ++ flat_map (dot spot) cities ++ line_end
 
 -- from 2,000 cities on, lines and points are thin
 abbrev pub is_small : ℕ → Bool
@@ -96,18 +101,21 @@ city_dots spot caption n = if has_dots caption n then dots spot (city_style n) (
 -- a square at the depot
 abbrev pub depot_mark : (ℕ → List ℕ) → Option ℕ → List ℕ
 depot_mark spot None = []
-depot_mark spot (Some depot) = line (codes "<path fill=\"black\" d=\"M" ++ spot depot ++ codes "m-80,-80h160v160h-160z\"/>")
+depot_mark spot (Some depot) =
+    line (codes "<path fill=\"black\" d=\"M" ++ spot depot ++ codes "m-80,-80h160v160h-160z\"/>")
 
 -- ---- the whole
 
 abbrev pub view_line : ℕ → List ℕ
-view_line height = line (codes "<svg xmlns=\"http://www.w3.org/2000/svg\" viewBox=\"0 0 1040 " ++ decimal height ++ codes "\">")
+view_line height =
+    line (codes "<svg xmlns=\"http://www.w3.org/2000/svg\" viewBox=\"0 0 1040 " ++ decimal height ++ codes "\">")
 
 abbrev pub title_line : List ℕ → List ℕ
 title_line title = line (codes "<title>" ++ title ++ codes "</title>")
 
 abbrev pub heading_line : List ℕ → List ℕ
-heading_line title = line (codes "<text x=\"20\" y=\"40\" font-family=\"sans-serif\" font-size=\"24\">" ++ title ++ codes "</text>")
+heading_line title =
+    line (codes "<text x=\"20\" y=\"40\" font-family=\"sans-serif\" font-size=\"24\">" ++ title ++ codes "</text>")
 
 abbrev pub group_line : ℕ → List ℕ
 group_line n =
@@ -116,7 +124,8 @@ group_line n =
 
 abbrev pub head : ℕ → List ℕ → ℕ → List ℕ
 head height title n =
-    view_line height ++ title_line title ++ line (codes "<rect width=\"100%\" height=\"100%\" fill=\"white\"/>") ++ heading_line title ++ group_line n
+    view_line height ++ title_line title ++ line (codes "<rect width=\"100%\" height=\"100%\" fill=\"white\"/>")
+    ++ heading_line title ++ group_line n
 
 abbrev pub tail : List ℕ
 tail = line (codes "</g>") ++ line (codes "</svg>")

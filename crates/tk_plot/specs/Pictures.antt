@@ -23,7 +23,8 @@ abbrev pub AreLines : ℕ → Lines → Type 0
 AreLines n lines.None = Unit {0}
 AreLines n (lines.Tour cities) = IsTour n cities.now
 AreLines n (lines.Routes cvrp routes) =
-    ((instance_of cvrp).size ≡ n) × AreServedOnce (customer_count (instance_of cvrp)) (concat (map (λ r. r.items) routes.now))
+    ((instance_of cvrp).size ≡ n) × AreServedOnce (customer_count (instance_of cvrp))
+    (concat (map (λ r. r.items) routes.now))
 
 abbrev pub text_of : Picture → List ℕ
 text_of p = picture_text p.view.frame (places_of p.view.places) p.name.now p.caption (paths_of p.lines) p.depot

@@ -43,13 +43,17 @@ pub data Claim : Type 0 where
   TourClaim : (cities : List ℕ) → Claim
   RoutesClaim : (solution : Solution) → Claim
 
--- what is given is read as a tour where the problem has no routing, else as a solution; where nothing is given, the source is untouched
+-- what is given is read as a tour where the problem has no routing, else as a solution; where nothing is given, the
+-- source is untouched
 abbrev pub ReadsClaim : {S : Type 0} → Bool → (S → Option (List ℕ)) → (S → Bool) → S → S → ProblemIs → Reading Claim
 ReadsClaim given left broken old new problem (Ok Nothing) = (given ≡ false) × IsUntouched left broken old new
-ReadsClaim given left broken old new problem (Ok (TourClaim cities)) = (given ≡ true) × (problem.routing ≡ None) × ReadsTour left broken old new (Ok cities)
-ReadsClaim given left broken old new problem (Ok (RoutesClaim s)) = (given ≡ true) × (is_some problem.routing ≡ true) × ReadsSolution left broken old new (Ok s)
+ReadsClaim given left broken old new problem (Ok (TourClaim cities)) =
+    (given ≡ true) × (problem.routing ≡ None) × ReadsTour left broken old new (Ok cities)
+ReadsClaim given left broken old new problem (Ok (RoutesClaim s)) =
+    (given ≡ true) × (is_some problem.routing ≡ true) × ReadsSolution left broken old new (Ok s)
 ReadsClaim given left broken old new problem (Err f) =
-    (given ≡ true) × MatchOption problem.routing (ReadsTour left broken old new (Err f)) (λ _. ReadsSolution left broken old new (Err f))
+    (given ≡ true) × MatchOption problem.routing (ReadsTour left broken old new (Err f))
+    (λ _. ReadsSolution left broken old new (Err f))
 
 -- ---- what is written
 
@@ -70,7 +74,8 @@ pub record IsPicture (p : ProblemIs) (caption : Caption) (paths : List (List ℕ
 
 -- a tour is drawn, or refused with the line of its verdict
 abbrev pub IsTourOutput : ProblemIs → List ℕ → Verdict → Output → Type 0
-IsTourOutput p cities verdicts.Tour (Drawn text) = IsPicture p (captions.Tour p.n (tour_length (read_distance p.weights) cities)) (cities ∷ []) text
+IsTourOutput p cities verdicts.Tour (Drawn text) =
+    IsPicture p (captions.Tour p.n (tour_length (read_distance p.weights) cities)) (cities ∷ []) text
 IsTourOutput p cities verdicts.Tour (Refused line) = ⊥
 IsTourOutput p cities verdict (Drawn text) = ⊥
 IsTourOutput p cities verdict (Refused line) = line ≡ verdict_line p.n (read_distance p.weights) cities verdict
@@ -86,9 +91,11 @@ IsRouteOutput p i routes verdict (Refused line) = line ≡ route_verdict_line ve
 -- what was plotted is this, with the true verdict on what was claimed
 abbrev pub IsPlot : ProblemIs → Claim → Plotted → Output → Type 0
 IsPlot p Nothing plotted.Cities (Drawn text) = IsPicture p (captions.Cities p.n) [] text
-IsPlot p (TourClaim cities) (plotted.Tour verdict) output = IsVerdict p.n cities verdict × IsTourOutput p cities verdict output
+IsPlot p (TourClaim cities) (plotted.Tour verdict) output =
+    IsVerdict p.n cities verdict × IsTourOutput p cities verdict output
 IsPlot p (RoutesClaim s) (plotted.Routes verdict) output =
-    IsSomeAnd p.routing (λ r. IsRouteVerdict (instance_in p r) s.0 s.1 verdict × IsRouteOutput p (instance_in p r) s.0 verdict output)
+    IsSomeAnd p.routing (λ r. IsRouteVerdict (instance_in p r) s.0 s.1 verdict
+    × IsRouteOutput p (instance_in p r) s.0 verdict output)
 IsPlot p _ _ _ = ⊥
 
 -- explicit weights give no places
@@ -98,15 +105,19 @@ without_places (value.Lower weights) = Some NoPlaces
 
 -- only what is given takes memory to check
 abbrev pub plot_task : Bool → Task Claim Plotted Output
-plot_task given = record { misfit = λ p. without_places p.weights; IsClash = NoClash; takes_memory = given; Gives = IsPlot }
+plot_task given =
+    record { misfit = λ p. without_places p.weights; IsClash = NoClash; takes_memory = given; Gives = IsPlot }
 
 -- two sinks: their types, and what each has taken and whether a write to it has failed
-module _ {W T : Type 0} (out_taken : W → Option (List ℕ)) (out_broken : W → Bool) (told_taken : T → Option (List ℕ)) (told_broken : T → Bool)
+module _ {W T : Type 0} (out_taken : W → Option (List ℕ)) (out_broken : W → Bool) (told_taken : T → Option (List ℕ))
+    (told_broken : T → Bool)
     (out out' : W) (told told' : T) where
   -- a picture goes to the one, a line to the other
   abbrev pub WritesOutput : Writing Output
-  WritesOutput r (Drawn picture) = Writes out_taken out_broken out out' r picture × IsUntouched told_taken told_broken told told'
-  WritesOutput r (Refused line) = IsUntouched out_taken out_broken out out' × Writes told_taken told_broken told told' r line
+  WritesOutput r (Drawn picture) =
+      Writes out_taken out_broken out out' r picture × IsUntouched told_taken told_broken told told'
+  WritesOutput r (Refused line) =
+      IsUntouched out_taken out_broken out out' × Writes told_taken told_broken told told' r line
 
   -- neither has taken a byte
   abbrev pub AreUntouched : Type 0

@@ -1,4 +1,4 @@
--- The list of places behind a view of it.
+-- The list of places that a view shows.
 use Rattle.std.specs.Prelude.{List, map}
 use Rattle.tk_problem.specs.declared.point.Point.{Point}
 use Rattle.tk_problem.specs.declared.points.Places.{Places}

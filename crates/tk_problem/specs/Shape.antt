@@ -7,7 +7,8 @@ use Rattle.tk_problem.specs.declared.routing.Routing.{Routing}
 -- a place for each of n cities, or a weight of at most 4·10^9 for each pair of at most 5,000
 abbrev pub WeightsFit : ℕ → Weights → Type 0
 WeightsFit n (Points kind places) = length places ≡ n
-WeightsFit n (Lower weights) = (n ≤ 5000) × (length weights.items ≡ n * (n - 1) / 2) × All (λ w. w ≤ 4000000000) weights.items
+WeightsFit n (Lower weights) =
+    (n ≤ 5000) × (length weights.items ≡ n * (n - 1) / 2) × All (λ w. w ≤ 4000000000) weights.items
 
 -- at most 5,000 nodes, each with a demand of at most the capacity, and a depot without one
 pub record IsRouting (n : ℕ) (r : Routing) : Type 0 where

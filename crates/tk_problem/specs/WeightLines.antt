@@ -6,7 +6,7 @@ use Rattle.tk_problem.specs.declared.weights.Format.{Format}
 use Rattle.tk_problem.specs.declared.weights.Format.TheVariants.{UpperRow, LowerRow, UpperDiagRow, LowerDiagRow, UpperCol, LowerCol, UpperDiagCol, LowerDiagCol}
 use Rattle.tk_problem.specs.WeightOrder.{place}
 
--- the first item of a line that has an entry, and the item behind the last
+-- the first item of a line that has an entry, and the item after the last
 abbrev pub first_item : Format → ℕ → ℕ
 first_item UpperRow line = line + 1
 first_item LowerCol line = line + 1
@@ -35,7 +35,8 @@ items f line from end = map (place_on f line) (range_with_len from (end - from))
 
 -- the places of a number of lines
 abbrev pub lines : Format → ℕ → ℕ → ℕ → List Place
-lines f n from count = flat_map (λ line. items f line (first_item f line) (end_item f n line)) (range_with_len from count)
+lines f n from count =
+    flat_map (λ line. items f line (first_item f line) (end_item f n line)) (range_with_len from count)
 
 -- the places from an item of a line on
 abbrev pub places_from : Format → ℕ → ℕ → ℕ → ℕ → List Place

@@ -20,7 +20,7 @@ fn first_item(format: Format, line: u32) -> u32
     }
 }
 
-/// The item behind the last of a row or column that has an entry.
+/// The item after the last of a row or column that has an entry.
 fn end_item(format: Format, n: u32, line: u32) -> u32
     requires { line < n }
     ensures value { result ≡ Lines.end_item format n line }
@@ -37,7 +37,8 @@ fn end_item(format: Format, n: u32, line: u32) -> u32
 fn next_line(format: Format, n: u32, from: u32) -> Option<u32>
     requires { n < 2 ^ 32 - 1 }
     ensures some { IfSome result (λ line. (line < n) × (Lines.first_item format line < Lines.end_item format n line)
-        × (Lines.lines format n from (n - from) ≡ Lines.places_from format n line (Lines.first_item format line) (Lines.end_item format n line))) }
+        × (Lines.lines format n from (n - from) ≡ Lines.places_from format n line (Lines.first_item format line)
+        (Lines.end_item format n line))) }
     ensures none { IfNone result (Lines.lines format n from (n - from) ≡ []) }
 {
     for line in from..n {

@@ -93,7 +93,7 @@ module _ {before : List Piece} {n : ℕ} where
   all_good {toks = x ∷ []} has = has.good
   all_good {toks = x ∷ y ∷ ts} has = absurd (omega (arith, has.few))
 
-  -- a section goes on behind tokens without a fault
+  -- a section goes on after tokens without a fault
   pub goes : {toks : List Token} → HasDepotTokens before n toks → Goes problem_format before words.DepotSection n toks
   goes {toks = toks} has = record {
     covers = λ more. covers toks has.few more;
@@ -112,7 +112,7 @@ module _ {before : List Piece} {n : ℕ} where
   ends_behind {toks = []} has some line = absurd cc
   ends_behind {toks = x ∷ ts} has some line = section_by has (x ∷ ts) (Early line true) None (all_good has)
 
-  -- the -1 behind the node
+  -- the -1 after the node
   ends : {toks : List Token} → HasDepotTokens before n toks → is_empty toks ≡ false → (t : Token) → is_ending t ≡ true → Ends problem_format before words.DepotSection n (toks ++ t ∷ [])
   unfolding list_extent entries
   ends {toks = []} has some t end = absurd cc
@@ -125,7 +125,7 @@ module _ {before : List Piece} {n : ℕ} where
       }
   ends {toks = x ∷ y ∷ ts} has some t end = absurd (omega (arith, has.few))
 
-  -- an EOF behind the node
+  -- an EOF after the node
   ends_at_eof : {toks : List Token} → HasDepotTokens before n toks → is_empty toks ≡ false → (t : Token) → is_ending t ≡ false → (t.whole && is_eof t.bytes) ≡ true → EndsAtEof problem_format before words.DepotSection n toks t
   unfolding list_extent
   ends_at_eof {toks = []} has some t other eof = absurd cc

@@ -48,7 +48,7 @@ keyword_is None b is = is
 keyword_is (Some word) b is = is
 
 module _ (bytes : List ℕ) (short : length bytes ≤ 64) (before : List Piece) (n : ℕ) (toks : List Token) (line : ℕ) where
-  -- what is promised where a section's state is s behind the token
+  -- what is promised where a section's state is s after the token
   abbrev Takes : Keyword → OpenSection → Taken → Type 0
   Takes word s = HasTaken problem_format (IsPast before word n s) (λ ps w m ts. IsOpen ps w m ts s) before word n toks (whole bytes line)
 

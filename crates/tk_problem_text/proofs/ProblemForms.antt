@@ -23,7 +23,7 @@ use Rattle.tk_sections.proofs.FixedSections as Fixed
 use Rattle.tk_problem_text.proofs.DepotList as Home
 use Rattle.tk_problem_text.proofs.PartsWhole.{some_of}
 
--- ---- behind a section
+-- ---- after a section
 
 module _ (before : List Piece) (word : Keyword) (n : ℕ) (ps : List Piece) (P : List Piece → Type 0) (fresh : has word before ≡ false) where
   pub past_places : (s : Placing) → IsPast before word n (Places s) ps
@@ -48,7 +48,7 @@ goes_open before word n toks (Loads s) is = Fixed.goes is.1
 goes_open before word n toks (Home s) is = subst (λ w. Goes problem_format before w n toks) (sym is.0) (Home.goes is.1)
 goes_open before word n toks (Display left) is = Fixed.goes is.1
 
--- but behind a depot
+-- but after a depot
 abbrev pub is_home : OpenSection → Bool
 is_home (Home s) = is_some s.node
 is_home _ = false

@@ -52,7 +52,7 @@ module _ (p : Parts) (before : List Piece) (has_parts : HasParts p before) (size
         untouched = rw (same, of_format, is) (refl, has_weights, (formatted, refl));
       }
 
--- ---- behind the tests of the word
+-- ---- after the tests of the word
 
 of_came : (known came : Bool) → cond known (Some came) None ≡ Some false → (known ≡ true) × (came ≡ false)
 of_came true false h = (refl, refl)

@@ -16,8 +16,10 @@ use Rattle.tk_sections.specs.DepotTaken.{HasDepot}
 abbrev pub IsUntouched : List Piece → Keyword → OpenSection → Type 0
 IsUntouched before word Nothing = ⊥
 IsUntouched before word (Places s) = (word ≡ words.NodeCoordSection) × HasPlaces (size_of before) s []
-IsUntouched before word (Explicit s) = (word ≡ words.EdgeWeightSection) × HasWeights (size_of before) (format_in before) s [] × IsListed before
-IsUntouched before word (Loads s) = (word ≡ words.DemandSection) × HasDemands (size_of before) s [] × (size_of before ≤ 5000)
+IsUntouched before word (Explicit s) =
+    (word ≡ words.EdgeWeightSection) × HasWeights (size_of before) (format_in before) s [] × IsListed before
+IsUntouched before word (Loads s) =
+    (word ≡ words.DemandSection) × HasDemands (size_of before) s [] × (size_of before ≤ 5000)
 IsUntouched before word (Home s) = (word ≡ words.DepotSection) × HasDepot (size_of before) s []
 IsUntouched before word (Display left) = (word ≡ words.DisplayDataSection) × (left ≡ 3 * size_of before)
 

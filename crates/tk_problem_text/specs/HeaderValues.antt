@@ -32,7 +32,8 @@ plane_of bs =
     else (if says bs (codes "ATT") then Some planes.Att else None))))
 
 abbrev pub weight_type_of : List ℕ → Option WeightType
-weight_type_of bs = if says bs (codes "EXPLICIT") then Some weight_types.Explicit else option_map weight_types.Plane (plane_of bs)
+weight_type_of bs =
+    if says bs (codes "EXPLICIT") then Some weight_types.Explicit else option_map weight_types.Plane (plane_of bs)
 
 abbrev pub format_of : List ℕ → Option Format
 format_of bs =
@@ -47,7 +48,8 @@ format_of bs =
     else (if says bs (codes "LOWER_DIAG_COL") then Some formats.LowerDiagCol else None))))))))
 
 abbrev pub weight_format_of : List ℕ → Option WeightFormat
-weight_format_of bs = if says bs (codes "FUNCTION") then Some weight_formats.Function else option_map weight_formats.Listed (format_of bs)
+weight_format_of bs = if says bs (codes "FUNCTION") then Some weight_formats.Function
+    else option_map weight_formats.Listed (format_of bs)
 
 abbrev pub is_coordinate_type : List ℕ → Bool
 is_coordinate_type bs = says bs (codes "TWOD_COORDS") || says bs (codes "NO_COORDS")

@@ -29,16 +29,24 @@ HasSome before word n toks = HasTokens problem_format before word n (token_tests
 
 -- the formats of weights that are listed
 abbrev pub IsListed : List Piece → Type 0
-IsListed before = (has words.EdgeWeightFormat before ≡ true) × (wanted before words.EdgeWeightSection ≡ weight_count (size_of before) (format_in before))
+IsListed before = (has words.EdgeWeightFormat before ≡ true)
+    × (wanted before words.EdgeWeightSection ≡ weight_count (size_of before) (format_in before))
 
--- behind these pieces, these tokens of the word's section were taken, and more are to come
+-- after these pieces, these tokens of the word's section were taken, and more are to come
 abbrev pub IsOpen : List Piece → Keyword → ℕ → List Token → OpenSection → Type 0
 IsOpen before word n toks Nothing = ⊥
-IsOpen before word n toks (Places s) = (word ≡ words.NodeCoordSection) × HasSome before word n toks × HasPlaces (size_of before) s toks
-IsOpen before word n toks (Explicit s) = (word ≡ words.EdgeWeightSection) × HasSome before word n toks × HasWeights (size_of before) (format_in before) s toks × IsListed before
-IsOpen before word n toks (Loads s) = (word ≡ words.DemandSection) × HasSome before word n toks × HasDemands (size_of before) s toks × (size_of before ≤ 5000)
-IsOpen before word n toks (Home s) = (word ≡ words.DepotSection) × HasDepotTokens before n toks × HasDepot (size_of before) s toks
-IsOpen before word n toks (Display left) = (word ≡ words.DisplayDataSection) × HasSome before word n toks × (left + length toks ≡ 3 * size_of before)
+IsOpen before word n toks (Places s) =
+    (word ≡ words.NodeCoordSection) × HasSome before word n toks × HasPlaces (size_of before) s toks
+IsOpen before word n toks (Explicit s) =
+    (word ≡ words.EdgeWeightSection) × HasSome before word n toks
+    × HasWeights (size_of before) (format_in before) s toks × IsListed before
+IsOpen before word n toks (Loads s) =
+    (word ≡ words.DemandSection) × HasSome before word n toks × HasDemands (size_of before) s toks
+    × (size_of before ≤ 5000)
+IsOpen before word n toks (Home s) =
+    (word ≡ words.DepotSection) × HasDepotTokens before n toks × HasDepot (size_of before) s toks
+IsOpen before word n toks (Display left) =
+    (word ≡ words.DisplayDataSection) × HasSome before word n toks × (left + length toks ≡ 3 * size_of before)
 
 -- a section of a fixed count of tokens
 abbrev pub IsCounted : OpenSection → Type 0
@@ -54,13 +62,18 @@ IsFirst n first (Some node) = (node ≡ first) × (1 ≤ node) × (node ≤ n)
 -- these are all of its tokens
 abbrev pub IsFull : List Piece → Keyword → List Token → OpenSection → Type 0
 IsFull before word toks Nothing = ⊥
-IsFull before word toks (Places s) = (word ≡ words.NodeCoordSection) × HasPlaces (size_of before) s toks × (length toks ≡ 3 * size_of before)
-IsFull before word toks (Explicit s) = (word ≡ words.EdgeWeightSection) × HasWeights (size_of before) (format_in before) s toks × IsListed before
-IsFull before word toks (Loads s) = (word ≡ words.DemandSection) × HasDemands (size_of before) s toks × (length toks ≡ 2 * size_of before) × (size_of before ≤ 5000)
-IsFull before word toks (Home s) = (word ≡ words.DepotSection) × IsFirst (size_of before) (slice_index (map number_in toks) 0) s.node
+IsFull before word toks (Places s) =
+    (word ≡ words.NodeCoordSection) × HasPlaces (size_of before) s toks × (length toks ≡ 3 * size_of before)
+IsFull before word toks (Explicit s) =
+    (word ≡ words.EdgeWeightSection) × HasWeights (size_of before) (format_in before) s toks × IsListed before
+IsFull before word toks (Loads s) =
+    (word ≡ words.DemandSection) × HasDemands (size_of before) s toks × (length toks ≡ 2 * size_of before)
+    × (size_of before ≤ 5000)
+IsFull before word toks (Home s) =
+    (word ≡ words.DepotSection) × IsFirst (size_of before) (slice_index (map number_in toks) 0) s.node
 IsFull before word toks (Display left) = word ≡ words.DisplayDataSection
 
--- these pieces are those behind which it began, and the whole section
+-- these pieces are those after which it began, and the whole section
 pub record IsPast (before : List Piece) (word : Keyword) (n : ℕ) (s : OpenSection) (ps : List Piece) : Type 0 where
   pub toks : List Token
   pub after : After

@@ -20,7 +20,8 @@ use Rattle.tk_problem_text.specs.Problem.{WeightsAre, RoutingIs, ProblemIs, size
 use Rattle.tk_problem_text.specs.Problem as value
 
 -- what a section gives is kept, once it came
-pub record KeepsValue {A B : Type 0} (word : Keyword) (view : A → B) (value : B) (kept : Option A) (ps : List Piece) : Type 0 where
+pub record KeepsValue {A B : Type 0} (word : Keyword) (view : A → B) (value : B) (kept : Option A)
+    (ps : List Piece) : Type 0 where
   pub came : has word ps ≡ is_some kept
   pub is : IfSome kept (λ a. view a ≡ value)
 
@@ -73,12 +74,14 @@ weights_in _ places None = value.Lower []
 
 -- the routing's parts are there, and fit n nodes
 abbrev pub MakesRouting : ℕ → Option ProblemType → Option ℕ → Option (Vec ℕ Global) → Option ℕ → Type 0
-MakesRouting n (Some kinds.Cvrp) (Some capacity) (Some demand) (Some depot) = IsRouting n (record { capacity = capacity; demand = demand; depot = depot })
+MakesRouting n (Some kinds.Cvrp) (Some capacity) (Some demand) (Some depot) =
+    IsRouting n (record { capacity = capacity; demand = demand; depot = depot })
 MakesRouting n (Some kinds.Cvrp) _ _ _ = ⊥
 MakesRouting n _ capacity demand depot = Unit {0}
 
 abbrev pub routing_in : Option ProblemType → Option ℕ → Option (Vec ℕ Global) → Option ℕ → Option RoutingIs
-routing_in (Some kinds.Cvrp) (Some capacity) (Some demand) (Some depot) = Some (record { capacity = capacity; demand = demand.items; depot = depot })
+routing_in (Some kinds.Cvrp) (Some capacity) (Some demand) (Some depot) =
+    Some (record { capacity = capacity; demand = demand.items; depot = depot })
 routing_in _ capacity demand depot = None
 
 -- the parts make a problem

@@ -67,14 +67,21 @@ format_in ps = unwrap_or (listed_format (weight_format ps)) formats.FullMatrix
 
 -- the tests of a header, besides its length, in their order
 abbrev pub problem_header : List Piece → Keyword → List ℕ → List (Bool × TextKind)
-problem_header before words.Name bs = (nat_lt 1024 (length (trim (after_word bs))), kinds.TooLong) ∷ (has words.Name before, kinds.Repeated) ∷ []
+problem_header before words.Name bs =
+    (nat_lt 1024 (length (trim (after_word bs))), kinds.TooLong) ∷ (has words.Name before, kinds.Repeated) ∷ []
 problem_header before words.Comment bs = []
-problem_header before words.Type bs = (has words.Type before, kinds.Repeated) ∷ (is_none (problem_type_of bs), kinds.Unsupported) ∷ []
-problem_header before words.Dimension bs = (has words.Dimension before, kinds.Repeated) ∷ number_tests 2 100000 (first_word bs)
-problem_header before words.Capacity bs = (has words.Capacity before, kinds.Repeated) ∷ number_tests 1 2000000000 (first_word bs)
-problem_header before words.EdgeWeightType bs = (has words.EdgeWeightType before, kinds.Repeated) ∷ (is_none (weight_type_of bs), kinds.Unsupported) ∷ []
-problem_header before words.EdgeWeightFormat bs = (has words.EdgeWeightFormat before, kinds.Repeated) ∷ (is_none (weight_format_of bs), kinds.Unsupported) ∷ []
-problem_header before words.NodeCoordType bs = (has words.NodeCoordType before, kinds.Repeated) ∷ (not (is_coordinate_type bs), kinds.Unsupported) ∷ []
+problem_header before words.Type bs =
+    (has words.Type before, kinds.Repeated) ∷ (is_none (problem_type_of bs), kinds.Unsupported) ∷ []
+problem_header before words.Dimension bs =
+    (has words.Dimension before, kinds.Repeated) ∷ number_tests 2 100000 (first_word bs)
+problem_header before words.Capacity bs =
+    (has words.Capacity before, kinds.Repeated) ∷ number_tests 1 2000000000 (first_word bs)
+problem_header before words.EdgeWeightType bs =
+    (has words.EdgeWeightType before, kinds.Repeated) ∷ (is_none (weight_type_of bs), kinds.Unsupported) ∷ []
+problem_header before words.EdgeWeightFormat bs =
+    (has words.EdgeWeightFormat before, kinds.Repeated) ∷ (is_none (weight_format_of bs), kinds.Unsupported) ∷ []
+problem_header before words.NodeCoordType bs =
+    (has words.NodeCoordType before, kinds.Repeated) ∷ (not (is_coordinate_type bs), kinds.Unsupported) ∷ []
 problem_header before words.DisplayDataType bs = (has words.DisplayDataType before, kinds.Repeated) ∷ []
 problem_header before _ bs = (true, kinds.Unsupported) ∷ []
 
@@ -85,14 +92,15 @@ abbrev pub wanted : List Piece → Keyword → ℕ
 wanted before words.NodeCoordSection = 3 * size_of before
 wanted before words.DemandSection = 2 * size_of before
 wanted before words.DisplayDataSection = 3 * size_of before
-wanted before words.EdgeWeightSection = unwrap_or (option_map (weight_count (size_of before)) (listed_format (weight_format before))) 0
+wanted before words.EdgeWeightSection =
+    unwrap_or (option_map (weight_count (size_of before)) (listed_format (weight_format before))) 0
 wanted before _ = 0
 
 abbrev pub problem_extent : List Piece → Keyword → List Token → Extent
 problem_extent before words.DepotSection toks = depot_extent toks
 problem_extent before word toks = fixed_extent (wanted before word) toks
 
--- the tests of a section's token behind those before it
+-- the tests of a section's token after those before it
 abbrev pub token_tests : List Piece → Keyword → List Token → Token → List (Bool × TextKind)
 token_tests ps words.NodeCoordSection before t = place_tests (size_of ps) before t
 token_tests ps words.DemandSection before t = demand_tests (size_of ps) before t
@@ -105,9 +113,12 @@ abbrev pub section_tests : List Piece → Keyword → List (Bool × TextKind)
 section_tests before words.NodeCoordSection = []
 section_tests before words.DisplayDataSection = []
 section_tests before words.EdgeWeightSection =
-    (not (has words.EdgeWeightType before), kinds.Missing words.EdgeWeightType) ∷ (not (has words.EdgeWeightFormat before), kinds.Missing words.EdgeWeightFormat)
-    ∷ (not (is_explicit (weight_type before)) || is_none (listed_format (weight_format before)), kinds.Unsupported) ∷ (nat_lt 5000 (size_of before), kinds.OutOfLimit) ∷ []
-section_tests before words.DemandSection = (not (is_cvrp (problem_type before)), kinds.Unsupported) ∷ (nat_lt 5000 (size_of before), kinds.OutOfLimit) ∷ []
+    (not (has words.EdgeWeightType before), kinds.Missing words.EdgeWeightType)
+    ∷ (not (has words.EdgeWeightFormat before), kinds.Missing words.EdgeWeightFormat)
+    ∷ (not (is_explicit (weight_type before)) || is_none (listed_format (weight_format before)), kinds.Unsupported)
+    ∷ (nat_lt 5000 (size_of before), kinds.OutOfLimit) ∷ []
+section_tests before words.DemandSection =
+    (not (is_cvrp (problem_type before)), kinds.Unsupported) ∷ (nat_lt 5000 (size_of before), kinds.OutOfLimit) ∷ []
 section_tests before words.DepotSection = (not (is_cvrp (problem_type before)), kinds.Unsupported) ∷ []
 section_tests before _ = []
 
@@ -121,7 +132,9 @@ is_known_section _ = false
 
 -- the tests of a section's word
 abbrev pub word_tests : List Piece → Keyword → List (Bool × TextKind)
-word_tests before word = (not (is_known_section word), kinds.Unsupported) ∷ (has word before, kinds.Repeated) ∷ (not (has words.Type before), kinds.Missing words.Type) ∷ (not (has words.Dimension before), kinds.Missing words.Dimension) ∷ section_tests before word
+word_tests before word = (not (is_known_section word), kinds.Unsupported) ∷ (has word before, kinds.Repeated)
+    ∷ (not (has words.Type before), kinds.Missing words.Type)
+    ∷ (not (has words.Dimension before), kinds.Missing words.Dimension) ∷ section_tests before word
 
 abbrev pub section_end : Keyword → List Token → After → Option Stop
 section_end words.DepotSection toks after = depot_end toks after
@@ -133,7 +146,8 @@ section_entries _ toks = toks
 
 abbrev pub problem_section : List Piece → Keyword → ℕ → List Token → After → Option Stop
 problem_section before word n toks after =
-    or_else (first_at n (word_tests before word)) (or_else (tokens_stop (token_tests before word) [] (section_entries word toks)) (section_end word toks after))
+    or_else (first_at n (word_tests before word))
+    (or_else (tokens_stop (token_tests before word) [] (section_entries word toks)) (section_end word toks after))
 
 -- ---- the value
 
@@ -168,8 +182,10 @@ abbrev pub problem_value : List Piece → ProblemIs
 problem_value ps = record {
   name = name_of (unwrap_or (value_of words.Name ps) []);
   n = size_of ps;
-  weights = if is_explicit (weight_type ps) then Lower (lower_of ps) else Points (plane_kind (weight_type ps)) (points_of ps);
-  routing = if is_cvrp (problem_type ps) then Some (record { capacity = capacity_of ps; demand = demands_of ps; depot = depot_of ps }) else None;
+  weights = if is_explicit (weight_type ps) then Lower (lower_of ps)
+      else Points (plane_kind (weight_type ps)) (points_of ps);
+  routing = if is_cvrp (problem_type ps)
+      then Some (record { capacity = capacity_of ps; demand = demands_of ps; depot = depot_of ps }) else None;
 }
 
 -- ---- the end
@@ -187,24 +203,34 @@ over_capacity capacity c (q ∷ qs) = (nat_lt capacity q, kinds.DemandOverCapaci
 
 -- what must have come of the weights
 abbrev pub weights_ends : List Piece → List (Bool × TextKind)
-weights_ends ps = missing ps words.EdgeWeightType ∷ missing ps (if is_explicit (weight_type ps) then words.EdgeWeightSection else words.NodeCoordSection) ∷ []
+weights_ends ps =
+    missing ps words.EdgeWeightType
+    ∷ missing ps (if is_explicit (weight_type ps) then words.EdgeWeightSection else words.NodeCoordSection) ∷ []
 
 -- what must have come for a CVRP; its depot has no demand, and no node has more than a vehicle's capacity
 abbrev pub routing_ends : List Piece → List (Bool × TextKind)
 routing_ends ps =
     missing ps words.Capacity ∷ missing ps words.DemandSection ∷ missing ps words.DepotSection
-    ∷ (not (get_or (demands_of ps) (depot_of ps - 1) 0 == 0), kinds.BadDepot) ∷ over_capacity (capacity_of ps) 1 (demands_of ps)
+    ∷ (not (get_or (demands_of ps) (depot_of ps - 1) 0 == 0), kinds.BadDepot)
+    ∷ over_capacity (capacity_of ps) 1 (demands_of ps)
 
 abbrev pub routing_ends_of : List Piece → List (Bool × TextKind)
 routing_ends_of ps = if is_cvrp (problem_type ps) then routing_ends ps else []
 
 -- the first of the checks at the end of the text that holds
 abbrev pub problem_end : List Piece → Option TextKind
-problem_end ps = first_kind (missing ps words.Type ∷ missing ps words.Dimension ∷ (weights_ends ps ++ routing_ends_of ps))
+problem_end ps =
+    first_kind (missing ps words.Type ∷ missing ps words.Dimension ∷ (weights_ends ps ++ routing_ends_of ps))
 
 -- what stands in a problem text
 abbrev pub problem_format : Format ProblemIs
-problem_format = record { extent = problem_extent; header = problem_header; section = problem_section; at_end = problem_end; value = problem_value }
+problem_format = record {
+  extent = problem_extent;
+  header = problem_header;
+  section = problem_section;
+  at_end = problem_end;
+  value = problem_value;
+}
 
 -- what bytes decide: all of the text where it has ended, else what it begins with
 abbrev pub problem_decided : Bool → List ℕ → Option (Result ProblemIs TextFault)

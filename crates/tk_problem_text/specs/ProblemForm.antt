@@ -12,7 +12,8 @@ use Rattle.tk_problem_text.specs.OpenSections.{IsOpen}
 abbrev pub ProblemHolds : ProblemForm → List Piece → Type 0
 ProblemHolds s before = HasParts s.parts before
 
-pub record ProblemWants (s : ProblemForm) (before : List Piece) (word : Keyword) (n : ℕ) (toks : List Token) : Type 0 where
+pub record ProblemWants (s : ProblemForm) (before : List Piece) (word : Keyword) (n : ℕ)
+    (toks : List Token) : Type 0 where
   pub parts : HasParts s.parts before
   pub sized : has words.Dimension before ≡ true
   pub fresh : has word before ≡ false

@@ -19,7 +19,7 @@ use tk_words::{Keyword, TextKind};
 /// The nodes of a problem with explicit weights or with demands, or whose matrix is written.
 pub const TABLE_LIMIT: u32 = 5_000;
 
-/// The section of a word, behind these parts.
+/// The section of a word, after these parts.
 pub fn begin(alloc: Global, parts: &Parts, word: Keyword) -> Result<OpenSection, TextKind>
     ensures ok { (before : List Piece) (n : ℕ) → HasParts parts.now before → IfOk result (IsBegun before word n) }
     ensures err { (before : List Piece) (n : ℕ) → HasParts parts.now before

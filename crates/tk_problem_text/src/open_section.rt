@@ -76,7 +76,7 @@ impl OpenSection {
         }
     }
 
-    /// Whether the text may end behind the tokens that were taken: only behind a depot.
+    /// Whether the text may end after the tokens that were taken: only after a depot.
     pub fn may_end(&self) -> bool
         ensures yes { (before : List Piece) (word : Keyword) (n : ℕ) (toks : List Token) (line : ℕ)
             → IsOpen before word n toks self.now → result ≡ true

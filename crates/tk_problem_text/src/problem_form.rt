@@ -37,7 +37,7 @@ impl ProblemForm {
         })
     }
 
-    /// Keeps what a section gave, behind its last token.
+    /// Keeps what a section gave, after its last token.
     fn close(&mut self)
         ensures { (before : List Piece) (word : Keyword) (n : ℕ) (ps : List Piece) → HasParts self.old.parts before
             → has words.Dimension before ≡ true → has word before ≡ false → IsPast before word n self.old.current ps

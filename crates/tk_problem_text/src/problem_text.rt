@@ -16,7 +16,8 @@ use tk_words::{Source, TextFault, TextKind};
 /// Reads a problem text. What it answers is what every text says that begins with the bytes that it read, but for
 /// `Read`, where the source fails, and `NoMemory`.
 pub fn read_problem<R: Source>(alloc: Global, source: &mut R) -> Result<Problem, TextFault>
-    ensures ok { IfOk result (λ problem. IsAnswerWhereTold problem_decided text_limit (R.left source.old) (R.left source.new) (Ok (problem_is problem))) }
+    ensures ok { IfOk result (λ problem. IsAnswerWhereTold problem_decided text_limit (R.left source.old)
+        (R.left source.new) (Ok (problem_is problem))) }
     ensures named { IfOk result (λ problem. IsName (problem_is problem).name) }
     ensures err { IfErr result (IsTold (R.broken source.new
         ≡ true) (IsAnswerWhereTold problem_decided text_limit (R.left source.old) (R.left source.new))) }

@@ -67,7 +67,7 @@ module _ {V : Type 0} (d : Decided V) (limit : ℕ) (bs piece : List ℕ) (i : �
       let a : Result V TextFault = Err (record { line = line_behind (bs ++ take i piece); kind = kinds.TooLong }) in
       subst (λ (x : List ℕ). Answers d limit x a) (sym (split_piece bs piece i lt)) (answers_more d limit _ (drop (i + 1) piece) a (answers_too_long d limit (bs ++ take i piece) (get_or piece i 0) len none))
 
--- a byte, and a run of the bytes behind it
+-- a byte, and a run of the bytes after it
 pub taken_on : (bs piece : List ℕ) (i run room : ℕ) → i < length piece → run ≤ room → ((bs ++ take i piece) ++ get_or piece i 0 ∷ []) ++ take run (take room (drop (i + 1) piece)) ≡ bs ++ take (i + 1 + run) piece
 taken_on bs piece i run room lt le =
     let behind = take run (drop (i + 1) piece) in

@@ -22,14 +22,16 @@ Answers decided limit bs a = (more : List ℕ) → answer_of decided limit (bs +
 
 -- what a reader answered, by the text and what is left of it: it is the text's answer, and where not all of the text
 -- was read, it is the answer to every text that begins with the bytes read
-pub record IsAnswer {V : Type 0} (decided : Decided V) (limit : ℕ) (text rest : List ℕ) (a : Result V TextFault) : Type 0 where
+pub record IsAnswer {V : Type 0} (decided : Decided V) (limit : ℕ) (text rest : List ℕ)
+    (a : Result V TextFault) : Type 0 where
   pub read : List ℕ
   pub parts : text ≡ read ++ rest
   pub answer : answer_of decided limit text ≡ a
   pub unread : rest ≢ [] → Answers decided limit read a
 
 -- the same where the bytes are told
-abbrev pub IsAnswerWhereTold : {V : Type 0} → Decided V → ℕ → Option (List ℕ) → Option (List ℕ) → Result V TextFault → Type 0
+abbrev pub IsAnswerWhereTold : {V : Type 0} → Decided V → ℕ → Option (List ℕ) → Option (List ℕ) → Result V TextFault →
+    Type 0
 IsAnswerWhereTold decided limit old new a =
     IfSome old (λ text. (rest : List ℕ) × (new ≡ Some rest) × IsAnswer decided limit text rest a)
 

@@ -72,7 +72,7 @@ pub concat-map : (f : ℕ → ℕ) (xss : List (List ℕ)) → concat (map (map 
 concat-map f [] = refl
 concat-map f (xs ∷ xss) = ap (λ v. map f xs ++ v) (concat-map f xss) ∙ sym (map-append f xs (concat xss))
 
--- behind the depot, each other node stands once: so does each customer
+-- after the depot, each other node stands once: so does each customer
 pub IsTour-customers : (n depot : ℕ) (xs : List ℕ) → IsCity n depot → IsTour n (depot ∷ xs) → IsTour (n - 1) (map (customer_of depot) xs) × (occurrences depot xs ≡ 0)
 IsTour-customers n depot xs city tour =
     let none : occurrences depot xs ≡ 0 = omega (arith, tour.1 depot city.0 city.1, occurrences-same depot depot xs refl) in (

@@ -27,7 +27,7 @@ cycle_length xs ys (inr h) =
 pub IsTour-cycle : (n : ℕ) (xs ys : List ℕ) → IsTour n xs → SameCycle xs ys → IsTour n ys
 IsTour-cycle n xs ys tour same = (cycle_length xs ys same ∙ tour.0, λ c low high. occurrences-cycle c same ∙ tour.1 c low high)
 
--- the places behind the depot's are those of the customers
+-- the places after the depot's are those of the customers
 inside : (n p : ℕ) (front back : List ℕ) → IsTour n (1 ∷ (front ++ p ∷ back)) → (2 ≤ p) × (p ≤ n)
 inside n p front back tour =
     let once = occurrences-append p front (p ∷ back) in

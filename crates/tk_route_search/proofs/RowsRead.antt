@@ -9,7 +9,7 @@ use Rattle.std.proofs.lemmas.Nat.{div-mul-add, mod-mul-add}
 use Rattle.tk_metric.specs.Cities.{IsCity}
 use Rattle.tk_route_search.specs.Rows.{AreRows}
 
--- the distance at place b, from 0, behind a whole rows
+-- the distance at place b, from 0, after a whole rows
 row_distance : (dist : ℕ → ℕ → ℕ) (n a b : ℕ) → b < n → dist ((a * n + b) / n + 1) ((a * n + b) % n + 1) ≡ dist (a + 1) (b + 1)
 row_distance dist n a b h = ap (λ (x : ℕ). dist (x + 1) ((a * n + b) % n + 1)) (div-mul-add a n b h) ∙ ap (λ (y : ℕ). dist (a + 1) (y + 1)) (mod-mul-add a n b h)
 

@@ -3,15 +3,18 @@
 --     IsReadOff route cycle new      a cycle of places as a route again
 --     IsImproved i k m route new moves tests      a descent from the depot and the route, read off from the depot
 --     AreImproved i k m olds news moves tests most      each route so improved
+--     IsReported i k m olds news report      each route so improved, by the moves and tests of a report
 --     IsImprovedPart i k m olds news      the routes before some place so improved
+--     most_tests k m places moves      the most gain tests of descents with so many moves in all
 use Rattle.std.specs.Prelude.{◌≡◌, ℕ, ◌+◌, ◌-◌, ◌*◌, ◌/◌, ◌≤◌, min, List, [], ◌∷◌, ◌++◌, length, map, slice_index}
 use Rattle.tk_metric.specs.Cities.{IsCity, city_at}
 use Rattle.tk_near.specs.Near.{IsNear}
 use Rattle.tk_tour.specs.Tour.{SameCycle}
 use Rattle.tk_descent.specs.Awake.{one_to}
 use Rattle.tk_descent.specs.Sweeps.{Pass}
-use Rattle.tk_routes.specs.Instance.{Instance}
-use Rattle.tk_routes.specs.Routes.{route_nodes}
+use Rattle.tk_routes.specs.Instance.{Instance, customer_count}
+use Rattle.tk_routes.specs.Routes.{route_nodes, routes_cost}
+use Rattle.tk_route_search.specs.declared.route_report.RouteReport.{RouteReport}
 
 abbrev pub place_distance : (ℕ → ℕ → ℕ) → List ℕ → ℕ → ℕ → ℕ
 place_distance dist nodes a b = dist (city_at nodes a) (city_at nodes b)
@@ -31,23 +34,47 @@ pub record IsReadOff (route cycle new : List ℕ) : Type 0 where
   pub read : new ≡ map (customer_at route) places
   pub turned : IsTurned new
 
--- A descent with all cities awake, over the places of the depot and the route and their near lists, with at most k candidates for
--- each. The new route is its result, read off.
+-- A descent with all cities awake, over the places of the depot and the route and their near lists, with at most k
+-- candidates for each. The new route is its result, read off.
 pub record IsImproved (i : Instance) (k m : ℕ) (route new : List ℕ) (moves tests : ℕ) : Type 0 where
   pub near : ℕ → List ℕ
   pub nearest : (c : ℕ) → IsCity (length route + 1) c →
       IsNear (place_distance i.distance (route_nodes i route)) (length route + 1) (min k (length route)) c (near c)
   pub cycle : List ℕ
   pub looks : ℕ
-  pub descent : Pass (place_distance i.distance (route_nodes i route)) near m (one_to (length route + 1)) cycle looks moves tests
+  pub descent : Pass (place_distance i.distance (route_nodes i route)) near m
+      (one_to (length route + 1)) cycle looks moves tests
   pub read : IsReadOff route cycle new
 
 -- each route so improved, with the moves and tests in all and the most swaps that they take
 pub data AreImproved (i : Instance) (k m : ℕ) : List (List ℕ) → List (List ℕ) → ℕ → ℕ → ℕ → Type 0 where
   none : AreImproved i k m [] [] 0 0 0
-  more : {olds news : List (List ℕ)} {old new : List ℕ} {moves tests most made tried : ℕ} → AreImproved i k m olds news moves tests most →
+  more : {olds news : List (List ℕ)} {old new : List ℕ} {moves tests most made tried : ℕ} →
+      AreImproved i k m olds news moves tests most →
       IsImproved i k m old new made tried →
-      AreImproved i k m (olds ++ old ∷ []) (news ++ new ∷ []) (moves + made) (tests + tried) (most + 3 * ((length old + 1) / 4) * made)
+      AreImproved i k m (olds ++ old ∷ []) (news ++ new ∷ []) (moves + made) (tests + tried)
+      (most + 3 * ((length old + 1) / 4) * made)
+
+-- each route so improved, by the moves and the tests of a report, and by no more swaps than its moves can take
+abbrev pub IsReported : Instance → ℕ → ℕ → List (List ℕ) → List (List ℕ) → RouteReport → Type 0
+IsReported i k m olds news report =
+    (most : ℕ) × (AreImproved i k m olds news report.moves report.tests most × (report.swaps ≤ most))
+
+-- each move makes the cost less
+abbrev pub MovesSave : Instance → List (List ℕ) → List (List ℕ) → ℕ → Type 0
+MovesSave i olds news moves = moves + routes_cost i news ≤ routes_cost i olds
+
+-- how much less the new routes cost
+abbrev pub saved_cost : Instance → List (List ℕ) → List (List ℕ) → ℕ
+saved_cost i olds news = routes_cost i olds - routes_cost i news
+
+-- the places of a descent over each route: those of its customers, and the depot's
+abbrev pub place_count : Instance → List (List ℕ) → ℕ
+place_count i routes = customer_count i + length routes
+
+-- each place is looked at, and six more for each move; a look tries k candidates, each with 4 m offers
+abbrev pub most_tests : ℕ → ℕ → ℕ → ℕ → ℕ
+most_tests k m places moves = 4 * m * k * (places + 6 * moves)
 
 -- the routes before some place so improved, and the others as they were
 pub record IsImprovedPart (i : Instance) (k m : ℕ) (olds news : List (List ℕ)) : Type 0 where

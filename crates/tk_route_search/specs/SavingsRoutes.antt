@@ -6,4 +6,5 @@ use Rattle.tk_routes.specs.Instance.{Instance, node_of}
 
 -- the nodes of each route are a list of the merges
 abbrev pub AreSavingsRoutes : Instance → (ℕ → List ℕ) → List (List ℕ) → Type 0
-AreSavingsRoutes i near routes = AreSavingsLists i.distance near i.size i.depot (load_of i.demands) i.capacity (map (map (node_of i.depot)) routes)
+AreSavingsRoutes i near routes =
+    AreSavingsLists i.distance near i.size i.depot (load_of i.demands) i.capacity (map (map (node_of i.depot)) routes)

@@ -1,10 +1,11 @@
 //! Each route made shorter by itself.
-ghost use Rattle.std.specs.Prelude.{◌≡◌, pos, ◌+◌, ◌-◌, ◌*◌, ◌≤◌, IfOk, IfErr, length, map, ℕ};
+ghost use Rattle.std.specs.Prelude.{◌≡◌, pos, ◌+◌, ◌≤◌, IfOk, IfErr, length};
 ghost use Rattle.tk_routes.specs.Cvrps.{instance_of};
 ghost use Rattle.tk_routes.specs.Instance.{customer_count};
 ghost use Rattle.tk_routes.specs.Routes.{AreRoutes, routes_cost};
-ghost use Rattle.tk_route_search.specs.RouteLists.{instance_of_routes, routes_of};
-ghost use Rattle.tk_route_search.specs.ImprovedRoutes.{AreImproved, IsImprovedPart};
+ghost use Rattle.tk_route_search.specs.RouteLists.{instance_of_routes, lists_of, routes_of};
+ghost use Rattle.tk_route_search.specs.ImprovedRoutes.{IsReported, IsImprovedPart, MovesSave};
+ghost use Rattle.tk_route_search.specs.ImprovedRoutes.{most_tests, place_count, saved_cost};
 
 use crate::one_route::improve_route;
 use crate::route_report::RouteReport;
@@ -20,25 +21,25 @@ fn improve_each(
     max_candidates: u32,
     m: u32,
 ) -> Result<RouteReport, AllocError>
-    requires routes { AreRoutes (instance_of cvrp.now) (map (λ r. r.items) lists.old) }
+    requires routes { AreRoutes (instance_of cvrp.now) (lists_of lists.old) }
     requires candidates { (1 ≤ max_candidates) × (max_candidates ≤ 100) }
     requires most { (1 ≤ m) × (m ≤ 3) }
-    ensures improved { IfOk result (λ r. (most : ℕ)
-        × (AreImproved (instance_of cvrp.now) max_candidates m (map (λ r. r.items) lists.old) (map
-        (λ r. r.items) lists.new) r.moves r.tests most × (r.swaps ≤ most))) }
-    ensures before { IfOk result (λ r. r.before
-        ≡ pos (routes_cost (instance_of cvrp.now) (map (λ r. r.items) lists.old))) }
-    ensures after { IfOk result (λ r. r.after
-        ≡ pos (routes_cost (instance_of cvrp.now) (map (λ r. r.items) lists.new))) }
-    ensures moves { IfOk result (λ r. r.moves + routes_cost (instance_of cvrp.now) (map
-        (λ r. r.items) lists.new) ≤ routes_cost (instance_of cvrp.now) (map (λ r. r.items) lists.old)) }
-    ensures tests { IfOk result (λ r. r.tests ≤ 4 * m * max_candidates * (customer_count (instance_of cvrp.now) + length lists.old + 6 * r.moves)) }
-    ensures headline { IfOk result (λ r. r.tests ≤ 4 * m * max_candidates * (customer_count (instance_of cvrp.now) + length lists.old + 6 * (routes_cost (instance_of cvrp.now) (map (λ r. r.items) lists.old) - routes_cost (instance_of cvrp.now) (map (λ r. r.items) lists.new)))) }
-    ensures part { IfErr result (λ _. IsImprovedPart (instance_of cvrp.now) max_candidates m (map
-        (λ r. r.items) lists.old) (map (λ r. r.items) lists.new)) }
-    ensures routes { AreRoutes (instance_of cvrp.now) (map (λ r. r.items) lists.new) }
-    ensures cost { routes_cost (instance_of cvrp.now) (map
-        (λ r. r.items) lists.new) ≤ routes_cost (instance_of cvrp.now) (map (λ r. r.items) lists.old) }
+    ensures improved { IfOk result
+        (IsReported (instance_of cvrp.now) max_candidates m (lists_of lists.old) (lists_of lists.new)) }
+    ensures before { IfOk result (λ r. r.before ≡ pos (routes_cost (instance_of cvrp.now) (lists_of lists.old))) }
+    ensures after { IfOk result (λ r. r.after ≡ pos (routes_cost (instance_of cvrp.now) (lists_of lists.new))) }
+    ensures moves { IfOk result
+        (λ r. MovesSave (instance_of cvrp.now) (lists_of lists.old) (lists_of lists.new) r.moves) }
+    ensures tests { IfOk result (λ r. r.tests
+        ≤ most_tests max_candidates m (customer_count (instance_of cvrp.now) + length lists.old) r.moves) }
+    ensures headline { IfOk result (λ r. r.tests
+        ≤ most_tests max_candidates m (customer_count (instance_of cvrp.now) + length lists.old)
+        (saved_cost (instance_of cvrp.now) (lists_of lists.old) (lists_of lists.new))) }
+    ensures part { IfErr result (λ _.
+        IsImprovedPart (instance_of cvrp.now) max_candidates m (lists_of lists.old) (lists_of lists.new)) }
+    ensures routes { AreRoutes (instance_of cvrp.now) (lists_of lists.new) }
+    ensures cost { routes_cost (instance_of cvrp.now) (lists_of lists.new)
+        ≤ routes_cost (instance_of cvrp.now) (lists_of lists.old) }
 {
     let before = cost_of(cvrp, lists);
     let mut after = before;
@@ -62,12 +63,15 @@ fn improve_each(
     })
 }
 
-/// Improves each route by itself, in the place where it stands: by a descent from the depot and the route with all its nodes awake.
+/// Improves each route by itself, in the place where it stands: by a descent from the depot and the route with all its
+/// nodes awake.
 ///
-/// `max_candidates` is the greatest number of near nodes that a look tries, and `m` the greatest segment length of an Or-move.
+/// `max_candidates` is the greatest number of near nodes that a look tries, and `m` the greatest segment length of an
+/// Or-move.
 ///
 /// # Errors
-/// `AllocError` where there is no memory for a descent. The routes before some place are improved then, and the others are as before.
+/// `AllocError` where there is no memory for a descent. The routes before some place are improved then, and the others
+/// are as before.
 pub fn improve(
     alloc: Global,
     cvrp: &Cvrp<'_>,
@@ -78,16 +82,22 @@ pub fn improve(
     requires same { instance_of_routes routes.old ≡ instance_of cvrp.now }
     requires candidates { (1 ≤ max_candidates) × (max_candidates ≤ 100) }
     requires most { (1 ≤ m) × (m ≤ 3) }
-    ensures improved { IfOk result (λ r. (most : ℕ)
-        × (AreImproved (instance_of cvrp.now) max_candidates m (routes_of routes.old) (routes_of routes.new) r.moves r.tests most × (r.swaps ≤ most))) }
+    ensures improved { IfOk result
+        (IsReported (instance_of cvrp.now) max_candidates m (routes_of routes.old) (routes_of routes.new)) }
     ensures before { IfOk result (λ r. r.before ≡ pos (routes_cost (instance_of cvrp.now) (routes_of routes.old))) }
     ensures after { IfOk result (λ r. r.after ≡ pos (routes_cost (instance_of cvrp.now) (routes_of routes.new))) }
-    ensures moves { IfOk result (λ r. r.moves + routes_cost (instance_of cvrp.now) (routes_of routes.new) ≤ routes_cost (instance_of cvrp.now) (routes_of routes.old)) }
-    ensures tests { IfOk result (λ r. r.tests ≤ 4 * m * max_candidates * (customer_count (instance_of cvrp.now) + length (routes_of routes.old) + 6 * r.moves)) }
-    ensures headline { IfOk result (λ r. r.tests ≤ 4 * m * max_candidates * (customer_count (instance_of cvrp.now) + length (routes_of routes.old) + 6 * (routes_cost (instance_of cvrp.now) (routes_of routes.old) - routes_cost (instance_of cvrp.now) (routes_of routes.new)))) }
-    ensures part { IfErr result (λ _. IsImprovedPart (instance_of cvrp.now) max_candidates m (routes_of routes.old) (routes_of routes.new)) }
+    ensures moves { IfOk result
+        (λ r. MovesSave (instance_of cvrp.now) (routes_of routes.old) (routes_of routes.new) r.moves) }
+    ensures tests { IfOk result (λ r. r.tests
+        ≤ most_tests max_candidates m (place_count (instance_of cvrp.now) (routes_of routes.old)) r.moves) }
+    ensures headline { IfOk result (λ r. r.tests
+        ≤ most_tests max_candidates m (place_count (instance_of cvrp.now) (routes_of routes.old))
+        (saved_cost (instance_of cvrp.now) (routes_of routes.old) (routes_of routes.new))) }
+    ensures part { IfErr result (λ _.
+        IsImprovedPart (instance_of cvrp.now) max_candidates m (routes_of routes.old) (routes_of routes.new)) }
     ensures routes { AreRoutes (instance_of cvrp.now) (routes_of routes.new) }
-    ensures cost { routes_cost (instance_of cvrp.now) (routes_of routes.new) ≤ routes_cost (instance_of cvrp.now) (routes_of routes.old) }
+    ensures cost { routes_cost (instance_of cvrp.now) (routes_of routes.new)
+        ≤ routes_cost (instance_of cvrp.now) (routes_of routes.old) }
     ensures kept { instance_of_routes routes.new ≡ instance_of_routes routes.old }
 {
     improve_each(alloc, cvrp, &mut routes.lists, max_candidates, m)

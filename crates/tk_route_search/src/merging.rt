@@ -33,8 +33,9 @@ fn number_all(depot: u32, lists: &mut [Vec<u32>])
     }
 }
 
-/// The routes of the savings merges: each customer begins on a route of its own, and routes are joined at their ends, the greatest
-/// saving first, as long as the joint load is at most the capacity. Each begins at its lesser end, and they are ordered by first customer.
+/// The routes of the savings merges: each customer begins on a route of its own, and routes are joined at their ends,
+/// the greatest saving first, as long as the joint load is at most the capacity. Each begins at its lesser end, and
+/// they are ordered by first customer.
 ///
 /// # Errors
 /// `AllocError` where there is no memory for the merges or the routes.

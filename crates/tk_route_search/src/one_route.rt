@@ -69,12 +69,14 @@ fn descend_awake<M: Metric>(
     requires some { 2 ≤ M.size_of metric.now }
     requires fits { near.now.size ≡ M.size_of metric.now }
     requires most { (1 ≤ m) × (m ≤ 3) }
-    ensures pass { IfOk result (λ r. Pass (M.distance metric.now) (near_of near.now) m (one_to (M.size_of metric.now)) (order_of r.0) r.1.looks r.1.moves r.1.tests) }
+    ensures pass { IfOk result (λ r. Pass (M.distance metric.now) (near_of near.now) m (one_to (M.size_of metric.now))
+        (order_of r.0) r.1.looks r.1.moves r.1.tests) }
     ensures tour { IfOk result (λ r. IsTour (M.size_of metric.now) (order_of r.0)) }
     ensures before { IfOk result (λ r. r.1.before
         ≡ pos (tour_length (M.distance metric.now) (one_to (M.size_of metric.now)))) }
     ensures after { IfOk result (λ r. r.1.after ≡ pos (tour_length (M.distance metric.now) (order_of r.0))) }
-    ensures moves { IfOk result (λ r. r.1.moves + tour_length (M.distance metric.now) (order_of r.0) ≤ tour_length (M.distance metric.now) (one_to (M.size_of metric.now))) }
+    ensures moves { IfOk result (λ r. r.1.moves + tour_length (M.distance metric.now) (order_of r.0)
+        ≤ tour_length (M.distance metric.now) (one_to (M.size_of metric.now))) }
     ensures tests { IfOk result (λ r. r.1.tests ≤ 4 * m * near.now.width * (M.size_of metric.now + 6 * r.1.moves)) }
     ensures swaps { IfOk result (λ r. r.1.swaps ≤ 3 * (M.size_of metric.now / 4) * r.1.moves) }
 {
@@ -90,7 +92,8 @@ fn descend_awake<M: Metric>(
     Ok((tour, report))
 }
 
-/// The customers at the places of a cycle behind the depot's, which is the first. The first of them is not greater than the last.
+/// The customers at the places of a cycle after the depot's, which is the first. The first of them is not greater than
+/// the last.
 fn read_off(alloc: Global, route: &[u32], cycle: &[u32]) -> Result<Vec<u32>, AllocError>
     requires some { 1 ≤ length route.now }
     requires tour { IsTour (length route.now + 1) cycle.now }
@@ -107,8 +110,8 @@ fn read_off(alloc: Global, route: &[u32], cycle: &[u32]) -> Result<Vec<u32>, All
     Ok(customers)
 }
 
-/// A route after a descent from the depot and the route, with all its nodes awake, and what the descent did. The metric has the
-/// distances among the depot and the nodes of the route.
+/// A route after a descent from the depot and the route, with all its nodes awake, and what the descent did. The metric
+/// has the distances among the depot and the nodes of the route.
 fn improve_over<M: Metric>(
     alloc: Global,
     cvrp: &Cvrp<'_>,
@@ -123,11 +126,13 @@ fn improve_over<M: Metric>(
     requires some { 1 ≤ length route.now }
     requires candidates { (1 ≤ max_candidates) × (max_candidates ≤ 100) }
     requires most { (1 ≤ m) × (m ≤ 3) }
-    ensures improved { IfOk result (λ r. IsImproved (instance_of cvrp.now) max_candidates m route.now r.0.items r.1.moves r.1.tests) }
+    ensures improved { IfOk result (λ r. IsImproved
+        (instance_of cvrp.now) max_candidates m route.now r.0.items r.1.moves r.1.tests) }
     ensures same { IfOk result (λ r. IsPermutation route.now r.0.items) }
     ensures before { IfOk result (λ r. r.1.before ≡ pos (route_length (instance_of cvrp.now) route.now)) }
     ensures after { IfOk result (λ r. r.1.after ≡ pos (route_length (instance_of cvrp.now) r.0.items)) }
-    ensures moves { IfOk result (λ r. r.1.moves + route_length (instance_of cvrp.now) r.0.items ≤ route_length (instance_of cvrp.now) route.now) }
+    ensures moves { IfOk result (λ r. r.1.moves + route_length (instance_of cvrp.now) r.0.items
+        ≤ route_length (instance_of cvrp.now) route.now) }
     ensures tests { IfOk result (λ r. r.1.tests ≤ 4 * m * max_candidates * (length route.now + 1 + 6 * r.1.moves)) }
     ensures swaps { IfOk result (λ r. r.1.swaps ≤ 3 * ((length route.now + 1) / 4) * r.1.moves) }
 {
@@ -153,11 +158,13 @@ pub(crate) fn improve_route(
     requires few { length route.now < 100000 }
     requires candidates { (1 ≤ max_candidates) × (max_candidates ≤ 100) }
     requires most { (1 ≤ m) × (m ≤ 3) }
-    ensures improved { IfOk result (λ r. IsImproved (instance_of cvrp.now) max_candidates m route.now r.0.items r.1.moves r.1.tests) }
+    ensures improved { IfOk result (λ r. IsImproved
+        (instance_of cvrp.now) max_candidates m route.now r.0.items r.1.moves r.1.tests) }
     ensures same { IfOk result (λ r. IsPermutation route.now r.0.items) }
     ensures before { IfOk result (λ r. r.1.before ≡ pos (route_length (instance_of cvrp.now) route.now)) }
     ensures after { IfOk result (λ r. r.1.after ≡ pos (route_length (instance_of cvrp.now) r.0.items)) }
-    ensures moves { IfOk result (λ r. r.1.moves + route_length (instance_of cvrp.now) r.0.items ≤ route_length (instance_of cvrp.now) route.now) }
+    ensures moves { IfOk result (λ r. r.1.moves + route_length (instance_of cvrp.now) r.0.items
+        ≤ route_length (instance_of cvrp.now) route.now) }
     ensures tests { IfOk result (λ r. r.1.tests ≤ 4 * m * max_candidates * (length route.now + 1 + 6 * r.1.moves)) }
     ensures swaps { IfOk result (λ r. r.1.swaps ≤ 3 * ((length route.now + 1) / 4) * r.1.moves) }
 {

@@ -5,7 +5,8 @@ ghost use Rattle.tk_routes.specs.Routes.{AreRoutes};
 
 use tk_routes::Cvrp;
 
-/// Routes of a routing problem: each customer is on one of them, none of them is empty, and no load is over the capacity.
+/// Routes of a routing problem: each customer is on one of them, none of them is empty, and no load is over the
+/// capacity.
 #[derive(Drop)]
 pub struct Routes<'a> {
     pub(crate) cvrp: Cvrp<'a>,

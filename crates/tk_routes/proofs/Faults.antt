@@ -11,7 +11,7 @@ use Rattle.tk_routes.specs.declared.verdict.RouteVerdict.TheVariants.{BadCustome
 use Rattle.tk_routes.proofs.CutLists.{cut_at, cut_map, concat-take_more}
 use Rattle.tk_routes.proofs.Served.{AreServed-more, served_before}
 
--- the k-th customer of a route stands behind those of the routes before and the first k of its own
+-- the k-th customer of a route comes after those of the routes before and the first k of its own
 stands_at : (before after : List (List ℕ)) (number : ℕ) (route : List ℕ) (k : ℕ) → number ≡ length before + 1 → k < length route →
     StandsAt (before ++ route ∷ after) number (get_or route k 0) (concat before ++ take k route)
 stands_at before after number route k is lt = record {

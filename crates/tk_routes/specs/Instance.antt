@@ -20,7 +20,8 @@ pub record Instance : Type 0 where
 pub record IsInstanceOf (problem : Problem) (i : Instance) : Type 0 where
   pub size : i.size ≡ problem.n
   pub distance : (a b : ℕ) → i.distance a b ≡ problem_distance problem.weights a b
-  pub routing : IsSomeAnd problem.routing (λ r. (i.demands ≡ r.demand.items) × (i.capacity ≡ r.capacity) × (i.depot ≡ r.depot))
+  pub routing : IsSomeAnd problem.routing (λ r. (i.demands ≡ r.demand.items) × (i.capacity ≡ r.capacity)
+      × (i.depot ≡ r.depot))
 
 abbrev pub customer_count : Instance → ℕ
 customer_count i = i.size - 1

@@ -30,8 +30,11 @@ pub record AreServedOnce (m : ℕ) (xs : List ℕ) : Type 0 where
 
 -- a customer that is none of 1 to m, or one that stands earlier too, after customers without a fault
 abbrev pub IsCustomerFault : ℕ → List (List ℕ) → RouteVerdict → Type 0
-IsCustomerFault m routes (BadCustomer r x) = (earlier : List ℕ) × (StandsAt routes r x earlier × AreServedOnce m earlier × (¬ IsCity m x))
-IsCustomerFault m routes (ServedTwice x) = (r : ℕ) × ((earlier : List ℕ) × (StandsAt routes r x earlier × AreServedOnce m earlier × (1 ≤ occurrences x earlier)))
+IsCustomerFault m routes (BadCustomer r x) =
+    (earlier : List ℕ) × (StandsAt routes r x earlier × AreServedOnce m earlier × (¬ IsCity m x))
+IsCustomerFault m routes (ServedTwice x) =
+    (r : ℕ)
+    × ((earlier : List ℕ) × (StandsAt routes r x earlier × AreServedOnce m earlier × (1 ≤ occurrences x earlier)))
 IsCustomerFault m routes (Valid k cost) = ⊥
 IsCustomerFault m routes (OverCapacity r load) = ⊥
 IsCustomerFault m routes (NotServed x) = ⊥
@@ -67,15 +70,19 @@ pub record IsFirstMissing (m : ℕ) (xs : List ℕ) (x : ℕ) : Type 0 where
 abbrev pub filled_of : List (List ℕ) → List (List ℕ)
 filled_of routes = filter (λ route. nat_lt 0 (length route)) routes
 
--- the first fault: customer by customer in the order of the text, then by capacity, then the lowest customer that is on no
--- route, then by cost. Without one, the routes that hold a customer are routes of that cost.
+-- the first fault: customer by customer in the order of the text, then by capacity, then the lowest customer that is on
+-- no route, then by cost. Without one, the routes that hold a customer are routes of that cost.
 abbrev pub IsRouteVerdict : Instance → List (List ℕ) → ℤ → RouteVerdict → Type 0
 IsRouteVerdict i routes cost (BadCustomer r x) = IsCustomerFault (customer_count i) routes (BadCustomer r x)
 IsRouteVerdict i routes cost (ServedTwice x) = IsCustomerFault (customer_count i) routes (ServedTwice x)
-IsRouteVerdict i routes cost (OverCapacity r load) = AreServedOnce (customer_count i) (concat routes) × IsFirstOver i routes r load
+IsRouteVerdict i routes cost (OverCapacity r load) =
+    AreServedOnce (customer_count i) (concat routes) × IsFirstOver i routes r load
 IsRouteVerdict i routes cost (NotServed x) =
-    AreServedOnce (customer_count i) (concat routes) × All (IsLight i) routes × IsFirstMissing (customer_count i) (concat routes) x
+    AreServedOnce (customer_count i) (concat routes) × All (IsLight i) routes
+    × IsFirstMissing (customer_count i) (concat routes) x
 IsRouteVerdict i routes cost (WrongCost read counted) =
-    AreRoutes i (filled_of routes) × (read ≡ cost) × (counted ≡ pos (routes_cost i (filled_of routes))) × (read ≢ counted)
+    AreRoutes i (filled_of routes) × (read ≡ cost) × (counted ≡ pos (routes_cost i (filled_of routes)))
+    × (read ≢ counted)
 IsRouteVerdict i routes cost (Valid k counted) =
-    AreRoutes i (filled_of routes) × (k ≡ length (filled_of routes)) × (counted ≡ pos (routes_cost i (filled_of routes))) × (counted ≡ cost)
+    AreRoutes i (filled_of routes) × (k ≡ length (filled_of routes))
+    × (counted ≡ pos (routes_cost i (filled_of routes))) × (counted ≡ cost)

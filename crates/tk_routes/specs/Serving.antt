@@ -16,4 +16,5 @@ AreMarked served k = (j : ℕ) → j < k → slice_index_or served j false ≡ t
 -- the lowest customer without a mark, where there is one
 abbrev pub IsLowestFree : List Bool → Option ℕ → Type 0
 IsLowestFree served r =
-    MatchOption r (AreMarked served (length served)) (λ x. IsCity (length served) x × (slice_index_or served (x - 1) false ≡ false) × AreMarked served (x - 1))
+    MatchOption r (AreMarked served (length served))
+    (λ x. IsCity (length served) x × (slice_index_or served (x - 1) false ≡ false) × AreMarked served (x - 1))

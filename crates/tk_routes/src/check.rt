@@ -15,7 +15,8 @@ use tk_lists::SolText;
 /// Notes the customers of a route as served, up to the first that is no customer, or served before.
 fn serve(number: u64, route: &[u32], served: &mut [bool]) -> Option<RouteVerdict>
     ensures { (before after : List (List ℕ)) → number ≡ length before + 1 → AreServed served.old (concat before) →
-        MatchOption result (AreServed served.new (concat before ++ route.now)) (IsCustomerFault (length served.old) (before ++ route.now ∷ after)) }
+        MatchOption result (AreServed served.new (concat before ++ route.now))
+        (IsCustomerFault (length served.old) (before ++ route.now ∷ after)) }
 {
     for &customer in route {
         if customer == 0 || customer as usize > served.len() {

@@ -6,8 +6,8 @@ ghost use Rattle.tk_metric.specs.Tables.{table_size, table_distance};
 use tk_metric::{Metric, Table};
 use tk_problem::Problem;
 
-/// A capacitated routing problem: the distances among its nodes, their demands, the capacity of a vehicle and the depot's node.
-/// Customer k is the k-th node that is not the depot.
+/// A capacitated routing problem: the distances among its nodes, their demands, the capacity of a vehicle and the
+/// depot's node. Customer k is the k-th node that is not the depot.
 #[derive(Clone, Copy)]
 pub struct Cvrp<'a> {
     /// The distances among its nodes.

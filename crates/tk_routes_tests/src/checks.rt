@@ -46,7 +46,7 @@ fn verdict(
     Ok(Some(check_routes(alloc, &cvrp, &text)?))
 }
 
-/// An empty route counts for nothing but the numbers of the routes behind it.
+/// An empty route counts for nothing but the numbers of the routes after it.
 #[test]
 fn two_routes(rt: HostRuntime) -> Result<(), Fail> {
     let valid = Some(RouteVerdict::Valid {
@@ -60,7 +60,8 @@ fn two_routes(rt: HostRuntime) -> Result<(), Fail> {
     Ok(())
 }
 
-/// A fault among the customers comes before one of capacity, that before a customer who is not served, and that before the cost.
+/// A fault among the customers comes before one of capacity, that before a customer who is not served, and that before
+/// the cost.
 #[test]
 fn first_faults(rt: HostRuntime) -> Result<(), Fail> {
     let faults: &[(&[&[u32]], RouteVerdict)] = &[

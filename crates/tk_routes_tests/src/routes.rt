@@ -91,8 +91,8 @@ fn solves(
     Ok(become_those(alloc, &cvrp, saved, improved, want)?)
 }
 
-/// Nothing is gained on two short routes: each has three nodes with two candidates and three tests for each. Routes that save nothing
-/// are not joined, whether or not there is room.
+/// Nothing is gained on two short routes: each has three nodes with two candidates and three tests for each. Routes
+/// that save nothing are not joined, whether or not there is room.
 #[test]
 fn two_sides_of_the_depot(rt: HostRuntime) -> Result<(), Fail> {
     let told = report(44, 44, [0, 36, 0]);
@@ -126,8 +126,8 @@ fn one_move_of_seven(rt: HostRuntime) -> Result<(), Fail> {
     Ok(())
 }
 
-/// Of equal savings the pair with the lower first customer is joined, and then the one with the lower second. A route of one customer
-/// takes four tests.
+/// Of equal savings the pair with the lower first customer is joined, and then the one with the lower second. A route
+/// of one customer takes four tests.
 #[test]
 fn equal_savings(rt: HostRuntime) -> Result<(), Fail> {
     let told = report(50, 50, [0, 22, 0]);

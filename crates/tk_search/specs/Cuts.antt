@@ -11,7 +11,7 @@ use Rattle.rand.specs.Draw.{draw_map}
 use Rattle.rand.specs.Uniform.{canon}
 use Rattle.tk_search.specs.declared.double_bridges.cuts.Cuts.{Cuts}
 
--- each cut lies behind the one before it and before the end, so that no part is empty
+-- each cut lies after the one before it and before the end, so that no part is empty
 pub record AreCuts (n : ℕ) (cuts : Cuts) : Type 0 where
   pub first : 1 ≤ cuts.p
   pub second : cuts.p < cuts.q
@@ -57,7 +57,8 @@ turn_swaps n k = min k (n - k) / 2
 
 -- the swaps of the four flips of a double bridge: each turns one part round, or all others
 abbrev pub kick_swaps : ℕ → Cuts → ℕ
-kick_swaps n cuts = turn_swaps n cuts.p + turn_swaps n (cuts.q - cuts.p) + turn_swaps n (cuts.r - cuts.q) + turn_swaps n (n - cuts.r)
+kick_swaps n cuts =
+    turn_swaps n cuts.p + turn_swaps n (cuts.q - cuts.p) + turn_swaps n (cuts.r - cuts.q) + turn_swaps n (n - cuts.r)
 
 -- the steps that the double bridge takes out, and those that it puts in, by the first and the last city of each part
 abbrev pub steps_out : (ℕ → ℕ → ℕ) → List ℕ → ℕ

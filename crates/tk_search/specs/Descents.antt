@@ -4,7 +4,9 @@ use Rattle.tk_descent.specs.Machine.{Run}
 use Rattle.tk_descent.specs.Sweeps.{Sweeps}
 use Rattle.tk_search.specs.declared.trials.descending.SearchRules.{SearchRules}
 
--- By the rules, from the tour T to the tour D: descents with all cities awake until one makes no move, or one descent with W awake.
-pub record Descends (dist : ℕ → ℕ → ℕ) (near : ℕ → List ℕ) (rules : SearchRules) (T W D : List ℕ) (passes looks moves tests : ℕ) : Type 0 where
+-- By the rules, from the tour T to the tour D: descents with all cities awake until one makes no move, or one descent
+-- with W awake.
+pub record Descends (dist : ℕ → ℕ → ℕ) (near : ℕ → List ℕ) (rules : SearchRules) (T W D : List ℕ)
+    (passes looks moves tests : ℕ) : Type 0 where
   pub swept : rules.sweep ≡ true → Sweeps dist near rules.or_segment T D passes looks moves tests
   pub once : rules.sweep ≡ false → Run dist near rules.or_segment T W D [] looks moves tests × (passes ≡ 1)

@@ -10,17 +10,19 @@ use Rattle.tk_search.specs.Totals.{capped}
 use Rattle.tk_search.specs.declared.trials.totals.TrialReport.{TrialReport}
 
 -- the tour that a trial found, where there was one
-abbrev pub found_by : {old new : Searching} {words rest : Stream} {report : TrialReport} → NextTrial old words new rest report → List (List ℕ)
+abbrev pub found_by : {old new : Searching} {words rest : Stream} {report : TrialReport} →
+    NextTrial old words new rest report → List (List ℕ)
 found_by (first untried is_first same) = is_first.trial.found ∷ []
 found_by (kicked tried many is_kicked) = is_kicked.trial.found ∷ []
 found_by (none tried few is_none stays same) = []
 
 -- the tours that the trials of a run found, in their order
-abbrev pub found_in : {begun : Searching} {words : Stream} {t : ℕ} {search : Searching} {rest : Stream} → SearchRun begun words t search rest → List (List ℕ)
+abbrev pub found_in : {begun : Searching} {words : Stream} {t : ℕ} {search : Searching} {rest : Stream} →
+    SearchRun begun words t search rest → List (List ℕ)
 found_in begin = []
 found_in (trial run next) = found_in run ++ found_by next
 
--- the first of the shortest tours of a list: those before it are longer, and none behind it is shorter
+-- the first of the shortest tours of a list: those before it are longer, and none after it is shorter
 pub record IsFirstShortest (dist : ℕ → ℕ → ℕ) (tours : List (List ℕ)) (best : List ℕ) : Type 0 where
   pub before : List (List ℕ)
   pub behind : List (List ℕ)
@@ -76,5 +78,6 @@ pub record AreAlike (r s : TrialReport) : Type 0 where
 -- two reports of one trial tell the same counts, as long as no total stands still at its greatest value
 abbrev pub ReportsAgree : Type 0
 ReportsAgree =
-    (old new : Searching) (words rest : Stream) (r s : TrialReport) → NextTrial old words new rest r → NextTrial old words new rest s →
+    (old new : Searching) (words rest : Stream) (r s : TrialReport) → NextTrial old words new rest r →
+    NextTrial old words new rest s →
     new.totals.moves < 2 ^ 128 - 1 → new.totals.tests < 2 ^ 128 - 1 → new.totals.passes < 2 ^ 128 - 1 → AreAlike r s

@@ -29,7 +29,8 @@ pub record Searching : Type 0 where
   pub totals : Totals
 
 abbrev pub searching : (ℕ → ℕ → ℕ) → NearLists → SearchRules → State → Searching
-searching distance near rules state = record { distance = distance; near = near; rules = rules; best = order_of state.best; totals = state.totals }
+searching distance near rules state =
+    record { distance = distance; near = near; rules = rules; best = order_of state.best; totals = state.totals }
 
 -- what a search was given stays as it was
 pub record SameGiven (old new : Searching) : Type 0 where
@@ -39,20 +40,25 @@ pub record SameGiven (old new : Searching) : Type 0 where
 
 -- the bounds on the work of a search
 abbrev pub IsBoundedSearch : Searching → Type 0
-IsBoundedSearch search = IsBounded (length search.best) search.near.width search.rules (tour_length search.distance search.best) search.totals
+IsBoundedSearch search = IsBounded (length search.best) search.near.width search.rules
+    (tour_length search.distance search.best) search.totals
 
 -- a search before its first trial: the best tour is the start
-pub record IsBegun (search : Searching) (distance : ℕ → ℕ → ℕ) (near : NearLists) (rules : SearchRules) (start : List ℕ) : Type 0 where
+pub record IsBegun (search : Searching) (distance : ℕ → ℕ → ℕ) (near : NearLists) (rules : SearchRules)
+    (start : List ℕ) : Type 0 where
   pub table : (search.distance ≡ distance) × (search.near ≡ near) × (search.rules ≡ rules)
   pub best : search.best ≡ start
   pub trials : search.totals.trials ≡ 0
   pub length_is : search.totals.start ≡ pos (tour_length distance start)
-  pub none : (search.totals.better ≡ 0) × (search.totals.moves ≡ 0) × (search.totals.gained ≡ 0) × (search.totals.tests ≡ 0) × (search.totals.swaps ≡ 0) × (search.totals.undo_swaps ≡ 0) × (search.totals.copied ≡ 0) × (search.totals.passes ≡ 0)
+  pub none : (search.totals.better ≡ 0) × (search.totals.moves ≡ 0) × (search.totals.gained ≡ 0)
+      × (search.totals.tests ≡ 0) × (search.totals.swaps ≡ 0) × (search.totals.undo_swaps ≡ 0)
+      × (search.totals.copied ≡ 0) × (search.totals.passes ≡ 0)
 
 -- the first trial: a descent from the best tour, which is the start, with all cities awake
 pub record IsFirstTrial (old new : Searching) (report : TrialReport) : Type 0 where
   pub given : SameGiven old new
-  pub trial : IsTrial old.distance (near_of old.near) old.rules old.best (one_to (length old.best)) old.best new.best report
+  pub trial : IsTrial old.distance (near_of old.near) old.rules old.best
+      (one_to (length old.best)) old.best new.best report
   pub kicked : report.kicked ≡ false
   pub adds : AddsTrial old.totals new.totals report (gain_of report)
   pub swaps : new.totals.swaps ≡ old.totals.swaps + report.descent.swaps
@@ -60,7 +66,8 @@ pub record IsFirstTrial (old new : Searching) (report : TrialReport) : Type 0 wh
   pub bounded : IsBoundedTrial (length old.best) old.near.width (length old.best) old.rules report
 
 -- a later trial: a descent from a kick of the best tour, which wakes at most 8 cities where it does not wake all
-pub record IsKickedTrial (old : Searching) (words : Stream) (new : Searching) (rest : Stream) (report : TrialReport) : Type 0 where
+pub record IsKickedTrial (old : Searching) (words : Stream) (new : Searching) (rest : Stream)
+    (report : TrialReport) : Type 0 where
   pub given : SameGiven old new
   pub tour : List ℕ
   pub awake : List ℕ
@@ -68,8 +75,10 @@ pub record IsKickedTrial (old : Searching) (words : Stream) (new : Searching) (r
   pub trial : IsTrial old.distance (near_of old.near) old.rules tour awake old.best new.best report
   pub kicked : report.kicked ≡ true
   pub adds : AddsTrial old.totals new.totals report (gain_of report)
-  pub swaps : new.totals.swaps ≡ saturated (old.totals.swaps + kick_swaps (length old.best) kick.cuts) + report.descent.swaps
-  pub settles : SettlesTrial (length old.best) 4 (kick_swaps (length old.best) kick.cuts + report.descent.swaps) old.totals new.totals report
+  pub swaps : new.totals.swaps
+      ≡ saturated (old.totals.swaps + kick_swaps (length old.best) kick.cuts) + report.descent.swaps
+  pub settles : SettlesTrial (length old.best) 4 (kick_swaps (length old.best) kick.cuts + report.descent.swaps)
+      old.totals new.totals report
   pub bounded : IsBoundedTrial (length old.best) old.near.width 8 old.rules report
 
 -- no trial: both lengths are the best tour's, and nothing was counted
@@ -77,13 +86,18 @@ pub record IsNoTrial (search : Searching) (report : TrialReport) : Type 0 where
   pub flags : (report.kicked ≡ false) × (report.better ≡ false)
   pub before : report.descent.before ≡ pos (tour_length search.distance search.best)
   pub after : report.descent.after ≡ pos (tour_length search.distance search.best)
-  pub counts : (report.passes ≡ 0) × (report.descent.moves ≡ 0) × (report.descent.looks ≡ 0) × (report.descent.tests ≡ 0) × (report.descent.swaps ≡ 0)
+  pub counts : (report.passes ≡ 0) × (report.descent.moves ≡ 0) × (report.descent.looks ≡ 0)
+      × (report.descent.tests ≡ 0) × (report.descent.swaps ≡ 0)
 
--- The next trial: the first one; a kicked one, which draws its cuts from the stream of random words; on fewer than 8 cities none.
-pub data NextTrial (old : Searching) (words : Stream) (new : Searching) (rest : Stream) (report : TrialReport) : Type 0 where
+-- The next trial: the first one; a kicked one, which draws its cuts from the stream of random words; on fewer than 8
+-- cities none.
+pub data NextTrial (old : Searching) (words : Stream) (new : Searching) (rest : Stream)
+    (report : TrialReport) : Type 0 where
   first : old.totals.trials ≡ 0 → IsFirstTrial old new report → rest ≡ words → NextTrial old words new rest report
-  kicked : 1 ≤ old.totals.trials → 8 ≤ length old.best → IsKickedTrial old words new rest report → NextTrial old words new rest report
-  none : 1 ≤ old.totals.trials → length old.best < 8 → IsNoTrial old report → new ≡ old → rest ≡ words → NextTrial old words new rest report
+  kicked : 1 ≤ old.totals.trials → 8 ≤ length old.best → IsKickedTrial old words new rest report →
+      NextTrial old words new rest report
+  none : 1 ≤ old.totals.trials → length old.best < 8 → IsNoTrial old report → new ≡ old → rest ≡ words →
+      NextTrial old words new rest report
 
 -- t trials from a search and a stream of random words, to the search after them and the words that are left
 pub data SearchRun (begun : Searching) (words : Stream) : ℕ → Searching → Stream → Type 0 where
@@ -92,7 +106,8 @@ pub data SearchRun (begun : Searching) (words : Stream) : ℕ → Searching → 
       NextTrial old left new rest report → SearchRun begun words (t + 1) new rest
 
 -- what holds between two trials
-pub record IsSearching (size : ℕ) (distance : ℕ → ℕ → ℕ) (near : NearLists) (rules : SearchRules) (state : State) : Type 0 where
+pub record IsSearching (size : ℕ) (distance : ℕ → ℕ → ℕ) (near : NearLists) (rules : SearchRules)
+    (state : State) : Type 0 where
   pub cities : size ≡ length (order_of state.best)
   pub lists : near.size ≡ length (order_of state.best)
   pub queue : state.waking.size ≡ length (order_of state.best)
@@ -103,4 +118,5 @@ pub record IsSearching (size : ℕ) (distance : ℕ → ℕ → ℕ) (near : Nea
   pub shortest : state.shortest ≡ pos (tour_length distance (order_of state.best))
   pub counts : AreCountsOf state.totals state.tour state.best
   pub untried : state.totals.trials ≡ 0 → state.totals.tests ≡ 0
-  pub bounds : IsBounded (length (order_of state.best)) near.width rules (tour_length distance (order_of state.best)) state.totals
+  pub bounds : IsBounded (length (order_of state.best)) near.width rules
+      (tour_length distance (order_of state.best)) state.totals

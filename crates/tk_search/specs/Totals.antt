@@ -31,14 +31,15 @@ pub record RisesBy (more old new : ℕ) : Type 0 where
   pub most : new ≤ old + more
   pub exact : new < 2 ^ 64 - 1 → new ≡ old + more
 
--- What a trial on n cities undoes or copies after its flips: `kick` of them, and at most three for each move, with so many swaps in all.
--- A better result is copied to the best. Else the flips are undone by as many swaps again, or where they are more than n the best is copied
--- back, and nothing else is undone or copied.
+-- What a trial on n cities undoes or copies after its flips: `kick` of them, and at most three for each move, with so
+-- many swaps in all. A better result is copied to the best. Else the flips are undone by as many swaps again, or where
+-- they are more than n the best is copied back, and nothing else is undone or copied.
 pub record SettlesTrial (n kick swaps : ℕ) (old new : Totals) (report : TrialReport) : Type 0 where
   pub flips : ℕ
   pub made : (kick ≤ flips) × (flips ≤ kick + 3 * report.descent.moves)
   pub taken : report.better ≡ true → (new.undo_swaps ≡ old.undo_swaps) × RisesBy n old.copied new.copied
-  pub undone : report.better ≡ false → flips ≤ n → (new.swaps < 2 ^ 64 - 1 → new.undo_swaps ≡ old.undo_swaps + swaps) × (new.copied ≡ old.copied)
+  pub undone : report.better ≡ false → flips ≤ n →
+      (new.swaps < 2 ^ 64 - 1 → new.undo_swaps ≡ old.undo_swaps + swaps) × (new.copied ≡ old.copied)
   pub restored : report.better ≡ false → n < flips → (new.undo_swaps ≡ old.undo_swaps) × RisesBy n old.copied new.copied
   pub limits : (new.swaps < 2 ^ 64) × (new.undo_swaps ≤ new.swaps) × (new.copied < 2 ^ 65)
 

@@ -15,30 +15,36 @@ use Rattle.tk_search.specs.declared.trials.totals.TrialReport.{TrialReport}
 abbrev pub gain_of : TrialReport → ℕ
 gain_of report = unsigned_abs (report.descent.before -ℤ report.descent.after)
 
--- A descent from a tour, with some cities awake. Its result becomes the best tour where it is strictly shorter than that; else the best
--- stays, element for element.
-pub record IsTrial (dist : ℕ → ℕ → ℕ) (near : ℕ → List ℕ) (rules : SearchRules) (from awake best new : List ℕ) (report : TrialReport) : Type 0 where
+-- A descent from a tour, with some cities awake. Its result becomes the best tour where it is strictly shorter than
+-- that; else the best stays, element for element.
+pub record IsTrial (dist : ℕ → ℕ → ℕ) (near : ℕ → List ℕ) (rules : SearchRules) (from awake best new : List ℕ)
+    (report : TrialReport) : Type 0 where
   pub found : List ℕ
-  pub descends : Descends dist near rules from awake found report.passes report.descent.looks report.descent.moves report.descent.tests
+  pub descends : Descends dist near rules from awake found report.passes report.descent.looks report.descent.moves
+      report.descent.tests
   pub before : report.descent.before ≡ pos (tour_length dist from)
   pub after : report.descent.after ≡ pos (tour_length dist found)
   pub better : IsTrue report.better ↔ (tour_length dist found < tour_length dist best)
   pub replaced : report.better ≡ true → new ≡ found
   pub kept : report.better ≡ false → new ≡ best
 
--- The work of a trial on n cities whose descent began with at most `awake` cities awake; each near list has `width` entries.
+-- The work of a trial on n cities whose descent began with at most `awake` cities awake; each near list has `width`
+-- entries.
 pub record IsBoundedTrial (n width awake : ℕ) (rules : SearchRules) (report : TrialReport) : Type 0 where
   pub moves : report.descent.moves ≤ gain_of report
   pub swaps : report.descent.swaps ≤ 3 * (n / 4) * report.descent.moves
   pub passes : report.passes ≤ report.descent.moves + 1
   pub looks : rules.sweep ≡ false → report.descent.looks ≤ awake + 6 * report.descent.moves
-  pub tests : rules.sweep ≡ false → report.descent.tests ≤ 4 * rules.or_segment * width * (awake + 6 * report.descent.moves)
+  pub tests : rules.sweep ≡ false →
+      report.descent.tests ≤ 4 * rules.or_segment * width * (awake + 6 * report.descent.moves)
   pub swept_looks : rules.sweep ≡ true → report.descent.looks ≤ n * report.passes + 6 * report.descent.moves
-  pub swept_tests : rules.sweep ≡ true → report.descent.tests ≤ 4 * rules.or_segment * width * (n * report.passes + 6 * report.descent.moves)
+  pub swept_tests : rules.sweep ≡ true →
+      report.descent.tests ≤ 4 * rules.or_segment * width * (n * report.passes + 6 * report.descent.moves)
 
--- A kick of the tour `best` to the tour `kicked`: the double bridge at cuts that the stream of random words gives. It wakes the ends of
--- the four parts, or where all is swept all cities.
-pub record IsKick (best : List ℕ) (words : Stream) (sweep : Bool) (asleep kicked : List ℕ) (rest : Stream) (awake : List ℕ) : Type 0 where
+-- A kick of the tour `best` to the tour `kicked`: the double bridge at cuts that the stream of random words gives. It
+-- wakes the ends of the four parts, or where all is swept all cities.
+pub record IsKick (best : List ℕ) (words : Stream) (sweep : Bool) (asleep kicked : List ℕ) (rest : Stream)
+    (awake : List ℕ) : Type 0 where
   pub cuts : Cuts
   pub are : AreCuts (length best) cuts
   pub drawn : (cuts, rest) ≡ drawn_cuts (length best) words

@@ -1,5 +1,5 @@
-//! The tests of `tk_starts` and `tk_search`, in a crate of their own: a crate's tests are proved together with all of its
-//! functions.
+//! The tests of `tk_starts` and `tk_search`, in a crate of their own: a crate's tests are proved together with all of
+//! its functions.
 #![tactic(auto)]
 
 #[cfg(test)]

@@ -56,7 +56,7 @@ opened n loads nodes node next now toks is here has =
     let inside : HasDemands n (record { loads = loads; nodes = nodes; node = node }) toks = subst (λ s. HasDemands n s toks) (sym is) has in
     subst (λ w. HasDemands n (record { loads = loads; nodes = nodes; node = w }) toks) here inside
 
--- behind whole rows
+-- after whole rows
 pub record AtNode (n : ℕ) (loads : List ℕ) (nodes : Named) (toks : List Token) : Type 0 where
   pub whole : IsWhole toks
   pub are : loads ≡ demands_of n toks

@@ -97,7 +97,7 @@ IsToldWord-weaker P Q each kinds.NoMemory h = h
 IsToldWord-weaker P Q each kinds.Read h = h
 IsToldWord-weaker P Q each k h = each k h
 
--- a section takes a token behind fewer than its count
+-- a section takes a token after fewer than its count
 take_fewer : (count : ℕ) (toks more : List Token) (t : Token) → length toks < count → (rest : List Token) × (take count (toks ++ t ∷ more) ≡ toks ++ t ∷ rest)
 take_fewer zero toks more t h = absurd (omega arith)
 take_fewer (suc k) [] more t h = (take k more, refl)
@@ -120,7 +120,7 @@ module _ {V : Type 0} {f : Format V} {before : List Piece} {word : Keyword} {n :
       let r = taken-fewer toks has t more in
       ap (λ ts. f.section before word n ts after) r.1 ∙ has.fixed.section (toks ++ t ∷ r.0) after ∙ rw (stops r.0) refl
 
-  -- a section goes on behind tokens without a fault that are fewer than its count
+  -- a section goes on after tokens without a fault that are fewer than its count
   pub goes : {toks : List Token} → HasTokens f before word n tests count toks → Goes f before word n toks
   goes {toks = toks} has = record {
     covers = λ more. rw (has.fixed.extent (toks ++ more)) (omega (arith, has.fewer, length-append toks more));

@@ -90,7 +90,7 @@ opened n places nodes wanted next now toks is here has =
     let inside : HasPlaces n (record { places = places; nodes = nodes; wanted = wanted }) toks = subst (λ s. HasPlaces n s toks) (sym is) has in
     subst (λ w. HasPlaces n (record { places = places; nodes = nodes; wanted = w }) toks) here inside
 
--- behind whole rows
+-- after whole rows
 pub record AtNode (n : ℕ) (places : List Point) (nodes : Named) (toks : List Token) : Type 0 where
   pub whole : IsWhole toks
   pub are : places ≡ places_of n toks

@@ -25,11 +25,12 @@ pub record IsPlacing (places : List Point) (nodes : Named) (wanted : Wanted) : T
   pub sizes : length nodes.flags ≡ length places
   pub within : IsWithin (length places) wanted
 
--- the tokens of a row that is not whole, behind rows that name these nodes
+-- the tokens of a row that is not whole, after rows that name these nodes
 abbrev pub HasPart : ℕ → Named → List ℕ → Wanted → List Token → Type 0
 HasPart n s nodes wants.Node part = (part ≡ []) × HasNamed n s nodes
 HasPart n s nodes (wants.X index) part = (a : Token) × (part ≡ a ∷ []) × HasNext n s nodes a index
-HasPart n s nodes (wants.Y index x) part = (a b : Token) × (part ≡ a ∷ b ∷ []) × HasNext n s nodes a index × (decimal_of b.bytes ≡ Some x)
+HasPart n s nodes (wants.Y index x) part =
+    (a b : Token) × (part ≡ a ∷ b ∷ []) × HasNext n s nodes a index × (decimal_of b.bytes ≡ Some x)
 
 -- these tokens of the rows of n nodes were taken: whole rows, and a part of one
 pub record HasPlaces (n : ℕ) (s : Placing) (toks : List Token) : Type 0 where

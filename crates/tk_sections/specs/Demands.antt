@@ -19,7 +19,7 @@ pub record IsLoading (loads : List ℕ) (nodes : Named) (node : Option ℕ) : Ty
   pub sizes : length nodes.flags ≡ length loads
   pub within : IsIndex (length loads) node
 
--- the tokens of a row that is not whole, behind rows that name these nodes
+-- the tokens of a row that is not whole, after rows that name these nodes
 abbrev pub HasPart : ℕ → Named → List ℕ → Option ℕ → List Token → Type 0
 HasPart n s nodes None part = (part ≡ []) × HasNamed n s nodes
 HasPart n s nodes (Some index) part = (a : Token) × (part ≡ a ∷ []) × HasNext n s nodes a index

@@ -9,9 +9,10 @@ use Rattle.tk_sections.specs.FixedSections.{TokenTests, fixed_end}
 
 -- a node of 1..n, before which there is none
 abbrev pub depot_tests : ℕ → TokenTests
-depot_tests n before t = (is_none (integer t.bytes), kinds.BadNumber) ∷ (not (in_range 1 n (integer t.bytes)) || not (is_empty before), kinds.BadDepot) ∷ []
+depot_tests n before t = (is_none (integer t.bytes), kinds.BadNumber)
+    ∷ (not (in_range 1 n (integer t.bytes)) || not (is_empty before), kinds.BadDepot) ∷ []
 
--- the first token stands for the node, whatever it is; behind it -1 or EOF ends the list
+-- the first token stands for the node, whatever it is; after it -1 or EOF ends the list
 abbrev pub depot_extent : List Token → Extent
 depot_extent [] = record { count = 0; closed = false; at_eof = false }
 depot_extent (t ∷ ts) = with_one (list_extent ts)

@@ -26,12 +26,13 @@ pub record HasDepot (n : ℕ) (s : Depot) (toks : List Token) : Type 0 where
 abbrev pub is_list_end : Token → Bool
 is_list_end t = is_ending t || t.whole && is_eof t.bytes
 
--- what a token does behind these tokens
+-- what a token does after these tokens
 abbrev pub DepotTakes : ℕ → Depot → Depot → List Token → Token → Taken → Type 0
 DepotTakes n old new toks t takens.More = HasDepot n new (toks ++ t ∷ [])
 DepotTakes n old new toks t takens.Last = ⊥
 DepotTakes n old new toks t takens.Ending = (new ≡ old) × (is_empty toks ≡ false) × (is_ending t ≡ true)
-DepotTakes n old new toks t takens.Eof = (new ≡ old) × (is_empty toks ≡ false) × (is_ending t ≡ false) × ((t.whole && is_eof t.bytes) ≡ true)
+DepotTakes n old new toks t takens.Eof =
+    (new ≡ old) × (is_empty toks ≡ false) × (is_ending t ≡ false) × ((t.whole && is_eof t.bytes) ≡ true)
 
 -- a token of the list at which the first test that holds tells this kind
 pub record DepotRefuses (n : ℕ) (toks : List Token) (t : Token) (k : TextKind) : Type 0 where

@@ -10,7 +10,7 @@ use Rattle.tk_lines.specs.Pieces.{Piece, Extent, Stop, Fault, checked, or_else, 
 use Rattle.tk_words.specs.Entry.{is_keyword}
 use Rattle.tk_lines.specs.Lists.{trailing_stop}
 
--- the tests of a token behind those before it
+-- the tests of a token after those before it
 abbrev pub TokenTests : Type 0
 TokenTests = List Token → Token → List (Bool × TextKind)
 
@@ -21,27 +21,32 @@ all_tests tests before t = (is_keyword t.bytes, kinds.Truncated) ∷ tests befor
 -- the first stop among a section's tokens
 unfoldable pub tokens_stop : TokenTests → List Token → List Token → Option Stop
 tokens_stop tests before [] = None
-tokens_stop tests before (t ∷ ts) = or_else (checked 64 t (all_tests tests before t)) (tokens_stop tests (before ++ t ∷ []) ts)
+tokens_stop tests before (t ∷ ts) =
+    or_else (checked 64 t (all_tests tests before t)) (tokens_stop tests (before ++ t ∷ []) ts)
 
 abbrev pub fixed_extent : ℕ → List Token → Extent
-fixed_extent count toks = record { count = min count (length toks); closed = nat_le count (length toks); at_eof = false }
+fixed_extent count toks =
+    record { count = min count (length toks); closed = nat_le count (length toks); at_eof = false }
 
 -- how the tokens end: too early is Truncated, where nothing more can follow
 abbrev pub fixed_end : After → Option Stop
 fixed_end (Early line whole) = if whole then Some (Fault line kinds.Truncated) else None
 fixed_end after = trailing_stop after
 
--- what a token does behind those before it
+-- what a token does after those before it
 abbrev pub fixed_taken : ℕ → List Token → Taken
 fixed_taken count before = if suc (length before) == count then takens.Last else takens.More
 
 -- a section of a fixed count, at whose word nothing stops
-pub record IsFixed {V : Type 0} (f : Format V) (before : List Piece) (word : Keyword) (n : ℕ) (tests : TokenTests) (count : ℕ) : Type 0 where
+pub record IsFixed {V : Type 0} (f : Format V) (before : List Piece) (word : Keyword) (n : ℕ) (tests : TokenTests)
+    (count : ℕ) : Type 0 where
   pub extent : (toks : List Token) → f.extent before word toks ≡ fixed_extent count toks
-  pub section : (toks : List Token) (after : After) → f.section before word n toks after ≡ or_else (tokens_stop tests [] toks) (fixed_end after)
+  pub section : (toks : List Token) (after : After) →
+      f.section before word n toks after ≡ or_else (tokens_stop tests [] toks) (fixed_end after)
 
 -- these tokens of it have no fault, and more are to come
-pub record HasTokens {V : Type 0} (f : Format V) (before : List Piece) (word : Keyword) (n : ℕ) (tests : TokenTests) (count : ℕ) (toks : List Token) : Type 0 where
+pub record HasTokens {V : Type 0} (f : Format V) (before : List Piece) (word : Keyword) (n : ℕ) (tests : TokenTests)
+    (count : ℕ) (toks : List Token) : Type 0 where
   pub fixed : IsFixed f before word n tests count
   pub good : tokens_stop tests [] toks ≡ None
   pub fewer : length toks < count

@@ -14,7 +14,7 @@ pub record HasNamed (n : ℕ) (s : Named) (nodes : List ℕ) : Type 0 where
   pub flags : s.flags ≡ map (λ c. is_among c nodes) (range_with_len 1 n)
   pub left : s.left + length nodes ≡ n
 
--- a token has named a node behind these, which stands at an index
+-- a token has named a node after these, which stands at an index
 pub record HasNext (n : ℕ) (s : Named) (nodes : List ℕ) (t : Token) (index : ℕ) : Type 0 where
   pub within : index < n
   pub node : number_in t ≡ suc index

@@ -17,7 +17,7 @@ number_in t = natural_or_zero (integer t.bytes)
 abbrev pub coordinate_in : Token → ℤ
 coordinate_in t = unwrap_or (decimal_of t.bytes) (pos 0)
 
--- the node of each row, and its place or its demand; tokens behind the last whole row are none
+-- the node of each row, and its place or its demand; tokens after the last whole row are none
 unfoldable pub place_rows : List Token → List (ℕ × Point)
 place_rows [] = []
 place_rows (a ∷ []) = []
@@ -47,7 +47,7 @@ places_of n toks = by_node origin n (place_rows toks)
 abbrev pub demands_of : ℕ → List Token → List ℕ
 demands_of n toks = by_node 0 n (demand_rows toks)
 
--- ---- the tests of a token behind those before it
+-- ---- the tests of a token after those before it
 
 abbrev pub is_among : ℕ → List ℕ → Bool
 is_among c nodes = list_any (nat_eq c) nodes
@@ -64,12 +64,15 @@ is_near None = false
 is_near (Some z) = nat_le (unsigned_abs z) (10 ^ 18)
 
 abbrev pub coordinate_tests : Token → List (Bool × TextKind)
-coordinate_tests t = (is_none (decimal_of t.bytes), kinds.BadNumber) ∷ (not (is_near (decimal_of t.bytes)), kinds.OutOfLimit) ∷ []
+coordinate_tests t =
+    (is_none (decimal_of t.bytes), kinds.BadNumber) ∷ (not (is_near (decimal_of t.bytes)), kinds.OutOfLimit) ∷ []
 
 -- of rows of a node, x and y
 abbrev pub place_tests : ℕ → List Token → Token → List (Bool × TextKind)
-place_tests n before t = if length before % 3 == 0 then node_tests n (nodes_in (place_rows before)) t else coordinate_tests t
+place_tests n before t =
+    if length before % 3 == 0 then node_tests n (nodes_in (place_rows before)) t else coordinate_tests t
 
 -- of rows of a node and its demand
 abbrev pub demand_tests : ℕ → List Token → Token → List (Bool × TextKind)
-demand_tests n before t = if length before % 2 == 0 then node_tests n (nodes_in (demand_rows before)) t else number_tests 0 2000000000 t.bytes
+demand_tests n before t = if length before % 2 == 0 then node_tests n (nodes_in (demand_rows before)) t
+    else number_tests 0 2000000000 t.bytes

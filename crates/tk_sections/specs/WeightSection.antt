@@ -15,7 +15,7 @@ use Rattle.tk_problem.specs.WeightOrder.{place, order, weight_of, entries}
 abbrev pub weight_count : ℕ → Format → ℕ
 weight_count n f = length (order f n)
 
--- the place of the entry behind so many
+-- the place of the entry after so many
 abbrev pub place_behind : ℕ → Format → List Token → Place
 place_behind n f before = slice_index_or (order f n) (length before) (place 0 0)
 
@@ -32,7 +32,11 @@ weight_tests n f before t =
     let p = place_behind n f before in
     (is_none (integer t.bytes), kinds.BadNumber)
     ∷ (not (p.row == p.column) && not (in_range 0 4000000000 (integer t.bytes)), kinds.OutOfLimit)
-    ∷ (is_full f && nat_lt p.column p.row && not (number_in t == weight_of p.row p.column (entries f n (weights_in before))), kinds.NotSymmetric (suc p.column) (suc p.row)) ∷ []
+    ∷ (
+      is_full f && nat_lt p.column p.row
+          && not (number_in t == weight_of p.row p.column (entries f n (weights_in before))),
+      kinds.NotSymmetric (suc p.column) (suc p.row),
+    ) ∷ []
 
 -- the weights below the diagonal, row by row
 abbrev pub lower_weights : ℕ → Format → List Token → List ℕ

@@ -68,7 +68,7 @@ fn first_node(token: &[u8], size: u32) -> Result<u32, TextKind>
     }
 }
 
-/// What a token does behind the node.
+/// What a token does after the node.
 fn behind_node(token: &[u8]) -> Result<Taken, TextKind>
     ensures ok { (n : ℕ) (depot : Depot) (node : Token) (line : ℕ)
         → IfOk result (DepotTakes n depot depot (node ∷ []) (whole token.now line)) }

@@ -1,9 +1,10 @@
 -- What is kept of the runs so far.
-use Rattle.std.specs.Prelude.{◌≡◌, ◌≢◌, ◌<ℤ◌, ◌≤ℤ◌, ℕ, List, [], ◌∷◌, ◌++◌, length, pos}
+use Rattle.std.specs.Prelude.{◌≡◌, ◌≢◌, ◌<ℤ◌, ◌≤ℤ◌, ℕ, ℤ, List, [], ◌∷◌, ◌++◌, length, pos}
 use Rattle.tk_near.specs.Near.{NearLists}
 use Rattle.tk_tour.specs.Tour.{tour_length}
 use Rattle.tk_search.specs.Searching.{Searching}
 use Rattle.tk_solve.specs.declared.outcome.Outcome.{Outcome}
+use Rattle.tk_solve.specs.declared.outcome.RunReport.{RunReport}
 use Rattle.tk_solve.specs.Runs.{Run, AreSoFar}
 use Rattle.tk_solve.specs.Starts.{TourTask}
 
@@ -14,11 +15,23 @@ AreKept task near runs outcome = AreSoFar task near runs outcome.reports.items o
 -- run j was added to the runs before it, whatever these are
 abbrev pub IsRunAdded : TourTask → NearLists → ℕ → Outcome → Outcome → Type 0
 IsRunAdded task near j old new =
-    (runs : List Run) → length runs ≡ j → AreKept task near runs old → (run : Run) × AreKept task near (runs ++ run ∷ []) new
+    (runs : List Run) → length runs ≡ j → AreKept task near runs old →
+    (run : Run) × AreKept task near (runs ++ run ∷ []) new
 
--- one more run was noted, which ended with this search: its best tour is kept where none was before, or where it is shorter
+-- the length of the best tour of a search, and the report of a run that ended with it
+abbrev pub best_length : (ℕ → ℕ → ℕ) → Searching → ℤ
+best_length distance ended = pos (tour_length distance ended.best)
+
+abbrev pub report_of : (ℕ → ℕ → ℕ) → Searching → RunReport
+report_of distance ended = record { best = best_length distance ended; totals = ended.totals }
+
+-- one more run was noted, which ended with this search: its best tour is kept where none was before, or where it is
+-- shorter
 pub record IsTaken (distance : ℕ → ℕ → ℕ) (ended : Searching) (old new : Outcome) : Type 0 where
-  pub reports : new.reports.items ≡ old.reports.items ++ record { best = pos (tour_length distance ended.best); totals = ended.totals } ∷ []
-  pub first : old.reports.items ≡ [] → (new.cities.items ≡ ended.best) × (new.shortest ≡ pos (tour_length distance ended.best))
-  pub shorter : pos (tour_length distance ended.best) <ℤ old.shortest → (new.cities.items ≡ ended.best) × (new.shortest ≡ pos (tour_length distance ended.best))
-  pub kept : old.reports.items ≢ [] → old.shortest ≤ℤ pos (tour_length distance ended.best) → (new.cities ≡ old.cities) × (new.shortest ≡ old.shortest)
+  pub reports : new.reports.items ≡ old.reports.items ++ report_of distance ended ∷ []
+  pub first : old.reports.items ≡ [] →
+      (new.cities.items ≡ ended.best) × (new.shortest ≡ best_length distance ended)
+  pub shorter : best_length distance ended <ℤ old.shortest →
+      (new.cities.items ≡ ended.best) × (new.shortest ≡ best_length distance ended)
+  pub kept : old.reports.items ≢ [] → old.shortest ≤ℤ best_length distance ended →
+      (new.cities ≡ old.cities) × (new.shortest ≡ old.shortest)

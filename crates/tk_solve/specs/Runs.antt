@@ -45,7 +45,8 @@ pub record IsRun (task : TourTask) (near : NearLists) (j : ℕ) (run : Run) : Ty
 -- one after another, from run 0 on
 pub data AreRuns (task : TourTask) (near : NearLists) : List Run → Type 0 where
   none : AreRuns task near []
-  more : {runs : List Run} {run : Run} → AreRuns task near runs → IsRun task near (length runs) run → AreRuns task near (runs ++ run ∷ [])
+  more : {runs : List Run} {run : Run} → AreRuns task near runs → IsRun task near (length runs) run →
+      AreRuns task near (runs ++ run ∷ [])
 
 -- the best tour of each
 abbrev pub best_tours : List Run → List (List ℕ)
@@ -59,7 +60,8 @@ abbrev pub report_of : (ℕ → ℕ → ℕ) → Run → RunReport
 report_of distance run = record { best = pos (run_length distance run); totals = run.totals }
 
 -- what is kept of the runs so far: a report of each, and the best tour of the first one with the least length
-pub record AreSoFar (task : TourTask) (near : NearLists) (runs : List Run) (reports : List RunReport) (cities : List ℕ) (shortest : ℤ) : Type 0 where
+pub record AreSoFar (task : TourTask) (near : NearLists) (runs : List Run) (reports : List RunReport) (cities : List ℕ)
+    (shortest : ℤ) : Type 0 where
   pub are : AreRuns task near runs
   pub reports_are : reports ≡ map (report_of task.distance) runs
   pub first : 1 ≤ length runs → IsFirstShortest task.distance (best_tours runs) cities

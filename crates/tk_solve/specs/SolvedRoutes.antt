@@ -7,10 +7,11 @@ use Rattle.tk_routes.specs.Routes.{AreRoutes, routes_cost}
 use Rattle.tk_route_search.specs.SavingsRoutes.{AreSavingsRoutes}
 use Rattle.tk_route_search.specs.declared.route_report.RouteReport.{RouteReport}
 
--- The routes of the savings merges over near lists of the nodes, each then improved by itself by a descent with all its nodes awake.
--- `most` is the most swaps that the moves take. Each customer is on one route, no load is over the capacity, and each move makes
--- the cost less.
-pub record AreSolved (i : Instance) (candidates segment : ℕ) (routes : List (List ℕ)) (report : RouteReport) : Type 0 where
+-- The routes of the savings merges over near lists of the nodes, each then improved by itself by a descent with all its
+-- nodes awake. `most` is the most swaps that the moves take. Each customer is on one route, no load is over the
+-- capacity, and each move makes the cost less.
+pub record AreSolved (i : Instance) (candidates segment : ℕ) (routes : List (List ℕ))
+    (report : RouteReport) : Type 0 where
   pub near : NearLists
   pub nearest : AreNearest i.distance near
   pub size : near.size ≡ i.size

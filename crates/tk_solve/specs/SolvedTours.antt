@@ -13,7 +13,8 @@ use Rattle.tk_solve.specs.declared.tour.SolvedTour.{SolvedTour}
 use Rattle.tk_solve.specs.Runs.{Run, AreRuns, best_tours, report_of}
 use Rattle.tk_solve.specs.Starts.{TourTask, AreCandidates}
 
--- the runs that were asked for, each with its report, and the best tour of the first one with the least length, in printed form
+-- the runs that were asked for, each with its report, and the best tour of the first one with the least length, in
+-- printed form
 pub record IsSolved (task : TourTask) (solved : SolvedTour) : Type 0 where
   pub near : NearLists
   pub candidates : AreCandidates task near
@@ -28,9 +29,11 @@ pub record IsSolved (task : TourTask) (solved : SolvedTour) : Type 0 where
 
 -- the work of a run is bounded, and its best tour is not longer than its start
 abbrev pub IsBoundedReport : TourTask → RunReport → Type 0
-IsBoundedReport task report = IsBounded task.size (min task.candidates (task.size - 1)) task.rules (unsigned_abs report.best) report.totals
+IsBoundedReport task report =
+    IsBounded task.size (min task.candidates (task.size - 1)) task.rules (unsigned_abs report.best) report.totals
 
--- a tour of the cities, which is as short as the best of each run, and not longer than any start; and the work of each run is bounded
+-- a tour of the cities, which is as short as the best of each run, and not longer than any start; and the work of each
+-- run is bounded
 pub record IsSound (task : TourTask) (solved : SolvedTour) : Type 0 where
   pub tour : IsTour task.size solved.cities.items
   pub least : All (λ r. solved.length ≤ℤ r.best) solved.runs.items

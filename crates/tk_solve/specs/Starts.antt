@@ -41,7 +41,17 @@ begins_of (Tour given) = At given.now
 -- what the options ask of cities with these distances
 abbrev pub task_over : ℕ → (ℕ → ℕ → ℕ) → TourOptions → TourTask
 task_over size distance o =
-    record { size = size; distance = distance; start = begins_of o.start; runs = o.runs; trials = o.trials; seed = o.seed; candidates = o.candidates; rules = o.rules }
+    record {
+      size = size;
+      distance = distance;
+      start = begins_of o.start;
+      runs = o.runs;
+      trials = o.trials;
+      seed =
+          o.seed;
+      candidates = o.candidates;
+      rules = o.rules;
+    }
 
 abbrev pub task_of : Table → TourOptions → TourTask
 task_of table options = task_over (table_size table) (table_distance table) options
@@ -55,7 +65,8 @@ pub record AreCandidates (task : TourTask) (near : NearLists) : Type 0 where
 -- 1 and then the lists of the savings merges round it, without loads
 abbrev pub IsSavingsTour : (ℕ → ℕ → ℕ) → (ℕ → List ℕ) → ℕ → List ℕ → Type 0
 IsSavingsTour distance near n cities =
-    (lists : List (List ℕ)) × (AreSavingsLists distance near n 1 (load_of (replicate n 0)) 0 lists × (cities ≡ 1 ∷ flat_map (λ x. x) lists))
+    (lists : List (List ℕ)) × (AreSavingsLists distance near n 1 (load_of (replicate n 0)) 0 lists
+    × (cities ≡ 1 ∷ flat_map (λ x. x) lists))
 
 abbrev pub IsStartBy : TourTask → NearLists → ℕ → List ℕ → Begins → Type 0
 IsStartBy task near j cities AtNearest = IsNearestTour task.distance task.size (1 + j % task.size) cities
@@ -88,7 +99,8 @@ common_of savings (Tour given) = Some given.now
 pub record IsCommonStart (task : TourTask) (near : NearLists) (common : Option (List ℕ)) : Type 0 where
   pub tour : MatchOption common (Unit {0}) (IsTour task.size)
   pub start : (j : ℕ) (cities : List ℕ) →
-      MatchOption common (IsNearestTour task.distance task.size (1 + j % task.size) cities) (λ c. cities ≡ c) → IsStart task near j cities
+      MatchOption common (IsNearestTour task.distance task.size (1 + j % task.size) cities) (λ c. cities ≡ c) →
+      IsStart task near j cities
 
 -- how many trials each run has
 abbrev pub trials_of : TourTask → ℕ

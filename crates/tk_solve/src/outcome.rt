@@ -1,8 +1,8 @@
 //! What is kept of the runs so far.
-ghost use Rattle.std.specs.Prelude.{◌≡◌, ◌≢◌, ◌<ℤ◌, ◌≤ℤ◌, ◌+◌, ◌<◌, ◌++◌, ◌∷◌, [], OnOk, length, pos};
+ghost use Rattle.std.specs.Prelude.{◌≡◌, ◌≢◌, ◌<ℤ◌, ◌≤ℤ◌, ◌+◌, ◌<◌, ◌++◌, ◌∷◌, [], OnOk, length};
 ghost use Rattle.tk_metric.specs.Tables.{table_size, table_distance};
 ghost use Rattle.tk_stores.specs.ArrayTours.{order_of};
-ghost use Rattle.tk_tour.specs.Tour.{IsTour, tour_length};
+ghost use Rattle.tk_tour.specs.Tour.{IsTour};
 
 use crate::options::TourOptions;
 use crate::search::search_run;
@@ -33,7 +33,7 @@ pub(crate) struct Outcome {
 
 impl Outcome {
     ghost use Rattle.tk_search.specs.SearchOf.{search_of};
-    ghost use Rattle.tk_solve.specs.Outcomes.{IsRunAdded};
+    ghost use Rattle.tk_solve.specs.Outcomes.{IsRunAdded, best_length, report_of};
     ghost use Rattle.tk_solve.specs.Starts.{IsStart, task_of, task_over};
 
     /// Before the first run.
@@ -50,13 +50,16 @@ impl Outcome {
     /// Takes note of a run that ended with this search.
     fn take<M: Metric>(&mut self, metric: &M, search: &Search<'_, M>) -> Result<(), AllocError>
         requires tour { IsTour (M.size_of metric.now) (search_of search.now).best }
-        ensures reports { OnOk result (self.new.reports.items ≡ self.old.reports.items
-            ++ record { best = pos (tour_length (M.distance metric.now) (search_of search.now).best); totals = (search_of search.now).totals } ∷ []) }
+        ensures reports { OnOk result (self.new.reports.items
+            ≡ self.old.reports.items ++ report_of (M.distance metric.now) (search_of search.now) ∷ []) }
         ensures first { self.old.reports.items ≡ []
-            → OnOk result ((self.new.cities.items ≡ (search_of search.now).best) × (self.new.shortest ≡ pos (tour_length (M.distance metric.now) (search_of search.now).best))) }
-        ensures shorter { pos (tour_length (M.distance metric.now) (search_of search.now).best) <ℤ self.old.shortest
-            → OnOk result ((self.new.cities.items ≡ (search_of search.now).best) × (self.new.shortest ≡ pos (tour_length (M.distance metric.now) (search_of search.now).best))) }
-        ensures kept { self.old.reports.items ≢ [] → self.old.shortest ≤ℤ pos (tour_length (M.distance metric.now) (search_of search.now).best)
+            → OnOk result ((self.new.cities.items ≡ (search_of search.now).best)
+            × (self.new.shortest ≡ best_length (M.distance metric.now) (search_of search.now))) }
+        ensures shorter { best_length (M.distance metric.now) (search_of search.now) <ℤ self.old.shortest
+            → OnOk result ((self.new.cities.items ≡ (search_of search.now).best)
+            × (self.new.shortest ≡ best_length (M.distance metric.now) (search_of search.now))) }
+        ensures kept { self.old.reports.items ≢ []
+            → self.old.shortest ≤ℤ best_length (M.distance metric.now) (search_of search.now)
             → OnOk result ((self.new.cities ≡ self.old.cities) × (self.new.shortest ≡ self.old.shortest)) }
     {
         let best = length(metric, search.best());

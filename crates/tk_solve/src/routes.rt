@@ -19,7 +19,8 @@ pub fn solve_routes<'a>(
     cvrp: &Cvrp<'a>,
     options: RouteOptions,
 ) -> Result<(Routes<'a>, RouteReport), AllocError>
-    ensures { IfOk result (λ r. AreSolved (instance_of cvrp.now) options.candidates options.or_segment (routes_of r.0) r.1) }
+    ensures { IfOk result (λ r. AreSolved (instance_of cvrp.now) options.candidates options.or_segment
+        (routes_of r.0) r.1) }
 {
     let table = cvrp.table();
     let near = near_lists(alloc, &table, options.candidates.min(cvrp.customers()))?;

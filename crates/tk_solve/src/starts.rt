@@ -24,7 +24,8 @@ pub(crate) fn savings_start(
 ) -> Result<Vec<u32>, AllocError>
     requires some { 1 ≤ table_size table.now }
     requires size { near.now.size ≡ table_size table.now }
-    ensures { IfOk result (λ v. IsSavedFor (table_distance table.now) (near_of near.now) (table_size table.now) v.items start.entry) }
+    ensures { IfOk result (λ v. IsSavedFor (table_distance table.now) (near_of near.now)
+        (table_size table.now) v.items start.entry) }
 {
     match start {
         Start::Savings => match table {

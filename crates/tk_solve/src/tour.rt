@@ -22,7 +22,8 @@ use tk_tour::length;
 /// What a search for a tour gave.
 #[derive(Drop)]
 pub struct SolvedTour {
-    /// The best tour of the first run with the least length, in printed form: from city 1 on, towards the smaller of its neighbours.
+    /// The best tour of the first run with the least length, in printed form: from city 1 on, towards the smaller of
+    /// its neighbours.
     pub cities: Vec<u32>,
     /// Its length.
     pub length: i64,
@@ -63,7 +64,8 @@ fn run_all<W: Watch>(
     requires some { 1 ≤ table_size table.now }
     requires size { near.now.size ≡ table_size table.now }
     requires start { IsCommonStart (task_of table.now options.now) near.now (option_map (λ c. c.now) common) }
-    ensures { IfOk result (λ o. (runs : List Run) × (length runs ≡ options.now.runs) × AreKept (task_of table.now options.now) near.now runs o) }
+    ensures { IfOk result (λ o. (runs : List Run) × (length runs ≡ options.now.runs)
+        × AreKept (task_of table.now options.now) near.now runs o) }
 {
     let mut outcome = Outcome::new(alloc);
     for j in 0..options.runs {

@@ -39,7 +39,8 @@ use Rattle.tk_stages.specs.declared.fault.Fault.TheVariants.{Initial, NoMemory, 
 abbrev pub unfit_key : ParamsAre → ProblemIs → Option Key
 unfit_key p problem =
     if is_none problem.routing then (if is_some p.solution_file then Some keys.SolutionFile else None)
-    else (if is_some p.tour_file then Some keys.TourFile else (if is_some p.initial_tour_file then Some keys.InitialTourFile else None))
+    else (if is_some p.tour_file then Some keys.TourFile
+    else (if is_some p.initial_tour_file then Some keys.InitialTourFile else None))
 
 -- the cities of a tour to begin with, where there is one
 abbrev pub cities_in : Option TourText → Option (List ℕ)
@@ -97,10 +98,15 @@ pub record Files : Type 0 where
 
 -- the text of a tour of an instance of this name, and the lines on its runs
 abbrev pub tour_files : ParamsAre → List ℕ → SolvedTour → Files
-tour_files p name solved = record { file = tour_text name (unsigned_abs solved.length) solved.cities.items; out = tour_lines p.ignored solved }
+tour_files p name solved = record {
+  file = tour_text name (unsigned_abs solved.length) solved.cities.items;
+  out =
+      tour_lines p.ignored solved;
+}
 
 -- for a TSP: the best tour of the runs, with its length, and a line for each run
-pub record IsTourWritten (p : ParamsAre) (problem : ProblemIs) (initial : Option (List ℕ)) (files : Files) : Type 0 where
+pub record IsTourWritten (p : ParamsAre) (problem : ProblemIs) (initial : Option (List ℕ))
+    (files : Files) : Type 0 where
   pub solved : SolvedTour
   pub is : IsSolved (tour_task p problem initial) solved
   pub sound : IsSound (tour_task p problem initial) solved
@@ -109,7 +115,11 @@ pub record IsTourWritten (p : ParamsAre) (problem : ProblemIs) (initial : Option
 -- the text of routes, and the lines on them
 abbrev pub route_files : ParamsAre → List (List ℕ) → RouteReport → Files
 route_files p routes report =
-    record { file = solution_text routes (unsigned_abs report.after); out = route_lines p.ignored (length routes) report }
+    record {
+      file = solution_text routes (unsigned_abs report.after);
+      out =
+          route_lines p.ignored (length routes) report;
+    }
 
 -- for a CVRP: the improved routes, with their cost, and what improving them did
 pub record AreRoutesOf (p : ParamsAre) (i : Instance) (files : Files) : Type 0 where
@@ -124,18 +134,22 @@ solve_task p =
       misfit = λ problem. option_map NotForType (unfit_key p problem);
       IsClash = IsInitial;
       takes_memory = true;
-      Gives = λ problem initial _ files. MatchOption problem.routing (IsTourWritten p problem initial files) (λ r. AreRoutesOf p (instance_in problem r) files);
+      Gives = λ problem initial _ files. MatchOption problem.routing (IsTourWritten p problem initial files)
+          (λ r. AreRoutesOf p (instance_in problem r) files);
     }
 
 -- the two sinks of the files: their types, and what each has taken and whether a write to it has failed
-module _ {F W : Type 0} (file_taken : F → Option (List ℕ)) (file_broken : F → Bool) (out_taken : W → Option (List ℕ)) (out_broken : W → Bool)
+module _ {F W : Type 0} (file_taken : F → Option (List ℕ)) (file_broken : F → Bool) (out_taken : W → Option (List ℕ))
+    (out_broken : W → Bool)
     (file file' : F) (out out' : W) where
   -- `file` is written before `out`: where `file` breaks off, `out` is untouched
   abbrev pub WritesFiles : Writing Files
-  WritesFiles (Ok _) files = Writes file_taken file_broken file file' (Ok tt) files.file × Writes out_taken out_broken out out' (Ok tt) files.out
+  WritesFiles (Ok _) files = Writes file_taken file_broken file file' (Ok tt) files.file
+      × Writes out_taken out_broken out out' (Ok tt) files.out
   WritesFiles (Err f) files =
       (Writes file_taken file_broken file file' (Err f) files.file × IsUntouched out_taken out_broken out out')
-      ⊎ (Writes file_taken file_broken file file' (Ok tt) files.file × Writes out_taken out_broken out out' (Err f) files.out)
+      ⊎ (Writes file_taken file_broken file file' (Ok tt) files.file
+      × Writes out_taken out_broken out out' (Err f) files.out)
 
   -- neither has taken a byte
   abbrev pub AreUntouched : Type 0
@@ -151,7 +165,8 @@ IsInitialRefused problem initial (Initial f) = IsInitial problem initial (Some (
 IsInitialRefused problem initial NoMemory = Unit {0}
 IsInitialRefused problem initial _ = ⊥
 
--- files with the answer were written, or writing them broke off; or there was no memory for the answer, and nothing was written
+-- files with the answer were written, or writing them broke off; or there was no memory for the answer, and nothing was
+-- written
 abbrev pub Gives : (Files → Type 0) → Writing Files → Type 0 → Result (Unit {0}) Fault → Type 0
 Gives Answer Writes Quiet (Ok _) = (files : Files) × (Answer files × Writes (Ok tt) files)
 Gives Answer Writes Quiet (Err (Write f)) = (files : Files) × (Answer files × Writes (Err f) files)

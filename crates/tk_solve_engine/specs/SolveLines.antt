@@ -14,13 +14,15 @@ ignored_line key = line (codes "ignored " ++ keys.word key)
 
 -- what a descent did
 abbrev pub work_of : ℕ → ℕ → ℕ → List ℕ
-work_of moves tests swaps = codes ", moves " ++ decimal moves ++ codes ", tests " ++ decimal tests ++ codes ", swaps " ++ decimal swaps
+work_of moves tests swaps =
+    codes ", moves " ++ decimal moves ++ codes ", tests " ++ decimal tests ++ codes ", swaps " ++ decimal swaps
 
 -- a run, numbered from 1
 abbrev pub run_line : ℕ → RunReport → List ℕ
 run_line number report =
     let totals = report.totals in
-    line (codes "run " ++ decimal number ++ codes ": start " ++ decimal (unsigned_abs totals.start) ++ codes ", best " ++ decimal (unsigned_abs report.best)
+    line (codes "run " ++ decimal number ++ codes ": start " ++ decimal (unsigned_abs totals.start) ++ codes ", best "
+    ++ decimal (unsigned_abs report.best)
     ++ codes ", trials " ++ decimal totals.trials ++ work_of totals.moves totals.tests totals.swaps)
 
 -- runs, numbered from a number on
@@ -33,7 +35,8 @@ best_line length = line (codes "best " ++ decimal length)
 
 -- for a TSP
 abbrev pub tour_lines : List Key → SolvedTour → List ℕ
-tour_lines ignored solved = flat_map ignored_line ignored ++ run_lines 1 solved.runs.items ++ best_line (unsigned_abs solved.length)
+tour_lines ignored solved =
+    flat_map ignored_line ignored ++ run_lines 1 solved.runs.items ++ best_line (unsigned_abs solved.length)
 
 -- routes by savings: their cost, and how many there are
 abbrev pub savings_line : ℕ → ℕ → List ℕ
@@ -47,4 +50,5 @@ improved_line cost moves tests swaps = line (codes "improved " ++ decimal cost +
 abbrev pub route_lines : List Key → ℕ → RouteReport → List ℕ
 route_lines ignored routes report =
     flat_map ignored_line ignored ++ savings_line (unsigned_abs report.before) routes
-    ++ improved_line (unsigned_abs report.after) report.moves report.tests report.swaps ++ best_line (unsigned_abs report.after)
+    ++ improved_line (unsigned_abs report.after) report.moves report.tests report.swaps
+    ++ best_line (unsigned_abs report.after)

@@ -1,6 +1,7 @@
 //! The engine of `solve`: it reads a problem and a tour to begin with from sources, and writes what it found to sinks.
 //!
-//! It reads all of its texts before it writes a byte. Stopped by another fault than one of writing, it has written nothing.
+//! It reads all of its texts before it writes a byte. Stopped by another fault than one of writing, it has written
+//! nothing.
 #![tactic(auto)]
 
 mod solve;

@@ -131,15 +131,17 @@ fn solve_cvrp<F: Sink, W: Sink>(
     }
 }
 
-/// Does what parameters ask for: searches for a short tour of a TSP or for short routes of a CVRP. `file` gets the text of the tour
-/// or of the solution, and then `out` the keys that are not used, a line for each run or for the routes, and the best length.
+/// Does what parameters ask for: searches for a short tour of a TSP or for short routes of a CVRP. `file` gets the text
+/// of the tour or of the solution, and then `out` the keys that are not used, a line for each run or for the routes,
+/// and the best length.
 ///
-/// `initial` is read where the parameters name an INITIAL_TOUR_FILE. All texts are read before a byte is written. `watch` is told of
-/// each trial.
+/// `initial` is read where the parameters name an INITIAL_TOUR_FILE. All texts are read before a byte is written.
+/// `watch` is told of each trial.
 ///
 /// # Errors
-/// The fault of the problem text; `NotForType` of a key that the problem's type has no use for; the fault of the text of the tour to
-/// begin with, or `Initial` where it is no tour of the problem's cities; the fault of writing, or of memory.
+/// The fault of the problem text; `NotForType` of a key that the problem's type has no use for; the fault of the text
+/// of the tour to begin with, or `Initial` where it is no tour of the problem's cities; the fault of writing, or of
+/// memory.
 pub fn solve_engine<P: Source, I: Source, F: Sink, W: Sink, V: Watch>(
     alloc: Global,
     params: &Params,
@@ -152,7 +154,8 @@ pub fn solve_engine<P: Source, I: Source, F: Sink, W: Sink, V: Watch>(
     ensures ends { Ends (solve_task params.now) (ReadsProblem P.left P.broken problem.old problem.new)
         (ReadsInitial (is_some params.now.initial_tour_file) I.left I.broken initial.old initial.new)
         (WritesFiles F.taken F.broken W.taken W.broken file.old file.new out.old out.new) result }
-    ensures quiet { IfErr result (UnlessWrite (AreUntouched F.taken F.broken W.taken W.broken file.old file.new out.old out.new)) }
+    ensures quiet { IfErr result
+        (UnlessWrite (AreUntouched F.taken F.broken W.taken W.broken file.old file.new out.old out.new)) }
     ensures failed { IfErr result (AtWrite (HasFailed (F.broken file.new) (W.broken out.new))) }
     ensures unread { IfErr result (BeforeSecond (IsUntouched I.left I.broken initial.old initial.new)) }
 {

@@ -93,7 +93,8 @@ fn put_savings<W: Sink>(pen: &mut Pen<'_, W>, cost: u64, routes: u64)
 
 /// Puts the line of the improved routes.
 fn put_improved<W: Sink>(pen: &mut Pen<'_, W>, cost: u64, report: &RouteReport)
-    ensures { Puts W.taken W.broken pen.old pen.new (improved_line cost report.now.moves report.now.tests report.now.swaps) }
+    ensures { Puts W.taken W.broken pen.old pen.new
+        (improved_line cost report.now.moves report.now.tests report.now.swaps) }
 {
     pen.put(b"improved ");
     pen.put_number(cost);

@@ -1,5 +1,5 @@
--- How engines end. The stages are the same for all: a problem's text is read; the problem must fit the task; where there is a
--- second text it is read, and must fit the problem; the work is done; and what it gives is written.
+-- How engines end. The stages are the same for all: a problem's text is read; the problem must fit the task; where
+-- there is a second text it is read, and must fit the problem; the work is done; and what it gives is written.
 --     Task      what an engine does, whatever its sources and sinks
 --     ReadsProblem, ReadsTour, ReadsSolution, NoText      what a source's text says
 --     Ends task Problem Second Writes result      the stage that was reached, and what is known there
@@ -20,12 +20,14 @@ use Rattle.tk_stages.specs.declared.fault.Fault.TheVariants as faults
 -- ---- sources and sinks
 
 -- the text of a source says this value, and no read failed
-pub record IsRead {V S : Type 0} (decided : Decided V) (left : S → Option (List ℕ)) (broken : S → Bool) (old new : S) (value : V) : Type 0 where
+pub record IsRead {V S : Type 0} (decided : Decided V) (left : S → Option (List ℕ)) (broken : S → Bool) (old new : S)
+    (value : V) : Type 0 where
   pub answer : IsAnswerWhereTold decided text_limit (left old) (left new) (Ok value)
   pub intact : broken new ≡ broken old
 
 -- the text of a source has this fault, or it is one of reading or of memory
-pub record IsRefused {V S : Type 0} (decided : Decided V) (left : S → Option (List ℕ)) (broken : S → Bool) (old new : S) (f : TextFault) : Type 0 where
+pub record IsRefused {V S : Type 0} (decided : Decided V) (left : S → Option (List ℕ)) (broken : S → Bool) (old new : S)
+    (f : TextFault) : Type 0 where
   pub told : IsTold (broken new ≡ true) (IsAnswerWhereTold decided text_limit (left old) (left new)) f
   pub intact : f.kind ≢ kinds.Read → broken new ≡ broken old
 
@@ -38,9 +40,11 @@ abbrev pub Writing : Type 0 → Type 1
 Writing T = Result (Unit {0}) WriteFault → T → Type 0
 
 -- a source's text was read, or was refused with a fault that the engine wraps so
-abbrev pub Reads : {V S : Type 0} → Decided V → (TextFault → Fault) → (S → Option (List ℕ)) → (S → Bool) → S → S → Reading V
+abbrev pub Reads : {V S : Type 0} → Decided V → (TextFault → Fault) → (S → Option (List ℕ)) → (S → Bool) → S → S →
+    Reading V
 Reads decided wrap left broken old new (Ok value) = IsRead decided left broken old new value
-Reads decided wrap left broken old new (Err fault) = (f : TextFault) × (fault ≡ wrap f) × IsRefused decided left broken old new f
+Reads decided wrap left broken old new (Err fault) =
+    (f : TextFault) × (fault ≡ wrap f) × IsRefused decided left broken old new f
 
 abbrev pub ReadsProblem : {S : Type 0} → (S → Option (List ℕ)) → (S → Bool) → S → S → Reading ProblemIs
 ReadsProblem = Reads problem_decided faults.Problem
@@ -84,20 +88,23 @@ pub record IsMisfit {B R T : Type 0} (task : Task B R T) (Problem : Reading Prob
   pub misfit : task.misfit problem ≡ Some f
 
 -- a problem was read that fits, and the second text was refused
-pub record IsSecondRefused {B R T : Type 0} (task : Task B R T) (Problem : Reading ProblemIs) (Second : ProblemIs → Reading B) (f : Fault) : Type 0 where
+pub record IsSecondRefused {B R T : Type 0} (task : Task B R T) (Problem : Reading ProblemIs)
+    (Second : ProblemIs → Reading B) (f : Fault) : Type 0 where
   pub problem : ProblemIs
   pub is_problem : Problem (Ok problem)
   pub fits : task.misfit problem ≡ None
   pub refused : Second problem (Err f)
 
 -- a problem was read that fits, and so was the second text
-pub record AreRead {B R T : Type 0} (task : Task B R T) (Problem : Reading ProblemIs) (Second : Reading B) (problem : ProblemIs) (second : B) : Type 0 where
+pub record AreRead {B R T : Type 0} (task : Task B R T) (Problem : Reading ProblemIs) (Second : Reading B)
+    (problem : ProblemIs) (second : B) : Type 0 where
   pub is_problem : Problem (Ok problem)
   pub fits : task.misfit problem ≡ None
   pub is_second : Second (Ok second)
 
 -- what was read fits, this is the answer to it, and this became of the text that goes with the answer
-pub record IsGiven {B R T : Type 0} (task : Task B R T) (Problem : Reading ProblemIs) (Second : ProblemIs → Reading B) (Written : T → Type 0) (answer : R) : Type 0 where
+pub record IsGiven {B R T : Type 0} (task : Task B R T) (Problem : Reading ProblemIs) (Second : ProblemIs → Reading B)
+    (Written : T → Type 0) (answer : R) : Type 0 where
   pub problem : ProblemIs
   pub second : B
   pub text : T
@@ -107,7 +114,8 @@ pub record IsGiven {B R T : Type 0} (task : Task B R T) (Problem : Reading Probl
   pub written : Written text
 
 -- the last stage that was reached, by the fault, and what is known there
-abbrev pub Stopped : {B R T : Type 0} → Task B R T → Reading ProblemIs → (ProblemIs → Reading B) → Writing T → Fault → Type 0
+abbrev pub Stopped : {B R T : Type 0} → Task B R T → Reading ProblemIs → (ProblemIs → Reading B) → Writing T → Fault →
+    Type 0
 Stopped task Problem Second Writes (faults.Problem f) = Problem (Err (faults.Problem f))
 Stopped task Problem Second Writes faults.WrongType = IsMisfit task Problem faults.WrongType
 Stopped task Problem Second Writes (faults.NotForType key) = IsMisfit task Problem (faults.NotForType key)
@@ -115,12 +123,17 @@ Stopped task Problem Second Writes faults.TooLarge = IsMisfit task Problem fault
 Stopped task Problem Second Writes faults.NoPlaces = IsMisfit task Problem faults.NoPlaces
 Stopped task Problem Second Writes (faults.Tour f) = IsSecondRefused task Problem Second (faults.Tour f)
 Stopped task Problem Second Writes (faults.Solution f) = IsSecondRefused task Problem Second (faults.Solution f)
-Stopped {B} task Problem Second Writes (faults.Initial f) = (p : ProblemIs) × (second : B) × AreRead task Problem (Second p) p second × task.IsClash p second (Some (faults.Initial f))
-Stopped {B} task Problem Second Writes faults.NoMemory = (p : ProblemIs) × (second : B) × AreRead task Problem (Second p) p second × (task.takes_memory ≡ true)
-Stopped {B} {R} task Problem Second Writes (faults.Write f) = (answer : R) × IsGiven task Problem Second (Writes (Err f)) answer
+Stopped {B} task Problem Second Writes (faults.Initial f) =
+    (p : ProblemIs) × (second : B) × AreRead task Problem (Second p) p second
+    × task.IsClash p second (Some (faults.Initial f))
+Stopped {B} task Problem Second Writes faults.NoMemory =
+    (p : ProblemIs) × (second : B) × AreRead task Problem (Second p) p second × (task.takes_memory ≡ true)
+Stopped {B} {R} task Problem Second Writes (faults.Write f) =
+    (answer : R) × IsGiven task Problem Second (Writes (Err f)) answer
 
 -- an engine ended with all written, or stopped, where the problem says what is read as the second text
-abbrev pub EndsByProblem : {B R T : Type 0} → Task B R T → Reading ProblemIs → (ProblemIs → Reading B) → Writing T → Result R Fault → Type 0
+abbrev pub EndsByProblem : {B R T : Type 0} → Task B R T → Reading ProblemIs → (ProblemIs → Reading B) → Writing T →
+    Result R Fault → Type 0
 EndsByProblem task Problem Second Writes (Ok answer) = IsGiven task Problem Second (Writes (Ok tt)) answer
 EndsByProblem task Problem Second Writes (Err f) = Stopped task Problem Second Writes f
 

@@ -13,4 +13,10 @@ read_distance (value.Lower weights) = weight_between weights
 
 -- the instance that a problem with a routing gives
 abbrev pub instance_in : ProblemIs → RoutingIs → Instance
-instance_in p r = record { size = p.n; distance = read_distance p.weights; demands = r.demand; capacity = r.capacity; depot = r.depot }
+instance_in p r = record {
+  size = p.n;
+  distance = read_distance p.weights;
+  demands = r.demand;
+  capacity = r.capacity;
+  depot = r.depot;
+}

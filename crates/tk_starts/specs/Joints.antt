@@ -1,4 +1,5 @@
--- The savings merges as joints among the pairs (G. Clarke and J. W. Wright, 1964). E holds the joints made so far, the last one first.
+-- The savings merges as joints among the pairs (G. Clarke and J. W. Wright, 1964). E holds the joints made so far, the
+-- last one first.
 --     joints_at E c      how many joints a city has
 --     part E c      the name of a city's part: cities that joints connect have the same
 --     may_join load n capacity E p      whether the pair may become a joint
@@ -15,7 +16,8 @@ unfoldable pub joints_at : List Pair → ℕ → ℕ
 joints_at [] c = 0
 joints_at (e ∷ E) c = (if (e.i == c) || (e.j == c) then 1 else 0) + joints_at E c
 
--- The name of a city's part. At first it is the city's own, and a joint gives the part of its second city the name of that of its first.
+-- The name of a city's part. At first it is the city's own, and a joint gives the part of its second city the name of
+-- that of its first.
 unfoldable pub part : List Pair → ℕ → ℕ
 part [] c = c
 part (e ∷ E) c = if part E c == part E e.j then part E e.i else part E c
@@ -25,7 +27,8 @@ unfoldable pub part_load : (ℕ → ℕ) → List Pair → ℕ → ℕ → ℕ
 part_load load E zero name = 0
 part_load load E (suc n) name = part_load load E n name + (if part E (suc n) == name then load (suc n) else 0)
 
--- a pair may be joined: each city has at most one joint, they are in two parts, and these are within the capacity together
+-- a pair may be joined: each city has at most one joint, they are in two parts, and these are within the capacity
+-- together
 unfoldable pub may_join : (ℕ → ℕ) → ℕ → ℕ → List Pair → Pair → Bool
 may_join load n capacity E p =
     nat_le (joints_at E p.i) 1 && nat_le (joints_at E p.j) 1 && not (part E p.i == part E p.j) &&
@@ -60,7 +63,8 @@ IsConnected E a b = (xs : List ℕ) × (IsChain E a xs × (last_from a xs ≡ b)
 -- the part of the first city as the path of its joints, not ending lower than it begins
 unfoldable pub IsPartPath : List Pair → List ℕ → Type 0
 IsPartPath E [] = ⊥
-IsPartPath E (a ∷ xs) = IsChain E a xs × IsDistinct (a ∷ xs) × (a ≤ last_from a xs) × ((b : ℕ) → (holds (a ∷ xs) b ≡ true) ↔ (part E b ≡ part E a))
+IsPartPath E (a ∷ xs) = IsChain E a xs × IsDistinct (a ∷ xs) × (a ≤ last_from a xs)
+    × ((b : ℕ) → (holds (a ∷ xs) b ≡ true) ↔ (part E b ≡ part E a))
 
 unfoldable pub first_of : List ℕ → ℕ
 first_of [] = 0
@@ -69,6 +73,9 @@ first_of (a ∷ xs) = a
 -- the parts of the cities 1..n but the hub, each once, ordered by first city
 pub record ArePartPaths (n hub : ℕ) (E : List Pair) (lists : List (List ℕ)) : Type 0 where
   pub paths : All (IsPartPath E) lists
-  pub cities : (c : ℕ) → ((k : ℕ) × ((k < length lists) × (holds (slice_index_or lists k []) c ≡ true))) ↔ (IsCity n c × (c ≢ hub))
-  pub once : (c k l : ℕ) → k < length lists → l < length lists → holds (slice_index_or lists k []) c ≡ true → holds (slice_index_or lists l []) c ≡ true → k ≡ l
-  pub order : (k : ℕ) → k + 1 < length lists → first_of (slice_index_or lists k []) < first_of (slice_index_or lists (k + 1) [])
+  pub cities : (c : ℕ) →
+      ((k : ℕ) × ((k < length lists) × (holds (slice_index_or lists k []) c ≡ true))) ↔ (IsCity n c × (c ≢ hub))
+  pub once : (c k l : ℕ) → k < length lists → l < length lists → holds (slice_index_or lists k []) c ≡ true →
+      holds (slice_index_or lists l []) c ≡ true → k ≡ l
+  pub order : (k : ℕ) → k + 1 < length lists →
+      first_of (slice_index_or lists k []) < first_of (slice_index_or lists (k + 1) [])

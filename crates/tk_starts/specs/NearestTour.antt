@@ -4,7 +4,7 @@ use Rattle.std.specs.Prelude.{◌≡◌, ℕ, ◌+◌, ◌<◌, List, length, sl
 use Rattle.tk_metric.specs.Cities.{IsCity}
 use Rattle.tk_near.specs.Near.{IsFirst, IsNew}
 
--- the city behind place j, from 0, is the first, seen from that at place j, of those that do not stand before it
+-- the city after place j, from 0, is the first, seen from that at place j, of those that do not stand before it
 abbrev pub IsNearestAt : (ℕ → ℕ → ℕ) → ℕ → List ℕ → ℕ → Type 0
 IsNearestAt dist n cities j =
     IsFirst dist (slice_index cities j) (λ b. IsCity n b × IsNew cities (j + 1) b) (slice_index cities (j + 1))

@@ -34,7 +34,8 @@ pub record AreEnds (n : ℕ) (load : ℕ → ℕ) (E : List Pair) (one two other
   pub degree : (c : ℕ) → IsCity n c → joints_at E c ≡ one_if (one c) + one_if (two c)
   pub paths : (c : ℕ) → IsCity n c → IsEnd one two c → (xs : List ℕ) × IsPathOf n E one two c (other c) xs
   pub back : (c : ℕ) → IsCity n c → IsEnd one two c → IsEnd one two (other c) × (other (other c) ≡ c)
-  pub only : (c d : ℕ) → IsCity n c → IsCity n d → IsEnd one two c → IsEnd one two d → part E d ≡ part E c → (d ≡ c) ⊎ (d ≡ other c)
+  pub only : (c d : ℕ) → IsCity n c → IsCity n d → IsEnd one two c → IsEnd one two d → part E d ≡ part E c →
+      (d ≡ c) ⊎ (d ≡ other c)
   pub total : (c : ℕ) → IsCity n c → IsEnd one two c → weight c ≡ part_load load E n (part E c)
   pub covered : (c : ℕ) → IsCity n c → (d : ℕ) × (IsCity n d × IsEnd one two d × (part E d ≡ part E c))
 
@@ -51,7 +52,8 @@ pub record IsSetAt (a x b y : ℕ) (f f' : ℕ → ℕ) : Type 0 where
   pub rest : (c : ℕ) → c ≢ a → c ≢ b → f' c ≡ f c
 
 -- what is known when the paths of the two cities of e are joined at them
-pub record IsJoin (n : ℕ) (load : ℕ → ℕ) (E : List Pair) (e : Pair) (one two other weight one' two' other' weight' : ℕ → ℕ) : Type 0 where
+pub record IsJoin (n : ℕ) (load : ℕ → ℕ) (E : List Pair) (e : Pair)
+    (one two other weight one' two' other' weight' : ℕ → ℕ) : Type 0 where
   pub ends : AreEnds n load E one two other weight
   pub first : IsCity n e.i × IsEnd one two e.i
   pub second : IsCity n e.j × IsEnd one two e.j
@@ -81,7 +83,8 @@ is_end_at one two c = (at one c == 0) || (at two c == 0)
 -- the two cities of p end two paths that are within the capacity together
 abbrev pub may_join_at : List ℕ → List ℕ → List ℕ → List ℕ → ℕ → Pair → Bool
 may_join_at one two other weight capacity p =
-    is_end_at one two p.i && is_end_at one two p.j && not (at other p.i == p.j) && nat_le (at weight p.j) capacity && nat_le (at weight p.i) (capacity - at weight p.j)
+    is_end_at one two p.i && is_end_at one two p.j && not (at other p.i == p.j) && nat_le (at weight p.j) capacity
+    && nat_le (at weight p.i) (capacity - at weight p.j)
 
 -- the neighbours lead from the first city along the list to an end, over cities of 1..n, each once
 pub record IsWay (n : ℕ) (one two : ℕ → ℕ) (a : ℕ) (xs : List ℕ) : Type 0 where

@@ -37,7 +37,8 @@ pub record KeepsSettled (old new : JournalTour) : Type 0 where
   pub undo_swaps : undo_swaps_of (tour_of new) ≡ undo_swaps_of (tour_of old)
   pub copied : copied_of (tour_of new) ≡ copied_of (tour_of old)
   pub settled : flips_since new ≤ slots_of new → settled_order new ≡ settled_order old
-  pub swaps : flips_since new ≤ slots_of new → (more : ℕ) × (swaps_to_rewind new ≡ swaps_to_rewind old + more) × (swaps_of (tour_of new) ≡ saturated (swaps_of (tour_of old) + more))
+  pub swaps : flips_since new ≤ slots_of new → (more : ℕ) × (swaps_to_rewind new ≡ swaps_to_rewind old + more)
+      × (swaps_of (tour_of new) ≡ saturated (swaps_of (tour_of old) + more))
 
 pub KeepsSettled-refl : (tour : JournalTour) → KeepsSettled tour tour
 KeepsSettled-refl tour = record {

@@ -152,7 +152,8 @@ impl ArrayTour {
         requires apart { a ≢ c }
         requires b_after { b ≡ next_city self.now.order.items a }
         requires d_after { d ≡ next_city self.now.order.items c }
-        ensures steps { ReplacesSteps self.now.order.items (reversed_places result.0 result.1 self.now.order.items) a b c d }
+        ensures steps { ReplacesSteps self.now.order.items
+            (reversed_places result.0 result.1 self.now.order.items) a b c d }
         ensures within { result.0 < length self.now.order.items }
         ensures side { IsShorterSide self.now.order.items result.1 a b c d }
         ensures shorter { 2 * result.1 ≤ length self.now.order.items }

@@ -149,7 +149,8 @@ fn sweep_city<P: Planar>(m: &P, row: &[Placed], p: usize, kept: &mut [Candidate]
     requires low { 1 ≤ length kept.old }
     requires high { length kept.old < P.size_of m.now }
     ensures size { length kept.new ≡ length kept.old }
-    ensures near { IsNear (P.distance m.now) (P.size_of m.now) (length kept.old) (city_at row.now p) (cities_of kept.new) }
+    ensures near { IsNear (P.distance m.now) (P.size_of m.now) (length kept.old) (city_at row.now p)
+        (cities_of kept.new) }
 {
     kept.fill(OPEN);
     let mut far = u64::MAX;

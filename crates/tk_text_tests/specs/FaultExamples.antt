@@ -85,15 +85,26 @@ weight_faults =
     ∷ (full_matrix (codes "0 3 5\n3 0 6\n5 6 0 0\n"), fault 8 kinds.TrailingData)
     ∷ (full_matrix (codes "0 3 5\n3 0 6\n5 6 0\n0\n"), fault 9 kinds.TrailingData)
     ∷ (headed (codes "EDGE_WEIGHT_SECTION\n"), fault 3 (kinds.Missing words.EdgeWeightType))
-    ∷ (headed (codes "EDGE_WEIGHT_TYPE : EXPLICIT\nEDGE_WEIGHT_SECTION\n"), fault 4 (kinds.Missing words.EdgeWeightFormat))
+    ∷ (
+      headed (codes "EDGE_WEIGHT_TYPE : EXPLICIT\nEDGE_WEIGHT_SECTION\n"),
+      fault 4 (kinds.Missing words.EdgeWeightFormat),
+    )
     ∷ (headed (codes "EDGE_WEIGHT_TYPE : EXPLICIT\n"), fault 4 (kinds.Missing words.EdgeWeightSection))
-    ∷ (headed (codes "EDGE_WEIGHT_TYPE : ATT\nEDGE_WEIGHT_FORMAT : UPPER_ROW\nEDGE_WEIGHT_SECTION\n"), fault 5 kinds.Unsupported)
-    ∷ (headed (codes "EDGE_WEIGHT_TYPE : EXPLICIT\nEDGE_WEIGHT_FORMAT : FUNCTION\nEDGE_WEIGHT_SECTION\n"), fault 5 kinds.Unsupported)
+    ∷ (
+      headed (codes "EDGE_WEIGHT_TYPE : ATT\nEDGE_WEIGHT_FORMAT : UPPER_ROW\nEDGE_WEIGHT_SECTION\n"),
+      fault 5 kinds.Unsupported,
+    )
+    ∷ (
+      headed (codes "EDGE_WEIGHT_TYPE : EXPLICIT\nEDGE_WEIGHT_FORMAT : FUNCTION\nEDGE_WEIGHT_SECTION\n"),
+      fault 5 kinds.Unsupported,
+    )
     ∷ []
 
 abbrev pub routing_faults : List (List ℕ × ProblemAnswer)
-routing_faults =
-    (codes "TYPE : CVRP\nDIMENSION : 2\nEDGE_WEIGHT_TYPE : ATT\nNODE_COORD_SECTION\n1 0 0\n2 0 0\n", fault 7 (kinds.Missing words.Capacity))
+routing_faults = (
+  codes "TYPE : CVRP\nDIMENSION : 2\nEDGE_WEIGHT_TYPE : ATT\nNODE_COORD_SECTION\n1 0 0\n2 0 0\n",
+  fault 7 (kinds.Missing words.Capacity),
+)
     ∷ (routing (codes ""), fault 8 (kinds.Missing words.DemandSection))
     ∷ (routing (codes "DEMAND_SECTION\n1 0\n2 5\n"), fault 11 (kinds.Missing words.DepotSection))
     ∷ (routing (codes "DEMAND_SECTION\n1 0\n1 5\n"), fault 10 kinds.BadNode)
@@ -163,7 +174,8 @@ length_faults =
     ∷ (plane (replicate 65 48), fault 5 kinds.TooLong)
     ∷ []
 
--- numbers at their limits are no fault, so that another is told; explicit weights and routes are for at most 5,000 nodes
+-- numbers at their limits are no fault, so that another is told; explicit weights and routes are for at most 5,000
+-- nodes
 abbrev pub at_limits : List (List ℕ × ProblemAnswer)
 at_limits =
     (codes "DIMENSION : 2\n", fault 2 (kinds.Missing words.Type))

@@ -63,7 +63,7 @@ coordinates =
     ∷ (codes "-1000000000.000000001", Err kinds.OutOfLimit)
     ∷ (codes "1e10", Err kinds.OutOfLimit)
     ∷ (codes "1e999", Err kinds.OutOfLimit)
-    -- at least one digit, at most one point, and 1 to 3 digits behind an e
+    -- at least one digit, at most one point, and 1 to 3 digits after an e
     ∷ (codes "", Err kinds.BadNumber)
     ∷ (codes ".", Err kinds.BadNumber)
     ∷ (codes "-", Err kinds.BadNumber)

@@ -38,11 +38,18 @@ tsp name n weights = Some (Ok (record { name = name; n = n; weights = weights; r
 -- the same for routes: a vehicle's capacity, the demands and the depot
 abbrev pub cvrp : List ℕ → ℕ → WeightsAre → ℕ → List ℕ → ℕ → ProblemAnswer
 cvrp name n weights capacity demand depot =
-    Some (Ok (record { name = name; n = n; weights = weights; routing = Some (record { capacity = capacity; demand = demand; depot = depot }) }))
+    Some (Ok (record {
+      name = name;
+      n = n;
+      weights = weights;
+      routing =
+          Some (record { capacity = capacity; demand = demand; depot = depot });
+    }))
 
 -- two places of a type
 abbrev pub two_places : List ℕ → List ℕ
-two_places type = codes "TYPE : TSP\nDIMENSION : 2\nEDGE_WEIGHT_TYPE : " ++ type ++ codes "\nNODE_COORD_SECTION\n1 0 0\n2 3 4\n"
+two_places type =
+    codes "TYPE : TSP\nDIMENSION : 2\nEDGE_WEIGHT_TYPE : " ++ type ++ codes "\nNODE_COORD_SECTION\n1 0 0\n2 3 4\n"
 
 abbrev pub two_places_are : PlaneKind → ProblemAnswer
 two_places_are kind = tsp (codes "Unnamed") 2 (Points kind (place 0 0 ∷ place 3 4 ∷ []))
@@ -68,7 +75,8 @@ problems = (
     -- nodes in any order, numbers in any lines, decimal coordinates
     ∷ (
       codes "EDGE_WEIGHT_TYPE: MAX_2D\nDimension 2\n\ttype:tsp\r\nnode_coord_section: 2 .5\n\n-0.0000000019 1\n1e1 2.\n",
-      tsp (codes "Unnamed") 2 (Points planes.Max2d (record { x = pos 10000000000; y = pos 2000000000 } ∷ record { x = pos 500000000; y = negsuc 0 } ∷ [])),
+      tsp (codes "Unnamed") 2 (Points planes.Max2d
+          (record { x = pos 10000000000; y = pos 2000000000 } ∷ record { x = pos 500000000; y = negsuc 0 } ∷ [])),
     )
     ∷ (
       codes "TYPE : TSP\nDIMENSION : 4\nEDGE_WEIGHT_TYPE : EXPLICIT\nEDGE_WEIGHT_FORMAT : UPPER_ROW\nEDGE_WEIGHT_SECTION\n1 2 3 4 5 6\nEOF\n",
@@ -93,7 +101,7 @@ plane rows = codes "TYPE : TSP\nDIMENSION : 2\nEDGE_WEIGHT_TYPE : EUC_2D\nNODE_C
 abbrev pub full_matrix : List ℕ → List ℕ
 full_matrix rows = codes "TYPE : TSP\nDIMENSION : 3\nEDGE_WEIGHT_TYPE : EXPLICIT\nEDGE_WEIGHT_FORMAT : FULL_MATRIX\nEDGE_WEIGHT_SECTION\n" ++ rows
 
--- a CVRP of two nodes, whose sections behind the coordinates begin on line 8
+-- a CVRP of two nodes, whose sections after the coordinates begin on line 8
 abbrev pub routing : List ℕ → List ℕ
 routing rest = codes "TYPE : CVRP\nDIMENSION : 2\nCAPACITY : 5\nEDGE_WEIGHT_TYPE : EUC_2D\nNODE_COORD_SECTION\n1 0 0\n2 1 0\n" ++ rest
 
@@ -113,7 +121,7 @@ problem_beginnings =
     ∷ (plane (codes "1 1.2.3\t"), fault 5 kinds.BadNumber)
     ∷ (full_matrix (codes "0 3 5\n4"), undecided)
     ∷ (full_matrix (codes "0 3 5\n4\n"), fault 7 (kinds.NotSymmetric 1 2))
-    -- behind a section there may be more
+    -- after a section there may be more
     ∷ (plane (codes "1 0 0\n2 3 4\n"), undecided)
     ∷ (plane (codes "1 0 0\n2 3 4\nEOF"), undecided)
     ∷ (plane (codes "1 0 0\n2 3 4\nEOF "), two_places_are planes.Euc2d)

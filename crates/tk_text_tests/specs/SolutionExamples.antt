@@ -1,4 +1,5 @@
--- Examples of solution texts: their routes and cost, what is wrong with them and on which line, and what their beginnings decide.
+-- Examples of solution texts: their routes and cost, what is wrong with them and on which line, and what their
+-- beginnings decide.
 use Rattle.std.specs.Prelude.{ℕ, true, false, List, [], ◌∷◌, ◌++◌, Option, Some, None, Result, Ok, Err, pos, codes, replicate}
 use Rattle.tk_text.specs.declared.Keyword.TheVariants as words
 use Rattle.tk_text.specs.declared.TextKind.{TextKind}
@@ -45,8 +46,11 @@ solutions =
     -- blanks, signs, numbers that are not used
     ∷ (codes " Route #-3:  1 2\r\n Route#+1: \t5 4 3\ncost : 31 \n", routes ((1 ∷ 2 ∷ []) ∷ (5 ∷ 4 ∷ 3 ∷ []) ∷ []) 31)
     ∷ (codes "route # 1 : 2  3  1 \ncost\t45 \n", routes ((2 ∷ 3 ∷ 1 ∷ []) ∷ []) 45)
-    ∷ (codes " \t\nRoute#123456789012345678\t:0 4294967295\n\nCost 999999999999999999", routes ((0 ∷ 4294967295 ∷ []) ∷ []) 999999999999999999)
-    -- behind the cost lines are passed over
+    ∷ (
+      codes " \t\nRoute#123456789012345678\t:0 4294967295\n\nCost 999999999999999999",
+      routes ((0 ∷ 4294967295 ∷ []) ∷ []) 999999999999999999,
+    )
+    -- after the cost lines are passed over
     ∷ (codes "Route #1: 1\nCost 12\n\n-1 -1 -1", routes ((1 ∷ []) ∷ []) 12)
     ∷ (codes "Cost 46\nVEHICLES #2: 1", routes [] 46)
     ∷ (codes "Cost 5\nRoutes\nCosts\nEOF\n#Route", routes [] 5)
@@ -90,7 +94,7 @@ solution_faults =
     ∷ (codes "Route #1: 4\nCost 24 1\n", fault 2 kinds.TrailingData)
     ∷ (codes "\nRoute #1: 2 1\nCost 6 :0\n", fault 3 kinds.TrailingData)
     ∷ (codes "Cost 1 " ++ replicate 65 48, fault 1 kinds.TrailingData)
-    -- behind the cost
+    -- after the cost
     ∷ (codes "Cost : 46\nroute x\n", fault 2 kinds.TrailingData)
     ∷ (codes "Cost 1\n\n\tCOST", fault 3 kinds.TrailingData)
     ∷ []
@@ -121,7 +125,7 @@ solution_beginnings =
     ∷ (codes "Cost -1", undecided)
     ∷ (codes "Cost -1 ", fault 1 kinds.OutOfLimit)
     ∷ (codes "Cost 1 2", fault 1 kinds.TrailingData)
-    -- behind the cost any line may come
+    -- after the cost any line may come
     ∷ (codes "Cost 1\nEOF\n", undecided)
     ∷ (codes "Cost 1\nRoute", undecided)
     ∷ (codes "Cost 1\nRoute:", fault 2 kinds.TrailingData)
@@ -141,7 +145,7 @@ solutions_within =
     ∷ ((5, codes "Cost x 2"), fault 1 kinds.TooLong)
     ∷ []
 
--- what stands behind the word Route
+-- what comes after the word Route
 abbrev pub heads : List (List ℕ × Head)
 heads =
     (codes " #1: 5", Behind (codes " 5"))
@@ -152,7 +156,7 @@ heads =
     ∷ (codes " #1 2:", Bad)
     ∷ []
 
--- a customer behind so many others, of which there may be 1,000,000
+-- a customer after so many others, of which there may be 1,000,000
 abbrev pub customer_after : ℕ × List ℕ → Option Stop
 customer_after (count, bytes) = customer_stop count (record { bytes = bytes; line = 7; whole = true })
 

@@ -38,8 +38,10 @@ abbrev pub tour : List ℕ → List ℕ
 tour numbers = codes "TYPE : TOUR\nTOUR_SECTION\n" ++ numbers
 
 abbrev pub tours : List (List ℕ × TourAnswer)
-tours =
-    (codes "NAME : p.40.tour\nCOMMENT : Length = 40\nTYPE : TOUR\nDIMENSION : 4\nTOUR_SECTION\n1\n3\n2\n4\n-1\nEOF\n", lists (1 ∷ 3 ∷ 2 ∷ 4 ∷ []))
+tours = (
+  codes "NAME : p.40.tour\nCOMMENT : Length = 40\nTYPE : TOUR\nDIMENSION : 4\nTOUR_SECTION\n1\n3\n2\n4\n-1\nEOF\n",
+  lists (1 ∷ 3 ∷ 2 ∷ 4 ∷ []),
+)
     -- one -1 more, on any line; the end of the text or EOF in place of -1
     ∷ (tour (codes "1 2 3 4\n-1\n-1\n"), lists (1 ∷ 2 ∷ 3 ∷ 4 ∷ []))
     ∷ (tour (codes "1 2 -1 -1\nEOF"), lists (1 ∷ 2 ∷ []))
@@ -50,10 +52,13 @@ tours =
     ∷ (tour (codes "3 1 2\neof: junk"), lists (3 ∷ 1 ∷ 2 ∷ []))
     ∷ (tour (codes "-1"), lists [])
     ∷ (tour (codes ""), lists [])
-    -- nothing behind EOF counts
+    -- nothing after EOF counts
     ∷ (tour (codes "2 1 -1\nEOF x\n%"), lists (2 ∷ 1 ∷ []))
     -- small letters, tabs and CR, no colon, blank lines, numbers on the word's own line
-    ∷ (codes "\r\n\ttype:tour (best)\r\n dimension 2 cities\r\n\r\nTour_Section : +2 01\r\n-1\r\neof\r\n", lists (2 ∷ 1 ∷ []))
+    ∷ (
+      codes "\r\n\ttype:tour (best)\r\n dimension 2 cities\r\n\r\nTour_Section : +2 01\r\n-1\r\neof\r\n",
+      lists (2 ∷ 1 ∷ []),
+    )
     ∷ (codes "COMMENT\nCOMMENT : x\nTOUR_SECTION\n1 -1\nTYPE : TOUR\n", lists (1 ∷ []))
     -- whether it is a tour does not matter here
     ∷ (tour (codes "0 4294967295 7 7 -1"), lists (0 ∷ 4294967295 ∷ 7 ∷ 7 ∷ []))
@@ -122,7 +127,7 @@ tour_beginnings =
     ∷ (tour (codes "1 2x"), undecided)
     ∷ (tour (codes "1 2x "), fault 3 kinds.BadNumber)
     ∷ (tour (replicate 65 48), fault 3 kinds.TooLong)
-    -- behind -1 may stand one -1 more
+    -- after -1 may stand one -1 more
     ∷ (tour (codes "1 2 -1"), undecided)
     ∷ (tour (codes "1 2 -1\n"), undecided)
     ∷ (tour (codes "1 2 -1\n-"), undecided)
@@ -140,7 +145,7 @@ tour_beginnings =
     ∷ (tour (codes "1 2 EOF "), lists (1 ∷ 2 ∷ []))
     ∷ []
 
--- numbers begin behind 25 bytes. Of a text that is too long only what its bytes up to the first too many show counts
+-- numbers begin after 25 bytes. Of a text that is too long only what its bytes up to the first too many show counts
 abbrev pub tours_within : List ((ℕ × List ℕ) × TourAnswer)
 tours_within =
     ((31, tour (codes "2 1 -1")), lists (2 ∷ 1 ∷ []))
@@ -149,7 +154,7 @@ tours_within =
     ∷ ((12, tour (codes "2 1 -1")), fault 2 kinds.TooLong)
     ∷ ((11, tour (codes "2 1 -1")), fault 1 kinds.TooLong)
     ∷ ((0, tour (codes "2 1 -1")), fault 1 kinds.TooLong)
-    -- what stands behind EOF is not read
+    -- what comes after EOF is not read
     ∷ ((32, tour (codes "2 1 EOF junk")), lists (2 ∷ 1 ∷ []))
     ∷ ((31, tour (codes "2 1 EOF junk")), fault 3 kinds.TooLong)
     -- a fault that the bytes show
@@ -165,7 +170,7 @@ tours_within =
     ∷ ((30, tour (codes "1 -1 -1")), fault 3 kinds.TooLong)
     ∷ []
 
--- a number behind so many others, of which there may be 1,000,000
+-- a number after so many others, of which there may be 1,000,000
 abbrev pub entry_after : ℕ × List ℕ → Option Stop
 entry_after (count, bytes) = entry_stop count (record { bytes = bytes; line = 7; whole = true })
 

@@ -6,7 +6,8 @@ use Rattle.tk_text.specs.Lex.{tokens_of}
 use Rattle.tk_text.specs.WeightOrder.{order}
 use Rattle.tk_text.specs.WeightSection.{lower_weights}
 
--- the entries of a matrix of three rows, each as the number of its row and that of its column: 23 is of the second row and the third column
+-- the entries of a matrix of three rows, each as the number of its row and that of its column: 23 is of the second row
+-- and the third column
 abbrev pub entries_of_3 : Format → List ℕ
 entries_of_3 f = map (λ p. suc p.row * 10 + suc p.column) (order f 3)
 

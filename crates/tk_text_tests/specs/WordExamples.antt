@@ -38,7 +38,7 @@ keywords =
     ∷ (codes "NODE-COORD-SECTION", None)
     ∷ []
 
--- what stands behind a word: blanks and at most one colon are passed over
+-- what comes after a word: blanks and at most one colon are passed over
 abbrev pub behind_words : List (List ℕ × List ℕ)
 behind_words =
     (codes " : x y", codes " x y")
@@ -57,7 +57,7 @@ trimmed =
     ∷ (codes "", codes "")
     ∷ []
 
--- the first word of a header's value; what stands behind it does not count
+-- the first word of a header's value; what comes after it does not count
 abbrev pub first_words : List (List ℕ × List ℕ)
 first_words =
     (codes " : EUC_2D (in the plane)", codes "EUC_2D")
@@ -122,8 +122,11 @@ abbrev pub tokens_in : Bool × List ℕ → List Token
 tokens_in text = tokens (lines_of text)
 
 abbrev pub token_lists : List ((Bool × List ℕ) × List Token)
-token_lists =
-    ((true, codes " 1 -22\n\n\t3:\r\nx"), token_is (codes "1") 1 true ∷ token_is (codes "-22") 1 true ∷ token_is (codes "3:") 3 true ∷ token_is (codes "x") 4 true ∷ [])
+token_lists = (
+  (true, codes " 1 -22\n\n\t3:\r\nx"),
+  token_is (codes "1") 1 true ∷ token_is (codes "-22") 1 true
+      ∷ token_is (codes "3:") 3 true ∷ token_is (codes "x") 4 true ∷ [],
+)
     ∷ ((false, codes "1 22"), token_is (codes "1") 1 true ∷ token_is (codes "22") 1 false ∷ [])
     ∷ ((false, codes "1 22 "), token_is (codes "1") 1 true ∷ token_is (codes "22") 1 true ∷ [])
     ∷ ((false, codes "1 22\n"), token_is (codes "1") 1 true ∷ token_is (codes "22") 1 true ∷ [])

@@ -39,7 +39,8 @@ matrix_of f = matrix_text (codes "p") 3 triangle f
 
 -- the lines before the numbers
 abbrev pub head : List ℕ → List ℕ
-head word = codes "NAME : p\nTYPE : TSP\nDIMENSION : 3\nEDGE_WEIGHT_TYPE : EXPLICIT\nEDGE_WEIGHT_FORMAT : " ++ word ++ codes "\nEDGE_WEIGHT_SECTION\n"
+head word = codes "NAME : p\nTYPE : TSP\nDIMENSION : 3\nEDGE_WEIGHT_TYPE : EXPLICIT\nEDGE_WEIGHT_FORMAT : " ++ word
+    ++ codes "\nEDGE_WEIGHT_SECTION\n"
 
 abbrev pub matrices : List (Format × List ℕ)
 matrices =

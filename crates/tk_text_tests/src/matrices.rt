@@ -69,7 +69,7 @@ fn are_weights(weights: &Weights, below: &[u32]) -> bool {
     }
 }
 
-/// The parts of a text, one behind another.
+/// The parts of a text, one after another.
 fn joined(alloc: Global, parts: &[&[u8]]) -> Result<Vec<u8>, AllocError> {
     let mut text = Vec::new(alloc);
     for part in parts {

@@ -299,7 +299,7 @@ fn long_headers(rt: HostRuntime) -> Result<(), Fail> {
     Ok(())
 }
 
-/// Reads a text of so many bytes that is blank behind its list of one city.
+/// Reads a text of so many bytes that is blank after its list of one city.
 fn read_padded(alloc: Global, len: u64) -> Result<TourText, TextFault> {
     let text: &[u8] = b"TYPE : TOUR\nTOUR_SECTION 1\n";
     let blanks = len.saturating_sub(text.len() as u64);
@@ -354,7 +354,7 @@ fn failing_sources(rt: HostRuntime) -> Result<(), Fail> {
     Ok(())
 }
 
-/// Behind an ending `-1` a source is read on only while one `-1` more may stand there.
+/// After an ending `-1` a source is read on only while one `-1` more may stand there.
 #[test]
 fn one_ending_more(rt: HostRuntime) {
     let a = rt.alloc();

@@ -8,7 +8,7 @@ pub walk-limit : (d : ℕ → ℕ → ℕ) (most from : ℕ) (cities : List ℕ)
 walk-limit d most from [] limit = omega arith
 walk-limit d most from (city ∷ cities) limit = omega (arith, limit from city, walk-limit d most city cities limit)
 
--- the way round from a city, with k cities left behind
+-- the way round from a city, with k cities left after
 abbrev pub way_back : (ℕ → ℕ → ℕ) → ℕ → ℕ → ℕ → List ℕ → ℕ
 way_back d from first k cities = walk d from (drop k cities ++ first ∷ [])
 

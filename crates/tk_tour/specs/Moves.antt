@@ -13,10 +13,11 @@ pub record CanFlip (cities : List ℕ) (a b c d : ℕ) : Type 0 where
   pub a_in : IsCity (length cities) a
   pub c_in : IsCity (length cities) c
   pub apart : a ≢ c
-  pub steps : ((b ≡ next_city cities a) × (d ≡ next_city cities c)) ⊎ ((b ≡ prev_city cities a) × (d ≡ prev_city cities c))
+  pub steps : ((b ≡ next_city cities a) × (d ≡ next_city cities c))
+      ⊎ ((b ≡ prev_city cities a) × (d ≡ prev_city cities c))
 
--- The 2-opt move of G. A. Croes (1958). The cycle is a path from d to a and one from b to c, so it has the steps a-b and
--- c-d. The second path is turned round, so a-c and b-d come in their place.
+-- The 2-opt move of G. A. Croes (1958). The cycle is a path from d to a and one from b to c, so it has the steps a-b
+-- and c-d. The second path is turned round, so a-c and b-d come in their place.
 pub record TwoOptMove (old new : List ℕ) (a b c d : ℕ) : Type 0 where
   pub kept : List ℕ
   pub turned : List ℕ
@@ -28,15 +29,17 @@ pub record TwoOptMove (old new : List ℕ) (a b c d : ℕ) : Type 0 where
 -- wherever old is cut into a path from d to a and one from b to c, new is the first and the reverse of the second
 abbrev pub ReplacesSteps : List ℕ → List ℕ → ℕ → ℕ → ℕ → ℕ → Type 0
 ReplacesSteps old new a b c d =
-    (front back : List ℕ) → IsPath d front a → IsPath b back c → SameCycle old (front ++ back) → SameCycle new (front ++ reverse back)
+    (front back : List ℕ) → IsPath d front a → IsPath b back c → SameCycle old (front ++ back) →
+    SameCycle new (front ++ reverse back)
 
 -- `count` is the number of cities on the shorter side of the cut at the steps a-b and c-d
 abbrev pub IsShorterSide : List ℕ → ℕ → ℕ → ℕ → ℕ → ℕ → Type 0
 IsShorterSide cities count a b c d =
-    (front back : List ℕ) → IsPath d front a → IsPath b back c → SameCycle cities (front ++ back) → count ≡ min (length front) (length back)
+    (front back : List ℕ) → IsPath d front a → IsPath b back c → SameCycle cities (front ++ back) →
+    count ≡ min (length front) (length back)
 
--- The Or-move of I. Or (1976). A segment of at most m cities runs from x to e, with a before it and b after it. It moves,
--- as it runs or turned round, to between y and w: a-b, x-y and e-w come in place of the steps a-x, e-b and y-w.
+-- The Or-move of I. Or (1976). A segment of at most m cities runs from x to e, with a before it and b after it. It
+-- moves, as it runs or turned round, to between y and w: a-b, x-y and e-w come in place of the steps a-x, e-b and y-w.
 pub record OrMove (m : ℕ) (old new : List ℕ) (a x e b y w : ℕ) : Type 0 where
   pub segment : List ℕ
   pub ahead : List ℕ
@@ -60,10 +63,12 @@ pub record CutInThree (cities : List ℕ) (a x e b c d : ℕ) : Type 0 where
 
 -- wherever old is cut so, the segment stands between c and d in new, as it ran or turned round
 abbrev pub MovesStraight : List ℕ → List ℕ → ℕ → ℕ → ℕ → ℕ → ℕ → ℕ → Type 0
-MovesStraight old new a x e b c d = (cut : CutInThree old a x e b c d) → SameCycle new (cut.ahead ++ cut.segment ++ cut.rest)
+MovesStraight old new a x e b c d =
+    (cut : CutInThree old a x e b c d) → SameCycle new (cut.ahead ++ cut.segment ++ cut.rest)
 
 abbrev pub MovesReversed : List ℕ → List ℕ → ℕ → ℕ → ℕ → ℕ → ℕ → ℕ → Type 0
-MovesReversed old new a x e b c d = (cut : CutInThree old a x e b c d) → SameCycle new (cut.ahead ++ reverse cut.segment ++ cut.rest)
+MovesReversed old new a x e b c d =
+    (cut : CutInThree old a x e b c d) → SameCycle new (cut.ahead ++ reverse cut.segment ++ cut.rest)
 
 -- the cycle is cut into four paths, by their ends
 pub record CutInFour (cities : List ℕ) (a1 an b1 bn c1 cn d1 dn : ℕ) : Type 0 where
@@ -77,6 +82,8 @@ pub record CutInFour (cities : List ℕ) (a1 an b1 bn c1 cn d1 dn : ℕ) : Type 
   pub is_d : IsPath d1 d dn
   pub cycle : SameCycle cities (a ++ b ++ c ++ d)
 
--- The double bridge of O. Martin, S. W. Otto and E. W. Felten (1991): wherever old is cut so, the second path and the fourth change places.
+-- The double bridge of O. Martin, S. W. Otto and E. W. Felten (1991): wherever old is cut so, the second path and the
+-- fourth change places.
 abbrev pub IsBridged : List ℕ → List ℕ → ℕ → ℕ → ℕ → ℕ → ℕ → ℕ → ℕ → ℕ → Type 0
-IsBridged old new a1 an b1 bn c1 cn d1 dn = (cut : CutInFour old a1 an b1 bn c1 cn d1 dn) → SameCycle new (cut.a ++ cut.d ++ cut.c ++ cut.b)
+IsBridged old new a1 an b1 bn c1 cn d1 dn =
+    (cut : CutInFour old a1 an b1 bn c1 cn d1 dn) → SameCycle new (cut.a ++ cut.d ++ cut.c ++ cut.b)

@@ -16,4 +16,6 @@ reversed_places k count xs = begun_at (length xs - k) (reversed_front count (beg
 -- the place array tells where each city of the order stands
 abbrev pub IsInverse : List ℕ → List ℕ → Type 0
 IsInverse order place =
-    (length place ≡ length order) × ((k : ℕ) → k < length order → (0 < slice_index order k) × (slice_index order k ≤ length order) × (slice_index place (slice_index order k - 1) ≡ k))
+    (length place ≡ length order) × ((k : ℕ) → k < length order →
+    (0 < slice_index order k) × (slice_index order k ≤ length order)
+    × (slice_index place (slice_index order k - 1) ≡ k))

@@ -7,16 +7,19 @@ use Rattle.tk_tour.specs.declared.verdict.Verdict.TheVariants.{Tour, WrongCount,
 -- among the entries before place k, from 0, each lies in 1 to n and repeats none before it
 abbrev pub IsGoodTo : ℕ → List ℕ → ℕ → Type 0
 IsGoodTo n cities k =
-    (j : ℕ) → j < k → (0 < slice_index cities j) × (slice_index cities j ≤ n) × ((i : ℕ) → i < j → slice_index cities i ≢ slice_index cities j)
+    (j : ℕ) → j < k → (0 < slice_index cities j) × (slice_index cities j ≤ n)
+    × ((i : ℕ) → i < j → slice_index cities i ≢ slice_index cities j)
 
 -- the first fault of a list that should be a tour of n cities: its count, then place by place, from 1
 abbrev pub IsVerdict : ℕ → List ℕ → Verdict → Type 0
 IsVerdict n cities Tour = IsTour n cities
 IsVerdict n cities WrongCount = length cities ≢ n
 IsVerdict n cities (OutOfRange p) =
-    (length cities ≡ n) × (0 < p) × (p ≤ n) × IsGoodTo n cities (p - 1) × ((slice_index cities (p - 1) ≡ 0) ⊎ (n < slice_index cities (p - 1)))
+    (length cities ≡ n) × (0 < p) × (p ≤ n) × IsGoodTo n cities (p - 1)
+    × ((slice_index cities (p - 1) ≡ 0) ⊎ (n < slice_index cities (p - 1)))
 IsVerdict n cities (RepeatedCity p) =
-    (length cities ≡ n) × (0 < p) × (p ≤ n) × IsGoodTo n cities (p - 1) × (0 < slice_index cities (p - 1)) × (slice_index cities (p - 1) ≤ n)
+    (length cities ≡ n) × (0 < p) × (p ≤ n) × IsGoodTo n cities (p - 1) × (0 < slice_index cities (p - 1))
+    × (slice_index cities (p - 1) ≤ n)
     × ((j : ℕ) × (j < p - 1) × (slice_index cities j ≡ slice_index cities (p - 1)))
 
 -- the fact, where the verdict is a tour

@@ -5,7 +5,8 @@ ghost use Rattle.tk_tour.specs.Tour.{tour_length};
 
 use tk_metric::Metric;
 
-/// The sum of the distances along a closed tour through the cities, in their order: 0 for none, and for two the one distance twice.
+/// The sum of the distances along a closed tour through the cities, in their order: 0 for none, and for two the one
+/// distance twice.
 pub fn length<M: Metric>(metric: &M, cities: &[u32]) -> i64
     requires cities { All (IsCity (M.size_of metric.now)) cities.now }
     requires count { length cities.now ≤ 2000000000 }

@@ -20,7 +20,8 @@ fn put_valid_line<W: Sink>(pen: &mut Pen<'_, W>, routes: u64, cost: u64)
 
 /// Puts the line of a fault on a route.
 fn put_route_line<W: Sink>(pen: &mut Pen<'_, W>, fault: &[u8], route: u64, number: u64)
-    ensures { Puts W.taken W.broken pen.old pen.new (line (fault.now ++ decimal route ++ codes ": " ++ decimal number)) }
+    ensures { Puts W.taken W.broken pen.old pen.new
+        (line (fault.now ++ decimal route ++ codes ": " ++ decimal number)) }
 {
     pen.put(fault);
     pen.put_number(route);

@@ -61,7 +61,8 @@ fn put_place_line<W: Sink>(pen: &mut Pen<'_, W>, fault: &[u8], place: u32, city:
 /// Puts the line that tells a verdict.
 fn put_verdict<W: Sink>(pen: &mut Pen<'_, W>, problem: &Problem, cities: &[u32], verdict: Verdict)
     requires { IsVerdict problem.now.n cities.now verdict }
-    ensures { Puts W.taken W.broken pen.old pen.new (verdict_line problem.now.n (problem_distance problem.now.weights) cities.now verdict) }
+    ensures { Puts W.taken W.broken pen.old pen.new
+        (verdict_line problem.now.n (problem_distance problem.now.weights) cities.now verdict) }
 {
     match verdict {
         Verdict::Tour => put_tour_line(pen, problem.n, length_of(problem, cities)),
@@ -93,7 +94,8 @@ pub fn write_verdict<W: Sink>(
     verdict: Verdict,
 ) -> Result<(), WriteFault>
     requires { IsVerdict problem.now.n cities.now verdict }
-    ensures text { Writes W.taken W.broken out.old out.new result (verdict_line problem.now.n (problem_distance problem.now.weights) cities.now verdict) }
+    ensures text { Writes W.taken W.broken out.old out.new result
+        (verdict_line problem.now.n (problem_distance problem.now.weights) cities.now verdict) }
     ensures failed { OnErr result (W.broken out.new ≡ true) }
 {
     let mut pen = Pen::new(out);

@@ -32,7 +32,7 @@ pub number_behind-take : (n i : ℕ) (ds : List ℕ) → number_behind n (take i
 number_behind-take n i ds =
     omega (arith, ap (number_behind n) (take-append-drop i ds), number_behind-append n (take i ds) (drop i ds), number_behind-ge (number_behind n (take i ds)) (drop i ds))
 
--- digits behind a number move it up by their count
+-- digits after a number move it up by their count
 moved_up : (n d p q : ℕ) → (n * 10 + d) * p + q ≡ n * (p * 10) + ((0 * 10 + d) * p + q)
 moved_up n d p q = omega arith
 
@@ -95,7 +95,7 @@ moved ds up down digits =
           rw (all, split) (ap (λ x. x / 10 ^ down) (sym (mul_assoc (number_of ds) (10 ^ z) (10 ^ down))) ∙ mul-div_cancel (number_of ds * 10 ^ z) (tens_pos down))
     ]
 
--- ---- zeros behind a number
+-- ---- zeros after a number
 
 pub many_zeros : (n zeros : ℕ) → 0 < n → 19 ≤ zeros → n * 10 ^ zeros ≤ 10 ^ 18 → ⊥
 many_zeros n zeros some many low =

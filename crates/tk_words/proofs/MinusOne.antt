@@ -106,7 +106,7 @@ begins_minus b y h = by_minus (eqb b 45) refl
     by_minus true is = eqb-true b 45 is
     by_minus false is = absurd (let k = other_begins b y is in cc)
 
--- what goes on behind the first bytes of a -1 is one no more
+-- what goes on after the first bytes of a -1 is one no more
 front_begins : (b : ℕ) (xs zs : List ℕ) → is_minus_one (integer ((b ∷ xs) ++ zs)) ≡ true → begins_minus_one (b ∷ xs) ≡ true
 front_begins b xs zs h = by_minus (eqb b 45) refl
   where

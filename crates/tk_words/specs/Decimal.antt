@@ -6,14 +6,14 @@ use Rattle.tk_words.specs.declared.fault.TextKind.{TextKind}
 use Rattle.tk_words.specs.declared.fault.TextKind.TheVariants as kinds
 use Rattle.tk_words.specs.Lex.{front, behind, is_empty, natural}
 
--- the number that digits spell behind those that make n
+-- the number that digits spell after those that make n
 abbrev pub number_behind : ℕ → List ℕ → ℕ
 number_behind n digits = fold (λ m d. m * 10 + (d - 48)) n digits
 
 abbrev pub number_of : List ℕ → ℕ
 number_of digits = number_behind 0 digits
 
--- the digits behind a point, and what stands behind them
+-- the digits after a point, and what comes after them
 abbrev pub fraction : List ℕ → List ℕ
 fraction [] = []
 fraction (b ∷ bs) = if b == 46 then front is_ascii_digit bs else []
@@ -47,7 +47,8 @@ billionths bs =
     let whole = front is_ascii_digit bs in
     let rest = behind is_ascii_digit bs in
     if is_empty whole && is_empty (fraction rest) then None
-    else option_map (λ e. number_of (whole ++ fraction rest) * 10 ^ (9 + e.0) / 10 ^ (length (fraction rest) + e.1)) (exponent (behind_fraction rest))
+    else option_map (λ e. number_of (whole ++ fraction rest) * 10 ^ (9 + e.0) / 10 ^ (length (fraction rest) + e.1))
+    (exponent (behind_fraction rest))
 
 -- rounded towards zero
 abbrev pub decimal_of : List ℕ → Option ℤ

@@ -8,11 +8,11 @@ use Rattle.tk_words.specs.declared.text_reader.Step.TheVariants as steps
 use Rattle.tk_words.specs.declared.text_reader.Run.{Run}
 use Rattle.tk_words.specs.declared.text_reader.Run.TheVariants as runs
 
--- what bytes say, of which true says that none stand behind them; None where more decide
+-- what bytes say, of which true says that none come after them; None where more decide
 abbrev pub Decided : Type 0 → Type 0
 Decided V = Bool → List ℕ → Option (Result V TextFault)
 
--- whatever stands behind the bytes, this is the answer
+-- whatever comes after the bytes, this is the answer
 abbrev pub Decides : {V : Type 0} → Decided V → List ℕ → Result V TextFault → Type 0
 Decides decided bs a = (ended : Bool) (more : List ℕ) → decided ended (bs ++ more) ≡ Some a
 
@@ -37,11 +37,11 @@ abbrev pub FedMore : {V : Type 0} → Decided V → (List ℕ → Type 0) → V 
 FedMore decided fed held bs steps.More = fed bs × (decided false bs ≡ None)
 FedMore decided fed held bs steps.Done = Decides decided bs (Ok held)
 
--- bytes taken at once behind these: some of them, or as many as make the text whole
+-- bytes taken at once after these: some of them, or as many as make the text whole
 abbrev pub HasRun : {V : Type 0} → Decided V → (List ℕ → Type 0) → V → List ℕ → List ℕ → Run → Type 0
 HasRun decided fed held bs run (runs.Taken n) = (n ≤ length run) × fed (bs ++ take n run)
 HasRun decided fed held bs run runs.Whole = (n : ℕ) × (n ≤ length run) × Decides decided (bs ++ take n run) (Ok held)
 
--- a fault that some of the bytes behind these tell
+-- a fault that some of the bytes after these tell
 abbrev pub IsToldWithin : {V : Type 0} → Decided V → List ℕ → List ℕ → TextFault → Type 0
 IsToldWithin decided bs run f = (n : ℕ) × (n ≤ length run) × IsTold ⊥ (Decides decided (bs ++ take n run)) f

@@ -36,7 +36,8 @@ in_range low high _ = false
 
 -- an integer within limits
 abbrev pub number_tests : ℕ → ℕ → List ℕ → List (Bool × TextKind)
-number_tests low high bs = (is_none (integer bs), kinds.BadNumber) ∷ (not (in_range low high (integer bs)), kinds.OutOfLimit) ∷ []
+number_tests low high bs =
+    (is_none (integer bs), kinds.BadNumber) ∷ (not (in_range low high (integer bs)), kinds.OutOfLimit) ∷ []
 
 abbrev pub natural_or_zero : Option ℤ → ℕ
 natural_or_zero (Some (pos n)) = n

@@ -16,7 +16,7 @@ is_letter b = nat_le 65 b && nat_le b 90 || nat_le 97 b && nat_le b 122
 abbrev pub is_word_byte : ℕ → Bool
 is_word_byte b = is_letter b || is_ascii_digit b || b == 95
 
--- the longest front whose bytes pass, and what stands behind it
+-- the longest front whose bytes pass, and what comes after it
 abbrev pub front : (ℕ → Bool) → List ℕ → List ℕ
 front p [] = []
 front p (b ∷ bs) = if p b then b ∷ front p bs else []
@@ -67,13 +67,14 @@ tokens_of whole n [] = []
 tokens_of whole n (b ∷ bs) =
     let rest = tokens_of whole n bs in
     if is_blank b then rest
-    else (if goes_on bs then onto_token b rest else record { bytes = b ∷ []; line = n; whole = whole || not (is_empty bs) } ∷ rest)
+    else (if goes_on bs then onto_token b rest else record
+    { bytes = b ∷ []; line = n; whole = whole || not (is_empty bs) } ∷ rest)
 
 abbrev pub tokens : List Line → List Token
 tokens [] = []
 tokens (l ∷ ls) = tokens_of l.whole l.number l.bytes ++ tokens ls
 
--- behind a word: blanks, and at most one colon
+-- after a word: blanks, and at most one colon
 abbrev pub without_colon_before : List ℕ → List ℕ
 without_colon_before [] = []
 without_colon_before (b ∷ bs) = if b == 58 then bs else b ∷ bs
@@ -91,7 +92,7 @@ trim bs = trim_end (behind is_blank bs)
 
 -- ---- numbers
 
--- the number that the digits spell behind those that make n
+-- the number that the digits spell after those that make n
 abbrev pub digits : ℕ → List ℕ → Option ℕ
 digits n [] = Some n
 digits n (b ∷ bs) = let rest = digits (n * 10 + (b - 48)) bs in if is_ascii_digit b then rest else None

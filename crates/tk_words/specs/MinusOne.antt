@@ -9,7 +9,7 @@ is_minus_one _ = false
 abbrev pub is_ending : Token → Bool
 is_ending t = t.whole && is_minus_one (integer t.bytes)
 
--- bytes that are -1, or become -1 with a 1 behind them
+-- bytes that are -1, or become -1 with a 1 after them
 abbrev pub begins_minus_one : List ℕ → Bool
 begins_minus_one bs = is_minus_one (integer bs) || is_minus_one (integer (bs ++ 49 ∷ []))
 

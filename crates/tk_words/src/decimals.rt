@@ -34,7 +34,7 @@ const POWERS_OF_TEN: [u64; 19] = [
     1_000_000_000_000_000_000,
 ];
 
-/// The digits that bytes begin with, and what stands behind them.
+/// The digits that bytes begin with, and what comes after them.
 fn split_digits(bytes: &[u8]) -> (&[u8], &[u8])
     ensures digits { result.0.now ≡ front is_ascii_digit bytes.now }
     ensures rest { result.1.now ≡ behind is_ascii_digit bytes.now }
@@ -46,7 +46,7 @@ fn split_digits(bytes: &[u8]) -> (&[u8], &[u8])
     bytes.split_at(end)
 }
 
-/// The digits behind a point, and what stands behind them.
+/// The digits after a point, and what comes after them.
 fn split_fraction(bytes: &[u8]) -> (&[u8], &[u8])
     ensures digits { result.0.now ≡ Decimal.fraction bytes.now }
     ensures rest { result.1.now ≡ Decimal.behind_fraction bytes.now }
@@ -57,7 +57,7 @@ fn split_fraction(bytes: &[u8]) -> (&[u8], &[u8])
     }
 }
 
-/// The number of `number`'s digits with more behind them, and `None` over the limit.
+/// The number of `number`'s digits with more after them, and `None` over the limit.
 fn append_digits(number: u64, digits: &[u8]) -> Option<u64>
     requires limit { number ≤ LIMIT }
     requires digits { All IsAsciiDigit digits.now }
@@ -73,7 +73,7 @@ fn append_digits(number: u64, digits: &[u8]) -> Option<u64>
     Some(number)
 }
 
-/// The number of `number`'s digits with zeros behind them, and `None` over the limit.
+/// The number of `number`'s digits with zeros after them, and `None` over the limit.
 fn append_zeros(number: u64, zeros: usize) -> Option<u64>
     ensures { let appended = number * 10 ^ zeros in SomeIff result (appended ≤ LIMIT) appended }
 {

@@ -34,7 +34,7 @@ pub fn minus_one(bytes: &[u8]) -> bool
     }
 }
 
-/// Whether bytes are -1, or become -1 with a 1 behind them.
+/// Whether bytes are -1, or become -1 with a 1 after them.
 pub fn begins_minus_one(held: &Held<64>) -> bool
     requires room { length held.now < 64 }
     ensures { result ≡ begins_minus_one held.now }

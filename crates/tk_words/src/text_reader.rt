@@ -32,7 +32,7 @@ pub trait TextReader: Drop {
     /// What is seen of it.
     ghost view: { Self.Out → Value };
 
-    /// What the bytes say: nothing where those behind them decide. True: there are none behind them.
+    /// What the bytes say: nothing where those after them decide. True: there are none after them.
     ghost decided: { Bool → List ℕ → Option (Result Value TextFault) };
 
     /// Holds where it has taken these bytes, and they decide nothing.

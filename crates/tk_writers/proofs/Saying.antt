@@ -51,13 +51,13 @@ pub lines-none : (n : ℕ) → lines true n [] ≡ whole_line n [] ∷ []
 unfolding lines
 lines-none n = refl
 
--- ---- what stands behind a section
+-- ---- what comes after a section
 
 pub clean : (last : ℕ) (toks : List Token) (eof end : Token) → last < eof.line → after_tokens last true (get_or (toks ++ eof ∷ []) (length toks) end) ≡ Clean
 clean last [] eof end lt = let later : eqb eof.line last ≡ false = ne_eqb _ _ (λ e. omega (arith, e, lt)) in rw later refl
 clean last (t ∷ toks) eof end lt = clean last toks eof end lt
 
--- ---- what lines say behind pieces
+-- ---- what lines say after pieces
 
 unfoldable pub says : {V : Type 0} → Format V → List Piece → ℕ → List Line → List Piece → Option (Result V TextFault)
 says f before upto ls end = judge f before (cut f.extent before upto ls ++ end)

@@ -30,7 +30,8 @@ lower_triangle n table = flat_map (λ a. map (table a) (range_with_len 1 (a - 1)
 -- the text is read as a problem of this name and these weights
 abbrev pub ReadsBack : List ℕ → ℕ → (ℕ → ℕ → ℕ) → Format → Type 0
 ReadsBack name n table f =
-    IsReadBackAs problem_decided (matrix_text name n table f) (record { name = name; n = n; weights = Lower (lower_triangle n table); routing = None })
+    IsReadBackAs problem_decided (matrix_text name n table f)
+    (record { name = name; n = n; weights = Lower (lower_triangle n table); routing = None })
 
 -- routes and a cost as a solution text can have them
 pub record IsSolution (routes : List (List ℕ)) (cost : ℕ) : Type 0 where
@@ -43,7 +44,8 @@ pub record IsSolution (routes : List (List ℕ)) (cost : ℕ) : Type 0 where
 abbrev pub SolutionReadsBack : List (List ℕ) → ℕ → Type 0
 SolutionReadsBack routes cost = IsReadBackAs solution_decided (solution_text routes cost) (routes, pos cost)
 
--- a name, a length and cities as a tour text can have them: behind the name there is room for the length and the text's ending
+-- a name, a length and cities as a tour text can have them: after the name there is room for the length and the text's
+-- ending
 pub record IsTour (name : List ℕ) (size : ℕ) (cities : List ℕ) : Type 0 where
   pub named : IsName name
   pub room : length name ≤ 1000

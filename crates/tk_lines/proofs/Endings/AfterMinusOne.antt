@@ -1,4 +1,4 @@
--- Where a token behind the -1 ends.
+-- Where a token after the -1 ends.
 use Rattle.std.proofs.Common.{◌≡◌, ℕ, ◌+◌, ◌<◌, Bool, true, false, cond, eqb, leb, not, ◌&&◌, ◌||◌, List, [], ◌∷◌, ◌++◌, length, Option, Some, None, Err, refl, ap, subst, ◌∙◌, append_assoc, arith}
 use Rattle.std.proofs.lemmas.List.{append-nil, length-append}
 use Rattle.std.proofs.lemmas.Bool.{eq-eqb, lt-leb, le-leb}
@@ -74,7 +74,7 @@ module _ {V : Type 0} (f : Format V) (before : List Piece) (upto : ℕ) (e : Boo
       let later : leb n upto ≡ false = lt-leb _ _ lt in
       rw (k.is, later, run_head b t run, other) refl
 
--- behind the -1, a token that is no -1
+-- after the -1, a token that is no -1
 module _ {V S : Type 0} (f : Format V) (H : S → List Piece → Type 0) (next : Next) (form : S) (line : ℕ) (held bs : List ℕ) (run : IsRun held) (other : begins_word held ≡ false)
     (none : (e : Bool) (more : List ℕ) → next e more ≡ true → one_more (tokens (prepend held (lines e line more))) ≡ 0) where
   as_before : (a_toks : List Token) (k : ℕ) → k ≡ 0 → ◌≡◌ {A = Extent} (record { count = length a_toks + k; closed = true; at_eof = false }) (record { count = length a_toks; closed = true; at_eof = false })
@@ -118,7 +118,7 @@ minus_first (b ∷ held) run more = let is = begins_minus b held more in rw is r
 -- ---- a byte that shows it
 
 module _ {V S : Type 0} (f : Format V) (H : S → List Piece → Type 0) (form : S) (line b : ℕ) where
-  -- the first byte behind the -1
+  -- the first byte after the -1
   pub shown_first : (bs : List ℕ) (o : Bool) → eqb b LF ≡ false → is_blank b ≡ false → is_letter b ≡ false → eqb b 45 ≡ false → AtAfter f H (this b) form line o [] bs
       → DecidesIf f anything (bs ++ b ∷ []) (Err (record { line = line; kind = kinds.TrailingData }))
   shown_first bs o other solid no_letter no_minus a =

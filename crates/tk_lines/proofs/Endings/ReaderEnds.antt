@@ -86,7 +86,7 @@ module _ {V S : Type 0} (f : Format V) (H : S → List Piece → Type 0) (W : S 
         ∙ ap (λ (x : Option Stop). stopped x (ended f (a.before ++ a_header word a.tail line) line true (f.at_end (a.before ++ a_header word a.tail line)))) a.none;
   }
 
-  -- behind a section's word, its tokens begin
+  -- after a section's word, its tokens begin
   pub end_begin : (held : List ℕ) → AtBegin f W at_end form line held bs → AtToken f W at_end form line [] bs
   end_begin held a = record {
     before = a.before;

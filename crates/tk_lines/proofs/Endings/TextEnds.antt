@@ -43,7 +43,7 @@ module _ {V : Type 0} (f : Format V) (before : List Piece) (e : Bool) (n : ℕ) 
           by_test true = refl
           by_test false = refl
 
-  -- behind a section
+  -- after a section
   pub in_section-shut : (word : Keyword) (n0 : ℕ) (toks : List Token) → f.extent before word toks ≡ record { count = length toks; closed = true; at_eof = false } → f.section before word n0 toks Clean ≡ None
       → in_section f before word n0 toks [] e n [] ≡ ended f (before ++ a_section word n0 toks Clean) n e (f.at_end (before ++ a_section word n0 toks Clean))
   unfolding in_section goes new_pieces cut judge lines

@@ -73,7 +73,7 @@ take-full zero w ys h = refl
 take-full (suc k) [] ys h = absurd (omega arith)
 take-full (suc k) (x ∷ w) ys h = ap (λ (zs : List ℕ). x ∷ zs) (take-full k w ys (omega arith))
 
--- ---- the colon behind a word
+-- ---- the colon after a word
 
 pub settled_more : (v x : List ℕ) → Settled v → Settled (v ++ x)
 settled_more v x h more = ap after_word (append_assoc v x more) ∙ h (x ++ more) ∙ sym (append_assoc (after_word v) x more) ∙ ap (λ (y : List ℕ). y ++ more) (sym (h x))

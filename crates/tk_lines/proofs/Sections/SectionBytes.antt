@@ -93,7 +93,7 @@ module _ {V : Type 0} (f : Format V) (before : List Piece) (word : Keyword) (n0 
       next_is [] t ys d = refl
       next_is (x ∷ xs) t ys d = next_is xs t ys d
 
--- ---- behind a section's word
+-- ---- after a section's word
 
 -- bytes of which the first is no blank and no colon
 abbrev pub plain : Bool → List ℕ → Bool
@@ -137,7 +137,7 @@ starts_plain e n [] k h = let j : First e n [] = record { bytes = []; whole = e;
 starts_plain e n (b ∷ bs) k h = starts_by e n b bs k (eqb b LF) refl h
 
 module _ {V : Type 0} (f : Format V) (before : List Piece) (upto : ℕ) (held tail : List ℕ) (e : Bool) (n : ℕ) (bs : List ℕ) (lt : upto < n) (is_word : IsWord held) (ends : no_word e (tail ++ bs) ≡ true) (word : Keyword) (is : keyword_of held ≡ Some word) (begins : role word ≡ BeginsSection) where
-  -- behind a section's word, and what stands before its first token, the section's tokens begin
+  -- after a section's word, and what stands before its first token, the section's tokens begin
   pub from_line-tokens : (bs' : List ℕ) (j : First e n bs') → let k = (word_ends_behind tail e n bs ends).first in k.whole ≡ j.whole → k.rest ≡ j.rest → after_word (tail ++ k.bytes) ≡ j.bytes
       → from_line f before upto (held ++ tail) e n bs ≡ in_section f before word n [] [] e n bs'
   unfolding after_line new_at in_section goes new_pieces
@@ -159,7 +159,7 @@ module _ {V : Type 0} (f : Format V) (before : List Piece) (upto : ℕ) (held ta
       from_line-tokens bs k refl refl (plain_after tail k.bytes blank (starts_plain e n bs k h))
 
 module _ {V : Type 0} (f : Format V) (before : List Piece) (upto : ℕ) (held tail : List ℕ) (e : Bool) (n : ℕ) (bs : List ℕ) (lt : upto < n) (is_word : IsWord held) (ends : no_word e (tail ++ 58 ∷ bs) ≡ true) (word : Keyword) (is : keyword_of held ≡ Some word) (begins : role word ≡ BeginsSection) where
-  -- a colon behind the word
+  -- a colon after the word
   pub from_line-colon : behind is_blank tail ≡ [] → from_line f before upto (held ++ tail) e n (58 ∷ bs) ≡ in_section f before word n [] [] e n bs
   unfolding first-byte
   from_line-colon blank =
@@ -168,7 +168,7 @@ module _ {V : Type 0} (f : Format V) (before : List Piece) (upto : ℕ) (held ta
       let c = first-byte e n 58 bs refl in
       from_line-tokens f before upto held tail e n (58 ∷ bs) lt is_word ends word is begins bs j (first_same_whole e n (58 ∷ bs) k c) (first_same_rest e n (58 ∷ bs) k c) (ap (λ (x : List ℕ). after_word (tail ++ x)) (first_same e n (58 ∷ bs) k c) ∙ after_colon tail j.bytes blank)
 
--- ---- behind a section's last token
+-- ---- after a section's last token
 
 -- a token that begins with this byte
 pub record Begins (b n : ℕ) (ts : List Token) : Type 0 where

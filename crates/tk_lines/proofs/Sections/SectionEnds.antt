@@ -97,7 +97,7 @@ last_taken n0 n k toks more t at later le =
     let here : n ≤ last_line n0 (toks ++ t ∷ []) = rw last_line-append (omega (arith, at)) in
     rw (take_past k (toks ++ t ∷ []) more le, last_line-append) (last_line_from n _ (take (k - length (toks ++ t ∷ [])) more) here (take_from n (k - length (toks ++ t ∷ [])) more later))
 
--- what stands behind tokens whose last line is before n
+-- what comes after tokens whose last line is before n
 pub clean_after : (last n : ℕ) (toks more : List Token) (end : Token) → last < n → From n more → end.bytes ≡ [] → after_tokens last true (get_or (toks ++ more) (length toks) end) ≡ Clean
 clean_after last n [] [] end lt h none = rw (none, and_false) refl
 clean_after last n [] (t ∷ more) end lt h none = rw (ne_eqb t.line last (λ e. omega (arith, e, h.0))) refl
@@ -114,7 +114,7 @@ pub ending-is : (e : Bool) (n : ℕ) (bs : List ℕ) → ending (end_of (lines e
 ending-is e n bs = let c = lines_cons e bs n in rw c.is refl
 
 module _ {V : Type 0} (f : Format V) (before : List Piece) (word : Keyword) (n0 : ℕ) where
-  -- on a line behind a section's last token nothing of the section is left: what the bytes say goes on behind its piece
+  -- on a line after a section's last token nothing of the section is left: what the bytes say goes on after its piece
   pub in_section-closed : (toks : List Token) (pre : List ℕ) (e : Bool) (n : ℕ) (bs : List ℕ) → last_line n0 toks < n
       → f.extent before word (toks ++ tokens (prepend pre (lines e n bs))) ≡ record { count = length toks; closed = true; at_eof = false }
       → in_section f before word n0 toks pre e n bs ≡ stopped (stop f before (Section word n0 toks Clean)) (from_line f (before ++ Section word n0 toks Clean ∷ []) (last_line n0 toks) pre e n bs)

@@ -143,7 +143,7 @@ module _ {V S : Type 0} (f : Format V) (W : S → List Piece → Keyword → ℕ
     same = same_now (λ more. rw (closed.extent more) (omega arith));
   }
 
--- behind the last token
+-- after the last token
 module _ {V S : Type 0} (f : Format V) (H : S → List Piece → Type 0) (form : S) (line b : ℕ) (bs : List ℕ) where
   pub close_LF : AtClose f H (this LF) form line bs → AtLine f H anything form (line + 1) [] (bs ++ LF ∷ [])
   close_LF a = record {

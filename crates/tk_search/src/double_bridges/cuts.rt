@@ -8,7 +8,8 @@ use rand::RngExt;
 use rand_core::Rng;
 use tk_tour::TourStore;
 
-/// Three cuts of a tour of n cities, which make four parts of it: the first `p` places, those on to `q`, those on to `r`, and the others.
+/// Three cuts of a tour of n cities, which make four parts of it: the first `p` places, those on to `q`, those on to
+/// `r`, and the others.
 #[derive(Clone, Copy, PartialEq, Eq, Debug)]
 pub struct Cuts {
     /// How many cities the first part has.

@@ -9,8 +9,8 @@ use crate::double_bridges::cuts::Cuts;
 use tk_metric::Metric;
 use tk_tour::TourStore;
 
-/// The double bridge: of the four parts that the cuts make of the tour, the second and the fourth change places, by four flips.
-/// The first turns all parts but the first round, and each of the others turns one of them back.
+/// The double bridge: of the four parts that the cuts make of the tour, the second and the fourth change places, by
+/// four flips. The first turns all parts but the first round, and each of the others turns one of them back.
 pub fn kick<S: TourStore>(store: &mut S, cuts: Cuts)
     requires { AreCuts (length (S.cities store.old)) cuts }
     ensures bridged { SameCycle (S.cities store.new) (bridged cuts (S.cities store.old)) }

@@ -31,20 +31,24 @@ pub(crate) fn descend_by<S: TourStore, M: Metric>(
         × (near.now.size ≡ length (S.cities store.old)) × (waking.old.size ≡ length (S.cities store.old)) }
     requires most { (1 ≤ rules.or_segment) × (rules.or_segment ≤ 3) }
     requires before { before ≡ pos (tour_length (M.distance metric.now) (S.cities store.old)) }
-    ensures descends { Descends (M.distance metric.now) (near_of near.now) rules (S.cities store.old) waking.old.queue (S.cities store.new) result.passes result.descent.looks result.descent.moves result.descent.tests }
+    ensures descends { Descends (M.distance metric.now) (near_of near.now) rules (S.cities store.old) waking.old.queue
+        (S.cities store.new) result.passes result.descent.looks result.descent.moves result.descent.tests }
     ensures asleep { waking.new.queue ≡ [] }
     ensures lengths { (result.descent.before ≡ before)
         × (result.descent.after ≡ pos (tour_length (M.distance metric.now) (S.cities store.new))) }
-    ensures moves { result.descent.moves + tour_length (M.distance metric.now) (S.cities store.new) ≤ tour_length (M.distance metric.now) (S.cities store.old) }
+    ensures moves { result.descent.moves + tour_length (M.distance metric.now) (S.cities store.new)
+        ≤ tour_length (M.distance metric.now) (S.cities store.old) }
     ensures passes { result.passes ≤ result.descent.moves + 1 }
     ensures looks_once { rules.sweep ≡ false
         → result.descent.looks ≤ length waking.old.queue + 6 * result.descent.moves }
     ensures looks_swept { rules.sweep ≡ true
         → result.descent.looks ≤ length (S.cities store.old) * result.passes + 6 * result.descent.moves }
     ensures tests_once { rules.sweep ≡ false
-        → result.descent.tests ≤ 4 * rules.or_segment * near.now.width * (length waking.old.queue + 6 * result.descent.moves) }
+        → result.descent.tests ≤ 4 * rules.or_segment * near.now.width *
+        (length waking.old.queue + 6 * result.descent.moves) }
     ensures tests_swept { rules.sweep ≡ true
-        → result.descent.tests ≤ 4 * rules.or_segment * near.now.width * (length (S.cities store.old) * result.passes + 6 * result.descent.moves) }
+        → result.descent.tests ≤ 4 * rules.or_segment * near.now.width *
+        (length (S.cities store.old) * result.passes + 6 * result.descent.moves) }
     ensures swaps { result.descent.swaps ≤ 3 * (length (S.cities store.old) / 4) * result.descent.moves }
     ensures swapped { S.swap_count store.new ≡ S.swap_count store.old + result.descent.swaps }
     ensures flips { S.flip_count store.new ≤ S.flip_count store.old + 3 * result.descent.moves }

@@ -7,7 +7,8 @@ ghost use Rattle.tk_search.specs.Settled.{IsAtBest};
 
 use tk_stores::{ArrayTour, JournalTour};
 
-/// Takes the tour as the best where it is better; else the best stands again, by undoing the flips, or by a copy where one was lost.
+/// Takes the tour as the best where it is better; else the best stands again, by undoing the flips, or by a copy where
+/// one was lost.
 pub(crate) fn keep_better(tour: &mut JournalTour, best: &mut ArrayTour, better: bool)
     requires size { length (order_of (tour_of tour.old)) ≡ length (order_of best.old) }
     requires settled { flips_since tour.old ≤ slots_of tour.old → settled_order tour.old ≡ order_of best.old }
@@ -23,7 +24,8 @@ pub(crate) fn keep_better(tour: &mut JournalTour, best: &mut ArrayTour, better: 
         → (undo_swaps_of (tour_of tour.new) ≡ saturated (undo_swaps_of (tour_of tour.old) + swaps_to_rewind tour.old))
         × (copied_of best.new ≡ copied_of best.old) × (copied_of (tour_of tour.new) ≡ copied_of (tour_of tour.old)) }
     ensures restored { better ≡ false → slots_of tour.old < flips_since tour.old
-        → (undo_swaps_of (tour_of tour.new) ≡ undo_swaps_of (tour_of tour.old)) × (copied_of best.new ≡ copied_of best.old)
+        → (undo_swaps_of (tour_of tour.new) ≡ undo_swaps_of (tour_of tour.old))
+        × (copied_of best.new ≡ copied_of best.old)
         × (copied_of (tour_of tour.new) ≡ saturated (copied_of (tour_of tour.old) + length (order_of best.old))) }
 {
     if better {

@@ -36,7 +36,8 @@ fn no_trial(shortest: i64) -> TrialReport
     }
 }
 
-/// A search by trials. The first descends from the start; each later one from a kick of the best tour, where there are at least 8 cities.
+/// A search by trials. The first descends from the start; each later one from a kick of the best tour, where there are
+/// at least 8 cities.
 #[derive(Drop)]
 pub struct Search<'a, M: Metric> {
     metric: &'a M,
@@ -62,7 +63,8 @@ impl<'a, M: Metric> Search<'a, M> {
     ) -> Result<Search<'a, M>, AllocError>
         requires fits { (M.size_of metric.now ≡ length (order_of start)) × (near.now.size ≡ length (order_of start)) }
         requires most { (1 ≤ rules.or_segment) × (rules.or_segment ≤ 3) }
-        ensures begun { IfOk result (λ s. IsBegun (search_of s) (M.distance metric.now) near.now rules (order_of start)) }
+        ensures begun { IfOk result (λ s. IsBegun (search_of s) (M.distance metric.now) near.now rules
+            (order_of start)) }
     {
         let shortest = length(metric, start.order());
         let Ok(best) = ArrayTour::from_list(alloc, start.order()) else {
@@ -85,7 +87,8 @@ impl<'a, M: Metric> Search<'a, M> {
 
     /// The next trial. After the first one, a trial on fewer than 8 cities does nothing.
     pub fn trial<R: Rng>(&mut self, rng: &mut R) -> TrialReport
-        ensures next { NextTrial (search_of self.old) (R.stream rng.old) (search_of self.new) (R.stream rng.new) result }
+        ensures next { NextTrial (search_of self.old) (R.stream rng.old) (search_of self.new)
+            (R.stream rng.new) result }
         ensures undrawn { result.kicked ≡ false → rng.new ≡ rng.old }
     {
         if self.state.totals.trials == 0 {

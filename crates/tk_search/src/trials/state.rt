@@ -50,7 +50,8 @@ pub(crate) struct State {
 }
 
 impl State {
-    /// Descends from the tour with the cities that are awake. The result becomes the best tour where it is shorter; else that stands again.
+    /// Descends from the tour with the cities that are awake. The result becomes the best tour where it is shorter;
+    /// else that stands again.
     pub(crate) fn descend<M: Metric>(
         &mut self,
         metric: &M,
@@ -69,7 +70,9 @@ impl State {
         requires most { (1 ≤ rules.or_segment) × (rules.or_segment ≤ 3) }
         requires before { before ≡ pos (tour_length (M.distance metric.now) (order_of (tour_of self.old.tour))) }
         requires shortest { self.old.shortest ≡ pos (tour_length (M.distance metric.now) (order_of self.old.best)) }
-        ensures trial { IsTrial (M.distance metric.now) (near_of near.now) rules (order_of (tour_of self.old.tour)) self.old.waking.queue (order_of self.old.best) (order_of self.new.best) result }
+        ensures trial { IsTrial (M.distance metric.now) (near_of near.now) rules
+            (order_of (tour_of self.old.tour)) self.old.waking.queue (order_of self.old.best)
+            (order_of self.new.best) result }
         ensures kicked { result.kicked ≡ kicked }
         ensures at_best { IsAtBest self.new.tour self.new.best }
         ensures size { (length (order_of self.new.best) ≡ length (order_of self.old.best))
@@ -81,7 +84,8 @@ impl State {
         ensures adds { AddsTrial self.old.totals self.new.totals result (gain_of result) }
         ensures counts { AreCountsOf self.new.totals self.new.tour self.new.best }
         ensures small { (self.new.totals.swaps < 2 ^ 64) × (self.new.totals.copied < 2 ^ 65) }
-        ensures bounded { IsBoundedTrial (length (order_of self.old.best)) near.now.width (length self.old.waking.queue) rules result }
+        ensures bounded { IsBoundedTrial (length (order_of self.old.best)) near.now.width
+            (length self.old.waking.queue) rules result }
         ensures swapped { swaps_of (tour_of self.new.tour) ≡ swaps_of (tour_of self.old.tour) + result.descent.swaps }
         ensures ends { EndsTrial self.old self.new result }
     {
@@ -110,16 +114,18 @@ impl State {
         report
     }
 
-    /// Kicks the tour at cuts of the generator, wakes the ends of its parts, or all cities, and answers the length that it has then.
+    /// Kicks the tour at cuts of the generator, wakes the ends of its parts, or all cities, and answers the length that
+    /// it has then.
     pub(crate) fn kick<M: Metric, R: Rng>(&mut self, metric: &M, rng: &mut R, sweep: bool) -> i64
         requires many { 8 ≤ length (order_of (tour_of self.old.tour)) }
         requires fits { (M.size_of metric.now ≡ length (order_of (tour_of self.old.tour)))
             × (self.old.waking.size ≡ length (order_of (tour_of self.old.tour))) }
         requires shortest { self.old.shortest
             ≡ pos (tour_length (M.distance metric.now) (order_of (tour_of self.old.tour))) }
-        ensures kicked { (kick : IsKick (order_of (tour_of self.old.tour)) (R.stream rng.old) sweep self.old.waking.queue (order_of (tour_of self.new.tour)) (R.stream rng.new) self.new.waking.queue)
-            × (swaps_of (tour_of self.new.tour)
-            ≡ saturated (swaps_of (tour_of self.old.tour) + kick_swaps (length (order_of (tour_of self.old.tour))) kick.cuts)) }
+        ensures kicked { (kick : IsKick (order_of (tour_of self.old.tour)) (R.stream rng.old) sweep
+            self.old.waking.queue (order_of (tour_of self.new.tour)) (R.stream rng.new) self.new.waking.queue)
+            × (swaps_of (tour_of self.new.tour) ≡ saturated (swaps_of (tour_of self.old.tour)
+            + kick_swaps (length (order_of (tour_of self.old.tour))) kick.cuts)) }
         ensures length { result ≡ pos (tour_length (M.distance metric.now) (order_of (tour_of self.new.tour))) }
         ensures flips { flips_since self.new.tour ≡ saturated (flips_since self.old.tour + 4) }
         ensures kept { KeepsSettled self.old.tour self.new.tour }

@@ -15,8 +15,8 @@ pub fn saving_pairs_agree()
     ensures { PairsAgree }
 {}
 
-/// A law: with the loads and the capacity too they determine the lists of the savings merges: their order, and the order
-/// of the cities in each.
+/// A law: with the loads and the capacity too they determine the lists of the savings merges: their order, and the
+/// order of the cities in each.
 pub fn savings_lists_agree()
     ensures { ListsAgree }
 {}

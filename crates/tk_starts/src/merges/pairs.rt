@@ -90,7 +90,8 @@ pub(crate) fn candidate_pairs<M: Metric>(
 ) -> Result<Vec<Pair>, AllocError>
     requires hub { IsCity (M.size_of metric.now) hub }
     requires size { near.now.size ≡ M.size_of metric.now }
-    ensures { IfOk result (λ v. AreCandidates (M.distance metric.now) (near_of near.now) (M.size_of metric.now) hub v.items) }
+    ensures { IfOk result (λ v. AreCandidates (M.distance metric.now) (near_of near.now)
+        (M.size_of metric.now) hub v.items) }
 {
     let from_hub = hub_distances(alloc, metric, hub)?;
     let mut pairs = Vec::new(alloc);

@@ -50,7 +50,8 @@ impl Paths {
         requires sizes { (vec_len self.now.two ≡ vec_len self.now.one)
             × (vec_len self.now.other ≡ vec_len self.now.one) × (vec_len self.now.load ≡ vec_len self.now.one) }
         requires within { IsWithin (vec_len self.now.one - 1) pair.now }
-        ensures { result ≡ may_join_at self.now.one.items self.now.two.items self.now.other.items self.now.load.items capacity pair.now }
+        ensures { result ≡ may_join_at self.now.one.items self.now.two.items self.now.other.items self.now.load.items
+            capacity pair.now }
     {
         let i = pair.i;
         let j = pair.j;
@@ -81,9 +82,13 @@ impl Paths {
         requires load { at self.old.load.items i + at self.old.load.items j < 2 ^ 64 }
         ensures sizes { (vec_len self.new.one ≡ vec_len self.old.one) × (vec_len self.new.two ≡ vec_len self.old.one)
             × (vec_len self.new.other ≡ vec_len self.old.one) × (vec_len self.new.load ≡ vec_len self.old.one) }
-        ensures linked { IsLinked i j (at self.old.one.items) (at self.old.two.items) (at self.new.one.items) (at self.new.two.items) }
-        ensures far { IsSetAt (at self.old.other.items i) (at self.old.other.items j) (at self.old.other.items j) (at self.old.other.items i) (at self.old.other.items) (at self.new.other.items) }
-        ensures heavy { IsSetAt (at self.old.other.items i) (at self.old.load.items i + at self.old.load.items j) (at self.old.other.items j) (at self.old.load.items i + at self.old.load.items j) (at self.old.load.items) (at self.new.load.items) }
+        ensures linked { IsLinked i j (at self.old.one.items) (at self.old.two.items) (at self.new.one.items)
+            (at self.new.two.items) }
+        ensures far { IsSetAt (at self.old.other.items i) (at self.old.other.items j) (at self.old.other.items j)
+            (at self.old.other.items i) (at self.old.other.items) (at self.new.other.items) }
+        ensures heavy { IsSetAt (at self.old.other.items i) (at self.old.load.items i + at self.old.load.items j)
+            (at self.old.other.items j) (at self.old.load.items i + at self.old.load.items j) (at self.old.load.items)
+            (at self.new.load.items) }
     {
         let first = self.other[i as usize];
         let last = self.other[j as usize];
@@ -118,7 +123,8 @@ impl Paths {
     fn neighbour_past(&self, c: u32, before: u32) -> u32
         requires sizes { vec_len self.now.two ≡ vec_len self.now.one }
         requires city { c < vec_len self.now.one }
-        ensures { result ≡ (if at self.now.one.items c == before then at self.now.two.items c else at self.now.one.items c) }
+        ensures { result ≡ (if at self.now.one.items c == before then at self.now.two.items c
+            else at self.now.one.items c) }
     {
         if self.one[c as usize] == before {
             self.two[c as usize]
@@ -130,7 +136,8 @@ impl Paths {
     /// The path that begins at an end.
     pub fn path(&self, alloc: Global, end: u32) -> Result<Vec<u32>, AllocError>
         requires sizes { vec_len self.now.two ≡ vec_len self.now.one }
-        requires some { (xs : List ℕ) × IsWay (vec_len self.now.one - 1) (at self.now.one.items) (at self.now.two.items) end xs }
+        requires some { (xs : List ℕ) × IsWay (vec_len self.now.one - 1) (at self.now.one.items)
+            (at self.now.two.items) end xs }
         ensures { IfOk result (λ v. (xs : List ℕ) → Follows (at self.now.one.items) (at self.now.two.items) 0 end xs
             → v.items ≡ end ∷ xs) }
     {
@@ -151,7 +158,8 @@ impl Paths {
         requires sizes { (vec_len self.now.two ≡ vec_len self.now.one)
             × (vec_len self.now.other ≡ vec_len self.now.one) }
         requires city { c < vec_len self.now.one }
-        ensures { result ≡ (not (c == hub) && is_end_at self.now.one.items self.now.two.items c && nat_le c (at self.now.other.items c)) }
+        ensures { result ≡ (not (c == hub) && is_end_at self.now.one.items self.now.two.items c
+            && nat_le c (at self.now.other.items c)) }
     {
         c != hub && self.is_end(c) && c <= self.other[c as usize]
     }
@@ -162,9 +170,12 @@ impl Paths {
             × (vec_len self.now.other ≡ vec_len self.now.one) }
         requires limit { (1 ≤ vec_len self.now.one) × (vec_len self.now.one ≤ 100001) }
         requires some { (load : ℕ → ℕ) × ((E : List Pair)
-            × AreJoined (vec_len self.now.one - 1) load E self.now.one.items self.now.two.items self.now.other.items self.now.load.items) }
+            × AreJoined (vec_len self.now.one - 1) load E self.now.one.items self.now.two.items self.now.other.items
+            self.now.load.items) }
         ensures { IfOk result (λ v. (load : ℕ → ℕ) (E : List Pair)
-            → AreJoined (vec_len self.now.one - 1) load E self.now.one.items self.now.two.items self.now.other.items self.now.load.items → joints_at E hub ≡ 0 → ArePartPaths (vec_len self.now.one - 1) hub E (map (λ x. x.items) v.items)) }
+            → AreJoined (vec_len self.now.one - 1) load E self.now.one.items self.now.two.items self.now.other.items
+            self.now.load.items → joints_at E hub ≡ 0
+            → ArePartPaths (vec_len self.now.one - 1) hub E (map (λ x. x.items) v.items)) }
     {
         let mut lists = Vec::new(alloc);
         for c in 1..self.one.len() as u32 {

@@ -25,7 +25,9 @@ fn joined_paths(
     requires within { All (IsWithin (length loads.now)) pairs.now }
     ensures sizes { IfOk result (λ p. (vec_len p.one ≡ length loads.now + 1) × (vec_len p.two ≡ length loads.now + 1)
         × (vec_len p.other ≡ length loads.now + 1) × (vec_len p.load ≡ length loads.now + 1)) }
-    ensures joined { IfOk result (λ p. AreJoined (length loads.now) (load_of loads.now) (joints (load_of loads.now) (length loads.now) capacity [] pairs.now) p.one.items p.two.items p.other.items p.load.items) }
+    ensures joined { IfOk result (λ p. AreJoined (length loads.now) (load_of loads.now)
+        (joints (load_of loads.now) (length loads.now) capacity [] pairs.now) p.one.items p.two.items p.other.items
+        p.load.items) }
 {
     let mut paths = Paths::new(alloc, loads)?;
     for pair in pairs {
@@ -36,9 +38,9 @@ fn joined_paths(
     Ok(paths)
 }
 
-/// The lists of the savings merges round a hub: each other city begins as a list of its own, and the pairs of near cities
-/// join lists at their ends, the greatest saving first, as long as the joint load is at most the capacity. Each list
-/// begins at its lesser end, and the lists are ordered by first city.
+/// The lists of the savings merges round a hub: each other city begins as a list of its own, and the pairs of near
+/// cities join lists at their ends, the greatest saving first, as long as the joint load is at most the capacity. Each
+/// list begins at its lesser end, and the lists are ordered by first city.
 ///
 /// # Errors
 /// `AllocError` where there is no memory for the pairs, the paths or the lists.
@@ -53,7 +55,8 @@ pub fn savings_lists<M: Metric>(
     requires hub { IsCity (M.size_of metric.now) hub }
     requires size { near.now.size ≡ M.size_of metric.now }
     requires loads { length loads.now ≡ M.size_of metric.now }
-    ensures lists { IfOk result (λ v. AreSavingsLists (M.distance metric.now) (near_of near.now) (M.size_of metric.now) hub (load_of loads.now) capacity (map (λ x. x.items) v.items)) }
+    ensures lists { IfOk result (λ v. AreSavingsLists (M.distance metric.now) (near_of near.now)
+        (M.size_of metric.now) hub (load_of loads.now) capacity (map (λ x. x.items) v.items)) }
     ensures once { IfOk result (λ v. IsTour (M.size_of metric.now) (hub ∷ flat_map (λ x. x.items) v.items)) }
     ensures filled { IfOk result (λ v. All (λ list. 1 ≤ length list.items) v.items) }
     ensures within { AreLight (M.size_of metric.now) hub (load_of loads.now) capacity
@@ -77,7 +80,8 @@ pub fn savings_tour<M: Metric>(
     requires some { 1 ≤ M.size_of metric.now }
     requires size { near.now.size ≡ M.size_of metric.now }
     ensures lists { IfOk result (λ v. (lists : List (List ℕ))
-        × (AreSavingsLists (M.distance metric.now) (near_of near.now) (M.size_of metric.now) 1 (load_of (replicate (M.size_of metric.now) 0)) 0 lists × (v.items ≡ 1 ∷ flat_map (λ x. x) lists))) }
+        × (AreSavingsLists (M.distance metric.now) (near_of near.now) (M.size_of metric.now) 1
+        (load_of (replicate (M.size_of metric.now) 0)) 0 lists × (v.items ≡ 1 ∷ flat_map (λ x. x) lists))) }
     ensures tour { IfOk result (λ v. IsTour (M.size_of metric.now) v.items) }
 {
     let loads = vec![in alloc; 0; metric.size() as usize]?;

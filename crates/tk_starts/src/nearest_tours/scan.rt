@@ -17,7 +17,8 @@ fn first_from<M: Metric>(metric: &M, cities: &[u32], j: usize) -> usize
     ensures from { j ≤ result }
     ensures within { result < length cities.now }
     ensures first { (i : ℕ) → j ≤ i → i < length cities.now
-        → rank (candidate (M.distance metric.now) (slice_index cities.now (j - 1)) (slice_index cities.now result)) ≤ rank (candidate (M.distance metric.now) (slice_index cities.now (j - 1)) (slice_index cities.now i)) }
+        → rank (candidate (M.distance metric.now) (slice_index cities.now (j - 1)) (slice_index cities.now result))
+        ≤ rank (candidate (M.distance metric.now) (slice_index cities.now (j - 1)) (slice_index cities.now i)) }
 {
     let here = cities[j - 1];
     let mut best = measure(metric, here, cities[j]);
@@ -32,11 +33,13 @@ fn first_from<M: Metric>(metric: &M, cities: &[u32], j: usize) -> usize
     at
 }
 
-/// Places the cities behind the first, each the first of those that are left.
+/// Places the cities after the first, each the first of those that are left.
 fn place_nearest<M: Metric>(metric: &M, cities: &mut Vec<u32>)
     requires size { 1 ≤ M.size_of metric.now }
-    requires tour { IsNearestTo (M.distance metric.now) (M.size_of metric.now) (slice_index cities.old.items 0) 1 cities.old.items }
-    ensures { IsNearestTo (M.distance metric.now) (M.size_of metric.now) (slice_index cities.old.items 0) (M.size_of metric.now) cities.new.items }
+    requires tour { IsNearestTo (M.distance metric.now) (M.size_of metric.now)
+        (slice_index cities.old.items 0) 1 cities.old.items }
+    ensures { IsNearestTo (M.distance metric.now) (M.size_of metric.now) (slice_index cities.old.items 0)
+        (M.size_of metric.now) cities.new.items }
 {
     for j in 1..cities.len() {
         let at = first_from(metric, cities.as_slice(), j);
@@ -44,8 +47,8 @@ fn place_nearest<M: Metric>(metric: &M, cities: &mut Vec<u32>)
     }
 }
 
-/// The nearest-neighbour tour: it begins at `start`, and each next city is the first by (distance, number) of those that
-/// are left. It takes n·(n-1)/2 distances.
+/// The nearest-neighbour tour: it begins at `start`, and each next city is the first by (distance, number) of those
+/// that are left. It takes n·(n-1)/2 distances.
 ///
 /// # Errors
 /// `AllocError` where there is no memory for the n cities.

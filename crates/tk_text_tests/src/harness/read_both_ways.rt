@@ -7,7 +7,7 @@ use tk_text::{
     FromRead, Point, Points, Problem, Routing, TextFault, TextKind, Weights, read_problem,
 };
 
-/// Reads a text in pieces of so many bytes, from a source that may fail behind its last byte.
+/// Reads a text in pieces of so many bytes, from a source that may fail after its last byte.
 fn read_pieces(alloc: Global, text: &[u8], most: usize, fails: bool) -> Result<Problem, TextFault> {
     let mut source = Drip {
         bytes: text,
@@ -18,7 +18,7 @@ fn read_pieces(alloc: Global, text: &[u8], most: usize, fails: bool) -> Result<P
     read_problem(alloc, &mut source)
 }
 
-/// Reads a text byte by byte, from a source that may fail behind its last byte.
+/// Reads a text byte by byte, from a source that may fail after its last byte.
 pub fn read_dripping(alloc: Global, text: &[u8], fails: bool) -> Result<Problem, TextFault> {
     read_pieces(alloc, text, 1, fails)
 }

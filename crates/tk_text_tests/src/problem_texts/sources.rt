@@ -6,18 +6,18 @@ use std::alloc::Global;
 use std::process::Abort;
 use tk_text::TextKind;
 
-/// Reads a text byte by byte, from a source that fails behind its last byte, to this fault or none.
+/// Reads a text byte by byte, from a source that fails after its last byte, to this fault or none.
 fn expect_dripping(rt: &impl Abort, alloc: Global, text: &[u8], answer: Option<(u64, TextKind)>) {
     assert!(rt; read_dripping(alloc, text, true).err() == listed(&answer));
 }
 
-/// Reads a text byte by byte, from a source that fails behind its last byte, to a fault of the source.
+/// Reads a text byte by byte, from a source that fails after its last byte, to a fault of the source.
 fn expect_failed_source(rt: &impl Abort, alloc: Global, text: &[u8]) {
     let told = read_dripping(alloc, text, true).err();
     assert!(rt; told.map(|fault| fault.kind) == Some(TextKind::Read));
 }
 
-/// Behind what decides, a source is not read.
+/// After what decides, a source is not read.
 #[test]
 fn failing_sources(rt: HostRuntime) {
     let a = rt.alloc();

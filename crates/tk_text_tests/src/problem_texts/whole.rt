@@ -6,7 +6,7 @@ use std::process::Abort;
 use std::test::Fail;
 use tk_text::{Keyword, PlaneKind, Point, Problem, TextFault, TextKind, Weights};
 
-/// Bytes, and the line and the kind of the fault of a text that ends behind any of them, or none.
+/// Bytes, and the line and the kind of the fault of a text that ends after any of them, or none.
 type Run<'a> = (&'a [u8], Option<(u64, TextKind)>);
 
 /// A fault of a table.
@@ -17,7 +17,7 @@ pub fn listed(answer: &Option<(u64, TextKind)>) -> Option<TextFault> {
     }
 }
 
-/// Reads the text behind each byte that is added to it.
+/// Reads the text after each byte that is added to it.
 fn grow<A: Abort>(
     rt: &A,
     alloc: Global,
@@ -285,7 +285,7 @@ fn read_joined<A: Abort>(
     Ok(read(rt, alloc, &text)?)
 }
 
-/// The weights of a text behind a TSP's headers up to the type of its weights.
+/// The weights of a text after a TSP's headers up to the type of its weights.
 fn explicit<A: Abort>(rt: &A, alloc: Global, format: &[u8]) -> Result<Weights, Fail> {
     let problem = read_joined(
         rt,
@@ -415,7 +415,7 @@ fn kinds(rt: HostRuntime) -> Result<(), Fail> {
     Ok(())
 }
 
-/// A routing whose depot is the second node, behind whose section this stands.
+/// A routing whose depot is the second node, after whose section this stands.
 fn expect_depot(rt: &impl Abort, alloc: Global, end: &[u8]) -> Result<(), Fail> {
     let problem = read_joined(
         rt,
@@ -445,7 +445,7 @@ fn depots(rt: HostRuntime) -> Result<(), Fail> {
     Ok(())
 }
 
-/// The name of a problem with this behind its places.
+/// The name of a problem with this after its places.
 fn expect_name(rt: &impl Abort, alloc: Global, head: &[u8], name: &[u8]) -> Result<(), Fail> {
     let problem = read_joined(
         rt,

@@ -192,7 +192,7 @@ at_length [] p rs = refl
 at_length (q ∷ qs) p rs = at_length qs p rs
 
 module _ (n : ℕ) (table : ℕ → ℕ → ℕ) (is_table : IsTable n table) (f : Format) where
-  -- one weight, behind those of the places before
+  -- one weight, after those of the places before
   one_weight : (qs rs : List Place) (p : Place) (before : List Token) (t : Token) → order f n ≡ qs ++ p ∷ rs → weights_in before ≡ map (at_place table) qs
       → IsWritten t (at_place table p) → IsWithin n p → Seen f qs p → first_at t.line (weight_tests n f before t) ≡ None
   one_weight qs rs p before t is numbers written within seen = by_place (eqb p.row p.column) refl (is_full f && ltb p.column p.row) refl

@@ -1,4 +1,4 @@
--- the numbers before this one are put, each behind a space
+-- the numbers before this one are put, each after a space
 use Rattle.std.proofs.Common.{◌++◌, take}
 use Rattle.std.specs.Prelude.{flat_map, codes, decimal}
 use Rattle.tk_pen.specs.Pens.{Puts}
