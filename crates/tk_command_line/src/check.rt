@@ -21,6 +21,9 @@ Example:
   tourkit check examples/tri.tsp examples/tri.tour";
 
 /// The subcommand with its words.
+///
+/// # Errors
+/// An error if memory runs out.
 pub fn command<'a>(alloc: Global) -> Result<Command<'a>, Error> {
     let tour = given(alloc, "TOUR", "a TSPLIB tour file, or - for standard input");
     subcommand(

@@ -21,6 +21,9 @@ Example:
   tourkit checksol examples/bakery.vrp examples/bakery-plan.sol";
 
 /// The subcommand with its words.
+///
+/// # Errors
+/// An error if memory runs out.
 pub fn command<'a>(alloc: Global) -> Result<Command<'a>, Error> {
     let solution = given(
         alloc,

@@ -17,6 +17,9 @@ Example:
   tourkit check examples/tri.tsp examples/tri.tour";
 
 /// The program with its subcommands.
+///
+/// # Errors
+/// An error if memory runs out.
 pub fn tourkit<'a>(alloc: Global) -> Result<Command<'a>, Error> {
     let made = Command::new(alloc, "tourkit")
         .version("0.1.0")
@@ -40,6 +43,9 @@ fn with<'a>(
 }
 
 /// A subcommand with its first word, and another if it takes two. Its help begins with `about` and ends with `more`.
+///
+/// # Errors
+/// An error if memory runs out.
 pub fn subcommand<'a>(
     alloc: Global,
     name: &'a str,

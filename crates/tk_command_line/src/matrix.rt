@@ -34,6 +34,9 @@ static FORMATS: [&str; 9] = [
 ];
 
 /// The subcommand with its words.
+///
+/// # Errors
+/// An error if memory runs out.
 pub fn command<'a>(alloc: Global) -> Result<Command<'a>, Error> {
     let format = given(alloc, "FORMAT", "the order of the weights").value_parser(ValueParser::Names(
         FORMATS.as_slice(),

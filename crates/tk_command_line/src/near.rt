@@ -21,6 +21,9 @@ Example:
   zcat berlin52.tsp.gz | tourkit near - -k 5";
 
 /// The subcommand with its words.
+///
+/// # Errors
+/// An error if memory runs out.
 pub fn command<'a>(alloc: Global) -> Result<Command<'a>, Error> {
     let count = Arg::new(alloc, "k")
         .short('k')

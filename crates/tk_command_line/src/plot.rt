@@ -23,6 +23,9 @@ Example:
   tourkit plot examples/tri.tsp examples/tri.tour >tri.svg";
 
 /// The subcommand with its words.
+///
+/// # Errors
+/// An error if memory runs out.
 pub fn command<'a>(alloc: Global) -> Result<Command<'a>, Error> {
     let claim = Arg::new(alloc, "CLAIM").help(
         "a TSPLIB tour file, or a CVRPLIB solution file if PROBLEM is a CVRP, or - for standard input",

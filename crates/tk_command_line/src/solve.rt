@@ -21,6 +21,9 @@ Example:
   tourkit solve examples/bakery.par";
 
 /// The subcommand with its words.
+///
+/// # Errors
+/// An error if memory runs out.
 pub fn command<'a>(alloc: Global) -> Result<Command<'a>, Error> {
     let parameters = given(
         alloc,

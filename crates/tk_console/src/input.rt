@@ -23,6 +23,9 @@ impl Read for Input {
 }
 
 /// Opens an input file, or reports that it cannot be opened. Standard input cannot be if it is closed.
+///
+/// # Errors
+/// The exit status, after a message that names the file.
 pub fn open(rt: &HostRuntime, name: &str) -> Result<Input, ExitCode> {
     if name == STANDARD {
         return match rt.stdin().as_fd().try_clone_to_owned() {
@@ -38,6 +41,9 @@ pub fn open(rt: &HostRuntime, name: &str) -> Result<Input, ExitCode> {
 
 /// Opens two input files in this order, or reports the first that cannot be opened. Standard input comes first where it
 /// is the second: if it is closed, the other file would be taken for it.
+///
+/// # Errors
+/// The exit status, after a message that names the file that could not be opened.
 pub fn open_two(rt: &HostRuntime, first: &str, second: &str) -> Result<(Input, Input), ExitCode> {
     if second == STANDARD {
         let standard = open(rt, second)?;

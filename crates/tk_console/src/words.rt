@@ -3,7 +3,10 @@ use crate::report;
 use std::io::ErrorKind;
 use std::process::ExitCode;
 
-/// The words of the call, the program's name first, or the status after telling why they cannot be had.
+/// The words of the call, the program's name first.
+///
+/// # Errors
+/// The exit status, after a message: a word is not UTF-8, or memory ran out.
 pub fn words_of_call(rt: &HostRuntime) -> Result<Vec<String>, ExitCode> {
     let words = match std::env::args(rt) {
         Ok(words) => words.collect::<Vec<String>>(rt.alloc()),

@@ -28,6 +28,9 @@ impl Model for Waking {
 
 impl Waking {
     /// A queue for the cities 1 to n, all asleep.
+    ///
+    /// # Errors
+    /// `AllocError` if there is no memory for n + 1 flags and as many places of the queue.
     pub fn new(alloc: Global, n: u32) -> Result<Waking, AllocError>
         ensures { IfOk result (λ w. (w.queue ≡ []) × (w.size ≡ n)) }
     {

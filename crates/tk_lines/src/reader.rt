@@ -126,6 +126,9 @@ impl<F: Form> PieceReader<F> {
     }
 
     /// Ends a line's word.
+    ///
+    /// # Errors
+    /// `UnknownKeyword` if the word is none of the formats'; else the fault of the form, on this line.
     pub fn end_word(&mut self) -> Result<Went, TextFault>
         requires place { self.old.place ≡ places.Word }
         ensures went { (next : Next) (bs : List ℕ) → Within next no_word
@@ -163,6 +166,9 @@ impl<F: Form> PieceReader<F> {
     }
 
     /// Ends a header's value.
+    ///
+    /// # Errors
+    /// The fault that the form finds in the value, on this line.
     pub fn end_header(&mut self, word: Keyword) -> Result<(), TextFault>
         requires place { self.old.place ≡ places.Value word }
         ensures line { self.new.line ≡ self.old.line }
@@ -288,6 +294,9 @@ impl<F: Form> PieceReader<F> {
     }
 
     /// Takes a whole token of a section.
+    ///
+    /// # Errors
+    /// The fault that the form finds in the token, or at the end of the text if the token is `EOF`, on this line.
     #[inline(always)]
     pub fn take_token(&mut self, token: &[u8]) -> Result<Ended, TextFault>
         requires short { length token.now ≤ 64 }
@@ -324,6 +333,9 @@ impl<F: Form> PieceReader<F> {
     }
 
     /// Ends a token of a section.
+    ///
+    /// # Errors
+    /// Those of `take_token`.
     pub fn end_token(&mut self) -> Result<Ended, TextFault>
         requires place { self.old.place ≡ places.Token }
         requires short { length self.old.held ≤ 64 }
@@ -377,6 +389,9 @@ impl<F: Form> PieceReader<F> {
     }
 
     /// Takes a whole token of a section, and the byte after it.
+    ///
+    /// # Errors
+    /// Those of `take_token`, and those of a byte after the token.
     #[inline(always)]
     pub fn feed_whole(&mut self, token: &[u8], byte: u8) -> Result<Step, TextFault>
         requires run { IsToken token.now }
@@ -420,6 +435,9 @@ impl<F: Form> PieceReader<F> {
     }
 
     /// Ends a token after the `-1` that ends a section.
+    ///
+    /// # Errors
+    /// `TrailingData` if the token is no `-1`.
     pub fn end_minus_one(&mut self, on_line: bool) -> Result<(), TextFault>
         requires place { self.old.place ≡ places.MinusOne on_line }
         ensures line { self.new.line ≡ self.old.line }
@@ -458,6 +476,9 @@ impl<F: Form> PieceReader<F> {
     }
 
     /// Takes a byte, wherever it stands.
+    ///
+    /// # Errors
+    /// The fault that the bytes up to this one show, with its line.
     pub fn feed_byte(&mut self, byte: u8) -> Result<Step, TextFault>
         requires room { self.old.line ≤ 2 ^ 63 }
         requires known { IsFed F.format F.holds F.wants anything self.old }

@@ -12,6 +12,9 @@ use tk_words::{Run, Step, TextFault, token_length};
 impl<F: Form> PieceReader<F> {
     /// Takes the tokens of a section that stand whole in the bytes, each with the byte after it, up to two blanks or
     /// what is no such token.
+    ///
+    /// # Errors
+    /// The fault that one of these tokens shows, with its line.
     pub fn feed_tokens(&mut self, bytes: &[u8]) -> Result<Run, TextFault>
         requires { (bs : List ℕ) × Fed F.format F.holds F.wants anything self.old bs
             × (length bs + length bytes.now < 2 ^ 63) }

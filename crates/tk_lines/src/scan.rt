@@ -31,6 +31,7 @@ pub struct Scan {
 }
 
 impl Scan {
+    /// Before the first byte.
     pub fn new() -> Self
         ensures { Scans result [] }
     {
@@ -44,6 +45,7 @@ impl Scan {
         }
     }
 
+    /// Begins again, before the first byte.
     pub fn clear(&mut self)
         ensures { Scans self.new [] }
     {
@@ -55,6 +57,7 @@ impl Scan {
         self.trimmed = 0;
     }
 
+    /// Takes a byte.
     pub fn push(&mut self, byte: u8)
         requires room { (self.old.count < 5000) × (self.old.seen < 5000) }
         requires known { (v : List ℕ) × Scans self.old v }
@@ -125,6 +128,9 @@ impl Scan {
     }
 
     /// The value's first word as an integer within limits.
+    ///
+    /// # Errors
+    /// `BadNumber` if it is no integer, `OutOfLimit` if it is outside the limits.
     pub fn number(&self, low: u32, high: u32) -> Result<u32, TextKind>
         ensures ok { (v : List ℕ) → Scans self.now v → IfOk result (λ n. IsNumber low high (first_word v) n) }
         ensures err { (v : List ℕ) (line : ℕ) → Scans self.now v

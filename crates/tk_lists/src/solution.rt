@@ -77,6 +77,10 @@ impl TextReader for SolutionReader {
 
 /// Reads a solution text. What it answers is what every text says that begins with the bytes that it read, but for
 /// `Read`, where the source fails, and `NoMemory`.
+///
+/// # Errors
+/// The first fault of the text, with its line; `Read` if the source fails before it is found, and `NoMemory` if memory
+/// runs out.
 pub fn read_solution<R: Source>(alloc: Global, source: &mut R) -> Result<SolText, TextFault>
     ensures ok { IfOk result (λ solution. IsAnswerWhereTold solution_decided text_limit (R.left source.old)
         (R.left source.new) (Ok (map (λ r. r.items) solution.routes.items, solution.cost))) }

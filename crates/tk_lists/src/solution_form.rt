@@ -30,6 +30,7 @@ pub struct SolutionForm {
 }
 
 impl SolutionForm {
+    /// Before the first line.
     pub fn new(alloc: Global) -> Self
         ensures { Keeps result [] [] }
     {
@@ -44,6 +45,9 @@ impl SolutionForm {
     }
 
     /// Whether a Route line may stand here.
+    ///
+    /// # Errors
+    /// `TrailingData` after the cost, `OutOfLimit` after 100,000 routes.
     pub fn begin_route(&self) -> Result<(), TextKind>
         ensures ok { (before : List SolutionLine) → Keeps self.now before [] → IfOk result (λ _. IsRoute before []) }
         ensures err { (before : List SolutionLine) (n : ℕ) → Keeps self.now before []
@@ -59,6 +63,10 @@ impl SolutionForm {
     }
 
     /// Takes a customer of the route.
+    ///
+    /// # Errors
+    /// `BadNumber` if the token is no integer, `OutOfLimit` if the number is none of 32 bits or after 1,000,000
+    /// customers, and `NoMemory` if there is no memory for one more.
     pub fn take_customer(&mut self, bytes: &[u8]) -> Result<(), TextKind>
         requires { length bytes.now ≤ 64 }
         ensures ok { (before : List SolutionLine) (toks : List Token) (n : ℕ) → Keeps self.old before toks
@@ -87,6 +95,9 @@ impl SolutionForm {
     }
 
     /// Keeps the route.
+    ///
+    /// # Errors
+    /// `NoMemory` if there is no memory for one more route.
     pub fn end_route(&mut self) -> Result<(), TextKind>
         ensures ok { (before : List SolutionLine) (toks : List Token) → Keeps self.old before toks
             → IsRoute before toks → IfOk result (λ _. Keeps self.new (before ++ Route toks ∷ []) []) }
@@ -101,6 +112,9 @@ impl SolutionForm {
     }
 
     /// Whether the line of the cost may stand here.
+    ///
+    /// # Errors
+    /// `TrailingData` after the cost.
     pub fn begin_cost(&self) -> Result<(), TextKind>
         ensures ok { (before : List SolutionLine) → Keeps self.now before []
             → IfOk result (λ _. has_cost before ≡ false) }
@@ -114,6 +128,9 @@ impl SolutionForm {
     }
 
     /// Takes the cost.
+    ///
+    /// # Errors
+    /// `BadNumber` if the token is no integer, `OutOfLimit` if the number is negative.
     pub fn take_cost(&mut self, bytes: &[u8]) -> Result<(), TextKind>
         requires { length bytes.now ≤ 64 }
         ensures ok { (before : List SolutionLine) (n : ℕ) → Keeps self.old before [] → has_cost before ≡ false
@@ -134,6 +151,9 @@ impl SolutionForm {
     }
 
     /// Whether a line of another word may stand here.
+    ///
+    /// # Errors
+    /// `UnknownKeyword` before the cost.
     pub fn skip(&self) -> Result<(), TextKind>
         ensures ok { (before : List SolutionLine) → Keeps self.now before []
             → IfOk result (λ _. has_cost before ≡ true) }

@@ -82,6 +82,7 @@ fn word_of(bytes: &[u8]) -> LineWord
 }
 
 impl SolutionReader {
+    /// Before the first byte.
     pub fn new(alloc: Global) -> Self
         ensures stands { Stands result [] [] }
         ensures line { result.line ≡ 1 }
@@ -248,6 +249,9 @@ impl SolutionReader {
     }
 
     /// Takes a byte that is no LF.
+    ///
+    /// # Errors
+    /// The fault that the bytes of the line up to this one show.
     pub fn feed_line(&mut self, byte: u8) -> Result<(), TextKind>
         requires { (before : List SolutionLine) × (toks : List Token) × Stands self.old before toks }
         ensures line { self.new.line ≡ self.old.line }
@@ -310,6 +314,9 @@ impl SolutionReader {
     }
 
     /// Ends a line.
+    ///
+    /// # Errors
+    /// The fault of the line.
     pub fn end_line(&mut self) -> Result<(), TextKind>
         requires { (before : List SolutionLine) × (toks : List Token) × Stands self.old before toks }
         ensures line { self.new.line ≡ self.old.line }

@@ -49,6 +49,7 @@ fn once(seen: &mut bool) -> Result<(), TextKind>
 }
 
 impl TourForm {
+    /// Before the first header.
     pub fn new(alloc: Global) -> Self
         ensures { TourHolds result [] }
     {
@@ -194,6 +195,10 @@ impl Form for TourForm {
 
 /// Reads a tour text. What it answers is what every text says that begins with the bytes that it read, but for
 /// `Read`, where the source fails, and `NoMemory`.
+///
+/// # Errors
+/// The first fault of the text, with its line; `Read` if the source fails before it is found, and `NoMemory` if memory
+/// runs out.
 pub fn read_tour<R: Source>(alloc: Global, source: &mut R) -> Result<TourText, TextFault>
     ensures ok { IfOk result (λ tour. IsAnswerWhereTold tour_decided text_limit (R.left source.old) (R.left source.new)
         (Ok tour.cities.items)) }

@@ -90,6 +90,9 @@ fn scan_city<M: Metric>(m: &M, c: u32, kept: &mut [Candidate])
 }
 
 /// The near lists by a scan of all cities for each.
+///
+/// # Errors
+/// `AllocError` if there is no memory for n lists of k cities.
 pub fn near_scan<M: Metric>(alloc: Global, m: &M, k: u32) -> Result<Near, AllocError>
     requires low { 1 ≤ k }
     requires limit { k ≤ 100 }

@@ -10,6 +10,7 @@ use indexmap::IndexMap;
 use std::alloc::AllocError;
 use tk_keys::Key;
 
+/// What keys say, in the order in which they came.
 pub type Entries = IndexMap<Key, Setting>;
 
 /// What a key says.
@@ -20,6 +21,9 @@ pub fn stored(entries: &Entries, key: Key) -> Option<&Setting>
 }
 
 /// Puts what a new key says after the others.
+///
+/// # Errors
+/// `AllocError` if there is no memory for one more key.
 pub fn append(entries: &mut Entries, key: Key, setting: Setting) -> Result<(), AllocError>
     requires { Values.has key (settings_in entries.old) ≡ false }
     ensures ok { OnOk result (settings_in entries.new ≡ settings_in entries.old ++ (key, value_is setting) ∷ []) }

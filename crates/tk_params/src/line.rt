@@ -110,6 +110,10 @@ fn take_words(
 }
 
 /// Takes a line that is not the one of EOF, without the blanks at its front.
+///
+/// # Errors
+/// `TooLong` for a key over 64 bytes, `UnknownKey` for one that is none, `RepeatedKey` for one that came before, and
+/// the faults of `setting_of`.
 #[tactic(auto, unfolding(crate::specs::Values::line_means))]
 pub fn take_line(alloc: Global, settings: &mut Settings, line: &[u8]) -> Result<(), ParamKind>
     ensures ok { OnOk result (HasTaken settings.old settings.new (Values.line_means settings.old line.now)) }

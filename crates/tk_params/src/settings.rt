@@ -48,6 +48,9 @@ impl Settings {
     }
 
     /// Keeps what a new key says.
+    ///
+    /// # Errors
+    /// `AllocError` if there is no memory for one more key.
     pub fn set(&mut self, key: Key, setting: Setting) -> Result<(), AllocError>
         requires fresh { Values.has key self.old ≡ false }
         requires limits { IsSetting key (value_is setting) }

@@ -121,6 +121,10 @@ fn plain_of(key: Key, value: &[u8]) -> Option<Setting>
 }
 
 /// What a key says with this value.
+///
+/// # Errors
+/// `BadValue` if the key has no such value, `DollarInName` for a file name with a `$`, and `NoMemory` if there is no
+/// memory for a name.
 pub fn setting_of(alloc: Global, key: Key, value: &[u8]) -> Result<Setting, ParamKind>
     ensures ok { IfOk result (λ s. Values.value_of key value.now ≡ Some (value_is s)) }
     ensures err { IfErr result (IsToldOf (λ k. (k ≡ kinds.BadValue) × (Values.value_of key value.now ≡ None))) }

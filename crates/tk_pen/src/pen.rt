@@ -176,6 +176,9 @@ impl<'a, W: Sink> Pen<'a, W> {
     }
 
     /// Sends what waits. All that was put has gone out then, or the fault says how much of it.
+    ///
+    /// # Errors
+    /// That a write failed, and how many bytes had gone out by then.
     pub fn end(self) -> Result<(), WriteFault>
         ensures { Ends W.taken W.broken self.entry self.exit.0.now result }
     {

@@ -212,6 +212,7 @@ pub struct Path {
 pub const START: Path = Path { sides: 0, next: 1 };
 
 impl Path {
+    /// The turns so far, one bit each.
     #[inline(always)]
     pub fn sides(self) -> u64 {
         self.sides
@@ -223,6 +224,7 @@ impl Path {
         sides & self.next != 0
     }
 
+    /// One more turn, to the lower half.
     #[inline(always)]
     pub fn lower(self) -> Path {
         Path {
@@ -231,6 +233,7 @@ impl Path {
         }
     }
 
+    /// One more turn, to the upper half.
     #[inline(always)]
     pub fn upper(self) -> Path {
         Path {
@@ -378,6 +381,9 @@ fn fill_from_tree<P: Planar>(
 }
 
 /// The near lists by a search of a tree for each city.
+///
+/// # Errors
+/// `AllocError` if there is no memory for the tree, or for n lists of k cities.
 pub fn near_tree<P: Planar>(alloc: Global, m: &P, k: u32) -> Result<Near, AllocError>
     requires low { 1 ≤ k }
     requires limit { k ≤ 100 }

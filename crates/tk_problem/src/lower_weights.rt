@@ -29,6 +29,9 @@ impl Model for LowerWeights {
 
 impl LowerWeights {
     /// No weight of `n` cities is read yet, and all are 0.
+    ///
+    /// # Errors
+    /// `AllocError` if there is no memory for n (n - 1) / 2 weights.
     pub fn new(alloc: Global, format: Format, n: u32) -> Result<Self, AllocError>
         requires { n < 2 ^ 32 - 1 }
         ensures { IfOk result (λ s. IsSoFar s format n []) }

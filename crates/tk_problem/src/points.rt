@@ -46,6 +46,9 @@ impl Points {
     ghost use Rattle.tk_problem.specs.PlacesOf.{places_of};
 
     /// `n` places, all at the origin.
+    ///
+    /// # Errors
+    /// `AllocError` if there is no memory for them.
     pub fn at_origin(alloc: Global, n: usize) -> Result<Points, AllocError>
         ensures { IfOk result (λ ps. ps ≡ replicate n origin) }
     {
@@ -79,6 +82,9 @@ impl Points {
     }
 
     /// Writes a place. The first one that is not whole moves the list to places in units of 10^-9.
+    ///
+    /// # Errors
+    /// `AllocError` if the list must move and there is no memory for it. The places are unchanged then.
     pub fn set(&mut self, index: usize, place: Point) -> Result<(), AllocError>
         requires index { index < length self.old }
         requires near { IsNearOrigin place }

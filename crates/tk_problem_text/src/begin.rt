@@ -20,6 +20,10 @@ use tk_words::{Keyword, TextKind};
 pub const TABLE_LIMIT: u32 = 5_000;
 
 /// The section of a word, after these parts.
+///
+/// # Errors
+/// The first thing that speaks against the section: `Unsupported`, `Repeated`, `Missing` or `OutOfLimit`, and
+/// `NoMemory` if there is no memory for what it holds.
 pub fn begin(alloc: Global, parts: &Parts, word: Keyword) -> Result<OpenSection, TextKind>
     ensures ok { (before : List Piece) (n : ℕ) → HasParts parts.now before → IfOk result (IsBegun before word n) }
     ensures err { (before : List Piece) (n : ℕ) → HasParts parts.now before

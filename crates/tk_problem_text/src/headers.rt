@@ -74,6 +74,9 @@ impl Headers {
     ghost use Rattle.tk_words.specs.declared.keyword.Keyword.TheVariants as words;
 
     /// Before the first one.
+    ///
+    /// # Errors
+    /// `AllocError` if there is no memory for the name of a problem without one.
     pub fn new(alloc: Global) -> Result<Self, AllocError>
         ensures { IfOk result (λ h. HasHeaders h []) }
     {
@@ -91,6 +94,10 @@ impl Headers {
     }
 
     /// Takes a header.
+    ///
+    /// # Errors
+    /// The first fault of the header: `Repeated`, `Unsupported`, `BadNumber`, `OutOfLimit` or `TooLong`, and `NoMemory`
+    /// if there is no memory for a name.
     pub fn take(&mut self, alloc: Global, word: Keyword, value: &Scan) -> Result<(), TextKind>
         ensures ok { (ps : List Piece) (v : List ℕ) (n : ℕ) → HasHeaders self.old ps → Scans value.now v
             → IfOk result (λ _. HasHeaders self.new (ps ++ a_header word v n)

@@ -35,6 +35,9 @@ impl OpenSection {
     ghost use Rattle.tk_lines.specs.Pieces.{Early, Fault};
 
     /// Takes a token. After an error nothing was taken.
+    ///
+    /// # Errors
+    /// The fault of the token in this section.
     pub fn take(&mut self, token: &[u8]) -> Result<Taken, TextKind>
         requires { length token.now ≤ 64 }
         ensures ok { (before : List Piece) (word : Keyword) (n : ℕ) (toks : List Token) (line : ℕ)

@@ -38,6 +38,9 @@ impl Parts {
     ghost use Rattle.tk_problem_text.specs.Parts.{HasParts, IsWhole, problem_is, problem_in};
 
     /// Before the first one.
+    ///
+    /// # Errors
+    /// `AllocError` if there is no memory for the name of a problem without one.
     pub fn new(alloc: Global) -> Result<Self, AllocError>
         ensures { IfOk result (λ p. HasParts p []) }
     {
@@ -52,6 +55,9 @@ impl Parts {
     }
 
     /// Takes a header.
+    ///
+    /// # Errors
+    /// Those of `Headers::take`.
     pub fn take_header(
         &mut self,
         alloc: Global,

@@ -27,6 +27,9 @@ pub struct ProblemForm {
 
 impl ProblemForm {
     /// Before the first piece.
+    ///
+    /// # Errors
+    /// `AllocError` if there is no memory for the name of a problem without one.
     pub fn new(alloc: Global) -> Result<Self, AllocError>
         ensures { IfOk result (λ s. ProblemHolds s []) }
     {

@@ -15,6 +15,10 @@ use tk_words::{Source, TextFault, TextKind};
 
 /// Reads a problem text. What it answers is what every text says that begins with the bytes that it read, but for
 /// `Read`, where the source fails, and `NoMemory`.
+///
+/// # Errors
+/// The first fault of the text, with its line; `Read` if the source fails before it is found, and `NoMemory` if memory
+/// runs out.
 pub fn read_problem<R: Source>(alloc: Global, source: &mut R) -> Result<Problem, TextFault>
     ensures ok { IfOk result (λ problem. IsAnswerWhereTold problem_decided text_limit (R.left source.old)
         (R.left source.new) (Ok (problem_is problem))) }

@@ -9,6 +9,9 @@ use tk_words::{Run, Source, Step, TextFault, TextKind, TextReader};
 pub const TEXT_LIMIT: u64 = 1_073_741_824;
 
 /// Takes the bytes of a piece, as far as they are needed. `count` bytes stand before it.
+///
+/// # Errors
+/// The fault that the reader finds, and `TooLong` at the first byte past the limit.
 pub fn feed_piece<P: TextReader>(
     reader: &mut P,
     piece: &[u8],
@@ -51,6 +54,9 @@ pub fn feed_piece<P: TextReader>(
 
 /// Reads a text from a source, piece by piece. A value is what some text says, also where the source does not tell its
 /// bytes.
+///
+/// # Errors
+/// The fault that the reader finds; `TooLong` if the text is longer than the limit, and `Read` if the source fails.
 pub fn read_text<R: Source, P: TextReader>(
     source: &mut R,
     reader: P,

@@ -23,21 +23,21 @@ pub record IsImprovedTo (i : Instance) (k m : ℕ) (olds now : List (List ℕ)) 
   pub olds_are : AreRoutes i olds
   pub routes : AreRoutes i now
   pub cost : moves + routes_cost i now ≤ routes_cost i olds
-  pub swapped : swaps ≤ part.most
-  pub most : part.most ≤ 3750 * moves
+  pub swaps_are : part.swaps ≡ swaps
+  pub most : swaps ≤ 3750 * moves
   pub tested : tests ≤ 4 * m * k * (length (concat part.front) + length part.front + 6 * moves)
   pub even : length part.front ≡ length part.done
 
 pub IsImprovedTo-none : (i : Instance) (k m : ℕ) (olds : List (List ℕ)) → AreRoutes i olds → IsImprovedTo i k m olds olds 0 0 0 0
 IsImprovedTo-none i k m olds h = record {
-  part = record { front = []; done = []; back = olds; moves = 0; tests = 0; most = 0; before = refl; after = refl; improved = none };
+  part = record { front = []; done = []; back = olds; moves = 0; tests = 0; swaps = 0; before = refl; after = refl; improved = none };
   count = refl;
   moves_are = refl;
   tests_are = refl;
   olds_are = h;
   routes = h;
   cost = omega arith;
-  swapped = omega arith;
+  swaps_are = refl;
   most = omega arith;
   tested = omega arith;
   even = refl;
@@ -61,7 +61,7 @@ more_tests : (b l f moves q made t u : ℕ) → t ≤ b * (l + f + 6 * moves) �
 more_tests b l f moves q made t u h g = omega arith
 
 pub IsImprovedTo-more : (i : Instance) (k m : ℕ) (olds now : List (List ℕ)) (j moves swaps tests : ℕ) → IsImprovedTo i k m olds now j moves swaps tests → i.size ≤ 5000 →
-    (old new : List ℕ) (made s t : ℕ) → j < length now → old ≡ get_or now j [] → IsImproved i k m old new made t → IsPermutation old new →
+    (old new : List ℕ) (made s t : ℕ) → j < length now → old ≡ get_or now j [] → IsImproved i k m old new made t s → IsPermutation old new →
     made + route_length i new ≤ route_length i old → t ≤ 4 * m * k * (length old + 1 + 6 * made) → s ≤ 3 * ((length old + 1) / 4) * made →
     IsImprovedTo i k m olds (set now j new) (j + 1) (moves + made) (swaps + s) (tests + t)
 IsImprovedTo-more i k m olds now j moves swaps tests h few old new made s t lt at improved same goes tested swapped =
@@ -91,7 +91,7 @@ IsImprovedTo-more i k m olds now j moves swaps tests h few old new made s t lt a
         back = rest;
         moves = h.part.moves + made;
         tests = h.part.tests + t;
-        most = h.part.most + 3 * ((length old + 1) / 4) * made;
+        swaps = h.part.swaps + s;
         before = h.part.before ∙ ap (λ v. front ++ v) place.is ∙ sym (append_assoc front (old ∷ []) rest);
         after = new_is ∙ sym (append_assoc done (new ∷ []) rest);
         improved = more h.part.improved improved;
@@ -102,8 +102,8 @@ IsImprovedTo-more i k m olds now j moves swaps tests h few old new made s t lt a
       olds_are = h.olds_are;
       routes = subst (λ (v : List (List ℕ)). AreRoutes i v) (sym new_is) (AreRoutes-exchanged i done rest old new routes same);
       cost = omega (arith, h.cost, goes, cost_now, cost_new, old_cost, new_cost);
-      swapped = omega (arith, h.swapped, swapped);
-      most = omega (arith, h.most, each);
+      swaps_are = ap (λ v. v + s) h.swaps_are;
+      most = omega (arith, h.most, each, swapped);
       tested = subst (λ (v : ℕ). tests + t ≤ 4 * m * k * v) whole (more_tests (4 * m * k) (length (concat front)) (length front) moves (length old) made tests t h.tested tested);
       even = length-append front (old ∷ []) ∙ omega (arith, h.even, length-append done (new ∷ []));
     }
@@ -153,7 +153,7 @@ small_counts i k m olds now j moves swaps tests h few hk hm diagonal limit =
     let cost : routes_cost i olds ≤ 40000000000000 = omega (arith, routes_cost-limit i olds diagonal limit, h.olds_are.once.0, few) in
     let moved : moves ≤ 40000000000000 = omega (arith, cost, h.cost) in
     let wide : 4 * m * k * y ≤ 1200 * y = scaled m k y hm hk in
-    (cost, moved, omega (arith, moved, h.most, h.swapped), omega (arith, moved, h.tested, wide, parts.0, parts.1, few))
+    (cost, moved, omega (arith, moved, h.most), omega (arith, moved, h.tested, wide, parts.0, parts.1, few))
 
 -- after the last one
 nil_end : (done back : List (List ℕ)) (j : ℕ) → length done ≡ j → length (done ++ back) ≤ j → back ≡ []
@@ -164,17 +164,19 @@ at_end : (i : Instance) (k m : ℕ) (olds now : List (List ℕ)) (j moves swaps 
 at_end i k m olds now j moves swaps tests h le = nil_end h.part.done h.part.back j h.count (omega (arith, le, ap length h.part.after))
 
 pub improved_all : (i : Instance) (k m : ℕ) (olds now : List (List ℕ)) (j moves swaps tests : ℕ) → IsImprovedTo i k m olds now j moves swaps tests → length now ≤ j →
-    (most : ℕ) × (AreImproved i k m olds now moves tests most × (swaps ≤ most))
+    AreImproved i k m olds now moves tests swaps
 improved_all i k m olds now j moves swaps tests h le =
     let none_left = at_end i k m olds now j moves swaps tests h le in
     let before : h.part.front ≡ olds = sym (h.part.before ∙ ap (λ v. h.part.front ++ v) none_left ∙ append-nil h.part.front) in
     let after : h.part.done ≡ now = sym (h.part.after ∙ ap (λ v. h.part.done ++ v) none_left ∙ append-nil h.part.done) in
-    let all : AreImproved i k m olds now h.part.moves h.part.tests h.part.most =
-    subst (λ (v : List (List ℕ)). AreImproved i k m olds v h.part.moves h.part.tests h.part.most) after
-    (subst (λ (v : List (List ℕ)). AreImproved i k m v h.part.done h.part.moves h.part.tests h.part.most) before h.part.improved) in
-    let counted : AreImproved i k m olds now moves tests h.part.most =
-    subst (λ (v : ℕ). AreImproved i k m olds now moves v h.part.most) h.tests_are (subst (λ (v : ℕ). AreImproved i k m olds now v h.part.tests h.part.most) h.moves_are all) in
-    (h.part.most, (counted, h.swapped))
+    let all : AreImproved i k m olds now h.part.moves h.part.tests h.part.swaps =
+    subst (λ (v : List (List ℕ)). AreImproved i k m olds v h.part.moves h.part.tests h.part.swaps) after
+    (subst (λ (v : List (List ℕ)). AreImproved i k m v h.part.done h.part.moves h.part.tests h.part.swaps) before h.part.improved) in
+    let moved : AreImproved i k m olds now moves h.part.tests h.part.swaps =
+    subst (λ (v : ℕ). AreImproved i k m olds now v h.part.tests h.part.swaps) h.moves_are all in
+    let tested : AreImproved i k m olds now moves tests h.part.swaps =
+    subst (λ (v : ℕ). AreImproved i k m olds now moves v h.part.swaps) h.tests_are moved in
+    subst (λ (v : ℕ). AreImproved i k m olds now moves tests v) h.swaps_are tested
 
 pub tested_all : (i : Instance) (k m : ℕ) (olds now : List (List ℕ)) (j moves swaps tests : ℕ) → IsImprovedTo i k m olds now j moves swaps tests → length now ≤ j →
     tests ≤ 4 * m * k * (customer_count i + length olds + 6 * moves)

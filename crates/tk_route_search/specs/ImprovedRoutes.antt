@@ -1,20 +1,20 @@
 -- Routes that are improved, each by itself.
 --     place_distance dist nodes      the distances among the places of a list of nodes, from 1
 --     IsReadOff route cycle new      a cycle of places as a route again
---     IsImproved i k m route new moves tests      a descent from the depot and the route, read off from the depot
---     AreImproved i k m olds news moves tests most      each route so improved
---     IsReported i k m olds news report      each route so improved, by the moves and tests of a report
+--     IsFlipped old new moves swaps      flips of moves lead from one order to another, by so many swaps
+--     IsImproved i k m route new moves tests swaps      a descent from the depot and the route, read off from the depot
+--     AreImproved i k m olds news moves tests swaps      each route so improved
 --     IsImprovedPart i k m olds news      the routes before some place so improved
 --     most_tests k m places moves      the most gain tests of descents with so many moves in all
 use Rattle.std.specs.Prelude.{◌≡◌, ℕ, ◌+◌, ◌-◌, ◌*◌, ◌/◌, ◌≤◌, min, List, [], ◌∷◌, ◌++◌, length, map, slice_index}
 use Rattle.tk_metric.specs.Cities.{IsCity, city_at}
 use Rattle.tk_near.specs.Near.{IsNear}
+use Rattle.tk_tour.specs.Reversal.{AreReversed}
 use Rattle.tk_tour.specs.Tour.{SameCycle}
 use Rattle.tk_descent.specs.Awake.{one_to}
 use Rattle.tk_descent.specs.Sweeps.{Pass}
 use Rattle.tk_routes.specs.Instance.{Instance, customer_count}
 use Rattle.tk_routes.specs.Routes.{route_nodes, routes_cost}
-use Rattle.tk_route_search.specs.declared.route_report.RouteReport.{RouteReport}
 
 abbrev pub place_distance : (ℕ → ℕ → ℕ) → List ℕ → ℕ → ℕ → ℕ
 place_distance dist nodes a b = dist (city_at nodes a) (city_at nodes b)
@@ -34,9 +34,15 @@ pub record IsReadOff (route cycle new : List ℕ) : Type 0 where
   pub read : new ≡ map (customer_at route) places
   pub turned : IsTurned new
 
+-- flips, at most three for each move, lead from one order to another, and take so many swaps
+pub record IsFlipped (old new : List ℕ) (moves swaps : ℕ) : Type 0 where
+  pub flips : ℕ
+  pub few : flips ≤ 3 * moves
+  pub reversed : AreReversed old new flips swaps
+
 -- A descent with all cities awake, over the places of the depot and the route and their near lists, with at most k
 -- candidates for each. The new route is its result, read off.
-pub record IsImproved (i : Instance) (k m : ℕ) (route new : List ℕ) (moves tests : ℕ) : Type 0 where
+pub record IsImproved (i : Instance) (k m : ℕ) (route new : List ℕ) (moves tests swaps : ℕ) : Type 0 where
   pub near : ℕ → List ℕ
   pub nearest : (c : ℕ) → IsCity (length route + 1) c →
       IsNear (place_distance i.distance (route_nodes i route)) (length route + 1) (min k (length route)) c (near c)
@@ -44,21 +50,17 @@ pub record IsImproved (i : Instance) (k m : ℕ) (route new : List ℕ) (moves t
   pub looks : ℕ
   pub descent : Pass (place_distance i.distance (route_nodes i route)) near m
       (one_to (length route + 1)) cycle looks moves tests
+  pub flipped : IsFlipped (one_to (length route + 1)) cycle moves swaps
+  pub most : swaps ≤ 3 * ((length route + 1) / 4) * moves
   pub read : IsReadOff route cycle new
 
--- each route so improved, with the moves and tests in all and the most swaps that they take
+-- each route so improved, with the moves, tests and swaps in all
 pub data AreImproved (i : Instance) (k m : ℕ) : List (List ℕ) → List (List ℕ) → ℕ → ℕ → ℕ → Type 0 where
   none : AreImproved i k m [] [] 0 0 0
-  more : {olds news : List (List ℕ)} {old new : List ℕ} {moves tests most made tried : ℕ} →
-      AreImproved i k m olds news moves tests most →
-      IsImproved i k m old new made tried →
-      AreImproved i k m (olds ++ old ∷ []) (news ++ new ∷ []) (moves + made) (tests + tried)
-      (most + 3 * ((length old + 1) / 4) * made)
-
--- each route so improved, by the moves and the tests of a report, and by no more swaps than its moves can take
-abbrev pub IsReported : Instance → ℕ → ℕ → List (List ℕ) → List (List ℕ) → RouteReport → Type 0
-IsReported i k m olds news report =
-    (most : ℕ) × (AreImproved i k m olds news report.moves report.tests most × (report.swaps ≤ most))
+  more : {olds news : List (List ℕ)} {old new : List ℕ} {moves tests swaps made tried taken : ℕ} →
+      AreImproved i k m olds news moves tests swaps →
+      IsImproved i k m old new made tried taken →
+      AreImproved i k m (olds ++ old ∷ []) (news ++ new ∷ []) (moves + made) (tests + tried) (swaps + taken)
 
 -- each move makes the cost less
 abbrev pub MovesSave : Instance → List (List ℕ) → List (List ℕ) → ℕ → Type 0
@@ -83,7 +85,7 @@ pub record IsImprovedPart (i : Instance) (k m : ℕ) (olds news : List (List ℕ
   pub back : List (List ℕ)
   pub moves : ℕ
   pub tests : ℕ
-  pub most : ℕ
+  pub swaps : ℕ
   pub before : olds ≡ front ++ back
   pub after : news ≡ done ++ back
-  pub improved : AreImproved i k m front done moves tests most
+  pub improved : AreImproved i k m front done moves tests swaps

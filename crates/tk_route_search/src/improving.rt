@@ -4,7 +4,7 @@ ghost use Rattle.tk_routes.specs.Cvrps.{instance_of};
 ghost use Rattle.tk_routes.specs.Instance.{customer_count};
 ghost use Rattle.tk_routes.specs.Routes.{AreRoutes, routes_cost};
 ghost use Rattle.tk_route_search.specs.RouteLists.{instance_of_routes, lists_of, routes_of};
-ghost use Rattle.tk_route_search.specs.ImprovedRoutes.{IsReported, IsImprovedPart, MovesSave};
+ghost use Rattle.tk_route_search.specs.ImprovedRoutes.{AreImproved, IsImprovedPart, MovesSave};
 ghost use Rattle.tk_route_search.specs.ImprovedRoutes.{most_tests, place_count, saved_cost};
 
 use crate::one_route::improve_route;
@@ -24,8 +24,8 @@ fn improve_each(
     requires routes { AreRoutes (instance_of cvrp.now) (lists_of lists.old) }
     requires candidates { (1 ≤ max_candidates) × (max_candidates ≤ 100) }
     requires most { (1 ≤ m) × (m ≤ 3) }
-    ensures improved { IfOk result
-        (IsReported (instance_of cvrp.now) max_candidates m (lists_of lists.old) (lists_of lists.new)) }
+    ensures improved { IfOk result (λ r. AreImproved (instance_of cvrp.now) max_candidates m
+        (lists_of lists.old) (lists_of lists.new) r.moves r.tests r.swaps) }
     ensures before { IfOk result (λ r. r.before ≡ pos (routes_cost (instance_of cvrp.now) (lists_of lists.old))) }
     ensures after { IfOk result (λ r. r.after ≡ pos (routes_cost (instance_of cvrp.now) (lists_of lists.new))) }
     ensures moves { IfOk result
@@ -82,8 +82,8 @@ pub fn improve(
     requires same { instance_of_routes routes.old ≡ instance_of cvrp.now }
     requires candidates { (1 ≤ max_candidates) × (max_candidates ≤ 100) }
     requires most { (1 ≤ m) × (m ≤ 3) }
-    ensures improved { IfOk result
-        (IsReported (instance_of cvrp.now) max_candidates m (routes_of routes.old) (routes_of routes.new)) }
+    ensures improved { IfOk result (λ r. AreImproved (instance_of cvrp.now) max_candidates m
+        (routes_of routes.old) (routes_of routes.new) r.moves r.tests r.swaps) }
     ensures before { IfOk result (λ r. r.before ≡ pos (routes_cost (instance_of cvrp.now) (routes_of routes.old))) }
     ensures after { IfOk result (λ r. r.after ≡ pos (routes_cost (instance_of cvrp.now) (routes_of routes.new))) }
     ensures moves { IfOk result

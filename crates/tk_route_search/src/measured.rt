@@ -18,6 +18,9 @@ pub struct Measured<'a, M: Metric> {
 
 impl<'a, M: Metric> Measured<'a, M> {
     /// Computes the distances.
+    ///
+    /// # Errors
+    /// `AllocError` if there is no memory for n n distances.
     pub fn of(alloc: Global, metric: &'a M) -> Result<Measured<'a, M>, AllocError>
         ensures { IfOk result (λ v. v.metric.now ≡ metric.now) }
     {

@@ -10,7 +10,7 @@ ghost use Rattle.tk_descent.specs.Sweeps.{Pass};
 ghost use Rattle.tk_routes.specs.Cvrps.{instance_of};
 ghost use Rattle.tk_routes.specs.Instance.{customer_count};
 ghost use Rattle.tk_routes.specs.Routes.{route_nodes, route_length};
-ghost use Rattle.tk_route_search.specs.ImprovedRoutes.{IsImproved, IsReadOff, place_distance};
+ghost use Rattle.tk_route_search.specs.ImprovedRoutes.{IsFlipped, IsImproved, IsReadOff, place_distance};
 
 use crate::measured::Measured;
 use std::alloc::{AllocError, Global};
@@ -67,6 +67,7 @@ fn descend_awake<M: Metric>(
     m: u32,
 ) -> Result<(ArrayTour, Report), AllocError>
     requires some { 2 ≤ M.size_of metric.now }
+    requires few { M.size_of metric.now ≤ 5000 }
     requires fits { near.now.size ≡ M.size_of metric.now }
     requires most { (1 ≤ m) × (m ≤ 3) }
     ensures pass { IfOk result (λ r. Pass (M.distance metric.now) (near_of near.now) m (one_to (M.size_of metric.now))
@@ -78,6 +79,7 @@ fn descend_awake<M: Metric>(
     ensures moves { IfOk result (λ r. r.1.moves + tour_length (M.distance metric.now) (order_of r.0)
         ≤ tour_length (M.distance metric.now) (one_to (M.size_of metric.now))) }
     ensures tests { IfOk result (λ r. r.1.tests ≤ 4 * m * near.now.width * (M.size_of metric.now + 6 * r.1.moves)) }
+    ensures flipped { IfOk result (λ r. IsFlipped (one_to (M.size_of metric.now)) (order_of r.0) r.1.moves r.1.swaps) }
     ensures swaps { IfOk result (λ r. r.1.swaps ≤ 3 * (M.size_of metric.now / 4) * r.1.moves) }
 {
     let n = metric.size();
@@ -124,10 +126,11 @@ fn improve_over<M: Metric>(
     requires distances { M.distance metric.now
         ≡ place_distance (instance_of cvrp.now).distance (route_nodes (instance_of cvrp.now) route.now) }
     requires some { 1 ≤ length route.now }
+    requires few { length route.now < 5000 }
     requires candidates { (1 ≤ max_candidates) × (max_candidates ≤ 100) }
     requires most { (1 ≤ m) × (m ≤ 3) }
     ensures improved { IfOk result (λ r. IsImproved
-        (instance_of cvrp.now) max_candidates m route.now r.0.items r.1.moves r.1.tests) }
+        (instance_of cvrp.now) max_candidates m route.now r.0.items r.1.moves r.1.tests r.1.swaps) }
     ensures same { IfOk result (λ r. IsPermutation route.now r.0.items) }
     ensures before { IfOk result (λ r. r.1.before ≡ pos (route_length (instance_of cvrp.now) route.now)) }
     ensures after { IfOk result (λ r. r.1.after ≡ pos (route_length (instance_of cvrp.now) r.0.items)) }
@@ -155,11 +158,11 @@ pub(crate) fn improve_route(
 ) -> Result<(Vec<u32>, Report), AllocError>
     requires known { All (IsCity (customer_count (instance_of cvrp.now))) route.now }
     requires some { 1 ≤ length route.now }
-    requires few { length route.now < 100000 }
+    requires few { length route.now < 5000 }
     requires candidates { (1 ≤ max_candidates) × (max_candidates ≤ 100) }
     requires most { (1 ≤ m) × (m ≤ 3) }
     ensures improved { IfOk result (λ r. IsImproved
-        (instance_of cvrp.now) max_candidates m route.now r.0.items r.1.moves r.1.tests) }
+        (instance_of cvrp.now) max_candidates m route.now r.0.items r.1.moves r.1.tests r.1.swaps) }
     ensures same { IfOk result (λ r. IsPermutation route.now r.0.items) }
     ensures before { IfOk result (λ r. r.1.before ≡ pos (route_length (instance_of cvrp.now) route.now)) }
     ensures after { IfOk result (λ r. r.1.after ≡ pos (route_length (instance_of cvrp.now) r.0.items)) }

@@ -43,6 +43,9 @@ impl Coordinates {
     ghost use Rattle.tk_sections.specs.Coordinates.{HasPlaces};
 
     /// Of n nodes, none of them placed.
+    ///
+    /// # Errors
+    /// `NoMemory` if there is no memory for n places.
     pub fn new(alloc: Global, n: u32) -> Result<Self, TextKind>
         ensures ok { IfOk result (λ s. HasPlaces n s []) }
         ensures err { IfErr result (λ k. k ≡ TextKind.NoMemory) }

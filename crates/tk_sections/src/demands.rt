@@ -38,6 +38,9 @@ impl Demands {
     ghost use Rattle.tk_sections.specs.Demands.{HasDemands};
 
     /// Of n nodes, none of them named.
+    ///
+    /// # Errors
+    /// `NoMemory` if there is no memory for n demands.
     pub fn new(alloc: Global, n: u32) -> Result<Self, TextKind>
         ensures ok { IfOk result (λ s. HasDemands n s []) }
         ensures err { IfErr result (λ k. k ≡ TextKind.NoMemory) }

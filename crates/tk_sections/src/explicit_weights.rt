@@ -29,6 +29,9 @@ impl ExplicitWeights {
     ghost use Rattle.tk_sections.specs.Weighing.{HasWeights};
 
     /// Of n cities, before the first weight.
+    ///
+    /// # Errors
+    /// `NoMemory` if there is no memory for n (n - 1) / 2 weights.
     pub fn new(alloc: Global, n: u32, format: Format) -> Result<Self, TextKind>
         requires { n ≤ 5000 }
         ensures ok { IfOk result (λ s. HasWeights n format s []) }

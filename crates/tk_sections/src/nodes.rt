@@ -27,6 +27,9 @@ impl Model for Nodes {
 
 impl Nodes {
     /// None of n nodes named.
+    ///
+    /// # Errors
+    /// `NoMemory` if there is no memory for n flags.
     pub fn new(alloc: Global, n: u32) -> Result<Self, TextKind>
         ensures ok { IfOk result (λ s. HasNamed n s []) }
         ensures err { IfErr result (λ k. k ≡ TextKind.NoMemory) }

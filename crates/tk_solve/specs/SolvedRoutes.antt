@@ -8,8 +8,7 @@ use Rattle.tk_route_search.specs.SavingsRoutes.{AreSavingsRoutes}
 use Rattle.tk_route_search.specs.declared.route_report.RouteReport.{RouteReport}
 
 -- The routes of the savings merges over near lists of the nodes, each then improved by itself by a descent with all its
--- nodes awake. `most` is the most swaps that the moves take. Each customer is on one route, no load is over the
--- capacity, and each move makes the cost less.
+-- nodes awake. Each customer is on one route, no load is over the capacity, and each move makes the cost less.
 pub record AreSolved (i : Instance) (candidates segment : ℕ) (routes : List (List ℕ))
     (report : RouteReport) : Type 0 where
   pub near : NearLists
@@ -18,9 +17,7 @@ pub record AreSolved (i : Instance) (candidates segment : ℕ) (routes : List (L
   pub width : near.width ≡ min candidates (i.size - 1)
   pub merged : List (List ℕ)
   pub savings : AreSavingsRoutes i (near_of near) merged
-  pub most : ℕ
-  pub improved : AreImproved i candidates segment merged routes report.moves report.tests most
-  pub swaps : report.swaps ≤ most
+  pub improved : AreImproved i candidates segment merged routes report.moves report.tests report.swaps
   pub before : report.before ≡ pos (routes_cost i merged)
   pub after : report.after ≡ pos (routes_cost i routes)
   pub valid : AreRoutes i routes

@@ -21,11 +21,11 @@ pub struct ArrayTour {
     copied: u64,
     ghost tour: { IsSizedTour order.items },
     ghost inverse: { IsInverse order.items place.items },
-    ghost fits: { (swaps < 2 ^ 64) × (undo_swaps < 2 ^ 64) },
+    ghost fits: { (swaps < 2 ^ 64) × (undo_swaps < 2 ^ 64) × (flips < 2 ^ 64) },
 }
 
 impl TourStore for ArrayTour {
-    ghost use Rattle.tk_stores.specs.ArrayTours.{order_of, swaps_of, flips_of, KeepsCounts, KeepsCounts-refl, KeepsCounts-trans};
+    ghost use Rattle.tk_stores.specs.ArrayTours.{order_of, swaps_of, flips_of, FlipsAlone, FlipsAlone-refl, FlipsAlone-trans};
 
     ghost cities = { order_of };
 
@@ -33,7 +33,7 @@ impl TourStore for ArrayTour {
 
     ghost flip_count = { flips_of };
 
-    ghost FlipsOnly = { KeepsCounts };
+    ghost FlipsOnly = { FlipsAlone };
 
     fn size(&self) -> u32 {
         self.order.len() as u32
@@ -84,9 +84,9 @@ impl TourStore for ArrayTour {
         }
     }
 
-    ghost flips_none = { KeepsCounts-refl };
+    ghost flips_none = { FlipsAlone-refl };
 
-    ghost flips_more = { KeepsCounts-trans };
+    ghost flips_more = { FlipsAlone-trans };
 
     ghost is_tour = { λ s. s.tour };
 }

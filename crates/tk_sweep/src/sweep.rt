@@ -198,6 +198,9 @@ fn sweep_by_x<P: Planar>(alloc: Global, m: &P, k: u32) -> Result<Near, AllocErro
 }
 
 /// The near lists by a sweep from each city to both sides, in the order of the coordinate that takes more room.
+///
+/// # Errors
+/// `AllocError` if there is no memory for the row, or for n lists of k cities.
 pub fn near_sweep<P: Planar>(alloc: Global, m: &P, k: u32) -> Result<Near, AllocError>
     requires low { 1 ≤ k }
     requires limit { k ≤ 100 }

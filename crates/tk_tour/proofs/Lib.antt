@@ -3,6 +3,7 @@ pub mod Cycle
 pub mod Lengths
 pub mod Once
 pub mod Placing
+pub mod Reversals
 pub mod SegmentMove
 pub mod Steps
 pub mod Tours

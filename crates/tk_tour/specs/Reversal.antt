@@ -1,5 +1,5 @@
 -- Places of a list, counted modulo its length, and their reversal.
-use Rattle.std.specs.Prelude.{◌≡◌, ℕ, ◌-◌, ◌<◌, ◌≤◌, List, ◌++◌, length, reverse, take, drop, slice_index}
+use Rattle.std.specs.Prelude.{◌≡◌, ℕ, ◌+◌, ◌-◌, ◌*◌, ◌/◌, ◌<◌, ◌≤◌, List, ◌++◌, length, reverse, take, drop, slice_index}
 
 -- xs begun at its k-th place, from 0
 abbrev pub begun_at : ℕ → List ℕ → List ℕ
@@ -12,6 +12,13 @@ reversed_front count xs = reverse (take count xs) ++ drop count xs
 -- `count` places from the k-th on, from 0 and modulo the length, in reverse order
 abbrev pub reversed_places : ℕ → ℕ → List ℕ → List ℕ
 reversed_places k count xs = begun_at (length xs - k) (reversed_front count (begun_at k xs))
+
+-- one list comes from another by so many reversals, each of at most half of the places, which take so many swaps in all
+pub data AreReversed (old : List ℕ) : List ℕ → ℕ → ℕ → Type 0 where
+  none : AreReversed old old 0 0
+  more : {new : List ℕ} {flips swaps : ℕ} (k count : ℕ) → AreReversed old new flips swaps →
+      k < length new → 2 * count ≤ length new →
+      AreReversed old (reversed_places k count new) (flips + 1) (swaps + count / 2)
 
 -- the place array tells where each city of the order stands
 abbrev pub IsInverse : List ℕ → List ℕ → Type 0

@@ -76,6 +76,9 @@ fn put_route_verdict<W: Sink>(pen: &mut Pen<'_, W>, verdict: RouteVerdict)
 }
 
 /// Writes the line that tells a verdict on routes.
+///
+/// # Errors
+/// That a write failed, and how many bytes of the line had gone out by then.
 pub fn write_route_verdict<W: Sink>(out: &mut W, verdict: RouteVerdict) -> Result<(), WriteFault>
     ensures text { Writes W.taken W.broken out.old out.new result (route_verdict_line verdict) }
     ensures failed { OnErr result (W.broken out.new ≡ true) }

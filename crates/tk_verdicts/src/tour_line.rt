@@ -87,6 +87,9 @@ fn put_verdict<W: Sink>(pen: &mut Pen<'_, W>, problem: &Problem, cities: &[u32],
 }
 
 /// Writes the line that tells a verdict.
+///
+/// # Errors
+/// That a write failed, and how many bytes of the line had gone out by then.
 pub fn write_verdict<W: Sink>(
     out: &mut W,
     problem: &Problem,

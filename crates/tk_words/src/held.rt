@@ -21,6 +21,7 @@ impl<const N: usize> Model for Held<N> {
 }
 
 impl<const N: usize> Held<N> {
+    /// No byte.
     pub fn new() -> Self
         ensures { result ≡ [] }
     {
@@ -30,6 +31,7 @@ impl<const N: usize> Held<N> {
         }
     }
 
+    /// Whether there is no room for another byte.
     pub fn is_full(&self) -> bool
         ensures full { result ≡ true → length self.now ≡ N }
         ensures not_full { result ≡ false → length self.now < N }
@@ -37,12 +39,14 @@ impl<const N: usize> Held<N> {
         self.len == N
     }
 
+    /// Lets all bytes go.
     pub fn clear(&mut self)
         ensures { self.new ≡ [] }
     {
         self.len = 0;
     }
 
+    /// Adds a byte.
     pub fn push(&mut self, byte: u8)
         requires { length self.old < N }
         ensures { self.new ≡ self.old ++ byte ∷ [] }
@@ -73,6 +77,7 @@ impl<const N: usize> Held<N> {
         }
     }
 
+    /// The bytes in their order.
     pub fn as_slice(&self) -> &[u8]
         ensures { result.now ≡ self.now }
     {
@@ -80,24 +85,28 @@ impl<const N: usize> Held<N> {
     }
 }
 
+/// Whether a byte is a space, a tab or a carriage return.
 pub fn blank(byte: u8) -> bool
     ensures { result ≡ is_blank byte }
 {
     byte == b' ' || byte == b'\t' || byte == b'\r'
 }
 
+/// Whether a byte is an ASCII letter.
 pub fn letter(byte: u8) -> bool
     ensures { result ≡ is_letter byte }
 {
     (b'A' <= byte && byte <= b'Z') || (b'a' <= byte && byte <= b'z')
 }
 
+/// Whether a byte may stand in a word: a letter, a digit or `_`.
 pub fn word_byte(byte: u8) -> bool
     ensures { result ≡ is_word_byte byte }
 {
     letter(byte) || byte.is_ascii_digit() || byte == b'_'
 }
 
+/// Whether a byte ends a token: a blank or a line feed.
 pub fn blank_or_end(byte: u8) -> bool
     ensures { result ≡ (is_blank byte || byte == 10) }
 {

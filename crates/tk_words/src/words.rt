@@ -55,6 +55,7 @@ fn section_word(bytes: &[u8]) -> Option<Keyword>
     rest_word(bytes)
 }
 
+/// The keyword that a word spells, without regard to case.
 #[tactic(auto, unfolding(crate::specs::Words::keyword_of))]
 pub fn keyword_of(bytes: &[u8]) -> Option<Keyword>
     ensures { result ≡ Words.keyword_of bytes.now }

@@ -144,6 +144,9 @@ fn put_matrix<W: Sink, D: Fn(u32, u32) -> i64>(
 
 /// Writes a TSP with explicit weights: the distances that `d` gives of the cities 1 to `n`.
 /// A reader gives back the name and these distances, where a problem can have them (`read_back`).
+///
+/// # Errors
+/// That a write failed, and how many bytes of the text had gone out by then.
 pub fn write_matrix<W: Sink, D: Fn(u32, u32) -> i64>(
     w: &mut W,
     name: &[u8],

@@ -41,6 +41,9 @@ fn put_solution<W: Sink>(pen: &mut Pen<'_, W>, routes: &[Vec<u32>], cost: u64)
 
 /// Writes routes, each a list of customers, and their cost. A reader gives back the same routes and the same cost,
 /// where a solution text can have them (`read_back`).
+///
+/// # Errors
+/// That a write failed, and how many bytes of the text had gone out by then.
 pub fn write_solution<W: Sink>(w: &mut W, routes: &[Vec<u32>], cost: i64) -> Result<(), WriteFault>
     requires { pos 0 ≤ℤ cost }
     ensures text { Writes W.taken W.broken w.old w.new result (solution_text (map

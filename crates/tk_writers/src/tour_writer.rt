@@ -45,6 +45,9 @@ fn put_tour<W: Sink>(pen: &mut Pen<'_, W>, name: &[u8], size: u64, cities: &[u32
 
 /// Writes a tour of an instance of this name: its length, and its cities in their order. A reader gives back the same
 /// cities, where a tour text can have them (`read_back`).
+///
+/// # Errors
+/// That a write failed, and how many bytes of the text had gone out by then.
 pub fn write_tour<W: Sink>(
     w: &mut W,
     name: &[u8],

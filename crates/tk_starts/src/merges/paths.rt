@@ -20,6 +20,9 @@ pub struct Paths {
 
 impl Paths {
     /// Each city as a path of its own.
+    ///
+    /// # Errors
+    /// `AllocError` if there is no memory for the ends and loads of n paths.
     pub fn new(alloc: Global, loads: &[u32]) -> Result<Paths, AllocError>
         requires { length loads.now ≤ 100000 }
         ensures sizes { IfOk result (λ p. (vec_len p.one ≡ length loads.now + 1)
@@ -134,6 +137,9 @@ impl Paths {
     }
 
     /// The path that begins at an end.
+    ///
+    /// # Errors
+    /// `AllocError` if there is no memory for the list.
     pub fn path(&self, alloc: Global, end: u32) -> Result<Vec<u32>, AllocError>
         requires sizes { vec_len self.now.two ≡ vec_len self.now.one }
         requires some { (xs : List ℕ) × IsWay (vec_len self.now.one - 1) (at self.now.one.items)
@@ -165,6 +171,9 @@ impl Paths {
     }
 
     /// The paths, but for that of the hub, from their smaller ends.
+    ///
+    /// # Errors
+    /// `AllocError` if there is no memory for the lists.
     pub fn lists(&self, alloc: Global, hub: u32) -> Result<Vec<Vec<u32>>, AllocError>
         requires sizes { (vec_len self.now.two ≡ vec_len self.now.one)
             × (vec_len self.now.other ≡ vec_len self.now.one) }

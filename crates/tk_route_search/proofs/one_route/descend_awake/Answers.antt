@@ -4,7 +4,7 @@ use Rattle.tk_tour.specs.Tour.{IsTour}
 use Rattle.tk_stores.specs.ArrayTours.{order_of}
 use Rattle.tk_descent.specs.Awake.{one_to}
 use Rattle.tk_descent.proofs.WakeRuns.Woken.{one_to-length}
-use Rattle.tk_route_search.proofs.DescendedRoutes.{queue_length, Pass-from}
+use Rattle.tk_route_search.proofs.DescendedRoutes.{IsFlipped-counted, Pass-from, few_moves, queue_length}
 use Rattle.tk_route_search.proofs.Renumbered.{All-one_to}
 use Rattle.tk_route_search.proofs.one_route.descend_awake.Goals as goal
 
@@ -48,3 +48,18 @@ returns-clause-swaps g c =
     let n : ℕ = g.M.Metric.size_of c.args.metric.now in
     let start : order_of c.in-Ok.tour ≡ one_to n = c.in-Ok.ensures.order ∙ c.deref.ensures.value ∙ c.in_ok-places.ensures ∙ ap one_to c.size-n.ensures in
     subst (λ (v : ℕ). c.descend-report.result.swaps ≤ 3 * (v / 4) * c.descend-report.result.moves) (ap length start ∙ one_to-length n) c.descend-report.ensures.swaps
+
+pub returns-clause-flipped : goal.returns-clause-flipped
+returns-clause-flipped g c =
+    let n : ℕ = g.M.Metric.size_of c.args.metric.now in
+    let d : ℕ → ℕ → ℕ = g.M.Metric.distance c.args.metric.now in
+    let start : order_of c.in-Ok.tour ≡ one_to n = c.in-Ok.ensures.order ∙ c.deref.ensures.value ∙ c.in_ok-places.ensures ∙ ap one_to c.size-n.ensures in
+    let size : length (order_of c.in-Ok.tour) ≡ n = ap length start ∙ one_to-length n in
+    let moves : ℕ = c.descend-report.result.moves in
+    let swaps : ℕ = c.descend-report.result.swaps in
+    let made = c.descend-report.ensures in
+    let most : swaps ≤ 3 * (n / 4) * moves = subst (λ (v : ℕ). swaps ≤ 3 * (v / 4) * moves) size made.swaps in
+    let small = few_moves d _ n moves (order_of c.in-Ok.tour) (order_of c.descend-report.new.tour) c.new-gains.ensures.table size c.requires.few
+    (g.met.M.Metric.distance_limit c.args.metric.now) made.moves in
+    IsFlipped-counted n moves swaps c.in-Ok.tour c.descend-report.new.tour start made.flips_only c.in-Ok.ensures.counts.2 c.in-Ok.ensures.counts.0
+    made.flips made.swapped most c.requires.few small

@@ -37,8 +37,9 @@ returns-clause-improved g c =
     let given : ℕ → ℕ → ℕ = g.M.Metric.distance c.args.metric.now in
     let distances : given ≡ place_distance i.distance (route_nodes i route) = c.requires.distances in
     let width : c.in_ok-near.near.width ≡ min c.args.max_candidates (length route) = c.in_ok-near.ensures.width ∙ c.min.ensures in
-    IsImproved-read i c.args.max_candidates c.args.m route new T T given (g.M.Metric.size_of c.args.metric.now) c.in_ok-near.near c.in_ok-tour.report.looks c.in_ok-tour.report.moves c.in_ok-tour.report.tests
-    distances size c.in_ok-near.ensures.size width c.in_ok-near.ensures.near c.in_ok-tour.ensures.pass (inl (IsRotation-refl T)) read
+    IsImproved-read i c.args.max_candidates c.args.m route new T T given (g.M.Metric.size_of c.args.metric.now) c.in_ok-near.near c.in_ok-tour.report.looks c.in_ok-tour.report.moves c.in_ok-tour.report.tests c.in_ok-tour.report.swaps
+    distances size c.in_ok-near.ensures.size width c.in_ok-near.ensures.near c.in_ok-tour.ensures.pass c.in_ok-tour.ensures.flipped c.in_ok-tour.ensures.swaps
+    (inl (IsRotation-refl T)) read
 
 pub returns-clause-same : goal.returns-clause-same
 returns-clause-same g c =

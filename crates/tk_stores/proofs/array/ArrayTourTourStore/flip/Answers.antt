@@ -1,9 +1,10 @@
-use Rattle.std.proofs.Common.{◌<◌, ◌≤◌, ◌+◌, ◌-◌, ◌*◌, length, arith}
+use Rattle.std.proofs.Common.{◌<◌, ◌≤◌, ◌+◌, ◌-◌, ◌*◌, ◌/◌, length, arith, rules}
 use Rattle.tk_stores.proofs.Places.{reversed_places-undone}
 use Rattle.std.proofs.Common.{◌≡◌, sym, ap, ◌∙◌, subst, ℕ, List}
 use Rattle.tk_tour.specs.Moves.{IsShorterSide, ReplacesSteps}
 use Rattle.tk_tour.specs.Tour.{next_city}
 use Rattle.tk_tour.specs.Reversal.{reversed_places}
+use Rattle.tk_tour.proofs.Reversals.{AreReversed-one}
 use Rattle.tk_stores.proofs.Cuts.{TwoOptMove-from_steps}
 use Rattle.tk_stores.proofs.Flips.{backward, only_backward, ReplacesSteps-backward, IsShorterSide-backward}
 use Rattle.tk_stores.proofs.array.ArrayTourTourStore.flip.Goals as goal
@@ -67,3 +68,24 @@ returns-clause-places c =
     let count = c.if-next-b.first.1 in
     let e : first + 1 - 1 ≡ first = omega arith in
     c.reverse.ensures.order ∙ ap (λ v. reversed_places v count xs) (sym e)
+
+pub returns-clause-kept : goal.returns-clause-kept
+returns-clause-kept c =
+    let xs = c.args.self.now.order.items in
+    let ys = c.reverse.new.self.order.items in
+    let first = c.if-next-b.first.0 in
+    let count = c.if-next-b.first.1 in
+    let bounds : (first < length xs) × (2 * count ≤ length xs) =
+    elim c.if-next-b.branch [
+      | then-next-b+then-next-d w ↦ let k = w.shorter_side.ensures in (omega (arith, ap (λ v. v.0) w.first-is, k.within), omega (arith, ap (λ v. v.1) w.first-is, k.shorter))
+      | else-next-b w ↦ let k = w.shorter_side-else-next-b.ensures in (omega (arith, ap (λ v. v.0) w.first-is, k.within), omega (arith, ap (λ v. v.1) w.first-is, k.shorter))
+    ] in
+    record {
+      flips = 1;
+      swaps = count / 2;
+      reversed = AreReversed-one xs ys first count c.reverse.ensures.order bounds.0 bounds.1;
+      flips_are = search rules;
+      swaps_are = search rules;
+      undo_swaps = c.reverse.ensures.counts.1;
+      copied = c.reverse.ensures.counts.3;
+    }
