@@ -4,8 +4,8 @@ use Rattle.tk_metric.specs.Cities.{IsCity}
 use Rattle.tk_descent.specs.Offers.{or_offers, IsSegmentIn}
 use Rattle.tk_descent.specs.declared.offer.Offer.{Offer}
 use Rattle.tk_descent.specs.declared.offer.Segment.{Segment}
-use Rattle.tk_descent.specs.declared.sharing.Beside.{Beside}
-use Rattle.tk_descent.specs.declared.sharing.Piece.{Piece}
+use Rattle.tk_descent.specs.declared.looks.sharing.Beside.{Beside}
+use Rattle.tk_descent.specs.declared.looks.sharing.Piece.{Piece}
 
 -- a city among n and its neighbours, with their distances
 abbrev pub IsBeside : ℕ → (ℕ → ℕ → ℕ) → Beside → Type 0

@@ -7,7 +7,7 @@ ghost use Rattle.tk_descent.specs.Offers.{gain, offers, Searched, EndsIn};
 ghost use Rattle.tk_descent.specs.Machine.{IsOfferOn};
 ghost use Rattle.tk_descent.specs.declared.offer.Offer.TheVariants.{Two, Or};
 
-use crate::listing::offers_with;
+use crate::looks::listing::offers_with;
 use crate::offer::{Found, Offer};
 use tk_near::Near;
 use tk_tour::TourStore;

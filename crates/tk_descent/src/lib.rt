@@ -4,21 +4,18 @@
 mod descent;
 mod gains;
 pub mod laws;
-mod listing;
-mod looking;
+mod looks;
 mod making;
 mod offer;
 mod on_tour;
 mod optimum;
 mod probe;
-mod segments;
-mod sharing;
 mod sweep;
 mod waking;
 
 pub use descent::{Report, descend};
 pub use gains::Gains;
-pub use looking::look;
+pub use looks::looking::look;
 pub use making::make;
 pub use offer::{Found, Offer};
 pub use optimum::is_local_optimum;

@@ -3,7 +3,7 @@ ghost use Rattle.std.specs.Prelude.{◌≡◌, ◌≤◌, ◌↔◌, IsTrue, len
 ghost use Rattle.tk_near.specs.Near.{near_of};
 ghost use Rattle.tk_descent.specs.WakeMachine.{IsLocalOptimum};
 
-use crate::looking::look;
+use crate::looks::looking::look;
 use crate::on_tour::size;
 use crate::probe::Probe;
 use tk_metric::Metric;

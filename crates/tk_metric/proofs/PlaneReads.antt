@@ -13,8 +13,8 @@ use Rattle.tk_problem.specs.Places.{origin, place_of_whole}
 use Rattle.tk_problem.specs.PlacesOf.{places_of}
 use Rattle.tk_metric.specs.Cities.{IsCity}
 use Rattle.tk_metric.specs.Distance.{IsDistanceOf, IsGreatest, RootReaches, gap, square_sum}
-use Rattle.tk_metric.specs.DistanceLaws.{distance_at-is}
-use Rattle.tk_metric.specs.PlaneLaws.{distance_of-unique, gap-scaled, whole_places}
+use Rattle.tk_metric.specs.Laws.Distances.{distance_at-is}
+use Rattle.tk_metric.specs.Laws.Planes.{distance_of-unique, gap-scaled, whole_places}
 use Rattle.tk_metric.specs.PlaneOf.{city_place, city_distance, IsCityDistance}
 
 city_place-whole : (places : Places) (ws : Bor (List WholePoint)) (c : ℕ) (p : WholePoint) → places ≡ Whole ws

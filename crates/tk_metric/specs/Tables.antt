@@ -3,9 +3,9 @@ use Rattle.std.specs.Prelude.{◌≡◌, ◌≤◌, ℕ, length}
 use Rattle.tk_problem.specs.PlacesOf.{places_of}
 use Rattle.tk_metric.specs.declared.table.Table.{Table}
 use Rattle.tk_metric.specs.declared.table.Table.TheVariants.{Planes, Triangle}
-use Rattle.tk_metric.specs.PlaneLaws.{distance_of-swap, distance_of-same, city_distance-limit}
+use Rattle.tk_metric.specs.Laws.Planes.{distance_of-swap, distance_of-same, city_distance-limit}
 use Rattle.tk_metric.specs.PlaneOf.{city_place, city_distance}
-use Rattle.tk_metric.specs.WeightLaws.{weight_between-swap, weight_between-same, weight_between-limit, few_cities}
+use Rattle.tk_metric.specs.Laws.Weights.{weight_between-swap, weight_between-same, weight_between-limit, few_cities}
 use Rattle.tk_metric.specs.Weights.{weight_between}
 
 -- how many cities a table has

@@ -13,8 +13,8 @@ use Rattle.tk_problem.specs.Places.{place_of_whole}
 use Rattle.tk_problem.specs.PlacesOf.{places_of}
 use Rattle.tk_metric.specs.Distance.{gap, RootReaches, square_sum}
 use Rattle.tk_metric.specs.PlaneDistance.{distance_at}
-use Rattle.tk_metric.specs.DistanceLaws.{distance_at-is}
-use Rattle.tk_metric.specs.PlaneLaws.{floor-bounds, floor-bounds_y, gap-scaled}
+use Rattle.tk_metric.specs.Laws.Distances.{distance_at-is}
+use Rattle.tk_metric.specs.Laws.Planes.{floor-bounds, floor-bounds_y, gap-scaled}
 use Rattle.tk_metric.specs.PlaneOf.{city_place, city_distance}
 
 abbrev pub whole_origin : WholePoint

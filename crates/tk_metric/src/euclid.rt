@@ -21,7 +21,7 @@ pub struct Euclid<'a> {
 impl Metric for Euclid<'_> {
     ghost use Rattle.tk_problem.specs.declared.weights.PlaneKind.TheVariants.{Euc2d};
     ghost use Rattle.tk_metric.specs.PlaneOf.{city_place, city_distance};
-    ghost use Rattle.tk_metric.specs.PlaneLaws.{distance_of-swap, distance_of-same, city_distance-limit};
+    ghost use Rattle.tk_metric.specs.Laws.Planes.{distance_of-swap, distance_of-same, city_distance-limit};
 
     ghost size_of = { λ m. length (places_of (Whole m.places)) };
 

@@ -54,7 +54,7 @@ impl Metric for Planes<'_> {
     ghost use Rattle.std.specs.Int.RustNames.{unsigned_abs};
     ghost use Rattle.tk_metric.specs.Cities.{IsCity};
     ghost use Rattle.tk_metric.specs.PlaneOf.{city_place, city_distance, IsCityDistance};
-    ghost use Rattle.tk_metric.specs.PlaneLaws.{distance_of-swap, distance_of-same, city_distance-limit};
+    ghost use Rattle.tk_metric.specs.Laws.Planes.{distance_of-swap, distance_of-same, city_distance-limit};
 
     ghost size_of = { λ m. length (places_of m.places) };
 
@@ -111,7 +111,7 @@ pub fn bound_of(limit: i64) -> u64
 impl Planar for Planes<'_> {
     ghost use Rattle.tk_metric.specs.PlaneDistance.{distance_at};
     ghost use Rattle.tk_metric.specs.PlaneOf.{city_place};
-    ghost use Rattle.tk_metric.specs.PlaneLaws.{city_gap-limit, city_gap_y-limit, floor-rises, floor-bounds, floor-bounds_y};
+    ghost use Rattle.tk_metric.specs.Laws.Planes.{city_gap-limit, city_gap_y-limit, floor-rises, floor-bounds, floor-bounds_y};
 
     ghost place_of = { λ m c. city_place (places_of m.places) c };
 

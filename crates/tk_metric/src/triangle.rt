@@ -17,7 +17,7 @@ impl Metric for Triangle<'_> {
     ghost use Rattle.std.specs.Prelude.{◌≤◌};
     ghost use Rattle.std.proofs.Common.{arith};
     ghost use Rattle.tk_metric.specs.Weights.{weight_between};
-    ghost use Rattle.tk_metric.specs.WeightLaws.{weight_between-swap, weight_between-same, weight_between-limit, few_cities};
+    ghost use Rattle.tk_metric.specs.Laws.Weights.{weight_between-swap, weight_between-same, weight_between-limit, few_cities};
 
     ghost size_of = { λ m. m.n };
 

@@ -8,15 +8,11 @@ mod faults;
 #[cfg(test)]
 mod harness;
 #[cfg(test)]
-mod matrices;
-#[cfg(test)]
 mod numbers;
 #[cfg(test)]
 mod points;
 #[cfg(test)]
 mod problem_texts;
-#[cfg(test)]
-mod read_back;
 #[cfg(test)]
 mod solutions;
 #[cfg(test)]
@@ -24,4 +20,4 @@ mod tours;
 #[cfg(test)]
 mod weight_orders;
 #[cfg(test)]
-mod writers;
+mod written;

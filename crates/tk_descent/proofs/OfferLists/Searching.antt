@@ -9,8 +9,8 @@ use Rattle.std.proofs.lemmas.List.Elements.{All-cons, All-nil}
 use Rattle.tk_tour.specs.Counters.{saturated}
 use Rattle.tk_descent.specs.Offers.{first_gain, tests_to, Searched, improves, or_offers, offers_with, segments, segment_count, all_segments}
 use Rattle.tk_descent.specs.Sharing.{segment_of, piece_offers}
-use Rattle.tk_descent.specs.declared.sharing.Beside.{Beside}
-use Rattle.tk_descent.specs.declared.sharing.Piece.{Piece}
+use Rattle.tk_descent.specs.declared.looks.sharing.Beside.{Beside}
+use Rattle.tk_descent.specs.declared.looks.sharing.Piece.{Piece}
 use Rattle.tk_descent.specs.declared.offer.Offer.TheVariants.{Two}
 use Rattle.tk_descent.specs.declared.offer.Segment.{Segment}
 use Rattle.tk_descent.specs.declared.offer.Offer.{Offer}

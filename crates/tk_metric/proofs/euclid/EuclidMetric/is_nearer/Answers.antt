@@ -4,7 +4,7 @@ use Rattle.tk_problem.specs.PlacesOf.{places_of}
 use Rattle.tk_problem.specs.declared.points.Places.TheVariants.{Whole}
 use Rattle.tk_problem.specs.declared.weights.PlaneKind.TheVariants.{Euc2d}
 use Rattle.tk_metric.specs.PlaneOf.{city_distance}
-use Rattle.tk_metric.specs.PlaneLaws.{city_distance-limit}
+use Rattle.tk_metric.specs.Laws.Planes.{city_distance-limit}
 use Rattle.tk_metric.proofs.PlaneReads.{whole_city_distance}
 use Rattle.tk_metric.proofs.euclid.EuclidMetric.is_nearer.Goals as goal
 

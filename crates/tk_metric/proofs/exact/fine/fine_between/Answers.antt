@@ -1,5 +1,5 @@
 use Rattle.std.proofs.Common.{rules}
-use Rattle.tk_metric.specs.PlaneLaws.{IsDistanceOf-limit}
+use Rattle.tk_metric.specs.Laws.Planes.{IsDistanceOf-limit}
 use Rattle.tk_metric.proofs.exact.fine.fine_between.Goals as goal
 
 pub returns-clause-limit : goal.returns-clause-limit

@@ -2,7 +2,7 @@ use Rattle.std.proofs.Common.{◌≡◌, arith}
 use Rattle.std.proofs.lemmas.Int.{ints}
 use Rattle.tk_problem.specs.Places.{place_of_whole}
 use Rattle.tk_metric.specs.Distance.{gap}
-use Rattle.tk_metric.specs.PlaneLaws.{whole_places, place_of_whole-near, IsDistanceOf-limit}
+use Rattle.tk_metric.specs.Laws.Planes.{whole_places, place_of_whole-near, IsDistanceOf-limit}
 use Rattle.tk_metric.proofs.exact.whole.rarer_between.Goals as goal
 
 pub returns : goal.returns

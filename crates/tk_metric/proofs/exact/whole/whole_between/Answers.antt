@@ -1,5 +1,5 @@
 use Rattle.tk_problem.specs.Places.{place_of_whole}
-use Rattle.tk_metric.specs.PlaneLaws.{IsDistanceOf-limit, place_of_whole-near}
+use Rattle.tk_metric.specs.Laws.Planes.{IsDistanceOf-limit, place_of_whole-near}
 use Rattle.tk_metric.proofs.PlaneReads.{whole_euclid}
 use Rattle.tk_metric.proofs.exact.whole.whole_between.Goals as goal
 

@@ -2,7 +2,7 @@ use Rattle.std.proofs.Common.{rules, subst, pos, w64, SFits, ◌<◌, ◌<ℤ◌
 use Rattle.std.proofs.lemmas.Int.{to_z-of_z}
 use Rattle.tk_problem.specs.PlacesOf.{places_of}
 use Rattle.tk_metric.specs.PlaneOf.{city_distance}
-use Rattle.tk_metric.specs.PlaneLaws.{city_distance-limit}
+use Rattle.tk_metric.specs.Laws.Planes.{city_distance-limit}
 use Rattle.tk_metric.proofs.PlaneReads.{whole_city_distance, fine_city_distance}
 use Rattle.tk_metric.proofs.planes.PlanesMetric.is_nearer.Goals as goal
 

@@ -1,6 +1,6 @@
 use Rattle.std.proofs.Common.{arith}
 use Rattle.std.proofs.lemmas.Int.{ints}
-use Rattle.tk_metric.specs.DistanceLaws.{limit, distance-unique}
+use Rattle.tk_metric.specs.Laws.Distances.{limit, distance-unique}
 use Rattle.tk_metric.proofs.planes.PlanesPlanar.floor_x.Goals as goal
 
 pub overflow_cast-result : goal.overflow_cast-result

@@ -1,4 +1,4 @@
-use Rattle.tk_starts.proofs.Merging.PartsConnected.{IsConnected-from_part, part-from_connected}
+use Rattle.tk_starts.proofs.Merging.Parts.PartsConnected.{IsConnected-from_part, part-from_connected}
 use Rattle.tk_starts.proofs.merges.laws.parts_are_connected.Goals as goal
 
 pub returns : goal.returns

@@ -10,7 +10,7 @@ use Rattle.tk_starts.specs.Holding.{holds}
 use Rattle.tk_near.specs.Near.{near_of}
 use Rattle.tk_starts.specs.SavingPairs.{Before}
 use Rattle.tk_starts.specs.declared.merges.pairs.Pair.{Pair}
-use Rattle.tk_starts.proofs.Merging.PairsFound.{sound_more, kept, here_more, here_same, here_found, earlier_more, all_found, holds-at, Before-from_less, none_some, same_pair}
+use Rattle.tk_starts.proofs.Merging.Pairs.PairsFound.{sound_more, kept, here_more, here_same, here_found, earlier_more, all_found, holds-at, Before-from_less, none_some, same_pair}
 use Rattle.tk_starts.proofs.merges.pairs.candidate_pairs.Goals as goal
 use Rattle.tk_starts.proofs.merges.pairs.candidate_pairs.Goals.{in-Some+in_ok-push, in_default}
 

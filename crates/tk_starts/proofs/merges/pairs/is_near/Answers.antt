@@ -1,5 +1,5 @@
 use Rattle.std.proofs.Common.{eqb, ◌||◌, ◌∙◌, ap, sym, get_or}
-use Rattle.tk_starts.proofs.Merging.PairsFound.{holds-next}
+use Rattle.tk_starts.proofs.Merging.Pairs.PairsFound.{holds-next}
 use Rattle.tk_starts.proofs.merges.pairs.is_near.Goals as goal
 
 pub loop-city-preserved : goal.loop-city-preserved

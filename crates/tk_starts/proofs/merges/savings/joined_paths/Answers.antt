@@ -1,7 +1,7 @@
 use Rattle.std.proofs.Common.{◌≡◌, ℕ, ◌+◌, ◌-◌, ◌≤◌, ◌<◌, [], get_or, refl, sym, ◌∙◌, arith, Fits, w64}
 use Rattle.tk_starts.specs.PathEnds.{at}
 use Rattle.tk_starts.specs.declared.merges.pairs.Pair.{Pair}
-use Rattle.tk_starts.proofs.Merging.PairsMerged.{AreEnds-single, IsTaken-from, taken_step, left_step, going_ends}
+use Rattle.tk_starts.proofs.Merging.Pairs.PairsMerged.{AreEnds-single, IsTaken-from, taken_step, left_step, going_ends}
 use Rattle.tk_starts.proofs.merges.savings.joined_paths.Goals as goal
 use Rattle.tk_starts.proofs.merges.savings.joined_paths.Goals.{then-may_join, else-may_join}
 

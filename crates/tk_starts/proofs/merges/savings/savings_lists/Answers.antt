@@ -1,8 +1,8 @@
 use Rattle.std.proofs.Common.{◌≡◌, ℕ, ◌-◌, [], length, vec_len, subst, arith}
 use Rattle.tk_starts.specs.PathEnds.{AreJoined, load_of}
 use Rattle.tk_starts.specs.Joints.{joints}
-use Rattle.tk_starts.proofs.Merging.HubApart.{all_within, finished}
-use Rattle.tk_starts.proofs.Merging.SavingsLaws.{tour_of_lists, light_lists, filled_lists}
+use Rattle.tk_starts.proofs.Merging.Parts.HubApart.{all_within, finished}
+use Rattle.tk_starts.proofs.Merging.Lists.SavingsLaws.{tour_of_lists, light_lists, filled_lists}
 use Rattle.tk_starts.proofs.merges.savings.savings_lists.Goals as goal
 
 pub joined_paths-requires-clause-within : goal.joined_paths-requires-clause-within

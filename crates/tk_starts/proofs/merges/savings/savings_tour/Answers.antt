@@ -2,7 +2,7 @@ use Rattle.std.proofs.Common.{rules, ◌≡◌, ℕ, List, ◌∷◌, replicate,
 use Rattle.std.specs.List.{flat_map}
 use Rattle.std.proofs.lemmas.List.{take_all}
 use Rattle.tk_tour.specs.Tour.{IsTour}
-use Rattle.tk_starts.proofs.Merging.HubApart.{tour_made}
+use Rattle.tk_starts.proofs.Merging.Parts.HubApart.{tour_made}
 use Rattle.tk_starts.proofs.merges.savings.savings_tour.Goals as goal
 
 pub returns-clause-lists : goal.returns-clause-lists

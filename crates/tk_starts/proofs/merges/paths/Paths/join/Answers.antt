@@ -1,5 +1,5 @@
 use Rattle.tk_starts.specs.PathEnds.{at}
-use Rattle.tk_starts.proofs.Merging.PathLists.{IsLinked-from_links}
+use Rattle.tk_starts.proofs.Merging.Paths.PathLists.{IsLinked-from_links}
 use Rattle.tk_starts.proofs.merges.paths.Paths.join.Goals as goal
 
 pub returns-clause-linked : goal.returns-clause-linked

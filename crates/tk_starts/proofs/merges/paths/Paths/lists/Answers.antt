@@ -2,7 +2,7 @@ use Rattle.std.proofs.Common.{◌-◌, vec_len, arith}
 use Rattle.std.proofs.lemmas.List.{map-append}
 use Rattle.tk_metric.specs.Cities.{IsCity}
 use Rattle.tk_starts.specs.PathEnds.{at}
-use Rattle.tk_starts.proofs.Merging.PathsRead.{AreRead-skip, AreRead-push, AreRead-end, begins, begins_not, IsWay-from_path}
+use Rattle.tk_starts.proofs.Merging.Paths.PathsRead.{AreRead-skip, AreRead-push, AreRead-end, begins, begins_not, IsWay-from_path}
 use Rattle.tk_starts.proofs.merges.paths.Paths.lists.Goals as goal
 use Rattle.tk_starts.proofs.merges.paths.Paths.lists.Goals.{then-begins_list+in_ok-list+in_ok-push, else-begins_list}
 

@@ -2,7 +2,7 @@ use Rattle.std.proofs.Common.{◌≡◌, ℕ, ◌-◌, List, map, vec_len}
 use Rattle.tk_starts.specs.PathEnds.{at, AreJoined}
 use Rattle.tk_starts.specs.Joints.{joints_at}
 use Rattle.tk_starts.specs.declared.merges.pairs.Pair.{Pair}
-use Rattle.tk_starts.proofs.Merging.PathsRead.{AreRead}
+use Rattle.tk_starts.proofs.Merging.Paths.PathsRead.{AreRead}
 use Rattle.tk_starts.proofs.merges.paths.Paths.lists.Given as goal
 
 abbrev pub invariant-loop-c : goal.invariant-loop-c

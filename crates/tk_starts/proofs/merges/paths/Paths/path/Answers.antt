@@ -1,6 +1,6 @@
 use Rattle.std.proofs.Common.{arith}
 use Rattle.tk_starts.specs.PathEnds.{at}
-use Rattle.tk_starts.proofs.Merging.PathWalked.{OnWay-init, OnWay-city, OnWay-more, OnWay-end}
+use Rattle.tk_starts.proofs.Merging.Paths.PathWalked.{OnWay-init, OnWay-city, OnWay-more, OnWay-end}
 use Rattle.tk_starts.proofs.merges.paths.Paths.path.Goals as goal
 
 pub loop-c-init : goal.loop-c-init

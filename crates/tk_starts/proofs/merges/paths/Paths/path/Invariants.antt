@@ -1,6 +1,6 @@
 use Rattle.std.proofs.Common.{◌-◌, vec_len}
 use Rattle.tk_starts.specs.PathEnds.{at}
-use Rattle.tk_starts.proofs.Merging.PathWalked.{OnWay}
+use Rattle.tk_starts.proofs.Merging.Paths.PathWalked.{OnWay}
 use Rattle.tk_starts.proofs.merges.paths.Paths.path.Given as goal
 
 abbrev pub invariant-loop-c : goal.invariant-loop-c

@@ -1,0 +1,211 @@
+//! A look at a city goes through its offers in order.
+ghost use Rattle.std.specs.Prelude.{◌≡◌, ◌≤◌, ◌<◌, [], ◌∷◌, length, flat_map, All, IfSome, None, ◌+◌, ◌*◌, pos, true, false};
+ghost use Rattle.tk_near.specs.Near.{near_of};
+ghost use Rattle.tk_tour.specs.Counters.{saturated};
+ghost use Rattle.tk_descent.specs.Offers.{covers, Searched, or_offer, offers, EndsIn, segment_count, first_gain, tests_to};
+ghost use Rattle.tk_descent.specs.Sharing.{IsBeside, IsPiece, piece_offers, two_margin, or_margin};
+ghost use Rattle.tk_metric.specs.Cities.{IsCity};
+ghost use Rattle.tk_descent.specs.Machine.{IsOfferOn};
+ghost use Rattle.tk_descent.specs.WakeMachine.{HasNoOffer};
+ghost use Rattle.tk_descent.specs.declared.offer.Offer.TheVariants.{Two, Or};
+
+use crate::gains::Gains;
+use crate::looks::segments::segment_count;
+use crate::looks::sharing::{Beside, Piece, look_beside, pieces_of};
+use crate::offer::{Found, Offer, Segment};
+use crate::on_tour::size;
+use tk_metric::Metric;
+use tk_near::Near;
+use tk_tour::TourStore;
+
+/// Tests a 2-opt offer; a gain is what is left of `margin` once the step b-d is added.
+#[inline(always)]
+fn try_two<M: Metric>(
+    metric: &M,
+    count: &mut u64,
+    a: u32,
+    b: u32,
+    c: u32,
+    d: u32,
+    margin: i64,
+) -> Option<Found>
+    requires cities { EndsIn (M.size_of metric.now) (Two a b c d) }
+    requires margin { margin ≡ two_margin (M.distance metric.now) a b c d }
+    ensures { Searched (M.distance metric.now) (Two a b c d ∷ []) result count.old count.new }
+{
+    *count = count.saturating_add(1);
+    if !metric.is_nearer(b, d, margin) {
+        return None;
+    }
+    Some(Found {
+        offer: Offer::Two { a, b, c, d },
+        gain: margin - metric.dist(b, d),
+    })
+}
+
+/// Tests the Or-offer of a segment between y and w, where neither lies in it; a gain is what is left of `margin` once
+/// the step from the segment's last city to w is added.
+#[inline(always)]
+fn try_or<M: Metric>(
+    metric: &M,
+    count: &mut u64,
+    x: u32,
+    y: u32,
+    segment: &Segment,
+    w: u32,
+    margin: i64,
+) -> Option<Found>
+    requires cities { IsCity (M.size_of metric.now) segment.now.last × IsCity (M.size_of metric.now) w }
+    requires margin { margin ≡ or_margin (M.distance metric.now) x y segment.now w }
+    ensures { Searched (M.distance metric.now) (or_offer x y segment.now w) result count.old count.new }
+{
+    let _counted = *count;
+    if segment.covers(x, y) || segment.covers(x, w) {
+        return None;
+    }
+    *count = count.saturating_add(1);
+    if !metric.is_nearer(segment.last, w, margin) {
+        return None;
+    }
+    Some(Found {
+        offer: segment.offer(x, y, w),
+        gain: margin - metric.dist(segment.last, w),
+    })
+}
+
+/// What moving a segment between y and w gains before its step to w is paid; x-y and y-w have these distances.
+#[inline(always)]
+fn margin_of<M: Metric>(
+    metric: &M,
+    x: u32,
+    y: u32,
+    piece: &Piece,
+    w: u32,
+    across: i64,
+    beside: i64,
+) -> i64
+    requires piece { IsPiece (M.size_of metric.now) (M.distance metric.now) x piece.now }
+    requires across { across ≡ pos (M.distance metric.now x y) }
+    requires beside { beside ≡ pos (M.distance metric.now y w) }
+    ensures { result ≡ or_margin (M.distance metric.now) x y piece.now.segment w }
+{
+    piece.freed - across + beside
+}
+
+/// Tests the Or-offers of segments beside y.
+#[inline(always)]
+fn try_segments<M: Metric>(
+    metric: &M,
+    count: &mut u64,
+    x: u32,
+    pieces: &[Piece],
+    y: &Beside,
+    across: i64,
+) -> Option<Found>
+    requires city { IsCity (M.size_of metric.now) x }
+    requires pieces { All (IsPiece (M.size_of metric.now) (M.distance metric.now) x) pieces.now }
+    requires beside { IsBeside (M.size_of metric.now) (M.distance metric.now) y.now }
+    requires across { across ≡ pos (M.distance metric.now x y.now.city) }
+    ensures { Searched (M.distance metric.now) (flat_map (piece_offers x y.now) pieces.now) result count.old count.new }
+{
+    let _counted = *count;
+    for piece in pieces {
+        let margin = margin_of(metric, x, y.city, piece, y.after, across, y.to_after);
+        if let Some(found) = try_or(metric, count, x, y.city, &piece.segment, y.after, margin) {
+            return Some(found);
+        }
+        let margin = margin_of(metric, x, y.city, piece, y.before, across, y.to_before);
+        if let Some(found) = try_or(metric, count, x, y.city, &piece.segment, y.before, margin) {
+            return Some(found);
+        }
+    }
+    None
+}
+
+/// Tests the offers of x with y.
+#[inline(always)]
+fn try_city<M: Metric>(
+    metric: &M,
+    count: &mut u64,
+    x: &Beside,
+    pieces: &[Piece],
+    y: &Beside,
+) -> Option<Found>
+    requires from { IsBeside (M.size_of metric.now) (M.distance metric.now) x.now }
+    requires pieces { All (IsPiece (M.size_of metric.now) (M.distance metric.now) x.now.city) pieces.now }
+    requires beside { IsBeside (M.size_of metric.now) (M.distance metric.now) y.now }
+    ensures { Searched (M.distance metric.now)
+        (Two x.now.city x.now.after y.now.city y.now.after ∷ Two x.now.city x.now.before y.now.city y.now.before
+        ∷ flat_map (piece_offers x.now.city y.now) pieces.now) result count.old count.new }
+{
+    let across = metric.dist(x.city, y.city);
+    let margin = x.to_after + y.to_after - across;
+    if let Some(found) = try_two(metric, count, x.city, x.after, y.city, y.after, margin) {
+        return Some(found);
+    }
+    let margin = x.to_before + y.to_before - across;
+    if let Some(found) = try_two(metric, count, x.city, x.before, y.city, y.before, margin) {
+        return Some(found);
+    }
+    try_segments(metric, count, x.city, pieces, y, across)
+}
+
+/// Looks at a city: its first offer with positive gain, and the gain. It adds the tests to the count.
+pub(crate) fn find_offer<S: TourStore, M: Metric>(
+    tour: &S,
+    metric: &M,
+    count: &mut u64,
+    near: &Near,
+    or_segment: u32,
+    city: u32,
+) -> Option<Found>
+    requires fits { (M.size_of metric.now ≡ length (S.cities tour.now)) × (near.now.size ≡ length (S.cities tour.now)) }
+    requires city { IsCity (length (S.cities tour.now)) city }
+    requires most { (1 ≤ or_segment) × (or_segment ≤ 3) }
+    ensures searched { Searched (M.distance metric.now)
+        (offers (S.cities tour.now) or_segment (near_of near.now city) city) result count.old count.new }
+    ensures on_cycle { IfSome result (λ f. IsOfferOn or_segment f.offer (S.cities tour.now)
+        × EndsIn (length (S.cities tour.now)) f.offer) }
+    ensures bound { count.new ≤ count.old + 4 * or_segment * near.now.width }
+{
+    let _counted = *count;
+    let from = look_beside(tour, metric, city);
+    let all = pieces_of(tour, metric, &from);
+    let pieces = &all[..segment_count(size(tour), or_segment)];
+    for y in near.of(city) {
+        let y = look_beside(tour, metric, *y);
+        if let Some(found) = try_city(metric, count, &from, pieces, &y) {
+            return Some(found);
+        }
+    }
+    None
+}
+
+/// Looks at a city: its first offer with positive gain.
+pub fn look<S: TourStore, G: Gains>(
+    tour: &S,
+    gains: &mut G,
+    near: &Near,
+    or_segment: u32,
+    city: u32,
+) -> Option<Offer>
+    requires fits { (G.size_of gains.old ≡ length (S.cities tour.now)) × (near.now.size ≡ length (S.cities tour.now)) }
+    requires city { IsCity (length (S.cities tour.now)) city }
+    requires most { (1 ≤ or_segment) × (or_segment ≤ 3) }
+    ensures first { result ≡ first_gain (G.distance gains.old)
+        (offers (S.cities tour.now) or_segment (near_of near.now city) city) }
+    ensures tests { G.test_count gains.new
+        ≡ saturated (G.test_count gains.old + tests_to (G.distance gains.old)
+        (offers (S.cities tour.now) or_segment (near_of near.now city) city)) }
+    ensures on_cycle { IfSome result (λ o. IsOfferOn or_segment o (S.cities tour.now)
+        × EndsIn (length (S.cities tour.now)) o) }
+    ensures none { result ≡ None → HasNoOffer (G.distance gains.old) (near_of near.now) or_segment city
+        (S.cities tour.now) }
+    ensures bound { G.test_count gains.new ≤ G.test_count gains.old + 4 * or_segment * near.now.width }
+    ensures same { (G.distance gains.new ≡ G.distance gains.old) × (G.size_of gains.new ≡ G.size_of gains.old) }
+{
+    match gains.find_offer(tour, near, or_segment, city) {
+        Some(found) => Some(found.offer),
+        None => None,
+    }
+}

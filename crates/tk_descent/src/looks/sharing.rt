@@ -1,0 +1,111 @@
+//! What the gains of a look share.
+ghost use Rattle.std.specs.Prelude.{◌≡◌, ◌+◌, All, length, map, pos};
+ghost use Rattle.tk_metric.specs.Cities.{IsCity};
+ghost use Rattle.tk_tour.specs.Tour.{next_city, prev_city};
+ghost use Rattle.tk_descent.specs.Offers.{IsSegmentIn, all_segments};
+ghost use Rattle.tk_descent.specs.Sharing.{IsBeside, IsPiece, segment_of};
+
+use crate::looks::segments::segments_of;
+use crate::offer::Segment;
+use crate::on_tour::{next, prev};
+use tk_metric::Metric;
+use tk_tour::TourStore;
+
+/// A city with its neighbours on the tour, and how far they are.
+#[derive(Clone, Copy)]
+pub(crate) struct Beside {
+    pub city: u32,
+    pub after: u32,
+    pub before: u32,
+    pub to_after: i64,
+    pub to_before: i64,
+}
+
+/// A segment from some x, and what the tour becomes shorter by where it is taken out.
+#[derive(Clone, Copy)]
+pub(crate) struct Piece {
+    pub segment: Segment,
+    pub freed: i64,
+}
+
+/// A city with its neighbours.
+#[inline]
+pub(crate) fn look_beside<S: TourStore, M: Metric>(tour: &S, metric: &M, c: u32) -> Beside
+    requires size { M.size_of metric.now ≡ length (S.cities tour.now) }
+    requires city { IsCity (length (S.cities tour.now)) c }
+    ensures city { result.city ≡ c }
+    ensures after { result.after ≡ next_city (S.cities tour.now) c }
+    ensures before { result.before ≡ prev_city (S.cities tour.now) c }
+    ensures shared { IsBeside (M.size_of metric.now) (M.distance metric.now) result }
+{
+    let (after, before) = (next(tour, c), prev(tour, c));
+    Beside {
+        city: c,
+        after,
+        before,
+        to_after: metric.dist(c, after),
+        to_before: metric.dist(c, before),
+    }
+}
+
+/// A segment from x, whose ends are `begin` and `end` from the cities beside it.
+#[inline]
+fn measure_piece<M: Metric>(metric: &M, x: u32, begin: i64, end: i64, segment: Segment) -> Piece
+    requires city { IsCity (M.size_of metric.now) x }
+    requires segment { IsSegmentIn (M.size_of metric.now) segment }
+    requires begin { begin ≡ pos (M.distance metric.now segment.before x) }
+    requires end { end ≡ pos (M.distance metric.now segment.last segment.after) }
+    ensures segment { result.segment ≡ segment }
+    ensures shared { IsPiece (M.size_of metric.now) (M.distance metric.now) x result }
+{
+    Piece {
+        segment,
+        freed: begin + end - metric.dist(segment.before, segment.after),
+    }
+}
+
+/// The segments that begin at x, each with what it frees.
+#[inline]
+pub(crate) fn pieces_of<S: TourStore, M: Metric>(tour: &S, metric: &M, x: &Beside) -> [Piece; 5]
+    requires size { M.size_of metric.now ≡ length (S.cities tour.now) }
+    requires after { x.now.after ≡ next_city (S.cities tour.now) x.now.city }
+    requires before { x.now.before ≡ prev_city (S.cities tour.now) x.now.city }
+    requires shared { IsBeside (M.size_of metric.now) (M.distance metric.now) x.now }
+    ensures value { map segment_of result
+        ≡ all_segments (next_city (S.cities tour.now)) (prev_city (S.cities tour.now)) x.now.city }
+    ensures shared { All (IsPiece (M.size_of metric.now) (M.distance metric.now) x.now.city) result }
+{
+    let city = x.city;
+    let [one, two, two_back, three, three_back] = segments_of(tour, city, x.after, x.before);
+    [
+        measure_piece(metric, city, x.to_before, x.to_after, one),
+        measure_piece(
+            metric,
+            city,
+            x.to_before,
+            metric.dist(two.last, two.after),
+            two,
+        ),
+        measure_piece(
+            metric,
+            city,
+            x.to_after,
+            metric.dist(two_back.last, two_back.after),
+            two_back,
+        ),
+        measure_piece(
+            metric,
+            city,
+            x.to_before,
+            metric.dist(three.last, three.after),
+            three,
+        ),
+        measure_piece(
+            metric,
+            city,
+            x.to_after,
+            metric.dist(three_back.last, three_back.after),
+            three_back,
+        ),
+    ]
+}

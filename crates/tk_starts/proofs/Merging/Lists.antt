@@ -1,0 +1,3 @@
+pub mod ListsHeld
+pub mod OrderedLists
+pub mod SavingsLaws

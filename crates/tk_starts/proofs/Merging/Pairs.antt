@@ -1,0 +1,3 @@
+pub mod OneMerge
+pub mod PairsFound
+pub mod PairsMerged

@@ -1,0 +1,4 @@
+pub mod HubApart
+pub mod PartLoads
+pub mod PartsConnected
+pub mod PartsJoined

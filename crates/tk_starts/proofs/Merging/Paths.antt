@@ -1,0 +1,6 @@
+pub mod EndsJoined
+pub mod NeighbourArrays
+pub mod OnePath
+pub mod PathLists
+pub mod PathWalked
+pub mod PathsRead

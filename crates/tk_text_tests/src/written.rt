@@ -1,0 +1,4 @@
+//! Texts that are written, and read back.
+mod matrices;
+mod read_back;
+mod writers;
