@@ -4,18 +4,13 @@
 //! compares the lines.
 #![tactic(auto)]
 
-mod again;
-mod improving;
-mod instances;
-mod lists;
-mod readers;
 mod searches;
 mod starts;
 mod tours;
 mod turns;
 
-use again::Stopped;
 use std::process::ExitCode;
+use tk_again::{Stopped, lists, readers};
 
 fn main(rt: HostRuntime) -> ExitCode {
     match make_calls(&rt) {
@@ -30,7 +25,7 @@ fn make_calls(rt: &HostRuntime) -> Result<(), Stopped> {
     tours::make_calls(rt)?;
     lists::make_calls(rt)?;
     starts::make_calls(rt)?;
-    improving::make_calls(rt)?;
+    tk_route_calls::make_calls(rt)?;
     turns::make_calls(rt)?;
     searches::make_calls(rt)
 }

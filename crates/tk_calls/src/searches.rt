@@ -1,11 +1,11 @@
 //! Searches. What is built before the first trial takes memory, and trials take none.
-use crate::again::{Refusal, Stopped, again};
-use crate::instances::{FIVE, ROW, SQUARE};
-use crate::lists::near_of;
-use crate::readers::problem_of;
 use rand_core::SeedableRng;
 use rand_pcg::Pcg32;
 use std::alloc::Global;
+use tk_again::instances::{FIVE, ROW, SQUARE};
+use tk_again::lists::near_of;
+use tk_again::readers::problem_of;
+use tk_again::{Refusal, Stopped, again};
 use tk_metric::{Metric, Table};
 use tk_near::Near;
 use tk_search::{Search, SearchRules, Totals};

@@ -2,10 +2,10 @@
 ghost use Rattle.std.specs.Prelude.{◌≡◌, ◌≤◌};
 ghost use Rattle.tk_metric.specs.Tables.{table_size};
 
-use crate::again::{Refusal, Stopped, again};
-use crate::instances::{ROUTING, SQUARE};
-use crate::lists::near_of;
-use crate::readers::problem_of;
+use tk_again::instances::{ROUTING, SQUARE};
+use tk_again::lists::near_of;
+use tk_again::readers::problem_of;
+use tk_again::{Refusal, Stopped, again};
 use tk_metric::{Metric, Table};
 use tk_near::Near;
 use tk_starts::{nearest, savings_lists, savings_tour};

@@ -1,6 +1,6 @@
 //! Tours and the queue of cities that are awake.
-use crate::again::{Refusal, Stopped, again};
 use std::alloc::{AllocError, Global};
+use tk_again::{Refusal, Stopped, again};
 use tk_descent::Waking;
 use tk_stores::{ArrayTour, JournalTour};
 use tk_tour::{Flip, TourStore, check};

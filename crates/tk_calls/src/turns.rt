@@ -4,11 +4,11 @@ ghost use Rattle.tk_metric.specs.Tables.{table_size, table_distance};
 ghost use Rattle.tk_stores.specs.ArrayTours.{order_of};
 ghost use Rattle.tk_tour.specs.Tour.{tour_length};
 
-use crate::again::{Refusal, Stopped, again};
-use crate::instances::SQUARE;
-use crate::lists::near_of;
-use crate::readers::problem_of;
 use crate::tours::{flip_after, journal_of, tour_of};
+use tk_again::instances::SQUARE;
+use tk_again::lists::near_of;
+use tk_again::readers::problem_of;
+use tk_again::{Refusal, Stopped, again};
 use tk_descent::{Probe, Report, Waking, descend, look, make};
 use tk_metric::{Metric, Table};
 use tk_near::Near;

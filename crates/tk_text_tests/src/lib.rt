@@ -1,4 +1,5 @@
-//! The tests of `tk_text`, in a crate of their own: the tests of a crate are proved together with all of its functions.
+//! The tests of `tk_text`, but for those of problem texts, in a crate of their own: the tests of a crate are proved
+//! together with all of its functions.
 #![tactic(auto)]
 
 #[cfg(test)]
@@ -6,13 +7,9 @@ mod examples;
 #[cfg(test)]
 mod faults;
 #[cfg(test)]
-mod harness;
-#[cfg(test)]
 mod numbers;
 #[cfg(test)]
 mod points;
-#[cfg(test)]
-mod problem_texts;
 #[cfg(test)]
 mod solutions;
 #[cfg(test)]

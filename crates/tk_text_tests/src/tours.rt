@@ -1,9 +1,8 @@
 //! Tour texts, read at once, byte by byte and in small pieces.
 
-use crate::harness::drip::Drip;
-use crate::harness::padded::Padded;
 use std::alloc::{AllocError, Global};
 use std::test::Fail;
+use tk_fakes::{Drip, Padded};
 use tk_text::{FromRead, Keyword, TEXT_LIMIT, TextFault, TextKind, TourText, read_tour};
 
 fn read_whole(alloc: Global, text: &[u8]) -> Result<TourText, TextFault> {

@@ -1,7 +1,8 @@
 //! A sink that fails, for tests.
-ghost use Rattle.std.specs.Prelude.{◌≤◌, None};
+ghost use Rattle.std.specs.Prelude.{◌≡◌, ◌≤◌, None, false, take};
 
-use tk_text::{Failed, Sink};
+use tk_pen::Sink;
+use tk_words::Failed;
 
 /// How many bytes it can hold.
 pub const ROOM: usize = 512;
@@ -18,7 +19,11 @@ pub struct FakeSink {
 }
 
 impl FakeSink {
-    pub fn new(limit: usize, errs: bool) -> FakeSink {
+    /// Before the first byte.
+    pub fn new(limit: usize, errs: bool) -> FakeSink
+        ensures empty { (result.len ≡ 0) × (result.failed ≡ false) }
+        ensures set { (result.limit ≡ limit) × (result.errs ≡ errs) }
+    {
         FakeSink {
             bytes: [0; ROOM],
             len: 0,
@@ -29,7 +34,9 @@ impl FakeSink {
     }
 
     /// The bytes that it took.
-    pub fn taken(&self) -> &[u8] {
+    pub fn taken(&self) -> &[u8]
+        ensures { result.now ≡ take self.now.len self.now.bytes }
+    {
         &self.bytes[..self.len]
     }
 }

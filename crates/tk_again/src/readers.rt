@@ -1,6 +1,7 @@
 //! The readers of texts.
-use crate::again::{Refusal, Stopped, again};
+use crate::again;
 use crate::instances::{PARAMETERS, SOLUTION, SQUARE, TOUR};
+use crate::refusals::{Refusal, Stopped};
 use std::alloc::Global;
 use tk_params::read_params;
 use tk_text::{FromRead, Problem, TextFault, read_problem, read_solution, read_tour};

@@ -3,11 +3,11 @@ ghost use Rattle.std.specs.Prelude.{◌≡◌, IfOk};
 ghost use Rattle.tk_route_search.specs.RouteLists.{instance_of_routes};
 ghost use Rattle.tk_routes.specs.Cvrps.{instance_of};
 
-use crate::again::{Refusal, Stopped, again};
-use crate::instances::{ROUTING, TWO_GROUPS};
-use crate::lists::near_of;
-use crate::readers::problem_of;
 use std::alloc::{AllocError, Global};
+use tk_again::instances::{ROUTING, TWO_GROUPS};
+use tk_again::lists::near_of;
+use tk_again::readers::problem_of;
+use tk_again::{Refusal, Stopped, again};
 use tk_near::Near;
 use tk_route_search::{RouteReport, Routes, improve, savings};
 use tk_routes::{Cvrp, RouteVerdict, check_routes};

@@ -1,9 +1,10 @@
 //! Near lists.
 ghost use Rattle.std.specs.Prelude.{◌≡◌, ◌<◌, IfOk};
 
-use crate::again::{Refusal, Stopped, again};
+use crate::again;
 use crate::instances::SQUARE;
 use crate::readers::problem_of;
+use crate::refusals::{Refusal, Stopped};
 use tk_metric::{Metric, Planar, Table};
 use tk_near::{Near, near_scan};
 use tk_plane::near_tree;

@@ -1,7 +1,7 @@
 //! A source that gives few bytes at a time, for tests.
 ghost use Rattle.std.specs.Prelude.{None};
 
-use tk_text::{Failed, Source};
+use tk_words::{Failed, Source};
 
 /// Gives so many bytes at a time, and then fails where it is told to.
 #[derive(Drop)]

@@ -70,6 +70,7 @@ impl From<io::Error> for Stopped {
 }
 
 /// The value of a call. If the call is refused memory, this is told under its name, and it is made again.
+#[macro_export]
 macro_rules! again {
     ($rt:expr, $name:literal, $call:expr) => {
         match $call {
@@ -84,5 +85,3 @@ macro_rules! again {
         }
     };
 }
-
-pub(crate) use again;

@@ -1,7 +1,7 @@
 //! Problem texts from sources that fail.
 
-use crate::harness::read_both_ways::read_dripping;
-use crate::problem_texts::whole::listed;
+use crate::read_both_ways::read_dripping;
+use crate::whole::listed;
 use std::alloc::Global;
 use std::process::Abort;
 use tk_text::TextKind;

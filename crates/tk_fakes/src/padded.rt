@@ -1,7 +1,7 @@
 //! A source of a text and blanks, for tests.
 ghost use Rattle.std.specs.Prelude.{None, false};
 
-use tk_text::{Failed, Source};
+use tk_words::{Failed, Source};
 
 /// Gives a text's bytes, and then so many blanks.
 #[derive(Drop)]
