@@ -84,8 +84,8 @@ impl TextReader for SolutionReader {
 pub fn read_solution<R: Source>(alloc: Global, source: &mut R) -> Result<SolText, TextFault>
     ensures ok { IfOk result (λ solution. IsAnswerWhereTold solution_decided text_limit (R.left source.old)
         (R.left source.new) (Ok (map (λ r. r.items) solution.routes.items, solution.cost))) }
-    ensures err { IfErr result (IsTold (R.broken source.new
-        ≡ true) (IsAnswerWhereTold solution_decided text_limit (R.left source.old) (R.left source.new))) }
+    ensures err { IfErr result (IsTold (R.broken source.new ≡ true)
+        (IsAnswerWhereTold solution_decided text_limit (R.left source.old) (R.left source.new))) }
     ensures intact { IsIntact (R.broken source.old) (R.broken source.new) result }
 {
     read_text(source, SolutionReader::new(alloc), TEXT_LIMIT)

@@ -202,8 +202,8 @@ impl Form for TourForm {
 pub fn read_tour<R: Source>(alloc: Global, source: &mut R) -> Result<TourText, TextFault>
     ensures ok { IfOk result (λ tour. IsAnswerWhereTold tour_decided text_limit (R.left source.old) (R.left source.new)
         (Ok tour.cities.items)) }
-    ensures err { IfErr result (IsTold (R.broken source.new
-        ≡ true) (IsAnswerWhereTold tour_decided text_limit (R.left source.old) (R.left source.new))) }
+    ensures err { IfErr result (IsTold (R.broken source.new ≡ true)
+        (IsAnswerWhereTold tour_decided text_limit (R.left source.old) (R.left source.new))) }
     ensures intact { IsIntact (R.broken source.old) (R.broken source.new) result }
 {
     read_text(source, PieceReader::new(TourForm::new(alloc)), TEXT_LIMIT)

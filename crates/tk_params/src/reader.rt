@@ -216,8 +216,8 @@ fn fault_of(fault: TextFault) -> ParamFault
 /// The first fault of the text by line; `Read` where the source fails; `NoMemory` where a growth is refused.
 pub fn read_params<R: Source>(alloc: Global, source: &mut R) -> Result<Params, ParamFault>
     ensures ok { IfOk result (λ p. IsParamAnswerWhereTold (R.left source.old) (R.left source.new) (Ok p)) }
-    ensures err { IfErr result (IsParamTold (R.broken source.new
-        ≡ true) (IsParamAnswerWhereTold (R.left source.old) (R.left source.new))) }
+    ensures err { IfErr result (IsParamTold (R.broken source.new ≡ true)
+        (IsParamAnswerWhereTold (R.left source.old) (R.left source.new))) }
     ensures intact { IsParamIntact (R.broken source.old) (R.broken source.new) result }
 {
     match read_text(source, ParamReader::new(alloc), PARAMS_LIMIT) {

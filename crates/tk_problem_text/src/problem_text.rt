@@ -23,8 +23,8 @@ pub fn read_problem<R: Source>(alloc: Global, source: &mut R) -> Result<Problem,
     ensures ok { IfOk result (λ problem. IsAnswerWhereTold problem_decided text_limit (R.left source.old)
         (R.left source.new) (Ok (problem_is problem))) }
     ensures named { IfOk result (λ problem. IsName (problem_is problem).name) }
-    ensures err { IfErr result (IsTold (R.broken source.new
-        ≡ true) (IsAnswerWhereTold problem_decided text_limit (R.left source.old) (R.left source.new))) }
+    ensures err { IfErr result (IsTold (R.broken source.new ≡ true)
+        (IsAnswerWhereTold problem_decided text_limit (R.left source.old) (R.left source.new))) }
     ensures intact { IsIntact (R.broken source.old) (R.broken source.new) result }
 {
     match ProblemForm::new(alloc) {

@@ -67,8 +67,8 @@ pub fn read_text<R: Source, P: TextReader>(
     ensures ok { IfOk result (λ v.
         IsAnswerWhereTold P.decided limit (R.left source.old) (R.left source.new) (Ok (P.view v))) }
     ensures some_text { IfOk result (λ v. (text : List ℕ) × (answer_of P.decided limit text ≡ Ok (P.view v))) }
-    ensures err { IfErr result (IsTold (R.broken source.new
-        ≡ true) (IsAnswerWhereTold P.decided limit (R.left source.old) (R.left source.new))) }
+    ensures err { IfErr result (IsTold (R.broken source.new ≡ true)
+        (IsAnswerWhereTold P.decided limit (R.left source.old) (R.left source.new))) }
     ensures intact { IsIntact (R.broken source.old) (R.broken source.new) result }
 {
     let mut reader = reader;
