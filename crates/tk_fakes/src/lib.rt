@@ -6,5 +6,5 @@ mod fake_sink;
 mod padded;
 
 pub use drip::Drip;
-pub use fake_sink::{FakeSink, ROOM};
+pub use fake_sink::FakeSink;
 pub use padded::Padded;
