@@ -1,12 +1,12 @@
 //! A whole call of a program that has these subcommands.
-ghost use Rattle.tk_command_line.specs.Asking.{IsMeant};
 
 use crate::check::check_command;
 use crate::checksol::checksol_command;
 use crate::matrix::matrix_command;
 use crate::near::near_command;
 use std::process::ExitCode;
-use tk_command_line::{Asked, parse};
+use tk_asked::Asked;
+use tk_command_line::parse;
 use tk_console::{report, words_of_call};
 
 /// The subcommands that a program has beside those of this crate.
@@ -31,14 +31,12 @@ pub fn run_call<O: Others>(rt: &HostRuntime, others: &O) -> ExitCode {
 }
 
 /// Runs a subcommand.
-fn run<O: Others>(rt: &HostRuntime, others: &O, asked: Asked<'_>) -> ExitCode
-    requires { IsMeant asked }
-{
+fn run<O: Others>(rt: &HostRuntime, others: &O, asked: Asked<'_>) -> ExitCode {
     match asked {
         Asked::Check { problem, tour } => check_command(rt, problem, tour),
         Asked::Checksol { problem, solution } => checksol_command(rt, problem, solution),
         Asked::Matrix { problem, format } => matrix_command(rt, problem, format),
-        Asked::Near { problem, count } => near_command(rt, problem, count),
+        Asked::Near { problem, length } => near_command(rt, problem, length),
         Asked::Plot { problem, claim } => others.plot(rt, problem, claim),
         Asked::Solve { parameters } => others.solve(rt, parameters),
     }

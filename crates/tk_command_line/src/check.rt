@@ -1,11 +1,9 @@
 //! The words of `check`.
-ghost use Rattle.std.specs.Prelude.{IfSome};
-ghost use Rattle.tk_command_line.specs.Asking.{IsMeant};
 
-use crate::asked::Asked;
 use crate::command::{given, problem_file, subcommand};
 use clap::{ArgMatches, Command, Error};
 use std::alloc::Global;
+use tk_asked::Asked;
 
 /// What `check --help` ends with.
 const HELP: &str = "Reads PROBLEM and TOUR, one of which may be - for standard input.
@@ -37,9 +35,7 @@ pub fn command<'a>(alloc: Global) -> Result<Command<'a>, Error> {
 }
 
 /// What the words ask for.
-pub fn asked<'a>(words: &ArgMatches<'a>) -> Option<Asked<'a>>
-    ensures { IfSome result IsMeant }
-{
+pub fn asked<'a>(words: &ArgMatches<'a>) -> Option<Asked<'a>> {
     Some(Asked::Check {
         problem: words.get_str("PROBLEM")?,
         tour: words.get_str("TOUR")?,

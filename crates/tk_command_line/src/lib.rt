@@ -1,7 +1,6 @@
 //! The words that `tourkit` takes: its subcommands with their help, and what the words of a call ask for.
 #![tactic(auto)]
 
-mod asked;
 mod check;
 mod checksol;
 mod command;
@@ -11,5 +10,4 @@ mod parsing;
 mod plot;
 mod solve;
 
-pub use asked::{Asked, STANDARD};
 pub use parsing::{Refusal, parse};

@@ -1,12 +1,10 @@
 //! The words of `matrix`.
-ghost use Rattle.std.specs.Prelude.{IfSome};
-ghost use Rattle.tk_command_line.specs.Asking.{IsMeant};
 
-use crate::asked::Asked;
 use crate::command::{given, problem_file, subcommand};
 use clap::builder::ValueParser;
 use clap::{ArgMatches, Command, Error};
 use std::alloc::Global;
+use tk_asked::Asked;
 
 /// What `matrix --help` ends with.
 const HELP: &str = "Reads PROBLEM, of at most 5,000 nodes.
@@ -52,9 +50,7 @@ pub fn command<'a>(alloc: Global) -> Result<Command<'a>, Error> {
 }
 
 /// What the words ask for.
-pub fn asked<'a>(words: &ArgMatches<'a>) -> Option<Asked<'a>>
-    ensures { IfSome result IsMeant }
-{
+pub fn asked<'a>(words: &ArgMatches<'a>) -> Option<Asked<'a>> {
     Some(Asked::Matrix {
         problem: words.get_str("PROBLEM")?,
         format: words.get_str("FORMAT")?,

@@ -1,12 +1,10 @@
 //! The words of `near`.
-ghost use Rattle.std.specs.Prelude.{IfSome};
-ghost use Rattle.tk_command_line.specs.Asking.{IsMeant};
 
-use crate::asked::Asked;
 use crate::command::{problem_file, subcommand};
 use clap::builder::ValueParser;
 use clap::{Arg, ArgMatches, Command, Error};
 use std::alloc::Global;
+use tk_asked::{Asked, ListLength};
 
 /// What `near --help` ends with.
 const HELP: &str = "Reads PROBLEM.
@@ -42,14 +40,9 @@ pub fn command<'a>(alloc: Global) -> Result<Command<'a>, Error> {
 }
 
 /// What the words ask for.
-pub fn asked<'a>(words: &ArgMatches<'a>) -> Option<Asked<'a>>
-    ensures { IfSome result IsMeant }
-{
-    match words.get_one::<u32>("k") {
-        Some(count @ 1..=100) => Some(Asked::Near {
-            problem: words.get_str("PROBLEM")?,
-            count,
-        }),
-        _ => None,
-    }
+pub fn asked<'a>(words: &ArgMatches<'a>) -> Option<Asked<'a>> {
+    Some(Asked::Near {
+        problem: words.get_str("PROBLEM")?,
+        length: ListLength::of(words.get_one::<u32>("k")?)?,
+    })
 }

@@ -1,13 +1,11 @@
 //! From the words of a call to what they ask for.
-ghost use Rattle.std.specs.Prelude.{IfOk, IfSome};
-ghost use Rattle.tk_command_line.specs.Asking.{IsMeant};
 
-use crate::asked::{Asked, STANDARD};
 use crate::command::{tourkit, twice_standard};
 use crate::{check, checksol, matrix, near, plot, solve};
 use clap::error::ErrorKind;
 use clap::{ArgMatches, Error};
 use std::alloc::Global;
+use tk_asked::{Asked, STANDARD};
 
 /// The exit status of words that are refused.
 const USAGE: u8 = 2;
@@ -26,9 +24,7 @@ pub enum Refusal {
 ///
 /// # Errors
 /// `Refusal`, as it says.
-pub fn parse<'a>(rt: &HostRuntime, words: &'a [String]) -> Result<Asked<'a>, Refusal>
-    ensures { IfOk result IsMeant }
-{
+pub fn parse<'a>(rt: &HostRuntime, words: &'a [String]) -> Result<Asked<'a>, Refusal> {
     match asked(rt.alloc(), words) {
         Ok(Some(asked)) => Ok(asked),
         Ok(None) => Err(Refusal::Told(USAGE)),
@@ -48,9 +44,7 @@ fn tell(rt: &HostRuntime, error: &Error) -> Refusal {
 }
 
 /// What the words ask for, if they can be parsed and name standard input once at most.
-fn asked<'a>(alloc: Global, words: &'a [String]) -> Result<Option<Asked<'a>>, Error>
-    ensures { IfOk result (λ r. IfSome r IsMeant) }
-{
+fn asked<'a>(alloc: Global, words: &'a [String]) -> Result<Option<Asked<'a>>, Error> {
     let matches = tourkit(alloc)?.try_get_matches_from(words)?;
     match asked_by(&matches) {
         Some(
@@ -76,9 +70,7 @@ fn asked<'a>(alloc: Global, words: &'a [String]) -> Result<Option<Asked<'a>>, Er
 }
 
 /// What a subcommand and its words ask for.
-fn asked_by<'a>(matches: &ArgMatches<'a>) -> Option<Asked<'a>>
-    ensures { IfSome result IsMeant }
-{
+fn asked_by<'a>(matches: &ArgMatches<'a>) -> Option<Asked<'a>> {
     match matches.subcommand()? {
         ("check", words) => check::asked(words),
         ("checksol", words) => checksol::asked(words),

@@ -1,11 +1,9 @@
 //! The words of `plot`.
-ghost use Rattle.std.specs.Prelude.{IfSome};
-ghost use Rattle.tk_command_line.specs.Asking.{IsMeant};
 
-use crate::asked::Asked;
 use crate::command::{problem_file, subcommand};
 use clap::{Arg, ArgMatches, Command, Error};
 use std::alloc::Global;
+use tk_asked::Asked;
 
 /// What `plot --help` ends with.
 const HELP: &str = "Reads PROBLEM and CLAIM, one of which may be - for standard input.
@@ -41,9 +39,7 @@ pub fn command<'a>(alloc: Global) -> Result<Command<'a>, Error> {
 }
 
 /// What the words ask for.
-pub fn asked<'a>(words: &ArgMatches<'a>) -> Option<Asked<'a>>
-    ensures { IfSome result IsMeant }
-{
+pub fn asked<'a>(words: &ArgMatches<'a>) -> Option<Asked<'a>> {
     Some(Asked::Plot {
         problem: words.get_str("PROBLEM")?,
         claim: words.get_str("CLAIM"),

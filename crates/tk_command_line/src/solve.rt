@@ -1,11 +1,9 @@
 //! The words of `solve`.
-ghost use Rattle.std.specs.Prelude.{IfSome};
-ghost use Rattle.tk_command_line.specs.Asking.{IsMeant};
 
-use crate::asked::Asked;
 use crate::command::{given, subcommand};
 use clap::{ArgMatches, Command, Error};
 use std::alloc::Global;
+use tk_asked::Asked;
 
 /// What `solve --help` ends with.
 const HELP: &str = "Reads PAR, and the problem and the initial tour that it names.
@@ -41,9 +39,7 @@ pub fn command<'a>(alloc: Global) -> Result<Command<'a>, Error> {
 }
 
 /// What the words ask for.
-pub fn asked<'a>(words: &ArgMatches<'a>) -> Option<Asked<'a>>
-    ensures { IfSome result IsMeant }
-{
+pub fn asked<'a>(words: &ArgMatches<'a>) -> Option<Asked<'a>> {
     Some(Asked::Solve {
         parameters: words.get_str("PAR")?,
     })

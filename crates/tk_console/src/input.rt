@@ -4,7 +4,7 @@ use std::fs::File;
 use std::io::{self, Read, Stdin};
 use std::os::fd::AsFd;
 use std::process::ExitCode;
-use tk_command_line::STANDARD;
+use tk_asked::STANDARD;
 
 /// An input file that is open, or standard input.
 #[derive(Drop)]

@@ -1,5 +1,7 @@
 //! What the words of a call ask for.
 
+use crate::list_length::ListLength;
+
 /// The name of standard input.
 pub const STANDARD: &str = "-";
 
@@ -20,10 +22,10 @@ pub enum Asked<'a> {
         problem: &'a str,
         format: &'a str,
     },
-    /// `near PROBLEM -k N`, with 1 to 100 cities for each list
+    /// `near PROBLEM -k N`
     Near {
         problem: &'a str,
-        count: u32,
+        length: ListLength,
     },
     /// `plot PROBLEM [CLAIM]`
     Plot {
