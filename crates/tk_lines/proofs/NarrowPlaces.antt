@@ -1,8 +1,8 @@
 -- What holds whatever follows, holds where one byte does.
 use Rattle.std.proofs.Common.{ℕ, Bool, List, [], refl}
 use Rattle.tk_words.specs.declared.keyword.Keyword.{Keyword}
-use Rattle.tk_lines.specs.declared.reader.Place.{Place}
-use Rattle.tk_lines.specs.declared.reader.Place.TheVariants as places
+use Rattle.tk_lines.specs.declared.place.Place.{Place}
+use Rattle.tk_lines.specs.declared.place.Place.TheVariants as places
 use Rattle.tk_lines.specs.declared.scan.Scan.{Scan}
 use Rattle.tk_words.specs.Lex.{Token}
 use Rattle.tk_lines.specs.Pieces.{Piece, Format}

@@ -9,7 +9,7 @@ use Rattle.tk_words.specs.Lex.{LF, Token, is_blank, IsRun}
 use Rattle.tk_lines.specs.Pieces.{Piece, Format}
 use Rattle.tk_lines.specs.Reader.{anything, this, IsIn, Fed, AtToken}
 use Rattle.tk_lines.specs.declared.reader.PieceReader.{PieceReader}
-use Rattle.tk_lines.specs.declared.reader.Place.TheVariants as places
+use Rattle.tk_lines.specs.declared.place.Place.TheVariants as places
 use Rattle.tk_lines.proofs.KnownPlaces.{at_place, or_false}
 use Rattle.tk_lines.proofs.Sections.SectionSteps.{token_byte}
 use Rattle.tk_lines.proofs.NarrowPlaces.{token_narrow}

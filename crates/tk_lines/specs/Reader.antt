@@ -3,12 +3,12 @@ use Rattle.std.specs.Prelude.{◌≡◌, ◌<◌, ◌≤◌, ℕ, Bool, true, fa
 use Rattle.tk_words.specs.declared.keyword.Keyword.{Keyword}
 use Rattle.tk_words.specs.declared.fault.TextFault.{TextFault}
 use Rattle.tk_lines.specs.declared.scan.Scan.{Scan}
-use Rattle.tk_lines.specs.declared.reader.Place.{Place}
-use Rattle.tk_lines.specs.declared.reader.Place.TheVariants as places
-use Rattle.tk_lines.specs.declared.reader.Went.{Went}
-use Rattle.tk_lines.specs.declared.reader.Went.TheVariants as wents
-use Rattle.tk_lines.specs.declared.reader.Ended.{Ended}
-use Rattle.tk_lines.specs.declared.reader.Ended.TheVariants as endeds
+use Rattle.tk_lines.specs.declared.place.Place.{Place}
+use Rattle.tk_lines.specs.declared.place.Place.TheVariants as places
+use Rattle.tk_lines.specs.declared.place.Went.{Went}
+use Rattle.tk_lines.specs.declared.place.Went.TheVariants as wents
+use Rattle.tk_lines.specs.declared.place.Ended.{Ended}
+use Rattle.tk_lines.specs.declared.place.Ended.TheVariants as endeds
 use Rattle.tk_lines.specs.declared.reader.PieceReader.{PieceReader}
 use Rattle.tk_words.specs.declared.text_reader.Step.{Step}
 use Rattle.tk_words.specs.declared.text_reader.Step.TheVariants as steps

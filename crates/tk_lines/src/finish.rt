@@ -1,13 +1,14 @@
 //! What the end of its bytes makes of a text.
 ghost use Rattle.std.specs.Prelude.{◌≡◌, ℕ, List, [], Ok, IfOk, IfErr};
-ghost use Rattle.tk_lines.specs.declared.reader.Place.TheVariants as places;
+ghost use Rattle.tk_lines.specs.declared.place.Place.TheVariants as places;
 ghost use Rattle.tk_words.specs.Drive.{DecidesEnded, IsTold};
 ghost use Rattle.tk_lines.specs.Pieces.{decided_by};
 ghost use Rattle.tk_lines.specs.Reader.{Fed, anything, at_end, AtToken, AtEnd};
 ghost use Rattle.tk_lines.specs.Feeding.{IsFed, TakesEnd, RefusesEnd, CompletesEnd};
 
 use crate::form::Form;
-use crate::reader::{Ended, PieceReader, Place, Went};
+use crate::place::{Ended, Place, Went};
+use crate::reader::PieceReader;
 use tk_words::{Keyword, Run, Step, TextFault, TextReader};
 
 impl<F: Form> PieceReader<F> {

@@ -3,6 +3,7 @@
 
 mod finish;
 mod form;
+mod place;
 mod reader;
 mod run;
 mod scan;

@@ -4,6 +4,7 @@ ghost use Rattle.tk_words.specs.Lex.{is_blank};
 ghost use Rattle.tk_lines.specs.Reader.{Fed, anything};
 
 use crate::form::{Form, Taken};
+use crate::place::{Ended, Place, Went};
 use crate::scan::Scan;
 use std::mem;
 use tk_words::{
@@ -13,46 +14,6 @@ use tk_words::{
 
 /// The most bytes between a header's word and the end of its line.
 const HEADER_LIMIT: u32 = 4096;
-
-/// Where a reader stands in its text.
-#[derive(Clone, Copy, PartialEq, Eq)]
-pub enum Place {
-    /// Before a line's word.
-    Start,
-    /// In a line's word.
-    Word,
-    /// In a header's value.
-    Value(Keyword),
-    /// After a section's word, before its colon.
-    Begin,
-    /// In a section, between tokens.
-    Gap,
-    /// In a section's token.
-    Token,
-    /// After a section's last token, on its line.
-    Close,
-    /// After the `-1` that ends a section, on its line or later.
-    After(bool),
-    /// In a token after that, which may be one more `-1`.
-    MinusOne(bool),
-}
-
-/// What a word began.
-#[derive(Clone, Copy, PartialEq, Eq)]
-pub enum Went {
-    Done,
-    Value(Keyword),
-    Begin,
-}
-
-/// What comes after a token.
-#[derive(Clone, Copy, PartialEq, Eq)]
-pub enum Ended {
-    Done,
-    Gap,
-    Close,
-    After,
-}
 
 /// Takes the bytes of a text, and gives its pieces to a form.
 #[derive(Drop)]
@@ -65,9 +26,9 @@ pub struct PieceReader<F> {
 }
 
 impl<F: Form> PieceReader<F> {
-    ghost use Rattle.tk_lines.specs.declared.reader.Place.TheVariants as places;
-    ghost use Rattle.tk_lines.specs.declared.reader.Went.TheVariants as wents;
-    ghost use Rattle.tk_lines.specs.declared.reader.Ended.TheVariants as endeds;
+    ghost use Rattle.tk_lines.specs.declared.place.Place.TheVariants as places;
+    ghost use Rattle.tk_lines.specs.declared.place.Went.TheVariants as wents;
+    ghost use Rattle.tk_lines.specs.declared.place.Ended.TheVariants as endeds;
     ghost use Rattle.tk_words.specs.declared.text_reader.Step.TheVariants as steps;
     ghost use Rattle.tk_words.specs.declared.keyword.Keyword.{Keyword};
     ghost use Rattle.tk_words.specs.Drive.{IsTold};

@@ -6,7 +6,8 @@ ghost use Rattle.tk_lines.specs.Pieces.{decided_by};
 ghost use Rattle.tk_lines.specs.Reader.{Fed, anything};
 
 use crate::form::Form;
-use crate::reader::{PieceReader, Place};
+use crate::place::Place;
+use crate::reader::PieceReader;
 use tk_words::{Run, Step, TextFault, token_length};
 
 impl<F: Form> PieceReader<F> {

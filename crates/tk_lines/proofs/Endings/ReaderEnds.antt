@@ -8,8 +8,8 @@ use Rattle.tk_lines.specs.declared.scan.Scan.{Scan}
 use Rattle.tk_words.specs.declared.text_reader.Step.{Step}
 use Rattle.tk_words.specs.declared.text_reader.Step.TheVariants as steps
 use Rattle.tk_lines.specs.declared.reader.PieceReader.{PieceReader}
-use Rattle.tk_lines.specs.declared.reader.Place.{Place}
-use Rattle.tk_lines.specs.declared.reader.Place.TheVariants as places
+use Rattle.tk_lines.specs.declared.place.Place.{Place}
+use Rattle.tk_lines.specs.declared.place.Place.TheVariants as places
 use Rattle.tk_words.specs.Lex.{Line, Token, lines, is_word_byte}
 use Rattle.tk_lines.specs.Pieces.{Piece, Clean, Early, Fault, Stop, Format, cut, judge, end_piece, stopped, ended, decided_by, from_line}
 use Rattle.tk_words.specs.Drive.{Decides, DecidesEnded, IsTold, FedMore}

@@ -1,4 +1,4 @@
-use Rattle.tk_lines.specs.declared.reader.Place.TheVariants as places
+use Rattle.tk_lines.specs.declared.place.Place.TheVariants as places
 use Rattle.tk_lines.specs.Reader.{at_end}
 use Rattle.tk_lines.proofs.KnownPlaces.{at_place}
 use Rattle.tk_lines.proofs.Endings.ReaderEnds.{end_line, end_begin, end_close, end_after}

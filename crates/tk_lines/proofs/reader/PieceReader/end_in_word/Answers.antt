@@ -1,6 +1,6 @@
 use Rattle.std.proofs.Common.{ap, Ok}
 use Rattle.std.proofs.lemmas.Result.{err_from_is_err_and}
-use Rattle.tk_lines.specs.declared.reader.Place.TheVariants as places
+use Rattle.tk_lines.specs.declared.place.Place.TheVariants as places
 use Rattle.tk_lines.specs.Reader.{at_end}
 use Rattle.tk_lines.proofs.KnownPlaces.{at_place}
 use Rattle.tk_lines.proofs.Endings.ReaderEnds.{end_in_no_word, told_ended, decides_ended, end_begin}
