@@ -99,39 +99,32 @@ fn floors(rt: HostRuntime) -> Result<(), Fail> {
     Ok(())
 }
 
+const WHOLE: Point = Point {
+    x: 7_000_000_000,
+    y: -8_000_000_000,
+};
+
+const FINE: Point = Point { x: 5, y: -FAR };
+
 #[test]
-fn places_of_a_list(rt: HostRuntime) -> Result<(), Fail> {
-    let alloc = rt.alloc();
-    let mut points = Points::at_origin(alloc, 3)?;
-    points.set(
-        1,
-        Point {
-            x: 7 * UNIT,
-            y: -8 * UNIT,
-        },
-    )?;
+fn whole_places(rt: HostRuntime) -> Result<(), Fail> {
+    let mut points = Points::at_origin(rt.alloc(), 3)?;
+    points.set(1, WHOLE)?;
     assert!(rt; matches!(points.places(), Places::Whole(_)));
-    assert!(rt;
-        points.get(1)
-            == Point {
-                x: 7 * UNIT,
-                y: -8 * UNIT
-            }
-    );
-    points.set(2, Point { x: 5, y: -FAR })?;
+    assert!(rt; points.get(1) == WHOLE);
+    Ok(())
+}
+
+#[test]
+fn places_one_of_which_is_not_whole(rt: HostRuntime) -> Result<(), Fail> {
+    let mut points = Points::at_origin(rt.alloc(), 3)?;
+    points.set(1, WHOLE)?;
+    points.set(2, FINE)?;
     assert!(rt; matches!(points.places(), Places::Fine(_)));
-    assert!(rt; points.get(0) == Point { x: 0, y: 0 });
-    assert!(rt;
-        points.get(1)
-            == Point {
-                x: 7 * UNIT,
-                y: -8 * UNIT
-            }
-    );
-    assert!(rt; points.len() == 3);
+    assert!(rt; points.get(0) == Point { x: 0, y: 0 } && points.get(1) == WHOLE);
     let planes = Planes::new(PlaneKind::Euc2d, &points);
-    assert!(rt; planes.place(3) == Point { x: 5, y: -FAR });
     assert!(rt; planes.size() == 3);
+    assert!(rt; planes.place(3) == FINE);
     assert!(rt; planes.dist(1, 2) == 11);
     Ok(())
 }
@@ -196,31 +189,42 @@ fn some_of_the_cities(rt: HostRuntime) {
     assert!(rt; none.size() == 0);
 }
 
-#[test]
-fn tables(rt: HostRuntime) -> Result<(), Fail> {
-    let alloc = rt.alloc();
+/// UPPER_ROW `1 2 3 4 5 6`
+fn explicit(rt: &impl Abort, alloc: Global) -> Result<Problem, Fail> {
     let weights = Vec::from_slice(alloc, &[1, 2, 4, 3, 5, 6])?;
     assert!(rt; weights.iter().all(|weight| *weight <= 4_000_000_000));
-    let explicit = Problem {
+    Ok(Problem {
         name: Vec::new(alloc),
         n: 4,
         weights: Weights::Lower(weights),
         routing: None,
-    };
-    let table = Table::of(&explicit);
-    assert!(rt; table.size() == 4);
-    assert!(rt; table.dist(4, 2) == 5);
+    })
+}
+
+/// (0,0) (3,4), MAX_2D
+fn in_the_plane(rt: &impl Abort, alloc: Global) -> Result<Problem, Fail> {
     let points = pair(alloc, 3 * UNIT, 4 * UNIT)?;
     assert!(rt; points.len() == 2);
-    let plane = Problem {
+    Ok(Problem {
         name: Vec::new(alloc),
         n: 2,
         weights: Weights::Points(PlaneKind::Max2d, points),
         routing: None,
-    };
-    let table = Table::of(&plane);
-    assert!(rt; table.size() == 2);
-    assert!(rt; table.dist(1, 2) == 4);
+    })
+}
+
+/// The table of a problem has so many cities, and this distance from the first of two to the other.
+fn expect_table(rt: &impl Abort, problem: &Problem, size: u32, (a, b): (u32, u32), want: i64) {
+    let table = Table::of(problem);
+    assert!(rt; table.size() == size);
+    assert!(rt; 1 <= a && a <= size && 1 <= b && b <= size);
+    assert!(rt; table.dist(a, b) == want);
+}
+
+#[test]
+fn tables(rt: HostRuntime) -> Result<(), Fail> {
+    expect_table(&rt, &explicit(&rt, rt.alloc())?, 4, (4, 2), 5);
+    expect_table(&rt, &in_the_plane(&rt, rt.alloc())?, 2, (1, 2), 4);
     Ok(())
 }
 
