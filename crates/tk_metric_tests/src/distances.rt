@@ -122,6 +122,7 @@ fn places_one_of_which_is_not_whole(rt: HostRuntime) -> Result<(), Fail> {
     points.set(2, FINE)?;
     assert!(rt; matches!(points.places(), Places::Fine(_)));
     assert!(rt; points.get(0) == Point { x: 0, y: 0 } && points.get(1) == WHOLE);
+    assert!(rt; points.len() == 3);
     let planes = Planes::new(PlaneKind::Euc2d, &points);
     assert!(rt; planes.size() == 3);
     assert!(rt; planes.place(3) == FINE);
