@@ -1,4 +1,4 @@
-//! Where a reader stands in its text.
+//! Where a reader stands in its text, and what a word and a token lead to.
 
 use tk_words::Keyword;
 

@@ -2,6 +2,7 @@
 --     AreCuts n cuts      none of the four parts of n places is empty
 --     drawn_cuts n s      the cuts that a stream of random words gives
 --     end_places n cuts      where the parts begin and end
+--     steps_between d cities      the sum of four steps
 --     steps_out d ends, steps_in d ends      what the double bridge takes out of the length and puts in
 --     kick_swaps n cuts      the swaps of its flips
 --     bridged cuts cities      the double bridge (O. Martin, S. W. Otto and E. W. Felten, 1991)
@@ -59,6 +60,12 @@ turn_swaps n k = min k (n - k) / 2
 abbrev pub kick_swaps : ℕ → Cuts → ℕ
 kick_swaps n cuts =
     turn_swaps n cuts.p + turn_swaps n (cuts.q - cuts.p) + turn_swaps n (cuts.r - cuts.q) + turn_swaps n (n - cuts.r)
+
+-- the steps from the first of eight cities to the second, from the third to the fourth, and so on
+abbrev pub steps_between : (ℕ → ℕ → ℕ) → List ℕ → ℕ
+steps_between d cities =
+    let e : ℕ → ℕ = slice_index cities in
+    d (e 0) (e 1) + d (e 2) (e 3) + d (e 4) (e 5) + d (e 6) (e 7)
 
 -- the steps that the double bridge takes out, and those that it puts in, by the first and the last city of each part
 abbrev pub steps_out : (ℕ → ℕ → ℕ) → List ℕ → ℕ

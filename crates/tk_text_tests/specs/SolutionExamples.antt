@@ -7,7 +7,7 @@ use Rattle.tk_text.specs.declared.TextKind.TheVariants as kinds
 use Rattle.tk_text.specs.declared.TextFault.{TextFault}
 use Rattle.tk_text.specs.Texts.{answer_of}
 use Rattle.tk_text.specs.Pieces.{Stop, Fault}
-use Rattle.tk_text.specs.Solution.{Solution, Head, Short, Bad, Behind, customer_stop, route_head, solution_decided}
+use Rattle.tk_text.specs.Solution.{Solution, Head, Short, Bad, Behind, customer_stop, solution_decided}
 
 abbrev pub SolutionAnswer : Type 0
 SolutionAnswer = Option (Result Solution TextFault)

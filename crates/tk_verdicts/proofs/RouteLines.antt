@@ -1,5 +1,5 @@
 -- Lengths of the lines that tell verdicts on routes.
-use Rattle.std.proofs.Common.{ℕ, ◌^◌, ◌≤◌, length, length-append, arith}
+use Rattle.std.proofs.Common.{◌^◌, ◌≤◌, length, length-append, arith}
 use Rattle.std.specs.Int.RustNames.{unsigned_abs}
 use Rattle.tk_pen.proofs.NumberLengths.{length_decimal}
 use Rattle.tk_routes.specs.declared.verdict.RouteVerdict.{RouteVerdict}

@@ -46,7 +46,7 @@ held v = to_z w64 (of_z w64 v)
 
 -- the sum of four, and what is left of a length with more, as the machine reckons them
 abbrev pub added_up : ℤ → ℤ → ℤ → ℤ → ℤ
-added_up r s t u = held (held (held r +ℤ held s) +ℤ held t) +ℤ held u
+added_up r s t u = held (held (held (held r +ℤ held s) +ℤ held t) +ℤ held u)
 
 abbrev pub exchanged_by : ℤ → ℤ → ℤ → ℤ
 exchanged_by before o p = held (held before -ℤ held o) +ℤ held p

@@ -3,7 +3,7 @@ ghost use Rattle.std.specs.Prelude.{◌≡◌, ◌≤◌, ◌+◌, ◌*◌, ◌/
 ghost use Rattle.tk_metric.specs.Cities.{IsCity};
 ghost use Rattle.tk_tour.specs.Tour.{SameCycle};
 ghost use Rattle.tk_tour.specs.Counters.{saturated};
-ghost use Rattle.tk_search.specs.Cuts.{AreCuts, bridged, kick_swaps, steps_out, steps_in};
+ghost use Rattle.tk_search.specs.Cuts.{AreCuts, bridged, kick_swaps, steps_between, steps_out, steps_in};
 
 use crate::double_bridges::cuts::Cuts;
 use tk_metric::Metric;
@@ -29,6 +29,15 @@ pub fn kick<S: TourStore>(store: &mut S, cuts: Cuts)
     let _ = store.flip(cn, bn, b1, a1);
 }
 
+/// The sum of four distances: from the first city to the second, from the third to the fourth, and so on.
+fn four_steps<M: Metric>(metric: &M, cities: [u32; 8]) -> i64
+    requires { All (IsCity (M.size_of metric.now)) cities }
+    ensures { result ≡ pos (steps_between (M.distance metric.now) cities) }
+{
+    let [a, b, c, d, e, f, g, h] = cities;
+    metric.dist(a, b) + metric.dist(c, d) + metric.dist(e, f) + metric.dist(g, h)
+}
+
 /// The length of a tour after the double bridge, by its length before and the first and the last city of each part.
 pub(crate) fn bridged_length<M: Metric>(metric: &M, before: i64, ends: [u32; 8]) -> i64
     requires cities { All (IsCity (M.size_of metric.now)) ends }
@@ -37,7 +46,7 @@ pub(crate) fn bridged_length<M: Metric>(metric: &M, before: i64, ends: [u32; 8])
         ≡ before +ℤ pos (steps_in (M.distance metric.now) ends) }
 {
     let [a1, an, b1, bn, c1, cn, d1, dn] = ends;
-    let out = metric.dist(an, b1) + metric.dist(bn, c1) + metric.dist(cn, d1) + metric.dist(dn, a1);
-    let put = metric.dist(an, d1) + metric.dist(dn, c1) + metric.dist(cn, b1) + metric.dist(bn, a1);
+    let out = four_steps(metric, [an, b1, bn, c1, cn, d1, dn, a1]);
+    let put = four_steps(metric, [an, d1, dn, c1, cn, b1, bn, a1]);
     before - out + put
 }

@@ -1,8 +1,7 @@
 -- How long a matrix text is at most.
-use Rattle.std.proofs.Common.{ℕ, zero, suc, ◌+◌, ◌*◌, ◌/◌, ◌%◌, ◌^◌, ◌≤◌, Bool, true, false, List, [], ◌∷◌, ◌++◌, length, subst, arith, length-append}
+use Rattle.std.proofs.Common.{ℕ, ◌+◌, ◌*◌, ◌^◌, ◌≤◌, Bool, List, [], ◌∷◌, ◌++◌, length, subst, arith, length-append}
 use Rattle.std.proofs.lemmas.List.{length-map}
-use Rattle.std.specs.Prelude.{map, flat_map, codes, decimal, ◌==◌, if◌then◌else◌}
-use Rattle.std.specs.Fmt.{digits, digits_onto, digit_glyph}
+use Rattle.std.specs.Prelude.{map, flat_map, codes, decimal}
 use Rattle.std.specs.List.{range_with_len, join_by}
 use Rattle.std.proofs.lemmas.List.FromFn.{length-range_with_len}
 use Rattle.std.proofs.lemmas.List.Sums.{length-filter, count_by-le-length}

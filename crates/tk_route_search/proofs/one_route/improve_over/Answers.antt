@@ -1,7 +1,6 @@
 use Rattle.std.proofs.Common.{◌≡◌, ◌+◌, ◌≤◌, ◌∙◌, length, sym, ap, subst, arith, List, ℕ, pos, inl}
 use Rattle.std.specs.Prelude.{min}
-use Rattle.tk_metric.specs.Tables.{table_distance, table_distance-swap}
-use Rattle.tk_metric.specs.declared.table.Table.{Table}
+use Rattle.tk_metric.specs.Tables.{table_distance-swap}
 use Rattle.tk_tour.proofs.Cycle.{IsRotation-refl}
 use Rattle.tk_stores.specs.ArrayTours.{order_of}
 use Rattle.tk_tour.specs.Tour.{IsTour, tour_length}
@@ -11,7 +10,7 @@ use Rattle.tk_routes.specs.Instance.{Instance}
 use Rattle.tk_routes.specs.Routes.{route_nodes, route_length}
 use Rattle.tk_route_search.specs.ImprovedRoutes.{IsReadOff, place_distance}
 use Rattle.tk_route_search.proofs.DescendedRoutes.{IsImproved-read, IsReadOff-cycle, tests_within}
-use Rattle.tk_route_search.proofs.ReadOffs.{IsTour-cycle, IsPermutation-read, route_length-read, route_length-places, length-route_nodes}
+use Rattle.tk_route_search.proofs.ReadOffs.{IsTour-cycle, IsPermutation-read, route_length-read, route_length-places}
 use Rattle.tk_route_search.proofs.one_route.improve_over.Goals as goal
 
 pub read_off-requires-clause-tour : goal.read_off-requires-clause-tour
