@@ -6,7 +6,7 @@
 set -e
 here=$(cd "$(dirname "$0")" && pwd)
 . "$here/../build.sh"
-build descent 'tk_problem tk_metric tk_near tk_plane tk_sweep tk_tour tk_stores tk_descent'
+build descent 'tk_problem tk_distance tk_near tk_tour tk_descent'
 round=0
 while [ "$round" -lt "${1:-5}" ]; do
     "$program" | sed 's/^/rattle /'

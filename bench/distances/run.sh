@@ -4,7 +4,7 @@
 set -e
 here=$(cd "$(dirname "$0")" && pwd)
 . "$here/../build.sh"
-build distances 'tk_problem tk_metric'
+build distances 'tk_problem tk_distance'
 rm -f "$work/rattle.txt" "$work/rust.txt"
 round=0
 while [ "$round" -lt "${1:-3}" ]; do

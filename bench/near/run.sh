@@ -6,7 +6,7 @@
 set -e
 here=$(cd "$(dirname "$0")" && pwd)
 . "$here/../build.sh"
-build near 'tk_problem tk_metric tk_near tk_plane tk_left tk_tour tk_starts'
+build near 'tk_problem tk_distance tk_near tk_tour tk_starts'
 round=0
 while [ "$round" -lt "${1:-3}" ]; do
     taskset -c "${2:-0}" "$program" | sed 's/^/rattle /'

@@ -5,7 +5,7 @@
 set -e
 here=$(cd "$(dirname "$0")" && pwd)
 . "$here/../build.sh"
-build savings 'tk_problem tk_metric tk_near tk_plane tk_sweep tk_left tk_tour tk_starts'
+build savings 'tk_problem tk_distance tk_near tk_tour tk_starts'
 "$program" > "$work/rattle"
 "$twin" > "$work/rust"
 paste -d ' ' "$work/rattle" "$work/rust" | awk '

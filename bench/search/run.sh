@@ -7,7 +7,7 @@
 set -e
 here=$(cd "$(dirname "$0")" && pwd)
 . "$here/../build.sh"
-build search 'tk_problem tk_metric tk_near tk_plane tk_tour tk_stores tk_descent tk_search' 'rand_core rand_pcg'
+build search 'tk_problem tk_distance tk_near tk_tour tk_descent tk_search' 'rand_core rand_pcg'
 round=0
 while [ "$round" -lt "${1:-5}" ]; do
     "$program"

@@ -6,7 +6,7 @@
 set -e
 here=$(cd "$(dirname "$0")" && pwd)
 . "$here/../build.sh"
-build tour 'tk_problem tk_metric tk_tour tk_stores'
+build tour 'tk_problem tk_distance tk_tour'
 round=0
 while [ "$round" -lt "${1:-15}" ]; do
     nice -n -19 "$program" 2> "$work/errors" | sed 's/^/rattle /'

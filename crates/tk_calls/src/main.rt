@@ -1,16 +1,21 @@
-//! Library calls that take memory, made one after another on small instances, each with a line of what it answers.
+//! Calls of the libraries for tests, which are made again if they are refused memory.
 //!
 //! A call that is refused memory is told, and made again. `tests/refusals/calls` refuses one growth after another, and
 //! compares the lines.
 #![tactic(auto)]
 
+mod improving;
+mod instances;
+mod lists;
+mod readers;
+mod refusals;
 mod searches;
 mod starts;
 mod tours;
 mod turns;
 
+use crate::refusals::Stopped;
 use std::process::ExitCode;
-use tk_again::{Stopped, lists, readers};
 
 fn main(rt: HostRuntime) -> ExitCode {
     match make_calls(&rt) {
@@ -25,7 +30,7 @@ fn make_calls(rt: &HostRuntime) -> Result<(), Stopped> {
     tours::make_calls(rt)?;
     lists::make_calls(rt)?;
     starts::make_calls(rt)?;
-    tk_route_calls::make_calls(rt)?;
+    improving::make_calls(rt)?;
     turns::make_calls(rt)?;
     searches::make_calls(rt)
 }

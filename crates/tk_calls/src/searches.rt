@@ -1,16 +1,16 @@
 //! Searches. What is built before the first trial takes memory, and trials take none.
+use crate::again;
+use crate::instances::{FIVE, ROW, SQUARE};
+use crate::lists::near_of;
+use crate::readers::problem_of;
+use crate::refusals::{Refusal, Stopped};
 use rand_core::SeedableRng;
 use rand_pcg::Pcg32;
 use std::alloc::Global;
-use tk_again::instances::{FIVE, ROW, SQUARE};
-use tk_again::lists::near_of;
-use tk_again::readers::problem_of;
-use tk_again::{Refusal, Stopped, again};
-use tk_metric::{Metric, Table};
+use tk_distance::{Metric, Table};
 use tk_near::Near;
 use tk_search::{Search, SearchRules, Totals};
-use tk_stores::ArrayTour;
-use tk_tour::{TourFault, TourStore};
+use tk_tour::{ArrayTour, TourFault, TourStore};
 
 /// A search of that many trials from a tour, over so many candidates.
 #[derive(Clone, Copy)]

@@ -1,12 +1,13 @@
 //! Tours to begin with.
 ghost use Rattle.std.specs.Prelude.{◌≡◌, ◌≤◌};
-ghost use Rattle.tk_metric.specs.Tables.{table_size};
+ghost use Rattle.tk_distance.specs.Tables.{table_size};
 
-use tk_again::instances::{ROUTING, SQUARE};
-use tk_again::lists::near_of;
-use tk_again::readers::problem_of;
-use tk_again::{Refusal, Stopped, again};
-use tk_metric::{Metric, Table};
+use crate::again;
+use crate::instances::{ROUTING, SQUARE};
+use crate::lists::near_of;
+use crate::readers::problem_of;
+use crate::refusals::{Refusal, Stopped};
+use tk_distance::{Metric, Table};
 use tk_near::Near;
 use tk_starts::{nearest, savings_lists, savings_tour};
 use tk_text::Problem;

@@ -1,9 +1,9 @@
 //! Tours and the queue of cities that are awake.
+use crate::again;
+use crate::refusals::{Refusal, Stopped};
 use std::alloc::{AllocError, Global};
-use tk_again::{Refusal, Stopped, again};
 use tk_descent::Waking;
-use tk_stores::{ArrayTour, JournalTour};
-use tk_tour::{Flip, TourStore, check};
+use tk_tour::{ArrayTour, Flip, JournalTour, TourStore, check};
 
 /// Reverses the cities from after a to c, or those from after c to a.
 pub fn flip_after<S: TourStore>(tour: &mut S, a: u32, c: u32) -> Result<Flip, Stopped> {

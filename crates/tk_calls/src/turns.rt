@@ -1,21 +1,21 @@
 //! Looks, moves, descents, kicks and flips. What is built before them takes memory, and they take none.
 ghost use Rattle.std.specs.Prelude.{◌≡◌, IfOk, pos, length};
-ghost use Rattle.tk_metric.specs.Tables.{table_size, table_distance};
-ghost use Rattle.tk_stores.specs.ArrayTours.{order_of};
+ghost use Rattle.tk_distance.specs.Tables.{table_size, table_distance};
+ghost use Rattle.tk_tour.specs.ArrayTours.{order_of};
 ghost use Rattle.tk_tour.specs.Tour.{tour_length};
 
+use crate::again;
+use crate::instances::SQUARE;
+use crate::lists::near_of;
+use crate::readers::problem_of;
+use crate::refusals::{Refusal, Stopped};
 use crate::tours::{flip_after, journal_of, tour_of};
-use tk_again::instances::SQUARE;
-use tk_again::lists::near_of;
-use tk_again::readers::problem_of;
-use tk_again::{Refusal, Stopped, again};
 use tk_descent::{Probe, Report, Waking, descend, look, make};
-use tk_metric::{Metric, Table};
+use tk_distance::{Metric, Table};
 use tk_near::Near;
 use tk_search::{Cuts, kick};
-use tk_stores::{ArrayTour, JournalTour};
 use tk_text::Problem;
-use tk_tour::{TourStore, length};
+use tk_tour::{ArrayTour, JournalTour, TourStore, length};
 
 /// The length of a tour of all cities of a table.
 fn length_of(table: &Table<'_>, tour: &ArrayTour) -> i64

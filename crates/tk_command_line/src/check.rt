@@ -1,9 +1,9 @@
 //! The words of `check`.
 
+use crate::asked::Asked;
 use crate::command::{given, problem_file, subcommand};
 use clap::{ArgMatches, Command, Error};
 use std::alloc::Global;
-use tk_asked::Asked;
 
 /// What `check --help` ends with.
 const HELP: &str = "Reads PROBLEM and TOUR, one of which may be - for standard input.

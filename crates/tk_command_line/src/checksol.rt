@@ -1,9 +1,9 @@
 //! The words of `checksol`.
 
+use crate::asked::Asked;
 use crate::command::{given, problem_file, subcommand};
 use clap::{ArgMatches, Command, Error};
 use std::alloc::Global;
-use tk_asked::Asked;
 
 /// What `checksol --help` ends with.
 const HELP: &str = "Reads PROBLEM and SOL, one of which may be - for standard input.

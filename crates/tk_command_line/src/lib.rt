@@ -1,13 +1,17 @@
-//! The words that `tourkit` takes: its subcommands with their help, and what the words of a call ask for.
+//! The arguments of the program: its subcommands with their help, and what the words of a call ask for.
 #![tactic(auto)]
 
+mod asked;
 mod check;
 mod checksol;
 mod command;
+mod list_length;
 mod matrix;
 mod near;
 mod parsing;
 mod plot;
 mod solve;
 
+pub use asked::{Asked, STANDARD};
+pub use list_length::ListLength;
 pub use parsing::{Refusal, parse};

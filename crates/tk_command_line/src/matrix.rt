@@ -1,10 +1,10 @@
 //! The words of `matrix`.
 
+use crate::asked::Asked;
 use crate::command::{given, problem_file, subcommand};
 use clap::builder::ValueParser;
 use clap::{ArgMatches, Command, Error};
 use std::alloc::Global;
-use tk_asked::Asked;
 
 /// What `matrix --help` ends with.
 const HELP: &str = "Reads PROBLEM, of at most 5,000 nodes.

@@ -1,10 +1,11 @@
 //! The words of `near`.
 
+use crate::asked::Asked;
 use crate::command::{problem_file, subcommand};
+use crate::list_length::ListLength;
 use clap::builder::ValueParser;
 use clap::{Arg, ArgMatches, Command, Error};
 use std::alloc::Global;
-use tk_asked::{Asked, ListLength};
 
 /// What `near --help` ends with.
 const HELP: &str = "Reads PROBLEM.

@@ -1,11 +1,11 @@
 //! From the words of a call to what they ask for.
 
+use crate::asked::{Asked, STANDARD};
 use crate::command::{tourkit, twice_standard};
 use crate::{check, checksol, matrix, near, plot, solve};
 use clap::error::ErrorKind;
 use clap::{ArgMatches, Error};
 use std::alloc::Global;
-use tk_asked::{Asked, STANDARD};
 
 /// The exit status of words that are refused.
 const USAGE: u8 = 2;

@@ -1,9 +1,9 @@
 //! The words of `plot`.
 
+use crate::asked::Asked;
 use crate::command::{problem_file, subcommand};
 use clap::{Arg, ArgMatches, Command, Error};
 use std::alloc::Global;
-use tk_asked::Asked;
 
 /// What `plot --help` ends with.
 const HELP: &str = "Reads PROBLEM and CLAIM, one of which may be - for standard input.

@@ -1,9 +1,9 @@
 //! The words of `solve`.
 
+use crate::asked::Asked;
 use crate::command::{given, subcommand};
 use clap::{ArgMatches, Command, Error};
 use std::alloc::Global;
-use tk_asked::Asked;
 
 /// What `solve --help` ends with.
 const HELP: &str = "Reads PAR, and the problem and the initial tour that it names.

@@ -1,6 +1,6 @@
 //! Gains of moves: the only way by which a descent learns distances.
 ghost use Rattle.std.specs.Prelude.{◌≡◌, ℕ, ◌+◌, ◌-◌, ◌*◌, ◌^◌, ◌≤◌, All, IfSome, length};
-ghost use Rattle.tk_metric.specs.Cities.{IsCity};
+ghost use Rattle.tk_distance.specs.Cities.{IsCity};
 ghost use Rattle.tk_near.specs.Near.{near_of};
 ghost use Rattle.tk_tour.specs.Counters.{saturated};
 ghost use Rattle.tk_descent.specs.Offers.{gain, offers, Searched, EndsIn};

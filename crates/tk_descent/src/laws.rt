@@ -11,7 +11,7 @@ ghost use Rattle.tk_descent.specs.WakeMachine.{IsLocalOptimum, Wakes};
 use crate::descent::Report;
 use crate::offer::Offer;
 use crate::sweep::SweptReport;
-use tk_metric::Metric;
+use tk_distance::Metric;
 use tk_near::Near;
 
 /// A law: the gain of an offer, by four distances (2-opt) or six (Or-opt), is the length of the whole tour before its

@@ -1,6 +1,6 @@
 //! The steps of a tour, with the facts that a look needs of them.
 ghost use Rattle.std.specs.Prelude.{◌≡◌, ◌≤◌, length};
-ghost use Rattle.tk_metric.specs.Cities.{IsCity};
+ghost use Rattle.tk_distance.specs.Cities.{IsCity};
 ghost use Rattle.tk_tour.specs.Tour.{next_city, prev_city};
 
 use tk_tour::TourStore;

@@ -6,7 +6,7 @@ ghost use Rattle.tk_descent.specs.WakeMachine.{IsLocalOptimum};
 use crate::looks::looking::look;
 use crate::on_tour::size;
 use crate::probe::Probe;
-use tk_metric::Metric;
+use tk_distance::Metric;
 use tk_near::Near;
 use tk_tour::TourStore;
 

@@ -6,7 +6,7 @@ ghost use Rattle.tk_descent.specs.declared.offer.Offer.TheVariants.{Two, Or};
 use crate::gains::Gains;
 use crate::looks::looking::find_offer;
 use crate::offer::Found;
-use tk_metric::Metric;
+use tk_distance::Metric;
 use tk_near::Near;
 use tk_tour::TourStore;
 

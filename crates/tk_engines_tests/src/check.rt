@@ -1,7 +1,7 @@
 //! The engine of `check`.
 use crate::given::{AT_THE_TYPE, SQUARE, TOUR, UNSUPPORTED, expect};
 use std::alloc::Global;
-use tk_checks::{Fault, check_engine};
+use tk_engines::{Fault, check_engine};
 use tk_text::{FromRead, ToWrite};
 use tk_tour::Verdict;
 

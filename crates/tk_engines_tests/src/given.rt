@@ -1,6 +1,6 @@
 //! Texts that engines are given, and what is expected of their answers.
 use std::process::Abort;
-use tk_checks::Fault;
+use tk_engines::Fault;
 use tk_text::{TextFault, TextKind};
 
 /// The corners of a square.

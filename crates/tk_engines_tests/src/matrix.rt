@@ -2,7 +2,7 @@
 use crate::given::{SQUARE, expect};
 use std::alloc::Global;
 use std::test::Fail;
-use tk_checks::{Fault, matrix_engine};
+use tk_engines::{Fault, matrix_engine};
 use tk_text::{Format, FromRead, ToWrite};
 
 /// What the engine answers and what it writes.

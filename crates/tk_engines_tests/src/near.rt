@@ -1,7 +1,7 @@
 //! The engine of `near`.
 use crate::given::{SQUARE, expect};
 use std::alloc::Global;
-use tk_checks::{Fault, near_engine};
+use tk_engines::{Fault, near_engine};
 use tk_text::{FromRead, ToWrite};
 
 /// What the engine answers and what it writes for lists of 100 cities.

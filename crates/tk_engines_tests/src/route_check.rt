@@ -1,7 +1,7 @@
 //! The engine of `checksol`.
 use crate::given::{BAKERY, SQUARE, expect};
 use std::alloc::Global;
-use tk_checks::{Fault, route_check_engine};
+use tk_engines::{Fault, route_check_engine};
 use tk_routes::RouteVerdict;
 use tk_text::{FromRead, Keyword, TextFault, TextKind, ToWrite};
 

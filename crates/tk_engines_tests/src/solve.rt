@@ -2,9 +2,9 @@
 use crate::given::{BAKERY, SQUARE, TOUR, UNSUPPORTED};
 use std::alloc::Global;
 use std::process::Abort;
+use tk_engines::{Fault, solve_engine};
 use tk_params::{Key, Params, read_params};
 use tk_solve::Unwatched;
-use tk_solve_engine::{Fault, solve_engine};
 use tk_text::{FromRead, Sink, ToWrite, WriteFault};
 use tk_tour::TourFault;
 

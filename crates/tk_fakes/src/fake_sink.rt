@@ -1,8 +1,8 @@
 //! A sink that fails, for tests.
 ghost use Rattle.std.specs.Prelude.{◌≡◌, ◌≤◌, None, false, take};
 
-use tk_pen::Sink;
 use tk_words::Failed;
+use tk_writers::Sink;
 
 /// How many bytes it can hold.
 pub const ROOM: usize = 512;

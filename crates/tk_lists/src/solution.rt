@@ -1,15 +1,14 @@
 //! Solution texts.
 ghost use Rattle.std.specs.Prelude.{◌≡◌, true, List, [], map, Ok, IfOk, IfErr};
 ghost use Rattle.tk_words.specs.Drive.{IsTold};
-ghost use Rattle.tk_reading.specs.Texts.{IsAnswerWhereTold, IsIntact, text_limit};
+ghost use Rattle.tk_words.specs.Texts.{IsAnswerWhereTold, IsIntact, text_limit};
 ghost use Rattle.tk_lists.specs.Solution.{Solution, solution_decided};
 ghost use Rattle.tk_lists.specs.SolutionReader.{Fed};
 
 use crate::solution_reader::{LinePlace, SolutionReader};
 use crate::texts::SolText;
 use std::alloc::Global;
-use tk_reading::{TEXT_LIMIT, read_text};
-use tk_words::{Keyword, Source, Step, TextFault, TextKind, TextReader};
+use tk_words::{Keyword, Source, Step, TEXT_LIMIT, TextFault, TextKind, TextReader, read_text};
 
 impl SolutionReader {
     /// A fault on this line.

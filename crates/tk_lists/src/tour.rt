@@ -4,7 +4,7 @@ ghost use Rattle.tk_words.specs.declared.fault.TextKind.TheVariants as kinds;
 ghost use Rattle.tk_lines.specs.declared.form.Taken.TheVariants as takens;
 ghost use Rattle.tk_words.specs.declared.keyword.Keyword.TheVariants as words;
 ghost use Rattle.tk_words.specs.Drive.{IsTold};
-ghost use Rattle.tk_reading.specs.Texts.{IsAnswerWhereTold, IsIntact, text_limit};
+ghost use Rattle.tk_words.specs.Texts.{IsAnswerWhereTold, IsIntact, text_limit};
 ghost use Rattle.tk_lines.specs.Pieces.{Piece, Fault, first_at};
 ghost use Rattle.tk_lines.specs.Scan.{Scans};
 ghost use Rattle.tk_lines.specs.Forms.{IsToldWord, a_header};
@@ -14,8 +14,9 @@ ghost use Rattle.tk_lists.specs.TourForm.{TourHolds, TourWants, IsNext, IsOut};
 use crate::texts::TourText;
 use std::alloc::Global;
 use tk_lines::{Form, PieceReader, Scan, Taken};
-use tk_reading::{TEXT_LIMIT, read_text};
-use tk_words::{Entry, Keyword, Source, TextFault, TextKind, entry_of, limited};
+use tk_words::{
+    Entry, Keyword, Source, TEXT_LIMIT, TextFault, TextKind, entry_of, limited, read_text,
+};
 
 /// The entries of a tour's list.
 pub const TOUR_LIMIT: usize = 1_000_000;

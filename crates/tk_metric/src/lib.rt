@@ -1,20 +1,11 @@
-//! Distances.
+//! The public interface of distances and near lists, by `pub use`.
+//!
+//! Its rooms are crates of their own; this one is what callers use.
 #![tactic(auto)]
 
-mod euclid;
-mod exact;
-mod metric;
-mod planes;
-mod sub;
-mod table;
-mod triangle;
-mod turned;
-
-pub use euclid::Euclid;
-pub use exact::roots::{root, root_up};
-pub use metric::{Metric, Planar};
-pub use planes::Planes;
-pub use sub::Sub;
-pub use table::Table;
-pub use triangle::Triangle;
-pub use turned::{Turned, is_tall};
+pub use tk_distance::{
+    Euclid, Metric, Planar, Planes, Sub, Table, Triangle, Turned, root, root_up,
+};
+pub use tk_near::{
+    Found, Left, Near, near_lists, near_lists_agree, near_scan, near_sweep, near_tree,
+};

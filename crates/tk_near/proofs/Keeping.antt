@@ -7,7 +7,7 @@ use Rattle.std.proofs.lemmas.List.{get_or-map, get_or-take, get_or_default, take
 use Rattle.std.proofs.lemmas.List.Elements.{All-cons, All-nil, All-weaker, All-append, All-head, All-tail, All-replicate}
 use Rattle.std.proofs.lemmas.List.Sorted.{All-permutation, Contains-permutation}
 use Rattle.tk_near.specs.declared.candidates.Candidate.{Candidate}
-use Rattle.tk_metric.specs.Cities.{IsCity}
+use Rattle.tk_distance.specs.Cities.{IsCity}
 use Rattle.tk_near.specs.Near.{IsNear}
 use Rattle.tk_near.specs.Keeping.{Rising, Climbing, insert_by, rank, candidate, open_place, cities_of, KeepsFirst}
 use Rattle.tk_near.proofs.Inserting.{Rising-insert_by, Climbing-take, length-insert_by, IsPermutation-insert_by, take-insert_by, insert_by-append}

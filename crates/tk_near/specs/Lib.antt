@@ -1,2 +1,7 @@
 pub mod Keeping
+pub mod Kept
+pub mod Left
 pub mod Near
+pub mod Placed
+pub mod Sweep
+pub mod Tree

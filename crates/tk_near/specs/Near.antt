@@ -4,7 +4,7 @@
 --     IsNear dist n k c cities      the first k of the cities other than c
 --     AreNearest dist v      each list of v is that of its city
 use Rattle.std.specs.Prelude.{◌≡◌, ◌≢◌, ℕ, ◌-◌, ◌*◌, ◌<◌, ◌≤◌, ◌⊎◌, List, length, slice_index, take, drop, All}
-use Rattle.tk_metric.specs.Cities.{IsCity}
+use Rattle.tk_distance.specs.Cities.{IsCity}
 
 -- seen from c, a comes before b in the order of (distance, number)
 abbrev pub IsCloser : (ℕ → ℕ → ℕ) → ℕ → ℕ → ℕ → Type 0

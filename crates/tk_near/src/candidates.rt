@@ -1,9 +1,9 @@
 //! The nearest candidates of a city, kept in order.
 ghost use Rattle.std.specs.Prelude.{◌≡◌, ℕ, ◌≤◌, ◌<◌, ◌-◌, ◌*◌, ◌↔◌, IsTrue, length};
-ghost use Rattle.tk_metric.specs.Cities.{IsCity};
+ghost use Rattle.tk_distance.specs.Cities.{IsCity};
 ghost use Rattle.tk_near.specs.Keeping.{AreOpenFrom, candidate, rank, Climbing, with_candidate, overwritten, cities_of};
 
-use tk_metric::Metric;
+use tk_distance::Metric;
 
 /// A city with its distance from the one that looks.
 #[derive(Clone, Copy, Drop)]

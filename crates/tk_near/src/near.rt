@@ -1,13 +1,13 @@
 //! Near lists: for each city the first others by (distance, number).
 ghost use Rattle.std.specs.Prelude.{◌≡◌, ℕ, ◌*◌, ◌≤◌, ◌<◌, IfOk, All, length, ⊤};
-ghost use Rattle.tk_metric.specs.Cities.{IsCity};
+ghost use Rattle.tk_distance.specs.Cities.{IsCity};
 ghost use Rattle.tk_near.specs.Near.{IsNear, IsOther, AreNearest, near_of};
 ghost use Rattle.tk_near.specs.Keeping.{AreFilled, cities_of};
 
 use crate::candidates::{Candidate, OPEN, keep, measure, write_cities};
 use std::alloc::{AllocError, Global};
 use std::marker::Model;
-use tk_metric::Metric;
+use tk_distance::Metric;
 
 /// The near lists of the cities 1 to `size`, `width` entries for each: the list of a city has its nearest others.
 #[derive(Drop)]

@@ -11,8 +11,8 @@ use Rattle.tk_words.specs.declared.text_reader.Step.TheVariants as steps
 use Rattle.tk_words.specs.Drive.{Decides}
 use Rattle.tk_words.specs.Lex.{is_blank, is_word_byte, behind, lines}
 use Rattle.tk_params.proofs.Steps.{push_open, from_byte, from_over, from_eof, from_end_eof, from_open, from_LF, from_LF_fault, from_end, from_end_fault}
-use Rattle.tk_keys.specs.declared.fault.ParamKind.{ParamKind}
-use Rattle.tk_keys.specs.declared.fault.ParamKind.TheVariants as kinds
+use Rattle.tk_params.specs.declared.fault.ParamKind.{ParamKind}
+use Rattle.tk_params.specs.declared.fault.ParamKind.TheVariants as kinds
 use Rattle.tk_params.specs.declared.reader.ParamReader.{ParamReader}
 use Rattle.tk_params.specs.Readers.{IsSound}
 use Rattle.tk_params.specs.Reading.{Feeds, IsTaken, TakesLine, answer_in, from_line}

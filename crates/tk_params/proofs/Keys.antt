@@ -9,9 +9,9 @@ use Rattle.std.specs.Cmp.{IsEquivalence, nat_eq_equiv}
 use Rattle.std.specs.List.{IsDistinct}
 use Rattle.std.specs.Map.{keys_of}
 use Rattle.std.specs.Set.{is_member}
-use Rattle.tk_keys.specs.declared.key.Key.{Key}
-use Rattle.tk_keys.specs.declared.key.Key.TheVariants as keys
-use Rattle.tk_keys.specs.Keys.{all_keys, code}
+use Rattle.tk_params.specs.declared.key.Key.{Key}
+use Rattle.tk_params.specs.declared.key.Key.TheVariants as keys
+use Rattle.tk_params.specs.Keys.{all_keys, code}
 use Rattle.tk_params.specs.Values.{Settings, Value, has, same_key}
 use Rattle.tk_params.specs.Asked.{AreApart, ignored_keys, is_ignored}
 

@@ -5,4 +5,5 @@ pub mod Looks
 pub mod Steps
 pub mod Taken
 pub mod Told
+pub mod WordLengths
 pub mod Words

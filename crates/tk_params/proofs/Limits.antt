@@ -8,10 +8,10 @@ use Rattle.std.specs.Str.{is_utf8}
 use Rattle.tk_lines.proofs.Pieces.PieceLookups.{either_false}
 use Rattle.tk_words.specs.Entry.{in_range, natural_or_zero}
 use Rattle.tk_words.specs.Lex.{integer}
-use Rattle.tk_keys.specs.declared.key.Key.{Key}
-use Rattle.tk_keys.specs.declared.key.Key.TheVariants as keys
+use Rattle.tk_params.specs.declared.key.Key.{Key}
+use Rattle.tk_params.specs.declared.key.Key.TheVariants as keys
 use Rattle.tk_params.specs.declared.value.Construction.{Construction}
-use Rattle.tk_keys.specs.Keys.{all_keys, code}
+use Rattle.tk_params.specs.Keys.{all_keys, code}
 use Rattle.tk_params.proofs.Keys.{ignored_few}
 use Rattle.tk_params.specs.Values.{File, Number, Way, Switch, Ignored, Settings, Value, construction_of, file_of, greatest, has_dollar, least, look, same_key, switch_of, value_of}
 use Rattle.tk_params.specs.Asked.{AreApart, AreSettings, AreWithinLimits, IsFileName, IsSetting, IsWithin, asked_of, file_in, number_in}

@@ -18,9 +18,9 @@ use Rattle.tk_params.specs.Stored.{AreStored, entry_is, value_is}
 use Rattle.tk_params.specs.Asked.{IsSetting, ignored_keys, is_ignored}
 use Rattle.tk_params.proofs.Keys.{apart_push}
 use Rattle.std.specs.List.{IsDistinct}
-use Rattle.tk_keys.specs.contracts.key.KeyPartialEq.TheImpl.{eq-value}
-use Rattle.tk_keys.specs.declared.key.Key.{Key}
-use Rattle.tk_keys.specs.declared.key.Key.TheVariants as keys
+use Rattle.tk_params.specs.contracts.key.KeyPartialEq.TheImpl.{eq-value}
+use Rattle.tk_params.specs.declared.key.Key.{Key}
+use Rattle.tk_params.specs.declared.key.Key.TheVariants as keys
 use Rattle.tk_params.specs.Values.{Value, File, Meaning, Nothing, Settings, line_means, words_mean, file_of, has, has_dollar, key_means, look, same_key, value_of}
 
 -- keys are equal where they have one place

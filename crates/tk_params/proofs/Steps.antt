@@ -10,8 +10,8 @@ use Rattle.tk_lines.proofs.Headers.ByteRuns.{behind-all, behind-on, front-all, f
 use Rattle.tk_words.specs.Lex.{LF, Line, is_letter, is_blank, is_word_byte, is_empty, front, behind, lines}
 use Rattle.tk_lines.specs.Pieces.{prepend}
 use Rattle.tk_lines.specs.Scan.{IsEmpty}
-use Rattle.tk_keys.specs.declared.fault.ParamKind.{ParamKind}
-use Rattle.tk_keys.specs.declared.fault.ParamKind.TheVariants as kinds
+use Rattle.tk_params.specs.declared.fault.ParamKind.{ParamKind}
+use Rattle.tk_params.specs.declared.fault.ParamKind.TheVariants as kinds
 use Rattle.tk_params.specs.Readers.{IsSound}
 use Rattle.tk_params.specs.Reading.{ends_in, from_line}
 use Rattle.tk_params.specs.Values.{Settings, Meaning, Nothing, Faulty, Sets, line_means, settings_of}

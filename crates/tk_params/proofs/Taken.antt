@@ -1,8 +1,8 @@
 -- What is asked for, of the settings of which the files are taken out one by one.
 use Rattle.std.proofs.Common.{◌≡◌, ◌∙◌, false, Some, option_map, refl, sym, ap, subst}
 use Rattle.std.specs.Option.{unwrap_or}
-use Rattle.tk_keys.specs.declared.key.Key.{Key}
-use Rattle.tk_keys.specs.declared.key.Key.TheVariants as keys
+use Rattle.tk_params.specs.declared.key.Key.{Key}
+use Rattle.tk_params.specs.declared.key.Key.TheVariants as keys
 use Rattle.tk_params.specs.declared.value.Construction.TheVariants.{Nearest}
 use Rattle.tk_params.specs.Stored.{LosesOnly}
 use Rattle.tk_params.specs.Values.{Settings, look, same_key}

@@ -6,16 +6,16 @@ use Rattle.tk_words.specs.declared.fault.TextFault.{TextFault}
 use Rattle.tk_words.specs.declared.fault.TextKind.{TextKind}
 use Rattle.tk_words.specs.declared.fault.TextKind.TheVariants as text
 use Rattle.tk_words.specs.Drive.{line_behind, IsTold, IsToldKind}
-use Rattle.tk_reading.specs.Texts.{answer_of, IsAnswerWhereTold}
+use Rattle.tk_words.specs.Texts.{answer_of, IsAnswerWhereTold}
 use Rattle.tk_words.specs.Lex.{Line, is_blank, is_letter, is_word_byte, front, behind, lines}
 use Rattle.tk_words.specs.Words.{spells}
-use Rattle.tk_keys.specs.declared.fault.ParamFault.{ParamFault}
-use Rattle.tk_keys.specs.declared.fault.ParamKind.{ParamKind}
-use Rattle.tk_keys.specs.declared.fault.ParamKind.TheVariants as kinds
-use Rattle.tk_keys.specs.declared.key.Key.{Key}
+use Rattle.tk_params.specs.declared.fault.ParamFault.{ParamFault}
+use Rattle.tk_params.specs.declared.fault.ParamKind.{ParamKind}
+use Rattle.tk_params.specs.declared.fault.ParamKind.TheVariants as kinds
+use Rattle.tk_params.specs.declared.key.Key.{Key}
 use Rattle.std.specs.Option.{ok_or}
 use Rattle.tk_params.specs.Asked.{ParamsAre, asked}
-use Rattle.tk_keys.specs.Keys.{key_of}
+use Rattle.tk_params.specs.Keys.{key_of}
 use Rattle.tk_params.specs.Values.{Settings, Value, Meaning, Nothing, Faulty, Sets, has, has_dollar, key_means, line_means, sets, settings_of, value_behind, value_of, word_means, words_mean}
 use Rattle.tk_params.specs.Params.{Answer, IsParamAnswerWhereTold, IsParamTold, IsParamToldKind, after, at_end, counted, is_end, line_limit, joined, judge, kind_of, params_decided, params_limit, said}
 

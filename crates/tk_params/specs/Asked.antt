@@ -2,11 +2,11 @@
 use Rattle.std.specs.Prelude.{◌≢◌, ◌≤◌, ℕ, Bool, true, false, List, [], ◌∷◌, length, Option, Some, None, All, IfSome, option_map, unwrap_or, if◌then◌else◌}
 use Rattle.std.specs.List.{IsDistinct}
 use Rattle.std.specs.Map.{keys_of}
-use Rattle.tk_keys.specs.declared.key.Key.{Key}
-use Rattle.tk_keys.specs.declared.key.Key.TheVariants as keys
+use Rattle.tk_params.specs.declared.key.Key.{Key}
+use Rattle.tk_params.specs.declared.key.Key.TheVariants as keys
 use Rattle.tk_params.specs.declared.value.Construction.{Construction}
 use Rattle.tk_params.specs.declared.value.Construction.TheVariants.{Nearest}
-use Rattle.tk_keys.specs.Keys.{all_keys}
+use Rattle.tk_params.specs.Keys.{all_keys}
 use Rattle.tk_params.specs.Values.{Value, File, Number, Way, Switch, Ignored, Settings, greatest, least, look, same_key}
 
 -- the files, numbers and choices of a search, and the keys that were read and are not used, in the order of the file.

@@ -1,4 +1,5 @@
 pub mod Asked
+pub mod Keys
 pub mod Params
 pub mod Readers
 pub mod Reading

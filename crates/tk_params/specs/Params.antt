@@ -5,12 +5,12 @@ use Rattle.tk_words.specs.declared.fault.TextFault.{TextFault}
 use Rattle.tk_words.specs.declared.fault.TextKind.{TextKind}
 use Rattle.tk_words.specs.declared.fault.TextKind.TheVariants as text
 use Rattle.tk_words.specs.Drive.{Decided}
-use Rattle.tk_reading.specs.Texts.{answer_of}
+use Rattle.tk_words.specs.Texts.{answer_of}
 use Rattle.tk_words.specs.Lex.{Line, is_blank, is_word_byte, is_empty, front, behind, lines}
 use Rattle.tk_words.specs.Words.{spells}
-use Rattle.tk_keys.specs.declared.fault.ParamFault.{ParamFault}
-use Rattle.tk_keys.specs.declared.fault.ParamKind.{ParamKind}
-use Rattle.tk_keys.specs.declared.fault.ParamKind.TheVariants as kinds
+use Rattle.tk_params.specs.declared.fault.ParamFault.{ParamFault}
+use Rattle.tk_params.specs.declared.fault.ParamKind.{ParamKind}
+use Rattle.tk_params.specs.declared.fault.ParamKind.TheVariants as kinds
 use Rattle.tk_params.specs.Asked.{ParamsAre, asked}
 use Rattle.tk_params.specs.Values.{Settings, Meaning, Faulty, settings_of, line_means}
 

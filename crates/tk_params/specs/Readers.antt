@@ -1,7 +1,7 @@
 -- What a line of a parameter file is to its reader.
 use Rattle.std.specs.Prelude.{◌≡◌, ◌++◌}
-use Rattle.tk_keys.specs.declared.fault.ParamKind.{ParamKind}
-use Rattle.tk_keys.specs.declared.fault.ParamKind.TheVariants as kinds
+use Rattle.tk_params.specs.declared.fault.ParamKind.{ParamKind}
+use Rattle.tk_params.specs.declared.fault.ParamKind.TheVariants as kinds
 use Rattle.tk_params.specs.Values.{Meaning, Faulty, Settings, settings_of}
 
 -- no fault

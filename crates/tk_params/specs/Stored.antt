@@ -2,7 +2,7 @@
 use Rattle.std.specs.Prelude.{◌≡◌, false, List, option_map, map}
 use Rattle.std.specs.String.{string_bytes}
 use Rattle.indexmap.specs.IndexMap.{IndexMap}
-use Rattle.tk_keys.specs.declared.key.Key.{Key}
+use Rattle.tk_params.specs.declared.key.Key.{Key}
 use Rattle.tk_params.specs.declared.value.Setting.{Setting}
 use Rattle.tk_params.specs.declared.value.Setting.TheVariants as stored
 use Rattle.tk_params.specs.declared.params.Params.TheInside.{Inside as Fields}

@@ -6,13 +6,13 @@ use Rattle.std.specs.Str.{is_utf8}
 use Rattle.tk_words.specs.Lex.{is_blank, is_letter, is_word_byte, is_empty, front, behind, trim, integer}
 use Rattle.tk_words.specs.Words.{spells}
 use Rattle.tk_words.specs.Entry.{in_range, natural_or_zero}
-use Rattle.tk_keys.specs.declared.key.Key.{Key}
-use Rattle.tk_keys.specs.declared.key.Key.TheVariants as keys
+use Rattle.tk_params.specs.declared.key.Key.{Key}
+use Rattle.tk_params.specs.declared.key.Key.TheVariants as keys
 use Rattle.tk_params.specs.declared.value.Construction.{Construction}
 use Rattle.tk_params.specs.declared.value.Construction.TheVariants.{Nearest, Savings}
-use Rattle.tk_keys.specs.declared.fault.ParamKind.{ParamKind}
-use Rattle.tk_keys.specs.declared.fault.ParamKind.TheVariants as kinds
-use Rattle.tk_keys.specs.Keys.{code, key_of, is_file}
+use Rattle.tk_params.specs.declared.fault.ParamKind.{ParamKind}
+use Rattle.tk_params.specs.declared.fault.ParamKind.TheVariants as kinds
+use Rattle.tk_params.specs.Keys.{code, key_of, is_file}
 
 -- what a key says
 pub data Value : Type 0 where

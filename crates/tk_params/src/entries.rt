@@ -5,10 +5,10 @@ ghost use Rattle.tk_params.specs.Asked.{file_in, number_in, switch_in, way_in};
 ghost use Rattle.tk_params.specs.Stored.{LosesOnly, settings_in, value_is};
 ghost use Rattle.tk_params.specs.Values;
 
+use crate::key::Key;
 use crate::value::{Construction, Setting};
 use indexmap::IndexMap;
 use std::alloc::AllocError;
-use tk_keys::Key;
 
 /// What keys say, in the order in which they came.
 pub type Entries = IndexMap<Key, Setting>;

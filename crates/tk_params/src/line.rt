@@ -4,10 +4,11 @@ ghost use Rattle.tk_words.specs.Lex.{behind, front, is_blank, is_word_byte, trim
 ghost use Rattle.tk_params.specs.Readers.{HasTaken, IsToldOf};
 ghost use Rattle.tk_params.specs.Values;
 
+use crate::fault::ParamKind;
+use crate::key::{Key, key_of};
 use crate::settings::Settings;
 use crate::value::setting_of;
 use std::alloc::Global;
-use tk_keys::{Key, ParamKind, key_of};
 use tk_words::{blank, letter, spelled, word_byte};
 
 /// The most bytes of a key.

@@ -1,13 +1,13 @@
 //! What a parameter file asks for.
 ghost use Rattle.std.specs.Prelude.{◌≡◌, ◌≤◌, IfSome, length, option_map};
-ghost use Rattle.tk_keys.specs.Keys.{all_keys};
+ghost use Rattle.tk_params.specs.Keys.{all_keys};
 ghost use Rattle.tk_params.specs.Asked.{IsFileName, IsWithin, asked};
 
 use crate::entries::{number, switch, take_file, way};
+use crate::key::Key;
 use crate::settings::Settings;
 use crate::value::Construction;
 use std::marker::Model;
-use tk_keys::Key;
 
 /// What a parameter file asks for, with the defaults of the keys that it does not have. Each number is within the
 /// limits of its key, no file name is empty or has a `$`, and there are at most as many ignored keys as keys.

@@ -7,13 +7,14 @@ ghost use Rattle.tk_params.specs.Reading.{Feeds, TakesLine, answer_in};
 ghost use Rattle.tk_params.specs.Params as Text;
 ghost use Rattle.tk_params.specs.Params.{IsParamAnswerWhereTold, IsParamIntact, IsParamTold, is_eof};
 
+use crate::fault::{ParamFault, ParamKind};
 use crate::line::take_line;
 use crate::params::Params;
 use crate::settings::Settings;
 use std::alloc::{AllocError, Global};
-use tk_keys::{ParamFault, ParamKind};
-use tk_reading::read_text;
-use tk_words::{Source, Step, TextFault, TextKind, TextReader, blank, spelled, word_byte};
+use tk_words::{
+    Source, Step, TextFault, TextKind, TextReader, blank, read_text, spelled, word_byte,
+};
 
 /// The most bytes of a line.
 const LINE_LIMIT: u32 = 4096;

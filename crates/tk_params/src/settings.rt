@@ -5,11 +5,11 @@ ghost use Rattle.tk_params.specs.Stored.{settings_in, value_is};
 ghost use Rattle.tk_params.specs.Values;
 
 use crate::entries::{Entries, append, stored};
+use crate::key::Key;
 use crate::value::Setting;
 use indexmap::IndexMap;
 use std::alloc::{AllocError, Global};
 use std::marker::Model;
-use tk_keys::Key;
 
 /// Keys with what they say, each once, in the order of the file.
 #[derive(Drop)]

@@ -1,14 +1,15 @@
 //! The values of a parameter file's keys.
 ghost use Rattle.std.specs.Prelude.{◌≡◌, false, Some, None, IfOk, IfErr, option_map};
-ghost use Rattle.tk_keys.specs.Keys;
-ghost use Rattle.tk_keys.specs.declared.fault.ParamKind.TheVariants as kinds;
+ghost use Rattle.tk_params.specs.Keys;
+ghost use Rattle.tk_params.specs.declared.fault.ParamKind.TheVariants as kinds;
 ghost use Rattle.tk_params.specs.Asked.{is_ignored};
 ghost use Rattle.tk_params.specs.Readers.{IsToldOf};
 ghost use Rattle.tk_params.specs.Stored.{value_is};
 ghost use Rattle.tk_params.specs.Values;
 
+use crate::fault::ParamKind;
+use crate::key::Key;
 use std::alloc::Global;
-use tk_keys::{Key, ParamKind};
 use tk_words::{integer, spelled};
 
 /// How the tour is made that a run begins with.

@@ -7,7 +7,7 @@
 --   `Err`, and `has_taken` what is promised of an `Ok`;
 -- * `end_section`: `ends_early` without a node, `ends_behind` with one.
 use Rattle.std.proofs.Common.{◌≡◌, ◌≤◌, ℕ, Bool, true, false, not, ◌&&◌, ◌||◌, List, [], ◌∷◌, ◌++◌, length, take, Option, Some, None, refl, ap, ◌∙◌, arith}
-use Rattle.tk_sections.specs.declared.depot.Depot.{Depot}
+use Rattle.tk_problem_text.specs.declared.depot.Depot.{Depot}
 use Rattle.tk_words.specs.declared.keyword.Keyword.{Keyword}
 use Rattle.tk_words.specs.declared.keyword.Keyword.TheVariants as words
 use Rattle.tk_words.specs.declared.fault.TextKind.{TextKind}
@@ -20,13 +20,13 @@ use Rattle.tk_words.specs.MinusOne.{is_ending}
 use Rattle.tk_words.specs.Entry.{is_eof}
 use Rattle.tk_lines.specs.Lists.{list_extent, entries}
 use Rattle.tk_lines.specs.Forms.{IsToldWord, a_section, taken, Goes, Ends, EndsAtEof, StopsAt, HasTaken}
-use Rattle.tk_sections.specs.FixedSections.{tokens_stop}
-use Rattle.tk_sections.specs.DepotList.{depot_tests, depot_extent, depot_entries, depot_end}
-use Rattle.tk_sections.specs.DepotTaken.{IsDepot, HasDepot, is_list_end, DepotTakes, DepotRefuses}
+use Rattle.tk_problem_text.specs.FixedSections.{tokens_stop}
+use Rattle.tk_problem_text.specs.DepotList.{depot_tests, depot_extent, depot_entries, depot_end}
+use Rattle.tk_problem_text.specs.DepotTaken.{IsDepot, HasDepot, is_list_end, DepotTakes, DepotRefuses}
 use Rattle.tk_problem_text.specs.OpenSections.{HasDepotTokens}
 use Rattle.tk_problem_text.specs.Problem.{problem_format, size_of, word_tests}
-use Rattle.tk_sections.proofs.FixedSections.{IsReady, stop_at, stop_at_long, stop_at_open}
-use Rattle.tk_sections.proofs.DepotTaken.{has_none}
+use Rattle.tk_problem_text.proofs.FixedSections.{IsReady, stop_at, stop_at_long, stop_at_open}
+use Rattle.tk_problem_text.proofs.DepotTaken.{has_none}
 use Rattle.tk_lines.proofs.Sections.ListTokens.{long_goes, open_goes}
 use Rattle.tk_lines.proofs.Pieces.ToldFaults.{told_word}
 

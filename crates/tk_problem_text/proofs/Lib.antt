@@ -1,4 +1,7 @@
+pub mod DemandRows
 pub mod DepotList
+pub mod DepotTaken
+pub mod FixedSections
 pub mod HeaderRecords
 pub mod KeptHeaders
 pub mod OpenSections
@@ -6,6 +9,9 @@ pub mod PartEnds
 pub mod PartHeaders
 pub mod PartSections
 pub mod PartsWhole
+pub mod PlaceRows
 pub mod ProblemForms
 pub mod ReadNames
+pub mod Rows
 pub mod SectionBegins
+pub mod WeightTokens

@@ -10,20 +10,20 @@ use Rattle.tk_words.specs.declared.fault.TextKind.{TextKind}
 use Rattle.tk_words.specs.declared.fault.TextKind.TheVariants as kinds
 use Rattle.tk_lines.specs.declared.form.Taken.{Taken}
 use Rattle.tk_lines.specs.declared.form.Taken.TheVariants as takens
-use Rattle.tk_sections.specs.declared.depot.Depot.{Depot}
+use Rattle.tk_problem_text.specs.declared.depot.Depot.{Depot}
 use Rattle.tk_problem_text.specs.declared.open_section.OpenSection.{OpenSection}
 use Rattle.tk_problem_text.specs.declared.open_section.OpenSection.TheVariants.{Nothing, Places, Explicit, Loads, Home, Display}
 use Rattle.tk_words.specs.Lex.{Token, is_empty}
 use Rattle.tk_lines.specs.Pieces.{Piece, Clean, Early, Fault, first_at, Stop, or_else, After}
 use Rattle.tk_words.specs.Entry.{is_keyword, is_some_word}
 use Rattle.tk_lines.specs.Forms.{IsToldWord, whole, a_section, HasTaken, StopsAt}
-use Rattle.tk_sections.specs.FixedSections.{fixed_taken, IsFixed, tokens_stop, fixed_end}
-use Rattle.tk_sections.specs.Rows.{number_in}
+use Rattle.tk_problem_text.specs.FixedSections.{fixed_taken, IsFixed, tokens_stop, fixed_end}
+use Rattle.tk_problem_text.specs.Rows.{number_in}
 use Rattle.tk_problem_text.specs.Problem.{problem_format, size_of, token_tests, wanted, word_tests}
-use Rattle.tk_sections.specs.DepotTaken.{HasDepot, DepotTakes, DepotRefuses}
+use Rattle.tk_problem_text.specs.DepotTaken.{HasDepot, DepotTakes, DepotRefuses}
 use Rattle.tk_problem_text.specs.OpenSections.{HasSome, IsOpen, IsCounted, IsFirst, IsFull, IsPast}
-use Rattle.tk_sections.proofs.FixedSections.{ready, stops_at_keyword, told, has_taken, fixed_taken-last, fixed_taken-more}
-use Rattle.tk_sections.proofs.DepotTaken.{some_node, node_of, node_of-ended}
+use Rattle.tk_problem_text.proofs.FixedSections.{ready, stops_at_keyword, told, has_taken, fixed_taken-last, fixed_taken-more}
+use Rattle.tk_problem_text.proofs.DepotTaken.{some_node, node_of, node_of-ended}
 use Rattle.tk_problem_text.proofs.DepotList as Depots
 use Rattle.tk_words.specs.Words.{same_word}
 

@@ -12,7 +12,7 @@ use Rattle.tk_words.specs.declared.fault.TextFault.{TextFault}
 use Rattle.tk_words.specs.declared.fault.TextKind.{TextKind}
 use Rattle.tk_words.specs.declared.fault.TextKind.TheVariants as kinds
 use Rattle.tk_words.specs.Drive.{line_behind}
-use Rattle.tk_reading.specs.Texts.{answer_of}
+use Rattle.tk_words.specs.Texts.{answer_of}
 use Rattle.tk_problem_text.specs.HeaderValues.{name_of}
 use Rattle.tk_words.specs.Lex.{LF, Line, Token, onto_line, lines, tokens, tokens_of, is_blank, is_letter, is_word_byte, is_empty, front, behind, after_word, without_colon_before, trim, trim_end}
 use Rattle.tk_lines.specs.Pieces.{Piece, Stray, LongWord, OpenWord, Unknown, Header, Section, End, Stop, Open, Fault, Extents, pieces_at, piece_of, piece_by, section_at, covered, cut, end_piece, end_token, has, pieces, value_of, stop, stopped, ended, judge, decided_by}

@@ -10,7 +10,7 @@ use Rattle.tk_problem_text.specs.declared.header_values.WeightType.{WeightType}
 use Rattle.tk_problem_text.specs.declared.header_values.WeightType.TheVariants.{Plane, Explicit}
 use Rattle.tk_problem_text.specs.declared.header_values.WeightFormat.{WeightFormat}
 use Rattle.tk_problem_text.specs.declared.header_values.WeightFormat.TheVariants.{Function, Listed}
-use Rattle.tk_sections.specs.declared.explicit_weights.ExplicitWeights.{ExplicitWeights}
+use Rattle.tk_problem_text.specs.declared.explicit_weights.ExplicitWeights.{ExplicitWeights}
 use Rattle.tk_problem_text.specs.declared.open_section.OpenSection.{OpenSection}
 use Rattle.tk_problem_text.specs.declared.open_section.OpenSection.TheVariants as sections
 use Rattle.tk_problem_text.specs.declared.parts.Parts.{Parts}
@@ -21,13 +21,13 @@ use Rattle.tk_words.specs.Words.{same_word}
 use Rattle.tk_lines.specs.Pieces.{Piece, Fault, first_at, has, value_of}
 use Rattle.tk_lines.specs.Forms.{IsToldWord}
 use Rattle.tk_problem_text.specs.Parts.{HasParts}
-use Rattle.tk_sections.specs.Weighing.{HasWeights}
+use Rattle.tk_problem_text.specs.Weighing.{HasWeights}
 use Rattle.tk_problem.specs.WeightOrder.{order, is_of, times_written}
 use Rattle.tk_problem_text.specs.Problem.{size_of, weight_type, weight_format, is_explicit, listed_format, wanted, is_known_section, section_tests, word_tests}
 use Rattle.tk_problem_text.specs.OpenSections.{HasSome, IsOpen}
 use Rattle.tk_problem_text.specs.BegunSections.{IsUntouched, IsReady, IsBegun}
 use Rattle.tk_problem_text.specs.BegunSections as Begun
-use Rattle.tk_sections.proofs.FixedSections.{begins}
+use Rattle.tk_problem_text.proofs.FixedSections.{begins}
 use Rattle.tk_problem_text.proofs.OpenSections.{problem_fixed}
 use Rattle.tk_problem.proofs.WeightCounts.{pair-order}
 use Rattle.tk_problem_text.proofs.PartsWhole.{number_in_limits}

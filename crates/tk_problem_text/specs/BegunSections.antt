@@ -7,10 +7,10 @@ use Rattle.tk_problem_text.specs.declared.open_section.OpenSection.TheVariants.{
 use Rattle.tk_lines.specs.Pieces.{Piece, first_at, has}
 use Rattle.tk_problem_text.specs.Problem.{size_of, format_in, is_known_section, section_tests, word_tests}
 use Rattle.tk_problem_text.specs.OpenSections.{IsListed, IsOpen}
-use Rattle.tk_sections.specs.Coordinates.{HasPlaces}
-use Rattle.tk_sections.specs.Demands.{HasDemands}
-use Rattle.tk_sections.specs.Weighing.{HasWeights}
-use Rattle.tk_sections.specs.DepotTaken.{HasDepot}
+use Rattle.tk_problem_text.specs.Coordinates.{HasPlaces}
+use Rattle.tk_problem_text.specs.Demands.{HasDemands}
+use Rattle.tk_problem_text.specs.Weighing.{HasWeights}
+use Rattle.tk_problem_text.specs.DepotTaken.{HasDepot}
 
 -- no token of the word's section was taken
 abbrev pub IsUntouched : List Piece → Keyword → OpenSection → Type 0

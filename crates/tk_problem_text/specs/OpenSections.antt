@@ -7,15 +7,15 @@ use Rattle.tk_problem_text.specs.declared.open_section.OpenSection.TheVariants.{
 use Rattle.tk_words.specs.Lex.{Token}
 use Rattle.tk_lines.specs.Pieces.{Piece, After, has, first_at}
 use Rattle.tk_lines.specs.Forms.{a_section}
-use Rattle.tk_sections.specs.Rows.{number_in}
-use Rattle.tk_sections.specs.FixedSections.{HasTokens, tokens_stop}
-use Rattle.tk_sections.specs.WeightSection.{weight_count}
+use Rattle.tk_problem_text.specs.Rows.{number_in}
+use Rattle.tk_problem_text.specs.FixedSections.{HasTokens, tokens_stop}
+use Rattle.tk_problem_text.specs.WeightSection.{weight_count}
 use Rattle.tk_problem_text.specs.Problem.{size_of, format_in, token_tests, wanted, problem_format, word_tests}
-use Rattle.tk_sections.specs.Coordinates.{HasPlaces}
-use Rattle.tk_sections.specs.Demands.{HasDemands}
-use Rattle.tk_sections.specs.Weighing.{HasWeights}
-use Rattle.tk_sections.specs.DepotTaken.{HasDepot}
-use Rattle.tk_sections.specs.DepotList.{depot_tests}
+use Rattle.tk_problem_text.specs.Coordinates.{HasPlaces}
+use Rattle.tk_problem_text.specs.Demands.{HasDemands}
+use Rattle.tk_problem_text.specs.Weighing.{HasWeights}
+use Rattle.tk_problem_text.specs.DepotTaken.{HasDepot}
+use Rattle.tk_problem_text.specs.DepotList.{depot_tests}
 
 -- the section of a depot, at whose word nothing stops, and tokens of it without a fault
 pub record HasDepotTokens (before : List Piece) (n : ℕ) (toks : List Token) : Type 0 where

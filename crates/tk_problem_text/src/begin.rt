@@ -8,12 +8,15 @@ ghost use Rattle.tk_problem_text.specs.Parts.{HasParts};
 ghost use Rattle.tk_lines.specs.Pieces.{Piece, first_at, Fault};
 ghost use Rattle.tk_problem_text.specs.Problem.{size_of, is_known_section, is_explicit, listed_format, section_tests, word_tests, problem_type as problem_type_in};
 
+use crate::coordinates::Coordinates;
+use crate::demands::Demands;
+use crate::depot::Depot;
+use crate::explicit_weights::ExplicitWeights;
 use crate::header_values::{ProblemType, WeightFormat, WeightType};
 use crate::open_section::OpenSection;
 use crate::parts::Parts;
 use std::alloc::Global;
 use tk_problem::Format;
-use tk_sections::{Coordinates, Demands, Depot, ExplicitWeights};
 use tk_words::{Keyword, TextKind};
 
 /// The nodes of a problem with explicit weights or with demands, or whose matrix is written.

@@ -7,8 +7,11 @@ ghost use Rattle.tk_lines.specs.Pieces.{Piece};
 ghost use Rattle.tk_problem_text.specs.Problem.{problem_format};
 ghost use Rattle.tk_words.specs.Entry.{is_keyword};
 
+use crate::coordinates::Coordinates;
+use crate::demands::Demands;
+use crate::depot::Depot;
+use crate::explicit_weights::ExplicitWeights;
 use tk_lines::Taken;
-use tk_sections::{Coordinates, Demands, Depot, ExplicitWeights};
 use tk_words::{TextKind, keyword_in};
 
 /// The section whose tokens come.

@@ -1,7 +1,7 @@
 //! Problem texts.
 ghost use Rattle.std.specs.Prelude.{◌≡◌, true, Ok, IfOk, IfErr};
 ghost use Rattle.tk_words.specs.Drive.{IsTold};
-ghost use Rattle.tk_reading.specs.Texts.{IsAnswerWhereTold, IsIntact, text_limit};
+ghost use Rattle.tk_words.specs.Texts.{IsAnswerWhereTold, IsIntact, text_limit};
 ghost use Rattle.tk_problem_text.specs.Parts.{problem_is};
 ghost use Rattle.tk_problem_text.specs.Problem.{problem_decided};
 ghost use Rattle.tk_problem_text.specs.Names.{IsName};
@@ -10,8 +10,7 @@ use crate::problem_form::ProblemForm;
 use std::alloc::Global;
 use tk_lines::PieceReader;
 use tk_problem::Problem;
-use tk_reading::{TEXT_LIMIT, read_text};
-use tk_words::{Source, TextFault, TextKind};
+use tk_words::{Source, TEXT_LIMIT, TextFault, TextKind, read_text};
 
 /// Reads a problem text. What it answers is what every text says that begins with the bytes that it read, but for
 /// `Read`, where the source fails, and `NoMemory`.

@@ -3,7 +3,7 @@ use Rattle.std.proofs.Common.{◌≡◌, ℕ, ◌+◌, ◌-◌, ◌<◌, ◌≤�
 use Rattle.std.specs.Prelude.{map}
 use Rattle.std.specs.List.{concat}
 use Rattle.std.proofs.lemmas.List.{take_more, take_all}
-use Rattle.tk_metric.specs.Cities.{IsCity}
+use Rattle.tk_distance.specs.Cities.{IsCity}
 use Rattle.tk_routes.specs.RouteVerdicts.{AreServedOnce, IsCustomerFault, StandsAt}
 use Rattle.tk_routes.specs.Serving.{AreServed}
 use Rattle.tk_routes.specs.declared.verdict.RouteVerdict.{RouteVerdict}

@@ -5,7 +5,7 @@ use Rattle.std.proofs.lemmas.Bool.{ltb-true, ltb-false, lt-ltb, cases_eq}
 use Rattle.std.proofs.lemmas.List.{get_or-replicate, length-replicate, length-set}
 use Rattle.std.proofs.lemmas.List.Elements.{All-push, All-get_or}
 use Rattle.std.proofs.lemmas.List.Folds.{concat-append}
-use Rattle.tk_metric.specs.Cities.{IsCity}
+use Rattle.tk_distance.specs.Cities.{IsCity}
 use Rattle.tk_tour.specs.Tour.{IsTour, occurrences}
 use Rattle.tk_tour.proofs.Once.{occurrences-append}
 use Rattle.tk_tour.proofs.Tours.{occurrences-nil, occurrences-same, occurrences-other, length-distinct, length-whole}

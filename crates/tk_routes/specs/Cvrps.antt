@@ -1,5 +1,5 @@
 -- What callers see of a `Cvrp`.
-use Rattle.tk_metric.specs.Tables.{table_size, table_distance}
+use Rattle.tk_distance.specs.Tables.{table_size, table_distance}
 use Rattle.tk_routes.specs.Instance.{Instance}
 use Rattle.tk_routes.specs.declared.cvrp.Cvrp.{Cvrp}
 

@@ -6,8 +6,8 @@
 --     demand_of i k      the demand of customer k
 use Rattle.std.specs.Prelude.{◌≡◌, ℕ, ◌+◌, ◌-◌, List, nat_lt, if◌then◌else◌, IsSomeAnd}
 use Rattle.tk_problem.specs.declared.problem.Problem.{Problem}
-use Rattle.tk_metric.specs.Cities.{city_at}
-use Rattle.tk_metric.specs.Weights.{problem_distance}
+use Rattle.tk_distance.specs.Cities.{city_at}
+use Rattle.tk_distance.specs.Weights.{problem_distance}
 
 pub record Instance : Type 0 where
   pub size : ℕ

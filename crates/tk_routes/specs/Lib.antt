@@ -1,5 +1,9 @@
 pub mod Cvrps
+pub mod ImprovedRoutes
 pub mod Instance
-pub mod Routes
+pub mod RouteLists
 pub mod RouteVerdicts
+pub mod Routes
+pub mod Rows
+pub mod SavingsRoutes
 pub mod Serving

@@ -6,7 +6,7 @@
 --     IsRouteVerdict i routes cost verdict      the first fault, or that there is none
 use Rattle.std.specs.Prelude.{◌≡◌, ◌≢◌, ◌+◌, ◌<◌, ◌≤◌, ℕ, ℤ, pos, List, ◌∷◌, ◌++◌, length, nat_lt, filter}
 use Rattle.std.specs.List.{All, concat}
-use Rattle.tk_metric.specs.Cities.{IsCity}
+use Rattle.tk_distance.specs.Cities.{IsCity}
 use Rattle.tk_tour.specs.Tour.{occurrences}
 use Rattle.tk_routes.specs.Instance.{Instance, customer_count}
 use Rattle.tk_routes.specs.Routes.{AreRoutes, IsLight, route_load, routes_cost}

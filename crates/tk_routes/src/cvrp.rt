@@ -1,9 +1,9 @@
 //! A capacitated routing problem.
 ghost use Rattle.std.specs.Prelude.{◌≡◌, ◌≤◌, ◌-◌, ◌*◌, All, None, IfNone, IfSome, length, pos, slice_index};
-ghost use Rattle.tk_metric.specs.Cities.{IsCity};
-ghost use Rattle.tk_metric.specs.Tables.{table_size, table_distance};
+ghost use Rattle.tk_distance.specs.Cities.{IsCity};
+ghost use Rattle.tk_distance.specs.Tables.{table_size, table_distance};
 
-use tk_metric::{Metric, Table};
+use tk_distance::{Metric, Table};
 use tk_problem::Problem;
 
 /// A capacitated routing problem: the distances among its nodes, their demands, the capacity of a vehicle and the

@@ -1,6 +1,6 @@
 //! What the numbers of customers are.
 ghost use Rattle.std.specs.Prelude.{◌≡◌, ◌≢◌, ◌-◌, ◌<◌, ℕ};
-ghost use Rattle.tk_metric.specs.Cities.{IsCity};
+ghost use Rattle.tk_distance.specs.Cities.{IsCity};
 ghost use Rattle.tk_routes.specs.Instance.{customer_of, node_of};
 
 /// A law: the nodes of the customers 1 to n - 1 are the nodes other than the depot, rising.

@@ -1,8 +1,8 @@
 -- The end of a trial, by the tours of a search.
 use Rattle.std.specs.Prelude.{◌≡◌, ℕ, ◌+◌, ◌*◌, ◌<◌, ◌≤◌, true, false, length}
-use Rattle.tk_stores.specs.ArrayTours.{order_of, swaps_of, undo_swaps_of, copied_of}
+use Rattle.tk_tour.specs.ArrayTours.{order_of, swaps_of, undo_swaps_of, copied_of}
 use Rattle.tk_tour.specs.Counters.{saturated}
-use Rattle.tk_stores.specs.JournalTours.{tour_of, slots_of, flips_since, swaps_to_rewind}
+use Rattle.tk_tour.specs.JournalTours.{tour_of, slots_of, flips_since, swaps_to_rewind}
 use Rattle.tk_search.specs.Totals.{RisesBy}
 use Rattle.tk_search.specs.declared.trials.state.State.{State}
 use Rattle.tk_search.specs.declared.trials.totals.TrialReport.{TrialReport}

@@ -1,5 +1,5 @@
 -- What callers see of a `Search`.
-use Rattle.tk_metric.specs.declared.metric.Metric.{Ghosts}
+use Rattle.tk_distance.specs.declared.metric.Metric.{Ghosts}
 use Rattle.tk_search.specs.Searching.{Searching, searching}
 use Rattle.tk_search.specs.declared.trials.searching.Search.{Search}
 

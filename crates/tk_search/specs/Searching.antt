@@ -6,8 +6,8 @@
 use Rattle.std.specs.Prelude.{◌≡◌, ℕ, ◌+◌, ◌<◌, ◌≤◌, List, [], length, pos, true, false}
 use Rattle.rand_core.specs.Stream.{Stream}
 use Rattle.tk_near.specs.Near.{NearLists, near_of}
-use Rattle.tk_stores.specs.ArrayTours.{order_of}
-use Rattle.tk_stores.specs.JournalTours.{slots_of}
+use Rattle.tk_tour.specs.ArrayTours.{order_of}
+use Rattle.tk_tour.specs.JournalTours.{slots_of}
 use Rattle.tk_tour.specs.Tour.{tour_length}
 use Rattle.tk_descent.specs.Awake.{one_to}
 use Rattle.tk_tour.specs.Counters.{saturated}

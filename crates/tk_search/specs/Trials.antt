@@ -2,7 +2,7 @@
 use Rattle.std.specs.Prelude.{◌≡◌, ℕ, ◌+◌, ◌*◌, ◌/◌, ◌<◌, ◌≤◌, ◌↔◌, Bool, List, length, map, pos, ◌-ℤ◌, IsTrue, true, false}
 use Rattle.std.specs.Int.RustNames.{unsigned_abs}
 use Rattle.rand_core.specs.Stream.{Stream}
-use Rattle.tk_metric.specs.Cities.{city_at}
+use Rattle.tk_distance.specs.Cities.{city_at}
 use Rattle.tk_tour.specs.Tour.{SameCycle, tour_length}
 use Rattle.tk_descent.specs.Awake.{one_to, woken_each}
 use Rattle.tk_search.specs.Cuts.{AreCuts, bridged, drawn_cuts, end_places}

@@ -1,7 +1,7 @@
 -- The entries of a tour.
 use Rattle.std.proofs.Common.{ℕ, List, All, arith}
 use Rattle.std.proofs.lemmas.List.Elements.{All-from_get_or}
-use Rattle.tk_metric.specs.Cities.{IsCity}
+use Rattle.tk_distance.specs.Cities.{IsCity}
 use Rattle.tk_tour.specs.Tour.{IsTour}
 use Rattle.tk_tour.proofs.Tours.{city_in_range}
 

@@ -5,7 +5,7 @@ use Rattle.std.proofs.lemmas.Int.{ints}
 use Rattle.std.proofs.lemmas.List.{get_or-map, length-map}
 use Rattle.std.proofs.lemmas.List.Elements.{All-append, All-cons, All-map, All-nil}
 use Rattle.tk_near.specs.Near.{NearLists}
-use Rattle.tk_stores.specs.Printed.{IsPrintedForm}
+use Rattle.tk_tour.specs.Printed.{IsPrintedForm}
 use Rattle.tk_tour.specs.Tour.{IsTour, tour_length}
 use Rattle.tk_descent.proofs.MovesOnTours.Length.{length-cycle}
 use Rattle.tk_search.specs.Searching.{IsBegun, IsBoundedSearch}

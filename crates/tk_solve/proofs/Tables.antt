@@ -5,11 +5,11 @@ use Rattle.tk_problem.specs.declared.points.Places.{Places}
 use Rattle.tk_problem.specs.declared.points.Places.TheVariants.{Whole}
 use Rattle.tk_problem.specs.declared.weights.PlaneKind.{PlaneKind}
 use Rattle.tk_problem.specs.declared.weights.PlaneKind.TheVariants.{Euc2d}
-use Rattle.tk_metric.specs.PlaneOf.{city_distance}
-use Rattle.tk_metric.specs.declared.euclid.Euclid.{Euclid}
-use Rattle.tk_metric.specs.declared.planes.Planes.{Planes}
-use Rattle.tk_metric.specs.declared.table.Table.{Table}
-use Rattle.tk_metric.specs.declared.table.Table.TheVariants as Kind
+use Rattle.tk_distance.specs.PlaneOf.{city_distance}
+use Rattle.tk_distance.specs.declared.euclid.Euclid.{Euclid}
+use Rattle.tk_distance.specs.declared.planes.Planes.{Planes}
+use Rattle.tk_distance.specs.declared.table.Table.{Table}
+use Rattle.tk_distance.specs.declared.table.Table.TheVariants as Kind
 use Rattle.tk_solve.specs.declared.options.TourOptions.{TourOptions}
 use Rattle.tk_solve.specs.Starts.{task_of, task_over}
 

@@ -1,11 +1,11 @@
 -- What a search for routes answers.
 use Rattle.std.specs.Prelude.{◌≡◌, ℕ, ◌+◌, ◌-◌, ◌*◌, ◌≤◌, List, length, min, pos}
 use Rattle.tk_near.specs.Near.{NearLists, AreNearest, near_of}
-use Rattle.tk_route_search.specs.ImprovedRoutes.{AreImproved}
+use Rattle.tk_routes.specs.ImprovedRoutes.{AreImproved}
 use Rattle.tk_routes.specs.Instance.{Instance, customer_count}
 use Rattle.tk_routes.specs.Routes.{AreRoutes, routes_cost}
-use Rattle.tk_route_search.specs.SavingsRoutes.{AreSavingsRoutes}
-use Rattle.tk_route_search.specs.declared.route_report.RouteReport.{RouteReport}
+use Rattle.tk_routes.specs.SavingsRoutes.{AreSavingsRoutes}
+use Rattle.tk_routes.specs.declared.route_report.RouteReport.{RouteReport}
 
 -- The routes of the savings merges over near lists of the nodes, each then improved by itself by a descent with all its
 -- nodes awake. Each customer is on one route, no load is over the capacity, and each move makes the cost less.

@@ -4,7 +4,7 @@
 use Rattle.std.specs.Prelude.{◌≡◌, ◌≤ℤ◌, ℕ, ◌-◌, List, All, length, map, min, pos}
 use Rattle.std.specs.Int.RustNames.{unsigned_abs}
 use Rattle.tk_near.specs.Near.{NearLists}
-use Rattle.tk_stores.specs.Printed.{IsPrintedForm}
+use Rattle.tk_tour.specs.Printed.{IsPrintedForm}
 use Rattle.tk_tour.specs.Tour.{IsTour, tour_length}
 use Rattle.tk_search.specs.SearchLaws.{IsFirstShortest}
 use Rattle.tk_search.specs.Totals.{IsBounded}

@@ -5,8 +5,8 @@
 --     trials_of task      how many trials each run has
 use Rattle.std.specs.Prelude.{◌≡◌, ℕ, ◌+◌, ◌-◌, ◌%◌, List, ◌∷◌, Option, Some, None, MatchOption, flat_map, min, replicate, if◌then◌else◌, nat_lt}
 use Rattle.tk_near.specs.Near.{NearLists, AreNearest, near_of}
-use Rattle.tk_metric.specs.Tables.{table_size, table_distance}
-use Rattle.tk_metric.specs.declared.table.Table.{Table}
+use Rattle.tk_distance.specs.Tables.{table_size, table_distance}
+use Rattle.tk_distance.specs.declared.table.Table.{Table}
 use Rattle.tk_tour.specs.Tour.{IsTour}
 use Rattle.tk_starts.specs.NearestTour.{IsNearestTour}
 use Rattle.tk_starts.specs.PathEnds.{load_of}

@@ -1,18 +1,17 @@
 //! What is kept of the runs so far.
 ghost use Rattle.std.specs.Prelude.{◌≡◌, ◌≢◌, ◌<ℤ◌, ◌≤ℤ◌, ◌+◌, ◌<◌, ◌++◌, ◌∷◌, [], OnOk, length};
-ghost use Rattle.tk_metric.specs.Tables.{table_size, table_distance};
-ghost use Rattle.tk_stores.specs.ArrayTours.{order_of};
+ghost use Rattle.tk_distance.specs.Tables.{table_size, table_distance};
+ghost use Rattle.tk_tour.specs.ArrayTours.{order_of};
 ghost use Rattle.tk_tour.specs.Tour.{IsTour};
 
 use crate::options::TourOptions;
 use crate::search::search_run;
 use crate::watch::Watch;
 use std::alloc::{AllocError, Global};
-use tk_metric::{Metric, Table};
+use tk_distance::{Metric, Table};
 use tk_near::Near;
 use tk_search::{Search, Totals};
-use tk_stores::ArrayTour;
-use tk_tour::length;
+use tk_tour::{ArrayTour, length};
 
 /// What a run gave.
 #[derive(Clone, Copy, PartialEq, Eq, Debug)]

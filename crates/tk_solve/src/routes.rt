@@ -1,14 +1,13 @@
 //! The routes of a routing problem: by savings, and then each by itself.
 ghost use Rattle.std.specs.Prelude.{IfOk};
-ghost use Rattle.tk_route_search.specs.RouteLists.{routes_of};
+ghost use Rattle.tk_routes.specs.RouteLists.{routes_of};
 ghost use Rattle.tk_routes.specs.Cvrps.{instance_of};
 ghost use Rattle.tk_solve.specs.SolvedRoutes.{AreSolved};
 
 use crate::options::RouteOptions;
 use std::alloc::{AllocError, Global};
-use tk_plane::near_lists;
-use tk_route_search::{RouteReport, Routes, improve, savings};
-use tk_routes::Cvrp;
+use tk_near::near_lists;
+use tk_routes::{Cvrp, RouteReport, Routes, improve, savings};
 
 /// Routes of a routing problem: those of the savings merges over its near lists, each then improved by itself.
 ///

@@ -1,6 +1,6 @@
 //! One run: the trials of a search from a start.
 ghost use Rattle.std.specs.Prelude.{◌≡◌, ◌<◌, IfOk, length};
-ghost use Rattle.tk_stores.specs.ArrayTours.{order_of};
+ghost use Rattle.tk_tour.specs.ArrayTours.{order_of};
 ghost use Rattle.tk_search.specs.SearchOf.{search_of};
 ghost use Rattle.tk_solve.specs.Runs.{IsSearched};
 ghost use Rattle.tk_solve.specs.Starts.{task_over};
@@ -10,10 +10,10 @@ use crate::watch::{Progress, Watch};
 use rand_core::SeedableRng;
 use rand_pcg::Pcg32;
 use std::alloc::{AllocError, Global};
-use tk_metric::Metric;
+use tk_distance::Metric;
 use tk_near::Near;
 use tk_search::Search;
-use tk_stores::ArrayTour;
+use tk_tour::ArrayTour;
 
 /// The search of run j, from 0, after its trials.
 pub(crate) fn search_run<'a, M: Metric, W: Watch>(

@@ -1,19 +1,19 @@
 //! The tours that runs begin with.
 ghost use Rattle.std.specs.Prelude.{◌≡◌, ◌+◌, ◌%◌, ◌≤◌, IfOk, MatchOption, option_map};
-ghost use Rattle.tk_metric.specs.Cities.{IsCity};
-ghost use Rattle.tk_metric.specs.Tables.{table_size, table_distance};
+ghost use Rattle.tk_distance.specs.Cities.{IsCity};
+ghost use Rattle.tk_distance.specs.Tables.{table_size, table_distance};
 ghost use Rattle.tk_near.specs.Near.{near_of};
 ghost use Rattle.tk_tour.specs.Tour.{IsTour};
-ghost use Rattle.tk_stores.specs.ArrayTours.{order_of};
+ghost use Rattle.tk_tour.specs.ArrayTours.{order_of};
 ghost use Rattle.tk_starts.specs.NearestTour.{IsNearestTour};
 ghost use Rattle.tk_solve.specs.Starts.{IsSavedFor, common_of};
 
 use crate::options::Start;
 use std::alloc::{AllocError, Global};
-use tk_metric::{Metric, Table};
+use tk_distance::{Metric, Table};
 use tk_near::Near;
 use tk_starts::{nearest_tour, savings_tour};
-use tk_stores::ArrayTour;
+use tk_tour::ArrayTour;
 
 /// The savings tour of a table's cities, where runs begin with it; else no city.
 pub(crate) fn savings_start(

@@ -1,7 +1,7 @@
 //! The runs of a search for a tour.
 ghost use Rattle.std.specs.Prelude.{◌≡◌, ◌≤◌, IfOk, List, length, option_map, pos};
-ghost use Rattle.tk_metric.specs.Tables.{table_size, table_distance};
-ghost use Rattle.tk_stores.specs.Printed.{IsPrintedForm};
+ghost use Rattle.tk_distance.specs.Tables.{table_size, table_distance};
+ghost use Rattle.tk_tour.specs.Printed.{IsPrintedForm};
 ghost use Rattle.tk_tour.specs.Tour.{IsTour, tour_length};
 ghost use Rattle.tk_solve.specs.Outcomes.{AreKept};
 ghost use Rattle.tk_solve.specs.Runs.{Run};
@@ -13,11 +13,9 @@ use crate::outcome::{Outcome, RunReport};
 use crate::starts::{common_start, savings_start, start_of};
 use crate::watch::Watch;
 use std::alloc::{AllocError, Global};
-use tk_metric::{Metric, Table};
-use tk_near::Near;
-use tk_plane::near_lists;
-use tk_stores::ArrayTour;
-use tk_tour::length;
+use tk_distance::{Metric, Table};
+use tk_near::{Near, near_lists};
+use tk_tour::{ArrayTour, length};
 
 /// What a search for a tour gave.
 #[derive(Drop)]

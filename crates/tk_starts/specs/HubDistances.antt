@@ -1,7 +1,7 @@
 -- The distances of the cities from the hub, which the savings of all pairs share.
 use Rattle.std.specs.Prelude.{◌≡◌, ℕ, ◌+◌, List, length}
 use Rattle.tk_starts.specs.PathEnds.{at}
-use Rattle.tk_metric.specs.Cities.{IsCity}
+use Rattle.tk_distance.specs.Cities.{IsCity}
 
 -- each city's stands at its number
 pub record AreFromHub (dist : ℕ → ℕ → ℕ) (n hub : ℕ) (distances : List ℕ) : Type 0 where

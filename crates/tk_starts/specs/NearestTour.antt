@@ -1,7 +1,7 @@
 -- The nearest-neighbour tour of a distance table over the cities 1 to n.
 --     IsNearestTour dist n start cities      from the start on, each next city is the first of those that are left
 use Rattle.std.specs.Prelude.{◌≡◌, ℕ, ◌+◌, ◌<◌, List, length, slice_index}
-use Rattle.tk_metric.specs.Cities.{IsCity}
+use Rattle.tk_distance.specs.Cities.{IsCity}
 use Rattle.tk_near.specs.Near.{IsFirst, IsNew}
 
 -- the city after place j, from 0, is the first, seen from that at place j, of those that do not stand before it

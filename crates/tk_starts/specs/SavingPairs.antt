@@ -6,7 +6,7 @@
 use Rattle.std.specs.Prelude.{◌≡◌, ◌≢◌, ℕ, ◌+◌, ◌-◌, ◌<◌, true, List, ◌⊎◌, ◌↔◌}
 use Rattle.std.specs.List.{AllPairs, Contains}
 use Rattle.tk_starts.specs.Holding.{holds}
-use Rattle.tk_metric.specs.Cities.{IsCity}
+use Rattle.tk_distance.specs.Cities.{IsCity}
 use Rattle.tk_starts.specs.declared.merges.pairs.Pair.{Pair}
 
 -- what is saved by going from i to j in place of twice to the hub, where that is positive

@@ -1,6 +1,6 @@
 -- The lists of the savings merges (G. Clarke and J. W. Wright, 1964).
 use Rattle.std.specs.Prelude.{◌≡◌, ◌≢◌, ◌≤◌, ℕ, List, []}
-use Rattle.tk_metric.specs.Cities.{IsCity}
+use Rattle.tk_distance.specs.Cities.{IsCity}
 use Rattle.tk_starts.specs.SavingPairs.{AreCandidates}
 use Rattle.tk_starts.specs.Joints.{joints, ArePartPaths}
 use Rattle.tk_starts.specs.declared.merges.pairs.Pair.{Pair}

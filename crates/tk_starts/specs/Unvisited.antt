@@ -1,9 +1,9 @@
 -- The cities that a nearest-neighbour tour has not visited yet, as a row that has just them.
 use Rattle.std.specs.Prelude.{ℕ, ◌↔◌, List}
-use Rattle.tk_plane.specs.declared.placed.Placed.{Placed}
-use Rattle.tk_metric.specs.Cities.{IsCity}
+use Rattle.tk_near.specs.declared.placed.Placed.{Placed}
+use Rattle.tk_distance.specs.Cities.{IsCity}
 use Rattle.tk_near.specs.Near.{IsFirst, IsNew}
-use Rattle.tk_left.specs.Left.{Stands}
+use Rattle.tk_near.specs.Left.{Stands}
 
 -- b is the first of those that are left, seen from c
 abbrev pub IsFirstLeft : (ℕ → ℕ → ℕ) → ℕ → List Placed → ℕ → ℕ → Type 0

@@ -1,6 +1,11 @@
+pub mod ArrayTours
 pub mod Counters
 pub mod Fault
+pub mod Journal
+pub mod JournalTours
 pub mod Moves
+pub mod Printed
 pub mod Reversal
+pub mod ReversalLaws
 pub mod Tour
 pub mod Verdict

@@ -5,7 +5,7 @@
 --     ReplacesSteps old new a b c d      what a flip promises: the 2-opt move at every cut of the cycle at those steps
 --     CanFlip cities a b c d      where a flip may be made
 use Rattle.std.specs.Prelude.{◌≡◌, ◌≢◌, ℕ, ◌≤◌, ◌⊎◌, List, ◌++◌, length, min, reverse}
-use Rattle.tk_metric.specs.Cities.{IsCity}
+use Rattle.tk_distance.specs.Cities.{IsCity}
 use Rattle.tk_tour.specs.Tour.{SameCycle, IsPath, next_city, prev_city}
 
 -- a and c are two cities, and b and d come right after them, or right before them

@@ -1,9 +1,9 @@
 //! The length of a tour.
 ghost use Rattle.std.specs.Prelude.{◌≡◌, ◌≤◌, pos, length, All};
-ghost use Rattle.tk_metric.specs.Cities.{IsCity};
+ghost use Rattle.tk_distance.specs.Cities.{IsCity};
 ghost use Rattle.tk_tour.specs.Tour.{tour_length};
 
-use tk_metric::Metric;
+use tk_distance::Metric;
 
 /// The sum of the distances along a closed tour through the cities, in their order: 0 for none, and for two the one
 /// distance twice.

@@ -1,6 +1,9 @@
-//! The tests of `tk_tour`, in a crate of their own: the tests of a crate are proved together with all of its functions.
+//! The tests of tours and of descents. They have a crate of their own, because the tests of a crate are proved together
+//! with all of its functions.
 #![tactic(auto)]
 
+#[cfg(test)]
+mod descents;
 #[cfg(test)]
 mod examples;
 #[cfg(test)]

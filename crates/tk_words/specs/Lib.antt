@@ -3,4 +3,5 @@ pub mod Drive
 pub mod Entry
 pub mod Lex
 pub mod MinusOne
+pub mod Texts
 pub mod Words

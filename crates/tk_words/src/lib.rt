@@ -1,4 +1,4 @@
-//! Bytes, words and numbers: where bytes come from, what they spell, and the faults of a text.
+//! Bytes, words and numbers: sources and the loop that reads one, keywords, integers, decimals, the final `-1`, faults.
 #![tactic(auto)]
 
 mod decimals;
@@ -7,6 +7,7 @@ mod fault;
 mod held;
 mod integers;
 mod keyword;
+mod reading;
 mod source;
 mod text_reader;
 mod words;
@@ -17,6 +18,7 @@ pub use fault::{TextFault, TextKind};
 pub use held::{Held, blank, blank_or_end, letter, spelled, token_length, word_byte};
 pub use integers::integer;
 pub use keyword::{Keyword, Role};
+pub use reading::{TEXT_LIMIT, feed_piece, read_text};
 pub use source::{Failed, FromRead, Source};
 pub use text_reader::{Run, Step, TextReader};
 pub use words::{keyword_of, role};

@@ -1,7 +1,11 @@
 pub mod Lengths
 pub mod MatrixLines
+pub mod NumberLengths
+pub mod PutEach
+pub mod Putting
 pub mod ReadBack
 pub mod Saying
 pub mod SolutionReadBack
 pub mod TourReadBack
+pub mod Writing
 pub mod Written

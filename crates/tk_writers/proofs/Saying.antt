@@ -7,13 +7,13 @@ use Rattle.std.proofs.lemmas.List.Elements.{All-head, All-tail}
 use Rattle.tk_words.specs.declared.fault.TextFault.{TextFault}
 use Rattle.tk_words.specs.declared.keyword.Keyword.{Keyword}
 use Rattle.tk_words.specs.Drive.{Decided}
-use Rattle.tk_reading.specs.Texts.{text_limit}
+use Rattle.tk_words.specs.Texts.{text_limit}
 use Rattle.tk_words.specs.Lex.{LF, Line, Token, is_blank, behind, lines}
 use Rattle.tk_lines.specs.Pieces.{Piece, Header, Section, Clean, Format, cut, decided_by, end_piece, judge, last_line, pieces_at, stop, after_tokens}
 use Rattle.tk_words.specs.Words.{keyword_of, section_word, rest_word}
-use Rattle.tk_pen.specs.Written.{line}
+use Rattle.tk_writers.specs.Written.{line}
 use Rattle.tk_writers.specs.ReadBack.{IsReadBackAs}
-use Rattle.tk_reading.proofs.Driving.{answer_ended}
+use Rattle.tk_words.proofs.Driving.{answer_ended}
 use Rattle.tk_lines.proofs.Sections.MiddleOfSection.{cut-covered, token}
 use Rattle.tk_writers.proofs.Written.WrittenLines.{whole_line, lines-written, row_lines, next_line, cut-rows}
 use Rattle.tk_lines.proofs.Lines.{OnOneLine}

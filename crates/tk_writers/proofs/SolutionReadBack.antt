@@ -7,7 +7,7 @@ use Rattle.std.proofs.lemmas.Bool.{lt-leb, le-leb, le-ltb, ne_eqb}
 use Rattle.std.proofs.lemmas.List.{append-nil, length-append}
 use Rattle.tk_words.specs.Lex.{Line, Token, lines, tokens_of, after_word, is_empty, front, behind}
 use Rattle.tk_words.specs.Entry.{numbers_of}
-use Rattle.tk_pen.specs.Written.{line, spaced_numbers}
+use Rattle.tk_writers.specs.Written.{line, spaced_numbers}
 use Rattle.tk_writers.specs.SolutionWritten.{route_lines, solution_text}
 use Rattle.tk_lists.specs.Solution.{Behind, route_line, number_head, SolutionLine, Route, Cost, Empty, routes_of, count_of, has_cost, cost_of, customers_stop, line_of, line_stop, judge_lines, solution_decided}
 use Rattle.tk_writers.specs.ReadBack.{IsSolution, SolutionReadsBack}

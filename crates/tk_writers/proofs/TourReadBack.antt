@@ -15,7 +15,7 @@ use Rattle.tk_lists.specs.Tour.{entries_stop, entry_stop, tour_decided, tour_for
 use Rattle.tk_words.specs.Entry.{is_eof, is_eof_word, is_keyword, is_some_word, natural_or_zero, numbers_of}
 use Rattle.tk_writers.specs.TourWritten.{tour_head, tour_text}
 use Rattle.tk_words.specs.Words.{keyword_of, section_word, rest_word}
-use Rattle.tk_pen.specs.Written.{line}
+use Rattle.tk_writers.specs.Written.{line}
 use Rattle.tk_lines.proofs.Sections.SectionEnds.{take_whole, last_line-append}
 use Rattle.tk_lists.proofs.Lists.{entries_ended, list_ended}
 use Rattle.tk_words.proofs.NoWord.{integer-no_word}

@@ -1,5 +1,9 @@
 pub mod FormatLines
 pub mod MatrixText
+pub mod Pens
+pub mod Puts
 pub mod ReadBack
 pub mod SolutionWritten
 pub mod TourWritten
+pub mod Writes
+pub mod Written

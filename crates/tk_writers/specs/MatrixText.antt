@@ -2,7 +2,7 @@
 use Rattle.std.specs.Prelude.{◌≡◌, ℕ, ◌≤◌, ℤ, pos, List, [], ◌∷◌, ◌++◌, codes, decimal, map, flat_map}
 use Rattle.std.specs.List.{range_with_len}
 use Rattle.tk_writers.specs.FormatLines.{line_places}
-use Rattle.tk_pen.specs.Written.{line, spaced_numbers}
+use Rattle.tk_writers.specs.Written.{line, spaced_numbers}
 use Rattle.tk_problem.specs.declared.weights.Format.{Format}
 use Rattle.tk_problem.specs.declared.weights.Format.TheVariants as formats
 

@@ -3,7 +3,7 @@ use Rattle.std.specs.Prelude.{◌≡◌, ◌≢◌, ℕ, ◌-◌, ◌*◌, ◌^�
 use Rattle.std.specs.List.{range_with_len, concat, AllByRecursion}
 use Rattle.tk_problem.specs.declared.weights.Format.{Format}
 use Rattle.tk_words.specs.Drive.{Decided}
-use Rattle.tk_reading.specs.Texts.{answer_of, text_limit}
+use Rattle.tk_words.specs.Texts.{answer_of, text_limit}
 use Rattle.tk_writers.specs.MatrixText.{matrix_text}
 use Rattle.tk_lists.specs.Solution.{solution_decided}
 use Rattle.tk_writers.specs.SolutionWritten.{solution_text}

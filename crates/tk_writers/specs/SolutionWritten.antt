@@ -1,6 +1,6 @@
 -- The text of a solution (the CVRPLIB format).
 use Rattle.std.specs.Prelude.{ℕ, ◌+◌, List, [], ◌∷◌, ◌++◌, codes, decimal}
-use Rattle.tk_pen.specs.Written.{line, spaced_numbers}
+use Rattle.tk_writers.specs.Written.{line, spaced_numbers}
 
 -- a route's number and its customers
 abbrev pub route_line : ℕ → List ℕ → List ℕ

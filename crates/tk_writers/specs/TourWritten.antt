@@ -1,6 +1,6 @@
 -- The text of a tour (G. Reinelt, "TSPLIB 95").
 use Rattle.std.specs.Prelude.{ℕ, List, [], ◌∷◌, ◌++◌, codes, decimal, flat_map, length}
-use Rattle.tk_pen.specs.Written.{line}
+use Rattle.tk_writers.specs.Written.{line}
 
 -- the name of an instance and the tour's length name the tour
 abbrev pub tour_head : List ℕ → ℕ → ℕ → List (List ℕ)

@@ -4,12 +4,13 @@ ghost use Rattle.std.specs.List.{range_with_len};
 ghost use Rattle.tk_problem.specs.declared.weights.Format.{Format};
 ghost use Rattle.tk_writers.specs.FormatLines.{by_columns, on_line, place};
 ghost use Rattle.tk_writers.specs.MatrixText.{format_word, Gives, matrix_head, matrix_line, matrix_text};
-ghost use Rattle.tk_pen.specs.Pens.{Puts};
-ghost use Rattle.tk_pen.specs.Puts.{Writes};
+ghost use Rattle.tk_writers.specs.Pens.{Puts};
+ghost use Rattle.tk_writers.specs.Puts.{Writes};
 ghost use Rattle.tk_problem_text.specs.Names.{IsName};
 ghost use Rattle.tk_writers.specs.ReadBack.{IsTable, ReadsBack};
 
-use tk_pen::{Pen, Sink, WriteFault};
+use crate::pen::{Pen, WriteFault};
+use crate::sink::Sink;
 use tk_problem::Format;
 
 /// The word of a format.

@@ -2,12 +2,13 @@
 ghost use Rattle.std.specs.Prelude.{◌≡◌, ◌≤◌, length, true, pos, ◌≤ℤ◌, map, OnErr};
 ghost use Rattle.std.specs.List.{concat};
 ghost use Rattle.std.specs.Int.RustNames.{unsigned_abs};
-ghost use Rattle.tk_pen.specs.Pens.{Puts};
-ghost use Rattle.tk_pen.specs.Puts.{Writes};
+ghost use Rattle.tk_writers.specs.Pens.{Puts};
+ghost use Rattle.tk_writers.specs.Puts.{Writes};
 ghost use Rattle.tk_writers.specs.ReadBack.{IsSolution, SolutionReadsBack};
 ghost use Rattle.tk_writers.specs.SolutionWritten.{route_line, route_lines, solution_text};
 
-use tk_pen::{Pen, Sink, WriteFault};
+use crate::pen::{Pen, WriteFault};
+use crate::sink::Sink;
 
 /// Writes a route's line.
 fn put_route<W: Sink>(pen: &mut Pen<'_, W>, number: u64, customers: &[u32])

@@ -1,13 +1,14 @@
 //! Writes tours.
 ghost use Rattle.std.specs.Prelude.{◌≡◌, ◌≤◌, length as count, true, pos, ◌≤ℤ◌, decimal, flat_map, OnErr};
 ghost use Rattle.std.specs.Int.RustNames.{unsigned_abs};
-ghost use Rattle.tk_pen.specs.Pens.{Puts};
-ghost use Rattle.tk_pen.specs.Puts.{Writes};
+ghost use Rattle.tk_writers.specs.Pens.{Puts};
+ghost use Rattle.tk_writers.specs.Puts.{Writes};
 ghost use Rattle.tk_writers.specs.ReadBack.{IsTour, TourReadsBack};
 ghost use Rattle.tk_writers.specs.TourWritten.{tour_head, tour_text};
-ghost use Rattle.tk_pen.specs.Written.{line};
+ghost use Rattle.tk_writers.specs.Written.{line};
 
-use tk_pen::{Pen, Sink, WriteFault};
+use crate::pen::{Pen, WriteFault};
+use crate::sink::Sink;
 
 /// Writes the lines before the cities.
 fn put_tour_head<W: Sink>(pen: &mut Pen<'_, W>, name: &[u8], size: u64, cities: u64)

@@ -1,27 +1,21 @@
 //! `tourkit`: symmetric travelling salesman problems and tours, read alike and checked.
 #![tactic(auto)]
 
+mod call;
+mod check;
+mod checksol;
+mod input;
+mod matrix;
+mod near;
+mod output;
 mod plot_command;
 mod progress;
+mod report;
 mod solve_command;
+mod words;
 
 use std::process::ExitCode;
-use tk_check_commands::{Others, run_call};
-
-/// The subcommands of the whole program.
-#[derive(Drop)]
-struct Whole;
-
-impl Others for Whole {
-    fn plot(&self, rt: &HostRuntime, problem: &str, claim: Option<&str>) -> ExitCode {
-        plot_command::run(rt, problem, claim)
-    }
-
-    fn solve(&self, rt: &HostRuntime, parameters: &str) -> ExitCode {
-        solve_command::run(rt, parameters)
-    }
-}
 
 fn main(rt: HostRuntime) -> ExitCode {
-    run_call(&rt, &Whole)
+    call::run_call(&rt)
 }

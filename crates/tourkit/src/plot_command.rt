@@ -1,12 +1,12 @@
 //! The subcommand `plot`.
+use crate::input::{Input, open, open_two};
+use crate::report::{self, FOUND};
 use std::process::ExitCode;
-use tk_console::report::{self, FOUND};
-use tk_console::{Input, open, open_two};
-use tk_pen::ToWrite;
-use tk_plot::{Fault, Plotted, plot_engine};
+use tk_engines::{Fault, Plotted, plot_engine};
 use tk_routes::RouteVerdict;
 use tk_tour::Verdict;
 use tk_words::{FromRead, Source};
+use tk_writers::ToWrite;
 
 /// `plot PROBLEM [CLAIM]`. Both files are opened before either is read.
 pub fn run(rt: &HostRuntime, problem_file: &str, claim_file: Option<&str>) -> ExitCode {

@@ -1,12 +1,14 @@
 //! The subcommand `solve`.
+use crate::input::open;
+use crate::output::save;
 use crate::progress::ProgressLine;
+use crate::report;
 use std::fs::File;
 use std::process::ExitCode;
-use tk_console::{open, report, save};
+use tk_engines::{Fault, solve_engine};
 use tk_params::{Params, read_params};
-use tk_pen::ToWrite;
-use tk_solve_engine::{Fault, solve_engine};
 use tk_words::{FromRead, Source};
+use tk_writers::ToWrite;
 
 /// `solve PAR`. The problem's file is opened before that of the initial tour, and both before either is read.
 pub fn run(rt: &HostRuntime, file: &str) -> ExitCode {

@@ -1,6 +1,6 @@
 -- Paths, as lists whose first and last city compute.
 use Rattle.std.proofs.Common.{◌≡◌, ◌≤◌, ℕ, ◌↔◌, true, List, [], ◌∷◌, length}
-use Rattle.tk_metric.specs.Cities.{IsCity}
+use Rattle.tk_distance.specs.Cities.{IsCity}
 use Rattle.tk_descent.specs.Awake.{holds, IsDistinct}
 
 -- the last city of a path that begins with a

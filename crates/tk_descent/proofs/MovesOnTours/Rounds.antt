@@ -1,7 +1,7 @@
 -- Tours by their members, and their steps.
 use Rattle.std.proofs.Common.{◌≡◌, ℕ, ◌<◌, ◌≤◌, ◌≢◌, ◌⊎◌, true, false, eqb, List, [], ◌∷◌, length, reverse, refl, sym, ◌∙◌, arith, inl, inr}
 use Rattle.std.proofs.lemmas.Bool.{or_cases, eqb-true, both_ways, false_from_ne_true, cases_eq}
-use Rattle.tk_metric.specs.Cities.{IsCity}
+use Rattle.tk_distance.specs.Cities.{IsCity}
 use Rattle.tk_tour.specs.Moves.{CanFlip}
 use Rattle.tk_tour.specs.Tour.{occurrences, IsTour, next_city, prev_city, IsSizedTour}
 use Rattle.tk_tour.proofs.Once.{HoldsOnce}

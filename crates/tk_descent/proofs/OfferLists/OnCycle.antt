@@ -12,7 +12,7 @@ use Rattle.tk_descent.proofs.MovesOnTours.Views.{IsMadeOn, offer_on}
 use Rattle.tk_descent.proofs.MovesOnTours.Paths.{Spans, last_from, IsRound}
 use Rattle.tk_descent.specs.Awake.{IsDistinct, holds}
 use Rattle.tk_descent.specs.Offers.{first_gain, improves, covers, segment_of_one, segment_of_two, segment_of_three, all_segments, segments, or_offer, or_offers, offers_with, offers, EndsIn}
-use Rattle.tk_metric.specs.Cities.{IsCity}
+use Rattle.tk_distance.specs.Cities.{IsCity}
 use Rattle.tk_descent.specs.declared.offer.Segment.{Segment}
 use Rattle.tk_descent.specs.declared.offer.Offer.{Offer}
 use Rattle.tk_descent.specs.declared.offer.Offer.TheVariants.{Two, Or}

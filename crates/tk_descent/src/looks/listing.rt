@@ -1,6 +1,6 @@
 //! The offers of a city with another, in their order.
 ghost use Rattle.std.specs.Prelude.{◌≡◌, ◌+◌, ◌<◌, ◌≤◌, [], ◌∷◌, ◌++◌, All, length};
-ghost use Rattle.tk_metric.specs.Cities.{IsCity};
+ghost use Rattle.tk_distance.specs.Cities.{IsCity};
 ghost use Rattle.tk_near.specs.Near.{IsOther};
 ghost use Rattle.tk_tour.specs.Tour.{next_city, prev_city};
 ghost use Rattle.tk_descent.specs.Offers.{EndsIn, offers_with, or_offer, segments};

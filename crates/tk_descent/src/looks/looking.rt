@@ -4,7 +4,7 @@ ghost use Rattle.tk_near.specs.Near.{near_of};
 ghost use Rattle.tk_tour.specs.Counters.{saturated};
 ghost use Rattle.tk_descent.specs.Offers.{covers, Searched, or_offer, offers, EndsIn, segment_count, first_gain, tests_to};
 ghost use Rattle.tk_descent.specs.Sharing.{IsBeside, IsPiece, piece_offers, two_margin, or_margin};
-ghost use Rattle.tk_metric.specs.Cities.{IsCity};
+ghost use Rattle.tk_distance.specs.Cities.{IsCity};
 ghost use Rattle.tk_descent.specs.Machine.{IsOfferOn};
 ghost use Rattle.tk_descent.specs.WakeMachine.{HasNoOffer};
 ghost use Rattle.tk_descent.specs.declared.offer.Offer.TheVariants.{Two, Or};
@@ -14,7 +14,7 @@ use crate::looks::segments::segment_count;
 use crate::looks::sharing::{Beside, Piece, look_beside, pieces_of};
 use crate::offer::{Found, Offer, Segment};
 use crate::on_tour::size;
-use tk_metric::Metric;
+use tk_distance::Metric;
 use tk_near::Near;
 use tk_tour::TourStore;
 

@@ -1,6 +1,6 @@
 //! The segments that begin at a city.
 ghost use Rattle.std.specs.Prelude.{◌≡◌, ◌≤◌, All, length};
-ghost use Rattle.tk_metric.specs.Cities.{IsCity};
+ghost use Rattle.tk_distance.specs.Cities.{IsCity};
 ghost use Rattle.tk_tour.specs.Tour.{next_city, prev_city};
 ghost use Rattle.tk_descent.specs.Offers.{IsSegmentIn, all_segments, covers, segment_count};
 ghost use Rattle.tk_descent.specs.declared.offer.Offer.TheVariants.{Or};

@@ -1,6 +1,6 @@
 //! What the gains of a look share.
 ghost use Rattle.std.specs.Prelude.{◌≡◌, ◌+◌, All, length, map, pos};
-ghost use Rattle.tk_metric.specs.Cities.{IsCity};
+ghost use Rattle.tk_distance.specs.Cities.{IsCity};
 ghost use Rattle.tk_tour.specs.Tour.{next_city, prev_city};
 ghost use Rattle.tk_descent.specs.Offers.{IsSegmentIn, all_segments};
 ghost use Rattle.tk_descent.specs.Sharing.{IsBeside, IsPiece, segment_of};
@@ -8,7 +8,7 @@ ghost use Rattle.tk_descent.specs.Sharing.{IsBeside, IsPiece, segment_of};
 use crate::looks::segments::segments_of;
 use crate::offer::Segment;
 use crate::on_tour::{next, prev};
-use tk_metric::Metric;
+use tk_distance::Metric;
 use tk_tour::TourStore;
 
 /// A city with its neighbours on the tour, and how far they are.

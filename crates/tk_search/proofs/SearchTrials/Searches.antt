@@ -4,10 +4,10 @@ use Rattle.std.specs.Prelude.{IsTrue}
 use Rattle.std.proofs.Math.Nat.{mul-le-mul_left}
 use Rattle.rand_core.specs.Stream.{Stream}
 use Rattle.tk_near.specs.Near.{NearLists}
-use Rattle.tk_stores.specs.ArrayTours.{order_of}
-use Rattle.tk_stores.specs.JournalTours.{slots_of}
+use Rattle.tk_tour.specs.ArrayTours.{order_of}
+use Rattle.tk_tour.specs.JournalTours.{slots_of}
 use Rattle.tk_tour.specs.Tour.{tour_length}
-use Rattle.tk_metric.specs.Cities.{city_at}
+use Rattle.tk_distance.specs.Cities.{city_at}
 use Rattle.tk_descent.specs.Awake.{woken_each}
 use Rattle.tk_descent.proofs.OfferLists.Count.{woken_each-le}
 use Rattle.tk_search.specs.Cuts.{end_places}

@@ -1,8 +1,8 @@
 -- What a trial undoes or copies, by its totals.
 use Rattle.std.proofs.Common.{◌≡◌, ℕ, ◌+◌, ◌-◌, ◌^◌, ◌<◌, ◌≤◌, length, ap, ◌∙◌, sym, arith}
-use Rattle.tk_stores.specs.ArrayTours.{order_of, swaps_of, undo_swaps_of}
+use Rattle.tk_tour.specs.ArrayTours.{order_of, swaps_of, undo_swaps_of}
 use Rattle.tk_tour.specs.Counters.{saturated}
-use Rattle.tk_stores.specs.JournalTours.{tour_of, slots_of, flips_since, swaps_to_rewind}
+use Rattle.tk_tour.specs.JournalTours.{tour_of, slots_of, flips_since, swaps_to_rewind}
 use Rattle.tk_search.specs.Ending.{EndsTrial, all_copied}
 use Rattle.tk_search.specs.Totals.{AreCountsOf, SettlesTrial}
 use Rattle.tk_search.specs.declared.trials.state.State.{State}

@@ -1,7 +1,7 @@
 -- The cities that a kick wakes.
 use Rattle.std.proofs.Common.{◌≡◌, ℕ, suc, zero, ◌+◌, ◌-◌, ◌<◌, ◌≤◌, List, length, map, get_or, sym, subst, arith}
 use Rattle.std.specs.List.{All}
-use Rattle.tk_metric.specs.Cities.{IsCity, city_at}
+use Rattle.tk_distance.specs.Cities.{IsCity, city_at}
 use Rattle.tk_tour.specs.Tour.{IsTour}
 use Rattle.tk_tour.proofs.Tours.{city_in_range}
 use Rattle.tk_search.specs.Cuts.{AreCuts, end_places}

@@ -1,12 +1,12 @@
 //! The kick of a tour out of a local optimum.
 ghost use Rattle.std.specs.Prelude.{◌≡◌, ◌≤◌, ◌+◌, ◌*◌, ◌/◌, length, pos, ◌+ℤ◌, ◌≤ℤ◌, All};
-ghost use Rattle.tk_metric.specs.Cities.{IsCity};
+ghost use Rattle.tk_distance.specs.Cities.{IsCity};
 ghost use Rattle.tk_tour.specs.Tour.{SameCycle};
 ghost use Rattle.tk_tour.specs.Counters.{saturated};
 ghost use Rattle.tk_search.specs.Cuts.{AreCuts, bridged, kick_swaps, steps_between, steps_out, steps_in};
 
 use crate::double_bridges::cuts::Cuts;
-use tk_metric::Metric;
+use tk_distance::Metric;
 use tk_tour::TourStore;
 
 /// The double bridge: of the four parts that the cuts make of the tour, the second and the fourth change places, by

@@ -5,7 +5,7 @@ ghost use Rattle.tk_tour.specs.Tour.{tour_length};
 ghost use Rattle.tk_search.specs.Descents.{Descends};
 
 use tk_descent::{Probe, SweptReport, Waking, descend, descend_swept};
-use tk_metric::Metric;
+use tk_distance::Metric;
 use tk_near::Near;
 use tk_tour::TourStore;
 

@@ -1,11 +1,11 @@
 //! The end of a trial: its result is taken as the best tour, or the best tour stands again.
 ghost use Rattle.std.specs.Prelude.{◌≡◌, ◌≤◌, ◌<◌, ◌+◌, true, false, length};
 ghost use Rattle.tk_tour.specs.Counters.{saturated};
-ghost use Rattle.tk_stores.specs.ArrayTours.{order_of, swaps_of, undo_swaps_of, copied_of};
-ghost use Rattle.tk_stores.specs.JournalTours.{tour_of, slots_of, flips_since, settled_order, swaps_to_rewind};
+ghost use Rattle.tk_tour.specs.ArrayTours.{order_of, swaps_of, undo_swaps_of, copied_of};
+ghost use Rattle.tk_tour.specs.JournalTours.{tour_of, slots_of, flips_since, settled_order, swaps_to_rewind};
 ghost use Rattle.tk_search.specs.Settled.{IsAtBest};
 
-use tk_stores::{ArrayTour, JournalTour};
+use tk_tour::{ArrayTour, JournalTour};
 
 /// Takes the tour as the best where it is better; else the best stands again, by undoing the flips, or by a copy where
 /// one was lost.

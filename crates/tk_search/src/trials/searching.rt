@@ -1,6 +1,6 @@
 //! A search: descents from a start, and then from kicks of the best tour.
 ghost use Rattle.std.specs.Prelude.{◌≡◌, ◌≤◌, ◌<◌, IfOk, length, false};
-ghost use Rattle.tk_stores.specs.ArrayTours.{order_of};
+ghost use Rattle.tk_tour.specs.ArrayTours.{order_of};
 ghost use Rattle.tk_search.specs.Searching.{IsSearching, IsBegun, IsBoundedSearch, NextTrial};
 
 use crate::trials::descending::SearchRules;
@@ -9,10 +9,9 @@ use crate::trials::totals::{Totals, TrialReport};
 use rand_core::Rng;
 use std::alloc::{AllocError, Global};
 use tk_descent::{Report, Waking};
-use tk_metric::Metric;
+use tk_distance::Metric;
 use tk_near::Near;
-use tk_stores::{ArrayTour, JournalTour};
-use tk_tour::{TourStore, length};
+use tk_tour::{ArrayTour, JournalTour, TourStore, length};
 
 /// The report of a trial that does nothing.
 fn no_trial(shortest: i64) -> TrialReport

@@ -1,12 +1,12 @@
 //! Where a search stands, and its next trial.
 ghost use Rattle.std.specs.Prelude.{◌≡◌, pos, ◌+◌, ◌-◌, ◌*◌, ◌/◌, ◌^◌, ◌<◌, ◌≤◌, [], length, true, false, All};
-ghost use Rattle.tk_metric.specs.Cities.{IsCity};
+ghost use Rattle.tk_distance.specs.Cities.{IsCity};
 ghost use Rattle.tk_descent.specs.Awake.{one_to, woken_each};
 ghost use Rattle.tk_near.specs.Near.{near_of};
 ghost use Rattle.tk_tour.specs.Tour.{tour_length};
-ghost use Rattle.tk_stores.specs.ArrayTours.{order_of, swaps_of};
+ghost use Rattle.tk_tour.specs.ArrayTours.{order_of, swaps_of};
 ghost use Rattle.tk_tour.specs.Counters.{saturated};
-ghost use Rattle.tk_stores.specs.JournalTours.{tour_of, slots_of, flips_since, settled_order, KeepsSettled};
+ghost use Rattle.tk_tour.specs.JournalTours.{tour_of, slots_of, flips_since, settled_order, KeepsSettled};
 ghost use Rattle.tk_search.specs.Cuts.{kick_swaps};
 ghost use Rattle.tk_search.specs.Ending.{EndsTrial};
 ghost use Rattle.tk_search.specs.Settled.{IsAtBest};
@@ -20,10 +20,9 @@ use crate::trials::keeping::keep_better;
 use crate::trials::totals::{Totals, TrialReport};
 use rand_core::Rng;
 use tk_descent::{SweptReport, Waking};
-use tk_metric::Metric;
+use tk_distance::Metric;
 use tk_near::Near;
-use tk_stores::{ArrayTour, JournalTour};
-use tk_tour::TourStore;
+use tk_tour::{ArrayTour, JournalTour, TourStore};
 
 /// Wakes the ends of a kick, or where all is swept all cities.
 fn wake_kicked(waking: &mut Waking, ends: &[u32], sweep: bool)

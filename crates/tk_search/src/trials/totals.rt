@@ -2,8 +2,7 @@
 ghost use Rattle.std.specs.Prelude.{◌≡◌, ◌<◌, ◌^◌};
 
 use tk_descent::Report;
-use tk_stores::{ArrayTour, JournalTour};
-use tk_tour::TourStore;
+use tk_tour::{ArrayTour, JournalTour, TourStore};
 
 /// What a trial of a search did.
 #[derive(Clone, Copy)]

@@ -3,17 +3,17 @@ use Rattle.std.proofs.Common.{◌≡◌, ℕ, ◌+◌, ◌-◌, ◌<◌, ◌≤�
 use Rattle.std.specs.Prelude.{slice_index, Option, Some, None, MatchOption}
 use Rattle.std.proofs.lemmas.Bool.{cases_lt}
 use Rattle.std.proofs.lemmas.List.{get_or_append_left, get_or-append_right, length-append}
-use Rattle.tk_metric.specs.Cities.{IsCity}
+use Rattle.tk_distance.specs.Cities.{IsCity}
 use Rattle.tk_near.specs.Near.{IsFirst, IsNew}
-use Rattle.tk_plane.specs.Placed.{nowhere}
+use Rattle.tk_near.specs.Placed.{nowhere}
 use Rattle.tk_tour.specs.Tour.{occurrences}
 use Rattle.tk_tour.proofs.Tours.{HoldsOnce-from_distinct, length-distinct, length-whole, occurrences-index}
 use Rattle.tk_starts.specs.NearestTour.{IsNearestPath, IsNearestTour}
 use Rattle.tk_starts.specs.Unvisited.{IsFirstLeft, AreAllVisited, AreVisited}
-use Rattle.tk_left.specs.Left.{AreApart, IsOtherIn, IsTakenOut, Stands}
-use Rattle.tk_left.proofs.LeftLaws.{Stands-old, Stands-new, gone}
-use Rattle.tk_left.specs.declared.left.Found.{Found}
-use Rattle.tk_plane.specs.declared.placed.Placed.{Placed}
+use Rattle.tk_near.specs.Left.{AreApart, IsOtherIn, IsTakenOut, Stands}
+use Rattle.tk_near.proofs.LeftLaws.{Stands-old, Stands-new, gone}
+use Rattle.tk_near.specs.declared.left.Found.{Found}
+use Rattle.tk_near.specs.declared.placed.Placed.{Placed}
 use Rattle.tk_problem.specs.declared.point.Point.{Point}
 use Rattle.tk_starts.proofs.NearestCities.NearestTours.{path_city, path_apart}
 

@@ -6,12 +6,12 @@ use Rattle.std.proofs.lemmas.Bool.{cases_eq, cases_lt}
 use Rattle.std.proofs.lemmas.List.{get_or_default}
 use Rattle.std.proofs.lemmas.List.Edits.{length-swap, swapped_from_swap}
 use Rattle.std.proofs.lemmas.List.Sorted.{IsPermutation-swap, Contains-permutation}
-use Rattle.tk_metric.specs.Cities.{IsCity}
+use Rattle.tk_distance.specs.Cities.{IsCity}
 use Rattle.tk_tour.specs.Tour.{IsTour}
 use Rattle.tk_tour.proofs.Tours.{IsTour-from_distinct}
 use Rattle.tk_starts.specs.NearestTour.{IsNearestTo, IsNearestTour, IsNearestPath}
 use Rattle.tk_near.specs.Keeping.{rank, candidate}
-use Rattle.tk_plane.proofs.OneEach.{OneEach-swap}
+use Rattle.tk_near.proofs.OneEach.{OneEach-swap}
 use Rattle.tk_near.proofs.Keeping.{closer_from_rank}
 
 -- what an exchange of two places keeps of a tour

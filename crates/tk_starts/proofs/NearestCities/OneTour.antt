@@ -3,7 +3,7 @@ use Rattle.std.proofs.Common.{◌≡◌, ℕ, zero, suc, ◌+◌, ◌<◌, ◌�
 use Rattle.std.specs.Prelude.{slice_index}
 use Rattle.std.proofs.lemmas.Bool.{cases_eq}
 use Rattle.std.proofs.lemmas.List.{ext_get_or}
-use Rattle.tk_metric.specs.Cities.{IsCity}
+use Rattle.tk_distance.specs.Cities.{IsCity}
 use Rattle.tk_near.specs.Near.{IsFirst, IsNew}
 use Rattle.tk_near.proofs.Laws.{IsFirst-unique}
 use Rattle.tk_starts.specs.NearestTour.{IsNearestTour}

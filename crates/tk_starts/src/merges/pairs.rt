@@ -1,6 +1,6 @@
 //! The pairs of the savings rule, in their order.
 ghost use Rattle.std.specs.Prelude.{◌≡◌, ◌≢◌, IfOk, IfSome};
-ghost use Rattle.tk_metric.specs.Cities.{IsCity};
+ghost use Rattle.tk_distance.specs.Cities.{IsCity};
 ghost use Rattle.tk_near.specs.Near.{near_of};
 ghost use Rattle.tk_starts.specs.Holding.{holds};
 ghost use Rattle.tk_starts.specs.HubDistances.{AreFromHub};
@@ -8,7 +8,7 @@ ghost use Rattle.tk_starts.specs.SavingPairs.{saving_of, AreCandidates, IsPair, 
 
 use std::alloc::{AllocError, Global};
 use std::cmp::Reverse;
-use tk_metric::Metric;
+use tk_distance::Metric;
 use tk_near::Near;
 
 /// Two cities i < j, and what is saved by going from the one to the other in place of twice to the hub.

@@ -3,7 +3,7 @@ ghost use Rattle.std.specs.Prelude.{◌≡◌, ◌≢◌, ℕ, ◌+◌, ◌-◌,
 ghost use Rattle.std.specs.List.{All};
 ghost use Rattle.tk_starts.specs.Joints.{joints_at, ArePartPaths};
 ghost use Rattle.tk_starts.specs.declared.merges.pairs.Pair.{Pair};
-ghost use Rattle.tk_metric.specs.Cities.{IsCity};
+ghost use Rattle.tk_distance.specs.Cities.{IsCity};
 ghost use Rattle.tk_starts.specs.PathEnds.{at, AreJoined, AreBoth, IsLinked, IsSetAt, load_of, IsWithin, is_end_at, may_join_at, Follows, IsWay};
 
 use crate::merges::pairs::Pair;

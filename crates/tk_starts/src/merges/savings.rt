@@ -1,7 +1,7 @@
 //! The savings merges.
 ghost use Rattle.std.specs.Prelude.{◌≡◌, ℕ, ◌+◌, ◌≤◌, IfOk, List, [], length, vec_len, map, replicate, ◌∷◌};
 ghost use Rattle.std.specs.List.{All, flat_map, sum_by};
-ghost use Rattle.tk_metric.specs.Cities.{IsCity};
+ghost use Rattle.tk_distance.specs.Cities.{IsCity};
 ghost use Rattle.tk_near.specs.Near.{near_of};
 ghost use Rattle.tk_tour.specs.Tour.{IsTour};
 ghost use Rattle.tk_starts.specs.SavingsMerges.{AreSavingsLists, AreLight};
@@ -11,7 +11,7 @@ ghost use Rattle.tk_starts.specs.Joints.{joints};
 use crate::merges::pairs::{Pair, candidate_pairs};
 use crate::merges::paths::Paths;
 use std::alloc::{AllocError, Global};
-use tk_metric::Metric;
+use tk_distance::Metric;
 use tk_near::Near;
 
 /// The paths of the joints among the pairs, taken in their order.

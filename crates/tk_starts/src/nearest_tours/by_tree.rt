@@ -1,16 +1,15 @@
 //! The nearest-neighbour tour by a tree of the cities that are left.
 ghost use Rattle.std.specs.Prelude.{◌≡◌, IfOk, MatchOption};
-ghost use Rattle.tk_metric.specs.Cities.{IsCity};
-ghost use Rattle.tk_plane.specs.Placed.{IsPlaced};
-ghost use Rattle.tk_left.specs.Left.{AreApart, IsTakenOut, Stands};
+ghost use Rattle.tk_distance.specs.Cities.{IsCity};
+ghost use Rattle.tk_near.specs.Placed.{IsPlaced};
+ghost use Rattle.tk_near.specs.Left.{AreApart, IsTakenOut, Stands};
 ghost use Rattle.tk_tour.specs.Tour.{IsTour};
 ghost use Rattle.tk_starts.specs.NearestTour.{IsNearestTour};
 ghost use Rattle.tk_starts.specs.Unvisited.{AreAllVisited, IsFirstLeft};
 
 use std::alloc::{AllocError, Global};
-use tk_left::{Found, Left};
-use tk_metric::Planar;
-use tk_plane::Placed;
+use tk_distance::Planar;
+use tk_near::{Found, Left, Placed};
 
 /// A city with its place.
 fn placed<P: Planar>(metric: &P, city: u32) -> Placed

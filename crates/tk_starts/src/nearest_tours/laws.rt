@@ -2,7 +2,7 @@
 ghost use Rattle.std.specs.Prelude.{◌≡◌};
 ghost use Rattle.tk_starts.specs.NearestTour.{IsNearestTour};
 
-use tk_metric::Metric;
+use tk_distance::Metric;
 
 /// A law: two nearest-neighbour tours of one start are equal.
 pub fn nearest_tours_agree<M: Metric>(metric: &M, start: u32, xs: &[u32], ys: &[u32])

@@ -1,14 +1,14 @@
 //! The nearest-neighbour tour of a table: by a tree in the plane, else by a scan.
 ghost use Rattle.std.specs.Prelude.{IfOk};
-ghost use Rattle.tk_metric.specs.Cities.{IsCity};
-ghost use Rattle.tk_metric.specs.Tables.{table_distance, table_size};
+ghost use Rattle.tk_distance.specs.Cities.{IsCity};
+ghost use Rattle.tk_distance.specs.Tables.{table_distance, table_size};
 ghost use Rattle.tk_tour.specs.Tour.{IsTour};
 ghost use Rattle.tk_starts.specs.NearestTour.{IsNearestTour};
 
 use super::by_tree::nearest_tree;
 use super::scan::nearest;
 use std::alloc::{AllocError, Global};
-use tk_metric::Table;
+use tk_distance::Table;
 
 /// The nearest-neighbour tour of a table's cities.
 ///

@@ -1,12 +1,12 @@
 //! The nearest-neighbour tour by a scan of all cities that are left.
 ghost use Rattle.std.specs.Prelude.{◌≡◌, ℕ, ◌-◌, ◌≤◌, ◌<◌, IfOk, length, slice_index};
-ghost use Rattle.tk_metric.specs.Cities.{IsCity};
+ghost use Rattle.tk_distance.specs.Cities.{IsCity};
 ghost use Rattle.tk_near.specs.Keeping.{rank, candidate};
 ghost use Rattle.tk_tour.specs.Tour.{IsTour};
 ghost use Rattle.tk_starts.specs.NearestTour.{IsNearestTour, IsNearestTo};
 
 use std::alloc::{AllocError, Global};
-use tk_metric::Metric;
+use tk_distance::Metric;
 use tk_near::measure;
 
 /// The place, from j on, of the first city as seen from the one before place j.

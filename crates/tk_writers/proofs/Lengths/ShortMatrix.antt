@@ -3,7 +3,7 @@ use Rattle.std.proofs.Common.{ℕ, ◌*◌, ◌≤◌, List, [], ◌∷◌, ◌+
 use Rattle.std.specs.Prelude.{flat_map, codes, decimal}
 use Rattle.std.specs.List.{AllByRecursion, join_by, range_with_len}
 use Rattle.tk_problem.specs.declared.weights.Format.{Format}
-use Rattle.tk_reading.specs.Texts.{text_limit}
+use Rattle.tk_words.specs.Texts.{text_limit}
 use Rattle.tk_writers.specs.MatrixText.{matrix_head, matrix_line, matrix_text, number_line}
 use Rattle.tk_writers.proofs.Lengths.MatrixLength.{length_matrix_head}
 use Rattle.tk_writers.proofs.Written.WrittenLines.{ShortRows}

@@ -4,7 +4,7 @@ use Rattle.std.specs.Prelude.{map, flat_map, codes, decimal}
 use Rattle.std.proofs.lemmas.List.{take_more, map-append, length-map, length-take-le}
 use Rattle.tk_writers.specs.TourWritten.{tour_head}
 use Rattle.tk_writers.specs.SolutionWritten.{route_line, route_lines}
-use Rattle.tk_pen.specs.Written.{line, spaced_numbers}
+use Rattle.tk_writers.specs.Written.{line, spaced_numbers}
 
 -- the pieces of the lines before a tour's cities
 head_ends : (a name size t b c num d : List ℕ)

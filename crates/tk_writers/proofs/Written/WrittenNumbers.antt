@@ -7,7 +7,7 @@ use Rattle.std.proofs.lemmas.Fmt.{decimal_by_steps, length-decimal-le}
 use Rattle.std.proofs.lemmas.Bool.{ne_eqb, le-leb, le-ltb}
 use Rattle.std.proofs.lemmas.List.{append-nil}
 use Rattle.tk_words.specs.Lex.{Token, is_blank, is_empty, digits, integer, tokens_of, IsRun}
-use Rattle.tk_pen.specs.Written.{spaced_numbers}
+use Rattle.tk_writers.specs.Written.{spaced_numbers}
 use Rattle.tk_lines.proofs.Sections.MiddleOfSection.{token, tokens_of-run, tokens_of-last}
 use Rattle.tk_lines.proofs.Lines.{OnOneLine}
 

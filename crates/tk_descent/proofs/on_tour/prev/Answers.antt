@@ -1,5 +1,5 @@
 use Rattle.std.proofs.Common.{subst, sym, length}
-use Rattle.tk_metric.specs.Cities.{IsCity}
+use Rattle.tk_distance.specs.Cities.{IsCity}
 use Rattle.tk_descent.proofs.MovesOnTours.Rounds.{prev_range}
 use Rattle.tk_descent.proofs.on_tour.prev.Goals as goal
 

@@ -1,7 +1,7 @@
 use Rattle.std.proofs.Common.{arith, ◌≡◌, ℕ, ◌+◌, ◌<◌, ◌∙◌, ap, inl, inr, ⊎_elim, length, drop, List, sym}
 use Rattle.std.proofs.lemmas.Bool.{cases_eq}
 use Rattle.std.proofs.lemmas.List.{take_at}
-use Rattle.tk_metric.specs.Cities.{IsCity}
+use Rattle.tk_distance.specs.Cities.{IsCity}
 use Rattle.tk_near.specs.Keeping.{AreFilled}
 use Rattle.tk_near.proofs.Tables.{AreFilled-write}
 use Rattle.tk_near.specs.declared.candidates.Candidate.{Candidate}

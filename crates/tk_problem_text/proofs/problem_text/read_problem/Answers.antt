@@ -1,6 +1,6 @@
 use Rattle.std.proofs.lemmas.Result.{IfOk-weaker}
 use Rattle.tk_problem_text.specs.Parts.{problem_is}
-use Rattle.tk_reading.specs.Texts.{text_limit}
+use Rattle.tk_words.specs.Texts.{text_limit}
 use Rattle.tk_problem_text.proofs.ReadNames.{name_answered}
 use Rattle.tk_problem_text.proofs.problem_text.read_problem.Goals as goal
 

@@ -1,6 +1,6 @@
 use Rattle.std.proofs.Common.{◌+◌, arith}
 use Rattle.std.proofs.lemmas.Int.{ints}
-use Rattle.tk_metric.specs.Tables.{table_distance-same, table_distance-limit}
+use Rattle.tk_distance.specs.Tables.{table_distance-same, table_distance-limit}
 use Rattle.tk_routes.specs.Cvrps.{instance_of}
 use Rattle.tk_routes.specs.Instance.{customer_count}
 use Rattle.tk_routes.proofs.RouteSteps.{route_served, routes_cost-more, routes_cost-bound}

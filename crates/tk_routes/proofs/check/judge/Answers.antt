@@ -2,7 +2,7 @@ use Rattle.std.proofs.Common.{◌≡◌, ℕ, Vec, Global, length, pos, arith}
 use Rattle.std.specs.Prelude.{map}
 use Rattle.std.specs.List.{All}
 use Rattle.std.proofs.lemmas.Int.{ints}
-use Rattle.tk_metric.specs.Tables.{table_distance-same}
+use Rattle.tk_distance.specs.Tables.{table_distance-same}
 use Rattle.tk_routes.specs.Cvrps.{instance_of}
 use Rattle.tk_routes.specs.Routes.{IsLight, routes_cost}
 use Rattle.tk_routes.specs.RouteVerdicts.{filled_of}

@@ -2,7 +2,7 @@
 use Rattle.std.proofs.Common.{ℕ, ◌≤◌, ◌<◌, List, [], ◌∷◌, length, map, get_or, ap, subst, arith}
 use Rattle.std.specs.List.{All, flat_map, sum_by}
 use Rattle.std.proofs.lemmas.List.{get_or-map, length-map}
-use Rattle.tk_metric.specs.Cities.{IsCity}
+use Rattle.tk_distance.specs.Cities.{IsCity}
 use Rattle.tk_tour.specs.Tour.{IsTour}
 use Rattle.tk_starts.specs.SavingsMerges.{AreSavingsLists, AreLight}
 use Rattle.tk_starts.proofs.Merging.Parts.HubApart.{flat_map-map}

@@ -1,7 +1,7 @@
 -- The loop over the pairs: how it begins, and its step.
 use Rattle.std.proofs.Common.{drop, get_or, length, ◌≡◌, ◌≢◌, ℕ, suc, zero, ◌+◌, ◌-◌, ◌≤◌, ◌<◌, Bool, true, false, ◌||◌, ◌&&◌, not, eqb, leb, List, [], ◌∷◌, refl, sym, ap, ◌∙◌, ◌⊎◌, inl, inr, arith, ⊎_elim, subst}
 use Rattle.std.proofs.lemmas.Bool.{eqb-true, eq-eqb, ne_eqb, or_cases, or_left, both_ways, cases_eq, cond-true, cond-false, leb-true, and_parts, not-true}
-use Rattle.tk_metric.specs.Cities.{IsCity}
+use Rattle.tk_distance.specs.Cities.{IsCity}
 use Rattle.tk_starts.specs.Joints.{part, part_load, joints_at, may_join, joints, IsChain}
 use Rattle.tk_starts.specs.PathEnds.{Follows, IsLinked, IsEnd, AreEnds, IsSetAt, IsWithin}
 use Rattle.std.proofs.lemmas.List.{drop_more, drop_all}

@@ -3,7 +3,7 @@ use Rattle.std.proofs.Common.{take, map, ◌++◌, ◌≡◌, ◌≢◌, ℕ, su
 use Rattle.std.specs.List.{All, Contains, flat_map}
 use Rattle.std.proofs.lemmas.Bool.{cond_both}
 use Rattle.std.proofs.lemmas.List.Elements.{All-contains_itself}
-use Rattle.tk_metric.specs.Cities.{IsCity}
+use Rattle.tk_distance.specs.Cities.{IsCity}
 use Rattle.tk_starts.specs.SavingPairs.{AreCandidates}
 use Rattle.tk_starts.specs.Joints.{joints_at, may_join, joints, ArePartPaths}
 use Rattle.tk_starts.specs.PathEnds.{IsWithin, AreJoined, load_of}

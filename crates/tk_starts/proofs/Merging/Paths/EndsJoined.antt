@@ -2,7 +2,7 @@
 use Rattle.std.proofs.Common.{◌≡◌, ◌≢◌, ℕ, ◌+◌, ◌≤◌, ◌<◌, Bool, true, false, cond, ◌||◌, ◌&&◌, eqb, List, [], ◌∷◌, ◌++◌, refl, sym, ap, ◌∙◌, ◌⊎◌, ◌↔◌, inl, inr, arith, ⊎_elim, subst, leb, not, ◌-◌}
 use Rattle.std.proofs.lemmas.Bool.{eqb-true, eq-eqb, ne_eqb, or_cases, or_left, or_right, or_from, and_from, false_from_ne_true, both_ways, cases_eq, cond-true, cond-false, le-leb, lt-leb, cases_lt, and_left, and_right}
 use Rattle.tk_starts.specs.Holding.{holds, IsDistinct}
-use Rattle.tk_metric.specs.Cities.{IsCity}
+use Rattle.tk_distance.specs.Cities.{IsCity}
 use Rattle.tk_starts.specs.Joints.{part, part_load, joints_at, may_join, joined, last_from}
 use Rattle.tk_starts.specs.PathEnds.{AreBoth, Follows, IsLinked, IsEnd, IsPathOf, AreEnds, IsJoin, one_if}
 use Rattle.tk_starts.specs.declared.merges.pairs.Pair.{Pair}

@@ -2,7 +2,7 @@
 use Rattle.std.proofs.Common.{◌≡◌, ◌≢◌, ℕ, Bool, true, false, ◌||◌, ◌&&◌, eqb, List, [], ◌∷◌, refl, sym, ap, ap₂, ◌∙◌, ◌⊎◌, ◌↔◌, arith, ⊎_elim, subst}
 use Rattle.std.proofs.lemmas.Bool.{or_parts, false_from_ne_true, both_ways}
 use Rattle.std.proofs.Math.Bool.{or_comm}
-use Rattle.tk_metric.specs.Cities.{IsCity}
+use Rattle.tk_distance.specs.Cities.{IsCity}
 use Rattle.tk_starts.specs.Holding.{holds, IsDistinct}
 use Rattle.tk_starts.specs.Joints.{part, joined, IsChain, IsPartPath, last_from}
 use Rattle.tk_starts.specs.PathEnds.{AreBoth, Follows, IsEnd}

@@ -6,7 +6,7 @@ use Rattle.std.proofs.lemmas.List.{get_or_append_left, get_or_at, length-append}
 use Rattle.std.proofs.lemmas.List.Elements.{All-push}
 use Rattle.std.proofs.lemmas.Map.Steps.{length-le_from_distinct_below}
 use Rattle.tk_starts.specs.Holding.{holds, IsDistinct}
-use Rattle.tk_metric.specs.Cities.{IsCity}
+use Rattle.tk_distance.specs.Cities.{IsCity}
 use Rattle.tk_starts.specs.Joints.{part, joints_at, IsPartPath, ArePartPaths, first_of}
 use Rattle.tk_starts.specs.PathEnds.{IsEnd, IsPathOf, AreEnds, IsWay}
 use Rattle.tk_starts.specs.declared.merges.pairs.Pair.{Pair}

@@ -1,5 +1,5 @@
 use Rattle.std.proofs.Common.{◌≡◌, pos, ◌+ℤ◌, ◌≤ℤ◌}
-use Rattle.tk_metric.specs.Cities.{IsCity}
+use Rattle.tk_distance.specs.Cities.{IsCity}
 use Rattle.tk_tour.specs.Tour.{tour_length}
 use Rattle.tk_tour.proofs.Lengths.{way_back}
 use Rattle.tk_tour.proofs.measure.length.Given as goal

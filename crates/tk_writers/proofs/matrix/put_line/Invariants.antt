@@ -2,7 +2,7 @@
 use Rattle.std.proofs.Common.{◌≡◌, ℕ, ◌+◌, ◌-◌}
 use Rattle.std.specs.List.{range_with_len}
 use Rattle.tk_writers.specs.MatrixText.{Gives}
-use Rattle.tk_pen.specs.Pens.{Puts}
+use Rattle.tk_writers.specs.Pens.{Puts}
 use Rattle.tk_writers.proofs.MatrixLines.{spaced}
 use Rattle.tk_writers.proofs.matrix.put_line.Given as goal
 

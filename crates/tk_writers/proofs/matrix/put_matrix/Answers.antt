@@ -1,9 +1,9 @@
 use Rattle.std.proofs.Common.{subst, ap, ◌≡◌, ◌-◌, flat_map, arith}
 use Rattle.std.specs.List.{range_with_len}
 use Rattle.tk_writers.specs.MatrixText.{matrix_line}
-use Rattle.tk_pen.specs.Pens.{Puts}
+use Rattle.tk_writers.specs.Pens.{Puts}
 use Rattle.tk_writers.proofs.MatrixLines.{lines_more}
-use Rattle.tk_pen.proofs.Putting.{Puts-then}
+use Rattle.tk_writers.proofs.Putting.{Puts-then}
 use Rattle.tk_writers.proofs.matrix.put_matrix.Goals as goal
 
 pub loop-k-preserved : goal.loop-k-preserved

@@ -2,7 +2,7 @@
 use Rattle.std.proofs.Common.{◌≡◌, ℕ, ◌-◌, flat_map}
 use Rattle.std.specs.List.{range_with_len}
 use Rattle.tk_writers.specs.MatrixText.{Gives, matrix_line}
-use Rattle.tk_pen.specs.Pens.{Puts}
+use Rattle.tk_writers.specs.Pens.{Puts}
 use Rattle.tk_writers.proofs.matrix.put_matrix.Given as goal
 
 abbrev pub invariant-loop-k : goal.invariant-loop-k

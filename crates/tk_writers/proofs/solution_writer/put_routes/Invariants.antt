@@ -1,7 +1,7 @@
 -- the routes before this one are put
 use Rattle.std.proofs.Common.{take}
 use Rattle.std.specs.Prelude.{map}
-use Rattle.tk_pen.specs.Pens.{Puts}
+use Rattle.tk_writers.specs.Pens.{Puts}
 use Rattle.tk_writers.specs.SolutionWritten.{route_lines}
 use Rattle.tk_writers.proofs.solution_writer.put_routes.Given as goal
 

@@ -2,10 +2,10 @@ use Rattle.std.proofs.Common.{rules, arith, subst, ap, ◌≡◌}
 use Rattle.std.specs.Prelude.{map}
 use Rattle.std.proofs.lemmas.List.{length-map}
 use Rattle.std.specs.Int.RustNames.{unsigned_abs}
-use Rattle.tk_pen.specs.Pens.{Puts}
+use Rattle.tk_writers.specs.Pens.{Puts}
 use Rattle.tk_writers.specs.SolutionWritten.{solution_text}
 use Rattle.tk_writers.proofs.Lengths.ListLength.{length_solution_text}
-use Rattle.tk_pen.proofs.Putting.{Writes-end, broken_at_err}
+use Rattle.tk_writers.proofs.Putting.{Writes-end, broken_at_err}
 use Rattle.tk_writers.proofs.SolutionReadBack.{solution_read_back}
 use Rattle.tk_writers.proofs.solution_writer.write_solution.Goals as goal
 

@@ -1,8 +1,8 @@
 -- the cities before this one are put
 use Rattle.std.proofs.Common.{take}
 use Rattle.std.specs.Prelude.{flat_map, decimal}
-use Rattle.tk_pen.specs.Pens.{Puts}
-use Rattle.tk_pen.specs.Written.{line}
+use Rattle.tk_writers.specs.Pens.{Puts}
+use Rattle.tk_writers.specs.Written.{line}
 use Rattle.tk_writers.proofs.tour_writer.put_cities.Given as goal
 
 abbrev pub invariant-loop-city : goal.invariant-loop-city

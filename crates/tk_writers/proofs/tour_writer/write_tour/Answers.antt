@@ -1,9 +1,9 @@
 use Rattle.std.proofs.Common.{rules, arith, subst, ap, ◌≡◌}
 use Rattle.std.specs.Int.RustNames.{unsigned_abs}
-use Rattle.tk_pen.specs.Pens.{Puts}
+use Rattle.tk_writers.specs.Pens.{Puts}
 use Rattle.tk_writers.specs.TourWritten.{tour_text}
 use Rattle.tk_writers.proofs.Lengths.ListLength.{length_tour_text}
-use Rattle.tk_pen.proofs.Putting.{Writes-end, broken_at_err}
+use Rattle.tk_writers.proofs.Putting.{Writes-end, broken_at_err}
 use Rattle.tk_writers.proofs.TourReadBack.{tour_read_back}
 use Rattle.tk_writers.proofs.tour_writer.write_tour.Goals as goal
 

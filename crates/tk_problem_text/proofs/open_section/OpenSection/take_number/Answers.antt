@@ -3,13 +3,13 @@ use Rattle.std.proofs.lemmas.Result.{IfErr-weaker}
 use Rattle.tk_words.specs.declared.keyword.Keyword.TheVariants as words
 use Rattle.tk_problem_text.specs.declared.open_section.OpenSection.TheVariants.{Places, Explicit, Loads}
 use Rattle.tk_lines.specs.Forms.{whole}
-use Rattle.tk_sections.specs.WeightSection.{weight_count}
+use Rattle.tk_problem_text.specs.WeightSection.{weight_count}
 use Rattle.tk_problem_text.specs.Problem.{size_of, format_in}
-use Rattle.tk_sections.specs.Coordinates.{HasPlaces}
-use Rattle.tk_sections.specs.Demands.{HasDemands}
-use Rattle.tk_sections.specs.Weighing.{HasWeights}
+use Rattle.tk_problem_text.specs.Coordinates.{HasPlaces}
+use Rattle.tk_problem_text.specs.Demands.{HasDemands}
+use Rattle.tk_problem_text.specs.Weighing.{HasWeights}
 use Rattle.tk_problem_text.specs.OpenSections.{IsOpen}
-use Rattle.tk_sections.proofs.DemandRows.{demand_tests-told}
+use Rattle.tk_problem_text.proofs.DemandRows.{demand_tests-told}
 use Rattle.tk_problem_text.proofs.OpenSections.{takes, refuses, display_take}
 use Rattle.tk_problem_text.proofs.open_section.OpenSection.take_number.Goals as goal
 

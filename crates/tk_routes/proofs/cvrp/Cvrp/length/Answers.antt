@@ -2,7 +2,7 @@ use Rattle.std.proofs.Common.{◌≤◌, ◌∷◌, length, arith}
 use Rattle.std.specs.Prelude.{map}
 use Rattle.std.proofs.lemmas.Int.{ints}
 use Rattle.std.proofs.lemmas.List.{length-map}
-use Rattle.tk_metric.specs.Tables.{table_distance, table_distance-limit}
+use Rattle.tk_distance.specs.Tables.{table_distance, table_distance-limit}
 use Rattle.tk_tour.proofs.Lengths.{way_back-end, tour_length-limit}
 use Rattle.tk_routes.specs.Instance.{node_of}
 use Rattle.tk_routes.proofs.RouteSteps.{way_back-customer}

@@ -1,7 +1,7 @@
 use Rattle.std.proofs.Common.{◌≡◌, pos, ◌+ℤ◌, ◌≤ℤ◌}
 use Rattle.std.specs.Prelude.{map}
-use Rattle.tk_metric.specs.Cities.{IsCity}
-use Rattle.tk_metric.specs.Tables.{table_size, table_distance}
+use Rattle.tk_distance.specs.Cities.{IsCity}
+use Rattle.tk_distance.specs.Tables.{table_size, table_distance}
 use Rattle.tk_tour.proofs.Lengths.{way_back}
 use Rattle.tk_routes.specs.Cvrps.{instance_of}
 use Rattle.tk_routes.specs.Instance.{node_of}

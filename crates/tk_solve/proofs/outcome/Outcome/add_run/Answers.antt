@@ -1,6 +1,6 @@
 use Rattle.std.proofs.Common.{OnOk, ap, sym, ◌∙◌, subst}
-use Rattle.tk_metric.specs.Tables.{table_size}
-use Rattle.tk_stores.specs.ArrayTours.{order_of}
+use Rattle.tk_distance.specs.Tables.{table_size}
+use Rattle.tk_tour.specs.ArrayTours.{order_of}
 use Rattle.tk_solve.specs.Outcomes.{IsRunAdded}
 use Rattle.tk_solve.specs.Starts.{TourTask, IsStart, task_of}
 use Rattle.tk_solve.proofs.Tables.{euclid_task}

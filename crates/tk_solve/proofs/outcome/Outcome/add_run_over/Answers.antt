@@ -1,5 +1,5 @@
 use Rattle.std.proofs.Common.{sym, subst}
-use Rattle.tk_stores.specs.ArrayTours.{order_of}
+use Rattle.tk_tour.specs.ArrayTours.{order_of}
 use Rattle.tk_tour.specs.Tour.{IsTour}
 use Rattle.tk_search.specs.SearchOf.{search_of}
 use Rattle.tk_solve.specs.Starts.{TourTask, task_over}

@@ -2,8 +2,8 @@ use Rattle.std.proofs.Common.{◌≡◌, ◌∙◌, ap, length}
 use Rattle.tk_problem.specs.PlacesOf.{places_of}
 use Rattle.tk_problem.specs.declared.points.Places.TheVariants.{Whole}
 use Rattle.tk_problem.specs.declared.weights.PlaneKind.TheVariants.{Euc2d}
-use Rattle.tk_metric.specs.PlaneOf.{city_distance}
-use Rattle.tk_metric.specs.Tables.{table_distance, table_size}
+use Rattle.tk_distance.specs.PlaneOf.{city_distance}
+use Rattle.tk_distance.specs.Tables.{table_distance, table_size}
 use Rattle.tk_starts.proofs.nearest_tours.of_table.nearest_tour.Goals as goal
 
 pub returns-in-Some-clause-nearest : goal.returns-in-Some-clause-nearest

@@ -2,8 +2,8 @@ use Rattle.std.proofs.Common.{rules, ◌≤◌, ◌+◌, ◌*◌, ◌/◌, ℕ, 
 use Rattle.std.proofs.lemmas.Int.{to_z-of_z}
 use Rattle.std.specs.Prelude.{pos}
 use Rattle.tk_tour.specs.Tour.{tour_length}
-use Rattle.tk_stores.specs.ArrayTours.{order_of}
-use Rattle.tk_stores.specs.JournalTours.{tour_of, slots_of, flips_since, KeepsSettled}
+use Rattle.tk_tour.specs.ArrayTours.{order_of}
+use Rattle.tk_tour.specs.JournalTours.{tour_of, slots_of, flips_since, KeepsSettled}
 use Rattle.tk_search.proofs.SearchTrials.TrialSteps.{same_size, less_of, gain_is, gain_bits, moves_gain}
 use Rattle.tk_search.proofs.trials.state.State.descend.Goals as goal
 use Rattle.tk_search.proofs.trials.state.State.descend.Goals.{then-better, else-better}

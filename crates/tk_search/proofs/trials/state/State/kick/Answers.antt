@@ -2,8 +2,8 @@ use Rattle.std.proofs.Common.{ℕ, List, ◌≤◌, length, ap, ◌∙◌, sym, 
 use Rattle.std.proofs.lemmas.Int.{ints}
 use Rattle.tk_descent.proofs.WakeRuns.DescentSteps.{fits_length}
 use Rattle.tk_descent.specs.Awake.{one_to, woken_each}
-use Rattle.tk_stores.specs.ArrayTours.{order_of}
-use Rattle.tk_stores.specs.JournalTours.{tour_of}
+use Rattle.tk_tour.specs.ArrayTours.{order_of}
+use Rattle.tk_tour.specs.JournalTours.{tour_of}
 use Rattle.tk_search.specs.Cuts.{AreCuts, drawn_cuts}
 use Rattle.tk_search.proofs.DoubleBridge.Kicks.{length_at_ends}
 use Rattle.tk_search.proofs.SearchTrials.Woken.{ends_are_cities}

@@ -1,0 +1,17 @@
+pub use Rattle.tk_starts.specs.Holding
+pub use Rattle.tk_starts.specs.HubDistances
+pub use Rattle.tk_starts.specs.Joints
+pub use Rattle.tk_starts.specs.NearestTour
+pub use Rattle.tk_starts.specs.PathEnds
+pub use Rattle.tk_starts.specs.SavingPairs
+pub use Rattle.tk_starts.specs.SavingsMerges
+pub use Rattle.tk_starts.specs.Unvisited
+pub use Rattle.tk_search.specs.Cuts
+pub use Rattle.tk_search.specs.Descents
+pub use Rattle.tk_search.specs.Ending
+pub use Rattle.tk_search.specs.SearchLaws
+pub use Rattle.tk_search.specs.SearchOf
+pub use Rattle.tk_search.specs.Searching
+pub use Rattle.tk_search.specs.Settled
+pub use Rattle.tk_search.specs.Totals
+pub use Rattle.tk_search.specs.Trials

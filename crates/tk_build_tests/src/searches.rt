@@ -1,0 +1,332 @@
+//! Searches by example. The numbers are those of another program, which was written from the rules of the search.
+ghost use Rattle.std.specs.Prelude.{◌≡◌, ◌<◌};
+
+use crate::places::places;
+use rand_core::SeedableRng;
+use rand_pcg::Pcg32;
+use std::alloc::Global;
+use std::process::Abort;
+use std::test::Fail;
+use tk_distance::{Metric, Planes, Triangle};
+use tk_near::{Near, near_scan};
+use tk_problem::PlaneKind;
+use tk_search::{Search, SearchRules, Totals, TrialReport};
+use tk_tour::{ArrayTour, TourStore};
+
+// A search from a list.
+fn begin<'a, M: Metric>(
+    rt: &impl Abort,
+    alloc: Global,
+    metric: &'a M,
+    near: &'a Near,
+    start: &[u32],
+    rules: SearchRules,
+) -> Result<Search<'a, M>, Fail>
+    requires { near.now.size ≡ M.size_of metric.now }
+{
+    let start = ArrayTour::from_list(alloc, start)?;
+    assert!(rt; start.size() == metric.size());
+    assert!(rt; 1 <= rules.or_segment && rules.or_segment <= 3);
+    Ok(Search::new(alloc, metric, near, start, rules)?)
+}
+
+// What a trial did: the lengths before and after; the moves, looks, tests, swaps and passes.
+fn expect_report(rt: &impl Abort, report: &TrialReport, lengths: [i64; 2], counts: [u64; 5]) {
+    let descent = &report.descent;
+    assert!(rt; [descent.before, descent.after] == lengths);
+    assert!(rt;
+        [
+            descent.moves,
+            descent.looks,
+            descent.tests,
+            descent.swaps,
+            report.passes
+        ] == counts
+    );
+}
+
+// A search on fewer than 8 cities: a trial, and then none. The counts are those of segments of at most 1, 2 and 3
+// cities, and then the same swept.
+#[derive(Clone, Copy)]
+struct Few<'a> {
+    metric: Triangle<'a>,
+    width: u32,
+    start: &'a [u32],
+    lengths: [i64; 2],
+    best: &'a [u32],
+    counts: [[u64; 5]; 6],
+}
+
+fn expect_trial_and_none(
+    rt: &impl Abort,
+    alloc: Global,
+    near: &Near,
+    few: &Few,
+    k: usize,
+) -> Result<(), Fail>
+    requires size { near.now.size ≡ few.now.metric.n }
+    requires row { k < 6 }
+{
+    let rules = SearchRules {
+        sweep: 3 <= k,
+        or_segment: k as u32 % 3 + 1,
+    };
+    let mut search = begin(rt, alloc, &few.metric, near, few.start, rules)?;
+    let mut rng = Pcg32::seed_from_u64(1);
+    let [_, after] = few.lengths;
+    expect_report(rt, &search.trial(&mut rng), few.lengths, few.counts[k]);
+    expect_report(rt, &search.trial(&mut rng), [after, after], [0; 5]);
+    assert!(rt; search.totals().trials == 1);
+    assert!(rt; search.best() == few.best);
+    Ok(())
+}
+
+fn expect_few(rt: &impl Abort, alloc: Global, few: &Few) -> Result<(), Fail> {
+    assert!(rt; 1 <= few.width && few.width < few.metric.size() && few.width <= 100);
+    let near = near_scan(alloc, &few.metric, few.width)?;
+    for k in 0..6 {
+        expect_trial_and_none(rt, alloc, &near, few, k)?;
+    }
+    Ok(())
+}
+
+#[test]
+fn one_trial_on_few_cities(rt: HostRuntime) -> Result<(), Fail> {
+    let rows = [
+        Few {
+            metric: Triangle {
+                n: 2,
+                weights: &[5],
+            },
+            width: 1,
+            start: &[1, 2],
+            lengths: [10, 10],
+            best: &[1, 2],
+            counts: [[0, 2, 4, 0, 1]; 6],
+        },
+        Few {
+            metric: Triangle {
+                n: 3,
+                weights: &[3, 4, 5],
+            },
+            width: 2,
+            start: &[1, 2, 3],
+            lengths: [12, 12],
+            best: &[1, 2, 3],
+            counts: [[0, 3, 18, 0, 1]; 6],
+        },
+        Few {
+            metric: Triangle {
+                n: 4,
+                weights: &[14, 10, 10, 10, 10, 14],
+            },
+            width: 3,
+            start: &[1, 2, 3, 4],
+            lengths: [48, 40],
+            best: &[1, 3, 2, 4],
+            counts: [
+                [1, 5, 41, 1, 1],
+                [1, 5, 57, 1, 1],
+                [1, 5, 57, 1, 1],
+                [1, 9, 81, 1, 2],
+                [1, 9, 113, 1, 2],
+                [1, 9, 113, 1, 2],
+            ],
+        },
+        Few {
+            metric: Triangle {
+                n: 5,
+                weights: &[10, 1, 1, 10, 100, 10, 10, 10, 10, 10],
+            },
+            width: 1,
+            start: &[1, 2, 3, 4, 5],
+            lengths: [41, 32],
+            best: &[1, 3, 2, 5, 4],
+            counts: [
+                [1, 6, 19, 2, 1],
+                [1, 6, 26, 2, 1],
+                [1, 6, 31, 2, 1],
+                [1, 11, 35, 2, 2],
+                [1, 11, 49, 2, 2],
+                [1, 11, 59, 2, 2],
+            ],
+        },
+    ];
+    for few in &rows {
+        expect_few(&rt, rt.alloc(), few)?;
+    }
+    Ok(())
+}
+
+// A search in the plane, with the totals after some of its trials: trials, better, moves, gained, tests, swaps,
+// undo_swaps, copied and passes.
+#[derive(Clone, Copy)]
+struct Many<'a> {
+    corners: &'a [(u16, u16)],
+    width: u32,
+    start: &'a [u32],
+    length: i64,
+    sweep: bool,
+    seed: u64,
+    totals: &'a [[u128; 9]],
+    best: &'a [u32],
+}
+
+fn totals(start: i64, counts: [u128; 9]) -> Totals {
+    let [
+        trials,
+        better,
+        moves,
+        gained,
+        tests,
+        swaps,
+        undo_swaps,
+        copied,
+        passes,
+    ] = counts;
+    Totals {
+        start,
+        trials,
+        better,
+        moves,
+        gained,
+        tests,
+        swaps,
+        undo_swaps,
+        copied,
+        passes,
+    }
+}
+
+// After a kick few cities are awake: 4 * 3 * 5 tests for each of at most 8, and of 6 more for each move.
+fn expect_few_looks(rt: &impl Abort, report: &TrialReport) {
+    let moves = u128::from(report.descent.moves);
+    assert!(rt; u128::from(report.descent.looks) <= 8 + 6 * moves);
+    assert!(rt; u128::from(report.descent.tests) <= 480 + 360 * moves);
+}
+
+// Trials up to the last of that number.
+fn run<M: Metric>(
+    rt: &impl Abort,
+    search: &mut Search<M>,
+    rng: &mut Pcg32,
+    last: u128,
+    sweep: bool,
+) {
+    for _ in search.totals().trials..last {
+        let report = search.trial(rng);
+        if report.kicked && !sweep {
+            expect_few_looks(rt, &report);
+        }
+    }
+}
+
+fn expect_totals<M: Metric>(
+    rt: &impl Abort,
+    alloc: Global,
+    metric: &M,
+    near: &Near,
+    many: &Many,
+) -> Result<(), Fail>
+    requires { near.now.size ≡ M.size_of metric.now }
+{
+    let rules = SearchRules {
+        sweep: many.sweep,
+        or_segment: 3,
+    };
+    let mut search = begin(rt, alloc, metric, near, many.start, rules)?;
+    let mut rng = Pcg32::seed_from_u64(many.seed);
+    for counts in many.totals {
+        let want = totals(many.length, *counts);
+        run(rt, &mut search, &mut rng, want.trials, many.sweep);
+        assert!(rt; search.totals() == want);
+    }
+    assert!(rt; search.best() == many.best);
+    Ok(())
+}
+
+fn expect_many(rt: &impl Abort, alloc: Global, many: &Many) -> Result<(), Fail> {
+    assert!(rt; many.corners.len() <= 16);
+    let points = places(alloc, many.corners)?;
+    let metric = Planes::new(PlaneKind::Man2d, &points);
+    assert!(rt; 1 <= many.width && many.width < metric.size());
+    let near = near_scan(alloc, &metric, many.width)?;
+    expect_totals(rt, alloc, &metric, &near, many)
+}
+
+#[test]
+fn later_trials_look_at_few_cities(rt: HostRuntime) -> Result<(), Fail> {
+    let many = Many {
+        corners: &[
+            (0, 0),
+            (1, 0),
+            (2, 0),
+            (3, 0),
+            (4, 0),
+            (5, 0),
+            (6, 0),
+            (7, 0),
+            (8, 0),
+            (9, 0),
+            (10, 0),
+            (11, 0),
+            (12, 0),
+            (13, 0),
+            (14, 0),
+            (15, 0),
+        ],
+        width: 5,
+        start: &[1, 2, 3, 4, 5, 6, 7, 8, 9, 10, 11, 12, 13, 14, 15, 16],
+        length: 30,
+        sweep: false,
+        seed: 1,
+        totals: &[[50, 0, 104, 462, 18535, 456, 456, 0, 50]],
+        best: &[1, 2, 3, 4, 5, 6, 7, 8, 9, 10, 11, 12, 13, 14, 15, 16],
+    };
+    expect_many(&rt, rt.alloc(), &many)
+}
+
+// Nine places; the shortest tour among all has the length 34.
+const NINE: [(u16, u16); 9] = [
+    (1, 4),
+    (7, 7),
+    (2, 5),
+    (1, 2),
+    (9, 3),
+    (6, 6),
+    (3, 6),
+    (1, 8),
+    (5, 4),
+];
+
+#[test]
+fn later_trials_are_taken_undone_or_copied_back(rt: HostRuntime) -> Result<(), Fail> {
+    let plain = Many {
+        corners: &NINE,
+        width: 4,
+        start: &[1, 2, 3, 4, 5, 6, 7, 8, 9],
+        length: 54,
+        sweep: false,
+        seed: 7,
+        totals: &[
+            [1, 1, 5, 18, 313, 6, 0, 9, 1],
+            // copied back
+            [2, 1, 11, 32, 637, 20, 0, 18, 2],
+            // undone
+            [3, 1, 13, 42, 867, 26, 6, 18, 3],
+            [6, 1, 17, 62, 1456, 36, 16, 18, 6],
+            // better
+            [7, 2, 23, 74, 1891, 50, 16, 27, 7],
+            [12, 2, 39, 136, 3498, 95, 34, 45, 12],
+        ],
+        best: &[9, 4, 1, 8, 3, 7, 6, 2, 5],
+    };
+    expect_many(&rt, rt.alloc(), &plain)?;
+    let swept = Many {
+        sweep: true,
+        totals: &[[12, 2, 36, 102, 7022, 88, 25, 63, 23]],
+        best: &[7, 8, 4, 1, 3, 9, 5, 2, 6],
+        ..plain
+    };
+    expect_many(&rt, rt.alloc(), &swept)
+}

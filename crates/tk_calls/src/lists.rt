@@ -1,0 +1,75 @@
+//! Near lists.
+ghost use Rattle.std.specs.Prelude.{◌≡◌, ◌<◌, IfOk};
+
+use crate::again;
+use crate::instances::SQUARE;
+use crate::readers::problem_of;
+use crate::refusals::{Refusal, Stopped};
+use tk_distance::{Metric, Planar, Table};
+use tk_near::{Near, near_scan, near_sweep, near_tree};
+use tk_text::Problem;
+
+/// Near lists by a scan, whose number and length are told.
+pub fn near_of<M: Metric>(rt: &HostRuntime, metric: &M, k: u32) -> Result<Near, Stopped>
+    ensures size { IfOk result (λ near. near.size ≡ M.size_of metric.now) }
+{
+    if k < 1 || k > 100 || k >= metric.size() {
+        return Err(Stopped);
+    }
+    let near = again!(rt, "near_scan", near_scan(rt.alloc(), metric, k));
+    println!(rt; "near_scan: {} lists of {}", near.size(), near.width())?;
+    Ok(near)
+}
+
+/// Tells the lists.
+fn show(rt: &HostRuntime, name: &str, near: &Near) -> Result<(), Stopped> {
+    print!(rt; "{name}:")?;
+    for k in 0..near.size() {
+        print!(rt; " {:?}", near.of(k + 1))?;
+    }
+    println!(rt; "")?;
+    Ok(())
+}
+
+/// Lists of two by a scan.
+fn scan<P: Planar>(rt: &HostRuntime, places: &P) -> Result<(), Stopped>
+    requires { 2 < P.size_of places.now }
+{
+    let near = again!(rt, "near_scan", near_scan(rt.alloc(), places, 2));
+    show(rt, "near_scan", &near)
+}
+
+/// Lists of two by a sweep.
+fn sweep<P: Planar>(rt: &HostRuntime, places: &P) -> Result<(), Stopped>
+    requires { 2 < P.size_of places.now }
+{
+    let near = again!(rt, "near_sweep", near_sweep(rt.alloc(), places, 2));
+    show(rt, "near_sweep", &near)
+}
+
+/// Lists of two by a tree.
+fn search_tree<P: Planar>(rt: &HostRuntime, places: &P) -> Result<(), Stopped>
+    requires { 2 < P.size_of places.now }
+{
+    let near = again!(rt, "near_tree", near_tree(rt.alloc(), places, 2));
+    show(rt, "near_tree", &near)
+}
+
+/// Finds the near lists of a problem in the plane in each way.
+fn find_each(rt: &HostRuntime, problem: &Problem) -> Result<(), Stopped> {
+    let Table::Planes(planes) = Table::of(problem) else {
+        return Err(Stopped);
+    };
+    if planes.size() <= 2 {
+        return Err(Stopped);
+    }
+    scan(rt, &planes)?;
+    sweep(rt, &planes)?;
+    search_tree(rt, &planes)
+}
+
+/// Finds near lists in each way.
+pub fn make_calls(rt: &HostRuntime) -> Result<(), Stopped> {
+    let problem = problem_of(rt, SQUARE)?;
+    find_each(rt, &problem)
+}

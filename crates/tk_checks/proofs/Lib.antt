@@ -1,4 +1,0 @@
-pub mod Lengths
-pub mod NearLines
-pub mod ProblemTables
-pub mod RouteChecks

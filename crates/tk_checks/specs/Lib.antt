@@ -1,4 +1,0 @@
-pub mod Check
-pub mod MatrixOf
-pub mod NearText
-pub mod RouteCheck

@@ -1,0 +1,65 @@
+-- A number is the least that covers a square where it does and its neighbour does not.
+use Rattle.std.proofs.Common.{◌≡◌, ℕ, ◌+◌, ◌-◌, ◌*◌, ◌<◌, ◌≤◌, subst, inl, inr, arith}
+use Rattle.std.proofs.lemmas.Bool.{cases_lt}
+use Rattle.std.proofs.lemmas.Nat.{mul-le}
+use Rattle.tk_distance.specs.Distance.{IsLeast, Covers, square_sum}
+use Rattle.tk_distance.specs.Roots.{IsRootUp}
+
+-- d is the least where it covers the square and one less does not, or is 0
+pub least_between : (parts square d : ℕ) → square ≤ parts * (d * 1000000000 * (d * 1000000000))
+    → (1 ≤ d → parts * ((d - 1) * 1000000000 * ((d - 1) * 1000000000)) < square) → IsLeast (Covers parts square) d
+least_between parts square d reach low = record {
+  holds = omega arith;
+  least = λ e h. elim (cases_lt e d) [
+    | inl lt ↦
+        let below = low (omega arith) in
+        let one = mul-le e e (d - 1) (d - 1) (omega arith) (omega arith) in
+        let all = mul-le parts (e * e) parts ((d - 1) * (d - 1)) (omega arith) one in
+        absurd (omega (arith, below, all))
+    | inr le ↦ le
+  ];
+}
+
+-- the least from the root of a quotient, both rounded up
+pub least_from_root : (parts square q r d : ℕ) → square ≤ q * parts → q * parts < square + parts → IsRootUp q r
+    → r ≤ d * 1000000000 → d * 1000000000 < r + 1000000000 → IsLeast (Covers parts square) d
+least_from_root parts square q r d enough near root above below = record {
+  holds =
+      let a = mul-le r r (d * 1000000000) (d * 1000000000) above above in
+      let b = mul-le q parts (d * 1000000000 * (d * 1000000000)) parts (let g = root.reaches in omega (arith, a, g)) (omega arith) in
+      omega (arith, b);
+  least = λ e h.
+      let fits : q ≤ e * 1000000000 * (e * 1000000000) = elim (cases_lt (e * 1000000000 * (e * 1000000000)) q) [
+        | inl lt ↦ let more = mul-le (e * 1000000000 * (e * 1000000000) + 1) parts q parts (omega arith) (omega arith) in absurd (omega (arith, more, h))
+        | inr le ↦ le
+      ] in
+      let r_le : r ≤ e * 1000000000 = root.least (e * 1000000000) fits in
+      omega arith;
+}
+
+pub root_up_small : (q r : ℕ) → q ≤ 8000000000000000000000000000000000000 → IsRootUp q r → r ≤ 3000000000000000000
+root_up_small q r small root = root.least 3000000000000000000 (omega arith)
+
+too_small : (n e k d : ℕ) → d ≡ k + 1 → d * d + 1 < n + 2 * d → n ≤ e * e → e ≤ k → ⊥
+too_small n e k d is low reach le =
+    let P : ℕ → Type 0 = λ x. x * x + 1 < n + 2 * x in
+    let at : P (k + 1) = subst P is low in
+    let more = mul-le e e k k le le in
+    omega (arith, at, more)
+
+-- the same of a whole square
+pub least_whole : (n d : ℕ) → n ≤ d * d → (1 ≤ d → d * d + 1 < n + 2 * d) → IsLeast (Covers 1 (n * (1000000000 * 1000000000))) d
+least_whole n d reach low = record {
+  holds = omega arith;
+  least = λ e h. elim (cases_lt e d) [
+    | inl lt ↦ absurd (too_small n e (d - 1) d (omega arith) (low (omega arith)) (omega arith) (omega arith))
+    | inr le ↦ le
+  ];
+}
+
+-- ---- along an axis
+
+pub least_along : (x d : ℕ) → x ≤ d * 1000000000 → d * 1000000000 < x + 1000000000 → IsLeast (Covers 1 (square_sum x 0)) d
+least_along x d reach low = least_between 1 (square_sum x 0) d
+    (let more = mul-le x x (d * 1000000000) (d * 1000000000) reach reach in omega (arith, more))
+    (λ some. let more = mul-le ((d - 1) * 1000000000 + 1) ((d - 1) * 1000000000 + 1) x x (omega arith) (omega arith) in omega (arith, more))

@@ -1,0 +1,11 @@
+pub mod Cities
+pub mod Distance
+pub mod Laws
+pub mod PlaneDistance
+pub mod PlaneOf
+pub mod Roots
+pub mod Searching
+pub mod Tables
+pub mod Turned
+pub mod Weights
+pub mod WholeCities

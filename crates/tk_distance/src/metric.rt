@@ -1,0 +1,76 @@
+//! What a distance is.
+ghost use Rattle.std.specs.Prelude.{◌≡◌, ℕ, ℤ, ◌≤◌, ◌<ℤ◌, ◌↔◌, IsTrue, pos, ◌-ℤ◌};
+ghost use Rattle.std.specs.Int.RustNames.{unsigned_abs};
+ghost use Rattle.tk_distance.specs.Cities.{IsCity};
+ghost use Rattle.tk_problem.specs.declared.point.Point.{Point};
+
+use tk_problem::Point;
+
+/// Symmetric distances among the cities 1 to `size`.
+pub trait Metric {
+    /// How many cities there are.
+    ghost size_of: { Self → ℕ };
+
+    /// The table of distances.
+    ghost distance: { Self → ℕ → ℕ → ℕ };
+
+    /// How many cities there are: at most 100,000.
+    fn size(&self) -> u32
+        ensures { result ≡ size_of self.now };
+
+    /// The distance of two cities, from 0 to 4·10^9.
+    fn dist(&self, a: u32, b: u32) -> i64
+        requires a { IsCity (size_of self.now) a }
+        requires b { IsCity (size_of self.now) b }
+        ensures { result ≡ pos (distance self.now a b) };
+
+    /// Whether two cities are nearer than a limit.
+    #[inline]
+    fn is_nearer(&self, a: u32, b: u32, limit: i64) -> bool
+        requires a { IsCity (size_of self.now) a }
+        requires b { IsCity (size_of self.now) b }
+        ensures { IsTrue result ↔ (pos (distance self.now a b) <ℤ limit) }
+    {
+        self.dist(a, b) < limit
+    }
+
+    ghost size_limit: { (m : Self) → size_of m ≤ 100000 };
+
+    ghost symmetric: { (m : Self) (a b : ℕ) → distance m a b ≡ distance m b a };
+
+    ghost diagonal: { (m : Self) (a : ℕ) → distance m a a ≡ 0 };
+
+    ghost distance_limit: { (m : Self) (a b : ℕ) → distance m a b ≤ 4000000000 };
+}
+
+/// A metric over places in the plane, in which a distance is at least a function of the difference in x, and the same
+/// function of the difference in y.
+pub trait Planar: Metric {
+    /// The place of a city, in units of the metric's own.
+    ghost place_of: { Self → ℕ → Point };
+
+    /// The least distance at a difference in x or in y.
+    ghost floor: { Self → ℕ → ℕ };
+
+    /// The place of a city, in units of the metric's own.
+    fn place(&self, c: u32) -> Point
+        requires { IsCity (Self.size_of self.now) c }
+        ensures { result ≡ place_of self.now c };
+
+    /// No two cities whose places differ by this in x, or in y, are nearer than this.
+    fn floor_x(&self, dx: u64) -> i64
+        requires { dx ≤ 2000000000000000000 }
+        ensures { result ≡ pos (floor self.now dx) };
+
+    ghost wide: { (m : Self) (a b : ℕ) → unsigned_abs ((place_of m a).x -ℤ (place_of m b).x) ≤ 2000000000000000000 };
+
+    ghost tall: { (m : Self) (a b : ℕ) → unsigned_abs ((place_of m a).y -ℤ (place_of m b).y) ≤ 2000000000000000000 };
+
+    ghost floor_rises: { (m : Self) (s t : ℕ) → s ≤ t → t ≤ 2000000000000000000 → floor m s ≤ floor m t };
+
+    ghost floor_bounds: { (m : Self) (a b : ℕ)
+        → floor m (unsigned_abs ((place_of m a).x -ℤ (place_of m b).x)) ≤ Self.distance m a b };
+
+    ghost floor_bounds_y: { (m : Self) (a b : ℕ)
+        → floor m (unsigned_abs ((place_of m a).y -ℤ (place_of m b).y)) ≤ Self.distance m a b };
+}

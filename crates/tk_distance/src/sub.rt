@@ -1,0 +1,70 @@
+//! Distances among some of the cities.
+ghost use Rattle.std.specs.Prelude.{◌≡◌, ◌≤◌, All, length};
+ghost use Rattle.tk_distance.specs.Cities.{IsCity};
+
+use crate::metric::Metric;
+use std::alloc::AllocError;
+
+/// The distances among the cities of a list, numbered from 1 in its order. A city may stand in it more than once.
+pub struct Sub<'a, M: Metric> {
+    pub metric: &'a M,
+    pub cities: &'a [u32],
+    ghost few: { length cities.now ≤ 100000 },
+    ghost known: { All (IsCity (M.size_of metric.now)) cities.now },
+}
+
+impl<M: Metric> Copy for Sub<'_, M> {}
+
+impl<M: Metric> Clone for Sub<'_, M> {
+    ghost is_clone = { λ sub copy. copy ≡ sub };
+
+    fn clone(&self) -> Result<Self, AllocError> {
+        Ok(*self)
+    }
+}
+
+impl<'a, M: Metric> Sub<'a, M> {
+    /// The distances among at most 100,000 cities of a metric.
+    pub fn new(metric: &'a M, cities: &'a [u32]) -> Sub<'a, M>
+        requires few { length cities.now ≤ 100000 }
+        requires known { All (IsCity (M.size_of metric.now)) cities.now }
+        ensures metric { result.metric.now ≡ metric.now }
+        ensures cities { result.cities.now ≡ cities.now }
+    {
+        Sub { metric, cities }
+    }
+}
+
+impl<M: Metric> Metric for Sub<'_, M> {
+    ghost use Rattle.std.specs.Prelude.{length};
+    ghost use Rattle.tk_distance.specs.Cities.{city_at};
+
+    ghost size_of = { λ m. length m.cities.now };
+
+    ghost distance = { λ m a b. M.distance m.metric.now (city_at m.cities.now a) (city_at m.cities.now b) };
+
+    ghost size_limit = { λ m. m.few };
+
+    ghost symmetric = { λ m a b. M.symmetric m.metric.now (city_at m.cities.now a) (city_at m.cities.now b) };
+
+    ghost diagonal = { λ m a. M.diagonal m.metric.now (city_at m.cities.now a) };
+
+    ghost distance_limit = { λ m a b. M.distance_limit m.metric.now (city_at m.cities.now a) (city_at m.cities.now b) };
+
+    #[inline]
+    fn size(&self) -> u32 {
+        self.cities.len() as u32
+    }
+
+    #[inline]
+    fn dist(&self, a: u32, b: u32) -> i64 {
+        self.metric
+            .dist(self.cities[a as usize - 1], self.cities[b as usize - 1])
+    }
+
+    #[inline]
+    fn is_nearer(&self, a: u32, b: u32, limit: i64) -> bool {
+        let (a, b) = (self.cities[a as usize - 1], self.cities[b as usize - 1]);
+        self.metric.is_nearer(a, b, limit)
+    }
+}

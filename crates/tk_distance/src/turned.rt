@@ -1,0 +1,77 @@
+//! Places with x and y exchanged.
+ghost use Rattle.std.specs.Prelude.{◌≡◌, ◌≤◌, ℕ};
+ghost use Rattle.tk_problem.specs.declared.point.Point.{Point};
+ghost use Rattle.tk_distance.specs.Turned.{turned};
+
+use crate::metric::{Metric, Planar};
+use tk_problem::Point;
+
+/// The same metric with x and y of each place exchanged.
+#[derive(Drop)]
+pub struct Turned<'a, P: Planar>(pub &'a P);
+
+impl<'a, P: Planar> Metric for Turned<'a, P> {
+    ghost size_of = { λ t. P.size_of t.0.now };
+
+    ghost distance = { λ t. P.distance t.0.now };
+
+    ghost size_limit = { λ t. P.size_limit t.0.now };
+
+    ghost symmetric = { λ t. P.symmetric t.0.now };
+
+    ghost diagonal = { λ t. P.diagonal t.0.now };
+
+    ghost distance_limit = { λ t. P.distance_limit t.0.now };
+
+    fn size(&self) -> u32 {
+        self.0.size()
+    }
+
+    fn dist(&self, a: u32, b: u32) -> i64 {
+        self.0.dist(a, b)
+    }
+}
+
+impl<'a, P: Planar> Planar for Turned<'a, P> {
+    ghost place_of = { λ t c. turned (P.place_of t.0.now c) };
+
+    ghost floor = { λ t. P.floor t.0.now };
+
+    ghost wide = { λ t. P.tall t.0.now };
+
+    ghost tall = { λ t. P.wide t.0.now };
+
+    ghost floor_rises = { λ t. P.floor_rises t.0.now };
+
+    ghost floor_bounds = { λ t. P.floor_bounds_y t.0.now };
+
+    ghost floor_bounds_y = { λ t. P.floor_bounds t.0.now };
+
+    fn place(&self, c: u32) -> Point {
+        let place = self.0.place(c);
+        Point {
+            x: place.y,
+            y: place.x,
+        }
+    }
+
+    fn floor_x(&self, dx: u64) -> i64 {
+        self.0.floor_x(dx)
+    }
+}
+
+/// Whether the places take more room in y than in x.
+pub fn is_tall<P: Planar>(m: &P) -> bool
+    requires { 1 ≤ P.size_of m.now }
+{
+    let mut low = m.place(1);
+    let mut high = low;
+    for c in 2..m.size() + 1 {
+        let place = m.place(c);
+        low.x = low.x.min(place.x);
+        low.y = low.y.min(place.y);
+        high.x = high.x.max(place.x);
+        high.y = high.y.max(place.y);
+    }
+    high.y.abs_diff(low.y) > high.x.abs_diff(low.x)
+}

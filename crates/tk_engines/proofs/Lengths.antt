@@ -1,0 +1,24 @@
+-- A verdict on a tour, and its line, under two names of the distances.
+use Rattle.std.proofs.Common.{◌≡◌, ℕ, List, ap, ◌∙◌, subst}
+use Rattle.tk_problem_text.specs.Parts.{weights_are, problem_is}
+use Rattle.tk_problem.specs.declared.problem.Problem.{Problem}
+use Rattle.tk_problem.specs.declared.weights.Weights.{Weights}
+use Rattle.tk_distance.specs.Weights.{problem_distance}
+use Rattle.tk_tour.specs.declared.verdict.Verdict.{Verdict}
+use Rattle.tk_tour.specs.Verdict.{IsVerdict}
+use Rattle.tk_engines.specs.ReadProblems.{read_distance}
+use Rattle.tk_engines.proofs.ReadTables.{read_distance_is}
+use Rattle.tk_engines.specs.TourLine.{verdict_line}
+use Rattle.tk_engines.specs.Check.{IsCheck}
+
+-- a line by the distances of a problem is one by those that its text gives
+verdict_line_is : (n : ℕ) (w : Weights) (cities : List ℕ) (v : Verdict) → verdict_line n (problem_distance w) cities v ≡ verdict_line n (read_distance (weights_are w)) cities v
+verdict_line_is n w cities v = ap (λ d. verdict_line n d cities v) (read_distance_is w)
+
+-- a verdict on a list, and its line, by what the texts say
+pub IsCheck-of : (p : Problem) (cities tried told : List ℕ) (v : Verdict) → tried ≡ cities → told ≡ cities → IsVerdict p.n tried v
+    → IsCheck (problem_is p) cities v (verdict_line p.n (problem_distance p.weights) told v)
+IsCheck-of p cities tried told v is_tried is_told right = record {
+  right = subst (λ l. IsVerdict p.n l v) is_tried right;
+  line = ap (λ l. verdict_line p.n (problem_distance p.weights) l v) is_told ∙ verdict_line_is p.n p.weights cities v;
+}

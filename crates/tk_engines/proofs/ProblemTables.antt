@@ -1,0 +1,42 @@
+-- The table of a problem has the distances that its text says.
+use Rattle.std.proofs.Common.{◌≡◌, ℕ, ◌-◌, ◌≤◌, min, Option, Some, None, Result, Ok, Err, sym, ap, ◌∙◌, subst, arith}
+use Rattle.std.proofs.lemmas.Bool.{le-ltb}
+use Rattle.std.specs.Prelude.{Bool, IfOk, if◌then◌else◌}
+use Rattle.tk_near.specs.Near.{NearLists, AreNearest}
+use Rattle.tk_distance.specs.Tables.{table_size, table_distance, table_distance-swap, table_distance-limit}
+use Rattle.tk_distance.specs.Weights.{problem_distance}
+use Rattle.tk_distance.specs.declared.table.Table.{Table}
+use Rattle.tk_problem.specs.declared.problem.Problem.{Problem}
+use Rattle.tk_problem_text.specs.Parts.{problem_is}
+use Rattle.tk_problem_text.specs.Problem.{ProblemIs}
+use Rattle.tk_writers.specs.ReadBack.{IsTable}
+use Rattle.tk_engines.proofs.ReadTables.{distances_read}
+use Rattle.tk_engines.specs.MatrixOf.{too_large}
+use Rattle.tk_engines.specs.NearText.{IsNearOf}
+use Rattle.tk_engines.specs.declared.fault.Fault.{Fault}
+use Rattle.tk_engines.specs.declared.fault.Fault.TheVariants.{TooLarge}
+
+-- the distances of a table are weights that a problem can have
+pub IsTable-table : (t : Table) (n : ℕ) (d : ℕ → ℕ → ℕ) → ((a b : ℕ) → table_distance t a b ≡ d a b) → IsTable n d
+IsTable-table t n d same = record {
+  symmetric = λ a b _ _ _ _. sym (same a b) ∙ table_distance-swap t a b ∙ same b a;
+  weights = λ a b _ _ _ _ _. omega (arith, same a b, table_distance-limit t a b);
+  diagonal = λ a _ _. omega (arith, same a a, table_distance-limit t a a);
+}
+
+pub IsNearOf-table : {E : Type 0} (t : Table) (p : Problem) (k : ℕ) (r : Result NearLists E) → table_size t ≡ p.n → ((a b : ℕ) → table_distance t a b ≡ problem_distance p.weights a b)
+    → IfOk r (λ v. v.size ≡ table_size t) → IfOk r (λ v. v.width ≡ min k (p.n - 1)) → IfOk r (λ v. AreNearest (table_distance t) v)
+    → IfOk r (λ v. IsNearOf (problem_is p) k v)
+IsNearOf-table t p k (Ok v) same is size width near = record {
+  size = size ∙ same;
+  width = width;
+  near = subst (λ (d : ℕ → ℕ → ℕ). AreNearest d v) (distances_read (table_distance t) p.weights is) near;
+}
+IsNearOf-table t p k (Err e) same is size width near = tt
+
+abbrev large_by : Bool → Option Fault
+large_by b = if b then Some TooLarge else None
+
+-- a problem of at most 5,000 nodes is not too large
+pub is_not_too_large : (p : ProblemIs) → p.n ≤ 5000 → too_large p ≡ None
+is_not_too_large p few = ap large_by (le-ltb 5000 p.n few)

@@ -1,0 +1,163 @@
+-- How engines end. The stages are the same for all: a problem's text is read; the problem must fit the task; where
+-- there is a second text it is read, and must fit the problem; the work is done; and what it gives is written.
+--     Task      what an engine does, whatever its sources and sinks
+--     ReadsProblem, ReadsTour, ReadsSolution, NoText      what a source's text says
+--     Ends task Problem Second Writes result      the stage that was reached, and what is known there
+--     EndsByProblem      the same, where it depends on the problem what is read as the second text
+--     BeforeSecond, UnlessWrite, AtWrite      a fact, at some of the stages
+use Rattle.std.specs.Prelude.{◌≡◌, ◌≢◌, ℕ, Bool, true, List, Option, Some, None, Result, Ok, Err}
+use Rattle.tk_words.specs.Drive.{Decided, IsTold}
+use Rattle.tk_words.specs.Texts.{IsAnswerWhereTold, text_limit}
+use Rattle.tk_problem_text.specs.Problem.{ProblemIs, problem_decided}
+use Rattle.tk_lists.specs.Solution.{Solution, solution_decided}
+use Rattle.tk_lists.specs.Tour.{tour_decided}
+use Rattle.tk_words.specs.declared.fault.TextFault.{TextFault}
+use Rattle.tk_words.specs.declared.fault.TextKind.TheVariants as kinds
+use Rattle.tk_writers.specs.declared.pen.WriteFault.{WriteFault}
+use Rattle.tk_engines.specs.declared.fault.Fault.{Fault}
+use Rattle.tk_engines.specs.declared.fault.Fault.TheVariants as faults
+
+-- ---- sources and sinks
+
+-- the text of a source says this value, and no read failed
+pub record IsRead {V S : Type 0} (decided : Decided V) (left : S → Option (List ℕ)) (broken : S → Bool) (old new : S)
+    (value : V) : Type 0 where
+  pub answer : IsAnswerWhereTold decided text_limit (left old) (left new) (Ok value)
+  pub intact : broken new ≡ broken old
+
+-- the text of a source has this fault, or it is one of reading or of memory
+pub record IsRefused {V S : Type 0} (decided : Decided V) (left : S → Option (List ℕ)) (broken : S → Bool) (old new : S)
+    (f : TextFault) : Type 0 where
+  pub told : IsTold (broken new ≡ true) (IsAnswerWhereTold decided text_limit (left old) (left new)) f
+  pub intact : f.kind ≢ kinds.Read → broken new ≡ broken old
+
+-- what is known where a text is read as a value, or is refused
+abbrev pub Reading : Type 0 → Type 1
+Reading V = Result V Fault → Type 0
+
+-- what is known where a text is written, or breaks off
+abbrev pub Writing : Type 0 → Type 1
+Writing T = Result (Unit {0}) WriteFault → T → Type 0
+
+-- a source's text was read, or was refused with a fault that the engine wraps so
+abbrev pub Reads : {V S : Type 0} → Decided V → (TextFault → Fault) → (S → Option (List ℕ)) → (S → Bool) → S → S →
+    Reading V
+Reads decided wrap left broken old new (Ok value) = IsRead decided left broken old new value
+Reads decided wrap left broken old new (Err fault) =
+    (f : TextFault) × (fault ≡ wrap f) × IsRefused decided left broken old new f
+
+abbrev pub ReadsProblem : {S : Type 0} → (S → Option (List ℕ)) → (S → Bool) → S → S → Reading ProblemIs
+ReadsProblem = Reads problem_decided faults.Problem
+
+abbrev pub ReadsTour : {S : Type 0} → (S → Option (List ℕ)) → (S → Bool) → S → S → Reading (List ℕ)
+ReadsTour = Reads tour_decided faults.Tour
+
+abbrev pub ReadsSolution : {S : Type 0} → (S → Option (List ℕ)) → (S → Bool) → S → S → Reading Solution
+ReadsSolution = Reads solution_decided faults.Solution
+
+-- there is no such text, so nothing is wrong with it
+abbrev pub NoText : Reading (Unit {0})
+NoText (Ok _) = Unit {0}
+NoText (Err f) = ⊥
+
+-- a source or a sink is as before
+abbrev pub IsUntouched : {S : Type 0} → (S → Option (List ℕ)) → (S → Bool) → S → S → Type 0
+IsUntouched bytes broken old new = (bytes new ≡ bytes old) × (broken new ≡ broken old)
+
+-- ---- the stages
+
+-- what an engine does with a problem, a second text of type B and an answer of type R, and what it writes, of type T
+pub record Task (B R T : Type 0) : Type 1 where
+  -- what keeps the problem from the task, such as its type or its size
+  pub misfit : ProblemIs → Option Fault
+  -- what keeps the second text from the problem
+  pub IsClash : ProblemIs → B → Option Fault → Type 0
+  -- whether the work takes memory
+  pub takes_memory : Bool
+  -- the answer, and what is written
+  pub Gives : ProblemIs → B → R → T → Type 0
+
+-- any second text fits the problem
+abbrev pub NoClash : {B : Type 0} → ProblemIs → B → Option Fault → Type 0
+NoClash problem second clash = clash ≡ None
+
+-- a problem was read that does not fit
+pub record IsMisfit {B R T : Type 0} (task : Task B R T) (Problem : Reading ProblemIs) (f : Fault) : Type 0 where
+  pub problem : ProblemIs
+  pub is_problem : Problem (Ok problem)
+  pub misfit : task.misfit problem ≡ Some f
+
+-- a problem was read that fits, and the second text was refused
+pub record IsSecondRefused {B R T : Type 0} (task : Task B R T) (Problem : Reading ProblemIs)
+    (Second : ProblemIs → Reading B) (f : Fault) : Type 0 where
+  pub problem : ProblemIs
+  pub is_problem : Problem (Ok problem)
+  pub fits : task.misfit problem ≡ None
+  pub refused : Second problem (Err f)
+
+-- a problem was read that fits, and so was the second text
+pub record AreRead {B R T : Type 0} (task : Task B R T) (Problem : Reading ProblemIs) (Second : Reading B)
+    (problem : ProblemIs) (second : B) : Type 0 where
+  pub is_problem : Problem (Ok problem)
+  pub fits : task.misfit problem ≡ None
+  pub is_second : Second (Ok second)
+
+-- what was read fits, this is the answer to it, and this became of the text that goes with the answer
+pub record IsGiven {B R T : Type 0} (task : Task B R T) (Problem : Reading ProblemIs) (Second : ProblemIs → Reading B)
+    (Written : T → Type 0) (answer : R) : Type 0 where
+  pub problem : ProblemIs
+  pub second : B
+  pub text : T
+  pub read : AreRead task Problem (Second problem) problem second
+  pub together : task.IsClash problem second None
+  pub gives : task.Gives problem second answer text
+  pub written : Written text
+
+-- the last stage that was reached, by the fault, and what is known there
+abbrev pub Stopped : {B R T : Type 0} → Task B R T → Reading ProblemIs → (ProblemIs → Reading B) → Writing T → Fault →
+    Type 0
+Stopped task Problem Second Writes (faults.Problem f) = Problem (Err (faults.Problem f))
+Stopped task Problem Second Writes faults.WrongType = IsMisfit task Problem faults.WrongType
+Stopped task Problem Second Writes (faults.NotForType key) = IsMisfit task Problem (faults.NotForType key)
+Stopped task Problem Second Writes faults.TooLarge = IsMisfit task Problem faults.TooLarge
+Stopped task Problem Second Writes faults.NoPlaces = IsMisfit task Problem faults.NoPlaces
+Stopped task Problem Second Writes (faults.Tour f) = IsSecondRefused task Problem Second (faults.Tour f)
+Stopped task Problem Second Writes (faults.Solution f) = IsSecondRefused task Problem Second (faults.Solution f)
+Stopped {B} task Problem Second Writes (faults.Initial f) =
+    (p : ProblemIs) × (second : B) × AreRead task Problem (Second p) p second
+    × task.IsClash p second (Some (faults.Initial f))
+Stopped {B} task Problem Second Writes faults.NoMemory =
+    (p : ProblemIs) × (second : B) × AreRead task Problem (Second p) p second × (task.takes_memory ≡ true)
+Stopped {B} {R} task Problem Second Writes (faults.Write f) =
+    (answer : R) × IsGiven task Problem Second (Writes (Err f)) answer
+
+-- an engine ended with all written, or stopped, where the problem says what is read as the second text
+abbrev pub EndsByProblem : {B R T : Type 0} → Task B R T → Reading ProblemIs → (ProblemIs → Reading B) → Writing T →
+    Result R Fault → Type 0
+EndsByProblem task Problem Second Writes (Ok answer) = IsGiven task Problem Second (Writes (Ok tt)) answer
+EndsByProblem task Problem Second Writes (Err f) = Stopped task Problem Second Writes f
+
+-- an engine ended with all written, or stopped
+abbrev pub Ends : {B R T : Type 0} → Task B R T → Reading ProblemIs → Reading B → Writing T → Result R Fault → Type 0
+Ends task Problem Second Writes result = EndsByProblem task Problem (λ _. Second) Writes result
+
+-- ---- a fact, at some of the stages
+
+-- where an engine stopped before the second text
+abbrev pub BeforeSecond : Type 0 → Fault → Type 0
+BeforeSecond P (faults.Problem f) = P
+BeforeSecond P faults.WrongType = P
+BeforeSecond P (faults.NotForType key) = P
+BeforeSecond P faults.TooLarge = P
+BeforeSecond P faults.NoPlaces = P
+BeforeSecond P _ = Unit {0}
+
+-- where an engine stopped otherwise than by a write
+abbrev pub UnlessWrite : Type 0 → Fault → Type 0
+UnlessWrite P (faults.Write f) = Unit {0}
+UnlessWrite P _ = P
+
+-- where an engine stopped at a write
+abbrev pub AtWrite : Type 0 → Fault → Type 0
+AtWrite P (faults.Write f) = P
+AtWrite P _ = Unit {0}

@@ -1,0 +1,146 @@
+-- What `plot` reads, and what it writes.
+--     plot_task given      the task, by whether a tour or a solution is given
+--     ReadsClaim given      it is read as a tour where the problem has no routing, else as a solution
+--     WritesOutput      a picture goes to the one sink, or the line on a fault to the other
+use Rattle.std.specs.Prelude.{◌≡◌, ℕ, ◌⊎◌, Bool, true, false, List, [], ◌∷◌, Option, Some, None, Ok, Err, IsSomeAnd, MatchOption, length, map, option_map, is_some}
+use Rattle.std.specs.Int.RustNames.{unsigned_abs}
+use Rattle.tk_problem.specs.declared.point.Point.{Point}
+use Rattle.tk_problem_text.specs.Problem.{ProblemIs, WeightsAre}
+use Rattle.tk_problem_text.specs.Problem as value
+use Rattle.tk_problem.specs.PlacesOf.{places_of}
+use Rattle.tk_writers.specs.Puts.{Writes}
+use Rattle.tk_lists.specs.Solution.{Solution}
+use Rattle.tk_tour.specs.Tour.{tour_length}
+use Rattle.tk_tour.specs.Verdict.{IsVerdict}
+use Rattle.tk_tour.specs.declared.verdict.Verdict.{Verdict}
+use Rattle.tk_tour.specs.declared.verdict.Verdict.TheVariants as verdicts
+use Rattle.tk_routes.specs.Instance.{Instance}
+use Rattle.tk_routes.specs.RouteVerdicts.{IsRouteVerdict, filled_of}
+use Rattle.tk_routes.specs.Routes.{route_nodes}
+use Rattle.tk_routes.specs.declared.verdict.RouteVerdict.{RouteVerdict}
+use Rattle.tk_routes.specs.declared.verdict.RouteVerdict.TheVariants as route_verdicts
+use Rattle.tk_engines.specs.TourLine.{verdict_line}
+use Rattle.tk_engines.specs.ReadProblems.{read_distance}
+use Rattle.tk_engines.specs.Engine.{IsUntouched, NoClash, Reading, ReadsSolution, ReadsTour, Task, Writing}
+use Rattle.tk_engines.specs.RouteLine.{route_verdict_line}
+use Rattle.tk_engines.specs.ReadProblems.{instance_in}
+use Rattle.tk_engines.specs.declared.fault.Fault.{Fault}
+use Rattle.tk_engines.specs.declared.fault.Fault.TheVariants.{NoPlaces}
+use Rattle.tk_picture.specs.declared.caption.Caption.{Caption}
+use Rattle.tk_picture.specs.declared.caption.Caption.TheVariants as captions
+use Rattle.tk_picture.specs.declared.frame.Frame.{Frame}
+use Rattle.tk_engines.specs.declared.plotted.Plotted.{Plotted}
+use Rattle.tk_engines.specs.declared.plotted.Plotted.TheVariants as plotted
+use Rattle.tk_picture.specs.declared.view.View.{View}
+use Rattle.tk_picture.specs.Frames.{IsFrame}
+use Rattle.tk_picture.specs.PictureText.{picture_text}
+
+-- ---- what is read
+
+-- nothing, a tour's cities, or routes and their cost
+pub data Claim : Type 0 where
+  Nothing : Claim
+  TourClaim : (cities : List ℕ) → Claim
+  RoutesClaim : (solution : Solution) → Claim
+
+-- what is given is read as a tour where the problem has no routing, else as a solution; where nothing is given, the
+-- source is untouched
+abbrev pub ReadsClaim : {S : Type 0} → Bool → (S → Option (List ℕ)) → (S → Bool) → S → S → ProblemIs → Reading Claim
+ReadsClaim given left broken old new problem (Ok Nothing) = (given ≡ false) × IsUntouched left broken old new
+ReadsClaim given left broken old new problem (Ok (TourClaim cities)) =
+    (given ≡ true) × (problem.routing ≡ None) × ReadsTour left broken old new (Ok cities)
+ReadsClaim given left broken old new problem (Ok (RoutesClaim s)) =
+    (given ≡ true) × (is_some problem.routing ≡ true) × ReadsSolution left broken old new (Ok s)
+ReadsClaim given left broken old new problem (Err f) =
+    (given ≡ true) × MatchOption problem.routing (ReadsTour left broken old new (Err f))
+    (λ _. ReadsSolution left broken old new (Err f))
+
+-- ---- what is written
+
+-- a picture, or the line on the first fault of a tour or of routes
+pub data Output : Type 0 where
+  Drawn : (picture : List ℕ) → Output
+  Refused : (line : List ℕ) → Output
+
+abbrev pub places_in : WeightsAre → List Point
+places_in (value.Points kind places) = places
+places_in (value.Lower weights) = []
+
+-- a picture of a problem: its cities, closed lines through them, and its depot
+pub record IsPicture (p : ProblemIs) (caption : Caption) (paths : List (List ℕ)) (text : List ℕ) : Type 0 where
+  pub frame : Frame
+  pub is_frame : IsFrame (places_in p.weights) frame
+  pub is : text ≡ picture_text frame (places_in p.weights) p.name caption paths (option_map (λ r. r.depot) p.routing)
+
+-- a tour is drawn, or refused with the line of its verdict
+abbrev pub IsTourOutput : ProblemIs → List ℕ → Verdict → Output → Type 0
+IsTourOutput p cities verdicts.Tour (Drawn text) =
+    IsPicture p (captions.Tour p.n (tour_length (read_distance p.weights) cities)) (cities ∷ []) text
+IsTourOutput p cities verdicts.Tour (Refused line) = ⊥
+IsTourOutput p cities verdict (Drawn text) = ⊥
+IsTourOutput p cities verdict (Refused line) = line ≡ verdict_line p.n (read_distance p.weights) cities verdict
+
+-- routes are drawn, but for those that hold no customer, or refused with the line of their verdict
+abbrev pub IsRouteOutput : ProblemIs → Instance → List (List ℕ) → RouteVerdict → Output → Type 0
+IsRouteOutput p i routes (route_verdicts.Valid count cost) (Drawn text) =
+    IsPicture p (captions.Routes count (unsigned_abs cost)) (map (route_nodes i) (filled_of routes)) text
+IsRouteOutput p i routes (route_verdicts.Valid count cost) (Refused line) = ⊥
+IsRouteOutput p i routes verdict (Drawn text) = ⊥
+IsRouteOutput p i routes verdict (Refused line) = line ≡ route_verdict_line verdict
+
+-- what was plotted is this, with the true verdict on what was claimed
+abbrev pub IsPlot : ProblemIs → Claim → Plotted → Output → Type 0
+IsPlot p Nothing plotted.Cities (Drawn text) = IsPicture p (captions.Cities p.n) [] text
+IsPlot p (TourClaim cities) (plotted.Tour verdict) output =
+    IsVerdict p.n cities verdict × IsTourOutput p cities verdict output
+IsPlot p (RoutesClaim s) (plotted.Routes verdict) output =
+    IsSomeAnd p.routing (λ r. IsRouteVerdict (instance_in p r) s.0 s.1 verdict
+    × IsRouteOutput p (instance_in p r) s.0 verdict output)
+IsPlot p _ _ _ = ⊥
+
+-- explicit weights give no places
+abbrev pub without_places : WeightsAre → Option Fault
+without_places (value.Points kind places) = None
+without_places (value.Lower weights) = Some NoPlaces
+
+-- only what is given takes memory to check
+abbrev pub plot_task : Bool → Task Claim Plotted Output
+plot_task given =
+    record { misfit = λ p. without_places p.weights; IsClash = NoClash; takes_memory = given; Gives = IsPlot }
+
+-- two sinks: their types, and what each has taken and whether a write to it has failed
+module _ {W T : Type 0} (out_taken : W → Option (List ℕ)) (out_broken : W → Bool) (told_taken : T → Option (List ℕ))
+    (told_broken : T → Bool)
+    (out out' : W) (told told' : T) where
+  -- a picture goes to the one, a line to the other
+  abbrev pub WritesOutput : Writing Output
+  WritesOutput r (Drawn picture) =
+      Writes out_taken out_broken out out' r picture × IsUntouched told_taken told_broken told told'
+  WritesOutput r (Refused line) =
+      IsUntouched out_taken out_broken out out' × Writes told_taken told_broken told told' r line
+
+  -- neither has taken a byte
+  abbrev pub AreUntouched : Type 0
+  AreUntouched = IsUntouched out_taken out_broken out out' × IsUntouched told_taken told_broken told told'
+
+-- a write to one of two sinks failed
+abbrev pub HasFailed : Bool → Bool → Type 0
+HasFailed out told = (out ≡ true) ⊎ (told ≡ true)
+
+-- ---- what is known once the problem is read
+
+-- this problem was read
+abbrev pub HasRead : ProblemIs → Reading ProblemIs
+HasRead p (Ok problem) = problem ≡ p
+HasRead p (Err f) = ⊥
+
+-- an output that fits is written, or writing it breaks off
+abbrev pub WritesSome : {T : Type 0} → (T → Type 0) → (T → Type 0) → Type 0
+WritesSome {T} Fits Written = (output : T) × (Fits output × Written output)
+
+-- the view of a problem's cities
+pub record IsViewOf (p : ProblemIs) (v : View) : Type 0 where
+  pub places : places_of v.places ≡ places_in p.weights
+  pub frame : IsFrame (places_of v.places) v.frame
+  pub fits : without_places p.weights ≡ None
+  pub size : length (places_of v.places) ≡ p.n

@@ -1,0 +1,25 @@
+-- What a check of routes tells.
+use Rattle.std.specs.Prelude.{◌≡◌, ℕ, true, List, Option, Some, None, IsSomeAnd, if◌then◌else◌, is_none}
+use Rattle.tk_problem_text.specs.Problem.{ProblemIs}
+use Rattle.tk_lists.specs.Solution.{Solution}
+use Rattle.tk_routes.specs.RouteVerdicts.{IsRouteVerdict}
+use Rattle.tk_routes.specs.declared.verdict.RouteVerdict.{RouteVerdict}
+use Rattle.tk_engines.specs.RouteLine.{route_verdict_line}
+use Rattle.tk_engines.specs.Engine.{Task, NoClash}
+use Rattle.tk_engines.specs.ReadProblems.{instance_in}
+use Rattle.tk_engines.specs.declared.fault.Fault.{Fault}
+use Rattle.tk_engines.specs.declared.fault.Fault.TheVariants.{WrongType}
+
+-- of the problem's routing, the routes and their cost this is the verdict, and its line
+pub record IsRouteCheck (problem : ProblemIs) (solution : Solution) (verdict : RouteVerdict)
+    (text : List ℕ) : Type 0 where
+  pub right : IsSomeAnd problem.routing (λ r. IsRouteVerdict (instance_in problem r) solution.0 solution.1 verdict)
+  pub line : text ≡ route_verdict_line verdict
+
+-- routes are those of a problem with a routing
+abbrev pub without_routing : ProblemIs → Option Fault
+without_routing p = if is_none p.routing then Some WrongType else None
+
+-- routes are checked against a problem with a routing
+abbrev pub route_check_task : Task Solution RouteVerdict (List ℕ)
+route_check_task = record { misfit = without_routing; IsClash = NoClash; takes_memory = true; Gives = IsRouteCheck }

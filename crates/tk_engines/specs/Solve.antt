@@ -1,0 +1,174 @@
+-- What `solve` is given, does and writes.
+--     solve_task p      the task of parameters
+--     ReadsInitial given      the tour to begin with is read where the parameters name one
+--     WritesFiles      `file` is written before `out`
+--     AreUntouched      both are as before
+--     HasFailed      a write to one of them failed
+use Rattle.std.specs.Prelude.{◌≡◌, ℕ, ◌⊎◌, Bool, true, false, List, length, Option, Some, None, MatchOption, Result, Ok, Err, is_none, is_some, option_map, unwrap_or, if◌then◌else◌}
+use Rattle.std.specs.Int.RustNames.{unsigned_abs}
+use Rattle.tk_problem_text.specs.Problem.{ProblemIs}
+use Rattle.tk_writers.specs.Puts.{Writes}
+use Rattle.tk_writers.specs.SolutionWritten.{solution_text}
+use Rattle.tk_writers.specs.TourWritten.{tour_text}
+use Rattle.tk_lists.specs.declared.texts.TourText.{TourText}
+use Rattle.tk_tour.specs.Verdict.{IsVerdict}
+use Rattle.tk_tour.specs.declared.fault.TourFault.TheVariants as tours
+use Rattle.tk_tour.specs.declared.verdict.Verdict.{Verdict}
+use Rattle.tk_tour.specs.declared.verdict.Verdict.TheVariants.{Tour, WrongCount, OutOfRange, RepeatedCity}
+use Rattle.tk_params.specs.Asked.{ParamsAre}
+use Rattle.tk_params.specs.declared.key.Key.{Key}
+use Rattle.tk_params.specs.declared.key.Key.TheVariants as keys
+use Rattle.tk_params.specs.declared.value.Construction.{Construction}
+use Rattle.tk_params.specs.declared.value.Construction.TheVariants.{Nearest, Savings}
+use Rattle.tk_routes.specs.Instance.{Instance}
+use Rattle.tk_routes.specs.declared.route_report.RouteReport.{RouteReport}
+use Rattle.tk_solve.specs.SolvedRoutes.{AreSolved}
+use Rattle.tk_solve.specs.SolvedTours.{IsSolved, IsSound}
+use Rattle.tk_solve.specs.Starts.{Begins, AtNearest, AtSavings, At, TourTask}
+use Rattle.tk_solve.specs.declared.tour.SolvedTour.{SolvedTour}
+use Rattle.tk_engines.specs.ReadProblems.{read_distance}
+use Rattle.tk_engines.specs.Engine.{IsUntouched, Reading, ReadsTour, Task, Writing}
+use Rattle.tk_engines.specs.ReadProblems.{instance_in}
+use Rattle.tk_engines.specs.SolveLines.{route_lines, tour_lines}
+use Rattle.tk_engines.specs.declared.fault.Fault.{Fault}
+use Rattle.tk_engines.specs.declared.fault.Fault.TheVariants.{Initial, NoMemory, NotForType, Write}
+
+-- ---- what is given
+
+-- the first key that a problem of this type has no use for: routes are no tour, and a tour is no solution
+abbrev pub unfit_key : ParamsAre → ProblemIs → Option Key
+unfit_key p problem =
+    if is_none problem.routing then (if is_some p.solution_file then Some keys.SolutionFile else None)
+    else (if is_some p.tour_file then Some keys.TourFile
+    else (if is_some p.initial_tour_file then Some keys.InitialTourFile else None))
+
+-- the cities of a tour to begin with, where there is one
+abbrev pub cities_in : Option TourText → Option (List ℕ)
+cities_in tour = option_map (λ t. t.cities.items) tour
+
+-- the tour to begin with is read where the parameters name a file of one; else its source is untouched
+abbrev pub ReadsInitial : {S : Type 0} → Bool → (S → Option (List ℕ)) → (S → Bool) → S → S → Reading (Option (List ℕ))
+ReadsInitial given left broken old new (Ok None) = (given ≡ false) × IsUntouched left broken old new
+ReadsInitial given left broken old new (Ok (Some cities)) = (given ≡ true) × ReadsTour left broken old new (Ok cities)
+ReadsInitial given left broken old new (Err f) = (given ≡ true) × ReadsTour left broken old new (Err f)
+
+-- the fault of a tour to begin with
+abbrev pub initial_fault : Verdict → Option Fault
+initial_fault Tour = None
+initial_fault WrongCount = Some (Initial tours.WrongCount)
+initial_fault (OutOfRange place) = Some (Initial (tours.OutOfRange place))
+initial_fault (RepeatedCity place) = Some (Initial (tours.RepeatedCity place))
+
+-- the tour to begin with has this fault as a tour of the problem's cities, or none
+abbrev pub IsInitial : ProblemIs → Option (List ℕ) → Option Fault → Type 0
+IsInitial problem None fault = fault ≡ None
+IsInitial problem (Some cities) fault = (v : Verdict) × (IsVerdict problem.n cities v × (fault ≡ initial_fault v))
+
+-- ---- what is done
+
+abbrev pub construction_begins : Construction → Begins
+construction_begins Nearest = AtNearest
+construction_begins Savings = AtSavings
+
+-- what each run begins with: the tour that was read, or a constructed one
+abbrev pub begins_with : ParamsAre → Option (List ℕ) → Begins
+begins_with p None = construction_begins p.construction
+begins_with p (Some cities) = At cities
+
+-- what is asked of a problem's cities
+abbrev pub tour_task : ParamsAre → ProblemIs → Option (List ℕ) → TourTask
+tour_task p problem initial =
+    record {
+      size = problem.n;
+      distance = read_distance problem.weights;
+      start = begins_with p initial;
+      runs = p.runs;
+      trials = unwrap_or p.max_trials problem.n;
+      seed = p.seed;
+      candidates = p.max_candidates;
+      rules = record { sweep = p.final_sweep; or_segment = p.or_segment };
+    }
+
+-- ---- what is written
+
+-- the text of the tour or of the solution, and the lines on it
+pub record Files : Type 0 where
+  pub file : List ℕ
+  pub out : List ℕ
+
+-- the text of a tour of an instance of this name, and the lines on its runs
+abbrev pub tour_files : ParamsAre → List ℕ → SolvedTour → Files
+tour_files p name solved = record {
+  file = tour_text name (unsigned_abs solved.length) solved.cities.items;
+  out =
+      tour_lines p.ignored solved;
+}
+
+-- for a TSP: the best tour of the runs, with its length, and a line for each run
+pub record IsTourWritten (p : ParamsAre) (problem : ProblemIs) (initial : Option (List ℕ))
+    (files : Files) : Type 0 where
+  pub solved : SolvedTour
+  pub is : IsSolved (tour_task p problem initial) solved
+  pub sound : IsSound (tour_task p problem initial) solved
+  pub written : files ≡ tour_files p problem.name solved
+
+-- the text of routes, and the lines on them
+abbrev pub route_files : ParamsAre → List (List ℕ) → RouteReport → Files
+route_files p routes report =
+    record {
+      file = solution_text routes (unsigned_abs report.after);
+      out =
+          route_lines p.ignored (length routes) report;
+    }
+
+-- for a CVRP: the improved routes, with their cost, and what improving them did
+pub record AreRoutesOf (p : ParamsAre) (i : Instance) (files : Files) : Type 0 where
+  pub routes : List (List ℕ)
+  pub report : RouteReport
+  pub are : AreSolved i p.max_candidates p.or_segment routes report
+  pub written : files ≡ route_files p routes report
+
+abbrev pub solve_task : ParamsAre → Task (Option (List ℕ)) (Unit {0}) Files
+solve_task p =
+    record {
+      misfit = λ problem. option_map NotForType (unfit_key p problem);
+      IsClash = IsInitial;
+      takes_memory = true;
+      Gives = λ problem initial _ files. MatchOption problem.routing (IsTourWritten p problem initial files)
+          (λ r. AreRoutesOf p (instance_in problem r) files);
+    }
+
+-- the two sinks of the files: their types, and what each has taken and whether a write to it has failed
+module _ {F W : Type 0} (file_taken : F → Option (List ℕ)) (file_broken : F → Bool) (out_taken : W → Option (List ℕ))
+    (out_broken : W → Bool)
+    (file file' : F) (out out' : W) where
+  -- `file` is written before `out`: where `file` breaks off, `out` is untouched
+  abbrev pub WritesFiles : Writing Files
+  WritesFiles (Ok _) files = Writes file_taken file_broken file file' (Ok tt) files.file
+      × Writes out_taken out_broken out out' (Ok tt) files.out
+  WritesFiles (Err f) files =
+      (Writes file_taken file_broken file file' (Err f) files.file × IsUntouched out_taken out_broken out out')
+      ⊎ (Writes file_taken file_broken file file' (Ok tt) files.file
+      × Writes out_taken out_broken out out' (Err f) files.out)
+
+  -- neither has taken a byte
+  abbrev pub AreUntouched : Type 0
+  AreUntouched = IsUntouched file_taken file_broken file file' × IsUntouched out_taken out_broken out out'
+
+-- a write to one of two sinks failed
+abbrev pub HasFailed : Bool → Bool → Type 0
+HasFailed file out = (file ≡ true) ⊎ (out ≡ true)
+
+-- a tour to begin with is refused with this fault, or there is no memory to check it
+abbrev pub IsInitialRefused : ProblemIs → Option (List ℕ) → Fault → Type 0
+IsInitialRefused problem initial (Initial f) = IsInitial problem initial (Some (Initial f))
+IsInitialRefused problem initial NoMemory = Unit {0}
+IsInitialRefused problem initial _ = ⊥
+
+-- files with the answer were written, or writing them broke off; or there was no memory for the answer, and nothing was
+-- written
+abbrev pub Gives : (Files → Type 0) → Writing Files → Type 0 → Result (Unit {0}) Fault → Type 0
+Gives Answer Writes Quiet (Ok _) = (files : Files) × (Answer files × Writes (Ok tt) files)
+Gives Answer Writes Quiet (Err (Write f)) = (files : Files) × (Answer files × Writes (Err f) files)
+Gives Answer Writes Quiet (Err NoMemory) = Quiet
+Gives Answer Writes Quiet (Err _) = ⊥

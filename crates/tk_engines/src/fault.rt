@@ -1,0 +1,41 @@
+//! Why an engine stopped.
+use thiserror::Error;
+use tk_params::Key;
+use tk_tour::TourFault;
+use tk_words::TextFault;
+use tk_writers::WriteFault;
+
+/// Why an engine stopped. It has written nothing, but for what a write fault tells.
+#[derive(Clone, Copy, Debug, PartialEq, Eq, Error)]
+pub enum Fault {
+    /// The problem text has this fault.
+    #[error("problem text: {0}")]
+    Problem(TextFault),
+    /// The tour text has this fault.
+    #[error("tour text: {0}")]
+    Tour(TextFault),
+    /// The solution text has this fault.
+    #[error("solution text: {0}")]
+    Solution(TextFault),
+    /// The tour to begin with is no tour of the problem's cities.
+    #[error("initial tour: {0}")]
+    Initial(TourFault),
+    /// The problem has no routing, and so no routes.
+    #[error("not a CVRP")]
+    WrongType,
+    /// The parameters have a key that a problem of this type has no use for.
+    #[error("{0} does not fit the problem's type")]
+    NotForType(Key),
+    /// The problem has over 5,000 nodes, too many for a matrix.
+    #[error("too large for a matrix")]
+    TooLarge,
+    /// The problem has explicit weights in place of coordinates, so its cities have no places.
+    #[error("no coordinates")]
+    NoPlaces,
+    /// The output could not be written.
+    #[error("write fault")]
+    Write(WriteFault),
+    /// A growth was refused.
+    #[error("out of memory")]
+    NoMemory,
+}

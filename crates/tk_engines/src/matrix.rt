@@ -1,0 +1,64 @@
+//! The matrix of a problem.
+ghost use Rattle.std.specs.Prelude.{◌≡◌, ◌≤◌, true, pos, OnErr, IfErr};
+ghost use Rattle.tk_distance.specs.Cities.{IsCity};
+ghost use Rattle.tk_distance.specs.Tables.{table_size, table_distance};
+ghost use Rattle.tk_problem_text.specs.Parts.{problem_is};
+ghost use Rattle.tk_writers.specs.Puts.{Writes};
+ghost use Rattle.tk_problem_text.specs.Names.{IsName};
+ghost use Rattle.tk_engines.specs.Engine.{Ends, ReadsProblem, NoText, IsUntouched, UnlessWrite, AtWrite};
+ghost use Rattle.tk_engines.specs.MatrixOf.{by_distances, IsReadAs, matrix_of, matrix_task};
+
+use crate::fault::Fault;
+use std::alloc::Global;
+use tk_distance::{Metric, Table};
+use tk_problem::{Format, Problem};
+use tk_problem_text::{TABLE_LIMIT, read_problem};
+use tk_words::Source;
+use tk_writers::{Sink, WriteFault, write_matrix};
+
+/// Writes the matrix of a problem.
+fn write_problem<W: Sink>(out: &mut W, problem: &Problem, format: Format) -> Result<(), WriteFault>
+    requires few { problem.now.n ≤ 5000 }
+    ensures text { Writes W.taken W.broken out.old out.new result (matrix_of (problem_is problem.now) format) }
+    ensures read_back { IsName problem.now.name.items
+        → IsReadAs (matrix_of (problem_is problem.now) format) (by_distances (problem_is problem.now)) }
+    ensures failed { OnErr result (W.broken out.new ≡ true) }
+{
+    let table = Table::of(problem);
+    let distance = |a: u32, b: u32| -> i64
+        requires a { IsCity (table_size table) a }
+        requires b { IsCity (table_size table) b }
+        ensures { result ≡ pos (table_distance table.entry a b) }
+    { table.dist(a, b) };
+    write_matrix(out, &problem.name, problem.n, &distance, format)
+}
+
+/// Writes a problem as a TSP with explicit weights in this format: the distances of its cities.
+///
+/// The whole text is read before a byte is written.
+///
+/// # Errors
+/// The fault of the text, of writing, or of memory; `TooLarge` over 5,000 nodes.
+pub fn matrix_engine<R: Source, W: Sink>(
+    alloc: Global,
+    problem: &mut R,
+    format: Format,
+    out: &mut W,
+) -> Result<(), Fault>
+    ensures ends { Ends (matrix_task format) (ReadsProblem R.left R.broken problem.old problem.new) NoText
+        (Writes W.taken W.broken out.old out.new) result }
+    ensures quiet { IfErr result (UnlessWrite (IsUntouched W.taken W.broken out.old out.new)) }
+    ensures failed { IfErr result (AtWrite (W.broken out.new ≡ true)) }
+{
+    let problem = match read_problem(alloc, problem) {
+        Ok(problem) => problem,
+        Err(fault) => return Err(Fault::Problem(fault)),
+    };
+    if problem.n > TABLE_LIMIT {
+        return Err(Fault::TooLarge);
+    }
+    match write_problem(out, &problem, format) {
+        Ok(()) => Ok(()),
+        Err(fault) => Err(Fault::Write(fault)),
+    }
+}

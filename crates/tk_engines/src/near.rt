@@ -1,0 +1,82 @@
+//! The near lists of a problem.
+ghost use Rattle.std.specs.Prelude.{◌≡◌, ◌≤◌, true, OnErr, IfOk, IfErr};
+ghost use Rattle.tk_problem_text.specs.Parts.{problem_is};
+ghost use Rattle.tk_writers.specs.Pens.{Puts};
+ghost use Rattle.tk_writers.specs.Puts.{Writes};
+ghost use Rattle.tk_engines.specs.Engine.{Ends, ReadsProblem, NoText, IsUntouched, UnlessWrite, AtWrite};
+ghost use Rattle.tk_engines.specs.NearText.{IsNearOf, near_task, near_text};
+
+use crate::fault::Fault;
+use std::alloc::{AllocError, Global};
+use tk_distance::Table;
+use tk_near::{Near, near_lists};
+use tk_problem::Problem;
+use tk_problem_text::read_problem;
+use tk_words::Source;
+use tk_writers::{Pen, Sink, WriteFault};
+
+/// The near lists of a problem: k cities each, or all others where there are fewer.
+fn lists_of(alloc: Global, problem: &Problem, k: u32) -> Result<Near, AllocError>
+    requires low { 1 ≤ k }
+    requires limit { k ≤ 100 }
+    ensures { IfOk result (λ v. IsNearOf (problem_is problem.now) k v) }
+{
+    near_lists(alloc, &Table::of(problem), k.min(problem.n - 1))
+}
+
+/// Writes the list of each city on a line.
+fn put_lists<W: Sink>(pen: &mut Pen<'_, W>, near: &Near)
+    ensures { Puts W.taken W.broken pen.old pen.new (near_text near.now) }
+{
+    for city in 1..near.size() + 1 {
+        pen.put_number(city as u64);
+        pen.put(b": ");
+        pen.put_spaced(near.of(city));
+        pen.put(b"\n");
+    }
+}
+
+/// Writes the lists of all cities.
+fn write_lists<W: Sink>(out: &mut W, near: &Near) -> Result<(), WriteFault>
+    requires few { near.now.size ≤ 100000 }
+    requires narrow { near.now.width ≤ 100 }
+    ensures text { Writes W.taken W.broken out.old out.new result (near_text near.now) }
+    ensures failed { OnErr result (W.broken out.new ≡ true) }
+{
+    let mut pen = Pen::new(out);
+    put_lists(&mut pen, near);
+    pen.end()
+}
+
+/// Writes the near list of each city of a problem: the k nearest others, 1 to 100, or all of them where there are
+/// fewer.
+///
+/// The whole text is read before a byte is written.
+///
+/// # Errors
+/// The fault of the text, of writing, or of memory.
+pub fn near_engine<R: Source, W: Sink>(
+    alloc: Global,
+    problem: &mut R,
+    k: u32,
+    out: &mut W,
+) -> Result<(), Fault>
+    requires low { 1 ≤ k }
+    requires limit { k ≤ 100 }
+    ensures ends { Ends (near_task k) (ReadsProblem R.left R.broken problem.old problem.new) NoText
+        (Writes W.taken W.broken out.old out.new) result }
+    ensures quiet { IfErr result (UnlessWrite (IsUntouched W.taken W.broken out.old out.new)) }
+    ensures failed { IfErr result (AtWrite (W.broken out.new ≡ true)) }
+{
+    let problem = match read_problem(alloc, problem) {
+        Ok(problem) => problem,
+        Err(fault) => return Err(Fault::Problem(fault)),
+    };
+    let Ok(near) = lists_of(alloc, &problem, k) else {
+        return Err(Fault::NoMemory);
+    };
+    match write_lists(out, &near) {
+        Ok(()) => Ok(()),
+        Err(fault) => Err(Fault::Write(fault)),
+    }
+}

@@ -1,4 +1,0 @@
-mod FirstLeft
-mod Leaving
-pub mod LeftLaws
-mod Taking

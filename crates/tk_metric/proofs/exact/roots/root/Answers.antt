@@ -1,7 +1,0 @@
-use Rattle.std.proofs.Common.{arith}
-use Rattle.tk_metric.proofs.ExactRoots.RootLemmas.{root_between}
-use Rattle.tk_metric.proofs.exact.roots.root.Goals as goal
-
-pub returns-then-x-square : goal.returns-then-x-square
-returns-then-x-square c =
-    root_between c.args.x c.near_wide_root-guess.result c.if-square-x.true (omega (arith, c.if-square-x.true, c.if-x-square.true))

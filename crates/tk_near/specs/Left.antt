@@ -1,0 +1,28 @@
+-- Cities that are left: a row of them, out of which a city is taken.
+use Rattle.std.specs.Prelude.{◌≡◌, ◌≢◌, ℕ, ◌<◌, List, ◌∷◌, length, All, IsPermutation}
+use Rattle.tk_problem.specs.declared.point.Point.{Point}
+use Rattle.tk_near.specs.declared.placed.Placed.{Placed}
+use Rattle.tk_near.specs.Placed.{IsPlaced, city_at}
+
+-- the city is taken out of the row, which may stand in another order then
+pub record IsTakenOut (p : Placed) (old new : List Placed) : Type 0 where
+  pub taken : Placed
+  pub is : taken.city ≡ p.city
+  pub others : IsPermutation old (taken ∷ new)
+
+-- the city does not stand in the row
+abbrev pub IsNotIn : Placed → List Placed → Type 0
+IsNotIn p row = All (λ q. q ≢ p) row
+
+-- a city that stands in the row, but c
+abbrev pub IsOtherIn : List Placed → ℕ → ℕ → Type 0
+IsOtherIn row c b = (q : ℕ) × (q < length row) × (city_at row q ≡ b) × (b ≢ c)
+
+-- the city stands in the row
+abbrev pub Stands : List Placed → ℕ → Type 0
+Stands row b = (q : ℕ) × (q < length row) × (city_at row q ≡ b)
+
+-- no city stands in the row twice, and each has its place
+pub record AreApart (n : ℕ) (place_of : ℕ → Point) (row : List Placed) : Type 0 where
+  pub each : All (IsPlaced n place_of) row
+  pub apart : (i j : ℕ) → i < j → j < length row → city_at row i ≢ city_at row j

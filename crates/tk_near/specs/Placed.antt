@@ -1,0 +1,38 @@
+-- Cities with their places, and rows of them.
+use Rattle.std.specs.Prelude.{◌≡◌, ◌≢◌, ℕ, ◌-ℤ◌, ◌<◌, List, length, slice_index_or, All}
+use Rattle.std.specs.Int.RustNames.{unsigned_abs}
+use Rattle.tk_problem.specs.declared.point.Point.{Point}
+use Rattle.tk_problem.specs.Places.{origin}
+use Rattle.tk_near.specs.declared.placed.Placed.{Placed}
+use Rattle.tk_distance.specs.Cities.{IsCity}
+
+abbrev pub placed : (ℕ → Point) → ℕ → Placed
+placed place_of b = record { place = place_of b; city = b }
+
+abbrev pub nowhere : Placed
+nowhere = record { place = origin; city = 0 }
+
+abbrev pub city_at : List Placed → ℕ → ℕ
+city_at row q = (slice_index_or row q nowhere).city
+
+-- the differences of two places
+abbrev pub x_gap : Placed → Placed → ℕ
+x_gap here there = unsigned_abs (here.place.x -ℤ there.place.x)
+
+abbrev pub y_gap : Placed → Placed → ℕ
+y_gap here there = unsigned_abs (here.place.y -ℤ there.place.y)
+
+-- a city with its place
+abbrev pub IsPlaced : ℕ → (ℕ → Point) → Placed → Type 0
+IsPlaced n place_of p = IsCity n p.city × (p.place ≡ place_of p.city)
+
+-- each city once with its place
+pub record IsRow (n : ℕ) (place_of : ℕ → Point) (row : List Placed) : Type 0 where
+  pub count : length row ≡ n
+  pub each : All (IsPlaced n place_of) row
+  pub apart : (i j : ℕ) → i < j → j < length row → city_at row i ≢ city_at row j
+  pub whole : (b : ℕ) → IsCity n b → (q : ℕ) × (q < length row) × (city_at row q ≡ b)
+
+-- b stands at a place with W
+abbrev pub IsAt : List Placed → (ℕ → Type 0) → ℕ → Type 0
+IsAt row W b = (q : ℕ) × (q < length row) × W q × (city_at row q ≡ b)

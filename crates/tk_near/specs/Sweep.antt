@@ -1,0 +1,41 @@
+-- The cities in x order, and a sweep from one of them to both sides.
+use Rattle.std.specs.Prelude.{◌≡◌, ◌≢◌, ℕ, ◌-ℤ◌, ◌≤ℤ◌, ◌-◌, ◌*◌, ◌<◌, ◌≤◌, List, length, slice_index_or}
+use Rattle.std.specs.Int.RustNames.{unsigned_abs}
+use Rattle.tk_problem.specs.declared.point.Point.{Point}
+use Rattle.tk_near.specs.declared.candidates.Candidate.{Candidate}
+use Rattle.tk_near.specs.declared.placed.Placed.{Placed}
+use Rattle.tk_distance.specs.Cities.{IsCity}
+use Rattle.tk_near.specs.Keeping.{KeepsFirst, open_place, rank}
+use Rattle.tk_near.specs.Placed.{IsAt, IsPlaced, city_at, nowhere}
+
+abbrev pub place_at : List Placed → ℕ → Point
+place_at row q = (slice_index_or row q nowhere).place
+
+-- each city once with its place, in x order
+pub record IsXOrder (n : ℕ) (place_of : ℕ → Point) (row : List Placed) : Type 0 where
+  pub count : length row ≡ n
+  pub each : (q : ℕ) → q < length row → IsPlaced n place_of (slice_index_or row q nowhere)
+  pub rising : (i j : ℕ) → i ≤ j → j < length row → (place_at row i).x ≤ℤ (place_at row j).x
+  pub apart : (i j : ℕ) → i < j → j < length row → city_at row i ≢ city_at row j
+  pub whole : (b : ℕ) → IsCity n b → (q : ℕ) × (q < length row) × (city_at row q ≡ b)
+
+-- the laws of the floor that a sweep in x order needs
+pub record IsFloor (dist : ℕ → ℕ → ℕ) (place_of : ℕ → Point) (floor : ℕ → ℕ) : Type 0 where
+  pub wide : (a b : ℕ) → unsigned_abs ((place_of a).x -ℤ (place_of b).x) ≤ 2000000000000000000
+  pub rises : (s t : ℕ) → s ≤ t → t ≤ 2000000000000000000 → floor s ≤ floor t
+  pub bounds : (a b : ℕ) → floor (unsigned_abs ((place_of a).x -ℤ (place_of b).x)) ≤ dist a b
+
+-- the first k of the cities at the places from low on and below high, but for that at p
+pub record IsSwept (dist : ℕ → ℕ → ℕ) (row : List Placed) (p low high k : ℕ) (kept : List Candidate) : Type 0 where
+  pub low_end : low ≤ p
+  pub high_end : p < high
+  pub within : high ≤ length row
+  pub keeps : KeepsFirst dist (city_at row p) k (high - low - 1) (IsAt row (λ q. (low ≤ q) × (q < high) × (q ≢ p))) kept
+
+-- each candidate at this distance or beyond comes after the last of the kept
+abbrev pub IsBelow : ℕ → List Candidate → Type 0
+IsBelow bound kept = rank (slice_index_or kept (length kept - 1) open_place) < bound * 4294967296
+
+-- so does each candidate whose difference in x or in y is at least `far`
+abbrev pub AreFar : (ℕ → ℕ) → ℕ → List Candidate → Type 0
+AreFar floor far kept = (gap : ℕ) → far ≤ gap → gap ≤ 2000000000000000000 → IsBelow (floor gap) kept

@@ -1,0 +1,50 @@
+-- A tree of parts of the cities, and what is kept of them.
+use Rattle.std.specs.Prelude.{ℕ, ◌≤ℤ◌, ◌+◌, ◌≤◌, ◌⊎◌, ◌==◌, if◌then◌else◌, List, [], ◌∷◌, ◌++◌, All, ⊤}
+use Rattle.tk_near.specs.declared.candidates.Candidate.{Candidate}
+use Rattle.tk_near.specs.declared.placed.Placed.{Placed}
+use Rattle.tk_near.specs.declared.tree.Frame.{Frame}
+use Rattle.tk_near.specs.declared.tree.Tree.{Tree, Leaf, Cut'}
+use Rattle.tk_near.specs.Keeping.{candidate, with_candidate, rank}
+use Rattle.tk_near.specs.Placed.{x_gap, y_gap}
+
+-- the cities of a tree, in its order
+abbrev pub entries_of : Tree → List Placed
+entries_of (Leaf row) = row.items
+entries_of (Cut' a p s b q t) = entries_of s ++ entries_of t
+
+-- a city stands in a box
+pub record IsWithin (f : Frame) (p : Placed) : Type 0 where
+  pub left : f.left ≤ℤ p.place.x
+  pub right : p.place.x ≤ℤ f.right
+  pub bottom : f.bottom ≤ℤ p.place.y
+  pub top : p.place.y ≤ℤ f.top
+  pub least : f.least ≤ p.city
+  pub greatest : p.city ≤ f.greatest
+
+-- the cities of each part stand in its box
+abbrev pub IsFramed : Tree → Type 0
+IsFramed (Leaf row) = ⊤
+IsFramed (Cut' a p s b q t) =
+    All (IsWithin a) (entries_of s) × All (IsWithin b) (entries_of t) × IsFramed s × IsFramed t
+
+-- p has this difference in x, or in y, from here
+abbrev pub IsBeyond : Placed → ℕ → Placed → Type 0
+IsBeyond here gap p = (gap ≤ x_gap here p) ⊎ (gap ≤ y_gap here p)
+
+-- seen from c, a city does not come before this
+abbrev pub IsFrom : (ℕ → ℕ → ℕ) → ℕ → Candidate → Placed → Type 0
+IsFrom dist c first p = rank first ≤ rank (candidate dist c p.city)
+
+-- the kept, once c has seen a city
+abbrev pub with_city : (ℕ → ℕ → ℕ) → ℕ → Placed → List Candidate → List Candidate
+with_city dist c p kept = if p.city == c then kept else with_candidate (candidate dist c p.city) kept
+
+-- the kept, once c has seen some cities
+abbrev pub with_cities : (ℕ → ℕ → ℕ) → ℕ → List Placed → List Candidate → List Candidate
+with_cities dist c [] kept = kept
+with_cities dist c (p ∷ ps) kept = with_cities dist c ps (with_city dist c p kept)
+
+-- how many parts a tree has
+abbrev pub parts_of : Tree → ℕ
+parts_of (Leaf row) = 1
+parts_of (Cut' a p s b q t) = parts_of s + parts_of t + 1

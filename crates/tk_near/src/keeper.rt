@@ -1,0 +1,111 @@
+//! What a search of a tree keeps of the cities that it sees: the first of them by (distance, number).
+ghost use Rattle.std.specs.Prelude.{◌≡◌, ◌≤◌, List, [], ◌∷◌, IfOk, length, replicate};
+ghost use Rattle.tk_near.specs.declared.candidates.Candidate.{Candidate};
+ghost use Rattle.tk_near.specs.Keeping.{AreOpenFrom, Climbing, open_place, rank, with_candidate};
+ghost use Rattle.tk_near.specs.Kept.{Climbing-prop, last_of, one_climbing, one_room};
+
+use crate::candidates::{Candidate, OPEN, keep_among};
+use std::alloc::{AllocError, Global};
+
+/// Keeps the first of the cities that a search sees, as many as there is room for.
+pub trait Keeper {
+    /// The kept, in order.
+    ghost kept_of: { Self → List Candidate };
+
+    /// The last of the kept: what comes after it does not enter.
+    fn last(&self) -> Candidate
+        ensures { result ≡ last_of (kept_of self.now) };
+
+    /// Keeps a city that was seen at the end of these turns, unless it comes after the last of the kept.
+    fn keep(&mut self, x: Candidate, sides: u64)
+        ensures { kept_of self.new ≡ with_candidate x (kept_of self.old) };
+
+    ghost room: { (k : Self) → 1 ≤ length (kept_of k) };
+
+    ghost climbing: { (k : Self) → Climbing rank (kept_of k) };
+}
+
+/// Keeps a number of cities.
+#[derive(Drop)]
+pub struct Many {
+    kept: Vec<Candidate>,
+    filled: usize,
+    ghost some: { 1 ≤ length kept.items },
+    ghost order: { Climbing rank kept.items } by { Climbing-prop rank kept.items },
+    ghost vacant: { AreOpenFrom filled kept.items },
+}
+
+impl Many {
+    /// Room for so many cities.
+    ///
+    /// # Errors
+    /// `AllocError` if there is no memory for them.
+    pub fn new(alloc: Global, width: usize) -> Result<Many, AllocError>
+        requires { 1 ≤ width }
+        ensures { IfOk result (λ many. many.kept.items ≡ replicate width open_place) }
+    {
+        let kept = vec![in alloc; OPEN; width]?;
+        Ok(Many { kept, filled: 0 })
+    }
+
+    /// Lets all cities go.
+    pub fn clear(&mut self)
+        ensures { self.new.kept.items ≡ replicate (length self.old.kept.items) open_place }
+    {
+        self.kept.fill(OPEN);
+        self.filled = 0;
+    }
+
+    /// The kept, in order.
+    pub fn kept(&self) -> &[Candidate]
+        ensures { result.now ≡ self.now.kept.items }
+    {
+        &self.kept
+    }
+}
+
+impl Keeper for Many {
+    ghost kept_of = { λ k. k.kept.items };
+
+    ghost room = { λ k. k.some };
+
+    ghost climbing = { λ k. k.order };
+
+    #[inline(always)]
+    fn last(&self) -> Candidate {
+        self.kept[self.kept.len() - 1]
+    }
+
+    #[inline(always)]
+    fn keep(&mut self, x: Candidate, _sides: u64) {
+        keep_among(&mut self.kept, &mut self.filled, x);
+    }
+}
+
+/// Keeps one city, and the turns that lead to the part where it was seen.
+#[derive(Clone, Copy)]
+pub struct One {
+    pub best: Candidate,
+    pub sides: u64,
+}
+
+impl Keeper for One {
+    ghost kept_of = { λ k. k.best ∷ [] };
+
+    ghost room = { one_room };
+
+    ghost climbing = { one_climbing };
+
+    #[inline(always)]
+    fn last(&self) -> Candidate {
+        self.best
+    }
+
+    #[inline(always)]
+    fn keep(&mut self, x: Candidate, sides: u64) {
+        if x.is_before(self.best) {
+            self.best = x;
+            self.sides = sides;
+        }
+    }
+}

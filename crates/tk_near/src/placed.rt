@@ -1,0 +1,45 @@
+//! Cities with their places.
+ghost use Rattle.std.specs.Prelude.{◌≡◌, IfOk};
+ghost use Rattle.tk_near.specs.Placed.{IsRow, x_gap, y_gap};
+
+use std::alloc::{AllocError, Global};
+use tk_distance::Planar;
+use tk_problem::Point;
+
+/// A city with its place.
+#[derive(Clone, Copy, Drop)]
+pub struct Placed {
+    pub place: Point,
+    pub city: u32,
+}
+
+impl Placed {
+    /// The difference in x, in units of 10^-9.
+    pub fn gap_x(self, other: Placed) -> u64
+        ensures { result ≡ x_gap self other }
+    {
+        self.place.x.abs_diff(other.place.x)
+    }
+
+    /// The difference in y.
+    pub fn gap_y(self, other: Placed) -> u64
+        ensures { result ≡ y_gap self other }
+    {
+        self.place.y.abs_diff(other.place.y)
+    }
+}
+
+/// The cities with their places, in the order of their numbers.
+///
+/// # Errors
+/// `AllocError` where there is no memory for the row.
+pub fn row_of<P: Planar>(alloc: Global, m: &P) -> Result<Vec<Placed>, AllocError>
+    ensures { IfOk result (λ v. IsRow (P.size_of m.now) (P.place_of m.now) v.items) }
+{
+    let mut row = Vec::with_capacity(alloc, m.size() as usize)?;
+    for c in 1..m.size() + 1 {
+        let place = m.place(c);
+        row.push(Placed { place, city: c })?;
+    }
+    Ok(row)
+}

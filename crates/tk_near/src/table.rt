@@ -1,0 +1,30 @@
+//! The near lists of a table: by a k-d tree in the plane, else by a scan.
+ghost use Rattle.std.specs.Prelude.{◌≡◌, ◌≤◌, ◌<◌, IfOk};
+ghost use Rattle.tk_distance.specs.Tables.{table_size, table_distance};
+ghost use Rattle.tk_near.specs.Near.{AreNearest};
+
+use crate::near::{Near, near_scan};
+use crate::tree::near_tree;
+use std::alloc::{AllocError, Global};
+use tk_distance::Table;
+
+/// The near lists of a table's cities, k for each.
+///
+/// # Errors
+/// `AllocError` where there is no memory for them.
+pub fn near_lists(alloc: Global, table: &Table<'_>, k: u32) -> Result<Near, AllocError>
+    requires low { 1 ≤ k }
+    requires limit { k ≤ 100 }
+    requires high { k < table_size table.now }
+    ensures size { IfOk result (λ v. v.size ≡ table_size table.now) }
+    ensures width { IfOk result (λ v. v.width ≡ k) }
+    ensures near { IfOk result (λ v. AreNearest (table_distance table.now) v) }
+{
+    match table {
+        Table::Planes(planes) => match planes.euclid() {
+            Some(euclid) => near_tree(alloc, &euclid, k),
+            None => near_tree(alloc, planes, k),
+        },
+        Table::Triangle(triangle) => near_scan(alloc, triangle, k),
+    }
+}

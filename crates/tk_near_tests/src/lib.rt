@@ -1,5 +1,0 @@
-//! The tests of `tk_near`, in a crate of their own: the tests of a crate are proved together with all of its functions.
-#![tactic(auto)]
-
-#[cfg(test)]
-mod lists;

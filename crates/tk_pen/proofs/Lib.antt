@@ -1,4 +1,0 @@
-pub mod NumberLengths
-pub mod PutEach
-pub mod Putting
-pub mod Writing

@@ -1,4 +1,0 @@
-pub mod Pens
-pub mod Puts
-pub mod Writes
-pub mod Written

@@ -1,0 +1,5 @@
+pub mod Bounds
+pub mod Closed
+pub mod PictureLength
+pub mod PutNothing
+pub mod Thin

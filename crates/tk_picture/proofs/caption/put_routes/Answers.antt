@@ -1,0 +1,6 @@
+use Rattle.tk_writers.proofs.Putting.{Puts-then}
+use Rattle.tk_picture.proofs.caption.put_routes.Goals as goal
+
+pub returns : goal.returns
+returns g c =
+    Puts-then _ _ _ _ _ _ _ (Puts-then _ _ _ _ _ _ _ c.put_number.ensures c.put.ensures) c.put_number-2.ensures

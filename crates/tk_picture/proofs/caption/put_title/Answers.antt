@@ -1,0 +1,6 @@
+use Rattle.tk_writers.proofs.Putting.{Puts-then}
+use Rattle.tk_picture.proofs.caption.put_title.Goals as goal
+
+pub returns : goal.returns
+returns g c =
+    Puts-then _ _ _ _ _ _ _ (Puts-then _ _ _ _ _ _ _ c.put_name.ensures c.put.ensures) c.put_caption.ensures

@@ -1,0 +1,6 @@
+use Rattle.tk_writers.proofs.Putting.{Puts-then}
+use Rattle.tk_picture.proofs.view.View.put_corner.Goals as goal
+
+pub returns : goal.returns
+returns g c =
+    Puts-then _ _ _ _ _ _ _ c.put_spot.ensures c.put.ensures

@@ -1,0 +1,12 @@
+-- What callers see of a view.
+use Rattle.std.specs.Prelude.{ℕ, List, length}
+use Rattle.tk_problem.specs.PlacesOf.{places_of}
+use Rattle.tk_picture.specs.declared.view.View.{View}
+use Rattle.tk_picture.specs.PictureText.{spot}
+
+abbrev pub city_count : View → ℕ
+city_count v = length (places_of v.places)
+
+-- where a city stands
+abbrev pub spot_in : View → ℕ → List ℕ
+spot_in v = spot v.frame (places_of v.places)

@@ -1,0 +1,92 @@
+//! Cities as points.
+ghost use Rattle.std.specs.Prelude.{◌≡◌, Some, length, IfSome};
+ghost use Rattle.std.specs.List.{range_with_len};
+ghost use Rattle.tk_writers.specs.Pens.{Puts};
+ghost use Rattle.tk_distance.specs.Cities.{IsCity};
+ghost use Rattle.tk_picture.specs.PictureText.{city_dots, city_style, depot_mark, dot, dots, has_dots};
+ghost use Rattle.tk_picture.specs.Views.{city_count, spot_in};
+
+use crate::caption::Caption;
+use crate::view::View;
+use tk_writers::{Pen, Sink};
+
+/// From this many cities on, lines and points are thin.
+pub(crate) const MANY: u32 = 2_000;
+
+/// Puts a city as a point.
+fn put_dot<W: Sink>(pen: &mut Pen<'_, W>, view: &View<'_>, city: u32)
+    requires { IsCity (city_count view.now) city }
+    ensures { Puts W.taken W.broken pen.old pen.new (dot (spot_in view.now) city) }
+{
+    pen.put(b"M");
+    view.put_spot(pen, city);
+    pen.put(b"h0");
+    pen.put(b"\n");
+}
+
+/// Puts how large the points of cities are.
+fn put_city_style<W: Sink>(pen: &mut Pen<'_, W>, cities: u32)
+    ensures { Puts W.taken W.broken pen.old pen.new (city_style cities) }
+{
+    if cities < MANY {
+        pen.put(b"stroke-width=\"60\"");
+    } else {
+        pen.put(b"stroke-width=\"12\"");
+    }
+}
+
+/// Puts all cities as points.
+fn put_all_dots<W: Sink>(pen: &mut Pen<'_, W>, view: &View<'_>)
+    ensures { Puts W.taken W.broken pen.old pen.new
+        (dots (spot_in view.now) (city_style (city_count view.now)) (range_with_len 1 (city_count view.now))) }
+{
+    pen.put(b"<path stroke=\"black\" ");
+    put_city_style(pen, view.size());
+    pen.put(b" d=\"");
+    pen.put(b"\n");
+    for city in 1..view.size() + 1 {
+        put_dot(pen, view, city);
+    }
+    pen.put(b"\"/>\n");
+}
+
+/// Whether a picture has cities as points.
+fn has_dots(caption: Caption, cities: u32) -> bool
+    ensures { result ≡ has_dots caption cities }
+{
+    match caption {
+        Caption::Cities(_) => true,
+        _ => cities < MANY,
+    }
+}
+
+/// Puts the cities as points, where the picture has these.
+pub(crate) fn put_city_dots<W: Sink>(pen: &mut Pen<'_, W>, view: &View<'_>, caption: Caption)
+    ensures { Puts W.taken W.broken pen.old pen.new (city_dots (spot_in view.now) caption (city_count view.now)) }
+{
+    if has_dots(caption, view.size()) {
+        put_all_dots(pen, view);
+    }
+}
+
+/// Puts a depot as a square.
+fn put_square<W: Sink>(pen: &mut Pen<'_, W>, view: &View<'_>, depot: u32)
+    requires { IsCity (city_count view.now) depot }
+    ensures { Puts W.taken W.broken pen.old pen.new (depot_mark (spot_in view.now) (Some depot)) }
+{
+    pen.put(b"<path fill=\"black\" d=\"M");
+    view.put_spot(pen, depot);
+    pen.put(b"m-80,-80h160v160h-160z\"/>");
+    pen.put(b"\n");
+}
+
+/// Puts the depot, where there is one.
+pub(crate) fn put_depot<W: Sink>(pen: &mut Pen<'_, W>, view: &View<'_>, depot: Option<u32>)
+    requires { IfSome depot (IsCity (city_count view.now)) }
+    ensures { Puts W.taken W.broken pen.old pen.new (depot_mark (spot_in view.now) depot) }
+{
+    match depot {
+        Some(depot) => put_square(pen, view, depot),
+        None => {}
+    }
+}

@@ -1,0 +1,75 @@
+//! Where the places of a problem stand in a picture.
+ghost use Rattle.std.specs.Prelude.{◌≡◌};
+ghost use Rattle.tk_picture.specs.Sides.{longer_side};
+
+use tk_problem::{Places, Point};
+
+/// The least rectangle that holds all places of a problem, in units of 10^-9.
+#[derive(Clone, Copy)]
+pub struct Frame {
+    pub left: i64,
+    pub right: i64,
+    pub bottom: i64,
+    pub top: i64,
+    /// The longer side, and at least 1.
+    pub side: u64,
+    ghost is_side: { side ≡ longer_side left right bottom top },
+}
+
+/// The longer side of the rectangle with these corners, and at least 1.
+fn side_of(low: Point, high: Point) -> u64
+    ensures { result ≡ longer_side low.x high.x low.y high.y }
+{
+    1.max(high.x.abs_diff(low.x).max(high.y.abs_diff(low.y)))
+}
+
+impl Frame {
+    ghost use Rattle.std.specs.Prelude.{◌≤◌, length};
+    ghost use Rattle.tk_problem.specs.PlacesOf.{places_of};
+    ghost use Rattle.tk_picture.specs.Frames.{IsFrame, across, down, view_height};
+
+    /// The frame of some places.
+    pub(crate) fn of(places: Places<'_>) -> Frame
+        requires { 1 ≤ length (places_of places) }
+        ensures { IsFrame (places_of places.entry) result }
+    {
+        let mut low = places.get(0);
+        let mut high = low;
+        for i in 1..places.len() {
+            let place = places.get(i);
+            low.x = low.x.min(place.x);
+            low.y = low.y.min(place.y);
+            high.x = high.x.max(place.x);
+            high.y = high.y.max(place.y);
+        }
+        Frame {
+            left: low.x,
+            right: high.x,
+            bottom: low.y,
+            top: high.y,
+            side: side_of(low, high),
+        }
+    }
+
+    /// How far a place is from the left side, in ten-thousandths of the longer side.
+    pub(crate) fn across(&self, place: Point) -> u128
+        ensures { result ≡ across self.now place }
+    {
+        place.x.abs_diff(self.left) as u128 * 10_000 / self.side as u128
+    }
+
+    /// How far a place is from the top, in ten-thousandths of the longer side.
+    pub(crate) fn down(&self, place: Point) -> u128
+        ensures { result ≡ down self.now place }
+    {
+        self.top.abs_diff(place.y) as u128 * 10_000 / self.side as u128
+    }
+
+    /// How high the view of a picture is.
+    pub(crate) fn view_height(&self) -> u128
+        ensures { result ≡ view_height self.now }
+    {
+        let height = self.top.abs_diff(self.bottom) as u128 * 1_000;
+        80 + height.div_ceil(self.side as u128)
+    }
+}

@@ -1,0 +1,96 @@
+//! Where cities stand in a picture.
+ghost use Rattle.std.specs.Prelude.{◌≤◌, length};
+ghost use Rattle.tk_problem.specs.PlacesOf.{places_of};
+
+use crate::frame::Frame;
+use tk_problem::Places;
+use tk_routes::Cvrp;
+use tk_writers::{Pen, Sink};
+
+/// The places of at most 100,000 cities, and the frame of a picture of them.
+#[derive(Clone, Copy)]
+pub struct View<'a> {
+    pub places: Places<'a>,
+    pub frame: Frame,
+    ghost few: { length (places_of places) ≤ 100000 },
+}
+
+impl<'a> View<'a> {
+    ghost use Rattle.std.specs.Prelude.{◌≡◌};
+    ghost use Rattle.tk_picture.specs.Frames.{IsFrame};
+
+    /// A view of these places.
+    pub fn over(places: Places<'a>) -> View<'a>
+        requires some { 1 ≤ length (places_of places) }
+        requires few { length (places_of places) ≤ 100000 }
+        ensures places { result.places ≡ places.entry }
+        ensures frame { IsFrame (places_of places.entry) result.frame }
+    {
+        View {
+            places,
+            frame: Frame::of(places),
+        }
+    }
+}
+
+impl View<'_> {
+    ghost use Rattle.std.specs.Prelude.{◌≡◌, All, flat_map};
+    ghost use Rattle.tk_writers.specs.Pens.{Puts};
+    ghost use Rattle.tk_writers.specs.Written.{line};
+    ghost use Rattle.tk_distance.specs.Cities.{IsCity};
+    ghost use Rattle.tk_routes.specs.Cvrps.{instance_of};
+    ghost use Rattle.tk_routes.specs.Instance.{customer_count};
+    ghost use Rattle.tk_routes.specs.Routes.{route_nodes};
+    ghost use Rattle.tk_picture.specs.Views.{city_count, spot_in};
+
+    /// How many cities there are.
+    pub(crate) fn size(&self) -> u32
+        ensures value { result ≡ city_count self.now }
+        ensures few { result ≤ 100000 }
+    {
+        self.places.len() as u32
+    }
+
+    /// Puts where a city stands.
+    pub(crate) fn put_spot<W: Sink>(&self, pen: &mut Pen<'_, W>, city: u32)
+        requires { IsCity (city_count self.now) city }
+        ensures { Puts W.taken W.broken pen.old pen.new (spot_in self.now city) }
+    {
+        let place = self.places.get(city as usize - 1);
+        pen.put_wide(self.frame.across(place));
+        pen.put(b",");
+        pen.put_wide(self.frame.down(place));
+    }
+
+    /// Puts where a city stands, on a line.
+    fn put_corner<W: Sink>(&self, pen: &mut Pen<'_, W>, city: u32)
+        requires { IsCity (city_count self.now) city }
+        ensures { Puts W.taken W.broken pen.old pen.new (line (spot_in self.now city)) }
+    {
+        self.put_spot(pen, city);
+        pen.put(b"\n");
+    }
+
+    /// Puts where cities stand, each on a line.
+    pub(crate) fn put_corners<W: Sink>(&self, pen: &mut Pen<'_, W>, cities: &[u32])
+        requires { All (IsCity (city_count self.now)) cities.now }
+        ensures { Puts W.taken W.broken pen.old pen.new (flat_map (λ c. line (spot_in self.now c)) cities.now) }
+    {
+        for city in cities {
+            self.put_corner(pen, *city);
+        }
+    }
+
+    /// Puts where the depot and the customers of a route stand, each on a line.
+    pub(crate) fn put_stops<W: Sink>(&self, pen: &mut Pen<'_, W>, cvrp: &Cvrp<'_>, route: &[u32])
+        requires size { (instance_of cvrp.now).size ≡ city_count self.now }
+        requires known { All (IsCity (customer_count (instance_of cvrp.now))) route.now }
+        ensures { Puts W.taken W.broken pen.old pen.new
+            (flat_map (λ c. line (spot_in self.now c)) (route_nodes (instance_of cvrp.now) route.now)) }
+    {
+        self.put_corner(pen, cvrp.depot());
+        for customer in route {
+            self.put_corner(pen, cvrp.node(*customer));
+        }
+    }
+}

@@ -1,3 +1,0 @@
-pub mod OneEach
-pub mod Parting
-pub mod Rows

@@ -1,6 +1,0 @@
-use Rattle.tk_pen.proofs.Putting.{Puts-then}
-use Rattle.tk_plot.proofs.caption.put_routes.Goals as goal
-
-pub returns : goal.returns
-returns g c =
-    Puts-then _ _ _ _ _ _ _ (Puts-then _ _ _ _ _ _ _ c.put_number.ensures c.put.ensures) c.put_number-2.ensures

@@ -1,6 +1,0 @@
-use Rattle.tk_pen.proofs.Putting.{Puts-then}
-use Rattle.tk_plot.proofs.closed_lines.put_route.Goals as goal
-
-pub returns : goal.returns
-returns g c =
-    Puts-then _ _ _ _ _ _ _ (Puts-then _ _ _ _ _ _ _ c.put_line_start.ensures c.put_stops.ensures) c.put.ensures

@@ -1,5 +1,0 @@
-use Rattle.tk_pen.proofs.Putting.{Puts-then}
-use Rattle.tk_plot.proofs.dots.put_square.Goals as goal
-
-pub returns : goal.returns
-returns g c = Puts-then _ _ _ _ _ _ _ (Puts-then _ _ _ _ _ _ _ (Puts-then _ _ _ _ _ _ _ c.put.ensures c.put_spot.ensures) c.put-2.ensures) c.put-3.ensures

@@ -1,6 +1,0 @@
-use Rattle.tk_pen.proofs.Putting.{Puts-then}
-use Rattle.tk_plot.proofs.view.View.put_corner.Goals as goal
-
-pub returns : goal.returns
-returns g c =
-    Puts-then _ _ _ _ _ _ _ c.put_spot.ensures c.put.ensures

@@ -1,4 +1,0 @@
-pub mod ImprovedRoutes
-pub mod RouteLists
-pub mod Rows
-pub mod SavingsRoutes

@@ -1,7 +1,0 @@
-use Rattle.std.proofs.Common.{refl}
-use Rattle.tk_starts.specs.Joints.{part, part_load, joints_at, may_join, joints}
-use Rattle.tk_search_tests.proofs.joints.ring.Goals as goal
-
-pub returns : goal.returns
-unfolding joints may_join part part_load joints_at
-returns c = refl

@@ -1,9 +1,0 @@
-pub mod Coordinates
-pub mod Demands
-pub mod DepotList
-pub mod DepotTaken
-pub mod FixedSections
-pub mod Nodes
-pub mod Rows
-pub mod Weighing
-pub mod WeightSection

@@ -1,3 +1,0 @@
-pub mod LineLengths
-pub mod RunLines
-pub mod SolveEnds

@@ -1,2 +1,0 @@
-pub mod Solve
-pub mod SolveLines

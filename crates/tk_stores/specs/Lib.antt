@@ -1,4 +1,0 @@
-pub mod ArrayTours
-pub mod Journal
-pub mod JournalTours
-pub mod Printed

@@ -1,2 +1,0 @@
-mod Sweeping
-mod XOrder

@@ -1,2 +1,0 @@
-pub mod RouteLines
-pub mod TourLines

@@ -1,2 +1,0 @@
-pub mod RouteLine
-pub mod TourLine

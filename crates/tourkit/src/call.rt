@@ -1,0 +1,34 @@
+//! A whole call of the program.
+
+use crate::check::check_command;
+use crate::checksol::checksol_command;
+use crate::matrix::matrix_command;
+use crate::near::near_command;
+use crate::words::words_of_call;
+use crate::{plot_command, report, solve_command};
+use std::process::ExitCode;
+use tk_command_line::{Asked, parse};
+
+/// Reads the words of the call, and runs what they ask for.
+pub fn run_call(rt: &HostRuntime) -> ExitCode {
+    let words = match words_of_call(rt) {
+        Ok(words) => words,
+        Err(status) => return status,
+    };
+    match parse(rt, words.as_slice()) {
+        Ok(asked) => run(rt, asked),
+        Err(refusal) => report::refused(rt, refusal),
+    }
+}
+
+/// Runs a subcommand.
+fn run(rt: &HostRuntime, asked: Asked<'_>) -> ExitCode {
+    match asked {
+        Asked::Check { problem, tour } => check_command(rt, problem, tour),
+        Asked::Checksol { problem, solution } => checksol_command(rt, problem, solution),
+        Asked::Matrix { problem, format } => matrix_command(rt, problem, format),
+        Asked::Near { problem, length } => near_command(rt, problem, length),
+        Asked::Plot { problem, claim } => plot_command::run(rt, problem, claim),
+        Asked::Solve { parameters } => solve_command::run(rt, parameters),
+    }
+}

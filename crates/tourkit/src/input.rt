@@ -1,0 +1,54 @@
+//! The input files of a command, one of which may be standard input.
+use crate::report;
+use std::fs::File;
+use std::io::{self, Read, Stdin};
+use std::os::fd::AsFd;
+use std::process::ExitCode;
+use tk_command_line::STANDARD;
+
+/// An input file that is open, or standard input.
+#[derive(Drop)]
+pub enum Input {
+    File(File),
+    Standard(Stdin),
+}
+
+impl Read for Input {
+    fn read(&mut self, buf: &mut [u8]) -> io::Result<usize> {
+        match self {
+            Input::File(file) => file.read(buf),
+            Input::Standard(stdin) => stdin.read(buf),
+        }
+    }
+}
+
+/// Opens an input file, or reports that it cannot be opened. Standard input cannot be if it is closed.
+///
+/// # Errors
+/// The exit status, after a message that names the file.
+pub fn open(rt: &HostRuntime, name: &str) -> Result<Input, ExitCode> {
+    if name == STANDARD {
+        return match rt.stdin().as_fd().try_clone_to_owned() {
+            Ok(_) => Ok(Input::Standard(rt.stdin())),
+            Err(_) => Err(report::unopened(rt, name)),
+        };
+    }
+    match File::open(rt, name) {
+        Ok(file) => Ok(Input::File(file)),
+        Err(_) => Err(report::unopened(rt, name)),
+    }
+}
+
+/// Opens two input files in this order, or reports the first that cannot be opened. Standard input comes first where it
+/// is the second: if it is closed, the other file would be taken for it.
+///
+/// # Errors
+/// The exit status, after a message that names the file that could not be opened.
+pub fn open_two(rt: &HostRuntime, first: &str, second: &str) -> Result<(Input, Input), ExitCode> {
+    if second == STANDARD {
+        let standard = open(rt, second)?;
+        return Ok((open(rt, first)?, standard));
+    }
+    let first = open(rt, first)?;
+    Ok((first, open(rt, second)?))
+}

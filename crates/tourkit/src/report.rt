@@ -1,0 +1,123 @@
+//! What standard error and the exit status tell.
+use std::io;
+use std::process::ExitCode;
+use tk_command_line::Refusal;
+use tk_engines::Fault;
+use tk_params::{Key, ParamFault, ParamKind};
+use tk_tour::TourFault;
+use tk_words::{TextFault, TextKind};
+
+/// A check found a fault.
+pub const FOUND: u8 = 1;
+
+/// Words, a text or a parameter were refused.
+pub const USAGE: u8 = 2;
+
+/// A file could not be opened, read or written, or there was no memory.
+pub const SYSTEM: u8 = 3;
+
+/// Ends with what came of words that were refused.
+pub fn refused(rt: &HostRuntime, refusal: Refusal) -> ExitCode {
+    match refusal {
+        Refusal::NoMemory => no_memory(rt),
+        Refusal::Unwritten => write_fault(rt),
+        Refusal::Told(status) => ExitCode::from(status),
+    }
+}
+
+/// Tells that the words are no text.
+pub fn not_text(rt: &HostRuntime) -> ExitCode {
+    let _ = eprintln!(rt; "tourkit: an argument is not UTF-8");
+    ExitCode::from(USAGE)
+}
+
+/// Tells that a file cannot be opened.
+pub fn unopened(rt: &HostRuntime, file: &str) -> ExitCode {
+    let _ = eprintln!(rt; "tourkit: {file}: cannot be opened");
+    ExitCode::from(SYSTEM)
+}
+
+/// Tells the fault of an engine over the problem of a file.
+pub fn stopped(rt: &HostRuntime, file: &str, fault: &Fault) -> ExitCode {
+    match fault {
+        Fault::Problem(fault) | Fault::Tour(fault) | Fault::Solution(fault) => {
+            text_fault(rt, file, fault)
+        }
+        Fault::Initial(fault) => initial_fault(rt, file, fault),
+        Fault::WrongType => wrong_type(rt, file),
+        Fault::NotForType(key) => not_for_type(rt, file, *key),
+        Fault::TooLarge => too_large(rt, file),
+        Fault::NoPlaces => no_places(rt, file),
+        Fault::Write(_) => write_fault(rt),
+        Fault::NoMemory => no_memory(rt),
+    }
+}
+
+/// Tells the fault of a text.
+pub fn text_fault(rt: &HostRuntime, file: &str, fault: &TextFault) -> ExitCode {
+    let _ = eprintln!(rt; "tourkit: {file}:{fault}");
+    ExitCode::from(match fault.kind {
+        TextKind::Read | TextKind::NoMemory => SYSTEM,
+        _ => USAGE,
+    })
+}
+
+/// Tells the fault of a parameter file.
+pub fn param_fault(rt: &HostRuntime, file: &str, fault: &ParamFault) -> ExitCode {
+    let _ = eprintln!(rt; "tourkit: {file}:{fault}");
+    ExitCode::from(match fault.kind {
+        ParamKind::Read | ParamKind::NoMemory => SYSTEM,
+        _ => USAGE,
+    })
+}
+
+/// Tells that the output could not be written.
+pub fn write_fault(rt: &HostRuntime) -> ExitCode {
+    let _ = eprintln!(rt; "tourkit: write fault");
+    ExitCode::from(SYSTEM)
+}
+
+/// Tells that there was no memory.
+pub fn no_memory(rt: &HostRuntime) -> ExitCode {
+    let _ = eprintln!(rt; "tourkit: out of memory");
+    ExitCode::from(SYSTEM)
+}
+
+/// Tells that the tour of a file is no tour to begin with.
+fn initial_fault(rt: &HostRuntime, file: &str, fault: &TourFault) -> ExitCode {
+    let _ = match fault {
+        TourFault::WrongCount => eprintln!(rt; "tourkit: {file}: initial tour: 1 WrongCount"),
+        TourFault::OutOfRange(place) => {
+            eprintln!(rt; "tourkit: {file}: initial tour: 2 OutOfRange {place}")
+        }
+        TourFault::RepeatedCity(place) => {
+            eprintln!(rt; "tourkit: {file}: initial tour: 3 RepeatedCity {place}")
+        }
+        TourFault::NoMemory => return no_memory(rt),
+    };
+    ExitCode::from(USAGE)
+}
+
+/// Tells that a problem has no routing.
+fn wrong_type(rt: &HostRuntime, file: &str) -> ExitCode {
+    let _ = eprintln!(rt; "tourkit: {file}: not a CVRP");
+    ExitCode::from(USAGE)
+}
+
+/// Tells that a problem's type has no use for a key.
+fn not_for_type(rt: &HostRuntime, file: &str, key: Key) -> ExitCode {
+    let _ = eprintln!(rt; "tourkit: {file}: {key} does not fit the problem's type");
+    ExitCode::from(USAGE)
+}
+
+/// Tells that a problem has too many nodes for a matrix.
+fn too_large(rt: &HostRuntime, file: &str) -> ExitCode {
+    let _ = eprintln!(rt; "tourkit: {file}: too large for a matrix");
+    ExitCode::from(USAGE)
+}
+
+/// Tells that the cities of a problem have no places.
+fn no_places(rt: &HostRuntime, file: &str) -> ExitCode {
+    let _ = eprintln!(rt; "tourkit: {file}: no coordinates");
+    ExitCode::from(USAGE)
+}
