@@ -5,11 +5,11 @@
 # usage: bench/descent/run.sh [ROUNDS]
 set -e
 here=$(cd "$(dirname "$0")" && pwd)
-. "$here/../build.sh"
-build descent 'tk_problem tk_distance tk_near tk_tour tk_descent'
+. "$here/../programs.sh"
+find_programs
 round=0
 while [ "$round" -lt "${1:-5}" ]; do
-    "$program" | sed 's/^/rattle /'
+    "$program" descent | sed 's/^/rattle /'
     "$twin"
     round=$((round + 1))
 done | awk '

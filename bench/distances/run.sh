@@ -1,14 +1,14 @@
 #!/bin/sh
-# Times distances of the five plane types, of whole and of decimal coordinates, against plain Rust at -O3, at spans from 10 to 10^9.
+# Times distances of EUC_2D, CEIL_2D and ATT, of whole and of decimal coordinates, against plain Rust at -O3, at spans from 10 to 10^9.
 # usage: bench/distances/run.sh [ROUNDS]
 set -e
 here=$(cd "$(dirname "$0")" && pwd)
-. "$here/../build.sh"
-build distances 'tk_problem tk_distance'
+. "$here/../programs.sh"
+find_programs
 rm -f "$work/rattle.txt" "$work/rust.txt"
 round=0
 while [ "$round" -lt "${1:-3}" ]; do
-    "$program" >> "$work/rattle.txt"
+    "$program" distances >> "$work/rattle.txt"
     "$twin" >> "$work/rust.txt"
     round=$((round + 1))
 done

@@ -5,11 +5,11 @@
 # usage: bench/near/run.sh [ROUNDS [CORE]]
 set -e
 here=$(cd "$(dirname "$0")" && pwd)
-. "$here/../build.sh"
-build near 'tk_problem tk_distance tk_near tk_tour tk_starts'
+. "$here/../programs.sh"
+find_programs
 round=0
 while [ "$round" -lt "${1:-3}" ]; do
-    taskset -c "${2:-0}" "$program" | sed 's/^/rattle /'
+    taskset -c "${2:-0}" "$program" near | sed 's/^/rattle /'
     taskset -c "${2:-0}" "$twin" | sed 's/^/rust /'
     round=$((round + 1))
 done | awk '

@@ -9,6 +9,7 @@
 # with distances by the processor's roots, and (whole) by exact roots of whole numbers, as in tourkit.
 set -eu
 here=$(cd "$(dirname "$0")" && pwd)
+. "$here/../programs.sh"
 rounds=20
 while getopts n: option; do
     case $option in
@@ -18,10 +19,8 @@ while getopts n: option; do
 done
 shift $((OPTIND - 1))
 tourkit=${1:+$(readlink -f "$1")}
-work=${TMPDIR:-/tmp}/tourkit-bench-routes
-mkdir -p "$work"
-rustc --edition 2024 -C opt-level=3 -o "$work/twin" "$here/../solve/twin.rs"
+compile_twin "$here/../solve"
 rm -rf "$work/in"
 python3 -B "$here/instances.py" "$work/in"
 cd "$work/in"
-python3 -B "$here/compare.py" "$rounds" "$work/twin" ${tourkit:+"$tourkit"}
+python3 -B "$here/compare.py" "$rounds" "$twin" ${tourkit:+"$tourkit"}

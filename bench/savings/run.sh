@@ -4,9 +4,9 @@
 # usage: bench/savings/run.sh
 set -e
 here=$(cd "$(dirname "$0")" && pwd)
-. "$here/../build.sh"
-build savings 'tk_problem tk_distance tk_near tk_tour tk_starts'
-"$program" > "$work/rattle"
+. "$here/../programs.sh"
+find_programs
+"$program" savings > "$work/rattle"
 "$twin" > "$work/rust"
 paste -d ' ' "$work/rattle" "$work/rust" | awk '
     { half = NF / 2; same = 1; for (i = 7; i <= half; i++) if ($i != $(i + half)) same = 0

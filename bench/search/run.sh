@@ -6,11 +6,11 @@
 # usage: bench/search/run.sh [ROUNDS]
 set -e
 here=$(cd "$(dirname "$0")" && pwd)
-. "$here/../build.sh"
-build search 'tk_problem tk_distance tk_near tk_tour tk_descent tk_search' 'rand_core rand_pcg'
+. "$here/../programs.sh"
+find_programs
 round=0
 while [ "$round" -lt "${1:-5}" ]; do
-    "$program"
+    "$program" search
     "$twin"
     round=$((round + 1))
 done | awk '

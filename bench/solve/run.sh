@@ -8,6 +8,7 @@
 # the twin at its best (see twin.rs), with the ratios to these two. -s takes a hundredth of the trials.
 set -eu
 here=$(cd "$(dirname "$0")" && pwd)
+. "$here/../programs.sh"
 rounds=3
 divisor=1
 while getopts n:s option; do
@@ -19,10 +20,7 @@ while getopts n:s option; do
 done
 shift $((OPTIND - 1))
 tourkit=${1:+$(readlink -f "$1")}
-work=${TMPDIR:-/tmp}/tourkit-bench-solve
-mkdir -p "$work"
-twin=$work/twin
-rustc --edition 2024 -C opt-level=3 -o "$twin" "$here/twin.rs"
+compile_twin
 rm -rf "$work/in"
 python3 "$here/instances.py" "$work/in" "$divisor"
 cd "$work/in"

@@ -5,11 +5,11 @@
 # usage: bench/tour/run.sh [ROUNDS]
 set -e
 here=$(cd "$(dirname "$0")" && pwd)
-. "$here/../build.sh"
-build tour 'tk_problem tk_distance tk_tour'
+. "$here/../programs.sh"
+find_programs
 round=0
 while [ "$round" -lt "${1:-15}" ]; do
-    nice -n -19 "$program" 2> "$work/errors" | sed 's/^/rattle /'
+    nice -n -19 "$program" tour 2> "$work/errors" | sed 's/^/rattle /'
     nice -n -19 "$twin" 2> "$work/errors" | sed 's/^/rust /'
     round=$((round + 1))
 done > "$work/times"

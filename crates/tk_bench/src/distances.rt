@@ -1,0 +1,145 @@
+//! How long distances of places in the plane take.
+//!
+//! A line has the kind of distances and coordinates, the span of the coordinates, the sum of the distances, and the
+//! picoseconds of one distance.
+use crate::draws::advance;
+use crate::times::Times;
+use std::alloc::{AllocError, Global};
+use std::io;
+use std::time::Instant;
+use tk_metric::{Metric, Planes};
+use tk_text::{PlaneKind, Point, Points, SCALE};
+
+/// No coordinate may be over this, in units of 10^-9.
+const FAR: u64 = 1_000_000_000_000_000_000;
+
+/// How often each sum is made; the least time counts.
+const ROUNDS: u32 = 7;
+
+/// How many places there are. All distances of places that are fewer than `steps` apart in their list are measured.
+#[derive(Clone, Copy)]
+struct Sizes {
+    places: u32,
+    steps: u32,
+}
+
+/// What is measured: distances of a kind, among coordinates that are multiples of a unit of 10^-9.
+#[derive(Clone, Copy)]
+struct Task<'a> {
+    name: &'a str,
+    kind: PlaneKind,
+    unit: i64,
+}
+
+/// Makes the run.
+pub fn run(rt: &HostRuntime) -> anyhow::Result<()> {
+    let sizes = Sizes {
+        places: 4_200,
+        steps: 200,
+    };
+    for span in [10, 1_000, 1_000_000, 100_000_000, 1_000_000_000] {
+        measure_all(rt, Times::Told, span, sizes)?;
+    }
+    Ok(())
+}
+
+/// Makes the small run.
+pub fn run_small(rt: &HostRuntime) -> anyhow::Result<()> {
+    let sizes = Sizes {
+        places: 60,
+        steps: 10,
+    };
+    for span in [10, 1_000_000, 1_000_000_000] {
+        measure_all(rt, Times::Hidden, span, sizes)?;
+    }
+    Ok(())
+}
+
+/// Each kind of distances, among whole coordinates and among decimal ones.
+fn measure_all(rt: &HostRuntime, times: Times, span: i64, sizes: Sizes) -> io::Result<()> {
+    for (name, kind, unit) in [
+        ("EUC_2D/whole", PlaneKind::Euc2d, SCALE),
+        ("EUC_2D/decimals", PlaneKind::Euc2d, 1),
+        ("CEIL_2D/whole", PlaneKind::Ceil2d, SCALE),
+        ("CEIL_2D/decimals", PlaneKind::Ceil2d, 1),
+        ("ATT/whole", PlaneKind::Att, SCALE),
+        ("ATT/decimals", PlaneKind::Att, 1),
+    ] {
+        measure(rt, times, Task { name, kind, unit }, span, sizes)?;
+    }
+    Ok(())
+}
+
+/// The sum of the distances of a task, at one span.
+fn measure(
+    rt: &HostRuntime,
+    times: Times,
+    task: Task<'_>,
+    span: i64,
+    sizes: Sizes,
+) -> io::Result<()> {
+    let points = spread(rt.alloc(), sizes.places, span, task.unit)?;
+    if points.len() > 100_000 {
+        return Ok(());
+    }
+    let planes = Planes::new(task.kind, &points);
+    let mut least: u128 = u128::MAX;
+    let mut sum = 0;
+    for _ in 0..ROUNDS {
+        let begin = Instant::now(rt)?;
+        sum = sum_of(&planes, sizes.steps);
+        least = least.min(begin.elapsed(rt)?.as_nanos());
+    }
+    let took = times.tell(picoseconds_of_one(least, sizes));
+    println!(rt; "{} {span} {sum} {took}", task.name)
+}
+
+/// The picoseconds of one distance, of the nanoseconds of all.
+fn picoseconds_of_one(nanoseconds: u128, sizes: Sizes) -> u128 {
+    let ends = sizes.places.saturating_sub(sizes.steps / 2) as u128;
+    let distances = ends * sizes.steps.saturating_sub(1) as u128;
+    nanoseconds.min(1_000_000_000_000) * 1_000 / distances.max(1)
+}
+
+/// Places whose coordinates have a magnitude of at most the span, and are multiples of a unit.
+fn spread(alloc: Global, count: u32, span: i64, unit: i64) -> Result<Points, AllocError> {
+    let mut points = Points::at_origin(alloc, count as usize)?;
+    let mut state = 42;
+    for i in 0..points.len() {
+        let x = coordinate(&mut state, span, unit);
+        let y = coordinate(&mut state, span, unit);
+        if x.unsigned_abs() <= FAR && y.unsigned_abs() <= FAR && i < points.len() {
+            points.set(i, Point { x, y })?;
+        }
+    }
+    Ok(points)
+}
+
+/// A coordinate of magnitude at most the span, which is a multiple of a unit.
+fn coordinate(state: &mut u64, span: i64, unit: i64) -> i64 {
+    let most = span.wrapping_mul(SCALE / unit.max(1)).unsigned_abs();
+    let drawn = (advance(state) >> 11).wrapping_mul(2_048);
+    (drawn % most.wrapping_mul(2).wrapping_add(1).max(1))
+        .cast_signed()
+        .wrapping_sub(most.cast_signed())
+        .wrapping_mul(unit)
+}
+
+/// The sum of the distances of places that are fewer than so many steps apart.
+fn sum_of<M: Metric>(metric: &M, steps: u32) -> u64 {
+    let mut sum: u64 = 0;
+    for step in 1..steps {
+        sum = sum.wrapping_add(sum_at(metric, step));
+    }
+    sum
+}
+
+/// The sum of the distances of places that are so many steps apart.
+fn sum_at<M: Metric>(metric: &M, step: u32) -> u64 {
+    let last = metric.size().saturating_sub(step);
+    let mut sum: u64 = 0;
+    for before in 0..last {
+        sum = sum.wrapping_add(metric.dist(before + 1, before + 1 + step).cast_unsigned());
+    }
+    sum
+}

@@ -1,0 +1,24 @@
+//! Benchmarks of the libraries. `bench/` compares them with programs in plain Rust.
+//!
+//! A call with the name of a benchmark makes its run, whose lines tell times. A call with no word makes a small run of
+//! each, whose lines tell results alone, so that they are the same each time.
+#![tactic(auto)]
+
+mod call;
+mod descent;
+mod digest;
+mod distances;
+mod draws;
+mod near;
+mod places;
+mod savings;
+mod search;
+mod strips;
+mod times;
+mod tour;
+
+use std::process::ExitCode;
+
+fn main(rt: HostRuntime) -> ExitCode {
+    call::run_call(&rt)
+}

@@ -1,0 +1,72 @@
+//! Cities drawn at random in a square, and a tour that goes up and down along strips of it.
+ghost use Rattle.std.specs.Prelude.{◌≡◌, ◌<◌, IfOk, length};
+
+use crate::draws::draw_below;
+use crate::places::whole;
+use std::alloc::{AllocError, Global};
+use tk_text::Points;
+
+/// The side of the square.
+const SIDE: u32 = 1_000_000;
+
+/// Where a city stands on the way along the strips.
+#[derive(Clone, Copy)]
+struct Stop {
+    strip: u32,
+    along: u32,
+    city: u32,
+}
+
+/// A coordinate drawn at random.
+fn coordinate(state: &mut u64) -> u32
+    ensures { result < 1000000 }
+{
+    draw_below(state, SIDE)
+}
+
+/// Where a city at these coordinates stands on the way.
+fn stop_at(x: u32, y: u32, width: u32, city: u32) -> Stop
+    requires y { y < 1000000 }
+    requires width { 0 < width }
+{
+    let strip = x / width;
+    let along = if strip % 2 == 0 { y } else { SIDE - y };
+    Stop { strip, along, city }
+}
+
+/// Cities drawn at random, and where each stands on the way.
+fn placed(alloc: Global, n: u32, width: u32) -> Result<(Points, Vec<Stop>), AllocError>
+    requires { 0 < width }
+    ensures { IfOk result (λ r. length r.0 ≡ n) }
+{
+    let mut points = Points::at_origin(alloc, n as usize)?;
+    let mut stops = Vec::new(alloc);
+    let mut state = 12345;
+    for city in 0..n {
+        let x = coordinate(&mut state);
+        let y = coordinate(&mut state);
+        points.set(city as usize, whole(x, y))?;
+        stops.push(stop_at(x, y, width, city + 1))?;
+    }
+    Ok((points, stops))
+}
+
+/// The cities of the stops.
+fn cities_of(alloc: Global, stops: &[Stop]) -> Result<Vec<u32>, AllocError> {
+    let mut cities = Vec::new(alloc);
+    for stop in stops {
+        cities.push(stop.city)?;
+    }
+    Ok(cities)
+}
+
+/// Cities drawn at random, and the tour along strips of this width.
+pub fn along_strips(alloc: Global, n: u32, width: u32) -> Result<(Points, Vec<u32>), AllocError>
+    requires { 0 < width }
+    ensures { IfOk result (λ r. length r.0 ≡ n) }
+{
+    let (points, mut stops) = placed(alloc, n, width)?;
+    stops.sort_unstable_by_key(|s| (s.strip, s.along, s.city));
+    let cities = cities_of(alloc, &stops)?;
+    Ok((points, cities))
+}

@@ -1,0 +1,32 @@
+//! Times, and whether the lines of a run tell them.
+use std::fmt;
+
+/// Whether the lines of a run tell its times. Those of a stored run cannot, since no two runs take the same time.
+#[derive(Clone, Copy)]
+pub enum Times {
+    Told,
+    Hidden,
+}
+
+/// A time as a line tells it, in the line's unit; a hidden one is written as `-`.
+#[derive(Clone, Copy)]
+pub struct Time(Option<u128>);
+
+impl Times {
+    /// A time as a line tells it.
+    pub fn tell(self, time: u128) -> Time {
+        match self {
+            Times::Told => Time(Some(time)),
+            Times::Hidden => Time(None),
+        }
+    }
+}
+
+impl fmt::Display for Time {
+    fn fmt<W: fmt::Write>(&self, f: &mut fmt::Formatter<W>) -> fmt::Result {
+        match self.0 {
+            Some(time) => write!(f, "{time}"),
+            None => f.write_str("-"),
+        }
+    }
+}

@@ -1,0 +1,65 @@
+//! How long a swap of a flip takes.
+//!
+//! A line has the cities, the swaps, the nanoseconds of all flips, and the city after the first one.
+ghost use Rattle.std.specs.Prelude.{◌<◌, ◌≤◌};
+
+use crate::draws::draw_below;
+use crate::times::Times;
+use std::alloc::{AllocError, Global};
+use std::time::Instant;
+use tk_tour::{ArrayTour, TourStore};
+
+/// Makes the run.
+pub fn run(rt: &HostRuntime) -> anyhow::Result<()> {
+    measure(rt, Times::Told, 1_000, 400_000)?;
+    measure(rt, Times::Told, 100_000, 4_000)
+}
+
+/// Makes the small run.
+pub fn run_small(rt: &HostRuntime) -> anyhow::Result<()> {
+    measure(rt, Times::Hidden, 100, 1_000)
+}
+
+/// So many flips of a tour of so many cities.
+fn measure(rt: &HostRuntime, times: Times, n: u32, flips: u32) -> anyhow::Result<()> {
+    let cities = first_cities(rt.alloc(), n)?;
+    let mut tour = ArrayTour::from_list(rt.alloc(), &cities)?;
+    let begin = Instant::now(rt)?;
+    let after = flip_often(&mut tour, flips);
+    let took = times.tell(begin.elapsed(rt)?.as_nanos());
+    println!(rt; "{n} {} {took} {after}", tour.swaps())?;
+    Ok(())
+}
+
+/// The cities from 1 to n.
+fn first_cities(alloc: Global, n: u32) -> Result<Vec<u32>, AllocError> {
+    let mut cities = Vec::new(alloc);
+    for city in 1..=n {
+        cities.push(city)?;
+    }
+    Ok(cities)
+}
+
+/// A city of n, drawn at random.
+fn draw_city(state: &mut u64, n: u32) -> u32
+    requires { 0 < n }
+    ensures { (0 < result) × (result ≤ n) }
+{
+    draw_below(state, n) + 1
+}
+
+/// Flips at steps drawn at random, and then answers the city after the first.
+fn flip_often(tour: &mut ArrayTour, flips: u32) -> u32 {
+    let n = tour.size();
+    let mut state = 1;
+    for _ in 0..flips {
+        let a = draw_city(&mut state, n);
+        let c = draw_city(&mut state, n);
+        if a != c {
+            let b = tour.next(a);
+            let d = tour.next(c);
+            let _ = tour.flip(a, b, c, d);
+        }
+    }
+    tour.next(1)
+}
