@@ -1,5 +1,5 @@
 //! The program with its subcommands.
-use crate::{check, checksol, matrix, near, plot, solve};
+use crate::subcommands::{check, checksol, matrix, near, plot, solve};
 use clap::error::ErrorKind;
 use clap::{Arg, Command, Error};
 use std::alloc::Global;

@@ -2,15 +2,10 @@
 #![tactic(auto)]
 
 mod asked;
-mod check;
-mod checksol;
 mod command;
 mod list_length;
-mod matrix;
-mod near;
 mod parsing;
-mod plot;
-mod solve;
+mod subcommands;
 
 pub use asked::{Asked, STANDARD};
 pub use list_length::ListLength;

@@ -2,7 +2,7 @@
 
 use crate::asked::{Asked, STANDARD};
 use crate::command::{tourkit, twice_standard};
-use crate::{check, checksol, matrix, near, plot, solve};
+use crate::subcommands::{check, checksol, matrix, near, plot, solve};
 use clap::error::ErrorKind;
 use clap::{ArgMatches, Error};
 use std::alloc::Global;

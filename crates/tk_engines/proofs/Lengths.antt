@@ -8,7 +8,7 @@ use Rattle.tk_tour.specs.declared.verdict.Verdict.{Verdict}
 use Rattle.tk_tour.specs.Verdict.{IsVerdict}
 use Rattle.tk_engines.specs.ReadProblems.{read_distance}
 use Rattle.tk_engines.proofs.ReadTables.{read_distance_is}
-use Rattle.tk_engines.specs.TourLine.{verdict_line}
+use Rattle.tk_engines.specs.Lines.TourLine.{verdict_line}
 use Rattle.tk_engines.specs.Check.{IsCheck}
 
 -- a line by the distances of a problem is one by those that its text gives

@@ -1,12 +1,8 @@
 pub mod Lengths
-pub mod LineLengths
-pub mod NearLines
 pub mod PlotEnds
+pub mod PrintedLines
 pub mod ProblemTables
 pub mod ReadTables
 pub mod RouteChecks
-pub mod RouteLines
-pub mod RunLines
 pub mod Shown
 pub mod SolveEnds
-pub mod TourLines

@@ -5,7 +5,7 @@ use Rattle.tk_problem_text.specs.Problem.{ProblemIs}
 use Rattle.tk_engines.specs.Engine.{AreRead, BeforeSecond, EndsByProblem, IsGiven, Reading, Writing}
 use Rattle.tk_engines.specs.declared.fault.Fault.{Fault}
 use Rattle.tk_engines.specs.declared.fault.Fault.TheVariants as faults
-use Rattle.tk_engines.specs.declared.plotted.Plotted.{Plotted}
+use Rattle.tk_engines.specs.declared.engines.plotted.Plotted.{Plotted}
 use Rattle.tk_engines.specs.Plot.{Claim, HasRead, Output, plot_task}
 
 module _ (given : Bool) (Problem : Reading ProblemIs) (Second : ProblemIs → Reading Claim) (Writes : Writing Output) (p : ProblemIs) (is : Problem (Ok p)) where

@@ -6,7 +6,7 @@ use Rattle.tk_problem.specs.declared.routing.Routing.{Routing}
 use Rattle.tk_problem_text.specs.Parts.{problem_is, routing_is, weights_are}
 use Rattle.tk_routes.specs.Instance.{Instance, IsInstanceOf}
 use Rattle.tk_routes.specs.RouteVerdicts.{IsRouteVerdict}
-use Rattle.tk_routes.specs.declared.verdict.RouteVerdict.{RouteVerdict}
+use Rattle.tk_routes.specs.declared.claims.verdict.RouteVerdict.{RouteVerdict}
 use Rattle.tk_engines.proofs.ReadTables.{distances_read, instance_same}
 use Rattle.tk_engines.specs.ReadProblems.{read_distance}
 use Rattle.tk_engines.specs.RouteCheck.{without_routing}

@@ -16,14 +16,14 @@ use Rattle.tk_tour.proofs.Tours.{HoldsOnce-tour}
 use Rattle.tk_routes.specs.Instance.{Instance, customer_count}
 use Rattle.tk_routes.specs.RouteVerdicts.{AreServedOnce, filled_of}
 use Rattle.tk_routes.specs.Routes.{AreRoutes}
-use Rattle.tk_routes.specs.declared.verdict.RouteVerdict.{RouteVerdict}
-use Rattle.tk_routes.specs.declared.verdict.RouteVerdict.TheVariants as route_verdicts
+use Rattle.tk_routes.specs.declared.claims.verdict.RouteVerdict.{RouteVerdict}
+use Rattle.tk_routes.specs.declared.claims.verdict.RouteVerdict.TheVariants as route_verdicts
 use Rattle.tk_routes.proofs.Filled.{concat-filled}
-use Rattle.tk_engines.specs.TourLine.{verdict_line}
+use Rattle.tk_engines.specs.Lines.TourLine.{verdict_line}
 use Rattle.tk_engines.specs.ReadProblems.{read_distance}
-use Rattle.tk_engines.specs.RouteLine.{route_verdict_line}
+use Rattle.tk_engines.specs.Lines.RouteLine.{route_verdict_line}
 use Rattle.tk_tour.proofs.CitiesOfTours.{cities_of_tour}
-use Rattle.tk_engines.proofs.TourLines.{tour_length_same}
+use Rattle.tk_engines.proofs.PrintedLines.TourLines.{tour_length_same}
 use Rattle.tk_engines.proofs.ReadTables.{read_distance-weights, read_distance_is}
 use Rattle.tk_picture.specs.declared.caption.Caption.{Caption}
 use Rattle.tk_picture.specs.declared.picture.Lines.{Lines}

@@ -3,7 +3,7 @@ use Rattle.std.specs.Prelude.{◌≡◌, ℕ, true, List, None}
 use Rattle.tk_problem_text.specs.Problem.{ProblemIs}
 use Rattle.tk_tour.specs.Verdict.{IsVerdict}
 use Rattle.tk_tour.specs.declared.verdict.Verdict.{Verdict}
-use Rattle.tk_engines.specs.TourLine.{verdict_line}
+use Rattle.tk_engines.specs.Lines.TourLine.{verdict_line}
 use Rattle.tk_engines.specs.Engine.{Task, NoClash}
 use Rattle.tk_engines.specs.ReadProblems.{read_distance}
 

@@ -13,7 +13,7 @@ use Rattle.tk_lists.specs.Solution.{Solution, solution_decided}
 use Rattle.tk_lists.specs.Tour.{tour_decided}
 use Rattle.tk_words.specs.declared.fault.TextFault.{TextFault}
 use Rattle.tk_words.specs.declared.fault.TextKind.TheVariants as kinds
-use Rattle.tk_writers.specs.declared.pen.WriteFault.{WriteFault}
+use Rattle.tk_writers.specs.declared.output.pen.WriteFault.{WriteFault}
 use Rattle.tk_engines.specs.declared.fault.Fault.{Fault}
 use Rattle.tk_engines.specs.declared.fault.Fault.TheVariants as faults
 

@@ -1,14 +1,9 @@
 pub mod Check
 pub mod Engine
+pub mod Lines
 pub mod MatrixOf
 pub mod NearText
 pub mod Plot
-pub mod ReadProblems
-pub mod RouteCheck
-pub mod RouteLine
-pub mod Solve
-pub mod SolveLines
-pub mod TourLine
 pub use Rattle.tk_params.specs.Asked
 pub use Rattle.tk_params.specs.Keys
 pub use Rattle.tk_params.specs.Params
@@ -16,3 +11,6 @@ pub use Rattle.tk_params.specs.Readers
 pub use Rattle.tk_params.specs.Reading
 pub use Rattle.tk_params.specs.Stored
 pub use Rattle.tk_params.specs.Values
+pub mod ReadProblems
+pub mod RouteCheck
+pub mod Solve

@@ -17,20 +17,20 @@ use Rattle.tk_tour.specs.declared.verdict.Verdict.TheVariants as verdicts
 use Rattle.tk_routes.specs.Instance.{Instance}
 use Rattle.tk_routes.specs.RouteVerdicts.{IsRouteVerdict, filled_of}
 use Rattle.tk_routes.specs.Routes.{route_nodes}
-use Rattle.tk_routes.specs.declared.verdict.RouteVerdict.{RouteVerdict}
-use Rattle.tk_routes.specs.declared.verdict.RouteVerdict.TheVariants as route_verdicts
-use Rattle.tk_engines.specs.TourLine.{verdict_line}
+use Rattle.tk_routes.specs.declared.claims.verdict.RouteVerdict.{RouteVerdict}
+use Rattle.tk_routes.specs.declared.claims.verdict.RouteVerdict.TheVariants as route_verdicts
+use Rattle.tk_engines.specs.Lines.TourLine.{verdict_line}
 use Rattle.tk_engines.specs.ReadProblems.{read_distance}
 use Rattle.tk_engines.specs.Engine.{IsUntouched, NoClash, Reading, ReadsSolution, ReadsTour, Task, Writing}
-use Rattle.tk_engines.specs.RouteLine.{route_verdict_line}
+use Rattle.tk_engines.specs.Lines.RouteLine.{route_verdict_line}
 use Rattle.tk_engines.specs.ReadProblems.{instance_in}
 use Rattle.tk_engines.specs.declared.fault.Fault.{Fault}
 use Rattle.tk_engines.specs.declared.fault.Fault.TheVariants.{NoPlaces}
 use Rattle.tk_picture.specs.declared.caption.Caption.{Caption}
 use Rattle.tk_picture.specs.declared.caption.Caption.TheVariants as captions
 use Rattle.tk_picture.specs.declared.frame.Frame.{Frame}
-use Rattle.tk_engines.specs.declared.plotted.Plotted.{Plotted}
-use Rattle.tk_engines.specs.declared.plotted.Plotted.TheVariants as plotted
+use Rattle.tk_engines.specs.declared.engines.plotted.Plotted.{Plotted}
+use Rattle.tk_engines.specs.declared.engines.plotted.Plotted.TheVariants as plotted
 use Rattle.tk_picture.specs.declared.view.View.{View}
 use Rattle.tk_picture.specs.Frames.{IsFrame}
 use Rattle.tk_picture.specs.PictureText.{picture_text}

@@ -3,8 +3,8 @@ use Rattle.std.specs.Prelude.{◌≡◌, ℕ, true, List, Option, Some, None, Is
 use Rattle.tk_problem_text.specs.Problem.{ProblemIs}
 use Rattle.tk_lists.specs.Solution.{Solution}
 use Rattle.tk_routes.specs.RouteVerdicts.{IsRouteVerdict}
-use Rattle.tk_routes.specs.declared.verdict.RouteVerdict.{RouteVerdict}
-use Rattle.tk_engines.specs.RouteLine.{route_verdict_line}
+use Rattle.tk_routes.specs.declared.claims.verdict.RouteVerdict.{RouteVerdict}
+use Rattle.tk_engines.specs.Lines.RouteLine.{route_verdict_line}
 use Rattle.tk_engines.specs.Engine.{Task, NoClash}
 use Rattle.tk_engines.specs.ReadProblems.{instance_in}
 use Rattle.tk_engines.specs.declared.fault.Fault.{Fault}

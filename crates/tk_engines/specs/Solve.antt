@@ -21,7 +21,7 @@ use Rattle.tk_params.specs.declared.key.Key.TheVariants as keys
 use Rattle.tk_params.specs.declared.value.Construction.{Construction}
 use Rattle.tk_params.specs.declared.value.Construction.TheVariants.{Nearest, Savings}
 use Rattle.tk_routes.specs.Instance.{Instance}
-use Rattle.tk_routes.specs.declared.route_report.RouteReport.{RouteReport}
+use Rattle.tk_routes.specs.declared.solving.route_report.RouteReport.{RouteReport}
 use Rattle.tk_solve.specs.SolvedRoutes.{AreSolved}
 use Rattle.tk_solve.specs.SolvedTours.{IsSolved, IsSound}
 use Rattle.tk_solve.specs.Starts.{Begins, AtNearest, AtSavings, At, TourTask}
@@ -29,7 +29,7 @@ use Rattle.tk_solve.specs.declared.tour.SolvedTour.{SolvedTour}
 use Rattle.tk_engines.specs.ReadProblems.{read_distance}
 use Rattle.tk_engines.specs.Engine.{IsUntouched, Reading, ReadsTour, Task, Writing}
 use Rattle.tk_engines.specs.ReadProblems.{instance_in}
-use Rattle.tk_engines.specs.SolveLines.{route_lines, tour_lines}
+use Rattle.tk_engines.specs.Lines.SolveLines.{route_lines, tour_lines}
 use Rattle.tk_engines.specs.declared.fault.Fault.{Fault}
 use Rattle.tk_engines.specs.declared.fault.Fault.TheVariants.{Initial, NoMemory, NotForType, Write}
 

@@ -4,27 +4,18 @@
 //! written nothing.
 #![tactic(auto)]
 
-mod check;
+mod engines;
 mod fault;
-mod matrix;
-mod near;
-mod plot;
-mod plotted;
-mod route_check;
-mod route_line;
-mod solve;
-mod solve_given;
-mod solve_lines;
-mod tour_line;
+mod lines;
 
-pub use check::check_engine;
+pub use engines::check::check_engine;
+pub use engines::matrix::matrix_engine;
+pub use engines::near::near_engine;
+pub use engines::plot::plot_engine;
+pub use engines::plotted::Plotted;
+pub use engines::route_check::route_check_engine;
+pub use engines::solve::solve_engine;
 pub use fault::Fault;
-pub use matrix::matrix_engine;
-pub use near::near_engine;
-pub use plot::plot_engine;
-pub use plotted::Plotted;
-pub use route_check::route_check_engine;
-pub use solve::solve_engine;
 pub use tk_params::{Construction, Key, ParamFault, ParamKind, Params, read_params};
 pub use tk_routes::RouteVerdict;
 pub use tk_solve::{Progress, Unwatched, Watch};

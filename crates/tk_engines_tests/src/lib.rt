@@ -4,26 +4,10 @@
 #![tactic(auto)]
 
 #[cfg(test)]
-mod check;
+mod engines;
 #[cfg(test)]
-mod checks;
-#[cfg(test)]
-mod examples;
-#[cfg(test)]
-mod given;
-#[cfg(test)]
-mod matrix;
-#[cfg(test)]
-mod near;
+mod parameters;
 #[cfg(test)]
 mod pictures;
 #[cfg(test)]
-mod pictures_given;
-#[cfg(test)]
-mod route_check;
-#[cfg(test)]
 mod routes;
-#[cfg(test)]
-mod solve;
-#[cfg(test)]
-mod texts;

@@ -6,8 +6,8 @@
 --     RefusesEnd f H W old result      a fault is that of the whole text
 use Rattle.std.specs.Prelude.{◌≡◌, ℕ, List, [], ◌∷◌, ◌++◌, Result, Ok, IfOk, IfErr}
 use Rattle.tk_words.specs.declared.fault.TextFault.{TextFault}
-use Rattle.tk_words.specs.declared.text_reader.Step.{Step}
-use Rattle.tk_words.specs.declared.text_reader.Step.TheVariants as steps
+use Rattle.tk_words.specs.declared.sources.text_reader.Step.{Step}
+use Rattle.tk_words.specs.declared.sources.text_reader.Step.TheVariants as steps
 use Rattle.tk_words.specs.Drive.{DecidesEnded, IsTold}
 use Rattle.tk_lines.specs.declared.reader.PieceReader.{PieceReader}
 use Rattle.tk_lines.specs.Pieces.{Format, decided_by}

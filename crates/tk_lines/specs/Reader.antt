@@ -10,8 +10,8 @@ use Rattle.tk_lines.specs.declared.place.Went.TheVariants as wents
 use Rattle.tk_lines.specs.declared.place.Ended.{Ended}
 use Rattle.tk_lines.specs.declared.place.Ended.TheVariants as endeds
 use Rattle.tk_lines.specs.declared.reader.PieceReader.{PieceReader}
-use Rattle.tk_words.specs.declared.text_reader.Step.{Step}
-use Rattle.tk_words.specs.declared.text_reader.Step.TheVariants as steps
+use Rattle.tk_words.specs.declared.sources.text_reader.Step.{Step}
+use Rattle.tk_words.specs.declared.sources.text_reader.Step.TheVariants as steps
 use Rattle.tk_words.specs.Lex.{LF, Token, is_blank, is_letter, is_word_byte, behind, IsRun}
 use Rattle.tk_words.specs.Words.{keyword_of, role}
 use Rattle.tk_words.specs.declared.keyword.Role.TheVariants.{BeginsHeader, BeginsSection}

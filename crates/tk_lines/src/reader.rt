@@ -29,7 +29,7 @@ impl<F: Form> PieceReader<F> {
     ghost use Rattle.tk_lines.specs.declared.place.Place.TheVariants as places;
     ghost use Rattle.tk_lines.specs.declared.place.Went.TheVariants as wents;
     ghost use Rattle.tk_lines.specs.declared.place.Ended.TheVariants as endeds;
-    ghost use Rattle.tk_words.specs.declared.text_reader.Step.TheVariants as steps;
+    ghost use Rattle.tk_words.specs.declared.sources.text_reader.Step.TheVariants as steps;
     ghost use Rattle.tk_words.specs.declared.keyword.Keyword.{Keyword};
     ghost use Rattle.tk_words.specs.Drive.{IsTold};
     ghost use Rattle.tk_lines.specs.Reader.{HasFed, HasWent, DecidesIf, Next, Within, this, no_word, a_line_end};

@@ -1,6 +1,6 @@
 //! Whole tokens of a section, one after the other.
 ghost use Rattle.std.specs.Prelude.{◌≡◌, ◌<◌, ◌^◌, ◌+◌, ℕ, List, length, Ok, IfOk, IfErr};
-ghost use Rattle.tk_words.specs.declared.text_reader.Run.TheVariants as runs;
+ghost use Rattle.tk_words.specs.declared.sources.text_reader.Run.TheVariants as runs;
 ghost use Rattle.tk_words.specs.Drive.{HasRun, IsToldWithin};
 ghost use Rattle.tk_lines.specs.Pieces.{decided_by};
 ghost use Rattle.tk_lines.specs.Reader.{Fed, anything};

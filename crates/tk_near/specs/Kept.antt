@@ -6,7 +6,7 @@ use Rattle.std.proofs.lemmas.List.Elements.{All-nil}
 use mathlib.Core.HLevel.{×_prop, Unit-prop}
 use Rattle.tk_near.specs.declared.candidates.Candidate.{Candidate}
 use Rattle.tk_near.specs.Keeping.{Climbing, open_place, rank}
-use Rattle.tk_near.specs.declared.keeper.One.{One}
+use Rattle.tk_near.specs.declared.plane.keeper.One.{One}
 
 -- the last of the kept
 abbrev pub last_of : List Candidate → Candidate

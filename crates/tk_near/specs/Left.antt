@@ -1,7 +1,7 @@
 -- Cities that are left: a row of them, out of which a city is taken.
 use Rattle.std.specs.Prelude.{◌≡◌, ◌≢◌, ℕ, ◌<◌, List, ◌∷◌, length, All, IsPermutation}
 use Rattle.tk_problem.specs.declared.point.Point.{Point}
-use Rattle.tk_near.specs.declared.placed.Placed.{Placed}
+use Rattle.tk_near.specs.declared.plane.placed.Placed.{Placed}
 use Rattle.tk_near.specs.Placed.{IsPlaced, city_at}
 
 -- the city is taken out of the row, which may stand in another order then

@@ -3,7 +3,7 @@ use Rattle.std.specs.Prelude.{◌≡◌, ◌≢◌, ℕ, ◌-ℤ◌, ◌≤ℤ�
 use Rattle.std.specs.Int.RustNames.{unsigned_abs}
 use Rattle.tk_problem.specs.declared.point.Point.{Point}
 use Rattle.tk_near.specs.declared.candidates.Candidate.{Candidate}
-use Rattle.tk_near.specs.declared.placed.Placed.{Placed}
+use Rattle.tk_near.specs.declared.plane.placed.Placed.{Placed}
 use Rattle.tk_distance.specs.Cities.{IsCity}
 use Rattle.tk_near.specs.Keeping.{KeepsFirst, open_place, rank}
 use Rattle.tk_near.specs.Placed.{IsAt, IsPlaced, city_at, nowhere}

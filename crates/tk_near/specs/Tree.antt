@@ -1,9 +1,9 @@
 -- A tree of parts of the cities, and what is kept of them.
 use Rattle.std.specs.Prelude.{ℕ, ◌≤ℤ◌, ◌+◌, ◌≤◌, ◌⊎◌, ◌==◌, if◌then◌else◌, List, [], ◌∷◌, ◌++◌, All, ⊤}
 use Rattle.tk_near.specs.declared.candidates.Candidate.{Candidate}
-use Rattle.tk_near.specs.declared.placed.Placed.{Placed}
-use Rattle.tk_near.specs.declared.tree.Frame.{Frame}
-use Rattle.tk_near.specs.declared.tree.Tree.{Tree, Leaf, Cut'}
+use Rattle.tk_near.specs.declared.plane.placed.Placed.{Placed}
+use Rattle.tk_near.specs.declared.plane.tree.Frame.{Frame}
+use Rattle.tk_near.specs.declared.plane.tree.Tree.{Tree, Leaf, Cut'}
 use Rattle.tk_near.specs.Keeping.{candidate, with_candidate, rank}
 use Rattle.tk_near.specs.Placed.{x_gap, y_gap}
 

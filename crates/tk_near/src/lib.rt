@@ -3,19 +3,14 @@
 #![tactic(auto)]
 
 mod candidates;
-mod halve;
-mod keeper;
-mod left;
 mod near;
-mod placed;
-mod sweep;
+mod plane;
 mod table;
-mod tree;
 
 pub use candidates::measure;
-pub use left::{Found, Left};
 pub use near::{Near, near_lists_agree, near_scan};
-pub use placed::Placed;
-pub use sweep::{near_sweep, order_by_x};
+pub use plane::left::{Found, Left};
+pub use plane::placed::Placed;
+pub use plane::sweep::{near_sweep, order_by_x};
+pub use plane::tree::near_tree;
 pub use table::near_lists;
-pub use tree::near_tree;

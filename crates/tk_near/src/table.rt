@@ -4,7 +4,7 @@ ghost use Rattle.tk_distance.specs.Tables.{table_size, table_distance};
 ghost use Rattle.tk_near.specs.Near.{AreNearest};
 
 use crate::near::{Near, near_scan};
-use crate::tree::near_tree;
+use crate::plane::tree::near_tree;
 use std::alloc::{AllocError, Global};
 use tk_distance::Table;
 

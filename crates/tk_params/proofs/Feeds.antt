@@ -6,8 +6,8 @@ use Rattle.tk_lines.proofs.MiddleOfLine.{prepend-nil}
 use Rattle.tk_lines.proofs.LineSteps.{line_behind-byte, line_behind-LF}
 use Rattle.tk_lines.proofs.Headers.ByteRuns.{behind-all, behind-on}
 use Rattle.tk_lines.specs.Scan.{IsEmpty}
-use Rattle.tk_words.specs.declared.text_reader.Step.{Step}
-use Rattle.tk_words.specs.declared.text_reader.Step.TheVariants as steps
+use Rattle.tk_words.specs.declared.sources.text_reader.Step.{Step}
+use Rattle.tk_words.specs.declared.sources.text_reader.Step.TheVariants as steps
 use Rattle.tk_words.specs.Drive.{Decides}
 use Rattle.tk_words.specs.Lex.{is_blank, is_word_byte, behind, lines}
 use Rattle.tk_params.proofs.Steps.{push_open, from_byte, from_over, from_eof, from_end_eof, from_open, from_LF, from_LF_fault, from_end, from_end_fault}

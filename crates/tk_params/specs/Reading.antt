@@ -1,7 +1,7 @@
 -- A parameter reader's place in a text.
 use Rattle.std.specs.Prelude.{◌≡◌, ◌≤◌, ℕ, Bool, false, not, ◌&&◌, List, ◌++◌, length, Option, Some, None, Result, Err}
-use Rattle.tk_words.specs.declared.text_reader.Step.{Step}
-use Rattle.tk_words.specs.declared.text_reader.Step.TheVariants as steps
+use Rattle.tk_words.specs.declared.sources.text_reader.Step.{Step}
+use Rattle.tk_words.specs.declared.sources.text_reader.Step.TheVariants as steps
 use Rattle.tk_words.specs.declared.fault.TextFault.{TextFault}
 use Rattle.tk_words.specs.Drive.{line_behind}
 use Rattle.tk_words.specs.Lex.{is_blank, is_empty, behind, lines}

@@ -4,7 +4,7 @@ use Rattle.std.specs.Prelude.{flat_map, map, codes, decimal, if◌then◌else◌
 use Rattle.std.specs.List.{range_with_len, concat}
 use Rattle.std.proofs.lemmas.List.FromFn.{length-range_with_len}
 use Rattle.std.proofs.lemmas.List.{length-map}
-use Rattle.tk_writers.proofs.NumberLengths.{length_decimal, length_flat_map}
+use Rattle.tk_writers.proofs.Pieces.NumberLengths.{length_decimal, length_flat_map}
 use Rattle.tk_writers.specs.Written.{line}
 use Rattle.tk_routes.specs.Cvrps.{instance_of}
 use Rattle.tk_routes.specs.Instance.{Instance, customer_count, node_of}

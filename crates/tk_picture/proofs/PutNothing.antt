@@ -1,6 +1,6 @@
 -- A pen into which nothing is put.
 use Rattle.std.proofs.Common.{ℕ, Bool, List, [], Option, refl, subst, sym, append-nil}
-use Rattle.tk_writers.specs.declared.pen.Pen.{Pen}
+use Rattle.tk_writers.specs.declared.output.pen.Pen.{Pen}
 use Rattle.tk_writers.specs.Pens.{Holds, Puts}
 
 pub Puts-none : {W : Type 0} (taken : W → Option (List ℕ)) (broken : W → Bool) (p : Pen W) → Puts taken broken p p []

@@ -11,7 +11,7 @@ use Rattle.tk_problem_text.specs.declared.header_values.ProblemType.TheVariants 
 use Rattle.tk_problem_text.specs.declared.parts.Parts.{Parts}
 use Rattle.tk_lines.specs.Pieces.{Piece, has, tokens_in}
 use Rattle.tk_problem_text.specs.Parts.{HasParts}
-use Rattle.tk_problem_text.specs.Rows.{row_of, demand_rows}
+use Rattle.tk_problem_text.specs.Sections.Rows.{row_of, demand_rows}
 use Rattle.tk_problem_text.specs.Problem.{first_kind, over_capacity, weights_ends, routing_ends_of, problem_end, size_of, demands_of, depot_of, capacity_of, problem_type}
 
 -- a node whose demand a vehicle holds

@@ -16,9 +16,9 @@ use Rattle.tk_problem_text.specs.Parts.{HasParts, KeepsValue, HasNoSection}
 use Rattle.tk_problem_text.specs.Problem.{size_of, format_in, points_of, lower_of, demands_of, depot_of}
 use Rattle.tk_problem_text.specs.HeaderValues.{number_of}
 use Rattle.std.specs.declared.alloc.Global.{Global}
-use Rattle.tk_problem_text.specs.Rows.{places_of, number_in}
-use Rattle.tk_problem_text.specs.Rows as Rows
-use Rattle.tk_problem_text.specs.WeightSection.{lower_weights}
+use Rattle.tk_problem_text.specs.Sections.Rows.{places_of, number_in}
+use Rattle.tk_problem_text.specs.Sections.Rows as Rows
+use Rattle.tk_problem_text.specs.Sections.WeightSection.{lower_weights}
 use Rattle.tk_lines.proofs.Pieces.PieceLookups.{tokens_in-new}
 use Rattle.tk_lines.proofs.Pieces.PieceValues.{has-section, value_of-section, tokens_in-append}
 use Rattle.tk_problem_text.proofs.KeptHeaders.{has_past}

@@ -21,7 +21,7 @@ use Rattle.tk_lines.specs.Scan.{first_word}
 use Rattle.tk_problem_text.specs.HeaderValues.{number_of, between}
 use Rattle.tk_problem.specs.Shape.{WeightsFit, IsRouting}
 use Rattle.tk_lines.specs.Pieces.{Piece, has, value_of, tokens_in}
-use Rattle.tk_problem_text.specs.Rows.{row_of, place_rows, demand_rows}
+use Rattle.tk_problem_text.specs.Sections.Rows.{row_of, place_rows, demand_rows}
 use Rattle.tk_problem.specs.Places.{origin}
 use Rattle.tk_problem_text.specs.Parts.{HasParts, IsWhole, MakesWeights, MakesRouting, weights_in, routing_in, problem_in}
 use Rattle.tk_problem_text.specs.Problem.{first_kind, over_capacity, weights_ends, routing_ends, routing_ends_of, problem_end, problem_value, problem_type, weight_type, size_of, points_of, lower_of, demands_of, depot_of, capacity_of, is_explicit, is_cvrp}

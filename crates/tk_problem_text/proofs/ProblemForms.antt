@@ -5,22 +5,22 @@ use Rattle.tk_words.specs.declared.keyword.Keyword.{Keyword}
 use Rattle.tk_words.specs.declared.keyword.Keyword.TheVariants as words
 use Rattle.tk_lines.specs.declared.form.Taken.{Taken}
 use Rattle.tk_lines.specs.declared.form.Taken.TheVariants.{More, Last, Ending, Eof}
-use Rattle.tk_problem_text.specs.declared.depot.Depot.{Depot}
-use Rattle.tk_problem_text.specs.declared.open_section.OpenSection.{OpenSection}
-use Rattle.tk_problem_text.specs.declared.open_section.OpenSection.TheVariants.{Nothing, Places, Explicit, Loads, Home, Display}
+use Rattle.tk_problem_text.specs.declared.sections.depot.Depot.{Depot}
+use Rattle.tk_problem_text.specs.declared.sections.open_section.OpenSection.{OpenSection}
+use Rattle.tk_problem_text.specs.declared.sections.open_section.OpenSection.TheVariants.{Nothing, Places, Explicit, Loads, Home, Display}
 use Rattle.tk_words.specs.Lex.{Token, is_empty}
 use Rattle.tk_lines.specs.Pieces.{Piece, After, Early, Fault, Format, has}
 use Rattle.tk_lines.specs.Forms.{a_section, Goes, HasTaken}
 use Rattle.std.specs.Prelude.{map, slice_index}
-use Rattle.tk_problem_text.specs.Rows.{number_in}
+use Rattle.tk_problem_text.specs.Sections.Rows.{number_in}
 use Rattle.tk_problem_text.specs.Problem.{size_of, problem_format}
-use Rattle.tk_problem_text.specs.Coordinates.{Placing, HasPlaces}
-use Rattle.tk_problem_text.specs.Demands.{Loading, HasDemands}
-use Rattle.tk_problem_text.specs.DepotTaken.{IsDepot}
-use Rattle.tk_problem_text.specs.OpenSections.{IsOpen, IsPast, IsFirst}
-use Rattle.tk_problem_text.proofs.DepotTaken.{node_of}
-use Rattle.tk_problem_text.proofs.FixedSections as Fixed
-use Rattle.tk_problem_text.proofs.DepotList as Home
+use Rattle.tk_problem_text.specs.Sections.Coordinates.{Placing, HasPlaces}
+use Rattle.tk_problem_text.specs.Sections.Demands.{Loading, HasDemands}
+use Rattle.tk_problem_text.specs.Sections.DepotTaken.{IsDepot}
+use Rattle.tk_problem_text.specs.Sections.OpenSections.{IsOpen, IsPast, IsFirst}
+use Rattle.tk_problem_text.proofs.SectionTokens.DepotTaken.{node_of}
+use Rattle.tk_problem_text.proofs.SectionTokens.FixedSections as Fixed
+use Rattle.tk_problem_text.proofs.SectionTokens.DepotList as Home
 use Rattle.tk_problem_text.proofs.PartsWhole.{some_of}
 
 -- ---- after a section

@@ -21,11 +21,11 @@ use Rattle.tk_problem_text.specs.declared.header_values.WeightFormat.TheVariants
 use Rattle.tk_lines.specs.Scan.{first_word}
 use Rattle.tk_lines.specs.Pieces.{Piece, Extent, Stop, first_at, or_else, After, has, value_of, tokens_in, Format, decided_by}
 use Rattle.tk_words.specs.Entry.{number_tests}
-use Rattle.tk_problem_text.specs.Rows.{place_tests, demand_tests, places_of, number_in}
-use Rattle.tk_problem_text.specs.WeightSection.{weight_count, weight_tests, lower_weights}
-use Rattle.tk_problem_text.specs.Rows as Rows
-use Rattle.tk_problem_text.specs.FixedSections.{tokens_stop, fixed_extent, fixed_end}
-use Rattle.tk_problem_text.specs.DepotList.{depot_tests, depot_extent, depot_entries, depot_end}
+use Rattle.tk_problem_text.specs.Sections.Rows.{place_tests, demand_tests, places_of, number_in}
+use Rattle.tk_problem_text.specs.Sections.WeightSection.{weight_count, weight_tests, lower_weights}
+use Rattle.tk_problem_text.specs.Sections.Rows as Rows
+use Rattle.tk_problem_text.specs.Sections.FixedSections.{tokens_stop, fixed_extent, fixed_end}
+use Rattle.tk_problem_text.specs.Sections.DepotList.{depot_tests, depot_extent, depot_entries, depot_end}
 
 -- ---- what the headers say
 

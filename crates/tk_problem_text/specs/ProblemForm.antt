@@ -7,7 +7,7 @@ use Rattle.tk_words.specs.Lex.{Token}
 use Rattle.tk_lines.specs.Pieces.{Piece, has}
 use Rattle.tk_problem_text.specs.Parts.{HasParts, IsWhole, problem_in}
 use Rattle.tk_problem_text.specs.Problem.{ProblemIs}
-use Rattle.tk_problem_text.specs.OpenSections.{IsOpen}
+use Rattle.tk_problem_text.specs.Sections.OpenSections.{IsOpen}
 
 abbrev pub ProblemHolds : ProblemForm → List Piece → Type 0
 ProblemHolds s before = HasParts s.parts before

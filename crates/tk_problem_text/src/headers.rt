@@ -10,11 +10,11 @@ ghost use Rattle.tk_problem_text.specs.Problem.{problem_header};
 ghost use Rattle.tk_lines.specs.Scan.{Scans};
 ghost use Rattle.tk_words.specs.Lex.{trim, after_word};
 
-use crate::demands::LOAD_LIMIT;
 use crate::header_values::{
     ProblemType, WeightFormat, WeightType, is_coordinate_type, problem_type_of, weight_format_of,
     weight_type_of,
 };
+use crate::sections::demands::LOAD_LIMIT;
 use std::alloc::{AllocError, Global};
 use tk_lines::Scan;
 use tk_words::{Keyword, TextKind};

@@ -32,8 +32,8 @@ impl Parts {
     ghost use Rattle.tk_words.specs.Lex.{Token};
     ghost use Rattle.tk_lines.specs.Pieces.{After, has};
     ghost use Rattle.tk_lines.specs.Forms.{a_section};
-    ghost use Rattle.tk_problem_text.specs.Rows.{places_of, demands_of, number_in};
-    ghost use Rattle.tk_problem_text.specs.WeightSection.{lower_weights};
+    ghost use Rattle.tk_problem_text.specs.Sections.Rows.{places_of, demands_of, number_in};
+    ghost use Rattle.tk_problem_text.specs.Sections.WeightSection.{lower_weights};
     ghost use Rattle.tk_problem_text.specs.Problem.{size_of, format_in};
     ghost use Rattle.tk_problem_text.specs.Parts.{HasParts, IsWhole, problem_is, problem_in};
 

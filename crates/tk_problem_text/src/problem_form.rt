@@ -2,15 +2,15 @@
 ghost use Rattle.std.specs.Prelude.{◌≡◌, ◌≤◌, ℕ, true, false, List, [], length, IfOk, IfErr};
 ghost use Rattle.tk_words.specs.declared.keyword.Keyword.{Keyword};
 ghost use Rattle.tk_words.specs.declared.keyword.Keyword.TheVariants as words;
-ghost use Rattle.tk_problem_text.specs.OpenSections.{IsPast};
+ghost use Rattle.tk_problem_text.specs.Sections.OpenSections.{IsPast};
 ghost use Rattle.tk_problem_text.specs.Parts.{HasParts, problem_is};
 ghost use Rattle.tk_lines.specs.Pieces.{Piece, has};
 ghost use Rattle.tk_problem_text.specs.Problem.{ProblemIs, problem_format};
 ghost use Rattle.tk_problem_text.specs.ProblemForm.{ProblemHolds, ProblemWants, problem_held, IsComplete};
 
-use crate::begin::begin;
-use crate::open_section::OpenSection;
 use crate::parts::Parts;
+use crate::sections::begin::begin;
+use crate::sections::open_section::OpenSection;
 use std::alloc::{AllocError, Global};
 use std::mem;
 use tk_lines::{Form, Scan, Taken};

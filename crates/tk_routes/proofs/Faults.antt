@@ -6,8 +6,8 @@ use Rattle.std.proofs.lemmas.List.{take_more, take_all}
 use Rattle.tk_distance.specs.Cities.{IsCity}
 use Rattle.tk_routes.specs.RouteVerdicts.{AreServedOnce, IsCustomerFault, StandsAt}
 use Rattle.tk_routes.specs.Serving.{AreServed}
-use Rattle.tk_routes.specs.declared.verdict.RouteVerdict.{RouteVerdict}
-use Rattle.tk_routes.specs.declared.verdict.RouteVerdict.TheVariants.{BadCustomer, ServedTwice}
+use Rattle.tk_routes.specs.declared.claims.verdict.RouteVerdict.{RouteVerdict}
+use Rattle.tk_routes.specs.declared.claims.verdict.RouteVerdict.TheVariants.{BadCustomer, ServedTwice}
 use Rattle.tk_routes.proofs.CutLists.{cut_at, cut_map, concat-take_more}
 use Rattle.tk_routes.proofs.Served.{AreServed-more, served_before}
 

@@ -1,14 +1,7 @@
 pub mod Costs
 pub mod CutLists
-pub mod DescendedRoutes
-pub mod Exchanged
 pub mod Faults
 pub mod Filled
-pub mod ImprovedSteps
-pub mod Merged
-pub mod Nodes
-pub mod ReadOffs
-pub mod Renumbered
+pub mod Improving
 pub mod RouteSteps
-pub mod RowsRead
 pub mod Served

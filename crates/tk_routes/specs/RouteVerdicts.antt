@@ -10,8 +10,8 @@ use Rattle.tk_distance.specs.Cities.{IsCity}
 use Rattle.tk_tour.specs.Tour.{occurrences}
 use Rattle.tk_routes.specs.Instance.{Instance, customer_count}
 use Rattle.tk_routes.specs.Routes.{AreRoutes, IsLight, route_load, routes_cost}
-use Rattle.tk_routes.specs.declared.verdict.RouteVerdict.{RouteVerdict}
-use Rattle.tk_routes.specs.declared.verdict.RouteVerdict.TheVariants.{Valid, BadCustomer, ServedTwice, OverCapacity, NotServed, WrongCost}
+use Rattle.tk_routes.specs.declared.claims.verdict.RouteVerdict.{RouteVerdict}
+use Rattle.tk_routes.specs.declared.claims.verdict.RouteVerdict.TheVariants.{Valid, BadCustomer, ServedTwice, OverCapacity, NotServed, WrongCost}
 
 -- x stands on the r-th route, from 1, and `earlier` are the customers before it in the order of the text
 pub record StandsAt (routes : List (List ℕ)) (r x : ℕ) (earlier : List ℕ) : Type 0 where

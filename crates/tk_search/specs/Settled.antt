@@ -2,8 +2,8 @@
 use Rattle.std.specs.Prelude.{◌≡◌}
 use Rattle.tk_tour.specs.ArrayTours.{order_of}
 use Rattle.tk_tour.specs.JournalTours.{tour_of, flips_since, settled_order, swaps_to_rewind}
-use Rattle.tk_tour.specs.declared.array.ArrayTour.{ArrayTour}
-use Rattle.tk_tour.specs.declared.journal.JournalTour.{JournalTour}
+use Rattle.tk_tour.specs.declared.stores.array.ArrayTour.{ArrayTour}
+use Rattle.tk_tour.specs.declared.stores.journal.JournalTour.{JournalTour}
 
 -- the tour stands as the best does, and is settled there
 pub record IsAtBest (tour : JournalTour) (best : ArrayTour) : Type 0 where

@@ -6,8 +6,8 @@
 use Rattle.std.specs.Prelude.{◌≡◌, ℕ, ◌+◌, ◌-◌, ◌*◌, ◌/◌, ◌^◌, ◌<◌, ◌≤◌, pos, ◌≤ℤ◌, min, true, false, if◌then◌else◌}
 use Rattle.tk_tour.specs.ArrayTours.{swaps_of, undo_swaps_of, copied_of}
 use Rattle.tk_tour.specs.JournalTours.{tour_of}
-use Rattle.tk_tour.specs.declared.array.ArrayTour.{ArrayTour}
-use Rattle.tk_tour.specs.declared.journal.JournalTour.{JournalTour}
+use Rattle.tk_tour.specs.declared.stores.array.ArrayTour.{ArrayTour}
+use Rattle.tk_tour.specs.declared.stores.journal.JournalTour.{JournalTour}
 use Rattle.tk_search.specs.declared.trials.descending.SearchRules.{SearchRules}
 use Rattle.tk_search.specs.declared.trials.totals.Totals.{Totals}
 use Rattle.tk_search.specs.declared.trials.totals.TrialReport.{TrialReport}

@@ -5,7 +5,7 @@ use Rattle.tk_routes.specs.ImprovedRoutes.{AreImproved}
 use Rattle.tk_routes.specs.Instance.{Instance, customer_count}
 use Rattle.tk_routes.specs.Routes.{AreRoutes, routes_cost}
 use Rattle.tk_routes.specs.SavingsRoutes.{AreSavingsRoutes}
-use Rattle.tk_routes.specs.declared.route_report.RouteReport.{RouteReport}
+use Rattle.tk_routes.specs.declared.solving.route_report.RouteReport.{RouteReport}
 
 -- The routes of the savings merges over near lists of the nodes, each then improved by itself by a descent with all its
 -- nodes awake. Each customer is on one route, no load is over the capacity, and each move makes the cost less.

@@ -1,6 +1,6 @@
 -- The cities that a nearest-neighbour tour has not visited yet, as a row that has just them.
 use Rattle.std.specs.Prelude.{ℕ, ◌↔◌, List}
-use Rattle.tk_near.specs.declared.placed.Placed.{Placed}
+use Rattle.tk_near.specs.declared.plane.placed.Placed.{Placed}
 use Rattle.tk_distance.specs.Cities.{IsCity}
 use Rattle.tk_near.specs.Near.{IsFirst, IsNew}
 use Rattle.tk_near.specs.Left.{Stands}

@@ -5,7 +5,7 @@ use Rattle.tk_tour.specs.Counters.{saturated}
 use Rattle.tk_tour.specs.Reversal.{AreReversed}
 use Rattle.tk_tour.specs.Reversal.AreReversed.{none}
 use Rattle.tk_tour.specs.ReversalLaws.{AreReversed-append}
-use Rattle.tk_tour.specs.declared.array.ArrayTour.{ArrayTour}
+use Rattle.tk_tour.specs.declared.stores.array.ArrayTour.{ArrayTour}
 
 -- the cities in the order in which they stand
 abbrev pub order_of : ArrayTour → List ℕ

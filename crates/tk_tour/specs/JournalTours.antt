@@ -4,8 +4,8 @@ use Rattle.std.proofs.Common.{◌∙◌, arith}
 use Rattle.tk_tour.specs.ArrayTours.{order_of, swaps_of, undo_swaps_of, copied_of}
 use Rattle.tk_tour.specs.Counters.{saturated}
 use Rattle.tk_tour.specs.Journal.{undone, swaps_to_undo}
-use Rattle.tk_tour.specs.declared.array.ArrayTour.{ArrayTour}
-use Rattle.tk_tour.specs.declared.journal.JournalTour.{JournalTour}
+use Rattle.tk_tour.specs.declared.stores.array.ArrayTour.{ArrayTour}
+use Rattle.tk_tour.specs.declared.stores.journal.JournalTour.{JournalTour}
 
 abbrev pub tour_of : JournalTour → ArrayTour
 tour_of journal = journal.tour

@@ -2,18 +2,16 @@
 //! journals that undo reversals.
 #![tactic(auto)]
 
-mod array;
 mod fault;
-mod journal;
 pub mod laws;
 mod measure;
-mod reversal;
 mod store;
+mod stores;
 mod verdict;
 
-pub use array::ArrayTour;
 pub use fault::TourFault;
-pub use journal::JournalTour;
 pub use measure::length;
 pub use store::{Flip, TourStore};
+pub use stores::array::ArrayTour;
+pub use stores::journal::JournalTour;
 pub use verdict::{Verdict, check};

@@ -1,8 +1,6 @@
 pub mod Bools
-pub mod Digits
 pub mod Driving
-pub mod MinusOne
 pub mod NoWord
-pub mod Numbers
+pub mod NumberLaws
 pub mod Spelling
 pub mod Told

@@ -3,10 +3,10 @@ use Rattle.std.specs.Prelude.{◌≡◌, ℕ, suc, ◌≤◌, Bool, true, false,
 use Rattle.tk_words.specs.declared.fault.TextKind.{TextKind}
 use Rattle.tk_words.specs.declared.fault.TextKind.TheVariants as kinds
 use Rattle.tk_words.specs.declared.fault.TextFault.{TextFault}
-use Rattle.tk_words.specs.declared.text_reader.Step.{Step}
-use Rattle.tk_words.specs.declared.text_reader.Step.TheVariants as steps
-use Rattle.tk_words.specs.declared.text_reader.Run.{Run}
-use Rattle.tk_words.specs.declared.text_reader.Run.TheVariants as runs
+use Rattle.tk_words.specs.declared.sources.text_reader.Step.{Step}
+use Rattle.tk_words.specs.declared.sources.text_reader.Step.TheVariants as steps
+use Rattle.tk_words.specs.declared.sources.text_reader.Run.{Run}
+use Rattle.tk_words.specs.declared.sources.text_reader.Run.TheVariants as runs
 
 -- what bytes say, of which true says that none come after them; None where more decide
 abbrev pub Decided : Type 0 → Type 0

@@ -2,8 +2,8 @@
 use Rattle.std.specs.Prelude.{◌≡◌, ◌≢◌, ℕ, suc, ◌≤◌, IfSome, Bool, true, false, nat_le, List, [], ◌++◌, length, take, Option, Some, Result, Ok, Err, if◌then◌else◌, unwrap_or}
 use Rattle.tk_words.specs.declared.fault.TextKind.TheVariants as kinds
 use Rattle.tk_words.specs.declared.fault.TextFault.{TextFault}
-use Rattle.tk_words.specs.declared.text_reader.Step.{Step}
-use Rattle.tk_words.specs.declared.text_reader.Step.TheVariants as steps
+use Rattle.tk_words.specs.declared.sources.text_reader.Step.{Step}
+use Rattle.tk_words.specs.declared.sources.text_reader.Step.TheVariants as steps
 use Rattle.tk_words.specs.Drive.{Decided, line_behind}
 
 -- the most bytes of a text

@@ -1,11 +1,8 @@
 pub mod Lengths
 pub mod MatrixLines
-pub mod NumberLengths
-pub mod PutEach
-pub mod Putting
+pub mod Pieces
 pub mod ReadBack
 pub mod Saying
 pub mod SolutionReadBack
 pub mod TourReadBack
-pub mod Writing
 pub mod Written

@@ -7,16 +7,16 @@ use Rattle.std.proofs.lemmas.List.{length-map, length-append}
 use Rattle.tk_words.specs.declared.keyword.Keyword.TheVariants as words
 use Rattle.tk_problem.specs.declared.weights.Format.{Format}
 use Rattle.tk_problem.specs.declared.weights.Format.TheVariants as formats
-use Rattle.tk_problem_text.specs.FixedSections.{tokens_stop, fixed_extent}
+use Rattle.tk_problem_text.specs.Sections.FixedSections.{tokens_stop, fixed_extent}
 use Rattle.tk_words.specs.Lex.{Line, Token, is_blank, behind, lines, tokens, tokens_of}
 use Rattle.tk_writers.specs.MatrixText.{format_word, matrix_text, number_line}
 use Rattle.tk_lines.specs.Pieces.{Piece, Section, Clean, end_piece, end_token, last_line, pieces_at, section_at, stop, or_else, first_at}
 use Rattle.tk_problem_text.specs.Problem.{ProblemIs, Lower, problem_decided, problem_format, problem_value, wanted, size_of, format_in, listed_format, token_tests, word_tests}
-use Rattle.tk_problem_text.specs.Rows.{number_in}
+use Rattle.tk_problem_text.specs.Sections.Rows.{number_in}
 use Rattle.tk_problem_text.specs.Names.{IsName}
 use Rattle.tk_writers.specs.ReadBack.{IsTable, ReadsBack, lower_triangle}
 use Rattle.tk_problem.specs.WeightOrder.{order}
-use Rattle.tk_problem_text.specs.WeightSection.{weight_count, weight_tests, lower_weights}
+use Rattle.tk_problem_text.specs.Sections.WeightSection.{weight_count, weight_tests, lower_weights}
 use Rattle.tk_words.specs.Words.{keyword_of, section_word, rest_word}
 use Rattle.tk_writers.specs.Written.{line}
 use Rattle.tk_lines.proofs.Sections.SectionEnds.{take_whole}

@@ -1,8 +1,8 @@
 -- What is put into a pen.
 use Rattle.std.specs.Prelude.{◌≡◌, ℕ, Bool, List, ◌++◌, Option, Result, MatchResult}
 use Rattle.std.specs.Io.KnownBytes.{Appends}
-use Rattle.tk_writers.specs.declared.pen.Pen.{Pen}
-use Rattle.tk_writers.specs.declared.pen.WriteFault.{WriteFault}
+use Rattle.tk_writers.specs.declared.output.pen.Pen.{Pen}
+use Rattle.tk_writers.specs.declared.output.pen.WriteFault.{WriteFault}
 use Rattle.tk_writers.specs.Puts.{IsPut, Stops}
 
 -- a text was put into a pen

@@ -1,7 +1,7 @@
 -- What has gone out of a text that is put piece by piece.
 use Rattle.std.specs.Prelude.{◌≡◌, ℕ, ◌≤◌, ◌<◌, ◌^◌, ◌⊎◌, Bool, true, false, List, length, take, drop, Option, Result, MatchResult}
 use Rattle.std.specs.Io.KnownBytes.{Appends}
-use Rattle.tk_writers.specs.declared.pen.WriteFault.{WriteFault}
+use Rattle.tk_writers.specs.declared.output.pen.WriteFault.{WriteFault}
 
 -- a text was put: its first bytes are in a sink w after `start`, and the others wait on a page, or it has stopped
 -- it stops where a write fails (or where a page would go out after 2^63 bytes); `failed` is whether one had failed

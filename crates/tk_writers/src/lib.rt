@@ -3,15 +3,13 @@
 #![tactic(auto)]
 
 mod matrix;
-mod page;
-mod pen;
-mod sink;
+mod output;
 mod solution_writer;
 mod tour_writer;
 
 pub use matrix::{format_of, write_matrix};
-pub use page::Page;
-pub use pen::{Pen, WriteFault};
-pub use sink::{Sink, ToWrite};
+pub use output::page::Page;
+pub use output::pen::{Pen, WriteFault};
+pub use output::sink::{Sink, ToWrite};
 pub use solution_writer::write_solution;
 pub use tour_writer::write_tour;

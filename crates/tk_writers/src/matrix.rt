@@ -9,8 +9,8 @@ ghost use Rattle.tk_writers.specs.Puts.{Writes};
 ghost use Rattle.tk_problem_text.specs.Names.{IsName};
 ghost use Rattle.tk_writers.specs.ReadBack.{IsTable, ReadsBack};
 
-use crate::pen::{Pen, WriteFault};
-use crate::sink::Sink;
+use crate::output::pen::{Pen, WriteFault};
+use crate::output::sink::Sink;
 use tk_problem::Format;
 
 /// The word of a format.

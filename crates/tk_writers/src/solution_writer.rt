@@ -7,8 +7,8 @@ ghost use Rattle.tk_writers.specs.Puts.{Writes};
 ghost use Rattle.tk_writers.specs.ReadBack.{IsSolution, SolutionReadsBack};
 ghost use Rattle.tk_writers.specs.SolutionWritten.{route_line, route_lines, solution_text};
 
-use crate::pen::{Pen, WriteFault};
-use crate::sink::Sink;
+use crate::output::pen::{Pen, WriteFault};
+use crate::output::sink::Sink;
 
 /// Writes a route's line.
 fn put_route<W: Sink>(pen: &mut Pen<'_, W>, number: u64, customers: &[u32])

@@ -7,8 +7,8 @@ ghost use Rattle.tk_writers.specs.ReadBack.{IsTour, TourReadsBack};
 ghost use Rattle.tk_writers.specs.TourWritten.{tour_head, tour_text};
 ghost use Rattle.tk_writers.specs.Written.{line};
 
-use crate::pen::{Pen, WriteFault};
-use crate::sink::Sink;
+use crate::output::pen::{Pen, WriteFault};
+use crate::output::sink::Sink;
 
 /// Writes the lines before the cities.
 fn put_tour_head<W: Sink>(pen: &mut Pen<'_, W>, name: &[u8], size: u64, cities: u64)

@@ -1,11 +1,13 @@
 //! A whole call of the program.
 
-use crate::check::check_command;
-use crate::checksol::checksol_command;
-use crate::matrix::matrix_command;
-use crate::near::near_command;
+use crate::commands::check::check_command;
+use crate::commands::checksol::checksol_command;
+use crate::commands::matrix::matrix_command;
+use crate::commands::near::near_command;
+use crate::commands::plot::plot_command;
+use crate::commands::solve::solve_command;
 use crate::words::words_of_call;
-use crate::{plot_command, report, solve_command};
+use crate::report;
 use std::process::ExitCode;
 use tk_command_line::{Asked, parse};
 
@@ -28,7 +30,7 @@ fn run(rt: &HostRuntime, asked: Asked<'_>) -> ExitCode {
         Asked::Checksol { problem, solution } => checksol_command(rt, problem, solution),
         Asked::Matrix { problem, format } => matrix_command(rt, problem, format),
         Asked::Near { problem, length } => near_command(rt, problem, length),
-        Asked::Plot { problem, claim } => plot_command::run(rt, problem, claim),
-        Asked::Solve { parameters } => solve_command::run(rt, parameters),
+        Asked::Plot { problem, claim } => plot_command(rt, problem, claim),
+        Asked::Solve { parameters } => solve_command(rt, parameters),
     }
 }

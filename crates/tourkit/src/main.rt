@@ -2,16 +2,11 @@
 #![tactic(auto)]
 
 mod call;
-mod check;
-mod checksol;
+mod commands;
 mod input;
-mod matrix;
-mod near;
 mod output;
-mod plot_command;
 mod progress;
 mod report;
-mod solve_command;
 mod words;
 
 use std::process::ExitCode;

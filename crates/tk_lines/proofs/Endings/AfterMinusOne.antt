@@ -14,7 +14,7 @@ use Rattle.tk_lines.proofs.Sections.MiddleOfSection.{run_head}
 use Rattle.tk_lines.proofs.Sections.SectionEnds.{first_line, take_whole, in_section-closed}
 use Rattle.tk_lines.proofs.Sections.SectionBytes.{in_section-token, front_token, get_behind, split_at}
 use Rattle.tk_lines.proofs.Endings.TextEnds.{at_none, tokens_of-open, get_end, take_all}
-use Rattle.tk_words.proofs.MinusOne.{begins_minus, no_more, no_more_with_one, other_begins}
+use Rattle.tk_words.proofs.NumberLaws.MinusOne.{begins_minus, no_more, no_more_with_one, other_begins}
 use Rattle.tk_lines.proofs.Endings.MinusOneSteps.{after_byte}
 use Rattle.tk_lines.proofs.Sections.SectionSteps.{run_more}
 use Rattle.tk_words.specs.Words.{begins_word}

@@ -15,7 +15,7 @@ use Rattle.tk_lines.proofs.Sections.SectionBytes.{in_section-drop, in_section-tr
 use Rattle.tk_lines.proofs.LineSteps.{says_byte}
 use Rattle.tk_lines.proofs.Lines.{blank_letter}
 use Rattle.tk_lines.proofs.Sections.SectionSteps.{same_now, last_is}
-use Rattle.tk_words.proofs.MinusOne.{other_integer}
+use Rattle.tk_words.proofs.NumberLaws.MinusOne.{other_integer}
 
 letter_more : (b n : ℕ) (y : List ℕ) (w : Bool) (more : List Token) → is_letter b ≡ true → one_more (record { bytes = b ∷ y; line = n; whole = w } ∷ more) ≡ 0
 letter_more b n y w more h = let other = no_minus (eqb b 45) refl in rw (other_integer b y other, other_integer b (y ++ 49 ∷ []) other) (by_whole w)

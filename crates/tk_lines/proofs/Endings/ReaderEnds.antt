@@ -5,8 +5,8 @@ use Rattle.tk_words.specs.declared.keyword.Keyword.{Keyword}
 use Rattle.tk_words.specs.declared.fault.TextKind.{TextKind}
 use Rattle.tk_words.specs.declared.fault.TextFault.{TextFault}
 use Rattle.tk_lines.specs.declared.scan.Scan.{Scan}
-use Rattle.tk_words.specs.declared.text_reader.Step.{Step}
-use Rattle.tk_words.specs.declared.text_reader.Step.TheVariants as steps
+use Rattle.tk_words.specs.declared.sources.text_reader.Step.{Step}
+use Rattle.tk_words.specs.declared.sources.text_reader.Step.TheVariants as steps
 use Rattle.tk_lines.specs.declared.reader.PieceReader.{PieceReader}
 use Rattle.tk_lines.specs.declared.place.Place.{Place}
 use Rattle.tk_lines.specs.declared.place.Place.TheVariants as places

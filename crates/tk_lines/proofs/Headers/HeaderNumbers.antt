@@ -10,7 +10,7 @@ use Rattle.tk_words.specs.Lex.{integer}
 use Rattle.tk_words.specs.Words.{spells}
 use Rattle.tk_lines.specs.Pieces.{first_at, Fault}
 use Rattle.tk_words.specs.Entry.{in_range, number_tests, IsNumber}
-use Rattle.tk_words.proofs.MinusOne.{integer_long}
+use Rattle.tk_words.proofs.NumberLaws.MinusOne.{integer_long}
 
 pub spells-take : (k : ℕ) (w text : List ℕ) → length text < k → spells (take k w) text ≡ spells w text
 spells-take zero w text h = absurd (omega arith)

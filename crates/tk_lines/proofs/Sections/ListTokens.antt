@@ -5,7 +5,7 @@ use Rattle.tk_words.specs.Words.{keyword_of}
 use Rattle.tk_words.specs.MinusOne.{is_ending}
 use Rattle.tk_words.specs.Entry.{is_eof, without_colon}
 use Rattle.tk_words.proofs.NoWord.{keyword_of-long}
-use Rattle.tk_words.proofs.MinusOne.{integer_long}
+use Rattle.tk_words.proofs.NumberLaws.MinusOne.{integer_long}
 
 -- a token that is too long ends no list, and neither does one that may go on
 pub long_goes : (t : Token) → 64 < length t.bytes → (is_ending t ≡ false) × ((t.whole && is_eof t.bytes) ≡ false)

@@ -5,7 +5,7 @@ use Rattle.std.proofs.lemmas.List.{append-nil, get_or-drop, get_or-take, length-
 use Rattle.tk_distance.specs.Cities.{city_at}
 use Rattle.tk_tour.specs.Moves.{CutInFour, IsBridged}
 use Rattle.tk_tour.specs.Tour.{IsPath, SameCycle, tour_length}
-use Rattle.tk_tour.proofs.Places.{IsPath-from_ends}
+use Rattle.tk_tour.proofs.StoredTours.Places.{IsPath-from_ends}
 use Rattle.tk_search.specs.Cuts.{AreCuts, bridged, end_places, part_a, part_b, part_c, part_d, steps_in, steps_out}
 use Rattle.tk_search.specs.declared.double_bridges.cuts.Cuts.{Cuts}
 use Rattle.tk_search.proofs.DoubleBridge.BridgeLength.{exchanged}

@@ -11,9 +11,9 @@ use Rattle.tk_tour.proofs.Tours.{HoldsOnce-from_distinct, length-distinct, lengt
 use Rattle.tk_starts.specs.NearestTour.{IsNearestPath, IsNearestTour}
 use Rattle.tk_starts.specs.Unvisited.{IsFirstLeft, AreAllVisited, AreVisited}
 use Rattle.tk_near.specs.Left.{AreApart, IsOtherIn, IsTakenOut, Stands}
-use Rattle.tk_near.proofs.LeftLaws.{Stands-old, Stands-new, gone}
-use Rattle.tk_near.specs.declared.left.Found.{Found}
-use Rattle.tk_near.specs.declared.placed.Placed.{Placed}
+use Rattle.tk_near.proofs.InPlane.LeftLaws.{Stands-old, Stands-new, gone}
+use Rattle.tk_near.specs.declared.plane.left.Found.{Found}
+use Rattle.tk_near.specs.declared.plane.placed.Placed.{Placed}
 use Rattle.tk_problem.specs.declared.point.Point.{Point}
 use Rattle.tk_starts.proofs.NearestCities.NearestTours.{path_city, path_apart}
 

@@ -11,7 +11,7 @@ use Rattle.tk_tour.specs.Tour.{IsTour}
 use Rattle.tk_tour.proofs.Tours.{IsTour-from_distinct}
 use Rattle.tk_starts.specs.NearestTour.{IsNearestTo, IsNearestTour, IsNearestPath}
 use Rattle.tk_near.specs.Keeping.{rank, candidate}
-use Rattle.tk_near.proofs.OneEach.{OneEach-swap}
+use Rattle.tk_near.proofs.InPlane.OneEach.{OneEach-swap}
 use Rattle.tk_near.proofs.Keeping.{closer_from_rank}
 
 -- what an exchange of two places keeps of a tour

@@ -6,7 +6,7 @@ use Rattle.tk_words.specs.Texts.{text_limit}
 use Rattle.tk_writers.specs.TourWritten.{tour_head, tour_text}
 use Rattle.tk_writers.specs.SolutionWritten.{route_line, route_lines, solution_text}
 use Rattle.tk_writers.specs.Written.{line, spaced_numbers}
-use Rattle.tk_writers.proofs.NumberLengths.{length_decimal, length_flat_map}
+use Rattle.tk_writers.proofs.Pieces.NumberLengths.{length_decimal, length_flat_map}
 
 length_tour_head : (name : List ℕ) (size cities : ℕ) → length (flat_map line (tour_head name size cities)) ≤ length name + 300
 length_tour_head name size cities =

@@ -5,7 +5,7 @@ use Rattle.std.specs.Prelude.{map, flat_map, codes, decimal}
 use Rattle.std.specs.List.{range_with_len, join_by}
 use Rattle.std.proofs.lemmas.List.FromFn.{length-range_with_len}
 use Rattle.std.proofs.lemmas.List.Sums.{length-filter, count_by-le-length}
-use Rattle.tk_writers.proofs.NumberLengths.{length_decimal, length_flat_map}
+use Rattle.tk_writers.proofs.Pieces.NumberLengths.{length_decimal, length_flat_map}
 use Rattle.tk_writers.specs.FormatLines.{on_line, place, has_entry}
 use Rattle.tk_writers.specs.MatrixText.{number_line, format_word, matrix_line, matrix_head, matrix_text}
 use Rattle.tk_problem.specs.declared.weights.Format.{Format}

@@ -5,7 +5,7 @@ use Rattle.std.specs.List.{AllByRecursion}
 use Rattle.tk_words.specs.Lex.{LF, Line, Token, onto_line, lines, tokens, integer}
 use Rattle.tk_lines.specs.Pieces.{Piece, Extents, cut, last_line}
 use Rattle.tk_writers.specs.MatrixText.{number_line}
-use Rattle.tk_problem_text.specs.Rows.{number_in}
+use Rattle.tk_problem_text.specs.Sections.Rows.{number_in}
 use Rattle.tk_words.specs.Entry.{natural_or_zero}
 use Rattle.tk_writers.specs.Written.{line, spaced_numbers}
 use Rattle.tk_lines.proofs.MiddleOfLine.{lines-byte, lines-LF}

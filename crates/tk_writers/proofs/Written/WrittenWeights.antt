@@ -11,18 +11,18 @@ use Rattle.tk_problem.specs.declared.weights.Format.TheVariants as formats
 use Rattle.tk_words.specs.Lex.{Token}
 use Rattle.tk_lines.specs.Pieces.{first_at}
 use Rattle.tk_words.specs.Entry.{is_keyword, is_some_word, natural_or_zero}
-use Rattle.tk_problem_text.specs.Rows.{number_in}
-use Rattle.tk_problem_text.specs.FixedSections.{tokens_stop, all_tests}
+use Rattle.tk_problem_text.specs.Sections.Rows.{number_in}
+use Rattle.tk_problem_text.specs.Sections.FixedSections.{tokens_stop, all_tests}
 use Rattle.tk_writers.specs.ReadBack.{IsTable, lower_triangle}
 use Rattle.tk_problem.specs.WeightOrder.{place, order, is_of, weight_of, entries, lower_of, times_written}
-use Rattle.tk_problem_text.specs.WeightSection.{weights_in, is_full, place_behind, weight_tests, lower_weights}
-use Rattle.tk_problem_text.proofs.FixedSections.{checked-ready, at_once, tokens_stop-none, IsReady}
+use Rattle.tk_problem_text.specs.Sections.WeightSection.{weights_in, is_full, place_behind, weight_tests, lower_weights}
+use Rattle.tk_problem_text.proofs.SectionTokens.FixedSections.{checked-ready, at_once, tokens_stop-none, IsReady}
 use Rattle.tk_words.proofs.NoWord.{integer-no_word}
 use Rattle.tk_problem.proofs.PairWeights.{origin, order-within, IsWithin, two_ways, same_number, is_of-above}
 use Rattle.tk_words.proofs.Bools.{or_true}
 use Rattle.tk_problem.proofs.Triangle.{place-lower, length-lower}
 use Rattle.tk_problem.proofs.WeightCounts.{flat_map-suc, pair-order}
-use Rattle.tk_problem_text.proofs.WeightTokens.{weight_on_diagonal, weight_once, weight_same}
+use Rattle.tk_problem_text.proofs.SectionTokens.WeightTokens.{weight_on_diagonal, weight_once, weight_same}
 use Rattle.tk_writers.proofs.Written.WrittenLines.{IsWritten, AreWritten}
 use Rattle.tk_writers.proofs.Written.WrittenPlaces.{at_place, triangle-order}
 

@@ -1,5 +1,5 @@
-use Rattle.tk_writers.proofs.PutEach.{flat_map_take}
-use Rattle.tk_writers.proofs.Putting.{Puts-then}
+use Rattle.tk_writers.proofs.Pieces.PutEach.{flat_map_take}
+use Rattle.tk_writers.proofs.Pieces.Putting.{Puts-then}
 use Rattle.tk_picture.specs.PictureText.{shown}
 use Rattle.tk_picture.proofs.caption.put_name.Goals as goal
 

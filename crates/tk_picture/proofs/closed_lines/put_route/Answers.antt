@@ -1,4 +1,4 @@
-use Rattle.tk_writers.proofs.Putting.{Puts-then}
+use Rattle.tk_writers.proofs.Pieces.Putting.{Puts-then}
 use Rattle.tk_picture.proofs.closed_lines.put_route.Goals as goal
 
 pub returns : goal.returns

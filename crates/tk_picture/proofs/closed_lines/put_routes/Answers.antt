@@ -1,7 +1,7 @@
 use Rattle.std.proofs.Common.{length, ap, subst, sym, arith, ◌∙◌, take, ◌+◌, ◌∷◌, [], length-append}
 use Rattle.std.specs.Prelude.{map}
 use Rattle.tk_writers.specs.Pens.{Puts}
-use Rattle.tk_writers.proofs.Putting.{Puts-then}
+use Rattle.tk_writers.proofs.Pieces.Putting.{Puts-then}
 use Rattle.tk_problem.specs.PlacesOf.{places_of}
 use Rattle.tk_routes.specs.Cvrps.{instance_of}
 use Rattle.tk_routes.specs.Instance.{customer_count}

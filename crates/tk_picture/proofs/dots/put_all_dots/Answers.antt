@@ -4,7 +4,7 @@ use Rattle.std.specs.List.{range_with_len}
 use Rattle.tk_writers.specs.Pens.{Puts}
 use Rattle.tk_problem.specs.PlacesOf.{places_of}
 use Rattle.tk_writers.proofs.MatrixLines.{lines_more}
-use Rattle.tk_writers.proofs.Putting.{Puts-then}
+use Rattle.tk_writers.proofs.Pieces.Putting.{Puts-then}
 use Rattle.tk_picture.specs.PictureText.{city_style, dot, spot}
 use Rattle.tk_picture.proofs.dots.put_all_dots.Goals as goal
 

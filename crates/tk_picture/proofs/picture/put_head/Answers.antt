@@ -1,6 +1,6 @@
 use Rattle.std.proofs.Common.{ap, subst}
 use Rattle.tk_writers.specs.Pens.{Puts}
-use Rattle.tk_writers.proofs.Putting.{Puts-then}
+use Rattle.tk_writers.proofs.Pieces.Putting.{Puts-then}
 use Rattle.tk_picture.specs.PictureText.{group_line, view_line}
 use Rattle.tk_picture.proofs.picture.put_head.Goals as goal
 

@@ -1,5 +1,5 @@
 use Rattle.std.proofs.Common.{rules, length, arith}
-use Rattle.tk_writers.proofs.Putting.{Writes-end, broken_at_err}
+use Rattle.tk_writers.proofs.Pieces.Putting.{Writes-end, broken_at_err}
 use Rattle.tk_problem.specs.PlacesOf.{places_of}
 use Rattle.tk_picture.specs.Pictures.{paths_of, text_of}
 use Rattle.tk_picture.proofs.PictureLength.{length_picture, paths_few}

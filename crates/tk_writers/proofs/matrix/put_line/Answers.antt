@@ -1,7 +1,7 @@
 use Rattle.std.proofs.Common.{subst, ap, ◌≡◌, ◌+◌, ◌<◌, decimal, arith}
 use Rattle.tk_writers.specs.Pens.{Puts}
 use Rattle.tk_writers.proofs.MatrixLines.{spaced_more, matrix_line-parts}
-use Rattle.tk_writers.proofs.Putting.{Puts-then}
+use Rattle.tk_writers.proofs.Pieces.Putting.{Puts-then}
 use Rattle.tk_writers.proofs.matrix.put_line.Goals as goal
 
 pub loop-m-preserved : goal.loop-m-preserved

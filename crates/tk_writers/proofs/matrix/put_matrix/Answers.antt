@@ -3,7 +3,7 @@ use Rattle.std.specs.List.{range_with_len}
 use Rattle.tk_writers.specs.MatrixText.{matrix_line}
 use Rattle.tk_writers.specs.Pens.{Puts}
 use Rattle.tk_writers.proofs.MatrixLines.{lines_more}
-use Rattle.tk_writers.proofs.Putting.{Puts-then}
+use Rattle.tk_writers.proofs.Pieces.Putting.{Puts-then}
 use Rattle.tk_writers.proofs.matrix.put_matrix.Goals as goal
 
 pub loop-k-preserved : goal.loop-k-preserved

@@ -2,7 +2,7 @@ use Rattle.std.proofs.Common.{rules}
 use Rattle.tk_writers.specs.MatrixText.{matrix_text}
 use Rattle.tk_writers.proofs.Lengths.MatrixLength.{length_matrix_text}
 use Rattle.tk_writers.proofs.ReadBack.{reads_back}
-use Rattle.tk_writers.proofs.Putting.{Writes-end, broken_at_err}
+use Rattle.tk_writers.proofs.Pieces.Putting.{Writes-end, broken_at_err}
 use Rattle.tk_writers.proofs.matrix.write_matrix.Goals as goal
 
 pub returns-clause-text : goal.returns-clause-text

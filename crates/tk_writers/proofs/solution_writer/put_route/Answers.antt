@@ -1,7 +1,7 @@
 use Rattle.std.proofs.Common.{subst}
 use Rattle.tk_writers.specs.Pens.{Puts}
 use Rattle.tk_writers.proofs.Written.LinePieces.{route_line-pieces}
-use Rattle.tk_writers.proofs.Putting.{Puts-then}
+use Rattle.tk_writers.proofs.Pieces.Putting.{Puts-then}
 use Rattle.tk_writers.proofs.solution_writer.put_route.Goals as goal
 
 pub returns : goal.returns

@@ -1,5 +1,5 @@
 use Rattle.tk_writers.proofs.Written.LinePieces.{route_lines_take}
-use Rattle.tk_writers.proofs.Putting.{Puts-then}
+use Rattle.tk_writers.proofs.Pieces.Putting.{Puts-then}
 use Rattle.tk_writers.proofs.solution_writer.put_routes.Goals as goal
 
 pub loop-i-preserved : goal.loop-i-preserved

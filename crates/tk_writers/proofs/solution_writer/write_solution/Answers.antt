@@ -5,7 +5,7 @@ use Rattle.std.specs.Int.RustNames.{unsigned_abs}
 use Rattle.tk_writers.specs.Pens.{Puts}
 use Rattle.tk_writers.specs.SolutionWritten.{solution_text}
 use Rattle.tk_writers.proofs.Lengths.ListLength.{length_solution_text}
-use Rattle.tk_writers.proofs.Putting.{Writes-end, broken_at_err}
+use Rattle.tk_writers.proofs.Pieces.Putting.{Writes-end, broken_at_err}
 use Rattle.tk_writers.proofs.SolutionReadBack.{solution_read_back}
 use Rattle.tk_writers.proofs.solution_writer.write_solution.Goals as goal
 

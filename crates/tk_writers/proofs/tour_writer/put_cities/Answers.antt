@@ -1,7 +1,7 @@
 use Rattle.std.specs.Prelude.{decimal}
 use Rattle.tk_writers.specs.Written.{line}
-use Rattle.tk_writers.proofs.PutEach.{flat_map_take}
-use Rattle.tk_writers.proofs.Putting.{Puts-then}
+use Rattle.tk_writers.proofs.Pieces.PutEach.{flat_map_take}
+use Rattle.tk_writers.proofs.Pieces.Putting.{Puts-then}
 use Rattle.tk_writers.proofs.tour_writer.put_cities.Goals as goal
 
 pub loop-city-preserved : goal.loop-city-preserved

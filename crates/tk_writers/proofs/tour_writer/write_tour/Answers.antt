@@ -3,7 +3,7 @@ use Rattle.std.specs.Int.RustNames.{unsigned_abs}
 use Rattle.tk_writers.specs.Pens.{Puts}
 use Rattle.tk_writers.specs.TourWritten.{tour_text}
 use Rattle.tk_writers.proofs.Lengths.ListLength.{length_tour_text}
-use Rattle.tk_writers.proofs.Putting.{Writes-end, broken_at_err}
+use Rattle.tk_writers.proofs.Pieces.Putting.{Writes-end, broken_at_err}
 use Rattle.tk_writers.proofs.TourReadBack.{tour_read_back}
 use Rattle.tk_writers.proofs.tour_writer.write_tour.Goals as goal
 

@@ -5,7 +5,7 @@ use Rattle.tk_words.specs.MinusOne.{begins_minus_one}
 use Rattle.tk_lines.specs.Reader.{anything, this, DecidesIf, a_gap}
 use Rattle.tk_lines.proofs.KnownPlaces.{at_place, told_at, told_byte, this_within, or_false}
 use Rattle.tk_lines.proofs.Sections.SectionSteps.{run_more}
-use Rattle.tk_words.proofs.MinusOne.{begins_short}
+use Rattle.tk_words.proofs.NumberLaws.MinusOne.{begins_short}
 use Rattle.tk_lines.proofs.Endings.MinusOneSteps.{after_byte}
 use Rattle.tk_lines.proofs.Endings.AfterMinusOne.{shown_later}
 use Rattle.tk_lines.proofs.LineSteps.{line_behind-byte}

@@ -1,7 +1,7 @@
 use Rattle.std.proofs.Common.{◌≡◌, length, subst, arith}
 use Rattle.tk_writers.specs.Pens.{Puts}
-use Rattle.tk_writers.proofs.PutEach.{flat_map_take, flat_map_all}
-use Rattle.tk_writers.proofs.Putting.{Puts-then}
+use Rattle.tk_writers.proofs.Pieces.PutEach.{flat_map_take, flat_map_all}
+use Rattle.tk_writers.proofs.Pieces.Putting.{Puts-then}
 use Rattle.tk_problem.specs.PlacesOf.{places_of}
 use Rattle.tk_writers.specs.Written.{line}
 use Rattle.tk_picture.specs.PictureText.{spot}

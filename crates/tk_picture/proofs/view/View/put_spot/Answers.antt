@@ -1,7 +1,7 @@
 use Rattle.std.proofs.Common.{◌≡◌, ◌++◌, ap, ◌∙◌, subst}
 use Rattle.std.specs.Prelude.{codes, decimal}
 use Rattle.tk_writers.specs.Pens.{Puts}
-use Rattle.tk_writers.proofs.Putting.{Puts-then}
+use Rattle.tk_writers.proofs.Pieces.Putting.{Puts-then}
 use Rattle.tk_problem.specs.PlacesOf.{places_of}
 use Rattle.tk_distance.specs.PlaneOf.{city_place}
 use Rattle.tk_picture.specs.Frames.{across, down}

@@ -1,5 +1,5 @@
 use Rattle.std.proofs.Common.{subst, sym, ◌∙◌}
-use Rattle.tk_problem_text.specs.OpenSections.{IsPast}
+use Rattle.tk_problem_text.specs.Sections.OpenSections.{IsPast}
 use Rattle.tk_problem_text.specs.Parts.{HasParts}
 use Rattle.tk_problem_text.specs.Problem.{size_of}
 use Rattle.tk_problem_text.proofs.ProblemForms.{past_places, past_loads}

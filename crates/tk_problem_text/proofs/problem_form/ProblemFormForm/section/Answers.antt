@@ -3,7 +3,7 @@ use Rattle.std.proofs.lemmas.Result.{err_from_is_err_and}
 use Rattle.tk_lines.specs.Pieces.{Fault, first_at, After}
 use Rattle.tk_problem_text.specs.Problem.{problem_format, word_tests}
 use Rattle.tk_words.specs.Lex.{Token}
-use Rattle.tk_problem_text.proofs.OpenSections.{problem_refused}
+use Rattle.tk_problem_text.proofs.SectionTokens.OpenSections.{problem_refused}
 use Rattle.tk_problem_text.proofs.KeptHeaders.{told_map}
 use Rattle.tk_problem_text.proofs.ProblemForms.{goes_open}
 use Rattle.tk_problem_text.proofs.problem_form.ProblemFormForm.section.Goals as goal

@@ -1,7 +1,7 @@
 use Rattle.std.proofs.lemmas.Result.{err_from_is_err_and}
 use Rattle.tk_problem_text.specs.declared.problem_form.ProblemForm.{ProblemForm}
 use Rattle.tk_lines.specs.Forms.{whole}
-use Rattle.tk_problem_text.specs.OpenSections.{IsOpen, IsPast}
+use Rattle.tk_problem_text.specs.Sections.OpenSections.{IsOpen, IsPast}
 use Rattle.tk_problem_text.specs.Problem.{problem_format}
 use Rattle.tk_problem_text.specs.ProblemForm.{ProblemHolds, ProblemWants}
 use Rattle.tk_problem_text.proofs.ProblemForms.{taken_more, taken_end}

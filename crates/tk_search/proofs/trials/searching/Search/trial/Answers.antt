@@ -3,7 +3,7 @@ use Rattle.tk_tour.specs.ArrayTours.{order_of, swaps_of, copied_of}
 use Rattle.tk_search.specs.Searching.{first, kicked}
 use Rattle.tk_tour.specs.JournalTours.{tour_of}
 use Rattle.tk_tour.specs.Tour.{tour_length}
-use Rattle.tk_tour.specs.declared.array.ArrayTour.{ArrayTour}
+use Rattle.tk_tour.specs.declared.stores.array.ArrayTour.{ArrayTour}
 use Rattle.tk_descent.specs.Awake.{one_to}
 use Rattle.tk_descent.proofs.WakeRuns.Passes.{all_awake}
 use Rattle.tk_descent.proofs.WakeRuns.Woken.{one_to-length}

@@ -1,0 +1,5 @@
+pub mod LineLengths
+pub mod NearLines
+pub mod RouteLines
+pub mod RunLines
+pub mod TourLines

@@ -1,0 +1,13 @@
+-- put_place_line
+use Rattle.tk_writers.proofs.Pieces.Putting.{Puts-then}
+use Rattle.tk_engines.proofs.lines.tour_line.put_place_line.Goals as goal
+
+pub returns : goal.returns
+returns g c =
+    Puts-then _ _ _ _ _ _ _
+    (Puts-then _ _ _ _ _ _ _
+    (Puts-then _ _ _ _ _ _ _
+    (Puts-then _ _ _ _ _ _ _ c.put.ensures c.put_number.ensures)
+    c.put-2.ensures)
+    c.put_number-2.ensures)
+    c.put-3.ensures

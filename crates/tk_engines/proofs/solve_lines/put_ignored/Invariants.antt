@@ -1,9 +1,0 @@
--- the keys before this one are put
-use Rattle.std.proofs.Common.{take}
-use Rattle.std.specs.Prelude.{flat_map}
-use Rattle.tk_writers.specs.Pens.{Puts}
-use Rattle.tk_engines.specs.SolveLines.{ignored_line}
-use Rattle.tk_engines.proofs.solve_lines.put_ignored.Given as goal
-
-abbrev pub invariant-loop-i : goal.invariant-loop-i
-invariant-loop-i g l = Puts g.W.Sink.taken g.W.Sink.broken l.initial.pen l.pen (flat_map ignored_line (take l.i l.ignored))

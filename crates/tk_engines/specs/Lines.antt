@@ -1,0 +1,3 @@
+pub mod RouteLine
+pub mod SolveLines
+pub mod TourLine

@@ -1,0 +1,50 @@
+//! The check of a tour.
+ghost use Rattle.std.specs.Prelude.{◌≡◌, true, IfErr};
+ghost use Rattle.tk_writers.specs.Puts.{Writes};
+ghost use Rattle.tk_engines.specs.Check.{check_task};
+ghost use Rattle.tk_engines.specs.Engine.{Ends, ReadsProblem, ReadsTour, IsUntouched, BeforeSecond, UnlessWrite, AtWrite};
+
+use crate::fault::Fault;
+use crate::lines::tour_line::write_verdict;
+use std::alloc::Global;
+use tk_lists::read_tour;
+use tk_problem_text::read_problem;
+use tk_tour::{Verdict, check};
+use tk_words::Source;
+use tk_writers::Sink;
+
+/// Checks the tour of one text against the problem of another, writes one line on it, and returns the verdict.
+///
+/// Both texts are read before a byte is written.
+///
+/// # Errors
+/// The fault of either text, of writing, or of memory.
+pub fn check_engine<P: Source, T: Source, W: Sink>(
+    alloc: Global,
+    problem: &mut P,
+    tour: &mut T,
+    out: &mut W,
+) -> Result<Verdict, Fault>
+    ensures ends { Ends check_task (ReadsProblem P.left P.broken problem.old problem.new)
+        (ReadsTour T.left T.broken tour.old tour.new)
+        (Writes W.taken W.broken out.old out.new) result }
+    ensures quiet { IfErr result (UnlessWrite (IsUntouched W.taken W.broken out.old out.new)) }
+    ensures failed { IfErr result (AtWrite (W.broken out.new ≡ true)) }
+    ensures unread { IfErr result (BeforeSecond (IsUntouched T.left T.broken tour.old tour.new)) }
+{
+    let problem = match read_problem(alloc, problem) {
+        Ok(problem) => problem,
+        Err(fault) => return Err(Fault::Problem(fault)),
+    };
+    let tour = match read_tour(alloc, tour) {
+        Ok(tour) => tour,
+        Err(fault) => return Err(Fault::Tour(fault)),
+    };
+    let Ok(verdict) = check(alloc, problem.n, &tour.cities) else {
+        return Err(Fault::NoMemory);
+    };
+    match write_verdict(out, &problem, &tour.cities, verdict) {
+        Ok(()) => Ok(verdict),
+        Err(fault) => Err(Fault::Write(fault)),
+    }
+}

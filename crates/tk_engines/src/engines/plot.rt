@@ -1,0 +1,275 @@
+//! The picture of a problem, and of a tour or of routes that fit it.
+ghost use Rattle.std.specs.Prelude.{◌≡◌, true, IfErr, IfNone, IfSome, OnErr, None, Some, map, option_map};
+ghost use Rattle.tk_problem_text.specs.Parts.{problem_is};
+ghost use Rattle.tk_writers.specs.Puts.{Writes};
+ghost use Rattle.tk_distance.specs.Cities.{IsCity};
+ghost use Rattle.tk_tour.specs.Verdict.{IsVerdict};
+ghost use Rattle.tk_routes.specs.Cvrps.{instance_of};
+ghost use Rattle.tk_routes.specs.Instance.{IsInstanceOf};
+ghost use Rattle.tk_routes.specs.RouteVerdicts.{IsRouteVerdict};
+ghost use Rattle.tk_engines.specs.Engine.{AtWrite, BeforeSecond, EndsByProblem, IsUntouched, ReadsProblem, UnlessWrite};
+ghost use Rattle.tk_picture.specs.Pictures.{AreLines, paths_of};
+ghost use Rattle.tk_engines.specs.declared.fault.Fault.TheVariants.{NoPlaces};
+ghost use Rattle.tk_engines.specs.Plot.{AreUntouched, HasFailed, WritesOutput, WritesSome, without_places};
+ghost use Rattle.tk_engines.specs.Plot.{HasRead, IsPicture, IsRouteOutput, IsTourOutput, IsViewOf, ReadsClaim, plot_task};
+
+use crate::engines::plotted::Plotted;
+use crate::fault::Fault;
+use crate::lines::route_line::write_route_verdict;
+use crate::lines::tour_line::{length_of, write_verdict};
+use std::alloc::Global;
+use tk_lists::{SolText, read_solution, read_tour};
+use tk_picture::{Caption, Lines, Picture, View, write_picture};
+use tk_problem::{Problem, Weights};
+use tk_problem_text::read_problem;
+use tk_routes::{Cvrp, RouteVerdict, check_routes};
+use tk_tour::{Verdict, check};
+use tk_words::Source;
+use tk_writers::{Sink, WriteFault};
+
+/// The depot of a problem, where it has a routing.
+fn depot_of(problem: &Problem) -> Option<u32>
+    ensures value { result ≡ option_map (λ r. r.depot) problem.now.routing }
+    ensures known { IfSome result (IsCity problem.now.n) }
+{
+    let routing = problem.routing.as_ref()?;
+    Some(routing.depot)
+}
+
+/// A view of all cities of a problem: none where they have no places.
+fn view_of(problem: &Problem) -> Option<View<'_>>
+    ensures some { IfSome result (IsViewOf (problem_is problem.now)) }
+    ensures none { IfNone result (without_places (problem_is problem.now).weights ≡ Some NoPlaces) }
+{
+    let Weights::Points(_, points) = &problem.weights else {
+        return None;
+    };
+    Some(View::over(points.places()))
+}
+
+/// A picture of a problem.
+fn picture_of<'a>(
+    problem: &'a Problem,
+    view: View<'a>,
+    caption: Caption,
+    lines: Lines<'a>,
+) -> Picture<'a>
+    ensures name { result.name.now ≡ problem.now.name.items }
+    ensures view { result.view ≡ view.entry }
+    ensures caption { result.caption ≡ caption }
+    ensures lines { result.lines ≡ lines.entry }
+    ensures depot { result.depot ≡ option_map (λ r. r.depot) problem.now.routing }
+    ensures known { IfSome result.depot (IsCity problem.now.n) }
+{
+    Picture {
+        name: &problem.name,
+        view,
+        caption,
+        lines,
+        depot: depot_of(problem),
+    }
+}
+
+/// Draws a problem and closed lines through its cities.
+fn draw<W: Sink>(
+    out: &mut W,
+    problem: &Problem,
+    view: View<'_>,
+    caption: Caption,
+    lines: Lines<'_>,
+) -> Result<(), WriteFault>
+    requires view { IsViewOf (problem_is problem.now) view }
+    requires lines { AreLines problem.now.n lines }
+    ensures text { WritesSome (IsPicture (problem_is problem.now) caption (paths_of lines.entry))
+        (Writes W.taken W.broken out.old out.new result) }
+    ensures failed { OnErr result (W.broken out.new ≡ true) }
+{
+    write_picture(out, &picture_of(problem, view, caption, lines))
+}
+
+/// Draws a tour, or tells its fault.
+fn show_tour<W: Sink, T: Sink>(
+    out: &mut W,
+    told: &mut T,
+    problem: &Problem,
+    view: View<'_>,
+    cities: &[u32],
+    verdict: Verdict,
+) -> Result<(), WriteFault>
+    requires view { IsViewOf (problem_is problem.now) view }
+    requires verdict { IsVerdict problem.now.n cities.now verdict }
+    ensures text { WritesSome (IsTourOutput (problem_is problem.now) cities.now verdict)
+        (WritesOutput W.taken W.broken T.taken T.broken out.old out.new told.old told.new result) }
+    ensures failed { OnErr result (HasFailed (W.broken out.new) (T.broken told.new)) }
+{
+    match verdict {
+        Verdict::Tour => {
+            let caption = Caption::Tour(problem.n, length_of(problem, cities));
+            draw(out, problem, view, caption, Lines::Tour(cities))
+        }
+        _ => write_verdict(told, problem, cities, verdict),
+    }
+}
+
+/// Draws routes, or tells their fault.
+fn show_routes<W: Sink, T: Sink>(
+    out: &mut W,
+    told: &mut T,
+    problem: &Problem,
+    view: View<'_>,
+    cvrp: &Cvrp<'_>,
+    solution: &SolText,
+    verdict: RouteVerdict,
+) -> Result<(), WriteFault>
+    requires view { IsViewOf (problem_is problem.now) view }
+    requires instance { IsInstanceOf problem.now (instance_of cvrp.now) }
+    requires verdict { IsRouteVerdict (instance_of cvrp.now) (map (λ r. r.items) solution.now.routes.items)
+        solution.now.cost verdict }
+    ensures text { WritesSome (IsRouteOutput (problem_is problem.now) (instance_of cvrp.now)
+        (map (λ r. r.items) solution.now.routes.items) verdict)
+        (WritesOutput W.taken W.broken T.taken T.broken out.old out.new told.old told.new result) }
+    ensures failed { OnErr result (HasFailed (W.broken out.new) (T.broken told.new)) }
+{
+    match verdict {
+        RouteVerdict::Valid { routes, cost } => {
+            let caption = Caption::Routes(routes, cost.unsigned_abs());
+            draw(
+                out,
+                problem,
+                view,
+                caption,
+                Lines::Routes(*cvrp, &solution.routes),
+            )
+        }
+        _ => write_route_verdict(told, verdict),
+    }
+}
+
+/// Reads a tour, and draws it or tells its fault.
+fn plot_tour<C: Source, W: Sink, T: Sink>(
+    alloc: Global,
+    problem: &Problem,
+    view: View<'_>,
+    claim: &mut C,
+    out: &mut W,
+    told: &mut T,
+) -> Result<Plotted, Fault>
+    requires view { IsViewOf (problem_is problem.now) view }
+    requires tsp { problem.now.routing ≡ None }
+    ensures ends { EndsByProblem (plot_task true) (HasRead (problem_is problem.now))
+        (ReadsClaim true C.left C.broken claim.old claim.new)
+        (WritesOutput W.taken W.broken T.taken T.broken out.old out.new told.old told.new) result }
+    ensures quiet { IfErr result (UnlessWrite
+        (AreUntouched W.taken W.broken T.taken T.broken out.old out.new told.old told.new)) }
+    ensures failed { IfErr result (AtWrite (HasFailed (W.broken out.new) (T.broken told.new))) }
+    ensures second { IfErr result (BeforeSecond ⊥) }
+{
+    let tour = match read_tour(alloc, claim) {
+        Ok(tour) => tour,
+        Err(fault) => return Err(Fault::Tour(fault)),
+    };
+    let cities = tour.cities.as_slice();
+    let Ok(verdict) = check(alloc, problem.n, cities) else {
+        return Err(Fault::NoMemory);
+    };
+    match show_tour(out, told, problem, view, cities, verdict) {
+        Ok(()) => Ok(Plotted::Tour(verdict)),
+        Err(fault) => Err(Fault::Write(fault)),
+    }
+}
+
+/// Reads routes, and draws them or tells their fault.
+fn plot_routes<C: Source, W: Sink, T: Sink>(
+    alloc: Global,
+    problem: &Problem,
+    view: View<'_>,
+    cvrp: &Cvrp<'_>,
+    claim: &mut C,
+    out: &mut W,
+    told: &mut T,
+) -> Result<Plotted, Fault>
+    requires view { IsViewOf (problem_is problem.now) view }
+    requires instance { IsInstanceOf problem.now (instance_of cvrp.now) }
+    ensures ends { EndsByProblem (plot_task true) (HasRead (problem_is problem.now))
+        (ReadsClaim true C.left C.broken claim.old claim.new)
+        (WritesOutput W.taken W.broken T.taken T.broken out.old out.new told.old told.new) result }
+    ensures quiet { IfErr result (UnlessWrite
+        (AreUntouched W.taken W.broken T.taken T.broken out.old out.new told.old told.new)) }
+    ensures failed { IfErr result (AtWrite (HasFailed (W.broken out.new) (T.broken told.new))) }
+    ensures second { IfErr result (BeforeSecond ⊥) }
+{
+    let solution = match read_solution(alloc, claim) {
+        Ok(solution) => solution,
+        Err(fault) => return Err(Fault::Solution(fault)),
+    };
+    let Ok(verdict) = check_routes(alloc, cvrp, &solution) else {
+        return Err(Fault::NoMemory);
+    };
+    match show_routes(out, told, problem, view, cvrp, &solution, verdict) {
+        Ok(()) => Ok(Plotted::Routes(verdict)),
+        Err(fault) => Err(Fault::Write(fault)),
+    }
+}
+
+/// Draws a problem, and what is claimed of it, or tells the fault of that.
+fn plot_problem<C: Source, W: Sink, T: Sink>(
+    alloc: Global,
+    problem: &Problem,
+    claim: &mut C,
+    has_claim: bool,
+    out: &mut W,
+    told: &mut T,
+) -> Result<Plotted, Fault>
+    ensures ends { EndsByProblem (plot_task has_claim) (HasRead (problem_is problem.now))
+        (ReadsClaim has_claim C.left C.broken claim.old claim.new)
+        (WritesOutput W.taken W.broken T.taken T.broken out.old out.new told.old told.new) result }
+    ensures quiet { IfErr result (UnlessWrite
+        (AreUntouched W.taken W.broken T.taken T.broken out.old out.new told.old told.new)) }
+    ensures failed { IfErr result (AtWrite (HasFailed (W.broken out.new) (T.broken told.new))) }
+    ensures unread { IfErr result (BeforeSecond (IsUntouched C.left C.broken claim.old claim.new)) }
+{
+    let Some(view) = view_of(problem) else {
+        return Err(Fault::NoPlaces);
+    };
+    if !has_claim {
+        let caption = Caption::Cities(problem.n);
+        let Err(fault) = draw(out, problem, view, caption, Lines::None) else {
+            return Ok(Plotted::Cities);
+        };
+        return Err(Fault::Write(fault));
+    }
+    match Cvrp::of(problem) {
+        Some(cvrp) => plot_routes(alloc, problem, view, &cvrp, claim, out, told),
+        None => plot_tour(alloc, problem, view, claim, out, told),
+    }
+}
+
+/// Draws the cities of a problem, and if `has_claim` is true, the tour or the routes of another text. They are checked
+/// first: where they have a fault, `told` gets the line on it, and `out` gets nothing.
+///
+/// All texts are read before a byte is written. The other text is read as a solution where the problem has a routing,
+/// else as a tour.
+///
+/// # Errors
+/// The fault of either text, of writing, or of memory; `NoPlaces` where the problem has explicit weights.
+pub fn plot_engine<P: Source, C: Source, W: Sink, T: Sink>(
+    alloc: Global,
+    problem: &mut P,
+    claim: &mut C,
+    has_claim: bool,
+    out: &mut W,
+    told: &mut T,
+) -> Result<Plotted, Fault>
+    ensures ends { EndsByProblem (plot_task has_claim) (ReadsProblem P.left P.broken problem.old problem.new)
+        (ReadsClaim has_claim C.left C.broken claim.old claim.new)
+        (WritesOutput W.taken W.broken T.taken T.broken out.old out.new told.old told.new) result }
+    ensures quiet { IfErr result (UnlessWrite
+        (AreUntouched W.taken W.broken T.taken T.broken out.old out.new told.old told.new)) }
+    ensures failed { IfErr result (AtWrite (HasFailed (W.broken out.new) (T.broken told.new))) }
+    ensures unread { IfErr result (BeforeSecond (IsUntouched C.left C.broken claim.old claim.new)) }
+{
+    match read_problem(alloc, problem) {
+        Ok(problem) => plot_problem(alloc, &problem, claim, has_claim, out, told),
+        Err(fault) => Err(Fault::Problem(fault)),
+    }
+}

@@ -1,0 +1,53 @@
+//! The check of routes.
+ghost use Rattle.std.specs.Prelude.{◌≡◌, true, IfErr};
+ghost use Rattle.tk_writers.specs.Puts.{Writes};
+ghost use Rattle.tk_engines.specs.Engine.{Ends, ReadsProblem, ReadsSolution, IsUntouched, BeforeSecond, UnlessWrite, AtWrite};
+ghost use Rattle.tk_engines.specs.RouteCheck.{route_check_task};
+
+use crate::fault::Fault;
+use crate::lines::route_line::write_route_verdict;
+use std::alloc::Global;
+use tk_lists::read_solution;
+use tk_problem_text::read_problem;
+use tk_routes::{Cvrp, RouteVerdict, check_routes};
+use tk_words::Source;
+use tk_writers::Sink;
+
+/// Checks the routes of one text against the problem of another, writes one line on them, and returns the verdict.
+///
+/// Both texts are read before a byte is written.
+///
+/// # Errors
+/// The fault of either text, of writing, or of memory; `WrongType` where the problem has no routing.
+pub fn route_check_engine<P: Source, S: Source, W: Sink>(
+    alloc: Global,
+    problem: &mut P,
+    solution: &mut S,
+    out: &mut W,
+) -> Result<RouteVerdict, Fault>
+    ensures ends { Ends route_check_task (ReadsProblem P.left P.broken problem.old problem.new)
+        (ReadsSolution S.left S.broken solution.old solution.new)
+        (Writes W.taken W.broken out.old out.new) result }
+    ensures quiet { IfErr result (UnlessWrite (IsUntouched W.taken W.broken out.old out.new)) }
+    ensures failed { IfErr result (AtWrite (W.broken out.new ≡ true)) }
+    ensures unread { IfErr result (BeforeSecond (IsUntouched S.left S.broken solution.old solution.new)) }
+{
+    let problem = match read_problem(alloc, problem) {
+        Ok(problem) => problem,
+        Err(fault) => return Err(Fault::Problem(fault)),
+    };
+    let Some(cvrp) = Cvrp::of(&problem) else {
+        return Err(Fault::WrongType);
+    };
+    let solution = match read_solution(alloc, solution) {
+        Ok(solution) => solution,
+        Err(fault) => return Err(Fault::Solution(fault)),
+    };
+    let Ok(verdict) = check_routes(alloc, &cvrp, &solution) else {
+        return Err(Fault::NoMemory);
+    };
+    match write_route_verdict(out, verdict) {
+        Ok(()) => Ok(verdict),
+        Err(fault) => Err(Fault::Write(fault)),
+    }
+}

@@ -1,0 +1,173 @@
+//! The search for a tour or for routes.
+ghost use Rattle.std.specs.Prelude.{◌≡◌, ◌≤◌, ◌≤ℤ◌, pos, IfOk, IfErr, OnErr, MatchOption, is_some, length};
+ghost use Rattle.std.specs.List.{concat};
+ghost use Rattle.tk_problem_text.specs.Parts.{problem_is};
+ghost use Rattle.tk_tour.specs.Tour.{IsTour};
+ghost use Rattle.tk_routes.specs.Cvrps.{instance_of};
+ghost use Rattle.tk_routes.specs.RouteLists.{routes_of};
+ghost use Rattle.tk_solve.specs.SolvedTours.{IsSolved, IsSound};
+ghost use Rattle.tk_engines.specs.Engine.{AtWrite, BeforeSecond, Ends, IsUntouched, ReadsProblem, UnlessWrite};
+ghost use Rattle.tk_engines.specs.Solve.{AreRoutesOf, AreUntouched, Gives, HasFailed, IsTourWritten, ReadsInitial, WritesFiles, cities_in, route_files, solve_task, tour_files, tour_task};
+
+use crate::engines::solve_given::{check_initial, options_of, read_initial, unfit};
+use crate::fault::Fault;
+use crate::lines::solve_lines::{write_route_lines, write_tour_lines};
+use std::alloc::{AllocError, Global};
+use tk_distance::Table;
+use tk_lists::TourText;
+use tk_params::Params;
+use tk_problem::Problem;
+use tk_problem_text::read_problem;
+use tk_routes::{Cvrp, RouteReport, Routes};
+use tk_solve::{RouteOptions, SolvedTour, Watch, solve_routes, solve_tour};
+use tk_words::Source;
+use tk_writers::{Sink, WriteFault, write_solution, write_tour};
+
+/// The best tour of a TSP.
+fn search_tour<V: Watch>(
+    alloc: Global,
+    params: &Params,
+    problem: &Problem,
+    initial: &Option<TourText>,
+    watch: &mut V,
+) -> Result<SolvedTour, AllocError>
+    requires { MatchOption (cities_in initial.now) (Unit {0}) (IsTour problem.now.n) }
+    ensures solved { IfOk result (IsSolved (tour_task params.now (problem_is problem.now) (cities_in initial.now))) }
+    ensures sound { IfOk result (IsSound (tour_task params.now (problem_is problem.now) (cities_in initial.now))) }
+    ensures runs { IfOk result (λ s. length s.runs.items ≤ 10000) }
+{
+    let options = options_of(params, problem, initial);
+    solve_tour(alloc, &Table::of(problem), &options, watch)
+}
+
+/// Writes the tour, and then the lines on it.
+fn write_tour_files<F: Sink, W: Sink>(
+    file: &mut F,
+    out: &mut W,
+    params: &Params,
+    problem: &Problem,
+    solved: &SolvedTour,
+) -> Result<(), WriteFault>
+    requires length { pos 0 ≤ℤ solved.now.length }
+    requires cities { length solved.now.cities.items ≤ 100000 }
+    requires runs { length solved.now.runs.items ≤ 10000 }
+    ensures text { WritesFiles F.taken F.broken W.taken W.broken file.old file.new out.old out.new
+        result (tour_files params.now (problem_is problem.now).name solved.now) }
+    ensures failed { OnErr result (HasFailed (F.broken file.new) (W.broken out.new)) }
+{
+    write_tour(file, &problem.name, solved.length, &solved.cities)?;
+    write_tour_lines(out, params.ignored(), solved)
+}
+
+/// Writes the routes, and then the lines on them.
+fn write_route_files<F: Sink, W: Sink>(
+    file: &mut F,
+    out: &mut W,
+    params: &Params,
+    routes: &Routes<'_>,
+    report: &RouteReport,
+) -> Result<(), WriteFault>
+    requires cost { pos 0 ≤ℤ report.now.after }
+    requires routes { length (routes_of routes.now) ≤ 100000 }
+    requires customers { length (concat (routes_of routes.now)) ≤ 1000000 }
+    ensures text { WritesFiles F.taken F.broken W.taken W.broken file.old file.new out.old out.new
+        result (route_files params.now (routes_of routes.now) report.now) }
+    ensures failed { OnErr result (HasFailed (F.broken file.new) (W.broken out.new)) }
+{
+    write_solution(file, routes.lists(), report.after)?;
+    write_route_lines(out, params.ignored(), routes.lists().len() as u64, report)
+}
+
+/// Searches for a short tour of a TSP, and writes it and the lines on its runs.
+fn solve_tsp<F: Sink, W: Sink, V: Watch>(
+    alloc: Global,
+    params: &Params,
+    problem: &Problem,
+    initial: &Option<TourText>,
+    file: &mut F,
+    out: &mut W,
+    watch: &mut V,
+) -> Result<(), Fault>
+    requires { MatchOption (cities_in initial.now) (Unit {0}) (IsTour problem.now.n) }
+    ensures gives { Gives (IsTourWritten params.now (problem_is problem.now) (cities_in initial.now))
+        (WritesFiles F.taken F.broken W.taken W.broken file.old file.new out.old out.new)
+        (AreUntouched F.taken F.broken W.taken W.broken file.old file.new out.old out.new) result }
+    ensures failed { IfErr result (AtWrite (HasFailed (F.broken file.new) (W.broken out.new))) }
+{
+    let Ok(solved) = search_tour(alloc, params, problem, initial, watch) else {
+        return Err(Fault::NoMemory);
+    };
+    match write_tour_files(file, out, params, problem, &solved) {
+        Ok(()) => Ok(()),
+        Err(fault) => Err(Fault::Write(fault)),
+    }
+}
+
+/// Searches for short routes of a CVRP, and writes them and the lines on them.
+fn solve_cvrp<F: Sink, W: Sink>(
+    alloc: Global,
+    params: &Params,
+    cvrp: &Cvrp<'_>,
+    file: &mut F,
+    out: &mut W,
+) -> Result<(), Fault>
+    ensures gives { Gives (AreRoutesOf params.now (instance_of cvrp.now))
+        (WritesFiles F.taken F.broken W.taken W.broken file.old file.new out.old out.new)
+        (AreUntouched F.taken F.broken W.taken W.broken file.old file.new out.old out.new) result }
+    ensures failed { IfErr result (AtWrite (HasFailed (F.broken file.new) (W.broken out.new))) }
+{
+    let options = RouteOptions {
+        candidates: params.max_candidates(),
+        or_segment: params.or_segment(),
+    };
+    let Ok((routes, report)) = solve_routes(alloc, cvrp, options) else {
+        return Err(Fault::NoMemory);
+    };
+    match write_route_files(file, out, params, &routes, &report) {
+        Ok(()) => Ok(()),
+        Err(fault) => Err(Fault::Write(fault)),
+    }
+}
+
+/// Does what parameters ask for: searches for a short tour of a TSP or for short routes of a CVRP. `file` gets the text
+/// of the tour or of the solution, and then `out` the keys that are not used, a line for each run or for the routes,
+/// and the best length.
+///
+/// `initial` is read where the parameters name an INITIAL_TOUR_FILE. All texts are read before a byte is written.
+/// `watch` is told of each trial.
+///
+/// # Errors
+/// The fault of the problem text; `NotForType` of a key that the problem's type has no use for; the fault of the text
+/// of the tour to begin with, or `Initial` where it is no tour of the problem's cities; the fault of writing, or of
+/// memory.
+pub fn solve_engine<P: Source, I: Source, F: Sink, W: Sink, V: Watch>(
+    alloc: Global,
+    params: &Params,
+    problem: &mut P,
+    initial: &mut I,
+    file: &mut F,
+    out: &mut W,
+    watch: &mut V,
+) -> Result<(), Fault>
+    ensures ends { Ends (solve_task params.now) (ReadsProblem P.left P.broken problem.old problem.new)
+        (ReadsInitial (is_some params.now.initial_tour_file) I.left I.broken initial.old initial.new)
+        (WritesFiles F.taken F.broken W.taken W.broken file.old file.new out.old out.new) result }
+    ensures quiet { IfErr result
+        (UnlessWrite (AreUntouched F.taken F.broken W.taken W.broken file.old file.new out.old out.new)) }
+    ensures failed { IfErr result (AtWrite (HasFailed (F.broken file.new) (W.broken out.new))) }
+    ensures unread { IfErr result (BeforeSecond (IsUntouched I.left I.broken initial.old initial.new)) }
+{
+    let problem = match read_problem(alloc, problem) {
+        Ok(problem) => problem,
+        Err(fault) => return Err(Fault::Problem(fault)),
+    };
+    if let Some(key) = unfit(params, &problem) {
+        return Err(Fault::NotForType(key));
+    }
+    let tour = read_initial(alloc, params, initial)?;
+    check_initial(alloc, &problem, &tour)?;
+    match Cvrp::of(&problem) {
+        Some(cvrp) => solve_cvrp(alloc, params, &cvrp, file, out),
+        None => solve_tsp(alloc, params, &problem, &tour, file, out, watch),
+    }
+}

@@ -1,0 +1,155 @@
+//! The lines that `solve` prints.
+ghost use Rattle.std.specs.Prelude.{◌≡◌, ◌≤◌, ◌++◌, OnErr, codes, decimal, flat_map, length, true};
+ghost use Rattle.std.specs.Int.RustNames.{unsigned_abs};
+ghost use Rattle.tk_writers.specs.Pens.{Puts};
+ghost use Rattle.tk_writers.specs.Puts.{Writes};
+ghost use Rattle.tk_params.specs.Keys.{all_keys};
+ghost use Rattle.tk_engines.specs.Lines.SolveLines.{best_line, ignored_line, improved_line, route_lines, run_line, run_lines, savings_line, tour_lines, work_of};
+
+use tk_params::Key;
+use tk_routes::RouteReport;
+use tk_solve::{RunReport, SolvedTour};
+use tk_writers::{Pen, Sink, WriteFault};
+
+/// Puts a line for each key that is read and not used.
+fn put_ignored<W: Sink>(pen: &mut Pen<'_, W>, ignored: &[Key])
+    ensures { Puts W.taken W.broken pen.old pen.new (flat_map ignored_line ignored.now) }
+{
+    for i in 0..ignored.len() {
+        let key = ignored[i];
+        pen.put(b"ignored ");
+        pen.put(key.word().as_bytes());
+        pen.put(b"\n");
+    }
+}
+
+/// Puts what descents did.
+fn put_work<W: Sink>(pen: &mut Pen<'_, W>, moves: u128, tests: u128, swaps: u128)
+    ensures { Puts W.taken W.broken pen.old pen.new (work_of moves tests swaps) }
+{
+    pen.put(b", moves ");
+    pen.put_wide(moves);
+    pen.put(b", tests ");
+    pen.put_wide(tests);
+    pen.put(b", swaps ");
+    pen.put_wide(swaps);
+}
+
+/// Puts the line of a run, numbered from 1.
+fn put_run<W: Sink>(pen: &mut Pen<'_, W>, number: u64, report: &RunReport)
+    ensures { Puts W.taken W.broken pen.old pen.new (run_line number report.now) }
+{
+    let totals = &report.totals;
+    pen.put(b"run ");
+    pen.put_number(number);
+    pen.put(b": start ");
+    pen.put_number(totals.start.unsigned_abs());
+    pen.put(b", best ");
+    pen.put_number(report.best.unsigned_abs());
+    pen.put(b", trials ");
+    pen.put_wide(totals.trials);
+    put_work(pen, totals.moves, totals.tests, totals.swaps);
+    pen.put(b"\n");
+}
+
+/// Puts the lines of all runs.
+fn put_runs<W: Sink>(pen: &mut Pen<'_, W>, runs: &[RunReport])
+    ensures { Puts W.taken W.broken pen.old pen.new (run_lines 1 runs.now) }
+{
+    for i in 0..runs.len() {
+        let report = runs[i];
+        put_run(pen, i as u64 + 1, &report);
+    }
+}
+
+/// Puts the line of the best length.
+fn put_best<W: Sink>(pen: &mut Pen<'_, W>, length: u64)
+    ensures { Puts W.taken W.broken pen.old pen.new (best_line length) }
+{
+    pen.put(b"best ");
+    pen.put_number(length);
+    pen.put(b"\n");
+}
+
+/// Puts all lines on the runs of a TSP.
+fn put_tour_lines<W: Sink>(pen: &mut Pen<'_, W>, ignored: &[Key], solved: &SolvedTour)
+    ensures { Puts W.taken W.broken pen.old pen.new (tour_lines ignored.now solved.now) }
+{
+    put_ignored(pen, ignored);
+    put_runs(pen, &solved.runs);
+    put_best(pen, solved.length.unsigned_abs());
+}
+
+/// Puts the line of the routes by savings.
+fn put_savings<W: Sink>(pen: &mut Pen<'_, W>, cost: u64, routes: u64)
+    ensures { Puts W.taken W.broken pen.old pen.new (savings_line cost routes) }
+{
+    pen.put(b"savings ");
+    pen.put_number(cost);
+    pen.put(b", routes ");
+    pen.put_number(routes);
+    pen.put(b"\n");
+}
+
+/// Puts the line of the improved routes.
+fn put_improved<W: Sink>(pen: &mut Pen<'_, W>, cost: u64, report: &RouteReport)
+    ensures { Puts W.taken W.broken pen.old pen.new
+        (improved_line cost report.now.moves report.now.tests report.now.swaps) }
+{
+    pen.put(b"improved ");
+    pen.put_number(cost);
+    put_work(
+        pen,
+        report.moves as u128,
+        report.tests as u128,
+        report.swaps as u128,
+    );
+    pen.put(b"\n");
+}
+
+/// Puts all lines on the routes of a CVRP, of which there are that many.
+fn put_route_lines<W: Sink>(
+    pen: &mut Pen<'_, W>,
+    ignored: &[Key],
+    routes: u64,
+    report: &RouteReport,
+)
+    ensures { Puts W.taken W.broken pen.old pen.new (route_lines ignored.now routes report.now) }
+{
+    put_ignored(pen, ignored);
+    put_savings(pen, report.before.unsigned_abs(), routes);
+    put_improved(pen, report.after.unsigned_abs(), report);
+    put_best(pen, report.after.unsigned_abs());
+}
+
+/// Writes the lines on the runs of a TSP.
+pub(crate) fn write_tour_lines<W: Sink>(
+    out: &mut W,
+    ignored: &[Key],
+    solved: &SolvedTour,
+) -> Result<(), WriteFault>
+    requires ignored { length ignored.now ≤ length all_keys }
+    requires runs { length solved.now.runs.items ≤ 10000 }
+    ensures text { Writes W.taken W.broken out.old out.new result (tour_lines ignored.now solved.now) }
+    ensures failed { OnErr result (W.broken out.new ≡ true) }
+{
+    let mut pen = Pen::new(out);
+    put_tour_lines(&mut pen, ignored, solved);
+    pen.end()
+}
+
+/// Writes the lines on the routes of a CVRP, of which there are that many.
+pub(crate) fn write_route_lines<W: Sink>(
+    out: &mut W,
+    ignored: &[Key],
+    routes: u64,
+    report: &RouteReport,
+) -> Result<(), WriteFault>
+    requires ignored { length ignored.now ≤ length all_keys }
+    ensures text { Writes W.taken W.broken out.old out.new result (route_lines ignored.now routes report.now) }
+    ensures failed { OnErr result (W.broken out.new ≡ true) }
+{
+    let mut pen = Pen::new(out);
+    put_route_lines(&mut pen, ignored, routes, report);
+    pen.end()
+}

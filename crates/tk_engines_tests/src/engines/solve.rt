@@ -1,0 +1,124 @@
+//! The engine of `solve`.
+use crate::engines::given::{BAKERY, SQUARE, TOUR, UNSUPPORTED};
+use std::alloc::Global;
+use std::process::Abort;
+use tk_engines::{Fault, solve_engine};
+use tk_params::{Key, Params, read_params};
+use tk_solve::Unwatched;
+use tk_text::{FromRead, Sink, ToWrite, WriteFault};
+use tk_tour::TourFault;
+
+/// What parameters ask for.
+fn params_of(rt: &impl Abort, alloc: Global, text: &[u8]) -> Params {
+    let mut text = FromRead::new(text);
+    read_params(alloc, &mut text).expect(rt, "parameters")
+}
+
+/// What the engine answers for these texts. It writes to the two sinks.
+fn solve<F: Sink, W: Sink>(
+    alloc: Global,
+    params: &Params,
+    problem: &[u8],
+    initial: &[u8],
+    file: &mut F,
+    out: &mut W,
+) -> Result<(), Fault> {
+    let mut problem = FromRead::new(problem);
+    let mut initial = FromRead::new(initial);
+    solve_engine(
+        alloc,
+        params,
+        &mut problem,
+        &mut initial,
+        file,
+        out,
+        &mut Unwatched,
+    )
+}
+
+/// For parameters, a problem and a tour to begin with the engine answers this. It writes one text to the file, and one
+/// after it.
+fn expect(
+    rt: &impl Abort,
+    alloc: Global,
+    given: [&[u8]; 3],
+    want: Result<(), Fault>,
+    texts: [&[u8]; 2],
+) {
+    let [params, problem, initial] = given;
+    let params = params_of(rt, alloc, params);
+    let mut file = ToWrite::new(Vec::new(alloc));
+    let mut out = ToWrite::new(Vec::new(alloc));
+    let answer = solve(alloc, &params, problem, initial, &mut file, &mut out);
+    assert!(rt; answer == want);
+    let [tour, lines] = texts;
+    assert!(rt; file.inner.as_slice() == tour);
+    assert!(rt; out.inner.as_slice() == lines);
+}
+
+const FROM_A_TOUR: &[u8] =
+    b"PROBLEM_FILE = p\nINITIAL_TOUR_FILE = i\nMAX_CANDIDATES = 3\nRUNS = 1\nMOVE_TYPE = 5\n";
+
+#[test]
+fn writes_a_tour_and_its_runs(rt: HostRuntime) {
+    expect(
+        &rt,
+        rt.alloc(),
+        [FROM_A_TOUR, SQUARE, TOUR],
+        Ok(()),
+        [
+            b"NAME : p.40.tour\nCOMMENT : Length = 40\nTYPE : TOUR\nDIMENSION : 4\nTOUR_SECTION\n1\n3\n2\n4\n-1\nEOF\n",
+            b"ignored MOVE_TYPE\nrun 1: start 48, best 40, trials 1, moves 1, tests 57, swaps 1\nbest 40\n",
+        ],
+    );
+}
+
+#[test]
+fn writes_routes_and_their_costs(rt: HostRuntime) {
+    expect(
+        &rt,
+        rt.alloc(),
+        [b"PROBLEM_FILE = p\n", BAKERY, b""],
+        Ok(()),
+        [
+            b"Route #1: 3 2 1 4\nCost 53\n",
+            b"savings 60, routes 1\nimproved 53, moves 1, tests 134, swaps 1\nbest 53\n",
+        ],
+    );
+}
+
+/// A key that does not fit is told before the tour to begin with is read.
+#[test]
+fn writes_nothing_on_a_fault(rt: HostRuntime) {
+    let routes: &[u8] = b"PROBLEM_FILE = p\nINITIAL_TOUR_FILE = i\nSOLUTION_FILE = s\n";
+    expect(
+        &rt,
+        rt.alloc(),
+        [routes, SQUARE, UNSUPPORTED],
+        Err(Fault::NotForType(Key::SolutionFile)),
+        [b"", b""],
+    );
+    expect(
+        &rt,
+        rt.alloc(),
+        [
+            FROM_A_TOUR,
+            SQUARE,
+            b"TYPE : TOUR\nTOUR_SECTION\n1 2 2 5 -1\n",
+        ],
+        Err(Fault::Initial(TourFault::RepeatedCity(3))),
+        [b"", b""],
+    );
+}
+
+/// Nothing is printed where the tour could not be written.
+#[test]
+fn writes_the_tour_first(rt: HostRuntime) {
+    let params = params_of(&rt, rt.alloc(), b"PROBLEM_FILE = p\n");
+    let mut room = [0; 8];
+    let mut file = ToWrite::new(room.as_mut_slice());
+    let mut out = ToWrite::new(Vec::new(rt.alloc()));
+    let answer = solve(rt.alloc(), &params, SQUARE, b"", &mut file, &mut out);
+    assert!(rt; answer == Err(Fault::Write(WriteFault { written: 8 })));
+    assert!(rt; file.failed() && out.inner.is_empty());
+}

@@ -1,0 +1,3 @@
+//! Parameter files.
+pub mod examples;
+pub mod texts;

@@ -1,0 +1,141 @@
+//! Pictures, byte by byte.
+use crate::pictures::given::{EXPLICIT, Given, RECTANGLE, SHOP, plotted};
+use std::process::Abort;
+use tk_engines::{Fault, Plotted};
+use tk_routes::RouteVerdict;
+use tk_text::{TextFault, TextKind};
+use tk_tour::Verdict;
+
+/// The rectangle is 3 wide and 4 high, so its right side stands at three quarters of the height.
+const CITIES: &[u8] = b"<svg xmlns=\"http://www.w3.org/2000/svg\" viewBox=\"0 0 1040 1080\">
+<title>a&lt;b &amp; &quot;c&quot;???: 4 cities</title>
+<rect width=\"100%\" height=\"100%\" fill=\"white\"/>
+<text x=\"20\" y=\"40\" font-family=\"sans-serif\" font-size=\"24\">a&lt;b &amp; &quot;c&quot;???: 4 cities</text>
+<g transform=\"translate(20 60) scale(0.1)\" fill=\"none\" stroke-linecap=\"round\" stroke-linejoin=\"round\" stroke-width=\"20\">
+<path stroke=\"black\" stroke-width=\"60\" d=\"
+M0,10000h0
+M7500,0h0
+M7500,10000h0
+M0,0h0
+\"/>
+</g>
+</svg>
+";
+
+const TOUR: &[u8] = b"<svg xmlns=\"http://www.w3.org/2000/svg\" viewBox=\"0 0 1040 1080\">
+<title>a&lt;b &amp; &quot;c&quot;???: tour of 4 cities, length 14</title>
+<rect width=\"100%\" height=\"100%\" fill=\"white\"/>
+<text x=\"20\" y=\"40\" font-family=\"sans-serif\" font-size=\"24\">a&lt;b &amp; &quot;c&quot;???: tour of 4 cities, length 14</text>
+<g transform=\"translate(20 60) scale(0.1)\" fill=\"none\" stroke-linecap=\"round\" stroke-linejoin=\"round\" stroke-width=\"20\">
+<polygon stroke=\"#0072B2\" stroke-dasharray=\"none\" points=\"
+0,10000
+7500,10000
+7500,0
+0,0
+\"/>
+<path stroke=\"black\" stroke-width=\"60\" d=\"
+M0,10000h0
+M7500,0h0
+M7500,10000h0
+M0,0h0
+\"/>
+</g>
+</svg>
+";
+
+/// The places are in one line, 3 wide. The second customer is the third node.
+const ROUTES: &[u8] = b"<svg xmlns=\"http://www.w3.org/2000/svg\" viewBox=\"0 0 1040 80\">
+<title>shop: 2 routes, cost 6</title>
+<rect width=\"100%\" height=\"100%\" fill=\"white\"/>
+<text x=\"20\" y=\"40\" font-family=\"sans-serif\" font-size=\"24\">shop: 2 routes, cost 6</text>
+<g transform=\"translate(20 60) scale(0.1)\" fill=\"none\" stroke-linecap=\"round\" stroke-linejoin=\"round\" stroke-width=\"20\">
+<polygon stroke=\"#0072B2\" stroke-dasharray=\"none\" points=\"
+6666,0
+10000,0
+\"/>
+<polygon stroke=\"#D55E00\" stroke-dasharray=\"none\" points=\"
+6666,0
+0,0
+\"/>
+<path stroke=\"black\" stroke-width=\"60\" d=\"
+M0,0h0
+M6666,0h0
+M10000,0h0
+\"/>
+<path fill=\"black\" d=\"M6666,0m-80,-80h160v160h-160z\"/>
+</g>
+</svg>
+";
+
+#[test]
+fn draws_cities(rt: HostRuntime) {
+    let given = plotted(rt.alloc(), RECTANGLE, None);
+    assert!(rt; given.answer == Ok(Plotted::Cities));
+    assert!(rt; given.drawn.as_slice() == CITIES);
+    assert!(rt; given.told.is_empty());
+}
+
+#[test]
+fn draws_a_tour(rt: HostRuntime) {
+    let tour = b"TYPE : TOUR\nTOUR_SECTION\n1 3 2 4 -1\n";
+    let given = plotted(rt.alloc(), RECTANGLE, Some(tour));
+    assert!(rt; given.answer == Ok(Plotted::Tour(Verdict::Tour)));
+    assert!(rt; given.drawn.as_slice() == TOUR);
+    assert!(rt; given.told.is_empty());
+}
+
+/// The route without a customer is not drawn.
+#[test]
+fn draws_routes(rt: HostRuntime) {
+    let solution = b"Route #1: 2\nRoute #2:\nRoute #3: 1\nCost 6\n";
+    let given = plotted(rt.alloc(), SHOP, Some(solution));
+    let valid = RouteVerdict::Valid { routes: 2, cost: 6 };
+    assert!(rt; given.answer == Ok(Plotted::Routes(valid)));
+    assert!(rt; given.drawn.as_slice() == ROUTES);
+    assert!(rt; given.told.is_empty());
+}
+
+#[test]
+fn tells_the_fault_of_a_tour(rt: HostRuntime) {
+    let tour = b"TYPE : TOUR\nTOUR_SECTION\n1 2 2 4 -1\n";
+    let given = plotted(rt.alloc(), RECTANGLE, Some(tour));
+    assert!(rt; given.answer == Ok(Plotted::Tour(Verdict::RepeatedCity(3))));
+    assert!(rt; given.drawn.is_empty());
+    assert!(rt; given.told.as_slice() == b"repeated city at place 3: 2\n".as_slice());
+}
+
+#[test]
+fn tells_the_fault_of_routes(rt: HostRuntime) {
+    let solution = b"Route #1: 1 2\nCost 6\n";
+    let given = plotted(rt.alloc(), SHOP, Some(solution));
+    assert!(rt; given.answer == Ok(Plotted::Routes(RouteVerdict::OverCapacity(1, 3))));
+    assert!(rt; given.drawn.is_empty());
+    assert!(rt; given.told.as_slice() == b"over capacity in route 1: 3\n".as_slice());
+}
+
+/// A problem without places is told before the tour is read.
+#[test]
+fn writes_nothing_on_a_faulty_text(rt: HostRuntime) {
+    let alloc = rt.alloc();
+    let fault = TextFault {
+        line: 1,
+        kind: TextKind::UnknownKeyword,
+    };
+    let bad = b"bad".as_slice();
+    expect_fault(&rt, plotted(alloc, bad, None), Fault::Problem(fault));
+    expect_fault(&rt, plotted(alloc, EXPLICIT, None), Fault::NoPlaces);
+    expect_fault(&rt, plotted(alloc, EXPLICIT, Some(bad)), Fault::NoPlaces);
+    expect_fault(
+        &rt,
+        plotted(alloc, RECTANGLE, Some(bad)),
+        Fault::Tour(fault),
+    );
+    expect_fault(&rt, plotted(alloc, SHOP, Some(bad)), Fault::Solution(fault));
+}
+
+/// The engine answers this fault, and writes nothing.
+fn expect_fault(rt: &impl Abort, given: Given, fault: Fault) {
+    assert!(rt; given.answer == Err(fault));
+    assert!(rt; given.drawn.is_empty());
+    assert!(rt; given.told.is_empty());
+}

@@ -1,0 +1,9 @@
+pub mod FirstLeft
+pub mod Leaving
+pub mod LeftLaws
+pub mod OneEach
+pub mod Parting
+pub mod Rows
+pub mod Sweeping
+pub mod Taking
+pub mod XOrder

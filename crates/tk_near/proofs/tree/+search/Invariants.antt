@@ -1,5 +1,0 @@
-use Rattle.tk_near.specs.Tree.{parts_of}
-use Rattle.tk_near.proofs.tree.+search.Given as goal
-
-abbrev pub decreases-search : goal.decreases-search
-decreases-search g l = parts_of l.tree.now

@@ -1,0 +1,7 @@
+//! Near lists in the plane: by a k-d tree and by a sweep, and the cities that are left of a tree.
+pub mod halve;
+pub mod keeper;
+pub mod left;
+pub mod placed;
+pub mod sweep;
+pub mod tree;

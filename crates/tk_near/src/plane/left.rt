@@ -1,0 +1,214 @@
+//! Cities that are left: they are taken out of a tree one by one, and the first of the others is found there.
+ghost use Rattle.std.specs.Prelude.{◌≡◌, ℕ, ◌<◌, ◌≤◌, All, length, IfOk, MatchOption, slice_index};
+ghost use Rattle.tk_near.specs.declared.plane.placed.Placed.{Placed};
+ghost use Rattle.tk_near.specs.Near.{IsFirst};
+ghost use Rattle.tk_near.specs.Placed.{IsPlaced, IsRow, city_at};
+ghost use Rattle.tk_near.specs.Tree.{entries_of, IsFramed, IsWithin, with_cities};
+ghost use Rattle.tk_near.specs.Left.{AreApart, IsTakenOut, IsNotIn, IsOtherIn, Stands};
+
+use crate::candidates::OPEN;
+use crate::plane::keeper::{Keeper, One};
+use crate::plane::placed::Placed;
+use crate::plane::tree::{Frame, Path, START, Tree, frame_of, planted, search_half, search_leaf};
+use std::alloc::{AllocError, Global};
+use std::marker::Model;
+use tk_distance::Planar;
+
+/// A city, and the turns that lead to the part of the tree where it was seen: the lowest bit is the first turn, and 1
+/// goes to the upper half. Other turns cost time alone.
+#[derive(Clone, Copy)]
+pub struct Found {
+    pub city: u32,
+    sides: u64,
+}
+
+impl Found {
+    /// A city that was not seen yet.
+    pub fn somewhere(city: u32) -> Found
+        ensures { result.city ≡ city }
+    {
+        Found { city, sides: 0 }
+    }
+}
+
+/// Cities of a metric: at first all, and then those that were not taken out.
+#[derive(Drop)]
+pub struct Left {
+    tree: Tree,
+}
+
+impl Model for Left {
+    ghost use Rattle.std.specs.Prelude.{List};
+    ghost use Rattle.tk_near.specs.declared.plane.placed.Placed.{Placed};
+    ghost use Rattle.tk_near.specs.Tree.{entries_of, IsFramed};
+
+    ghost Value = { List Placed };
+
+    ghost view = { λ v. entries_of v.tree };
+
+    ghost invariant = { λ v. IsFramed v.tree };
+}
+
+impl Left {
+    /// All cities.
+    ///
+    /// # Errors
+    /// `AllocError` where there is no memory for the row of the cities and its tree.
+    pub fn all<P: Planar>(alloc: Global, m: &P) -> Result<Left, AllocError>
+        ensures { IfOk result (λ left. IsRow (P.size_of m.now) (P.place_of m.now) left) }
+    {
+        let (_, tree) = planted(alloc, m)?;
+        Ok(Left { tree })
+    }
+
+    /// Takes a city out, which is looked for where it was found first, and finds the first of those that are left then,
+    /// by distance and number.
+    pub fn visit<P: Planar>(&mut self, m: &P, here: Placed, at: Found) -> Option<Found>
+        requires here { IsPlaced (P.size_of m.now) (P.place_of m.now) here }
+        requires apart { AreApart (P.size_of m.now) (P.place_of m.now) self.old }
+        requires there { Stands self.old here.city }
+        ensures taken { IsTakenOut here self.old self.new }
+        ensures first { MatchOption result ((b : ℕ) → IsOtherIn self.new here.city b → ⊥)
+            (λ found. IsFirst (P.distance m.now) here.city (IsOtherIn self.new here.city) found.city) }
+    {
+        let mut one = One {
+            best: OPEN,
+            sides: 0,
+        };
+        take_from(m, &here, &mut self.tree, at.sides, START, &mut one);
+        if one.best.distance == OPEN.distance {
+            None
+        } else {
+            Some(Found {
+                city: one.best.city,
+                sides: one.sides,
+            })
+        }
+    }
+}
+
+/// Where the city stands in the row.
+fn index_of(row: &[Placed], p: &Placed) -> Option<usize>
+    ensures { MatchOption result (IsNotIn p.now row.now)
+        (λ i. (i < length row.now) × (city_at row.now i ≡ p.now.city)) }
+{
+    for i in 0..row.len() {
+        if row[i].city == p.city {
+            return Some(i);
+        }
+    }
+    None
+}
+
+/// What is left of a part, from which a city was taken. No contract reads it: it tells which boxes to make anew, and a
+/// box that is not made anew costs time alone.
+#[derive(Clone, Copy)]
+enum Rest {
+    Some,
+    None,
+}
+
+impl Rest {
+    fn of(is_empty: bool) -> Rest {
+        if is_empty { Rest::None } else { Rest::Some }
+    }
+}
+
+/// The box of the cities of a tree.
+fn frame_over(tree: &Tree) -> Frame
+    requires { IsFramed tree.now }
+    ensures { All (IsWithin result) (entries_of tree.now) }
+{
+    match tree {
+        Tree::Leaf(row) => frame_of(row),
+        Tree::Cut(lower_frame, _, upper_frame, _) => lower_frame.joined(*upper_frame),
+    }
+}
+
+/// Makes the box of a tree anew if no city is left in it, so that no search enters it.
+#[inline(always)]
+fn renew(frame: &mut Frame, tree: &Tree, rest: Rest)
+    requires framed { IsFramed tree.now }
+    requires within { All (IsWithin frame.old) (entries_of tree.now) }
+    ensures { All (IsWithin frame.new) (entries_of tree.now) }
+{
+    if matches!(rest, Rest::None) {
+        *frame = frame_over(tree);
+    }
+}
+
+/// What is left of a part, of which one half was left so.
+#[inline(always)]
+fn rest_of(half: Rest, other: &Frame) -> Rest {
+    match half {
+        Rest::Some => Rest::Some,
+        Rest::None => Rest::of(other.is_void()),
+    }
+}
+
+/// Takes a city out of a row, and tells what is left, if it was there.
+fn take_from_leaf(row: &mut Vec<Placed>, p: &Placed) -> Option<Rest>
+    ensures { MatchOption result ((row.new.items ≡ row.old.items) × IsNotIn p.now row.old.items)
+        (λ _. IsTakenOut p.now row.old.items row.new.items) }
+{
+    let i = index_of(row, p)?;
+    row.swap_remove(i);
+    Some(Rest::of(row.is_empty()))
+}
+
+/// Takes the city here out of a tree, shows what is near of the others, and tells what is left, if it was there. It is
+/// looked for at the end of these turns first.
+fn take_from<P: Planar, K: Keeper>(
+    m: &P,
+    here: &Placed,
+    tree: &mut Tree,
+    sides: u64,
+    path: Path,
+    keeper: &mut K,
+) -> Option<Rest>
+    requires here { IsPlaced (P.size_of m.now) (P.place_of m.now) here.now }
+    requires placed { All (IsPlaced (P.size_of m.now) (P.place_of m.now)) (entries_of tree.old) }
+    requires framed { IsFramed tree.old }
+    ensures framed { IsFramed tree.new }
+    ensures taken { MatchOption result
+        ((entries_of tree.new ≡ entries_of tree.old) × IsNotIn here.now (entries_of tree.old))
+        (λ _. IsTakenOut here.now (entries_of tree.old) (entries_of tree.new)) }
+    ensures shown { MatchOption result
+        (K.kept_of keeper.new ≡ K.kept_of keeper.old)
+        (λ _. K.kept_of keeper.new
+        ≡ with_cities (P.distance m.now) here.now.city (entries_of tree.new) (K.kept_of keeper.old)) }
+{
+    match tree {
+        Tree::Leaf(row) => {
+            let rest = take_from_leaf(row, here)?;
+            search_leaf(m, here, row, path.sides(), keeper);
+            Some(rest)
+        }
+        Tree::Cut(lower_frame, lower, upper_frame, upper) => {
+            if path.goes_up(sides) {
+                if let Some(rest) = take_from(m, here, upper, sides, path.upper(), keeper) {
+                    renew(upper_frame, upper, rest);
+                    search_half(m, here, lower_frame, lower, path.lower(), keeper);
+                    return Some(rest_of(rest, lower_frame));
+                }
+                if let Some(rest) = take_from(m, here, lower, sides, path.lower(), keeper) {
+                    renew(lower_frame, lower, rest);
+                    search_half(m, here, upper_frame, upper, path.upper(), keeper);
+                    return Some(rest_of(rest, upper_frame));
+                }
+                return None;
+            }
+            if let Some(rest) = take_from(m, here, lower, sides, path.lower(), keeper) {
+                renew(lower_frame, lower, rest);
+                search_half(m, here, upper_frame, upper, path.upper(), keeper);
+                return Some(rest_of(rest, upper_frame));
+            }
+            if let Some(rest) = take_from(m, here, upper, sides, path.upper(), keeper) {
+                renew(upper_frame, upper, rest);
+                search_half(m, here, lower_frame, lower, path.lower(), keeper);
+                return Some(rest_of(rest, lower_frame));
+            }
+            None
+        }
+    }
+}

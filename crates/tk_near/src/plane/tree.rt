@@ -1,0 +1,402 @@
+//! Near lists by a k-d tree (J. L. Bentley, 1975).
+ghost use Rattle.std.specs.Prelude.{◌≡◌, ℕ, ℤ, ◌*◌, ◌≤◌, ◌<◌, ◌-ℤ◌, ◌≤ℤ◌, ◌↔◌, IfOk, IsTrue, All, IsPermutation, length, ⊤};
+ghost use Rattle.std.specs.Int.RustNames.{unsigned_abs};
+ghost use Rattle.tk_near.specs.declared.plane.placed.Placed.{Placed};
+ghost use Rattle.tk_near.specs.Near.{IsNear, AreNearest};
+ghost use Rattle.tk_near.specs.Keeping.{AreFilled, candidate, cities_of, rank};
+ghost use Rattle.tk_distance.specs.Cities.{IsCity};
+ghost use Rattle.tk_near.specs.Placed.{IsPlaced, IsRow};
+ghost use Rattle.tk_near.specs.Tree.{entries_of, IsWithin, IsFramed, IsBeyond, IsFrom, with_city, with_cities};
+
+use crate::candidates::{Candidate, OPEN, measure, write_cities};
+use crate::near::Near;
+use crate::plane::halve::halve;
+use crate::plane::keeper::{Keeper, Many};
+use crate::plane::placed::{Placed, row_of};
+use std::alloc::{AllocError, Global};
+use tk_distance::Planar;
+
+/// At most so many cities stand in a leaf.
+const LEAF: usize = 16;
+
+/// About so many cities of a row tell whether it takes more room in y than in x.
+const SAMPLE: usize = 16;
+
+/// The most that two places differ in a coordinate.
+const WIDEST: u64 = 2_000_000_000_000_000_000;
+
+/// A box round the cities of a part, and the range of their numbers.
+#[derive(Clone, Copy, Drop)]
+pub struct Frame {
+    pub left: i64,
+    pub right: i64,
+    pub bottom: i64,
+    pub top: i64,
+    pub least: u32,
+    pub greatest: u32,
+}
+
+/// Cities in parts.
+#[derive(Drop)]
+pub enum Tree {
+    Leaf(Vec<Placed>),
+    Cut(Frame, Box<Tree>, Frame, Box<Tree>),
+}
+
+/// The box of no city.
+const NOTHING: Frame = Frame {
+    left: i64::MAX,
+    right: i64::MIN,
+    bottom: i64::MAX,
+    top: i64::MIN,
+    least: u32::MAX,
+    greatest: 0,
+};
+
+/// The distance of a coordinate from a range.
+fn gap_between(at: i64, low: i64, high: i64) -> u64
+    ensures { (z : ℤ) → low ≤ℤ z → z ≤ℤ high → result ≤ unsigned_abs (at -ℤ z) }
+{
+    if at < low {
+        at.abs_diff(low)
+    } else if high < at {
+        at.abs_diff(high)
+    } else {
+        0
+    }
+}
+
+impl Frame {
+    /// The least box that has a further city.
+    fn widened(self, p: Placed) -> Frame
+        ensures this { IsWithin result p }
+        ensures others { (q : Placed) → IsWithin self q → IsWithin result q }
+    {
+        Frame {
+            left: self.left.min(p.place.x),
+            right: self.right.max(p.place.x),
+            bottom: self.bottom.min(p.place.y),
+            top: self.top.max(p.place.y),
+            least: self.least.min(p.city),
+            greatest: self.greatest.max(p.city),
+        }
+    }
+
+    /// The least box that has the cities of both.
+    pub fn joined(self, other: Frame) -> Frame
+        ensures first { (p : Placed) → IsWithin self p → IsWithin result p }
+        ensures second { (p : Placed) → IsWithin other p → IsWithin result p }
+    {
+        Frame {
+            left: self.left.min(other.left),
+            right: self.right.max(other.right),
+            bottom: self.bottom.min(other.bottom),
+            top: self.top.max(other.top),
+            least: self.least.min(other.least),
+            greatest: self.greatest.max(other.greatest),
+        }
+    }
+
+    /// A difference in x, or in y, that each city of the box has from here.
+    #[inline(always)]
+    fn gap(&self, here: &Placed) -> u64
+        ensures limit { result ≤ 2000000000000000000 }
+        ensures beyond { (p : Placed) → IsWithin self.now p → IsBeyond here.now result p }
+    {
+        let gap_x = gap_between(here.place.x, self.left, self.right);
+        let gap_y = gap_between(here.place.y, self.bottom, self.top);
+        gap_x.max(gap_y).min(WIDEST)
+    }
+
+    /// What no city of the box comes before, seen from here.
+    #[inline(always)]
+    fn first<P: Planar>(&self, m: &P, here: &Placed) -> Candidate
+        requires { IsPlaced (P.size_of m.now) (P.place_of m.now) here.now }
+        ensures { (p : Placed) → IsPlaced (P.size_of m.now) (P.place_of m.now) p → IsWithin self.now p
+            → IsFrom (P.distance m.now) here.now.city result p }
+    {
+        let gap = self.gap(here);
+        if gap == 0 {
+            return Candidate {
+                distance: 0,
+                city: self.least,
+            };
+        }
+        let floor = m.floor_x(gap) as u64;
+        Candidate {
+            distance: floor.min(OPEN.distance as u64) as u32,
+            city: self.least,
+        }
+    }
+
+    /// Whether it is the box of no city.
+    #[inline(always)]
+    pub fn is_void(&self) -> bool {
+        self.greatest < self.least
+    }
+
+    /// Whether the box takes more room in y than in x.
+    fn is_tall(self) -> bool {
+        self.top.abs_diff(self.bottom) > self.right.abs_diff(self.left)
+    }
+}
+
+/// The box of these cities.
+pub fn frame_of(row: &[Placed]) -> Frame
+    ensures { All (IsWithin result) row.now }
+{
+    let mut frame = NOTHING;
+    for p in row {
+        frame = frame.widened(*p);
+    }
+    frame
+}
+
+/// Whether a row takes more room in y than in x, as far as some of its cities tell. It has no contract: another answer
+/// costs time alone.
+fn is_tall(row: &[Placed]) -> bool {
+    let mut frame = NOTHING;
+    for part in row.chunks(row.len() / SAMPLE + 1) {
+        if let Some(p) = part.first() {
+            frame = frame.widened(*p);
+        }
+    }
+    frame.is_tall()
+}
+
+/// The tree of these cities, which are put in its order, and their box.
+fn plant(alloc: Global, row: &mut [Placed]) -> Result<(Tree, Frame), AllocError>
+    ensures moved { IfOk result (λ _. IsPermutation row.old row.new) }
+    ensures entries { IfOk result (λ r. entries_of r.0 ≡ row.new) }
+    ensures framed { IfOk result (λ r. IsFramed r.0) }
+    ensures within { IfOk result (λ r. All (IsWithin r.1) (entries_of r.0)) }
+{
+    if row.len() <= LEAF {
+        let mut leaf = Vec::with_capacity(alloc, row.len())?;
+        leaf.extend_from_slice(row)?;
+        return Ok((Tree::Leaf(leaf), frame_of(row)));
+    }
+    halve(row, is_tall(row));
+    let (lower, upper) = row.split_at_mut(row.len() / 2);
+    let (lower_tree, lower_frame) = plant(alloc, lower)?;
+    let (upper_tree, upper_frame) = plant(alloc, upper)?;
+    let lower_box = Box::new(alloc, lower_tree)?;
+    let upper_box = Box::new(alloc, upper_tree)?;
+    let frame = lower_frame.joined(upper_frame);
+    let tree = Tree::Cut(lower_frame, lower_box, upper_frame, upper_box);
+    Ok((tree, frame))
+}
+
+/// The cities of a metric in the order of a tree, and that tree.
+///
+/// # Errors
+/// `AllocError` where there is no memory for them.
+pub fn planted<P: Planar>(alloc: Global, m: &P) -> Result<(Vec<Placed>, Tree), AllocError>
+    ensures row { IfOk result (λ r. IsRow (P.size_of m.now) (P.place_of m.now) r.0.items) }
+    ensures entries { IfOk result (λ r. entries_of r.1 ≡ r.0.items) }
+    ensures framed { IfOk result (λ r. IsFramed r.1) }
+{
+    let mut row = row_of(alloc, m)?;
+    let (tree, _) = plant(alloc, &mut row)?;
+    Ok((row, tree))
+}
+
+/// The turns that lead from the whole tree to a part of it: bit i is 1 where turn i goes to the upper half. No contract
+/// reads them: they tell where a city was seen, so that it can be taken out there.
+#[derive(Clone, Copy)]
+pub struct Path {
+    sides: u64,
+    next: u64,
+}
+
+/// No turn yet.
+pub const START: Path = Path { sides: 0, next: 1 };
+
+impl Path {
+    /// The turns so far, one bit each.
+    #[inline(always)]
+    pub fn sides(self) -> u64 {
+        self.sides
+    }
+
+    /// Whether these turns go to the upper half next.
+    #[inline(always)]
+    pub fn goes_up(self, sides: u64) -> bool {
+        sides & self.next != 0
+    }
+
+    /// One more turn, to the lower half.
+    #[inline(always)]
+    pub fn lower(self) -> Path {
+        Path {
+            sides: self.sides,
+            next: self.next << 1,
+        }
+    }
+
+    /// One more turn, to the upper half.
+    #[inline(always)]
+    pub fn upper(self) -> Path {
+        Path {
+            sides: self.sides | self.next,
+            next: self.next << 1,
+        }
+    }
+}
+
+/// Whether a part may have a city for the kept, none of whose cities comes before `first`.
+#[inline(always)]
+fn may_enter(first: Candidate, last: Candidate) -> bool
+    ensures { IsTrue result ↔ (rank first < rank last) }
+{
+    first.is_before(last)
+}
+
+/// Whether a city, seen from another, comes before the last of the kept.
+#[inline(always)]
+fn comes_before<P: Planar>(m: &P, here: u32, there: u32, last: Candidate) -> bool
+    requires here { IsCity (P.size_of m.now) here }
+    requires there { IsCity (P.size_of m.now) there }
+    ensures { IsTrue result ↔ (rank (candidate (P.distance m.now) here there) < rank last) }
+{
+    let limit = last.distance as i64 + (there < last.city) as i64;
+    m.is_nearer(here, there, limit)
+}
+
+/// Shows a city to what keeps the first.
+#[inline(always)]
+fn show<P: Planar, K: Keeper>(m: &P, here: &Placed, there: &Placed, sides: u64, keeper: &mut K)
+    requires here { IsPlaced (P.size_of m.now) (P.place_of m.now) here.now }
+    requires there { IsPlaced (P.size_of m.now) (P.place_of m.now) there.now }
+    ensures { K.kept_of keeper.new ≡ with_city (P.distance m.now) here.now.city there.now (K.kept_of keeper.old) }
+{
+    if there.city != here.city && comes_before(m, here.city, there.city, keeper.last()) {
+        keeper.keep(measure(m, here.city, there.city), sides);
+    }
+}
+
+/// Shows the cities of a leaf.
+pub fn search_leaf<P: Planar, K: Keeper>(
+    m: &P,
+    here: &Placed,
+    leaf: &[Placed],
+    sides: u64,
+    keeper: &mut K,
+)
+    requires here { IsPlaced (P.size_of m.now) (P.place_of m.now) here.now }
+    requires placed { All (IsPlaced (P.size_of m.now) (P.place_of m.now)) leaf.now }
+    ensures { K.kept_of keeper.new ≡ with_cities (P.distance m.now) here.now.city leaf.now (K.kept_of keeper.old) }
+{
+    for there in leaf {
+        show(m, here, there, sides, keeper);
+    }
+}
+
+/// Shows what is near of a part: a half is left out if no city of its box comes before the last of the kept.
+pub fn search<P: Planar, K: Keeper>(m: &P, here: &Placed, tree: &Tree, path: Path, keeper: &mut K)
+    requires here { IsPlaced (P.size_of m.now) (P.place_of m.now) here.now }
+    requires placed { All (IsPlaced (P.size_of m.now) (P.place_of m.now)) (entries_of tree.now) }
+    requires framed { IsFramed tree.now }
+    ensures { K.kept_of keeper.new
+        ≡ with_cities (P.distance m.now) here.now.city (entries_of tree.now) (K.kept_of keeper.old) }
+{
+    match tree {
+        Tree::Leaf(leaf) => search_leaf(m, here, leaf, path.sides, keeper),
+        Tree::Cut(lower_frame, lower, upper_frame, upper) => {
+            let lower_first = lower_frame.first(m, here);
+            let upper_first = upper_frame.first(m, here);
+            if lower_first.is_before(upper_first) {
+                if may_enter(lower_first, keeper.last()) {
+                    search(m, here, lower, path.lower(), keeper);
+                }
+                if may_enter(upper_first, keeper.last()) {
+                    search(m, here, upper, path.upper(), keeper);
+                }
+            } else {
+                if may_enter(upper_first, keeper.last()) {
+                    search(m, here, upper, path.upper(), keeper);
+                }
+                if may_enter(lower_first, keeper.last()) {
+                    search(m, here, lower, path.lower(), keeper);
+                }
+            }
+        }
+    }
+}
+
+/// Shows what is near of a half, which is left out if no city of its box comes before the last of the kept.
+#[inline(always)]
+pub fn search_half<P: Planar, K: Keeper>(
+    m: &P,
+    here: &Placed,
+    frame: &Frame,
+    half: &Tree,
+    path: Path,
+    keeper: &mut K,
+)
+    requires here { IsPlaced (P.size_of m.now) (P.place_of m.now) here.now }
+    requires placed { All (IsPlaced (P.size_of m.now) (P.place_of m.now)) (entries_of half.now) }
+    requires framed { IsFramed half.now }
+    requires within { All (IsWithin frame.now) (entries_of half.now) }
+    ensures { K.kept_of keeper.new
+        ≡ with_cities (P.distance m.now) here.now.city (entries_of half.now) (K.kept_of keeper.old) }
+{
+    if may_enter(frame.first(m, here), keeper.last()) {
+        search(m, here, half, path, keeper);
+    }
+}
+
+/// The first of the cities other than that here, as many as there is room for.
+fn search_city<P: Planar>(m: &P, here: &Placed, tree: &Tree, many: &mut Many)
+    requires here { IsPlaced (P.size_of m.now) (P.place_of m.now) here.now }
+    requires row { IsRow (P.size_of m.now) (P.place_of m.now) (entries_of tree.now) }
+    requires framed { IsFramed tree.now }
+    requires high { length many.old.kept.items < P.size_of m.now }
+    ensures size { length many.new.kept.items ≡ length many.old.kept.items }
+    ensures near { IsNear (P.distance m.now) (P.size_of m.now) (length many.old.kept.items) here.now.city
+        (cities_of many.new.kept.items) }
+{
+    many.clear();
+    search(m, here, tree, START, many);
+}
+
+/// Fills the list of each city, in the order of the tree.
+fn fill_from_tree<P: Planar>(
+    m: &P,
+    row: &[Placed],
+    tree: &Tree,
+    many: &mut Many,
+    entries: &mut [u32],
+)
+    requires row { IsRow (P.size_of m.now) (P.place_of m.now) row.now }
+    requires tree { entries_of tree.now ≡ row.now }
+    requires framed { IsFramed tree.now }
+    requires high { length many.old.kept.items < P.size_of m.now }
+    requires room { length entries.old ≡ P.size_of m.now * length many.old.kept.items }
+    ensures { AreFilled (P.distance m.now) (P.size_of m.now) (length many.old.kept.items) (λ _. ⊤) entries.new }
+{
+    for here in row {
+        search_city(m, here, tree, many);
+        write_cities(entries, here.city, many.kept());
+    }
+}
+
+/// The near lists by a search of a tree for each city.
+///
+/// # Errors
+/// `AllocError` if there is no memory for the tree, or for n lists of k cities.
+pub fn near_tree<P: Planar>(alloc: Global, m: &P, k: u32) -> Result<Near, AllocError>
+    requires low { 1 ≤ k }
+    requires limit { k ≤ 100 }
+    requires high { k < P.size_of m.now }
+    ensures size { IfOk result (λ v. v.size ≡ P.size_of m.now) }
+    ensures width { IfOk result (λ v. v.width ≡ k) }
+    ensures near { IfOk result (λ v. AreNearest (P.distance m.now) v) }
+{
+    let width = k as usize;
+    let (row, tree) = planted(alloc, m)?;
+    let mut many = Many::new(alloc, width)?;
+    let mut entries = vec![in alloc; 0u32; m.size() as usize * width]?;
+    fill_from_tree(m, &row, &tree, &mut many, &mut entries);
+    Ok(Near::from_filled(m, k, entries))
+}

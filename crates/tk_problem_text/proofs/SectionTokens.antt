@@ -1,0 +1,9 @@
+pub mod DemandRows
+pub mod DepotList
+pub mod DepotTaken
+pub mod FixedSections
+pub mod OpenSections
+pub mod PlaceRows
+pub mod Rows
+pub mod SectionBegins
+pub mod WeightTokens

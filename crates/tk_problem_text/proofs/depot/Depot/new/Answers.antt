@@ -1,5 +1,0 @@
-use Rattle.tk_problem_text.proofs.DepotTaken.{has_none}
-use Rattle.tk_problem_text.proofs.depot.Depot.new.Goals as goal
-
-pub returns : goal.returns
-returns c = has_none c.args.n

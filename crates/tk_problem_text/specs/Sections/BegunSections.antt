@@ -1,0 +1,40 @@
+-- A section of a problem that begins.
+use Rattle.std.specs.Prelude.{◌≡◌, ◌≤◌, ◌*◌, ℕ, Bool, true, false, List, [], Option, Some, None, if◌then◌else◌}
+use Rattle.tk_words.specs.declared.keyword.Keyword.{Keyword}
+use Rattle.tk_words.specs.declared.keyword.Keyword.TheVariants as words
+use Rattle.tk_problem_text.specs.declared.sections.open_section.OpenSection.{OpenSection}
+use Rattle.tk_problem_text.specs.declared.sections.open_section.OpenSection.TheVariants.{Nothing, Places, Explicit, Loads, Home, Display}
+use Rattle.tk_lines.specs.Pieces.{Piece, first_at, has}
+use Rattle.tk_problem_text.specs.Problem.{size_of, format_in, is_known_section, section_tests, word_tests}
+use Rattle.tk_problem_text.specs.Sections.OpenSections.{IsListed, IsOpen}
+use Rattle.tk_problem_text.specs.Sections.Coordinates.{HasPlaces}
+use Rattle.tk_problem_text.specs.Sections.Demands.{HasDemands}
+use Rattle.tk_problem_text.specs.Sections.Weighing.{HasWeights}
+use Rattle.tk_problem_text.specs.Sections.DepotTaken.{HasDepot}
+
+-- no token of the word's section was taken
+abbrev pub IsUntouched : List Piece → Keyword → OpenSection → Type 0
+IsUntouched before word Nothing = ⊥
+IsUntouched before word (Places s) = (word ≡ words.NodeCoordSection) × HasPlaces (size_of before) s []
+IsUntouched before word (Explicit s) =
+    (word ≡ words.EdgeWeightSection) × HasWeights (size_of before) (format_in before) s [] × IsListed before
+IsUntouched before word (Loads s) =
+    (word ≡ words.DemandSection) × HasDemands (size_of before) s [] × (size_of before ≤ 5000)
+IsUntouched before word (Home s) = (word ≡ words.DepotSection) × HasDepot (size_of before) s []
+IsUntouched before word (Display left) = (word ≡ words.DisplayDataSection) × (left ≡ 3 * size_of before)
+
+-- whether a problem's section came, of the words that it can have
+abbrev pub came : List Piece → Keyword → Option Bool
+came ps word = if is_known_section word then Some (has word ps) else None
+
+-- nothing that must stand before the section is missing, and none of its tokens was taken
+pub record IsReady (before : List Piece) (word : Keyword) (s : OpenSection) : Type 0 where
+  pub tests : (n : ℕ) → first_at n (section_tests before word) ≡ None
+  pub untouched : IsUntouched before word s
+
+-- the section of a word on this line begins
+pub record IsBegun (before : List Piece) (word : Keyword) (n : ℕ) (s : OpenSection) : Type 0 where
+  pub sized : has words.Dimension before ≡ true
+  pub fresh : has word before ≡ false
+  pub none : first_at n (word_tests before word) ≡ None
+  pub begun : IsOpen before word n [] s

@@ -1,0 +1,42 @@
+-- What the reader of coordinates has taken.
+use Rattle.std.specs.Prelude.{◌≡◌, ◌<◌, ◌*◌, ◌^◌, ◌≤◌, ℕ, List, [], ◌∷◌, ◌++◌, length, Some}
+use Rattle.std.specs.Int.RustNames.{unsigned_abs}
+use Rattle.tk_problem.specs.declared.point.Point.{Point}
+use Rattle.tk_problem_text.specs.declared.sections.coordinates.Wanted.{Wanted}
+use Rattle.tk_problem_text.specs.declared.sections.coordinates.Wanted.TheVariants as wants
+use Rattle.tk_words.specs.Decimal.{decimal_of}
+use Rattle.tk_words.specs.Lex.{Token}
+use Rattle.tk_problem_text.specs.Sections.Nodes.{Named, HasNamed, HasNext}
+use Rattle.tk_problem_text.specs.Sections.Rows.{place_rows, nodes_in, places_of}
+
+-- the places by node, the nodes that were named, and what is wanted next
+pub record Placing : Type 0 where
+  pub places : List Point
+  pub nodes : Named
+  pub wanted : Wanted
+
+-- an index within the places, and a coordinate within its limit
+abbrev pub IsWithin : ℕ → Wanted → Type 0
+IsWithin size wants.Node = Unit {0}
+IsWithin size (wants.X index) = index < size
+IsWithin size (wants.Y index x) = (index < size) × (unsigned_abs x ≤ 10 ^ 18)
+
+pub record IsPlacing (places : List Point) (nodes : Named) (wanted : Wanted) : Type 0 where
+  pub sizes : length nodes.flags ≡ length places
+  pub within : IsWithin (length places) wanted
+
+-- the tokens of a row that is not whole, after rows that name these nodes
+abbrev pub HasPart : ℕ → Named → List ℕ → Wanted → List Token → Type 0
+HasPart n s nodes wants.Node part = (part ≡ []) × HasNamed n s nodes
+HasPart n s nodes (wants.X index) part = (a : Token) × (part ≡ a ∷ []) × HasNext n s nodes a index
+HasPart n s nodes (wants.Y index x) part =
+    (a b : Token) × (part ≡ a ∷ b ∷ []) × HasNext n s nodes a index × (decimal_of b.bytes ≡ Some x)
+
+-- these tokens of the rows of n nodes were taken: whole rows, and a part of one
+pub record HasPlaces (n : ℕ) (s : Placing) (toks : List Token) : Type 0 where
+  pub rows : List Token
+  pub part : List Token
+  pub are : toks ≡ rows ++ part
+  pub whole : length rows ≡ 3 * length (place_rows rows)
+  pub places : s.places ≡ places_of n rows
+  pub begun : HasPart n s.nodes (nodes_in (place_rows rows)) s.wanted part

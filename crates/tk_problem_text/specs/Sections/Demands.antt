@@ -1,0 +1,34 @@
+-- What the reader of demands has taken.
+use Rattle.std.specs.Prelude.{◌≡◌, ◌<◌, ◌*◌, ℕ, List, [], ◌∷◌, ◌++◌, length, Option, Some, None}
+use Rattle.tk_words.specs.Lex.{Token}
+use Rattle.tk_problem_text.specs.Sections.Nodes.{Named, HasNamed, HasNext}
+use Rattle.tk_problem_text.specs.Sections.Rows.{demand_rows, nodes_in, demands_of}
+
+-- the demands by node, the nodes that were named, and the one whose demand is wanted next
+pub record Loading : Type 0 where
+  pub loads : List ℕ
+  pub nodes : Named
+  pub node : Option ℕ
+
+-- an index within the demands
+abbrev pub IsIndex : ℕ → Option ℕ → Type 0
+IsIndex size None = Unit {0}
+IsIndex size (Some index) = index < size
+
+pub record IsLoading (loads : List ℕ) (nodes : Named) (node : Option ℕ) : Type 0 where
+  pub sizes : length nodes.flags ≡ length loads
+  pub within : IsIndex (length loads) node
+
+-- the tokens of a row that is not whole, after rows that name these nodes
+abbrev pub HasPart : ℕ → Named → List ℕ → Option ℕ → List Token → Type 0
+HasPart n s nodes None part = (part ≡ []) × HasNamed n s nodes
+HasPart n s nodes (Some index) part = (a : Token) × (part ≡ a ∷ []) × HasNext n s nodes a index
+
+-- these tokens of the rows of n nodes were taken: whole rows, and a part of one
+pub record HasDemands (n : ℕ) (s : Loading) (toks : List Token) : Type 0 where
+  pub rows : List Token
+  pub part : List Token
+  pub are : toks ≡ rows ++ part
+  pub whole : length rows ≡ 2 * length (demand_rows rows)
+  pub loads : s.loads ≡ demands_of n rows
+  pub begun : HasPart n s.nodes (nodes_in (demand_rows rows)) s.node part

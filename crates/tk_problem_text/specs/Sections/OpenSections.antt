@@ -1,0 +1,81 @@
+-- The section of a problem whose tokens come.
+use Rattle.std.specs.Prelude.{◌≡◌, ◌≤◌, ◌+◌, ◌*◌, ◌++◌, ℕ, true, List, length, map, slice_index, Option, Some, None, []}
+use Rattle.tk_words.specs.declared.keyword.Keyword.{Keyword}
+use Rattle.tk_words.specs.declared.keyword.Keyword.TheVariants as words
+use Rattle.tk_problem_text.specs.declared.sections.open_section.OpenSection.{OpenSection}
+use Rattle.tk_problem_text.specs.declared.sections.open_section.OpenSection.TheVariants.{Nothing, Places, Explicit, Loads, Home, Display}
+use Rattle.tk_words.specs.Lex.{Token}
+use Rattle.tk_lines.specs.Pieces.{Piece, After, has, first_at}
+use Rattle.tk_lines.specs.Forms.{a_section}
+use Rattle.tk_problem_text.specs.Sections.Rows.{number_in}
+use Rattle.tk_problem_text.specs.Sections.FixedSections.{HasTokens, tokens_stop}
+use Rattle.tk_problem_text.specs.Sections.WeightSection.{weight_count}
+use Rattle.tk_problem_text.specs.Problem.{size_of, format_in, token_tests, wanted, problem_format, word_tests}
+use Rattle.tk_problem_text.specs.Sections.Coordinates.{HasPlaces}
+use Rattle.tk_problem_text.specs.Sections.Demands.{HasDemands}
+use Rattle.tk_problem_text.specs.Sections.Weighing.{HasWeights}
+use Rattle.tk_problem_text.specs.Sections.DepotTaken.{HasDepot}
+use Rattle.tk_problem_text.specs.Sections.DepotList.{depot_tests}
+
+-- the section of a depot, at whose word nothing stops, and tokens of it without a fault
+pub record HasDepotTokens (before : List Piece) (n : ℕ) (toks : List Token) : Type 0 where
+  pub word : first_at n (word_tests before words.DepotSection) ≡ None
+  pub few : length toks ≤ 1
+  pub good : tokens_stop (depot_tests (size_of before)) [] toks ≡ None
+
+-- tokens of a section of a fixed count, without a fault
+abbrev pub HasSome : List Piece → Keyword → ℕ → List Token → Type 0
+HasSome before word n toks = HasTokens problem_format before word n (token_tests before word) (wanted before word) toks
+
+-- the formats of weights that are listed
+abbrev pub IsListed : List Piece → Type 0
+IsListed before = (has words.EdgeWeightFormat before ≡ true)
+    × (wanted before words.EdgeWeightSection ≡ weight_count (size_of before) (format_in before))
+
+-- after these pieces, these tokens of the word's section were taken, and more are to come
+abbrev pub IsOpen : List Piece → Keyword → ℕ → List Token → OpenSection → Type 0
+IsOpen before word n toks Nothing = ⊥
+IsOpen before word n toks (Places s) =
+    (word ≡ words.NodeCoordSection) × HasSome before word n toks × HasPlaces (size_of before) s toks
+IsOpen before word n toks (Explicit s) =
+    (word ≡ words.EdgeWeightSection) × HasSome before word n toks
+    × HasWeights (size_of before) (format_in before) s toks × IsListed before
+IsOpen before word n toks (Loads s) =
+    (word ≡ words.DemandSection) × HasSome before word n toks × HasDemands (size_of before) s toks
+    × (size_of before ≤ 5000)
+IsOpen before word n toks (Home s) =
+    (word ≡ words.DepotSection) × HasDepotTokens before n toks × HasDepot (size_of before) s toks
+IsOpen before word n toks (Display left) =
+    (word ≡ words.DisplayDataSection) × HasSome before word n toks × (left + length toks ≡ 3 * size_of before)
+
+-- a section of a fixed count of tokens
+abbrev pub IsCounted : OpenSection → Type 0
+IsCounted Nothing = ⊥
+IsCounted (Home s) = ⊥
+IsCounted _ = Unit {0}
+
+-- a node of 1..n, the first one that is listed
+abbrev pub IsFirst : ℕ → ℕ → Option ℕ → Type 0
+IsFirst n first None = ⊥
+IsFirst n first (Some node) = (node ≡ first) × (1 ≤ node) × (node ≤ n)
+
+-- these are all of its tokens
+abbrev pub IsFull : List Piece → Keyword → List Token → OpenSection → Type 0
+IsFull before word toks Nothing = ⊥
+IsFull before word toks (Places s) =
+    (word ≡ words.NodeCoordSection) × HasPlaces (size_of before) s toks × (length toks ≡ 3 * size_of before)
+IsFull before word toks (Explicit s) =
+    (word ≡ words.EdgeWeightSection) × HasWeights (size_of before) (format_in before) s toks × IsListed before
+IsFull before word toks (Loads s) =
+    (word ≡ words.DemandSection) × HasDemands (size_of before) s toks × (length toks ≡ 2 * size_of before)
+    × (size_of before ≤ 5000)
+IsFull before word toks (Home s) =
+    (word ≡ words.DepotSection) × IsFirst (size_of before) (slice_index (map number_in toks) 0) s.node
+IsFull before word toks (Display left) = word ≡ words.DisplayDataSection
+
+-- these pieces are those after which it began, and the whole section
+pub record IsPast (before : List Piece) (word : Keyword) (n : ℕ) (s : OpenSection) (ps : List Piece) : Type 0 where
+  pub toks : List Token
+  pub after : After
+  pub are : ps ≡ before ++ a_section word n toks after
+  pub full : IsFull before word toks s

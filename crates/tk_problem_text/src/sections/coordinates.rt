@@ -1,0 +1,104 @@
+//! The coordinates of a problem, token by token.
+ghost use Rattle.std.specs.Prelude.{◌≡◌, ◌+◌, ◌*◌, ◌<◌, ◌≤◌, ℕ, List, [], ◌∷◌, ◌++◌, length, None, Some, IfOk, IfErr, OnErr};
+ghost use Rattle.tk_problem_text.specs.Sections.FixedSections.{fixed_taken};
+ghost use Rattle.tk_lines.specs.Forms.{whole, IsToldWord};
+ghost use Rattle.tk_words.specs.Lex.{Token};
+ghost use Rattle.tk_lines.specs.Pieces.{first_at, Fault};
+ghost use Rattle.tk_problem_text.specs.Sections.Rows.{place_tests, places_of};
+
+use crate::sections::nodes::Nodes;
+use std::alloc::Global;
+use std::marker::Model;
+use tk_lines::Taken;
+use tk_problem::{Point, Points};
+use tk_words::{TextKind, decimal};
+
+/// What the next token of a row of coordinates is.
+#[derive(Clone, Copy, Debug, PartialEq, Eq)]
+enum Wanted {
+    Node,
+    X { index: usize },
+    Y { index: usize, x: i64 },
+}
+
+/// NODE_COORD_SECTION: a node, x and y for each of n nodes.
+#[derive(Drop)]
+pub struct Coordinates {
+    places: Points,
+    nodes: Nodes,
+    wanted: Wanted,
+}
+
+impl Model for Coordinates {
+    ghost use Rattle.tk_problem_text.specs.Sections.Coordinates.{Placing, IsPlacing};
+
+    ghost Value = { Placing };
+
+    ghost view = { λ s. record { places = s.places; nodes = s.nodes; wanted = s.wanted } };
+
+    ghost invariant = { λ s. IsPlacing s.places s.nodes s.wanted };
+}
+
+impl Coordinates {
+    ghost use Rattle.tk_problem_text.specs.Sections.Coordinates.{HasPlaces};
+
+    /// Of n nodes, none of them placed.
+    ///
+    /// # Errors
+    /// `NoMemory` if there is no memory for n places.
+    pub fn new(alloc: Global, n: u32) -> Result<Self, TextKind>
+        ensures ok { IfOk result (λ s. HasPlaces n s []) }
+        ensures err { IfErr result (λ k. k ≡ TextKind.NoMemory) }
+    {
+        match Points::at_origin(alloc, n as usize) {
+            Ok(places) => Ok(Coordinates {
+                places,
+                nodes: Nodes::new(alloc, n)?,
+                wanted: Wanted::Node,
+            }),
+            Err(_) => Err(TextKind::NoMemory),
+        }
+    }
+
+    /// Takes a token. After an error nothing was taken.
+    pub fn take(&mut self, token: &[u8]) -> Result<Taken, TextKind>
+        requires { length token.now ≤ 64 }
+        ensures ok { (n : ℕ) (toks : List Token) (line : ℕ) → HasPlaces n self.old toks → length toks < 3 * n
+            → IfOk result (λ taken. (first_at line (place_tests n toks (whole token.now line)) ≡ None)
+            × HasPlaces n self.new (toks ++ whole token.now line ∷ []) × (taken ≡ fixed_taken (3 * n) toks)) }
+        ensures err { (n : ℕ) (toks : List Token) (line : ℕ) → HasPlaces n self.old toks
+            → IfErr result (IsToldWord (λ k.
+            first_at line (place_tests n toks (whole token.now line)) ≡ Some (Fault line k))) }
+        ensures kept { OnErr result (self.new ≡ self.old) }
+    {
+        match self.wanted {
+            Wanted::Node => {
+                let index = self.nodes.name(token)?;
+                self.wanted = Wanted::X { index };
+            }
+            Wanted::X { index } => {
+                let x = decimal(token)?;
+                self.wanted = Wanted::Y { index, x };
+            }
+            Wanted::Y { index, x } => {
+                let y = decimal(token)?;
+                if self.places.set(index, Point { x, y }).is_err() {
+                    return Err(TextKind::NoMemory);
+                }
+                self.wanted = Wanted::Node;
+                if self.nodes.are_all() {
+                    return Ok(Taken::Last);
+                }
+            }
+        }
+        Ok(Taken::More)
+    }
+
+    /// The places by node.
+    pub fn into_places(self) -> Points
+        ensures { (n : ℕ) (toks : List Token) → HasPlaces n self toks → length toks ≡ 3 * n
+            → result ≡ places_of n toks }
+    {
+        self.places
+    }
+}

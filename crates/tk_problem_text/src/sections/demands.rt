@@ -1,0 +1,91 @@
+//! The demands of a problem, token by token.
+ghost use Rattle.std.specs.Prelude.{◌≡◌, ◌*◌, ◌<◌, ℕ, List, [], ◌∷◌, ◌++◌, length, None, Some, IfOk, IfErr, OnErr};
+ghost use Rattle.tk_problem_text.specs.Sections.FixedSections.{fixed_taken};
+ghost use Rattle.tk_lines.specs.Forms.{whole};
+ghost use Rattle.tk_words.specs.Lex.{Token};
+ghost use Rattle.tk_lines.specs.Pieces.{first_at, Fault};
+ghost use Rattle.tk_problem_text.specs.Sections.Rows.{demand_tests, demands_of};
+
+use crate::sections::nodes::Nodes;
+use crate::sections::within::number_of;
+use std::alloc::Global;
+use std::marker::Model;
+use tk_lines::Taken;
+use tk_words::TextKind;
+
+/// A demand, and a capacity.
+pub const LOAD_LIMIT: u32 = 2_000_000_000;
+
+/// DEMAND_SECTION: a node and its demand for each of n nodes.
+#[derive(Drop)]
+pub struct Demands {
+    loads: Vec<u32>,
+    nodes: Nodes,
+    node: Option<usize>,
+}
+
+impl Model for Demands {
+    ghost use Rattle.tk_problem_text.specs.Sections.Demands.{Loading, IsLoading};
+
+    ghost Value = { Loading };
+
+    ghost view = { λ s. record { loads = s.loads.items; nodes = s.nodes; node = s.node } };
+
+    ghost invariant = { λ s. IsLoading s.loads.items s.nodes s.node };
+}
+
+impl Demands {
+    ghost use Rattle.tk_problem_text.specs.Sections.Demands.{HasDemands};
+
+    /// Of n nodes, none of them named.
+    ///
+    /// # Errors
+    /// `NoMemory` if there is no memory for n demands.
+    pub fn new(alloc: Global, n: u32) -> Result<Self, TextKind>
+        ensures ok { IfOk result (λ s. HasDemands n s []) }
+        ensures err { IfErr result (λ k. k ≡ TextKind.NoMemory) }
+    {
+        match vec![in alloc; 0; n as usize] {
+            Ok(loads) => Ok(Demands {
+                loads,
+                nodes: Nodes::new(alloc, n)?,
+                node: None,
+            }),
+            Err(_) => Err(TextKind::NoMemory),
+        }
+    }
+
+    /// Takes a token. After an error nothing was taken.
+    pub fn take(&mut self, token: &[u8]) -> Result<Taken, TextKind>
+        ensures ok { (n : ℕ) (toks : List Token) (line : ℕ) → HasDemands n self.old toks → length toks < 2 * n
+            → IfOk result (λ taken. (first_at line (demand_tests n toks (whole token.now line)) ≡ None)
+            × HasDemands n self.new (toks ++ whole token.now line ∷ []) × (taken ≡ fixed_taken (2 * n) toks)) }
+        ensures err { (n : ℕ) (toks : List Token) (line : ℕ) → HasDemands n self.old toks
+            → IfErr result (λ k. first_at line (demand_tests n toks (whole token.now line)) ≡ Some (Fault line k)) }
+        ensures kept { OnErr result (self.new ≡ self.old) }
+    {
+        match self.node {
+            None => {
+                let index = self.nodes.name(token)?;
+                self.node = Some(index);
+            }
+            Some(index) => {
+                let load = number_of(token, 0, LOAD_LIMIT)?;
+                self.loads[index] = load;
+                self.node = None;
+                if self.nodes.are_all() {
+                    return Ok(Taken::Last);
+                }
+            }
+        }
+        Ok(Taken::More)
+    }
+
+    /// The demands by node.
+    pub fn into_loads(self) -> Vec<u32>
+        ensures { (n : ℕ) (toks : List Token) → HasDemands n self toks → length toks ≡ 2 * n
+            → result.items ≡ demands_of n toks }
+    {
+        self.loads
+    }
+}

@@ -1,0 +1,89 @@
+//! The depot of a problem, token by token.
+ghost use Rattle.std.specs.Prelude.{◌≡◌, ◌≤◌, ℕ, List, [], ◌∷◌, length, None, IfOk, IfErr, OnOk, OnErr};
+ghost use Rattle.tk_problem_text.specs.Sections.DepotList.{depot_tests};
+ghost use Rattle.tk_problem_text.specs.Sections.DepotTaken.{HasDepot, DepotTakes, DepotRefuses};
+ghost use Rattle.tk_words.specs.Entry.{IsNumber};
+ghost use Rattle.tk_problem_text.specs.Sections.FixedSections.{all_tests};
+ghost use Rattle.tk_lines.specs.Forms.{whole, IsToldWord};
+ghost use Rattle.tk_words.specs.Lex.{Token};
+ghost use Rattle.tk_lines.specs.Pieces.{first_at};
+
+use tk_lines::Taken;
+use tk_words::{Entry, TextKind, entry_of, limited};
+
+/// DEPOT_SECTION: one node, then -1 or the end of the text.
+#[derive(Clone, Copy, Debug)]
+pub struct Depot {
+    pub size: u32,
+    pub node: Option<u32>,
+}
+
+impl Depot {
+    /// Of a problem of n nodes, before the depot.
+    pub fn new(n: u32) -> Self
+        ensures { HasDepot n result [] }
+    {
+        Depot {
+            size: n,
+            node: None,
+        }
+    }
+
+    /// Takes a token. `BadDepot` where a number is no node of the problem, or not the only one,
+    /// `Truncated` for a word where a number is wanted, `BadNumber` for another token. After an
+    /// error nothing was taken.
+    pub fn take(&mut self, token: &[u8]) -> Result<Taken, TextKind>
+        requires { length token.now ≤ 64 }
+        ensures ok { (n : ℕ) (toks : List Token) (line : ℕ) → HasDepot n self.old toks
+            → IfOk result (DepotTakes n self.old self.new toks (whole token.now line)) }
+        ensures err { (n : ℕ) (toks : List Token) (line : ℕ) → HasDepot n self.old toks
+            → IfErr result (IsToldWord (DepotRefuses n toks (whole token.now line))) }
+        ensures kept { OnErr result (self.new ≡ self.old) }
+    {
+        match self.node {
+            None => {
+                let node = first_node(token, self.size)?;
+                self.node = Some(node);
+                Ok(Taken::More)
+            }
+            Some(_) => behind_node(token),
+        }
+    }
+}
+
+/// The node that a token names where none stands before it.
+fn first_node(token: &[u8], size: u32) -> Result<u32, TextKind>
+    ensures node { IfOk result (IsNumber 1 size token.now) }
+    ensures ok { (line : ℕ) → OnOk result (first_at line (all_tests (depot_tests size) [] (whole token.now line))
+        ≡ None) }
+    ensures err { (line : ℕ) → IfErr result (IsToldWord (DepotRefuses size [] (whole token.now line))) }
+{
+    match entry_of(token) {
+        Entry::Number(number) => match limited(number, 1, size) {
+            Some(node) => Ok(node),
+            None => Err(TextKind::BadDepot),
+        },
+        Entry::Eof | Entry::Word => Err(TextKind::Truncated),
+        Entry::Other => Err(TextKind::BadNumber),
+    }
+}
+
+/// What a token does after the node.
+fn behind_node(token: &[u8]) -> Result<Taken, TextKind>
+    ensures ok { (n : ℕ) (depot : Depot) (node : Token) (line : ℕ)
+        → IfOk result (DepotTakes n depot depot (node ∷ []) (whole token.now line)) }
+    ensures err { (n : ℕ) (node : Token) (line : ℕ)
+        → IfErr result (IsToldWord (DepotRefuses n (node ∷ []) (whole token.now line))) }
+{
+    match entry_of(token) {
+        Entry::Number(number) => {
+            if number == -1 {
+                return Ok(Taken::Ending);
+            }
+            Err(TextKind::BadDepot)
+        }
+        Entry::Eof => Ok(Taken::Eof),
+        Entry::Word => Err(TextKind::Truncated),
+        Entry::Other => Err(TextKind::BadNumber),
+    }
+}

@@ -1,0 +1,147 @@
+//! The explicit weights of a problem, token by token.
+ghost use Rattle.std.specs.Prelude.{◌≡◌, ◌≢◌, ◌<◌, ◌≤◌, ℕ, suc, List, [], ◌∷◌, ◌++◌, length, None, Some, pos, slice_get, nat_lt, ◌&&◌, IfOk, IfErr, IfSome, OnErr};
+ghost use Rattle.tk_problem.specs.declared.weights.Format.{Format};
+ghost use Rattle.tk_problem.specs.declared.weights.Weights.TheVariants as weights;
+ghost use Rattle.tk_problem_text.specs.Sections.FixedSections.{fixed_taken};
+ghost use Rattle.tk_lines.specs.Forms.{whole, IsToldWord};
+ghost use Rattle.tk_words.specs.Lex.{Token, integer};
+ghost use Rattle.tk_lines.specs.Pieces.{first_at, Fault};
+ghost use Rattle.tk_problem.specs.Shape.{WeightsFit};
+ghost use Rattle.tk_problem.specs.WeightOrder.{weight_of, entries};
+ghost use Rattle.tk_problem_text.specs.Sections.WeightSection.{is_full, weight_count, weight_tests, weights_in, lower_weights};
+
+use std::alloc::Global;
+use tk_lines::Taken;
+use tk_problem::{Format, LowerWeights, Place};
+use tk_words::{TextKind, integer, limited};
+
+/// An explicit weight.
+pub const WEIGHT_LIMIT: u32 = 4_000_000_000;
+
+/// EDGE_WEIGHT_SECTION: the weights of a format, kept as the lower triangle row by row without its diagonal.
+#[derive(Drop)]
+pub struct ExplicitWeights {
+    pub format: Format,
+    pub lower: LowerWeights,
+}
+
+impl ExplicitWeights {
+    ghost use Rattle.tk_problem_text.specs.Sections.Weighing.{HasWeights};
+
+    /// Of n cities, before the first weight.
+    ///
+    /// # Errors
+    /// `NoMemory` if there is no memory for n (n - 1) / 2 weights.
+    pub fn new(alloc: Global, n: u32, format: Format) -> Result<Self, TextKind>
+        requires { n ≤ 5000 }
+        ensures ok { IfOk result (λ s. HasWeights n format s []) }
+        ensures err { IfErr result (λ k. k ≡ TextKind.NoMemory) }
+    {
+        match LowerWeights::new(alloc, format, n) {
+            Ok(lower) => Ok(ExplicitWeights { format, lower }),
+            Err(_) => Err(TextKind::NoMemory),
+        }
+    }
+
+    /// Takes a token. After an error nothing was taken.
+    pub fn take(&mut self, token: &[u8]) -> Result<Taken, TextKind>
+        ensures ok { (n : ℕ) (f : Format) (toks : List Token) (line : ℕ) → HasWeights n f self.old toks
+            → length toks < weight_count n f
+            → IfOk result (λ taken. (first_at line (weight_tests n f toks (whole token.now line)) ≡ None)
+            × HasWeights n f self.new (toks ++ whole token.now line ∷ [])
+            × (taken ≡ fixed_taken (weight_count n f) toks)) }
+        ensures err { (n : ℕ) (f : Format) (toks : List Token) (line : ℕ) → HasWeights n f self.old toks
+            → IfErr result (IsToldWord (λ k. first_at line (weight_tests n f toks (whole token.now line))
+            ≡ Some (Fault line k))) }
+        ensures kept { OnErr result (self.new ≡ self.old) }
+    {
+        let Some(number) = integer(token) else {
+            return Err(TextKind::BadNumber);
+        };
+        if self.lower.is_done() {
+            return Ok(Taken::Last);
+        }
+        self.put(number)?;
+        if self.lower.is_done() {
+            return Ok(Taken::Last);
+        }
+        Ok(Taken::More)
+    }
+
+    /// Puts a number at the next place. After an error nothing was put.
+    fn put(&mut self, number: i64) -> Result<(), TextKind>
+        requires { 0 < length self.old.lower.places }
+        ensures ok { (n : ℕ) (f : Format) (toks : List Token) (t : Token) → HasWeights n f self.old toks
+            → integer t.bytes ≡ Some number
+            → IfOk result (λ _. (first_at t.line (weight_tests n f toks t) ≡ None)
+            × HasWeights n f self.new (toks ++ t ∷ [])) }
+        ensures err { (n : ℕ) (f : Format) (toks : List Token) (t : Token) → HasWeights n f self.old toks
+            → integer t.bytes ≡ Some number
+            → IfErr result (IsToldWord (λ k. first_at t.line (weight_tests n f toks t) ≡ Some (Fault t.line k))) }
+        ensures kept { OnErr result (self.new ≡ self.old) }
+    {
+        if self.lower.place().is_diagonal() {
+            self.lower.skip();
+            return Ok(());
+        }
+        let weight = self.weight(number)?;
+        self.lower.push(weight);
+        Ok(())
+    }
+
+    /// The weight that a number gives the next pair.
+    fn weight(&self, number: i64) -> Result<u32, TextKind>
+        requires more { 0 < length self.now.lower.places }
+        requires pair { IfSome (slice_get self.now.lower.places 0) (λ p. p.row ≢ p.column) }
+        ensures ok { (n : ℕ) (f : Format) (toks : List Token) (t : Token) → HasWeights n f self.now toks
+            → integer t.bytes ≡ Some number → IfOk result (λ w. first_at t.line (weight_tests n f toks t) ≡ None) }
+        ensures is { IfOk result (λ w. (number ≡ pos w) × (w ≤ 4000000000)) }
+        ensures err { (n : ℕ) (f : Format) (toks : List Token) (t : Token) → HasWeights n f self.now toks
+            → integer t.bytes ≡ Some number
+            → IfErr result (IsToldWord (λ k. first_at t.line (weight_tests n f toks t) ≡ Some (Fault t.line k))) }
+    {
+        let place = self.lower.place();
+        let Some(weight) = limited(number, 0, WEIGHT_LIMIT) else {
+            return Err(TextKind::OutOfLimit);
+        };
+        if self.repeats(place) {
+            return self.again(place, weight);
+        }
+        Ok(weight)
+    }
+
+    /// A weight below the diagonal of a full matrix, which is that above it.
+    fn again(&self, place: Place, weight: u32) -> Result<u32, TextKind>
+        requires next { slice_get self.now.lower.places 0 ≡ Some place }
+        requires below { place.column < place.row }
+        ensures same { IfOk result (λ w. w ≡ weight) }
+        ensures ok { (n : ℕ) (f : Format) (toks : List Token) → HasWeights n f self.now toks
+            → IfOk result (λ w. w ≡ weight_of place.row place.column (entries f n (weights_in toks))) }
+        ensures err { (n : ℕ) (f : Format) (toks : List Token) → HasWeights n f self.now toks
+            → IfErr result (λ k. (k ≡ TextKind.NotSymmetric (suc place.column) (suc place.row))
+            × (weight ≢ weight_of place.row place.column (entries f n (weights_in toks)))) }
+    {
+        if self.lower.weight() == weight {
+            return Ok(weight);
+        }
+        Err(TextKind::NotSymmetric(place.column.saturating_add(1), place.row.saturating_add(1)))
+    }
+
+    /// Whether a full matrix has the pair of a place already.
+    fn repeats(&self, place: Place) -> bool
+        ensures { result ≡ (is_full self.now.format && nat_lt place.column place.row) }
+    {
+        match self.format {
+            Format::FullMatrix => place.column < place.row,
+            _ => false,
+        }
+    }
+
+    /// The lower triangle, at the end.
+    pub fn into_lower(self) -> Vec<u32>
+        ensures { (n : ℕ) (f : Format) (toks : List Token) → HasWeights n f self toks
+            → (result.items ≡ lower_weights n f toks) × WeightsFit n (weights.Lower result) }
+    {
+        self.lower.into_weights()
+    }
+}

@@ -1,0 +1,87 @@
+//! The nodes that a section names, each once.
+ghost use Rattle.std.specs.Prelude.{◌≡◌, ◌<◌, ◌==◌, ℕ, suc, pos, List, [], None, Some, IfOk, OnErr, IfErr, MatchResult, length};
+ghost use Rattle.tk_lines.specs.Forms.{whole};
+ghost use Rattle.tk_words.specs.Lex as Lex;
+ghost use Rattle.tk_problem_text.specs.Sections.Nodes.{HasNamed, HasNext};
+ghost use Rattle.tk_lines.specs.Pieces.{first_at, Fault};
+ghost use Rattle.tk_problem_text.specs.Sections.Rows.{node_tests};
+
+use std::alloc::Global;
+use std::marker::Model;
+use tk_words::{TextKind, integer};
+
+/// Which of the nodes 1 to n were named.
+#[derive(Drop)]
+pub struct Nodes {
+    named: Vec<bool>,
+    left: u32,
+}
+
+impl Model for Nodes {
+    ghost use Rattle.tk_problem_text.specs.Sections.Nodes.{Named};
+
+    ghost Value = { Named };
+
+    ghost view = { λ s. record { flags = s.named.items; left = s.left } };
+}
+
+impl Nodes {
+    /// None of n nodes named.
+    ///
+    /// # Errors
+    /// `NoMemory` if there is no memory for n flags.
+    pub fn new(alloc: Global, n: u32) -> Result<Self, TextKind>
+        ensures ok { IfOk result (λ s. HasNamed n s []) }
+        ensures err { IfErr result (λ k. k ≡ TextKind.NoMemory) }
+    {
+        match vec![in alloc; false; n as usize] {
+            Ok(named) => Ok(Nodes { named, left: n }),
+            Err(_) => Err(TextKind::NoMemory),
+        }
+    }
+
+    /// Names a node, and answers it counted from 0. `BadNumber` where the token is no integer,
+    /// `BadNode` where it is no node or was named before.
+    pub fn name(&mut self, token: &[u8]) -> Result<usize, TextKind>
+        ensures index { IfOk result (λ index. index < length self.old.flags) }
+        ensures flags { length self.new.flags ≡ length self.old.flags }
+        ensures ok { (n : ℕ) (nodes : List ℕ) (line : ℕ) → HasNamed n self.old nodes → length nodes < n
+            → IfOk result (λ index. HasNext n self.new nodes (whole token.now line) index
+            × (first_at line (node_tests n nodes (whole token.now line)) ≡ None)) }
+        ensures err { (n : ℕ) (nodes : List ℕ) (line : ℕ) → HasNamed n self.old nodes
+            → IfErr result (λ k. first_at line (node_tests n nodes (whole token.now line)) ≡ Some (Fault line k)) }
+        ensures kept { OnErr result (self.new ≡ self.old) }
+    {
+        let index = node_of(token, self.named.len())?;
+        if self.named[index] {
+            return Err(TextKind::BadNode);
+        }
+        self.named[index] = true;
+        self.left = self.left.saturating_sub(1);
+        Ok(index)
+    }
+
+    /// Whether all nodes were named.
+    pub fn are_all(&self) -> bool
+        ensures { result ≡ (self.now.left == 0) }
+    {
+        self.left == 0
+    }
+}
+
+/// A node of 1 to `count`, counted from 0. `BadNumber` where the token is no integer, `BadNode` for
+/// another number.
+fn node_of(token: &[u8], count: usize) -> Result<usize, TextKind>
+    ensures index { IfOk result (λ index. index < count) }
+    ensures ok { IfOk result (λ index. Lex.integer token.now ≡ Some (pos (suc index))) }
+    ensures err { IfErr result (λ k. (nodes : List ℕ) (line : ℕ)
+        → first_at line (node_tests count nodes (whole token.now line)) ≡ Some (Fault line k)) }
+{
+    let Some(number) = integer(token) else {
+        return Err(TextKind::BadNumber);
+    };
+    if number < 1 || number as usize > count {
+        return Err(TextKind::BadNode);
+    }
+    Ok(number as usize - 1)
+}

@@ -1,0 +1,105 @@
+//! Each route made shorter by itself.
+ghost use Rattle.std.specs.Prelude.{◌≡◌, pos, ◌+◌, ◌≤◌, IfOk, IfErr, length};
+ghost use Rattle.tk_routes.specs.Cvrps.{instance_of};
+ghost use Rattle.tk_routes.specs.Instance.{customer_count};
+ghost use Rattle.tk_routes.specs.Routes.{AreRoutes, routes_cost};
+ghost use Rattle.tk_routes.specs.RouteLists.{instance_of_routes, lists_of, routes_of};
+ghost use Rattle.tk_routes.specs.ImprovedRoutes.{AreImproved, IsImprovedPart, MovesSave};
+ghost use Rattle.tk_routes.specs.ImprovedRoutes.{most_tests, place_count, saved_cost};
+
+use crate::claims::check::cost_of;
+use crate::cvrp::Cvrp;
+use crate::routes::Routes;
+use crate::solving::one_route::improve_route;
+use crate::solving::route_report::RouteReport;
+use std::alloc::{AllocError, Global};
+
+/// Improves each of the lists.
+fn improve_each(
+    alloc: Global,
+    cvrp: &Cvrp<'_>,
+    lists: &mut [Vec<u32>],
+    max_candidates: u32,
+    m: u32,
+) -> Result<RouteReport, AllocError>
+    requires routes { AreRoutes (instance_of cvrp.now) (lists_of lists.old) }
+    requires candidates { (1 ≤ max_candidates) × (max_candidates ≤ 100) }
+    requires most { (1 ≤ m) × (m ≤ 3) }
+    ensures improved { IfOk result (λ r. AreImproved (instance_of cvrp.now) max_candidates m
+        (lists_of lists.old) (lists_of lists.new) r.moves r.tests r.swaps) }
+    ensures before { IfOk result (λ r. r.before ≡ pos (routes_cost (instance_of cvrp.now) (lists_of lists.old))) }
+    ensures after { IfOk result (λ r. r.after ≡ pos (routes_cost (instance_of cvrp.now) (lists_of lists.new))) }
+    ensures moves { IfOk result
+        (λ r. MovesSave (instance_of cvrp.now) (lists_of lists.old) (lists_of lists.new) r.moves) }
+    ensures tests { IfOk result (λ r. r.tests
+        ≤ most_tests max_candidates m (customer_count (instance_of cvrp.now) + length lists.old) r.moves) }
+    ensures headline { IfOk result (λ r. r.tests
+        ≤ most_tests max_candidates m (customer_count (instance_of cvrp.now) + length lists.old)
+        (saved_cost (instance_of cvrp.now) (lists_of lists.old) (lists_of lists.new))) }
+    ensures part { IfErr result (λ _.
+        IsImprovedPart (instance_of cvrp.now) max_candidates m (lists_of lists.old) (lists_of lists.new)) }
+    ensures routes { AreRoutes (instance_of cvrp.now) (lists_of lists.new) }
+    ensures cost { routes_cost (instance_of cvrp.now) (lists_of lists.new)
+        ≤ routes_cost (instance_of cvrp.now) (lists_of lists.old) }
+{
+    let before = cost_of(cvrp, lists);
+    let mut after = before;
+    let mut moves = 0;
+    let mut tests = 0;
+    let mut swaps = 0;
+    for k in 0..lists.len() {
+        let (customers, report) = improve_route(alloc, cvrp, &lists[k], max_candidates, m)?;
+        lists[k] = customers;
+        after -= report.before - report.after;
+        moves += report.moves;
+        tests += report.tests;
+        swaps += report.swaps;
+    }
+    Ok(RouteReport {
+        before,
+        after,
+        moves,
+        tests,
+        swaps,
+    })
+}
+
+/// Improves each route by itself, in the place where it stands: by a descent from the depot and the route with all its
+/// nodes awake.
+///
+/// `max_candidates` is the greatest number of near nodes that a look tries, and `m` the greatest segment length of an
+/// Or-move.
+///
+/// # Errors
+/// `AllocError` where there is no memory for a descent. The routes before some place are improved then, and the others
+/// are as before.
+pub fn improve(
+    alloc: Global,
+    cvrp: &Cvrp<'_>,
+    routes: &mut Routes<'_>,
+    max_candidates: u32,
+    m: u32,
+) -> Result<RouteReport, AllocError>
+    requires same { instance_of_routes routes.old ≡ instance_of cvrp.now }
+    requires candidates { (1 ≤ max_candidates) × (max_candidates ≤ 100) }
+    requires most { (1 ≤ m) × (m ≤ 3) }
+    ensures improved { IfOk result (λ r. AreImproved (instance_of cvrp.now) max_candidates m
+        (routes_of routes.old) (routes_of routes.new) r.moves r.tests r.swaps) }
+    ensures before { IfOk result (λ r. r.before ≡ pos (routes_cost (instance_of cvrp.now) (routes_of routes.old))) }
+    ensures after { IfOk result (λ r. r.after ≡ pos (routes_cost (instance_of cvrp.now) (routes_of routes.new))) }
+    ensures moves { IfOk result
+        (λ r. MovesSave (instance_of cvrp.now) (routes_of routes.old) (routes_of routes.new) r.moves) }
+    ensures tests { IfOk result (λ r. r.tests
+        ≤ most_tests max_candidates m (place_count (instance_of cvrp.now) (routes_of routes.old)) r.moves) }
+    ensures headline { IfOk result (λ r. r.tests
+        ≤ most_tests max_candidates m (place_count (instance_of cvrp.now) (routes_of routes.old))
+        (saved_cost (instance_of cvrp.now) (routes_of routes.old) (routes_of routes.new))) }
+    ensures part { IfErr result (λ _.
+        IsImprovedPart (instance_of cvrp.now) max_candidates m (routes_of routes.old) (routes_of routes.new)) }
+    ensures routes { AreRoutes (instance_of cvrp.now) (routes_of routes.new) }
+    ensures cost { routes_cost (instance_of cvrp.now) (routes_of routes.new)
+        ≤ routes_cost (instance_of cvrp.now) (routes_of routes.old) }
+    ensures kept { instance_of_routes routes.new ≡ instance_of_routes routes.old }
+{
+    improve_each(alloc, cvrp, &mut routes.lists, max_candidates, m)
+}

@@ -1,0 +1,180 @@
+//! One route by itself, made shorter by a descent.
+ghost use Rattle.std.specs.Prelude.{◌≡◌, pos, ◌+◌, ◌*◌, ◌/◌, ◌<◌, ◌≤◌, IfOk, All, length, slice_index};
+ghost use Rattle.std.specs.List.Sorted.{IsPermutation};
+ghost use Rattle.tk_distance.specs.Cities.{IsCity};
+ghost use Rattle.tk_near.specs.Near.{near_of};
+ghost use Rattle.tk_tour.specs.ArrayTours.{order_of};
+ghost use Rattle.tk_tour.specs.Tour.{IsTour, tour_length};
+ghost use Rattle.tk_descent.specs.Awake.{one_to};
+ghost use Rattle.tk_descent.specs.Sweeps.{Pass};
+ghost use Rattle.tk_routes.specs.Cvrps.{instance_of};
+ghost use Rattle.tk_routes.specs.Instance.{customer_count};
+ghost use Rattle.tk_routes.specs.Routes.{route_nodes, route_length};
+ghost use Rattle.tk_routes.specs.ImprovedRoutes.{IsFlipped, IsImproved, IsReadOff, place_distance};
+
+use crate::cvrp::Cvrp;
+use crate::solving::measured::Measured;
+use std::alloc::{AllocError, Global};
+use tk_descent::{Probe, Report, Waking, descend};
+use tk_distance::{Metric, Sub};
+use tk_near::{Near, near_scan};
+use tk_tour::{ArrayTour, length};
+
+/// The distances among at most so many nodes are computed beforehand.
+const MOST_MEASURED: usize = 256;
+
+/// The depot and the nodes of a route.
+fn list_nodes(alloc: Global, cvrp: &Cvrp<'_>, route: &[u32]) -> Result<Vec<u32>, AllocError>
+    requires { All (IsCity (customer_count (instance_of cvrp.now))) route.now }
+    ensures value { IfOk result (λ v. v.items ≡ route_nodes (instance_of cvrp.now) route.now) }
+    ensures known { IfOk result (λ v. All (IsCity (instance_of cvrp.now).size) v.items) }
+{
+    let mut nodes = Vec::new(alloc);
+    nodes.push(cvrp.depot)?;
+    for &customer in route {
+        nodes.push(cvrp.node(customer))?;
+    }
+    Ok(nodes)
+}
+
+/// The places 1 to n.
+fn list_places(alloc: Global, n: u32) -> Result<Vec<u32>, AllocError>
+    ensures { IfOk result (λ v. v.items ≡ one_to n) }
+{
+    let mut places = Vec::new(alloc);
+    for k in 0..n {
+        places.push(k + 1)?;
+    }
+    Ok(places)
+}
+
+/// The cities 1 to n, all of them awake.
+fn wake_each_city(alloc: Global, n: u32) -> Result<Waking, AllocError>
+    ensures size { IfOk result (λ w. w.size ≡ n) }
+    ensures queue { IfOk result (λ w. w.queue ≡ one_to n) }
+{
+    let mut waking = Waking::new(alloc, n)?;
+    waking.wake_all();
+    Ok(waking)
+}
+
+/// A descent from 1, 2, .. with all cities awake.
+fn descend_awake<M: Metric>(
+    alloc: Global,
+    metric: &M,
+    near: &Near,
+    m: u32,
+) -> Result<(ArrayTour, Report), AllocError>
+    requires some { 2 ≤ M.size_of metric.now }
+    requires few { M.size_of metric.now ≤ 5000 }
+    requires fits { near.now.size ≡ M.size_of metric.now }
+    requires most { (1 ≤ m) × (m ≤ 3) }
+    ensures pass { IfOk result (λ r. Pass (M.distance metric.now) (near_of near.now) m (one_to (M.size_of metric.now))
+        (order_of r.0) r.1.looks r.1.moves r.1.tests) }
+    ensures tour { IfOk result (λ r. IsTour (M.size_of metric.now) (order_of r.0)) }
+    ensures before { IfOk result (λ r. r.1.before
+        ≡ pos (tour_length (M.distance metric.now) (one_to (M.size_of metric.now)))) }
+    ensures after { IfOk result (λ r. r.1.after ≡ pos (tour_length (M.distance metric.now) (order_of r.0))) }
+    ensures moves { IfOk result (λ r. r.1.moves + tour_length (M.distance metric.now) (order_of r.0)
+        ≤ tour_length (M.distance metric.now) (one_to (M.size_of metric.now))) }
+    ensures tests { IfOk result (λ r. r.1.tests ≤ 4 * m * near.now.width * (M.size_of metric.now + 6 * r.1.moves)) }
+    ensures flipped { IfOk result (λ r. IsFlipped (one_to (M.size_of metric.now)) (order_of r.0) r.1.moves r.1.swaps) }
+    ensures swaps { IfOk result (λ r. r.1.swaps ≤ 3 * (M.size_of metric.now / 4) * r.1.moves) }
+{
+    let n = metric.size();
+    let places = list_places(alloc, n)?;
+    let Ok(mut tour) = ArrayTour::from_list(alloc, &places) else {
+        return Err(AllocError);
+    };
+    let mut waking = wake_each_city(alloc, n)?;
+    let before = length(metric, &places);
+    let mut gains = Probe::new(metric);
+    let report = descend(&mut tour, &mut gains, near, &mut waking, m, before);
+    Ok((tour, report))
+}
+
+/// The customers at the places of a cycle after the depot's, which is the first. The first of them is not greater than
+/// the last.
+fn read_off(alloc: Global, route: &[u32], cycle: &[u32]) -> Result<Vec<u32>, AllocError>
+    requires some { 1 ≤ length route.now }
+    requires tour { IsTour (length route.now + 1) cycle.now }
+    requires depot { slice_index cycle.now 0 ≡ 1 }
+    ensures { IfOk result (λ v. IsReadOff route.now cycle.now v.items) }
+{
+    let mut customers = Vec::new(alloc);
+    for &place in &cycle[1..] {
+        customers.push(route[place as usize - 2])?;
+    }
+    if customers[0] > customers[customers.len() - 1] {
+        customers.reverse();
+    }
+    Ok(customers)
+}
+
+/// A route after a descent from the depot and the route, with all its nodes awake, and what the descent did. The metric
+/// has the distances among the depot and the nodes of the route.
+fn improve_over<M: Metric>(
+    alloc: Global,
+    cvrp: &Cvrp<'_>,
+    metric: &M,
+    route: &[u32],
+    max_candidates: u32,
+    m: u32,
+) -> Result<(Vec<u32>, Report), AllocError>
+    requires size { M.size_of metric.now ≡ length route.now + 1 }
+    requires distances { M.distance metric.now
+        ≡ place_distance (instance_of cvrp.now).distance (route_nodes (instance_of cvrp.now) route.now) }
+    requires some { 1 ≤ length route.now }
+    requires few { length route.now < 5000 }
+    requires candidates { (1 ≤ max_candidates) × (max_candidates ≤ 100) }
+    requires most { (1 ≤ m) × (m ≤ 3) }
+    ensures improved { IfOk result (λ r. IsImproved
+        (instance_of cvrp.now) max_candidates m route.now r.0.items r.1.moves r.1.tests r.1.swaps) }
+    ensures same { IfOk result (λ r. IsPermutation route.now r.0.items) }
+    ensures before { IfOk result (λ r. r.1.before ≡ pos (route_length (instance_of cvrp.now) route.now)) }
+    ensures after { IfOk result (λ r. r.1.after ≡ pos (route_length (instance_of cvrp.now) r.0.items)) }
+    ensures moves { IfOk result (λ r. r.1.moves + route_length (instance_of cvrp.now) r.0.items
+        ≤ route_length (instance_of cvrp.now) route.now) }
+    ensures tests { IfOk result (λ r. r.1.tests ≤ 4 * m * max_candidates * (length route.now + 1 + 6 * r.1.moves)) }
+    ensures swaps { IfOk result (λ r. r.1.swaps ≤ 3 * ((length route.now + 1) / 4) * r.1.moves) }
+{
+    let near = near_scan(alloc, metric, max_candidates.min(route.len() as u32))?;
+    let (tour, report) = descend_awake(alloc, metric, &near, m)?;
+    let cycle = tour.canonical(alloc)?;
+    Ok((read_off(alloc, route, &cycle)?, report))
+}
+
+/// A route after a descent from the depot and the route, with all its nodes awake, and what the descent did.
+///
+/// # Errors
+/// `AllocError` where there is no memory for it.
+pub(crate) fn improve_route(
+    alloc: Global,
+    cvrp: &Cvrp<'_>,
+    route: &[u32],
+    max_candidates: u32,
+    m: u32,
+) -> Result<(Vec<u32>, Report), AllocError>
+    requires known { All (IsCity (customer_count (instance_of cvrp.now))) route.now }
+    requires some { 1 ≤ length route.now }
+    requires few { length route.now < 5000 }
+    requires candidates { (1 ≤ max_candidates) × (max_candidates ≤ 100) }
+    requires most { (1 ≤ m) × (m ≤ 3) }
+    ensures improved { IfOk result (λ r. IsImproved
+        (instance_of cvrp.now) max_candidates m route.now r.0.items r.1.moves r.1.tests r.1.swaps) }
+    ensures same { IfOk result (λ r. IsPermutation route.now r.0.items) }
+    ensures before { IfOk result (λ r. r.1.before ≡ pos (route_length (instance_of cvrp.now) route.now)) }
+    ensures after { IfOk result (λ r. r.1.after ≡ pos (route_length (instance_of cvrp.now) r.0.items)) }
+    ensures moves { IfOk result (λ r. r.1.moves + route_length (instance_of cvrp.now) r.0.items
+        ≤ route_length (instance_of cvrp.now) route.now) }
+    ensures tests { IfOk result (λ r. r.1.tests ≤ 4 * m * max_candidates * (length route.now + 1 + 6 * r.1.moves)) }
+    ensures swaps { IfOk result (λ r. r.1.swaps ≤ 3 * ((length route.now + 1) / 4) * r.1.moves) }
+{
+    let nodes = list_nodes(alloc, cvrp, route)?;
+    let metric = Sub::new(&cvrp.table, &nodes);
+    if nodes.len() > MOST_MEASURED {
+        return improve_over(alloc, cvrp, &metric, route, max_candidates, m);
+    }
+    let measured = Measured::of(alloc, &metric)?;
+    improve_over(alloc, cvrp, &measured, route, max_candidates, m)
+}

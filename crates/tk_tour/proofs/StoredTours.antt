@@ -1,0 +1,9 @@
+pub mod Canonical
+pub mod Cuts
+pub mod Flips
+pub mod Places
+pub mod PrintedForm
+pub mod Renumbering
+pub mod Reversing
+pub mod TurnedWithin
+pub mod Undoing

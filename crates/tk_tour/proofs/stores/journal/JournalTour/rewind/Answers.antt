@@ -1,0 +1,40 @@
+use Rattle.std.proofs.Common.{◌≡◌, ◌-◌, ◌++◌, ◌∷◌, [], ℕ, ap, ◌∙◌, sym, subst, length, arith}
+use Rattle.tk_tour.specs.Journal.{undone, AreFlipsOf}
+use Rattle.tk_tour.proofs.StoredTours.Places.{length-reversed_places}
+use Rattle.tk_tour.proofs.StoredTours.Undoing.{undone_push, swaps_to_undo-push, AreFlipsOf-fewer}
+use Rattle.tk_tour.proofs.stores.journal.JournalTour.rewind.Goals as goal
+
+pub loop-flip-preserved : goal.loop-flip-preserved
+loop-flip-preserved c =
+    let h = c.loop-flip in
+    let f = c.in-Some.flip in
+    let rest = c.pop.new.self.items in
+    let e : h.self.journal.items ≡ rest ++ f ∷ [] = cc in
+    let less = swaps_to_undo-push rest h.self.journal.items f e in
+    record {
+      settled = ap (undone rest) c.undo.ensures.places ∙ sym (undone_push rest f h.self.tour.order.items) ∙ ap (λ v. undone v h.self.tour.order.items) (sym e) ∙ h.invariant.settled;
+      slots = h.invariant.slots;
+      not_lost = omega (arith, h.invariant.not_lost);
+      swaps = c.undo.ensures.others.0 ∙ h.invariant.swaps;
+      copied = c.undo.ensures.others.2 ∙ h.invariant.copied;
+      undo_swaps = omega (arith, less, c.undo.ensures.undo_swaps, h.invariant.undo_swaps);
+    }
+
+pub invariant_of-self-clause-undoes_its_own : goal.invariant_of-self-clause-undoes_its_own
+invariant_of-self-clause-undoes_its_own c =
+    let h = c.loop-flip in
+    let f = c.in-Some.flip in
+    let rest = c.pop.new.self.items in
+    let e : h.self.journal.items ≡ rest ++ f ∷ [] = cc in
+    omega (arith, swaps_to_undo-push rest h.self.journal.items f e, c.undo.ensures.undo_swaps, c.undo.ensures.others, h.self.undoes_its_own)
+
+pub invariant_of-self-clause-in_range : goal.invariant_of-self-clause-in_range
+invariant_of-self-clause-in_range c =
+    let h = c.loop-flip in
+    let f = c.in-Some.flip in
+    let rest = c.pop.new.self.items in
+    let order = h.self.tour.order.items in
+    let e : h.self.journal.items ≡ rest ++ f ∷ [] = cc in
+    let n : length c.undo.new.self.order.items ≡ length order = ap length c.undo.ensures.places ∙ length-reversed_places (f.first - 1) f.count order in
+    let P : ℕ → Type 0 = λ v. AreFlipsOf v rest in
+    subst P (sym n) (AreFlipsOf-fewer (length order) rest h.self.journal.items f e h.self.in_range)

@@ -1,0 +1,40 @@
+use Rattle.std.proofs.Common.{◌≡◌, ◌<◌, ◌/◌, ap, ◌∙◌, refl, arith, length, sym, subst, ℕ}
+use Rattle.tk_tour.specs.Journal.{undone, AreFlipsOf}
+use Rattle.tk_tour.proofs.StoredTours.Undoing.{undone_flip, swaps_to_undo-push, swaps_to_undo-remembered, AreFlipsOf-remembered}
+use Rattle.tk_tour.proofs.stores.journal.JournalTourTourStore.flip.Goals as goal
+
+pub returns-clause-kept : goal.returns-clause-kept
+returns-clause-kept c =
+    let s = c.args.self.now in
+    let f = c.flip-flip in
+    let new = f.new.self.order.items in
+    let r = c.remember in
+    record {
+      slots = refl;
+      flips = omega arith;
+      undo_swaps = f.ensures.kept.undo_swaps;
+      copied = f.ensures.kept.copied;
+      settled = λ le.
+          let room : s.flips < s.slots = omega arith in
+          ap (λ v. undone v new) (r.ensures.recorded room) ∙
+          undone_flip s.journal.items f.result s.tour.order.items new f.ensures.places (omega (arith, f.ensures.first)) (omega (arith, f.ensures.shorter));
+      swaps = λ le.
+          let room : s.flips < s.slots = omega arith in
+          (f.result.count / 2, swaps_to_undo-push s.journal.items r.new.journal.items f.result (r.ensures.recorded room), f.ensures.swaps);
+    }
+
+pub invariant_of-self : goal.invariant_of-self
+invariant_of-self c =
+    let s = c.args.self.now in
+    let f = c.flip-flip in
+    let r = c.remember in
+    let n : length s.tour.order.items ≡ length f.new.self.order.items = sym f.ensures.size in
+    let P : ℕ → Type 0 = λ v. AreFlipsOf v r.new.journal.items in
+    record {
+      room = r.ensures.room;
+      within = r.ensures.within;
+      complete = λ le. omega (arith, r.ensures.complete (omega arith));
+      in_range = subst P n (AreFlipsOf-remembered (length s.tour.order.items) s.flips s.slots s.journal.items r.new.journal.items f.result s.in_range
+          (f.ensures.first.0, f.ensures.first.1, omega (arith, f.ensures.shorter)) r.ensures.recorded r.ensures.full);
+      undoes_its_own = omega (arith, s.undoes_its_own, f.ensures.kept.undo_swaps, f.ensures.swaps, swaps_to_undo-remembered s.flips s.slots s.journal.items r.new.journal.items f.result r.ensures.recorded r.ensures.full);
+    }

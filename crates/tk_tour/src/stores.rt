@@ -1,0 +1,4 @@
+//! Tour stores: array tours, and journals that undo reversals.
+pub mod array;
+pub mod journal;
+pub mod reversal;

@@ -1,0 +1,265 @@
+//! A tour as an array: the order of its cities and the place of each.
+ghost use Rattle.std.specs.Prelude.{◌≡◌, ◌≢◌, ◌≤◌, ◌<◌, ◌+◌, ◌-◌, ◌*◌, ◌/◌, ◌^◌, ℕ, List, length, slice_index};
+ghost use Rattle.tk_distance.specs.Cities.{IsCity};
+ghost use Rattle.tk_tour.specs.Tour.{IsSizedTour, next_city};
+ghost use Rattle.tk_tour.specs.Moves.{IsShorterSide, ReplacesSteps};
+ghost use Rattle.tk_tour.specs.Reversal.{IsInverse, reversed_places};
+ghost use Rattle.tk_tour.specs.Counters.{saturated};
+
+use crate::fault::TourFault;
+use crate::store::{Flip, TourStore};
+use crate::stores::reversal::reverse_places;
+use crate::verdict::{Verdict, place_cities};
+use std::alloc::{AllocError, Global};
+
+/// A tour of 2 to 100,000 cities, as the list of its cities and the place of each.
+#[derive(Drop)]
+pub struct ArrayTour {
+    order: Vec<u32>,
+    place: Vec<u32>,
+    swaps: u64,
+    undo_swaps: u64,
+    flips: u64,
+    copied: u64,
+    ghost tour: { IsSizedTour order.items },
+    ghost inverse: { IsInverse order.items place.items },
+    ghost fits: { (swaps < 2 ^ 64) × (undo_swaps < 2 ^ 64) × (flips < 2 ^ 64) },
+}
+
+impl TourStore for ArrayTour {
+    ghost use Rattle.tk_tour.specs.ArrayTours.{order_of, swaps_of, flips_of, FlipsAlone, FlipsAlone-refl, FlipsAlone-trans};
+
+    ghost cities = { order_of };
+
+    ghost swap_count = { swaps_of };
+
+    ghost flip_count = { flips_of };
+
+    ghost FlipsOnly = { FlipsAlone };
+
+    fn size(&self) -> u32 {
+        self.order.len() as u32
+    }
+
+    fn next(&self, c: u32) -> u32 {
+        let k = self.place_of(c);
+        if k + 1 == self.order.len() {
+            self.order[0]
+        } else {
+            self.order[k + 1]
+        }
+    }
+
+    fn prev(&self, c: u32) -> u32 {
+        let k = self.place_of(c);
+        if k == 0 {
+            self.order[self.order.len() - 1]
+        } else {
+            self.order[k - 1]
+        }
+    }
+
+    fn at(&self, k: u32) -> u32 {
+        self.order[k as usize - 1]
+    }
+
+    fn swaps(&self) -> u64 {
+        self.swaps
+    }
+
+    fn flips(&self) -> u64 {
+        self.flips
+    }
+
+    fn flip(&mut self, a: u32, b: u32, c: u32, d: u32) -> Flip {
+        let (first, count) = if self.next(a) == b && self.next(c) == d {
+            self.shorter_side(a, b, c, d)
+        } else {
+            self.shorter_side(d, c, b, a)
+        };
+        self.reverse(first, count);
+        self.swaps = self.swaps.saturating_add(count as u64 / 2);
+        self.flips = self.flips.saturating_add(1);
+        Flip {
+            first: first as u32 + 1,
+            count: count as u32,
+        }
+    }
+
+    ghost flips_none = { FlipsAlone-refl };
+
+    ghost flips_more = { FlipsAlone-trans };
+
+    ghost is_tour = { λ s. s.tour };
+}
+
+impl ArrayTour {
+    ghost use Rattle.std.specs.Prelude.{OnOk, IfOk, IfErr};
+    ghost use Rattle.tk_tour.specs.ArrayTours.{order_of, swaps_of, undo_swaps_of, flips_of, copied_of};
+    ghost use Rattle.tk_tour.specs.Fault.{IsFaultOf};
+    ghost use Rattle.tk_tour.specs.Printed.{IsPrintedForm};
+
+    /// A tour that stands as the list does, with every count at 0.
+    ///
+    /// # Errors
+    /// `WrongCount` for fewer than 2 cities or more than 100,000, else the first fault of the list, place by place:
+    /// `OutOfRange` before `RepeatedCity`. `NoMemory` where there is no memory for it.
+    pub fn from_list(alloc: Global, cities: &[u32]) -> Result<ArrayTour, TourFault>
+        ensures tour { OnOk result (IsSizedTour cities.now) }
+        ensures order { IfOk result (λ t. order_of t ≡ cities.now) }
+        ensures counts { IfOk result (λ t. (swaps_of t ≡ 0) × (undo_swaps_of t ≡ 0) × (flips_of t ≡ 0)
+            × (copied_of t ≡ 0)) }
+        ensures fault { IfErr result (λ e. IsFaultOf cities.now e) }
+    {
+        let n = cities.len();
+        if n < 2 || n > 100_000 {
+            return Err(TourFault::WrongCount);
+        }
+        let Ok(order) = Vec::from_slice(alloc, cities) else {
+            return Err(TourFault::NoMemory);
+        };
+        let Ok(mut place) = vec![in alloc; u32::MAX; n] else {
+            return Err(TourFault::NoMemory);
+        };
+        match place_cities(cities, &mut place) {
+            Verdict::Tour => Ok(ArrayTour {
+                order,
+                place,
+                swaps: 0,
+                undo_swaps: 0,
+                flips: 0,
+                copied: 0,
+            }),
+            Verdict::WrongCount => Err(TourFault::WrongCount),
+            Verdict::OutOfRange(p) => Err(TourFault::OutOfRange(p)),
+            Verdict::RepeatedCity(p) => Err(TourFault::RepeatedCity(p)),
+        }
+    }
+
+    // Where the city stands, from 0.
+    fn place_of(&self, c: u32) -> usize
+        requires { IsCity (length self.now.order.items) c }
+        ensures place { result ≡ slice_index self.now.place.items (c - 1) }
+        ensures within { result < length self.now.order.items }
+        ensures city { slice_index self.now.order.items result ≡ c }
+    {
+        self.place[c as usize - 1] as usize
+    }
+
+    // Where b comes after a and d after c: the places from b to c, or those from d to a where
+    // there are fewer of them, as the first from 0 and their number.
+    fn shorter_side(&self, a: u32, b: u32, c: u32, d: u32) -> (usize, usize)
+        requires a_in { IsCity (length self.now.order.items) a }
+        requires c_in { IsCity (length self.now.order.items) c }
+        requires apart { a ≢ c }
+        requires b_after { b ≡ next_city self.now.order.items a }
+        requires d_after { d ≡ next_city self.now.order.items c }
+        ensures steps { ReplacesSteps self.now.order.items
+            (reversed_places result.0 result.1 self.now.order.items) a b c d }
+        ensures within { result.0 < length self.now.order.items }
+        ensures side { IsShorterSide self.now.order.items result.1 a b c d }
+        ensures shorter { 2 * result.1 ≤ length self.now.order.items }
+    {
+        let n = self.order.len();
+        let start = self.place_of(b);
+        let end = self.place_of(c);
+        let inner = if start <= end {
+            end - start + 1
+        } else {
+            end + n - start + 1
+        };
+        if inner <= n - inner {
+            return (start, inner);
+        }
+        (self.place_of(d), n - inner)
+    }
+
+    // Reverses `count` places from `first` on, from 0.
+    fn reverse(&mut self, first: usize, count: usize)
+        requires first { first < length self.old.order.items }
+        requires count { count ≤ length self.old.order.items }
+        ensures order { self.new.order.items ≡ reversed_places first count self.old.order.items }
+        ensures counts { (self.new.swaps ≡ self.old.swaps) × (self.new.undo_swaps ≡ self.old.undo_swaps)
+            × (self.new.flips ≡ self.old.flips) × (self.new.copied ≡ self.old.copied) }
+    {
+        reverse_places(&mut self.order, &mut self.place, first, count);
+    }
+
+    /// Reverses the places of a flip again. Its swaps have a count of their own.
+    pub fn undo(&mut self, flip: &Flip)
+        requires first { IsCity (length (order_of self.old)) flip.now.first }
+        requires count { flip.now.count ≤ length (order_of self.old) }
+        ensures places { order_of self.new ≡ reversed_places (flip.now.first - 1) flip.now.count (order_of self.old) }
+        ensures undo_swaps { undo_swaps_of self.new ≡ saturated (undo_swaps_of self.old + flip.now.count / 2) }
+        ensures others { (swaps_of self.new ≡ swaps_of self.old) × (flips_of self.new ≡ flips_of self.old)
+            × (copied_of self.new ≡ copied_of self.old) }
+    {
+        self.reverse(flip.first as usize - 1, flip.count as usize);
+        self.undo_swaps = self.undo_swaps.saturating_add(flip.count as u64 / 2);
+    }
+
+    // All counts begin again at 0.
+    pub(crate) fn reset_counts(&mut self)
+        ensures order { order_of self.new ≡ order_of self.old }
+        ensures counts { (swaps_of self.new ≡ 0) × (undo_swaps_of self.new ≡ 0) × (flips_of self.new ≡ 0)
+            × (copied_of self.new ≡ 0) }
+    {
+        self.swaps = 0;
+        self.undo_swaps = 0;
+        self.flips = 0;
+        self.copied = 0;
+    }
+
+    /// The cities in their order.
+    pub fn order(&self) -> &[u32]
+        ensures { result.now ≡ order_of self.now }
+    {
+        self.order.as_slice()
+    }
+
+    /// How many swaps undid flips.
+    pub fn undo_swaps(&self) -> u64
+        ensures { result ≡ undo_swaps_of self.now }
+    {
+        self.undo_swaps
+    }
+
+    /// How many entries `copy_from` has copied into this tour.
+    pub fn copied(&self) -> u64
+        ensures { result ≡ copied_of self.now }
+    {
+        self.copied
+    }
+
+    /// Takes the order of another tour of as many cities.
+    pub fn copy_from(&mut self, other: &ArrayTour)
+        requires { length (order_of self.old) ≡ length (order_of other.now) }
+        ensures order { order_of self.new ≡ order_of other.now }
+        ensures copied { copied_of self.new ≡ saturated (copied_of self.old + length (order_of self.old)) }
+        ensures others { (swaps_of self.new ≡ swaps_of self.old) × (flips_of self.new ≡ flips_of self.old)
+            × (undo_swaps_of self.new ≡ undo_swaps_of self.old) }
+    {
+        self.order.copy_from_slice(&other.order);
+        self.place.copy_from_slice(&other.place);
+        self.copied = self.copied.saturating_add(other.order.len() as u64);
+    }
+
+    /// The printed form: the same cycle from city 1 on, towards the smaller of its two neighbours.
+    ///
+    /// # Errors
+    /// `AllocError` where there is no memory for the list.
+    pub fn canonical(&self, alloc: Global) -> Result<Vec<u32>, AllocError>
+        ensures printed { IfOk result (λ cities. IsPrintedForm (order_of self.now) cities.items) }
+        ensures only { IfOk result (λ cities. (list : List ℕ) → IsPrintedForm (order_of self.now) list
+            → list ≡ cities.items) }
+    {
+        let mut cities = Vec::from_slice(alloc, &self.order)?;
+        let mut first = self.place_of(1);
+        if self.prev(1) < self.next(1) {
+            cities.reverse();
+            first = cities.len() - 1 - first;
+        }
+        cities.rotate_left(first);
+        Ok(cities)
+    }
+}

@@ -1,0 +1,187 @@
+//! A tour that can go back to where it was settled.
+ghost use Rattle.std.specs.Prelude.{◌≡◌, ◌≤◌, ◌<◌, ◌+◌, ◌↔◌, [], IfOk, ◌++◌, ◌∷◌, IsTrue, true, false, length, vec_len};
+ghost use Rattle.std.specs.Vec.{vec_capacity};
+ghost use Rattle.tk_tour.specs.Counters.{saturated};
+ghost use Rattle.tk_tour.specs.Journal.{AreFlipsOf, swaps_to_undo};
+
+use crate::store::{Flip, TourStore};
+use crate::stores::array::ArrayTour;
+use std::alloc::{AllocError, Global};
+
+// Records the flip that follows `flips` others, where there is room for it.
+fn remember(journal: &mut Vec<Flip>, slots: u32, flips: u64, flip: Flip)
+    requires room { slots ≤ vec_capacity journal.old }
+    requires within { vec_len journal.old ≤ slots }
+    requires complete { flips ≤ slots → vec_len journal.old ≡ flips }
+    ensures room { slots ≤ vec_capacity journal.new }
+    ensures within { vec_len journal.new ≤ slots }
+    ensures complete { flips + 1 ≤ slots → vec_len journal.new ≡ flips + 1 }
+    ensures recorded { flips < slots → journal.new.items ≡ journal.old.items ++ flip ∷ [] }
+    ensures full { slots ≤ flips → journal.new.items ≡ journal.old.items }
+{
+    if flips < slots as u64 {
+        journal.push_reserved(flip);
+    }
+}
+
+/// An array tour that remembers its last flips, so that they can be undone.
+#[derive(Drop)]
+pub struct JournalTour {
+    tour: ArrayTour,
+    journal: Vec<Flip>,
+    slots: u32,
+    flips: u64,
+    ghost room: { slots ≤ vec_capacity journal },
+    ghost within: { vec_len journal ≤ slots },
+    ghost complete: { flips ≤ slots → vec_len journal ≡ flips },
+    ghost in_range: { AreFlipsOf (length tour.order.items) journal.items },
+    ghost undoes_its_own: { saturated (tour.undo_swaps + swaps_to_undo journal.items) ≤ tour.swaps },
+}
+
+impl TourStore for JournalTour {
+    ghost use Rattle.tk_tour.specs.ArrayTours.{order_of, swaps_of};
+    ghost use Rattle.tk_tour.specs.JournalTours.{tour_of, flips_since, KeepsSettled, KeepsSettled-refl, KeepsSettled-trans};
+
+    ghost cities = { λ t. order_of (tour_of t) };
+
+    ghost swap_count = { λ t. swaps_of (tour_of t) };
+
+    ghost flip_count = { flips_since };
+
+    ghost FlipsOnly = { KeepsSettled };
+
+    fn size(&self) -> u32 {
+        self.tour.size()
+    }
+
+    fn next(&self, c: u32) -> u32 {
+        self.tour.next(c)
+    }
+
+    fn prev(&self, c: u32) -> u32 {
+        self.tour.prev(c)
+    }
+
+    fn at(&self, k: u32) -> u32 {
+        self.tour.at(k)
+    }
+
+    fn swaps(&self) -> u64 {
+        self.tour.swaps()
+    }
+
+    fn flips(&self) -> u64 {
+        self.flips
+    }
+
+    fn flip(&mut self, a: u32, b: u32, c: u32, d: u32) -> Flip {
+        let flip = self.tour.flip(a, b, c, d);
+        remember(&mut self.journal, self.slots, self.flips, flip);
+        self.flips = self.flips.saturating_add(1);
+        flip
+    }
+
+    ghost flips_none = { KeepsSettled-refl };
+
+    ghost flips_more = { KeepsSettled-trans };
+
+    ghost is_tour = { λ s. s.tour.tour };
+}
+
+impl JournalTour {
+    ghost use Rattle.tk_tour.specs.ArrayTours.{order_of, swaps_of, undo_swaps_of, copied_of};
+    ghost use Rattle.tk_tour.specs.JournalTours.{tour_of, slots_of, flips_since, IsLost, settled_order, swaps_to_rewind};
+
+    /// A journal with room for `slots` flips; every count begins at 0, and the order is settled.
+    ///
+    /// # Errors
+    /// `AllocError` where there is no memory for the slots; the tour is given up then.
+    pub fn new(alloc: Global, tour: ArrayTour, slots: u32) -> Result<JournalTour, AllocError>
+        ensures order { IfOk result (λ t. order_of (tour_of t) ≡ order_of tour) }
+        ensures settled { IfOk result (λ t. settled_order t ≡ order_of tour) }
+        ensures swaps { IfOk result (λ t. swaps_to_rewind t ≡ 0) }
+        ensures slots { IfOk result (λ t. slots_of t ≡ slots) }
+        ensures flips { IfOk result (λ t. flips_since t ≡ 0) }
+        ensures counts { IfOk result (λ t. (swaps_of (tour_of t) ≡ 0) × (undo_swaps_of (tour_of t) ≡ 0)
+            × (copied_of (tour_of t) ≡ 0)) }
+    {
+        let mut tour = tour;
+        tour.reset_counts();
+        let journal = Vec::with_capacity(alloc, slots as usize)?;
+        Ok(JournalTour {
+            tour,
+            journal,
+            slots,
+            flips: 0,
+        })
+    }
+
+    /// The tour as it stands. At most the swaps of its flips were made again to undo them.
+    pub fn tour(&self) -> &ArrayTour
+        ensures tour { result.now ≡ tour_of self.now }
+        ensures undo_swaps { undo_swaps_of result.now ≤ swaps_of result.now }
+    {
+        &self.tour
+    }
+
+    /// Whether a flip came that found no room.
+    pub fn lost(&self) -> bool
+        ensures { IsTrue result ↔ IsLost self.now }
+    {
+        self.flips > self.slots as u64
+    }
+
+    /// Makes the order as it stands the one that a rewind goes back to.
+    pub fn settle(&mut self)
+        ensures tour { tour_of self.new ≡ tour_of self.old }
+        ensures settled { settled_order self.new ≡ order_of (tour_of self.old) }
+        ensures swaps { swaps_to_rewind self.new ≡ 0 }
+        ensures flips { flips_since self.new ≡ 0 }
+        ensures slots { slots_of self.new ≡ slots_of self.old }
+    {
+        self.journal.clear();
+        self.flips = 0;
+    }
+
+    /// Undoes the flips since the last settle and answers true, unless one of them was lost.
+    pub fn rewind(&mut self) -> bool
+        ensures lost { IsTrue result ↔ (flips_since self.old ≤ slots_of self.old) }
+        ensures order { IsTrue result → order_of (tour_of self.new) ≡ settled_order self.old }
+        ensures settled { IsTrue result → settled_order self.new ≡ settled_order self.old }
+        ensures flips { IsTrue result → flips_since self.new ≡ 0 }
+        ensures undo_swaps { IsTrue result
+            → undo_swaps_of (tour_of self.new)
+            ≡ saturated (undo_swaps_of (tour_of self.old) + swaps_to_rewind self.old) }
+        ensures rewound { IsTrue result → swaps_to_rewind self.new ≡ 0 }
+        ensures counts { (swaps_of (tour_of self.new) ≡ swaps_of (tour_of self.old))
+            × (copied_of (tour_of self.new) ≡ copied_of (tour_of self.old)) }
+        ensures slots { slots_of self.new ≡ slots_of self.old }
+        ensures unchanged { result ≡ false → self.new ≡ self.old }
+    {
+        if self.lost() {
+            return false;
+        }
+        while let Some(flip) = self.journal.pop() {
+            self.tour.undo(&flip);
+            self.flips -= 1;
+        }
+        true
+    }
+
+    /// Takes the order of another tour of as many cities, and settles there.
+    pub fn restore(&mut self, other: &ArrayTour)
+        requires { length (order_of (tour_of self.old)) ≡ length (order_of other.now) }
+        ensures order { order_of (tour_of self.new) ≡ order_of other.now }
+        ensures settled { settled_order self.new ≡ order_of other.now }
+        ensures swaps { swaps_to_rewind self.new ≡ 0 }
+        ensures flips { flips_since self.new ≡ 0 }
+        ensures copied { copied_of (tour_of self.new)
+            ≡ saturated (copied_of (tour_of self.old) + length (order_of other.now)) }
+        ensures others { (swaps_of (tour_of self.new) ≡ swaps_of (tour_of self.old))
+            × (undo_swaps_of (tour_of self.new) ≡ undo_swaps_of (tour_of self.old)) }
+        ensures slots { slots_of self.new ≡ slots_of self.old }
+    {
+        self.tour.copy_from(other);
+        self.settle();
+    }
+}

@@ -1,0 +1,168 @@
+//! Decimal numbers, in billionths.
+ghost use Rattle.std.specs.Prelude.{◌≡◌, ◌≤◌, ◌+◌, ◌-◌, ◌*◌, ◌^◌, ◌++◌, All, IfOk, IfSome, SomeIff, ◌<◌, take, length, option_map, pos};
+ghost use Rattle.std.specs.Char.{IsAsciiDigit, is_ascii_digit};
+ghost use Rattle.std.specs.Int.RustNames.{unsigned_abs};
+ghost use Rattle.tk_words.specs.Decimal as Decimal;
+ghost use Rattle.tk_words.specs.Lex.{front, behind};
+
+use crate::fault::TextKind;
+use crate::numbers::integers::natural;
+
+/// The greatest magnitude: 10^9, in billionths.
+const LIMIT: u64 = 1_000_000_000_000_000_000;
+
+/// The powers of ten up to the limit.
+const POWERS_OF_TEN: [u64; 19] = [
+    1,
+    10,
+    100,
+    1_000,
+    10_000,
+    100_000,
+    1_000_000,
+    10_000_000,
+    100_000_000,
+    1_000_000_000,
+    10_000_000_000,
+    100_000_000_000,
+    1_000_000_000_000,
+    10_000_000_000_000,
+    100_000_000_000_000,
+    1_000_000_000_000_000,
+    10_000_000_000_000_000,
+    100_000_000_000_000_000,
+    1_000_000_000_000_000_000,
+];
+
+/// The digits that bytes begin with, and what comes after them.
+fn split_digits(bytes: &[u8]) -> (&[u8], &[u8])
+    ensures digits { result.0.now ≡ front is_ascii_digit bytes.now }
+    ensures rest { result.1.now ≡ behind is_ascii_digit bytes.now }
+{
+    let mut end = 0;
+    while end < bytes.len() && bytes[end].is_ascii_digit() {
+        end += 1;
+    }
+    bytes.split_at(end)
+}
+
+/// The digits after a point, and what comes after them.
+fn split_fraction(bytes: &[u8]) -> (&[u8], &[u8])
+    ensures digits { result.0.now ≡ Decimal.fraction bytes.now }
+    ensures rest { result.1.now ≡ Decimal.behind_fraction bytes.now }
+{
+    match bytes {
+        [b'.', digits @ ..] => split_digits(digits),
+        _ => bytes.split_at(0),
+    }
+}
+
+/// The number of `number`'s digits with more after them, and `None` over the limit.
+fn append_digits(number: u64, digits: &[u8]) -> Option<u64>
+    requires limit { number ≤ LIMIT }
+    requires digits { All IsAsciiDigit digits.now }
+    ensures { let appended = Decimal.number_behind number digits.now in SomeIff result (appended ≤ LIMIT) appended }
+{
+    let mut number = number;
+    for digit in digits {
+        number = number * 10 + u64::from(*digit - b'0');
+        if number > LIMIT {
+            return None;
+        }
+    }
+    Some(number)
+}
+
+/// The number of `number`'s digits with zeros after them, and `None` over the limit.
+fn append_zeros(number: u64, zeros: usize) -> Option<u64>
+    ensures { let appended = number * 10 ^ zeros in SomeIff result (appended ≤ LIMIT) appended }
+{
+    if number == 0 {
+        return Some(0);
+    }
+    if zeros >= POWERS_OF_TEN.len() {
+        return None;
+    }
+    let appended = number.checked_mul(POWERS_OF_TEN[zeros])?;
+    if appended > LIMIT {
+        return None;
+    }
+    Some(appended)
+}
+
+/// The number that the first `count` digits spell, with zeros where there are fewer, and `None`
+/// over the limit.
+fn first_digits(whole: &[u8], fraction: &[u8], count: usize) -> Option<u64>
+    requires whole { All IsAsciiDigit whole.now }
+    requires fraction { All IsAsciiDigit fraction.now }
+    ensures { let digits = whole.now ++ fraction.now in
+        let number = Decimal.number_of (take count digits) * 10 ^ (count - length digits) in
+        SomeIff result (number ≤ LIMIT) number }
+{
+    let in_whole = count.min(whole.len());
+    let number = append_digits(0, &whole[..in_whole])?;
+    let in_fraction = (count - in_whole).min(fraction.len());
+    let number = append_digits(number, &fraction[..in_fraction])?;
+    append_zeros(number, count - in_whole - in_fraction)
+}
+
+/// The number that 1 to 3 digits spell, and `None` for other bytes.
+fn small(bytes: &[u8]) -> Option<usize>
+    ensures value { result ≡ Decimal.small bytes.now }
+    ensures bound { IfSome result (λ n. n < 10 ^ 18) }
+{
+    if bytes.len() > 3 {
+        return None;
+    }
+    Some(natural(bytes)? as usize)
+}
+
+/// The powers of ten up and down of nothing or an exponent, and `None` for other bytes.
+fn exponent(bytes: &[u8]) -> Option<(usize, usize)>
+    ensures value { result ≡ Decimal.exponent bytes.now }
+    ensures bound { IfSome result (λ e. (e.0 < 10 ^ 18) × (e.1 < 10 ^ 18)) }
+{
+    match bytes {
+        [] => Some((0, 0)),
+        [b'e' | b'E', b'-', digits @ ..] => Some((0, small(digits)?)),
+        [b'e' | b'E', b'+', digits @ ..] => Some((small(digits)?, 0)),
+        [b'e' | b'E', digits @ ..] => Some((small(digits)?, 0)),
+        _ => None,
+    }
+}
+
+/// A number without its sign, rounded down.
+fn billionths(bytes: &[u8]) -> Result<i64, TextKind>
+    requires { length bytes.now ≤ 64 }
+    ensures value { result ≡ Decimal.limited (option_map pos (Decimal.billionths bytes.now)) }
+    ensures bound { IfOk result (λ n. unsigned_abs n ≤ 10 ^ 18) }
+{
+    let (whole, rest) = split_digits(bytes);
+    let (fraction, rest) = split_fraction(rest);
+    if whole.is_empty() && fraction.is_empty() {
+        return Err(TextKind::BadNumber);
+    }
+    let Some((up, down)) = exponent(rest) else {
+        return Err(TextKind::BadNumber);
+    };
+    let count = (whole.len() + 9 + up).saturating_sub(down);
+    match first_digits(whole, fraction, count) {
+        Some(number) => Ok(number as i64),
+        None => Err(TextKind::OutOfLimit),
+    }
+}
+
+/// A decimal number in billionths, rounded towards zero: an optional sign, digits with at most
+/// one point, and an optional exponent. `BadNumber` for other bytes, `OutOfLimit` where the
+/// magnitude is over 10^9.
+pub fn decimal(bytes: &[u8]) -> Result<i64, TextKind>
+    requires { length bytes.now ≤ 64 }
+    ensures value { result ≡ Decimal.limited (Decimal.decimal_of bytes.now) }
+    ensures bound { IfOk result (λ n. unsigned_abs n ≤ 10 ^ 18) }
+{
+    match bytes {
+        [b'-', number @ ..] => Ok(-billionths(number)?),
+        [b'+', number @ ..] => billionths(number),
+        _ => billionths(bytes),
+    }
+}

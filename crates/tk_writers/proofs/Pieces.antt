@@ -1,0 +1,4 @@
+pub mod NumberLengths
+pub mod PutEach
+pub mod Putting
+pub mod Writing

@@ -1,7 +1,0 @@
-use Rattle.tk_writers.proofs.Putting.{IsPut-sent}
-use Rattle.tk_writers.proofs.pen.send.Goals as goal
-
-pub returns-clause-put : goal.returns-clause-put
-returns-clause-put g c = λ start failed text h.
-    let e = c.write_whole-taken.ensures in
-    IsPut-sent g.W.Sink.taken g.W.Sink.broken start failed text _ _ _ _ _ _ c.if-stopped.false e.bound e.sent e.whole e.part h

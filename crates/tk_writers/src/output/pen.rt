@@ -1,0 +1,193 @@
+//! Texts that are written piece by piece.
+ghost use Rattle.std.specs.Prelude.{◌≡◌, ◌+◌, ◌≤◌, ◌<◌, ◌^◌, Bool, true, List, [], ℕ, length, take, Option, MatchResult};
+ghost use Rattle.std.specs.Io.KnownBytes.{Appends};
+ghost use Rattle.tk_writers.specs.Puts.{IsPut, Stops};
+
+use crate::output::page::Page;
+use crate::output::sink::Sink;
+use itoa::Buffer;
+
+/// No page goes out after this many bytes: 2^63.
+const LONGEST: u64 = 1 << 63;
+
+/// A write failed, and exactly the first bytes of the text went out.
+#[derive(Clone, Copy, Debug, PartialEq, Eq)]
+pub struct WriteFault {
+    /// How many bytes these are.
+    pub written: u64,
+}
+
+/// Writes a text to a sink through a page in memory.
+///
+/// After a write that failed it writes no more, and `end` tells the fault.
+#[derive(Drop)]
+pub struct Pen<'a, W> {
+    pub sink: &'a mut W,
+    pub page: Page,
+    /// How many bytes the sink has taken.
+    pub written: u64,
+    /// Whether a write has failed.
+    pub stopped: bool,
+    ghost short: { written ≤ 2 ^ 63 + 8192 },
+}
+
+/// Writes bytes until the sink has taken them all or fails, and says how many it took.
+fn write_whole<W: Sink>(sink: &mut W, bytes: &[u8]) -> usize
+    ensures bound { result ≤ length bytes.now }
+    ensures sent { Appends (W.taken sink.old) (W.taken sink.new) (take result bytes.now) }
+    ensures whole { result ≡ length bytes.now → W.broken sink.new ≡ W.broken sink.old }
+    ensures part { result < length bytes.now → W.broken sink.new ≡ true }
+{
+    let mut taken = 0;
+    while taken < bytes.len() {
+        match sink.write(&bytes[taken..]) {
+            Ok(n) if n > 0 => taken += n,
+            _ => return taken,
+        }
+    }
+    taken
+}
+
+/// Sends a page after `written` bytes, and says how many have gone out then and whether it has stopped.
+fn send<W: Sink>(sink: &mut W, written: u64, stopped: bool, page: &[u8]) -> (u64, bool)
+    requires count { written ≤ 2 ^ 63 + 8192 }
+    requires page { length page.now ≤ 8192 }
+    ensures count { result.0 ≤ 2 ^ 63 + 8192 }
+    ensures put { (start : Option (List ℕ)) (failed : Bool) (text : List ℕ)
+        → IsPut W.taken W.broken start failed text sink.old written stopped page.now
+        → IsPut W.taken W.broken start failed text sink.new result.0 result.1 [] }
+{
+    if stopped || page.is_empty() {
+        return (written, stopped);
+    }
+    if written >= LONGEST {
+        return (written, true);
+    }
+    let taken = write_whole(sink, page);
+    (written + taken as u64, taken < page.len())
+}
+
+/// Sends the last page after `written` bytes.
+fn send_last<W: Sink>(
+    sink: &mut W,
+    written: u64,
+    stopped: bool,
+    page: &[u8],
+) -> Result<(), WriteFault>
+    requires count { written ≤ 2 ^ 63 + 8192 }
+    requires page { length page.now ≤ 8192 }
+    ensures { (start : Option (List ℕ)) (failed : Bool) (text : List ℕ)
+        → IsPut W.taken W.broken start failed text sink.old written stopped page.now
+        → MatchResult result (λ _. Appends start (W.taken sink.new) text
+        × (W.broken sink.new ≡ failed)) (λ f. Stops W.taken W.broken start text sink.new f) }
+{
+    let (written, stopped) = send(sink, written, stopped, page);
+    if stopped {
+        return Err(WriteFault { written });
+    }
+    Ok(())
+}
+
+impl<'a, W: Sink> Pen<'a, W> {
+    ghost use Rattle.std.specs.Prelude.{decimal};
+    ghost use Rattle.tk_writers.specs.Pens.{Holds, Puts, Ends};
+    ghost use Rattle.tk_writers.specs.Written.{spaced_numbers};
+
+    /// A pen that has written nothing.
+    pub fn new(sink: &'a mut W) -> Pen<'a, W>
+        ensures same { result.sink.ghost_name ≡ sink.entry.ghost_name }
+        ensures empty { Holds W.taken W.broken (W.taken sink.old) (W.broken sink.old) [] result }
+    {
+        Pen {
+            sink,
+            page: Page::new(),
+            written: 0,
+            stopped: false,
+        }
+    }
+
+    /// Writes bytes after all that was put before.
+    #[inline(always)]
+    pub fn put(&mut self, bytes: &[u8])
+        ensures { Puts W.taken W.broken self.old self.new bytes.now }
+    {
+        if bytes.len() <= self.page.room() {
+            self.page.push(bytes);
+        } else {
+            self.put_past_page(bytes);
+        }
+    }
+
+    #[cold]
+    #[inline(never)]
+    fn put_past_page(&mut self, bytes: &[u8])
+        ensures { Puts W.taken W.broken self.old self.new bytes.now }
+    {
+        let mut rest = bytes;
+        while rest.len() > self.page.room() {
+            let (piece, more) = rest.split_at(self.page.room());
+            self.page.push(piece);
+            self.send_page();
+            rest = more;
+        }
+        self.page.push(rest);
+    }
+
+    /// Sends what waits.
+    fn send_page(&mut self)
+        ensures puts { Puts W.taken W.broken self.old self.new [] }
+        ensures empty { self.new.page ≡ [] }
+    {
+        let (written, stopped) = send(self.sink, self.written, self.stopped, self.page.as_slice());
+        self.written = written;
+        self.stopped = stopped;
+        self.page.clear();
+    }
+
+    /// Writes a number's decimal digits after all that was put before.
+    pub fn put_number(&mut self, number: u64)
+        ensures { Puts W.taken W.broken self.old self.new (decimal number) }
+    {
+        let mut buffer = Buffer::new();
+        self.put(buffer.format(number).as_bytes());
+    }
+
+    /// The same for a number of up to 128 bits.
+    pub fn put_wide(&mut self, number: u128)
+        ensures { Puts W.taken W.broken self.old self.new (decimal number) }
+    {
+        let mut buffer = Buffer::new();
+        let digits = buffer.format(number);
+        self.put(digits.as_bytes());
+    }
+
+    /// Writes numbers, single spaces between them, after all that was put before.
+    pub fn put_spaced(&mut self, numbers: &[u32])
+        ensures { Puts W.taken W.broken self.old self.new (spaced_numbers numbers.now) }
+    {
+        let Some((first, rest)) = numbers.split_first() else {
+            return;
+        };
+        self.put_number(*first as u64);
+        for number in rest {
+            self.put(b" ");
+            self.put_number(*number as u64);
+        }
+    }
+
+    /// Sends what waits. All that was put has gone out then, or the fault says how much of it.
+    ///
+    /// # Errors
+    /// That a write failed, and how many bytes had gone out by then.
+    pub fn end(self) -> Result<(), WriteFault>
+        ensures { Ends W.taken W.broken self.entry self.exit.0.now result }
+    {
+        let Pen {
+            sink,
+            page,
+            written,
+            stopped,
+        } = self;
+        send_last(sink, written, stopped, page.as_slice())
+    }
+}

@@ -1,0 +1,7 @@
+//! The subcommands over files.
+pub mod check;
+pub mod checksol;
+pub mod matrix;
+pub mod near;
+pub mod plot;
+pub mod solve;
