@@ -11,7 +11,7 @@ use std::io;
 use std::time::Instant;
 use tk_descent::{Probe, Report, Waking, descend};
 use tk_metric::{Metric, Near, Planes, near_sweep};
-use tk_text::PlaneKind;
+use tk_text::{CITY_LIMIT, PlaneKind};
 use tk_tour::{ArrayTour, TourStore, length};
 
 /// Makes the run.
@@ -27,7 +27,7 @@ pub fn run_small(rt: &HostRuntime) -> anyhow::Result<()> {
 
 /// Both phases for so many cities, from the tour along strips of this width.
 fn measure(rt: &HostRuntime, times: Times, n: u32, width: u32) -> anyhow::Result<()>
-    requires n { (6 ≤ n) × (n ≤ 100000) }
+    requires n { (6 ≤ n) × (n ≤ CITY_LIMIT) }
     requires width { 0 < width }
 {
     let (points, order) = along_strips(rt.alloc(), n, width)?;

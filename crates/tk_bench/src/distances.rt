@@ -8,10 +8,10 @@ use std::alloc::{AllocError, Global};
 use std::io;
 use std::time::Instant;
 use tk_metric::{Metric, Planes};
-use tk_text::{PlaneKind, Point, Points, SCALE};
+use tk_text::{CITY_LIMIT, COORDINATE_LIMIT, PlaneKind, Point, Points, SCALE};
 
 /// No coordinate may be over this, in units of 10^-9.
-const FAR: u64 = 1_000_000_000_000_000_000;
+const FAR: u64 = COORDINATE_LIMIT * SCALE as u64;
 
 /// How often each sum is made; the least time counts.
 const ROUNDS: u32 = 7;
@@ -79,7 +79,7 @@ fn measure(
     sizes: Sizes,
 ) -> io::Result<()> {
     let points = spread(rt.alloc(), sizes.places, span, task.unit)?;
-    if points.len() > 100_000 {
+    if points.len() > CITY_LIMIT as usize {
         return Ok(());
     }
     let planes = Planes::new(task.kind, &points);

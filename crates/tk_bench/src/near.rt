@@ -9,7 +9,7 @@ use crate::times::Times;
 use std::time::Instant;
 use tk_build::nearest_tour;
 use tk_metric::{Metric, Planes, Table, near_lists};
-use tk_text::PlaneKind;
+use tk_text::{CANDIDATE_LIMIT, CITY_LIMIT, PlaneKind};
 
 /// How many cities there are, and the lengths of the shorter and of the longer lists.
 #[derive(Clone, Copy)]
@@ -41,9 +41,9 @@ pub fn run_small(rt: &HostRuntime) -> anyhow::Result<()> {
 
 /// Each kind of input.
 fn measure_all(rt: &HostRuntime, times: Times, sizes: Sizes) -> anyhow::Result<()>
-    requires cities { sizes.cities ≤ 100000 }
-    requires short { (1 ≤ sizes.short) × (sizes.short ≤ 100) }
-    requires long { (1 ≤ sizes.long) × (sizes.long ≤ 100) }
+    requires cities { sizes.cities ≤ CITY_LIMIT }
+    requires short { (1 ≤ sizes.short) × (sizes.short ≤ CANDIDATE_LIMIT) }
+    requires long { (1 ≤ sizes.long) × (sizes.long ≤ CANDIDATE_LIMIT) }
 {
     measure(rt, times, "uniform", Input::Uniform, sizes)?;
     measure(rt, times, "one_place", Input::OnePlace, sizes)?;
@@ -63,9 +63,9 @@ fn measure(
     input: Input,
     sizes: Sizes,
 ) -> anyhow::Result<()>
-    requires cities { sizes.cities ≤ 100000 }
-    requires short { (1 ≤ sizes.short) × (sizes.short ≤ 100) }
-    requires long { (1 ≤ sizes.long) × (sizes.long ≤ 100) }
+    requires cities { sizes.cities ≤ CITY_LIMIT }
+    requires short { (1 ≤ sizes.short) × (sizes.short ≤ CANDIDATE_LIMIT) }
+    requires long { (1 ≤ sizes.long) × (sizes.long ≤ CANDIDATE_LIMIT) }
 {
     let points = sample(rt.alloc(), sizes.cities, input)?;
     let table = Table::Planes(Planes::new(PlaneKind::Euc2d, &points));
@@ -82,7 +82,7 @@ fn time_lists(
     table: &Table<'_>,
     k: u32,
 ) -> anyhow::Result<()>
-    requires { (1 ≤ k) × (k ≤ 100) }
+    requires { (1 ≤ k) × (k ≤ CANDIDATE_LIMIT) }
 {
     if k >= table.size() {
         return Ok(());

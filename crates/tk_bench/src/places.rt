@@ -4,7 +4,7 @@ ghost use Rattle.tk_text.specs.Places.{IsNearOrigin};
 
 use crate::draws::draw;
 use std::alloc::{AllocError, Global};
-use tk_text::{Point, Points, SCALE};
+use tk_text::{COORDINATE_LIMIT, Point, Points, SCALE};
 
 /// How the cities lie.
 #[derive(Clone, Copy)]
@@ -31,7 +31,7 @@ pub enum Input {
 
 /// The whole place of these coordinates.
 pub fn whole(x: u32, y: u32) -> Point
-    requires { (x ≤ 1000000000) × (y ≤ 1000000000) }
+    requires { (x ≤ COORDINATE_LIMIT) × (y ≤ COORDINATE_LIMIT) }
     ensures { IsNearOrigin result }
 {
     Point {

@@ -11,7 +11,7 @@ use std::alloc::{AllocError, Global};
 use std::time::Instant;
 use tk_build::{savings_lists, savings_tour};
 use tk_metric::{Metric, Near, Planes, near_sweep};
-use tk_text::PlaneKind;
+use tk_text::{CANDIDATE_LIMIT, CITY_LIMIT, PlaneKind};
 
 /// Makes the run.
 pub fn run(rt: &HostRuntime) -> anyhow::Result<()> {
@@ -27,8 +27,8 @@ pub fn run_small(rt: &HostRuntime) -> anyhow::Result<()> {
 
 /// So many cities in the square and in the strip, with near lists of length k.
 fn measure_boxes(rt: &HostRuntime, times: Times, count: u32, k: u32) -> anyhow::Result<()>
-    requires count { (1 ≤ count) × (count ≤ 100000) }
-    requires k { (1 ≤ k) × (k ≤ 100) × (k < count) }
+    requires count { (1 ≤ count) × (count ≤ CITY_LIMIT) }
+    requires k { (1 ≤ k) × (k ≤ CANDIDATE_LIMIT) × (k < count) }
 {
     measure(rt, times, "square", Input::Uniform, count, k)?;
     measure(rt, times, "strip", Input::Strip, count, k)
@@ -43,8 +43,8 @@ fn measure(
     count: u32,
     k: u32,
 ) -> anyhow::Result<()>
-    requires count { (1 ≤ count) × (count ≤ 100000) }
-    requires k { (1 ≤ k) × (k ≤ 100) × (k < count) }
+    requires count { (1 ≤ count) × (count ≤ CITY_LIMIT) }
+    requires k { (1 ≤ k) × (k ≤ CANDIDATE_LIMIT) × (k < count) }
 {
     let points = sample(rt.alloc(), count, input)?;
     let planes = Planes::new(PlaneKind::Euc2d, &points);

@@ -13,7 +13,7 @@ use std::io;
 use std::time::Instant;
 use tk_build::{Search, SearchRules, Totals};
 use tk_metric::{Metric, Planes, near_tree};
-use tk_text::PlaneKind;
+use tk_text::{CITY_LIMIT, PlaneKind};
 use tk_tour::{ArrayTour, TourStore};
 
 /// Makes the run.
@@ -30,7 +30,7 @@ pub fn run_small(rt: &HostRuntime) -> anyhow::Result<()> {
 
 /// Both phases for so many cities and later trials, from the tour along strips of this width.
 fn measure(rt: &HostRuntime, times: Times, n: u32, width: u32, count: u32) -> anyhow::Result<()>
-    requires n { (6 ≤ n) × (n ≤ 100000) }
+    requires n { (6 ≤ n) × (n ≤ CITY_LIMIT) }
     requires width { 0 < width }
 {
     let rules = SearchRules {

@@ -3,6 +3,7 @@ ghost use Rattle.std.specs.Prelude.{◌≡◌, ℕ, IfSome, IsSome};
 ghost use Rattle.tk_command_line.specs.ListLengths.{IsListLength};
 
 use std::marker::Model;
+use tk_problem::CANDIDATE_LIMIT;
 
 /// How many cities a near list is to have: 1 to 100.
 #[derive(Drop)]
@@ -24,7 +25,7 @@ impl ListLength {
         ensures some { IfSome result (λ length. (length ≡ cities) × IsListLength cities) }
         ensures all { IsListLength cities → IsSome result }
     {
-        if 1 <= cities && cities <= 100 {
+        if 1 <= cities && cities <= CANDIDATE_LIMIT {
             Some(ListLength { cities })
         } else {
             None

@@ -1,5 +1,6 @@
 //! Gains of moves: the only way by which a descent learns distances.
 ghost use Rattle.std.specs.Prelude.{◌≡◌, ℕ, ◌+◌, ◌-◌, ◌*◌, ◌^◌, ◌≤◌, All, IfSome, length};
+ghost use Rattle.tk_problem.specs.declared.limits.TheConstants.{DISTANCE_LIMIT};
 ghost use Rattle.tk_distance.specs.Cities.{IsCity};
 ghost use Rattle.tk_near.specs.Near.{near_of};
 ghost use Rattle.tk_tour.specs.Counters.{saturated};
@@ -107,7 +108,7 @@ pub trait Gains {
 
     ghost diagonal: { (g : Self) (a : ℕ) → distance g a a ≡ 0 };
 
-    ghost distance_limit: { (g : Self) (a b : ℕ) → distance g a b ≤ 4000000000 };
+    ghost distance_limit: { (g : Self) (a b : ℕ) → distance g a b ≤ DISTANCE_LIMIT };
 
     ghost count_limit: { (g : Self) → test_count g ≤ 2 ^ 64 - 1 };
 }

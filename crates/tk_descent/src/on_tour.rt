@@ -1,5 +1,6 @@
 //! The steps of a tour, with the facts that a look needs of them.
 ghost use Rattle.std.specs.Prelude.{◌≡◌, ◌≤◌, length};
+ghost use Rattle.tk_problem.specs.declared.limits.TheConstants.{CITY_LIMIT};
 ghost use Rattle.tk_distance.specs.Cities.{IsCity};
 ghost use Rattle.tk_tour.specs.Tour.{next_city, prev_city};
 
@@ -9,7 +10,7 @@ use tk_tour::TourStore;
 #[inline]
 pub(crate) fn size<S: TourStore>(tour: &S) -> u32
     ensures count { result ≡ length (S.cities tour.now) }
-    ensures limits { (2 ≤ result) × (result ≤ 100000) }
+    ensures limits { (2 ≤ result) × (result ≤ CITY_LIMIT) }
 {
     tour.size()
 }

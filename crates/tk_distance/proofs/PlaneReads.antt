@@ -3,13 +3,14 @@ use Rattle.std.proofs.Common.{◌≡◌, ℕ, ◌*◌, refl, ◌-◌, ◌<◌, �
 use Rattle.std.proofs.lemmas.List.{get_or-map, length-map}
 use Rattle.std.proofs.lemmas.Int.{ints}
 use Rattle.std.specs.Int.RustNames.{unsigned_abs}
+use Rattle.tk_problem.specs.declared.limits.TheConstants.{DISTANCE_LIMIT}
 use Rattle.tk_problem.specs.declared.point.Point.{Point}
 use Rattle.tk_problem.specs.declared.point.WholePoint.{WholePoint}
 use Rattle.tk_problem.specs.declared.points.Places.{Places}
 use Rattle.tk_problem.specs.declared.points.Places.TheVariants.{Whole, Fine}
 use Rattle.tk_problem.specs.declared.weights.PlaneKind.{PlaneKind}
 use Rattle.tk_problem.specs.declared.weights.PlaneKind.TheVariants.{Euc2d}
-use Rattle.tk_problem.specs.Places.{origin, place_of_whole}
+use Rattle.tk_problem.specs.Places.{origin, place_of_whole, scale}
 use Rattle.tk_problem.specs.PlacesOf.{places_of}
 use Rattle.tk_distance.specs.Cities.{IsCity}
 use Rattle.tk_distance.specs.Distance.{IsDistanceOf, IsGreatest, RootReaches, gap, square_sum}
@@ -62,38 +63,38 @@ fine_city_distance kind places ps a b is =
     (distance_at-is kind (gap (city_place ps.now a).x (city_place ps.now b).x) (gap (city_place ps.now a).y (city_place ps.now b).y))
 
 -- the distance of two cities as the code's signed number
-pub signed_value : (kind : PlaneKind) (ps : List Point) (a b d : ℕ) → IsCityDistance kind ps a b d → d ≤ 4000000000
+pub signed_value : (kind : PlaneKind) (ps : List Point) (a b d : ℕ) → IsCityDistance kind ps a b d → d ≤ DISTANCE_LIMIT
     → to_z w64 d ≡ pos (city_distance kind ps a b)
 signed_value kind ps a b d is low = let value = distance_of-unique kind (city_place ps a) (city_place ps b) d is in omega (arith, ints)
 
-pub signed_distance : (kind : PlaneKind) (ps : List Point) (a b d : ℕ) → IsCityDistance kind ps a b d → d ≤ 4000000000
+pub signed_distance : (kind : PlaneKind) (ps : List Point) (a b d : ℕ) → IsCityDistance kind ps a b d → d ≤ DISTANCE_LIMIT
     → IsCityDistance kind ps a b (unsigned_abs (to_z w64 d))
 signed_distance kind ps a b d is low =
     let same : d ≡ unsigned_abs (to_z w64 d) = omega (arith, ints) in
     subst (λ (e : ℕ). IsCityDistance kind ps a b e) same is
 
-square-scaled : (x y : ℕ) → square_sum x y * (1000000000 * 1000000000) ≡ square_sum (x * 1000000000) (y * 1000000000)
+square-scaled : (x y : ℕ) → square_sum x y * (scale * scale) ≡ square_sum (x * scale) (y * scale)
 square-scaled x y = omega arith
 
 -- the distance of EUC_2D, from the square of whole differences
 pub whole_euclid : (kind : PlaneKind) (p q : WholePoint) (square d : ℕ) → kind ≡ Euc2d → square ≡ square_sum (gap p.x q.x) (gap p.y q.y)
-    → IsGreatest (RootReaches (square * (1000000000 * 1000000000))) d → IsDistanceOf kind (place_of_whole p) (place_of_whole q) d
+    → IsGreatest (RootReaches (square * (scale * scale))) d → IsDistanceOf kind (place_of_whole p) (place_of_whole q) d
 whole_euclid kind p q square d euclid is nearest =
-    let scaled : square * (1000000000 * 1000000000) ≡ square_sum (gap p.x q.x * 1000000000) (gap p.y q.y * 1000000000) =
-    ap (λ s. s * (1000000000 * 1000000000)) is ∙ square-scaled (gap p.x q.x) (gap p.y q.y) in
+    let scaled : square * (scale * scale) ≡ square_sum (gap p.x q.x * scale) (gap p.y q.y * scale) =
+    ap (λ s. s * (scale * scale)) is ∙ square-scaled (gap p.x q.x) (gap p.y q.y) in
     let there : IsDistanceOf Euc2d (place_of_whole p) (place_of_whole q) d =
     whole_places Euc2d p q (gap p.x q.x) (gap p.y q.y) d refl refl (subst (λ (s : ℕ). IsGreatest (RootReaches s) d) scaled nearest) in
     subst (λ (k : PlaneKind). IsDistanceOf k (place_of_whole p) (place_of_whole q) d) (sym euclid) there
 
 -- the distance of EUC_2D is the rounded root of the square of whole differences
 pub euclid_root : (kind : PlaneKind) (p q : WholePoint) (square d : ℕ) → kind ≡ Euc2d → square ≡ square_sum (gap p.x q.x) (gap p.y q.y)
-    → IsDistanceOf kind (place_of_whole p) (place_of_whole q) d → IsGreatest (RootReaches (square * (1000000000 * 1000000000))) d
+    → IsDistanceOf kind (place_of_whole p) (place_of_whole q) d → IsGreatest (RootReaches (square * (scale * scale))) d
 euclid_root kind p q square d euclid is distance =
     let there : IsDistanceOf Euc2d (place_of_whole p) (place_of_whole q) d =
     subst (λ (k : PlaneKind). IsDistanceOf k (place_of_whole p) (place_of_whole q) d) euclid distance in
-    let same : square_sum (gap (place_of_whole p).x (place_of_whole q).x) (gap (place_of_whole p).y (place_of_whole q).y) ≡ square * (1000000000 * 1000000000) =
+    let same : square_sum (gap (place_of_whole p).x (place_of_whole q).x) (gap (place_of_whole p).y (place_of_whole q).y) ≡ square * (scale * scale) =
     ap (λ g. square_sum g (gap (place_of_whole p).y (place_of_whole q).y)) (gap-scaled p.x q.x)
-    ∙ ap (λ g. square_sum (gap p.x q.x * 1000000000) g) (gap-scaled p.y q.y)
+    ∙ ap (λ g. square_sum (gap p.x q.x * scale) g) (gap-scaled p.y q.y)
     ∙ sym (square-scaled (gap p.x q.x) (gap p.y q.y))
-    ∙ ap (λ s. s * (1000000000 * 1000000000)) (sym is) in
+    ∙ ap (λ s. s * (scale * scale)) (sym is) in
     subst (λ (s : ℕ). IsGreatest (RootReaches s) d) same there

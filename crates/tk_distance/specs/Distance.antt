@@ -2,13 +2,10 @@
 -- Source: G. Reinelt, "TSPLIB 95", section 2, "The distance functions".
 use Rattle.std.specs.Prelude.{ℕ, ℤ, ◌+◌, ◌-◌, ◌*◌, ◌≤◌, ◌-ℤ◌, max}
 use Rattle.std.specs.Int.RustNames.{unsigned_abs}
+use Rattle.tk_problem.specs.Places.{greatest_coordinate, scale}
 use Rattle.tk_problem.specs.declared.point.Point.{Point}
 use Rattle.tk_problem.specs.declared.weights.PlaneKind.{PlaneKind}
 use Rattle.tk_problem.specs.declared.weights.PlaneKind.TheVariants.{Euc2d, Ceil2d, Man2d, Max2d, Att}
-
--- how many units make one
-abbrev pub scale : ℕ
-scale = 1000000000
 
 -- d is the greatest number from 1 on of which P holds, or 0 where there is none
 pub record IsGreatest (P : ℕ → Type 0) (d : ℕ) : Type 0 where
@@ -55,4 +52,4 @@ IsDistanceOf kind p q d = IsDistance kind (gap p.x q.x) (gap p.y q.y) d
 
 -- how far apart two coordinates may be
 abbrev pub reach : ℕ
-reach = 2000000000000000000
+reach = 2 * greatest_coordinate

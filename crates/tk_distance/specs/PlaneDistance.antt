@@ -1,9 +1,10 @@
 -- The distance of each plane type as a function: the number that `Distance.IsDistance` describes.
 use Rattle.std.specs.Prelude.{ℕ, zero, suc, ◌+◌, ◌-◌, ◌*◌, Bool, nat_le, max, if◌then◌else◌}
+use Rattle.tk_problem.specs.Places.{scale}
 use Rattle.tk_problem.specs.declared.point.Point.{Point}
 use Rattle.tk_problem.specs.declared.weights.PlaneKind.{PlaneKind}
 use Rattle.tk_problem.specs.declared.weights.PlaneKind.TheVariants.{Euc2d, Ceil2d, Man2d, Max2d, Att}
-use Rattle.tk_distance.specs.Distance.{scale, square_sum, gap}
+use Rattle.tk_distance.specs.Distance.{square_sum, gap}
 
 -- the greatest number from 1 to n that passes, or 0
 unfoldable pub last_passing : (ℕ → Bool) → ℕ → ℕ

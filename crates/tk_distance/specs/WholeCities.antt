@@ -9,9 +9,9 @@ use Rattle.tk_problem.specs.declared.point.Point.{Point}
 use Rattle.tk_problem.specs.declared.point.WholePoint.{WholePoint}
 use Rattle.tk_problem.specs.declared.points.Places.TheVariants.{Whole}
 use Rattle.tk_problem.specs.declared.weights.PlaneKind.TheVariants.{Euc2d}
-use Rattle.tk_problem.specs.Places.{place_of_whole}
+use Rattle.tk_problem.specs.Places.{place_of_whole, scale}
 use Rattle.tk_problem.specs.PlacesOf.{places_of}
-use Rattle.tk_distance.specs.Distance.{gap, RootReaches, square_sum}
+use Rattle.tk_distance.specs.Distance.{gap, RootReaches, square_sum, reach}
 use Rattle.tk_distance.specs.PlaneDistance.{distance_at}
 use Rattle.tk_distance.specs.Laws.Distances.{distance_at-is}
 use Rattle.tk_distance.specs.Laws.Planes.{floor-bounds, floor-bounds_y, gap-scaled}
@@ -29,14 +29,14 @@ abbrev pub whole_city_place : List WholePoint → ℕ → Point
 whole_city_place places c = record { x = (whole_city places c).x; y = (whole_city places c).y }
 
 pub whole_gap-limit : (places : List WholePoint) (a b : ℕ) →
-    gap (whole_city places a).x (whole_city places b).x ≤ 2000000000000000000
+    gap (whole_city places a).x (whole_city places b).x ≤ reach
 whole_gap-limit places a b =
     let p = (whole_city places a).x_near in
     let q = (whole_city places b).x_near in
     omega (arith, ints, p, q)
 
 pub whole_gap_y-limit : (places : List WholePoint) (a b : ℕ) →
-    gap (whole_city places a).y (whole_city places b).y ≤ 2000000000000000000
+    gap (whole_city places a).y (whole_city places b).y ≤ reach
 whole_gap_y-limit places a b =
     let p = (whole_city places a).y_near in
     let q = (whole_city places b).y_near in
@@ -49,13 +49,13 @@ half_below (suc g) =
     rw odd (omega arith)
 
 -- a distance is at least a whole difference
-whole_difference : (g : ℕ) → g ≤ distance_at Euc2d (g * 1000000000) 0
+whole_difference : (g : ℕ) → g ≤ distance_at Euc2d (g * scale) 0
 whole_difference g =
     ⊎_elim
     (λ some.
     let half = half_below g in
-    let reaches : RootReaches (square_sum (g * 1000000000) 0) g = omega (arith, half) in
-    (distance_at-is Euc2d (g * 1000000000) 0).greatest g some reaches)
+    let reaches : RootReaches (square_sum (g * scale) 0) g = omega (arith, half) in
+    (distance_at-is Euc2d (g * scale) 0).greatest g some reaches)
     (λ none. omega (arith, none))
     (cases_lt 0 g)
 

@@ -1,5 +1,6 @@
 //! Distances of the commonest kind.
 ghost use Rattle.std.specs.Prelude.{◌≡◌, ◌≤◌, All, length};
+ghost use Rattle.tk_problem.specs.declared.limits.TheConstants.{CITY_LIMIT};
 ghost use Rattle.tk_problem.specs.Places.{IsNearOrigin};
 ghost use Rattle.tk_problem.specs.PlacesOf.{places_of};
 ghost use Rattle.tk_problem.specs.declared.points.Places.TheVariants.{Whole};
@@ -15,7 +16,7 @@ use tk_problem::{PlaneKind, Point, WholePoint};
 pub struct Euclid<'a> {
     pub places: &'a [WholePoint],
     ghost near: { All IsNearOrigin (places_of (Whole places)) },
-    ghost few: { length (places_of (Whole places)) ≤ 100000 },
+    ghost few: { length (places_of (Whole places)) ≤ CITY_LIMIT },
 }
 
 impl Metric for Euclid<'_> {

@@ -1,6 +1,8 @@
 //! What a distance is.
 ghost use Rattle.std.specs.Prelude.{◌≡◌, ℕ, ℤ, ◌≤◌, ◌<ℤ◌, ◌↔◌, IsTrue, pos, ◌-ℤ◌};
 ghost use Rattle.std.specs.Int.RustNames.{unsigned_abs};
+ghost use Rattle.tk_distance.specs.Distance.{reach};
+ghost use Rattle.tk_problem.specs.declared.limits.TheConstants.{CITY_LIMIT, DISTANCE_LIMIT};
 ghost use Rattle.tk_distance.specs.Cities.{IsCity};
 ghost use Rattle.tk_problem.specs.declared.point.Point.{Point};
 
@@ -34,13 +36,13 @@ pub trait Metric {
         self.dist(a, b) < limit
     }
 
-    ghost size_limit: { (m : Self) → size_of m ≤ 100000 };
+    ghost size_limit: { (m : Self) → size_of m ≤ CITY_LIMIT };
 
     ghost symmetric: { (m : Self) (a b : ℕ) → distance m a b ≡ distance m b a };
 
     ghost diagonal: { (m : Self) (a : ℕ) → distance m a a ≡ 0 };
 
-    ghost distance_limit: { (m : Self) (a b : ℕ) → distance m a b ≤ 4000000000 };
+    ghost distance_limit: { (m : Self) (a b : ℕ) → distance m a b ≤ DISTANCE_LIMIT };
 }
 
 /// A metric over places in the plane, in which a distance is at least a function of the difference in x, and the same
@@ -59,14 +61,14 @@ pub trait Planar: Metric {
 
     /// No two cities whose places differ by this in x, or in y, are nearer than this.
     fn floor_x(&self, dx: u64) -> i64
-        requires { dx ≤ 2000000000000000000 }
+        requires { dx ≤ reach }
         ensures { result ≡ pos (floor self.now dx) };
 
-    ghost wide: { (m : Self) (a b : ℕ) → unsigned_abs ((place_of m a).x -ℤ (place_of m b).x) ≤ 2000000000000000000 };
+    ghost wide: { (m : Self) (a b : ℕ) → unsigned_abs ((place_of m a).x -ℤ (place_of m b).x) ≤ reach };
 
-    ghost tall: { (m : Self) (a b : ℕ) → unsigned_abs ((place_of m a).y -ℤ (place_of m b).y) ≤ 2000000000000000000 };
+    ghost tall: { (m : Self) (a b : ℕ) → unsigned_abs ((place_of m a).y -ℤ (place_of m b).y) ≤ reach };
 
-    ghost floor_rises: { (m : Self) (s t : ℕ) → s ≤ t → t ≤ 2000000000000000000 → floor m s ≤ floor m t };
+    ghost floor_rises: { (m : Self) (s t : ℕ) → s ≤ t → t ≤ reach → floor m s ≤ floor m t };
 
     ghost floor_bounds: { (m : Self) (a b : ℕ)
         → floor m (unsigned_abs ((place_of m a).x -ℤ (place_of m b).x)) ≤ Self.distance m a b };

@@ -1,5 +1,6 @@
 //! Distances in the plane.
 ghost use Rattle.std.specs.Prelude.{◌≡◌, ℕ, ◌≤◌, ◌<◌, ◌<ℤ◌, ◌↔◌, ◌-◌, All, length, pos};
+ghost use Rattle.tk_problem.specs.declared.limits.TheConstants.{CITY_LIMIT, DISTANCE_LIMIT};
 ghost use Rattle.tk_problem.specs.Places.{IsNearOrigin};
 ghost use Rattle.tk_problem.specs.PlacesOf.{places_of};
 
@@ -16,7 +17,7 @@ pub struct Planes<'a> {
     pub kind: PlaneKind,
     pub places: Places<'a>,
     ghost near: { All IsNearOrigin (places_of places) },
-    ghost few: { length (places_of places) ≤ 100000 },
+    ghost few: { length (places_of places) ≤ CITY_LIMIT },
 }
 
 impl<'a> Planes<'a> {
@@ -27,7 +28,7 @@ impl<'a> Planes<'a> {
 
     /// The distances among at most 100,000 places.
     pub fn new(kind: PlaneKind, points: &'a Points) -> Planes<'a>
-        requires few { length points.now ≤ 100000 }
+        requires few { length points.now ≤ CITY_LIMIT }
         ensures kind { result.kind ≡ kind }
         ensures places { places_of result.places ≡ points.now }
     {
@@ -102,7 +103,7 @@ impl Metric for Planes<'_> {
 /// A number that is above the same distances as a limit.
 #[inline]
 pub fn bound_of(limit: i64) -> u64
-    ensures value { (d : ℕ) → d ≤ 4000000000 → ((d < result) ↔ (pos d <ℤ limit)) }
+    ensures value { (d : ℕ) → d ≤ DISTANCE_LIMIT → ((d < result) ↔ (pos d <ℤ limit)) }
     ensures bound { result ≤ 4000000001 }
 {
     limit.max(0).min(4_000_000_001) as u64

@@ -1,5 +1,6 @@
 //! Distances among some of the cities.
 ghost use Rattle.std.specs.Prelude.{◌≡◌, ◌≤◌, All, length};
+ghost use Rattle.tk_problem.specs.declared.limits.TheConstants.{CITY_LIMIT};
 ghost use Rattle.tk_distance.specs.Cities.{IsCity};
 
 use crate::metric::Metric;
@@ -9,7 +10,7 @@ use std::alloc::AllocError;
 pub struct Sub<'a, M: Metric> {
     pub metric: &'a M,
     pub cities: &'a [u32],
-    ghost few: { length cities.now ≤ 100000 },
+    ghost few: { length cities.now ≤ CITY_LIMIT },
     ghost known: { All (IsCity (M.size_of metric.now)) cities.now },
 }
 
@@ -26,7 +27,7 @@ impl<M: Metric> Clone for Sub<'_, M> {
 impl<'a, M: Metric> Sub<'a, M> {
     /// The distances among at most 100,000 cities of a metric.
     pub fn new(metric: &'a M, cities: &'a [u32]) -> Sub<'a, M>
-        requires few { length cities.now ≤ 100000 }
+        requires few { length cities.now ≤ CITY_LIMIT }
         requires known { All (IsCity (M.size_of metric.now)) cities.now }
         ensures metric { result.metric.now ≡ metric.now }
         ensures cities { result.cities.now ≡ cities.now }

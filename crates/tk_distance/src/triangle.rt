@@ -1,5 +1,6 @@
 //! Explicit weights.
 ghost use Rattle.std.specs.Prelude.{◌≡◌, ◌≤◌, ◌-◌, ◌*◌, ◌/◌, All, length};
+ghost use Rattle.tk_problem.specs.declared.limits.TheConstants.{DISTANCE_LIMIT, TABLE_LIMIT};
 
 use crate::metric::Metric;
 
@@ -8,9 +9,9 @@ use crate::metric::Metric;
 pub struct Triangle<'a> {
     pub n: u32,
     pub weights: &'a [u32],
-    ghost few: { n ≤ 5000 },
+    ghost few: { n ≤ TABLE_LIMIT },
     ghost full: { length weights.now ≡ n * (n - 1) / 2 },
-    ghost small: { All (λ w. w ≤ 4000000000) weights.now },
+    ghost small: { All (λ w. w ≤ DISTANCE_LIMIT) weights.now },
 }
 
 impl Metric for Triangle<'_> {

@@ -2,6 +2,7 @@
 use Rattle.std.proofs.Common.{◌≡◌, ℕ, ◌-◌, ◌≤◌, min, Option, Some, None, Result, Ok, Err, sym, ap, ◌∙◌, subst, arith}
 use Rattle.std.proofs.lemmas.Bool.{le-ltb}
 use Rattle.std.specs.Prelude.{Bool, IfOk, if◌then◌else◌}
+use Rattle.tk_problem.specs.declared.limits.TheConstants.{TABLE_LIMIT}
 use Rattle.tk_near.specs.Near.{NearLists, AreNearest}
 use Rattle.tk_distance.specs.Tables.{table_size, table_distance, table_distance-swap, table_distance-limit}
 use Rattle.tk_distance.specs.Weights.{problem_distance}
@@ -38,5 +39,5 @@ abbrev large_by : Bool → Option Fault
 large_by b = if b then Some TooLarge else None
 
 -- a problem of at most 5,000 nodes is not too large
-pub is_not_too_large : (p : ProblemIs) → p.n ≤ 5000 → too_large p ≡ None
-is_not_too_large p few = ap large_by (le-ltb 5000 p.n few)
+pub is_not_too_large : (p : ProblemIs) → p.n ≤ TABLE_LIMIT → too_large p ≡ None
+is_not_too_large p few = ap large_by (le-ltb TABLE_LIMIT p.n few)

@@ -6,8 +6,9 @@
 --     EndsByProblem      the same, where it depends on the problem what is read as the second text
 --     BeforeSecond, UnlessWrite, AtWrite      a fact, at some of the stages
 use Rattle.std.specs.Prelude.{◌≡◌, ◌≢◌, ℕ, Bool, true, List, Option, Some, None, Result, Ok, Err}
+use Rattle.tk_problem.specs.declared.limits.TheConstants.{TEXT_LIMIT}
 use Rattle.tk_words.specs.Drive.{Decided, IsTold}
-use Rattle.tk_words.specs.Texts.{IsAnswerWhereTold, text_limit}
+use Rattle.tk_words.specs.Texts.{IsAnswerWhereTold}
 use Rattle.tk_problem_text.specs.Problem.{ProblemIs, problem_decided}
 use Rattle.tk_lists.specs.Solution.{Solution, solution_decided}
 use Rattle.tk_lists.specs.Tour.{tour_decided}
@@ -22,13 +23,13 @@ use Rattle.tk_engines.specs.declared.fault.Fault.TheVariants as faults
 -- the text of a source says this value, and no read failed
 pub record IsRead {V S : Type 0} (decided : Decided V) (left : S → Option (List ℕ)) (broken : S → Bool) (old new : S)
     (value : V) : Type 0 where
-  pub answer : IsAnswerWhereTold decided text_limit (left old) (left new) (Ok value)
+  pub answer : IsAnswerWhereTold decided TEXT_LIMIT (left old) (left new) (Ok value)
   pub intact : broken new ≡ broken old
 
 -- the text of a source has this fault, or it is one of reading or of memory
 pub record IsRefused {V S : Type 0} (decided : Decided V) (left : S → Option (List ℕ)) (broken : S → Bool) (old new : S)
     (f : TextFault) : Type 0 where
-  pub told : IsTold (broken new ≡ true) (IsAnswerWhereTold decided text_limit (left old) (left new)) f
+  pub told : IsTold (broken new ≡ true) (IsAnswerWhereTold decided TEXT_LIMIT (left old) (left new)) f
   pub intact : f.kind ≢ kinds.Read → broken new ≡ broken old
 
 -- what is known where a text is read as a value, or is refused

@@ -1,5 +1,6 @@
 -- The matrix of a problem.
 use Rattle.std.specs.Prelude.{◌≡◌, ℕ, false, List, Option, Some, None, nat_lt, if◌then◌else◌}
+use Rattle.tk_problem.specs.declared.limits.TheConstants.{TABLE_LIMIT}
 use Rattle.tk_problem.specs.declared.weights.Format.{Format}
 use Rattle.tk_writers.specs.MatrixText.{matrix_text}
 use Rattle.tk_problem_text.specs.Problem.{ProblemIs, Lower, problem_decided}
@@ -28,7 +29,7 @@ pub record IsMatrixText (format : Format) (p : ProblemIs) (text : List ℕ) : Ty
 
 -- a matrix has at most 5,000 nodes
 abbrev pub too_large : ProblemIs → Option Fault
-too_large p = if nat_lt 5000 p.n then Some TooLarge else None
+too_large p = if nat_lt TABLE_LIMIT p.n then Some TooLarge else None
 
 -- the matrix of a problem is written, which takes no memory
 abbrev pub matrix_task : Format → Task (Unit {0}) (Unit {0}) (List ℕ)

@@ -1,5 +1,5 @@
 //! The value of a header, byte by byte.
-ghost use Rattle.std.specs.Prelude.{◌≡◌, ◌≤◌, ◌<◌, ℕ, List, [], ◌∷◌, ◌++◌, length, Some, None, IfSome, IfOk, IfErr, take};
+ghost use Rattle.std.specs.Prelude.{◌≡◌, ◌≤◌, ◌<◌, ℕ, List, [], ◌∷◌, ◌++◌, length, Some, None, IfSome, IfOk, IfErr, ◌^◌};
 ghost use Rattle.tk_lines.specs.Scan.{Scans, first_word};
 ghost use Rattle.tk_words.specs.Lex.{trim, after_word};
 ghost use Rattle.tk_words.specs.Words.{spells};
@@ -59,7 +59,7 @@ impl Scan {
 
     /// Takes a byte.
     pub fn push(&mut self, byte: u8)
-        requires room { (self.old.count < 5000) × (self.old.seen < 5000) }
+        requires room { (self.old.count < 2 ^ 16) × (self.old.seen < 2 ^ 16) }
         requires known { (v : List ℕ) × Scans self.old v }
         ensures { (v : List ℕ) → Scans self.old v → Scans self.new (v ++ byte ∷ []) }
     {

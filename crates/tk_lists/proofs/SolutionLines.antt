@@ -11,6 +11,7 @@ use Rattle.tk_words.specs.declared.fault.TextKind.TheVariants as kinds
 use Rattle.tk_lines.specs.Pieces.{Stop, Open, Fault, or_else}
 use Rattle.std.specs.Int.Signed.{lt_z}
 use Rattle.std.specs.Prelude.{is_none}
+use Rattle.tk_problem.specs.declared.limits.TheConstants.{ENTRY_LIMIT}
 use Rattle.tk_lists.proofs.Lists.{numbers_more}
 
 pub routes_of-append : (xs ys : List SolutionLine) → routes_of (xs ++ ys) ≡ routes_of xs ++ routes_of ys
@@ -96,16 +97,16 @@ customers_at k (x ∷ ts) more t s fine stop =
     let n = nothing_before (customer_stop k x) (customers_stop (suc k) ts) fine in
     rw n.0 (customers_at (suc k) ts more t s n.1 (ap (λ (j : ℕ). customer_stop j t) (omega arith) ∙ stop))
 
-customer_fine : (k n m : ℕ) (bs : List ℕ) → length bs ≤ 64 → integer bs ≡ Some (pos m) → m ≤ 4294967295 → k < 1000000 → customer_stop k (whole bs n) ≡ None
+customer_fine : (k n m : ℕ) (bs : List ℕ) → length bs ≤ 64 → integer bs ≡ Some (pos m) → m ≤ 4294967295 → k < ENTRY_LIMIT → customer_stop k (whole bs n) ≡ None
 customer_fine k n m bs short is low few =
     let a : ltb 64 (length bs) ≡ false = le-ltb _ _ short in
     let b : leb m 4294967295 ≡ true = le-leb _ _ low in
-    let c : leb 1000000 k ≡ false = lt-leb _ _ few in
+    let c : leb ENTRY_LIMIT k ≡ false = lt-leb _ _ few in
     let z : leb 0 m ≡ true = le-leb _ _ (omega arith) in
     rw (a, is, z, b, c) refl
 
 -- one customer more
-pub keeps_customer : (s t : SolutionForm) (before : List SolutionLine) (toks : List Token) (n m : ℕ) (bs : List ℕ) → length bs ≤ 64 → integer bs ≡ Some (pos m) → m ≤ 4294967295 → s.customers < 1000000
+pub keeps_customer : (s t : SolutionForm) (before : List SolutionLine) (toks : List Token) (n m : ℕ) (bs : List ℕ) → length bs ≤ 64 → integer bs ≡ Some (pos m) → m ≤ 4294967295 → s.customers < ENTRY_LIMIT
     → t.routes ≡ s.routes → t.route.items ≡ s.route.items ++ m ∷ [] → t.customers ≡ s.customers + 1 → t.priced ≡ s.priced → t.cost ≡ s.cost
     → Keeps s before toks → IsRoute before toks → Keeps t before (toks ++ whole bs n ∷ []) × IsRoute before (toks ++ whole bs n ∷ [])
 keeps_customer s t before toks n m bs short is low few routes route customers priced cost k may = (

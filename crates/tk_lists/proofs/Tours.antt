@@ -3,6 +3,7 @@ use Rattle.std.proofs.Common.{◌≡◌, ℕ, ◌<◌, ◌≤◌, Bool, true, fa
 use Rattle.std.specs.Prelude.{codes}
 use Rattle.std.proofs.lemmas.Bool.{eqb-true, le-leb, lt-leb, le-ltb}
 use Rattle.std.proofs.lemmas.Int.{to_z-of_z}
+use Rattle.tk_problem.specs.declared.limits.TheConstants.{ENTRY_LIMIT}
 use Rattle.tk_words.specs.declared.keyword.Keyword.{Keyword}
 use Rattle.tk_words.specs.declared.keyword.Keyword.TheVariants as words
 use Rattle.tk_words.specs.declared.fault.TextKind.{TextKind}
@@ -62,7 +63,7 @@ module _ (s : TourForm) (b : Bool) (before : List Piece) (v : List ℕ) (n : ℕ
       let none : has words.Type before ≡ false = h.seen.kind ∙ old in
       (holds_header s s' before words.Type v n h refl (seen_kind before v n s.seen s'.seen h.seen (ap (λ (t : Bool). record s.seen { kind = t }) new)) refl refl, rw (none, tour) refl)
 
-  pub dimension_ok : s.seen.dimension ≡ false → first_at n (number_tests 1 1000000 (first_word v)) ≡ None → TourHolds (record s { seen = record s.seen { dimension = b } }) (before ++ a_header words.Dimension v n) × (first_at n (tour_header before words.Dimension v) ≡ None)
+  pub dimension_ok : s.seen.dimension ≡ false → first_at n (number_tests 1 ENTRY_LIMIT (first_word v)) ≡ None → TourHolds (record s { seen = record s.seen { dimension = b } }) (before ++ a_header words.Dimension v n) × (first_at n (tour_header before words.Dimension v) ≡ None)
   dimension_ok old fine =
       let s' : TourForm = record s { seen = record s.seen { dimension = b } } in
       let none : has words.Dimension before ≡ false = h.seen.dimension ∙ old in
@@ -71,7 +72,7 @@ module _ (s : TourForm) (b : Bool) (before : List Piece) (v : List ℕ) (n : ℕ
 pub comment_ok : (s : TourForm) (before : List Piece) (v : List ℕ) (n : ℕ) → TourHolds s before → TourHolds s (before ++ a_header words.Comment v n)
 comment_ok s before v n h = holds_header s s before words.Comment v n h refl (seen_comment before v n s.seen s.seen h.seen) refl refl
 
-pub dimension_err : (s : TourForm) (before : List Piece) (v : List ℕ) (n : ℕ) (k : TextKind) → TourHolds s before → s.seen.dimension ≡ false → first_at n (number_tests 1 1000000 (first_word v)) ≡ Some (Fault n k) → first_at n (tour_header before words.Dimension v) ≡ Some (Fault n k)
+pub dimension_err : (s : TourForm) (before : List Piece) (v : List ℕ) (n : ℕ) (k : TextKind) → TourHolds s before → s.seen.dimension ≡ false → first_at n (number_tests 1 ENTRY_LIMIT (first_word v)) ≡ Some (Fault n k) → first_at n (tour_header before words.Dimension v) ≡ Some (Fault n k)
 dimension_err s before v n k h old stop = let none : has words.Dimension before ≡ false = h.seen.dimension ∙ old in rw none stop
 
 -- ---- sections
@@ -185,16 +186,16 @@ module _ (s s' : TourForm) (before : List Piece) (word : Keyword) (n : ℕ) (tok
       pub out_stops : IsOut z (length s.cities.items) → StopsAt tour_format before word n toks (whole bytes line) kinds.OutOfLimit
       unfolding entry_stop
       out_stops out =
-          let over : (not (in_range 0 4294967295 (Some z)) || leb 1000000 (length toks)) ≡ true = subst (λ (k : ℕ). IsOut z k) count_is out in
+          let over : (not (in_range 0 4294967295 (Some z)) || leb ENTRY_LIMIT (length toks)) ≡ true = subst (λ (k : ℕ). IsOut z k) count_is out in
           token_stops kinds.OutOfLimit (ap is_minus_one is ∙ goes) no_eof (rw (not_long, no_word, is, over) refl)
 
-      pub token_more : length s.cities.items < 1000000 → IsNext z s.cities.items s'.cities.items → TourWants s' before word n (toks ++ whole bytes line ∷ []) × Goes tour_format before word n (toks ++ whole bytes line ∷ [])
+      pub token_more : length s.cities.items < ENTRY_LIMIT → IsNext z s.cities.items s'.cities.items → TourWants s' before word n (toks ++ whole bytes line ∷ []) × Goes tour_format before word n (toks ++ whole bytes line ∷ [])
       unfolding entry_stop
       token_more room next =
           let minus : is_ending (whole bytes line) ≡ false = ap is_minus_one is ∙ goes in
           let low : leb 0 next.city ≡ true = le-leb _ _ (omega arith) in
           let high : leb next.city 4294967295 ≡ true = le-leb _ _ next.small in
-          let few : leb 1000000 (length toks) ≡ false = lt-leb _ _ (omega (arith, room, count_is)) in
+          let few : leb ENTRY_LIMIT (length toks) ≡ false = lt-leb _ _ (omega (arith, room, count_is)) in
           let number : integer bytes ≡ Some (pos next.city) = is ∙ ap (λ (x : ℤ). Some x) next.is in
           let here : entry_stop (length toks) (whole bytes line) ≡ None = rw (not_long, no_word, number, low, high, few) refl in
           let are = are_more toks (whole bytes line) w.are minus no_eof in

@@ -1,6 +1,7 @@
 -- Solution texts (the CVRPLIB format).
 use Rattle.std.specs.Prelude.{ℕ, suc, ◌+◌, Bool, true, false, not, ◌&&◌, ◌||◌, ◌==◌, nat_lt, nat_le, List, [], ◌∷◌, ◌++◌, length, take, Option, Some, None, Result, Ok, Err, ℤ, pos, if◌then◌else◌, codes, is_none}
 use Rattle.std.specs.Char.{is_ascii_digit}
+use Rattle.tk_problem.specs.declared.limits.TheConstants.{ENTRY_LIMIT, ROUTE_LIMIT}
 use Rattle.tk_words.specs.declared.keyword.Keyword.TheVariants as words
 use Rattle.tk_words.specs.declared.fault.TextKind.{TextKind}
 use Rattle.tk_words.specs.declared.fault.TextKind.TheVariants as kinds
@@ -145,7 +146,7 @@ solution_of ls = (routes_of ls, cost_of ls)
 abbrev pub customer_stop : ℕ → Token → Option Stop
 customer_stop k t =
     checked 64 t ((is_none (integer t.bytes), kinds.BadNumber)
-    ∷ (not (in_range 0 4294967295 (integer t.bytes)) || nat_le 1000000 k, kinds.OutOfLimit) ∷ [])
+    ∷ (not (in_range 0 4294967295 (integer t.bytes)) || nat_le ENTRY_LIMIT k, kinds.OutOfLimit) ∷ [])
 
 abbrev pub customers_stop : ℕ → List Token → Option Stop
 customers_stop k [] = None
@@ -172,7 +173,7 @@ cost_stop n whole (t ∷ ts) =
 -- the tests of a Route line's word, and of Cost
 abbrev pub route_tests : List SolutionLine → List (Bool × TextKind)
 route_tests before =
-    (has_cost before, kinds.TrailingData) ∷ (nat_le 100000 (length (routes_of before)), kinds.OutOfLimit) ∷ []
+    (has_cost before, kinds.TrailingData) ∷ (nat_le ROUTE_LIMIT (length (routes_of before)), kinds.OutOfLimit) ∷ []
 
 abbrev pub cost_tests : List SolutionLine → List (Bool × TextKind)
 cost_tests before = (has_cost before, kinds.TrailingData) ∷ []

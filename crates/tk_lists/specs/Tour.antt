@@ -1,5 +1,6 @@
 -- Tour texts.
 use Rattle.std.specs.Prelude.{ℕ, suc, Bool, true, false, not, ◌||◌, nat_lt, nat_le, List, [], ◌∷◌, length, Option, Some, None, Result, if◌then◌else◌, codes, is_none}
+use Rattle.tk_problem.specs.declared.limits.TheConstants.{ENTRY_LIMIT}
 use Rattle.tk_words.specs.declared.keyword.Keyword.{Keyword}
 use Rattle.tk_words.specs.declared.keyword.Keyword.TheVariants as words
 use Rattle.tk_words.specs.declared.fault.TextKind.{TextKind}
@@ -20,7 +21,7 @@ tour_extent before _ toks = record { count = 0; closed = true; at_eof = false }
 unfoldable pub entry_stop : ℕ → Token → Option Stop
 entry_stop k t =
     checked 64 t ((is_keyword t.bytes, kinds.Truncated) ∷ (is_none (integer t.bytes), kinds.BadNumber)
-    ∷ (not (in_range 0 4294967295 (integer t.bytes)) || nat_le 1000000 k, kinds.OutOfLimit) ∷ [])
+    ∷ (not (in_range 0 4294967295 (integer t.bytes)) || nat_le ENTRY_LIMIT k, kinds.OutOfLimit) ∷ [])
 
 -- the first stop among the entries
 unfoldable pub entries_stop : ℕ → List Token → Option Stop
@@ -35,7 +36,7 @@ tour_header before words.Comment bs = []
 tour_header before words.Type bs =
     (has words.Type before, kinds.Repeated) ∷ (not (spells (first_word bs) (codes "TOUR")), kinds.Unsupported) ∷ []
 tour_header before words.Dimension bs =
-    (has words.Dimension before, kinds.Repeated) ∷ number_tests 1 1000000 (first_word bs)
+    (has words.Dimension before, kinds.Repeated) ∷ number_tests 1 ENTRY_LIMIT (first_word bs)
 tour_header before _ bs = (true, kinds.Unsupported) ∷ []
 
 -- what stops at a section: its word, its tokens, and what comes after its last token on that token's line

@@ -1,5 +1,6 @@
 -- What is held of a tour text's pieces.
 use Rattle.std.specs.Prelude.{◌≡◌, ◌≤◌, ℕ, not, ◌||◌, nat_le, true, false, List, [], ◌∷◌, ◌++◌, Some, None, ℤ, pos}
+use Rattle.tk_problem.specs.declared.limits.TheConstants.{ENTRY_LIMIT}
 use Rattle.tk_words.specs.declared.keyword.Keyword.{Keyword}
 use Rattle.tk_words.specs.declared.keyword.Keyword.TheVariants as words
 use Rattle.tk_lists.specs.declared.tour.TourWords.{TourWords}
@@ -38,4 +39,4 @@ pub record IsNext (number : ℤ) (old new : List ℕ) : Type 0 where
   pub pushed : new ≡ old ++ city ∷ []
 
 abbrev pub IsOut : ℤ → ℕ → Type 0
-IsOut number count = (not (in_range 0 4294967295 (Some number)) || nat_le 1000000 count) ≡ true
+IsOut number count = (not (in_range 0 4294967295 (Some number)) || nat_le ENTRY_LIMIT count) ≡ true

@@ -1,14 +1,16 @@
 //! Solution texts.
 ghost use Rattle.std.specs.Prelude.{◌≡◌, true, List, [], map, Ok, IfOk, IfErr};
+ghost use Rattle.tk_problem.specs.declared.limits.TheConstants.{TEXT_LIMIT};
 ghost use Rattle.tk_words.specs.Drive.{IsTold};
-ghost use Rattle.tk_words.specs.Texts.{IsAnswerWhereTold, IsIntact, text_limit};
+ghost use Rattle.tk_words.specs.Texts.{IsAnswerWhereTold, IsIntact};
 ghost use Rattle.tk_lists.specs.Solution.{Solution, solution_decided};
 ghost use Rattle.tk_lists.specs.SolutionReader.{Fed};
 
 use crate::solution_reader::{LinePlace, SolutionReader};
 use crate::texts::SolText;
 use std::alloc::Global;
-use tk_words::{Keyword, Source, Step, TEXT_LIMIT, TextFault, TextKind, TextReader, read_text};
+use tk_problem::TEXT_LIMIT;
+use tk_words::{Keyword, Source, Step, TextFault, TextKind, TextReader, read_text};
 
 impl SolutionReader {
     /// A fault on this line.
@@ -81,10 +83,10 @@ impl TextReader for SolutionReader {
 /// The first fault of the text, with its line; `Read` if the source fails before it is found, and `NoMemory` if memory
 /// runs out.
 pub fn read_solution<R: Source>(alloc: Global, source: &mut R) -> Result<SolText, TextFault>
-    ensures ok { IfOk result (λ solution. IsAnswerWhereTold solution_decided text_limit (R.left source.old)
+    ensures ok { IfOk result (λ solution. IsAnswerWhereTold solution_decided TEXT_LIMIT (R.left source.old)
         (R.left source.new) (Ok (map (λ r. r.items) solution.routes.items, solution.cost))) }
     ensures err { IfErr result (IsTold (R.broken source.new ≡ true)
-        (IsAnswerWhereTold solution_decided text_limit (R.left source.old) (R.left source.new))) }
+        (IsAnswerWhereTold solution_decided TEXT_LIMIT (R.left source.old) (R.left source.new))) }
     ensures intact { IsIntact (R.broken source.old) (R.broken source.new) result }
 {
     read_text(source, SolutionReader::new(alloc), TEXT_LIMIT)

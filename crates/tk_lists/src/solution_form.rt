@@ -10,13 +10,8 @@ ghost use Rattle.tk_lists.specs.SolutionReader.{Keeps, IsRoute, IsPriced};
 use crate::texts::SolText;
 use std::alloc::Global;
 use std::mem;
+use tk_problem::{ENTRY_LIMIT, ROUTE_LIMIT};
 use tk_words::{TextKind, integer, limited};
-
-/// The customers of a solution, of all its routes together.
-pub const CUSTOMER_LIMIT: usize = 1_000_000;
-
-/// The routes of a solution.
-pub const ROUTE_LIMIT: usize = 100_000;
 
 /// The routes and the cost of a text so far, and the route of its last line.
 #[derive(Drop)]
@@ -82,7 +77,7 @@ impl SolutionForm {
         let Some(customer) = limited(number, 0, u32::MAX) else {
             return Err(TextKind::OutOfLimit);
         };
-        if self.customers >= CUSTOMER_LIMIT {
+        if self.customers >= ENTRY_LIMIT {
             return Err(TextKind::OutOfLimit);
         }
         match self.route.push(customer) {

@@ -1,10 +1,11 @@
 //! Tour texts.
 ghost use Rattle.std.specs.Prelude.{◌≡◌, ◌<◌, ℕ, true, false, List, [], ◌∷◌, ◌++◌, length, Some, None, Ok, IfOk, IfErr};
+ghost use Rattle.tk_problem.specs.declared.limits.TheConstants.{ENTRY_LIMIT, TEXT_LIMIT};
 ghost use Rattle.tk_words.specs.declared.fault.TextKind.TheVariants as kinds;
 ghost use Rattle.tk_lines.specs.declared.form.Taken.TheVariants as takens;
 ghost use Rattle.tk_words.specs.declared.keyword.Keyword.TheVariants as words;
 ghost use Rattle.tk_words.specs.Drive.{IsTold};
-ghost use Rattle.tk_words.specs.Texts.{IsAnswerWhereTold, IsIntact, text_limit};
+ghost use Rattle.tk_words.specs.Texts.{IsAnswerWhereTold, IsIntact};
 ghost use Rattle.tk_lines.specs.Pieces.{Piece, Fault, first_at};
 ghost use Rattle.tk_lines.specs.Scan.{Scans};
 ghost use Rattle.tk_lines.specs.Forms.{IsToldWord, a_header};
@@ -14,12 +15,8 @@ ghost use Rattle.tk_lists.specs.TourForm.{TourHolds, TourWants, IsNext, IsOut};
 use crate::texts::TourText;
 use std::alloc::Global;
 use tk_lines::{Form, PieceReader, Scan, Taken};
-use tk_words::{
-    Entry, Keyword, Source, TEXT_LIMIT, TextFault, TextKind, entry_of, limited, read_text,
-};
-
-/// The entries of a tour's list.
-pub const TOUR_LIMIT: usize = 1_000_000;
+use tk_problem::{ENTRY_LIMIT, TEXT_LIMIT};
+use tk_words::{Entry, Keyword, Source, TextFault, TextKind, entry_of, limited, read_text};
 
 /// Which words a tour text has had.
 #[derive(Clone, Copy, Drop)]
@@ -100,14 +97,14 @@ impl TourForm {
             → IfErr result (IsToldWord (λ k. first_at n (tour_header before words.Dimension v) ≡ Some (Fault n k))) }
     {
         once(&mut self.seen.dimension)?;
-        value.number(1, 1_000_000)?;
+        value.number(1, ENTRY_LIMIT as u32)?;
         Ok(())
     }
 
     /// Takes a number of the list.
     fn number(&mut self, number: i64) -> Result<Taken, TextKind>
         ensures seen { self.new.seen ≡ self.old.seen }
-        ensures ok { IfOk result (λ t. (t ≡ takens.More) × (length self.old.cities.items < 1000000)
+        ensures ok { IfOk result (λ t. (t ≡ takens.More) × (length self.old.cities.items < ENTRY_LIMIT)
             × IsNext number self.old.cities.items self.new.cities.items) }
         ensures err { IfErr result (IsToldWord (λ k. (k ≡ kinds.OutOfLimit)
             × IsOut number (length self.old.cities.items))) }
@@ -115,7 +112,7 @@ impl TourForm {
         let Some(city) = limited(number, 0, u32::MAX) else {
             return Err(TextKind::OutOfLimit);
         };
-        if self.cities.len() >= TOUR_LIMIT {
+        if self.cities.len() >= ENTRY_LIMIT {
             return Err(TextKind::OutOfLimit);
         }
         match self.cities.push(city) {
@@ -201,10 +198,10 @@ impl Form for TourForm {
 /// The first fault of the text, with its line; `Read` if the source fails before it is found, and `NoMemory` if memory
 /// runs out.
 pub fn read_tour<R: Source>(alloc: Global, source: &mut R) -> Result<TourText, TextFault>
-    ensures ok { IfOk result (λ tour. IsAnswerWhereTold tour_decided text_limit (R.left source.old) (R.left source.new)
+    ensures ok { IfOk result (λ tour. IsAnswerWhereTold tour_decided TEXT_LIMIT (R.left source.old) (R.left source.new)
         (Ok tour.cities.items)) }
     ensures err { IfErr result (IsTold (R.broken source.new ≡ true)
-        (IsAnswerWhereTold tour_decided text_limit (R.left source.old) (R.left source.new))) }
+        (IsAnswerWhereTold tour_decided TEXT_LIMIT (R.left source.old) (R.left source.new))) }
     ensures intact { IsIntact (R.broken source.old) (R.broken source.new) result }
 {
     read_text(source, PieceReader::new(TourForm::new(alloc)), TEXT_LIMIT)

@@ -4,6 +4,7 @@
 --     IsNear dist n k c cities      the first k of the cities other than c
 --     AreNearest dist v      each list of v is that of its city
 use Rattle.std.specs.Prelude.{◌≡◌, ◌≢◌, ℕ, ◌-◌, ◌*◌, ◌<◌, ◌≤◌, ◌⊎◌, List, length, slice_index, take, drop, All}
+use Rattle.tk_problem.specs.declared.limits.TheConstants.{CANDIDATE_LIMIT, CITY_LIMIT}
 use Rattle.tk_distance.specs.Cities.{IsCity}
 
 -- seen from c, a comes before b in the order of (distance, number)
@@ -44,8 +45,8 @@ IsOther n c b = IsCity n b × (b ≢ c)
 
 -- `width` other cities for each city, within the limits of instances and candidates
 pub record HasOthers (v : NearLists) : Type 0 where
-  pub few : v.size ≤ 100000
-  pub narrow : v.width ≤ 100
+  pub few : v.size ≤ CITY_LIMIT
+  pub narrow : v.width ≤ CANDIDATE_LIMIT
   pub count : length v.entries ≡ v.size * v.width
   pub each : (c : ℕ) → IsCity v.size c → All (IsOther v.size c) (near_of v c)
 

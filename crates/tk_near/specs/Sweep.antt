@@ -1,6 +1,7 @@
 -- The cities in x order, and a sweep from one of them to both sides.
 use Rattle.std.specs.Prelude.{◌≡◌, ◌≢◌, ℕ, ◌-ℤ◌, ◌≤ℤ◌, ◌-◌, ◌*◌, ◌<◌, ◌≤◌, List, length, slice_index_or}
 use Rattle.std.specs.Int.RustNames.{unsigned_abs}
+use Rattle.tk_distance.specs.Distance.{reach}
 use Rattle.tk_problem.specs.declared.point.Point.{Point}
 use Rattle.tk_near.specs.declared.candidates.Candidate.{Candidate}
 use Rattle.tk_near.specs.declared.plane.placed.Placed.{Placed}
@@ -21,8 +22,8 @@ pub record IsXOrder (n : ℕ) (place_of : ℕ → Point) (row : List Placed) : T
 
 -- the laws of the floor that a sweep in x order needs
 pub record IsFloor (dist : ℕ → ℕ → ℕ) (place_of : ℕ → Point) (floor : ℕ → ℕ) : Type 0 where
-  pub wide : (a b : ℕ) → unsigned_abs ((place_of a).x -ℤ (place_of b).x) ≤ 2000000000000000000
-  pub rises : (s t : ℕ) → s ≤ t → t ≤ 2000000000000000000 → floor s ≤ floor t
+  pub wide : (a b : ℕ) → unsigned_abs ((place_of a).x -ℤ (place_of b).x) ≤ reach
+  pub rises : (s t : ℕ) → s ≤ t → t ≤ reach → floor s ≤ floor t
   pub bounds : (a b : ℕ) → floor (unsigned_abs ((place_of a).x -ℤ (place_of b).x)) ≤ dist a b
 
 -- the first k of the cities at the places from low on and below high, but for that at p
@@ -38,4 +39,4 @@ IsBelow bound kept = rank (slice_index_or kept (length kept - 1) open_place) < b
 
 -- so does each candidate whose difference in x or in y is at least `far`
 abbrev pub AreFar : (ℕ → ℕ) → ℕ → List Candidate → Type 0
-AreFar floor far kept = (gap : ℕ) → far ≤ gap → gap ≤ 2000000000000000000 → IsBelow (floor gap) kept
+AreFar floor far kept = (gap : ℕ) → far ≤ gap → gap ≤ reach → IsBelow (floor gap) kept

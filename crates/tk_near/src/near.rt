@@ -1,5 +1,6 @@
 //! Near lists: for each city the first others by (distance, number).
 ghost use Rattle.std.specs.Prelude.{◌≡◌, ℕ, ◌*◌, ◌≤◌, ◌<◌, IfOk, All, length, ⊤};
+ghost use Rattle.tk_problem.specs.declared.limits.TheConstants.{CANDIDATE_LIMIT, CITY_LIMIT};
 ghost use Rattle.tk_distance.specs.Cities.{IsCity};
 ghost use Rattle.tk_near.specs.Near.{IsNear, IsOther, AreNearest, near_of};
 ghost use Rattle.tk_near.specs.Keeping.{AreFilled, cities_of};
@@ -30,7 +31,7 @@ impl Model for Near {
 impl Near {
     /// The lists once those of all cities are filled.
     pub fn from_filled<M: Metric>(m: &M, k: u32, entries: Vec<u32>) -> Near
-        requires limit { k ≤ 100 }
+        requires limit { k ≤ CANDIDATE_LIMIT }
         requires filled { AreFilled (M.distance m.now) (M.size_of m.now) k (λ _. ⊤) entries.items }
         ensures size { result.size ≡ M.size_of m.now }
         ensures width { result.width ≡ k }
@@ -46,7 +47,7 @@ impl Near {
     /// How many cities there are.
     pub fn size(&self) -> u32
         ensures value { result ≡ self.now.size }
-        ensures limit { result ≤ 100000 }
+        ensures limit { result ≤ CITY_LIMIT }
     {
         self.size
     }
@@ -55,7 +56,7 @@ impl Near {
     pub fn width(&self) -> u32
         ensures value { result ≡ self.now.width }
         ensures stored { length self.now.entries ≡ self.now.size * self.now.width }
-        ensures limit { result ≤ 100 }
+        ensures limit { result ≤ CANDIDATE_LIMIT }
     {
         self.width
     }
@@ -95,7 +96,7 @@ fn scan_city<M: Metric>(m: &M, c: u32, kept: &mut [Candidate])
 /// `AllocError` if there is no memory for n lists of k cities.
 pub fn near_scan<M: Metric>(alloc: Global, m: &M, k: u32) -> Result<Near, AllocError>
     requires low { 1 ≤ k }
-    requires limit { k ≤ 100 }
+    requires limit { k ≤ CANDIDATE_LIMIT }
     requires high { k < M.size_of m.now }
     ensures size { IfOk result (λ v. v.size ≡ M.size_of m.now) }
     ensures width { IfOk result (λ v. v.width ≡ k) }

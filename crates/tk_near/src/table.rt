@@ -1,5 +1,6 @@
 //! The near lists of a table: by a k-d tree in the plane, else by a scan.
 ghost use Rattle.std.specs.Prelude.{◌≡◌, ◌≤◌, ◌<◌, IfOk};
+ghost use Rattle.tk_problem.specs.declared.limits.TheConstants.{CANDIDATE_LIMIT};
 ghost use Rattle.tk_distance.specs.Tables.{table_size, table_distance};
 ghost use Rattle.tk_near.specs.Near.{AreNearest};
 
@@ -14,7 +15,7 @@ use tk_distance::Table;
 /// `AllocError` where there is no memory for them.
 pub fn near_lists(alloc: Global, table: &Table<'_>, k: u32) -> Result<Near, AllocError>
     requires low { 1 ≤ k }
-    requires limit { k ≤ 100 }
+    requires limit { k ≤ CANDIDATE_LIMIT }
     requires high { k < table_size table.now }
     ensures size { IfOk result (λ v. v.size ≡ table_size table.now) }
     ensures width { IfOk result (λ v. v.width ≡ k) }

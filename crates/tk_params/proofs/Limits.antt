@@ -5,6 +5,7 @@ use Rattle.std.proofs.lemmas.List.Elements.{All-cons, All-head, All-nil, All-tai
 use Rattle.std.specs.List.{All, list_any}
 use Rattle.std.specs.Option.{IfSome, unwrap_or}
 use Rattle.std.specs.Str.{is_utf8}
+use Rattle.tk_problem.specs.declared.limits.TheConstants.{CANDIDATE_LIMIT}
 use Rattle.tk_lines.proofs.Pieces.PieceLookups.{either_false}
 use Rattle.tk_words.specs.Entry.{in_range, natural_or_zero}
 use Rattle.tk_words.specs.Lex.{integer}
@@ -147,7 +148,7 @@ module _ (ss : Settings) (sound : AreSettings ss) (apart : AreApart ss) where
         runs = or_default 1 10000 10 _ (number_at keys.Runs) (omega arith) (omega arith);
         max_trials = number_at keys.MaxTrials;
         seed = or_default 0 4294967295 1 _ (number_at keys.Seed) (omega arith) (omega arith);
-        max_candidates = or_default 1 100 5 _ (number_at keys.MaxCandidates) (omega arith) (omega arith);
+        max_candidates = or_default 1 CANDIDATE_LIMIT 5 _ (number_at keys.MaxCandidates) (omega arith) (omega arith);
         or_segment = or_default 1 3 3 _ (number_at keys.OrSegment) (omega arith) (omega arith);
         few_ignored = ignored_few ss apart;
       }

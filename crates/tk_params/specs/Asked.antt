@@ -2,6 +2,7 @@
 use Rattle.std.specs.Prelude.{◌≢◌, ◌≤◌, ℕ, Bool, true, false, List, [], ◌∷◌, length, Option, Some, None, All, IfSome, option_map, unwrap_or, if◌then◌else◌}
 use Rattle.std.specs.List.{IsDistinct}
 use Rattle.std.specs.Map.{keys_of}
+use Rattle.tk_problem.specs.declared.limits.TheConstants.{CANDIDATE_LIMIT}
 use Rattle.tk_params.specs.declared.key.Key.{Key}
 use Rattle.tk_params.specs.declared.key.Key.TheVariants as keys
 use Rattle.tk_params.specs.declared.value.Construction.{Construction}
@@ -105,6 +106,6 @@ pub record AreWithinLimits (p : ParamsAre) : Type 0 where
   pub runs : IsWithin 1 10000 p.runs
   pub max_trials : IfSome p.max_trials (IsWithin 1 1000000)
   pub seed : IsWithin 0 4294967295 p.seed
-  pub max_candidates : IsWithin 1 100 p.max_candidates
+  pub max_candidates : IsWithin 1 CANDIDATE_LIMIT p.max_candidates
   pub or_segment : IsWithin 1 3 p.or_segment
   pub few_ignored : length p.ignored ≤ length all_keys

@@ -3,6 +3,7 @@ use Rattle.std.specs.Prelude.{ℕ, Bool, true, false, not, ◌&&◌, ◌||◌, �
 use Rattle.std.specs.List.{list_any}
 use Rattle.std.specs.Map.{lookup}
 use Rattle.std.specs.Str.{is_utf8}
+use Rattle.tk_problem.specs.declared.limits.TheConstants.{CANDIDATE_LIMIT}
 use Rattle.tk_words.specs.Lex.{is_blank, is_letter, is_word_byte, is_empty, front, behind, trim, integer}
 use Rattle.tk_words.specs.Words.{spells}
 use Rattle.tk_words.specs.Entry.{in_range, natural_or_zero}
@@ -47,7 +48,7 @@ abbrev pub greatest : Key → ℕ
 greatest keys.Runs = 10000
 greatest keys.MaxTrials = 1000000
 greatest keys.Seed = 4294967295
-greatest keys.MaxCandidates = 100
+greatest keys.MaxCandidates = CANDIDATE_LIMIT
 greatest keys.OrSegment = 3
 greatest _ = 0
 

@@ -1,5 +1,6 @@
 //! What a parameter file asks for.
 ghost use Rattle.std.specs.Prelude.{◌≡◌, ◌≤◌, IfSome, length, option_map};
+ghost use Rattle.tk_problem.specs.declared.limits.TheConstants.{CANDIDATE_LIMIT};
 ghost use Rattle.tk_params.specs.Keys.{all_keys};
 ghost use Rattle.tk_params.specs.Asked.{IsFileName, IsWithin, asked};
 
@@ -121,7 +122,7 @@ impl Params {
     /// How many near cities of each city are tried, 1 to 100; 5 by default.
     pub fn max_candidates(&self) -> u32
         ensures value { result ≡ self.now.max_candidates }
-        ensures limits { IsWithin 1 100 result }
+        ensures limits { IsWithin 1 CANDIDATE_LIMIT result }
     {
         self.max_candidates
     }

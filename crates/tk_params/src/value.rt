@@ -10,6 +10,7 @@ ghost use Rattle.tk_params.specs.Values;
 use crate::fault::ParamKind;
 use crate::key::Key;
 use std::alloc::Global;
+use tk_problem::CANDIDATE_LIMIT;
 use tk_words::{integer, spelled};
 
 /// How the tour is made that a run begins with.
@@ -113,7 +114,7 @@ fn plain_of(key: Key, value: &[u8]) -> Option<Setting>
         Key::Runs => numeric(value, 1, 10_000),
         Key::MaxTrials => numeric(value, 1, 1_000_000),
         Key::Seed => numeric(value, 0, u32::MAX),
-        Key::MaxCandidates => numeric(value, 1, 100),
+        Key::MaxCandidates => numeric(value, 1, CANDIDATE_LIMIT),
         Key::OrSegment => numeric(value, 1, 3),
         Key::Construction => Some(Setting::Construction(construction_of(value)?)),
         Key::FinalSweep => Some(Setting::Switch(switch_of(value)?)),

@@ -4,6 +4,7 @@ use Rattle.std.specs.Prelude.{flat_map, map, codes, decimal, if◌then◌else◌
 use Rattle.std.specs.List.{range_with_len, concat}
 use Rattle.std.proofs.lemmas.List.FromFn.{length-range_with_len}
 use Rattle.std.proofs.lemmas.List.{length-map}
+use Rattle.tk_problem.specs.declared.limits.TheConstants.{CITY_LIMIT}
 use Rattle.tk_writers.proofs.Pieces.NumberLengths.{length_decimal, length_flat_map}
 use Rattle.tk_writers.specs.Written.{line}
 use Rattle.tk_routes.specs.Cvrps.{instance_of}
@@ -149,7 +150,7 @@ paths_few n (lines.Routes cvrp routes) are =
     let count : length (map (route_nodes i) (filled_of all)) ≡ length (filled_of all) = simp length-map in
     (omega (arith, are.0), omega (arith, are.0, nodes_length i (filled_of all), ap length (concat-filled all)))
 
-pub length_picture : (f : Frame) (places : List Point) (name : List ℕ) (caption : Caption) (paths : List (List ℕ)) (depot : Option ℕ) → length name ≤ 1024 → length places ≤ 100000
+pub length_picture : (f : Frame) (places : List Point) (name : List ℕ) (caption : Caption) (paths : List (List ℕ)) (depot : Option ℕ) → length name ≤ 1024 → length places ≤ CITY_LIMIT
     → length paths ≤ 100001 → length (concat paths) ≤ 200000 → length (picture_text f places name caption paths depot) ≤ 2 ^ 63
 length_picture f places name caption paths depot named few lines corners =
     let at = spot f places in

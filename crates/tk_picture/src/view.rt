@@ -1,5 +1,6 @@
 //! Where cities stand in a picture.
 ghost use Rattle.std.specs.Prelude.{◌≤◌, length};
+ghost use Rattle.tk_problem.specs.declared.limits.TheConstants.{CITY_LIMIT};
 ghost use Rattle.tk_problem.specs.PlacesOf.{places_of};
 
 use crate::frame::Frame;
@@ -12,7 +13,7 @@ use tk_writers::{Pen, Sink};
 pub struct View<'a> {
     pub places: Places<'a>,
     pub frame: Frame,
-    ghost few: { length (places_of places) ≤ 100000 },
+    ghost few: { length (places_of places) ≤ CITY_LIMIT },
 }
 
 impl<'a> View<'a> {
@@ -22,7 +23,7 @@ impl<'a> View<'a> {
     /// A view of these places.
     pub fn over(places: Places<'a>) -> View<'a>
         requires some { 1 ≤ length (places_of places) }
-        requires few { length (places_of places) ≤ 100000 }
+        requires few { length (places_of places) ≤ CITY_LIMIT }
         ensures places { result.places ≡ places.entry }
         ensures frame { IsFrame (places_of places.entry) result.frame }
     {
@@ -46,7 +47,7 @@ impl View<'_> {
     /// How many cities there are.
     pub(crate) fn size(&self) -> u32
         ensures value { result ≡ city_count self.now }
-        ensures few { result ≤ 100000 }
+        ensures few { result ≤ CITY_LIMIT }
     {
         self.places.len() as u32
     }

@@ -4,6 +4,7 @@ use Rattle.std.specs.List.{zip, slice_get}
 use Rattle.std.proofs.lemmas.Option.{slice_get_within, slice_get-get_or}
 use Rattle.std.proofs.lemmas.List.{drop_more, drop-drop, length_push, get_or_read, length-replicate}
 use Rattle.std.proofs.lemmas.List.Elements.{All-get_or, All-weaker, All-replicate}
+use Rattle.tk_problem.specs.declared.limits.TheConstants.{DISTANCE_LIMIT}
 use Rattle.tk_problem.specs.declared.place.Place.{Place}
 use Rattle.tk_problem.specs.declared.weights.Format.{Format}
 use Rattle.tk_problem.specs.WeightOrder.{order, weight_of, lower_of, entries, lower_index}
@@ -96,5 +97,5 @@ indices_within f n places weights all zeros =
     subst (All (λ p. p.row ≢ p.column → lower_index p < length weights)) (sym all)
     (All-weaker (λ p. (p.row < n) × (p.column < n)) (λ p. p.row ≢ p.column → lower_index p < length weights) (λ p within apart. omega (arith, size, lower_index-lt n p within.0 within.1 apart)) (order f n) (order-within f n))
 
-pub zeros_small : (n : ℕ) (weights : List ℕ) → weights ≡ replicate n 0 → All (λ w. w ≤ 4000000000) weights
-zeros_small n weights zeros = subst (All (λ w. w ≤ 4000000000)) (sym zeros) (All-replicate (λ w. w ≤ 4000000000) n 0 (omega arith))
+pub zeros_small : (n : ℕ) (weights : List ℕ) → weights ≡ replicate n 0 → All (λ w. w ≤ DISTANCE_LIMIT) weights
+zeros_small n weights zeros = subst (All (λ w. w ≤ DISTANCE_LIMIT)) (sym zeros) (All-replicate (λ w. w ≤ DISTANCE_LIMIT) n 0 (omega arith))

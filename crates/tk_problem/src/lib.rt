@@ -1,6 +1,7 @@
 //! What a problem is: places in the plane, explicit weights and their order, routing.
 #![tactic(auto)]
 
+mod limits;
 mod lower_weights;
 mod place;
 mod point;
@@ -10,6 +11,10 @@ mod routing;
 mod weight_order;
 mod weights;
 
+pub use limits::{
+    CANDIDATE_LIMIT, CAPACITY_LIMIT, CITY_LIMIT, COORDINATE_LIMIT, DISTANCE_LIMIT, ENTRY_LIMIT,
+    ROUTE_LIMIT, TABLE_LIMIT, TEXT_LIMIT,
+};
 pub use lower_weights::LowerWeights;
 pub use place::Place;
 pub use point::{Point, SCALE, WholePoint};

@@ -1,5 +1,6 @@
 //! Explicit weights as they are read.
 ghost use Rattle.std.specs.Prelude.{◌≡◌, ◌≢◌, ◌≤◌, ◌<◌, ◌-◌, ◌*◌, ◌/◌, ◌^◌, ◌++◌, ◌==◌, ℕ, List, [], ◌∷◌, All, IfOk, IfSome, Some, length, slice_get};
+ghost use Rattle.tk_problem.specs.declared.limits.TheConstants.{DISTANCE_LIMIT};
 ghost use Rattle.tk_problem.specs.declared.weights.Format.{Format};
 ghost use Rattle.tk_problem.specs.WeightOrder as Order;
 ghost use Rattle.tk_problem.specs.WeightsSoFar.{Filling, IsSoFar};
@@ -24,7 +25,7 @@ impl Model for LowerWeights {
     ghost view = { λ s. record { places = s.places; weights = s.weights.items } };
 
     ghost invariant = { λ s. All (λ p. p.row ≢ p.column → Order.lower_index p < length s.weights.items) s.places
-        × All (λ w. w ≤ 4000000000) s.weights.items };
+        × All (λ w. w ≤ DISTANCE_LIMIT) s.weights.items };
 }
 
 impl LowerWeights {
@@ -72,7 +73,7 @@ impl LowerWeights {
     pub fn push(&mut self, weight: u32)
         requires more { 0 < length self.old.places }
         requires pair { IfSome (slice_get self.old.places 0) (λ p. p.row ≢ p.column) }
-        requires limit { weight ≤ 4000000000 }
+        requires limit { weight ≤ DISTANCE_LIMIT }
         ensures { (f : Format) (n : ℕ) (ws : List ℕ) → IsSoFar self.old f n ws
             → IsSoFar self.new f n (ws ++ weight ∷ []) }
     {
@@ -95,7 +96,7 @@ impl LowerWeights {
     /// The weights of all pairs, row by row below the diagonal.
     pub fn into_weights(self) -> Vec<u32>
         ensures value { result.items ≡ self.weights }
-        ensures limit { All (λ w. w ≤ 4000000000) result.items }
+        ensures limit { All (λ w. w ≤ DISTANCE_LIMIT) result.items }
         ensures count { (f : Format) (n : ℕ) (ws : List ℕ) → IsSoFar self f n ws
             → length result.items ≡ n * (n - 1) / 2 }
     {

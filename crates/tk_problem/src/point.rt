@@ -1,6 +1,7 @@
 //! Places in the plane.
 ghost use Rattle.std.specs.Prelude.{◌≡◌, ◌≢◌, ◌≤◌, IfSome, IfNone};
 ghost use Rattle.std.specs.Int.RustNames.{unsigned_abs};
+ghost use Rattle.tk_problem.specs.declared.limits.TheConstants.{COORDINATE_LIMIT};
 
 /// How many units of a coordinate make one.
 pub const SCALE: i64 = 1_000_000_000;
@@ -17,8 +18,8 @@ pub struct Point {
 pub struct WholePoint {
     pub x: i32,
     pub y: i32,
-    ghost x_near: { unsigned_abs x ≤ 1000000000 },
-    ghost y_near: { unsigned_abs y ≤ 1000000000 },
+    ghost x_near: { unsigned_abs x ≤ COORDINATE_LIMIT },
+    ghost y_near: { unsigned_abs y ≤ COORDINATE_LIMIT },
 }
 
 impl WholePoint {

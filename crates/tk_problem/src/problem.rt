@@ -1,5 +1,6 @@
 //! What a problem is.
 ghost use Rattle.std.specs.Prelude.{◌≤◌, length};
+ghost use Rattle.tk_problem.specs.declared.limits.TheConstants.{CITY_LIMIT};
 ghost use Rattle.tk_problem.specs.Shape.{WeightsFit, RoutingFits};
 
 use crate::routing::Routing;
@@ -14,7 +15,7 @@ pub struct Problem {
     pub routing: Option<Routing>,
     ghost short: { length name.items ≤ 1024 },
     ghost low: { 2 ≤ n },
-    ghost high: { n ≤ 100000 },
+    ghost high: { n ≤ CITY_LIMIT },
     ghost weights_fit: { ∥ WeightsFit n weights ∥₁ },
     ghost routing_fits: { ∥ RoutingFits n routing ∥₁ },
 }

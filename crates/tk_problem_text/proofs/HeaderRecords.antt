@@ -2,6 +2,7 @@
 use Rattle.std.proofs.lemmas.Bool.{eqb-true}
 use Rattle.std.proofs.Common.{◌≡◌, ◌≤◌, ℕ, Bool, true, false, eqb, length, arith, List, [], ◌∷◌, ◌++◌, Option, refl, sym, ap, ◌∙◌}
 use Rattle.std.specs.Prelude.{unwrap_or}
+use Rattle.tk_problem.specs.declared.limits.TheConstants.{CAPACITY_LIMIT, CITY_LIMIT}
 use Rattle.tk_words.specs.declared.keyword.Keyword.{Keyword}
 use Rattle.tk_words.specs.declared.keyword.Keyword.TheVariants as words
 use Rattle.tk_problem_text.specs.declared.headers.Headers.{Headers}
@@ -25,35 +26,35 @@ module _ (h : Headers) (ps : List Piece) (v : List ℕ) (n : ℕ) (k : HasHeader
     name = k.name ∙ ap (λ (o : Option (List ℕ)). name_of (unwrap_or o [])) (sym (value_of-other words.Name words.Type ps v n refl));
     short = k.short;
     problem_type = new;
-    dimension = keeps_other words.Dimension words.Type (number_of 2 100000) h.dimension ps v n refl k.dimension;
-    capacity = keeps_other words.Capacity words.Type (number_of 1 2000000000) h.capacity ps v n refl k.capacity;
+    dimension = keeps_other words.Dimension words.Type (number_of 2 CITY_LIMIT) h.dimension ps v n refl k.dimension;
+    capacity = keeps_other words.Capacity words.Type (number_of 1 CAPACITY_LIMIT) h.capacity ps v n refl k.capacity;
     weight_type = keeps_other words.EdgeWeightType words.Type weight_type_of h.weight_type ps v n refl k.weight_type;
     weight_format = keeps_other words.EdgeWeightFormat words.Type weight_format_of h.weight_format ps v n refl k.weight_format;
     coordinate_type = k.coordinate_type ∙ sym (has_other words.NodeCoordType words.Type ps v n refl);
     display_type = k.display_type ∙ sym (has_other words.DisplayDataType words.Type ps v n refl);
   }
 
-  pub with_dimension : (x : Option ℕ) → Keeps words.Dimension (number_of 2 100000) x (ps ++ a_header words.Dimension v n) → HasHeaders (record h { dimension = x }) (ps ++ a_header words.Dimension v n)
+  pub with_dimension : (x : Option ℕ) → Keeps words.Dimension (number_of 2 CITY_LIMIT) x (ps ++ a_header words.Dimension v n) → HasHeaders (record h { dimension = x }) (ps ++ a_header words.Dimension v n)
   with_dimension x new = record {
     named = k.named ∙ sym (has_other words.Name words.Dimension ps v n refl);
     name = k.name ∙ ap (λ (o : Option (List ℕ)). name_of (unwrap_or o [])) (sym (value_of-other words.Name words.Dimension ps v n refl));
     short = k.short;
     problem_type = keeps_other words.Type words.Dimension problem_type_of h.problem_type ps v n refl k.problem_type;
     dimension = new;
-    capacity = keeps_other words.Capacity words.Dimension (number_of 1 2000000000) h.capacity ps v n refl k.capacity;
+    capacity = keeps_other words.Capacity words.Dimension (number_of 1 CAPACITY_LIMIT) h.capacity ps v n refl k.capacity;
     weight_type = keeps_other words.EdgeWeightType words.Dimension weight_type_of h.weight_type ps v n refl k.weight_type;
     weight_format = keeps_other words.EdgeWeightFormat words.Dimension weight_format_of h.weight_format ps v n refl k.weight_format;
     coordinate_type = k.coordinate_type ∙ sym (has_other words.NodeCoordType words.Dimension ps v n refl);
     display_type = k.display_type ∙ sym (has_other words.DisplayDataType words.Dimension ps v n refl);
   }
 
-  pub with_capacity : (x : Option ℕ) → Keeps words.Capacity (number_of 1 2000000000) x (ps ++ a_header words.Capacity v n) → HasHeaders (record h { capacity = x }) (ps ++ a_header words.Capacity v n)
+  pub with_capacity : (x : Option ℕ) → Keeps words.Capacity (number_of 1 CAPACITY_LIMIT) x (ps ++ a_header words.Capacity v n) → HasHeaders (record h { capacity = x }) (ps ++ a_header words.Capacity v n)
   with_capacity x new = record {
     named = k.named ∙ sym (has_other words.Name words.Capacity ps v n refl);
     name = k.name ∙ ap (λ (o : Option (List ℕ)). name_of (unwrap_or o [])) (sym (value_of-other words.Name words.Capacity ps v n refl));
     short = k.short;
     problem_type = keeps_other words.Type words.Capacity problem_type_of h.problem_type ps v n refl k.problem_type;
-    dimension = keeps_other words.Dimension words.Capacity (number_of 2 100000) h.dimension ps v n refl k.dimension;
+    dimension = keeps_other words.Dimension words.Capacity (number_of 2 CITY_LIMIT) h.dimension ps v n refl k.dimension;
     capacity = new;
     weight_type = keeps_other words.EdgeWeightType words.Capacity weight_type_of h.weight_type ps v n refl k.weight_type;
     weight_format = keeps_other words.EdgeWeightFormat words.Capacity weight_format_of h.weight_format ps v n refl k.weight_format;
@@ -67,8 +68,8 @@ module _ (h : Headers) (ps : List Piece) (v : List ℕ) (n : ℕ) (k : HasHeader
     name = k.name ∙ ap (λ (o : Option (List ℕ)). name_of (unwrap_or o [])) (sym (value_of-other words.Name words.EdgeWeightType ps v n refl));
     short = k.short;
     problem_type = keeps_other words.Type words.EdgeWeightType problem_type_of h.problem_type ps v n refl k.problem_type;
-    dimension = keeps_other words.Dimension words.EdgeWeightType (number_of 2 100000) h.dimension ps v n refl k.dimension;
-    capacity = keeps_other words.Capacity words.EdgeWeightType (number_of 1 2000000000) h.capacity ps v n refl k.capacity;
+    dimension = keeps_other words.Dimension words.EdgeWeightType (number_of 2 CITY_LIMIT) h.dimension ps v n refl k.dimension;
+    capacity = keeps_other words.Capacity words.EdgeWeightType (number_of 1 CAPACITY_LIMIT) h.capacity ps v n refl k.capacity;
     weight_type = new;
     weight_format = keeps_other words.EdgeWeightFormat words.EdgeWeightType weight_format_of h.weight_format ps v n refl k.weight_format;
     coordinate_type = k.coordinate_type ∙ sym (has_other words.NodeCoordType words.EdgeWeightType ps v n refl);
@@ -81,8 +82,8 @@ module _ (h : Headers) (ps : List Piece) (v : List ℕ) (n : ℕ) (k : HasHeader
     name = k.name ∙ ap (λ (o : Option (List ℕ)). name_of (unwrap_or o [])) (sym (value_of-other words.Name words.EdgeWeightFormat ps v n refl));
     short = k.short;
     problem_type = keeps_other words.Type words.EdgeWeightFormat problem_type_of h.problem_type ps v n refl k.problem_type;
-    dimension = keeps_other words.Dimension words.EdgeWeightFormat (number_of 2 100000) h.dimension ps v n refl k.dimension;
-    capacity = keeps_other words.Capacity words.EdgeWeightFormat (number_of 1 2000000000) h.capacity ps v n refl k.capacity;
+    dimension = keeps_other words.Dimension words.EdgeWeightFormat (number_of 2 CITY_LIMIT) h.dimension ps v n refl k.dimension;
+    capacity = keeps_other words.Capacity words.EdgeWeightFormat (number_of 1 CAPACITY_LIMIT) h.capacity ps v n refl k.capacity;
     weight_type = keeps_other words.EdgeWeightType words.EdgeWeightFormat weight_type_of h.weight_type ps v n refl k.weight_type;
     weight_format = new;
     coordinate_type = k.coordinate_type ∙ sym (has_other words.NodeCoordType words.EdgeWeightFormat ps v n refl);
@@ -95,8 +96,8 @@ module _ (h : Headers) (ps : List Piece) (v : List ℕ) (n : ℕ) (k : HasHeader
     name = k.name ∙ ap (λ (o : Option (List ℕ)). name_of (unwrap_or o [])) (sym (value_of-other words.Name words.NodeCoordType ps v n refl));
     short = k.short;
     problem_type = keeps_other words.Type words.NodeCoordType problem_type_of h.problem_type ps v n refl k.problem_type;
-    dimension = keeps_other words.Dimension words.NodeCoordType (number_of 2 100000) h.dimension ps v n refl k.dimension;
-    capacity = keeps_other words.Capacity words.NodeCoordType (number_of 1 2000000000) h.capacity ps v n refl k.capacity;
+    dimension = keeps_other words.Dimension words.NodeCoordType (number_of 2 CITY_LIMIT) h.dimension ps v n refl k.dimension;
+    capacity = keeps_other words.Capacity words.NodeCoordType (number_of 1 CAPACITY_LIMIT) h.capacity ps v n refl k.capacity;
     weight_type = keeps_other words.EdgeWeightType words.NodeCoordType weight_type_of h.weight_type ps v n refl k.weight_type;
     weight_format = keeps_other words.EdgeWeightFormat words.NodeCoordType weight_format_of h.weight_format ps v n refl k.weight_format;
     coordinate_type = new;
@@ -109,8 +110,8 @@ module _ (h : Headers) (ps : List Piece) (v : List ℕ) (n : ℕ) (k : HasHeader
     name = k.name ∙ ap (λ (o : Option (List ℕ)). name_of (unwrap_or o [])) (sym (value_of-other words.Name words.DisplayDataType ps v n refl));
     short = k.short;
     problem_type = keeps_other words.Type words.DisplayDataType problem_type_of h.problem_type ps v n refl k.problem_type;
-    dimension = keeps_other words.Dimension words.DisplayDataType (number_of 2 100000) h.dimension ps v n refl k.dimension;
-    capacity = keeps_other words.Capacity words.DisplayDataType (number_of 1 2000000000) h.capacity ps v n refl k.capacity;
+    dimension = keeps_other words.Dimension words.DisplayDataType (number_of 2 CITY_LIMIT) h.dimension ps v n refl k.dimension;
+    capacity = keeps_other words.Capacity words.DisplayDataType (number_of 1 CAPACITY_LIMIT) h.capacity ps v n refl k.capacity;
     weight_type = keeps_other words.EdgeWeightType words.DisplayDataType weight_type_of h.weight_type ps v n refl k.weight_type;
     weight_format = keeps_other words.EdgeWeightFormat words.DisplayDataType weight_format_of h.weight_format ps v n refl k.weight_format;
     coordinate_type = k.coordinate_type ∙ sym (has_other words.NodeCoordType words.DisplayDataType ps v n refl);
@@ -123,8 +124,8 @@ module _ (h : Headers) (ps : List Piece) (v : List ℕ) (n : ℕ) (k : HasHeader
     name = k.name ∙ ap (λ (o : Option (List ℕ)). name_of (unwrap_or o [])) (sym (value_of-other words.Name words.Comment ps v n refl));
     short = k.short;
     problem_type = keeps_other words.Type words.Comment problem_type_of h.problem_type ps v n refl k.problem_type;
-    dimension = keeps_other words.Dimension words.Comment (number_of 2 100000) h.dimension ps v n refl k.dimension;
-    capacity = keeps_other words.Capacity words.Comment (number_of 1 2000000000) h.capacity ps v n refl k.capacity;
+    dimension = keeps_other words.Dimension words.Comment (number_of 2 CITY_LIMIT) h.dimension ps v n refl k.dimension;
+    capacity = keeps_other words.Capacity words.Comment (number_of 1 CAPACITY_LIMIT) h.capacity ps v n refl k.capacity;
     weight_type = keeps_other words.EdgeWeightType words.Comment weight_type_of h.weight_type ps v n refl k.weight_type;
     weight_format = keeps_other words.EdgeWeightFormat words.Comment weight_format_of h.weight_format ps v n refl k.weight_format;
     coordinate_type = k.coordinate_type ∙ sym (has_other words.NodeCoordType words.Comment ps v n refl);
@@ -139,8 +140,8 @@ module _ (h : Headers) (ps : List Piece) (v : List ℕ) (n : ℕ) (k : HasHeader
     name = is ∙ ap (λ (o : Option (List ℕ)). name_of (unwrap_or o [])) (sym (value_of-new words.Name words.Name ps v n refl fresh));
     short = small;
     problem_type = keeps_other words.Type words.Name problem_type_of h.problem_type ps v n refl k.problem_type;
-    dimension = keeps_other words.Dimension words.Name (number_of 2 100000) h.dimension ps v n refl k.dimension;
-    capacity = keeps_other words.Capacity words.Name (number_of 1 2000000000) h.capacity ps v n refl k.capacity;
+    dimension = keeps_other words.Dimension words.Name (number_of 2 CITY_LIMIT) h.dimension ps v n refl k.dimension;
+    capacity = keeps_other words.Capacity words.Name (number_of 1 CAPACITY_LIMIT) h.capacity ps v n refl k.capacity;
     weight_type = keeps_other words.EdgeWeightType words.Name weight_type_of h.weight_type ps v n refl k.weight_type;
     weight_format = keeps_other words.EdgeWeightFormat words.Name weight_format_of h.weight_format ps v n refl k.weight_format;
     coordinate_type = k.coordinate_type ∙ sym (has_other words.NodeCoordType words.Name ps v n refl);
@@ -160,8 +161,8 @@ module _ (h : Headers) (word : Keyword) (ps : List Piece) (n : ℕ) (toks : List
     name = k.name ∙ ap (λ (o : Option (List ℕ)). name_of (unwrap_or o [])) (sym (value_of-section words.Name word ps n toks after));
     short = k.short;
     problem_type = keeps_section words.Type word problem_type_of h.problem_type ps n toks after o2 k.problem_type;
-    dimension = keeps_section words.Dimension word (number_of 2 100000) h.dimension ps n toks after o3 k.dimension;
-    capacity = keeps_section words.Capacity word (number_of 1 2000000000) h.capacity ps n toks after o4 k.capacity;
+    dimension = keeps_section words.Dimension word (number_of 2 CITY_LIMIT) h.dimension ps n toks after o3 k.dimension;
+    capacity = keeps_section words.Capacity word (number_of 1 CAPACITY_LIMIT) h.capacity ps n toks after o4 k.capacity;
     weight_type = keeps_section words.EdgeWeightType word weight_type_of h.weight_type ps n toks after o5 k.weight_type;
     weight_format = keeps_section words.EdgeWeightFormat word weight_format_of h.weight_format ps n toks after o6 k.weight_format;
     coordinate_type = k.coordinate_type ∙ sym (has_past words.NodeCoordType word ps n toks after o7);

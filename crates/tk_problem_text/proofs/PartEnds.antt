@@ -5,6 +5,7 @@ use Rattle.std.proofs.lemmas.Bool.{le-ltb}
 use Rattle.std.proofs.lemmas.List.FromFn.{length-map-range_with_len}
 use Rattle.std.specs.Prelude.{IfSome, is_none, Vec, unwrap_or, ◌^◌}
 use Rattle.std.specs.declared.alloc.Global.{Global}
+use Rattle.tk_problem.specs.declared.limits.TheConstants.{TABLE_LIMIT}
 use Rattle.tk_words.specs.declared.fault.TextKind.{TextKind}
 use Rattle.tk_words.specs.declared.keyword.Keyword.TheVariants as words
 use Rattle.tk_problem_text.specs.declared.header_values.ProblemType.TheVariants as types
@@ -50,7 +51,7 @@ module _ (p : Parts) (ps : List Piece) (k : HasParts p ps) (capacity : ℕ) (dem
   pub few : length demand.items < 2 ^ 32
   few =
       let n : length (demands_of ps) ≡ size_of ps = length-map-range_with_len (row_of 0 (demand_rows (tokens_in words.DemandSection ps))) 1 (size_of ps) in
-      let small = subst (λ o. IfSome o (λ _. size_of ps ≤ 5000)) demand_is k.demand_small in
+      let small = subst (λ o. IfSome o (λ _. size_of ps ≤ TABLE_LIMIT)) demand_is k.demand_small in
       omega (arith, n, small, ap length same_demands)
 
   pub rest_of_routing : get_or demand.items (depot - 1) 0 ≡ 0 → first_kind (routing_ends_of ps) ≡ first_kind (over_capacity capacity 1 demand.items)

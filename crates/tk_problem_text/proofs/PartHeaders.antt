@@ -1,6 +1,7 @@
 -- The parts of a problem, with one header more.
 use Rattle.std.proofs.Common.{◌≡◌, ◌≤◌, ℕ, Bool, true, false, cond, List, ◌++◌, Option, Some, None, is_some, refl, sym, ap, subst, ◌∙◌}
 use Rattle.std.specs.Prelude.{IfSome, option_and_then, unwrap_or}
+use Rattle.tk_problem.specs.declared.limits.TheConstants.{CITY_LIMIT, TABLE_LIMIT}
 use Rattle.tk_words.specs.declared.keyword.Keyword.{Keyword}
 use Rattle.tk_words.specs.declared.keyword.Keyword.TheVariants as words
 use Rattle.tk_words.specs.declared.fault.TextKind.TheVariants as kinds
@@ -122,7 +123,7 @@ module _ (p : Parts) (ps : List Piece) (w : Keyword) (v : List ℕ) (n : ℕ) (h
   display_stays = k.display ∙ sym (has_other words.DisplayDataSection w ps v n is.display)
 
   same_size : same_word w words.Dimension ≡ false → size_of ps ≡ size_of after
-  same_size differ = ap (λ (o : Option (List ℕ)). unwrap_or (option_and_then (number_of 2 100000) o) 0) (sym (value_of-other words.Dimension w ps v n differ))
+  same_size differ = ap (λ (o : Option (List ℕ)). unwrap_or (option_and_then (number_of 2 CITY_LIMIT) o) 0) (sym (value_of-other words.Dimension w ps v n differ))
 
   same_format : same_word w words.EdgeWeightFormat ≡ false → format_in ps ≡ format_in after
   same_format differ = rw (value_of-other words.EdgeWeightFormat w ps v n differ) refl
@@ -158,7 +159,7 @@ module _ (p : Parts) (ps : List Piece) (w : Keyword) (v : List ℕ) (n : ℕ) (h
     sized = λ none. no_section (k.sized (sym (has_other words.Dimension w ps v n o.dimension) ∙ none));
     formatted = λ none. lower_stays (k.formatted (sym (has_other words.EdgeWeightFormat w ps v n o.format) ∙ none));
     lower_fits = subst (λ m. IfSome p.lower (λ x. WeightsFit m (Lower x))) (same_size o.dimension) k.lower_fits;
-    demand_small = subst (λ m. IfSome p.demand (λ _. m ≤ 5000)) (same_size o.dimension) k.demand_small;
+    demand_small = subst (λ m. IfSome p.demand (λ _. m ≤ TABLE_LIMIT)) (same_size o.dimension) k.demand_small;
     depot_in = subst (λ m. IfSome p.depot (λ d. (1 ≤ d) × (d ≤ m))) (same_size o.dimension) k.depot_in;
   }
 
@@ -175,7 +176,7 @@ module _ (p : Parts) (ps : List Piece) (w : Keyword) (v : List ℕ) (n : ℕ) (h
         sized = λ gone. no_section (k.sized (sym (has_other words.Dimension w ps v n differ) ∙ gone));
         formatted = λ _. lower_stays none;
         lower_fits = none_of p.lower (sym k.lower.came ∙ none) (λ x. WeightsFit (size_of after) (Lower x));
-        demand_small = subst (λ m. IfSome p.demand (λ _. m ≤ 5000)) (same_size differ) k.demand_small;
+        demand_small = subst (λ m. IfSome p.demand (λ _. m ≤ TABLE_LIMIT)) (same_size differ) k.demand_small;
         depot_in = subst (λ m. IfSome p.depot (λ d. (1 ≤ d) × (d ≤ m))) (same_size differ) k.depot_in;
       }
 
@@ -192,7 +193,7 @@ module _ (p : Parts) (ps : List Piece) (w : Keyword) (v : List ℕ) (n : ℕ) (h
         sized = λ _. no_section none;
         formatted = λ _. lower_stays none.lower;
         lower_fits = none_of p.lower (sym k.lower.came ∙ none.lower) (λ x. WeightsFit (size_of after) (Lower x));
-        demand_small = none_of p.demand (sym k.demand.came ∙ none.demand) (λ _. size_of after ≤ 5000);
+        demand_small = none_of p.demand (sym k.demand.came ∙ none.demand) (λ _. size_of after ≤ TABLE_LIMIT);
         depot_in = none_of p.depot (sym k.depot.came ∙ none.depot) (λ d. (1 ≤ d) × (d ≤ size_of after));
       }
 

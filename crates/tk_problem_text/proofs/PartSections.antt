@@ -16,6 +16,7 @@ use Rattle.tk_problem_text.specs.Parts.{HasParts, KeepsValue, HasNoSection}
 use Rattle.tk_problem_text.specs.Problem.{size_of, format_in, points_of, lower_of, demands_of, depot_of}
 use Rattle.tk_problem_text.specs.HeaderValues.{number_of}
 use Rattle.std.specs.declared.alloc.Global.{Global}
+use Rattle.tk_problem.specs.declared.limits.TheConstants.{CITY_LIMIT, TABLE_LIMIT}
 use Rattle.tk_problem_text.specs.Sections.Rows.{places_of, number_in}
 use Rattle.tk_problem_text.specs.Sections.Rows as Rows
 use Rattle.tk_problem_text.specs.Sections.WeightSection.{lower_weights}
@@ -47,7 +48,7 @@ module _ (p : Parts) (ps : List Piece) (w : Keyword) (n : ℕ) (toks : List Toke
   now = ps ++ a_section w n toks after
 
   same_size : size_of ps ≡ size_of now
-  same_size = ap (λ (o : Option (List ℕ)). unwrap_or (option_and_then (number_of 2 100000) o) 0) (sym (value_of-section words.Dimension w ps n toks after))
+  same_size = ap (λ (o : Option (List ℕ)). unwrap_or (option_and_then (number_of 2 CITY_LIMIT) o) 0) (sym (value_of-section words.Dimension w ps n toks after))
 
   same_format : format_in ps ≡ format_in now
   same_format = rw (value_of-section words.EdgeWeightFormat w ps n toks after) refl
@@ -58,8 +59,8 @@ module _ (p : Parts) (ps : List Piece) (w : Keyword) (n : ℕ) (toks : List Toke
   fits : IfSome p.lower (λ x. WeightsFit (size_of now) (Lower x))
   fits = subst (λ m. IfSome p.lower (λ x. WeightsFit m (Lower x))) same_size k.lower_fits
 
-  small : IfSome p.demand (λ _. size_of now ≤ 5000)
-  small = subst (λ m. IfSome p.demand (λ _. m ≤ 5000)) same_size k.demand_small
+  small : IfSome p.demand (λ _. size_of now ≤ TABLE_LIMIT)
+  small = subst (λ m. IfSome p.demand (λ _. m ≤ TABLE_LIMIT)) same_size k.demand_small
 
   inside : IfSome p.depot (λ d. (1 ≤ d) × (d ≤ size_of now))
   inside = subst (λ m. IfSome p.depot (λ d. (1 ≤ d) × (d ≤ m))) same_size k.depot_in
@@ -117,7 +118,7 @@ with_lower p ps n toks after k sized fresh x is formatted fit =
     }
 
 -- DemandSection
-pub with_demand : (p : Parts) (ps : List Piece) (n : ℕ) (toks : List Token) (after : After) → HasParts p ps → has words.Dimension ps ≡ true → has words.DemandSection ps ≡ false → (x : Vec ℕ Global) → x.items ≡ Rows.demands_of (size_of ps) toks → size_of ps ≤ 5000
+pub with_demand : (p : Parts) (ps : List Piece) (n : ℕ) (toks : List Token) (after : After) → HasParts p ps → has words.Dimension ps ≡ true → has words.DemandSection ps ≡ false → (x : Vec ℕ Global) → x.items ≡ Rows.demands_of (size_of ps) toks → size_of ps ≤ TABLE_LIMIT
     → HasParts (record p { demand = Some x }) (ps ++ a_section words.DemandSection n toks after)
 with_demand p ps n toks after k sized fresh x is few =
     let here : tokens_in words.DemandSection (ps ++ a_section words.DemandSection n toks after) ≡ toks = tokens_in-new words.DemandSection ps (a_section words.DemandSection n toks after) fresh in
@@ -132,7 +133,7 @@ with_demand p ps n toks after k sized fresh x is few =
       sized = still_sized p ps words.DemandSection n toks after k sized refl;
       formatted = λ gone. has_past words.EdgeWeightSection words.DemandSection ps n toks after refl ∙ k.formatted (sym (has_past words.EdgeWeightFormat words.DemandSection ps n toks after refl) ∙ gone);
       lower_fits = fits p ps words.DemandSection n toks after k sized;
-      demand_small = subst (λ m. m ≤ 5000) (same_size p ps words.DemandSection n toks after k sized) few;
+      demand_small = subst (λ m. m ≤ TABLE_LIMIT) (same_size p ps words.DemandSection n toks after k sized) few;
       depot_in = inside p ps words.DemandSection n toks after k sized;
     }
 

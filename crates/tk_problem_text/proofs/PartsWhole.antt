@@ -6,6 +6,7 @@ use Rattle.std.proofs.lemmas.List.FromFn.{length-map-range_with_len}
 use Rattle.std.proofs.lemmas.List.Elements.{All-nil, All-cons}
 use Rattle.tk_words.specs.declared.fault.TextKind.TheVariants as faults
 use Rattle.std.proofs.lemmas.Bool.{leb-true, eqb-true, ltb-false}
+use Rattle.tk_problem.specs.declared.limits.TheConstants.{CAPACITY_LIMIT, CITY_LIMIT, TABLE_LIMIT}
 use Rattle.tk_words.specs.declared.fault.TextKind.{TextKind}
 use Rattle.tk_words.specs.declared.keyword.Keyword.TheVariants as words
 use Rattle.tk_problem_text.specs.declared.header_values.ProblemType.{ProblemType}
@@ -137,7 +138,7 @@ module _ (p : Parts) (ps : List Piece) (k : HasParts p ps) (n : ℕ) (size : siz
       → capacity_of ps ≡ capacity → demand.items ≡ demands_of ps → depot ≡ depot_of ps → IsRouting n (record { capacity = capacity; demand = demand; depot = depot }) → RoutingDone
   cvrp_with capacity demand depot is so c d t capacity_so items depot_so routing = rw (is, c, d, t, so) (routing, rw (capacity_so, items, depot_so) refl)
 
-  routing_so : (capacity : ℕ) (demand : Vec ℕ Global) (depot : ℕ) → capacity_of ps ≡ capacity → capacity ≤ 2000000000 → demand.items ≡ demands_of ps → depot ≡ depot_of ps → n ≤ 5000 → (1 ≤ depot) × (depot ≤ n)
+  routing_so : (capacity : ℕ) (demand : Vec ℕ Global) (depot : ℕ) → capacity_of ps ≡ capacity → capacity ≤ CAPACITY_LIMIT → demand.items ≡ demands_of ps → depot ≡ depot_of ps → n ≤ TABLE_LIMIT → (1 ≤ depot) × (depot ≤ n)
       → eqb (get_or (demands_of ps) (depot_of ps - 1) 0) 0 ≡ true → first_kind (over_capacity (capacity_of ps) 1 (demands_of ps)) ≡ None → IsRouting n (record { capacity = capacity; demand = demand; depot = depot })
   routing_so capacity demand depot capacity_so limit items depot_so small inside rests none =
       let loads : All (λ q. q ≤ capacity) demand.items = rw (items, ← capacity_so) (all_within (capacity_of ps) 1 (demands_of ps) none) in
@@ -150,12 +151,12 @@ module _ (p : Parts) (ps : List Piece) (k : HasParts p ps) (n : ℕ) (size : siz
       let capacity = some_of p.headers.capacity (sym k.headers.capacity.came ∙ four.0) in
       let demand = some_of p.demand (sym k.demand.came ∙ four.1) in
       let depot = some_of p.depot (sym k.depot.came ∙ four.2) in
-      let limits = number_in_limits 1 2000000000 capacity.0 (value_of words.Capacity ps) (k.headers.capacity.says ∙ capacity.1) in
+      let limits = number_in_limits 1 CAPACITY_LIMIT capacity.0 (value_of words.Capacity ps) (k.headers.capacity.says ∙ capacity.1) in
       let capacity_so : capacity_of ps ≡ capacity.0 = ap (λ (o : Option ℕ). unwrap_or o 0) (k.headers.capacity.says ∙ capacity.1) in
       let items : demand.0.items ≡ demands_of ps = subst (λ o. IfSome o (λ x. x.items ≡ demands_of ps)) demand.1 k.demand.is in
       let depot_so : depot.0 ≡ depot_of ps = subst (λ o. IfSome o (λ d. d ≡ depot_of ps)) depot.1 k.depot.is in
       let inside = subst (λ m. (1 ≤ depot.0) × (depot.0 ≤ m)) size (subst (λ o. IfSome o (λ d. (1 ≤ d) × (d ≤ size_of ps))) depot.1 k.depot_in) in
-      let small : n ≤ 5000 = subst (λ m. m ≤ 5000) size (subst (λ o. IfSome o (λ _. size_of ps ≤ 5000)) demand.1 k.demand_small) in
+      let small : n ≤ TABLE_LIMIT = subst (λ m. m ≤ TABLE_LIMIT) size (subst (λ o. IfSome o (λ _. size_of ps ≤ TABLE_LIMIT)) demand.1 k.demand_small) in
       cvrp_with capacity.0 demand.0 depot.0 is (k.headers.problem_type.says ∙ is) capacity.1 demand.1 depot.1 capacity_so items depot_so (routing_so capacity.0 demand.0 depot.0 capacity_so limits.1 items depot_so small inside four.3 four.4)
 
   routing_done : first_kind (routing_ends_of ps) ≡ None → RoutingDone
@@ -187,7 +188,7 @@ whole_parts p ps k none =
     let rest = none_before (weights_ends ps) (routing_ends_of ps) second.1 in
     let dimension = some_of p.headers.dimension (sym k.headers.dimension.came ∙ is_not (has words.Dimension ps) second.0) in
     let size : size_of ps ≡ dimension.0 = ap (λ (o : Option ℕ). unwrap_or o 0) (k.headers.dimension.says ∙ dimension.1) in
-    let limits = number_in_limits 2 100000 dimension.0 (value_of words.Dimension ps) (k.headers.dimension.says ∙ dimension.1) in
+    let limits = number_in_limits 2 CITY_LIMIT dimension.0 (value_of words.Dimension ps) (k.headers.dimension.says ∙ dimension.1) in
     let weights = weights_done p ps k dimension.0 size rest.0 in
     let routing = routing_done p ps k dimension.0 size rest.1 in
     let w : IsWhole p = record { short = k.headers.short; n = dimension.0; size = dimension.1; low = limits.0; high = limits.1; weights = weights.0; routing = routing.0 } in

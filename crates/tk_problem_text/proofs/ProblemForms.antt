@@ -12,6 +12,7 @@ use Rattle.tk_words.specs.Lex.{Token, is_empty}
 use Rattle.tk_lines.specs.Pieces.{Piece, After, Early, Fault, Format, has}
 use Rattle.tk_lines.specs.Forms.{a_section, Goes, HasTaken}
 use Rattle.std.specs.Prelude.{map, slice_index}
+use Rattle.tk_problem.specs.declared.limits.TheConstants.{TABLE_LIMIT}
 use Rattle.tk_problem_text.specs.Sections.Rows.{number_in}
 use Rattle.tk_problem_text.specs.Problem.{size_of, problem_format}
 use Rattle.tk_problem_text.specs.Sections.Coordinates.{Placing, HasPlaces}
@@ -33,7 +34,7 @@ module _ (before : List Piece) (word : Keyword) (n : ℕ) (ps : List Piece) (P :
       subst P (sym (past.are ∙ ap (λ w. before ++ a_section w n past.toks past.after) is)) (keep past.toks past.after past.full.1 past.full.2 (subst (λ w. has w before ≡ false) is fresh))
 
   pub past_loads : (s : Loading) → IsPast before word n (Loads s) ps
-      → ((toks : List Token) (after : After) → HasDemands (size_of before) s toks → length toks ≡ 2 * size_of before → size_of before ≤ 5000 → has words.DemandSection before ≡ false → P (before ++ a_section words.DemandSection n toks after)) → P ps
+      → ((toks : List Token) (after : After) → HasDemands (size_of before) s toks → length toks ≡ 2 * size_of before → size_of before ≤ TABLE_LIMIT → has words.DemandSection before ≡ false → P (before ++ a_section words.DemandSection n toks after)) → P ps
   past_loads s past keep =
       let is = past.full.0 in
       subst P (sym (past.are ∙ ap (λ w. before ++ a_section w n past.toks past.after) is)) (keep past.toks past.after past.full.1 past.full.2 past.full.3 (subst (λ w. has w before ≡ false) is fresh))

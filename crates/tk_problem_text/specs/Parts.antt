@@ -1,6 +1,7 @@
 -- What is kept of the pieces of a problem.
 use Rattle.std.specs.Prelude.{◌≡◌, ◌≤◌, ℕ, false, List, [], length, Option, Some, None, IfSome, is_some, unwrap_or, Vec}
 use Rattle.std.specs.declared.alloc.Global.{Global}
+use Rattle.tk_problem.specs.declared.limits.TheConstants.{CITY_LIMIT, TABLE_LIMIT}
 use Rattle.tk_problem.specs.declared.point.Point.{Point}
 use Rattle.tk_problem.specs.declared.weights.Weights.{Weights}
 use Rattle.tk_problem.specs.declared.routing.Routing.{Routing}
@@ -42,7 +43,7 @@ pub record HasParts (p : Parts) (ps : List Piece) : Type 0 where
   pub sized : has words.Dimension ps ≡ false → HasNoSection ps
   pub formatted : has words.EdgeWeightFormat ps ≡ false → has words.EdgeWeightSection ps ≡ false
   pub lower_fits : IfSome p.lower (λ v. WeightsFit (size_of ps) (Lower v))
-  pub demand_small : IfSome p.demand (λ _. size_of ps ≤ 5000)
+  pub demand_small : IfSome p.demand (λ _. size_of ps ≤ TABLE_LIMIT)
   pub depot_in : IfSome p.depot (λ d. (1 ≤ d) × (d ≤ size_of ps))
 
 -- ---- the problem that the parts make
@@ -90,7 +91,7 @@ pub record IsWhole (p : Parts) : Type 0 where
   pub n : ℕ
   pub size : p.headers.dimension ≡ Some n
   pub low : 2 ≤ n
-  pub high : n ≤ 100000
+  pub high : n ≤ CITY_LIMIT
   pub weights : MakesWeights n p.headers.weight_type p.places p.lower
   pub routing : MakesRouting n p.headers.problem_type p.headers.capacity p.demand p.depot
 

@@ -1,5 +1,6 @@
 -- Problem texts.
 use Rattle.std.specs.Prelude.{ℕ, suc, ◌-◌, ◌*◌, Bool, true, false, not, ◌||◌, ◌==◌, nat_lt, List, [], ◌∷◌, ◌++◌, length, get_or, map, Option, Some, None, Result, if◌then◌else◌, is_none, unwrap_or, option_map, option_and_then}
+use Rattle.tk_problem.specs.declared.limits.TheConstants.{CAPACITY_LIMIT, CITY_LIMIT, TABLE_LIMIT}
 use Rattle.tk_words.specs.declared.keyword.Keyword.{Keyword}
 use Rattle.tk_words.specs.declared.keyword.Keyword.TheVariants as words
 use Rattle.tk_words.specs.declared.fault.TextKind.{TextKind}
@@ -40,10 +41,10 @@ weight_format ps = option_and_then weight_format_of (value_of words.EdgeWeightFo
 
 -- how many nodes there are
 abbrev pub size_of : List Piece → ℕ
-size_of ps = unwrap_or (option_and_then (number_of 2 100000) (value_of words.Dimension ps)) 0
+size_of ps = unwrap_or (option_and_then (number_of 2 CITY_LIMIT) (value_of words.Dimension ps)) 0
 
 abbrev pub capacity_of : List Piece → ℕ
-capacity_of ps = unwrap_or (option_and_then (number_of 1 2000000000) (value_of words.Capacity ps)) 0
+capacity_of ps = unwrap_or (option_and_then (number_of 1 CAPACITY_LIMIT) (value_of words.Capacity ps)) 0
 
 abbrev pub is_cvrp : Option ProblemType → Bool
 is_cvrp (Some types.Cvrp) = true
@@ -73,9 +74,9 @@ problem_header before words.Comment bs = []
 problem_header before words.Type bs =
     (has words.Type before, kinds.Repeated) ∷ (is_none (problem_type_of bs), kinds.Unsupported) ∷ []
 problem_header before words.Dimension bs =
-    (has words.Dimension before, kinds.Repeated) ∷ number_tests 2 100000 (first_word bs)
+    (has words.Dimension before, kinds.Repeated) ∷ number_tests 2 CITY_LIMIT (first_word bs)
 problem_header before words.Capacity bs =
-    (has words.Capacity before, kinds.Repeated) ∷ number_tests 1 2000000000 (first_word bs)
+    (has words.Capacity before, kinds.Repeated) ∷ number_tests 1 CAPACITY_LIMIT (first_word bs)
 problem_header before words.EdgeWeightType bs =
     (has words.EdgeWeightType before, kinds.Repeated) ∷ (is_none (weight_type_of bs), kinds.Unsupported) ∷ []
 problem_header before words.EdgeWeightFormat bs =
@@ -116,9 +117,9 @@ section_tests before words.EdgeWeightSection =
     (not (has words.EdgeWeightType before), kinds.Missing words.EdgeWeightType)
     ∷ (not (has words.EdgeWeightFormat before), kinds.Missing words.EdgeWeightFormat)
     ∷ (not (is_explicit (weight_type before)) || is_none (listed_format (weight_format before)), kinds.Unsupported)
-    ∷ (nat_lt 5000 (size_of before), kinds.OutOfLimit) ∷ []
+    ∷ (nat_lt TABLE_LIMIT (size_of before), kinds.OutOfLimit) ∷ []
 section_tests before words.DemandSection =
-    (not (is_cvrp (problem_type before)), kinds.Unsupported) ∷ (nat_lt 5000 (size_of before), kinds.OutOfLimit) ∷ []
+    (not (is_cvrp (problem_type before)), kinds.Unsupported) ∷ (nat_lt TABLE_LIMIT (size_of before), kinds.OutOfLimit) ∷ []
 section_tests before words.DepotSection = (not (is_cvrp (problem_type before)), kinds.Unsupported) ∷ []
 section_tests before _ = []
 

@@ -14,13 +14,10 @@ use crate::header_values::{
     ProblemType, WeightFormat, WeightType, is_coordinate_type, problem_type_of, weight_format_of,
     weight_type_of,
 };
-use crate::sections::demands::LOAD_LIMIT;
 use std::alloc::{AllocError, Global};
 use tk_lines::Scan;
+use tk_problem::{CAPACITY_LIMIT, CITY_LIMIT};
 use tk_words::{Keyword, TextKind};
-
-/// The cities of a problem.
-pub const SIZE_LIMIT: u32 = 100_000;
 
 /// The headers of a problem that came so far.
 #[derive(Drop)]
@@ -112,8 +109,8 @@ impl Headers {
                 &mut self.problem_type,
                 problem_type_of(value).ok_or(TextKind::Unsupported),
             ),
-            Keyword::Dimension => keep(&mut self.dimension, value.number(2, SIZE_LIMIT)),
-            Keyword::Capacity => keep(&mut self.capacity, value.number(1, LOAD_LIMIT)),
+            Keyword::Dimension => keep(&mut self.dimension, value.number(2, CITY_LIMIT)),
+            Keyword::Capacity => keep(&mut self.capacity, value.number(1, CAPACITY_LIMIT)),
             Keyword::EdgeWeightType => keep(
                 &mut self.weight_type,
                 weight_type_of(value).ok_or(TextKind::Unsupported),

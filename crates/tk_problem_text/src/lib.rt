@@ -9,4 +9,3 @@ mod problem_text;
 mod sections;
 
 pub use problem_text::read_problem;
-pub use sections::begin::TABLE_LIMIT;

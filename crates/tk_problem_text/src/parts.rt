@@ -1,5 +1,6 @@
 //! The headers and sections of a problem that came so far.
 ghost use Rattle.std.specs.Prelude.{◌≡◌, ◌≤◌, ◌<◌, ◌-◌, ◌^◌, ◌++◌, ℕ, List, [], Some, None, IfOk, IfErr, IfSome, length, slice_index};
+ghost use Rattle.tk_problem.specs.declared.limits.TheConstants.{TABLE_LIMIT};
 ghost use Rattle.tk_lines.specs.Pieces.{Piece, first_at, Fault};
 ghost use Rattle.tk_lines.specs.Forms.{IsToldWord, a_header};
 ghost use Rattle.tk_problem_text.specs.Problem.{problem_header, problem_end, first_kind, weights_ends, routing_ends_of, over_capacity};
@@ -98,7 +99,7 @@ impl Parts {
     pub fn keep_demand(&mut self, demand: Vec<u32>)
         ensures { (ps : List Piece) (n : ℕ) (toks : List Token) (after : After) → HasParts self.old ps
             → has words.Dimension ps ≡ true → has words.DemandSection ps ≡ false
-            → demand.items ≡ demands_of (size_of ps) toks → size_of ps ≤ 5000
+            → demand.items ≡ demands_of (size_of ps) toks → size_of ps ≤ TABLE_LIMIT
             → HasParts self.new (ps ++ a_section words.DemandSection n toks after) }
     {
         self.demand = Some(demand);

@@ -1,7 +1,8 @@
 //! Problem texts.
 ghost use Rattle.std.specs.Prelude.{◌≡◌, true, Ok, IfOk, IfErr};
+ghost use Rattle.tk_problem.specs.declared.limits.TheConstants.{TEXT_LIMIT};
 ghost use Rattle.tk_words.specs.Drive.{IsTold};
-ghost use Rattle.tk_words.specs.Texts.{IsAnswerWhereTold, IsIntact, text_limit};
+ghost use Rattle.tk_words.specs.Texts.{IsAnswerWhereTold, IsIntact};
 ghost use Rattle.tk_problem_text.specs.Parts.{problem_is};
 ghost use Rattle.tk_problem_text.specs.Problem.{problem_decided};
 ghost use Rattle.tk_problem_text.specs.Names.{IsName};
@@ -9,8 +10,8 @@ ghost use Rattle.tk_problem_text.specs.Names.{IsName};
 use crate::problem_form::ProblemForm;
 use std::alloc::Global;
 use tk_lines::PieceReader;
-use tk_problem::Problem;
-use tk_words::{Source, TEXT_LIMIT, TextFault, TextKind, read_text};
+use tk_problem::{Problem, TEXT_LIMIT};
+use tk_words::{Source, TextFault, TextKind, read_text};
 
 /// Reads a problem text. What it answers is what every text says that begins with the bytes that it read, but for
 /// `Read`, where the source fails, and `NoMemory`.
@@ -19,11 +20,11 @@ use tk_words::{Source, TEXT_LIMIT, TextFault, TextKind, read_text};
 /// The first fault of the text, with its line; `Read` if the source fails before it is found, and `NoMemory` if memory
 /// runs out.
 pub fn read_problem<R: Source>(alloc: Global, source: &mut R) -> Result<Problem, TextFault>
-    ensures ok { IfOk result (λ problem. IsAnswerWhereTold problem_decided text_limit (R.left source.old)
+    ensures ok { IfOk result (λ problem. IsAnswerWhereTold problem_decided TEXT_LIMIT (R.left source.old)
         (R.left source.new) (Ok (problem_is problem))) }
     ensures named { IfOk result (λ problem. IsName (problem_is problem).name) }
     ensures err { IfErr result (IsTold (R.broken source.new ≡ true)
-        (IsAnswerWhereTold problem_decided text_limit (R.left source.old) (R.left source.new))) }
+        (IsAnswerWhereTold problem_decided TEXT_LIMIT (R.left source.old) (R.left source.new))) }
     ensures intact { IsIntact (R.broken source.old) (R.broken source.new) result }
 {
     match ProblemForm::new(alloc) {

@@ -5,6 +5,7 @@ use Rattle.std.specs.List.{All, concat}
 use Rattle.std.proofs.lemmas.List.{get_or-map, take-map, length-map}
 use Rattle.std.proofs.lemmas.List.Elements.{All-push}
 use Rattle.std.proofs.lemmas.List.Sums.{sum_by_push, sum_by-take-le}
+use Rattle.tk_problem.specs.declared.limits.TheConstants.{DISTANCE_LIMIT}
 use Rattle.tk_tour.proofs.Lengths.{way_back, way_back-step}
 use Rattle.tk_routes.specs.Instance.{Instance, node_of}
 use Rattle.tk_routes.specs.Routes.{IsLight, route_load, route_length, routes_cost}
@@ -35,7 +36,7 @@ pub routes_cost-more : {X : Type 0} (f : X → List ℕ) (i : Instance) (xs : Li
 routes_cost-more f i xs k x route lt at is =
     ap (routes_cost i) (map-take_more f xs k x lt at) ∙ sum_by_push (route_length i) (map f (take k xs)) (f x) ∙ ap (λ v. routes_cost i (map f (take k xs)) + route_length i v) (sym is)
 
-pub routes_cost-bound : {X : Type 0} (f : X → List ℕ) (i : Instance) (m : ℕ) (xs : List X) (k : ℕ) → ((a : ℕ) → i.distance a a ≡ 0) → ((a b : ℕ) → i.distance a b ≤ 4000000000) →
+pub routes_cost-bound : {X : Type 0} (f : X → List ℕ) (i : Instance) (m : ℕ) (xs : List X) (k : ℕ) → ((a : ℕ) → i.distance a a ≡ 0) → ((a b : ℕ) → i.distance a b ≤ DISTANCE_LIMIT) →
     AreServedOnce m (concat (map f xs)) → routes_cost i (map f (take k xs)) ≤ 8000000000 * m
 routes_cost-bound f i m xs k diagonal limit h =
     omega (arith, ap (routes_cost i) (take-map f k xs), sum_by-take-le (route_length i) (map f xs) k, routes_cost-limit i (map f xs) diagonal limit, AreServedOnce-short m (concat (map f xs)) h)

@@ -1,5 +1,6 @@
 //! A capacitated routing problem.
 ghost use Rattle.std.specs.Prelude.{◌≡◌, ◌≤◌, ◌-◌, ◌*◌, All, None, IfNone, IfSome, length, pos, slice_index};
+ghost use Rattle.tk_problem.specs.declared.limits.TheConstants.{CAPACITY_LIMIT, CITY_LIMIT, TABLE_LIMIT};
 ghost use Rattle.tk_distance.specs.Cities.{IsCity};
 ghost use Rattle.tk_distance.specs.Tables.{table_size, table_distance};
 
@@ -19,10 +20,10 @@ pub struct Cvrp<'a> {
     /// The depot's node.
     pub depot: u32,
     ghost low: { 2 ≤ table_size table },
-    ghost few: { table_size table ≤ 5000 },
+    ghost few: { table_size table ≤ TABLE_LIMIT },
     ghost each: { length demands.now ≡ table_size table },
     ghost loads: { All (λ q. q ≤ capacity) demands.now },
-    ghost limit: { capacity ≤ 2000000000 },
+    ghost limit: { capacity ≤ CAPACITY_LIMIT },
     ghost known: { IsCity (table_size table) depot },
     ghost rests: { slice_index demands.now (depot - 1) ≡ 0 },
 }
@@ -74,7 +75,7 @@ impl<'a> Cvrp<'a> {
     /// The greatest load of a vehicle.
     pub fn capacity(&self) -> u32
         ensures value { result ≡ (instance_of self.now).capacity }
-        ensures limit { result ≤ 2000000000 }
+        ensures limit { result ≤ CAPACITY_LIMIT }
     {
         self.capacity
     }
@@ -96,7 +97,7 @@ impl<'a> Cvrp<'a> {
     pub fn demand(&self, customer: u32) -> u32
         requires { IsCity (customer_count (instance_of self.now)) customer }
         ensures value { result ≡ demand_of (instance_of self.now) customer }
-        ensures limit { result ≤ 2000000000 }
+        ensures limit { result ≤ CAPACITY_LIMIT }
     {
         self.demands[self.node(customer) as usize - 1]
     }
@@ -104,7 +105,7 @@ impl<'a> Cvrp<'a> {
     /// The sum of the demands of a route's customers.
     pub fn load(&self, route: &[u32]) -> u64
         requires known { All (IsCity (customer_count (instance_of self.now))) route.now }
-        requires few { length route.now ≤ 100000 }
+        requires few { length route.now ≤ CITY_LIMIT }
         ensures { result ≡ route_load (instance_of self.now) route.now }
     {
         let mut load = 0;
@@ -117,7 +118,7 @@ impl<'a> Cvrp<'a> {
     /// The length of a route, from the depot and back: 0 where it holds no customer.
     pub fn length(&self, route: &[u32]) -> i64
         requires known { All (IsCity (customer_count (instance_of self.now))) route.now }
-        requires few { length route.now ≤ 100000 }
+        requires few { length route.now ≤ CITY_LIMIT }
         ensures { result ≡ pos (route_length (instance_of self.now) route.now) }
     {
         let mut from = self.depot;

@@ -1,5 +1,6 @@
 //! What a search is asked for.
 ghost use Rattle.std.specs.Prelude.{◌≤◌};
+ghost use Rattle.tk_problem.specs.declared.limits.TheConstants.{CANDIDATE_LIMIT};
 
 use tk_search::SearchRules;
 
@@ -31,7 +32,7 @@ pub struct TourOptions<'a> {
     pub rules: SearchRules,
     ghost some_runs: { (1 ≤ runs) × (runs ≤ 10000) },
     ghost some_trials: { (1 ≤ trials) × (trials ≤ 1000000) },
-    ghost some_candidates: { (1 ≤ candidates) × (candidates ≤ 100) },
+    ghost some_candidates: { (1 ≤ candidates) × (candidates ≤ CANDIDATE_LIMIT) },
     ghost segments: { (1 ≤ rules.or_segment) × (rules.or_segment ≤ 3) },
 }
 
@@ -42,6 +43,6 @@ pub struct RouteOptions {
     pub candidates: u32,
     /// The most nodes of a segment that a move takes: 1 to 3.
     pub or_segment: u32,
-    ghost some_candidates: { (1 ≤ candidates) × (candidates ≤ 100) },
+    ghost some_candidates: { (1 ≤ candidates) × (candidates ≤ CANDIDATE_LIMIT) },
     ghost segments: { (1 ≤ or_segment) × (or_segment ≤ 3) },
 }

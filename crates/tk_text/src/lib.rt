@@ -5,14 +5,15 @@
 
 pub use tk_lists::{SolText, TourText, read_solution, read_tour};
 pub use tk_problem::{
-    Format, LowerWeights, Place, Places, PlaneKind, Point, Points, Problem, Routing, SCALE,
-    WeightCursor, Weights, WholePoint,
+    CANDIDATE_LIMIT, CAPACITY_LIMIT, CITY_LIMIT, COORDINATE_LIMIT, DISTANCE_LIMIT, ENTRY_LIMIT,
+    Format, LowerWeights, Place, Places, PlaneKind, Point, Points, Problem, ROUTE_LIMIT, Routing,
+    SCALE, TABLE_LIMIT, TEXT_LIMIT, WeightCursor, Weights, WholePoint,
 };
-pub use tk_problem_text::{TABLE_LIMIT, read_problem};
+pub use tk_problem_text::read_problem;
 pub use tk_words::{
-    Entry, Failed, FromRead, Keyword, Role, Run, Source, Step, TEXT_LIMIT, TextFault, TextKind,
-    TextReader, blank, decimal, entry_of, feed_piece, integer, keyword_in, letter, minus_one,
-    read_text, spelled, word_byte,
+    Entry, Failed, FromRead, Keyword, Role, Run, Source, Step, TextFault, TextKind, TextReader,
+    blank, decimal, entry_of, feed_piece, integer, keyword_in, letter, minus_one, read_text,
+    spelled, word_byte,
 };
 pub use tk_writers::{
     Page, Pen, Sink, ToWrite, WriteFault, format_of, write_matrix, write_solution, write_tour,

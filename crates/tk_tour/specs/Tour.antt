@@ -7,6 +7,7 @@
 --     tour_length distance cities      the sum over the cyclic steps
 use Rattle.std.specs.Prelude.{◌≡◌, ℕ, ◌+◌, ◌-◌, ◌<◌, ◌≤◌, ◌==◌, ◌⊎◌, List, [], ◌∷◌, ◌++◌, length, reverse, count_by, slice_index, ◌%◌}
 use Rattle.std.specs.List.{position_or_len}
+use Rattle.tk_problem.specs.declared.limits.TheConstants.{CITY_LIMIT}
 
 -- how often a city stands in a list
 unfoldable pub occurrences : ℕ → List ℕ → ℕ
@@ -18,7 +19,7 @@ IsTour n cities = (length cities ≡ n) × ((c : ℕ) → 0 < c → c ≤ n → 
 
 -- a tour of 2 to 100,000 cities
 abbrev pub IsSizedTour : List ℕ → Type 0
-IsSizedTour cities = (2 ≤ length cities) × (length cities ≤ 100000) × IsTour (length cities) cities
+IsSizedTour cities = (2 ≤ length cities) × (length cities ≤ CITY_LIMIT) × IsTour (length cities) cities
 
 -- the first place of a city, from 0
 unfoldable pub place_of : ℕ → List ℕ → ℕ

@@ -1,5 +1,6 @@
 //! The length of a tour.
-ghost use Rattle.std.specs.Prelude.{◌≡◌, ◌≤◌, pos, length, All};
+ghost use Rattle.std.specs.Prelude.{◌≡◌, ◌<◌, ◌*◌, ◌^◌, pos, length, All};
+ghost use Rattle.tk_problem.specs.declared.limits.TheConstants.{DISTANCE_LIMIT};
 ghost use Rattle.tk_distance.specs.Cities.{IsCity};
 ghost use Rattle.tk_tour.specs.Tour.{tour_length};
 
@@ -9,7 +10,7 @@ use tk_distance::Metric;
 /// distance twice.
 pub fn length<M: Metric>(metric: &M, cities: &[u32]) -> i64
     requires cities { All (IsCity (M.size_of metric.now)) cities.now }
-    requires count { length cities.now ≤ 2000000000 }
+    requires count { length cities.now * DISTANCE_LIMIT < 2 ^ 63 }
     ensures { result ≡ pos (tour_length (M.distance metric.now) cities.now) }
 {
     let Some((&first, others)) = cities.split_first() else {

@@ -1,5 +1,6 @@
 //! Whether a list is a tour.
 ghost use Rattle.std.specs.Prelude.{◌≡◌, ◌≤◌, ◌<◌, ◌^◌, ◌-◌, ℕ, IfOk, length, slice_index};
+ghost use Rattle.tk_problem.specs.declared.limits.TheConstants.{CITY_LIMIT};
 ghost use Rattle.tk_tour.specs.Reversal.{IsInverse};
 ghost use Rattle.tk_tour.specs.Verdict.{IsVerdict, IsPlacedWhere};
 
@@ -24,7 +25,7 @@ const FREE: u32 = u32::MAX;
 
 /// Writes down where each city stands, from 0, up to the first fault. The places of all cities are `u32::MAX` before.
 pub fn place_cities(cities: &[u32], place: &mut [u32]) -> Verdict
-    requires size { length cities.now ≤ 100000 }
+    requires size { length cities.now ≤ CITY_LIMIT }
     requires place_size { length place.old ≡ length cities.now }
     requires free { (k : ℕ) → k < length place.old → slice_index place.old k ≡ 2 ^ 32 - 1 }
     ensures verdict { IsVerdict (length cities.now) cities.now result }
@@ -48,7 +49,7 @@ pub fn place_cities(cities: &[u32], place: &mut [u32]) -> Verdict
 /// # Errors
 /// `AllocError` where there is no memory for the places of n cities.
 pub fn check(alloc: Global, n: u32, cities: &[u32]) -> Result<Verdict, AllocError>
-    requires size { n ≤ 100000 }
+    requires size { n ≤ CITY_LIMIT }
     ensures { IfOk result (λ v. IsVerdict n cities.now v) }
 {
     if cities.len() != n as usize {

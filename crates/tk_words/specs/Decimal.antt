@@ -2,6 +2,7 @@
 use Rattle.std.specs.Prelude.{ℕ, ◌+◌, ◌-◌, ◌*◌, ◌/◌, ◌^◌, ◌&&◌, ◌||◌, ◌==◌, nat_lt, nat_le, List, [], ◌∷◌, ◌++◌, length, Option, Some, None, Result, Ok, Err, ℤ, pos, neg_ℤ, if◌then◌else◌, option_map, fold}
 use Rattle.std.specs.Char.{is_ascii_digit}
 use Rattle.std.specs.Int.RustNames.{unsigned_abs}
+use Rattle.tk_problem.specs.Places.{greatest_coordinate}
 use Rattle.tk_words.specs.declared.fault.TextKind.{TextKind}
 use Rattle.tk_words.specs.declared.fault.TextKind.TheVariants as kinds
 use Rattle.tk_words.specs.Lex.{front, behind, is_empty, natural}
@@ -57,7 +58,7 @@ decimal_of (b ∷ bs) =
     if b == 45 then option_map (λ n. neg_ℤ (pos n)) (billionths bs)
     else option_map pos (billionths (if b == 43 then bs else b ∷ bs))
 
--- a magnitude of at most 10^9
+-- of at most the greatest magnitude of a coordinate
 abbrev pub limited : Option ℤ → Result ℤ TextKind
 limited None = Err kinds.BadNumber
-limited (Some z) = if nat_le (unsigned_abs z) (10 ^ 18) then Ok z else Err kinds.OutOfLimit
+limited (Some z) = if nat_le (unsigned_abs z) greatest_coordinate then Ok z else Err kinds.OutOfLimit

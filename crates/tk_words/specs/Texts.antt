@@ -6,10 +6,6 @@ use Rattle.tk_words.specs.declared.sources.text_reader.Step.{Step}
 use Rattle.tk_words.specs.declared.sources.text_reader.Step.TheVariants as steps
 use Rattle.tk_words.specs.Drive.{Decided, line_behind}
 
--- the most bytes of a text
-abbrev pub text_limit : ℕ
-text_limit = 1073741824
-
 -- the answer to a text. Of one that is too long, only what its bytes up to and with the first too many decide counts
 unfoldable pub answer_of : {V : Type 0} → Decided V → ℕ → List ℕ → Result V TextFault
 answer_of decided limit text =

@@ -14,7 +14,7 @@ pub use keyword::{Keyword, Role};
 pub use numbers::decimals::decimal;
 pub use numbers::entries::{Entry, begins_minus_one, entry_of, keyword_in, limited, minus_one};
 pub use numbers::integers::integer;
-pub use sources::reading::{TEXT_LIMIT, feed_piece, read_text};
+pub use sources::reading::{feed_piece, read_text};
 pub use sources::source::{Failed, FromRead, Source};
 pub use sources::text_reader::{Run, Step, TextReader};
 pub use words::{keyword_of, role};

@@ -4,6 +4,7 @@ use Rattle.std.specs.Prelude.{codes, decimal, flat_map, unwrap_or, option_map}
 use Rattle.std.specs.List.{AllByRecursion}
 use Rattle.std.proofs.lemmas.Bool.{le-leb, le-ltb, cases_eq}
 use Rattle.std.proofs.lemmas.List.{length-map, length-append}
+use Rattle.tk_problem.specs.declared.limits.TheConstants.{TABLE_LIMIT}
 use Rattle.tk_words.specs.declared.keyword.Keyword.TheVariants as words
 use Rattle.tk_problem.specs.declared.weights.Format.{Format}
 use Rattle.tk_problem.specs.declared.weights.Format.TheVariants as formats
@@ -56,7 +57,7 @@ head_lines name n f =
     (codes "NAME : " ++ name) ∷ codes "TYPE : TSP" ∷ (codes "DIMENSION : " ++ decimal n) ∷ codes "EDGE_WEIGHT_TYPE : EXPLICIT"
     ∷ (codes "EDGE_WEIGHT_FORMAT : " ++ format_word f) ∷ codes "EDGE_WEIGHT_SECTION" ∷ []
 
-module _ (name : List ℕ) (n : ℕ) (f : Format) (is_name : IsName name) (high : n ≤ 5000) (rows : List (List ℕ)) (small : ShortRows rows) where
+module _ (name : List ℕ) (n : ℕ) (f : Format) (is_name : IsName name) (high : n ≤ TABLE_LIMIT) (rows : List (List ℕ)) (small : ShortRows rows) where
   head_whole : AllByRecursion OnOneLine (head_lines name n f)
   head_whole =
       let name_whole = one_line_append (codes "NAME : ") name (one_line (codes "NAME : ") refl) (name_line name is_name.one_line) in
@@ -88,7 +89,7 @@ section_piece before ls = refl
 abbrev answer : List ℕ → ℕ → List ℕ → ProblemIs
 answer name n weights = record { name = name; n = n; weights = Lower weights; routing = None }
 
-module _ (name : List ℕ) (n : ℕ) (f : Format) (low : 2 ≤ n) (high : n ≤ 5000) where
+module _ (name : List ℕ) (n : ℕ) (f : Format) (low : 2 ≤ n) (high : n ≤ TABLE_LIMIT) where
   size_is : size_of (after_5 name n f) ≡ n
   size_is = ap (λ o. unwrap_or o 0) (size_read n low high)
 
@@ -100,7 +101,7 @@ module _ (name : List ℕ) (n : ℕ) (f : Format) (low : 2 ≤ n) (high : n ≤ 
 
   word_passes : first_at 6 (word_tests (after_5 name n f) words.EdgeWeightSection) ≡ None
   word_passes =
-      let few : ltb 5000 n ≡ false = le-ltb _ _ high in
+      let few : ltb TABLE_LIMIT n ≡ false = le-ltb _ _ high in
       let size = size_read n low high in
       rw (format_read f, size, few) refl
 
@@ -133,7 +134,7 @@ module _ (name : List ℕ) (n : ℕ) (f : Format) (low : 2 ≤ n) (high : n ≤ 
 
 -- ---- the text
 
-module _ (name : List ℕ) (n : ℕ) (f : Format) (is_name : IsName name) (low : 2 ≤ n) (high : n ≤ 5000) (ls : List Line) (end : List Piece) where
+module _ (name : List ℕ) (n : ℕ) (f : Format) (is_name : IsName name) (low : 2 ≤ n) (high : n ≤ TABLE_LIMIT) (ls : List Line) (end : List Piece) where
   abbrev line_6 : List Line
   line_6 = whole_line 6 (codes "EDGE_WEIGHT_SECTION") ∷ ls
 
@@ -157,7 +158,7 @@ module _ (name : List ℕ) (n : ℕ) (f : Format) (is_name : IsName name) (low :
       ∙ says-header problem_format (after_3 name n) 3 (codes "EDGE_WEIGHT_TYPE : EXPLICIT") line_5 end words.EdgeWeightType (codes " : EXPLICIT") (weight_type_piece (after_3 name n) line_5) (weight_type_passes n low high name)
       ∙ says-header problem_format (after_4 name n) 4 (codes "EDGE_WEIGHT_FORMAT : " ++ format_word f) line_6 end words.EdgeWeightFormat (format_value f) (format_piece (after_4 name n) f line_6) (format_passes n low high name f)
 
-module _ (name : List ℕ) (n : ℕ) (table : ℕ → ℕ → ℕ) (f : Format) (is_name : IsName name) (is_table : IsTable n table) (low : 2 ≤ n) (high : n ≤ 5000) where
+module _ (name : List ℕ) (n : ℕ) (table : ℕ → ℕ → ℕ) (f : Format) (is_name : IsName name) (is_table : IsTable n table) (low : 2 ≤ n) (high : n ≤ TABLE_LIMIT) where
   abbrev rows : List (List ℕ)
   rows = rows_of n table f
 

@@ -4,10 +4,10 @@ use Rattle.std.specs.Prelude.{codes, flat_map}
 use Rattle.std.specs.List.{AllByRecursion, list_any}
 use Rattle.std.proofs.lemmas.Bool.{lt-leb, ne_eqb}
 use Rattle.std.proofs.lemmas.List.Elements.{All-head, All-tail}
+use Rattle.tk_problem.specs.declared.limits.TheConstants.{TEXT_LIMIT}
 use Rattle.tk_words.specs.declared.fault.TextFault.{TextFault}
 use Rattle.tk_words.specs.declared.keyword.Keyword.{Keyword}
 use Rattle.tk_words.specs.Drive.{Decided}
-use Rattle.tk_words.specs.Texts.{text_limit}
 use Rattle.tk_words.specs.Lex.{LF, Line, Token, is_blank, behind, lines}
 use Rattle.tk_lines.specs.Pieces.{Piece, Header, Section, Clean, Format, cut, decided_by, end_piece, judge, last_line, pieces_at, stop, after_tokens}
 use Rattle.tk_words.specs.Words.{keyword_of, section_word, rest_word}
@@ -102,5 +102,5 @@ module _ {V : Type 0} (f : Format V) where
 
 -- ---- a text within its limit
 
-pub read_within : {V : Type 0} (d : Decided V) (text : List ℕ) (v : V) → length text ≤ text_limit → d true text ≡ Some (Ok v) → IsReadBackAs d text v
-read_within d text v fits said = record { fits = fits; answer = answer_ended d text_limit text (Ok v) fits said }
+pub read_within : {V : Type 0} (d : Decided V) (text : List ℕ) (v : V) → length text ≤ TEXT_LIMIT → d true text ≡ Some (Ok v) → IsReadBackAs d text v
+read_within d text v fits said = record { fits = fits; answer = answer_ended d TEXT_LIMIT text (Ok v) fits said }

@@ -5,6 +5,7 @@ use Rattle.std.specs.Char.{is_ascii_digit}
 use Rattle.std.specs.List.{AllByRecursion, concat}
 use Rattle.std.proofs.lemmas.Bool.{lt-leb, le-leb, le-ltb, ne_eqb}
 use Rattle.std.proofs.lemmas.List.{append-nil, length-append}
+use Rattle.tk_problem.specs.declared.limits.TheConstants.{ENTRY_LIMIT, ROUTE_LIMIT}
 use Rattle.tk_words.specs.Lex.{Line, Token, lines, tokens_of, after_word, is_empty, front, behind}
 use Rattle.tk_words.specs.Entry.{numbers_of}
 use Rattle.tk_writers.specs.Written.{line, spaced_numbers}
@@ -95,14 +96,14 @@ length_on : (n : ℕ) (r : List ℕ) → length (tokens_on n r) ≡ length r
 length_on n [] = refl
 length_on n (x ∷ xs) = ap suc (length_on n xs)
 
-customers_fine : (k n : ℕ) (r : List ℕ) → Small r → k + length r ≤ 1000000 → customers_stop k (tokens_on n r) ≡ None
+customers_fine : (k n : ℕ) (r : List ℕ) → Small r → k + length r ≤ ENTRY_LIMIT → customers_stop k (tokens_on n r) ≡ None
 customers_fine k n [] small few = refl
 customers_fine k n (x ∷ xs) small few =
     let low : IsShort x = omega (arith, small.0) in
     let short : ltb 64 (length (decimal x)) ≡ false = le-ltb _ _ (omega (arith, short_decimal x low)) in
     let a : leb 0 x ≡ true = le-leb _ _ (omega arith) in
     let b : leb x 4294967295 ≡ true = le-leb _ _ small.0 in
-    let c : leb 1000000 k ≡ false = lt-leb _ _ (omega (arith, few)) in
+    let c : leb ENTRY_LIMIT k ≡ false = lt-leb _ _ (omega (arith, few)) in
     rw (short, integer_decimal x low, a, b, c) (customers_fine (suc k) n xs small.1 (omega (arith, few)))
 
 -- ---- the whole text
@@ -113,7 +114,7 @@ unfolding judge_lines
 judged before m n w bs ls here is none = rw (is, none) refl
 
 module _ (c : ℕ) (cheap : IsShort c) where
-  reads : (before : List SolutionLine) (m n k : ℕ) (w : Bool) (rs : List (List ℕ)) → has_cost before ≡ false → length (routes_of before) + length rs ≤ 100000 → count_of before + length (concat rs) ≤ 1000000
+  reads : (before : List SolutionLine) (m n k : ℕ) (w : Bool) (rs : List (List ℕ)) → has_cost before ≡ false → length (routes_of before) + length rs ≤ ROUTE_LIMIT → count_of before + length (concat rs) ≤ ENTRY_LIMIT
       → AllByRecursion Small rs → k + length rs < 10000000 → judge_lines before m w (lines true n (route_lines k rs ++ line (codes "Cost " ++ decimal c))) ≡ Some (Ok (routes_of before ++ rs, pos c))
   unfolding judge_lines
   reads before m n k w [] unpriced few customers small low =
@@ -136,7 +137,7 @@ module _ (c : ℕ) (cheap : IsShort c) where
       let split : lines true n ((line (route_bytes k r) ++ route_lines (k + 1) rs) ++ line (codes "Cost " ++ decimal c)) ≡ whole_line n (route_bytes k r) ∷ lines true (suc n) (route_lines (k + 1) rs ++ line (codes "Cost " ++ decimal c)) =
       ap (lines true n) (append_assoc (line (route_bytes k r)) (route_lines (k + 1) rs) (line (codes "Cost " ++ decimal c))) ∙ lines-written n (route_bytes k r) (route_lines (k + 1) rs ++ line (codes "Cost " ++ decimal c)) (route_one_line k r (omega (arith, low)) small.0) in
       let is = route_written n k r (omega (arith, low)) small.0 in
-      let room : leb 100000 (length (routes_of before)) ≡ false = lt-leb _ _ (omega (arith, few)) in
+      let room : leb ROUTE_LIMIT (length (routes_of before)) ≡ false = lt-leb _ _ (omega (arith, few)) in
       let fine : customers_stop (count_of before) (tokens_on n r) ≡ None = customers_fine (count_of before) n r small.0 (omega (arith, customers, length-append r (concat rs))) in
       let more : routes_of next ≡ routes_of before ++ r ∷ [] = routes_of-append before (here ∷ []) ∙ rw (numbers_read n r small.0) refl in
       let counted : count_of next ≡ count_of before + length r = omega (arith, count_of-append before (here ∷ []), length_on n r) in

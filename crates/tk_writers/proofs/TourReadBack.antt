@@ -4,6 +4,7 @@ use Rattle.std.specs.Prelude.{codes, decimal, flat_map}
 use Rattle.std.specs.List.{AllByRecursion}
 use Rattle.std.proofs.lemmas.Bool.{lt-leb, le-leb, le-ltb}
 use Rattle.std.proofs.lemmas.List.{append-nil, length-append}
+use Rattle.tk_problem.specs.declared.limits.TheConstants.{ENTRY_LIMIT}
 use Rattle.tk_words.specs.declared.keyword.Keyword.TheVariants as words
 use Rattle.tk_words.specs.Lex.{Line, Token, is_blank, behind, integer, lines, tokens, tokens_of, trim}
 use Rattle.tk_writers.specs.MatrixText.{number_line}
@@ -61,7 +62,7 @@ are_entries (t ∷ ts) (x ∷ xs) h =
     let no_eof : is_eof t.bytes ≡ false = ap is_eof_word (integer-no_word t.bytes (pos x) h.0.is) in
     (rw (whole, number) refl, rw (whole, no_eof) refl, are_entries ts xs h.1)
 
-entry_fine : (k x : ℕ) (t : Token) → IsWritten t x → x ≤ 4294967295 → k < 1000000 → entry_stop k t ≡ None
+entry_fine : (k x : ℕ) (t : Token) → IsWritten t x → x ≤ 4294967295 → k < ENTRY_LIMIT → entry_stop k t ≡ None
 unfolding entry_stop
 entry_fine k x t is small few =
     let whole = is.whole in
@@ -70,10 +71,10 @@ entry_fine k x t is small few =
     let no_word : is_keyword t.bytes ≡ false = ap is_some_word (integer-no_word t.bytes (pos x) is.is) in
     let low : leb 0 x ≡ true = le-leb _ _ (omega arith) in
     let high : leb x 4294967295 ≡ true = le-leb _ _ small in
-    let room : leb 1000000 k ≡ false = lt-leb _ _ few in
+    let room : leb ENTRY_LIMIT k ≡ false = lt-leb _ _ few in
     rw (short, whole, no_word, number, low, high, room) refl
 
-entries_fine : (k : ℕ) (ts : List Token) (xs : List ℕ) → AreWritten ts xs → Small xs → k + length xs ≤ 1000000 → entries_stop k ts ≡ None
+entries_fine : (k : ℕ) (ts : List Token) (xs : List ℕ) → AreWritten ts xs → Small xs → k + length xs ≤ ENTRY_LIMIT → entries_stop k ts ≡ None
 unfolding entries_stop
 entries_fine k [] xs h small few = refl
 entries_fine k (t ∷ ts) [] h small few = absurd h
@@ -175,12 +176,12 @@ length_passes name size cheap =
 type_passes : (name : List ℕ) (size : ℕ) → stop tour_format (after_2 name size) (headed words.Type (codes " : TOUR") 3) ≡ None
 type_passes name size = refl
 
-size_passes : (name : List ℕ) (size n : ℕ) → 1 ≤ n → n ≤ 1000000 → stop tour_format (after_3 name size) (headed words.Dimension (size_value n) 4) ≡ None
+size_passes : (name : List ℕ) (size n : ℕ) → 1 ≤ n → n ≤ ENTRY_LIMIT → stop tour_format (after_3 name size) (headed words.Dimension (size_value n) 4) ≡ None
 size_passes name size n low high =
     let short : ltb 4096 (length (size_value n)) ≡ false = le-ltb _ _ (omega (arith, short_decimal n (omega arith))) in
     let number : integer (first_word (size_value n)) ≡ Some (pos n) = ap integer (first_word_run (decimal n) (decimal_run n (omega arith))) ∙ integer_decimal n (omega arith) in
     let above : leb 1 n ≡ true = le-leb _ _ low in
-    let below : leb n 1000000 ≡ true = le-leb _ _ high in
+    let below : leb n ENTRY_LIMIT ≡ true = le-leb _ _ high in
     rw (short, number, above, below) refl
 
 -- ---- the section and the text's end
@@ -200,7 +201,7 @@ tokens-ends : (e : ℕ) → tokens (ends e) ≡ minus e ∷ token (codes "EOF") 
 unfolding tokens_of
 tokens-ends e = refl
 
-module _ (toks : List Token) (xs : List ℕ) (written : AreWritten toks xs) (small : Small xs) (few : length xs ≤ 1000000) (e : ℕ) where
+module _ (toks : List Token) (xs : List ℕ) (written : AreWritten toks xs) (small : Small xs) (few : length xs ≤ ENTRY_LIMIT) (e : ℕ) where
   abbrev all : List Token
   all = toks ++ minus e ∷ []
 

@@ -1,9 +1,10 @@
 -- What a matrix text, a solution text and a tour text say to a reader.
 use Rattle.std.specs.Prelude.{◌≡◌, ◌≢◌, ℕ, ◌-◌, ◌*◌, ◌^◌, ◌<◌, ◌≤◌, List, length, map, flat_map, None, Ok, pos}
 use Rattle.std.specs.List.{range_with_len, concat, AllByRecursion}
+use Rattle.tk_problem.specs.declared.limits.TheConstants.{DISTANCE_LIMIT, ENTRY_LIMIT, ROUTE_LIMIT, TEXT_LIMIT}
 use Rattle.tk_problem.specs.declared.weights.Format.{Format}
 use Rattle.tk_words.specs.Drive.{Decided}
-use Rattle.tk_words.specs.Texts.{answer_of, text_limit}
+use Rattle.tk_words.specs.Texts.{answer_of}
 use Rattle.tk_writers.specs.MatrixText.{matrix_text}
 use Rattle.tk_lists.specs.Solution.{solution_decided}
 use Rattle.tk_writers.specs.SolutionWritten.{solution_text}
@@ -14,13 +15,13 @@ use Rattle.tk_problem_text.specs.Names.{IsName}
 
 -- a text that keeps the limit of texts, and whose answer is this value
 pub record IsReadBackAs {V : Type 0} (decided : Decided V) (text : List ℕ) (value : V) : Type 0 where
-  pub fits : length text ≤ text_limit
-  pub answer : answer_of decided text_limit text ≡ Ok value
+  pub fits : length text ≤ TEXT_LIMIT
+  pub answer : answer_of decided TEXT_LIMIT text ≡ Ok value
 
 -- a table of weights as a problem can have them
 pub record IsTable (n : ℕ) (table : ℕ → ℕ → ℕ) : Type 0 where
   pub symmetric : (a b : ℕ) → 1 ≤ a → a ≤ n → 1 ≤ b → b ≤ n → table a b ≡ table b a
-  pub weights : (a b : ℕ) → 1 ≤ a → a ≤ n → 1 ≤ b → b ≤ n → a ≢ b → table a b ≤ 4000000000
+  pub weights : (a b : ℕ) → 1 ≤ a → a ≤ n → 1 ≤ b → b ≤ n → a ≢ b → table a b ≤ DISTANCE_LIMIT
   pub diagonal : (a : ℕ) → 1 ≤ a → a ≤ n → table a a < 10 ^ 18
 
 -- the table below its diagonal, row by row
@@ -35,8 +36,8 @@ ReadsBack name n table f =
 
 -- routes and a cost as a solution text can have them
 pub record IsSolution (routes : List (List ℕ)) (cost : ℕ) : Type 0 where
-  pub few : length routes ≤ 100000
-  pub customers : length (concat routes) ≤ 1000000
+  pub few : length routes ≤ ROUTE_LIMIT
+  pub customers : length (concat routes) ≤ ENTRY_LIMIT
   pub small : AllByRecursion (AllByRecursion (λ customer. customer ≤ 4294967295)) routes
   pub cheap : cost < 10 ^ 18
 
@@ -51,7 +52,7 @@ pub record IsTour (name : List ℕ) (size : ℕ) (cities : List ℕ) : Type 0 wh
   pub room : length name ≤ 1000
   pub cheap : size ≤ 4 * 10 ^ 14
   pub some : 1 ≤ length cities
-  pub few : length cities ≤ 1000000
+  pub few : length cities ≤ ENTRY_LIMIT
   pub small : AllByRecursion (λ city. city ≤ 4294967295) cities
 
 -- the text is read as these cities

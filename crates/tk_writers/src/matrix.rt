@@ -1,6 +1,7 @@
 //! Writes a table of distances as explicit weights.
 ghost use Rattle.std.specs.Prelude.{◌≡◌, ◌≢◌, IfSome, ℕ, ◌+◌, ◌-◌, ◌≤◌, ◌<◌, ◌++◌, true, length, decimal, codes, pos, IsTrue, OnErr, flat_map};
 ghost use Rattle.std.specs.List.{range_with_len};
+ghost use Rattle.tk_problem.specs.declared.limits.TheConstants.{TABLE_LIMIT};
 ghost use Rattle.tk_problem.specs.declared.weights.Format.{Format};
 ghost use Rattle.tk_writers.specs.FormatLines.{by_columns, on_line, place};
 ghost use Rattle.tk_writers.specs.MatrixText.{format_word, Gives, matrix_head, matrix_line, matrix_text};
@@ -62,7 +63,7 @@ fn is_by_columns(f: Format) -> bool
 /// The places of row or column k that a format has: from the first on, up to but not with the second.
 fn places_on_line(n: u32, f: Format, k: u32) -> (u32, u32)
     requires city { (1 ≤ k) × (k ≤ n) }
-    requires few { n ≤ 5000 }
+    requires few { n ≤ TABLE_LIMIT }
     ensures places { on_line n f k ≡ range_with_len result.0 (result.1 - result.0) }
     ensures order { result.0 ≤ result.1 }
     ensures cities { (1 ≤ result.0) × (result.1 ≤ n + 1) }
@@ -103,7 +104,7 @@ fn put_head<W: Sink>(pen: &mut Pen<'_, W>, name: &[u8], n: u32, f: Format)
 
 /// Writes row or column k.
 fn put_line<W: Sink, D: Fn(u32, u32) -> i64>(pen: &mut Pen<'_, W>, n: u32, d: &D, f: Format, k: u32)
-    requires few { n ≤ 5000 }
+    requires few { n ≤ TABLE_LIMIT }
     requires k { (1 ≤ k) × (k ≤ n) }
     requires table { (table : ℕ → ℕ → ℕ) × Gives (D.pre d.now) (D.post d.now) n table }
     ensures same { pen.new.sink.ghost_name ≡ pen.old.sink.ghost_name }
@@ -130,7 +131,7 @@ fn put_matrix<W: Sink, D: Fn(u32, u32) -> i64>(
     d: &D,
     f: Format,
 )
-    requires few { n ≤ 5000 }
+    requires few { n ≤ TABLE_LIMIT }
     requires table { (table : ℕ → ℕ → ℕ) × Gives (D.pre d.now) (D.post d.now) n table }
     ensures same { pen.new.sink.ghost_name ≡ pen.old.sink.ghost_name }
     ensures puts { (table : ℕ → ℕ → ℕ) → Gives (D.pre d.now) (D.post d.now) n table
@@ -155,7 +156,7 @@ pub fn write_matrix<W: Sink, D: Fn(u32, u32) -> i64>(
     d: &D,
     f: Format,
 ) -> Result<(), WriteFault>
-    requires few { n ≤ 5000 }
+    requires few { n ≤ TABLE_LIMIT }
     requires table { (table : ℕ → ℕ → ℕ) × Gives (D.pre d.now) (D.post d.now) n table }
     ensures text { (table : ℕ → ℕ → ℕ) → Gives (D.pre d.now) (D.post d.now) n table
         → Writes W.taken W.broken w.old w.new result (matrix_text name.now n table f) }

@@ -2,6 +2,7 @@
 ghost use Rattle.std.specs.Prelude.{◌≡◌, ◌≤◌, length, true, pos, ◌≤ℤ◌, map, OnErr};
 ghost use Rattle.std.specs.List.{concat};
 ghost use Rattle.std.specs.Int.RustNames.{unsigned_abs};
+ghost use Rattle.tk_problem.specs.declared.limits.TheConstants.{ENTRY_LIMIT, ROUTE_LIMIT};
 ghost use Rattle.tk_writers.specs.Pens.{Puts};
 ghost use Rattle.tk_writers.specs.Puts.{Writes};
 ghost use Rattle.tk_writers.specs.ReadBack.{IsSolution, SolutionReadsBack};
@@ -51,7 +52,7 @@ pub fn write_solution<W: Sink>(w: &mut W, routes: &[Vec<u32>], cost: i64) -> Res
         (λ r. r.items) routes.now) (unsigned_abs cost)) }
     ensures read_back { IsSolution (map (λ r. r.items) routes.now) (unsigned_abs cost)
         → SolutionReadsBack (map (λ r. r.items) routes.now) (unsigned_abs cost) }
-    ensures failed { length routes.now ≤ 100000 → length (concat (map (λ r. r.items) routes.now)) ≤ 1000000
+    ensures failed { length routes.now ≤ ROUTE_LIMIT → length (concat (map (λ r. r.items) routes.now)) ≤ ENTRY_LIMIT
         → OnErr result (W.broken w.new ≡ true) }
 {
     let mut pen = Pen::new(w);

@@ -1,6 +1,7 @@
 //! Writes tours.
 ghost use Rattle.std.specs.Prelude.{◌≡◌, ◌≤◌, length as count, true, pos, ◌≤ℤ◌, decimal, flat_map, OnErr};
 ghost use Rattle.std.specs.Int.RustNames.{unsigned_abs};
+ghost use Rattle.tk_problem.specs.declared.limits.TheConstants.{ENTRY_LIMIT};
 ghost use Rattle.tk_writers.specs.Pens.{Puts};
 ghost use Rattle.tk_writers.specs.Puts.{Writes};
 ghost use Rattle.tk_writers.specs.ReadBack.{IsTour, TourReadsBack};
@@ -59,7 +60,7 @@ pub fn write_tour<W: Sink>(
     ensures text { Writes W.taken W.broken w.old w.new result (tour_text name.now (unsigned_abs length) cities.now) }
     ensures read_back { IsTour name.now (unsigned_abs length) cities.now
         → TourReadsBack name.now (unsigned_abs length) cities.now }
-    ensures failed { count name.now ≤ 1024 → count cities.now ≤ 1000000 → OnErr result (W.broken w.new ≡ true) }
+    ensures failed { count name.now ≤ 1024 → count cities.now ≤ ENTRY_LIMIT → OnErr result (W.broken w.new ≡ true) }
 {
     let mut pen = Pen::new(w);
     put_tour(&mut pen, name, length.unsigned_abs(), cities);

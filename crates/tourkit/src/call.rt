@@ -6,8 +6,8 @@ use crate::commands::matrix::matrix_command;
 use crate::commands::near::near_command;
 use crate::commands::plot::plot_command;
 use crate::commands::solve::solve_command;
-use crate::words::words_of_call;
 use crate::report;
+use crate::words::words_of_call;
 use std::process::ExitCode;
 use tk_command_line::{Asked, parse};
 

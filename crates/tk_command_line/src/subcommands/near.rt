@@ -6,6 +6,7 @@ use crate::list_length::ListLength;
 use clap::builder::ValueParser;
 use clap::{Arg, ArgMatches, Command, Error};
 use std::alloc::Global;
+use tk_problem::CANDIDATE_LIMIT;
 
 /// What `near --help` ends with.
 const HELP: &str = "Reads PROBLEM.
@@ -28,7 +29,7 @@ pub fn command<'a>(alloc: Global) -> Result<Command<'a>, Error> {
         .short('k')
         .value_name("N")
         .help("how many cities a list has, 1 to 100")
-        .value_parser(ValueParser::Unsigned(1, 100))
+        .value_parser(ValueParser::Unsigned(1, CANDIDATE_LIMIT as u64))
         .default_value("5");
     subcommand(
         alloc,

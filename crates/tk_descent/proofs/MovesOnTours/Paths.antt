@@ -1,5 +1,6 @@
 -- Paths, as lists whose first and last city compute.
 use Rattle.std.proofs.Common.{◌≡◌, ◌≤◌, ℕ, ◌↔◌, true, List, [], ◌∷◌, length}
+use Rattle.tk_problem.specs.declared.limits.TheConstants.{DISTANCE_LIMIT}
 use Rattle.tk_distance.specs.Cities.{IsCity}
 use Rattle.tk_descent.specs.Awake.{holds, IsDistinct}
 
@@ -20,4 +21,4 @@ pub record IsRound (C : List ℕ) : Type 0 where
 
 -- distances: symmetric, with a zero diagonal, at most 4,000,000,000
 abbrev pub IsTable : (ℕ → ℕ → ℕ) → Type 0
-IsTable dist = ((a b : ℕ) → dist a b ≡ dist b a) × ((a : ℕ) → dist a a ≡ 0) × ((a b : ℕ) → dist a b ≤ 4000000000)
+IsTable dist = ((a b : ℕ) → dist a b ≡ dist b a) × ((a : ℕ) → dist a a ≡ 0) × ((a b : ℕ) → dist a b ≤ DISTANCE_LIMIT)

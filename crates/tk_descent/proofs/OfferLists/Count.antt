@@ -8,6 +8,7 @@ use Rattle.tk_descent.specs.Awake.{woken, woken_each, holds}
 use Rattle.tk_descent.specs.declared.offer.Offer.{Offer}
 use Rattle.tk_descent.specs.declared.offer.Offer.TheVariants.{Two, Or}
 use Rattle.std.proofs.Math.Nat.{mul-le-mul_left}
+use Rattle.tk_problem.specs.declared.limits.TheConstants.{DISTANCE_LIMIT}
 use Rattle.tk_descent.specs.declared.offer.Segment.{Segment}
 use Rattle.tk_descent.specs.declared.offer.Found.{Found}
 
@@ -80,11 +81,11 @@ tested_part d C near m x i t u k r l e h = tested d C (take i near) m x t u k r 
 pub gain_after : (L L2 a r : ℕ) → L + a ≡ L2 + r → pos L -ℤ (pos r -ℤ pos a) ≡ pos L2
 gain_after L L2 a r h = omega (arith, ints)
 
-walk-le : (d : ℕ → ℕ → ℕ) → ((a b : ℕ) → d a b ≤ 4000000000) → (a : ℕ) (xs : List ℕ) → walk d a xs ≤ 4000000000 * length xs
+walk-le : (d : ℕ → ℕ → ℕ) → ((a b : ℕ) → d a b ≤ DISTANCE_LIMIT) → (a : ℕ) (xs : List ℕ) → walk d a xs ≤ DISTANCE_LIMIT * length xs
 walk-le d h a [] = omega arith
 walk-le d h a (b ∷ xs) = omega (arith, h a b, walk-le d h b xs)
 
-pub tour_length-le : (d : ℕ → ℕ → ℕ) → ((a b : ℕ) → d a b ≤ 4000000000) → (C : List ℕ) → tour_length d C ≤ 4000000000 * length C
+pub tour_length-le : (d : ℕ → ℕ → ℕ) → ((a b : ℕ) → d a b ≤ DISTANCE_LIMIT) → (C : List ℕ) → tour_length d C ≤ DISTANCE_LIMIT * length C
 tour_length-le d h [] = omega arith
 tour_length-le d h (a ∷ C) = omega (arith, walk-le d h a (C ++ a ∷ []), length-append C (a ∷ []))
 

@@ -2,6 +2,7 @@
 use Rattle.std.proofs.Common.{◌≡◌, ℕ, ◌+◌, ◌-◌, ◌*◌, ◌<◌, ◌≤◌, List, ◌∷◌, length, Option, Some, None, sym, ◌∙◌, ap, arith, subst, ℤ, pos, ◌-ℤ◌, FitsSigned, w64, to_z, of_z}
 use Rattle.std.proofs.Math.Nat.{mul-le-mul}
 use Rattle.std.proofs.lemmas.Int.{ints, to_z-of_z}
+use Rattle.tk_problem.specs.declared.limits.TheConstants.{CANDIDATE_LIMIT, CITY_LIMIT}
 use Rattle.tk_descent.proofs.MovesOnTours.Paths.{IsTable}
 use Rattle.tk_tour.specs.Counters.{saturated}
 use Rattle.tk_tour.specs.Tour.{tour_length}
@@ -35,7 +36,7 @@ count_look d e os r before t u tests same h counted = omega (arith, (at_table d 
 pub queue_left : (U V Z : List ℕ) (x : ℕ) (o : Offer) → U ≡ x ∷ V → Z ≡ woken_each V (ends o) → length Z + 1 ≤ length U + 6
 queue_left U V Z x o front woken = omega (arith, ap length front, ap length woken, woken_each-le (ends o) V, ends-le o)
 
-pub fits_length : (d : ℕ → ℕ → ℕ) (C : List ℕ) → IsTable d → length C ≤ 100000 → tour_length d C ≤ 400000000000000
+pub fits_length : (d : ℕ → ℕ → ℕ) (C : List ℕ) → IsTable d → length C ≤ CITY_LIMIT → tour_length d C ≤ 400000000000000
 fits_length d C is few = omega (arith, tour_length-le d is.2 C)
 
 removed-le : (d : ℕ → ℕ → ℕ) (o : Offer) → IsTable d → (removed d o ≤ 12000000000) × (added d o ≤ 12000000000)
@@ -73,7 +74,7 @@ pub less_move : (d e : ℕ → ℕ → ℕ) (os : List Offer) (f : Found) (t u m
 less_move d e os f t u m C D is same h made = omega (arith, gain_law d is.0 C D m f.offer made, found_improves d os f.offer (sym (at_table d e os (Some f) t u same h).found))
 
 -- a descent has fewer than 3 * 10^18 tests
-pub few_tests : (m k n moves tests L : ℕ) → m ≤ 3 → k ≤ 100 → n ≤ 100000 → moves ≤ L → L ≤ 400000000000000 → tests ≤ 4 * m * k * (n + 6 * moves) → tests < 18446744073709551615
+pub few_tests : (m k n moves tests L : ℕ) → m ≤ 3 → k ≤ CANDIDATE_LIMIT → n ≤ CITY_LIMIT → moves ≤ L → L ≤ 400000000000000 → tests ≤ 4 * m * k * (n + 6 * moves) → tests < 18446744073709551615
 few_tests m k n moves tests L h j l f e b =
     let p : m * k ≤ 300 = mul-le-mul h j in
     let few : n + 6 * moves ≤ 2400000000100000 = omega arith in

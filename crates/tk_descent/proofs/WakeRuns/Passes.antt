@@ -1,6 +1,7 @@
 -- Several passes.
 use Rattle.std.proofs.Common.{◌≡◌, ℕ, ◌+◌, ◌-◌, ◌*◌, ◌≤◌, List, [], length, refl, sym, ◌∙◌, ap, arith, subst, ℤ, pos, FitsSigned, w64, to_z, of_z}
 use Rattle.std.proofs.lemmas.Int.{to_z-of_z}
+use Rattle.tk_problem.specs.declared.limits.TheConstants.{CITY_LIMIT}
 use Rattle.tk_tour.specs.Counters.{saturated}
 use Rattle.tk_tour.specs.Tour.{tour_length}
 use Rattle.tk_descent.proofs.MovesOnTours.Paths.{IsRound, IsTable}
@@ -22,7 +23,7 @@ pub pass_optimum : (d : ℕ → ℕ → ℕ) (near : ℕ → List ℕ) (m : ℕ)
 pass_optimum d near m C D looks moves tests is small tour r z =
     still_optimum d near m C (one_to (length C)) D looks moves tests is small tour.distinct (λ c h. let k = (tour.members c).0 h in one_to-holds (length C) c k.0 k.1) r z
 
-pub after_bits : (d e : ℕ → ℕ → ℕ) (C : List ℕ) (z : ℤ) → IsTable d → e ≡ d → length C ≤ 100000 → z ≡ pos (tour_length e C) → to_z w64 (of_z w64 z) ≡ pos (tour_length d C)
+pub after_bits : (d e : ℕ → ℕ → ℕ) (C : List ℕ) (z : ℤ) → IsTable d → e ≡ d → length C ≤ CITY_LIMIT → z ≡ pos (tour_length e C) → to_z w64 (of_z w64 z) ≡ pos (tour_length d C)
 after_bits d e C z is same few h =
     let k : z ≡ pos (tour_length d C) = h ∙ ap (λ y. pos (tour_length y C)) same in
     to_z-of_z w64 z (subst (λ y. FitsSigned w64 y) (sym k) (length_fits (tour_length d C) (fits_length d C is few))) ∙ k

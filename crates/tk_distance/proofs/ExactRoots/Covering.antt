@@ -2,12 +2,13 @@
 use Rattle.std.proofs.Common.{◌≡◌, ℕ, ◌+◌, ◌-◌, ◌*◌, ◌<◌, ◌≤◌, subst, inl, inr, arith}
 use Rattle.std.proofs.lemmas.Bool.{cases_lt}
 use Rattle.std.proofs.lemmas.Nat.{mul-le}
+use Rattle.tk_problem.specs.Places.{scale}
 use Rattle.tk_distance.specs.Distance.{IsLeast, Covers, square_sum}
 use Rattle.tk_distance.specs.Roots.{IsRootUp}
 
 -- d is the least where it covers the square and one less does not, or is 0
-pub least_between : (parts square d : ℕ) → square ≤ parts * (d * 1000000000 * (d * 1000000000))
-    → (1 ≤ d → parts * ((d - 1) * 1000000000 * ((d - 1) * 1000000000)) < square) → IsLeast (Covers parts square) d
+pub least_between : (parts square d : ℕ) → square ≤ parts * (d * scale * (d * scale))
+    → (1 ≤ d → parts * ((d - 1) * scale * ((d - 1) * scale)) < square) → IsLeast (Covers parts square) d
 least_between parts square d reach low = record {
   holds = omega arith;
   least = λ e h. elim (cases_lt e d) [
@@ -22,18 +23,18 @@ least_between parts square d reach low = record {
 
 -- the least from the root of a quotient, both rounded up
 pub least_from_root : (parts square q r d : ℕ) → square ≤ q * parts → q * parts < square + parts → IsRootUp q r
-    → r ≤ d * 1000000000 → d * 1000000000 < r + 1000000000 → IsLeast (Covers parts square) d
+    → r ≤ d * scale → d * scale < r + scale → IsLeast (Covers parts square) d
 least_from_root parts square q r d enough near root above below = record {
   holds =
-      let a = mul-le r r (d * 1000000000) (d * 1000000000) above above in
-      let b = mul-le q parts (d * 1000000000 * (d * 1000000000)) parts (let g = root.reaches in omega (arith, a, g)) (omega arith) in
+      let a = mul-le r r (d * scale) (d * scale) above above in
+      let b = mul-le q parts (d * scale * (d * scale)) parts (let g = root.reaches in omega (arith, a, g)) (omega arith) in
       omega (arith, b);
   least = λ e h.
-      let fits : q ≤ e * 1000000000 * (e * 1000000000) = elim (cases_lt (e * 1000000000 * (e * 1000000000)) q) [
-        | inl lt ↦ let more = mul-le (e * 1000000000 * (e * 1000000000) + 1) parts q parts (omega arith) (omega arith) in absurd (omega (arith, more, h))
+      let fits : q ≤ e * scale * (e * scale) = elim (cases_lt (e * scale * (e * scale)) q) [
+        | inl lt ↦ let more = mul-le (e * scale * (e * scale) + 1) parts q parts (omega arith) (omega arith) in absurd (omega (arith, more, h))
         | inr le ↦ le
       ] in
-      let r_le : r ≤ e * 1000000000 = root.least (e * 1000000000) fits in
+      let r_le : r ≤ e * scale = root.least (e * scale) fits in
       omega arith;
 }
 
@@ -48,7 +49,7 @@ too_small n e k d is low reach le =
     omega (arith, at, more)
 
 -- the same of a whole square
-pub least_whole : (n d : ℕ) → n ≤ d * d → (1 ≤ d → d * d + 1 < n + 2 * d) → IsLeast (Covers 1 (n * (1000000000 * 1000000000))) d
+pub least_whole : (n d : ℕ) → n ≤ d * d → (1 ≤ d → d * d + 1 < n + 2 * d) → IsLeast (Covers 1 (n * (scale * scale))) d
 least_whole n d reach low = record {
   holds = omega arith;
   least = λ e h. elim (cases_lt e d) [
@@ -59,7 +60,7 @@ least_whole n d reach low = record {
 
 -- ---- along an axis
 
-pub least_along : (x d : ℕ) → x ≤ d * 1000000000 → d * 1000000000 < x + 1000000000 → IsLeast (Covers 1 (square_sum x 0)) d
+pub least_along : (x d : ℕ) → x ≤ d * scale → d * scale < x + scale → IsLeast (Covers 1 (square_sum x 0)) d
 least_along x d reach low = least_between 1 (square_sum x 0) d
-    (let more = mul-le x x (d * 1000000000) (d * 1000000000) reach reach in omega (arith, more))
-    (λ some. let more = mul-le ((d - 1) * 1000000000 + 1) ((d - 1) * 1000000000 + 1) x x (omega arith) (omega arith) in omega (arith, more))
+    (let more = mul-le x x (d * scale) (d * scale) reach reach in omega (arith, more))
+    (λ some. let more = mul-le ((d - 1) * scale + 1) ((d - 1) * scale + 1) x x (omega arith) (omega arith) in omega (arith, more))

@@ -4,9 +4,11 @@ use Rattle.std.proofs.lemmas.Bool.{leb-true, le-leb, cases_lt}
 use Rattle.std.specs.Bool.{Decides}
 use Rattle.std.specs.Prelude.{nat_le}
 use Rattle.std.proofs.lemmas.Nat.{mul-le}
+use Rattle.tk_problem.specs.Places.{scale}
+use Rattle.tk_problem.specs.declared.limits.TheConstants.{DISTANCE_LIMIT}
 use Rattle.tk_problem.specs.declared.weights.PlaneKind.{PlaneKind}
 use Rattle.tk_problem.specs.declared.weights.PlaneKind.TheVariants.{Euc2d, Ceil2d, Man2d, Max2d, Att}
-use Rattle.tk_distance.specs.Distance.{IsGreatest, IsLeast, Reaches, RootReaches, Covers, IsDistance, square_sum}
+use Rattle.tk_distance.specs.Distance.{IsGreatest, IsLeast, Reaches, RootReaches, Covers, IsDistance, square_sum, reach}
 use Rattle.tk_distance.specs.PlaneDistance.{rounded_length, rounded_root, covering_root, distance_at}
 use Rattle.tk_distance.specs.Searching.{last_passing-is, first_passing-is, greatest-unique}
 
@@ -29,9 +31,9 @@ square-above : (d : ℕ) → d ≤ d * d
 square-above zero = omega arith
 square-above (suc d) = let more = mul-le 1 (suc d) (suc d) (suc d) (omega arith) (omega arith) in omega (arith, more)
 
-covers_by : (parts d s : ℕ) → 1 ≤ parts → d ≤ s → d ≤ parts * (s * (1000000000 * 1000000000))
-covers_by parts d s some le = let more = mul-le 1 (s * (1000000000 * 1000000000)) parts
-    (s * (1000000000 * 1000000000)) some (omega arith) in omega (arith, more)
+covers_by : (parts d s : ℕ) → 1 ≤ parts → d ≤ s → d ≤ parts * (s * (scale * scale))
+covers_by parts d s some le = let more = mul-le 1 (s * (scale * scale)) parts
+    (s * (scale * scale)) some (omega arith) in omega (arith, more)
 
 covers_itself : (parts d : ℕ) → 1 ≤ parts → Covers parts d d
 covers_itself parts d some = covers_by parts d (d * d) some (square-above d)
@@ -133,16 +135,16 @@ distance_at-nothing kind = sym (distance-unique kind 0 0 0 (nothing kind))
 
 -- ---- no distance is over 4·10^9
 
-square_sum-far : (dx dy : ℕ) → dx ≤ 2000000000000000000 → dy ≤ 2000000000000000000 →
+square_sum-far : (dx dy : ℕ) → dx ≤ reach → dy ≤ reach →
     square_sum dx dy ≤ 8000000000000000000000000000000000000
 square_sum-far dx dy x y =
-    let a = mul-le dx dx 2000000000000000000 2000000000000000000 x x in
-    let b = mul-le dy dy 2000000000000000000 2000000000000000000 y y in
+    let a = mul-le dx dx reach reach x x in
+    let b = mul-le dy dy reach reach y y in
     omega (arith, a, b)
 
 rounded_root-far : (square d : ℕ) → square ≤ 8000000000000000000000000000000000000 → IsGreatest (RootReaches square) d →
-    d ≤ 4000000000
-rounded_root-far square d near is = elim (cases_lt 4000000000 d) [
+    d ≤ DISTANCE_LIMIT
+rounded_root-far square d near is = elim (cases_lt DISTANCE_LIMIT d) [
   | inl lt ↦
       let big = mul-le 8000000000 8000000000 (2 * d - 1) (2 * d - 1) (omega arith) (omega arith) in
       let r : RootReaches square d = is.holds (omega arith) in
@@ -150,20 +152,20 @@ rounded_root-far square d near is = elim (cases_lt 4000000000 d) [
   | inr le ↦ le
 ]
 
-below_sum : (length d : ℕ) → length ≤ 4000000000000000000 → IsGreatest (Reaches length) d → d ≤ 4000000000
-below_sum length d near is = elim (cases_lt 4000000000 d) [
+below_sum : (length d : ℕ) → length ≤ 4000000000000000000 → IsGreatest (Reaches length) d → d ≤ DISTANCE_LIMIT
+below_sum length d near is = elim (cases_lt DISTANCE_LIMIT d) [
   | inl lt ↦ let r : Reaches length d = is.holds (omega arith) in absurd (omega (arith, r))
   | inr le ↦ le
 ]
 
-pub limit : (kind : PlaneKind) (dx dy d : ℕ) → dx ≤ 2000000000000000000 → dy ≤ 2000000000000000000 →
-    IsDistance kind dx dy d → d ≤ 4000000000
+pub limit : (kind : PlaneKind) (dx dy d : ℕ) → dx ≤ reach → dy ≤ reach →
+    IsDistance kind dx dy d → d ≤ DISTANCE_LIMIT
 limit Euc2d dx dy d x y is = rounded_root-far (square_sum dx dy) d (square_sum-far dx dy x y) is
-limit Ceil2d dx dy d x y is = is.least 4000000000 (omega (arith, square_sum-far dx dy x y))
+limit Ceil2d dx dy d x y is = is.least DISTANCE_LIMIT (omega (arith, square_sum-far dx dy x y))
 limit Man2d dx dy d x y is = below_sum (dx + dy) d (omega arith) is
 limit Max2d dx dy d x y is = below_sum (max dx dy) d (omega arith) is
-limit Att dx dy d x y is = is.least 4000000000 (omega (arith, square_sum-far dx dy x y))
+limit Att dx dy d x y is = is.least DISTANCE_LIMIT (omega (arith, square_sum-far dx dy x y))
 
-pub distance_at-limit : (kind : PlaneKind) (dx dy : ℕ) → dx ≤ 2000000000000000000 → dy ≤ 2000000000000000000 →
-    distance_at kind dx dy ≤ 4000000000
+pub distance_at-limit : (kind : PlaneKind) (dx dy : ℕ) → dx ≤ reach → dy ≤ reach →
+    distance_at kind dx dy ≤ DISTANCE_LIMIT
 distance_at-limit kind dx dy x y = limit kind dx dy _ x y (distance_at-is kind dx dy)

@@ -1,14 +1,16 @@
 -- The laws of distances in the plane.
-use Rattle.std.proofs.Common.{◌≡◌, ℕ, ℤ, ◌-◌, ◌≤◌, List, All, length, pos, ◌*ℤ◌, ◌*◌, ap, ◌∙◌, arith, sym, subst, inl, inr}
+use Rattle.std.proofs.Common.{◌≡◌, ℕ, ℤ, ◌-◌, ◌≤◌, List, All, length, ◌*ℤ◌, ◌*◌, ap, ◌∙◌, arith, sym, subst, inl, inr}
 use Rattle.std.proofs.lemmas.Bool.{cases_lt}
 use Rattle.std.proofs.lemmas.Int.{ints, unsigned_abs-mul}
 use Rattle.std.proofs.lemmas.List.{get_or_past}
 use Rattle.std.specs.Int.RustNames.{unsigned_abs}
+use Rattle.tk_problem.specs.declared.point.TheConstants.{SCALE}
+use Rattle.tk_problem.specs.declared.limits.TheConstants.{DISTANCE_LIMIT}
 use Rattle.tk_problem.specs.declared.point.Point.{Point}
 use Rattle.tk_problem.specs.declared.weights.PlaneKind.{PlaneKind}
 use Rattle.tk_problem.specs.declared.point.WholePoint.{WholePoint}
-use Rattle.tk_problem.specs.Places.{IsNearOrigin, origin, place_of_whole}
-use Rattle.tk_distance.specs.Distance.{gap, IsDistance, IsDistanceOf}
+use Rattle.tk_problem.specs.Places.{IsNearOrigin, origin, place_of_whole, scale, greatest_coordinate}
+use Rattle.tk_distance.specs.Distance.{gap, IsDistance, IsDistanceOf, reach}
 use Rattle.tk_distance.specs.PlaneDistance.{distance_at, distance_of}
 use Rattle.tk_distance.specs.PlaneOf.{city_place, city_distance}
 use Rattle.tk_distance.specs.Laws.Distances.{limit, distance-unique, distance_at-limit, distance_at-nothing, distance_at-rises, distance_at-swap}
@@ -19,12 +21,12 @@ gap-swap x y = omega (arith, ints)
 gap-same : (x : ℤ) → gap x x ≡ 0
 gap-same x = omega (arith, ints)
 
-gap-limit : (x y : ℤ) → unsigned_abs x ≤ 1000000000000000000 → unsigned_abs y ≤ 1000000000000000000 →
-    gap x y ≤ 2000000000000000000
+gap-limit : (x y : ℤ) → unsigned_abs x ≤ greatest_coordinate → unsigned_abs y ≤ greatest_coordinate →
+    gap x y ≤ reach
 gap-limit x y a b = omega (arith, ints)
 
 -- whole numbers in units of 10^-9
-pub gap-scaled : (x y : ℤ) → gap (x *ℤ pos 1000000000) (y *ℤ pos 1000000000) ≡ gap x y * 1000000000
+pub gap-scaled : (x y : ℤ) → gap (x *ℤ SCALE) (y *ℤ SCALE) ≡ gap x y * scale
 gap-scaled x y = omega (arith, ints)
 
 pub distance_of-swap : (kind : PlaneKind) (p q : Point) → distance_of kind p q ≡ distance_of kind q p
@@ -43,51 +45,51 @@ city_place-near places near c = elim (cases_lt (c - 1) (length places)) [
 ]
 
 pub city_gap-limit : (places : List Point) → All IsNearOrigin places → (a b : ℕ) →
-    gap (city_place places a).x (city_place places b).x ≤ 2000000000000000000
+    gap (city_place places a).x (city_place places b).x ≤ reach
 city_gap-limit places near a b =
     let p = city_place-near places near a in
     let q = city_place-near places near b in
     gap-limit (city_place places a).x (city_place places b).x p.x q.x
 
 pub city_gap_y-limit : (places : List Point) → All IsNearOrigin places → (a b : ℕ) →
-    gap (city_place places a).y (city_place places b).y ≤ 2000000000000000000
+    gap (city_place places a).y (city_place places b).y ≤ reach
 city_gap_y-limit places near a b =
     let p = city_place-near places near a in
     let q = city_place-near places near b in
     gap-limit (city_place places a).y (city_place places b).y p.y q.y
 
 distance_of-limit : (kind : PlaneKind) (p q : Point) → IsNearOrigin p → IsNearOrigin q →
-    distance_of kind p q ≤ 4000000000
+    distance_of kind p q ≤ DISTANCE_LIMIT
 distance_of-limit kind p q a b =
     distance_at-limit kind (gap p.x q.x) (gap p.y q.y) (gap-limit p.x q.x a.x b.x) (gap-limit p.y q.y a.y b.y)
 
 -- places of whole coordinates, by how far these are apart
 pub whole_places : (kind : PlaneKind) (p q : WholePoint) (dx dy d : ℕ) → dx ≡ gap p.x q.x → dy ≡ gap p.y q.y
-    → IsDistance kind (dx * 1000000000) (dy * 1000000000) d → IsDistanceOf kind (place_of_whole p) (place_of_whole q) d
+    → IsDistance kind (dx * scale) (dy * scale) d → IsDistanceOf kind (place_of_whole p) (place_of_whole q) d
 whole_places kind p q dx dy d x y is =
-    let ex : gap (p.x *ℤ pos 1000000000) (q.x *ℤ pos 1000000000) ≡ dx * 1000000000 = gap-scaled p.x q.x
-    ∙ ap (λ g. g * 1000000000) (sym x) in
-    let ey : gap (p.y *ℤ pos 1000000000) (q.y *ℤ pos 1000000000) ≡ dy * 1000000000 = gap-scaled p.y q.y
-    ∙ ap (λ g. g * 1000000000) (sym y) in
+    let ex : gap (p.x *ℤ SCALE) (q.x *ℤ SCALE) ≡ dx * scale = gap-scaled p.x q.x
+    ∙ ap (λ g. g * scale) (sym x) in
+    let ey : gap (p.y *ℤ SCALE) (q.y *ℤ SCALE) ≡ dy * scale = gap-scaled p.y q.y
+    ∙ ap (λ g. g * scale) (sym y) in
     subst (λ (g : ℕ). IsDistance kind g (gap (place_of_whole p).y (place_of_whole q).y) d) (sym ex)
-    (subst (λ (g : ℕ). IsDistance kind (dx * 1000000000) g d) (sym ey) is)
+    (subst (λ (g : ℕ). IsDistance kind (dx * scale) g d) (sym ey) is)
 
 pub city_distance-limit : (kind : PlaneKind) (places : List Point) → All IsNearOrigin places → (a b : ℕ) →
-    city_distance kind places a b ≤ 4000000000
+    city_distance kind places a b ≤ DISTANCE_LIMIT
 city_distance-limit kind places near a b =
     distance_of-limit kind (city_place places a) (city_place places b) (city_place-near places near a)
     (city_place-near places near b)
 
 pub IsDistanceOf-limit : (kind : PlaneKind) (p q : Point) (d : ℕ) → IsNearOrigin p → IsNearOrigin q →
-    IsDistanceOf kind p q d → d ≤ 4000000000
+    IsDistanceOf kind p q d → d ≤ DISTANCE_LIMIT
 IsDistanceOf-limit kind p q d a b is =
     limit kind (gap p.x q.x) (gap p.y q.y) d (gap-limit p.x q.x a.x b.x) (gap-limit p.y q.y a.y b.y) is
 
 -- a whole place is near the origin
 pub place_of_whole-near : (p : WholePoint) → IsNearOrigin (place_of_whole p)
 place_of_whole-near p = record {
-  x = omega (arith, unsigned_abs-mul p.x (pos 1000000000), p.x_near);
-  y = omega (arith, unsigned_abs-mul p.y (pos 1000000000), p.y_near);
+  x = omega (arith, unsigned_abs-mul p.x (SCALE), p.x_near);
+  y = omega (arith, unsigned_abs-mul p.y (SCALE), p.y_near);
 }
 
 pub distance_of-unique : (kind : PlaneKind) (p q : Point) (d : ℕ) → IsDistanceOf kind p q d → d ≡ distance_of kind p q

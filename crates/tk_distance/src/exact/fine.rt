@@ -1,6 +1,7 @@
 //! Distances of coordinates in units of 10^-9, in 128 bits.
 ghost use Rattle.std.specs.Prelude.{◌≡◌, ℕ, ◌+◌, ◌*◌, ◌^◌, ◌<◌, ◌≤◌, ◌↔◌, IsTrue};
 ghost use Rattle.std.specs.Int.RustNames.{unsigned_abs};
+ghost use Rattle.tk_problem.specs.declared.limits.TheConstants.{DISTANCE_LIMIT};
 ghost use Rattle.tk_distance.specs.Distance.{gap, reach, square_sum, IsGreatest, IsLeast, IsDistance, IsDistanceOf, Reaches, RootReaches, Covers};
 ghost use Rattle.tk_problem.specs.Places.{IsNearOrigin};
 
@@ -10,9 +11,9 @@ use crate::exact::guess::{
 use crate::exact::roots::root_up;
 use tk_problem::{PlaneKind, Point};
 
-const SCALE: u64 = 1_000_000_000;
+const SCALE: u64 = tk_problem::SCALE as u64;
 
-const HALF: u64 = 500_000_000;
+const HALF: u64 = SCALE / 2;
 
 /// The distance of two places.
 #[inline]
@@ -20,7 +21,7 @@ pub fn fine_between(kind: PlaneKind, p: Point, q: Point) -> u64
     requires p_near { IsNearOrigin p }
     requires q_near { IsNearOrigin q }
     ensures distance { IsDistanceOf kind p q result }
-    ensures limit { result ≤ 4000000000 }
+    ensures limit { result ≤ DISTANCE_LIMIT }
 {
     if let PlaneKind::Euc2d = kind {
         return nearest(square_between(p, q));

@@ -1,8 +1,9 @@
 //! Distances of whole coordinates, in 64 bits.
 ghost use Rattle.std.specs.Prelude.{◌≡◌, ℕ, ◌+◌, ◌*◌, ◌<◌, ◌≤◌, ◌^◌, ◌↔◌, IsTrue, true};
 ghost use Rattle.std.specs.Int.RustNames.{unsigned_abs};
-ghost use Rattle.tk_distance.specs.Distance.{scale, IsGreatest, IsLeast, IsDistance, IsDistanceOf, RootReaches, Covers, gap, square_sum};
-ghost use Rattle.tk_problem.specs.Places.{place_of_whole};
+ghost use Rattle.tk_problem.specs.declared.limits.TheConstants.{COORDINATE_LIMIT, DISTANCE_LIMIT};
+ghost use Rattle.tk_distance.specs.Distance.{IsGreatest, IsLeast, IsDistance, IsDistanceOf, RootReaches, Covers, gap, square_sum};
+ghost use Rattle.tk_problem.specs.Places.{place_of_whole, scale};
 
 use crate::exact::guess::{near_root, rounded};
 use crate::exact::short::{SHORT, short_root};
@@ -12,7 +13,7 @@ use tk_problem::{PlaneKind, WholePoint};
 #[inline]
 pub fn whole_between(kind: PlaneKind, p: WholePoint, q: WholePoint) -> u64
     ensures distance { IsDistanceOf kind (place_of_whole p) (place_of_whole q) result }
-    ensures limit { result ≤ 4000000000 }
+    ensures limit { result ≤ DISTANCE_LIMIT }
 {
     if let PlaneKind::Euc2d = kind {
         return nearest(square_between(p, q));
@@ -56,10 +57,10 @@ fn square_between(p: WholePoint, q: WholePoint) -> u64
 /// How far two coordinates are apart.
 #[inline]
 fn apart(a: i32, b: i32) -> u64
-    requires a { unsigned_abs a ≤ 1000000000 }
-    requires b { unsigned_abs b ≤ 1000000000 }
+    requires a { unsigned_abs a ≤ COORDINATE_LIMIT }
+    requires b { unsigned_abs b ≤ COORDINATE_LIMIT }
     ensures value { result ≡ gap a b }
-    ensures bound { result ≤ 2000000000 }
+    ensures bound { result ≤ 2 * COORDINATE_LIMIT }
 {
     (a as i64 - b as i64).unsigned_abs()
 }
@@ -67,7 +68,7 @@ fn apart(a: i32, b: i32) -> u64
 /// The distance of a rarer kind.
 fn rarer_between(kind: PlaneKind, p: WholePoint, q: WholePoint) -> u64
     ensures distance { IsDistanceOf kind (place_of_whole p) (place_of_whole q) result }
-    ensures limit { result ≤ 4000000000 }
+    ensures limit { result ≤ DISTANCE_LIMIT }
 {
     whole_distance(kind, apart(p.x, q.x), apart(p.y, q.y))
 }
@@ -75,8 +76,8 @@ fn rarer_between(kind: PlaneKind, p: WholePoint, q: WholePoint) -> u64
 /// The distance at these differences of whole coordinates.
 #[inline]
 fn whole_distance(kind: PlaneKind, dx: u64, dy: u64) -> u64
-    requires x_near { dx ≤ 2000000000 }
-    requires y_near { dy ≤ 2000000000 }
+    requires x_near { dx ≤ 2 * COORDINATE_LIMIT }
+    requires y_near { dy ≤ 2 * COORDINATE_LIMIT }
     ensures { IsDistance kind (dx * scale) (dy * scale) result }
 {
     match kind {

@@ -4,6 +4,7 @@ use Rattle.std.specs.Prelude.{flat_map, codes, decimal}
 use Rattle.std.specs.List.{range_with_len}
 use Rattle.std.proofs.lemmas.List.FromFn.{length-range_with_len}
 use Rattle.std.proofs.lemmas.List.{length-take}
+use Rattle.tk_problem.specs.declared.limits.TheConstants.{CANDIDATE_LIMIT, CITY_LIMIT}
 use Rattle.tk_near.specs.Near.{NearLists, near_of}
 use Rattle.tk_writers.specs.Written.{near_line, spaced_numbers}
 use Rattle.tk_writers.proofs.Pieces.NumberLengths.{length_decimal, length_flat_map}
@@ -21,7 +22,7 @@ length_near_line city near =
     let row = length_spaced near in
     simp length-append (omega arith)
 
-pub length_near_text : (v : NearLists) → v.size ≤ 100000 → v.width ≤ 100 → length (near_text v) ≤ 2 ^ 63
+pub length_near_text : (v : NearLists) → v.size ≤ CITY_LIMIT → v.width ≤ CANDIDATE_LIMIT → length (near_text v) ≤ 2 ^ 63
 length_near_text v few narrow =
     let line : ℕ → List ℕ = λ c. near_line c (near_of v c) in
     let short : (c : ℕ) → length (line c) ≤ 6580 = λ c.

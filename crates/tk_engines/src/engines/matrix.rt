@@ -1,5 +1,6 @@
 //! The matrix of a problem.
 ghost use Rattle.std.specs.Prelude.{◌≡◌, ◌≤◌, true, pos, OnErr, IfErr};
+ghost use Rattle.tk_problem.specs.declared.limits.TheConstants.{TABLE_LIMIT};
 ghost use Rattle.tk_distance.specs.Cities.{IsCity};
 ghost use Rattle.tk_distance.specs.Tables.{table_size, table_distance};
 ghost use Rattle.tk_problem_text.specs.Parts.{problem_is};
@@ -11,14 +12,14 @@ ghost use Rattle.tk_engines.specs.MatrixOf.{by_distances, IsReadAs, matrix_of, m
 use crate::fault::Fault;
 use std::alloc::Global;
 use tk_distance::{Metric, Table};
-use tk_problem::{Format, Problem};
-use tk_problem_text::{TABLE_LIMIT, read_problem};
+use tk_problem::{Format, Problem, TABLE_LIMIT};
+use tk_problem_text::read_problem;
 use tk_words::Source;
 use tk_writers::{Sink, WriteFault, write_matrix};
 
 /// Writes the matrix of a problem.
 fn write_problem<W: Sink>(out: &mut W, problem: &Problem, format: Format) -> Result<(), WriteFault>
-    requires few { problem.now.n ≤ 5000 }
+    requires few { problem.now.n ≤ TABLE_LIMIT }
     ensures text { Writes W.taken W.broken out.old out.new result (matrix_of (problem_is problem.now) format) }
     ensures read_back { IsName problem.now.name.items
         → IsReadAs (matrix_of (problem_is problem.now) format) (by_distances (problem_is problem.now)) }

@@ -1,5 +1,6 @@
 //! The near lists of a problem.
 ghost use Rattle.std.specs.Prelude.{◌≡◌, ◌≤◌, true, OnErr, IfOk, IfErr};
+ghost use Rattle.tk_problem.specs.declared.limits.TheConstants.{CANDIDATE_LIMIT, CITY_LIMIT};
 ghost use Rattle.tk_problem_text.specs.Parts.{problem_is};
 ghost use Rattle.tk_writers.specs.Pens.{Puts};
 ghost use Rattle.tk_writers.specs.Puts.{Writes};
@@ -18,7 +19,7 @@ use tk_writers::{Pen, Sink, WriteFault};
 /// The near lists of a problem: k cities each, or all others where there are fewer.
 fn lists_of(alloc: Global, problem: &Problem, k: u32) -> Result<Near, AllocError>
     requires low { 1 ≤ k }
-    requires limit { k ≤ 100 }
+    requires limit { k ≤ CANDIDATE_LIMIT }
     ensures { IfOk result (λ v. IsNearOf (problem_is problem.now) k v) }
 {
     near_lists(alloc, &Table::of(problem), k.min(problem.n - 1))
@@ -38,8 +39,8 @@ fn put_lists<W: Sink>(pen: &mut Pen<'_, W>, near: &Near)
 
 /// Writes the lists of all cities.
 fn write_lists<W: Sink>(out: &mut W, near: &Near) -> Result<(), WriteFault>
-    requires few { near.now.size ≤ 100000 }
-    requires narrow { near.now.width ≤ 100 }
+    requires few { near.now.size ≤ CITY_LIMIT }
+    requires narrow { near.now.width ≤ CANDIDATE_LIMIT }
     ensures text { Writes W.taken W.broken out.old out.new result (near_text near.now) }
     ensures failed { OnErr result (W.broken out.new ≡ true) }
 {
@@ -62,7 +63,7 @@ pub fn near_engine<R: Source, W: Sink>(
     out: &mut W,
 ) -> Result<(), Fault>
     requires low { 1 ≤ k }
-    requires limit { k ≤ 100 }
+    requires limit { k ≤ CANDIDATE_LIMIT }
     ensures ends { Ends (near_task k) (ReadsProblem R.left R.broken problem.old problem.new) NoText
         (Writes W.taken W.broken out.old out.new) result }
     ensures quiet { IfErr result (UnlessWrite (IsUntouched W.taken W.broken out.old out.new)) }

@@ -1,6 +1,7 @@
 //! The search for a tour or for routes.
 ghost use Rattle.std.specs.Prelude.{◌≡◌, ◌≤◌, ◌≤ℤ◌, pos, IfOk, IfErr, OnErr, MatchOption, is_some, length};
 ghost use Rattle.std.specs.List.{concat};
+ghost use Rattle.tk_problem.specs.declared.limits.TheConstants.{CITY_LIMIT, ENTRY_LIMIT, ROUTE_LIMIT};
 ghost use Rattle.tk_problem_text.specs.Parts.{problem_is};
 ghost use Rattle.tk_tour.specs.Tour.{IsTour};
 ghost use Rattle.tk_routes.specs.Cvrps.{instance_of};
@@ -49,7 +50,7 @@ fn write_tour_files<F: Sink, W: Sink>(
     solved: &SolvedTour,
 ) -> Result<(), WriteFault>
     requires length { pos 0 ≤ℤ solved.now.length }
-    requires cities { length solved.now.cities.items ≤ 100000 }
+    requires cities { length solved.now.cities.items ≤ CITY_LIMIT }
     requires runs { length solved.now.runs.items ≤ 10000 }
     ensures text { WritesFiles F.taken F.broken W.taken W.broken file.old file.new out.old out.new
         result (tour_files params.now (problem_is problem.now).name solved.now) }
@@ -68,8 +69,8 @@ fn write_route_files<F: Sink, W: Sink>(
     report: &RouteReport,
 ) -> Result<(), WriteFault>
     requires cost { pos 0 ≤ℤ report.now.after }
-    requires routes { length (routes_of routes.now) ≤ 100000 }
-    requires customers { length (concat (routes_of routes.now)) ≤ 1000000 }
+    requires routes { length (routes_of routes.now) ≤ ROUTE_LIMIT }
+    requires customers { length (concat (routes_of routes.now)) ≤ ENTRY_LIMIT }
     ensures text { WritesFiles F.taken F.broken W.taken W.broken file.old file.new out.old out.new
         result (route_files params.now (routes_of routes.now) report.now) }
     ensures failed { OnErr result (HasFailed (F.broken file.new) (W.broken out.new)) }

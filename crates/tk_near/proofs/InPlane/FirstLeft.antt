@@ -4,6 +4,7 @@ use Rattle.std.specs.Prelude.{All, nat_lt}
 use Rattle.tk_problem.specs.declared.point.Point.{Point}
 use Rattle.std.proofs.lemmas.Bool.Decides.{nat_tests}
 use Rattle.std.proofs.lemmas.Bool.{cases_eq}
+use Rattle.tk_problem.specs.declared.limits.TheConstants.{CITY_LIMIT, DISTANCE_LIMIT}
 use Rattle.tk_near.specs.declared.candidates.Candidate.{Candidate}
 use Rattle.tk_near.specs.declared.plane.placed.Placed.{Placed}
 use Rattle.tk_near.specs.Near.{IsFirst}
@@ -62,7 +63,7 @@ module _ (dist : ℕ → ℕ → ℕ) (c : ℕ) where
       choice : (k x : Candidate) → p.city ≢ c → (cond (nat_lt (rank k) (rank x)) k x ≡ x) ⊎ ((p.city ≢ c) × (cond (nat_lt (rank k) (rank x)) k x ≡ k))
       choice k x ne = elim (nat_lt (rank k) (rank x)) as (λ b. (cond b k x ≡ x) ⊎ ((p.city ≢ c) × (cond b k x ≡ k))) [ true ↦ inr (ne, refl) | false ↦ inl refl ]
 
-module _ (dist : ℕ → ℕ → ℕ) (c : ℕ) (limit : (a b : ℕ) → dist a b ≤ 4000000000) (row : List Placed) (small : (q : ℕ) → q < length row → city_at row q ≤ 100000) (y : Candidate) (h : IsLeastOf dist c row open_place y) where
+module _ (dist : ℕ → ℕ → ℕ) (c : ℕ) (limit : (a b : ℕ) → dist a b ≤ DISTANCE_LIMIT) (row : List Placed) (small : (q : ℕ) → q < length row → city_at row q ≤ CITY_LIMIT) (y : Candidate) (h : IsLeastOf dist c row open_place y) where
   -- where the place stays open, the row has no other city
   pub none_left : y.distance ≡ 4294967295 → (b : ℕ) → IsOtherIn row c b → ⊥
   none_left unseen b s =
@@ -75,7 +76,7 @@ module _ (dist : ℕ → ℕ → ℕ) (c : ℕ) (limit : (a b : ℕ) → dist a 
   pub first_left : y.distance ≢ 4294967295 → IsFirst dist c (IsOtherIn row c) y.city
   first_left there = ⊎_elim (λ same. absurd (there (ap (λ (v : Candidate). v.distance) same))) (λ w. found w.0 w.1 w.2 w.3) h.one
     where
-      rank_less : (q r a : ℕ) → city_at row r ≡ a → rank y ≤ rank (candidate dist c (city_at row r)) → y.city ≡ city_at row q → y.distance ≡ dist c (city_at row q) → a ≢ city_at row q → city_at row q ≤ 100000 → a ≤ 100000 → dist c (city_at row q) * 4294967296 + city_at row q < dist c a * 4294967296 + a
+      rank_less : (q r a : ℕ) → city_at row r ≡ a → rank y ≤ rank (candidate dist c (city_at row r)) → y.city ≡ city_at row q → y.distance ≡ dist c (city_at row q) → a ≢ city_at row q → city_at row q ≤ CITY_LIMIT → a ≤ CITY_LIMIT → dist c (city_at row q) * 4294967296 + city_at row q < dist c a * 4294967296 + a
       rank_less q r a same least city far other mine theirs =
           let least' : rank y ≤ rank (candidate dist c a) = rw same at least in
           omega (arith, least', city, far, other, mine, theirs)
@@ -95,8 +96,8 @@ module _ (dist : ℕ → ℕ → ℕ) (c : ℕ) (limit : (a b : ℕ) → dist a 
           }
 
 -- what one place keeps of a row
-module _ (dist : ℕ → ℕ → ℕ) (c : ℕ) (limit : (a b : ℕ) → dist a b ≤ 4000000000) (n : ℕ) (place_of : ℕ → Point) (few : n ≤ 100000) (row : List Placed) (placed : All (IsPlaced n place_of) row) (kept : List Candidate) (seen : kept ≡ with_cities dist c row (open_place ∷ [])) where
-  small_city : (q : ℕ) → q < length row → city_at row q ≤ 100000
+module _ (dist : ℕ → ℕ → ℕ) (c : ℕ) (limit : (a b : ℕ) → dist a b ≤ DISTANCE_LIMIT) (n : ℕ) (place_of : ℕ → Point) (few : n ≤ CITY_LIMIT) (row : List Placed) (placed : All (IsPlaced n place_of) row) (kept : List Candidate) (seen : kept ≡ with_cities dist c row (open_place ∷ [])) where
+  small_city : (q : ℕ) → q < length row → city_at row q ≤ CITY_LIMIT
   small_city q l = let e = placed q nowhere l in omega (arith, e.0.1, few)
 
   pub none_kept : (d : Candidate) → (get_or kept 0 d).distance ≡ 4294967295 → (b : ℕ) → IsOtherIn row c b → ⊥

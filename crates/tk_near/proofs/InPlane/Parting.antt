@@ -8,6 +8,8 @@ use Rattle.std.proofs.lemmas.List.{length-take-le, take_all, take_more}
 use Rattle.std.proofs.Math.Seq.{take-suc}
 use Rattle.std.proofs.lemmas.List.Elements.{All-append, All-cons, All-nil, All-weaker, All-head, All-tail}
 use Rattle.std.proofs.lemmas.List.Sorted.{All-permutation}
+use Rattle.tk_distance.specs.Distance.{reach}
+use Rattle.tk_problem.specs.declared.limits.TheConstants.{CITY_LIMIT, DISTANCE_LIMIT}
 use Rattle.tk_problem.specs.declared.point.Point.{Point}
 use Rattle.tk_near.specs.declared.candidates.Candidate.{Candidate}
 use Rattle.tk_near.specs.declared.plane.placed.Placed.{Placed}
@@ -164,9 +166,9 @@ with_candidate_climbing x kept up = Climbing-take rank (length kept) (insert_by 
 
 -- the laws of the floor that a search of a tree needs
 pub record AreFloors (dist : ℕ → ℕ → ℕ) (place_of : ℕ → Point) (floor : ℕ → ℕ) : Type 0 where
-  pub wide : (a b : ℕ) → unsigned_abs ((place_of a).x -ℤ (place_of b).x) ≤ 2000000000000000000
-  pub tall : (a b : ℕ) → unsigned_abs ((place_of a).y -ℤ (place_of b).y) ≤ 2000000000000000000
-  pub rises : (s t : ℕ) → s ≤ t → t ≤ 2000000000000000000 → floor s ≤ floor t
+  pub wide : (a b : ℕ) → unsigned_abs ((place_of a).x -ℤ (place_of b).x) ≤ reach
+  pub tall : (a b : ℕ) → unsigned_abs ((place_of a).y -ℤ (place_of b).y) ≤ reach
+  pub rises : (s t : ℕ) → s ≤ t → t ≤ reach → floor s ≤ floor t
   pub bounds : (a b : ℕ) → floor (unsigned_abs ((place_of a).x -ℤ (place_of b).x)) ≤ dist a b
   pub bounds_y : (a b : ℕ) → floor (unsigned_abs ((place_of a).y -ℤ (place_of b).y)) ≤ dist a b
 
@@ -201,7 +203,7 @@ count_same p i e = grind (arith, nat_tests)
 count_whole : (p n : ℕ) → p < n → cond (nat_lt p n) (n - 1) n ≡ n - 1
 count_whole p n l = grind (arith, nat_tests)
 
-module _ (dist : ℕ → ℕ → ℕ) (limit : (a b : ℕ) → dist a b ≤ 4000000000) (n : ℕ) (place_of : ℕ → Point) (row : List Placed) (o : IsRow n place_of row) (few : n ≤ 100000) where
+module _ (dist : ℕ → ℕ → ℕ) (limit : (a b : ℕ) → dist a b ≤ DISTANCE_LIMIT) (n : ℕ) (place_of : ℕ → Point) (row : List Placed) (o : IsRow n place_of row) (few : n ≤ CITY_LIMIT) where
   city_small : (W : ℕ → Type 0) (b : ℕ) → IsAt row W b → b < 4294967296
   city_small W b s = let e = o.each s.0 nowhere s.1 in let same = s.3 in omega (arith, e.0.1)
 
@@ -306,7 +308,7 @@ module _ (dist : ℕ → ℕ → ℕ) (c : ℕ) (lower upper tree : Tree) (first
       ∙ with_cities-swap dist c (entries_of lower) (entries_of upper) first ls us
       ∙ sym (ap (λ v. with_cities dist c v first) cut ∙ with_cities-append dist c (entries_of lower) (entries_of upper) first)
 
-pub placed_small : (n : ℕ) (place_of : ℕ → Point) (ps : List Placed) → n ≤ 100000 → All (IsPlaced n place_of) ps → All IsSmall ps
+pub placed_small : (n : ℕ) (place_of : ℕ → Point) (ps : List Placed) → n ≤ CITY_LIMIT → All (IsPlaced n place_of) ps → All IsSmall ps
 placed_small n place_of ps few all = λ k d l. let e = all k d l in omega (arith, e.0.1)
 
 pub part_smaller : (tree lower upper s : Tree) (t : ℕ) → parts_of tree ≡ t → parts_of tree ≡ parts_of lower + parts_of upper + 1 → (s ≡ lower) ⊎ (s ≡ upper) → parts_of s < t

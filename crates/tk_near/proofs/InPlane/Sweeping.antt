@@ -6,6 +6,7 @@ use Rattle.std.specs.Int.RustNames.{unsigned_abs}
 use Rattle.std.proofs.lemmas.Int.{ints}
 use Rattle.std.proofs.lemmas.Bool.{cases_lt, cases_eq}
 use Rattle.std.proofs.lemmas.List.{get_or-take, length-take-le}
+use Rattle.tk_problem.specs.declared.limits.TheConstants.{DISTANCE_LIMIT}
 use Rattle.tk_problem.specs.declared.point.Point.{Point}
 use Rattle.tk_near.specs.declared.candidates.Candidate.{Candidate}
 use Rattle.tk_near.specs.declared.plane.placed.Placed.{Placed}
@@ -69,7 +70,7 @@ module _ (n : ℕ) (place_of : ℕ → Point) (here there : Placed) (h : IsPlace
 abbrev Window : ℕ → ℕ → ℕ → ℕ → Type 0
 Window low high p q = (low ≤ q) × (q < high) × (q ≢ p)
 
-module _ (dist : ℕ → ℕ → ℕ) (limit : (a b : ℕ) → dist a b ≤ 4000000000) (n : ℕ) (place_of : ℕ → Point) (row : List Placed) (o : IsXOrder n place_of row) (small : n < 4294967296) where
+module _ (dist : ℕ → ℕ → ℕ) (limit : (a b : ℕ) → dist a b ≤ DISTANCE_LIMIT) (n : ℕ) (place_of : ℕ → Point) (row : List Placed) (o : IsXOrder n place_of row) (small : n < 4294967296) where
   city_small : (W : ℕ → Type 0) (b : ℕ) → IsAt row W b → b < 4294967296
   city_small W b s = let e = o.each s.0 s.1 in let same = s.3 in omega (arith, e.0.1)
 

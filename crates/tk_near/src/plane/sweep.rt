@@ -1,5 +1,7 @@
 //! Near lists by a sweep in x order.
 ghost use Rattle.std.specs.Prelude.{◌≡◌, ℕ, ◌*◌, ◌≤◌, ◌<◌, ◌↔◌, IfOk, length, IsTrue, MatchBool, ⊤};
+ghost use Rattle.tk_problem.specs.declared.limits.TheConstants.{CANDIDATE_LIMIT};
+ghost use Rattle.tk_distance.specs.Distance.{reach};
 ghost use Rattle.tk_near.specs.Near.{IsNear, AreNearest};
 ghost use Rattle.tk_near.specs.Keeping.{AreFilled, rank, Climbing, with_candidate, candidate, cities_of};
 ghost use Rattle.tk_near.specs.Placed.{IsPlaced, city_at, x_gap};
@@ -25,7 +27,7 @@ pub fn order_by_x<P: Planar>(alloc: Global, m: &P) -> Result<Vec<Placed>, AllocE
 
 /// Whether no city at this difference in x, or in y, can be as near as the last of the kept.
 fn is_far<P: Planar>(m: &P, difference: u64, kept: &[Candidate]) -> bool
-    requires difference { difference ≤ 2000000000000000000 }
+    requires difference { difference ≤ reach }
     requires room { 1 ≤ length kept.now }
     ensures { IsTrue result ↔ IsBelow (P.floor m.now difference) kept.now }
 {
@@ -184,7 +186,7 @@ fn fill_lists<P: Planar>(m: &P, row: &[Placed], kept: &mut [Candidate], entries:
 /// The near lists by a sweep from each city to both sides in x order.
 fn sweep_by_x<P: Planar>(alloc: Global, m: &P, k: u32) -> Result<Near, AllocError>
     requires low { 1 ≤ k }
-    requires limit { k ≤ 100 }
+    requires limit { k ≤ CANDIDATE_LIMIT }
     requires high { k < P.size_of m.now }
     ensures size { IfOk result (λ v. v.size ≡ P.size_of m.now) }
     ensures width { IfOk result (λ v. v.width ≡ k) }
@@ -204,7 +206,7 @@ fn sweep_by_x<P: Planar>(alloc: Global, m: &P, k: u32) -> Result<Near, AllocErro
 /// `AllocError` if there is no memory for the row, or for n lists of k cities.
 pub fn near_sweep<P: Planar>(alloc: Global, m: &P, k: u32) -> Result<Near, AllocError>
     requires low { 1 ≤ k }
-    requires limit { k ≤ 100 }
+    requires limit { k ≤ CANDIDATE_LIMIT }
     requires high { k < P.size_of m.now }
     ensures size { IfOk result (λ v. v.size ≡ P.size_of m.now) }
     ensures width { IfOk result (λ v. v.width ≡ k) }

@@ -1,6 +1,8 @@
 //! Near lists by a k-d tree (J. L. Bentley, 1975).
 ghost use Rattle.std.specs.Prelude.{◌≡◌, ℕ, ℤ, ◌*◌, ◌≤◌, ◌<◌, ◌-ℤ◌, ◌≤ℤ◌, ◌↔◌, IfOk, IsTrue, All, IsPermutation, length, ⊤};
 ghost use Rattle.std.specs.Int.RustNames.{unsigned_abs};
+ghost use Rattle.tk_problem.specs.declared.limits.TheConstants.{CANDIDATE_LIMIT};
+ghost use Rattle.tk_distance.specs.Distance.{reach};
 ghost use Rattle.tk_near.specs.declared.plane.placed.Placed.{Placed};
 ghost use Rattle.tk_near.specs.Near.{IsNear, AreNearest};
 ghost use Rattle.tk_near.specs.Keeping.{AreFilled, candidate, cities_of, rank};
@@ -15,6 +17,7 @@ use crate::plane::keeper::{Keeper, Many};
 use crate::plane::placed::{Placed, row_of};
 use std::alloc::{AllocError, Global};
 use tk_distance::Planar;
+use tk_problem::{COORDINATE_LIMIT, SCALE};
 
 /// At most so many cities stand in a leaf.
 const LEAF: usize = 16;
@@ -23,7 +26,7 @@ const LEAF: usize = 16;
 const SAMPLE: usize = 16;
 
 /// The most that two places differ in a coordinate.
-const WIDEST: u64 = 2_000_000_000_000_000_000;
+const WIDEST: u64 = 2 * COORDINATE_LIMIT * SCALE as u64;
 
 /// A box round the cities of a part, and the range of their numbers.
 #[derive(Clone, Copy, Drop)]
@@ -100,7 +103,7 @@ impl Frame {
     /// A difference in x, or in y, that each city of the box has from here.
     #[inline(always)]
     fn gap(&self, here: &Placed) -> u64
-        ensures limit { result ≤ 2000000000000000000 }
+        ensures limit { result ≤ reach }
         ensures beyond { (p : Placed) → IsWithin self.now p → IsBeyond here.now result p }
     {
         let gap_x = gap_between(here.place.x, self.left, self.right);
@@ -387,7 +390,7 @@ fn fill_from_tree<P: Planar>(
 /// `AllocError` if there is no memory for the tree, or for n lists of k cities.
 pub fn near_tree<P: Planar>(alloc: Global, m: &P, k: u32) -> Result<Near, AllocError>
     requires low { 1 ≤ k }
-    requires limit { k ≤ 100 }
+    requires limit { k ≤ CANDIDATE_LIMIT }
     requires high { k < P.size_of m.now }
     ensures size { IfOk result (λ v. v.size ≡ P.size_of m.now) }
     ensures width { IfOk result (λ v. v.width ≡ k) }

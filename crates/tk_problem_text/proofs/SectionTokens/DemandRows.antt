@@ -2,6 +2,7 @@
 use Rattle.std.proofs.Common.{◌≡◌, ◌≢◌, ℕ, suc, ◌+◌, ◌*◌, ◌%◌, ◌<◌, Bool, true, false, cond, eqb, List, [], ◌∷◌, ◌++◌, length, length-append, set, Option, Some, None, pos, refl, sym, ap, ◌∙◌, subst, append_assoc, arith}
 use Rattle.std.proofs.lemmas.Bool.{eq-eqb, ne_eqb}
 use Rattle.std.proofs.lemmas.List.{append-nil, length-map, length_push, map_push}
+use Rattle.tk_problem.specs.declared.limits.TheConstants.{CAPACITY_LIMIT}
 use Rattle.tk_words.specs.declared.fault.TextKind.{TextKind}
 use Rattle.tk_lines.specs.Pieces.{Fault, first_at}
 use Rattle.tk_lines.specs.Forms.{IsToldWord}
@@ -41,11 +42,11 @@ pub demand_tests-told : (n : ℕ) (toks : List Token) (t : Token) (line : ℕ) (
 demand_tests-told n toks t line k = by_test (eqb (length toks % 2) 0)
   where
     tests : Bool → List (Bool × TextKind)
-    tests b = cond b (node_tests n (nodes_in (demand_rows toks)) t) (number_tests 0 2000000000 t.bytes)
+    tests b = cond b (node_tests n (nodes_in (demand_rows toks)) t) (number_tests 0 CAPACITY_LIMIT t.bytes)
 
     by_test : (b : Bool) → first_at line (tests b) ≡ Some (Fault line k) → IsToldWord (λ k. first_at line (tests b) ≡ Some (Fault line k)) k
     by_test true h = node_tests-told n (nodes_in (demand_rows toks)) t line k h
-    by_test false h = number_tests-told 0 2000000000 t.bytes line k h
+    by_test false h = number_tests-told 0 CAPACITY_LIMIT t.bytes line k h
 
 -- ---- the states
 
@@ -86,7 +87,7 @@ module _ (n : ℕ) (loads : List ℕ) (nodes : Named) (toks : List Token) where
     length-load = omega (arith, ap length has.are, length-append has.rows has.part, ap length has.begun.1, has.whole)
 
     -- the second one is a demand
-    pub demand_tests-load : (t : Token) → demand_tests n toks t ≡ number_tests 0 2000000000 t.bytes
+    pub demand_tests-load : (t : Token) → demand_tests n toks t ≡ number_tests 0 CAPACITY_LIMIT t.bytes
     demand_tests-load t = rw (ne_eqb (length toks % 2) 0 (λ e. omega (arith, length-load, e))) refl
 
     named-count : nodes.left + suc (length (demand_rows has.rows)) ≡ n

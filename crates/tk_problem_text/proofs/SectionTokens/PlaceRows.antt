@@ -1,5 +1,5 @@
 -- Rows of coordinates, token by token.
-use Rattle.std.proofs.Common.{◌≡◌, ◌≢◌, ℕ, suc, ◌+◌, ◌*◌, ◌%◌, ◌<◌, ◌≤◌, Bool, true, false, cond, leb, not, List, [], ◌∷◌, ◌++◌, length, length-append, set, Option, Some, None, Ok, Err, Result, OnOk, ℤ, ◌^◌, w64, to_z, of_z, refl, sym, ap, ◌∙◌, subst, append_assoc, arith}
+use Rattle.std.proofs.Common.{◌≡◌, ◌≢◌, ℕ, suc, ◌+◌, ◌*◌, ◌%◌, ◌<◌, ◌≤◌, Bool, true, false, cond, leb, not, List, [], ◌∷◌, ◌++◌, length, length-append, set, Option, Some, None, Ok, Err, Result, OnOk, ℤ, w64, to_z, of_z, refl, sym, ap, ◌∙◌, subst, append_assoc, arith}
 use Rattle.std.specs.Int.RustNames.{unsigned_abs}
 use Rattle.std.proofs.lemmas.Bool.{eq-eqb, ne_eqb, true≢false}
 use Rattle.std.proofs.lemmas.List.{append-nil, length-map, length_push, map_push}
@@ -15,7 +15,7 @@ use Rattle.tk_problem_text.specs.declared.sections.coordinates.Wanted.TheVariant
 use Rattle.tk_words.specs.Lex.{Token}
 use Rattle.tk_words.specs.Decimal.{decimal_of, limited}
 use Rattle.tk_lines.specs.Pieces.{Fault, first_at}
-use Rattle.tk_problem.specs.Places.{origin}
+use Rattle.tk_problem.specs.Places.{origin, greatest_coordinate}
 use Rattle.tk_problem_text.specs.Sections.FixedSections.{fixed_taken}
 use Rattle.tk_problem_text.specs.Sections.Nodes.{Named, HasNamed, HasNext}
 use Rattle.tk_problem_text.specs.Sections.Coordinates.{Placing, IsWithin, HasPlaces}
@@ -52,21 +52,21 @@ pub place_tests-coordinate : (n k r : ℕ) (toks : List Token) (t : Token) → l
 place_tests-coordinate n k r toks t len lt = rw (ne_eqb (length toks % 3) 0 (λ e. omega (arith, len, e))) refl
 
 -- a coordinate within its limit fits its type
-pub fits : (x : ℤ) → unsigned_abs x ≤ 10 ^ 18 → to_z w64 (of_z w64 x) ≡ x
+pub fits : (x : ℤ) → unsigned_abs x ≤ greatest_coordinate → to_z w64 (of_z w64 x) ≡ x
 fits x near = to_z-of_z w64 x (fits_signed_from_abs w64 x (omega (arith, near)))
 
 -- what a coordinate's reader answers
 pub limited-ok : (o : Option ℤ) (x : ℤ) → Ok x ≡ limited o → (o ≡ Some x) × (is_near o ≡ true)
 limited-ok None x e = absurd cc
-limited-ok (Some z) x e = by_test (leb (unsigned_abs z) 1000000000000000000) refl e
+limited-ok (Some z) x e = by_test (leb (unsigned_abs z) greatest_coordinate) refl e
   where
-    by_test : (b : Bool) → leb (unsigned_abs z) 1000000000000000000 ≡ b → Ok x ≡ cond b (Ok z) (Err kinds.OutOfLimit) → (Some z ≡ Some x) × (is_near (Some z) ≡ true)
+    by_test : (b : Bool) → leb (unsigned_abs z) greatest_coordinate ≡ b → Ok x ≡ cond b (Ok z) (Err kinds.OutOfLimit) → (Some z ≡ Some x) × (is_near (Some z) ≡ true)
     by_test true h e = (cc, h)
     by_test false h e = absurd cc
 
 limited-err : (o : Option ℤ) (line : ℕ) (k : TextKind) → Err k ≡ limited o → first_at line ((is_none o, kinds.BadNumber) ∷ (not (is_near o), kinds.OutOfLimit) ∷ []) ≡ Some (Fault line k)
 limited-err None line k e = cc
-limited-err (Some z) line k e = by_test (leb (unsigned_abs z) 1000000000000000000) e
+limited-err (Some z) line k e = by_test (leb (unsigned_abs z) greatest_coordinate) e
   where
     by_test : (b : Bool) → Err k ≡ cond b (Ok z) (Err kinds.OutOfLimit) → cond (not b) (Some (Fault line kinds.OutOfLimit)) None ≡ Some (Fault line k)
     by_test true e = absurd cc
@@ -97,7 +97,7 @@ pub record AtNode (n : ℕ) (places : List Point) (nodes : Named) (toks : List T
   pub named : HasNamed n nodes (nodes_in (place_rows toks))
 
 -- a coordinate that is wanted has its limit
-pub within_y : (size : ℕ) (wanted : Wanted) (index : ℕ) (x : ℤ) → wanted ≡ wants.Y index x → IsWithin size wanted → unsigned_abs x ≤ 10 ^ 18
+pub within_y : (size : ℕ) (wanted : Wanted) (index : ℕ) (x : ℤ) → wanted ≡ wants.Y index x → IsWithin size wanted → unsigned_abs x ≤ greatest_coordinate
 within_y size wanted index x is h = let at : IsWithin size (wants.Y index x) = subst (IsWithin size) is h in at.1
 
 -- what holds of a success

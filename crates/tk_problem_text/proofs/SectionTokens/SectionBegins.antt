@@ -2,6 +2,7 @@
 use Rattle.std.proofs.Common.{◌≡◌, ◌≢◌, ℕ, ◌<◌, ◌≤◌, Bool, true, false, cond, ltb, List, [], ◌∷◌, length, Option, Some, None, is_some, refl, ap, subst, ◌∙◌, arith}
 use Rattle.std.specs.Prelude.{count_by, unwrap_or}
 use Rattle.std.proofs.lemmas.Bool.{le-ltb}
+use Rattle.tk_problem.specs.declared.limits.TheConstants.{CITY_LIMIT, TABLE_LIMIT}
 use Rattle.tk_words.specs.declared.fault.TextKind.{TextKind}
 use Rattle.tk_words.specs.declared.keyword.Keyword.{Keyword}
 use Rattle.tk_words.specs.declared.keyword.Keyword.TheVariants as words
@@ -35,7 +36,7 @@ use Rattle.tk_problem_text.proofs.KeptHeaders.{told_map}
 
 -- ---- explicit weights
 
-module _ (p : Parts) (before : List Piece) (has_parts : HasParts p before) (size : ℕ) (same : size_of before ≡ size) (small : size ≤ 5000) where
+module _ (p : Parts) (before : List Piece) (has_parts : HasParts p before) (size : ℕ) (same : size_of before ≡ size) (small : size ≤ TABLE_LIMIT) where
   pub ready_weights : (t : WeightType) (l : WeightFormat) (f : Format) (s : ExplicitWeights) → p.headers.weight_type ≡ Some t → p.headers.weight_format ≡ Some l
       → Some f ≡ cond (is_explicit (Some t)) (listed_format (Some l)) None → HasWeights size f s [] → IsReady before words.EdgeWeightSection (sections.Explicit s)
   ready_weights (Plane kind) l f s is_type is_format given has_weights = absurd cc
@@ -45,7 +46,7 @@ module _ (p : Parts) (before : List Piece) (has_parts : HasParts p before) (size
       let of_format : weight_format before ≡ Some (Listed g) = has_parts.headers.weight_format.says ∙ is_format in
       let typed : has words.EdgeWeightType before ≡ true = has_parts.headers.weight_type.came ∙ ap is_some is_type in
       let formatted : has words.EdgeWeightFormat before ≡ true = has_parts.headers.weight_format.came ∙ ap is_some is_format in
-      let few : ltb 5000 (size_of before) ≡ false = le-ltb 5000 (size_of before) (omega (arith, same, small)) in
+      let few : ltb TABLE_LIMIT (size_of before) ≡ false = le-ltb TABLE_LIMIT (size_of before) (omega (arith, same, small)) in
       let is : g ≡ f = cc in
       record {
         tests = λ n. rw (typed, formatted, of_type, of_format, few) refl;
@@ -94,8 +95,8 @@ module _ (p : Parts) (before : List Piece) (word : Keyword) (n : ℕ) (has_parts
   pub size_is : size_of before ≡ size
   size_is = ap (λ (o : Option ℕ). unwrap_or o 0) (has_parts.headers.dimension.says ∙ sized)
 
-  pub size_within : (2 ≤ size) × (size ≤ 100000)
-  size_within = number_in_limits 2 100000 size (value_of words.Dimension before) (has_parts.headers.dimension.says ∙ sized)
+  pub size_within : (2 ≤ size) × (size ≤ CITY_LIMIT)
+  size_within = number_in_limits 2 CITY_LIMIT size (value_of words.Dimension before) (has_parts.headers.dimension.says ∙ sized)
 
   pub known : is_known_section word ≡ true
   known = (of_came (is_known_section word) (has word before) fresh).0

@@ -4,6 +4,7 @@ use Rattle.std.specs.List.{slice_get}
 use Rattle.std.proofs.Math.Bool.{and-false}
 use Rattle.std.proofs.lemmas.Bool.{eq-eqb, ne_eqb, eqb-true, eqb-false, le-leb, le-ltb}
 use Rattle.std.proofs.lemmas.List.{length-map, length_push, map_push}
+use Rattle.tk_problem.specs.declared.limits.TheConstants.{DISTANCE_LIMIT}
 use Rattle.tk_problem.specs.declared.place.Place.{Place}
 use Rattle.tk_problem.specs.declared.weights.Format.{Format}
 use Rattle.tk_words.specs.declared.fault.TextKind.{TextKind}
@@ -33,25 +34,25 @@ module _ (n : ℕ) (f : Format) (toks : List Token) (t : Token) (p : Place) (her
       rw (here, is, equal, behind, and-false (is_full f)) refl
 
   module _ (apart : p.row ≢ p.column) where
-    pub weight_beyond : (z : ℤ) → integer t.bytes ≡ Some z → in_range 0 4000000000 (Some z) ≡ false
+    pub weight_beyond : (z : ℤ) → integer t.bytes ≡ Some z → in_range 0 DISTANCE_LIMIT (Some z) ≡ false
         → first_at t.line (weight_tests n f toks t) ≡ Some (Fault t.line kinds.OutOfLimit)
     weight_beyond z is beyond =
         let unequal : eqb p.row p.column ≡ false = ne_eqb p.row p.column apart in
         rw (here, is, unequal, beyond) refl
 
-    module _ (w : ℕ) (is : integer t.bytes ≡ Some (pos w)) (small : w ≤ 4000000000) where
+    module _ (w : ℕ) (is : integer t.bytes ≡ Some (pos w)) (small : w ≤ DISTANCE_LIMIT) where
       pub weight_once : (is_full f && ltb p.column p.row) ≡ false → first_at t.line (weight_tests n f toks t) ≡ None
       weight_once once =
           let unequal : eqb p.row p.column ≡ false = ne_eqb p.row p.column apart in
           let above : leb 0 w ≡ true = le-leb 0 w (omega arith) in
-          let within : leb w 4000000000 ≡ true = le-leb w 4000000000 small in
+          let within : leb w DISTANCE_LIMIT ≡ true = le-leb w DISTANCE_LIMIT small in
           rw (here, is, unequal, above, within, once) refl
 
       pub weight_same : w ≡ weight_of p.row p.column (entries f n (weights_in toks)) → first_at t.line (weight_tests n f toks t) ≡ None
       weight_same same =
           let unequal : eqb p.row p.column ≡ false = ne_eqb p.row p.column apart in
           let above : leb 0 w ≡ true = le-leb 0 w (omega arith) in
-          let within : leb w 4000000000 ≡ true = le-leb w 4000000000 small in
+          let within : leb w DISTANCE_LIMIT ≡ true = le-leb w DISTANCE_LIMIT small in
           let equal : eqb w (weight_of p.row p.column (entries f n (weights_in toks))) ≡ true = eq-eqb _ _ same in
           rw (here, is, unequal, above, within, equal, and-false (is_full f && ltb p.column p.row)) refl
 
@@ -59,7 +60,7 @@ module _ (n : ℕ) (f : Format) (toks : List Token) (t : Token) (p : Place) (her
       weight_unlike again unlike =
           let unequal : eqb p.row p.column ≡ false = ne_eqb p.row p.column apart in
           let above : leb 0 w ≡ true = le-leb 0 w (omega arith) in
-          let within : leb w 4000000000 ≡ true = le-leb w 4000000000 small in
+          let within : leb w DISTANCE_LIMIT ≡ true = le-leb w DISTANCE_LIMIT small in
           let other : eqb w (weight_of p.row p.column (entries f n (weights_in toks))) ≡ false = ne_eqb _ _ unlike in
           rw (here, is, unequal, above, within, other, again) refl
 
@@ -88,7 +89,7 @@ if_some P e h = subst (λ o. IfSome o P) e h
 
 -- a second weight of a pair, unlike the first
 pub told_again : (n : ℕ) (f : Format) (s : ExplicitWeights) (toks : List Token) → HasWeights n f s toks → (t : Token) (p : Place) (w : ℕ)
-    → slice_get s.lower.places 0 ≡ Some p → p.column < p.row → integer t.bytes ≡ Some (pos w) → w ≤ 4000000000 → (is_full s.format && ltb p.column p.row) ≡ true
+    → slice_get s.lower.places 0 ≡ Some p → p.column < p.row → integer t.bytes ≡ Some (pos w) → w ≤ DISTANCE_LIMIT → (is_full s.format && ltb p.column p.row) ≡ true
     → (k : TextKind) → (k ≡ kinds.NotSymmetric (suc p.column) (suc p.row)) × (w ≢ weight_of p.row p.column (entries f n (weights_in toks)))
     → IsToldWord (λ k. first_at t.line (weight_tests n f toks t) ≡ Some (Fault t.line k)) k
 told_again n f s toks has t p w first below is small again k unlike =

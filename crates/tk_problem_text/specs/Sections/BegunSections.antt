@@ -1,5 +1,6 @@
 -- A section of a problem that begins.
 use Rattle.std.specs.Prelude.{◌≡◌, ◌≤◌, ◌*◌, ℕ, Bool, true, false, List, [], Option, Some, None, if◌then◌else◌}
+use Rattle.tk_problem.specs.declared.limits.TheConstants.{TABLE_LIMIT}
 use Rattle.tk_words.specs.declared.keyword.Keyword.{Keyword}
 use Rattle.tk_words.specs.declared.keyword.Keyword.TheVariants as words
 use Rattle.tk_problem_text.specs.declared.sections.open_section.OpenSection.{OpenSection}
@@ -19,7 +20,7 @@ IsUntouched before word (Places s) = (word ≡ words.NodeCoordSection) × HasPla
 IsUntouched before word (Explicit s) =
     (word ≡ words.EdgeWeightSection) × HasWeights (size_of before) (format_in before) s [] × IsListed before
 IsUntouched before word (Loads s) =
-    (word ≡ words.DemandSection) × HasDemands (size_of before) s [] × (size_of before ≤ 5000)
+    (word ≡ words.DemandSection) × HasDemands (size_of before) s [] × (size_of before ≤ TABLE_LIMIT)
 IsUntouched before word (Home s) = (word ≡ words.DepotSection) × HasDepot (size_of before) s []
 IsUntouched before word (Display left) = (word ≡ words.DisplayDataSection) × (left ≡ 3 * size_of before)
 

@@ -1,6 +1,7 @@
 -- What the reader of coordinates has taken.
-use Rattle.std.specs.Prelude.{◌≡◌, ◌<◌, ◌*◌, ◌^◌, ◌≤◌, ℕ, List, [], ◌∷◌, ◌++◌, length, Some}
+use Rattle.std.specs.Prelude.{◌≡◌, ◌<◌, ◌*◌, ◌≤◌, ℕ, List, [], ◌∷◌, ◌++◌, length, Some}
 use Rattle.std.specs.Int.RustNames.{unsigned_abs}
+use Rattle.tk_problem.specs.Places.{greatest_coordinate}
 use Rattle.tk_problem.specs.declared.point.Point.{Point}
 use Rattle.tk_problem_text.specs.declared.sections.coordinates.Wanted.{Wanted}
 use Rattle.tk_problem_text.specs.declared.sections.coordinates.Wanted.TheVariants as wants
@@ -19,7 +20,7 @@ pub record Placing : Type 0 where
 abbrev pub IsWithin : ℕ → Wanted → Type 0
 IsWithin size wants.Node = Unit {0}
 IsWithin size (wants.X index) = index < size
-IsWithin size (wants.Y index x) = (index < size) × (unsigned_abs x ≤ 10 ^ 18)
+IsWithin size (wants.Y index x) = (index < size) × (unsigned_abs x ≤ greatest_coordinate)
 
 pub record IsPlacing (places : List Point) (nodes : Named) (wanted : Wanted) : Type 0 where
   pub sizes : length nodes.flags ≡ length places

@@ -1,5 +1,6 @@
 -- The section of a problem whose tokens come.
 use Rattle.std.specs.Prelude.{◌≡◌, ◌≤◌, ◌+◌, ◌*◌, ◌++◌, ℕ, true, List, length, map, slice_index, Option, Some, None, []}
+use Rattle.tk_problem.specs.declared.limits.TheConstants.{TABLE_LIMIT}
 use Rattle.tk_words.specs.declared.keyword.Keyword.{Keyword}
 use Rattle.tk_words.specs.declared.keyword.Keyword.TheVariants as words
 use Rattle.tk_problem_text.specs.declared.sections.open_section.OpenSection.{OpenSection}
@@ -42,7 +43,7 @@ IsOpen before word n toks (Explicit s) =
     × HasWeights (size_of before) (format_in before) s toks × IsListed before
 IsOpen before word n toks (Loads s) =
     (word ≡ words.DemandSection) × HasSome before word n toks × HasDemands (size_of before) s toks
-    × (size_of before ≤ 5000)
+    × (size_of before ≤ TABLE_LIMIT)
 IsOpen before word n toks (Home s) =
     (word ≡ words.DepotSection) × HasDepotTokens before n toks × HasDepot (size_of before) s toks
 IsOpen before word n toks (Display left) =
@@ -68,7 +69,7 @@ IsFull before word toks (Explicit s) =
     (word ≡ words.EdgeWeightSection) × HasWeights (size_of before) (format_in before) s toks × IsListed before
 IsFull before word toks (Loads s) =
     (word ≡ words.DemandSection) × HasDemands (size_of before) s toks × (length toks ≡ 2 * size_of before)
-    × (size_of before ≤ 5000)
+    × (size_of before ≤ TABLE_LIMIT)
 IsFull before word toks (Home s) =
     (word ≡ words.DepotSection) × IsFirst (size_of before) (slice_index (map number_in toks) 0) s.node
 IsFull before word toks (Display left) = word ≡ words.DisplayDataSection

@@ -2,12 +2,13 @@
 use Rattle.std.specs.Prelude.{ℕ, ◌%◌, ◌^◌, Bool, false, not, ◌||◌, ◌==◌, nat_eq, nat_le, List, [], ◌∷◌, length, map, Option, Some, None, ℤ, pos, if◌then◌else◌, is_none, unwrap_or}
 use Rattle.std.specs.Int.RustNames.{unsigned_abs}
 use Rattle.std.specs.List.{range_with_len, list_any}
+use Rattle.tk_problem.specs.declared.limits.TheConstants.{CAPACITY_LIMIT}
 use Rattle.tk_words.specs.declared.fault.TextKind.{TextKind}
 use Rattle.tk_words.specs.declared.fault.TextKind.TheVariants as kinds
 use Rattle.tk_problem.specs.declared.point.Point.{Point}
 use Rattle.tk_words.specs.Lex.{Token, integer}
 use Rattle.tk_words.specs.Decimal.{decimal_of}
-use Rattle.tk_problem.specs.Places.{origin}
+use Rattle.tk_problem.specs.Places.{origin, greatest_coordinate}
 use Rattle.tk_words.specs.Entry.{in_range, number_tests, natural_or_zero}
 
 -- the number that a token spells
@@ -61,7 +62,7 @@ node_tests n before t =
 -- a magnitude of at most 10^9, in billionths
 abbrev pub is_near : Option ℤ → Bool
 is_near None = false
-is_near (Some z) = nat_le (unsigned_abs z) (10 ^ 18)
+is_near (Some z) = nat_le (unsigned_abs z) greatest_coordinate
 
 abbrev pub coordinate_tests : Token → List (Bool × TextKind)
 coordinate_tests t =
@@ -75,4 +76,4 @@ place_tests n before t =
 -- of rows of a node and its demand
 abbrev pub demand_tests : ℕ → List Token → Token → List (Bool × TextKind)
 demand_tests n before t = if length before % 2 == 0 then node_tests n (nodes_in (demand_rows before)) t
-    else number_tests 0 2000000000 t.bytes
+    else number_tests 0 CAPACITY_LIMIT t.bytes

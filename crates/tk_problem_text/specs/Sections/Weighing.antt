@@ -1,5 +1,6 @@
 -- What the reader of explicit weights has taken.
 use Rattle.std.specs.Prelude.{◌≡◌, ◌≤◌, ℕ, List}
+use Rattle.tk_problem.specs.declared.limits.TheConstants.{TABLE_LIMIT}
 use Rattle.tk_problem_text.specs.declared.sections.explicit_weights.ExplicitWeights.{ExplicitWeights}
 use Rattle.tk_problem.specs.declared.weights.Format.{Format}
 use Rattle.tk_words.specs.Lex.{Token}
@@ -8,6 +9,6 @@ use Rattle.tk_problem_text.specs.Sections.WeightSection.{weights_in}
 
 -- these tokens of a format for n cities, of which there may be 5,000, were taken
 pub record HasWeights (n : ℕ) (f : Format) (s : ExplicitWeights) (toks : List Token) : Type 0 where
-  pub few : n ≤ 5000
+  pub few : n ≤ TABLE_LIMIT
   pub format : s.format ≡ f
   pub so_far : IsSoFar s.lower f n (weights_in toks)

@@ -1,5 +1,6 @@
 -- The section of explicit weights.
 use Rattle.std.specs.Prelude.{ℕ, suc, Bool, false, true, not, ◌&&◌, ◌==◌, nat_lt, List, ◌∷◌, [], length, map, is_none, slice_index_or}
+use Rattle.tk_problem.specs.declared.limits.TheConstants.{DISTANCE_LIMIT}
 use Rattle.tk_words.specs.declared.fault.TextKind.{TextKind}
 use Rattle.tk_words.specs.declared.fault.TextKind.TheVariants as kinds
 use Rattle.tk_problem.specs.declared.place.Place.{Place}
@@ -31,7 +32,7 @@ abbrev pub weight_tests : ℕ → Format → List Token → Token → List (Bool
 weight_tests n f before t =
     let p = place_behind n f before in
     (is_none (integer t.bytes), kinds.BadNumber)
-    ∷ (not (p.row == p.column) && not (in_range 0 4000000000 (integer t.bytes)), kinds.OutOfLimit)
+    ∷ (not (p.row == p.column) && not (in_range 0 DISTANCE_LIMIT (integer t.bytes)), kinds.OutOfLimit)
     ∷ (
       is_full f && nat_lt p.column p.row
           && not (number_in t == weight_of p.row p.column (entries f n (weights_in before))),

@@ -1,5 +1,6 @@
 //! How a section of a problem begins.
 ghost use Rattle.std.specs.Prelude.{◌≡◌, ◌≤◌, ℕ, true, List, Some, None, if◌then◌else◌, IfOk, IfErr};
+ghost use Rattle.tk_problem.specs.declared.limits.TheConstants.{CITY_LIMIT};
 ghost use Rattle.tk_words.specs.declared.keyword.Keyword.TheVariants as words;
 ghost use Rattle.tk_problem_text.specs.Sections.BegunSections as Begun;
 ghost use Rattle.tk_problem_text.specs.Sections.BegunSections.{IsReady, IsBegun};
@@ -16,11 +17,8 @@ use crate::sections::depot::Depot;
 use crate::sections::explicit_weights::ExplicitWeights;
 use crate::sections::open_section::OpenSection;
 use std::alloc::Global;
-use tk_problem::Format;
+use tk_problem::{Format, TABLE_LIMIT};
 use tk_words::{Keyword, TextKind};
-
-/// The nodes of a problem with explicit weights or with demands, or whose matrix is written.
-pub const TABLE_LIMIT: u32 = 5_000;
 
 /// The section of a word, after these parts.
 ///
@@ -70,7 +68,7 @@ fn begin_known(
     size: u32,
 ) -> Result<OpenSection, TextKind>
     ensures ok { (before : List Piece) → HasParts parts.now before
-        → parts.now.headers.problem_type ≡ Some problem_type → size_of before ≡ size → size ≤ 100000
+        → parts.now.headers.problem_type ≡ Some problem_type → size_of before ≡ size → size ≤ CITY_LIMIT
         → is_known_section word ≡ true → IfOk result (IsReady before word) }
     ensures err { (before : List Piece) (n : ℕ) → HasParts parts.now before
         → parts.now.headers.problem_type ≡ Some problem_type → size_of before ≡ size

@@ -11,10 +11,8 @@ use crate::sections::within::number_of;
 use std::alloc::Global;
 use std::marker::Model;
 use tk_lines::Taken;
+use tk_problem::CAPACITY_LIMIT;
 use tk_words::TextKind;
-
-/// A demand, and a capacity.
-pub const LOAD_LIMIT: u32 = 2_000_000_000;
 
 /// DEMAND_SECTION: a node and its demand for each of n nodes.
 #[derive(Drop)]
@@ -70,7 +68,7 @@ impl Demands {
                 self.node = Some(index);
             }
             Some(index) => {
-                let load = number_of(token, 0, LOAD_LIMIT)?;
+                let load = number_of(token, 0, CAPACITY_LIMIT)?;
                 self.loads[index] = load;
                 self.node = None;
                 if self.nodes.are_all() {

@@ -1,5 +1,6 @@
 //! The explicit weights of a problem, token by token.
 ghost use Rattle.std.specs.Prelude.{◌≡◌, ◌≢◌, ◌<◌, ◌≤◌, ℕ, suc, List, [], ◌∷◌, ◌++◌, length, None, Some, pos, slice_get, nat_lt, ◌&&◌, IfOk, IfErr, IfSome, OnErr};
+ghost use Rattle.tk_problem.specs.declared.limits.TheConstants.{DISTANCE_LIMIT, TABLE_LIMIT};
 ghost use Rattle.tk_problem.specs.declared.weights.Format.{Format};
 ghost use Rattle.tk_problem.specs.declared.weights.Weights.TheVariants as weights;
 ghost use Rattle.tk_problem_text.specs.Sections.FixedSections.{fixed_taken};
@@ -12,11 +13,8 @@ ghost use Rattle.tk_problem_text.specs.Sections.WeightSection.{is_full, weight_c
 
 use std::alloc::Global;
 use tk_lines::Taken;
-use tk_problem::{Format, LowerWeights, Place};
+use tk_problem::{DISTANCE_LIMIT, Format, LowerWeights, Place};
 use tk_words::{TextKind, integer, limited};
-
-/// An explicit weight.
-pub const WEIGHT_LIMIT: u32 = 4_000_000_000;
 
 /// EDGE_WEIGHT_SECTION: the weights of a format, kept as the lower triangle row by row without its diagonal.
 #[derive(Drop)]
@@ -33,7 +31,7 @@ impl ExplicitWeights {
     /// # Errors
     /// `NoMemory` if there is no memory for n (n - 1) / 2 weights.
     pub fn new(alloc: Global, n: u32, format: Format) -> Result<Self, TextKind>
-        requires { n ≤ 5000 }
+        requires { n ≤ TABLE_LIMIT }
         ensures ok { IfOk result (λ s. HasWeights n format s []) }
         ensures err { IfErr result (λ k. k ≡ TextKind.NoMemory) }
     {
@@ -95,13 +93,13 @@ impl ExplicitWeights {
         requires pair { IfSome (slice_get self.now.lower.places 0) (λ p. p.row ≢ p.column) }
         ensures ok { (n : ℕ) (f : Format) (toks : List Token) (t : Token) → HasWeights n f self.now toks
             → integer t.bytes ≡ Some number → IfOk result (λ w. first_at t.line (weight_tests n f toks t) ≡ None) }
-        ensures is { IfOk result (λ w. (number ≡ pos w) × (w ≤ 4000000000)) }
+        ensures is { IfOk result (λ w. (number ≡ pos w) × (w ≤ DISTANCE_LIMIT)) }
         ensures err { (n : ℕ) (f : Format) (toks : List Token) (t : Token) → HasWeights n f self.now toks
             → integer t.bytes ≡ Some number
             → IfErr result (IsToldWord (λ k. first_at t.line (weight_tests n f toks t) ≡ Some (Fault t.line k))) }
     {
         let place = self.lower.place();
-        let Some(weight) = limited(number, 0, WEIGHT_LIMIT) else {
+        let Some(weight) = limited(number, 0, DISTANCE_LIMIT) else {
             return Err(TextKind::OutOfLimit);
         };
         if self.repeats(place) {

@@ -2,6 +2,7 @@
 use Rattle.std.proofs.Common.{◌≡◌, ℕ, ◌+◌, ◌-◌, ◌*◌, ◌/◌, ◌≤◌, List, [], length, sym, ap, ◌∙◌, subst, arith}
 use Rattle.std.specs.Prelude.{min}
 use Rattle.std.proofs.Math.Nat.{mul-le-mul_left, mul-le-mul_right}
+use Rattle.tk_problem.specs.declared.limits.TheConstants.{DISTANCE_LIMIT, TABLE_LIMIT}
 use Rattle.tk_distance.specs.Cities.{IsCity}
 use Rattle.tk_near.specs.Near.{NearLists, near_of, AreNearest, IsNear}
 use Rattle.tk_tour.specs.Reversal.{AreReversed}
@@ -34,17 +35,17 @@ Pass-from d e near m n C T Q looks moves tests table start queue run =
     (subst (λ (v : List ℕ). Run d near m v Q T [] looks moves tests) start (subst (λ (v : ℕ → ℕ → ℕ). Run v near m C Q T [] looks moves tests) table run))
 
 -- a move makes the tour shorter, so there are not many
-pub few_moves : (d e : ℕ → ℕ → ℕ) (n moves : ℕ) (C T : List ℕ) → e ≡ d → length C ≡ n → n ≤ 5000 →
-    ((a b : ℕ) → d a b ≤ 4000000000) → moves + tour_length e T ≤ tour_length e C → moves ≤ 20000000000000
+pub few_moves : (d e : ℕ → ℕ → ℕ) (n moves : ℕ) (C T : List ℕ) → e ≡ d → length C ≡ n → n ≤ TABLE_LIMIT →
+    ((a b : ℕ) → d a b ≤ DISTANCE_LIMIT) → moves + tour_length e T ≤ tour_length e C → moves ≤ 20000000000000
 few_moves d e n moves C T table size few limit goes =
-    let long : tour_length d C ≤ 4000000000 * length C = tour_length-limit d 4000000000 C limit in
+    let long : tour_length d C ≤ DISTANCE_LIMIT * length C = tour_length-limit d DISTANCE_LIMIT C limit in
     let made : moves + tour_length d T ≤ tour_length d C = subst (λ (v : ℕ → ℕ → ℕ). moves + tour_length v T ≤ tour_length v C) table goes in
     omega (arith, long, made, size, few)
 
 -- what flips did, as their counts have not reached their greatest values
 pub IsFlipped-counted : (n moves swaps : ℕ) (old new : ArrayTour) → order_of old ≡ one_to n → FlipsAlone old new →
     flips_of old ≡ 0 → swaps_of old ≡ 0 → flips_of new ≤ flips_of old + 3 * moves → swaps ≡ swaps_of new - swaps_of old →
-    swaps ≤ 3 * (n / 4) * moves → n ≤ 5000 → moves ≤ 20000000000000 → IsFlipped (one_to n) (order_of new) moves swaps
+    swaps ≤ 3 * (n / 4) * moves → n ≤ TABLE_LIMIT → moves ≤ 20000000000000 → IsFlipped (one_to n) (order_of new) moves swaps
 IsFlipped-counted n moves swaps old new start alone no_flips no_swaps flips taken most few small =
     let wide : 3 * (n / 4) * moves ≤ 3750 * moves = mul-le-mul_right moves (omega (arith, few)) in
     let swaps_are : alone.swaps ≡ swaps = omega (arith, alone.swaps_are, no_swaps, taken, most, wide, small) in

@@ -5,6 +5,7 @@ use Rattle.std.specs.List.Sorted.{IsPermutation}
 use Rattle.std.proofs.Math.Nat.{mul-le-mul_left, mul-le-mul_right}
 use Rattle.std.proofs.lemmas.List.{get_or_at, set_at}
 use Rattle.std.proofs.lemmas.List.Folds.{concat-append}
+use Rattle.tk_problem.specs.declared.limits.TheConstants.{CANDIDATE_LIMIT, DISTANCE_LIMIT, TABLE_LIMIT}
 use Rattle.tk_distance.specs.Cities.{IsCity}
 use Rattle.tk_routes.specs.Instance.{Instance, customer_count}
 use Rattle.tk_routes.specs.Routes.{AreRoutes, route_length, routes_cost}
@@ -60,7 +61,7 @@ route_at i k m olds now j moves swaps tests h old lt at =
 more_tests : (b l f moves q made t u : ℕ) → t ≤ b * (l + f + 6 * moves) → u ≤ b * (q + 1 + 6 * made) → t + u ≤ b * (l + q + (f + 1) + 6 * (moves + made))
 more_tests b l f moves q made t u h g = omega arith
 
-pub IsImprovedTo-more : (i : Instance) (k m : ℕ) (olds now : List (List ℕ)) (j moves swaps tests : ℕ) → IsImprovedTo i k m olds now j moves swaps tests → i.size ≤ 5000 →
+pub IsImprovedTo-more : (i : Instance) (k m : ℕ) (olds now : List (List ℕ)) (j moves swaps tests : ℕ) → IsImprovedTo i k m olds now j moves swaps tests → i.size ≤ TABLE_LIMIT →
     (old new : List ℕ) (made s t : ℕ) → j < length now → old ≡ get_or now j [] → IsImproved i k m old new made t s → IsPermutation old new →
     made + route_length i new ≤ route_length i old → t ≤ 4 * m * k * (length old + 1 + 6 * made) → s ≤ 3 * ((length old + 1) / 4) * made →
     IsImprovedTo i k m olds (set now j new) (j + 1) (moves + made) (swaps + s) (tests + t)
@@ -139,13 +140,13 @@ front_short i k m olds now j moves swaps tests h =
     let least = few_routes front filled in
     (omega (arith, whole, h.olds_are.once.0), omega (arith, whole, h.olds_are.once.0, least))
 
-scaled : (m k y : ℕ) → m ≤ 3 → k ≤ 100 → 4 * m * k * y ≤ 1200 * y
+scaled : (m k y : ℕ) → m ≤ 3 → k ≤ CANDIDATE_LIMIT → 4 * m * k * y ≤ 1200 * y
 scaled m k y hm hk =
     let one : 4 * m * k ≤ 12 * k = mul-le-mul_right k (omega arith) in
     mul-le-mul_right y (omega (arith, one))
 
-pub small_counts : (i : Instance) (k m : ℕ) (olds now : List (List ℕ)) (j moves swaps tests : ℕ) → IsImprovedTo i k m olds now j moves swaps tests → i.size ≤ 5000 → k ≤ 100 → m ≤ 3 →
-    ((a : ℕ) → i.distance a a ≡ 0) → ((a b : ℕ) → i.distance a b ≤ 4000000000) →
+pub small_counts : (i : Instance) (k m : ℕ) (olds now : List (List ℕ)) (j moves swaps tests : ℕ) → IsImprovedTo i k m olds now j moves swaps tests → i.size ≤ TABLE_LIMIT → k ≤ CANDIDATE_LIMIT → m ≤ 3 →
+    ((a : ℕ) → i.distance a a ≡ 0) → ((a b : ℕ) → i.distance a b ≤ DISTANCE_LIMIT) →
     (routes_cost i olds ≤ 40000000000000) × (moves ≤ 40000000000000) × (swaps ≤ 150000000000000000) × (tests ≤ 300000000000000000)
 small_counts i k m olds now j moves swaps tests h few hk hm diagonal limit =
     let y : ℕ = length (concat h.part.front) + length h.part.front + 6 * moves in

@@ -1,6 +1,7 @@
 //! The check of claimed routes.
 ghost use Rattle.std.specs.Prelude.{◌≡◌, ◌≤◌, ◌+◌, ℕ, IfOk, List, [], MatchOption, ◌∷◌, ◌++◌, length, map, pos};
 ghost use Rattle.std.specs.List.{All, concat};
+ghost use Rattle.tk_problem.specs.declared.limits.TheConstants.{TABLE_LIMIT};
 ghost use Rattle.tk_routes.specs.Cvrps.{instance_of};
 ghost use Rattle.tk_routes.specs.Instance.{customer_count};
 ghost use Rattle.tk_routes.specs.Routes.{IsLight, routes_cost};
@@ -61,7 +62,7 @@ fn first_over(cvrp: &Cvrp<'_>, routes: &[Vec<u32>]) -> Option<RouteVerdict>
 
 /// The lowest customer that was not served.
 fn first_missing(served: &[bool]) -> Option<u32>
-    requires { length served.now ≤ 5000 }
+    requires { length served.now ≤ TABLE_LIMIT }
     ensures { IsLowestFree served.now result }
 {
     for k in 0..served.len() {

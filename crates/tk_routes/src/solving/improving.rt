@@ -1,5 +1,6 @@
 //! Each route made shorter by itself.
 ghost use Rattle.std.specs.Prelude.{◌≡◌, pos, ◌+◌, ◌≤◌, IfOk, IfErr, length};
+ghost use Rattle.tk_problem.specs.declared.limits.TheConstants.{CANDIDATE_LIMIT};
 ghost use Rattle.tk_routes.specs.Cvrps.{instance_of};
 ghost use Rattle.tk_routes.specs.Instance.{customer_count};
 ghost use Rattle.tk_routes.specs.Routes.{AreRoutes, routes_cost};
@@ -23,7 +24,7 @@ fn improve_each(
     m: u32,
 ) -> Result<RouteReport, AllocError>
     requires routes { AreRoutes (instance_of cvrp.now) (lists_of lists.old) }
-    requires candidates { (1 ≤ max_candidates) × (max_candidates ≤ 100) }
+    requires candidates { (1 ≤ max_candidates) × (max_candidates ≤ CANDIDATE_LIMIT) }
     requires most { (1 ≤ m) × (m ≤ 3) }
     ensures improved { IfOk result (λ r. AreImproved (instance_of cvrp.now) max_candidates m
         (lists_of lists.old) (lists_of lists.new) r.moves r.tests r.swaps) }
@@ -81,7 +82,7 @@ pub fn improve(
     m: u32,
 ) -> Result<RouteReport, AllocError>
     requires same { instance_of_routes routes.old ≡ instance_of cvrp.now }
-    requires candidates { (1 ≤ max_candidates) × (max_candidates ≤ 100) }
+    requires candidates { (1 ≤ max_candidates) × (max_candidates ≤ CANDIDATE_LIMIT) }
     requires most { (1 ≤ m) × (m ≤ 3) }
     ensures improved { IfOk result (λ r. AreImproved (instance_of cvrp.now) max_candidates m
         (routes_of routes.old) (routes_of routes.new) r.moves r.tests r.swaps) }

@@ -1,6 +1,7 @@
 //! One route by itself, made shorter by a descent.
 ghost use Rattle.std.specs.Prelude.{◌≡◌, pos, ◌+◌, ◌*◌, ◌/◌, ◌<◌, ◌≤◌, IfOk, All, length, slice_index};
 ghost use Rattle.std.specs.List.Sorted.{IsPermutation};
+ghost use Rattle.tk_problem.specs.declared.limits.TheConstants.{CANDIDATE_LIMIT, TABLE_LIMIT};
 ghost use Rattle.tk_distance.specs.Cities.{IsCity};
 ghost use Rattle.tk_near.specs.Near.{near_of};
 ghost use Rattle.tk_tour.specs.ArrayTours.{order_of};
@@ -66,7 +67,7 @@ fn descend_awake<M: Metric>(
     m: u32,
 ) -> Result<(ArrayTour, Report), AllocError>
     requires some { 2 ≤ M.size_of metric.now }
-    requires few { M.size_of metric.now ≤ 5000 }
+    requires few { M.size_of metric.now ≤ TABLE_LIMIT }
     requires fits { near.now.size ≡ M.size_of metric.now }
     requires most { (1 ≤ m) × (m ≤ 3) }
     ensures pass { IfOk result (λ r. Pass (M.distance metric.now) (near_of near.now) m (one_to (M.size_of metric.now))
@@ -125,8 +126,8 @@ fn improve_over<M: Metric>(
     requires distances { M.distance metric.now
         ≡ place_distance (instance_of cvrp.now).distance (route_nodes (instance_of cvrp.now) route.now) }
     requires some { 1 ≤ length route.now }
-    requires few { length route.now < 5000 }
-    requires candidates { (1 ≤ max_candidates) × (max_candidates ≤ 100) }
+    requires few { length route.now < TABLE_LIMIT }
+    requires candidates { (1 ≤ max_candidates) × (max_candidates ≤ CANDIDATE_LIMIT) }
     requires most { (1 ≤ m) × (m ≤ 3) }
     ensures improved { IfOk result (λ r. IsImproved
         (instance_of cvrp.now) max_candidates m route.now r.0.items r.1.moves r.1.tests r.1.swaps) }
@@ -157,8 +158,8 @@ pub(crate) fn improve_route(
 ) -> Result<(Vec<u32>, Report), AllocError>
     requires known { All (IsCity (customer_count (instance_of cvrp.now))) route.now }
     requires some { 1 ≤ length route.now }
-    requires few { length route.now < 5000 }
-    requires candidates { (1 ≤ max_candidates) × (max_candidates ≤ 100) }
+    requires few { length route.now < TABLE_LIMIT }
+    requires candidates { (1 ≤ max_candidates) × (max_candidates ≤ CANDIDATE_LIMIT) }
     requires most { (1 ≤ m) × (m ≤ 3) }
     ensures improved { IfOk result (λ r. IsImproved
         (instance_of cvrp.now) max_candidates m route.now r.0.items r.1.moves r.1.tests r.1.swaps) }

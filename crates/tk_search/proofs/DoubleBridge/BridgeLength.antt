@@ -2,6 +2,7 @@
 use Rattle.std.proofs.Common.{◌≡◌, ℕ, ℤ, ◌+◌, ◌≤◌, ◌+ℤ◌, ◌-ℤ◌, ◌≤ℤ◌, FitsSigned, List, ◌++◌, of_z, pos, to_z, w64, ap, arith, subst, sym, ◌∙◌}
 use Rattle.std.proofs.lemmas.Int.{ints, to_z-of_z}
 use Rattle.std.specs.Prelude.{slice_index}
+use Rattle.tk_problem.specs.declared.limits.TheConstants.{DISTANCE_LIMIT}
 use Rattle.tk_tour.specs.Moves.{CutInFour}
 use Rattle.tk_tour.specs.Tour.{SameCycle, tour_length}
 use Rattle.tk_descent.proofs.MovesOnTours.Length.{Spans-append, closed, inner, inner-append, length-cycle}
@@ -51,7 +52,7 @@ added_up r s t u = held (held (held (held r +ℤ held s) +ℤ held t) +ℤ held 
 abbrev pub exchanged_by : ℤ → ℤ → ℤ → ℤ
 exchanged_by before o p = held (held before -ℤ held o) +ℤ held p
 
-pub added_is : (r s t u : ℤ) (a b c e : ℕ) → r ≡ pos a → s ≡ pos b → t ≡ pos c → u ≡ pos e → a ≤ 4000000000 → b ≤ 4000000000 → c ≤ 4000000000 → e ≤ 4000000000 →
+pub added_is : (r s t u : ℤ) (a b c e : ℕ) → r ≡ pos a → s ≡ pos b → t ≡ pos c → u ≡ pos e → a ≤ DISTANCE_LIMIT → b ≤ DISTANCE_LIMIT → c ≤ DISTANCE_LIMIT → e ≤ DISTANCE_LIMIT →
     added_up r s t u ≡ pos (a + b + c + e)
 added_is r s t u a b c e hr hs ht hu la lb lc le = omega (arith, ints, hr, hs, ht, hu, la, lb, lc, le)
 
@@ -77,7 +78,7 @@ module _ (before o p : ℤ) (a b : ℕ) (low : pos 0 ≤ℤ before) (high : befo
       let e : to_z w64 (of_z w64 (exchanged_by before o p)) ≡ before -ℤ o +ℤ p = ap held plain ∙ to_z-of_z w64 (before -ℤ o +ℤ p) plain_fits in
       ap (λ v. v +ℤ pos a) e ∙ omega (arith, ints, ho, hp)
 
-module _ (d : ℕ → ℕ → ℕ) (ends : List ℕ) (limit : (a b : ℕ) → d a b ≤ 4000000000) where
+module _ (d : ℕ → ℕ → ℕ) (ends : List ℕ) (limit : (a b : ℕ) → d a b ≤ DISTANCE_LIMIT) where
   pub few_out : steps_out d ends ≤ 16000000000
   few_out = omega (arith, limit (slice_index ends 1) (slice_index ends 2), limit (slice_index ends 3) (slice_index ends 4), limit (slice_index ends 5) (slice_index ends 6), limit (slice_index ends 7) (slice_index ends 0))
 

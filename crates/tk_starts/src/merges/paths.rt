@@ -1,6 +1,7 @@
 //! The paths that the joints make.
 ghost use Rattle.std.specs.Prelude.{◌≡◌, ◌≢◌, ℕ, ◌+◌, ◌-◌, ◌^◌, ◌≤◌, ◌<◌, IfOk, List, [], ◌∷◌, length, vec_len, slice_index_or, IsTrue, ◌==◌, if◌then◌else◌, map, not, nat_le, ◌&&◌};
 ghost use Rattle.std.specs.List.{All};
+ghost use Rattle.tk_problem.specs.declared.limits.TheConstants.{CITY_LIMIT};
 ghost use Rattle.tk_starts.specs.Joints.{joints_at, ArePartPaths};
 ghost use Rattle.tk_starts.specs.declared.merges.pairs.Pair.{Pair};
 ghost use Rattle.tk_distance.specs.Cities.{IsCity};
@@ -24,7 +25,7 @@ impl Paths {
     /// # Errors
     /// `AllocError` if there is no memory for the ends and loads of n paths.
     pub fn new(alloc: Global, loads: &[u32]) -> Result<Paths, AllocError>
-        requires { length loads.now ≤ 100000 }
+        requires { length loads.now ≤ CITY_LIMIT }
         ensures sizes { IfOk result (λ p. (vec_len p.one ≡ length loads.now + 1)
             × (vec_len p.two ≡ length loads.now + 1) × (vec_len p.other ≡ length loads.now + 1)
             × (vec_len p.load ≡ length loads.now + 1)) }

@@ -1,6 +1,7 @@
 //! The savings merges.
 ghost use Rattle.std.specs.Prelude.{◌≡◌, ℕ, ◌+◌, ◌≤◌, IfOk, List, [], length, vec_len, map, replicate, ◌∷◌};
 ghost use Rattle.std.specs.List.{All, flat_map, sum_by};
+ghost use Rattle.tk_problem.specs.declared.limits.TheConstants.{CITY_LIMIT};
 ghost use Rattle.tk_distance.specs.Cities.{IsCity};
 ghost use Rattle.tk_near.specs.Near.{near_of};
 ghost use Rattle.tk_tour.specs.Tour.{IsTour};
@@ -21,7 +22,7 @@ fn joined_paths(
     capacity: u64,
     pairs: &[Pair],
 ) -> Result<Paths, AllocError>
-    requires limit { length loads.now ≤ 100000 }
+    requires limit { length loads.now ≤ CITY_LIMIT }
     requires within { All (IsWithin (length loads.now)) pairs.now }
     ensures sizes { IfOk result (λ p. (vec_len p.one ≡ length loads.now + 1) × (vec_len p.two ≡ length loads.now + 1)
         × (vec_len p.other ≡ length loads.now + 1) × (vec_len p.load ≡ length loads.now + 1)) }

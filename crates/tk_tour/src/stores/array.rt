@@ -11,6 +11,7 @@ use crate::store::{Flip, TourStore};
 use crate::stores::reversal::reverse_places;
 use crate::verdict::{Verdict, place_cities};
 use std::alloc::{AllocError, Global};
+use tk_problem::CITY_LIMIT;
 
 /// A tour of 2 to 100,000 cities, as the list of its cities and the place of each.
 #[derive(Drop)]
@@ -112,7 +113,7 @@ impl ArrayTour {
         ensures fault { IfErr result (λ e. IsFaultOf cities.now e) }
     {
         let n = cities.len();
-        if n < 2 || n > 100_000 {
+        if n < 2 || n > CITY_LIMIT as usize {
             return Err(TourFault::WrongCount);
         }
         let Ok(order) = Vec::from_slice(alloc, cities) else {

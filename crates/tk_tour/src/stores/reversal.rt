@@ -1,12 +1,13 @@
 //! The reversal of places.
 ghost use Rattle.std.specs.Prelude.{◌≡◌, ◌≤◌, ◌<◌, ◌-◌, ℕ, length};
+ghost use Rattle.tk_problem.specs.declared.limits.TheConstants.{CITY_LIMIT};
 ghost use Rattle.tk_tour.specs.Reversal.{IsInverse, reversed_places};
 
 // Reverses `count` places from `first` on, modulo the length, by `count / 2` exchanges of two cities.
 pub(crate) fn reverse_places(order: &mut [u32], place: &mut [u32], first: usize, count: usize)
     requires first_in { first < length order.old }
     requires count_in { count ≤ length order.old }
-    requires size { length order.old ≤ 100000 }
+    requires size { length order.old ≤ CITY_LIMIT }
     requires places { IsInverse order.old place.old }
     ensures reversed { order.new ≡ reversed_places first count order.old }
     ensures places { IsInverse order.new place.new }
@@ -22,7 +23,7 @@ pub(crate) fn reverse_places(order: &mut [u32], place: &mut [u32], first: usize,
 fn reverse_within(order: &mut [u32], place: &mut [u32], first: usize, last: usize)
     requires from { first ≤ last }
     requires to { last ≤ length order.old }
-    requires size { length order.old ≤ 100000 }
+    requires size { length order.old ≤ CITY_LIMIT }
     requires places { IsInverse order.old place.old }
     ensures reversed { order.new ≡ reversed_places first (last - first) order.old }
     ensures places { IsInverse order.new place.new }
@@ -37,7 +38,7 @@ fn reverse_within(order: &mut [u32], place: &mut [u32], first: usize, last: usiz
 fn reverse_round(order: &mut [u32], place: &mut [u32], first: usize, count: usize)
     requires first_in { first < length order.old }
     requires count_in { count ≤ length order.old }
-    requires size { length order.old ≤ 100000 }
+    requires size { length order.old ≤ CITY_LIMIT }
     requires places { IsInverse order.old place.old }
     ensures reversed { order.new ≡ reversed_places first count order.old }
     ensures places { IsInverse order.new place.new }

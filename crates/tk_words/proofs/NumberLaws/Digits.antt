@@ -14,6 +14,7 @@ use Rattle.tk_words.specs.declared.numbers.decimals.TheConstants.{POWERS_OF_TEN}
 use Rattle.std.proofs.lemmas.List.FromFn.{get_or-map-range_with_len}
 use Rattle.std.proofs.lemmas.Int.{to_z_pos, to_z-of_z, ints, fits_signed_from_abs}
 use Rattle.std.specs.Int.RustNames.{unsigned_abs, FitsSigned}
+use Rattle.tk_problem.specs.Places.{greatest_coordinate}
 use Rattle.tk_words.specs.declared.fault.TextKind.{TextKind}
 use Rattle.tk_words.specs.declared.fault.TextKind.TheVariants as kinds
 use Rattle.tk_words.specs.Decimal.{decimal_of, limited, billionths, exponent, behind_fraction, fraction, number_behind, number_of}
@@ -170,14 +171,14 @@ billionths_is bs whole rest digits last up down count is_whole is_rest is_digits
     rw (← is_whole, ← is_rest, ← is_digits, ← is_last, ← power, not_both_empty whole digits some) (ap Some (rw (← zeros, ← kept) value))
 
 -- the limit
-pub limited-low : (o : Option ℕ) (n v : ℕ) → o ≡ Some v → v ≤ 10 ^ 18 → n ≡ v → limited (option_map pos o) ≡ Ok (to_z w64 n)
+pub limited-low : (o : Option ℕ) (n v : ℕ) → o ≡ Some v → v ≤ greatest_coordinate → n ≡ v → limited (option_map pos o) ≡ Ok (to_z w64 n)
 limited-low o n v e low same =
-    let t : leb v (10 ^ 18) ≡ true = grind (arith, nat_tests) in
+    let t : leb v greatest_coordinate ≡ true = grind (arith, nat_tests) in
     rw (e, t) (ap Ok (sym (to_z_pos w64 n (omega arith) ∙ ap pos same)))
 
-pub limited-high : (o : Option ℕ) (v : ℕ) → o ≡ Some v → (v ≤ 10 ^ 18 → ⊥) → limited (option_map pos o) ≡ Err kinds.OutOfLimit
+pub limited-high : (o : Option ℕ) (v : ℕ) → o ≡ Some v → (v ≤ greatest_coordinate → ⊥) → limited (option_map pos o) ≡ Err kinds.OutOfLimit
 limited-high o v e high =
-    let t : leb v (10 ^ 18) ≡ false = grind (arith, nat_tests) in
+    let t : leb v greatest_coordinate ≡ false = grind (arith, nat_tests) in
     rw (e, t) refl
 
 -- ---- a minus sign
@@ -196,11 +197,11 @@ minus_err false n kind e = sym e
 
 limited-minus : (o : Option ℕ) (z : ℤ) → Ok z ≡ limited (option_map pos o) → limited (option_map (λ n. neg_ℤ (pos n)) o) ≡ Ok (neg_ℤ z)
 limited-minus None z e = cc
-limited-minus (Some n) z e = rw (abs-minus n) (minus_ok (leb n (10 ^ 18)) n z e)
+limited-minus (Some n) z e = rw (abs-minus n) (minus_ok (leb n greatest_coordinate) n z e)
 
 limited-minus_err : (o : Option ℕ) (kind : TextKind) → Err kind ≡ limited (option_map pos o) → limited (option_map (λ n. neg_ℤ (pos n)) o) ≡ Err kind
 limited-minus_err None kind e = sym e
-limited-minus_err (Some n) kind e = rw (abs-minus n) (minus_err (leb n (10 ^ 18)) n kind e)
+limited-minus_err (Some n) kind e = rw (abs-minus n) (minus_err (leb n greatest_coordinate) n kind e)
 
 decimal_of-minus : (bs : List ℕ) → 0 < length bs → get_or bs 0 0 ≡ 45 → decimal_of bs ≡ option_map (λ n. neg_ℤ (pos n)) (billionths (take (length bs - 1) (drop 1 bs)))
 decimal_of-minus [] some minus = absurd (omega arith)
@@ -219,7 +220,7 @@ decimal-minus_err bs kind some minus e = rw (decimal_of-minus bs some minus) (li
 zero-sub : (z : ℤ) → pos 0 -ℤ z ≡ neg_ℤ z
 zero-sub z = omega (arith, ints)
 
-pub negated : (z : ℤ) → unsigned_abs z ≤ 10 ^ 18 → to_z w64 (of_z w64 (pos 0 -ℤ to_z w64 (of_z w64 z))) ≡ neg_ℤ z
+pub negated : (z : ℤ) → unsigned_abs z ≤ greatest_coordinate → to_z w64 (of_z w64 (pos 0 -ℤ to_z w64 (of_z w64 z))) ≡ neg_ℤ z
 negated z small =
     let fits : FitsSigned w64 z = fits_signed_from_abs w64 z (omega arith) in
     let same : pos 0 -ℤ to_z w64 (of_z w64 z) ≡ neg_ℤ z = ap (λ x. pos 0 -ℤ x) (to_z-of_z w64 z fits) ∙ zero-sub z in

@@ -2,14 +2,16 @@
 ghost use Rattle.std.specs.Prelude.{◌≡◌, ◌≤◌, ◌+◌, ◌-◌, ◌*◌, ◌^◌, ◌++◌, All, IfOk, IfSome, SomeIff, ◌<◌, take, length, option_map, pos};
 ghost use Rattle.std.specs.Char.{IsAsciiDigit, is_ascii_digit};
 ghost use Rattle.std.specs.Int.RustNames.{unsigned_abs};
+ghost use Rattle.tk_problem.specs.Places.{greatest_coordinate};
 ghost use Rattle.tk_words.specs.Decimal as Decimal;
 ghost use Rattle.tk_words.specs.Lex.{front, behind};
 
 use crate::fault::TextKind;
 use crate::numbers::integers::natural;
+use tk_problem::{COORDINATE_LIMIT, SCALE};
 
-/// The greatest magnitude: 10^9, in billionths.
-const LIMIT: u64 = 1_000_000_000_000_000_000;
+/// The greatest magnitude of a coordinate, in billionths.
+const LIMIT: u64 = COORDINATE_LIMIT * SCALE as u64;
 
 /// The powers of ten up to the limit.
 const POWERS_OF_TEN: [u64; 19] = [
@@ -135,7 +137,7 @@ fn exponent(bytes: &[u8]) -> Option<(usize, usize)>
 fn billionths(bytes: &[u8]) -> Result<i64, TextKind>
     requires { length bytes.now ≤ 64 }
     ensures value { result ≡ Decimal.limited (option_map pos (Decimal.billionths bytes.now)) }
-    ensures bound { IfOk result (λ n. unsigned_abs n ≤ 10 ^ 18) }
+    ensures bound { IfOk result (λ n. unsigned_abs n ≤ greatest_coordinate) }
 {
     let (whole, rest) = split_digits(bytes);
     let (fraction, rest) = split_fraction(rest);
@@ -158,7 +160,7 @@ fn billionths(bytes: &[u8]) -> Result<i64, TextKind>
 pub fn decimal(bytes: &[u8]) -> Result<i64, TextKind>
     requires { length bytes.now ≤ 64 }
     ensures value { result ≡ Decimal.limited (Decimal.decimal_of bytes.now) }
-    ensures bound { IfOk result (λ n. unsigned_abs n ≤ 10 ^ 18) }
+    ensures bound { IfOk result (λ n. unsigned_abs n ≤ greatest_coordinate) }
 {
     match bytes {
         [b'-', number @ ..] => Ok(-billionths(number)?),

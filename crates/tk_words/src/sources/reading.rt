@@ -7,9 +7,6 @@ use crate::fault::{TextFault, TextKind};
 use crate::sources::source::Source;
 use crate::sources::text_reader::{Run, Step, TextReader};
 
-/// The most bytes of a text.
-pub const TEXT_LIMIT: u64 = 1_073_741_824;
-
 /// Takes the bytes of a piece, as far as they are needed. `count` bytes stand before it.
 ///
 /// # Errors

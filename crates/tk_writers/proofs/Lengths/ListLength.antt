@@ -2,7 +2,7 @@
 use Rattle.std.proofs.Common.{ℕ, ◌+◌, ◌*◌, ◌≤◌, List, [], ◌∷◌, ◌++◌, length, arith, length-append}
 use Rattle.std.specs.Prelude.{flat_map, codes, decimal}
 use Rattle.std.specs.List.{concat}
-use Rattle.tk_words.specs.Texts.{text_limit}
+use Rattle.tk_problem.specs.declared.limits.TheConstants.{ENTRY_LIMIT, ROUTE_LIMIT, TEXT_LIMIT}
 use Rattle.tk_writers.specs.TourWritten.{tour_head, tour_text}
 use Rattle.tk_writers.specs.SolutionWritten.{route_line, route_lines, solution_text}
 use Rattle.tk_writers.specs.Written.{line, spaced_numbers}
@@ -14,7 +14,7 @@ length_tour_head name size cities =
     let count = length_decimal cities in
     simp length-append (omega arith)
 
-pub length_tour_text : (name : List ℕ) (size : ℕ) (cities : List ℕ) → length name ≤ 1024 → length cities ≤ 1000000 → length (tour_text name size cities) ≤ text_limit
+pub length_tour_text : (name : List ℕ) (size : ℕ) (cities : List ℕ) → length name ≤ 1024 → length cities ≤ ENTRY_LIMIT → length (tour_text name size cities) ≤ TEXT_LIMIT
 length_tour_text name size cities short few =
     let head = length_tour_head name size (length cities) in
     let start = flat_map line (tour_head name size (length cities)) in
@@ -41,7 +41,7 @@ length_route_lines number (r ∷ rs) =
     let rest = length_route_lines (number + 1) rs in
     omega (arith, length-append (route_line number r) (route_lines (number + 1) rs), length-append r (concat rs))
 
-pub length_solution_text : (routes : List (List ℕ)) (cost : ℕ) → length routes ≤ 100000 → length (concat routes) ≤ 1000000 → length (solution_text routes cost) ≤ text_limit
+pub length_solution_text : (routes : List (List ℕ)) (cost : ℕ) → length routes ≤ ROUTE_LIMIT → length (concat routes) ≤ ENTRY_LIMIT → length (solution_text routes cost) ≤ TEXT_LIMIT
 length_solution_text routes cost few customers =
     let lines = length_route_lines 1 routes in
     let number = length_decimal cost in

@@ -5,6 +5,7 @@ use Rattle.std.specs.Prelude.{map, flat_map, codes, decimal}
 use Rattle.std.specs.List.{range_with_len, join_by}
 use Rattle.std.proofs.lemmas.List.FromFn.{length-range_with_len}
 use Rattle.std.proofs.lemmas.List.Sums.{length-filter, count_by-le-length}
+use Rattle.tk_problem.specs.declared.limits.TheConstants.{TABLE_LIMIT}
 use Rattle.tk_writers.proofs.Pieces.NumberLengths.{length_decimal, length_flat_map}
 use Rattle.tk_writers.specs.FormatLines.{on_line, place, has_entry}
 use Rattle.tk_writers.specs.MatrixText.{number_line, format_word, matrix_line, matrix_head, matrix_text}
@@ -47,7 +48,7 @@ length_matrix_head name n f =
     let number = length_decimal n in
     simp length-append (omega arith)
 
-pub length_matrix_text : (name : List ℕ) (n : ℕ) (table : ℕ → ℕ → ℕ) (f : Format) → length name ≤ 1024 → n ≤ 5000 → length (matrix_text name n table f) ≤ 2 ^ 63
+pub length_matrix_text : (name : List ℕ) (n : ℕ) (table : ℕ → ℕ → ℕ) (f : Format) → length name ≤ 1024 → n ≤ TABLE_LIMIT → length (matrix_text name n table f) ≤ 2 ^ 63
 length_matrix_text name n table f short few =
     let head = length_matrix_head name n f in
     let body = flat_map (matrix_line n table f) (range_with_len 1 n) in

@@ -2,8 +2,8 @@
 use Rattle.std.proofs.Common.{ℕ, ◌*◌, ◌≤◌, List, [], ◌∷◌, ◌++◌, length, ap, arith, length-append}
 use Rattle.std.specs.Prelude.{flat_map, codes, decimal}
 use Rattle.std.specs.List.{AllByRecursion, join_by, range_with_len}
+use Rattle.tk_problem.specs.declared.limits.TheConstants.{TABLE_LIMIT, TEXT_LIMIT}
 use Rattle.tk_problem.specs.declared.weights.Format.{Format}
-use Rattle.tk_words.specs.Texts.{text_limit}
 use Rattle.tk_writers.specs.MatrixText.{matrix_head, matrix_line, matrix_text, number_line}
 use Rattle.tk_writers.proofs.Lengths.MatrixLength.{length_matrix_head}
 use Rattle.tk_writers.proofs.Written.WrittenLines.{ShortRows}
@@ -25,16 +25,16 @@ length_short_line (x ∷ xs) small =
     let ends = length-append (join_by decimal (codes " ") (x ∷ xs)) (10 ∷ []) in
     omega arith
 
-length_short_rows : (rows : List (List ℕ)) → ShortRows rows → AllByRecursion (λ row. length row ≤ 5000) rows → length (flat_map number_line rows) ≤ length rows * 95000
+length_short_rows : (rows : List (List ℕ)) → ShortRows rows → AllByRecursion (λ row. length row ≤ TABLE_LIMIT) rows → length (flat_map number_line rows) ≤ length rows * 95000
 length_short_rows [] small narrow = omega arith
 length_short_rows (r ∷ rows) small narrow =
     omega (arith, length_short_line r small.0, narrow.0, length_short_rows rows small.1 narrow.1, length-append (number_line r) (flat_map number_line rows))
 
-pub length_short_matrix : (name : List ℕ) (n : ℕ) (table : ℕ → ℕ → ℕ) (f : Format) → length name ≤ 1024 → n ≤ 5000 → ShortRows (rows_of n table f) → length (matrix_text name n table f) ≤ text_limit
+pub length_short_matrix : (name : List ℕ) (n : ℕ) (table : ℕ → ℕ → ℕ) (f : Format) → length name ≤ 1024 → n ≤ TABLE_LIMIT → ShortRows (rows_of n table f) → length (matrix_text name n table f) ≤ TEXT_LIMIT
 length_short_matrix name n table f short few small =
     let head = length_matrix_head name n f in
     let body = flat_map (matrix_line n table f) (range_with_len 1 n) in
     let same = ap length (matrix_lines n table f) in
-    let rows = length_short_rows (rows_of n table f) small (rows-narrow n table f 5000 few) in
+    let rows = length_short_rows (rows_of n table f) small (rows-narrow n table f TABLE_LIMIT few) in
     let count = count_rows n table f in
     omega (arith, length-append (matrix_head name n f) body, length-append (matrix_head name n f ++ body) (codes "EOF" ++ 10 ∷ []))

@@ -2,6 +2,7 @@
 use Rattle.std.proofs.Common.{◌≡◌, ℕ, ◌≤◌, true, false, leb, ltb, List, [], ◌∷◌, ◌++◌, length, Some, None, pos, refl, ap, ◌∙◌, arith}
 use Rattle.std.specs.Prelude.{codes, decimal}
 use Rattle.std.proofs.lemmas.Bool.{le-leb, le-ltb}
+use Rattle.tk_problem.specs.declared.limits.TheConstants.{CITY_LIMIT, TABLE_LIMIT}
 use Rattle.tk_words.specs.declared.keyword.Keyword.{Keyword}
 use Rattle.tk_words.specs.declared.keyword.Keyword.TheVariants as words
 use Rattle.tk_problem_text.specs.declared.header_values.WeightFormat.TheVariants as weight_formats
@@ -100,7 +101,7 @@ front_run (b ∷ c ∷ ds) run = let first = run.0 in rw first (ap (λ (bs : Lis
 pub first_word_run : (ds : List ℕ) → IsRun ds → first_word (codes " : " ++ ds) ≡ ds
 first_word_run ds run = ap (front not_blank) (behind_run ds run) ∙ front_run ds run
 
-module _ (n : ℕ) (low : 2 ≤ n) (high : n ≤ 5000) where
+module _ (n : ℕ) (low : 2 ≤ n) (high : n ≤ TABLE_LIMIT) where
   size_number : integer (first_word (size_value n)) ≡ Some (pos n)
   size_number = ap integer (first_word_run (decimal n) (decimal_run n (omega arith))) ∙ integer_decimal n (omega arith)
 
@@ -108,14 +109,14 @@ module _ (n : ℕ) (low : 2 ≤ n) (high : n ≤ 5000) where
   size_passes name =
       let short : ltb 4096 (length (size_value n)) ≡ false = le-ltb _ _ (omega (arith, short_decimal n (omega arith))) in
       let above : leb 2 n ≡ true = le-leb _ _ low in
-      let below : leb n 100000 ≡ true = le-leb _ _ (omega arith) in
+      let below : leb n CITY_LIMIT ≡ true = le-leb _ _ (omega arith) in
       let number = size_number in
       rw (short, number, above, below) refl
 
-  pub size_read : number_of 2 100000 (size_value n) ≡ Some n
+  pub size_read : number_of 2 CITY_LIMIT (size_value n) ≡ Some n
   size_read =
       let above : leb 2 n ≡ true = le-leb _ _ low in
-      let below : leb n 100000 ≡ true = le-leb _ _ (omega arith) in
+      let below : leb n CITY_LIMIT ≡ true = le-leb _ _ (omega arith) in
       let number = size_number in
       rw (number, above, below) refl
 

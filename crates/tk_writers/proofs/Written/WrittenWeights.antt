@@ -5,6 +5,7 @@ use Rattle.std.proofs.lemmas.Bool.{eqb-true, eqb-false, ltb-true, cases_eq}
 use Rattle.std.proofs.lemmas.List.{append-nil, length-map, map_push}
 use Rattle.std.proofs.lemmas.List.Elements.{All-head, All-tail}
 use Rattle.std.proofs.lemmas.List.Sums.{sum_by-cons}
+use Rattle.tk_problem.specs.declared.limits.TheConstants.{DISTANCE_LIMIT}
 use Rattle.tk_problem.specs.declared.place.Place.{Place}
 use Rattle.tk_problem.specs.declared.weights.Format.{Format}
 use Rattle.tk_problem.specs.declared.weights.Format.TheVariants as formats
@@ -203,7 +204,7 @@ module _ (n : ℕ) (table : ℕ → ℕ → ℕ) (is_table : IsTable n table) (f
       here : place_behind n f before ≡ p
       here = ap (λ k. get_or (order f n) k origin) count ∙ ap (λ ps. get_or ps (length qs) origin) is ∙ at_length qs p rs
 
-      small : p.row ≢ p.column → at_place table p ≤ 4000000000
+      small : p.row ≢ p.column → at_place table p ≤ DISTANCE_LIMIT
       small apart = is_table.weights (suc p.row) (suc p.column) (omega arith) within.0 (omega arith) within.1 (λ e. apart (omega (arith, e)))
 
       other_half : (is_full f && ltb p.column p.row) ≡ true → at_place table p ≡ weight_of p.row p.column (entries f n (weights_in before))

@@ -2,6 +2,7 @@ use Rattle.std.proofs.Common.{◌≡◌, ◌<◌, ◌∷◌, ℕ, suc, List, len
 use Rattle.std.specs.Prelude.{All}
 use Rattle.std.proofs.lemmas.Int.{ints}
 use Rattle.std.proofs.lemmas.List.Elements.{All-get_or}
+use Rattle.tk_problem.specs.declared.limits.TheConstants.{DISTANCE_LIMIT}
 use Rattle.tk_distance.specs.Cities.{IsCity}
 use Rattle.tk_tour.proofs.Lengths.{way_back-step, way_back-end, tour_length-limit}
 use Rattle.tk_tour.proofs.measure.length.Goals as goal
@@ -21,7 +22,7 @@ overflow_add-total g c =
     let m = c.args.metric.now in
     let d = g.M.Metric.distance m in
     let h = c.loop-city in
-    let limit = tour_length-limit d 4000000000 c.args.cities.now (g.met.M.Metric.distance_limit m) in
+    let limit = tour_length-limit d DISTANCE_LIMIT c.args.cities.now (g.met.M.Metric.distance_limit m) in
     let step = way_back-step d h.from c.in-Some.field-0-0.now h.city-index c.in-Some.others.now c.loop-city-test.true in
     omega (arith, ints, limit, step, h.invariant.low, h.invariant.left, c.dist-total.ensures)
 
@@ -30,7 +31,7 @@ loop-city-preserved g c =
     let m = c.args.metric.now in
     let d = g.M.Metric.distance m in
     let h = c.loop-city in
-    let limit = tour_length-limit d 4000000000 c.args.cities.now (g.met.M.Metric.distance_limit m) in
+    let limit = tour_length-limit d DISTANCE_LIMIT c.args.cities.now (g.met.M.Metric.distance_limit m) in
     let step = way_back-step d h.from c.in-Some.field-0-0.now h.city-index c.in-Some.others.now c.loop-city-test.true in
     record {
       from_in = city_in (g.M.Metric.size_of m) c.in-Some.field-0-0.now h.city-index c.args.cities.now c.in-Some.others.now c.in-Some.ensures.cases.0 c.requires.cities c.loop-city-test.true;
@@ -43,7 +44,7 @@ overflow_add-result g c =
     let m = c.args.metric.now in
     let d = g.M.Metric.distance m in
     let h = c.loop-city in
-    let limit = tour_length-limit d 4000000000 c.args.cities.now (g.met.M.Metric.distance_limit m) in
+    let limit = tour_length-limit d DISTANCE_LIMIT c.args.cities.now (g.met.M.Metric.distance_limit m) in
     let end = way_back-end d h.from c.in-Some.field-0-0.now h.city-index c.in-Some.others.now c.loop-city-test.false in
     omega (arith, ints, limit, end, h.invariant.low, h.invariant.left, c.dist.ensures)
 
@@ -52,6 +53,6 @@ returns g c =
     let m = c.args.metric.now in
     let d = g.M.Metric.distance m in
     let h = c.loop-city in
-    let limit = tour_length-limit d 4000000000 c.args.cities.now (g.met.M.Metric.distance_limit m) in
+    let limit = tour_length-limit d DISTANCE_LIMIT c.args.cities.now (g.met.M.Metric.distance_limit m) in
     let end = way_back-end d h.from c.in-Some.field-0-0.now h.city-index c.in-Some.others.now c.loop-city-test.false in
     omega (arith, ints, limit, end, h.invariant.low, h.invariant.left, c.dist.ensures)

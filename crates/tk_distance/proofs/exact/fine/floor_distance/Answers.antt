@@ -1,5 +1,6 @@
 use Rattle.std.proofs.Common.{ℕ, ◌*◌, ◌+◌, ◌<◌, ◌≤◌, arith, subst, sym}
 use Rattle.std.proofs.lemmas.Grind.{div_ceil_times}
+use Rattle.tk_problem.specs.Places.{scale}
 use Rattle.tk_problem.specs.declared.weights.PlaneKind.{PlaneKind}
 use Rattle.tk_distance.specs.Distance.{IsDistance}
 use Rattle.tk_distance.proofs.ExactRoots.Covering.{least_along}
@@ -12,8 +13,8 @@ returns-in-Euc2d c =
 
 pub returns-in-Ceil2d : goal.returns-in-Ceil2d
 returns-in-Ceil2d c =
-    let b = div_ceil_times c.args.dx 1000000000 (omega arith) in
+    let b = div_ceil_times c.args.dx scale (omega arith) in
     let is = least_along c.args.dx c.div_ceil.result
-    (subst (λ (d : ℕ). c.args.dx ≤ d * 1000000000) (sym c.div_ceil.ensures) b.0)
-    (subst (λ (d : ℕ). d * 1000000000 < c.args.dx + 1000000000) (sym c.div_ceil.ensures) b.1) in
+    (subst (λ (d : ℕ). c.args.dx ≤ d * scale) (sym c.div_ceil.ensures) b.0)
+    (subst (λ (d : ℕ). d * scale < c.args.dx + scale) (sym c.div_ceil.ensures) b.1) in
     subst (λ (k : PlaneKind). IsDistance k c.args.dx 0 c.div_ceil.result) (sym c.in-Ceil2d.is) is

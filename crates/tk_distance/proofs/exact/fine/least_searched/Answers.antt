@@ -3,6 +3,7 @@ use Rattle.std.proofs.lemmas.Nat.{mul-le}
 use Rattle.std.proofs.lemmas.Bool.{cases_lt}
 use Rattle.std.proofs.lemmas.Grind.{div_ceil_times}
 use Rattle.std.specs.Int.{div_ceil}
+use Rattle.tk_problem.specs.Places.{scale}
 use Rattle.tk_distance.proofs.ExactRoots.Covering.{least_from_root, root_up_small}
 use Rattle.tk_distance.proofs.exact.fine.least_searched.Goals as goal
 
@@ -17,7 +18,7 @@ quotient_small square parts q one is small =
 
 pub overflow_cast-result : goal.overflow_cast-result
 overflow_cast-result c =
-    let b = div_ceil_times c.root_up-root.result 1000000000 (omega arith) in
+    let b = div_ceil_times c.root_up-root.result scale (omega arith) in
     let q = quotient_small c.args.square c.args.parts c.div_ceil.result c.requires.some c.div_ceil.ensures (omega (arith, c.requires.near)) in
     let r = root_up_small c.div_ceil.result c.root_up-root.result q c.root_up-root.ensures in
     omega (arith, b, r, c.div_ceil-2.ensures)
@@ -25,10 +26,10 @@ overflow_cast-result c =
 pub returns : goal.returns
 returns c =
     let a = div_ceil_times c.args.square c.args.parts (omega (arith, c.requires.some)) in
-    let b = div_ceil_times c.root_up-root.result 1000000000 (omega arith) in
+    let b = div_ceil_times c.root_up-root.result scale (omega arith) in
     least_from_root c.args.parts c.args.square c.div_ceil.result c.root_up-root.result c.div_ceil-2.result
     (subst (λ (q : ℕ). c.args.square ≤ q * c.args.parts) (sym c.div_ceil.ensures) a.0)
     (subst (λ (q : ℕ). q * c.args.parts < c.args.square + c.args.parts) (sym c.div_ceil.ensures) a.1)
     c.root_up-root.ensures
-    (subst (λ (d : ℕ). c.root_up-root.result ≤ d * 1000000000) (sym c.div_ceil-2.ensures) b.0)
-    (subst (λ (d : ℕ). d * 1000000000 < c.root_up-root.result + 1000000000) (sym c.div_ceil-2.ensures) b.1)
+    (subst (λ (d : ℕ). c.root_up-root.result ≤ d * scale) (sym c.div_ceil-2.ensures) b.0)
+    (subst (λ (d : ℕ). d * scale < c.root_up-root.result + scale) (sym c.div_ceil-2.ensures) b.1)

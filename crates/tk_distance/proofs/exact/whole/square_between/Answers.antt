@@ -1,11 +1,12 @@
 use Rattle.std.proofs.Common.{ℕ, ◌+◌, ◌*◌, ◌≤◌, ◌≡◌, arith}
 use Rattle.std.proofs.lemmas.Int.{ints}
 use Rattle.std.proofs.lemmas.Nat.{mul-le}
+use Rattle.tk_problem.specs.declared.limits.TheConstants.{COORDINATE_LIMIT}
 use Rattle.tk_distance.specs.Distance.{square_sum}
 use Rattle.tk_distance.proofs.exact.whole.square_between.Goals as goal
 
-square_of-near : (d : ℕ) → d ≤ 2000000000 → d * d ≤ 4000000000000000000
-square_of-near d near = mul-le d d 2000000000 2000000000 near near
+square_of-near : (d : ℕ) → d ≤ 2 * COORDINATE_LIMIT → d * d ≤ 4000000000000000000
+square_of-near d near = mul-le d d (2 * COORDINATE_LIMIT) (2 * COORDINATE_LIMIT) near near
 
 squares-same : (a b x y : ℕ) → a ≡ x → b ≡ y → a * a + b * b ≡ square_sum x y
 squares-same a b x y first second = cc

@@ -1,18 +1,19 @@
 use Rattle.std.proofs.Common.{◌≡◌, ℕ, ◌*◌, ◌≤◌, ◌∙◌, ap, arith, drop, length}
 use Rattle.std.proofs.lemmas.List.{length-replicate, take_at}
 use Rattle.std.proofs.lemmas.Nat.{mul-le}
+use Rattle.tk_problem.specs.declared.limits.TheConstants.{CANDIDATE_LIMIT, CITY_LIMIT}
 use Rattle.tk_near.specs.Keeping.{open_place}
 use Rattle.tk_near.proofs.plane.tree.near_tree.Goals as goal
 
-size_times-near : (n k : ℕ) → n ≤ 100000 → k ≤ 100 → n * k ≤ 10000000
-size_times-near n k few narrow = mul-le n k 100000 100 few narrow
+size_times-near : (n k : ℕ) → n ≤ CITY_LIMIT → k ≤ CANDIDATE_LIMIT → n * k ≤ 10000000
+size_times-near n k few narrow = mul-le n k CITY_LIMIT CANDIDATE_LIMIT few narrow
 
 pub new-requires : goal.new-requires
 new-requires g c = c.requires.low
 
 pub overflow_mul-size : goal.overflow_mul-size
 overflow_mul-size g c =
-    let few : c.size.result ≤ 100000 = omega (arith, c.size.ensures, g.met.P.Metric.size_limit c.args.m.now) in
+    let few : c.size.result ≤ CITY_LIMIT = omega (arith, c.size.ensures, g.met.P.Metric.size_limit c.args.m.now) in
     omega (arith, size_times-near c.size.result c.args.k few c.requires.limit)
 
 pub fill_from_tree-requires-clause-row : goal.fill_from_tree-requires-clause-row

@@ -9,6 +9,7 @@ use Rattle.tk_lines.specs.Pieces.{has}
 use Rattle.tk_lines.specs.Forms.{a_header}
 use Rattle.tk_problem_text.specs.Kept.{Says}
 use Rattle.std.proofs.lemmas.Result.{IfOk-weaker}
+use Rattle.tk_problem.specs.declared.limits.TheConstants.{CAPACITY_LIMIT, CITY_LIMIT}
 use Rattle.tk_problem_text.proofs.KeptHeaders.{says_known, says_number}
 use Rattle.tk_problem_text.proofs.HeaderRecords.{with_comment, with_problem_type, with_dimension, with_capacity, with_weight_type, with_weight_format, with_coordinate_type, with_display_type}
 use Rattle.tk_problem_text.proofs.headers.Headers.take.Goals as goal
@@ -54,23 +55,23 @@ returns-in-EdgeWeightFormat-clause-err c = λ ps v n h s. rw c.in-EdgeWeightForm
 
 pub returns-in-Dimension-clause-ok : goal.returns-in-Dimension-clause-ok
 returns-in-Dimension-clause-ok c = λ ps v n h s. rw c.in-Dimension.is (
-    let said : Says (number_of 2 100000) (number_tests 2 100000 (first_word v)) v c.number.result = says_number 2 100000 v c.number.result (c.number.ensures.ok v s) (λ m. c.number.ensures.err v m s) in
-    IfOk-weaker c.keep-in-Dimension.result _ _ (λ _ p. (with_dimension c.args.self.now ps v n h c.keep-in-Dimension.new.kept p.0, p.1)) (c.keep-in-Dimension.ensures.ok words.Dimension (number_of 2 100000) (number_tests 2 100000 (first_word v)) ps v n refl h.dimension said))
+    let said : Says (number_of 2 CITY_LIMIT) (number_tests 2 CITY_LIMIT (first_word v)) v c.number.result = says_number 2 CITY_LIMIT v c.number.result (c.number.ensures.ok v s) (λ m. c.number.ensures.err v m s) in
+    IfOk-weaker c.keep-in-Dimension.result _ _ (λ _ p. (with_dimension c.args.self.now ps v n h c.keep-in-Dimension.new.kept p.0, p.1)) (c.keep-in-Dimension.ensures.ok words.Dimension (number_of 2 CITY_LIMIT) (number_tests 2 CITY_LIMIT (first_word v)) ps v n refl h.dimension said))
 
 pub returns-in-Dimension-clause-err : goal.returns-in-Dimension-clause-err
 returns-in-Dimension-clause-err c = λ ps v n h s. rw c.in-Dimension.is (
-    let said : Says (number_of 2 100000) (number_tests 2 100000 (first_word v)) v c.number.result = says_number 2 100000 v c.number.result (c.number.ensures.ok v s) (λ m. c.number.ensures.err v m s) in
-    c.keep-in-Dimension.ensures.err words.Dimension (number_of 2 100000) (number_tests 2 100000 (first_word v)) ps v n h.dimension said)
+    let said : Says (number_of 2 CITY_LIMIT) (number_tests 2 CITY_LIMIT (first_word v)) v c.number.result = says_number 2 CITY_LIMIT v c.number.result (c.number.ensures.ok v s) (λ m. c.number.ensures.err v m s) in
+    c.keep-in-Dimension.ensures.err words.Dimension (number_of 2 CITY_LIMIT) (number_tests 2 CITY_LIMIT (first_word v)) ps v n h.dimension said)
 
 pub returns-in-Capacity-clause-ok : goal.returns-in-Capacity-clause-ok
 returns-in-Capacity-clause-ok c = λ ps v n h s. rw c.in-Capacity.is (
-    let said : Says (number_of 1 2000000000) (number_tests 1 2000000000 (first_word v)) v c.number-in-Capacity.result = says_number 1 2000000000 v c.number-in-Capacity.result (c.number-in-Capacity.ensures.ok v s) (λ m. c.number-in-Capacity.ensures.err v m s) in
-    IfOk-weaker c.keep-in-Capacity.result _ _ (λ _ p. (with_capacity c.args.self.now ps v n h c.keep-in-Capacity.new.kept p.0, p.1)) (c.keep-in-Capacity.ensures.ok words.Capacity (number_of 1 2000000000) (number_tests 1 2000000000 (first_word v)) ps v n refl h.capacity said))
+    let said : Says (number_of 1 CAPACITY_LIMIT) (number_tests 1 CAPACITY_LIMIT (first_word v)) v c.number-in-Capacity.result = says_number 1 CAPACITY_LIMIT v c.number-in-Capacity.result (c.number-in-Capacity.ensures.ok v s) (λ m. c.number-in-Capacity.ensures.err v m s) in
+    IfOk-weaker c.keep-in-Capacity.result _ _ (λ _ p. (with_capacity c.args.self.now ps v n h c.keep-in-Capacity.new.kept p.0, p.1)) (c.keep-in-Capacity.ensures.ok words.Capacity (number_of 1 CAPACITY_LIMIT) (number_tests 1 CAPACITY_LIMIT (first_word v)) ps v n refl h.capacity said))
 
 pub returns-in-Capacity-clause-err : goal.returns-in-Capacity-clause-err
 returns-in-Capacity-clause-err c = λ ps v n h s. rw c.in-Capacity.is (
-    let said : Says (number_of 1 2000000000) (number_tests 1 2000000000 (first_word v)) v c.number-in-Capacity.result = says_number 1 2000000000 v c.number-in-Capacity.result (c.number-in-Capacity.ensures.ok v s) (λ m. c.number-in-Capacity.ensures.err v m s) in
-    c.keep-in-Capacity.ensures.err words.Capacity (number_of 1 2000000000) (number_tests 1 2000000000 (first_word v)) ps v n h.capacity said)
+    let said : Says (number_of 1 CAPACITY_LIMIT) (number_tests 1 CAPACITY_LIMIT (first_word v)) v c.number-in-Capacity.result = says_number 1 CAPACITY_LIMIT v c.number-in-Capacity.result (c.number-in-Capacity.ensures.ok v s) (λ m. c.number-in-Capacity.ensures.err v m s) in
+    c.keep-in-Capacity.ensures.err words.Capacity (number_of 1 CAPACITY_LIMIT) (number_tests 1 CAPACITY_LIMIT (first_word v)) ps v n h.capacity said)
 
 pub returns-then-is_coordinate_type-clause-ok : goal.returns-then-is_coordinate_type-clause-ok
 returns-then-is_coordinate_type-clause-ok c = λ ps v n h s. rw c.in-NodeCoordType.is (

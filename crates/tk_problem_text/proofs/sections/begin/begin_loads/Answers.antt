@@ -1,6 +1,7 @@
 use Rattle.std.proofs.Common.{◌≡◌, true, false, ltb, Some, sym, refl, ◌∙◌}
 use Rattle.std.proofs.lemmas.Bool.{lt-ltb, le-ltb}
 use Rattle.std.proofs.lemmas.Result.{err_from_is_err_and}
+use Rattle.tk_problem.specs.declared.limits.TheConstants.{TABLE_LIMIT}
 use denote.Enum.Bare.{sameb}
 use Rattle.tk_problem_text.specs.contracts.header_values.ProblemType.{the_type}
 use Rattle.tk_problem_text.specs.declared.header_values.ProblemType.{ProblemType}
@@ -22,7 +23,7 @@ returns-then-eq-clause-err c = λ before n typed sized.
 
 pub returns-then-size-gt-TABLE_LIMIT-clause-err : goal.returns-then-size-gt-TABLE_LIMIT-clause-err
 returns-then-size-gt-TABLE_LIMIT-clause-err c = λ before n typed sized.
-    let over : ltb 5000 c.args.size ≡ true = lt-ltb 5000 c.args.size c.if-size-gt-TABLE_LIMIT.true in
+    let over : ltb TABLE_LIMIT c.args.size ≡ true = lt-ltb TABLE_LIMIT c.args.size c.if-size-gt-TABLE_LIMIT.true in
     rw (typed, a_cvrp c.args.problem_type (sym c.eq.ensures ∙ c.if-eq.false), sized, over) refl
 
 pub returns-in_err-new-clause-ok : goal.returns-in_err-new-clause-ok
@@ -36,7 +37,7 @@ returns-in_err-new-clause-err c = λ before n typed sized.
 
 pub returns-clause-ok : goal.returns-clause-ok
 returns-clause-ok c = λ before typed sized.
-    let few : ltb 5000 c.args.size ≡ false = le-ltb 5000 c.args.size c.if-size-gt-TABLE_LIMIT.false in
+    let few : ltb TABLE_LIMIT c.args.size ≡ false = le-ltb TABLE_LIMIT c.args.size c.if-size-gt-TABLE_LIMIT.false in
     record {
       tests = λ n. rw (typed, a_cvrp c.args.problem_type (sym c.eq.ensures ∙ c.if-eq.false), sized, few) refl;
       untouched = rw sized (refl, c.in_ok-new.ensures.ok, c.if-size-gt-TABLE_LIMIT.false);

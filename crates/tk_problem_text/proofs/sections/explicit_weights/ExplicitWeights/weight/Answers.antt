@@ -3,6 +3,7 @@ use Rattle.std.proofs.Common.{ap, subst, sym, ◌∙◌, ◌≡◌, ◌≢◌, �
 use Rattle.std.proofs.Common.{Some, None, Ok, Err, Result, IfOk}
 use Rattle.std.proofs.lemmas.Bool.{ltb-true, and_parts}
 use Rattle.std.proofs.lemmas.Result.{IfOk-weaker, IfErr-weaker}
+use Rattle.tk_problem.specs.declared.limits.TheConstants.{DISTANCE_LIMIT}
 use Rattle.tk_words.specs.declared.fault.TextKind.{TextKind}
 use Rattle.tk_words.specs.Entry.{in_range}
 use Rattle.tk_lines.specs.Pieces.{first_at}
@@ -16,7 +17,7 @@ returns-in_default-clause-err c = λ n f toks t has is.
     let place = c.place-place.result in
     let apart : place.row ≢ place.column = if_some (λ p. p.row ≢ p.column) c.place-place.ensures c.requires.pair in
     let here = place_here n f c.args.self.now toks has place c.place-place.ensures in
-    let beyond : in_range 0 4000000000 (Some (to_z w64 (of_z w64 c.args.number))) ≡ false =
+    let beyond : in_range 0 DISTANCE_LIMIT (Some (to_z w64 (of_z w64 c.args.number))) ≡ false =
     c.limited.ensures.none c.in_default.is in
     weight_beyond n f toks t place here apart c.args.number is
     (rw (to_z-of_z w64 c.args.number c.ranges.number) at beyond)
@@ -43,7 +44,7 @@ pub returns-then-repeats-clause-is : goal.returns-then-repeats-clause-is
 returns-then-repeats-clause-is c =
     let is_weight = sym (to_z-of_z w64 c.args.number c.ranges.number) ∙ c.in-Some.ensures.some.0 in
     let small = c.in-Some.ensures.some.2 in
-    IfOk-weaker c.again.result (λ w. w ≡ c.in-Some.weight) (λ w. (c.args.number ≡ pos w) × (w ≤ 4000000000)) (λ w same. rw same (is_weight, small)) c.again.ensures.same
+    IfOk-weaker c.again.result (λ w. w ≡ c.in-Some.weight) (λ w. (c.args.number ≡ pos w) × (w ≤ DISTANCE_LIMIT)) (λ w same. rw same (is_weight, small)) c.again.ensures.same
 
 pub returns-then-repeats-clause-err : goal.returns-then-repeats-clause-err
 returns-then-repeats-clause-err c = λ n f toks t has is.

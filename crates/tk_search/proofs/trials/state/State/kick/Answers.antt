@@ -1,5 +1,6 @@
 use Rattle.std.proofs.Common.{ℕ, List, ◌≤◌, length, ap, ◌∙◌, sym, subst, arith}
 use Rattle.std.proofs.lemmas.Int.{ints}
+use Rattle.tk_problem.specs.declared.limits.TheConstants.{CITY_LIMIT}
 use Rattle.tk_descent.proofs.WakeRuns.DescentSteps.{fits_length}
 use Rattle.tk_descent.specs.Awake.{one_to, woken_each}
 use Rattle.tk_tour.specs.ArrayTours.{order_of}
@@ -31,7 +32,7 @@ bridged_length-requires-clause-before g c =
     let m = c.args.metric.now in
     let d = g.M.Metric.distance m in
     let C : List ℕ = order_of (tour_of c.args.self.now.tour) in
-    let few : length C ≤ 100000 = omega (arith, c.requires.fits.0, g.met.M.Metric.size_limit m) in
+    let few : length C ≤ CITY_LIMIT = omega (arith, c.requires.fits.0, g.met.M.Metric.size_limit m) in
     let bound = fits_length d C (g.met.M.Metric.symmetric m, g.met.M.Metric.diagonal m, g.met.M.Metric.distance_limit m) few in
     (omega (arith, ints, c.requires.shortest, bound), omega (arith, ints, c.requires.shortest, bound))
 
@@ -41,7 +42,7 @@ returns-clause-length g c =
     let d = g.M.Metric.distance m in
     let C : List ℕ = order_of (tour_of c.args.self.now.tour) in
     let D : List ℕ = order_of (tour_of c.kick.new.store) in
-    let few : length D ≤ 100000 = omega (arith, c.kick.ensures.size, c.requires.fits.0, g.met.M.Metric.size_limit m) in
+    let few : length D ≤ CITY_LIMIT = omega (arith, c.kick.ensures.size, c.requires.fits.0, g.met.M.Metric.size_limit m) in
     let bound = fits_length d D (g.met.M.Metric.symmetric m, g.met.M.Metric.diagonal m, g.met.M.Metric.distance_limit m) few in
     let Are : ℕ → Type 0 = λ v. AreCuts v c.draw-cuts.result in
     let law = length_at_ends C _ c.draw-cuts.result (subst Are c.size.ensures c.draw-cuts.ensures.cuts) c.ends-ends.ensures d (g.met.M.Metric.symmetric m) D c.kick.ensures.bridged in
