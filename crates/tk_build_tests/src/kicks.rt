@@ -3,7 +3,7 @@
 use rand_core::{Rng, SeedableRng};
 use rand_pcg::Pcg32;
 use std::test::Fail;
-use tk_search::{Cuts, kick};
+use tk_build::{Cuts, kick};
 use tk_tour::{ArrayTour, TourStore};
 
 #[test]

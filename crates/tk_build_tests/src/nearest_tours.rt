@@ -4,9 +4,9 @@ use crate::places::places;
 use std::alloc::Global;
 use std::process::Abort;
 use std::test::Fail;
-use tk_distance::{Metric, Planes, Table, Triangle};
-use tk_problem::{PlaneKind, Points};
-use tk_starts::{nearest, nearest_tour, nearest_tours_agree, nearest_tree};
+use tk_build::{nearest, nearest_tour, nearest_tours_agree, nearest_tree};
+use tk_metric::{Metric, Planes, Table, Triangle};
+use tk_text::{PlaneKind, Points};
 
 // The tours of a scan, of a tree and of a table are this one.
 fn expect_tour(

@@ -1,9 +1,9 @@
 //! Places in the plane.
 ghost use Rattle.std.specs.Prelude.{◌≡◌, IfOk, length};
-ghost use Rattle.tk_problem.specs.Places.{IsNearOrigin};
+ghost use Rattle.tk_text.specs.Places.{IsNearOrigin};
 
 use std::alloc::{AllocError, Global};
-use tk_problem::{Point, Points};
+use tk_text::{Point, Points};
 
 fn place(x: u16, y: u16) -> Point
     ensures { IsNearOrigin result }

@@ -4,9 +4,8 @@ ghost use Rattle.std.specs.Prelude.{◌≡◌};
 use std::alloc::Global;
 use std::process::Abort;
 use std::test::Fail;
-use tk_distance::{Metric, Triangle};
-use tk_near::near_scan;
-use tk_starts::{savings_lists, savings_tour};
+use tk_build::{savings_lists, savings_tour};
+use tk_metric::{Metric, Triangle, near_scan};
 
 /// The lists over the near lists of all other cities.
 fn lists_of(

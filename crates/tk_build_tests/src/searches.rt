@@ -7,10 +7,9 @@ use rand_pcg::Pcg32;
 use std::alloc::Global;
 use std::process::Abort;
 use std::test::Fail;
-use tk_distance::{Metric, Planes, Triangle};
-use tk_near::{Near, near_scan};
-use tk_problem::PlaneKind;
-use tk_search::{Search, SearchRules, Totals, TrialReport};
+use tk_build::{Search, SearchRules, Totals, TrialReport};
+use tk_metric::{Metric, Near, Planes, Triangle, near_scan};
+use tk_text::PlaneKind;
 use tk_tour::{ArrayTour, TourStore};
 
 // A search from a list.

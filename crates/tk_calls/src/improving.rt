@@ -9,7 +9,7 @@ use crate::lists::near_of;
 use crate::readers::problem_of;
 use crate::refusals::{Refusal, Stopped};
 use std::alloc::{AllocError, Global};
-use tk_near::Near;
+use tk_metric::Near;
 use tk_routes::{Cvrp, RouteReport, RouteVerdict, Routes, check_routes, improve, savings};
 use tk_text::{Problem, SolText};
 

@@ -5,8 +5,7 @@ use crate::again;
 use crate::instances::SQUARE;
 use crate::readers::problem_of;
 use crate::refusals::{Refusal, Stopped};
-use tk_distance::{Metric, Planar, Table};
-use tk_near::{Near, near_scan, near_sweep, near_tree};
+use tk_metric::{Metric, Near, Planar, Table, near_scan, near_sweep, near_tree};
 use tk_text::Problem;
 
 /// Near lists by a scan, whose number and length are told.

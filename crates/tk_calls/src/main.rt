@@ -11,6 +11,7 @@ mod readers;
 mod refusals;
 mod searches;
 mod starts;
+mod surface;
 mod tours;
 mod turns;
 

@@ -3,7 +3,7 @@ use crate::again;
 use crate::instances::{PARAMETERS, SOLUTION, SQUARE, TOUR};
 use crate::refusals::{Refusal, Stopped};
 use std::alloc::Global;
-use tk_params::read_params;
+use tk_engines::read_params;
 use tk_text::{FromRead, Problem, TextFault, read_problem, read_solution, read_tour};
 
 /// Reads a problem.

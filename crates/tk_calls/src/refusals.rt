@@ -1,7 +1,7 @@
 //! Calls that are made again where memory was refused.
 use std::alloc::AllocError;
 use std::io;
-use tk_params::{ParamFault, ParamKind};
+use tk_engines::{ParamFault, ParamKind};
 use tk_text::{TextFault, TextKind};
 use tk_tour::TourFault;
 

@@ -7,9 +7,8 @@ use crate::refusals::{Refusal, Stopped};
 use rand_core::SeedableRng;
 use rand_pcg::Pcg32;
 use std::alloc::Global;
-use tk_distance::{Metric, Table};
-use tk_near::Near;
-use tk_search::{Search, SearchRules, Totals};
+use tk_build::{Search, SearchRules, Totals};
+use tk_metric::{Metric, Near, Table};
 use tk_tour::{ArrayTour, TourFault, TourStore};
 
 /// A search of that many trials from a tour, over so many candidates.

@@ -1,15 +1,14 @@
 //! Tours to begin with.
 ghost use Rattle.std.specs.Prelude.{◌≡◌, ◌≤◌};
-ghost use Rattle.tk_distance.specs.Tables.{table_size};
+ghost use Rattle.tk_metric.specs.Tables.{table_size};
 
 use crate::again;
 use crate::instances::{ROUTING, SQUARE};
 use crate::lists::near_of;
 use crate::readers::problem_of;
 use crate::refusals::{Refusal, Stopped};
-use tk_distance::{Metric, Table};
-use tk_near::Near;
-use tk_starts::{nearest, savings_lists, savings_tour};
+use tk_build::{nearest, savings_lists, savings_tour};
+use tk_metric::{Metric, Near, Table};
 use tk_text::Problem;
 
 /// A nearest-neighbour tour.

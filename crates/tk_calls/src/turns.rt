@@ -1,6 +1,6 @@
 //! Looks, moves, descents, kicks and flips. What is built before them takes memory, and they take none.
 ghost use Rattle.std.specs.Prelude.{◌≡◌, IfOk, pos, length};
-ghost use Rattle.tk_distance.specs.Tables.{table_size, table_distance};
+ghost use Rattle.tk_metric.specs.Tables.{table_size, table_distance};
 ghost use Rattle.tk_tour.specs.ArrayTours.{order_of};
 ghost use Rattle.tk_tour.specs.Tour.{tour_length};
 
@@ -10,10 +10,9 @@ use crate::lists::near_of;
 use crate::readers::problem_of;
 use crate::refusals::{Refusal, Stopped};
 use crate::tours::{flip_after, journal_of, tour_of};
+use tk_build::{Cuts, kick};
 use tk_descent::{Probe, Report, Waking, descend, look, make};
-use tk_distance::{Metric, Table};
-use tk_near::Near;
-use tk_search::{Cuts, kick};
+use tk_metric::{Metric, Near, Table};
 use tk_text::Problem;
 use tk_tour::{ArrayTour, JournalTour, TourStore, length};
 

@@ -29,13 +29,13 @@ pub enum Fault {
     /// The problem has over 5,000 nodes, too many for a matrix.
     #[error("too large for a matrix")]
     TooLarge,
-    /// The problem has explicit weights in place of coordinates, so its cities have no places.
-    #[error("no coordinates")]
-    NoPlaces,
     /// The output could not be written.
     #[error("write fault")]
     Write(WriteFault),
     /// A growth was refused.
     #[error("out of memory")]
     NoMemory,
+    /// The problem has explicit weights in place of coordinates, so its cities have no places.
+    #[error("no coordinates")]
+    NoPlaces,
 }

@@ -3,12 +3,12 @@ use Rattle.std.specs.Prelude.{⊤}
 use Rattle.std.specs.Fmt.{digits}
 use Rattle.std.specs.Str.{chars, is_utf8}
 use lib.Utf8.{encode}
-use Rattle.tk_words.specs.Lex.{lines}
-use Rattle.tk_words.specs.Texts.{answer_of}
-use Rattle.tk_params.specs.Asked.{asked_of, ignored_keys}
-use Rattle.tk_params.specs.Keys.{key_of}
-use Rattle.tk_params.specs.Params.{judge, params_decided}
-use Rattle.tk_params.specs.Values.{line_means, words_mean}
+use Rattle.tk_text.specs.Lex.{lines}
+use Rattle.tk_text.specs.Texts.{answer_of}
+use Rattle.tk_engines.specs.Asked.{asked_of, ignored_keys}
+use Rattle.tk_engines.specs.Keys.{key_of}
+use Rattle.tk_engines.specs.Params.{judge, params_decided}
+use Rattle.tk_engines.specs.Values.{line_means, words_mean}
 
 unfoldable pub on_literals : ⊤
 unfolding digits chars encode is_utf8 lines answer_of asked_of ignored_keys key_of judge params_decided line_means words_mean

@@ -2,14 +2,14 @@
 -- decide.
 use Rattle.std.specs.Prelude.{◌≡◌, ℕ, true, false, List, [], ◌∷◌, ◌++◌, map, Option, Some, None, Result, Ok, Err, codes, replicate}
 use Rattle.tk_words.specs.declared.fault.TextFault.{TextFault}
-use Rattle.tk_words.specs.Texts.{answer_of}
+use Rattle.tk_text.specs.Texts.{answer_of}
 use Rattle.tk_params.specs.declared.fault.ParamKind.{ParamKind}
 use Rattle.tk_params.specs.declared.fault.ParamKind.TheVariants as kinds
 use Rattle.tk_params.specs.declared.key.Key.{Key}
 use Rattle.tk_params.specs.declared.key.Key.TheVariants as keys
 use Rattle.tk_params.specs.declared.value.Construction.TheVariants.{Nearest, Savings}
-use Rattle.tk_params.specs.Asked.{ParamsAre}
-use Rattle.tk_params.specs.Params.{Answer, joined, params_decided}
+use Rattle.tk_engines.specs.Asked.{ParamsAre}
+use Rattle.tk_engines.specs.Params.{Answer, joined, params_decided}
 
 -- a function gives what the table has beside each of its arguments
 abbrev pub HasTable : {A B : Type 0} → (A → B) → List (A × B) → Type 0

@@ -2,7 +2,7 @@
 use Rattle.std.specs.Prelude.{ℕ, List, [], ◌∷◌}
 use Rattle.tk_problem.specs.declared.weights.PlaneKind.{PlaneKind}
 use Rattle.tk_problem.specs.declared.weights.PlaneKind.TheVariants.{Euc2d, Ceil2d, Man2d, Max2d, Att}
-use Rattle.tk_distance.specs.Distance.{IsDistance}
+use Rattle.tk_metric.specs.Distance.{IsDistance}
 
 -- a type, how far two coordinates differ, in billionths, and the distance
 pub record Example : Type 0 where

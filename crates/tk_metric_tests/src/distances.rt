@@ -2,8 +2,8 @@
 use std::alloc::{AllocError, Global};
 use std::process::Abort;
 use std::test::Fail;
-use tk_distance::{Metric, Planar, Planes, Sub, Table, Triangle, root, root_up};
-use tk_problem::{Places, PlaneKind, Point, Points, Problem, Weights};
+use tk_metric::{Metric, Planar, Planes, Sub, Table, Triangle, root, root_up};
+use tk_text::{Places, PlaneKind, Point, Points, Problem, Weights};
 
 const UNIT: i64 = 1_000_000_000;
 

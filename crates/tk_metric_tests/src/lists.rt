@@ -1,13 +1,15 @@
 //! Known near lists, and that a sweep and a tree give what a scan does.
 ghost use Rattle.std.specs.Prelude.{◌≡◌, ◌≤◌, ◌<◌, IfOk, length};
-ghost use Rattle.tk_problem.specs.Places.{IsNearOrigin};
+ghost use Rattle.tk_text.specs.Places.{IsNearOrigin};
 
 use std::alloc::{AllocError, Global};
 use std::process::Abort;
 use std::test::Fail;
-use tk_distance::{Metric, Planes, Table, Turned};
-use tk_near::{Near, near_lists, near_lists_agree, near_scan, near_sweep, near_tree};
-use tk_problem::{PlaneKind, Point, Points};
+use tk_metric::{
+    Metric, Near, Planes, Table, Turned, near_lists, near_lists_agree, near_scan, near_sweep,
+    near_tree,
+};
+use tk_text::{PlaneKind, Point, Points};
 
 const WHOLE: u32 = 1_000_000_000;
 

@@ -8,8 +8,7 @@ use std::test::Fail;
 use tk_descent::{
     Gains, Probe, Report, SweptReport, Waking, descend, descend_swept, is_local_optimum, look, make,
 };
-use tk_distance::Metric;
-use tk_near::{Near, near_scan};
+use tk_metric::{Metric, Near, near_scan};
 use tk_tour::{ArrayTour, JournalTour, TourStore, length};
 
 /// The distances of at most five cities, in rows of five.

@@ -2,7 +2,7 @@
 use std::alloc::Global;
 use std::process::Abort;
 use std::test::Fail;
-use tk_distance::Triangle;
+use tk_metric::Triangle;
 use tk_tour::{ArrayTour, Flip, JournalTour, TourFault, TourStore, Verdict, check, laws, length};
 
 const EIGHT: [u32; 8] = [1, 2, 3, 4, 5, 6, 7, 8];

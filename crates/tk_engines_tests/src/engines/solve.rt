@@ -2,9 +2,7 @@
 use crate::engines::given::{BAKERY, SQUARE, TOUR, UNSUPPORTED};
 use std::alloc::Global;
 use std::process::Abort;
-use tk_engines::{Fault, solve_engine};
-use tk_params::{Key, Params, read_params};
-use tk_solve::Unwatched;
+use tk_engines::{Fault, Key, Params, Unwatched, read_params, solve_engine};
 use tk_text::{FromRead, Sink, ToWrite, WriteFault};
 use tk_tour::TourFault;
 

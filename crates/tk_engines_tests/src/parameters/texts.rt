@@ -3,10 +3,10 @@ ghost use Rattle.std.specs.Prelude.{None, false};
 
 use std::alloc::{AllocError, Global};
 use std::process::Abort;
-use tk_params::{
+use tk_engines::{
     Construction, Key, ParamFault, ParamKind, Params, each_word_spells_its_key, read_params,
 };
-use tk_words::{Failed, FromRead, Source};
+use tk_text::{Failed, FromRead, Source};
 
 /// Gives its bytes one by one, and then fails where it is told to.
 #[derive(Drop)]

@@ -6,7 +6,7 @@ ghost use Rattle.tk_routes.specs.RouteLists.{instance_of_routes};
 use crate::routes::claims::{DEPOT_BETWEEN, TWO_SIDES, claim, problem_of};
 use std::alloc::{AllocError, Global};
 use std::test::Fail;
-use tk_near::near_scan;
+use tk_metric::near_scan;
 use tk_routes::{Cvrp, RouteReport, RouteVerdict, Routes, check_routes, improve, savings};
 
 /// As `TWO_SIDES`, with vehicles for all.

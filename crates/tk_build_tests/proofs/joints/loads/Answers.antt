@@ -1,5 +1,5 @@
 use Rattle.std.proofs.Common.{refl}
-use Rattle.tk_starts.specs.Joints.{part, part_load, joints_at, may_join, joints}
+use Rattle.tk_build.specs.Joints.{part, part_load, joints_at, may_join, joints}
 use Rattle.tk_build_tests.proofs.joints.loads.Goals as goal
 
 pub returns-clause-two : goal.returns-clause-two

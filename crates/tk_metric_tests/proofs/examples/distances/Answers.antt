@@ -1,5 +1,5 @@
 use Rattle.std.proofs.Common.{lit<, lit≤, arith}
-use Rattle.tk_distance.specs.Distance.{square_sum}
+use Rattle.tk_metric.specs.Distance.{square_sum}
 use Rattle.tk_distance.proofs.ExactRoots.Covering.{least_between}
 use Rattle.tk_distance.proofs.ExactRoots.Rounding.{nearest_between, nearest_length}
 use Rattle.tk_metric_tests.proofs.examples.distances.Goals as goal

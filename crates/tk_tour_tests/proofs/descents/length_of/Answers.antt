@@ -1,6 +1,6 @@
 use Rattle.std.proofs.Common.{length, ap, arith, sym, subst}
 use Rattle.std.proofs.lemmas.List.Elements.{All-from_get_or}
-use Rattle.tk_distance.specs.Cities.{IsCity}
+use Rattle.tk_metric.specs.Cities.{IsCity}
 use Rattle.tk_tour.specs.Tour.{IsTour}
 use Rattle.tk_tour.proofs.Tours.{city_in_range}
 use Rattle.tk_tour_tests.proofs.descents.length_of.Goals as goal

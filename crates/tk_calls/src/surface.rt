@@ -1,0 +1,61 @@
+//! Every name that users of the libraries write, by its path. This program compiles only while the surfaces show them all.
+
+/// Texts.
+pub mod texts {
+    pub use tk_text::{
+        Failed, Format, FromRead, Keyword, PlaneKind, Point, Problem, Routing, Sink, SolText,
+        Source, TextFault, TextKind, ToWrite, TourText, Weights, WriteFault, read_problem,
+        read_solution, read_tour, write_matrix, write_solution, write_tour,
+    };
+}
+
+/// Limits.
+pub mod limits {
+    pub use tk_text::{
+        CANDIDATE_LIMIT, CAPACITY_LIMIT, CITY_LIMIT, COORDINATE_LIMIT, DISTANCE_LIMIT, ENTRY_LIMIT,
+        ROUTE_LIMIT, TABLE_LIMIT, TEXT_LIMIT,
+    };
+}
+
+/// Distances and near lists.
+pub mod distances {
+    pub use tk_metric::{
+        Metric, Near, Planar, Planes, Sub, Table, Triangle, near_lists, near_scan, near_sweep,
+        near_tree, root, root_up,
+    };
+}
+
+/// Tours.
+pub mod tours {
+    pub use tk_tour::{ArrayTour, Flip, JournalTour, TourFault, TourStore, Verdict, check, length};
+}
+
+/// Descents.
+pub mod descents {
+    pub use tk_descent::{
+        Gains, Offer, Probe, Report, SweptReport, Waking, descend, descend_swept, is_local_optimum,
+        look, make,
+    };
+}
+
+/// Starting tours and searches.
+pub mod building {
+    pub use tk_build::{
+        Cuts, Search, SearchRules, Totals, TrialReport, kick, nearest, nearest_tour, nearest_tree,
+        savings_lists, savings_tour,
+    };
+}
+
+/// Routes.
+pub mod routes {
+    pub use tk_routes::{Cvrp, RouteReport, RouteVerdict, Routes, check_routes, improve, savings};
+}
+
+/// The program as a library.
+pub mod engines {
+    pub use tk_engines::{
+        Construction, Fault, Key, ParamFault, ParamKind, Params, Plotted, Progress, RouteVerdict,
+        TourFault, Unwatched, Verdict, Watch, check_engine, matrix_engine, near_engine,
+        plot_engine, read_params, route_check_engine, solve_engine,
+    };
+}
