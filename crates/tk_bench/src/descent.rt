@@ -10,7 +10,7 @@ use crate::times::{Time, Times};
 use std::io;
 use std::time::Instant;
 use tk_descent::{Probe, Report, Waking, descend};
-use tk_metric::{Metric, Near, Planes, near_sweep};
+use tk_metric::{Metric, Near, Planes, near_tree};
 use tk_text::{CITY_LIMIT, PlaneKind};
 use tk_tour::{ArrayTour, TourStore, length};
 
@@ -32,7 +32,7 @@ fn measure(rt: &HostRuntime, times: Times, n: u32, width: u32) -> anyhow::Result
 {
     let (points, order) = along_strips(rt.alloc(), n, width)?;
     let metric = Planes::new(PlaneKind::Euc2d, &points);
-    let near = near_sweep(rt.alloc(), &metric, 5)?;
+    let near = near_tree(rt.alloc(), &metric, 5)?;
     let mut tour = ArrayTour::from_list(rt.alloc(), &order)?;
     let mut waking = Waking::new(rt.alloc(), n)?;
     if tour.size() != n {

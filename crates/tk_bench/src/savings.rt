@@ -10,7 +10,7 @@ use crate::times::Times;
 use std::alloc::{AllocError, Global};
 use std::time::Instant;
 use tk_build::{savings_lists, savings_tour};
-use tk_metric::{Metric, Near, Planes, near_sweep};
+use tk_metric::{Metric, Near, Planes, near_tree};
 use tk_text::{CANDIDATE_LIMIT, CITY_LIMIT, PlaneKind};
 
 /// Makes the run.
@@ -48,7 +48,7 @@ fn measure(
 {
     let points = sample(rt.alloc(), count, input)?;
     let planes = Planes::new(PlaneKind::Euc2d, &points);
-    let near = near_sweep(rt.alloc(), &planes, k)?;
+    let near = near_tree(rt.alloc(), &planes, k)?;
     let begin = Instant::now(rt)?;
     let tour = savings_tour(rt.alloc(), &planes, &near)?;
     let took = times.tell(begin.elapsed(rt)?.as_micros());

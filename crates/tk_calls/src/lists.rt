@@ -5,7 +5,7 @@ use crate::again;
 use crate::instances::SQUARE;
 use crate::readers::problem_of;
 use crate::refusals::{Refusal, Stopped};
-use tk_metric::{Metric, Near, Planar, Table, near_scan, near_sweep, near_tree};
+use tk_metric::{BothAxes, Metric, Near, Planar, Table, near_scan, near_sweep, near_tree};
 use tk_text::Problem;
 
 /// Near lists by a scan, whose number and length are told.
@@ -47,7 +47,7 @@ fn sweep<P: Planar>(rt: &HostRuntime, places: &P) -> Result<(), Stopped>
 }
 
 /// Lists of two by a tree.
-fn search_tree<P: Planar>(rt: &HostRuntime, places: &P) -> Result<(), Stopped>
+fn search_tree<P: BothAxes>(rt: &HostRuntime, places: &P) -> Result<(), Stopped>
     requires { 2 < P.size_of places.now }
 {
     let near = again!(rt, "near_tree", near_tree(rt.alloc(), places, 2));

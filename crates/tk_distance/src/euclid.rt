@@ -6,7 +6,7 @@ ghost use Rattle.tk_problem.specs.PlacesOf.{places_of};
 ghost use Rattle.tk_problem.specs.declared.points.Places.TheVariants.{Whole};
 
 use crate::exact::whole::{is_whole_nearer, whole_between};
-use crate::metric::{Metric, Planar};
+use crate::metric::{BothAxes, Metric, Planar};
 use crate::planes::bound_of;
 use tk_problem::{PlaneKind, Point, WholePoint};
 
@@ -61,7 +61,7 @@ impl Metric for Euclid<'_> {
 }
 
 impl Planar for Euclid<'_> {
-    ghost use Rattle.tk_distance.specs.WholeCities.{whole_city_place, whole_gap-limit, whole_gap_y-limit, whole_floor, whole_floor_y};
+    ghost use Rattle.tk_distance.specs.WholeCities.{whole_city_place, whole_gap-limit, whole_floor};
 
     ghost place_of = { λ m c. whole_city_place m.places.now c };
 
@@ -69,13 +69,9 @@ impl Planar for Euclid<'_> {
 
     ghost wide = { λ m. whole_gap-limit m.places.now };
 
-    ghost tall = { λ m. whole_gap_y-limit m.places.now };
-
     ghost floor_rises = { λ m s t below _. below };
 
     ghost floor_bounds = { λ m. whole_floor m.places };
-
-    ghost floor_bounds_y = { λ m. whole_floor_y m.places };
 
     /// The place of a city in whole numbers: a difference in x, or in y, is then at most the distance itself.
     #[inline(always)]
@@ -91,4 +87,12 @@ impl Planar for Euclid<'_> {
     fn floor_x(&self, dx: u64) -> i64 {
         dx as i64
     }
+}
+
+impl BothAxes for Euclid<'_> {
+    ghost use Rattle.tk_distance.specs.WholeCities.{whole_gap_y-limit, whole_floor_y};
+
+    ghost tall = { λ m. whole_gap_y-limit m.places.now };
+
+    ghost floor_bounds_y = { λ m. whole_floor_y m.places };
 }

@@ -12,9 +12,9 @@ mod turned;
 
 pub use euclid::Euclid;
 pub use exact::roots::{root, root_up};
-pub use metric::{Metric, Planar};
+pub use metric::{BothAxes, Metric, Planar};
 pub use planes::Planes;
 pub use sub::Sub;
 pub use table::Table;
 pub use triangle::Triangle;
-pub use turned::{Turned, is_tall};
+pub use turned::Turned;

@@ -45,13 +45,12 @@ pub trait Metric {
     ghost distance_limit: { (m : Self) (a b : ℕ) → distance m a b ≤ DISTANCE_LIMIT };
 }
 
-/// A metric over places in the plane, in which a distance is at least a function of the difference in x, and the same
-/// function of the difference in y.
+/// A metric over places in the plane, in which a distance is at least a function of the difference in x.
 pub trait Planar: Metric {
     /// The place of a city, in units of the metric's own.
     ghost place_of: { Self → ℕ → Point };
 
-    /// The least distance at a difference in x or in y.
+    /// The least distance at a difference in x.
     ghost floor: { Self → ℕ → ℕ };
 
     /// The place of a city, in units of the metric's own.
@@ -59,20 +58,24 @@ pub trait Planar: Metric {
         requires { IsCity (Self.size_of self.now) c }
         ensures { result ≡ place_of self.now c };
 
-    /// No two cities whose places differ by this in x, or in y, are nearer than this.
+    /// No two cities whose places differ by this in x are nearer than this.
     fn floor_x(&self, dx: u64) -> i64
         requires { dx ≤ reach }
         ensures { result ≡ pos (floor self.now dx) };
 
     ghost wide: { (m : Self) (a b : ℕ) → unsigned_abs ((place_of m a).x -ℤ (place_of m b).x) ≤ reach };
 
-    ghost tall: { (m : Self) (a b : ℕ) → unsigned_abs ((place_of m a).y -ℤ (place_of m b).y) ≤ reach };
-
     ghost floor_rises: { (m : Self) (s t : ℕ) → s ≤ t → t ≤ reach → floor m s ≤ floor m t };
 
     ghost floor_bounds: { (m : Self) (a b : ℕ)
         → floor m (unsigned_abs ((place_of m a).x -ℤ (place_of m b).x)) ≤ Self.distance m a b };
+}
+
+/// A metric in the plane in which a distance is at least the same function of the difference in y.
+pub trait BothAxes: Planar {
+    ghost tall: { (m : Self) (a b : ℕ)
+        → unsigned_abs ((Self.place_of m a).y -ℤ (Self.place_of m b).y) ≤ reach };
 
     ghost floor_bounds_y: { (m : Self) (a b : ℕ)
-        → floor m (unsigned_abs ((place_of m a).y -ℤ (place_of m b).y)) ≤ Self.distance m a b };
+        → Self.floor m (unsigned_abs ((Self.place_of m a).y -ℤ (Self.place_of m b).y)) ≤ Self.distance m a b };
 }

@@ -7,7 +7,7 @@ ghost use Rattle.tk_problem.specs.PlacesOf.{places_of};
 use crate::euclid::Euclid;
 use crate::exact::fine::{fine_between, floor_distance, is_fine_nearer};
 use crate::exact::whole::{is_whole_nearer, whole_between};
-use crate::metric::{Metric, Planar};
+use crate::metric::{BothAxes, Metric, Planar};
 use tk_problem::{Places, PlaneKind, Point, Points};
 
 /// The distances of a plane type among the places of a list, whose cities are numbered from 1 in its order.
@@ -112,7 +112,7 @@ pub fn bound_of(limit: i64) -> u64
 impl Planar for Planes<'_> {
     ghost use Rattle.tk_distance.specs.PlaneDistance.{distance_at};
     ghost use Rattle.tk_distance.specs.PlaneOf.{city_place};
-    ghost use Rattle.tk_distance.specs.Laws.Planes.{city_gap-limit, city_gap_y-limit, floor-rises, floor-bounds, floor-bounds_y};
+    ghost use Rattle.tk_distance.specs.Laws.Planes.{city_gap-limit, floor-rises, floor-bounds};
 
     ghost place_of = { λ m c. city_place (places_of m.places) c };
 
@@ -120,14 +120,9 @@ impl Planar for Planes<'_> {
 
     ghost wide = { λ m. city_gap-limit (places_of m.places) m.near };
 
-    ghost tall = { λ m. city_gap_y-limit (places_of m.places) m.near };
-
     ghost floor_rises = { λ m s t below _. floor-rises m.kind s t below };
 
     ghost floor_bounds = { λ m a b. floor-bounds m.kind (city_place (places_of m.places) a)
-        (city_place (places_of m.places) b) };
-
-    ghost floor_bounds_y = { λ m a b. floor-bounds_y m.kind (city_place (places_of m.places) a)
         (city_place (places_of m.places) b) };
 
     #[inline]
@@ -139,4 +134,14 @@ impl Planar for Planes<'_> {
     fn floor_x(&self, dx: u64) -> i64 {
         floor_distance(self.kind, dx) as i64
     }
+}
+
+impl BothAxes for Planes<'_> {
+    ghost use Rattle.tk_distance.specs.PlaneOf.{city_place};
+    ghost use Rattle.tk_distance.specs.Laws.Planes.{city_gap_y-limit, floor-bounds_y};
+
+    ghost tall = { λ m. city_gap_y-limit (places_of m.places) m.near };
+
+    ghost floor_bounds_y = { λ m a b. floor-bounds_y m.kind (city_place (places_of m.places) a)
+        (city_place (places_of m.places) b) };
 }

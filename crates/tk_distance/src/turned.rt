@@ -1,16 +1,15 @@
 //! Places with x and y exchanged.
-ghost use Rattle.std.specs.Prelude.{◌≡◌, ◌≤◌, ℕ};
 ghost use Rattle.tk_problem.specs.declared.point.Point.{Point};
 ghost use Rattle.tk_distance.specs.Turned.{turned};
 
-use crate::metric::{Metric, Planar};
+use crate::metric::{BothAxes, Metric, Planar};
 use tk_problem::Point;
 
-/// The same metric with x and y of each place exchanged.
+/// The same metric with x and y of each place exchanged: a sweep in its order goes by y.
 #[derive(Drop)]
-pub struct Turned<'a, P: Planar>(pub &'a P);
+pub struct Turned<'a, P: BothAxes>(pub &'a P);
 
-impl<'a, P: Planar> Metric for Turned<'a, P> {
+impl<'a, P: BothAxes> Metric for Turned<'a, P> {
     ghost size_of = { λ t. P.size_of t.0.now };
 
     ghost distance = { λ t. P.distance t.0.now };
@@ -32,20 +31,16 @@ impl<'a, P: Planar> Metric for Turned<'a, P> {
     }
 }
 
-impl<'a, P: Planar> Planar for Turned<'a, P> {
+impl<'a, P: BothAxes> Planar for Turned<'a, P> {
     ghost place_of = { λ t c. turned (P.place_of t.0.now c) };
 
     ghost floor = { λ t. P.floor t.0.now };
 
     ghost wide = { λ t. P.tall t.0.now };
 
-    ghost tall = { λ t. P.wide t.0.now };
-
     ghost floor_rises = { λ t. P.floor_rises t.0.now };
 
     ghost floor_bounds = { λ t. P.floor_bounds_y t.0.now };
-
-    ghost floor_bounds_y = { λ t. P.floor_bounds t.0.now };
 
     fn place(&self, c: u32) -> Point {
         let place = self.0.place(c);
@@ -60,18 +55,8 @@ impl<'a, P: Planar> Planar for Turned<'a, P> {
     }
 }
 
-/// Whether the places take more room in y than in x.
-pub fn is_tall<P: Planar>(m: &P) -> bool
-    requires { 1 ≤ P.size_of m.now }
-{
-    let mut low = m.place(1);
-    let mut high = low;
-    for c in 2..m.size() + 1 {
-        let place = m.place(c);
-        low.x = low.x.min(place.x);
-        low.y = low.y.min(place.y);
-        high.x = high.x.max(place.x);
-        high.y = high.y.max(place.y);
-    }
-    high.y.abs_diff(low.y) > high.x.abs_diff(low.x)
+impl<'a, P: BothAxes> BothAxes for Turned<'a, P> {
+    ghost tall = { λ t. P.wide t.0.now };
+
+    ghost floor_bounds_y = { λ t. P.floor_bounds t.0.now };
 }

@@ -4,7 +4,7 @@
 #![tactic(auto)]
 
 pub use tk_distance::{
-    Euclid, Metric, Planar, Planes, Sub, Table, Triangle, Turned, root, root_up,
+    BothAxes, Euclid, Metric, Planar, Planes, Sub, Table, Triangle, Turned, root, root_up,
 };
 pub use tk_near::{
     Found, Left, Near, near_lists, near_lists_agree, near_scan, near_sweep, near_tree,

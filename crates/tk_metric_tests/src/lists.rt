@@ -38,7 +38,7 @@ fn places(alloc: Global, coordinates: &[[u16; 2]], unit: u32) -> Result<Points, 
 }
 
 // The lists of all cities are these, one after another.
-fn expect(rt: &impl Abort, near: &Near, want: &[u32]) {
+pub fn expect(rt: &impl Abort, near: &Near, want: &[u32]) {
     let width = near.width() as usize;
     assert!(rt; want.len() == near.size() as usize * width);
     for c in 1..near.size() + 1 {
@@ -51,7 +51,7 @@ fn expect(rt: &impl Abort, near: &Near, want: &[u32]) {
     }
 }
 
-// The lists of a scan, of a sweep in either direction, of a tree and of a table are these.
+// The lists of a scan, of a sweep by x and by y, of a tree in either direction and of a table are these.
 fn expect_lists(
     rt: &impl Abort,
     alloc: Global,
@@ -71,6 +71,7 @@ fn expect_lists(
     expect(rt, &near_sweep(alloc, &m, k)?, want);
     expect(rt, &near_sweep(alloc, &Turned(&m), k)?, want);
     expect(rt, &near_tree(alloc, &m, k)?, want);
+    expect(rt, &near_tree(alloc, &Turned(&m), k)?, want);
     expect(rt, &near_lists(alloc, &Table::Planes(m), k)?, want);
     Ok(())
 }

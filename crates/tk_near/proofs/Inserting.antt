@@ -63,26 +63,6 @@ Climbing-take f (suc k) (y ∷ ys) h = (All-take (λ z. f y ≤ f z) k ys h.0, C
 pub length-insert_by : {X : Type 0} (f : X → ℕ) (x : X) (xs : List X) → length (insert_by f x xs) ≡ suc (length xs)
 length-insert_by f x xs = length_permutation (x ∷ xs) (insert_by f x xs) (IsPermutation-insert_by f x xs)
 
-before_next : {X : Type 0} (f : X → ℕ) (y : X) (j : ℕ) (ys : List X) (d : X) → Climbing f (y ∷ ys) → j < length ys → f (get_or (y ∷ ys) j d) ≤ f (get_or ys j d)
-before_next f y zero ys d h l = h.0 zero d l
-before_next f y (suc j) [] d h l = absurd (omega arith)
-before_next f y (suc j) (z ∷ zs) d h l = before_next f z j zs d h.1 (omega arith)
-
--- no place has a greater element than before
-pub insert_by-lower : {X : Type 0} (f : X → ℕ) (x : X) (j : ℕ) (xs : List X) (d : X) → Climbing f xs → j < length xs → f (get_or (insert_by f x xs) j d) ≤ f (get_or xs j d)
-insert_by-lower f x j [] d h l = absurd (omega arith)
-insert_by-lower f x zero (y ∷ ys) d h l =
-    (elim (nat_lt (f x) (f y)) as (λ b. nat_lt (f x) (f y) ≡ b → f (get_or (cond b (x ∷ y ∷ ys) (y ∷ insert_by f x ys)) zero d) ≤ f y) [
-      | true ↦ λ e. let b : f x < f y = grind (arith, nat_tests) in omega arith
-      | false ↦ λ e. omega arith
-    ]) refl
-insert_by-lower f x (suc j) (y ∷ ys) d h l =
-    let in' : j < length ys = omega arith in
-    elim (nat_lt (f x) (f y)) as (λ b. f (get_or (cond b (x ∷ y ∷ ys) (y ∷ insert_by f x ys)) (suc j) d) ≤ f (get_or ys j d)) [
-      | true ↦ before_next f y j ys d h in'
-      | false ↦ insert_by-lower f x j ys d h.1 in'
-    ]
-
 -- before the last
 pub insert_by-front : {X : Type 0} (f : X → ℕ) (x z : X) (xs : List X) → f x < f z → insert_by f x (xs ++ z ∷ []) ≡ insert_by f x xs ++ z ∷ []
 insert_by-front f x z [] l =

@@ -36,7 +36,3 @@ pub record IsSwept (dist : ℕ → ℕ → ℕ) (row : List Placed) (p low high 
 -- each candidate at this distance or beyond comes after the last of the kept
 abbrev pub IsBelow : ℕ → List Candidate → Type 0
 IsBelow bound kept = rank (slice_index_or kept (length kept - 1) open_place) < bound * 4294967296
-
--- so does each candidate whose difference in x or in y is at least `far`
-abbrev pub AreFar : (ℕ → ℕ) → ℕ → List Candidate → Type 0
-AreFar floor far kept = (gap : ℕ) → far ≤ gap → gap ≤ reach → IsBelow (floor gap) kept

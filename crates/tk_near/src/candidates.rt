@@ -49,6 +49,17 @@ pub fn measure<M: Metric>(m: &M, c: u32, b: u32) -> Candidate
     }
 }
 
+/// Whether a city, seen from another, comes before the last of the kept.
+#[inline(always)]
+pub fn comes_before<M: Metric>(m: &M, here: u32, there: u32, last: Candidate) -> bool
+    requires here { IsCity (M.size_of m.now) here }
+    requires there { IsCity (M.size_of m.now) there }
+    ensures { IsTrue result ↔ (rank (candidate (M.distance m.now) here there) < rank last) }
+{
+    let limit = last.distance as i64 + (there < last.city) as i64;
+    m.is_nearer(here, there, limit)
+}
+
 /// Puts a candidate in its place and lets the last go, or lets it go itself where it comes last. The places from
 /// `filled` on are open: they stay where they are.
 pub fn keep_among(kept: &mut [Candidate], filled: &mut usize, x: Candidate)

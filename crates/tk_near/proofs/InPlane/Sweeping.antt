@@ -1,11 +1,9 @@
 -- A sweep in x order, one place at a time.
 use Rattle.std.proofs.Common.{◌≡◌, ◌≢◌, ℕ, zero, suc, ◌+◌, ◌*◌, ◌-◌, ◌<◌, ◌≤◌, ◌⊎◌, ⊎_elim, inl, inr, List, length, take, replicate, refl, sym, ap, ◌∙◌, arith, get_or, subst}
-use Rattle.std.specs.Prelude.{ℤ, ◌-ℤ◌, ◌≤ℤ◌, MatchBool, nat_lt, max, true, false}
-use Rattle.std.proofs.lemmas.Bool.Decides.{nat_tests}
+use Rattle.std.specs.Prelude.{ℤ, ◌-ℤ◌, ◌≤ℤ◌}
 use Rattle.std.specs.Int.RustNames.{unsigned_abs}
 use Rattle.std.proofs.lemmas.Int.{ints}
 use Rattle.std.proofs.lemmas.Bool.{cases_lt, cases_eq}
-use Rattle.std.proofs.lemmas.List.{get_or-take, length-take-le}
 use Rattle.tk_problem.specs.declared.limits.TheConstants.{DISTANCE_LIMIT}
 use Rattle.tk_problem.specs.declared.point.Point.{Point}
 use Rattle.tk_near.specs.declared.candidates.Candidate.{Candidate}
@@ -13,9 +11,9 @@ use Rattle.tk_near.specs.declared.plane.placed.Placed.{Placed}
 use Rattle.tk_distance.specs.Cities.{IsCity}
 use Rattle.tk_near.specs.Near.{IsNear}
 use Rattle.tk_near.specs.Keeping.{Climbing, insert_by, rank, candidate, open_place, cities_of, KeepsFirst}
-use Rattle.tk_near.specs.Placed.{IsPlaced, IsAt, city_at}
-use Rattle.tk_near.specs.Sweep.{IsXOrder, IsFloor, IsSwept, IsBelow, AreFar, place_at}
-use Rattle.tk_near.proofs.Inserting.{insert_by-full, insert_by-lower, length-insert_by}
+use Rattle.tk_near.specs.Placed.{IsAt, city_at}
+use Rattle.tk_near.specs.Sweep.{IsXOrder, IsFloor, IsSwept, IsBelow, place_at}
+use Rattle.tk_near.proofs.Inserting.{insert_by-full}
 use Rattle.tk_near.proofs.Keeping.{KeepsFirst-none, KeepsFirst-more, KeepsFirst-count, IsNear-from_kept, kept_climbing, kept_length}
 
 wider_down : (a b c : ℤ) → a ≤ℤ b → b ≤ℤ c → unsigned_abs (c -ℤ b) ≤ unsigned_abs (c -ℤ a)
@@ -29,43 +27,11 @@ below_weaker : (s t : ℕ) (kept : List Candidate) → s ≤ t → IsBelow s kep
 below_weaker s t kept l h = omega (arith, h)
 
 -- a candidate that is too far changes nothing
-pub kept_without : (k bound : ℕ) (kept : List Candidate) (x : Candidate) → Climbing rank kept → length kept ≡ k → 1 ≤ k → IsBelow bound kept → bound ≤ x.distance → kept ≡ take k (insert_by rank x kept)
+kept_without : (k bound : ℕ) (kept : List Candidate) (x : Candidate) → Climbing rank kept → length kept ≡ k → 1 ≤ k → IsBelow bound kept → bound ≤ x.distance → kept ≡ take k (insert_by rank x kept)
 kept_without k bound kept x up full one h l =
     let last : length kept - 1 ≡ k - 1 = omega arith in
     let h' : rank (get_or kept (k - 1) open_place) < bound * 4294967296 = rw last at h in
     insert_by-full rank x k kept open_place up full one (omega (arith, h'))
-
--- what is below stays so
-pub below_kept : (bound : ℕ) (kept : List Candidate) (x : Candidate) → Climbing rank kept → 1 ≤ length kept → IsBelow bound kept → IsBelow bound (take (length kept) (insert_by rank x kept))
-below_kept bound kept x up room h =
-    let size : length (take (length kept) (insert_by rank x kept)) ≡ length kept = length-take-le (length kept) (insert_by rank x kept) (omega (arith, length-insert_by rank x kept)) in
-    let same : get_or (take (length kept) (insert_by rank x kept)) (length kept - 1) open_place ≡ get_or (insert_by rank x kept) (length kept - 1) open_place =
-    get_or-take (length kept) (insert_by rank x kept) (length kept - 1) open_place (omega arith) in
-    let lower = insert_by-lower rank x (length kept - 1) kept open_place up (omega arith) in
-    let last : rank (get_or (take (length kept) (insert_by rank x kept)) (length kept - 1) open_place) < bound * 4294967296 = rw same (omega (arith, h, lower)) in
-    rw size last
-
-pub far_kept : (floor : ℕ → ℕ) (far : ℕ) (kept : List Candidate) (x : Candidate) → Climbing rank kept → 1 ≤ length kept → AreFar floor far kept → AreFar floor far (take (length kept) (insert_by rank x kept))
-far_kept floor far kept x up room h gap l m = below_kept (floor gap) kept x up room (h gap l m)
-
--- the greater of two gaps is one of them
-pub greater_gap : (x y gap : ℕ) (A B : Type 0) → gap ≡ max x y → (y ≡ gap → A) → (x ≡ gap → B) → MatchBool (nat_lt x gap) A B
-greater_gap x y gap A B e a b =
-    (elim (nat_lt x gap) as (λ v. nat_lt x gap ≡ v → MatchBool v A B) [
-      | true ↦ λ h. let l : x < gap = grind (arith, nat_tests) in a (omega (arith, e))
-      | false ↦ λ h. let l : gap ≤ x = grind (arith, nat_tests) in b (omega (arith, e))
-    ]) refl
-
--- differences of two placed cities
-module _ (n : ℕ) (place_of : ℕ → Point) (here there : Placed) (h : IsPlaced n place_of here) (t : IsPlaced n place_of there) where
-  pub gap_in_y : unsigned_abs ((place_of here.city).y -ℤ (place_of there.city).y) ≡ unsigned_abs (here.place.y -ℤ there.place.y)
-  gap_in_y =
-      ap (λ (v : Point). unsigned_abs (v.y -ℤ (place_of there.city).y)) (sym h.1) ∙ ap (λ (v : Point). unsigned_abs (here.place.y -ℤ v.y)) (sym t.1)
-
-  -- a city that is too far in y changes nothing
-  pub kept_without_y : (dist : ℕ → ℕ → ℕ) (floor : ℕ → ℕ) (kept : List Candidate) → ((a b : ℕ) → floor (unsigned_abs ((place_of a).y -ℤ (place_of b).y)) ≤ dist a b) → Climbing rank kept → 1 ≤ length kept → IsBelow (floor (unsigned_abs (here.place.y -ℤ there.place.y))) kept → kept ≡ take (length kept) (insert_by rank (candidate dist here.city there.city) kept)
-  kept_without_y dist floor kept bounds up room below =
-      kept_without (length kept) (floor (unsigned_abs (here.place.y -ℤ there.place.y))) kept (candidate dist here.city there.city) up refl room below (rw gap_in_y at (bounds here.city there.city))
 
 abbrev Window : ℕ → ℕ → ℕ → ℕ → Type 0
 Window low high p q = (low ≤ q) × (q < high) × (q ≢ p)

@@ -12,7 +12,7 @@ use crate::plane::placed::Placed;
 use crate::plane::tree::{Frame, Path, START, Tree, frame_of, planted, search_half, search_leaf};
 use std::alloc::{AllocError, Global};
 use std::marker::Model;
-use tk_distance::Planar;
+use tk_distance::{BothAxes, Planar};
 
 /// A city, and the turns that lead to the part of the tree where it was seen: the lowest bit is the first turn, and 1
 /// goes to the upper half. Other turns cost time alone.
@@ -63,7 +63,7 @@ impl Left {
 
     /// Takes a city out, which is looked for where it was found first, and finds the first of those that are left then,
     /// by distance and number.
-    pub fn visit<P: Planar>(&mut self, m: &P, here: Placed, at: Found) -> Option<Found>
+    pub fn visit<P: BothAxes>(&mut self, m: &P, here: Placed, at: Found) -> Option<Found>
         requires here { IsPlaced (P.size_of m.now) (P.place_of m.now) here }
         requires apart { AreApart (P.size_of m.now) (P.place_of m.now) self.old }
         requires there { Stands self.old here.city }
@@ -158,7 +158,7 @@ fn take_from_leaf(row: &mut Vec<Placed>, p: &Placed) -> Option<Rest>
 
 /// Takes the city here out of a tree, shows what is near of the others, and tells what is left, if it was there. It is
 /// looked for at the end of these turns first.
-fn take_from<P: Planar, K: Keeper>(
+fn take_from<P: BothAxes, K: Keeper>(
     m: &P,
     here: &Placed,
     tree: &mut Tree,

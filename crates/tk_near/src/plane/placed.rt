@@ -1,6 +1,6 @@
 //! Cities with their places.
 ghost use Rattle.std.specs.Prelude.{◌≡◌, IfOk};
-ghost use Rattle.tk_near.specs.Placed.{IsRow, x_gap, y_gap};
+ghost use Rattle.tk_near.specs.Placed.{IsRow, x_gap};
 
 use std::alloc::{AllocError, Global};
 use tk_distance::Planar;
@@ -14,18 +14,11 @@ pub struct Placed {
 }
 
 impl Placed {
-    /// The difference in x, in units of 10^-9.
+    /// The difference in x.
     pub fn gap_x(self, other: Placed) -> u64
         ensures { result ≡ x_gap self other }
     {
         self.place.x.abs_diff(other.place.x)
-    }
-
-    /// The difference in y.
-    pub fn gap_y(self, other: Placed) -> u64
-        ensures { result ≡ y_gap self other }
-    {
-        self.place.y.abs_diff(other.place.y)
     }
 }
 

@@ -5,13 +5,13 @@ ghost use Rattle.tk_distance.specs.Distance.{reach};
 ghost use Rattle.tk_near.specs.Near.{IsNear, AreNearest};
 ghost use Rattle.tk_near.specs.Keeping.{AreFilled, rank, Climbing, with_candidate, candidate, cities_of};
 ghost use Rattle.tk_near.specs.Placed.{IsPlaced, city_at, x_gap};
-ghost use Rattle.tk_near.specs.Sweep.{IsXOrder, IsSwept, IsBelow, AreFar};
+ghost use Rattle.tk_near.specs.Sweep.{IsXOrder, IsSwept, IsBelow};
 
-use crate::candidates::{Candidate, OPEN, keep, measure, write_cities};
+use crate::candidates::{Candidate, OPEN, comes_before, keep, measure, write_cities};
 use crate::near::Near;
 use crate::plane::placed::{Placed, row_of};
 use std::alloc::{AllocError, Global};
-use tk_distance::{Planar, Turned, is_tall};
+use tk_distance::Planar;
 
 /// The cities in the order of x.
 ///
@@ -25,7 +25,7 @@ pub fn order_by_x<P: Planar>(alloc: Global, m: &P) -> Result<Vec<Placed>, AllocE
     Ok(row)
 }
 
-/// Whether no city at this difference in x, or in y, can be as near as the last of the kept.
+/// Whether no city at this difference in x can be as near as the last of the kept.
 fn is_far<P: Planar>(m: &P, difference: u64, kept: &[Candidate]) -> bool
     requires difference { difference ≤ reach }
     requires room { 1 ≤ length kept.now }
@@ -35,60 +35,24 @@ fn is_far<P: Planar>(m: &P, difference: u64, kept: &[Candidate]) -> bool
     m.floor_x(difference) > last.distance as i64
 }
 
-/// Keeps a city, unless it is too far in x, with all beyond it: whether it was not. Learns what is far.
-#[inline(never)]
-fn meet<P: Planar>(
-    m: &P,
-    here: Placed,
-    there: Placed,
-    kept: &mut [Candidate],
-    far: &mut u64,
-) -> bool
+/// Keeps a city, unless it is too far in x, with all beyond it: whether it was not.
+#[inline]
+fn meet<P: Planar>(m: &P, here: Placed, there: Placed, kept: &mut [Candidate]) -> bool
     requires here { IsPlaced (P.size_of m.now) (P.place_of m.now) here }
     requires there { IsPlaced (P.size_of m.now) (P.place_of m.now) there }
     requires room { 1 ≤ length kept.old }
     requires climbing { Climbing rank kept.old }
-    requires far { AreFar (P.floor m.now) far.old kept.old }
-    ensures kept { MatchBool result
+    ensures { MatchBool result
         (kept.new ≡ with_candidate (candidate (P.distance m.now) here.city there.city) kept.old)
         ((kept.new ≡ kept.old) × IsBelow (P.floor m.now (x_gap here there)) kept.old) }
-    ensures far { AreFar (P.floor m.now) far.new kept.new }
 {
-    let gap_x = here.gap_x(there);
-    let gap = gap_x.max(here.gap_y(there));
-    if is_far(m, gap, kept) {
-        *far = gap;
-        return gap_x < gap;
-    }
-    keep(kept, measure(m, here.city, there.city));
-    true
-}
-
-/// The same, at first by what is known to be far: most cities need no more than two comparisons.
-fn look<P: Planar>(
-    m: &P,
-    here: Placed,
-    there: Placed,
-    kept: &mut [Candidate],
-    far: &mut u64,
-) -> bool
-    requires here { IsPlaced (P.size_of m.now) (P.place_of m.now) here }
-    requires there { IsPlaced (P.size_of m.now) (P.place_of m.now) there }
-    requires room { 1 ≤ length kept.old }
-    requires climbing { Climbing rank kept.old }
-    requires far { AreFar (P.floor m.now) far.old kept.old }
-    ensures kept { MatchBool result
-        (kept.new ≡ with_candidate (candidate (P.distance m.now) here.city there.city) kept.old)
-        ((kept.new ≡ kept.old) × IsBelow (P.floor m.now (x_gap here there)) kept.old) }
-    ensures far { AreFar (P.floor m.now) far.new kept.new }
-{
-    if here.gap_x(there) >= *far {
+    if is_far(m, here.gap_x(there), kept) {
         return false;
     }
-    if here.gap_y(there) >= *far {
-        return true;
+    if comes_before(m, here.city, there.city, kept[kept.len() - 1]) {
+        keep(kept, measure(m, here.city, there.city));
     }
-    meet(m, here, there, kept, far)
+    true
 }
 
 /// One place down; 0 where that side ends.
@@ -99,19 +63,16 @@ fn sweep_down<P: Planar>(
     low: usize,
     high: usize,
     kept: &mut [Candidate],
-    far: &mut u64,
 ) -> usize
     requires order { IsXOrder (P.size_of m.now) (P.place_of m.now) row.now }
     requires left { 0 < low }
     requires room { 1 ≤ length kept.old }
     requires swept { IsSwept (P.distance m.now) row.now p low high (length kept.old) kept.old }
-    requires far { AreFar (P.floor m.now) far.old kept.old }
     ensures less { result < low }
     ensures size { length kept.new ≡ length kept.old }
     ensures swept { IsSwept (P.distance m.now) row.now p result high (length kept.old) kept.new }
-    ensures far { AreFar (P.floor m.now) far.new kept.new }
 {
-    if look(m, row[p], row[low - 1], kept, far) {
+    if meet(m, row[p], row[low - 1], kept) {
         low - 1
     } else {
         0
@@ -126,19 +87,16 @@ fn sweep_up<P: Planar>(
     low: usize,
     high: usize,
     kept: &mut [Candidate],
-    far: &mut u64,
 ) -> usize
     requires order { IsXOrder (P.size_of m.now) (P.place_of m.now) row.now }
     requires right { high < length row.now }
     requires room { 1 ≤ length kept.old }
     requires swept { IsSwept (P.distance m.now) row.now p low high (length kept.old) kept.old }
-    requires far { AreFar (P.floor m.now) far.old kept.old }
     ensures more { high < result }
     ensures size { length kept.new ≡ length kept.old }
     ensures swept { IsSwept (P.distance m.now) row.now p low result (length kept.old) kept.new }
-    ensures far { AreFar (P.floor m.now) far.new kept.new }
 {
-    if look(m, row[p], row[high], kept, far) {
+    if meet(m, row[p], row[high], kept) {
         high + 1
     } else {
         row.len()
@@ -156,15 +114,14 @@ fn sweep_city<P: Planar>(m: &P, row: &[Placed], p: usize, kept: &mut [Candidate]
         (cities_of kept.new) }
 {
     kept.fill(OPEN);
-    let mut far = u64::MAX;
     let mut low = p;
     let mut high = p + 1;
     while low > 0 || high < row.len() {
         if low > 0 {
-            low = sweep_down(m, row, p, low, high, kept, &mut far);
+            low = sweep_down(m, row, p, low, high, kept);
         }
         if high < row.len() {
-            high = sweep_up(m, row, p, low, high, kept, &mut far);
+            high = sweep_up(m, row, p, low, high, kept);
         }
     }
 }
@@ -183,8 +140,12 @@ fn fill_lists<P: Planar>(m: &P, row: &[Placed], kept: &mut [Candidate], entries:
     }
 }
 
-/// The near lists by a sweep from each city to both sides in x order.
-fn sweep_by_x<P: Planar>(alloc: Global, m: &P, k: u32) -> Result<Near, AllocError>
+/// The near lists by a sweep from each city to both sides in x order, which takes long where many cities have almost the
+/// same x. Where they differ more in y, the metric can be given as [`Turned`](tk_distance::Turned).
+///
+/// # Errors
+/// `AllocError` if there is no memory for the row, or for n lists of k cities.
+pub fn near_sweep<P: Planar>(alloc: Global, m: &P, k: u32) -> Result<Near, AllocError>
     requires low { 1 ≤ k }
     requires limit { k ≤ CANDIDATE_LIMIT }
     requires high { k < P.size_of m.now }
@@ -198,23 +159,4 @@ fn sweep_by_x<P: Planar>(alloc: Global, m: &P, k: u32) -> Result<Near, AllocErro
     let mut entries = vec![in alloc; 0u32; m.size() as usize * width]?;
     fill_lists(m, &row, &mut kept, &mut entries);
     Ok(Near::from_filled(m, k, entries))
-}
-
-/// The near lists by a sweep from each city to both sides, in the order of the coordinate that takes more room.
-///
-/// # Errors
-/// `AllocError` if there is no memory for the row, or for n lists of k cities.
-pub fn near_sweep<P: Planar>(alloc: Global, m: &P, k: u32) -> Result<Near, AllocError>
-    requires low { 1 ≤ k }
-    requires limit { k ≤ CANDIDATE_LIMIT }
-    requires high { k < P.size_of m.now }
-    ensures size { IfOk result (λ v. v.size ≡ P.size_of m.now) }
-    ensures width { IfOk result (λ v. v.width ≡ k) }
-    ensures near { IfOk result (λ v. AreNearest (P.distance m.now) v) }
-{
-    if is_tall(m) {
-        sweep_by_x(alloc, &Turned(m), k)
-    } else {
-        sweep_by_x(alloc, m, k)
-    }
 }

@@ -10,13 +10,13 @@ ghost use Rattle.tk_distance.specs.Cities.{IsCity};
 ghost use Rattle.tk_near.specs.Placed.{IsPlaced, IsRow};
 ghost use Rattle.tk_near.specs.Tree.{entries_of, IsWithin, IsFramed, IsBeyond, IsFrom, with_city, with_cities};
 
-use crate::candidates::{Candidate, OPEN, measure, write_cities};
+use crate::candidates::{Candidate, OPEN, comes_before, measure, write_cities};
 use crate::near::Near;
 use crate::plane::halve::halve;
 use crate::plane::keeper::{Keeper, Many};
 use crate::plane::placed::{Placed, row_of};
 use std::alloc::{AllocError, Global};
-use tk_distance::Planar;
+use tk_distance::{BothAxes, Planar};
 use tk_problem::{COORDINATE_LIMIT, SCALE};
 
 /// At most so many cities stand in a leaf.
@@ -113,7 +113,7 @@ impl Frame {
 
     /// What no city of the box comes before, seen from here.
     #[inline(always)]
-    fn first<P: Planar>(&self, m: &P, here: &Placed) -> Candidate
+    fn first<P: BothAxes>(&self, m: &P, here: &Placed) -> Candidate
         requires { IsPlaced (P.size_of m.now) (P.place_of m.now) here.now }
         ensures { (p : Placed) → IsPlaced (P.size_of m.now) (P.place_of m.now) p → IsWithin self.now p
             → IsFrom (P.distance m.now) here.now.city result p }
@@ -255,17 +255,6 @@ fn may_enter(first: Candidate, last: Candidate) -> bool
     first.is_before(last)
 }
 
-/// Whether a city, seen from another, comes before the last of the kept.
-#[inline(always)]
-fn comes_before<P: Planar>(m: &P, here: u32, there: u32, last: Candidate) -> bool
-    requires here { IsCity (P.size_of m.now) here }
-    requires there { IsCity (P.size_of m.now) there }
-    ensures { IsTrue result ↔ (rank (candidate (P.distance m.now) here there) < rank last) }
-{
-    let limit = last.distance as i64 + (there < last.city) as i64;
-    m.is_nearer(here, there, limit)
-}
-
 /// Shows a city to what keeps the first.
 #[inline(always)]
 fn show<P: Planar, K: Keeper>(m: &P, here: &Placed, there: &Placed, sides: u64, keeper: &mut K)
@@ -296,7 +285,7 @@ pub fn search_leaf<P: Planar, K: Keeper>(
 }
 
 /// Shows what is near of a part: a half is left out if no city of its box comes before the last of the kept.
-pub fn search<P: Planar, K: Keeper>(m: &P, here: &Placed, tree: &Tree, path: Path, keeper: &mut K)
+pub fn search<P: BothAxes, K: Keeper>(m: &P, here: &Placed, tree: &Tree, path: Path, keeper: &mut K)
     requires here { IsPlaced (P.size_of m.now) (P.place_of m.now) here.now }
     requires placed { All (IsPlaced (P.size_of m.now) (P.place_of m.now)) (entries_of tree.now) }
     requires framed { IsFramed tree.now }
@@ -329,7 +318,7 @@ pub fn search<P: Planar, K: Keeper>(m: &P, here: &Placed, tree: &Tree, path: Pat
 
 /// Shows what is near of a half, which is left out if no city of its box comes before the last of the kept.
 #[inline(always)]
-pub fn search_half<P: Planar, K: Keeper>(
+pub fn search_half<P: BothAxes, K: Keeper>(
     m: &P,
     here: &Placed,
     frame: &Frame,
@@ -350,7 +339,7 @@ pub fn search_half<P: Planar, K: Keeper>(
 }
 
 /// The first of the cities other than that here, as many as there is room for.
-fn search_city<P: Planar>(m: &P, here: &Placed, tree: &Tree, many: &mut Many)
+fn search_city<P: BothAxes>(m: &P, here: &Placed, tree: &Tree, many: &mut Many)
     requires here { IsPlaced (P.size_of m.now) (P.place_of m.now) here.now }
     requires row { IsRow (P.size_of m.now) (P.place_of m.now) (entries_of tree.now) }
     requires framed { IsFramed tree.now }
@@ -364,7 +353,7 @@ fn search_city<P: Planar>(m: &P, here: &Placed, tree: &Tree, many: &mut Many)
 }
 
 /// Fills the list of each city, in the order of the tree.
-fn fill_from_tree<P: Planar>(
+fn fill_from_tree<P: BothAxes>(
     m: &P,
     row: &[Placed],
     tree: &Tree,
@@ -388,7 +377,7 @@ fn fill_from_tree<P: Planar>(
 ///
 /// # Errors
 /// `AllocError` if there is no memory for the tree, or for n lists of k cities.
-pub fn near_tree<P: Planar>(alloc: Global, m: &P, k: u32) -> Result<Near, AllocError>
+pub fn near_tree<P: BothAxes>(alloc: Global, m: &P, k: u32) -> Result<Near, AllocError>
     requires low { 1 ≤ k }
     requires limit { k ≤ CANDIDATE_LIMIT }
     requires high { k < P.size_of m.now }

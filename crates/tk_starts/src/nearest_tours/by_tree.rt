@@ -8,7 +8,7 @@ ghost use Rattle.tk_starts.specs.NearestTour.{IsNearestTour};
 ghost use Rattle.tk_starts.specs.Unvisited.{AreAllVisited, IsFirstLeft};
 
 use std::alloc::{AllocError, Global};
-use tk_distance::Planar;
+use tk_distance::{BothAxes, Planar};
 use tk_near::{Found, Left, Placed};
 
 /// A city with its place.
@@ -22,7 +22,7 @@ fn placed<P: Planar>(metric: &P, city: u32) -> Placed
 }
 
 /// Takes a city out, and finds the first of those that are left then, if any, by (distance, number).
-fn visit<P: Planar>(left: &mut Left, metric: &P, here: Placed, at: Found) -> Option<Found>
+fn visit<P: BothAxes>(left: &mut Left, metric: &P, here: Placed, at: Found) -> Option<Found>
     requires here { IsPlaced (P.size_of metric.now) (P.place_of metric.now) here }
     requires apart { AreApart (P.size_of metric.now) (P.place_of metric.now) left.old }
     requires left { Stands left.old here.city }
@@ -38,7 +38,7 @@ fn visit<P: Planar>(left: &mut Left, metric: &P, here: Placed, at: Found) -> Opt
 ///
 /// # Errors
 /// `AllocError` where there is no memory for the n cities and their tree.
-pub fn nearest_tree<P: Planar>(
+pub fn nearest_tree<P: BothAxes>(
     alloc: Global,
     metric: &P,
     start: u32,
