@@ -4,8 +4,8 @@ use Rattle.std.proofs.Common.{◌≡◌, ℕ, List, ◌++◌, sym, ap, ◌∙◌
 use Rattle.std.specs.Prelude.{reverse}
 use Rattle.std.proofs.lemmas.List.{append_assoc, reverse-append, reverse-reverse}
 use Rattle.tk_tour.specs.Tour.{SameCycle, IsSizedTour}
-use Rattle.tk_tour.specs.Moves.{ReplacesSteps, CanFlip, CutInThree, OrMove}
-use Rattle.tk_tour.proofs.Cycle.{SameCycle-trans, SameCycle-append, IsPath-append, IsPath-reverse}
+use Rattle.tk_tour.specs.Moves.{ReplacesSteps, CanFlip, CutInThree, OrMove, TwoOptMove}
+use Rattle.tk_tour.proofs.Cycle.{IsRotation-refl, SameCycle-trans, SameCycle-append, IsPath-append, IsPath-reverse}
 use Rattle.tk_tour.proofs.Steps.{CanFlip-from_cut}
 
 turn : (t xs ys : List ℕ) → SameCycle t (xs ++ ys) → SameCycle t (ys ++ xs)
@@ -66,3 +66,53 @@ OrMove-reversed old new a x e b c d k h =
 pub OrMove-straight : (old new : List ℕ) (a x e b c d : ℕ) (k : CutInThree old a x e b c d) → SameCycle new (k.ahead ++ k.segment ++ k.rest) → OrMove (length k.segment) old new a x e b c d
 OrMove-straight old new a x e b c d k h =
     record { segment = k.segment; ahead = k.ahead; rest = k.rest; short = omega arith; is_segment = k.is_segment; before = k.cycle; after = inl (k.is_ahead, k.is_rest, h) }
+
+-- the same steps as 2-opt moves of lists
+
+itself : (xs : List ℕ) → SameCycle xs xs
+itself xs = inl (IsRotation-refl xs)
+
+module _ (cities : List ℕ) (a x e b c d : ℕ) (k : CutInThree cities a x e b c d) where
+  pub turns_both : TwoOptMove cities (k.rest ++ reverse (k.segment ++ k.ahead)) a x c d
+  turns_both = record {
+    kept = k.rest;
+    turned = k.segment ++ k.ahead;
+    is_kept = k.is_rest;
+    is_turned = IsPath-append k.is_segment k.is_ahead;
+    before = begun cities a x e b c d k;
+    after = itself (k.rest ++ reverse (k.segment ++ k.ahead));
+  }
+
+  turns_path_back_before : SameCycle (k.rest ++ reverse (k.segment ++ k.ahead)) ((reverse k.segment ++ k.rest) ++ reverse k.ahead)
+  turns_path_back_before =
+      let both : List ℕ = k.rest ++ reverse (k.segment ++ k.ahead) in
+      let eq : k.rest ++ reverse (k.segment ++ k.ahead) ≡ (k.rest ++ reverse k.ahead) ++ reverse k.segment =
+      ap (λ v. k.rest ++ v) (reverse-append k.segment k.ahead) ∙ sym (append_assoc k.rest (reverse k.ahead) (reverse k.segment)) in
+      same both _ _ (sym (append_assoc (reverse k.segment) k.rest (reverse k.ahead))) (turn both (k.rest ++ reverse k.ahead) (reverse k.segment) (same both _ _ eq (itself both)))
+
+  pub turns_path_back : TwoOptMove (k.rest ++ reverse (k.segment ++ k.ahead)) (k.ahead ++ reverse k.segment ++ k.rest) a c b e
+  turns_path_back =
+      let new : List ℕ = k.ahead ++ reverse k.segment ++ k.rest in
+      record {
+        kept = reverse k.segment ++ k.rest;
+        turned = reverse k.ahead;
+        is_kept = IsPath-append (IsPath-reverse k.is_segment) k.is_rest;
+        is_turned = IsPath-reverse k.is_ahead;
+        before = turns_path_back_before;
+        after = same new _ _ (ap (λ v. (reverse k.segment ++ k.rest) ++ v) (sym (reverse-reverse k.ahead))) (turn new k.ahead (reverse k.segment ++ k.rest) (same new _ _ (append_assoc k.ahead (reverse k.segment) k.rest) (itself new)));
+      }
+
+  pub turns_segment_back : TwoOptMove (k.ahead ++ reverse k.segment ++ k.rest) (k.ahead ++ k.segment ++ k.rest) c e x d
+  turns_segment_back =
+      let old : List ℕ = k.ahead ++ reverse k.segment ++ k.rest in
+      let new : List ℕ = k.ahead ++ k.segment ++ k.rest in
+      let eq : k.rest ++ (k.ahead ++ k.segment) ≡ (k.rest ++ k.ahead) ++ reverse (reverse k.segment) =
+      sym (append_assoc k.rest k.ahead k.segment) ∙ ap (λ v. (k.rest ++ k.ahead) ++ v) (sym (reverse-reverse k.segment)) in
+      record {
+        kept = k.rest ++ k.ahead;
+        turned = reverse k.segment;
+        is_kept = IsPath-append k.is_rest k.is_ahead;
+        is_turned = IsPath-reverse k.is_segment;
+        before = between cities old a x e b c d k (itself old);
+        after = same new _ _ eq (turn new (k.ahead ++ k.segment) k.rest (itself new));
+      }

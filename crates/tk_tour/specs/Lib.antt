@@ -4,6 +4,7 @@ pub mod Fault
 pub mod Journal
 pub mod JournalTours
 pub mod Moves
+pub mod OrSteps
 pub mod Printed
 pub mod Reversal
 pub mod ReversalLaws

@@ -3,6 +3,7 @@
 ghost use Rattle.std.specs.Prelude.{◌≡◌, ◌≤◌, ◌+◌, ◌*◌, ◌/◌, length};
 ghost use Rattle.tk_tour.specs.Counters.{saturated};
 ghost use Rattle.tk_tour.specs.Moves.{CutInFour, IsBridged, CutInThree, MovesReversed, MovesStraight, OrMove};
+ghost use Rattle.tk_tour.specs.OrSteps.{TurnsBoth, TurnsPathBack, TurnsSegmentBack};
 
 use crate::store::TourStore;
 
@@ -63,3 +64,11 @@ pub fn double_bridge<S: TourStore>(
     let _ = tour.flip(dn, cn, c1, bn);
     let _ = tour.flip(cn, bn, b1, a1);
 }
+
+/// A law: an Or-move of lists is two 2-opt moves one after another where the segment is turned round, and three where
+/// it keeps its direction.
+pub fn or_moves_are_two_opt_moves()
+    ensures first { TurnsBoth }
+    ensures second { TurnsPathBack }
+    ensures third { TurnsSegmentBack }
+{}
