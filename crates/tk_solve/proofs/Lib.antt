@@ -4,3 +4,4 @@ pub mod FirstShortest
 pub mod SoFar
 pub mod Sound
 pub mod Tables
+pub mod Watched

@@ -11,10 +11,12 @@ use Rattle.tk_search.specs.Searching.{Searching}
 use Rattle.tk_search.proofs.SearchTrials.Cities.{tour_after}
 use Rattle.tk_solve.specs.declared.outcome.Outcome.{Outcome}
 use Rattle.tk_solve.specs.declared.outcome.RunReport.{RunReport}
-use Rattle.tk_solve.specs.Outcomes.{AreKept, IsTaken}
+use Rattle.tk_solve.specs.declared.watch.Progress.{Progress}
+use Rattle.tk_solve.specs.Outcomes.{AreKept, IsRunAdded, IsTaken}
 use Rattle.tk_solve.specs.Runs.{Run, IsRun, IsSearched, none, more, AreSoFar, best_tours, run_length, report_of}
 use Rattle.tk_solve.specs.Starts.{TourTask, IsStart}
 use Rattle.tk_solve.proofs.FirstShortest.{first_of_one, first_replaced, first_kept}
+use Rattle.tk_solve.proofs.Watched.{run_of}
 
 -- no run
 pub so_far_none : (task : TourTask) (near : NearLists) (cities : List ℕ) (shortest : ℤ) → AreSoFar task near [] [] cities shortest
@@ -75,16 +77,16 @@ so_far_more task near runs reports cities shortest so_far run is known cities' s
     }
 
 -- the best tour of a search from a tour is one
-pub ended_tour : (task : TourTask) (near : NearLists) (j : ℕ) (start : List ℕ) (ended : Searching) → IsSearched task near j start ended →
+pub ended_tour : (task : TourTask) (near : NearLists) (j : ℕ) (start : List ℕ) (shown : List Progress) (ended : Searching) → IsSearched task near j start shown ended →
     IsTour task.size start → IsTour task.size ended.best
-ended_tour task near j start ended searched tour = tour_after task.size searched.trials (subst (IsTour task.size) (sym searched.begins.best) tour)
+ended_tour task near j start shown ended searched tour = tour_after task.size (run_of searched.trials) (subst (IsTour task.size) (sym searched.begins.best) tour)
 
 -- one more run
-pub run_added : (task : TourTask) (near : NearLists) (j : ℕ) (start : List ℕ) (ended : Searching) → IsStart task near j start →
-    IsSearched task near j start ended → IsTour task.size start → (old new : Outcome) → IsTaken task.distance ended old new →
-    (runs : List Run) → length runs ≡ j → AreKept task near runs old → (run : Run) × AreKept task near (runs ++ run ∷ []) new
-run_added task near j start ended begins searched tour old new taken runs count kept =
-    let run : Run = record { start = start; best = ended.best; totals = ended.totals } in
+pub run_added : (task : TourTask) (near : NearLists) (j : ℕ) (start : List ℕ) (shown : List Progress) (ended : Searching) → IsStart task near j start →
+    IsSearched task near j start shown ended → IsTour task.size start → (Watched : List Progress → Type 0) → Watched shown → (old new : Outcome) →
+    IsTaken task.distance ended old new → IsRunAdded task near j Watched old new
+run_added task near j start shown ended begins searched tour Watched watched old new taken runs count kept =
+    let run : Run = record { start = start; best = ended.best; totals = ended.totals; shown = shown } in
     let is : IsRun task near j run = record { start = begins; tour = tour; ended = ended; searched = searched; best = refl; totals = refl } in
     let at : IsRun task near (length runs) run = subst (λ k. IsRun task near k run) (sym count) is in
     let noted : IsNoted task run old.reports.items old.cities.items old.shortest new.cities.items new.shortest = record {
@@ -92,8 +94,8 @@ run_added task near j start ended begins searched tour old new taken runs count 
       shorter = taken.shorter;
       kept = λ some le. let same = taken.kept some le in (ap (λ v. v.items) same.0, same.1);
     } in
-    let more = so_far_more task near runs old.reports.items old.cities.items old.shortest kept run at (ended_tour task near j start ended searched tour) new.cities.items new.shortest noted in
-    (run, subst (λ v. AreSoFar task near (runs ++ run ∷ []) v new.cities.items new.shortest) (sym taken.reports) more)
+    let more = so_far_more task near runs old.reports.items old.cities.items old.shortest kept run at (ended_tour task near j start shown ended searched tour) new.cities.items new.shortest noted in
+    (run, (subst (λ v. AreSoFar task near (runs ++ run ∷ []) v new.cities.items new.shortest) (sym taken.reports) more, watched))
 
 -- what `take` promises of an outcome, as one fact
 pub OnOk-taken : {T E : Type 0} (r : Result T E) (distance : ℕ → ℕ → ℕ) (ended : Searching) (old new : Outcome) →

@@ -3,3 +3,4 @@ pub mod Runs
 pub mod SolvedRoutes
 pub mod SolvedTours
 pub mod Starts
+pub mod Watching

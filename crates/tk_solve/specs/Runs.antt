@@ -1,44 +1,60 @@
 -- The runs of a search for a tour.
+--     Trials told begun words t shown ended rest      t trials, and what is shown of each
 --     IsRun task near j run      run j, from 0: its trials from its start, with random words of its own
 --     AreRuns task near runs      one after another, from run 0 on
 --     best_tours runs      the best tour of each
+--     shown_of runs      what is shown of their trials
 --     AreSoFar task near runs reports cities shortest      what is kept of the runs so far
-use Rattle.std.specs.Prelude.{◌≡◌, ℕ, ℤ, ◌+◌, ◌≤◌, List, [], ◌∷◌, ◌++◌, length, map, pos}
+use Rattle.std.specs.Prelude.{◌≡◌, ℕ, ℤ, ◌+◌, ◌≤◌, List, [], ◌∷◌, ◌++◌, flat_map, length, map, pos}
 use Rattle.rand_core.specs.Pcg32Seed.{pcg32_seed}
 use Rattle.rand_core.specs.Steps.{stream_of, steps_u32}
 use Rattle.rand_core.specs.Stream.{Stream}
 use Rattle.rand_pcg.specs.Pcg.{pcg32, pcg32_of_seed}
 use Rattle.tk_near.specs.Near.{NearLists}
 use Rattle.tk_tour.specs.Tour.{IsTour, tour_length}
-use Rattle.tk_search.specs.Searching.{Searching, IsBegun, SearchRun}
+use Rattle.tk_search.specs.Searching.{Searching, IsBegun, NextTrial}
 use Rattle.tk_search.specs.SearchLaws.{IsFirstShortest}
 use Rattle.tk_search.specs.declared.trials.totals.Totals.{Totals}
+use Rattle.tk_search.specs.declared.trials.totals.TrialReport.{TrialReport}
 use Rattle.tk_solve.specs.declared.outcome.RunReport.{RunReport}
+use Rattle.tk_solve.specs.declared.watch.Progress.{Progress}
 use Rattle.tk_solve.specs.Starts.{TourTask, IsStart, trials_of}
+use Rattle.tk_solve.specs.Watching.{progress_at}
 
--- the start of a run, the best tour that it found, and what it counted
+-- the start of a run, the best tour that it found, what it counted, and what is shown of its trials
 pub record Run : Type 0 where
   pub start : List ℕ
   pub best : List ℕ
   pub totals : Totals
+  pub shown : List Progress
 
 -- the random words of a generator with this seed (M. E. O'Neill, 2014)
 abbrev pub words_of : ℕ → Stream
 words_of seed = stream_of (steps_u32 pcg32) (pcg32_of_seed (pcg32_seed 16 seed))
 
+-- t trials of a search one after another, and what is shown of each: what `told` says of its number, from 0, and of the
+-- length of the tour that it ended with
+pub data Trials (told : ℕ → ℤ → Progress) (begun : Searching) (words : Stream) :
+    ℕ → List Progress → Searching → Stream → Type 0 where
+  untried : Trials told begun words 0 [] begun words
+  tried : {t : ℕ} {shown : List Progress} {old new : Searching} {left rest : Stream} {report : TrialReport} →
+      Trials told begun words t shown old left → NextTrial old left new rest report →
+      Trials told begun words (t + 1) (shown ++ told t report.descent.after ∷ []) new rest
+
 -- the search of run j, from 0, after its trials from a start, with the words of the seed and j
-pub record IsSearched (task : TourTask) (near : NearLists) (j : ℕ) (start : List ℕ) (ended : Searching) : Type 0 where
+pub record IsSearched (task : TourTask) (near : NearLists) (j : ℕ) (start : List ℕ) (shown : List Progress)
+    (ended : Searching) : Type 0 where
   pub begun : Searching
   pub begins : IsBegun begun task.distance near task.rules start
   pub rest : Stream
-  pub trials : SearchRun begun (words_of (task.seed + j)) (trials_of task) ended rest
+  pub trials : Trials (progress_at task j) begun (words_of (task.seed + j)) (trials_of task) shown ended rest
 
 -- run j, from 0
 pub record IsRun (task : TourTask) (near : NearLists) (j : ℕ) (run : Run) : Type 0 where
   pub start : IsStart task near j run.start
   pub tour : IsTour task.size run.start
   pub ended : Searching
-  pub searched : IsSearched task near j run.start ended
+  pub searched : IsSearched task near j run.start run.shown ended
   pub best : run.best ≡ ended.best
   pub totals : run.totals ≡ ended.totals
 
@@ -51,6 +67,10 @@ pub data AreRuns (task : TourTask) (near : NearLists) : List Run → Type 0 wher
 -- the best tour of each
 abbrev pub best_tours : List Run → List (List ℕ)
 best_tours runs = map (λ run. run.best) runs
+
+-- what is shown of all their trials
+abbrev pub shown_of : List Run → List Progress
+shown_of runs = flat_map (λ run. run.shown) runs
 
 abbrev pub run_length : (ℕ → ℕ → ℕ) → Run → ℕ
 run_length distance run = tour_length distance run.best

@@ -1,5 +1,5 @@
 -- What a search for a tour answers.
---     IsSolved task solved      the best tour of the runs, and a report of each
+--     IsSolved task Watched solved      the best tour of the runs, a report of each, and what is shown of them
 --     IsSound task solved      what follows for the tour and the reports, whatever the runs were
 use Rattle.std.specs.Prelude.{◌≡◌, ◌≤ℤ◌, ℕ, ◌-◌, List, All, length, map, min, pos}
 use Rattle.std.specs.Int.RustNames.{unsigned_abs}
@@ -10,12 +10,13 @@ use Rattle.tk_search.specs.SearchLaws.{IsFirstShortest}
 use Rattle.tk_search.specs.Totals.{IsBounded}
 use Rattle.tk_solve.specs.declared.outcome.RunReport.{RunReport}
 use Rattle.tk_solve.specs.declared.tour.SolvedTour.{SolvedTour}
-use Rattle.tk_solve.specs.Runs.{Run, AreRuns, best_tours, report_of}
+use Rattle.tk_solve.specs.declared.watch.Progress.{Progress}
+use Rattle.tk_solve.specs.Runs.{Run, AreRuns, best_tours, report_of, shown_of}
 use Rattle.tk_solve.specs.Starts.{TourTask, AreCandidates}
 
 -- the runs that were asked for, each with its report, and the best tour of the first one with the least length, in
--- printed form
-pub record IsSolved (task : TourTask) (solved : SolvedTour) : Type 0 where
+-- printed form; each trial of each run was watched, in order, and nothing else
+pub record IsSolved (task : TourTask) (Watched : List Progress → Type 0) (solved : SolvedTour) : Type 0 where
   pub near : NearLists
   pub candidates : AreCandidates task near
   pub runs : List Run
@@ -26,6 +27,7 @@ pub record IsSolved (task : TourTask) (solved : SolvedTour) : Type 0 where
   pub first : IsFirstShortest task.distance (best_tours runs) winner
   pub printed : IsPrintedForm winner solved.cities.items
   pub length_is : solved.length ≡ pos (tour_length task.distance solved.cities.items)
+  pub watched : Watched (shown_of runs)
 
 -- the work of a run is bounded, and its best tour is not longer than its start
 abbrev pub IsBoundedReport : TourTask → RunReport → Type 0

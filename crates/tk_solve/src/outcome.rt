@@ -34,6 +34,7 @@ impl Outcome {
     ghost use Rattle.tk_search.specs.SearchOf.{search_of};
     ghost use Rattle.tk_solve.specs.Outcomes.{IsRunAdded, best_length, report_of};
     ghost use Rattle.tk_solve.specs.Starts.{IsStart, task_of, task_over};
+    ghost use Rattle.tk_solve.specs.Watching.{WereShown};
 
     /// Before the first run.
     pub(crate) fn new(alloc: Global) -> Outcome
@@ -90,7 +91,7 @@ impl Outcome {
         requires start { IsStart (task_over (M.size_of metric.now) (M.distance metric.now) options.now)
             near.now j (order_of start) }
         ensures { OnOk result (IsRunAdded (task_over (M.size_of metric.now) (M.distance metric.now) options.now)
-            near.now j self.old self.new) }
+            near.now j (WereShown W.shows watch.old watch.new) self.old self.new) }
     {
         let search = search_run(alloc, metric, near, start, options, j, watch)?;
         self.take(metric, &search)
@@ -110,7 +111,8 @@ impl Outcome {
         requires fits { (table_size table.now ≡ length (order_of start)) × (near.now.size ≡ length (order_of start)) }
         requires run { j < options.now.runs }
         requires start { IsStart (task_of table.now options.now) near.now j (order_of start) }
-        ensures { OnOk result (IsRunAdded (task_of table.now options.now) near.now j self.old self.new) }
+        ensures { OnOk result (IsRunAdded (task_of table.now options.now) near.now j
+            (WereShown W.shows watch.old watch.new) self.old self.new) }
     {
         match table {
             Table::Planes(planes) => match planes.euclid() {

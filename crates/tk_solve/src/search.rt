@@ -1,9 +1,11 @@
 //! One run: the trials of a search from a start.
-ghost use Rattle.std.specs.Prelude.{◌≡◌, ◌<◌, IfOk, length};
+ghost use Rattle.std.specs.Prelude.{◌≡◌, ◌<◌, IfOk, List, length};
 ghost use Rattle.tk_tour.specs.ArrayTours.{order_of};
 ghost use Rattle.tk_search.specs.SearchOf.{search_of};
 ghost use Rattle.tk_solve.specs.Runs.{IsSearched};
 ghost use Rattle.tk_solve.specs.Starts.{task_over};
+ghost use Rattle.tk_solve.specs.Watching.{WereShown};
+ghost use Rattle.tk_solve.specs.declared.watch.Progress.{Progress};
 
 use crate::options::TourOptions;
 use crate::watch::{Progress, Watch};
@@ -15,7 +17,7 @@ use tk_near::Near;
 use tk_search::Search;
 use tk_tour::ArrayTour;
 
-/// The search of run j, from 0, after its trials.
+/// The search of run j, from 0, after its trials, each of which was shown to the watcher.
 pub(crate) fn search_run<'a, M: Metric, W: Watch>(
     alloc: Global,
     metric: &'a M,
@@ -27,8 +29,9 @@ pub(crate) fn search_run<'a, M: Metric, W: Watch>(
 ) -> Result<Search<'a, M>, AllocError>
     requires fits { (M.size_of metric.now ≡ length (order_of start)) × (near.now.size ≡ length (order_of start)) }
     requires run { j < options.now.runs }
-    ensures { IfOk result (λ s. IsSearched (task_over (M.size_of metric.now) (M.distance metric.now) options.now)
-        near.now j (order_of start) (search_of s)) }
+    ensures { IfOk result (λ s. (shown : List Progress) × (IsSearched
+        (task_over (M.size_of metric.now) (M.distance metric.now) options.now)
+        near.now j (order_of start) shown (search_of s) × WereShown W.shows watch.old watch.new shown)) }
 {
     let trials = if metric.size() < 8 { 1 } else { options.trials };
     let mut search = Search::new(alloc, metric, near, start, options.rules)?;

@@ -4,9 +4,10 @@ ghost use Rattle.tk_distance.specs.Tables.{table_size, table_distance};
 ghost use Rattle.tk_tour.specs.Printed.{IsPrintedForm};
 ghost use Rattle.tk_tour.specs.Tour.{IsTour, tour_length};
 ghost use Rattle.tk_solve.specs.Outcomes.{AreKept};
-ghost use Rattle.tk_solve.specs.Runs.{Run};
+ghost use Rattle.tk_solve.specs.Runs.{Run, shown_of};
 ghost use Rattle.tk_solve.specs.SolvedTours.{IsSolved, IsSound};
 ghost use Rattle.tk_solve.specs.Starts.{IsCommonStart, IsGivenTour, task_of};
+ghost use Rattle.tk_solve.specs.Watching.{WereShown};
 
 use crate::options::TourOptions;
 use crate::outcome::{Outcome, RunReport};
@@ -63,7 +64,8 @@ fn run_all<W: Watch>(
     requires size { near.now.size ≡ table_size table.now }
     requires start { IsCommonStart (task_of table.now options.now) near.now (option_map (λ c. c.now) common) }
     ensures { IfOk result (λ o. (runs : List Run) × (length runs ≡ options.now.runs)
-        × AreKept (task_of table.now options.now) near.now runs o) }
+        × (AreKept (task_of table.now options.now) near.now runs o
+        × WereShown W.shows watch.old watch.new (shown_of runs))) }
 {
     let mut outcome = Outcome::new(alloc);
     for j in 0..options.runs {
@@ -73,7 +75,8 @@ fn run_all<W: Watch>(
     Ok(outcome)
 }
 
-/// Searches for a short tour of a table's cities: `runs` runs, each of `trials` trials. Tells `watch` of each trial.
+/// Searches for a short tour of a table's cities: `runs` runs, each of `trials` trials. Each trial is shown to `watch`, in
+/// order, with the length of the tour that it ended with, and nothing else.
 ///
 /// # Errors
 /// `AllocError` where there is no memory for the near lists, a start, a search or a report.
@@ -85,7 +88,8 @@ pub fn solve_tour<W: Watch>(
 ) -> Result<SolvedTour, AllocError>
     requires cities { 2 ≤ table_size table.now }
     requires given { IsGivenTour (table_size table.now) options.now.start }
-    ensures solved { IfOk result (IsSolved (task_of table.now options.now)) }
+    ensures solved { IfOk result
+        (IsSolved (task_of table.now options.now) (WereShown W.shows watch.old watch.new)) }
     ensures sound { IfOk result (IsSound (task_of table.now options.now)) }
 {
     let near = near_lists(alloc, table, options.candidates.min(table.size() - 1))?;

@@ -1,4 +1,5 @@
 //! Progress of a search, for whoever wants to see it.
+ghost use Rattle.std.specs.Prelude.{◌≡◌};
 
 /// How far a search has come.
 #[derive(Clone, Copy, PartialEq, Eq, Debug)]
@@ -17,8 +18,14 @@ pub struct Progress {
 
 /// Something that is told after each trial how far a search has come. It has no influence on the search.
 pub trait Watch {
+    ghost use Rattle.tk_solve.specs.declared.watch.Progress.{Progress};
+
+    /// What it means that it is shown a trial, from its state before to its state after.
+    ghost shows: { Self → Progress → Self → Type 0 };
+
     /// Takes note of a trial.
-    fn trial(&mut self, progress: &Progress);
+    fn trial(&mut self, progress: &Progress)
+        ensures { shows self.old progress.now self.new };
 }
 
 /// Nobody watches.
@@ -26,5 +33,7 @@ pub trait Watch {
 pub struct Unwatched;
 
 impl Watch for Unwatched {
+    ghost shows = { λ old _ new. new ≡ old };
+
     fn trial(&mut self, _progress: &Progress) {}
 }

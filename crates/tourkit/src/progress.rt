@@ -45,6 +45,8 @@ impl<'a> ProgressLine<'a> {
 }
 
 impl Watch for ProgressLine<'_> {
+    ghost shows = { λ _ _ _. Unit {0} };
+
     fn trial(&mut self, progress: &Progress) {
         if !self.shown {
             return;

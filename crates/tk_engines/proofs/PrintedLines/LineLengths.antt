@@ -11,6 +11,7 @@ use Rattle.tk_params.specs.Keys.{all_keys}
 use Rattle.tk_params.specs.declared.key.Key.{Key}
 use Rattle.tk_routes.specs.declared.solving.route_report.RouteReport.{RouteReport}
 use Rattle.tk_solve.specs.Runs.{report_of}
+use Rattle.tk_solve.specs.declared.watch.Progress.{Progress}
 use Rattle.tk_solve.specs.SolvedTours.{IsSolved}
 use Rattle.tk_solve.specs.Starts.{TourTask}
 use Rattle.tk_solve.specs.declared.outcome.RunReport.{RunReport}
@@ -45,9 +46,9 @@ route_lines_short ks routes r few =
     simp length-append (omega (arith, a, b, c, d, e, f, h))
 
 -- as many reports as runs
-pub IfOk-count : {E : Type 0} (r : Result SolvedTour E) (task : TourTask) (most : ℕ) → task.runs ≤ most → IfOk r (IsSolved task) → IfOk r (λ s. length s.runs.items ≤ most)
-IfOk-count (Ok s) task most few h = omega (arith, few, h.count, ap length h.reports ∙ length-map h.runs (report_of task.distance))
-IfOk-count (Err e) task most few h = tt
+pub IfOk-count : {E : Type 0} (r : Result SolvedTour E) (task : TourTask) (Watched : List Progress → Type 0) (most : ℕ) → task.runs ≤ most → IfOk r (IsSolved task Watched) → IfOk r (λ s. length s.runs.items ≤ most)
+IfOk-count (Ok s) task Watched most few h = omega (arith, few, h.count, ap length h.reports ∙ length-map h.runs (report_of task.distance))
+IfOk-count (Err e) task Watched most few h = tt
 
 -- no more filled lists than entries
 pub count_filled : (routes : List (List ℕ)) → All (λ route. 1 ≤ length route) routes → length routes ≤ length (concat routes)

@@ -7,6 +7,7 @@ ghost use Rattle.tk_tour.specs.Tour.{IsTour};
 ghost use Rattle.tk_routes.specs.Cvrps.{instance_of};
 ghost use Rattle.tk_routes.specs.RouteLists.{routes_of};
 ghost use Rattle.tk_solve.specs.SolvedTours.{IsSolved, IsSound};
+ghost use Rattle.tk_solve.specs.Watching.{WereShown};
 ghost use Rattle.tk_engines.specs.Engine.{AtWrite, BeforeSecond, Ends, IsUntouched, ReadsProblem, UnlessWrite};
 ghost use Rattle.tk_engines.specs.Solve.{AreRoutesOf, AreUntouched, Gives, HasFailed, IsTourWritten, ReadsInitial, WritesFiles, cities_in, route_files, solve_task, tour_files, tour_task};
 
@@ -33,7 +34,8 @@ fn search_tour<V: Watch>(
     watch: &mut V,
 ) -> Result<SolvedTour, AllocError>
     requires { MatchOption (cities_in initial.now) (Unit {0}) (IsTour problem.now.n) }
-    ensures solved { IfOk result (IsSolved (tour_task params.now (problem_is problem.now) (cities_in initial.now))) }
+    ensures solved { IfOk result (IsSolved (tour_task params.now (problem_is problem.now) (cities_in initial.now))
+        (WereShown V.shows watch.old watch.new)) }
     ensures sound { IfOk result (IsSound (tour_task params.now (problem_is problem.now) (cities_in initial.now))) }
     ensures runs { IfOk result (λ s. length s.runs.items ≤ 10000) }
 {
@@ -90,7 +92,8 @@ fn solve_tsp<F: Sink, W: Sink, V: Watch>(
     watch: &mut V,
 ) -> Result<(), Fault>
     requires { MatchOption (cities_in initial.now) (Unit {0}) (IsTour problem.now.n) }
-    ensures gives { Gives (IsTourWritten params.now (problem_is problem.now) (cities_in initial.now))
+    ensures gives { Gives (IsTourWritten params.now
+        (WereShown V.shows watch.old watch.new) (problem_is problem.now) (cities_in initial.now))
         (WritesFiles F.taken F.broken W.taken W.broken file.old file.new out.old out.new)
         (AreUntouched F.taken F.broken W.taken W.broken file.old file.new out.old out.new) result }
     ensures failed { IfErr result (AtWrite (HasFailed (F.broken file.new) (W.broken out.new))) }
@@ -135,7 +138,7 @@ fn solve_cvrp<F: Sink, W: Sink>(
 /// and the best length.
 ///
 /// `initial` is read where the parameters name an INITIAL_TOUR_FILE. All texts are read before a byte is written.
-/// `watch` is told of each trial.
+/// `watch` is shown each trial of a search for a tour, in order, and nothing else.
 ///
 /// # Errors
 /// The fault of the problem text; `NotForType` of a key that the problem's type has no use for; the fault of the text
@@ -150,7 +153,8 @@ pub fn solve_engine<P: Source, I: Source, F: Sink, W: Sink, V: Watch>(
     out: &mut W,
     watch: &mut V,
 ) -> Result<(), Fault>
-    ensures ends { Ends (solve_task params.now) (ReadsProblem P.left P.broken problem.old problem.new)
+    ensures ends { Ends (solve_task params.now (WereShown V.shows watch.old watch.new))
+        (ReadsProblem P.left P.broken problem.old problem.new)
         (ReadsInitial (is_some params.now.initial_tour_file) I.left I.broken initial.old initial.new)
         (WritesFiles F.taken F.broken W.taken W.broken file.old file.new out.old out.new) result }
     ensures quiet { IfErr result

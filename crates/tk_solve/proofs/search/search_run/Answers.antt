@@ -1,18 +1,25 @@
-use Rattle.std.proofs.Common.{◌≡◌, ◌+◌, ℕ, subst, arith, rules}
+use Rattle.std.proofs.Common.{◌≡◌, ◌+◌, ℕ, ℤ, [], FitsSigned, w64, subst, arith, rules}
+use Rattle.std.proofs.lemmas.Int.{to_z-of_z}
 use Rattle.rand_core.specs.Steps.{stream_of, steps_u32}
 use Rattle.rand_pcg.specs.Pcg.{pcg32}
 use Rattle.tk_search.specs.SearchOf.{search_of}
-use Rattle.tk_search.specs.Searching.{SearchRun, begin, trial}
-use Rattle.tk_solve.specs.Runs.{words_of}
+use Rattle.tk_solve.specs.declared.watch.Progress.{Progress}
+use Rattle.tk_solve.specs.Runs.{Trials, untried, tried, words_of}
 use Rattle.tk_solve.specs.Starts.{TourTask, task_over, trials_of}
+use Rattle.tk_solve.specs.Watching.{nothing, next}
 use Rattle.tk_solve.proofs.search.search_run.Goals.{then-size-lt8, else-size-lt8}
 use Rattle.tk_solve.proofs.search.search_run.Goals as goal
 
 pub loop-trial-init : goal.loop-trial-init
-loop-trial-init g c = rw c.seed_from_u64-generator.ensures begin
+loop-trial-init g c = ([], (rw c.seed_from_u64-generator.ensures untried, nothing))
 
 pub loop-trial-preserved : goal.loop-trial-preserved
-loop-trial-preserved g c = trial c.loop-trial.invariant c.trial-report.ensures.next
+loop-trial-preserved g c =
+    let after = c.trial-report.result.descent.after in
+    let fits : FitsSigned w64 after = search (rules, c.trial-report.type_inv) in
+    let told : ℤ → Progress = λ length. record { run = c.args.j + 1; runs = c.args.options.now.runs; trial = c.loop-trial.trial + 1; trials = c.if-size-lt8.trials; length = length } in
+    let shown = subst (λ length. g.W.Watch.shows c.loop-trial.watch (told length) c.trial.new.self) (to_z-of_z w64 after fits) c.trial.ensures in
+    (_, (tried c.loop-trial.invariant.1.0 c.trial-report.ensures.next, next c.loop-trial.invariant.1.1 shown))
 
 pub returns : goal.returns
 returns g c =
@@ -24,10 +31,18 @@ returns g c =
       | else-size-lt8 w ↦ search (rules, c.size.ensures, w.if-size-lt8, w.trials-is)
     ] in
     let count : c.loop-trial.trial ≡ trials_of task = omega (arith, c.loop-trial-test.false, c.loop-trial.auto.trial-end, all) in
-    let P : ℕ → Type 0 = λ t. SearchRun (search_of c.in_ok-search.search) words t (search_of c.loop-trial.search) (stream_of (steps_u32 pcg32) c.loop-trial.generator) in
-    record {
-      begun = search_of c.in_ok-search.search;
-      begins = c.in_ok-search.ensures.begun;
-      rest = stream_of (steps_u32 pcg32) c.loop-trial.generator;
-      trials = subst P count c.loop-trial.invariant;
-    }
+    let shown = c.loop-trial.invariant.0 in
+    let told : ℕ → ℕ → ℤ → Progress = λ trials t length. record { run = c.args.j + 1; runs = c.args.options.now.runs; trial = t + 1; trials = trials; length = length } in
+    let P : ℕ → ℕ → Type 0 = λ trials t. Trials (told trials) (search_of c.in_ok-search.search) words t shown (search_of c.loop-trial.search) (stream_of (steps_u32 pcg32) c.loop-trial.generator) in
+    let trials = subst (P (trials_of task)) count (subst (λ trials. P trials c.loop-trial.trial) all c.loop-trial.invariant.1.0) in (
+      shown,
+      (
+        record {
+          begun = search_of c.in_ok-search.search;
+          begins = c.in_ok-search.ensures.begun;
+          rest = stream_of (steps_u32 pcg32) c.loop-trial.generator;
+          trials = trials;
+        },
+        c.loop-trial.invariant.1.1,
+      ),
+    )

@@ -3,6 +3,7 @@ use Rattle.tk_distance.specs.Tables.{table_size}
 use Rattle.tk_tour.specs.ArrayTours.{order_of}
 use Rattle.tk_solve.specs.Outcomes.{IsRunAdded}
 use Rattle.tk_solve.specs.Starts.{TourTask, IsStart, task_of}
+use Rattle.tk_solve.specs.Watching.{WereShown}
 use Rattle.tk_solve.proofs.Tables.{euclid_task}
 use Rattle.tk_solve.proofs.outcome.Outcome.add_run.Goals as goal
 
@@ -32,14 +33,14 @@ add_run_over-requires-in-Triangle g c = record {
 pub returns-in-Some : goal.returns-in-Some
 returns-in-Some g c =
     let same = euclid_task c.args.table.now c.in-Planes.planes c.in-Some.euclid c.args.options.now c.in-Planes.is c.in-Some.ensures.some in
-    subst (λ (t : TourTask). OnOk c.add_run_over.result (IsRunAdded t c.args.near.now c.args.j c.args.self.now c.add_run_over.new.self)) (sym same) c.add_run_over.ensures
+    subst (λ (t : TourTask). OnOk c.add_run_over.result (IsRunAdded t c.args.near.now c.args.j (WereShown g.W.Watch.shows c.args.watch.now c.add_run_over.new.watch) c.args.self.now c.add_run_over.new.self)) (sym same) c.add_run_over.ensures
 
 pub returns-in-None : goal.returns-in-None
 returns-in-None g c =
-    subst (λ t. OnOk c.add_run_over-in-None.result (IsRunAdded (task_of t c.args.options.now) c.args.near.now c.args.j c.args.self.now c.add_run_over-in-None.new.self))
+    subst (λ t. OnOk c.add_run_over-in-None.result (IsRunAdded (task_of t c.args.options.now) c.args.near.now c.args.j (WereShown g.W.Watch.shows c.args.watch.now c.add_run_over-in-None.new.watch) c.args.self.now c.add_run_over-in-None.new.self))
     (sym c.in-Planes.is) c.add_run_over-in-None.ensures
 
 pub returns-in-Triangle : goal.returns-in-Triangle
 returns-in-Triangle g c =
-    subst (λ t. OnOk c.add_run_over-in-Triangle.result (IsRunAdded (task_of t c.args.options.now) c.args.near.now c.args.j c.args.self.now c.add_run_over-in-Triangle.new.self))
+    subst (λ t. OnOk c.add_run_over-in-Triangle.result (IsRunAdded (task_of t c.args.options.now) c.args.near.now c.args.j (WereShown g.W.Watch.shows c.args.watch.now c.add_run_over-in-Triangle.new.watch) c.args.self.now c.add_run_over-in-Triangle.new.self))
     (sym c.in-Triangle.is) c.add_run_over-in-Triangle.ensures
