@@ -8,7 +8,7 @@ use std::process::ExitCode;
 use tk_engines::{Fault, solve_engine};
 use tk_params::{Params, read_params};
 use tk_words::{FromRead, Source};
-use tk_writers::ToWrite;
+use tk_writers::{Sink, ToWrite};
 
 /// `solve PAR`. The problem's file is opened before that of the initial tour, and both before either is read.
 pub fn solve_command(rt: &HostRuntime, file: &str) -> ExitCode {
@@ -45,7 +45,7 @@ pub fn solve_command(rt: &HostRuntime, file: &str) -> ExitCode {
     )
 }
 
-/// Searches, and tells what came of it.
+/// Searches, and tells what came of it. The text is kept in memory first, so a write to it fails only where there is none.
 fn search<P: Source, I: Source>(
     rt: &HostRuntime,
     params: &Params,
@@ -66,6 +66,7 @@ fn search<P: Source, I: Source>(
         &mut watch,
     ) {
         Ok(()) => save_found(rt, params, &file.inner),
+        Err(Fault::Write(_)) if file.failed() => report::no_memory(rt),
         Err(fault @ (Fault::Tour(_) | Fault::Initial(_))) => report::stopped(
             rt,
             initial_file,
