@@ -1,48 +1,70 @@
 //! The file that `solve` writes.
 use crate::report;
+use std::alloc::AllocError;
 use std::fs::{self, File, Permissions};
-use std::io::{ErrorKind, Write};
+use std::io::{self, ErrorKind, Seek, SeekFrom, Write};
 use std::process::{self, ExitCode};
 
-/// Why a file was not replaced.
-enum Unreplaced {
-    /// No other file could be made beside it, or put in its place.
+/// How many names are tried for the file that is written first.
+const NAMES: u32 = 100;
+
+/// Why a text was not saved.
+enum Unsaved {
+    /// No other file could be made beside the file, or put in its place.
     NoOther,
+    /// The file could not be opened.
+    Unopened,
     /// The text could not be written.
     Unwritten,
     /// There was no memory.
     NoMemory,
 }
 
-/// Writes a text to a file, which keeps its old bytes until all new ones are written. Where the name is that of a
-/// device, a pipe or a directory, or no file can be made beside it, the text is written to it directly.
+/// Writes a text to a file. A plain file that is there is not touched until all new bytes are written beside it, or, where
+/// no other file can be made there, until there is room for them. A device or a pipe is written directly.
 pub fn save(rt: &HostRuntime, name: &str, text: &[u8]) -> ExitCode {
-    let replaced = match fs::canonicalize(rt, name) {
-        Ok(path) => replace_old(rt, path.as_str(), text),
-        Err(error) if error.kind() == ErrorKind::OutOfMemory => Err(Unreplaced::NoMemory),
-        Err(_) if fs::symlink_metadata(rt, name).is_ok() => Err(Unreplaced::NoOther),
-        Err(_) => replace(rt, name, text, None),
+    let saved = match fs::canonicalize(rt, name) {
+        Ok(path) => save_old(rt, path.as_str(), text),
+        Err(error) if error.kind() == ErrorKind::OutOfMemory => Err(Unsaved::NoMemory),
+        Err(_) => save_new(rt, name, text),
     };
-    match replaced {
+    match saved {
         Ok(()) => ExitCode::SUCCESS,
-        Err(Unreplaced::NoOther) => write_over(rt, name, text),
-        Err(Unreplaced::Unwritten) => report::write_fault(rt),
-        Err(Unreplaced::NoMemory) => report::no_memory(rt),
+        Err(Unsaved::Unwritten) => report::write_fault(rt),
+        Err(Unsaved::NoMemory) => report::no_memory(rt),
+        Err(Unsaved::NoOther | Unsaved::Unopened) => report::unopened(rt, name),
     }
 }
 
-/// Replaces a file that is there, if it is a plain file that may be written.
-fn replace_old(rt: &HostRuntime, path: &str, text: &[u8]) -> Result<(), Unreplaced> {
+/// Writes the text to a file that is there.
+fn save_old(rt: &HostRuntime, path: &str, text: &[u8]) -> Result<(), Unsaved> {
     let found = match fs::metadata(rt, path) {
         Ok(found) => found,
-        Err(error) => return Err(hindered(error.kind())),
+        Err(error) => return Err(unopened(error.kind())),
     };
     if !found.is_file() {
-        return Err(Unreplaced::NoOther);
+        return write_directly(rt, path, text);
     }
-    match File::options().write(true).open(rt, path) {
-        Ok(_) => replace(rt, path, text, Some(found.permissions())),
-        Err(error) => Err(hindered(error.kind())),
+    let file = match File::options().write(true).open(rt, path) {
+        Ok(file) => file,
+        Err(error) => return Err(unopened(error.kind())),
+    };
+    match replace(rt, path, text, Some(found.permissions())) {
+        Err(Unsaved::NoOther) => write_over(file, found.len(), text),
+        replaced => replaced,
+    }
+}
+
+/// Writes the text to a file that is not there, or to what a link stands for that has no path, as a pipe.
+fn save_new(rt: &HostRuntime, name: &str, text: &[u8]) -> Result<(), Unsaved> {
+    match fs::symlink_metadata(rt, name) {
+        Ok(_) => return write_directly(rt, name, text),
+        Err(error) if error.kind() == ErrorKind::NotFound => {}
+        Err(error) => return Err(unopened(error.kind())),
+    }
+    match replace(rt, name, text, None) {
+        Err(Unsaved::NoOther) => write_directly(rt, name, text),
+        replaced => replaced,
     }
 }
 
@@ -52,18 +74,11 @@ fn replace(
     path: &str,
     text: &[u8],
     permissions: Option<Permissions>,
-) -> Result<(), Unreplaced> {
-    let number = process::id(rt.process());
-    let Ok(part) = format!(in rt.alloc(); "{path}.{number}.part") else {
-        return Err(Unreplaced::NoMemory);
-    };
-    let file = match File::create_new(rt, &part) {
-        Ok(file) => file,
-        Err(error) => return Err(hindered(error.kind())),
-    };
+) -> Result<(), Unsaved> {
+    let (part, file) = make_part(rt, path)?;
     if fill(file, text, permissions).is_err() {
         let _ = fs::remove_file(rt, &part);
-        return Err(Unreplaced::Unwritten);
+        return Err(Unsaved::Unwritten);
     }
     if let Err(error) = fs::rename(rt, &part, path) {
         let _ = fs::remove_file(rt, &part);
@@ -72,18 +87,52 @@ fn replace(
     Ok(())
 }
 
-/// What it means that a file cannot be made or put in place: where the disk is full or memory has run out, nothing may
-/// be written, lest the old bytes are lost.
-fn hindered(kind: ErrorKind) -> Unreplaced {
+/// Makes a new file beside the file, under the first of some short names that none has.
+fn make_part(rt: &HostRuntime, path: &str) -> Result<(String, File), Unsaved> {
+    for number in 0..NAMES {
+        let Ok(part) = part_name(rt, path, number) else {
+            return Err(Unsaved::NoMemory);
+        };
+        match File::create_new(rt, &part) {
+            Ok(file) => return Ok((part, file)),
+            Err(error) if error.kind() == ErrorKind::AlreadyExists => {}
+            Err(error) => return Err(hindered(error.kind())),
+        }
+    }
+    Err(Unsaved::NoOther)
+}
+
+/// A name in the directory of the file.
+fn part_name(rt: &HostRuntime, path: &str, number: u32) -> Result<String, AllocError> {
+    let process = process::id(rt.process());
+    match path.rsplit_once('/') {
+        Some((directory, _)) => {
+            format!(in rt.alloc(); "{directory}/tourkit.{process}.{number}.part")
+        }
+        None => format!(in rt.alloc(); "tourkit.{process}.{number}.part"),
+    }
+}
+
+/// What it means that a file cannot be made or put in place. Where the disk is full or memory has run out, no other way
+/// is tried.
+fn hindered(kind: ErrorKind) -> Unsaved {
     match kind {
-        ErrorKind::StorageFull | ErrorKind::QuotaExceeded => Unreplaced::Unwritten,
-        ErrorKind::OutOfMemory => Unreplaced::NoMemory,
-        _ => Unreplaced::NoOther,
+        ErrorKind::StorageFull | ErrorKind::QuotaExceeded => Unsaved::Unwritten,
+        ErrorKind::OutOfMemory => Unsaved::NoMemory,
+        _ => Unsaved::NoOther,
+    }
+}
+
+/// What it means that a file cannot be opened.
+fn unopened(kind: ErrorKind) -> Unsaved {
+    match kind {
+        ErrorKind::OutOfMemory => Unsaved::NoMemory,
+        _ => Unsaved::Unopened,
     }
 }
 
 /// Writes the text to a new file and waits until the disk has it.
-fn fill(mut file: File, text: &[u8], permissions: Option<Permissions>) -> std::io::Result<()> {
+fn fill(mut file: File, text: &[u8], permissions: Option<Permissions>) -> io::Result<()> {
     if let Some(permissions) = permissions {
         file.set_permissions(permissions)?;
     }
@@ -91,13 +140,45 @@ fn fill(mut file: File, text: &[u8], permissions: Option<Permissions>) -> std::i
     file.sync_all()
 }
 
-/// Writes the text to what the name stands for, in place of what it held.
-fn write_over(rt: &HostRuntime, name: &str, text: &[u8]) -> ExitCode {
-    let Ok(mut file) = File::create(rt, name) else {
-        return report::unopened(rt, name);
+/// Writes the text over the bytes of a plain file, once the file is as long as the text. Where there is no room for that,
+/// the file keeps its bytes.
+fn write_over(mut file: File, length: u64, text: &[u8]) -> Result<(), Unsaved> {
+    if lengthen(&mut file, length, text).is_err() {
+        let _ = file.set_len(length);
+        return Err(Unsaved::Unwritten);
+    }
+    match overwrite(&mut file, text) {
+        Ok(()) => Ok(()),
+        Err(_) => Err(Unsaved::Unwritten),
+    }
+}
+
+/// Writes what the text has beyond a file's length behind its bytes, and waits until the disk has it.
+fn lengthen(file: &mut File, length: u64, text: &[u8]) -> io::Result<()> {
+    let Some((_, more)) = text.split_at_checked(length as usize) else {
+        return Ok(());
+    };
+    file.seek(SeekFrom::Start(length))?;
+    file.write_all(more)?;
+    file.sync_all()
+}
+
+/// Writes the text from a file's first byte on, and ends the file there.
+fn overwrite(file: &mut File, text: &[u8]) -> io::Result<()> {
+    file.seek(SeekFrom::Start(0))?;
+    file.write_all(text)?;
+    file.set_len(text.len() as u64)?;
+    file.sync_all()
+}
+
+/// Writes the text to what the name stands for, which is no plain file that is there.
+fn write_directly(rt: &HostRuntime, name: &str, text: &[u8]) -> Result<(), Unsaved> {
+    let mut file = match File::create(rt, name) {
+        Ok(file) => file,
+        Err(error) => return Err(unopened(error.kind())),
     };
     match file.write_all(text) {
-        Ok(()) => ExitCode::SUCCESS,
-        Err(_) => report::write_fault(rt),
+        Ok(()) => Ok(()),
+        Err(_) => Err(Unsaved::Unwritten),
     }
 }
