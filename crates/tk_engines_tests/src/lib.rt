@@ -11,3 +11,5 @@ mod parameters;
 mod pictures;
 #[cfg(test)]
 mod routes;
+#[cfg(test)]
+mod surface;
