@@ -11,7 +11,7 @@ use crate::refusals::{Refusal, Stopped};
 use std::alloc::{AllocError, Global};
 use tk_metric::Near;
 use tk_routes::{Cvrp, RouteReport, RouteVerdict, Routes, check_routes, improve, savings};
-use tk_text::{Problem, SolText};
+use tk_text::{CANDIDATE_LIMIT, Problem, SolText};
 
 /// The routes as they stand, claimed to have a cost.
 fn claim(alloc: Global, routes: &Routes<'_>, cost: i64) -> Result<SolText, AllocError> {
@@ -79,7 +79,7 @@ fn saved<'a>(rt: &HostRuntime, cvrp: &Cvrp<'a>, near: &Near) -> Result<Routes<'a
 fn saved_by_all<'a>(rt: &HostRuntime, cvrp: &Cvrp<'a>) -> Result<Routes<'a>, Stopped>
     ensures instance { IfOk result (λ routes. instance_of_routes routes ≡ instance_of cvrp.now) }
 {
-    let near = near_of(rt, &cvrp.table(), cvrp.customers().min(100))?;
+    let near = near_of(rt, &cvrp.table(), cvrp.customers().min(CANDIDATE_LIMIT))?;
     saved(rt, cvrp, &near)
 }
 

@@ -6,13 +6,13 @@ use crate::instances::SQUARE;
 use crate::readers::problem_of;
 use crate::refusals::{Refusal, Stopped};
 use tk_metric::{BothAxes, Metric, Near, Planar, Table, near_scan, near_sweep, near_tree};
-use tk_text::Problem;
+use tk_text::{CANDIDATE_LIMIT, Problem};
 
 /// Near lists by a scan, whose number and length are told.
 pub fn near_of<M: Metric>(rt: &HostRuntime, metric: &M, k: u32) -> Result<Near, Stopped>
     ensures size { IfOk result (λ near. near.size ≡ M.size_of metric.now) }
 {
-    if k < 1 || k > 100 || k >= metric.size() {
+    if k < 1 || k > CANDIDATE_LIMIT || k >= metric.size() {
         return Err(Stopped);
     }
     let near = again!(rt, "near_scan", near_scan(rt.alloc(), metric, k));

@@ -1,5 +1,5 @@
 //! A capacitated routing problem.
-ghost use Rattle.std.specs.Prelude.{◌≡◌, ◌≤◌, ◌-◌, ◌*◌, All, None, IfNone, IfSome, length, pos, slice_index};
+ghost use Rattle.std.specs.Prelude.{◌≡◌, ◌≤◌, ◌<◌, ◌-◌, ◌*◌, All, None, IfNone, IfSome, length, pos, slice_index};
 ghost use Rattle.tk_problem.specs.declared.limits.TheConstants.{CAPACITY_LIMIT, CITY_LIMIT, TABLE_LIMIT};
 ghost use Rattle.tk_distance.specs.Cities.{IsCity};
 ghost use Rattle.tk_distance.specs.Tables.{table_size, table_distance};
@@ -59,7 +59,7 @@ impl<'a> Cvrp<'a> {
     pub fn customers(&self) -> u32
         ensures value { result ≡ customer_count (instance_of self.now) }
         ensures some { 1 ≤ result }
-        ensures few { result ≤ 4999 }
+        ensures few { result < TABLE_LIMIT }
     {
         self.table.size() - 1
     }
