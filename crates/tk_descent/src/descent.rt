@@ -27,7 +27,7 @@ pub struct Report {
     pub moves: u64,
     /// How many looks at a city there were.
     pub looks: u64,
-    /// How many gains were computed.
+    /// How many offers were decided, each by one gain.
     pub tests: u64,
     /// How many swaps of two cities the flips took.
     pub swaps: u64,
