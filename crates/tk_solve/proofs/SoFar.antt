@@ -12,7 +12,7 @@ use Rattle.tk_search.proofs.SearchTrials.Cities.{tour_after}
 use Rattle.tk_solve.specs.declared.outcome.Outcome.{Outcome}
 use Rattle.tk_solve.specs.declared.outcome.RunReport.{RunReport}
 use Rattle.tk_solve.specs.declared.watch.Progress.{Progress}
-use Rattle.tk_solve.specs.Outcomes.{AreKept, IsRunAdded, IsTaken}
+use Rattle.tk_solve.specs.Outcomes.{IsRunAdded, IsTaken}
 use Rattle.tk_solve.specs.Runs.{Run, IsRun, IsSearched, none, more, AreSoFar, best_tours, run_length, report_of}
 use Rattle.tk_solve.specs.Starts.{TourTask, IsStart}
 use Rattle.tk_solve.proofs.FirstShortest.{first_of_one, first_replaced, first_kept}
