@@ -1,4 +1,6 @@
+pub mod Answered
 pub mod Endings
+pub mod Growing
 pub mod Headers
 pub mod KnownPlaces
 pub mod LineSteps

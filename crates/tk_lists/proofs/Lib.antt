@@ -1,8 +1,10 @@
 pub mod Lists
 pub mod SolutionEnds
+pub mod SolutionLaws
 pub mod SolutionLines
 pub mod SolutionPlaces
 pub mod SolutionSteps
 pub mod SolutionTexts
 pub mod SolutionWords
+pub mod TourLaws
 pub mod Tours

@@ -4,6 +4,7 @@ pub mod Limits
 pub mod Looks
 pub mod Steps
 pub mod Taken
+pub mod TextLaws
 pub mod Told
 pub mod WordLengths
 pub mod Words

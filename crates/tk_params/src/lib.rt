@@ -4,6 +4,7 @@
 mod entries;
 mod fault;
 mod key;
+mod laws;
 mod line;
 mod params;
 mod reader;
@@ -12,6 +13,7 @@ mod value;
 
 pub use fault::{ParamFault, ParamKind};
 pub use key::{Key, each_word_spells_its_key};
+pub use laws::{decided_params_stay, each_params_text_has_an_answer};
 pub use params::Params;
 pub use reader::read_params;
 pub use value::Construction;

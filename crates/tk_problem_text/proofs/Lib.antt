@@ -5,5 +5,6 @@ pub mod PartHeaders
 pub mod PartSections
 pub mod PartsWhole
 pub mod ProblemForms
+pub mod ProblemLaws
 pub mod ReadNames
 pub mod SectionTokens

@@ -3,9 +3,11 @@
 
 mod header_values;
 mod headers;
+mod laws;
 mod parts;
 mod problem_form;
 mod problem_text;
 mod sections;
 
+pub use laws::each_problem_text_has_an_answer;
 pub use problem_text::read_problem;
