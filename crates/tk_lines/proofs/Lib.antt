@@ -9,4 +9,6 @@ pub mod MiddleOfLine
 pub mod NarrowPlaces
 pub mod Pieces
 pub mod Sections
+pub mod Staying
+pub mod Steady
 pub mod TokenRuns

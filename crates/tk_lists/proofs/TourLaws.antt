@@ -1,21 +1,27 @@
--- Each tour text has an answer.
-use Rattle.std.proofs.Common.{ℕ, suc, Bool, leb, not, ◌||◌, List, [], ◌∷◌}
+-- Each tour text has an answer, and what is decided of it stays.
+use Rattle.std.proofs.Common.{◌≡◌, ℕ, suc, ◌≤◌, Bool, leb, not, ◌||◌, List, [], ◌∷◌, ◌++◌, length, take, Option, Some, refl, sym, ap, ◌∙◌}
 use Rattle.std.specs.Prelude.{is_none}
 use Rattle.tk_problem.specs.declared.limits.TheConstants.{ENTRY_LIMIT}
+use Rattle.tk_words.specs.declared.keyword.Keyword.{Keyword}
 use Rattle.tk_words.specs.declared.keyword.Keyword.TheVariants as words
 use Rattle.tk_words.specs.declared.fault.TextKind.{TextKind}
 use Rattle.tk_words.specs.declared.fault.TextKind.TheVariants as kinds
 use Rattle.tk_words.specs.Entry.{in_range, is_keyword}
 use Rattle.tk_words.specs.Lex.{Token, integer}
-use Rattle.tk_words.specs.TextLaws.{HasAnswers}
-use Rattle.tk_lines.specs.Lists.{entries, trailing_stop}
-use Rattle.tk_lines.specs.Pieces.{first_at, checked, or_else, has}
+use Rattle.tk_words.specs.TextLaws.{HasAnswers, StaysDecided}
+use Rattle.tk_lines.specs.Lists.{entries, list_extent, trailing_stop}
+use Rattle.tk_lines.specs.Pieces.{After, Piece, Stop, Fault, first_at, checked, or_else, has}
 use Rattle.tk_lines.proofs.Answered.{AnswersSections, NotOpen, WholeTokens, not_open_checked, not_open_first, not_open_or, not_open_trailing, some_decided, whole_entries}
-use Rattle.tk_lists.specs.Tour.{entry_stop, entries_stop, tour_decided, tour_format}
+use Rattle.tk_lines.proofs.Growing.{Lasts}
+use Rattle.tk_lines.proofs.Staying.{decided_stays}
+use Rattle.tk_lines.proofs.Steady.{EndsOpen, Extends, list_extends, list_stops, nothing_extends, open_trailing, section_kept, stops}
+use Rattle.tk_lists.specs.Tour.{entry_stop, entries_stop, tour_decided, tour_extent, tour_format, tour_section}
 
 abbrev entry_tests : ℕ → Token → List (Bool × TextKind)
 entry_tests k t = (is_keyword t.bytes, kinds.Truncated) ∷ (is_none (integer t.bytes), kinds.BadNumber)
     ∷ (not (in_range 0 4294967295 (integer t.bytes)) || leb ENTRY_LIMIT k, kinds.OutOfLimit) ∷ []
+
+-- ---- each text has an answer
 
 entries_known : (k : ℕ) (ts : List Token) → WholeTokens ts → NotOpen (entries_stop k ts)
 unfolding entry_stop entries_stop
@@ -30,3 +36,28 @@ section_known before _ n toks after h = tt
 
 pub each_has_an_answer : HasAnswers tour_decided
 each_has_an_answer = some_decided tour_format section_known
+
+-- ---- what is decided stays
+
+entries_as : (k : ℕ) (ts : List Token) → entries_stop k ts ≡ stops entry_tests (λ k t. suc k) k ts
+unfolding entry_stop entries_stop
+entries_as k [] = refl
+entries_as k (t ∷ ts) = ap (λ (s : Option Stop). or_else (checked 64 t (entry_tests k t)) s) (entries_as (suc k) ts)
+
+extends : (before : List Piece) (word : Keyword) (front last rest : List Token) (end end' : Token) → Lasts last rest
+    → Extends (tour_extent before word (front ++ last)) (tour_extent before word (front ++ rest)) (front ++ last) (front ++ rest) end end'
+extends before words.TourSection front last rest end end' h = list_extends front last rest end end' h
+extends before _ front last rest end end' h = nothing_extends front last rest end end' h
+
+faults : (before : List Piece) (word : Keyword) (n : ℕ) (front last rest : List Token) (after after' : After) (line : ℕ) (k : TextKind) → Lasts last rest
+    → length (front ++ last) ≤ (tour_extent before word (front ++ last)).count → EndsOpen after → tour_section before word n (front ++ last) after ≡ Some (Fault line k)
+    → tour_section before word n (take (tour_extent before word (front ++ rest)).count (front ++ rest)) after' ≡ Some (Fault line k)
+faults before words.TourSection n front last rest after after' line k h le ended f =
+    let old : List Token = entries (front ++ last) in
+    let new : List Token = entries (take (list_extent (front ++ rest)).count (front ++ rest)) in
+    section_kept (first_at n ((has words.TourSection before, kinds.Repeated) ∷ [])) (entries_stop 0 old) (entries_stop 0 new) (trailing_stop after) (trailing_stop after') (Fault line k) (open_trailing after ended)
+    (λ s. entries_as 0 new ∙ list_stops entry_tests (λ k t. suc k) line k 0 front last rest h le (sym (entries_as 0 old) ∙ s)) f
+faults before _ n front last rest after after' line k h le ended f = f
+
+pub decided_stay : StaysDecided tour_decided
+decided_stay = decided_stays tour_format (record { extends = extends; faults = faults })

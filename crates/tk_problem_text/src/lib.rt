@@ -9,5 +9,5 @@ mod problem_form;
 mod problem_text;
 mod sections;
 
-pub use laws::each_problem_text_has_an_answer;
+pub use laws::{decided_problems_stay, each_problem_text_has_an_answer};
 pub use problem_text::read_problem;

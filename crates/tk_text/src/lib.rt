@@ -4,15 +4,15 @@
 #![tactic(auto)]
 
 pub use tk_lists::{
-    SolText, TourText, each_solution_text_has_an_answer, each_tour_text_has_an_answer,
-    read_solution, read_tour,
+    SolText, TourText, decided_solutions_stay, decided_tours_stay,
+    each_solution_text_has_an_answer, each_tour_text_has_an_answer, read_solution, read_tour,
 };
 pub use tk_problem::{
     CANDIDATE_LIMIT, CAPACITY_LIMIT, CITY_LIMIT, COORDINATE_LIMIT, DISTANCE_LIMIT, ENTRY_LIMIT,
     Format, LowerWeights, Place, Places, PlaneKind, Point, Points, Problem, ROUTE_LIMIT, Routing,
     SCALE, TABLE_LIMIT, TEXT_LIMIT, WeightCursor, Weights, WholePoint,
 };
-pub use tk_problem_text::{each_problem_text_has_an_answer, read_problem};
+pub use tk_problem_text::{decided_problems_stay, each_problem_text_has_an_answer, read_problem};
 pub use tk_words::{
     Entry, Failed, FromRead, Keyword, Role, Run, Source, Step, TextFault, TextKind, TextReader,
     blank, decimal, entry_of, feed_piece, integer, keyword_in, letter, minus_one, read_text,
