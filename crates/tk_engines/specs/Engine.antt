@@ -7,8 +7,8 @@
 --     BeforeSecond, UnlessWrite, AtWrite      a fact, at some of the stages
 use Rattle.std.specs.Prelude.{◌≡◌, ◌≢◌, ℕ, Bool, true, List, Option, Some, None, Result, Ok, Err}
 use Rattle.tk_problem.specs.declared.limits.TheConstants.{TEXT_LIMIT}
-use Rattle.tk_words.specs.Drive.{Decided, IsTold}
-use Rattle.tk_words.specs.Texts.{IsAnswerWhereTold}
+use Rattle.tk_words.specs.Drive.{Decided}
+use Rattle.tk_words.specs.Texts.{IsAnswerWhereTold, IsFaultWhereTold, IsOfSomeText, IsFaultOfSomeText}
 use Rattle.tk_problem_text.specs.Problem.{ProblemIs, problem_decided}
 use Rattle.tk_lists.specs.Solution.{Solution, solution_decided}
 use Rattle.tk_lists.specs.Tour.{tour_decided}
@@ -24,12 +24,14 @@ use Rattle.tk_engines.specs.declared.fault.Fault.TheVariants as faults
 pub record IsRead {V S : Type 0} (decided : Decided V) (left : S → Option (List ℕ)) (broken : S → Bool) (old new : S)
     (value : V) : Type 0 where
   pub answer : IsAnswerWhereTold decided TEXT_LIMIT (left old) (left new) (Ok value)
+  pub some_text : IsOfSomeText decided TEXT_LIMIT (Ok value)
   pub intact : broken new ≡ broken old
 
--- the text of a source has this fault, or it is one of reading or of memory
+-- the text of a source has this fault, or reading it failed, or memory ran out
 pub record IsRefused {V S : Type 0} (decided : Decided V) (left : S → Option (List ℕ)) (broken : S → Bool) (old new : S)
     (f : TextFault) : Type 0 where
-  pub told : IsTold (broken new ≡ true) (IsAnswerWhereTold decided TEXT_LIMIT (left old) (left new)) f
+  pub fault : IsFaultWhereTold decided TEXT_LIMIT (broken new) (left old) (left new) f
+  pub some_fault : IsFaultOfSomeText decided TEXT_LIMIT f
   pub intact : f.kind ≢ kinds.Read → broken new ≡ broken old
 
 -- what is known where a text is read as a value, or is refused

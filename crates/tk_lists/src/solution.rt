@@ -1,8 +1,7 @@
 //! Solution texts.
-ghost use Rattle.std.specs.Prelude.{◌≡◌, true, List, [], map, Ok, IfOk, IfErr};
+ghost use Rattle.std.specs.Prelude.{◌≡◌, List, [], map, Ok, IfOk, IfErr};
 ghost use Rattle.tk_problem.specs.declared.limits.TheConstants.{TEXT_LIMIT};
-ghost use Rattle.tk_words.specs.Drive.{IsTold};
-ghost use Rattle.tk_words.specs.Texts.{IsAnswerWhereTold, IsIntact};
+ghost use Rattle.tk_words.specs.Texts.{IsAnswerWhereTold, IsFaultWhereTold, IsOfSomeText, IsFaultOfSomeText, IsIntact};
 ghost use Rattle.tk_lists.specs.Solution.{Solution, solution_decided};
 ghost use Rattle.tk_lists.specs.SolutionReader.{Fed};
 
@@ -76,8 +75,8 @@ impl TextReader for SolutionReader {
     }
 }
 
-/// Reads a solution text. What it answers is what every text says that begins with the bytes that it read, but for
-/// `Read`, where the source fails, and `NoMemory`.
+/// Reads a solution text, as far as it takes to know the answer. What it answers is what every text says that begins
+/// with the bytes that it read, but for `Read`, where the source fails, and `NoMemory`.
 ///
 /// # Errors
 /// The first fault of the text, with its line; `Read` if the source fails before it is found, and `NoMemory` if memory
@@ -85,8 +84,11 @@ impl TextReader for SolutionReader {
 pub fn read_solution<R: Source>(alloc: Global, source: &mut R) -> Result<SolText, TextFault>
     ensures ok { IfOk result (λ solution. IsAnswerWhereTold solution_decided TEXT_LIMIT (R.left source.old)
         (R.left source.new) (Ok (map (λ r. r.items) solution.routes.items, solution.cost))) }
-    ensures err { IfErr result (IsTold (R.broken source.new ≡ true)
-        (IsAnswerWhereTold solution_decided TEXT_LIMIT (R.left source.old) (R.left source.new))) }
+    ensures err { IfErr result (IsFaultWhereTold solution_decided TEXT_LIMIT (R.broken source.new)
+        (R.left source.old) (R.left source.new)) }
+    ensures some_text { IfOk result (λ solution. IsOfSomeText solution_decided TEXT_LIMIT
+        (Ok (map (λ r. r.items) solution.routes.items, solution.cost))) }
+    ensures some_fault { IfErr result (IsFaultOfSomeText solution_decided TEXT_LIMIT) }
     ensures intact { IsIntact (R.broken source.old) (R.broken source.new) result }
 {
     read_text(source, SolutionReader::new(alloc), TEXT_LIMIT)

@@ -4,8 +4,7 @@ ghost use Rattle.tk_problem.specs.declared.limits.TheConstants.{ENTRY_LIMIT, TEX
 ghost use Rattle.tk_words.specs.declared.fault.TextKind.TheVariants as kinds;
 ghost use Rattle.tk_lines.specs.declared.form.Taken.TheVariants as takens;
 ghost use Rattle.tk_words.specs.declared.keyword.Keyword.TheVariants as words;
-ghost use Rattle.tk_words.specs.Drive.{IsTold};
-ghost use Rattle.tk_words.specs.Texts.{IsAnswerWhereTold, IsIntact};
+ghost use Rattle.tk_words.specs.Texts.{IsAnswerWhereTold, IsFaultWhereTold, IsOfSomeText, IsFaultOfSomeText, IsIntact};
 ghost use Rattle.tk_lines.specs.Pieces.{Piece, Fault, first_at};
 ghost use Rattle.tk_lines.specs.Scan.{Scans};
 ghost use Rattle.tk_lines.specs.Forms.{IsToldWord, a_header};
@@ -191,8 +190,8 @@ impl Form for TourForm {
     }
 }
 
-/// Reads a tour text. What it answers is what every text says that begins with the bytes that it read, but for
-/// `Read`, where the source fails, and `NoMemory`.
+/// Reads a tour text, as far as it takes to know the answer. What it answers is what every text says that begins with
+/// the bytes that it read, but for `Read`, where the source fails, and `NoMemory`.
 ///
 /// # Errors
 /// The first fault of the text, with its line; `Read` if the source fails before it is found, and `NoMemory` if memory
@@ -200,8 +199,10 @@ impl Form for TourForm {
 pub fn read_tour<R: Source>(alloc: Global, source: &mut R) -> Result<TourText, TextFault>
     ensures ok { IfOk result (λ tour. IsAnswerWhereTold tour_decided TEXT_LIMIT (R.left source.old) (R.left source.new)
         (Ok tour.cities.items)) }
-    ensures err { IfErr result (IsTold (R.broken source.new ≡ true)
-        (IsAnswerWhereTold tour_decided TEXT_LIMIT (R.left source.old) (R.left source.new))) }
+    ensures err { IfErr result (IsFaultWhereTold tour_decided TEXT_LIMIT (R.broken source.new)
+        (R.left source.old) (R.left source.new)) }
+    ensures some_text { IfOk result (λ tour. IsOfSomeText tour_decided TEXT_LIMIT (Ok tour.cities.items)) }
+    ensures some_fault { IfErr result (IsFaultOfSomeText tour_decided TEXT_LIMIT) }
     ensures intact { IsIntact (R.broken source.old) (R.broken source.new) result }
 {
     read_text(source, PieceReader::new(TourForm::new(alloc)), TEXT_LIMIT)

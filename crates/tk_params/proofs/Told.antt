@@ -1,12 +1,12 @@
 -- What a parameter reader tells.
-use Rattle.std.proofs.Common.{◌≡◌, ℕ, suc, eqb, leb, ltb, not, length, take, Bool, true, false, cond, List, [], ◌∷◌, ◌++◌, Option, Some, None, Result, Ok, Err, IfErr, ap, subst}
+use Rattle.std.proofs.Common.{◌≡◌, ℕ, suc, eqb, leb, ltb, not, length, take, Bool, true, false, cond, List, [], ◌∷◌, ◌++◌, Option, Some, None, Result, Ok, Err, IfOk, IfErr, ap, subst}
 use Rattle.std.specs.Prelude.{codes, unwrap_or}
 use Rattle.std.proofs.lemmas.Bool.{cond_both}
 use Rattle.tk_words.specs.declared.fault.TextFault.{TextFault}
 use Rattle.tk_words.specs.declared.fault.TextKind.{TextKind}
 use Rattle.tk_words.specs.declared.fault.TextKind.TheVariants as text
-use Rattle.tk_words.specs.Drive.{line_behind, IsTold, IsToldKind}
-use Rattle.tk_words.specs.Texts.{answer_of, IsAnswerWhereTold}
+use Rattle.tk_words.specs.Drive.{line_behind, IsToldKind}
+use Rattle.tk_words.specs.Texts.{answer_of, IsAnswerWhereTold, IsFaultOfKind, IsFaultWhereTold, IsOfSomeText, IsFaultOfSomeText}
 use Rattle.tk_words.specs.Lex.{Line, is_blank, is_letter, is_word_byte, front, behind, lines}
 use Rattle.tk_words.specs.Words.{spells}
 use Rattle.tk_params.specs.declared.fault.ParamFault.{ParamFault}
@@ -17,12 +17,13 @@ use Rattle.std.specs.Option.{ok_or}
 use Rattle.tk_params.specs.Asked.{ParamsAre, asked}
 use Rattle.tk_params.specs.Keys.{key_of}
 use Rattle.tk_params.specs.Values.{Settings, Value, Meaning, Nothing, Faulty, Sets, has, has_dollar, key_means, line_means, sets, settings_of, value_behind, value_of, word_means, words_mean}
-use Rattle.tk_params.specs.Params.{Answer, IsParamAnswerWhereTold, IsParamTold, IsParamToldKind, after, at_end, counted, is_end, line_limit, joined, judge, kind_of, params_decided, params_limit, said}
+use Rattle.tk_params.specs.Params.{Answer, IsParamAnswerWhereTold, IsParamFaultWhereTold, IsParamFaultOfKind, IsOfSomeParams, IsFaultOfSomeParams, IsKindOfSomeParams, after, at_end, counted, is_end, line_limit, joined, judge, kind_of, params_decided, params_limit, said}
 
--- ---- a text has no fault of reading
+-- ---- a text has no fault of reading or of memory
 
 abbrev IsOfText : ParamKind → Type 0
 IsOfText kinds.Read = ⊥
+IsOfText kinds.NoMemory = ⊥
 IsOfText _ = Unit {0}
 
 abbrev OfMeaning : Meaning → Type 0
@@ -119,24 +120,54 @@ answer_of_text bs =
 pub where_told : (old new : Option (List ℕ)) (r : Result Answer TextFault) → IsAnswerWhereTold params_decided params_limit old new r → IsParamAnswerWhereTold old new (joined r)
 where_told None new r h = tt
 where_told (Some bs) new r h =
-    (h.0, h.1, record { read = h.2.read; parts = h.2.parts; answer = ap joined h.2.answer; unread = λ ne more. ap joined (h.2.unread ne more) })
+    (h.0, h.1, record { read = h.2.read; answer = ap joined h.2.answer; unread = λ ne more. ap joined (h.2.unread ne more) })
 
-told_kind : (R : Type 0) (P : Answer → Type 0) (f : ParamFault) (k : ParamKind) → IsOfText k → P (Err f) → IsParamToldKind R P f k
-told_kind R P f kinds.NoMemory h p = tt
-told_kind R P f kinds.Read h p = absurd h
-told_kind R P f _ h p = p
+pub told_value : (old new : Option (List ℕ)) (a : Answer) → IsAnswerWhereTold params_decided params_limit old new (Ok a) → IfOk a (λ p. IsParamAnswerWhereTold old new (Ok p))
+told_value old new (Ok p) h = where_told old new (Ok (Ok p)) h
+told_value old new (Err f) h = tt
 
-pub told_answer : (R : Type 0) (old new : Option (List ℕ)) (a : Answer) → ((bs : List ℕ) × (answer_of params_decided params_limit bs ≡ Ok a)) → IsAnswerWhereTold params_decided params_limit old new (Ok a)
-    → IfErr a (IsParamTold R (IsParamAnswerWhereTold old new))
-told_answer R old new (Ok p) t h = tt
-told_answer R old new (Err f) t h = told_kind R (IsParamAnswerWhereTold old new) f f.kind (subst OfResult t.1 (answer_of_text t.0)) (where_told old new (Ok (Err f)) h)
+told_kind : (broken : Bool) (old new : Option (List ℕ)) (f : ParamFault) (k : ParamKind) → IsOfText k → IsParamAnswerWhereTold old new (Err f) → IsParamFaultOfKind broken old new f k
+told_kind broken old new f kinds.NoMemory h p = absurd h
+told_kind broken old new f kinds.Read h p = absurd h
+told_kind broken old new f _ h p = p
 
-refused_kind : (R : Type 0) (old new : Option (List ℕ)) (f : TextFault) (k : TextKind) → IsToldKind R (IsAnswerWhereTold params_decided params_limit old new) f k
-    → IsParamToldKind R (IsParamAnswerWhereTold old new) (record { line = f.line; kind = kind_of k }) (kind_of k)
-refused_kind R old new f text.NoMemory h = tt
-refused_kind R old new f text.Read h = h
-refused_kind R old new f _ h = where_told old new (Err f) h
+pub told_answer : (broken : Bool) (old new : Option (List ℕ)) (a : Answer) → IsOfSomeText params_decided params_limit (Ok a) → IsAnswerWhereTold params_decided params_limit old new (Ok a)
+    → IfErr a (IsParamFaultWhereTold broken old new)
+told_answer broken old new (Ok p) t h = tt
+told_answer broken old new (Err f) t h = told_kind broken old new f f.kind (subst OfResult t.1 (answer_of_text t.0)) (where_told old new (Ok (Err f)) h)
 
-pub told_fault : (R : Type 0) (old new : Option (List ℕ)) (f : TextFault) → IsTold R (IsAnswerWhereTold params_decided params_limit old new) f
-    → IsParamTold R (IsParamAnswerWhereTold old new) (record { line = f.line; kind = kind_of f.kind })
-told_fault R old new f h = refused_kind R old new f f.kind h
+refused_kind : (broken : Bool) (old new : Option (List ℕ)) (f : TextFault) (k : TextKind) → IsFaultOfKind params_decided params_limit broken old new f k
+    → IsParamFaultOfKind broken old new (record { line = f.line; kind = kind_of k }) (kind_of k)
+refused_kind broken old new f text.NoMemory h = h
+refused_kind broken old new f text.Read h = h
+refused_kind broken old new f _ h = where_told old new (Err f) h
+
+pub told_fault : (broken : Bool) (old new : Option (List ℕ)) (f : TextFault) → IsFaultWhereTold params_decided params_limit broken old new f
+    → IsParamFaultWhereTold broken old new (record { line = f.line; kind = kind_of f.kind })
+told_fault broken old new f h = refused_kind broken old new f f.kind h
+
+-- ---- what some text says, whether its bytes are told or not
+
+some_params : (r : Result Answer TextFault) → IsOfSomeText params_decided params_limit r → IsOfSomeParams (joined r)
+some_params r t = (t.0, ap joined t.1)
+
+some_kind : (f : ParamFault) (k : ParamKind) → IsOfSomeParams (Err f) → IsKindOfSomeParams f k
+some_kind f kinds.NoMemory t = tt
+some_kind f kinds.Read t = tt
+some_kind f _ t = t
+
+pub some_answer : (a : Answer) → IsOfSomeText params_decided params_limit (Ok a) → IfOk a (λ p. IsOfSomeParams (Ok p))
+some_answer (Ok p) t = some_params (Ok (Ok p)) t
+some_answer (Err f) t = tt
+
+pub some_fault : (a : Answer) → IsOfSomeText params_decided params_limit (Ok a) → IfErr a IsFaultOfSomeParams
+some_fault (Ok p) t = tt
+some_fault (Err f) t = some_kind f f.kind (some_params (Ok (Err f)) t)
+
+refused_some : (f : TextFault) (k : TextKind) → IsToldKind (Unit {0}) (IsOfSomeText params_decided params_limit) f k → IsKindOfSomeParams (record { line = f.line; kind = kind_of k }) (kind_of k)
+refused_some f text.NoMemory t = tt
+refused_some f text.Read t = tt
+refused_some f _ t = some_params (Err f) t
+
+pub fault_of_some : (f : TextFault) → IsFaultOfSomeText params_decided params_limit f → IsFaultOfSomeParams (record { line = f.line; kind = kind_of f.kind })
+fault_of_some f t = refused_some f f.kind t

@@ -1,11 +1,11 @@
 -- Parameter texts (K. Helsgaun, LKH user guide; the limits and the keys are this project's).
-use Rattle.std.specs.Prelude.{◌≡◌, ◌≢◌, ℕ, ◌-◌, Bool, not, ◌&&◌, ◌||◌, nat_lt, List, [], ◌∷◌, ◌++◌, length, Option, Some, None, Result, Ok, Err, IfSome, if◌then◌else◌, codes}
+use Rattle.std.specs.Prelude.{◌≡◌, ◌≢◌, ℕ, ◌-◌, Bool, true, not, ◌&&◌, ◌||◌, nat_lt, List, [], ◌∷◌, ◌++◌, length, Option, Some, None, Result, Ok, Err, if◌then◌else◌, codes}
 use Rattle.std.specs.Option.{ok_or}
 use Rattle.tk_words.specs.declared.fault.TextFault.{TextFault}
 use Rattle.tk_words.specs.declared.fault.TextKind.{TextKind}
 use Rattle.tk_words.specs.declared.fault.TextKind.TheVariants as text
 use Rattle.tk_words.specs.Drive.{Decided}
-use Rattle.tk_words.specs.Texts.{answer_of}
+use Rattle.tk_words.specs.Texts.{answer_of, IsReadTo, IsCutOff, WhereTold}
 use Rattle.tk_words.specs.Lex.{Line, is_blank, is_word_byte, is_empty, front, behind, lines}
 use Rattle.tk_words.specs.Words.{spells}
 use Rattle.tk_params.specs.declared.fault.ParamFault.{ParamFault}
@@ -79,26 +79,38 @@ joined (Err f) = Err (record { line = f.line; kind = kinds.TooLong })
 abbrev pub params_answer : List ℕ → Answer
 params_answer text = joined (answer_of params_decided params_limit text)
 
+-- some text has this answer
+abbrev pub IsOfSomeParams : Answer → Type 0
+IsOfSomeParams a = (text : List ℕ) × (params_answer text ≡ a)
+
+-- a fault other than of reading or of memory is the answer to some text
+abbrev pub IsKindOfSomeParams : ParamFault → ParamKind → Type 0
+IsKindOfSomeParams f kinds.NoMemory = Unit {0}
+IsKindOfSomeParams f kinds.Read = Unit {0}
+IsKindOfSomeParams f _ = IsOfSomeParams (Err f)
+
+abbrev pub IsFaultOfSomeParams : ParamFault → Type 0
+IsFaultOfSomeParams f = IsKindOfSomeParams f f.kind
+
 -- what a reader answered, by the text and what is left of it: it is the text's answer, and where not all of the text
 -- was read, it is the answer to every text that begins with the bytes read
 pub record IsParamAnswer (text rest : List ℕ) (a : Answer) : Type 0 where
-  pub read : List ℕ
-  pub parts : text ≡ read ++ rest
+  pub read : IsReadTo params_decided params_limit text rest
   pub answer : params_answer text ≡ a
-  pub unread : rest ≢ [] → (more : List ℕ) → params_answer (read ++ more) ≡ a
+  pub unread : rest ≢ [] → (more : List ℕ) → params_answer ((read.before ++ read.last) ++ more) ≡ a
 
--- the same where the bytes are told
 abbrev pub IsParamAnswerWhereTold : Option (List ℕ) → Option (List ℕ) → Answer → Type 0
-IsParamAnswerWhereTold old new a = IfSome old (λ text. (rest : List ℕ) × (new ≡ Some rest) × IsParamAnswer text rest a)
+IsParamAnswerWhereTold old new a = WhereTold old new (λ text rest. IsParamAnswer text rest a)
 
--- a fault other than of memory is an answer with P, or one of reading under R
-abbrev pub IsParamToldKind : Type 0 → (Answer → Type 0) → ParamFault → ParamKind → Type 0
-IsParamToldKind R P f kinds.NoMemory = Unit {0}
-IsParamToldKind R P f kinds.Read = R
-IsParamToldKind R P f _ = P (Err f)
+-- a fault of memory, where reading has come so far; of reading, where the source has failed; any other, as an answer
+abbrev pub IsParamFaultOfKind : Bool → Option (List ℕ) → Option (List ℕ) → ParamFault → ParamKind → Type 0
+IsParamFaultOfKind broken old new f kinds.NoMemory = WhereTold old new (IsReadTo params_decided params_limit)
+IsParamFaultOfKind broken old new f kinds.Read =
+    (broken ≡ true) × WhereTold old new (IsCutOff params_decided params_limit f.line)
+IsParamFaultOfKind broken old new f _ = IsParamAnswerWhereTold old new (Err f)
 
-abbrev pub IsParamTold : Type 0 → (Answer → Type 0) → ParamFault → Type 0
-IsParamTold R P f = IsParamToldKind R P f f.kind
+abbrev pub IsParamFaultWhereTold : Bool → Option (List ℕ) → Option (List ℕ) → ParamFault → Type 0
+IsParamFaultWhereTold broken old new f = IsParamFaultOfKind broken old new f f.kind
 
 -- what a fault of the source, of memory or of the text's limit is
 abbrev pub kind_of : TextKind → ParamKind

@@ -5,7 +5,7 @@ ghost use Rattle.tk_words.specs.Lex.{behind, is_blank, is_word_byte};
 ghost use Rattle.tk_words.specs.declared.fault.TextKind.TheVariants as kinds;
 ghost use Rattle.tk_params.specs.Reading.{Feeds, TakesLine, answer_in};
 ghost use Rattle.tk_params.specs.Params as Text;
-ghost use Rattle.tk_params.specs.Params.{IsParamAnswerWhereTold, IsParamIntact, IsParamTold, is_eof};
+ghost use Rattle.tk_params.specs.Params.{IsParamAnswerWhereTold, IsParamFaultWhereTold, IsOfSomeParams, IsFaultOfSomeParams, IsParamIntact, is_eof};
 
 use crate::fault::{ParamFault, ParamKind};
 use crate::line::take_line;
@@ -209,7 +209,7 @@ fn fault_of(fault: TextFault) -> ParamFault
     }
 }
 
-/// Reads a parameter file: at most 1,048,576 bytes, in lines of at most 4,096.
+/// Reads a parameter file: at most 1,048,576 bytes, in lines of at most 4,096; as far as it takes to know the answer.
 ///
 /// What it answers is what every text says that begins with the bytes that it read, but for `Read` and `NoMemory`.
 ///
@@ -217,8 +217,9 @@ fn fault_of(fault: TextFault) -> ParamFault
 /// The first fault of the text by line; `Read` where the source fails; `NoMemory` where a growth is refused.
 pub fn read_params<R: Source>(alloc: Global, source: &mut R) -> Result<Params, ParamFault>
     ensures ok { IfOk result (λ p. IsParamAnswerWhereTold (R.left source.old) (R.left source.new) (Ok p)) }
-    ensures err { IfErr result (IsParamTold (R.broken source.new ≡ true)
-        (IsParamAnswerWhereTold (R.left source.old) (R.left source.new))) }
+    ensures err { IfErr result (IsParamFaultWhereTold (R.broken source.new) (R.left source.old) (R.left source.new)) }
+    ensures some_text { IfOk result (λ p. IsOfSomeParams (Ok p)) }
+    ensures some_fault { IfErr result IsFaultOfSomeParams }
     ensures intact { IsParamIntact (R.broken source.old) (R.broken source.new) result }
 {
     match read_text(source, ParamReader::new(alloc), PARAMS_LIMIT) {

@@ -1,8 +1,7 @@
 //! Problem texts.
-ghost use Rattle.std.specs.Prelude.{◌≡◌, true, Ok, IfOk, IfErr};
+ghost use Rattle.std.specs.Prelude.{◌≡◌, Ok, IfOk, IfErr};
 ghost use Rattle.tk_problem.specs.declared.limits.TheConstants.{TEXT_LIMIT};
-ghost use Rattle.tk_words.specs.Drive.{IsTold};
-ghost use Rattle.tk_words.specs.Texts.{IsAnswerWhereTold, IsIntact};
+ghost use Rattle.tk_words.specs.Texts.{IsAnswerWhereTold, IsFaultWhereTold, IsOfSomeText, IsFaultOfSomeText, IsIntact};
 ghost use Rattle.tk_problem_text.specs.Parts.{problem_is};
 ghost use Rattle.tk_problem_text.specs.Problem.{problem_decided};
 ghost use Rattle.tk_problem_text.specs.Names.{IsName};
@@ -13,8 +12,8 @@ use tk_lines::PieceReader;
 use tk_problem::{Problem, TEXT_LIMIT};
 use tk_words::{Source, TextFault, TextKind, read_text};
 
-/// Reads a problem text. What it answers is what every text says that begins with the bytes that it read, but for
-/// `Read`, where the source fails, and `NoMemory`.
+/// Reads a problem text, as far as it takes to know the answer. What it answers is what every text says that begins
+/// with the bytes that it read, but for `Read`, where the source fails, and `NoMemory`.
 ///
 /// # Errors
 /// The first fault of the text, with its line; `Read` if the source fails before it is found, and `NoMemory` if memory
@@ -23,8 +22,10 @@ pub fn read_problem<R: Source>(alloc: Global, source: &mut R) -> Result<Problem,
     ensures ok { IfOk result (λ problem. IsAnswerWhereTold problem_decided TEXT_LIMIT (R.left source.old)
         (R.left source.new) (Ok (problem_is problem))) }
     ensures named { IfOk result (λ problem. IsName (problem_is problem).name) }
-    ensures err { IfErr result (IsTold (R.broken source.new ≡ true)
-        (IsAnswerWhereTold problem_decided TEXT_LIMIT (R.left source.old) (R.left source.new))) }
+    ensures err { IfErr result (IsFaultWhereTold problem_decided TEXT_LIMIT (R.broken source.new)
+        (R.left source.old) (R.left source.new)) }
+    ensures some_text { IfOk result (λ problem. IsOfSomeText problem_decided TEXT_LIMIT (Ok (problem_is problem))) }
+    ensures some_fault { IfErr result (IsFaultOfSomeText problem_decided TEXT_LIMIT) }
     ensures intact { IsIntact (R.broken source.old) (R.broken source.new) result }
 {
     match ProblemForm::new(alloc) {

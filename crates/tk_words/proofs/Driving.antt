@@ -6,9 +6,10 @@ use Rattle.std.proofs.lemmas.List.{length-append, take_at, take_more, take-take,
 use Rattle.tk_words.specs.declared.fault.TextFault.{TextFault}
 use Rattle.tk_words.specs.declared.fault.TextKind.TheVariants as kinds
 use Rattle.tk_words.specs.Drive.{Decided, Decides, line_behind, IsTold}
-use Rattle.tk_words.specs.Texts.{Answers, answer_of, IsAnswerWhereTold}
+use Rattle.tk_words.specs.Texts.{Answers, answer_of, WantMore, IsReadTo, IsCutOff, WhereTold, IsAnswerWhereTold}
+use Rattle.tk_words.specs.declared.sources.reading.TheConstants.{BUFFER_SIZE}
 use Rattle.tk_words.proofs.Told.{told_kind}
-use Rattle.std.specs.Io.KnownBytes.{Consumes, IsAtEnd}
+use Rattle.std.specs.Io.KnownBytes.{Consumes, IsAtEnd, Keeps}
 
 -- the front of a list, and its rest
 take_front : (k : ℕ) (bs more : List ℕ) → length bs ≤ k → take k (bs ++ more) ≡ bs ++ take (k - length bs) more
@@ -92,19 +93,38 @@ module _ {V : Type 0} (d : Decided V) (limit : ℕ) (bs piece : List ℕ) (i n r
 -- ---- what a source has left
 
 -- all that a source gave stands before what it has left
-module _ {V : Type 0} (d : Decided V) (limit : ℕ) (bs : List ℕ) (a : Result V TextFault) where
-  pub where_decided : (old mid new : Option (List ℕ)) (piece : List ℕ) → Consumes old mid bs → Consumes mid new piece → Answers d limit (bs ++ piece) a → IsAnswerWhereTold d limit old new a
-  where_decided None mid new piece p q h = tt
-  where_decided (Some text) None new piece p q h = absurd p
-  where_decided (Some text) (Some between) None piece p q h = absurd q
-  where_decided (Some text) (Some between) (Some rest) piece p q h =
-      let whole : (bs ++ piece) ++ rest ≡ text = append_assoc bs piece rest ∙ ap (λ (x : List ℕ). bs ++ x) (sym q) ∙ sym p in
-      (rest, refl, record { read = bs ++ piece; parts = sym whole; answer = rw (← whole) (h rest); unread = λ _. h })
+module _ {V : Type 0} (d : Decided V) (limit : ℕ) (bs : List ℕ) (want : WantMore d limit bs) where
+  -- the last read gave this piece
+  abbrev read_to : (text between rest piece : List ℕ) → length piece ≤ BUFFER_SIZE → text ≡ bs ++ between → between ≡ piece ++ rest → IsReadTo d limit text rest
+  read_to text between rest piece le p q =
+      record { before = bs; last = piece; parts = p ∙ ap (λ (x : List ℕ). bs ++ x) q ∙ sym (append_assoc bs piece rest); wanted = want; buffer = le }
 
-  pub where_ended : (old mid new : Option (List ℕ)) → length bs ≤ limit → d true bs ≡ Some a → Consumes old mid bs → Consumes mid new [] → IsAtEnd new → IsAnswerWhereTold d limit old new a
-  where_ended None mid new le h p q e = tt
-  where_ended (Some text) None new le h p q e = absurd p
-  where_ended (Some text) (Some between) None le h p q e = absurd q
-  where_ended (Some text) (Some between) (Some rest) le h p q e =
+  pub where_read : (old mid new : Option (List ℕ)) (piece : List ℕ) → length piece ≤ BUFFER_SIZE → Consumes old mid bs → Consumes mid new piece → WhereTold old new (IsReadTo d limit)
+  where_read None mid new piece le p q = tt
+  where_read (Some text) None new piece le p q = absurd p
+  where_read (Some text) (Some between) None piece le p q = absurd q
+  where_read (Some text) (Some between) (Some rest) piece le p q = (rest, refl, read_to text between rest piece le p q)
+
+  pub where_decided : (a : Result V TextFault) (old mid new : Option (List ℕ)) (piece : List ℕ) → length piece ≤ BUFFER_SIZE → Consumes old mid bs → Consumes mid new piece → Answers d limit (bs ++ piece) a → IsAnswerWhereTold d limit old new a
+  where_decided a None mid new piece le p q h = tt
+  where_decided a (Some text) None new piece le p q h = absurd p
+  where_decided a (Some text) (Some between) None piece le p q h = absurd q
+  where_decided a (Some text) (Some between) (Some rest) piece le p q h =
+      let read = read_to text between rest piece le p q in
+      (rest, refl, record { read = read; answer = rw read.parts (h rest); unread = λ _. h })
+
+  pub where_ended : (a : Result V TextFault) (old mid new : Option (List ℕ)) → d true bs ≡ Some a → Consumes old mid bs → Consumes mid new [] → IsAtEnd new → IsAnswerWhereTold d limit old new a
+  where_ended a None mid new h p q e = tt
+  where_ended a (Some text) None new h p q e = absurd p
+  where_ended a (Some text) (Some between) None h p q e = absurd q
+  where_ended a (Some text) (Some between) (Some rest) h p q e =
       let whole : text ≡ bs = p ∙ ap (λ (x : List ℕ). bs ++ x) (q ∙ e) ∙ append-nil bs in
-      (rest, refl, record { read = bs; parts = p ∙ ap (λ (x : List ℕ). bs ++ x) q; answer = rw whole (answer_ended d limit bs a le h); unread = λ ne. absurd (ne e) })
+      (rest, refl, record { read = read_to text between rest [] (omega arith) p q; answer = rw whole (answer_ended d limit bs a want.within h); unread = λ ne. absurd (ne e) })
+
+  -- the source fails, and is as it was
+  pub where_cut_off : (line : ℕ) (old mid new : Option (List ℕ)) → line ≡ line_behind bs → Consumes old mid bs → Keeps mid new → WhereTold old new (IsCutOff d limit line)
+  where_cut_off line None mid new n p q = tt
+  where_cut_off line (Some text) None new n p q = absurd p
+  where_cut_off line (Some text) (Some between) None n p q = absurd q
+  where_cut_off line (Some text) (Some between) (Some rest) n p q =
+      (rest, refl, record { before = bs; parts = p ∙ ap (λ (x : List ℕ). bs ++ x) (sym q); wanted = want; line_is = n })

@@ -3,6 +3,7 @@ pub mod Drive
 pub mod Entry
 pub mod Lex
 pub mod MinusOne
+pub mod Sources
 pub mod TextLaws
 pub mod Texts
 pub mod Words

@@ -55,6 +55,31 @@ keyword_of bs =
     else (if spells bs (codes "DISPLAY_DATA_TYPE") then Some words.DisplayDataType
     else section_word bs))))))))
 
+-- the word as the formats write it
+abbrev pub word : Keyword → List ℕ
+word words.Name = codes "NAME"
+word words.Comment = codes "COMMENT"
+word words.Type = codes "TYPE"
+word words.Dimension = codes "DIMENSION"
+word words.Capacity = codes "CAPACITY"
+word words.EdgeWeightType = codes "EDGE_WEIGHT_TYPE"
+word words.EdgeWeightFormat = codes "EDGE_WEIGHT_FORMAT"
+word words.NodeCoordType = codes "NODE_COORD_TYPE"
+word words.DisplayDataType = codes "DISPLAY_DATA_TYPE"
+word words.Distance = codes "DISTANCE"
+word words.ServiceTime = codes "SERVICE_TIME"
+word words.Vehicles = codes "VEHICLES"
+word words.NodeCoordSection = codes "NODE_COORD_SECTION"
+word words.EdgeWeightSection = codes "EDGE_WEIGHT_SECTION"
+word words.DemandSection = codes "DEMAND_SECTION"
+word words.DepotSection = codes "DEPOT_SECTION"
+word words.DisplayDataSection = codes "DISPLAY_DATA_SECTION"
+word words.EdgeDataSection = codes "EDGE_DATA_SECTION"
+word words.FixedEdgesSection = codes "FIXED_EDGES_SECTION"
+word words.TourSection = codes "TOUR_SECTION"
+word words.Eof = codes "EOF"
+word words.Cost = codes "Cost"
+
 -- a place for each word
 abbrev pub code : Keyword → ℕ
 code words.Name = 0

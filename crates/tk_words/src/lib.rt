@@ -10,11 +10,11 @@ mod words;
 
 pub use fault::{TextFault, TextKind};
 pub use held::{Held, blank, blank_or_end, letter, spelled, token_length, word_byte};
-pub use keyword::{Keyword, Role};
+pub use keyword::{Keyword, Role, each_word_spells_its_keyword};
 pub use numbers::decimals::decimal;
 pub use numbers::entries::{Entry, begins_minus_one, entry_of, keyword_in, limited, minus_one};
 pub use numbers::integers::integer;
-pub use sources::reading::{feed_piece, read_text};
+pub use sources::reading::{BUFFER_SIZE, feed_piece, read_text};
 pub use sources::source::{Failed, FromRead, Source};
 pub use sources::text_reader::{Run, Step, TextReader};
 pub use words::{keyword_of, role};

@@ -3,6 +3,7 @@ pub mod MatrixText
 pub mod Pens
 pub mod Puts
 pub mod ReadBack
+pub mod Sinks
 pub mod SolutionWritten
 pub mod TourWritten
 pub mod Writes

@@ -1,11 +1,14 @@
 //! Bytes of a source, one after the other, to what reads a text.
-ghost use Rattle.std.specs.Prelude.{◌≡◌, ℕ, ◌+◌, ◌<◌, ◌≤◌, ◌^◌, true, List, [], ◌++◌, length, Ok, IfOk, IfErr};
+ghost use Rattle.std.specs.Prelude.{◌≡◌, ℕ, ◌+◌, ◌<◌, ◌≤◌, ◌^◌, List, [], ◌++◌, length, Ok, IfOk, IfErr};
 ghost use Rattle.tk_words.specs.Drive.{IsTold};
-ghost use Rattle.tk_words.specs.Texts.{answer_of, FedAll, Answers, IsAnswerWhereTold, IsIntact};
+ghost use Rattle.tk_words.specs.Texts.{FedAll, Answers, IsAnswerWhereTold, IsFaultWhereTold, IsOfSomeText, IsFaultOfSomeText, IsIntact};
 
 use crate::fault::{TextFault, TextKind};
 use crate::sources::source::Source;
 use crate::sources::text_reader::{Run, Step, TextReader};
+
+/// The most bytes that a source is asked for at once.
+pub const BUFFER_SIZE: usize = 8192;
 
 /// Takes the bytes of a piece, as far as they are needed. `count` bytes stand before it.
 ///
@@ -51,8 +54,8 @@ pub fn feed_piece<P: TextReader>(
     Ok(Step::More)
 }
 
-/// Reads a text from a source, piece by piece. A value is what some text says, also where the source does not tell its
-/// bytes.
+/// Reads a text from a source, a buffer at a time, as long as what was read wants more. A value is what some text says,
+/// and so is a fault of the text, also where the source does not tell its bytes.
 ///
 /// # Errors
 /// The fault that the reader finds; `TooLong` if the text is longer than the limit, and `Read` if the source fails.
@@ -65,20 +68,22 @@ pub fn read_text<R: Source, P: TextReader>(
     requires room { limit < 2 ^ 63 }
     ensures ok { IfOk result (λ v.
         IsAnswerWhereTold P.decided limit (R.left source.old) (R.left source.new) (Ok (P.view v))) }
-    ensures some_text { IfOk result (λ v. (text : List ℕ) × (answer_of P.decided limit text ≡ Ok (P.view v))) }
-    ensures err { IfErr result (IsTold (R.broken source.new ≡ true)
-        (IsAnswerWhereTold P.decided limit (R.left source.old) (R.left source.new))) }
+    ensures err { IfErr result
+        (IsFaultWhereTold P.decided limit (R.broken source.new) (R.left source.old) (R.left source.new)) }
+    ensures some_text { IfOk result (λ v. IsOfSomeText P.decided limit (Ok (P.view v))) }
+    ensures some_fault { IfErr result (IsFaultOfSomeText P.decided limit) }
     ensures intact { IsIntact (R.broken source.old) (R.broken source.new) result }
 {
     let mut reader = reader;
-    let mut buf = [0; 8192];
+    let mut buf = [0; BUFFER_SIZE];
     let mut count = 0;
     loop {
+        let line = reader.line();
         let n = match source.read(&mut buf) {
             Ok(n) => n,
             Err(_) => {
                 return Err(TextFault {
-                    line: reader.line(),
+                    line,
                     kind: TextKind::Read,
                 });
             }

@@ -1,5 +1,5 @@
 //! What takes the bytes of a text.
-ghost use Rattle.std.specs.Prelude.{◌≡◌, ℕ, ◌+◌, ◌<◌, ◌^◌, Bool, List, [], ◌∷◌, ◌++◌, length, Option, Result, Ok, IfOk, IfErr};
+ghost use Rattle.std.specs.Prelude.{◌≡◌, ℕ, ◌+◌, ◌<◌, ◌^◌, Bool, false, List, [], ◌∷◌, ◌++◌, length, Option, None, Result, Ok, IfOk, IfErr};
 ghost use Rattle.tk_words.specs.declared.fault.TextFault.{TextFault};
 ghost use Rattle.tk_words.specs.Drive.{Decides, DecidesEnded, IsTold, FedMore, HasRun, IsToldWithin, line_behind};
 
@@ -44,9 +44,10 @@ pub trait TextReader: Drop {
     /// Holds where it has all that a value is made of.
     ghost complete: { Self → Type 0 };
 
-    /// The line of the next byte.
+    /// The line of the next byte, for which it waits.
     fn line(&self) -> u64
-        ensures { (bs : List ℕ) → fed self.now bs → result ≡ line_behind bs };
+        ensures line { (bs : List ℕ) → fed self.now bs → result ≡ line_behind bs }
+        ensures undecided { (bs : List ℕ) → fed self.now bs → decided false bs ≡ None };
 
     /// Takes a byte.
     fn feed(&mut self, byte: u8) -> Result<Step, TextFault>

@@ -6,12 +6,14 @@ ghost use Rattle.tk_writers.specs.Puts.{IsPut, Stops};
 use crate::output::page::Page;
 use crate::output::sink::Sink;
 use itoa::Buffer;
+use thiserror::Error;
 
 /// No page goes out after this many bytes: 2^63.
 const LONGEST: u64 = 1 << 63;
 
 /// A write failed, and exactly the first bytes of the text went out.
-#[derive(Clone, Copy, Debug, PartialEq, Eq)]
+#[derive(Clone, Copy, Debug, PartialEq, Eq, Error)]
+#[error("a write failed after {written} bytes")]
 pub struct WriteFault {
     /// How many bytes these are.
     pub written: u64,

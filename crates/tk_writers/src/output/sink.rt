@@ -30,14 +30,16 @@ pub trait Sink {
 #[derive(Drop)]
 pub struct ToWrite<W> {
     pub inner: W,
-    pub failed: bool,
+    failed: bool,
 }
 
 impl<W: Write> ToWrite<W> {
+    ghost use Rattle.tk_writers.specs.Sinks.{has_failed};
+
     /// A sink that has not failed.
     pub fn new(inner: W) -> Self
         ensures inner { result.inner ≡ inner }
-        ensures fresh { result.failed ≡ false }
+        ensures fresh { has_failed result ≡ false }
     {
         ToWrite {
             inner,
@@ -47,9 +49,11 @@ impl<W: Write> ToWrite<W> {
 }
 
 impl<W: Write> Sink for ToWrite<W> {
+    ghost use Rattle.tk_writers.specs.Sinks.{has_failed};
+
     ghost taken = { λ s. W.contents s.inner };
 
-    ghost broken = { λ s. s.failed };
+    ghost broken = { has_failed };
 
     fn write(&mut self, piece: &[u8]) -> Result<usize, Failed> {
         match self.inner.write(piece) {

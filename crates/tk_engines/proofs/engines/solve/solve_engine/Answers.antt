@@ -23,7 +23,7 @@ returns-in_err-check_initial-clause-ends g c =
     let Watched : List Progress → Type 0 = WereShown g.V.Watch.shows c.args.watch.now c.args.watch.now in
     let none : unfit_key p problem ≡ None = search rules in
     let read : AreRead (solve_task p Watched) Problem Second problem initial = record {
-      is_problem = record { answer = c.in-Ok.ensures.ok; intact = c.in-Ok.ensures.intact };
+      is_problem = record { answer = c.in-Ok.ensures.ok; some_text = c.in-Ok.ensures.some_text; intact = c.in-Ok.ensures.intact };
       fits = ap (option_map NotForType) none;
       is_second = c.in_ok-tour.ensures.ok;
     } in
@@ -41,7 +41,7 @@ returns-in-Some-of-clause-ends g c =
     let Watched : List Progress → Type 0 = WereShown g.V.Watch.shows c.args.watch.now c.args.watch.now in
     let none : unfit_key p problem ≡ None = search rules in
     let read : AreRead (solve_task p Watched) Problem Second problem initial = record {
-      is_problem = record { answer = c.in-Ok.ensures.ok; intact = c.in-Ok.ensures.intact };
+      is_problem = record { answer = c.in-Ok.ensures.ok; some_text = c.in-Ok.ensures.some_text; intact = c.in-Ok.ensures.intact };
       fits = ap (option_map NotForType) none;
       is_second = c.in_ok-tour.ensures.ok;
     } in
@@ -60,7 +60,7 @@ returns-clause-ends g c =
     let Watched : List Progress → Type 0 = WereShown g.V.Watch.shows c.args.watch.now c.solve_tsp.new.watch in
     let none : unfit_key p problem ≡ None = search rules in
     let read : AreRead (solve_task p Watched) Problem Second problem initial = record {
-      is_problem = record { answer = c.in-Ok.ensures.ok; intact = c.in-Ok.ensures.intact };
+      is_problem = record { answer = c.in-Ok.ensures.ok; some_text = c.in-Ok.ensures.some_text; intact = c.in-Ok.ensures.intact };
       fits = ap (option_map NotForType) none;
       is_second = c.in_ok-tour.ensures.ok;
     } in

@@ -19,7 +19,7 @@ returns-then-index-end-clause-err g c = λ bs fed len.
     let now = c.loop-index.invariant.fed bs fed len in
     let told = c.in_ok-feed.ensures.more (bs ++ take c.loop-index.index c.args.piece.now) now in
     let none = rw c.in-More.is at told in
-    rw (c.line-line.ensures (bs ++ take c.loop-index.index c.args.piece.now) now)
+    rw (c.line-line.ensures.line (bs ++ take c.loop-index.index c.args.piece.now) now)
     (too_long_at g.P.TextReader.decided c.args.limit bs c.args.piece.now c.loop-index.index (omega (arith, c.loop-index-test.true)) (omega (arith, len, c.loop-index.invariant.within, c.min-end.ensures, c.requires.within)) (omega (arith, len, c.if-index-end.true, c.min-end.ensures, c.loop-index-test.true, c.requires.within)) none.1)
 
 pub returns-in_err-feed_run-clause-err : goal.returns-in_err-feed_run-clause-err
