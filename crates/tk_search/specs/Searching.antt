@@ -6,8 +6,8 @@
 use Rattle.std.specs.Prelude.{◌≡◌, ℕ, ◌+◌, ◌<◌, ◌≤◌, List, [], length, pos, true, false}
 use Rattle.rand_core.specs.Stream.{Stream}
 use Rattle.tk_near.specs.Near.{NearLists, near_of}
-use Rattle.tk_tour.specs.ArrayTours.{order_of}
-use Rattle.tk_tour.specs.JournalTours.{slots_of}
+use Rattle.tk_tour.specs.ArrayTours.{order_of, flips_of}
+use Rattle.tk_tour.specs.JournalTours.{tour_of, slots_of}
 use Rattle.tk_tour.specs.Tour.{tour_length}
 use Rattle.tk_descent.specs.Awake.{one_to}
 use Rattle.tk_tour.specs.Counters.{saturated}
@@ -20,17 +20,25 @@ use Rattle.tk_search.specs.declared.trials.state.State.{State}
 use Rattle.tk_search.specs.declared.trials.totals.Totals.{Totals}
 use Rattle.tk_search.specs.declared.trials.totals.TrialReport.{TrialReport}
 
--- the distances, the near lists and the rules of a search, the best tour so far and what was counted
+-- The distances, the near lists and the rules of a search, the best tour so far, and what was counted. The flips are in
+-- none of the totals: the tour counts them.
 pub record Searching : Type 0 where
   pub distance : ℕ → ℕ → ℕ
   pub near : NearLists
   pub rules : SearchRules
   pub best : List ℕ
+  pub flips : ℕ
   pub totals : Totals
 
 abbrev pub searching : (ℕ → ℕ → ℕ) → NearLists → SearchRules → State → Searching
-searching distance near rules state =
-    record { distance = distance; near = near; rules = rules; best = order_of state.best; totals = state.totals }
+searching distance near rules state = record {
+  distance = distance;
+  near = near;
+  rules = rules;
+  best = order_of state.best;
+  flips = flips_of (tour_of state.tour);
+  totals = state.totals;
+}
 
 -- what a search was given stays as it was
 pub record SameGiven (old new : Searching) : Type 0 where
@@ -52,7 +60,7 @@ pub record IsBegun (search : Searching) (distance : ℕ → ℕ → ℕ) (near :
   pub length_is : search.totals.start ≡ pos (tour_length distance start)
   pub none : (search.totals.better ≡ 0) × (search.totals.moves ≡ 0) × (search.totals.gained ≡ 0)
       × (search.totals.tests ≡ 0) × (search.totals.swaps ≡ 0) × (search.totals.undo_swaps ≡ 0)
-      × (search.totals.copied ≡ 0) × (search.totals.passes ≡ 0)
+      × (search.totals.copied ≡ 0) × (search.totals.passes ≡ 0) × (search.flips ≡ 0)
 
 -- the first trial: a descent from the best tour, which is the start, with all cities awake
 pub record IsFirstTrial (old new : Searching) (report : TrialReport) : Type 0 where
@@ -61,11 +69,13 @@ pub record IsFirstTrial (old new : Searching) (report : TrialReport) : Type 0 wh
       (one_to (length old.best)) old.best new.best report
   pub kicked : report.kicked ≡ false
   pub adds : AddsTrial old.totals new.totals report (gain_of report)
+  pub flips : new.flips ≡ saturated (old.flips + trial.flips)
   pub swaps : new.totals.swaps ≡ old.totals.swaps + report.descent.swaps
-  pub settles : SettlesTrial (length old.best) 0 report.descent.swaps old.totals new.totals report
+  pub settles : SettlesTrial (length old.best) trial.flips trial.swaps old.totals new.totals report
   pub bounded : IsBoundedTrial (length old.best) old.near.width (length old.best) old.rules report
 
--- a later trial: a descent from a kick of the best tour, which wakes at most 8 cities where it does not wake all
+-- A later trial: a descent from a kick of the best tour by four flips. Where the kick does not wake all cities, it wakes
+-- at most 8.
 pub record IsKickedTrial (old : Searching) (words : Stream) (new : Searching) (rest : Stream)
     (report : TrialReport) : Type 0 where
   pub given : SameGiven old new
@@ -75,10 +85,11 @@ pub record IsKickedTrial (old : Searching) (words : Stream) (new : Searching) (r
   pub trial : IsTrial old.distance (near_of old.near) old.rules tour awake old.best new.best report
   pub kicked : report.kicked ≡ true
   pub adds : AddsTrial old.totals new.totals report (gain_of report)
+  pub flips : new.flips ≡ saturated (old.flips + (4 + trial.flips))
   pub swaps : new.totals.swaps
       ≡ saturated (old.totals.swaps + kick_swaps (length old.best) kick.cuts) + report.descent.swaps
-  pub settles : SettlesTrial (length old.best) 4 (kick_swaps (length old.best) kick.cuts + report.descent.swaps)
-      old.totals new.totals report
+  pub settles : SettlesTrial (length old.best) (4 + trial.flips)
+      (kick_swaps (length old.best) kick.cuts + trial.swaps) old.totals new.totals report
   pub bounded : IsBoundedTrial (length old.best) old.near.width 8 old.rules report
 
 -- no trial: both lengths are the best tour's, and nothing was counted

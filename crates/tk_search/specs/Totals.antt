@@ -1,10 +1,11 @@
 -- The totals of a search.
 --     AddsTrial old new report gain      the totals after one more trial
---     SettlesTrial n kick swaps old new report      what it undoes or copies
+--     SettlesTrial n flips swaps old new report      what it undoes or copies
 --     AreCountsOf totals tour best      swaps and copies, as the tours count them
 --     IsBounded n width rules shortest totals      the bounds on the work of a search
 use Rattle.std.specs.Prelude.{◌≡◌, ℕ, ◌+◌, ◌-◌, ◌*◌, ◌/◌, ◌^◌, ◌<◌, ◌≤◌, pos, ◌≤ℤ◌, min, true, false, if◌then◌else◌}
 use Rattle.tk_tour.specs.ArrayTours.{swaps_of, undo_swaps_of, copied_of}
+use Rattle.tk_tour.specs.Counters.{saturated}
 use Rattle.tk_tour.specs.JournalTours.{tour_of}
 use Rattle.tk_tour.specs.declared.stores.array.ArrayTour.{ArrayTour}
 use Rattle.tk_tour.specs.declared.stores.journal.JournalTour.{JournalTour}
@@ -31,12 +32,11 @@ pub record RisesBy (more old new : ℕ) : Type 0 where
   pub most : new ≤ old + more
   pub exact : new < 2 ^ 64 - 1 → new ≡ old + more
 
--- What a trial on n cities undoes or copies after its flips: `kick` of them, and at most three for each move, with so
--- many swaps in all. A better result is copied to the best. Else the flips are undone by as many swaps again, or where
--- they are more than n the best is copied back, and nothing else is undone or copied.
-pub record SettlesTrial (n kick swaps : ℕ) (old new : Totals) (report : TrialReport) : Type 0 where
-  pub flips : ℕ
-  pub made : (kick ≤ flips) × (flips ≤ kick + 3 * report.descent.moves)
+-- What a trial on n cities undoes or copies after its flips: so many, with so many swaps, which are counted. A better
+-- result is copied to the best. Else the flips are undone by as many swaps again, or where they are more than n, the
+-- best is copied back, and nothing else is undone or copied.
+pub record SettlesTrial (n flips swaps : ℕ) (old new : Totals) (report : TrialReport) : Type 0 where
+  pub counted : new.swaps ≡ saturated (old.swaps + swaps)
   pub taken : report.better ≡ true → (new.undo_swaps ≡ old.undo_swaps) × RisesBy n old.copied new.copied
   pub undone : report.better ≡ false → flips ≤ n →
       (new.swaps < 2 ^ 64 - 1 → new.undo_swaps ≡ old.undo_swaps + swaps) × (new.copied ≡ old.copied)

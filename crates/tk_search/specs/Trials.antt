@@ -3,6 +3,7 @@ use Rattle.std.specs.Prelude.{◌≡◌, ℕ, ◌+◌, ◌*◌, ◌/◌, ◌<◌
 use Rattle.std.specs.Int.RustNames.{unsigned_abs}
 use Rattle.rand_core.specs.Stream.{Stream}
 use Rattle.tk_distance.specs.Cities.{city_at}
+use Rattle.tk_tour.specs.Reversal.{AreReversed}
 use Rattle.tk_tour.specs.Tour.{SameCycle, tour_length}
 use Rattle.tk_descent.specs.Awake.{one_to, woken_each}
 use Rattle.tk_search.specs.Cuts.{AreCuts, bridged, drawn_cuts, end_places}
@@ -15,13 +16,17 @@ use Rattle.tk_search.specs.declared.trials.totals.TrialReport.{TrialReport}
 abbrev pub gain_of : TrialReport → ℕ
 gain_of report = unsigned_abs (report.descent.before -ℤ report.descent.after)
 
--- A descent from a tour, with some cities awake. Its result becomes the best tour where it is strictly shorter than
--- that; else the best stays, element for element.
+-- A descent from a tour, with some cities awake, by at most three flips for each move. Its result becomes the best tour
+-- where it is strictly shorter than that; else the best stays, element for element.
 pub record IsTrial (dist : ℕ → ℕ → ℕ) (near : ℕ → List ℕ) (rules : SearchRules) (from awake best new : List ℕ)
     (report : TrialReport) : Type 0 where
   pub found : List ℕ
   pub descends : Descends dist near rules from awake found report.passes report.descent.looks report.descent.moves
       report.descent.tests
+  pub flips : ℕ
+  pub swaps : ℕ
+  pub few : flips ≤ 3 * report.descent.moves
+  pub reversed : AreReversed from found flips swaps
   pub before : report.descent.before ≡ pos (tour_length dist from)
   pub after : report.descent.after ≡ pos (tour_length dist found)
   pub better : IsTrue report.better ↔ (tour_length dist found < tour_length dist best)

@@ -76,8 +76,10 @@ fn prints_towards_the_smaller_neighbour(rt: HostRuntime) -> Result<(), Fail> {
 
 #[test]
 fn refuses_lists(rt: HostRuntime) {
-    let rows: [(&[u32], TourFault); 4] = [
+    let rows: [(&[u32], TourFault); 6] = [
+        (&[], TourFault::WrongCount),
         (&[1], TourFault::WrongCount),
+        (&[3], TourFault::WrongCount),
         (&[1, 3], TourFault::OutOfRange(2)),
         (&[0, 0], TourFault::OutOfRange(1)),
         (&[2, 1, 2], TourFault::RepeatedCity(3)),

@@ -46,16 +46,17 @@ within_next {old = old} {new = new} {report = report} (first untried h same) w =
     let n : ℕ = length old.best in
     let was : ℕ = tour_length old.distance old.best in
     let now : ℕ = tour_length old.distance new.best in
-    let b = bounded_more n old.near.width was now 0 report.descent.swaps old.rules old.totals new.totals report h.adds w.bounds h.settles (omega arith) (omega (arith, h.swaps)) h.bounded (shorter_best _ _ _ _ _ _ _ _ h.trial) (same_best _ _ _ _ _ _ _ _ h.trial)
-    (λ o. tests_first n old.near.width was now 0 report.descent.swaps old.rules old.totals new.totals report h.adds w.bounds (w.untried untried) (h.bounded.tests o)) in
+    let b = bounded_more n old.near.width was now h.trial.flips h.trial.swaps old.rules old.totals new.totals report h.adds w.bounds h.settles (omega (arith, h.trial.few)) (omega (arith, h.swaps)) h.bounded (shorter_best _ _ _ _ _ _ _ _ h.trial) (same_best _ _ _ _ _ _ _ _ h.trial)
+    (λ o. tests_first n old.near.width was now h.trial.flips h.trial.swaps old.rules old.totals new.totals report h.adds w.bounds (w.untried untried) (h.bounded.tests o)) in
     record { bounds = bounded_given old new h.given (cities_next (first untried h same)).count b; untried = λ e. absurd (omega (arith, e, h.adds.trials)) }
 within_next {old = old} {new = new} {report = report} (kicked tried many h) w =
     let n : ℕ = length old.best in
     let was : ℕ = tour_length old.distance old.best in
     let now : ℕ = tour_length old.distance new.best in
-    let swaps : ℕ = kick_swaps n h.kick.cuts + report.descent.swaps in
-    let b = bounded_more n old.near.width was now 4 swaps old.rules old.totals new.totals report h.adds w.bounds h.settles (omega arith) (omega (arith, h.swaps, kick_few n h.kick.cuts)) h.bounded (shorter_best _ _ _ _ _ _ _ _ h.trial) (same_best _ _ _ _ _ _ _ _ h.trial)
-    (λ o. tests_kicked n old.near.width was now 4 swaps old.rules old.totals new.totals report h.adds w.bounds tried (w.bounds.tests o) (h.bounded.tests o)) in
+    let flips : ℕ = 4 + h.trial.flips in
+    let swaps : ℕ = kick_swaps n h.kick.cuts + h.trial.swaps in
+    let b = bounded_more n old.near.width was now flips swaps old.rules old.totals new.totals report h.adds w.bounds h.settles (omega (arith, h.trial.few)) (omega (arith, h.swaps, kick_few n h.kick.cuts)) h.bounded (shorter_best _ _ _ _ _ _ _ _ h.trial) (same_best _ _ _ _ _ _ _ _ h.trial)
+    (λ o. tests_kicked n old.near.width was now flips swaps old.rules old.totals new.totals report h.adds w.bounds tried (w.bounds.tests o) (h.bounded.tests o)) in
     record { bounds = bounded_given old new h.given (cities_next (kicked tried many h)).count b; untried = λ e. absurd (omega (arith, e, h.adds.trials)) }
 within_next (none tried few h stays same) w = subst IsWithin (sym stays) w
 

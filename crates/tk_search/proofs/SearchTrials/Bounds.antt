@@ -34,7 +34,7 @@ more c A B C X x h k le =
     let last : c * capped (A + B) ≤ c * C = mul-le-mul_left c le in
     omega arith
 
-module _ (n width shortest shorter kick swaps : ℕ) (rules : SearchRules) (old new : Totals) (report : TrialReport)
+module _ (n width shortest shorter flips swaps : ℕ) (rules : SearchRules) (old new : Totals) (report : TrialReport)
     (adds : AddsTrial old new report (gain_of report)) (bound : IsBounded n width rules shortest old) where
   pub tests_first : old.tests ≡ 0 → report.descent.tests ≤ 4 * rules.or_segment * width * (n + 6 * report.descent.moves) →
       new.tests ≤ 4 * rules.or_segment * width * (n + 8 * (new.trials - 1) + 6 * new.moves)
@@ -70,7 +70,7 @@ module _ (n width shortest shorter kick swaps : ℕ) (rules : SearchRules) (old 
       let s : report.descent.swaps ≤ q * report.descent.moves = h in
       omega arith
 
-  pub copied_more : SettlesTrial n kick swaps old new report → kick ≤ 4 → new.copied ≤ n * new.better + 3 * (new.moves + new.trials)
+  pub copied_more : SettlesTrial n flips swaps old new report → flips ≤ 4 + 3 * report.descent.moves → new.copied ≤ n * new.better + 3 * (new.moves + new.trials)
   copied_more k few = by report.better refl
     where
       small : new.copied < 2 ^ 65
@@ -82,9 +82,9 @@ module _ (n width shortest shorter kick swaps : ℕ) (rules : SearchRules) (old 
       back : report.better ≡ false → new.copied ≤ old.copied + (3 + 3 * report.descent.moves)
       back e =
           ⊎_elim
-          (λ (lost : n < k.flips). omega (arith, (k.restored e lost).1.most, k.made.1, few))
-          (λ (room : k.flips ≤ n). omega (arith, (k.undone e room).1))
-          (cases_lt n k.flips)
+          (λ (lost : n < flips). omega (arith, (k.restored e lost).1.most, few))
+          (λ (room : flips ≤ n). omega (arith, (k.undone e room).1))
+          (cases_lt n flips)
 
       by : (b : Bool) → report.better ≡ b → new.copied ≤ n * new.better + 3 * (new.moves + new.trials)
       by true e =
@@ -118,7 +118,7 @@ module _ (n width shortest shorter kick swaps : ℕ) (rules : SearchRules) (old 
           omega (arith, ints, bound.better, adds.start)
 
   -- all bounds after one more trial
-  pub bounded_more : {awake : ℕ} → SettlesTrial n kick swaps old new report → kick ≤ 4 → new.swaps ≤ old.swaps + n + report.descent.swaps → IsBoundedTrial n width awake rules report →
+  pub bounded_more : {awake : ℕ} → SettlesTrial n flips swaps old new report → flips ≤ 4 + 3 * report.descent.moves → new.swaps ≤ old.swaps + n + report.descent.swaps → IsBoundedTrial n width awake rules report →
       (report.better ≡ true → shorter < shortest) → (report.better ≡ false → shorter ≡ shortest) →
       (rules.sweep ≡ false → new.tests ≤ 4 * rules.or_segment * width * (n + 8 * (new.trials - 1) + 6 * new.moves)) → IsBounded n width rules shorter new
   bounded_more k few more b less same tests = record {

@@ -21,13 +21,14 @@ use Rattle.tk_search.specs.declared.trials.state.State.{State}
 use Rattle.tk_search.specs.declared.trials.totals.TrialReport.{TrialReport}
 use Rattle.tk_search.proofs.SearchTrials.Bounds.{tests_first, tests_kicked, bounded_more}
 
--- the same trial in other words
-pub trial_at : (dist : ℕ → ℕ → ℕ) (near : ℕ → List ℕ) (rules : SearchRules) (from from' awake awake' best new : List ℕ) (report : TrialReport) → from ≡ from' → awake ≡ awake' →
-    IsTrial dist near rules from awake best new report → IsTrial dist near rules from' awake' best new report
-trial_at dist near rules from from' awake awake' best new report ef ea h =
-    let P : List ℕ → Type 0 = λ v. IsTrial dist near rules v awake best new report in
-    let Q : List ℕ → Type 0 = λ v. IsTrial dist near rules from' v best new report in
-    subst Q ea (subst P ef h)
+-- the same trial in other words, with the same flips
+pub trial_at : (dist : ℕ → ℕ → ℕ) (near : ℕ → List ℕ) (rules : SearchRules) (from from' awake awake' best best' new : List ℕ) (report : TrialReport) → from ≡ from' → awake ≡ awake' → best ≡ best' →
+    (h : IsTrial dist near rules from awake best new report) → (t : IsTrial dist near rules from' awake' best' new report) × (t.flips ≡ h.flips) × (t.swaps ≡ h.swaps)
+trial_at dist near rules from from' awake awake' best best' new report ef ea eb h =
+    let P : List ℕ → Type 0 = λ v. (t : IsTrial dist near rules v awake best new report) × (t.flips ≡ h.flips) × (t.swaps ≡ h.swaps) in
+    let Q : List ℕ → Type 0 = λ v. (t : IsTrial dist near rules from' v best new report) × (t.flips ≡ h.flips) × (t.swaps ≡ h.swaps) in
+    let R : List ℕ → Type 0 = λ v. (t : IsTrial dist near rules from' awake' v new report) × (t.flips ≡ h.flips) × (t.swaps ≡ h.swaps) in
+    subst R eb (subst Q ea (subst P ef (h, refl, refl)))
 
 -- the same kick in other words, at the same cuts
 pub kick_at : (best best' asleep asleep' tour awake : List ℕ) (words rest : Stream) (sweep : Bool) → best ≡ best' → asleep ≡ asleep' → (k : IsKick best words sweep asleep tour rest awake) →
@@ -75,7 +76,7 @@ more_awake n width awake more rules report le h =
     }
 
 -- what a trial leaves, by the state before it
-pub record Leaves (near : NearLists) (dist : ℕ → ℕ → ℕ) (rules : SearchRules) (s t : State) (awake kick swaps : ℕ) (report : TrialReport) : Type 0 where
+pub record Leaves (near : NearLists) (dist : ℕ → ℕ → ℕ) (rules : SearchRules) (s t : State) (awake flips swaps : ℕ) (report : TrialReport) : Type 0 where
   pub size : length (order_of t.best) ≡ length (order_of s.best)
   pub slots : slots_of t.tour ≡ slots_of s.tour
   pub asleep : t.waking.queue ≡ []
@@ -86,17 +87,17 @@ pub record Leaves (near : NearLists) (dist : ℕ → ℕ → ℕ) (rules : Searc
   pub adds : AddsTrial s.totals t.totals report (gain_of report)
   pub bounded : IsBoundedTrial (length (order_of s.best)) near.width awake rules report
   pub swapped : t.totals.swaps ≤ s.totals.swaps + length (order_of s.best) + report.descent.swaps
-  pub settles : SettlesTrial (length (order_of s.best)) kick swaps s.totals t.totals report
-  pub few : kick ≤ 4
+  pub settles : SettlesTrial (length (order_of s.best)) flips swaps s.totals t.totals report
+  pub few : flips ≤ 4 + 3 * report.descent.moves
   pub less : report.better ≡ true → tour_length dist (order_of t.best) < tour_length dist (order_of s.best)
   pub same : report.better ≡ false → tour_length dist (order_of t.best) ≡ tour_length dist (order_of s.best)
 
-module _ (size : ℕ) (dist : ℕ → ℕ → ℕ) (near : NearLists) (rules : SearchRules) (s t : State) (awake kick swaps : ℕ) (report : TrialReport)
-    (h : IsSearching size dist near rules s) (k : Leaves near dist rules s t awake kick swaps report) where
+module _ (size : ℕ) (dist : ℕ → ℕ → ℕ) (near : NearLists) (rules : SearchRules) (s t : State) (awake flips swaps : ℕ) (report : TrialReport)
+    (h : IsSearching size dist near rules s) (k : Leaves near dist rules s t awake flips swaps report) where
   bounded : (rules.sweep ≡ false → t.totals.tests ≤ 4 * rules.or_segment * near.width * (length (order_of s.best) + 8 * (t.totals.trials - 1) + 6 * t.totals.moves)) →
       IsBounded (length (order_of s.best)) near.width rules (tour_length dist (order_of t.best)) t.totals
   bounded tests =
-      bounded_more (length (order_of s.best)) near.width (tour_length dist (order_of s.best)) (tour_length dist (order_of t.best)) kick swaps rules s.totals t.totals report k.adds h.bounds
+      bounded_more (length (order_of s.best)) near.width (tour_length dist (order_of s.best)) (tour_length dist (order_of t.best)) flips swaps rules s.totals t.totals report k.adds h.bounds
       k.settles k.few k.swapped k.bounded k.less k.same tests
 
   searches : (rules.sweep ≡ false → t.totals.tests ≤ 4 * rules.or_segment * near.width * (length (order_of s.best) + 8 * (t.totals.trials - 1) + 6 * t.totals.moves)) →
@@ -120,9 +121,9 @@ module _ (size : ℕ) (dist : ℕ → ℕ → ℕ) (near : NearLists) (rules : S
   pub searches_first : s.totals.trials ≡ 0 → awake ≡ length (order_of s.best) → IsSearching size dist near rules t
   searches_first none all =
       let P : ℕ → Type 0 = λ v. report.descent.tests ≤ 4 * rules.or_segment * near.width * (v + 6 * report.descent.moves) in
-      searches (λ o. tests_first (length (order_of s.best)) near.width (tour_length dist (order_of s.best)) 0 kick swaps rules s.totals t.totals report k.adds h.bounds (h.untried none) (subst P all (k.bounded.tests o)))
+      searches (λ o. tests_first (length (order_of s.best)) near.width (tour_length dist (order_of s.best)) 0 flips swaps rules s.totals t.totals report k.adds h.bounds (h.untried none) (subst P all (k.bounded.tests o)))
 
   pub searches_kicked : 1 ≤ s.totals.trials → awake ≡ 8 → IsSearching size dist near rules t
   searches_kicked begun ends =
       let P : ℕ → Type 0 = λ v. report.descent.tests ≤ 4 * rules.or_segment * near.width * (v + 6 * report.descent.moves) in
-      searches (λ o. tests_kicked (length (order_of s.best)) near.width (tour_length dist (order_of s.best)) 0 kick swaps rules s.totals t.totals report k.adds h.bounds begun (h.bounds.tests o) (subst P ends (k.bounded.tests o)))
+      searches (λ o. tests_kicked (length (order_of s.best)) near.width (tour_length dist (order_of s.best)) 0 flips swaps rules s.totals t.totals report k.adds h.bounds begun (h.bounds.tests o) (subst P ends (k.bounded.tests o)))

@@ -1,7 +1,7 @@
 //! The end of a trial: its result is taken as the best tour, or the best tour stands again.
 ghost use Rattle.std.specs.Prelude.{◌≡◌, ◌≤◌, ◌<◌, ◌+◌, true, false, length};
 ghost use Rattle.tk_tour.specs.Counters.{saturated};
-ghost use Rattle.tk_tour.specs.ArrayTours.{order_of, swaps_of, undo_swaps_of, copied_of};
+ghost use Rattle.tk_tour.specs.ArrayTours.{order_of, swaps_of, undo_swaps_of, flips_of, copied_of};
 ghost use Rattle.tk_tour.specs.JournalTours.{tour_of, slots_of, flips_since, settled_order, swaps_to_rewind};
 ghost use Rattle.tk_search.specs.Settled.{IsAtBest};
 
@@ -16,6 +16,7 @@ pub(crate) fn keep_better(tour: &mut JournalTour, best: &mut ArrayTour, better: 
     ensures kept { better ≡ false → order_of best.new ≡ order_of best.old }
     ensures at_best { IsAtBest tour.new best.new }
     ensures swaps { swaps_of (tour_of tour.new) ≡ swaps_of (tour_of tour.old) }
+    ensures flips { flips_of (tour_of tour.new) ≡ flips_of (tour_of tour.old) }
     ensures slots { slots_of tour.new ≡ slots_of tour.old }
     ensures taken { better ≡ true → (undo_swaps_of (tour_of tour.new) ≡ undo_swaps_of (tour_of tour.old))
         × (copied_of best.new ≡ saturated (copied_of best.old + length (order_of best.old)))

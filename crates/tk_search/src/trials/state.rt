@@ -66,12 +66,13 @@ impl State {
         requires slots { slots_of self.old.tour ≡ length (order_of self.old.best) }
         requires settled { flips_since self.old.tour ≤ slots_of self.old.tour
             → settled_order self.old.tour ≡ order_of self.old.best }
+        requires flips { flips_since self.old.tour ≤ 4 }
         requires most { (1 ≤ rules.or_segment) × (rules.or_segment ≤ 3) }
         requires before { before ≡ pos (tour_length (M.distance metric.now) (order_of (tour_of self.old.tour))) }
         requires shortest { self.old.shortest ≡ pos (tour_length (M.distance metric.now) (order_of self.old.best)) }
-        ensures trial { IsTrial (M.distance metric.now) (near_of near.now) rules
+        ensures trial { (trial : IsTrial (M.distance metric.now) (near_of near.now) rules
             (order_of (tour_of self.old.tour)) self.old.waking.queue (order_of self.old.best)
-            (order_of self.new.best) result }
+            (order_of self.new.best) result) × EndsTrial trial.flips trial.swaps self.old self.new result }
         ensures kicked { result.kicked ≡ kicked }
         ensures at_best { IsAtBest self.new.tour self.new.best }
         ensures size { (length (order_of self.new.best) ≡ length (order_of self.old.best))
@@ -86,7 +87,6 @@ impl State {
         ensures bounded { IsBoundedTrial (length (order_of self.old.best)) near.now.width
             (length self.old.waking.queue) rules result }
         ensures swapped { swaps_of (tour_of self.new.tour) ≡ swaps_of (tour_of self.old.tour) + result.descent.swaps }
-        ensures ends { EndsTrial self.old self.new result }
     {
         let SweptReport { descent, passes } = descend_by(
             &mut self.tour,

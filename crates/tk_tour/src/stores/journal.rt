@@ -1,5 +1,5 @@
 //! A tour that can go back to where it was settled.
-ghost use Rattle.std.specs.Prelude.{◌≡◌, ◌≤◌, ◌<◌, ◌+◌, ◌↔◌, [], IfOk, ◌++◌, ◌∷◌, IsTrue, true, false, length, vec_len};
+ghost use Rattle.std.specs.Prelude.{◌≡◌, ◌≤◌, ◌<◌, ◌+◌, ◌^◌, ◌↔◌, [], IfOk, ◌++◌, ◌∷◌, IsTrue, true, false, length, vec_len};
 ghost use Rattle.std.specs.Vec.{vec_capacity};
 ghost use Rattle.tk_tour.specs.Counters.{saturated};
 ghost use Rattle.tk_tour.specs.Journal.{AreFlipsOf, swaps_to_undo};
@@ -36,6 +36,7 @@ pub struct JournalTour {
     ghost complete: { flips ≤ slots → vec_len journal ≡ flips },
     ghost in_range: { AreFlipsOf (length tour.order.items) journal.items },
     ghost undoes_its_own: { saturated (tour.undo_swaps + swaps_to_undo journal.items) ≤ tour.swaps },
+    ghost fits: { flips < 2 ^ 64 },
 }
 
 impl TourStore for JournalTour {
@@ -89,7 +90,7 @@ impl TourStore for JournalTour {
 }
 
 impl JournalTour {
-    ghost use Rattle.tk_tour.specs.ArrayTours.{order_of, swaps_of, undo_swaps_of, copied_of};
+    ghost use Rattle.tk_tour.specs.ArrayTours.{order_of, swaps_of, undo_swaps_of, flips_of, copied_of};
     ghost use Rattle.tk_tour.specs.JournalTours.{tour_of, slots_of, flips_since, IsLost, settled_order, swaps_to_rewind};
 
     /// A journal with room for `slots` flips; every count begins at 0, and the order is settled.
@@ -103,7 +104,7 @@ impl JournalTour {
         ensures slots { IfOk result (λ t. slots_of t ≡ slots) }
         ensures flips { IfOk result (λ t. flips_since t ≡ 0) }
         ensures counts { IfOk result (λ t. (swaps_of (tour_of t) ≡ 0) × (undo_swaps_of (tour_of t) ≡ 0)
-            × (copied_of (tour_of t) ≡ 0)) }
+            × (flips_of (tour_of t) ≡ 0) × (copied_of (tour_of t) ≡ 0)) }
     {
         let mut tour = tour;
         tour.reset_counts();
@@ -154,6 +155,7 @@ impl JournalTour {
             ≡ saturated (undo_swaps_of (tour_of self.old) + swaps_to_rewind self.old) }
         ensures rewound { IsTrue result → swaps_to_rewind self.new ≡ 0 }
         ensures counts { (swaps_of (tour_of self.new) ≡ swaps_of (tour_of self.old))
+            × (flips_of (tour_of self.new) ≡ flips_of (tour_of self.old))
             × (copied_of (tour_of self.new) ≡ copied_of (tour_of self.old)) }
         ensures slots { slots_of self.new ≡ slots_of self.old }
         ensures unchanged { result ≡ false → self.new ≡ self.old }
@@ -178,6 +180,7 @@ impl JournalTour {
         ensures copied { copied_of (tour_of self.new)
             ≡ saturated (copied_of (tour_of self.old) + length (order_of other.now)) }
         ensures others { (swaps_of (tour_of self.new) ≡ swaps_of (tour_of self.old))
+            × (flips_of (tour_of self.new) ≡ flips_of (tour_of self.old))
             × (undo_swaps_of (tour_of self.new) ≡ undo_swaps_of (tour_of self.old)) }
         ensures slots { slots_of self.new ≡ slots_of self.old }
     {

@@ -1,15 +1,14 @@
 use Rattle.std.proofs.Common.{◌≡◌, ℕ, ◌+◌, ◌<◌, List, length, refl, sym, ap, ◌∙◌, subst, arith}
 use Rattle.tk_tour.specs.ArrayTours.{order_of, swaps_of, copied_of}
 use Rattle.tk_search.specs.Searching.{first, kicked}
-use Rattle.tk_tour.specs.JournalTours.{tour_of}
+use Rattle.tk_tour.specs.JournalTours.{tour_of, swaps_to_rewind}
 use Rattle.tk_tour.specs.Tour.{tour_length}
 use Rattle.tk_tour.specs.declared.stores.array.ArrayTour.{ArrayTour}
 use Rattle.tk_descent.specs.Awake.{one_to}
 use Rattle.tk_descent.proofs.WakeRuns.Passes.{all_awake}
 use Rattle.tk_descent.proofs.WakeRuns.Woken.{one_to-length}
-use Rattle.tk_search.specs.Totals.{AddsTrial, SettlesTrial}
-use Rattle.tk_search.specs.declared.double_bridges.cuts.Cuts.{Cuts}
-use Rattle.tk_search.specs.Trials.{gain_of, IsTrial, IsBoundedTrial}
+use Rattle.tk_search.specs.Totals.{AddsTrial}
+use Rattle.tk_search.specs.Trials.{gain_of, IsBoundedTrial}
 use Rattle.tk_near.specs.Near.{near_of}
 use Rattle.rand_core.specs.Stream.{Stream}
 use Rattle.tk_search.specs.declared.trials.totals.Totals.{Totals}
@@ -28,26 +27,31 @@ pub returns-then-self-eq0-clause-next : goal.returns-then-self-eq0-clause-next
 returns-then-self-eq0-clause-next g c =
     let h = c.args.self.now.holds in
     let front : c.wake_all.new.self.queue ≡ one_to (length (order_of c.args.self.now.state.best)) = all_awake _ _ _ _ c.wake_all.ensures.queue h.asleep h.queue in
+    let s = c.args.self.now.state in
     let d = c.descend.ensures in
+    let best : List ℕ = order_of s.best in
+    let t = trial_at _ _ _ (order_of (tour_of s.tour)) best c.wake_all.new.self.queue (one_to (length best)) best best (order_of c.descend.new.self.best) c.descend.result h.at_best.order front refl d.trial.0 in
     first (omega arith)
     (record {
       given = record { distance = refl; near = refl; rules = refl };
-      trial = trial_at _ _ _ _ _ _ _ _ _ _ h.at_best.order front d.trial;
+      trial = t.0;
       kicked = d.kicked;
       adds = d.adds;
+      flips = omega (arith, d.trial.1.flips_are, t.1);
       swaps = omega (arith, d.counts.swaps, d.swapped, h.counts.swaps);
-      settles = settles _ 0 _ 0 _ _ _ _ d.ends d.counts refl h.slots h.at_best.flips (omega (arith, h.counts.swaps, c.args.self.now.state.tour.tour.fits.0)) h.at_best.swaps h.counts.undo_swaps h.counts.copied (λ few. omega (arith, d.counts.swaps, d.swapped, h.counts.swaps)) d.small;
+      settles = settles (length best) t.0.flips t.0.swaps 0 d.trial.0.flips d.trial.0.swaps s.totals _ _ _ d.trial.1 d.counts refl h.slots (omega (arith, t.1, h.at_best.flips)) (omega (arith, t.2)) (omega (arith, h.counts.swaps, s.tour.tour.fits.0)) (omega (arith, h.counts.swaps, h.at_best.swaps, s.tour.tour.fits.0)) h.counts.undo_swaps h.counts.copied d.small;
       bounded = more_awake _ _ _ _ _ _ (λ o. let e : length c.wake_all.new.self.queue ≡ length (order_of c.args.self.now.state.best) = ap length front ∙ one_to-length _ in omega arith) d.bounded;
     })
     refl
 
 pub invariant_of-self : goal.invariant_of-self
 invariant_of-self g c =
+    let s = c.args.self.now.state in
     let h = c.args.self.now.holds in
     let d = c.descend.ensures in
     let front : c.wake_all.new.self.queue ≡ one_to (length (order_of c.args.self.now.state.best)) = all_awake _ _ _ _ c.wake_all.ensures.queue h.asleep h.queue in
     record {
-      holds = searches_first _ _ _ _ c.args.self.now.state c.descend.new.self _ 0 c.descend.result.descent.swaps c.descend.result h
+      holds = searches_first _ _ _ _ s c.descend.new.self _ d.trial.0.flips d.trial.0.swaps c.descend.result h
           (record {
             size = d.size.0;
             slots = d.size.1;
@@ -59,10 +63,10 @@ invariant_of-self g c =
             adds = d.adds;
             bounded = more_awake _ _ _ _ _ _ (λ o. let e : length c.wake_all.new.self.queue ≡ length (order_of c.args.self.now.state.best) = ap length front ∙ one_to-length _ in omega arith) d.bounded;
             swapped = omega (arith, d.counts.swaps, d.swapped, h.counts.swaps);
-            settles = settles _ 0 _ 0 _ _ _ _ d.ends d.counts refl h.slots h.at_best.flips (omega (arith, h.counts.swaps, c.args.self.now.state.tour.tour.fits.0)) h.at_best.swaps h.counts.undo_swaps h.counts.copied (λ few. omega (arith, d.counts.swaps, d.swapped, h.counts.swaps)) d.small;
-            few = omega arith;
-            less = shorter_best _ _ _ _ _ _ _ _ d.trial;
-            same = same_best _ _ _ _ _ _ _ _ d.trial;
+            settles = settles (length (order_of s.best)) d.trial.0.flips d.trial.0.swaps 0 d.trial.0.flips d.trial.0.swaps s.totals _ _ _ d.trial.1 d.counts refl h.slots (omega (arith, h.at_best.flips)) (omega arith) (omega (arith, h.counts.swaps, s.tour.tour.fits.0)) (omega (arith, h.counts.swaps, h.at_best.swaps, s.tour.tour.fits.0)) h.counts.undo_swaps h.counts.copied d.small;
+            few = omega (arith, d.trial.0.few);
+            less = shorter_best _ _ _ _ _ _ _ _ d.trial.0;
+            same = same_best _ _ _ _ _ _ _ _ d.trial.0;
           })
           (omega arith) refl;
     }
@@ -80,11 +84,13 @@ invariant_of-self-2 g c =
     let Bounded : ArrayTour → Type 0 = λ v. IsBoundedTrial (length (order_of v)) c.args.self.now.near.now.width (length c.kick-before.new.self.waking.queue) c.args.self.now.rules r in
     let n : ℕ = length (order_of s.best) in
     let size : length (order_of (tour_of s.tour)) ≡ n = ap length h.at_best.order in
-    let kicks : c.descend-2.new.self.totals.swaps ≡ saturated (s.totals.swaps + kick_swaps n k.kicked.0.cuts) + r.descent.swaps = d.counts.swaps ∙ d.swapped ∙ ap (λ v. v + r.descent.swaps) (k.kicked.1 ∙ ap (λ v. saturated (swaps_of (tour_of s.tour) + kick_swaps v k.kicked.0.cuts)) size ∙ ap (λ v. saturated (v + kick_swaps n k.kicked.0.cuts)) (sym h.counts.swaps)) in
-    let more = k.kept.swaps (omega (arith, k.flips, h.at_best.flips, k.kept.slots, h.slots, ap length h.at_best.order)) in
+    let turns : swaps_of (tour_of c.kick-before.new.self.tour) ≡ saturated (s.totals.swaps + kick_swaps n k.kicked.0.cuts) = k.kicked.1 ∙ ap (λ v. saturated (swaps_of (tour_of s.tour) + kick_swaps v k.kicked.0.cuts)) size ∙ ap (λ v. saturated (v + kick_swaps n k.kicked.0.cuts)) (sym h.counts.swaps) in
+    let kicks : c.descend-2.new.self.totals.swaps ≡ saturated (s.totals.swaps + kick_swaps n k.kicked.0.cuts) + r.descent.swaps = d.counts.swaps ∙ d.swapped ∙ ap (λ v. v + r.descent.swaps) turns in
+    let back = k.kept.swaps (omega (arith, k.flips, h.at_best.flips, k.kept.slots, h.slots, ap length h.at_best.order)) in
+    let undone : swaps_of (tour_of c.kick-before.new.self.tour) ≡ saturated (s.totals.swaps + swaps_to_rewind c.kick-before.new.self.tour) = omega (arith, k.kept.flipped.swaps_are, h.counts.swaps, back, h.at_best.swaps) in
     let Less : ArrayTour → Type 0 = λ v. tour_length dist best < tour_length dist (order_of v) in
     record {
-      holds = searches_kicked _ _ _ _ s c.descend-2.new.self _ 4 _ r h
+      holds = searches_kicked _ _ _ _ s c.descend-2.new.self _ (4 + d.trial.0.flips) (kick_swaps n k.kicked.0.cuts + d.trial.0.swaps) r h
           (record {
             size = d.size.0 ∙ ap (λ v. length (order_of v)) k.others.0;
             slots = d.size.1 ∙ k.kept.slots;
@@ -96,10 +102,10 @@ invariant_of-self-2 g c =
             adds = subst Adds k.others.2 d.adds;
             bounded = more_awake _ _ _ _ _ _ (λ o. few_ends s.waking.queue c.kick-before.new.self.waking.queue (order_of (tour_of s.tour)) (length (order_of (tour_of s.tour))) k.kicked.0.cuts h.asleep (k.kicked.0.ends o)) (subst Bounded k.others.0 d.bounded);
             swapped = omega (arith, kicks, kick_few n k.kicked.0.cuts);
-            settles = settles n 4 (kick_swaps n k.kicked.0.cuts + r.descent.swaps) more.0 s.totals c.kick-before.new.self c.descend-2.new.self r d.ends d.counts (ap (λ v. length (order_of v)) k.others.0) (k.kept.slots ∙ h.slots) (omega (arith, k.flips, h.at_best.flips)) (omega (arith, more.2, h.counts.swaps)) (omega (arith, more.1, h.at_best.swaps)) (h.counts.undo_swaps ∙ sym k.kept.undo_swaps) (omega (arith, h.counts.copied, k.kept.copied, ap copied_of k.others.0)) (λ few. omega (arith, kicks, few)) d.small;
-            few = omega arith;
-            less = λ e. subst Less k.others.0 (shorter_best _ _ _ _ _ _ _ _ d.trial e);
-            same = λ e. same_best _ _ _ _ _ _ _ _ d.trial e ∙ ap (λ v. tour_length dist (order_of v)) k.others.0;
+            settles = settles n (4 + d.trial.0.flips) (kick_swaps n k.kicked.0.cuts + d.trial.0.swaps) (kick_swaps n k.kicked.0.cuts) d.trial.0.flips d.trial.0.swaps s.totals c.kick-before.new.self c.descend-2.new.self r d.trial.1 d.counts (ap (λ v. length (order_of v)) k.others.0) (k.kept.slots ∙ h.slots) (omega (arith, k.flips, h.at_best.flips)) refl turns undone (h.counts.undo_swaps ∙ sym k.kept.flipped.undo_swaps) (omega (arith, h.counts.copied, k.kept.flipped.copied, ap copied_of k.others.0)) d.small;
+            few = omega (arith, d.trial.0.few);
+            less = λ e. subst Less k.others.0 (shorter_best _ _ _ _ _ _ _ _ d.trial.0 e);
+            same = λ e. same_best _ _ _ _ _ _ _ _ d.trial.0 e ∙ ap (λ v. tour_length dist (order_of v)) k.others.0;
           })
           (omega arith) refl;
     }
@@ -117,27 +123,30 @@ returns-clause-next g c =
     let words : Stream = g.R.Rng.stream c.args.rng.now in
     let rest : Stream = g.R.Rng.stream c.kick-before.new.rng in
     let kick = kick_at _ _ _ _ tour awake words rest c.args.self.now.rules.sweep h.at_best.order h.asleep k.kicked.0 in
-    let Best : ArrayTour → Type 0 = λ v. IsTrial dist (near_of c.args.self.now.near.now) c.args.self.now.rules tour awake (order_of v) (order_of c.descend-2.new.self.best) r in
-    let t = subst Best k.others.0 d.trial in
+    let t = trial_at dist (near_of c.args.self.now.near.now) c.args.self.now.rules tour tour awake awake (order_of c.kick-before.new.self.best) (order_of s.best) (order_of c.descend-2.new.self.best) r refl refl (ap order_of k.others.0) d.trial.0 in
     let Adds : Totals → Type 0 = λ v. AddsTrial v c.descend-2.new.self.totals r (gain_of r) in
     let a = subst Adds k.others.2 d.adds in
     let Bounded : ArrayTour → Type 0 = λ v. IsBoundedTrial (length (order_of v)) c.args.self.now.near.now.width (length c.kick-before.new.self.waking.queue) c.args.self.now.rules r in
     let n : ℕ = length (order_of s.best) in
     let size : length (order_of (tour_of s.tour)) ≡ n = ap length h.at_best.order in
-    let kicks : c.descend-2.new.self.totals.swaps ≡ saturated (s.totals.swaps + kick_swaps n k.kicked.0.cuts) + r.descent.swaps = d.counts.swaps ∙ d.swapped ∙ ap (λ v. v + r.descent.swaps) (k.kicked.1 ∙ ap (λ v. saturated (swaps_of (tour_of s.tour) + kick_swaps v k.kicked.0.cuts)) size ∙ ap (λ v. saturated (v + kick_swaps n k.kicked.0.cuts)) (sym h.counts.swaps)) in
-    let more = k.kept.swaps (omega (arith, k.flips, h.at_best.flips, k.kept.slots, h.slots, ap length h.at_best.order)) in
+    let turns : swaps_of (tour_of c.kick-before.new.self.tour) ≡ saturated (s.totals.swaps + kick_swaps n k.kicked.0.cuts) = k.kicked.1 ∙ ap (λ v. saturated (swaps_of (tour_of s.tour) + kick_swaps v k.kicked.0.cuts)) size ∙ ap (λ v. saturated (v + kick_swaps n k.kicked.0.cuts)) (sym h.counts.swaps) in
+    let kicks : c.descend-2.new.self.totals.swaps ≡ saturated (s.totals.swaps + kick_swaps n k.kicked.0.cuts) + r.descent.swaps = d.counts.swaps ∙ d.swapped ∙ ap (λ v. v + r.descent.swaps) turns in
+    let back = k.kept.swaps (omega (arith, k.flips, h.at_best.flips, k.kept.slots, h.slots, ap length h.at_best.order)) in
+    let undone : swaps_of (tour_of c.kick-before.new.self.tour) ≡ saturated (s.totals.swaps + swaps_to_rewind c.kick-before.new.self.tour) = omega (arith, k.kept.flipped.swaps_are, h.counts.swaps, back, h.at_best.swaps) in
+    let four : k.kept.flipped.flips ≡ 4 = omega (arith, k.kept.flips, k.flips, h.at_best.flips) in
     kicked (omega arith) (omega (arith, ap length h.at_best.order))
     (record {
       given = record { distance = refl; near = refl; rules = refl };
       tour = tour;
       awake = awake;
       kick = kick.0;
-      trial = t;
+      trial = t.0;
       kicked = d.kicked;
       adds = a;
+      flips = omega (arith, d.trial.1.flips_are, k.kept.flipped.flips_are, four, t.1);
       swaps = kicks ∙ ap (λ v. saturated (s.totals.swaps + kick_swaps n v) + r.descent.swaps) (sym kick.1);
       settles =
-          let S : Cuts → Type 0 = λ v. SettlesTrial n 4 (kick_swaps n v + r.descent.swaps) s.totals c.descend-2.new.self.totals r in
-          subst S (sym kick.1) (settles n 4 (kick_swaps n k.kicked.0.cuts + r.descent.swaps) more.0 s.totals c.kick-before.new.self c.descend-2.new.self r d.ends d.counts (ap (λ v. length (order_of v)) k.others.0) (k.kept.slots ∙ h.slots) (omega (arith, k.flips, h.at_best.flips)) (omega (arith, more.2, h.counts.swaps)) (omega (arith, more.1, h.at_best.swaps)) (h.counts.undo_swaps ∙ sym k.kept.undo_swaps) (omega (arith, h.counts.copied, k.kept.copied, ap copied_of k.others.0)) (λ few. omega (arith, kicks, few)) d.small);
+          settles n (4 + t.0.flips) (kick_swaps n kick.0.cuts + t.0.swaps) (kick_swaps n k.kicked.0.cuts) d.trial.0.flips d.trial.0.swaps s.totals c.kick-before.new.self c.descend-2.new.self r d.trial.1 d.counts (ap (λ v. length (order_of v)) k.others.0) (k.kept.slots ∙ h.slots) (omega (arith, t.1, k.flips, h.at_best.flips))
+          (ap (λ v. kick_swaps n v + t.0.swaps) kick.1 ∙ ap (λ v. kick_swaps n k.kicked.0.cuts + v) t.2) turns undone (h.counts.undo_swaps ∙ sym k.kept.flipped.undo_swaps) (omega (arith, h.counts.copied, k.kept.flipped.copied, ap copied_of k.others.0)) d.small;
       bounded = more_awake _ _ _ _ _ _ (λ o. few_ends s.waking.queue c.kick-before.new.self.waking.queue (order_of (tour_of s.tour)) (length (order_of (tour_of s.tour))) k.kicked.0.cuts h.asleep (k.kicked.0.ends o)) (subst Bounded k.others.0 d.bounded);
     })

@@ -1,6 +1,8 @@
-use Rattle.std.proofs.Common.{rules, ◌≤◌, ◌+◌, ◌*◌, ◌/◌, ℕ, arith, ap, ◌∙◌, sym, subst}
+use Rattle.std.proofs.Common.{rules, ◌≡◌, ◌≤◌, ◌+◌, ◌*◌, ◌/◌, ℕ, length, arith, ap, ◌∙◌, sym, subst}
 use Rattle.std.proofs.lemmas.Int.{to_z-of_z}
 use Rattle.std.specs.Prelude.{pos}
+use Rattle.tk_problem.specs.declared.limits.TheConstants.{CITY_LIMIT}
+use Rattle.tk_descent.proofs.WakeRuns.DescentSteps.{fits_length}
 use Rattle.tk_tour.specs.Tour.{tour_length}
 use Rattle.tk_tour.specs.ArrayTours.{order_of}
 use Rattle.tk_tour.specs.JournalTours.{tour_of, slots_of, flips_since, KeepsSettled}
@@ -13,18 +15,43 @@ use mir.Val.{SFits}
 pub returns-clause-trial : goal.returns-clause-trial
 returns-clause-trial g c =
     let e = c.descend_by-passes.ensures in
+    let k = c.keep_better.ensures in
+    let m = c.args.metric.now in
+    let old = c.args.self.now.tour in
+    let tour = c.descend_by-passes.new.store in
+    let kept : KeepsSettled old tour = e.flips_only in
+    let few : length (order_of (tour_of old)) ≤ CITY_LIMIT = omega (arith, c.requires.size, c.requires.fits.0, g.met.M.Metric.size_limit m) in
+    let bound = fits_length (g.M.Metric.distance m) (order_of (tour_of old)) (g.met.M.Metric.symmetric m, g.met.M.Metric.diagonal m, g.met.M.Metric.distance_limit m) few in
+    let exact : flips_since tour ≡ flips_since old + kept.flipped.flips = omega (arith, kept.flips, e.flips, e.moves, bound, c.requires.flips) in
     let fa : SFits w64 c.descend_by-passes.result.descent.after = search rules in
     let fb : SFits w64 c.args.self.now.shortest = search rules in
-    let fp : SFits w64 c.args.before = search rules in
-    record {
-      found = order_of (tour_of c.descend_by-passes.new.store);
-      descends = e.descends;
-      before = e.lengths.0 ∙ to_z-of_z w64 c.args.before fp ∙ c.requires.before;
-      after = e.lengths.1;
-      better = less_of _ _ _ _ fa fb e.lengths.1 c.requires.shortest;
-      replaced = c.keep_better.ensures.replaced;
-      kept = c.keep_better.ensures.kept;
-    }
+    let fp : SFits w64 c.args.before = search rules in (
+      record {
+        found = order_of (tour_of tour);
+        descends = e.descends;
+        flips = kept.flipped.flips;
+        swaps = kept.flipped.swaps;
+        few = omega (arith, exact, e.flips);
+        reversed = kept.flipped.reversed;
+        before = e.lengths.0 ∙ to_z-of_z w64 c.args.before fp ∙ c.requires.before;
+        after = e.lengths.1;
+        better = less_of _ _ _ _ fa fb e.lengths.1 c.requires.shortest;
+        replaced = k.replaced;
+        kept = k.kept;
+      },
+      record {
+        flips_are = k.flips ∙ kept.flipped.flips_are;
+        swaps_are = k.swaps ∙ kept.flipped.swaps_are;
+        taken = λ h. let u = k.taken h in (u.0 ∙ kept.flipped.undo_swaps, record { most = omega (arith, u.1, u.2, kept.flipped.copied); exact = λ low. omega (arith, u.1, u.2, kept.flipped.copied, low) });
+        undone = λ h room.
+            let fits : flips_since tour ≤ slots_of tour = omega (arith, room, exact, kept.slots) in
+            let u = k.rewound h fits in
+            (omega (arith, u.0, kept.flipped.undo_swaps, kept.swaps fits), omega (arith, u.1, u.2, kept.flipped.copied));
+        restored = λ h many.
+            let u = k.restored h (omega (arith, many, exact, kept.slots)) in
+            (u.0 ∙ kept.flipped.undo_swaps, record { most = omega (arith, u.1, u.2, kept.flipped.copied); exact = λ low. omega (arith, u.1, u.2, kept.flipped.copied, low) });
+      },
+    )
 
 pub returns-clause-size : goal.returns-clause-size
 returns-clause-size g c =
@@ -49,25 +76,6 @@ returns-clause-adds g c =
 
 pub returns-clause-swapped : goal.returns-clause-swapped
 returns-clause-swapped g c = c.keep_better.ensures.swaps ∙ c.descend_by-passes.ensures.swapped
-
-pub returns-clause-ends : goal.returns-clause-ends
-returns-clause-ends g c =
-    let tour = c.descend_by-passes.new.store in
-    let kept : KeepsSettled c.args.self.now.tour tour = c.descend_by-passes.ensures.flips_only in
-    let k = c.keep_better.ensures in
-    record {
-      flips = flips_since tour;
-      made = (kept.flips, c.descend_by-passes.ensures.flips);
-      taken = λ h. let t = k.taken h in (t.0 ∙ kept.undo_swaps, record { most = omega (arith, t.1, t.2, kept.copied); exact = λ few. omega (arith, t.1, t.2, kept.copied, few) });
-      undone = λ h room.
-          let fits : flips_since tour ≤ slots_of tour = omega (arith, room, kept.slots) in
-          let r = k.rewound h fits in
-          let more = kept.swaps fits in
-          (more.0, k.swaps ∙ more.2, omega (arith, r.0, kept.undo_swaps, more.1), omega (arith, r.1, r.2, kept.copied));
-      restored = λ h many.
-          let r = k.restored h (omega (arith, many, kept.slots)) in
-          (r.0 ∙ kept.undo_swaps, record { most = omega (arith, r.1, r.2, kept.copied); exact = λ few. omega (arith, r.1, r.2, kept.copied, few) });
-    }
 
 pub returns-clause-bounded : goal.returns-clause-bounded
 returns-clause-bounded g c =

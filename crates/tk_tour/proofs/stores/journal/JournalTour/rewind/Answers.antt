@@ -16,6 +16,7 @@ loop-flip-preserved c =
       slots = h.invariant.slots;
       not_lost = omega (arith, h.invariant.not_lost);
       swaps = c.undo.ensures.others.0 ∙ h.invariant.swaps;
+      flips = c.undo.ensures.others.1 ∙ h.invariant.flips;
       copied = c.undo.ensures.others.2 ∙ h.invariant.copied;
       undo_swaps = omega (arith, less, c.undo.ensures.undo_swaps, h.invariant.undo_swaps);
     }

@@ -9,6 +9,7 @@ invariant-loop-flip l = record {
   slots : l.self.slots ≡ l.initial.self.slots;
   not_lost : l.self.flips ≤ l.self.slots;
   swaps : l.self.tour.swaps ≡ l.initial.self.tour.swaps;
+  flips : l.self.tour.flips ≡ l.initial.self.tour.flips;
   copied : l.self.tour.copied ≡ l.initial.self.tour.copied;
   undo_swaps : saturated (l.self.tour.undo_swaps + swaps_to_undo l.self.journal.items) ≡ saturated (l.initial.self.tour.undo_swaps + swaps_to_undo l.initial.self.journal.items);
 }

@@ -1,5 +1,6 @@
-use Rattle.std.proofs.Common.{◌≡◌, ◌<◌, ◌/◌, ap, ◌∙◌, refl, arith, length, sym, subst, ℕ}
+use Rattle.std.proofs.Common.{◌≡◌, ◌<◌, ◌-◌, ◌/◌, ap, ◌∙◌, refl, arith, length, sym, subst, ℕ}
 use Rattle.tk_tour.specs.Journal.{undone, AreFlipsOf}
+use Rattle.tk_tour.specs.ReversalLaws.{AreReversed-one}
 use Rattle.tk_tour.proofs.StoredTours.Undoing.{undone_flip, swaps_to_undo-push, swaps_to_undo-remembered, AreFlipsOf-remembered}
 use Rattle.tk_tour.proofs.stores.journal.JournalTourTourStore.flip.Goals as goal
 
@@ -11,16 +12,24 @@ returns-clause-kept c =
     let r = c.remember in
     record {
       slots = refl;
+      flipped =
+          record {
+            flips = 1;
+            swaps = f.result.count / 2;
+            reversed = AreReversed-one s.tour.order.items new (f.result.first - 1) f.result.count f.ensures.places (omega (arith, f.ensures.first)) f.ensures.shorter;
+            flips_are = f.ensures.flips;
+            swaps_are = f.ensures.swaps;
+            undo_swaps = f.ensures.kept.undo_swaps;
+            copied = f.ensures.kept.copied;
+          };
       flips = omega arith;
-      undo_swaps = f.ensures.kept.undo_swaps;
-      copied = f.ensures.kept.copied;
       settled = λ le.
           let room : s.flips < s.slots = omega arith in
           ap (λ v. undone v new) (r.ensures.recorded room) ∙
           undone_flip s.journal.items f.result s.tour.order.items new f.ensures.places (omega (arith, f.ensures.first)) (omega (arith, f.ensures.shorter));
       swaps = λ le.
           let room : s.flips < s.slots = omega arith in
-          (f.result.count / 2, swaps_to_undo-push s.journal.items r.new.journal.items f.result (r.ensures.recorded room), f.ensures.swaps);
+          swaps_to_undo-push s.journal.items r.new.journal.items f.result (r.ensures.recorded room);
     }
 
 pub invariant_of-self : goal.invariant_of-self
@@ -37,4 +46,5 @@ invariant_of-self c =
       in_range = subst P n (AreFlipsOf-remembered (length s.tour.order.items) s.flips s.slots s.journal.items r.new.journal.items f.result s.in_range
           (f.ensures.first.0, f.ensures.first.1, omega (arith, f.ensures.shorter)) r.ensures.recorded r.ensures.full);
       undoes_its_own = omega (arith, s.undoes_its_own, f.ensures.kept.undo_swaps, f.ensures.swaps, swaps_to_undo-remembered s.flips s.slots s.journal.items r.new.journal.items f.result r.ensures.recorded r.ensures.full);
+      fits = omega arith;
     }
