@@ -1,6 +1,7 @@
 //! The input files of a command, one of which may be standard input.
 use crate::report;
-use std::fs::File;
+use crate::written::{FileId, id_of};
+use std::fs::{self, File};
 use std::io::{self, Read, Stdin};
 use std::os::fd::AsFd;
 use std::process::ExitCode;
@@ -11,6 +12,16 @@ use tk_command_line::STANDARD;
 pub enum Input {
     File(File),
     Standard(Stdin),
+}
+
+impl Input {
+    /// Which plain file it is, if it is one.
+    pub fn id(&self, rt: &HostRuntime) -> Option<FileId> {
+        match self {
+            Input::File(file) => id_of(file.metadata()),
+            Input::Standard(_) => id_of(fs::metadata(rt, "/dev/stdin")),
+        }
+    }
 }
 
 impl Read for Input {

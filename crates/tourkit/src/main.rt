@@ -8,6 +8,7 @@ mod output;
 mod progress;
 mod report;
 mod words;
+mod written;
 
 use std::process::ExitCode;
 

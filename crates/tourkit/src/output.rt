@@ -20,8 +20,52 @@ enum Unsaved {
     NoMemory,
 }
 
-/// Writes a text to a file. A plain file that is there is not touched until all new bytes are written beside it, or, where
-/// no other file can be made there, until there is room for them. A device or a pipe is written directly.
+/// Finds out, before a search, whether its text can be saved under a name. A file that is not there can be made where
+/// another one can be made beside it, which is taken away again. Of a link that leads nowhere nothing is found out.
+///
+/// # Errors
+/// The exit status, after a message.
+pub fn find_place(rt: &HostRuntime, name: &str) -> Result<(), ExitCode> {
+    let found = match fs::canonicalize(rt, name) {
+        Ok(path) => find_old(rt, path.as_str()),
+        Err(error) if error.kind() == ErrorKind::OutOfMemory => Err(Unsaved::NoMemory),
+        Err(_) => find_new(rt, name),
+    };
+    found.map_err(|unsaved| tell(rt, name, unsaved))
+}
+
+/// Whether a file that is there can be written. What is no plain file is not touched.
+fn find_old(rt: &HostRuntime, path: &str) -> Result<(), Unsaved> {
+    let found = match fs::metadata(rt, path) {
+        Ok(found) => found,
+        Err(error) => return Err(unopened(error.kind())),
+    };
+    if found.is_dir() {
+        return Err(Unsaved::Unopened);
+    }
+    if !found.is_file() {
+        return Ok(());
+    }
+    match File::options().write(true).open(rt, path) {
+        Ok(_) => Ok(()),
+        Err(error) => Err(unopened(error.kind())),
+    }
+}
+
+/// Whether a file that is not there can be made.
+fn find_new(rt: &HostRuntime, name: &str) -> Result<(), Unsaved> {
+    match fs::symlink_metadata(rt, name) {
+        Ok(_) => return Ok(()),
+        Err(error) if error.kind() == ErrorKind::NotFound => {}
+        Err(error) => return Err(unopened(error.kind())),
+    }
+    let (part, _) = make_part(rt, name)?;
+    let _ = fs::remove_file(rt, &part);
+    Ok(())
+}
+
+/// Writes a text to a file. A plain file that is there is not touched until all new bytes are written beside it, or,
+/// where no other file can be made there, until there is room for them. A device or a pipe is written directly.
 pub fn save(rt: &HostRuntime, name: &str, text: &[u8]) -> ExitCode {
     let saved = match fs::canonicalize(rt, name) {
         Ok(path) => save_old(rt, path.as_str(), text),
@@ -30,9 +74,16 @@ pub fn save(rt: &HostRuntime, name: &str, text: &[u8]) -> ExitCode {
     };
     match saved {
         Ok(()) => ExitCode::SUCCESS,
-        Err(Unsaved::Unwritten) => report::write_fault(rt),
-        Err(Unsaved::NoMemory) => report::no_memory(rt),
-        Err(Unsaved::NoOther | Unsaved::Unopened) => report::unopened(rt, name),
+        Err(unsaved) => tell(rt, name, unsaved),
+    }
+}
+
+/// Tells why a text was not saved, or cannot be.
+fn tell(rt: &HostRuntime, name: &str, unsaved: Unsaved) -> ExitCode {
+    match unsaved {
+        Unsaved::Unwritten => report::write_fault(rt),
+        Unsaved::NoMemory => report::no_memory(rt),
+        Unsaved::NoOther | Unsaved::Unopened => report::unopened(rt, name),
     }
 }
 
@@ -140,20 +191,17 @@ fn fill(mut file: File, text: &[u8], permissions: Option<Permissions>) -> io::Re
     file.sync_all()
 }
 
-/// Writes the text over the bytes of a plain file, once the file is as long as the text. Where there is no room for that,
-/// the file keeps its bytes.
+/// Writes the text over the bytes of a plain file, once the file is as long as the text. Where there is no room for
+/// that, the file keeps its bytes.
 fn write_over(mut file: File, length: u64, text: &[u8]) -> Result<(), Unsaved> {
     if lengthen(&mut file, length, text).is_err() {
         let _ = file.set_len(length);
         return Err(Unsaved::Unwritten);
     }
-    match overwrite(&mut file, text) {
-        Ok(()) => Ok(()),
-        Err(_) => Err(Unsaved::Unwritten),
-    }
+    overwrite(&mut file, text).map_err(|_| Unsaved::Unwritten)
 }
 
-/// Writes what the text has beyond a file's length behind its bytes, and waits until the disk has it.
+/// Writes what the text has beyond a file's length after its bytes, and waits until the disk has it.
 fn lengthen(file: &mut File, length: u64, text: &[u8]) -> io::Result<()> {
     let Some((_, more)) = text.split_at_checked(length as usize) else {
         return Ok(());
@@ -177,8 +225,5 @@ fn write_directly(rt: &HostRuntime, name: &str, text: &[u8]) -> Result<(), Unsav
         Ok(file) => file,
         Err(error) => return Err(unopened(error.kind())),
     };
-    match file.write_all(text) {
-        Ok(()) => Ok(()),
-        Err(_) => Err(Unsaved::Unwritten),
-    }
+    file.write_all(text).map_err(|_| Unsaved::Unwritten)
 }

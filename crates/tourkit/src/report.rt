@@ -37,6 +37,30 @@ pub fn unopened(rt: &HostRuntime, file: &str) -> ExitCode {
     ExitCode::from(SYSTEM)
 }
 
+/// Tells that a file to write is the problem's.
+pub fn same_as_problem(rt: &HostRuntime, file: &str, key: Key) -> ExitCode {
+    let _ = eprintln!(rt; "tourkit: {file}: {key} is the same file as PROBLEM_FILE");
+    ExitCode::from(USAGE)
+}
+
+/// Tells that a file to write is the parameter file.
+pub fn same_as_parameters(rt: &HostRuntime, file: &str, key: Key) -> ExitCode {
+    let _ = eprintln!(rt; "tourkit: {file}: {key} is the parameter file");
+    ExitCode::from(USAGE)
+}
+
+/// Notes that a file name begins with a colon.
+pub fn note_colon(rt: &HostRuntime, key: Key, name: &str) {
+    let _ = eprintln!(rt; "tourkit: note: the file of {key} is '{name}', with the colon");
+}
+
+/// Notes that a file name has what looks like a comment.
+pub fn note_comment(rt: &HostRuntime, key: Key, name: &str) {
+    let _ = eprintln!(rt;
+        "tourkit: note: the file of {key} is '{name}', with all that follows the #"
+    );
+}
+
 /// Tells the fault of an engine over the problem of a file.
 pub fn stopped(rt: &HostRuntime, file: &str, fault: &Fault) -> ExitCode {
     match fault {
