@@ -32,8 +32,9 @@ pub enum Asked<'a> {
         problem: &'a str,
         claim: Option<&'a str>,
     },
-    /// `solve PAR`
+    /// `solve PAR [--progress]`
     Solve {
         parameters: &'a str,
+        progress: bool,
     },
 }

@@ -1,15 +1,18 @@
 -- How a search ends, by how its parts end.
-use Rattle.std.proofs.Common.{◌≡◌, List, ℕ, Option, None, Result, Ok, Err, refl, subst, sym}
+use Rattle.std.proofs.Common.{◌≡◌, List, ℕ, Option, None, Result, Ok, Err, IfOk, refl, subst, sym}
 use Rattle.std.specs.Result.{IsErrAnd}
 use Rattle.tk_problem_text.specs.Problem.{ProblemIs}
 use Rattle.tk_params.specs.Asked.{ParamsAre}
-use Rattle.tk_solve.specs.declared.watch.Progress.{Progress}
+use Rattle.tk_solve.specs.Events.{Event}
+use Rattle.tk_solve.specs.SolvedTours.{IsSolved}
+use Rattle.tk_solve.specs.Starts.{TourTask}
+use Rattle.tk_solve.specs.declared.tour.SolvedTour.{SolvedTour}
 use Rattle.tk_engines.specs.Engine.{AreRead, Ends, Reading, Writing}
 use Rattle.tk_engines.specs.Solve.{Files, Gives, IsInitial, IsInitialRefused, solve_task}
 use Rattle.tk_engines.specs.declared.fault.Fault.{Fault}
 use Rattle.tk_engines.specs.declared.fault.Fault.TheVariants as faults
 
-module _ (p : ParamsAre) (Watched : List Progress → Type 0) (Problem : Reading ProblemIs) (Second : Reading (Option (List ℕ))) (Writes : Writing Files) (problem : ProblemIs) (initial : Option (List ℕ))
+module _ (p : ParamsAre) (Watched : List Event → Type 0) (Problem : Reading ProblemIs) (Second : Reading (Option (List ℕ))) (Writes : Writing Files) (problem : ProblemIs) (initial : Option (List ℕ))
     (read : AreRead (solve_task p Watched) Problem Second problem initial) where
   -- the tour to begin with was refused
   initial_stopped : (f : Fault) → IsInitialRefused problem initial f → Ends (solve_task p Watched) Problem Second Writes (Err f)
@@ -46,3 +49,21 @@ module _ (p : ParamsAre) (Watched : List Progress → Type 0) (Problem : Reading
   given_ends Answer Quiet together gives (Err (faults.NotForType key)) h = elim h [ ]
   given_ends Answer Quiet together gives (Err faults.TooLarge) h = elim h [ ]
   given_ends Answer Quiet together gives (Err faults.NoPlaces) h = elim h [ ]
+
+-- what was watched of a search, as a part of what was watched
+pub IfOk-watched : {E : Type 0} (r : Result SolvedTour E) (task : TourTask) (Watched All : List Event → Type 0) → ((shown : List Event) → Watched shown → All shown) →
+    IfOk r (IsSolved task Watched) → IfOk r (IsSolved task All)
+IfOk-watched (Ok s) task Watched All more h = record {
+  near = h.near;
+  candidates = h.candidates;
+  runs = h.runs;
+  are = h.are;
+  count = h.count;
+  reports = h.reports;
+  winner = h.winner;
+  first = h.first;
+  printed = h.printed;
+  length_is = h.length_is;
+  watched = more _ h.watched;
+}
+IfOk-watched (Err e) task Watched All more h = tt

@@ -4,7 +4,7 @@
 --     WritesFiles      `file` is written before `out`
 --     AreUntouched      both are as before
 --     HasFailed      a write to one of them failed
-use Rattle.std.specs.Prelude.{◌≡◌, ℕ, ◌⊎◌, Bool, true, false, List, [], length, Option, Some, None, MatchOption, Result, Ok, Err, is_none, is_some, option_map, unwrap_or, if◌then◌else◌}
+use Rattle.std.specs.Prelude.{◌≡◌, ℕ, ◌⊎◌, Bool, true, false, List, [], ◌∷◌, length, Option, Some, None, MatchOption, Result, Ok, Err, is_none, is_some, option_map, unwrap_or, if◌then◌else◌}
 use Rattle.std.specs.Int.RustNames.{unsigned_abs}
 use Rattle.tk_problem_text.specs.Problem.{ProblemIs}
 use Rattle.tk_writers.specs.Puts.{Writes}
@@ -26,7 +26,7 @@ use Rattle.tk_solve.specs.SolvedRoutes.{AreSolved}
 use Rattle.tk_solve.specs.SolvedTours.{IsSolved, IsSound}
 use Rattle.tk_solve.specs.Starts.{Begins, AtNearest, AtSavings, At, TourTask}
 use Rattle.tk_solve.specs.declared.tour.SolvedTour.{SolvedTour}
-use Rattle.tk_solve.specs.declared.watch.Progress.{Progress}
+use Rattle.tk_solve.specs.Events.{Event, Begun}
 use Rattle.tk_engines.specs.ReadProblems.{read_distance}
 use Rattle.tk_engines.specs.Engine.{IsUntouched, Reading, ReadsTour, Task, Writing}
 use Rattle.tk_engines.specs.ReadProblems.{instance_in}
@@ -105,11 +105,12 @@ tour_files p name solved = record {
       tour_lines p.ignored solved;
 }
 
--- for a TSP: the best tour of the runs, with its length, and a line for each run; and each trial was watched
-pub record IsTourWritten (p : ParamsAre) (Watched : List Progress → Type 0) (problem : ProblemIs)
+-- for a TSP: the best tour of the runs, with its length, and a line for each run; and the watcher was shown the name of
+-- the problem, and then the runs
+pub record IsTourWritten (p : ParamsAre) (Watched : List Event → Type 0) (problem : ProblemIs)
     (initial : Option (List ℕ)) (files : Files) : Type 0 where
   pub solved : SolvedTour
-  pub is : IsSolved (tour_task p problem initial) Watched solved
+  pub is : IsSolved (tour_task p problem initial) (λ shown. Watched (Begun problem.name ∷ shown)) solved
   pub sound : IsSound (tour_task p problem initial) solved
   pub written : files ≡ tour_files p problem.name solved
 
@@ -129,8 +130,8 @@ pub record AreRoutesOf (p : ParamsAre) (i : Instance) (files : Files) : Type 0 w
   pub are : AreSolved i p.max_candidates p.or_segment routes report
   pub written : files ≡ route_files p routes report
 
--- a watcher is shown each trial of a search for a tour, and nothing of a search for routes
-abbrev pub solve_task : ParamsAre → (List Progress → Type 0) → Task (Option (List ℕ)) (Unit {0}) Files
+-- a watcher is shown a search for a tour, and nothing of a search for routes
+abbrev pub solve_task : ParamsAre → (List Event → Type 0) → Task (Option (List ℕ)) (Unit {0}) Files
 solve_task p Watched =
     record {
       misfit = λ problem. option_map NotForType (unfit_key p problem);

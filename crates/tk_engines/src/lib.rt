@@ -16,9 +16,11 @@ pub use engines::plotted::Plotted;
 pub use engines::route_check::route_check_engine;
 pub use engines::solve::solve_engine;
 pub use fault::Fault;
+pub use lines::solve_lines::write_run_line;
 pub use tk_params::{
-    Construction, Key, ParamFault, ParamKind, Params, each_word_spells_its_key, read_params,
+    Construction, Key, ParamFault, ParamKind, Params, decided_params_stay,
+    each_params_text_has_an_answer, each_word_spells_its_key, read_params,
 };
 pub use tk_routes::RouteVerdict;
-pub use tk_solve::{Progress, Unwatched, Watch};
+pub use tk_solve::{Progress, RunReport, Unwatched, Watch};
 pub use tk_tour::{TourFault, Verdict};

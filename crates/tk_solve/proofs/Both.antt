@@ -1,10 +1,6 @@
 -- Two facts of one outcome.
-use Rattle.std.proofs.Common.{Result, Ok, Err, IfOk, OnOk}
+use Rattle.std.proofs.Common.{Result, Ok, Err, IfOk}
 
 pub IfOk-both : {T E : Type 0} (r : Result T E) (P Q : T → Type 0) → IfOk r P → IfOk r Q → IfOk r (λ v. P v × Q v)
 IfOk-both (Ok v) P Q p q = (p, q)
 IfOk-both (Err e) P Q p q = p
-
-pub OnOk-weaker : {T E : Type 0} (r : Result T E) (P Q : Type 0) → (P → Q) → OnOk r P → OnOk r Q
-OnOk-weaker (Ok v) P Q f p = f p
-OnOk-weaker (Err e) P Q f p = p

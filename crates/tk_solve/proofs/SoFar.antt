@@ -1,5 +1,5 @@
 -- What is kept of the runs so far, when one more comes.
-use Rattle.std.proofs.Common.{Result, Ok, Err, OnOk, ◌≡◌, ◌≢◌, ℕ, ℤ, pos, ◌<◌, ◌≤◌, ⊎_elim, List, [], ◌∷◌, ◌++◌, length, refl, sym, ap, ◌∙◌, subst, arith}
+use Rattle.std.proofs.Common.{◌≡◌, ◌≢◌, ℕ, ℤ, pos, ◌+◌, ◌<◌, ◌≤◌, ⊎_elim, List, [], ◌∷◌, ◌++◌, length, refl, sym, ap, ◌∙◌, subst, arith}
 use Rattle.std.specs.Prelude.{◌<ℤ◌, ◌≤ℤ◌}
 use Rattle.std.proofs.lemmas.Bool.{cases_lt}
 use Rattle.std.proofs.lemmas.Int.{ints}
@@ -11,7 +11,7 @@ use Rattle.tk_search.specs.Searching.{Searching}
 use Rattle.tk_search.proofs.SearchTrials.Cities.{tour_after}
 use Rattle.tk_solve.specs.declared.outcome.Outcome.{Outcome}
 use Rattle.tk_solve.specs.declared.outcome.RunReport.{RunReport}
-use Rattle.tk_solve.specs.declared.watch.Progress.{Progress}
+use Rattle.tk_solve.specs.Events.{Event, Ended}
 use Rattle.tk_solve.specs.Outcomes.{IsRunAdded, IsTaken}
 use Rattle.tk_solve.specs.Runs.{Run, IsRun, IsSearched, none, more, AreSoFar, best_tours, run_length, report_of}
 use Rattle.tk_solve.specs.Starts.{TourTask, IsStart}
@@ -77,32 +77,23 @@ so_far_more task near runs reports cities shortest so_far run is known cities' s
     }
 
 -- the best tour of a search from a tour is one
-pub ended_tour : (task : TourTask) (near : NearLists) (j : ℕ) (start : List ℕ) (shown : List Progress) (ended : Searching) → IsSearched task near j start shown ended →
+pub ended_tour : (task : TourTask) (near : NearLists) (j : ℕ) (start : List ℕ) (tried : List Event) (ended : Searching) → IsSearched task near j start tried ended →
     IsTour task.size start → IsTour task.size ended.best
-ended_tour task near j start shown ended searched tour = tour_after task.size (run_of searched.trials) (subst (IsTour task.size) (sym searched.begins.best) tour)
+ended_tour task near j start tried ended searched tour = tour_after task.size (run_of searched.trials) (subst (IsTour task.size) (sym searched.begins.best) tour)
 
 -- one more run
-pub run_added : (task : TourTask) (near : NearLists) (j : ℕ) (start : List ℕ) (shown : List Progress) (ended : Searching) → IsStart task near j start →
-    IsSearched task near j start shown ended → IsTour task.size start → (Watched : List Progress → Type 0) → Watched shown → (old new : Outcome) →
+pub run_added : (task : TourTask) (near : NearLists) (j : ℕ) (start : List ℕ) (tried : List Event) (ended : Searching) → IsStart task near j start →
+    IsSearched task near j start tried ended → IsTour task.size start → (Watched : List Event → Type 0) →
+    Watched (tried ++ Ended (j + 1) (record { best = pos (tour_length task.distance ended.best); totals = ended.totals }) ∷ []) → (old new : Outcome) →
     IsTaken task.distance ended old new → IsRunAdded task near j Watched old new
-run_added task near j start shown ended begins searched tour Watched watched old new taken runs count kept =
-    let run : Run = record { start = start; best = ended.best; totals = ended.totals; shown = shown } in
-    let is : IsRun task near j run = record { start = begins; tour = tour; ended = ended; searched = searched; best = refl; totals = refl } in
+run_added task near j start tried ended begins searched tour Watched watched old new taken runs count kept =
+    let run : Run = record { start = start; best = ended.best; totals = ended.totals; shown = tried ++ Ended (j + 1) (record { best = pos (tour_length task.distance ended.best); totals = ended.totals }) ∷ [] } in
+    let is : IsRun task near j run = record { start = begins; tour = tour; tried = tried; ended = ended; searched = searched; best = refl; totals = refl; shown = refl } in
     let at : IsRun task near (length runs) run = subst (λ k. IsRun task near k run) (sym count) is in
     let noted : IsNoted task run old.reports.items old.cities.items old.shortest new.cities.items new.shortest = record {
       first = taken.first;
       shorter = taken.shorter;
       kept = λ some le. let same = taken.kept some le in (ap (λ v. v.items) same.0, same.1);
     } in
-    let more = so_far_more task near runs old.reports.items old.cities.items old.shortest kept run at (ended_tour task near j start shown ended searched tour) new.cities.items new.shortest noted in
+    let more = so_far_more task near runs old.reports.items old.cities.items old.shortest kept run at (ended_tour task near j start tried ended searched tour) new.cities.items new.shortest noted in
     (run, (subst (λ v. AreSoFar task near (runs ++ run ∷ []) v new.cities.items new.shortest) (sym taken.reports) more, watched))
-
--- what `take` promises of an outcome, as one fact
-pub OnOk-taken : {T E : Type 0} (r : Result T E) (distance : ℕ → ℕ → ℕ) (ended : Searching) (old new : Outcome) →
-    OnOk r (new.reports.items ≡ old.reports.items ++ record { best = pos (tour_length distance ended.best); totals = ended.totals } ∷ []) →
-    (old.reports.items ≡ [] → OnOk r ((new.cities.items ≡ ended.best) × (new.shortest ≡ pos (tour_length distance ended.best)))) →
-    (pos (tour_length distance ended.best) <ℤ old.shortest → OnOk r ((new.cities.items ≡ ended.best) × (new.shortest ≡ pos (tour_length distance ended.best)))) →
-    (old.reports.items ≢ [] → old.shortest ≤ℤ pos (tour_length distance ended.best) → OnOk r ((new.cities ≡ old.cities) × (new.shortest ≡ old.shortest))) →
-    OnOk r (IsTaken distance ended old new)
-OnOk-taken (Ok v) distance ended old new reports first shorter kept = record { reports = reports; first = first; shorter = shorter; kept = kept }
-OnOk-taken (Err e) distance ended old new reports first shorter kept = reports

@@ -33,7 +33,7 @@ run_bounded task near j run h =
     (subst (λ v. begun.totals.start ≡ pos (tour_length task.distance v)) (sym begins.best) begins.length_is) in
     let own : IsBegun begun begun.distance begun.near begun.rules begun.best = record { table = (refl, refl, refl); best = refl; trials = begins.trials; length_is = start; none = begins.none } in
     let given = given_run (run_of h.searched.trials) in
-    let size : length h.ended.best ≡ task.size = (ended_tour task near j run.start run.shown h.ended h.searched h.tour).0 in
+    let size : length h.ended.best ≡ task.size = (ended_tour task near j run.start h.tried h.ended h.searched h.tour).0 in
     let bound : IsBoundedSearch h.ended = bounded_run (run_of h.searched.trials) own in
     let sized = subst (λ n. IsBounded n h.ended.near.width h.ended.rules (tour_length h.ended.distance h.ended.best) h.ended.totals) size bound in
     let listed = subst (λ (v : NearLists). IsBounded task.size v.width h.ended.rules (tour_length h.ended.distance h.ended.best) h.ended.totals) (given.near ∙ begins.table.1) sized in

@@ -1,4 +1,6 @@
+pub mod Events
 pub mod Outcomes
+pub mod RunLaws
 pub mod Runs
 pub mod SolvedRoutes
 pub mod SolvedTours

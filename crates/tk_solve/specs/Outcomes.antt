@@ -5,7 +5,7 @@ use Rattle.tk_tour.specs.Tour.{tour_length}
 use Rattle.tk_search.specs.Searching.{Searching}
 use Rattle.tk_solve.specs.declared.outcome.Outcome.{Outcome}
 use Rattle.tk_solve.specs.declared.outcome.RunReport.{RunReport}
-use Rattle.tk_solve.specs.declared.watch.Progress.{Progress}
+use Rattle.tk_solve.specs.Events.{Event}
 use Rattle.tk_solve.specs.Runs.{Run, AreSoFar}
 use Rattle.tk_solve.specs.Starts.{TourTask}
 
@@ -13,8 +13,8 @@ use Rattle.tk_solve.specs.Starts.{TourTask}
 abbrev pub AreKept : TourTask → NearLists → List Run → Outcome → Type 0
 AreKept task near runs outcome = AreSoFar task near runs outcome.reports.items outcome.cities.items outcome.shortest
 
--- run j was added to the runs before it, whatever these are, and its trials were watched
-abbrev pub IsRunAdded : TourTask → NearLists → ℕ → (List Progress → Type 0) → Outcome → Outcome → Type 0
+-- run j was added to the runs before it, whatever these are, and it was watched
+abbrev pub IsRunAdded : TourTask → NearLists → ℕ → (List Event → Type 0) → Outcome → Outcome → Type 0
 IsRunAdded task near j Watched old new =
     (runs : List Run) → length runs ≡ j → AreKept task near runs old →
     (run : Run) × (AreKept task near (runs ++ run ∷ []) new × Watched run.shown)

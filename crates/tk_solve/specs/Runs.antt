@@ -3,7 +3,7 @@
 --     IsRun task near j run      run j, from 0: its trials from its start, with random words of its own
 --     AreRuns task near runs      one after another, from run 0 on
 --     best_tours runs      the best tour of each
---     shown_of runs      what is shown of their trials
+--     shown_of runs      what is shown of them
 --     AreSoFar task near runs reports cities shortest      what is kept of the runs so far
 use Rattle.std.specs.Prelude.{◌≡◌, ℕ, ℤ, ◌+◌, ◌≤◌, List, [], ◌∷◌, ◌++◌, flat_map, length, map, pos}
 use Rattle.rand_core.specs.Pcg32Seed.{pcg32_seed}
@@ -17,46 +17,55 @@ use Rattle.tk_search.specs.SearchLaws.{IsFirstShortest}
 use Rattle.tk_search.specs.declared.trials.totals.Totals.{Totals}
 use Rattle.tk_search.specs.declared.trials.totals.TrialReport.{TrialReport}
 use Rattle.tk_solve.specs.declared.outcome.RunReport.{RunReport}
-use Rattle.tk_solve.specs.declared.watch.Progress.{Progress}
+use Rattle.tk_solve.specs.Events.{Event, Ended}
 use Rattle.tk_solve.specs.Starts.{TourTask, IsStart, trials_of}
-use Rattle.tk_solve.specs.Watching.{progress_at}
+use Rattle.tk_solve.specs.Watching.{trial_event}
 
--- the start of a run, the best tour that it found, what it counted, and what is shown of its trials
+-- the start of a run, the best tour that it found, what it counted, and what is shown of it
 pub record Run : Type 0 where
   pub start : List ℕ
   pub best : List ℕ
   pub totals : Totals
-  pub shown : List Progress
+  pub shown : List Event
+
+abbrev pub run_length : (ℕ → ℕ → ℕ) → Run → ℕ
+run_length distance run = tour_length distance run.best
+
+-- what is told of a run
+abbrev pub report_of : (ℕ → ℕ → ℕ) → Run → RunReport
+report_of distance run = record { best = pos (run_length distance run); totals = run.totals }
 
 -- the random words of a generator with this seed (M. E. O'Neill, 2014)
 abbrev pub words_of : ℕ → Stream
 words_of seed = stream_of (steps_u32 pcg32) (pcg32_of_seed (pcg32_seed 16 seed))
 
--- t trials of a search one after another, and what is shown of each: what `told` says of its number, from 0, and of the
--- length of the tour that it ended with
-pub data Trials (told : ℕ → ℤ → Progress) (begun : Searching) (words : Stream) :
-    ℕ → List Progress → Searching → Stream → Type 0 where
+-- t trials of a search one after another, and what is shown of each: what `told` says of its number, from 0, of the
+-- length of the tour that it ended with, and of the search after it
+pub data Trials (told : ℕ → ℤ → Searching → Event) (begun : Searching) (words : Stream) :
+    ℕ → List Event → Searching → Stream → Type 0 where
   untried : Trials told begun words 0 [] begun words
-  tried : {t : ℕ} {shown : List Progress} {old new : Searching} {left rest : Stream} {report : TrialReport} →
+  tried : {t : ℕ} {shown : List Event} {old new : Searching} {left rest : Stream} {report : TrialReport} →
       Trials told begun words t shown old left → NextTrial old left new rest report →
-      Trials told begun words (t + 1) (shown ++ told t report.descent.after ∷ []) new rest
+      Trials told begun words (t + 1) (shown ++ told t report.descent.after new ∷ []) new rest
 
 -- the search of run j, from 0, after its trials from a start, with the words of the seed and j
-pub record IsSearched (task : TourTask) (near : NearLists) (j : ℕ) (start : List ℕ) (shown : List Progress)
+pub record IsSearched (task : TourTask) (near : NearLists) (j : ℕ) (start : List ℕ) (shown : List Event)
     (ended : Searching) : Type 0 where
   pub begun : Searching
   pub begins : IsBegun begun task.distance near task.rules start
   pub rest : Stream
-  pub trials : Trials (progress_at task j) begun (words_of (task.seed + j)) (trials_of task) shown ended rest
+  pub trials : Trials (trial_event task j) begun (words_of (task.seed + j)) (trials_of task) shown ended rest
 
--- run j, from 0
+-- run j, from 0: its trials are shown, and then its report
 pub record IsRun (task : TourTask) (near : NearLists) (j : ℕ) (run : Run) : Type 0 where
   pub start : IsStart task near j run.start
   pub tour : IsTour task.size run.start
+  pub tried : List Event
   pub ended : Searching
-  pub searched : IsSearched task near j run.start run.shown ended
+  pub searched : IsSearched task near j run.start tried ended
   pub best : run.best ≡ ended.best
   pub totals : run.totals ≡ ended.totals
+  pub shown : run.shown ≡ tried ++ Ended (j + 1) (report_of task.distance run) ∷ []
 
 -- one after another, from run 0 on
 pub data AreRuns (task : TourTask) (near : NearLists) : List Run → Type 0 where
@@ -68,16 +77,9 @@ pub data AreRuns (task : TourTask) (near : NearLists) : List Run → Type 0 wher
 abbrev pub best_tours : List Run → List (List ℕ)
 best_tours runs = map (λ run. run.best) runs
 
--- what is shown of all their trials
-abbrev pub shown_of : List Run → List Progress
+-- what is shown of all of them
+abbrev pub shown_of : List Run → List Event
 shown_of runs = flat_map (λ run. run.shown) runs
-
-abbrev pub run_length : (ℕ → ℕ → ℕ) → Run → ℕ
-run_length distance run = tour_length distance run.best
-
--- what is told of a run
-abbrev pub report_of : (ℕ → ℕ → ℕ) → Run → RunReport
-report_of distance run = record { best = pos (run_length distance run); totals = run.totals }
 
 -- what is kept of the runs so far: a report of each, and the best tour of the first one with the least length
 pub record AreSoFar (task : TourTask) (near : NearLists) (runs : List Run) (reports : List RunReport) (cities : List ℕ)

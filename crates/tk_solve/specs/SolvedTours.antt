@@ -10,13 +10,13 @@ use Rattle.tk_search.specs.SearchLaws.{IsFirstShortest}
 use Rattle.tk_search.specs.Totals.{IsBounded}
 use Rattle.tk_solve.specs.declared.outcome.RunReport.{RunReport}
 use Rattle.tk_solve.specs.declared.tour.SolvedTour.{SolvedTour}
-use Rattle.tk_solve.specs.declared.watch.Progress.{Progress}
+use Rattle.tk_solve.specs.Events.{Event}
 use Rattle.tk_solve.specs.Runs.{Run, AreRuns, best_tours, report_of, shown_of}
 use Rattle.tk_solve.specs.Starts.{TourTask, AreCandidates}
 
 -- the runs that were asked for, each with its report, and the best tour of the first one with the least length, in
--- printed form; each trial of each run was watched, in order, and nothing else
-pub record IsSolved (task : TourTask) (Watched : List Progress → Type 0) (solved : SolvedTour) : Type 0 where
+-- printed form; the trials of each run were watched, and its end, in order, and nothing else
+pub record IsSolved (task : TourTask) (Watched : List Event → Type 0) (solved : SolvedTour) : Type 0 where
   pub near : NearLists
   pub candidates : AreCandidates task near
   pub runs : List Run

@@ -1,22 +1,35 @@
 -- What a watcher of a search is shown.
---     progress_at task j t length      trial t of run j, both from 0, which ended with a tour of this length
+--     trial_event task j t length search      trial t of run j, both from 0
+--     IsShownTour task event      a tour that is shown is one
 --     WereShown shows old new shown      these were shown to a watcher, one after another, and nothing else
-use Rattle.std.specs.Prelude.{ℕ, ℤ, ◌+◌, List, [], ◌∷◌, ◌++◌}
-use Rattle.tk_solve.specs.declared.watch.Progress.{Progress}
+use Rattle.std.specs.Prelude.{◌≡◌, ℕ, ℤ, ◌+◌, List, [], ◌∷◌, ◌++◌, pos}
+use Rattle.tk_tour.specs.Tour.{IsTour, tour_length}
+use Rattle.tk_search.specs.Searching.{Searching}
+use Rattle.tk_solve.specs.Events.{Event, Begun, Tried, Ended}
 use Rattle.tk_solve.specs.Starts.{TourTask, trials_of}
 
--- what is shown of trial t of run j, both from 0, which ended with a tour of this length
-abbrev pub progress_at : TourTask → ℕ → ℕ → ℤ → Progress
-progress_at task j t length = record {
-  run = j + 1;
-  runs = task.runs;
-  trial = t + 1;
-  trials = trials_of task;
-  length = length;
-}
+-- what is shown of trial t of run j, both from 0: the length of the tour that it ended with, and the best tour of the
+-- search after it, with its length
+abbrev pub trial_event : TourTask → ℕ → ℕ → ℤ → Searching → Event
+trial_event task j t length search =
+    Tried (record {
+      run = j + 1;
+      runs = task.runs;
+      trial = t + 1;
+      trials = trials_of task;
+      length = length;
+      best = pos (tour_length task.distance search.best);
+    }) search.best
+
+-- a tour that is shown with a trial is one of the cities, and has the length that is shown with it
+abbrev pub IsShownTour : TourTask → Event → Type 0
+IsShownTour task (Begun name) = Unit {0}
+IsShownTour task (Tried progress best) =
+    IsTour task.size best × (progress.best ≡ pos (tour_length task.distance best))
+IsShownTour task (Ended run report) = Unit {0}
 
 -- these were shown to a watcher, one after another, and nothing else; `shows` is what it means that it is shown one
-pub data WereShown {W : Type 0} (shows : W → Progress → W → Type 0) (old : W) : W → List Progress → Type 0 where
+pub data WereShown {W : Type 0} (shows : W → Event → W → Type 0) (old : W) : W → List Event → Type 0 where
   nothing : WereShown shows old old []
-  next : {shown : List Progress} {progress : Progress} {now new : W} → WereShown shows old now shown →
-      shows now progress new → WereShown shows old new (shown ++ progress ∷ [])
+  next : {shown : List Event} {event : Event} {now new : W} → WereShown shows old now shown →
+      shows now event new → WereShown shows old new (shown ++ event ∷ [])

@@ -1,6 +1,7 @@
 //! What `solve` does between reading and writing: the runs of a search for a tour, and the routes of a routing problem.
 #![tactic(auto)]
 
+mod laws;
 mod options;
 mod outcome;
 mod routes;
@@ -9,6 +10,7 @@ mod starts;
 mod tour;
 mod watch;
 
+pub use laws::shown_tours_are_tours;
 pub use options::{RouteOptions, Start, TourOptions};
 pub use outcome::RunReport;
 pub use routes::solve_routes;

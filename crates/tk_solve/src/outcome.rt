@@ -1,5 +1,5 @@
 //! What is kept of the runs so far.
-ghost use Rattle.std.specs.Prelude.{◌≡◌, ◌≢◌, ◌<ℤ◌, ◌≤ℤ◌, ◌+◌, ◌<◌, ◌++◌, ◌∷◌, [], OnOk, length};
+ghost use Rattle.std.specs.Prelude.{◌≡◌, ◌≢◌, ◌<ℤ◌, ◌≤ℤ◌, ◌+◌, ◌<◌, ◌++◌, ◌∷◌, [], IfOk, OnOk, length};
 ghost use Rattle.tk_distance.specs.Tables.{table_size, table_distance};
 ghost use Rattle.tk_tour.specs.ArrayTours.{order_of};
 ghost use Rattle.tk_tour.specs.Tour.{IsTour};
@@ -47,9 +47,14 @@ impl Outcome {
         }
     }
 
-    /// Takes note of a run that ended with this search.
-    fn take<M: Metric>(&mut self, metric: &M, search: &Search<'_, M>) -> Result<(), AllocError>
+    /// Takes note of a run that ended with this search, and answers its report.
+    fn take<M: Metric>(
+        &mut self,
+        metric: &M,
+        search: &Search<'_, M>,
+    ) -> Result<RunReport, AllocError>
         requires tour { IsTour (M.size_of metric.now) (search_of search.now).best }
+        ensures report { IfOk result (λ r. r ≡ report_of (M.distance metric.now) (search_of search.now)) }
         ensures reports { OnOk result (self.new.reports.items
             ≡ self.old.reports.items ++ report_of (M.distance metric.now) (search_of search.now) ∷ []) }
         ensures first { self.old.reports.items ≡ []
@@ -68,14 +73,15 @@ impl Outcome {
             self.cities.extend_from_slice(search.best())?;
             self.shortest = best;
         }
-        self.reports.push(RunReport {
+        let report = RunReport {
             best,
             totals: search.totals(),
-        })?;
-        Ok(())
+        };
+        self.reports.push(report)?;
+        Ok(report)
     }
 
-    /// Run j, from 0, from a tour of a metric's cities.
+    /// Run j, from 0, from a tour of a metric's cities. The watcher is shown its trials, and its report.
     fn add_run_over<M: Metric, W: Watch>(
         &mut self,
         alloc: Global,
@@ -94,7 +100,9 @@ impl Outcome {
             near.now j (WereShown W.shows watch.old watch.new) self.old self.new) }
     {
         let search = search_run(alloc, metric, near, start, options, j, watch)?;
-        self.take(metric, &search)
+        let report = self.take(metric, &search)?;
+        watch.end_run(j + 1, &report);
+        Ok(())
     }
 
     /// Run j, from 0, from a tour of a table's cities.

@@ -2,10 +2,10 @@
 ghost use Rattle.std.specs.Prelude.{◌≡◌, ◌<◌, IfOk, List, length};
 ghost use Rattle.tk_tour.specs.ArrayTours.{order_of};
 ghost use Rattle.tk_search.specs.SearchOf.{search_of};
+ghost use Rattle.tk_solve.specs.Events.{Event};
 ghost use Rattle.tk_solve.specs.Runs.{IsSearched};
 ghost use Rattle.tk_solve.specs.Starts.{task_over};
 ghost use Rattle.tk_solve.specs.Watching.{WereShown};
-ghost use Rattle.tk_solve.specs.declared.watch.Progress.{Progress};
 
 use crate::options::TourOptions;
 use crate::watch::{Progress, Watch};
@@ -29,7 +29,7 @@ pub(crate) fn search_run<'a, M: Metric, W: Watch>(
 ) -> Result<Search<'a, M>, AllocError>
     requires fits { (M.size_of metric.now ≡ length (order_of start)) × (near.now.size ≡ length (order_of start)) }
     requires run { j < options.now.runs }
-    ensures { IfOk result (λ s. (shown : List Progress) × (IsSearched
+    ensures { IfOk result (λ s. (shown : List Event) × (IsSearched
         (task_over (M.size_of metric.now) (M.distance metric.now) options.now)
         near.now j (order_of start) shown (search_of s) × WereShown W.shows watch.old watch.new shown)) }
 {
@@ -38,13 +38,15 @@ pub(crate) fn search_run<'a, M: Metric, W: Watch>(
     let mut generator = Pcg32::seed_from_u64(options.seed as u64 + j as u64);
     for trial in 0..trials {
         let report = search.trial(&mut generator);
-        watch.trial(&Progress {
+        let progress = Progress {
             run: j + 1,
             runs: options.runs,
             trial: trial + 1,
             trials,
             length: report.descent.after,
-        });
+            best: search.shortest(),
+        };
+        watch.trial(&progress, search.best());
     }
     Ok(search)
 }

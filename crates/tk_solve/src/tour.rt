@@ -76,7 +76,8 @@ fn run_all<W: Watch>(
 }
 
 /// Searches for a short tour of a table's cities: `runs` runs, each of `trials` trials. Each trial is shown to `watch`, in
-/// order, with the length of the tour that it ended with, and nothing else.
+/// order, with the length of the tour that it ended with and the best tour of its run so far; and each run after its
+/// last trial, with its report. Nothing else is.
 ///
 /// # Errors
 /// `AllocError` where there is no memory for the near lists, a start, a search or a report.

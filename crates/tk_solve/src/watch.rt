@@ -1,5 +1,8 @@
-//! Progress of a search, for whoever wants to see it.
+//! What a search shows while it runs, to whoever wants to see it.
 ghost use Rattle.std.specs.Prelude.{◌≡◌};
+ghost use Rattle.tk_solve.specs.Events.{Begun, Tried, Ended};
+
+use crate::outcome::RunReport;
 
 /// How far a search has come.
 #[derive(Clone, Copy, PartialEq, Eq, Debug)]
@@ -14,18 +17,28 @@ pub struct Progress {
     pub trials: u32,
     /// The length of the tour that the trial ended with.
     pub length: i64,
+    /// The length of the best tour of the run so far.
+    pub best: i64,
 }
 
-/// Something that is told after each trial how far a search has come. It has no influence on the search.
+/// Something that is told how far a search has come, and what it has found. It has no influence on the search.
 pub trait Watch {
-    ghost use Rattle.tk_solve.specs.declared.watch.Progress.{Progress};
+    ghost use Rattle.tk_solve.specs.Events.{Event};
 
-    /// What it means that it is shown a trial, from its state before to its state after.
-    ghost shows: { Self → Progress → Self → Type 0 };
+    /// What it means that it is shown something, from its state before to its state after.
+    ghost shows: { Self → Event → Self → Type 0 };
 
-    /// Takes note of a trial.
-    fn trial(&mut self, progress: &Progress)
-        ensures { shows self.old progress.now self.new };
+    /// Takes note of the name of the problem, before the first run.
+    fn begin(&mut self, name: &[u8])
+        ensures { shows self.old (Begun name.now) self.new };
+
+    /// Takes note of a trial, and of the best tour of its run so far.
+    fn trial(&mut self, progress: &Progress, best: &[u32])
+        ensures { shows self.old (Tried progress.now best.now) self.new };
+
+    /// Takes note of a run that has ended, from 1.
+    fn end_run(&mut self, run: u32, report: &RunReport)
+        ensures { shows self.old (Ended run report.now) self.new };
 }
 
 /// Nobody watches.
@@ -35,5 +48,9 @@ pub struct Unwatched;
 impl Watch for Unwatched {
     ghost shows = { λ old _ new. new ≡ old };
 
-    fn trial(&mut self, _progress: &Progress) {}
+    fn begin(&mut self, _name: &[u8]) {}
+
+    fn trial(&mut self, _progress: &Progress, _best: &[u32]) {}
+
+    fn end_run(&mut self, _run: u32, _report: &RunReport) {}
 }

@@ -31,6 +31,9 @@ fn run(rt: &HostRuntime, asked: Asked<'_>) -> ExitCode {
         Asked::Matrix { problem, format } => matrix_command(rt, problem, format),
         Asked::Near { problem, length } => near_command(rt, problem, length),
         Asked::Plot { problem, claim } => plot_command(rt, problem, claim),
-        Asked::Solve { parameters } => solve_command(rt, parameters),
+        Asked::Solve {
+            parameters,
+            progress,
+        } => solve_command(rt, parameters, progress),
     }
 }

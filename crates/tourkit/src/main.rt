@@ -1,12 +1,14 @@
 //! `tourkit`: symmetric travelling salesman problems and tours, read alike and checked.
 #![tactic(auto)]
 
+mod best;
 mod call;
 mod commands;
 mod input;
 mod output;
 mod progress;
 mod report;
+mod watching;
 mod words;
 mod written;
 

@@ -66,16 +66,16 @@ fn find_new(rt: &HostRuntime, name: &str) -> Result<(), Unsaved> {
 
 /// Writes a text to a file. A plain file that is there is not touched until all new bytes are written beside it, or,
 /// where no other file can be made there, until there is room for them. A device or a pipe is written directly.
-pub fn save(rt: &HostRuntime, name: &str, text: &[u8]) -> ExitCode {
+///
+/// # Errors
+/// The exit status, after a message.
+pub fn save(rt: &HostRuntime, name: &str, text: &[u8]) -> Result<(), ExitCode> {
     let saved = match fs::canonicalize(rt, name) {
         Ok(path) => save_old(rt, path.as_str(), text),
         Err(error) if error.kind() == ErrorKind::OutOfMemory => Err(Unsaved::NoMemory),
         Err(_) => save_new(rt, name, text),
     };
-    match saved {
-        Ok(()) => ExitCode::SUCCESS,
-        Err(unsaved) => tell(rt, name, unsaved),
-    }
+    saved.map_err(|unsaved| tell(rt, name, unsaved))
 }
 
 /// Tells why a text was not saved, or cannot be.

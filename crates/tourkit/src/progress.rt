@@ -1,7 +1,7 @@
 //! One line on standard error that shows how far a search has come, where that is a terminal.
 use std::io::IsTerminal;
 use std::time::{Clock, Duration};
-use tk_solve::{Progress, Watch};
+use tk_solve::Progress;
 
 /// The line is written again after this many milliseconds at the earliest.
 const PAUSE: u64 = 100;
@@ -24,7 +24,7 @@ impl<'a> ProgressLine<'a> {
         }
     }
 
-    /// Writes the line.
+    /// Writes the line. A terminal cuts it at its right edge.
     fn show(&self, progress: &Progress) {
         let Progress {
             run,
@@ -32,22 +32,22 @@ impl<'a> ProgressLine<'a> {
             trial,
             trials,
             length,
+            ..
         } = progress;
         let _ = eprint!(self.rt;
-            "\rrun {run} of {runs}, trial {trial} of {trials}, length {length}\x1b[K"
+            "\r\x1b[?7lrun {run} of {runs}, trial {trial} of {trials}, length {length}\x1b[K\x1b[?7h"
         );
     }
 
     /// Takes the line away.
-    fn clear(&self) {
-        let _ = eprint!(self.rt; "\r\x1b[K");
+    pub fn clear(&self) {
+        if self.shown {
+            let _ = eprint!(self.rt; "\r\x1b[K");
+        }
     }
-}
 
-impl Watch for ProgressLine<'_> {
-    ghost shows = { λ _ _ _. Unit {0} };
-
-    fn trial(&mut self, progress: &Progress) {
+    /// Takes note of a trial. After the last one the line is taken away.
+    pub fn trial(&mut self, progress: &Progress) {
         if !self.shown {
             return;
         }

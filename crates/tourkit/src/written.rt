@@ -25,13 +25,20 @@ pub fn id_of(found: io::Result<Metadata>) -> Option<FileId> {
     }
 }
 
-/// The files that `solve` reads and may not write over.
+/// The plain file that a name leads to, if there is a name and it leads to one.
+pub fn id_in(rt: &HostRuntime, name: Option<&str>) -> Option<FileId> {
+    id_of(fs::metadata(rt, name?))
+}
+
+/// The files that `solve` reads.
 #[derive(Clone, Copy)]
 pub struct Kept {
     /// The parameter file.
     pub parameters: Option<FileId>,
     /// The problem's file.
     pub problem: Option<FileId>,
+    /// The initial tour's, which may be written over by one that is not longer.
+    pub initial: Option<FileId>,
 }
 
 /// Refuses a file to write that is the parameter file or the problem's, or that cannot be written.

@@ -2,13 +2,14 @@
 
 use crate::asked::Asked;
 use crate::command::{given, subcommand};
-use clap::{ArgMatches, Command, Error};
+use clap::{Arg, ArgAction, ArgMatches, Command, Error};
 use std::alloc::Global;
 
 /// What `solve --help` ends with.
 const HELP: &str = "Reads PAR, and the problem and the initial tour that it names.
 Prints a line for each run and the best length, or the costs of the routes of a CVRP.
 Writes the best tour to TOUR_FILE, or the routes to SOLUTION_FILE, if PAR names one.
+While it runs, the best tour so far is kept in TOUR_FILE.best, from the fifth second on.
 
 Exit status:
   0  the search is done
@@ -28,13 +29,17 @@ pub fn command<'a>(alloc: Global) -> Result<Command<'a>, Error> {
         "PAR",
         "a parameter file like LKH's, or - for standard input",
     );
+    let progress = Arg::new(alloc, "progress")
+        .long("progress")
+        .help("write each run's line to standard error when the run ends")
+        .action(ArgAction::SetTrue);
     subcommand(
         alloc,
         "solve",
         "Searches for a short tour or for short routes",
         HELP,
         parameters,
-        None,
+        Some(progress),
     )
 }
 
@@ -42,5 +47,6 @@ pub fn command<'a>(alloc: Global) -> Result<Command<'a>, Error> {
 pub fn asked<'a>(words: &ArgMatches<'a>) -> Option<Asked<'a>> {
     Some(Asked::Solve {
         parameters: words.get_str("PAR")?,
+        progress: words.get_flag("progress"),
     })
 }

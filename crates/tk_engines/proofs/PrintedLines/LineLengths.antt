@@ -11,7 +11,7 @@ use Rattle.tk_params.specs.Keys.{all_keys}
 use Rattle.tk_params.specs.declared.key.Key.{Key}
 use Rattle.tk_routes.specs.declared.solving.route_report.RouteReport.{RouteReport}
 use Rattle.tk_solve.specs.Runs.{report_of}
-use Rattle.tk_solve.specs.declared.watch.Progress.{Progress}
+use Rattle.tk_solve.specs.Events.{Event}
 use Rattle.tk_solve.specs.SolvedTours.{IsSolved}
 use Rattle.tk_solve.specs.Starts.{TourTask}
 use Rattle.tk_solve.specs.declared.outcome.RunReport.{RunReport}
@@ -21,7 +21,7 @@ use Rattle.tk_engines.specs.Lines.SolveLines.{ignored_line, route_lines, run_lin
 ignored_short : (key : Key) → length (ignored_line key) ≤ 50
 ignored_short key = let a = word_short key in simp length-append (omega arith)
 
-run_short : (number : ℕ) (r : RunReport) → length (run_line number r) ≤ 600
+pub run_short : (number : ℕ) (r : RunReport) → length (run_line number r) ≤ 600
 run_short number r =
     let a = length_decimal number in let b = length_decimal (unsigned_abs r.totals.start) in let c = length_decimal (unsigned_abs r.best) in
     let d = length_decimal r.totals.trials in let e = length_decimal r.totals.moves in let f = length_decimal r.totals.tests in let h = length_decimal r.totals.swaps in
@@ -46,7 +46,7 @@ route_lines_short ks routes r few =
     simp length-append (omega (arith, a, b, c, d, e, f, h))
 
 -- as many reports as runs
-pub IfOk-count : {E : Type 0} (r : Result SolvedTour E) (task : TourTask) (Watched : List Progress → Type 0) (most : ℕ) → task.runs ≤ most → IfOk r (IsSolved task Watched) → IfOk r (λ s. length s.runs.items ≤ most)
+pub IfOk-count : {E : Type 0} (r : Result SolvedTour E) (task : TourTask) (Watched : List Event → Type 0) (most : ℕ) → task.runs ≤ most → IfOk r (IsSolved task Watched) → IfOk r (λ s. length s.runs.items ≤ most)
 IfOk-count (Ok s) task Watched most few h = omega (arith, few, h.count, ap length h.reports ∙ length-map h.runs (report_of task.distance))
 IfOk-count (Err e) task Watched most few h = tt
 

@@ -1,5 +1,5 @@
 //! The search for a tour or for routes.
-ghost use Rattle.std.specs.Prelude.{◌≡◌, ◌≤◌, ◌≤ℤ◌, pos, IfOk, IfErr, OnErr, MatchOption, is_some, length};
+ghost use Rattle.std.specs.Prelude.{◌≡◌, ◌≤◌, ◌≤ℤ◌, ◌∷◌, pos, IfOk, IfErr, OnErr, MatchOption, is_some, length};
 ghost use Rattle.std.specs.List.{concat};
 ghost use Rattle.tk_problem.specs.declared.limits.TheConstants.{CITY_LIMIT, ENTRY_LIMIT, ROUTE_LIMIT};
 ghost use Rattle.tk_problem_text.specs.Parts.{problem_is};
@@ -7,6 +7,7 @@ ghost use Rattle.tk_tour.specs.Tour.{IsTour};
 ghost use Rattle.tk_routes.specs.Cvrps.{instance_of};
 ghost use Rattle.tk_routes.specs.RouteLists.{routes_of};
 ghost use Rattle.tk_solve.specs.SolvedTours.{IsSolved, IsSound};
+ghost use Rattle.tk_solve.specs.Events.{Begun};
 ghost use Rattle.tk_solve.specs.Watching.{WereShown};
 ghost use Rattle.tk_engines.specs.Engine.{AtWrite, BeforeSecond, Ends, IsUntouched, ReadsProblem, UnlessWrite};
 ghost use Rattle.tk_engines.specs.Solve.{AreRoutesOf, AreUntouched, Gives, HasFailed, IsTourWritten, ReadsInitial, WritesFiles, cities_in, route_files, solve_task, tour_files, tour_task};
@@ -25,7 +26,7 @@ use tk_solve::{RouteOptions, SolvedTour, Watch, solve_routes, solve_tour};
 use tk_words::Source;
 use tk_writers::{Sink, WriteFault, write_solution, write_tour};
 
-/// The best tour of a TSP.
+/// The best tour of a TSP. The watcher is shown the problem's name, and then the runs.
 fn search_tour<V: Watch>(
     alloc: Global,
     params: &Params,
@@ -35,11 +36,12 @@ fn search_tour<V: Watch>(
 ) -> Result<SolvedTour, AllocError>
     requires { MatchOption (cities_in initial.now) (Unit {0}) (IsTour problem.now.n) }
     ensures solved { IfOk result (IsSolved (tour_task params.now (problem_is problem.now) (cities_in initial.now))
-        (WereShown V.shows watch.old watch.new)) }
+        (λ shown. WereShown V.shows watch.old watch.new (Begun (problem_is problem.now).name ∷ shown))) }
     ensures sound { IfOk result (IsSound (tour_task params.now (problem_is problem.now) (cities_in initial.now))) }
     ensures runs { IfOk result (λ s. length s.runs.items ≤ 10000) }
 {
     let options = options_of(params, problem, initial);
+    watch.begin(&problem.name);
     solve_tour(alloc, &Table::of(problem), &options, watch)
 }
 
@@ -138,7 +140,8 @@ fn solve_cvrp<F: Sink, W: Sink>(
 /// and the best length.
 ///
 /// `initial` is read where the parameters name an INITIAL_TOUR_FILE. All texts are read before a byte is written.
-/// `watch` is shown each trial of a search for a tour, in order, and nothing else.
+/// `watch` is shown the name of the problem, each trial of a search for a tour, with the best tour of its run so far, and
+/// each run after its last trial, in order, and nothing else; of a search for routes nothing.
 ///
 /// # Errors
 /// The fault of the problem text; `NotForType` of a key that the problem's type has no use for; the fault of the text

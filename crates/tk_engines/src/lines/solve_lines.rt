@@ -122,6 +122,23 @@ fn put_route_lines<W: Sink>(
     put_best(pen, report.after.unsigned_abs());
 }
 
+/// Writes the line of a run, numbered from 1.
+///
+/// # Errors
+/// That a write failed, and how many bytes of the line had gone out by then.
+pub fn write_run_line<W: Sink>(
+    out: &mut W,
+    number: u64,
+    report: &RunReport,
+) -> Result<(), WriteFault>
+    ensures text { Writes W.taken W.broken out.old out.new result (run_line number report.now) }
+    ensures failed { OnErr result (W.broken out.new ≡ true) }
+{
+    let mut pen = Pen::new(out);
+    put_run(&mut pen, number, report);
+    pen.end()
+}
+
 /// Writes the lines on the runs of a TSP.
 pub(crate) fn write_tour_lines<W: Sink>(
     out: &mut W,

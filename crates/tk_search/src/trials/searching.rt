@@ -1,6 +1,7 @@
 //! A search: descents from a start, and then from kicks of the best tour.
-ghost use Rattle.std.specs.Prelude.{◌≡◌, ◌≤◌, ◌<◌, IfOk, length, false};
+ghost use Rattle.std.specs.Prelude.{◌≡◌, ◌≤◌, ◌<◌, IfOk, length, pos, false};
 ghost use Rattle.tk_tour.specs.ArrayTours.{order_of};
+ghost use Rattle.tk_tour.specs.Tour.{tour_length};
 ghost use Rattle.tk_search.specs.Searching.{IsSearching, IsBegun, IsBoundedSearch, NextTrial};
 
 use crate::trials::descending::SearchRules;
@@ -110,6 +111,13 @@ impl<'a, M: Metric> Search<'a, M> {
         ensures { result.now ≡ (search_of self.now).best }
     {
         self.state.best.order()
+    }
+
+    /// The length of the best tour so far.
+    pub fn shortest(&self) -> i64
+        ensures { result ≡ pos (tour_length (search_of self.now).distance (search_of self.now).best) }
+    {
+        self.state.shortest
     }
 
     /// What the search counted so far.

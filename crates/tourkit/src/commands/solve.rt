@@ -1,9 +1,9 @@
 //! The subcommand `solve`.
 use crate::input::open;
 use crate::output::save;
-use crate::progress::ProgressLine;
 use crate::report;
-use crate::written::{FileId, Kept, check_written, id_of, note_slips};
+use crate::watching::SearchWatch;
+use crate::written::{FileId, Kept, check_written, id_in, id_of, note_slips};
 use std::fs::File;
 use std::process::ExitCode;
 use tk_engines::{Fault, solve_engine};
@@ -11,51 +11,67 @@ use tk_params::{Params, read_params};
 use tk_words::{FromRead, Source};
 use tk_writers::{Sink, ToWrite};
 
-/// `solve PAR`.
-pub fn solve_command(rt: &HostRuntime, file: &str) -> ExitCode {
+/// `solve PAR [--progress]`.
+pub fn solve_command(rt: &HostRuntime, file: &str, progress: bool) -> ExitCode {
     let parameters = match open(rt, file) {
         Ok(parameters) => parameters,
         Err(status) => return status,
     };
     let parameters_id = parameters.id(rt);
     match read_params(rt.alloc(), &mut FromRead::new(parameters)) {
-        Ok(params) => solve(rt, file, parameters_id, &params),
+        Ok(params) => solve(rt, file, parameters_id, &params, progress),
         Err(fault) => report::param_fault(rt, file, &fault),
     }
 }
 
-/// Opens the problem's file, looks at the one to write, and opens that of the initial tour, before it reads any.
-fn solve(rt: &HostRuntime, file: &str, parameters_id: Option<FileId>, params: &Params) -> ExitCode {
+/// Opens the problem's file and that of the initial tour, and looks at the one to write, before it reads either.
+fn solve(
+    rt: &HostRuntime,
+    file: &str,
+    parameters: Option<FileId>,
+    params: &Params,
+    progress: bool,
+) -> ExitCode {
     let Ok(problem) = File::open(rt, params.problem_file()) else {
         return report::unopened(rt, params.problem_file());
     };
+    let initial = match open_initial(rt, params.initial_tour_file()) {
+        Ok(initial) => initial,
+        Err(status) => return status,
+    };
     let kept = Kept {
-        parameters: parameters_id,
+        parameters,
         problem: id_of(problem.metadata()),
+        initial: id_in(rt, params.initial_tour_file()),
     };
     if let Err(status) = check_written(rt, file, params, kept) {
         return status;
     }
+    let Ok(watch) = SearchWatch::new(rt, params.tour_file(), kept, progress) else {
+        return report::no_memory(rt);
+    };
     let mut problem = FromRead::new(problem);
-    let Some(initial_file) = params.initial_tour_file() else {
-        return search(
+    match initial {
+        Some(initial) => search(rt, params, watch, &mut problem, &mut FromRead::new(initial)),
+        None => search(
             rt,
             params,
+            watch,
             &mut problem,
             &mut FromRead::new(b"".as_slice()),
-            "",
-        );
+        ),
+    }
+}
+
+/// Opens the file of the initial tour, if there is one.
+fn open_initial(rt: &HostRuntime, name: Option<&str>) -> Result<Option<File>, ExitCode> {
+    let Some(name) = name else {
+        return Ok(None);
     };
-    let Ok(initial) = File::open(rt, initial_file) else {
-        return report::unopened(rt, initial_file);
-    };
-    search(
-        rt,
-        params,
-        &mut problem,
-        &mut FromRead::new(initial),
-        initial_file,
-    )
+    match File::open(rt, name) {
+        Ok(file) => Ok(Some(file)),
+        Err(_) => Err(report::unopened(rt, name)),
+    }
 }
 
 /// Searches, and tells what came of it. The text is kept in memory first, so a write to it fails only where there is no
@@ -63,13 +79,12 @@ fn solve(rt: &HostRuntime, file: &str, parameters_id: Option<FileId>, params: &P
 fn search<P: Source, I: Source>(
     rt: &HostRuntime,
     params: &Params,
+    mut watch: SearchWatch<'_>,
     problem: &mut P,
     initial: &mut I,
-    initial_file: &str,
 ) -> ExitCode {
     let mut file = ToWrite::new(Vec::new(rt.alloc()));
     let mut out = ToWrite::new(rt.stdout());
-    let mut watch = ProgressLine::new(rt);
     match solve_engine(
         rt.alloc(),
         params,
@@ -79,15 +94,11 @@ fn search<P: Source, I: Source>(
         &mut out,
         &mut watch,
     ) {
-        Ok(()) => {
-            let status = save_found(rt, params, &file.inner);
-            note_slips(rt, params);
-            status
-        }
+        Ok(()) => save_found(rt, params, &file.inner, &watch),
         Err(Fault::Write(_)) if file.failed() => report::no_memory(rt),
         Err(fault @ (Fault::Tour(_) | Fault::Initial(_))) => report::stopped(
             rt,
-            initial_file,
+            params.initial_tour_file().unwrap_or(""),
             &fault,
         ),
         Err(fault) => report::stopped(rt, params.problem_file(), &fault),
@@ -95,9 +106,17 @@ fn search<P: Source, I: Source>(
 }
 
 /// Writes the text to the file that the parameters name, if any.
-fn save_found(rt: &HostRuntime, params: &Params, text: &[u8]) -> ExitCode {
-    let Some(name) = params.tour_file().or(params.solution_file()) else {
-        return ExitCode::SUCCESS;
+fn save_found(rt: &HostRuntime, params: &Params, text: &[u8], watch: &SearchWatch<'_>) -> ExitCode {
+    let saved = match params.tour_file().or(params.solution_file()) {
+        Some(name) => save(rt, name, text),
+        None => Ok(()),
     };
-    save(rt, name, text)
+    note_slips(rt, params);
+    match saved {
+        Ok(()) => {
+            watch.end();
+            ExitCode::SUCCESS
+        }
+        Err(status) => status,
+    }
 }

@@ -1,12 +1,17 @@
-use Rattle.std.proofs.Common.{◌≡◌, ◌+◌, ℕ, ℤ, [], FitsSigned, w64, subst, arith, rules}
+use Rattle.std.proofs.Common.{◌≡◌, ◌+◌, ℕ, ℤ, List, [], FitsSigned, w64, pos, ap, ◌∙◌, subst, arith, rules}
 use Rattle.std.proofs.lemmas.Int.{to_z-of_z}
+use mir.Val.{to_z, of_z}
 use Rattle.rand_core.specs.Steps.{stream_of, steps_u32}
 use Rattle.rand_pcg.specs.Pcg.{pcg32}
 use Rattle.tk_search.specs.SearchOf.{search_of}
-use Rattle.tk_solve.specs.declared.watch.Progress.{Progress}
+use Rattle.tk_tour.specs.Tour.{tour_length}
+use Rattle.tk_search.specs.Searching.{Searching, trial}
+use Rattle.tk_search.proofs.SearchTrials.Runs.{given_run}
+use Rattle.tk_solve.specs.Events.{Event, Tried}
 use Rattle.tk_solve.specs.Runs.{Trials, untried, tried, words_of}
 use Rattle.tk_solve.specs.Starts.{TourTask, task_over, trials_of}
 use Rattle.tk_solve.specs.Watching.{nothing, next}
+use Rattle.tk_solve.proofs.Watched.{run_of}
 use Rattle.tk_solve.proofs.search.search_run.Goals.{then-size-lt8, else-size-lt8}
 use Rattle.tk_solve.proofs.search.search_run.Goals as goal
 
@@ -16,9 +21,17 @@ loop-trial-init g c = ([], (rw c.seed_from_u64-generator.ensures untried, nothin
 pub loop-trial-preserved : goal.loop-trial-preserved
 loop-trial-preserved g c =
     let after = c.trial-report.result.descent.after in
+    let tried_search = search_of c.trial-report.new.self in
+    let shortest = pos (tour_length (g.M.Metric.distance c.args.metric.now) tried_search.best) in
     let fits : FitsSigned w64 after = search (rules, c.trial-report.type_inv) in
-    let told : ℤ → Progress = λ length. record { run = c.args.j + 1; runs = c.args.options.now.runs; trial = c.loop-trial.trial + 1; trials = c.if-size-lt8.trials; length = length } in
-    let shown = subst (λ length. g.W.Watch.shows c.loop-trial.watch (told length) c.trial.new.self) (to_z-of_z w64 after fits) c.trial.ensures in
+    let best_fits : FitsSigned w64 c.shortest.result = search (rules, c.shortest.type_inv) in
+    let given = given_run (trial (run_of c.loop-trial.invariant.1.0) c.trial-report.ensures.next) in
+    let told : ℤ → ℤ → List ℕ → Event = λ length best cities.
+    Tried (record { run = c.args.j + 1; runs = c.args.options.now.runs; trial = c.loop-trial.trial + 1; trials = c.if-size-lt8.trials; length = length; best = best }) cities in
+    let best_is : to_z w64 (of_z w64 c.shortest.result) ≡ shortest = to_z-of_z w64 c.shortest.result best_fits ∙ c.shortest.ensures ∙ ap (λ d. pos (tour_length d tried_search.best)) (given.distance ∙ c.in_ok-search.ensures.begun.table.0) in
+    let Shown : ℤ → ℤ → List ℕ → Type 0 = λ length best cities. g.W.Watch.shows c.loop-trial.watch (told length best cities) c.trial.new.self in
+    let lengths = subst (λ length. Shown length (to_z w64 (of_z w64 c.shortest.result)) c.best.result.now) (to_z-of_z w64 after fits) c.trial.ensures in
+    let shown = subst (Shown after shortest) c.best.ensures (subst (λ best. Shown after best c.best.result.now) best_is lengths) in
     (_, (tried c.loop-trial.invariant.1.0 c.trial-report.ensures.next, next c.loop-trial.invariant.1.1 shown))
 
 pub returns : goal.returns
@@ -32,7 +45,8 @@ returns g c =
     ] in
     let count : c.loop-trial.trial ≡ trials_of task = omega (arith, c.loop-trial-test.false, c.loop-trial.auto.trial-end, all) in
     let shown = c.loop-trial.invariant.0 in
-    let told : ℕ → ℕ → ℤ → Progress = λ trials t length. record { run = c.args.j + 1; runs = c.args.options.now.runs; trial = t + 1; trials = trials; length = length } in
+    let told : ℕ → ℕ → ℤ → Searching → Event = λ trials t length search.
+    Tried (record { run = c.args.j + 1; runs = c.args.options.now.runs; trial = t + 1; trials = trials; length = length; best = pos (tour_length task.distance search.best) }) search.best in
     let P : ℕ → ℕ → Type 0 = λ trials t. Trials (told trials) (search_of c.in_ok-search.search) words t shown (search_of c.loop-trial.search) (stream_of (steps_u32 pcg32) c.loop-trial.generator) in
     let trials = subst (P (trials_of task)) count (subst (λ trials. P trials c.loop-trial.trial) all c.loop-trial.invariant.1.0) in (
       shown,

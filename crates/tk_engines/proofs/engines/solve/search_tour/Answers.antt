@@ -1,8 +1,11 @@
-use Rattle.std.proofs.Common.{ℕ, ap, ◌∙◌, subst, IfOk}
+use Rattle.std.proofs.Common.{ℕ, List, ◌∷◌, ap, ◌∙◌, subst, IfOk}
 use Rattle.tk_distance.specs.Tables.{table_distance}
 use Rattle.tk_solve.specs.SolvedTours.{IsSolved, IsSound}
 use Rattle.tk_solve.specs.Starts.{TourTask, task_of, task_over}
-use Rattle.tk_solve.specs.Watching.{WereShown}
+use Rattle.tk_solve.specs.Events.{Event, Begun}
+use Rattle.tk_solve.specs.Watching.{WereShown, nothing, next}
+use Rattle.tk_solve.proofs.Watched.{shown_both}
+use Rattle.tk_engines.proofs.SolveEnds.{IfOk-watched}
 use Rattle.tk_engines.proofs.ReadTables.{distances_read}
 use Rattle.tk_engines.proofs.PrintedLines.LineLengths.{IfOk-count}
 use Rattle.tk_engines.proofs.engines.solve.search_tour.Goals as goal
@@ -12,7 +15,10 @@ returns-clause-solved g c =
     let options = c.options_of-options.result in
     let size = ap (λ (n : ℕ). task_over n (table_distance c.of.result) options) c.of.ensures.size in
     let distance = ap (λ (d : ℕ → ℕ → ℕ). task_over c.args.problem.now.n d options) (distances_read (table_distance c.of.result) c.args.problem.now.weights c.of.ensures.distances) in
-    subst (λ (task : TourTask). IfOk c.solve_tour.result (IsSolved task (WereShown g.V.Watch.shows c.args.watch.now c.solve_tour.new.watch))) (size ∙ distance ∙ c.options_of-options.ensures) c.solve_tour.ensures.solved
+    let begun = next nothing (subst (λ (name : List ℕ). g.V.Watch.shows c.args.watch.now (Begun name) c.begin.new.self) c.deref.ensures.value c.begin.ensures) in
+    let Watched : List Event → Type 0 = λ shown. WereShown g.V.Watch.shows c.args.watch.now c.solve_tour.new.watch (Begun c.args.problem.now.name.items ∷ shown) in
+    let solved = IfOk-watched c.solve_tour.result (task_of c.of.result options) (WereShown g.V.Watch.shows c.begin.new.self c.solve_tour.new.watch) Watched (λ shown is. shown_both begun is) c.solve_tour.ensures.solved in
+    subst (λ (task : TourTask). IfOk c.solve_tour.result (IsSolved task Watched)) (size ∙ distance ∙ c.options_of-options.ensures) solved
 
 pub returns-clause-sound : goal.returns-clause-sound
 returns-clause-sound g c =

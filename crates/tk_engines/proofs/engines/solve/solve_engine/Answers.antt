@@ -3,7 +3,7 @@ use Rattle.std.specs.Prelude.{is_some, option_map}
 use Rattle.tk_problem_text.specs.Parts.{problem_is}
 use Rattle.tk_problem_text.specs.Problem.{ProblemIs}
 use Rattle.tk_routes.specs.Cvrps.{instance_of}
-use Rattle.tk_solve.specs.declared.watch.Progress.{Progress}
+use Rattle.tk_solve.specs.Events.{Event}
 use Rattle.tk_solve.specs.Watching.{WereShown, nothing}
 use Rattle.tk_engines.specs.Engine.{AreRead, Reading, ReadsProblem, Writing}
 use Rattle.tk_engines.specs.Solve.{AreRoutesOf, Files, IsTourWritten, ReadsInitial, WritesFiles, cities_in, solve_task, unfit_key}
@@ -20,7 +20,7 @@ returns-in_err-check_initial-clause-ends g c =
     let Problem : Reading ProblemIs = ReadsProblem g.P.Source.left g.P.Source.broken c.args.problem.now c.read_problem.new.source in
     let Second : Reading (Option (List ℕ)) = ReadsInitial (is_some p.initial_tour_file) g.I.Source.left g.I.Source.broken c.args.initial.now c.read_initial.new.initial in
     let Writes : Writing Files = WritesFiles g.F.Sink.taken g.F.Sink.broken g.W.Sink.taken g.W.Sink.broken c.args.file.now c.args.file.now c.args.out.now c.args.out.now in
-    let Watched : List Progress → Type 0 = WereShown g.V.Watch.shows c.args.watch.now c.args.watch.now in
+    let Watched : List Event → Type 0 = WereShown g.V.Watch.shows c.args.watch.now c.args.watch.now in
     let none : unfit_key p problem ≡ None = search rules in
     let read : AreRead (solve_task p Watched) Problem Second problem initial = record {
       is_problem = record { answer = c.in-Ok.ensures.ok; some_text = c.in-Ok.ensures.some_text; intact = c.in-Ok.ensures.intact };
@@ -38,7 +38,7 @@ returns-in-Some-of-clause-ends g c =
     let Problem : Reading ProblemIs = ReadsProblem g.P.Source.left g.P.Source.broken c.args.problem.now c.read_problem.new.source in
     let Second : Reading (Option (List ℕ)) = ReadsInitial (is_some p.initial_tour_file) g.I.Source.left g.I.Source.broken c.args.initial.now c.read_initial.new.initial in
     let Writes : Writing Files = WritesFiles g.F.Sink.taken g.F.Sink.broken g.W.Sink.taken g.W.Sink.broken c.args.file.now c.solve_cvrp.new.file c.args.out.now c.solve_cvrp.new.out in
-    let Watched : List Progress → Type 0 = WereShown g.V.Watch.shows c.args.watch.now c.args.watch.now in
+    let Watched : List Event → Type 0 = WereShown g.V.Watch.shows c.args.watch.now c.args.watch.now in
     let none : unfit_key p problem ≡ None = search rules in
     let read : AreRead (solve_task p Watched) Problem Second problem initial = record {
       is_problem = record { answer = c.in-Ok.ensures.ok; some_text = c.in-Ok.ensures.some_text; intact = c.in-Ok.ensures.intact };
@@ -57,7 +57,7 @@ returns-clause-ends g c =
     let Problem : Reading ProblemIs = ReadsProblem g.P.Source.left g.P.Source.broken c.args.problem.now c.read_problem.new.source in
     let Second : Reading (Option (List ℕ)) = ReadsInitial (is_some p.initial_tour_file) g.I.Source.left g.I.Source.broken c.args.initial.now c.read_initial.new.initial in
     let Writes : Writing Files = WritesFiles g.F.Sink.taken g.F.Sink.broken g.W.Sink.taken g.W.Sink.broken c.args.file.now c.solve_tsp.new.file c.args.out.now c.solve_tsp.new.out in
-    let Watched : List Progress → Type 0 = WereShown g.V.Watch.shows c.args.watch.now c.solve_tsp.new.watch in
+    let Watched : List Event → Type 0 = WereShown g.V.Watch.shows c.args.watch.now c.solve_tsp.new.watch in
     let none : unfit_key p problem ≡ None = search rules in
     let read : AreRead (solve_task p Watched) Problem Second problem initial = record {
       is_problem = record { answer = c.in-Ok.ensures.ok; some_text = c.in-Ok.ensures.some_text; intact = c.in-Ok.ensures.intact };

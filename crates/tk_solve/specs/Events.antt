@@ -1,0 +1,12 @@
+-- What a search shows.
+use Rattle.std.specs.Prelude.{ℕ, List}
+use Rattle.tk_solve.specs.declared.outcome.RunReport.{RunReport}
+use Rattle.tk_solve.specs.declared.watch.Progress.{Progress}
+
+pub data Event : Type 0 where
+  -- the name of the problem, before the first run
+  Begun : (name : List ℕ) → Event
+  -- a trial, and the best tour of its run so far
+  Tried : (progress : Progress) (best : List ℕ) → Event
+  -- a run, from 1, and its report
+  Ended : (run : ℕ) (report : RunReport) → Event

@@ -1,0 +1,174 @@
+//! The best tour of a long search, kept in a file beside the one that the search will write.
+use crate::written::{Kept, id_of};
+use std::alloc::AllocError;
+use std::fs::{self, File};
+use std::process;
+use std::time::{Clock, Duration};
+use tk_solve::Progress;
+use tk_writers::{ToWrite, write_tour};
+
+/// The tour is saved for the first time after this many seconds, and then again after as many at the earliest.
+const PAUSE: u64 = 5;
+
+/// The file of the best tour so far.
+#[derive(Drop)]
+pub struct BestFile<'a> {
+    rt: &'a HostRuntime,
+    /// Its name, and the one under which it is written first.
+    names: Option<(String, String)>,
+    /// The name of the problem.
+    problem: Vec<u8>,
+    /// Whether it stays when the search has written its own, since the search began from it.
+    stays: bool,
+    /// The shortest of the tours with which runs have ended, and its length.
+    ended: Vec<u32>,
+    ended_length: i64,
+    /// The length of the tour that is saved.
+    saved: i64,
+    /// When the next one may be saved.
+    next: Duration,
+}
+
+impl<'a> BestFile<'a> {
+    /// Nothing is saved yet. Nothing will be where the search writes no tour, or to what is no plain file, or where the
+    /// file would be one that is kept. It may be the initial tour's: what is saved is never longer than that.
+    ///
+    /// # Errors
+    /// `AllocError` if memory runs out.
+    pub fn new(
+        rt: &'a HostRuntime,
+        tour_file: Option<&str>,
+        kept: Kept,
+    ) -> Result<BestFile<'a>, AllocError> {
+        let mut best = BestFile {
+            rt,
+            names: None,
+            problem: Vec::new(rt.alloc()),
+            stays: false,
+            ended: Vec::new(rt.alloc()),
+            ended_length: i64::MAX,
+            saved: i64::MAX,
+            next: pause_from(rt),
+        };
+        if let Some(tour_file) = tour_file {
+            best.name_beside(tour_file, kept)?;
+        }
+        Ok(best)
+    }
+
+    /// Takes the names beside the file that the search writes, where they can be used.
+    fn name_beside(&mut self, tour_file: &str, kept: Kept) -> Result<(), AllocError> {
+        let (name, part) = names_beside(self.rt, tour_file)?;
+        let found = id_of(fs::metadata(self.rt, &name));
+        let is_kept = found.is_some() && (found == kept.problem || found == kept.parameters);
+        if !is_kept && is_plain(self.rt, tour_file) && is_plain(self.rt, &name) {
+            self.stays = found.is_some() && found == kept.initial;
+            self.names = Some((name, part));
+        }
+        Ok(())
+    }
+
+    /// Takes note of the problem's name. Nothing is saved where there is no memory for it.
+    pub fn begin(&mut self, problem: &[u8]) {
+        if self.problem.extend_from_slice(problem).is_err() {
+            self.names = None;
+        }
+    }
+
+    /// Saves the best tour so far where it is shorter than the one that is saved, and the pause has passed. At the end of
+    /// a run it is kept, or, where one is saved already, saved.
+    pub fn trial(&mut self, progress: &Progress, best: &[u32]) {
+        if self.names.is_none() {
+            return;
+        }
+        let ends = progress.trial == progress.trials;
+        if ends && progress.best < self.ended_length {
+            self.keep(progress.best, best);
+        }
+        if self.saved <= self.ended_length.min(progress.best) {
+            return;
+        }
+        let Ok(now) = self.rt.monotonic() else {
+            return;
+        };
+        if now >= self.next || ends && self.saved < i64::MAX {
+            self.next = now.saturating_add(Duration::from_secs(PAUSE));
+            self.save(progress.best, best);
+        }
+    }
+
+    /// Keeps the tour with which a run has ended. Nothing more is saved where there is no memory for it.
+    fn keep(&mut self, length: i64, cities: &[u32]) {
+        self.ended.clear();
+        if self.ended.extend_from_slice(cities).is_err() {
+            self.names = None;
+        }
+        self.ended_length = length;
+    }
+
+    /// Saves the tour, or the one that is kept where that is shorter, under the other name, and then gives it its own.
+    fn save(&mut self, length: i64, cities: &[u32]) {
+        let Some((name, part)) = &self.names else {
+            return;
+        };
+        let shortest = self.ended_length.min(length);
+        let written = if self.ended_length < length {
+            write_part(self.rt, part, &self.problem, shortest, &self.ended)
+        } else {
+            write_part(self.rt, part, &self.problem, shortest, cities)
+        };
+        if written && fs::rename(self.rt, part, name).is_ok() {
+            self.saved = shortest;
+        }
+    }
+
+    /// Takes the file away, once the search has written its own, unless the search began from it.
+    pub fn remove(&self) {
+        if let Some((name, _)) = &self.names {
+            if self.saved < i64::MAX && !self.stays {
+                let _ = fs::remove_file(self.rt, name);
+            }
+        }
+    }
+}
+
+/// Whether a name stands for a plain file, or for none yet.
+fn is_plain(rt: &HostRuntime, name: &str) -> bool {
+    fs::metadata(rt, name).map_or(true, |found| found.is_file())
+}
+
+/// The name of the file, and the one under which it is written first.
+fn names_beside(rt: &HostRuntime, tour_file: &str) -> Result<(String, String), AllocError> {
+    let process = process::id(rt.process());
+    let name = format!(in rt.alloc(); "{tour_file}.best")?;
+    let part = match tour_file.rsplit_once('/') {
+        Some((directory, _)) => {
+            format!(in rt.alloc(); "{directory}/tourkit.{process}.best.part")?
+        }
+        None => format!(in rt.alloc(); "tourkit.{process}.best.part")?,
+    };
+    Ok((name, part))
+}
+
+/// When the first tour may be saved.
+fn pause_from(rt: &HostRuntime) -> Duration {
+    match rt.monotonic() {
+        Ok(now) => now.saturating_add(Duration::from_secs(PAUSE)),
+        Err(_) => Duration::ZERO,
+    }
+}
+
+/// Writes a tour to a file, which is taken away where that fails.
+fn write_part(rt: &HostRuntime, part: &str, problem: &[u8], length: i64, cities: &[u32]) -> bool {
+    let Ok(file) = File::create(rt, part) else {
+        return false;
+    };
+    let mut file = ToWrite::new(file);
+    let written = length >= 0
+        && write_tour(&mut file, problem, length, cities).is_ok()
+        && file.inner.sync_all().is_ok();
+    if !written {
+        let _ = fs::remove_file(rt, part);
+    }
+    written
+}
