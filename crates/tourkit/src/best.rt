@@ -1,8 +1,8 @@
 //! The best tour of a long search, kept in a file beside the one that the search will write.
+use crate::output::{make_part, put_in_place};
 use crate::written::{Kept, id_of};
 use std::alloc::AllocError;
 use std::fs::{self, File};
-use std::process;
 use std::time::{Clock, Duration};
 use tk_solve::Progress;
 use tk_writers::{ToWrite, write_tour};
@@ -14,8 +14,8 @@ const PAUSE: u64 = 5;
 #[derive(Drop)]
 pub struct BestFile<'a> {
     rt: &'a HostRuntime,
-    /// Its name, and the one under which it is written first.
-    names: Option<(String, String)>,
+    /// Its name, where it can be used.
+    name: Option<String>,
     /// The name of the problem.
     problem: Vec<u8>,
     /// Whether it stays when the search has written its own, since the search began from it.
@@ -42,7 +42,7 @@ impl<'a> BestFile<'a> {
     ) -> Result<BestFile<'a>, AllocError> {
         let mut best = BestFile {
             rt,
-            names: None,
+            name: None,
             problem: Vec::new(rt.alloc()),
             stays: false,
             ended: Vec::new(rt.alloc()),
@@ -56,14 +56,14 @@ impl<'a> BestFile<'a> {
         Ok(best)
     }
 
-    /// Takes the names beside the file that the search writes, where they can be used.
+    /// Takes the name beside the file that the search writes, where it can be used.
     fn name_beside(&mut self, tour_file: &str, kept: Kept) -> Result<(), AllocError> {
-        let (name, part) = names_beside(self.rt, tour_file)?;
+        let name = format!(in self.rt.alloc(); "{tour_file}.best")?;
         let found = id_of(fs::metadata(self.rt, &name));
         let is_kept = found.is_some() && (found == kept.problem || found == kept.parameters);
         if !is_kept && is_plain(self.rt, tour_file) && is_plain(self.rt, &name) {
             self.stays = found.is_some() && found == kept.initial;
-            self.names = Some((name, part));
+            self.name = Some(name);
         }
         Ok(())
     }
@@ -71,14 +71,14 @@ impl<'a> BestFile<'a> {
     /// Takes note of the problem's name. Nothing is saved where there is no memory for it.
     pub fn begin(&mut self, problem: &[u8]) {
         if self.problem.extend_from_slice(problem).is_err() {
-            self.names = None;
+            self.name = None;
         }
     }
 
     /// Saves the best tour so far where it is shorter than the one that is saved, and the pause has passed. At the end of
     /// a run it is kept, or, where one is saved already, saved.
     pub fn trial(&mut self, progress: &Progress, best: &[u32]) {
-        if self.names.is_none() {
+        if self.name.is_none() {
             return;
         }
         let ends = progress.trial == progress.trials;
@@ -101,30 +101,35 @@ impl<'a> BestFile<'a> {
     fn keep(&mut self, length: i64, cities: &[u32]) {
         self.ended.clear();
         if self.ended.extend_from_slice(cities).is_err() {
-            self.names = None;
+            self.name = None;
         }
         self.ended_length = length;
     }
 
-    /// Saves the tour, or the one that is kept where that is shorter, under the other name, and then gives it its own.
+    /// Saves the tour, or the one that is kept where that is shorter, in a new file that then takes the old one's place.
     fn save(&mut self, length: i64, cities: &[u32]) {
-        let Some((name, part)) = &self.names else {
+        let Some(name) = &self.name else {
+            return;
+        };
+        let Ok((part, file)) = make_part(self.rt, name) else {
             return;
         };
         let shortest = self.ended_length.min(length);
-        let written = if self.ended_length < length {
-            write_part(self.rt, part, &self.problem, shortest, &self.ended)
+        let filled = if self.ended_length < length {
+            fill(file, &self.problem, shortest, &self.ended)
         } else {
-            write_part(self.rt, part, &self.problem, shortest, cities)
+            fill(file, &self.problem, shortest, cities)
         };
-        if written && fs::rename(self.rt, part, name).is_ok() {
+        if !filled {
+            let _ = fs::remove_file(self.rt, &part);
+        } else if put_in_place(self.rt, &part, name).is_ok() {
             self.saved = shortest;
         }
     }
 
     /// Takes the file away, once the search has written its own, unless the search began from it.
     pub fn remove(&self) {
-        if let Some((name, _)) = &self.names {
+        if let Some(name) = &self.name {
             if self.saved < i64::MAX && !self.stays {
                 let _ = fs::remove_file(self.rt, name);
             }
@@ -137,19 +142,6 @@ fn is_plain(rt: &HostRuntime, name: &str) -> bool {
     fs::metadata(rt, name).map_or(true, |found| found.is_file())
 }
 
-/// The name of the file, and the one under which it is written first.
-fn names_beside(rt: &HostRuntime, tour_file: &str) -> Result<(String, String), AllocError> {
-    let process = process::id(rt.process());
-    let name = format!(in rt.alloc(); "{tour_file}.best")?;
-    let part = match tour_file.rsplit_once('/') {
-        Some((directory, _)) => {
-            format!(in rt.alloc(); "{directory}/tourkit.{process}.best.part")?
-        }
-        None => format!(in rt.alloc(); "tourkit.{process}.best.part")?,
-    };
-    Ok((name, part))
-}
-
 /// When the first tour may be saved.
 fn pause_from(rt: &HostRuntime) -> Duration {
     match rt.monotonic() {
@@ -158,17 +150,10 @@ fn pause_from(rt: &HostRuntime) -> Duration {
     }
 }
 
-/// Writes a tour to a file, which is taken away where that fails.
-fn write_part(rt: &HostRuntime, part: &str, problem: &[u8], length: i64, cities: &[u32]) -> bool {
-    let Ok(file) = File::create(rt, part) else {
-        return false;
-    };
+/// Writes a tour to a new file and waits until the disk has it. It says whether that was done.
+fn fill(file: File, problem: &[u8], length: i64, cities: &[u32]) -> bool {
     let mut file = ToWrite::new(file);
-    let written = length >= 0
+    length >= 0
         && write_tour(&mut file, problem, length, cities).is_ok()
-        && file.inner.sync_all().is_ok();
-    if !written {
-        let _ = fs::remove_file(rt, part);
-    }
-    written
+        && file.inner.sync_all().is_ok()
 }

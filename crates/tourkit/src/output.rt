@@ -9,7 +9,8 @@ use std::process::{self, ExitCode};
 const NAMES: u32 = 100;
 
 /// Why a text was not saved.
-enum Unsaved {
+#[derive(Drop)]
+pub enum Unsaved {
     /// No other file could be made beside the file, or put in its place.
     NoOther,
     /// The file could not be opened.
@@ -131,15 +132,26 @@ fn replace(
         let _ = fs::remove_file(rt, &part);
         return Err(Unsaved::Unwritten);
     }
-    if let Err(error) = fs::rename(rt, &part, path) {
-        let _ = fs::remove_file(rt, &part);
-        return Err(hindered(error.kind()));
+    put_in_place(rt, &part, path).map_err(|error| hindered(error.kind()))
+}
+
+/// Gives a new file the name of the file beside which it was made. Where that fails, it is taken away.
+///
+/// # Errors
+/// The fault of the file system.
+pub fn put_in_place(rt: &HostRuntime, part: &str, path: &str) -> io::Result<()> {
+    let placed = fs::rename(rt, part, path);
+    if placed.is_err() {
+        let _ = fs::remove_file(rt, part);
     }
-    Ok(())
+    placed
 }
 
 /// Makes a new file beside the file, under the first of some short names that none has.
-fn make_part(rt: &HostRuntime, path: &str) -> Result<(String, File), Unsaved> {
+///
+/// # Errors
+/// `Unsaved`, as it says.
+pub fn make_part(rt: &HostRuntime, path: &str) -> Result<(String, File), Unsaved> {
     for number in 0..NAMES {
         let Ok(part) = part_name(rt, path, number) else {
             return Err(Unsaved::NoMemory);
