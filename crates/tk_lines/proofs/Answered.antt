@@ -13,7 +13,8 @@ use Rattle.tk_words.specs.MinusOne.{is_ending}
 use Rattle.tk_words.specs.TextLaws.{HasAnswers}
 use Rattle.tk_words.specs.Words.{keyword_of, role}
 use Rattle.tk_lines.specs.Lists.{entries, trailing_stop}
-use Rattle.tk_lines.specs.Pieces.{After, Clean, Trailing, Early, Piece, Stray, LongWord, OpenWord, Unknown, Header, Section, End, Extents, Stop, Open, Fault, Format, section_at, piece_by, piece_of, pieces_at, covered, cut, end_token, ending, first_at, checked, or_else, ended, stopped, judge, decided_by}
+use Rattle.tk_lines.specs.Pieces.{After, Clean, Trailing, Early, Piece, Stray, LongWord, OpenWord, Unknown, Header, Section, End, Extents, Stop, Open, Fault, Format, section_at, piece_by, piece_of, pieces_at, covered, cut, end_token, first_at, checked, or_else, ended, stopped, judge, decided_by}
+use Rattle.tk_lines.specs.FromMiddle.{ending}
 use Rattle.tk_lines.proofs.MiddleOfLine.{lines_cons}
 
 -- ---- lines and tokens that have ended
@@ -130,9 +131,9 @@ IsClosed _ = Unit {0}
 abbrev AreClosed : List Piece → Type 0
 AreClosed ps = AllByRecursion IsClosed ps
 
-closed_append : (ps qs : List Piece) → AreClosed ps → AreClosed qs → AreClosed (ps ++ qs)
-closed_append [] qs h k = k
-closed_append (p ∷ ps) qs h k = (h.0, closed_append ps qs h.1 k)
+pub all_append : {X : Type 0} (P : X → Type 0) (xs ys : List X) → AllByRecursion P xs → AllByRecursion P ys → AllByRecursion P (xs ++ ys)
+all_append P [] ys h k = k
+all_append P (x ∷ xs) ys h k = (h.0, all_append P xs ys h.1 k)
 
 module _ (extent : Extents) (before : List Piece) (l : Line) (ls : List Line) (whole : l.whole ≡ true) (rest : AreWhole ls) where
   closed_section : (word : Keyword) (toks : List Token) → WholeTokens toks → AreClosed (section_at extent before word l.number toks (end_token l ls))
@@ -168,7 +169,7 @@ unfolding cut
 closed_cut extent before upto [] h = tt
 closed_cut extent before upto (l ∷ ls) h =
     let new : List Piece = cond (leb l.number upto) [] (pieces_at extent before l ls (behind is_blank l.bytes)) in
-    closed_append new (cut extent (before ++ new) (covered upto new) ls) (by_test (leb l.number upto)) (closed_cut extent (before ++ new) (covered upto new) ls h.1)
+    all_append IsClosed new (cut extent (before ++ new) (covered upto new) ls) (by_test (leb l.number upto)) (closed_cut extent (before ++ new) (covered upto new) ls h.1)
   where
     by_test : (t : Bool) → AreClosed (cond t [] (pieces_at extent before l ls (behind is_blank l.bytes)))
     by_test true = tt

@@ -9,7 +9,8 @@ use Rattle.tk_words.specs.declared.fault.TextKind.TheVariants as kinds
 use Rattle.tk_words.specs.declared.fault.TextFault.{TextFault}
 use Rattle.tk_words.specs.Lex.{LF, Line, Token, onto_line, lines, is_blank, is_letter, is_word_byte, is_empty, front, behind}
 use Rattle.tk_words.specs.Words.{keyword_of, role}
-use Rattle.tk_lines.specs.Pieces.{Piece, Extents, After, Header, Fault, pieces_at, piece_of, covered, cut, end_piece, Format, stop, judge, stopped, ended, from_line}
+use Rattle.tk_lines.specs.Pieces.{Piece, Extents, After, Header, Fault, pieces_at, piece_of, covered, cut, end_piece, Format, stop, judge, stopped, ended}
+use Rattle.tk_lines.specs.FromMiddle.{from_line}
 use Rattle.tk_lines.specs.Reader.{no_word, IsWord}
 use Rattle.tk_lines.specs.Forms.{whole}
 use Rattle.tk_lines.proofs.MiddleOfLine.{prepend-nil, lines-byte, lines-LF, end_token-bytes, from_line-LF}

@@ -1,5 +1,6 @@
 pub mod Feeding
 pub mod Forms
+pub mod FromMiddle
 pub mod Lists
 pub mod Pieces
 pub mod Reader

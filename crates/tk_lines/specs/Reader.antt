@@ -15,7 +15,8 @@ use Rattle.tk_words.specs.declared.sources.text_reader.Step.TheVariants as steps
 use Rattle.tk_words.specs.Lex.{LF, Token, is_blank, is_letter, is_word_byte, behind, IsRun}
 use Rattle.tk_words.specs.Words.{keyword_of, role}
 use Rattle.tk_words.specs.declared.keyword.Role.TheVariants.{BeginsHeader, BeginsSection}
-use Rattle.tk_lines.specs.Pieces.{Piece, Header, stop, Clean, Format, ended, decided_by, from_line, in_section, last_line}
+use Rattle.tk_lines.specs.Pieces.{Piece, Header, stop, Clean, Format, ended, decided_by, last_line}
+use Rattle.tk_lines.specs.FromMiddle.{from_line, in_section}
 use Rattle.tk_words.specs.MinusOne.{begins_minus_one}
 use Rattle.tk_lines.specs.Scan.{Scans}
 use Rattle.tk_lines.specs.Forms.{Goes, Closed, Ends, Holding, Wanting, a_section, a_header, whole}

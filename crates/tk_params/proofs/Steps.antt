@@ -8,7 +8,7 @@ use Rattle.tk_lines.proofs.Lines.{begins_no, behind_none}
 use Rattle.tk_lines.proofs.MiddleOfLine.{prepend-nil, prepend-onto, lines-byte, lines-LF, lines_cons}
 use Rattle.tk_lines.proofs.Headers.ByteRuns.{behind-all, behind-on, front-all, front-on, front-whole}
 use Rattle.tk_words.specs.Lex.{LF, Line, is_letter, is_blank, is_word_byte, is_empty, front, behind, lines}
-use Rattle.tk_lines.specs.Pieces.{prepend}
+use Rattle.tk_lines.specs.FromMiddle.{prepend}
 use Rattle.tk_lines.specs.Scan.{IsEmpty}
 use Rattle.tk_params.specs.declared.fault.ParamKind.{ParamKind}
 use Rattle.tk_params.specs.declared.fault.ParamKind.TheVariants as kinds

@@ -5,7 +5,7 @@ use Rattle.tk_words.specs.declared.sources.text_reader.Step.TheVariants as steps
 use Rattle.tk_words.specs.declared.fault.TextFault.{TextFault}
 use Rattle.tk_words.specs.Drive.{line_behind}
 use Rattle.tk_words.specs.Lex.{is_blank, is_empty, behind, lines}
-use Rattle.tk_lines.specs.Pieces.{prepend}
+use Rattle.tk_lines.specs.FromMiddle.{prepend}
 use Rattle.tk_params.specs.declared.fault.ParamFault.{ParamFault}
 use Rattle.tk_params.specs.declared.fault.ParamKind.{ParamKind}
 use Rattle.tk_params.specs.declared.reader.ParamReader.{ParamReader}

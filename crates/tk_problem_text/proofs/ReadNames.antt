@@ -19,6 +19,7 @@ use Rattle.tk_lines.specs.Pieces.{Piece, Stray, LongWord, OpenWord, Unknown, Hea
 use Rattle.tk_problem_text.specs.Problem.{ProblemIs, problem_decided, problem_format, problem_value}
 use Rattle.tk_problem_text.specs.Names.{IsName}
 use Rattle.tk_words.specs.Words.{keyword_of, role}
+use Rattle.tk_lines.proofs.Answered.{all_append}
 use Rattle.tk_lines.proofs.Lines.{begins_no, behind_none, OnOneLine}
 use Rattle.tk_lines.proofs.Pieces.PieceValues.{value_of-append, value_of-unseen}
 
@@ -124,10 +125,6 @@ HeaderOnLine _ = Unit {0}
 abbrev HeadersOnLines : List Piece → Type 0
 HeadersOnLines ps = AllByRecursion HeaderOnLine ps
 
-headers_append : (ps qs : List Piece) → HeadersOnLines ps → HeadersOnLines qs → HeadersOnLines (ps ++ qs)
-headers_append [] qs h k = k
-headers_append (p ∷ ps) qs h k = (h.0, headers_append ps qs h.1 k)
-
 section_headers : (extent : Extents) (before : List Piece) (word : Keyword) (n : ℕ) (toks : List Token) (end : Token) → HeadersOnLines (section_at extent before word n toks end)
 section_headers extent before word n toks end = (tt, by_test (get_or toks (extent before word toks).count end).line (extent before word toks).at_eof)
   where
@@ -162,7 +159,7 @@ unfolding cut
 cut_headers extent before upto [] h = tt
 cut_headers extent before upto (l ∷ ls) h =
     let new : List Piece = cond (leb l.number upto) [] (pieces_at extent before l ls (behind is_blank l.bytes)) in
-    headers_append new (cut extent (before ++ new) (covered upto new) ls)
+    all_append HeaderOnLine new (cut extent (before ++ new) (covered upto new) ls)
     (by_test (leb l.number upto) (line_headers extent before l ls (behind is_blank l.bytes) (behind_line is_blank l.bytes h.0)))
     (cut_headers extent (before ++ new) (covered upto new) ls h.1)
   where
@@ -235,7 +232,7 @@ decided_name : (e : Bool) (bs : List ℕ) (v : ProblemIs) → problem_decided e 
 unfolding decided_by
 decided_name e bs v h =
     judged (pieces problem_format.extent (lines e 1 bs)) [] v tt
-    (headers_append (cut problem_format.extent [] 0 (lines e 1 bs)) (end_piece (lines e 1 bs)) (cut_headers problem_format.extent [] 0 (lines e 1 bs) (lines_on_line e bs 1)) (end_headers (lines e 1 bs))) h
+    (all_append HeaderOnLine (cut problem_format.extent [] 0 (lines e 1 bs)) (end_piece (lines e 1 bs)) (cut_headers problem_format.extent [] 0 (lines e 1 bs) (lines_on_line e bs 1)) (end_headers (lines e 1 bs))) h
 
 answered : (o : Option (Result ProblemIs TextFault)) (f : TextFault) (v : ProblemIs) → unwrap_or o (Err f) ≡ Ok v → o ≡ Some (Ok v)
 answered None f v h = absurd cc

@@ -13,6 +13,7 @@ pub use Rattle.tk_words.specs.MinusOne
 pub use Rattle.tk_words.specs.Words
 pub use Rattle.tk_words.specs.Texts
 pub use Rattle.tk_lines.specs.Forms
+pub use Rattle.tk_lines.specs.FromMiddle
 pub use Rattle.tk_lines.specs.Lists
 pub use Rattle.tk_lines.specs.Pieces
 pub use Rattle.tk_lines.specs.Reader

@@ -5,7 +5,8 @@ use Rattle.std.proofs.lemmas.Bool.{eq-eqb, lt-leb, le-leb}
 use Rattle.tk_words.specs.declared.keyword.Keyword.{Keyword}
 use Rattle.tk_words.specs.declared.fault.TextKind.TheVariants as kinds
 use Rattle.tk_words.specs.Lex.{Token, integer, tokens, lines, is_empty, is_blank, is_letter, LF, IsRun}
-use Rattle.tk_lines.specs.Pieces.{Piece, Clean, Trailing, Stop, Fault, Extent, Format, last_line, prepend, cut, judge, stopped, decided_by, from_line, in_section, goes, new_pieces}
+use Rattle.tk_lines.specs.Pieces.{Piece, Clean, Trailing, Stop, Fault, Extent, Format, last_line, cut, judge, stopped, decided_by}
+use Rattle.tk_lines.specs.FromMiddle.{prepend, from_line, in_section, goes, new_pieces}
 use Rattle.tk_words.specs.MinusOne.{is_minus_one, one_more, begins_minus_one}
 use Rattle.tk_lines.specs.Forms.{whole, Closed, Ends, a_section}
 use Rattle.tk_lines.specs.Reader.{Next, Within, anything, this, a_gap, DecidesIf, AtClose, AtAfter}

@@ -5,7 +5,8 @@ use Rattle.std.proofs.lemmas.Bool.{eqb-true}
 use Rattle.tk_words.specs.declared.keyword.Keyword.{Keyword}
 use Rattle.tk_words.specs.declared.fault.TextKind.TheVariants as kinds
 use Rattle.tk_words.specs.Lex.{LF, Token, tokens, lines, is_blank, is_letter, IsRun}
-use Rattle.tk_lines.specs.Pieces.{Piece, Clean, Trailing, Stop, Fault, Format, last_line, stopped, prepend, from_line, in_section}
+use Rattle.tk_lines.specs.Pieces.{Piece, Clean, Trailing, Stop, Fault, Format, last_line, stopped}
+use Rattle.tk_lines.specs.FromMiddle.{prepend, from_line, in_section}
 use Rattle.tk_words.specs.MinusOne.{one_more}
 use Rattle.tk_lines.specs.Forms.{whole, Ends, a_section}
 use Rattle.tk_lines.specs.Reader.{Next, Within, anything, this, a_gap, DecidesIf, AtLine, AtToken, AtAfter, IsLastLine}

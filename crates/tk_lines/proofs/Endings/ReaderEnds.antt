@@ -11,7 +11,8 @@ use Rattle.tk_lines.specs.declared.reader.PieceReader.{PieceReader}
 use Rattle.tk_lines.specs.declared.place.Place.{Place}
 use Rattle.tk_lines.specs.declared.place.Place.TheVariants as places
 use Rattle.tk_words.specs.Lex.{Line, Token, lines, is_word_byte}
-use Rattle.tk_lines.specs.Pieces.{Piece, Clean, Early, Fault, Stop, Format, cut, judge, end_piece, stopped, ended, decided_by, from_line}
+use Rattle.tk_lines.specs.Pieces.{Piece, Clean, Early, Fault, Stop, Format, cut, judge, end_piece, stopped, ended, decided_by}
+use Rattle.tk_lines.specs.FromMiddle.{from_line}
 use Rattle.tk_words.specs.Drive.{Decides, DecidesEnded, IsTold, FedMore}
 use Rattle.tk_lines.specs.Forms.{a_header, a_section}
 use Rattle.tk_lines.specs.Reader.{Within, anything, no_word, a_gap, a_line_end, at_end, DecidesIf, AtLine, AtTail, AtValue, AtBegin, AtToken, AtClose, AtAfter, AtPlace, HeaderTaken, AtEnd, Fed, HasFed}

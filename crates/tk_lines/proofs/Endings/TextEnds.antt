@@ -7,7 +7,8 @@ use Rattle.tk_words.specs.declared.keyword.Role.TheVariants.{BeginsHeader}
 use Rattle.tk_words.specs.declared.fault.TextFault.{TextFault}
 use Rattle.tk_words.specs.Lex.{Token, lines, tokens_of, onto_token, is_word_byte, IsRun}
 use Rattle.tk_words.specs.Words.{keyword_of, role}
-use Rattle.tk_lines.specs.Pieces.{Piece, End, Clean, Early, Format, last_line, cut, judge, stopped, ended, decided_by, from_line, in_section, goes, new_pieces}
+use Rattle.tk_lines.specs.Pieces.{Piece, End, Clean, Early, Format, last_line, cut, judge, stopped, ended, decided_by}
+use Rattle.tk_lines.specs.FromMiddle.{from_line, in_section, goes, new_pieces}
 use Rattle.tk_lines.specs.Forms.{Goes, a_section}
 use Rattle.tk_lines.specs.Reader.{anything, IsWord, AtLine, AtToken, AtClose, AtAfter}
 use Rattle.tk_words.proofs.Bools.{and_false}

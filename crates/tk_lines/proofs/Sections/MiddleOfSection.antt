@@ -4,7 +4,8 @@ use Rattle.std.proofs.lemmas.List.{append-nil}
 use Rattle.std.proofs.lemmas.Bool.{le-leb}
 use Rattle.tk_words.specs.declared.keyword.Keyword.{Keyword}
 use Rattle.tk_words.specs.Lex.{LF, Line, Token, onto_line, onto_token, goes_on, lines, tokens, tokens_of, is_blank, is_empty, behind, IsRun}
-use Rattle.tk_lines.specs.Pieces.{Piece, in_section, goes, new_pieces, end_of, Extents, covered, cut, Format}
+use Rattle.tk_lines.specs.Pieces.{Piece, Extents, covered, cut, Format}
+use Rattle.tk_lines.specs.FromMiddle.{in_section, goes, new_pieces, end_of}
 use Rattle.tk_lines.proofs.MiddleOfLine.{prepend-onto, prepend-nil, lines-byte, lines-LF, lines_cons, end_token-bytes}
 use Rattle.tk_words.proofs.Bools.{or_true}
 

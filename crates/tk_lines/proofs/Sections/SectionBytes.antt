@@ -8,7 +8,8 @@ use Rattle.tk_words.specs.declared.fault.TextKind.{TextKind}
 use Rattle.tk_words.specs.declared.fault.TextKind.TheVariants as kinds
 use Rattle.tk_words.specs.Lex.{LF, Line, Token, lines, tokens, tokens_of, onto_token, is_blank, behind, after_word, without_colon_before, IsRun}
 use Rattle.tk_words.specs.Words.{keyword_of, role}
-use Rattle.tk_lines.specs.Pieces.{Piece, After, Trailing, Early, End, Fault, section_at, last_line, covered, cut, end_token, ending, Format, judge, ended, from_line, in_section, goes, new_pieces}
+use Rattle.tk_lines.specs.Pieces.{Piece, After, Trailing, Early, End, Fault, section_at, last_line, covered, cut, end_token, Format, judge, ended}
+use Rattle.tk_lines.specs.FromMiddle.{ending, from_line, in_section, goes, new_pieces}
 use Rattle.tk_lines.specs.Forms.{whole, taken, StopsAt, EndsAtEof, a_section}
 use Rattle.tk_lines.specs.Reader.{IsWord, a_gap, no_word}
 use Rattle.tk_lines.proofs.MiddleOfLine.{with_bytes, end_token-bytes}

@@ -4,7 +4,8 @@ use Rattle.std.specs.List.{AllByRecursion}
 use Rattle.std.proofs.lemmas.Bool.{ne_eqb}
 use Rattle.tk_words.specs.declared.keyword.Keyword.{Keyword}
 use Rattle.tk_words.specs.Lex.{LF, Line, Token, onto_line, onto_token, goes_on, lines, tokens, tokens_of, is_blank, is_empty}
-use Rattle.tk_lines.specs.Pieces.{Piece, end_of, ending, new_pieces, goes, in_section, Section, End, Extents, Clean, section_at, after_tokens, last_line, covered, end_token, end_piece, Format, stop, judge, stopped, prepend, from_line}
+use Rattle.tk_lines.specs.Pieces.{Piece, Section, End, Extents, Clean, section_at, after_tokens, last_line, covered, end_token, end_piece, Format, stop, judge, stopped}
+use Rattle.tk_lines.specs.FromMiddle.{end_of, ending, new_pieces, goes, in_section, prepend, from_line}
 use Rattle.tk_lines.proofs.MiddleOfLine.{lines-byte, lines_cons}
 use Rattle.tk_words.proofs.Bools.{and_false}
 

@@ -6,7 +6,8 @@ use Rattle.tk_words.specs.declared.keyword.Keyword.{Keyword}
 use Rattle.tk_words.specs.declared.fault.TextKind.{TextKind}
 use Rattle.tk_words.specs.declared.fault.TextKind.TheVariants as kinds
 use Rattle.tk_words.specs.Lex.{LF, Token, is_blank, IsRun}
-use Rattle.tk_lines.specs.Pieces.{Piece, Clean, Early, Stop, Format, last_line, stopped, ended, from_line, in_section}
+use Rattle.tk_lines.specs.Pieces.{Piece, Clean, Early, Stop, Format, last_line, stopped, ended}
+use Rattle.tk_lines.specs.FromMiddle.{from_line, in_section}
 use Rattle.tk_lines.specs.Forms.{whole, Goes, Closed, EndsAtEof, StopsAt, a_section}
 use Rattle.tk_lines.specs.Reader.{Next, Within, anything, this, a_gap, Says, DecidesIf, AtLine, AtBegin, AtToken, AtClose}
 use Rattle.tk_lines.proofs.Sections.MiddleOfSection.{in_section-byte, in_section-next}
