@@ -6,6 +6,7 @@ pub mod NearText
 pub mod Plot
 pub use Rattle.tk_params.specs.Asked
 pub use Rattle.tk_params.specs.Keys
+pub use Rattle.tk_params.specs.Entries
 pub use Rattle.tk_params.specs.Params
 pub use Rattle.tk_params.specs.Readers
 pub use Rattle.tk_params.specs.Reading

@@ -17,12 +17,12 @@ use Rattle.tk_params.specs.declared.reader.ParamReader.{ParamReader}
 use Rattle.tk_params.specs.Readers.{IsSound}
 use Rattle.tk_params.specs.Reading.{Feeds, IsTaken, TakesLine, answer_in, from_line}
 use Rattle.tk_params.specs.Values.{Meaning, Faulty, line_means, settings_of}
-use Rattle.tk_params.specs.Params.{at_end, is_eof, judge, line_limit, said, params_decided}
+use Rattle.tk_params.specs.Params.{at_end, is_eof, judge, line_limit, pieces, said, params_decided}
 
 -- nothing is read
 pub from_nothing : (e : Bool) (more : List ℕ) → params_decided e more ≡ from_line 1 [] [] e more
 unfolding params_decided from_line
-from_nothing e more = ap (λ ls. said (judge 1 [] ls)) (sym (prepend-nil (lines e 1 more)))
+from_nothing e more = ap (λ ls. said (judge 1 [] (pieces ls))) (sym (prepend-nil (lines e 1 more)))
 
 -- what is read of a text, and one byte more
 module _ (s : ParamReader) (bs : List ℕ) (f : Feeds s bs) (b : ℕ) where

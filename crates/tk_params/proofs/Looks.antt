@@ -21,7 +21,8 @@ use Rattle.std.specs.List.{IsDistinct}
 use Rattle.tk_params.specs.contracts.key.KeyPartialEq.TheImpl.{eq-value}
 use Rattle.tk_params.specs.declared.key.Key.{Key}
 use Rattle.tk_params.specs.declared.key.Key.TheVariants as keys
-use Rattle.tk_params.specs.Values.{Value, File, Meaning, Nothing, Settings, line_means, words_mean, file_of, has, has_dollar, key_means, look, same_key, value_of}
+use Rattle.tk_params.specs.Entries.{entry_of, word_entry}
+use Rattle.tk_params.specs.Values.{Value, File, Meaning, Nothing, Settings, means, line_means, file_of, has, has_dollar, key_means, look, same_key, value_of}
 
 -- keys are equal where they have one place
 pub equal_keys : (a b : Key) → eq-value.it a b ≡ same_key a b
@@ -145,16 +146,16 @@ taken_key old new key bs v h d e s = rw (h, d, e) (record { sound = tt; settings
 pub nothing_taken : (old : Settings) (m : Meaning) → m ≡ Nothing → HasTaken old old m
 nothing_taken old m e = rw e (record { sound = tt; settings = sym (append-nil old) })
 
-pub comment_means : (before : Settings) (word rest : List ℕ) → length word ≤ 64 → spells word (codes "COMMENT") ≡ true → words_mean before word rest ≡ Nothing
-unfolding words_mean
-comment_means before word rest le s = cond-false _ _ _ (le-ltb _ _ le) ∙ cond-true _ _ _ s
+pub comment_means : (before : Settings) (word rest : List ℕ) → length word ≤ 64 → spells word (codes "COMMENT") ≡ true → means before (word_entry word rest) ≡ Nothing
+unfolding word_entry
+comment_means before word rest le s = ap (means before) (cond-false _ _ _ (le-ltb _ _ le) ∙ cond-true _ _ _ s)
 
 pub empty_means : (before : Settings) (line : List ℕ) → eqb (length line) 0 ≡ true → line_means before line ≡ Nothing
-unfolding line_means
+unfolding entry_of
 empty_means before [] h = refl
 empty_means before (b ∷ bs) h = absurd (let e = eqb-true _ _ h in omega (arith, e))
 
 pub hash_means : (before : Settings) (line : List ℕ) → eqb (length line) 0 ≡ false → get_or line 0 0 ≡ 35 → line_means before line ≡ Nothing
-unfolding line_means
+unfolding entry_of
 hash_means before [] h e = absurd cc
-hash_means before (b ∷ bs) h e = cond-true _ _ _ (eq-eqb _ _ e)
+hash_means before (b ∷ bs) h e = ap (means before) (cond-true _ _ _ (eq-eqb _ _ e))

@@ -1,5 +1,5 @@
 -- How a line of a parameter file ends.
-use Rattle.std.proofs.Common.{◌≡◌, ℕ, suc, ◌-◌, ◌<◌, ◌≤◌, Bool, true, false, cond, eqb, leb, ltb, not, ◌&&◌, ◌||◌, List, [], ◌∷◌, ◌++◌, length, Option, Some, None, Ok, Err, refl, ap, ◌∙◌, arith}
+use Rattle.std.proofs.Common.{◌≡◌, ℕ, suc, ◌-◌, ◌<◌, ◌≤◌, Bool, true, false, cond, eqb, leb, ltb, not, ◌&&◌, ◌||◌, List, [], ◌∷◌, ◌++◌, length, Option, Some, None, Ok, Err, refl, sym, ap, ◌∙◌, arith}
 use Rattle.std.proofs.lemmas.Bool.{eqb-true, ltb-true, ltb-false, lt-ltb, le-ltb, le-leb, and_parts, and_from, and_left, or_right, false_from_ne_true, cond-true, cond-false}
 use Rattle.std.proofs.lemmas.List.{append-nil, length-append}
 use Rattle.std.specs.Char.{to_ascii_uppercase}
@@ -14,8 +14,9 @@ use Rattle.tk_params.specs.declared.fault.ParamKind.{ParamKind}
 use Rattle.tk_params.specs.declared.fault.ParamKind.TheVariants as kinds
 use Rattle.tk_params.specs.Readers.{IsSound}
 use Rattle.tk_params.specs.Reading.{ends_in, from_line}
-use Rattle.tk_params.specs.Values.{Settings, Meaning, Nothing, Faulty, Sets, line_means, settings_of}
-use Rattle.tk_params.specs.Params.{Answer, after, at_end, behind_word, counted, is_end, is_eof, judge, line_limit, said, word_of}
+use Rattle.tk_params.specs.Entries.{Entry, entry_of}
+use Rattle.tk_params.specs.Values.{Settings, Meaning, Nothing, Faulty, Sets, means, line_means, settings_of}
+use Rattle.tk_params.specs.Params.{Answer, Piece, LongLine, End, Open, Holds, after, at_end, behind_word, counted, is_end, is_eof, judge, line_limit, pieces, said, word_of}
 
 -- ---- EOF
 
@@ -144,30 +145,39 @@ module _ (pre : List ℕ) (none : ends_in pre ≡ false) where
 
 -- ---- what a line does
 
-any_number : (m n k : ℕ) (before : Settings) (e : Bool) (bs : List ℕ) → judge m before (lines e k bs) ≡ judge n before (lines e k bs)
-unfolding judge
-any_number m n k before e bs = let c = lines_cons e bs k in rw c.is refl
-
-judge_none : (m : ℕ) (before : Settings) → judge m before [] ≡ Some (at_end m before)
+pub judge_none : (m : ℕ) (before : Settings) → judge m before [] ≡ Some (at_end m before)
 unfolding judge
 judge_none m before = refl
 
-judge_over : (m : ℕ) (before : Settings) (l : Line) (ls : List Line) → ltb line_limit (counted l) ≡ true → judge m before (l ∷ ls) ≡ Some (Err (record { line = l.number; kind = kinds.TooLong }))
+judge_piece : (m : ℕ) (before : Settings) (over last more : Bool) (line : ℕ) (entry : Entry) (ps : List Piece)
+    → judge m before (cond over (LongLine line) (cond last (End line) (cond more Open (Holds line entry))) ∷ ps)
+    ≡ cond over (Some (Err (record { line = line; kind = kinds.TooLong }))) (cond last (Some (at_end line before)) (cond more None (after line (means before entry) (judge line (before ++ settings_of (means before entry)) ps))))
 unfolding judge
-judge_over m before l ls h = rw h refl
+judge_piece m before true last more line entry ps = refl
+judge_piece m before false true more line entry ps = refl
+judge_piece m before false false true line entry ps = refl
+judge_piece m before false false false line entry ps = refl
 
-judge_end : (m : ℕ) (before : Settings) (l : Line) (ls : List Line) → ltb line_limit (counted l) ≡ false → is_end l ≡ true → judge m before (l ∷ ls) ≡ Some (at_end l.number before)
-unfolding judge
-judge_end m before l ls h e = cond-false _ _ _ h ∙ cond-true _ _ _ e
+-- what is judged of a line
+pub judge_line : (m : ℕ) (before : Settings) (l : Line) (ls : List Line) → judge m before (pieces (l ∷ ls))
+    ≡ cond (ltb line_limit (counted l)) (Some (Err (record { line = l.number; kind = kinds.TooLong }))) (cond (is_end l) (Some (at_end l.number before)) (cond (not l.whole) None (after l.number (line_means before (behind is_blank l.bytes)) (judge l.number (before ++ settings_of (line_means before (behind is_blank l.bytes))) (pieces ls)))))
+judge_line m before l ls = judge_piece m before (ltb line_limit (counted l)) (is_end l) (not l.whole) l.number (entry_of (behind is_blank l.bytes)) (pieces ls)
 
-judge_open : (m : ℕ) (before : Settings) (l : Line) (ls : List Line) → ltb line_limit (counted l) ≡ false → is_end l ≡ false → l.whole ≡ false → judge m before (l ∷ ls) ≡ None
-unfolding judge
-judge_open m before l ls h e w = cond-false _ _ _ h ∙ cond-false _ _ _ e ∙ cond-true _ _ _ (ap not w)
+any_number : (m n k : ℕ) (before : Settings) (e : Bool) (bs : List ℕ) → judge m before (pieces (lines e k bs)) ≡ judge n before (pieces (lines e k bs))
+any_number m n k before e bs = let c = lines_cons e bs k in rw c.is (judge_line m before c.first c.rest ∙ sym (judge_line n before c.first c.rest))
+
+judge_over : (m : ℕ) (before : Settings) (l : Line) (ls : List Line) → ltb line_limit (counted l) ≡ true → judge m before (pieces (l ∷ ls)) ≡ Some (Err (record { line = l.number; kind = kinds.TooLong }))
+judge_over m before l ls h = judge_line m before l ls ∙ cond-true _ _ _ h
+
+judge_end : (m : ℕ) (before : Settings) (l : Line) (ls : List Line) → ltb line_limit (counted l) ≡ false → is_end l ≡ true → judge m before (pieces (l ∷ ls)) ≡ Some (at_end l.number before)
+judge_end m before l ls h e = judge_line m before l ls ∙ cond-false _ _ _ h ∙ cond-true _ _ _ e
+
+judge_open : (m : ℕ) (before : Settings) (l : Line) (ls : List Line) → ltb line_limit (counted l) ≡ false → is_end l ≡ false → l.whole ≡ false → judge m before (pieces (l ∷ ls)) ≡ None
+judge_open m before l ls h e w = judge_line m before l ls ∙ cond-false _ _ _ h ∙ cond-false _ _ _ e ∙ cond-true _ _ _ (ap not w)
 
 judge_whole : (m : ℕ) (before : Settings) (l : Line) (ls : List Line) → ltb line_limit (counted l) ≡ false → is_end l ≡ false → l.whole ≡ true
-    → judge m before (l ∷ ls) ≡ after l.number (line_means before (behind is_blank l.bytes)) (judge l.number (before ++ settings_of (line_means before (behind is_blank l.bytes))) ls)
-unfolding judge
-judge_whole m before l ls h e w = cond-false _ _ _ h ∙ cond-false _ _ _ e ∙ cond-false _ _ _ (ap not w)
+    → judge m before (pieces (l ∷ ls)) ≡ after l.number (line_means before (behind is_blank l.bytes)) (judge l.number (before ++ settings_of (line_means before (behind is_blank l.bytes))) (pieces ls))
+judge_whole m before l ls h e w = judge_line m before l ls ∙ cond-false _ _ _ h ∙ cond-false _ _ _ e ∙ cond-false _ _ _ (ap not w)
 
 -- a line that is no EOF counts whole
 counts_all : (l : Line) → is_end l ≡ false → length l.bytes ≤ line_limit → ltb line_limit (counted l) ≡ false
@@ -192,31 +202,31 @@ eof_at pre y n whole k le solid w =
 
 pub from_byte : (n : ℕ) (before : Settings) (pre : List ℕ) (e : Bool) (b : ℕ) (more : List ℕ) → eqb b LF ≡ false → from_line n before pre e (b ∷ more) ≡ from_line n before (pre ++ b ∷ []) e more
 unfolding from_line
-from_byte n before pre e b more h = ap (λ (ls : List Line). said (judge n before (prepend pre ls))) (lines-byte e n b more h) ∙ ap (λ (ls : List Line). said (judge n before ls)) (prepend-onto pre b (lines e n more))
+from_byte n before pre e b more h = ap (λ (ls : List Line). said (judge n before (pieces (prepend pre ls)))) (lines-byte e n b more h) ∙ ap (λ (ls : List Line). said (judge n before (pieces ls))) (prepend-onto pre b (lines e n more))
 
 pub from_over : (n : ℕ) (before : Settings) (pre : List ℕ) (e : Bool) (more : List ℕ) → ends_in pre ≡ false → length pre ≡ suc line_limit → from_line n before pre e more ≡ Some (Ok (Err (record { line = n; kind = kinds.TooLong })))
 unfolding from_line
 from_over n before pre e more none len =
     let f = first_line e n more in
-    ap (λ (ls : List Line). said (judge n before (prepend pre ls))) f.is ∙ ap said (judge_over n before _ f.rest (over pre none n f.bytes f.whole len))
+    ap (λ (ls : List Line). said (judge n before (pieces (prepend pre ls)))) f.is ∙ ap said (judge_over n before _ f.rest (over pre none n f.bytes f.whole len))
 
 pub from_eof : (n : ℕ) (before : Settings) (pre : List ℕ) (e : Bool) (b : ℕ) (more : List ℕ) → is_eof (behind is_blank pre) ≡ true → length pre ≤ line_limit → is_word_byte b ≡ false → from_line n before pre e (b ∷ more) ≡ Some (Ok (at_end n before))
 unfolding from_line
 from_eof n before pre e b more k le solid = by_test (eqb b LF) refl
   where
-    by_test : (t : Bool) → eqb b LF ≡ t → said (judge n before (prepend pre (lines e n (b ∷ more)))) ≡ Some (Ok (at_end n before))
+    by_test : (t : Bool) → eqb b LF ≡ t → said (judge n before (pieces (prepend pre (lines e n (b ∷ more))))) ≡ Some (Ok (at_end n before))
     by_test true t =
         let is : b ≡ LF = eqb-true _ _ t in
         let i = eof_at pre [] n true k le refl refl in
-        rw (is, lines-LF e n more) (ap said (judge_end n before _ _ i.counts i.ends))
+        rw (is, lines-LF e n more) (ap said (judge_end n before (record { number = n; bytes = pre ++ []; whole = true }) (lines e (suc n) more) i.counts i.ends))
     by_test false t =
         let f = first_line e n more in
         let i = eof_at pre (b ∷ f.bytes) n f.whole k le (rw solid refl) (or_right f.whole true refl) in
-        rw (lines-byte e n b more t, f.is) (ap said (judge_end n before _ f.rest i.counts i.ends))
+        rw (lines-byte e n b more t, f.is) (ap said (judge_end n before (record { number = n; bytes = pre ++ b ∷ f.bytes; whole = f.whole }) f.rest i.counts i.ends))
 
 pub from_end_eof : (n : ℕ) (before : Settings) (pre : List ℕ) → is_eof (behind is_blank pre) ≡ true → length pre ≤ line_limit → from_line n before pre true [] ≡ Some (Ok (at_end n before))
 unfolding from_line lines
-from_end_eof n before pre k le = let i = eof_at pre [] n true k le refl refl in ap said (judge_end n before _ [] i.counts i.ends)
+from_end_eof n before pre k le = let i = eof_at pre [] n true k le refl refl in ap said (judge_end n before (record { number = n; bytes = pre ++ []; whole = true }) [] i.counts i.ends)
 
 module _ (n : ℕ) (before : Settings) (pre : List ℕ) (none : ends_in pre ≡ false) (le : length pre ≤ line_limit) where
   pub from_open : from_line n before pre false [] ≡ None
@@ -227,7 +237,7 @@ module _ (n : ℕ) (before : Settings) (pre : List ℕ) (none : ends_in pre ≡ 
     line_ends : is_end (record { number = n; bytes = pre; whole = true }) ≡ false
     line_ends = and_left _ true (no_end pre none other)
 
-    at_line : (ls : List Line) → judge n before (record { number = n; bytes = pre; whole = true } ∷ ls) ≡ after n (line_means before (behind is_blank pre)) (judge n (before ++ settings_of (line_means before (behind is_blank pre))) ls)
+    at_line : (ls : List Line) → judge n before (pieces (record { number = n; bytes = pre; whole = true } ∷ ls)) ≡ after n (line_means before (behind is_blank pre)) (judge n (before ++ settings_of (line_means before (behind is_blank pre))) (pieces ls))
     at_line ls = judge_whole n before (record { number = n; bytes = pre; whole = true }) ls (counts_all (record { number = n; bytes = pre; whole = true }) line_ends le) line_ends refl
 
     sound : (m : Meaning) (r : Option Answer) → IsSound m → after n m r ≡ r
@@ -246,7 +256,7 @@ module _ (n : ℕ) (before : Settings) (pre : List ℕ) (none : ends_in pre ≡ 
     pub from_LF_fault : (e : Bool) (more : List ℕ) (kind : ParamKind) → line_means before (behind is_blank pre) ≡ Faulty kind
         → from_line n before pre e (LF ∷ more) ≡ Some (Ok (Err (record { line = n; kind = kind })))
     unfolding from_line
-    from_LF_fault e more kind h = rw (lines-LF e n more, append-nil pre) (ap said (at_line (lines e (suc n) more)) ∙ ap (λ (m : Meaning). said (after n m (judge n (before ++ settings_of m) (lines e (suc n) more)))) h)
+    from_LF_fault e more kind h = rw (lines-LF e n more, append-nil pre) (ap said (at_line (lines e (suc n) more)) ∙ ap (λ (m : Meaning). said (after n m (judge n (before ++ settings_of m) (pieces (lines e (suc n) more))))) h)
 
     pub from_end : IsSound (line_means before (behind is_blank pre)) → from_line n before pre true [] ≡ Some (Ok (at_end n (before ++ settings_of (line_means before (behind is_blank pre)))))
     unfolding from_line lines

@@ -10,9 +10,9 @@ use Rattle.tk_words.proofs.Bools.{or_true}
 use Rattle.tk_lines.proofs.Answered.{AreWhole, whole_lines}
 use Rattle.tk_lines.proofs.Growing.{a_line, lines_grow}
 use Rattle.tk_lines.proofs.MiddleOfLine.{behind-more, front-more}
-use Rattle.tk_params.proofs.Steps.{over}
+use Rattle.tk_params.proofs.Steps.{judge_line, judge_none, over}
 use Rattle.tk_params.specs.declared.fault.ParamKind.TheVariants as kinds
-use Rattle.tk_params.specs.Params.{Answer, after, at_end, behind_word, counted, is_end, is_eof, judge, line_limit, params_decided, said, word_of}
+use Rattle.tk_params.specs.Params.{Answer, after, at_end, behind_word, counted, is_end, is_eof, judge, line_limit, params_decided, pieces, said, word_of}
 use Rattle.tk_params.specs.Reading.{ends_in}
 use Rattle.tk_params.specs.Values.{Settings, Meaning, Nothing, Faulty, Sets, line_means, settings_of}
 
@@ -33,18 +33,17 @@ some_said : (z : Option Answer) → IsSome z → IsSome (said z)
 some_said None h = h
 some_said (Some a) h = refl
 
-some_judged : (n : ℕ) (before : Settings) (ls : List Line) → AreWhole ls → IsSome (judge n before ls)
-unfolding judge
-some_judged n before [] h = refl
+some_judged : (n : ℕ) (before : Settings) (ls : List Line) → AreWhole ls → IsSome (judge n before (pieces ls))
+some_judged n before [] h = rw (judge_none n before) refl
 some_judged n before (l ∷ ls) h =
     let means = line_means before (behind is_blank l.bytes) in
-    let rest = judge l.number (before ++ settings_of means) ls in
-    some_tests (ltb line_limit (counted l)) (is_end l) (not l.whole) (Err (record { line = l.number; kind = kinds.TooLong })) (at_end l.number before) (after l.number means rest) (ap not h.0)
-    (some_after l.number means rest (some_judged l.number (before ++ settings_of means) ls h.1))
+    let rest = judge l.number (before ++ settings_of means) (pieces ls) in
+    subst IsSome (sym (judge_line n before l ls)) (some_tests (ltb line_limit (counted l)) (is_end l) (not l.whole) (Err (record { line = l.number; kind = kinds.TooLong })) (at_end l.number before) (after l.number means rest) (ap not h.0)
+    (some_after l.number means rest (some_judged l.number (before ++ settings_of means) ls h.1)))
 
 pub some_decided : HasAnswers params_decided
 unfolding params_decided
-some_decided text = some_said (judge 1 [] (lines true 1 text)) (some_judged 1 [] (lines true 1 text) (whole_lines text 1))
+some_decided text = some_said (judge 1 [] (pieces (lines true 1 text))) (some_judged 1 [] (lines true 1 text) (whole_lines text 1))
 
 -- ---- a last line that goes on
 
@@ -96,19 +95,20 @@ open_tests true c' e e' x y z' a p q h = rw (p refl) h
 open_tests false c' true e' x y z' a p q h = absurd (let j : true ≡ false = q in cc)
 open_tests false c' false e' x y z' a p q h = absurd (let j : None ≡ Some a = h in cc)
 
-last_stays : (m n : ℕ) (before : Settings) (bs x : List ℕ) (w : Bool) (rest : List Line) (a : Answer) → judge m before (a_line n bs false ∷ []) ≡ Some a → judge m before (a_line n (bs ++ x) w ∷ rest) ≡ Some a
-unfolding judge
+last_stays : (m n : ℕ) (before : Settings) (bs x : List ℕ) (w : Bool) (rest : List Line) (a : Answer) → judge m before (pieces (a_line n bs false ∷ [])) ≡ Some a → judge m before (pieces (a_line n (bs ++ x) w ∷ rest)) ≡ Some a
 last_stays m n before bs x w rest a h = by_end (ends_in bs) refl
   where
-    by_end : (t : Bool) → ends_in bs ≡ t → judge m before (a_line n (bs ++ x) w ∷ rest) ≡ Some a
+    by_end : (t : Bool) → ends_in bs ≡ t → judge m before (pieces (a_line n (bs ++ x) w ∷ rest)) ≡ Some a
     by_end true e =
         let s = still_ends n bs x w e in
-        ended_tests (ltb line_limit (counted (a_line n bs false))) (ltb line_limit (counted (a_line n (bs ++ x) w))) (is_end (a_line n bs false)) (is_end (a_line n (bs ++ x) w)) (Err (record { line = n; kind = kinds.TooLong })) (at_end n before) None _ a
-        (ap (ltb line_limit) s.counts) e s.ends h
+        judge_line m before (a_line n (bs ++ x) w) rest
+        ∙ ended_tests (ltb line_limit (counted (a_line n bs false))) (ltb line_limit (counted (a_line n (bs ++ x) w))) (is_end (a_line n bs false)) (is_end (a_line n (bs ++ x) w)) (Err (record { line = n; kind = kinds.TooLong })) (at_end n before) None _ a
+        (ap (ltb line_limit) s.counts) e s.ends (sym (judge_line m before (a_line n bs false) []) ∙ h)
     by_end false e =
         let size : counted (a_line n bs false) ≡ length bs - 0 = ap (λ (t : Bool). length bs - cond t (length (behind_word bs)) 0) e in
-        open_tests (ltb line_limit (counted (a_line n bs false))) (ltb line_limit (counted (a_line n (bs ++ x) w))) (is_end (a_line n bs false)) (is_end (a_line n (bs ++ x) w)) (Err (record { line = n; kind = kinds.TooLong })) (at_end n before) _ a
-        (λ t. still_over n bs x w e (omega (arith, ltb-true _ _ t, size))) e h
+        judge_line m before (a_line n (bs ++ x) w) rest
+        ∙ open_tests (ltb line_limit (counted (a_line n bs false))) (ltb line_limit (counted (a_line n (bs ++ x) w))) (is_end (a_line n bs false)) (is_end (a_line n (bs ++ x) w)) (Err (record { line = n; kind = kinds.TooLong })) (at_end n before) _ a
+        (λ t. still_over n bs x w e (omega (arith, ltb-true _ _ t, size))) e (sym (judge_line m before (a_line n bs false) []) ∙ h)
 
 -- ---- what is decided stays
 
@@ -128,19 +128,19 @@ kept_said None z' a g h = absurd cc
 kept_said (Some x) z' a g h = rw (g x refl) h
 
 module _ (n : ℕ) (bs x : List ℕ) (w : Bool) (rest : List Line) (a : Answer) where
-  lines_stay : (front : List Line) (m : ℕ) (before : Settings) → judge m before (front ++ a_line n bs false ∷ []) ≡ Some a → judge m before (front ++ a_line n (bs ++ x) w ∷ rest) ≡ Some a
-  unfolding judge
+  lines_stay : (front : List Line) (m : ℕ) (before : Settings) → judge m before (pieces (front ++ a_line n bs false ∷ [])) ≡ Some a → judge m before (pieces (front ++ a_line n (bs ++ x) w ∷ rest)) ≡ Some a
   lines_stay [] m before h = last_stays m n before bs x w rest a h
   lines_stay (l ∷ front) m before h =
       let means = line_means before (behind is_blank l.bytes) in
       let now = before ++ settings_of means in
-      let old = judge l.number now (front ++ a_line n bs false ∷ []) in
-      let new = judge l.number now (front ++ a_line n (bs ++ x) w ∷ rest) in
-      kept_tests (ltb line_limit (counted l)) (is_end l) (not l.whole) (Err (record { line = l.number; kind = kinds.TooLong })) (at_end l.number before) (after l.number means old) (after l.number means new) a
-      (kept_after l.number means old new a (lines_stay front l.number now)) h
+      let old = judge l.number now (pieces (front ++ a_line n bs false ∷ [])) in
+      let new = judge l.number now (pieces (front ++ a_line n (bs ++ x) w ∷ rest)) in
+      judge_line m before l (front ++ a_line n (bs ++ x) w ∷ rest)
+      ∙ kept_tests (ltb line_limit (counted l)) (is_end l) (not l.whole) (Err (record { line = l.number; kind = kinds.TooLong })) (at_end l.number before) (after l.number means old) (after l.number means new) a
+      (kept_after l.number means old new a (lines_stay front l.number now)) (sym (judge_line m before l (front ++ a_line n bs false ∷ [])) ∙ h)
 
 pub decided_stays : StaysDecided params_decided
 unfolding params_decided
 decided_stays bs a h e more =
     let g = lines_grow e bs more 1 in
-    kept_said (judge 1 [] (lines false 1 bs)) (judge 1 [] (lines e 1 (bs ++ more))) a (λ x k. rw g.new (lines_stay g.number g.bytes g.more g.whole g.rest x g.front 1 [] (rw g.old at k))) h
+    kept_said (judge 1 [] (pieces (lines false 1 bs))) (judge 1 [] (pieces (lines e 1 (bs ++ more)))) a (λ x k. rw g.new (lines_stay g.number g.bytes g.more g.whole g.rest x g.front 1 [] (rw g.old at k))) h

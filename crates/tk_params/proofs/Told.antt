@@ -1,5 +1,5 @@
 -- What a parameter reader tells.
-use Rattle.std.proofs.Common.{◌≡◌, ℕ, suc, eqb, leb, ltb, not, length, take, Bool, true, false, cond, List, [], ◌∷◌, ◌++◌, Option, Some, None, Result, Ok, Err, IfOk, IfErr, ap, subst}
+use Rattle.std.proofs.Common.{◌≡◌, ℕ, suc, eqb, leb, ltb, not, length, take, Bool, true, false, cond, List, [], ◌∷◌, ◌++◌, Option, Some, None, Result, Ok, Err, IfOk, IfErr, ap, sym, subst}
 use Rattle.std.specs.Prelude.{codes, unwrap_or}
 use Rattle.std.proofs.lemmas.Bool.{cond_both}
 use Rattle.tk_words.specs.declared.fault.TextFault.{TextFault}
@@ -16,8 +16,10 @@ use Rattle.tk_params.specs.declared.key.Key.{Key}
 use Rattle.std.specs.Option.{ok_or}
 use Rattle.tk_params.specs.Asked.{ParamsAre, asked}
 use Rattle.tk_params.specs.Keys.{key_of}
-use Rattle.tk_params.specs.Values.{Settings, Value, Meaning, Nothing, Faulty, Sets, has, has_dollar, key_means, line_means, sets, settings_of, value_behind, value_of, word_means, words_mean}
-use Rattle.tk_params.specs.Params.{Answer, IsParamAnswerWhereTold, IsParamFaultWhereTold, IsParamFaultOfKind, IsOfSomeParams, IsFaultOfSomeParams, IsKindOfSomeParams, after, at_end, counted, is_end, line_limit, joined, judge, kind_of, params_decided, params_limit, said}
+use Rattle.tk_params.proofs.Steps.{judge_line, judge_none}
+use Rattle.tk_params.specs.Entries.{Entry, Blank, Wrong, Says, entry_of, key_entry, value_behind, word_entry}
+use Rattle.tk_params.specs.Values.{Settings, Value, Meaning, Nothing, Faulty, Sets, has, has_dollar, key_means, line_means, means, sets, settings_of, value_of}
+use Rattle.tk_params.specs.Params.{Answer, IsParamAnswerWhereTold, IsParamFaultWhereTold, IsParamFaultOfKind, IsOfSomeParams, IsFaultOfSomeParams, IsKindOfSomeParams, after, at_end, counted, is_end, line_limit, joined, judge, kind_of, params_decided, params_limit, pieces, said}
 
 -- ---- a text has no fault of reading or of memory
 
@@ -49,26 +51,26 @@ sets_of_text key (Some v) = tt
 key_of_text : (before : Settings) (key : Key) (bs : List ℕ) → OfMeaning (key_means before key bs)
 key_of_text before key bs = cond_both (has key before) _ _ OfMeaning (λ e. tt) (λ e. cond_both (has_dollar key bs) _ _ OfMeaning (λ d. tt) (λ d. sets_of_text key (value_of key bs)))
 
-word_of_text : (before : Settings) (key : Option Key) (bs : List ℕ) → OfMeaning (word_means before key bs)
-word_of_text before None bs = tt
-word_of_text before (Some key) bs = key_of_text before key (value_behind bs)
+entry_of_text : (before : Settings) (key : Option Key) (bs : List ℕ) → OfMeaning (means before (key_entry key bs))
+entry_of_text before None bs = tt
+entry_of_text before (Some key) bs = key_of_text before key (value_behind bs)
 
-two_tests : (a b : Bool) (x y z : Meaning) → OfMeaning x → OfMeaning y → OfMeaning z → OfMeaning (cond a x (cond b y z))
-two_tests true b x y z p q r = p
-two_tests false true x y z p q r = q
-two_tests false false x y z p q r = r
+two_tests : (before : Settings) (a b : Bool) (x y z : Entry) → OfMeaning (means before x) → OfMeaning (means before y) → OfMeaning (means before z) → OfMeaning (means before (cond a x (cond b y z)))
+two_tests before true b x y z p q r = p
+two_tests before false true x y z p q r = q
+two_tests before false false x y z p q r = r
 
-words_of_text : (before : Settings) (word rest : List ℕ) → OfMeaning (words_mean before word rest)
-unfolding words_mean
-words_of_text before word rest = two_tests (ltb 64 (length word)) (spells word (codes "COMMENT")) (Faulty kinds.TooLong) Nothing (word_means before (key_of word) rest) tt tt (word_of_text before (key_of word) rest)
+words_of_text : (before : Settings) (word rest : List ℕ) → OfMeaning (means before (word_entry word rest))
+unfolding word_entry
+words_of_text before word rest = two_tests before (ltb 64 (length word)) (spells word (codes "COMMENT")) (Wrong kinds.TooLong) Blank (key_entry (key_of word) rest) tt tt (entry_of_text before (key_of word) rest)
 
 line_of_text : (before : Settings) (bs : List ℕ) → OfMeaning (line_means before bs)
-unfolding line_means
+unfolding entry_of
 line_of_text before [] = tt
 line_of_text before (b ∷ bs) =
     let word = front is_word_byte (b ∷ bs) in
     let rest = behind is_word_byte (b ∷ bs) in
-    two_tests (eqb b 35) (not (is_letter b)) Nothing (Faulty kinds.UnknownKey) (words_mean before word rest) tt tt (words_of_text before word rest)
+    two_tests before (eqb b 35) (not (is_letter b)) Blank (Wrong kinds.UnknownKey) (word_entry word rest) tt tt (words_of_text before word rest)
 
 end_of_text : (n : ℕ) (before : Settings) → OfAnswer (Some (at_end n before))
 end_of_text n before = missing (asked before)
@@ -88,14 +90,13 @@ three_tests false true c x y z w p q r s = q
 three_tests false false true x y z w p q r s = r
 three_tests false false false x y z w p q r s = s
 
-judge_of_text : (n : ℕ) (before : Settings) (ls : List Line) → OfAnswer (judge n before ls)
-unfolding judge
-judge_of_text n before [] = end_of_text n before
+judge_of_text : (n : ℕ) (before : Settings) (ls : List Line) → OfAnswer (judge n before (pieces ls))
+judge_of_text n before [] = rw (judge_none n before) (end_of_text n before)
 judge_of_text n before (l ∷ ls) =
     let m = line_means before (behind is_blank l.bytes) in
-    let rest = judge l.number (before ++ settings_of m) ls in
-    three_tests (ltb line_limit (counted l)) (is_end l) (not l.whole) (Some (Err (record { line = l.number; kind = kinds.TooLong }))) (Some (at_end l.number before)) None (after l.number m rest)
-    tt (end_of_text l.number before) tt (after_of_text l.number m rest (line_of_text before (behind is_blank l.bytes)) (judge_of_text l.number (before ++ settings_of m) ls))
+    let rest = judge l.number (before ++ settings_of m) (pieces ls) in
+    subst OfAnswer (sym (judge_line n before l ls)) (three_tests (ltb line_limit (counted l)) (is_end l) (not l.whole) (Some (Err (record { line = l.number; kind = kinds.TooLong }))) (Some (at_end l.number before)) None (after l.number m rest)
+    tt (end_of_text l.number before) tt (after_of_text l.number m rest (line_of_text before (behind is_blank l.bytes)) (judge_of_text l.number (before ++ settings_of m) ls)))
 
 said_of_text : (o : Option Answer) → OfAnswer o → OfSaid (said o)
 said_of_text None h = tt
@@ -107,7 +108,7 @@ unwrapped (Some r) f h = h
 
 decided_of_text : (e : Bool) (bs : List ℕ) → OfSaid (params_decided e bs)
 unfolding params_decided
-decided_of_text e bs = said_of_text (judge 1 [] (lines e 1 bs)) (judge_of_text 1 [] (lines e 1 bs))
+decided_of_text e bs = said_of_text (judge 1 [] (pieces (lines e 1 bs))) (judge_of_text 1 [] (lines e 1 bs))
 
 answer_of_text : (bs : List ℕ) → OfResult (answer_of params_decided params_limit bs)
 unfolding answer_of

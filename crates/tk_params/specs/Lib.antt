@@ -1,4 +1,5 @@
 pub mod Asked
+pub mod Entries
 pub mod Keys
 pub mod Params
 pub mod Readers

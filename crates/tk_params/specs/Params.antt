@@ -1,5 +1,5 @@
 -- Parameter texts (K. Helsgaun, LKH user guide; the limits and the keys are this project's).
-use Rattle.std.specs.Prelude.{◌≡◌, ◌≢◌, ℕ, ◌-◌, Bool, true, not, ◌&&◌, ◌||◌, nat_lt, List, [], ◌∷◌, ◌++◌, length, Option, Some, None, Result, Ok, Err, if◌then◌else◌, codes}
+use Rattle.std.specs.Prelude.{◌≡◌, ◌≢◌, ℕ, ◌-◌, Bool, true, not, ◌&&◌, ◌||◌, nat_lt, List, [], ◌∷◌, ◌++◌, length, map, Option, Some, None, Result, Ok, Err, if◌then◌else◌, codes}
 use Rattle.std.specs.Option.{ok_or}
 use Rattle.tk_words.specs.declared.fault.TextFault.{TextFault}
 use Rattle.tk_words.specs.declared.fault.TextKind.{TextKind}
@@ -12,7 +12,8 @@ use Rattle.tk_params.specs.declared.fault.ParamFault.{ParamFault}
 use Rattle.tk_params.specs.declared.fault.ParamKind.{ParamKind}
 use Rattle.tk_params.specs.declared.fault.ParamKind.TheVariants as kinds
 use Rattle.tk_params.specs.Asked.{ParamsAre, asked}
-use Rattle.tk_params.specs.Values.{Settings, Meaning, Faulty, settings_of, line_means}
+use Rattle.tk_params.specs.Entries.{Entry, entry_of}
+use Rattle.tk_params.specs.Values.{Settings, Meaning, Faulty, settings_of, means}
 
 abbrev pub line_limit : ℕ
 line_limit = 4096
@@ -50,16 +51,32 @@ abbrev pub after : ℕ → Meaning → Option Answer → Option Answer
 after n (Faulty kind) rest = Some (Err (record { line = n; kind = kind }))
 after n _ rest = rest
 
--- what lines say after these settings, of which the last before them has number n; None where later bytes decide
-unfoldable pub judge : ℕ → Settings → List Line → Option Answer
+-- a line of the text: one that is too long; that of EOF; one that later bytes may change; or what it holds
+pub data Piece : Type 0 where
+  LongLine : (line : ℕ) → Piece
+  End : (line : ℕ) → Piece
+  Open : Piece
+  Holds : (line : ℕ) (entry : Entry) → Piece
+
+abbrev pub piece_of : Line → Piece
+piece_of l =
+    if nat_lt line_limit (counted l) then LongLine l.number
+    else (if is_end l then End l.number
+    else (if not l.whole then Open
+    else Holds l.number (entry_of (behind is_blank l.bytes))))
+
+abbrev pub pieces : List Line → List Piece
+pieces ls = map piece_of ls
+
+-- what pieces say after these settings, of which the last before them stands on line n; None where later bytes decide
+unfoldable pub judge : ℕ → Settings → List Piece → Option Answer
 judge n before [] = Some (at_end n before)
-judge n before (l ∷ ls) =
-    let means = line_means before (behind is_blank l.bytes) in
-    let rest = judge l.number (before ++ settings_of means) ls in
-    if nat_lt line_limit (counted l) then Some (Err (record { line = l.number; kind = kinds.TooLong }))
-    else (if is_end l then Some (at_end l.number before)
-    else (if not l.whole then None
-    else after l.number means rest))
+judge n before (LongLine line ∷ ps) = Some (Err (record { line = line; kind = kinds.TooLong }))
+judge n before (End line ∷ ps) = Some (at_end line before)
+judge n before (Open ∷ ps) = None
+judge n before (Holds line entry ∷ ps) =
+    let meaning = means before entry in
+    after line meaning (judge line (before ++ settings_of meaning) ps)
 
 -- a fault of the text is what it says
 abbrev pub said : Option Answer → Option (Result Answer TextFault)
@@ -68,7 +85,7 @@ said (Some a) = Some (Ok a)
 
 -- what bytes say, as a text that begins with them
 unfoldable pub params_decided : Decided Answer
-params_decided ended bs = said (judge 1 [] (lines ended 1 bs))
+params_decided ended bs = said (judge 1 [] (pieces (lines ended 1 bs)))
 
 -- a text that is too long has that fault
 abbrev pub joined : Result Answer TextFault → Answer

@@ -11,7 +11,7 @@ use Rattle.tk_params.specs.declared.fault.ParamKind.{ParamKind}
 use Rattle.tk_params.specs.declared.reader.ParamReader.{ParamReader}
 use Rattle.tk_params.specs.Readers.{HasTaken}
 use Rattle.tk_params.specs.Values.{Settings, Faulty, line_means}
-use Rattle.tk_params.specs.Params.{Answer, at_end, line_limit, is_eof, word_of, behind_word, judge, said, params_decided}
+use Rattle.tk_params.specs.Params.{Answer, at_end, line_limit, is_eof, word_of, behind_word, judge, pieces, said, params_decided}
 
 abbrev pub answer_with : Option ParamFault → ℕ → Settings → Answer
 answer_with None n before = at_end n before
@@ -27,7 +27,7 @@ ends_in pre = is_eof (word_of pre) && not (is_empty (behind_word pre))
 
 -- what bytes say that go on after these settings, on line n, of which `pre` stands before them
 unfoldable pub from_line : ℕ → Settings → List ℕ → Bool → List ℕ → Option (Result Answer TextFault)
-from_line n before pre ended bs = said (judge n before (prepend pre (lines ended n bs)))
+from_line n before pre ended bs = said (judge n before (pieces (prepend pre (lines ended n bs))))
 
 -- the reader has taken these bytes, and they decide nothing
 pub record Feeds (s : ParamReader) (bs : List ℕ) : Type 0 where

@@ -1,10 +1,10 @@
--- The values of a parameter file's keys, and what its lines say.
-use Rattle.std.specs.Prelude.{ℕ, Bool, true, false, not, ◌&&◌, ◌||◌, ◌==◌, nat_lt, List, [], ◌∷◌, length, Option, Some, None, option_map, is_some, if◌then◌else◌, codes}
+-- The values of a parameter file's keys, and what its entries mean.
+use Rattle.std.specs.Prelude.{ℕ, Bool, true, false, not, ◌&&◌, ◌||◌, ◌==◌, List, [], ◌∷◌, Option, Some, None, option_map, is_some, if◌then◌else◌, codes}
 use Rattle.std.specs.List.{list_any}
 use Rattle.std.specs.Map.{lookup}
 use Rattle.std.specs.Str.{is_utf8}
 use Rattle.tk_problem.specs.declared.limits.TheConstants.{CANDIDATE_LIMIT}
-use Rattle.tk_words.specs.Lex.{is_blank, is_letter, is_word_byte, is_empty, front, behind, trim, integer}
+use Rattle.tk_words.specs.Lex.{is_empty, integer}
 use Rattle.tk_words.specs.Words.{spells}
 use Rattle.tk_words.specs.Entry.{in_range, natural_or_zero}
 use Rattle.tk_params.specs.declared.key.Key.{Key}
@@ -13,7 +13,8 @@ use Rattle.tk_params.specs.declared.value.Construction.{Construction}
 use Rattle.tk_params.specs.declared.value.Construction.TheVariants.{Nearest, Savings}
 use Rattle.tk_params.specs.declared.fault.ParamKind.{ParamKind}
 use Rattle.tk_params.specs.declared.fault.ParamKind.TheVariants as kinds
-use Rattle.tk_params.specs.Keys.{code, key_of, is_file}
+use Rattle.tk_params.specs.Keys.{code, is_file}
+use Rattle.tk_params.specs.Entries.{Entry, Blank, Wrong, Says, entry_of}
 
 -- what a key says
 pub data Value : Type 0 where
@@ -88,15 +89,15 @@ value_of keys.TraceLevel bs = Some Ignored
 value_of keys.Optimum bs = Some Ignored
 value_of _ bs = file_of bs
 
--- ---- lines
+-- ---- entries
 
--- what a line does: nothing, or a fault, or it sets a key
+-- what an entry does: nothing, or a fault, or it sets a key
 pub data Meaning : Type 0 where
   Nothing : Meaning
   Faulty : (kind : ParamKind) → Meaning
   Sets : (key : Key) (value : Value) → Meaning
 
--- what a line adds
+-- what an entry adds
 abbrev pub settings_of : Meaning → Settings
 settings_of (Sets key value) = (key, value) ∷ []
 settings_of _ = []
@@ -116,29 +117,12 @@ key_means before key bs =
     else (if has_dollar key bs then Faulty kinds.DollarInName
     else sets key (value_of key bs))
 
--- after a key: blanks, at most one equals sign, and the value without outer blanks
-abbrev pub without_equals : List ℕ → List ℕ
-without_equals [] = []
-without_equals (b ∷ bs) = if b == 61 then bs else b ∷ bs
+-- an entry, after these settings
+abbrev pub means : Settings → Entry → Meaning
+means before Blank = Nothing
+means before (Wrong kind) = Faulty kind
+means before (Says key bs) = key_means before key bs
 
-abbrev pub value_behind : List ℕ → List ℕ
-value_behind bs = trim (without_equals (behind is_blank bs))
-
-abbrev pub word_means : Settings → Option Key → List ℕ → Meaning
-word_means before None bs = Faulty kinds.UnknownKey
-word_means before (Some key) bs = key_means before key (value_behind bs)
-
--- a line that begins with a letter
-unfoldable pub words_mean : Settings → List ℕ → List ℕ → Meaning
-words_mean before word rest =
-    if nat_lt 64 (length word) then Faulty kinds.TooLong
-    else (if spells word (codes "COMMENT") then Nothing
-    else word_means before (key_of word) rest)
-
--- a line without the blanks at its front
-unfoldable pub line_means : Settings → List ℕ → Meaning
-line_means before [] = Nothing
-line_means before (b ∷ bs) =
-    if b == 35 then Nothing
-    else (if not (is_letter b) then Faulty kinds.UnknownKey
-    else words_mean before (front is_word_byte (b ∷ bs)) (behind is_word_byte (b ∷ bs)))
+-- a line without the blanks at its front, after these settings
+abbrev pub line_means : Settings → List ℕ → Meaning
+line_means before bs = means before (entry_of bs)

@@ -2,6 +2,7 @@
 ghost use Rattle.std.specs.Prelude.{◌≡◌, ◌≤◌, List, length, take, drop, OnOk, IfErr};
 ghost use Rattle.tk_words.specs.Lex.{behind, front, is_blank, is_word_byte, trim_end};
 ghost use Rattle.tk_params.specs.Readers.{HasTaken, IsToldOf};
+ghost use Rattle.tk_params.specs.Entries;
 ghost use Rattle.tk_params.specs.Values;
 
 use crate::fault::ParamKind;
@@ -53,7 +54,7 @@ fn trimmed(bytes: &[u8]) -> &[u8]
 
 /// The value after a key: blanks, at most one equals sign, and the value between blanks.
 fn value_behind(bytes: &[u8]) -> &[u8]
-    ensures { result.now ≡ Values.value_behind bytes.now }
+    ensures { result.now ≡ Entries.value_behind bytes.now }
 {
     match without_blanks(bytes) {
         [b'=', value @ ..] => trimmed(without_blanks(value)),
@@ -87,15 +88,16 @@ fn take_key(alloc: Global, settings: &mut Settings, key: Key, value: &[u8]) -> R
 }
 
 /// Takes a line that begins with this word.
-#[tactic(auto, unfolding(crate::specs::Values::words_mean))]
+#[tactic(auto, unfolding(crate::specs::Entries::word_entry))]
 fn take_words(
     alloc: Global,
     settings: &mut Settings,
     word: &[u8],
     rest: &[u8],
 ) -> Result<(), ParamKind>
-    ensures ok { OnOk result (HasTaken settings.old settings.new (Values.words_mean settings.old word.now rest.now)) }
-    ensures err { IfErr result (IsToldOf (λ k. Values.words_mean settings.old word.now rest.now
+    ensures ok { OnOk result (HasTaken settings.old settings.new
+        (Values.means settings.old (Entries.word_entry word.now rest.now))) }
+    ensures err { IfErr result (IsToldOf (λ k. Values.means settings.old (Entries.word_entry word.now rest.now)
         ≡ Values.Faulty k)) }
 {
     if word.len() > KEY_LIMIT {
@@ -115,7 +117,7 @@ fn take_words(
 /// # Errors
 /// `TooLong` for a key over 64 bytes, `UnknownKey` for one that is none, `RepeatedKey` for one that came before, and
 /// the faults of `setting_of`.
-#[tactic(auto, unfolding(crate::specs::Values::line_means))]
+#[tactic(auto, unfolding(crate::specs::Entries::entry_of))]
 pub fn take_line(alloc: Global, settings: &mut Settings, line: &[u8]) -> Result<(), ParamKind>
     ensures ok { OnOk result (HasTaken settings.old settings.new (Values.line_means settings.old line.now)) }
     ensures err { IfErr result (IsToldOf (λ k. Values.line_means settings.old line.now ≡ Values.Faulty k)) }
