@@ -12,7 +12,7 @@ pub enum Asked<'a> {
         problem: &'a str,
         tour: &'a str,
     },
-    /// `checksol PROBLEM SOL`
+    /// `checksol PROBLEM SOLUTION`
     Checksol {
         problem: &'a str,
         solution: &'a str,
@@ -27,12 +27,12 @@ pub enum Asked<'a> {
         problem: &'a str,
         length: ListLength,
     },
-    /// `plot PROBLEM [CLAIM]`
+    /// `plot PROBLEM [TOUR | SOLUTION]`
     Plot {
         problem: &'a str,
         claim: Option<&'a str>,
     },
-    /// `solve PAR [--progress]`
+    /// `solve PARAMETERS [--progress]`
     Solve {
         parameters: &'a str,
         progress: bool,

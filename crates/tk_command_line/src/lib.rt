@@ -6,6 +6,7 @@ mod command;
 mod list_length;
 mod parsing;
 mod subcommands;
+mod tips;
 
 pub use asked::{Asked, STANDARD};
 pub use list_length::ListLength;

@@ -3,6 +3,7 @@
 use crate::asked::{Asked, STANDARD};
 use crate::command::{tourkit, twice_standard};
 use crate::subcommands::{check, checksol, matrix, near, plot, solve};
+use crate::tips::with_tips;
 use clap::error::ErrorKind;
 use clap::{ArgMatches, Error};
 use std::alloc::Global;
@@ -28,16 +29,21 @@ pub fn parse<'a>(rt: &HostRuntime, words: &'a [String]) -> Result<Asked<'a>, Ref
     match asked(rt.alloc(), words) {
         Ok(Some(asked)) => Ok(asked),
         Ok(None) => Err(Refusal::Told(USAGE)),
-        Err(error) => Err(tell(rt, &error)),
+        Err(error) => Err(tell(rt, words, &error)),
     }
 }
 
 /// Writes help, the version, or what is wrong with the words.
-fn tell(rt: &HostRuntime, error: &Error) -> Refusal {
+fn tell(rt: &HostRuntime, words: &[String], error: &Error) -> Refusal {
     if error.kind() == ErrorKind::OutOfMemory {
         return Refusal::NoMemory;
     }
-    match error.print(rt) {
+    let written = match with_tips(rt.alloc(), words, error) {
+        Ok(Some(text)) => eprint!(rt; "{text}"),
+        Ok(None) => error.print(rt),
+        Err(_) => return Refusal::NoMemory,
+    };
+    match written {
         Ok(()) => Refusal::Told(error.exit_code() as u8),
         Err(_) => Refusal::Unwritten,
     }

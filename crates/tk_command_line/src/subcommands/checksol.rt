@@ -6,11 +6,11 @@ use clap::{ArgMatches, Command, Error};
 use std::alloc::Global;
 
 /// What `checksol --help` ends with.
-const HELP: &str = "Reads PROBLEM and SOL, one of which may be - for standard input.
+const HELP: &str = "Reads PROBLEM and SOLUTION, one of which may be - for standard input.
 Prints how many routes there are and what they cost, or the first thing that is wrong with them.
 
 Exit status:
-  0  SOL has valid routes of PROBLEM, and their cost
+  0  SOLUTION has valid routes of PROBLEM, and their cost
   1  it has not
   2  the arguments are wrong, a file is invalid, or PROBLEM is not a CVRP
   3  a file cannot be read, output cannot be written, or memory has run out
@@ -25,7 +25,7 @@ Example:
 pub fn command<'a>(alloc: Global) -> Result<Command<'a>, Error> {
     let solution = given(
         alloc,
-        "SOL",
+        "SOLUTION",
         "a CVRPLIB solution file, or - for standard input",
     );
     subcommand(
@@ -42,6 +42,6 @@ pub fn command<'a>(alloc: Global) -> Result<Command<'a>, Error> {
 pub fn asked<'a>(words: &ArgMatches<'a>) -> Option<Asked<'a>> {
     Some(Asked::Checksol {
         problem: words.get_str("PROBLEM")?,
-        solution: words.get_str("SOL")?,
+        solution: words.get_str("SOLUTION")?,
     })
 }

@@ -6,14 +6,14 @@ use clap::{Arg, ArgMatches, Command, Error};
 use std::alloc::Global;
 
 /// What `plot --help` ends with.
-const HELP: &str = "Reads PROBLEM and CLAIM, one of which may be - for standard input.
+const HELP: &str = "Reads PROBLEM and TOUR or SOLUTION, one of which may be - for standard input.
 Prints a picture as SVG: the cities, the tour or the routes, and the depot of a CVRP.
-CLAIM is checked first. If it is not a tour of PROBLEM, or has no valid routes of it, nothing is drawn,
+The second file is checked first. If it is not a tour of PROBLEM, or has no valid routes of it, nothing is drawn,
 and standard error has what check or checksol would print.
 
 Exit status:
   0  the picture was printed
-  1  CLAIM is not a tour of PROBLEM, or has no valid routes of it
+  1  TOUR is not a tour of PROBLEM, or SOLUTION has no valid routes of it
   2  the arguments are wrong, a file is invalid, or PROBLEM has explicit distances in place of coordinates
   3  a file cannot be read, output cannot be written, or memory has run out
 
@@ -25,8 +25,8 @@ Example:
 /// # Errors
 /// An error if memory runs out.
 pub fn command<'a>(alloc: Global) -> Result<Command<'a>, Error> {
-    let claim = Arg::new(alloc, "CLAIM").help(
-        "a TSPLIB tour file, or a CVRPLIB solution file if PROBLEM is a CVRP, or - for standard input",
+    let claim = Arg::new(alloc, "TOUR | SOLUTION").help(
+        "a TSPLIB tour file, or for a CVRP a CVRPLIB solution file, or - for standard input",
     );
     subcommand(
         alloc,
@@ -42,6 +42,6 @@ pub fn command<'a>(alloc: Global) -> Result<Command<'a>, Error> {
 pub fn asked<'a>(words: &ArgMatches<'a>) -> Option<Asked<'a>> {
     Some(Asked::Plot {
         problem: words.get_str("PROBLEM")?,
-        claim: words.get_str("CLAIM"),
+        claim: words.get_str("TOUR | SOLUTION"),
     })
 }

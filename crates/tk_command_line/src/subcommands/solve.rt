@@ -6,9 +6,9 @@ use clap::{Arg, ArgAction, ArgMatches, Command, Error};
 use std::alloc::Global;
 
 /// What `solve --help` ends with.
-const HELP: &str = "Reads PAR, and the problem and the initial tour that it names.
+const HELP: &str = "Reads PARAMETERS, and the problem and the initial tour that it names.
 Prints a line for each run and the best length, or the costs of the routes of a CVRP.
-Writes the best tour to TOUR_FILE, or the routes to SOLUTION_FILE, if PAR names one.
+Writes the best tour to TOUR_FILE, or the routes to SOLUTION_FILE, if PARAMETERS names one.
 While it runs, the best tour so far is kept in TOUR_FILE.best, from the fifth second on.
 
 Exit status:
@@ -26,7 +26,7 @@ Example:
 pub fn command<'a>(alloc: Global) -> Result<Command<'a>, Error> {
     let parameters = given(
         alloc,
-        "PAR",
+        "PARAMETERS",
         "a parameter file like LKH's, or - for standard input",
     );
     let progress = Arg::new(alloc, "progress")
@@ -46,7 +46,7 @@ pub fn command<'a>(alloc: Global) -> Result<Command<'a>, Error> {
 /// What the words ask for.
 pub fn asked<'a>(words: &ArgMatches<'a>) -> Option<Asked<'a>> {
     Some(Asked::Solve {
-        parameters: words.get_str("PAR")?,
+        parameters: words.get_str("PARAMETERS")?,
         progress: words.get_flag("progress"),
     })
 }

@@ -7,7 +7,7 @@ use tk_routes::RouteVerdict;
 use tk_words::FromRead;
 use tk_writers::ToWrite;
 
-/// `checksol PROBLEM SOL`. Both files are opened before either is read.
+/// `checksol PROBLEM SOLUTION`. Both files are opened before either is read.
 pub fn checksol_command(rt: &HostRuntime, problem_file: &str, solution_file: &str) -> ExitCode {
     let (problem, solution) = match open_two(rt, problem_file, solution_file) {
         Ok(opened) => opened,

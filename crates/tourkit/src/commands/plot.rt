@@ -8,7 +8,7 @@ use tk_tour::Verdict;
 use tk_words::{FromRead, Source};
 use tk_writers::ToWrite;
 
-/// `plot PROBLEM [CLAIM]`. Both files are opened before either is read.
+/// `plot PROBLEM [TOUR | SOLUTION]`. Both files are opened before either is read.
 pub fn plot_command(rt: &HostRuntime, problem_file: &str, claim_file: Option<&str>) -> ExitCode {
     let Some(claim_file) = claim_file else {
         return plot_alone(rt, problem_file);

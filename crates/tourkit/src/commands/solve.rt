@@ -11,7 +11,7 @@ use tk_params::{Params, read_params};
 use tk_words::{FromRead, Source};
 use tk_writers::{Sink, ToWrite};
 
-/// `solve PAR [--progress]`.
+/// `solve PARAMETERS [--progress]`.
 pub fn solve_command(rt: &HostRuntime, file: &str, progress: bool) -> ExitCode {
     let parameters = match open(rt, file) {
         Ok(parameters) => parameters,
