@@ -2,8 +2,10 @@
 """What tourkit answers, from the readers of texts.py: standard output, standard error and status. Run as a program it takes the
 words of tourkit, so that tests/run can try it on the cases. A solve that is not refused is beyond it."""
 
+import json
 from math import isqrt
 import os
+import re
 import sys
 
 sys.dont_write_bytecode = True
@@ -206,24 +208,71 @@ def picture(problem, caption, paths):
     return "\n".join([*lines, "</g>", "</svg>", ""])
 
 
-def solve(par_file):
+def solve_by_options(problem_file, options):
+    """The same as solve for a problem with options, which name their values."""
+    initial_file = options.get("--initial-tour")
+    opened = open_word(problem_file), initial_file and open_word(initial_file)
+    problem = read_file(problem_file, opened[0], read_problem)
+    if problem.cvrp and initial_file:
+        raise Refused(f"tourkit: {problem_file}: --initial-tour does not fit the problem's type", 2)
+    check_initial(problem, initial_file, opened[1])
+    return "", None
+
+
+def check_initial(problem, initial_file, opened):
+    """Refuses a tour to begin with that is none of the problem."""
+    if initial_file:
+        fault = tour_fault(problem.n, read_file(initial_file, opened, read_tour))
+        if fault:
+            raise Refused(f"tourkit: {initial_file}: initial tour: {fault[0]}", 2)
+
+
+def solve(file, *options):
     """Refuses what solve refuses. Of a run that is not refused: the lines that name ignored keys, and None for the status."""
-    values, ignored = read_file(par_file, open_word(par_file), read_params)
+    valued = [word for word in options if word not in ("--progress", "--final-sweep")]
+    if valued or "--final-sweep" in options:
+        return solve_by_options(file, dict(zip(valued[::2], valued[1::2])))
+    values, ignored = read_file(file, open_word(file), read_params)
     problem_file, initial_file = values[b"PROBLEM_FILE"], values.get(b"INITIAL_TOUR_FILE")
     opened = open_file(problem_file), initial_file and open_file(initial_file)
     problem = read_file(problem_file, opened[0], read_problem)
     for key in [b"SOLUTION_FILE"] if not problem.cvrp else [b"TOUR_FILE", b"INITIAL_TOUR_FILE"]:
         if key in values:
             raise Refused(f"tourkit: {problem_file}: {key.decode()} does not fit the problem's type", 2)
-    if initial_file:
-        fault = tour_fault(problem.n, read_file(initial_file, opened[1], read_tour))
-        if fault:
-            raise Refused(f"tourkit: {initial_file}: initial tour: {fault[0]}", 2)
+    check_initial(problem, initial_file, opened[1])
     return "".join(f"ignored {key.decode()}\n" for key in ignored), None
+
+
+# The lines of check and checksol, the faults that they tell, and the names of their numbers.
+LINES = [
+    (r"tour of (\d+) cities, length (\d+)", None, ["cities", "length"]),
+    (r"wrong count: (\d+) wanted, (\d+) read", "WrongCount", ["wanted", "read"]),
+    (r"out of range at place (\d+): (\d+)", "OutOfRange", ["place", "city"]),
+    (r"repeated city at place (\d+): (\d+)", "RepeatedCity", ["place", "city"]),
+    (r"(\d+) routes, cost (\d+)", None, ["routes", "cost"]),
+    (r"bad customer in route (\d+): (\d+)", "BadCustomer", ["route", "customer"]),
+    (r"customer served twice: (\d+)", "ServedTwice", ["customer"]),
+    (r"over capacity in route (\d+): (\d+)", "OverCapacity", ["route", "load"]),
+    (r"customer not served: (\d+)", "NotServed", ["customer"]),
+    (r"wrong cost: (\d+) read, (\d+) counted", "WrongCost", ["read", "counted"]),
+]
+
+
+def object_of(line):
+    """The object that check and checksol print with --json in place of a line."""
+    for form, fault, names in LINES:
+        found = re.fullmatch(form + "\n", line)
+        if found:
+            told = {"valid": True} if fault is None else {"valid": False, "fault": fault}
+            return json.dumps(told | dict(zip(names, map(int, found.groups()))), separators=(",", ":")) + "\n"
+    return line
 
 
 def answer(words):
     """Standard output, standard error and status."""
+    if "--json" in words:
+        out, told, status = answer([word for word in words if word != "--json"])
+        return object_of(out.decode()).encode(), told, status
     commands = {"check": check, "near": near, "matrix": matrix, "checksol": checksol, "plot": plot, "solve": solve}
     if words[0] == "near":
         words = words[:2] + [int(words[3]) if len(words) > 2 else 5]

@@ -7,15 +7,17 @@ pub const STANDARD: &str = "-";
 
 /// What the words of a call ask for: a subcommand with its files. [`STANDARD`] names standard input.
 pub enum Asked<'a> {
-    /// `check PROBLEM TOUR`
+    /// `check PROBLEM TOUR [--json]`
     Check {
         problem: &'a str,
         tour: &'a str,
+        json: bool,
     },
-    /// `checksol PROBLEM SOLUTION`
+    /// `checksol PROBLEM SOLUTION [--json]`
     Checksol {
         problem: &'a str,
         solution: &'a str,
+        json: bool,
     },
     /// `matrix PROBLEM FORMAT`
     Matrix {
@@ -32,9 +34,18 @@ pub enum Asked<'a> {
         problem: &'a str,
         claim: Option<&'a str>,
     },
-    /// `solve PARAMETERS [--progress]`
+    /// `solve PARAMETERS [--progress] [--json]`
     Solve {
         parameters: &'a str,
-        progress: bool,
+        shown: Shown,
     },
+}
+
+/// What `solve` shows besides the lines that it prints at its end.
+#[derive(Clone, Copy)]
+pub struct Shown {
+    /// Each run's line, on standard error, when the run ends.
+    pub progress: bool,
+    /// An object with what the lines say, in place of these lines.
+    pub json: bool,
 }

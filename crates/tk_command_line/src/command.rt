@@ -1,7 +1,7 @@
 //! The program with its subcommands.
 use crate::subcommands::{check, checksol, matrix, near, plot, solve};
 use clap::error::ErrorKind;
-use clap::{Arg, Command, Error};
+use clap::{Arg, ArgAction, Command, Error};
 use std::alloc::Global;
 
 /// What `--help` ends with.
@@ -67,6 +67,19 @@ pub fn subcommand<'a>(
 /// A word that must be given.
 pub fn given<'a>(alloc: Global, name: &'a str, help: &'a str) -> Arg<'a> {
     Arg::new(alloc, name).help(help).required(true)
+}
+
+/// An option without a value.
+pub fn flag<'a>(alloc: Global, name: &'a str, help: &'a str) -> Arg<'a> {
+    Arg::new(alloc, name)
+        .long(name)
+        .help(help)
+        .action(ArgAction::SetTrue)
+}
+
+/// The option that asks for an object in place of lines.
+pub fn json<'a>(alloc: Global) -> Arg<'a> {
+    flag(alloc, "json", "print one JSON object in place of lines")
 }
 
 /// The file that most subcommands name first.

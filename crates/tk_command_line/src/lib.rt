@@ -8,6 +8,6 @@ mod parsing;
 mod subcommands;
 mod tips;
 
-pub use asked::{Asked, STANDARD};
+pub use asked::{Asked, STANDARD, Shown};
 pub use list_length::ListLength;
 pub use parsing::{Refusal, parse};

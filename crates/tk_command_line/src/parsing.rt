@@ -57,12 +57,14 @@ fn asked<'a>(alloc: Global, words: &'a [String]) -> Result<Option<Asked<'a>>, Er
             Asked::Check {
                 problem: STANDARD,
                 tour: STANDARD,
+                ..
             },
         ) => Err(twice_standard(check::command(alloc), "tourkit check")),
         Some(
             Asked::Checksol {
                 problem: STANDARD,
                 solution: STANDARD,
+                ..
             },
         ) => Err(twice_standard(checksol::command(alloc), "tourkit checksol")),
         Some(

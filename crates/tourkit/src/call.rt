@@ -26,14 +26,19 @@ pub fn run_call(rt: &HostRuntime) -> ExitCode {
 /// Runs a subcommand.
 fn run(rt: &HostRuntime, asked: Asked<'_>) -> ExitCode {
     match asked {
-        Asked::Check { problem, tour } => check_command(rt, problem, tour),
-        Asked::Checksol { problem, solution } => checksol_command(rt, problem, solution),
+        Asked::Check {
+            problem,
+            tour,
+            json,
+        } => check_command(rt, problem, tour, json),
+        Asked::Checksol {
+            problem,
+            solution,
+            json,
+        } => checksol_command(rt, problem, solution, json),
         Asked::Matrix { problem, format } => matrix_command(rt, problem, format),
         Asked::Near { problem, length } => near_command(rt, problem, length),
         Asked::Plot { problem, claim } => plot_command(rt, problem, claim),
-        Asked::Solve {
-            parameters,
-            progress,
-        } => solve_command(rt, parameters, progress),
+        Asked::Solve { parameters, shown } => solve_command(rt, parameters, shown),
     }
 }

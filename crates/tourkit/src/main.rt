@@ -1,10 +1,13 @@
 //! `tourkit`: symmetric travelling salesman problems and tours, read alike and checked.
 #![tactic(auto)]
 
+mod answer;
 mod best;
 mod call;
 mod commands;
 mod input;
+mod json;
+mod json_lines;
 mod output;
 mod progress;
 mod report;

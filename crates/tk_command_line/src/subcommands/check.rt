@@ -1,7 +1,7 @@
 //! The words of `check`.
 
 use crate::asked::Asked;
-use crate::command::{given, problem_file, subcommand};
+use crate::command::{given, json, problem_file, subcommand};
 use clap::{ArgMatches, Command, Error};
 use std::alloc::Global;
 
@@ -24,14 +24,15 @@ Example:
 /// An error if memory runs out.
 pub fn command<'a>(alloc: Global) -> Result<Command<'a>, Error> {
     let tour = given(alloc, "TOUR", "a TSPLIB tour file, or - for standard input");
-    subcommand(
+    let made = subcommand(
         alloc,
         "check",
         "Checks a tour and prints its length",
         HELP,
         problem_file(alloc),
         Some(tour),
-    )
+    )?;
+    Ok(made.arg(json(alloc))?)
 }
 
 /// What the words ask for.
@@ -39,5 +40,6 @@ pub fn asked<'a>(words: &ArgMatches<'a>) -> Option<Asked<'a>> {
     Some(Asked::Check {
         problem: words.get_str("PROBLEM")?,
         tour: words.get_str("TOUR")?,
+        json: words.get_flag("json"),
     })
 }

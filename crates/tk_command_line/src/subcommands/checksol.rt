@@ -1,7 +1,7 @@
 //! The words of `checksol`.
 
 use crate::asked::Asked;
-use crate::command::{given, problem_file, subcommand};
+use crate::command::{given, json, problem_file, subcommand};
 use clap::{ArgMatches, Command, Error};
 use std::alloc::Global;
 
@@ -28,14 +28,15 @@ pub fn command<'a>(alloc: Global) -> Result<Command<'a>, Error> {
         "SOLUTION",
         "a CVRPLIB solution file, or - for standard input",
     );
-    subcommand(
+    let made = subcommand(
         alloc,
         "checksol",
         "Checks the routes of a CVRP and their cost",
         HELP,
         problem_file(alloc),
         Some(solution),
-    )
+    )?;
+    Ok(made.arg(json(alloc))?)
 }
 
 /// What the words ask for.
@@ -43,5 +44,6 @@ pub fn asked<'a>(words: &ArgMatches<'a>) -> Option<Asked<'a>> {
     Some(Asked::Checksol {
         problem: words.get_str("PROBLEM")?,
         solution: words.get_str("SOLUTION")?,
+        json: words.get_flag("json"),
     })
 }

@@ -1,8 +1,8 @@
 //! The words of `solve`.
 
-use crate::asked::Asked;
-use crate::command::{given, subcommand};
-use clap::{Arg, ArgAction, ArgMatches, Command, Error};
+use crate::asked::{Asked, Shown};
+use crate::command::{flag, given, json, subcommand};
+use clap::{ArgMatches, Command, Error};
 use std::alloc::Global;
 
 /// What `solve --help` ends with.
@@ -29,24 +29,29 @@ pub fn command<'a>(alloc: Global) -> Result<Command<'a>, Error> {
         "PARAMETERS",
         "a parameter file like LKH's, or - for standard input",
     );
-    let progress = Arg::new(alloc, "progress")
-        .long("progress")
-        .help("write each run's line to standard error when the run ends")
-        .action(ArgAction::SetTrue);
-    subcommand(
+    let progress = flag(
+        alloc,
+        "progress",
+        "write each run's line to standard error when the run ends",
+    );
+    let made = subcommand(
         alloc,
         "solve",
         "Searches for a short tour or for short routes",
         HELP,
         parameters,
         Some(progress),
-    )
+    )?;
+    Ok(made.arg(json(alloc))?)
 }
 
 /// What the words ask for.
 pub fn asked<'a>(words: &ArgMatches<'a>) -> Option<Asked<'a>> {
     Some(Asked::Solve {
         parameters: words.get_str("PARAMETERS")?,
-        progress: words.get_flag("progress"),
+        shown: Shown {
+            progress: words.get_flag("progress"),
+            json: words.get_flag("json"),
+        },
     })
 }

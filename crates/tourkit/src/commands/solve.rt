@@ -1,4 +1,5 @@
 //! The subcommand `solve`.
+use crate::answer::Answer;
 use crate::input::open;
 use crate::output::save;
 use crate::report;
@@ -6,20 +7,21 @@ use crate::watching::SearchWatch;
 use crate::written::{FileId, Kept, check_written, id_in, id_of, note_slips};
 use std::fs::File;
 use std::process::ExitCode;
+use tk_command_line::Shown;
 use tk_engines::{Fault, solve_engine};
 use tk_params::{Params, read_params};
 use tk_words::{FromRead, Source};
 use tk_writers::{Sink, ToWrite};
 
-/// `solve PARAMETERS [--progress]`.
-pub fn solve_command(rt: &HostRuntime, file: &str, progress: bool) -> ExitCode {
+/// `solve PARAMETERS [--progress] [--json]`.
+pub fn solve_command(rt: &HostRuntime, file: &str, shown: Shown) -> ExitCode {
     let parameters = match open(rt, file) {
         Ok(parameters) => parameters,
         Err(status) => return status,
     };
     let parameters_id = parameters.id(rt);
     match read_params(rt.alloc(), &mut FromRead::new(parameters)) {
-        Ok(params) => solve(rt, file, parameters_id, &params, progress),
+        Ok(params) => solve(rt, file, parameters_id, &params, shown),
         Err(fault) => report::param_fault(rt, file, &fault),
     }
 }
@@ -30,7 +32,7 @@ fn solve(
     file: &str,
     parameters: Option<FileId>,
     params: &Params,
-    progress: bool,
+    shown: Shown,
 ) -> ExitCode {
     let Ok(problem) = File::open(rt, params.problem_file()) else {
         return report::unopened(rt, params.problem_file());
@@ -47,16 +49,25 @@ fn solve(
     if let Err(status) = check_written(rt, file, params, kept) {
         return status;
     }
-    let Ok(watch) = SearchWatch::new(rt, params.tour_file(), kept, progress) else {
+    let Ok(watch) = SearchWatch::new(rt, params.tour_file(), kept, shown.progress) else {
         return report::no_memory(rt);
     };
+    let answer = Answer::new(rt, shown.json);
     let mut problem = FromRead::new(problem);
     match initial {
-        Some(initial) => search(rt, params, watch, &mut problem, &mut FromRead::new(initial)),
+        Some(initial) => search(
+            rt,
+            params,
+            watch,
+            answer,
+            &mut problem,
+            &mut FromRead::new(initial),
+        ),
         None => search(
             rt,
             params,
             watch,
+            answer,
             &mut problem,
             &mut FromRead::new(b"".as_slice()),
         ),
@@ -80,11 +91,12 @@ fn search<P: Source, I: Source>(
     rt: &HostRuntime,
     params: &Params,
     mut watch: SearchWatch<'_>,
+    answer: Answer,
     problem: &mut P,
     initial: &mut I,
 ) -> ExitCode {
     let mut file = ToWrite::new(Vec::new(rt.alloc()));
-    let mut out = ToWrite::new(rt.stdout());
+    let mut out = ToWrite::new(answer);
     match solve_engine(
         rt.alloc(),
         params,
@@ -94,8 +106,12 @@ fn search<P: Source, I: Source>(
         &mut out,
         &mut watch,
     ) {
-        Ok(()) => save_found(rt, params, &file.inner, &watch),
+        Ok(()) => match out.inner.print(rt) {
+            Ok(()) => save_found(rt, params, &file.inner, &watch),
+            Err(status) => status,
+        },
         Err(Fault::Write(_)) if file.failed() => report::no_memory(rt),
+        Err(Fault::Write(_)) => out.inner.unwritten(rt),
         Err(fault @ (Fault::Tour(_) | Fault::Initial(_))) => report::stopped(
             rt,
             params.initial_tour_file().unwrap_or(""),

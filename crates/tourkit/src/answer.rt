@@ -1,0 +1,71 @@
+//! Where a command prints its answer.
+
+use crate::json::object_of;
+use crate::report;
+use std::io::{self, Stdout, Write};
+use std::process::ExitCode;
+
+/// Where the lines of an answer go.
+#[derive(Drop)]
+pub enum Answer {
+    /// To standard output.
+    Lines(Stdout),
+    /// Into memory, from where they are printed as JSON.
+    Json(Vec<u8>),
+}
+
+impl Answer {
+    /// An answer of no line yet, as JSON or not.
+    pub fn new(rt: &HostRuntime, json: bool) -> Answer {
+        if json {
+            return Answer::Json(Vec::new(rt.alloc()));
+        }
+        Answer::Lines(rt.stdout())
+    }
+
+    /// Prints what is in memory as JSON.
+    ///
+    /// # Errors
+    /// The exit status, after a message.
+    pub fn print(&self, rt: &HostRuntime) -> Result<(), ExitCode> {
+        let Answer::Json(lines) = self else {
+            return Ok(());
+        };
+        let Ok(text) = object_of(rt.alloc(), lines) else {
+            return Err(report::no_memory(rt));
+        };
+        match rt.stdout().write_all(text.as_bytes()) {
+            Ok(()) => Ok(()),
+            Err(_) => Err(report::write_fault(rt)),
+        }
+    }
+
+    /// Prints what is in memory as JSON, and ends with this status.
+    pub fn end(&self, rt: &HostRuntime, status: ExitCode) -> ExitCode {
+        match self.print(rt) {
+            Ok(()) => status,
+            Err(status) => status,
+        }
+    }
+
+    /// Tells that a line could not be written: in memory, only where there is no more of it.
+    pub fn unwritten(&self, rt: &HostRuntime) -> ExitCode {
+        match self {
+            Answer::Lines(_) => report::write_fault(rt),
+            Answer::Json(_) => report::no_memory(rt),
+        }
+    }
+}
+
+impl Write for Answer {
+    fn write(&mut self, buf: &[u8]) -> io::Result<usize> {
+        match self {
+            Answer::Lines(stdout) => stdout.write(buf),
+            Answer::Json(lines) => lines.write(buf),
+        }
+    }
+
+    fn flush(&mut self) -> io::Result<()> {
+        Ok(())
+    }
+}
