@@ -54,8 +54,8 @@ pub mod routes {
 /// The program as a library.
 pub mod engines {
     pub use tk_engines::{
-        Construction, Fault, Key, ParamFault, ParamKind, Params, Plotted, Progress, RouteVerdict,
-        TourFault, Unwatched, Verdict, Watch, check_engine, matrix_engine, near_engine,
-        plot_engine, read_params, route_check_engine, solve_engine,
+        Construction, Fault, Key, ParamFault, ParamKind, Params, ParamsBuilder, Plotted, Progress,
+        RouteVerdict, TourFault, Unwatched, Verdict, Watch, check_engine, key_of, matrix_engine,
+        near_engine, plot_engine, read_params, route_check_engine, solve_engine,
     };
 }

@@ -1,11 +1,13 @@
 //! What the words of a call ask for.
 
 use crate::list_length::ListLength;
+use crate::search_options::SearchOptions;
 
 /// The name of standard input.
 pub const STANDARD: &str = "-";
 
 /// What the words of a call ask for: a subcommand with its files. [`STANDARD`] names standard input.
+#[derive(Drop)]
 pub enum Asked<'a> {
     /// `check PROBLEM TOUR [--json]`
     Check {
@@ -34,9 +36,10 @@ pub enum Asked<'a> {
         problem: &'a str,
         claim: Option<&'a str>,
     },
-    /// `solve PARAMETERS [--progress] [--json]`
+    /// `solve PARAMETERS [--progress] [--json]`, or `solve PROBLEM` with options of a search
     Solve {
-        parameters: &'a str,
+        file: &'a str,
+        options: Option<SearchOptions<'a>>,
         shown: Shown,
     },
 }

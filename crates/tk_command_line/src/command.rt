@@ -93,16 +93,35 @@ pub fn problem_file<'a>(alloc: Global) -> Arg<'a> {
 
 /// What is wrong with words that name standard input twice. `bin_name` is how the command is called.
 pub fn twice_standard(command: Result<Command<'_>, Error>, bin_name: &str) -> Error {
-    match twice_error(command, bin_name) {
+    refused(
+        command,
+        bin_name,
+        "only one of the files can be standard input '-'",
+    )
+}
+
+/// What is wrong with words that name standard input as the file to write.
+pub fn standard_output(command: Result<Command<'_>, Error>, bin_name: &str) -> Error {
+    refused(
+        command,
+        bin_name,
+        "the file of '--output' cannot be '-', which is standard input",
+    )
+}
+
+/// What is wrong with words that do not fit each other.
+fn refused(command: Result<Command<'_>, Error>, bin_name: &str, message: &str) -> Error {
+    match refusal(command, bin_name, message) {
         Ok(error) | Err(error) => error,
     }
 }
 
-fn twice_error(command: Result<Command<'_>, Error>, bin_name: &str) -> Result<Error, Error> {
+fn refusal(
+    command: Result<Command<'_>, Error>,
+    bin_name: &str,
+    message: &str,
+) -> Result<Error, Error> {
     let mut command = command?.bin_name(bin_name)?;
-    let error = command.error(
-        ErrorKind::ArgumentConflict,
-        "only one of the files can be standard input '-'",
-    )?;
+    let error = command.error(ErrorKind::ArgumentConflict, message)?;
     Ok(error)
 }

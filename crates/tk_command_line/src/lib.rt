@@ -5,9 +5,11 @@ mod asked;
 mod command;
 mod list_length;
 mod parsing;
+mod search_options;
 mod subcommands;
 mod tips;
 
 pub use asked::{Asked, STANDARD, Shown};
 pub use list_length::ListLength;
 pub use parsing::{Refusal, parse};
+pub use search_options::SearchOptions;

@@ -1,7 +1,8 @@
 //! From the words of a call to what they ask for.
 
 use crate::asked::{Asked, STANDARD};
-use crate::command::{tourkit, twice_standard};
+use crate::command::{standard_output, tourkit, twice_standard};
+use crate::search_options::SearchOptions;
 use crate::subcommands::{check, checksol, matrix, near, plot, solve};
 use crate::tips::with_tips;
 use clap::error::ErrorKind;
@@ -73,6 +74,29 @@ fn asked<'a>(alloc: Global, words: &'a [String]) -> Result<Option<Asked<'a>>, Er
                 claim: Some(STANDARD),
             },
         ) => Err(twice_standard(plot::command(alloc), "tourkit plot")),
+        Some(
+            Asked::Solve {
+                file: STANDARD,
+                options: Some(
+                    SearchOptions {
+                        initial_tour: Some(STANDARD),
+                        ..
+                    },
+                ),
+                ..
+            },
+        ) => Err(twice_standard(solve::command(alloc), "tourkit solve")),
+        Some(
+            Asked::Solve {
+                options: Some(
+                    SearchOptions {
+                        output: Some(STANDARD),
+                        ..
+                    },
+                ),
+                ..
+            },
+        ) => Err(standard_output(solve::command(alloc), "tourkit solve")),
         asked => Ok(asked),
     }
 }

@@ -18,8 +18,8 @@ pub use engines::solve::solve_engine;
 pub use fault::Fault;
 pub use lines::solve_lines::write_run_line;
 pub use tk_params::{
-    Construction, Key, ParamFault, ParamKind, Params, decided_params_stay,
-    each_params_text_has_an_answer, each_word_spells_its_key, read_params,
+    Construction, Key, ParamFault, ParamKind, Params, ParamsBuilder, decided_params_stay,
+    each_params_text_has_an_answer, each_word_spells_its_key, key_of, read_params,
 };
 pub use tk_routes::RouteVerdict;
 pub use tk_solve::{Progress, RunReport, Unwatched, Watch};

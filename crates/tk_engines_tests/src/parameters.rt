@@ -1,3 +1,4 @@
 //! Parameter files.
+pub mod built;
 pub mod examples;
 pub mod texts;

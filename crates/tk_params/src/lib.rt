@@ -1,6 +1,7 @@
 //! Parameter files: their keys, their faults, values, the reader, and what a file asks for.
 #![tactic(auto)]
 
+mod builder;
 mod entries;
 mod fault;
 mod key;
@@ -11,8 +12,9 @@ mod reader;
 mod settings;
 mod value;
 
+pub use builder::ParamsBuilder;
 pub use fault::{ParamFault, ParamKind};
-pub use key::{Key, each_word_spells_its_key};
+pub use key::{Key, each_word_spells_its_key, key_of};
 pub use laws::{decided_params_stay, each_params_text_has_an_answer};
 pub use params::Params;
 pub use reader::read_params;

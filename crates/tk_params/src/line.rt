@@ -1,5 +1,5 @@
 //! A line of a parameter file.
-ghost use Rattle.std.specs.Prelude.{◌≡◌, ◌≤◌, List, length, take, drop, OnOk, IfErr};
+ghost use Rattle.std.specs.Prelude.{◌≡◌, ◌≤◌, List, length, take, drop, OnErr, OnOk, IfErr};
 ghost use Rattle.tk_words.specs.Lex.{behind, front, is_blank, is_word_byte, trim_end};
 ghost use Rattle.tk_params.specs.Readers.{HasTaken, IsToldOf};
 ghost use Rattle.tk_params.specs.Entries;
@@ -70,9 +70,18 @@ fn has_dollar(key: Key, value: &[u8]) -> bool
 }
 
 /// Takes a key and its value.
-fn take_key(alloc: Global, settings: &mut Settings, key: Key, value: &[u8]) -> Result<(), ParamKind>
+///
+/// # Errors
+/// `RepeatedKey` for a key that came before, and the faults of `setting_of`.
+pub fn take_key(
+    alloc: Global,
+    settings: &mut Settings,
+    key: Key,
+    value: &[u8],
+) -> Result<(), ParamKind>
     ensures ok { OnOk result (HasTaken settings.old settings.new (Values.key_means settings.old key value.now)) }
     ensures err { IfErr result (IsToldOf (λ k. Values.key_means settings.old key value.now ≡ Values.Faulty k)) }
+    ensures kept { OnErr result (settings.new ≡ settings.old) }
 {
     if settings.has(key) {
         return Err(ParamKind::RepeatedKey);

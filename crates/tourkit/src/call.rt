@@ -39,6 +39,10 @@ fn run(rt: &HostRuntime, asked: Asked<'_>) -> ExitCode {
         Asked::Matrix { problem, format } => matrix_command(rt, problem, format),
         Asked::Near { problem, length } => near_command(rt, problem, length),
         Asked::Plot { problem, claim } => plot_command(rt, problem, claim),
-        Asked::Solve { parameters, shown } => solve_command(rt, parameters, shown),
+        Asked::Solve {
+            file,
+            options,
+            shown,
+        } => solve_command(rt, file, options, shown),
     }
 }

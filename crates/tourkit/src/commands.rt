@@ -5,3 +5,4 @@ pub mod matrix;
 pub mod near;
 pub mod plot;
 pub mod solve;
+pub mod solve_options;

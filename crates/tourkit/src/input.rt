@@ -44,6 +44,14 @@ pub fn open(rt: &HostRuntime, name: &str) -> Result<Input, ExitCode> {
             Err(_) => Err(report::unopened(rt, name)),
         };
     }
+    open_file(rt, name)
+}
+
+/// Opens an input file, or reports that it cannot be opened. `-` is a name like any other.
+///
+/// # Errors
+/// The exit status, after a message that names the file.
+pub fn open_file(rt: &HostRuntime, name: &str) -> Result<Input, ExitCode> {
     match File::open(rt, name) {
         Ok(file) => Ok(Input::File(file)),
         Err(_) => Err(report::unopened(rt, name)),

@@ -11,6 +11,7 @@ mod json_lines;
 mod output;
 mod progress;
 mod report;
+mod search;
 mod watching;
 mod words;
 mod written;

@@ -3,7 +3,7 @@ use std::io;
 use std::process::ExitCode;
 use tk_command_line::Refusal;
 use tk_engines::Fault;
-use tk_params::{Key, ParamFault, ParamKind};
+use tk_params::{ParamFault, ParamKind};
 use tk_tour::TourFault;
 use tk_words::{TextFault, TextKind};
 
@@ -37,25 +37,39 @@ pub fn unopened(rt: &HostRuntime, file: &str) -> ExitCode {
     ExitCode::from(SYSTEM)
 }
 
-/// Tells that a file to write is the problem's.
-pub fn same_as_problem(rt: &HostRuntime, file: &str, key: Key) -> ExitCode {
-    let _ = eprintln!(rt; "tourkit: {file}: {key} is the same file as PROBLEM_FILE");
+/// Tells that a file to write is the problem's. Both are called by what names them.
+pub fn same_as_problem(rt: &HostRuntime, file: &str, named: &str, problem: &str) -> ExitCode {
+    let _ = eprintln!(rt; "tourkit: {file}: {named} is the same file as {problem}");
     ExitCode::from(USAGE)
 }
 
 /// Tells that a file to write is the parameter file.
-pub fn same_as_parameters(rt: &HostRuntime, file: &str, key: Key) -> ExitCode {
-    let _ = eprintln!(rt; "tourkit: {file}: {key} is the parameter file");
+pub fn same_as_parameters(rt: &HostRuntime, file: &str, named: &str) -> ExitCode {
+    let _ = eprintln!(rt; "tourkit: {file}: {named} is the parameter file");
+    ExitCode::from(USAGE)
+}
+
+/// Tells that options of a search were given with a parameter file.
+pub fn options_for_parameters(rt: &HostRuntime, file: &str) -> ExitCode {
+    let _ = eprintln!(rt;
+        "tourkit: {file}: options of a search need a problem file, and this is a parameter file"
+    );
+    ExitCode::from(USAGE)
+}
+
+/// Tells that an option has a value that no search has.
+pub fn option_fault(rt: &HostRuntime, option: &str, kind: ParamKind) -> ExitCode {
+    let _ = eprintln!(rt; "tourkit: {option}: {kind}");
     ExitCode::from(USAGE)
 }
 
 /// Notes that a file name begins with a colon.
-pub fn note_colon(rt: &HostRuntime, key: Key, name: &str) {
+pub fn note_colon(rt: &HostRuntime, key: &str, name: &str) {
     let _ = eprintln!(rt; "tourkit: note: the file of {key} is '{name}', with the colon");
 }
 
 /// Notes that a file name has what looks like a comment.
-pub fn note_comment(rt: &HostRuntime, key: Key, name: &str) {
+pub fn note_comment(rt: &HostRuntime, key: &str, name: &str) {
     let _ = eprintln!(rt;
         "tourkit: note: the file of {key} is '{name}', with all that follows the #"
     );
@@ -69,7 +83,7 @@ pub fn stopped(rt: &HostRuntime, file: &str, fault: &Fault) -> ExitCode {
         }
         Fault::Initial(fault) => initial_fault(rt, file, fault),
         Fault::WrongType => wrong_type(rt, file),
-        Fault::NotForType(key) => not_for_type(rt, file, *key),
+        Fault::NotForType(key) => not_for_type(rt, file, key.word()),
         Fault::TooLarge => too_large(rt, file),
         Fault::NoPlaces => no_places(rt, file),
         Fault::Write(_) => write_fault(rt),
@@ -128,9 +142,9 @@ fn wrong_type(rt: &HostRuntime, file: &str) -> ExitCode {
     ExitCode::from(USAGE)
 }
 
-/// Tells that a problem's type has no use for a key.
-fn not_for_type(rt: &HostRuntime, file: &str, key: Key) -> ExitCode {
-    let _ = eprintln!(rt; "tourkit: {file}: {key} does not fit the problem's type");
+/// Tells that a problem's type has no use for a key or an option.
+pub fn not_for_type(rt: &HostRuntime, file: &str, named: &str) -> ExitCode {
+    let _ = eprintln!(rt; "tourkit: {file}: {named} does not fit the problem's type");
     ExitCode::from(USAGE)
 }
 

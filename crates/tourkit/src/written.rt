@@ -1,11 +1,12 @@
 //! The file that `solve` is to write, looked at before the search.
 use crate::output::find_place;
 use crate::report;
+use crate::search::Search;
 use std::fs::{self, Metadata};
 use std::io;
 use std::os::unix::fs::MetadataExt;
 use std::process::ExitCode;
-use tk_params::{Key, Params};
+use tk_params::Key;
 
 /// Which plain file it is, whatever name or link leads to it.
 #[derive(Clone, Copy, PartialEq, Eq)]
@@ -25,11 +26,6 @@ pub fn id_of(found: io::Result<Metadata>) -> Option<FileId> {
     }
 }
 
-/// The plain file that a name leads to, if there is a name and it leads to one.
-pub fn id_in(rt: &HostRuntime, name: Option<&str>) -> Option<FileId> {
-    id_of(fs::metadata(rt, name?))
-}
-
 /// The files that `solve` reads.
 #[derive(Clone, Copy)]
 pub struct Kept {
@@ -47,13 +43,12 @@ pub struct Kept {
 /// The exit status, after a message.
 pub fn check_written(
     rt: &HostRuntime,
-    file: &str,
-    params: &Params,
+    search: &Search<'_, '_>,
     kept: Kept,
 ) -> Result<(), ExitCode> {
     for key in [Key::TourFile, Key::SolutionFile] {
-        if let Some(name) = file_in(params, key) {
-            check_other(rt, file, key, name, kept)?;
+        if let Some(name) = search.file_of(key) {
+            check_other(rt, search, key, name, kept)?;
             find_place(rt, name)?;
         }
     }
@@ -63,7 +58,7 @@ pub fn check_written(
 /// Refuses a name that leads to a file which is kept.
 fn check_other(
     rt: &HostRuntime,
-    file: &str,
+    search: &Search<'_, '_>,
     key: Key,
     name: &str,
     kept: Kept,
@@ -71,42 +66,36 @@ fn check_other(
     let Some(found) = id_of(fs::metadata(rt, name)) else {
         return Ok(());
     };
+    let named = search.named(key);
     if kept.problem == Some(found) {
-        return Err(report::same_as_problem(rt, file, key));
+        let problem = search.named(Key::ProblemFile);
+        return Err(report::same_as_problem(rt, search.file, named, problem));
     }
     if kept.parameters == Some(found) {
-        return Err(report::same_as_parameters(rt, file, key));
+        return Err(report::same_as_parameters(rt, search.file, named));
     }
     Ok(())
 }
 
-/// The file name of a key, if it was given.
-fn file_in(params: &Params, key: Key) -> Option<&str> {
-    match key {
-        Key::ProblemFile => Some(params.problem_file()),
-        Key::TourFile => params.tour_file(),
-        Key::SolutionFile => params.solution_file(),
-        Key::InitialTourFile => params.initial_tour_file(),
-        _ => None,
+/// Tells, after a run, of file names in a parameter file that are most likely slips.
+pub fn note_slips(rt: &HostRuntime, search: &Search<'_, '_>) {
+    if search.by_options {
+        return;
     }
-}
-
-/// Tells, after a run, of file names that are most likely slips.
-pub fn note_slips(rt: &HostRuntime, params: &Params) {
     for key in [
         Key::ProblemFile,
         Key::TourFile,
         Key::SolutionFile,
         Key::InitialTourFile,
     ] {
-        if let Some(name) = file_in(params, key) {
-            note_slip(rt, key, name);
+        if let Some(name) = search.file_of(key) {
+            note_slip(rt, key.word(), name);
         }
     }
 }
 
 /// Tells of a file name with a colon before it or what looks like a comment after it.
-fn note_slip(rt: &HostRuntime, key: Key, name: &str) {
+fn note_slip(rt: &HostRuntime, key: &str, name: &str) {
     if name.starts_with(':') {
         report::note_colon(rt, key, name);
     } else if name.contains(" #") {

@@ -1,0 +1,41 @@
+//! The options by which `solve` searches without a parameter file.
+
+/// What the options say, as they were written; `None` for those that were not given.
+#[derive(Clone, Copy)]
+pub struct SearchOptions<'a> {
+    /// `-o`: where the best tour, or the routes, are written.
+    pub output: Option<&'a str>,
+    /// `--initial-tour`: the tour that each run begins with.
+    pub initial_tour: Option<&'a str>,
+    /// `--runs`
+    pub runs: Option<&'a str>,
+    /// `--trials`: how many trials each run has.
+    pub trials: Option<&'a str>,
+    /// `--seed`
+    pub seed: Option<&'a str>,
+    /// `--candidates`: how many near cities of each city are tried.
+    pub candidates: Option<&'a str>,
+    /// `--construction`: how the tour is made that a run begins with.
+    pub construction: Option<&'a str>,
+    /// `--or-segment`: the most cities of a segment that is moved.
+    pub or_segment: Option<&'a str>,
+    /// `--final-sweep`
+    pub final_sweep: bool,
+}
+
+impl SearchOptions<'_> {
+    /// Whether any option was given.
+    pub fn are_given(&self) -> bool {
+        let values = [
+            self.output,
+            self.initial_tour,
+            self.runs,
+            self.trials,
+            self.seed,
+            self.candidates,
+            self.construction,
+            self.or_segment,
+        ];
+        self.final_sweep || values.iter().any(|value| value.is_some())
+    }
+}

@@ -1,0 +1,59 @@
+//! Parameters that are given key by key.
+ghost use Rattle.std.specs.Prelude.{◌≡◌, [], OnErr, OnOk, IfErr};
+ghost use Rattle.tk_params.specs.Asked.{asked};
+ghost use Rattle.tk_params.specs.Readers.{HasTaken, IsToldOf};
+ghost use Rattle.tk_params.specs.Values;
+
+use crate::fault::ParamKind;
+use crate::key::Key;
+use crate::line::take_key;
+use crate::params::Params;
+use crate::settings::Settings;
+use std::alloc::Global;
+use std::marker::Model;
+
+/// Keys with their values, each once, as the lines of a parameter file give them.
+#[derive(Drop)]
+pub struct ParamsBuilder {
+    alloc: Global,
+    settings: Settings,
+}
+
+impl Model for ParamsBuilder {
+    ghost use Rattle.tk_params.specs.Values;
+
+    ghost Value = { Values.Settings };
+
+    ghost view = { λ b. b.settings };
+}
+
+impl ParamsBuilder {
+    /// No key.
+    pub fn new(alloc: Global) -> Self
+        ensures { result ≡ [] }
+    {
+        ParamsBuilder {
+            alloc,
+            settings: Settings::new(alloc),
+        }
+    }
+
+    /// Takes a key with a value, as in a parameter file: within the same limits, and each key once.
+    ///
+    /// # Errors
+    /// `RepeatedKey`, `DollarInName` or `BadValue`, as for a line of a parameter file, or `NoMemory`.
+    pub fn set(&mut self, key: Key, value: &[u8]) -> Result<(), ParamKind>
+        ensures ok { OnOk result (HasTaken self.old self.new (Values.key_means self.old key value.now)) }
+        ensures err { IfErr result (IsToldOf (λ k. Values.key_means self.old key value.now ≡ Values.Faulty k)) }
+        ensures kept { OnErr result (self.new ≡ self.old) }
+    {
+        take_key(self.alloc, &mut self.settings, key, value)
+    }
+
+    /// What the keys ask for, with the defaults of the others; `None` without `ProblemFile`.
+    pub fn build(self) -> Option<Params>
+        ensures { result ≡ asked self }
+    {
+        Params::from_settings(self.settings)
+    }
+}

@@ -1,0 +1,107 @@
+//! A search that is asked for: what it is to do, and its files.
+
+use crate::input::{Input, open, open_file};
+use std::process::ExitCode;
+use tk_command_line::{STANDARD, SearchOptions};
+use tk_params::{Key, Params};
+
+/// A search, asked for by a parameter file or by options.
+#[derive(Clone, Copy)]
+pub struct Search<'p, 'a> {
+    /// What it is to do.
+    pub params: &'p Params,
+    /// Whether options ask for it.
+    pub by_options: bool,
+    /// The file that asks for it, or, with options, the problem's.
+    pub file: &'a str,
+    /// The problem's file.
+    pub problem: &'a str,
+    /// The file of the tour that each run begins with.
+    pub initial: Option<&'a str>,
+    /// Where a tour is written; with options, also routes.
+    pub tour_file: Option<&'a str>,
+    /// Where routes are written.
+    pub solution_file: Option<&'a str>,
+}
+
+impl<'a> Search<'a, 'a> {
+    /// The search that a parameter file asks for.
+    pub fn by_keys(file: &'a str, params: &'a Params) -> Search<'a, 'a> {
+        Search {
+            params,
+            by_options: false,
+            file,
+            problem: params.problem_file(),
+            initial: params.initial_tour_file(),
+            tour_file: params.tour_file(),
+            solution_file: params.solution_file(),
+        }
+    }
+}
+
+impl<'p, 'a> Search<'p, 'a> {
+    /// The search that options ask for. The type of the problem is not known yet: whatever is found is written to the
+    /// one file.
+    pub fn by_options(
+        problem: &'a str,
+        params: &'p Params,
+        options: &SearchOptions<'a>,
+    ) -> Search<'p, 'a> {
+        Search {
+            params,
+            by_options: true,
+            file: problem,
+            problem,
+            initial: options.initial_tour,
+            tour_file: options.output,
+            solution_file: None,
+        }
+    }
+
+    /// Opens the problem, and the tour to begin with, if there is one. `-` is standard input on the command line, and a
+    /// file of this name in a parameter file.
+    ///
+    /// # Errors
+    /// The exit status, after a message.
+    pub fn open(&self, rt: &HostRuntime) -> Result<(Input, Option<Input>), ExitCode> {
+        let Some(initial) = self.initial else {
+            return Ok((self.open_one(rt, self.problem)?, None));
+        };
+        if self.by_options && initial == STANDARD {
+            let standard = open(rt, initial)?;
+            return Ok((open_file(rt, self.problem)?, Some(standard)));
+        }
+        let problem = self.open_one(rt, self.problem)?;
+        Ok((problem, Some(self.open_one(rt, initial)?)))
+    }
+
+    /// Opens a file by its name.
+    fn open_one(&self, rt: &HostRuntime, name: &str) -> Result<Input, ExitCode> {
+        if self.by_options {
+            open(rt, name)
+        } else {
+            open_file(rt, name)
+        }
+    }
+
+    /// The file of a key, if there is one.
+    pub fn file_of(&self, key: Key) -> Option<&'a str> {
+        match key {
+            Key::ProblemFile => Some(self.problem),
+            Key::TourFile => self.tour_file,
+            Key::SolutionFile => self.solution_file,
+            Key::InitialTourFile => self.initial,
+            _ => None,
+        }
+    }
+
+    /// What messages call the file of a key.
+    pub fn named(&self, key: Key) -> &'static str {
+        match key {
+            Key::ProblemFile if self.by_options => "PROBLEM",
+            Key::TourFile if self.by_options => "--output",
+            Key::InitialTourFile if self.by_options => "--initial-tour",
+            _ => key.word(),
+        }
+    }
+}
