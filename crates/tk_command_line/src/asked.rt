@@ -21,6 +21,11 @@ pub enum Asked<'a> {
         solution: &'a str,
         json: bool,
     },
+    /// `explain WHAT [LINE]`
+    Explain {
+        what: &'a str,
+        line: Option<u64>,
+    },
     /// `matrix PROBLEM FORMAT`
     Matrix {
         problem: &'a str,

@@ -1,11 +1,12 @@
 //! The program with its subcommands.
-use crate::subcommands::{check, checksol, matrix, near, plot, solve};
+use crate::subcommands::{check, checksol, explain, matrix, near, plot, solve};
 use clap::error::ErrorKind;
 use clap::{Arg, ArgAction, Command, Error};
 use std::alloc::Global;
 
 /// What `--help` ends with.
 const HELP: &str = "An invalid file is reported on standard error as FILE:LINE: NUMBER NAME.
+tourkit explain NUMBER says what a fault means, and tourkit explain FILE how to mend the file.
 
 Exit status:
   0  the command succeeded, or help was shown
@@ -28,6 +29,7 @@ pub fn tourkit<'a>(alloc: Global) -> Result<Command<'a>, Error> {
         .subcommand_required(true);
     let made = with(made, check::command(alloc))?;
     let made = with(made, checksol::command(alloc))?;
+    let made = with(made, explain::command(alloc))?;
     let made = with(made, matrix::command(alloc))?;
     let made = with(made, near::command(alloc))?;
     let made = with(made, plot::command(alloc))?;

@@ -3,7 +3,7 @@
 use crate::asked::{Asked, STANDARD};
 use crate::command::{standard_output, tourkit, twice_standard};
 use crate::search_options::SearchOptions;
-use crate::subcommands::{check, checksol, matrix, near, plot, solve};
+use crate::subcommands::{check, checksol, explain, matrix, near, plot, solve};
 use crate::tips::with_tips;
 use clap::error::ErrorKind;
 use clap::{ArgMatches, Error};
@@ -106,6 +106,7 @@ fn asked_by<'a>(matches: &ArgMatches<'a>) -> Option<Asked<'a>> {
     match matches.subcommand()? {
         ("check", words) => check::asked(words),
         ("checksol", words) => checksol::asked(words),
+        ("explain", words) => explain::asked(words),
         ("matrix", words) => matrix::asked(words),
         ("near", words) => near::asked(words),
         ("plot", words) => plot::asked(words),

@@ -1,6 +1,7 @@
 //! The words of each subcommand.
 pub mod check;
 pub mod checksol;
+pub mod explain;
 pub mod matrix;
 pub mod near;
 pub mod plot;

@@ -2,6 +2,7 @@
 
 use crate::commands::check::check_command;
 use crate::commands::checksol::checksol_command;
+use crate::commands::explain::explain_command;
 use crate::commands::matrix::matrix_command;
 use crate::commands::near::near_command;
 use crate::commands::plot::plot_command;
@@ -36,6 +37,7 @@ fn run(rt: &HostRuntime, asked: Asked<'_>) -> ExitCode {
             solution,
             json,
         } => checksol_command(rt, problem, solution, json),
+        Asked::Explain { what, line } => explain_command(rt, what, line),
         Asked::Matrix { problem, format } => matrix_command(rt, problem, format),
         Asked::Near { problem, length } => near_command(rt, problem, length),
         Asked::Plot { problem, claim } => plot_command(rt, problem, claim),

@@ -1,6 +1,7 @@
 //! The subcommands over files.
 pub mod check;
 pub mod checksol;
+pub mod explain;
 pub mod matrix;
 pub mod near;
 pub mod plot;

@@ -37,6 +37,12 @@ pub fn unopened(rt: &HostRuntime, file: &str) -> ExitCode {
     ExitCode::from(SYSTEM)
 }
 
+/// Tells that a number is that of no fault, and no file has it as its name.
+pub fn no_such_fault(rt: &HostRuntime, what: &str) -> ExitCode {
+    let _ = eprintln!(rt; "tourkit: {what}: no fault has this number, and no file this name");
+    ExitCode::from(USAGE)
+}
+
 /// Tells that a file to write is the problem's. Both are called by what names them.
 pub fn same_as_problem(rt: &HostRuntime, file: &str, named: &str, problem: &str) -> ExitCode {
     let _ = eprintln!(rt; "tourkit: {file}: {named} is the same file as {problem}");
