@@ -65,6 +65,12 @@ abbrev pub IsInitial : ProblemIs → Option (List ℕ) → Option Fault → Type
 IsInitial problem None fault = fault ≡ None
 IsInitial problem (Some cities) fault = (v : Verdict) × (IsVerdict problem.n cities v × (fault ≡ initial_fault v))
 
+-- a fact, where `solve` stopped before its search
+abbrev pub BeforeSearch : Type 0 → Fault → Type 0
+BeforeSearch P (Write f) = Unit {0}
+BeforeSearch P NoMemory = Unit {0}
+BeforeSearch P _ = P
+
 -- ---- what is done
 
 abbrev pub construction_begins : Construction → Begins

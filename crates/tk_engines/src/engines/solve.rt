@@ -10,7 +10,7 @@ ghost use Rattle.tk_solve.specs.SolvedTours.{IsSolved, IsSound};
 ghost use Rattle.tk_solve.specs.Events.{Begun};
 ghost use Rattle.tk_solve.specs.Watching.{WereShown};
 ghost use Rattle.tk_engines.specs.Engine.{AtWrite, BeforeSecond, Ends, IsUntouched, ReadsProblem, UnlessWrite};
-ghost use Rattle.tk_engines.specs.Solve.{AreRoutesOf, AreUntouched, Gives, HasFailed, IsTourWritten, ReadsInitial, WritesFiles, cities_in, route_files, solve_task, tour_files, tour_task};
+ghost use Rattle.tk_engines.specs.Solve.{AreRoutesOf, AreUntouched, BeforeSearch, Gives, HasFailed, IsTourWritten, ReadsInitial, WritesFiles, cities_in, route_files, solve_task, tour_files, tour_task};
 
 use crate::engines::solve_given::{check_initial, options_of, read_initial, unfit};
 use crate::fault::Fault;
@@ -164,6 +164,7 @@ pub fn solve_engine<P: Source, I: Source, F: Sink, W: Sink, V: Watch>(
         (UnlessWrite (AreUntouched F.taken F.broken W.taken W.broken file.old file.new out.old out.new)) }
     ensures failed { IfErr result (AtWrite (HasFailed (F.broken file.new) (W.broken out.new))) }
     ensures unread { IfErr result (BeforeSecond (IsUntouched I.left I.broken initial.old initial.new)) }
+    ensures unwatched { IfErr result (BeforeSearch (watch.new ≡ watch.old)) }
 {
     let problem = match read_problem(alloc, problem) {
         Ok(problem) => problem,
