@@ -72,6 +72,29 @@ fn one_list_of_four(rt: HostRuntime) -> Result<(), Fail> {
     Ok(())
 }
 
+/// The same weights times 150,000,000: savings too great for keys
+#[test]
+fn one_list_of_four_far_apart(rt: HostRuntime) -> Result<(), Fail> {
+    let weights = Triangle {
+        n: 5,
+        weights: &[
+            1_500_000_000,
+            1_500_000_000,
+            1_500_000_000,
+            1_500_000_000,
+            1_650_000_000,
+            1_800_000_000,
+            1_500_000_000,
+            1_650_000_000,
+            2_850_000_000,
+            3_000_000_000,
+        ],
+    };
+    let lists = lists_of(&rt, rt.alloc(), &weights, 1, &[0, 1, 1, 1, 1], 4)?;
+    assert!(rt; are(&lists, &[&[4, 2, 3, 5]]));
+    Ok(())
+}
+
 /// (10,0) (0,0) (11,0), EUC_2D
 #[test]
 fn hub_that_is_not_the_first(rt: HostRuntime) -> Result<(), Fail> {

@@ -2,6 +2,7 @@ pub mod Holding
 pub mod HubDistances
 pub mod Joints
 pub mod NearestTour
+pub mod PairKeys
 pub mod PathEnds
 pub mod SavingPairs
 pub mod SavingsMerges

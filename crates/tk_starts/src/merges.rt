@@ -1,6 +1,7 @@
 //! Savings merges.
 
 pub mod laws;
+pub mod pair_list;
 pub mod pairs;
 pub mod paths;
 pub mod savings;

@@ -1,3 +1,4 @@
+pub mod KeyLists
 pub mod OneMerge
 pub mod PairsFound
 pub mod PairsMerged

@@ -6,6 +6,7 @@ ghost use Rattle.tk_starts.specs.Holding.{holds};
 ghost use Rattle.tk_starts.specs.HubDistances.{AreFromHub};
 ghost use Rattle.tk_starts.specs.SavingPairs.{saving_of, AreCandidates, IsPair, IsOf};
 
+use crate::merges::pair_list::PairList;
 use std::alloc::{AllocError, Global};
 use std::cmp::Reverse;
 use tk_distance::Metric;
@@ -87,14 +88,14 @@ pub(crate) fn candidate_pairs<M: Metric>(
     metric: &M,
     hub: u32,
     near: &Near,
-) -> Result<Vec<Pair>, AllocError>
+) -> Result<PairList, AllocError>
     requires hub { IsCity (M.size_of metric.now) hub }
     requires size { near.now.size ≡ M.size_of metric.now }
     ensures { IfOk result (λ v. AreCandidates (M.distance metric.now) (near_of near.now)
-        (M.size_of metric.now) hub v.items) }
+        (M.size_of metric.now) hub v) }
 {
     let from_hub = hub_distances(alloc, metric, hub)?;
-    let mut pairs = Vec::new(alloc);
+    let mut pairs = PairList::new(alloc);
     for c in 1..metric.size() + 1 {
         for d in near.of(c) {
             if *d < c && is_near(near, *d, c) {
@@ -105,7 +106,6 @@ pub(crate) fn candidate_pairs<M: Metric>(
             }
         }
     }
-    pairs.sort_unstable();
-    pairs.dedup();
+    pairs.put_in_order();
     Ok(pairs)
 }

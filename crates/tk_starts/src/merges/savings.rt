@@ -9,7 +9,8 @@ ghost use Rattle.tk_starts.specs.SavingsMerges.{AreSavingsLists, AreLight};
 ghost use Rattle.tk_starts.specs.PathEnds.{AreJoined, load_of, IsWithin};
 ghost use Rattle.tk_starts.specs.Joints.{joints};
 
-use crate::merges::pairs::{Pair, candidate_pairs};
+use crate::merges::pair_list::PairList;
+use crate::merges::pairs::candidate_pairs;
 use crate::merges::paths::Paths;
 use std::alloc::{AllocError, Global};
 use tk_distance::Metric;
@@ -20,7 +21,7 @@ fn joined_paths(
     alloc: Global,
     loads: &[u32],
     capacity: u64,
-    pairs: &[Pair],
+    pairs: &PairList,
 ) -> Result<Paths, AllocError>
     requires limit { length loads.now ≤ CITY_LIMIT }
     requires within { All (IsWithin (length loads.now)) pairs.now }
@@ -31,8 +32,9 @@ fn joined_paths(
         p.load.items) }
 {
     let mut paths = Paths::new(alloc, loads)?;
-    for pair in pairs {
-        if paths.may_join(pair, capacity) {
+    for k in 0..pairs.len() {
+        let pair = pairs.at(k);
+        if paths.may_join(&pair, capacity) {
             paths.join(pair.i, pair.j);
         }
     }

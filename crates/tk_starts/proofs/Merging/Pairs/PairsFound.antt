@@ -2,6 +2,8 @@
 use Rattle.std.proofs.Common.{eqb, ◌&&◌, ◌||◌, Bool, take, ◌≡◌, ℕ, suc, zero, ◌+◌, ◌≤◌, ◌<◌, true, List, [], ◌∷◌, ◌++◌, Some, None, length, get_or, refl, sym, ap, ◌∙◌, ◌⊎◌, inl, inr, arith, ⊎_elim, subst}
 use Rattle.std.proofs.Math.Bool.{or-false, or_assoc}
 use Rattle.std.specs.List.{Contains}
+use Rattle.std.specs.List.Sorted.{IsPermutation}
+use Rattle.std.proofs.lemmas.List.Sorted.{Contains-permutation, IsPermutation-sym}
 use Rattle.std.specs.Ordering.{nat_cmp, ordering_then}
 use Rattle.std.specs.declared.cmp.Ordering.TheVariants.{Less, Greater}
 use Rattle.std.proofs.lemmas.List.Elements.{Contains-append_left, Contains-append_cases, Contains-append_right}
@@ -62,22 +64,22 @@ Earlier dist near n hub c pairs = (p : Pair) → IsPair dist n hub p → (a b : 
 abbrev pub Here : (ℕ → ℕ → ℕ) → ℕ → ℕ → ℕ → List ℕ → ℕ → List Pair → Type 0
 Here dist n hub c items m pairs = (p : Pair) → IsPair dist n hub p → (k : ℕ) → k < m → IsOf c (get_or items k 0) p → Contains pairs p
 
-pub sound_more : (dist : ℕ → ℕ → ℕ) (near : ℕ → List ℕ) (n hub c d : ℕ) (pairs pairs' : List Pair) (q : Pair) → pairs' ≡ pairs ++ q ∷ [] →
+pub sound_more : (dist : ℕ → ℕ → ℕ) (near : ℕ → List ℕ) (n hub c d : ℕ) (pairs pairs' : List Pair) (q : Pair) → IsPermutation (pairs ++ q ∷ []) pairs' →
     Sound dist near n hub pairs → IsPair dist n hub q × IsOf c d q → holds (near c) d ≡ true → Sound dist near n hub pairs'
 sound_more dist near n hub c d pairs pairs' q e s h m p k =
     ⊎_elim (s p) (λ w. subst (λ (x : Pair). IsCandidate dist near n hub x) (only_one q p w) (near_one dist near n hub c d q h.0 h.1 m))
-    (Contains-append_cases pairs (q ∷ []) p (subst (λ (x : List Pair). Contains x p) e k))
+    (Contains-append_cases pairs (q ∷ []) p (Contains-permutation _ _ p (IsPermutation-sym _ _ e) k))
 
-pub kept : (pairs pairs' : List Pair) (q p : Pair) → pairs' ≡ pairs ++ q ∷ [] → Contains pairs p → Contains pairs' p
-kept pairs pairs' q p e k = subst (λ (x : List Pair). Contains x p) (sym e) (Contains-append_left pairs (q ∷ []) p k)
+pub kept : (pairs pairs' : List Pair) (q p : Pair) → IsPermutation (pairs ++ q ∷ []) pairs' → Contains pairs p → Contains pairs' p
+kept pairs pairs' q p e k = Contains-permutation _ _ p e (Contains-append_left pairs (q ∷ []) p k)
 
-pub here_more : (dist : ℕ → ℕ → ℕ) (n hub c : ℕ) (items : List ℕ) (m : ℕ) (pairs pairs' : List Pair) (q : Pair) → pairs' ≡ pairs ++ q ∷ [] →
+pub here_more : (dist : ℕ → ℕ → ℕ) (n hub c : ℕ) (items : List ℕ) (m : ℕ) (pairs pairs' : List Pair) (q : Pair) → IsPermutation (pairs ++ q ∷ []) pairs' →
     Here dist n hub c items m pairs → ((p : Pair) → IsPair dist n hub p → IsOf c (get_or items m 0) p → Some q ≡ Some p) → Here dist n hub c items (m + 1) pairs'
 here_more dist n hub c items m pairs pairs' q e s all p h k l o =
     ⊎_elim
     (λ w. kept pairs pairs' q p e (s p h k w o))
     (λ w. let t : k ≡ m = omega (arith, l, w) in
-    subst (λ (x : List Pair). Contains x p) (sym e) (last_one pairs q p (some_same q p (all p h (subst (λ (x : ℕ). IsOf c (get_or items x 0) p) t o)))))
+    Contains-permutation _ _ p e (last_one pairs q p (some_same q p (all p h (subst (λ (x : ℕ). IsOf c (get_or items x 0) p) t o)))))
     (cases_lt k m)
 
 pub here_same : (dist : ℕ → ℕ → ℕ) (n hub c : ℕ) (items : List ℕ) (m : ℕ) (pairs : List Pair) →

@@ -106,31 +106,33 @@ abbrev pub Going : ℕ → (ℕ → ℕ) → ℕ → List Pair → ℕ → (one 
 Going n load capacity pairs k one two other weight =
     (E : List Pair) × (joints load n capacity E (drop k pairs) ≡ joints load n capacity [] pairs) × AreEnds n load E one two other weight
 
-pub taken_step : (n : ℕ) (load : ℕ → ℕ) (capacity : ℕ) (pairs : List Pair) (k : ℕ) (d : Pair) (one two other weight one' two' other' weight' : ℕ → ℕ) → k < length pairs →
-    (IsWithin n (get_or pairs k d)) → true ≡ test_at one two other weight capacity (get_or pairs k d) →
-    IsLinked (get_or pairs k d).i (get_or pairs k d).j one two one' two' →
-    IsSetAt (other (get_or pairs k d).i) (other (get_or pairs k d).j) (other (get_or pairs k d).j) (other (get_or pairs k d).i) other other' →
-    IsSetAt (other (get_or pairs k d).i) (weight (get_or pairs k d).i + weight (get_or pairs k d).j) (other (get_or pairs k d).j) (weight (get_or pairs k d).i + weight (get_or pairs k d).j) weight weight' →
+-- what is left, from the pair at k on
+at_next : (pairs : List Pair) (k : ℕ) (p : Pair) → k < length pairs → p ≡ get_or pairs k p → drop k pairs ≡ p ∷ drop (k + 1) pairs
+at_next pairs k p l is = drop_more pairs k p l ∙ ap (λ (x : Pair). x ∷ drop (k + 1) pairs) (sym is)
+
+pub taken_step : (n : ℕ) (load : ℕ → ℕ) (capacity : ℕ) (pairs : List Pair) (k : ℕ) (p : Pair) (one two other weight one' two' other' weight' : ℕ → ℕ) → k < length pairs → p ≡ get_or pairs k p →
+    IsWithin n p → true ≡ test_at one two other weight capacity p →
+    IsLinked p.i p.j one two one' two' →
+    IsSetAt (other p.i) (other p.j) (other p.j) (other p.i) other other' →
+    IsSetAt (other p.i) (weight p.i + weight p.j) (other p.j) (weight p.i + weight p.j) weight weight' →
     Going n load capacity pairs k one two other weight → Going n load capacity pairs (k + 1) one' two' other' weight'
-taken_step n load capacity pairs k d one two other weight one' two' other' weight' l w t a b c g =
-    let p = get_or pairs k d in
+taken_step n load capacity pairs k p one two other weight one' two' other' weight' l is w t a b c g =
     let s = g.2 in
     let u = may_join-test n load g.0 one two other weight s p w.0 w.1 w.2 capacity in
     let v = IsTaken-from n load g.0 one two other weight s p w.0 w.1 w.2 capacity (sym t) in
     let e = joints-taken load n capacity g.0 p (drop (k + 1) pairs) (sym u ∙ sym t) in (
       p ∷ g.0,
-      sym e ∙ (ap (joints load n capacity g.0) (sym (drop_more pairs k d l)) ∙ g.1),
+      sym e ∙ (ap (joints load n capacity g.0) (sym (at_next pairs k p l is)) ∙ g.1),
       AreEnds-joined n load g.0 p one two other weight one' two' other' weight' (record { ends = s; first = (w.0, v.first); second = (w.1, v.second); apart = v.apart; linked = a; far = b; heavy = c }),
     )
 
-pub left_step : (n : ℕ) (load : ℕ → ℕ) (capacity : ℕ) (pairs : List Pair) (k : ℕ) (d : Pair) (one two other weight : ℕ → ℕ) → k < length pairs →
-    (IsWithin n (get_or pairs k d)) → false ≡ test_at one two other weight capacity (get_or pairs k d) →
+pub left_step : (n : ℕ) (load : ℕ → ℕ) (capacity : ℕ) (pairs : List Pair) (k : ℕ) (p : Pair) (one two other weight : ℕ → ℕ) → k < length pairs → p ≡ get_or pairs k p →
+    IsWithin n p → false ≡ test_at one two other weight capacity p →
     Going n load capacity pairs k one two other weight → Going n load capacity pairs (k + 1) one two other weight
-left_step n load capacity pairs k d one two other weight l w t g =
-    let p = get_or pairs k d in
+left_step n load capacity pairs k p one two other weight l is w t g =
     let u = may_join-test n load g.0 one two other weight g.2 p w.0 w.1 w.2 capacity in
     let e = joints-left load n capacity g.0 p (drop (k + 1) pairs) (sym u ∙ sym t) in
-    (g.0, sym e ∙ (ap (joints load n capacity g.0) (sym (drop_more pairs k d l)) ∙ g.1), g.2)
+    (g.0, sym e ∙ (ap (joints load n capacity g.0) (sym (at_next pairs k p l is)) ∙ g.1), g.2)
 
 pub going_ends : (n : ℕ) (load : ℕ → ℕ) (capacity : ℕ) (pairs : List Pair) (k : ℕ) (one two other weight : ℕ → ℕ) → length pairs ≤ k → Going n load capacity pairs k one two other weight →
     AreEnds n load (joints load n capacity [] pairs) one two other weight

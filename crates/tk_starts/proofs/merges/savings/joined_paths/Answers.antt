@@ -1,12 +1,14 @@
-use Rattle.std.proofs.Common.{◌≡◌, ℕ, ◌+◌, ◌-◌, ◌≤◌, ◌<◌, [], get_or, refl, sym, ◌∙◌, arith, Fits, w64}
-use Rattle.tk_starts.specs.PathEnds.{at}
+use Rattle.std.proofs.Common.{◌≡◌, ℕ, ◌+◌, ◌-◌, ◌≤◌, ◌<◌, [], get_or, List, length, subst, refl, sym, ◌∙◌, arith, Fits, w64}
+use Rattle.std.specs.List.{All}
+use Rattle.tk_starts.specs.PathEnds.{at, IsWithin}
 use Rattle.tk_starts.specs.declared.merges.pairs.Pair.{Pair}
 use Rattle.tk_starts.proofs.Merging.Pairs.PairsMerged.{AreEnds-single, IsTaken-from, taken_step, left_step, going_ends}
 use Rattle.tk_starts.proofs.merges.savings.joined_paths.Goals as goal
 use Rattle.tk_starts.proofs.merges.savings.joined_paths.Goals.{then-may_join, else-may_join}
 
-none : Pair
-none = record { saving = record { 0 = 0 }; i = 0; j = 0 }
+-- what holds of all pairs holds of the one at k
+within_at : (n : ℕ) (pairs : List Pair) (k : ℕ) (p : Pair) → All (IsWithin n) pairs → k < length pairs → p ≡ get_or pairs k p → IsWithin n p
+within_at n pairs k p all l is = subst (λ (x : Pair). IsWithin n x) (sym is) (all k p l)
 
 below_size : (n size x : ℕ) → size ≡ n + 1 → x ≤ n → x < size
 below_size n size x is near = omega arith
@@ -17,8 +19,8 @@ last_place n size x is near = omega arith
 fits_sum : (x y capacity : ℕ) → x + y ≤ capacity → Fits w64 capacity → x + y < 18446744073709551616
 fits_sum x y capacity near fits = omega arith
 
-pub loop-pair-init : goal.loop-pair-init
-loop-pair-init c =
+pub loop-k-init : goal.loop-k-init
+loop-k-init c =
     let p = c.in_ok-paths.paths in
     record {
       sizes = c.in_ok-paths.ensures.sizes;
@@ -27,73 +29,68 @@ loop-pair-init c =
 
 pub may_join-requires-clause-sizes : goal.may_join-requires-clause-sizes
 may_join-requires-clause-sizes c =
-    let z = c.loop-pair.invariant.sizes in
+    let z = c.loop-k.invariant.sizes in
     (z.1 ∙ sym z.0, z.2 ∙ sym z.0, z.3 ∙ sym z.0)
 
 pub may_join-requires-clause-within : goal.may_join-requires-clause-within
-unfolding none
 may_join-requires-clause-within c =
-    let w = c.requires.within c.loop-pair.pair-index none c.loop-pair-test.true in
-    let z = c.loop-pair.invariant.sizes.0 in
+    let w = within_at _ c.args.pairs.now c.loop-k.k c.at-pair.result c.requires.within (omega (arith, c.loop-k-test.true, c.len-k-end.ensures)) c.at-pair.ensures in
+    let z = c.loop-k.invariant.sizes.0 in
     ((w.0.0, last_place _ _ _ z w.0.1), (w.1.0, last_place _ _ _ z w.1.1), w.2)
 
 pub join-requires-clause-sizes : goal.join-requires-clause-sizes
 join-requires-clause-sizes c =
-    let z = c.loop-pair.invariant.sizes in
+    let z = c.loop-k.invariant.sizes in
     (z.1 ∙ sym z.0, z.2 ∙ sym z.0, z.3 ∙ sym z.0)
 
 pub join-requires-clause-cities : goal.join-requires-clause-cities
-unfolding none
 join-requires-clause-cities c =
-    let w = c.requires.within c.loop-pair.pair-index none c.loop-pair-test.true in
-    let z = c.loop-pair.invariant.sizes.0 in
+    let w = within_at _ c.args.pairs.now c.loop-k.k c.at-pair.result c.requires.within (omega (arith, c.loop-k-test.true, c.len-k-end.ensures)) c.at-pair.ensures in
+    let z = c.loop-k.invariant.sizes.0 in
     (below_size _ _ _ z w.0.1, below_size _ _ _ z w.1.1, w.2)
 
 pub join-requires-clause-load : goal.join-requires-clause-load
-unfolding none
 join-requires-clause-load c =
-    let p = c.loop-pair.paths in
-    let w = c.requires.within c.loop-pair.pair-index none c.loop-pair-test.true in
+    let p = c.loop-k.paths in
+    let w = within_at _ c.args.pairs.now c.loop-k.k c.at-pair.result c.requires.within (omega (arith, c.loop-k-test.true, c.len-k-end.ensures)) c.at-pair.ensures in
     let t = IsTaken-from _ _ _ (at p.one.items) (at p.two.items) (at p.other.items) (at p.load.items)
-    c.loop-pair.invariant.joined.2 (get_or c.args.pairs.now c.loop-pair.pair-index none) w.0 w.1 w.2
+    c.loop-k.invariant.joined.2 c.at-pair.result w.0 w.1 w.2
     c.args.capacity (sym c.if-may_join.ensures) in
     fits_sum _ _ _ t.fits c.ranges.capacity
 
 pub join-requires-clause-ends : goal.join-requires-clause-ends
-unfolding none
 join-requires-clause-ends c =
-    let p = c.loop-pair.paths in
-    let w = c.requires.within c.loop-pair.pair-index none c.loop-pair-test.true in
-    let t = IsTaken-from _ _ _ (at p.one.items) (at p.two.items) (at p.other.items) (at p.load.items) c.loop-pair.invariant.joined.2 (get_or c.args.pairs.now c.loop-pair.pair-index none) w.0 w.1 w.2 c.args.capacity (sym c.if-may_join.ensures) in
-    let z = c.loop-pair.invariant.sizes.0 in
+    let p = c.loop-k.paths in
+    let w = within_at _ c.args.pairs.now c.loop-k.k c.at-pair.result c.requires.within (omega (arith, c.loop-k-test.true, c.len-k-end.ensures)) c.at-pair.ensures in
+    let t = IsTaken-from _ _ _ (at p.one.items) (at p.two.items) (at p.other.items) (at p.load.items) c.loop-k.invariant.joined.2 c.at-pair.result w.0 w.1 w.2 c.args.capacity (sym c.if-may_join.ensures) in
+    let z = c.loop-k.invariant.sizes.0 in
     (below_size _ _ _ z t.far.0.1, below_size _ _ _ z t.far.1.1, t.far.2)
 
-pub loop-pair-preserved : goal.loop-pair-preserved
-unfolding none
-loop-pair-preserved c =
-    let p = c.loop-pair.paths in
-    let w = c.requires.within c.loop-pair.pair-index none c.loop-pair-test.true in
-    let z = c.loop-pair.invariant.sizes in
+pub loop-k-preserved : goal.loop-k-preserved
+loop-k-preserved c =
+    let p = c.loop-k.paths in
+    let w = within_at _ c.args.pairs.now c.loop-k.k c.at-pair.result c.requires.within (omega (arith, c.loop-k-test.true, c.len-k-end.ensures)) c.at-pair.ensures in
+    let z = c.loop-k.invariant.sizes in
     elim c.if-may_join.branch [
       | then-may_join b ↦
           let q = b.join.new.self in
           rw b.paths-is (record {
             sizes = (b.join.ensures.sizes.0 ∙ z.0, b.join.ensures.sizes.1 ∙ z.0, b.join.ensures.sizes.2 ∙ z.0, b.join.ensures.sizes.3 ∙ z.0);
-            joined = taken_step _ _ c.args.capacity c.args.pairs.now c.loop-pair.pair-index none (at p.one.items) (at p.two.items) (at p.other.items) (at p.load.items) (at q.one.items) (at q.two.items) (at q.other.items) (at q.load.items)
-                c.loop-pair-test.true w b.if-may_join.ensures b.join.ensures.linked b.join.ensures.far b.join.ensures.heavy c.loop-pair.invariant.joined;
+            joined = taken_step _ _ c.args.capacity c.args.pairs.now c.loop-k.k c.at-pair.result (at p.one.items) (at p.two.items) (at p.other.items) (at p.load.items) (at q.one.items) (at q.two.items) (at q.other.items) (at q.load.items)
+                (omega (arith, c.loop-k-test.true, c.len-k-end.ensures)) c.at-pair.ensures w b.if-may_join.ensures b.join.ensures.linked b.join.ensures.far b.join.ensures.heavy c.loop-k.invariant.joined;
           })
       | else-may_join b ↦
           rw b.paths-is (record {
             sizes = z;
-            joined = left_step _ _ c.args.capacity c.args.pairs.now c.loop-pair.pair-index none (at p.one.items) (at p.two.items) (at p.other.items) (at p.load.items)
-                c.loop-pair-test.true w b.if-may_join.ensures c.loop-pair.invariant.joined;
+            joined = left_step _ _ c.args.capacity c.args.pairs.now c.loop-k.k c.at-pair.result (at p.one.items) (at p.two.items) (at p.other.items) (at p.load.items)
+                (omega (arith, c.loop-k-test.true, c.len-k-end.ensures)) c.at-pair.ensures w b.if-may_join.ensures c.loop-k.invariant.joined;
           })
     ]
 
 pub returns-clause-joined : goal.returns-clause-joined
 returns-clause-joined c =
-    let p = c.loop-pair.paths in
-    going_ends _ _ c.args.capacity c.args.pairs.now c.loop-pair.pair-index (at p.one.items) (at p.two.items) (at p.other.items) (at p.load.items) c.loop-pair-test.false c.loop-pair.invariant.joined
+    let p = c.loop-k.paths in
+    going_ends _ _ c.args.capacity c.args.pairs.now c.loop-k.k (at p.one.items) (at p.two.items) (at p.other.items) (at p.load.items) (omega (arith, c.loop-k-test.false, c.len-k-end.ensures)) c.loop-k.invariant.joined
 
 pub returns-clause-sizes : goal.returns-clause-sizes
-returns-clause-sizes c = c.loop-pair.invariant.sizes
+returns-clause-sizes c = c.loop-k.invariant.sizes
