@@ -1,5 +1,5 @@
 //! A call of the program: its word, and the run that it asks for.
-use crate::{descent, distances, near, savings, search, tour};
+use crate::{descent, distances, near, savings, search, segments, tour};
 use std::process::ExitCode;
 
 /// The exit status where the words of the call are refused.
@@ -14,6 +14,7 @@ enum Asked {
     Near,
     Savings,
     Search,
+    Segments,
     Tour,
 }
 
@@ -53,6 +54,7 @@ fn asked_by(name: &str) -> Option<Asked> {
         "near" => Some(Asked::Near),
         "savings" => Some(Asked::Savings),
         "search" => Some(Asked::Search),
+        "segments" => Some(Asked::Segments),
         "tour" => Some(Asked::Tour),
         _ => None,
     }
@@ -67,6 +69,7 @@ fn run(rt: &HostRuntime, asked: Asked) -> anyhow::Result<()> {
         Asked::Near => near::run(rt),
         Asked::Savings => savings::run(rt),
         Asked::Search => search::run(rt),
+        Asked::Segments => segments::run(rt),
         Asked::Tour => tour::run(rt),
     }
 }
@@ -78,12 +81,13 @@ fn run_small(rt: &HostRuntime) -> anyhow::Result<()> {
     near::run_small(rt)?;
     savings::run_small(rt)?;
     search::run_small(rt)?;
+    segments::run_small(rt)?;
     tour::run_small(rt)
 }
 
 /// Tells which words there are.
 fn refused(rt: &HostRuntime) -> ExitCode {
-    let _ = eprintln!(rt; "usage: tk_bench [descent|distances|near|savings|search|tour]");
+    let _ = eprintln!(rt; "usage: tk_bench [descent|distances|near|savings|search|segments|tour]");
     ExitCode::from(USAGE)
 }
 

@@ -13,6 +13,7 @@ mod near;
 mod places;
 mod savings;
 mod search;
+mod segments;
 mod strips;
 mod times;
 mod tour;

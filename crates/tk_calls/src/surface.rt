@@ -27,14 +27,17 @@ pub mod distances {
 
 /// Tours.
 pub mod tours {
-    pub use tk_tour::{ArrayTour, Flip, JournalTour, TourFault, TourStore, Verdict, check, length};
+    pub use tk_tour::{
+        ArrayTour, Flip, JournalTour, SegmentTour, TourFault, TourStore, UndoStore, Verdict, check,
+        length,
+    };
 }
 
 /// Descents.
 pub mod descents {
     pub use tk_descent::{
-        Gains, Offer, Probe, Report, SweptReport, Waking, descend, descend_swept, is_local_optimum,
-        look, make,
+        Gains, Offer, Probe, Report, Steps, SweptReport, Waking, descend, descend_swept,
+        is_local_optimum, look, make,
     };
 }
 

@@ -119,7 +119,7 @@ fn flip_and_kick(rt: &HostRuntime) -> Result<(), Stopped> {
 /// Goes back by a journal, or by a copy of the start where a flip was lost.
 fn flip_and_rewind(
     rt: &HostRuntime,
-    tour: &mut JournalTour,
+    tour: &mut JournalTour<ArrayTour>,
     start: &ArrayTour,
 ) -> Result<(), Stopped> {
     let _ = flip_after(tour, 1, 7)?;

@@ -10,6 +10,7 @@ mod offer;
 mod on_tour;
 mod optimum;
 mod probe;
+mod steps;
 mod sweep;
 mod waking;
 
@@ -20,5 +21,6 @@ pub use making::make;
 pub use offer::{Found, Offer};
 pub use optimum::is_local_optimum;
 pub use probe::Probe;
+pub use steps::Steps;
 pub use sweep::{SweptReport, descend_swept};
 pub use waking::Waking;

@@ -34,3 +34,14 @@ pub(crate) fn prev<S: TourStore>(tour: &S, c: u32) -> u32
 {
     tour.prev(c)
 }
+
+/// The cities after and before c.
+#[inline]
+pub(crate) fn beside<S: TourStore>(tour: &S, c: u32) -> (u32, u32)
+    requires city { IsCity (length (S.cities tour.now)) c }
+    ensures after { result.0 ≡ next_city (S.cities tour.now) c }
+    ensures before { result.1 ≡ prev_city (S.cities tour.now) c }
+    ensures cities { IsCity (length (S.cities tour.now)) result.0 × IsCity (length (S.cities tour.now)) result.1 }
+{
+    tour.beside(c)
+}

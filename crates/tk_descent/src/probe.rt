@@ -1,31 +1,60 @@
 //! Gains by a metric.
 ghost use Rattle.std.specs.Prelude.{◌≡◌, ◌≤◌, ◌+◌, ◌-◌, ◌^◌, pos};
 ghost use Rattle.tk_descent.specs.Offers.{EndsIn};
+ghost use Rattle.tk_descent.specs.Steps.{AreTrueOf};
 ghost use Rattle.tk_descent.specs.declared.offer.Offer.TheVariants.{Two, Or};
 
 use crate::gains::Gains;
 use crate::looks::looking::find_offer;
 use crate::offer::Found;
+use crate::steps::Steps;
 use tk_distance::Metric;
 use tk_near::Near;
 use tk_tour::TourStore;
 
-/// The gains by a metric's distances.
+/// The gains by a metric's distances. A look does not measure a step of the tour again that is remembered.
 #[derive(Drop)]
 pub struct Probe<'a, M: Metric> {
     metric: &'a M,
+    steps: Steps,
     count: u64,
+    ghost true_steps: { AreTrueOf (M.distance metric.now) steps },
     ghost count_limit: { count ≤ 2 ^ 64 - 1 },
 }
 
 impl<'a, M: Metric> Probe<'a, M> {
-    /// The gains by the metric's distances, with none computed so far.
+    ghost use Rattle.tk_descent.specs.ProbeSteps.{steps_of};
+
+    /// The gains by the metric's distances, with none computed so far. It remembers no steps.
     pub fn new(metric: &'a M) -> Probe<'a, M>
         ensures size { ⟦<Probe<'a, M> as Gains>⟧.size_of result ≡ M.size_of metric.now }
         ensures table { ⟦<Probe<'a, M> as Gains>⟧.distance result ≡ M.distance metric.now }
         ensures count { ⟦<Probe<'a, M> as Gains>⟧.test_count result ≡ 0 }
     {
-        Probe { metric, count: 0 }
+        Probe::with_steps(metric, Steps::none())
+    }
+
+    /// The gains by the metric's distances, with none computed so far. It goes on remembering steps.
+    pub fn with_steps(metric: &'a M, steps: Steps) -> Probe<'a, M>
+        requires { AreTrueOf (M.distance metric.now) steps }
+        ensures size { ⟦<Probe<'a, M> as Gains>⟧.size_of result ≡ M.size_of metric.now }
+        ensures table { ⟦<Probe<'a, M> as Gains>⟧.distance result ≡ M.distance metric.now }
+        ensures count { ⟦<Probe<'a, M> as Gains>⟧.test_count result ≡ 0 }
+        ensures steps { steps_of result ≡ steps }
+    {
+        Probe {
+            metric,
+            steps,
+            count: 0,
+        }
+    }
+
+    /// The steps that it remembers.
+    pub fn into_steps(self) -> Steps
+        ensures steps { result ≡ steps_of self.entry }
+        ensures true_steps { AreTrueOf (⟦<Probe<'a, M> as Gains>⟧.distance self.entry) result }
+    {
+        self.steps
     }
 
     /// The sum of two distances.
@@ -80,7 +109,26 @@ impl<'a, M: Metric> Gains for Probe<'a, M> {
         or_segment: u32,
         city: u32,
     ) -> Option<Found> {
-        find_offer(tour, self.metric, &mut self.count, near, or_segment, city)
+        match &mut self.steps.measured {
+            Some(steps) => find_offer(
+                tour,
+                self.metric,
+                steps,
+                &mut self.count,
+                near,
+                or_segment,
+                city,
+            ),
+            None => find_offer(
+                tour,
+                self.metric,
+                &mut [],
+                &mut self.count,
+                near,
+                or_segment,
+                city,
+            ),
+        }
     }
 
     ghost symmetric = { λ p. M.symmetric p.metric.now };

@@ -1,3 +1,4 @@
+pub mod Best
 pub mod Cuts
 pub mod Descents
 pub mod Ending
@@ -5,5 +6,6 @@ pub mod SearchLaws
 pub mod SearchOf
 pub mod Searching
 pub mod Settled
+pub mod Standing
 pub mod Totals
 pub mod Trials

@@ -1,8 +1,18 @@
 -- What callers see of a `Search`.
+use Rattle.std.specs.Prelude.{ℕ}
 use Rattle.tk_distance.specs.declared.metric.Metric.{Ghosts}
+use Rattle.tk_near.specs.Near.{NearLists}
 use Rattle.tk_search.specs.Searching.{Searching, searching}
+use Rattle.tk_search.specs.declared.trials.descending.SearchRules.{SearchRules}
 use Rattle.tk_search.specs.declared.trials.searching.Search.{Search}
+use Rattle.tk_search.specs.declared.trials.stand.Stand.{Stand}
+use Rattle.tk_search.specs.declared.trials.stand.Stand.TheVariants.{Array, Segments}
+
+-- a search, whatever its store
+abbrev pub stands_at : (ℕ → ℕ → ℕ) → NearLists → SearchRules → Stand → Searching
+stands_at distance near rules (Array state) = searching distance near rules state
+stands_at distance near rules (Segments state) = searching distance near rules state
 
 -- a search, whatever its metric
 abbrev pub search_of : {M : Type 0} → {m : Ghosts M} → Search M m → Searching
-search_of {M} {m} s = searching (m.distance s.metric.now) s.near.now s.rules s.state
+search_of {M} {m} s = stands_at (m.distance s.metric.now) s.near.now s.rules s.stand

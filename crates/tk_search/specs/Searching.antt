@@ -6,11 +6,14 @@
 use Rattle.std.specs.Prelude.{◌≡◌, ℕ, ◌+◌, ◌<◌, ◌≤◌, List, [], length, pos, true, false}
 use Rattle.rand_core.specs.Stream.{Stream}
 use Rattle.tk_near.specs.Near.{NearLists, near_of}
-use Rattle.tk_tour.specs.ArrayTours.{order_of, flips_of}
-use Rattle.tk_tour.specs.JournalTours.{tour_of, slots_of}
+use Rattle.tk_tour.specs.JournalTours.{flips_of, slots_of}
 use Rattle.tk_tour.specs.Tour.{tour_length}
+use Rattle.tk_tour.specs.declared.store.TourStore.{Ghosts}
+use Rattle.tk_tour.specs.declared.undo.UndoStore as undo
 use Rattle.tk_descent.specs.Awake.{one_to}
+use Rattle.tk_descent.specs.Steps.{AreTrueOf}
 use Rattle.tk_tour.specs.Counters.{saturated}
+use Rattle.tk_search.specs.Best.{best_of}
 use Rattle.tk_search.specs.Cuts.{kick_swaps}
 use Rattle.tk_search.specs.Settled.{IsAtBest}
 use Rattle.tk_search.specs.Totals.{AddsTrial, SettlesTrial, AreCountsOf, IsBounded}
@@ -30,13 +33,14 @@ pub record Searching : Type 0 where
   pub flips : ℕ
   pub totals : Totals
 
-abbrev pub searching : (ℕ → ℕ → ℕ) → NearLists → SearchRules → State → Searching
+abbrev pub searching : {S : Type 0} → {u : undo.Ghosts S} → {s : Ghosts S} → (ℕ → ℕ → ℕ) → NearLists → SearchRules →
+    State S u s → Searching
 searching distance near rules state = record {
   distance = distance;
   near = near;
   rules = rules;
-  best = order_of state.best;
-  flips = flips_of (tour_of state.tour);
+  best = best_of state.best;
+  flips = flips_of state.tour;
   totals = state.totals;
 }
 
@@ -117,17 +121,18 @@ pub data SearchRun (begun : Searching) (words : Stream) : ℕ → Searching → 
       NextTrial old left new rest report → SearchRun begun words (t + 1) new rest
 
 -- what holds between two trials
-pub record IsSearching (size : ℕ) (distance : ℕ → ℕ → ℕ) (near : NearLists) (rules : SearchRules)
-    (state : State) : Type 0 where
-  pub cities : size ≡ length (order_of state.best)
-  pub lists : near.size ≡ length (order_of state.best)
-  pub queue : state.waking.size ≡ length (order_of state.best)
+pub record IsSearching {S : Type 0} {u : undo.Ghosts S} {s : Ghosts S} (size : ℕ) (distance : ℕ → ℕ → ℕ)
+    (near : NearLists) (rules : SearchRules) (state : State S u s) : Type 0 where
+  pub cities : size ≡ length (best_of state.best)
+  pub lists : near.size ≡ length (best_of state.best)
+  pub queue : state.waking.size ≡ length (best_of state.best)
   pub asleep : state.waking.queue ≡ []
+  pub steps : AreTrueOf distance state.steps
   pub segment : (1 ≤ rules.or_segment) × (rules.or_segment ≤ 3)
   pub at_best : IsAtBest state.tour state.best
-  pub slots : slots_of state.tour ≡ length (order_of state.best)
-  pub shortest : state.shortest ≡ pos (tour_length distance (order_of state.best))
+  pub slots : slots_of state.tour ≡ length (best_of state.best)
+  pub shortest : state.shortest ≡ pos (tour_length distance (best_of state.best))
   pub counts : AreCountsOf state.totals state.tour state.best
   pub untried : state.totals.trials ≡ 0 → state.totals.tests ≡ 0
-  pub bounds : IsBounded (length (order_of state.best)) near.width rules
-      (tour_length distance (order_of state.best)) state.totals
+  pub bounds : IsBounded (length (best_of state.best)) near.width rules
+      (tour_length distance (best_of state.best)) state.totals

@@ -4,11 +4,13 @@
 --     AreCountsOf totals tour best      swaps and copies, as the tours count them
 --     IsBounded n width rules shortest totals      the bounds on the work of a search
 use Rattle.std.specs.Prelude.{◌≡◌, ℕ, ◌+◌, ◌-◌, ◌*◌, ◌/◌, ◌^◌, ◌<◌, ◌≤◌, pos, ◌≤ℤ◌, min, true, false, if◌then◌else◌}
-use Rattle.tk_tour.specs.ArrayTours.{swaps_of, undo_swaps_of, copied_of}
 use Rattle.tk_tour.specs.Counters.{saturated}
-use Rattle.tk_tour.specs.JournalTours.{tour_of}
-use Rattle.tk_tour.specs.declared.stores.array.ArrayTour.{ArrayTour}
+use Rattle.tk_tour.specs.JournalTours.{swaps_of, undo_swaps_of, copied_of}
+use Rattle.tk_tour.specs.declared.store.TourStore.{Ghosts}
 use Rattle.tk_tour.specs.declared.stores.journal.JournalTour.{JournalTour}
+use Rattle.tk_tour.specs.declared.undo.UndoStore as undo
+use Rattle.tk_search.specs.Best.{copied_to}
+use Rattle.tk_search.specs.declared.trials.best.Best.{Best}
 use Rattle.tk_search.specs.declared.trials.descending.SearchRules.{SearchRules}
 use Rattle.tk_search.specs.declared.trials.totals.Totals.{Totals}
 use Rattle.tk_search.specs.declared.trials.totals.TrialReport.{TrialReport}
@@ -44,10 +46,11 @@ pub record SettlesTrial (n flips swaps : ℕ) (old new : Totals) (report : Trial
   pub limits : (new.swaps < 2 ^ 64) × (new.undo_swaps ≤ new.swaps) × (new.copied < 2 ^ 65)
 
 -- the swaps and the copies of a search are those of its tours, and no more swaps were undone than made
-pub record AreCountsOf (totals : Totals) (tour : JournalTour) (best : ArrayTour) : Type 0 where
-  pub swaps : totals.swaps ≡ swaps_of (tour_of tour)
-  pub undo_swaps : totals.undo_swaps ≡ undo_swaps_of (tour_of tour)
-  pub copied : totals.copied ≡ copied_of (tour_of tour) + copied_of best
+pub record AreCountsOf {S : Type 0} {u : undo.Ghosts S} {s : Ghosts S} (totals : Totals) (tour : JournalTour S u s)
+    (best : Best) : Type 0 where
+  pub swaps : totals.swaps ≡ swaps_of tour
+  pub undo_swaps : totals.undo_swaps ≡ undo_swaps_of tour
+  pub copied : totals.copied ≡ copied_of tour + copied_to best
   pub undone : totals.undo_swaps ≤ totals.swaps
 
 -- The work of a search on n cities with near lists of that width; the best tour has the length `shortest`.

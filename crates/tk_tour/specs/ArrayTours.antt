@@ -1,5 +1,5 @@
 -- What callers see of an `ArrayTour`: the order of its cities and its counts.
-use Rattle.std.specs.Prelude.{◌≡◌, ℕ, ◌+◌, List, refl}
+use Rattle.std.specs.Prelude.{◌≡◌, ℕ, ◌+◌, ◌<◌, ◌^◌, List, refl}
 use Rattle.std.proofs.Common.{◌∙◌, arith}
 use Rattle.tk_tour.specs.Counters.{saturated}
 use Rattle.tk_tour.specs.Reversal.{AreReversed}
@@ -67,3 +67,12 @@ pub FlipsAlone-trans-counts : (r s t : ArrayTour) (h : FlipsAlone r s) (k : Flip
     ((FlipsAlone-trans r s t h k).flips ≡ h.flips + k.flips) × ((FlipsAlone-trans r s t h k).swaps ≡ h.swaps + k.swaps)
 unfolding FlipsAlone-trans
 FlipsAlone-trans-counts r s t h k = (refl, refl)
+
+-- and nothing else is counted
+pub FlipsAlone-kept : (old new : ArrayTour) → FlipsAlone old new →
+    (undo_swaps_of new ≡ undo_swaps_of old) × (copied_of new ≡ copied_of old)
+FlipsAlone-kept old new h = (h.undo_swaps, h.copied)
+
+pub ArrayTour-fits : (tour : ArrayTour) →
+    (swaps_of tour < 2 ^ 64) × (flips_of tour < 2 ^ 64) × (undo_swaps_of tour < 2 ^ 64)
+ArrayTour-fits tour = (tour.fits.0, tour.fits.2, tour.fits.1)

@@ -1,5 +1,5 @@
 -- A journal of flips: what stood before them.
-use Rattle.std.specs.Prelude.{ℕ, ◌-◌, ◌/◌, ◌<◌, ◌≤◌, List, [], ◌∷◌, sum_by}
+use Rattle.std.specs.Prelude.{ℕ, ◌-◌, ◌*◌, ◌/◌, ◌<◌, ◌≤◌, List, [], ◌∷◌, sum_by}
 use Rattle.std.specs.List.{All}
 use Rattle.tk_tour.specs.Reversal.{reversed_places}
 use Rattle.tk_tour.specs.declared.store.Flip.{Flip}
@@ -13,6 +13,6 @@ undone (f ∷ fs) order = reversed_places (f.first - 1) f.count (undone fs order
 abbrev pub swaps_to_undo : List Flip → ℕ
 swaps_to_undo fs = sum_by (λ f. f.count / 2) fs
 
--- each flip names places of n
+-- each flip names places of n, at most half of them
 abbrev pub AreFlipsOf : ℕ → List Flip → Type 0
-AreFlipsOf n fs = All (λ f. (0 < f.first) × (f.first ≤ n) × (f.count ≤ n)) fs
+AreFlipsOf n fs = All (λ f. (0 < f.first) × (f.first ≤ n) × (2 * f.count ≤ n)) fs

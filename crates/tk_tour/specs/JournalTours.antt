@@ -1,63 +1,120 @@
 -- What callers see of a `JournalTour`: its tour, and the order that a rewind goes back to.
-use Rattle.std.specs.Prelude.{◌≡◌, ℕ, ◌+◌, ◌<◌, ◌≤◌, List, refl}
+use Rattle.std.specs.Prelude.{◌≡◌, ℕ, ◌+◌, ◌^◌, ◌<◌, ◌≤◌, List, refl}
 use Rattle.std.proofs.Common.{◌∙◌, arith}
-use Rattle.tk_tour.specs.ArrayTours.{order_of, FlipsAlone}
-use Rattle.tk_tour.specs.ArrayTours.{FlipsAlone-refl, FlipsAlone-refl-counts, FlipsAlone-trans, FlipsAlone-trans-counts}
 use Rattle.tk_tour.specs.Counters.{saturated}
 use Rattle.tk_tour.specs.Journal.{undone, swaps_to_undo}
-use Rattle.tk_tour.specs.declared.stores.array.ArrayTour.{ArrayTour}
+use Rattle.tk_tour.specs.Reversal.{AreReversed}
+use Rattle.tk_tour.specs.Reversal.AreReversed.{none}
+use Rattle.tk_tour.specs.ReversalLaws.{AreReversed-append}
+use Rattle.tk_tour.specs.declared.store.TourStore.{Ghosts}
 use Rattle.tk_tour.specs.declared.stores.journal.JournalTour.{JournalTour}
+use Rattle.tk_tour.specs.declared.undo.UndoStore as undo
 
-abbrev pub tour_of : JournalTour → ArrayTour
+abbrev pub tour_of : {S : Type 0} → {u : undo.Ghosts S} → {s : Ghosts S} → JournalTour S u s → S
 tour_of journal = journal.tour
 
+-- the cities of its tour in their order, and what it counts: the swaps of its flips, those of its undone flips, its flips, and the
+-- cities that were copied into it
+abbrev pub cities_of : {S : Type 0} → {u : undo.Ghosts S} → {s : Ghosts S} → JournalTour S u s → List ℕ
+cities_of {S} {u} {s} journal = s.cities journal.tour
+
+abbrev pub swaps_of : {S : Type 0} → {u : undo.Ghosts S} → {s : Ghosts S} → JournalTour S u s → ℕ
+swaps_of {S} {u} {s} journal = s.swap_count journal.tour
+
+abbrev pub undo_swaps_of : {S : Type 0} → {u : undo.Ghosts S} → {s : Ghosts S} → JournalTour S u s → ℕ
+undo_swaps_of {S} {u} {s} journal = u.undo_count journal.tour
+
+abbrev pub flips_of : {S : Type 0} → {u : undo.Ghosts S} → {s : Ghosts S} → JournalTour S u s → ℕ
+flips_of {S} {u} {s} journal = s.flip_count journal.tour
+
+abbrev pub copied_of : {S : Type 0} → {u : undo.Ghosts S} → {s : Ghosts S} → JournalTour S u s → ℕ
+copied_of {S} {u} {s} journal = u.copy_count journal.tour
+
 -- how many flips there is room for
-abbrev pub slots_of : JournalTour → ℕ
+abbrev pub slots_of : {S : Type 0} → {u : undo.Ghosts S} → {s : Ghosts S} → JournalTour S u s → ℕ
 slots_of journal = journal.slots
 
 -- the flips since it was made, settled or rewound
-abbrev pub flips_since : JournalTour → ℕ
+abbrev pub flips_since : {S : Type 0} → {u : undo.Ghosts S} → {s : Ghosts S} → JournalTour S u s → ℕ
 flips_since journal = journal.flips
 
 -- some of these flips found no room
-abbrev pub IsLost : JournalTour → Type 0
+abbrev pub IsLost : {S : Type 0} → {u : undo.Ghosts S} → {s : Ghosts S} → JournalTour S u s → Type 0
 IsLost journal = slots_of journal < flips_since journal
 
 -- the order at the last settle, as long as no flip is lost
-abbrev pub settled_order : JournalTour → List ℕ
-settled_order journal = undone journal.journal.items (order_of journal.tour)
+abbrev pub settled_order : {S : Type 0} → {u : undo.Ghosts S} → {s : Ghosts S} → JournalTour S u s → List ℕ
+settled_order journal = undone journal.journal.items (cities_of journal)
 
 -- the swaps that a rewind takes, as long as no flip is lost
-abbrev pub swaps_to_rewind : JournalTour → ℕ
+abbrev pub swaps_to_rewind : {S : Type 0} → {u : undo.Ghosts S} → {s : Ghosts S} → JournalTour S u s → ℕ
 swaps_to_rewind journal = swaps_to_undo journal.journal.items
 
+-- the new order comes from the old one by reversals, which are counted with their swaps, and nothing else is counted
+pub record AreFlipped {S : Type 0} (u : undo.Ghosts S) (s : Ghosts S) (old new : S) : Type 0 where
+  pub flips : ℕ
+  pub swaps : ℕ
+  pub reversed : AreReversed (s.cities old) (s.cities new) flips swaps
+  pub flips_are : s.flip_count new ≡ saturated (s.flip_count old + flips)
+  pub swaps_are : s.swap_count new ≡ saturated (s.swap_count old + swaps)
+  pub undo_swaps : u.undo_count new ≡ u.undo_count old
+  pub copied : u.copy_count new ≡ u.copy_count old
+
 -- what flips alone do: they are counted, and as long as none is lost, a rewind goes back as far, and takes their swaps
-pub record KeepsSettled (old new : JournalTour) : Type 0 where
+pub record KeepsSettled {S : Type 0} {u : undo.Ghosts S} {s : Ghosts S} (old new : JournalTour S u s) : Type 0 where
   pub slots : slots_of new ≡ slots_of old
-  pub flipped : FlipsAlone (tour_of old) (tour_of new)
+  pub flipped : AreFlipped u s (tour_of old) (tour_of new)
   pub flips : flips_since new ≡ saturated (flips_since old + flipped.flips)
   pub settled : flips_since new ≤ slots_of new → settled_order new ≡ settled_order old
   pub swaps : flips_since new ≤ slots_of new → swaps_to_rewind new ≡ swaps_to_rewind old + flipped.swaps
 
-pub KeepsSettled-refl : (tour : JournalTour) → KeepsSettled tour tour
-KeepsSettled-refl tour =
-    let none = FlipsAlone-refl-counts (tour_of tour) in
-    record {
-      slots = refl;
-      flipped = FlipsAlone-refl (tour_of tour);
-      flips = omega (arith, none.0, tour.fits);
-      settled = λ _. refl;
-      swaps = λ _. omega (arith, none.1);
-    }
+pub KeepsSettled-refl : {S : Type 0} → {u : undo.Ghosts S} → {s : Ghosts S} →
+    ((t : S) → (s.swap_count t < 2 ^ 64) × (s.flip_count t < 2 ^ 64) × (u.undo_count t < 2 ^ 64)) →
+    (tour : JournalTour S u s) → KeepsSettled tour tour
+KeepsSettled-refl fit tour = record {
+  slots = refl;
+  flipped = record {
+    flips = 0;
+    swaps = 0;
+    reversed = none;
+    flips_are = omega (arith, fit (tour_of tour));
+    swaps_are = omega (arith, fit (tour_of tour));
+    undo_swaps = refl;
+    copied = refl;
+  };
+  flips = omega (arith, tour.fits);
+  settled = λ _. refl;
+  swaps = λ _. omega arith;
+}
 
-pub KeepsSettled-trans : (r s t : JournalTour) → KeepsSettled r s → KeepsSettled s t → KeepsSettled r t
-KeepsSettled-trans r s t h k =
-    let both = FlipsAlone-trans-counts (tour_of r) (tour_of s) (tour_of t) h.flipped k.flipped in
-    let room : flips_since t ≤ slots_of t → flips_since s ≤ slots_of s = λ le.
+pub AreFlipped-trans : {S : Type 0} → {u : undo.Ghosts S} → {s : Ghosts S} → (x y z : S) →
+    AreFlipped u s x y → AreFlipped u s y z → AreFlipped u s x z
+AreFlipped-trans x y z h k = record {
+  flips = h.flips + k.flips;
+  swaps = h.swaps + k.swaps;
+  reversed = AreReversed-append _ _ _ _ _ _ _ h.reversed k.reversed;
+  flips_are = omega (arith, h.flips_are, k.flips_are);
+  swaps_are = omega (arith, h.swaps_are, k.swaps_are);
+  undo_swaps = k.undo_swaps ∙ h.undo_swaps;
+  copied = k.copied ∙ h.copied;
+}
+
+-- the flips of both, and the swaps of both
+pub AreFlipped-trans-counts : {S : Type 0} → {u : undo.Ghosts S} → {s : Ghosts S} → (x y z : S) →
+    (h : AreFlipped u s x y) → (k : AreFlipped u s y z) →
+    ((AreFlipped-trans x y z h k).flips ≡ h.flips + k.flips) × ((AreFlipped-trans x y z h k).swaps ≡ h.swaps + k.swaps)
+unfolding AreFlipped-trans
+AreFlipped-trans-counts x y z h k = (refl, refl)
+
+pub KeepsSettled-trans : {S : Type 0} → {u : undo.Ghosts S} → {s : Ghosts S} → (x y z : JournalTour S u s) →
+    KeepsSettled x y → KeepsSettled y z → KeepsSettled x z
+KeepsSettled-trans x y z h k =
+    let both = AreFlipped-trans-counts (tour_of x) (tour_of y) (tour_of z) h.flipped k.flipped in
+    let room : flips_since z ≤ slots_of z → flips_since y ≤ slots_of y = λ le.
     omega (arith, h.flips, k.flips, k.slots, le) in
     record {
       slots = k.slots ∙ h.slots;
-      flipped = FlipsAlone-trans (tour_of r) (tour_of s) (tour_of t) h.flipped k.flipped;
+      flipped = AreFlipped-trans (tour_of x) (tour_of y) (tour_of z) h.flipped k.flipped;
       flips = omega (arith, h.flips, k.flips, both.0);
       settled = λ le. k.settled le ∙ h.settled (room le);
       swaps = λ le. omega (arith, h.swaps (room le), k.swaps le, both.1);

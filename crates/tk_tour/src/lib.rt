@@ -1,5 +1,5 @@
 //! Tours: checking, length, what a tour store does, moves made of reversals; array tours and their printed form,
-//! journals that undo reversals.
+//! journals that undo reversals, tours that are seen through segments.
 #![tactic(auto)]
 
 mod fault;
@@ -7,6 +7,7 @@ pub mod laws;
 mod measure;
 mod store;
 mod stores;
+mod undo;
 mod verdict;
 
 pub use fault::TourFault;
@@ -14,4 +15,6 @@ pub use measure::length;
 pub use store::{Flip, TourStore};
 pub use stores::array::ArrayTour;
 pub use stores::journal::JournalTour;
+pub use stores::segments::tour::SegmentTour;
+pub use undo::UndoStore;
 pub use verdict::{Verdict, check};

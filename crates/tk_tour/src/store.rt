@@ -41,6 +41,15 @@ pub trait TourStore {
         requires { IsCity (length (cities self.now)) c }
         ensures { result ≡ prev_city (cities self.now) c };
 
+    /// The cities after and before c.
+    fn beside(&self, c: u32) -> (u32, u32)
+        requires { IsCity (length (cities self.now)) c }
+        ensures after { result.0 ≡ next_city (cities self.now) c }
+        ensures before { result.1 ≡ prev_city (cities self.now) c }
+    {
+        (self.next(c), self.prev(c))
+    }
+
     /// The city at the k-th place, from 1.
     fn at(&self, k: u32) -> u32
         requires { IsCity (length (cities self.now)) k }

@@ -1,12 +1,14 @@
 //! Worked examples, and each call once at concrete types.
-ghost use Rattle.std.specs.Prelude.{◌≡◌, ◌≤◌, ◌<◌, pos, length};
+ghost use Rattle.std.specs.Prelude.{◌≡◌, ◌≤◌, ◌<◌, IfOk, pos, length};
+ghost use Rattle.tk_descent.specs.Steps.{AreTrueOf};
 ghost use Rattle.tk_tour.specs.Tour.{tour_length};
 
 use std::alloc::Global;
 use std::process::Abort;
 use std::test::Fail;
 use tk_descent::{
-    Gains, Probe, Report, SweptReport, Waking, descend, descend_swept, is_local_optimum, look, make,
+    Gains, Probe, Report, Steps, SweptReport, Waking, descend, descend_swept, is_local_optimum,
+    look, make,
 };
 use tk_metric::{Metric, Near, near_scan};
 use tk_tour::{ArrayTour, JournalTour, TourStore, length};
@@ -370,6 +372,42 @@ fn journal_by_plain_gains(rt: HostRuntime) -> Result<(), Fail> {
     );
     assert!(rt; numbers(&report) == (29, 19, 3, 9, 71, 4));
     expect_printed(&rt, rt.alloc(), tour.tour(), &[1, 3, 2, 5, 4])
+}
+
+/// What a descent of five cities with all awake does, whose looks remember steps: its report, and the steps then.
+fn descend_five(
+    rt: &impl Abort,
+    alloc: Global,
+    metric: &Rows,
+    steps: Steps,
+) -> Result<(Report, Steps), Fail>
+    requires { AreTrueOf (⟦<Rows as Metric>⟧.distance metric.now) steps }
+    ensures { IfOk result (λ done. AreTrueOf (⟦<Rows as Metric>⟧.distance metric.now) done.1) }
+{
+    let mut tour = ArrayTour::from_list(alloc, &[1, 2, 3, 4, 5])?;
+    assert!(rt; metric.n == tour.size());
+    let near = near_scan(alloc, metric, 2)?;
+    let before = length_of(metric, &tour);
+    let mut waking = Waking::new(alloc, metric.n)?;
+    waking.wake_all();
+    let mut gains = Probe::with_steps(metric, steps);
+    let report = descend(&mut tour, &mut gains, &near, &mut waking, 2, before);
+    Ok((report, gains.into_steps()))
+}
+
+#[test]
+fn remembers_steps(rt: HostRuntime) -> Result<(), Fail> {
+    let metric = uneven_cities();
+    let steps = Steps::new(rt.alloc(), metric.n)?;
+    let (report, steps) = descend_five(&rt, rt.alloc(), &metric, steps)?;
+    assert!(rt; numbers(&report) == (29, 19, 3, 9, 71, 4));
+    let (report, mut steps) = descend_five(&rt, rt.alloc(), &metric, steps)?;
+    assert!(rt; numbers(&report) == (29, 19, 3, 9, 71, 4));
+    let (report, _) = descend_five(&rt, rt.alloc(), &metric, steps.take())?;
+    assert!(rt; numbers(&report) == (29, 19, 3, 9, 71, 4));
+    let (report, _) = descend_five(&rt, rt.alloc(), &metric, steps)?;
+    assert!(rt; numbers(&report) == (29, 19, 3, 9, 71, 4));
+    Ok(())
 }
 
 #[test]

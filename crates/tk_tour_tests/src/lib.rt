@@ -7,4 +7,6 @@ mod descents;
 #[cfg(test)]
 mod examples;
 #[cfg(test)]
+mod segments;
+#[cfg(test)]
 mod tours;

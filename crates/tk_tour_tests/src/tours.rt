@@ -120,13 +120,13 @@ fn copies(rt: HostRuntime) -> Result<(), Fail> {
 }
 
 // Eight cities in their own order, with a journal of so many flips.
-fn journal_of_eight(alloc: Global, slots: u32) -> Result<JournalTour, Fail> {
+fn journal_of_eight(alloc: Global, slots: u32) -> Result<JournalTour<ArrayTour>, Fail> {
     let tour = ArrayTour::from_list(alloc, &EIGHT)?;
     Ok(JournalTour::new(alloc, tour, slots)?)
 }
 
 // Whether the cities stand in this order.
-fn stands(tour: &JournalTour, want: &[u32]) -> bool {
+fn stands(tour: &JournalTour<ArrayTour>, want: &[u32]) -> bool {
     tour.tour().order() == want
 }
 

@@ -4,6 +4,7 @@ ghost use Rattle.tk_near.specs.Near.{near_of};
 ghost use Rattle.tk_tour.specs.Counters.{saturated};
 ghost use Rattle.tk_descent.specs.Offers.{covers, Searched, or_offer, offers, EndsIn, segment_count, first_gain, tests_to};
 ghost use Rattle.tk_descent.specs.Sharing.{IsBeside, IsPiece, piece_offers, two_margin, or_margin};
+ghost use Rattle.tk_descent.specs.Steps.{AreMeasured};
 ghost use Rattle.tk_distance.specs.Cities.{IsCity};
 ghost use Rattle.tk_descent.specs.Machine.{IsOfferOn};
 ghost use Rattle.tk_descent.specs.WakeMachine.{HasNoOffer};
@@ -14,6 +15,7 @@ use crate::looks::segments::segment_count;
 use crate::looks::sharing::{Beside, Piece, look_beside, pieces_of};
 use crate::offer::{Found, Offer, Segment};
 use crate::on_tour::size;
+use crate::steps::Measured;
 use tk_distance::Metric;
 use tk_near::Near;
 use tk_tour::TourStore;
@@ -154,6 +156,7 @@ fn try_city<M: Metric>(
 pub(crate) fn find_offer<S: TourStore, M: Metric>(
     tour: &S,
     metric: &M,
+    steps: &mut [Measured],
     count: &mut u64,
     near: &Near,
     or_segment: u32,
@@ -162,18 +165,20 @@ pub(crate) fn find_offer<S: TourStore, M: Metric>(
     requires fits { (M.size_of metric.now ≡ length (S.cities tour.now)) × (near.now.size ≡ length (S.cities tour.now)) }
     requires city { IsCity (length (S.cities tour.now)) city }
     requires most { (1 ≤ or_segment) × (or_segment ≤ 3) }
+    requires known { AreMeasured (M.distance metric.now) steps.old }
     ensures searched { Searched (M.distance metric.now)
         (offers (S.cities tour.now) or_segment (near_of near.now city) city) result count.old count.new }
     ensures on_cycle { IfSome result (λ f. IsOfferOn or_segment f.offer (S.cities tour.now)
         × EndsIn (length (S.cities tour.now)) f.offer) }
     ensures bound { count.new ≤ count.old + 4 * or_segment * near.now.width }
+    ensures known { AreMeasured (M.distance metric.now) steps.new }
 {
     let _counted = *count;
-    let from = look_beside(tour, metric, city);
-    let all = pieces_of(tour, metric, &from);
+    let from = look_beside(tour, metric, steps, city);
+    let all = pieces_of(tour, metric, steps, &from);
     let pieces = &all[..segment_count(size(tour), or_segment)];
     for y in near.of(city) {
-        let y = look_beside(tour, metric, *y);
+        let y = look_beside(tour, metric, steps, *y);
         if let Some(found) = try_city(metric, count, &from, pieces, &y) {
             return Some(found);
         }

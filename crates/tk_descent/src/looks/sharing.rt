@@ -4,10 +4,12 @@ ghost use Rattle.tk_distance.specs.Cities.{IsCity};
 ghost use Rattle.tk_tour.specs.Tour.{next_city, prev_city};
 ghost use Rattle.tk_descent.specs.Offers.{IsSegmentIn, all_segments};
 ghost use Rattle.tk_descent.specs.Sharing.{IsBeside, IsPiece, segment_of};
+ghost use Rattle.tk_descent.specs.Steps.{AreMeasured};
 
 use crate::looks::segments::segments_of;
 use crate::offer::Segment;
-use crate::on_tour::{next, prev};
+use crate::on_tour::beside;
+use crate::steps::{Measured, step, steps_beside};
 use tk_distance::Metric;
 use tk_tour::TourStore;
 
@@ -30,21 +32,29 @@ pub(crate) struct Piece {
 
 /// A city with its neighbours.
 #[inline]
-pub(crate) fn look_beside<S: TourStore, M: Metric>(tour: &S, metric: &M, c: u32) -> Beside
+pub(crate) fn look_beside<S: TourStore, M: Metric>(
+    tour: &S,
+    metric: &M,
+    steps: &mut [Measured],
+    c: u32,
+) -> Beside
     requires size { M.size_of metric.now ≡ length (S.cities tour.now) }
     requires city { IsCity (length (S.cities tour.now)) c }
+    requires known { AreMeasured (M.distance metric.now) steps.old }
     ensures city { result.city ≡ c }
     ensures after { result.after ≡ next_city (S.cities tour.now) c }
     ensures before { result.before ≡ prev_city (S.cities tour.now) c }
     ensures shared { IsBeside (M.size_of metric.now) (M.distance metric.now) result }
+    ensures known { AreMeasured (M.distance metric.now) steps.new }
 {
-    let (after, before) = (next(tour, c), prev(tour, c));
+    let (after, before) = beside(tour, c);
+    let (to_after, to_before) = steps_beside(metric, steps, c, after, before);
     Beside {
         city: c,
         after,
         before,
-        to_after: metric.dist(c, after),
-        to_before: metric.dist(c, before),
+        to_after,
+        to_before,
     }
 }
 
@@ -66,11 +76,17 @@ fn measure_piece<M: Metric>(metric: &M, x: u32, begin: i64, end: i64, segment: S
 
 /// The segments that begin at x, each with what it frees.
 #[inline]
-pub(crate) fn pieces_of<S: TourStore, M: Metric>(tour: &S, metric: &M, x: &Beside) -> [Piece; 5]
+pub(crate) fn pieces_of<S: TourStore, M: Metric>(
+    tour: &S,
+    metric: &M,
+    steps: &[Measured],
+    x: &Beside,
+) -> [Piece; 5]
     requires size { M.size_of metric.now ≡ length (S.cities tour.now) }
     requires after { x.now.after ≡ next_city (S.cities tour.now) x.now.city }
     requires before { x.now.before ≡ prev_city (S.cities tour.now) x.now.city }
     requires shared { IsBeside (M.size_of metric.now) (M.distance metric.now) x.now }
+    requires known { AreMeasured (M.distance metric.now) steps.now }
     ensures value { map segment_of result
         ≡ all_segments (next_city (S.cities tour.now)) (prev_city (S.cities tour.now)) x.now.city }
     ensures shared { All (IsPiece (M.size_of metric.now) (M.distance metric.now) x.now.city) result }
@@ -83,28 +99,28 @@ pub(crate) fn pieces_of<S: TourStore, M: Metric>(tour: &S, metric: &M, x: &Besid
             metric,
             city,
             x.to_before,
-            metric.dist(two.last, two.after),
+            step(metric, steps, two.last, two.after),
             two,
         ),
         measure_piece(
             metric,
             city,
             x.to_after,
-            metric.dist(two_back.last, two_back.after),
+            step(metric, steps, two_back.last, two_back.after),
             two_back,
         ),
         measure_piece(
             metric,
             city,
             x.to_before,
-            metric.dist(three.last, three.after),
+            step(metric, steps, three.last, three.after),
             three,
         ),
         measure_piece(
             metric,
             city,
             x.to_after,
-            metric.dist(three_back.last, three_back.after),
+            step(metric, steps, three_back.last, three_back.after),
             three_back,
         ),
     ]

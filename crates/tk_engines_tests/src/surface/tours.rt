@@ -51,7 +51,7 @@ fn copies(rt: HostRuntime) -> Result<(), Fail> {
 }
 
 /// A journal of so many flips over four cities.
-fn journal(alloc: Global, slots: u32) -> Result<tk_tour::JournalTour, Fail> {
+fn journal(alloc: Global, slots: u32) -> Result<tk_tour::JournalTour<tk_tour::ArrayTour>, Fail> {
     let tour = tk_tour::ArrayTour::from_list(alloc, &[1, 2, 3, 4])?;
     Ok(tk_tour::JournalTour::new(alloc, tour, slots)?)
 }

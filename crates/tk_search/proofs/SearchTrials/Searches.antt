@@ -4,12 +4,15 @@ use Rattle.std.specs.Prelude.{IsTrue}
 use Rattle.std.proofs.Math.Nat.{mul-le-mul_left}
 use Rattle.rand_core.specs.Stream.{Stream}
 use Rattle.tk_near.specs.Near.{NearLists}
-use Rattle.tk_tour.specs.ArrayTours.{order_of}
 use Rattle.tk_tour.specs.JournalTours.{slots_of}
 use Rattle.tk_tour.specs.Tour.{tour_length}
+use Rattle.tk_tour.specs.declared.store.TourStore.{Ghosts}
+use Rattle.tk_tour.specs.declared.undo.UndoStore as undo
 use Rattle.tk_distance.specs.Cities.{city_at}
 use Rattle.tk_descent.specs.Awake.{woken_each}
+use Rattle.tk_descent.specs.Steps.{AreTrueOf}
 use Rattle.tk_descent.proofs.OfferLists.Count.{woken_each-le}
+use Rattle.tk_search.specs.Best.{best_of}
 use Rattle.tk_search.specs.Cuts.{end_places}
 use Rattle.tk_search.specs.declared.double_bridges.cuts.Cuts.{Cuts}
 use Rattle.tk_search.specs.Searching.{IsSearching}
@@ -76,39 +79,41 @@ more_awake n width awake more rules report le h =
     }
 
 -- what a trial leaves, by the state before it
-pub record Leaves (near : NearLists) (dist : ℕ → ℕ → ℕ) (rules : SearchRules) (s t : State) (awake flips swaps : ℕ) (report : TrialReport) : Type 0 where
-  pub size : length (order_of t.best) ≡ length (order_of s.best)
+pub record Leaves {S : Type 0} {u : undo.Ghosts S} {w : Ghosts S} (near : NearLists) (dist : ℕ → ℕ → ℕ) (rules : SearchRules) (s t : State S u w) (awake flips swaps : ℕ) (report : TrialReport) : Type 0 where
+  pub size : length (best_of t.best) ≡ length (best_of s.best)
   pub slots : slots_of t.tour ≡ slots_of s.tour
   pub asleep : t.waking.queue ≡ []
+  pub steps : AreTrueOf dist t.steps
   pub waking : t.waking.size ≡ s.waking.size
   pub at_best : IsAtBest t.tour t.best
-  pub shortest : t.shortest ≡ pos (tour_length dist (order_of t.best))
+  pub shortest : t.shortest ≡ pos (tour_length dist (best_of t.best))
   pub counts : AreCountsOf t.totals t.tour t.best
   pub adds : AddsTrial s.totals t.totals report (gain_of report)
-  pub bounded : IsBoundedTrial (length (order_of s.best)) near.width awake rules report
-  pub swapped : t.totals.swaps ≤ s.totals.swaps + length (order_of s.best) + report.descent.swaps
-  pub settles : SettlesTrial (length (order_of s.best)) flips swaps s.totals t.totals report
+  pub bounded : IsBoundedTrial (length (best_of s.best)) near.width awake rules report
+  pub swapped : t.totals.swaps ≤ s.totals.swaps + length (best_of s.best) + report.descent.swaps
+  pub settles : SettlesTrial (length (best_of s.best)) flips swaps s.totals t.totals report
   pub few : flips ≤ 4 + 3 * report.descent.moves
-  pub less : report.better ≡ true → tour_length dist (order_of t.best) < tour_length dist (order_of s.best)
-  pub same : report.better ≡ false → tour_length dist (order_of t.best) ≡ tour_length dist (order_of s.best)
+  pub less : report.better ≡ true → tour_length dist (best_of t.best) < tour_length dist (best_of s.best)
+  pub same : report.better ≡ false → tour_length dist (best_of t.best) ≡ tour_length dist (best_of s.best)
 
-module _ (size : ℕ) (dist : ℕ → ℕ → ℕ) (near : NearLists) (rules : SearchRules) (s t : State) (awake flips swaps : ℕ) (report : TrialReport)
+module _ {S : Type 0} {u : undo.Ghosts S} {w : Ghosts S} (size : ℕ) (dist : ℕ → ℕ → ℕ) (near : NearLists) (rules : SearchRules) (s t : State S u w) (awake flips swaps : ℕ) (report : TrialReport)
     (h : IsSearching size dist near rules s) (k : Leaves near dist rules s t awake flips swaps report) where
-  bounded : (rules.sweep ≡ false → t.totals.tests ≤ 4 * rules.or_segment * near.width * (length (order_of s.best) + 8 * (t.totals.trials - 1) + 6 * t.totals.moves)) →
-      IsBounded (length (order_of s.best)) near.width rules (tour_length dist (order_of t.best)) t.totals
+  bounded : (rules.sweep ≡ false → t.totals.tests ≤ 4 * rules.or_segment * near.width * (length (best_of s.best) + 8 * (t.totals.trials - 1) + 6 * t.totals.moves)) →
+      IsBounded (length (best_of s.best)) near.width rules (tour_length dist (best_of t.best)) t.totals
   bounded tests =
-      bounded_more (length (order_of s.best)) near.width (tour_length dist (order_of s.best)) (tour_length dist (order_of t.best)) flips swaps rules s.totals t.totals report k.adds h.bounds
+      bounded_more (length (best_of s.best)) near.width (tour_length dist (best_of s.best)) (tour_length dist (best_of t.best)) flips swaps rules s.totals t.totals report k.adds h.bounds
       k.settles k.few k.swapped k.bounded k.less k.same tests
 
-  searches : (rules.sweep ≡ false → t.totals.tests ≤ 4 * rules.or_segment * near.width * (length (order_of s.best) + 8 * (t.totals.trials - 1) + 6 * t.totals.moves)) →
+  searches : (rules.sweep ≡ false → t.totals.tests ≤ 4 * rules.or_segment * near.width * (length (best_of s.best) + 8 * (t.totals.trials - 1) + 6 * t.totals.moves)) →
       IsSearching size dist near rules t
   searches tests =
-      let P : ℕ → Type 0 = λ v. IsBounded v near.width rules (tour_length dist (order_of t.best)) t.totals in
+      let P : ℕ → Type 0 = λ v. IsBounded v near.width rules (tour_length dist (best_of t.best)) t.totals in
       record {
         cities = h.cities ∙ sym k.size;
         lists = h.lists ∙ sym k.size;
         queue = k.waking ∙ h.queue ∙ sym k.size;
         asleep = k.asleep;
+        steps = k.steps;
         segment = h.segment;
         at_best = k.at_best;
         slots = k.slots ∙ h.slots ∙ sym k.size;
@@ -118,12 +123,12 @@ module _ (size : ℕ) (dist : ℕ → ℕ → ℕ) (near : NearLists) (rules : S
         bounds = subst P (sym k.size) (bounded tests);
       }
 
-  pub searches_first : s.totals.trials ≡ 0 → awake ≡ length (order_of s.best) → IsSearching size dist near rules t
+  pub searches_first : s.totals.trials ≡ 0 → awake ≡ length (best_of s.best) → IsSearching size dist near rules t
   searches_first none all =
       let P : ℕ → Type 0 = λ v. report.descent.tests ≤ 4 * rules.or_segment * near.width * (v + 6 * report.descent.moves) in
-      searches (λ o. tests_first (length (order_of s.best)) near.width (tour_length dist (order_of s.best)) 0 flips swaps rules s.totals t.totals report k.adds h.bounds (h.untried none) (subst P all (k.bounded.tests o)))
+      searches (λ o. tests_first (length (best_of s.best)) near.width (tour_length dist (best_of s.best)) 0 flips swaps rules s.totals t.totals report k.adds h.bounds (h.untried none) (subst P all (k.bounded.tests o)))
 
   pub searches_kicked : 1 ≤ s.totals.trials → awake ≡ 8 → IsSearching size dist near rules t
   searches_kicked begun ends =
       let P : ℕ → Type 0 = λ v. report.descent.tests ≤ 4 * rules.or_segment * near.width * (v + 6 * report.descent.moves) in
-      searches (λ o. tests_kicked (length (order_of s.best)) near.width (tour_length dist (order_of s.best)) 0 flips swaps rules s.totals t.totals report k.adds h.bounds begun (h.bounds.tests o) (subst P ends (k.bounded.tests o)))
+      searches (λ o. tests_kicked (length (best_of s.best)) near.width (tour_length dist (best_of s.best)) 0 flips swaps rules s.totals t.totals report k.adds h.bounds begun (h.bounds.tests o) (subst P ends (k.bounded.tests o)))

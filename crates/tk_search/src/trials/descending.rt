@@ -1,10 +1,11 @@
 //! One descent of a search.
 ghost use Rattle.std.specs.Prelude.{◌≡◌, pos, ◌+◌, ◌-◌, ◌*◌, ◌/◌, ◌≤◌, [], length, true, false};
 ghost use Rattle.tk_near.specs.Near.{near_of};
+ghost use Rattle.tk_descent.specs.Steps.{AreTrueOf};
 ghost use Rattle.tk_tour.specs.Tour.{tour_length};
 ghost use Rattle.tk_search.specs.Descents.{Descends};
 
-use tk_descent::{Probe, SweptReport, Waking, descend, descend_swept};
+use tk_descent::{Probe, Steps, SweptReport, Waking, descend, descend_swept};
 use tk_distance::Metric;
 use tk_near::Near;
 use tk_tour::TourStore;
@@ -18,12 +19,14 @@ pub struct SearchRules {
     pub or_segment: u32,
 }
 
-/// Descends by the rules, with a fresh count of tests. A descent that is not swept is one pass.
+/// Descends by the rules, with a fresh count of tests, and goes on remembering steps of the tour. A descent that is not
+/// swept is one pass.
 pub(crate) fn descend_by<S: TourStore, M: Metric>(
     store: &mut S,
     metric: &M,
     near: &Near,
     waking: &mut Waking,
+    steps: &mut Steps,
     rules: SearchRules,
     before: i64,
 ) -> SweptReport
@@ -31,6 +34,7 @@ pub(crate) fn descend_by<S: TourStore, M: Metric>(
         × (near.now.size ≡ length (S.cities store.old)) × (waking.old.size ≡ length (S.cities store.old)) }
     requires most { (1 ≤ rules.or_segment) × (rules.or_segment ≤ 3) }
     requires before { before ≡ pos (tour_length (M.distance metric.now) (S.cities store.old)) }
+    requires steps { AreTrueOf (M.distance metric.now) steps.old }
     ensures descends { Descends (M.distance metric.now) (near_of near.now) rules (S.cities store.old) waking.old.queue
         (S.cities store.new) result.passes result.descent.looks result.descent.moves result.descent.tests }
     ensures asleep { waking.new.queue ≡ [] }
@@ -53,14 +57,18 @@ pub(crate) fn descend_by<S: TourStore, M: Metric>(
     ensures swapped { S.swap_count store.new ≡ S.swap_count store.old + result.descent.swaps }
     ensures flips { S.flip_count store.new ≤ S.flip_count store.old + 3 * result.descent.moves }
     ensures flips_only { S.FlipsOnly store.old store.new }
+    ensures steps { AreTrueOf (M.distance metric.now) steps.new }
     ensures kept { (length (S.cities store.new) ≡ length (S.cities store.old)) × (waking.new.size ≡ waking.old.size) }
 {
-    let mut gains = Probe::new(metric);
-    if rules.sweep {
-        return descend_swept(store, &mut gains, near, waking, rules.or_segment, before);
-    }
-    SweptReport {
-        descent: descend(store, &mut gains, near, waking, rules.or_segment, before),
-        passes: 1,
-    }
+    let mut gains = Probe::with_steps(metric, steps.take());
+    let report = if rules.sweep {
+        descend_swept(store, &mut gains, near, waking, rules.or_segment, before)
+    } else {
+        SweptReport {
+            descent: descend(store, &mut gains, near, waking, rules.or_segment, before),
+            passes: 1,
+        }
+    };
+    *steps = gains.into_steps();
+    report
 }

@@ -1,8 +1,9 @@
 //! What a search counts.
 ghost use Rattle.std.specs.Prelude.{◌≡◌, ◌<◌, ◌^◌};
 
+use crate::trials::best::Best;
 use tk_descent::Report;
-use tk_tour::{ArrayTour, JournalTour, TourStore};
+use tk_tour::{JournalTour, TourStore, UndoStore};
 
 /// What a trial of a search did.
 #[derive(Clone, Copy)]
@@ -67,12 +68,12 @@ impl Totals {
     }
 
     /// The totals with one more trial, whose tour gained that much; swaps and copies as the tours count them.
-    pub(crate) fn with_trial(
+    pub(crate) fn with_trial<S: UndoStore>(
         self,
         report: &TrialReport,
         gained: u64,
-        tour: &JournalTour,
-        best: &ArrayTour,
+        tour: &JournalTour<S>,
+        best: &Best,
     ) -> Totals
         ensures adds { AddsTrial self result report.now gained }
         ensures counts { AreCountsOf result tour.now best.now }

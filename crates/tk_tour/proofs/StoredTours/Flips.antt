@@ -20,7 +20,7 @@ use Rattle.tk_tour.proofs.StoredTours.Reversing.{at_place}
 abbrev pub IsAfter : ℕ → ℕ → ℕ → Type 0
 IsAfter n p q = ((p + 1 < n) × (q ≡ p + 1)) ⊎ ((p + 1 ≡ n) × (q ≡ 0))
 
-place_is : (order place : List ℕ) (k c : ℕ) → IsInverse order place → k < length order → c ≡ get_or order k 0 → get_or place (c - 1) 0 ≡ k
+pub place_is : (order place : List ℕ) (k c : ℕ) → IsInverse order place → k < length order → c ≡ get_or order k 0 → get_or place (c - 1) 0 ≡ k
 place_is order place k c inverse lt e = ap (λ v. get_or place (v - 1) 0) e ∙ (inverse.1 k lt).2
 
 pub place_after : (order place : List ℕ) (a b : ℕ) → IsTour (length order) order → IsInverse order place → IsCity (length order) a → b ≡ next_city order a →

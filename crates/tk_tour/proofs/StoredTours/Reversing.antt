@@ -69,7 +69,7 @@ at_place n f i p h =
     h
 
 -- two places modulo n are equal only for the same entry
-places_apart : (n f i j p q : ℕ) → i < n → j < n → AtPlace n f i p → AtPlace n f j q → i ≢ j → p ≢ q
+pub places_apart : (n f i j p q : ℕ) → i < n → j < n → AtPlace n f i p → AtPlace n f j q → i ≢ j → p ≢ q
 places_apart n f i j p q li lj h k ne e =
     ⊎_elim
     (λ (a : (f + i < n) × (p ≡ f + i)). ⊎_elim
@@ -83,7 +83,7 @@ places_apart n f i j p q li lj h k ne e =
     (place_cases n f i p h)
 
 -- the place after, modulo n
-at_next : (n f i p q : ℕ) → f < n → i < n → AtPlace n f i p → ((p + 1 ≡ n) × (q ≡ 0)) ⊎ ((p + 1 < n) × (q ≡ p + 1)) → AtPlace n f (i + 1) q
+pub at_next : (n f i p q : ℕ) → f < n → i < n → AtPlace n f i p → ((p + 1 ≡ n) × (q ≡ 0)) ⊎ ((p + 1 < n) × (q ≡ p + 1)) → AtPlace n f (i + 1) q
 at_next n f i p q lf li h cases =
     at_place n f (i + 1) q
     (⊎_elim
@@ -98,7 +98,7 @@ at_next n f i p q lf li h cases =
     (place_cases n f i p h))
 
 -- the place before, modulo n
-at_previous : (n f i j p q : ℕ) → i ≡ j + 1 → f < n → i ≤ n → AtPlace n f i p → ((p ≡ 0) × (q + 1 ≡ n)) ⊎ ((0 < p) × (q + 1 ≡ p)) → AtPlace n f j q
+pub at_previous : (n f i j p q : ℕ) → i ≡ j + 1 → f < n → i ≤ n → AtPlace n f i p → ((p ≡ 0) × (q + 1 ≡ n)) ⊎ ((0 < p) × (q + 1 ≡ p)) → AtPlace n f j q
 at_previous n f i j p q e lf li h cases =
     ⊎_elim
     (λ (c : (p ≡ 0) × (q + 1 ≡ n)).

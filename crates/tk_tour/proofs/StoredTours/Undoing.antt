@@ -1,5 +1,5 @@
 -- One flip more or less in a journal.
-use Rattle.std.proofs.Common.{◌≡◌, ℕ, ◌+◌, ◌-◌, ◌/◌, ◌<◌, ◌≤◌, Some, List, [], ◌∷◌, ◌++◌, length, refl, ap, ◌∙◌, ⊎_elim, arith}
+use Rattle.std.proofs.Common.{◌≡◌, ℕ, ◌+◌, ◌-◌, ◌*◌, ◌/◌, ◌<◌, ◌≤◌, Some, List, [], ◌∷◌, ◌++◌, length, refl, ap, ◌∙◌, ⊎_elim, arith}
 use Rattle.std.proofs.lemmas.Bool.{cases_lt}
 use Rattle.std.proofs.lemmas.List.Elements.{All-push, All-pop, All-same}
 use Rattle.std.proofs.lemmas.List.Sums.{sum_by-append}
@@ -28,10 +28,10 @@ swaps_to_undo-remembered flips slots fs gs f more full =
     (λ (le : slots ≤ flips). omega (arith, ap swaps_to_undo (full le)))
     (cases_lt flips slots)
 
-pub AreFlipsOf-remembered : (n flips slots : ℕ) (fs gs : List Flip) (f : Flip) → AreFlipsOf n fs → (0 < f.first) × (f.first ≤ n) × (f.count ≤ n) →
+pub AreFlipsOf-remembered : (n flips slots : ℕ) (fs gs : List Flip) (f : Flip) → AreFlipsOf n fs → (0 < f.first) × (f.first ≤ n) × (2 * f.count ≤ n) →
     (flips < slots → gs ≡ fs ++ f ∷ []) → (slots ≤ flips → gs ≡ fs) → AreFlipsOf n gs
 AreFlipsOf-remembered n flips slots fs gs f h k more full =
-    let P : Flip → Type 0 = λ g. (0 < g.first) × (g.first ≤ n) × (g.count ≤ n) in
+    let P : Flip → Type 0 = λ g. (0 < g.first) × (g.first ≤ n) × (2 * g.count ≤ n) in
     ⊎_elim
     (λ (lt : flips < slots). All-same P gs (fs ++ f ∷ []) (more lt) (All-push P fs f h k))
     (λ (le : slots ≤ flips). All-same P gs fs (full le) h)
@@ -39,5 +39,5 @@ AreFlipsOf-remembered n flips slots fs gs f h k more full =
 
 pub AreFlipsOf-fewer : (n : ℕ) (fs gs : List Flip) (f : Flip) → gs ≡ fs ++ f ∷ [] → AreFlipsOf n gs → AreFlipsOf n fs
 AreFlipsOf-fewer n fs gs f e h =
-    let P : Flip → Type 0 = λ g. (0 < g.first) × (g.first ≤ n) × (g.count ≤ n) in
+    let P : Flip → Type 0 = λ g. (0 < g.first) × (g.first ≤ n) × (2 * g.count ≤ n) in
     (All-pop P gs fs (Some f) e h).0

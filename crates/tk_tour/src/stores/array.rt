@@ -8,7 +8,9 @@ ghost use Rattle.tk_tour.specs.Counters.{saturated};
 
 use crate::fault::TourFault;
 use crate::store::{Flip, TourStore};
+use crate::stores::placing::place_each;
 use crate::stores::reversal::reverse_places;
+use crate::undo::UndoStore;
 use crate::verdict::{Verdict, place_cities};
 use std::alloc::{AllocError, Global};
 use tk_problem::CITY_LIMIT;
@@ -92,6 +94,47 @@ impl TourStore for ArrayTour {
     ghost flips_more = { FlipsAlone-trans };
 
     ghost is_tour = { λ s. s.tour };
+}
+
+impl UndoStore for ArrayTour {
+    ghost use Rattle.tk_tour.specs.ArrayTours.{undo_swaps_of, copied_of, FlipsAlone-kept, ArrayTour-fits};
+
+    ghost undo_count = { undo_swaps_of };
+
+    ghost copy_count = { copied_of };
+
+    fn undo(&mut self, flip: &Flip) {
+        ArrayTour::undo(self, flip);
+    }
+
+    fn take_order(&mut self, cities: &[u32]) {
+        self.order.copy_from_slice(cities);
+        place_each(&self.order, &mut self.place);
+        self.copied = self.copied.saturating_add(cities.len() as u64);
+    }
+
+    fn write_order(&self, cities: &mut [u32]) {
+        cities.copy_from_slice(&self.order);
+    }
+
+    fn undo_swaps(&self) -> u64 {
+        ArrayTour::undo_swaps(self)
+    }
+
+    fn copied(&self) -> u64 {
+        ArrayTour::copied(self)
+    }
+
+    fn reset_counts(&mut self) {
+        self.swaps = 0;
+        self.undo_swaps = 0;
+        self.flips = 0;
+        self.copied = 0;
+    }
+
+    ghost flips_keep = { FlipsAlone-kept };
+
+    ghost counts_fit = { ArrayTour-fits };
 }
 
 impl ArrayTour {
@@ -199,18 +242,6 @@ impl ArrayTour {
         self.undo_swaps = self.undo_swaps.saturating_add(flip.count as u64 / 2);
     }
 
-    // All counts begin again at 0.
-    pub(crate) fn reset_counts(&mut self)
-        ensures order { order_of self.new ≡ order_of self.old }
-        ensures counts { (swaps_of self.new ≡ 0) × (undo_swaps_of self.new ≡ 0) × (flips_of self.new ≡ 0)
-            × (copied_of self.new ≡ 0) }
-    {
-        self.swaps = 0;
-        self.undo_swaps = 0;
-        self.flips = 0;
-        self.copied = 0;
-    }
-
     /// The cities in their order.
     pub fn order(&self) -> &[u32]
         ensures { result.now ≡ order_of self.now }
@@ -225,7 +256,7 @@ impl ArrayTour {
         self.undo_swaps
     }
 
-    /// How many entries `copy_from` has copied into this tour.
+    /// How many cities were copied into this tour.
     pub fn copied(&self) -> u64
         ensures { result ≡ copied_of self.now }
     {

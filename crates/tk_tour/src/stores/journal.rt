@@ -3,9 +3,11 @@ ghost use Rattle.std.specs.Prelude.{◌≡◌, ◌≤◌, ◌<◌, ◌+◌, ◌^
 ghost use Rattle.std.specs.Vec.{vec_capacity};
 ghost use Rattle.tk_tour.specs.Counters.{saturated};
 ghost use Rattle.tk_tour.specs.Journal.{AreFlipsOf, swaps_to_undo};
+ghost use Rattle.tk_tour.specs.Tour.{IsSizedTour};
 
 use crate::store::{Flip, TourStore};
 use crate::stores::array::ArrayTour;
+use crate::undo::UndoStore;
 use std::alloc::{AllocError, Global};
 
 // Records the flip that follows `flips` others, where there is room for it.
@@ -24,28 +26,27 @@ fn remember(journal: &mut Vec<Flip>, slots: u32, flips: u64, flip: Flip)
     }
 }
 
-/// An array tour that remembers its last flips, so that they can be undone.
+/// A tour that remembers its last flips, so that they can be undone.
 #[derive(Drop)]
-pub struct JournalTour {
-    tour: ArrayTour,
+pub struct JournalTour<S: UndoStore> {
+    tour: S,
     journal: Vec<Flip>,
     slots: u32,
     flips: u64,
     ghost room: { slots ≤ vec_capacity journal },
     ghost within: { vec_len journal ≤ slots },
     ghost complete: { flips ≤ slots → vec_len journal ≡ flips },
-    ghost in_range: { AreFlipsOf (length tour.order.items) journal.items },
-    ghost undoes_its_own: { saturated (tour.undo_swaps + swaps_to_undo journal.items) ≤ tour.swaps },
+    ghost in_range: { AreFlipsOf (length (S.cities tour)) journal.items },
+    ghost undoes_its_own: { saturated (S.undo_count tour + swaps_to_undo journal.items) ≤ S.swap_count tour },
     ghost fits: { flips < 2 ^ 64 },
 }
 
-impl TourStore for JournalTour {
-    ghost use Rattle.tk_tour.specs.ArrayTours.{order_of, swaps_of};
-    ghost use Rattle.tk_tour.specs.JournalTours.{tour_of, flips_since, KeepsSettled, KeepsSettled-refl, KeepsSettled-trans};
+impl<S: UndoStore> TourStore for JournalTour<S> {
+    ghost use Rattle.tk_tour.specs.JournalTours.{cities_of, swaps_of, flips_since, KeepsSettled, KeepsSettled-refl, KeepsSettled-trans};
 
-    ghost cities = { λ t. order_of (tour_of t) };
+    ghost cities = { cities_of };
 
-    ghost swap_count = { λ t. swaps_of (tour_of t) };
+    ghost swap_count = { swaps_of };
 
     ghost flip_count = { flips_since };
 
@@ -61,6 +62,10 @@ impl TourStore for JournalTour {
 
     fn prev(&self, c: u32) -> u32 {
         self.tour.prev(c)
+    }
+
+    fn beside(&self, c: u32) -> (u32, u32) {
+        self.tour.beside(c)
     }
 
     fn at(&self, k: u32) -> u32 {
@@ -82,29 +87,30 @@ impl TourStore for JournalTour {
         flip
     }
 
-    ghost flips_none = { KeepsSettled-refl };
+    ghost flips_none = { KeepsSettled-refl S.counts_fit };
 
     ghost flips_more = { KeepsSettled-trans };
 
-    ghost is_tour = { λ s. s.tour.tour };
+    ghost is_tour = { λ s. S.is_tour s.tour };
 }
 
-impl JournalTour {
-    ghost use Rattle.tk_tour.specs.ArrayTours.{order_of, swaps_of, undo_swaps_of, flips_of, copied_of};
-    ghost use Rattle.tk_tour.specs.JournalTours.{tour_of, slots_of, flips_since, IsLost, settled_order, swaps_to_rewind};
+impl<S: UndoStore> JournalTour<S> {
+    ghost use Rattle.tk_tour.specs.ArrayTours.{order_of};
+    ghost use Rattle.tk_tour.specs.JournalTours.{tour_of, cities_of, swaps_of, undo_swaps_of, flips_of, copied_of};
+    ghost use Rattle.tk_tour.specs.JournalTours.{slots_of, flips_since, IsLost, settled_order, swaps_to_rewind};
 
     /// A journal with room for `slots` flips; every count begins at 0, and the order is settled.
     ///
     /// # Errors
     /// `AllocError` where there is no memory for the slots; the tour is given up then.
-    pub fn new(alloc: Global, tour: ArrayTour, slots: u32) -> Result<JournalTour, AllocError>
-        ensures order { IfOk result (λ t. order_of (tour_of t) ≡ order_of tour) }
-        ensures settled { IfOk result (λ t. settled_order t ≡ order_of tour) }
+    pub fn new(alloc: Global, tour: S, slots: u32) -> Result<JournalTour<S>, AllocError>
+        ensures order { IfOk result (λ t. cities_of t ≡ S.cities tour) }
+        ensures settled { IfOk result (λ t. settled_order t ≡ S.cities tour) }
         ensures swaps { IfOk result (λ t. swaps_to_rewind t ≡ 0) }
         ensures slots { IfOk result (λ t. slots_of t ≡ slots) }
         ensures flips { IfOk result (λ t. flips_since t ≡ 0) }
-        ensures counts { IfOk result (λ t. (swaps_of (tour_of t) ≡ 0) × (undo_swaps_of (tour_of t) ≡ 0)
-            × (flips_of (tour_of t) ≡ 0) × (copied_of (tour_of t) ≡ 0)) }
+        ensures counts { IfOk result (λ t. (swaps_of t ≡ 0) × (undo_swaps_of t ≡ 0) × (flips_of t ≡ 0)
+            × (copied_of t ≡ 0)) }
     {
         let mut tour = tour;
         tour.reset_counts();
@@ -118,9 +124,9 @@ impl JournalTour {
     }
 
     /// The tour as it stands. At most the swaps of its flips were made again to undo them.
-    pub fn tour(&self) -> &ArrayTour
+    pub fn tour(&self) -> &S
         ensures tour { result.now ≡ tour_of self.now }
-        ensures undo_swaps { undo_swaps_of result.now ≤ swaps_of result.now }
+        ensures undo_swaps { S.undo_count result.now ≤ S.swap_count result.now }
     {
         &self.tour
     }
@@ -135,7 +141,7 @@ impl JournalTour {
     /// Makes the order as it stands the one that a rewind goes back to.
     pub fn settle(&mut self)
         ensures tour { tour_of self.new ≡ tour_of self.old }
-        ensures settled { settled_order self.new ≡ order_of (tour_of self.old) }
+        ensures settled { settled_order self.new ≡ cities_of self.old }
         ensures swaps { swaps_to_rewind self.new ≡ 0 }
         ensures flips { flips_since self.new ≡ 0 }
         ensures slots { slots_of self.new ≡ slots_of self.old }
@@ -147,16 +153,14 @@ impl JournalTour {
     /// Undoes the flips since the last settle and answers true, unless one of them was lost.
     pub fn rewind(&mut self) -> bool
         ensures lost { IsTrue result ↔ (flips_since self.old ≤ slots_of self.old) }
-        ensures order { IsTrue result → order_of (tour_of self.new) ≡ settled_order self.old }
+        ensures order { IsTrue result → cities_of self.new ≡ settled_order self.old }
         ensures settled { IsTrue result → settled_order self.new ≡ settled_order self.old }
         ensures flips { IsTrue result → flips_since self.new ≡ 0 }
         ensures undo_swaps { IsTrue result
-            → undo_swaps_of (tour_of self.new)
-            ≡ saturated (undo_swaps_of (tour_of self.old) + swaps_to_rewind self.old) }
+            → undo_swaps_of self.new ≡ saturated (undo_swaps_of self.old + swaps_to_rewind self.old) }
         ensures rewound { IsTrue result → swaps_to_rewind self.new ≡ 0 }
-        ensures counts { (swaps_of (tour_of self.new) ≡ swaps_of (tour_of self.old))
-            × (flips_of (tour_of self.new) ≡ flips_of (tour_of self.old))
-            × (copied_of (tour_of self.new) ≡ copied_of (tour_of self.old)) }
+        ensures counts { (swaps_of self.new ≡ swaps_of self.old) × (flips_of self.new ≡ flips_of self.old)
+            × (copied_of self.new ≡ copied_of self.old) }
         ensures slots { slots_of self.new ≡ slots_of self.old }
         ensures unchanged { result ≡ false → self.new ≡ self.old }
     {
@@ -172,19 +176,33 @@ impl JournalTour {
 
     /// Takes the order of another tour of as many cities, and settles there.
     pub fn restore(&mut self, other: &ArrayTour)
-        requires { length (order_of (tour_of self.old)) ≡ length (order_of other.now) }
-        ensures order { order_of (tour_of self.new) ≡ order_of other.now }
+        requires { length (cities_of self.old) ≡ length (order_of other.now) }
+        ensures order { cities_of self.new ≡ order_of other.now }
         ensures settled { settled_order self.new ≡ order_of other.now }
         ensures swaps { swaps_to_rewind self.new ≡ 0 }
         ensures flips { flips_since self.new ≡ 0 }
-        ensures copied { copied_of (tour_of self.new)
-            ≡ saturated (copied_of (tour_of self.old) + length (order_of other.now)) }
-        ensures others { (swaps_of (tour_of self.new) ≡ swaps_of (tour_of self.old))
-            × (flips_of (tour_of self.new) ≡ flips_of (tour_of self.old))
-            × (undo_swaps_of (tour_of self.new) ≡ undo_swaps_of (tour_of self.old)) }
+        ensures copied { copied_of self.new ≡ saturated (copied_of self.old + length (order_of other.now)) }
+        ensures others { (swaps_of self.new ≡ swaps_of self.old) × (flips_of self.new ≡ flips_of self.old)
+            × (undo_swaps_of self.new ≡ undo_swaps_of self.old) }
         ensures slots { slots_of self.new ≡ slots_of self.old }
     {
-        self.tour.copy_from(other);
+        self.take_order(other.order());
+    }
+
+    /// Takes the order of a list of the same cities, and settles there.
+    pub fn take_order(&mut self, cities: &[u32])
+        requires tour { IsSizedTour cities.now }
+        requires size { length (cities_of self.old) ≡ length cities.now }
+        ensures order { cities_of self.new ≡ cities.now }
+        ensures settled { settled_order self.new ≡ cities.now }
+        ensures swaps { swaps_to_rewind self.new ≡ 0 }
+        ensures flips { flips_since self.new ≡ 0 }
+        ensures copied { copied_of self.new ≡ saturated (copied_of self.old + length cities.now) }
+        ensures others { (swaps_of self.new ≡ swaps_of self.old) × (flips_of self.new ≡ flips_of self.old)
+            × (undo_swaps_of self.new ≡ undo_swaps_of self.old) }
+        ensures slots { slots_of self.new ≡ slots_of self.old }
+    {
+        self.tour.take_order(cities);
         self.settle();
     }
 }

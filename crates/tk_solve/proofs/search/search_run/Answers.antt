@@ -1,4 +1,5 @@
-use Rattle.std.proofs.Common.{◌≡◌, ◌+◌, ℕ, ℤ, List, [], FitsSigned, w64, pos, ap, ◌∙◌, subst, arith, rules}
+use Rattle.std.proofs.Common.{◌≡◌, ◌+◌, ◌<◌, ◌≤◌, ℕ, ℤ, List, [], FitsSigned, w64, pos, nat_lt, ap, sym, ◌∙◌, subst, arith, rules}
+use Rattle.std.specs.Prelude.{if◌then◌else◌}
 use Rattle.std.proofs.lemmas.Int.{to_z-of_z}
 use mir.Val.{to_z, of_z}
 use Rattle.rand_core.specs.Steps.{stream_of, steps_u32}
@@ -34,14 +35,20 @@ loop-trial-preserved g c =
     let shown = subst (Shown after shortest) c.best.ensures (subst (λ best. Shown after best c.best.result.now) best_is lengths) in
     (_, (tried c.loop-trial.invariant.1.0 c.trial-report.ensures.next, next c.loop-trial.invariant.1.1 shown))
 
+one_trial : (size trials : ℕ) → size < 8 → (if nat_lt size 8 then 1 else trials) ≡ 1
+one_trial size trials few = search rules
+
+all_trials : (size trials : ℕ) → 8 ≤ size → (if nat_lt size 8 then 1 else trials) ≡ trials
+all_trials size trials many = search rules
+
 pub returns : goal.returns
 returns g c =
     let words = words_of (c.args.options.now.seed + c.args.j) in
     let task : TourTask = task_over (g.M.Metric.size_of c.args.metric.now) (g.M.Metric.distance c.args.metric.now) c.args.options.now in
     let all : c.if-size-lt8.trials ≡ trials_of task =
     elim c.if-size-lt8.branch [
-      | then-size-lt8 w ↦ search (rules, c.size.ensures, w.if-size-lt8, w.trials-is)
-      | else-size-lt8 w ↦ search (rules, c.size.ensures, w.if-size-lt8, w.trials-is)
+      | then-size-lt8 w ↦ w.trials-is ∙ sym (one_trial task.size task.trials (omega (arith, c.size.ensures, w.if-size-lt8)))
+      | else-size-lt8 w ↦ w.trials-is ∙ sym (all_trials task.size task.trials (omega (arith, c.size.ensures, w.if-size-lt8)))
     ] in
     let count : c.loop-trial.trial ≡ trials_of task = omega (arith, c.loop-trial-test.false, c.loop-trial.auto.trial-end, all) in
     let shown = c.loop-trial.invariant.0 in

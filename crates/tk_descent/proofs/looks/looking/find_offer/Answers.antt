@@ -9,7 +9,7 @@ use Rattle.tk_descent.proofs.MovesOnTours.Rounds.{round_of}
 use Rattle.tk_descent.proofs.looks.looking.find_offer.Goals as goal
 
 pub loop-y-init : goal.loop-y-init
-loop-y-init g c = Searched-none (g.M.Metric.distance c.args.metric.now) _ search
+loop-y-init g c = record { searched = Searched-none (g.M.Metric.distance c.args.metric.now) _ search; known = c.look_beside-from.ensures.known }
 
 pub returns-in-Some-clause-searched : goal.returns-in-Some-clause-searched
 returns-in-Some-clause-searched g c =
@@ -17,7 +17,7 @@ returns-in-Some-clause-searched g c =
     let C = g.S.TourStore.cities c.args.tour.now in
     let ss = segments (next_city C) (prev_city C) (length C) c.args.or_segment c.args.city in
     on_list d _ _ _ _ _ (ap (flat_map (offers_with (next_city C) (prev_city C) ss c.args.city)) c.of-y-items.ensures.value)
-    (Searched-early d (offers_with (next_city C) (prev_city C) ss c.args.city) c.of-y-items.result.now c.loop-y.y-index 0 c.loop-y-test.true _ _ _ _ c.loop-y.invariant
+    (Searched-early d (offers_with (next_city C) (prev_city C) ss c.args.city) c.of-y-items.result.now c.loop-y.y-index 0 c.loop-y-test.true _ _ _ _ c.loop-y.invariant.searched
     (with_city (next_city C) (prev_city C) ss _ c.look_beside-from.result c.look_beside-y.result _ _ d _ _ _ c.look_beside-from.ensures.city c.look_beside-from.ensures.after c.look_beside-from.ensures.before c.look_beside-y.ensures.city c.look_beside-y.ensures.after c.look_beside-y.ensures.before
     (pieces_are (next_city C) (prev_city C) (length C) c.args.or_segment _ c.args.city _ _ (c.segment_count.ensures.value ∙ ap (λ z. segment_count z c.args.or_segment) c.size.ensures.count) c.look_beside-from.ensures.city c.pieces_of-all.ensures.value) c.in-Some.ensures))
 
@@ -26,9 +26,12 @@ loop-y-preserved g c =
     let d = g.M.Metric.distance c.args.metric.now in
     let C = g.S.TourStore.cities c.args.tour.now in
     let ss = segments (next_city C) (prev_city C) (length C) c.args.or_segment c.args.city in
-    Searched-more d (offers_with (next_city C) (prev_city C) ss c.args.city) c.of-y-items.result.now c.loop-y.y-index 0 c.loop-y-test.true _ _ _ c.loop-y.invariant
-    (with_city (next_city C) (prev_city C) ss _ c.look_beside-from.result c.look_beside-y.result _ _ d _ _ _ c.look_beside-from.ensures.city c.look_beside-from.ensures.after c.look_beside-from.ensures.before c.look_beside-y.ensures.city c.look_beside-y.ensures.after c.look_beside-y.ensures.before
-    (pieces_are (next_city C) (prev_city C) (length C) c.args.or_segment _ c.args.city _ _ (c.segment_count.ensures.value ∙ ap (λ z. segment_count z c.args.or_segment) c.size.ensures.count) c.look_beside-from.ensures.city c.pieces_of-all.ensures.value) c.in_default.ensures)
+    record {
+      searched = Searched-more d (offers_with (next_city C) (prev_city C) ss c.args.city) c.of-y-items.result.now c.loop-y.y-index 0 c.loop-y-test.true _ _ _ c.loop-y.invariant.searched
+          (with_city (next_city C) (prev_city C) ss _ c.look_beside-from.result c.look_beside-y.result _ _ d _ _ _ c.look_beside-from.ensures.city c.look_beside-from.ensures.after c.look_beside-from.ensures.before c.look_beside-y.ensures.city c.look_beside-y.ensures.after c.look_beside-y.ensures.before
+          (pieces_are (next_city C) (prev_city C) (length C) c.args.or_segment _ c.args.city _ _ (c.segment_count.ensures.value ∙ ap (λ z. segment_count z c.args.or_segment) c.size.ensures.count) c.look_beside-from.ensures.city c.pieces_of-all.ensures.value) c.in_default.ensures);
+      known = c.look_beside-y.ensures.known;
+    }
 
 pub returns-in-Some-clause-on_cycle : goal.returns-in-Some-clause-on_cycle
 returns-in-Some-clause-on_cycle g c =
@@ -45,4 +48,4 @@ returns-in-Some-clause-bound g c =
 pub returns-clause-bound : goal.returns-clause-bound
 returns-clause-bound g c =
     tested_part (g.M.Metric.distance c.args.metric.now) (g.S.TourStore.cities c.args.tour.now) c.of-y-items.result.now c.args.or_segment c.args.city c.loop-y.y-index _ _ c.args.near.now.width _ c.requires.most.0
-    (omega (arith, c.of-y-items.ensures.count)) c.loop-y.invariant
+    (omega (arith, c.of-y-items.ensures.count)) c.loop-y.invariant.searched

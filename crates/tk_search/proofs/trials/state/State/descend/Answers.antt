@@ -4,8 +4,7 @@ use Rattle.std.specs.Prelude.{pos}
 use Rattle.tk_problem.specs.declared.limits.TheConstants.{CITY_LIMIT}
 use Rattle.tk_descent.proofs.WakeRuns.DescentSteps.{fits_length}
 use Rattle.tk_tour.specs.Tour.{tour_length}
-use Rattle.tk_tour.specs.ArrayTours.{order_of}
-use Rattle.tk_tour.specs.JournalTours.{tour_of, slots_of, flips_since, KeepsSettled}
+use Rattle.tk_tour.specs.JournalTours.{cities_of, slots_of, flips_since, KeepsSettled}
 use Rattle.tk_search.proofs.SearchTrials.TrialSteps.{same_size, less_of, gain_is, gain_bits, moves_gain}
 use Rattle.tk_search.proofs.trials.state.State.descend.Goals as goal
 use Rattle.tk_search.proofs.trials.state.State.descend.Goals.{then-better, else-better}
@@ -20,14 +19,14 @@ returns-clause-trial g c =
     let old = c.args.self.now.tour in
     let tour = c.descend_by-passes.new.store in
     let kept : KeepsSettled old tour = e.flips_only in
-    let few : length (order_of (tour_of old)) ≤ CITY_LIMIT = omega (arith, c.requires.size, c.requires.fits.0, g.met.M.Metric.size_limit m) in
-    let bound = fits_length (g.M.Metric.distance m) (order_of (tour_of old)) (g.met.M.Metric.symmetric m, g.met.M.Metric.diagonal m, g.met.M.Metric.distance_limit m) few in
+    let few : length (cities_of old) ≤ CITY_LIMIT = omega (arith, c.requires.size, c.requires.fits.0, g.met.M.Metric.size_limit m) in
+    let bound = fits_length (g.M.Metric.distance m) (cities_of old) (g.met.M.Metric.symmetric m, g.met.M.Metric.diagonal m, g.met.M.Metric.distance_limit m) few in
     let exact : flips_since tour ≡ flips_since old + kept.flipped.flips = omega (arith, kept.flips, e.flips, e.moves, bound, c.requires.flips) in
     let fa : SFits w64 c.descend_by-passes.result.descent.after = search rules in
     let fb : SFits w64 c.args.self.now.shortest = search rules in
     let fp : SFits w64 c.args.before = search rules in (
       record {
-        found = order_of (tour_of tour);
+        found = cities_of tour;
         descends = e.descends;
         flips = kept.flipped.flips;
         swaps = kept.flipped.swaps;

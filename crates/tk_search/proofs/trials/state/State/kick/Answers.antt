@@ -3,16 +3,19 @@ use Rattle.std.proofs.lemmas.Int.{ints}
 use Rattle.tk_problem.specs.declared.limits.TheConstants.{CITY_LIMIT}
 use Rattle.tk_descent.proofs.WakeRuns.DescentSteps.{fits_length}
 use Rattle.tk_descent.specs.Awake.{one_to, woken_each}
-use Rattle.tk_tour.specs.ArrayTours.{order_of}
-use Rattle.tk_tour.specs.JournalTours.{tour_of}
+use Rattle.tk_tour.specs.JournalTours.{cities_of, tour_of}
 use Rattle.tk_search.specs.Cuts.{AreCuts, drawn_cuts}
 use Rattle.tk_search.proofs.DoubleBridge.Kicks.{length_at_ends}
 use Rattle.tk_search.proofs.SearchTrials.Woken.{ends_are_cities}
 use Rattle.tk_search.proofs.trials.state.State.kick.Goals as goal
 
+pub bridged_length-requires-clause-cities : goal.bridged_length-requires-clause-cities
+bridged_length-requires-clause-cities g c =
+    ends_are_cities (cities_of c.args.self.now.tour) _ _ _ (g.met.S.TourStore.is_tour (tour_of c.args.self.now.tour)).2 c.draw-cuts.result c.size.ensures c.draw-cuts.ensures.cuts c.ends-ends.ensures (sym c.requires.fits.0)
+
 pub wake_kicked-requires : goal.wake_kicked-requires
 wake_kicked-requires g c =
-    ends_are_cities (order_of (tour_of c.args.self.now.tour)) _ _ _ c.args.self.now.tour.tour.tour.2 c.draw-cuts.result c.size.ensures c.draw-cuts.ensures.cuts c.ends-ends.ensures (sym c.requires.fits.1)
+    ends_are_cities (cities_of c.args.self.now.tour) _ _ _ (g.met.S.TourStore.is_tour (tour_of c.args.self.now.tour)).2 c.draw-cuts.result c.size.ensures c.draw-cuts.ensures.cuts c.ends-ends.ensures (sym c.requires.fits.1)
 
 pub returns-clause-kicked : goal.returns-clause-kicked
 returns-clause-kicked g c = (
@@ -31,7 +34,7 @@ pub bridged_length-requires-clause-before : goal.bridged_length-requires-clause-
 bridged_length-requires-clause-before g c =
     let m = c.args.metric.now in
     let d = g.M.Metric.distance m in
-    let C : List ℕ = order_of (tour_of c.args.self.now.tour) in
+    let C : List ℕ = cities_of c.args.self.now.tour in
     let few : length C ≤ CITY_LIMIT = omega (arith, c.requires.fits.0, g.met.M.Metric.size_limit m) in
     let bound = fits_length d C (g.met.M.Metric.symmetric m, g.met.M.Metric.diagonal m, g.met.M.Metric.distance_limit m) few in
     (omega (arith, ints, c.requires.shortest, bound), omega (arith, ints, c.requires.shortest, bound))
@@ -40,8 +43,8 @@ pub returns-clause-length : goal.returns-clause-length
 returns-clause-length g c =
     let m = c.args.metric.now in
     let d = g.M.Metric.distance m in
-    let C : List ℕ = order_of (tour_of c.args.self.now.tour) in
-    let D : List ℕ = order_of (tour_of c.kick.new.store) in
+    let C : List ℕ = cities_of c.args.self.now.tour in
+    let D : List ℕ = cities_of c.kick.new.store in
     let few : length D ≤ CITY_LIMIT = omega (arith, c.kick.ensures.size, c.requires.fits.0, g.met.M.Metric.size_limit m) in
     let bound = fits_length d D (g.met.M.Metric.symmetric m, g.met.M.Metric.diagonal m, g.met.M.Metric.distance_limit m) few in
     let Are : ℕ → Type 0 = λ v. AreCuts v c.draw-cuts.result in

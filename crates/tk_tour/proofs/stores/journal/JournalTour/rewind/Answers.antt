@@ -5,14 +5,15 @@ use Rattle.tk_tour.proofs.StoredTours.Undoing.{undone_push, swaps_to_undo-push, 
 use Rattle.tk_tour.proofs.stores.journal.JournalTour.rewind.Goals as goal
 
 pub loop-flip-preserved : goal.loop-flip-preserved
-loop-flip-preserved c =
+loop-flip-preserved g c =
     let h = c.loop-flip in
     let f = c.in-Some.flip in
     let rest = c.pop.new.self.items in
+    let order = g.S.TourStore.cities h.self.tour in
     let e : h.self.journal.items ≡ rest ++ f ∷ [] = cc in
     let less = swaps_to_undo-push rest h.self.journal.items f e in
     record {
-      settled = ap (undone rest) c.undo.ensures.places ∙ sym (undone_push rest f h.self.tour.order.items) ∙ ap (λ v. undone v h.self.tour.order.items) (sym e) ∙ h.invariant.settled;
+      settled = ap (undone rest) c.undo.ensures.places ∙ sym (undone_push rest f order) ∙ ap (λ v. undone v order) (sym e) ∙ h.invariant.settled;
       slots = h.invariant.slots;
       not_lost = omega (arith, h.invariant.not_lost);
       swaps = c.undo.ensures.others.0 ∙ h.invariant.swaps;
@@ -22,7 +23,7 @@ loop-flip-preserved c =
     }
 
 pub invariant_of-self-clause-undoes_its_own : goal.invariant_of-self-clause-undoes_its_own
-invariant_of-self-clause-undoes_its_own c =
+invariant_of-self-clause-undoes_its_own g c =
     let h = c.loop-flip in
     let f = c.in-Some.flip in
     let rest = c.pop.new.self.items in
@@ -30,12 +31,12 @@ invariant_of-self-clause-undoes_its_own c =
     omega (arith, swaps_to_undo-push rest h.self.journal.items f e, c.undo.ensures.undo_swaps, c.undo.ensures.others, h.self.undoes_its_own)
 
 pub invariant_of-self-clause-in_range : goal.invariant_of-self-clause-in_range
-invariant_of-self-clause-in_range c =
+invariant_of-self-clause-in_range g c =
     let h = c.loop-flip in
     let f = c.in-Some.flip in
     let rest = c.pop.new.self.items in
-    let order = h.self.tour.order.items in
+    let order = g.S.TourStore.cities h.self.tour in
     let e : h.self.journal.items ≡ rest ++ f ∷ [] = cc in
-    let n : length c.undo.new.self.order.items ≡ length order = ap length c.undo.ensures.places ∙ length-reversed_places (f.first - 1) f.count order in
+    let n : length (g.S.TourStore.cities c.undo.new.self) ≡ length order = ap length c.undo.ensures.places ∙ length-reversed_places (f.first - 1) f.count order in
     let P : ℕ → Type 0 = λ v. AreFlipsOf v rest in
     subst P (sym n) (AreFlipsOf-fewer (length order) rest h.self.journal.items f e h.self.in_range)

@@ -4,15 +4,15 @@ use Rattle.tk_tour.specs.Journal.{undone, swaps_to_undo}
 use Rattle.tk_tour.proofs.stores.journal.JournalTour.rewind.Given as goal
 
 abbrev pub invariant-loop-flip : goal.invariant-loop-flip
-invariant-loop-flip l = record {
-  settled : undone l.self.journal.items l.self.tour.order.items ≡ undone l.initial.self.journal.items l.initial.self.tour.order.items;
+invariant-loop-flip g l = record {
+  settled : undone l.self.journal.items (g.S.TourStore.cities l.self.tour) ≡ undone l.initial.self.journal.items (g.S.TourStore.cities l.initial.self.tour);
   slots : l.self.slots ≡ l.initial.self.slots;
   not_lost : l.self.flips ≤ l.self.slots;
-  swaps : l.self.tour.swaps ≡ l.initial.self.tour.swaps;
-  flips : l.self.tour.flips ≡ l.initial.self.tour.flips;
-  copied : l.self.tour.copied ≡ l.initial.self.tour.copied;
-  undo_swaps : saturated (l.self.tour.undo_swaps + swaps_to_undo l.self.journal.items) ≡ saturated (l.initial.self.tour.undo_swaps + swaps_to_undo l.initial.self.journal.items);
+  swaps : g.S.TourStore.swap_count l.self.tour ≡ g.S.TourStore.swap_count l.initial.self.tour;
+  flips : g.S.TourStore.flip_count l.self.tour ≡ g.S.TourStore.flip_count l.initial.self.tour;
+  copied : g.S.UndoStore.copy_count l.self.tour ≡ g.S.UndoStore.copy_count l.initial.self.tour;
+  undo_swaps : saturated (g.S.UndoStore.undo_count l.self.tour + swaps_to_undo l.self.journal.items) ≡ saturated (g.S.UndoStore.undo_count l.initial.self.tour + swaps_to_undo l.initial.self.journal.items);
 }
 
 abbrev pub decreases-loop-flip : goal.decreases-loop-flip
-decreases-loop-flip l = vec_len l.self.journal
+decreases-loop-flip g l = vec_len l.self.journal

@@ -5,46 +5,49 @@ use Rattle.tk_tour.proofs.StoredTours.Undoing.{undone_flip, swaps_to_undo-push, 
 use Rattle.tk_tour.proofs.stores.journal.JournalTourTourStore.flip.Goals as goal
 
 pub returns-clause-kept : goal.returns-clause-kept
-returns-clause-kept c =
+returns-clause-kept g c =
     let s = c.args.self.now in
     let f = c.flip-flip in
-    let new = f.new.self.order.items in
+    let old = g.S.TourStore.cities s.tour in
+    let new = g.S.TourStore.cities f.new.self in
     let r = c.remember in
+    let same = g.met.S.UndoStore.flips_keep s.tour f.new.self f.ensures.kept in
     record {
       slots = refl;
       flipped =
           record {
             flips = 1;
             swaps = f.result.count / 2;
-            reversed = AreReversed-one s.tour.order.items new (f.result.first - 1) f.result.count f.ensures.places (omega (arith, f.ensures.first)) f.ensures.shorter;
+            reversed = AreReversed-one old new (f.result.first - 1) f.result.count f.ensures.places (omega (arith, f.ensures.first)) f.ensures.shorter;
             flips_are = f.ensures.flips;
             swaps_are = f.ensures.swaps;
-            undo_swaps = f.ensures.kept.undo_swaps;
-            copied = f.ensures.kept.copied;
+            undo_swaps = same.0;
+            copied = same.1;
           };
       flips = omega arith;
       settled = λ le.
           let room : s.flips < s.slots = omega arith in
           ap (λ v. undone v new) (r.ensures.recorded room) ∙
-          undone_flip s.journal.items f.result s.tour.order.items new f.ensures.places (omega (arith, f.ensures.first)) (omega (arith, f.ensures.shorter));
+          undone_flip s.journal.items f.result old new f.ensures.places (omega (arith, f.ensures.first)) (omega (arith, f.ensures.shorter));
       swaps = λ le.
           let room : s.flips < s.slots = omega arith in
           swaps_to_undo-push s.journal.items r.new.journal.items f.result (r.ensures.recorded room);
     }
 
 pub invariant_of-self : goal.invariant_of-self
-invariant_of-self c =
+invariant_of-self g c =
     let s = c.args.self.now in
     let f = c.flip-flip in
     let r = c.remember in
-    let n : length s.tour.order.items ≡ length f.new.self.order.items = sym f.ensures.size in
+    let old = g.S.TourStore.cities s.tour in
+    let n : length old ≡ length (g.S.TourStore.cities f.new.self) = sym f.ensures.size in
     let P : ℕ → Type 0 = λ v. AreFlipsOf v r.new.journal.items in
     record {
       room = r.ensures.room;
       within = r.ensures.within;
       complete = λ le. omega (arith, r.ensures.complete (omega arith));
-      in_range = subst P n (AreFlipsOf-remembered (length s.tour.order.items) s.flips s.slots s.journal.items r.new.journal.items f.result s.in_range
-          (f.ensures.first.0, f.ensures.first.1, omega (arith, f.ensures.shorter)) r.ensures.recorded r.ensures.full);
-      undoes_its_own = omega (arith, s.undoes_its_own, f.ensures.kept.undo_swaps, f.ensures.swaps, swaps_to_undo-remembered s.flips s.slots s.journal.items r.new.journal.items f.result r.ensures.recorded r.ensures.full);
+      in_range = subst P n (AreFlipsOf-remembered (length old) s.flips s.slots s.journal.items r.new.journal.items f.result s.in_range
+          (f.ensures.first.0, f.ensures.first.1, f.ensures.shorter) r.ensures.recorded r.ensures.full);
+      undoes_its_own = omega (arith, s.undoes_its_own, g.met.S.UndoStore.flips_keep s.tour f.new.self f.ensures.kept, f.ensures.swaps, swaps_to_undo-remembered s.flips s.slots s.journal.items r.new.journal.items f.result r.ensures.recorded r.ensures.full);
       fits = omega arith;
     }
