@@ -5,7 +5,7 @@ compile_twin() {
     work=${TMPDIR:-/tmp}/tourkit-bench-$(basename "$here")
     mkdir -p "$work"
     twin=$work/twin
-    rustc --edition 2024 -C opt-level=3 -o "$twin" "${1:-$here}/twin.rs"
+    rustc --edition 2024 -C opt-level=3 --check-cfg 'cfg(segments)' -o "$twin" "${1:-$here}/twin.rs"
 }
 
 # Finds the program of the crate tk_bench, which `rt run` proves and builds, and compiles the twin: it sets $program, $work and $twin.

@@ -5,7 +5,8 @@
 
 use crate::metric::{Metric, Number};
 use crate::near::{Near, Neighbour};
-use crate::tour::{Offer, Tour, at};
+use crate::store::Store;
+use crate::tour::{Offer, Sides, at};
 
 /// The waking cities, first in first out, each at most once.
 pub struct Waking {
@@ -70,21 +71,14 @@ struct Around<L> {
     before: [u32; 3],
     to_after: L,
     to_before: L,
+    place: u32,
 }
 
 impl<L: Number> Around<L> {
     #[inline(always)]
-    fn new<M: Metric<Length = L>>(s: &Tour, metric: &M, x: u32) -> Around<L> {
-        let k = s.place[x as usize] as usize;
-        let (after, before) = if k >= 3 && k + 3 < s.size() {
-            let o = &s.order[k - 3..k + 4];
-            ([o[4], o[5], o[6]], [o[2], o[1], o[0]])
-        } else {
-            let (a, b) = (s.next(x), s.prev(x));
-            let (a2, b2) = (s.next(a), s.prev(b));
-            ([a, a2, s.next(a2)], [b, b2, s.prev(b2)])
-        };
-        Around { after, before, to_after: metric.dist(x, after[0]), to_before: metric.dist(x, before[0]) }
+    fn new<M: Metric<Length = L>>(s: &Store, metric: &M, x: u32) -> Around<L> {
+        let Sides { after, before, place } = s.sides(x);
+        Around { after, before, to_after: metric.dist(x, after[0]), to_before: metric.dist(x, before[0]), place }
     }
 
     #[inline(always)]
@@ -173,9 +167,9 @@ impl<'a, M: Metric> Rules<'a, M> {
 
     /// The bits of the offers of x and y that exist.
     #[inline(always)]
-    fn existing(&self, s: &Tour, x: u32, around: &Around<M::Length>, y: u32, ys: [u32; 2]) -> u32 {
+    fn existing(&self, s: &Store, x: u32, around: &Around<M::Length>, y: u32, ys: [u32; 2], place: u32) -> u32 {
         let n = s.size() as i32;
-        let places = at(&s.place, y as usize) as i32 - at(&s.place, x as usize) as i32;
+        let places = s.ahead(around.place, place);
         if n < 8 {
             return self.offers & existing_by_city(x, &[around.after, around.before], y, ys);
         }
@@ -194,16 +188,16 @@ impl<'a, M: Metric> Rules<'a, M> {
 
     /// The first offer of x with positive gain, and the gain.
     #[inline(always)]
-    fn look(&self, s: &Tour, tests: &mut u64, x: u32) -> Option<(Offer, i64)> {
+    fn look(&self, s: &Store, tests: &mut u64, x: u32) -> Option<(Offer, i64)> {
         let metric = self.metric;
         let around = Around::new(s, metric, x);
         let Pieces { lasts, freed } = around.pieces(metric, x);
         let fan = metric.fan(lasts);
         for &Neighbour { city: y, distance } in self.near.of(x) {
-            let ys = [s.next(y), s.prev(y)];
+            let (ys, place) = s.beside(y);
             let to_ys = ys.map(|w| metric.dist(y, w));
             let across = M::Length::of(distance);
-            let offers = self.existing(s, x, &around, y, ys);
+            let offers = self.existing(s, x, &around, y, ys, place);
             let ends = [around.to_after - across, around.to_before - across];
             let gaining = metric.gaining(&fan, ends, freed.map(|f| f - across), to_ys, ys) & offers;
             if gaining == 0 {
@@ -224,7 +218,7 @@ impl<'a, M: Metric> Rules<'a, M> {
 
     /// The first offer of x with positive gain, and the gain: offers are tested one after another, until one gains.
     #[inline(always)]
-    fn look_in_order(&self, s: &Tour, tests: &mut u64, x: u32) -> Option<(Offer, i64)> {
+    fn look_in_order(&self, s: &Store, tests: &mut u64, x: u32) -> Option<(Offer, i64)> {
         let metric = self.metric;
         let around = Around::new(s, metric, x);
         let Pieces { lasts, freed } = around.pieces(metric, x);
@@ -262,7 +256,7 @@ impl<'a, M: Metric> Rules<'a, M> {
     }
 
     /// Descends from the waking cities on.
-    pub fn descend(&self, s: &mut Tour, waking: &mut Waking) -> Counts {
+    pub fn descend(&self, s: &mut Store, waking: &mut Waking) -> Counts {
         let mut counts = Counts::default();
         while let Some(x) = waking.take() {
             let found = if self.in_order { self.look_in_order(s, &mut counts.tests, x) } else { self.look(s, &mut counts.tests, x) };
@@ -280,7 +274,7 @@ impl<'a, M: Metric> Rules<'a, M> {
     }
 
     /// Descends with all cities awake until a pass makes no move.
-    pub fn descend_swept(&self, s: &mut Tour, waking: &mut Waking) -> Counts {
+    pub fn descend_swept(&self, s: &mut Store, waking: &mut Waking) -> Counts {
         let mut sum = Counts::default();
         loop {
             waking.wake_all(self.cities);

@@ -4,6 +4,7 @@ use crate::descent::{Counts, Rules, Waking};
 use crate::metric::{Metric, Number};
 use crate::near::{Near, Neighbour, near_lists};
 use crate::text::Routing;
+use crate::store::Store;
 use crate::tour::Tour;
 
 /// The pairs of cities but the hub of which one is near the other, where they save anything: the greatest saving first, then by number.
@@ -114,13 +115,13 @@ pub fn solve<M: Metric>(metric: &M, routing: &Routing, max_candidates: usize, m:
         let alone = metric.among(&cities);
         let near = near_lists(&alone, max_candidates.min(route.len()));
         let places: Vec<u32> = (0..cities.len() as u32).collect();
-        let mut tour = Tour::new(&places);
+        let mut tour = Store::new(&places);
         let mut waking = Waking::new(cities.len());
         waking.wake_all(&places);
         let one = Rules::new(&alone, &near, m, &places, false).descend(&mut tour, &mut waking);
         counts = Counts { moves: counts.moves + one.moves, tests: counts.tests + one.tests, gained: counts.gained + one.gained };
         swaps += tour.swaps;
-        *route = Tour::printed(&tour.order)[1..].iter().map(|k| cities[*k as usize]).collect();
+        *route = Tour::printed(&tour.cities())[1..].iter().map(|k| cities[*k as usize]).collect();
         if route[0] > route[route.len() - 1] {
             route.reverse();
         }

@@ -1,11 +1,12 @@
 #!/bin/bash
-# Times `tourkit solve` against its twin in plain Rust on uniform cities, and compares what they write.
+# Times `tourkit solve` against its twins in plain Rust, and compares what they write.
 #
 # usage: bench/solve/run.sh [-n ROUNDS] [-s] [TOURKIT]
 #
 # TOURKIT is a program that has the command solve; without one the twin at its best stands in its place. The table has the least processor
-# time (user and system) of all rounds, 3 by default, in seconds: of tourkit, of the twin where its search goes by the same method, and of
-# the twin at its best (see twin.rs), with the ratios to these two. -s takes a hundredth of the trials.
+# time (user and system) of all rounds, 3 by default, in seconds, with the ratios to that of tourkit: of the twin that keeps the tour in an
+# array and goes by the same method; of the twin that sees it through segments and tests all offers of a candidate at once, with whole-number
+# roots; and of that twin at its best, with the processor's roots (see twin.rs). -s takes a hundredth of the trials.
 set -eu
 here=$(cd "$(dirname "$0")" && pwd)
 . "$here/../programs.sh"
@@ -21,6 +22,8 @@ done
 shift $((OPTIND - 1))
 tourkit=${1:+$(readlink -f "$1")}
 compile_twin
+best=$work/twin-segments
+rustc --edition 2024 -C opt-level=3 --check-cfg 'cfg(segments)' --cfg segments -o "$best" "$here/twin.rs"
 rm -rf "$work/in"
 python3 "$here/instances.py" "$work/in" "$divisor"
 cd "$work/in"
@@ -45,23 +48,26 @@ ratio() {
     awk -v a="$1" -v b="$2" 'BEGIN { if (b > 0) printf "%.2f", a / b; else print "-" }'
 }
 
-printf '%-18s %9s %12s %7s %9s %7s %7s\n' input tourkit same-method ratio at-best ratio bytes
+printf '%-18s %9s %12s %7s %9s %7s %9s %7s %7s\n' input tourkit same-method ratio whole ratio at-best ratio bytes
 for parameters in *.par; do
     input=${parameters%.par}
     rm -f "$work"/*.times
     bytes=same
     round=0
     while [ "$round" -lt "$rounds" ]; do
-        timed best "$twin" "$parameters" >>"$work/best.times"
+        timed best "$best" "$parameters" >>"$work/best.times"
+        timed whole "$best" "$parameters" --whole >>"$work/whole.times"
         timed method "$twin" "$parameters" --same-method >>"$work/method.times"
-        timed tourkit "${tourkit:-$twin}" "$parameters" >>"$work/tourkit.times"
-        for one in best method; do
+        timed tourkit "${tourkit:-$best}" "$parameters" >>"$work/tourkit.times"
+        for one in best whole method; do
             cmp -s "$work/$one.out" "$work/tourkit.out" && cmp -s "$work/$one.file" "$work/tourkit.file" || bytes=differ
         done
         round=$((round + 1))
     done
-    best=$(least "$work/best.times")
-    method=$(least "$work/method.times")
     own=$(least "$work/tourkit.times")
-    printf '%-18s %9s %12s %7s %9s %7s %7s\n' "$input" "$own" "$method" "$(ratio "$own" "$method")" "$best" "$(ratio "$own" "$best")" "$bytes"
+    method=$(least "$work/method.times")
+    whole=$(least "$work/whole.times")
+    best_time=$(least "$work/best.times")
+    printf '%-18s %9s %12s %7s %9s %7s %9s %7s %7s\n' "$input" "$own" "$method" "$(ratio "$own" "$method")" "$whole" "$(ratio "$own" "$whole")" \
+        "$best_time" "$(ratio "$own" "$best_time")" "$bytes"
 done

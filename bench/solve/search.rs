@@ -4,6 +4,7 @@ use crate::descent::{Rules, Waking};
 use crate::metric::{Metric, Number};
 use crate::near::Near;
 use crate::params::Params;
+use crate::store::Store;
 use crate::tour::Tour;
 use std::fmt;
 use std::ops::RangeInclusive;
@@ -74,7 +75,7 @@ struct Search<'a, M> {
     metric: &'a M,
     rules: Rules<'a, M>,
     sweep: bool,
-    tour: Tour,
+    tour: Store,
     waking: Waking,
     totals: Totals,
 }
@@ -103,7 +104,7 @@ impl<M: Metric> Search<'_, M> {
         let p = rng.random_range(1..=n - 3);
         let q = rng.random_range(p + 1..=n - 2);
         let r = rng.random_range(q + 1..=n - 1);
-        let ends = [0, p - 1, p, q - 1, q, r - 1, r, n - 1].map(|k| self.tour.order[k as usize]);
+        let ends = [0, p - 1, p, q - 1, q, r - 1, r, n - 1].map(|k| self.tour.city_at(k));
         let [a1, an, b1, bn, c1, cn, d1, dn] = ends;
         self.tour.flip(an, b1, dn, a1);
         self.tour.flip(an, dn, d1, cn);
@@ -138,7 +139,7 @@ pub fn search<M: Metric>(
         metric,
         rules: Rules::new(metric, near, params.or_segment, &places, params.same_method),
         sweep: params.sweep,
-        tour: Tour::new(&start),
+        tour: Store::new(&start),
         waking: Waking::new(start.len()),
         totals: Totals { start: length, best: length, ..Totals::default() },
     };
@@ -150,5 +151,5 @@ pub fn search<M: Metric>(
         let before = search.kick(&mut rng);
         search.descend(before);
     }
-    (search.tour.order.iter().map(|c| order[*c as usize]).collect(), search.totals)
+    (search.tour.cities().iter().map(|c| order[*c as usize]).collect(), search.totals)
 }

@@ -5,7 +5,8 @@
 //! With --times a line of standard error tells how long each part took. With --as-given the search numbers cities as the problem does,
 //! and not by their places in the start. With --whole distances come from exact roots of whole numbers, as in tourkit; without it those of
 //! EUC_2D come from the processor's roots where these are exact. With --same-method the search does what tourkit's does: both of these,
-//! offers tested one after another until one gains, and segments moved by flips.
+//! offers tested one after another until one gains, and segments of Or-moves moved by flips. Compiled with `--cfg segments`, the search sees
+//! its tour through segments, and else it keeps it in an array.
 
 mod descent;
 mod metric;
@@ -13,7 +14,11 @@ mod near;
 mod params;
 mod routes;
 mod search;
+#[cfg(segments)]
+mod segments;
+mod store;
 mod text;
+#[cfg_attr(segments, allow(dead_code))]
 mod tour;
 
 use metric::{Ceiling, Euclid, Manhattan, Maximum, Metric, Plane, Pseudo, ShortEuclid, Triangle};
