@@ -449,7 +449,7 @@ impl Tour {
         if self.view.seq.len() > 1 {
             self.merge();
             if self.view.seq.len() > KEEP {
-                        self.order = self.virtual_order();
+                self.order = self.virtual_order();
                 self.renumber(0, self.n as usize);
                 self.one_segment();
             }
