@@ -83,6 +83,36 @@ fn whole_att(a: Whole, b: Whole) -> i64 {
     whole_up(whole_square(a, b), 10)
 }
 
+// ---- whole numbers of a unit, of which `units` make one
+
+#[inline]
+fn unit_exact(a: Whole, b: Whole, units: u64) -> i64 {
+    let square = whole_square(a, b);
+    let guess = ((square as i64 as f64).sqrt() / units as f64 + 0.5) as u64;
+    if half_reaches(square, guess, units) && !half_reaches(square, guess + 1, units) {
+        guess as i64
+    } else {
+        unit_searched(square, guess, units)
+    }
+}
+
+/// Whether d less a half is at most the root of the square.
+#[inline]
+fn half_reaches(square: u64, d: u64, units: u64) -> bool {
+    let twice = ((2 * d).saturating_sub(1) * units) as u128;
+    twice * twice <= 4 * square as u128
+}
+
+#[cold]
+#[inline(never)]
+fn unit_searched(square: u64, guess: u64, units: u64) -> i64 {
+    let mut d = guess + 2;
+    while !half_reaches(square, d, units) {
+        d -= 1;
+    }
+    d as i64
+}
+
 // ---- nine decimals
 
 type Fine = (i64, i64);
@@ -183,6 +213,19 @@ fn time<P: Copy>(name: &str, span: i64, places: &[P], dist: impl Fn(P, P) -> i64
     println!("{name} {span} {sum} {}", best * 1_000 / pairs as u128);
 }
 
+/// Coordinates that are whole numbers of a unit, in 32 bits where these are enough.
+fn time_units(name: &str, span: i64, units: i64) {
+    let unit = UNIT / units;
+    let mut state = 42;
+    let fine: Vec<Fine> =
+        (0..PLACES).map(|_| (coordinate(&mut state, span, unit), coordinate(&mut state, span, unit))).collect();
+    if span * units > UNIT {
+        return time(name, span, &fine, fine_exact);
+    }
+    let places: Vec<Whole> = fine.iter().map(|(x, y)| ((x / unit) as i32, (y / unit) as i32)).collect();
+    time(name, span, &places, |a, b| unit_exact(a, b, units as u64));
+}
+
 fn main() {
     for span in [10, 1_000, 1_000_000, 100_000_000, 1_000_000_000] {
         let mut state = 42;
@@ -202,6 +245,8 @@ fn main() {
             })
             .collect();
         time("EUC_2D/whole", span, &whole, whole_exact);
+        time_units("EUC_2D/tenths", span, 10);
+        time_units("EUC_2D/thousandths", span, 1_000);
         time("EUC_2D/decimals", span, &fine, fine_exact);
         time("CEIL_2D/whole", span, &whole, whole_ceiling);
         time("CEIL_2D/decimals", span, &fine, fine_ceiling);

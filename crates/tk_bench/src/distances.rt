@@ -55,10 +55,12 @@ pub fn run_small(rt: &HostRuntime) -> anyhow::Result<()> {
     Ok(())
 }
 
-/// Each kind of distances, among whole coordinates and among decimal ones.
+/// Each kind of distances, among whole coordinates and among decimal ones, which are nine decimals if not told.
 fn measure_all(rt: &HostRuntime, times: Times, span: i64, sizes: Sizes) -> io::Result<()> {
     for (name, kind, unit) in [
         ("EUC_2D/whole", PlaneKind::Euc2d, SCALE),
+        ("EUC_2D/tenths", PlaneKind::Euc2d, SCALE / 10),
+        ("EUC_2D/thousandths", PlaneKind::Euc2d, SCALE / 1_000),
         ("EUC_2D/decimals", PlaneKind::Euc2d, 1),
         ("CEIL_2D/whole", PlaneKind::Ceil2d, SCALE),
         ("CEIL_2D/decimals", PlaneKind::Ceil2d, 1),

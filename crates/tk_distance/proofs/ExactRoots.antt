@@ -1,3 +1,4 @@
 pub mod Covering
 pub mod RootLemmas
 pub mod Rounding
+pub mod Units

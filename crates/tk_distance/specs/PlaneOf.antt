@@ -20,7 +20,7 @@ city_distance kind places a b = distance_of kind (city_place places a) (city_pla
 abbrev pub IsCityDistance : PlaneKind → List Point → ℕ → ℕ → ℕ → Type 0
 IsCityDistance kind places a b d = IsDistanceOf kind (city_place places a) (city_place places b) d
 
--- places whose coordinates are all whole numbers, and kept as such
+-- places whose coordinates are all whole numbers of a unit, and kept as such
 abbrev pub AreWhole : Places → Type 0
-AreWhole (Whole _) = ⊤
+AreWhole (Whole _ _) = ⊤
 AreWhole (Fine _) = ⊥

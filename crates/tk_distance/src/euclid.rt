@@ -1,22 +1,24 @@
 //! Distances of the commonest kind.
-ghost use Rattle.std.specs.Prelude.{◌≡◌, ◌≤◌, All, length};
+ghost use Rattle.std.specs.Prelude.{◌≡◌, ◌≤◌, ◌*◌, All, length};
 ghost use Rattle.tk_problem.specs.declared.limits.TheConstants.{CITY_LIMIT};
 ghost use Rattle.tk_problem.specs.Places.{IsNearOrigin};
 ghost use Rattle.tk_problem.specs.PlacesOf.{places_of};
 ghost use Rattle.tk_problem.specs.declared.points.Places.TheVariants.{Whole};
 
+use crate::exact::units::rounded_length;
 use crate::exact::whole::{is_whole_nearer, whole_between};
 use crate::metric::{BothAxes, Metric, Planar};
 use crate::planes::bound_of;
-use tk_problem::{PlaneKind, Point, WholePoint};
+use tk_problem::{PlaneKind, Point, Unit, WholePoint};
 
-/// The EUC_2D distances among places of whole coordinates, as [`Planes`](crate::Planes) has them: neither the kind nor
-/// the form of the coordinates is looked up for each.
+/// The EUC_2D distances among places in whole numbers of a unit, as [`Planes`](crate::Planes) has them: neither the
+/// kind nor the form of the coordinates is looked up for each.
 #[derive(Clone, Copy)]
 pub struct Euclid<'a> {
+    pub unit: Unit,
     pub places: &'a [WholePoint],
-    ghost near: { All IsNearOrigin (places_of (Whole places)) },
-    ghost few: { length (places_of (Whole places)) ≤ CITY_LIMIT },
+    ghost near: { All IsNearOrigin (places_of (Whole unit places)) },
+    ghost few: { length (places_of (Whole unit places)) ≤ CITY_LIMIT },
 }
 
 impl Metric for Euclid<'_> {
@@ -24,18 +26,18 @@ impl Metric for Euclid<'_> {
     ghost use Rattle.tk_distance.specs.PlaneOf.{city_place, city_distance};
     ghost use Rattle.tk_distance.specs.Laws.Planes.{distance_of-swap, distance_of-same, city_distance-limit};
 
-    ghost size_of = { λ m. length (places_of (Whole m.places)) };
+    ghost size_of = { λ m. length (places_of (Whole m.unit m.places)) };
 
-    ghost distance = { λ m. city_distance Euc2d (places_of (Whole m.places)) };
+    ghost distance = { λ m. city_distance Euc2d (places_of (Whole m.unit m.places)) };
 
     ghost size_limit = { λ m. m.few };
 
-    ghost symmetric = { λ m a b. distance_of-swap Euc2d (city_place (places_of (Whole m.places)) a)
-        (city_place (places_of (Whole m.places)) b) };
+    ghost symmetric = { λ m a b. distance_of-swap Euc2d (city_place (places_of (Whole m.unit m.places)) a)
+        (city_place (places_of (Whole m.unit m.places)) b) };
 
-    ghost diagonal = { λ m a. distance_of-same Euc2d (city_place (places_of (Whole m.places)) a) };
+    ghost diagonal = { λ m a. distance_of-same Euc2d (city_place (places_of (Whole m.unit m.places)) a) };
 
-    ghost distance_limit = { λ m. city_distance-limit Euc2d (places_of (Whole m.places)) m.near };
+    ghost distance_limit = { λ m. city_distance-limit Euc2d (places_of (Whole m.unit m.places)) m.near };
 
     #[inline]
     fn size(&self) -> u32 {
@@ -45,7 +47,7 @@ impl Metric for Euclid<'_> {
     #[inline(always)]
     fn dist(&self, a: u32, b: u32) -> i64 {
         let (a, b) = (a as usize - 1, b as usize - 1);
-        whole_between(PlaneKind::Euc2d, self.places[a], self.places[b]) as i64
+        whole_between(PlaneKind::Euc2d, self.unit, self.places[a], self.places[b]) as i64
     }
 
     #[inline(always)]
@@ -53,6 +55,7 @@ impl Metric for Euclid<'_> {
         let (a, b) = (a as usize - 1, b as usize - 1);
         is_whole_nearer(
             PlaneKind::Euc2d,
+            self.unit,
             self.places[a],
             self.places[b],
             bound_of(limit),
@@ -61,19 +64,22 @@ impl Metric for Euclid<'_> {
 }
 
 impl Planar for Euclid<'_> {
-    ghost use Rattle.tk_distance.specs.WholeCities.{whole_city_place, whole_gap-limit, whole_floor};
+    ghost use Rattle.tk_problem.specs.declared.weights.PlaneKind.TheVariants.{Euc2d};
+    ghost use Rattle.tk_problem.specs.Units.{step_of};
+    ghost use Rattle.tk_distance.specs.PlaneDistance.{distance_at};
+    ghost use Rattle.tk_distance.specs.WholeCities.{whole_city_place, whole_gap-limit, whole_floor, whole_floor-rises};
 
     ghost place_of = { λ m c. whole_city_place m.places.now c };
 
-    ghost floor = { λ m dx. dx };
+    ghost floor = { λ m dx. distance_at Euc2d (dx * step_of m.unit) 0 };
 
     ghost wide = { λ m. whole_gap-limit m.places.now };
 
-    ghost floor_rises = { λ m s t below _. below };
+    ghost floor_rises = { λ m s t below _. whole_floor-rises m.unit s t below };
 
-    ghost floor_bounds = { λ m. whole_floor m.places };
+    ghost floor_bounds = { λ m. whole_floor m.unit m.places };
 
-    /// The place of a city in whole numbers: a difference in x, or in y, is then at most the distance itself.
+    /// The place of a city in whole numbers of the unit.
     #[inline(always)]
     fn place(&self, c: u32) -> Point {
         let place = self.places[c as usize - 1];
@@ -85,7 +91,7 @@ impl Planar for Euclid<'_> {
 
     #[inline(always)]
     fn floor_x(&self, dx: u64) -> i64 {
-        dx as i64
+        rounded_length(self.unit, dx) as i64
     }
 }
 
@@ -94,5 +100,5 @@ impl BothAxes for Euclid<'_> {
 
     ghost tall = { λ m. whole_gap_y-limit m.places.now };
 
-    ghost floor_bounds_y = { λ m. whole_floor_y m.places };
+    ghost floor_bounds_y = { λ m. whole_floor_y m.unit m.places };
 }

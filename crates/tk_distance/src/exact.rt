@@ -1,8 +1,9 @@
-//! Distances by exact whole arithmetic: of whole coordinates, and of coordinates with decimals.
+//! Distances by exact whole arithmetic: of coordinates that are whole numbers of a unit, and of others.
 
 pub mod fine;
 pub mod guess;
 pub mod lines;
 pub mod roots;
 pub mod short;
+pub mod units;
 pub mod whole;

@@ -39,13 +39,13 @@ impl<'a> Planes<'a> {
     }
 
     /// The same distances without a look at the kind and at the form of the coordinates, if they are those of EUC_2D
-    /// among whole ones.
+    /// among whole numbers of a unit.
     pub fn euclid(&self) -> Option<Euclid<'a>>
-        ensures some { IfSome result (λ e. (self.now.kind ≡ Euc2d) × (self.now.places ≡ Whole e.places)) }
+        ensures some { IfSome result (λ e. (self.now.kind ≡ Euc2d) × (self.now.places ≡ Whole e.unit e.places)) }
         ensures none { result ≡ None → self.now.kind ≡ Euc2d → AreWhole self.now.places → ⊥ }
     {
         match (self.kind, self.places) {
-            (PlaneKind::Euc2d, Places::Whole(places)) => Some(Euclid { places }),
+            (PlaneKind::Euc2d, Places::Whole(unit, places)) => Some(Euclid { unit, places }),
             _ => None,
         }
     }
@@ -84,7 +84,9 @@ impl Metric for Planes<'_> {
     {
         let (a, b) = (a as usize - 1, b as usize - 1);
         match self.places {
-            Places::Whole(places) => whole_between(self.kind, places[a], places[b]) as i64,
+            Places::Whole(unit, places) => whole_between(
+                self.kind, unit, places[a], places[b],
+            ) as i64,
             Places::Fine(places) => fine_between(self.kind, places[a], places[b]) as i64,
         }
     }
@@ -94,7 +96,9 @@ impl Metric for Planes<'_> {
         let (a, b) = (a as usize - 1, b as usize - 1);
         let bound = bound_of(limit);
         match self.places {
-            Places::Whole(places) => is_whole_nearer(self.kind, places[a], places[b], bound),
+            Places::Whole(unit, places) => {
+                is_whole_nearer(self.kind, unit, places[a], places[b], bound)
+            }
             Places::Fine(places) => is_fine_nearer(self.kind, places[a], places[b], bound),
         }
     }

@@ -5,6 +5,8 @@
 #[cfg(test)]
 mod columns;
 #[cfg(test)]
+mod decimals;
+#[cfg(test)]
 mod distances;
 #[cfg(test)]
 mod examples;

@@ -1,7 +1,9 @@
+pub mod Laws
 pub mod Places
 pub mod PlacesOf
 pub mod Shape
 pub mod Stored
+pub mod Units
 pub mod WeightLines
 pub mod WeightOrder
 pub mod WeightsSoFar

@@ -1,10 +1,9 @@
 -- Places in the plane.
-use Rattle.std.specs.Prelude.{ℕ, ◌≤◌, ◌*◌, pos, ◌*ℤ◌}
+use Rattle.std.specs.Prelude.{ℕ, ◌≤◌, ◌*◌, pos}
 use Rattle.std.specs.Int.RustNames.{unsigned_abs}
 use Rattle.tk_problem.specs.declared.limits.TheConstants.{COORDINATE_LIMIT}
 use Rattle.tk_problem.specs.declared.point.TheConstants.{SCALE}
 use Rattle.tk_problem.specs.declared.point.Point.{Point}
-use Rattle.tk_problem.specs.declared.point.WholePoint.{WholePoint}
 
 -- how many units make one
 abbrev pub scale : ℕ
@@ -21,7 +20,3 @@ origin = record { x = pos 0; y = pos 0 }
 pub record IsNearOrigin (p : Point) : Type 0 where
   pub x : unsigned_abs p.x ≤ greatest_coordinate
   pub y : unsigned_abs p.y ≤ greatest_coordinate
-
--- a place of whole coordinates, in units of 10^-9
-abbrev pub place_of_whole : WholePoint → Point
-place_of_whole p = record { x = p.x *ℤ SCALE; y = p.y *ℤ SCALE }

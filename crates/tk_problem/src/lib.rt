@@ -8,6 +8,7 @@ mod point;
 mod points;
 mod problem;
 mod routing;
+mod unit;
 mod weight_order;
 mod weights;
 
@@ -21,5 +22,6 @@ pub use point::{Point, SCALE, WholePoint};
 pub use points::{Places, Points};
 pub use problem::Problem;
 pub use routing::Routing;
+pub use unit::Unit;
 pub use weight_order::WeightCursor;
 pub use weights::{Format, PlaneKind, Weights};

@@ -1,13 +1,17 @@
 //! Lists of places.
-ghost use Rattle.std.specs.Prelude.{◌≡◌, ◌<◌, List, All, IfOk, OnOk, OnErr, length, slice_index_or, slice_set, replicate, map};
+ghost use Rattle.std.specs.Prelude.{◌≡◌, ◌<◌, List, All, IfOk, IfSome, OnOk, OnErr, length, slice_index_or, slice_set, replicate, map};
 ghost use Rattle.tk_problem.specs.declared.point.Point.{Point};
-ghost use Rattle.tk_problem.specs.Places.{IsNearOrigin, origin, place_of_whole};
+ghost use Rattle.tk_problem.specs.Places.{IsNearOrigin, origin};
+ghost use Rattle.tk_problem.specs.Units.{place_in};
+ghost use Rattle.tk_problem.specs.Stored.{stored_places, IsStoredNear};
 
 use crate::point::{Point, WholePoint};
+use crate::unit::Unit;
 use std::alloc::{AllocError, Global};
 use std::marker::Model;
 
-/// A list of places, whole coordinates in half the memory. No coordinate is over 10^9 in magnitude.
+/// A list of places, in half the memory where all coordinates are whole numbers of a unit. No coordinate is over 10^9
+/// in magnitude.
 #[derive(Drop)]
 pub struct Points {
     alloc: Global,
@@ -16,15 +20,15 @@ pub struct Points {
 
 #[derive(Drop)]
 enum Stored {
-    Whole(Vec<WholePoint>),
+    Whole(Unit, Vec<WholePoint>),
     Fine(Vec<Point>),
 }
 
 /// The places of a list, as it keeps them.
 #[derive(Clone, Copy)]
 pub enum Places<'a> {
-    /// Places whose coordinates are all whole numbers.
-    Whole(&'a [WholePoint]),
+    /// Places whose coordinates are all whole numbers of a unit.
+    Whole(Unit, &'a [WholePoint]),
     /// Places in units of 10^-9.
     Fine(&'a [Point]),
 }
@@ -55,7 +59,7 @@ impl Points {
         let places = vec![in alloc; WholePoint { x: 0, y: 0 }; n]?;
         Ok(Points {
             alloc,
-            stored: Stored::Whole(places),
+            stored: Stored::Whole(Unit::One, places),
         })
     }
 
@@ -64,7 +68,7 @@ impl Points {
         ensures { result ≡ length self.now }
     {
         match &self.stored {
-            Stored::Whole(places) => places.len(),
+            Stored::Whole(_, places) => places.len(),
             Stored::Fine(places) => places.len(),
         }
     }
@@ -76,12 +80,13 @@ impl Points {
         ensures near { IsNearOrigin result }
     {
         match &self.stored {
-            Stored::Whole(places) => places[index].place(),
+            Stored::Whole(unit, places) => unit.place(places[index]),
             Stored::Fine(places) => places[index],
         }
     }
 
-    /// Writes a place. The first one that is not whole moves the list to places in units of 10^-9.
+    /// Writes a place. One that is not whole in the unit of the list moves the list to a finer unit, or to units of
+    /// 10^-9.
     ///
     /// # Errors
     /// `AllocError` if the list must move and there is no memory for it. The places are unchanged then.
@@ -91,21 +96,20 @@ impl Points {
         ensures ok { OnOk result (self.new ≡ slice_set self.old index place) }
         ensures err { OnErr result (self.new ≡ self.old) }
     {
-        let mut fine = match &mut self.stored {
-            Stored::Whole(places) => match WholePoint::of(place) {
-                Some(whole) => {
+        let moved = match &mut self.stored {
+            Stored::Whole(unit, places) => {
+                if let Some(whole) = unit.whole(place) {
                     places[index] = whole;
                     return Ok(());
                 }
-                None => refined(self.alloc, places)?,
-            },
+                put(self.alloc, *unit, places, index, place)?
+            }
             Stored::Fine(places) => {
                 places[index] = place;
                 return Ok(());
             }
         };
-        fine[index] = place;
-        self.stored = Stored::Fine(fine);
+        self.stored = moved;
         Ok(())
     }
 
@@ -115,7 +119,7 @@ impl Points {
         ensures near { All IsNearOrigin self.now }
     {
         match &self.stored {
-            Stored::Whole(places) => Places::Whole(places),
+            Stored::Whole(unit, places) => Places::Whole(*unit, places),
             Stored::Fine(places) => Places::Fine(places),
         }
     }
@@ -130,7 +134,7 @@ impl Places<'_> {
         ensures { result ≡ length (places_of self.entry) }
     {
         match self {
-            Places::Whole(places) => places.len(),
+            Places::Whole(_, places) => places.len(),
             Places::Fine(places) => places.len(),
         }
     }
@@ -142,15 +146,61 @@ impl Places<'_> {
         ensures { result ≡ slice_index_or (places_of self.entry) index origin }
     {
         match self {
-            Places::Whole(places) => places[index].place(),
+            Places::Whole(unit, places) => unit.place(places[index]),
             Places::Fine(places) => places[index],
         }
     }
 }
 
-/// Whole places in units of 10^-9.
-fn refined(alloc: Global, places: &[WholePoint]) -> Result<Vec<Point>, AllocError>
-    ensures { IfOk result (λ fine. fine.items ≡ map place_of_whole places.now) }
+/// Whole places, and one that is not whole in their unit: in the unit that it needs, or in units of 10^-9 where that does
+/// not serve the others.
+fn put(
+    alloc: Global,
+    unit: Unit,
+    places: &[WholePoint],
+    index: usize,
+    place: Point,
+) -> Result<Stored, AllocError>
+    requires index { index < length places.now }
+    requires near { IsNearOrigin place }
+    ensures places { IfOk result (λ stored. stored_places stored
+        ≡ slice_set (map (place_in unit) places.now) index place) }
+    ensures near { IfOk result IsStoredNear }
 {
-    places.iter().map(|place| place.place()).collect(alloc)
+    if let Some((finer, whole)) = Unit::of(place) {
+        if let Some(mut moved) = moved(alloc, unit, places, finer)? {
+            moved[index] = whole;
+            return Ok(Stored::Whole(finer, moved));
+        }
+    }
+    let mut fine = refined(alloc, unit, places)?;
+    fine[index] = place;
+    Ok(Stored::Fine(fine))
+}
+
+/// Whole places in another unit, if they are whole in it.
+fn moved(
+    alloc: Global,
+    unit: Unit,
+    places: &[WholePoint],
+    other: Unit,
+) -> Result<Option<Vec<WholePoint>>, AllocError>
+    ensures { IfOk result (λ some. IfSome some (λ moved. map (place_in other) moved.items
+        ≡ map (place_in unit) places.now)) }
+{
+    let mut moved = Vec::with_capacity(alloc, places.len())?;
+    for place in places {
+        match other.whole(unit.place(*place)) {
+            Some(whole) => moved.push(whole)?,
+            None => return Ok(None),
+        }
+    }
+    Ok(Some(moved))
+}
+
+/// Whole places in units of 10^-9.
+fn refined(alloc: Global, unit: Unit, places: &[WholePoint]) -> Result<Vec<Point>, AllocError>
+    ensures { IfOk result (λ fine. fine.items ≡ map (place_in unit) places.now) }
+{
+    places.iter().map(|place| unit.place(*place)).collect(alloc)
 }

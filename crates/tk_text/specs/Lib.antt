@@ -2,6 +2,7 @@ pub use Rattle.tk_problem.specs.Places
 pub use Rattle.tk_problem.specs.PlacesOf
 pub use Rattle.tk_problem.specs.Shape
 pub use Rattle.tk_problem.specs.Stored
+pub use Rattle.tk_problem.specs.Units
 pub use Rattle.tk_problem.specs.WeightLines
 pub use Rattle.tk_problem.specs.WeightOrder
 pub use Rattle.tk_problem.specs.WeightsSoFar

@@ -6,7 +6,7 @@ use tk_text::{Places, Point, Points};
 
 /// Whether the points are kept as whole numbers.
 fn are_whole(points: &Points) -> bool {
-    matches!(points.places(), Places::Whole(_))
+    matches!(points.places(), Places::Whole(..))
 }
 
 /// The point at this index, of three.

@@ -1,7 +1,6 @@
 -- A number is the rounded root of a square where it lies between its two neighbours.
-use Rattle.std.proofs.Common.{◌≡◌, ℕ, ◌+◌, ◌-◌, ◌*◌, ◌<◌, ◌≤◌, ◌/◌, ◌↔◌, ◌&&◌, nat_lt, nat_le, IsTrue, subst, refl, inl, inr, arith}
+use Rattle.std.proofs.Common.{◌≡◌, ℕ, ◌+◌, ◌-◌, ◌*◌, ◌<◌, ◌≤◌, ◌/◌, ◌↔◌, subst, refl, inl, inr, arith}
 use Rattle.std.proofs.lemmas.Bool.{cases_lt}
-use Rattle.std.proofs.lemmas.Bool.Decides.{nat_tests}
 use Rattle.std.proofs.lemmas.Nat.{mul-le}
 use Rattle.tk_problem.specs.Places.{scale}
 use Rattle.tk_distance.specs.Distance.{IsGreatest, RootReaches, Reaches, square_sum}
@@ -126,13 +125,6 @@ root_below n d t some is = (below, within)
       where
         reaches : (k : ℕ) → t ≡ k + 1 → t * t < n + t → RootReaches (n * (scale * scale)) t
         reaches k is more = let P : ℕ → Type 0 = λ x. x * x < n + x in reaches_whole n k (2 * t - 1) (subst P is more) (omega (arith, is))
-
--- the same as a test
-pub root_test : (n d t : ℕ) → IsGreatest (RootReaches (n * (scale * scale))) d → (IsTrue (nat_lt 0 t && nat_le (n + t) (t * t)) ↔ (d < t))
-root_test n d t is = by_test n d t (λ some. root_below n d t some is)
-  where
-    by_test : (n d t : ℕ) → (1 ≤ t → ((n + t ≤ t * t) ↔ (d < t))) → (IsTrue (nat_lt 0 t && nat_le (n + t) (t * t)) ↔ (d < t))
-    by_test n d t h = (λ yes. grind (arith, nat_tests, yes, h), λ lt. grind (arith, nat_tests, h, lt))
 
 -- ---- along an axis
 

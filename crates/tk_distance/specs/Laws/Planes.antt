@@ -1,15 +1,17 @@
 -- The laws of distances in the plane.
-use Rattle.std.proofs.Common.{◌≡◌, ℕ, ℤ, ◌-◌, ◌≤◌, List, All, length, ◌*ℤ◌, ◌*◌, ap, ◌∙◌, arith, sym, subst, inl, inr}
+use Rattle.std.proofs.Common.{◌≡◌, ℕ, ℤ, ◌-◌, ◌≤◌, List, All, length, ◌*ℤ◌, ◌*◌, pos, ap, ◌∙◌, arith, sym, subst, inl, inr}
 use Rattle.std.proofs.lemmas.Bool.{cases_lt}
-use Rattle.std.proofs.lemmas.Int.{ints, unsigned_abs-mul}
+use Rattle.std.proofs.lemmas.Int.{ints}
 use Rattle.std.proofs.lemmas.List.{get_or_past}
 use Rattle.std.specs.Int.RustNames.{unsigned_abs}
-use Rattle.tk_problem.specs.declared.point.TheConstants.{SCALE}
 use Rattle.tk_problem.specs.declared.limits.TheConstants.{DISTANCE_LIMIT}
 use Rattle.tk_problem.specs.declared.point.Point.{Point}
 use Rattle.tk_problem.specs.declared.weights.PlaneKind.{PlaneKind}
 use Rattle.tk_problem.specs.declared.point.WholePoint.{WholePoint}
-use Rattle.tk_problem.specs.Places.{IsNearOrigin, origin, place_of_whole, scale, greatest_coordinate}
+use Rattle.tk_problem.specs.declared.unit.Unit.{Unit}
+use Rattle.tk_problem.specs.declared.unit.Unit.TheVariants.{One, Tenth, Hundredth, Thousandth}
+use Rattle.tk_problem.specs.Places.{IsNearOrigin, origin, greatest_coordinate}
+use Rattle.tk_problem.specs.Units.{place_in, step_of}
 use Rattle.tk_distance.specs.Distance.{gap, IsDistance, IsDistanceOf, reach}
 use Rattle.tk_distance.specs.PlaneDistance.{distance_at, distance_of}
 use Rattle.tk_distance.specs.PlaneOf.{city_place, city_distance}
@@ -25,9 +27,12 @@ gap-limit : (x y : ℤ) → unsigned_abs x ≤ greatest_coordinate → unsigned_
     gap x y ≤ reach
 gap-limit x y a b = omega (arith, ints)
 
--- whole numbers in units of 10^-9
-pub gap-scaled : (x y : ℤ) → gap (x *ℤ SCALE) (y *ℤ SCALE) ≡ gap x y * scale
-gap-scaled x y = omega (arith, ints)
+-- whole numbers of a unit, in units of 10^-9
+pub gap-in : (unit : Unit) (x y : ℤ) → gap (x *ℤ pos (step_of unit)) (y *ℤ pos (step_of unit)) ≡ gap x y * step_of unit
+gap-in One x y = omega (arith, ints)
+gap-in Tenth x y = omega (arith, ints)
+gap-in Hundredth x y = omega (arith, ints)
+gap-in Thousandth x y = omega (arith, ints)
 
 pub distance_of-swap : (kind : PlaneKind) (p q : Point) → distance_of kind p q ≡ distance_of kind q p
 distance_of-swap kind p q = rw (gap-swap p.x q.x, gap-swap p.y q.y)
@@ -63,16 +68,16 @@ distance_of-limit : (kind : PlaneKind) (p q : Point) → IsNearOrigin p → IsNe
 distance_of-limit kind p q a b =
     distance_at-limit kind (gap p.x q.x) (gap p.y q.y) (gap-limit p.x q.x a.x b.x) (gap-limit p.y q.y a.y b.y)
 
--- places of whole coordinates, by how far these are apart
-pub whole_places : (kind : PlaneKind) (p q : WholePoint) (dx dy d : ℕ) → dx ≡ gap p.x q.x → dy ≡ gap p.y q.y
-    → IsDistance kind (dx * scale) (dy * scale) d → IsDistanceOf kind (place_of_whole p) (place_of_whole q) d
-whole_places kind p q dx dy d x y is =
-    let ex : gap (p.x *ℤ SCALE) (q.x *ℤ SCALE) ≡ dx * scale = gap-scaled p.x q.x
-    ∙ ap (λ g. g * scale) (sym x) in
-    let ey : gap (p.y *ℤ SCALE) (q.y *ℤ SCALE) ≡ dy * scale = gap-scaled p.y q.y
-    ∙ ap (λ g. g * scale) (sym y) in
-    subst (λ (g : ℕ). IsDistance kind g (gap (place_of_whole p).y (place_of_whole q).y) d) (sym ex)
-    (subst (λ (g : ℕ). IsDistance kind (dx * scale) g d) (sym ey) is)
+-- places in whole numbers of a unit, by how far these are apart
+pub whole_places : (kind : PlaneKind) (unit : Unit) (p q : WholePoint) (dx dy d : ℕ) → dx ≡ gap p.x q.x → dy ≡ gap p.y q.y
+    → IsDistance kind (dx * step_of unit) (dy * step_of unit) d → IsDistanceOf kind (place_in unit p) (place_in unit q) d
+whole_places kind unit p q dx dy d x y is =
+    let ex : gap (place_in unit p).x (place_in unit q).x ≡ dx * step_of unit = gap-in unit p.x q.x
+    ∙ ap (λ g. g * step_of unit) (sym x) in
+    let ey : gap (place_in unit p).y (place_in unit q).y ≡ dy * step_of unit = gap-in unit p.y q.y
+    ∙ ap (λ g. g * step_of unit) (sym y) in
+    subst (λ (g : ℕ). IsDistance kind g (gap (place_in unit p).y (place_in unit q).y) d) (sym ex)
+    (subst (λ (g : ℕ). IsDistance kind (dx * step_of unit) g d) (sym ey) is)
 
 pub city_distance-limit : (kind : PlaneKind) (places : List Point) → All IsNearOrigin places → (a b : ℕ) →
     city_distance kind places a b ≤ DISTANCE_LIMIT
@@ -84,13 +89,6 @@ pub IsDistanceOf-limit : (kind : PlaneKind) (p q : Point) (d : ℕ) → IsNearOr
     IsDistanceOf kind p q d → d ≤ DISTANCE_LIMIT
 IsDistanceOf-limit kind p q d a b is =
     limit kind (gap p.x q.x) (gap p.y q.y) d (gap-limit p.x q.x a.x b.x) (gap-limit p.y q.y a.y b.y) is
-
--- a whole place is near the origin
-pub place_of_whole-near : (p : WholePoint) → IsNearOrigin (place_of_whole p)
-place_of_whole-near p = record {
-  x = omega (arith, unsigned_abs-mul p.x (SCALE), p.x_near);
-  y = omega (arith, unsigned_abs-mul p.y (SCALE), p.y_near);
-}
 
 pub distance_of-unique : (kind : PlaneKind) (p q : Point) (d : ℕ) → IsDistanceOf kind p q d → d ≡ distance_of kind p q
 distance_of-unique kind p q d is = distance-unique kind (gap p.x q.x) (gap p.y q.y) d is

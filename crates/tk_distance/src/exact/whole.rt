@@ -1,46 +1,44 @@
-//! Distances of whole coordinates, in 64 bits.
+//! Distances of coordinates that are whole numbers of a unit, in 64 bits.
 ghost use Rattle.std.specs.Prelude.{◌≡◌, ℕ, ◌+◌, ◌*◌, ◌<◌, ◌≤◌, ◌^◌, ◌↔◌, IsTrue, true};
 ghost use Rattle.std.specs.Int.RustNames.{unsigned_abs};
 ghost use Rattle.tk_problem.specs.declared.limits.TheConstants.{COORDINATE_LIMIT, DISTANCE_LIMIT};
 ghost use Rattle.tk_distance.specs.Distance.{IsGreatest, IsLeast, IsDistance, IsDistanceOf, RootReaches, Covers, gap, square_sum};
-ghost use Rattle.tk_problem.specs.Places.{place_of_whole, scale};
+ghost use Rattle.tk_problem.specs.Places.{scale};
+ghost use Rattle.tk_problem.specs.Units.{place_in, step_of};
 
 use crate::exact::guess::{near_root, rounded};
 use crate::exact::short::{SHORT, short_root};
-use tk_problem::{PlaneKind, WholePoint};
+use crate::exact::units::{covering_square, rounded_length, rounding_square, square_at};
+use tk_problem::{PlaneKind, Unit, WholePoint};
 
-/// The distance of two places of whole coordinates.
+/// The distance of two places in whole numbers of a unit.
 #[inline]
-pub fn whole_between(kind: PlaneKind, p: WholePoint, q: WholePoint) -> u64
-    ensures distance { IsDistanceOf kind (place_of_whole p) (place_of_whole q) result }
+pub fn whole_between(kind: PlaneKind, unit: Unit, p: WholePoint, q: WholePoint) -> u64
+    ensures distance { IsDistanceOf kind (place_in unit p) (place_in unit q) result }
     ensures limit { result ≤ DISTANCE_LIMIT }
 {
     if let PlaneKind::Euc2d = kind {
-        return nearest(square_between(p, q));
+        return nearest(rounding_square(unit, square_between(p, q)));
     }
-    rarer_between(kind, p, q)
+    rarer_between(kind, unit, p, q)
 }
 
-/// Whether the distance of two places of whole coordinates is below a bound.
+/// Whether the distance of two places in whole numbers of a unit is below a bound.
 #[inline]
-pub fn is_whole_nearer(kind: PlaneKind, p: WholePoint, q: WholePoint, bound: u64) -> bool
+pub fn is_whole_nearer(
+    kind: PlaneKind,
+    unit: Unit,
+    p: WholePoint,
+    q: WholePoint,
+    bound: u64,
+) -> bool
     requires { bound ≤ 4000000001 }
-    ensures { (d : ℕ) → IsDistanceOf kind (place_of_whole p) (place_of_whole q) d → (IsTrue result ↔ (d < bound)) }
+    ensures { (d : ℕ) → IsDistanceOf kind (place_in unit p) (place_in unit q) d → (IsTrue result ↔ (d < bound)) }
 {
     if let PlaneKind::Euc2d = kind {
-        return is_root_below(square_between(p, q), bound);
+        return square_between(p, q) < square_at(unit, bound);
     }
-    rarer_between(kind, p, q) < bound
-}
-
-/// Whether the root of a square, rounded to the nearest, is below a bound. There is no branch in it.
-#[inline]
-fn is_root_below(square: u64, bound: u64) -> bool
-    requires square { square ≤ 8000000000000000000 }
-    requires bound { bound ≤ 4000000001 }
-    ensures { (d : ℕ) → IsGreatest (RootReaches (square * (scale * scale))) d → (IsTrue result ↔ (d < bound)) }
-{
-    (bound > 0) & (square + bound <= bound * bound)
+    rarer_between(kind, unit, p, q) < bound
 }
 
 /// The square of the distance in the plane.
@@ -49,9 +47,7 @@ fn square_between(p: WholePoint, q: WholePoint) -> u64
     ensures value { result ≡ square_sum (gap p.x q.x) (gap p.y q.y) }
     ensures bound { result ≤ 8000000000000000000 }
 {
-    let dx = apart(p.x, q.x);
-    let dy = apart(p.y, q.y);
-    dx * dx + dy * dy
+    square_of(apart(p.x, q.x), apart(p.y, q.y))
 }
 
 /// How far two coordinates are apart.
@@ -66,27 +62,38 @@ fn apart(a: i32, b: i32) -> u64
 }
 
 /// The distance of a rarer kind.
-fn rarer_between(kind: PlaneKind, p: WholePoint, q: WholePoint) -> u64
-    ensures distance { IsDistanceOf kind (place_of_whole p) (place_of_whole q) result }
+fn rarer_between(kind: PlaneKind, unit: Unit, p: WholePoint, q: WholePoint) -> u64
+    ensures distance { IsDistanceOf kind (place_in unit p) (place_in unit q) result }
     ensures limit { result ≤ DISTANCE_LIMIT }
 {
-    whole_distance(kind, apart(p.x, q.x), apart(p.y, q.y))
+    whole_distance(kind, unit, apart(p.x, q.x), apart(p.y, q.y))
 }
 
-/// The distance at these differences of whole coordinates.
+/// The distance at these differences of coordinates, in whole numbers of a unit.
 #[inline]
-fn whole_distance(kind: PlaneKind, dx: u64, dy: u64) -> u64
+fn whole_distance(kind: PlaneKind, unit: Unit, dx: u64, dy: u64) -> u64
     requires x_near { dx ≤ 2 * COORDINATE_LIMIT }
     requires y_near { dy ≤ 2 * COORDINATE_LIMIT }
-    ensures { IsDistance kind (dx * scale) (dy * scale) result }
+    ensures { IsDistance kind (dx * step_of unit) (dy * step_of unit) result }
 {
     match kind {
-        PlaneKind::Euc2d => nearest(dx * dx + dy * dy),
-        PlaneKind::Ceil2d => ceiling(dx * dx + dy * dy),
-        PlaneKind::Man2d => dx + dy,
-        PlaneKind::Max2d => dx.max(dy),
-        PlaneKind::Att => ceiling((dx * dx + dy * dy).div_ceil(10)),
+        PlaneKind::Euc2d => nearest(rounding_square(unit, square_of(dx, dy))),
+        PlaneKind::Ceil2d => ceiling(covering_square(unit, square_of(dx, dy))),
+        PlaneKind::Man2d => rounded_length(unit, dx + dy),
+        PlaneKind::Max2d => rounded_length(unit, dx.max(dy)),
+        PlaneKind::Att => ceiling(covering_square(unit, square_of(dx, dy)).div_ceil(10)),
     }
+}
+
+/// The square of the distance in the plane.
+#[inline]
+fn square_of(dx: u64, dy: u64) -> u64
+    requires x_near { dx ≤ 2 * COORDINATE_LIMIT }
+    requires y_near { dy ≤ 2 * COORDINATE_LIMIT }
+    ensures value { result ≡ square_sum dx dy }
+    ensures bound { result ≤ 8000000000000000000 }
+{
+    dx * dx + dy * dy
 }
 
 /// The root of a square, rounded to the nearest.

@@ -1,0 +1,15 @@
+use Rattle.std.proofs.Common.{◌∙◌, ap, pos, sym, ◌*ℤ◌}
+use Rattle.tk_problem.proofs.Units.{points_differ, points_equal, quotient-in, same_point}
+use Rattle.tk_problem.specs.Units.{step_of}
+use Rattle.tk_problem.proofs.unit.Unit.whole.Goals as goal
+
+pub returns-then-eq-clause-some : goal.returns-then-eq-clause-some
+returns-then-eq-clause-some c = sym c.place.ensures.place ∙ points_equal c.place.result c.args.place c.if-eq.ensures
+
+pub returns-else-eq-clause-none : goal.returns-else-eq-clause-none
+returns-else-eq-clause-none c = λ whole same.
+    let step = pos (step_of c.args.self) in
+    let x = quotient-in c.args.self c.args.place.x c.step-step.result whole.x (ap (λ p. p.x) same) c.step-step.ensures whole.x_near in
+    let y = quotient-in c.args.self c.args.place.y c.step-step.result whole.y (ap (λ p. p.y) same) c.step-step.ensures whole.y_near in
+    points_differ c.place.result c.args.place c.if-eq.ensures
+    (c.place.ensures.place ∙ same_point _ _ _ _ (ap (λ z. z *ℤ step) x) (ap (λ z. z *ℤ step) y) ∙ same)

@@ -1,0 +1,79 @@
+//! The units in which coordinates are kept as whole numbers.
+ghost use Rattle.std.specs.Prelude.{◌≡◌, ◌≢◌, IfSome, IfNone, pos};
+ghost use Rattle.tk_problem.specs.declared.point.WholePoint.{WholePoint};
+ghost use Rattle.tk_problem.specs.Places.{IsNearOrigin};
+ghost use Rattle.tk_problem.specs.Units.{place_in, step_of};
+
+use crate::limits::COORDINATE_LIMIT;
+use crate::point::{Point, WholePoint};
+
+/// A unit of coordinates: one, or the last of up to three decimals.
+#[derive(Clone, Copy, Debug, PartialEq, Eq)]
+pub enum Unit {
+    One,
+    Tenth,
+    Hundredth,
+    Thousandth,
+}
+
+impl Unit {
+    /// How many units of 10^-9 it has.
+    #[inline]
+    pub fn step(self) -> i64
+        ensures { result ≡ pos (step_of self) }
+    {
+        match self {
+            Unit::One => 1_000_000_000,
+            Unit::Tenth => 100_000_000,
+            Unit::Hundredth => 10_000_000,
+            Unit::Thousandth => 1_000_000,
+        }
+    }
+
+    /// The place of whole numbers of this unit, in units of 10^-9.
+    #[inline]
+    pub fn place(self, whole: WholePoint) -> Point
+        ensures place { result ≡ place_in self whole }
+        ensures near { IsNearOrigin result }
+    {
+        let step = self.step();
+        Point {
+            x: whole.x as i64 * step,
+            y: whole.y as i64 * step,
+        }
+    }
+
+    /// A place whose coordinates are whole numbers of this unit, of magnitude at most 10^9, as such.
+    pub fn whole(self, place: Point) -> Option<WholePoint>
+        ensures some { IfSome result (λ whole. place_in self whole ≡ place) }
+        ensures none { IfNone result ((whole : WholePoint) → place_in self whole ≢ place) }
+    {
+        let step = self.step();
+        let x = place.x / step;
+        let y = place.y / step;
+        if x.unsigned_abs() > COORDINATE_LIMIT || y.unsigned_abs() > COORDINATE_LIMIT {
+            return None;
+        }
+        let whole = WholePoint {
+            x: x as i32,
+            y: y as i32,
+        };
+        if self.place(whole) == place {
+            Some(whole)
+        } else {
+            None
+        }
+    }
+
+    /// A unit that a place has whole coordinates in, the coarsest one first, and these. `None` costs memory alone.
+    pub(crate) fn of(place: Point) -> Option<(Unit, WholePoint)>
+        ensures { IfSome result (λ found. place_in found.0 found.1 ≡ place) }
+    {
+        for unit in [Unit::One, Unit::Tenth, Unit::Hundredth, Unit::Thousandth] {
+            if let Some(whole) = unit.whole(place) {
+                return Some((unit, whole));
+            }
+        }
+        None
+    }
+}
