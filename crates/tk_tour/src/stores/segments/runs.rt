@@ -7,7 +7,7 @@ ghost use Rattle.tk_tour.specs.Runs.{AreFound, AreLaidOut, AreNamed, IsAfterPlac
 
 use crate::stores::segments::naming::name_runs;
 use crate::stores::segments::run::Run;
-use crate::stores::segments::spots::{Spot, after, before, spot_at, spot_of};
+use crate::stores::segments::spots::{Spot, beside, spot_at, spot_of};
 use crate::stores::segments::turning::{begin_seen, turn_rest, turn_seen};
 use std::alloc::{AllocError, Global};
 
@@ -100,22 +100,15 @@ impl Runs {
         spot_at(&self.runs, self.size, v)
     }
 
-    /// What is seen after a spot, on the cycle.
-    pub(crate) fn after(&self, spot: Spot) -> Spot
+    /// What is seen after a spot, and before it, on the cycle.
+    pub(crate) fn beside(&self, spot: Spot) -> (Spot, Spot)
         requires spot { (v : ℕ) × (IsSpot self.now.runs.items v spot) }
-        ensures { (v w : ℕ) → IsSpot self.now.runs.items v spot → IsAfterPlace self.now.size v w
-            → IsSpot self.now.runs.items w result }
+        ensures after { (v w : ℕ) → IsSpot self.now.runs.items v spot → IsAfterPlace self.now.size v w
+            → IsSpot self.now.runs.items w result.0 }
+        ensures before { (v w : ℕ) → IsSpot self.now.runs.items w spot → IsAfterPlace self.now.size v w
+            → IsSpot self.now.runs.items v result.1 }
     {
-        after(&self.runs, self.size, spot)
-    }
-
-    /// What is seen before a spot, on the cycle.
-    pub(crate) fn before(&self, spot: Spot) -> Spot
-        requires spot { (v : ℕ) × (IsSpot self.now.runs.items v spot) }
-        ensures { (v w : ℕ) → IsSpot self.now.runs.items w spot → IsAfterPlace self.now.size v w
-            → IsSpot self.now.runs.items v result }
-    {
-        before(&self.runs, self.size, spot)
+        beside(&self.runs, self.size, spot)
     }
 
     /// What is seen from `first` on, up to `last`, is seen in reverse order.

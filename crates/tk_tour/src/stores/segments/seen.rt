@@ -81,8 +81,7 @@ impl SeenTour {
         requires { IsCity (length (list_of self.now)) c }
         ensures { result ≡ next_city (list_of self.now) c }
     {
-        let (spot, _) = self.runs.spot_of(self.place[c as usize - 1]);
-        self.order[self.runs.after(spot).place as usize]
+        self.beside(c).0
     }
 
     /// The city before c.
@@ -90,8 +89,7 @@ impl SeenTour {
         requires { IsCity (length (list_of self.now)) c }
         ensures { result ≡ prev_city (list_of self.now) c }
     {
-        let (spot, _) = self.runs.spot_of(self.place[c as usize - 1]);
-        self.order[self.runs.before(spot).place as usize]
+        self.beside(c).1
     }
 
     /// The cities after and before c.
@@ -101,9 +99,11 @@ impl SeenTour {
         ensures before { result.1 ≡ prev_city (list_of self.now) c }
     {
         let (spot, _) = self.runs.spot_of(self.place[c as usize - 1]);
-        let after = self.runs.after(spot).place as usize;
-        let before = self.runs.before(spot).place as usize;
-        (self.order[after], self.order[before])
+        let (after, before) = self.runs.beside(spot);
+        (
+            self.order[after.place as usize],
+            self.order[before.place as usize],
+        )
     }
 
     // Where the k-th place of the list, from 0, is seen.

@@ -155,3 +155,30 @@ pub(crate) fn before(runs: &[Run], size: u32, spot: Spot) -> Spot
         place: place_in(run, run.high - run.low - 1),
     }
 }
+
+/// What is seen after a spot, and before it, on the cycle.
+pub(crate) fn beside(runs: &[Run], size: u32, spot: Spot) -> (Spot, Spot)
+    requires size { size ≤ CITY_LIMIT }
+    requires laid { AreLaidOut size runs.now }
+    requires spot { (v : ℕ) × (IsSpot runs.now v spot) }
+    ensures after { (v w : ℕ) → IsSpot runs.now v spot → IsAfterPlace size v w → IsSpot runs.now w result.0 }
+    ensures before { (v w : ℕ) → IsSpot runs.now w spot → IsAfterPlace size v w → IsSpot runs.now v result.1 }
+{
+    let run = runs[spot.index];
+    if run.low < spot.place && spot.place + 1 < run.high {
+        let lower = Spot {
+            place: spot.place - 1,
+            ..spot
+        };
+        let upper = Spot {
+            place: spot.place + 1,
+            ..spot
+        };
+        return if run.back {
+            (lower, upper)
+        } else {
+            (upper, lower)
+        };
+    }
+    (after(runs, size, spot), before(runs, size, spot))
+}
