@@ -5,7 +5,7 @@
 
 use crate::metric::{Metric, Number};
 use crate::near::{Near, Neighbour};
-use crate::store::Store;
+use crate::store::{Moves, Store};
 use crate::tour::{Offer, Sides, at};
 
 /// The waking cities, first in first out, each at most once.

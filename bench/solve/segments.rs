@@ -3,7 +3,8 @@
 //! The array has physical places. Segments are ranges of them; in their sequence, each forwards or backwards, they give the cities at
 //! virtual places. The order that counts is read from virtual place `off` on, upwards or (where `down`) downwards, round the end.
 
-use crate::tour::{Offer, Sides, at};
+use crate::store::{Moves, renumber, shift_cities};
+use crate::tour::{Sides, at};
 
 /// So many segments at most.
 const CAP: usize = 250;
@@ -391,7 +392,7 @@ impl Tour {
             self.copy = Some(std::mem::replace(&mut self.order, now));
         }
         self.journal.clear();
-        self.renumber(0, self.n as usize);
+        renumber(&self.order, &mut self.place, 0, self.n as usize);
         self.one_segment();
     }
 
@@ -401,13 +402,13 @@ impl Tour {
                 let (first, end) = (first as usize, (first + count) as usize);
                 self.order[first..end].reverse();
                 if places {
-                    self.renumber(first, end);
+                    renumber(&self.order, &mut self.place, first, end);
                 }
             }
             Change::Shifted { first, count, cities, to_right, turned } => {
-                self.shift_cities(first as usize, count as usize, cities as usize, !to_right, turned);
+                shift_cities(&mut self.order, first as usize, count as usize, cities as usize, !to_right, turned);
                 if places {
-                    self.renumber(first as usize, (first + count) as usize);
+                    renumber(&self.order, &mut self.place, first as usize, (first + count) as usize);
                 }
             }
         }
@@ -417,31 +418,7 @@ impl Tour {
     fn reverse_array(&mut self, first: u32, count: u32) {
         let (first, end) = (first as usize, (first + count) as usize);
         self.order[first..end].reverse();
-        self.renumber(first, end);
-    }
-
-    #[inline(always)]
-    fn renumber(&mut self, from: usize, to: usize) {
-        for (k, c) in (from..to).zip(&self.order[from..to]) {
-            // SAFETY: cities are below the length of `place`.
-            unsafe { *self.place.get_unchecked_mut(*c as usize) = k as u32 };
-        }
-    }
-
-    fn shift_cities(&mut self, first: usize, count: usize, cities: usize, to_right: bool, turned: bool) {
-        let end = first + count;
-        let (from, to) = if to_right { (first, end - cities) } else { (end - cities, first) };
-        let mut moved = [0; 3];
-        moved[..cities].copy_from_slice(&self.order[from..from + cities]);
-        if turned {
-            moved[..cities].reverse();
-        }
-        if to_right {
-            self.order.copy_within(first + cities..end, first);
-        } else {
-            self.order.copy_within(first..end - cities, first + cities);
-        }
-        self.order[to..to + cities].copy_from_slice(&moved[..cities]);
+        renumber(&self.order, &mut self.place, first, end);
     }
 
     pub fn settle(&mut self) {
@@ -450,7 +427,7 @@ impl Tour {
             self.merge();
             if self.view.seq.len() > KEEP {
                 self.order = self.virtual_order();
-                self.renumber(0, self.n as usize);
+                renumber(&self.order, &mut self.place, 0, self.n as usize);
                 self.one_segment();
             }
         }
@@ -503,7 +480,7 @@ impl Tour {
         if let Some(copy) = self.copy.take() {
             self.order = copy;
             self.journal.clear();
-            self.renumber(0, self.n as usize);
+            renumber(&self.order, &mut self.place, 0, self.n as usize);
         }
         while let Some(change) = self.journal.pop() {
             self.undo(change, true);
@@ -517,17 +494,22 @@ impl Tour {
         let (n, off) = (self.n as usize, self.view.off as usize);
         (0..n).map(|k| flat[if self.view.down { (off + n - k) % n } else { (off + k) % n }]).collect()
     }
+}
 
-    /// Makes the move of an offer.
-    pub fn make(&mut self, offer: Offer) {
-        match offer {
-            Offer::Two(a, b, c, d) => self.flip(a, b, c, d),
-            Offer::Or(a, x, e, b, y, w) if self.next(a) == x => self.move_forward(a, x, e, b, y, w),
-            Offer::Or(a, x, e, b, y, w) => self.move_forward(b, e, x, a, w, y),
-        }
+impl Moves for Tour {
+    fn after(&self, c: u32) -> u32 {
+        self.next(c)
     }
 
+    fn replace(&mut self, a: u32, b: u32, c: u32, d: u32) {
+        self.flip(a, b, c, d);
+    }
+
+    /// Within a segment.
     fn shift_past(&mut self, x: u32, e: u32, b: u32, c: u32, d: u32, ahead: bool) -> bool {
+        if self.by_flips {
+            return false;
+        }
         let (segment, path) = (self.path(x, e), self.path(b, c));
         let rest = self.n - segment - path;
         let to_right = segment + path <= rest;
@@ -547,22 +529,8 @@ impl Tour {
         let first = s.p.min(t.p);
         let to_right = to_right != (s.p > t.p);
         self.journal.push(Change::Shifted { first, count, cities: segment as u8, to_right, turned: !ahead });
-        self.shift_cities(first as usize, count as usize, segment as usize, to_right, !ahead);
-        self.renumber(first as usize, (first + count) as usize);
+        shift_cities(&mut self.order, first as usize, count as usize, segment as usize, to_right, !ahead);
+        renumber(&self.order, &mut self.place, first as usize, (first + count) as usize);
         true
-    }
-
-    /// Moves a segment that runs forward from x to e.
-    fn move_forward(&mut self, a: u32, x: u32, e: u32, b: u32, y: u32, w: u32) {
-        let ahead = self.next(y) == w;
-        let (c, d) = if ahead { (y, w) } else { (w, y) };
-        if !self.by_flips && self.shift_past(x, e, b, c, d, ahead) {
-            return;
-        }
-        self.flip(a, x, c, d);
-        self.flip(a, c, b, e);
-        if ahead && x != e {
-            self.flip(c, e, x, d);
-        }
     }
 }
