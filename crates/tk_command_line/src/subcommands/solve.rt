@@ -27,6 +27,59 @@ Examples:
 /// The words of `--construction`.
 static CONSTRUCTIONS: [&str; 2] = ["nearest", "savings"];
 
+/// An option that has a number within limits.
+struct Number {
+    name: &'static str,
+    help: &'static str,
+    least: u32,
+    most: u32,
+}
+
+/// The options that have a number.
+static NUMBERS: [Number; 5] = [
+    Number {
+        name: "trials",
+        help: "how many trials a run has, 1 to 1,000,000 [default: the number of cities]",
+        least: 1,
+        most: 1_000_000,
+    },
+    Number {
+        name: "candidates",
+        help: "how many near cities of each city are tried, 1 to 100 [default: 5]",
+        least: 1,
+        most: CANDIDATE_LIMIT,
+    },
+    Number {
+        name: "runs",
+        help: "how many runs there are, 1 to 10,000 [default: 10]",
+        least: 1,
+        most: 10_000,
+    },
+    Number {
+        name: "seed",
+        help: "what the random numbers begin with [default: 1]",
+        least: 0,
+        most: u32::MAX,
+    },
+    Number {
+        name: "or-segment",
+        help: "the most cities that an Or-move moves, 1 to 3 [default: 3]",
+        least: 1,
+        most: 3,
+    },
+];
+
+impl Number {
+    /// The option.
+    fn option<'a>(&self, alloc: Global) -> Arg<'a> {
+        Arg::new(alloc, self.name)
+            .long(self.name)
+            .value_name("N")
+            .help(self.help)
+            .value_parser(ValueParser::Unsigned(self.least as u64, self.most as u64))
+    }
+}
+
 /// The subcommand with its words.
 ///
 /// # Errors
@@ -64,48 +117,11 @@ pub fn command<'a>(alloc: Global) -> Result<Command<'a>, Error> {
 
 /// The command with the options that have a number.
 fn with_numbers<'a>(alloc: Global, made: Command<'a>) -> Result<Command<'a>, Error> {
-    let seed = number(
-        alloc,
-        "seed",
-        "what the random numbers begin with [default: 1]",
-        0,
-        u32::MAX,
-    );
-    let runs = number(
-        alloc,
-        "runs",
-        "how many runs there are, 1 to 10,000 [default: 10]",
-        1,
-        10_000,
-    );
-    let trials = number(
-        alloc,
-        "trials",
-        "how many trials a run has, 1 to 1,000,000 [default: the number of cities]",
-        1,
-        1_000_000,
-    );
-    let candidates = number(
-        alloc,
-        "candidates",
-        "how many near cities of each city are tried, 1 to 100 [default: 5]",
-        1,
-        CANDIDATE_LIMIT,
-    );
-    let or_segment = number(
-        alloc,
-        "or-segment",
-        "the most cities that an Or-move moves, 1 to 3 [default: 3]",
-        1,
-        3,
-    );
-    Ok(
-        made.arg(trials)?
-            .arg(candidates)?
-            .arg(runs)?
-            .arg(seed)?
-            .arg(or_segment)?,
-    )
+    let mut made = made;
+    for number in &NUMBERS {
+        made = made.arg(number.option(alloc))?;
+    }
+    Ok(made)
 }
 
 /// The file to write.
@@ -132,15 +148,6 @@ fn construction<'a>(alloc: Global) -> Arg<'a> {
         .value_name("HOW")
         .help("how the tour is made that a run begins with [default: nearest]")
         .value_parser(ValueParser::Names(CONSTRUCTIONS.as_slice()))
-}
-
-/// An option that has a number within limits.
-fn number<'a>(alloc: Global, name: &'a str, help: &'a str, least: u32, most: u32) -> Arg<'a> {
-    Arg::new(alloc, name)
-        .long(name)
-        .value_name("N")
-        .help(help)
-        .value_parser(ValueParser::Unsigned(least as u64, most as u64))
 }
 
 /// What the words ask for.
