@@ -5,7 +5,6 @@ mod answer;
 mod best;
 mod call;
 mod commands;
-mod explain;
 mod input;
 mod json;
 mod json_lines;

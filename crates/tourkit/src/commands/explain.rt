@@ -1,17 +1,12 @@
 //! The subcommand `explain`.
-use crate::explain::fault_page::{fault_page, is_number};
-use crate::explain::file_page::file_page;
-use crate::explain::kind::{Kind, kind_of};
-use crate::explain::lines::last_line;
 use crate::input::{Input, open};
 use crate::report;
 use std::alloc::Global;
 use std::fs;
 use std::io::{Read, Write};
 use std::process::ExitCode;
-use tk_params::{ParamFault, ParamKind};
+use tk_explain::{FileFault, fault_page, file_page, is_number, line_page, unread_fault};
 use tk_problem::TEXT_LIMIT;
-use tk_words::{TextFault, TextKind};
 
 /// Why a file was not read.
 #[derive(Drop)]
@@ -44,12 +39,21 @@ fn explain_file(rt: &HostRuntime, name: &str, line: Option<u64>) -> ExitCode {
         Err(status) => return status,
     };
     match read_whole(rt.alloc(), &mut input) {
-        Ok(text) => match file_page(rt.alloc(), name, &text, line) {
-            Ok(page) => print_page(rt, &page),
-            Err(_) => report::no_memory(rt),
-        },
+        Ok(text) => print_text(rt, name, &text, line),
         Err(Unread::Failed(text)) => tell_unread(rt, name, &text),
         Err(Unread::NoMemory) => report::no_memory(rt),
+    }
+}
+
+/// Prints the explanation of a file with this text, or of one of its lines.
+fn print_text(rt: &HostRuntime, name: &str, text: &[u8], line: Option<u64>) -> ExitCode {
+    let page = match line {
+        Some(line) => line_page(rt.alloc(), name, text, line),
+        None => file_page(rt.alloc(), name, text),
+    };
+    match page {
+        Ok(page) => print_page(rt, &page.text),
+        Err(_) => report::no_memory(rt),
     }
 }
 
@@ -72,15 +76,12 @@ fn read_whole(alloc: Global, input: &mut Input) -> Result<Vec<u8>, Unread> {
     Ok(text)
 }
 
-/// Tells that a file could not be read to its end, as the commands do that want such a file.
+/// Tells that a file could not be read to its end.
 fn tell_unread(rt: &HostRuntime, name: &str, text: &[u8]) -> ExitCode {
-    let line = last_line(text);
-    if kind_of(text, name) == Kind::Parameters {
-        let kind = ParamKind::Read;
-        return report::param_fault(rt, name, &ParamFault { line, kind });
+    match unread_fault(name, text) {
+        FileFault::Text(fault) => report::text_fault(rt, name, &fault),
+        FileFault::Parameters(fault) => report::param_fault(rt, name, &fault),
     }
-    let kind = TextKind::Read;
-    report::text_fault(rt, name, &TextFault { line, kind })
 }
 
 /// Prints an explanation.

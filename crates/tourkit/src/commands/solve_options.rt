@@ -6,8 +6,9 @@ use std::fs::File;
 use std::io::Read;
 use std::process::ExitCode;
 use tk_command_line::{STANDARD, SearchOptions};
+use tk_explain::split_word;
 use tk_params::{Key, ParamKind, Params, ParamsBuilder, key_of};
-use tk_words::{spelled, word_byte};
+use tk_words::spelled;
 
 /// How much is looked at to see whether a file is a parameter file.
 const HEAD: usize = 4096;
@@ -79,20 +80,10 @@ pub fn is_parameter_file(rt: &HostRuntime, name: &str) -> bool {
 fn begins_with_key(text: &[u8]) -> bool {
     for line in text.split(|byte| *byte == b'\n') {
         let line = line.trim_ascii_start();
-        let word = word_of(line);
+        let word = split_word(line).0;
         if !line.is_empty() && line[0] != b'#' && !spelled(word, b"COMMENT") {
             return key_of(word).is_some();
         }
     }
     false
-}
-
-/// The word at the front of a line.
-fn word_of(line: &[u8]) -> &[u8] {
-    for i in 0..line.len() {
-        if !word_byte(line[i]) {
-            return &line[..i];
-        }
-    }
-    line
 }

@@ -1,0 +1,97 @@
+//! What the library's reader of a kind answers to a text.
+ghost use Rattle.std.specs.Prelude.{◌≡◌, IfOk};
+ghost use Rattle.tk_problem.specs.declared.limits.TheConstants.{TEXT_LIMIT};
+ghost use Rattle.tk_words.specs.Texts.{answer_of};
+ghost use Rattle.tk_problem_text.specs.Problem.{problem_decided};
+ghost use Rattle.tk_lists.specs.Tour.{tour_decided};
+ghost use Rattle.tk_lists.specs.Solution.{solution_decided};
+ghost use Rattle.tk_params.specs.Params.{params_answer};
+ghost use Rattle.tk_explain.specs.Answers.{fault_in, fault_of, text_fault, param_fault};
+
+use crate::fault::FileFault;
+use crate::kind::Kind;
+use crate::sound::Sound;
+use crate::whole::Whole;
+use std::alloc::{AllocError, Global};
+use tk_lists::{read_solution, read_tour};
+use tk_params::{ParamKind, read_params};
+use tk_problem_text::read_problem;
+use tk_words::TextKind;
+
+/// What a reader answers: what the file is, or its fault.
+#[derive(Drop)]
+pub enum Answer {
+    Sound(Sound),
+    Faulty(FileFault),
+}
+
+impl Answer {
+    /// The fault, if there is one.
+    pub fn fault(&self) -> Option<FileFault>
+        ensures { result ≡ fault_in self.now }
+    {
+        match self {
+            Answer::Sound(_) => None,
+            Answer::Faulty(fault) => Some(*fault),
+        }
+    }
+}
+
+/// The answer of the reader of a kind.
+///
+/// # Errors
+/// `AllocError` if memory runs out, as for all functions here.
+pub fn answer_to(alloc: Global, kind: Kind, text: &[u8]) -> Result<Answer, AllocError>
+    ensures fault { IfOk result (λ answer. fault_in answer ≡ fault_of kind text.now) }
+{
+    match kind {
+        Kind::Problem => of_problem(alloc, text),
+        Kind::Tour => of_tour(alloc, text),
+        Kind::Solution => of_solution(alloc, text),
+        Kind::Parameters => of_parameters(alloc, text),
+    }
+}
+
+/// The answer of the reader of problems.
+fn of_problem(alloc: Global, text: &[u8]) -> Result<Answer, AllocError>
+    ensures { IfOk result (λ answer. fault_in answer ≡ text_fault (answer_of problem_decided TEXT_LIMIT text.now)) }
+{
+    match read_problem(alloc, &mut Whole { bytes: text }) {
+        Ok(problem) => Ok(Answer::Sound(Sound::Problem(problem))),
+        Err(fault) if fault.kind == TextKind::NoMemory => Err(AllocError),
+        Err(fault) => Ok(Answer::Faulty(FileFault::Text(fault))),
+    }
+}
+
+/// The answer of the reader of tours.
+fn of_tour(alloc: Global, text: &[u8]) -> Result<Answer, AllocError>
+    ensures { IfOk result (λ answer. fault_in answer ≡ text_fault (answer_of tour_decided TEXT_LIMIT text.now)) }
+{
+    match read_tour(alloc, &mut Whole { bytes: text }) {
+        Ok(tour) => Ok(Answer::Sound(Sound::Tour(tour))),
+        Err(fault) if fault.kind == TextKind::NoMemory => Err(AllocError),
+        Err(fault) => Ok(Answer::Faulty(FileFault::Text(fault))),
+    }
+}
+
+/// The answer of the reader of solutions.
+fn of_solution(alloc: Global, text: &[u8]) -> Result<Answer, AllocError>
+    ensures { IfOk result (λ answer. fault_in answer ≡ text_fault (answer_of solution_decided TEXT_LIMIT text.now)) }
+{
+    match read_solution(alloc, &mut Whole { bytes: text }) {
+        Ok(solution) => Ok(Answer::Sound(Sound::Solution(solution))),
+        Err(fault) if fault.kind == TextKind::NoMemory => Err(AllocError),
+        Err(fault) => Ok(Answer::Faulty(FileFault::Text(fault))),
+    }
+}
+
+/// The answer of the reader of parameter files.
+fn of_parameters(alloc: Global, text: &[u8]) -> Result<Answer, AllocError>
+    ensures { IfOk result (λ answer. fault_in answer ≡ param_fault (params_answer text.now)) }
+{
+    match read_params(alloc, &mut Whole { bytes: text }) {
+        Ok(params) => Ok(Answer::Sound(Sound::Parameters(params))),
+        Err(fault) if fault.kind == ParamKind::NoMemory => Err(AllocError),
+        Err(fault) => Ok(Answer::Faulty(FileFault::Parameters(fault))),
+    }
+}

@@ -1,0 +1,40 @@
+//! The fault of a file.
+use crate::faults::{FaultText, text_of, text_of_parameters};
+use std::fmt;
+use tk_params::ParamFault;
+use tk_words::TextFault;
+
+/// The fault of a file.
+#[derive(Clone, Copy)]
+pub enum FileFault {
+    Text(TextFault),
+    Parameters(ParamFault),
+}
+
+impl FileFault {
+    /// The line of the fault.
+    pub fn line(&self) -> u64 {
+        match self {
+            FileFault::Text(fault) => fault.line,
+            FileFault::Parameters(fault) => fault.line,
+        }
+    }
+
+    /// What the table has on the fault.
+    pub fn text(&self) -> Option<&'static FaultText> {
+        match self {
+            FileFault::Text(fault) => text_of(fault.kind),
+            FileFault::Parameters(fault) => text_of_parameters(fault.kind),
+        }
+    }
+}
+
+/// The line and the fault, as other commands tell them.
+impl fmt::Display for FileFault {
+    fn fmt<W: fmt::Write>(&self, f: &mut fmt::Formatter<W>) -> fmt::Result {
+        match self {
+            FileFault::Text(fault) => write!(f, "{fault}"),
+            FileFault::Parameters(fault) => write!(f, "{fault}"),
+        }
+    }
+}

@@ -1,0 +1,55 @@
+//! What stands at the line of a fault: what was wanted there, what was read, and what to do.
+mod ends;
+mod missing;
+mod numbers;
+mod parameters;
+mod routing;
+mod solutions;
+mod unsupported;
+mod words;
+
+use crate::fault::FileFault;
+use crate::kind::Kind;
+use crate::spot::{Here, Spot};
+use std::alloc::AllocError;
+use tk_words::TextKind;
+
+/// What stands at the line of a fault.
+///
+/// # Errors
+/// `AllocError` if memory runs out.
+pub fn here_at<'a>(spot: &Spot<'a>, fault: &FileFault) -> Result<Here<'a>, AllocError> {
+    match fault {
+        FileFault::Parameters(fault) => parameters::parameter(spot, fault.kind),
+        FileFault::Text(fault) if spot.kind == Kind::Solution => {
+            Ok(solutions::solution(spot, fault.kind))
+        }
+        FileFault::Text(fault) => of_text(spot, fault.kind),
+    }
+}
+
+/// What stands at the line of a fault of a problem or a tour.
+fn of_text<'a>(spot: &Spot<'a>, kind: TextKind) -> Result<Here<'a>, AllocError> {
+    match kind {
+        TextKind::UnknownKeyword => words::unknown(spot),
+        TextKind::BadNumber | TextKind::OutOfLimit | TextKind::BadNode => {
+            numbers::number(spot, kind)
+        }
+        _ => Ok(decided(spot, kind)),
+    }
+}
+
+/// The same for a fault that the line and a few others show.
+fn decided<'a>(spot: &Spot<'a>, kind: TextKind) -> Here<'a> {
+    match kind {
+        TextKind::Repeated => words::repeated(spot),
+        TextKind::Missing(word) => missing::missing(spot, word),
+        TextKind::Unsupported => unsupported::unsupported(spot),
+        TextKind::NotSymmetric(row, column) => routing::not_symmetric(spot, row, column),
+        TextKind::Truncated => ends::truncated(spot),
+        TextKind::TrailingData => ends::trailing(spot),
+        TextKind::BadDepot => routing::bad_depot(spot),
+        TextKind::DemandOverCapacity(node) => routing::over_capacity(spot, node),
+        _ => words::too_long(spot),
+    }
+}

@@ -1,0 +1,152 @@
+//! The faults of parameter files.
+use crate::kind::is_other_key;
+use crate::lines::{first_token, split_word, value_behind};
+use crate::nearest::nearest;
+use crate::read::{Named, Read};
+use crate::remedy::{Choice, Remedy};
+use crate::spot::{Here, Spot};
+use crate::wanted::Wanted;
+use std::alloc::AllocError;
+use tk_params::{Key, ParamKind, key_of};
+
+/// The keys for which another word may be meant.
+static NAMES: [&str; 11] = [
+    "PROBLEM_FILE",
+    "TOUR_FILE",
+    "SOLUTION_FILE",
+    "INITIAL_TOUR_FILE",
+    "RUNS",
+    "MAX_TRIALS",
+    "SEED",
+    "MAX_CANDIDATES",
+    "CONSTRUCTION",
+    "FINAL_SWEEP",
+    "OR_SEGMENT",
+];
+
+/// What may begin a line.
+const KEYS: &str =
+    "PROBLEM_FILE, TOUR_FILE, SOLUTION_FILE, INITIAL_TOUR_FILE, RUNS, MAX_TRIALS, SEED, MAX_CANDIDATES, \
+CONSTRUCTION, FINAL_SWEEP, OR_SEGMENT, # or EOF";
+
+/// What stands at the line of a fault of a parameter file.
+///
+/// # Errors
+/// `AllocError` if memory runs out, as for all functions here.
+pub fn parameter<'a>(spot: &Spot<'a>, kind: ParamKind) -> Result<Here<'a>, AllocError> {
+    match kind {
+        ParamKind::UnknownKey => unknown_key(spot),
+        ParamKind::RepeatedKey => Ok(repeated_key(spot)),
+        ParamKind::BadValue => Ok(bad_value(spot)),
+        ParamKind::MissingProblem => Ok(Here::new(
+            Wanted::Text("PROBLEM_FILE, which the file needs"),
+            Read::Text("the end of the file, and no PROBLEM_FILE before it"),
+        )),
+        ParamKind::DollarInName => Ok(Here::new(
+            Wanted::Text("a file name without $"),
+            Read::bytes(value_behind(spot.line, b'=')),
+        )),
+        _ => Ok(too_long(spot)),
+    }
+}
+
+/// A line, a key or the file is too long.
+fn too_long<'a>(spot: &Spot<'a>) -> Here<'a> {
+    Here::new(
+        Wanted::Text("a line of at most 4,096 bytes, with a key of at most 64"),
+        Read::Length {
+            before: "a line of ",
+            length: spot.line.len(),
+            after: " bytes",
+        },
+    )
+}
+
+/// A line begins with no key.
+fn unknown_key<'a>(spot: &Spot<'a>) -> Result<Here<'a>, AllocError> {
+    let key = split_word(spot.line).0;
+    if key.is_empty() {
+        return Ok(no_key(
+            first_token(spot.line),
+            ", which does not begin with a letter",
+        ));
+    }
+    if is_other_key(key) {
+        let here = no_key(key, ", a key of LKH that tourkit does not have");
+        return Ok(here.advice(
+            "Put # before the line, or let examples/lkh-to-tourkit translate the whole file.",
+        ));
+    }
+    let here = no_key(key, ", which is none of them");
+    let or_else = "# before the line";
+    match nearest(spot.alloc, key, NAMES.as_slice())? {
+        Some(name) => Ok(here.with(Remedy::Write { name, or_else })),
+        None => Ok(here),
+    }
+}
+
+/// A word that is no key, and what is said of it.
+fn no_key<'a>(bytes: &'a [u8], remark: &'static str) -> Here<'a> {
+    Here::new(Wanted::Text(KEYS), Read::Bytes { bytes, remark })
+}
+
+/// A key comes a second time.
+fn repeated_key<'a>(spot: &Spot<'a>) -> Here<'a> {
+    let line = spot.number;
+    let word = split_word(spot.line).0;
+    let first = first_with(spot.text, word);
+    let what = Named::Key(word);
+    Here::new(Wanted::Text("each key once"), Read::Again { what, first })
+        .with(Remedy::Choice(Choice::Remove { line, first }))
+        .beside(first)
+}
+
+/// The first line with a key.
+fn first_with(text: &[u8], word: &[u8]) -> u64 {
+    let key = key_of(word);
+    let mut count: u64 = 0;
+    for line in text.split(|byte| *byte == b'\n') {
+        count = count.saturating_add(1);
+        if key_of(split_word(line).0) == key {
+            return count;
+        }
+    }
+    count
+}
+
+/// What a key may say.
+fn values_of(key: Key) -> &'static str {
+    match key {
+        Key::ProblemFile | Key::TourFile | Key::SolutionFile | Key::InitialTourFile =>
+            "a file name in UTF-8",
+        Key::Runs => "an integer from 1 to 10000",
+        Key::MaxTrials => "an integer from 1 to 1000000",
+        Key::Seed => "an integer from 0 to 4294967295",
+        Key::MaxCandidates => "an integer from 1 to 100",
+        Key::OrSegment => "an integer from 1 to 3",
+        Key::Construction => "NEAREST or SAVINGS",
+        Key::FinalSweep => "YES or NO",
+        _ => "any value",
+    }
+}
+
+/// A key has a value that it may not have.
+fn bad_value<'a>(spot: &Spot<'a>) -> Here<'a> {
+    let bytes = value_behind(spot.line, b'=');
+    let Some(key) = key_of(split_word(spot.line).0) else {
+        return Here::new(Wanted::Text("a key and its value"), Read::bytes(spot.line));
+    };
+    let values = values_of(key);
+    let here = Here::new(Wanted::Value { values, key }, Read::value(bytes, ""));
+    if bytes.is_empty() {
+        here.advice("Write the value after the key, or put # before the line.")
+    } else if bytes.contains(&b'#') {
+        here.advice(
+            "Remove the comment after the value: a comment is a line of its own, which begins with #.",
+        )
+    } else if first_token(bytes).len() < bytes.len() {
+        here.advice("Write the value alone: nothing may follow it.")
+    } else {
+        here.with(Remedy::Value(values))
+    }
+}

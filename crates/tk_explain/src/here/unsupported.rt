@@ -1,0 +1,166 @@
+//! What TSPLIB has and tourkit does not read.
+use crate::kind::Kind;
+use crate::lines::{first_token, header, keyword_at, value_behind};
+use crate::read::Read;
+use crate::remedy::{OutsideRemedy, Remedy};
+use crate::spot::{Here, Spot};
+use crate::wanted::Wanted;
+use tk_words::{Keyword, spelled};
+
+/// What can be written in place of other distances.
+const EXPLICIT: &str =
+    "If the distances are symmetric, compute them, and write them as explicit weights: \
+EDGE_WEIGHT_TYPE : EXPLICIT, EDGE_WEIGHT_FORMAT : FULL_MATRIX and EDGE_WEIGHT_SECTION.";
+
+/// The formats of explicit weights.
+const FORMATS: &str =
+    "FULL_MATRIX, UPPER_ROW, LOWER_ROW, UPPER_DIAG_ROW, LOWER_DIAG_ROW, UPPER_COL, LOWER_COL, \
+UPPER_DIAG_COL, LOWER_DIAG_COL or FUNCTION";
+
+/// A keyword or a value is not supported.
+pub fn unsupported<'a>(spot: &Spot<'a>) -> Here<'a> {
+    match keyword_at(spot.line) {
+        None => Here::new(
+            Wanted::Text("a keyword that tourkit reads"),
+            Read::bytes(spot.line),
+        ),
+        Some(word) if spot.kind == Kind::Tour => in_tour(spot, word),
+        Some(word) => in_problem(spot, word),
+    }
+}
+
+/// A problem has a keyword or a value that is not supported.
+fn in_problem<'a>(spot: &Spot<'a>, word: Keyword) -> Here<'a> {
+    match word {
+        Keyword::Type => other_type(spot),
+        Keyword::EdgeWeightType => valued(
+            spot,
+            "EDGE_WEIGHT_TYPE EUC_2D, CEIL_2D, MAN_2D, MAX_2D, ATT or EXPLICIT",
+            EXPLICIT,
+        ),
+        Keyword::EdgeWeightFormat => valued(
+            spot,
+            FORMATS,
+            "Write the format in which the weights are listed.",
+        ),
+        Keyword::NodeCoordType => valued(
+            spot,
+            "NODE_COORD_TYPE TWOD_COORDS or NO_COORDS",
+            "Nodes have two coordinates here. Remove the line if the third one does not count, and the numbers too.",
+        ),
+        Keyword::DemandSection | Keyword::DepotSection => for_cvrp(spot, word),
+        Keyword::EdgeWeightSection => without_weights(spot),
+        _ => return not_supported(word),
+    }
+}
+
+/// A header or a section is not supported at all.
+fn not_supported<'a>(word: Keyword) -> Here<'a> {
+    match word {
+        Keyword::Distance | Keyword::ServiceTime | Keyword::Vehicles => other_word(
+            "a header that tourkit reads",
+            word,
+            ", which is not supported",
+            "Remove the line, if routes may be as long and as many as they like.",
+        ),
+        _ => other_section(word),
+    }
+}
+
+/// A problem is of another type.
+fn other_type<'a>(spot: &Spot<'a>) -> Here<'a> {
+    let value = first_token(value_behind(spot.line, b':'));
+    if spelled(value, b"TOUR") {
+        return Here::new(
+            Wanted::Text("a problem file, with TYPE : TSP or TYPE : CVRP"),
+            Read::Text("TYPE : TOUR, so this is a tour file"),
+        )
+        .advice("Give the problem first and the tour second: tourkit check PROBLEM TOUR.");
+    }
+    valued(
+        spot,
+        "TYPE : TSP or TYPE : CVRP",
+        "Other types cannot be read. If it is a TSP whose distances are the same in both directions, write TYPE : TSP.",
+    )
+}
+
+/// A header has a value that is not supported.
+fn valued<'a>(spot: &Spot<'a>, wanted: &'static str, remedy: &'static str) -> Here<'a> {
+    let value = first_token(value_behind(spot.line, b':'));
+    Here::new(
+        Wanted::Text(wanted),
+        Read::value(value, ", which is not supported"),
+    )
+    .advice(remedy)
+}
+
+/// A word stands where other ones are read.
+fn other_word<'a>(
+    wanted: &'static str,
+    word: Keyword,
+    remark: &'static str,
+    remedy: &'static str,
+) -> Here<'a> {
+    Here::new(Wanted::Text(wanted), Read::Word { word, remark }).advice(remedy)
+}
+
+/// A section of a CVRP stands in a TSP.
+fn for_cvrp<'a>(spot: &Spot<'a>, word: Keyword) -> Here<'a> {
+    let line = header(spot.text, Keyword::Type).map_or(1, |found| found.line);
+    Here::new(
+        Wanted::Text("a section of a TSP"),
+        Read::ForCvrp { word, line },
+    )
+    .with(Remedy::Outside(OutsideRemedy::Type(line)))
+    .beside(line)
+}
+
+/// Weights stand in a problem that has none.
+fn without_weights<'a>(spot: &Spot<'a>) -> Here<'a> {
+    let read = match header(spot.text, Keyword::EdgeWeightType) {
+        Some(found) if !spelled(first_token(found.bytes), b"EXPLICIT") => Read::NoWeights {
+            bytes: first_token(found.bytes),
+            line: found.line,
+        },
+        _ => Read::Text("EDGE_WEIGHT_SECTION, but EDGE_WEIGHT_FORMAT is FUNCTION"),
+    };
+    Here::new(
+        Wanted::Text("no weights, which the headers do not announce"),
+        read,
+    )
+    .advice(
+        "Write EDGE_WEIGHT_TYPE : EXPLICIT and the format of the weights, or remove the section with its lines.",
+    )
+}
+
+/// A section is not supported at all.
+fn other_section<'a>(word: Keyword) -> Here<'a> {
+    let remedy = if word == Keyword::TourSection {
+        "Remove the section with its lines. A tour has a file of its own, with TYPE : TOUR."
+    } else {
+        "Remove the section with its lines, if the problem is the same without it."
+    };
+    other_word(
+        "a section that tourkit reads",
+        word,
+        ", which is not supported in a problem",
+        remedy,
+    )
+}
+
+/// A tour file has another type, or a keyword of problems.
+fn in_tour<'a>(spot: &Spot<'a>, word: Keyword) -> Here<'a> {
+    if word == Keyword::Type {
+        return valued(
+            spot,
+            "TYPE : TOUR",
+            "Give a tour file here. A problem comes first: tourkit check PROBLEM TOUR.",
+        );
+    }
+    other_word(
+        "NAME, COMMENT, TYPE, DIMENSION, TOUR_SECTION or EOF",
+        word,
+        ", which is for problem files",
+        "Remove the line, or, if this is the problem, give it first: tourkit check PROBLEM TOUR.",
+    )
+}

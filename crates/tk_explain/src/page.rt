@@ -1,0 +1,93 @@
+//! The text of an explanation, as it grows.
+ghost use Rattle.std.specs.Prelude.{◌<◌, IfOk};
+ghost use Rattle.std.specs.String.{string_len};
+
+use std::alloc::{AllocError, Global};
+use std::fmt;
+
+/// The most columns of a line.
+const WIDTH: usize = 100;
+
+/// The columns of a label, without the blank after it.
+const INDENT: usize = 13;
+
+/// What a fault means.
+pub const MEANING: &str = "Meaning:     ";
+
+/// What was wanted at its line.
+pub const WANTED: &str = "Wanted here: ";
+
+/// What was read there.
+pub const READ: &str = "Read:        ";
+
+/// What it usually comes from.
+pub const CAUSES: &str = "Usual causes:";
+
+/// What to do.
+pub const REMEDY: &str = "What to do:  ";
+
+/// The lines so far, without the line feed that ends the last one.
+#[derive(Drop)]
+pub struct Page {
+    alloc: Global,
+    text: String,
+}
+
+impl Page {
+    /// No line.
+    pub fn new(alloc: Global) -> Page {
+        Page {
+            alloc,
+            text: String::new(alloc),
+        }
+    }
+
+    /// Ends the line before a new one.
+    fn begin(&mut self) -> Result<(), AllocError> {
+        if self.text.is_empty() {
+            return Ok(());
+        }
+        self.text.push_str("\n")
+    }
+
+    /// Adds a line.
+    ///
+    /// # Errors
+    /// `AllocError` if memory runs out, as for all functions of a page.
+    pub fn line<D: fmt::Display>(&mut self, line: &D) -> Result<(), AllocError> {
+        self.begin()?;
+        write!(self.text, "{line}")
+    }
+
+    /// Adds a text after a label.
+    pub fn labelled<D: fmt::Display>(&mut self, label: &str, text: &D) -> Result<(), AllocError> {
+        let text = text.to_string(self.alloc)?;
+        self.begin()?;
+        self.text.push_str(label)?;
+        self.wrap(&text)
+    }
+
+    /// Adds the words of a text. They go on on further lines, which are indented.
+    fn wrap(&mut self, text: &str) -> Result<(), AllocError> {
+        let mut column = INDENT;
+        for word in text.split(' ') {
+            column = column.saturating_add(word.len()).saturating_add(1);
+            if column > WIDTH {
+                self.text.push_str("\n             ")?;
+                column = INDENT.saturating_add(word.len()).saturating_add(1);
+            }
+            self.text.push(' ')?;
+            self.text.push_str(word)?;
+        }
+        Ok(())
+    }
+
+    /// The whole text, with the end of its last line.
+    pub fn finished(self) -> Result<String, AllocError>
+        ensures { IfOk result (λ text. 0 < string_len text) }
+    {
+        let mut text = self.text;
+        text.push_str("\n")?;
+        Ok(text)
+    }
+}

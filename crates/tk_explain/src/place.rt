@@ -1,0 +1,179 @@
+//! Where a line stands in a problem or a tour text, read line by line and without regard to faults.
+ghost use Rattle.std.specs.Prelude.{◌≤◌};
+
+use crate::lines::{
+    Found, count_tokens, first_token, header, keyword_at, token_after, value_behind,
+};
+use tk_words::{Keyword, Role, blank, integer, role};
+
+/// A section, and how many of its numbers stand before a line.
+#[derive(Clone, Copy)]
+pub struct Place {
+    pub section: Keyword,
+    pub numbers: u64,
+}
+
+/// How many numbers an entry of a section has.
+pub fn entry_width(section: Keyword) -> u64
+    ensures some { 1 ≤ result }
+{
+    match section {
+        Keyword::NodeCoordSection | Keyword::DisplayDataSection => 3,
+        Keyword::DemandSection => 2,
+        _ => 1,
+    }
+}
+
+/// The section whose numbers may stand on a line, if one has begun before it and no other keyword has come since.
+pub fn place_of(text: &[u8], number: u64) -> Option<Place> {
+    let mut place = None;
+    let mut count: u64 = 0;
+    for line in text.split(|byte| *byte == b'\n') {
+        count = count.saturating_add(1);
+        if count >= number {
+            return place;
+        }
+        place = place_after(place, line);
+    }
+    place
+}
+
+/// The place after a line.
+fn place_after(place: Option<Place>, line: &[u8]) -> Option<Place> {
+    if let Some(word) = keyword_at(line) {
+        if role(word) != Role::BeginsSection {
+            return None;
+        }
+        return Some(Place {
+            section: word,
+            numbers: count_tokens(value_behind(line, b':')),
+        });
+    }
+    let place = place?;
+    Some(Place {
+        section: place.section,
+        numbers: place.numbers.saturating_add(count_tokens(line)),
+    })
+}
+
+/// How many numbers a section has, up to the next keyword.
+pub fn numbers_in(text: &[u8], section: Keyword) -> u64 {
+    let mut place = None;
+    for line in text.split(|byte| *byte == b'\n') {
+        let next = place_after(place, line);
+        if is_in(place, section) && !is_in(next, section) {
+            return count_of(place);
+        }
+        place = next;
+    }
+    if is_in(place, section) {
+        count_of(place)
+    } else {
+        0
+    }
+}
+
+/// Whether a place is in a section.
+fn is_in(place: Option<Place>, section: Keyword) -> bool {
+    match place {
+        Some(place) => place.section == section,
+        None => false,
+    }
+}
+
+/// How many numbers stand before a place.
+fn count_of(place: Option<Place>) -> u64 {
+    match place {
+        Some(place) => place.numbers,
+        None => 0,
+    }
+}
+
+/// The part of a line that has numbers of a section.
+fn numbers_on(line: &[u8]) -> &[u8] {
+    match keyword_at(line) {
+        Some(_) => value_behind(line, b':'),
+        None => line,
+    }
+}
+
+/// A number of a section, counted from 0.
+pub fn number_at(text: &[u8], section: Keyword, index: u64) -> Option<Found<'_>> {
+    let mut place = None;
+    let mut left = index;
+    let mut count: u64 = 0;
+    for line in text.split(|byte| *byte == b'\n') {
+        count = count.saturating_add(1);
+        place = place_after(place, line);
+        if !is_in(place, section) {
+            continue;
+        }
+        match token_after(numbers_on(line), left) {
+            Ok(bytes) => return Some(Found { line: count, bytes }),
+            Err(more) => left = more,
+        }
+    }
+    None
+}
+
+/// How many numbers of a section stand before the first entry with this node: `None` if there is no such entry.
+pub fn node_index(text: &[u8], section: Keyword, node: i64) -> Option<u64> {
+    let mut place = None;
+    for line in text.split(|byte| *byte == b'\n') {
+        let before = place;
+        place = place_after(place, line);
+        if !is_in(place, section) {
+            continue;
+        }
+        let begun = if keyword_at(line).is_some() {
+            0
+        } else {
+            count_of(before)
+        };
+        if let Some(index) = node_on(numbers_on(line), section, begun, node) {
+            return Some(index);
+        }
+    }
+    None
+}
+
+/// The same on one line, before which so many numbers of the section stand.
+fn node_on(line: &[u8], section: Keyword, begun: u64, node: i64) -> Option<u64> {
+    let mut index = begun;
+    let width = entry_width(section);
+    for token in line.split(|byte| blank(*byte)) {
+        if token.is_empty() {
+            continue;
+        }
+        if index % width == 0 && integer(token) == Some(node) {
+            return Some(index);
+        }
+        index = index.saturating_add(1);
+    }
+    None
+}
+
+/// The number that a header says, if it is there and says one.
+pub fn header_number(text: &[u8], word: Keyword) -> Option<u64> {
+    let found = header(text, word)?;
+    u64::try_from(integer(first_token(found.bytes))?).ok()
+}
+
+/// The first line of a section, up to a line, on which an entry is not whole: its number, and how many numbers it has.
+pub fn uneven_line(text: &[u8], section: Keyword, last: u64) -> Option<(u64, u64)> {
+    let mut place = None;
+    let mut number: u64 = 0;
+    let width = entry_width(section);
+    for line in text.split(|byte| *byte == b'\n') {
+        number = number.saturating_add(1);
+        if number > last {
+            return None;
+        }
+        place = place_after(place, line);
+        let count = count_tokens(numbers_on(line));
+        if is_in(place, section) && count % width != 0 {
+            return Some((number, count));
+        }
+    }
+    None
+}

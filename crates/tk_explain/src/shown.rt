@@ -1,0 +1,54 @@
+//! Bytes of a file, as an explanation shows them.
+use std::fmt;
+
+/// The most bytes of a line that are shown.
+const LINE_WIDTH: usize = 76;
+
+/// The most bytes of a word that are shown.
+const WORD_WIDTH: usize = 40;
+
+/// So many bytes at most, and two dots where there are more.
+#[derive(Clone, Copy)]
+pub struct Shown<'a> {
+    bytes: &'a [u8],
+    width: usize,
+}
+
+/// A line, without blanks at its end, cut to what fits a terminal.
+pub fn shown_line(line: &[u8]) -> Shown<'_> {
+    Shown {
+        bytes: line.trim_ascii_end(),
+        width: LINE_WIDTH,
+    }
+}
+
+/// A word or a value, cut to what a sentence can hold.
+pub fn shown_word(word: &[u8]) -> Shown<'_> {
+    Shown {
+        bytes: word,
+        width: WORD_WIDTH,
+    }
+}
+
+impl fmt::Display for Shown<'_> {
+    fn fmt<W: fmt::Write>(&self, f: &mut fmt::Formatter<W>) -> fmt::Result {
+        for byte in self.bytes.iter().take(self.width) {
+            write_byte(f, *byte)?;
+        }
+        if self.bytes.len() > self.width {
+            f.write_str("..")?;
+        }
+        Ok(())
+    }
+}
+
+/// Writes a byte: as it is if it is a printable one of ASCII, a tab as a blank, and any other as its number.
+fn write_byte<W: fmt::Write>(f: &mut fmt::Formatter<W>, byte: u8) -> fmt::Result {
+    if byte == b' ' || byte == b'\t' {
+        f.write_char(' ')
+    } else if byte.is_ascii_graphic() {
+        f.write_char(char::from(byte))
+    } else {
+        write!(f, "\\x{byte:02x}")
+    }
+}

@@ -1,0 +1,59 @@
+//! Files that are no text that tourkit can read, whatever they hold.
+use crate::read::Read;
+use crate::spot::Here;
+use crate::wanted::Wanted;
+
+/// Why a file is no text that can be read.
+#[derive(Clone, Copy, PartialEq, Eq)]
+pub enum Wrapping {
+    /// Compressed by gzip.
+    Gzip,
+    /// UTF-16, by its mark.
+    Utf16,
+    /// A byte order mark before a text in UTF-8.
+    Mark,
+    /// Bytes that are 0, which no text has.
+    Binary,
+}
+
+/// Why a file is no text that can be read, if a line shows it: the front of the first one, or any by a byte 0.
+pub fn wrapping_of(text: &[u8], number: u64, line: &[u8]) -> Option<Wrapping> {
+    if number == 1 {
+        if text.starts_with(b"\x1f\x8b") {
+            return Some(Wrapping::Gzip);
+        }
+        if text.starts_with(b"\xef\xbb\xbf") {
+            return Some(Wrapping::Mark);
+        }
+        if text.starts_with(b"\xff\xfe") || text.starts_with(b"\xfe\xff") {
+            return Some(Wrapping::Utf16);
+        }
+    }
+    if line.contains(&0) {
+        return Some(Wrapping::Binary);
+    }
+    None
+}
+
+/// What stands where a file is no text that can be read.
+pub fn wrapped<'a>(wrapping: Wrapping) -> Here<'a> {
+    let (read, remedy) = match wrapping {
+        Wrapping::Gzip => (
+            "a file that gzip has compressed",
+            "Decompress it, as in zcat FILE.tsp.gz | tourkit check - TOUR.",
+        ),
+        Wrapping::Mark => (
+            "a byte order mark (the bytes ef bb bf), which an editor has put before the text",
+            "Save the file as UTF-8 without the mark, or cut it off: tail -c +4 FILE >NEW.",
+        ),
+        Wrapping::Utf16 => (
+            "a text in UTF-16",
+            "Save the file as UTF-8 or ASCII: iconv -f UTF-16 -t UTF-8 FILE >NEW.",
+        ),
+        Wrapping::Binary => (
+            "bytes that are 0, which no such text has",
+            "Give the text file. An archive has to be unpacked, and a text in UTF-16 saved as UTF-8.",
+        ),
+    };
+    Here::new(Wanted::Text("a text in ASCII or UTF-8"), Read::Text(read)).advice(remedy)
+}
