@@ -1,5 +1,4 @@
-//! The tests of `tk_text`, but for those of problem texts, in a crate of their own: the tests of a crate are proved
-//! together with all of its functions.
+//! The tests of `tk_text`, in a crate of their own: the tests of a crate are proved together with all of its functions.
 #![tactic(auto)]
 
 #[cfg(test)]
@@ -10,6 +9,8 @@ mod faults;
 mod numbers;
 #[cfg(test)]
 mod points;
+#[cfg(test)]
+mod problems;
 #[cfg(test)]
 mod solutions;
 #[cfg(test)]

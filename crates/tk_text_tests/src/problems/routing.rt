@@ -1,6 +1,6 @@
 //! Problem texts whose demands, depot or routing are refused.
 
-use crate::read_both_ways::refuse;
+use crate::problems::read_both_ways::refuse;
 use tk_text::{Keyword, TextKind};
 
 #[test]

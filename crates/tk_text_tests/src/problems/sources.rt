@@ -1,7 +1,7 @@
 //! Problem texts from sources that fail.
 
-use crate::read_both_ways::read_dripping;
-use crate::whole::listed;
+use crate::problems::read_both_ways::read_dripping;
+use crate::problems::whole::listed;
 use std::alloc::Global;
 use std::process::Abort;
 use tk_text::TextKind;

@@ -1,6 +1,6 @@
 //! Problem texts whose sections are refused.
 
-use crate::read_both_ways::refuse;
+use crate::problems::read_both_ways::refuse;
 use tk_text::{Keyword, TextKind};
 
 #[test]

@@ -1,6 +1,6 @@
 //! Problem texts whose lines and headers are refused.
 
-use crate::read_both_ways::refuse;
+use crate::problems::read_both_ways::refuse;
 use std::alloc::{AllocError, Global};
 use std::process::Abort;
 use std::test::Fail;

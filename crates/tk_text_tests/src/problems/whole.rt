@@ -1,6 +1,6 @@
 //! Problem texts that are accepted, and each beginning of some.
 
-use crate::read_both_ways::{are_places, fault, is_routing, read};
+use crate::problems::read_both_ways::{are_places, fault, is_routing, read};
 use std::alloc::{AllocError, Global};
 use std::process::Abort;
 use std::test::Fail;
