@@ -1,5 +1,7 @@
 pub mod Beginning
 pub mod Facts
+pub mod Joined
+pub mod Joining
 pub mod Listing
 pub mod Names
 pub mod Naming

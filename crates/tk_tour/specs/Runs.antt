@@ -89,12 +89,19 @@ Names runs id low =
     (k : ℕ) × (k < length runs)
     × ((d : Run) → ((slice_index_or runs k d).id ≡ id) × ((slice_index_or runs k d).low ≡ low))
 
--- each run names the one that holds the place after its last one, and the table names for each bucket of places one
--- that does not begin after it
+-- the run of that name holds the place of the array
+abbrev pub Holds : List Run → ℕ → ℕ → Type 0
+Holds runs id place =
+    (k : ℕ) × (k < length runs)
+    × ((d : Run) → ((slice_index_or runs k d).id ≡ id) × ((slice_index_or runs k d).low ≤ place)
+    × (place < (slice_index_or runs k d).high))
+
+-- each run names the one that holds the place after its last one, and the table names for each bucket of places the one
+-- that holds the first of them
 pub record CanBeFound (n bucket : ℕ) (runs : List Run) (table : List ℕ) : Type 0 where
   pub next : (k : ℕ) (d : Run) → k < length runs → (slice_index_or runs k d).high < n →
       Names runs (slice_index_or runs k d).next (slice_index_or runs k d).high
-  pub early : (b : ℕ) → b < length table → (low : ℕ) × (low ≤ b * bucket) × Names runs (slice_index table b) low
+  pub early : (b : ℕ) → b < length table → b * bucket < n → Holds runs (slice_index table b) (b * bucket)
 
 -- the same, where home tells where the run of a name stands
 abbrev pub StandsAs : List Run → List ℕ → ℕ → ℕ → Type 0
@@ -103,12 +110,23 @@ StandsAs runs home id low =
     × ((d : Run) → ((slice_index_or runs (slice_index home id) d).id ≡ id)
     × ((slice_index_or runs (slice_index home id) d).low ≡ low))
 
+abbrev pub HoldsAs : List Run → List ℕ → ℕ → ℕ → Type 0
+HoldsAs runs home id place =
+    (slice_index home id < length runs)
+    × ((d : Run) → ((slice_index_or runs (slice_index home id) d).id ≡ id)
+    × ((slice_index_or runs (slice_index home id) d).low ≤ place)
+    × (place < (slice_index_or runs (slice_index home id) d).high))
+
 pub record AreFound (n bucket : ℕ) (runs : List Run) (home table : List ℕ) : Type 0 where
   pub next : (k : ℕ) (d : Run) → k < length runs → (slice_index_or runs k d).high < n →
       StandsAs runs home (slice_index_or runs k d).next (slice_index_or runs k d).high
-  pub early : (b : ℕ) (d : Run) → b < length table →
-      ((slice_index_or runs (slice_index home (slice_index table b)) d).low ≤ b * bucket)
-      × StandsAs runs home (slice_index table b) (slice_index_or runs (slice_index home (slice_index table b)) d).low
+  pub early : (b : ℕ) → b < length table → b * bucket < n → HoldsAs runs home (slice_index table b) (b * bucket)
+
+-- the buckets that begin in the run name it, and the others are as before
+pub record IsNoted (bucket : ℕ) (run : Run) (old new : List ℕ) : Type 0 where
+  pub size : length new ≡ length old
+  pub inside : (b : ℕ) → b < length old → run.low ≤ b * bucket → b * bucket < run.high → slice_index new b ≡ run.id
+  pub others : (b : ℕ) → (b * bucket < run.low) ⊎ (run.high ≤ b * bucket) → slice_index new b ≡ slice_index old b
 
 -- a run in two parts; the part of the lower places keeps the name
 pub record ArePartsAt (q id : ℕ) (run low high : Run) : Type 0 where
@@ -116,6 +134,10 @@ pub record ArePartsAt (q id : ℕ) (run low high : Run) : Type 0 where
   pub high_is : (high.low ≡ q) × (high.high ≡ run.high) × (high.back ≡ run.back) × (high.id ≡ id)
       × (high.next ≡ run.next)
   pub inside : (run.low < q) × (q < run.high)
+
+-- two runs, one after another in the array, are the parts of one; the part of the higher places has the name
+abbrev pub AreParts : ℕ → Run → Run → Type 0
+AreParts id low high = (low.back ≡ high.back) × (low.high ≡ high.low) × (low.next ≡ id) × (high.id ≡ id)
 
 -- the first and the second part of a run, where the second is seen d after the first
 pub record AreSeenParts (d id : ℕ) (run one two : Run) : Type 0 where

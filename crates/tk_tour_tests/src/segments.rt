@@ -181,3 +181,40 @@ fn takes_an_order_where_flips_were_lost(rt: HostRuntime) -> Result<(), Fail> {
     assert!(rt; tour.swaps().checked_sub(swaps) == Some(tour.tour().undo_swaps()));
     Ok(())
 }
+
+// Makes some flips between random cities.
+fn flip_some<S: TourStore>(rt: &impl Abort, tour: &mut S, flips: u32, state: &mut u64) {
+    let n = tour.size();
+    assert!(rt; 1 <= n && n <= 100_000);
+    for _ in 0..flips {
+        let (a, c) = (draw_below(state, n) + 1, draw_below(state, n) + 1);
+        if a != c {
+            let ahead = draw_below(state, 2) == 0;
+            let _ = flip_at(rt, tour, a, c, ahead);
+        }
+    }
+}
+
+#[test]
+fn undone_flips_leave_no_more_segments(rt: HostRuntime) -> Result<(), Fail> {
+    for n in [9, 40, 150] {
+        let mut state = n as u64;
+        let cities = shuffled(rt.alloc(), n, &mut state)?;
+        assert!(rt; cities.len() <= 150);
+        let segments = SegmentTour::with_limits(rt.alloc(), &cities, 1, 160)?;
+        let mut tour = JournalTour::new(rt.alloc(), segments, 100)?;
+        for kept in [0, 1, 3] {
+            flip_some(&rt, &mut tour, kept, &mut state);
+            tour.settle();
+            let count = tour.tour().segments();
+            let before = cities_of(rt.alloc(), tour.tour())?;
+            for flips in 0..30 {
+                flip_some(&rt, &mut tour, flips % 7, &mut state);
+                assert!(rt; tour.rewind());
+                assert!(rt; tour.tour().segments() <= count);
+                assert!(rt; cities_of(rt.alloc(), tour.tour())?.as_slice() == before.as_slice());
+            }
+        }
+    }
+    Ok(())
+}

@@ -15,6 +15,7 @@ use Rattle.tk_tour.proofs.StoredTours.Places.{AtPlace, length-begun_at}
 use Rattle.tk_tour.proofs.StoredTours.Reversing.{at_place}
 use Rattle.tk_tour.proofs.SeenTours.Listing.{tour_seen, tour_begun, next_begun, prev_begun, stands_there}
 use Rattle.tk_tour.proofs.SeenTours.RoundTheEnd.{turned_inside, turned_round}
+use Rattle.tk_tour.proofs.SeenTours.Showing.{begun_at-compose}
 use Rattle.tk_tour.proofs.SeenTours.Stepping.{spot_seen, before_place, after_place}
 use Rattle.tk_tour.proofs.SeenTours.Turning.{within_of, length-shown-sum}
 
@@ -141,6 +142,22 @@ reversed_round_list s b k first count e seen h lk lf lc lb le begin at =
     begin) in
     turned_round s.begin b k first count e (seen_of s) (begun_at e (seen_of s)) seen (omega (arith, f.seen, s.begins)) (omega (arith, f.seen, lb)) (omega (arith, f.seen, f.list, lk)) (omega (arith, f.seen, lf)) (omega (arith, f.seen, lc))
     (omega (arith, f.seen, le, lf)) le (subst P (f.list ∙ sym f.seen) at) (subst Q (sym f.seen) moved) refl h
+
+-- the list where the runs are begun elsewhere
+pub begun_list : (s : SeenTour) (b v : ℕ) (seen : List ℕ) → seen ≡ begun_at v (seen_of s) → v < s.runs.size → ((v ≤ s.begin) × (b ≡ s.begin - v)) ⊎ ((s.begin < v) × (b ≡ s.begin + s.runs.size - v)) →
+    (begun_at b seen ≡ list_of s) × (b < s.runs.size)
+begun_list s b v seen e lv begin =
+    let f = facts s in
+    let n : ℕ = s.runs.size in
+    let lb : b < n =
+    ⊎_elim (λ (a : (v ≤ s.begin) × (b ≡ s.begin - v)). omega (arith, a, s.begins)) (λ (a : (s.begin < v) × (b ≡ s.begin + n - v)). omega (arith, a, lv)) begin in
+    let moved : AtPlace n v b s.begin = at_place n v b s.begin
+    (⊎_elim
+    (λ (a : (v ≤ s.begin) × (b ≡ s.begin - v)). inl (omega (arith, a, s.begins), omega (arith, a)))
+    (λ (a : (s.begin < v) × (b ≡ s.begin + n - v)). inr (omega (arith, a, lv), omega (arith, a, lv)))
+    begin) in
+    let P : ℕ → Type 0 = λ u. AtPlace u v b s.begin in
+    (ap (begun_at b) e ∙ begun_at-compose (seen_of s) v b s.begin (omega (arith, f.seen, lv)) (omega (arith, f.seen, lb)) (omega (arith, f.seen, s.begins)) (subst P (sym f.seen) moved), lb)
 
 -- the k-th place of the list is seen at v
 pub seen_in : (s : SeenTour) (k v : ℕ) → k < length (list_of s) → IsPlaceFrom (length (list_of s)) s.begin k v → v < s.runs.size

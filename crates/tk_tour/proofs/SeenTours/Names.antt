@@ -1,8 +1,8 @@
 -- The names of runs: after a split, and where the runs stand in another order.
-use Rattle.std.proofs.Common.{◌≡◌, ◌≢◌, ℕ, true, false, ◌+◌, ◌-◌, ◌*◌, ◌<◌, ◌≤◌, ⊎_elim, List, length, set, sym, ap, ◌∙◌, subst, arith, get_or}
-use Rattle.std.proofs.lemmas.Bool.{cases_lt, cases_eq}
-use Rattle.std.proofs.lemmas.List.{get_or_default, length-set, get_or-set_same, get_or-set_other}
-use Rattle.tk_tour.specs.Runs.{IsSplit, HaveNames, AreNamed, AreNamedTo, SameBefore, Names, CanBeFound, StandsAs, AreFound}
+use Rattle.std.proofs.Common.{◌≡◌, ◌≢◌, ℕ, true, false, ◌+◌, ◌-◌, ◌<◌, ◌≤◌, ⊎_elim, List, length, set, sym, ap, ◌∙◌, subst, arith, get_or}
+use Rattle.std.proofs.lemmas.Bool.{cases_lt}
+use Rattle.std.proofs.lemmas.List.{get_or_default, get_or-set_same, get_or-set_other}
+use Rattle.tk_tour.specs.Runs.{IsSplit, HaveNames, AreNamed, AreNamedTo, SameBefore, Names, Holds, CanBeFound, StandsAs, HoldsAs, AreFound}
 use Rattle.tk_tour.specs.declared.stores.segments.run.Run.{Run}
 use Rattle.tk_tour.proofs.SeenTours.Splitting.{cases_bool}
 use Rattle.tk_tour.proofs.SeenTours.Naming.{split_at, split_entry_before, split_entry_beyond}
@@ -69,6 +69,33 @@ names_after f old new h names =
           (cases_lt k f);
     }
 
+-- and before that
+pub names_before : (f : ℕ) (old new : List Run) → IdsAfter f old new → HaveNames new → HaveNames old
+names_before f old new h names =
+    let fresh : (i : ℕ) (d : Run) → i < length new → i ≢ f → (get_or new i d).id < length old = λ i d li ne.
+    let apart : (get_or new i d).id ≢ length old = λ e.
+    ⊎_elim
+    (λ (a : i < f). names.apart i f d a (omega (arith, h.inside, h.size)) (e ∙ sym (h.fresh d)))
+    (λ (a : f ≤ i). names.apart f i d (omega (arith, a, ne)) li (h.fresh d ∙ sym e))
+    (cases_lt i f) in
+    omega (arith, names.less i d li, h.size, apart) in
+    record {
+      less = λ k d lk.
+          ⊎_elim
+          (λ (a : k < f). omega (arith, fresh k d (omega (arith, lk, h.size)) (omega (arith, a)), h.before k d a))
+          (λ (a : f ≤ k). omega (arith, fresh (k + 1) d (omega (arith, lk, h.size)) (omega (arith, a)), h.beyond k d a lk))
+          (cases_lt k f);
+      apart = λ j k d lt lk e.
+          ⊎_elim
+          (λ (a : k < f). names.apart j k d lt (omega (arith, lk, h.size)) (h.before j d (omega (arith, lt, a)) ∙ e ∙ sym (h.before k d a)))
+          (λ (a : f ≤ k). ⊎_elim
+          (λ (b : j < f). names.apart j (k + 1) d (omega (arith, lt)) (omega (arith, lk, h.size)) (h.before j d b ∙ e ∙ sym (h.beyond k d a lk)))
+          (λ (b : f ≤ j).
+          names.apart (j + 1) (k + 1) d (omega (arith, lt)) (omega (arith, lk, h.size)) (h.beyond j d b (omega (arith, lt, lk)) ∙ e ∙ sym (h.beyond k d a lk)))
+          (cases_lt j f))
+          (cases_lt k f);
+    }
+
 pub same_after : (k f : ℕ) (old new : List Run) → IdsAfter f old new → k ≤ f → SameBefore k old new
 same_after k f old new h le = (omega (arith, le, h.inside), λ j d lt. h.before j d (omega (arith, lt, le)))
 
@@ -117,6 +144,13 @@ split_names old new k m lt s h =
     ⊎_elim
     (λ (e : s.run.back ≡ true). names_after k old new ((split_ids old new k m lt s).0 e) h)
     (λ (e : s.run.back ≡ false). names_after (k + 1) old new ((split_ids old new k m lt s).1 e) h)
+    (cases_bool s.run.back)
+
+pub split_names_before : (old new : List Run) (k m : ℕ) → k < length old → IsSplit old new k m → HaveNames new → HaveNames old
+split_names_before old new k m lt s h =
+    ⊎_elim
+    (λ (e : s.run.back ≡ true). names_before k old new ((split_ids old new k m lt s).0 e) h)
+    (λ (e : s.run.back ≡ false). names_before (k + 1) old new ((split_ids old new k m lt s).1 e) h)
     (cases_bool s.run.back)
 
 pub split_same : (old new : List Run) (k m : ℕ) → k < length old → IsSplit old new k m → SameBefore k old new
@@ -172,6 +206,12 @@ reordered_found R n bucket old new table h found =
       omega (arith, t.1, h.size),
       (λ d. let a = h.alike t.0 k.0 d t.1 k.1 t.2 in (a.id ∙ (k.2 d).0, a.low ∙ (k.2 d).1)),
     ) in
+    let holds : (id place : ℕ) → Holds old id place → Holds new id place = λ id place k.
+    let t = h.to k.0 k.1 in (
+      t.0,
+      omega (arith, t.1, h.size),
+      (λ d. let a = h.alike t.0 k.0 d t.1 k.1 t.2 in (a.id ∙ (k.2 d).0, omega (arith, a.low, (k.2 d).1), omega (arith, a.high, (k.2 d).2))),
+    ) in
     record {
       next = λ k d lk lt.
           let lk' : k < length old = omega (arith, lk, h.size) in
@@ -180,14 +220,14 @@ reordered_found R n bucket old new table h found =
           let P : ℕ → Type 0 = λ u. Names new u (get_or new k d).high in
           let Q : ℕ → Type 0 = λ u. Names new (get_or old f.0 d).next u in
           subst P (sym a.next) (subst Q (sym a.high) (names _ _ (found.next f.0 d f.1 (omega (arith, a.high, lt)))));
-      early = λ b lb. let e = found.early b lb in (e.0, e.1, names _ _ e.2);
+      early = λ b lb lt. holds _ _ (found.early b lb lt);
     }
 
 -- the run of a name, by the table of where runs stand
-pub found_by_names : (n bucket : ℕ) (runs : List Run) (home table : List ℕ) (none : Run) → AreFound n bucket runs home table → CanBeFound n bucket runs table
-found_by_names n bucket runs home table none h = record {
+pub found_by_names : (n bucket : ℕ) (runs : List Run) (home table : List ℕ) → AreFound n bucket runs home table → CanBeFound n bucket runs table
+found_by_names n bucket runs home table h = record {
   next = λ k d lk lt. let f = h.next k d lk lt in (get_or home (get_or runs k d).next 0, f.0, f.1);
-  early = λ b lb. let f = h.early b none lb in ((get_or runs (get_or home (get_or table b 0) 0) none).low, f.0, (get_or home (get_or table b 0) 0, f.1.0, f.1.1));
+  early = λ b lb lt. let f = h.early b lb lt in (get_or home (get_or table b 0) 0, f.0, f.1);
 }
 
 stands_as : (runs : List Run) (home : List ℕ) (id low : ℕ) → AreNamed runs home → Names runs id low → StandsAs runs home id low
@@ -197,34 +237,17 @@ stands_as runs home id low named h =
     let P : ℕ → Type 0 = λ u. (u < length runs) × ((d : Run) → ((get_or runs u d).id ≡ id) × ((get_or runs u d).low ≡ low)) in
     subst P (sym e) (h.1, h.2)
 
+holds_as : (runs : List Run) (home : List ℕ) (id place : ℕ) → AreNamed runs home → Holds runs id place → HoldsAs runs home id place
+holds_as runs home id place named h =
+    let none : Run = record { low = 0; high = 0; start = 0; id = 0; next = 0; back = false } in
+    let e : get_or home id 0 ≡ h.0 = ap (λ u. get_or home u 0) (sym (h.2 none).0) ∙ (named h.0 none h.1).1 in
+    let P : ℕ → Type 0 = λ u. (u < length runs) × ((d : Run) → ((get_or runs u d).id ≡ id) × ((get_or runs u d).low ≤ place) × (place < (get_or runs u d).high)) in
+    subst P (sym e) (h.1, h.2)
+
 pub found_by_home : (n bucket : ℕ) (runs : List Run) (home table : List ℕ) → AreNamed runs home → CanBeFound n bucket runs table → AreFound n bucket runs home table
 found_by_home n bucket runs home table named h = record {
   next = λ k d lk lt. stands_as runs home _ _ named (h.next k d lk lt);
-  early = λ b d lb.
-      let f = h.early b lb in
-      let s = stands_as runs home (get_or table b 0) f.0 named f.2 in
-      let P : ℕ → Type 0 = λ u. (u ≤ b * bucket) × StandsAs runs home (get_or table b 0) u in
-      subst P (sym (s.1 d).1) (f.1, s);
-}
-
--- one more bucket that names a run
-pub found_more : (n bucket b id low : ℕ) (runs : List Run) (table : List ℕ) → Names runs id low → low ≤ b * bucket →
-    CanBeFound n bucket runs table → CanBeFound n bucket runs (set table b id)
-found_more n bucket b id low runs table names le found = record {
-  next = found.next;
-  early = λ c lc.
-      let lc' : c < length table = omega (arith, lc, length-set table b id) in
-      ⊎_elim
-      (λ (e : c ≡ b).
-      let v : get_or (set table b id) c 0 ≡ id = ap (λ u. get_or (set table b id) u 0) e ∙ get_or-set_same table b id 0 (omega (arith, e, lc')) in
-      let P : ℕ → Type 0 = λ u. Names runs u low in
-      (low, omega (arith, le, ap (λ u. u * bucket) e), subst P (sym v) names))
-      (λ (ne : c ≢ b).
-      let v : get_or (set table b id) c 0 ≡ get_or table c 0 = get_or-set_other table b c id 0 ne in
-      let h = found.early c lc' in
-      let P : ℕ → Type 0 = λ u. Names runs u h.0 in
-      (h.0, h.1, subst P (sym v) h.2))
-      (cases_eq c b);
+  early = λ b lb lt. holds_as runs home _ _ named (h.early b lb lt);
 }
 
 -- one more run that stands where its name says

@@ -2,7 +2,7 @@
 use Rattle.std.proofs.Common.{◌≡◌, ◌≢◌, ℕ, true, false, ◌+◌, ◌-◌, ◌<◌, ◌≤◌, ◌⊎◌, inl, inr, ⊎_elim, suc, zero, List, ◌∷◌, ◌++◌, length, take, drop, sym, ap, ◌∙◌, subst, arith, get_or}
 use Rattle.std.proofs.lemmas.Bool.{cases_lt}
 use Rattle.std.proofs.lemmas.List.{get_or_default, get_or-drop, get_or-take, get_or_append_left, get_or-append_right, length-take-le, length-drop, length-append}
-use Rattle.tk_tour.specs.Runs.{IsSplit, AreNamed, Names, CanBeFound}
+use Rattle.tk_tour.specs.Runs.{IsSplit, AreNamed, Names, Holds}
 use Rattle.tk_tour.specs.declared.stores.segments.run.Run.{Run}
 use Rattle.tk_tour.proofs.SeenTours.Splitting.{cases_bool}
 
@@ -13,6 +13,13 @@ named_home runs home id lo d named h =
     let k = named h.0 d h.1 in
     let e : get_or home id 0 ≡ h.0 = ap (λ u. get_or home u 0) (sym (h.2 d).0) ∙ k.1 in
     (omega (arith, e, h.1), ap (λ u. (get_or runs u d).low) e ∙ (h.2 d).1)
+
+pub held_home : (runs : List Run) (home : List ℕ) (id place : ℕ) (d : Run) → AreNamed runs home → (h : Holds runs id place) →
+    (id < length runs) × (get_or home id 0 < length runs) × ((get_or runs (get_or home id 0) d).low ≤ place)
+held_home runs home id place d named h =
+    let k = named h.0 d h.1 in
+    let e : get_or home id 0 ≡ h.0 = ap (λ u. get_or home u 0) (sym (h.2 d).0) ∙ k.1 in
+    (omega (arith, k.0, (h.2 d).0), omega (arith, e, h.1), omega (arith, ap (λ u. (get_or runs u d).low) e, (h.2 d).1))
 
 pub named_less : (runs : List Run) (home : List ℕ) (id lo : ℕ) (d : Run) → AreNamed runs home → Names runs id lo → id < length runs
 named_less runs home id lo d named h = omega (arith, named h.0 d h.1, (h.2 d).0)
@@ -171,10 +178,3 @@ split_next n old new k m lt s next i d li hi =
     ⊎_elim (λ (e : get_or new i d ≡ s.one). subst P (sym e) both.0) (λ (e : get_or new i d ≡ s.two). subst P (sym e) both.1) z)
     (split_entry old new k m i d lt s li) in
     all hi
-
--- so runs can be found after a split, by the same table
-pub split_found : (n bucket : ℕ) (old new : List Run) (table : List ℕ) (k m : ℕ) → k < length old → IsSplit old new k m → CanBeFound n bucket old table → CanBeFound n bucket new table
-split_found n bucket old new table k m lt s h = record {
-  next = split_next n old new k m lt s h.next;
-  early = λ b lb. let e = h.early b lb in (e.0, e.1, Names-split old new k m _ _ lt s e.2);
-}

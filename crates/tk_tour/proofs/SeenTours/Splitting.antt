@@ -69,7 +69,7 @@ split_list old k run one two lt =
     ∙ ap (λ u. (A ++ one ∷ []) ++ two ∷ u) (drop_at (A ++ one ∷ []) C (k + 1) l)
     ∙ append_assoc A (one ∷ []) (two ∷ C)
 
-old_is : (old : List Run) (k : ℕ) (run : Run) → k < length old → run ≡ get_or old k run → old ≡ take k old ++ run ∷ drop (k + 1) old
+pub old_is : (old : List Run) (k : ℕ) (run : Run) → k < length old → run ≡ get_or old k run → old ≡ take k old ++ run ∷ drop (k + 1) old
 old_is old k run lt e = sym (take-append-drop k old) ∙ ap (λ u. take k old ++ u) (drop_more old k run lt ∙ ap (λ u. u ∷ drop (k + 1) old) (sym e))
 
 -- a split shows the same
@@ -79,7 +79,7 @@ split_shows order old new k d lt h =
     ∙ shown-parted order (take k old) (drop (k + 1) old) h.run h.one h.two (shown_by-parts order d (length old) h.run h.one h.two h.parts)
     ∙ ap (shown order) (sym (old_is old k h.run lt h.run_is))
 
-head_of : {X : Type 0} (x y : X) (xs ys : List X) → x ∷ xs ≡ y ∷ ys → (x ≡ y) × (xs ≡ ys)
+pub head_of : {X : Type 0} (x y : X) (xs ys : List X) → x ∷ xs ≡ y ∷ ys → (x ≡ y) × (xs ≡ ys)
 head_of x y xs ys e = (cc, cc)
 
 pub split_laid : (n : ℕ) (old new : List Run) (k d : ℕ) → k < length old → AreLaidOut n old → (s : IsSplit old new k d) → d < size_of s.run → AreLaidOut n new

@@ -1,7 +1,7 @@
 -- One run of all places as they are.
-use Rattle.std.proofs.Common.{◌≡◌, ℕ, ◌<◌, List, [], ◌∷◌, length, sym, ap, ◌∙◌, subst, arith, get_or, false}
+use Rattle.std.proofs.Common.{◌≡◌, ℕ, ◌*◌, ◌<◌, List, [], ◌∷◌, length, sym, ap, ◌∙◌, subst, arith, get_or, false}
 use Rattle.std.proofs.lemmas.List.Sums.{sum_by-cons}
-use Rattle.tk_tour.specs.Runs.{size_of, AreLaidOut, AreNamed, Names, CanBeFound}
+use Rattle.tk_tour.specs.Runs.{size_of, AreLaidOut, AreNamed, Holds, CanBeFound}
 use Rattle.tk_tour.specs.declared.stores.segments.run.Run.{Run}
 use Rattle.tk_tour.proofs.SeenTours.SeenPlaces.{AreWithin}
 use Rattle.tk_tour.proofs.SeenTours.Turning.{all_within}
@@ -30,7 +30,7 @@ whole_found n run table h zeros = record {
       let z : k ≡ 0 = omega (arith, lt) in
       let e : (get_or (run ∷ []) k d).high ≡ run.high = ap (λ u. (get_or (run ∷ []) u d).high) z in
       absurd (omega (arith, e, h.1, high));
-  early = λ b lb.
-      let P : ℕ → Type 0 = λ u. Names (run ∷ []) u 0 in
-      (0, omega arith, subst P (sym (zeros b lb)) (0, omega arith, λ d. (h.3, h.0)));
+  early = λ b lb lt.
+      let P : ℕ → Type 0 = λ u. Holds (run ∷ []) u (b * 32) in
+      subst P (sym (zeros b lb)) (0, omega arith, λ d. (h.3, omega (arith, h.0), omega (arith, h.1, lt)));
 }

@@ -64,6 +64,10 @@ paid_counted n room writes runs swaps counted h some small few le =
     let k = paid_saturated n room writes runs swaps h some small few in
     record { some = k.some; paid = omega (arith, k.paid, less_times room (saturated swaps) counted le) }
 
+-- runs are joined
+pub paid_fewer : (n room writes runs swaps runs' : ℕ) → ArePaid n room writes runs swaps → 1 ≤ runs' → runs' ≤ runs → ArePaid n room writes runs' swaps
+paid_fewer n room writes runs swaps runs' h some le = record { some = some; paid = omega (arith, h.paid, less_times n (runs' - 1) (runs - 1) (omega (arith, le))) }
+
 -- the array is written from elsewhere
 pub paid_one : (n room writes runs swaps : ℕ) → ArePaid n room writes runs swaps → ArePaid n room writes 1 swaps
 paid_one n room writes runs swaps h = record { some = omega arith; paid = omega (arith, h.paid) }

@@ -1,5 +1,6 @@
 //! A tour that is seen through runs of its array: what a long reversal turns round are a few runs, and no cities.
 pub(crate) mod exchanging;
+pub(crate) mod joining;
 pub(crate) mod naming;
 pub(crate) mod run;
 pub(crate) mod runs;

@@ -1,8 +1,7 @@
 //! Where the runs of names stand, and by which names runs are looked for.
-ghost use Rattle.std.specs.Prelude.{◌≡◌, ◌≤◌, ◌<◌, ◌*◌, ℕ, List, length, slice_index, slice_index_or};
+ghost use Rattle.std.specs.Prelude.{◌≡◌, ◌≤◌, ◌*◌, length};
 ghost use Rattle.tk_problem.specs.declared.limits.TheConstants.{CITY_LIMIT};
-ghost use Rattle.tk_tour.specs.Runs.{AreNamed, AreNamedTo, CanBeFound, HaveNames, Names};
-ghost use Rattle.tk_tour.specs.declared.stores.segments.run.Run.{Run};
+ghost use Rattle.tk_tour.specs.Runs.{AreNamed, AreNamedTo, HaveNames, IsNoted};
 
 use crate::stores::segments::run::Run;
 
@@ -11,11 +10,10 @@ const BUCKET: u32 = 32;
 
 /// The buckets that begin in the run name it.
 pub(crate) fn note_run(table: &mut [u32], run: Run)
+    requires order { run.low ≤ run.high }
     requires fits { run.high ≤ 32 * length table.old }
     requires small { run.high ≤ CITY_LIMIT }
-    ensures found { (n : ℕ) (runs : List Run) → Names runs run.id run.low → CanBeFound n 32 runs table.old
-        → CanBeFound n 32 runs table.new }
-    ensures same_length { length table.new ≡ length table.old }
+    ensures { IsNoted 32 run table.old table.new }
 {
     let first = run.low.div_ceil(BUCKET);
     let last = run.high.div_ceil(BUCKET);

@@ -1,7 +1,8 @@
 //! A run: a stretch of an array, seen forwards or backwards.
-ghost use Rattle.std.specs.Prelude.{◌≡◌, ◌≤◌, ◌<◌, ◌+◌};
+ghost use Rattle.std.specs.Prelude.{◌≡◌, ◌≤◌, ◌<◌, ◌+◌, true};
+ghost use Rattle.std.specs.Option.{IfSome};
 ghost use Rattle.tk_problem.specs.declared.limits.TheConstants.{CITY_LIMIT};
-ghost use Rattle.tk_tour.specs.Runs.{AreSeenParts, shown_place, size_of};
+ghost use Rattle.tk_tour.specs.Runs.{AreParts, AreSeenParts, shown_place, size_of};
 
 /// The places from `low` up to `high` of an array, which are seen from `start` on, forwards or backwards. Each run has
 /// a name of its own, and knows the name of the run of the place `high`.
@@ -80,4 +81,38 @@ pub(crate) fn parts_of(run: Run, d: u32, id: u32) -> (Run, Run)
             ..run
         },
     )
+}
+
+// Whether these are the parts of one run, where the part of the higher places has the name `id`.
+fn are_parts(low: Run, high: Run, id: u32) -> bool
+    ensures { result ≡ true → AreParts id low high }
+{
+    low.back == high.back && low.high == high.low && low.next == id && high.id == id
+}
+
+/// The run of which these are the parts, where the second is seen after the first, and the part of the higher places
+/// has the name `id`: none where they are not.
+pub(crate) fn joined(one: Run, two: Run, id: u32) -> Option<Run>
+    requires within { (one.low < one.high) × (two.low < two.high) }
+    ensures { IfSome result (λ run. two.start ≡ one.start + size_of one → AreSeenParts (size_of one) id run one two) }
+{
+    if one.back {
+        if are_parts(two, one, id) {
+            return Some(Run {
+                high: one.high,
+                start: one.start,
+                next: one.next,
+                ..two
+            });
+        }
+        return None;
+    }
+    if are_parts(one, two, id) {
+        return Some(Run {
+            high: two.high,
+            next: two.next,
+            ..one
+        });
+    }
+    None
 }

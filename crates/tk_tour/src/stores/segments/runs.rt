@@ -5,6 +5,7 @@ ghost use Rattle.tk_problem.specs.declared.limits.TheConstants.{CITY_LIMIT};
 ghost use Rattle.tk_tour.specs.Reversal.{begun_at, reversed_places};
 ghost use Rattle.tk_tour.specs.Runs.{AreFound, AreLaidOut, AreNamed, IsAfterPlace, IsSpot, shown};
 
+use crate::stores::segments::joining::{join_runs, parted_at};
 use crate::stores::segments::naming::name_runs;
 use crate::stores::segments::run::Run;
 use crate::stores::segments::spots::{Spot, beside, spot_at, spot_of};
@@ -137,5 +138,22 @@ impl Runs {
         begin_seen(&mut self.runs, &mut self.table, self.size, v);
         turn_rest(&mut self.runs, &mut self.table, self.size, first);
         name_runs(&self.runs, &mut self.home, 0);
+    }
+
+    /// Joins the run of the newest name to the one from which it was parted, if that is beside it again. What was seen
+    /// at the result is then seen first.
+    pub(crate) fn join(&mut self) -> u32
+        ensures first { result < self.old.size }
+        ensures shown { (order : List ℕ) → self.old.size ≤ length order → shown order self.new.runs.items
+            ≡ begun_at result (shown order self.old.runs.items) }
+        ensures fewer { (1 ≤ vec_len self.new.runs) × (vec_len self.new.runs ≤ vec_len self.old.runs) }
+        ensures limits { (self.new.size ≡ self.old.size) × (self.new.most ≡ self.old.most) }
+    {
+        let Some(k) = parted_at(&self.runs, &self.home, self.size) else {
+            return 0;
+        };
+        let first = join_runs(&mut self.runs, &mut self.table, self.size, k);
+        name_runs(&self.runs, &mut self.home, 0);
+        first
     }
 }

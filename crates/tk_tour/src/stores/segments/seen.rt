@@ -192,6 +192,45 @@ impl SeenTour {
         written
     }
 
+    /// Reverses `count` places of the list from `first` on, from 0, and joins runs again that were parted for a reversal
+    /// of the same places: how many places it writes.
+    pub(crate) fn undo(&mut self, first: u32, count: u32) -> u64
+        requires first { first < length (list_of self.old) }
+        requires count { 2 * count ≤ length (list_of self.old) }
+        ensures list { list_of self.new ≡ reversed_places first count (list_of self.old) }
+        ensures paid { (writes swaps : ℕ)
+            → ArePaid (length (list_of self.old)) (room_of self.old) writes (run_count_of self.old) swaps
+            → ArePaid (length (list_of self.old)) (room_of self.old) (writes + result) (run_count_of self.new)
+            (swaps + count / 2) }
+        ensures room { room_of self.new ≡ room_of self.old }
+        ensures small { result ≤ length (list_of self.old) }
+        ensures written { changed (array_of self.old) (array_of self.new) ≤ result }
+        ensures size { length (array_of self.new) ≡ length (array_of self.old) }
+    {
+        let written = self.reverse(first, count);
+        if count <= self.short {
+            return written;
+        }
+        self.join();
+        self.join();
+        written
+    }
+
+    // Joins two runs if they were one when the newest of them was made.
+    fn join(&mut self)
+        ensures list { list_of self.new ≡ list_of self.old }
+        ensures runs { (1 ≤ run_count_of self.new) × (run_count_of self.new ≤ run_count_of self.old) }
+        ensures array { array_of self.new ≡ array_of self.old }
+        ensures room { room_of self.new ≡ room_of self.old }
+    {
+        let first = self.runs.join();
+        self.begin = if first <= self.begin {
+            self.begin - first
+        } else {
+            self.begin + self.runs.size - first
+        };
+    }
+
     // Reverses what is seen at `count` places from `first` on, by exchanges of two cities: how many places it writes.
     fn exchange(&mut self, first: u32, count: u32) -> u64
         requires first { first < length (list_of self.old) }

@@ -1,9 +1,9 @@
 //! A run begins where something is seen.
-ghost use Rattle.std.specs.Prelude.{◌≡◌, ◌≤◌, ◌<◌, ◌+◌, ◌-◌, ◌*◌, ℕ, List, length, slice_index_or, sum_by, take, vec_len};
+ghost use Rattle.std.specs.Prelude.{◌≡◌, ◌≤◌, ◌<◌, ◌+◌, ◌-◌, ◌*◌, ℕ, List, true, false, length, slice_index_or, sum_by, take, vec_len};
 ghost use Rattle.std.specs.List.{insert};
 ghost use Rattle.std.specs.Vec.{vec_capacity};
 ghost use Rattle.tk_problem.specs.declared.limits.TheConstants.{CITY_LIMIT};
-ghost use Rattle.tk_tour.specs.Runs.{AreLaidOut, CanBeFound, HaveNames, IsSplit, Names, SameBefore, shown, size_of};
+ghost use Rattle.tk_tour.specs.Runs.{AreLaidOut, CanBeFound, HaveNames, IsSplit, IsWithin, SameBefore, shown, size_of};
 ghost use Rattle.tk_tour.specs.declared.stores.segments.run.Run.{Run};
 
 use crate::stores::segments::naming::note_run;
@@ -41,8 +41,9 @@ fn split_run(runs: &mut Vec<Run>, k: usize, d: u32)
 fn new_part(runs: &[Run], size: u32, k: usize) -> Run
     requires laid { AreLaidOut size runs.now }
     requires index { k + 1 < length runs.now }
-    ensures names { Names runs.now result.id result.low }
-    ensures bounds { result.high ≤ size }
+    ensures behind { (d : Run) → (slice_index_or runs.now k d).back ≡ true → result ≡ slice_index_or runs.now k d }
+    ensures ahead { (d : Run) → (slice_index_or runs.now k d).back ≡ false → result ≡ slice_index_or runs.now (k + 1) d }
+    ensures within { IsWithin size result }
 {
     let run = runs[k];
     if run.back { run } else { runs[k + 1] }

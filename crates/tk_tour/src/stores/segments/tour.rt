@@ -107,7 +107,7 @@ impl UndoStore for SegmentTour {
     ghost copy_count = { seen_copied };
 
     fn undo(&mut self, flip: &Flip) {
-        let written = self.seen.reverse(flip.first - 1, flip.count);
+        let written = self.seen.undo(flip.first - 1, flip.count);
         self.writes = self.writes.saturating_add(written);
         self.undo_swaps = self.undo_swaps.saturating_add(flip.count as u64 / 2);
     }

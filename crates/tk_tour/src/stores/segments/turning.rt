@@ -104,6 +104,22 @@ pub(crate) fn turn_rest(runs: &mut Vec<Run>, table: &mut [u32], size: u32, first
     turn_runs(runs, size, i, j, first);
 }
 
+/// What the k-th run shows is seen first.
+pub(crate) fn begin_run(runs: &mut [Run], size: u32, k: usize)
+    requires index { k ≤ length runs.old }
+    requires size { size ≤ CITY_LIMIT }
+    requires laid { AreLaidOut size runs.old }
+    ensures shown { (order : List ℕ) → size ≤ length order → shown order runs.new
+        ≡ begun_at (sum_by size_of (take k runs.old)) (shown order runs.old) }
+    ensures laid { AreLaidOut size runs.new }
+    ensures same_length { length runs.new ≡ length runs.old }
+    ensures names { HaveNames runs.old → HaveNames runs.new }
+    ensures found { (table : List ℕ) → CanBeFound size 32 runs.old table → CanBeFound size 32 runs.new table }
+{
+    runs.rotate_left(k);
+    place_runs(runs, 0);
+}
+
 /// What is seen at v is seen first.
 pub(crate) fn begin_seen(runs: &mut Vec<Run>, table: &mut [u32], size: u32, v: u32)
     requires size { size ≤ CITY_LIMIT }
@@ -122,6 +138,5 @@ pub(crate) fn begin_seen(runs: &mut Vec<Run>, table: &mut [u32], size: u32, v: u
     ensures table { length table.new ≡ length table.old }
 {
     let k = cut_runs(runs, table, size, v);
-    runs.rotate_left(k);
-    place_runs(runs, 0);
+    begin_run(runs, size, k);
 }

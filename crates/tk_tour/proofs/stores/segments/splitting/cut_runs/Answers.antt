@@ -1,11 +1,12 @@
-use Rattle.std.proofs.Common.{◌≡◌, ◌<◌, ◌≤◌, ◌+◌, ◌-◌, ◌∙◌, ap, sym, subst, ℕ, List, length, take, arith, get_or}
+use Rattle.std.proofs.Common.{◌≡◌, true, false, ◌<◌, ◌≤◌, ◌+◌, ◌-◌, ◌∙◌, ap, sym, subst, ℕ, List, length, take, arith, get_or}
 use Rattle.std.specs.Prelude.{sum_by}
 use Rattle.std.proofs.lemmas.List.{get_or_default}
-use Rattle.tk_tour.specs.Runs.{size_of, AreLaidOut, Names, SameBefore}
+use Rattle.tk_tour.specs.Runs.{size_of, AreLaidOut, SameBefore}
 use Rattle.tk_tour.specs.declared.stores.segments.run.Run.{Run}
 use Rattle.tk_tour.proofs.SeenTours.Searching.{start_is, sum_more, split_before, split_begins}
 use Rattle.tk_tour.proofs.SeenTours.Splitting.{split_shows, split_laid}
-use Rattle.tk_tour.proofs.SeenTours.Naming.{split_at, split_found}
+use Rattle.tk_tour.proofs.SeenTours.Joining.{split_found}
+use Rattle.tk_tour.proofs.SeenTours.Naming.{split_at}
 use Rattle.tk_tour.proofs.SeenTours.Names.{split_names, split_same}
 use Rattle.tk_tour.proofs.stores.segments.splitting.cut_runs.Goals as goal
 
@@ -136,6 +137,8 @@ returns-clause-found c = λ found.
     let r = c.index.result.now in
     let t = start_there c.args.size h.result c.args.v xs c.deref.result.now r c.deref.ensures.value c.index.ensures h.ensures.index_in h.ensures.from h.ensures.to in
     let s = c.split_run.ensures.split in
-    let P : List Run → Type 0 = λ u. Names u c.new_part.result.id c.new_part.result.low in
-    c.note_run.ensures.found c.args.size c.split_run.new.runs.items (subst P c.deref-2.ensures.value c.new_part.ensures.names)
-    (split_found c.args.size 32 xs c.split_run.new.runs.items c.args.table.now h.result (c.args.v - r.start) t.0 s found)
+    let new = c.split_run.new.runs.items in
+    let P : List Run → Type 0 = λ u. ((d : Run) → (get_or u h.result d).back ≡ true → c.new_part.result ≡ get_or u h.result d)
+    × ((d : Run) → (get_or u h.result d).back ≡ false → c.new_part.result ≡ get_or u (h.result + 1) d) in
+    let is = subst P c.deref-2.ensures.value (c.new_part.ensures.behind, c.new_part.ensures.ahead) in
+    split_found c.args.size 32 xs new c.args.table.now c.note_run.new.table h.result (c.args.v - r.start) c.new_part.result t.0 s is.0 is.1 c.note_run.ensures found

@@ -1,7 +1,7 @@
 use Rattle.std.proofs.Common.{◌<◌, ◌≤◌, ◌-◌, ◌*◌, ◌/◌, ℕ, List, length, arith, get_or, false}
 use Rattle.tk_tour.specs.Runs.{AreLaidOut, AreNamed, CanBeFound}
 use Rattle.tk_tour.specs.declared.stores.segments.run.Run.{Run}
-use Rattle.tk_tour.proofs.SeenTours.Naming.{named_home, named_less}
+use Rattle.tk_tour.proofs.SeenTours.Naming.{held_home, named_home, named_less}
 use Rattle.tk_tour.proofs.stores.segments.spots.index_of.Goals as goal
 
 abbrev none : Run
@@ -12,9 +12,8 @@ first_one : (n p : ℕ) (runs : List Run) (home table : List ℕ) → AreNamed r
 first_one n p runs home table named found le lt =
     let b : ℕ = p / 32 in
     let lb : b < length table = omega (arith, le, lt) in
-    let e = found.early b lb in
-    let h = named_home runs home (get_or table b 0) e.0 none named e.2 in
-    (lb, named_less runs home (get_or table b 0) e.0 none named e.2, h.0, omega (arith, h.1, e.1))
+    let h = held_home runs home (get_or table b 0) (b * 32) none named (found.early b lb (omega (arith, lt))) in
+    (lb, h.0, h.1, omega (arith, h.2))
 
 next_one : (n p k : ℕ) (runs : List Run) (home table : List ℕ) → AreLaidOut n runs → AreNamed runs home → CanBeFound n 32 runs table → k < length runs → (get_or runs k none).high ≤ p → p < n →
     ((get_or runs k none).next < length runs) × (get_or home (get_or runs k none).next 0 < length runs) × ((get_or runs (get_or home (get_or runs k none).next 0) none).low ≤ p)

@@ -1,15 +1,12 @@
-use Rattle.std.proofs.Common.{ℕ, List, false, sym, subst}
+use Rattle.std.proofs.Common.{ℕ, List, sym, subst}
 use Rattle.tk_tour.specs.Runs.{CanBeFound}
 use Rattle.tk_tour.specs.declared.stores.segments.run.Run.{Run}
 use Rattle.tk_tour.proofs.SeenTours.Names.{found_by_names}
 use Rattle.tk_tour.proofs.stores.segments.runs.Runs.spot_of.Goals as goal
-
-abbrev none : Run
-none = record { low = 0; high = 0; start = 0; id = 0; next = 0; back = false }
 
 pub spot_of-requires-clause-found : goal.spot_of-requires-clause-found
 spot_of-requires-clause-found c =
     let s = c.args.self.now in
     let P : List Run → Type 0 = λ u. CanBeFound s.size 32 u s.table.items in
     let Q : List ℕ → Type 0 = λ u. CanBeFound s.size 32 c.deref.result.now u in
-    subst Q (sym c.deref-3.ensures.value) (subst P (sym c.deref.ensures.value) (found_by_names s.size 32 s.runs.items s.home.items s.table.items none s.found))
+    subst Q (sym c.deref-3.ensures.value) (subst P (sym c.deref.ensures.value) (found_by_names s.size 32 s.runs.items s.home.items s.table.items s.found))

@@ -1,12 +1,9 @@
-use Rattle.std.proofs.Common.{◌≡◌, ◌≤◌, ◌*◌, ◌++◌, ◌∙◌, ap, ℕ, List, length, take, drop, sym, subst, arith, false}
+use Rattle.std.proofs.Common.{◌≡◌, ◌≤◌, ◌*◌, ◌++◌, ◌∙◌, ap, ℕ, List, length, take, drop, sym, subst, arith}
 use Rattle.std.proofs.lemmas.Grind.{common_steps}
 use Rattle.tk_tour.specs.Runs.{HaveNames, AreNamed, CanBeFound, AreFound}
 use Rattle.tk_tour.specs.declared.stores.segments.run.Run.{Run}
 use Rattle.tk_tour.proofs.SeenTours.Names.{named_names, found_by_names, found_by_home}
 use Rattle.tk_tour.proofs.stores.segments.runs.Runs.turn.Goals as goal
-
-abbrev none : Run
-none = record { low = 0; high = 0; start = 0; id = 0; next = 0; back = false }
 
 pub name_runs-requires-clause-names : goal.name_runs-requires-clause-names
 name_runs-requires-clause-names c =
@@ -34,7 +31,7 @@ invariant_of-self-clause-found c =
     let P : List Run → Type 0 = λ u. AreNamed u home in
     let named : AreNamed runs home = subst P c.deref.ensures.value c.name_runs.ensures.named in
     let Q : List ℕ → Type 0 = λ u. CanBeFound n 32 s.runs.items u in
-    let found : CanBeFound n 32 s.runs.items c.deref_mut.result.now = subst Q (sym c.deref_mut.ensures.value) (found_by_names n 32 s.runs.items s.home.items s.table.items none s.found) in
+    let found : CanBeFound n 32 s.runs.items c.deref_mut.result.now = subst Q (sym c.deref_mut.ensures.value) (found_by_names n 32 s.runs.items s.home.items s.table.items s.found) in
     let table = c.turn_seen-k.new.table in
     let e1 : take s.table.len (table ++ drop (length table) s.table.items) ≡ table = grind (arith, common_steps) in
     let R : List ℕ → Type 0 = λ u. AreFound n 32 runs u (take s.table.len (table ++ drop (length table) s.table.items)) in

@@ -8,7 +8,7 @@ use Rattle.tk_tour.proofs.stores.segments.tour.SegmentTourUndoStore.undo.Goals a
 pub invariant_of-self-clause-paid : goal.invariant_of-self-clause-paid
 invariant_of-self-clause-paid c =
     let s = c.args.self.now in
-    let k = c.reverse-written in
+    let k = c.undo-written in
     let new = k.new.self in
     let flip = c.args.flip.now in
     let n = length (list_of s.seen) in

@@ -1,0 +1,249 @@
+-- The parts of a run, whichever is seen first: where runs are found after it was parted, and after it was joined again.
+use Rattle.std.proofs.Common.{◌≡◌, ◌≢◌, ℕ, true, false, ◌+◌, ◌-◌, ◌*◌, ◌<◌, ◌≤◌, ◌⊎◌, inl, inr, ⊎_elim, List, length, sym, ap, ◌∙◌, subst, arith, get_or}
+use Rattle.std.proofs.lemmas.Bool.{cases_lt, cases_eq, true≢false}
+use Rattle.std.proofs.lemmas.List.{get_or_default}
+use Rattle.tk_tour.specs.Runs.{IsSplit, ArePartsAt, Names, Holds, CanBeFound, IsNoted}
+use Rattle.tk_tour.specs.declared.stores.segments.run.Run.{Run}
+use Rattle.tk_tour.proofs.SeenTours.Splitting.{cases_bool}
+use Rattle.tk_tour.proofs.SeenTours.Naming.{split_at, split_entry_before, split_entry_beyond, split_next}
+
+-- where the parts stand, and where the other runs do
+pub record Parted (old new : List Run) (k : ℕ) (run : Run) : Type 0 where
+  pub lower : ℕ
+  pub higher : ℕ
+  pub low : Run
+  pub high : Run
+  pub middle : ℕ
+  pub parts : ArePartsAt middle (length old) run low high
+  pub k_in : k < length old
+  pub size : length new ≡ length old + 1
+  pub inside : (lower < length new) × (higher < length new)
+  pub run_at : (d : Run) → get_or old k d ≡ run
+  pub low_at : (d : Run) → get_or new lower d ≡ low
+  pub high_at : (d : Run) → get_or new higher d ≡ high
+  pub came : (i : ℕ) → i < length new → i ≢ lower → i ≢ higher → (j : ℕ) × (j < length old) × ((d : Run) → get_or old j d ≡ get_or new i d)
+  pub went : (j : ℕ) → j < length old → j ≢ k → (i : ℕ) × (i < length new) × (i ≢ lower) × (i ≢ higher) × ((d : Run) → get_or new i d ≡ get_or old j d)
+  pub first : (d : Run) → (get_or new k d).back ≡ run.back
+  pub behind : run.back ≡ true → (lower ≡ k + 1) × (higher ≡ k)
+  pub ahead : run.back ≡ false → (lower ≡ k) × (higher ≡ k + 1)
+
+came_from : (old new : List Run) (k m i : ℕ) → k < length old → IsSplit old new k m → i < length new → i ≢ k → i ≢ k + 1 →
+    (j : ℕ) × (j < length old) × ((d : Run) → get_or old j d ≡ get_or new i d)
+came_from old new k m i lt s li nk nl =
+    ⊎_elim
+    (λ (a : i < k). (i, omega (arith, a, lt), λ d. sym (split_entry_before old new k m i d lt s a)))
+    (λ (a : k ≤ i). (
+      i - 1,
+      omega (arith, li, a, nk, (split_at old new k m s.run lt s).0),
+      λ d.
+          let e : i - 1 + 1 ≡ i = omega (arith, a, nk) in
+          sym (split_entry_beyond old new k m (i - 1) d lt s (omega (arith, a, nk, nl))) ∙ ap (λ u. get_or new u d) e,
+    ))
+    (cases_lt i k)
+
+went_to : (old new : List Run) (k m j : ℕ) → k < length old → IsSplit old new k m → j < length old → j ≢ k →
+    (i : ℕ) × (i < length new) × (i ≢ k) × (i ≢ k + 1) × ((d : Run) → get_or new i d ≡ get_or old j d)
+went_to old new k m j lt s lj nk =
+    let size = (split_at old new k m s.run lt s).0 in
+    ⊎_elim
+    (λ (a : j < k). (j, omega (arith, size, lj), nk, omega (arith, a), λ d. split_entry_before old new k m j d lt s a))
+    (λ (a : k ≤ j). (j + 1, omega (arith, size, lj), omega (arith, a), omega (arith, nk), λ d. split_entry_beyond old new k m j d lt s (omega (arith, a, nk))))
+    (cases_lt j k)
+
+pub parted : (old new : List Run) (k m : ℕ) → k < length old → (s : IsSplit old new k m) → Parted old new k s.run
+parted old new k m lt s =
+    let size = (split_at old new k m s.run lt s).0 in
+    let one_at : (d : Run) → get_or new k d ≡ s.one = λ d. (split_at old new k m d lt s).1 in
+    let two_at : (d : Run) → get_or new (k + 1) d ≡ s.two = λ d. (split_at old new k m d lt s).2 in
+    let run_at : (d : Run) → get_or old k d ≡ s.run = λ d. sym (s.run_is ∙ get_or_default old k s.run d lt) in
+    ⊎_elim
+    (λ (e : s.run.back ≡ true).
+    let p = s.parts.behind e in
+    record {
+      lower = k + 1;
+      higher = k;
+      low = s.two;
+      high = s.one;
+      middle = s.run.high - m;
+      parts = p;
+      k_in = lt;
+      size = size;
+      inside = (omega (arith, size, lt), omega (arith, size, lt));
+      run_at = run_at;
+      low_at = two_at;
+      high_at = one_at;
+      came = λ i li nl nh. came_from old new k m i lt s li nh nl;
+      went = λ j lj nk. let w = went_to old new k m j lt s lj nk in (w.0, w.1, w.3, w.2, w.4);
+      first = λ d. ap (λ (r : Run). r.back) (one_at d) ∙ p.high_is.2;
+      behind = λ f. (omega arith, omega arith);
+      ahead = λ f. absurd (true≢false (sym e ∙ f));
+    })
+    (λ (e : s.run.back ≡ false).
+    let p = s.parts.ahead e in
+    record {
+      lower = k;
+      higher = k + 1;
+      low = s.one;
+      high = s.two;
+      middle = s.run.low + m;
+      parts = p;
+      k_in = lt;
+      size = size;
+      inside = (omega (arith, size, lt), omega (arith, size, lt));
+      run_at = run_at;
+      low_at = one_at;
+      high_at = two_at;
+      came = λ i li nl nh. came_from old new k m i lt s li nl nh;
+      went = λ j lj nk. went_to old new k m j lt s lj nk;
+      first = λ d. ap (λ (r : Run). r.back) (one_at d) ∙ p.low_is.2;
+      behind = λ f. absurd (true≢false (sym f ∙ e));
+      ahead = λ f. (omega arith, omega arith);
+    })
+    (cases_bool s.run.back)
+
+-- a place that a run held, one of that name holds after it, if it is not in the new part
+holds_split : (old new : List Run) (k id place : ℕ) (run : Run) → (p : Parted old new k run) → (place < p.high.low) ⊎ (p.high.high ≤ place) → Holds old id place → Holds new id place
+holds_split old new k id place run p out h =
+    ⊎_elim
+    (λ (e : h.0 ≡ k).
+    let at : (d : Run) → (run.id ≡ id) × (run.low ≤ place) × (place < run.high) = λ d.
+    let f : get_or old h.0 d ≡ run = ap (λ u. get_or old u d) e ∙ p.run_at d in
+    let P : Run → Type 0 = λ r. (r.id ≡ id) × (r.low ≤ place) × (place < r.high) in
+    subst P f (h.2 d) in (
+      p.lower,
+      p.inside.0,
+      (λ d.
+          let a = at d in
+          let P : Run → Type 0 = λ r. (r.id ≡ id) × (r.low ≤ place) × (place < r.high) in
+          subst P (sym (p.low_at d)) (
+            p.parts.low_is.3 ∙ a.0,
+            omega (arith, a, p.parts.low_is),
+            ⊎_elim (λ (b : place < p.high.low). omega (arith, b, p.parts.low_is, p.parts.high_is)) (λ (b : p.high.high ≤ place). absurd (omega (arith, b, p.parts.high_is, a))) out,
+          )),
+    ))
+    (λ (ne : h.0 ≢ k).
+    let w = p.went h.0 h.1 ne in
+    let P : (d : Run) → Run → Type 0 = λ d r. (r.id ≡ id) × (r.low ≤ place) × (place < r.high) in
+    (w.0, w.1, λ d. subst (P d) (sym (w.4 d)) (h.2 d)))
+    (cases_eq h.0 k)
+
+-- so runs can be found after a split, where the new part is noted
+pub split_found : (n bucket : ℕ) (old new : List Run) (table table' : List ℕ) (k m : ℕ) (part : Run) → k < length old → (s : IsSplit old new k m) →
+    ((d : Run) → (get_or new k d).back ≡ true → part ≡ get_or new k d) → ((d : Run) → (get_or new k d).back ≡ false → part ≡ get_or new (k + 1) d) →
+    IsNoted bucket part table table' → CanBeFound n bucket old table → CanBeFound n bucket new table'
+split_found n bucket old new table table' k m part lt s behind ahead noted h =
+    let p = parted old new k m lt s in
+    let is : part ≡ p.high =
+    ⊎_elim
+    (λ (e : s.run.back ≡ true). behind part (p.first part ∙ e) ∙ ap (λ u. get_or new u part) (sym (p.behind e).1) ∙ p.high_at part)
+    (λ (e : s.run.back ≡ false). ahead part (p.first part ∙ e) ∙ ap (λ u. get_or new u part) (sym (p.ahead e).1) ∙ p.high_at part)
+    (cases_bool s.run.back) in
+    let id_is : part.id ≡ p.high.id = ap (λ (r : Run). r.id) is in
+    let low_is : part.low ≡ p.high.low = ap (λ (r : Run). r.low) is in
+    let high_is : part.high ≡ p.high.high = ap (λ (r : Run). r.high) is in
+    record {
+      next = split_next n old new k m lt s h.next;
+      early = λ b lb lt'.
+          let lo : b < length table = omega (arith, lb, noted.size) in
+          let place : ℕ = b * bucket in
+          let P : ℕ → Type 0 = λ u. Holds new u place in
+          let out : (place < p.high.low) ⊎ (p.high.high ≤ place) → Holds new (get_or table' b 0) place = λ o.
+          let o' : (place < part.low) ⊎ (part.high ≤ place) =
+          ⊎_elim (λ (a : place < p.high.low). inl (omega (arith, a, low_is))) (λ (a : p.high.high ≤ place). inr (omega (arith, a, high_is))) o in
+          subst P (sym (noted.others b o')) (holds_split old new k _ place s.run p o (h.early b lo lt')) in
+          ⊎_elim
+          (λ (a : place < p.high.low). out (inl a))
+          (λ (a : p.high.low ≤ place). ⊎_elim
+          (λ (c : place < p.high.high).
+          subst P (sym (noted.inside b lo (omega (arith, a, low_is)) (omega (arith, c, high_is)) ∙ id_is))
+          (p.higher, p.inside.1, λ d. (ap (λ (r : Run). r.id) (p.high_at d), omega (arith, a, ap (λ (r : Run). r.low) (p.high_at d)), omega (arith, c, ap (λ (r : Run). r.high) (p.high_at d)))))
+          (λ (c : p.high.high ≤ place). out (inr c))
+          (cases_lt place p.high.high))
+          (cases_lt place p.high.low);
+    }
+
+-- the names stay when a run is joined, but for that of the part of the higher places
+names_join : (old new : List Run) (k id lo : ℕ) (run : Run) → (p : Parted old new k run) → id ≢ length old → Names new id lo → Names old id lo
+names_join old new k id lo run p other h =
+    ⊎_elim
+    (λ (e : h.0 ≡ p.higher).
+    absurd (other (sym (h.2 run).0 ∙ ap (λ u. (get_or new u run).id) e ∙ ap (λ (r : Run). r.id) (p.high_at run) ∙ p.parts.high_is.3)))
+    (λ (nh : h.0 ≢ p.higher). ⊎_elim
+    (λ (e : h.0 ≡ p.lower). (
+      k,
+      p.k_in,
+      (λ d.
+          let f : get_or new h.0 d ≡ p.low = ap (λ u. get_or new u d) e ∙ p.low_at d in (
+            ap (λ (r : Run). r.id) (p.run_at d) ∙ sym p.parts.low_is.3 ∙ sym (ap (λ (r : Run). r.id) f) ∙ (h.2 d).0,
+            ap (λ (r : Run). r.low) (p.run_at d) ∙ sym p.parts.low_is.0 ∙ sym (ap (λ (r : Run). r.low) f) ∙ (h.2 d).1,
+          )),
+    ))
+    (λ (nl : h.0 ≢ p.lower).
+    let c = p.came h.0 h.1 nl nh in
+    (c.0, c.1, λ d. (ap (λ (r : Run). r.id) (c.2 d) ∙ (h.2 d).0, ap (λ (r : Run). r.low) (c.2 d) ∙ (h.2 d).1)))
+    (cases_eq h.0 p.lower))
+    (cases_eq h.0 p.higher)
+
+-- a place that is not in the joined run is still held by the run of that name
+holds_join : (old new : List Run) (k id place : ℕ) (run : Run) → (p : Parted old new k run) → (place < run.low) ⊎ (run.high ≤ place) → Holds new id place → Holds old id place
+holds_join old new k id place run p out h =
+    let within : (r : Run) → ((d : Run) → get_or new h.0 d ≡ r) → run.low ≤ r.low → r.high ≤ run.high → ⊥ = λ r at a b.
+    let k1 = ap (λ (u : Run). u.low) (at run) in
+    let k2 = ap (λ (u : Run). u.high) (at run) in
+    ⊎_elim
+    (λ (c : place < run.low). omega (arith, c, k1, a, (h.2 run).1))
+    (λ (c : run.high ≤ place). omega (arith, c, k2, b, (h.2 run).2))
+    out in
+    ⊎_elim
+    (λ (e : h.0 ≡ p.higher). absurd (within p.high (λ d. ap (λ u. get_or new u d) e ∙ p.high_at d) (omega (arith, p.parts.high_is, p.parts.inside)) (omega (arith, p.parts.high_is))))
+    (λ (nh : h.0 ≢ p.higher). ⊎_elim
+    (λ (e : h.0 ≡ p.lower). absurd (within p.low (λ d. ap (λ u. get_or new u d) e ∙ p.low_at d) (omega (arith, p.parts.low_is)) (omega (arith, p.parts.low_is, p.parts.inside))))
+    (λ (nl : h.0 ≢ p.lower).
+    let c = p.came h.0 h.1 nl nh in
+    let P : Run → Type 0 = λ r. (r.id ≡ id) × (r.low ≤ place) × (place < r.high) in
+    (c.0, c.1, λ d. subst P (sym (c.2 d)) (h.2 d)))
+    (cases_eq h.0 p.lower))
+    (cases_eq h.0 p.higher)
+
+-- so runs can be found after a join, where the joined run is noted, and no other run than its lower part knew the name
+-- of the higher one
+pub join_found : (n bucket : ℕ) (old new : List Run) (table table' : List ℕ) (k : ℕ) (run : Run) → (p : Parted old new k run) →
+    ((j : ℕ) (d : Run) → j < length new → j ≢ p.lower → (get_or new j d).next ≢ length old) →
+    IsNoted bucket run table table' → CanBeFound n bucket new table → CanBeFound n bucket old table'
+join_found n bucket old new table table' k run p alone noted h =
+    record {
+      next = λ j d lj lt.
+          let P : Run → Type 0 = λ r. r.high < n → Names old r.next r.high in
+          let of : (i : ℕ) → i < length new → i ≢ p.lower → P (get_or new i d) = λ i li ne lt'. names_join old new k _ _ run p (alone i d li ne) (h.next i d li lt') in
+          let at : P (get_or old j d) =
+          ⊎_elim
+          (λ (e : j ≡ k).
+          let apart : p.higher ≢ p.lower = λ g.
+          let same : p.high ≡ p.low = sym (p.high_at run) ∙ ap (λ u. get_or new u run) g ∙ p.low_at run in
+          omega (arith, ap (λ (r : Run). r.low) same, p.parts.low_is, p.parts.high_is, p.parts.inside) in
+          let f : get_or old j d ≡ run = ap (λ u. get_or old u d) e ∙ p.run_at d in
+          let g : P p.high = subst P (p.high_at d) (of p.higher p.inside.1 apart) in
+          let whole : P run = λ lt'.
+          let Q : ℕ → Type 0 = λ u. Names old u run.high in
+          let R : ℕ → Type 0 = λ u. Names old p.high.next u in
+          subst Q p.parts.high_is.4 (subst R p.parts.high_is.1 (g (omega (arith, lt', p.parts.high_is)))) in
+          subst P (sym f) whole)
+          (λ (ne : j ≢ k). let w = p.went j lj ne in subst P (w.4 d) (of w.0 w.1 w.2))
+          (cases_eq j k) in
+          at lt;
+      early = λ b lb lt'.
+          let lo : b < length table = omega (arith, lb, noted.size) in
+          let place : ℕ = b * bucket in
+          let P : ℕ → Type 0 = λ u. Holds old u place in
+          let out : (place < run.low) ⊎ (run.high ≤ place) → Holds old (get_or table' b 0) place = λ o.
+          subst P (sym (noted.others b o)) (holds_join old new k _ place run p o (h.early b lo lt')) in
+          ⊎_elim
+          (λ (a : place < run.low). out (inl a))
+          (λ (a : run.low ≤ place). ⊎_elim
+          (λ (c : place < run.high).
+          subst P (sym (noted.inside b lo a c))
+          (k, p.k_in, λ d. (ap (λ (r : Run). r.id) (p.run_at d), omega (arith, a, ap (λ (r : Run). r.low) (p.run_at d)), omega (arith, c, ap (λ (r : Run). r.high) (p.run_at d)))))
+          (λ (c : run.high ≤ place). out (inr c))
+          (cases_lt place run.high))
+          (cases_lt place run.low);
+    }
