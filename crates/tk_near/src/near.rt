@@ -61,6 +61,14 @@ impl Near {
         self.width
     }
 
+    /// The near lists one after another, those of city 1 first: `size` lists of `width` cities each.
+    pub fn entries(&self) -> &[u32]
+        ensures value { result.now ≡ self.now.entries }
+        ensures count { length result.now ≡ self.now.size * self.now.width }
+    {
+        &self.entries
+    }
+
     /// The near list of a city.
     pub fn of(&self, c: u32) -> &[u32]
         requires { IsCity self.now.size c }
