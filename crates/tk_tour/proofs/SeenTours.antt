@@ -19,3 +19,4 @@ pub mod Turning
 pub mod Whole
 pub mod Writes
 pub mod Writing
+pub mod WritingRound

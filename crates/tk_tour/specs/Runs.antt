@@ -96,9 +96,20 @@ Holds runs id place =
     × ((d : Run) → ((slice_index_or runs k d).id ≡ id) × ((slice_index_or runs k d).low ≤ place)
     × (place < (slice_index_or runs k d).high))
 
--- each run names the one that holds the place after its last one, and the table names for each bucket of places the one
--- that holds the first of them
+-- the place of the array is in the run
+abbrev pub IsIn : Run → ℕ → Type 0
+IsIn run place = (run.low ≤ place) × (place < run.high)
+
+-- no place is in two runs
+abbrev pub AreApart : List Run → Type 0
+AreApart runs =
+    (j k place : ℕ) (d : Run) → j < length runs → k < length runs →
+    IsIn (slice_index_or runs j d) place → IsIn (slice_index_or runs k d) place → j ≡ k
+
+-- no place is in two runs; each run names the one that holds the place after its last one, and the table names for each
+-- bucket of places the one that holds the first of them
 pub record CanBeFound (n bucket : ℕ) (runs : List Run) (table : List ℕ) : Type 0 where
+  pub apart : AreApart runs
   pub next : (k : ℕ) (d : Run) → k < length runs → (slice_index_or runs k d).high < n →
       Names runs (slice_index_or runs k d).next (slice_index_or runs k d).high
   pub early : (b : ℕ) → b < length table → b * bucket < n → Holds runs (slice_index table b) (b * bucket)
@@ -118,6 +129,7 @@ HoldsAs runs home id place =
     × (place < (slice_index_or runs (slice_index home id) d).high))
 
 pub record AreFound (n bucket : ℕ) (runs : List Run) (home table : List ℕ) : Type 0 where
+  pub apart : AreApart runs
   pub next : (k : ℕ) (d : Run) → k < length runs → (slice_index_or runs k d).high < n →
       StandsAs runs home (slice_index_or runs k d).next (slice_index_or runs k d).high
   pub early : (b : ℕ) → b < length table → b * bucket < n → HoldsAs runs home (slice_index table b) (b * bucket)

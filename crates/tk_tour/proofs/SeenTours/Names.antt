@@ -18,6 +18,9 @@ pub named_to : (k : ℕ) (old new : List Run) (home : List ℕ) → AreNamed old
 named_to k old new home named same = λ j d lj _.
     ap (λ u. get_or home u 0) (same.1 j d lj) ∙ (named j d (omega (arith, lj, same.0))).1
 
+pub SameBefore-sym : (k : ℕ) (old new : List Run) → k ≤ length new → SameBefore k old new → SameBefore k new old
+SameBefore-sym k old new le h = (le, λ j d lt. sym (h.1 j d lt))
+
 pub SameBefore-trans : (i j : ℕ) (old mid new : List Run) → SameBefore i old mid → SameBefore j mid new → i ≤ j → SameBefore i old new
 SameBefore-trans i j old mid new h k le = (h.0, λ l d lt. k.1 l d (omega (arith, lt, le)) ∙ h.1 l d lt)
 
@@ -213,6 +216,14 @@ reordered_found R n bucket old new table h found =
       (λ d. let a = h.alike t.0 k.0 d t.1 k.1 t.2 in (a.id ∙ (k.2 d).0, omega (arith, a.low, (k.2 d).1), omega (arith, a.high, (k.2 d).2))),
     ) in
     record {
+      apart = λ j k place d lj lk u v.
+          let f = h.from j (omega (arith, lj, h.size)) in
+          let g = h.from k (omega (arith, lk, h.size)) in
+          let a = h.alike j f.0 d (omega (arith, lj, h.size)) f.1 f.2 in
+          let b = h.alike k g.0 d (omega (arith, lk, h.size)) g.1 g.2 in
+          let e : f.0 ≡ g.0 = found.apart f.0 g.0 place d f.1 g.1 (omega (arith, u, a.low), omega (arith, u, a.high)) (omega (arith, v, b.low), omega (arith, v, b.high)) in
+          let P : ℕ → Type 0 = λ w. R k w in
+          h.one j k f.0 f.2 (subst P (sym e) g.2);
       next = λ k d lk lt.
           let lk' : k < length old = omega (arith, lk, h.size) in
           let f = h.from k lk' in
@@ -226,6 +237,7 @@ reordered_found R n bucket old new table h found =
 -- the run of a name, by the table of where runs stand
 pub found_by_names : (n bucket : ℕ) (runs : List Run) (home table : List ℕ) → AreFound n bucket runs home table → CanBeFound n bucket runs table
 found_by_names n bucket runs home table h = record {
+  apart = h.apart;
   next = λ k d lk lt. let f = h.next k d lk lt in (get_or home (get_or runs k d).next 0, f.0, f.1);
   early = λ b lb lt. let f = h.early b lb lt in (get_or home (get_or table b 0) 0, f.0, f.1);
 }
@@ -246,6 +258,7 @@ holds_as runs home id place named h =
 
 pub found_by_home : (n bucket : ℕ) (runs : List Run) (home table : List ℕ) → AreNamed runs home → CanBeFound n bucket runs table → AreFound n bucket runs home table
 found_by_home n bucket runs home table named h = record {
+  apart = h.apart;
   next = λ k d lk lt. stands_as runs home _ _ named (h.next k d lk lt);
   early = λ b lb lt. holds_as runs home _ _ named (h.early b lb lt);
 }

@@ -26,6 +26,7 @@ whole_named n run home h e = λ k d lt.
 
 pub whole_found : (n : ℕ) (run : Run) (table : List ℕ) → IsWhole n run → ((b : ℕ) → b < length table → get_or table b 0 ≡ 0) → CanBeFound n 32 (run ∷ []) table
 whole_found n run table h zeros = record {
+  apart = λ j k place d lj lk u v. omega (arith, lj, lk);
   next = λ k d lt high.
       let z : k ≡ 0 = omega (arith, lt) in
       let e : (get_or (run ∷ []) k d).high ≡ run.high = ap (λ u. (get_or (run ∷ []) u d).high) z in

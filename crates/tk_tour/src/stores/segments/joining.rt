@@ -1,11 +1,11 @@
 //! Runs that were parted are joined again.
-ghost use Rattle.std.specs.Prelude.{◌≡◌, ◌≢◌, ◌≤◌, ◌<◌, ◌+◌, ◌*◌, ◌∷◌, ◌++◌, ℕ, List, true, length, slice_index_or, take, drop, vec_len};
+ghost use Rattle.std.specs.Prelude.{◌≡◌, ◌≤◌, ◌<◌, ◌+◌, ◌*◌, ◌∷◌, ◌++◌, ℕ, List, length, take, drop, vec_len};
 ghost use Rattle.std.specs.List.{All};
 ghost use Rattle.std.specs.Option.{IfSome};
 ghost use Rattle.std.specs.Vec.{vec_capacity};
 ghost use Rattle.tk_problem.specs.declared.limits.TheConstants.{CITY_LIMIT};
 ghost use Rattle.tk_tour.specs.Reversal.{begun_at};
-ghost use Rattle.tk_tour.specs.Runs.{AreLaidOut, CanBeFound, HaveNames, IsWithin, shown};
+ghost use Rattle.tk_tour.specs.Runs.{AreLaidOut, CanBeFound, HaveNames, IsWithin, SameBefore, shown};
 ghost use Rattle.tk_tour.specs.declared.stores.segments.run.Run.{Run};
 
 use crate::stores::segments::naming::note_run;
@@ -38,19 +38,6 @@ pub(crate) fn parted_at(runs: &[Run], home: &[u32], size: u32) -> Option<usize>
     Some(k)
 }
 
-// Whether no run knows the name as that of the next one, but for the one of that index.
-fn is_next_of(runs: &[Run], index: usize, id: u32) -> bool
-    ensures { result ≡ true → (j : ℕ) (d : Run) → j < length runs.now → j ≢ index
-        → (slice_index_or runs.now j d).next ≢ id }
-{
-    for k in 0..runs.len() {
-        if k != index && runs[k].next == id {
-            return false;
-        }
-    }
-    true
-}
-
 // Puts a run in the place of the k-th one and the one after it.
 fn put_joined(runs: &mut Vec<Run>, k: usize, run: Run)
     requires index { k + 1 < vec_len runs.old }
@@ -74,6 +61,7 @@ fn join_parts(runs: &mut Vec<Run>, table: &mut [u32], size: u32, k: usize)
     ensures fewer { (1 ≤ vec_len runs.new) × (vec_len runs.new ≤ vec_len runs.old) }
     ensures capacity { vec_capacity runs.new ≡ vec_capacity runs.old }
     ensures names { HaveNames runs.old.items → HaveNames runs.new.items }
+    ensures same { SameBefore k runs.old.items runs.new.items }
     ensures found { HaveNames runs.old.items → CanBeFound size 32 runs.old.items table.old
         → CanBeFound size 32 runs.new.items table.new }
     ensures table { length table.new ≡ length table.old }
@@ -82,39 +70,37 @@ fn join_parts(runs: &mut Vec<Run>, table: &mut [u32], size: u32, k: usize)
     let Some(run) = joined(runs[k], runs[k + 1], newest) else {
         return;
     };
-    let lower = if run.back { k + 1 } else { k };
-    if !is_next_of(runs, lower, newest) {
-        return;
-    }
     put_joined(runs, k, run);
     note_run(table, run);
 }
 
 /// Joins the k-th run and the one after it on the cycle, where they are the parts of one run, and one of them has the
-/// newest name. What was seen at the result is then seen first.
-pub(crate) fn join_runs(runs: &mut Vec<Run>, table: &mut [u32], size: u32, k: usize) -> u32
+/// newest name. What was seen at the first result is then seen first, and the first runs, as many as the second, have
+/// the names that they had.
+pub(crate) fn join_runs(runs: &mut Vec<Run>, table: &mut [u32], size: u32, k: usize) -> (u32, usize)
     requires size { size ≤ CITY_LIMIT }
     requires many { (1 < vec_len runs.old) × (vec_len runs.old ≤ CITY_LIMIT) }
     requires laid { AreLaidOut size runs.old.items }
     requires buckets { size ≤ 32 * length table.old }
     requires index { k < vec_len runs.old }
-    ensures first { result < size }
+    ensures first { result.0 < size }
     ensures shown { (order : List ℕ) → size ≤ length order → shown order runs.new.items
-        ≡ begun_at result (shown order runs.old.items) }
+        ≡ begun_at result.0 (shown order runs.old.items) }
     ensures laid { AreLaidOut size runs.new.items }
     ensures fewer { (1 ≤ vec_len runs.new) × (vec_len runs.new ≤ vec_len runs.old) }
     ensures capacity { vec_capacity runs.new ≡ vec_capacity runs.old }
     ensures names { HaveNames runs.old.items → HaveNames runs.new.items }
+    ensures same { SameBefore result.1 runs.old.items runs.new.items }
     ensures found { HaveNames runs.old.items → CanBeFound size 32 runs.old.items table.old
         → CanBeFound size 32 runs.new.items table.new }
     ensures table { length table.new ≡ length table.old }
 {
     if k + 1 < runs.len() {
         join_parts(runs, table, size, k);
-        return 0;
+        return (0, k);
     }
     let first = runs[k].start;
     begin_run(runs, size, k);
     join_parts(runs, table, size, 0);
-    first
+    (first, 0)
 }

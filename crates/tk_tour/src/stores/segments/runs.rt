@@ -152,8 +152,8 @@ impl Runs {
         let Some(k) = parted_at(&self.runs, &self.home, self.size) else {
             return 0;
         };
-        let first = join_runs(&mut self.runs, &mut self.table, self.size, k);
-        name_runs(&self.runs, &mut self.home, 0);
+        let (first, named) = join_runs(&mut self.runs, &mut self.table, self.size, k);
+        name_runs(&self.runs, &mut self.home, named);
         first
     }
 }

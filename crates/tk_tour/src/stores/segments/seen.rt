@@ -286,6 +286,7 @@ impl SeenTour {
             &self.order,
             &self.runs.runs,
             self.runs.size,
+            0,
             &mut self.spare,
         );
         std::mem::swap(&mut self.order, &mut self.spare);
@@ -312,8 +313,13 @@ impl SeenTour {
         requires size { length cities.old ≡ length (list_of self.now) }
         ensures order { cities.new ≡ list_of self.now }
     {
-        write_seen(&self.order, &self.runs.runs, self.runs.size, cities);
-        cities.rotate_left(self.begin as usize);
+        write_seen(
+            &self.order,
+            &self.runs.runs,
+            self.runs.size,
+            self.begin,
+            cities,
+        );
     }
 
     // Reverses what is seen at `count` places from `first` on, by turning runs round.

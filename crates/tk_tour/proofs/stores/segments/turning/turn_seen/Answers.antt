@@ -2,7 +2,7 @@ use Rattle.std.proofs.Common.{◌≡◌, ◌<◌, ◌≤◌, ◌-◌, ◌∙◌,
 use Rattle.std.specs.Prelude.{sum_by}
 use Rattle.std.proofs.lemmas.Bool.{cases_lt}
 use Rattle.std.proofs.lemmas.Grind.{common_steps}
-use Rattle.tk_tour.specs.Runs.{size_of, SameBefore}
+use Rattle.tk_tour.specs.Runs.{size_of, CanBeFound, SameBefore}
 use Rattle.tk_tour.specs.declared.stores.segments.run.Run.{Run}
 use Rattle.tk_tour.proofs.SeenTours.Names.{SameBefore-trans}
 use Rattle.tk_tour.proofs.SeenTours.Searching.{sum_mono}
@@ -35,3 +35,11 @@ returns-clause-same c =
     let e' : i.result - 1 ≡ c.saturating_sub.result = omega (arith, c.saturating_sub.ensures) in
     let R : ℕ → Type 0 = λ u. SameBefore u old (take j.new.runs.len (new ++ drop (length new) j.new.runs.items)) in
     subst R e' (subst Q (sym w) (SameBefore-trans (i.result - 1) i.result old j.new.runs.items new first (subst P c.deref_mut.ensures.value c.turn_runs.ensures.same) (omega arith)))
+
+pub returns-clause-found : goal.returns-clause-found
+returns-clause-found c = λ found.
+    let cut = c.cut_runs-j.new in
+    let new = c.turn_runs.new.runs in
+    let w : take cut.runs.len (new ++ drop (length new) cut.runs.items) ≡ new = grind (arith, common_steps) in
+    let P : List Run → Type 0 = λ u. CanBeFound c.args.size 32 u cut.table in
+    subst P (sym w) (c.turn_runs.ensures.found cut.table (subst P (sym c.deref_mut.ensures.value) (c.cut_runs-j.ensures.found (c.cut_runs-i.ensures.found found))))
