@@ -1,8 +1,9 @@
 //! The program with its subcommands.
-use crate::subcommands::{check, checksol, explain, matrix, near, plot, solve};
+use crate::subcommand::Subcommand;
+use crate::subcommands;
 use clap::error::ErrorKind;
-use clap::{Arg, ArgAction, Command, Error};
-use std::alloc::Global;
+use clap::{Command, Error};
+use std::alloc::{AllocError, Global};
 
 /// What `--help` ends with.
 const HELP: &str = "An invalid file is reported on standard error as FILE:LINE: NUMBER NAME.
@@ -21,109 +22,33 @@ Example:
 ///
 /// # Errors
 /// An error if memory runs out.
-pub fn tourkit<'a>(alloc: Global) -> Result<Command<'a>, Error> {
-    let made = Command::new(alloc, "tourkit")
+pub fn tourkit<'a>(alloc: Global) -> Result<Command<'a>, AllocError> {
+    let mut made = Command::new(alloc, "tourkit")
         .version("0.1.0")
         .about("Reads, checks and improves tours and routes")
         .after_help(HELP)
         .subcommand_required(true);
-    let made = with(made, check::command(alloc))?;
-    let made = with(made, checksol::command(alloc))?;
-    let made = with(made, explain::command(alloc))?;
-    let made = with(made, matrix::command(alloc))?;
-    let made = with(made, near::command(alloc))?;
-    let made = with(made, plot::command(alloc))?;
-    with(made, solve::command(alloc))
+    for subcommand in &subcommands::all() {
+        made = with(alloc, made, subcommand)?;
+    }
+    Ok(made)
 }
 
 /// A command with one more subcommand.
 fn with<'a>(
+    alloc: Global,
     command: Command<'a>,
-    subcommand: Result<Command<'a>, Error>,
-) -> Result<Command<'a>, Error> {
-    Ok(command.subcommand(subcommand?)?)
+    subcommand: &Subcommand,
+) -> Result<Command<'a>, AllocError> {
+    let subcommand = subcommand.command(alloc)?;
+    command.subcommand(subcommand)
 }
 
-/// A subcommand with its first word, and another if it takes two. Its help begins with `about` and ends with `more`.
+/// What is wrong with words of a subcommand that do not fit each other.
 ///
 /// # Errors
 /// An error if memory runs out.
-pub fn subcommand<'a>(
-    alloc: Global,
-    name: &'a str,
-    about: &'a str,
-    more: &'a str,
-    first: Arg<'a>,
-    second: Option<Arg<'a>>,
-) -> Result<Command<'a>, Error> {
-    let made = Command::new(alloc, name)
-        .about(about)
-        .after_help(more)
-        .arg(first)?;
-    match second {
-        Some(second) => Ok(made.arg(second)?),
-        None => Ok(made),
-    }
-}
-
-/// A word that must be given.
-pub fn given<'a>(alloc: Global, name: &'a str, help: &'a str) -> Arg<'a> {
-    Arg::new(alloc, name).help(help).required(true)
-}
-
-/// An option without a value.
-pub fn flag<'a>(alloc: Global, name: &'a str, help: &'a str) -> Arg<'a> {
-    Arg::new(alloc, name)
-        .long(name)
-        .help(help)
-        .action(ArgAction::SetTrue)
-}
-
-/// The option that asks for an object in place of lines.
-pub fn json<'a>(alloc: Global) -> Arg<'a> {
-    flag(alloc, "json", "print one JSON object in place of lines")
-}
-
-/// The file that most subcommands name first.
-pub fn problem_file<'a>(alloc: Global) -> Arg<'a> {
-    given(
-        alloc,
-        "PROBLEM",
-        "a TSPLIB or CVRPLIB problem file, or - for standard input",
-    )
-}
-
-/// What is wrong with words that name standard input twice. `bin_name` is how the command is called.
-pub fn twice_standard(command: Result<Command<'_>, Error>, bin_name: &str) -> Error {
-    refused(
-        command,
-        bin_name,
-        "only one of the files can be standard input '-'",
-    )
-}
-
-/// What is wrong with words that name standard input as the file to write.
-pub fn standard_output(command: Result<Command<'_>, Error>, bin_name: &str) -> Error {
-    refused(
-        command,
-        bin_name,
-        "the file of '--output' cannot be '-', which is standard input",
-    )
-}
-
-/// What is wrong with words that do not fit each other.
-fn refused(command: Result<Command<'_>, Error>, bin_name: &str, message: &str) -> Error {
-    match refusal(command, bin_name, message) {
-        Ok(error) | Err(error) => error,
-    }
-}
-
-fn refusal(
-    command: Result<Command<'_>, Error>,
-    bin_name: &str,
-    message: &str,
-) -> Result<Error, Error> {
-    let mut command = command?.bin_name(bin_name)?;
-    let error = command.error(ErrorKind::ArgumentConflict, message)?;
-    Ok(error)
+pub fn refused(alloc: Global, subcommand: &Subcommand, message: &str) -> Result<Error, AllocError> {
+    let mut command = subcommand.command(alloc)?.bin_name(subcommand.called)?;
+    command.error(ErrorKind::ArgumentConflict, message)
 }

@@ -1,11 +1,13 @@
 //! The arguments of the program: its subcommands with their help, and what the words of a call ask for.
 #![tactic(auto)]
 
+mod argument;
 mod asked;
 mod command;
 mod list_length;
 mod parsing;
 mod search_options;
+mod subcommand;
 mod subcommands;
 mod tips;
 

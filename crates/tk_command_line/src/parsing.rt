@@ -1,8 +1,9 @@
 //! From the words of a call to what they ask for.
 
 use crate::asked::{Asked, STANDARD};
-use crate::command::{standard_output, tourkit, twice_standard};
+use crate::command::{refused, tourkit};
 use crate::search_options::SearchOptions;
+use crate::subcommand::Subcommand;
 use crate::subcommands::{check, checksol, explain, matrix, near, plot, solve};
 use crate::tips::with_tips;
 use clap::error::ErrorKind;
@@ -11,6 +12,12 @@ use std::alloc::Global;
 
 /// The exit status of words that are refused.
 const USAGE: u8 = 2;
+
+/// What is wrong with words that name standard input twice.
+const TWICE_STANDARD: &str = "only one of the files can be standard input '-'";
+
+/// What is wrong with words that name standard input as the file to write.
+const STANDARD_OUTPUT: &str = "the file of '--output' cannot be '-', which is standard input";
 
 /// Why nothing is asked for.
 pub enum Refusal {
@@ -50,54 +57,61 @@ fn tell(rt: &HostRuntime, words: &[String], error: &Error) -> Refusal {
     }
 }
 
-/// What the words ask for, if they can be parsed and name standard input once at most.
+/// What the words ask for, if they can be parsed and fit each other.
 fn asked<'a>(alloc: Global, words: &'a [String]) -> Result<Option<Asked<'a>>, Error> {
+    let Some(asked) = read(alloc, words)? else {
+        return Ok(None);
+    };
+    match misfit(&asked) {
+        Some((subcommand, message)) => Err(refused(alloc, &subcommand, message)?),
+        None => Ok(Some(asked)),
+    }
+}
+
+/// What the words ask for, if they can be parsed.
+fn read<'a>(alloc: Global, words: &'a [String]) -> Result<Option<Asked<'a>>, Error> {
     let matches = tourkit(alloc)?.try_get_matches_from(words)?;
-    match asked_by(&matches) {
-        Some(
-            Asked::Check {
-                problem: STANDARD,
-                tour: STANDARD,
-                ..
-            },
-        ) => Err(twice_standard(check::command(alloc), "tourkit check")),
-        Some(
-            Asked::Checksol {
-                problem: STANDARD,
-                solution: STANDARD,
-                ..
-            },
-        ) => Err(twice_standard(checksol::command(alloc), "tourkit checksol")),
-        Some(
-            Asked::Plot {
-                problem: STANDARD,
-                claim: Some(STANDARD),
-            },
-        ) => Err(twice_standard(plot::command(alloc), "tourkit plot")),
-        Some(
-            Asked::Solve {
-                file: STANDARD,
-                options: Some(
-                    SearchOptions {
-                        initial_tour: Some(STANDARD),
-                        ..
-                    },
-                ),
-                ..
-            },
-        ) => Err(twice_standard(solve::command(alloc), "tourkit solve")),
-        Some(
-            Asked::Solve {
-                options: Some(
-                    SearchOptions {
-                        output: Some(STANDARD),
-                        ..
-                    },
-                ),
-                ..
-            },
-        ) => Err(standard_output(solve::command(alloc), "tourkit solve")),
-        asked => Ok(asked),
+    Ok(asked_by(&matches))
+}
+
+/// The subcommand of words that do not fit each other, and what is wrong with them: they name standard input twice, or
+/// as the file to write.
+fn misfit(asked: &Asked<'_>) -> Option<(Subcommand, &'static str)> {
+    match *asked {
+        Asked::Check {
+            problem: STANDARD,
+            tour: STANDARD,
+            ..
+        } => Some((check::subcommand(), TWICE_STANDARD)),
+        Asked::Checksol {
+            problem: STANDARD,
+            solution: STANDARD,
+            ..
+        } => Some((checksol::subcommand(), TWICE_STANDARD)),
+        Asked::Plot {
+            problem: STANDARD,
+            claim: Some(STANDARD),
+        } => Some((plot::subcommand(), TWICE_STANDARD)),
+        Asked::Solve {
+            file: STANDARD,
+            options: Some(
+                SearchOptions {
+                    initial_tour: Some(STANDARD),
+                    ..
+                },
+            ),
+            ..
+        } => Some((solve::subcommand(), TWICE_STANDARD)),
+        Asked::Solve {
+            options: Some(
+                SearchOptions {
+                    output: Some(STANDARD),
+                    ..
+                },
+            ),
+            ..
+        } => Some((solve::subcommand(), STANDARD_OUTPUT)),
+        _ => None,
     }
 }
 

@@ -1,4 +1,4 @@
-//! The words of each subcommand.
+//! The subcommands with their words.
 pub mod check;
 pub mod checksol;
 pub mod explain;
@@ -6,3 +6,28 @@ pub mod matrix;
 pub mod near;
 pub mod plot;
 pub mod solve;
+
+use crate::subcommand::Subcommand;
+
+/// All of them, as help lists them.
+pub fn all() -> [Subcommand; 7] {
+    [
+        check::subcommand(),
+        checksol::subcommand(),
+        explain::subcommand(),
+        matrix::subcommand(),
+        near::subcommand(),
+        plot::subcommand(),
+        solve::subcommand(),
+    ]
+}
+
+/// The one with this name.
+pub fn named(name: &str) -> Option<Subcommand> {
+    for subcommand in &all() {
+        if subcommand.name == name {
+            return Some(*subcommand);
+        }
+    }
+    None
+}

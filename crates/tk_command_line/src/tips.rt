@@ -1,8 +1,10 @@
 //! Tips for a word that a subcommand does not take.
 
-use crate::command::tourkit;
+use crate::argument::{Argument, Form};
+use crate::subcommand::Subcommand;
+use crate::subcommands::{all, named};
+use clap::Error;
 use clap::error::ErrorKind;
-use clap::{Arg, Command, Error};
 use std::alloc::{AllocError, Global};
 
 /// What stands before the word in clap's message, and after it.
@@ -21,20 +23,20 @@ const SIMILAR: &str = "a similar argument exists";
 ///
 /// # Errors
 /// An error if memory runs out.
-pub fn with_tips(alloc: Global, words: &[String], error: &Error) -> Result<Option<String>, Error> {
+pub fn with_tips(
+    alloc: Global,
+    words: &[String],
+    error: &Error,
+) -> Result<Option<String>, AllocError> {
     if error.kind() != ErrorKind::UnknownArgument {
         return Ok(None);
     }
-    let said = format!(in alloc; "{error}")?;
-    let program = tourkit(alloc)?;
-    let Some(command) = words
-        .get(1)
-        .and_then(|name| program.find_subcommand(name.as_str()))
-    else {
+    let Some(subcommand) = words.get(1).and_then(|name| named(name.as_str())) else {
         return Ok(None);
     };
+    let said = format!(in alloc; "{error}")?;
     match parts_of(&said) {
-        Some((word, usage)) => Ok(Some(tipped(alloc, &program, command, word, usage)?)),
+        Some((word, usage)) => Ok(Some(tipped(alloc, &subcommand, word, usage)?)),
         None => Ok(None),
     }
 }
@@ -52,67 +54,68 @@ fn parts_of(said: &str) -> Option<(&str, &str)> {
 /// The message about a word that a subcommand does not take.
 fn tipped(
     alloc: Global,
-    program: &Command<'_>,
-    command: &Command<'_>,
+    subcommand: &Subcommand,
     word: &str,
     usage: &str,
 ) -> Result<String, AllocError> {
     let mut text = format!(in alloc; "{BEFORE}{word}{AFTER}\n")?;
-    for other in program.get_subcommands() {
+    for other in &all() {
         push_owned(&mut text, other, word)?;
     }
-    push_taken(&mut text, command)?;
+    push_taken(&mut text, subcommand)?;
     text.push_str(USAGE)?;
     text.push_str(usage)?;
     Ok(text)
 }
 
 /// Puts a tip for each option of a subcommand that has the word's name.
-fn push_owned(text: &mut String, command: &Command<'_>, word: &str) -> Result<(), AllocError> {
-    for arg in command.get_arguments() {
-        if is_named(arg, word) {
+fn push_owned(text: &mut String, subcommand: &Subcommand, word: &str) -> Result<(), AllocError> {
+    for argument in subcommand.arguments {
+        if is_named(argument, word) {
             text.push_str("\n  tip: '")?;
-            push_name(text, arg)?;
-            write!(text, "' is an option of '{}'", command.get_name())?;
+            push_name(text, argument)?;
+            write!(text, "' is an option of '{}'", subcommand.name)?;
         }
     }
     Ok(())
 }
 
 /// Puts the tip that says what a subcommand takes.
-fn push_taken(text: &mut String, command: &Command<'_>) -> Result<(), AllocError> {
-    write!(text, "\n  tip: '{}' takes ", command.get_name())?;
-    for (i, arg) in command.get_arguments().iter().enumerate() {
+fn push_taken(text: &mut String, subcommand: &Subcommand) -> Result<(), AllocError> {
+    write!(text, "\n  tip: '{}' takes ", subcommand.name)?;
+    for (i, argument) in subcommand.arguments.iter().enumerate() {
         if i > 0 {
             text.push_str(", ")?;
         }
-        push_name(text, arg)?;
+        push_name(text, argument)?;
     }
     Ok(())
 }
 
 /// Whether a word is the name of an option, with one dash or two.
-fn is_named(arg: &Arg<'_>, word: &str) -> bool {
+fn is_named(argument: &Argument, word: &str) -> bool {
     let Some(name) = word.strip_prefix('-') else {
         return false;
     };
     let name = name.strip_prefix('-').unwrap_or(name);
-    if arg.get_long() == Some(name) {
-        return true;
-    }
-    match arg.get_short() {
-        Some(short) => name.strip_prefix(short) == Some(""),
-        None => false,
+    match argument.form {
+        Form::Flag | Form::Long(..) => name == argument.name,
+        Form::File(letter) => name == argument.name || is_letter(name, letter),
+        Form::Number(letter, ..) => is_letter(name, letter),
+        Form::Required(_) | Form::Optional(_) => false,
     }
 }
 
-/// Puts how an argument is written: an option with its dashes, and what is no option by its name.
-fn push_name(text: &mut String, arg: &Arg<'_>) -> Result<(), AllocError> {
-    if let Some(long) = arg.get_long() {
-        write!(text, "--{long}")
-    } else if let Some(short) = arg.get_short() {
-        write!(text, "-{short}")
-    } else {
-        text.push_str(arg.get_id())
+/// Whether a name is this letter.
+fn is_letter(name: &str, letter: char) -> bool {
+    name.len() == letter.len_utf8() && name.starts_with(letter)
+}
+
+/// Puts how an argument is written: an option with its dashes, and a word by its name.
+fn push_name(text: &mut String, argument: &Argument) -> Result<(), AllocError> {
+    match argument.form {
+        Form::Flag | Form::Long(..) | Form::File(_) => write!(text, "--{}", argument.name),
+        Form::Number(letter, ..) => write!(text, "-{letter}"),
+        Form::Required(_) | Form::Optional(_) => text.push_str(argument.name),
     }
 }

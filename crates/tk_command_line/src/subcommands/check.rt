@@ -1,9 +1,10 @@
 //! The words of `check`.
 
+use crate::argument::{Argument, Form, JSON, PROBLEM};
 use crate::asked::Asked;
-use crate::command::{given, json, problem_file, subcommand};
-use clap::{ArgMatches, Command, Error};
-use std::alloc::Global;
+use crate::subcommand::Subcommand;
+use clap::ArgMatches;
+use clap::builder::ValueParser;
 
 /// What `check --help` ends with.
 const HELP: &str = "Reads PROBLEM and TOUR, one of which may be - for standard input.
@@ -18,21 +19,26 @@ Exit status:
 Example:
   tourkit check examples/tri.tsp examples/tri.tour";
 
-/// The subcommand with its words.
-///
-/// # Errors
-/// An error if memory runs out.
-pub fn command<'a>(alloc: Global) -> Result<Command<'a>, Error> {
-    let tour = given(alloc, "TOUR", "a TSPLIB tour file, or - for standard input");
-    let made = subcommand(
-        alloc,
-        "check",
-        "Checks a tour and prints its length",
-        HELP,
-        problem_file(alloc),
-        Some(tour),
-    )?;
-    Ok(made.arg(json(alloc))?)
+/// What it takes.
+static ARGUMENTS: [Argument; 3] = [
+    PROBLEM,
+    Argument {
+        name: "TOUR",
+        help: "a TSPLIB tour file, or - for standard input",
+        form: Form::Required(ValueParser::String),
+    },
+    JSON,
+];
+
+/// The subcommand.
+pub fn subcommand() -> Subcommand {
+    Subcommand {
+        name: "check",
+        called: "tourkit check",
+        about: "Checks a tour and prints its length",
+        more: HELP,
+        arguments: &ARGUMENTS,
+    }
 }
 
 /// What the words ask for.

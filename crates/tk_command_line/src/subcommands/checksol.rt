@@ -1,9 +1,10 @@
 //! The words of `checksol`.
 
+use crate::argument::{Argument, Form, JSON, PROBLEM};
 use crate::asked::Asked;
-use crate::command::{given, json, problem_file, subcommand};
-use clap::{ArgMatches, Command, Error};
-use std::alloc::Global;
+use crate::subcommand::Subcommand;
+use clap::ArgMatches;
+use clap::builder::ValueParser;
 
 /// What `checksol --help` ends with.
 const HELP: &str = "Reads PROBLEM and SOLUTION, one of which may be - for standard input.
@@ -18,25 +19,26 @@ Exit status:
 Example:
   tourkit checksol examples/bakery.vrp examples/bakery-plan.sol";
 
-/// The subcommand with its words.
-///
-/// # Errors
-/// An error if memory runs out.
-pub fn command<'a>(alloc: Global) -> Result<Command<'a>, Error> {
-    let solution = given(
-        alloc,
-        "SOLUTION",
-        "a CVRPLIB solution file, or - for standard input",
-    );
-    let made = subcommand(
-        alloc,
-        "checksol",
-        "Checks the routes of a CVRP and their cost",
-        HELP,
-        problem_file(alloc),
-        Some(solution),
-    )?;
-    Ok(made.arg(json(alloc))?)
+/// What it takes.
+static ARGUMENTS: [Argument; 3] = [
+    PROBLEM,
+    Argument {
+        name: "SOLUTION",
+        help: "a CVRPLIB solution file, or - for standard input",
+        form: Form::Required(ValueParser::String),
+    },
+    JSON,
+];
+
+/// The subcommand.
+pub fn subcommand() -> Subcommand {
+    Subcommand {
+        name: "checksol",
+        called: "tourkit checksol",
+        about: "Checks the routes of a CVRP and their cost",
+        more: HELP,
+        arguments: &ARGUMENTS,
+    }
 }
 
 /// What the words ask for.

@@ -1,10 +1,10 @@
 //! The words of `explain`.
 
+use crate::argument::{Argument, Form};
 use crate::asked::Asked;
-use crate::command::{given, subcommand};
+use crate::subcommand::Subcommand;
+use clap::ArgMatches;
 use clap::builder::ValueParser;
-use clap::{Arg, ArgMatches, Command, Error};
-use std::alloc::Global;
 
 /// What `explain --help` ends with.
 const HELP: &str = "Prints what a fault means, what it usually comes from, and what to do.
@@ -20,27 +20,29 @@ Exit status:
 Example:
   tourkit explain TrailingData";
 
-/// The subcommand with its words.
-///
-/// # Errors
-/// An error if memory runs out.
-pub fn command<'a>(alloc: Global) -> Result<Command<'a>, Error> {
-    let what = given(
-        alloc,
-        "WHAT",
-        "the number or the name of a fault, a file, or - for standard input",
-    );
-    let line = Arg::new(alloc, "LINE")
-        .help("a line of the file, from 1 on")
-        .value_parser(ValueParser::Unsigned(1, u64::MAX));
-    subcommand(
-        alloc,
-        "explain",
-        "Explains a fault, or what is wrong with a file",
-        HELP,
-        what,
-        Some(line),
-    )
+/// What it takes.
+static ARGUMENTS: [Argument; 2] = [
+    Argument {
+        name: "WHAT",
+        help: "the number or the name of a fault, a file, or - for standard input",
+        form: Form::Required(ValueParser::String),
+    },
+    Argument {
+        name: "LINE",
+        help: "a line of the file, from 1 on",
+        form: Form::Optional(ValueParser::Unsigned(1, u64::MAX)),
+    },
+];
+
+/// The subcommand.
+pub fn subcommand() -> Subcommand {
+    Subcommand {
+        name: "explain",
+        called: "tourkit explain",
+        about: "Explains a fault, or what is wrong with a file",
+        more: HELP,
+        arguments: &ARGUMENTS,
+    }
 }
 
 /// What the words ask for.

@@ -1,10 +1,10 @@
 //! The words of `matrix`.
 
+use crate::argument::{Argument, Form, PROBLEM};
 use crate::asked::Asked;
-use crate::command::{given, problem_file, subcommand};
+use crate::subcommand::Subcommand;
+use clap::ArgMatches;
 use clap::builder::ValueParser;
-use clap::{ArgMatches, Command, Error};
-use std::alloc::Global;
 
 /// What `matrix --help` ends with.
 const HELP: &str = "Reads PROBLEM, of at most 5,000 nodes.
@@ -19,7 +19,7 @@ Example:
   tourkit matrix examples/five.tsp LOWER_DIAG_ROW";
 
 /// The words of the formats.
-static FORMATS: [&str; 9] = [
+const FORMATS: [&str; 9] = [
     "FULL_MATRIX",
     "UPPER_ROW",
     "LOWER_ROW",
@@ -31,22 +31,25 @@ static FORMATS: [&str; 9] = [
     "LOWER_DIAG_COL",
 ];
 
-/// The subcommand with its words.
-///
-/// # Errors
-/// An error if memory runs out.
-pub fn command<'a>(alloc: Global) -> Result<Command<'a>, Error> {
-    let format = given(alloc, "FORMAT", "the order of the weights").value_parser(ValueParser::Names(
-        FORMATS.as_slice(),
-    ));
-    subcommand(
-        alloc,
-        "matrix",
-        "Prints a problem as a TSP with explicit weights",
-        HELP,
-        problem_file(alloc),
-        Some(format),
-    )
+/// What it takes.
+static ARGUMENTS: [Argument; 2] = [
+    PROBLEM,
+    Argument {
+        name: "FORMAT",
+        help: "the order of the weights",
+        form: Form::Required(ValueParser::Names(&FORMATS)),
+    },
+];
+
+/// The subcommand.
+pub fn subcommand() -> Subcommand {
+    Subcommand {
+        name: "matrix",
+        called: "tourkit matrix",
+        about: "Prints a problem as a TSP with explicit weights",
+        more: HELP,
+        arguments: &ARGUMENTS,
+    }
 }
 
 /// What the words ask for.

@@ -1,11 +1,11 @@
 //! The words of `near`.
 
+use crate::argument::{Argument, Form, PROBLEM};
 use crate::asked::Asked;
-use crate::command::{problem_file, subcommand};
 use crate::list_length::ListLength;
+use crate::subcommand::Subcommand;
+use clap::ArgMatches;
 use clap::builder::ValueParser;
-use clap::{Arg, ArgMatches, Command, Error};
-use std::alloc::Global;
 use tk_problem::CANDIDATE_LIMIT;
 
 /// What `near --help` ends with.
@@ -20,25 +20,25 @@ Exit status:
 Example:
   zcat berlin52.tsp.gz | tourkit near - -k 5";
 
-/// The subcommand with its words.
-///
-/// # Errors
-/// An error if memory runs out.
-pub fn command<'a>(alloc: Global) -> Result<Command<'a>, Error> {
-    let count = Arg::new(alloc, "k")
-        .short('k')
-        .value_name("N")
-        .help("how many cities a list has, 1 to 100")
-        .value_parser(ValueParser::Unsigned(1, CANDIDATE_LIMIT as u64))
-        .default_value("5");
-    subcommand(
-        alloc,
-        "near",
-        "Prints the nearest other cities of each city",
-        HELP,
-        problem_file(alloc),
-        Some(count),
-    )
+/// What it takes.
+static ARGUMENTS: [Argument; 2] = [
+    PROBLEM,
+    Argument {
+        name: "k",
+        help: "how many cities a list has, 1 to 100",
+        form: Form::Number('k', "5", ValueParser::Unsigned(1, CANDIDATE_LIMIT as u64)),
+    },
+];
+
+/// The subcommand.
+pub fn subcommand() -> Subcommand {
+    Subcommand {
+        name: "near",
+        called: "tourkit near",
+        about: "Prints the nearest other cities of each city",
+        more: HELP,
+        arguments: &ARGUMENTS,
+    }
 }
 
 /// What the words ask for.

@@ -1,9 +1,10 @@
 //! The words of `plot`.
 
+use crate::argument::{Argument, Form, PROBLEM};
 use crate::asked::Asked;
-use crate::command::{problem_file, subcommand};
-use clap::{Arg, ArgMatches, Command, Error};
-use std::alloc::Global;
+use crate::subcommand::Subcommand;
+use clap::ArgMatches;
+use clap::builder::ValueParser;
 
 /// What `plot --help` ends with.
 const HELP: &str = "Reads PROBLEM and TOUR or SOLUTION, one of which may be - for standard input.
@@ -20,22 +21,25 @@ Exit status:
 Example:
   tourkit plot examples/tri.tsp examples/tri.tour >tri.svg";
 
-/// The subcommand with its words.
-///
-/// # Errors
-/// An error if memory runs out.
-pub fn command<'a>(alloc: Global) -> Result<Command<'a>, Error> {
-    let claim = Arg::new(alloc, "TOUR | SOLUTION").help(
-        "a TSPLIB tour file, or for a CVRP a CVRPLIB solution file, or - for standard input",
-    );
-    subcommand(
-        alloc,
-        "plot",
-        "Draws a problem, and a tour or routes of it, as SVG",
-        HELP,
-        problem_file(alloc),
-        Some(claim),
-    )
+/// What it takes.
+static ARGUMENTS: [Argument; 2] = [
+    PROBLEM,
+    Argument {
+        name: "TOUR | SOLUTION",
+        help: "a TSPLIB tour file, or for a CVRP a CVRPLIB solution file, or - for standard input",
+        form: Form::Optional(ValueParser::String),
+    },
+];
+
+/// The subcommand.
+pub fn subcommand() -> Subcommand {
+    Subcommand {
+        name: "plot",
+        called: "tourkit plot",
+        about: "Draws a problem, and a tour or routes of it, as SVG",
+        more: HELP,
+        arguments: &ARGUMENTS,
+    }
 }
 
 /// What the words ask for.
