@@ -1,1 +1,2 @@
+pub mod Anys
 pub mod Lengths

@@ -4,6 +4,7 @@ use Rattle.std.specs.List.{list_any}
 use Rattle.std.specs.Char.{to_ascii_uppercase}
 use Rattle.tk_words.specs.Lex.{behind}
 use Rattle.tk_words.specs.Words.{same_bytes}
+use Rattle.tk_explain.specs.declared.faults.FaultText.{FaultText}
 
 -- the same word, without regard to case
 abbrev pub same_word : List ℕ → List ℕ → Bool
@@ -12,6 +13,10 @@ same_word bs text = same_bytes (map to_ascii_uppercase bs) (map to_ascii_upperca
 -- a number without the zeros at its front
 abbrev pub without_zeros : List ℕ → List ℕ
 without_zeros bs = behind (λ b. b == 48) bs
+
+-- the number and the name of a fault
+abbrev pub named : FaultText → List ℕ × List ℕ
+named fault = (fault.number.now, fault.name.now)
 
 -- the word is the number or the name of a fault
 abbrev pub is_named : List ℕ × List ℕ → List ℕ → Bool

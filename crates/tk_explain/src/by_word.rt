@@ -4,7 +4,7 @@ ghost use Rattle.std.specs.Char.{IsAsciiDigit};
 ghost use Rattle.std.specs.String.{string_len};
 ghost use Rattle.tk_explain.specs.Faults.{is_fault, is_named, same_word, without_zeros};
 
-use crate::faults::{FAULTS, FaultText};
+use crate::faults::{FaultText, faults};
 use crate::page::{CAUSES, MEANING, Page, REMEDY};
 use std::alloc::{AllocError, Global};
 
@@ -28,13 +28,13 @@ pub fn fault_page(alloc: Global, what: &str) -> Result<Option<String>, AllocErro
 fn is_fault(what: &str) -> bool
     ensures { result ≡ is_fault what.now }
 {
-    FAULTS.iter().any(|fault| is_named(fault, what))
+    faults().iter().any(|fault| is_named(fault, what))
 }
 
 /// Adds all faults with a number or a name, with a blank line between them.
 fn add_all(page: &mut Page, what: &str) -> Result<(), AllocError> {
     let mut is_first = true;
-    for fault in FAULTS.iter() {
+    for fault in faults() {
         if is_named(fault, what) {
             if !is_first {
                 page.line(&"")?;

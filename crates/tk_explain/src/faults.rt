@@ -1,5 +1,8 @@
 //! The faults of files: what each means, what it usually comes from, and what to do. docs/FORMATS.md and docs/tourkit.1
 //! have the same texts, which `tests/explained` compares.
+ghost use Rattle.std.specs.Prelude.{◌≡◌, map};
+ghost use Rattle.tk_explain.specs.Faults.{faults, named};
+
 use std::fmt;
 use tk_params::ParamKind;
 use tk_words::TextKind;
@@ -54,7 +57,7 @@ impl fmt::Display for FaultText {
 }
 
 /// The faults of problem, tour and solution files, then those of parameter files and those of an initial tour.
-pub const FAULTS: [FaultText; 26] = [
+const FAULTS: [FaultText; 26] = [
     FaultText {
         files: Files::Texts,
         number: "1",
@@ -291,9 +294,16 @@ pub const FAULTS: [FaultText; 26] = [
     },
 ];
 
+/// The table, row by row.
+pub fn faults() -> &'static [FaultText]
+    ensures { map named result.now ≡ faults }
+{
+    FAULTS.as_slice()
+}
+
 /// What stands at a place of the table.
 fn text_at(place: usize) -> Option<&'static FaultText> {
-    FAULTS.get(place)
+    faults().get(place)
 }
 
 /// What the table has on a fault of a problem, tour or solution file.

@@ -1,11 +1,14 @@
-use Rattle.std.proofs.Common.{rules, tests}
+use Rattle.std.proofs.Common.{◌≡◌, ◌∙◌, ap, sym, rules, tests}
+use Rattle.std.specs.List.{list_any}
 use Rattle.std.proofs.lemmas.Iterator.{YieldsList-from_slice}
 use Rattle.std.proofs.lemmas.Iterator.Search.{any_from_yields_List}
-use Rattle.tk_explain.specs.declared.faults.FaultText.{FaultText}
-use Rattle.tk_explain.specs.Faults.{is_named}
+use Rattle.tk_explain.specs.Faults.{is_named, named}
+use Rattle.tk_explain.proofs.Anys.{list_any-map}
 use Rattle.tk_explain.proofs.by_word.is_fault.Goals as goal
 
 pub returns : goal.returns
 returns c =
-    any_from_yields_List (λ (f : FaultText). is_named (f.number.now, f.name.now) c.args.what.now) _ _ _ c.any.ensures.ran
+    any_from_yields_List (λ f. is_named (named f) c.args.what.now) _ _ _ c.any.ensures.ran
     (YieldsList-from_slice _ c.iter.ensures.rest) (λ x b q k. search (rules, tests))
+    ∙ sym (list_any-map named (λ f. is_named f c.args.what.now) c.faults.result.now)
+    ∙ ap (list_any (λ f. is_named f c.args.what.now)) c.faults.ensures
