@@ -1,6 +1,5 @@
 //! What a file without a fault is.
-use crate::shown::shown_word;
-use std::fmt;
+use crate::sentence::Sentence;
 use tk_lists::{SolText, TourText};
 use tk_params::Params;
 use tk_problem::{PlaneKind, Problem, Weights};
@@ -14,50 +13,46 @@ pub enum Sound {
     Parameters(Params),
 }
 
-/// What it is.
-impl fmt::Display for Sound {
-    fn fmt<W: fmt::Write>(&self, f: &mut fmt::Formatter<W>) -> fmt::Result {
+impl Sound {
+    /// What it is.
+    pub fn sentence(&self) -> Sentence<'_> {
         match self {
-            Sound::Problem(problem) => write_problem(f, problem),
+            Sound::Problem(problem) => of_problem(problem),
             Sound::Tour(tour) => {
-                let count = tour.cities.len();
-                write!(f, "a tour file of {count} cities")
+                Sentence::of("a tour file of {} cities").number(tour.cities.len() as u64)
             }
-            Sound::Solution(solution) => {
-                let routes = solution.routes.len();
-                let customers = customers_of(solution);
-                let cost = solution.cost;
-                write!(
-                    f,
-                    "a solution file of {routes} routes with {customers} customers, cost {cost}"
-                )
-            }
+            Sound::Solution(solution) => of_solution(solution),
             Sound::Parameters(params) => {
-                let problem = shown_word(params.problem_file().as_bytes());
-                write!(f, "a parameter file for the problem {problem}")
+                Sentence::of("a parameter file for the problem {}").word(
+                    params.problem_file().as_bytes(),
+                )
             }
         }
     }
 }
 
-/// Writes what a problem is.
-fn write_problem<W: fmt::Write>(f: &mut fmt::Formatter<W>, problem: &Problem) -> fmt::Result {
-    let name = shown_word(&problem.name);
-    let count = problem.n;
-    let distances = distances_of(&problem.weights);
+/// What a problem is.
+fn of_problem(problem: &Problem) -> Sentence<'_> {
+    let text = match problem.routing {
+        None => "a TSP of {} cities named {}, with {} distances",
+        Some(_) => "a CVRP of {} nodes named {}, with {} distances and capacity {}",
+    };
+    let sentence = Sentence::of(text)
+        .number(u64::from(problem.n))
+        .word(&problem.name)
+        .text(distances_of(&problem.weights));
     match &problem.routing {
-        None => write!(
-            f,
-            "a TSP of {count} cities named {name}, with {distances} distances"
-        ),
-        Some(routing) => {
-            let capacity = routing.capacity;
-            write!(
-                f,
-                "a CVRP of {count} nodes named {name}, with {distances} distances and capacity {capacity}"
-            )
-        }
+        None => sentence,
+        Some(routing) => sentence.number(u64::from(routing.capacity)),
     }
+}
+
+/// What a solution is.
+fn of_solution(solution: &SolText) -> Sentence<'_> {
+    Sentence::of("a solution file of {} routes with {} customers, cost {}")
+        .number(solution.routes.len() as u64)
+        .number(customers_of(solution) as u64)
+        .integer(solution.cost)
 }
 
 /// What its distances are.

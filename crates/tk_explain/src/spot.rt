@@ -1,9 +1,7 @@
 //! The line of a fault, and what is said of it.
 use crate::kind::Kind;
 use crate::lines::line_at;
-use crate::read::Read;
-use crate::remedy::Remedy;
-use crate::wanted::Wanted;
+use crate::sentence::Sentence;
 use std::alloc::Global;
 
 /// A line of a file that is read as one of a kind.
@@ -32,16 +30,16 @@ impl<'a> Spot<'a> {
 /// What stands at the line of a fault. The table of faults says what to do where no remedy is known.
 #[derive(Clone, Copy)]
 pub struct Here<'a> {
-    pub wanted: Wanted<'a>,
-    pub read: Read<'a>,
-    pub remedy: Option<Remedy>,
+    pub wanted: Sentence<'a>,
+    pub read: Sentence<'a>,
+    pub remedy: Option<Sentence<'a>>,
     /// Another line that has to do with it.
     pub other: Option<u64>,
 }
 
 impl<'a> Here<'a> {
     /// What was wanted and what was read.
-    pub fn new(wanted: Wanted<'a>, read: Read<'a>) -> Here<'a> {
+    pub fn new(wanted: Sentence<'a>, read: Sentence<'a>) -> Here<'a> {
         Here {
             wanted,
             read,
@@ -51,7 +49,7 @@ impl<'a> Here<'a> {
     }
 
     /// With what to do.
-    pub fn with(self, remedy: Remedy) -> Here<'a> {
+    pub fn with(self, remedy: Sentence<'a>) -> Here<'a> {
         Here {
             remedy: Some(remedy),
             ..self
@@ -60,7 +58,7 @@ impl<'a> Here<'a> {
 
     /// With what to do, in words that are the same for each such file.
     pub fn advice(self, remedy: &'static str) -> Here<'a> {
-        self.with(Remedy::Text(remedy))
+        self.with(Sentence::of(remedy))
     }
 
     /// With another line that has to do with it.

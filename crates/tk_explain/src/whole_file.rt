@@ -82,7 +82,8 @@ pub fn add_answer(page: &mut Page, file: &File<'_>, answer: &Answer) -> Result<(
 /// Adds what a file without a fault is, and where it goes.
 pub fn add_sound(page: &mut Page, file: &File<'_>, sound: &Sound) -> Result<(), AllocError> {
     let name = file.name;
-    page.line(&format_args!("{name} has no fault: it is {sound}."))?;
+    let what = sound.sentence();
+    page.line(&format_args!("{name} has no fault: it is {what}."))?;
     page.line(&match file.kind {
         Kind::Problem =>
             "It comes first, as in tourkit check PROBLEM TOUR; a parameter file names it as PROBLEM_FILE.",

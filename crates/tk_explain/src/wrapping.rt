@@ -1,7 +1,6 @@
 //! Files that are no text that tourkit can read, whatever they hold.
-use crate::read::Read;
+use crate::sentence::Sentence;
 use crate::spot::Here;
-use crate::wanted::Wanted;
 
 /// Why a file is no text that can be read.
 #[derive(Clone, Copy, PartialEq, Eq)]
@@ -55,5 +54,5 @@ pub fn wrapped<'a>(wrapping: Wrapping) -> Here<'a> {
             "Give the text file. An archive has to be unpacked, and a text in UTF-16 saved as UTF-8.",
         ),
     };
-    Here::new(Wanted::Text("a text in ASCII or UTF-8"), Read::Text(read)).advice(remedy)
+    Here::new(Sentence::of("a text in ASCII or UTF-8"), Sentence::of(read)).advice(remedy)
 }

@@ -1,10 +1,8 @@
 //! Sections that end too early, and what stands where nothing may.
 use crate::lines::{count_tokens, first_token, header, keyword_at, token_after};
 use crate::place::{Place, entry_width, header_number, numbers_in, place_of};
-use crate::read::{End, Read, SectionRead};
-use crate::remedy::{DimensionRemedy, EntryRemedy, OutsideRemedy, Remedy};
+use crate::sentence::Sentence;
 use crate::spot::{Here, Spot};
-use crate::wanted::{SectionWanted, Wanted};
 use tk_words::{Keyword, blank, keyword_in, letter, spelled};
 
 /// How many numbers a section has.
@@ -69,27 +67,29 @@ fn numbers_before_word(line: &[u8]) -> u64 {
     count
 }
 
-/// What ends a section on a line.
-fn end_on<'a>(spot: &Spot<'a>) -> End<'a> {
+/// The word that ends a section on a line: `None` at the end of the file.
+fn end_on<'a>(spot: &Spot<'a>) -> Option<&'a [u8]> {
     for token in spot.line.split(|byte| blank(*byte)) {
         if keyword_in(token).is_some() {
-            return End::Word(token);
+            return Some(token);
         }
     }
-    End::File
+    None
 }
 
-/// What is wanted of a section, and what is read.
-fn of_section<'a>(wanted: SectionWanted, read: SectionRead<'a>) -> Here<'a> {
-    Here::new(Wanted::Section(wanted), Read::Section(read))
+/// A sentence whose first value is what ends a section.
+fn of_end<'a>(text: &'static str, end: Option<&'a [u8]>) -> Sentence<'a> {
+    match end {
+        Some(word) => Sentence::of(text).word(word),
+        None => Sentence::of(text).text("the end of the file"),
+    }
 }
 
 /// A section ends before its last number.
 pub fn truncated<'a>(spot: &Spot<'a>) -> Here<'a> {
     let end = end_on(spot);
     let Some(place) = place_of(spot.text, spot.number) else {
-        let read = Read::Section(SectionRead::End(end));
-        return Here::new(Wanted::Text("numbers"), read);
+        return Here::new(Sentence::of("numbers"), of_end("{}", end));
     };
     let section = place.section;
     let have = place.numbers.saturating_add(numbers_before_word(spot.line));
@@ -101,56 +101,47 @@ pub fn truncated<'a>(spot: &Spot<'a>) -> Here<'a> {
 }
 
 /// A section with an entry for each node has too few.
-fn few_entries<'a>(end: End<'a>, section: Keyword, have: u64, size: Size) -> Here<'a> {
-    let Size {
-        nodes,
-        line,
-        numbers: _,
-    } = size;
+fn few_entries<'a>(end: Option<&'a [u8]>, section: Keyword, have: u64, size: Size) -> Here<'a> {
+    let Size { nodes, line, .. } = size;
     let width = entry_width(section);
     let entries = have / width;
     let next = entries.saturating_add(1);
-    let wanted = SectionWanted::Entry {
-        next,
-        section,
-        nodes,
-        line,
-    };
+    let wanted = Sentence::of("entry {} of {}, since DIMENSION is {} (line {})")
+        .number(next)
+        .keyword(section)
+        .number(nodes)
+        .number(line);
     if have % width != 0 {
-        let read = SectionRead::WithinEntry { end, entry: next };
-        return of_section(wanted, read).with(Remedy::Entry(EntryRemedy::Complete(width)));
+        let read = of_end("{} in the middle of entry {}", end).number(next);
+        let remedy = Sentence::of("Complete the entry: each has {} numbers.").number(width);
+        return Here::new(wanted, read).with(remedy);
     }
-    let read = SectionRead::AfterEntries {
-        end,
-        entries,
-        nodes,
-    };
-    let missing = nodes.saturating_sub(entries);
-    of_section(wanted, read)
-        .with(Remedy::Dimension(DimensionRemedy::More {
-            entries,
-            missing,
-            nodes,
-            line,
-        }))
-        .beside(line)
+    let read = of_end("{}, after {} of {} entries", end)
+        .number(entries)
+        .number(nodes);
+    let text = "Write DIMENSION : {} on line {}, or add what is missing: {} of {} entries.";
+    let remedy = Sentence::of(text)
+        .number(entries)
+        .number(line)
+        .number(nodes.saturating_sub(entries))
+        .number(nodes);
+    Here::new(wanted, read).with(remedy).beside(line)
 }
 
 /// There are too few weights.
-fn few_weights<'a>(end: End<'a>, have: u64, size: Size) -> Here<'a> {
+fn few_weights<'a>(end: Option<&'a [u8]>, have: u64, size: Size) -> Here<'a> {
     let Size {
         nodes,
         line,
         numbers,
     } = size;
-    let wanted = SectionWanted::Weight {
-        next: have.saturating_add(1),
-        numbers,
-        nodes,
-        line,
-    };
-    let read = SectionRead::AfterWeights { end, weights: have };
-    of_section(wanted, read)
+    let wanted = Sentence::of("weight {} of {}, since DIMENSION is {} (line {})")
+        .number(have.saturating_add(1))
+        .number(numbers)
+        .number(nodes)
+        .number(line);
+    let read = of_end("{}, after {} weights", end).number(have);
+    Here::new(wanted, read)
         .advice(
             "Add the weights that are missing, or correct DIMENSION or EDGE_WEIGHT_FORMAT: both say how many there are.",
         )
@@ -158,11 +149,11 @@ fn few_weights<'a>(end: End<'a>, have: u64, size: Size) -> Here<'a> {
 }
 
 /// A list ends with a keyword.
-fn short_list<'a>(spot: &Spot<'a>, end: End<'a>, section: Keyword) -> Here<'a> {
-    let line = spot.number;
-    of_section(SectionWanted::EntryOrEnd(section), SectionRead::End(end)).with(Remedy::Entry(
-        EntryRemedy::MoveOrEnd { line, section },
-    ))
+fn short_list<'a>(spot: &Spot<'a>, end: Option<&'a [u8]>, section: Keyword) -> Here<'a> {
+    let wanted = Sentence::of("another entry of {}, or the -1 that ends it").keyword(section);
+    let text = "Move line {} before {}, or write a line -1 before it if the list is complete.";
+    let remedy = Sentence::of(text).number(spot.number).keyword(section);
+    Here::new(wanted, of_end("{}", end)).with(remedy)
 }
 
 /// Something stands where nothing may.
@@ -180,27 +171,26 @@ pub fn trailing<'a>(spot: &Spot<'a>) -> Here<'a> {
 fn no_word<'a>(spot: &Spot<'a>) -> Here<'a> {
     if keyword_at(spot.line).is_some() {
         return Here::new(
-            Wanted::Text("nothing more on the line"),
-            Read::Text("more after the keyword"),
+            Sentence::of("nothing more on the line"),
+            Sentence::of("more after the keyword"),
         );
     }
     let bytes = first_token(spot.line);
-    let line = spot.number;
-    let (remark, remedy) = match bytes.first() {
+    let (read, remedy) = match bytes.first() {
         Some(byte) if byte.is_ascii_digit() || *byte == b'-' => (
-            ", a number outside a section",
-            OutsideRemedy::Numbers(line),
+            "{}, a number outside a section",
+            "Add the section's keyword before line {}, such as NODE_COORD_SECTION, or remove the numbers.",
         ),
         _ => (
-            ", which does not begin with one",
-            OutsideRemedy::Comment(line),
+            "{}, which does not begin with one",
+            "Remove line {}, or write COMMENT : before it if it is a comment: there are no other comments.",
         ),
     };
     Here::new(
-        Wanted::Text("a keyword, which begins with a letter"),
-        Read::Bytes { bytes, remark },
+        Sentence::of("a keyword, which begins with a letter"),
+        Sentence::of(read).word(bytes),
     )
-    .with(Remedy::Outside(remedy))
+    .with(Sentence::of(remedy).number(spot.number))
 }
 
 /// A section with an entry for each node has more.
@@ -208,12 +198,14 @@ fn too_many<'a>(spot: &Spot<'a>, place: Place, size: Size) -> Here<'a> {
     let section = place.section;
     let left = size.numbers.saturating_sub(place.numbers);
     let bytes = token_after(spot.line, left).unwrap_or(first_token(spot.line));
-    let wanted = SectionWanted::AfterNumbers {
-        section,
-        numbers: size.numbers,
-    };
+    let wanted = Sentence::of("a header, another section or EOF: {} has its {} numbers")
+        .keyword(section)
+        .number(size.numbers);
     if left > 0 {
-        return of_section(wanted, SectionRead::Behind { bytes, section }).advice(
+        let read = Sentence::of("{} after the last number of {}")
+            .word(bytes)
+            .keyword(section);
+        return Here::new(wanted, read).advice(
             "Remove it. If it is a comment, write it on a line COMMENT : of its own, before the section.",
         );
     }
@@ -235,47 +227,43 @@ fn begins_entry(line: &[u8]) -> bool {
 }
 
 /// A weight follows the last one.
-fn one_weight_more<'a>(wanted: SectionWanted, bytes: &'a [u8], line: u64) -> Here<'a> {
-    let remark = ", one more weight";
-    Here::new(Wanted::Section(wanted), Read::Bytes { bytes, remark })
-        .with(Remedy::Dimension(DimensionRemedy::Format(line)))
+fn one_weight_more<'a>(wanted: Sentence<'a>, bytes: &'a [u8], line: u64) -> Here<'a> {
+    let text =
+        "Correct DIMENSION (line {}) or EDGE_WEIGHT_FORMAT: both say how many weights there are.";
+    let remedy = Sentence::of(text).number(line);
+    Here::new(wanted, Sentence::of("{}, one more weight").word(bytes))
+        .with(remedy)
         .beside(line)
 }
 
 /// Lines follow the last one of a section.
 fn more_entries<'a>(
     spot: &Spot<'a>,
-    wanted: SectionWanted,
+    wanted: Sentence<'a>,
     section: Keyword,
     size: Size,
 ) -> Here<'a> {
-    let Size {
-        nodes,
-        line,
-        numbers: _,
-    } = size;
-    let read = SectionRead::Entry {
-        entry: nodes.saturating_add(1),
-        section,
-        nodes,
-        line,
-    };
-    let remedy = DimensionRemedy::Fewer {
-        entries: numbers_in(spot.text, section) / entry_width(section),
-        from: spot.number,
-        line,
-    };
-    of_section(wanted, read)
-        .with(Remedy::Dimension(remedy))
-        .beside(line)
+    let Size { nodes, line, .. } = size;
+    let read = Sentence::of("entry {} of {}, but DIMENSION is {} (line {})")
+        .number(nodes.saturating_add(1))
+        .keyword(section)
+        .number(nodes)
+        .number(line);
+    let text = "Write DIMENSION : {} on line {}, or remove what is too much, from line {} on.";
+    let remedy = Sentence::of(text)
+        .number(numbers_in(spot.text, section) / entry_width(section))
+        .number(line)
+        .number(spot.number);
+    Here::new(wanted, read).with(remedy).beside(line)
 }
 
 /// Something follows the `-1` that ends a list.
 fn after_list<'a>(spot: &Spot<'a>, section: Keyword) -> Here<'a> {
     let count = count_tokens(spot.line);
     let bytes = token_after(spot.line, count.saturating_sub(1)).unwrap_or(spot.line);
-    let wanted = Wanted::Section(SectionWanted::AfterList(section));
-    Here::new(wanted, Read::bytes(bytes)).advice(
+    let text = "a header or EOF on a new line, since -1 has ended {}";
+    let wanted = Sentence::of(text).keyword(section);
+    Here::new(wanted, Sentence::of_word(bytes)).advice(
         "Remove it, or the -1 before it if the list goes on.",
     )
 }

@@ -2,10 +2,8 @@
 use crate::kind::Kind;
 use crate::lines::{header, keyword_at};
 use crate::place::{entry_width, numbers_in};
-use crate::read::{HeaderRead, Read};
-use crate::remedy::{DimensionRemedy, Remedy};
+use crate::sentence::Sentence;
 use crate::spot::{Here, Spot};
-use crate::wanted::Wanted;
 use tk_words::{Keyword, Role, role};
 
 /// A header or a section is missing: before a section, or at the end of the file.
@@ -18,52 +16,55 @@ pub fn missing<'a>(spot: &Spot<'a>, word: Keyword) -> Here<'a> {
 
 /// A header is missing before a section.
 fn before<'a>(spot: &Spot<'a>, word: Keyword, section: Keyword) -> Here<'a> {
-    let wanted = Wanted::Before { word, section };
+    let wanted = Sentence::of("{}, which stands before {}")
+        .keyword(word)
+        .keyword(section);
     if let Some(later) = header(spot.text, word) {
         let line = later.line;
-        let before = spot.number;
-        let read = HeaderRead::Later {
-            section,
-            word,
-            line,
-        };
-        return Here::new(wanted, Read::Header(read))
-            .with(Remedy::Move { line, before })
-            .beside(line);
+        let read = Sentence::of("{}, and {} only on line {}")
+            .keyword(section)
+            .keyword(word)
+            .number(line);
+        let remedy = Sentence::of("Move line {} before line {}.")
+            .number(line)
+            .number(spot.number);
+        return Here::new(wanted, read).with(remedy).beside(line);
     }
-    let read = HeaderRead::Section { section, word };
-    Here::new(wanted, Read::Header(read)).with(added_before(spot, word, section))
+    let read = Sentence::of("{}, and no {} before it")
+        .keyword(section)
+        .keyword(word);
+    Here::new(wanted, read).with(added_before(spot, word, section))
 }
 
 /// What to add before a section.
-fn added_before(spot: &Spot<'_>, word: Keyword, section: Keyword) -> Remedy {
-    let line = spot.number;
+fn added_before<'a>(spot: &Spot<'_>, word: Keyword, section: Keyword) -> Sentence<'a> {
     let width = entry_width(section);
     let nodes = numbers_in(spot.text, section) / width;
     if word == Keyword::Dimension && width > 1 && nodes > 1 {
-        return Remedy::Dimension(DimensionRemedy::Add {
-            nodes,
-            before: line,
-        });
+        return Sentence::of("Add the line DIMENSION : {} before line {}, if all nodes are there.")
+            .number(nodes)
+            .number(spot.number);
     }
-    let example = example_of(spot.kind, word);
-    Remedy::AddBefore { example, line }
+    Sentence::of("Add {} before line {}.")
+        .text(example_of(spot.kind, word))
+        .number(spot.number)
 }
 
 /// A header or a section is missing in the whole file.
 fn at_end<'a>(spot: &Spot<'a>, word: Keyword) -> Here<'a> {
     let read = if spot.text.trim_ascii().is_empty() {
-        Read::Text("an empty file")
+        Sentence::of("an empty file")
     } else {
-        Read::Header(HeaderRead::End(word))
+        Sentence::of("the end of the file, and no {} before it").keyword(word)
     };
-    let example = example_of(spot.kind, word);
-    let place = if role(word) == Role::BeginsSection {
-        "at the end, before EOF"
+    let form = if role(word) == Role::BeginsSection {
+        "Add {} at the end, before EOF."
     } else {
-        "before the first section"
+        "Add {} before the first section."
     };
-    Here::new(Wanted::InFile(word), read).with(Remedy::Add { example, place })
+    let wanted = Sentence::of("{}, which the file needs").keyword(word);
+    let remedy = Sentence::of(form).text(example_of(spot.kind, word));
+    Here::new(wanted, read).with(remedy)
 }
 
 /// What can be added for a header or a section.

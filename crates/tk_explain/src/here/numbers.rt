@@ -2,11 +2,9 @@
 use crate::kind::Kind;
 use crate::lines::{first_token, header, keyword_at, value_behind};
 use crate::place::{Place, entry_width, header_number, place_of, uneven_line};
-use crate::read::{Named, Read};
-use crate::remedy::{Choice, DimensionRemedy, EntryRemedy, Remedy};
 use crate::repeats::{Repeat, first_repeat};
+use crate::sentence::Sentence;
 use crate::spot::{Here, Spot};
-use crate::wanted::{Entry, Wanted};
 use std::alloc::AllocError;
 use tk_problem::{CAPACITY_LIMIT, DISTANCE_LIMIT};
 use tk_words::{Keyword, Role, TextKind, blank, decimal, integer, role};
@@ -16,6 +14,50 @@ use tk_words::{Keyword, Role, TextKind, blank, decimal, integer, role};
 struct Faulty<'a> {
     index: u64,
     bytes: &'a [u8],
+}
+
+/// A number of a section, before which so many others stand, where DIMENSION is `size`.
+#[derive(Clone, Copy)]
+struct Entry {
+    section: Keyword,
+    index: u64,
+    size: u64,
+}
+
+impl Entry {
+    /// What is wanted in its place.
+    fn wanted<'a>(&self) -> Sentence<'a> {
+        let width = entry_width(self.section);
+        let entry = (self.index / width).saturating_add(1);
+        let field = self.index % width;
+        Sentence::of(text_of_field(self.section, field))
+            .number(entry)
+            .keyword(self.section)
+            .number(self.size)
+    }
+}
+
+/// What a field of a section's entries holds: with the entry's number, the section and, of a node, DIMENSION.
+fn text_of_field(section: Keyword, field: u64) -> &'static str {
+    match (section, field) {
+        (Keyword::NodeCoordSection | Keyword::DemandSection, 0) => {
+            "the node number of entry {} of {}, an integer from 1 to {}"
+        }
+        (Keyword::NodeCoordSection, 1) => {
+            "x of entry {} of {}, a decimal number from -1,000,000,000 to 1,000,000,000"
+        }
+        (Keyword::NodeCoordSection, _) => {
+            "y of entry {} of {}, a decimal number from -1,000,000,000 to 1,000,000,000"
+        }
+        (Keyword::DemandSection, _) => {
+            "the demand of entry {} of {}, an integer from 0 to 2,000,000,000"
+        }
+        (Keyword::EdgeWeightSection, _) => "weight {} of {}, an integer from 0 to 4,000,000,000",
+        (Keyword::TourSection, _) => {
+            "entry {} of {}, an integer from 0 to 4,294,967,295, or -1 at the end"
+        }
+        _ => "entry {} of {}, an integer",
+    }
 }
 
 /// A number is none, outside its limits, or no node.
@@ -28,7 +70,7 @@ pub fn number<'a>(spot: &Spot<'a>, kind: TextKind) -> Result<Here<'a>, AllocErro
         Some(word) if kind == TextKind::OutOfLimit => Ok(too_many_nodes(spot, word)),
         _ => match place_of(spot.text, spot.number) {
             Some(place) => in_section(spot, place, kind),
-            None => Ok(Here::new(Wanted::Text("a number"), Read::bytes(spot.line))),
+            None => Ok(Here::new(Sentence::of("a number"), Sentence::of_word(spot.line))),
         },
     }
 }
@@ -41,21 +83,29 @@ fn in_header<'a>(spot: &Spot<'a>, word: Keyword, kind: TextKind) -> Here<'a> {
         _ => "2 to 100,000",
     };
     let value = first_token(value_behind(spot.line, b':'));
-    let remark = if kind == TextKind::BadNumber {
-        ", which is no integer"
+    let text = if kind == TextKind::BadNumber {
+        "{}, which is no integer"
     } else {
-        ""
+        "{}"
     };
-    Here::new(Wanted::Integer { word, limits }, Read::value(value, remark)).with(Remedy::Integer(
-        limits,
-    ))
+    let read = Sentence::of_value(text, value);
+    let wanted = Sentence::of("{} : an integer from {}")
+        .keyword(word)
+        .text(limits);
+    let text = "Write an integer from {}, with nothing between its digits.";
+    let remedy = Sentence::of(text).text(limits);
+    Here::new(wanted, read).with(remedy)
 }
 
 /// A section with a table has too many nodes.
 fn too_many_nodes<'a>(spot: &Spot<'a>, word: Keyword) -> Here<'a> {
     let nodes = header_number(spot.text, Keyword::Dimension).unwrap_or(0);
     let line = header(spot.text, Keyword::Dimension).map_or(1, |found| found.line);
-    Here::new(Wanted::FewNodes(word), Read::Dimension { nodes, line })
+    let wanted = Sentence::of("at most 5,000 nodes in a problem with {}").keyword(word);
+    let read = Sentence::of("DIMENSION {} (line {})")
+        .number(nodes)
+        .number(line);
+    Here::new(wanted, read)
         .advice("Use a problem of at most 5,000 nodes, or a TSP with coordinates.")
         .beside(line)
 }
@@ -81,8 +131,8 @@ fn in_section<'a>(spot: &Spot<'a>, place: Place, kind: TextKind) -> Result<Here<
         return Ok(repeated_node(spot, section, repeat));
     }
     Ok(Here::new(
-        Wanted::Text("another number"),
-        Read::bytes(first_token(spot.line)),
+        Sentence::of("another number"),
+        Sentence::of_word(first_token(spot.line)),
     ))
 }
 
@@ -157,38 +207,37 @@ fn fault_within(bytes: &[u8], low: u64, high: u64, outside: TextKind) -> Option<
 
 /// A number stands in the place of another one, since an earlier line has too few numbers or too many.
 fn uneven<'a>(entry: Entry, bytes: &'a [u8], line: u64, count: u64) -> Here<'a> {
-    let section = entry.section;
-    let width = entry_width(section);
-    Here::new(Wanted::Entry(entry), Read::bytes(bytes))
-        .with(Remedy::Entry(EntryRemedy::LookAt {
-            line,
-            count,
-            section,
-            width,
-        }))
+    let text = "Look at line {} first: it has {} numbers, and an entry of {} has {}.";
+    let remedy = Sentence::of(text)
+        .number(line)
+        .number(count)
+        .keyword(entry.section)
+        .number(entry_width(entry.section));
+    Here::new(entry.wanted(), Sentence::of_word(bytes))
+        .with(remedy)
         .beside(line)
 }
 
 /// A node is none of the problem's.
 fn other_node<'a>(spot: &Spot<'a>, entry: Entry, bytes: &'a [u8]) -> Here<'a> {
-    let wanted = Wanted::Entry(entry);
     if integer(bytes).is_some_and(|number| number < 1) {
-        let remark = ", but node numbers start at 1";
-        return Here::new(wanted, Read::Bytes { bytes, remark }).advice(
+        let read = Sentence::of("{}, but node numbers start at 1").word(bytes);
+        return Here::new(entry.wanted(), read).advice(
             "Number the nodes from 1 on, and alike in every section. If they start at 0, add 1 to each.",
         );
     }
-    let nodes = entry.size;
     let line = header(spot.text, Keyword::Dimension).map_or(1, |found| found.line);
-    let read = Read::AboveDimension { bytes, nodes, line };
-    Here::new(wanted, read)
-        .with(Remedy::Dimension(DimensionRemedy::Node(line)))
-        .beside(line)
+    let read = Sentence::of("{}, but DIMENSION is {} (line {})")
+        .word(bytes)
+        .number(entry.size)
+        .number(line);
+    let remedy = Sentence::of("Correct the number, or DIMENSION on line {}.").number(line);
+    Here::new(entry.wanted(), read).with(remedy).beside(line)
 }
 
 /// A number is outside its limits.
 fn outside(entry: Entry, bytes: &[u8]) -> Here<'_> {
-    let here = Here::new(Wanted::Entry(entry), Read::bytes(bytes));
+    let here = Here::new(entry.wanted(), Sentence::of_word(bytes));
     match entry.section {
         Keyword::NodeCoordSection => here.advice(
             "Give all coordinates in a larger unit: divide each of them by the same number.",
@@ -203,38 +252,44 @@ fn outside(entry: Entry, bytes: &[u8]) -> Here<'_> {
 /// Something is no number.
 fn no_number(entry: Entry, bytes: &[u8]) -> Here<'_> {
     let is_place = entry.section == Keyword::NodeCoordSection && entry.index % 3 != 0;
-    let wanted = Wanted::Entry(entry);
-    if bytes.contains(&b',') {
-        let remark = ", with a comma";
-        return Here::new(wanted, Read::Bytes { bytes, remark }).advice(
+    if is_place && !bytes.contains(&b',') {
+        return Here::new(
+            entry.wanted(),
+            Sentence::of("{}, which is no number").word(bytes),
+        );
+    }
+    let (read, remedy) = if bytes.contains(&b',') {
+        (
+            "{}, with a comma",
             "Write a decimal point in place of the comma, or a blank where it stands between two numbers.",
-        );
-    }
-    if bytes.contains(&b'.') && !is_place {
-        let remark = ", which is no integer";
-        return Here::new(wanted, Read::Bytes { bytes, remark }).advice(
+        )
+    } else if bytes.contains(&b'.') {
+        (
+            "{}, which is no integer",
             "Write an integer. If it is a coordinate, a number is missing or too many before it.",
-        );
-    }
-    let remark = ", which is no number";
-    let here = Here::new(wanted, Read::Bytes { bytes, remark });
-    if is_place {
-        return here;
-    }
-    here.advice("Write an integer there, and blanks between the numbers.")
+        )
+    } else {
+        (
+            "{}, which is no number",
+            "Write an integer there, and blanks between the numbers.",
+        )
+    };
+    Here::new(entry.wanted(), Sentence::of(read).word(bytes)).advice(remedy)
 }
 
 /// A node comes a second time.
 fn repeated_node<'a>(spot: &Spot<'a>, section: Keyword, repeat: Option<Repeat>) -> Here<'a> {
-    let line = spot.number;
     let Some(Repeat { node, first }) = repeat else {
         return Here::new(
-            Wanted::Text("a node of the problem"),
-            Read::bytes(spot.line),
+            Sentence::of("a node of the problem"),
+            Sentence::of_word(spot.line),
         );
     };
-    let what = Named::Node(node);
-    Here::new(Wanted::EachOnce(section), Read::Again { what, first })
-        .with(Remedy::Choice(Choice::Node { line, first }))
-        .beside(first)
+    let wanted = Sentence::of("each node of {} once").keyword(section);
+    let read = Sentence::of("node {} a second time; line {} has it first")
+        .number(node)
+        .number(first);
+    let text = "Correct the node number on line {} or on line {}, or remove one of them.";
+    let remedy = Sentence::of(text).number(spot.number).number(first);
+    Here::new(wanted, read).with(remedy).beside(first)
 }

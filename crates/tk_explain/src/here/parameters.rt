@@ -2,10 +2,8 @@
 use crate::kind::is_other_key;
 use crate::lines::{first_token, split_word, value_behind};
 use crate::nearest::nearest;
-use crate::read::{Named, Read};
-use crate::remedy::{Choice, Remedy};
+use crate::sentence::Sentence;
 use crate::spot::{Here, Spot};
-use crate::wanted::Wanted;
 use std::alloc::AllocError;
 use tk_params::{Key, ParamKind, key_of};
 
@@ -24,6 +22,9 @@ static NAMES: [&str; 11] = [
     "OR_SEGMENT",
 ];
 
+/// What to do about a word that is none, where another one may be meant.
+const MEANT: &str = "Write {}, if that is meant; else put # before the line, or remove it.";
+
 /// What may begin a line.
 const KEYS: &str =
     "PROBLEM_FILE, TOUR_FILE, SOLUTION_FILE, INITIAL_TOUR_FILE, RUNS, MAX_TRIALS, SEED, MAX_CANDIDATES, \
@@ -39,12 +40,12 @@ pub fn parameter<'a>(spot: &Spot<'a>, kind: ParamKind) -> Result<Here<'a>, Alloc
         ParamKind::RepeatedKey => Ok(repeated_key(spot)),
         ParamKind::BadValue => Ok(bad_value(spot)),
         ParamKind::MissingProblem => Ok(Here::new(
-            Wanted::Text("PROBLEM_FILE, which the file needs"),
-            Read::Text("the end of the file, and no PROBLEM_FILE before it"),
+            Sentence::of("PROBLEM_FILE, which the file needs"),
+            Sentence::of("the end of the file, and no PROBLEM_FILE before it"),
         )),
         ParamKind::DollarInName => Ok(Here::new(
-            Wanted::Text("a file name without $"),
-            Read::bytes(value_behind(spot.line, b'=')),
+            Sentence::of("a file name without $"),
+            Sentence::of_word(value_behind(spot.line, b'=')),
         )),
         _ => Ok(too_long(spot)),
     }
@@ -53,12 +54,8 @@ pub fn parameter<'a>(spot: &Spot<'a>, kind: ParamKind) -> Result<Here<'a>, Alloc
 /// A line, a key or the file is too long.
 fn too_long<'a>(spot: &Spot<'a>) -> Here<'a> {
     Here::new(
-        Wanted::Text("a line of at most 4,096 bytes, with a key of at most 64"),
-        Read::Length {
-            before: "a line of ",
-            length: spot.line.len(),
-            after: " bytes",
-        },
+        Sentence::of("a line of at most 4,096 bytes, with a key of at most 64"),
+        Sentence::of("a line of {} bytes").number(spot.line.len() as u64),
     )
 }
 
@@ -68,36 +65,39 @@ fn unknown_key<'a>(spot: &Spot<'a>) -> Result<Here<'a>, AllocError> {
     if key.is_empty() {
         return Ok(no_key(
             first_token(spot.line),
-            ", which does not begin with a letter",
+            "{}, which does not begin with a letter",
         ));
     }
     if is_other_key(key) {
-        let here = no_key(key, ", a key of LKH that tourkit does not have");
+        let here = no_key(key, "{}, a key of LKH that tourkit does not have");
         return Ok(here.advice(
             "Put # before the line, or let examples/lkh-to-tourkit translate the whole file.",
         ));
     }
-    let here = no_key(key, ", which is none of them");
-    let or_else = "# before the line";
+    let here = no_key(key, "{}, which is none of them");
     match nearest(spot.alloc, key, NAMES.as_slice())? {
-        Some(name) => Ok(here.with(Remedy::Write { name, or_else })),
+        Some(name) => Ok(here.with(Sentence::of(MEANT).text(name))),
         None => Ok(here),
     }
 }
 
 /// A word that is no key, and what is said of it.
-fn no_key<'a>(bytes: &'a [u8], remark: &'static str) -> Here<'a> {
-    Here::new(Wanted::Text(KEYS), Read::Bytes { bytes, remark })
+fn no_key<'a>(bytes: &'a [u8], read: &'static str) -> Here<'a> {
+    Here::new(Sentence::of(KEYS), Sentence::of(read).word(bytes))
 }
 
 /// A key comes a second time.
 fn repeated_key<'a>(spot: &Spot<'a>) -> Here<'a> {
-    let line = spot.number;
     let word = split_word(spot.line).0;
     let first = first_with(spot.text, word);
-    let what = Named::Key(word);
-    Here::new(Wanted::Text("each key once"), Read::Again { what, first })
-        .with(Remedy::Choice(Choice::Remove { line, first }))
+    let read = Sentence::of("{} a second time; line {} has it first")
+        .word(word)
+        .number(first);
+    let remedy = Sentence::of("Remove line {} or line {}, whichever is wrong.")
+        .number(spot.number)
+        .number(first);
+    Here::new(Sentence::of("each key once"), read)
+        .with(remedy)
         .beside(first)
 }
 
@@ -134,10 +134,14 @@ fn values_of(key: Key) -> &'static str {
 fn bad_value<'a>(spot: &Spot<'a>) -> Here<'a> {
     let bytes = value_behind(spot.line, b'=');
     let Some(key) = key_of(split_word(spot.line).0) else {
-        return Here::new(Wanted::Text("a key and its value"), Read::bytes(spot.line));
+        return Here::new(
+            Sentence::of("a key and its value"),
+            Sentence::of_word(spot.line),
+        );
     };
     let values = values_of(key);
-    let here = Here::new(Wanted::Value { values, key }, Read::value(bytes, ""));
+    let wanted = Sentence::of("{}, as the value of {}").text(values).key(key);
+    let here = Here::new(wanted, Sentence::of_value("{}", bytes));
     if bytes.is_empty() {
         here.advice("Write the value after the key, or put # before the line.")
     } else if bytes.contains(&b'#') {
@@ -147,6 +151,6 @@ fn bad_value<'a>(spot: &Spot<'a>) -> Here<'a> {
     } else if first_token(bytes).len() < bytes.len() {
         here.advice("Write the value alone: nothing may follow it.")
     } else {
-        here.with(Remedy::Value(values))
+        here.with(Sentence::of("Write {}.").text(values))
     }
 }

@@ -1,10 +1,8 @@
 //! Depots, demands, and matrices that are not symmetric.
 use crate::lines::{Found, first_token, header};
 use crate::place::{header_number, node_index, number_at, place_of};
-use crate::read::{Misfit, Read};
-use crate::remedy::{Choice, Remedy};
+use crate::sentence::Sentence;
 use crate::spot::{Here, Spot};
-use crate::wanted::{Fitting, Wanted};
 use tk_words::{Keyword, blank, integer};
 
 /// The depot section does not name one node, or the depot has a demand.
@@ -41,18 +39,16 @@ fn bad_on<'a>(spot: &Spot<'a>, begun: u64, size: u64) -> Option<(u64, &'a [u8])>
 /// A number comes after the depot.
 fn second_depot(bytes: &[u8]) -> Here<'_> {
     Here::new(
-        Wanted::Text("-1, since DEPOT_SECTION has its node"),
-        Read::Bytes {
-            bytes,
-            remark: ", a second node",
-        },
+        Sentence::of("-1, since DEPOT_SECTION has its node"),
+        Sentence::of("{}, a second node").word(bytes),
     )
     .advice("Keep one depot. If these are coordinates, write the number of the node that has them.")
 }
 
 /// The number of the depot is no node.
 fn no_depot(bytes: &[u8], size: u64) -> Here<'_> {
-    Here::new(Wanted::Fitting(Fitting::Depot(size)), Read::bytes(bytes)).advice(
+    let wanted = Sentence::of("the number of the depot, from 1 to {}").number(size);
+    Here::new(wanted, Sentence::of_word(bytes)).advice(
         "Write the number of the node that is the depot, and then -1 on the next line.",
     )
 }
@@ -60,25 +56,23 @@ fn no_depot(bytes: &[u8], size: u64) -> Here<'_> {
 /// The depot has a demand.
 fn depot_with_demand<'a>(spot: &Spot<'a>) -> Here<'a> {
     let Some(depot) = number_at(spot.text, Keyword::DepotSection, 0) else {
-        return Here::new(Wanted::Text("a depot"), Read::bytes(spot.line));
+        return Here::new(Sentence::of("a depot"), Sentence::of_word(spot.line));
     };
     let node = integer(depot.bytes).unwrap_or(0);
-    let line = depot.line;
-    let wanted = Wanted::Fitting(Fitting::NoDemand { node, line });
+    let wanted = Sentence::of("the demand 0 of node {}, which is the depot (line {})")
+        .integer(node)
+        .number(depot.line);
     let Some(found) = demand_of(spot, node) else {
-        return Here::new(wanted, Read::bytes(spot.line));
+        return Here::new(wanted, Sentence::of_word(spot.line));
     };
-    let read = Misfit::OfDepot {
-        demand: found.bytes,
-        line: found.line,
-    };
-    let choice = Choice::Depot {
-        demand: found.line,
-        depot: line,
-    };
-    Here::new(wanted, Read::Misfit(read))
-        .with(Remedy::Choice(choice))
-        .beside(found.line)
+    let line = found.line;
+    let read = Sentence::of("the demand {} (line {})")
+        .word(found.bytes)
+        .number(line);
+    let remedy = Sentence::of("Write 0 as its demand on line {}, or name another node on line {}.")
+        .number(line)
+        .number(depot.line);
+    Here::new(wanted, read).with(remedy).beside(line)
 }
 
 /// The demand of a node.
@@ -93,22 +87,21 @@ pub fn over_capacity<'a>(spot: &Spot<'a>, node: u32) -> Here<'a> {
         Some(found) => (found.line, first_token(found.bytes)),
         None => (1, b"".as_slice()),
     };
-    let wanted = Wanted::Fitting(Fitting::Demand { capacity, line });
+    let wanted = Sentence::of("a demand of at most {}, the CAPACITY (line {})")
+        .word(capacity)
+        .number(line);
+    let number = u64::from(node);
     let Some(found) = demand_of(spot, node as i64) else {
-        return Here::new(wanted, Read::Misfit(Misfit::More(node)));
+        return Here::new(wanted, Sentence::of("more for node {}").number(number));
     };
-    let read = Misfit::OfNode {
-        demand: found.bytes,
-        node,
-        line: found.line,
-    };
-    let choice = Choice::Capacity {
-        capacity: line,
-        demand: found.line,
-    };
-    Here::new(wanted, Read::Misfit(read))
-        .with(Remedy::Choice(choice))
-        .beside(found.line)
+    let read = Sentence::of("the demand {} of node {} (line {})")
+        .word(found.bytes)
+        .number(number)
+        .number(found.line);
+    let text =
+        "Correct CAPACITY on line {} or the demand on line {}. No vehicle can serve a node in part.";
+    let remedy = Sentence::of(text).number(line).number(found.line);
+    Here::new(wanted, read).with(remedy).beside(found.line)
 }
 
 /// Two entries of a full matrix differ.
@@ -118,23 +111,30 @@ pub fn not_symmetric<'a>(spot: &Spot<'a>, row: u32, column: u32) -> Here<'a> {
         entry_at(spot, size, row, column),
         entry_at(spot, size, column, row),
     ) else {
-        return Here::new(Wanted::Text("a symmetric matrix"), Read::bytes(spot.line));
+        return Here::new(
+            Sentence::of("a symmetric matrix"),
+            Sentence::of_word(spot.line),
+        );
     };
-    let wanted = Fitting::Weight {
-        weight: first.bytes,
-        row,
-        column,
-        line: first.line,
-    };
-    let read = Misfit::Weight {
-        weight: second.bytes,
-        line: second.line,
-    };
-    Here::new(Wanted::Fitting(wanted), Read::Misfit(read))
+    let read = Sentence::of("{} (line {})")
+        .word(second.bytes)
+        .number(second.line);
+    Here::new(mirrored(first, u64::from(row), u64::from(column)), read)
         .advice(
             "Correct one of the two. If the distances depend on the direction, this is an ATSP, which cannot be used.",
         )
         .beside(first.line)
+}
+
+/// The weight that is wanted in the other direction of one in a row and a column.
+fn mirrored<'a>(weight: Found<'a>, row: u64, column: u64) -> Sentence<'a> {
+    Sentence::of("{} in row {}, column {}, as in row {}, column {} (line {})")
+        .word(weight.bytes)
+        .number(column)
+        .number(row)
+        .number(row)
+        .number(column)
+        .number(weight.line)
 }
 
 /// An entry of a full matrix. Rows and columns count from 1.

@@ -1,9 +1,7 @@
 //! The faults of solution files.
 use crate::lines::{first_token, split_word, token_after, value_behind};
-use crate::read::Read;
-use crate::remedy::{OutsideRemedy, Remedy};
+use crate::sentence::Sentence;
 use crate::spot::{Here, Spot};
-use crate::wanted::Wanted;
 use tk_words::{TextKind, blank, integer, spelled};
 
 /// How a route is written.
@@ -30,8 +28,8 @@ pub fn solution<'a>(spot: &Spot<'a>, kind: TextKind) -> Here<'a> {
 /// There is no cost.
 fn no_cost<'a>() -> Here<'a> {
     Here::new(
-        Wanted::Text(COST),
-        Read::Text("the end of the file, and no Cost before it"),
+        Sentence::of(COST),
+        Sentence::of("the end of the file, and no Cost before it"),
     )
     .advice("Add a line Cost 0 at the end: tourkit checksol then says what the routes cost.")
 }
@@ -39,12 +37,12 @@ fn no_cost<'a>() -> Here<'a> {
 /// The cost is no number, or outside its limits.
 fn bad_cost(value: &[u8]) -> Here<'_> {
     let read = if value.is_empty() {
-        Read::Text("Cost and no number")
+        Sentence::of("Cost and no number")
     } else {
-        Read::bytes(value)
+        Sentence::of_word(value)
     };
     Here::new(
-        Wanted::Text("Cost and an integer that is not negative"),
+        Sentence::of("Cost and an integer that is not negative"),
         read,
     )
     .advice("Write an integer, such as Cost 0: tourkit checksol then says what the routes cost.")
@@ -53,10 +51,9 @@ fn bad_cost(value: &[u8]) -> Here<'_> {
 /// A line before the cost is neither a route nor the cost.
 fn other_line<'a>(spot: &Spot<'a>) -> Here<'a> {
     let bytes = first_token(spot.line);
-    let remark = ", which begins neither";
     Here::new(
-        Wanted::Text("a line Route #K: CUSTOMERS, or the line Cost N"),
-        Read::Bytes { bytes, remark },
+        Sentence::of("a line Route #K: CUSTOMERS, or the line Cost N"),
+        Sentence::of("{}, which begins neither").word(bytes),
     )
     .advice(if integer(bytes).is_some() {
         "A route is one line: join this one to the line before, or write Route #K: in front of it."
@@ -71,13 +68,17 @@ fn after_cost<'a>(spot: &Spot<'a>, word: &'a [u8]) -> Here<'a> {
     if line == spot.number {
         let rest = token_after(value_behind(spot.line, b':'), 1).unwrap_or(b"".as_slice());
         return Here::new(
-            Wanted::Text("nothing after the number of Cost"),
-            Read::bytes(rest),
+            Sentence::of("nothing after the number of Cost"),
+            Sentence::of_word(rest),
         )
         .advice("Remove it, or move it to a line of its own after the cost.");
     }
-    Here::new(Wanted::NoRoutesAfter(line), Read::bytes(word))
-        .with(Remedy::Outside(OutsideRemedy::Cost(line)))
+    let text = "no more routes and no other cost after the line Cost, which is line {}";
+    let wanted = Sentence::of(text).number(line);
+    let text = "Move line {} after the last route, and keep one such line.";
+    let remedy = Sentence::of(text).number(line);
+    Here::new(wanted, Sentence::of_word(word))
+        .with(remedy)
         .beside(line)
 }
 
@@ -107,8 +108,8 @@ fn in_route<'a>(spot: &Spot<'a>, kind: TextKind) -> Here<'a> {
     }
     if kind == TextKind::OutOfLimit {
         return Here::new(
-            Wanted::Text("at most 100,000 routes with 1,000,000 customers"),
-            Read::Text("more"),
+            Sentence::of("at most 100,000 routes with 1,000,000 customers"),
+            Sentence::of("more"),
         );
     }
     other_route("a route with something else before its colon")
@@ -117,8 +118,8 @@ fn in_route<'a>(spot: &Spot<'a>, kind: TextKind) -> Here<'a> {
 /// A customer is no number or outside its limits.
 fn other_customer(bytes: &[u8]) -> Here<'_> {
     Here::new(
-        Wanted::Text("a customer, an integer from 0 to 4,294,967,295"),
-        Read::bytes(bytes),
+        Sentence::of("a customer, an integer from 0 to 4,294,967,295"),
+        Sentence::of_word(bytes),
     )
     .advice(
         "Correct the number. Customers are numbered from 1, without the depot, with blanks between them.",
@@ -127,7 +128,7 @@ fn other_customer(bytes: &[u8]) -> Here<'_> {
 
 /// A route has another form.
 fn other_route<'a>(read: &'static str) -> Here<'a> {
-    Here::new(Wanted::Text(ROUTE), Read::Text(read)).advice(
+    Here::new(Sentence::of(ROUTE), Sentence::of(read)).advice(
         "Write Route #, a number, a colon, and then the customers.",
     )
 }

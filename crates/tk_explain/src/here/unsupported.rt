@@ -1,10 +1,8 @@
 //! What TSPLIB has and tourkit does not read.
 use crate::kind::Kind;
 use crate::lines::{first_token, header, keyword_at, value_behind};
-use crate::read::Read;
-use crate::remedy::{OutsideRemedy, Remedy};
+use crate::sentence::Sentence;
 use crate::spot::{Here, Spot};
-use crate::wanted::Wanted;
 use tk_words::{Keyword, spelled};
 
 /// What can be written in place of other distances.
@@ -21,8 +19,8 @@ UPPER_DIAG_COL, LOWER_DIAG_COL or FUNCTION";
 pub fn unsupported<'a>(spot: &Spot<'a>) -> Here<'a> {
     match keyword_at(spot.line) {
         None => Here::new(
-            Wanted::Text("a keyword that tourkit reads"),
-            Read::bytes(spot.line),
+            Sentence::of("a keyword that tourkit reads"),
+            Sentence::of_word(spot.line),
         ),
         Some(word) if spot.kind == Kind::Tour => in_tour(spot, word),
         Some(word) => in_problem(spot, word),
@@ -60,7 +58,7 @@ fn not_supported<'a>(word: Keyword) -> Here<'a> {
         Keyword::Distance | Keyword::ServiceTime | Keyword::Vehicles => other_word(
             "a header that tourkit reads",
             word,
-            ", which is not supported",
+            "{}, which is not supported",
             "Remove the line, if routes may be as long and as many as they like.",
         ),
         _ => other_section(word),
@@ -72,8 +70,8 @@ fn other_type<'a>(spot: &Spot<'a>) -> Here<'a> {
     let value = first_token(value_behind(spot.line, b':'));
     if spelled(value, b"TOUR") {
         return Here::new(
-            Wanted::Text("a problem file, with TYPE : TSP or TYPE : CVRP"),
-            Read::Text("TYPE : TOUR, so this is a tour file"),
+            Sentence::of("a problem file, with TYPE : TSP or TYPE : CVRP"),
+            Sentence::of("TYPE : TOUR, so this is a tour file"),
         )
         .advice("Give the problem first and the tour second: tourkit check PROBLEM TOUR.");
     }
@@ -88,8 +86,8 @@ fn other_type<'a>(spot: &Spot<'a>) -> Here<'a> {
 fn valued<'a>(spot: &Spot<'a>, wanted: &'static str, remedy: &'static str) -> Here<'a> {
     let value = first_token(value_behind(spot.line, b':'));
     Here::new(
-        Wanted::Text(wanted),
-        Read::value(value, ", which is not supported"),
+        Sentence::of(wanted),
+        Sentence::of_value("{}, which is not supported", value),
     )
     .advice(remedy)
 }
@@ -98,39 +96,47 @@ fn valued<'a>(spot: &Spot<'a>, wanted: &'static str, remedy: &'static str) -> He
 fn other_word<'a>(
     wanted: &'static str,
     word: Keyword,
-    remark: &'static str,
+    read: &'static str,
     remedy: &'static str,
 ) -> Here<'a> {
-    Here::new(Wanted::Text(wanted), Read::Word { word, remark }).advice(remedy)
+    Here::new(Sentence::of(wanted), Sentence::of(read).keyword(word)).advice(remedy)
 }
 
 /// A section of a CVRP stands in a TSP.
 fn for_cvrp<'a>(spot: &Spot<'a>, word: Keyword) -> Here<'a> {
     let line = header(spot.text, Keyword::Type).map_or(1, |found| found.line);
-    Here::new(
-        Wanted::Text("a section of a TSP"),
-        Read::ForCvrp { word, line },
-    )
-    .with(Remedy::Outside(OutsideRemedy::Type(line)))
-    .beside(line)
+    let read = Sentence::of("{}, which is for a CVRP, but TYPE is TSP (line {})")
+        .keyword(word)
+        .number(line);
+    let text = "Write TYPE : CVRP on line {}, or remove the section with its lines.";
+    let remedy = Sentence::of(text).number(line);
+    Here::new(Sentence::of("a section of a TSP"), read)
+        .with(remedy)
+        .beside(line)
 }
 
 /// Weights stand in a problem that has none.
 fn without_weights<'a>(spot: &Spot<'a>) -> Here<'a> {
-    let read = match header(spot.text, Keyword::EdgeWeightType) {
-        Some(found) if !spelled(first_token(found.bytes), b"EXPLICIT") => Read::NoWeights {
-            bytes: first_token(found.bytes),
-            line: found.line,
-        },
-        _ => Read::Text("EDGE_WEIGHT_SECTION, but EDGE_WEIGHT_FORMAT is FUNCTION"),
-    };
     Here::new(
-        Wanted::Text("no weights, which the headers do not announce"),
-        read,
+        Sentence::of("no weights, which the headers do not announce"),
+        weights_without_type(spot.text),
     )
     .advice(
         "Write EDGE_WEIGHT_TYPE : EXPLICIT and the format of the weights, or remove the section with its lines.",
     )
+}
+
+/// Why a problem with a section of weights has none.
+fn weights_without_type(text: &[u8]) -> Sentence<'_> {
+    if let Some(found) = header(text, Keyword::EdgeWeightType) {
+        let value = first_token(found.bytes);
+        if !spelled(value, b"EXPLICIT") {
+            return Sentence::of("EDGE_WEIGHT_SECTION, but EDGE_WEIGHT_TYPE is {} (line {})")
+                .word(value)
+                .number(found.line);
+        }
+    }
+    Sentence::of("EDGE_WEIGHT_SECTION, but EDGE_WEIGHT_FORMAT is FUNCTION")
 }
 
 /// A section is not supported at all.
@@ -143,7 +149,7 @@ fn other_section<'a>(word: Keyword) -> Here<'a> {
     other_word(
         "a section that tourkit reads",
         word,
-        ", which is not supported in a problem",
+        "{}, which is not supported in a problem",
         remedy,
     )
 }
@@ -160,7 +166,7 @@ fn in_tour<'a>(spot: &Spot<'a>, word: Keyword) -> Here<'a> {
     other_word(
         "NAME, COMMENT, TYPE, DIMENSION, TOUR_SECTION or EOF",
         word,
-        ", which is for problem files",
+        "{}, which is for problem files",
         "Remove the line, or, if this is the problem, give it first: tourkit check PROBLEM TOUR.",
     )
 }

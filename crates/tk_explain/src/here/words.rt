@@ -2,10 +2,8 @@
 use crate::kind::Kind;
 use crate::lines::{first_token, header, keyword_at, split_word, value_behind};
 use crate::nearest::nearest;
-use crate::read::{Named, Read};
-use crate::remedy::{Choice, Remedy};
+use crate::sentence::Sentence;
 use crate::spot::{Here, Spot};
-use crate::wanted::Wanted;
 use std::alloc::AllocError;
 use tk_problem::TEXT_LIMIT;
 use tk_words::{Keyword, Role, blank, role};
@@ -29,6 +27,9 @@ static KEYWORDS: [&str; 15] = [
     "TOUR_SECTION",
 ];
 
+/// What to do about a word that is none, where another one may be meant.
+const MEANT: &str = "Write {}, if that is meant; else put COMMENT : before the line, or remove it.";
+
 /// The words that begin a line.
 fn keywords(kind: Kind) -> &'static str {
     match kind {
@@ -45,14 +46,12 @@ fn keywords(kind: Kind) -> &'static str {
 /// `AllocError` if memory runs out.
 pub fn unknown<'a>(spot: &Spot<'a>) -> Result<Here<'a>, AllocError> {
     let bytes = split_word(spot.line).0;
-    let remark = ", which is none of them";
     let here = Here::new(
-        Wanted::Text(keywords(spot.kind)),
-        Read::Bytes { bytes, remark },
+        Sentence::of(keywords(spot.kind)),
+        Sentence::of("{}, which is none of them").word(bytes),
     );
-    let or_else = "COMMENT : before the line";
     match nearest(spot.alloc, bytes, KEYWORDS.as_slice())? {
-        Some(name) => Ok(here.with(Remedy::Write { name, or_else })),
+        Some(name) => Ok(here.with(Sentence::of(MEANT).text(name))),
         None => Ok(here),
     }
 }
@@ -62,66 +61,58 @@ pub fn repeated<'a>(spot: &Spot<'a>) -> Here<'a> {
     let line = spot.number;
     let word = keyword_at(spot.line).unwrap_or(Keyword::Name);
     let first = header(spot.text, word).map_or(1, |found| found.line);
-    let what = Named::Keyword(word);
-    let choice = if role(word) == Role::BeginsSection {
-        Choice::Section { line, first }
+    let read = Sentence::of("{} a second time; line {} has it first")
+        .keyword(word)
+        .number(first);
+    let remedy = if role(word) == Role::BeginsSection {
+        Sentence::of("Keep one of the sections that begin on lines {} and {}.")
+            .number(first)
+            .number(line)
     } else {
-        Choice::Remove { line, first }
+        Sentence::of("Remove line {} or line {}, whichever is wrong.")
+            .number(line)
+            .number(first)
     };
-    Here::new(
-        Wanted::Text("each header and each section once"),
-        Read::Again { what, first },
-    )
-    .with(Remedy::Choice(choice))
-    .beside(first)
+    Here::new(Sentence::of("each header and each section once"), read)
+        .with(remedy)
+        .beside(first)
 }
 
 /// The file, a line, a word or a number is too long.
 pub fn too_long<'a>(spot: &Spot<'a>) -> Here<'a> {
     if spot.text.len() as u64 > TEXT_LIMIT {
         return Here::new(
-            Wanted::Text("a file of at most 1,073,741,824 bytes"),
-            Read::Text("more bytes than that"),
+            Sentence::of("a file of at most 1,073,741,824 bytes"),
+            Sentence::of("more bytes than that"),
         );
     }
     let length = split_word(spot.line).0.len();
     if length > 64 {
         return long(
             "a keyword, which has at most 64 bytes",
-            "a word of ",
+            "a word of {} bytes",
             length,
-            " bytes",
         );
     }
     let value = value_behind(spot.line, b':').len();
     match keyword_at(spot.line) {
-        Some(Keyword::Name) => long("a NAME of at most 1,024 bytes", "", value, " bytes"),
+        Some(Keyword::Name) => long("a NAME of at most 1,024 bytes", "{} bytes", value),
         Some(word) if role(word) == Role::BeginsHeader => {
-            long("at most 4,096 bytes after the keyword", "", value, " bytes")
+            long("at most 4,096 bytes after the keyword", "{} bytes", value)
         }
         _ => long(
             "a number, which has at most 64 bytes",
-            "",
+            "{} bytes without a blank",
             longest(spot.line),
-            " bytes without a blank",
         ),
     }
 }
 
 /// Something is too long.
-fn long<'a>(
-    wanted: &'static str,
-    before: &'static str,
-    length: usize,
-    after: &'static str,
-) -> Here<'a> {
+fn long<'a>(wanted: &'static str, read: &'static str, length: usize) -> Here<'a> {
     Here::new(
-        Wanted::Text(wanted),
-        Read::Length {
-            before,
-            length,
-            after,
-        },
+        Sentence::of(wanted),
+        Sentence::of(read).number(length as u64),
     )
 }
 
