@@ -16,6 +16,23 @@ pub const USAGE: u8 = 2;
 /// A file could not be opened, read or written, or there was no memory.
 pub const SYSTEM: u8 = 3;
 
+/// Prints a message about a file.
+fn print(rt: &HostRuntime, file: &str, message: &str) {
+    let _ = eprintln!(rt; "tourkit: {file}: {message}");
+}
+
+/// Refuses a file, or a word of the call, with a message.
+fn refuse(rt: &HostRuntime, file: &str, message: &str) -> ExitCode {
+    print(rt, file, message);
+    ExitCode::from(USAGE)
+}
+
+/// Refuses a file for a key or an option, with a message about that.
+fn refuse_for(rt: &HostRuntime, file: &str, named: &str, message: &str) -> ExitCode {
+    let _ = eprintln!(rt; "tourkit: {file}: {named} {message}");
+    ExitCode::from(USAGE)
+}
+
 /// Ends with what came of words that were refused.
 pub fn refused(rt: &HostRuntime, refusal: Refusal) -> ExitCode {
     match refusal {
@@ -33,14 +50,13 @@ pub fn not_text(rt: &HostRuntime) -> ExitCode {
 
 /// Tells that a file cannot be opened.
 pub fn unopened(rt: &HostRuntime, file: &str) -> ExitCode {
-    let _ = eprintln!(rt; "tourkit: {file}: cannot be opened");
+    print(rt, file, "cannot be opened");
     ExitCode::from(SYSTEM)
 }
 
 /// Tells that a number is that of no fault, and no file has it as its name.
 pub fn no_such_fault(rt: &HostRuntime, what: &str) -> ExitCode {
-    let _ = eprintln!(rt; "tourkit: {what}: no fault has this number, and no file this name");
-    ExitCode::from(USAGE)
+    refuse(rt, what, "no fault has this number, and no file this name")
 }
 
 /// Tells that a file to write is the problem's. Both are called by what names them.
@@ -51,16 +67,16 @@ pub fn same_as_problem(rt: &HostRuntime, file: &str, named: &str, problem: &str)
 
 /// Tells that a file to write is the parameter file.
 pub fn same_as_parameters(rt: &HostRuntime, file: &str, named: &str) -> ExitCode {
-    let _ = eprintln!(rt; "tourkit: {file}: {named} is the parameter file");
-    ExitCode::from(USAGE)
+    refuse_for(rt, file, named, "is the parameter file")
 }
 
 /// Tells that options of a search were given with a parameter file.
 pub fn options_for_parameters(rt: &HostRuntime, file: &str) -> ExitCode {
-    let _ = eprintln!(rt;
-        "tourkit: {file}: options of a search need a problem file, and this is a parameter file"
-    );
-    ExitCode::from(USAGE)
+    refuse(
+        rt,
+        file,
+        "options of a search need a problem file, and this is a parameter file",
+    )
 }
 
 /// Tells that an option has a value that no search has.
@@ -69,16 +85,9 @@ pub fn option_fault(rt: &HostRuntime, option: &str, kind: ParamKind) -> ExitCode
     ExitCode::from(USAGE)
 }
 
-/// Notes that a file name begins with a colon.
-pub fn note_colon(rt: &HostRuntime, key: &str, name: &str) {
-    let _ = eprintln!(rt; "tourkit: note: the file of {key} is '{name}', with the colon");
-}
-
-/// Notes that a file name has what looks like a comment.
-pub fn note_comment(rt: &HostRuntime, key: &str, name: &str) {
-    let _ = eprintln!(rt;
-        "tourkit: note: the file of {key} is '{name}', with all that follows the #"
-    );
+/// Notes that a file name is most likely a slip.
+pub fn note(rt: &HostRuntime, key: &str, name: &str, slip: &str) {
+    let _ = eprintln!(rt; "tourkit: note: the file of {key} is '{name}', with {slip}");
 }
 
 /// Tells the fault of an engine over the problem of a file.
@@ -88,10 +97,10 @@ pub fn stopped(rt: &HostRuntime, file: &str, fault: &Fault) -> ExitCode {
             text_fault(rt, file, fault)
         }
         Fault::Initial(fault) => initial_fault(rt, file, fault),
-        Fault::WrongType => wrong_type(rt, file),
+        Fault::WrongType => refuse(rt, file, "not a CVRP"),
         Fault::NotForType(key) => not_for_type(rt, file, key.word()),
-        Fault::TooLarge => too_large(rt, file),
-        Fault::NoPlaces => no_places(rt, file),
+        Fault::TooLarge => refuse(rt, file, "too large for a matrix"),
+        Fault::NoPlaces => refuse(rt, file, "no coordinates"),
         Fault::Write(_) => write_fault(rt),
         Fault::NoMemory => no_memory(rt),
     }
@@ -129,39 +138,26 @@ pub fn no_memory(rt: &HostRuntime) -> ExitCode {
 
 /// Tells that the tour of a file is no tour to begin with.
 fn initial_fault(rt: &HostRuntime, file: &str, fault: &TourFault) -> ExitCode {
-    let _ = match fault {
-        TourFault::WrongCount => eprintln!(rt; "tourkit: {file}: initial tour: 1 WrongCount"),
-        TourFault::OutOfRange(place) => {
-            eprintln!(rt; "tourkit: {file}: initial tour: 2 OutOfRange {place}")
-        }
-        TourFault::RepeatedCity(place) => {
-            eprintln!(rt; "tourkit: {file}: initial tour: 3 RepeatedCity {place}")
-        }
-        TourFault::NoMemory => return no_memory(rt),
-    };
-    ExitCode::from(USAGE)
+    match fault {
+        TourFault::WrongCount => refuse(rt, file, "initial tour: 1 WrongCount"),
+        TourFault::OutOfRange(place) => refuse_at(rt, file, "initial tour: 2 OutOfRange", *place),
+        TourFault::RepeatedCity(place) => refuse_at(
+            rt,
+            file,
+            "initial tour: 3 RepeatedCity",
+            *place,
+        ),
+        TourFault::NoMemory => no_memory(rt),
+    }
 }
 
-/// Tells that a problem has no routing.
-fn wrong_type(rt: &HostRuntime, file: &str) -> ExitCode {
-    let _ = eprintln!(rt; "tourkit: {file}: not a CVRP");
+/// Refuses a file with a message about a place of its list.
+fn refuse_at(rt: &HostRuntime, file: &str, message: &str, place: u32) -> ExitCode {
+    let _ = eprintln!(rt; "tourkit: {file}: {message} {place}");
     ExitCode::from(USAGE)
 }
 
 /// Tells that a problem's type has no use for a key or an option.
 pub fn not_for_type(rt: &HostRuntime, file: &str, named: &str) -> ExitCode {
-    let _ = eprintln!(rt; "tourkit: {file}: {named} does not fit the problem's type");
-    ExitCode::from(USAGE)
-}
-
-/// Tells that a problem has too many nodes for a matrix.
-fn too_large(rt: &HostRuntime, file: &str) -> ExitCode {
-    let _ = eprintln!(rt; "tourkit: {file}: too large for a matrix");
-    ExitCode::from(USAGE)
-}
-
-/// Tells that the cities of a problem have no places.
-fn no_places(rt: &HostRuntime, file: &str) -> ExitCode {
-    let _ = eprintln!(rt; "tourkit: {file}: no coordinates");
-    ExitCode::from(USAGE)
+    refuse_for(rt, file, named, "does not fit the problem's type")
 }

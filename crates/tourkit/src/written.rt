@@ -97,8 +97,8 @@ pub fn note_slips(rt: &HostRuntime, search: &Search<'_, '_>) {
 /// Tells of a file name with a colon before it or what looks like a comment after it.
 fn note_slip(rt: &HostRuntime, key: &str, name: &str) {
     if name.starts_with(':') {
-        report::note_colon(rt, key, name);
+        report::note(rt, key, name, "the colon");
     } else if name.contains(" #") {
-        report::note_comment(rt, key, name);
+        report::note(rt, key, name, "all that follows the #");
     }
 }
