@@ -1,2 +1,3 @@
+pub mod JointExamples
 pub mod Rows
 pub mod TourExamples

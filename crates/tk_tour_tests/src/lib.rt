@@ -1,12 +1,14 @@
-//! The tests of tours and of descents. They have a crate of their own, because the tests of a crate are proved together
-//! with all of its functions.
+//! The tests of tours, descents, starting tours and searches. They have a crate of their own, because the tests of a
+//! crate are proved together with all of its functions.
 #![tactic(auto)]
 
 #[cfg(test)]
 mod descents;
 #[cfg(test)]
-mod examples;
+mod places;
 #[cfg(test)]
-mod segments;
+mod searches;
+#[cfg(test)]
+mod starts;
 #[cfg(test)]
 mod tours;

@@ -1,6 +1,6 @@
 use Rattle.std.proofs.Common.{refl}
 use Rattle.tk_tour.specs.Tour.{next_city, prev_city, place_of, occurrences}
-use Rattle.tk_tour_tests.proofs.examples.neighbours.Goals as goal
+use Rattle.tk_tour_tests.proofs.tours.examples.neighbours.Goals as goal
 
 pub returns-clause-next : goal.returns-clause-next
 unfolding next_city prev_city place_of occurrences

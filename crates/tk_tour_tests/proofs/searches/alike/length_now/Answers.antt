@@ -3,7 +3,7 @@ use Rattle.std.proofs.lemmas.Grind.{common_steps}
 use Rattle.tk_metric.specs.Cities.{IsCity}
 use Rattle.tk_tour.specs.JournalTours.{cities_of, tour_of}
 use Rattle.tk_tour.proofs.CitiesOfTours.{cities_of_tour}
-use Rattle.tk_build_tests.proofs.alike.length_now.Goals as goal
+use Rattle.tk_tour_tests.proofs.searches.alike.length_now.Goals as goal
 
 pub length-requires-clause-cities : goal.length-requires-clause-cities
 length-requires-clause-cities g c =

@@ -1,6 +1,6 @@
 //! The definitions of the savings merges, computed at small cases: there is nothing to run.
 ghost use Rattle.std.specs.Prelude.{[], ◌∷◌, ◌≡◌};
-ghost use Rattle.tk_build_tests.specs.JointExamples.{pair, one_each};
+ghost use Rattle.tk_tour_tests.specs.JointExamples.{pair, one_each};
 ghost use Rattle.tk_build.specs.Joints.{joints};
 
 /// The third pair would close a ring.

@@ -1,5 +1,5 @@
 use Rattle.std.proofs.Common.{[], ◌∷◌, inl, refl}
-use Rattle.tk_tour_tests.proofs.tours.bridges_doubly.Goals as goal
+use Rattle.tk_tour_tests.proofs.tours.worked.bridges_doubly.Goals as goal
 
 pub double_bridge-requires : goal.double_bridge-requires
 double_bridge-requires g c = record {

@@ -1,8 +1,8 @@
 use Rattle.std.proofs.Common.{[], ◌∷◌, inl, refl}
-use Rattle.tk_tour_tests.proofs.tours.moves_a_segment_as_it_runs.Goals as goal
+use Rattle.tk_tour_tests.proofs.tours.worked.moves_a_segment_turned_round.Goals as goal
 
-pub move_straight-requires : goal.move_straight-requires
-move_straight-requires g c = record {
+pub move_reversed-requires : goal.move_reversed-requires
+move_reversed-requires g c = record {
   segment = 2 ∷ 3 ∷ [];
   ahead = 4 ∷ 5 ∷ [];
   rest = 6 ∷ 7 ∷ 8 ∷ 1 ∷ [];
