@@ -1,0 +1,5 @@
+mod ArrayLists
+mod PlotTexts
+mod PointArrays
+mod Stops
+mod TextsSaid

@@ -1,0 +1,58 @@
+-- Arrays of numbers: distances and near lists, and what is told of a list.
+use Rattle.std.specs.Prelude.{◌≡◌, ◌≢◌, ◌≤◌, ◌<◌, ◌*◌, ◌/◌, ◌%◌, ◌+◌, ◌-◌, ℕ, ℤ, pos, List, length, slice_index_or, min}
+use Rattle.tk_text.specs.Problem.{ProblemIs, problem_decided}
+use Rattle.tk_engines.specs.ReadProblems.{read_distance}
+use Rattle.tk_metric.specs.Near.{AreNearest}
+use Rattle.tk_tour.specs.Tour.{tour_length}
+use Rattle.tk_tour.specs.Verdict.{IsVerdict}
+use Rattle.tk_tour.specs.declared.verdict.Verdict.TheVariants.{Tour, WrongCount, OutOfRange, RepeatedCity}
+use Rattle.tourkit_c.specs.Texts.{Says}
+use Rattle.tourkit_c.specs.declared.answer.Answer.{Answer}
+
+-- the distances of n cities, row by row: that of cities a and b at (a - 1) n + (b - 1)
+pub record AreDistances (n : ℕ) (distance : ℕ → ℕ → ℕ) (entries : List ℤ) : Type 0 where
+  pub count : length entries ≡ n * n
+  pub each : (i : ℕ) → i < n * n → slice_index_or entries i (pos 0) ≡ pos (distance (i / n + 1) (i % n + 1))
+
+-- the distances of the problem of a text
+pub record AreDistancesOf (problem : List ℕ) (entries : List ℤ) : Type 0 where
+  pub p : ProblemIs
+  pub is_problem : Says problem_decided problem p
+  pub are : AreDistances p.n (read_distance p.weights) entries
+
+-- the near lists of n cities, one after another: k cities each, or all others where there are fewer
+abbrev pub AreNearIn : ℕ → (ℕ → ℕ → ℕ) → ℕ → List ℕ → Type 0
+AreNearIn n distance k entries =
+    AreNearest distance (record { size = n; width = min k (n - 1); entries = entries })
+
+-- the near lists of the problem of a text
+pub record AreNearOf (k : ℕ) (problem : List ℕ) (entries : List ℕ) : Type 0 where
+  pub p : ProblemIs
+  pub is_problem : Says problem_decided problem p
+  pub are : AreNearIn p.n (read_distance p.weights) k entries
+
+-- what the status says of an array with so many numbers: it is 0 where just as many are needed, which are written, and
+-- 4 where another number of them is needed; it is not 1, since nothing is claimed
+pub record IsArrayStatus (count : ℕ) (answer : Answer) : Type 0 where
+  pub known : answer.status ≤ 4
+  pub unclaimed : answer.status ≢ 1
+  pub fits : answer.status ≡ 0 → answer.needed ≡ count
+  pub misfits : answer.status ≡ 4 → answer.needed ≢ count
+
+-- how many numbers there are, told in place of them
+abbrev pub IsCountOf : (ProblemIs → ℕ) → List ℕ → Answer → Type 0
+IsCountOf count problem answer = (p : ProblemIs) × Says problem_decided problem p × (answer.needed ≡ count p)
+
+-- what an answer tells of a list as a tour: its length, or the number of its first fault and the place of that
+pub record HasVerdict (n : ℕ) (distance : ℕ → ℕ → ℕ) (cities : List ℕ) (answer : Answer) : Type 0 where
+  pub tour : answer.status ≡ 0 → IsVerdict n cities Tour × (answer.length ≡ tour_length distance cities)
+  pub numbers : answer.status ≡ 1 → (20 ≤ answer.kind) × (answer.kind ≤ 22)
+  pub count : answer.status ≡ 1 → answer.kind ≡ 20 → IsVerdict n cities WrongCount
+  pub range : answer.status ≡ 1 → answer.kind ≡ 21 → IsVerdict n cities (OutOfRange answer.place)
+  pub repeated : answer.status ≡ 1 → answer.kind ≡ 22 → IsVerdict n cities (RepeatedCity answer.place)
+
+-- the same of a list as a tour of the problem of a text
+pub record IsTourCheckOf (problem cities : List ℕ) (answer : Answer) : Type 0 where
+  pub p : ProblemIs
+  pub is_problem : Says problem_decided problem p
+  pub verdict : HasVerdict p.n (read_distance p.weights) cities answer

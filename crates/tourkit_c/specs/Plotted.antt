@@ -1,0 +1,67 @@
+-- What `plot` gives for texts in memory.
+use Rattle.std.specs.Prelude.{◌≡◌, ◌⊎◌, Option, ℕ, Bool, true, false, List, [], length, None, is_some}
+use Rattle.tk_text.specs.Problem.{ProblemIs, problem_decided}
+use Rattle.tk_text.specs.Solution.{solution_decided}
+use Rattle.tk_text.specs.Tour.{tour_decided}
+use Rattle.tk_engines.specs.declared.engines.plotted.Plotted.{Plotted}
+use Rattle.tk_engines.specs.declared.engines.plotted.Plotted.TheVariants as plotted
+use Rattle.tk_engines.specs.Plot.{Claim, Drawn, IsPlot, Nothing, Output, Refused, RoutesClaim, TourClaim}
+use Rattle.tk_engines.specs.Plot.{without_places}
+use Rattle.tk_engines.specs.declared.fault.Fault.{Fault}
+use Rattle.tourkit_c.specs.Answers.{IsRefused}
+use Rattle.tourkit_c.specs.HandedOut.{handed_out}
+use Rattle.tourkit_c.specs.Texts.{HasFault, IsWritten, Says, route_status, tour_status}
+use Rattle.tk_words.specs.declared.fault.TextFault.{TextFault}
+use Rattle.tourkit_c.specs.declared.answer.Answer.{Answer}
+
+-- what is claimed of a problem: nothing, or a tour, or routes where the problem has a routing
+abbrev pub ClaimSays : Bool → List ℕ → ProblemIs → Claim → Type 0
+ClaimSays given text p Nothing = given ≡ false
+ClaimSays given text p (TourClaim cities) = (given ≡ true) × (p.routing ≡ None) × Says tour_decided text cities
+ClaimSays given text p (RoutesClaim s) = (given ≡ true) × (is_some p.routing ≡ true) × Says solution_decided text s
+
+pub record IsPlotOf (given : Bool) (problem claim : List ℕ) (answer : Plotted) (output : Output) : Type 0 where
+  pub p : ProblemIs
+  pub c : Claim
+  pub is_problem : Says problem_decided problem p
+  pub is_claim : ClaimSays given claim p c
+  pub is : IsPlot p c answer output
+
+-- 1 where what is claimed has a fault
+abbrev pub plot_status : Plotted → ℕ
+plot_status plotted.Cities = 0
+plot_status (plotted.Tour v) = tour_status v
+plot_status (plotted.Routes v) = route_status v
+
+-- the picture and the line on a fault, one of which is empty
+abbrev pub picture_in : Output → List ℕ
+picture_in (Drawn picture) = picture
+picture_in (Refused line) = []
+
+abbrev pub line_in : Output → List ℕ
+line_in (Drawn picture) = []
+line_in (Refused line) = line
+
+-- the picture and the line in two buffers
+pub record IsPlotWritten (status : ℕ) (output : Output) (out out' told told' : List ℕ) (answer : Answer) : Type 0 where
+  pub picture : IsWritten status (picture_in output) out out' answer
+  pub needed_is : answer.needed_file ≡ length (line_in output)
+  pub bytes : told' ≡ handed_out (line_in output) told
+
+-- a picture is made of places
+abbrev pub plot_misfit : ProblemIs → Option Fault
+plot_misfit p = without_places p.weights
+
+-- what is claimed is a tour, since the problem has no routing, and has this fault
+abbrev pub IsTourFault : Bool → List ℕ → ProblemIs → TextFault → Type 0
+IsTourFault given claim p f = (given ≡ true) × (p.routing ≡ None) × HasFault tour_decided claim f
+
+-- what is claimed is a solution, since the problem has a routing, and has this fault
+abbrev pub IsSolutionFault : Bool → List ℕ → ProblemIs → TextFault → Type 0
+IsSolutionFault given claim p f = (given ≡ true) × (is_some p.routing ≡ true) × HasFault solution_decided claim f
+
+-- what is claimed has the fault that the answer tells: as a tour where the problem has no routing, else as a solution
+abbrev pub IsClaimRefused : Bool → List ℕ → ProblemIs → Answer → Type 0
+IsClaimRefused given claim p answer =
+    (given ≡ true) × (((p.routing ≡ None) × IsRefused tour_decided 2 claim answer)
+    ⊎ ((is_some p.routing ≡ true) × IsRefused solution_decided 2 claim answer))

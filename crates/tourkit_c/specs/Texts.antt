@@ -1,0 +1,91 @@
+-- What is said of texts in memory.
+--     Says decided text value      the text says this value
+--     HasFault decided text fault      the text has this fault, or memory ran out
+--     IsCheckOf problem tour verdict line      the verdict on the tour of a text, and the line on it
+use Rattle.std.specs.Prelude.{◌≡◌, ℕ, List, Ok, length}
+use Rattle.tk_problem.specs.declared.limits.TheConstants.{TEXT_LIMIT}
+use Rattle.tk_text.specs.Drive.{Decided, IsTold}
+use Rattle.tk_text.specs.Texts.{answer_of}
+use Rattle.tk_text.specs.Problem.{ProblemIs, problem_decided}
+use Rattle.tk_problem.specs.declared.weights.Format.{Format}
+use Rattle.tk_words.specs.declared.fault.TextFault.{TextFault}
+use Rattle.tk_text.specs.Solution.{Solution, solution_decided}
+use Rattle.tk_text.specs.Tour.{tour_decided}
+use Rattle.tk_tour.specs.declared.verdict.Verdict.{Verdict}
+use Rattle.tk_tour.specs.declared.verdict.Verdict.TheVariants as verdicts
+use Rattle.tk_routes.specs.declared.claims.verdict.RouteVerdict.{RouteVerdict}
+use Rattle.tk_routes.specs.declared.claims.verdict.RouteVerdict.TheVariants as routes
+use Rattle.tourkit_c.specs.HandedOut.{handed_out}
+use Rattle.tourkit_c.specs.declared.answer.Answer.{Answer}
+use Rattle.tk_engines.specs.Check.{IsCheck}
+use Rattle.tk_engines.specs.MatrixOf.{IsMatrixText}
+use Rattle.tk_engines.specs.NearText.{IsNearText}
+use Rattle.tk_engines.specs.RouteCheck.{IsRouteCheck}
+
+-- a text says this value
+abbrev pub Says : {V : Type 0} → Decided V → List ℕ → V → Type 0
+Says decided text value = answer_of decided TEXT_LIMIT text ≡ Ok value
+
+-- a text has this fault; of faults of memory and of reading nothing is said
+abbrev pub HasFault : {V : Type 0} → Decided V → List ℕ → TextFault → Type 0
+HasFault decided text fault = IsTold (Unit {0}) (λ answer. answer_of decided TEXT_LIMIT text ≡ answer) fault
+
+-- the verdict on the tour of one text among the cities of another, and the line on it
+pub record IsCheckOf (problem tour : List ℕ) (verdict : Verdict) (line : List ℕ) : Type 0 where
+  pub p : ProblemIs
+  pub cities : List ℕ
+  pub is_problem : Says problem_decided problem p
+  pub is_tour : Says tour_decided tour cities
+  pub is : IsCheck p cities verdict line
+
+-- the status of a verdict: 0 for a tour, 1 for a fault
+abbrev pub tour_status : Verdict → ℕ
+tour_status verdicts.Tour = 0
+tour_status _ = 1
+
+abbrev pub route_status : RouteVerdict → ℕ
+route_status (routes.Valid count cost) = 0
+route_status _ = 1
+
+-- the verdict on the routes of one text in the problem of another, and the line on it
+pub record IsRouteCheckOf (problem solution : List ℕ) (verdict : RouteVerdict) (line : List ℕ) : Type 0 where
+  pub p : ProblemIs
+  pub claimed : Solution
+  pub is_problem : Says problem_decided problem p
+  pub is_solution : Says solution_decided solution claimed
+  pub is : IsRouteCheck p claimed verdict line
+
+-- the near lists of the problem of a text
+pub record IsNearTextOf (k : ℕ) (problem text : List ℕ) : Type 0 where
+  pub p : ProblemIs
+  pub is_problem : Says problem_decided problem p
+  pub is : IsNearText k p text
+
+-- the matrix of the problem of a text
+pub record IsMatrixTextOf (format : Format) (problem text : List ℕ) : Type 0 where
+  pub p : ProblemIs
+  pub is_problem : Says problem_decided problem p
+  pub is : IsMatrixText format p text
+
+-- some text was handed out: how many bytes it has, and its first bytes in the buffer
+abbrev pub IsSomeText : List ℕ → List ℕ → Answer → Type 0
+IsSomeText old new answer = (text : List ℕ) × (answer.needed ≡ length text) × (new ≡ handed_out text old)
+
+-- what was written: the status, how many bytes the text has, and its first bytes in the buffer
+pub record IsWritten (status : ℕ) (text old new : List ℕ) (answer : Answer) : Type 0 where
+  pub status_is : answer.status ≡ status
+  pub needed_is : answer.needed ≡ length text
+  pub bytes : new ≡ handed_out text old
+
+abbrev pub IsCheckWritten : List ℕ → List ℕ → List ℕ → List ℕ → Answer → Type 0
+IsCheckWritten problem tour old new answer =
+    (v : Verdict) × (line : List ℕ) × IsCheckOf problem tour v line × IsWritten (tour_status v) line old new answer
+
+abbrev pub IsRouteCheckWritten : List ℕ → List ℕ → List ℕ → List ℕ → Answer → Type 0
+IsRouteCheckWritten problem solution old new answer =
+    (v : RouteVerdict) × (line : List ℕ) × IsRouteCheckOf problem solution v line
+    × IsWritten (route_status v) line old new answer
+
+-- a text that has the property was written
+abbrev pub IsTextWritten : (List ℕ → Type 0) → List ℕ → List ℕ → Answer → Type 0
+IsTextWritten Is old new answer = (text : List ℕ) × Is text × IsWritten 0 text old new answer

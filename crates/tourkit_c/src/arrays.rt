@@ -1,0 +1,141 @@
+//! Arrays of numbers in place of texts: the distances and the near lists of a problem, and the check of a list.
+ghost use Rattle.std.specs.Prelude.{◌≡◌, ◌≢◌, ◌⊎◌, ◌≤◌, ◌<◌, ◌*◌, ◌-◌, min, length, IfOk, IfErr};
+ghost use Rattle.tk_problem.specs.declared.limits.TheConstants.{CANDIDATE_LIMIT};
+ghost use Rattle.tk_text.specs.Problem.{problem_decided};
+ghost use Rattle.tk_text.specs.Parts.{problem_is, weights_are};
+ghost use Rattle.tk_metric.specs.Tables.{table_distance, table_size};
+ghost use Rattle.tk_engines.specs.ReadProblems.{read_distance};
+ghost use Rattle.tourkit_c.specs.Answers.{IsRefused};
+ghost use Rattle.tourkit_c.specs.Arrays.{AreDistances, AreDistancesOf, AreNearIn, AreNearOf, HasVerdict, IsArrayStatus};
+ghost use Rattle.tourkit_c.specs.Arrays.{IsCountOf, IsTourCheckOf};
+ghost use Rattle.tourkit_c.specs.Texts.{HasFault, Says};
+
+use crate::answer::{Answer, NO_ROOM, REFUSED};
+use crate::tables::{fill_distances, near_in, verdict_in};
+use std::alloc::Global;
+use tk_metric::Table;
+use tk_text::{CANDIDATE_LIMIT, FromRead, Problem, TextFault, read_problem};
+
+/// The problem of a text.
+fn problem_of(alloc: Global, text: &[u8]) -> Result<Problem, TextFault>
+    ensures ok { IfOk result (λ p. Says problem_decided text.now (problem_is p)) }
+    ensures err { IfErr result (HasFault problem_decided text.now) }
+{
+    read_problem(alloc, &mut FromRead::new(text))
+}
+
+/// The distances of a problem, by what its text says.
+fn table_of(problem: &Problem) -> Table<'_>
+    ensures size { table_size result ≡ problem.now.n }
+    ensures distances { table_distance result ≡ read_distance (weights_are problem.now.weights) }
+{
+    Table::of(problem)
+}
+
+/// Writes the distances of all pairs of a problem's cities.
+fn distances_of(problem: &Problem, out: &mut [i64]) -> Answer
+    ensures given { result.status ≡ 0
+        → AreDistances problem.now.n (read_distance (weights_are problem.now.weights)) out.new }
+    ensures room { result.status ≡ 4 → result.needed ≡ problem.now.n * problem.now.n }
+    ensures status { IsArrayStatus (length out.old) result }
+    ensures kept { 2 ≤ result.status → out.new ≡ out.old }
+    ensures unrefused { result.status ≢ 2 }
+{
+    let needed = problem.n as usize * problem.n as usize;
+    if out.len() != needed {
+        return Answer::ended(NO_ROOM, needed);
+    }
+    fill_distances(&table_of(problem), out);
+    Answer::ended(0, needed)
+}
+
+/// Writes the near lists of a problem's cities.
+fn near_of(alloc: Global, problem: &Problem, k: u32, out: &mut [u32]) -> Answer
+    requires low { 1 ≤ k }
+    requires limit { k ≤ CANDIDATE_LIMIT }
+    ensures given { result.status ≡ 0
+        → AreNearIn problem.now.n (read_distance (weights_are problem.now.weights)) k out.new }
+    ensures room { result.status ≡ 4 → result.needed ≡ problem.now.n * min k (problem.now.n - 1) }
+    ensures status { IsArrayStatus (length out.old) result }
+    ensures kept { 2 ≤ result.status → out.new ≡ out.old }
+    ensures unrefused { result.status ≢ 2 }
+{
+    near_in(alloc, &table_of(problem), k, out)
+}
+
+/// What is told of a list as a tour of a problem's cities.
+fn verdict_of(alloc: Global, problem: &Problem, cities: &[u32]) -> Answer
+    ensures given { result.status ≤ 1
+        → HasVerdict problem.now.n (read_distance (weights_are problem.now.weights)) cities.now result }
+    ensures known { result.status ≤ 3 }
+    ensures unrefused { result.status ≢ 2 }
+{
+    verdict_in(alloc, &table_of(problem), cities)
+}
+
+/// Writes the distances of all pairs of cities, row by row, if `out` has room for just n² of them: `needed` tells n².
+#[unsafe(no_mangle)]
+pub extern "C" fn tourkit_distances(
+    alloc: Global,
+    problem: &[u8],
+    out: &mut [i64],
+    answer: &mut Answer,
+)
+    ensures given { answer.new.status ≡ 0 → AreDistancesOf problem.now out.new }
+    ensures room { answer.new.status ≡ 4 → IsCountOf (λ p. p.n * p.n) problem.now answer.new }
+    ensures status { IsArrayStatus (length out.old) answer.new }
+    ensures kept { 2 ≤ answer.new.status → out.new ≡ out.old }
+    ensures problem { answer.new.status ≡ 2 → IsRefused problem_decided 1 problem.now answer.new }
+{
+    *answer = match problem_of(alloc, problem) {
+        Ok(problem) => distances_of(&problem, out),
+        Err(fault) => Answer::of_text(1, &fault),
+    };
+}
+
+/// Writes the near list of each city, one after another: the k nearest others, 1 to 100, or all of them where there are
+/// fewer, if `out` has room for just as many: `needed` tells how many.
+#[unsafe(no_mangle)]
+pub extern "C" fn tourkit_near_cities(
+    alloc: Global,
+    problem: &[u8],
+    k: u32,
+    out: &mut [u32],
+    answer: &mut Answer,
+)
+    ensures given { answer.new.status ≡ 0 → AreNearOf k problem.now out.new }
+    ensures room { answer.new.status ≡ 4 → IsCountOf (λ p. p.n * min k (p.n - 1)) problem.now answer.new }
+    ensures status { IsArrayStatus (length out.old) answer.new }
+    ensures kept { 2 ≤ answer.new.status → out.new ≡ out.old }
+    ensures others { answer.new.status ≡ 2 → answer.new.text ≢ 1 → (k ≡ 0) ⊎ (CANDIDATE_LIMIT < k) }
+    ensures candidates { answer.new.status ≢ 2 → (1 ≤ k) × (k ≤ CANDIDATE_LIMIT) }
+    ensures problem { answer.new.status ≡ 2 → answer.new.text ≡ 1 → IsRefused problem_decided 1 problem.now answer.new }
+{
+    if k < 1 || k > CANDIDATE_LIMIT {
+        *answer = Answer::ended(REFUSED, 0);
+        return;
+    }
+    *answer = match problem_of(alloc, problem) {
+        Ok(problem) => near_of(alloc, &problem, k, out),
+        Err(fault) => Answer::of_text(1, &fault),
+    };
+}
+
+/// Checks an array as a tour of the cities of a text: `length` tells its length; or with status 1, `kind` the fault (20
+/// a wrong count, 21 out of range, 22 a repeated city), and `place` where it stands.
+#[unsafe(no_mangle)]
+pub extern "C" fn tourkit_check_cities(
+    alloc: Global,
+    problem: &[u8],
+    cities: &[u32],
+    answer: &mut Answer,
+)
+    ensures given { answer.new.status ≤ 1 → IsTourCheckOf problem.now cities.now answer.new }
+    ensures known { answer.new.status ≤ 3 }
+    ensures problem { answer.new.status ≡ 2 → IsRefused problem_decided 1 problem.now answer.new }
+{
+    *answer = match problem_of(alloc, problem) {
+        Ok(problem) => verdict_of(alloc, &problem, cities),
+        Err(fault) => Answer::of_text(1, &fault),
+    };
+}

@@ -1,0 +1,114 @@
+//! The checks of tours and of routes, over texts in memory.
+ghost use Rattle.std.specs.Prelude.{◌≡◌, ◌≤◌, IfOk, IfErr};
+ghost use Rattle.tk_text.specs.Solution.{solution_decided};
+ghost use Rattle.tk_text.specs.Tour.{tour_decided};
+ghost use Rattle.tk_engines.specs.RouteCheck.{without_routing};
+ghost use Rattle.tourkit_c.specs.Answers.{IsRefused, IsRightRefusal, IsStop, NoClash, NoFault, fits_any};
+ghost use Rattle.tourkit_c.specs.Texts.{HasFault, IsCheckOf, IsCheckWritten, IsRouteCheckOf, IsRouteCheckWritten};
+ghost use Rattle.tourkit_c.specs.Texts.{IsSomeText, route_status, tour_status};
+
+use crate::answer::{Answer, stopped};
+use crate::hand_out::hand_out;
+use std::alloc::Global;
+use tk_engines::{Fault, check_engine, route_check_engine};
+use tk_routes::RouteVerdict;
+use tk_text::{FromRead, ToWrite};
+use tk_tour::Verdict;
+
+/// The verdict on a tour, and the line on it.
+fn checked(alloc: Global, problem: &[u8], tour: &[u8]) -> Result<(Verdict, Vec<u8>), Fault>
+    ensures ok { IfOk result (λ r. IsCheckOf problem.now tour.now r.0 r.1.items) }
+    ensures err { IfErr result (IsStop fits_any NoClash (λ _. HasFault tour_decided tour.now) NoFault problem.now) }
+{
+    let mut problem = FromRead::new(problem);
+    let mut tour = FromRead::new(tour);
+    let mut text = ToWrite::new(Vec::new(alloc));
+    match check_engine(alloc, &mut problem, &mut tour, &mut text) {
+        Ok(verdict) => Ok((verdict, text.inner)),
+        Err(fault) => Err(fault),
+    }
+}
+
+/// The verdict on routes, and the line on it.
+fn routes_checked(
+    alloc: Global,
+    problem: &[u8],
+    solution: &[u8],
+) -> Result<(RouteVerdict, Vec<u8>), Fault>
+    ensures ok { IfOk result (λ r. IsRouteCheckOf problem.now solution.now r.0 r.1.items) }
+    ensures err { IfErr result
+        (IsStop without_routing NoClash NoFault (λ _. HasFault solution_decided solution.now) problem.now) }
+{
+    let mut problem = FromRead::new(problem);
+    let mut solution = FromRead::new(solution);
+    let mut text = ToWrite::new(Vec::new(alloc));
+    match route_check_engine(alloc, &mut problem, &mut solution, &mut text) {
+        Ok(verdict) => Ok((verdict, text.inner)),
+        Err(fault) => Err(fault),
+    }
+}
+
+/// 0 for a tour, 1 for a fault.
+fn status_of(verdict: Verdict) -> u32
+    ensures { result ≡ tour_status verdict }
+{
+    match verdict {
+        Verdict::Tour => 0,
+        _ => 1,
+    }
+}
+
+/// 0 for routes without a fault, 1 for a fault.
+fn status_of_routes(verdict: RouteVerdict) -> u32
+    ensures { result ≡ route_status verdict }
+{
+    match verdict {
+        RouteVerdict::Valid { .. } => 0,
+        _ => 1,
+    }
+}
+
+/// Checks the tour of one text against the problem of another. The status is 0 for a tour and 1 for a fault, and `out`
+/// gets the line on it; 2 where a text was refused, and `out` gets the message.
+#[unsafe(no_mangle)]
+pub extern "C" fn tourkit_check(
+    alloc: Global,
+    problem: &[u8],
+    tour: &[u8],
+    out: &mut [u8],
+    answer: &mut Answer,
+)
+    ensures given { answer.new.status ≤ 1 → IsCheckWritten problem.now tour.now out.old out.new answer.new }
+    ensures known { answer.new.status ≤ 3 }
+    ensures refused { answer.new.status ≡ 2
+        → IsRightRefusal fits_any NoClash (λ _. IsRefused tour_decided 2 tour.now) 1 problem.now answer.new }
+    ensures message { 2 ≤ answer.new.status → IsSomeText out.old out.new answer.new }
+{
+    *answer = match checked(alloc, problem, tour) {
+        Ok((verdict, line)) => Answer::ended(status_of(verdict), hand_out(&line, out)),
+        Err(fault) => stopped(alloc, 1, &fault, out),
+    };
+}
+
+/// Checks the routes of one text against the problem of another. The status is 0 where they have no fault and 1 where
+/// they have one, and `out` gets the line on it; 2 where a text was refused, and `out` gets the message.
+#[unsafe(no_mangle)]
+pub extern "C" fn tourkit_checksol(
+    alloc: Global,
+    problem: &[u8],
+    solution: &[u8],
+    out: &mut [u8],
+    answer: &mut Answer,
+)
+    ensures given { answer.new.status ≤ 1 → IsRouteCheckWritten problem.now solution.now out.old out.new answer.new }
+    ensures known { answer.new.status ≤ 3 }
+    ensures refused { answer.new.status ≡ 2
+        → IsRightRefusal without_routing NoClash (λ _. IsRefused solution_decided 2 solution.now) 1 problem.now
+        answer.new }
+    ensures message { 2 ≤ answer.new.status → IsSomeText out.old out.new answer.new }
+{
+    *answer = match routes_checked(alloc, problem, solution) {
+        Ok((verdict, line)) => Answer::ended(status_of_routes(verdict), hand_out(&line, out)),
+        Err(fault) => stopped(alloc, 1, &fault, out),
+    };
+}

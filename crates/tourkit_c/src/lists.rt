@@ -1,0 +1,84 @@
+//! Near lists and matrices as texts.
+ghost use Rattle.std.specs.Prelude.{◌≡◌, ◌≢◌, ◌≤◌, IfOk, IfErr};
+ghost use Rattle.tk_problem.specs.declared.limits.TheConstants.{CANDIDATE_LIMIT};
+ghost use Rattle.tk_problem.specs.declared.weights.Format.TheVariants.{FullMatrix};
+ghost use Rattle.tk_engines.specs.MatrixOf.{too_large};
+ghost use Rattle.tourkit_c.specs.Answers.{IsRightRefusal, IsStop, NoClash, NoFault, NoRefusal, fits_any};
+ghost use Rattle.tourkit_c.specs.Texts.{IsMatrixTextOf, IsNearTextOf, IsSomeText, IsTextWritten};
+
+use crate::answer::{Answer, REFUSED, stopped};
+use crate::hand_out::hand_out;
+use std::alloc::Global;
+use tk_engines::{Fault, matrix_engine, near_engine};
+use tk_text::{CANDIDATE_LIMIT, Format, FromRead, ToWrite};
+
+/// The text of the near lists of a problem.
+fn near_text(alloc: Global, problem: &[u8], k: u32) -> Result<Vec<u8>, Fault>
+    requires low { 1 ≤ k }
+    requires limit { k ≤ CANDIDATE_LIMIT }
+    ensures ok { IfOk result (λ text. IsNearTextOf k problem.now text.items) }
+    ensures err { IfErr result (IsStop fits_any NoClash NoFault NoFault problem.now) }
+{
+    let mut problem = FromRead::new(problem);
+    let mut text = ToWrite::new(Vec::new(alloc));
+    match near_engine(alloc, &mut problem, k, &mut text) {
+        Ok(()) => Ok(text.inner),
+        Err(fault) => Err(fault),
+    }
+}
+
+/// The text of the matrix of a problem.
+fn matrix_text(alloc: Global, problem: &[u8]) -> Result<Vec<u8>, Fault>
+    ensures ok { IfOk result (λ text. IsMatrixTextOf FullMatrix problem.now text.items) }
+    ensures err { IfErr result (IsStop too_large NoClash NoFault NoFault problem.now) }
+{
+    let mut problem = FromRead::new(problem);
+    let mut text = ToWrite::new(Vec::new(alloc));
+    match matrix_engine(alloc, &mut problem, Format::FullMatrix, &mut text) {
+        Ok(()) => Ok(text.inner),
+        Err(fault) => Err(fault),
+    }
+}
+
+/// Writes the near list of each city: the k nearest others, 1 to 100, or all of them where there are fewer. Where the
+/// text was refused, `out` gets the message.
+#[unsafe(no_mangle)]
+pub extern "C" fn tourkit_near(
+    alloc: Global,
+    problem: &[u8],
+    k: u32,
+    out: &mut [u8],
+    answer: &mut Answer,
+)
+    ensures given { answer.new.status ≤ 1 → IsTextWritten (IsNearTextOf k problem.now) out.old out.new answer.new }
+    ensures known { answer.new.status ≤ 3 }
+    ensures refused { answer.new.status ≡ 2 → 1 ≤ k → k ≤ CANDIDATE_LIMIT
+        → IsRightRefusal fits_any NoClash NoRefusal 1 problem.now answer.new }
+    ensures candidates { answer.new.status ≢ 2 → (1 ≤ k) × (k ≤ CANDIDATE_LIMIT) }
+    ensures message { 2 ≤ answer.new.status → IsSomeText out.old out.new answer.new }
+{
+    if k < 1 || k > CANDIDATE_LIMIT {
+        *answer = Answer::ended(REFUSED, hand_out(b"", out));
+        return;
+    }
+    *answer = match near_text(alloc, problem, k) {
+        Ok(text) => Answer::ended(0, hand_out(&text, out)),
+        Err(fault) => stopped(alloc, 1, &fault, out),
+    };
+}
+
+/// Writes the matrix of a problem of at most 5,000 nodes, in full. Where the text was refused, `out` gets the message.
+#[unsafe(no_mangle)]
+pub extern "C" fn tourkit_matrix(alloc: Global, problem: &[u8], out: &mut [u8], answer: &mut Answer)
+    ensures given { answer.new.status ≤ 1
+        → IsTextWritten (IsMatrixTextOf FullMatrix problem.now) out.old out.new answer.new }
+    ensures known { answer.new.status ≤ 3 }
+    ensures refused { answer.new.status ≡ 2
+        → IsRightRefusal too_large NoClash NoRefusal 1 problem.now answer.new }
+    ensures message { 2 ≤ answer.new.status → IsSomeText out.old out.new answer.new }
+{
+    *answer = match matrix_text(alloc, problem) {
+        Ok(text) => Answer::ended(0, hand_out(&text, out)),
+        Err(fault) => stopped(alloc, 1, &fault, out),
+    };
+}

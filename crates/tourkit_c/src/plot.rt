@@ -1,0 +1,90 @@
+//! Pictures, over texts in memory.
+ghost use Rattle.std.specs.Prelude.{◌≡◌, ◌≤◌, IfOk, IfErr};
+ghost use Rattle.tk_engines.specs.Plot.{Output};
+ghost use Rattle.tk_engines.specs.declared.engines.plotted.Plotted.{Plotted};
+ghost use Rattle.tourkit_c.specs.Answers.{IsRightRefusal, IsStop, NoClash};
+ghost use Rattle.tourkit_c.specs.Plotted.{IsClaimRefused, IsPlotOf, IsPlotWritten, IsSolutionFault, IsTourFault};
+ghost use Rattle.tourkit_c.specs.Plotted.{line_in, picture_in, plot_misfit, plot_status};
+ghost use Rattle.tourkit_c.specs.Texts.{IsSomeText};
+
+use crate::answer::{Answer, stopped};
+use crate::hand_out::hand_out;
+use std::alloc::Global;
+use tk_engines::{Fault, Plotted, plot_engine};
+use tk_routes::RouteVerdict;
+use tk_text::{FromRead, ToWrite};
+use tk_tour::Verdict;
+
+/// What was plotted: the picture, or the line on the fault of what was claimed.
+fn plotted(
+    alloc: Global,
+    problem: &[u8],
+    claim: &[u8],
+    has_claim: bool,
+) -> Result<(Plotted, Vec<u8>, Vec<u8>), Fault>
+    ensures ok { IfOk result (λ r. (output : Output) × IsPlotOf has_claim problem.now claim.now r.0 output
+        × (r.1.items ≡ picture_in output) × (r.2.items ≡ line_in output)) }
+    ensures err { IfErr result (IsStop plot_misfit NoClash (IsTourFault has_claim claim.now)
+        (IsSolutionFault has_claim claim.now) problem.now) }
+{
+    let mut problem = FromRead::new(problem);
+    let mut claim = FromRead::new(claim);
+    let mut out = ToWrite::new(Vec::new(alloc));
+    let mut told = ToWrite::new(Vec::new(alloc));
+    match plot_engine(
+        alloc,
+        &mut problem,
+        &mut claim,
+        has_claim,
+        &mut out,
+        &mut told,
+    ) {
+        Ok(plotted) => Ok((plotted, out.inner, told.inner)),
+        Err(fault) => Err(fault),
+    }
+}
+
+/// 1 where what was claimed has a fault, else 0.
+fn status_of(plotted: Plotted) -> u32
+    ensures { result ≡ plot_status plotted }
+{
+    match plotted {
+        Plotted::Cities
+        | Plotted::Tour(Verdict::Tour)
+        | Plotted::Routes(RouteVerdict::Valid { .. }) => 0,
+        _ => 1,
+    }
+}
+
+/// Draws a problem, and if `has_claim` is true, the tour or the routes of another text: `out` gets the picture (SVG),
+/// or `told` the line on their fault. Where a text was refused, `told` gets the message.
+#[unsafe(no_mangle)]
+pub extern "C" fn tourkit_plot(
+    alloc: Global,
+    problem: &[u8],
+    claim: &[u8],
+    has_claim: bool,
+    out: &mut [u8],
+    told: &mut [u8],
+    answer: &mut Answer,
+)
+    ensures given { answer.new.status ≤ 1 → (done : Plotted) × (output : Output)
+        × IsPlotOf has_claim problem.now claim.now done output
+        × IsPlotWritten (plot_status done) output out.old out.new told.old told.new answer.new }
+    ensures known { answer.new.status ≤ 3 }
+    ensures refused { answer.new.status ≡ 2
+        → IsRightRefusal plot_misfit NoClash (IsClaimRefused has_claim claim.now) 1 problem.now answer.new }
+    ensures message { 2 ≤ answer.new.status → IsSomeText told.old told.new answer.new }
+    ensures kept { 2 ≤ answer.new.status → out.new ≡ out.old }
+{
+    *answer = match plotted(alloc, problem, claim, has_claim) {
+        Ok((done, picture, line)) => {
+            Answer::ended_twice(
+                status_of(done),
+                hand_out(&picture, out),
+                hand_out(&line, told),
+            )
+        }
+        Err(fault) => stopped(alloc, 1, &fault, told),
+    };
+}

@@ -1,0 +1,127 @@
+//! Cities by their coordinates in two arrays, in units of 10^-9.
+ghost use Rattle.std.specs.Prelude.{◌≡◌, ◌≢◌, ◌≤◌, ◌*◌, ◌-◌, min, length, IfOk, IfSome, IfNone};
+ghost use Rattle.tk_problem.specs.declared.limits.TheConstants.{CANDIDATE_LIMIT, CITY_LIMIT};
+ghost use Rattle.tk_metric.specs.PlaneOf.{city_distance};
+ghost use Rattle.tk_metric.specs.Tables.{table_distance, table_size};
+ghost use Rattle.tourkit_c.specs.Arrays.{IsArrayStatus};
+ghost use Rattle.tourkit_c.specs.Points.{ArePlaces, ArePointsNear, CanBePlaces, IsPointsCheck, kind_number};
+
+use crate::answer::{Answer, NO_MEMORY, REFUSED};
+use crate::tables::{near_in, verdict_in};
+use std::alloc::{AllocError, Global};
+use tk_metric::{Planes, Table};
+use tk_text::{CANDIDATE_LIMIT, CITY_LIMIT, COORDINATE_LIMIT, PlaneKind, Point, Points, SCALE};
+
+/// The distance type of a number.
+fn kind_of(kind: u32) -> Option<PlaneKind>
+    ensures some { IfSome result (λ type. kind_number type ≡ kind) }
+    ensures limit { IfSome result (λ _. kind ≤ 4) }
+    ensures none { IfNone result (5 ≤ kind) }
+{
+    match kind {
+        0 => Some(PlaneKind::Euc2d),
+        1 => Some(PlaneKind::Ceil2d),
+        2 => Some(PlaneKind::Man2d),
+        3 => Some(PlaneKind::Max2d),
+        4 => Some(PlaneKind::Att),
+        _ => None,
+    }
+}
+
+/// The greatest magnitude of a coordinate, in units.
+const FAR: u64 = COORDINATE_LIMIT * SCALE as u64;
+
+/// The places with these coordinates; `None` where they are not 2 to 100,000, or one is too far away.
+fn places_of(alloc: Global, xs: &[i64], ys: &[i64]) -> Result<Option<Points>, AllocError>
+    ensures places { IfOk result (λ found. IfSome found (ArePlaces xs.now ys.now)) }
+    ensures low { IfOk result (λ found. IfSome found (λ places. 2 ≤ length places)) }
+    ensures high { IfOk result (λ found. IfSome found (λ places. length places ≤ CITY_LIMIT)) }
+    ensures some { IfOk result (λ found. IfSome found (λ _. CanBePlaces xs.now ys.now)) }
+    ensures none { IfOk result (λ found. IfNone found (CanBePlaces xs.now ys.now → ⊥)) }
+{
+    if xs.len() < 2 || xs.len() > CITY_LIMIT as usize || ys.len() != xs.len() {
+        return Ok(None);
+    }
+    let mut points = Points::at_origin(alloc, xs.len())?;
+    for i in 0..xs.len() {
+        let place = Point { x: xs[i], y: ys[i] };
+        if place.x.unsigned_abs() > FAR || place.y.unsigned_abs() > FAR {
+            return Ok(None);
+        }
+        points.set(i, place)?;
+    }
+    Ok(Some(points))
+}
+
+/// The distances of a type among these places.
+fn table_of(kind: PlaneKind, places: &Points) -> Table<'_>
+    requires { length places.now ≤ CITY_LIMIT }
+    ensures size { table_size result ≡ length places.now }
+    ensures distances { table_distance result ≡ city_distance kind places.now }
+{
+    Table::Planes(Planes::new(kind, places))
+}
+
+/// Writes the near list of each city, as `tourkit_near_cities` does, of cities by their coordinates in units of 10^-9.
+/// `kind` is 0 for EUC_2D, 1 CEIL_2D, 2 MAN_2D, 3 MAX_2D, 4 ATT.
+#[unsafe(no_mangle)]
+pub extern "C" fn tourkit_near_points(
+    alloc: Global,
+    kind: u32,
+    xs: &[i64],
+    ys: &[i64],
+    k: u32,
+    out: &mut [u32],
+    answer: &mut Answer,
+)
+    ensures given { answer.new.status ≡ 0 → ArePointsNear kind xs.now ys.now k out.new }
+    ensures room { answer.new.status ≡ 4 → answer.new.needed ≡ length xs.now * min k (length xs.now - 1) }
+    ensures status { IsArrayStatus (length out.old) answer.new }
+    ensures kept { 2 ≤ answer.new.status → out.new ≡ out.old }
+    ensures refused { answer.new.status ≡ 2
+        → 1 ≤ k → k ≤ CANDIDATE_LIMIT → kind ≤ 4 → CanBePlaces xs.now ys.now → ⊥ }
+    ensures candidates { answer.new.status ≢ 2 → (1 ≤ k) × (k ≤ CANDIDATE_LIMIT) }
+    ensures kinds { answer.new.status ≢ 2 → kind ≤ 4 }
+    ensures places { answer.new.status ≢ 2 → answer.new.status ≢ 3 → CanBePlaces xs.now ys.now }
+{
+    if k < 1 || k > CANDIDATE_LIMIT {
+        *answer = Answer::ended(REFUSED, 0);
+        return;
+    }
+    let Some(kind) = kind_of(kind) else {
+        *answer = Answer::ended(REFUSED, 0);
+        return;
+    };
+    *answer = match places_of(alloc, xs, ys) {
+        Ok(Some(places)) => near_in(alloc, &table_of(kind, &places), k, out),
+        Ok(None) => Answer::ended(REFUSED, 0),
+        Err(_) => Answer::ended(NO_MEMORY, 0),
+    };
+}
+
+/// Checks an array as a tour, as `tourkit_check_cities` does, of cities by their coordinates in units of 10^-9.
+#[unsafe(no_mangle)]
+pub extern "C" fn tourkit_check_points(
+    alloc: Global,
+    kind: u32,
+    xs: &[i64],
+    ys: &[i64],
+    cities: &[u32],
+    answer: &mut Answer,
+)
+    ensures given { answer.new.status ≤ 1 → IsPointsCheck kind xs.now ys.now cities.now answer.new }
+    ensures known { answer.new.status ≤ 3 }
+    ensures refused { answer.new.status ≡ 2 → kind ≤ 4 → CanBePlaces xs.now ys.now → ⊥ }
+    ensures kinds { answer.new.status ≢ 2 → kind ≤ 4 }
+    ensures places { answer.new.status ≢ 2 → answer.new.status ≢ 3 → CanBePlaces xs.now ys.now }
+{
+    let Some(kind) = kind_of(kind) else {
+        *answer = Answer::ended(REFUSED, 0);
+        return;
+    };
+    *answer = match places_of(alloc, xs, ys) {
+        Ok(Some(places)) => verdict_in(alloc, &table_of(kind, &places), cities),
+        Ok(None) => Answer::ended(REFUSED, 0),
+        Err(_) => Answer::ended(NO_MEMORY, 0),
+    };
+}

@@ -1,0 +1,113 @@
+//! The search for a tour or for routes, over texts in memory.
+ghost use Rattle.std.specs.Prelude.{◌≡◌, ◌≢◌, ◌≤◌, IfOk, IfErr, Ok, is_some};
+ghost use Rattle.tk_engines.specs.Asked.{ParamsAre};
+ghost use Rattle.tk_engines.specs.Params.{params_answer};
+ghost use Rattle.tk_engines.specs.Solve.{Files};
+ghost use Rattle.tourkit_c.specs.Answers.{IsRightRefusal, IsStop, NoFault};
+ghost use Rattle.tourkit_c.specs.Solved.{AreFilesWritten, AreParamsRefused, HasParamFault, IsClashOf, IsInitialFault};
+ghost use Rattle.tourkit_c.specs.Solved.{IsInitialRefused, IsSolvedBy, IsSolvedOf, misfit_of};
+ghost use Rattle.tourkit_c.specs.Texts.{IsSomeText};
+
+use crate::answer::{Answer, params_stopped, stopped};
+use crate::hand_out::hand_out;
+use std::alloc::Global;
+use tk_engines::{Fault, ParamFault, Params, Unwatched, read_params, solve_engine};
+use tk_text::{FromRead, ToWrite};
+
+/// The parameters of a text.
+fn params_of(alloc: Global, text: &[u8]) -> Result<Params, ParamFault>
+    ensures ok { IfOk result (λ p. params_answer text.now ≡ Ok p) }
+    ensures err { IfErr result (HasParamFault text.now) }
+{
+    read_params(alloc, &mut FromRead::new(text))
+}
+
+/// The text of the tour or of the routes, and the lines on it.
+fn solved(
+    alloc: Global,
+    params: &Params,
+    problem: &[u8],
+    initial: &[u8],
+) -> Result<(Vec<u8>, Vec<u8>), Fault>
+    ensures ok { IfOk result (λ r. IsSolvedBy params.now problem.now initial.now
+        (record { file = r.0.items; out = r.1.items })) }
+    ensures err { IfErr result (IsStop (misfit_of params.now)
+        (IsClashOf (is_some params.now.initial_tour_file) problem.now initial.now)
+        (IsInitialFault (is_some params.now.initial_tour_file) initial.now) NoFault problem.now) }
+{
+    let mut problem = FromRead::new(problem);
+    let mut initial = FromRead::new(initial);
+    let mut file = ToWrite::new(Vec::new(alloc));
+    let mut out = ToWrite::new(Vec::new(alloc));
+    let mut watch = Unwatched;
+    match solve_engine(
+        alloc,
+        params,
+        &mut problem,
+        &mut initial,
+        &mut file,
+        &mut out,
+        &mut watch,
+    ) {
+        Ok(()) => Ok((file.inner, out.inner)),
+        Err(fault) => Err(fault),
+    }
+}
+
+/// Searches as these parameters ask for, and writes what came of it.
+fn search(
+    alloc: Global,
+    params: &Params,
+    problem: &[u8],
+    initial: &[u8],
+    out: &mut [u8],
+    file: &mut [u8],
+) -> Answer
+    ensures given { result.status ≤ 1 → (files : Files) × IsSolvedBy params.now problem.now initial.now files
+        × AreFilesWritten files out.old out.new file.old file.new result }
+    ensures known { result.status ≤ 3 }
+    ensures refused { result.status ≡ 2 → IsRightRefusal (misfit_of params.now)
+        (IsClashOf (is_some params.now.initial_tour_file) problem.now initial.now)
+        (IsInitialRefused (is_some params.now.initial_tour_file) initial.now) 2 problem.now result }
+    ensures later { result.status ≡ 2 → result.text ≢ 1 }
+    ensures message { 2 ≤ result.status → IsSomeText out.old out.new result }
+    ensures kept { 2 ≤ result.status → file.new ≡ file.old }
+{
+    match solved(alloc, params, problem, initial) {
+        Ok((text, lines)) => {
+            Answer::ended_twice(0, hand_out(&lines, out), hand_out(&text, file))
+        }
+        Err(fault) => stopped(alloc, 2, &fault, out),
+    }
+}
+
+/// Searches as parameters ask for. `out` gets what the program prints, and `file` the text of the tour or of the
+/// routes. `initial` is read where the parameters name an INITIAL_TOUR_FILE. The names of files are not looked at
+/// otherwise. Where a text was refused, `out` gets the message.
+#[unsafe(no_mangle)]
+pub extern "C" fn tourkit_solve(
+    alloc: Global,
+    parameters: &[u8],
+    problem: &[u8],
+    initial: &[u8],
+    out: &mut [u8],
+    file: &mut [u8],
+    answer: &mut Answer,
+)
+    ensures given { answer.new.status ≤ 1 → (files : Files)
+        × IsSolvedOf parameters.now problem.now initial.now files
+        × AreFilesWritten files out.old out.new file.old file.new answer.new }
+    ensures known { answer.new.status ≤ 3 }
+    ensures parameters { answer.new.status ≡ 2 → answer.new.text ≡ 1 → AreParamsRefused parameters.now answer.new }
+    ensures refused { answer.new.status ≡ 2 → answer.new.text ≢ 1
+        → (p : ParamsAre) × (params_answer parameters.now ≡ Ok p)
+        × IsRightRefusal (misfit_of p) (IsClashOf (is_some p.initial_tour_file) problem.now initial.now)
+        (IsInitialRefused (is_some p.initial_tour_file) initial.now) 2 problem.now answer.new }
+    ensures message { 2 ≤ answer.new.status → IsSomeText out.old out.new answer.new }
+    ensures kept { 2 ≤ answer.new.status → file.new ≡ file.old }
+{
+    *answer = match params_of(alloc, parameters) {
+        Ok(params) => search(alloc, &params, problem, initial, out, file),
+        Err(fault) => params_stopped(alloc, &fault, out),
+    };
+}

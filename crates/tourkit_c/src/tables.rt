@@ -1,0 +1,92 @@
+//! Arrays of numbers over a table of distances, whatever it comes from: distances, near lists, the verdict on a list.
+ghost use Rattle.std.specs.Prelude.{◌≡◌, ◌≢◌, ◌≤◌, ◌*◌, ◌-◌, min, length};
+ghost use Rattle.tk_problem.specs.declared.limits.TheConstants.{CANDIDATE_LIMIT};
+ghost use Rattle.tk_metric.specs.Tables.{table_distance, table_size};
+ghost use Rattle.tourkit_c.specs.Arrays.{AreDistances, AreNearIn, HasVerdict, IsArrayStatus};
+
+use crate::answer::{Answer, NO_MEMORY, NO_ROOM};
+use std::alloc::Global;
+use tk_metric::{Metric, Table, near_lists};
+use tk_tour::{Verdict, check, length};
+
+/// Writes the distances of all pairs, row by row.
+fn fill_rows<M: Metric>(metric: &M, out: &mut [i64])
+    requires some { 1 ≤ M.size_of metric.now }
+    requires size { length out.old ≡ M.size_of metric.now * M.size_of metric.now }
+    ensures { AreDistances (M.size_of metric.now) (M.distance metric.now) out.new }
+{
+    let n = metric.size() as usize;
+    for i in 0..out.len() {
+        out[i] = metric.dist((i / n) as u32 + 1, (i % n) as u32 + 1);
+    }
+}
+
+/// Writes the distances of all pairs of a table's cities, row by row.
+pub(crate) fn fill_distances(table: &Table<'_>, out: &mut [i64])
+    requires some { 1 ≤ table_size table.now }
+    requires size { length out.old ≡ table_size table.now * table_size table.now }
+    ensures { AreDistances (table_size table.now) (table_distance table.now) out.new }
+{
+    match table {
+        Table::Planes(planes) => fill_rows(planes, out),
+        Table::Triangle(triangle) => fill_rows(triangle, out),
+    }
+}
+
+/// Writes the near lists of a table's cities, k for each, or all others where there are fewer, if `out` has room for
+/// just as many.
+pub(crate) fn near_in(alloc: Global, table: &Table<'_>, k: u32, out: &mut [u32]) -> Answer
+    requires low { 1 ≤ k }
+    requires limit { k ≤ CANDIDATE_LIMIT }
+    requires some { 2 ≤ table_size table.now }
+    ensures given { result.status ≡ 0 → AreNearIn (table_size table.now) (table_distance table.now) k out.new }
+    ensures room { result.status ≡ 4 → result.needed ≡ table_size table.now * min k (table_size table.now - 1) }
+    ensures status { IsArrayStatus (length out.old) result }
+    ensures kept { 2 ≤ result.status → out.new ≡ out.old }
+    ensures unrefused { result.status ≢ 2 }
+    ensures text { result.text ≡ 0 }
+{
+    let n = table.size();
+    let width = k.min(n - 1);
+    let needed = n as usize * width as usize;
+    if out.len() != needed {
+        return Answer::ended(NO_ROOM, needed);
+    }
+    match near_lists(alloc, table, width) {
+        Ok(near) => {
+            out.copy_from_slice(near.entries());
+            Answer::ended(0, needed)
+        }
+        Err(_) => Answer::ended(NO_MEMORY, 0),
+    }
+}
+
+/// What is told of a list as a tour of a metric's cities.
+fn verdict_by<M: Metric>(alloc: Global, metric: &M, cities: &[u32]) -> Answer
+    ensures given { result.status ≤ 1 → HasVerdict (M.size_of metric.now) (M.distance metric.now) cities.now result }
+    ensures known { result.status ≤ 3 }
+    ensures unrefused { result.status ≢ 2 }
+    ensures text { result.text ≡ 0 }
+{
+    match check(alloc, metric.size(), cities) {
+        Ok(Verdict::Tour) => Answer::of_length(length(metric, cities).unsigned_abs()),
+        Ok(Verdict::WrongCount) => Answer::found(20, 0),
+        Ok(Verdict::OutOfRange(place)) => Answer::found(21, place),
+        Ok(Verdict::RepeatedCity(place)) => Answer::found(22, place),
+        Err(_) => Answer::ended(NO_MEMORY, 0),
+    }
+}
+
+/// What is told of a list as a tour of a table's cities.
+pub(crate) fn verdict_in(alloc: Global, table: &Table<'_>, cities: &[u32]) -> Answer
+    ensures given { result.status ≤ 1
+        → HasVerdict (table_size table.now) (table_distance table.now) cities.now result }
+    ensures known { result.status ≤ 3 }
+    ensures unrefused { result.status ≢ 2 }
+    ensures text { result.text ≡ 0 }
+{
+    match table {
+        Table::Planes(planes) => verdict_by(alloc, planes, cities),
+        Table::Triangle(triangle) => verdict_by(alloc, triangle, cities),
+    }
+}

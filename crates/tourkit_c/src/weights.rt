@@ -1,0 +1,94 @@
+//! Cities by their explicit weights in an array: the lower triangle row by row without its diagonal.
+ghost use Rattle.std.specs.Prelude.{◌≡◌, ◌≢◌, ◌≤◌, ◌*◌, ◌-◌, true, false, All, length, min, IfSome, IfNone};
+ghost use Rattle.tk_problem.specs.declared.limits.TheConstants.{CANDIDATE_LIMIT, DISTANCE_LIMIT};
+ghost use Rattle.tk_metric.specs.Tables.{table_distance, table_size};
+ghost use Rattle.tk_metric.specs.Weights.{weight_between};
+ghost use Rattle.tourkit_c.specs.Arrays.{AreNearIn, HasVerdict, IsArrayStatus};
+ghost use Rattle.tourkit_c.specs.Weights.{AreWeights};
+
+use crate::answer::{Answer, REFUSED};
+use crate::tables::{near_in, verdict_in};
+use std::alloc::Global;
+use tk_metric::{Table, Triangle};
+use tk_text::{CANDIDATE_LIMIT, DISTANCE_LIMIT, TABLE_LIMIT};
+
+/// Whether no weight is too great.
+fn are_small(weights: &[u32]) -> bool
+    ensures yes { result ≡ true → All (λ w. w ≤ DISTANCE_LIMIT) weights.now }
+    ensures no { result ≡ false → All (λ w. w ≤ DISTANCE_LIMIT) weights.now → ⊥ }
+{
+    for i in 0..weights.len() {
+        if weights[i] > DISTANCE_LIMIT {
+            return false;
+        }
+    }
+    true
+}
+
+/// The distances of n cities with these weights; `None` where they are not 2 to 5,000, or the weights do not fit them.
+fn table_of(n: u32, weights: &[u32]) -> Option<Table<'_>>
+    ensures size { IfSome result (λ table. table_size table ≡ n) }
+    ensures some { IfSome result (λ table. 2 ≤ table_size table) }
+    ensures fits { IfSome result (λ _. AreWeights n weights.now) }
+    ensures distances { IfSome result (λ table. table_distance table ≡ weight_between weights.now) }
+    ensures none { IfNone result (AreWeights n weights.now → ⊥) }
+{
+    if n < 2 || n > TABLE_LIMIT {
+        return None;
+    }
+    let nodes = n as usize;
+    if weights.len() != nodes * (nodes - 1) / 2 || !are_small(weights) {
+        return None;
+    }
+    Some(Table::Triangle(Triangle { n, weights }))
+}
+
+/// Writes the near list of each city, as `tourkit_near_cities` does, of n cities by their explicit weights: the lower
+/// triangle row by row without its diagonal.
+#[unsafe(no_mangle)]
+pub extern "C" fn tourkit_near_weights(
+    alloc: Global,
+    n: u32,
+    weights: &[u32],
+    k: u32,
+    out: &mut [u32],
+    answer: &mut Answer,
+)
+    ensures given { answer.new.status ≡ 0 → AreNearIn n (weight_between weights.now) k out.new }
+    ensures room { answer.new.status ≡ 4 → answer.new.needed ≡ n * min k (n - 1) }
+    ensures status { IsArrayStatus (length out.old) answer.new }
+    ensures kept { 2 ≤ answer.new.status → out.new ≡ out.old }
+    ensures refused { answer.new.status ≡ 2 → 1 ≤ k → k ≤ CANDIDATE_LIMIT → AreWeights n weights.now → ⊥ }
+    ensures candidates { answer.new.status ≢ 2 → (1 ≤ k) × (k ≤ CANDIDATE_LIMIT) }
+    ensures weights { answer.new.status ≢ 2 → AreWeights n weights.now }
+{
+    if k < 1 || k > CANDIDATE_LIMIT {
+        *answer = Answer::ended(REFUSED, 0);
+        return;
+    }
+    *answer = match table_of(n, weights) {
+        Some(table) => near_in(alloc, &table, k, out),
+        None => Answer::ended(REFUSED, 0),
+    };
+}
+
+/// Checks an array as a tour, as `tourkit_check_cities` does, of n cities by their explicit weights: the lower triangle
+/// row by row without its diagonal.
+#[unsafe(no_mangle)]
+pub extern "C" fn tourkit_check_weights(
+    alloc: Global,
+    n: u32,
+    weights: &[u32],
+    cities: &[u32],
+    answer: &mut Answer,
+)
+    ensures given { answer.new.status ≤ 1 → HasVerdict n (weight_between weights.now) cities.now answer.new }
+    ensures known { answer.new.status ≤ 3 }
+    ensures refused { answer.new.status ≡ 2 → AreWeights n weights.now → ⊥ }
+    ensures weights { answer.new.status ≢ 2 → AreWeights n weights.now }
+{
+    *answer = match table_of(n, weights) {
+        Some(table) => verdict_in(alloc, &table, cities),
+        None => Answer::ended(REFUSED, 0),
+    };
+}
