@@ -1,0 +1,68 @@
+/* Searches for a short tour of some cities in pieces, so that it can stop at any time: each piece begins with the tour of
+ * the one before it, and has a seed of its own. Ctrl-C ends the search after the piece.
+ * usage: pieces PIECES     searches in so many pieces, and prints the length after each and the last tour */
+#include "tourkit.h"
+#include <inttypes.h>
+#include <signal.h>
+#include <stdio.h>
+#include <stdlib.h>
+#include <string.h>
+
+enum { CITIES = 200, ROOM = 1 << 16 };
+
+static volatile sig_atomic_t stopped = 0;
+
+static void stop(int number) {
+    (void)number;
+    stopped = 1;
+}
+
+/* A coordinate at random, below 1,024. */
+static unsigned draw(uint32_t *state) {
+    *state = *state * 1664525 + 1013904223;
+    return *state >> 22;
+}
+
+/* Writes a problem of scattered cities, and answers how many bytes it has. */
+static size_t write_problem(char *text) {
+    size_t size = (size_t)sprintf(text, "NAME : scattered\nTYPE : TSP\nDIMENSION : %d\nEDGE_WEIGHT_TYPE : EUC_2D\n"
+                                        "NODE_COORD_SECTION\n", CITIES);
+    uint32_t state = 1;
+    for (int city = 1; city <= CITIES; city++) {
+        unsigned x = draw(&state), y = draw(&state);
+        size += (size_t)sprintf(text + size, "%d %u %u\n", city, x, y);
+    }
+    return size + (size_t)sprintf(text + size, "EOF\n");
+}
+
+int main(int count, char **words) {
+    long pieces = count == 2 ? atol(words[1]) : 0;
+    if (pieces < 1) {
+        fprintf(stderr, "usage: pieces PIECES\n");
+        return 3;
+    }
+    signal(SIGINT, stop);
+    char problem[ROOM], parameters[256];
+    size_t problem_size = write_problem(problem);
+    uint8_t lines[1024], found[ROOM], tour[ROOM];
+    size_t tour_size = 0;
+    for (long piece = 1; piece <= pieces && !stopped; piece++) {
+        const char *initial = piece == 1 ? "" : "INITIAL_TOUR_FILE = the last\n";
+        int parameters_size = snprintf(parameters, sizeof parameters,
+                                       "PROBLEM_FILE = a problem\nRUNS = 1\nMAX_TRIALS = 100\nSEED = %ld\n%s", piece, initial);
+        tourkit_answer answer;
+        tourkit_solve((const uint8_t *)parameters, (size_t)parameters_size, (const uint8_t *)problem, problem_size,
+                      tour, tour_size, lines, sizeof lines, found, sizeof found, &answer);
+        if (answer.status != TOURKIT_DONE || answer.needed > sizeof lines || answer.needed_file > sizeof found) {
+            fprintf(stderr, "status %" PRIu32 ", text %" PRIu32 ", line %" PRIu64 ", fault %" PRIu32 "\n", answer.status,
+                    answer.text, answer.line, answer.kind);
+            return 3;
+        }
+        memcpy(tour, found, answer.needed_file);
+        tour_size = answer.needed_file;
+        printf("piece %ld: %.*s", piece, (int)answer.needed, (const char *)lines);
+        fflush(stdout);
+    }
+    fwrite(tour, 1, tour_size, stdout);
+    return 0;
+}

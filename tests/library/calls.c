@@ -1,0 +1,245 @@
+/* Makes each call of the library: with each growth of memory refused in turn, with no room, too little, just enough and too much for what it
+ * writes, and from eight threads at once. Linked with --wrap for malloc, realloc and free.
+ * usage: calls FOLDER ROUNDS     FOLDER has the files of examples/ and short.par; each thread makes each call so many times */
+#include "tourkit.h"
+#include <pthread.h>
+#include <stdio.h>
+#include <stdlib.h>
+#include <string.h>
+
+void *__real_malloc(size_t size);
+void *__real_realloc(void *block, size_t size);
+void __real_free(void *block);
+void *__wrap_malloc(size_t size);
+void *__wrap_realloc(void *block, size_t size);
+void __wrap_free(void *block);
+
+/* Which growth from now on is refused, how many blocks are held, and how many growths there were, in a thread. */
+static __thread long countdown = -1, held, growths;
+
+static int is_refused(void) {
+    growths++;
+    return countdown >= 0 && countdown-- == 0;
+}
+
+void *__wrap_malloc(size_t size) {
+    if (is_refused()) return NULL;
+    void *block = __real_malloc(size);
+    if (block) held++;
+    return block;
+}
+
+void *__wrap_realloc(void *block, size_t size) {
+    if (is_refused()) return NULL;
+    void *grown = __real_realloc(block, size);
+    if (grown && !block) held++;
+    return grown;
+}
+
+void __wrap_free(void *block) {
+    if (block) held--;
+    __real_free(block);
+}
+
+typedef struct {
+    uint8_t *bytes;
+    size_t size;
+} text;
+
+/* Reads a file into memory of just its size, so that a read past its end is seen. */
+static text read_text(const char *folder, const char *name) {
+    static uint8_t room[1 << 22];
+    char path[512];
+    snprintf(path, sizeof path, "%s/%s", folder, name);
+    FILE *file = fopen(path, "rb");
+    if (!file) {
+        perror(path);
+        exit(1);
+    }
+    text read = {NULL, fread(room, 1, sizeof room, file)};
+    fclose(file);
+    read.bytes = __real_malloc(read.size ? read.size : 1);
+    memcpy(read.bytes, room, read.size);
+    return read;
+}
+
+/* An answer has no padding, so its bytes can be compared. */
+_Static_assert(sizeof(tourkit_answer) == 4 * sizeof(uint32_t) + 2 * sizeof(uint64_t) + 2 * sizeof(size_t), "padding");
+
+enum { CALLS = 17, TEXTS = 9, THREADS = 8, ROOM = 1 << 18, UNTOUCHED = 0x77 };
+
+static text tsp, tour, vrp, sol, par, listed, par_vrp;
+static const int64_t xs[4] = {0, 3000000000, 3000000000, 500000000}, ys[4] = {0, 0, 4000000000, 4000000000};
+static const uint32_t cities[4] = {1, 2, 3, 4}, weights[6] = {3, 5, 4, 6, 7, 2};
+
+/* The two buffers of a call, their sizes in bytes, and its answer. */
+typedef struct {
+    uint8_t *out, *file;
+    size_t room, file_room;
+    tourkit_answer answer;
+} result;
+
+/* How many bytes an entry has of what a call writes to its first buffer: 1 in a text, and 0 where it writes nothing. */
+static size_t unit_of(int which) {
+    if (which < TEXTS) return 1;
+    if (which == 9) return sizeof(int64_t);
+    return which == 10 || which == 12 || which == 14 ? sizeof(uint32_t) : 0;
+}
+
+/* Makes a call. The first TEXTS calls write texts. */
+static void call(int which, result *r) {
+    tourkit_answer *a = &r->answer;
+    uint8_t *o = r->out, *f = r->file;
+    size_t room = r->room, file_room = r->file_room;
+    memset(a, 0x55, sizeof *a);
+    switch (which) {
+    case 0: tourkit_check(tsp.bytes, tsp.size, listed.bytes, listed.size, o, room, a); break;
+    case 1: tourkit_checksol(vrp.bytes, vrp.size, sol.bytes, sol.size, o, room, a); break;
+    case 2: tourkit_near(tsp.bytes, tsp.size, 5, o, room, a); break;
+    case 3: tourkit_matrix(vrp.bytes, vrp.size, o, room, a); break;
+    case 4: tourkit_plot(tsp.bytes, tsp.size, listed.bytes, listed.size, true, o, room, f, file_room, a); break;
+    case 5: tourkit_plot(vrp.bytes, vrp.size, sol.bytes, sol.size, true, o, room, f, file_room, a); break;
+    case 6: tourkit_solve(par_vrp.bytes, par_vrp.size, vrp.bytes, vrp.size, vrp.bytes, 0, o, room, f, file_room, a); break;
+    case 7: tourkit_solve(par.bytes, par.size, tsp.bytes, tsp.size, listed.bytes, listed.size, o, room, f, file_room, a); break;
+    case 8: tourkit_check(tour.bytes, tour.size, listed.bytes, listed.size, o, room, a); break; /* refused */
+    case 9: tourkit_distances(vrp.bytes, vrp.size, (int64_t *)(void *)o, room / 8, a); break;
+    case 10: tourkit_near_cities(tsp.bytes, tsp.size, 3, (uint32_t *)(void *)o, room / 4, a); break;
+    case 11: tourkit_check_cities(tsp.bytes, tsp.size, cities, 4, a); break;
+    case 12: tourkit_near_points(TOURKIT_EUC_2D, xs, 4, ys, 4, 2, (uint32_t *)(void *)o, room / 4, a); break;
+    case 13: tourkit_check_points(TOURKIT_MAN_2D, xs, 4, ys, 4, cities, 4, a); break;
+    case 14: tourkit_near_weights(4, weights, 6, 2, (uint32_t *)(void *)o, room / 4, a); break;
+    case 15: tourkit_check_weights(4, weights, 6, cities, 4, a); break;
+    case 16: tourkit_near_weights(5, weights, 6, 2, (uint32_t *)(void *)o, room / 4, a); break; /* refused */
+    }
+}
+
+static int failures;
+
+static void expect(int fine, const char *what, int which, size_t at) {
+    if (!fine) {
+        printf("failed: %s, call %d, at %zu\n", what, which, at);
+        failures++;
+    }
+}
+
+/* Two buffers of just so many bytes, each of them UNTOUCHED. */
+static result with_room(size_t room, size_t file_room) {
+    result r = {__real_malloc(room ? room : 1), __real_malloc(file_room ? file_room : 1), room, file_room, {0}};
+    memset(r.out, UNTOUCHED, room);
+    memset(r.file, UNTOUCHED, file_room);
+    return r;
+}
+
+static void release(result *r) {
+    __real_free(r->out);
+    __real_free(r->file);
+}
+
+static result wanted[CALLS];
+
+/* Whether a buffer has so many bytes of what is wanted, and is untouched after them. */
+static int holds(const uint8_t *buffer, size_t room, const uint8_t *bytes, size_t count) {
+    for (size_t i = count; i < room; i++) {
+        if (buffer[i] != UNTOUCHED) return 0;
+    }
+    return !memcmp(buffer, bytes, count);
+}
+
+static size_t less_of(size_t a, size_t b) {
+    return a < b ? a : b;
+}
+
+/* Makes all calls so many times beside other threads. */
+static void *make_all(void *given) {
+    long rounds = *(const long *)given;
+    for (long i = 0; i < rounds; i++) {
+        for (int which = 0; which < CALLS; which++) {
+            const result *w = &wanted[which];
+            result r = with_room(w->room, w->file_room);
+            call(which, &r);
+            expect(!memcmp(&r.answer, &w->answer, sizeof r.answer), "another answer in a thread", which, 0);
+            expect(!memcmp(r.out, w->out, w->room) && !memcmp(r.file, w->file, w->file_room), "other bytes in a thread", which, 0);
+            release(&r);
+        }
+    }
+    return NULL;
+}
+
+/* Makes a call with each of its growths refused. It may then say so, or get along without. */
+static void refuse_each(int which) {
+    result r = with_room(wanted[which].room, wanted[which].file_room);
+    held = growths = 0;
+    call(which, &r);
+    expect(held == 0, "memory is still held", which, 0);
+    long all = growths;
+    for (long n = 0; n < all; n++) {
+        countdown = n;
+        call(which, &r);
+        countdown = -1;
+        uint32_t status = r.answer.status;
+        expect(status == TOURKIT_NO_MEMORY || status == wanted[which].answer.status, "another status", which, (size_t)n);
+        expect(held == 0, "memory is still held after a refusal", which, (size_t)n);
+    }
+    release(&r);
+    printf("call %d: %ld growths refused\n", which, all);
+}
+
+/* Makes a call with room for so many entries and so many bytes. A text gets the first of its bytes; an array is written where it has room
+ * for just the entries that there are. */
+static void try_room(int which, size_t room, size_t file_room) {
+    const tourkit_answer *a = &wanted[which].answer;
+    size_t unit = unit_of(which);
+    bool fits = unit == 1 || room == a->needed;
+    result r = with_room(room * unit, file_room);
+    call(which, &r);
+    expect(r.answer.status == (fits ? a->status : (uint32_t)TOURKIT_NO_ROOM), "another status by its room", which, room);
+    expect(r.answer.needed == a->needed, "another count of what is needed", which, room);
+    expect(holds(r.out, r.room, wanted[which].out, fits ? less_of(room, a->needed) * unit : 0), "other bytes", which, room);
+    expect(holds(r.file, file_room, wanted[which].file, less_of(file_room, a->needed_file)), "other bytes in the file", which, file_room);
+    release(&r);
+}
+
+/* Makes a call with no room, too little, one too little, just enough, and too much, in either buffer. */
+static void try_rooms(int which) {
+    size_t needed = wanted[which].answer.needed, needed_file = wanted[which].answer.needed_file;
+    size_t rooms[] = {0, 1, needed / 2, needed - 1, needed, needed + 1, needed + 1000};
+    size_t file_rooms[] = {0, 1, needed_file / 2, needed_file ? needed_file - 1 : 0, needed_file, needed_file + 1, needed_file + 1000};
+    for (size_t i = 0; i < sizeof rooms / sizeof *rooms; i++) {
+        try_room(which, rooms[i], needed_file);
+        try_room(which, needed, file_rooms[i]);
+    }
+}
+
+int main(int count, char **words) {
+    if (count != 3) {
+        fprintf(stderr, "usage: calls FOLDER ROUNDS\n");
+        return 2;
+    }
+    const char *folder = words[1];
+    long rounds = atol(words[2]);
+    tsp = read_text(folder, "board.tsp");
+    listed = read_text(folder, "board-listed.tour");
+    tour = read_text(folder, "tri.tour");
+    vrp = read_text(folder, "bakery.vrp");
+    sol = read_text(folder, "bakery-plan.sol");
+    par = read_text(folder, "short.par");
+    par_vrp = read_text(folder, "bakery.par");
+    for (int which = 0; which < CALLS; which++) {
+        result *w = &wanted[which];
+        *w = with_room(ROOM, ROOM);
+        call(which, w);
+        if (w->answer.status == TOURKIT_NO_ROOM) {
+            w->room = w->answer.needed * unit_of(which);
+            call(which, w);
+        }
+        uint32_t status = which == 8 || which == 16 ? TOURKIT_REFUSED : which == 11 ? TOURKIT_FOUND : TOURKIT_DONE;
+        expect(w->answer.status == status, "another status than is wanted", which, w->answer.status);
+        refuse_each(which);
+        if (unit_of(which)) try_rooms(which);
+    }
+    pthread_t threads[THREADS];
+    for (int i = 0; i < THREADS; i++) pthread_create(&threads[i], NULL, make_all, &rounds);
+    for (int i = 0; i < THREADS; i++) pthread_join(threads[i], NULL);
+    printf("%d failures\n", failures);
+    return failures != 0;
+}

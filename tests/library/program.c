@@ -1,0 +1,233 @@
+/* The commands of tourkit that have a call, by the library: what is printed, the files that are written and the status have to be those
+ * of the program, so that tests/run can be told to run this one on the cases of tests/cases.
+ * usage: program check PROBLEM TOUR           program matrix PROBLEM FULL_MATRIX
+ *        program checksol PROBLEM SOLUTION    program plot PROBLEM [TOUR | SOLUTION]
+ *        program near PROBLEM [-k K]          program solve PARAMETERS */
+#include "tourkit.h"
+#include <inttypes.h>
+#include <stdio.h>
+#include <stdlib.h>
+#include <string.h>
+#include <strings.h>
+
+enum { UNUSABLE = 3, UNEXPECTED = 9, CANDIDATES = 5 };
+
+/* Bytes, and how many. */
+typedef struct {
+    uint8_t *bytes;
+    size_t size;
+} text;
+
+/* Ends the program where the library does not do what its header says. */
+static void expect(bool fine, const char *what) {
+    if (!fine) {
+        fprintf(stderr, "not as tourkit.h says: %s\n", what);
+        exit(UNEXPECTED);
+    }
+}
+
+/* A place for so many bytes, and for no more, so that one written past its end can be seen. */
+static text room_for(size_t size) {
+    text room = {malloc(size ? size : 1), size};
+    expect(room.bytes != NULL, "there is memory");
+    return room;
+}
+
+/* Reads a file that is open to its end, into just as many bytes as it has. */
+static text read_all(FILE *file) {
+    uint8_t part[4096];
+    text read = room_for(0);
+    for (size_t count; (count = fread(part, 1, sizeof part, file)) > 0; read.size += count) {
+        read.bytes = realloc(read.bytes, read.size + count);
+        expect(read.bytes != NULL, "there is memory");
+        memcpy(read.bytes + read.size, part, count);
+    }
+    fclose(file);
+    return read;
+}
+
+/* Opens a file, or ends the program. */
+static FILE *open_file(const char *name) {
+    FILE *file = fopen(name, "rb");
+    if (!file) {
+        fprintf(stderr, "tourkit: %s: cannot be opened\n", name);
+        exit(UNUSABLE);
+    }
+    return file;
+}
+
+/* Reads the file of a word of the call: standard input for a dash. */
+static text read_word(const char *word) {
+    return read_all(strcmp(word, "-") ? open_file(word) : stdin);
+}
+
+/* Writes a text as a whole. */
+static void print(FILE *file, text printed) {
+    fwrite(printed.bytes, 1, printed.size, file);
+}
+
+/* Tells why a tour to begin with was refused. */
+static void tell_clash(const char *file, const tourkit_answer *answer) {
+    static const char *const names[] = {"1 WrongCount", "2 OutOfRange", "3 RepeatedCity"};
+    expect(answer->kind <= TOURKIT_REPEATED_CITY, "a fault of a tour is 20 to 22");
+    fprintf(stderr, "tourkit: %s: initial tour: %s", file, names[answer->kind - TOURKIT_WRONG_COUNT]);
+    if (answer->place) fprintf(stderr, " %" PRIu32, answer->place);
+    fprintf(stderr, "\n");
+}
+
+/* Tells the fault of a text, whose message ends with the line, the number and the name of the fault. */
+static void tell_fault(const char *file, const char *message, const tourkit_answer *answer) {
+    char told[64];
+    int size = snprintf(told, sizeof told, "%" PRIu64 ": %" PRIu32 " ", answer->line, answer->kind);
+    const char *after = strstr(message, "text: ");
+    const char *fault = after ? after + strlen("text: ") : message;
+    expect(!strncmp(fault, told, (size_t)size), "the message has the line and the number of the answer");
+    fprintf(stderr, "tourkit: %s:%s\n", file, fault);
+}
+
+/* Ends where a text was refused, or there was no memory. `files` has the names of the texts, in their order, and `problem` is which of
+ * them is the problem's. */
+static int end_refused(const char *const *files, size_t problem, text message, const tourkit_answer *answer) {
+    expect(answer->status == TOURKIT_REFUSED || answer->status == TOURKIT_NO_MEMORY, "the status is 2 or 3");
+    expect(answer->needed == message.size, "a message is as long as it was");
+    if (answer->status == TOURKIT_NO_MEMORY) {
+        fprintf(stderr, "tourkit: out of memory\n");
+        return UNUSABLE;
+    }
+    char *line = calloc(message.size + 1, 1);
+    expect(line != NULL, "there is memory");
+    memcpy(line, message.bytes, message.size);
+    if (answer->text == 0) {
+        fprintf(stderr, "tourkit: %s: %s\n", files[problem - 1], line);
+    } else if (answer->kind >= TOURKIT_WRONG_COUNT) {
+        tell_clash(files[answer->text - 1], answer);
+    } else {
+        tell_fault(files[answer->text - 1], line, answer);
+    }
+    free(line);
+    return TOURKIT_REFUSED;
+}
+
+/* A command, with what a call of it is given. */
+typedef struct {
+    const char *name;
+    text problem, claim;
+    uint32_t candidates;
+} command;
+
+/* Makes the call of a command that prints one text. */
+static void call(const command *given, text out, tourkit_answer *answer) {
+    text p = given->problem, c = given->claim;
+    if (!strcmp(given->name, "check")) {
+        tourkit_check(p.bytes, p.size, c.bytes, c.size, out.bytes, out.size, answer);
+    } else if (!strcmp(given->name, "checksol")) {
+        tourkit_checksol(p.bytes, p.size, c.bytes, c.size, out.bytes, out.size, answer);
+    } else if (!strcmp(given->name, "near")) {
+        tourkit_near(p.bytes, p.size, given->candidates, out.bytes, out.size, answer);
+    } else {
+        tourkit_matrix(p.bytes, p.size, out.bytes, out.size, answer);
+    }
+}
+
+/* Runs a command that prints one text: once to learn how many bytes there are, and once for the bytes. */
+static int run(const command *given, const char *const *files) {
+    tourkit_answer first, answer;
+    call(given, room_for(0), &first);
+    text out = room_for(first.needed);
+    call(given, out, &answer);
+    expect(answer.status == first.status && answer.needed == first.needed, "the answer is the same again");
+    if (answer.status > TOURKIT_FOUND) return end_refused(files, 1, out, &answer);
+    print(stdout, out);
+    return (int)answer.status;
+}
+
+/* Runs `plot`. */
+static int plot(const command *given, bool has_claim, const char *const *files) {
+    text p = given->problem, c = given->claim;
+    tourkit_answer first, answer;
+    text none = room_for(0), also_none = room_for(0);
+    tourkit_plot(p.bytes, p.size, c.bytes, c.size, has_claim, none.bytes, 0, also_none.bytes, 0, &first);
+    bool is_refused = first.status > TOURKIT_FOUND;
+    text out = room_for(is_refused ? 0 : first.needed), told = room_for(is_refused ? first.needed : first.needed_file);
+    tourkit_plot(p.bytes, p.size, c.bytes, c.size, has_claim, out.bytes, out.size, told.bytes, told.size, &answer);
+    expect(answer.status == first.status && answer.needed == first.needed, "the answer is the same again");
+    if (is_refused) return end_refused(files, 1, told, &answer);
+    print(stdout, out);
+    print(stderr, told);
+    return (int)answer.status;
+}
+
+static bool is_blank(char byte) {
+    return byte == ' ' || byte == '\t' || byte == '\r';
+}
+
+/* The file that parameters name by a key; null for none. The library has accepted them. */
+static char *file_of(text parameters, const char *key) {
+    char *all = calloc(parameters.size + 1, 1), *found = NULL;
+    expect(all != NULL, "there is memory");
+    memcpy(all, parameters.bytes, parameters.size);
+    for (char *line = strtok(all, "\n"); line && !found; line = strtok(NULL, "\n")) {
+        while (is_blank(*line)) line++;
+        if (strncasecmp(line, key, strlen(key))) continue;
+        line += strlen(key);
+        if (!is_blank(*line) && *line != '=') continue;
+        while (is_blank(*line)) line++;
+        if (*line == '=') line++;
+        while (is_blank(*line)) line++;
+        size_t size = strlen(line);
+        while (size && is_blank(line[size - 1])) size--;
+        found = strndup(line, size);
+    }
+    free(all);
+    return found;
+}
+
+/* Writes a file, or ends the program. */
+static void save(const char *name, text written) {
+    FILE *file = fopen(name, "wb");
+    expect(file != NULL, "the file can be written");
+    print(file, written);
+    fclose(file);
+}
+
+/* Runs `solve`. The texts that parameters ask for are read once they have been accepted. */
+static int solve(const char *parameter_file) {
+    text parameters = read_word(parameter_file), none = room_for(0), lines = room_for(1 << 16), file = room_for(1 << 20);
+    tourkit_answer answer;
+    tourkit_solve(parameters.bytes, parameters.size, none.bytes, 0, none.bytes, 0, lines.bytes, lines.size, file.bytes, 0, &answer);
+    const char *files[] = {parameter_file, NULL, NULL};
+    lines.size = answer.needed;
+    if (answer.text == 1) return end_refused(files, 2, lines, &answer);
+    files[1] = file_of(parameters, "PROBLEM_FILE");
+    files[2] = file_of(parameters, "INITIAL_TOUR_FILE");
+    text problem = read_all(open_file(files[1])), initial = files[2] ? read_all(open_file(files[2])) : none;
+    lines = room_for(1 << 16);
+    tourkit_solve(parameters.bytes, parameters.size, problem.bytes, problem.size, initial.bytes, initial.size, lines.bytes, lines.size,
+                  file.bytes, file.size, &answer);
+    expect(answer.needed <= lines.size, "the lines have room");
+    lines.size = answer.needed;
+    if (answer.status > TOURKIT_FOUND) return end_refused(files, 2, lines, &answer);
+    expect(answer.needed_file <= file.size, "the file has room");
+    file.size = answer.needed_file;
+    print(stdout, lines);
+    char *tour_file = file_of(parameters, "TOUR_FILE"), *solution_file = file_of(parameters, "SOLUTION_FILE");
+    if (tour_file || solution_file) save(tour_file ? tour_file : solution_file, file);
+    return (int)answer.status;
+}
+
+int main(int count, char **words) {
+    expect(count >= 3, "there are words");
+    if (!strcmp(words[1], "solve")) return solve(words[2]);
+    const char *files[] = {words[2], NULL};
+    command given = {words[1], {NULL, 0}, {NULL, 0}, CANDIDATES};
+    if (!strcmp(words[1], "near")) {
+        int option = count == 5 && !strcmp(words[2], "-k") ? 2 : 3;
+        if (count == 5) given.candidates = (uint32_t)atoi(words[option + 1]);
+        files[0] = count == 5 && option == 2 ? words[4] : words[2];
+    } else if (count == 4 && strcmp(words[1], "matrix")) {
+        files[1] = words[3];
+    }
+    given.problem = read_word(files[0]);
+    given.claim = files[1] ? read_word(files[1]) : room_for(0);
+    return strcmp(words[1], "plot") ? run(&given, files) : plot(&given, files[1] != NULL, files);
+}
