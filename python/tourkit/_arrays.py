@@ -1,0 +1,60 @@
+"""Near lists and distances as arrays."""
+
+from __future__ import annotations
+
+import math
+import struct
+from typing import Callable, List, Union
+
+from ._library import NO_ROOM, Answer, slice_of
+from ._limits import within
+from ._problem import Problem, problem_of
+from ._room import room_for
+from ._text import Bytes, File
+
+
+def near(problem: Union[Problem, File, Bytes], k: int = 5) -> memoryview:
+    """The near list of each city: its k nearest others, 1 to 100, or all of them if there are fewer, the nearest first.
+
+    It is an array of 32-bit integers with a row for each city, which `numpy.asarray` takes without a copy.
+
+        >>> tourkit.near("square.tsp", k=2).tolist()
+        [[3, 4], [3, 4], [1, 2], [1, 2]]
+    """
+    asked, k = problem_of(problem), within("k", k, 1, 100)
+    n = asked.guess_size()
+    entries = filled("I", n * min(k, n - 1), lambda *out: asked.call("near", k, *out))
+    return shaped(entries, near_shape(len(entries), k))
+
+
+def distances(problem: Union[Problem, File, Bytes]) -> memoryview:
+    """The distances of all pairs of n cities: that of cities a and b is at [a - 1, b - 1].
+
+    It is an array of 64-bit integers with n rows of n numbers, which `numpy.asarray` takes without a copy.
+
+        >>> tourkit.distances("tri.tsp")[1, 2]
+        5
+    """
+    asked = problem_of(problem)
+    n = asked.size
+    return shaped(filled("q", n * n, asked.write_distances), [n, n])
+
+
+def filled(letter: str, count: int, fill: Callable[..., Answer]) -> memoryview:
+    """The numbers that a call writes. If there are not so many of them, the call is made again."""
+    numbers = memoryview(room_for(count * struct.calcsize(letter))).cast("B").cast(letter)
+    answer = fill(*slice_of(numbers))
+    return filled(letter, answer.needed, fill) if answer.status == NO_ROOM else numbers
+
+
+def near_shape(entries: int, k: int) -> List[int]:
+    """The rows and columns of so many entries of near lists: k columns, or one less than rows if that is fewer."""
+    n = entries // k
+    if n <= k:
+        n = (1 + math.isqrt(1 + 4 * entries)) // 2
+    return [n, entries // n]
+
+
+def shaped(numbers: memoryview, shape: List[int]) -> memoryview:
+    """The same numbers in rows."""
+    return numbers.cast("B").cast(numbers.format, shape)

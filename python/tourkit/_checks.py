@@ -1,0 +1,76 @@
+"""The checks of tours and of routes."""
+
+from __future__ import annotations
+
+from typing import Any, Iterable, Sequence, Type, Union
+
+from ._claims import as_in_texts, cities_of, claimed_text, solution_text
+from ._library import FOUND, slice_of
+from ._problem import Problem, problem_of
+from ._results import Routes, Tour
+from ._text import Bytes, File, Text
+from ._verdicts import RouteVerdict, TourVerdict, V, verdict_in
+from ._writing import LINE, write_texts
+
+# Faults of a list by their numbers in `tourkit.h`.
+FAULTS = {20: "WrongCount", 21: "OutOfRange", 22: "RepeatedCity"}
+
+
+def check(
+    problem: Union[Problem, File, Bytes],
+    tour: Union[File, Bytes, Tour, Iterable[int]],
+) -> TourVerdict:
+    """Says whether a list of cities is a tour of the problem, and how long the tour is. For a CVRP, it is a tour of all nodes.
+
+        >>> tourkit.check("square.tsp", "twice.tour")
+        TourVerdict(valid=False, fault='RepeatedCity', place=3, city=2)
+    """
+    asked = problem_of(problem)
+    text = claimed_text(tour, "tour")
+    return verdict_on("tourkit_check", TourVerdict, asked, text) if text else verdict_on_list(asked, tour)
+
+
+def verdict_on_list(problem: Problem, tour: Any) -> TourVerdict:
+    """What is said of a list of cities."""
+    cities, given = cities_of(tour)
+    answer = problem.call("check", *slice_of(cities))
+    if answer.status != FOUND:
+        return TourVerdict(True, cities=len(cities), length=answer.length)
+    fault = FAULTS[answer.kind]
+    if fault == "WrongCount":
+        return TourVerdict(False, fault, wanted=problem.size, read=len(cities))
+    return TourVerdict(False, fault, place=answer.place, city=int(given[answer.place - 1]))
+
+
+def check_solution(
+    problem: Union[Problem, File, Bytes],
+    solution: Union[File, Bytes, Routes, Iterable[Sequence[int]]],
+) -> RouteVerdict:
+    """Says whether routes serve each customer of a CVRP once within the capacity, and whether they cost what the solution says.
+
+    A list of lists of customers says nothing of the cost.
+
+        >>> tourkit.check_solution("bakery.vrp", "bakery-plan.sol")
+        RouteVerdict(valid=True, routes=7, cost=11071)
+    """
+    asked = problem_of(problem)
+    text = claimed_text(solution, "solution")
+    return verdict_on("tourkit_checksol", RouteVerdict, asked, text) if text else verdict_on_lists(asked, solution)
+
+
+def verdict_on_lists(problem: Problem, routes: Any) -> RouteVerdict:
+    """What is said of lists of customers. The cost is the last that is checked, so a wrong one is the only fault."""
+    listed = [list(route) for route in routes]
+    found = verdict_on("tourkit_checksol", RouteVerdict, problem, Text(solution_text(listed), "solution"))
+    if found.fault == "WrongCost":
+        return RouteVerdict(True, routes=sum(1 for route in listed if route), cost=found.counted)
+    if found.fault == "BadCustomer" and found.route:
+        bad = next(customer for customer in listed[found.route - 1] if as_in_texts(customer) == found.customer)
+        return RouteVerdict(False, found.fault, route=found.route, customer=bad)
+    return found
+
+
+def verdict_on(name: str, kind: Type[V], problem: Problem, claim: Text) -> V:
+    """What a call says of a text."""
+    _, (line,) = write_texts(name, [problem.source, claim], (*problem.source.words, *claim.words), [LINE])
+    return verdict_in(line, kind)

@@ -1,0 +1,83 @@
+"""The shared object, and how its calls are made. `tourkit.h` says what each of them takes and gives."""
+
+from __future__ import annotations
+
+import ctypes
+import pathlib
+from typing import Any, Tuple
+
+DONE, FOUND, REFUSED, NO_MEMORY, NO_ROOM = range(5)
+
+
+class Answer(ctypes.Structure):
+    """What a call tells beside what it writes: `tourkit_answer` of the header."""
+
+    _fields_ = [
+        ("status", ctypes.c_uint32),
+        ("text", ctypes.c_uint32),
+        ("line", ctypes.c_uint64),
+        ("kind", ctypes.c_uint32),
+        ("place", ctypes.c_uint32),
+        ("length", ctypes.c_uint64),
+        ("needed", ctypes.c_size_t),
+        ("needed_file", ctypes.c_size_t),
+    ]
+
+
+SLICE = (ctypes.c_void_p, ctypes.c_size_t)
+NUMBER = (ctypes.c_uint32,)
+FLAG = (ctypes.c_bool,)
+
+# What each call takes before its answer.
+CALLS = {
+    "tourkit_check": 3 * SLICE,
+    "tourkit_checksol": 3 * SLICE,
+    "tourkit_near": SLICE + NUMBER + SLICE,
+    "tourkit_matrix": 2 * SLICE,
+    "tourkit_solve": 5 * SLICE,
+    "tourkit_plot": 2 * SLICE + FLAG + 2 * SLICE,
+    "tourkit_distances": 2 * SLICE,
+    "tourkit_check_cities": 2 * SLICE,
+    "tourkit_near_cities": SLICE + NUMBER + SLICE,
+    "tourkit_check_points": NUMBER + 3 * SLICE,
+    "tourkit_near_points": NUMBER + 2 * SLICE + NUMBER + SLICE,
+    "tourkit_check_weights": NUMBER + 2 * SLICE,
+    "tourkit_near_weights": NUMBER + SLICE + NUMBER + SLICE,
+}
+
+
+def load() -> ctypes.CDLL:
+    """The shared object beside this file, with the types of what its calls take."""
+    place = pathlib.Path(__file__).with_name("libtourkit.so")
+    try:
+        loaded = ctypes.CDLL(str(place))
+    except OSError as error:
+        raise ImportError(f"{error}; `./tourkit --wheel DIR` makes a wheel of this package with its library") from error
+    for name, takes in CALLS.items():
+        export = getattr(loaded, name)
+        export.argtypes = (*takes, ctypes.POINTER(Answer))
+        export.restype = None
+    return loaded
+
+
+LIBRARY = load()
+
+# An address for what has no items, since none may be null.
+NOTHING = (ctypes.c_uint64 * 1)()
+
+
+def slice_of(items: Any) -> Tuple[Any, int]:
+    """Items in memory as a call takes them, a place and a count: `bytes`, or another buffer that can be written to."""
+    count = len(items)
+    if isinstance(items, bytes):
+        return items, count
+    return ctypes.byref(ctypes.c_char.from_buffer(items) if count else NOTHING), count
+
+
+def call(name: str, *arguments: Any) -> Answer:
+    """Makes a call, and gives its answer."""
+    answer = Answer()
+    getattr(LIBRARY, name)(*arguments, ctypes.byref(answer))
+    if answer.status == NO_MEMORY:
+        raise MemoryError("tourkit: out of memory")
+    return answer

@@ -1,0 +1,69 @@
+"""Pictures of problems, tours and routes."""
+
+from __future__ import annotations
+
+import html
+import re
+from dataclasses import dataclass, field
+from typing import Any, Iterable, Optional, Union
+
+from ._checks import check, check_solution
+from ._claims import Claim, claimed_text, solution_text, tour_text
+from ._library import FOUND
+from ._problem import Problem, problem_of
+from ._refused import Refused
+from ._text import Bytes, File, Text
+from ._verdicts import RouteVerdict, TourVerdict, Verdict, verdict_in
+from ._writing import LINE, write_texts
+
+# The most bytes of a picture without its cities, and of a city in it.
+FRAME = 8192
+CITY = 64
+
+
+@dataclass(frozen=True)
+class Picture:
+    """A picture: its title, and the text of an SVG file. A notebook shows it."""
+
+    title: str
+    svg: bytes = field(repr=False)
+
+    def _repr_svg_(self) -> str:
+        return self.svg.decode()
+
+
+def plot(problem: Union[Problem, File, Bytes], claim: Optional[Claim] = None) -> Picture:
+    """Draws the cities of a problem, and a tour or the routes of a solution, which are checked first.
+
+        >>> tourkit.plot("tri.tsp", [1, 2, 3])
+        Picture(title='tri: tour of 3 cities, length 12')
+    """
+    asked = problem_of(problem)
+    text = Text(b"", "claim") if claim is None else claimed_text(claim, "claim") or listed_text(asked, claim)
+    words = (*asked.source.words, *text.words, claim is not None)
+    sizes = [FRAME + CITY * asked.guess_size(), LINE]
+    answer, (svg, line) = write_texts("tourkit_plot", [asked.source, text], words, sizes, message=1)
+    if answer.status == FOUND:
+        verdict: Verdict = verdict_in(line, TourVerdict, RouteVerdict)
+        raise refused_claim(verdict, text.file)
+    title = re.search(rb"<title>(.*)</title>", svg)
+    return Picture(html.unescape(title[1].decode()) if title else "", svg)
+
+
+def listed_text(problem: Problem, claim: Any) -> Text:
+    """The text of a list of cities, or of a list of routes, if there is no fault in them."""
+    listed = list(claim)
+    if listed and all(isinstance(route, Iterable) for route in listed):
+        routes = check_solution(problem, listed)
+        if not routes:
+            raise refused_claim(routes)
+        return Text(solution_text(listed, routes.cost or 0), "claim")
+    tour = check(problem, listed)
+    if not tour:
+        raise refused_claim(tour)
+    return Text(tour_text(listed), "claim")
+
+
+def refused_claim(verdict: Verdict, file: Optional[str] = None) -> Refused:
+    """The exception for what is no tour, or no valid solution."""
+    return Refused(str(verdict), None, verdict.fault, None, file)

@@ -1,0 +1,71 @@
+"""Cities by their coordinates."""
+
+from __future__ import annotations
+
+import decimal
+from array import array
+from typing import Any, Iterable, Sequence, Tuple
+
+from ._library import slice_of
+
+# Distance types by their numbers in `tourkit.h`.
+KINDS = {"EUC_2D": 0, "CEIL_2D": 1, "MAN_2D": 2, "MAX_2D": 3, "ATT": 4}
+
+# Coordinates are exact in units of 10^-9.
+PLACES = 9
+SCALE = 10**PLACES
+FARTHEST = 10**9 * SCALE
+MOST = 100_000
+
+EXACT = decimal.Context(prec=100)
+
+
+def units(coordinate: Any) -> int:
+    """A coordinate in units of 10^-9. Digits after the ninth decimal place are dropped."""
+    if isinstance(coordinate, int):
+        found: int = coordinate * SCALE
+    else:
+        try:
+            found = int(decimal.Decimal(str(coordinate)).scaleb(PLACES, EXACT))
+        except (ArithmeticError, ValueError):
+            raise ValueError(f"not a coordinate: {coordinate!r}") from None
+    if abs(found) > FARTHEST:
+        raise ValueError(f"a coordinate is from -1,000,000,000 to 1,000,000,000, and not {coordinate}")
+    return found
+
+
+def decimal_of(number: int) -> str:
+    """A number of units as a decimal number."""
+    whole, part = divmod(abs(number), SCALE)
+    sign = "-" if number < 0 else ""
+    places = f".{part:0{PLACES}}".rstrip("0") if part else ""
+    return f"{sign}{whole}{places}"
+
+
+class Points:
+    """Cities by their coordinates, with the distances of some type."""
+
+    form = "points"
+
+    def __init__(self, points: Iterable[Sequence[Any]], kind: str) -> None:
+        if kind not in KINDS:
+            raise ValueError(f"a kind of distances is one of {', '.join(KINDS)}, and not {kind!r}")
+        listed = points.tolist() if hasattr(points, "tolist") else points
+        pairs = [(units(x), units(y)) for x, y in listed]
+        if not 2 <= len(pairs) <= MOST:
+            raise ValueError(f"a problem has 2 to {MOST:,} cities, and not {len(pairs):,}")
+        self.kind = kind
+        self.size = len(pairs)
+        self.xs = array("q", [x for x, _ in pairs])
+        self.ys = array("q", [y for _, y in pairs])
+
+    @property
+    def words(self) -> Tuple[Any, ...]:
+        """What the calls over coordinates take."""
+        return (KINDS[self.kind], *slice_of(self.xs), *slice_of(self.ys))
+
+    def sections(self) -> str:
+        """The lines of a problem file."""
+        places = zip(map(decimal_of, self.xs), map(decimal_of, self.ys))
+        lines = "".join(f"{city} {x} {y}\n" for city, (x, y) in enumerate(places, 1))
+        return f"EDGE_WEIGHT_TYPE : {self.kind}\nNODE_COORD_SECTION\n{lines}"

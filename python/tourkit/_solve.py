@@ -1,0 +1,102 @@
+"""The search for short tours and short routes."""
+
+from __future__ import annotations
+
+import dataclasses
+from typing import Any, Callable, Dict, Iterable, Optional, Tuple, Union
+
+from ._claims import claimed_text, tour_text
+from ._limits import within
+from ._problem import Problem, problem_of
+from ._results import Routes, Tour, result_of
+from ._text import Bytes, File, Text
+from ._writing import write_texts
+
+SEEDS = 2**32
+CONSTRUCTIONS = ("NEAREST", "SAVINGS")
+
+# The most bytes of the lines on a search and on one of its runs, and of the text of a tour or of routes. If there were more, the search
+# would be made once more.
+LINES = 4096
+RUN = 256
+TEXT = 1 << 22
+
+
+def solve(
+    problem: Union[Problem, File, Bytes],
+    *,
+    seed: int = 1,
+    trials: Optional[int] = None,
+    runs: int = 10,
+    candidates: int = 5,
+    construction: str = "NEAREST",
+    initial_tour: Union[File, Bytes, Tour, Iterable[int], None] = None,
+    final_sweep: bool = False,
+    or_segment: int = 3,
+    pieces: int = 1,
+    progress: Optional[Callable[[Union[Tour, Routes]], Any]] = None,
+) -> Union[Tour, Routes]:
+    """Searches for a short tour, or for short routes of a CVRP. docs/PARAMETERS.md says what each option does to time and quality.
+
+    The search is deterministic, and the one that the program makes with the same options. Nothing can stop it on its way, so a long search
+    is made in pieces, one after another: each makes all these runs and trials, begins with the best tour of the piece before, and takes the
+    seeds that come next. After each piece, `progress` is called with the best tour so far, and if it returns `False`, the search ends. An
+    interrupt (Ctrl-C) is raised between two pieces. A CVRP is always searched in one piece.
+
+        >>> tourkit.solve("board.tsp", runs=1, trials=500)
+        Tour(length=71741)
+    """
+    asked = problem_of(problem)
+    start = None if initial_tour is None else claimed_text(initial_tour, "tour") or listed_tour(initial_tour)
+    first = within("seed", seed, 0, SEEDS - 1)
+    keys = {
+        "RUNS": within("runs", runs, 1, 10_000),
+        "MAX_CANDIDATES": within("candidates", candidates, 1, 100),
+        "CONSTRUCTION": construction_of(construction),
+        "FINAL_SWEEP": "YES" if final_sweep else "NO",
+        "OR_SEGMENT": within("or_segment", or_segment, 1, 3),
+    }
+    if trials is not None:
+        keys["MAX_TRIALS"] = within("trials", trials, 1, 1_000_000)
+    best: Union[Tour, Routes, None] = None
+    for piece in range(within("pieces", pieces, 1, SEEDS)):
+        keys["SEED"] = (first + piece * runs) % SEEDS
+        found = search_piece(asked, keys, start, runs)
+        if isinstance(best, Tour) and isinstance(found, Tour):
+            later = (dataclasses.replace(run, run=run.run + piece * runs) for run in found.runs)
+            found = dataclasses.replace(found, runs=(*best.runs, *later))
+        best = found
+        if (progress and progress(best) is False) or isinstance(best, Routes):
+            break
+        start = Text(best.text, "tour")
+    assert best
+    return best
+
+
+def listed_tour(tour: Any) -> Text:
+    """The text of a list of cities to begin with."""
+    return Text(tour_text(tour), "tour")
+
+
+def construction_of(name: str) -> str:
+    """The name of a construction, in capitals."""
+    if name.upper() not in CONSTRUCTIONS:
+        raise ValueError(f"construction is one of {' and '.join(CONSTRUCTIONS)}, and not {name!r}")
+    return name.upper()
+
+
+def search_piece(problem: Problem, keys: Dict[str, Any], start: Optional[Text], runs: int) -> Union[Tour, Routes]:
+    """Makes one search. The calls want names of files, and do not look at them."""
+    names = {"PROBLEM_FILE": "-"} if start is None else {"PROBLEM_FILE": "-", "INITIAL_TOUR_FILE": "-"}
+    lines = (f"{key} = {value}\n" for key, value in {**names, **keys}.items())
+    parameters = Text("".join(lines).encode(), "parameters")
+    told, text = search(parameters, problem.source, start or Text(b"", "tour"), runs)
+    return result_of(told, text, problem)
+
+
+def search(parameters: Text, problem: Text, start: Text, runs: int) -> Tuple[bytes, bytes]:
+    """Makes the search that parameters ask for: the lines that the program prints, and the text of the tour or of the routes."""
+    texts = [parameters, problem, start]
+    words = [word for text in texts for word in text.words]
+    _, (lines, text) = write_texts("tourkit_solve", texts, words, [LINES + RUN * runs, TEXT])
+    return lines, text

@@ -1,0 +1,46 @@
+"""Texts that are given as files or as bytes."""
+
+from __future__ import annotations
+
+import os
+from typing import Any, NamedTuple, Optional, Tuple, Union
+
+from ._library import slice_of
+
+File = Union[str, "os.PathLike[str]"]
+Bytes = Union[bytes, bytearray, memoryview]
+
+
+class Text(NamedTuple):
+    """The bytes of a text, what it is the text of, and the file that they were read from."""
+
+    data: bytes
+    what: str
+    file: Optional[str] = None
+
+    @property
+    def where(self) -> str:
+        """What the text is called in messages."""
+        return f"<{self.what}>" if self.file is None else self.file
+
+    @property
+    def words(self) -> Tuple[Any, ...]:
+        """The bytes as a call takes them."""
+        return slice_of(self.data)
+
+
+def is_text(given: Any) -> bool:
+    """Whether this is a file or the bytes of a text."""
+    if isinstance(given, memoryview):
+        return given.itemsize == 1
+    return isinstance(given, (str, os.PathLike, bytes, bytearray))
+
+
+def text_of(given: Any, what: str) -> Text:
+    """The text of a file or of bytes."""
+    if isinstance(given, (str, os.PathLike)):
+        with open(given, "rb") as file:
+            return Text(file.read(), what, os.fspath(given))
+    if not is_text(given):
+        raise TypeError(f"a {what} is a file (str or os.PathLike) or a text (bytes), and not {type(given).__name__}")
+    return Text(bytes(given), what)

@@ -1,0 +1,67 @@
+"""Cities by their distances."""
+
+from __future__ import annotations
+
+from array import array
+from typing import Any, Iterable, Iterator, List, Sequence, Tuple
+
+from ._library import slice_of
+
+GREATEST = 4_000_000_000
+MOST = 5_000
+
+
+def rows_in(matrix: Any) -> Iterator[List[int]]:
+    """The rows of a matrix, one after another."""
+    if isinstance(matrix, memoryview) and matrix.shape and len(matrix.shape) == 2:
+        numbers, width = matrix.cast("B").cast(matrix.format), matrix.shape[1]
+        matrix = (numbers[start : start + width] for start in range(0, len(numbers), width))
+    for row in matrix:
+        yield row.tolist() if hasattr(row, "tolist") else list(row)
+
+
+def read_matrix(matrix: Any) -> Tuple[int, array[int]]:
+    """How many rows a matrix has, and its numbers. Those on its diagonal are not looked at."""
+    size, numbers = 0, array("I")
+    for size, row in enumerate(rows_in(matrix), 1):
+        if size > MOST or size > len(row):
+            break
+        row[size - 1] = 0
+        try:
+            numbers.extend(array("I", row))
+        except OverflowError:
+            raise ValueError(f"row {size} has a distance that is not from 0 to {GREATEST:,}") from None
+    if not 2 <= size <= MOST or len(numbers) != size * size:
+        raise ValueError(f"a matrix has as many columns as rows, 2 to {MOST:,}")
+    if max(numbers) > GREATEST:
+        raise ValueError(f"a distance is from 0 to {GREATEST:,}, and not {max(numbers):,}")
+    return size, numbers
+
+
+class Weights:
+    """Cities by their distances: the lower triangle of a matrix row by row, without its diagonal."""
+
+    form = "weights"
+
+    def __init__(self, matrix: Iterable[Sequence[int]]) -> None:
+        n, numbers = read_matrix(matrix)
+        self.size = n
+        self.lower = array("I")
+        for city in range(1, n):
+            row, column = numbers[city * n : city * n + city], numbers[city : city * n : n]
+            if row != column:
+                other = next(other for other in range(city) if row[other] != column[other])
+                raise ValueError(f"from city {other + 1} to city {city + 1} it is {column[other]}, and {row[other]} on the way back")
+            self.lower.extend(row)
+
+    @property
+    def words(self) -> Tuple[Any, ...]:
+        """What the calls over weights take."""
+        return (self.size, *slice_of(self.lower))
+
+    def sections(self) -> str:
+        """The lines of a problem file."""
+        starts = (city * (city - 1) // 2 for city in range(1, self.size))
+        rows = (self.lower[start : start + city] for city, start in enumerate(starts, 1))
+        lines = "".join(" ".join(map(str, row)) + "\n" for row in rows)
+        return f"EDGE_WEIGHT_TYPE : EXPLICIT\nEDGE_WEIGHT_FORMAT : LOWER_ROW\nEDGE_WEIGHT_SECTION\n{lines}"
