@@ -1,0 +1,293 @@
+"""Calls of the package `tourkit` with arguments of many kinds, in a directory with the files of examples/."""
+
+import array
+import ctypes
+import importlib.util
+import os
+import pathlib
+import pickle
+import re
+import signal
+import subprocess
+import sys
+import threading
+
+import tourkit
+from tourkit._library import CALLS, Answer, slice_of
+from tourkit._text import text_of
+from tourkit._writing import write_texts
+
+LENGTH = 12
+TOUR = [1, 2, 3]
+
+
+def refusal(call, *arguments, **options):
+    """The exception of a call that is refused."""
+    try:
+        given = call(*arguments, **options)
+    except tourkit.Refused as fault:
+        return fault
+    raise AssertionError(f"not refused: {given!r}")
+
+
+def error(kind, call, *arguments, **options):
+    """The message of a call that raises an exception of this kind, and no refusal."""
+    try:
+        given = call(*arguments, **options)
+    except kind as raised:
+        assert not isinstance(raised, tourkit.Refused), raised
+        return str(raised)
+    raise AssertionError(f"no error: {given!r}")
+
+
+def try_header():
+    """The calls and the answer of the package are those of the header for C."""
+    header = (pathlib.Path(__file__).resolve().parents[2] / "include/tourkit.h").read_text()
+    known = {"uint32_t": ctypes.c_uint32, "uint64_t": ctypes.c_uint64, "size_t": ctypes.c_size_t, "bool": ctypes.c_bool}
+    declared = {}
+    for name, parameters in re.findall(r"void (tourkit_\w+)\(([^)]*)\);", header):
+        given = [word.strip() for word in parameters.split(",")]
+        assert given.pop() == "tourkit_answer *answer", name
+        declared[name] = tuple(ctypes.c_void_p if "*" in word else known[word.split()[0]] for word in given)
+    assert declared == CALLS, "other calls"
+    fields = re.findall(r"(?m)^ +(\w+) (\w+);", re.search(r"typedef struct \{(.*?)\}", header, re.DOTALL)[1])
+    assert [(name, known[kind]) for kind, name in fields] == Answer._fields_, fields
+
+
+def try_problems_of_all_kinds():
+    """A problem is a file, a text or an object."""
+    text = pathlib.Path("tri.tsp").read_bytes()
+    given = ["tri.tsp", pathlib.Path("tri.tsp"), text, bytearray(text), memoryview(text), tourkit.Problem("tri.tsp"), tourkit.Problem(text)]
+    points = [(0, 0), (3, 0), (0, 4)]
+    given += [tourkit.Problem.from_points(points), tourkit.Problem.from_points([(str(x), float(y)) for x, y in points])]
+    given += [tourkit.Problem.from_matrix(tourkit.distances("tri.tsp")), tourkit.Problem.from_matrix([[0, 3, 4], [3, 0, 5], [4, 5, 0]])]
+    for problem in given:
+        assert tourkit.check(problem, TOUR).length == LENGTH, problem
+        assert tourkit.near(problem, 2).tolist() == [[2, 3], [1, 3], [1, 2]], problem
+        assert tourkit.distances(problem).tolist() == [[0, 3, 4], [3, 0, 5], [4, 5, 0]], problem
+        assert tourkit.solve(problem, runs=1).length == LENGTH, problem
+    for problem in given[5:]:
+        again = pickle.loads(pickle.dumps(problem))
+        assert (again.size, again.text, again.file, repr(again)) == (3, problem.text, problem.file, repr(problem)), problem
+        assert tourkit.Problem(problem.text).size == 3, problem
+
+
+def try_tours_of_all_kinds():
+    """A tour is a file, a text, a list of some kind or the result of a search."""
+    text = pathlib.Path("tri.tour").read_bytes()
+    found = tourkit.solve("tri.tsp", runs=1, trials=1)
+    lists = [TOUR, tuple(TOUR), range(1, 4), iter(TOUR), array.array("I", TOUR), array.array("q", TOUR), memoryview(array.array("I", TOUR))]
+    for tour in ["tri.tour", pathlib.Path("tri.tour"), text, bytearray(text), found, found.cities, *lists]:
+        assert tourkit.check("tri.tsp", tour) == tourkit.TourVerdict(True, cities=3, length=LENGTH), tour
+    for tour in [TOUR, tuple(TOUR), array.array("I", TOUR), found, "tri.tour", text]:
+        assert tourkit.plot("tri.tsp", tour).title == "tri: tour of 3 cities, length 12", tour
+        assert tourkit.solve("tri.tsp", initial_tour=tour, runs=1).runs[0].start == LENGTH, tour
+
+
+def try_cities_that_are_none():
+    """A number that no city can have is out of range, whatever its size."""
+    for city in (0, 4, -1, 2**32, -(2**70)):
+        verdict = tourkit.check("tri.tsp", [1, city, 3])
+        assert (verdict.fault, verdict.place, verdict.city) == ("OutOfRange", 2, city), verdict
+        assert str(refusal(tourkit.plot, "tri.tsp", [1, city, 3])) == f"out of range at place 2: {city}"
+        assert str(refusal(tourkit.solve, "tri.tsp", initial_tour=[1, city, 3])) == "<tour>: initial tour: 2 OutOfRange 2"
+    assert str(tourkit.check("tri.tsp", [])) == "wrong count: 3 wanted, 0 read"
+    error(TypeError, tourkit.check, "tri.tsp", [1, 2.5, 3])
+    error(TypeError, tourkit.check, "tri.tsp", 5)
+    error(TypeError, tourkit.check, 5, TOUR)
+
+
+def try_routes_of_all_kinds():
+    """A solution is a file, a text, lists of customers or the result of a search."""
+    found = tourkit.solve("bakery.vrp", candidates=20)
+    assert isinstance(found, tourkit.Routes)
+    wanted = tourkit.RouteVerdict(True, routes=len(found.customers), cost=found.cost)
+    for routes in [found, found.text, found.customers, [tuple(route) for route in found.customers], [*found.customers, []]]:
+        assert tourkit.check_solution("bakery.vrp", routes) == wanted, routes
+        assert tourkit.plot("bakery.vrp", routes).title == f"bakery: {found}", routes
+    distances = tourkit.distances("bakery.vrp")
+    legs = [leg for route in found.cities for leg in zip([1, *route], [*route, 1])]
+    assert sum(distances[a - 1, b - 1] for a, b in legs) == found.cost, "another cost by the distances"
+    assert str(tourkit.check_solution("bakery.vrp", found.customers[1:])).startswith("customer not served"), found
+    assert refusal(tourkit.plot, "bakery.vrp", found.customers[1:]).name == "NotServed"
+    for customer in (0, 43, -1, 2**32):
+        wanted = tourkit.RouteVerdict(False, "BadCustomer", route=2, customer=customer)
+        assert tourkit.check_solution("bakery.vrp", [[1], [2, customer, -9]]) == wanted, customer
+
+
+def try_depot_is_no_customer():
+    """With another depot than city 1, the customers below it have their own numbers as cities."""
+    options = {"demands": [1, 1, 0, 1], "capacity": 3, "depot": 3}
+    problem = tourkit.Problem.from_points([(0, 0), (0, 5), (0, 9), (0, 20)], **options)
+    routes = tourkit.solve(problem)
+    assert sorted(sum(routes.customers, [])) == [1, 2, 3] and sorted(sum(routes.cities, [])) == [1, 2, 4], routes
+    assert problem.depot == 3 and tourkit.Problem("tri.tsp").depot is None
+    assert tourkit.Problem.from_matrix(tourkit.distances(problem), **options).depot == 3
+
+
+def try_refusals():
+    """A refusal has the number, the name, the line and the file that the program shows, and comes back whole from another process."""
+    known = {
+        ("tri.tour:3: 4 Unsupported", 4, "Unsupported", 3, "tri.tour"): (tourkit.check, "tri.tour", "tri.tour"),
+        ("<problem>:1: 1 UnknownKeyword", 1, "UnknownKeyword", 1, None): (tourkit.near, b"FOO : 1\n"),
+        ("<problem>:2: 3 Missing DIMENSION", 3, "Missing", 2, None): (tourkit.distances, b"TYPE : TSP\nEOF\n"),
+        ("square.tsp:3: 4 Unsupported", 4, "Unsupported", 3, "square.tsp"): (tourkit.check, "tri.tsp", pathlib.Path("square.tsp")),
+        ("tri.tsp: not a CVRP", None, "WrongType", None, "tri.tsp"): (tourkit.check_solution, "tri.tsp", "bakery-plan.sol"),
+        ("five.tsp: no coordinates", None, "NoPlaces", None, "five.tsp"): (tourkit.plot, "five.tsp"),
+        ("repeated city at place 3: 2", None, "RepeatedCity", None, "twice.tour"): (tourkit.plot, "square.tsp", "twice.tour"),
+    }
+    for wanted, (call, *arguments) in known.items():
+        fault = refusal(call, *arguments)
+        for told in (fault, pickle.loads(pickle.dumps(fault))):
+            assert (str(told), told.number, told.name, told.line, told.file) == wanted, told
+    start = refusal(tourkit.solve, "square.tsp", initial_tour="twice.tour")
+    assert str(start) == "twice.tour: initial tour: 3 RepeatedCity 3" and start.number == 3, start
+    assert str(refusal(tourkit.solve, "bakery.vrp", initial_tour=TOUR)) == "bakery.vrp: initial_tour does not fit the problem's type"
+    many = tourkit.Problem.from_points([(place, 0) for place in range(5001)])
+    assert str(refusal(tourkit.matrix, many)) == "<problem>: too large for a matrix"
+    error(FileNotFoundError, tourkit.check, "gone.tsp", "tri.tour")
+    error(IsADirectoryError, tourkit.near, ".")
+
+
+def try_arguments_out_of_their_limits():
+    """Arguments are refused by their names."""
+    for name, number in {"seed": -1, "trials": 0, "runs": 10_001, "candidates": 101, "or_segment": 4, "pieces": 0}.items():
+        assert error(ValueError, tourkit.solve, "tri.tsp", **{name: number}).startswith(f"{name} is from "), name
+    error(ValueError, tourkit.solve, "tri.tsp", construction="GREEDY\nRUNS = 1")
+    error(TypeError, tourkit.solve, "tri.tsp", trials=2.5)
+    error(ValueError, tourkit.near, "tri.tsp", 0)
+    error(ValueError, tourkit.near, "tri.tsp", 101)
+    for points in ([(0, 0)], [(0, 0), (10**9 + 1, 0)], [(0, 0), ("x", 0)], [(0, 0), (float("nan"), 0)], [(0, 0), (1, 2, 3)]):
+        error(ValueError, tourkit.Problem.from_points, points)
+    error(ValueError, tourkit.Problem.from_points, [(0, 0), (1, 1)], "GEO")
+    error(ValueError, tourkit.Problem.from_points, [(0, 0), (1, 1)], demands=[0, 1])
+    error(ValueError, tourkit.Problem.from_points, [(0, 0), (1, 1)], demands=[0], capacity=2)
+    assert refusal(tourkit.Problem.from_points, [(0, 0), (1, 1)], demands=[0, 3], capacity=2).name == "DemandOverCapacity"
+    for rows in ([[0]], [[0, 1], [2, 0]], [[0, -1], [-1, 0]], [[0, 1]], [[0, 1], [1, 0, 3]], [[0, 4 * 10**9 + 1], [4 * 10**9 + 1, 0]]):
+        error(ValueError, tourkit.Problem.from_matrix, rows)
+    error(TypeError, tourkit.Problem.from_matrix, [[0, 1.5], [1.5, 0]])
+
+
+def try_coordinates_are_exact():
+    """Coordinates count as they are written, up to the ninth decimal place."""
+    problem = tourkit.Problem.from_points([(0.1, -0.1), (1e-9, "12.3456789019"), (-(10**9), 10**9)], "MAN_2D", name="a\nb")
+    assert problem.text.splitlines()[0] == b"NAME : a b"
+    assert problem.text.splitlines()[5:8] == [b"1 0.1 -0.1", b"2 0.000000001 12.345678901", b"3 -1000000000 1000000000"], problem.text
+
+
+def try_rooms_of_all_sizes():
+    """A text comes whole, whatever room it is given first."""
+    texts = [text_of("square.tsp", "problem"), text_of("twice.tour", "tour")]
+    words = [word for text in texts for word in text.words]
+    line = b"repeated city at place 3: 2\n"
+    for size in (0, 1, len(line) - 1, len(line), len(line) + 1, 1 << 20):
+        assert write_texts("tourkit_check", texts, words, [size])[1] == [line], size
+        picture, told = write_texts("tourkit_plot", texts[:1], [*texts[0].words, *slice_of(b""), False], [size, size])[1]
+        assert picture.endswith(b"</svg>\n") and not told, size
+
+
+def try_search_in_pieces():
+    """Each piece begins with the best tour of the one before, and takes the next seeds. `progress` sees all, and can end the search."""
+    seen = []
+    found = tourkit.solve("board.tsp", seed=2**32 - 2, runs=2, trials=20, pieces=3, progress=seen.append)
+    tour = None
+    for seed, told in zip((2**32 - 2, 0, 2), seen):
+        tour = tourkit.solve("board.tsp", seed=seed, runs=2, trials=20, initial_tour=tour)
+        assert (tour.text, tour.cities) == (told.text, told.cities), seed
+    assert found is seen[-1] and [run.run for run in found.runs] == [1, 2, 3, 4, 5, 6], found.runs
+    assert tourkit.check("board.tsp", found.cities).length == found.length == min(run.best for run in found.runs), found
+    stopped = tourkit.solve("board.tsp", runs=1, trials=5, pieces=100, progress=lambda tour: len(tour.runs) < 3)
+    assert len(stopped.runs) == 3, stopped.runs
+    assert len(seen) == 3
+
+
+def try_interrupt():
+    """An interrupt comes between two pieces, and `progress` has the best tour until then."""
+    seen = []
+    before = signal.signal(signal.SIGINT, signal.default_int_handler)  # which a job in the background may not have
+    timer = threading.Timer(0.5, os.kill, (os.getpid(), signal.SIGINT))
+    timer.start()
+    try:
+        tourkit.solve("board.tsp", runs=1, trials=50, pieces=10_000, progress=seen.append)
+    except KeyboardInterrupt:
+        pass
+    else:
+        raise AssertionError("not interrupted")
+    finally:
+        timer.join()
+        signal.signal(signal.SIGINT, before)
+    assert seen and tourkit.check("board.tsp", seen[-1]).length == seen[-1].length, seen
+
+
+def try_calls_in_threads():
+    """Calls beside each other give what they give alone."""
+    wanted = tourkit.near("board.tsp", 7).tolist(), tourkit.solve("board.tsp", runs=1, trials=30).text
+    found = []
+    problem = tourkit.Problem("board.tsp")
+
+    def call():
+        found.append((tourkit.near(problem, 7).tolist(), tourkit.solve(problem, runs=1, trials=30).text))
+
+    threads = [threading.Thread(target=call) for _ in range(8)]
+    for thread in threads:
+        thread.start()
+    for thread in threads:
+        thread.join()
+    assert found == 8 * [wanted], "another answer in a thread"
+
+
+def try_too_little_memory():
+    """Where memory runs out, an exception says so, and a later call has its answer."""
+    code = """
+import resource, tourkit
+few = tourkit.Problem.from_points([(0, 0), (1, 1), (2, 5)])
+many = tourkit.Problem.from_points([(place * 7919 % 10007, place) for place in range(3000)])
+many.text, tourkit.distances(few)
+used = int(open("/proc/self/statm").read().split()[0]) * resource.getpagesize()
+resource.setrlimit(resource.RLIMIT_AS, (used + MORE, -1))
+try:
+    print("done", tourkit.distances(many).shape)
+except MemoryError:
+    print("refused", tourkit.distances(few).shape)
+"""
+    for more, wanted in {1 << 28: "done (3000, 3000)", 1 << 25: "refused (3, 3)", 0: "refused (3, 3)"}.items():
+        how = {"env": {**os.environ, "PYTHONPATH": os.pathsep.join(sys.path)}, "stdout": subprocess.PIPE, "text": True, "check": False}
+        ran = subprocess.run([sys.executable, "-c", code.replace("MORE", str(more))], **how)
+        assert (ran.returncode, ran.stdout.strip()) == (0, wanted), (more, ran)
+
+
+def try_arrays_of_numpy():
+    """numpy takes what comes back without a copy, and its arrays are taken."""
+    import numpy
+
+    for view, kind in ((tourkit.distances("board.tsp"), numpy.int64), (tourkit.near("board.tsp"), numpy.uint32)):
+        taken = numpy.asarray(view)
+        assert taken.dtype == kind and taken.shape == view.shape and numpy.shares_memory(taken, numpy.asarray(view)), view
+        taken[0, 1] = 77
+        assert view[0, 1] == 77, "a copy"
+    for kind in (numpy.uint32, numpy.int64, numpy.int16, numpy.uint8):
+        cities = numpy.array(TOUR, dtype=kind)
+        assert tourkit.check("tri.tsp", cities).length == LENGTH, kind
+        cities.flags.writeable = False
+        assert tourkit.check("tri.tsp", cities[::-1]).length == LENGTH, kind
+        assert tourkit.plot("tri.tsp", cities).title.endswith("length 12"), kind
+    places = numpy.array([[0, 0], [3, 0], [0, 4]])
+    for kind in (numpy.float64, numpy.float32, numpy.int64):
+        assert tourkit.check(tourkit.Problem.from_points(places.astype(kind)), TOUR).length == LENGTH, kind
+    weights = numpy.asarray(tourkit.distances("board.tsp")).copy()
+    for kind in (numpy.int64, numpy.uint32, numpy.int32):
+        problem = tourkit.Problem.from_matrix(weights.astype(kind))
+        assert (numpy.asarray(tourkit.distances(problem)) == weights).all(), kind
+
+
+def tests():
+    """The checks of this file, by what they say."""
+    checks = [try_header, try_problems_of_all_kinds, try_tours_of_all_kinds, try_cities_that_are_none,
+              try_routes_of_all_kinds, try_depot_is_no_customer, try_refusals, try_arguments_out_of_their_limits,
+              try_coordinates_are_exact, try_rooms_of_all_sizes, try_search_in_pieces, try_interrupt,
+              try_calls_in_threads, try_too_little_memory]
+    if importlib.util.find_spec("numpy"):
+        checks.append(try_arrays_of_numpy)
+    else:
+        print("numpy is not installed, so its arrays were not tried")
+    return [(check.__doc__, check) for check in checks]

@@ -1,0 +1,264 @@
+"""The cases of tests/cases as calls of the package `tourkit`, and what they have to give."""
+
+import dataclasses
+import json
+import re
+import sys
+from pathlib import Path
+
+TESTS = Path(__file__).resolve().parents[1]
+sys.path.append(str(TESTS / "readers"))
+
+import texts
+import tourkit
+from tourkit._solve import search
+from tourkit._text import Text
+
+# What standard error says where the words of the program, the files that it opens and writes, or its two ways to search are at fault.
+OF_THE_PROGRAM = re.compile(r"^error: |cannot be opened|is the same file as|is the parameter file|options of a search")
+
+# The options of a search with a value, and the keys of parameter files, by the arguments of `solve`.
+OPTIONS = {"trials": int, "runs": int, "seed": int, "candidates": int, "or_segment": int, "construction": str, "initial_tour": str}
+KEYS = {"trials": b"MAX_TRIALS", "runs": b"RUNS", "seed": b"SEED", "candidates": b"MAX_CANDIDATES", "or_segment": b"OR_SEGMENT",
+        "construction": b"CONSTRUCTION", "initial_tour": b"INITIAL_TOUR_FILE", "final_sweep": b"FINAL_SWEEP"}
+
+RUN = "run {run}: start {start}, best {best}, trials {trials}, moves {moves}, tests {tests}, swaps {swaps}\n"
+ROUTES = "savings {savings}, routes {routes}\nimproved {improved}, moves {moves}, tests {tests}, swaps {swaps}\n"
+
+# Which of its numbers each row of a matrix keeps, by the format; columns are rows of the same matrix.
+ROWS = {
+    "FULL_MATRIX": lambda row, i: row,
+    "UPPER_ROW": lambda row, i: row[i + 1 :],
+    "LOWER_COL": lambda row, i: row[i + 1 :],
+    "LOWER_ROW": lambda row, i: row[:i],
+    "UPPER_COL": lambda row, i: row[:i],
+    "UPPER_DIAG_ROW": lambda row, i: row[i:],
+    "LOWER_DIAG_COL": lambda row, i: row[i:],
+    "LOWER_DIAG_ROW": lambda row, i: row[: i + 1],
+    "UPPER_DIAG_COL": lambda row, i: row[: i + 1],
+}
+
+
+class Case:
+    """A case: its words, and what it gives to the program and wants from it."""
+
+    def __init__(self, folder):
+        self.name = folder.name
+        self.folder = folder
+        self.words = (folder / "words").read_text(errors="surrogateescape").splitlines()
+        self.command = self.words[0] if self.words else ""
+        self.stdout = self.content("stdout")
+        self.stderr = self.content("stderr").decode()
+        self.status = int(self.content("status") or 0)
+
+    def content(self, name):
+        """The bytes of a file of the case; none if it is not there."""
+        file = self.folder / name
+        return file.read_bytes() if file.is_file() else b""
+
+    def has_call(self):
+        """Whether there is a call of the package for its words."""
+        return self.command in CALLS and "--help" not in self.words and not OF_THE_PROGRAM.search(self.stderr)
+
+    def files(self):
+        """Its files, and what stands for standard input, as the package takes them."""
+        return [self.given(word) for word in self.words[1:] if word != "--json"]
+
+    def given(self, word):
+        """A file, or what stands for standard input."""
+        return self.content("stdin") if word == "-" else word
+
+    def written(self, name):
+        """What the program writes to a file."""
+        return self.content(f"out/{name}") or self.content(f"in/{name}")
+
+
+def read_cases():
+    """All cases for which there is a call."""
+    cases = (Case(words.parent) for words in sorted(TESTS.glob("cases/*/words")))
+    return [case for case in cases if case.has_call()]
+
+
+def try_case(case):
+    """Makes the call of a case, in the directory with its files. It has to give the bytes of the case, or to refuse with its line."""
+    told = ""
+    try:
+        out = CALLS[case.command](case)
+    except tourkit.Refused as fault:
+        out = b""
+        told = f"{fault}\n" if case.status == 1 else f"tourkit: {fault}\n"
+    except OSError:
+        assert case.status == 3 and "14 Read" in case.stderr, "a file could not be read"
+        return
+    told = re.sub("<(problem|tour|solution|claim)>", "-", told).replace("initial_tour does", "--initial-tour does")
+    assert told == (case.stderr if case.status and not case.stdout else ""), told
+    assert out == case.stdout, out
+
+
+def check(case):
+    problem, tour = case.files()
+    verdict = tourkit.check(problem, tour)
+    try_lists(problem, tour, verdict)
+    return said(case, verdict)
+
+
+def try_lists(problem, tour, verdict):
+    """Checks the tour as a list of cities too, and the problem by what a second reader finds in it."""
+    cities = texts.read_tour(bytes_of(tour))
+    assert tourkit.check(problem, cities) == verdict, "another verdict on the list"
+    assert tourkit.check(problem_of(bytes_of(problem)), cities) == verdict, "another verdict on the problem in memory"
+
+
+def bytes_of(given):
+    return given if isinstance(given, bytes) else Path(given).read_bytes()
+
+
+def problem_of(text):
+    """A problem of the coordinates or of the weights that a second reader finds in a text."""
+    read = texts.read_problem(text)
+    cities = range(1, read.n + 1)
+    if read.kind == b"EXPLICIT":
+        return tourkit.Problem.from_matrix([[read.weights.get((a, b), 0) for b in cities] for a in cities])
+    points = [[decimal(units) for units in read.points[city]] for city in cities]
+    return tourkit.Problem.from_points(points, read.kind.decode())
+
+
+def decimal(units):
+    """A coordinate as a decimal number."""
+    return f"{'-' if units < 0 else ''}{abs(units) // texts.UNIT}.{abs(units) % texts.UNIT:09}"
+
+
+def check_solution(case):
+    problem, solution = case.files()
+    verdict = tourkit.check_solution(problem, solution)
+    routes, cost = texts.read_solution(bytes_of(solution))
+    listed = tourkit.check_solution(problem, routes)
+    if verdict.fault == "WrongCost":
+        assert listed and listed.cost == verdict.counted, "another cost of the lists"
+    else:
+        assert listed == verdict, "another verdict on the lists"
+    return said(case, verdict)
+
+
+def said(case, verdict):
+    """The line of a verdict, or its object."""
+    assert bool(verdict) == (case.status == 0), verdict
+    known = {name: value for name, value in vars(verdict).items() if value is not None}
+    return json_of(known) if "--json" in case.words else f"{verdict}\n".encode()
+
+
+def json_of(members):
+    return json.dumps(members, separators=(",", ":")).encode() + b"\n"
+
+
+def near(case):
+    problem, *rest = case.files()
+    lists = tourkit.near(problem, **({"k": int(rest[1])} if rest else {}))
+    assert lists == tourkit.near(problem_of(bytes_of(problem)), lists.shape[1]), "other near lists of the problem in memory"
+    lines = (f"{city}: {' '.join(map(str, cities))}\n" for city, cities in enumerate(lists.tolist(), 1))
+    return "".join(lines).encode()
+
+
+def matrix(case):
+    """The matrix, which the package gives in full, in the format of the case."""
+    problem, form = case.files()
+    head, _, numbers = tourkit.matrix(problem).partition(b"FULL_MATRIX\nEDGE_WEIGHT_SECTION\n")
+    rows = tourkit.distances(problem).tolist()
+    assert numbers == lines_of(rows) + b"EOF\n", "other numbers than the distances"
+    kept = [ROWS[form](row, i) for i, row in enumerate(rows)]
+    return head + f"{form}\nEDGE_WEIGHT_SECTION\n".encode() + lines_of(filter(None, kept)) + b"EOF\n"
+
+
+def lines_of(rows):
+    return "".join(" ".join(map(str, row)) + "\n" for row in rows).encode()
+
+
+def plot(case):
+    return tourkit.plot(*case.files()).svg
+
+
+def solve(case):
+    """A search by the options of a case, or by its parameter file."""
+    options = [word for word in case.words if word.startswith("-") and word not in ("-", "--json", "--progress")]
+    return solve_options(case) if options else solve_parameters(case)
+
+
+def solve_options(case):
+    problem, *rest = [word for word in case.words[1:] if word not in ("--json", "--progress")]
+    given, output = {}, None
+    while rest:
+        word = rest.pop(0)
+        if word in ("-o", "--output"):
+            output = rest.pop(0)
+        elif word == "--final-sweep":
+            given["final_sweep"] = True
+        else:
+            name = word[2:].replace("-", "_")
+            given[name] = case.given(OPTIONS[name](rest.pop(0)))
+    found = tourkit.solve(case.given(problem), **given)
+    assert output is None or found.text == case.written(output), found.text
+    return told_of(case, found)
+
+
+def solve_parameters(case):
+    """The call for C takes the text of a parameter file. What it accepts can be asked for by arguments too."""
+    file = next(word for word in case.words[1:] if not word.startswith("--"))
+    parameters = Text(bytes_of(case.given(file)), "parameters", file)
+    try:
+        values, ignored = texts.read_params(parameters.data)
+    except texts.ParamFault:
+        search(parameters, Text(b"", "problem"), Text(b"", "tour"), 1)
+        raise AssertionError("parameters that a second reader refuses") from None
+    names = {key: values.get(key) for key in (b"PROBLEM_FILE", b"INITIAL_TOUR_FILE", b"TOUR_FILE", b"SOLUTION_FILE")}
+    problem = Text(bytes_of(names[b"PROBLEM_FILE"]), "problem", names[b"PROBLEM_FILE"])
+    initial = names[b"INITIAL_TOUR_FILE"]
+    start = Text(bytes_of(initial), "tour", initial) if initial else Text(b"", "tour")
+    lines, text = search_named(parameters, problem, start, values)
+    output = names[b"TOUR_FILE"] or names[b"SOLUTION_FILE"]
+    assert output is None or text == case.written(output), text
+    arguments = {name: plain(values[key]) for name, key in KEYS.items() if key in values}
+    found = tourkit.solve(problem.file, **arguments)
+    assert found.text == text, "another search by arguments"
+    ignored = [key.decode() for key in ignored]
+    assert lines == b"".join(f"ignored {key}\n".encode() for key in ignored) + lines_of_search(found), lines
+    return told_of(case, found, ignored)
+
+
+def search_named(parameters, problem, start, values):
+    """The search of a parameter file. A refused key has the name of the file."""
+    try:
+        return search(parameters, problem, start, values.get(b"RUNS", 10))
+    except tourkit.Refused as fault:
+        raise tourkit.Refused(str(fault).replace("initial_tour does", "INITIAL_TOUR_FILE does"), fault.number, fault.name) from None
+
+
+def plain(value):
+    """The value of a key as an argument."""
+    if value in (b"YES", b"NO"):
+        return value == b"YES"
+    return value.decode() if isinstance(value, bytes) else value
+
+
+def told_of(case, found, ignored=()):
+    """The lines of a search, or its object."""
+    if "--json" in case.words:
+        return json_of({"ignored": list(ignored), **object_of(found)})
+    return b"".join(f"ignored {key}\n".encode() for key in ignored) + lines_of_search(found)
+
+
+def object_of(found):
+    """What a search found, by the names that --json has."""
+    if isinstance(found, tourkit.Tour):
+        return {"runs": [dataclasses.asdict(run) for run in found.runs], "best": found.length}
+    work = {name: getattr(found, name) for name in ("moves", "tests", "swaps")}
+    return {"savings": found.savings, "routes": len(found.customers), "improved": found.cost, **work, "best": found.cost}
+
+
+def lines_of_search(found):
+    """What the program prints of a search."""
+    members = object_of(found)
+    lines = [RUN.format(**run) for run in members["runs"]] if "runs" in members else [ROUTES.format(**members)]
+    return "".join([*lines, "best {best}\n".format(**members)]).encode()
+
+
+CALLS = {"check": check, "checksol": check_solution, "near": near, "matrix": matrix, "plot": plot, "solve": solve}
