@@ -7,7 +7,7 @@ import struct
 from typing import Callable, List, Union
 
 from ._library import NO_ROOM, Answer, slice_of
-from ._limits import within
+from ._limits import CANDIDATE_LIMIT, within
 from ._problem import Problem, problem_of
 from ._room import room_for
 from ._text import Bytes, File
@@ -21,7 +21,7 @@ def near(problem: Union[Problem, File, Bytes], k: int = 5) -> memoryview:
         >>> tourkit.near("square.tsp", k=2).tolist()
         [[3, 4], [3, 4], [1, 2], [1, 2]]
     """
-    asked, k = problem_of(problem), within("k", k, 1, 100)
+    asked, k = problem_of(problem), within("k", k, 1, CANDIDATE_LIMIT)
     n = asked.guess_size()
     entries = filled("I", n * min(k, n - 1), lambda *out: asked.call("near", k, *out))
     return shaped(entries, near_shape(len(entries), k))

@@ -1,9 +1,20 @@
-"""The limits of arguments."""
+"""The limits of problems, as crates/tk_problem/src/limits.rt has them, and how arguments are kept within limits."""
 
 from __future__ import annotations
 
 import operator
 from typing import SupportsIndex
+
+# The most cities of a problem, and of one by a table of its distances.
+CITY_LIMIT = 100_000
+TABLE_LIMIT = 5_000
+
+# The greatest magnitude of a coordinate, and the greatest distance.
+COORDINATE_LIMIT = 1_000_000_000
+DISTANCE_LIMIT = 4_000_000_000
+
+# The longest near list of a city.
+CANDIDATE_LIMIT = 100
 
 
 def within(name: str, number: SupportsIndex, least: int, most: int) -> int:

@@ -7,6 +7,7 @@ from array import array
 from typing import Any, Iterable, Sequence, Tuple
 
 from ._library import slice_of
+from ._limits import CITY_LIMIT, COORDINATE_LIMIT
 
 # Distance types by their numbers in `tourkit.h`.
 KINDS = {"EUC_2D": 0, "CEIL_2D": 1, "MAN_2D": 2, "MAX_2D": 3, "ATT": 4}
@@ -14,8 +15,7 @@ KINDS = {"EUC_2D": 0, "CEIL_2D": 1, "MAN_2D": 2, "MAX_2D": 3, "ATT": 4}
 # Coordinates are exact in units of 10^-9.
 PLACES = 9
 SCALE = 10**PLACES
-FARTHEST = 10**9 * SCALE
-MOST = 100_000
+FARTHEST = COORDINATE_LIMIT * SCALE
 
 EXACT = decimal.Context(prec=100)
 
@@ -30,7 +30,7 @@ def units(coordinate: Any) -> int:
         except (ArithmeticError, ValueError):
             raise ValueError(f"not a coordinate: {coordinate!r}") from None
     if abs(found) > FARTHEST:
-        raise ValueError(f"a coordinate is from -1,000,000,000 to 1,000,000,000, and not {coordinate}")
+        raise ValueError(f"a coordinate is from {-COORDINATE_LIMIT:,} to {COORDINATE_LIMIT:,}, and not {coordinate}")
     return found
 
 
@@ -52,8 +52,8 @@ class Points:
             raise ValueError(f"a kind of distances is one of {', '.join(KINDS)}, and not {kind!r}")
         listed = points.tolist() if hasattr(points, "tolist") else points
         pairs = [(units(x), units(y)) for x, y in listed]
-        if not 2 <= len(pairs) <= MOST:
-            raise ValueError(f"a problem has 2 to {MOST:,} cities, and not {len(pairs):,}")
+        if not 2 <= len(pairs) <= CITY_LIMIT:
+            raise ValueError(f"a problem has 2 to {CITY_LIMIT:,} cities, and not {len(pairs):,}")
         self.kind = kind
         self.size = len(pairs)
         self.xs = array("q", [x for x, _ in pairs])

@@ -8,7 +8,8 @@ import re
 from typing import Any, Iterable, Optional, Sequence, Union
 
 from ._library import REFUSED, Answer, call, slice_of
-from ._points import MOST, Points
+from ._limits import CITY_LIMIT
+from ._points import Points
 from ._text import Bytes, File, Text, text_of
 from ._weights import Weights
 from ._writing import LINE, write_texts
@@ -133,7 +134,7 @@ class Problem:
         if not isinstance(self._given, Text):
             return self.size
         found = DIMENSION.search(self.text)
-        return min(int(found[1]), MOST) if found else 1
+        return min(int(found[1]), CITY_LIMIT) if found else 1
 
     def call(self, task: str, *arguments: Any) -> Answer:
         """Makes a call over arrays, in the form that fits what was given."""

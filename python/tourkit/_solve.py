@@ -6,7 +6,7 @@ import dataclasses
 from typing import Any, Callable, Dict, Iterable, Optional, Tuple, Union
 
 from ._claims import claimed_text, tour_text
-from ._limits import within
+from ._limits import CANDIDATE_LIMIT, within
 from ._problem import Problem, problem_of
 from ._results import Routes, Tour, result_of
 from ._text import Bytes, File, Text
@@ -51,7 +51,7 @@ def solve(
     first = within("seed", seed, 0, SEEDS - 1)
     keys = {
         "RUNS": within("runs", runs, 1, 10_000),
-        "MAX_CANDIDATES": within("candidates", candidates, 1, 100),
+        "MAX_CANDIDATES": within("candidates", candidates, 1, CANDIDATE_LIMIT),
         "CONSTRUCTION": construction_of(construction),
         "FINAL_SWEEP": "YES" if final_sweep else "NO",
         "OR_SEGMENT": within("or_segment", or_segment, 1, 3),

@@ -6,9 +6,7 @@ from array import array
 from typing import Any, Iterable, Iterator, List, Sequence, Tuple
 
 from ._library import slice_of
-
-GREATEST = 4_000_000_000
-MOST = 5_000
+from ._limits import DISTANCE_LIMIT, TABLE_LIMIT
 
 
 def rows_in(matrix: Any) -> Iterator[List[int]]:
@@ -24,17 +22,17 @@ def read_matrix(matrix: Any) -> Tuple[int, array[int]]:
     """How many rows a matrix has, and its numbers. Those on its diagonal are not looked at."""
     size, numbers = 0, array("I")
     for size, row in enumerate(rows_in(matrix), 1):
-        if size > MOST or size > len(row):
+        if size > TABLE_LIMIT or size > len(row):
             break
         row[size - 1] = 0
         try:
             numbers.extend(array("I", row))
         except OverflowError:
-            raise ValueError(f"row {size} has a distance that is not from 0 to {GREATEST:,}") from None
-    if not 2 <= size <= MOST or len(numbers) != size * size:
-        raise ValueError(f"a matrix has as many columns as rows, 2 to {MOST:,}")
-    if max(numbers) > GREATEST:
-        raise ValueError(f"a distance is from 0 to {GREATEST:,}, and not {max(numbers):,}")
+            raise ValueError(f"row {size} has a distance that is not from 0 to {DISTANCE_LIMIT:,}") from None
+    if not 2 <= size <= TABLE_LIMIT or len(numbers) != size * size:
+        raise ValueError(f"a matrix has as many columns as rows, 2 to {TABLE_LIMIT:,}")
+    if max(numbers) > DISTANCE_LIMIT:
+        raise ValueError(f"a distance is from 0 to {DISTANCE_LIMIT:,}, and not {max(numbers):,}")
     return size, numbers
 
 
