@@ -45,7 +45,7 @@ _tourkit_arguments() {
                 OutOfRange RepeatedCity"
             _tourkit_files
             ;;
-        explain:*) ;;
+        explain:* | --completions:*) ;;
         *) _tourkit_files ;;
     esac
 }
@@ -61,7 +61,8 @@ _tourkit() {
         before=${COMP_WORDS[COMP_CWORD - 2]}
     fi
     case $COMP_CWORD:$before:$word in
-        1:*) _tourkit_words "$commands -h --help -V --version" ;;
+        1:*) _tourkit_words "$commands --completions -h --help -V --version" ;;
+        *:--completions:*) _tourkit_words "bash zsh fish" ;;
         *:-k:* | *:--trials:* | *:--candidates:* | *:--runs:* | *:--seed:*) ;;
         *:--or-segment:*) _tourkit_words "1 2 3" ;;
         *:--construction:*) _tourkit_words "nearest savings" ;;

@@ -2,6 +2,7 @@
 
 complete -c tourkit -s h -l help -d 'Print help'
 complete -c tourkit -n __fish_use_subcommand -s V -l version -d 'Print version'
+complete -c tourkit -n __fish_use_subcommand -l completions -x -a 'bash zsh fish' -d 'print the completions for a shell'
 complete -c tourkit -n __fish_use_subcommand -f -a check -d 'Checks a tour and prints its length'
 complete -c tourkit -n __fish_use_subcommand -f -a checksol -d 'Checks the routes of a CVRP and their cost'
 complete -c tourkit -n __fish_use_subcommand -f -a explain -d 'Explains a fault, or what is wrong with a file'

@@ -1,12 +1,13 @@
 //! What the words of a call ask for.
 
+use crate::completions::Shell;
 use crate::list_length::ListLength;
 use crate::search_options::SearchOptions;
 
 /// The name of standard input.
 pub const STANDARD: &str = "-";
 
-/// What the words of a call ask for: a subcommand with its files. [`STANDARD`] names standard input.
+/// What the words of a call ask for: a subcommand with its files, or completions. [`STANDARD`] names standard input.
 #[derive(Drop)]
 pub enum Asked<'a> {
     /// `check PROBLEM TOUR [--json]`
@@ -20,6 +21,10 @@ pub enum Asked<'a> {
         problem: &'a str,
         solution: &'a str,
         json: bool,
+    },
+    /// `--completions SHELL`
+    Completions {
+        shell: Shell,
     },
     /// `explain WHAT [LINE]`
     Explain {

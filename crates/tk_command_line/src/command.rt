@@ -1,9 +1,14 @@
 //! The program with its subcommands.
+use crate::completions::COMPLETIONS;
 use crate::subcommand::Subcommand;
 use crate::subcommands;
 use clap::error::ErrorKind;
 use clap::{Command, Error};
 use std::alloc::{AllocError, Global};
+
+/// How the program is called.
+const USAGE: &str = "tourkit <COMMAND>
+       tourkit --completions <SHELL>";
 
 /// What `--help` ends with.
 const HELP: &str = "An invalid file is reported on standard error as FILE:LINE: NUMBER NAME.
@@ -18,16 +23,19 @@ Exit status:
 Example:
   tourkit check examples/tri.tsp examples/tri.tour";
 
-/// The program with its subcommands.
+/// The program with its subcommands. One of them has to be named, unless completions are asked for.
 ///
 /// # Errors
 /// An error if memory runs out.
-pub fn tourkit<'a>(alloc: Global) -> Result<Command<'a>, AllocError> {
+pub fn tourkit<'a>(alloc: Global, for_completions: bool) -> Result<Command<'a>, AllocError> {
     let mut made = Command::new(alloc, "tourkit")
         .version("0.1.0")
         .about("Reads, checks and improves tours and routes")
+        .override_usage(USAGE)
         .after_help(HELP)
-        .subcommand_required(true);
+        .arg(COMPLETIONS.arg(alloc))?
+        .args_conflicts_with_subcommands(true)
+        .subcommand_required(!for_completions);
     for subcommand in &subcommands::all() {
         made = with(alloc, made, subcommand)?;
     }

@@ -4,6 +4,7 @@
 mod argument;
 mod asked;
 mod command;
+mod completions;
 mod list_length;
 mod parsing;
 mod search_options;
@@ -12,6 +13,7 @@ mod subcommands;
 mod tips;
 
 pub use asked::{Asked, STANDARD, Shown};
+pub use completions::Shell;
 pub use list_length::ListLength;
 pub use parsing::{Refusal, parse};
 pub use search_options::SearchOptions;

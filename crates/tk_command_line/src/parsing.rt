@@ -2,6 +2,7 @@
 
 use crate::asked::{Asked, STANDARD};
 use crate::command::{refused, tourkit};
+use crate::completions;
 use crate::search_options::SearchOptions;
 use crate::subcommand::Subcommand;
 use crate::subcommands::{check, checksol, explain, matrix, near, plot, solve};
@@ -70,7 +71,8 @@ fn asked<'a>(alloc: Global, words: &'a [String]) -> Result<Option<Asked<'a>>, Er
 
 /// What the words ask for, if they can be parsed.
 fn read<'a>(alloc: Global, words: &'a [String]) -> Result<Option<Asked<'a>>, Error> {
-    let matches = tourkit(alloc)?.try_get_matches_from(words)?;
+    let command = tourkit(alloc, completions::are_asked(words))?;
+    let matches = command.try_get_matches_from(words)?;
     Ok(asked_by(&matches))
 }
 
@@ -115,16 +117,17 @@ fn misfit(asked: &Asked<'_>) -> Option<(Subcommand, &'static str)> {
     }
 }
 
-/// What a subcommand and its words ask for.
+/// What a subcommand and its words ask for, or words without a subcommand.
 fn asked_by<'a>(matches: &ArgMatches<'a>) -> Option<Asked<'a>> {
-    match matches.subcommand()? {
-        ("check", words) => check::asked(words),
-        ("checksol", words) => checksol::asked(words),
-        ("explain", words) => explain::asked(words),
-        ("matrix", words) => matrix::asked(words),
-        ("near", words) => near::asked(words),
-        ("plot", words) => plot::asked(words),
-        ("solve", words) => solve::asked(words),
-        _ => None,
+    match matches.subcommand() {
+        Some(("check", words)) => check::asked(words),
+        Some(("checksol", words)) => checksol::asked(words),
+        Some(("explain", words)) => explain::asked(words),
+        Some(("matrix", words)) => matrix::asked(words),
+        Some(("near", words)) => near::asked(words),
+        Some(("plot", words)) => plot::asked(words),
+        Some(("solve", words)) => solve::asked(words),
+        Some(_) => None,
+        None => completions::asked(matches),
     }
 }

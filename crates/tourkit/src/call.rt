@@ -2,6 +2,7 @@
 
 use crate::commands::check::check_command;
 use crate::commands::checksol::checksol_command;
+use crate::commands::completions::completions_command;
 use crate::commands::explain::explain_command;
 use crate::commands::matrix::matrix_command;
 use crate::commands::near::near_command;
@@ -24,7 +25,7 @@ pub fn run_call(rt: &HostRuntime) -> ExitCode {
     }
 }
 
-/// Runs a subcommand.
+/// Runs a subcommand, or prints completions.
 fn run(rt: &HostRuntime, asked: Asked<'_>) -> ExitCode {
     match asked {
         Asked::Check {
@@ -37,6 +38,7 @@ fn run(rt: &HostRuntime, asked: Asked<'_>) -> ExitCode {
             solution,
             json,
         } => checksol_command(rt, problem, solution, json),
+        Asked::Completions { shell } => completions_command(rt, shell),
         Asked::Explain { what, line } => explain_command(rt, what, line),
         Asked::Matrix { problem, format } => matrix_command(rt, problem, format),
         Asked::Near { problem, length } => near_command(rt, problem, length),

@@ -1,6 +1,7 @@
-//! The subcommands over files.
+//! The subcommands over files, and what is printed without one.
 pub mod check;
 pub mod checksol;
+pub mod completions;
 pub mod explain;
 pub mod matrix;
 pub mod near;

@@ -5,6 +5,7 @@ mod answer;
 mod best;
 mod call;
 mod commands;
+mod embedded;
 mod input;
 mod json;
 mod json_lines;

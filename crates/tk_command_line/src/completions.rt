@@ -1,0 +1,42 @@
+//! The words that ask for completions.
+
+use crate::argument::{Argument, Form};
+use crate::asked::Asked;
+use clap::ArgMatches;
+use clap::builder::ValueParser;
+
+/// A shell that completions are for.
+#[derive(Clone, Copy)]
+pub enum Shell {
+    Bash,
+    Zsh,
+    Fish,
+}
+
+/// The names of the shells.
+const SHELLS: [&str; 3] = ["bash", "zsh", "fish"];
+
+/// The option that asks for completions.
+pub const COMPLETIONS: Argument = Argument {
+    name: "completions",
+    help: "print the completions for a shell",
+    form: Form::Long("SHELL", ValueParser::Names(&SHELLS)),
+};
+
+/// Whether the first word of a call is this option. No subcommand comes with it.
+pub fn are_asked(words: &[String]) -> bool {
+    words
+        .get(1)
+        .is_some_and(|word| word.as_str().starts_with("--completions"))
+}
+
+/// What the words ask for.
+pub fn asked<'a>(words: &ArgMatches<'a>) -> Option<Asked<'a>> {
+    let shell = match words.get_str(COMPLETIONS.name)? {
+        "bash" => Shell::Bash,
+        "zsh" => Shell::Zsh,
+        "fish" => Shell::Fish,
+        _ => return None,
+    };
+    Some(Asked::Completions { shell })
+}

@@ -1,0 +1,2 @@
+//! Files of the repository that the program prints.
+pub mod completions;

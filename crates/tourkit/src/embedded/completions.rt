@@ -1,0 +1,215 @@
+//! Files that the program prints as they are. `packaging/embed` writes this module from them.
+
+/// The file `packaging/completions/tourkit.bash`.
+pub static BASH: &[u8] =
+    br#"# Completion for tourkit in bash. The package bash-completion finds it by its name; it needs nothing of that package.
+
+# Offers those of these words that begin with the word at the cursor.
+_tourkit_words() {
+    local found
+    mapfile -t found < <(compgen -W "$1" -- "$word")
+    COMPREPLY+=("${found[@]}")
+}
+
+# Offers files.
+_tourkit_files() {
+    local found
+    mapfile -t found < <(compgen -f -- "$word")
+    COMPREPLY+=("${found[@]}")
+    compopt -o filenames 2>/dev/null
+}
+
+# Offers the options of the command.
+_tourkit_options() {
+    case ${COMP_WORDS[1]} in
+        check) _tourkit_words "--json -h --help" ;;
+        checksol) _tourkit_words "--json -h --help" ;;
+        explain) _tourkit_words "-h --help" ;;
+        matrix) _tourkit_words "-h --help" ;;
+        near) _tourkit_words "-k -h --help" ;;
+        plot) _tourkit_words "-h --help" ;;
+        solve) _tourkit_words "-o --output --trials --candidates --runs --seed --or-segment --construction --final-sweep --initial-tour
+            --progress --json -h --help" ;;
+    esac
+}
+
+# Offers the command's next argument.
+_tourkit_arguments() {
+    local place given=0
+    for ((place = 2; place < COMP_CWORD; place++)); do
+        [[ ${COMP_WORDS[place]} == -?* ]] || given=$((given + 1))
+    done
+    case ${COMP_WORDS[1]}:$given in
+        help:*) _tourkit_words "$commands" ;;
+        matrix:1) _tourkit_words "FULL_MATRIX UPPER_ROW LOWER_ROW UPPER_DIAG_ROW LOWER_DIAG_ROW UPPER_COL LOWER_COL UPPER_DIAG_COL
+            LOWER_DIAG_COL" ;;
+        explain:0)
+            _tourkit_words "UnknownKeyword Repeated Missing Unsupported BadNumber OutOfLimit BadNode NotSymmetric Truncated TrailingData
+                BadDepot DemandOverCapacity TooLong Read NoMemory UnknownKey RepeatedKey BadValue MissingProblem DollarInName WrongCount
+                OutOfRange RepeatedCity"
+            _tourkit_files
+            ;;
+        explain:* | --completions:*) ;;
+        *) _tourkit_files ;;
+    esac
+}
+
+_tourkit() {
+    local word=${COMP_WORDS[COMP_CWORD]} before=${COMP_WORDS[COMP_CWORD - 1]}
+    local commands="check checksol explain matrix near plot solve help"
+    COMPREPLY=()
+    # Bash takes --option=value for three words.
+    if [ "$word" = "=" ]; then
+        word=
+    elif [ "$before" = "=" ]; then
+        before=${COMP_WORDS[COMP_CWORD - 2]}
+    fi
+    case $COMP_CWORD:$before:$word in
+        1:*) _tourkit_words "$commands --completions -h --help -V --version" ;;
+        *:--completions:*) _tourkit_words "bash zsh fish" ;;
+        *:-k:* | *:--trials:* | *:--candidates:* | *:--runs:* | *:--seed:*) ;;
+        *:--or-segment:*) _tourkit_words "1 2 3" ;;
+        *:--construction:*) _tourkit_words "nearest savings" ;;
+        *:-o:* | *:--output:* | *:--initial-tour:* | *:*[\<\>]:*) _tourkit_files ;;
+        *:*:-*) _tourkit_options ;;
+        *) _tourkit_arguments ;;
+    esac
+}
+complete -F _tourkit tourkit
+"#;
+
+/// The file `packaging/completions/_tourkit`.
+pub static ZSH: &[u8] = br#"#compdef tourkit
+# Completion for tourkit in zsh.
+
+# Offers what explain takes: the names of faults, and files.
+_tourkit_what() {
+    local -a faults
+    faults=(UnknownKeyword Repeated Missing Unsupported BadNumber OutOfLimit BadNode NotSymmetric Truncated TrailingData BadDepot
+        DemandOverCapacity TooLong Read NoMemory UnknownKey RepeatedKey BadValue MissingProblem DollarInName WrongCount OutOfRange
+        RepeatedCity)
+    _alternative 'faults:fault:compadd -a faults' 'files:file:_files'
+}
+
+_tourkit() {
+    local curcontext=$curcontext state line
+    local -a commands help
+    commands=(
+        'check:Checks a tour and prints its length'
+        'checksol:Checks the routes of a CVRP and their cost'
+        'explain:Explains a fault, or what is wrong with a file'
+        'matrix:Prints a problem as a TSP with explicit weights'
+        'near:Prints the nearest other cities of each city'
+        'plot:Draws a problem, and a tour or routes of it, as SVG'
+        'solve:Searches for a short tour or for short routes'
+        'help:Print this message or the help of the given subcommand(s)'
+    )
+    help=('(- *)'{-h,--help}'[Print help]')
+
+    _arguments -C $help '(- *)'{-V,--version}'[Print version]' \
+        '(- : *)--completions=[print the completions for a shell]:shell:(bash zsh fish)' \
+        '1:command:->command' '*::argument:->argument'
+    if [[ $state = command ]]; then
+        _describe command commands
+        return
+    fi
+    case $words[1] in
+        (check)
+            _arguments -s $help \
+                '--json[print one JSON object in place of lines]' \
+                '1:problem:_files' '2:tour:_files'
+            ;;
+        (checksol)
+            _arguments -s $help \
+                '--json[print one JSON object in place of lines]' \
+                '1:problem:_files' '2:solution:_files'
+            ;;
+        (explain)
+            _arguments -s $help '1:fault or file:_tourkit_what' '2:line: '
+            ;;
+        (matrix)
+            _arguments -s $help '1:problem:_files' \
+                '2:format:(FULL_MATRIX UPPER_ROW LOWER_ROW UPPER_DIAG_ROW LOWER_DIAG_ROW UPPER_COL LOWER_COL UPPER_DIAG_COL LOWER_DIAG_COL)'
+            ;;
+        (near)
+            _arguments -s $help \
+                '-k+[how many cities a list has, 1 to 100]:number: ' \
+                '1:problem:_files'
+            ;;
+        (plot)
+            _arguments -s $help '1:problem:_files' '2:tour or solution:_files'
+            ;;
+        (solve)
+            _arguments -s $help \
+                '(-o --output)'{-o+,--output=}'[where the best tour is written, or the routes of a CVRP]:file:_files' \
+                '--trials=[how many trials a run has, 1 to 1,000,000]:number: ' \
+                '--candidates=[how many near cities of each city are tried, 1 to 100]:number: ' \
+                '--runs=[how many runs there are, 1 to 10,000]:number: ' \
+                '--seed=[what the random numbers begin with]:number: ' \
+                '--or-segment=[the most cities that an Or-move moves, 1 to 3]:number:(1 2 3)' \
+                '--construction=[how the tour is made that a run begins with]:how:(nearest savings)' \
+                '--final-sweep[go on with each trial until no city has an improving move]' \
+                '--initial-tour=[the tour that each run begins with, or - for standard input (not for a CVRP)]:tour:_files' \
+                "--progress[write each run's line to standard error when the run ends]" \
+                '--json[print one JSON object in place of lines]' \
+                '1:problem or parameters:_files'
+            ;;
+        (help)
+            _describe command commands
+            ;;
+    esac
+}
+
+_tourkit "$@"
+"#;
+
+/// The file `packaging/completions/tourkit.fish`.
+pub static FISH: &[u8] =
+    br#"# Completion for tourkit in fish. Where nothing else is said, fish offers files.
+
+complete -c tourkit -s h -l help -d 'Print help'
+complete -c tourkit -n __fish_use_subcommand -s V -l version -d 'Print version'
+complete -c tourkit -n __fish_use_subcommand -l completions -x -a 'bash zsh fish' -d 'print the completions for a shell'
+complete -c tourkit -n __fish_use_subcommand -f -a check -d 'Checks a tour and prints its length'
+complete -c tourkit -n __fish_use_subcommand -f -a checksol -d 'Checks the routes of a CVRP and their cost'
+complete -c tourkit -n __fish_use_subcommand -f -a explain -d 'Explains a fault, or what is wrong with a file'
+complete -c tourkit -n __fish_use_subcommand -f -a matrix -d 'Prints a problem as a TSP with explicit weights'
+complete -c tourkit -n __fish_use_subcommand -f -a near -d 'Prints the nearest other cities of each city'
+complete -c tourkit -n __fish_use_subcommand -f -a plot -d 'Draws a problem, and a tour or routes of it, as SVG'
+complete -c tourkit -n __fish_use_subcommand -f -a solve -d 'Searches for a short tour or for short routes'
+complete -c tourkit -n __fish_use_subcommand -f -a help -d 'Print this message or the help of the given subcommand(s)'
+
+complete -c tourkit -n '__fish_seen_subcommand_from check' -l json -d 'print one JSON object in place of lines'
+
+complete -c tourkit -n '__fish_seen_subcommand_from checksol' -l json -d 'print one JSON object in place of lines'
+
+complete -c tourkit -n '__fish_seen_subcommand_from explain; and __fish_is_nth_token 2' -d fault \
+    -a 'UnknownKeyword Repeated Missing Unsupported BadNumber OutOfLimit BadNode NotSymmetric Truncated TrailingData BadDepot
+        DemandOverCapacity TooLong Read NoMemory UnknownKey RepeatedKey BadValue MissingProblem DollarInName WrongCount OutOfRange
+        RepeatedCity'
+complete -c tourkit -n '__fish_seen_subcommand_from explain; and __fish_is_nth_token 3' -f
+
+complete -c tourkit -n '__fish_seen_subcommand_from matrix; and __fish_is_nth_token 3' -f \
+    -a 'FULL_MATRIX UPPER_ROW LOWER_ROW UPPER_DIAG_ROW LOWER_DIAG_ROW UPPER_COL LOWER_COL UPPER_DIAG_COL LOWER_DIAG_COL'
+
+complete -c tourkit -n '__fish_seen_subcommand_from near' -s k -x -d 'how many cities a list has, 1 to 100'
+
+complete -c tourkit -n '__fish_seen_subcommand_from solve' -s o -l output -r -F \
+    -d 'where the best tour is written, or the routes of a CVRP'
+complete -c tourkit -n '__fish_seen_subcommand_from solve' -l trials -x -d 'how many trials a run has, 1 to 1,000,000'
+complete -c tourkit -n '__fish_seen_subcommand_from solve' -l candidates -x -d 'how many near cities of each city are tried, 1 to 100'
+complete -c tourkit -n '__fish_seen_subcommand_from solve' -l runs -x -d 'how many runs there are, 1 to 10,000'
+complete -c tourkit -n '__fish_seen_subcommand_from solve' -l seed -x -d 'what the random numbers begin with'
+complete -c tourkit -n '__fish_seen_subcommand_from solve' -l or-segment -x -a '1 2 3' \
+    -d 'the most cities that an Or-move moves, 1 to 3'
+complete -c tourkit -n '__fish_seen_subcommand_from solve' -l construction -x -a 'nearest savings' \
+    -d 'how the tour is made that a run begins with'
+complete -c tourkit -n '__fish_seen_subcommand_from solve' -l final-sweep \
+    -d 'go on with each trial until no city has an improving move'
+complete -c tourkit -n '__fish_seen_subcommand_from solve' -l initial-tour -r -F \
+    -d 'the tour that each run begins with, or - for standard input (not for a CVRP)'
+complete -c tourkit -n '__fish_seen_subcommand_from solve' -l progress -d 'write each run\'s line to standard error when the run ends'
+complete -c tourkit -n '__fish_seen_subcommand_from solve' -l json -d 'print one JSON object in place of lines'
+
+complete -c tourkit -n '__fish_seen_subcommand_from help' -f -a 'check checksol explain matrix near plot solve help'
+"#;
