@@ -1,4 +1,5 @@
-# Completion for tourkit in bash. The package bash-completion finds it by its name; it needs nothing of that package.
+# Completion for tourkit in bash. The package bash-completion finds it by its name; it needs nothing of that
+# package.
 
 # Offers those of these words that begin with the word at the cursor.
 _tourkit_words() {
@@ -23,9 +24,9 @@ _tourkit_options() {
         explain) _tourkit_words "-h --help" ;;
         matrix) _tourkit_words "-h --help" ;;
         near) _tourkit_words "-k -h --help" ;;
-        plot) _tourkit_words "-h --help" ;;
-        solve) _tourkit_words "-o --output --trials --candidates --runs --seed --or-segment --construction --final-sweep --initial-tour
-            --progress --json -h --help" ;;
+        plot) _tourkit_words "--html -h --help" ;;
+        solve) _tourkit_words "-o --output --trials --candidates --runs --seed --or-segment --construction
+            --final-sweep --initial-tour --progress --json -h --help" ;;
     esac
 }
 
@@ -37,12 +38,12 @@ _tourkit_arguments() {
     done
     case ${COMP_WORDS[1]}:$given in
         help:*) _tourkit_words "$commands" ;;
-        matrix:1) _tourkit_words "FULL_MATRIX UPPER_ROW LOWER_ROW UPPER_DIAG_ROW LOWER_DIAG_ROW UPPER_COL LOWER_COL UPPER_DIAG_COL
-            LOWER_DIAG_COL" ;;
+        matrix:1) _tourkit_words "FULL_MATRIX UPPER_ROW LOWER_ROW UPPER_DIAG_ROW LOWER_DIAG_ROW UPPER_COL LOWER_COL
+            UPPER_DIAG_COL LOWER_DIAG_COL" ;;
         explain:0)
-            _tourkit_words "UnknownKeyword Repeated Missing Unsupported BadNumber OutOfLimit BadNode NotSymmetric Truncated TrailingData
-                BadDepot DemandOverCapacity TooLong Read NoMemory UnknownKey RepeatedKey BadValue MissingProblem DollarInName WrongCount
-                OutOfRange RepeatedCity"
+            _tourkit_words "UnknownKeyword Repeated Missing Unsupported BadNumber OutOfLimit BadNode NotSymmetric
+                Truncated TrailingData BadDepot DemandOverCapacity TooLong Read NoMemory UnknownKey RepeatedKey BadValue
+                MissingProblem DollarInName WrongCount OutOfRange RepeatedCity"
             _tourkit_files
             ;;
         explain:* | --completions:*) ;;

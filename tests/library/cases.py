@@ -58,7 +58,7 @@ class Case:
 
     def has_call(self):
         """Whether there is a call of the package for its words."""
-        return self.command in CALLS and "--help" not in self.words and not OF_THE_PROGRAM.search(self.stderr)
+        return self.command in CALLS and not {"--help", "--html"} & set(self.words) and not OF_THE_PROGRAM.search(self.stderr)
 
     def files(self):
         """Its files, and what stands for standard input, as the package takes them."""

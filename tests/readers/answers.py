@@ -155,9 +155,33 @@ def solution_fault(problem, routes, cost):
     return None
 
 
-COLOURS = ["#0072B2", "#D55E00", "#009E73", "#CC79A7", "#E69F00", "#56B4E9", "#000000"]
-DASHES = ["none", "120 80", "1 60"]
-ENTITIES = {ord("&"): "&amp;", ord("<"): "&lt;", ord(">"): "&gt;", ord('"'): "&quot;"}
+FIRST_COLOURS = ["#0072B2", "#D55E00", "#009E73", "#CC79A7", "#E69F00", "#56B4E9", "#000000"]
+ENTITIES = {"&": "&amp;", "<": "&lt;", ">": "&gt;", '"': "&quot;"}
+
+
+def walk_of_colours():
+    """The colours from the eighth on, from red to red."""
+    red, green, blue = 190, 0, 0
+    for channel, step, count in (("g", 1, 140), ("r", -1, 190), ("b", 1, 250), ("g", -1, 140), ("r", 1, 190), ("b", -1, 250)):
+        for _ in range(count):
+            yield f"rgb({red},{green},{blue})"
+            red, green, blue = (red + step * (channel == "r"), green + step * (channel == "g"), blue + step * (channel == "b"))
+
+
+WALK = list(walk_of_colours())
+
+
+def colour(number):
+    return FIRST_COLOURS[number - 1] if number <= 7 else WALK[443 * number % 1160]
+
+
+def shown(name):
+    """A name in XML."""
+    def character(c):
+        turns = "\u202a" <= c <= "\u202e" or "\u2066" <= c <= "\u2069"
+        plain = c >= "\u00a0" and c not in "\ufffe\uffff" and not turns or " " <= c <= "~"
+        return ENTITIES.get(c, c) if plain else "?"
+    return "".join(map(character, name.decode(errors="replace")))
 
 
 def plot(problem_file, claim_file=None):
@@ -166,45 +190,51 @@ def plot(problem_file, claim_file=None):
     if problem.kind == b"EXPLICIT":
         raise Refused(f"tourkit: {problem_file}: no coordinates", 2)
     if not claim_file:
-        return picture(problem, f"{problem.n} cities", []), 0
+        return picture(problem, f"{problem.n} cities", {}), 0
     if not problem.cvrp:
         cities = read_file(claim_file, opened[1], read_tour)
         fault = tour_fault(problem.n, cities)
         if fault:
             raise Refused(fault[1], 1)
-        return picture(problem, f"tour of {problem.n} cities, length {cycle_length(problem, cities)}", [cities]), 0
+        return picture(problem, f"tour of {problem.n} cities, length {cycle_length(problem, cities)}", {1: cities}), 0
     routes, cost = read_file(claim_file, opened[1], read_solution)
     fault = solution_fault(problem, routes, cost)
     if fault:
         raise Refused(fault, 1)
     node = [None] + [c for c in range(1, problem.n + 1) if c != problem.depot]
-    paths = [[problem.depot] + [node[c] for c in route] for route in routes if route]
-    return picture(problem, f"{len(paths)} routes, cost {cost}", paths), 0
+    paths = {number: [problem.depot] + [node[c] for c in route] for number, route in enumerate(routes, 1) if route}
+    return picture(problem, f"{len(paths)} routes, cost {cost}", paths, True), 0
 
 
-def picture(problem, caption, paths):
-    """The text of a picture, of closed lines through cities."""
+def picture(problem, caption, paths, numbered=False):
+    """The text of a picture, of closed lines through cities, by their numbers."""
     cities = range(1, problem.n + 1)
     xs, ys = ([problem.points[c][axis] for c in cities] for axis in (0, 1))
     left, bottom, top = min(xs), min(ys), max(ys)
     side = max(1, max(xs) - left, top - bottom)
     spot = {c: f"{(x - left) * 10000 // side},{(top - y) * 10000 // side}" for c, x, y in zip(cities, xs, ys)}
-    height = 80 - (bottom - top) * 1000 // side
-    title = "".join(ENTITIES.get(b, chr(b)) if 32 <= b < 127 else "?" for b in problem.name) + ": " + caption
+    width, height = (-((low - high) * 1000 // side) for low, high in ((left, max(xs)), (bottom, top)))
+    room = max(200, height)
+    title = f"{shown(problem.name)}: {caption}"
     small = problem.n < 2000
-    lines = [f'<svg xmlns="http://www.w3.org/2000/svg" viewBox="0 0 1040 {height}">', f"<title>{title}</title>",
+    lines = [f'<svg xmlns="http://www.w3.org/2000/svg" viewBox="0 0 1040 {80 + room}">', f"<title>{title}</title>",
              '<rect width="100%" height="100%" fill="white"/>',
              f'<text x="20" y="40" font-family="sans-serif" font-size="24">{title}</text>',
-             '<g transform="translate(20 60) scale(0.1)" fill="none" stroke-linecap="round" stroke-linejoin="round" '
-             f'stroke-width="{20 if small else 6}">']
-    for k, path in enumerate(paths):
-        lines.append(f'<polygon stroke="{COLOURS[k % 7]}" stroke-dasharray="{DASHES[k // 7 % 3]}" points="')
-        lines += [*(spot[c] for c in path), '"/>']
+             f'<g transform="translate({20 + (1000 - width) // 2} {60 + (room - height) // 2}) scale(0.1)" fill="none" '
+             f'stroke-linecap="round" stroke-linejoin="round" stroke-width="{20 if small else 6}">']
+    for number, path in paths.items():
+        lines += [f'<polygon stroke="{colour(number)}" points="', *(spot[c] for c in path), '"/>']
     if small or not paths:
         lines.append(f'<path stroke="black" stroke-width="{60 if small else 12}" d="')
         lines += [*(f"M{spot[c]}h0" for c in cities), '"/>']
     if problem.cvrp:
         lines.append(f'<path fill="black" d="M{spot[problem.depot]}m-80,-80h160v160h-160z"/>')
+    if numbered:
+        lines.append('<g font-family="sans-serif" font-weight="bold" text-anchor="middle" '
+                     f'font-size="{140 if small else 60}">')
+        lines += [f'<text transform="translate({spot[path[1]]})" dy="-.4em" fill="{colour(number)}">{number}</text>'
+                  for number, path in paths.items()]
+        lines.append("</g>")
     return "\n".join([*lines, "</g>", "</svg>", ""])
 
 

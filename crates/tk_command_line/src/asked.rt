@@ -41,10 +41,11 @@ pub enum Asked<'a> {
         problem: &'a str,
         length: ListLength,
     },
-    /// `plot PROBLEM [TOUR | SOLUTION]`
+    /// `plot PROBLEM [TOUR | SOLUTION] [--html]`
     Plot {
         problem: &'a str,
         claim: Option<&'a str>,
+        html: bool,
     },
     /// `solve PARAMETERS [--progress] [--json]`, or `solve PROBLEM` with options of a search
     Solve {

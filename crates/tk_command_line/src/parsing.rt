@@ -93,6 +93,7 @@ fn misfit(asked: &Asked<'_>) -> Option<(Subcommand, &'static str)> {
         Asked::Plot {
             problem: STANDARD,
             claim: Some(STANDARD),
+            ..
         } => Some((plot::subcommand(), TWICE_STANDARD)),
         Asked::Solve {
             file: STANDARD,

@@ -6,17 +6,18 @@ use Rattle.tk_engines.specs.Engine.{AreRead, BeforeSecond, EndsByProblem, IsGive
 use Rattle.tk_engines.specs.declared.fault.Fault.{Fault}
 use Rattle.tk_engines.specs.declared.fault.Fault.TheVariants as faults
 use Rattle.tk_engines.specs.declared.engines.plotted.Plotted.{Plotted}
+use Rattle.tk_picture.specs.declared.picture.Form.{Form}
 use Rattle.tk_engines.specs.Plot.{Claim, HasRead, Output, plot_task}
 
-module _ (given : Bool) (Problem : Reading ProblemIs) (Second : ProblemIs → Reading Claim) (Writes : Writing Output) (p : ProblemIs) (is : Problem (Ok p)) where
-  read_from : (q : ProblemIs) (claim : Claim) → AreRead (plot_task given) (HasRead p) (Second q) q claim → AreRead (plot_task given) Problem (Second q) q claim
+module _ (form : Form) (given : Bool) (Problem : Reading ProblemIs) (Second : ProblemIs → Reading Claim) (Writes : Writing Output) (p : ProblemIs) (is : Problem (Ok p)) where
+  read_from : (q : ProblemIs) (claim : Claim) → AreRead (plot_task form given) (HasRead p) (Second q) q claim → AreRead (plot_task form given) Problem (Second q) q claim
   read_from q claim h = record { is_problem = subst (λ (v : ProblemIs). Problem (Ok v)) (sym h.is_problem) is; fits = h.fits; is_second = h.is_second }
 
-  given_from : (Written : Output → Type 0) (answer : Plotted) → IsGiven (plot_task given) (HasRead p) Second Written answer → IsGiven (plot_task given) Problem Second Written answer
+  given_from : (Written : Output → Type 0) (answer : Plotted) → IsGiven (plot_task form given) (HasRead p) Second Written answer → IsGiven (plot_task form given) Problem Second Written answer
   given_from Written answer h =
       record { problem = h.problem; second = h.second; text = h.text; read = read_from h.problem h.second h.read; together = h.together; gives = h.gives; written = h.written }
 
-  pub ends_from : (r : Result Plotted Fault) → EndsByProblem (plot_task given) (HasRead p) Second Writes r → EndsByProblem (plot_task given) Problem Second Writes r
+  pub ends_from : (r : Result Plotted Fault) → EndsByProblem (plot_task form given) (HasRead p) Second Writes r → EndsByProblem (plot_task form given) Problem Second Writes r
   ends_from (Ok answer) h = given_from (Writes (Ok tt)) answer h
   ends_from (Err (faults.Problem f)) h = elim h [ ]
   ends_from (Err faults.WrongType) h = record { problem = h.problem; is_problem = subst (λ (v : ProblemIs). Problem (Ok v)) (sym h.is_problem) is; misfit = h.misfit }

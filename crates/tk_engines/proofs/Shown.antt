@@ -25,57 +25,60 @@ use Rattle.tk_engines.specs.Lines.RouteLine.{route_verdict_line}
 use Rattle.tk_tour.proofs.CitiesOfTours.{cities_of_tour}
 use Rattle.tk_engines.proofs.PrintedLines.TourLines.{tour_length_same}
 use Rattle.tk_engines.proofs.ReadTables.{read_distance-weights, read_distance_is}
-use Rattle.tk_picture.specs.declared.caption.Caption.{Caption}
-use Rattle.tk_picture.specs.declared.picture.Lines.{Lines}
+use Rattle.tk_picture.specs.declared.picture.Form.{Form}
 use Rattle.tk_picture.specs.declared.picture.Picture.{Picture}
+use Rattle.tk_picture.specs.declared.subject.Subject.{Subject}
 use Rattle.tk_picture.specs.declared.view.View.{View}
 use Rattle.tk_picture.specs.Frames.{IsFrame}
-use Rattle.tk_picture.specs.PictureText.{picture_text}
-use Rattle.tk_picture.specs.Pictures.{paths_of, text_of}
-use Rattle.tk_engines.specs.Plot.{Refused, IsPicture, IsRouteOutput, IsTourOutput, IsViewOf, places_in}
+use Rattle.tk_picture.specs.Pictures.{drawing_of, form_text, text_in}
+use Rattle.tk_engines.specs.Plot.{Refused, IsPicture, IsRouteOutput, IsTourOutput, IsViewOf, demands_in, places_in}
 
 depot_read : (o : Option Routing) → option_map (λ r. r.depot) (routing_is o) ≡ option_map (λ r. r.depot) o
 depot_read None = refl
 depot_read (Some r) = refl
 
 -- a picture of a problem's view is one of the problem
-pub picture_drawn : (p : Problem) (picture : Picture) (v : View) (caption : Caption) (lines : Lines) → IsViewOf (problem_is p) v → picture.name.now ≡ p.name.items → picture.view ≡ v
-    → picture.caption ≡ caption → picture.lines ≡ lines → picture.depot ≡ option_map (λ r. r.depot) p.routing → IsPicture (problem_is p) caption (paths_of lines) (text_of picture)
-picture_drawn p picture v caption lines is name view captioned drawn depot = record {
-  frame = v.frame;
-  is_frame = subst (λ places. IsFrame places v.frame) is.places is.frame;
-  is = ap (λ x. picture_text x.frame (places_of x.places) picture.name.now picture.caption (paths_of picture.lines) picture.depot) view
-      ∙ ap (λ places. picture_text v.frame places picture.name.now picture.caption (paths_of picture.lines) picture.depot) is.places
-      ∙ ap (λ x. picture_text v.frame (places_in (weights_are p.weights)) x picture.caption (paths_of picture.lines) picture.depot) name
-      ∙ ap (λ x. picture_text v.frame (places_in (weights_are p.weights)) p.name.items x (paths_of picture.lines) picture.depot) captioned
-      ∙ ap (λ x. picture_text v.frame (places_in (weights_are p.weights)) p.name.items caption (paths_of x) picture.depot) drawn
-      ∙ ap (λ x. picture_text v.frame (places_in (weights_are p.weights)) p.name.items caption (paths_of lines) x) (depot ∙ sym (depot_read p.routing));
-}
+pub picture_drawn : (form : Form) (p : Problem) (picture : Picture) (v : View) (subject : Subject) → IsViewOf (problem_is p) v → picture.name.now ≡ p.name.items
+    → picture.view ≡ v → picture.subject ≡ subject → picture.depot ≡ option_map (λ r. r.depot) p.routing → picture.demands.now ≡ demands_in (routing_is p.routing)
+    → IsPicture form (problem_is p) (drawing_of subject) (text_in form picture)
+picture_drawn form p picture v subject is name view drawn depot demands =
+    let places = places_in (weights_are p.weights) in
+    let marked = option_map (λ r. r.depot) (routing_is p.routing) in
+    record {
+      frame = v.frame;
+      is_frame = subst (λ places. IsFrame places v.frame) is.places is.frame;
+      is = ap (λ x. form_text form x.frame (places_of x.places) picture.name.now (drawing_of picture.subject) picture.depot picture.demands.now) view
+          ∙ ap (λ x. form_text form v.frame x picture.name.now (drawing_of picture.subject) picture.depot picture.demands.now) is.places
+          ∙ ap (λ x. form_text form v.frame places x (drawing_of picture.subject) picture.depot picture.demands.now) name
+          ∙ ap (λ x. form_text form v.frame places p.name.items (drawing_of x) picture.depot picture.demands.now) drawn
+          ∙ ap (λ x. form_text form v.frame places p.name.items (drawing_of subject) x picture.demands.now) (depot ∙ sym (depot_read p.routing))
+          ∙ ap (λ x. form_text form v.frame places p.name.items (drawing_of subject) marked x) demands;
+    }
 
 -- the length by a problem is that by its text
 pub length_read : (p : Problem) (cities : List ℕ) → tour_length (problem_distance p.weights) cities ≡ tour_length (read_distance (weights_are p.weights)) cities
 length_read p cities = tour_length_same _ _ (read_distance-weights p.weights) cities
 
 -- a verdict that is no tour is told
-told_for : (p : Problem) (cities line : List ℕ) (v : Verdict) → (v ≡ verdicts.Tour → ⊥) → line ≡ verdict_line p.n (read_distance (weights_are p.weights)) cities v
-    → IsTourOutput (problem_is p) cities v (Refused line)
-told_for p cities line verdicts.Tour fault is = fault refl
-told_for p cities line verdicts.WrongCount fault is = is
-told_for p cities line (verdicts.OutOfRange place) fault is = is
-told_for p cities line (verdicts.RepeatedCity place) fault is = is
+told_for : (form : Form) (p : Problem) (cities line : List ℕ) (v : Verdict) → (v ≡ verdicts.Tour → ⊥) → line ≡ verdict_line p.n (read_distance (weights_are p.weights)) cities v
+    → IsTourOutput form (problem_is p) cities v (Refused line)
+told_for form p cities line verdicts.Tour fault is = fault refl
+told_for form p cities line verdicts.WrongCount fault is = is
+told_for form p cities line (verdicts.OutOfRange place) fault is = is
+told_for form p cities line (verdicts.RepeatedCity place) fault is = is
 
-pub tour_told : (p : Problem) (cities : List ℕ) (v : Verdict) → (v ≡ verdicts.Tour → ⊥) → IsVerdict p.n cities v
-    → IsTourOutput (problem_is p) cities v (Refused (verdict_line p.n (problem_distance p.weights) cities v))
-tour_told p cities v fault right = told_for p cities _ v fault (ap (λ d. verdict_line p.n d cities v) (read_distance_is p.weights))
+pub tour_told : (form : Form) (p : Problem) (cities : List ℕ) (v : Verdict) → (v ≡ verdicts.Tour → ⊥) → IsVerdict p.n cities v
+    → IsTourOutput form (problem_is p) cities v (Refused (verdict_line p.n (problem_distance p.weights) cities v))
+tour_told form p cities v fault right = told_for form p cities _ v fault (ap (λ d. verdict_line p.n d cities v) (read_distance_is p.weights))
 
-pub routes_told : (p : Problem) (i : Instance) (routes : List (List ℕ)) (v : RouteVerdict) → ((count : ℕ) (cost : ℤ) → v ≡ route_verdicts.Valid count cost → ⊥)
-    → IsRouteOutput (problem_is p) i routes v (Refused (route_verdict_line v))
-routes_told p i routes (route_verdicts.Valid count cost) fault = fault count cost refl
-routes_told p i routes (route_verdicts.BadCustomer route number) fault = refl
-routes_told p i routes (route_verdicts.ServedTwice customer) fault = refl
-routes_told p i routes (route_verdicts.OverCapacity route load) fault = refl
-routes_told p i routes (route_verdicts.NotServed customer) fault = refl
-routes_told p i routes (route_verdicts.WrongCost read counted) fault = refl
+pub routes_told : (form : Form) (p : Problem) (i : Instance) (routes : List (List ℕ)) (v : RouteVerdict) → ((count : ℕ) (cost : ℤ) → v ≡ route_verdicts.Valid count cost → ⊥)
+    → IsRouteOutput form (problem_is p) i routes v (Refused (route_verdict_line v))
+routes_told form p i routes (route_verdicts.Valid count cost) fault = fault count cost refl
+routes_told form p i routes (route_verdicts.BadCustomer route number) fault = refl
+routes_told form p i routes (route_verdicts.ServedTwice customer) fault = refl
+routes_told form p i routes (route_verdicts.OverCapacity route load) fault = refl
+routes_told form p i routes (route_verdicts.NotServed customer) fault = refl
+routes_told form p i routes (route_verdicts.WrongCost read counted) fault = refl
 
 -- no customer stands twice on valid routes
 pub served_once : (i : Instance) (routes : List (List ℕ)) → AreRoutes i (filled_of routes) → AreServedOnce (customer_count i) (concat routes)

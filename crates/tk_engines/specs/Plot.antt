@@ -1,11 +1,11 @@
 -- What `plot` reads, and what it writes.
---     plot_task given      the task, by whether a tour or a solution is given
+--     plot_task form given      the task, by how a picture is written, and whether a tour or a solution is given
 --     ReadsClaim given      it is read as a tour where the problem has no routing, else as a solution
 --     WritesOutput      a picture goes to the one sink, or the line on a fault to the other
 use Rattle.std.specs.Prelude.{◌≡◌, ℕ, ◌⊎◌, Bool, true, false, List, [], ◌∷◌, Option, Some, None, Ok, Err, IsSomeAnd, MatchOption, length, map, option_map, is_some}
 use Rattle.std.specs.Int.RustNames.{unsigned_abs}
 use Rattle.tk_problem.specs.declared.point.Point.{Point}
-use Rattle.tk_problem_text.specs.Problem.{ProblemIs, WeightsAre}
+use Rattle.tk_problem_text.specs.Problem.{ProblemIs, RoutingIs, WeightsAre}
 use Rattle.tk_problem_text.specs.Problem as value
 use Rattle.tk_problem.specs.PlacesOf.{places_of}
 use Rattle.tk_writers.specs.Puts.{Writes}
@@ -15,8 +15,7 @@ use Rattle.tk_tour.specs.Verdict.{IsVerdict}
 use Rattle.tk_tour.specs.declared.verdict.Verdict.{Verdict}
 use Rattle.tk_tour.specs.declared.verdict.Verdict.TheVariants as verdicts
 use Rattle.tk_routes.specs.Instance.{Instance}
-use Rattle.tk_routes.specs.RouteVerdicts.{IsRouteVerdict, filled_of}
-use Rattle.tk_routes.specs.Routes.{route_nodes}
+use Rattle.tk_routes.specs.RouteVerdicts.{IsRouteVerdict}
 use Rattle.tk_routes.specs.declared.claims.verdict.RouteVerdict.{RouteVerdict}
 use Rattle.tk_routes.specs.declared.claims.verdict.RouteVerdict.TheVariants as route_verdicts
 use Rattle.tk_engines.specs.Lines.TourLine.{verdict_line}
@@ -26,14 +25,14 @@ use Rattle.tk_engines.specs.Lines.RouteLine.{route_verdict_line}
 use Rattle.tk_engines.specs.ReadProblems.{instance_in}
 use Rattle.tk_engines.specs.declared.fault.Fault.{Fault}
 use Rattle.tk_engines.specs.declared.fault.Fault.TheVariants.{NoPlaces}
-use Rattle.tk_picture.specs.declared.caption.Caption.{Caption}
-use Rattle.tk_picture.specs.declared.caption.Caption.TheVariants as captions
+use Rattle.tk_picture.specs.Drawings.{ATour, Cities, Drawing, SomeRoutes}
 use Rattle.tk_picture.specs.declared.frame.Frame.{Frame}
 use Rattle.tk_engines.specs.declared.engines.plotted.Plotted.{Plotted}
 use Rattle.tk_engines.specs.declared.engines.plotted.Plotted.TheVariants as plotted
 use Rattle.tk_picture.specs.declared.view.View.{View}
 use Rattle.tk_picture.specs.Frames.{IsFrame}
-use Rattle.tk_picture.specs.PictureText.{picture_text}
+use Rattle.tk_picture.specs.declared.picture.Form.{Form}
+use Rattle.tk_picture.specs.Pictures.{form_text}
 
 -- ---- what is read
 
@@ -66,37 +65,43 @@ abbrev pub places_in : WeightsAre → List Point
 places_in (value.Points kind places) = places
 places_in (value.Lower weights) = []
 
--- a picture of a problem: its cities, closed lines through them, and its depot
-pub record IsPicture (p : ProblemIs) (caption : Caption) (paths : List (List ℕ)) (text : List ℕ) : Type 0 where
+-- no demands without a routing
+abbrev pub demands_in : Option RoutingIs → List ℕ
+demands_in None = []
+demands_in (Some r) = r.demand
+
+-- a picture of a problem in a form: its cities, what is drawn through them, its depot and its demands
+pub record IsPicture (form : Form) (p : ProblemIs) (drawing : Drawing) (text : List ℕ) : Type 0 where
   pub frame : Frame
   pub is_frame : IsFrame (places_in p.weights) frame
-  pub is : text ≡ picture_text frame (places_in p.weights) p.name caption paths (option_map (λ r. r.depot) p.routing)
+  pub is : text ≡ form_text form frame (places_in p.weights) p.name drawing (option_map (λ r. r.depot) p.routing)
+      (demands_in p.routing)
 
 -- a tour is drawn, or refused with the line of its verdict
-abbrev pub IsTourOutput : ProblemIs → List ℕ → Verdict → Output → Type 0
-IsTourOutput p cities verdicts.Tour (Drawn text) =
-    IsPicture p (captions.Tour p.n (tour_length (read_distance p.weights) cities)) (cities ∷ []) text
-IsTourOutput p cities verdicts.Tour (Refused line) = ⊥
-IsTourOutput p cities verdict (Drawn text) = ⊥
-IsTourOutput p cities verdict (Refused line) = line ≡ verdict_line p.n (read_distance p.weights) cities verdict
+abbrev pub IsTourOutput : Form → ProblemIs → List ℕ → Verdict → Output → Type 0
+IsTourOutput form p cities verdicts.Tour (Drawn text) =
+    IsPicture form p (ATour cities (tour_length (read_distance p.weights) cities)) text
+IsTourOutput form p cities verdicts.Tour (Refused line) = ⊥
+IsTourOutput form p cities verdict (Drawn text) = ⊥
+IsTourOutput form p cities verdict (Refused line) = line ≡ verdict_line p.n (read_distance p.weights) cities verdict
 
--- routes are drawn, but for those that hold no customer, or refused with the line of their verdict
-abbrev pub IsRouteOutput : ProblemIs → Instance → List (List ℕ) → RouteVerdict → Output → Type 0
-IsRouteOutput p i routes (route_verdicts.Valid count cost) (Drawn text) =
-    IsPicture p (captions.Routes count (unsigned_abs cost)) (map (route_nodes i) (filled_of routes)) text
-IsRouteOutput p i routes (route_verdicts.Valid count cost) (Refused line) = ⊥
-IsRouteOutput p i routes verdict (Drawn text) = ⊥
-IsRouteOutput p i routes verdict (Refused line) = line ≡ route_verdict_line verdict
+-- routes are drawn, or refused with the line of their verdict
+abbrev pub IsRouteOutput : Form → ProblemIs → Instance → List (List ℕ) → RouteVerdict → Output → Type 0
+IsRouteOutput form p i routes (route_verdicts.Valid count cost) (Drawn text) =
+    IsPicture form p (SomeRoutes i routes count (unsigned_abs cost)) text
+IsRouteOutput form p i routes (route_verdicts.Valid count cost) (Refused line) = ⊥
+IsRouteOutput form p i routes verdict (Drawn text) = ⊥
+IsRouteOutput form p i routes verdict (Refused line) = line ≡ route_verdict_line verdict
 
 -- what was plotted is this, with the true verdict on what was claimed
-abbrev pub IsPlot : ProblemIs → Claim → Plotted → Output → Type 0
-IsPlot p Nothing plotted.Cities (Drawn text) = IsPicture p (captions.Cities p.n) [] text
-IsPlot p (TourClaim cities) (plotted.Tour verdict) output =
-    IsVerdict p.n cities verdict × IsTourOutput p cities verdict output
-IsPlot p (RoutesClaim s) (plotted.Routes verdict) output =
+abbrev pub IsPlot : Form → ProblemIs → Claim → Plotted → Output → Type 0
+IsPlot form p Nothing plotted.Cities (Drawn text) = IsPicture form p Cities text
+IsPlot form p (TourClaim cities) (plotted.Tour verdict) output =
+    IsVerdict p.n cities verdict × IsTourOutput form p cities verdict output
+IsPlot form p (RoutesClaim s) (plotted.Routes verdict) output =
     IsSomeAnd p.routing (λ r. IsRouteVerdict (instance_in p r) s.0 s.1 verdict
-    × IsRouteOutput p (instance_in p r) s.0 verdict output)
-IsPlot p _ _ _ = ⊥
+    × IsRouteOutput form p (instance_in p r) s.0 verdict output)
+IsPlot form p _ _ _ = ⊥
 
 -- explicit weights give no places
 abbrev pub without_places : WeightsAre → Option Fault
@@ -104,9 +109,9 @@ without_places (value.Points kind places) = None
 without_places (value.Lower weights) = Some NoPlaces
 
 -- only what is given takes memory to check
-abbrev pub plot_task : Bool → Task Claim Plotted Output
-plot_task given =
-    record { misfit = λ p. without_places p.weights; IsClash = NoClash; takes_memory = given; Gives = IsPlot }
+abbrev pub plot_task : Form → Bool → Task Claim Plotted Output
+plot_task form given =
+    record { misfit = λ p. without_places p.weights; IsClash = NoClash; takes_memory = given; Gives = IsPlot form }
 
 -- two sinks: their types, and what each has taken and whether a write to it has failed
 module _ {W T : Type 0} (out_taken : W → Option (List ℕ)) (out_broken : W → Bool) (told_taken : T → Option (List ℕ))

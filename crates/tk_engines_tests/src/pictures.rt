@@ -1,3 +1,4 @@
 //! Pictures, and the engine of `plot`.
 pub mod drawn;
 pub mod given;
+pub mod paged;

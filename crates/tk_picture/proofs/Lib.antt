@@ -1,5 +1,9 @@
 pub mod Bounds
-pub mod Closed
+pub mod NoMarkup
+pub mod PageLength
+pub mod Paths
 pub mod PictureLength
 pub mod PutNothing
+pub mod Shown
 pub mod Thin
+pub mod Words

@@ -1,7 +1,11 @@
 -- How long the text of a picture is at most.
-use Rattle.std.proofs.Common.{◌≡◌, ℕ, zero, suc, ◌+◌, ◌*◌, ◌/◌, ◌%◌, ◌^◌, ◌≤◌, refl, Bool, true, false, List, [], ◌∷◌, ◌++◌, Option, Some, None, length, arith, length-append, ap}
-use Rattle.std.specs.Prelude.{flat_map, map, codes, decimal, if◌then◌else◌, nat_lt, ◌==◌, ◌||◌}
+use Rattle.std.proofs.Common.{◌≡◌, ℕ, zero, suc, ◌+◌, ◌-◌, ◌*◌, ◌≤◌, Bool, true, false, List, [], ◌∷◌, ◌++◌, Option, Some, None, length, take, drop, arith, length-append, length-take, length-drop}
+use Rattle.std.specs.Prelude.{flat_map, map, codes, decimal, if◌then◌else◌, nat_lt, slice_index, slice_index_or, ◌==◌}
+use Rattle.std.specs.Char.{encode_utf8}
 use Rattle.std.specs.List.{range_with_len, concat}
+use Rattle.std.specs.Str.{chars, chars_after, continuation_len, lead_bits}
+use Rattle.std.specs.Str.Lossy.{after_first_chunk, utf8_invalid_len, utf8_lossy, utf8_lossy_within, utf8_valid_len}
+use Rattle.std.proofs.lemmas.Str.{length-encode, len_utf8_bounds}
 use Rattle.std.proofs.lemmas.List.FromFn.{length-range_with_len}
 use Rattle.std.proofs.lemmas.List.{length-map}
 use Rattle.tk_problem.specs.declared.limits.TheConstants.{CITY_LIMIT}
@@ -9,76 +13,132 @@ use Rattle.tk_writers.proofs.Pieces.NumberLengths.{length_decimal, length_flat_m
 use Rattle.tk_writers.specs.Written.{line}
 use Rattle.tk_routes.specs.Cvrps.{instance_of}
 use Rattle.tk_routes.specs.Instance.{Instance, customer_count, node_of}
-use Rattle.tk_routes.specs.RouteVerdicts.{filled_of}
-use Rattle.tk_routes.specs.Routes.{route_nodes}
-use Rattle.tk_routes.proofs.Filled.{concat-filled}
 use Rattle.tk_routes.proofs.Served.{AreServedOnce-short}
-use Rattle.tk_picture.specs.declared.caption.Caption.{Caption}
-use Rattle.tk_picture.specs.declared.caption.Caption.TheVariants as captions
+use Rattle.tk_picture.specs.Colours.{colour, first_colours, place_on_walk, rgb, walk}
+use Rattle.tk_picture.specs.Drawings.{ATour, Cities, Drawing, Path, SomeRoutes, caption_of, each_filled, paths_of, route_path, route_paths}
+use Rattle.tk_picture.specs.declared.colour.Colour.{Colour}
 use Rattle.tk_picture.specs.declared.frame.Frame.{Frame}
-use Rattle.tk_picture.specs.declared.picture.Lines.{Lines}
-use Rattle.tk_picture.specs.declared.picture.Lines.TheVariants as lines
-use Rattle.tk_picture.specs.Frames.{across, down, view_height}
-use Rattle.tk_picture.specs.PictureText.{shown, caption_text, title, colours, dashes, text_at, spot, line_start, closed_line, closed_lines, dot, dots, line_width, city_style, city_dots, depot_mark, has_dots, view_line, title_line, heading_line, group_line, head, picture_text}
-use Rattle.tk_picture.specs.Pictures.{AreLines, paths_of}
-use Rattle.tk_picture.proofs.Closed.{filled_few}
+use Rattle.tk_picture.specs.declared.subject.Subject.{Subject}
+use Rattle.tk_picture.specs.declared.subject.Subject.TheVariants as subjects
+use Rattle.tk_picture.specs.Frames.{across, down, drawn_from_left, drawn_from_top, view_height}
+use Rattle.tk_picture.specs.Names.{is_plain, shown, shown_name}
+use Rattle.tk_picture.specs.PictureText.{title, spot, line_start, closed_line, dot, dots, line_width, city_style, city_dots, depot_mark, has_dots, mark, number_mark, number_size, numbers_start, route_numbers, view_line, title_line, heading_line, group_line, head, picture_text}
+use Rattle.tk_picture.specs.Pictures.{Fits, drawing_of}
 use Rattle.tk_distance.specs.PlaneOf.{city_place}
 use Rattle.tk_problem.specs.declared.point.Point.{Point}
 
 -- a choice of two texts is no longer than a bound on both
-either_short : (b : Bool) (s t : List ℕ) (most : ℕ) → length s ≤ most → length t ≤ most → length (if b then s else t) ≤ most
+pub either_short : (b : Bool) (s t : List ℕ) (most : ℕ) → length s ≤ most → length t ≤ most → length (if b then s else t) ≤ most
 either_short true s t most short_s short_t = short_s
 either_short false s t most short_s short_t = short_t
 
-length_shown : (b : ℕ) → length (shown b) ≤ 6
-length_shown b =
-    either_short (b == 38) (codes "&amp;") _ 6 (omega arith) (either_short (b == 60) (codes "&lt;") _ 6 (omega arith) (either_short (b == 62) (codes "&gt;") _ 6 (omega arith)
-    (either_short (b == 34) (codes "&quot;") _ 6 (omega arith) (either_short (nat_lt b 32 || nat_lt 126 b) (codes "?") (b ∷ []) 6 (omega arith) (omega arith)))))
+-- ---- the name
 
-length_caption : (c : Caption) → length (caption_text c) ≤ 200
-length_caption (captions.Cities n) = omega (arith, length_decimal n, length-append (decimal n) (codes " cities"))
-length_caption (captions.Tour n size) = let a = length_decimal n in let b = length_decimal size in simp length-append (omega arith)
-length_caption (captions.Routes count cost) = let a = length_decimal count in let b = length_decimal cost in simp length-append (omega arith)
+length_char : (c : ℕ) → length (encode_utf8 c) ≤ 4
+length_char c = omega (arith, length-encode c, (len_utf8_bounds c).1)
 
-length_title : (name : List ℕ) (c : Caption) → length (title name c) ≤ length name * 6 + 202
-length_title name c =
-    omega (arith, length_flat_map shown 6 length_shown name, length_caption c, length-append (flat_map shown name) (codes ": "), length-append (flat_map shown name ++ codes ": ") (caption_text c))
+length_shown : (c : ℕ) → length (shown c) ≤ 6
+length_shown c =
+    either_short (c == 38) (codes "&amp;") _ 6 (omega arith) (either_short (c == 60) (codes "&lt;") _ 6 (omega arith) (either_short (c == 62) (codes "&gt;") _ 6 (omega arith)
+    (either_short (c == 34) (codes "&quot;") _ 6 (omega arith) (either_short (is_plain c) (encode_utf8 c) (codes "?") 6 (omega (arith, length_char c)) (omega arith)))))
+
+chars_after_few : (n c : ℕ) (bs : List ℕ) → length (chars_after n c bs) ≤ 1 + length bs
+chars_after_few zero c [] = omega arith
+chars_after_few zero c (b ∷ bs) = omega (arith, chars_after_few (continuation_len b) (lead_bits b) bs)
+chars_after_few (suc n) c [] = omega arith
+chars_after_few (suc n) c (b ∷ bs) = omega (arith, chars_after_few n (c * 64 + (b - 128)) bs)
+
+-- there are no more characters than bytes
+chars_few : (bs : List ℕ) → length (chars bs) ≤ length bs
+unfolding chars
+chars_few [] = omega arith
+chars_few (b ∷ bs) = omega (arith, chars_after_few (continuation_len b) (lead_bits b) bs)
+
+lossy_within_short : (k most : ℕ) (bs : List ℕ) → length bs ≤ most → length (utf8_lossy_within k bs) ≤ most + k * (most + 3)
+lossy_within_short zero most bs short = omega (arith, short)
+lossy_within_short (suc k) most bs short =
+    let rest = after_first_chunk bs in
+    let front = take (utf8_valid_len bs) bs in
+    let shorter : length rest ≤ most = omega (arith, short, length-drop (utf8_valid_len bs + utf8_invalid_len (drop (utf8_valid_len bs) bs)) bs) in
+    let again = lossy_within_short k most rest shorter in
+    let more : suc k * (most + 3) ≡ k * (most + 3) + (most + 3) = omega arith in
+    either_short (utf8_valid_len bs == length bs) bs _ (most + suc k * (most + 3)) (omega (arith, short, more))
+    (omega (arith, again, more, short, length-take (utf8_valid_len bs) bs, length-append front (0xEF ∷ 0xBF ∷ 0xBD ∷ utf8_lossy_within k rest)))
+
+lossy_short : (bs : List ℕ) → length bs ≤ 1024 → length (utf8_lossy bs) ≤ 2000000
+unfolding utf8_lossy
+lossy_short bs short = omega (arith, short, lossy_within_short (length bs) 1024 bs short)
+
+pub length_name : (name : List ℕ) → length name ≤ 1024 → length (shown_name name) ≤ 12000000
+length_name name short =
+    omega (arith, length_flat_map shown 6 length_shown (chars (utf8_lossy name)), chars_few (utf8_lossy name), lossy_short name short)
+
+pub length_caption : (n : ℕ) (d : Drawing) → length (caption_of n d) ≤ 200
+length_caption n Cities = omega (arith, length_decimal n, length-append (decimal n) (codes " cities"))
+length_caption n (ATour cities size) = let a = length_decimal n in let b = length_decimal size in simp length-append (omega arith)
+length_caption n (SomeRoutes i routes count cost) = let a = length_decimal count in let b = length_decimal cost in simp length-append (omega arith)
+
+pub length_title : (name : List ℕ) (n : ℕ) (d : Drawing) → length name ≤ 1024 → length (title name n d) ≤ 12000202
+length_title name n d short =
+    omega (arith, length_name name short, length_caption n d, length-append (shown_name name) (codes ": "), length-append (shown_name name ++ codes ": ") (caption_of n d))
+
+-- ---- lines
 
 -- a text of some is no longer than all of them
-length_text_at : (texts : List (List ℕ)) (k : ℕ) → length (text_at texts k) ≤ length (concat texts)
+length_text_at : (texts : List (List ℕ)) (k : ℕ) → length (slice_index_or texts k []) ≤ length (concat texts)
 length_text_at [] k = omega arith
 length_text_at (t ∷ texts) zero = omega (arith, length-append t (concat texts))
 length_text_at (t ∷ texts) (suc k) = omega (arith, length_text_at texts k, length-append t (concat texts))
 
-lines_start_parts : (a b : List ℕ) → length a ≤ 49 → length b ≤ 14
-    → length (line (codes "<polygon stroke=\"" ++ a ++ codes "\" stroke-dasharray=\"" ++ b ++ codes "\" points=\"")) ≤ 200
-lines_start_parts a b short_a short_b = simp length-append (omega arith)
+length_rgb : (c : Colour) → length (rgb c) ≤ 200
+length_rgb c = let a = length_decimal c.red in let b = length_decimal c.green in let d = length_decimal c.blue in simp length-append (omega arith)
 
-length_line_start : (k : ℕ) → length (line_start k) ≤ 200
-length_line_start k =
-    let colour : length (text_at colours (k % 7)) ≤ 49 = length_text_at colours (k % 7) in
-    let dash : length (text_at dashes (k / 7 % 3)) ≤ 14 = length_text_at dashes (k / 7 % 3) in
-    lines_start_parts (text_at colours (k % 7)) (text_at dashes (k / 7 % 3)) colour dash
+length_colour : (k : ℕ) → length (colour k) ≤ 200
+length_colour k =
+    let first : length (slice_index_or first_colours (k - 1) []) ≤ 49 = length_text_at first_colours (k - 1) in
+    either_short (nat_lt k 8) _ (rgb (walk (place_on_walk k))) 200 (omega (arith, first)) (length_rgb (walk (place_on_walk k)))
 
-length_spot : (f : Frame) (places : List Point) (city : ℕ) → length (spot f places city) ≤ 129
+line_start_parts : (a : List ℕ) → length a ≤ 200 → length (line (codes "<polygon stroke=\"" ++ a ++ codes "\" points=\"")) ≤ 300
+line_start_parts a short = simp length-append (omega arith)
+
+length_line_start : (k : ℕ) → length (line_start k) ≤ 300
+length_line_start k = line_start_parts (colour k) (length_colour k)
+
+-- how many corners closed lines have
+abbrev pub corners_of : List Path → ℕ
+corners_of [] = 0
+corners_of (p ∷ paths) = length p.cities + corners_of paths
+
+-- what is put for each line
+pub each_short : (put : Path → List ℕ) → ((p : Path) → length (put p) ≤ 500 + length p.cities * 130) → (paths : List Path)
+    → length (flat_map put paths) ≤ length paths * 500 + corners_of paths * 130
+each_short put short [] = omega arith
+each_short put short (p ∷ paths) = omega (arith, short p, each_short put short paths, length-append (put p) (flat_map put paths))
+
+pub length_spot : (f : Frame) (places : List Point) (city : ℕ) → length (spot f places city) ≤ 129
 length_spot f places city =
     let right = length_decimal (across f (city_place places city)) in
     let below = length_decimal (down f (city_place places city)) in
     omega (arith, length-append (decimal (across f (city_place places city)) ++ codes ",") (decimal (down f (city_place places city))), length-append (decimal (across f (city_place places city))) (codes ","))
 
+mark_parts : (at fill digits : List ℕ) → length at ≤ 129 → length fill ≤ 200 → length digits ≤ 64
+    → length (line (codes "<text transform=\"translate(" ++ at ++ codes ")\" dy=\"-.4em\" fill=\"" ++ fill ++ codes "\">" ++ digits ++ codes "</text>")) ≤ 500
+mark_parts at fill digits a b d = simp length-append (omega arith)
+
+length_mark : (k : ℕ) (at : List ℕ) → length at ≤ 129 → length (mark k at) ≤ 500
+length_mark k at short = mark_parts at (colour k) (decimal k) short (length_colour k) (length_decimal k)
+
 module _ (spot : ℕ → List ℕ) (short : (c : ℕ) → length (spot c) ≤ 129) where
   corner : (c : ℕ) → length (line (spot c)) ≤ 130
   corner c = omega (arith, short c, length-append (spot c) (10 ∷ []))
 
-  length_closed_line : (k : ℕ) (path : List ℕ) → length (closed_line spot k path) ≤ 204 + length path * 130
-  length_closed_line k path =
-      let corners = flat_map (λ c. line (spot c)) path in
-      omega (arith, length_line_start k, length_flat_map (λ c. line (spot c)) 130 corner path, length-append (line_start k) corners, length-append (line_start k ++ corners) (codes "\"/>" ++ 10 ∷ []))
+  length_closed_line : (path : Path) → length (closed_line spot path) ≤ 304 + length path.cities * 130
+  length_closed_line path =
+      let corners = flat_map (λ c. line (spot c)) path.cities in
+      omega (arith, length_line_start path.number, length_flat_map (λ c. line (spot c)) 130 corner path.cities, length-append (line_start path.number) corners, length-append (line_start path.number ++ corners) (codes "\"/>" ++ 10 ∷ []))
 
-  length_closed_lines : (k : ℕ) (paths : List (List ℕ)) → length (closed_lines spot k paths) ≤ length paths * 204 + length (concat paths) * 130
-  length_closed_lines k [] = omega arith
-  length_closed_lines k (path ∷ paths) =
-      omega (arith, length_closed_line k path, length_closed_lines (k + 1) paths, length-append (closed_line spot k path) (closed_lines spot (k + 1) paths), length-append path (concat paths))
+  length_closed_lines : (paths : List Path) → length (flat_map (closed_line spot) paths) ≤ length paths * 500 + corners_of paths * 130
+  length_closed_lines paths = each_short (closed_line spot) (λ p. omega (arith, length_closed_line p)) paths
 
   length_dot : (c : ℕ) → length (dot spot c) ≤ 133
   length_dot c = let s = short c in let a = length-append (codes "M" ++ spot c ++ codes "h0") (10 ∷ []) in let b = length-append (codes "M" ++ spot c) (codes "h0") in omega arith
@@ -93,80 +153,112 @@ module _ (spot : ℕ → List ℕ) (short : (c : ℕ) → length (spot c) ≤ 12
       let d = length-append (line start) points in
       omega (arith, length_flat_map (dot spot) 133 length_dot cities)
 
-  length_city_dots : (caption : Caption) (n : ℕ) → length (city_dots spot caption n) ≤ 200 + n * 133
-  length_city_dots caption n =
+  length_city_dots : (n : ℕ) (d : Drawing) → length (city_dots spot n d) ≤ 200 + n * 133
+  length_city_dots n d =
       let style : length (city_style n) ≤ 20 = either_short (nat_lt n 2000) (codes "stroke-width=\"60\"") (codes "stroke-width=\"12\"") 20 (omega arith) (omega arith) in
-      either_short (has_dots caption n) (dots spot (city_style n) (range_with_len 1 n)) [] (200 + n * 133)
+      either_short (has_dots d n) (dots spot (city_style n) (range_with_len 1 n)) [] (200 + n * 133)
       (omega (arith, style, length_dots (city_style n) (range_with_len 1 n), length-range_with_len 1 n)) (omega arith)
 
   length_depot_mark : (depot : Option ℕ) → length (depot_mark spot depot) ≤ 400
   length_depot_mark None = omega arith
   length_depot_mark (Some depot) = let a = short depot in simp length-append (omega arith)
 
+  length_number_mark : (path : Path) → length (number_mark spot path) ≤ 500 + length path.cities * 130
+  length_number_mark path = omega (arith, length_mark path.number (spot (slice_index path.cities 1)) (short (slice_index path.cities 1)))
+
+  length_number_marks : (paths : List Path) → length (flat_map (number_mark spot) paths) ≤ length paths * 500 + corners_of paths * 130
+  length_number_marks paths = each_short (number_mark spot) length_number_mark paths
+
+  numbers_start_parts : (size : List ℕ) → length size ≤ 3
+      → length (line (codes "<g font-family=\"sans-serif\" font-weight=\"bold\" text-anchor=\"middle\" font-size=\"" ++ size ++ codes "\">")) ≤ 200
+  numbers_start_parts size few = simp length-append (omega arith)
+
+  length_numbers_start : (n : ℕ) → length (numbers_start n) ≤ 200
+  length_numbers_start n = numbers_start_parts (number_size n) (either_short (nat_lt n 2000) (codes "140") (codes "60") 3 (omega arith) (omega arith))
+
+  length_route_numbers : (n : ℕ) (d : Drawing) → length (route_numbers spot n d) ≤ 300 + length (paths_of d) * 500 + corners_of (paths_of d) * 130
+  length_route_numbers n Cities = omega arith
+  length_route_numbers n (ATour cities size) = omega arith
+  length_route_numbers n (SomeRoutes i routes count cost) =
+      let marks = flat_map (number_mark spot) (route_paths i 1 routes) in
+      omega (arith, length_numbers_start n, length_number_marks (route_paths i 1 routes), length-append (numbers_start n) marks, length-append (numbers_start n ++ marks) (codes "</g>" ++ 10 ∷ []))
+
+-- ---- the whole
+
 length_view_line : (height : ℕ) → length (view_line height) ≤ 200
 length_view_line height = let a = length_decimal height in simp length-append (omega arith)
 
-length_title_line : (t : List ℕ) → length (title_line t) ≤ 100 + length t
+pub length_title_line : (t : List ℕ) → length (title_line t) ≤ 100 + length t
 length_title_line t = simp length-append (omega arith)
 
 length_heading_line : (t : List ℕ) → length (heading_line t) ≤ 100 + length t
 length_heading_line t = simp length-append (omega arith)
 
-group_parts : (w : List ℕ) → length w ≤ 2
-    → length (line (codes "<g transform=\"translate(20 60) scale(0.1)\" fill=\"none\" stroke-linecap=\"round\" stroke-linejoin=\"round\" stroke-width=\"" ++ w ++ codes "\">")) ≤ 200
-group_parts w short = simp length-append (omega arith)
+group_parts : (a b w : List ℕ) → length a ≤ 64 → length b ≤ 64 → length w ≤ 2
+    → length (line (codes "<g transform=\"translate(" ++ a ++ codes " " ++ b ++ codes ") scale(0.1)\" fill=\"none\" stroke-linecap=\"round\" stroke-linejoin=\"round\" stroke-width=\"" ++ w ++ codes "\">")) ≤ 300
+group_parts a b w short_a short_b short = simp length-append (omega arith)
 
-length_group_line : (n : ℕ) → length (group_line n) ≤ 200
-length_group_line n = let a : length (line_width n) ≤ 2 = either_short (nat_lt n 2000) (codes "20") (codes "6") 2 (omega arith) (omega arith) in group_parts (line_width n) a
+length_group_line : (f : Frame) (n : ℕ) → length (group_line f n) ≤ 300
+length_group_line f n =
+    let width : length (line_width n) ≤ 2 = either_short (nat_lt n 2000) (codes "20") (codes "6") 2 (omega arith) (omega arith) in
+    group_parts (decimal (drawn_from_left f)) (decimal (drawn_from_top f)) (line_width n) (length_decimal (drawn_from_left f)) (length_decimal (drawn_from_top f)) width
 
-length_head : (height : ℕ) (t : List ℕ) (n : ℕ) → length (head height t n) ≤ 800 + length t * 2
-length_head height t n =
+length_head : (f : Frame) (t : List ℕ) (n : ℕ) → length (head f t n) ≤ 900 + length t * 2
+length_head f t n =
+    let height = view_height f in
     let rect = line (codes "<rect width=\"100%\" height=\"100%\" fill=\"white\"/>") in
     let one = view_line height ++ title_line t in
     let a = length-append (view_line height) (title_line t) in
     let b = length-append one rect in
     let c = length-append (one ++ rect) (heading_line t) in
-    let d = length-append (one ++ rect ++ heading_line t) (group_line n) in
-    omega (arith, length_view_line height, length_title_line t, length_heading_line t, length_group_line n)
+    let d = length-append (one ++ rect ++ heading_line t) (group_line f n) in
+    omega (arith, length_view_line height, length_title_line t, length_heading_line t, length_group_line f n)
 
-customers_length : (i : Instance) (route : List ℕ) → length (map (node_of i.depot) route) ≡ length route
-customers_length i route = simp length-map
+-- there are no more routes that hold a customer than customers
+pub filled_few : {X : Type 0} (f : ℕ → List ℕ → X) (k : ℕ) (routes : List (List ℕ)) → length (each_filled f k routes) ≤ length (concat routes)
+filled_few f k [] = omega arith
+filled_few f k ([] ∷ routes) = filled_few f (k + 1) routes
+filled_few f k ((c ∷ cs) ∷ routes) = omega (arith, filled_few f (k + 1) routes, length-append (c ∷ cs) (concat routes))
 
--- each route has one stop more than customers
-nodes_length : (i : Instance) (routes : List (List ℕ)) → length (concat (map (route_nodes i) routes)) ≡ length routes + length (concat routes)
-nodes_length i [] = refl
-nodes_length i (route ∷ routes) =
-    omega (arith, nodes_length i routes, length-append (route_nodes i route) (concat (map (route_nodes i) routes)), length-append route (concat routes), customers_length i route)
+-- and their lines have at most twice as many corners
+corners_few : (i : Instance) (k : ℕ) (routes : List (List ℕ)) → corners_of (route_paths i k routes) ≤ length (concat routes) * 2
+corners_few i k [] = omega arith
+corners_few i k ([] ∷ routes) = corners_few i (k + 1) routes
+corners_few i k ((c ∷ cs) ∷ routes) =
+    let stops : length (map (node_of i.depot) (c ∷ cs)) ≡ length (c ∷ cs) = simp length-map in
+    omega (arith, corners_few i (k + 1) routes, stops, length-append (c ∷ cs) (concat routes))
 
--- how many lines there are, and through how many cities they go
-pub paths_few : (n : ℕ) (l : Lines) → AreLines n l → (length (paths_of l) ≤ n + 1) × (length (concat (paths_of l)) ≤ n * 2)
-paths_few n lines.None are = (omega arith, omega arith)
-paths_few n (lines.Tour cities) are = (omega arith, omega (arith, are.0, length-append cities.now []))
-paths_few n (lines.Routes cvrp routes) are =
+pub paths_few : (n : ℕ) (s : Subject) → Fits n s
+    → (length (paths_of (drawing_of s)) ≤ n + 1) × (corners_of (paths_of (drawing_of s)) ≤ n * 2)
+paths_few n subjects.Cities fits = (omega arith, omega arith)
+paths_few n (subjects.Tour cities size) fits = (omega arith, omega (arith, fits.0))
+paths_few n (subjects.Routes cvrp routes count cost) fits =
     let i = instance_of cvrp in
     let all = map (λ r. r.items) routes.now in
-    let served = AreServedOnce-short (customer_count i) (concat all) are.1 in
-    let few = filled_few all in
-    let count : length (map (route_nodes i) (filled_of all)) ≡ length (filled_of all) = simp length-map in
-    (omega (arith, are.0), omega (arith, are.0, nodes_length i (filled_of all), ap length (concat-filled all)))
+    let served = AreServedOnce-short (customer_count i) (concat all) fits.1 in
+    (omega (arith, fits.0, served, filled_few (route_path i) 1 all), omega (arith, fits.0, served, corners_few i 1 all))
 
-pub length_picture : (f : Frame) (places : List Point) (name : List ℕ) (caption : Caption) (paths : List (List ℕ)) (depot : Option ℕ) → length name ≤ 1024 → length places ≤ CITY_LIMIT
-    → length paths ≤ 100001 → length (concat paths) ≤ 200000 → length (picture_text f places name caption paths depot) ≤ 2 ^ 63
-length_picture f places name caption paths depot named few lines corners =
+pub length_picture : (f : Frame) (places : List Point) (name : List ℕ) (d : Drawing) (depot : Option ℕ) → length name ≤ 1024 → length places ≤ CITY_LIMIT
+    → length (paths_of d) ≤ 100001 → corners_of (paths_of d) ≤ 200000 → length (picture_text f places name d depot) ≤ 400000000
+length_picture f places name d depot named few lines corners =
     let at = spot f places in
     let short = length_spot f places in
-    let start = head (view_height f) (title name caption) (length places) in
-    let drawn = closed_lines at 0 paths in
-    let cities = city_dots at caption (length places) in
+    let n = length places in
+    let start = head f (title name n d) n in
+    let drawn = flat_map (closed_line at) (paths_of d) in
+    let cities = city_dots at n d in
     let mark = depot_mark at depot in
+    let numbers = route_numbers at n d in
     let end : length (codes "</g>" ++ 10 ∷ codes "</svg>" ++ 10 ∷ []) ≤ 20 = omega arith in
     let a = length-append start drawn in
     let b = length-append (start ++ drawn) cities in
     let c = length-append (start ++ drawn ++ cities) mark in
-    let d = length-append (start ++ drawn ++ cities ++ mark) (codes "</g>" ++ 10 ∷ codes "</svg>" ++ 10 ∷ []) in
-    let h = length_head (view_height f) (title name caption) (length places) in
-    let t = length_title name caption in
-    let l = length_closed_lines at short 0 paths in
-    let p = length_city_dots at short caption (length places) in
+    let e = length-append (start ++ drawn ++ cities ++ mark) numbers in
+    let g = length-append (start ++ drawn ++ cities ++ mark ++ numbers) (codes "</g>" ++ 10 ∷ codes "</svg>" ++ 10 ∷ []) in
+    let h = length_head f (title name n d) n in
+    let t = length_title name n d named in
+    let l = length_closed_lines at short (paths_of d) in
+    let p = length_city_dots at short n d in
     let m = length_depot_mark at short depot in
+    let r = length_route_numbers at short n d in
     omega arith

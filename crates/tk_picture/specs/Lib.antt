@@ -1,4 +1,8 @@
+pub mod Colours
+pub mod Drawings
 pub mod Frames
+pub mod Names
+pub mod PageText
 pub mod PictureText
 pub mod Pictures
 pub mod Sides

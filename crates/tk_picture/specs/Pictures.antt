@@ -1,30 +1,48 @@
 -- What a picture shows, and its text.
-use Rattle.std.specs.Prelude.{◌≡◌, ℕ, List, [], ◌∷◌, map}
+use Rattle.std.specs.Prelude.{◌≡◌, ℕ, List, Option, map}
 use Rattle.std.specs.List.{concat}
+use Rattle.tk_problem.specs.declared.point.Point.{Point}
 use Rattle.tk_problem.specs.PlacesOf.{places_of}
 use Rattle.tk_tour.specs.Tour.{IsTour}
 use Rattle.tk_routes.specs.Cvrps.{instance_of}
 use Rattle.tk_routes.specs.Instance.{customer_count}
-use Rattle.tk_routes.specs.RouteVerdicts.{AreServedOnce, filled_of}
-use Rattle.tk_routes.specs.Routes.{route_nodes}
+use Rattle.tk_routes.specs.RouteVerdicts.{AreServedOnce}
+use Rattle.tk_picture.specs.Drawings.{ATour, Cities, Drawing, SomeRoutes}
 use Rattle.tk_picture.specs.PictureText.{picture_text}
-use Rattle.tk_picture.specs.declared.picture.Lines.{Lines}
-use Rattle.tk_picture.specs.declared.picture.Lines.TheVariants as lines
+use Rattle.tk_picture.specs.PageText.{page_text}
+use Rattle.tk_picture.specs.declared.frame.Frame.{Frame}
+use Rattle.tk_picture.specs.declared.page.parts.Parts.{Parts}
+use Rattle.tk_picture.specs.declared.picture.Form.{Form}
+use Rattle.tk_picture.specs.declared.picture.Form.TheVariants as forms
 use Rattle.tk_picture.specs.declared.picture.Picture.{Picture}
+use Rattle.tk_picture.specs.declared.subject.Subject.{Subject}
+use Rattle.tk_picture.specs.declared.subject.Subject.TheVariants as subjects
 
--- the closed lines, as lists of cities: routes that hold no customer have none
-abbrev pub paths_of : Lines → List (List ℕ)
-paths_of lines.None = []
-paths_of (lines.Tour cities) = cities.now ∷ []
-paths_of (lines.Routes cvrp routes) = map (route_nodes (instance_of cvrp)) (filled_of (map (λ r. r.items) routes.now))
+abbrev pub drawing_of : Subject → Drawing
+drawing_of subjects.Cities = Cities
+drawing_of (subjects.Tour cities length) = ATour cities.now length
+drawing_of (subjects.Routes cvrp routes count cost) =
+    SomeRoutes (instance_of cvrp) (map (λ r. r.items) routes.now) count cost
 
--- they are a tour of the cities 1 to n, or routes of as many nodes, on which no customer stands twice
-abbrev pub AreLines : ℕ → Lines → Type 0
-AreLines n lines.None = Unit {0}
-AreLines n (lines.Tour cities) = IsTour n cities.now
-AreLines n (lines.Routes cvrp routes) =
+-- a tour of the cities 1 to n, or routes of as many nodes, on which no customer stands twice
+abbrev pub Fits : ℕ → Subject → Type 0
+Fits n subjects.Cities = Unit {0}
+Fits n (subjects.Tour cities length) = IsTour n cities.now
+Fits n (subjects.Routes cvrp routes count cost) =
     ((instance_of cvrp).size ≡ n) × AreServedOnce (customer_count (instance_of cvrp))
     (concat (map (λ r. r.items) routes.now))
 
+-- the text of what is drawn, in a form
+abbrev pub form_text : Form → Frame → List Point → List ℕ → Drawing → Option ℕ → List ℕ → List ℕ
+form_text forms.Svg f places name drawing depot demands = picture_text f places name drawing depot
+form_text (forms.Page parts) f places name drawing depot demands = page_text parts f places name drawing depot demands
+
+abbrev pub text_in : Form → Picture → List ℕ
+text_in form p =
+    form_text form p.view.frame (places_of p.view.places) p.name.now (drawing_of p.subject) p.depot p.demands.now
+
 abbrev pub text_of : Picture → List ℕ
-text_of p = picture_text p.view.frame (places_of p.view.places) p.name.now p.caption (paths_of p.lines) p.depot
+text_of p = text_in forms.Svg p
+
+abbrev pub page_of : Parts → Picture → List ℕ
+page_of parts p = text_in (forms.Page parts) p

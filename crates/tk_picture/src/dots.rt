@@ -4,9 +4,10 @@ ghost use Rattle.std.specs.List.{range_with_len};
 ghost use Rattle.tk_writers.specs.Pens.{Puts};
 ghost use Rattle.tk_distance.specs.Cities.{IsCity};
 ghost use Rattle.tk_picture.specs.PictureText.{city_dots, city_style, depot_mark, dot, dots, has_dots};
+ghost use Rattle.tk_picture.specs.Pictures.{drawing_of};
 ghost use Rattle.tk_picture.specs.Views.{city_count, spot_in};
 
-use crate::caption::Caption;
+use crate::subject::Subject;
 use crate::view::View;
 use tk_writers::{Pen, Sink};
 
@@ -50,21 +51,22 @@ fn put_all_dots<W: Sink>(pen: &mut Pen<'_, W>, view: &View<'_>)
     pen.put(b"\"/>\n");
 }
 
-/// Whether a picture has cities as points.
-fn has_dots(caption: Caption, cities: u32) -> bool
-    ensures { result ≡ has_dots caption cities }
+/// Whether a picture of this many cities has them as points.
+fn has_dots(cities: u32, subject: Subject<'_>) -> bool
+    ensures { result ≡ has_dots (drawing_of subject.entry) cities }
 {
-    match caption {
-        Caption::Cities(_) => true,
+    match subject {
+        Subject::Cities => true,
         _ => cities < MANY,
     }
 }
 
 /// Puts the cities as points, where the picture has these.
-pub(crate) fn put_city_dots<W: Sink>(pen: &mut Pen<'_, W>, view: &View<'_>, caption: Caption)
-    ensures { Puts W.taken W.broken pen.old pen.new (city_dots (spot_in view.now) caption (city_count view.now)) }
+pub(crate) fn put_city_dots<W: Sink>(pen: &mut Pen<'_, W>, view: &View<'_>, subject: Subject<'_>)
+    ensures { Puts W.taken W.broken pen.old pen.new
+        (city_dots (spot_in view.now) (city_count view.now) (drawing_of subject.entry)) }
 {
-    if has_dots(caption, view.size()) {
+    if has_dots(view.size(), subject) {
         put_all_dots(pen, view);
     }
 }

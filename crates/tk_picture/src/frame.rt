@@ -26,7 +26,8 @@ fn side_of(low: Point, high: Point) -> u64
 impl Frame {
     ghost use Rattle.std.specs.Prelude.{◌≤◌, length};
     ghost use Rattle.tk_problem.specs.PlacesOf.{places_of};
-    ghost use Rattle.tk_picture.specs.Frames.{IsFrame, across, down, view_height};
+    ghost use Rattle.tk_picture.specs.Frames.{IsFrame, across, down, drawn_from_left, drawn_from_top};
+    ghost use Rattle.tk_picture.specs.Frames.{drawn_height, drawn_width, room_height, view_height};
 
     /// The frame of some places.
     pub(crate) fn of(places: Places<'_>) -> Frame
@@ -65,11 +66,45 @@ impl Frame {
         self.top.abs_diff(place.y) as u128 * 10_000 / self.side as u128
     }
 
+    /// How wide the drawing is, in thousandths of the longer side.
+    fn drawn_width(&self) -> u128
+        ensures { result ≡ drawn_width self.now }
+    {
+        (self.right.abs_diff(self.left) as u128 * 1_000).div_ceil(self.side as u128)
+    }
+
+    /// How high the drawing is, in thousandths of the longer side.
+    fn drawn_height(&self) -> u128
+        ensures { result ≡ drawn_height self.now }
+    {
+        (self.top.abs_diff(self.bottom) as u128 * 1_000).div_ceil(self.side as u128)
+    }
+
+    /// How high the room for the drawing is.
+    fn room_height(&self) -> u128
+        ensures { result ≡ room_height self.now }
+    {
+        200.max(self.drawn_height())
+    }
+
     /// How high the view of a picture is.
     pub(crate) fn view_height(&self) -> u128
         ensures { result ≡ view_height self.now }
     {
-        let height = self.top.abs_diff(self.bottom) as u128 * 1_000;
-        80 + height.div_ceil(self.side as u128)
+        80 + self.room_height()
+    }
+
+    /// How far from the left of the view the drawing begins.
+    pub(crate) fn drawn_from_left(&self) -> u128
+        ensures { result ≡ drawn_from_left self.now }
+    {
+        20 + 1_000_u128.saturating_sub(self.drawn_width()) / 2
+    }
+
+    /// How far from the top of the view the drawing begins.
+    pub(crate) fn drawn_from_top(&self) -> u128
+        ensures { result ≡ drawn_from_top self.now }
+    {
+        60 + self.room_height().saturating_sub(self.drawn_height()) / 2
     }
 }

@@ -1,14 +1,23 @@
-//! Pictures (SVG) of a problem, and of a tour or routes.
+//! Pictures (SVG) of a problem, and of a tour or routes, and pages (HTML) with them.
 #![tactic(auto)]
 
 mod caption;
 mod closed_lines;
+mod colour;
 mod dots;
 mod frame;
+mod laws;
+mod name;
+mod numbers;
+mod page;
 mod picture;
+mod subject;
 mod view;
 
-pub use caption::Caption;
+pub use colour::Colour;
 pub use frame::Frame;
-pub use picture::{Lines, Picture, write_picture};
+pub use laws::names_stay_text;
+pub use page::parts::Parts;
+pub use picture::{Form, Picture, write_picture};
+pub use subject::Subject;
 pub use view::View;

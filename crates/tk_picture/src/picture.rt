@@ -1,39 +1,43 @@
 //! A picture of a problem.
-ghost use Rattle.std.specs.Prelude.{◌≡◌, ◌≤◌, true, IfSome, OnErr, length};
+ghost use Rattle.std.specs.Prelude.{◌≡◌, ◌≤◌, true, IfSome, OnErr, flat_map, length};
 ghost use Rattle.tk_writers.specs.Pens.{Puts};
 ghost use Rattle.tk_writers.specs.Puts.{Writes};
 ghost use Rattle.tk_distance.specs.Cities.{IsCity};
-ghost use Rattle.tk_picture.specs.Frames.{view_height};
-ghost use Rattle.tk_picture.specs.PictureText.{closed_lines, group_line, head, heading_line, line_width};
-ghost use Rattle.tk_picture.specs.PictureText.{title, title_line, view_line};
-ghost use Rattle.tk_picture.specs.Pictures.{AreLines, paths_of, text_of};
+ghost use Rattle.tk_picture.specs.Drawings.{paths_of};
+ghost use Rattle.tk_picture.specs.PictureText.{closed_line, group_line, head, heading_line, line_width};
+ghost use Rattle.tk_picture.specs.PictureText.{route_numbers, title, title_line, view_line};
+ghost use Rattle.tk_picture.specs.Pictures.{Fits, drawing_of, text_in, text_of};
 ghost use Rattle.tk_picture.specs.Views.{city_count, spot_in};
 
-use crate::caption::{Caption, put_title};
+use crate::caption::put_title;
 use crate::closed_lines::{put_routes, put_tour};
 use crate::dots::{MANY, put_city_dots, put_depot};
+use crate::frame::Frame;
+use crate::numbers::{put_numbers, put_numbers_start};
+use crate::page::parts::Parts;
+use crate::page::put_page;
+use crate::subject::Subject;
 use crate::view::View;
-use tk_routes::Cvrp;
 use tk_writers::{Pen, Sink, WriteFault};
-
-/// The closed lines of a picture.
-#[derive(Clone, Copy)]
-pub enum Lines<'a> {
-    None,
-    /// A tour of these cities.
-    Tour(&'a [u32]),
-    /// Routes of this problem, as lists of customers.
-    Routes(Cvrp<'a>, &'a [Vec<u32>]),
-}
 
 /// A picture of a problem of this name: its cities, closed lines through them, and its depot.
 #[derive(Clone, Copy)]
 pub struct Picture<'a> {
     pub name: &'a [u8],
     pub view: View<'a>,
-    pub caption: Caption,
-    pub lines: Lines<'a>,
+    pub subject: Subject<'a>,
     pub depot: Option<u32>,
+    /// The demands by node: none where there is no routing.
+    pub demands: &'a [u32],
+}
+
+/// How a picture is written.
+#[derive(Clone, Copy)]
+pub enum Form<'a> {
+    /// As an SVG.
+    Svg,
+    /// Within a page (HTML) that has these parts.
+    Page(Parts<'a>),
 }
 
 /// Puts how wide the lines are.
@@ -58,31 +62,38 @@ fn put_view_line<W: Sink>(pen: &mut Pen<'_, W>, height: u128)
 }
 
 /// Puts the line with the title.
-fn put_title_line<W: Sink>(pen: &mut Pen<'_, W>, name: &[u8], caption: Caption)
-    ensures { Puts W.taken W.broken pen.old pen.new (title_line (title name.now caption)) }
+pub(crate) fn put_title_line<W: Sink>(pen: &mut Pen<'_, W>, picture: &Picture<'_>)
+    ensures { Puts W.taken W.broken pen.old pen.new (title_line
+        (title picture.now.name.now (city_count picture.now.view) (drawing_of picture.now.subject))) }
 {
     pen.put(b"<title>");
-    put_title(pen, name, caption);
+    put_title(pen, picture.name, picture.view.size(), picture.subject);
     pen.put(b"</title>");
     pen.put(b"\n");
 }
 
-/// Puts the line that shows the title.
-fn put_heading_line<W: Sink>(pen: &mut Pen<'_, W>, name: &[u8], caption: Caption)
-    ensures { Puts W.taken W.broken pen.old pen.new (heading_line (title name.now caption)) }
+/// Puts the line with the title that is drawn.
+fn put_heading_line<W: Sink>(pen: &mut Pen<'_, W>, picture: &Picture<'_>)
+    ensures { Puts W.taken W.broken pen.old pen.new (heading_line
+        (title picture.now.name.now (city_count picture.now.view) (drawing_of picture.now.subject))) }
 {
     pen.put(b"<text x=\"20\" y=\"40\" font-family=\"sans-serif\" font-size=\"24\">");
-    put_title(pen, name, caption);
+    put_title(pen, picture.name, picture.view.size(), picture.subject);
     pen.put(b"</text>");
     pen.put(b"\n");
 }
 
 /// Puts the line with which lines and points begin.
-fn put_group_line<W: Sink>(pen: &mut Pen<'_, W>, cities: u32)
-    ensures { Puts W.taken W.broken pen.old pen.new (group_line cities) }
+fn put_group_line<W: Sink>(pen: &mut Pen<'_, W>, frame: &Frame, cities: u32)
+    ensures { Puts W.taken W.broken pen.old pen.new (group_line frame.now cities) }
 {
-    pen.put(b"<g transform=\"translate(20 60) scale(0.1)\" fill=\"none\" stroke-linecap=\"round\"");
-    pen.put(b" stroke-linejoin=\"round\" stroke-width=\"");
+    pen.put(b"<g transform=\"translate(");
+    pen.put_wide(frame.drawn_from_left());
+    pen.put(b" ");
+    pen.put_wide(frame.drawn_from_top());
+    pen.put(
+        b") scale(0.1)\" fill=\"none\" stroke-linecap=\"round\" stroke-linejoin=\"round\" stroke-width=\"",
+    );
     put_line_width(pen, cities);
     pen.put(b"\">");
     pen.put(b"\n");
@@ -90,50 +101,82 @@ fn put_group_line<W: Sink>(pen: &mut Pen<'_, W>, cities: u32)
 
 /// Puts what comes before the lines and the points.
 fn put_head<W: Sink>(pen: &mut Pen<'_, W>, picture: &Picture<'_>)
-    ensures { Puts W.taken W.broken pen.old pen.new (head (view_height picture.now.view.frame)
-        (title picture.now.name.now picture.now.caption) (city_count picture.now.view)) }
+    ensures { Puts W.taken W.broken pen.old pen.new (head picture.now.view.frame
+        (title picture.now.name.now (city_count picture.now.view) (drawing_of picture.now.subject))
+        (city_count picture.now.view)) }
 {
     put_view_line(pen, picture.view.frame.view_height());
-    put_title_line(pen, picture.name, picture.caption);
+    put_title_line(pen, picture);
     pen.put(b"<rect width=\"100%\" height=\"100%\" fill=\"white\"/>\n");
-    put_heading_line(pen, picture.name, picture.caption);
-    put_group_line(pen, picture.view.size());
+    put_heading_line(pen, picture);
+    put_group_line(pen, &picture.view.frame, picture.view.size());
 }
 
 /// Puts the closed lines.
-fn put_lines<W: Sink>(pen: &mut Pen<'_, W>, view: &View<'_>, lines: Lines<'_>)
-    requires { AreLines (city_count view.now) lines }
-    ensures { Puts W.taken W.broken pen.old pen.new (closed_lines (spot_in view.now) 0 (paths_of lines.entry)) }
+fn put_lines<W: Sink>(pen: &mut Pen<'_, W>, view: &View<'_>, subject: Subject<'_>)
+    requires { Fits (city_count view.now) subject }
+    ensures { Puts W.taken W.broken pen.old pen.new
+        (flat_map (closed_line (spot_in view.now)) (paths_of (drawing_of subject.entry))) }
 {
-    match lines {
-        Lines::None => {}
-        Lines::Tour(cities) => put_tour(pen, view, cities),
-        Lines::Routes(cvrp, routes) => put_routes(pen, view, &cvrp, routes),
+    match subject {
+        Subject::Cities => {}
+        Subject::Tour { cities, .. } => put_tour(pen, view, cities),
+        Subject::Routes { cvrp, routes, .. } => put_routes(pen, view, &cvrp, routes),
+    }
+}
+
+/// Puts the numbers of routes, where there are routes.
+fn put_route_numbers<W: Sink>(pen: &mut Pen<'_, W>, view: &View<'_>, subject: Subject<'_>)
+    requires { Fits (city_count view.now) subject }
+    ensures { Puts W.taken W.broken pen.old pen.new
+        (route_numbers (spot_in view.now) (city_count view.now) (drawing_of subject.entry)) }
+{
+    if let Subject::Routes { cvrp, routes, .. } = subject {
+        put_numbers_start(pen, view.size());
+        put_numbers(pen, view, &cvrp, routes);
+        pen.put(b"</g>\n");
     }
 }
 
 /// Puts a picture.
-fn put_picture<W: Sink>(pen: &mut Pen<'_, W>, picture: &Picture<'_>)
-    requires lines { AreLines (city_count picture.now.view) picture.now.lines }
+pub(crate) fn put_picture<W: Sink>(pen: &mut Pen<'_, W>, picture: &Picture<'_>)
+    requires fits { Fits (city_count picture.now.view) picture.now.subject }
     requires depot { IfSome picture.now.depot (IsCity (city_count picture.now.view)) }
     ensures { Puts W.taken W.broken pen.old pen.new (text_of picture.now) }
 {
     put_head(pen, picture);
-    put_lines(pen, &picture.view, picture.lines);
-    put_city_dots(pen, &picture.view, picture.caption);
+    put_lines(pen, &picture.view, picture.subject);
+    put_city_dots(pen, &picture.view, picture.subject);
     put_depot(pen, &picture.view, picture.depot);
+    put_route_numbers(pen, &picture.view, picture.subject);
     pen.put(b"</g>\n</svg>\n");
 }
 
-/// Writes a picture.
-pub fn write_picture<W: Sink>(out: &mut W, picture: &Picture<'_>) -> Result<(), WriteFault>
-    requires lines { AreLines (city_count picture.now.view) picture.now.lines }
+/// Puts a picture in a form.
+fn put_form<W: Sink>(pen: &mut Pen<'_, W>, picture: &Picture<'_>, form: Form<'_>)
+    requires fits { Fits (city_count picture.now.view) picture.now.subject }
+    requires depot { IfSome picture.now.depot (IsCity (city_count picture.now.view)) }
+    ensures { Puts W.taken W.broken pen.old pen.new (text_in form.entry picture.now) }
+{
+    match form {
+        Form::Svg => put_picture(pen, picture),
+        Form::Page(parts) => put_page(pen, picture, &parts),
+    }
+}
+
+/// Writes a picture in a form.
+pub fn write_picture<W: Sink>(
+    out: &mut W,
+    picture: &Picture<'_>,
+    form: Form<'_>,
+) -> Result<(), WriteFault>
+    requires fits { Fits (city_count picture.now.view) picture.now.subject }
     requires depot { IfSome picture.now.depot (IsCity (city_count picture.now.view)) }
     requires name { length picture.now.name.now ≤ 1024 }
-    ensures text { Writes W.taken W.broken out.old out.new result (text_of picture.now) }
+    ensures text { Writes W.taken W.broken out.old out.new result (text_in form.entry picture.now) }
     ensures failed { OnErr result (W.broken out.new ≡ true) }
 {
     let mut pen = Pen::new(out);
-    put_picture(&mut pen, picture);
+    put_form(&mut pen, picture, form);
     pen.end()
 }

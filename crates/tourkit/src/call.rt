@@ -42,7 +42,11 @@ fn run(rt: &HostRuntime, asked: Asked<'_>) -> ExitCode {
         Asked::Explain { what, line } => explain_command(rt, what, line),
         Asked::Matrix { problem, format } => matrix_command(rt, problem, format),
         Asked::Near { problem, length } => near_command(rt, problem, length),
-        Asked::Plot { problem, claim } => plot_command(rt, problem, claim),
+        Asked::Plot {
+            problem,
+            claim,
+            html,
+        } => plot_command(rt, problem, claim, html),
         Asked::Solve {
             file,
             options,

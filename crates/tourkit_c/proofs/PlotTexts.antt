@@ -7,6 +7,7 @@ use Rattle.tk_text.specs.Solution.{solution_decided}
 use Rattle.tk_text.specs.Tour.{tour_decided}
 use Rattle.tk_engines.specs.Engine.{IsGiven, ReadsProblem, ReadsSolution, ReadsTour}
 use Rattle.tk_engines.specs.declared.fault.Fault.{Fault}
+use Rattle.tk_picture.specs.declared.picture.Form.TheVariants as forms
 use Rattle.tk_engines.specs.Plot.{Claim, Drawn, Nothing, Output, ReadsClaim, Refused, RoutesClaim, TourClaim, WritesOutput, plot_task}
 use Rattle.tk_engines.specs.declared.engines.plotted.Plotted.{Plotted}
 use Rattle.tourkit_c.proofs.TextsSaid.{says}
@@ -40,7 +41,7 @@ written_of out_taken out_broken told_taken told_broken out out' told told' items
 -- what the engine gave, by what the texts say
 pub plot_said : {S C W T : Type 0} (left : S → Option (List ℕ)) (broken : S → Bool) (old new : S) (claim_left : C → Option (List ℕ)) (claim_broken : C → Bool) (claim_old claim_new : C)
     (taken : W → Option (List ℕ)) (out_broken : W → Bool) (out out' : W) (told_taken : T → Option (List ℕ)) (told_broken : T → Bool) (told told' : T) (given : Bool) (answer : Plotted) (problem claim items lines : List ℕ)
-    → IsGiven (plot_task given) (ReadsProblem left broken old new) (ReadsClaim given claim_left claim_broken claim_old claim_new) (WritesOutput taken out_broken told_taken told_broken out out' told told' (Ok tt)) answer
+    → IsGiven (plot_task forms.Svg given) (ReadsProblem left broken old new) (ReadsClaim given claim_left claim_broken claim_old claim_new) (WritesOutput taken out_broken told_taken told_broken out out' told told' (Ok tt)) answer
     → left old ≡ Some problem → claim_left claim_old ≡ Some claim → taken out ≡ Some [] → taken out' ≡ Some items → told_taken told ≡ Some [] → told_taken told' ≡ Some lines
     → (output : Output) × IsPlotOf given problem claim answer output × (items ≡ picture_in output) × (lines ≡ line_in output)
 plot_said left broken old new claim_left claim_broken claim_old claim_new taken out_broken out out' told_taken told_broken told told' given answer problem claim items lines h e f g i j k =

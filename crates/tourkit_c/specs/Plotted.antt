@@ -8,6 +8,7 @@ use Rattle.tk_engines.specs.declared.engines.plotted.Plotted.TheVariants as plot
 use Rattle.tk_engines.specs.Plot.{Claim, Drawn, IsPlot, Nothing, Output, Refused, RoutesClaim, TourClaim}
 use Rattle.tk_engines.specs.Plot.{without_places}
 use Rattle.tk_engines.specs.declared.fault.Fault.{Fault}
+use Rattle.tk_picture.specs.declared.picture.Form.TheVariants as forms
 use Rattle.tourkit_c.specs.Answers.{IsRefused}
 use Rattle.tourkit_c.specs.HandedOut.{handed_out}
 use Rattle.tourkit_c.specs.Texts.{HasFault, IsWritten, Says, route_status, tour_status}
@@ -25,7 +26,7 @@ pub record IsPlotOf (given : Bool) (problem claim : List ℕ) (answer : Plotted)
   pub c : Claim
   pub is_problem : Says problem_decided problem p
   pub is_claim : ClaimSays given claim p c
-  pub is : IsPlot p c answer output
+  pub is : IsPlot forms.Svg p c answer output
 
 -- 1 where what is claimed has a fault
 abbrev pub plot_status : Plotted → ℕ

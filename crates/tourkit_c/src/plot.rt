@@ -11,6 +11,7 @@ use crate::answer::{Answer, stopped};
 use crate::hand_out::hand_out;
 use std::alloc::Global;
 use tk_engines::{Fault, Plotted, plot_engine};
+use tk_picture::Form;
 use tk_routes::RouteVerdict;
 use tk_text::{FromRead, ToWrite};
 use tk_tour::Verdict;
@@ -36,6 +37,7 @@ fn plotted(
         &mut problem,
         &mut claim,
         has_claim,
+        Form::Svg,
         &mut out,
         &mut told,
     ) {

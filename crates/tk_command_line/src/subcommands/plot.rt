@@ -9,25 +9,33 @@ use clap::builder::ValueParser;
 /// What `plot --help` ends with.
 const HELP: &str = "Reads PROBLEM and TOUR or SOLUTION, one of which may be - for standard input.
 Prints a picture as SVG: the cities, the tour or the routes, and the depot of a CVRP.
+With --html, prints a page (HTML) that needs nothing else: the picture to zoom and move, the number, place and demand
+of each city, and a table of the routes.
 The second file is checked first. If it is not a tour of PROBLEM, or has no valid routes of it, nothing is drawn,
 and standard error has what check or checksol would print.
 
 Exit status:
-  0  the picture was printed
+  0  the picture or the page was printed
   1  TOUR is not a tour of PROBLEM, or SOLUTION has no valid routes of it
   2  the arguments are wrong, a file is invalid, or PROBLEM has explicit distances in place of coordinates
   3  a file cannot be read, output cannot be written, or memory has run out
 
-Example:
-  tourkit plot examples/tri.tsp examples/tri.tour >tri.svg";
+Examples:
+  tourkit plot examples/tri.tsp examples/tri.tour >tri.svg
+  tourkit plot --html examples/bakery.vrp examples/bakery-plan.sol >bakery.html";
 
 /// What it takes.
-static ARGUMENTS: [Argument; 2] = [
+static ARGUMENTS: [Argument; 3] = [
     PROBLEM,
     Argument {
         name: "TOUR | SOLUTION",
         help: "a TSPLIB tour file, or for a CVRP a CVRPLIB solution file, or - for standard input",
         form: Form::Optional(ValueParser::String),
+    },
+    Argument {
+        name: "html",
+        help: "print a page of HTML in place of a picture",
+        form: Form::Flag,
     },
 ];
 
@@ -36,7 +44,7 @@ pub fn subcommand() -> Subcommand {
     Subcommand {
         name: "plot",
         called: "tourkit plot",
-        about: "Draws a problem, and a tour or routes of it, as SVG",
+        about: "Draws a problem, and a tour or routes of it, as SVG or HTML",
         more: HELP,
         arguments: &ARGUMENTS,
     }
@@ -47,5 +55,6 @@ pub fn asked<'a>(words: &ArgMatches<'a>) -> Option<Asked<'a>> {
     Some(Asked::Plot {
         problem: words.get_str("PROBLEM")?,
         claim: words.get_str("TOUR | SOLUTION"),
+        html: words.get_flag("html"),
     })
 }

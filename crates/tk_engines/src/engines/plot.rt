@@ -8,10 +8,11 @@ ghost use Rattle.tk_routes.specs.Cvrps.{instance_of};
 ghost use Rattle.tk_routes.specs.Instance.{IsInstanceOf};
 ghost use Rattle.tk_routes.specs.RouteVerdicts.{IsRouteVerdict};
 ghost use Rattle.tk_engines.specs.Engine.{AtWrite, BeforeSecond, EndsByProblem, IsUntouched, ReadsProblem, UnlessWrite};
-ghost use Rattle.tk_picture.specs.Pictures.{AreLines, paths_of};
+ghost use Rattle.tk_picture.specs.Pictures.{Fits, drawing_of};
 ghost use Rattle.tk_engines.specs.declared.fault.Fault.TheVariants.{NoPlaces};
-ghost use Rattle.tk_engines.specs.Plot.{AreUntouched, HasFailed, WritesOutput, WritesSome, without_places};
-ghost use Rattle.tk_engines.specs.Plot.{HasRead, IsPicture, IsRouteOutput, IsTourOutput, IsViewOf, ReadsClaim, plot_task};
+ghost use Rattle.tk_engines.specs.Plot.{AreUntouched, HasFailed, WritesOutput, WritesSome, demands_in, without_places};
+ghost use Rattle.tk_engines.specs.Plot.{HasRead, IsPicture, IsRouteOutput, IsTourOutput, IsViewOf};
+ghost use Rattle.tk_engines.specs.Plot.{ReadsClaim, plot_task};
 
 use crate::engines::plotted::Plotted;
 use crate::fault::Fault;
@@ -19,7 +20,7 @@ use crate::lines::route_line::write_route_verdict;
 use crate::lines::tour_line::{length_of, write_verdict};
 use std::alloc::Global;
 use tk_lists::{SolText, read_solution, read_tour};
-use tk_picture::{Caption, Lines, Picture, View, write_picture};
+use tk_picture::{Form, Picture, Subject, View, write_picture};
 use tk_problem::{Problem, Weights};
 use tk_problem_text::read_problem;
 use tk_routes::{Cvrp, RouteVerdict, check_routes};
@@ -36,6 +37,16 @@ fn depot_of(problem: &Problem) -> Option<u32>
     Some(routing.depot)
 }
 
+/// The demands of a problem's nodes: none where it has no routing.
+fn demands_of(problem: &Problem) -> &[u32]
+    ensures { result.now ≡ demands_in (problem_is problem.now).routing }
+{
+    match &problem.routing {
+        Some(routing) => &routing.demand,
+        None => &[],
+    }
+}
+
 /// A view of all cities of a problem: none where they have no places.
 fn view_of(problem: &Problem) -> Option<View<'_>>
     ensures some { IfSome result (IsViewOf (problem_is problem.now)) }
@@ -48,43 +59,38 @@ fn view_of(problem: &Problem) -> Option<View<'_>>
 }
 
 /// A picture of a problem.
-fn picture_of<'a>(
-    problem: &'a Problem,
-    view: View<'a>,
-    caption: Caption,
-    lines: Lines<'a>,
-) -> Picture<'a>
+fn picture_of<'a>(problem: &'a Problem, view: View<'a>, subject: Subject<'a>) -> Picture<'a>
     ensures name { result.name.now ≡ problem.now.name.items }
     ensures view { result.view ≡ view.entry }
-    ensures caption { result.caption ≡ caption }
-    ensures lines { result.lines ≡ lines.entry }
+    ensures subject { result.subject ≡ subject.entry }
     ensures depot { result.depot ≡ option_map (λ r. r.depot) problem.now.routing }
     ensures known { IfSome result.depot (IsCity problem.now.n) }
+    ensures demands { result.demands.now ≡ demands_in (problem_is problem.now).routing }
 {
     Picture {
         name: &problem.name,
         view,
-        caption,
-        lines,
+        subject,
         depot: depot_of(problem),
+        demands: demands_of(problem),
     }
 }
 
-/// Draws a problem and closed lines through its cities.
+/// Draws a problem, and a tour or routes of it.
 fn draw<W: Sink>(
     out: &mut W,
     problem: &Problem,
     view: View<'_>,
-    caption: Caption,
-    lines: Lines<'_>,
+    subject: Subject<'_>,
+    form: Form<'_>,
 ) -> Result<(), WriteFault>
     requires view { IsViewOf (problem_is problem.now) view }
-    requires lines { AreLines problem.now.n lines }
-    ensures text { WritesSome (IsPicture (problem_is problem.now) caption (paths_of lines.entry))
+    requires fits { Fits problem.now.n subject }
+    ensures text { WritesSome (IsPicture form.entry (problem_is problem.now) (drawing_of subject.entry))
         (Writes W.taken W.broken out.old out.new result) }
     ensures failed { OnErr result (W.broken out.new ≡ true) }
 {
-    write_picture(out, &picture_of(problem, view, caption, lines))
+    write_picture(out, &picture_of(problem, view, subject), form)
 }
 
 /// Draws a tour, or tells its fault.
@@ -95,17 +101,18 @@ fn show_tour<W: Sink, T: Sink>(
     view: View<'_>,
     cities: &[u32],
     verdict: Verdict,
+    form: Form<'_>,
 ) -> Result<(), WriteFault>
     requires view { IsViewOf (problem_is problem.now) view }
     requires verdict { IsVerdict problem.now.n cities.now verdict }
-    ensures text { WritesSome (IsTourOutput (problem_is problem.now) cities.now verdict)
+    ensures text { WritesSome (IsTourOutput form.entry (problem_is problem.now) cities.now verdict)
         (WritesOutput W.taken W.broken T.taken T.broken out.old out.new told.old told.new result) }
     ensures failed { OnErr result (HasFailed (W.broken out.new) (T.broken told.new)) }
 {
     match verdict {
         Verdict::Tour => {
-            let caption = Caption::Tour(problem.n, length_of(problem, cities));
-            draw(out, problem, view, caption, Lines::Tour(cities))
+            let length = length_of(problem, cities);
+            draw(out, problem, view, Subject::Tour { cities, length }, form)
         }
         _ => write_verdict(told, problem, cities, verdict),
     }
@@ -120,26 +127,26 @@ fn show_routes<W: Sink, T: Sink>(
     cvrp: &Cvrp<'_>,
     solution: &SolText,
     verdict: RouteVerdict,
+    form: Form<'_>,
 ) -> Result<(), WriteFault>
     requires view { IsViewOf (problem_is problem.now) view }
     requires instance { IsInstanceOf problem.now (instance_of cvrp.now) }
     requires verdict { IsRouteVerdict (instance_of cvrp.now) (map (λ r. r.items) solution.now.routes.items)
         solution.now.cost verdict }
-    ensures text { WritesSome (IsRouteOutput (problem_is problem.now) (instance_of cvrp.now)
+    ensures text { WritesSome (IsRouteOutput form.entry (problem_is problem.now) (instance_of cvrp.now)
         (map (λ r. r.items) solution.now.routes.items) verdict)
         (WritesOutput W.taken W.broken T.taken T.broken out.old out.new told.old told.new result) }
     ensures failed { OnErr result (HasFailed (W.broken out.new) (T.broken told.new)) }
 {
     match verdict {
         RouteVerdict::Valid { routes, cost } => {
-            let caption = Caption::Routes(routes, cost.unsigned_abs());
-            draw(
-                out,
-                problem,
-                view,
-                caption,
-                Lines::Routes(*cvrp, &solution.routes),
-            )
+            let subject = Subject::Routes {
+                cvrp: *cvrp,
+                routes: &solution.routes,
+                count: routes,
+                cost: cost.unsigned_abs(),
+            };
+            draw(out, problem, view, subject, form)
         }
         _ => write_route_verdict(told, verdict),
     }
@@ -151,12 +158,13 @@ fn plot_tour<C: Source, W: Sink, T: Sink>(
     problem: &Problem,
     view: View<'_>,
     claim: &mut C,
+    form: Form<'_>,
     out: &mut W,
     told: &mut T,
 ) -> Result<Plotted, Fault>
     requires view { IsViewOf (problem_is problem.now) view }
     requires tsp { problem.now.routing ≡ None }
-    ensures ends { EndsByProblem (plot_task true) (HasRead (problem_is problem.now))
+    ensures ends { EndsByProblem (plot_task form.entry true) (HasRead (problem_is problem.now))
         (ReadsClaim true C.left C.broken claim.old claim.new)
         (WritesOutput W.taken W.broken T.taken T.broken out.old out.new told.old told.new) result }
     ensures quiet { IfErr result (UnlessWrite
@@ -172,7 +180,7 @@ fn plot_tour<C: Source, W: Sink, T: Sink>(
     let Ok(verdict) = check(alloc, problem.n, cities) else {
         return Err(Fault::NoMemory);
     };
-    match show_tour(out, told, problem, view, cities, verdict) {
+    match show_tour(out, told, problem, view, cities, verdict, form) {
         Ok(()) => Ok(Plotted::Tour(verdict)),
         Err(fault) => Err(Fault::Write(fault)),
     }
@@ -185,12 +193,13 @@ fn plot_routes<C: Source, W: Sink, T: Sink>(
     view: View<'_>,
     cvrp: &Cvrp<'_>,
     claim: &mut C,
+    form: Form<'_>,
     out: &mut W,
     told: &mut T,
 ) -> Result<Plotted, Fault>
     requires view { IsViewOf (problem_is problem.now) view }
     requires instance { IsInstanceOf problem.now (instance_of cvrp.now) }
-    ensures ends { EndsByProblem (plot_task true) (HasRead (problem_is problem.now))
+    ensures ends { EndsByProblem (plot_task form.entry true) (HasRead (problem_is problem.now))
         (ReadsClaim true C.left C.broken claim.old claim.new)
         (WritesOutput W.taken W.broken T.taken T.broken out.old out.new told.old told.new) result }
     ensures quiet { IfErr result (UnlessWrite
@@ -205,7 +214,7 @@ fn plot_routes<C: Source, W: Sink, T: Sink>(
     let Ok(verdict) = check_routes(alloc, cvrp, &solution) else {
         return Err(Fault::NoMemory);
     };
-    match show_routes(out, told, problem, view, cvrp, &solution, verdict) {
+    match show_routes(out, told, problem, view, cvrp, &solution, verdict, form) {
         Ok(()) => Ok(Plotted::Routes(verdict)),
         Err(fault) => Err(Fault::Write(fault)),
     }
@@ -217,10 +226,11 @@ fn plot_problem<C: Source, W: Sink, T: Sink>(
     problem: &Problem,
     claim: &mut C,
     has_claim: bool,
+    form: Form<'_>,
     out: &mut W,
     told: &mut T,
 ) -> Result<Plotted, Fault>
-    ensures ends { EndsByProblem (plot_task has_claim) (HasRead (problem_is problem.now))
+    ensures ends { EndsByProblem (plot_task form.entry has_claim) (HasRead (problem_is problem.now))
         (ReadsClaim has_claim C.left C.broken claim.old claim.new)
         (WritesOutput W.taken W.broken T.taken T.broken out.old out.new told.old told.new) result }
     ensures quiet { IfErr result (UnlessWrite
@@ -232,23 +242,22 @@ fn plot_problem<C: Source, W: Sink, T: Sink>(
         return Err(Fault::NoPlaces);
     };
     if !has_claim {
-        let caption = Caption::Cities(problem.n);
-        let Err(fault) = draw(out, problem, view, caption, Lines::None) else {
+        let Err(fault) = draw(out, problem, view, Subject::Cities, form) else {
             return Ok(Plotted::Cities);
         };
         return Err(Fault::Write(fault));
     }
     match Cvrp::of(problem) {
-        Some(cvrp) => plot_routes(alloc, problem, view, &cvrp, claim, out, told),
-        None => plot_tour(alloc, problem, view, claim, out, told),
+        Some(cvrp) => plot_routes(alloc, problem, view, &cvrp, claim, form, out, told),
+        None => plot_tour(alloc, problem, view, claim, form, out, told),
     }
 }
 
 /// Draws the cities of a problem, and if `has_claim` is true, the tour or the routes of another text. They are checked
 /// first: where they have a fault, `told` gets the line on it, and `out` gets nothing.
 ///
-/// All texts are read before a byte is written. The other text is read as a solution where the problem has a routing,
-/// else as a tour.
+/// The picture is written in a form: as an SVG, or within a page (HTML). All texts are read before a byte is written.
+/// The other text is read as a solution where the problem has a routing, else as a tour.
 ///
 /// # Errors
 /// The fault of either text, of writing, or of memory; `NoPlaces` where the problem has explicit weights.
@@ -257,10 +266,11 @@ pub fn plot_engine<P: Source, C: Source, W: Sink, T: Sink>(
     problem: &mut P,
     claim: &mut C,
     has_claim: bool,
+    form: Form<'_>,
     out: &mut W,
     told: &mut T,
 ) -> Result<Plotted, Fault>
-    ensures ends { EndsByProblem (plot_task has_claim) (ReadsProblem P.left P.broken problem.old problem.new)
+    ensures ends { EndsByProblem (plot_task form.entry has_claim) (ReadsProblem P.left P.broken problem.old problem.new)
         (ReadsClaim has_claim C.left C.broken claim.old claim.new)
         (WritesOutput W.taken W.broken T.taken T.broken out.old out.new told.old told.new) result }
     ensures quiet { IfErr result (UnlessWrite
@@ -269,7 +279,7 @@ pub fn plot_engine<P: Source, C: Source, W: Sink, T: Sink>(
     ensures unread { IfErr result (BeforeSecond (IsUntouched C.left C.broken claim.old claim.new)) }
 {
     match read_problem(alloc, problem) {
-        Ok(problem) => plot_problem(alloc, &problem, claim, has_claim, out, told),
+        Ok(problem) => plot_problem(alloc, &problem, claim, has_claim, form, out, told),
         Err(fault) => Err(Fault::Problem(fault)),
     }
 }

@@ -6,12 +6,12 @@ use tk_routes::RouteVerdict;
 use tk_text::{TextFault, TextKind};
 use tk_tour::Verdict;
 
-/// The rectangle is 3 wide and 4 high, so its right side stands at three quarters of the height.
+/// The rectangle is 3 wide and 4 high, so its right side stands at three quarters of the height, in the middle.
 const CITIES: &[u8] = b"<svg xmlns=\"http://www.w3.org/2000/svg\" viewBox=\"0 0 1040 1080\">
-<title>a&lt;b &amp; &quot;c&quot;???: 4 cities</title>
+<title>a&lt;b &amp; &quot;c&quot;?\xc3\xa9: 4 cities</title>
 <rect width=\"100%\" height=\"100%\" fill=\"white\"/>
-<text x=\"20\" y=\"40\" font-family=\"sans-serif\" font-size=\"24\">a&lt;b &amp; &quot;c&quot;???: 4 cities</text>
-<g transform=\"translate(20 60) scale(0.1)\" fill=\"none\" stroke-linecap=\"round\" stroke-linejoin=\"round\" stroke-width=\"20\">
+<text x=\"20\" y=\"40\" font-family=\"sans-serif\" font-size=\"24\">a&lt;b &amp; &quot;c&quot;?\xc3\xa9: 4 cities</text>
+<g transform=\"translate(145 60) scale(0.1)\" fill=\"none\" stroke-linecap=\"round\" stroke-linejoin=\"round\" stroke-width=\"20\">
 <path stroke=\"black\" stroke-width=\"60\" d=\"
 M0,10000h0
 M7500,0h0
@@ -23,11 +23,11 @@ M0,0h0
 ";
 
 const TOUR: &[u8] = b"<svg xmlns=\"http://www.w3.org/2000/svg\" viewBox=\"0 0 1040 1080\">
-<title>a&lt;b &amp; &quot;c&quot;???: tour of 4 cities, length 14</title>
+<title>a&lt;b &amp; &quot;c&quot;?\xc3\xa9: tour of 4 cities, length 14</title>
 <rect width=\"100%\" height=\"100%\" fill=\"white\"/>
-<text x=\"20\" y=\"40\" font-family=\"sans-serif\" font-size=\"24\">a&lt;b &amp; &quot;c&quot;???: tour of 4 cities, length 14</text>
-<g transform=\"translate(20 60) scale(0.1)\" fill=\"none\" stroke-linecap=\"round\" stroke-linejoin=\"round\" stroke-width=\"20\">
-<polygon stroke=\"#0072B2\" stroke-dasharray=\"none\" points=\"
+<text x=\"20\" y=\"40\" font-family=\"sans-serif\" font-size=\"24\">a&lt;b &amp; &quot;c&quot;?\xc3\xa9: tour of 4 cities, length 14</text>
+<g transform=\"translate(145 60) scale(0.1)\" fill=\"none\" stroke-linecap=\"round\" stroke-linejoin=\"round\" stroke-width=\"20\">
+<polygon stroke=\"#0072B2\" points=\"
 0,10000
 7500,10000
 7500,0
@@ -44,16 +44,16 @@ M0,0h0
 ";
 
 /// The places are in one line, 3 wide. The second customer is the third node.
-const ROUTES: &[u8] = b"<svg xmlns=\"http://www.w3.org/2000/svg\" viewBox=\"0 0 1040 80\">
+pub const ROUTES: &[u8] = b"<svg xmlns=\"http://www.w3.org/2000/svg\" viewBox=\"0 0 1040 280\">
 <title>shop: 2 routes, cost 6</title>
 <rect width=\"100%\" height=\"100%\" fill=\"white\"/>
 <text x=\"20\" y=\"40\" font-family=\"sans-serif\" font-size=\"24\">shop: 2 routes, cost 6</text>
-<g transform=\"translate(20 60) scale(0.1)\" fill=\"none\" stroke-linecap=\"round\" stroke-linejoin=\"round\" stroke-width=\"20\">
-<polygon stroke=\"#0072B2\" stroke-dasharray=\"none\" points=\"
+<g transform=\"translate(20 160) scale(0.1)\" fill=\"none\" stroke-linecap=\"round\" stroke-linejoin=\"round\" stroke-width=\"20\">
+<polygon stroke=\"#0072B2\" points=\"
 6666,0
 10000,0
 \"/>
-<polygon stroke=\"#D55E00\" stroke-dasharray=\"none\" points=\"
+<polygon stroke=\"#009E73\" points=\"
 6666,0
 0,0
 \"/>
@@ -63,6 +63,10 @@ M6666,0h0
 M10000,0h0
 \"/>
 <path fill=\"black\" d=\"M6666,0m-80,-80h160v160h-160z\"/>
+<g font-family=\"sans-serif\" font-weight=\"bold\" text-anchor=\"middle\" font-size=\"140\">
+<text transform=\"translate(10000,0)\" dy=\"-.4em\" fill=\"#0072B2\">1</text>
+<text transform=\"translate(0,0)\" dy=\"-.4em\" fill=\"#009E73\">3</text>
+</g>
 </g>
 </svg>
 ";
@@ -84,7 +88,7 @@ fn draws_a_tour(rt: HostRuntime) {
     assert!(rt; given.told.is_empty());
 }
 
-/// The route without a customer is not drawn.
+/// The route without a customer is not drawn, and the route after it keeps its number.
 #[test]
 fn draws_routes(rt: HostRuntime) {
     let solution = b"Route #1: 2\nRoute #2:\nRoute #3: 1\nCost 6\n";

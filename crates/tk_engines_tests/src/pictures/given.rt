@@ -1,6 +1,6 @@
 //! What the engine is given, and what it gives.
 use std::alloc::Global;
-use tk_engines::{Fault, Plotted, plot_engine};
+use tk_engines::{Fault, Form, Plotted, plot_engine};
 use tk_text::{FromRead, ToWrite};
 
 /// What the engine answers, what it draws, and what it tells of a fault.
@@ -23,8 +23,13 @@ pub const SHOP: &[u8] =
 pub const EXPLICIT: &[u8] =
     b"TYPE : TSP\nDIMENSION : 2\nEDGE_WEIGHT_TYPE : EXPLICIT\nEDGE_WEIGHT_FORMAT : UPPER_ROW\nEDGE_WEIGHT_SECTION\n1\nEOF\n";
 
-/// What the engine gives for a problem and what is claimed of it.
+/// What the engine gives for a problem and what is claimed of it, as a picture.
 pub fn plotted(alloc: Global, problem: &[u8], claim: Option<&[u8]>) -> Given {
+    plotted_as(alloc, problem, claim, Form::Svg)
+}
+
+/// The same in a form.
+pub fn plotted_as(alloc: Global, problem: &[u8], claim: Option<&[u8]>, form: Form<'_>) -> Given {
     let mut problem = FromRead::new(problem);
     let mut source = FromRead::new(claim.unwrap_or(b""));
     let mut drawn = ToWrite::new(Vec::new(alloc));
@@ -34,6 +39,7 @@ pub fn plotted(alloc: Global, problem: &[u8], claim: Option<&[u8]>) -> Given {
         &mut problem,
         &mut source,
         claim.is_some(),
+        form,
         &mut drawn,
         &mut told,
     );

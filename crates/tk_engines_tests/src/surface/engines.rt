@@ -115,6 +115,7 @@ fn draws(rt: HostRuntime) {
         &mut problem,
         &mut none,
         false,
+        tk_engines::Form::Svg,
         &mut out,
         &mut told,
     );

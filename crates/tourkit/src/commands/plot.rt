@@ -1,17 +1,24 @@
 //! The subcommand `plot`.
+use crate::embedded::page::{HEAD, SCRIPT, STYLE, TOOLS};
 use crate::input::{Input, open, open_two};
 use crate::report::{self, FOUND};
 use std::process::ExitCode;
-use tk_engines::{Fault, Plotted, plot_engine};
+use tk_engines::{Fault, Form, Parts, Plotted, plot_engine};
 use tk_routes::RouteVerdict;
 use tk_tour::Verdict;
 use tk_words::{FromRead, Source};
 use tk_writers::ToWrite;
 
-/// `plot PROBLEM [TOUR | SOLUTION]`. Both files are opened before either is read.
-pub fn plot_command(rt: &HostRuntime, problem_file: &str, claim_file: Option<&str>) -> ExitCode {
+/// `plot PROBLEM [TOUR | SOLUTION] [--html]`. Both files are opened before either is read.
+pub fn plot_command(
+    rt: &HostRuntime,
+    problem_file: &str,
+    claim_file: Option<&str>,
+    html: bool,
+) -> ExitCode {
+    let form = if html { page() } else { Form::Svg };
     let Some(claim_file) = claim_file else {
-        return plot_alone(rt, problem_file);
+        return plot_alone(rt, problem_file, form);
     };
     match open_two(rt, problem_file, claim_file) {
         Ok((problem, claim)) => draw(
@@ -20,13 +27,24 @@ pub fn plot_command(rt: &HostRuntime, problem_file: &str, claim_file: Option<&st
             problem_file,
             &mut FromRead::new(claim),
             Some(claim_file),
+            form,
         ),
         Err(status) => status,
     }
 }
 
-/// `plot PROBLEM`.
-fn plot_alone(rt: &HostRuntime, problem_file: &str) -> ExitCode {
+/// The page of the files that the program holds.
+fn page() -> Form<'static> {
+    Form::Page(Parts {
+        head: HEAD,
+        style: STYLE,
+        tools: TOOLS,
+        script: SCRIPT,
+    })
+}
+
+/// `plot PROBLEM`, with or without `--html`.
+fn plot_alone(rt: &HostRuntime, problem_file: &str, form: Form<'_>) -> ExitCode {
     match open(rt, problem_file) {
         Ok(problem) => draw(
             rt,
@@ -34,6 +52,7 @@ fn plot_alone(rt: &HostRuntime, problem_file: &str) -> ExitCode {
             problem_file,
             &mut FromRead::new(b"".as_slice()),
             None,
+            form,
         ),
         Err(status) => status,
     }
@@ -46,6 +65,7 @@ fn draw<C: Source>(
     problem_file: &str,
     claim: &mut C,
     claim_file: Option<&str>,
+    form: Form<'_>,
 ) -> ExitCode {
     let mut problem = FromRead::new(problem);
     let mut out = ToWrite::new(rt.stdout());
@@ -55,6 +75,7 @@ fn draw<C: Source>(
         &mut problem,
         claim,
         claim_file.is_some(),
+        form,
         &mut out,
         &mut told,
     ) {

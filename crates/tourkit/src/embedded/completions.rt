@@ -2,7 +2,8 @@
 
 /// The file `packaging/completions/tourkit.bash`.
 pub static BASH: &[u8] =
-    br#"# Completion for tourkit in bash. The package bash-completion finds it by its name; it needs nothing of that package.
+    br#"# Completion for tourkit in bash. The package bash-completion finds it by its name; it needs nothing of that
+# package.
 
 # Offers those of these words that begin with the word at the cursor.
 _tourkit_words() {
@@ -27,9 +28,9 @@ _tourkit_options() {
         explain) _tourkit_words "-h --help" ;;
         matrix) _tourkit_words "-h --help" ;;
         near) _tourkit_words "-k -h --help" ;;
-        plot) _tourkit_words "-h --help" ;;
-        solve) _tourkit_words "-o --output --trials --candidates --runs --seed --or-segment --construction --final-sweep --initial-tour
-            --progress --json -h --help" ;;
+        plot) _tourkit_words "--html -h --help" ;;
+        solve) _tourkit_words "-o --output --trials --candidates --runs --seed --or-segment --construction
+            --final-sweep --initial-tour --progress --json -h --help" ;;
     esac
 }
 
@@ -41,12 +42,12 @@ _tourkit_arguments() {
     done
     case ${COMP_WORDS[1]}:$given in
         help:*) _tourkit_words "$commands" ;;
-        matrix:1) _tourkit_words "FULL_MATRIX UPPER_ROW LOWER_ROW UPPER_DIAG_ROW LOWER_DIAG_ROW UPPER_COL LOWER_COL UPPER_DIAG_COL
-            LOWER_DIAG_COL" ;;
+        matrix:1) _tourkit_words "FULL_MATRIX UPPER_ROW LOWER_ROW UPPER_DIAG_ROW LOWER_DIAG_ROW UPPER_COL LOWER_COL
+            UPPER_DIAG_COL LOWER_DIAG_COL" ;;
         explain:0)
-            _tourkit_words "UnknownKeyword Repeated Missing Unsupported BadNumber OutOfLimit BadNode NotSymmetric Truncated TrailingData
-                BadDepot DemandOverCapacity TooLong Read NoMemory UnknownKey RepeatedKey BadValue MissingProblem DollarInName WrongCount
-                OutOfRange RepeatedCity"
+            _tourkit_words "UnknownKeyword Repeated Missing Unsupported BadNumber OutOfLimit BadNode NotSymmetric
+                Truncated TrailingData BadDepot DemandOverCapacity TooLong Read NoMemory UnknownKey RepeatedKey BadValue
+                MissingProblem DollarInName WrongCount OutOfRange RepeatedCity"
             _tourkit_files
             ;;
         explain:* | --completions:*) ;;
@@ -85,9 +86,9 @@ pub static ZSH: &[u8] = br#"#compdef tourkit
 # Offers what explain takes: the names of faults, and files.
 _tourkit_what() {
     local -a faults
-    faults=(UnknownKeyword Repeated Missing Unsupported BadNumber OutOfLimit BadNode NotSymmetric Truncated TrailingData BadDepot
-        DemandOverCapacity TooLong Read NoMemory UnknownKey RepeatedKey BadValue MissingProblem DollarInName WrongCount OutOfRange
-        RepeatedCity)
+    faults=(UnknownKeyword Repeated Missing Unsupported BadNumber OutOfLimit BadNode NotSymmetric Truncated TrailingData
+        BadDepot DemandOverCapacity TooLong Read NoMemory UnknownKey RepeatedKey BadValue MissingProblem DollarInName
+        WrongCount OutOfRange RepeatedCity)
     _alternative 'faults:fault:compadd -a faults' 'files:file:_files'
 }
 
@@ -100,7 +101,7 @@ _tourkit() {
         'explain:Explains a fault, or what is wrong with a file'
         'matrix:Prints a problem as a TSP with explicit weights'
         'near:Prints the nearest other cities of each city'
-        'plot:Draws a problem, and a tour or routes of it, as SVG'
+        'plot:Draws a problem, and a tour or routes of it, as SVG or HTML'
         'solve:Searches for a short tour or for short routes'
         'help:Print this message or the help of the given subcommand(s)'
     )
@@ -129,7 +130,8 @@ _tourkit() {
             ;;
         (matrix)
             _arguments -s $help '1:problem:_files' \
-                '2:format:(FULL_MATRIX UPPER_ROW LOWER_ROW UPPER_DIAG_ROW LOWER_DIAG_ROW UPPER_COL LOWER_COL UPPER_DIAG_COL LOWER_DIAG_COL)'
+                '2:format:(FULL_MATRIX UPPER_ROW LOWER_ROW UPPER_DIAG_ROW LOWER_DIAG_ROW
+                    UPPER_COL LOWER_COL UPPER_DIAG_COL LOWER_DIAG_COL)'
             ;;
         (near)
             _arguments -s $help \
@@ -137,7 +139,9 @@ _tourkit() {
                 '1:problem:_files'
             ;;
         (plot)
-            _arguments -s $help '1:problem:_files' '2:tour or solution:_files'
+            _arguments -s $help \
+                '--html[print a page of HTML in place of a picture]' \
+                '1:problem:_files' '2:tour or solution:_files'
             ;;
         (solve)
             _arguments -s $help \
@@ -175,7 +179,7 @@ complete -c tourkit -n __fish_use_subcommand -f -a checksol -d 'Checks the route
 complete -c tourkit -n __fish_use_subcommand -f -a explain -d 'Explains a fault, or what is wrong with a file'
 complete -c tourkit -n __fish_use_subcommand -f -a matrix -d 'Prints a problem as a TSP with explicit weights'
 complete -c tourkit -n __fish_use_subcommand -f -a near -d 'Prints the nearest other cities of each city'
-complete -c tourkit -n __fish_use_subcommand -f -a plot -d 'Draws a problem, and a tour or routes of it, as SVG'
+complete -c tourkit -n __fish_use_subcommand -f -a plot -d 'Draws a problem, and a tour or routes of it, as SVG or HTML'
 complete -c tourkit -n __fish_use_subcommand -f -a solve -d 'Searches for a short tour or for short routes'
 complete -c tourkit -n __fish_use_subcommand -f -a help -d 'Print this message or the help of the given subcommand(s)'
 
@@ -184,9 +188,9 @@ complete -c tourkit -n '__fish_seen_subcommand_from check' -l json -d 'print one
 complete -c tourkit -n '__fish_seen_subcommand_from checksol' -l json -d 'print one JSON object in place of lines'
 
 complete -c tourkit -n '__fish_seen_subcommand_from explain; and __fish_is_nth_token 2' -d fault \
-    -a 'UnknownKeyword Repeated Missing Unsupported BadNumber OutOfLimit BadNode NotSymmetric Truncated TrailingData BadDepot
-        DemandOverCapacity TooLong Read NoMemory UnknownKey RepeatedKey BadValue MissingProblem DollarInName WrongCount OutOfRange
-        RepeatedCity'
+    -a 'UnknownKeyword Repeated Missing Unsupported BadNumber OutOfLimit BadNode NotSymmetric Truncated TrailingData
+        BadDepot DemandOverCapacity TooLong Read NoMemory UnknownKey RepeatedKey BadValue MissingProblem DollarInName
+        WrongCount OutOfRange RepeatedCity'
 complete -c tourkit -n '__fish_seen_subcommand_from explain; and __fish_is_nth_token 3' -f
 
 complete -c tourkit -n '__fish_seen_subcommand_from matrix; and __fish_is_nth_token 3' -f \
@@ -194,10 +198,13 @@ complete -c tourkit -n '__fish_seen_subcommand_from matrix; and __fish_is_nth_to
 
 complete -c tourkit -n '__fish_seen_subcommand_from near' -s k -x -d 'how many cities a list has, 1 to 100'
 
+complete -c tourkit -n '__fish_seen_subcommand_from plot' -l html -d 'print a page of HTML in place of a picture'
+
 complete -c tourkit -n '__fish_seen_subcommand_from solve' -s o -l output -r -F \
     -d 'where the best tour is written, or the routes of a CVRP'
 complete -c tourkit -n '__fish_seen_subcommand_from solve' -l trials -x -d 'how many trials a run has, 1 to 1,000,000'
-complete -c tourkit -n '__fish_seen_subcommand_from solve' -l candidates -x -d 'how many near cities of each city are tried, 1 to 100'
+complete -c tourkit -n '__fish_seen_subcommand_from solve' -l candidates -x \
+    -d 'how many near cities of each city are tried, 1 to 100'
 complete -c tourkit -n '__fish_seen_subcommand_from solve' -l runs -x -d 'how many runs there are, 1 to 10,000'
 complete -c tourkit -n '__fish_seen_subcommand_from solve' -l seed -x -d 'what the random numbers begin with'
 complete -c tourkit -n '__fish_seen_subcommand_from solve' -l or-segment -x -a '1 2 3' \
@@ -208,7 +215,8 @@ complete -c tourkit -n '__fish_seen_subcommand_from solve' -l final-sweep \
     -d 'go on with each trial until no city has an improving move'
 complete -c tourkit -n '__fish_seen_subcommand_from solve' -l initial-tour -r -F \
     -d 'the tour that each run begins with, or - for standard input (not for a CVRP)'
-complete -c tourkit -n '__fish_seen_subcommand_from solve' -l progress -d 'write each run\'s line to standard error when the run ends'
+complete -c tourkit -n '__fish_seen_subcommand_from solve' -l progress \
+    -d 'write each run\'s line to standard error when the run ends'
 complete -c tourkit -n '__fish_seen_subcommand_from solve' -l json -d 'print one JSON object in place of lines'
 
 complete -c tourkit -n '__fish_seen_subcommand_from help' -f -a 'check checksol explain matrix near plot solve help'

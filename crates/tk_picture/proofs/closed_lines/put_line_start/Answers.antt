@@ -3,4 +3,4 @@ use Rattle.tk_picture.proofs.closed_lines.put_line_start.Goals as goal
 
 pub returns : goal.returns
 returns g c =
-    Puts-then _ _ _ _ _ _ _ (Puts-then _ _ _ _ _ _ _ (Puts-then _ _ _ _ _ _ _ (Puts-then _ _ _ _ _ _ _ (Puts-then _ _ _ _ _ _ _ c.put.ensures c.put_colour.ensures) c.put-2.ensures) c.put_dashes.ensures) c.put-3.ensures) c.put-4.ensures
+    Puts-then _ _ _ _ _ _ _ (Puts-then _ _ _ _ _ _ _ (Puts-then _ _ _ _ _ _ _ c.put.ensures c.put_colour.ensures) c.put-2.ensures) c.put-3.ensures

@@ -2,6 +2,7 @@ use Rattle.std.proofs.Common.{◌∙◌, ap, refl, Some, Bor, List, ℕ}
 use Rattle.std.specs.Global.{Vec}
 use Rattle.tk_writers.specs.Sinks as sinks
 use Rattle.tk_writers.specs.declared.output.sink.ToWrite.{ToWrite}
+use Rattle.tk_picture.specs.declared.picture.Form.TheVariants as forms
 use Rattle.tk_engines.specs.Plot.{ReadsClaim, WritesOutput, plot_task}
 use Rattle.tk_words.specs.Sources as sources
 use Rattle.tk_words.specs.declared.sources.source.FromRead.{FromRead}
@@ -25,7 +26,7 @@ returns-in-Ok c = record {
 pub returns-in-Err : goal.returns-in-Err
 returns-in-Err c = record {
   ok = tt;
-  err = stop_of {S = FromRead (Bor (List ℕ))} (plot_task c.args.has_claim) NoClash (IsTourFault c.args.has_claim c.args.claim.now) (IsSolutionFault c.args.has_claim c.args.claim.now) (λ s. Some s.inner.now) sources.has_failed c.new-problem.result c.plot_engine.new.problem
+  err = stop_of {S = FromRead (Bor (List ℕ))} (plot_task forms.Svg c.args.has_claim) NoClash (IsTourFault c.args.has_claim c.args.claim.now) (IsSolutionFault c.args.has_claim c.args.claim.now) (λ s. Some s.inner.now) sources.has_failed c.new-problem.result c.plot_engine.new.problem
       c.args.problem.now (ap (λ v. Some v.now) c.new-problem.ensures.inner)
       (ReadsClaim {S = FromRead (Bor (List ℕ))} c.args.has_claim (λ s. Some s.inner.now) sources.has_failed c.new-claim.result c.plot_engine.new.claim)
       (WritesOutput {W = ToWrite (Vec ℕ)} {T = ToWrite (Vec ℕ)} (λ s. Some s.inner.items) sinks.has_failed (λ s. Some s.inner.items) sinks.has_failed c.new-out.result c.plot_engine.new.out c.new-told.result c.plot_engine.new.told)

@@ -2,7 +2,7 @@ use Rattle.std.proofs.Common.{ℕ, ap, length, subst, sym, ◌∙◌}
 use Rattle.std.specs.Prelude.{IfSome}
 use Rattle.tk_problem.specs.PlacesOf.{places_of}
 use Rattle.tk_distance.specs.Cities.{IsCity}
-use Rattle.tk_picture.specs.Pictures.{text_of}
+use Rattle.tk_picture.specs.Pictures.{text_in}
 use Rattle.tk_engines.proofs.Shown.{picture_drawn}
 use Rattle.tk_engines.proofs.engines.plot.draw.Goals as goal
 
@@ -14,5 +14,5 @@ write_picture-requires-clause-depot g c =
 pub returns-clause-text : goal.returns-clause-text
 returns-clause-text g c =
     let ensures = c.picture_of.ensures in
-    let drawn = picture_drawn c.args.problem.now c.picture_of.result c.args.view c.args.caption c.args.lines c.requires.view ensures.name ensures.view ensures.caption ensures.lines ensures.depot in
-    (text_of c.picture_of.result, (drawn, c.write_picture.ensures.text))
+    let drawn = picture_drawn c.args.form c.args.problem.now c.picture_of.result c.args.view c.args.subject c.requires.view ensures.name ensures.view ensures.subject ensures.depot ensures.demands in
+    (text_in c.args.form c.picture_of.result, (drawn, c.write_picture.ensures.text))

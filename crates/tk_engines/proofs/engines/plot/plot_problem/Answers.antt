@@ -33,7 +33,7 @@ returns-then-not-has_claim-clause-ends g c = (
 
 pub returns-in-Some-of-clause-ends : goal.returns-in-Some-of-clause-ends
 returns-in-Some-of-clause-ends g c =
-    subst (λ (b : Bool). EndsByProblem (plot_task b) (HasRead (problem_is c.args.problem.now)) (ReadsClaim b g.C.Source.left g.C.Source.broken c.args.claim.now c.plot_routes.new.claim)
+    subst (λ (b : Bool). EndsByProblem (plot_task c.args.form b) (HasRead (problem_is c.args.problem.now)) (ReadsClaim b g.C.Source.left g.C.Source.broken c.args.claim.now c.plot_routes.new.claim)
     (WritesOutput g.W.Sink.taken g.W.Sink.broken g.T.Sink.taken g.T.Sink.broken c.args.out.now c.plot_routes.new.out c.args.told.now c.plot_routes.new.told) c.plot_routes.result)
     (sym c.if-not-has_claim.false) c.plot_routes.ensures.ends
 
@@ -43,7 +43,7 @@ returns-in-Some-of-clause-unread g c =
 
 pub returns-in-None-clause-ends : goal.returns-in-None-clause-ends
 returns-in-None-clause-ends g c =
-    subst (λ (b : Bool). EndsByProblem (plot_task b) (HasRead (problem_is c.args.problem.now)) (ReadsClaim b g.C.Source.left g.C.Source.broken c.args.claim.now c.plot_tour.new.claim)
+    subst (λ (b : Bool). EndsByProblem (plot_task c.args.form b) (HasRead (problem_is c.args.problem.now)) (ReadsClaim b g.C.Source.left g.C.Source.broken c.args.claim.now c.plot_tour.new.claim)
     (WritesOutput g.W.Sink.taken g.W.Sink.broken g.T.Sink.taken g.T.Sink.broken c.args.out.now c.plot_tour.new.out c.args.told.now c.plot_tour.new.told) c.plot_tour.result)
     (sym c.if-not-has_claim.false) c.plot_tour.ensures.ends
 

@@ -32,7 +32,7 @@ returns-in-Ok-show_routes-clause-ends g c =
       read = record { is_problem = refl; fits = c.requires.view.fits; is_second = (refl, routed_of p.routing _ c.requires.instance.routing, record { answer = c.in-Ok.ensures.ok; some_text = c.in-Ok.ensures.some_text; intact = c.in-Ok.ensures.intact }) };
       together = refl;
       gives = some_of (routing_is p.routing) _
-          (instance_read p (instance_of c.args.cvrp.now) ⊥ (λ i. IsRouteVerdict i routes cost verdict × IsRouteOutput (problem_is p) i routes verdict shown.0) c.requires.instance
+          (instance_read p (instance_of c.args.cvrp.now) ⊥ (λ i. IsRouteVerdict i routes cost verdict × IsRouteOutput c.args.form (problem_is p) i routes verdict shown.0) c.requires.instance
           (c.in-Ok-check_routes.ensures, shown.1.0));
       written = shown.1.1;
     }
@@ -52,7 +52,7 @@ returns-clause-ends g c =
         read = record { is_problem = refl; fits = c.requires.view.fits; is_second = (refl, routed_of p.routing _ c.requires.instance.routing, record { answer = c.in-Ok.ensures.ok; some_text = c.in-Ok.ensures.some_text; intact = c.in-Ok.ensures.intact }) };
         together = refl;
         gives = some_of (routing_is p.routing) _
-            (instance_read p (instance_of c.args.cvrp.now) ⊥ (λ i. IsRouteVerdict i routes cost verdict × IsRouteOutput (problem_is p) i routes verdict shown.0) c.requires.instance
+            (instance_read p (instance_of c.args.cvrp.now) ⊥ (λ i. IsRouteVerdict i routes cost verdict × IsRouteOutput c.args.form (problem_is p) i routes verdict shown.0) c.requires.instance
             (c.in-Ok-check_routes.ensures, shown.1.0));
         written = shown.1.1;
       },

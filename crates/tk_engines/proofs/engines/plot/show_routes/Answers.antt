@@ -3,15 +3,13 @@ use Rattle.std.specs.Prelude.{map}
 use Rattle.std.specs.Int.RustNames.{unsigned_abs}
 use Rattle.tk_problem_text.specs.Parts.{problem_is}
 use Rattle.tk_routes.specs.Cvrps.{instance_of}
-use Rattle.tk_routes.specs.RouteVerdicts.{filled_of}
-use Rattle.tk_routes.specs.Routes.{route_nodes}
-use Rattle.tk_picture.specs.declared.caption.Caption.TheVariants as captions
+use Rattle.tk_picture.specs.Drawings.{SomeRoutes}
 use Rattle.tk_engines.specs.Plot.{Drawn, Refused, IsPicture}
 use Rattle.tk_engines.proofs.Shown.{routes_told, served_once}
 use Rattle.tk_engines.proofs.engines.plot.show_routes.Goals as goal
 
-pub draw-requires-clause-lines : goal.draw-requires-clause-lines
-draw-requires-clause-lines g c =
+pub draw-requires-clause-fits : goal.draw-requires-clause-fits
+draw-requires-clause-fits g c =
     let i = instance_of c.args.cvrp.now in
     let routes = map (λ r. r.items) c.args.solution.now.routes.items in
     let valid = rw c.in-Valid.is at c.requires.verdict in
@@ -27,7 +25,7 @@ returns-in-Valid-clause-text g c =
     rw c.in-Valid.is (
       Drawn told.0,
       (
-        subst (λ (n : ℕ). IsPicture (problem_is p) (captions.Routes count n) (map (route_nodes i) (filled_of (map (λ r. r.items) c.args.solution.now.routes.items))) told.0) cost told.1.0,
+        subst (λ (n : ℕ). IsPicture c.args.form (problem_is p) (SomeRoutes i (map (λ r. r.items) c.args.solution.now.routes.items) count n) told.0) cost told.1.0,
         (told.1.1, (refl, refl)),
       ),
     )
@@ -36,7 +34,7 @@ pub returns-in_default-clause-text : goal.returns-in_default-clause-text
 returns-in_default-clause-text g c = (
   Refused _,
   (
-    routes_told c.args.problem.now (instance_of c.args.cvrp.now) (map (λ r. r.items) c.args.solution.now.routes.items) c.args.verdict c.in_default.not-Valid,
+    routes_told c.args.form c.args.problem.now (instance_of c.args.cvrp.now) (map (λ r. r.items) c.args.solution.now.routes.items) c.args.verdict c.in_default.not-Valid,
     ((refl, refl), c.write_route_verdict.ensures.text),
   ),
 )

@@ -1,22 +1,22 @@
 use Rattle.std.proofs.Common.{ℕ, refl, subst, ◌∙◌, ◌∷◌, []}
 use Rattle.tk_problem_text.specs.Parts.{problem_is}
-use Rattle.tk_picture.specs.declared.caption.Caption.TheVariants as captions
+use Rattle.tk_picture.specs.Drawings.{ATour}
 use Rattle.tk_engines.specs.Plot.{Drawn, Refused, IsPicture}
 use Rattle.tk_engines.proofs.Shown.{length_read, tour_told}
 use Rattle.tk_engines.proofs.engines.plot.show_tour.Goals as goal
 
-pub draw-requires-clause-lines : goal.draw-requires-clause-lines
-draw-requires-clause-lines g c = rw c.in-Tour.is at c.requires.verdict
+pub draw-requires-clause-fits : goal.draw-requires-clause-fits
+draw-requires-clause-fits g c = rw c.in-Tour.is at c.requires.verdict
 
 pub returns-in-Tour-clause-text : goal.returns-in-Tour-clause-text
 returns-in-Tour-clause-text g c =
     let p = c.args.problem.now in
     let cities = c.args.cities.now in
-    let size = c.length_of.ensures ∙ length_read p cities in
+    let size = c.length_of-length.ensures ∙ length_read p cities in
     let told = c.draw.ensures.text in
     rw c.in-Tour.is
-    (Drawn told.0, (subst (λ (n : ℕ). IsPicture (problem_is p) (captions.Tour p.n n) (cities ∷ []) told.0) size told.1.0, (told.1.1, (refl, refl))))
+    (Drawn told.0, (subst (λ (n : ℕ). IsPicture c.args.form (problem_is p) (ATour cities n) told.0) size told.1.0, (told.1.1, (refl, refl))))
 
 pub returns-in_default-clause-text : goal.returns-in_default-clause-text
 returns-in_default-clause-text g c =
-    (Refused _, (tour_told c.args.problem.now c.args.cities.now c.args.verdict c.in_default.not-Tour c.requires.verdict, ((refl, refl), c.write_verdict.ensures.text)))
+    (Refused _, (tour_told c.args.form c.args.problem.now c.args.cities.now c.args.verdict c.in_default.not-Tour c.requires.verdict, ((refl, refl), c.write_verdict.ensures.text)))

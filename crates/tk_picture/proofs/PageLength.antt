@@ -1,0 +1,179 @@
+-- How long the text of a page is at most.
+use Rattle.std.proofs.Common.{ℕ, suc, ◌+◌, ◌-◌, ◌*◌, ◌^◌, ◌≤◌, List, [], ◌∷◌, ◌++◌, Option, Some, None, length, arith, length-append}
+use Rattle.std.specs.Prelude.{ℤ, pos, negsuc, flat_map, codes, decimal, map, slice_get, ◌==◌}
+use Rattle.std.specs.Fmt.{signed_decimal}
+use Rattle.std.specs.List.{concat, range_with_len}
+use Rattle.std.proofs.lemmas.List.FromFn.{length-range_with_len}
+use Rattle.tk_problem.specs.declared.limits.TheConstants.{CITY_LIMIT}
+use Rattle.tk_problem.specs.declared.point.Point.{Point}
+use Rattle.tk_problem.specs.PlacesOf.{places_of}
+use Rattle.tk_writers.proofs.Pieces.NumberLengths.{length_decimal, length_flat_map}
+use Rattle.tk_writers.specs.Written.{line, spaced_numbers}
+use Rattle.tk_distance.specs.PlaneOf.{city_place}
+use Rattle.tk_routes.specs.Cvrps.{instance_of}
+use Rattle.tk_routes.specs.Instance.{customer_count}
+use Rattle.tk_routes.proofs.Served.{AreServedOnce-short}
+use Rattle.tk_picture.specs.declared.frame.Frame.{Frame}
+use Rattle.tk_picture.specs.declared.page.parts.Parts.{Parts}
+use Rattle.tk_picture.specs.declared.picture.Form.{Form}
+use Rattle.tk_picture.specs.declared.picture.Form.TheVariants as forms
+use Rattle.tk_picture.specs.declared.picture.Picture.{Picture}
+use Rattle.tk_picture.specs.declared.subject.Subject.{Subject}
+use Rattle.tk_picture.specs.declared.subject.Subject.TheVariants as subjects
+use Rattle.tk_picture.specs.Drawings.{Drawing, Path, caption_of, paths_of}
+use Rattle.tk_picture.specs.Names.{shown_name}
+use Rattle.tk_picture.specs.PageText.{Row, block, city_line, demand_word, depot_word, ending, heading, opening, page_text, path_line, row_line, row_of, rows, table, table_caption, table_end, table_head, table_start, verdict}
+use Rattle.tk_picture.specs.PictureText.{picture_text, spot, title, title_line}
+use Rattle.tk_picture.specs.Pictures.{Fits, drawing_of, text_in}
+use Rattle.tk_picture.proofs.PictureLength.{corners_of, each_short, either_short, filled_few, length_caption, length_name, length_picture, length_spot, length_title, length_title_line, paths_few}
+
+-- ---- before the picture
+
+around : (before text after : List ℕ) → length before ≤ 50 → length after ≤ 50 → length (line (before ++ text ++ after)) ≤ 101 + length text
+around before text after short_before short_after = simp length-append (omega arith)
+
+length_heading : (name : List ℕ) → length name ≤ 1024 → length (heading name) ≤ 12000101
+length_heading name named = omega (arith, length_name name named, around (codes "<h1><bdi>") (shown_name name) (codes "</bdi></h1>") (omega arith) (omega arith))
+
+length_verdict : (n : ℕ) (d : Drawing) → length (verdict n d) ≤ 301
+length_verdict n d = omega (arith, length_caption n d, around (codes "<p id=\"verdict\">") (caption_of n d) (codes "</p>") (omega arith) (omega arith))
+
+length_opening : (parts : Parts) (name : List ℕ) (n : ℕ) (d : Drawing) → length name ≤ 1024 → length (opening parts name n d) ≤ 30000000
+length_opening parts name n d named =
+    let style = parts.head.now ++ parts.style.now in
+    let one = style ++ line (codes "</style>") in
+    let two = one ++ title_line (title name n d) in
+    let three = two ++ line (codes "<body>") in
+    let four = three ++ heading name in
+    let five = four ++ verdict n d in
+    let a = length-append parts.head.now parts.style.now in
+    let b = length-append style (line (codes "</style>")) in
+    let c = length-append one (title_line (title name n d)) in
+    let e = length-append two (line (codes "<body>")) in
+    let f = length-append three (heading name) in
+    let g = length-append four (verdict n d) in
+    let h = length-append five (line (codes "<div id=\"stage\">")) in
+    omega (arith, parts.head_short, parts.style_short, length_title_line (title name n d), length_title name n d named, length_heading name named, length_verdict n d)
+
+-- ---- the table
+
+row_parts : (a b c d e : List ℕ) → length a ≤ 64 → length b ≤ 64 → length c ≤ 64 → length d ≤ 64 → length e ≤ 64
+    → length (line (codes "<tr><th scope=\"row\">" ++ a ++ codes "<td>" ++ b ++ codes "<td>" ++ c ++ codes "<td>" ++ d ++ codes "<td>" ++ e)) ≤ 400
+row_parts a b c d e p q r s t = simp length-append (omega arith)
+
+length_row : (r : Row) → length (row_line r) ≤ 400
+length_row r =
+    row_parts (decimal r.number) (decimal r.customers) (decimal r.load) (decimal r.share) (decimal r.length)
+    (length_decimal r.number) (length_decimal r.customers) (length_decimal r.load) (length_decimal r.share) (length_decimal r.length)
+
+length_caption_line : (capacity : ℕ) → length (table_caption capacity) ≤ 200
+length_caption_line capacity = let a = length_decimal capacity in simp length-append (omega arith)
+
+length_table_start : (capacity : ℕ) → length (table_start capacity) ≤ 500
+length_table_start capacity =
+    let div = line (codes "<div id=\"routes\">") in
+    let short_head : length table_head ≤ 200 = omega arith in
+    let a = length-append div (table_caption capacity) in
+    let b = length-append (div ++ table_caption capacity) table_head in
+    omega (arith, length_caption_line capacity)
+
+length_table : (n : ℕ) (s : Subject) → n ≤ CITY_LIMIT → Fits n s → length (table (drawing_of s)) ≤ 50000000
+length_table n subjects.Cities few fits = omega arith
+length_table n (subjects.Tour cities size) few fits = omega arith
+length_table n (subjects.Routes cvrp routes count cost) few fits =
+    let i = instance_of cvrp in
+    let all = map (λ r. r.items) routes.now in
+    let lines = flat_map row_line (rows i 1 all) in
+    let end : length table_end ≤ 20 = omega arith in
+    let a = length-append (table_start i.capacity) lines in
+    let b = length-append (table_start i.capacity ++ lines) table_end in
+    omega (arith, length_table_start i.capacity, length_flat_map row_line 400 length_row (rows i 1 all), filled_few (row_of i) 1 all, AreServedOnce-short (customer_count i) (concat all) fits.1, fits.0)
+
+-- ---- the cities and the paths
+
+length_signed : (z : ℤ) → length (signed_decimal z) ≤ 65
+length_signed (pos n) = omega (arith, length_decimal n)
+length_signed (negsuc n) = omega (arith, length_decimal (suc n))
+
+length_demand : (d : Option ℕ) → length (demand_word d) ≤ 65
+length_demand None = omega arith
+length_demand (Some d) = omega (arith, length_decimal d, length-append (codes " ") (decimal d))
+
+length_depot_word : (depot : Option ℕ) (c : ℕ) → length (depot_word depot c) ≤ 6
+length_depot_word None c = omega arith
+length_depot_word (Some depot) c = either_short (depot == c) (codes " depot") [] 6 (omega arith) (omega arith)
+
+city_parts : (at x y demand word : List ℕ) → length at ≤ 129 → length x ≤ 65 → length y ≤ 65 → length demand ≤ 65 → length word ≤ 6
+    → length (line (at ++ codes " " ++ (x ++ codes " " ++ y) ++ demand ++ word)) ≤ 400
+city_parts at x y demand word a b c d e = simp length-append (omega arith)
+
+length_city : (f : Frame) (places : List Point) (demands : List ℕ) (depot : Option ℕ) (c : ℕ) → length (city_line f places demands depot c) ≤ 400
+length_city f places demands depot c =
+    city_parts (spot f places c) (signed_decimal (city_place places c).x) (signed_decimal (city_place places c).y) (demand_word (slice_get demands (c - 1))) (depot_word depot c)
+    (length_spot f places c) (length_signed (city_place places c).x) (length_signed (city_place places c).y) (length_demand (slice_get demands (c - 1))) (length_depot_word depot c)
+
+spaced_number : (x : ℕ) → length (codes " " ++ decimal x) ≤ 65
+spaced_number x = omega (arith, length_decimal x, length-append (codes " ") (decimal x))
+
+length_spaced : (xs : List ℕ) → length (spaced_numbers xs) ≤ length xs * 65
+length_spaced [] = omega arith
+length_spaced (x ∷ xs) =
+    omega (arith, length_decimal x, length_flat_map (λ y. codes " " ++ decimal y) 65 spaced_number xs, length-append (decimal x) (flat_map (λ y. codes " " ++ decimal y) xs))
+
+length_path : (p : Path) → length (path_line p) ≤ 500 + length p.cities * 130
+length_path p = omega (arith, length_spaced p.cities, length-append (spaced_numbers p.cities) (10 ∷ []))
+
+length_block : (name lines : List ℕ) → length name ≤ 10 → length (block name lines) ≤ 100 + length lines
+length_block name lines short = simp length-append (omega arith)
+
+-- ---- the whole
+
+length_ending : (parts : Parts) → length (ending parts) ≤ 2000020
+length_ending parts =
+    let one = parts.tools.now ++ line (codes "<script>") in
+    let two = one ++ parts.script.now in
+    let a = length-append parts.tools.now (line (codes "<script>")) in
+    let b = length-append one parts.script.now in
+    let c = length-append two (line (codes "</script>")) in
+    omega (arith, parts.tools_short, parts.script_short)
+
+length_page : (parts : Parts) (f : Frame) (places : List Point) (name : List ℕ) (s : Subject) (depot : Option ℕ) (demands : List ℕ) → length name ≤ 1024 → length places ≤ CITY_LIMIT
+    → Fits (length places) s → length (paths_of (drawing_of s)) ≤ 100001 → corners_of (paths_of (drawing_of s)) ≤ 200000
+    → length (page_text parts f places name (drawing_of s) depot demands) ≤ 1000000000
+length_page parts f places name s depot demands named few fits lines corners =
+    let d = drawing_of s in
+    let n = length places in
+    let city = city_line f places demands depot in
+    let cities = flat_map city (range_with_len 1 n) in
+    let paths = flat_map path_line (paths_of d) in
+    let one = opening parts name n d in
+    let two = one ++ picture_text f places name d depot in
+    let three = two ++ line (codes "</div>") in
+    let four = three ++ table d in
+    let five = four ++ block (codes "cities") cities in
+    let six = five ++ block (codes "paths") paths in
+    let a = length-append one (picture_text f places name d depot) in
+    let b = length-append two (line (codes "</div>")) in
+    let c = length-append three (table d) in
+    let e = length-append four (block (codes "cities") cities) in
+    let g = length-append five (block (codes "paths") paths) in
+    let h = length-append six (ending parts) in
+    let p = length_opening parts name n d named in
+    let q = length_picture f places name d depot named few lines corners in
+    let r = length_table n s few fits in
+    let t = length_block (codes "cities") cities (omega arith) in
+    let u = length_flat_map city 400 (length_city f places demands depot) (range_with_len 1 n) in
+    let v = length-range_with_len 1 n in
+    let w = length_block (codes "paths") paths (omega arith) in
+    let x = each_short path_line length_path (paths_of d) in
+    let y = length_ending parts in
+    omega arith
+
+-- of a picture in a form
+pub length_form : (form : Form) (p : Picture) → length p.name.now ≤ 1024 → Fits (length (places_of p.view.places)) p.subject → length (text_in form p) ≤ 2 ^ 63
+length_form forms.Svg p named fits =
+    let few = paths_few (length (places_of p.view.places)) p.subject fits in
+    omega (arith, length_picture p.view.frame (places_of p.view.places) p.name.now (drawing_of p.subject) p.depot named p.view.few (omega (arith, few.0, p.view.few)) (omega (arith, few.1, p.view.few)))
+length_form (forms.Page parts) p named fits =
+    let few = paths_few (length (places_of p.view.places)) p.subject fits in
+    omega (arith, length_page parts p.view.frame (places_of p.view.places) p.name.now p.subject p.depot p.demands.now named p.view.few fits (omega (arith, few.0, p.view.few)) (omega (arith, few.1, p.view.few)))

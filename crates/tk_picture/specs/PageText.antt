@@ -1,0 +1,127 @@
+-- The text of a page (HTML) with a picture. A reader without JavaScript sees the picture and the table; the script
+-- reads the lines on cities and on paths.
+--     city_line f places demands depot c      a city
+--     path_line path      the cities of a closed line
+--     row_of i k route      what the table says of a route
+--     page_text parts f places name drawing depot demands      the whole text
+use Rattle.std.specs.Prelude.{ℕ, ◌-◌, ◌*◌, ◌/◌, ◌==◌, List, [], ◌++◌, Option, Some, None, length, slice_get, flat_map, codes, decimal, if◌then◌else◌}
+use Rattle.std.specs.List.{range_with_len}
+use Rattle.std.specs.Fmt.{signed_decimal}
+use Rattle.tk_problem.specs.declared.point.Point.{Point}
+use Rattle.tk_writers.specs.Written.{line, spaced_numbers}
+use Rattle.tk_distance.specs.PlaneOf.{city_place}
+use Rattle.tk_routes.specs.Instance.{Instance}
+use Rattle.tk_routes.specs.Routes.{route_length, route_load}
+use Rattle.tk_picture.specs.declared.frame.Frame.{Frame}
+use Rattle.tk_picture.specs.declared.page.parts.Parts.{Parts}
+use Rattle.tk_picture.specs.Drawings.{Drawing, Path, SomeRoutes, caption_of, each_filled, paths_of}
+use Rattle.tk_picture.specs.Names.{shown_name}
+use Rattle.tk_picture.specs.PictureText.{picture_text, spot, title, title_line}
+
+-- ---- before the picture
+
+abbrev pub heading : List ℕ → List ℕ
+heading name = line (codes "<h1><bdi>" ++ shown_name name ++ codes "</bdi></h1>")
+
+-- in the words of the checks
+abbrev pub verdict : ℕ → Drawing → List ℕ
+verdict n drawing = line (codes "<p id=\"verdict\">" ++ caption_of n drawing ++ codes "</p>")
+
+abbrev pub opening : Parts → List ℕ → ℕ → Drawing → List ℕ
+opening parts name n drawing =
+    parts.head.now ++ parts.style.now ++ line (codes "</style>") ++ title_line (title name n drawing)
+    ++ line (codes "<body>") ++ heading name ++ verdict n drawing ++ line (codes "<div id=\"stage\">")
+
+-- ---- the table of routes
+
+-- what a row says of a route: its number, how many customers it has, its load, that as a percentage of the capacity,
+-- rounded down, and its length
+pub record Row : Type 0 where
+  pub number : ℕ
+  pub customers : ℕ
+  pub load : ℕ
+  pub share : ℕ
+  pub length : ℕ
+
+-- a vehicle that holds nothing has no share
+abbrev pub share : ℕ → ℕ → ℕ
+share load capacity = if capacity == 0 then 0 else load * 100 / capacity
+
+abbrev pub row_of : Instance → ℕ → List ℕ → Row
+row_of i k route = record {
+  number = k;
+  customers = length route;
+  load = route_load i route;
+  share = share (route_load i route) i.capacity;
+  length = route_length i route;
+}
+
+abbrev pub row_line : Row → List ℕ
+row_line r =
+    line (codes "<tr><th scope=\"row\">" ++ decimal r.number ++ codes "<td>" ++ decimal r.customers
+    ++ codes "<td>" ++ decimal r.load ++ codes "<td>" ++ decimal r.share ++ codes "<td>" ++ decimal r.length)
+
+-- the routes that hold a customer, numbered from k on
+abbrev pub rows : Instance → ℕ → List (List ℕ) → List Row
+rows i k routes = each_filled (row_of i) k routes
+
+abbrev pub table_caption : ℕ → List ℕ
+table_caption capacity = line (codes "<table><caption>Routes, capacity " ++ decimal capacity ++ codes "</caption>")
+
+abbrev pub table_head : List ℕ
+table_head =
+    line (codes "<thead><tr><th scope=\"col\">Route<th scope=\"col\">Customers<th scope=\"col\">Load"
+    ++ codes "<th scope=\"col\">% of capacity<th scope=\"col\">Length") ++ line (codes "<tbody>")
+
+abbrev pub table_start : ℕ → List ℕ
+table_start capacity = line (codes "<div id=\"routes\">") ++ table_caption capacity ++ table_head
+
+abbrev pub table_end : List ℕ
+table_end = line (codes "</table>") ++ line (codes "</div>")
+
+abbrev pub table : Drawing → List ℕ
+table (SomeRoutes i routes count cost) = table_start i.capacity ++ flat_map row_line (rows i 1 routes) ++ table_end
+table _ = []
+
+-- ---- the cities and the paths
+
+-- the demand of a city, where there are demands
+abbrev pub demand_word : Option ℕ → List ℕ
+demand_word None = []
+demand_word (Some demand) = codes " " ++ decimal demand
+
+abbrev pub depot_word : Option ℕ → ℕ → List ℕ
+depot_word None c = []
+depot_word (Some depot) c = if depot == c then codes " depot" else []
+
+-- in units of 10^-9
+abbrev pub coordinates : List Point → ℕ → List ℕ
+coordinates places c = signed_decimal (city_place places c).x ++ codes " " ++ signed_decimal (city_place places c).y
+
+-- where a city stands in the picture, its coordinates, its demand, and whether it is the depot
+abbrev pub city_line : Frame → List Point → List ℕ → Option ℕ → ℕ → List ℕ
+city_line f places demands depot c =
+    line (spot f places c ++ codes " " ++ coordinates places c ++ demand_word (slice_get demands (c - 1))
+    ++ depot_word depot c)
+
+abbrev pub path_line : Path → List ℕ
+path_line path = line (spaced_numbers path.cities)
+
+-- lines that are data for the script
+abbrev pub block : List ℕ → List ℕ → List ℕ
+block name lines =
+    line (codes "<script type=\"text/plain\" id=\"" ++ name ++ codes "\">") ++ lines ++ line (codes "</script>")
+
+-- ---- the whole
+
+abbrev pub ending : Parts → List ℕ
+ending parts = parts.tools.now ++ line (codes "<script>") ++ parts.script.now ++ line (codes "</script>")
+
+abbrev pub page_text : Parts → Frame → List Point → List ℕ → Drawing → Option ℕ → List ℕ → List ℕ
+page_text parts f places name drawing depot demands =
+    opening parts name (length places) drawing
+    ++ picture_text f places name drawing depot ++ line (codes "</div>")
+    ++ table drawing
+    ++ block (codes "cities") (flat_map (city_line f places demands depot) (range_with_len 1 (length places)))
+    ++ block (codes "paths") (flat_map path_line (paths_of drawing))
+    ++ ending parts

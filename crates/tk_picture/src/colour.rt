@@ -1,0 +1,82 @@
+//! The colours of closed lines.
+ghost use Rattle.std.specs.Prelude.{◌≡◌, ◌<◌, ◌≤◌};
+ghost use Rattle.tk_writers.specs.Pens.{Puts};
+ghost use Rattle.tk_picture.specs.Colours.{colour, opposite, place_on_walk, rgb, there, walk};
+
+use tk_writers::{Pen, Sink};
+
+/// How many steps a walk along six edges of the box of colours has.
+const STEPS: u64 = 1_160;
+
+/// How many steps further the colour of each line is than that of the line before.
+const STEP: u64 = 443;
+
+/// A colour: how much there is of red, green and blue.
+#[derive(Clone, Copy)]
+pub struct Colour {
+    pub red: u64,
+    pub green: u64,
+    pub blue: u64,
+}
+
+/// The colour after some steps from red, along three edges of the box.
+fn there(steps: u64) -> Colour
+    ensures { result ≡ there steps }
+{
+    Colour {
+        red: 190_u64.saturating_sub(steps.saturating_sub(140)),
+        green: steps.min(140),
+        blue: steps.saturating_sub(330),
+    }
+}
+
+/// The colour in the opposite place of the box.
+fn opposite(colour: Colour) -> Colour
+    ensures { result ≡ opposite colour }
+{
+    Colour {
+        red: 190_u64.saturating_sub(colour.red),
+        green: 140_u64.saturating_sub(colour.green),
+        blue: 250_u64.saturating_sub(colour.blue),
+    }
+}
+
+/// The colour after some steps of the walk.
+fn walk(steps: u64) -> Colour
+    ensures { result ≡ walk steps }
+{
+    match steps.checked_sub(STEPS / 2) {
+        None => there(steps),
+        Some(back) => opposite(there(back)),
+    }
+}
+
+/// Puts a colour by its parts.
+fn put_rgb<W: Sink>(pen: &mut Pen<'_, W>, colour: Colour)
+    ensures { Puts W.taken W.broken pen.old pen.new (rgb colour) }
+{
+    pen.put(b"rgb(");
+    pen.put_number(colour.red);
+    pen.put(b",");
+    pen.put_number(colour.green);
+    pen.put(b",");
+    pen.put_number(colour.blue);
+    pen.put(b")");
+}
+
+/// Puts the colour of the line with a number, from 1.
+pub(crate) fn put_colour<W: Sink>(pen: &mut Pen<'_, W>, number: u64)
+    requires { 1 ≤ number }
+    ensures { Puts W.taken W.broken pen.old pen.new (colour number) }
+{
+    match number {
+        1 => pen.put(b"#0072B2"),
+        2 => pen.put(b"#D55E00"),
+        3 => pen.put(b"#009E73"),
+        4 => pen.put(b"#CC79A7"),
+        5 => pen.put(b"#E69F00"),
+        6 => pen.put(b"#56B4E9"),
+        7 => pen.put(b"#000000"),
+        _ => put_rgb(pen, walk(number % STEPS * STEP % STEPS)),
+    }
+}

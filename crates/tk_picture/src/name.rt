@@ -1,0 +1,57 @@
+//! Names of problems, as they can stand in a text of XML or HTML.
+ghost use Rattle.std.specs.Prelude.{◌≡◌, flat_map};
+ghost use Rattle.std.specs.Str.{chars};
+ghost use Rattle.tk_writers.specs.Pens.{Puts};
+ghost use Rattle.tk_picture.specs.Names.{is_plain, shown, shown_name};
+
+use tk_writers::{Pen, Sink};
+
+/// Whether a character of a name is put as it is: no control character, none that turns the direction of what comes
+/// after it, and none that XML does not take.
+fn is_plain(c: char) -> bool
+    ensures { result ≡ is_plain c }
+{
+    matches!(
+        c,
+        ' '..='~'
+            | '\u{a0}'..='\u{2029}'
+            | '\u{202f}'..='\u{2065}'
+            | '\u{206a}'..='\u{fffd}'
+            | '\u{10000}'..
+    )
+}
+
+/// Puts a character of a name: the four of markup as references, and those that are not plain as `?`.
+fn put_char<W: Sink>(pen: &mut Pen<'_, W>, c: char)
+    ensures { Puts W.taken W.broken pen.old pen.new (shown c) }
+{
+    match c {
+        '&' => pen.put(b"&amp;"),
+        '<' => pen.put(b"&lt;"),
+        '>' => pen.put(b"&gt;"),
+        '"' => pen.put(b"&quot;"),
+        _ if is_plain(c) => pen.put(c.encode_utf8(&mut [0; 4]).as_bytes()),
+        _ => pen.put(b"?"),
+    }
+}
+
+/// Puts a text, character by character.
+fn put_text<W: Sink>(pen: &mut Pen<'_, W>, text: &str)
+    ensures { Puts W.taken W.broken pen.old pen.new (flat_map shown (chars text.now)) }
+{
+    for c in text.chars() {
+        put_char(pen, c);
+    }
+}
+
+/// Puts a name. Each sequence of bytes that is no UTF-8 is put as U+FFFD.
+pub(crate) fn put_name<W: Sink>(pen: &mut Pen<'_, W>, name: &[u8])
+    ensures { Puts W.taken W.broken pen.old pen.new (shown_name name.now) }
+{
+    for chunk in name.utf8_chunks() {
+        put_text(pen, chunk.valid());
+        if !chunk.invalid().is_empty() {
+            pen.put("\u{fffd}".as_bytes());
+        }
+    }
+}

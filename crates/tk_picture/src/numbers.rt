@@ -1,0 +1,94 @@
+//! The numbers of routes.
+ghost use Rattle.std.specs.Prelude.{◌≡◌, ◌≤◌, [], ◌∷◌, All, flat_map, map};
+ghost use Rattle.std.specs.List.{concat};
+ghost use Rattle.tk_writers.specs.Pens.{Puts};
+ghost use Rattle.tk_distance.specs.Cities.{IsCity};
+ghost use Rattle.tk_routes.specs.Cvrps.{instance_of};
+ghost use Rattle.tk_routes.specs.Instance.{customer_count};
+ghost use Rattle.tk_routes.specs.RouteVerdicts.{AreServedOnce};
+ghost use Rattle.tk_picture.specs.Drawings.{route_paths};
+ghost use Rattle.tk_picture.specs.PictureText.{mark, number_mark, number_size, numbers_start};
+ghost use Rattle.tk_picture.specs.Views.{city_count, spot_in};
+
+use crate::colour::put_colour;
+use crate::dots::MANY;
+use crate::view::View;
+use tk_routes::Cvrp;
+use tk_writers::{Pen, Sink};
+
+/// Puts how large the numbers are.
+fn put_number_size<W: Sink>(pen: &mut Pen<'_, W>, cities: u32)
+    ensures { Puts W.taken W.broken pen.old pen.new (number_size cities) }
+{
+    if cities < MANY {
+        pen.put(b"140");
+    } else {
+        pen.put(b"60");
+    }
+}
+
+/// Puts what comes before the numbers.
+pub(crate) fn put_numbers_start<W: Sink>(pen: &mut Pen<'_, W>, cities: u32)
+    ensures { Puts W.taken W.broken pen.old pen.new (numbers_start cities) }
+{
+    pen.put(
+        b"<g font-family=\"sans-serif\" font-weight=\"bold\" text-anchor=\"middle\" font-size=\"",
+    );
+    put_number_size(pen, cities);
+    pen.put(b"\">");
+    pen.put(b"\n");
+}
+
+/// Puts a number over a city.
+fn put_mark<W: Sink>(pen: &mut Pen<'_, W>, view: &View<'_>, number: u64, city: u32)
+    requires known { IsCity (city_count view.now) city }
+    requires number { 1 ≤ number }
+    ensures { Puts W.taken W.broken pen.old pen.new (mark number (spot_in view.now city)) }
+{
+    pen.put(b"<text transform=\"translate(");
+    view.put_spot(pen, city);
+    pen.put(b")\" dy=\"-.4em\" fill=\"");
+    put_colour(pen, number);
+    pen.put(b"\">");
+    pen.put_number(number);
+    pen.put(b"</text>");
+    pen.put(b"\n");
+}
+
+/// Puts the number of a route over its first customer, if it has one.
+fn put_number<W: Sink>(
+    pen: &mut Pen<'_, W>,
+    view: &View<'_>,
+    number: u64,
+    cvrp: &Cvrp<'_>,
+    route: &[u32],
+)
+    requires size { (instance_of cvrp.now).size ≡ city_count view.now }
+    requires known { All (IsCity (customer_count (instance_of cvrp.now))) route.now }
+    requires number { 1 ≤ number }
+    ensures { Puts W.taken W.broken pen.old pen.new
+        (flat_map (number_mark (spot_in view.now)) (route_paths (instance_of cvrp.now) number (route.now ∷ []))) }
+{
+    if let Some(first) = route.first() {
+        put_mark(pen, view, number, cvrp.node(*first));
+    }
+}
+
+/// Puts the numbers of the routes that hold a customer.
+pub(crate) fn put_numbers<W: Sink>(
+    pen: &mut Pen<'_, W>,
+    view: &View<'_>,
+    cvrp: &Cvrp<'_>,
+    routes: &[Vec<u32>],
+)
+    requires size { (instance_of cvrp.now).size ≡ city_count view.now }
+    requires once { AreServedOnce (customer_count (instance_of cvrp.now)) (concat (map (λ r. r.items) routes.now)) }
+    ensures { Puts W.taken W.broken pen.old pen.new (flat_map (number_mark (spot_in view.now))
+        (route_paths (instance_of cvrp.now) 1 (map (λ r. r.items) routes.now))) }
+{
+    let mut number = 0;
+    for route in routes {
+        number += 1;
+        put_number(pen, view, number, cvrp, route);
+    }
+}

@@ -1,0 +1,82 @@
+//! A page (HTML) with a picture.
+ghost use Rattle.std.specs.Prelude.{◌≡◌, IfSome};
+ghost use Rattle.tk_writers.specs.Pens.{Puts};
+ghost use Rattle.tk_distance.specs.Cities.{IsCity};
+ghost use Rattle.tk_picture.specs.PageText.{ending, heading, opening, verdict};
+ghost use Rattle.tk_picture.specs.Pictures.{Fits, drawing_of, page_of};
+ghost use Rattle.tk_picture.specs.Views.{city_count};
+
+mod cities;
+pub(crate) mod parts;
+mod paths;
+mod table;
+
+use crate::caption::put_caption;
+use crate::name::put_name;
+use crate::page::cities::put_cities;
+use crate::page::parts::Parts;
+use crate::page::paths::put_paths;
+use crate::page::table::put_table;
+use crate::picture::{Picture, put_picture, put_title_line};
+use tk_writers::{Pen, Sink};
+
+/// Puts the name of a problem as the heading of a page.
+fn put_heading<W: Sink>(pen: &mut Pen<'_, W>, name: &[u8])
+    ensures { Puts W.taken W.broken pen.old pen.new (heading name.now) }
+{
+    pen.put(b"<h1><bdi>");
+    put_name(pen, name);
+    pen.put(b"</bdi></h1>");
+    pen.put(b"\n");
+}
+
+/// Puts what the page shows, in the words of the checks.
+fn put_verdict<W: Sink>(pen: &mut Pen<'_, W>, picture: &Picture<'_>)
+    ensures { Puts W.taken W.broken pen.old pen.new
+        (verdict (city_count picture.now.view) (drawing_of picture.now.subject)) }
+{
+    pen.put(b"<p id=\"verdict\">");
+    put_caption(pen, picture.view.size(), picture.subject);
+    pen.put(b"</p>");
+    pen.put(b"\n");
+}
+
+/// Puts what comes before the picture.
+fn put_opening<W: Sink>(pen: &mut Pen<'_, W>, picture: &Picture<'_>, parts: &Parts<'_>)
+    ensures { Puts W.taken W.broken pen.old pen.new (opening parts.now picture.now.name.now
+        (city_count picture.now.view) (drawing_of picture.now.subject)) }
+{
+    pen.put(parts.head);
+    pen.put(parts.style);
+    pen.put(b"</style>\n");
+    put_title_line(pen, picture);
+    pen.put(b"<body>\n");
+    put_heading(pen, picture.name);
+    put_verdict(pen, picture);
+    pen.put(b"<div id=\"stage\">\n");
+}
+
+/// Puts what comes after the data.
+fn put_ending<W: Sink>(pen: &mut Pen<'_, W>, parts: &Parts<'_>)
+    ensures { Puts W.taken W.broken pen.old pen.new (ending parts.now) }
+{
+    pen.put(parts.tools);
+    pen.put(b"<script>\n");
+    pen.put(parts.script);
+    pen.put(b"</script>\n");
+}
+
+/// Puts a page.
+pub(crate) fn put_page<W: Sink>(pen: &mut Pen<'_, W>, picture: &Picture<'_>, parts: &Parts<'_>)
+    requires fits { Fits (city_count picture.now.view) picture.now.subject }
+    requires depot { IfSome picture.now.depot (IsCity (city_count picture.now.view)) }
+    ensures { Puts W.taken W.broken pen.old pen.new (page_of parts.now picture.now) }
+{
+    put_opening(pen, picture, parts);
+    put_picture(pen, picture);
+    pen.put(b"</div>\n");
+    put_table(pen, picture.view.size(), picture.subject);
+    put_cities(pen, picture);
+    put_paths(pen, picture.view.size(), picture.subject);
+    put_ending(pen, parts);
+}

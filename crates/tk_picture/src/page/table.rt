@@ -1,0 +1,111 @@
+//! The table of routes of a page.
+ghost use Rattle.std.specs.Prelude.{◌≡◌, ◌≤◌, [], ◌∷◌, All, flat_map, length, map};
+ghost use Rattle.std.specs.List.{concat};
+ghost use Rattle.tk_writers.specs.Pens.{Puts};
+ghost use Rattle.tk_distance.specs.Cities.{IsCity};
+ghost use Rattle.tk_problem.specs.declared.limits.TheConstants.{CITY_LIMIT};
+ghost use Rattle.tk_routes.specs.Cvrps.{instance_of};
+ghost use Rattle.tk_routes.specs.Instance.{customer_count};
+ghost use Rattle.tk_routes.specs.RouteVerdicts.{AreServedOnce};
+ghost use Rattle.tk_picture.specs.PageText.{row_line, row_of, rows, share};
+ghost use Rattle.tk_picture.specs.PageText.{table, table_caption, table_head, table_start};
+ghost use Rattle.tk_picture.specs.Pictures.{Fits, drawing_of};
+
+use crate::subject::Subject;
+use tk_routes::Cvrp;
+use tk_writers::{Pen, Sink};
+
+/// Puts the caption of the table.
+fn put_table_caption<W: Sink>(pen: &mut Pen<'_, W>, capacity: u32)
+    ensures { Puts W.taken W.broken pen.old pen.new (table_caption capacity) }
+{
+    pen.put(b"<table><caption>Routes, capacity ");
+    pen.put_number(capacity as u64);
+    pen.put(b"</caption>");
+    pen.put(b"\n");
+}
+
+/// Puts the headings of the table's columns.
+fn put_table_head<W: Sink>(pen: &mut Pen<'_, W>)
+    ensures { Puts W.taken W.broken pen.old pen.new table_head }
+{
+    pen.put(b"<thead><tr><th scope=\"col\">Route<th scope=\"col\">Customers<th scope=\"col\">Load");
+    pen.put(b"<th scope=\"col\">% of capacity<th scope=\"col\">Length\n");
+    pen.put(b"<tbody>\n");
+}
+
+/// Puts what comes before the rows.
+fn put_table_start<W: Sink>(pen: &mut Pen<'_, W>, capacity: u32)
+    ensures { Puts W.taken W.broken pen.old pen.new (table_start capacity) }
+{
+    pen.put(b"<div id=\"routes\">\n");
+    put_table_caption(pen, capacity);
+    put_table_head(pen);
+}
+
+/// A load as a percentage of the capacity, rounded down: 0 if there is no capacity.
+fn share(load: u64, capacity: u32) -> u128
+    ensures { result ≡ share load capacity }
+{
+    if capacity == 0 {
+        return 0;
+    }
+    load as u128 * 100 / capacity as u128
+}
+
+/// Puts the row of a route that holds a customer.
+fn put_row<W: Sink>(pen: &mut Pen<'_, W>, number: u64, cvrp: &Cvrp<'_>, route: &[u32])
+    requires known { All (IsCity (customer_count (instance_of cvrp.now))) route.now }
+    requires few { length route.now ≤ CITY_LIMIT }
+    ensures { Puts W.taken W.broken pen.old pen.new (row_line (row_of (instance_of cvrp.now) number route.now)) }
+{
+    let load = cvrp.load(route);
+    pen.put(b"<tr><th scope=\"row\">");
+    pen.put_number(number);
+    pen.put(b"<td>");
+    pen.put_number(route.len() as u64);
+    pen.put(b"<td>");
+    pen.put_number(load);
+    pen.put(b"<td>");
+    pen.put_wide(share(load, cvrp.capacity()));
+    pen.put(b"<td>");
+    pen.put_number(cvrp.length(route).unsigned_abs());
+    pen.put(b"\n");
+}
+
+/// Puts the row of a route, if it holds a customer.
+fn put_filled<W: Sink>(pen: &mut Pen<'_, W>, number: u64, cvrp: &Cvrp<'_>, route: &[u32])
+    requires known { All (IsCity (customer_count (instance_of cvrp.now))) route.now }
+    requires few { length route.now ≤ CITY_LIMIT }
+    ensures { Puts W.taken W.broken pen.old pen.new
+        (flat_map row_line (rows (instance_of cvrp.now) number (route.now ∷ []))) }
+{
+    if !route.is_empty() {
+        put_row(pen, number, cvrp, route);
+    }
+}
+
+/// Puts the rows of the routes that hold a customer.
+fn put_rows<W: Sink>(pen: &mut Pen<'_, W>, cvrp: &Cvrp<'_>, routes: &[Vec<u32>])
+    requires once { AreServedOnce (customer_count (instance_of cvrp.now)) (concat (map (λ r. r.items) routes.now)) }
+    ensures { Puts W.taken W.broken pen.old pen.new
+        (flat_map row_line (rows (instance_of cvrp.now) 1 (map (λ r. r.items) routes.now))) }
+{
+    let mut number = 0;
+    for route in routes {
+        number += 1;
+        put_filled(pen, number, cvrp, route);
+    }
+}
+
+/// Puts the table of routes, where there are routes.
+pub(crate) fn put_table<W: Sink>(pen: &mut Pen<'_, W>, size: u32, subject: Subject<'_>)
+    requires { Fits size subject }
+    ensures { Puts W.taken W.broken pen.old pen.new (table (drawing_of subject.entry)) }
+{
+    if let Subject::Routes { cvrp, routes, .. } = subject {
+        put_table_start(pen, cvrp.capacity());
+        put_rows(pen, &cvrp, routes);
+        pen.put(b"</table>\n</div>\n");
+    }
+}

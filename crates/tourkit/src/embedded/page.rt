@@ -1,0 +1,630 @@
+//! Files that the program prints as they are. `packaging/embed` writes this module from them.
+
+/// The file `page/head.html`.
+pub static HEAD: &[u8] = br#"<!DOCTYPE html>
+<html lang="en">
+<head>
+<meta charset="utf-8">
+<meta name="viewport" content="width=device-width, initial-scale=1">
+<meta http-equiv="Content-Security-Policy" content="default-src 'none'; style-src 'sha256-+b95J6dp2Fl08R85hD4oPml7W/ChpsTgQ11e0a7NvC8='; script-src 'sha256-8QNBGwPaDeRihDyQ55WTj8B3XQ3OOETuduJow7X48zs='">
+<style>
+"#;
+
+/// The file `page/page.css`.
+pub static STYLE: &[u8] =
+    br#"/* The page of `tourkit plot --html`. The script sets --scale (units of the picture to a pixel), and --line and --dot (how wide lines
+   and cities are, in pixels). */
+:root {
+    color-scheme: light dark;
+    --paper: #fff; --ink: #1b1b1b; --soft: #595959; --edge: #c4c4c4; --focus: #0b57d0; --chosen: #dce8fb; --mark: #d0006f;
+}
+@media screen and (prefers-color-scheme: dark) {
+    :root { --paper: #141414; --ink: #ebebeb; --soft: #a8a8a8; --edge: #474747; --focus: #8ab4f8; --chosen: #26344a; --mark: #ff5fae; }
+    /* The picture is drawn on white: dark becomes light, and hues stay what they are. White becomes the colour of the paper. */
+    #stage svg, .swatch { filter: invert(.92) hue-rotate(180deg); }
+}
+
+* { box-sizing: border-box; }
+body {
+    margin: 0 auto; padding: .75rem; max-width: 110rem; background: var(--paper); color: var(--ink);
+    font: 1rem/1.4 system-ui, sans-serif;
+}
+h1 { margin: 0; font-size: 1.3rem; overflow-wrap: anywhere; }
+p { margin: .2rem 0 .5rem; }
+:focus-visible { outline: 3px solid var(--focus); outline-offset: 1px; }
+button, input { font: inherit; color: inherit; background: var(--paper); border: 1px solid var(--edge); border-radius: .3rem; }
+[hidden] { display: none !important; }
+
+/* ---- the picture: without the script as wide as the page, with it (.live) a window of its own */
+#stage { position: relative; overflow: hidden; border: 1px solid var(--edge); border-radius: .3rem; }
+#stage svg { display: block; width: 100%; height: auto; max-height: 85vh; }
+#stage.live { height: clamp(16rem, 72vh, 70rem); touch-action: none; cursor: grab; -webkit-user-select: none; user-select: none; }
+#stage.live:active { cursor: grabbing; }
+#stage.live svg { height: 100%; max-height: none; transform-origin: 0 0; }
+/* A heavy picture is drawn beyond the edges, by half of the stage, so that it can be moved before it is drawn anew. */
+#stage.heavy svg { position: absolute; inset: -50%; width: 200%; height: 200%; transform-origin: 25% 25%; will-change: transform; }
+
+/* Within the group, a unit is a tenth of one of the picture's. */
+.live svg > g { stroke-width: calc(var(--line) * 10px * var(--scale)); }
+.live svg path[stroke="black"] { stroke-width: calc(var(--dot) * 10px * var(--scale)); }
+/* Squares are drawn sooner than discs, and look the same when they are small. */
+.live .fine path[stroke="black"] { stroke-linecap: square; }
+.live svg path[fill="black"] { stroke: black; stroke-linecap: square; stroke-width: calc(110px * var(--scale)); }
+.live svg g text { font-size: calc(130px * var(--scale)); stroke: white; stroke-width: calc(35px * var(--scale)); paint-order: stroke; }
+.live .crowded g text:not(.chosen) { display: none; }
+.faded polygon:not(#lit) { stroke-opacity: .2; }
+.faded g text:not(.chosen) { opacity: .2; }
+.live svg #lit { stroke-width: calc((var(--line) + 1.5) * 10px * var(--scale)); }
+
+#mark {
+    position: absolute; left: 0; top: 0; width: 20px; height: 20px; margin: -10px; pointer-events: none;
+    border: 4px solid var(--mark); border-radius: 50%; opacity: .7;
+}
+#tip {
+    position: absolute; max-width: min(20rem, 90%); padding: .2rem .5rem; pointer-events: none; white-space: pre-line;
+    background: var(--paper); border: 1px solid var(--soft); border-radius: .3rem; font-size: .9rem;
+}
+
+/* ---- what stands around it */
+#tools { display: flex; flex-wrap: wrap; gap: .4rem; margin-bottom: .5rem; align-items: center; }
+#tools button { min-width: 2.4rem; min-height: 2.4rem; padding: 0 .6rem; cursor: pointer; }
+#tools input { width: 6.5rem; min-height: 2.4rem; padding: 0 .4rem; }
+#where { min-height: 1.4em; }
+.help { color: var(--soft); font-size: .85rem; }
+
+/* ---- the table */
+#routes { position: relative; margin-top: .75rem; overflow: auto; }
+table { border-collapse: collapse; font-size: .95rem; font-variant-numeric: tabular-nums; }
+caption { text-align: left; font-weight: 600; padding-bottom: .3rem; }
+th, td { padding: 0 .5rem; text-align: right; border-bottom: 1px solid var(--edge); font-weight: normal; }
+thead th { position: sticky; top: 0; padding: 0; background: var(--paper); vertical-align: bottom; }
+th button { border-color: transparent; padding: .1rem .3rem; min-height: 1.9rem; text-align: right; cursor: pointer; }
+thead th button { padding: .1rem .5rem; width: min-content; }
+thead th button::before { content: "\25b2" / ""; display: block; visibility: hidden; font-size: .7rem; line-height: 1; }
+thead th[aria-sort] button::before { visibility: visible; }
+thead th[aria-sort=descending] button::before { content: "\25bc" / ""; }
+tbody th { padding-left: 0; }
+tbody th button { background: none; }
+tbody tr:hover, tbody tr:has([aria-pressed=true]) { background: var(--chosen); }
+.swatch { display: inline-block; width: 1.4rem; height: .5rem; margin-right: .5rem; vertical-align: middle; background: var(--colour); }
+
+/* The table stands beside the picture where there is room. */
+@media screen and (min-width: 62rem) {
+    body:has(#routes) {
+        display: grid; grid-template: auto auto auto auto 1fr / minmax(0, 1fr) auto; column-gap: 1rem; align-items: start;
+    }
+    body > * { grid-column: 1; }
+    body > #routes { grid-column: 2; grid-row: 1 / -1; margin: 0; max-height: calc(100vh - 1.5rem); }
+}
+@media (max-width: 30rem) {
+    body { padding: .4rem; }
+    th, td { padding: 0 .25rem; font-size: .9rem; }
+    thead th button { padding: .1rem .25rem; }
+    #stage.live { height: clamp(14rem, 60vh, 40rem); }
+}
+
+@media print {
+    #tools, #below, #tip, #mark, .help { display: none; }
+    body { padding: 0; max-width: none; }
+    #stage, #stage.live { height: auto; border: 0; break-inside: avoid; }
+    #stage.live svg { position: static; width: 100%; height: auto; max-height: 22cm; }
+    #routes { overflow: visible; }
+    table { font-size: 9pt; }
+    caption { break-after: avoid; }
+    thead { display: table-header-group; }
+    thead th { position: static; }
+    th button { min-height: 0; padding: 0; }
+    thead th { padding: 0 .5rem; }
+    thead th button { display: contents; }        /* a button is not painted again on the next sheet */
+    tr { break-inside: avoid; }
+    .swatch { print-color-adjust: exact; -webkit-print-color-adjust: exact; }
+}
+"#;
+
+/// The file `page/tools.html`.
+pub static TOOLS: &[u8] =
+    br#"<noscript><p class="help">Zoom, the numbers of cities and sorting need JavaScript, which is off.</p></noscript>
+<template id="parts">
+<div id="tools">
+<button type="button" data-do="in" aria-label="Zoom in">+</button>
+<button type="button" data-do="out" aria-label="Zoom out">&minus;</button>
+<button type="button" data-do="whole">Whole</button>
+<label>City <input id="number" type="number" min="1" inputmode="numeric"></label>
+<button type="button" data-do="before" aria-label="The city before">&#9664;</button>
+<button type="button" data-do="next" aria-label="The next city">&#9654;</button>
+</div>
+<div id="below">
+<p id="where" role="status"></p>
+<p class="help" id="keys">Drag to move, turn the wheel or pinch to zoom, point at a city for its number. Keys in the picture: arrows move,
++ and &minus; zoom, 0 shows the whole, N and P go to the next city and the one before, Enter lights up its route, Escape ends that.</p>
+</div>
+</template>
+"#;
+
+/// The file `page/page.js`.
+pub static SCRIPT: &[u8] =
+    br#"// The page of `tourkit plot --html`: zoom and pan, the city at the pointer, and the table of routes.
+//
+// The program writes what this shows. #stage holds the picture, #routes the table, and two blocks hold numbers:
+//     #cities    line c is city c: <across>,<down> <x> <y> [<demand> [depot]], with x and y in units of 10^-9
+//     #paths     line k has the cities of the k-th closed line of the picture, which is the k-th row of the table
+// A place is given in one of three ways: <across> and <down> as the picture's lines have them; in units of the picture's viewBox;
+// or in pixels from the top left corner of the stage.
+'use strict';
+(() => {
+const REACH = 14;               // pixels from the pointer within which a city is found
+const ROOM = 45;                // pixels to each side that the number of a route wants for itself
+const TITLE = 60;               // units above the cities, where the picture has the title that the page has in its heading
+const MARGIN = 20;              // units around the cities
+const ABOVE = 20;               // units above them that the numbers of routes want
+const CLOSEST = 0.004;          // the fewest units to a pixel
+const STEP = 80;                // pixels that an arrow moves
+const HEAVY = 5000;             // from so many cities on, the picture is drawn anew only when a movement rests
+const REST = 150;               // milliseconds
+const FEW = 2000;               // a picture without points gets those in view, if they are so few
+const ON_PAPER = 1.4;           // units to a pixel
+const SPOTS = 10000;            // the greatest <across> or <down>
+
+const byId = id => document.getElementById(id);
+const clamp = (low, value, high) => Math.max(low, Math.min(high, value));
+
+// ---- what the program wrote
+
+const stage = byId('stage'), svg = stage.querySelector('svg'), group = svg.querySelector('g');
+const polygons = [...group.querySelectorAll('polygon')], routeNumbers = [...group.querySelectorAll('text')];
+const table = document.querySelector('#routes table');          // null without routes
+
+function linesOf(id) {
+    const text = byId(id).textContent.trim();
+    return text === '' ? [] : text.split('\n');
+}
+
+const cities = linesOf('cities'), count = cities.length;
+const across = new Int32Array(count + 1), down = new Int32Array(count + 1);
+let depot = 0;                                                  // 0 if there is none
+cities.forEach((line, index) => {
+    across[index + 1] = parseInt(line, 10);
+    down[index + 1] = parseInt(line.slice(line.indexOf(',') + 1), 10);
+    if (line.endsWith('depot')) depot = index + 1;
+});
+
+const paths = linesOf('paths').map(line => line.split(' ').map(Number));
+const pathOf = new Int32Array(count + 1).fill(-1), stopOf = new Int32Array(count + 1);
+paths.forEach((path, k) => path.forEach((city, stop) => {
+    if (city !== depot) { pathOf[city] = k; stopOf[city] = stop; }
+}));
+
+// The cities as the keys N and P go: along the lines, or else by number. The depot is there once.
+const walk = paths.length === 0 ? cities.map((_, index) => index + 1) : paths.flat().filter((city, i) => city !== depot || i === 0);
+const turnOf = new Int32Array(count + 1);
+walk.forEach((city, turn) => { turnOf[city] = turn; });
+
+// ---- what is added to the page
+
+function element(kind, attributes, space = 'http://www.w3.org/1999/xhtml') {
+    const made = document.createElementNS(space, kind);
+    for (const [name, value] of Object.entries(attributes)) made.setAttribute(name, value);
+    return made;
+}
+
+const drawing = (kind, attributes) => element(kind, attributes, 'http://www.w3.org/2000/svg');
+
+// A copy of the route that is lit up, above the other lines.
+const lit = drawing('polygon', { id: 'lit', points: '' });
+if (polygons.length > 0) polygons.at(-1).after(lit);
+
+// The points of a picture that has none.
+const nearDots = group.querySelector('path[stroke="black"]') ? null : drawing('path', { stroke: 'black', d: '' });
+if (nearDots !== null) lit.after(nearDots);
+
+// The mark and the words stand above the picture, not in it: then the picture is not drawn anew when they move.
+const mark = element('div', { id: 'mark', hidden: '' }), tip = element('div', { id: 'tip', hidden: '', 'aria-hidden': 'true' });
+
+function prepareStage() {
+    const title = svg.querySelector('title');
+    svg.setAttribute('role', 'img');
+    svg.setAttribute('aria-label', title.textContent);
+    title.remove();                                             // a browser would show it at the pointer
+    for (const text of svg.querySelectorAll(':scope > text')) text.remove();
+
+    // The numbers and the depot keep their size: they are placed by that size, and by a square end of a line.
+    const square = group.querySelector('path[fill="black"]');
+    if (square !== null) square.setAttribute('d', square.getAttribute('d').replace(/m.*/, 'h0'));
+
+    const parts = byId('parts').content;
+    stage.after(parts.getElementById('below'));
+    stage.before(parts);
+    stage.append(mark, tip);
+    for (const [name, value] of Object.entries({ tabindex: 0, role: 'application', 'aria-label': 'Picture', 'aria-describedby': 'keys' }))
+        stage.setAttribute(name, value);
+    stage.classList.add('live');
+    stage.classList.toggle('heavy', count >= HEAVY);
+}
+
+prepareStage();
+const asked = byId('number'), status = byId('where');
+asked.max = count;
+
+// ---- a grid, which finds the cities of a box
+
+const cells = clamp(1, Math.ceil(Math.sqrt(count / 2)), 256);    // in each direction
+const lane = place => clamp(0, Math.floor(place * cells / (SPOTS + 1)), cells - 1);
+const cellOf = city => lane(down[city]) * cells + lane(across[city]);
+const starts = new Int32Array(cells * cells + 1), byCell = new Int32Array(count);
+
+// The cities in the order of their cells; those of a cell begin at its place in starts.
+function fillGrid() {
+    for (let city = 1; city <= count; city++) starts[cellOf(city) + 1]++;
+    for (let cell = 0; cell < cells * cells; cell++) starts[cell + 1] += starts[cell];
+    const next = starts.slice();
+    for (let city = 1; city <= count; city++) byCell[next[cellOf(city)]++] = city;
+}
+
+fillGrid();
+
+function citiesIn(left, top, right, bottom) {
+    const found = [];
+    for (let row = lane(top); row <= lane(bottom); row++) {
+        const end = starts[row * cells + lane(right) + 1];
+        for (let i = starts[row * cells + lane(left)]; i < end; i++) {
+            const city = byCell[i];
+            if (across[city] >= left && across[city] <= right && down[city] >= top && down[city] <= bottom) found.push(city);
+        }
+    }
+    return found;
+}
+
+// The nearest city within a distance, and of those as near the one with the lowest number; 0 if there is none.
+function nearest(x, y, reach) {
+    let best = 0, least = reach * reach;
+    for (const city of citiesIn(x - reach, y - reach, x + reach, y + reach)) {
+        const far = (across[city] - x) ** 2 + (down[city] - y) ** 2;
+        if (far < least || (far === least && (best === 0 || city < best))) { best = city; least = far; }
+    }
+    return best;
+}
+
+// ---- the view: its top left corner, and the units to a pixel
+
+const [originX, originY, unit] = group.getAttribute('transform').match(/[-\d.]+/g).map(Number);
+const [, , pictureWidth, pictureHeight] = svg.getAttribute('viewBox').split(' ').map(Number);
+const top = TITLE - MARGIN - (routeNumbers.length > 0 ? ABOVE : 0);
+const whole = { x: 0, y: top, width: pictureWidth, height: pictureHeight - top };
+let view = { x: 0, y: 0, scale: 1 };
+let drawn = view;               // the view when the picture was last drawn
+let isWhole = true;             // whether the view follows the size of the stage
+let resting = 0;                // the timer
+let width = 1, height = 1;      // of the stage, in pixels
+
+const wholeScale = () => Math.max(whole.width / width, whole.height / height);
+const toSpot = (x, y) => [(view.x + x * view.scale - originX) / unit, (view.y + y * view.scale - originY) / unit];
+const toPixels = city => [
+    (across[city] * unit + originX - view.x) / view.scale,
+    (down[city] * unit + originY - view.y) / view.scale,
+];
+
+function draw() {
+    clearTimeout(resting);
+    drawn = view;
+    svg.style.transform = '';
+    const edge = count < HEAVY ? 0 : 0.5;                       // what is drawn beyond each edge, in parts of the stage
+    const wide = width * view.scale, high = height * view.scale;
+    svg.setAttribute('viewBox', [view.x - edge * wide, view.y - edge * high, (1 + 2 * edge) * wide, (1 + 2 * edge) * high].join(' '));
+    setWidths(view.scale);
+    if (nearDots !== null) drawNearDots();
+}
+
+// Lines, points and numbers keep their size on the screen, but where there is little room, lines and points are thin.
+function setWidths(scale) {
+    const side = SPOTS * unit / scale, apart = side / Math.sqrt(count), dot = clamp(1.2, 0.2 * apart, 5);
+    svg.style.setProperty('--scale', scale);
+    svg.style.setProperty('--line', clamp(0.6, 0.08 * apart, count < HEAVY ? 1.5 : 1));       // to a pixel, browsers draw sooner
+    svg.style.setProperty('--dot', dot);
+    svg.classList.toggle('fine', dot < 2);
+    svg.classList.toggle('crowded', side / Math.sqrt(polygons.length) < ROOM);
+}
+
+function drawNearDots() {
+    const expected = count * width * height * (view.scale / (SPOTS * unit)) ** 2;
+    const found = expected > 4 * FEW ? [] : citiesIn(...toSpot(0, 0), ...toSpot(width, height));
+    nearDots.setAttribute('d', found.length > FEW ? '' : found.map(city => `M${across[city]},${down[city]}h0`).join(''));
+}
+
+// A heavy picture is moved and stretched as it is drawn, until that rests.
+function drawWhenResting() {
+    const [x, y] = [(drawn.x - view.x) / view.scale, (drawn.y - view.y) / view.scale];
+    svg.style.transform = `translate(${x}px, ${y}px) scale(${drawn.scale / view.scale})`;
+    clearTimeout(resting);
+    resting = setTimeout(draw, REST);
+}
+
+// The middle of the view stays within the picture.
+function moveTo(x, y, scale) {
+    isWhole = false;
+    const [middleX, middleY] = [width * scale / 2, height * scale / 2];
+    view = {
+        x: clamp(whole.x - middleX, x, whole.x + whole.width - middleX),
+        y: clamp(whole.y - middleY, y, whole.y + whole.height - middleY),
+        scale,
+    };
+    if (count < HEAVY) draw(); else drawWhenResting();
+    placeTip();
+}
+
+const moveBy = (x, y) => moveTo(view.x - x * view.scale, view.y - y * view.scale, view.scale);
+
+// What is at a pixel stays there.
+function zoomAt(x, y, factor) {
+    const scale = clamp(CLOSEST, view.scale * factor, 1.5 * wholeScale());
+    moveTo(view.x + x * (view.scale - scale), view.y + y * (view.scale - scale), scale);
+}
+
+function showWhole() {
+    const scale = wholeScale();
+    view = { x: whole.x + (whole.width - width * scale) / 2, y: whole.y + (whole.height - height * scale) / 2, scale };
+    isWhole = true;
+    draw();
+    placeTip();
+}
+
+function measure() {
+    width = Math.max(1, stage.clientWidth);
+    height = Math.max(1, stage.clientHeight);
+    if (isWhole) showWhole(); else { draw(); placeTip(); }
+}
+
+// ---- the city that is shown
+
+let shown = 0;                  // 0 if none is
+
+// A number of units of 10^-9 as a decimal number. It may have more digits than a number of JavaScript holds, so it stays a text.
+function decimal(units) {
+    const sign = units.startsWith('-') ? '\u2212' : '';
+    const digits = units.replace('-', '').padStart(10, '0');
+    const fraction = digits.slice(-9).replace(/0+$/, '');
+    return sign + digits.slice(0, -9) + (fraction === '' ? '' : '.' + fraction);
+}
+
+function roleOf(city) {
+    if (city === depot) return ', the depot';
+    if (depot === 0) return '';
+    return `, customer ${city > depot ? city - 1 : city}`;       // as solutions number them
+}
+
+function placeOnLine(city) {
+    const k = pathOf[city];
+    if (k < 0) return [];
+    if (table === null) return [`place ${stopOf[city] + 1} of ${count} in the tour`];
+    return [`route ${rows[k].name}, stop ${stopOf[city]} of ${paths[k].length - 1}`];
+}
+
+function wordsOf(city) {
+    const [, x, y, demand] = cities[city - 1].split(' ');
+    const words = [`City ${city}${roleOf(city)}`, `at (${decimal(x)}, ${decimal(y)})`];
+    if (demand !== undefined && city !== depot) words.push(`demand ${demand}`);
+    words.push(...placeOnLine(city));
+    const others = citiesIn(across[city], down[city], across[city], down[city]).length - 1;
+    if (others > 0) words.push(`and ${others} more at this point of the picture`);
+    return words;
+}
+
+function placeTip() {
+    tip.hidden = mark.hidden = shown === 0;
+    if (shown === 0) return;
+    const [x, y] = toPixels(shown);
+    mark.style.translate = `${x}px ${y}px`;
+    tip.style.left = x < width / 2 ? `${x + REACH}px` : '';
+    tip.style.right = x < width / 2 ? '' : `${width - x + REACH}px`;
+    tip.style.top = y < height / 2 ? `${y + REACH}px` : '';
+    tip.style.bottom = y < height / 2 ? '' : `${height - y + REACH}px`;
+}
+
+function show(city) {
+    if (city === shown) return;
+    shown = city;
+    if (city > 0) tip.textContent = wordsOf(city).join('\n');
+    placeTip();
+}
+
+// Shows a city that was asked for by keys: it is brought into the view, and said.
+function goTo(city) {
+    show(city);
+    const [x, y] = toPixels(city);
+    if (x < MARGIN || y < MARGIN || x > width - MARGIN || y > height - MARGIN) moveBy(width / 2 - x, height / 2 - y);
+    status.textContent = wordsOf(city).join(', ');
+    asked.value = city;
+}
+
+function step(by) {
+    const turn = shown > 0 ? turnOf[shown] + by : Math.min(by, 0);        // from none to the first, or to the last
+    goTo(walk.at(turn % walk.length));
+}
+
+// ---- the route that is lit up
+
+let kept = -1;                  // the one that stays lit up when the pointer leaves its row; -1 if none
+
+function light(k) {
+    svg.classList.toggle('faded', k >= 0);
+    lit.setAttribute('points', k < 0 ? '' : polygons[k].getAttribute('points'));
+    if (k >= 0) lit.setAttribute('stroke', polygons[k].getAttribute('stroke'));
+    routeNumbers.forEach((text, i) => text.classList.toggle('chosen', i === k));
+}
+
+function keep(k) {
+    kept = k;
+    light(k);
+    rows.forEach((row, i) => row.button.setAttribute('aria-pressed', i === k));
+    if (k < 0) return;
+    const [, customers, load, share, length] = rows[k].values;
+    status.textContent = `Route ${rows[k].name}: ${customers} customers, load ${load} (${share} %), length ${length}`;
+}
+
+// Lights up the route of a city, or ends that.
+function keepOf(city) {
+    if (table === null) return;
+    keep(city > 0 && pathOf[city] !== kept ? pathOf[city] : -1);
+    if (kept >= 0) scrollToRow(rows[kept].line);
+}
+
+// Scrolls the table to a row, where the table is a list beside the picture; the page itself is not scrolled.
+function scrollToRow(line) {
+    const list = byId('routes'), top = line.offsetTop - list.scrollTop;
+    if (top < 0 || top > list.clientHeight - line.offsetHeight) list.scrollTop = line.offsetTop - list.clientHeight / 2;
+}
+
+// ---- the table
+
+const rows = table === null ? [] : [...table.tBodies[0].rows].map(prepareRow);
+let listed = rows.slice();      // in the order of the table
+
+function prepareRow(line, k) {
+    const head = line.cells[0], name = head.textContent.trim();
+    const values = [...line.cells].map(cell => parseInt(cell.textContent, 10));
+    const swatch = element('span', { class: 'swatch' });
+    swatch.style.setProperty('--colour', polygons[k].getAttribute('stroke'));
+    const button = element('button', { type: 'button', 'aria-pressed': 'false', tabindex: k === 0 ? 0 : -1 });
+    button.append(swatch, name);
+    head.replaceChildren(button);
+    button.addEventListener('click', () => keep(kept === k ? -1 : k));
+    line.addEventListener('pointerenter', () => light(k));
+    line.addEventListener('pointerleave', () => light(kept));
+    return { name, line, button, values };
+}
+
+function prepareHeading(head, column) {
+    const button = element('button', { type: 'button' });
+    button.append(head.textContent.trim());
+    head.replaceChildren(button);
+    button.addEventListener('click', () => sortBy(column, head));
+}
+
+function sortBy(column, head) {
+    const falls = head.getAttribute('aria-sort') === 'ascending';
+    for (const other of table.tHead.rows[0].cells) other.removeAttribute('aria-sort');
+    head.setAttribute('aria-sort', falls ? 'descending' : 'ascending');
+    listed = rows.slice().sort((a, b) => (falls ? -1 : 1) * (a.values[column] - b.values[column]));
+    table.tBodies[0].append(...listed.map(row => row.line));
+}
+
+// One button of the rows is in the order of Tab, the one that had the focus last; arrows go to the others.
+function holdFocus(event) {
+    for (const row of rows) row.button.setAttribute('tabindex', row.button === event.target ? 0 : -1);
+}
+
+function moveFocus(event) {
+    const from = listed.findIndex(row => row.button === document.activeElement);
+    const to = { ArrowDown: from + 1, ArrowUp: from - 1, Home: 0, End: listed.length - 1 }[event.key];
+    if (from < 0 || listed[to] === undefined) return;
+    event.preventDefault();
+    listed[to].button.focus();
+}
+
+if (table !== null) {
+    [...table.tHead.rows[0].cells].forEach(prepareHeading);
+    table.tHead.rows[0].cells[0].setAttribute('aria-sort', 'ascending');
+    table.tBodies[0].addEventListener('focusin', holdFocus);
+    table.tBodies[0].addEventListener('keydown', moveFocus);
+}
+
+// ---- keys and buttons
+
+// Zooms at the city that is shown, if it is in view.
+function zoom(factor) {
+    const [x, y] = shown > 0 ? toPixels(shown) : [-1, -1];
+    if (x >= 0 && y >= 0 && x <= width && y <= height) zoomAt(x, y, factor); else zoomAt(width / 2, height / 2, factor);
+}
+
+function endAll() {
+    show(0);
+    keep(-1);
+    status.textContent = '';
+}
+
+const deeds = {
+    in: () => zoom(1 / 1.5), out: () => zoom(1.5), whole: showWhole,
+    left: () => moveBy(STEP, 0), right: () => moveBy(-STEP, 0), up: () => moveBy(0, STEP), down: () => moveBy(0, -STEP),
+    next: () => step(1), before: () => step(-1), light: () => keepOf(shown),
+};
+const deedOfKey = {
+    '+': 'in', '=': 'in', '-': 'out', '\u2212': 'out', 0: 'whole', Home: 'whole',
+    ArrowLeft: 'left', ArrowRight: 'right', ArrowUp: 'up', ArrowDown: 'down',
+    n: 'next', p: 'before', Enter: 'light',
+};
+
+stage.addEventListener('keydown', event => {
+    const deed = deedOfKey[event.key.length === 1 ? event.key.toLowerCase() : event.key];
+    if (deed === undefined || event.ctrlKey || event.metaKey || event.altKey) return;
+    event.preventDefault();
+    deeds[deed]();
+});
+document.addEventListener('keydown', event => { if (event.key === 'Escape') endAll(); });
+byId('tools').addEventListener('click', event => {
+    const button = event.target.closest('button');
+    if (button !== null) deeds[button.dataset.do]();
+});
+asked.addEventListener('change', () => {
+    const city = Number(asked.value);
+    if (Number.isInteger(city) && city >= 1 && city <= count) goTo(city); else status.textContent = `The cities are 1 to ${count}.`;
+});
+
+// ---- pointers: a mouse, a pen, or fingers
+
+const held = new Map();         // where each pointer that is down was last
+let strayed = 0;                // how far they have gone since
+
+function pixelsOf(event) {
+    const box = stage.getBoundingClientRect();
+    return [event.clientX - box.left - stage.clientLeft, event.clientY - box.top - stage.clientTop];
+}
+
+const cityAt = event => nearest(...toSpot(...pixelsOf(event)), REACH * view.scale / unit);
+
+// Two fingers move the picture by half of what one of them moves, and zoom it about the point between them.
+function pinch(from, to, other) {
+    const before = Math.hypot(from[0] - other[0], from[1] - other[1]), after = Math.hypot(to[0] - other[0], to[1] - other[1]);
+    moveBy((to[0] - from[0]) / 2, (to[1] - from[1]) / 2);
+    if (before > 0 && after > 0) zoomAt((to[0] + other[0]) / 2, (to[1] + other[1]) / 2, before / after);
+}
+
+stage.addEventListener('pointerdown', event => {
+    if (event.button !== 0) return;
+    stage.setPointerCapture(event.pointerId);
+    if (held.size === 0) strayed = 0;
+    held.set(event.pointerId, pixelsOf(event));
+});
+stage.addEventListener('pointermove', event => {
+    const from = held.get(event.pointerId), to = pixelsOf(event);
+    if (from === undefined) { show(cityAt(event)); return; }
+    strayed += Math.abs(to[0] - from[0]) + Math.abs(to[1] - from[1]);
+    held.set(event.pointerId, to);
+    const others = [...held.keys()].filter(id => id !== event.pointerId);
+    if (others.length === 1) pinch(from, to, held.get(others[0]));
+    else if (others.length === 0 && strayed > 4) moveBy(to[0] - from[0], to[1] - from[1]);
+});
+stage.addEventListener('pointerup', event => {
+    if (!held.delete(event.pointerId) || held.size > 0 || strayed > 4) return;
+    show(cityAt(event));
+    keepOf(shown);
+});
+stage.addEventListener('pointercancel', event => { held.delete(event.pointerId); strayed = Infinity; });
+stage.addEventListener('pointerleave', event => { if (event.pointerType === 'mouse' && held.size === 0) show(0); });
+stage.addEventListener('wheel', event => {
+    event.preventDefault();
+    const lines = event.deltaMode === WheelEvent.DOM_DELTA_LINE;
+    const turned = clamp(-200, event.deltaY * (lines ? 30 : 1) * (event.ctrlKey ? 7 : 1), 200);     // Ctrl: two fingers on a touchpad
+    zoomAt(...pixelsOf(event), Math.exp(turned * 0.0015));
+}, { passive: false });
+
+// ---- sizes, and paper
+
+new ResizeObserver(measure).observe(stage);
+measure();
+addEventListener('beforeprint', () => {
+    svg.setAttribute('viewBox', `${whole.x} ${whole.y} ${whole.width} ${whole.height}`);
+    svg.style.transform = '';
+    setWidths(ON_PAPER);
+});
+addEventListener('afterprint', draw);
+})();
+"#;

@@ -1,0 +1,484 @@
+// The page of `tourkit plot --html`: zoom and pan, the city at the pointer, and the table of routes.
+//
+// The program writes what this shows. #stage holds the picture, #routes the table, and two blocks hold numbers:
+//     #cities    line c is city c: <across>,<down> <x> <y> [<demand> [depot]], with x and y in units of 10^-9
+//     #paths     line k has the cities of the k-th closed line of the picture, which is the k-th row of the table
+// A place is given in one of three ways: <across> and <down> as the picture's lines have them; in units of the picture's viewBox;
+// or in pixels from the top left corner of the stage.
+'use strict';
+(() => {
+const REACH = 14;               // pixels from the pointer within which a city is found
+const ROOM = 45;                // pixels to each side that the number of a route wants for itself
+const TITLE = 60;               // units above the cities, where the picture has the title that the page has in its heading
+const MARGIN = 20;              // units around the cities
+const ABOVE = 20;               // units above them that the numbers of routes want
+const CLOSEST = 0.004;          // the fewest units to a pixel
+const STEP = 80;                // pixels that an arrow moves
+const HEAVY = 5000;             // from so many cities on, the picture is drawn anew only when a movement rests
+const REST = 150;               // milliseconds
+const FEW = 2000;               // a picture without points gets those in view, if they are so few
+const ON_PAPER = 1.4;           // units to a pixel
+const SPOTS = 10000;            // the greatest <across> or <down>
+
+const byId = id => document.getElementById(id);
+const clamp = (low, value, high) => Math.max(low, Math.min(high, value));
+
+// ---- what the program wrote
+
+const stage = byId('stage'), svg = stage.querySelector('svg'), group = svg.querySelector('g');
+const polygons = [...group.querySelectorAll('polygon')], routeNumbers = [...group.querySelectorAll('text')];
+const table = document.querySelector('#routes table');          // null without routes
+
+function linesOf(id) {
+    const text = byId(id).textContent.trim();
+    return text === '' ? [] : text.split('\n');
+}
+
+const cities = linesOf('cities'), count = cities.length;
+const across = new Int32Array(count + 1), down = new Int32Array(count + 1);
+let depot = 0;                                                  // 0 if there is none
+cities.forEach((line, index) => {
+    across[index + 1] = parseInt(line, 10);
+    down[index + 1] = parseInt(line.slice(line.indexOf(',') + 1), 10);
+    if (line.endsWith('depot')) depot = index + 1;
+});
+
+const paths = linesOf('paths').map(line => line.split(' ').map(Number));
+const pathOf = new Int32Array(count + 1).fill(-1), stopOf = new Int32Array(count + 1);
+paths.forEach((path, k) => path.forEach((city, stop) => {
+    if (city !== depot) { pathOf[city] = k; stopOf[city] = stop; }
+}));
+
+// The cities as the keys N and P go: along the lines, or else by number. The depot is there once.
+const walk = paths.length === 0 ? cities.map((_, index) => index + 1) : paths.flat().filter((city, i) => city !== depot || i === 0);
+const turnOf = new Int32Array(count + 1);
+walk.forEach((city, turn) => { turnOf[city] = turn; });
+
+// ---- what is added to the page
+
+function element(kind, attributes, space = 'http://www.w3.org/1999/xhtml') {
+    const made = document.createElementNS(space, kind);
+    for (const [name, value] of Object.entries(attributes)) made.setAttribute(name, value);
+    return made;
+}
+
+const drawing = (kind, attributes) => element(kind, attributes, 'http://www.w3.org/2000/svg');
+
+// A copy of the route that is lit up, above the other lines.
+const lit = drawing('polygon', { id: 'lit', points: '' });
+if (polygons.length > 0) polygons.at(-1).after(lit);
+
+// The points of a picture that has none.
+const nearDots = group.querySelector('path[stroke="black"]') ? null : drawing('path', { stroke: 'black', d: '' });
+if (nearDots !== null) lit.after(nearDots);
+
+// The mark and the words stand above the picture, not in it: then the picture is not drawn anew when they move.
+const mark = element('div', { id: 'mark', hidden: '' }), tip = element('div', { id: 'tip', hidden: '', 'aria-hidden': 'true' });
+
+function prepareStage() {
+    const title = svg.querySelector('title');
+    svg.setAttribute('role', 'img');
+    svg.setAttribute('aria-label', title.textContent);
+    title.remove();                                             // a browser would show it at the pointer
+    for (const text of svg.querySelectorAll(':scope > text')) text.remove();
+
+    // The numbers and the depot keep their size: they are placed by that size, and by a square end of a line.
+    const square = group.querySelector('path[fill="black"]');
+    if (square !== null) square.setAttribute('d', square.getAttribute('d').replace(/m.*/, 'h0'));
+
+    const parts = byId('parts').content;
+    stage.after(parts.getElementById('below'));
+    stage.before(parts);
+    stage.append(mark, tip);
+    for (const [name, value] of Object.entries({ tabindex: 0, role: 'application', 'aria-label': 'Picture', 'aria-describedby': 'keys' }))
+        stage.setAttribute(name, value);
+    stage.classList.add('live');
+    stage.classList.toggle('heavy', count >= HEAVY);
+}
+
+prepareStage();
+const asked = byId('number'), status = byId('where');
+asked.max = count;
+
+// ---- a grid, which finds the cities of a box
+
+const cells = clamp(1, Math.ceil(Math.sqrt(count / 2)), 256);    // in each direction
+const lane = place => clamp(0, Math.floor(place * cells / (SPOTS + 1)), cells - 1);
+const cellOf = city => lane(down[city]) * cells + lane(across[city]);
+const starts = new Int32Array(cells * cells + 1), byCell = new Int32Array(count);
+
+// The cities in the order of their cells; those of a cell begin at its place in starts.
+function fillGrid() {
+    for (let city = 1; city <= count; city++) starts[cellOf(city) + 1]++;
+    for (let cell = 0; cell < cells * cells; cell++) starts[cell + 1] += starts[cell];
+    const next = starts.slice();
+    for (let city = 1; city <= count; city++) byCell[next[cellOf(city)]++] = city;
+}
+
+fillGrid();
+
+function citiesIn(left, top, right, bottom) {
+    const found = [];
+    for (let row = lane(top); row <= lane(bottom); row++) {
+        const end = starts[row * cells + lane(right) + 1];
+        for (let i = starts[row * cells + lane(left)]; i < end; i++) {
+            const city = byCell[i];
+            if (across[city] >= left && across[city] <= right && down[city] >= top && down[city] <= bottom) found.push(city);
+        }
+    }
+    return found;
+}
+
+// The nearest city within a distance, and of those as near the one with the lowest number; 0 if there is none.
+function nearest(x, y, reach) {
+    let best = 0, least = reach * reach;
+    for (const city of citiesIn(x - reach, y - reach, x + reach, y + reach)) {
+        const far = (across[city] - x) ** 2 + (down[city] - y) ** 2;
+        if (far < least || (far === least && (best === 0 || city < best))) { best = city; least = far; }
+    }
+    return best;
+}
+
+// ---- the view: its top left corner, and the units to a pixel
+
+const [originX, originY, unit] = group.getAttribute('transform').match(/[-\d.]+/g).map(Number);
+const [, , pictureWidth, pictureHeight] = svg.getAttribute('viewBox').split(' ').map(Number);
+const top = TITLE - MARGIN - (routeNumbers.length > 0 ? ABOVE : 0);
+const whole = { x: 0, y: top, width: pictureWidth, height: pictureHeight - top };
+let view = { x: 0, y: 0, scale: 1 };
+let drawn = view;               // the view when the picture was last drawn
+let isWhole = true;             // whether the view follows the size of the stage
+let resting = 0;                // the timer
+let width = 1, height = 1;      // of the stage, in pixels
+
+const wholeScale = () => Math.max(whole.width / width, whole.height / height);
+const toSpot = (x, y) => [(view.x + x * view.scale - originX) / unit, (view.y + y * view.scale - originY) / unit];
+const toPixels = city => [
+    (across[city] * unit + originX - view.x) / view.scale,
+    (down[city] * unit + originY - view.y) / view.scale,
+];
+
+function draw() {
+    clearTimeout(resting);
+    drawn = view;
+    svg.style.transform = '';
+    const edge = count < HEAVY ? 0 : 0.5;                       // what is drawn beyond each edge, in parts of the stage
+    const wide = width * view.scale, high = height * view.scale;
+    svg.setAttribute('viewBox', [view.x - edge * wide, view.y - edge * high, (1 + 2 * edge) * wide, (1 + 2 * edge) * high].join(' '));
+    setWidths(view.scale);
+    if (nearDots !== null) drawNearDots();
+}
+
+// Lines, points and numbers keep their size on the screen, but where there is little room, lines and points are thin.
+function setWidths(scale) {
+    const side = SPOTS * unit / scale, apart = side / Math.sqrt(count), dot = clamp(1.2, 0.2 * apart, 5);
+    svg.style.setProperty('--scale', scale);
+    svg.style.setProperty('--line', clamp(0.6, 0.08 * apart, count < HEAVY ? 1.5 : 1));       // to a pixel, browsers draw sooner
+    svg.style.setProperty('--dot', dot);
+    svg.classList.toggle('fine', dot < 2);
+    svg.classList.toggle('crowded', side / Math.sqrt(polygons.length) < ROOM);
+}
+
+function drawNearDots() {
+    const expected = count * width * height * (view.scale / (SPOTS * unit)) ** 2;
+    const found = expected > 4 * FEW ? [] : citiesIn(...toSpot(0, 0), ...toSpot(width, height));
+    nearDots.setAttribute('d', found.length > FEW ? '' : found.map(city => `M${across[city]},${down[city]}h0`).join(''));
+}
+
+// A heavy picture is moved and stretched as it is drawn, until that rests.
+function drawWhenResting() {
+    const [x, y] = [(drawn.x - view.x) / view.scale, (drawn.y - view.y) / view.scale];
+    svg.style.transform = `translate(${x}px, ${y}px) scale(${drawn.scale / view.scale})`;
+    clearTimeout(resting);
+    resting = setTimeout(draw, REST);
+}
+
+// The middle of the view stays within the picture.
+function moveTo(x, y, scale) {
+    isWhole = false;
+    const [middleX, middleY] = [width * scale / 2, height * scale / 2];
+    view = {
+        x: clamp(whole.x - middleX, x, whole.x + whole.width - middleX),
+        y: clamp(whole.y - middleY, y, whole.y + whole.height - middleY),
+        scale,
+    };
+    if (count < HEAVY) draw(); else drawWhenResting();
+    placeTip();
+}
+
+const moveBy = (x, y) => moveTo(view.x - x * view.scale, view.y - y * view.scale, view.scale);
+
+// What is at a pixel stays there.
+function zoomAt(x, y, factor) {
+    const scale = clamp(CLOSEST, view.scale * factor, 1.5 * wholeScale());
+    moveTo(view.x + x * (view.scale - scale), view.y + y * (view.scale - scale), scale);
+}
+
+function showWhole() {
+    const scale = wholeScale();
+    view = { x: whole.x + (whole.width - width * scale) / 2, y: whole.y + (whole.height - height * scale) / 2, scale };
+    isWhole = true;
+    draw();
+    placeTip();
+}
+
+function measure() {
+    width = Math.max(1, stage.clientWidth);
+    height = Math.max(1, stage.clientHeight);
+    if (isWhole) showWhole(); else { draw(); placeTip(); }
+}
+
+// ---- the city that is shown
+
+let shown = 0;                  // 0 if none is
+
+// A number of units of 10^-9 as a decimal number. It may have more digits than a number of JavaScript holds, so it stays a text.
+function decimal(units) {
+    const sign = units.startsWith('-') ? '\u2212' : '';
+    const digits = units.replace('-', '').padStart(10, '0');
+    const fraction = digits.slice(-9).replace(/0+$/, '');
+    return sign + digits.slice(0, -9) + (fraction === '' ? '' : '.' + fraction);
+}
+
+function roleOf(city) {
+    if (city === depot) return ', the depot';
+    if (depot === 0) return '';
+    return `, customer ${city > depot ? city - 1 : city}`;       // as solutions number them
+}
+
+function placeOnLine(city) {
+    const k = pathOf[city];
+    if (k < 0) return [];
+    if (table === null) return [`place ${stopOf[city] + 1} of ${count} in the tour`];
+    return [`route ${rows[k].name}, stop ${stopOf[city]} of ${paths[k].length - 1}`];
+}
+
+function wordsOf(city) {
+    const [, x, y, demand] = cities[city - 1].split(' ');
+    const words = [`City ${city}${roleOf(city)}`, `at (${decimal(x)}, ${decimal(y)})`];
+    if (demand !== undefined && city !== depot) words.push(`demand ${demand}`);
+    words.push(...placeOnLine(city));
+    const others = citiesIn(across[city], down[city], across[city], down[city]).length - 1;
+    if (others > 0) words.push(`and ${others} more at this point of the picture`);
+    return words;
+}
+
+function placeTip() {
+    tip.hidden = mark.hidden = shown === 0;
+    if (shown === 0) return;
+    const [x, y] = toPixels(shown);
+    mark.style.translate = `${x}px ${y}px`;
+    tip.style.left = x < width / 2 ? `${x + REACH}px` : '';
+    tip.style.right = x < width / 2 ? '' : `${width - x + REACH}px`;
+    tip.style.top = y < height / 2 ? `${y + REACH}px` : '';
+    tip.style.bottom = y < height / 2 ? '' : `${height - y + REACH}px`;
+}
+
+function show(city) {
+    if (city === shown) return;
+    shown = city;
+    if (city > 0) tip.textContent = wordsOf(city).join('\n');
+    placeTip();
+}
+
+// Shows a city that was asked for by keys: it is brought into the view, and said.
+function goTo(city) {
+    show(city);
+    const [x, y] = toPixels(city);
+    if (x < MARGIN || y < MARGIN || x > width - MARGIN || y > height - MARGIN) moveBy(width / 2 - x, height / 2 - y);
+    status.textContent = wordsOf(city).join(', ');
+    asked.value = city;
+}
+
+function step(by) {
+    const turn = shown > 0 ? turnOf[shown] + by : Math.min(by, 0);        // from none to the first, or to the last
+    goTo(walk.at(turn % walk.length));
+}
+
+// ---- the route that is lit up
+
+let kept = -1;                  // the one that stays lit up when the pointer leaves its row; -1 if none
+
+function light(k) {
+    svg.classList.toggle('faded', k >= 0);
+    lit.setAttribute('points', k < 0 ? '' : polygons[k].getAttribute('points'));
+    if (k >= 0) lit.setAttribute('stroke', polygons[k].getAttribute('stroke'));
+    routeNumbers.forEach((text, i) => text.classList.toggle('chosen', i === k));
+}
+
+function keep(k) {
+    kept = k;
+    light(k);
+    rows.forEach((row, i) => row.button.setAttribute('aria-pressed', i === k));
+    if (k < 0) return;
+    const [, customers, load, share, length] = rows[k].values;
+    status.textContent = `Route ${rows[k].name}: ${customers} customers, load ${load} (${share} %), length ${length}`;
+}
+
+// Lights up the route of a city, or ends that.
+function keepOf(city) {
+    if (table === null) return;
+    keep(city > 0 && pathOf[city] !== kept ? pathOf[city] : -1);
+    if (kept >= 0) scrollToRow(rows[kept].line);
+}
+
+// Scrolls the table to a row, where the table is a list beside the picture; the page itself is not scrolled.
+function scrollToRow(line) {
+    const list = byId('routes'), top = line.offsetTop - list.scrollTop;
+    if (top < 0 || top > list.clientHeight - line.offsetHeight) list.scrollTop = line.offsetTop - list.clientHeight / 2;
+}
+
+// ---- the table
+
+const rows = table === null ? [] : [...table.tBodies[0].rows].map(prepareRow);
+let listed = rows.slice();      // in the order of the table
+
+function prepareRow(line, k) {
+    const head = line.cells[0], name = head.textContent.trim();
+    const values = [...line.cells].map(cell => parseInt(cell.textContent, 10));
+    const swatch = element('span', { class: 'swatch' });
+    swatch.style.setProperty('--colour', polygons[k].getAttribute('stroke'));
+    const button = element('button', { type: 'button', 'aria-pressed': 'false', tabindex: k === 0 ? 0 : -1 });
+    button.append(swatch, name);
+    head.replaceChildren(button);
+    button.addEventListener('click', () => keep(kept === k ? -1 : k));
+    line.addEventListener('pointerenter', () => light(k));
+    line.addEventListener('pointerleave', () => light(kept));
+    return { name, line, button, values };
+}
+
+function prepareHeading(head, column) {
+    const button = element('button', { type: 'button' });
+    button.append(head.textContent.trim());
+    head.replaceChildren(button);
+    button.addEventListener('click', () => sortBy(column, head));
+}
+
+function sortBy(column, head) {
+    const falls = head.getAttribute('aria-sort') === 'ascending';
+    for (const other of table.tHead.rows[0].cells) other.removeAttribute('aria-sort');
+    head.setAttribute('aria-sort', falls ? 'descending' : 'ascending');
+    listed = rows.slice().sort((a, b) => (falls ? -1 : 1) * (a.values[column] - b.values[column]));
+    table.tBodies[0].append(...listed.map(row => row.line));
+}
+
+// One button of the rows is in the order of Tab, the one that had the focus last; arrows go to the others.
+function holdFocus(event) {
+    for (const row of rows) row.button.setAttribute('tabindex', row.button === event.target ? 0 : -1);
+}
+
+function moveFocus(event) {
+    const from = listed.findIndex(row => row.button === document.activeElement);
+    const to = { ArrowDown: from + 1, ArrowUp: from - 1, Home: 0, End: listed.length - 1 }[event.key];
+    if (from < 0 || listed[to] === undefined) return;
+    event.preventDefault();
+    listed[to].button.focus();
+}
+
+if (table !== null) {
+    [...table.tHead.rows[0].cells].forEach(prepareHeading);
+    table.tHead.rows[0].cells[0].setAttribute('aria-sort', 'ascending');
+    table.tBodies[0].addEventListener('focusin', holdFocus);
+    table.tBodies[0].addEventListener('keydown', moveFocus);
+}
+
+// ---- keys and buttons
+
+// Zooms at the city that is shown, if it is in view.
+function zoom(factor) {
+    const [x, y] = shown > 0 ? toPixels(shown) : [-1, -1];
+    if (x >= 0 && y >= 0 && x <= width && y <= height) zoomAt(x, y, factor); else zoomAt(width / 2, height / 2, factor);
+}
+
+function endAll() {
+    show(0);
+    keep(-1);
+    status.textContent = '';
+}
+
+const deeds = {
+    in: () => zoom(1 / 1.5), out: () => zoom(1.5), whole: showWhole,
+    left: () => moveBy(STEP, 0), right: () => moveBy(-STEP, 0), up: () => moveBy(0, STEP), down: () => moveBy(0, -STEP),
+    next: () => step(1), before: () => step(-1), light: () => keepOf(shown),
+};
+const deedOfKey = {
+    '+': 'in', '=': 'in', '-': 'out', '\u2212': 'out', 0: 'whole', Home: 'whole',
+    ArrowLeft: 'left', ArrowRight: 'right', ArrowUp: 'up', ArrowDown: 'down',
+    n: 'next', p: 'before', Enter: 'light',
+};
+
+stage.addEventListener('keydown', event => {
+    const deed = deedOfKey[event.key.length === 1 ? event.key.toLowerCase() : event.key];
+    if (deed === undefined || event.ctrlKey || event.metaKey || event.altKey) return;
+    event.preventDefault();
+    deeds[deed]();
+});
+document.addEventListener('keydown', event => { if (event.key === 'Escape') endAll(); });
+byId('tools').addEventListener('click', event => {
+    const button = event.target.closest('button');
+    if (button !== null) deeds[button.dataset.do]();
+});
+asked.addEventListener('change', () => {
+    const city = Number(asked.value);
+    if (Number.isInteger(city) && city >= 1 && city <= count) goTo(city); else status.textContent = `The cities are 1 to ${count}.`;
+});
+
+// ---- pointers: a mouse, a pen, or fingers
+
+const held = new Map();         // where each pointer that is down was last
+let strayed = 0;                // how far they have gone since
+
+function pixelsOf(event) {
+    const box = stage.getBoundingClientRect();
+    return [event.clientX - box.left - stage.clientLeft, event.clientY - box.top - stage.clientTop];
+}
+
+const cityAt = event => nearest(...toSpot(...pixelsOf(event)), REACH * view.scale / unit);
+
+// Two fingers move the picture by half of what one of them moves, and zoom it about the point between them.
+function pinch(from, to, other) {
+    const before = Math.hypot(from[0] - other[0], from[1] - other[1]), after = Math.hypot(to[0] - other[0], to[1] - other[1]);
+    moveBy((to[0] - from[0]) / 2, (to[1] - from[1]) / 2);
+    if (before > 0 && after > 0) zoomAt((to[0] + other[0]) / 2, (to[1] + other[1]) / 2, before / after);
+}
+
+stage.addEventListener('pointerdown', event => {
+    if (event.button !== 0) return;
+    stage.setPointerCapture(event.pointerId);
+    if (held.size === 0) strayed = 0;
+    held.set(event.pointerId, pixelsOf(event));
+});
+stage.addEventListener('pointermove', event => {
+    const from = held.get(event.pointerId), to = pixelsOf(event);
+    if (from === undefined) { show(cityAt(event)); return; }
+    strayed += Math.abs(to[0] - from[0]) + Math.abs(to[1] - from[1]);
+    held.set(event.pointerId, to);
+    const others = [...held.keys()].filter(id => id !== event.pointerId);
+    if (others.length === 1) pinch(from, to, held.get(others[0]));
+    else if (others.length === 0 && strayed > 4) moveBy(to[0] - from[0], to[1] - from[1]);
+});
+stage.addEventListener('pointerup', event => {
+    if (!held.delete(event.pointerId) || held.size > 0 || strayed > 4) return;
+    show(cityAt(event));
+    keepOf(shown);
+});
+stage.addEventListener('pointercancel', event => { held.delete(event.pointerId); strayed = Infinity; });
+stage.addEventListener('pointerleave', event => { if (event.pointerType === 'mouse' && held.size === 0) show(0); });
+stage.addEventListener('wheel', event => {
+    event.preventDefault();
+    const lines = event.deltaMode === WheelEvent.DOM_DELTA_LINE;
+    const turned = clamp(-200, event.deltaY * (lines ? 30 : 1) * (event.ctrlKey ? 7 : 1), 200);     // Ctrl: two fingers on a touchpad
+    zoomAt(...pixelsOf(event), Math.exp(turned * 0.0015));
+}, { passive: false });
+
+// ---- sizes, and paper
+
+new ResizeObserver(measure).observe(stage);
+measure();
+addEventListener('beforeprint', () => {
+    svg.setAttribute('viewBox', `${whole.x} ${whole.y} ${whole.width} ${whole.height}`);
+    svg.style.transform = '';
+    setWidths(ON_PAPER);
+});
+addEventListener('afterprint', draw);
+})();
