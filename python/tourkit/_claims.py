@@ -35,13 +35,22 @@ def as_in_texts(city: int) -> int:
     return city if 0 <= city <= LAST else 0
 
 
+def list_of(given: Iterable[int]) -> List[int]:
+    """The same numbers as a list of Python's integers."""
+    if isinstance(given, list):
+        return given
+    return given.tolist() if hasattr(given, "tolist") else list(given)
+
+
 def cities_of(given: Iterable[int]) -> Tuple[Any, Sequence[int]]:
     """A list of cities or customers, in memory as a call takes it, and as it was given."""
     if has_format(given, "I"):
         return given, given  # type: ignore[return-value]
-    listed: List[int] = given.tolist() if hasattr(given, "tolist") else list(given)
+    listed = list_of(given)
+    numbers = array("I")
     try:
-        return array("I", listed), listed
+        numbers.fromlist(listed)
+        return numbers, listed
     except OverflowError:
         return array("I", map(as_in_texts, listed)), listed
 
