@@ -25,7 +25,8 @@ pub holds-push : (xs : List ℕ) (b c : ℕ) → holds (xs ++ b ∷ []) c ≡ (h
 holds-push xs b c = holds-append xs (b ∷ []) c ∙ ap (λ z. holds xs c || z) (or-false (eqb b c))
 
 pub holds-push_other : (xs : List ℕ) (b c : ℕ) → c ≢ b → holds (xs ++ b ∷ []) c ≡ holds xs c
-holds-push_other xs b c ne = holds-push xs b c ∙ ap (λ z. holds xs c || z) (ne_eqb b c (λ e. ne (sym e))) ∙ or-false (holds xs c)
+holds-push_other xs b c ne = holds-push xs b c ∙ ap (λ z. holds xs c || z) (ne_eqb b c (λ e. ne (sym e)))
+    ∙ or-false (holds xs c)
 
 pub holds-push_same : (xs : List ℕ) (b : ℕ) → holds (xs ++ b ∷ []) b ≡ true
 holds-push_same xs b = holds-push xs b b ∙ or_right (holds xs b) (eqb b b) (eq-eqb b b refl)

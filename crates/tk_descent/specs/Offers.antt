@@ -3,7 +3,8 @@
 --     Makes m o old new      the result of the offer's move
 --     offers C m near x      the offers of x on the cycle C
 --     first_gain dist os, tests_to dist os      the first with positive gain, and how many are tested up to it
-use Rattle.std.specs.Prelude.{◌≡◌, ℕ, suc, ℤ, pos, ◌-ℤ◌, ◌+◌, Bool, take, option_map, IfSome, ◌||◌, ◌&&◌, nat_lt, nat_le, List, [], ◌∷◌, ◌++◌, ◌==◌, if◌then◌else◌, length, Option, Some, None, flat_map}
+use Rattle.std.specs.Prelude.{◌≡◌, ℕ, suc, ℤ, pos, ◌-ℤ◌, ◌+◌, Bool, take, option_map, IfSome, ◌||◌, ◌&&◌, nat_lt}
+use Rattle.std.specs.Prelude.{nat_le, List, [], ◌∷◌, ◌++◌, ◌==◌, if◌then◌else◌, length, Option, Some, None, flat_map}
 use Rattle.tk_distance.specs.Cities.{IsCity}
 use Rattle.tk_tour.specs.Counters.{saturated}
 use Rattle.tk_tour.specs.Moves.{TwoOptMove, OrMove}

@@ -1,5 +1,6 @@
 -- The places of cities, as a view of a list keeps them.
-use Rattle.std.proofs.Common.{◌≡◌, ℕ, ◌*◌, ◌-◌, ◌<◌, ◌≤◌, List, length, get_or, ap, ◌∙◌, subst, sym, arith, Bor, pos, to_z, w64}
+use Rattle.std.proofs.Common.{◌≡◌, ℕ, ◌*◌, ◌-◌, ◌<◌, ◌≤◌, List, length, get_or, ap, ◌∙◌, subst, sym, arith, Bor, pos}
+use Rattle.std.proofs.Common.{to_z, w64}
 use Rattle.std.proofs.lemmas.List.{get_or-map, length-map}
 use Rattle.std.proofs.lemmas.Int.{ints}
 use Rattle.std.specs.Int.RustNames.{unsigned_abs}
@@ -21,8 +22,10 @@ use Rattle.tk_distance.specs.Laws.Planes.{distance_of-unique, gap-in}
 use Rattle.tk_distance.specs.PlaneOf.{city_place, city_distance, IsCityDistance}
 use Rattle.tk_distance.proofs.ExactRoots.Units.{square-in}
 
-city_place-whole : (places : Places) (unit : Unit) (ws : Bor (List WholePoint)) (c : ℕ) (p : WholePoint) → places ≡ Whole unit ws
-    → IsCity (length (places_of places)) c → p ≡ get_or ws.now (c - 1) p → city_place (places_of places) c ≡ place_in unit p
+city_place-whole : (places : Places) (unit : Unit) (ws : Bor (List WholePoint)) (c : ℕ) (p : WholePoint)
+    → places ≡ Whole unit ws
+    → IsCity (length (places_of places)) c → p ≡ get_or ws.now (c - 1) p →
+    city_place (places_of places) c ≡ place_in unit p
 city_place-whole places unit ws c p is city at =
     let same = ap places_of is in
     let long = ap length same in
@@ -35,22 +38,27 @@ moved : (kind : PlaneKind) (p q r s : Point) (d : ℕ) → p ≡ r → q ≡ s �
 moved kind p q r s d a b is =
     subst (λ (x : Point). IsDistanceOf kind x q d) (sym a) (subst (λ (y : Point). IsDistanceOf kind r y d) (sym b) is)
 
-pub whole_cities : (kind : PlaneKind) (places : Places) (unit : Unit) (ws : Bor (List WholePoint)) (a b : ℕ) (p q : WholePoint) (d : ℕ)
+pub whole_cities : (kind : PlaneKind) (places : Places) (unit : Unit) (ws : Bor (List WholePoint)) (a b : ℕ)
+    (p q : WholePoint) (d : ℕ)
     → places ≡ Whole unit ws → IsCity (length (places_of places)) a → IsCity (length (places_of places)) b
     → p ≡ get_or ws.now (a - 1) p → q ≡ get_or ws.now (b - 1) q
     → IsDistanceOf kind (place_in unit p) (place_in unit q) d
     → IsCityDistance kind (places_of places) a b d
 whole_cities kind places unit ws a b p q d is in_a in_b at_a at_b =
-    moved kind _ _ _ _ d (city_place-whole places unit ws a p is in_a at_a) (city_place-whole places unit ws b q is in_b at_b)
+    moved kind _ _ _ _ d (city_place-whole places unit ws a p is in_a at_a)
+    (city_place-whole places unit ws b q is in_b at_b)
 
 -- the distance of two cities, of the places that they have in a list of whole ones
-pub whole_city_distance : (kind : PlaneKind) (places : Places) (unit : Unit) (ws : Bor (List WholePoint)) (a b : ℕ) (p q : WholePoint)
+pub whole_city_distance : (kind : PlaneKind) (places : Places) (unit : Unit) (ws : Bor (List WholePoint)) (a b : ℕ)
+    (p q : WholePoint)
     → places ≡ Whole unit ws → IsCity (length (places_of places)) a → IsCity (length (places_of places)) b
     → p ≡ get_or ws.now (a - 1) p → q ≡ get_or ws.now (b - 1) q
     → IsDistanceOf kind (place_in unit p) (place_in unit q) (city_distance kind (places_of places) a b)
 whole_city_distance kind places unit ws a b p q is in_a in_b at_a at_b =
-    moved kind _ _ _ _ _ (sym (city_place-whole places unit ws a p is in_a at_a)) (sym (city_place-whole places unit ws b q is in_b at_b))
-    (distance_at-is kind (gap (city_place (places_of places) a).x (city_place (places_of places) b).x) (gap (city_place (places_of places) a).y (city_place (places_of places) b).y))
+    moved kind _ _ _ _ _ (sym (city_place-whole places unit ws a p is in_a at_a))
+    (sym (city_place-whole places unit ws b q is in_b at_b))
+    (distance_at-is kind (gap (city_place (places_of places) a).x (city_place (places_of places) b).x)
+    (gap (city_place (places_of places) a).y (city_place (places_of places) b).y))
 
 pub fine_cities : (kind : PlaneKind) (places : Places) (ps : Bor (List Point)) (a b d : ℕ) → places ≡ Fine ps
     → IsCityDistance kind ps.now a b d
@@ -63,14 +71,17 @@ pub fine_city_distance : (kind : PlaneKind) (places : Places) (ps : Bor (List Po
     → IsCityDistance kind ps.now a b (city_distance kind (places_of places) a b)
 fine_city_distance kind places ps a b is =
     subst (λ (v : Places). IsCityDistance kind ps.now a b (city_distance kind (places_of v) a b)) (sym is)
-    (distance_at-is kind (gap (city_place ps.now a).x (city_place ps.now b).x) (gap (city_place ps.now a).y (city_place ps.now b).y))
+    (distance_at-is kind (gap (city_place ps.now a).x (city_place ps.now b).x)
+    (gap (city_place ps.now a).y (city_place ps.now b).y))
 
 -- the distance of two cities as the code's signed number
 pub signed_value : (kind : PlaneKind) (ps : List Point) (a b d : ℕ) → IsCityDistance kind ps a b d → d ≤ DISTANCE_LIMIT
     → to_z w64 d ≡ pos (city_distance kind ps a b)
-signed_value kind ps a b d is low = let value = distance_of-unique kind (city_place ps a) (city_place ps b) d is in omega (arith, ints)
+signed_value kind ps a b d is low = let value = distance_of-unique kind (city_place ps a) (city_place ps b) d is in
+    omega (arith, ints)
 
-pub signed_distance : (kind : PlaneKind) (ps : List Point) (a b d : ℕ) → IsCityDistance kind ps a b d → d ≤ DISTANCE_LIMIT
+pub signed_distance : (kind : PlaneKind) (ps : List Point) (a b d : ℕ) → IsCityDistance kind ps a b d
+    → d ≤ DISTANCE_LIMIT
     → IsCityDistance kind ps a b (unsigned_abs (to_z w64 d))
 signed_distance kind ps a b d is low =
     let same : d ≡ unsigned_abs (to_z w64 d) = omega (arith, ints) in
@@ -78,7 +89,8 @@ signed_distance kind ps a b d is low =
 
 -- the square of the distance of two places, from whole differences
 square-between : (unit : Unit) (p q : WholePoint) (square : ℕ) → square ≡ square_sum (gap p.x q.x) (gap p.y q.y)
-    → square_sum (gap (place_in unit p).x (place_in unit q).x) (gap (place_in unit p).y (place_in unit q).y) ≡ square * (step_of unit * step_of unit)
+    → square_sum (gap (place_in unit p).x (place_in unit q).x) (gap (place_in unit p).y (place_in unit q).y) ≡ square *
+    (step_of unit * step_of unit)
 square-between unit p q square is =
     ap (λ g. square_sum g (gap (place_in unit p).y (place_in unit q).y)) (gap-in unit p.x q.x)
     ∙ ap (λ g. square_sum (gap p.x q.x * step_of unit) g) (gap-in unit p.y q.y)
@@ -86,16 +98,20 @@ square-between unit p q square is =
     ∙ ap (λ s. s * (step_of unit * step_of unit)) (sym is)
 
 -- the distance of EUC_2D, from the square of whole differences
-pub whole_euclid : (kind : PlaneKind) (unit : Unit) (p q : WholePoint) (square d : ℕ) → kind ≡ Euc2d → square ≡ square_sum (gap p.x q.x) (gap p.y q.y)
-    → IsGreatest (RootReaches (square * (step_of unit * step_of unit))) d → IsDistanceOf kind (place_in unit p) (place_in unit q) d
+pub whole_euclid : (kind : PlaneKind) (unit : Unit) (p q : WholePoint) (square d : ℕ) → kind ≡ Euc2d
+    → square ≡ square_sum (gap p.x q.x) (gap p.y q.y)
+    → IsGreatest (RootReaches (square * (step_of unit * step_of unit))) d →
+    IsDistanceOf kind (place_in unit p) (place_in unit q) d
 whole_euclid kind unit p q square d euclid is nearest =
     let there : IsDistanceOf Euc2d (place_in unit p) (place_in unit q) d =
     subst (λ (s : ℕ). IsGreatest (RootReaches s) d) (sym (square-between unit p q square is)) nearest in
     subst (λ (k : PlaneKind). IsDistanceOf k (place_in unit p) (place_in unit q) d) (sym euclid) there
 
 -- the distance of EUC_2D is the rounded root of the square of whole differences
-pub euclid_root : (kind : PlaneKind) (unit : Unit) (p q : WholePoint) (square d : ℕ) → kind ≡ Euc2d → square ≡ square_sum (gap p.x q.x) (gap p.y q.y)
-    → IsDistanceOf kind (place_in unit p) (place_in unit q) d → IsGreatest (RootReaches (square * (step_of unit * step_of unit))) d
+pub euclid_root : (kind : PlaneKind) (unit : Unit) (p q : WholePoint) (square d : ℕ) → kind ≡ Euc2d
+    → square ≡ square_sum (gap p.x q.x) (gap p.y q.y)
+    → IsDistanceOf kind (place_in unit p) (place_in unit q) d →
+    IsGreatest (RootReaches (square * (step_of unit * step_of unit))) d
 euclid_root kind unit p q square d euclid is distance =
     let there : IsDistanceOf Euc2d (place_in unit p) (place_in unit q) d =
     subst (λ (k : PlaneKind). IsDistanceOf k (place_in unit p) (place_in unit q) d) euclid distance in

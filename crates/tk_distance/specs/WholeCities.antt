@@ -51,7 +51,8 @@ city_place-whole Hundredth places c = get_or-map (place_in Hundredth) places (c 
 city_place-whole Thousandth places c = get_or-map (place_in Thousandth) places (c - 1) whole_origin
 
 -- at a greater difference in whole numbers of a unit the distance is no less
-pub whole_floor-rises : (unit : Unit) (s t : ℕ) → s ≤ t → distance_at Euc2d (s * step_of unit) 0 ≤ distance_at Euc2d (t * step_of unit) 0
+pub whole_floor-rises : (unit : Unit) (s t : ℕ) → s ≤ t →
+    distance_at Euc2d (s * step_of unit) 0 ≤ distance_at Euc2d (t * step_of unit) 0
 whole_floor-rises unit s t below = floor-rises Euc2d (s * step_of unit) (t * step_of unit)
     (mul-le s (step_of unit) t (step_of unit) below (omega arith))
 
@@ -64,7 +65,8 @@ module _ (unit : Unit) (places : Bor (List WholePoint)) (a b : ℕ) where
       let q = whole_city places.now b in
       let floor = floor-bounds Euc2d (place_in unit p) (place_in unit q) in
       rw (city_place-whole unit places.now a, city_place-whole unit places.now b)
-      (subst (λ g. distance_at Euc2d g 0 ≤ distance_of Euc2d (place_in unit p) (place_in unit q)) (gap-in unit p.x q.x) floor)
+      (subst (λ g. distance_at Euc2d g 0 ≤ distance_of Euc2d (place_in unit p) (place_in unit q))
+      (gap-in unit p.x q.x) floor)
 
   pub whole_floor_y : distance_at Euc2d (gap (whole_city places.now a).y (whole_city places.now b).y * step_of unit) 0
       ≤ city_distance Euc2d (places_of (Whole unit places)) a b
@@ -73,4 +75,5 @@ module _ (unit : Unit) (places : Bor (List WholePoint)) (a b : ℕ) where
       let q = whole_city places.now b in
       let floor = floor-bounds_y Euc2d (place_in unit p) (place_in unit q) in
       rw (city_place-whole unit places.now a, city_place-whole unit places.now b)
-      (subst (λ g. distance_at Euc2d g 0 ≤ distance_of Euc2d (place_in unit p) (place_in unit q)) (gap-in unit p.y q.y) floor)
+      (subst (λ g. distance_at Euc2d g 0 ≤ distance_of Euc2d (place_in unit p) (place_in unit q))
+      (gap-in unit p.y q.y) floor)

@@ -33,7 +33,8 @@ impl<'a> Table<'a> {
 }
 
 impl Metric for Table<'_> {
-    ghost use Rattle.tk_distance.specs.Tables.{table_size, table_distance, table_size-limit, table_distance-swap, table_distance-same, table_distance-limit};
+    ghost use Rattle.tk_distance.specs.Tables.{table_size, table_distance, table_size-limit, table_distance-swap};
+    ghost use Rattle.tk_distance.specs.Tables.{table_distance-same, table_distance-limit};
 
     ghost size_of = { table_size };
 

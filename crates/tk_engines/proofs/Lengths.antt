@@ -12,11 +12,13 @@ use Rattle.tk_engines.specs.Lines.TourLine.{verdict_line}
 use Rattle.tk_engines.specs.Check.{IsCheck}
 
 -- a line by the distances of a problem is one by those that its text gives
-verdict_line_is : (n : ℕ) (w : Weights) (cities : List ℕ) (v : Verdict) → verdict_line n (problem_distance w) cities v ≡ verdict_line n (read_distance (weights_are w)) cities v
+verdict_line_is : (n : ℕ) (w : Weights) (cities : List ℕ) (v : Verdict) →
+    verdict_line n (problem_distance w) cities v ≡ verdict_line n (read_distance (weights_are w)) cities v
 verdict_line_is n w cities v = ap (λ d. verdict_line n d cities v) (read_distance_is w)
 
 -- a verdict on a list, and its line, by what the texts say
-pub IsCheck-of : (p : Problem) (cities tried told : List ℕ) (v : Verdict) → tried ≡ cities → told ≡ cities → IsVerdict p.n tried v
+pub IsCheck-of : (p : Problem) (cities tried told : List ℕ) (v : Verdict) → tried ≡ cities → told ≡ cities
+    → IsVerdict p.n tried v
     → IsCheck (problem_is p) cities v (verdict_line p.n (problem_distance p.weights) told v)
 IsCheck-of p cities tried told v is_tried is_told right = record {
   right = subst (λ l. IsVerdict p.n l v) is_tried right;

@@ -25,8 +25,10 @@ IsTable-table t n d same = record {
   diagonal = λ a _ _. omega (arith, same a a, table_distance-limit t a a);
 }
 
-pub IsNearOf-table : {E : Type 0} (t : Table) (p : Problem) (k : ℕ) (r : Result NearLists E) → table_size t ≡ p.n → ((a b : ℕ) → table_distance t a b ≡ problem_distance p.weights a b)
-    → IfOk r (λ v. v.size ≡ table_size t) → IfOk r (λ v. v.width ≡ min k (p.n - 1)) → IfOk r (λ v. AreNearest (table_distance t) v)
+pub IsNearOf-table : {E : Type 0} (t : Table) (p : Problem) (k : ℕ) (r : Result NearLists E) → table_size t ≡ p.n
+    → ((a b : ℕ) → table_distance t a b ≡ problem_distance p.weights a b)
+    → IfOk r (λ v. v.size ≡ table_size t) → IfOk r (λ v. v.width ≡ min k (p.n - 1))
+    → IfOk r (λ v. AreNearest (table_distance t) v)
     → IfOk r (λ v. IsNearOf (problem_is p) k v)
 IsNearOf-table t p k (Ok v) same is size width near = record {
   size = size ∙ same;

@@ -38,8 +38,10 @@ depot_read None = refl
 depot_read (Some r) = refl
 
 -- a picture of a problem's view is one of the problem
-pub picture_drawn : (form : Form) (p : Problem) (picture : Picture) (v : View) (subject : Subject) → IsViewOf (problem_is p) v → picture.name.now ≡ p.name.items
-    → picture.view ≡ v → picture.subject ≡ subject → picture.depot ≡ option_map (λ r. r.depot) p.routing → picture.demands.now ≡ demands_in (routing_is p.routing)
+pub picture_drawn : (form : Form) (p : Problem) (picture : Picture) (v : View) (subject : Subject)
+    → IsViewOf (problem_is p) v → picture.name.now ≡ p.name.items
+    → picture.view ≡ v → picture.subject ≡ subject → picture.depot ≡ option_map (λ r. r.depot) p.routing
+    → picture.demands.now ≡ demands_in (routing_is p.routing)
     → IsPicture form (problem_is p) (drawing_of subject) (text_in form picture)
 picture_drawn form p picture v subject is name view drawn depot demands =
     let places = places_in (weights_are p.weights) in
@@ -47,31 +49,42 @@ picture_drawn form p picture v subject is name view drawn depot demands =
     record {
       frame = v.frame;
       is_frame = subst (λ places. IsFrame places v.frame) is.places is.frame;
-      is = ap (λ x. form_text form x.frame (places_of x.places) picture.name.now (drawing_of picture.subject) picture.depot picture.demands.now) view
-          ∙ ap (λ x. form_text form v.frame x picture.name.now (drawing_of picture.subject) picture.depot picture.demands.now) is.places
-          ∙ ap (λ x. form_text form v.frame places x (drawing_of picture.subject) picture.depot picture.demands.now) name
+      is =
+          ap (λ x. form_text form x.frame (places_of x.places) picture.name.now (drawing_of picture.subject)
+          picture.depot picture.demands.now) view
+          ∙ ap
+          (λ x. form_text form v.frame x picture.name.now (drawing_of picture.subject) picture.depot
+          picture.demands.now) is.places
+          ∙ ap (λ x. form_text form v.frame places x (drawing_of picture.subject) picture.depot picture.demands.now)
+          name
           ∙ ap (λ x. form_text form v.frame places p.name.items (drawing_of x) picture.depot picture.demands.now) drawn
-          ∙ ap (λ x. form_text form v.frame places p.name.items (drawing_of subject) x picture.demands.now) (depot ∙ sym (depot_read p.routing))
+          ∙ ap (λ x. form_text form v.frame places p.name.items (drawing_of subject) x picture.demands.now)
+          (depot ∙ sym (depot_read p.routing))
           ∙ ap (λ x. form_text form v.frame places p.name.items (drawing_of subject) marked x) demands;
     }
 
 -- the length by a problem is that by its text
-pub length_read : (p : Problem) (cities : List ℕ) → tour_length (problem_distance p.weights) cities ≡ tour_length (read_distance (weights_are p.weights)) cities
+pub length_read : (p : Problem) (cities : List ℕ) →
+    tour_length (problem_distance p.weights) cities ≡ tour_length (read_distance (weights_are p.weights)) cities
 length_read p cities = tour_length_same _ _ (read_distance-weights p.weights) cities
 
 -- a verdict that is no tour is told
-told_for : (form : Form) (p : Problem) (cities line : List ℕ) (v : Verdict) → (v ≡ verdicts.Tour → ⊥) → line ≡ verdict_line p.n (read_distance (weights_are p.weights)) cities v
+told_for : (form : Form) (p : Problem) (cities line : List ℕ) (v : Verdict) → (v ≡ verdicts.Tour → ⊥)
+    → line ≡ verdict_line p.n (read_distance (weights_are p.weights)) cities v
     → IsTourOutput form (problem_is p) cities v (Refused line)
 told_for form p cities line verdicts.Tour fault is = fault refl
 told_for form p cities line verdicts.WrongCount fault is = is
 told_for form p cities line (verdicts.OutOfRange place) fault is = is
 told_for form p cities line (verdicts.RepeatedCity place) fault is = is
 
-pub tour_told : (form : Form) (p : Problem) (cities : List ℕ) (v : Verdict) → (v ≡ verdicts.Tour → ⊥) → IsVerdict p.n cities v
+pub tour_told : (form : Form) (p : Problem) (cities : List ℕ) (v : Verdict) → (v ≡ verdicts.Tour → ⊥)
+    → IsVerdict p.n cities v
     → IsTourOutput form (problem_is p) cities v (Refused (verdict_line p.n (problem_distance p.weights) cities v))
-tour_told form p cities v fault right = told_for form p cities _ v fault (ap (λ d. verdict_line p.n d cities v) (read_distance_is p.weights))
+tour_told form p cities v fault right =
+    told_for form p cities _ v fault (ap (λ d. verdict_line p.n d cities v) (read_distance_is p.weights))
 
-pub routes_told : (form : Form) (p : Problem) (i : Instance) (routes : List (List ℕ)) (v : RouteVerdict) → ((count : ℕ) (cost : ℤ) → v ≡ route_verdicts.Valid count cost → ⊥)
+pub routes_told : (form : Form) (p : Problem) (i : Instance) (routes : List (List ℕ)) (v : RouteVerdict)
+    → ((count : ℕ) (cost : ℤ) → v ≡ route_verdicts.Valid count cost → ⊥)
     → IsRouteOutput form (problem_is p) i routes v (Refused (route_verdict_line v))
 routes_told form p i routes (route_verdicts.Valid count cost) fault = fault count cost refl
 routes_told form p i routes (route_verdicts.BadCustomer route number) fault = refl
@@ -81,10 +94,15 @@ routes_told form p i routes (route_verdicts.NotServed customer) fault = refl
 routes_told form p i routes (route_verdicts.WrongCost read counted) fault = refl
 
 -- no customer stands twice on valid routes
-pub served_once : (i : Instance) (routes : List (List ℕ)) → AreRoutes i (filled_of routes) → AreServedOnce (customer_count i) (concat routes)
+pub served_once : (i : Instance) (routes : List (List ℕ)) → AreRoutes i (filled_of routes) →
+    AreServedOnce (customer_count i) (concat routes)
 served_once i routes are =
-    let tour : IsTour (customer_count i) (concat routes) = subst (λ (l : List ℕ). IsTour (customer_count i) l) (concat-filled routes) are.once in
-    record { known = cities_of_tour (customer_count i) (customer_count i) (concat routes) refl tour; once = HoldsOnce-tour (customer_count i) (concat routes) tour }
+    let tour : IsTour (customer_count i) (concat routes) =
+    subst (λ (l : List ℕ). IsTour (customer_count i) l) (concat-filled routes) are.once in
+    record {
+      known = cities_of_tour (customer_count i) (customer_count i) (concat routes) refl tour;
+      once = HoldsOnce-tour (customer_count i) (concat routes) tour;
+    }
 
 -- a problem with an instance has a routing
 pub routed_of : (o : Option Routing) (P : Routing → Type 0) → IsSomeAnd o P → is_some (routing_is o) ≡ true

@@ -4,7 +4,8 @@
 --     WritesFiles      `file` is written before `out`
 --     AreUntouched      both are as before
 --     HasFailed      a write to one of them failed
-use Rattle.std.specs.Prelude.{◌≡◌, ℕ, ◌⊎◌, Bool, true, false, List, [], ◌∷◌, length, Option, Some, None, MatchOption, Result, Ok, Err, is_none, is_some, option_map, unwrap_or, if◌then◌else◌}
+use Rattle.std.specs.Prelude.{◌≡◌, ℕ, ◌⊎◌, Bool, true, false, List, [], ◌∷◌, length, Option, Some, None, MatchOption}
+use Rattle.std.specs.Prelude.{Result, Ok, Err, is_none, is_some, option_map, unwrap_or, if◌then◌else◌}
 use Rattle.std.specs.Int.RustNames.{unsigned_abs}
 use Rattle.tk_problem_text.specs.Problem.{ProblemIs}
 use Rattle.tk_writers.specs.Puts.{Writes}

@@ -11,5 +11,6 @@ use Rattle.tk_engines.specs.Params.{judge, params_decided}
 use Rattle.tk_engines.specs.Entries.{entry_of, word_entry}
 
 unfoldable pub on_literals : ⊤
-unfolding digits chars encode is_utf8 lines answer_of asked_of ignored_keys key_of judge params_decided entry_of word_entry
+unfolding digits chars encode is_utf8 lines answer_of asked_of ignored_keys key_of judge params_decided
+    entry_of word_entry
 on_literals = tt

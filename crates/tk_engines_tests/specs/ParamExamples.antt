@@ -1,6 +1,7 @@
 -- Examples of parameter texts: what they ask for, what is wrong with them and on which line, and what their beginnings
 -- decide.
-use Rattle.std.specs.Prelude.{◌≡◌, ℕ, true, false, List, [], ◌∷◌, ◌++◌, map, Option, Some, None, Result, Ok, Err, codes, replicate}
+use Rattle.std.specs.Prelude.{◌≡◌, ℕ, true, false, List, [], ◌∷◌, ◌++◌, map, Option, Some, None, Result, Ok, Err, codes}
+use Rattle.std.specs.Prelude.{replicate}
 use Rattle.tk_words.specs.declared.fault.TextFault.{TextFault}
 use Rattle.tk_text.specs.Texts.{answer_of}
 use Rattle.tk_params.specs.declared.fault.ParamKind.{ParamKind}
@@ -146,7 +147,14 @@ accepted =
       codes "# c\nMOVE_TYPE = 5\nPROBLEM_FILE = p\nRUNS = 1\n",
       asks (record p { runs = 1; ignored = keys.MoveType ∷ [] }),
     )
-    ∷ (codes "OPTIMUM = 7 $\nTRACE_LEVEL\nPROBLEM_FILE = p\nPRECISION = \nPATCHING_C = = 3\npatching_a 5\nMOVE_TYPE = x y", asks (record p { ignored = keys.Optimum ∷ keys.TraceLevel ∷ keys.Precision ∷ keys.PatchingC ∷ keys.PatchingA ∷ keys.MoveType ∷ [] }))
+    ∷ (
+      codes
+          "OPTIMUM = 7 $\nTRACE_LEVEL\nPROBLEM_FILE = p\nPRECISION = \nPATCHING_C = = 3\npatching_a 5\nMOVE_TYPE = x y",
+      asks (record p {
+        ignored = keys.Optimum ∷ keys.TraceLevel ∷ keys.Precision ∷ keys.PatchingC ∷ keys.PatchingA
+            ∷ keys.MoveType ∷ [];
+      }),
+    )
     -- after EOF nothing is of the text
     ∷ (after_p (codes "EOF"), asks p)
     ∷ (after_p (codes " eof\nFOO = 1\n"), asks p)

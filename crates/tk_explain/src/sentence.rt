@@ -21,8 +21,8 @@ enum Value {
 /// The most values of a sentence.
 const VALUES: usize = 6;
 
-/// A sentence with values, which stand in the places of its `{}`, in order. At most one of them is a text, and at most one a word of the
-/// file.
+/// A sentence with values, which stand in the places of its `{}`, in order. At most one of them is a text, and at most
+/// one a word of the file.
 #[derive(Clone, Copy)]
 pub struct Sentence<'a> {
     form: &'static str,

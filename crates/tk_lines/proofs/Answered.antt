@@ -1,5 +1,6 @@
 -- A text that has ended has an answer.
-use Rattle.std.proofs.Common.{◌≡◌, ℕ, zero, suc, Bool, true, false, cond, eqb, leb, ltb, not, ◌&&◌, List, [], ◌∷◌, ◌++◌, length, take, get_or, Option, Some, None, Result, refl, ap}
+use Rattle.std.proofs.Common.{◌≡◌, ℕ, zero, suc, Bool, true, false, cond, eqb, leb, ltb, not, ◌&&◌, List, [], ◌∷◌, ◌++◌}
+use Rattle.std.proofs.Common.{length, take, get_or, Option, Some, None, Result, refl, ap}
 use Rattle.std.specs.List.{AllByRecursion}
 use Rattle.std.specs.Option.{IsSome}
 use Rattle.tk_words.specs.declared.keyword.Keyword.{Keyword}
@@ -8,12 +9,16 @@ use Rattle.tk_words.specs.declared.keyword.Role.TheVariants.{BeginsHeader, Begin
 use Rattle.tk_words.specs.declared.fault.TextKind.{TextKind}
 use Rattle.tk_words.specs.declared.fault.TextKind.TheVariants as kinds
 use Rattle.tk_words.specs.declared.fault.TextFault.{TextFault}
-use Rattle.tk_words.specs.Lex.{LF, Line, Token, onto_line, onto_token, goes_on, lines, tokens, tokens_of, is_blank, is_letter, is_word_byte, is_empty, front, behind, after_word}
+use Rattle.tk_words.specs.Lex.{LF, Line, Token, onto_line, onto_token, goes_on, lines, tokens, tokens_of, is_blank}
+use Rattle.tk_words.specs.Lex.{is_letter, is_word_byte, is_empty, front, behind, after_word}
 use Rattle.tk_words.specs.MinusOne.{is_ending}
 use Rattle.tk_words.specs.TextLaws.{HasAnswers}
 use Rattle.tk_words.specs.Words.{keyword_of, role}
 use Rattle.tk_lines.specs.Lists.{entries, trailing_stop}
-use Rattle.tk_lines.specs.Pieces.{After, Clean, Trailing, Early, Piece, Stray, LongWord, OpenWord, Unknown, Header, Section, End, Extents, Stop, Open, Fault, Format, section_at, piece_by, piece_of, pieces_at, covered, cut, end_token, first_at, checked, or_else, ended, stopped, judge, decided_by}
+use Rattle.tk_lines.specs.Pieces.{After, Clean, Trailing, Early, Piece, Stray, LongWord, OpenWord, Unknown, Header}
+use Rattle.tk_lines.specs.Pieces.{Section, End, Extents, Stop, Open, Fault, Format, section_at, piece_by, piece_of}
+use Rattle.tk_lines.specs.Pieces.{pieces_at, covered, cut, end_token, first_at, checked, or_else, ended, stopped, judge}
+use Rattle.tk_lines.specs.Pieces.{decided_by}
 use Rattle.tk_lines.specs.FromMiddle.{ending}
 use Rattle.tk_lines.proofs.MiddleOfLine.{lines_cons}
 
@@ -34,7 +39,9 @@ unfolding lines
 whole_lines [] n = (refl, tt)
 whole_lines (b ∷ bs) n = by_lf (eqb b LF) (λ m. whole_lines bs m)
   where
-    by_lf : (t : Bool) → ((m : ℕ) → AreWhole (lines true m bs)) → AreWhole (cond t (record { number = n; bytes = []; whole = true } ∷ lines true (cond t (suc n) n) bs) (onto_line b (lines true (cond t (suc n) n) bs)))
+    by_lf : (t : Bool) → ((m : ℕ) → AreWhole (lines true m bs)) →
+        AreWhole (cond t (record { number = n; bytes = []; whole = true } ∷ lines true (cond t (suc n) n) bs)
+        (onto_line b (lines true (cond t (suc n) n) bs)))
     by_lf true ih = (refl, ih (suc n))
     by_lf false ih = onto_whole b (lines true n bs) (ih n)
 
@@ -47,7 +54,10 @@ unfolding tokens_of
 whole_tokens_of n [] = tt
 whole_tokens_of n (b ∷ bs) = by_tests (is_blank b) (goes_on bs) (whole_tokens_of n bs)
   where
-    by_tests : (s g : Bool) → WholeTokens (tokens_of true n bs) → WholeTokens (cond s (tokens_of true n bs) (cond g (onto_token b (tokens_of true n bs)) (record { bytes = b ∷ []; line = n; whole = true } ∷ tokens_of true n bs)))
+    by_tests : (s g : Bool) → WholeTokens (tokens_of true n bs) →
+        WholeTokens (cond s (tokens_of true n bs)
+        (cond g (onto_token b (tokens_of true n bs)) (record { bytes = b ∷ []; line = n; whole = true }
+        ∷ tokens_of true n bs)))
     by_tests true g h = h
     by_tests false true h = onto_whole_token b (tokens_of true n bs) h
     by_tests false false h = (refl, h)
@@ -62,7 +72,9 @@ whole_line_tokens false n bs h = absurd cc
 
 whole_tokens : (ls : List Line) → AreWhole ls → WholeTokens (tokens ls)
 whole_tokens [] h = tt
-whole_tokens (l ∷ ls) h = whole_append (tokens_of l.whole l.number l.bytes) (tokens ls) (whole_line_tokens l.whole l.number l.bytes h.0) (whole_tokens ls h.1)
+whole_tokens (l ∷ ls) h =
+    whole_append (tokens_of l.whole l.number l.bytes) (tokens ls) (whole_line_tokens l.whole l.number l.bytes h.0)
+    (whole_tokens ls h.1)
 
 whole_taken : (k : ℕ) (ts : List Token) → WholeTokens ts → WholeTokens (take k ts)
 whole_taken zero ts h = tt
@@ -101,10 +113,12 @@ not_open_or None y h k = k
 not_open_or (Some Open) y h k = h
 not_open_or (Some (Fault n kind)) y h k = tt
 
-pub not_open_checked : (limit : ℕ) (t : Token) (tests : List (Bool × TextKind)) → t.whole ≡ true → NotOpen (checked limit t tests)
+pub not_open_checked : (limit : ℕ) (t : Token) (tests : List (Bool × TextKind)) → t.whole ≡ true →
+    NotOpen (checked limit t tests)
 not_open_checked limit t tests h = by_tests (ltb limit (length t.bytes)) (not t.whole) (ap not h)
   where
-    by_tests : (long wait : Bool) → wait ≡ false → NotOpen (cond long (Some (Fault t.line kinds.TooLong)) (cond wait (Some Open) (first_at t.line tests)))
+    by_tests : (long wait : Bool) → wait ≡ false →
+        NotOpen (cond long (Some (Fault t.line kinds.TooLong)) (cond wait (Some Open) (first_at t.line tests)))
     by_tests true wait e = tt
     by_tests false true e = absurd cc
     by_tests false false e = not_open_first t.line tests
@@ -114,7 +128,8 @@ not_open_trailing Clean = tt
 not_open_trailing (Trailing line) = tt
 not_open_trailing (Early line whole) = tt
 
-pub some_stopped : {V : Type 0} (s : Option Stop) (x : Option (Result V TextFault)) → NotOpen s → IsSome x → IsSome (stopped s x)
+pub some_stopped : {V : Type 0} (s : Option Stop) (x : Option (Result V TextFault)) → NotOpen s → IsSome x →
+    IsSome (stopped s x)
 some_stopped None x h k = k
 some_stopped (Some Open) x h k = absurd h
 some_stopped (Some (Fault n kind)) x h k = refl
@@ -131,22 +146,29 @@ IsClosed _ = Unit {0}
 abbrev AreClosed : List Piece → Type 0
 AreClosed ps = AllByRecursion IsClosed ps
 
-pub all_append : {X : Type 0} (P : X → Type 0) (xs ys : List X) → AllByRecursion P xs → AllByRecursion P ys → AllByRecursion P (xs ++ ys)
+pub all_append : {X : Type 0} (P : X → Type 0) (xs ys : List X) → AllByRecursion P xs → AllByRecursion P ys →
+    AllByRecursion P (xs ++ ys)
 all_append P [] ys h k = k
 all_append P (x ∷ xs) ys h k = (h.0, all_append P xs ys h.1 k)
 
-module _ (extent : Extents) (before : List Piece) (l : Line) (ls : List Line) (whole : l.whole ≡ true) (rest : AreWhole ls) where
-  closed_section : (word : Keyword) (toks : List Token) → WholeTokens toks → AreClosed (section_at extent before word l.number toks (end_token l ls))
-  closed_section word toks h = (whole_taken (extent before word toks).count toks h, by_eof (extent before word toks).at_eof)
+module _ (extent : Extents) (before : List Piece) (l : Line) (ls : List Line) (whole : l.whole ≡ true)
+    (rest : AreWhole ls) where
+  closed_section : (word : Keyword) (toks : List Token) → WholeTokens toks →
+      AreClosed (section_at extent before word l.number toks (end_token l ls))
+  closed_section word toks h =
+      (whole_taken (extent before word toks).count toks h, by_eof (extent before word toks).at_eof)
     where
-      by_eof : (b : Bool) → AreClosed (cond b (End (get_or toks (extent before word toks).count (end_token l ls)).line true ∷ []) [])
+      by_eof : (b : Bool) →
+          AreClosed (cond b (End (get_or toks (extent before word toks).count (end_token l ls)).line true ∷ []) [])
       by_eof true = (refl, tt)
       by_eof false = tt
 
   closed_by : (tail : List ℕ) (word : Keyword) (r : Role) → AreClosed (piece_by extent before l ls tail word r)
   closed_by tail word BeginsHeader = (whole, tt)
   closed_by tail word BeginsSection =
-      closed_section word (tokens_of l.whole l.number (after_word tail) ++ tokens ls) (whole_append (tokens_of l.whole l.number (after_word tail)) (tokens ls) (whole_line_tokens l.whole l.number (after_word tail) whole) (whole_tokens ls rest))
+      closed_section word (tokens_of l.whole l.number (after_word tail) ++ tokens ls)
+      (whole_append (tokens_of l.whole l.number (after_word tail)) (tokens ls)
+      (whole_line_tokens l.whole l.number (after_word tail) whole) (whole_tokens ls rest))
   closed_by tail word EndsText = (refl, tt)
 
   closed_of : (tail : List ℕ) (word : Option Keyword) → AreClosed (piece_of extent before l ls tail word)
@@ -155,21 +177,29 @@ module _ (extent : Extents) (before : List Piece) (l : Line) (ls : List Line) (w
 
   closed_at : (bs : List ℕ) → AreClosed (pieces_at extent before l ls bs)
   closed_at [] = tt
-  closed_at (b ∷ bs) = by_tests (not (is_letter b)) (ltb 64 (length (front is_word_byte (b ∷ bs)))) (not l.whole && is_empty (behind is_word_byte (b ∷ bs))) (ap (λ (w : Bool). not w && is_empty (behind is_word_byte (b ∷ bs))) whole)
+  closed_at (b ∷ bs) = by_tests (not (is_letter b)) (ltb 64 (length (front is_word_byte (b ∷ bs))))
+      (not l.whole && is_empty (behind is_word_byte (b ∷ bs)))
+      (ap (λ (w : Bool). not w && is_empty (behind is_word_byte (b ∷ bs))) whole)
     where
       by_tests : (stray long wait : Bool) → wait ≡ false
-          → AreClosed (cond stray (Stray l.number ∷ []) (cond long (LongWord l.number ∷ []) (cond wait (OpenWord l.number ∷ []) (piece_of extent before l ls (behind is_word_byte (b ∷ bs)) (keyword_of (front is_word_byte (b ∷ bs)))))))
+          → AreClosed
+          (cond stray (Stray l.number ∷ [])
+          (cond long (LongWord l.number ∷ [])
+          (cond wait (OpenWord l.number ∷ [])
+          (piece_of extent before l ls (behind is_word_byte (b ∷ bs)) (keyword_of (front is_word_byte (b ∷ bs)))))))
       by_tests true long wait e = (tt, tt)
       by_tests false true wait e = (tt, tt)
       by_tests false false true e = absurd cc
       by_tests false false false e = closed_of (behind is_word_byte (b ∷ bs)) (keyword_of (front is_word_byte (b ∷ bs)))
 
-closed_cut : (extent : Extents) (before : List Piece) (upto : ℕ) (ls : List Line) → AreWhole ls → AreClosed (cut extent before upto ls)
+closed_cut : (extent : Extents) (before : List Piece) (upto : ℕ) (ls : List Line) → AreWhole ls →
+    AreClosed (cut extent before upto ls)
 unfolding cut
 closed_cut extent before upto [] h = tt
 closed_cut extent before upto (l ∷ ls) h =
     let new : List Piece = cond (leb l.number upto) [] (pieces_at extent before l ls (behind is_blank l.bytes)) in
-    all_append IsClosed new (cut extent (before ++ new) (covered upto new) ls) (by_test (leb l.number upto)) (closed_cut extent (before ++ new) (covered upto new) ls h.1)
+    all_append IsClosed new (cut extent (before ++ new) (covered upto new) ls) (by_test (leb l.number upto))
+    (closed_cut extent (before ++ new) (covered upto new) ls h.1)
   where
     by_test : (t : Bool) → AreClosed (cond t [] (pieces_at extent before l ls (behind is_blank l.bytes)))
     by_test true = tt
@@ -179,15 +209,18 @@ closed_cut extent before upto (l ∷ ls) h =
 
 -- no section of a format whose tokens have ended waits for more
 abbrev pub AnswersSections : {V : Type 0} → Format V → Type 0
-AnswersSections f = (before : List Piece) (word : Keyword) (n : ℕ) (toks : List Token) (after : After) → WholeTokens toks → NotOpen (f.section before word n toks after)
+AnswersSections f = (before : List Piece) (word : Keyword) (n : ℕ) (toks : List Token) (after : After) →
+    WholeTokens toks → NotOpen (f.section before word n toks after)
 
 module _ {V : Type 0} (f : Format V) (answers : AnswersSections f) where
-  some_end : (before : List Piece) (line : ℕ) (w : Bool) (kind : Option TextKind) → w ≡ true → IsSome (ended f before line w kind)
+  some_end : (before : List Piece) (line : ℕ) (w : Bool) (kind : Option TextKind) → w ≡ true →
+      IsSome (ended f before line w kind)
   some_end before line true None h = refl
   some_end before line true (Some kind) h = refl
   some_end before line false kind h = absurd cc
 
-  some_judged : (before ps : List Piece) (e : Token) → e.whole ≡ true → AreClosed ps → IsSome (judge f before (ps ++ ending e))
+  some_judged : (before ps : List Piece) (e : Token) → e.whole ≡ true → AreClosed ps →
+      IsSome (judge f before (ps ++ ending e))
   unfolding judge
   some_judged before [] e h k = some_end before e.line e.whole (f.at_end before) h
   some_judged before (Stray line ∷ ps) e h k = refl
@@ -195,9 +228,15 @@ module _ {V : Type 0} (f : Format V) (answers : AnswersSections f) where
   some_judged before (OpenWord line ∷ ps) e h k = absurd k.0
   some_judged before (Unknown line ∷ ps) e h k = refl
   some_judged before (Header word value ∷ ps) e h k =
-      some_stopped (checked 4096 value (f.header before word value.bytes)) (judge f (before ++ Header word value ∷ []) (ps ++ ending e)) (not_open_checked 4096 value (f.header before word value.bytes) k.0) (some_judged (before ++ Header word value ∷ []) ps e h k.1)
+      some_stopped (checked 4096 value (f.header before word value.bytes))
+      (judge f (before ++ Header word value ∷ []) (ps ++ ending e))
+      (not_open_checked 4096 value (f.header before word value.bytes) k.0)
+      (some_judged (before ++ Header word value ∷ []) ps e h k.1)
   some_judged before (Section word line toks after ∷ ps) e h k =
-      some_stopped (f.section before word line toks after) (judge f (before ++ Section word line toks after ∷ []) (ps ++ ending e)) (answers before word line toks after k.0) (some_judged (before ++ Section word line toks after ∷ []) ps e h k.1)
+      some_stopped (f.section before word line toks after)
+      (judge f (before ++ Section word line toks after ∷ []) (ps ++ ending e))
+      (answers before word line toks after k.0)
+      (some_judged (before ++ Section word line toks after ∷ []) ps e h k.1)
   some_judged before (End line whole ∷ ps) e h k = some_end before line whole (f.at_end before) k.0
 
   pub some_decided : HasAnswers (decided_by f)
@@ -206,4 +245,6 @@ module _ {V : Type 0} (f : Format V) (answers : AnswersSections f) where
       let c = lines_cons true text 1 in
       let h = whole_lines text 1 in
       let k : AreWhole (c.first ∷ c.rest) = rw c.is at h in
-      rw c.is (some_judged [] (cut f.extent [] 0 (c.first ∷ c.rest)) (end_token c.first c.rest) (end_whole c.first c.rest k.0 k.1) (closed_cut f.extent [] 0 (c.first ∷ c.rest) k))
+      rw c.is
+      (some_judged [] (cut f.extent [] 0 (c.first ∷ c.rest)) (end_token c.first c.rest)
+      (end_whole c.first c.rest k.0 k.1) (closed_cut f.extent [] 0 (c.first ∷ c.rest) k))

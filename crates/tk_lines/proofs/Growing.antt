@@ -1,11 +1,14 @@
 -- Lines and tokens of bytes, and of these with more bytes behind them.
-use Rattle.std.proofs.Common.{◌≡◌, ℕ, suc, ◌<◌, ⊎_elim, ◌⊎◌, inl, inr, Bool, true, false, cond, eqb, ltb, not, List, [], ◌∷◌, ◌++◌, length, Option, Some, None, Result, refl, sym, ap, subst, ◌∙◌, append_assoc, arith}
+use Rattle.std.proofs.Common.{◌≡◌, ℕ, suc, ◌<◌, ⊎_elim, ◌⊎◌, inl, inr, Bool, true, false, cond, eqb, ltb, not, List, []}
+use Rattle.std.proofs.Common.{◌∷◌, ◌++◌, length, Option, Some, None, Result, refl, sym, ap, subst, ◌∙◌, append_assoc}
+use Rattle.std.proofs.Common.{arith}
 use Rattle.std.proofs.lemmas.List.{append-nil, length-append}
 use Rattle.std.proofs.lemmas.Bool.{eqb-true, ltb-true, lt-ltb}
 use Rattle.tk_words.specs.declared.fault.TextKind.{TextKind}
 use Rattle.tk_words.specs.declared.fault.TextKind.TheVariants as kinds
 use Rattle.tk_words.specs.declared.fault.TextFault.{TextFault}
-use Rattle.tk_words.specs.Lex.{LF, Line, Token, onto_line, onto_token, lines, tokens, tokens_of, is_blank, is_empty, behind, after_word, without_colon_before}
+use Rattle.tk_words.specs.Lex.{LF, Line, Token, onto_line, onto_token, lines, tokens, tokens_of, is_blank, is_empty}
+use Rattle.tk_words.specs.Lex.{behind, after_word, without_colon_before}
 use Rattle.tk_words.proofs.Bools.{or_true}
 use Rattle.tk_lines.specs.Pieces.{Stop, Open, Fault, checked, or_else, stopped}
 use Rattle.tk_lines.proofs.MiddleOfLine.{behind-more, lines-byte, lines-LF}
@@ -44,23 +47,60 @@ grow_front l ls ms g = record {
 grow_onto : (b : ℕ) (ls ms : List Line) → LinesGrow ls ms → LinesGrow (onto_line b ls) (onto_line b ms)
 grow_onto b ls ms g = rw (g.old, g.new) (by_front g.front)
   where
-    by_front : (front : List Line) → LinesGrow (onto_line b (front ++ a_line g.number g.bytes false ∷ [])) (onto_line b (front ++ a_line g.number (g.bytes ++ g.more) g.whole ∷ g.rest))
-    by_front [] = record { front = []; number = g.number; bytes = b ∷ g.bytes; more = g.more; whole = g.whole; rest = g.rest; old = refl; new = refl }
-    by_front (l ∷ front) = record { front = record l { bytes = b ∷ l.bytes } ∷ front; number = g.number; bytes = g.bytes; more = g.more; whole = g.whole; rest = g.rest; old = refl; new = refl }
+    by_front : (front : List Line) →
+        LinesGrow (onto_line b (front ++ a_line g.number g.bytes false ∷ []))
+        (onto_line b (front ++ a_line g.number (g.bytes ++ g.more) g.whole ∷ g.rest))
+    by_front [] =
+        record {
+          front = [];
+          number = g.number;
+          bytes = b ∷ g.bytes;
+          more = g.more;
+          whole = g.whole;
+          rest = g.rest;
+          old = refl;
+          new = refl;
+        }
+    by_front (l ∷ front) =
+        record {
+          front = record l { bytes = b ∷ l.bytes } ∷ front;
+          number = g.number;
+          bytes = g.bytes;
+          more = g.more;
+          whole = g.whole;
+          rest = g.rest;
+          old = refl;
+          new = refl;
+        }
 
 pub lines_nothing : (e : Bool) (n : ℕ) → lines e n [] ≡ a_line n [] e ∷ []
 unfolding lines
 lines_nothing e n = refl
 
 pub lines_grow : (e : Bool) (bs more : List ℕ) (n : ℕ) → LinesGrow (lines false n bs) (lines e n (bs ++ more))
-lines_grow e [] more n = let k = first_line e n more in record { front = []; number = n; bytes = []; more = k.bytes; whole = k.whole; rest = k.rest; old = lines_nothing false n; new = k.is }
+lines_grow e [] more n = let k = first_line e n more in
+    record {
+      front = [];
+      number = n;
+      bytes = [];
+      more = k.bytes;
+      whole = k.whole;
+      rest = k.rest;
+      old = lines_nothing false n;
+      new = k.is;
+    }
 lines_grow e (b ∷ bs) more n = by_lf (eqb b LF) refl (λ m. lines_grow e bs more m)
   where
-    by_lf : (t : Bool) → eqb b LF ≡ t → ((m : ℕ) → LinesGrow (lines false m bs) (lines e m (bs ++ more))) → LinesGrow (lines false n (b ∷ bs)) (lines e n (b ∷ bs ++ more))
+    by_lf : (t : Bool) → eqb b LF ≡ t → ((m : ℕ) → LinesGrow (lines false m bs) (lines e m (bs ++ more))) →
+        LinesGrow (lines false n (b ∷ bs)) (lines e n (b ∷ bs ++ more))
     by_lf true is ih =
         let lf : b ≡ LF = eqb-true b LF is in
-        subst (λ (c : ℕ). LinesGrow (lines false n (c ∷ bs)) (lines e n (c ∷ bs ++ more))) (sym lf) (rw (lines-LF false n bs, lines-LF e n (bs ++ more)) (grow_front (a_line n [] true) (lines false (suc n) bs) (lines e (suc n) (bs ++ more)) (ih (suc n))))
-    by_lf false is ih = rw (lines-byte false n b bs is, lines-byte e n b (bs ++ more) is) (grow_onto b (lines false n bs) (lines e n (bs ++ more)) (ih n))
+        subst (λ (c : ℕ). LinesGrow (lines false n (c ∷ bs)) (lines e n (c ∷ bs ++ more))) (sym lf)
+        (rw (lines-LF false n bs, lines-LF e n (bs ++ more))
+        (grow_front (a_line n [] true) (lines false (suc n) bs) (lines e (suc n) (bs ++ more)) (ih (suc n))))
+    by_lf false is ih =
+        rw (lines-byte false n b bs is, lines-byte e n b (bs ++ more) is)
+        (grow_onto b (lines false n bs) (lines e n (bs ++ more)) (ih n))
 
 -- ---- tokens
 
@@ -95,7 +135,15 @@ lasts_more (t ∷ []) (u ∷ us) more h = h
 lasts_more (t ∷ s ∷ ts) us more h = absurd h
 
 tokens_front : (t : Token) (ts us : List Token) → TokensGrow ts us → TokensGrow (t ∷ ts) (t ∷ us)
-tokens_front t ts us g = record { front = t ∷ g.front; last = g.last; rest = g.rest; old = ap (λ (xs : List Token). t ∷ xs) g.old; new = ap (λ (xs : List Token). t ∷ xs) g.new; lasts = g.lasts }
+tokens_front t ts us g =
+    record {
+      front = t ∷ g.front;
+      last = g.last;
+      rest = g.rest;
+      old = ap (λ (xs : List Token). t ∷ xs) g.old;
+      new = ap (λ (xs : List Token). t ∷ xs) g.new;
+      lasts = g.lasts;
+    }
 
 pub tokens_before : (xs ts us : List Token) → TokensGrow ts us → TokensGrow (xs ++ ts) (xs ++ us)
 tokens_before [] ts us g = g
@@ -114,8 +162,10 @@ tokens_behind ts us more g = record {
 tokens_onto : (b : ℕ) (ts us : List Token) → TokensGrow ts us → TokensGrow (onto_token b ts) (onto_token b us)
 tokens_onto b ts us g = rw (g.old, g.new) (by_front g.front g.last g.rest g.lasts)
   where
-    by_front : (front last rest : List Token) → Lasts last rest → TokensGrow (onto_token b (front ++ last)) (onto_token b (front ++ rest))
-    by_front [] [] rest h = record { front = []; last = []; rest = onto_token b rest; old = refl; new = refl; lasts = tt }
+    by_front : (front last rest : List Token) → Lasts last rest →
+        TokensGrow (onto_token b (front ++ last)) (onto_token b (front ++ rest))
+    by_front [] [] rest h =
+        record { front = []; last = []; rest = onto_token b rest; old = refl; new = refl; lasts = tt }
     by_front [] (t ∷ []) [] h = absurd h
     by_front [] (t ∷ []) (u ∷ rest) h = record {
       front = [];
@@ -123,17 +173,43 @@ tokens_onto b ts us g = rw (g.old, g.new) (by_front g.front g.last g.rest g.last
       rest = record u { bytes = b ∷ u.bytes } ∷ rest;
       old = refl;
       new = refl;
-      lasts = record { partial = h.partial; some = refl; line = h.line; more = h.more; bytes = ap (λ (xs : List ℕ). b ∷ xs) h.bytes };
+      lasts =
+          record {
+            partial = h.partial;
+            some = refl;
+            line = h.line;
+            more = h.more;
+            bytes = ap (λ (xs : List ℕ). b
+                ∷ xs) h.bytes;
+          };
     }
     by_front [] (t ∷ s ∷ last) rest h = absurd h
-    by_front (x ∷ front) last rest h = record { front = record x { bytes = b ∷ x.bytes } ∷ front; last = last; rest = rest; old = refl; new = refl; lasts = h }
+    by_front (x ∷ front) last rest h =
+        record {
+          front = record x { bytes = b ∷ x.bytes } ∷ front;
+          last = last;
+          rest = rest;
+          old = refl;
+          new = refl;
+          lasts = h;
+        }
 
 pub tokens_grow : (w : Bool) (n : ℕ) (bs x : List ℕ) → TokensGrow (tokens_of false n bs) (tokens_of w n (bs ++ x))
-tokens_grow w n [] x = record { front = []; last = []; rest = tokens_of w n x; old = tokens_of-none false n; new = refl; lasts = tt }
+tokens_grow w n [] x =
+    record { front = []; last = []; rest = tokens_of w n x; old = tokens_of-none false n; new = refl; lasts = tt }
 tokens_grow w n (b ∷ []) x = by_blank (is_blank b) refl
   where
     by_blank : (t : Bool) → is_blank b ≡ t → TokensGrow (tokens_of false n (b ∷ [])) (tokens_of w n (b ∷ x))
-    by_blank true h = record { front = []; last = []; rest = tokens_of w n (b ∷ x); old = tokens_of-gap false n b [] h ∙ tokens_of-none false n; new = refl; lasts = tt }
+    by_blank true h =
+        record {
+          front = [];
+          last = [];
+          rest = tokens_of w n (b ∷ x);
+          old = tokens_of-gap false n b [] h
+              ∙ tokens_of-none false n;
+          new = refl;
+          lasts = tt;
+        }
     by_blank false h =
         let t : Token = record { bytes = b ∷ []; line = n; whole = false } in
         let u = first_token w n b x h in
@@ -147,37 +223,56 @@ tokens_grow w n (b ∷ []) x = by_blank (is_blank b) refl
         }
 tokens_grow w n (b ∷ c ∷ bs) x = by_blanks (is_blank b) refl (is_blank c) refl (tokens_grow w n (c ∷ bs) x)
   where
-    by_blanks : (s : Bool) → is_blank b ≡ s → (t : Bool) → is_blank c ≡ t → TokensGrow (tokens_of false n (c ∷ bs)) (tokens_of w n (c ∷ bs ++ x)) → TokensGrow (tokens_of false n (b ∷ c ∷ bs)) (tokens_of w n (b ∷ c ∷ bs ++ x))
+    by_blanks : (s : Bool) → is_blank b ≡ s → (t : Bool) → is_blank c ≡ t →
+        TokensGrow (tokens_of false n (c ∷ bs)) (tokens_of w n (c ∷ bs ++ x)) →
+        TokensGrow (tokens_of false n (b ∷ c ∷ bs)) (tokens_of w n (b ∷ c ∷ bs ++ x))
     by_blanks true h t k g = rw (tokens_of-gap false n b (c ∷ bs) h, tokens_of-gap w n b (c ∷ bs ++ x) h) g
     by_blanks false h true k g =
         rw (tokens_of-end false n b (c ∷ bs) h (ap not k), tokens_of-end w n b (c ∷ bs ++ x) h (ap not k), or_true w)
-        (tokens_front (record { bytes = b ∷ []; line = n; whole = true }) (tokens_of false n (c ∷ bs)) (tokens_of w n (c ∷ bs ++ x)) g)
+        (tokens_front (record { bytes = b ∷ []; line = n; whole = true }) (tokens_of false n (c ∷ bs))
+        (tokens_of w n (c ∷ bs ++ x)) g)
     by_blanks false h false k g =
         rw (tokens_of-more false n b (c ∷ bs) h (ap not k), tokens_of-more w n b (c ∷ bs ++ x) h (ap not k))
         (tokens_onto b (tokens_of false n (c ∷ bs)) (tokens_of w n (c ∷ bs ++ x)) g)
 
 -- the same behind a word
-after_more : (tail x : List ℕ) (c : ℕ) (cs : List ℕ) → behind is_blank tail ≡ c ∷ cs → after_word (tail ++ x) ≡ after_word tail ++ x
-after_more tail x c cs e = ap without_colon_before (behind-more is_blank tail x c cs e) ∙ by_colon (eqb c 58) ∙ ap (λ (y : List ℕ). without_colon_before y ++ x) (sym e)
+after_more : (tail x : List ℕ) (c : ℕ) (cs : List ℕ) → behind is_blank tail ≡ c ∷ cs →
+    after_word (tail ++ x) ≡ after_word tail ++ x
+after_more tail x c cs e = ap without_colon_before (behind-more is_blank tail x c cs e) ∙ by_colon (eqb c 58)
+    ∙ ap (λ (y : List ℕ). without_colon_before y ++ x) (sym e)
   where
     by_colon : (t : Bool) → cond t (cs ++ x) (c ∷ cs ++ x) ≡ cond t cs (c ∷ cs) ++ x
     by_colon true = refl
     by_colon false = refl
 
-pub tokens_after : (w : Bool) (n : ℕ) (tail x : List ℕ) → TokensGrow (tokens_of false n (after_word tail)) (tokens_of w n (after_word (tail ++ x)))
+pub tokens_after : (w : Bool) (n : ℕ) (tail x : List ℕ) →
+    TokensGrow (tokens_of false n (after_word tail)) (tokens_of w n (after_word (tail ++ x)))
 tokens_after w n tail x = by_rest (behind is_blank tail) refl
   where
-    by_rest : (r : List ℕ) → behind is_blank tail ≡ r → TokensGrow (tokens_of false n (after_word tail)) (tokens_of w n (after_word (tail ++ x)))
+    by_rest : (r : List ℕ) → behind is_blank tail ≡ r →
+        TokensGrow (tokens_of false n (after_word tail)) (tokens_of w n (after_word (tail ++ x)))
     by_rest [] e =
-        let none : tokens_of false n (after_word tail) ≡ [] = ap (λ (y : List ℕ). tokens_of false n (without_colon_before y)) e ∙ tokens_of-none false n in
-        record { front = []; last = []; rest = tokens_of w n (after_word (tail ++ x)); old = none; new = refl; lasts = tt }
+        let none : tokens_of false n (after_word tail) ≡ [] =
+        ap (λ (y : List ℕ). tokens_of false n (without_colon_before y)) e ∙ tokens_of-none false n in
+        record {
+          front = [];
+          last = [];
+          rest = tokens_of w n (after_word (tail ++ x));
+          old = none;
+          new = refl;
+          lasts = tt;
+        }
     by_rest (c ∷ cs) e = rw (after_more tail x c cs e) (tokens_grow w n (after_word tail) x)
 
 -- the tokens of lines
-pub line_tokens_grow : (front : List Line) (n : ℕ) (bs more : List ℕ) (w : Bool) (rest : List Line) → TokensGrow (tokens (front ++ a_line n bs false ∷ [])) (tokens (front ++ a_line n (bs ++ more) w ∷ rest))
-line_tokens_grow [] n bs more w rest = rw (append-nil (tokens_of false n bs)) (tokens_behind (tokens_of false n bs) (tokens_of w n (bs ++ more)) (tokens rest) (tokens_grow w n bs more))
+pub line_tokens_grow : (front : List Line) (n : ℕ) (bs more : List ℕ) (w : Bool) (rest : List Line) →
+    TokensGrow (tokens (front ++ a_line n bs false ∷ [])) (tokens (front ++ a_line n (bs ++ more) w ∷ rest))
+line_tokens_grow [] n bs more w rest =
+    rw (append-nil (tokens_of false n bs))
+    (tokens_behind (tokens_of false n bs) (tokens_of w n (bs ++ more)) (tokens rest) (tokens_grow w n bs more))
 line_tokens_grow (l ∷ front) n bs more w rest =
-    tokens_before (tokens_of l.whole l.number l.bytes) (tokens (front ++ a_line n bs false ∷ [])) (tokens (front ++ a_line n (bs ++ more) w ∷ rest)) (line_tokens_grow front n bs more w rest)
+    tokens_before (tokens_of l.whole l.number l.bytes) (tokens (front ++ a_line n bs false ∷ []))
+    (tokens (front ++ a_line n (bs ++ more) w ∷ rest)) (line_tokens_grow front n bs more w rest)
 
 -- ---- what stops
 
@@ -188,22 +283,28 @@ pub record AreLong (limit : ℕ) (t u : Token) (tests tests' : List (Bool × Tex
   pub new : checked limit u tests' ≡ Some (Fault t.line kinds.TooLong)
 
 -- a token that may go on is too long for good, or more bytes decide
-pub open_or_long : (limit : ℕ) (t u : Token) (tests tests' : List (Bool × TextKind)) → IsLonger t u → (checked limit t tests ≡ Some Open) ⊎ AreLong limit t u tests tests'
+pub open_or_long : (limit : ℕ) (t u : Token) (tests tests' : List (Bool × TextKind)) → IsLonger t u →
+    (checked limit t tests ≡ Some Open) ⊎ AreLong limit t u tests tests'
 open_or_long limit t u tests tests' g = by_long (ltb limit (length t.bytes)) refl
   where
-    by_long : (long : Bool) → ltb limit (length t.bytes) ≡ long → (checked limit t tests ≡ Some Open) ⊎ AreLong limit t u tests tests'
+    by_long : (long : Bool) → ltb limit (length t.bytes) ≡ long → (checked limit t tests ≡ Some Open)
+        ⊎ AreLong limit t u tests tests'
     by_long true is =
-        let lt : limit < length u.bytes = omega (arith, ltb-true _ _ is, ap length g.bytes, length-append t.bytes g.more) in
+        let lt : limit < length u.bytes =
+        omega (arith, ltb-true _ _ is, ap length g.bytes, length-append t.bytes g.more) in
         let longer : ltb limit (length u.bytes) ≡ true = lt-ltb _ _ lt in
         inr (record { long = lt; old = rw is refl; new = rw (longer, g.line) refl })
     by_long false is = inl (rw (is, g.partial) refl)
 
 -- a first fault stays the first one
-pub or_else_kept : (x y y' : Option Stop) (s : Stop) → (y ≡ Some s → y' ≡ Some s) → or_else x y ≡ Some s → or_else x y' ≡ Some s
+pub or_else_kept : (x y y' : Option Stop) (s : Stop) → (y ≡ Some s → y' ≡ Some s) → or_else x y ≡ Some s →
+    or_else x y' ≡ Some s
 or_else_kept None y y' s g h = g h
 or_else_kept (Some z) y y' s g h = h
 
-pub checked_grown : (limit : ℕ) (t u : Token) (tests tests' : List (Bool × TextKind)) (y y' : Option Stop) (line : ℕ) (k : TextKind) → IsLonger t u → or_else (checked limit t tests) y ≡ Some (Fault line k) → or_else (checked limit u tests') y' ≡ Some (Fault line k)
+pub checked_grown : (limit : ℕ) (t u : Token) (tests tests' : List (Bool × TextKind)) (y y' : Option Stop) (line : ℕ)
+    (k : TextKind) → IsLonger t u → or_else (checked limit t tests) y ≡ Some (Fault line k) →
+    or_else (checked limit u tests') y' ≡ Some (Fault line k)
 checked_grown limit t u tests tests' y y' line k g h = ⊎_elim opens longs (open_or_long limit t u tests tests' g)
   where
     opens : checked limit t tests ≡ Some Open → or_else (checked limit u tests') y' ≡ Some (Fault line k)
@@ -213,13 +314,16 @@ checked_grown limit t u tests tests' y y' line k g h = ⊎_elim opens longs (ope
     longs b = ap (λ (x : Option Stop). or_else x y') b.new ∙ sym (ap (λ (x : Option Stop). or_else x y) b.old) ∙ h
 
 -- what is said of a stop, or of what comes after it
-pub stopped_kept : {V : Type 0} (s : Option Stop) (x x' : Option (Result V TextFault)) (a : Result V TextFault) → (x ≡ Some a → x' ≡ Some a) → stopped s x ≡ Some a → stopped s x' ≡ Some a
+pub stopped_kept : {V : Type 0} (s : Option Stop) (x x' : Option (Result V TextFault)) (a : Result V TextFault) →
+    (x ≡ Some a → x' ≡ Some a) → stopped s x ≡ Some a → stopped s x' ≡ Some a
 stopped_kept None x x' a g h = g h
 stopped_kept (Some Open) x x' a g h = h
 stopped_kept (Some (Fault line k)) x x' a g h = h
 
 -- where nothing comes after it, a fault is all that can be said
-pub stopped_stays : {V : Type 0} (s s' : Option Stop) (x x' : Option (Result V TextFault)) (a : Result V TextFault) → x ≡ None → ((line : ℕ) (k : TextKind) → s ≡ Some (Fault line k) → s' ≡ Some (Fault line k)) → stopped s x ≡ Some a → stopped s' x' ≡ Some a
+pub stopped_stays : {V : Type 0} (s s' : Option Stop) (x x' : Option (Result V TextFault)) (a : Result V TextFault) →
+    x ≡ None → ((line : ℕ) (k : TextKind) → s ≡ Some (Fault line k) → s' ≡ Some (Fault line k)) → stopped s x ≡ Some a →
+    stopped s' x' ≡ Some a
 stopped_stays None s' x x' a none g h = absurd (let j = sym none ∙ h in cc)
 stopped_stays (Some Open) s' x x' a none g h = absurd cc
 stopped_stays (Some (Fault line k)) s' x x' a none g h = ap (λ (y : Option Stop). stopped y x') (g line k refl) ∙ h

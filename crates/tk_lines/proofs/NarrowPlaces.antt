@@ -8,26 +8,89 @@ use Rattle.tk_words.specs.Lex.{Token}
 use Rattle.tk_lines.specs.Pieces.{Piece, Format}
 use Rattle.tk_lines.specs.Reader.{Next, anything, AtLine, AtTail, AtToken, AtAfter, AtPlace}
 
-pub token_narrow : {V S : Type 0} (f : Format V) (W : S → List Piece → Keyword → ℕ → List Token → Type 0) (next : Next) (form : S) (line : ℕ) (bs pre : List ℕ) → AtToken f W anything form line pre bs → AtToken f W next form line pre bs
-token_narrow f W next form line bs pre a = record { before = a.before; word = a.word; first = a.first; toks = a.toks; wants = a.wants; goes = a.goes; same = λ e more n. a.same e more refl }
+pub token_narrow : {V S : Type 0} (f : Format V) (W : S → List Piece → Keyword → ℕ → List Token → Type 0) (next : Next)
+    (form : S) (line : ℕ) (bs pre : List ℕ) → AtToken f W anything form line pre bs → AtToken f W next form line pre bs
+token_narrow f W next form line bs pre a =
+    record {
+      before = a.before;
+      word = a.word;
+      first = a.first;
+      toks = a.toks;
+      wants = a.wants;
+      goes = a.goes;
+      same = λ e more n. a.same e more refl;
+    }
 
-module _ {V S : Type 0} (f : Format V) (H : S → List Piece → Type 0) (W : S → List Piece → Keyword → ℕ → List Token → Type 0) (next : Next) (form : S) (line : ℕ) (held : List ℕ) (scan : Scan) (bs : List ℕ) where
+module _ {V S : Type 0} (f : Format V) (H : S → List Piece → Type 0)
+    (W : S → List Piece → Keyword → ℕ → List Token → Type 0) (next : Next) (form : S) (line : ℕ) (held : List ℕ)
+    (scan : Scan) (bs : List ℕ) where
   line_narrow : (pre : List ℕ) → AtLine f H anything form line pre bs → AtLine f H next form line pre bs
-  line_narrow pre a = record { before = a.before; upto = a.upto; holds = a.holds; lt = a.lt; same = λ e more n. a.same e more refl }
+  line_narrow pre a =
+      record { before = a.before; upto = a.upto; holds = a.holds; lt = a.lt; same = λ e more n. a.same e more refl }
 
-  tail_narrow : (word : Keyword) (before : List Piece) (tail : List ℕ) → AtTail f anything line held word before tail bs → AtTail f next line held word before tail bs
-  tail_narrow word before tail a = record { upto = a.upto; lt = a.lt; is_word = a.is_word; word_is = a.word_is; settled = λ e more n. a.settled e more refl; same = λ e more n. a.same e more refl }
+  tail_narrow : (word : Keyword) (before : List Piece) (tail : List ℕ) →
+      AtTail f anything line held word before tail bs → AtTail f next line held word before tail bs
+  tail_narrow word before tail a =
+      record {
+        upto = a.upto;
+        lt = a.lt;
+        is_word = a.is_word;
+        word_is = a.word_is;
+        settled = λ e more n. a.settled e more refl;
+        same = λ e more n. a.same e more refl;
+      }
 
-  after_narrow : (o : Bool) (pre : List ℕ) → AtAfter f H anything form line o pre bs → AtAfter f H next form line o pre bs
-  after_narrow o pre a = record { before = a.before; word = a.word; first = a.first; toks = a.toks; holds = a.holds; ends = a.ends; last = a.last; same = λ e more n. a.same e more refl }
+  after_narrow : (o : Bool) (pre : List ℕ) → AtAfter f H anything form line o pre bs →
+      AtAfter f H next form line o pre bs
+  after_narrow o pre a =
+      record {
+        before = a.before;
+        word = a.word;
+        first = a.first;
+        toks = a.toks;
+        holds = a.holds;
+        ends = a.ends;
+        last = a.last;
+        same = λ e more n. a.same e more refl;
+      }
 
-  pub place_narrow : (p : Place) → AtPlace f H W anything form line held scan bs p → AtPlace f H W next form line held scan bs p
+  pub place_narrow : (p : Place) → AtPlace f H W anything form line held scan bs p →
+      AtPlace f H W next form line held scan bs p
   place_narrow places.Start a = line_narrow [] a
   place_narrow places.Word a = (a.0, line_narrow held a.1)
-  place_narrow (places.Value word) a = record { before = a.before; tail = a.tail; at = tail_narrow word a.before a.tail a.at; header = a.header; holds = a.holds; scans = a.scans; short = a.short }
-  place_narrow places.Begin a = record { word = a.word; before = a.before; tail = a.tail; at = tail_narrow a.word a.before a.tail a.at; section = a.section; wants = a.wants; goes = a.goes; blank = a.blank }
+  place_narrow (places.Value word) a =
+      record {
+        before = a.before;
+        tail = a.tail;
+        at = tail_narrow word a.before a.tail a.at;
+        header = a.header;
+        holds = a.holds;
+        scans = a.scans;
+        short = a.short;
+      }
+  place_narrow places.Begin a =
+      record {
+        word = a.word;
+        before = a.before;
+        tail = a.tail;
+        at = tail_narrow a.word a.before a.tail a.at;
+        section = a.section;
+        wants = a.wants;
+        goes = a.goes;
+        blank = a.blank;
+      }
   place_narrow places.Gap a = token_narrow f W next form line bs [] a
   place_narrow places.Token a = (a.0, token_narrow f W next form line bs held a.1)
-  place_narrow places.Close a = record { before = a.before; word = a.word; first = a.first; toks = a.toks; holds = a.holds; closed = a.closed; last = a.last; same = λ e more n. a.same e more refl }
+  place_narrow places.Close a =
+      record {
+        before = a.before;
+        word = a.word;
+        first = a.first;
+        toks = a.toks;
+        holds = a.holds;
+        closed = a.closed;
+        last = a.last;
+        same = λ e more n. a.same e more refl;
+      }
   place_narrow (places.After o) a = after_narrow o [] a
   place_narrow (places.MinusOne o) a = (a.0, after_narrow o held a.1)

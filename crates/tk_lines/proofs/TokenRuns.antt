@@ -1,6 +1,8 @@
 -- A token that stands whole in some bytes.
-use Rattle.std.proofs.Common.{◌≤◌, ◌≢◌, subst, ◌+◌, ◌-◌, get_or, take, take-add, drop, ◌≡◌, ℕ, ◌<◌, ◌||◌, ◌==◌, false, eqb, List, [], ◌∷◌, ◌++◌, All, length, sym, ap, ◌∙◌, arith}
-use Rattle.std.proofs.lemmas.List.{append_assoc, append-nil, take-take, take_more, length-append, length-take, length-drop}
+use Rattle.std.proofs.Common.{◌≤◌, ◌≢◌, subst, ◌+◌, ◌-◌, get_or, take, take-add, drop, ◌≡◌, ℕ, ◌<◌, ◌||◌, ◌==◌, false}
+use Rattle.std.proofs.Common.{eqb, List, [], ◌∷◌, ◌++◌, All, length, sym, ap, ◌∙◌, arith}
+use Rattle.std.proofs.lemmas.List.{append_assoc, append-nil, take-take, take_more, length-append, length-take}
+use Rattle.std.proofs.lemmas.List.{length-drop}
 use Rattle.std.proofs.lemmas.List.Sums.{count_by-le-length}
 use Rattle.std.proofs.lemmas.List.Elements.{All-head, All-tail}
 use Rattle.tk_words.specs.declared.keyword.Keyword.{Keyword}
@@ -27,26 +29,34 @@ solid_tail b bs all = All-tail (λ b. (is_blank b || b == 10) ≡ false) b bs al
 pub run_of : (bs : List ℕ) → 0 < length bs → IsSolid bs → IsRun bs
 run_of [] some all = absurd (omega arith)
 run_of (b ∷ []) some all = (solid_head b [] all).0
-run_of (b ∷ c ∷ bs) some all = ((solid_head b (c ∷ bs) all).0, run_of (c ∷ bs) (omega arith) (solid_tail b (c ∷ bs) all))
+run_of (b ∷ c ∷ bs) some all =
+    ((solid_head b (c ∷ bs) all).0, run_of (c ∷ bs) (omega arith) (solid_tail b (c ∷ bs) all))
 
 line_on : (bs run : List ℕ) → IsSolid run → line_behind (bs ++ run) ≡ line_behind bs
 line_on bs [] all = ap line_behind (append-nil bs)
-line_on bs (b ∷ run) all = ap line_behind (sym (append_assoc bs (b ∷ []) run)) ∙ line_on (bs ++ b ∷ []) run (solid_tail b run all) ∙ line_behind-byte bs b (solid_head b run all).1
+line_on bs (b ∷ run) all = ap line_behind (sym (append_assoc bs (b ∷ []) run))
+    ∙ line_on (bs ++ b ∷ []) run (solid_tail b run all) ∙ line_behind-byte bs b (solid_head b run all).1
 
-module _ {V S : Type 0} (f : Format V) (W : S → List Piece → Keyword → ℕ → List Token → Type 0) (form : S) (line : ℕ) where
-  token_on : (held bs run : List ℕ) → IsSolid run → AtToken f W anything form line held bs → AtToken f W anything form line (held ++ run) (bs ++ run)
+module _ {V S : Type 0} (f : Format V) (W : S → List Piece → Keyword → ℕ → List Token → Type 0) (form : S)
+    (line : ℕ) where
+  token_on : (held bs run : List ℕ) → IsSolid run → AtToken f W anything form line held bs →
+      AtToken f W anything form line (held ++ run) (bs ++ run)
   token_on held bs [] all a = rw (append-nil held, append-nil bs) a
   token_on held bs (b ∷ run) all a =
-      let next = token_byte f W form line b bs held (solid_head b run all).1 (token_narrow f W (this b) form line bs held a) in
+      let next =
+      token_byte f W form line b bs held (solid_head b run all).1 (token_narrow f W (this b) form line bs held a) in
       let rest = token_on (held ++ b ∷ []) (bs ++ b ∷ []) run (solid_tail b run all) next in
       rw (append_assoc held (b ∷ []) run, append_assoc bs (b ∷ []) run) at rest
 
 -- ---- a token in some bytes, after `s` of them
 
-pub token_ends : (bytes : List ℕ) (s n : ℕ) → s ≤ length bytes → n ≤ length (take (length bytes - s) (drop s bytes)) → s + n ≢ length bytes → s + n < length bytes
-token_ends bytes s n le count other = omega (arith, le, count, other, length-take (length bytes - s) (drop s bytes), length-drop s bytes)
+pub token_ends : (bytes : List ℕ) (s n : ℕ) → s ≤ length bytes → n ≤ length (take (length bytes - s) (drop s bytes)) →
+    s + n ≢ length bytes → s + n < length bytes
+token_ends bytes s n le count other =
+    omega (arith, le, count, other, length-take (length bytes - s) (drop s bytes), length-drop s bytes)
 
-module _ (bytes : List ℕ) (s n : ℕ) (within : s + n < length bytes) (solid : IsSolid (take n (take (length bytes - s) (drop s bytes)))) where
+module _ (bytes : List ℕ) (s n : ℕ) (within : s + n < length bytes)
+    (solid : IsSolid (take n (take (length bytes - s) (drop s bytes)))) where
   abbrev token : List ℕ
   token = take (s + n - s) (drop s bytes)
 
@@ -54,22 +64,41 @@ module _ (bytes : List ℕ) (s n : ℕ) (within : s + n < length bytes) (solid :
   count = omega arith
 
   token_solid : IsSolid token
-  token_solid = subst IsSolid (take-take n (length bytes - s) (drop s bytes) (omega (arith, within)) ∙ ap (λ (j : ℕ). take j (drop s bytes)) (sym count)) solid
+  token_solid =
+      subst IsSolid (take-take n (length bytes - s) (drop s bytes) (omega (arith, within))
+      ∙ ap (λ (j : ℕ). take j (drop s bytes)) (sym count)) solid
 
   pub token_run : s + n ≢ s → IsRun (take (s + n - s) (drop s bytes))
-  token_run some = run_of (take (s + n - s) (drop s bytes)) (omega (arith, within, some, length-take (s + n - s) (drop s bytes), length-drop s bytes)) token_solid
+  token_run some =
+      run_of (take (s + n - s) (drop s bytes))
+      (omega (arith, within, some, length-take (s + n - s) (drop s bytes), length-drop s bytes)) token_solid
 
-  pub token_taken : (bs : List ℕ) → ((bs ++ take s bytes) ++ take (s + n - s) (drop s bytes)) ++ get_or bytes (s + n) 0 ∷ [] ≡ bs ++ take (s + n + 1) bytes
+  pub token_taken : (bs : List ℕ) → ((bs ++ take s bytes) ++ take (s + n - s) (drop s bytes)) ++ get_or bytes (s + n) 0
+      ∷ [] ≡ bs ++ take (s + n + 1) bytes
   token_taken bs =
-      let whole : (bs ++ take s bytes) ++ take (s + n - s) (drop s bytes) ≡ bs ++ take (s + n) bytes = rw (count, take-add s n bytes) (append_assoc bs (take s bytes) (take n (drop s bytes))) in
-      ap (λ (l : List ℕ). l ++ get_or bytes (s + n) 0 ∷ []) whole ∙ rw (take_more bytes (s + n) 0 within) (append_assoc bs (take (s + n) bytes) (get_or bytes (s + n) 0 ∷ []))
+      let whole : (bs ++ take s bytes) ++ take (s + n - s) (drop s bytes) ≡ bs ++ take (s + n) bytes =
+      rw (count, take-add s n bytes) (append_assoc bs (take s bytes) (take n (drop s bytes))) in
+      ap (λ (l : List ℕ). l ++ get_or bytes (s + n) 0 ∷ []) whole
+      ∙ rw (take_more bytes (s + n) 0 within) (append_assoc bs (take (s + n) bytes) (get_or bytes (s + n) 0 ∷ []))
 
-  pub token_stands : {V S : Type 0} (f : Format V) (H : S → List Piece → Type 0) (W : S → List Piece → Keyword → ℕ → List Token → Type 0) (r : PieceReader S) (bs : List ℕ) → r.place ≡ places.Gap → Fed f H W anything r (bs ++ take s bytes)
-      → IsIn f W (this (get_or bytes (s + n) 0)) r (take (s + n - s) (drop s bytes)) ((bs ++ take s bytes) ++ take (s + n - s) (drop s bytes))
+  pub token_stands : {V S : Type 0} (f : Format V) (H : S → List Piece → Type 0)
+      (W : S → List Piece → Keyword → ℕ → List Token → Type 0) (r : PieceReader S) (bs : List ℕ)
+      → r.place ≡ places.Gap → Fed f H W anything r (bs ++ take s bytes)
+      → IsIn f W (this (get_or bytes (s + n) 0)) r (take (s + n - s) (drop s bytes))
+      ((bs ++ take s bytes) ++ take (s + n - s) (drop s bytes))
   token_stands f H W r bs gap fed =
-      let at = at_place f H W anything r.form r.line r.held r.scan (bs ++ take s bytes) r.place places.Gap gap fed.1 in
-      (fed.0 ∙ sym (line_on (bs ++ take s bytes) token token_solid), token_narrow f W (this (get_or bytes (s + n) 0)) r.form r.line _ _ (token_on f W r.form r.line [] (bs ++ take s bytes) token token_solid at))
+      let at = at_place f H W anything r.form r.line r.held r.scan (bs ++ take s bytes) r.place _ gap fed.1 in (
+        fed.0 ∙ sym (line_on (bs ++ take s bytes) token token_solid),
+        token_narrow f W (this (get_or bytes (s + n) 0)) r.form r.line
+            _ _ (token_on f W r.form r.line [] (bs ++ take s bytes) token token_solid at),
+      )
 
 -- the line after some of the bytes
 pub line_within : (bs bytes : List ℕ) (s : ℕ) → line_behind (bs ++ take s bytes) ≤ length bs + s + 1
-line_within bs bytes s = omega (arith, count_by-le-length (λ b. b == 10) (bs ++ take s bytes), length-append bs (take s bytes), length-take s bytes)
+line_within bs bytes s =
+    omega (
+      arith,
+      count_by-le-length (λ b. b == 10) (bs ++ take s bytes),
+      length-append bs (take s bytes),
+      length-take s bytes,
+    )

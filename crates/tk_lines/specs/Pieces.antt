@@ -1,10 +1,12 @@
 -- A text as a list of pieces.
-use Rattle.std.specs.Prelude.{ℕ, Bool, true, false, not, ◌&&◌, ◌||◌, ◌==◌, nat_lt, nat_le, List, [], ◌∷◌, ◌++◌, length, take, get_or, Option, Some, None, Result, Ok, Err, if◌then◌else◌}
+use Rattle.std.specs.Prelude.{ℕ, Bool, true, false, not, ◌&&◌, ◌||◌, ◌==◌, nat_lt, nat_le, List, [], ◌∷◌, ◌++◌, length}
+use Rattle.std.specs.Prelude.{take, get_or, Option, Some, None, Result, Ok, Err, if◌then◌else◌}
 use Rattle.tk_words.specs.declared.keyword.Keyword.{Keyword}
 use Rattle.tk_words.specs.declared.fault.TextKind.{TextKind}
 use Rattle.tk_words.specs.declared.fault.TextKind.TheVariants as kinds
 use Rattle.tk_words.specs.declared.fault.TextFault.{TextFault}
-use Rattle.tk_words.specs.Lex.{lines, Line, Token, is_blank, is_letter, is_word_byte, is_empty, front, behind, tokens, tokens_of, after_word}
+use Rattle.tk_words.specs.Lex.{lines, Line, Token, is_blank, is_letter, is_word_byte, is_empty, front, behind, tokens}
+use Rattle.tk_words.specs.Lex.{tokens_of, after_word}
 use Rattle.tk_words.specs.Words.{keyword_of, same_word, role}
 use Rattle.tk_words.specs.declared.keyword.Role.{Role}
 use Rattle.tk_words.specs.declared.keyword.Role.TheVariants.{BeginsHeader, BeginsSection, EndsText}

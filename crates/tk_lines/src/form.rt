@@ -1,5 +1,6 @@
 //! What a format makes of headers and sections.
-ghost use Rattle.std.specs.Prelude.{◌≡◌, ◌≤◌, ℕ, true, List, [], ◌∷◌, ◌++◌, length, Option, Some, None, IfOk, IfErr, IfSome};
+ghost use Rattle.std.specs.Prelude.{◌≡◌, ◌≤◌, ℕ, true, List, [], ◌∷◌, ◌++◌, length, Option, Some, None, IfOk, IfErr};
+ghost use Rattle.std.specs.Prelude.{IfSome};
 ghost use Rattle.tk_words.specs.declared.keyword.Keyword.{Keyword};
 ghost use Rattle.tk_words.specs.Lex.{Token};
 ghost use Rattle.tk_lines.specs.Pieces.{Piece, After, Early, Fault, first_at, Format};

@@ -1,5 +1,6 @@
 //! The value of a header, byte by byte.
-ghost use Rattle.std.specs.Prelude.{◌≡◌, ◌≤◌, ◌<◌, ℕ, List, [], ◌∷◌, ◌++◌, length, Some, None, IfSome, IfOk, IfErr, ◌^◌};
+ghost use Rattle.std.specs.Prelude.{◌≡◌, ◌≤◌, ◌<◌, ℕ, List, [], ◌∷◌, ◌++◌, length, Some, None, IfSome, IfOk, IfErr};
+ghost use Rattle.std.specs.Prelude.{◌^◌};
 ghost use Rattle.tk_lines.specs.Scan.{Scans, first_word};
 ghost use Rattle.tk_words.specs.Lex.{trim, after_word};
 ghost use Rattle.tk_words.specs.Words.{spells};

@@ -1,5 +1,6 @@
 -- Each solution text has an answer, and what is decided of it stays.
-use Rattle.std.proofs.Common.{◌≡◌, ℕ, suc, ◌+◌, Bool, true, false, cond, eqb, leb, ltb, not, ◌||◌, List, [], ◌∷◌, ◌++◌, length, Option, Some, None, Result, refl, sym, ap, subst, ◌∙◌, arith}
+use Rattle.std.proofs.Common.{◌≡◌, ℕ, suc, ◌+◌, Bool, true, false, cond, eqb, leb, ltb, not, ◌||◌, List, [], ◌∷◌, ◌++◌}
+use Rattle.std.proofs.Common.{length, Option, Some, None, Result, refl, sym, ap, subst, ◌∙◌, arith}
 use Rattle.std.specs.Prelude.{codes, is_none}
 use Rattle.std.specs.Char.{is_ascii_digit}
 use Rattle.std.specs.Option.{IsSome}
@@ -10,35 +11,48 @@ use Rattle.tk_words.specs.declared.fault.TextKind.{TextKind}
 use Rattle.tk_words.specs.declared.fault.TextKind.TheVariants as kinds
 use Rattle.tk_words.specs.declared.fault.TextFault.{TextFault}
 use Rattle.tk_words.specs.Entry.{in_range}
-use Rattle.tk_words.specs.Lex.{Line, Token, lines, tokens_of, is_blank, is_word_byte, front, behind, after_word, integer}
+use Rattle.tk_words.specs.Lex.{Line, Token, lines, tokens_of, is_blank, is_word_byte, front, behind, after_word}
+use Rattle.tk_words.specs.Lex.{integer}
 use Rattle.tk_words.specs.TextLaws.{HasAnswers, StaysDecided}
 use Rattle.tk_words.specs.Words.{spells}
 use Rattle.tk_words.proofs.Bools.{and_false}
 use Rattle.tk_lines.specs.Pieces.{Stop, Open, Fault, first_at, checked, or_else, stopped}
-use Rattle.tk_lines.proofs.Answered.{AreWhole, NotOpen, WholeTokens, not_open_checked, not_open_first, not_open_or, some_stopped, whole_lines, whole_tokens_of}
-use Rattle.tk_lines.proofs.Growing.{a_line, Lasts, checked_grown, lines_grow, or_else_kept, stopped_kept, stopped_stays, tokens_after, tokens_grow}
+use Rattle.tk_lines.proofs.Answered.{AreWhole, NotOpen, WholeTokens, not_open_checked, not_open_first, not_open_or}
+use Rattle.tk_lines.proofs.Answered.{some_stopped, whole_lines, whole_tokens_of}
+use Rattle.tk_lines.proofs.Growing.{a_line, Lasts, checked_grown, lines_grow, or_else_kept, stopped_kept, stopped_stays}
+use Rattle.tk_lines.proofs.Growing.{tokens_after, tokens_grow}
 use Rattle.tk_lines.proofs.Headers.ByteRuns.{front-all, front-whole}
 use Rattle.tk_lines.proofs.MiddleOfLine.{behind-more, front-more}
 use Rattle.tk_lines.proofs.Steady.{stops, stops_grown}
-use Rattle.tk_lists.specs.Solution.{Head, Short, Bad, Behind, Solution, SolutionLine, Unsure, Other, Cost, colon_head, digits_head, number_head, route_head, is_sign, is_hash, route_line, may_be_word, by_word, solid_line, line_of, has_cost, count_of, is_natural, customer_stop, customers_stop, trailing_stop, cut_short, cost_stop, route_tests, cost_tests, other_tests, line_stop, at_end, judge_lines, solution_decided}
+use Rattle.tk_lists.specs.Solution.{Head, Short, Bad, Behind, Solution, SolutionLine, Unsure, Other, Cost, colon_head}
+use Rattle.tk_lists.specs.Solution.{digits_head, number_head, route_head, is_sign, is_hash, route_line, may_be_word}
+use Rattle.tk_lists.specs.Solution.{by_word, solid_line, line_of, has_cost, count_of, is_natural, customer_stop}
+use Rattle.tk_lists.specs.Solution.{customers_stop, trailing_stop, cut_short, cost_stop, route_tests, cost_tests}
+use Rattle.tk_lists.specs.Solution.{other_tests, line_stop, at_end, judge_lines, solution_decided}
 use Rattle.tk_lists.proofs.SolutionWords.{route_stops, solid_other}
 
 -- ---- each text has an answer
 
 abbrev customer_tests : ℕ → Token → List (Bool × TextKind)
 customer_tests k t =
-    (is_none (integer t.bytes), kinds.BadNumber) ∷ (not (in_range 0 4294967295 (integer t.bytes)) || leb ENTRY_LIMIT k, kinds.OutOfLimit) ∷ []
+    (is_none (integer t.bytes), kinds.BadNumber)
+    ∷ (not (in_range 0 4294967295 (integer t.bytes)) || leb ENTRY_LIMIT k, kinds.OutOfLimit) ∷ []
 
 abbrev cost_number_tests : Token → List (Bool × TextKind)
-cost_number_tests t = (is_none (integer t.bytes), kinds.BadNumber) ∷ (not (is_natural (integer t.bytes)), kinds.OutOfLimit) ∷ []
+cost_number_tests t = (is_none (integer t.bytes), kinds.BadNumber)
+    ∷ (not (is_natural (integer t.bytes)), kinds.OutOfLimit) ∷ []
 
 customers_known : (k : ℕ) (ts : List Token) → WholeTokens ts → NotOpen (customers_stop k ts)
 customers_known k [] h = tt
-customers_known k (t ∷ ts) h = not_open_or (customer_stop k t) (customers_stop (suc k) ts) (not_open_checked 64 t (customer_tests k t) h.0) (customers_known (suc k) ts h.1)
+customers_known k (t ∷ ts) h =
+    not_open_or (customer_stop k t) (customers_stop (suc k) ts) (not_open_checked 64 t (customer_tests k t) h.0)
+    (customers_known (suc k) ts h.1)
 
 cost_known : (n : ℕ) (ts : List Token) → WholeTokens ts → NotOpen (cost_stop n true ts)
 cost_known n [] h = tt
-cost_known n (t ∷ ts) h = not_open_or (checked 64 t (cost_number_tests t)) (trailing_stop n ts) (not_open_checked 64 t (cost_number_tests t) h.0) (trailing ts)
+cost_known n (t ∷ ts) h =
+    not_open_or (checked 64 t (cost_number_tests t)) (trailing_stop n ts)
+    (not_open_checked 64 t (cost_number_tests t) h.0) (trailing ts)
   where
     trailing : (ts : List Token) → NotOpen (trailing_stop n ts)
     trailing [] = tt
@@ -46,18 +60,27 @@ cost_known n (t ∷ ts) h = not_open_or (checked 64 t (cost_number_tests t)) (tr
 
 module _ (before : List SolutionLine) (n : ℕ) where
   route_known : (h : Head) → NotOpen (line_stop before n true (route_line n true h))
-  route_known Short = not_open_or (first_at n (route_tests before)) (cut_short n true) (not_open_first n (route_tests before)) tt
-  route_known Bad = not_open_or (first_at n (route_tests before)) (Some (Fault n kinds.BadNumber)) (not_open_first n (route_tests before)) tt
+  route_known Short =
+      not_open_or (first_at n (route_tests before)) (cut_short n true) (not_open_first n (route_tests before)) tt
+  route_known Bad = not_open_or (first_at n (route_tests before)) (Some (Fault n kinds.BadNumber))
+      (not_open_first n (route_tests before)) tt
   route_known (Behind bs) =
-      not_open_or (first_at n (route_tests before)) (customers_stop (count_of before) (tokens_of true n bs)) (not_open_first n (route_tests before)) (customers_known (count_of before) (tokens_of true n bs) (whole_tokens_of n bs))
+      not_open_or (first_at n (route_tests before)) (customers_stop (count_of before) (tokens_of true n bs))
+      (not_open_first n (route_tests before))
+      (customers_known (count_of before) (tokens_of true n bs) (whole_tokens_of n bs))
 
   word_known : (word tail : List ℕ) → NotOpen (line_stop before n true (by_word n true word tail))
   word_known word tail = by_tests (spells word (codes "ROUTE")) (spells word (codes "COST"))
     where
-      by_tests : (route cost : Bool) → NotOpen (line_stop before n true (cond route (route_line n true (route_head tail)) (cond cost (Cost (tokens_of true n (after_word tail))) Other)))
+      by_tests : (route cost : Bool) →
+          NotOpen (line_stop before n true
+          (cond route (route_line n true (route_head tail))
+          (cond cost (Cost (tokens_of true n (after_word tail))) Other)))
       by_tests true cost = route_known (route_head tail)
       by_tests false true =
-          not_open_or (first_at n (cost_tests before)) (cost_stop n true (tokens_of true n (after_word tail))) (not_open_first n (cost_tests before)) (cost_known n (tokens_of true n (after_word tail)) (whole_tokens_of n (after_word tail)))
+          not_open_or (first_at n (cost_tests before)) (cost_stop n true (tokens_of true n (after_word tail)))
+          (not_open_first n (cost_tests before))
+          (cost_known n (tokens_of true n (after_word tail)) (whole_tokens_of n (after_word tail)))
       by_tests false false = not_open_first n (other_tests before)
 
   solid_known : (bs : List ℕ) → NotOpen (line_stop before n true (solid_line n true bs))
@@ -71,16 +94,20 @@ some_end before n = by_cost (has_cost before) _ _
     by_cost true x y = refl
     by_cost false x y = refl
 
-some_judged : (before : List SolutionLine) (n : ℕ) (ls : List Line) → AreWhole ls → IsSome (judge_lines before n true ls)
+some_judged : (before : List SolutionLine) (n : ℕ) (ls : List Line) → AreWhole ls →
+    IsSome (judge_lines before n true ls)
 unfolding judge_lines
 some_judged before n [] h = some_end before n
 some_judged before n (l ∷ ls) h = by_whole l.whole h.0 (λ here. some_judged here l.number ls h.1)
   where
     by_whole : (w : Bool) → w ≡ true → ((here : List SolutionLine) → IsSome (judge_lines here l.number true ls))
-        → IsSome (stopped (line_stop before l.number w (line_of l.number w l.bytes)) (judge_lines (before ++ line_of l.number w l.bytes ∷ []) l.number w ls))
+        → IsSome
+        (stopped (line_stop before l.number w (line_of l.number w l.bytes))
+        (judge_lines (before ++ line_of l.number w l.bytes ∷ []) l.number w ls))
     by_whole true e rest =
         let here : SolutionLine = line_of l.number true l.bytes in
-        some_stopped (line_stop before l.number true here) (judge_lines (before ++ here ∷ []) l.number true ls) (solid_known before l.number (behind is_blank l.bytes)) (rest (before ++ here ∷ []))
+        some_stopped (line_stop before l.number true here) (judge_lines (before ++ here ∷ []) l.number true ls)
+        (solid_known before l.number (behind is_blank l.bytes)) (rest (before ++ here ∷ []))
     by_whole false e rest = absurd cc
 
 pub some_decided : HasAnswers solution_decided
@@ -106,7 +133,8 @@ colon_stays (b ∷ bs) x = by_colon (eqb b 58)
 blanks_stay : (bs x : List ℕ) → HeadStays (colon_head (behind is_blank bs)) (colon_head (behind is_blank (bs ++ x))) x
 blanks_stay bs x = by_rest (behind is_blank bs) refl
   where
-    by_rest : (r : List ℕ) → behind is_blank bs ≡ r → HeadStays (colon_head (behind is_blank bs)) (colon_head (behind is_blank (bs ++ x))) x
+    by_rest : (r : List ℕ) → behind is_blank bs ≡ r →
+        HeadStays (colon_head (behind is_blank bs)) (colon_head (behind is_blank (bs ++ x))) x
     by_rest [] f = rw f tt
     by_rest (d ∷ ds) f = rw (f, behind-more is_blank bs x d ds f) (colon_stays (d ∷ ds) x)
 
@@ -115,28 +143,48 @@ digits_stay [] x = tt
 digits_stay (b ∷ bs) x = by_rest (behind is_ascii_digit (b ∷ bs)) refl
   where
     -- by the tests of both heads
-    both : (m m' : ℕ) (h h' : Head) → (ltb 18 m ≡ true → ltb 18 m' ≡ true) → (ltb 18 m ≡ false → HeadStays (cond (eqb m 0) Bad h) (cond (ltb 18 m') Bad (cond (eqb m' 0) Bad h')) x)
+    both : (m m' : ℕ) (h h' : Head) → (ltb 18 m ≡ true → ltb 18 m' ≡ true)
+        → (ltb 18 m ≡ false → HeadStays (cond (eqb m 0) Bad h) (cond (ltb 18 m') Bad (cond (eqb m' 0) Bad h')) x)
         → HeadStays (cond (ltb 18 m) Bad (cond (eqb m 0) Bad h)) (cond (ltb 18 m') Bad (cond (eqb m' 0) Bad h')) x
     both m m' h h' g k = by_long (ltb 18 m) refl
       where
-        by_long : (t : Bool) → ltb 18 m ≡ t → HeadStays (cond (ltb 18 m) Bad (cond (eqb m 0) Bad h)) (cond (ltb 18 m') Bad (cond (eqb m' 0) Bad h')) x
+        by_long : (t : Bool) → ltb 18 m ≡ t →
+            HeadStays (cond (ltb 18 m) Bad (cond (eqb m 0) Bad h)) (cond (ltb 18 m') Bad (cond (eqb m' 0) Bad h')) x
         by_long true e = rw (e, g e) refl
         by_long false e = rw e (k e)
 
-    by_rest : (r : List ℕ) → behind is_ascii_digit (b ∷ bs) ≡ r → HeadStays (digits_head 0 (b ∷ bs)) (digits_head 0 ((b ∷ bs) ++ x)) x
+    by_rest : (r : List ℕ) → behind is_ascii_digit (b ∷ bs) ≡ r →
+        HeadStays (digits_head 0 (b ∷ bs)) (digits_head 0 ((b ∷ bs) ++ x)) x
     by_rest [] e =
         let all : front is_ascii_digit (b ∷ bs) ≡ b ∷ bs = front-whole is_ascii_digit (b ∷ bs) e in
-        let all' : front is_ascii_digit ((b ∷ bs) ++ x) ≡ (b ∷ bs) ++ front is_ascii_digit x = front-all is_ascii_digit (b ∷ bs) x e in
-        let some : eqb (0 + length (front is_ascii_digit (b ∷ bs))) 0 ≡ false = ne_eqb _ _ (λ z. omega (arith, z, ap length all)) in
-        both (0 + length (front is_ascii_digit (b ∷ bs))) (0 + length (front is_ascii_digit ((b ∷ bs) ++ x))) (colon_head (behind is_blank (behind is_ascii_digit (b ∷ bs)))) (colon_head (behind is_blank (behind is_ascii_digit ((b ∷ bs) ++ x))))
-        (λ t. lt-ltb _ _ (omega (arith, ltb-true _ _ t, ap length all, ap length all', length-append (b ∷ bs) (front is_ascii_digit x)))) (λ t. rw (some, e) tt)
+        let all' : front is_ascii_digit ((b ∷ bs) ++ x) ≡ (b ∷ bs) ++ front is_ascii_digit x =
+        front-all is_ascii_digit (b ∷ bs) x e in
+        let some : eqb (0 + length (front is_ascii_digit (b ∷ bs))) 0 ≡ false =
+        ne_eqb _ _ (λ z. omega (arith, z, ap length all)) in
+        both (0 + length (front is_ascii_digit (b ∷ bs))) (0 + length (front is_ascii_digit ((b ∷ bs) ++ x)))
+        (colon_head (behind is_blank (behind is_ascii_digit (b ∷ bs))))
+        (colon_head (behind is_blank (behind is_ascii_digit ((b ∷ bs) ++ x))))
+        (λ t. lt-ltb
+        _ _ (omega (
+          arith,
+          ltb-true _ _ t,
+          ap length all,
+          ap length all',
+          length-append (b ∷ bs) (front is_ascii_digit x),
+        ))) (λ t. rw (some, e) tt)
     by_rest (c ∷ cs) e =
-        let same : front is_ascii_digit ((b ∷ bs) ++ x) ≡ front is_ascii_digit (b ∷ bs) = front-more is_ascii_digit (b ∷ bs) x c cs e in
-        let more : behind is_ascii_digit ((b ∷ bs) ++ x) ≡ (c ∷ cs) ++ x = behind-more is_ascii_digit (b ∷ bs) x c cs e in
-        rw (same, more, e) (by_tests (ltb 18 (0 + length (front is_ascii_digit (b ∷ bs)))) (eqb (0 + length (front is_ascii_digit (b ∷ bs))) 0) (blanks_stay (c ∷ cs) x))
+        let same : front is_ascii_digit ((b ∷ bs) ++ x) ≡ front is_ascii_digit (b ∷ bs) =
+        front-more is_ascii_digit (b ∷ bs) x c cs e in
+        let more : behind is_ascii_digit ((b ∷ bs) ++ x) ≡ (c ∷ cs) ++ x =
+        behind-more is_ascii_digit (b ∷ bs) x c cs e in
+        rw (same, more, e)
+        (by_tests (ltb 18 (0 + length (front is_ascii_digit (b ∷ bs))))
+        (eqb (0 + length (front is_ascii_digit (b ∷ bs))) 0) (blanks_stay (c ∷ cs) x))
       where
-        by_tests : (s t : Bool) → HeadStays (colon_head (behind is_blank (c ∷ cs))) (colon_head (behind is_blank ((c ∷ cs) ++ x))) x
-            → HeadStays (cond s Bad (cond t Bad (colon_head (behind is_blank (c ∷ cs))))) (cond s Bad (cond t Bad (colon_head (behind is_blank ((c ∷ cs) ++ x))))) x
+        by_tests : (s t : Bool)
+            → HeadStays (colon_head (behind is_blank (c ∷ cs))) (colon_head (behind is_blank ((c ∷ cs) ++ x))) x
+            → HeadStays (cond s Bad (cond t Bad (colon_head (behind is_blank (c ∷ cs)))))
+            (cond s Bad (cond t Bad (colon_head (behind is_blank ((c ∷ cs) ++ x))))) x
         by_tests true t h = refl
         by_tests false true h = refl
         by_tests false false h = h
@@ -144,7 +192,8 @@ digits_stay (b ∷ bs) x = by_rest (behind is_ascii_digit (b ∷ bs)) refl
 number_stays : (bs x : List ℕ) → HeadStays (number_head bs) (number_head (bs ++ x)) x
 number_stays bs x = by_rest (behind is_blank bs) refl
   where
-    by_sign : (t : Bool) (c : ℕ) (cs : List ℕ) → HeadStays (digits_head 0 (cond t cs (c ∷ cs))) (digits_head 0 (cond t (cs ++ x) (c ∷ cs ++ x))) x
+    by_sign : (t : Bool) (c : ℕ) (cs : List ℕ) →
+        HeadStays (digits_head 0 (cond t cs (c ∷ cs))) (digits_head 0 (cond t (cs ++ x) (c ∷ cs ++ x))) x
     by_sign true c cs = digits_stay cs x
     by_sign false c cs = digits_stay (c ∷ cs) x
 
@@ -155,7 +204,8 @@ number_stays bs x = by_rest (behind is_blank bs) refl
 head_stays : (bs x : List ℕ) → HeadStays (route_head bs) (route_head (bs ++ x)) x
 head_stays bs x = by_rest (behind is_blank bs) refl
   where
-    by_hash : (t : Bool) (c : ℕ) (cs : List ℕ) → HeadStays (number_head (cond t cs (c ∷ cs))) (number_head (cond t (cs ++ x) (c ∷ cs ++ x))) x
+    by_hash : (t : Bool) (c : ℕ) (cs : List ℕ) →
+        HeadStays (number_head (cond t cs (c ∷ cs))) (number_head (cond t (cs ++ x) (c ∷ cs ++ x))) x
     by_hash true c cs = number_stays cs x
     by_hash false c cs = number_stays (c ∷ cs) x
 
@@ -170,60 +220,86 @@ customers_as k [] = refl
 customers_as k (t ∷ ts) = ap (λ (s : Option Stop). or_else (customer_stop k t) s) (customers_as (suc k) ts)
 
 module _ (before : List SolutionLine) (n : ℕ) (w : Bool) (x : List ℕ) (line : ℕ) (k : TextKind) where
-  customers_stay : (bs : List ℕ) → customers_stop (count_of before) (tokens_of false n bs) ≡ Some (Fault line k) → customers_stop (count_of before) (tokens_of w n (bs ++ x)) ≡ Some (Fault line k)
+  customers_stay : (bs : List ℕ) → customers_stop (count_of before) (tokens_of false n bs) ≡ Some (Fault line k) →
+      customers_stop (count_of before) (tokens_of w n (bs ++ x)) ≡ Some (Fault line k)
   customers_stay bs h =
       let g = tokens_grow w n bs x in
       let m : ℕ = count_of before in
       let old = sym (customers_as m (tokens_of false n bs) ∙ ap (stops customer_tests (λ k t. suc k) m) g.old) ∙ h in
-      customers_as m (tokens_of w n (bs ++ x)) ∙ ap (stops customer_tests (λ k t. suc k) m) g.new ∙ stops_grown customer_tests (λ k t. suc k) line k m g.front g.last g.rest g.lasts old
+      customers_as m (tokens_of w n (bs ++ x)) ∙ ap (stops customer_tests (λ k t. suc k) m) g.new
+      ∙ stops_grown customer_tests (λ k t. suc k) line k m g.front g.last g.rest g.lasts old
 
-  trailing_stays : (front last rest : List Token) → Lasts last rest → trailing_stop n (front ++ last) ≡ Some (Fault line k) → trailing_stop n (front ++ rest) ≡ Some (Fault line k)
+  trailing_stays : (front last rest : List Token) → Lasts last rest →
+      trailing_stop n (front ++ last) ≡ Some (Fault line k) → trailing_stop n (front ++ rest) ≡ Some (Fault line k)
   trailing_stays [] [] rest g h = absurd cc
   trailing_stays [] (t ∷ []) [] g h = absurd g
   trailing_stays [] (t ∷ []) (u ∷ rest) g h = h
   trailing_stays [] (t ∷ s ∷ last) rest g h = absurd g
   trailing_stays (y ∷ front) last rest g h = h
 
-  cost_grown : (front last rest : List Token) → Lasts last rest → cost_stop n false (front ++ last) ≡ Some (Fault line k) → cost_stop n w (front ++ rest) ≡ Some (Fault line k)
+  cost_grown : (front last rest : List Token) → Lasts last rest →
+      cost_stop n false (front ++ last) ≡ Some (Fault line k) → cost_stop n w (front ++ rest) ≡ Some (Fault line k)
   cost_grown [] [] rest g h = absurd (let j : Some Open ≡ Some (Fault line k) = h in cc)
   cost_grown [] (t ∷ []) [] g h = absurd g
-  cost_grown [] (t ∷ []) (u ∷ rest) g h = checked_grown 64 t u (cost_number_tests t) (cost_number_tests u) None (trailing_stop n rest) line k g h
+  cost_grown [] (t ∷ []) (u ∷ rest) g h =
+      checked_grown 64 t u (cost_number_tests t) (cost_number_tests u) None (trailing_stop n rest) line k g h
   cost_grown [] (t ∷ s ∷ last) rest g h = absurd g
   cost_grown (y ∷ front) last rest g h =
-      or_else_kept (checked 64 y (cost_number_tests y)) (trailing_stop n (front ++ last)) (trailing_stop n (front ++ rest)) (Fault line k) (trailing_stays front last rest g) h
+      or_else_kept (checked 64 y (cost_number_tests y)) (trailing_stop n (front ++ last))
+      (trailing_stop n (front ++ rest)) (Fault line k) (trailing_stays front last rest g) h
 
-  cost_stays : (tail : List ℕ) → cost_stop n false (tokens_of false n (after_word tail)) ≡ Some (Fault line k) → cost_stop n w (tokens_of w n (after_word (tail ++ x))) ≡ Some (Fault line k)
-  cost_stays tail h = let g = tokens_after w n tail x in rw g.new (cost_grown g.front g.last g.rest g.lasts (rw g.old at h))
+  cost_stays : (tail : List ℕ) → cost_stop n false (tokens_of false n (after_word tail)) ≡ Some (Fault line k) →
+      cost_stop n w (tokens_of w n (after_word (tail ++ x))) ≡ Some (Fault line k)
+  cost_stays tail h = let g = tokens_after w n tail x in
+      rw g.new (cost_grown g.front g.last g.rest g.lasts (rw g.old at h))
 
-  route_stays : (h h' : Head) → HeadStays h h' x → line_stop before n false (route_line n false h) ≡ Some (Fault line k) → line_stop before n w (route_line n w h') ≡ Some (Fault line k)
+  route_stays : (h h' : Head) → HeadStays h h' x →
+      line_stop before n false (route_line n false h) ≡ Some (Fault line k) →
+      line_stop before n w (route_line n w h') ≡ Some (Fault line k)
   route_stays Short h' s f = by_first (first_at n (route_tests before)) refl
     where
-      by_first : (o : Option Stop) → first_at n (route_tests before) ≡ o → line_stop before n w (route_line n w h') ≡ Some (Fault line k)
-      by_first None e = absurd (let j : Some Open ≡ Some (Fault line k) = sym (ap (λ (o : Option Stop). or_else o (cut_short n false)) e) ∙ f in cc)
-      by_first (Some z) e = route_stops before n w (Fault line k) h' (e ∙ sym (ap (λ (o : Option Stop). or_else o (cut_short n false)) e) ∙ f)
+      by_first : (o : Option Stop) → first_at n (route_tests before) ≡ o →
+          line_stop before n w (route_line n w h') ≡ Some (Fault line k)
+      by_first None e =
+          absurd (let j : Some Open ≡ Some (Fault line k) = sym (ap (λ (o : Option Stop). or_else o (cut_short n false))
+          e) ∙ f in cc)
+      by_first (Some z) e =
+          route_stops before n w (Fault line k) h'
+          (e ∙ sym (ap (λ (o : Option Stop). or_else o (cut_short n false)) e) ∙ f)
   route_stays Bad h' s f = subst (λ (h : Head). line_stop before n w (route_line n w h) ≡ Some (Fault line k)) (sym s) f
   route_stays (Behind bs) h' s f =
       subst (λ (h : Head). line_stop before n w (route_line n w h) ≡ Some (Fault line k)) (sym s)
-      (or_else_kept (first_at n (route_tests before)) (customers_stop (count_of before) (tokens_of false n bs)) (customers_stop (count_of before) (tokens_of w n (bs ++ x))) (Fault line k) (customers_stay bs) f)
+      (or_else_kept (first_at n (route_tests before)) (customers_stop (count_of before) (tokens_of false n bs))
+      (customers_stop (count_of before) (tokens_of w n (bs ++ x))) (Fault line k) (customers_stay bs) f)
 
-  word_stays : (word tail : List ℕ) → line_stop before n false (by_word n false word tail) ≡ Some (Fault line k) → line_stop before n w (by_word n w word (tail ++ x)) ≡ Some (Fault line k)
+  word_stays : (word tail : List ℕ) → line_stop before n false (by_word n false word tail) ≡ Some (Fault line k) →
+      line_stop before n w (by_word n w word (tail ++ x)) ≡ Some (Fault line k)
   word_stays word tail f = by_tests (spells word (codes "ROUTE")) (spells word (codes "COST")) f
     where
-      by_tests : (route cost : Bool) → line_stop before n false (cond route (route_line n false (route_head tail)) (cond cost (Cost (tokens_of false n (after_word tail))) Other)) ≡ Some (Fault line k)
-          → line_stop before n w (cond route (route_line n w (route_head (tail ++ x))) (cond cost (Cost (tokens_of w n (after_word (tail ++ x)))) Other)) ≡ Some (Fault line k)
+      by_tests : (route cost : Bool)
+          → line_stop before n false
+          (cond route (route_line n false (route_head tail))
+          (cond cost (Cost (tokens_of false n (after_word tail))) Other)) ≡ Some (Fault line k)
+          → line_stop before n w
+          (cond route (route_line n w (route_head (tail ++ x)))
+          (cond cost (Cost (tokens_of w n (after_word (tail ++ x)))) Other)) ≡ Some (Fault line k)
       by_tests true cost f = route_stays (route_head tail) (route_head (tail ++ x)) (head_stays tail x) f
       by_tests false true f =
-          or_else_kept (first_at n (cost_tests before)) (cost_stop n false (tokens_of false n (after_word tail))) (cost_stop n w (tokens_of w n (after_word (tail ++ x)))) (Fault line k) (cost_stays tail) f
+          or_else_kept (first_at n (cost_tests before)) (cost_stop n false (tokens_of false n (after_word tail)))
+          (cost_stop n w (tokens_of w n (after_word (tail ++ x)))) (Fault line k) (cost_stays tail) f
       by_tests false false f = f
 
-  solid_stays : (b : ℕ) (bs : List ℕ) → line_stop before n false (solid_line n false (b ∷ bs)) ≡ Some (Fault line k) → line_stop before n w (solid_line n w ((b ∷ bs) ++ x)) ≡ Some (Fault line k)
+  solid_stays : (b : ℕ) (bs : List ℕ) → line_stop before n false (solid_line n false (b ∷ bs)) ≡ Some (Fault line k) →
+      line_stop before n w (solid_line n w ((b ∷ bs) ++ x)) ≡ Some (Fault line k)
   solid_stays b bs f = by_tail (behind is_word_byte (b ∷ bs)) refl
     where
-      to_line : (old new : SolutionLine) → solid_line n false (b ∷ bs) ≡ old → solid_line n w ((b ∷ bs) ++ x) ≡ new → (line_stop before n false old ≡ Some (Fault line k) → line_stop before n w new ≡ Some (Fault line k))
+      to_line : (old new : SolutionLine) → solid_line n false (b ∷ bs) ≡ old → solid_line n w ((b ∷ bs) ++ x) ≡ new
+          → (line_stop before n false old ≡ Some (Fault line k) → line_stop before n w new ≡ Some (Fault line k))
           → line_stop before n w (solid_line n w ((b ∷ bs) ++ x)) ≡ Some (Fault line k)
       to_line old new p q g = ap (line_stop before n w) q ∙ g (sym (ap (line_stop before n false) p) ∙ f)
 
-      by_may : (t : Bool) → may_be_word (b ∷ bs) ≡ t → behind is_word_byte (b ∷ bs) ≡ [] → line_stop before n w (solid_line n w ((b ∷ bs) ++ x)) ≡ Some (Fault line k)
+      by_may : (t : Bool) → may_be_word (b ∷ bs) ≡ t → behind is_word_byte (b ∷ bs) ≡ [] →
+          line_stop before n w (solid_line n w ((b ∷ bs) ++ x)) ≡ Some (Fault line k)
       by_may true m e =
           let is : solid_line n false (b ∷ bs) ≡ Unsure = rw (front-whole is_word_byte (b ∷ bs) e, e, m) refl in
           absurd (let j : Some Open ≡ Some (Fault line k) = sym (ap (line_stop before n false) is) ∙ f in cc)
@@ -231,34 +307,50 @@ module _ (before : List SolutionLine) (n : ℕ) (w : Bool) (x : List ℕ) (line 
           let is : solid_line n false (b ∷ bs) ≡ Other = rw (front-whole is_word_byte (b ∷ bs) e, e, m) refl in
           to_line Other Other is (solid_other n (b ∷ bs) (omega arith) e m x w) (λ g. g)
 
-      by_tail : (y : List ℕ) → behind is_word_byte (b ∷ bs) ≡ y → line_stop before n w (solid_line n w ((b ∷ bs) ++ x)) ≡ Some (Fault line k)
+      by_tail : (y : List ℕ) → behind is_word_byte (b ∷ bs) ≡ y →
+          line_stop before n w (solid_line n w ((b ∷ bs) ++ x)) ≡ Some (Fault line k)
       by_tail [] e = by_may (may_be_word (b ∷ bs)) refl e
       by_tail (d ∷ ds) e =
           let word : List ℕ = front is_word_byte (b ∷ bs) in
           let old : solid_line n false (b ∷ bs) ≡ by_word n false word (d ∷ ds) = rw e refl in
-          let new : solid_line n w ((b ∷ bs) ++ x) ≡ by_word n w word ((d ∷ ds) ++ x) = rw (front-more is_word_byte (b ∷ bs) x d ds e, behind-more is_word_byte (b ∷ bs) x d ds e, and_false (not w)) refl in
+          let new : solid_line n w ((b ∷ bs) ++ x) ≡ by_word n w word ((d ∷ ds) ++ x) =
+          rw (
+            front-more is_word_byte (b ∷ bs) x d ds e,
+            behind-more is_word_byte (b ∷ bs) x d ds e,
+            and_false (not w),
+          ) refl in
           to_line (by_word n false word (d ∷ ds)) (by_word n w word ((d ∷ ds) ++ x)) old new (word_stays word (d ∷ ds))
 
-  line_stays : (bs : List ℕ) → line_stop before n false (line_of n false bs) ≡ Some (Fault line k) → line_stop before n w (line_of n w (bs ++ x)) ≡ Some (Fault line k)
+  line_stays : (bs : List ℕ) → line_stop before n false (line_of n false bs) ≡ Some (Fault line k) →
+      line_stop before n w (line_of n w (bs ++ x)) ≡ Some (Fault line k)
   line_stays bs f = by_held (behind is_blank bs) refl
     where
-      by_held : (held : List ℕ) → behind is_blank bs ≡ held → line_stop before n w (solid_line n w (behind is_blank (bs ++ x))) ≡ Some (Fault line k)
-      by_held [] e = absurd (let j : Some Open ≡ Some (Fault line k) = sym (ap (λ (y : List ℕ). line_stop before n false (solid_line n false y)) e) ∙ f in cc)
+      by_held : (held : List ℕ) → behind is_blank bs ≡ held →
+          line_stop before n w (solid_line n w (behind is_blank (bs ++ x))) ≡ Some (Fault line k)
+      by_held [] e =
+          absurd (let j : Some Open ≡ Some (Fault line k) =
+          sym (ap (λ (y : List ℕ). line_stop before n false (solid_line n false y)) e) ∙ f in cc)
       by_held (b ∷ held) e =
-          ap (λ (y : List ℕ). line_stop before n w (solid_line n w y)) (behind-more is_blank bs x b held e) ∙ solid_stays b held (sym (ap (λ (y : List ℕ). line_stop before n false (solid_line n false y)) e) ∙ f)
+          ap (λ (y : List ℕ). line_stop before n w (solid_line n w y)) (behind-more is_blank bs x b held e)
+          ∙ solid_stays b held (sym (ap (λ (y : List ℕ). line_stop before n false (solid_line n false y)) e) ∙ f)
 
 -- ---- what is decided stays
 
 module _ (n : ℕ) (bs x : List ℕ) (w : Bool) (rest : List Line) (a : Result Solution TextFault) where
-  lines_stay : (front : List Line) (before : List SolutionLine) (m : ℕ) (s t : Bool) → judge_lines before m s (front ++ a_line n bs false ∷ []) ≡ Some a → judge_lines before m t (front ++ a_line n (bs ++ x) w ∷ rest) ≡ Some a
+  lines_stay : (front : List Line) (before : List SolutionLine) (m : ℕ) (s t : Bool) →
+      judge_lines before m s (front ++ a_line n bs false ∷ []) ≡ Some a →
+      judge_lines before m t (front ++ a_line n (bs ++ x) w ∷ rest) ≡ Some a
   unfolding judge_lines
   lines_stay [] before m s t h =
       let old : SolutionLine = line_of n false bs in
       let new : SolutionLine = line_of n w (bs ++ x) in
-      stopped_stays (line_stop before n false old) (line_stop before n w new) None (judge_lines (before ++ new ∷ []) n w rest) a refl (λ line k. line_stays before n w x line k bs) h
+      stopped_stays (line_stop before n false old) (line_stop before n w new) None
+      (judge_lines (before ++ new ∷ []) n w rest) a refl (λ line k. line_stays before n w x line k bs) h
   lines_stay (l ∷ front) before m s t h =
       let here : SolutionLine = line_of l.number l.whole l.bytes in
-      stopped_kept (line_stop before l.number l.whole here) (judge_lines (before ++ here ∷ []) l.number l.whole (front ++ a_line n bs false ∷ [])) (judge_lines (before ++ here ∷ []) l.number l.whole (front ++ a_line n (bs ++ x) w ∷ rest)) a
+      stopped_kept (line_stop before l.number l.whole here)
+      (judge_lines (before ++ here ∷ []) l.number l.whole (front ++ a_line n bs false ∷ []))
+      (judge_lines (before ++ here ∷ []) l.number l.whole (front ++ a_line n (bs ++ x) w ∷ rest)) a
       (lines_stay front (before ++ here ∷ []) l.number l.whole l.whole) h
 
 pub decided_stays : StaysDecided solution_decided

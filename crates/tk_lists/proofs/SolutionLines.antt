@@ -1,10 +1,14 @@
 -- Look-ups in the lines of a solution text.
-use Rattle.std.proofs.Common.{◌≡◌, ℕ, suc, ◌+◌, ◌<◌, ◌≤◌, leb, ltb, Option, Some, None, Bool, true, false, cond, not, ◌||◌, List, [], ◌∷◌, ◌++◌, length, map, ℤ, pos, negsuc, refl, sym, ap, ◌∙◌, append_assoc, arith}
+use Rattle.std.proofs.Common.{◌≡◌, ℕ, suc, ◌+◌, ◌<◌, ◌≤◌, leb, ltb, Option, Some, None, Bool, true, false, cond, not}
+use Rattle.std.proofs.Common.{◌||◌, List, [], ◌∷◌, ◌++◌, length, map, ℤ, pos, negsuc, refl, sym, ap, ◌∙◌, append_assoc}
+use Rattle.std.proofs.Common.{arith}
 use Rattle.std.proofs.lemmas.Bool.{le-leb, lt-leb, le-ltb}
 use Rattle.std.proofs.lemmas.List.{append-nil, length-append}
 use Rattle.tk_lists.specs.declared.solution_form.SolutionForm.{SolutionForm}
 use Rattle.tk_words.specs.Lex.{Token, integer}
-use Rattle.tk_lists.specs.Solution.{SolutionLine, Route, Cost, is_natural, cost_stop, trailing_stop, customer_stop, customers_stop, routes_on, routes_of, count_on, count_of, is_cost, has_cost, cost_on, cost_of}
+use Rattle.tk_lists.specs.Solution.{SolutionLine, Route, Cost, is_natural, cost_stop, trailing_stop, customer_stop}
+use Rattle.tk_lists.specs.Solution.{customers_stop, routes_on, routes_of, count_on, count_of, is_cost, has_cost}
+use Rattle.tk_lists.specs.Solution.{cost_on, cost_of}
 use Rattle.tk_lists.specs.SolutionReader.{Keeps, IsRoute, IsPriced}
 use Rattle.tk_lines.specs.Forms.{whole}
 use Rattle.tk_words.specs.declared.fault.TextKind.TheVariants as kinds
@@ -16,7 +20,8 @@ use Rattle.tk_lists.proofs.Lists.{numbers_more}
 
 pub routes_of-append : (xs ys : List SolutionLine) → routes_of (xs ++ ys) ≡ routes_of xs ++ routes_of ys
 routes_of-append [] ys = refl
-routes_of-append (x ∷ xs) ys = ap (λ (rs : List (List ℕ)). routes_on x ++ rs) (routes_of-append xs ys) ∙ sym (append_assoc (routes_on x) (routes_of xs) (routes_of ys))
+routes_of-append (x ∷ xs) ys = ap (λ (rs : List (List ℕ)). routes_on x ++ rs) (routes_of-append xs ys)
+    ∙ sym (append_assoc (routes_on x) (routes_of xs) (routes_of ys))
 
 pub count_of-append : (xs ys : List SolutionLine) → count_of (xs ++ ys) ≡ count_of xs + count_of ys
 count_of-append [] ys = omega arith
@@ -26,7 +31,8 @@ pub has_cost-append : (xs ys : List SolutionLine) → has_cost (xs ++ ys) ≡ (h
 has_cost-append [] ys = refl
 has_cost-append (x ∷ xs) ys = by_test (is_cost x) (has_cost-append xs ys)
   where
-    by_test : (t : Bool) → has_cost (xs ++ ys) ≡ (has_cost xs || has_cost ys) → (t || has_cost (xs ++ ys)) ≡ ((t || has_cost xs) || has_cost ys)
+    by_test : (t : Bool) → has_cost (xs ++ ys) ≡ (has_cost xs || has_cost ys) →
+        (t || has_cost (xs ++ ys)) ≡ ((t || has_cost xs) || has_cost ys)
     by_test true h = refl
     by_test false h = h
 
@@ -35,7 +41,8 @@ pub cost_of-append : (xs ys : List SolutionLine) → cost_of (xs ++ ys) ≡ cond
 cost_of-append [] ys = refl
 cost_of-append (x ∷ xs) ys = by_test (is_cost x) (cost_of-append xs ys)
   where
-    by_test : (t : Bool) → cost_of (xs ++ ys) ≡ cond (has_cost xs) (cost_of xs) (cost_of ys) → cond t (cost_on x) (cost_of (xs ++ ys)) ≡ cond (t || has_cost xs) (cond t (cost_on x) (cost_of xs)) (cost_of ys)
+    by_test : (t : Bool) → cost_of (xs ++ ys) ≡ cond (has_cost xs) (cost_of xs) (cost_of ys) →
+        cond t (cost_on x) (cost_of (xs ++ ys)) ≡ cond (t || has_cost xs) (cond t (cost_on x) (cost_of xs)) (cost_of ys)
     by_test true h = refl
     by_test false h = h
 
@@ -43,12 +50,14 @@ pub no_cost : (xs : List SolutionLine) → has_cost xs ≡ false → cost_of xs 
 no_cost [] h = refl
 no_cost (x ∷ xs) h = by_test (is_cost x) (no_cost xs) h
   where
-    by_test : (t : Bool) → (has_cost xs ≡ false → cost_of xs ≡ pos 0) → (t || has_cost xs) ≡ false → cond t (cost_on x) (cost_of xs) ≡ pos 0
+    by_test : (t : Bool) → (has_cost xs ≡ false → cost_of xs ≡ pos 0) → (t || has_cost xs) ≡ false →
+        cond t (cost_on x) (cost_of xs) ≡ pos 0
     by_test true rest h = absurd cc
     by_test false rest h = rest h
 
 -- a line of which nothing is kept
-pub keeps_line : (s : SolutionForm) (before : List SolutionLine) (l : SolutionLine) → routes_on l ≡ [] → count_on l ≡ 0 → is_cost l ≡ false → Keeps s before [] → Keeps s (before ++ l ∷ []) []
+pub keeps_line : (s : SolutionForm) (before : List SolutionLine) (l : SolutionLine) → routes_on l ≡ [] →
+    count_on l ≡ 0 → is_cost l ≡ false → Keeps s before [] → Keeps s (before ++ l ∷ []) []
 keeps_line s before l no_route no_customer plain k = record {
   routes = k.routes ∙ sym (routes_of-append before (l ∷ []) ∙ rw no_route (append-nil (routes_of before)));
   route = k.route;
@@ -66,7 +75,9 @@ keeps_line s before l no_route no_customer plain k = record {
     same false xs h = sym (no_cost xs h)
 
 -- a route that is whole
-pub keeps_route : (s t : SolutionForm) (before : List SolutionLine) (toks : List Token) → Keeps s before toks → has_cost before ≡ false → map (λ r. r.items) t.routes.items ≡ map (λ r. r.items) s.routes.items ++ s.route.items ∷ [] → t.route.items ≡ []
+pub keeps_route : (s t : SolutionForm) (before : List SolutionLine) (toks : List Token) → Keeps s before toks
+    → has_cost before ≡ false → map (λ r. r.items) t.routes.items ≡ map (λ r. r.items) s.routes.items ++ s.route.items
+    ∷ [] → t.route.items ≡ []
     → t.customers ≡ s.customers → t.priced ≡ s.priced → t.cost ≡ s.cost → Keeps t (before ++ Route toks ∷ []) []
 keeps_route s t before toks k unpriced routes route customers priced cost = record {
   routes = routes ∙ rw (k.routes, k.route, routes_of-append before (Route toks ∷ [])) refl;
@@ -82,14 +93,17 @@ nothing_before : (x y : Option Stop) → or_else x y ≡ None → (x ≡ None) �
 nothing_before None y h = (refl, h)
 nothing_before (Some s) y h = absurd cc
 
-pub customers_more : (k : ℕ) (ts : List Token) (t : Token) → customers_stop k ts ≡ None → customer_stop (k + length ts) t ≡ None → customers_stop k (ts ++ t ∷ []) ≡ None
-customers_more k [] t fine here = let h : customer_stop k t ≡ None = ap (λ (j : ℕ). customer_stop j t) (omega arith) ∙ here in rw h refl
+pub customers_more : (k : ℕ) (ts : List Token) (t : Token) → customers_stop k ts ≡ None →
+    customer_stop (k + length ts) t ≡ None → customers_stop k (ts ++ t ∷ []) ≡ None
+customers_more k [] t fine here = let h : customer_stop k t ≡ None = ap (λ (j : ℕ). customer_stop j t) (omega arith)
+    ∙ here in rw h refl
 customers_more k (x ∷ ts) t fine here =
     let n = nothing_before (customer_stop k x) (customers_stop (suc k) ts) fine in
     rw n.0 (customers_more (suc k) ts t n.1 (ap (λ (j : ℕ). customer_stop j t) (omega arith) ∙ here))
 
 -- the first customer at which something stops, stops the line
-pub customers_at : (k : ℕ) (ts more : List Token) (t : Token) (s : Stop) → customers_stop k ts ≡ None → customer_stop (k + length ts) t ≡ Some s → customers_stop k (ts ++ t ∷ more) ≡ Some s
+pub customers_at : (k : ℕ) (ts more : List Token) (t : Token) (s : Stop) → customers_stop k ts ≡ None →
+    customer_stop (k + length ts) t ≡ Some s → customers_stop k (ts ++ t ∷ more) ≡ Some s
 customers_at k [] more t s fine stop =
     let here : customer_stop k t ≡ Some s = ap (λ (j : ℕ). customer_stop j t) (omega arith) ∙ stop in
     rw here refl
@@ -97,7 +111,8 @@ customers_at k (x ∷ ts) more t s fine stop =
     let n = nothing_before (customer_stop k x) (customers_stop (suc k) ts) fine in
     rw n.0 (customers_at (suc k) ts more t s n.1 (ap (λ (j : ℕ). customer_stop j t) (omega arith) ∙ stop))
 
-customer_fine : (k n m : ℕ) (bs : List ℕ) → length bs ≤ 64 → integer bs ≡ Some (pos m) → m ≤ 4294967295 → k < ENTRY_LIMIT → customer_stop k (whole bs n) ≡ None
+customer_fine : (k n m : ℕ) (bs : List ℕ) → length bs ≤ 64 → integer bs ≡ Some (pos m) → m ≤ 4294967295 →
+    k < ENTRY_LIMIT → customer_stop k (whole bs n) ≡ None
 customer_fine k n m bs short is low few =
     let a : ltb 64 (length bs) ≡ false = le-ltb _ _ short in
     let b : leb m 4294967295 ≡ true = le-leb _ _ low in
@@ -106,9 +121,12 @@ customer_fine k n m bs short is low few =
     rw (a, is, z, b, c) refl
 
 -- one customer more
-pub keeps_customer : (s t : SolutionForm) (before : List SolutionLine) (toks : List Token) (n m : ℕ) (bs : List ℕ) → length bs ≤ 64 → integer bs ≡ Some (pos m) → m ≤ 4294967295 → s.customers < ENTRY_LIMIT
-    → t.routes ≡ s.routes → t.route.items ≡ s.route.items ++ m ∷ [] → t.customers ≡ s.customers + 1 → t.priced ≡ s.priced → t.cost ≡ s.cost
-    → Keeps s before toks → IsRoute before toks → Keeps t before (toks ++ whole bs n ∷ []) × IsRoute before (toks ++ whole bs n ∷ [])
+pub keeps_customer : (s t : SolutionForm) (before : List SolutionLine) (toks : List Token) (n m : ℕ) (bs : List ℕ)
+    → length bs ≤ 64 → integer bs ≡ Some (pos m) → m ≤ 4294967295 → s.customers < ENTRY_LIMIT
+    → t.routes ≡ s.routes → t.route.items ≡ s.route.items ++ m ∷ [] → t.customers ≡ s.customers + 1
+    → t.priced ≡ s.priced → t.cost ≡ s.cost
+    → Keeps s before toks → IsRoute before toks → Keeps t before (toks ++ whole bs n ∷ [])
+    × IsRoute before (toks ++ whole bs n ∷ [])
 keeps_customer s t before toks n m bs short is low few routes route customers priced cost k may = (
   record {
     routes = rw routes k.routes;
@@ -120,21 +138,30 @@ keeps_customer s t before toks n m bs short is low few routes route customers pr
   record {
     priced = may.priced;
     may = may.may;
-    fine = customers_more (count_of before) toks (whole bs n) may.fine (customer_fine _ n m bs short is low (omega (arith, k.customers)));
+    fine =
+        customers_more (count_of before) toks (whole bs n) may.fine
+        (customer_fine _ n m bs short is low (omega (arith, k.customers)));
   },
 )
 
 -- ---- the cost
 
-natural_line : (t : Token) (ts : List Token) (n : ℕ) (ended : Bool) → ltb 64 (length t.bytes) ≡ false → t.whole ≡ true → is_natural (integer t.bytes) ≡ true → cost_stop n ended (t ∷ ts) ≡ trailing_stop n ts
+natural_line : (t : Token) (ts : List Token) (n : ℕ) (ended : Bool) → ltb 64 (length t.bytes) ≡ false → t.whole ≡ true →
+    is_natural (integer t.bytes) ≡ true → cost_stop n ended (t ∷ ts) ≡ trailing_stop n ts
 natural_line t ts n ended short all is = by_value (integer t.bytes) is
   where
     by_value : (z : Option ℤ) → is_natural z ≡ true
-        → or_else (cond (ltb 64 (length t.bytes)) (Some (Fault t.line kinds.TooLong)) (cond (not t.whole) (Some Open) (cond (is_none z) (Some (Fault t.line kinds.BadNumber)) (cond (not (is_natural z)) (Some (Fault t.line kinds.OutOfLimit)) None)))) (trailing_stop n ts) ≡ trailing_stop n ts
+        → or_else
+        (cond (ltb 64 (length t.bytes)) (Some (Fault t.line kinds.TooLong))
+        (cond (not t.whole) (Some Open)
+        (cond (is_none z) (Some (Fault t.line kinds.BadNumber))
+        (cond (not (is_natural z)) (Some (Fault t.line kinds.OutOfLimit)) None))))
+        (trailing_stop n ts) ≡ trailing_stop n ts
     by_value None h = absurd cc
     by_value (Some z) h = rw (short, all, h) refl
 
-pub keeps_cost : (s t : SolutionForm) (before : List SolutionLine) (n : ℕ) (bs : List ℕ) (z : ℤ) → length bs ≤ 64 → integer bs ≡ Some z → lt_z z (pos 0) ≡ false
+pub keeps_cost : (s t : SolutionForm) (before : List SolutionLine) (n : ℕ) (bs : List ℕ) (z : ℤ) → length bs ≤ 64
+    → integer bs ≡ Some z → lt_z z (pos 0) ≡ false
     → t.routes ≡ s.routes → t.route ≡ s.route → t.customers ≡ s.customers → t.priced ≡ true → t.cost ≡ z
     → Keeps s before [] → has_cost before ≡ false → IsPriced t before n (whole bs n ∷ [])
 keeps_cost s t before n bs z short is low routes route customers priced cost k unpriced =

@@ -1,5 +1,6 @@
 -- A reader of a solution text, byte by byte.
-use Rattle.std.proofs.Common.{◌≡◌, ℕ, ◌+◌, true, false, eqb, List, [], ◌∷◌, ◌++◌, map, Some, None, Ok, Err, refl, sym, ap, ◌∙◌, append_assoc}
+use Rattle.std.proofs.Common.{◌≡◌, ℕ, ◌+◌, true, false, eqb, List, [], ◌∷◌, ◌++◌, map, Some, None, Ok, Err, refl, sym}
+use Rattle.std.proofs.Common.{ap, ◌∙◌, append_assoc}
 use Rattle.std.proofs.lemmas.List.{append-nil}
 use Rattle.tk_words.specs.declared.fault.TextKind.{TextKind}
 use Rattle.tk_words.specs.declared.fault.TextKind.TheVariants as kinds
@@ -14,7 +15,8 @@ use Rattle.tk_lists.specs.Solution.{has_cost, line_stop, at_end, judge_lines, so
 use Rattle.tk_lists.specs.SolutionReader.{Stands, Went, StopsAt, HasEnded, Fed, rest_of, from}
 use Rattle.tk_lines.proofs.Sections.SectionEnds.{first_line}
 use Rattle.tk_lines.proofs.LineSteps.{line_behind-byte, line_behind-LF}
-use Rattle.tk_lists.proofs.SolutionPlaces.{from_byte, from_stops, from_LF, from_LF_stops, from_end, from_end_stops, from_open, waits}
+use Rattle.tk_lists.proofs.SolutionPlaces.{from_byte, from_stops, from_LF, from_LF_stops, from_end, from_end_stops}
+use Rattle.tk_lists.proofs.SolutionPlaces.{from_open, waits}
 
 -- before the first byte
 pub fed_none : (s : SolutionReader) → s.line ≡ 1 → s.place ≡ places.Start → Stands s [] [] → Fed s []
@@ -30,45 +32,60 @@ fed_none s first start stands = record {
 -- where nothing is decided yet
 pub fed_open : (s : SolutionReader) (bs : List ℕ) → Fed s bs → solution_decided false bs ≡ None
 fed_open s bs fed =
-    ap (solution_decided false) (sym (append-nil bs)) ∙ fed.same false [] ∙ from_open fed.before (rest_of s fed.toks) s.line (waits s.form fed.before s.held s.line fed.toks s.place fed.stands)
+    ap (solution_decided false) (sym (append-nil bs)) ∙ fed.same false []
+    ∙ from_open fed.before (rest_of s fed.toks) s.line
+    (waits s.form fed.before s.held s.line fed.toks s.place fed.stands)
 
 module _ (s t : SolutionReader) (bs : List ℕ) (fed : Fed s bs) where
-  pub fed_byte : (b : ℕ) → eqb b LF ≡ false → t.line ≡ s.line → Went fed.before b (rest_of s fed.toks) t → Fed t (bs ++ b ∷ [])
+  pub fed_byte : (b : ℕ) → eqb b LF ≡ false → t.line ≡ s.line → Went fed.before b (rest_of s fed.toks) t →
+      Fed t (bs ++ b ∷ [])
   fed_byte b other line went = record {
     line = line ∙ fed.line ∙ sym (line_behind-byte bs b other);
     before = fed.before;
     toks = went.toks;
     stands = went.stands;
-    same = λ e more. ap (solution_decided e) (append_assoc bs (b ∷ []) more) ∙ fed.same e (b ∷ more) ∙ from_byte fed.before (rest_of s fed.toks) s.line (rest_of t went.toks) e b more other went.same
+    same = λ e more. ap (solution_decided e) (append_assoc bs (b ∷ []) more) ∙ fed.same e (b ∷ more)
+        ∙ from_byte fed.before (rest_of s fed.toks) s.line (rest_of t went.toks) e b more other went.same
         ∙ ap (λ (n : ℕ). from fed.before (rest_of t went.toks) (lines e n more)) (sym line);
   }
 
-  pub fed_LF : t.line ≡ s.line + 1 → t.place ≡ places.Start → HasEnded fed.before s.line (rest_of s fed.toks [] true) t.form → Fed t (bs ++ LF ∷ [])
+  pub fed_LF : t.line ≡ s.line + 1 → t.place ≡ places.Start →
+      HasEnded fed.before s.line (rest_of s fed.toks [] true) t.form → Fed t (bs ++ LF ∷ [])
   fed_LF line start ended = record {
     line = line ∙ ap (λ (n : ℕ). n + 1) fed.line ∙ sym (line_behind-LF bs);
     before = fed.before ++ rest_of s fed.toks [] true ∷ [];
     toks = [];
     stands = rw start (refl, ended.keeps);
-    same = λ e more. ap (solution_decided e) (append_assoc bs (LF ∷ []) more) ∙ fed.same e (LF ∷ more) ∙ from_LF fed.before (rest_of s fed.toks) s.line e more ended.fine ∙ rw (line, start) refl;
+    same = λ e more. ap (solution_decided e) (append_assoc bs (LF ∷ []) more) ∙ fed.same e (LF ∷ more)
+        ∙ from_LF fed.before (rest_of s fed.toks) s.line e more ended.fine ∙ rw (line, start) refl;
   }
 
 module _ (s : SolutionReader) (bs : List ℕ) (fed : Fed s bs) (k : TextKind) where
-  pub byte_stops : (b : ℕ) → eqb b LF ≡ false → StopsAt fed.before s.line b (rest_of s fed.toks) k → Decides solution_decided (bs ++ b ∷ []) (Err (record { line = s.line; kind = k }))
+  pub byte_stops : (b : ℕ) → eqb b LF ≡ false → StopsAt fed.before s.line b (rest_of s fed.toks) k →
+      Decides solution_decided (bs ++ b ∷ []) (Err (record { line = s.line; kind = k }))
   byte_stops b other stops e more =
-      ap (solution_decided e) (append_assoc bs (b ∷ []) more) ∙ fed.same e (b ∷ more) ∙ from_stops fed.before (rest_of s fed.toks) s.line e b more k other stops
+      ap (solution_decided e) (append_assoc bs (b ∷ []) more) ∙ fed.same e (b ∷ more)
+      ∙ from_stops fed.before (rest_of s fed.toks) s.line e b more k other stops
 
-  pub LF_stops : line_stop fed.before s.line true (rest_of s fed.toks [] true) ≡ Some (Fault s.line k) → Decides solution_decided (bs ++ LF ∷ []) (Err (record { line = s.line; kind = k }))
+  pub LF_stops : line_stop fed.before s.line true (rest_of s fed.toks [] true) ≡ Some (Fault s.line k) →
+      Decides solution_decided (bs ++ LF ∷ []) (Err (record { line = s.line; kind = k }))
   LF_stops stop e more =
-      ap (solution_decided e) (append_assoc bs (LF ∷ []) more) ∙ fed.same e (LF ∷ more) ∙ from_LF_stops fed.before (rest_of s fed.toks) s.line e more k stop
+      ap (solution_decided e) (append_assoc bs (LF ∷ []) more) ∙ fed.same e (LF ∷ more)
+      ∙ from_LF_stops fed.before (rest_of s fed.toks) s.line e more k stop
 
-  pub end_stops : line_stop fed.before s.line true (rest_of s fed.toks [] true) ≡ Some (Fault s.line k) → DecidesEnded solution_decided bs (Err (record { line = s.line; kind = k }))
-  end_stops stop = ap (solution_decided true) (sym (append-nil bs)) ∙ fed.same true [] ∙ from_end_stops fed.before (rest_of s fed.toks) s.line k stop
+  pub end_stops : line_stop fed.before s.line true (rest_of s fed.toks [] true) ≡ Some (Fault s.line k) →
+      DecidesEnded solution_decided bs (Err (record { line = s.line; kind = k }))
+  end_stops stop = ap (solution_decided true) (sym (append-nil bs)) ∙ fed.same true []
+      ∙ from_end_stops fed.before (rest_of s fed.toks) s.line k stop
 
-module _ (s : SolutionReader) (bs : List ℕ) (fed : Fed s bs) (t : SolutionForm) (ended : HasEnded fed.before s.line (rest_of s fed.toks [] true) t) where
+module _ (s : SolutionReader) (bs : List ℕ) (fed : Fed s bs) (t : SolutionForm)
+    (ended : HasEnded fed.before s.line (rest_of s fed.toks [] true) t) where
   at_the_end : solution_decided true bs ≡ at_end (fed.before ++ rest_of s fed.toks [] true ∷ []) s.line true
-  at_the_end = ap (solution_decided true) (sym (append-nil bs)) ∙ fed.same true [] ∙ from_end fed.before (rest_of s fed.toks) s.line ended.fine
+  at_the_end = ap (solution_decided true) (sym (append-nil bs)) ∙ fed.same true []
+      ∙ from_end fed.before (rest_of s fed.toks) s.line ended.fine
 
-  pub end_missing : t.priced ≡ false → DecidesEnded solution_decided bs (Err (record { line = s.line; kind = kinds.Missing words.Cost }))
+  pub end_missing : t.priced ≡ false →
+      DecidesEnded solution_decided bs (Err (record { line = s.line; kind = kinds.Missing words.Cost }))
   end_missing unpriced =
       let none : has_cost (fed.before ++ rest_of s fed.toks [] true ∷ []) ≡ false = sym ended.keeps.priced ∙ unpriced in
       at_the_end ∙ rw none refl

@@ -1,12 +1,14 @@
 -- The word of a line of a solution text.
-use Rattle.std.proofs.Common.{◌≡◌, ℕ, suc, ◌<◌, ◌≤◌, Bool, true, false, cond, eqb, not, ◌&&◌, ◌||◌, List, [], ◌∷◌, ◌++◌, length, take, Some, refl, sym, ap, ◌∙◌, append_assoc, arith}
+use Rattle.std.proofs.Common.{◌≡◌, ℕ, suc, ◌<◌, ◌≤◌, Bool, true, false, cond, eqb, not, ◌&&◌, ◌||◌, List, [], ◌∷◌, ◌++◌}
+use Rattle.std.proofs.Common.{length, take, Some, refl, sym, ap, ◌∙◌, append_assoc, arith}
 use Rattle.std.specs.Prelude.{codes}
 use Rattle.std.specs.Char.{to_ascii_uppercase}
 use Rattle.std.proofs.lemmas.List.{append-nil, length-append, length-take}
 use Rattle.tk_lines.specs.Pieces.{Stop, first_at}
 use Rattle.tk_words.specs.Lex.{tokens_of, after_word, is_word_byte, is_empty, front, behind}
 use Rattle.tk_words.specs.Words.{spells}
-use Rattle.tk_lists.specs.Solution.{Head, Short, Bad, Behind, route_head, route_line, route_tests, line_stop, Cost, SolutionLine, Unsure, Other, begins, may_be_word, by_word, solid_line}
+use Rattle.tk_lists.specs.Solution.{Head, Short, Bad, Behind, route_head, route_line, route_tests, line_stop, Cost}
+use Rattle.tk_lists.specs.Solution.{SolutionLine, Unsure, Other, begins, may_be_word, by_word, solid_line}
 use Rattle.tk_lists.specs.SolutionReader.{IsLineWord}
 use Rattle.tk_lines.proofs.Sections.MiddleOfSection.{tokens_of-none}
 use Rattle.tk_lines.proofs.Headers.ByteRuns.{behind-all, front-all, front-whole}
@@ -15,7 +17,8 @@ spells_length : (xs ys : List ℕ) → spells xs ys ≡ true → length xs ≡ l
 spells_length [] [] h = refl
 spells_length [] (y ∷ ys) h = absurd cc
 spells_length (x ∷ xs) [] h = absurd cc
-spells_length (x ∷ xs) (y ∷ ys) h = ap suc (spells_length xs ys (second (eqb (to_ascii_uppercase x) y) (spells xs ys) h))
+spells_length (x ∷ xs) (y ∷ ys) h =
+    ap suc (spells_length xs ys (second (eqb (to_ascii_uppercase x) y) (spells xs ys) h))
   where
     second : (s t : Bool) → (s && t) ≡ true → t ≡ true
     second true t h = h
@@ -27,7 +30,8 @@ begins_longer [] zs text h = absurd cc
 begins_longer (x ∷ xs) zs [] h = refl
 begins_longer (x ∷ xs) zs (y ∷ text) h = by_test (eqb (to_ascii_uppercase x) y) (begins_longer xs zs text) h
   where
-    by_test : (t : Bool) → (begins xs text ≡ false → begins (xs ++ zs) text ≡ false) → (t && begins xs text) ≡ false → (t && begins (xs ++ zs) text) ≡ false
+    by_test : (t : Bool) → (begins xs text ≡ false → begins (xs ++ zs) text ≡ false) → (t && begins xs text) ≡ false →
+        (t && begins (xs ++ zs) text) ≡ false
     by_test true rest h = rest h
     by_test false rest h = refl
 
@@ -36,7 +40,8 @@ spells_begins [] text h = absurd cc
 spells_begins (x ∷ xs) [] h = refl
 spells_begins (x ∷ xs) (y ∷ text) h = by_test (eqb (to_ascii_uppercase x) y) (spells_begins xs text) h
   where
-    by_test : (t : Bool) → (begins xs text ≡ false → spells xs text ≡ false) → (t && begins xs text) ≡ false → (t && spells xs text) ≡ false
+    by_test : (t : Bool) → (begins xs text ≡ false → spells xs text ≡ false) → (t && begins xs text) ≡ false →
+        (t && spells xs text) ≡ false
     by_test true rest h = rest h
     by_test false rest h = refl
 
@@ -49,9 +54,11 @@ pub front_short : (held : List ℕ) → may_be_word held ≡ true → length hel
 front_short held h = by_test (begins held (codes "ROUTE")) (begins held (codes "COST")) refl refl h
   where
     at_most : (text : List ℕ) → length text ≤ 5 → begins held text ≡ true → length held < 64
-    at_most text few is = omega (arith, few, spells_length held (take (length held) text) is, length-take (length held) text)
+    at_most text few is =
+        omega (arith, few, spells_length held (take (length held) text) is, length-take (length held) text)
 
-    by_test : (s t : Bool) → begins held (codes "ROUTE") ≡ s → begins held (codes "COST") ≡ t → (s || t) ≡ true → length held < 64
+    by_test : (s t : Bool) → begins held (codes "ROUTE") ≡ s → begins held (codes "COST") ≡ t → (s || t) ≡ true →
+        length held < 64
     by_test true t p q h = at_most (codes "ROUTE") (omega arith) p
     by_test false true p q h = at_most (codes "COST") (omega arith) q
     by_test false false p q h = absurd cc
@@ -64,30 +71,38 @@ same_other : (t s : Bool) (l : SolutionLine) → s ≡ false → l ≡ Other →
 same_other true s l h is = rw h refl
 same_other false s l h is = is
 
-by_word-other : (n : ℕ) (w : Bool) (word tail : List ℕ) → spells word (codes "ROUTE") ≡ false → spells word (codes "COST") ≡ false → by_word n w word tail ≡ Other
+by_word-other : (n : ℕ) (w : Bool) (word tail : List ℕ) → spells word (codes "ROUTE") ≡ false →
+    spells word (codes "COST") ≡ false → by_word n w word tail ≡ Other
 by_word-other n w word tail p q = rw (p, q) refl
 
 -- a line whose word is neither Route nor Cost, whatever follows
-pub solid_other : (n : ℕ) (held : List ℕ) → 0 < length held → behind is_word_byte held ≡ [] → may_be_word held ≡ false → (bs : List ℕ) (w : Bool) → solid_line n w (held ++ bs) ≡ Other
+pub solid_other : (n : ℕ) (held : List ℕ) → 0 < length held → behind is_word_byte held ≡ [] → may_be_word held ≡ false →
+    (bs : List ℕ) (w : Bool) → solid_line n w (held ++ bs) ≡ Other
 solid_other n [] some word none bs w = absurd (omega (arith, some))
 solid_other n (b ∷ held) some word none bs w =
     let no_route = (or_none _ _ none).0 in
     let no_cost = (or_none _ _ none).1 in
     let z : List ℕ = front is_word_byte bs in
     let word_is : front is_word_byte ((b ∷ held) ++ bs) ≡ (b ∷ held) ++ z = front-all is_word_byte (b ∷ held) bs word in
-    let tail_is : behind is_word_byte ((b ∷ held) ++ bs) ≡ behind is_word_byte bs = behind-all is_word_byte (b ∷ held) bs word in
+    let tail_is : behind is_word_byte ((b ∷ held) ++ bs) ≡ behind is_word_byte bs =
+    behind-all is_word_byte (b ∷ held) bs word in
     let r = begins_longer (b ∷ held) z (codes "ROUTE") no_route in
     let c = begins_longer (b ∷ held) z (codes "COST") no_cost in
-    rw (word_is, tail_is) (same_other (not w && is_empty (behind is_word_byte bs)) (may_be_word ((b ∷ held) ++ z)) _ (rw (r, c) refl)
-    (by_word-other n w ((b ∷ held) ++ z) (behind is_word_byte bs) (spells_begins ((b ∷ held) ++ z) (codes "ROUTE") r) (spells_begins ((b ∷ held) ++ z) (codes "COST") c)))
+    rw (word_is, tail_is)
+    (same_other (not w && is_empty (behind is_word_byte bs)) (may_be_word ((b ∷ held) ++ z)) _ (rw (r, c) refl)
+    (by_word-other n w ((b ∷ held) ++ z) (behind is_word_byte bs) (spells_begins ((b ∷ held) ++ z) (codes "ROUTE") r)
+    (spells_begins ((b ∷ held) ++ z) (codes "COST") c)))
 
 -- a line whose word has ended before a byte
-pub solid_ended : (n : ℕ) (held : List ℕ) (b : ℕ) → behind is_word_byte held ≡ [] → is_word_byte b ≡ false → (bs : List ℕ) (w : Bool) → solid_line n w (held ++ b ∷ bs) ≡ by_word n w held (b ∷ bs)
+pub solid_ended : (n : ℕ) (held : List ℕ) (b : ℕ) → behind is_word_byte held ≡ [] → is_word_byte b ≡ false →
+    (bs : List ℕ) (w : Bool) → solid_line n w (held ++ b ∷ bs) ≡ by_word n w held (b ∷ bs)
 solid_ended n [] b word ends bs w = rw (ends, and_no (not w)) refl
 solid_ended n (c ∷ held) b word ends bs w =
     let none : front is_word_byte (b ∷ bs) ≡ [] = rw ends refl in
-    let word_is : front is_word_byte ((c ∷ held) ++ b ∷ bs) ≡ c ∷ held = front-all is_word_byte (c ∷ held) (b ∷ bs) word ∙ rw none (append-nil (c ∷ held)) in
-    let tail_is : behind is_word_byte ((c ∷ held) ++ b ∷ bs) ≡ b ∷ bs = behind-all is_word_byte (c ∷ held) (b ∷ bs) word ∙ rw ends refl in
+    let word_is : front is_word_byte ((c ∷ held) ++ b ∷ bs) ≡ c ∷ held = front-all is_word_byte (c ∷ held) (b ∷ bs) word
+    ∙ rw none (append-nil (c ∷ held)) in
+    let tail_is : behind is_word_byte ((c ∷ held) ++ b ∷ bs) ≡ b ∷ bs = behind-all is_word_byte (c ∷ held) (b ∷ bs) word
+    ∙ rw ends refl in
     rw (word_is, tail_is, and_no (not w)) refl
 
 -- a line whose word ends it
@@ -96,25 +111,34 @@ solid_whole n [] word = absurd (omega (arith, word.0))
 solid_whole n (b ∷ t) word = rw (front-whole is_word_byte (b ∷ t) word.1.0, word.1.0) refl
 
 -- a byte more of a word
-pub word_goes_on : (held : List ℕ) (b : ℕ) → behind is_word_byte held ≡ [] → is_word_byte b ≡ true → behind is_word_byte (held ++ b ∷ []) ≡ []
+pub word_goes_on : (held : List ℕ) (b : ℕ) → behind is_word_byte held ≡ [] → is_word_byte b ≡ true →
+    behind is_word_byte (held ++ b ∷ []) ≡ []
 word_goes_on held b word is = behind-all is_word_byte held (b ∷ []) word ∙ rw is refl
 
-pub grown_other : (n : ℕ) (held : List ℕ) (b : ℕ) → behind is_word_byte held ≡ [] → is_word_byte b ≡ true → may_be_word (held ++ b ∷ []) ≡ false → (bs : List ℕ) (w : Bool) → solid_line n w (held ++ b ∷ bs) ≡ Other
+pub grown_other : (n : ℕ) (held : List ℕ) (b : ℕ) → behind is_word_byte held ≡ [] → is_word_byte b ≡ true →
+    may_be_word (held ++ b ∷ []) ≡ false → (bs : List ℕ) (w : Bool) → solid_line n w (held ++ b ∷ bs) ≡ Other
 grown_other n held b word is none bs w =
-    ap (solid_line n w) (sym (append_assoc held (b ∷ []) bs)) ∙ solid_other n (held ++ b ∷ []) (omega (arith, length-append held (b ∷ []))) (word_goes_on held b word is) none bs w
+    ap (solid_line n w) (sym (append_assoc held (b ∷ []) bs))
+    ∙ solid_other n (held ++ b ∷ []) (omega (arith, length-append held (b ∷ [])))
+    (word_goes_on held b word is) none bs w
 
 module _ (n : ℕ) (held : List ℕ) (b : ℕ) (word : behind is_word_byte held ≡ []) (ends : is_word_byte b ≡ false) where
-  pub ended_route : spells held (codes "ROUTE") ≡ true → (bs : List ℕ) (w : Bool) → solid_line n w (held ++ b ∷ bs) ≡ route_line n w (route_head (b ∷ bs))
+  pub ended_route : spells held (codes "ROUTE") ≡ true → (bs : List ℕ) (w : Bool) →
+      solid_line n w (held ++ b ∷ bs) ≡ route_line n w (route_head (b ∷ bs))
   ended_route is bs w = solid_ended n held b word ends bs w ∙ rw is refl
 
-  pub ended_cost : spells held (codes "ROUTE") ≡ false → spells held (codes "COST") ≡ true → (bs : List ℕ) (w : Bool) → solid_line n w (held ++ b ∷ bs) ≡ Cost (tokens_of w n (after_word (b ∷ bs)))
+  pub ended_cost : spells held (codes "ROUTE") ≡ false → spells held (codes "COST") ≡ true → (bs : List ℕ) (w : Bool) →
+      solid_line n w (held ++ b ∷ bs) ≡ Cost (tokens_of w n (after_word (b ∷ bs)))
   ended_cost no_route is bs w = solid_ended n held b word ends bs w ∙ rw (no_route, is) refl
 
-  pub ended_other : spells held (codes "ROUTE") ≡ false → spells held (codes "COST") ≡ false → (bs : List ℕ) (w : Bool) → solid_line n w (held ++ b ∷ bs) ≡ Other
-  ended_other no_route no_cost bs w = solid_ended n held b word ends bs w ∙ by_word-other n w held (b ∷ bs) no_route no_cost
+  pub ended_other : spells held (codes "ROUTE") ≡ false → spells held (codes "COST") ≡ false →
+      (bs : List ℕ) (w : Bool) → solid_line n w (held ++ b ∷ bs) ≡ Other
+  ended_other no_route no_cost bs w = solid_ended n held b word ends bs w
+      ∙ by_word-other n w held (b ∷ bs) no_route no_cost
 
 -- a Route line may not stand here
-pub route_stops : (before : List SolutionLine) (n : ℕ) (w : Bool) (s : Stop) (h : Head) → first_at n (route_tests before) ≡ Some s → line_stop before n w (route_line n w h) ≡ Some s
+pub route_stops : (before : List SolutionLine) (n : ℕ) (w : Bool) (s : Stop) (h : Head) →
+    first_at n (route_tests before) ≡ Some s → line_stop before n w (route_line n w h) ≡ Some s
 route_stops before n w s Short stop = rw stop refl
 route_stops before n w s Bad stop = rw stop refl
 route_stops before n w s (Behind bs) stop = rw stop refl
@@ -123,8 +147,10 @@ module _ (n : ℕ) (held : List ℕ) (word : IsLineWord held) where
   pub whole_route : spells held (codes "ROUTE") ≡ true → solid_line n true held ≡ route_line n true (route_head [])
   whole_route is = solid_whole n held word ∙ rw is refl
 
-  pub whole_cost : spells held (codes "ROUTE") ≡ false → spells held (codes "COST") ≡ true → solid_line n true held ≡ Cost []
+  pub whole_cost : spells held (codes "ROUTE") ≡ false → spells held (codes "COST") ≡ true →
+      solid_line n true held ≡ Cost []
   whole_cost no_route is = solid_whole n held word ∙ rw (no_route, is, tokens_of-none true n) refl
 
-  pub whole_other : spells held (codes "ROUTE") ≡ false → spells held (codes "COST") ≡ false → solid_line n true held ≡ Other
+  pub whole_other : spells held (codes "ROUTE") ≡ false → spells held (codes "COST") ≡ false →
+      solid_line n true held ≡ Other
   whole_other no_route no_cost = solid_whole n held word ∙ by_word-other n true held [] no_route no_cost

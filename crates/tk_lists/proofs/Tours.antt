@@ -1,5 +1,7 @@
 -- What a tour's form keeps, piece by piece and entry by entry.
-use Rattle.std.proofs.Common.{◌≡◌, ℕ, ◌<◌, ◌≤◌, Bool, true, false, not, ◌&&◌, ◌||◌, eqb, leb, ltb, List, [], ◌∷◌, ◌++◌, length, Option, Some, None, ℤ, pos, negsuc, SFits, w64, to_z, of_z, refl, sym, ap, subst, ◌∙◌, append_assoc, arith}
+use Rattle.std.proofs.Common.{◌≡◌, ℕ, ◌<◌, ◌≤◌, Bool, true, false, not, ◌&&◌, ◌||◌, eqb, leb, ltb, List, [], ◌∷◌, ◌++◌}
+use Rattle.std.proofs.Common.{length, Option, Some, None, ℤ, pos, negsuc, SFits, w64, to_z, of_z, refl, sym, ap, subst}
+use Rattle.std.proofs.Common.{◌∙◌, append_assoc, arith}
 use Rattle.std.specs.Prelude.{codes}
 use Rattle.std.proofs.lemmas.Bool.{eqb-true, le-leb, lt-leb, le-ltb}
 use Rattle.std.proofs.lemmas.Int.{to_z-of_z}
@@ -21,82 +23,138 @@ use Rattle.tk_lines.specs.Lists.{entries, trailing_stop, AreEntries}
 use Rattle.tk_lists.specs.Tour.{entry_stop, entries_stop, tour_header, tour_section, tour_format}
 use Rattle.tk_lists.specs.TourForm.{IsSeen, TourHolds, TourWants, IsNext, IsOut}
 use Rattle.tk_lines.proofs.Pieces.PieceLookups.{has-kept, has-new, tokens_in-new, tokens_in-header, tokens_in-none}
-use Rattle.tk_lists.proofs.Lists.{are_more, entries_all, entries_ended, fine_more, fine_none, numbers_more, length-numbers, list_stops, list_ended, list_eof, list_open, list_covers, entry_long, entry_open}
+use Rattle.tk_lists.proofs.Lists.{are_more, entries_all, entries_ended, fine_more, fine_none, numbers_more}
+use Rattle.tk_lists.proofs.Lists.{length-numbers, list_stops, list_ended, list_eof, list_open, list_covers, entry_long}
+use Rattle.tk_lists.proofs.Lists.{entry_open}
 use Rattle.tk_lines.proofs.Sections.ListTokens.{long_goes, open_goes}
 
 -- ---- headers
 
-module _ (s s' : TourForm) (before : List Piece) (word : Keyword) (v : List ℕ) (n : ℕ) (h : TourHolds s before) (cities : s'.cities.items ≡ s.cities.items) where
+module _ (s s' : TourForm) (before : List Piece) (word : Keyword) (v : List ℕ) (n : ℕ) (h : TourHolds s before)
+    (cities : s'.cities.items ≡ s.cities.items) where
   -- a header that is no section, with the words that it leaves
-  pub holds_header : IsSeen s'.seen (before ++ a_header word v n) → s'.seen.section ≡ s.seen.section → has words.TourSection (a_header word v n) ≡ false → TourHolds s' (before ++ a_header word v n)
+  pub holds_header : IsSeen s'.seen (before ++ a_header word v n) → s'.seen.section ≡ s.seen.section →
+      has words.TourSection (a_header word v n) ≡ false → TourHolds s' (before ++ a_header word v n)
   holds_header seen section other = record {
     seen = seen;
     section = has-kept words.TourSection before (a_header word v n) other ∙ h.section ∙ sym section;
-    cities = cities ∙ h.cities ∙ ap (λ (ts : List Token). numbers_of (entries ts)) (sym (tokens_in-header words.TourSection before word v n));
+    cities = cities ∙ h.cities
+        ∙ ap (λ (ts : List Token). numbers_of (entries ts)) (sym (tokens_in-header words.TourSection before word v n));
   }
 
 module _ (before : List Piece) (v : List ℕ) (n : ℕ) (w w' : TourWords) (h : IsSeen w before) where
   pub seen_name : w' ≡ record w { name = true } → IsSeen w' (before ++ a_header words.Name v n)
-  seen_name e = rw e (record { name = has-new words.Name before _ refl; kind = has-kept words.Type before _ refl ∙ h.kind; dimension = has-kept words.Dimension before _ refl ∙ h.dimension })
+  seen_name e =
+      rw e
+      (record {
+        name = has-new words.Name before _ refl;
+        kind = has-kept words.Type before _ refl ∙ h.kind;
+        dimension = has-kept words.Dimension before _ refl ∙ h.dimension;
+      })
 
   pub seen_kind : w' ≡ record w { kind = true } → IsSeen w' (before ++ a_header words.Type v n)
-  seen_kind e = rw e (record { name = has-kept words.Name before _ refl ∙ h.name; kind = has-new words.Type before _ refl; dimension = has-kept words.Dimension before _ refl ∙ h.dimension })
+  seen_kind e =
+      rw e
+      (record {
+        name = has-kept words.Name before _ refl ∙ h.name;
+        kind = has-new words.Type before _ refl;
+        dimension = has-kept words.Dimension before _ refl ∙ h.dimension;
+      })
 
   pub seen_dimension : w' ≡ record w { dimension = true } → IsSeen w' (before ++ a_header words.Dimension v n)
-  seen_dimension e = rw e (record { name = has-kept words.Name before _ refl ∙ h.name; kind = has-kept words.Type before _ refl ∙ h.kind; dimension = has-new words.Dimension before _ refl })
+  seen_dimension e =
+      rw e
+      (record {
+        name = has-kept words.Name before _ refl ∙ h.name;
+        kind = has-kept words.Type before _ refl ∙ h.kind;
+        dimension = has-new words.Dimension before _ refl;
+      })
 
   pub seen_comment : IsSeen w (before ++ a_header words.Comment v n)
-  seen_comment = record { name = has-kept words.Name before _ refl ∙ h.name; kind = has-kept words.Type before _ refl ∙ h.kind; dimension = has-kept words.Dimension before _ refl ∙ h.dimension }
+  seen_comment =
+      record {
+        name = has-kept words.Name before _ refl ∙ h.name;
+        kind = has-kept words.Type before _ refl ∙ h.kind;
+        dimension = has-kept words.Dimension before _ refl ∙ h.dimension;
+      }
 
 -- a header is taken
-module _ (s : TourForm) (b : Bool) (before : List Piece) (v : List ℕ) (n : ℕ) (h : TourHolds s before) (new : b ≡ true) where
-  pub name_ok : s.seen.name ≡ false → length (trim (after_word v)) ≤ 1024 → TourHolds (record s { seen = record s.seen { name = b } }) (before ++ a_header words.Name v n) × (first_at n (tour_header before words.Name v) ≡ None)
+module _ (s : TourForm) (b : Bool) (before : List Piece) (v : List ℕ) (n : ℕ) (h : TourHolds s before)
+    (new : b ≡ true) where
+  pub name_ok : s.seen.name ≡ false → length (trim (after_word v)) ≤ 1024 →
+      TourHolds (record s { seen = record s.seen { name = b } }) (before ++ a_header words.Name v n)
+      × (first_at n (tour_header before words.Name v) ≡ None)
   name_ok old short =
       let s' : TourForm = record s { seen = record s.seen { name = b } } in
       let test : ltb 1024 (length (trim (after_word v))) ≡ false = le-ltb _ _ short in
-      let none : has words.Name before ≡ false = h.seen.name ∙ old in
-      (holds_header s s' before words.Name v n h refl (seen_name before v n s.seen s'.seen h.seen (ap (λ (t : Bool). record s.seen { name = t }) new)) refl refl, rw (test, none) refl)
+      let none : has words.Name before ≡ false = h.seen.name ∙ old in (
+        holds_header s s' before words.Name v n h refl
+            (seen_name before v n s.seen s'.seen h.seen (ap (λ (t : Bool). record s.seen { name = t }) new)) refl refl,
+        rw (test, none) refl,
+      )
 
-  pub kind_ok : s.seen.kind ≡ false → spells (first_word v) (codes "TOUR") ≡ true → TourHolds (record s { seen = record s.seen { kind = b } }) (before ++ a_header words.Type v n) × (first_at n (tour_header before words.Type v) ≡ None)
+  pub kind_ok : s.seen.kind ≡ false → spells (first_word v) (codes "TOUR") ≡ true →
+      TourHolds (record s { seen = record s.seen { kind = b } }) (before ++ a_header words.Type v n)
+      × (first_at n (tour_header before words.Type v) ≡ None)
   kind_ok old tour =
       let s' : TourForm = record s { seen = record s.seen { kind = b } } in
-      let none : has words.Type before ≡ false = h.seen.kind ∙ old in
-      (holds_header s s' before words.Type v n h refl (seen_kind before v n s.seen s'.seen h.seen (ap (λ (t : Bool). record s.seen { kind = t }) new)) refl refl, rw (none, tour) refl)
+      let none : has words.Type before ≡ false = h.seen.kind ∙ old in (
+        holds_header s s' before words.Type v n h refl
+            (seen_kind before v n s.seen s'.seen h.seen (ap (λ (t : Bool). record s.seen { kind = t }) new)) refl refl,
+        rw (none, tour) refl,
+      )
 
-  pub dimension_ok : s.seen.dimension ≡ false → first_at n (number_tests 1 ENTRY_LIMIT (first_word v)) ≡ None → TourHolds (record s { seen = record s.seen { dimension = b } }) (before ++ a_header words.Dimension v n) × (first_at n (tour_header before words.Dimension v) ≡ None)
+  pub dimension_ok : s.seen.dimension ≡ false → first_at n (number_tests 1 ENTRY_LIMIT (first_word v)) ≡ None →
+      TourHolds (record s { seen = record s.seen { dimension = b } }) (before ++ a_header words.Dimension v n)
+      × (first_at n (tour_header before words.Dimension v) ≡ None)
   dimension_ok old fine =
       let s' : TourForm = record s { seen = record s.seen { dimension = b } } in
-      let none : has words.Dimension before ≡ false = h.seen.dimension ∙ old in
-      (holds_header s s' before words.Dimension v n h refl (seen_dimension before v n s.seen s'.seen h.seen (ap (λ (t : Bool). record s.seen { dimension = t }) new)) refl refl, rw none fine)
+      let none : has words.Dimension before ≡ false = h.seen.dimension ∙ old in (
+        holds_header s s' before words.Dimension v n h refl
+            (seen_dimension before v n s.seen s'.seen h.seen (ap (λ (t : Bool). record s.seen { dimension = t }) new))
+            refl refl,
+        rw none fine,
+      )
 
-pub comment_ok : (s : TourForm) (before : List Piece) (v : List ℕ) (n : ℕ) → TourHolds s before → TourHolds s (before ++ a_header words.Comment v n)
-comment_ok s before v n h = holds_header s s before words.Comment v n h refl (seen_comment before v n s.seen s.seen h.seen) refl refl
+pub comment_ok : (s : TourForm) (before : List Piece) (v : List ℕ) (n : ℕ) → TourHolds s before →
+    TourHolds s (before ++ a_header words.Comment v n)
+comment_ok s before v n h =
+    holds_header s s before words.Comment v n h refl (seen_comment before v n s.seen s.seen h.seen) refl refl
 
-pub dimension_err : (s : TourForm) (before : List Piece) (v : List ℕ) (n : ℕ) (k : TextKind) → TourHolds s before → s.seen.dimension ≡ false → first_at n (number_tests 1 ENTRY_LIMIT (first_word v)) ≡ Some (Fault n k) → first_at n (tour_header before words.Dimension v) ≡ Some (Fault n k)
-dimension_err s before v n k h old stop = let none : has words.Dimension before ≡ false = h.seen.dimension ∙ old in rw none stop
+pub dimension_err : (s : TourForm) (before : List Piece) (v : List ℕ) (n : ℕ) (k : TextKind) → TourHolds s before →
+    s.seen.dimension ≡ false → first_at n (number_tests 1 ENTRY_LIMIT (first_word v)) ≡ Some (Fault n k) →
+    first_at n (tour_header before words.Dimension v) ≡ Some (Fault n k)
+dimension_err s before v n k h old stop = let none : has words.Dimension before ≡ false = h.seen.dimension
+    ∙ old in rw none stop
 
 -- ---- sections
 
 module _ (before : List Piece) (n : ℕ) (fresh : has words.TourSection before ≡ false) where
-  section_by : (toks : List Token) (after : After) (s : Option Stop) → entries_stop 0 (entries toks) ≡ s → tour_section before words.TourSection n toks after ≡ or_else s (trailing_stop after)
+  section_by : (toks : List Token) (after : After) (s : Option Stop) → entries_stop 0 (entries toks) ≡ s →
+      tour_section before words.TourSection n toks after ≡ or_else s (trailing_stop after)
   section_by toks after s h = rw (fresh, h) refl
 
-  section_at_stop : (toks : List Token) (after : After) (s : Stop) → entries_stop 0 (entries toks) ≡ Some s → tour_section before words.TourSection n toks after ≡ Some s
+  section_at_stop : (toks : List Token) (after : After) (s : Stop) → entries_stop 0 (entries toks) ≡ Some s →
+      tour_section before words.TourSection n toks after ≡ Some s
   section_at_stop toks after s h = section_by toks after (Some s) h
 
   module _ (toks : List Token) (are : AreEntries toks) (fine : entries_stop 0 toks ≡ None) where
     all_fine : entries_stop 0 (entries toks) ≡ None
     all_fine = ap (entries_stop 0) (entries_all toks are) ∙ fine
 
-    stops_at : (t : Token) (s : Stop) → is_ending t ≡ false → (t.whole && is_eof t.bytes) ≡ false → entry_stop (length toks) t ≡ Some s → (more : List Token) (after : After)
-        → tour_section before words.TourSection n (taken tour_format before words.TourSection (toks ++ t ∷ more)) after ≡ Some s
+    stops_at : (t : Token) (s : Stop) → is_ending t ≡ false → (t.whole && is_eof t.bytes) ≡ false
+        → entry_stop (length toks) t ≡ Some s → (more : List Token) (after : After)
+        → tour_section before words.TourSection n (taken tour_format before words.TourSection (toks ++ t ∷ more))
+        after ≡ Some s
     stops_at t s a b stop more after = section_at_stop _ after s (list_stops toks are fine t more s a b stop)
 
     tour_goes : Goes tour_format before words.TourSection n toks
     tour_goes = record {
       covers = list_covers toks are fine;
-      long = λ t more after long. let g = long_goes t long in stops_at t (Fault t.line kinds.TooLong) g.0 g.1 (entry_long (length toks) t long) more after;
-      opens = λ t after part short. let g = open_goes t part in stops_at t Open g.0 g.1 (entry_open (length toks) t part short) [] after;
+      long = λ t more after long. let g = long_goes t long in
+          stops_at t (Fault t.line kinds.TooLong) g.0 g.1 (entry_long (length toks) t long) more after;
+      opens = λ t after part short. let g = open_goes t part in
+          stops_at t Open g.0 g.1 (entry_open (length toks) t part short) [] after;
       ends = list_open toks are fine;
       early = λ line. section_by toks (Early line false) None all_fine;
     }
@@ -109,9 +167,11 @@ module _ (before : List Piece) (n : ℕ) (fresh : has words.TourSection before �
     }
       where
         ended : (ones : List Token) → entries_stop 0 (entries ((toks ++ t ∷ []) ++ ones)) ≡ None
-        ended ones = ap (λ (ts : List Token). entries_stop 0 (entries ts)) (append_assoc toks (t ∷ []) ones) ∙ ap (entries_stop 0) (entries_ended toks ones t are end) ∙ fine
+        ended ones = ap (λ (ts : List Token). entries_stop 0 (entries ts)) (append_assoc toks (t ∷ []) ones)
+            ∙ ap (entries_stop 0) (entries_ended toks ones t are end) ∙ fine
 
-    tour_eof : (t : Token) → is_ending t ≡ false → (t.whole && is_eof t.bytes) ≡ true → EndsAtEof tour_format before words.TourSection n toks t
+    tour_eof : (t : Token) → is_ending t ≡ false → (t.whole && is_eof t.bytes) ≡ true →
+        EndsAtEof tour_format before words.TourSection n toks t
     tour_eof t a b = record {
       extent = λ more. list_eof toks are fine t more a b;
       early = section_by toks (Early t.line true) None all_fine;
@@ -120,36 +180,65 @@ module _ (before : List Piece) (n : ℕ) (fresh : has words.TourSection before �
 -- ---- what the form wants
 
 module _ (s : TourForm) (before : List Piece) (n : ℕ) where
-  pub wants_none : (s' : TourForm) → TourHolds s before → s.seen.section ≡ false → s'.seen ≡ record s.seen { section = true } → s'.cities.items ≡ s.cities.items
+  pub wants_none : (s' : TourForm) → TourHolds s before → s.seen.section ≡ false
+      → s'.seen ≡ record s.seen { section = true } → s'.cities.items ≡ s.cities.items
       → TourWants s' before words.TourSection n [] × Goes tour_format before words.TourSection n []
   unfolding entries
   wants_none s' h none seen cities =
       let fresh : has words.TourSection before ≡ false = h.section ∙ none in
-      let empty : s.cities.items ≡ [] = h.cities ∙ ap (λ (ts : List Token). numbers_of (entries ts)) (tokens_in-none words.TourSection before fresh) in
-      (record { seen = rw seen (record { name = h.seen.name; kind = h.seen.kind; dimension = h.seen.dimension }); word_is = refl; fresh = fresh; section = rw seen refl; are = tt; fine = fine_none 0; cities = cities ∙ empty }, tour_goes before n fresh [] tt (fine_none 0))
+      let empty : s.cities.items ≡ [] = h.cities
+      ∙ ap (λ (ts : List Token). numbers_of (entries ts)) (tokens_in-none words.TourSection before fresh) in (
+        record {
+          seen = rw seen (record { name = h.seen.name; kind = h.seen.kind; dimension = h.seen.dimension });
+          word_is = refl;
+          fresh = fresh;
+          section = rw seen refl;
+          are = tt;
+          fine = fine_none 0;
+          cities = cities
+              ∙ empty;
+        },
+        tour_goes before n fresh [] tt (fine_none 0),
+      )
 
-module _ (s s' : TourForm) (before : List Piece) (word : Keyword) (n : ℕ) (toks : List Token) (w : TourWants s before word n toks) (seen : s'.seen ≡ s.seen) where
+module _ (s s' : TourForm) (before : List Piece) (word : Keyword) (n : ℕ) (toks : List Token)
+    (w : TourWants s before word n toks) (seen : s'.seen ≡ s.seen) where
   at_word : (P : Keyword → Type 0) → P words.TourSection → P word
   at_word P p = subst P (sym w.word_is) p
 
   still_seen : IsSeen s'.seen before
   still_seen = subst (λ (x : TourWords). IsSeen x before) (sym seen) w.seen
 
-  section_seen : (ps : List Piece) → IsSeen s'.seen before → has words.Name ps ≡ false → has words.Type ps ≡ false → has words.Dimension ps ≡ false → IsSeen s'.seen (before ++ ps)
-  section_seen ps h a b c = record { name = has-kept words.Name before ps a ∙ h.name; kind = has-kept words.Type before ps b ∙ h.kind; dimension = has-kept words.Dimension before ps c ∙ h.dimension }
+  section_seen : (ps : List Piece) → IsSeen s'.seen before → has words.Name ps ≡ false → has words.Type ps ≡ false →
+      has words.Dimension ps ≡ false → IsSeen s'.seen (before ++ ps)
+  section_seen ps h a b c =
+      record {
+        name = has-kept words.Name before ps a ∙ h.name;
+        kind = has-kept words.Type before ps b ∙ h.kind;
+        dimension = has-kept words.Dimension before ps c ∙ h.dimension;
+      }
 
   -- after the section
-  holds_section : (ts : List Token) (after : After) → s'.cities.items ≡ numbers_of (entries ts) → TourHolds s' (before ++ a_section words.TourSection n ts after)
+  holds_section : (ts : List Token) (after : After) → s'.cities.items ≡ numbers_of (entries ts) →
+      TourHolds s' (before ++ a_section words.TourSection n ts after)
   holds_section ts after cities = record {
     seen = section_seen (a_section words.TourSection n ts after) still_seen refl refl refl;
-    section = has-new words.TourSection before (a_section words.TourSection n ts after) refl ∙ sym (ap (λ (x : TourWords). x.section) seen ∙ w.section);
-    cities = cities ∙ ap (λ (xs : List Token). numbers_of (entries xs)) (sym (tokens_in-new words.TourSection before (a_section words.TourSection n ts after) w.fresh));
+    section = has-new words.TourSection before (a_section words.TourSection n ts after) refl
+        ∙ sym (ap (λ (x : TourWords). x.section) seen ∙ w.section);
+    cities = cities
+        ∙ ap (λ (xs : List Token). numbers_of (entries xs))
+        (sym (tokens_in-new words.TourSection before (a_section words.TourSection n ts after) w.fresh));
   }
 
-  pub early_ended : s'.cities.items ≡ s.cities.items → (line : ℕ) → TourHolds s' (before ++ a_section word n toks (Early line true)) × (tour_section before word n toks (Early line true) ≡ None)
+  pub early_ended : s'.cities.items ≡ s.cities.items → (line : ℕ) →
+      TourHolds s' (before ++ a_section word n toks (Early line true))
+      × (tour_section before word n toks (Early line true) ≡ None)
   early_ended cities line =
-      at_word (λ (x : Keyword). TourHolds s' (before ++ a_section x n toks (Early line true)) × (tour_section before x n toks (Early line true) ≡ None))
-      (holds_section toks (Early line true) (cities ∙ w.cities ∙ ap numbers_of (sym (entries_all toks w.are))), section_by before n w.fresh toks (Early line true) None (all_fine before n w.fresh toks w.are w.fine))
+      at_word (λ (x : Keyword). TourHolds s' (before ++ a_section x n toks (Early line true))
+      × (tour_section before x n toks (Early line true) ≡ None)) (
+        holds_section toks (Early line true) (cities ∙ w.cities ∙ ap numbers_of (sym (entries_all toks w.are))),
+        section_by before n w.fresh toks (Early line true) None (all_fine before n w.fresh toks w.are w.fine),
+      )
 
   module _ (bytes : List ℕ) (line : ℕ) (short : length bytes ≤ 64) where
     not_long : ltb 64 (length bytes) ≡ false
@@ -159,37 +248,59 @@ module _ (s s' : TourForm) (before : List Piece) (word : Keyword) (n : ℕ) (tok
     count_is = ap length w.cities ∙ length-numbers toks
 
     pub token_ending : s'.cities.items ≡ s.cities.items → is_minus_one (integer bytes) ≡ true
-        → ((ones : List Token) → TourHolds s' (before ++ a_section word n ((toks ++ whole bytes line ∷ []) ++ ones) Clean)) × Ends tour_format before word n (toks ++ whole bytes line ∷ [])
+        → ((ones : List Token) →
+        TourHolds s' (before ++ a_section word n ((toks ++ whole bytes line ∷ []) ++ ones) Clean))
+        × Ends tour_format before word n (toks ++ whole bytes line ∷ [])
     token_ending cities minus =
-        at_word (λ (x : Keyword). ((ones : List Token) → TourHolds s' (before ++ a_section x n ((toks ++ whole bytes line ∷ []) ++ ones) Clean)) × Ends tour_format before x n (toks ++ whole bytes line ∷ [])) (
-          λ ones. holds_section ((toks ++ whole bytes line ∷ []) ++ ones) Clean (cities ∙ w.cities ∙ ap numbers_of (sym (ap entries (append_assoc toks (whole bytes line ∷ []) ones) ∙ entries_ended toks ones (whole bytes line) w.are minus))),
+        at_word (λ (x : Keyword). ((ones : List Token) →
+        TourHolds s' (before ++ a_section x n ((toks ++ whole bytes line ∷ []) ++ ones) Clean))
+        × Ends tour_format before x n (toks ++ whole bytes line ∷ [])) (
+          λ ones. holds_section ((toks ++ whole bytes line ∷ []) ++ ones) Clean (cities ∙ w.cities
+              ∙ ap numbers_of
+              (sym (ap entries (append_assoc toks (whole bytes line ∷ []) ones)
+              ∙ entries_ended toks ones (whole bytes line) w.are minus))),
           tour_ends before n w.fresh toks w.are w.fine (whole bytes line) minus,
         )
 
     pub token_eof : s'.cities.items ≡ s.cities.items → integer bytes ≡ None → is_eof bytes ≡ true
-        → TourHolds s' (before ++ a_section word n toks (Early line true)) × EndsAtEof tour_format before word n toks (whole bytes line)
-    token_eof cities none eof =
-        ((early_ended cities line).0, at_word (λ (x : Keyword). EndsAtEof tour_format before x n toks (whole bytes line)) (tour_eof before n w.fresh toks w.are w.fine (whole bytes line) (ap is_minus_one none) eof))
+        → TourHolds s' (before ++ a_section word n toks (Early line true))
+        × EndsAtEof tour_format before word n toks (whole bytes line)
+    token_eof cities none eof = (
+      (early_ended cities line).0,
+      at_word (λ (x : Keyword). EndsAtEof tour_format before x n toks (whole bytes line))
+          (tour_eof before n w.fresh toks w.are w.fine (whole bytes line) (ap is_minus_one none) eof),
+    )
 
-    pub token_stops : (k : TextKind) → is_minus_one (integer bytes) ≡ false → is_eof bytes ≡ false → entry_stop (length toks) (whole bytes line) ≡ Some (Fault line k) → StopsAt tour_format before word n toks (whole bytes line) k
-    token_stops k minus eof stop = at_word (λ (x : Keyword). StopsAt tour_format before x n toks (whole bytes line) k) (stops_at before n w.fresh toks w.are w.fine (whole bytes line) (Fault line k) minus eof stop)
+    pub token_stops : (k : TextKind) → is_minus_one (integer bytes) ≡ false → is_eof bytes ≡ false →
+        entry_stop (length toks) (whole bytes line) ≡ Some (Fault line k) →
+        StopsAt tour_format before word n toks (whole bytes line) k
+    token_stops k minus eof stop = at_word (λ (x : Keyword). StopsAt tour_format before x n toks (whole bytes line) k)
+        (stops_at before n w.fresh toks w.are w.fine (whole bytes line) (Fault line k) minus eof stop)
 
-    pub word_stops : integer bytes ≡ None → is_keyword bytes ≡ true → is_eof bytes ≡ false → StopsAt tour_format before word n toks (whole bytes line) kinds.Truncated
+    pub word_stops : integer bytes ≡ None → is_keyword bytes ≡ true → is_eof bytes ≡ false →
+        StopsAt tour_format before word n toks (whole bytes line) kinds.Truncated
     unfolding entry_stop
     word_stops none word_is eof = token_stops kinds.Truncated (ap is_minus_one none) eof (rw (not_long, word_is) refl)
 
-    pub other_stops : integer bytes ≡ None → is_keyword bytes ≡ false → is_eof bytes ≡ false → StopsAt tour_format before word n toks (whole bytes line) kinds.BadNumber
+    pub other_stops : integer bytes ≡ None → is_keyword bytes ≡ false → is_eof bytes ≡ false →
+        StopsAt tour_format before word n toks (whole bytes line) kinds.BadNumber
     unfolding entry_stop
-    other_stops none word_is eof = token_stops kinds.BadNumber (ap is_minus_one none) eof (rw (not_long, word_is, none) refl)
+    other_stops none word_is eof =
+        token_stops kinds.BadNumber (ap is_minus_one none) eof (rw (not_long, word_is, none) refl)
 
-    module _ (z : ℤ) (is : integer bytes ≡ Some z) (goes : is_minus_one (Some z) ≡ false) (no_word : is_keyword bytes ≡ false) (no_eof : is_eof bytes ≡ false) where
-      pub out_stops : IsOut z (length s.cities.items) → StopsAt tour_format before word n toks (whole bytes line) kinds.OutOfLimit
+    module _ (z : ℤ) (is : integer bytes ≡ Some z) (goes : is_minus_one (Some z) ≡ false)
+        (no_word : is_keyword bytes ≡ false) (no_eof : is_eof bytes ≡ false) where
+      pub out_stops : IsOut z (length s.cities.items) →
+          StopsAt tour_format before word n toks (whole bytes line) kinds.OutOfLimit
       unfolding entry_stop
       out_stops out =
-          let over : (not (in_range 0 4294967295 (Some z)) || leb ENTRY_LIMIT (length toks)) ≡ true = subst (λ (k : ℕ). IsOut z k) count_is out in
+          let over : (not (in_range 0 4294967295 (Some z)) || leb ENTRY_LIMIT (length toks)) ≡ true =
+          subst (λ (k : ℕ). IsOut z k) count_is out in
           token_stops kinds.OutOfLimit (ap is_minus_one is ∙ goes) no_eof (rw (not_long, no_word, is, over) refl)
 
-      pub token_more : length s.cities.items < ENTRY_LIMIT → IsNext z s.cities.items s'.cities.items → TourWants s' before word n (toks ++ whole bytes line ∷ []) × Goes tour_format before word n (toks ++ whole bytes line ∷ [])
+      pub token_more : length s.cities.items < ENTRY_LIMIT → IsNext z s.cities.items s'.cities.items →
+          TourWants s' before word n (toks ++ whole bytes line ∷ [])
+          × Goes tour_format before word n (toks ++ whole bytes line ∷ [])
       unfolding entry_stop
       token_more room next =
           let minus : is_ending (whole bytes line) ≡ false = ap is_minus_one is ∙ goes in
@@ -197,12 +308,27 @@ module _ (s s' : TourForm) (before : List Piece) (word : Keyword) (n : ℕ) (tok
           let high : leb next.city 4294967295 ≡ true = le-leb _ _ next.small in
           let few : leb ENTRY_LIMIT (length toks) ≡ false = lt-leb _ _ (omega (arith, room, count_is)) in
           let number : integer bytes ≡ Some (pos next.city) = is ∙ ap (λ (x : ℤ). Some x) next.is in
-          let here : entry_stop (length toks) (whole bytes line) ≡ None = rw (not_long, no_word, number, low, high, few) refl in
+          let here : entry_stop (length toks) (whole bytes line) ≡ None =
+          rw (not_long, no_word, number, low, high, few) refl in
           let are = are_more toks (whole bytes line) w.are minus no_eof in
-          let fine = fine_more 0 toks (whole bytes line) w.fine (ap (λ (k : ℕ). entry_stop k (whole bytes line)) (omega arith) ∙ here) in
-          let cities : s'.cities.items ≡ numbers_of (toks ++ whole bytes line ∷ []) = next.pushed ∙ ap (λ (ns : List ℕ). ns ++ next.city ∷ []) w.cities ∙ ap (λ (o : Option ℤ). numbers_of toks ++ natural_or_zero o ∷ []) (sym number) ∙ sym (numbers_more toks (whole bytes line)) in (
-            record { seen = still_seen; word_is = w.word_is; fresh = w.fresh; section = ap (λ (x : TourWords). x.section) seen ∙ w.section; are = are; fine = fine; cities = cities },
-            at_word (λ (x : Keyword). Goes tour_format before x n (toks ++ whole bytes line ∷ [])) (tour_goes before n w.fresh (toks ++ whole bytes line ∷ []) are fine),
+          let fine =
+          fine_more 0 toks (whole bytes line) w.fine
+          (ap (λ (k : ℕ). entry_stop k (whole bytes line)) (omega arith) ∙ here) in
+          let cities : s'.cities.items ≡ numbers_of (toks ++ whole bytes line ∷ []) = next.pushed
+          ∙ ap (λ (ns : List ℕ). ns ++ next.city ∷ []) w.cities
+          ∙ ap (λ (o : Option ℤ). numbers_of toks ++ natural_or_zero o ∷ []) (sym number)
+          ∙ sym (numbers_more toks (whole bytes line)) in (
+            record {
+              seen = still_seen;
+              word_is = w.word_is;
+              fresh = w.fresh;
+              section = ap (λ (x : TourWords). x.section) seen ∙ w.section;
+              are = are;
+              fine = fine;
+              cities = cities;
+            },
+            at_word (λ (x : Keyword). Goes tour_format before x n (toks ++ whole bytes line ∷ []))
+                (tour_goes before n w.fresh (toks ++ whole bytes line ∷ []) are fine),
           )
 
 -- ---- whether a number is -1, as the code tests it

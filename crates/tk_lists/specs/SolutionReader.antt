@@ -1,5 +1,6 @@
 -- A reader's place in a solution text.
-use Rattle.std.specs.Prelude.{◌≡◌, ◌<◌, ◌≤◌, ℕ, ◌+◌, Bool, true, false, List, [], ◌∷◌, ◌++◌, length, map, Option, Some, None, Result, codes}
+use Rattle.std.specs.Prelude.{◌≡◌, ◌<◌, ◌≤◌, ℕ, ◌+◌, Bool, true, false, List, [], ◌∷◌, ◌++◌, length, map, Option, Some}
+use Rattle.std.specs.Prelude.{None, Result, codes}
 use Rattle.tk_words.specs.declared.fault.TextKind.{TextKind}
 use Rattle.tk_words.specs.declared.fault.TextKind.TheVariants as kinds
 use Rattle.tk_words.specs.declared.fault.TextFault.{TextFault}
@@ -19,7 +20,10 @@ use Rattle.tk_words.specs.Words.{spells}
 use Rattle.tk_words.specs.Entry.{numbers_of}
 use Rattle.tk_lines.specs.Reader.{IsToken}
 use Rattle.tk_words.specs.Drive.{line_behind}
-use Rattle.tk_lists.specs.Solution.{Solution, Head, Bad, Behind, colon_head, digits_head, number_head, route_head, SolutionLine, Other, Route, Cost, route_line, may_be_word, solid_line, line_of, routes_of, count_of, has_cost, cost_of, customers_stop, cost_stop, route_tests, line_stop, judge_lines, solution_decided}
+use Rattle.tk_lists.specs.Solution.{Solution, Head, Bad, Behind, colon_head, digits_head, number_head, route_head}
+use Rattle.tk_lists.specs.Solution.{SolutionLine, Other, Route, Cost, route_line, may_be_word, solid_line, line_of}
+use Rattle.tk_lists.specs.Solution.{routes_of, count_of, has_cost, cost_of, customers_stop, cost_stop, route_tests}
+use Rattle.tk_lists.specs.Solution.{line_stop, judge_lines, solution_decided}
 
 -- ---- the head of a Route line
 

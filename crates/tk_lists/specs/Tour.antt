@@ -1,5 +1,6 @@
 -- Tour texts.
-use Rattle.std.specs.Prelude.{ℕ, suc, Bool, true, false, not, ◌||◌, nat_lt, nat_le, List, [], ◌∷◌, length, Option, Some, None, Result, if◌then◌else◌, codes, is_none}
+use Rattle.std.specs.Prelude.{ℕ, suc, Bool, true, false, not, ◌||◌, nat_lt, nat_le, List, [], ◌∷◌, length, Option, Some}
+use Rattle.std.specs.Prelude.{None, Result, if◌then◌else◌, codes, is_none}
 use Rattle.tk_problem.specs.declared.limits.TheConstants.{ENTRY_LIMIT}
 use Rattle.tk_words.specs.declared.keyword.Keyword.{Keyword}
 use Rattle.tk_words.specs.declared.keyword.Keyword.TheVariants as words
@@ -9,7 +10,8 @@ use Rattle.tk_words.specs.declared.fault.TextFault.{TextFault}
 use Rattle.tk_words.specs.Lex.{Token, after_word, trim, integer}
 use Rattle.tk_words.specs.Words.{spells}
 use Rattle.tk_lines.specs.Scan.{first_word}
-use Rattle.tk_lines.specs.Pieces.{Piece, Extent, Stop, After, first_at, checked, or_else, has, tokens_in, Format, decided_by}
+use Rattle.tk_lines.specs.Pieces.{Piece, Extent, Stop, After, first_at, checked, or_else, has, tokens_in, Format}
+use Rattle.tk_lines.specs.Pieces.{decided_by}
 use Rattle.tk_words.specs.Entry.{in_range, is_keyword, number_tests, numbers_of}
 use Rattle.tk_lines.specs.Lists.{entries, list_extent, trailing_stop}
 

@@ -1,5 +1,6 @@
 -- The candidates of a city, kept in order.
-use Rattle.std.specs.Prelude.{◌≡◌, ℕ, ◌+◌, ◌*◌, ◌<◌, ◌≤◌, List, [], ◌∷◌, ◌++◌, length, take, drop, replicate, map, nat_lt, slice_index_or, if◌then◌else◌, All, Contains, ⊤}
+use Rattle.std.specs.Prelude.{◌≡◌, ℕ, ◌+◌, ◌*◌, ◌<◌, ◌≤◌, List, [], ◌∷◌, ◌++◌, length, take, drop, replicate, map}
+use Rattle.std.specs.Prelude.{nat_lt, slice_index_or, if◌then◌else◌, All, Contains, ⊤}
 use Rattle.tk_near.specs.declared.candidates.Candidate.{Candidate}
 use Rattle.tk_distance.specs.Cities.{IsCity}
 use Rattle.tk_near.specs.Near.{IsNear, block}

@@ -1,5 +1,6 @@
 -- How many keys settings have.
-use Rattle.std.proofs.Common.{◌≡◌, ◌∙◌, ◌≤◌, ◌++◌, ℕ, suc, Bool, true, false, List, [], ◌∷◌, length, cond, arith, refl, sym, subst}
+use Rattle.std.proofs.Common.{◌≡◌, ◌∙◌, ◌≤◌, ◌++◌, ℕ, suc, Bool, true, false, List, [], ◌∷◌, length, cond, arith, refl}
+use Rattle.std.proofs.Common.{sym, subst}
 use Rattle.std.proofs.lemmas.Cmp.{on_equiv}
 use Rattle.std.proofs.lemmas.List.{map-append}
 use Rattle.std.proofs.lemmas.Map.Entries.{length-keys_of}
@@ -56,7 +57,9 @@ pub ignored_few : (ss : Settings) → AreApart ss → length (ignored_keys ss) �
 ignored_few ss apart = omega (arith, ignored_among ss, settings_few ss apart)
 
 -- a new key after settings whose keys are apart
-pub apart_push : (ss : Settings) (key : Key) (v : Value) → AreApart ss → has key ss ≡ false → AreApart (ss ++ (key, v) ∷ [])
+pub apart_push : (ss : Settings) (key : Key) (v : Value) → AreApart ss → has key ss ≡ false →
+    AreApart (ss ++ (key, v) ∷ [])
 apart_push ss key v apart fresh =
     let absent = sym (is_some-lookup (same_key key) ss) ∙ fresh in
-    subst (IsDistinct same_key) (sym (map-append (λ (s : Key × Value). s.0) ss ((key, v) ∷ []))) (IsDistinct-push same_key_laws (keys_of ss) key apart absent)
+    subst (IsDistinct same_key) (sym (map-append (λ (s : Key × Value). s.0) ss ((key, v) ∷ [])))
+    (IsDistinct-push same_key_laws (keys_of ss) key apart absent)

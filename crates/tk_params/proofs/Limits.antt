@@ -1,5 +1,6 @@
 -- What settings have, and what they ask for, is within the limits of the keys.
-use Rattle.std.proofs.Common.{◌≡◌, ◌≢◌, ◌∙◌, ℕ, ◌≤◌, eqb, leb, get_or, arith, Bool, true, false, not, ◌&&◌, List, [], ◌∷◌, Option, None, Some, ℤ, pos, negsuc, cond, option_map, refl, sym, ap, subst}
+use Rattle.std.proofs.Common.{◌≡◌, ◌≢◌, ◌∙◌, ℕ, ◌≤◌, eqb, leb, get_or, arith, Bool, true, false, not, ◌&&◌, List, []}
+use Rattle.std.proofs.Common.{◌∷◌, Option, None, Some, ℤ, pos, negsuc, cond, option_map, refl, sym, ap, subst}
 use Rattle.std.proofs.lemmas.Bool.{eqb-true, leb-true, and_parts}
 use Rattle.std.proofs.lemmas.List.Elements.{All-cons, All-head, All-nil, All-tail}
 use Rattle.std.specs.List.{All, list_any}
@@ -14,8 +15,10 @@ use Rattle.tk_params.specs.declared.key.Key.TheVariants as keys
 use Rattle.tk_params.specs.declared.value.Construction.{Construction}
 use Rattle.tk_params.specs.Keys.{all_keys, code}
 use Rattle.tk_params.proofs.Keys.{ignored_few}
-use Rattle.tk_params.specs.Values.{File, Number, Way, Switch, Ignored, Settings, Value, construction_of, file_of, greatest, has_dollar, least, look, same_key, switch_of, value_of}
-use Rattle.tk_params.specs.Asked.{AreApart, AreSettings, AreWithinLimits, IsFileName, IsSetting, IsWithin, asked_of, file_in, number_in}
+use Rattle.tk_params.specs.Values.{File, Number, Way, Switch, Ignored, Settings, Value, construction_of, file_of}
+use Rattle.tk_params.specs.Values.{greatest, has_dollar, least, look, same_key, switch_of, value_of}
+use Rattle.tk_params.specs.Asked.{AreApart, AreSettings, AreWithinLimits, IsFileName, IsSetting, IsWithin, asked_of}
+use Rattle.tk_params.specs.Asked.{file_in, number_in}
 
 -- ---- a key's value
 
@@ -24,22 +27,28 @@ not_dollar b h e = let k : eqb 36 36 ≡ false = subst (λ c. eqb c 36 ≡ false
 
 no_dollar : (bs : List ℕ) → list_any (λ b. eqb b 36) bs ≡ false → All (λ b. b ≢ 36) bs
 no_dollar [] h = All-nil (λ b. b ≢ 36)
-no_dollar (b ∷ bs) h = let k = either_false (eqb b 36) _ h in All-cons (λ c. c ≢ 36) b bs (not_dollar b k.0) (no_dollar bs k.1)
+no_dollar (b ∷ bs) h = let k = either_false (eqb b 36) _ h in
+    All-cons (λ c. c ≢ 36) b bs (not_dollar b k.0) (no_dollar bs k.1)
 
-file_setting : (key : Key) (bs : List ℕ) (v : Value) → file_of bs ≡ Some v → list_any (λ b. eqb b 36) bs ≡ false → IsSetting key v
+file_setting : (key : Key) (bs : List ℕ) (v : Value) → file_of bs ≡ Some v → list_any (λ b. eqb b 36) bs ≡ false →
+    IsSetting key v
 file_setting key [] v e h = absurd cc
 file_setting key (b ∷ bs) v e h = by_test (is_utf8 (b ∷ bs)) e
   where
     by_test : (t : Bool) → cond (not t) None (Some (File (b ∷ bs))) ≡ Some v → IsSetting key v
-    by_test true f = let is : File (b ∷ bs) ≡ v = cc in subst (IsSetting key) is (record { some = λ n. absurd cc; no_dollar = no_dollar (b ∷ bs) h })
+    by_test true f = let is : File (b ∷ bs) ≡ v = cc in
+        subst (IsSetting key) is (record { some = λ n. absurd cc; no_dollar = no_dollar (b ∷ bs) h })
     by_test false f = absurd cc
 
-within : (key : Key) (o : Option ℤ) (v : Value) → option_map Number (cond (in_range (least key) (greatest key) o) (Some (natural_or_zero o)) None) ≡ Some v → IsSetting key v
+within : (key : Key) (o : Option ℤ) (v : Value) →
+    option_map Number (cond (in_range (least key) (greatest key) o) (Some (natural_or_zero o)) None) ≡ Some v →
+    IsSetting key v
 within key None v e = absurd cc
 within key (Some (negsuc n)) v e = absurd cc
 within key (Some (pos n)) v e = by_test (leb (least key) n && leb n (greatest key)) refl e
   where
-    by_test : (t : Bool) → (leb (least key) n && leb n (greatest key)) ≡ t → option_map Number (cond t (Some n) None) ≡ Some v → IsSetting key v
+    by_test : (t : Bool) → (leb (least key) n && leb n (greatest key)) ≡ t →
+        option_map Number (cond t (Some n) None) ≡ Some v → IsSetting key v
     by_test true h f =
         let b = and_parts (leb (least key) n) _ h in
         let is : Number n ≡ v = cc in
@@ -57,7 +66,8 @@ switch_setting key (Some on) v e = let is : Switch on ≡ v = cc in subst (IsSet
 ignored_setting : (key : Key) (v : Value) → Some Ignored ≡ Some v → IsSetting key v
 ignored_setting key v e = let is : Ignored ≡ v = cc in subst (IsSetting key) is tt
 
-pub is_setting : (key : Key) (bs : List ℕ) (v : Value) → has_dollar key bs ≡ false → value_of key bs ≡ Some v → IsSetting key v
+pub is_setting : (key : Key) (bs : List ℕ) (v : Value) → has_dollar key bs ≡ false → value_of key bs ≡ Some v →
+    IsSetting key v
 is_setting keys.ProblemFile bs v h e = file_setting keys.ProblemFile bs v e h
 is_setting keys.TourFile bs v h e = file_setting keys.TourFile bs v e h
 is_setting keys.SolutionFile bs v h e = file_setting keys.SolutionFile bs v e h
@@ -100,7 +110,8 @@ at_code keys.Optimum = refl
 one_key : (a b : Key) → same_key a b ≡ true → b ≡ a
 one_key a b e = sym (at_code b) ∙ ap (λ n. get_or all_keys n keys.Optimum) (sym (eqb-true _ _ e)) ∙ at_code a
 
-look_step : (key : Key) (s : Key × Value) (rest : Option Value) (t : Bool) → same_key key s.0 ≡ t → IsSetting s.0 s.1 → IfSome rest (IsSetting key) → IfSome (cond t (Some s.1) rest) (IsSetting key)
+look_step : (key : Key) (s : Key × Value) (rest : Option Value) (t : Bool) → same_key key s.0 ≡ t → IsSetting s.0 s.1 →
+    IfSome rest (IsSetting key) → IfSome (cond t (Some s.1) rest) (IsSetting key)
 look_step key s rest true e h k = subst (λ (x : Key). IsSetting x s.1) (one_key key s.0 e) h
 look_step key s rest false e h k = k
 
@@ -118,7 +129,8 @@ file_limits key (Some (Way way)) h = tt
 file_limits key (Some (Switch on)) h = tt
 file_limits key (Some Ignored) h = tt
 
-number_limits : (key : Key) (o : Option Value) → IfSome o (IsSetting key) → IfSome (number_in o) (IsWithin (least key) (greatest key))
+number_limits : (key : Key) (o : Option Value) → IfSome o (IsSetting key) →
+    IfSome (number_in o) (IsWithin (least key) (greatest key))
 number_limits key None h = tt
 number_limits key (Some (File name)) h = tt
 number_limits key (Some (Number n)) h = h
@@ -126,7 +138,8 @@ number_limits key (Some (Way way)) h = tt
 number_limits key (Some (Switch on)) h = tt
 number_limits key (Some Ignored) h = tt
 
-or_default : (low high d : ℕ) (o : Option ℕ) → IfSome o (IsWithin low high) → low ≤ d → d ≤ high → IsWithin low high (unwrap_or o d)
+or_default : (low high d : ℕ) (o : Option ℕ) → IfSome o (IsWithin low high) → low ≤ d → d ≤ high →
+    IsWithin low high (unwrap_or o d)
 or_default low high d None h a b = record { least = a; greatest = b }
 or_default low high d (Some n) h a b = h
 
@@ -137,7 +150,8 @@ module _ (ss : Settings) (sound : AreSettings ss) (apart : AreApart ss) where
   number_at : (key : Key) → IfSome (number_in (look key ss)) (IsWithin (least key) (greatest key))
   number_at key = number_limits key (look key ss) (look_setting key ss sound)
 
-  pub asked_within : (problem : List ℕ) → file_in (look keys.ProblemFile ss) ≡ Some problem → AreWithinLimits (asked_of problem ss)
+  pub asked_within : (problem : List ℕ) → file_in (look keys.ProblemFile ss) ≡ Some problem →
+      AreWithinLimits (asked_of problem ss)
   unfolding asked_of
   asked_within problem e =
       record {

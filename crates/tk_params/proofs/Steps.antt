@@ -1,6 +1,8 @@
 -- How a line of a parameter file ends.
-use Rattle.std.proofs.Common.{◌≡◌, ℕ, suc, ◌-◌, ◌<◌, ◌≤◌, Bool, true, false, cond, eqb, leb, ltb, not, ◌&&◌, ◌||◌, List, [], ◌∷◌, ◌++◌, length, Option, Some, None, Ok, Err, refl, sym, ap, ◌∙◌, arith}
-use Rattle.std.proofs.lemmas.Bool.{eqb-true, ltb-true, ltb-false, lt-ltb, le-ltb, le-leb, and_parts, and_from, and_left, or_right, false_from_ne_true, cond-true, cond-false}
+use Rattle.std.proofs.Common.{◌≡◌, ℕ, suc, ◌-◌, ◌<◌, ◌≤◌, Bool, true, false, cond, eqb, leb, ltb, not, ◌&&◌, ◌||◌, List}
+use Rattle.std.proofs.Common.{[], ◌∷◌, ◌++◌, length, Option, Some, None, Ok, Err, refl, sym, ap, ◌∙◌, arith}
+use Rattle.std.proofs.lemmas.Bool.{eqb-true, ltb-true, ltb-false, lt-ltb, le-ltb, le-leb, and_parts, and_from, and_left}
+use Rattle.std.proofs.lemmas.Bool.{or_right, false_from_ne_true, cond-true, cond-false}
 use Rattle.std.proofs.lemmas.List.{append-nil, length-append}
 use Rattle.std.specs.Char.{to_ascii_uppercase}
 use Rattle.tk_lines.proofs.Sections.SectionEnds.{first_line}
@@ -16,7 +18,8 @@ use Rattle.tk_params.specs.Readers.{IsSound}
 use Rattle.tk_params.specs.Reading.{ends_in, from_line}
 use Rattle.tk_params.specs.Entries.{Entry, entry_of}
 use Rattle.tk_params.specs.Values.{Settings, Meaning, Nothing, Faulty, Sets, means, line_means, settings_of}
-use Rattle.tk_params.specs.Params.{Answer, Piece, LongLine, End, Open, Holds, after, at_end, behind_word, counted, is_end, is_eof, judge, line_limit, pieces, said, word_of}
+use Rattle.tk_params.specs.Params.{Answer, Piece, LongLine, End, Open, Holds, after, at_end, behind_word, counted}
+use Rattle.tk_params.specs.Params.{is_end, is_eof, judge, line_limit, pieces, said, word_of}
 
 -- ---- EOF
 
@@ -33,7 +36,9 @@ capital b k w lt h = by_tests (ltb b 97) refl (ltb b 123) refl
     by_tests : (s : Bool) → ltb b 97 ≡ s → (t : Bool) → ltb b 123 ≡ t → is_word_byte b ≡ true
     by_tests true p t q = let e : b ≡ k = (rw p at h) in rw e w
     by_tests false p true q =
-        letter_word b (or_right (leb 65 b && leb b 90) _ (and_from _ _ (le-leb 97 b (ltb-false _ _ p)) (le-leb b 122 (omega (arith, ltb-true _ _ q)))))
+        letter_word b
+        (or_right (leb 65 b && leb b 90)
+        _ (and_from _ _ (le-leb 97 b (ltb-false _ _ p)) (le-leb b 122 (omega (arith, ltb-true _ _ q)))))
     by_tests false p false q = let e : b ≡ k = (rw (p, q) at h) in absurd (omega (arith, ltb-false _ _ q, e))
 
 -- bytes that spell EOF are one word
@@ -84,14 +89,18 @@ one_byte b false t = by_test (is_word_byte b)
     by_test true = and_left _ t (and_no (eqb (to_ascii_uppercase b) 69))
     by_test false = refl
 
-on_word : (h : List ℕ) (b : ℕ) → (is_eof h ≡ true → is_word_byte b ≡ true) → (is_eof (h ++ front is_word_byte (b ∷ [])) && not (is_empty (behind is_word_byte (b ∷ [])))) ≡ false
+on_word : (h : List ℕ) (b : ℕ) → (is_eof h ≡ true → is_word_byte b ≡ true) →
+    (is_eof (h ++ front is_word_byte (b ∷ [])) && not (is_empty (behind is_word_byte (b ∷ [])))) ≡ false
 on_word h b k = by_test (is_word_byte b) refl
   where
-    by_test : (w : Bool) → is_word_byte b ≡ w → (is_eof (h ++ cond w (b ∷ []) []) && not (is_empty (cond w [] (b ∷ [])))) ≡ false
+    by_test : (w : Bool) → is_word_byte b ≡ w →
+        (is_eof (h ++ cond w (b ∷ []) []) && not (is_empty (cond w [] (b ∷ [])))) ≡ false
     by_test true e = and_no _
-    by_test false e = and_left _ true (rw (append-nil h) (false_from_ne_true (is_eof h) (λ t. let j = k t in absurd cc)))
+    by_test false e =
+        and_left _ true (rw (append-nil h) (false_from_ne_true (is_eof h) (λ t. let j = k t in absurd cc)))
 
-shorter_step : (t : Bool) (x : ℕ) (xs ys : List ℕ) → length ys ≤ length xs → length (cond t ys (x ∷ xs)) ≤ suc (length xs)
+shorter_step : (t : Bool) (x : ℕ) (xs ys : List ℕ) → length ys ≤ length xs →
+    length (cond t ys (x ∷ xs)) ≤ suc (length xs)
 shorter_step true x xs ys h = omega (arith, h)
 shorter_step false x xs ys h = omega arith
 
@@ -103,28 +112,47 @@ module _ (pre : List ℕ) (none : ends_in pre ≡ false) where
   past_word : (d : ℕ) (ds : List ℕ) → behind_word pre ≡ d ∷ ds → is_eof (word_of pre) ≡ false
   past_word d ds e = false_from_ne_true _ (λ t. let j = rw (e, t) at none in absurd cc)
 
-  pub push_open : (b : ℕ) → (is_eof (behind is_blank pre) ≡ true → is_word_byte b ≡ true) → ends_in (pre ++ b ∷ []) ≡ false
+  pub push_open : (b : ℕ) → (is_eof (behind is_blank pre) ≡ true → is_word_byte b ≡ true) →
+      ends_in (pre ++ b ∷ []) ≡ false
   push_open b k = by_held (behind is_blank pre) refl (behind_word pre) refl
     where
-      by_held : (h : List ℕ) → behind is_blank pre ≡ h → (r : List ℕ) → behind_word pre ≡ r → ends_in (pre ++ b ∷ []) ≡ false
-      by_held [] e r f = rw (behind-all is_blank pre (b ∷ []) e) (one_byte b (is_blank b) (not (is_empty (behind is_word_byte (cond (is_blank b) [] (b ∷ []))))))
+      by_held : (h : List ℕ) → behind is_blank pre ≡ h → (r : List ℕ) → behind_word pre ≡ r →
+          ends_in (pre ++ b ∷ []) ≡ false
+      by_held [] e r f =
+          rw (behind-all is_blank pre (b ∷ []) e)
+          (one_byte b (is_blank b) (not (is_empty (behind is_word_byte (cond (is_blank b) [] (b ∷ []))))))
       by_held (c ∷ cs) e [] f =
-          rw (behind-on is_blank pre (b ∷ []) (not_none _ c cs e), front-all is_word_byte (behind is_blank pre) (b ∷ []) f, behind-all is_word_byte (behind is_blank pre) (b ∷ []) f)
+          rw (
+            behind-on is_blank pre (b ∷ []) (not_none _ c cs e),
+            front-all is_word_byte (behind is_blank pre) (b ∷ []) f,
+            behind-all is_word_byte (behind is_blank pre) (b ∷ []) f,
+          )
           (on_word (behind is_blank pre) b k)
       by_held (c ∷ cs) e (d ∷ ds) f =
           let more = not_none _ d ds f in
-          rw (behind-on is_blank pre (b ∷ []) (not_none _ c cs e), front-on is_word_byte (behind is_blank pre) (b ∷ []) more)
+          rw (
+            behind-on is_blank pre (b ∷ []) (not_none _ c cs e),
+            front-on is_word_byte (behind is_blank pre) (b ∷ []) more,
+          )
           (and_left _ _ (past_word d ds f))
 
   -- an EOF that ends later has its end among the later bytes
   late : (x : List ℕ) → is_eof (word_of (pre ++ x)) ≡ true → length (behind_word (pre ++ x)) ≤ length x
   late x k = by_held (behind is_blank pre) refl (behind_word pre) refl
     where
-      by_held : (h : List ℕ) → behind is_blank pre ≡ h → (r : List ℕ) → behind_word pre ≡ r → length (behind_word (pre ++ x)) ≤ length x
-      by_held [] e r f = rw (behind-all is_blank pre x e) (omega (arith, shorter is_word_byte (behind is_blank x), shorter is_blank x))
-      by_held (c ∷ cs) e [] f = rw (behind-on is_blank pre x (not_none _ c cs e), behind-all is_word_byte (behind is_blank pre) x f) (shorter is_word_byte x)
+      by_held : (h : List ℕ) → behind is_blank pre ≡ h → (r : List ℕ) → behind_word pre ≡ r →
+          length (behind_word (pre ++ x)) ≤ length x
+      by_held [] e r f =
+          rw (behind-all is_blank pre x e) (omega (arith, shorter is_word_byte (behind is_blank x), shorter is_blank x))
+      by_held (c ∷ cs) e [] f =
+          rw (behind-on is_blank pre x (not_none _ c cs e), behind-all is_word_byte (behind is_blank pre) x f)
+          (shorter is_word_byte x)
       by_held (c ∷ cs) e (d ∷ ds) f =
-          let j = rw (behind-on is_blank pre x (not_none _ c cs e), front-on is_word_byte (behind is_blank pre) x (not_none _ d ds f)) at k in
+          let j =
+          rw (
+            behind-on is_blank pre x (not_none _ c cs e),
+            front-on is_word_byte (behind is_blank pre) x (not_none _ d ds f),
+          ) at k in
           let l = past_word d ds f in
           absurd cc
 
@@ -136,10 +164,12 @@ module _ (pre : List ℕ) (none : ends_in pre ≡ false) where
       by_rest [] f = rw (front-whole is_word_byte (behind is_blank pre) f) k
       by_rest (d ∷ ds) f = past_word d ds f
 
-  pub over : (n : ℕ) (x : List ℕ) (whole : Bool) → length pre ≡ suc line_limit → ltb line_limit (counted (record { number = n; bytes = pre ++ x; whole = whole })) ≡ true
+  pub over : (n : ℕ) (x : List ℕ) (whole : Bool) → length pre ≡ suc line_limit →
+      ltb line_limit (counted (record { number = n; bytes = pre ++ x; whole = whole })) ≡ true
   over n x whole len = by_end (is_end (record { number = n; bytes = pre ++ x; whole = whole })) refl
     where
-      by_end : (t : Bool) → is_end (record { number = n; bytes = pre ++ x; whole = whole }) ≡ t → ltb line_limit (length (pre ++ x) - cond t (length (behind_word (pre ++ x))) 0) ≡ true
+      by_end : (t : Bool) → is_end (record { number = n; bytes = pre ++ x; whole = whole }) ≡ t →
+          ltb line_limit (length (pre ++ x) - cond t (length (behind_word (pre ++ x))) 0) ≡ true
       by_end true e = lt-ltb _ _ (omega (arith, len, length-append pre x, late x (and_parts _ _ e).0))
       by_end false e = lt-ltb _ _ (omega (arith, len, length-append pre x))
 
@@ -151,7 +181,9 @@ judge_none m before = refl
 
 judge_piece : (m : ℕ) (before : Settings) (over last more : Bool) (line : ℕ) (entry : Entry) (ps : List Piece)
     → judge m before (cond over (LongLine line) (cond last (End line) (cond more Open (Holds line entry))) ∷ ps)
-    ≡ cond over (Some (Err (record { line = line; kind = kinds.TooLong }))) (cond last (Some (at_end line before)) (cond more None (after line (means before entry) (judge line (before ++ settings_of (means before entry)) ps))))
+    ≡ cond over (Some (Err (record { line = line; kind = kinds.TooLong })))
+    (cond last (Some (at_end line before))
+    (cond more None (after line (means before entry) (judge line (before ++ settings_of (means before entry)) ps))))
 unfolding judge
 judge_piece m before true last more line entry ps = refl
 judge_piece m before false true more line entry ps = refl
@@ -160,24 +192,38 @@ judge_piece m before false false false line entry ps = refl
 
 -- what is judged of a line
 pub judge_line : (m : ℕ) (before : Settings) (l : Line) (ls : List Line) → judge m before (pieces (l ∷ ls))
-    ≡ cond (ltb line_limit (counted l)) (Some (Err (record { line = l.number; kind = kinds.TooLong }))) (cond (is_end l) (Some (at_end l.number before)) (cond (not l.whole) None (after l.number (line_means before (behind is_blank l.bytes)) (judge l.number (before ++ settings_of (line_means before (behind is_blank l.bytes))) (pieces ls)))))
-judge_line m before l ls = judge_piece m before (ltb line_limit (counted l)) (is_end l) (not l.whole) l.number (entry_of (behind is_blank l.bytes)) (pieces ls)
+    ≡ cond (ltb line_limit (counted l)) (Some (Err (record { line = l.number; kind = kinds.TooLong })))
+    (cond (is_end l) (Some (at_end l.number before))
+    (cond (not l.whole) None
+    (after l.number (line_means before (behind is_blank l.bytes))
+    (judge l.number (before ++ settings_of (line_means before (behind is_blank l.bytes))) (pieces ls)))))
+judge_line m before l ls = judge_piece m before (ltb line_limit (counted l)) (is_end l) (not l.whole) l.number
+    (entry_of (behind is_blank l.bytes)) (pieces ls)
 
-any_number : (m n k : ℕ) (before : Settings) (e : Bool) (bs : List ℕ) → judge m before (pieces (lines e k bs)) ≡ judge n before (pieces (lines e k bs))
-any_number m n k before e bs = let c = lines_cons e bs k in rw c.is (judge_line m before c.first c.rest ∙ sym (judge_line n before c.first c.rest))
+any_number : (m n k : ℕ) (before : Settings) (e : Bool) (bs : List ℕ) →
+    judge m before (pieces (lines e k bs)) ≡ judge n before (pieces (lines e k bs))
+any_number m n k before e bs = let c = lines_cons e bs k in
+    rw c.is (judge_line m before c.first c.rest ∙ sym (judge_line n before c.first c.rest))
 
-judge_over : (m : ℕ) (before : Settings) (l : Line) (ls : List Line) → ltb line_limit (counted l) ≡ true → judge m before (pieces (l ∷ ls)) ≡ Some (Err (record { line = l.number; kind = kinds.TooLong }))
+judge_over : (m : ℕ) (before : Settings) (l : Line) (ls : List Line) → ltb line_limit (counted l) ≡ true →
+    judge m before (pieces (l ∷ ls)) ≡ Some (Err (record { line = l.number; kind = kinds.TooLong }))
 judge_over m before l ls h = judge_line m before l ls ∙ cond-true _ _ _ h
 
-judge_end : (m : ℕ) (before : Settings) (l : Line) (ls : List Line) → ltb line_limit (counted l) ≡ false → is_end l ≡ true → judge m before (pieces (l ∷ ls)) ≡ Some (at_end l.number before)
+judge_end : (m : ℕ) (before : Settings) (l : Line) (ls : List Line) → ltb line_limit (counted l) ≡ false →
+    is_end l ≡ true → judge m before (pieces (l ∷ ls)) ≡ Some (at_end l.number before)
 judge_end m before l ls h e = judge_line m before l ls ∙ cond-false _ _ _ h ∙ cond-true _ _ _ e
 
-judge_open : (m : ℕ) (before : Settings) (l : Line) (ls : List Line) → ltb line_limit (counted l) ≡ false → is_end l ≡ false → l.whole ≡ false → judge m before (pieces (l ∷ ls)) ≡ None
-judge_open m before l ls h e w = judge_line m before l ls ∙ cond-false _ _ _ h ∙ cond-false _ _ _ e ∙ cond-true _ _ _ (ap not w)
+judge_open : (m : ℕ) (before : Settings) (l : Line) (ls : List Line) → ltb line_limit (counted l) ≡ false →
+    is_end l ≡ false → l.whole ≡ false → judge m before (pieces (l ∷ ls)) ≡ None
+judge_open m before l ls h e w = judge_line m before l ls ∙ cond-false _ _ _ h ∙ cond-false _ _ _ e
+    ∙ cond-true _ _ _ (ap not w)
 
-judge_whole : (m : ℕ) (before : Settings) (l : Line) (ls : List Line) → ltb line_limit (counted l) ≡ false → is_end l ≡ false → l.whole ≡ true
-    → judge m before (pieces (l ∷ ls)) ≡ after l.number (line_means before (behind is_blank l.bytes)) (judge l.number (before ++ settings_of (line_means before (behind is_blank l.bytes))) (pieces ls))
-judge_whole m before l ls h e w = judge_line m before l ls ∙ cond-false _ _ _ h ∙ cond-false _ _ _ e ∙ cond-false _ _ _ (ap not w)
+judge_whole : (m : ℕ) (before : Settings) (l : Line) (ls : List Line) → ltb line_limit (counted l) ≡ false
+    → is_end l ≡ false → l.whole ≡ true
+    → judge m before (pieces (l ∷ ls)) ≡ after l.number (line_means before (behind is_blank l.bytes))
+    (judge l.number (before ++ settings_of (line_means before (behind is_blank l.bytes))) (pieces ls))
+judge_whole m before l ls h e w = judge_line m before l ls ∙ cond-false _ _ _ h ∙ cond-false _ _ _ e
+    ∙ cond-false _ _ _ (ap not w)
 
 -- a line that is no EOF counts whole
 counts_all : (l : Line) → is_end l ≡ false → length l.bytes ≤ line_limit → ltb line_limit (counted l) ≡ false
@@ -187,58 +233,87 @@ record EndsWith (pre y : List ℕ) (n : ℕ) (whole : Bool) : Type 0 where
   pub ends : is_end (record { number = n; bytes = pre ++ y; whole = whole }) ≡ true
   pub counts : ltb line_limit (counted (record { number = n; bytes = pre ++ y; whole = whole })) ≡ false
 
-eof_at : (pre y : List ℕ) (n : ℕ) (whole : Bool) → is_eof (behind is_blank pre) ≡ true → length pre ≤ line_limit → begins_no is_word_byte y ≡ true → (whole || not (is_empty y)) ≡ true → EndsWith pre y n whole
+eof_at : (pre y : List ℕ) (n : ℕ) (whole : Bool) → is_eof (behind is_blank pre) ≡ true → length pre ≤ line_limit →
+    begins_no is_word_byte y ≡ true → (whole || not (is_empty y)) ≡ true → EndsWith pre y n whole
 eof_at pre y n whole k le solid w =
     let i = eof_word (behind is_blank pre) k in
     let on = behind-on is_blank pre y i.some in
-    let word : word_of (pre ++ y) ≡ behind is_blank pre = ap (front is_word_byte) on ∙ front-all is_word_byte (behind is_blank pre) y i.word ∙ ap (λ (z : List ℕ). behind is_blank pre ++ z) (front_none y solid) ∙ append-nil _ in
-    let rest : behind_word (pre ++ y) ≡ y = ap (behind is_word_byte) on ∙ behind-all is_word_byte (behind is_blank pre) y i.word ∙ behind_none is_word_byte y solid in
-    let ends : is_end (record { number = n; bytes = pre ++ y; whole = whole }) ≡ true = and_from _ _ (ap is_eof word ∙ k) (ap (λ (z : List ℕ). whole || not (is_empty z)) rest ∙ w) in
+    let word : word_of (pre ++ y) ≡ behind is_blank pre = ap (front is_word_byte) on
+    ∙ front-all is_word_byte (behind is_blank pre) y i.word
+    ∙ ap (λ (z : List ℕ). behind is_blank pre ++ z) (front_none y solid) ∙ append-nil _ in
+    let rest : behind_word (pre ++ y) ≡ y = ap (behind is_word_byte) on
+    ∙ behind-all is_word_byte (behind is_blank pre) y i.word ∙ behind_none is_word_byte y solid in
+    let ends : is_end (record { number = n; bytes = pre ++ y; whole = whole }) ≡ true =
+    and_from _ _ (ap is_eof word ∙ k) (ap (λ (z : List ℕ). whole || not (is_empty z)) rest ∙ w) in
     let size : length (behind_word (pre ++ y)) ≡ length y = ap length rest in
     record {
       ends = ends;
-      counts = ap (λ t. ltb line_limit (length (pre ++ y) - cond t (length (behind_word (pre ++ y))) 0)) ends ∙ le-ltb _ _ (omega (arith, le, length-append pre y, size));
+      counts = ap (λ t. ltb line_limit (length (pre ++ y) - cond t (length (behind_word (pre ++ y))) 0)) ends
+          ∙ le-ltb _ _ (omega (arith, le, length-append pre y, size));
     }
 
-pub from_byte : (n : ℕ) (before : Settings) (pre : List ℕ) (e : Bool) (b : ℕ) (more : List ℕ) → eqb b LF ≡ false → from_line n before pre e (b ∷ more) ≡ from_line n before (pre ++ b ∷ []) e more
+pub from_byte : (n : ℕ) (before : Settings) (pre : List ℕ) (e : Bool) (b : ℕ) (more : List ℕ) → eqb b LF ≡ false →
+    from_line n before pre e (b ∷ more) ≡ from_line n before (pre ++ b ∷ []) e more
 unfolding from_line
-from_byte n before pre e b more h = ap (λ (ls : List Line). said (judge n before (pieces (prepend pre ls)))) (lines-byte e n b more h) ∙ ap (λ (ls : List Line). said (judge n before (pieces ls))) (prepend-onto pre b (lines e n more))
+from_byte n before pre e b more h =
+    ap (λ (ls : List Line). said (judge n before (pieces (prepend pre ls)))) (lines-byte e n b more h)
+    ∙ ap (λ (ls : List Line). said (judge n before (pieces ls))) (prepend-onto pre b (lines e n more))
 
-pub from_over : (n : ℕ) (before : Settings) (pre : List ℕ) (e : Bool) (more : List ℕ) → ends_in pre ≡ false → length pre ≡ suc line_limit → from_line n before pre e more ≡ Some (Ok (Err (record { line = n; kind = kinds.TooLong })))
+pub from_over : (n : ℕ) (before : Settings) (pre : List ℕ) (e : Bool) (more : List ℕ) → ends_in pre ≡ false →
+    length pre ≡ suc line_limit →
+    from_line n before pre e more ≡ Some (Ok (Err (record { line = n; kind = kinds.TooLong })))
 unfolding from_line
 from_over n before pre e more none len =
     let f = first_line e n more in
-    ap (λ (ls : List Line). said (judge n before (pieces (prepend pre ls)))) f.is ∙ ap said (judge_over n before _ f.rest (over pre none n f.bytes f.whole len))
+    ap (λ (ls : List Line). said (judge n before (pieces (prepend pre ls)))) f.is
+    ∙ ap said (judge_over n before _ f.rest (over pre none n f.bytes f.whole len))
 
-pub from_eof : (n : ℕ) (before : Settings) (pre : List ℕ) (e : Bool) (b : ℕ) (more : List ℕ) → is_eof (behind is_blank pre) ≡ true → length pre ≤ line_limit → is_word_byte b ≡ false → from_line n before pre e (b ∷ more) ≡ Some (Ok (at_end n before))
+pub from_eof : (n : ℕ) (before : Settings) (pre : List ℕ) (e : Bool) (b : ℕ) (more : List ℕ) →
+    is_eof (behind is_blank pre) ≡ true → length pre ≤ line_limit → is_word_byte b ≡ false →
+    from_line n before pre e (b ∷ more) ≡ Some (Ok (at_end n before))
 unfolding from_line
 from_eof n before pre e b more k le solid = by_test (eqb b LF) refl
   where
-    by_test : (t : Bool) → eqb b LF ≡ t → said (judge n before (pieces (prepend pre (lines e n (b ∷ more))))) ≡ Some (Ok (at_end n before))
+    by_test : (t : Bool) → eqb b LF ≡ t →
+        said (judge n before (pieces (prepend pre (lines e n (b ∷ more))))) ≡ Some (Ok (at_end n before))
     by_test true t =
         let is : b ≡ LF = eqb-true _ _ t in
         let i = eof_at pre [] n true k le refl refl in
-        rw (is, lines-LF e n more) (ap said (judge_end n before (record { number = n; bytes = pre ++ []; whole = true }) (lines e (suc n) more) i.counts i.ends))
+        rw (is, lines-LF e n more)
+        (ap said (judge_end n before (record { number = n; bytes = pre ++ []; whole = true }) (lines e (suc n) more)
+        i.counts i.ends))
     by_test false t =
         let f = first_line e n more in
         let i = eof_at pre (b ∷ f.bytes) n f.whole k le (rw solid refl) (or_right f.whole true refl) in
-        rw (lines-byte e n b more t, f.is) (ap said (judge_end n before (record { number = n; bytes = pre ++ b ∷ f.bytes; whole = f.whole }) f.rest i.counts i.ends))
+        rw (lines-byte e n b more t, f.is)
+        (ap said (judge_end n before (record { number = n; bytes = pre ++ b ∷ f.bytes; whole = f.whole }) f.rest
+        i.counts i.ends))
 
-pub from_end_eof : (n : ℕ) (before : Settings) (pre : List ℕ) → is_eof (behind is_blank pre) ≡ true → length pre ≤ line_limit → from_line n before pre true [] ≡ Some (Ok (at_end n before))
+pub from_end_eof : (n : ℕ) (before : Settings) (pre : List ℕ) → is_eof (behind is_blank pre) ≡ true →
+    length pre ≤ line_limit → from_line n before pre true [] ≡ Some (Ok (at_end n before))
 unfolding from_line lines
-from_end_eof n before pre k le = let i = eof_at pre [] n true k le refl refl in ap said (judge_end n before (record { number = n; bytes = pre ++ []; whole = true }) [] i.counts i.ends)
+from_end_eof n before pre k le = let i = eof_at pre [] n true k le refl refl in
+    ap said (judge_end n before (record { number = n; bytes = pre ++ []; whole = true }) [] i.counts i.ends)
 
 module _ (n : ℕ) (before : Settings) (pre : List ℕ) (none : ends_in pre ≡ false) (le : length pre ≤ line_limit) where
   pub from_open : from_line n before pre false [] ≡ None
   unfolding from_line lines
-  from_open = rw (append-nil pre) (ap said (judge_open n before (record { number = n; bytes = pre; whole = false }) [] (counts_all (record { number = n; bytes = pre; whole = false }) none le) none refl))
+  from_open =
+      rw (append-nil pre)
+      (ap said
+      (judge_open n before (record { number = n; bytes = pre; whole = false }) []
+      (counts_all (record { number = n; bytes = pre; whole = false }) none le) none refl))
 
   module _ (other : is_eof (behind is_blank pre) ≡ false) where
     line_ends : is_end (record { number = n; bytes = pre; whole = true }) ≡ false
     line_ends = and_left _ true (no_end pre none other)
 
-    at_line : (ls : List Line) → judge n before (pieces (record { number = n; bytes = pre; whole = true } ∷ ls)) ≡ after n (line_means before (behind is_blank pre)) (judge n (before ++ settings_of (line_means before (behind is_blank pre))) (pieces ls))
-    at_line ls = judge_whole n before (record { number = n; bytes = pre; whole = true }) ls (counts_all (record { number = n; bytes = pre; whole = true }) line_ends le) line_ends refl
+    at_line : (ls : List Line) → judge n before (pieces (record { number = n; bytes = pre; whole = true } ∷ ls)) ≡ after
+        n (line_means before (behind is_blank pre))
+        (judge n (before ++ settings_of (line_means before (behind is_blank pre))) (pieces ls))
+    at_line ls =
+        judge_whole n before (record { number = n; bytes = pre; whole = true }) ls
+        (counts_all (record { number = n; bytes = pre; whole = true }) line_ends le) line_ends refl
 
     sound : (m : Meaning) (r : Option Answer) → IsSound m → after n m r ≡ r
     sound Nothing r h = refl
@@ -246,22 +321,31 @@ module _ (n : ℕ) (before : Settings) (pre : List ℕ) (none : ends_in pre ≡ 
     sound (Sets key value) r h = refl
 
     pub from_LF : (e : Bool) (more : List ℕ) → IsSound (line_means before (behind is_blank pre))
-        → from_line n before pre e (LF ∷ more) ≡ from_line (suc n) (before ++ settings_of (line_means before (behind is_blank pre))) [] e more
+        → from_line n before pre e (LF ∷ more) ≡ from_line (suc n)
+        (before ++ settings_of (line_means before (behind is_blank pre))) [] e more
     unfolding from_line
     from_LF e more h =
         let b = before ++ settings_of (line_means before (behind is_blank pre)) in
         rw (lines-LF e n more, append-nil pre, prepend-nil (lines e (suc n) more))
         (ap said (at_line (lines e (suc n) more) ∙ sound _ _ h ∙ any_number n (suc n) (suc n) b e more))
 
-    pub from_LF_fault : (e : Bool) (more : List ℕ) (kind : ParamKind) → line_means before (behind is_blank pre) ≡ Faulty kind
+    pub from_LF_fault : (e : Bool) (more : List ℕ) (kind : ParamKind)
+        → line_means before (behind is_blank pre) ≡ Faulty kind
         → from_line n before pre e (LF ∷ more) ≡ Some (Ok (Err (record { line = n; kind = kind })))
     unfolding from_line
-    from_LF_fault e more kind h = rw (lines-LF e n more, append-nil pre) (ap said (at_line (lines e (suc n) more)) ∙ ap (λ (m : Meaning). said (after n m (judge n (before ++ settings_of m) (pieces (lines e (suc n) more))))) h)
+    from_LF_fault e more kind h =
+        rw (lines-LF e n more, append-nil pre) (ap said (at_line (lines e (suc n) more))
+        ∙ ap (λ (m : Meaning). said (after n m (judge n (before ++ settings_of m) (pieces (lines e (suc n) more))))) h)
 
-    pub from_end : IsSound (line_means before (behind is_blank pre)) → from_line n before pre true [] ≡ Some (Ok (at_end n (before ++ settings_of (line_means before (behind is_blank pre)))))
+    pub from_end : IsSound (line_means before (behind is_blank pre)) →
+        from_line n before pre true [] ≡ Some
+        (Ok (at_end n (before ++ settings_of (line_means before (behind is_blank pre)))))
     unfolding from_line lines
     from_end h = rw (append-nil pre) (ap said (at_line [] ∙ sound _ _ h ∙ judge_none n _))
 
-    pub from_end_fault : (kind : ParamKind) → line_means before (behind is_blank pre) ≡ Faulty kind → from_line n before pre true [] ≡ Some (Ok (Err (record { line = n; kind = kind })))
+    pub from_end_fault : (kind : ParamKind) → line_means before (behind is_blank pre) ≡ Faulty kind →
+        from_line n before pre true [] ≡ Some (Ok (Err (record { line = n; kind = kind })))
     unfolding from_line lines
-    from_end_fault kind h = rw (append-nil pre) (ap said (at_line []) ∙ ap (λ (m : Meaning). said (after n m (judge n (before ++ settings_of m) []))) h)
+    from_end_fault kind h =
+        rw (append-nil pre) (ap said (at_line [])
+        ∙ ap (λ (m : Meaning). said (after n m (judge n (before ++ settings_of m) []))) h)

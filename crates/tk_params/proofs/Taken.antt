@@ -6,10 +6,12 @@ use Rattle.tk_params.specs.declared.key.Key.TheVariants as keys
 use Rattle.tk_params.specs.declared.value.Construction.TheVariants.{Nearest}
 use Rattle.tk_params.specs.Stored.{LosesOnly}
 use Rattle.tk_params.specs.Values.{Settings, look, same_key}
-use Rattle.tk_params.specs.Asked.{AreApart, AreSettings, AreWithinLimits, ParamsAre, asked, asked_of, file_in, ignored_keys, number_in, switch_in, way_in}
+use Rattle.tk_params.specs.Asked.{AreApart, AreSettings, AreWithinLimits, ParamsAre, asked, asked_of, file_in}
+use Rattle.tk_params.specs.Asked.{ignored_keys, number_in, switch_in, way_in}
 use Rattle.tk_params.proofs.Limits.{asked_within}
 
--- the fields of parameters, as they are looked up in settings: s1 to s4 are what is left of them after each of the four files
+-- the fields of parameters, as they are looked up in settings: s1 to s4 are what is left of them after each of the four
+-- files
 pub record AreLookedUp (ss : Settings) (p : ParamsAre) : Type 0 where
   pub s0 : Settings
   pub s1 : Settings
@@ -40,7 +42,8 @@ module _ (ss : Settings) (p : ParamsAre) (l : AreLookedUp ss p) where
   begun : (key : Key) → look key l.s0 ≡ look key ss
   begun key = ap (look key) l.start
 
-  after_all : (key : Key) → same_key keys.ProblemFile key ≡ false → same_key keys.TourFile key ≡ false → same_key keys.SolutionFile key ≡ false → same_key keys.InitialTourFile key ≡ false → look key l.s4 ≡ look key ss
+  after_all : (key : Key) → same_key keys.ProblemFile key ≡ false → same_key keys.TourFile key ≡ false →
+      same_key keys.SolutionFile key ≡ false → same_key keys.InitialTourFile key ≡ false → look key l.s4 ≡ look key ss
   after_all key a b c d = l.fourth key d ∙ l.third key c ∙ l.second key b ∙ l.first key a ∙ begun key
 
   named : file_in (look keys.ProblemFile ss) ≡ Some p.problem_file
@@ -50,16 +53,34 @@ module _ (ss : Settings) (p : ParamsAre) (l : AreLookedUp ss p) where
   unfolding asked_of
   is_asked =
       let tour = l.tour_file ∙ ap file_in (l.first keys.TourFile refl ∙ begun keys.TourFile) in
-      let solution = l.solution_file ∙ ap file_in (l.second keys.SolutionFile refl ∙ l.first keys.SolutionFile refl ∙ begun keys.SolutionFile) in
-      let initial = l.initial_tour_file ∙ ap file_in (l.third keys.InitialTourFile refl ∙ l.second keys.InitialTourFile refl ∙ l.first keys.InitialTourFile refl ∙ begun keys.InitialTourFile) in
+      let solution = l.solution_file
+      ∙ ap file_in (l.second keys.SolutionFile refl ∙ l.first keys.SolutionFile refl ∙ begun keys.SolutionFile) in
+      let initial = l.initial_tour_file
+      ∙ ap file_in (l.third keys.InitialTourFile refl ∙ l.second keys.InitialTourFile refl
+      ∙ l.first keys.InitialTourFile refl ∙ begun keys.InitialTourFile) in
       let runs = l.runs ∙ ap (λ o. unwrap_or (number_in o) 10) (after_all keys.Runs refl refl refl refl) in
       let trials = l.max_trials ∙ ap number_in (after_all keys.MaxTrials refl refl refl refl) in
       let seed = l.seed ∙ ap (λ o. unwrap_or (number_in o) 1) (after_all keys.Seed refl refl refl refl) in
-      let candidates = l.max_candidates ∙ ap (λ o. unwrap_or (number_in o) 5) (after_all keys.MaxCandidates refl refl refl refl) in
-      let construction = l.construction ∙ ap (λ o. unwrap_or (way_in o) Nearest) (after_all keys.Construction refl refl refl refl) in
-      let sweep = l.final_sweep ∙ ap (λ o. unwrap_or (switch_in o) false) (after_all keys.FinalSweep refl refl refl refl) in
+      let candidates = l.max_candidates
+      ∙ ap (λ o. unwrap_or (number_in o) 5) (after_all keys.MaxCandidates refl refl refl refl) in
+      let construction = l.construction
+      ∙ ap (λ o. unwrap_or (way_in o) Nearest) (after_all keys.Construction refl refl refl refl) in
+      let sweep = l.final_sweep
+      ∙ ap (λ o. unwrap_or (switch_in o) false) (after_all keys.FinalSweep refl refl refl refl) in
       let segment = l.or_segment ∙ ap (λ o. unwrap_or (number_in o) 3) (after_all keys.OrSegment refl refl refl refl) in
-      rw (← tour, ← solution, ← initial, ← runs, ← trials, ← seed, ← candidates, ← construction, ← sweep, ← segment, ← l.unused) refl
+      rw (
+        ← tour,
+        ← solution,
+        ← initial,
+        ← runs,
+        ← trials,
+        ← seed,
+        ← candidates,
+        ← construction,
+        ← sweep,
+        ← segment,
+        ← l.unused,
+      ) refl
 
   pub some_asked : Some p ≡ asked ss
   some_asked = ap Some is_asked ∙ ap (option_map (λ problem. asked_of problem ss)) (sym named)

@@ -1,5 +1,6 @@
 -- What a parameter file asks for: what its keys say, and the defaults of the others.
-use Rattle.std.specs.Prelude.{◌≢◌, ◌≤◌, ℕ, Bool, true, false, List, [], ◌∷◌, length, Option, Some, None, All, IfSome, option_map, unwrap_or, if◌then◌else◌}
+use Rattle.std.specs.Prelude.{◌≢◌, ◌≤◌, ℕ, Bool, true, false, List, [], ◌∷◌, length, Option, Some, None, All, IfSome}
+use Rattle.std.specs.Prelude.{option_map, unwrap_or, if◌then◌else◌}
 use Rattle.std.specs.List.{IsDistinct}
 use Rattle.std.specs.Map.{keys_of}
 use Rattle.tk_problem.specs.declared.limits.TheConstants.{CANDIDATE_LIMIT}

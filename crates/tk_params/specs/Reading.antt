@@ -11,7 +11,8 @@ use Rattle.tk_params.specs.declared.fault.ParamKind.{ParamKind}
 use Rattle.tk_params.specs.declared.reader.ParamReader.{ParamReader}
 use Rattle.tk_params.specs.Readers.{HasTaken}
 use Rattle.tk_params.specs.Values.{Settings, Faulty, line_means}
-use Rattle.tk_params.specs.Params.{Answer, at_end, line_limit, is_eof, word_of, behind_word, judge, pieces, said, params_decided}
+use Rattle.tk_params.specs.Params.{Answer, at_end, line_limit, is_eof, word_of, behind_word, judge, pieces, said}
+use Rattle.tk_params.specs.Params.{params_decided}
 
 abbrev pub answer_with : Option ParamFault → ℕ → Settings → Answer
 answer_with None n before = at_end n before

@@ -1,11 +1,13 @@
 //! Parameter files, read from a source.
-ghost use Rattle.std.specs.Prelude.{◌≡◌, ◌≢◌, ◌<◌, ◌^◌, ◌++◌, ◌∷◌, ℕ, List, [], length, true, false, Ok, Err, IfOk, IfErr, OnOk};
+ghost use Rattle.std.specs.Prelude.{◌≡◌, ◌≢◌, ◌<◌, ◌^◌, ◌++◌, ◌∷◌, ℕ, List, [], length, true, false, Ok, Err, IfOk};
+ghost use Rattle.std.specs.Prelude.{IfErr, OnOk};
 ghost use Rattle.tk_words.specs.Drive.{FedMore};
 ghost use Rattle.tk_words.specs.Lex.{behind, is_blank, is_word_byte};
 ghost use Rattle.tk_words.specs.declared.fault.TextKind.TheVariants as kinds;
 ghost use Rattle.tk_params.specs.Reading.{Feeds, TakesLine, answer_in};
 ghost use Rattle.tk_params.specs.Params as Text;
-ghost use Rattle.tk_params.specs.Params.{IsParamAnswerWhereTold, IsParamFaultWhereTold, IsOfSomeParams, IsFaultOfSomeParams, IsParamIntact, is_eof};
+ghost use Rattle.tk_params.specs.Params.{IsParamAnswerWhereTold, IsParamFaultWhereTold, IsOfSomeParams};
+ghost use Rattle.tk_params.specs.Params.{IsFaultOfSomeParams, IsParamIntact, is_eof};
 
 use crate::fault::{ParamFault, ParamKind};
 use crate::line::take_line;

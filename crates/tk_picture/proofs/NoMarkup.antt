@@ -1,5 +1,6 @@
 -- No byte of a name that is shown is one of markup.
-use Rattle.std.proofs.Common.{◌≡◌, ◌≢◌, ℕ, ◌<◌, Bool, true, false, List, [], ◌∷◌, length, get_or, refl, sym, ◌∙◌, arith, append-nil}
+use Rattle.std.proofs.Common.{◌≡◌, ◌≢◌, ℕ, ◌<◌, Bool, true, false, List, [], ◌∷◌, length, get_or, refl, sym, ◌∙◌, arith}
+use Rattle.std.proofs.Common.{append-nil}
 use Rattle.std.specs.Prelude.{All, codes, flat_map, ◌==◌, if◌then◌else◌}
 use Rattle.std.specs.Char.{encode_utf8}
 use Rattle.std.specs.Str.{chars}
@@ -25,9 +26,11 @@ no_markup_char c less greater quote k d within = (
 
 abbrev no_markup_test : List ℕ → Bool
 no_markup_test [] = true
-no_markup_test (b ∷ bs) = if b == 60 then false else (if b == 62 then false else (if b == 34 then false else no_markup_test bs))
+no_markup_test (b ∷ bs) = if b == 60 then false
+    else (if b == 62 then false else (if b == 34 then false else no_markup_test bs))
 
-either_of : (b : Bool) (s t : List ℕ) → (b ≡ true → All IsNoMarkup s) → (b ≡ false → All IsNoMarkup t) → All IsNoMarkup (if b then s else t)
+either_of : (b : Bool) (s t : List ℕ) → (b ≡ true → All IsNoMarkup s) → (b ≡ false → All IsNoMarkup t) →
+    All IsNoMarkup (if b then s else t)
 either_of true s t first second = first refl
 either_of false s t first second = second refl
 
@@ -37,11 +40,13 @@ no_markup_step : (b : ℕ) (bs : List ℕ) (x y z : Bool) → (b == 60) ≡ x �
 no_markup_step b bs true y z e f g p rest = absurd cc
 no_markup_step b bs false true z e f g p rest = absurd cc
 no_markup_step b bs false false true e f g p rest = absurd cc
-no_markup_step b bs false false false e f g p rest = All-cons IsNoMarkup b bs (eqb-false b 60 e, eqb-false b 62 f, eqb-false b 34 g) (rest p)
+no_markup_step b bs false false false e f g p rest =
+    All-cons IsNoMarkup b bs (eqb-false b 60 e, eqb-false b 62 f, eqb-false b 34 g) (rest p)
 
 no_markup_text : (bs : List ℕ) → no_markup_test bs ≡ true → All IsNoMarkup bs
 no_markup_text [] passes = All-nil IsNoMarkup
-no_markup_text (b ∷ bs) passes = no_markup_step b bs (b == 60) (b == 62) (b == 34) refl refl refl passes (no_markup_text bs)
+no_markup_text (b ∷ bs) passes =
+    no_markup_step b bs (b == 60) (b == 62) (b == 34) refl refl refl passes (no_markup_text bs)
 
 no_markup_shown : (c : ℕ) → All IsNoMarkup (shown c)
 no_markup_shown c =
@@ -49,7 +54,8 @@ no_markup_shown c =
     either_of (c == 60) (codes "&lt;") _ (λ _. no_markup_text (codes "&lt;") refl) (λ less.
     either_of (c == 62) (codes "&gt;") _ (λ _. no_markup_text (codes "&gt;") refl) (λ greater.
     either_of (c == 34) (codes "&quot;") _ (λ _. no_markup_text (codes "&quot;") refl) (λ quote.
-    either_of (is_plain c) (encode_utf8 c) (codes "?") (λ _. no_markup_char c (eqb-false c 60 less) (eqb-false c 62 greater) (eqb-false c 34 quote))
+    either_of (is_plain c) (encode_utf8 c) (codes "?")
+    (λ _. no_markup_char c (eqb-false c 60 less) (eqb-false c 62 greater) (eqb-false c 34 quote))
     (λ _. no_markup_text (codes "?") refl)))))
 
 no_markup_all : (cs : List ℕ) → All IsNoMarkup (flat_map shown cs)

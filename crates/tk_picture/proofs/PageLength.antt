@@ -1,5 +1,6 @@
 -- How long the text of a page is at most.
-use Rattle.std.proofs.Common.{ℕ, suc, ◌+◌, ◌-◌, ◌*◌, ◌^◌, ◌≤◌, List, [], ◌∷◌, ◌++◌, Option, Some, None, length, arith, length-append}
+use Rattle.std.proofs.Common.{ℕ, suc, ◌+◌, ◌-◌, ◌*◌, ◌^◌, ◌≤◌, List, [], ◌∷◌, ◌++◌, Option, Some, None, length, arith}
+use Rattle.std.proofs.Common.{length-append}
 use Rattle.std.specs.Prelude.{ℤ, pos, negsuc, flat_map, codes, decimal, map, slice_get, ◌==◌}
 use Rattle.std.specs.Fmt.{signed_decimal}
 use Rattle.std.specs.List.{concat, range_with_len}
@@ -22,23 +23,41 @@ use Rattle.tk_picture.specs.declared.subject.Subject.{Subject}
 use Rattle.tk_picture.specs.declared.subject.Subject.TheVariants as subjects
 use Rattle.tk_picture.specs.Drawings.{Drawing, Path, caption_of, paths_of}
 use Rattle.tk_picture.specs.Names.{shown_name}
-use Rattle.tk_picture.specs.PageText.{Row, block, city_line, demand_word, depot_word, ending, heading, opening, page_text, path_line, row_line, row_of, rows, table, table_caption, table_end, table_head, table_start, verdict}
+use Rattle.tk_picture.specs.PageText.{Row, block, city_line, demand_word, depot_word, ending, heading, opening}
+use Rattle.tk_picture.specs.PageText.{page_text, path_line, row_line, row_of, rows, table, table_caption, table_end}
+use Rattle.tk_picture.specs.PageText.{table_head, table_start, verdict}
 use Rattle.tk_picture.specs.PictureText.{picture_text, spot, title, title_line}
 use Rattle.tk_picture.specs.Pictures.{Fits, drawing_of, text_in}
-use Rattle.tk_picture.proofs.PictureLength.{corners_of, each_short, either_short, filled_few, length_caption, length_name, length_picture, length_spot, length_title, length_title_line, paths_few}
+use Rattle.tk_picture.proofs.PictureLength.{corners_of, each_short, either_short, filled_few, length_caption}
+use Rattle.tk_picture.proofs.PictureLength.{length_name, length_picture, length_spot, length_title, length_title_line}
+use Rattle.tk_picture.proofs.PictureLength.{paths_few}
 
 -- ---- before the picture
 
-around : (before text after : List ℕ) → length before ≤ 50 → length after ≤ 50 → length (line (before ++ text ++ after)) ≤ 101 + length text
+around : (before text after : List ℕ) → length before ≤ 50 → length after ≤ 50 →
+    length (line (before ++ text ++ after)) ≤ 101 + length text
 around before text after short_before short_after = simp length-append (omega arith)
 
 length_heading : (name : List ℕ) → length name ≤ 1024 → length (heading name) ≤ 12000101
-length_heading name named = omega (arith, length_name name named, around (codes "<h1><bdi>") (shown_name name) (codes "</bdi></h1>") (omega arith) (omega arith))
+length_heading name named =
+    omega (
+      arith,
+      length_name name named,
+      around (codes "<h1><bdi>") (shown_name name) (codes "</bdi></h1>")
+          (omega arith) (omega arith),
+    )
 
 length_verdict : (n : ℕ) (d : Drawing) → length (verdict n d) ≤ 301
-length_verdict n d = omega (arith, length_caption n d, around (codes "<p id=\"verdict\">") (caption_of n d) (codes "</p>") (omega arith) (omega arith))
+length_verdict n d =
+    omega (
+      arith,
+      length_caption n d,
+      around (codes "<p id=\"verdict\">") (caption_of n d) (codes "</p>") (omega arith)
+          (omega arith),
+    )
 
-length_opening : (parts : Parts) (name : List ℕ) (n : ℕ) (d : Drawing) → length name ≤ 1024 → length (opening parts name n d) ≤ 30000000
+length_opening : (parts : Parts) (name : List ℕ) (n : ℕ) (d : Drawing) → length name ≤ 1024 →
+    length (opening parts name n d) ≤ 30000000
 length_opening parts name n d named =
     let style = parts.head.now ++ parts.style.now in
     let one = style ++ line (codes "</style>") in
@@ -53,18 +72,29 @@ length_opening parts name n d named =
     let f = length-append three (heading name) in
     let g = length-append four (verdict n d) in
     let h = length-append five (line (codes "<div id=\"stage\">")) in
-    omega (arith, parts.head_short, parts.style_short, length_title_line (title name n d), length_title name n d named, length_heading name named, length_verdict n d)
+    omega (
+      arith,
+      parts.head_short,
+      parts.style_short,
+      length_title_line (title name n d),
+      length_title name n d named,
+      length_heading name named,
+      length_verdict n d,
+    )
 
 -- ---- the table
 
 row_parts : (a b c d e : List ℕ) → length a ≤ 64 → length b ≤ 64 → length c ≤ 64 → length d ≤ 64 → length e ≤ 64
-    → length (line (codes "<tr><th scope=\"row\">" ++ a ++ codes "<td>" ++ b ++ codes "<td>" ++ c ++ codes "<td>" ++ d ++ codes "<td>" ++ e)) ≤ 400
+    → length
+    (line (codes "<tr><th scope=\"row\">" ++ a ++ codes "<td>" ++ b ++ codes "<td>" ++ c ++ codes "<td>" ++ d
+    ++ codes "<td>" ++ e)) ≤ 400
 row_parts a b c d e p q r s t = simp length-append (omega arith)
 
 length_row : (r : Row) → length (row_line r) ≤ 400
 length_row r =
     row_parts (decimal r.number) (decimal r.customers) (decimal r.load) (decimal r.share) (decimal r.length)
-    (length_decimal r.number) (length_decimal r.customers) (length_decimal r.load) (length_decimal r.share) (length_decimal r.length)
+    (length_decimal r.number) (length_decimal r.customers) (length_decimal r.load) (length_decimal r.share)
+    (length_decimal r.length)
 
 length_caption_line : (capacity : ℕ) → length (table_caption capacity) ≤ 200
 length_caption_line capacity = let a = length_decimal capacity in simp length-append (omega arith)
@@ -87,7 +117,14 @@ length_table n (subjects.Routes cvrp routes count cost) few fits =
     let end : length table_end ≤ 20 = omega arith in
     let a = length-append (table_start i.capacity) lines in
     let b = length-append (table_start i.capacity ++ lines) table_end in
-    omega (arith, length_table_start i.capacity, length_flat_map row_line 400 length_row (rows i 1 all), filled_few (row_of i) 1 all, AreServedOnce-short (customer_count i) (concat all) fits.1, fits.0)
+    omega (
+      arith,
+      length_table_start i.capacity,
+      length_flat_map row_line 400 length_row (rows i 1 all),
+      filled_few (row_of i) 1 all,
+      AreServedOnce-short (customer_count i) (concat all) fits.1,
+      fits.0,
+    )
 
 -- ---- the cities and the paths
 
@@ -103,14 +140,18 @@ length_depot_word : (depot : Option ℕ) (c : ℕ) → length (depot_word depot 
 length_depot_word None c = omega arith
 length_depot_word (Some depot) c = either_short (depot == c) (codes " depot") [] 6 (omega arith) (omega arith)
 
-city_parts : (at x y demand word : List ℕ) → length at ≤ 129 → length x ≤ 65 → length y ≤ 65 → length demand ≤ 65 → length word ≤ 6
+city_parts : (at x y demand word : List ℕ) → length at ≤ 129 → length x ≤ 65 → length y ≤ 65 → length demand ≤ 65
+    → length word ≤ 6
     → length (line (at ++ codes " " ++ (x ++ codes " " ++ y) ++ demand ++ word)) ≤ 400
 city_parts at x y demand word a b c d e = simp length-append (omega arith)
 
-length_city : (f : Frame) (places : List Point) (demands : List ℕ) (depot : Option ℕ) (c : ℕ) → length (city_line f places demands depot c) ≤ 400
+length_city : (f : Frame) (places : List Point) (demands : List ℕ) (depot : Option ℕ) (c : ℕ) →
+    length (city_line f places demands depot c) ≤ 400
 length_city f places demands depot c =
-    city_parts (spot f places c) (signed_decimal (city_place places c).x) (signed_decimal (city_place places c).y) (demand_word (slice_get demands (c - 1))) (depot_word depot c)
-    (length_spot f places c) (length_signed (city_place places c).x) (length_signed (city_place places c).y) (length_demand (slice_get demands (c - 1))) (length_depot_word depot c)
+    city_parts (spot f places c) (signed_decimal (city_place places c).x) (signed_decimal (city_place places c).y)
+    (demand_word (slice_get demands (c - 1))) (depot_word depot c)
+    (length_spot f places c) (length_signed (city_place places c).x) (length_signed (city_place places c).y)
+    (length_demand (slice_get demands (c - 1))) (length_depot_word depot c)
 
 spaced_number : (x : ℕ) → length (codes " " ++ decimal x) ≤ 65
 spaced_number x = omega (arith, length_decimal x, length-append (codes " ") (decimal x))
@@ -118,7 +159,12 @@ spaced_number x = omega (arith, length_decimal x, length-append (codes " ") (dec
 length_spaced : (xs : List ℕ) → length (spaced_numbers xs) ≤ length xs * 65
 length_spaced [] = omega arith
 length_spaced (x ∷ xs) =
-    omega (arith, length_decimal x, length_flat_map (λ y. codes " " ++ decimal y) 65 spaced_number xs, length-append (decimal x) (flat_map (λ y. codes " " ++ decimal y) xs))
+    omega (
+      arith,
+      length_decimal x,
+      length_flat_map (λ y. codes " " ++ decimal y) 65 spaced_number xs,
+      length-append (decimal x) (flat_map (λ y. codes " " ++ decimal y) xs),
+    )
 
 length_path : (p : Path) → length (path_line p) ≤ 500 + length p.cities * 130
 length_path p = omega (arith, length_spaced p.cities, length-append (spaced_numbers p.cities) (10 ∷ []))
@@ -137,7 +183,8 @@ length_ending parts =
     let c = length-append two (line (codes "</script>")) in
     omega (arith, parts.tools_short, parts.script_short)
 
-length_page : (parts : Parts) (f : Frame) (places : List Point) (name : List ℕ) (s : Subject) (depot : Option ℕ) (demands : List ℕ) → length name ≤ 1024 → length places ≤ CITY_LIMIT
+length_page : (parts : Parts) (f : Frame) (places : List Point) (name : List ℕ) (s : Subject) (depot : Option ℕ)
+    (demands : List ℕ) → length name ≤ 1024 → length places ≤ CITY_LIMIT
     → Fits (length places) s → length (paths_of (drawing_of s)) ≤ 100001 → corners_of (paths_of (drawing_of s)) ≤ 200000
     → length (page_text parts f places name (drawing_of s) depot demands) ≤ 1000000000
 length_page parts f places name s depot demands named few fits lines corners =
@@ -170,10 +217,19 @@ length_page parts f places name s depot demands named few fits lines corners =
     omega arith
 
 -- of a picture in a form
-pub length_form : (form : Form) (p : Picture) → length p.name.now ≤ 1024 → Fits (length (places_of p.view.places)) p.subject → length (text_in form p) ≤ 2 ^ 63
+pub length_form : (form : Form) (p : Picture) → length p.name.now ≤ 1024 →
+    Fits (length (places_of p.view.places)) p.subject → length (text_in form p) ≤ 2 ^ 63
 length_form forms.Svg p named fits =
     let few = paths_few (length (places_of p.view.places)) p.subject fits in
-    omega (arith, length_picture p.view.frame (places_of p.view.places) p.name.now (drawing_of p.subject) p.depot named p.view.few (omega (arith, few.0, p.view.few)) (omega (arith, few.1, p.view.few)))
+    omega (
+      arith,
+      length_picture p.view.frame (places_of p.view.places) p.name.now (drawing_of p.subject) p.depot named
+          p.view.few (omega (arith, few.0, p.view.few)) (omega (arith, few.1, p.view.few)),
+    )
 length_form (forms.Page parts) p named fits =
     let few = paths_few (length (places_of p.view.places)) p.subject fits in
-    omega (arith, length_page parts p.view.frame (places_of p.view.places) p.name.now p.subject p.depot p.demands.now named p.view.few fits (omega (arith, few.0, p.view.few)) (omega (arith, few.1, p.view.few)))
+    omega (
+      arith,
+      length_page parts p.view.frame (places_of p.view.places) p.name.now p.subject p.depot p.demands.now
+          named p.view.few fits (omega (arith, few.0, p.view.few)) (omega (arith, few.1, p.view.few)),
+    )

@@ -1,5 +1,6 @@
 -- Routes up to one more, and what is made of them.
-use Rattle.std.proofs.Common.{◌≡◌, ℕ, suc, ◌+◌, ◌<◌, List, [], ◌∷◌, ◌++◌, length, take, get_or, refl, sym, ap, ◌∙◌, arith, append-nil, length-take, true, false}
+use Rattle.std.proofs.Common.{◌≡◌, ℕ, suc, ◌+◌, ◌<◌, List, [], ◌∷◌, ◌++◌, length, take, get_or, refl, sym, ap, ◌∙◌}
+use Rattle.std.proofs.Common.{arith, append-nil, length-take, true, false}
 use Rattle.std.specs.Prelude.{map, flat_map, ◌==◌, Option, Some, slice_get, unwrap_or}
 use Rattle.std.proofs.lemmas.List.{take_more, map-append, length-map}
 use Rattle.std.proofs.lemmas.Grind.{flat_map-append}
@@ -10,7 +11,8 @@ use Rattle.tk_picture.specs.Drawings.{each_filled, route_paths}
 use Rattle.tk_picture.specs.PictureText.{mark, number_mark}
 
 module _ {X : Type 0} (f : ℕ → List ℕ → X) where
-  each_filled-append : (k : ℕ) (routes more : List (List ℕ)) → each_filled f k (routes ++ more) ≡ each_filled f k routes ++ each_filled f (k + length routes) more
+  each_filled-append : (k : ℕ) (routes more : List (List ℕ)) → each_filled f k (routes ++ more) ≡ each_filled f k routes
+      ++ each_filled f (k + length routes) more
   each_filled-append k [] more =
       let e : k + 0 ≡ k = omega arith in
       rw e refl
@@ -22,7 +24,8 @@ module _ {X : Type 0} (f : ℕ → List ℕ → X) where
       rw (← e) (ap (λ l. f k (c ∷ cs) ∷ l) (each_filled-append (k + 1) routes more))
 
   -- what is put for each of them, up to one more
-  pub filled_more : {Y : Type 0} (put : X → List ℕ) (items : Y → List ℕ) (ys : List Y) (n number : ℕ) (y : Y) (route : List ℕ)
+  pub filled_more : {Y : Type 0} (put : X → List ℕ) (items : Y → List ℕ) (ys : List Y) (n number : ℕ) (y : Y)
+      (route : List ℕ)
       → n < length ys → y ≡ get_or ys n y → route ≡ items y → number ≡ n + 1
       → flat_map put (each_filled f 1 (map items (take (n + 1) ys)))
       ≡ flat_map put (each_filled f 1 (map items (take n ys))) ++ flat_map put (each_filled f number (route ∷ []))
@@ -33,13 +36,16 @@ module _ {X : Type 0} (f : ℕ → List ℕ → X) where
       ∙ map-append items (take n ys) (y ∷ []) ∙ ap (λ r. before ++ r ∷ []) (sym same) in
       let count : 1 + length before ≡ number = simp length-map (omega (arith, next, length-take n ys)) in
       ap (λ l. flat_map put (each_filled f 1 l)) all ∙ ap (flat_map put) (each_filled-append 1 before (route ∷ []))
-      ∙ flat_map-append put (each_filled f 1 before) _ ∙ ap (λ m. flat_map put (each_filled f 1 before) ++ flat_map put (each_filled f m (route ∷ []))) count
+      ∙ flat_map-append put (each_filled f 1 before) _
+      ∙ ap (λ m. flat_map put (each_filled f 1 before) ++ flat_map put (each_filled f m (route ∷ []))) count
 
-  pub filled_none : (put : X → List ℕ) (k : ℕ) (route : List ℕ) → (length route == 0) ≡ true → flat_map put (each_filled f k (route ∷ [])) ≡ []
+  pub filled_none : (put : X → List ℕ) (k : ℕ) (route : List ℕ) → (length route == 0) ≡ true →
+      flat_map put (each_filled f k (route ∷ [])) ≡ []
   filled_none put k [] none = refl
   filled_none put k (c ∷ route) none = let e = eqb-true (length (c ∷ route)) 0 none in absurd (omega (arith, e))
 
-  pub filled_some : (put : X → List ℕ) (k : ℕ) (route : List ℕ) → (length route == 0) ≡ false → flat_map put (each_filled f k (route ∷ [])) ≡ put (f k route)
+  pub filled_some : (put : X → List ℕ) (k : ℕ) (route : List ℕ) → (length route == 0) ≡ false →
+      flat_map put (each_filled f k (route ∷ [])) ≡ put (f k route)
   filled_some put k [] some = cc
   filled_some put k (c ∷ route) some = append-nil _
 
@@ -47,4 +53,5 @@ module _ {X : Type 0} (f : ℕ → List ℕ → X) where
 pub marked : (spot : ℕ → List ℕ) (i : Instance) (k : ℕ) (route : List ℕ) (first : ℕ) → slice_get route 0 ≡ Some first
     → flat_map (number_mark spot) (route_paths i k (route ∷ [])) ≡ mark k (spot (node_of i.depot first))
 marked spot i k [] first is = absurd (none-some first is)
-marked spot i k (c ∷ route) first is = append-nil _ ∙ ap (λ (o : Option ℕ). mark k (spot (node_of i.depot (unwrap_or o c)))) is
+marked spot i k (c ∷ route) first is = append-nil _
+    ∙ ap (λ (o : Option ℕ). mark k (spot (node_of i.depot (unwrap_or o c)))) is

@@ -1,5 +1,6 @@
 -- How long the text of a picture is at most.
-use Rattle.std.proofs.Common.{◌≡◌, ℕ, zero, suc, ◌+◌, ◌-◌, ◌*◌, ◌≤◌, Bool, true, false, List, [], ◌∷◌, ◌++◌, Option, Some, None, length, take, drop, arith, length-append, length-take, length-drop}
+use Rattle.std.proofs.Common.{◌≡◌, ℕ, zero, suc, ◌+◌, ◌-◌, ◌*◌, ◌≤◌, Bool, true, false, List, [], ◌∷◌, ◌++◌, Option}
+use Rattle.std.proofs.Common.{Some, None, length, take, drop, arith, length-append, length-take, length-drop}
 use Rattle.std.specs.Prelude.{flat_map, map, codes, decimal, if◌then◌else◌, nat_lt, slice_index, slice_index_or, ◌==◌}
 use Rattle.std.specs.Char.{encode_utf8}
 use Rattle.std.specs.List.{range_with_len, concat}
@@ -15,20 +16,25 @@ use Rattle.tk_routes.specs.Cvrps.{instance_of}
 use Rattle.tk_routes.specs.Instance.{Instance, customer_count, node_of}
 use Rattle.tk_routes.proofs.Served.{AreServedOnce-short}
 use Rattle.tk_picture.specs.Colours.{colour, first_colours, place_on_walk, rgb, walk}
-use Rattle.tk_picture.specs.Drawings.{ATour, Cities, Drawing, Path, SomeRoutes, caption_of, each_filled, paths_of, route_path, route_paths}
+use Rattle.tk_picture.specs.Drawings.{ATour, Cities, Drawing, Path, SomeRoutes, caption_of, each_filled, paths_of}
+use Rattle.tk_picture.specs.Drawings.{route_path, route_paths}
 use Rattle.tk_picture.specs.declared.colour.Colour.{Colour}
 use Rattle.tk_picture.specs.declared.frame.Frame.{Frame}
 use Rattle.tk_picture.specs.declared.subject.Subject.{Subject}
 use Rattle.tk_picture.specs.declared.subject.Subject.TheVariants as subjects
 use Rattle.tk_picture.specs.Frames.{across, down, drawn_from_left, drawn_from_top, view_height}
 use Rattle.tk_picture.specs.Names.{is_plain, shown, shown_name}
-use Rattle.tk_picture.specs.PictureText.{title, spot, line_start, closed_line, dot, dots, line_width, city_style, city_dots, depot_mark, has_dots, mark, number_mark, number_size, numbers_start, route_numbers, view_line, title_line, heading_line, group_line, head, picture_text}
+use Rattle.tk_picture.specs.PictureText.{title, spot, line_start, closed_line, dot, dots, line_width, city_style}
+use Rattle.tk_picture.specs.PictureText.{city_dots, depot_mark, has_dots, mark, number_mark, number_size, numbers_start}
+use Rattle.tk_picture.specs.PictureText.{route_numbers, view_line, title_line, heading_line, group_line, head}
+use Rattle.tk_picture.specs.PictureText.{picture_text}
 use Rattle.tk_picture.specs.Pictures.{Fits, drawing_of}
 use Rattle.tk_distance.specs.PlaneOf.{city_place}
 use Rattle.tk_problem.specs.declared.point.Point.{Point}
 
 -- a choice of two texts is no longer than a bound on both
-pub either_short : (b : Bool) (s t : List ℕ) (most : ℕ) → length s ≤ most → length t ≤ most → length (if b then s else t) ≤ most
+pub either_short : (b : Bool) (s t : List ℕ) (most : ℕ) → length s ≤ most → length t ≤ most →
+    length (if b then s else t) ≤ most
 either_short true s t most short_s short_t = short_s
 either_short false s t most short_s short_t = short_t
 
@@ -39,8 +45,11 @@ length_char c = omega (arith, length-encode c, (len_utf8_bounds c).1)
 
 length_shown : (c : ℕ) → length (shown c) ≤ 6
 length_shown c =
-    either_short (c == 38) (codes "&amp;") _ 6 (omega arith) (either_short (c == 60) (codes "&lt;") _ 6 (omega arith) (either_short (c == 62) (codes "&gt;") _ 6 (omega arith)
-    (either_short (c == 34) (codes "&quot;") _ 6 (omega arith) (either_short (is_plain c) (encode_utf8 c) (codes "?") 6 (omega (arith, length_char c)) (omega arith)))))
+    either_short (c == 38) (codes "&amp;") _ 6 (omega arith)
+    (either_short (c == 60) (codes "&lt;") _ 6 (omega arith)
+    (either_short (c == 62) (codes "&gt;") _ 6 (omega arith)
+    (either_short (c == 34) (codes "&quot;") _ 6 (omega arith)
+    (either_short (is_plain c) (encode_utf8 c) (codes "?") 6 (omega (arith, length_char c)) (omega arith)))))
 
 chars_after_few : (n c : ℕ) (bs : List ℕ) → length (chars_after n c bs) ≤ 1 + length bs
 chars_after_few zero c [] = omega arith
@@ -54,16 +63,25 @@ unfolding chars
 chars_few [] = omega arith
 chars_few (b ∷ bs) = omega (arith, chars_after_few (continuation_len b) (lead_bits b) bs)
 
-lossy_within_short : (k most : ℕ) (bs : List ℕ) → length bs ≤ most → length (utf8_lossy_within k bs) ≤ most + k * (most + 3)
+lossy_within_short : (k most : ℕ) (bs : List ℕ) → length bs ≤ most →
+    length (utf8_lossy_within k bs) ≤ most + k * (most + 3)
 lossy_within_short zero most bs short = omega (arith, short)
 lossy_within_short (suc k) most bs short =
     let rest = after_first_chunk bs in
     let front = take (utf8_valid_len bs) bs in
-    let shorter : length rest ≤ most = omega (arith, short, length-drop (utf8_valid_len bs + utf8_invalid_len (drop (utf8_valid_len bs) bs)) bs) in
+    let shorter : length rest ≤ most =
+    omega (arith, short, length-drop (utf8_valid_len bs + utf8_invalid_len (drop (utf8_valid_len bs) bs)) bs) in
     let again = lossy_within_short k most rest shorter in
     let more : suc k * (most + 3) ≡ k * (most + 3) + (most + 3) = omega arith in
     either_short (utf8_valid_len bs == length bs) bs _ (most + suc k * (most + 3)) (omega (arith, short, more))
-    (omega (arith, again, more, short, length-take (utf8_valid_len bs) bs, length-append front (0xEF ∷ 0xBF ∷ 0xBD ∷ utf8_lossy_within k rest)))
+    (omega (
+      arith,
+      again,
+      more,
+      short,
+      length-take (utf8_valid_len bs) bs,
+      length-append front (0xEF ∷ 0xBF ∷ 0xBD ∷ utf8_lossy_within k rest),
+    ))
 
 lossy_short : (bs : List ℕ) → length bs ≤ 1024 → length (utf8_lossy bs) ≤ 2000000
 unfolding utf8_lossy
@@ -71,16 +89,29 @@ lossy_short bs short = omega (arith, short, lossy_within_short (length bs) 1024 
 
 pub length_name : (name : List ℕ) → length name ≤ 1024 → length (shown_name name) ≤ 12000000
 length_name name short =
-    omega (arith, length_flat_map shown 6 length_shown (chars (utf8_lossy name)), chars_few (utf8_lossy name), lossy_short name short)
+    omega (
+      arith,
+      length_flat_map shown 6 length_shown (chars (utf8_lossy name)),
+      chars_few (utf8_lossy name),
+      lossy_short name short,
+    )
 
 pub length_caption : (n : ℕ) (d : Drawing) → length (caption_of n d) ≤ 200
 length_caption n Cities = omega (arith, length_decimal n, length-append (decimal n) (codes " cities"))
-length_caption n (ATour cities size) = let a = length_decimal n in let b = length_decimal size in simp length-append (omega arith)
-length_caption n (SomeRoutes i routes count cost) = let a = length_decimal count in let b = length_decimal cost in simp length-append (omega arith)
+length_caption n (ATour cities size) = let a = length_decimal n in let b = length_decimal size in
+    simp length-append (omega arith)
+length_caption n (SomeRoutes i routes count cost) = let a = length_decimal count in let b = length_decimal cost in
+    simp length-append (omega arith)
 
 pub length_title : (name : List ℕ) (n : ℕ) (d : Drawing) → length name ≤ 1024 → length (title name n d) ≤ 12000202
 length_title name n d short =
-    omega (arith, length_name name short, length_caption n d, length-append (shown_name name) (codes ": "), length-append (shown_name name ++ codes ": ") (caption_of n d))
+    omega (
+      arith,
+      length_name name short,
+      length_caption n d,
+      length-append (shown_name name) (codes ": "),
+      length-append (shown_name name ++ codes ": ") (caption_of n d),
+    )
 
 -- ---- lines
 
@@ -91,14 +122,17 @@ length_text_at (t ∷ texts) zero = omega (arith, length-append t (concat texts)
 length_text_at (t ∷ texts) (suc k) = omega (arith, length_text_at texts k, length-append t (concat texts))
 
 length_rgb : (c : Colour) → length (rgb c) ≤ 200
-length_rgb c = let a = length_decimal c.red in let b = length_decimal c.green in let d = length_decimal c.blue in simp length-append (omega arith)
+length_rgb c = let a = length_decimal c.red in let b = length_decimal c.green in let d = length_decimal c.blue in
+    simp length-append (omega arith)
 
 length_colour : (k : ℕ) → length (colour k) ≤ 200
 length_colour k =
     let first : length (slice_index_or first_colours (k - 1) []) ≤ 49 = length_text_at first_colours (k - 1) in
-    either_short (nat_lt k 8) _ (rgb (walk (place_on_walk k))) 200 (omega (arith, first)) (length_rgb (walk (place_on_walk k)))
+    either_short (nat_lt k 8) _ (rgb (walk (place_on_walk k))) 200 (omega (arith, first))
+    (length_rgb (walk (place_on_walk k)))
 
-line_start_parts : (a : List ℕ) → length a ≤ 200 → length (line (codes "<polygon stroke=\"" ++ a ++ codes "\" points=\"")) ≤ 300
+line_start_parts : (a : List ℕ) → length a ≤ 200 →
+    length (line (codes "<polygon stroke=\"" ++ a ++ codes "\" points=\"")) ≤ 300
 line_start_parts a short = simp length-append (omega arith)
 
 length_line_start : (k : ℕ) → length (line_start k) ≤ 300
@@ -110,19 +144,28 @@ corners_of [] = 0
 corners_of (p ∷ paths) = length p.cities + corners_of paths
 
 -- what is put for each line
-pub each_short : (put : Path → List ℕ) → ((p : Path) → length (put p) ≤ 500 + length p.cities * 130) → (paths : List Path)
+pub each_short : (put : Path → List ℕ) → ((p : Path) → length (put p) ≤ 500 + length p.cities * 130)
+    → (paths : List Path)
     → length (flat_map put paths) ≤ length paths * 500 + corners_of paths * 130
 each_short put short [] = omega arith
-each_short put short (p ∷ paths) = omega (arith, short p, each_short put short paths, length-append (put p) (flat_map put paths))
+each_short put short (p ∷ paths) =
+    omega (arith, short p, each_short put short paths, length-append (put p) (flat_map put paths))
 
 pub length_spot : (f : Frame) (places : List Point) (city : ℕ) → length (spot f places city) ≤ 129
 length_spot f places city =
     let right = length_decimal (across f (city_place places city)) in
     let below = length_decimal (down f (city_place places city)) in
-    omega (arith, length-append (decimal (across f (city_place places city)) ++ codes ",") (decimal (down f (city_place places city))), length-append (decimal (across f (city_place places city))) (codes ","))
+    omega (
+      arith,
+      length-append (decimal (across f (city_place places city)) ++ codes ",")
+          (decimal (down f (city_place places city))),
+      length-append (decimal (across f (city_place places city))) (codes ","),
+    )
 
 mark_parts : (at fill digits : List ℕ) → length at ≤ 129 → length fill ≤ 200 → length digits ≤ 64
-    → length (line (codes "<text transform=\"translate(" ++ at ++ codes ")\" dy=\"-.4em\" fill=\"" ++ fill ++ codes "\">" ++ digits ++ codes "</text>")) ≤ 500
+    → length
+    (line (codes "<text transform=\"translate(" ++ at ++ codes ")\" dy=\"-.4em\" fill=\"" ++ fill ++ codes "\">"
+    ++ digits ++ codes "</text>")) ≤ 500
 mark_parts at fill digits a b d = simp length-append (omega arith)
 
 length_mark : (k : ℕ) (at : List ℕ) → length at ≤ 129 → length (mark k at) ≤ 500
@@ -135,13 +178,21 @@ module _ (spot : ℕ → List ℕ) (short : (c : ℕ) → length (spot c) ≤ 12
   length_closed_line : (path : Path) → length (closed_line spot path) ≤ 304 + length path.cities * 130
   length_closed_line path =
       let corners = flat_map (λ c. line (spot c)) path.cities in
-      omega (arith, length_line_start path.number, length_flat_map (λ c. line (spot c)) 130 corner path.cities, length-append (line_start path.number) corners, length-append (line_start path.number ++ corners) (codes "\"/>" ++ 10 ∷ []))
+      omega (
+        arith,
+        length_line_start path.number,
+        length_flat_map (λ c. line (spot c)) 130 corner path.cities,
+        length-append (line_start path.number) corners,
+        length-append (line_start path.number ++ corners) (codes "\"/>" ++ 10 ∷ []),
+      )
 
-  length_closed_lines : (paths : List Path) → length (flat_map (closed_line spot) paths) ≤ length paths * 500 + corners_of paths * 130
+  length_closed_lines : (paths : List Path) →
+      length (flat_map (closed_line spot) paths) ≤ length paths * 500 + corners_of paths * 130
   length_closed_lines paths = each_short (closed_line spot) (λ p. omega (arith, length_closed_line p)) paths
 
   length_dot : (c : ℕ) → length (dot spot c) ≤ 133
-  length_dot c = let s = short c in let a = length-append (codes "M" ++ spot c ++ codes "h0") (10 ∷ []) in let b = length-append (codes "M" ++ spot c) (codes "h0") in omega arith
+  length_dot c = let s = short c in let a = length-append (codes "M" ++ spot c ++ codes "h0") (10 ∷ []) in
+      let b = length-append (codes "M" ++ spot c) (codes "h0") in omega arith
 
   length_dots : (style cities : List ℕ) → length (dots spot style cities) ≤ 100 + length style + length cities * 133
   length_dots style cities =
@@ -155,7 +206,9 @@ module _ (spot : ℕ → List ℕ) (short : (c : ℕ) → length (spot c) ≤ 12
 
   length_city_dots : (n : ℕ) (d : Drawing) → length (city_dots spot n d) ≤ 200 + n * 133
   length_city_dots n d =
-      let style : length (city_style n) ≤ 20 = either_short (nat_lt n 2000) (codes "stroke-width=\"60\"") (codes "stroke-width=\"12\"") 20 (omega arith) (omega arith) in
+      let style : length (city_style n) ≤ 20 =
+      either_short (nat_lt n 2000) (codes "stroke-width=\"60\"") (codes "stroke-width=\"12\"") 20 (omega arith)
+      (omega arith) in
       either_short (has_dots d n) (dots spot (city_style n) (range_with_len 1 n)) [] (200 + n * 133)
       (omega (arith, style, length_dots (city_style n) (range_with_len 1 n), length-range_with_len 1 n)) (omega arith)
 
@@ -164,24 +217,37 @@ module _ (spot : ℕ → List ℕ) (short : (c : ℕ) → length (spot c) ≤ 12
   length_depot_mark (Some depot) = let a = short depot in simp length-append (omega arith)
 
   length_number_mark : (path : Path) → length (number_mark spot path) ≤ 500 + length path.cities * 130
-  length_number_mark path = omega (arith, length_mark path.number (spot (slice_index path.cities 1)) (short (slice_index path.cities 1)))
+  length_number_mark path =
+      omega (arith, length_mark path.number (spot (slice_index path.cities 1)) (short (slice_index path.cities 1)))
 
-  length_number_marks : (paths : List Path) → length (flat_map (number_mark spot) paths) ≤ length paths * 500 + corners_of paths * 130
+  length_number_marks : (paths : List Path) →
+      length (flat_map (number_mark spot) paths) ≤ length paths * 500 + corners_of paths * 130
   length_number_marks paths = each_short (number_mark spot) length_number_mark paths
 
   numbers_start_parts : (size : List ℕ) → length size ≤ 3
-      → length (line (codes "<g font-family=\"sans-serif\" font-weight=\"bold\" text-anchor=\"middle\" font-size=\"" ++ size ++ codes "\">")) ≤ 200
+      → length
+      (line (codes "<g font-family=\"sans-serif\" font-weight=\"bold\" text-anchor=\"middle\" font-size=\"" ++ size
+      ++ codes "\">")) ≤ 200
   numbers_start_parts size few = simp length-append (omega arith)
 
   length_numbers_start : (n : ℕ) → length (numbers_start n) ≤ 200
-  length_numbers_start n = numbers_start_parts (number_size n) (either_short (nat_lt n 2000) (codes "140") (codes "60") 3 (omega arith) (omega arith))
+  length_numbers_start n =
+      numbers_start_parts (number_size n)
+      (either_short (nat_lt n 2000) (codes "140") (codes "60") 3 (omega arith) (omega arith))
 
-  length_route_numbers : (n : ℕ) (d : Drawing) → length (route_numbers spot n d) ≤ 300 + length (paths_of d) * 500 + corners_of (paths_of d) * 130
+  length_route_numbers : (n : ℕ) (d : Drawing) →
+      length (route_numbers spot n d) ≤ 300 + length (paths_of d) * 500 + corners_of (paths_of d) * 130
   length_route_numbers n Cities = omega arith
   length_route_numbers n (ATour cities size) = omega arith
   length_route_numbers n (SomeRoutes i routes count cost) =
       let marks = flat_map (number_mark spot) (route_paths i 1 routes) in
-      omega (arith, length_numbers_start n, length_number_marks (route_paths i 1 routes), length-append (numbers_start n) marks, length-append (numbers_start n ++ marks) (codes "</g>" ++ 10 ∷ []))
+      omega (
+        arith,
+        length_numbers_start n,
+        length_number_marks (route_paths i 1 routes),
+        length-append (numbers_start n) marks,
+        length-append (numbers_start n ++ marks) (codes "</g>" ++ 10 ∷ []),
+      )
 
 -- ---- the whole
 
@@ -195,13 +261,18 @@ length_heading_line : (t : List ℕ) → length (heading_line t) ≤ 100 + lengt
 length_heading_line t = simp length-append (omega arith)
 
 group_parts : (a b w : List ℕ) → length a ≤ 64 → length b ≤ 64 → length w ≤ 2
-    → length (line (codes "<g transform=\"translate(" ++ a ++ codes " " ++ b ++ codes ") scale(0.1)\" fill=\"none\" stroke-linecap=\"round\" stroke-linejoin=\"round\" stroke-width=\"" ++ w ++ codes "\">")) ≤ 300
+    → length
+    (line (codes "<g transform=\"translate(" ++ a ++ codes " " ++ b
+    ++ codes ") scale(0.1)\" fill=\"none\" stroke-linecap=\"round\" stroke-linejoin=\"round\" stroke-width=\"" ++ w
+    ++ codes "\">")) ≤ 300
 group_parts a b w short_a short_b short = simp length-append (omega arith)
 
 length_group_line : (f : Frame) (n : ℕ) → length (group_line f n) ≤ 300
 length_group_line f n =
-    let width : length (line_width n) ≤ 2 = either_short (nat_lt n 2000) (codes "20") (codes "6") 2 (omega arith) (omega arith) in
-    group_parts (decimal (drawn_from_left f)) (decimal (drawn_from_top f)) (line_width n) (length_decimal (drawn_from_left f)) (length_decimal (drawn_from_top f)) width
+    let width : length (line_width n) ≤ 2 =
+    either_short (nat_lt n 2000) (codes "20") (codes "6") 2 (omega arith) (omega arith) in
+    group_parts (decimal (drawn_from_left f)) (decimal (drawn_from_top f)) (line_width n)
+    (length_decimal (drawn_from_left f)) (length_decimal (drawn_from_top f)) width
 
 length_head : (f : Frame) (t : List ℕ) (n : ℕ) → length (head f t n) ≤ 900 + length t * 2
 length_head f t n =
@@ -215,13 +286,15 @@ length_head f t n =
     omega (arith, length_view_line height, length_title_line t, length_heading_line t, length_group_line f n)
 
 -- there are no more routes that hold a customer than customers
-pub filled_few : {X : Type 0} (f : ℕ → List ℕ → X) (k : ℕ) (routes : List (List ℕ)) → length (each_filled f k routes) ≤ length (concat routes)
+pub filled_few : {X : Type 0} (f : ℕ → List ℕ → X) (k : ℕ) (routes : List (List ℕ)) →
+    length (each_filled f k routes) ≤ length (concat routes)
 filled_few f k [] = omega arith
 filled_few f k ([] ∷ routes) = filled_few f (k + 1) routes
 filled_few f k ((c ∷ cs) ∷ routes) = omega (arith, filled_few f (k + 1) routes, length-append (c ∷ cs) (concat routes))
 
 -- and their lines have at most twice as many corners
-corners_few : (i : Instance) (k : ℕ) (routes : List (List ℕ)) → corners_of (route_paths i k routes) ≤ length (concat routes) * 2
+corners_few : (i : Instance) (k : ℕ) (routes : List (List ℕ)) →
+    corners_of (route_paths i k routes) ≤ length (concat routes) * 2
 corners_few i k [] = omega arith
 corners_few i k ([] ∷ routes) = corners_few i (k + 1) routes
 corners_few i k ((c ∷ cs) ∷ routes) =
@@ -238,8 +311,10 @@ paths_few n (subjects.Routes cvrp routes count cost) fits =
     let served = AreServedOnce-short (customer_count i) (concat all) fits.1 in
     (omega (arith, fits.0, served, filled_few (route_path i) 1 all), omega (arith, fits.0, served, corners_few i 1 all))
 
-pub length_picture : (f : Frame) (places : List Point) (name : List ℕ) (d : Drawing) (depot : Option ℕ) → length name ≤ 1024 → length places ≤ CITY_LIMIT
-    → length (paths_of d) ≤ 100001 → corners_of (paths_of d) ≤ 200000 → length (picture_text f places name d depot) ≤ 400000000
+pub length_picture : (f : Frame) (places : List Point) (name : List ℕ) (d : Drawing) (depot : Option ℕ)
+    → length name ≤ 1024 → length places ≤ CITY_LIMIT
+    → length (paths_of d) ≤ 100001 → corners_of (paths_of d) ≤ 200000 →
+    length (picture_text f places name d depot) ≤ 400000000
 length_picture f places name d depot named few lines corners =
     let at = spot f places in
     let short = length_spot f places in
@@ -254,7 +329,8 @@ length_picture f places name d depot named few lines corners =
     let b = length-append (start ++ drawn) cities in
     let c = length-append (start ++ drawn ++ cities) mark in
     let e = length-append (start ++ drawn ++ cities ++ mark) numbers in
-    let g = length-append (start ++ drawn ++ cities ++ mark ++ numbers) (codes "</g>" ++ 10 ∷ codes "</svg>" ++ 10 ∷ []) in
+    let g =
+    length-append (start ++ drawn ++ cities ++ mark ++ numbers) (codes "</g>" ++ 10 ∷ codes "</svg>" ++ 10 ∷ []) in
     let h = length_head f (title name n d) n in
     let t = length_title name n d named in
     let l = length_closed_lines at short (paths_of d) in

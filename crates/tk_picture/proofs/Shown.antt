@@ -20,11 +20,14 @@ unfolding encode_utf8
 replacement_shown = refl
 
 -- a text, and what comes after it
-shown_text : (text more : List ℕ) → IsUtf8 text → flat_map shown (chars (text ++ more)) ≡ flat_map shown (chars text) ++ flat_map shown (chars more)
-shown_text text more utf8 = ap (flat_map shown) (chars-append text more utf8) ∙ flat_map-append shown (chars text) (chars more)
+shown_text : (text more : List ℕ) → IsUtf8 text → flat_map shown (chars (text ++ more)) ≡ flat_map shown (chars text)
+    ++ flat_map shown (chars more)
+shown_text text more utf8 = ap (flat_map shown) (chars-append text more utf8)
+    ∙ flat_map-append shown (chars text) (chars more)
 
 -- a part that is text, a sequence that is none, and the rest
-pub shown_chunk : (name valid invalid rest : List ℕ) → name ≡ valid ++ (invalid ++ rest) → length valid ≡ utf8_valid_len name
+pub shown_chunk : (name valid invalid rest : List ℕ) → name ≡ valid ++ (invalid ++ rest)
+    → length valid ≡ utf8_valid_len name
     → length invalid ≡ utf8_invalid_len (drop (utf8_valid_len name) name) → 0 < length invalid → IsUtf8 valid
     → shown_name name ≡ flat_map shown (chars valid) ++ (0xEF ∷ 0xBF ∷ 0xBD ∷ shown_name rest)
 shown_chunk name valid invalid rest parts valid_len invalid_len some utf8 =
@@ -34,10 +37,13 @@ shown_chunk name valid invalid rest parts valid_len invalid_len some utf8 =
     ∙ ap (λ l. flat_map shown (chars valid) ++ (l ++ shown_name rest)) replacement_shown
 
 -- a part that is text, and nothing after it
-pub shown_last : (name valid invalid rest : List ℕ) → name ≡ valid ++ (invalid ++ rest) → length valid ≡ utf8_valid_len name
-    → length invalid ≡ 0 → length rest ≡ 0 → IsUtf8 valid → shown_name name ≡ flat_map shown (chars valid) ++ shown_name rest
+pub shown_last : (name valid invalid rest : List ℕ) → name ≡ valid ++ (invalid ++ rest)
+    → length valid ≡ utf8_valid_len name
+    → length invalid ≡ 0 → length rest ≡ 0 → IsUtf8 valid → shown_name name ≡ flat_map shown (chars valid)
+    ++ shown_name rest
 shown_last name valid invalid rest parts valid_len no_invalid no_rest utf8 =
-    ap (λ l. flat_map shown (chars l)) (utf8_lossy_last_chunk name valid invalid rest parts valid_len no_invalid no_rest) ∙ shown_text valid _ utf8
+    ap (λ l. flat_map shown (chars l))
+    (utf8_lossy_last_chunk name valid invalid rest parts valid_len no_invalid no_rest) ∙ shown_text valid _ utf8
 
 pub shown_empty : (name : List ℕ) → length name ≡ 0 → shown_name name ≡ []
 shown_empty name none = ap (λ l. flat_map shown (chars l)) (utf8_lossy_empty name none) ∙ ap (flat_map shown) chars-nil

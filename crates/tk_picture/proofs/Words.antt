@@ -1,6 +1,7 @@
 -- Words of the lines on cities.
 use Rattle.std.proofs.Common.{◌≡◌, ℕ, ◌<◌, ◌≤◌, List, ◌++◌, Option, Some, None, Bor, length, get_or, refl, sym, arith}
-use Rattle.std.specs.Prelude.{ℤ, pos, negsuc, int_lt, true, MatchOption, IfSome, codes, decimal, option_copied, slice_get}
+use Rattle.std.specs.Prelude.{ℤ, pos, negsuc, int_lt, true, MatchOption, IfSome, codes, decimal, option_copied}
+use Rattle.std.specs.Prelude.{slice_get}
 use Rattle.std.specs.Int.RustNames.{unsigned_abs}
 use Rattle.std.specs.Fmt.{signed_decimal}
 use Rattle.std.proofs.lemmas.Int.{ints}

@@ -1,6 +1,7 @@
 -- The colours of closed lines.
 --     colour k      that of the closed line with this number, from 1
-use Rattle.std.specs.Prelude.{ℕ, ◌-◌, ◌*◌, ◌%◌, nat_lt, List, [], ◌∷◌, ◌++◌, slice_index_or, min, codes, decimal, if◌then◌else◌}
+use Rattle.std.specs.Prelude.{ℕ, ◌-◌, ◌*◌, ◌%◌, nat_lt, List, [], ◌∷◌, ◌++◌, slice_index_or, min, codes, decimal}
+use Rattle.std.specs.Prelude.{if◌then◌else◌}
 use Rattle.tk_picture.specs.declared.colour.Colour.{Colour}
 
 -- seven colours that people with any colour vision can tell apart (M. Okabe and K. Ito)

@@ -4,7 +4,8 @@
 --     path_line path      the cities of a closed line
 --     row_of i k route      what the table says of a route
 --     page_text parts f places name drawing depot demands      the whole text
-use Rattle.std.specs.Prelude.{ℕ, ◌-◌, ◌*◌, ◌/◌, ◌==◌, List, [], ◌++◌, Option, Some, None, length, slice_get, flat_map, codes, decimal, if◌then◌else◌}
+use Rattle.std.specs.Prelude.{ℕ, ◌-◌, ◌*◌, ◌/◌, ◌==◌, List, [], ◌++◌, Option, Some, None, length, slice_get, flat_map}
+use Rattle.std.specs.Prelude.{codes, decimal, if◌then◌else◌}
 use Rattle.std.specs.List.{range_with_len}
 use Rattle.std.specs.Fmt.{signed_decimal}
 use Rattle.tk_problem.specs.declared.point.Point.{Point}

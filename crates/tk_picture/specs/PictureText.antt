@@ -4,7 +4,8 @@
 --     dots spot style cities      cities as points
 --     route_numbers spot n drawing      the number of each route, over its first customer
 --     picture_text f places name drawing depot      the whole text
-use Rattle.std.specs.Prelude.{ℕ, Bool, true, nat_lt, List, [], ◌++◌, Option, Some, None, length, slice_index, flat_map, codes, decimal, if◌then◌else◌}
+use Rattle.std.specs.Prelude.{ℕ, Bool, true, nat_lt, List, [], ◌++◌, Option, Some, None, length, slice_index, flat_map}
+use Rattle.std.specs.Prelude.{codes, decimal, if◌then◌else◌}
 use Rattle.std.specs.List.{range_with_len}
 use Rattle.tk_problem.specs.declared.point.Point.{Point}
 use Rattle.tk_writers.specs.Written.{line}

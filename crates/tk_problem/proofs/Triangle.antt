@@ -1,5 +1,6 @@
 -- The places below the diagonal, row by row, and where each stands.
-use Rattle.std.proofs.Common.{◌≡◌, ℕ, zero, suc, ◌+◌, ◌-◌, ◌*◌, ◌/◌, ◌<◌, List, [], ◌∷◌, ◌++◌, length, get_or, map, max, min, arith, lit<, sym, ap, subst, ◌∙◌, refl, inl, inr, length-append}
+use Rattle.std.proofs.Common.{◌≡◌, ℕ, zero, suc, ◌+◌, ◌-◌, ◌*◌, ◌/◌, ◌<◌, List, [], ◌∷◌, ◌++◌, length, get_or, map, max}
+use Rattle.std.proofs.Common.{min, arith, lit<, sym, ap, subst, ◌∙◌, refl, inl, inr, length-append}
 use Rattle.std.specs.List.{range_with_len, flat_map}
 use Rattle.std.proofs.lemmas.Bool.{cases_lt}
 use Rattle.std.proofs.lemmas.List.{append-nil, get_or_append_left, get_or-append_right}
@@ -47,31 +48,37 @@ triangle n = flat_map row (range_with_len 0 n)
 
 pub range_more : (a n : ℕ) → range_with_len a (suc n) ≡ range_with_len a n ++ (a + n) ∷ []
 range_more a zero = ap (λ k. k ∷ []) (omega arith)
-range_more a (suc n) = ap (λ ks. a ∷ ks) (range_more (a + 1) n ∙ ap (λ k. range_with_len (a + 1) n ++ k ∷ []) (omega arith))
+range_more a (suc n) =
+    ap (λ ks. a ∷ ks) (range_more (a + 1) n ∙ ap (λ k. range_with_len (a + 1) n ++ k ∷ []) (omega arith))
 
 triangle-suc : (n : ℕ) → triangle (suc n) ≡ triangle n ++ row n
 triangle-suc n =
     let last : 0 + n ≡ n = omega arith in
-    ap (flat_map row) (range_more 0 n) ∙ flat_map-append row (range_with_len 0 n) ((0 + n) ∷ []) ∙ ap (λ ps. triangle n ++ ps) (append-nil (row (0 + n))) ∙ ap (λ k. triangle n ++ row k) last
+    ap (flat_map row) (range_more 0 n) ∙ flat_map-append row (range_with_len 0 n) ((0 + n) ∷ [])
+    ∙ ap (λ ps. triangle n ++ ps) (append-nil (row (0 + n))) ∙ ap (λ k. triangle n ++ row k) last
 
 length-row : (n : ℕ) → length (row n) ≡ n
 length-row n = length-map-range_with_len (λ j. place n j) 0 (n - 0) ∙ omega arith
 
 length-triangle : (n : ℕ) → length (triangle n) ≡ pairs n
 length-triangle zero = refl
-length-triangle (suc n) = ap length (triangle-suc n) ∙ length-append (triangle n) (row n) ∙ omega (arith, length-triangle n, length-row n, pairs-suc n)
+length-triangle (suc n) = ap length (triangle-suc n) ∙ length-append (triangle n) (row n)
+    ∙ omega (arith, length-triangle n, length-row n, pairs-suc n)
 
 get_or-row : (n j : ℕ) (d : Place) → j < n → get_or (row n) j d ≡ place n j
 get_or-row n j d less = get_or-map-range_with_len (λ m. place n m) 0 (n - 0) j j d (omega arith) (omega arith)
 
 -- what stands at an index of one row more
 in_front : (n k : ℕ) (d : Place) → k < pairs n → get_or (triangle (suc n)) k d ≡ get_or (triangle n) k d
-in_front n k d less = ap (λ ps. get_or ps k d) (triangle-suc n) ∙ get_or_append_left (triangle n) (row n) d k (omega (arith, length-triangle n))
+in_front n k d less = ap (λ ps. get_or ps k d) (triangle-suc n)
+    ∙ get_or_append_left (triangle n) (row n) d k (omega (arith, length-triangle n))
 
 in_row : (n j k : ℕ) (d : Place) → j < n → pairs n + j ≡ k → get_or (triangle (suc n)) k d ≡ place n j
 in_row n j k d less at =
     let offset : k - pairs n ≡ j = omega arith in
-    ap (λ ps. get_or ps k d) (triangle-suc n) ∙ get_or-append_right (triangle n) (row n) (pairs n) k d (length-triangle n) (omega arith) ∙ ap (λ i. get_or (row n) i d) offset ∙ get_or-row n j d less
+    ap (λ ps. get_or ps k d) (triangle-suc n)
+    ∙ get_or-append_right (triangle n) (row n) (pairs n) k d (length-triangle n) (omega arith)
+    ∙ ap (λ i. get_or (row n) i d) offset ∙ get_or-row n j d less
 
 -- the place of i and j stands at its index
 get_or-triangle : (n i j : ℕ) (d : Place) → j < i → i < n → get_or (triangle n) (pairs i + j) d ≡ place i j
@@ -79,7 +86,8 @@ get_or-triangle zero i j d below within = absurd (omega arith)
 get_or-triangle (suc n) i j d below within =
     elim (cases_lt i n) as (λ _. get_or (triangle (suc n)) (pairs i + j) d ≡ place i j) [
       | inl less ↦ in_front n (pairs i + j) d (pairs-below n i j below less) ∙ get_or-triangle n i j d below less
-      | inr more ↦ let same : n ≡ i = omega arith in in_row n j (pairs i + j) d (omega arith) (ap (λ k. pairs k + j) same) ∙ ap (λ k. place k j) same
+      | inr more ↦ let same : n ≡ i = omega arith in
+          in_row n j (pairs i + j) d (omega arith) (ap (λ k. pairs k + j) same) ∙ ap (λ k. place k j) same
     ]
 
 -- what stands at an index is the place of that index
@@ -90,7 +98,8 @@ place-triangle : (n k : ℕ) (d : Place) → k < pairs n → IsPlaceAt n k (get_
 place-triangle zero k d within = absurd (omega arith)
 place-triangle (suc n) k d within =
     elim (cases_lt k (pairs n)) as (λ _. IsPlaceAt (suc n) k (get_or (triangle (suc n)) k d)) [
-      | inl less ↦ let h = place-triangle n k d less in subst (IsPlaceAt (suc n) k) (sym (in_front n k d less)) (h.0, omega arith, h.2)
+      | inl less ↦ let h = place-triangle n k d less in
+          subst (IsPlaceAt (suc n) k) (sym (in_front n k d less)) (h.0, omega arith, h.2)
       | inr more ↦
           let j : ℕ = k - pairs n in
           let short : j < n = omega (arith, pairs-suc n) in
@@ -103,7 +112,9 @@ pub length-lower : (n : ℕ) → length (order LowerRow n) ≡ pairs n
 length-lower n = ap length (order-lines LowerRow n) ∙ length-triangle n
 
 pub get_or-lower : (n i j : ℕ) (d : Place) → j < i → i < n → get_or (order LowerRow n) (pairs i + j) d ≡ place i j
-get_or-lower n i j d below within = ap (λ ps. get_or ps (pairs i + j) d) (order-lines LowerRow n) ∙ get_or-triangle n i j d below within
+get_or-lower n i j d below within = ap (λ ps. get_or ps (pairs i + j) d) (order-lines LowerRow n)
+    ∙ get_or-triangle n i j d below within
 
 pub place-lower : (n k : ℕ) (d : Place) → k < pairs n → IsPlaceAt n k (get_or (order LowerRow n) k d)
-place-lower n k d within = subst (λ ps. IsPlaceAt n k (get_or ps k d)) (sym (order-lines LowerRow n)) (place-triangle n k d within)
+place-lower n k d within =
+    subst (λ ps. IsPlaceAt n k (get_or ps k d)) (sym (order-lines LowerRow n)) (place-triangle n k d within)

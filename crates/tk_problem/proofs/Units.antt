@@ -1,5 +1,6 @@
 -- Places in whole numbers of a unit.
-use Rattle.std.proofs.Common.{◌≡◌, ◌≢◌, false, ℤ, ◌≤◌, List, All, get_or, map, pos, ◌*ℤ◌, arith, subst, sym, ap, ◌∙◌, true, ◌&&◌, int_eq, to_z, of_z, w32, w64}
+use Rattle.std.proofs.Common.{◌≡◌, ◌≢◌, false, ℤ, ◌≤◌, List, All, get_or, map, pos, ◌*ℤ◌, arith, subst, sym, ap, ◌∙◌}
+use Rattle.std.proofs.Common.{true, ◌&&◌, int_eq, to_z, of_z, w32, w64}
 use Rattle.std.proofs.lemmas.Bool.Decides.{Decides-int_eq}
 use Rattle.std.proofs.lemmas.Bool.{and_parts, false≢true}
 use Rattle.std.proofs.lemmas.Int.{ints}
@@ -20,16 +21,19 @@ places_in-near unit ps = All-map IsNearOrigin (place_in unit) ps (λ k d h. plac
 
 -- the code's product of a coordinate and the step of a unit
 product-at : (unit : Unit) (x : ℤ) → unsigned_abs x ≤ COORDINATE_LIMIT
-    → to_z w64 (of_z w64 (to_z w64 (of_z w64 (to_z w32 (of_z w32 x))) *ℤ to_z w64 (of_z w64 (pos (step_of unit))))) ≡ x *ℤ pos (step_of unit)
+    → to_z w64 (of_z w64 (to_z w64 (of_z w64 (to_z w32 (of_z w32 x))) *ℤ to_z w64 (of_z w64 (pos (step_of unit))))) ≡ x
+    *ℤ pos (step_of unit)
 product-at One x near = omega (arith, ints, near)
 product-at Tenth x near = omega (arith, ints, near)
 product-at Hundredth x near = omega (arith, ints, near)
 product-at Thousandth x near = omega (arith, ints, near)
 
 pub product-in : (unit : Unit) (x step : ℤ) → step ≡ pos (step_of unit) → unsigned_abs x ≤ COORDINATE_LIMIT
-    → to_z w64 (of_z w64 (to_z w64 (of_z w64 (to_z w32 (of_z w32 x))) *ℤ to_z w64 (of_z w64 step))) ≡ x *ℤ pos (step_of unit)
+    → to_z w64 (of_z w64 (to_z w64 (of_z w64 (to_z w32 (of_z w32 x))) *ℤ to_z w64 (of_z w64 step))) ≡ x *ℤ pos
+    (step_of unit)
 product-in unit x step is near =
-    subst (λ (s : ℤ). to_z w64 (of_z w64 (to_z w64 (of_z w64 (to_z w32 (of_z w32 x))) *ℤ to_z w64 (of_z w64 s))) ≡ x *ℤ pos (step_of unit))
+    subst (λ (s : ℤ). to_z w64 (of_z w64 (to_z w64 (of_z w64 (to_z w32 (of_z w32 x))) *ℤ to_z w64 (of_z w64 s))) ≡ x *ℤ
+    pos (step_of unit))
     (sym is) (product-at unit x near)
 
 -- ---- points, by their coordinates
@@ -47,17 +51,25 @@ points_equal p q h =
 
 -- the code's quotient of a product and the step of a unit, in 32 bits
 quotient-at : (unit : Unit) (w : ℤ) → unsigned_abs w ≤ COORDINATE_LIMIT
-    → to_z w32 (of_z w32 (to_z w64 (of_z w64 (quot_z (to_z w64 (of_z w64 (w *ℤ pos (step_of unit)))) (to_z w64 (of_z w64 (pos (step_of unit)))))))) ≡ w
+    → to_z w32
+    (of_z w32
+    (to_z w64
+    (of_z w64 (quot_z (to_z w64 (of_z w64 (w *ℤ pos (step_of unit)))) (to_z w64 (of_z w64 (pos (step_of unit))))))))
+    ≡ w
 quotient-at One w near = omega (arith, ints, near)
 quotient-at Tenth w near = omega (arith, ints, near)
 quotient-at Hundredth w near = omega (arith, ints, near)
 quotient-at Thousandth w near = omega (arith, ints, near)
 
-pub quotient-in : (unit : Unit) (x step w : ℤ) → w *ℤ pos (step_of unit) ≡ x → step ≡ pos (step_of unit) → unsigned_abs w ≤ COORDINATE_LIMIT
+pub quotient-in : (unit : Unit) (x step w : ℤ) → w *ℤ pos (step_of unit) ≡ x → step ≡ pos (step_of unit)
+    → unsigned_abs w ≤ COORDINATE_LIMIT
     → to_z w32 (of_z w32 (to_z w64 (of_z w64 (quot_z (to_z w64 (of_z w64 x)) (to_z w64 (of_z w64 step)))))) ≡ w
 quotient-in unit x step w product is near =
-    subst (λ (s : ℤ). to_z w32 (of_z w32 (to_z w64 (of_z w64 (quot_z (to_z w64 (of_z w64 x)) (to_z w64 (of_z w64 s)))))) ≡ w) (sym is)
-    (subst (λ (p : ℤ). to_z w32 (of_z w32 (to_z w64 (of_z w64 (quot_z (to_z w64 (of_z w64 p)) (to_z w64 (of_z w64 (pos (step_of unit)))))))) ≡ w)
+    subst (λ (s : ℤ). to_z w32
+    (of_z w32 (to_z w64 (of_z w64 (quot_z (to_z w64 (of_z w64 x)) (to_z w64 (of_z w64 s)))))) ≡ w) (sym is)
+    (subst (λ (p : ℤ). to_z w32
+    (of_z w32
+    (to_z w64 (of_z w64 (quot_z (to_z w64 (of_z w64 p)) (to_z w64 (of_z w64 (pos (step_of unit)))))))) ≡ w)
     product (quotient-at unit w near))
 
 pub points_differ : (p q : Point) → false ≡ (int_eq p.x q.x && int_eq p.y q.y) → p ≢ q

@@ -1,5 +1,6 @@
 -- How many entries a format has, and how often it has each pair.
-use Rattle.std.proofs.Common.{◌≡◌, ◌≢◌, ℕ, zero, suc, ◌+◌, ◌-◌, ◌*◌, ◌/◌, ◌<◌, ◌≤◌, Bool, true, false, cond, eqb, List, [], ◌∷◌, ◌++◌, length, map, arith, sym, ap, ◌∙◌, refl, inl, inr, length-append}
+use Rattle.std.proofs.Common.{◌≡◌, ◌≢◌, ℕ, zero, suc, ◌+◌, ◌-◌, ◌*◌, ◌/◌, ◌<◌, ◌≤◌, Bool, true, false, cond, eqb, List}
+use Rattle.std.proofs.Common.{[], ◌∷◌, ◌++◌, length, map, arith, sym, ap, ◌∙◌, refl, inl, inr, length-append}
 use Rattle.std.specs.List.{range_with_len, flat_map, count_by}
 use Rattle.std.proofs.lemmas.Bool.{cases_eq}
 use Rattle.std.proofs.lemmas.Bool.Decides.{nat_tests}
@@ -9,7 +10,9 @@ use Rattle.std.proofs.lemmas.List.FromFn.{length-map-range_with_len}
 use Rattle.std.proofs.lemmas.List.Sums.{sum_by-append, sum_by-cons}
 use Rattle.tk_problem.specs.declared.place.Place.{Place}
 use Rattle.tk_problem.specs.declared.weights.Format.{Format}
-use Rattle.tk_problem.specs.declared.weights.Format.TheVariants.{FullMatrix, UpperRow, LowerRow, UpperDiagRow, LowerDiagRow, UpperCol, LowerCol, UpperDiagCol, LowerDiagCol}
+use Rattle.tk_problem.specs.declared.weights.Format.TheVariants.{FullMatrix, UpperRow, LowerRow, UpperDiagRow}
+use Rattle.tk_problem.specs.declared.weights.Format.TheVariants.{LowerDiagRow, UpperCol, LowerCol, UpperDiagCol}
+use Rattle.tk_problem.specs.declared.weights.Format.TheVariants.{LowerDiagCol}
 use Rattle.tk_problem.specs.WeightOrder.{place, order, is_of, entry_count, times_written}
 use Rattle.tk_problem.specs.WeightLines.{first_item, end_item, place_on, items}
 use Rattle.tk_problem.proofs.WeightLines.{order-lines}
@@ -21,19 +24,25 @@ abbrev total : (ℕ → ℕ) → ℕ → ℕ
 total v zero = 0
 total v (suc c) = total v c + v c
 
-pub flat_map-suc : (g : ℕ → List Place) (c : ℕ) → flat_map g (range_with_len 0 (suc c)) ≡ flat_map g (range_with_len 0 c) ++ g c
+pub flat_map-suc : (g : ℕ → List Place) (c : ℕ) →
+    flat_map g (range_with_len 0 (suc c)) ≡ flat_map g (range_with_len 0 c) ++ g c
 flat_map-suc g c =
     let last : 0 + c ≡ c = omega arith in
-    ap (flat_map g) (range_more 0 c) ∙ flat_map-append g (range_with_len 0 c) ((0 + c) ∷ []) ∙ ap (λ ps. flat_map g (range_with_len 0 c) ++ ps) (append-nil (g (0 + c))) ∙ ap (λ k. flat_map g (range_with_len 0 c) ++ g k) last
+    ap (flat_map g) (range_more 0 c) ∙ flat_map-append g (range_with_len 0 c) ((0 + c) ∷ [])
+    ∙ ap (λ ps. flat_map g (range_with_len 0 c) ++ ps) (append-nil (g (0 + c)))
+    ∙ ap (λ k. flat_map g (range_with_len 0 c) ++ g k) last
 
 length-lines : (g : ℕ → List Place) (c : ℕ) → length (flat_map g (range_with_len 0 c)) ≡ total (λ k. length (g k)) c
 length-lines g zero = refl
-length-lines g (suc c) = ap length (flat_map-suc g c) ∙ length-append (flat_map g (range_with_len 0 c)) (g c) ∙ ap (λ k. k + length (g c)) (length-lines g c)
+length-lines g (suc c) = ap length (flat_map-suc g c) ∙ length-append (flat_map g (range_with_len 0 c)) (g c)
+    ∙ ap (λ k. k + length (g c)) (length-lines g c)
 
-count-lines : (p : Place → Bool) (g : ℕ → List Place) (c : ℕ) → count_by p (flat_map g (range_with_len 0 c)) ≡ total (λ k. count_by p (g k)) c
+count-lines : (p : Place → Bool) (g : ℕ → List Place) (c : ℕ) →
+    count_by p (flat_map g (range_with_len 0 c)) ≡ total (λ k. count_by p (g k)) c
 count-lines p g zero = refl
 count-lines p g (suc c) =
-    ap (count_by p) (flat_map-suc g c) ∙ sum_by-append (λ q. cond (p q) 1 0) (flat_map g (range_with_len 0 c)) (g c) ∙ ap (λ k. k + count_by p (g c)) (count-lines p g c)
+    ap (count_by p) (flat_map-suc g c) ∙ sum_by-append (λ q. cond (p q) 1 0) (flat_map g (range_with_len 0 c)) (g c)
+    ∙ ap (λ k. k + count_by p (g c)) (count-lines p g c)
 
 total_none : (v : ℕ → ℕ) (c : ℕ) → ((k : ℕ) → k < c → v k ≡ 0) → total v c ≡ 0
 total_none v zero none = refl
@@ -43,13 +52,19 @@ total_one : (v : ℕ → ℕ) (c r : ℕ) → r < c → v r ≡ 1 → ((k : ℕ)
 total_one v zero r inside one none = absurd (omega arith)
 total_one v (suc c) r inside one none = elim (cases_eq c r) as (λ _. total v (suc c) ≡ 1) [
   | inl same ↦ omega (arith, total_none v c (λ k less. none k (omega arith) (λ e. omega arith)), ap v same)
-  | inr apart ↦ omega (arith, total_one v c r (omega arith) one (λ k less. none k (omega arith)), none c (omega arith) apart)
+  | inr apart ↦ omega (
+    arith,
+    total_one v c r (omega arith) one (λ k less. none k (omega arith)),
+    none c (omega arith) apart,
+  )
 ]
 
-total_two : (v : ℕ → ℕ) (c i j : ℕ) → j < i → i < c → v i ≡ 1 → v j ≡ 1 → ((k : ℕ) → k ≢ i → k ≢ j → v k ≡ 0) → total v c ≡ 2
+total_two : (v : ℕ → ℕ) (c i j : ℕ) → j < i → i < c → v i ≡ 1 → v j ≡ 1 → ((k : ℕ) → k ≢ i → k ≢ j → v k ≡ 0) →
+    total v c ≡ 2
 total_two v zero i j less inside one_i one_j none = absurd (omega arith)
 total_two v (suc c) i j less inside one_i one_j none = elim (cases_eq c i) as (λ _. total v (suc c) ≡ 2) [
-  | inl same ↦ omega (arith, total_one v c j (omega arith) one_j (λ k inside apart. none k (λ e. omega arith) apart), ap v same)
+  | inl same ↦ omega
+      (arith, total_one v c j (omega arith) one_j (λ k inside apart. none k (λ e. omega arith) apart), ap v same)
   | inr apart ↦ omega (arith, total_two v c i j less (omega arith) one_i one_j none, none c apart (λ e. omega arith))
 ]
 
@@ -61,11 +76,13 @@ same_total v w (suc c) each = omega (arith, same_total v w c each, each c)
 
 twice_pairs : (n : ℕ) → pairs n + pairs n + n ≡ n * n
 twice_pairs zero = refl
-twice_pairs (suc n) = let e : suc n * suc n ≡ n * n + n + n + 1 = omega arith in omega (arith, e, twice_pairs n, pairs-suc n)
+twice_pairs (suc n) = let e : suc n * suc n ≡ n * n + n + n + 1 = omega arith in
+    omega (arith, e, twice_pairs n, pairs-suc n)
 
 total_full : (v : ℕ → ℕ) (n c : ℕ) → ((k : ℕ) → v k ≡ n) → total v c ≡ c * n
 total_full v n zero each = omega arith
-total_full v n (suc c) each = let e : suc c * n ≡ c * n + n = omega arith in omega (arith, e, total_full v n c each, each c)
+total_full v n (suc c) each = let e : suc c * n ≡ c * n + n = omega arith in
+    omega (arith, e, total_full v n c each, each c)
 
 total_below_diagonal : (v : ℕ → ℕ) (c : ℕ) → ((k : ℕ) → v k ≡ k) → total v c ≡ pairs c
 total_below_diagonal v zero each = refl
@@ -77,17 +94,21 @@ total_to_diagonal v (suc c) each = omega (arith, total_to_diagonal v c each, pai
 
 total_behind : (v : ℕ → ℕ) (n c : ℕ) → c ≤ n → ((k : ℕ) → v k ≡ n - (k + 1)) → total v c + pairs c + c ≡ c * n
 total_behind v n zero within each = omega arith
-total_behind v n (suc c) within each = let e : suc c * n ≡ c * n + n = omega arith in omega (arith, e, total_behind v n c (omega arith) each, pairs-suc c, each c)
+total_behind v n (suc c) within each = let e : suc c * n ≡ c * n + n = omega arith in
+    omega (arith, e, total_behind v n c (omega arith) each, pairs-suc c, each c)
 
 total_from_diagonal : (v : ℕ → ℕ) (n c : ℕ) → c ≤ n → ((k : ℕ) → v k ≡ n - k) → total v c + pairs c ≡ c * n
 total_from_diagonal v n zero within each = omega arith
-total_from_diagonal v n (suc c) within each = let e : suc c * n ≡ c * n + n = omega arith in omega (arith, e, total_from_diagonal v n c (omega arith) each, pairs-suc c, each c)
+total_from_diagonal v n (suc c) within each = let e : suc c * n ≡ c * n + n = omega arith in
+    omega (arith, e, total_from_diagonal v n c (omega arith) each, pairs-suc c, each c)
 
 -- an order of lines with these numbers of entries
-length-order_total : (f : Format) (n : ℕ) (v : ℕ → ℕ) → ((k : ℕ) → end_item f n k - first_item f k ≡ v k) → length (order f n) ≡ total v n
+length-order_total : (f : Format) (n : ℕ) (v : ℕ → ℕ) → ((k : ℕ) → end_item f n k - first_item f k ≡ v k) →
+    length (order f n) ≡ total v n
 length-order_total f n v each =
     ap length (order-lines f n) ∙ length-lines (λ k. items f k (first_item f k) (end_item f n k)) n
-    ∙ same_total (λ k. length (items f k (first_item f k) (end_item f n k))) v n (λ k. length-map-range_with_len (place_on f k) (first_item f k) (end_item f n k - first_item f k) ∙ each k)
+    ∙ same_total (λ k. length (items f k (first_item f k) (end_item f n k))) v n
+    (λ k. length-map-range_with_len (place_on f k) (first_item f k) (end_item f n k - first_item f k) ∙ each k)
 
 -- rows or columns of these forms
 full_count : (f : Format) (n : ℕ) → ((k : ℕ) → end_item f n k - first_item f k ≡ n) → length (order f n) ≡ n * n
@@ -96,19 +117,25 @@ full_count f n each = length-order_total f n (λ k. n) each ∙ total_full (λ k
 below_count : (f : Format) (n : ℕ) → ((k : ℕ) → end_item f n k - first_item f k ≡ k) → length (order f n) ≡ pairs n
 below_count f n each = length-order_total f n (λ k. k) each ∙ total_below_diagonal (λ k. k) n (λ k. refl)
 
-behind_count : (f : Format) (n : ℕ) → ((k : ℕ) → end_item f n k - first_item f k ≡ n - (k + 1)) → length (order f n) ≡ pairs n
-behind_count f n each = length-order_total f n (λ k. n - (k + 1)) each ∙ omega (arith, total_behind (λ k. n - (k + 1)) n n (omega arith) (λ k. refl), twice_pairs n)
+behind_count : (f : Format) (n : ℕ) → ((k : ℕ) → end_item f n k - first_item f k ≡ n - (k + 1)) →
+    length (order f n) ≡ pairs n
+behind_count f n each = length-order_total f n (λ k. n - (k + 1)) each
+    ∙ omega (arith, total_behind (λ k. n - (k + 1)) n n (omega arith) (λ k. refl), twice_pairs n)
 
 with_diagonal : (n : ℕ) → pairs n + n ≡ n * (n + 1) / 2
 with_diagonal n =
     let e : suc n * (suc n - 1) ≡ n * (n + 1) = let less : suc n - 1 ≡ n = omega arith in rw less (omega arith) in
     sym (pairs-suc n) ∙ ap (λ x. x / 2) e
 
-to_diagonal_count : (f : Format) (n : ℕ) → ((k : ℕ) → end_item f n k - first_item f k ≡ k + 1) → length (order f n) ≡ n * (n + 1) / 2
-to_diagonal_count f n each = length-order_total f n (λ k. k + 1) each ∙ total_to_diagonal (λ k. k + 1) n (λ k. refl) ∙ with_diagonal n
+to_diagonal_count : (f : Format) (n : ℕ) → ((k : ℕ) → end_item f n k - first_item f k ≡ k + 1) →
+    length (order f n) ≡ n * (n + 1) / 2
+to_diagonal_count f n each = length-order_total f n (λ k. k + 1) each ∙ total_to_diagonal (λ k. k + 1) n (λ k. refl)
+    ∙ with_diagonal n
 
-from_diagonal_count : (f : Format) (n : ℕ) → ((k : ℕ) → end_item f n k - first_item f k ≡ n - k) → length (order f n) ≡ n * (n + 1) / 2
-from_diagonal_count f n each = length-order_total f n (λ k. n - k) each ∙ omega (arith, total_from_diagonal (λ k. n - k) n n (omega arith) (λ k. refl), twice_pairs n) ∙ with_diagonal n
+from_diagonal_count : (f : Format) (n : ℕ) → ((k : ℕ) → end_item f n k - first_item f k ≡ n - k) →
+    length (order f n) ≡ n * (n + 1) / 2
+from_diagonal_count f n each = length-order_total f n (λ k. n - k) each
+    ∙ omega (arith, total_from_diagonal (λ k. n - k) n n (omega arith) (λ k. refl), twice_pairs n) ∙ with_diagonal n
 
 pub length-order : (f : Format) (n : ℕ) → length (order f n) ≡ entry_count f n
 length-order FullMatrix n = full_count FullMatrix n (λ k. omega arith)
@@ -124,20 +151,27 @@ length-order LowerDiagCol n = from_diagonal_count LowerDiagCol n (λ k. refl)
 -- ---- how often a pair is written
 
 -- a line whose entry at t alone is one of the pair
-count_none : (p : Place → Bool) (h : ℕ → Place) (s c : ℕ) → ((m : ℕ) → s ≤ m → m < s + c → p (h m) ≡ false) → count_by p (map h (range_with_len s c)) ≡ 0
+count_none : (p : Place → Bool) (h : ℕ → Place) (s c : ℕ) → ((m : ℕ) → s ≤ m → m < s + c → p (h m) ≡ false) →
+    count_by p (map h (range_with_len s c)) ≡ 0
 count_none p h s zero none = refl
 count_none p h s (suc c) none =
-    sum_by-cons (λ q. cond (p q) 1 0) (h s) (map h (range_with_len (s + 1) c)) ∙ rw (none s (omega arith) (omega arith)) (omega (arith, count_none p h (s + 1) c (λ m more less. none m (omega arith) (omega arith))))
+    sum_by-cons (λ q. cond (p q) 1 0) (h s) (map h (range_with_len (s + 1) c))
+    ∙ rw (none s (omega arith) (omega arith))
+    (omega (arith, count_none p h (s + 1) c (λ m more less. none m (omega arith) (omega arith))))
 
-count_one : (p : Place → Bool) (h : ℕ → Place) (s c t : ℕ) → s ≤ t → t < s + c → p (h t) ≡ true → ((m : ℕ) → m ≢ t → p (h m) ≡ false) → count_by p (map h (range_with_len s c)) ≡ 1
+count_one : (p : Place → Bool) (h : ℕ → Place) (s c t : ℕ) → s ≤ t → t < s + c → p (h t) ≡ true →
+    ((m : ℕ) → m ≢ t → p (h m) ≡ false) → count_by p (map h (range_with_len s c)) ≡ 1
 count_one p h s zero t low high one none = absurd (omega arith)
-count_one p h s (suc c) t low high one none = elim (cases_eq s t) as (λ _. count_by p (map h (range_with_len s (suc c))) ≡ 1) [
-  | inl same ↦
-      let here : p (h s) ≡ true = ap (λ m. p (h m)) same ∙ one in
-      sum_by-cons (λ q. cond (p q) 1 0) (h s) (map h (range_with_len (s + 1) c)) ∙ rw here (omega (arith, count_none p h (s + 1) c (λ m more less. none m (λ e. omega arith))))
-  | inr apart ↦
-      sum_by-cons (λ q. cond (p q) 1 0) (h s) (map h (range_with_len (s + 1) c)) ∙ rw (none s apart) (omega (arith, count_one p h (s + 1) c t (omega arith) (omega arith) one none))
-]
+count_one p h s (suc c) t low high one none =
+    elim (cases_eq s t) as (λ _. count_by p (map h (range_with_len s (suc c))) ≡ 1) [
+      | inl same ↦
+          let here : p (h s) ≡ true = ap (λ m. p (h m)) same ∙ one in
+          sum_by-cons (λ q. cond (p q) 1 0) (h s) (map h (range_with_len (s + 1) c))
+          ∙ rw here (omega (arith, count_none p h (s + 1) c (λ m more less. none m (λ e. omega arith))))
+      | inr apart ↦
+          sum_by-cons (λ q. cond (p q) 1 0) (h s) (map h (range_with_len (s + 1) c))
+          ∙ rw (none s apart) (omega (arith, count_one p h (s + 1) c t (omega arith) (omega arith) one none))
+    ]
 
 -- which item of line k is one of the pair: j in line i, i in line j
 in_line_i : (i j m : ℕ) → j < i → is_of i j (place i m) ≡ eqb m j
@@ -178,35 +212,46 @@ eqb_self t = grind (arith, nat_tests)
 
 hit : (f : Format) (n i j k t : ℕ) → IsAt i j k t → first_item f k ≤ t → t < end_item f n k → count_in f n i j k ≡ 1
 hit f n i j k t at low high =
-    count_one (is_of i j) (place_on f k) (first_item f k) (end_item f n k - first_item f k) t low (omega arith) (in_line f i j k t ∙ at t ∙ eqb_self t) (λ m apart. in_line f i j k m ∙ at m ∙ eqb_apart m t apart)
+    count_one (is_of i j) (place_on f k) (first_item f k) (end_item f n k - first_item f k) t low (omega arith)
+    (in_line f i j k t ∙ at t ∙ eqb_self t) (λ m apart. in_line f i j k m ∙ at m ∙ eqb_apart m t apart)
 
-miss : (f : Format) (n i j k t : ℕ) → IsAt i j k t → ((m : ℕ) → first_item f k ≤ m → m < end_item f n k → m ≢ t) → count_in f n i j k ≡ 0
+miss : (f : Format) (n i j k t : ℕ) → IsAt i j k t → ((m : ℕ) → first_item f k ≤ m → m < end_item f n k → m ≢ t) →
+    count_in f n i j k ≡ 0
 miss f n i j k t at apart =
-    count_none (is_of i j) (place_on f k) (first_item f k) (end_item f n k - first_item f k) (λ m low high. in_line f i j k m ∙ at m ∙ eqb_apart m t (apart m low (omega arith)))
+    count_none (is_of i j) (place_on f k) (first_item f k) (end_item f n k - first_item f k)
+    (λ m low high. in_line f i j k m ∙ at m ∙ eqb_apart m t (apart m low (omega arith)))
 
 other : (f : Format) (n i j k : ℕ) → k ≢ i → k ≢ j → count_in f n i j k ≡ 0
 other f n i j k apart_i apart_j =
-    count_none (is_of i j) (place_on f k) (first_item f k) (end_item f n k - first_item f k) (λ m low high. in_line f i j k m ∙ in_other_line i j k m apart_i apart_j)
+    count_none (is_of i j) (place_on f k) (first_item f k) (end_item f n k - first_item f k)
+    (λ m low high. in_line f i j k m ∙ in_other_line i j k m apart_i apart_j)
 
 count-order : (f : Format) (n i j : ℕ) → count_by (is_of i j) (order f n) ≡ total (count_in f n i j) n
-count-order f n i j = ap (count_by (is_of i j)) (order-lines f n) ∙ count-lines (is_of i j) (λ k. items f k (first_item f k) (end_item f n k)) n
+count-order f n i j = ap (count_by (is_of i j)) (order-lines f n)
+    ∙ count-lines (is_of i j) (λ k. items f k (first_item f k) (end_item f n k)) n
 
 -- the pair stands in line j alone
-once_in_j : (f : Format) (n i j : ℕ) → j < i → i < n → first_item f j ≤ i → i < end_item f n j → j < first_item f i → count_by (is_of i j) (order f n) ≡ 1
+once_in_j : (f : Format) (n i j : ℕ) → j < i → i < n → first_item f j ≤ i → i < end_item f n j → j < first_item f i →
+    count_by (is_of i j) (order f n) ≡ 1
 once_in_j f n i j less inside low high behind =
     let here = hit f n i j j i (λ m. in_line_j i j m less) low high in
     let not_i = miss f n i j i j (λ m. in_line_i i j m less) (λ m from _ e. omega arith) in
-    count-order f n i j ∙ total_one (count_in f n i j) n j (omega arith) here (λ k _ apart. elim (cases_eq k i) as (λ _. count_in f n i j k ≡ 0) [
+    count-order f n i j
+    ∙ total_one (count_in f n i j) n j (omega arith) here
+    (λ k _ apart. elim (cases_eq k i) as (λ _. count_in f n i j k ≡ 0) [
       | inl same ↦ ap (count_in f n i j) same ∙ not_i
       | inr apart_i ↦ other f n i j k apart_i apart
     ])
 
 -- the pair stands in line i alone
-once_in_i : (f : Format) (n i j : ℕ) → j < i → i < n → first_item f i ≤ j → j < end_item f n i → end_item f n j ≤ i → count_by (is_of i j) (order f n) ≡ 1
+once_in_i : (f : Format) (n i j : ℕ) → j < i → i < n → first_item f i ≤ j → j < end_item f n i → end_item f n j ≤ i →
+    count_by (is_of i j) (order f n) ≡ 1
 once_in_i f n i j less inside low high before =
     let here = hit f n i j i j (λ m. in_line_i i j m less) low high in
     let not_j = miss f n i j j i (λ m. in_line_j i j m less) (λ m _ to e. omega arith) in
-    count-order f n i j ∙ total_one (count_in f n i j) n i inside here (λ k _ apart. elim (cases_eq k j) as (λ _. count_in f n i j k ≡ 0) [
+    count-order f n i j
+    ∙ total_one (count_in f n i j) n i inside here
+    (λ k _ apart. elim (cases_eq k j) as (λ _. count_in f n i j k ≡ 0) [
       | inl same ↦ ap (count_in f n i j) same ∙ not_j
       | inr apart_j ↦ other f n i j k apart apart_j
     ])
@@ -214,13 +259,17 @@ once_in_i f n i j less inside low high before =
 pub pair-order : (f : Format) (n i j : ℕ) → j < i → i < n → count_by (is_of i j) (order f n) ≡ times_written f
 pair-order FullMatrix n i j less inside =
     count-order FullMatrix n i j
-    ∙ total_two (count_in FullMatrix n i j) n i j less inside (hit FullMatrix n i j i j (λ m. in_line_i i j m less) (omega arith) (omega arith)) (hit FullMatrix n i j j i (λ m. in_line_j i j m less) (omega arith) inside)
+    ∙ total_two (count_in FullMatrix n i j) n i j less inside
+    (hit FullMatrix n i j i j (λ m. in_line_i i j m less) (omega arith) (omega arith))
+    (hit FullMatrix n i j j i (λ m. in_line_j i j m less) (omega arith) inside)
     (λ k apart_i apart_j. other FullMatrix n i j k apart_i apart_j)
 pair-order UpperRow n i j less inside = once_in_j UpperRow n i j less inside (omega arith) inside (omega arith)
 pair-order LowerRow n i j less inside = once_in_i LowerRow n i j less inside (omega arith) less (omega arith)
 pair-order UpperDiagRow n i j less inside = once_in_j UpperDiagRow n i j less inside (omega arith) inside less
-pair-order LowerDiagRow n i j less inside = once_in_i LowerDiagRow n i j less inside (omega arith) (omega arith) (omega arith)
+pair-order LowerDiagRow n i j less inside =
+    once_in_i LowerDiagRow n i j less inside (omega arith) (omega arith) (omega arith)
 pair-order UpperCol n i j less inside = once_in_i UpperCol n i j less inside (omega arith) less (omega arith)
 pair-order LowerCol n i j less inside = once_in_j LowerCol n i j less inside (omega arith) inside (omega arith)
-pair-order UpperDiagCol n i j less inside = once_in_i UpperDiagCol n i j less inside (omega arith) (omega arith) (omega arith)
+pair-order UpperDiagCol n i j less inside =
+    once_in_i UpperDiagCol n i j less inside (omega arith) (omega arith) (omega arith)
 pair-order LowerDiagCol n i j less inside = once_in_j LowerDiagCol n i j less inside (omega arith) inside less

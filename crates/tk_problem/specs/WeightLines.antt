@@ -3,7 +3,8 @@ use Rattle.std.specs.Prelude.{ℕ, ◌+◌, ◌-◌, List, ◌++◌, map, flat_m
 use Rattle.std.specs.List.{range_with_len}
 use Rattle.tk_problem.specs.declared.place.Place.{Place}
 use Rattle.tk_problem.specs.declared.weights.Format.{Format}
-use Rattle.tk_problem.specs.declared.weights.Format.TheVariants.{UpperRow, LowerRow, UpperDiagRow, LowerDiagRow, UpperCol, LowerCol, UpperDiagCol, LowerDiagCol}
+use Rattle.tk_problem.specs.declared.weights.Format.TheVariants.{UpperRow, LowerRow, UpperDiagRow, LowerDiagRow}
+use Rattle.tk_problem.specs.declared.weights.Format.TheVariants.{UpperCol, LowerCol, UpperDiagCol, LowerDiagCol}
 use Rattle.tk_problem.specs.WeightOrder.{place}
 
 -- the first item of a line that has an entry, and the item after the last

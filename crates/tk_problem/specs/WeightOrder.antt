@@ -1,9 +1,12 @@
 -- The order in which explicit weights are written, and the weight of two cities.
-use Rattle.std.specs.Prelude.{ℕ, ◌+◌, ◌-◌, ◌*◌, ◌/◌, Bool, ◌&&◌, ◌||◌, ◌==◌, nat_lt, nat_le, min, max, List, map, flat_map, zip, filter, if◌then◌else◌, fold}
+use Rattle.std.specs.Prelude.{ℕ, ◌+◌, ◌-◌, ◌*◌, ◌/◌, Bool, ◌&&◌, ◌||◌, ◌==◌, nat_lt, nat_le, min, max, List, map}
+use Rattle.std.specs.Prelude.{flat_map, zip, filter, if◌then◌else◌, fold}
 use Rattle.std.specs.List.{range_with_len}
 use Rattle.tk_problem.specs.declared.place.Place.{Place}
 use Rattle.tk_problem.specs.declared.weights.Format.{Format}
-use Rattle.tk_problem.specs.declared.weights.Format.TheVariants.{FullMatrix, UpperRow, LowerRow, UpperDiagRow, LowerDiagRow, UpperCol, LowerCol, UpperDiagCol, LowerDiagCol}
+use Rattle.tk_problem.specs.declared.weights.Format.TheVariants.{FullMatrix, UpperRow, LowerRow, UpperDiagRow}
+use Rattle.tk_problem.specs.declared.weights.Format.TheVariants.{LowerDiagRow, UpperCol, LowerCol, UpperDiagCol}
+use Rattle.tk_problem.specs.declared.weights.Format.TheVariants.{LowerDiagCol}
 
 abbrev pub place : ℕ → ℕ → Place
 place i j = record { row = i; column = j }

@@ -1,5 +1,6 @@
 //! Explicit weights as they are read.
-ghost use Rattle.std.specs.Prelude.{◌≡◌, ◌≢◌, ◌≤◌, ◌<◌, ◌-◌, ◌*◌, ◌/◌, ◌^◌, ◌++◌, ◌==◌, ℕ, List, [], ◌∷◌, All, IfOk, IfSome, Some, length, slice_get};
+ghost use Rattle.std.specs.Prelude.{◌≡◌, ◌≢◌, ◌≤◌, ◌<◌, ◌-◌, ◌*◌, ◌/◌, ◌^◌, ◌++◌, ◌==◌, ℕ, List, [], ◌∷◌, All, IfOk};
+ghost use Rattle.std.specs.Prelude.{IfSome, Some, length, slice_get};
 ghost use Rattle.tk_problem.specs.declared.limits.TheConstants.{DISTANCE_LIMIT};
 ghost use Rattle.tk_problem.specs.declared.weights.Format.{Format};
 ghost use Rattle.tk_problem.specs.WeightOrder as Order;

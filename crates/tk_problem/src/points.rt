@@ -1,5 +1,6 @@
 //! Lists of places.
-ghost use Rattle.std.specs.Prelude.{◌≡◌, ◌<◌, List, All, IfOk, IfSome, OnOk, OnErr, length, slice_index_or, slice_set, replicate, map};
+ghost use Rattle.std.specs.Prelude.{◌≡◌, ◌<◌, List, All, IfOk, IfSome, OnOk, OnErr, length, slice_index_or, slice_set};
+ghost use Rattle.std.specs.Prelude.{replicate, map};
 ghost use Rattle.tk_problem.specs.declared.point.Point.{Point};
 ghost use Rattle.tk_problem.specs.Places.{IsNearOrigin, origin};
 ghost use Rattle.tk_problem.specs.Units.{place_in};
@@ -152,8 +153,8 @@ impl Places<'_> {
     }
 }
 
-/// Whole places, and one that is not whole in their unit: in the unit that it needs, or in units of 10^-9 where that does
-/// not serve the others.
+/// Whole places, and one that is not whole in their unit: in the unit that it needs, or in units of 10^-9 where that
+/// does not serve the others.
 fn put(
     alloc: Global,
     unit: Unit,

@@ -1,5 +1,6 @@
 //! The order in which explicit weights are written.
-ghost use Rattle.std.specs.Prelude.{◌≡◌, ◌≤◌, ◌<◌, ◌+◌, ◌-◌, ◌^◌, ◌==◌, ℕ, List, [], count_by, drop, length, IfSome, IfNone, slice_get, Some};
+ghost use Rattle.std.specs.Prelude.{◌≡◌, ◌≤◌, ◌<◌, ◌+◌, ◌-◌, ◌^◌, ◌==◌, ℕ, List, [], count_by, drop, length, IfSome};
+ghost use Rattle.std.specs.Prelude.{IfNone, slice_get, Some};
 ghost use Rattle.tk_problem.specs.declared.place.Place.{Place};
 ghost use Rattle.tk_problem.specs.WeightLines as Lines;
 ghost use Rattle.tk_problem.specs.WeightOrder as Order;

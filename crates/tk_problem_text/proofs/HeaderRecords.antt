@@ -1,6 +1,7 @@
 -- The headers of a problem, with one piece more.
 use Rattle.std.proofs.lemmas.Bool.{eqb-true}
-use Rattle.std.proofs.Common.{◌≡◌, ◌≤◌, ℕ, Bool, true, false, eqb, length, arith, List, [], ◌∷◌, ◌++◌, Option, refl, sym, ap, ◌∙◌}
+use Rattle.std.proofs.Common.{◌≡◌, ◌≤◌, ℕ, Bool, true, false, eqb, length, arith, List, [], ◌∷◌, ◌++◌, Option, refl}
+use Rattle.std.proofs.Common.{sym, ap, ◌∙◌}
 use Rattle.std.specs.Prelude.{unwrap_or}
 use Rattle.tk_problem.specs.declared.limits.TheConstants.{CAPACITY_LIMIT, CITY_LIMIT}
 use Rattle.tk_words.specs.declared.keyword.Keyword.{Keyword}
@@ -20,100 +21,149 @@ use Rattle.tk_lines.proofs.Pieces.PieceValues.{value_of-other, value_of-section,
 use Rattle.tk_problem_text.proofs.KeptHeaders.{has_other, has_past, keeps_other, keeps_section, noted}
 
 module _ (h : Headers) (ps : List Piece) (v : List ℕ) (n : ℕ) (k : HasHeaders h ps) where
-  pub with_problem_type : (x : Option ProblemType) → Keeps words.Type problem_type_of x (ps ++ a_header words.Type v n) → HasHeaders (record h { problem_type = x }) (ps ++ a_header words.Type v n)
+  pub with_problem_type : (x : Option ProblemType) →
+      Keeps words.Type problem_type_of x (ps ++ a_header words.Type v n) →
+      HasHeaders (record h { problem_type = x }) (ps ++ a_header words.Type v n)
   with_problem_type x new = record {
     named = k.named ∙ sym (has_other words.Name words.Type ps v n refl);
-    name = k.name ∙ ap (λ (o : Option (List ℕ)). name_of (unwrap_or o [])) (sym (value_of-other words.Name words.Type ps v n refl));
+    name = k.name
+        ∙ ap (λ (o : Option (List ℕ)). name_of (unwrap_or o []))
+        (sym (value_of-other words.Name words.Type ps v n refl));
     short = k.short;
     problem_type = new;
     dimension = keeps_other words.Dimension words.Type (number_of 2 CITY_LIMIT) h.dimension ps v n refl k.dimension;
     capacity = keeps_other words.Capacity words.Type (number_of 1 CAPACITY_LIMIT) h.capacity ps v n refl k.capacity;
     weight_type = keeps_other words.EdgeWeightType words.Type weight_type_of h.weight_type ps v n refl k.weight_type;
-    weight_format = keeps_other words.EdgeWeightFormat words.Type weight_format_of h.weight_format ps v n refl k.weight_format;
+    weight_format = keeps_other words.EdgeWeightFormat words.Type weight_format_of h.weight_format ps v n refl
+        k.weight_format;
     coordinate_type = k.coordinate_type ∙ sym (has_other words.NodeCoordType words.Type ps v n refl);
     display_type = k.display_type ∙ sym (has_other words.DisplayDataType words.Type ps v n refl);
   }
 
-  pub with_dimension : (x : Option ℕ) → Keeps words.Dimension (number_of 2 CITY_LIMIT) x (ps ++ a_header words.Dimension v n) → HasHeaders (record h { dimension = x }) (ps ++ a_header words.Dimension v n)
+  pub with_dimension : (x : Option ℕ) →
+      Keeps words.Dimension (number_of 2 CITY_LIMIT) x (ps ++ a_header words.Dimension v n) →
+      HasHeaders (record h { dimension = x }) (ps ++ a_header words.Dimension v n)
   with_dimension x new = record {
     named = k.named ∙ sym (has_other words.Name words.Dimension ps v n refl);
-    name = k.name ∙ ap (λ (o : Option (List ℕ)). name_of (unwrap_or o [])) (sym (value_of-other words.Name words.Dimension ps v n refl));
+    name = k.name
+        ∙ ap (λ (o : Option (List ℕ)). name_of (unwrap_or o []))
+        (sym (value_of-other words.Name words.Dimension ps v n refl));
     short = k.short;
     problem_type = keeps_other words.Type words.Dimension problem_type_of h.problem_type ps v n refl k.problem_type;
     dimension = new;
-    capacity = keeps_other words.Capacity words.Dimension (number_of 1 CAPACITY_LIMIT) h.capacity ps v n refl k.capacity;
-    weight_type = keeps_other words.EdgeWeightType words.Dimension weight_type_of h.weight_type ps v n refl k.weight_type;
-    weight_format = keeps_other words.EdgeWeightFormat words.Dimension weight_format_of h.weight_format ps v n refl k.weight_format;
+    capacity = keeps_other words.Capacity words.Dimension (number_of 1 CAPACITY_LIMIT) h.capacity ps v n
+        refl k.capacity;
+    weight_type = keeps_other words.EdgeWeightType words.Dimension weight_type_of h.weight_type ps v n refl
+        k.weight_type;
+    weight_format = keeps_other words.EdgeWeightFormat words.Dimension weight_format_of h.weight_format ps v n refl
+        k.weight_format;
     coordinate_type = k.coordinate_type ∙ sym (has_other words.NodeCoordType words.Dimension ps v n refl);
     display_type = k.display_type ∙ sym (has_other words.DisplayDataType words.Dimension ps v n refl);
   }
 
-  pub with_capacity : (x : Option ℕ) → Keeps words.Capacity (number_of 1 CAPACITY_LIMIT) x (ps ++ a_header words.Capacity v n) → HasHeaders (record h { capacity = x }) (ps ++ a_header words.Capacity v n)
+  pub with_capacity : (x : Option ℕ) →
+      Keeps words.Capacity (number_of 1 CAPACITY_LIMIT) x (ps ++ a_header words.Capacity v n) →
+      HasHeaders (record h { capacity = x }) (ps ++ a_header words.Capacity v n)
   with_capacity x new = record {
     named = k.named ∙ sym (has_other words.Name words.Capacity ps v n refl);
-    name = k.name ∙ ap (λ (o : Option (List ℕ)). name_of (unwrap_or o [])) (sym (value_of-other words.Name words.Capacity ps v n refl));
+    name = k.name
+        ∙ ap (λ (o : Option (List ℕ)). name_of (unwrap_or o []))
+        (sym (value_of-other words.Name words.Capacity ps v n refl));
     short = k.short;
     problem_type = keeps_other words.Type words.Capacity problem_type_of h.problem_type ps v n refl k.problem_type;
     dimension = keeps_other words.Dimension words.Capacity (number_of 2 CITY_LIMIT) h.dimension ps v n refl k.dimension;
     capacity = new;
-    weight_type = keeps_other words.EdgeWeightType words.Capacity weight_type_of h.weight_type ps v n refl k.weight_type;
-    weight_format = keeps_other words.EdgeWeightFormat words.Capacity weight_format_of h.weight_format ps v n refl k.weight_format;
+    weight_type = keeps_other words.EdgeWeightType words.Capacity weight_type_of h.weight_type ps v n refl
+        k.weight_type;
+    weight_format = keeps_other words.EdgeWeightFormat words.Capacity weight_format_of h.weight_format ps v n refl
+        k.weight_format;
     coordinate_type = k.coordinate_type ∙ sym (has_other words.NodeCoordType words.Capacity ps v n refl);
     display_type = k.display_type ∙ sym (has_other words.DisplayDataType words.Capacity ps v n refl);
   }
 
-  pub with_weight_type : (x : Option WeightType) → Keeps words.EdgeWeightType weight_type_of x (ps ++ a_header words.EdgeWeightType v n) → HasHeaders (record h { weight_type = x }) (ps ++ a_header words.EdgeWeightType v n)
+  pub with_weight_type : (x : Option WeightType) →
+      Keeps words.EdgeWeightType weight_type_of x (ps ++ a_header words.EdgeWeightType v n) →
+      HasHeaders (record h { weight_type = x }) (ps ++ a_header words.EdgeWeightType v n)
   with_weight_type x new = record {
     named = k.named ∙ sym (has_other words.Name words.EdgeWeightType ps v n refl);
-    name = k.name ∙ ap (λ (o : Option (List ℕ)). name_of (unwrap_or o [])) (sym (value_of-other words.Name words.EdgeWeightType ps v n refl));
+    name = k.name
+        ∙ ap (λ (o : Option (List ℕ)). name_of (unwrap_or o []))
+        (sym (value_of-other words.Name words.EdgeWeightType ps v n refl));
     short = k.short;
-    problem_type = keeps_other words.Type words.EdgeWeightType problem_type_of h.problem_type ps v n refl k.problem_type;
-    dimension = keeps_other words.Dimension words.EdgeWeightType (number_of 2 CITY_LIMIT) h.dimension ps v n refl k.dimension;
-    capacity = keeps_other words.Capacity words.EdgeWeightType (number_of 1 CAPACITY_LIMIT) h.capacity ps v n refl k.capacity;
+    problem_type = keeps_other words.Type words.EdgeWeightType problem_type_of h.problem_type ps v n refl
+        k.problem_type;
+    dimension = keeps_other words.Dimension words.EdgeWeightType (number_of 2 CITY_LIMIT) h.dimension ps v n
+        refl k.dimension;
+    capacity = keeps_other words.Capacity words.EdgeWeightType (number_of 1 CAPACITY_LIMIT) h.capacity ps v n
+        refl k.capacity;
     weight_type = new;
-    weight_format = keeps_other words.EdgeWeightFormat words.EdgeWeightType weight_format_of h.weight_format ps v n refl k.weight_format;
+    weight_format = keeps_other words.EdgeWeightFormat words.EdgeWeightType weight_format_of h.weight_format ps v n refl
+        k.weight_format;
     coordinate_type = k.coordinate_type ∙ sym (has_other words.NodeCoordType words.EdgeWeightType ps v n refl);
     display_type = k.display_type ∙ sym (has_other words.DisplayDataType words.EdgeWeightType ps v n refl);
   }
 
-  pub with_weight_format : (x : Option WeightFormat) → Keeps words.EdgeWeightFormat weight_format_of x (ps ++ a_header words.EdgeWeightFormat v n) → HasHeaders (record h { weight_format = x }) (ps ++ a_header words.EdgeWeightFormat v n)
+  pub with_weight_format : (x : Option WeightFormat) →
+      Keeps words.EdgeWeightFormat weight_format_of x (ps ++ a_header words.EdgeWeightFormat v n) →
+      HasHeaders (record h { weight_format = x }) (ps ++ a_header words.EdgeWeightFormat v n)
   with_weight_format x new = record {
     named = k.named ∙ sym (has_other words.Name words.EdgeWeightFormat ps v n refl);
-    name = k.name ∙ ap (λ (o : Option (List ℕ)). name_of (unwrap_or o [])) (sym (value_of-other words.Name words.EdgeWeightFormat ps v n refl));
+    name = k.name
+        ∙ ap (λ (o : Option (List ℕ)). name_of (unwrap_or o []))
+        (sym (value_of-other words.Name words.EdgeWeightFormat ps v n refl));
     short = k.short;
-    problem_type = keeps_other words.Type words.EdgeWeightFormat problem_type_of h.problem_type ps v n refl k.problem_type;
-    dimension = keeps_other words.Dimension words.EdgeWeightFormat (number_of 2 CITY_LIMIT) h.dimension ps v n refl k.dimension;
-    capacity = keeps_other words.Capacity words.EdgeWeightFormat (number_of 1 CAPACITY_LIMIT) h.capacity ps v n refl k.capacity;
-    weight_type = keeps_other words.EdgeWeightType words.EdgeWeightFormat weight_type_of h.weight_type ps v n refl k.weight_type;
+    problem_type = keeps_other words.Type words.EdgeWeightFormat problem_type_of h.problem_type ps v n refl
+        k.problem_type;
+    dimension = keeps_other words.Dimension words.EdgeWeightFormat (number_of 2 CITY_LIMIT) h.dimension ps v n
+        refl k.dimension;
+    capacity = keeps_other words.Capacity words.EdgeWeightFormat (number_of 1 CAPACITY_LIMIT) h.capacity ps v n
+        refl k.capacity;
+    weight_type = keeps_other words.EdgeWeightType words.EdgeWeightFormat weight_type_of h.weight_type ps v n refl
+        k.weight_type;
     weight_format = new;
     coordinate_type = k.coordinate_type ∙ sym (has_other words.NodeCoordType words.EdgeWeightFormat ps v n refl);
     display_type = k.display_type ∙ sym (has_other words.DisplayDataType words.EdgeWeightFormat ps v n refl);
   }
 
-  pub with_coordinate_type : (x : Bool) → x ≡ has words.NodeCoordType (ps ++ a_header words.NodeCoordType v n) → HasHeaders (record h { has_coordinate_type = x }) (ps ++ a_header words.NodeCoordType v n)
+  pub with_coordinate_type : (x : Bool) → x ≡ has words.NodeCoordType (ps ++ a_header words.NodeCoordType v n) →
+      HasHeaders (record h { has_coordinate_type = x }) (ps ++ a_header words.NodeCoordType v n)
   with_coordinate_type x new = record {
     named = k.named ∙ sym (has_other words.Name words.NodeCoordType ps v n refl);
-    name = k.name ∙ ap (λ (o : Option (List ℕ)). name_of (unwrap_or o [])) (sym (value_of-other words.Name words.NodeCoordType ps v n refl));
+    name = k.name
+        ∙ ap (λ (o : Option (List ℕ)). name_of (unwrap_or o []))
+        (sym (value_of-other words.Name words.NodeCoordType ps v n refl));
     short = k.short;
     problem_type = keeps_other words.Type words.NodeCoordType problem_type_of h.problem_type ps v n refl k.problem_type;
-    dimension = keeps_other words.Dimension words.NodeCoordType (number_of 2 CITY_LIMIT) h.dimension ps v n refl k.dimension;
-    capacity = keeps_other words.Capacity words.NodeCoordType (number_of 1 CAPACITY_LIMIT) h.capacity ps v n refl k.capacity;
-    weight_type = keeps_other words.EdgeWeightType words.NodeCoordType weight_type_of h.weight_type ps v n refl k.weight_type;
-    weight_format = keeps_other words.EdgeWeightFormat words.NodeCoordType weight_format_of h.weight_format ps v n refl k.weight_format;
+    dimension = keeps_other words.Dimension words.NodeCoordType (number_of 2 CITY_LIMIT) h.dimension ps v n
+        refl k.dimension;
+    capacity = keeps_other words.Capacity words.NodeCoordType (number_of 1 CAPACITY_LIMIT) h.capacity ps v n
+        refl k.capacity;
+    weight_type = keeps_other words.EdgeWeightType words.NodeCoordType weight_type_of h.weight_type ps v n refl
+        k.weight_type;
+    weight_format = keeps_other words.EdgeWeightFormat words.NodeCoordType weight_format_of h.weight_format ps v n refl
+        k.weight_format;
     coordinate_type = new;
     display_type = k.display_type ∙ sym (has_other words.DisplayDataType words.NodeCoordType ps v n refl);
   }
 
-  pub with_display_type : (x : Bool) → x ≡ has words.DisplayDataType (ps ++ a_header words.DisplayDataType v n) → HasHeaders (record h { has_display_type = x }) (ps ++ a_header words.DisplayDataType v n)
+  pub with_display_type : (x : Bool) → x ≡ has words.DisplayDataType (ps ++ a_header words.DisplayDataType v n) →
+      HasHeaders (record h { has_display_type = x }) (ps ++ a_header words.DisplayDataType v n)
   with_display_type x new = record {
     named = k.named ∙ sym (has_other words.Name words.DisplayDataType ps v n refl);
-    name = k.name ∙ ap (λ (o : Option (List ℕ)). name_of (unwrap_or o [])) (sym (value_of-other words.Name words.DisplayDataType ps v n refl));
+    name = k.name
+        ∙ ap (λ (o : Option (List ℕ)). name_of (unwrap_or o []))
+        (sym (value_of-other words.Name words.DisplayDataType ps v n refl));
     short = k.short;
-    problem_type = keeps_other words.Type words.DisplayDataType problem_type_of h.problem_type ps v n refl k.problem_type;
-    dimension = keeps_other words.Dimension words.DisplayDataType (number_of 2 CITY_LIMIT) h.dimension ps v n refl k.dimension;
-    capacity = keeps_other words.Capacity words.DisplayDataType (number_of 1 CAPACITY_LIMIT) h.capacity ps v n refl k.capacity;
-    weight_type = keeps_other words.EdgeWeightType words.DisplayDataType weight_type_of h.weight_type ps v n refl k.weight_type;
-    weight_format = keeps_other words.EdgeWeightFormat words.DisplayDataType weight_format_of h.weight_format ps v n refl k.weight_format;
+    problem_type = keeps_other words.Type words.DisplayDataType problem_type_of h.problem_type ps v n refl
+        k.problem_type;
+    dimension = keeps_other words.Dimension words.DisplayDataType (number_of 2 CITY_LIMIT) h.dimension ps v n
+        refl k.dimension;
+    capacity = keeps_other words.Capacity words.DisplayDataType (number_of 1 CAPACITY_LIMIT) h.capacity ps v n
+        refl k.capacity;
+    weight_type = keeps_other words.EdgeWeightType words.DisplayDataType weight_type_of h.weight_type ps v n refl
+        k.weight_type;
+    weight_format = keeps_other words.EdgeWeightFormat words.DisplayDataType weight_format_of h.weight_format ps v n
+        refl k.weight_format;
     coordinate_type = k.coordinate_type ∙ sym (has_other words.NodeCoordType words.DisplayDataType ps v n refl);
     display_type = new;
   }
@@ -121,29 +171,36 @@ module _ (h : Headers) (ps : List Piece) (v : List ℕ) (n : ℕ) (k : HasHeader
   pub with_comment : HasHeaders h (ps ++ a_header words.Comment v n)
   with_comment = record {
     named = k.named ∙ sym (has_other words.Name words.Comment ps v n refl);
-    name = k.name ∙ ap (λ (o : Option (List ℕ)). name_of (unwrap_or o [])) (sym (value_of-other words.Name words.Comment ps v n refl));
+    name = k.name
+        ∙ ap (λ (o : Option (List ℕ)). name_of (unwrap_or o []))
+        (sym (value_of-other words.Name words.Comment ps v n refl));
     short = k.short;
     problem_type = keeps_other words.Type words.Comment problem_type_of h.problem_type ps v n refl k.problem_type;
     dimension = keeps_other words.Dimension words.Comment (number_of 2 CITY_LIMIT) h.dimension ps v n refl k.dimension;
     capacity = keeps_other words.Capacity words.Comment (number_of 1 CAPACITY_LIMIT) h.capacity ps v n refl k.capacity;
     weight_type = keeps_other words.EdgeWeightType words.Comment weight_type_of h.weight_type ps v n refl k.weight_type;
-    weight_format = keeps_other words.EdgeWeightFormat words.Comment weight_format_of h.weight_format ps v n refl k.weight_format;
+    weight_format = keeps_other words.EdgeWeightFormat words.Comment weight_format_of h.weight_format ps v n refl
+        k.weight_format;
     coordinate_type = k.coordinate_type ∙ sym (has_other words.NodeCoordType words.Comment ps v n refl);
     display_type = k.display_type ∙ sym (has_other words.DisplayDataType words.Comment ps v n refl);
   }
 
   -- the name comes, and the bytes are those that it gives
-  pub with_name : (named : Headers) → named ≡ record h { has_name = true; name = named.name } → named.name.items ≡ name_of v → length named.name.items ≤ 1024 → has words.Name ps ≡ false
+  pub with_name : (named : Headers) → named ≡ record h { has_name = true; name = named.name }
+      → named.name.items ≡ name_of v → length named.name.items ≤ 1024 → has words.Name ps ≡ false
       → HasHeaders named (ps ++ a_header words.Name v n)
   with_name named same is small fresh = rw same (record {
     named = noted words.Name ps v n refl;
-    name = is ∙ ap (λ (o : Option (List ℕ)). name_of (unwrap_or o [])) (sym (value_of-new words.Name words.Name ps v n refl fresh));
+    name = is
+        ∙ ap (λ (o : Option (List ℕ)). name_of (unwrap_or o []))
+        (sym (value_of-new words.Name words.Name ps v n refl fresh));
     short = small;
     problem_type = keeps_other words.Type words.Name problem_type_of h.problem_type ps v n refl k.problem_type;
     dimension = keeps_other words.Dimension words.Name (number_of 2 CITY_LIMIT) h.dimension ps v n refl k.dimension;
     capacity = keeps_other words.Capacity words.Name (number_of 1 CAPACITY_LIMIT) h.capacity ps v n refl k.capacity;
     weight_type = keeps_other words.EdgeWeightType words.Name weight_type_of h.weight_type ps v n refl k.weight_type;
-    weight_format = keeps_other words.EdgeWeightFormat words.Name weight_format_of h.weight_format ps v n refl k.weight_format;
+    weight_format = keeps_other words.EdgeWeightFormat words.Name weight_format_of h.weight_format ps v n refl
+        k.weight_format;
     coordinate_type = k.coordinate_type ∙ sym (has_other words.NodeCoordType words.Name ps v n refl);
     display_type = k.display_type ∙ sym (has_other words.DisplayDataType words.Name ps v n refl);
   })
@@ -152,19 +209,26 @@ module _ (h : Headers) (ps : List Piece) (v : List ℕ) (n : ℕ) (k : HasHeader
   pub stays_unnamed : has words.Name ps ≡ false → trim (after_word v) ≡ [] → h.name.items ≡ name_of v
   stays_unnamed fresh empty = k.name ∙ rw (value_of-none words.Name ps fresh, empty) refl
 
-module _ (h : Headers) (word : Keyword) (ps : List Piece) (n : ℕ) (toks : List Token) (after : After) (k : HasHeaders h ps) where
+module _ (h : Headers) (word : Keyword) (ps : List Piece) (n : ℕ) (toks : List Token) (after : After)
+    (k : HasHeaders h ps) where
   -- a section of a word that is no header changes nothing
-  pub past_section : same_word word words.Name ≡ false → same_word word words.Type ≡ false → same_word word words.Dimension ≡ false → same_word word words.Capacity ≡ false → same_word word words.EdgeWeightType ≡ false
-      → same_word word words.EdgeWeightFormat ≡ false → same_word word words.NodeCoordType ≡ false → same_word word words.DisplayDataType ≡ false → HasHeaders h (ps ++ a_section word n toks after)
+  pub past_section : same_word word words.Name ≡ false → same_word word words.Type ≡ false
+      → same_word word words.Dimension ≡ false → same_word word words.Capacity ≡ false
+      → same_word word words.EdgeWeightType ≡ false
+      → same_word word words.EdgeWeightFormat ≡ false → same_word word words.NodeCoordType ≡ false →
+      same_word word words.DisplayDataType ≡ false → HasHeaders h (ps ++ a_section word n toks after)
   past_section o1 o2 o3 o4 o5 o6 o7 o8 = record {
     named = k.named ∙ sym (has_past words.Name word ps n toks after o1);
-    name = k.name ∙ ap (λ (o : Option (List ℕ)). name_of (unwrap_or o [])) (sym (value_of-section words.Name word ps n toks after));
+    name = k.name
+        ∙ ap (λ (o : Option (List ℕ)). name_of (unwrap_or o []))
+        (sym (value_of-section words.Name word ps n toks after));
     short = k.short;
     problem_type = keeps_section words.Type word problem_type_of h.problem_type ps n toks after o2 k.problem_type;
     dimension = keeps_section words.Dimension word (number_of 2 CITY_LIMIT) h.dimension ps n toks after o3 k.dimension;
     capacity = keeps_section words.Capacity word (number_of 1 CAPACITY_LIMIT) h.capacity ps n toks after o4 k.capacity;
     weight_type = keeps_section words.EdgeWeightType word weight_type_of h.weight_type ps n toks after o5 k.weight_type;
-    weight_format = keeps_section words.EdgeWeightFormat word weight_format_of h.weight_format ps n toks after o6 k.weight_format;
+    weight_format = keeps_section words.EdgeWeightFormat word weight_format_of h.weight_format ps n toks after o6
+        k.weight_format;
     coordinate_type = k.coordinate_type ∙ sym (has_past words.NodeCoordType word ps n toks after o7);
     display_type = k.display_type ∙ sym (has_past words.DisplayDataType word ps n toks after o8);
   }

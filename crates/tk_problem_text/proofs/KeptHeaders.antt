@@ -1,5 +1,6 @@
 -- The headers that are kept, with one piece more.
-use Rattle.std.proofs.Common.{◌≡◌, ℕ, Bool, true, false, ◌||◌, List, [], ◌∷◌, ◌++◌, Option, Some, None, is_some, length, ltb, refl, sym, ap, ◌∙◌}
+use Rattle.std.proofs.Common.{◌≡◌, ℕ, Bool, true, false, ◌||◌, List, [], ◌∷◌, ◌++◌, Option, Some, None, is_some, length}
+use Rattle.std.proofs.Common.{ltb, refl, sym, ap, ◌∙◌}
 use Rattle.std.specs.Prelude.{IfSome, option_and_then, is_none, Result, Ok, Err, IfOk, IfErr, ◌≤◌}
 use Rattle.std.specs.Option.{ok_or}
 use Rattle.std.proofs.lemmas.Bool.{le-leb, le-ltb}
@@ -20,14 +21,17 @@ or_false : (a : Bool) → (a || false) ≡ a
 or_false true = refl
 or_false false = refl
 
-pub has_other : (w word : Keyword) (ps : List Piece) (v : List ℕ) (n : ℕ) → same_word word w ≡ false → has w (ps ++ a_header word v n) ≡ has w ps
+pub has_other : (w word : Keyword) (ps : List Piece) (v : List ℕ) (n : ℕ) → same_word word w ≡ false →
+    has w (ps ++ a_header word v n) ≡ has w ps
 has_other w word ps v n other = has-header w word ps v n ∙ rw other (or_false (has w ps))
 
-pub has_past : (w word : Keyword) (ps : List Piece) (n : ℕ) (toks : List Token) (after : After) → same_word word w ≡ false → has w (ps ++ a_section word n toks after) ≡ has w ps
+pub has_past : (w word : Keyword) (ps : List Piece) (n : ℕ) (toks : List Token) (after : After) →
+    same_word word w ≡ false → has w (ps ++ a_section word n toks after) ≡ has w ps
 has_past w word ps n toks after other = has-section w word ps n toks after ∙ rw other (or_false (has w ps))
 
 -- another header changes nothing
-pub keeps_other : {A : Type 0} (w word : Keyword) (f : List ℕ → Option A) (kept : Option A) (ps : List Piece) (v : List ℕ) (n : ℕ)
+pub keeps_other : {A : Type 0} (w word : Keyword) (f : List ℕ → Option A) (kept : Option A) (ps : List Piece)
+    (v : List ℕ) (n : ℕ)
     → same_word word w ≡ false → Keeps w f kept ps → Keeps w f kept (ps ++ a_header word v n)
 keeps_other w word f kept ps v n other h = record {
   came = has_other w word ps v n other ∙ h.came;
@@ -35,7 +39,8 @@ keeps_other w word f kept ps v n other h = record {
 }
 
 -- nor does a section of another word
-pub keeps_section : {A : Type 0} (w word : Keyword) (f : List ℕ → Option A) (kept : Option A) (ps : List Piece) (n : ℕ) (toks : List Token) (after : After)
+pub keeps_section : {A : Type 0} (w word : Keyword) (f : List ℕ → Option A) (kept : Option A) (ps : List Piece) (n : ℕ)
+    (toks : List Token) (after : After)
     → same_word word w ≡ false → Keeps w f kept ps → Keeps w f kept (ps ++ a_section word n toks after)
 keeps_section w word f kept ps n toks after other h = record {
   came = has-section w word ps n toks after ∙ rw other (or_false (has w ps)) ∙ h.came;
@@ -51,12 +56,15 @@ keeps_new w f a ps v n same h is = record {
 }
 
 -- the header comes for the first time
-pub keeps_fresh : {A : Type 0} (w : Keyword) (f : List ℕ → Option A) (kept : Option A) (a : A) (ps : List Piece) (v : List ℕ) (n : ℕ)
-    → is_some kept ≡ false → same_word w w ≡ true → Keeps w f kept ps → f v ≡ Some a → Keeps w f (Some a) (ps ++ a_header w v n) × (has w ps ≡ false)
+pub keeps_fresh : {A : Type 0} (w : Keyword) (f : List ℕ → Option A) (kept : Option A) (a : A) (ps : List Piece)
+    (v : List ℕ) (n : ℕ)
+    → is_some kept ≡ false → same_word w w ≡ true → Keeps w f kept ps → f v ≡ Some a →
+    Keeps w f (Some a) (ps ++ a_header w v n) × (has w ps ≡ false)
 keeps_fresh w f None a ps v n fresh same h is = (keeps_new w f a ps v n same h is, h.came)
 keeps_fresh w f (Some b) a ps v n fresh same h is = absurd cc
 
-pub noted : (w : Keyword) (ps : List Piece) (v : List ℕ) (n : ℕ) → same_word w w ≡ true → true ≡ has w (ps ++ a_header w v n)
+pub noted : (w : Keyword) (ps : List Piece) (v : List ℕ) (n : ℕ) → same_word w w ≡ true →
+    true ≡ has w (ps ++ a_header w v n)
 noted w ps v n same = sym (has-header w w ps v n ∙ rw same (or_true (has w ps)))
   where
     or_true : (a : Bool) → (a || true) ≡ true
@@ -66,11 +74,13 @@ noted w ps v n same = sym (has-header w w ps v n ∙ rw same (or_true (has w ps)
 -- ---- what a value says
 
 -- a word that is known or not
-pub says_known : {A : Type 0} (f : List ℕ → Option A) (v : List ℕ) (o : Option A) → o ≡ f v → Says f ((is_none (f v), kinds.Unsupported) ∷ []) v (ok_or o kinds.Unsupported)
+pub says_known : {A : Type 0} (f : List ℕ → Option A) (v : List ℕ) (o : Option A) → o ≡ f v →
+    Says f ((is_none (f v), kinds.Unsupported) ∷ []) v (ok_or o kinds.Unsupported)
 says_known f v None e = record { ok = tt; err = λ n. rw (sym e) refl }
 says_known f v (Some a) e = record { ok = (sym e, λ n. rw (sym e) refl); err = tt }
 
-told_all : (P : ℕ → TextKind → Type 0) (k : TextKind) → ((n : ℕ) → IsToldWord (P n) k) → IsToldWord (λ x. (n : ℕ) → P n x) k
+told_all : (P : ℕ → TextKind → Type 0) (k : TextKind) → ((n : ℕ) → IsToldWord (P n) k) →
+    IsToldWord (λ x. (n : ℕ) → P n x) k
 told_all P kinds.Read h = h 0
 told_all P kinds.NoMemory h = tt
 told_all P kinds.UnknownKeyword h = h
@@ -88,11 +98,24 @@ told_all P (kinds.DemandOverCapacity c) h = h
 told_all P kinds.TooLong h = h
 
 -- a number within limits
-pub says_number : (low high : ℕ) (v : List ℕ) (said : Result ℕ TextKind) → IfOk said (λ n. IsNumber low high (first_word v) n)
+pub says_number : (low high : ℕ) (v : List ℕ) (said : Result ℕ TextKind)
+    → IfOk said (λ n. IsNumber low high (first_word v) n)
     → ((n : ℕ) → IfErr said (IsToldWord (λ k. first_at n (number_tests low high (first_word v)) ≡ Some (Fault n k))))
     → Says (number_of low high) (number_tests low high (first_word v)) v said
-says_number low high v (Ok a) h k = record { ok = (rw (h.is, le-leb _ _ h.above, le-leb _ _ h.below) refl, λ n. rw (h.is, le-leb _ _ h.above, le-leb _ _ h.below) refl); err = tt }
-says_number low high v (Err kind) h k = record { ok = tt; err = told_all (λ n x. first_at n (number_tests low high (first_word v)) ≡ Some (Fault n x)) kind k }
+says_number low high v (Ok a) h k =
+    record {
+      ok = (
+        rw (h.is, le-leb _ _ h.above, le-leb _ _ h.below) refl,
+        λ n. rw (h.is, le-leb _ _ h.above, le-leb _ _ h.below) refl,
+      );
+      err = tt;
+    }
+says_number low high v (Err kind) h k =
+    record {
+      ok = tt;
+      err = told_all (λ n x. first_at n (number_tests low high (first_word v)) ≡ Some
+          (Fault n x)) kind k;
+    }
 
 pub told_map : (P Q : TextKind → Type 0) (k : TextKind) → (P k → Q k) → IsToldWord P k → IsToldWord Q k
 told_map P Q kinds.Read f h = absurd h
@@ -112,7 +135,8 @@ told_map P Q (kinds.DemandOverCapacity c) f h = f h
 told_map P Q kinds.TooLong f h = f h
 
 -- a name that is not too long
-pub short : (v xs : List ℕ) → xs ≡ trim (after_word v) → length xs ≤ 1024 → ltb 1024 (length (trim (after_word v))) ≡ false
+pub short : (v xs : List ℕ) → xs ≡ trim (after_word v) → length xs ≤ 1024 →
+    ltb 1024 (length (trim (after_word v))) ≡ false
 short v xs is le = ap (λ (ys : List ℕ). ltb 1024 (length ys)) (sym is) ∙ le-ltb _ _ le
 
 pub some_map : {A : Type 0} (o : Option A) (P Q : A → Type 0) → ((x : A) → P x → Q x) → IfSome o P → IfSome o Q

@@ -1,5 +1,6 @@
 -- The checks at the end of a problem's text.
-use Rattle.std.proofs.Common.{◌≡◌, ◌≤◌, ◌<◌, ◌+◌, ◌-◌, ℕ, Bool, true, false, cond, List, [], ◌∷◌, ◌++◌, length, drop, get_or, is_some, subst, Option, Some, None, refl, sym, ap, ◌∙◌, arith}
+use Rattle.std.proofs.Common.{◌≡◌, ◌≤◌, ◌<◌, ◌+◌, ◌-◌, ℕ, Bool, true, false, cond, List, [], ◌∷◌, ◌++◌, length, drop}
+use Rattle.std.proofs.Common.{get_or, is_some, subst, Option, Some, None, refl, sym, ap, ◌∙◌, arith}
 use Rattle.std.proofs.lemmas.List.{at_drop_more}
 use Rattle.std.proofs.lemmas.Bool.{le-ltb}
 use Rattle.std.proofs.lemmas.List.FromFn.{length-map-range_with_len}
@@ -13,10 +14,12 @@ use Rattle.tk_problem_text.specs.declared.parts.Parts.{Parts}
 use Rattle.tk_lines.specs.Pieces.{Piece, has, tokens_in}
 use Rattle.tk_problem_text.specs.Parts.{HasParts}
 use Rattle.tk_problem_text.specs.Sections.Rows.{row_of, demand_rows}
-use Rattle.tk_problem_text.specs.Problem.{first_kind, over_capacity, weights_ends, routing_ends_of, problem_end, size_of, demands_of, depot_of, capacity_of, problem_type}
+use Rattle.tk_problem_text.specs.Problem.{first_kind, over_capacity, weights_ends, routing_ends_of, problem_end}
+use Rattle.tk_problem_text.specs.Problem.{size_of, demands_of, depot_of, capacity_of, problem_type}
 
 -- a node whose demand a vehicle holds
-pub over_step : (capacity k i : ℕ) (d : List ℕ) → i < length d → get_or d i 0 ≤ capacity → first_kind (over_capacity capacity k (drop i d)) ≡ first_kind (over_capacity capacity (k + 1) (drop (i + 1) d))
+pub over_step : (capacity k i : ℕ) (d : List ℕ) → i < length d → get_or d i 0 ≤ capacity →
+    first_kind (over_capacity capacity k (drop i d)) ≡ first_kind (over_capacity capacity (k + 1) (drop (i + 1) d))
 over_step capacity k i d within fits =
     at_drop_more (λ (xs : List ℕ). first_kind (over_capacity capacity k xs)) d i 0 within
     ∙ rw (le-ltb _ _ fits) (ap (λ (m : ℕ). first_kind (over_capacity capacity m (drop (i + 1) d))) (omega arith))
@@ -25,20 +28,25 @@ pub first_kind-append : (xs ys : List (Bool × TextKind)) → first_kind xs ≡ 
 first_kind-append [] ys h = refl
 first_kind-append (x ∷ xs) ys h = by_test x.0 refl h (first_kind-append xs ys)
   where
-    by_test : (t : Bool) → x.0 ≡ t → cond t (Some x.1) (first_kind xs) ≡ None → (first_kind xs ≡ None → first_kind (xs ++ ys) ≡ first_kind ys) → first_kind ((x ∷ xs) ++ ys) ≡ first_kind ys
+    by_test : (t : Bool) → x.0 ≡ t → cond t (Some x.1) (first_kind xs) ≡ None →
+        (first_kind xs ≡ None → first_kind (xs ++ ys) ≡ first_kind ys) → first_kind ((x ∷ xs) ++ ys) ≡ first_kind ys
     by_test true e h before = absurd cc
     by_test false e h before = rw e (before h)
 
-pub first_kind-stops : (xs ys : List (Bool × TextKind)) (k : TextKind) → first_kind xs ≡ Some k → first_kind (xs ++ ys) ≡ Some k
+pub first_kind-stops : (xs ys : List (Bool × TextKind)) (k : TextKind) → first_kind xs ≡ Some k →
+    first_kind (xs ++ ys) ≡ Some k
 first_kind-stops [] ys k h = absurd cc
 first_kind-stops (x ∷ xs) ys k h = by_test x.0 refl h (first_kind-stops xs ys k)
   where
-    by_test : (t : Bool) → x.0 ≡ t → cond t (Some x.1) (first_kind xs) ≡ Some k → (first_kind xs ≡ Some k → first_kind (xs ++ ys) ≡ Some k) → first_kind ((x ∷ xs) ++ ys) ≡ Some k
+    by_test : (t : Bool) → x.0 ≡ t → cond t (Some x.1) (first_kind xs) ≡ Some k →
+        (first_kind xs ≡ Some k → first_kind (xs ++ ys) ≡ Some k) → first_kind ((x ∷ xs) ++ ys) ≡ Some k
     by_test true e h before = rw e h
     by_test false e h before = rw e (before h)
 
 -- a CVRP whose depot has no demand: what is left is that no node has too much
-module _ (p : Parts) (ps : List Piece) (k : HasParts p ps) (capacity : ℕ) (demand : Vec ℕ Global) (depot : ℕ) (type_is : p.headers.problem_type ≡ Some types.Cvrp) (capacity_is : p.headers.capacity ≡ Some capacity) (demand_is : p.demand ≡ Some demand) (depot_is : p.depot ≡ Some depot) where
+module _ (p : Parts) (ps : List Piece) (k : HasParts p ps) (capacity : ℕ) (demand : Vec ℕ Global) (depot : ℕ)
+    (type_is : p.headers.problem_type ≡ Some types.Cvrp) (capacity_is : p.headers.capacity ≡ Some capacity)
+    (demand_is : p.demand ≡ Some demand) (depot_is : p.depot ≡ Some depot) where
   same_demands : demands_of ps ≡ demand.items
   same_demands = sym (subst (λ o. IfSome o (λ v. v.items ≡ demands_of ps)) demand_is k.demand.is)
 
@@ -50,18 +58,22 @@ module _ (p : Parts) (ps : List Piece) (k : HasParts p ps) (capacity : ℕ) (dem
 
   pub few : length demand.items < 2 ^ 32
   few =
-      let n : length (demands_of ps) ≡ size_of ps = length-map-range_with_len (row_of 0 (demand_rows (tokens_in words.DemandSection ps))) 1 (size_of ps) in
+      let n : length (demands_of ps) ≡ size_of ps =
+      length-map-range_with_len (row_of 0 (demand_rows (tokens_in words.DemandSection ps))) 1 (size_of ps) in
       let small = subst (λ o. IfSome o (λ _. size_of ps ≤ TABLE_LIMIT)) demand_is k.demand_small in
       omega (arith, n, small, ap length same_demands)
 
-  pub rest_of_routing : get_or demand.items (depot - 1) 0 ≡ 0 → first_kind (routing_ends_of ps) ≡ first_kind (over_capacity capacity 1 demand.items)
+  pub rest_of_routing : get_or demand.items (depot - 1) 0 ≡ 0 →
+      first_kind (routing_ends_of ps) ≡ first_kind (over_capacity capacity 1 demand.items)
   rest_of_routing rests =
       let has_capacity : has words.Capacity ps ≡ true = k.headers.capacity.came ∙ ap is_some capacity_is in
       let has_demand : has words.DemandSection ps ≡ true = k.demand.came ∙ ap is_some demand_is in
       let has_depot : has words.DepotSection ps ≡ true = k.depot.came ∙ ap is_some depot_is in
       let type_so : problem_type ps ≡ Some types.Cvrp = k.headers.problem_type.says ∙ type_is in
-      let capacity_so : capacity_of ps ≡ capacity = ap (λ (o : Option ℕ). unwrap_or o 0) (k.headers.capacity.says ∙ capacity_is) in
-      rw (type_so, has_capacity, has_demand, has_depot, same_depot, same_demands, rests) (ap (λ (c : ℕ). first_kind (over_capacity c 1 demand.items)) capacity_so)
+      let capacity_so : capacity_of ps ≡ capacity =
+      ap (λ (o : Option ℕ). unwrap_or o 0) (k.headers.capacity.says ∙ capacity_is) in
+      rw (type_so, has_capacity, has_demand, has_depot, same_depot, same_demands, rests)
+      (ap (λ (c : ℕ). first_kind (over_capacity c 1 demand.items)) capacity_so)
 
 -- ---- the whole end
 
@@ -69,7 +81,8 @@ there : {A : Type 0} (o : Option A) → is_none o ≡ false → is_some o ≡ tr
 there None h = absurd cc
 there (Some a) h = refl
 
-module _ (p : Parts) (ps : List Piece) (k : HasParts p ps) (typed : is_none p.headers.problem_type ≡ false) (sized : is_none p.headers.dimension ≡ false) where
+module _ (p : Parts) (ps : List Piece) (k : HasParts p ps) (typed : is_none p.headers.problem_type ≡ false)
+    (sized : is_none p.headers.dimension ≡ false) where
   has_type : has words.Type ps ≡ true
   has_type = k.headers.problem_type.came ∙ there p.headers.problem_type typed
 

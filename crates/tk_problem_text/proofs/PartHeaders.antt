@@ -1,5 +1,6 @@
 -- The parts of a problem, with one header more.
-use Rattle.std.proofs.Common.{◌≡◌, ◌≤◌, ℕ, Bool, true, false, cond, List, ◌++◌, Option, Some, None, is_some, refl, sym, ap, subst, ◌∙◌}
+use Rattle.std.proofs.Common.{◌≡◌, ◌≤◌, ℕ, Bool, true, false, cond, List, ◌++◌, Option, Some, None, is_some, refl, sym}
+use Rattle.std.proofs.Common.{ap, subst, ◌∙◌}
 use Rattle.std.specs.Prelude.{IfSome, option_and_then, unwrap_or}
 use Rattle.tk_problem.specs.declared.limits.TheConstants.{CITY_LIMIT, TABLE_LIMIT}
 use Rattle.tk_words.specs.declared.keyword.Keyword.{Keyword}
@@ -42,16 +43,24 @@ not_first true n s rest h = absurd cc
 not_first false n s rest h = refl
 
 -- a header that is taken is a known one
-header_words : (word : Keyword) (ps : List Piece) (v : List ℕ) (n : ℕ) → first_at n (problem_header ps word v) ≡ None → IsHeader word
+header_words : (word : Keyword) (ps : List Piece) (v : List ℕ) (n : ℕ) → first_at n (problem_header ps word v) ≡ None →
+    IsHeader word
 header_words words.Name ps v n h = record { places = refl; lower = refl; demand = refl; depot = refl; display = refl }
-header_words words.Comment ps v n h = record { places = refl; lower = refl; demand = refl; depot = refl; display = refl }
+header_words words.Comment ps v n h =
+    record { places = refl; lower = refl; demand = refl; depot = refl; display = refl }
 header_words words.Type ps v n h = record { places = refl; lower = refl; demand = refl; depot = refl; display = refl }
-header_words words.Dimension ps v n h = record { places = refl; lower = refl; demand = refl; depot = refl; display = refl }
-header_words words.Capacity ps v n h = record { places = refl; lower = refl; demand = refl; depot = refl; display = refl }
-header_words words.EdgeWeightType ps v n h = record { places = refl; lower = refl; demand = refl; depot = refl; display = refl }
-header_words words.EdgeWeightFormat ps v n h = record { places = refl; lower = refl; demand = refl; depot = refl; display = refl }
-header_words words.NodeCoordType ps v n h = record { places = refl; lower = refl; demand = refl; depot = refl; display = refl }
-header_words words.DisplayDataType ps v n h = record { places = refl; lower = refl; demand = refl; depot = refl; display = refl }
+header_words words.Dimension ps v n h =
+    record { places = refl; lower = refl; demand = refl; depot = refl; display = refl }
+header_words words.Capacity ps v n h =
+    record { places = refl; lower = refl; demand = refl; depot = refl; display = refl }
+header_words words.EdgeWeightType ps v n h =
+    record { places = refl; lower = refl; demand = refl; depot = refl; display = refl }
+header_words words.EdgeWeightFormat ps v n h =
+    record { places = refl; lower = refl; demand = refl; depot = refl; display = refl }
+header_words words.NodeCoordType ps v n h =
+    record { places = refl; lower = refl; demand = refl; depot = refl; display = refl }
+header_words words.DisplayDataType ps v n h =
+    record { places = refl; lower = refl; demand = refl; depot = refl; display = refl }
 header_words words.Distance ps v n h = absurd cc
 header_words words.ServiceTime ps v n h = absurd cc
 header_words words.Vehicles ps v n h = absurd cc
@@ -66,7 +75,8 @@ header_words words.TourSection ps v n h = absurd cc
 header_words words.Eof ps v n h = absurd cc
 header_words words.Cost ps v n h = absurd cc
 
-header_kind : (word : Keyword) (ps : List Piece) (v : List ℕ) (n : ℕ) → first_at n (problem_header ps word v) ≡ None → HeaderKind word ps
+header_kind : (word : Keyword) (ps : List Piece) (v : List ℕ) (n : ℕ) → first_at n (problem_header ps word v) ≡ None →
+    HeaderKind word ps
 header_kind words.Name ps v n h = other (record { dimension = refl; format = refl })
 header_kind words.Comment ps v n h = other (record { dimension = refl; format = refl })
 header_kind words.Type ps v n h = other (record { dimension = refl; format = refl })
@@ -95,21 +105,26 @@ none_of None h P = tt
 none_of (Some a) h P = absurd cc
 
 -- what is kept stays, where its value does, or where nothing is kept
-keeps_on : {A B : Type 0} (word w : Keyword) (view : A → B) (old new : B) (kept : Option A) (ps : List Piece) (v : List ℕ) (n : ℕ)
-    → same_word w word ≡ false → old ≡ new → KeepsValue word view old kept ps → KeepsValue word view new kept (ps ++ a_header w v n)
+keeps_on : {A B : Type 0} (word w : Keyword) (view : A → B) (old new : B) (kept : Option A) (ps : List Piece)
+    (v : List ℕ) (n : ℕ)
+    → same_word w word ≡ false → old ≡ new → KeepsValue word view old kept ps →
+    KeepsValue word view new kept (ps ++ a_header w v n)
 keeps_on word w view old new kept ps v n differ same h = record {
   came = has_other word w ps v n differ ∙ h.came;
   is = subst (λ b. IfSome kept (λ a. view a ≡ b)) same h.is;
 }
 
-keeps_none : {A B : Type 0} (word w : Keyword) (view : A → B) (old new : B) (kept : Option A) (ps : List Piece) (v : List ℕ) (n : ℕ)
-    → same_word w word ≡ false → has word ps ≡ false → KeepsValue word view old kept ps → KeepsValue word view new kept (ps ++ a_header w v n)
+keeps_none : {A B : Type 0} (word w : Keyword) (view : A → B) (old new : B) (kept : Option A) (ps : List Piece)
+    (v : List ℕ) (n : ℕ)
+    → same_word w word ≡ false → has word ps ≡ false → KeepsValue word view old kept ps →
+    KeepsValue word view new kept (ps ++ a_header w v n)
 keeps_none word w view old new kept ps v n differ none h = record {
   came = has_other word w ps v n differ ∙ h.came;
   is = none_of kept (sym h.came ∙ none) (λ a. view a ≡ new);
 }
 
-module _ (p : Parts) (ps : List Piece) (w : Keyword) (v : List ℕ) (n : ℕ) (headers : Headers) (new : HasHeaders headers (ps ++ a_header w v n)) (k : HasParts p ps) (is : IsHeader w) where
+module _ (p : Parts) (ps : List Piece) (w : Keyword) (v : List ℕ) (n : ℕ) (headers : Headers)
+    (new : HasHeaders headers (ps ++ a_header w v n)) (k : HasParts p ps) (is : IsHeader w) where
   abbrev after : List Piece
   after = ps ++ a_header w v n
 
@@ -123,7 +138,8 @@ module _ (p : Parts) (ps : List Piece) (w : Keyword) (v : List ℕ) (n : ℕ) (h
   display_stays = k.display ∙ sym (has_other words.DisplayDataSection w ps v n is.display)
 
   same_size : same_word w words.Dimension ≡ false → size_of ps ≡ size_of after
-  same_size differ = ap (λ (o : Option (List ℕ)). unwrap_or (option_and_then (number_of 2 CITY_LIMIT) o) 0) (sym (value_of-other words.Dimension w ps v n differ))
+  same_size differ = ap (λ (o : Option (List ℕ)). unwrap_or (option_and_then (number_of 2 CITY_LIMIT) o) 0)
+      (sym (value_of-other words.Dimension w ps v n differ))
 
   same_format : same_word w words.EdgeWeightFormat ≡ false → format_in ps ≡ format_in after
   same_format differ = rw (value_of-other words.EdgeWeightFormat w ps v n differ) refl
@@ -134,7 +150,8 @@ module _ (p : Parts) (ps : List Piece) (w : Keyword) (v : List ℕ) (n : ℕ) (h
   same_demands : same_word w words.Dimension ≡ false → demands_of ps ≡ demands_of after
   same_demands differ = rw (same_tokens words.DemandSection, ← same_size differ) refl
 
-  same_lower : same_word w words.Dimension ≡ false → same_word w words.EdgeWeightFormat ≡ false → lower_of ps ≡ lower_of after
+  same_lower : same_word w words.Dimension ≡ false → same_word w words.EdgeWeightFormat ≡ false →
+      lower_of ps ≡ lower_of after
   same_lower differ differ' = rw (same_tokens words.EdgeWeightSection, ← same_size differ, ← same_format differ') refl
 
   no_section : HasNoSection ps → HasNoSection after
@@ -151,10 +168,14 @@ module _ (p : Parts) (ps : List Piece) (w : Keyword) (v : List ℕ) (n : ℕ) (h
   after_other : IsOther w → HasParts (record p { headers = headers }) after
   after_other o = record {
     headers = new;
-    places = keeps_on words.NodeCoordSection w (λ x. x) (points_of ps) (points_of after) p.places ps v n is.places (same_points o.dimension) k.places;
-    lower = keeps_on words.EdgeWeightSection w (λ x. x.items) (lower_of ps) (lower_of after) p.lower ps v n is.lower (same_lower o.dimension o.format) k.lower;
-    demand = keeps_on words.DemandSection w (λ x. x.items) (demands_of ps) (demands_of after) p.demand ps v n is.demand (same_demands o.dimension) k.demand;
-    depot = keeps_on words.DepotSection w (λ d. d) (depot_of ps) (depot_of after) p.depot ps v n is.depot same_depot k.depot;
+    places = keeps_on words.NodeCoordSection w (λ x. x) (points_of ps) (points_of after) p.places ps v n is.places
+        (same_points o.dimension) k.places;
+    lower = keeps_on words.EdgeWeightSection w (λ x. x.items) (lower_of ps) (lower_of after) p.lower ps v n is.lower
+        (same_lower o.dimension o.format) k.lower;
+    demand = keeps_on words.DemandSection w (λ x. x.items) (demands_of ps) (demands_of after) p.demand ps v n is.demand
+        (same_demands o.dimension) k.demand;
+    depot = keeps_on words.DepotSection w (λ d. d) (depot_of ps) (depot_of after) p.depot ps v n is.depot
+        same_depot k.depot;
     display = display_stays;
     sized = λ none. no_section (k.sized (sym (has_other words.Dimension w ps v n o.dimension) ∙ none));
     formatted = λ none. lower_stays (k.formatted (sym (has_other words.EdgeWeightFormat w ps v n o.format) ∙ none));
@@ -163,15 +184,20 @@ module _ (p : Parts) (ps : List Piece) (w : Keyword) (v : List ℕ) (n : ℕ) (h
     depot_in = subst (λ m. IfSome p.depot (λ d. (1 ≤ d) × (d ≤ m))) (same_size o.dimension) k.depot_in;
   }
 
-  after_format : same_word w words.Dimension ≡ false → has words.EdgeWeightFormat ps ≡ false → HasParts (record p { headers = headers }) after
+  after_format : same_word w words.Dimension ≡ false → has words.EdgeWeightFormat ps ≡ false →
+      HasParts (record p { headers = headers }) after
   after_format differ fresh =
       let none = k.formatted fresh in
       record {
         headers = new;
-        places = keeps_on words.NodeCoordSection w (λ x. x) (points_of ps) (points_of after) p.places ps v n is.places (same_points differ) k.places;
-        lower = keeps_none words.EdgeWeightSection w (λ x. x.items) (lower_of ps) (lower_of after) p.lower ps v n is.lower none k.lower;
-        demand = keeps_on words.DemandSection w (λ x. x.items) (demands_of ps) (demands_of after) p.demand ps v n is.demand (same_demands differ) k.demand;
-        depot = keeps_on words.DepotSection w (λ d. d) (depot_of ps) (depot_of after) p.depot ps v n is.depot same_depot k.depot;
+        places = keeps_on words.NodeCoordSection w (λ x. x) (points_of ps) (points_of after) p.places ps v n is.places
+            (same_points differ) k.places;
+        lower = keeps_none words.EdgeWeightSection w (λ x. x.items) (lower_of ps) (lower_of after) p.lower ps v n
+            is.lower none k.lower;
+        demand = keeps_on words.DemandSection w (λ x. x.items) (demands_of ps) (demands_of after) p.demand ps v n
+            is.demand (same_demands differ) k.demand;
+        depot = keeps_on words.DepotSection w (λ d. d) (depot_of ps) (depot_of after) p.depot ps v n is.depot
+            same_depot k.depot;
         display = display_stays;
         sized = λ gone. no_section (k.sized (sym (has_other words.Dimension w ps v n differ) ∙ gone));
         formatted = λ _. lower_stays none;
@@ -185,10 +211,14 @@ module _ (p : Parts) (ps : List Piece) (w : Keyword) (v : List ℕ) (n : ℕ) (h
       let none = k.sized fresh in
       record {
         headers = new;
-        places = keeps_none words.NodeCoordSection w (λ x. x) (points_of ps) (points_of after) p.places ps v n is.places none.places k.places;
-        lower = keeps_none words.EdgeWeightSection w (λ x. x.items) (lower_of ps) (lower_of after) p.lower ps v n is.lower none.lower k.lower;
-        demand = keeps_none words.DemandSection w (λ x. x.items) (demands_of ps) (demands_of after) p.demand ps v n is.demand none.demand k.demand;
-        depot = keeps_none words.DepotSection w (λ d. d) (depot_of ps) (depot_of after) p.depot ps v n is.depot none.depot k.depot;
+        places = keeps_none words.NodeCoordSection w (λ x. x) (points_of ps) (points_of after) p.places ps v n is.places
+            none.places k.places;
+        lower = keeps_none words.EdgeWeightSection w (λ x. x.items) (lower_of ps) (lower_of after) p.lower ps v n
+            is.lower none.lower k.lower;
+        demand = keeps_none words.DemandSection w (λ x. x.items) (demands_of ps) (demands_of after) p.demand ps v n
+            is.demand none.demand k.demand;
+        depot = keeps_none words.DepotSection w (λ d. d) (depot_of ps) (depot_of after) p.depot ps v n is.depot
+            none.depot k.depot;
         display = display_stays;
         sized = λ _. no_section none;
         formatted = λ _. lower_stays none.lower;
@@ -198,7 +228,8 @@ module _ (p : Parts) (ps : List Piece) (w : Keyword) (v : List ℕ) (n : ℕ) (h
       }
 
 -- a header that is taken
-pub after_header : (p : Parts) (ps : List Piece) (w : Keyword) (v : List ℕ) (n : ℕ) (headers : Headers) → HasHeaders headers (ps ++ a_header w v n) → HasParts p ps → first_at n (problem_header ps w v) ≡ None
+pub after_header : (p : Parts) (ps : List Piece) (w : Keyword) (v : List ℕ) (n : ℕ) (headers : Headers)
+    → HasHeaders headers (ps ++ a_header w v n) → HasParts p ps → first_at n (problem_header ps w v) ≡ None
     → HasParts (record p { headers = headers }) (ps ++ a_header w v n)
 after_header p ps w v n headers new k fine =
     elim (header_kind w ps v n fine) [

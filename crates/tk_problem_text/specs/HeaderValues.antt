@@ -1,5 +1,6 @@
 -- What the values of a problem's headers say.
-use Rattle.std.specs.Prelude.{ℕ, Bool, nat_le, ◌&&◌, ◌||◌, List, Option, Some, None, ℤ, pos, if◌then◌else◌, codes, option_map}
+use Rattle.std.specs.Prelude.{ℕ, Bool, nat_le, ◌&&◌, ◌||◌, List, Option, Some, None, ℤ, pos, if◌then◌else◌, codes}
+use Rattle.std.specs.Prelude.{option_map}
 use Rattle.tk_problem.specs.declared.weights.PlaneKind.{PlaneKind}
 use Rattle.tk_problem.specs.declared.weights.PlaneKind.TheVariants as planes
 use Rattle.tk_problem.specs.declared.weights.Format.{Format}

@@ -1,5 +1,6 @@
 -- What is kept of a header.
-use Rattle.std.specs.Prelude.{◌≡◌, ℕ, Bool, List, ◌∷◌, Option, Some, None, Result, IfOk, IfErr, is_some, option_and_then}
+use Rattle.std.specs.Prelude.{◌≡◌, ℕ, Bool, List, ◌∷◌, Option, Some, None, Result, IfOk, IfErr, is_some}
+use Rattle.std.specs.Prelude.{option_and_then}
 use Rattle.tk_words.specs.declared.keyword.Keyword.{Keyword}
 use Rattle.tk_words.specs.declared.fault.TextKind.{TextKind}
 use Rattle.tk_words.specs.declared.fault.TextKind.TheVariants as kinds

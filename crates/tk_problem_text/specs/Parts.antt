@@ -17,7 +17,8 @@ use Rattle.tk_problem.specs.declared.weights.Weights.TheVariants.{Points, Lower}
 use Rattle.tk_problem.specs.Shape.{WeightsFit, IsRouting}
 use Rattle.tk_lines.specs.Pieces.{Piece, has}
 use Rattle.tk_problem_text.specs.Headers.{HasHeaders}
-use Rattle.tk_problem_text.specs.Problem.{WeightsAre, RoutingIs, ProblemIs, size_of, points_of, lower_of, demands_of, depot_of}
+use Rattle.tk_problem_text.specs.Problem.{WeightsAre, RoutingIs, ProblemIs, size_of, points_of, lower_of, demands_of}
+use Rattle.tk_problem_text.specs.Problem.{depot_of}
 use Rattle.tk_problem_text.specs.Problem as value
 
 -- what a section gives is kept, once it came

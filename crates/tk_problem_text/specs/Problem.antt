@@ -1,5 +1,7 @@
 -- Problem texts.
-use Rattle.std.specs.Prelude.{ℕ, suc, ◌-◌, ◌*◌, Bool, true, false, not, ◌||◌, ◌==◌, nat_lt, List, [], ◌∷◌, ◌++◌, length, get_or, map, Option, Some, None, Result, if◌then◌else◌, is_none, unwrap_or, option_map, option_and_then}
+use Rattle.std.specs.Prelude.{ℕ, suc, ◌-◌, ◌*◌, Bool, true, false, not, ◌||◌, ◌==◌, nat_lt, List, [], ◌∷◌, ◌++◌, length}
+use Rattle.std.specs.Prelude.{get_or, map, Option, Some, None, Result, if◌then◌else◌, is_none, unwrap_or, option_map}
+use Rattle.std.specs.Prelude.{option_and_then}
 use Rattle.tk_problem.specs.declared.limits.TheConstants.{CAPACITY_LIMIT, CITY_LIMIT, TABLE_LIMIT}
 use Rattle.tk_words.specs.declared.keyword.Keyword.{Keyword}
 use Rattle.tk_words.specs.declared.keyword.Keyword.TheVariants as words
@@ -12,7 +14,8 @@ use Rattle.tk_problem.specs.declared.weights.PlaneKind.TheVariants as planes
 use Rattle.tk_problem.specs.declared.weights.Format as Layout
 use Rattle.tk_problem.specs.declared.weights.Format.TheVariants as formats
 use Rattle.tk_words.specs.Lex.{Token, after_word, trim}
-use Rattle.tk_problem_text.specs.HeaderValues.{problem_type_of, weight_type_of, weight_format_of, number_of, name_of, is_coordinate_type}
+use Rattle.tk_problem_text.specs.HeaderValues.{problem_type_of, weight_type_of, weight_format_of, number_of, name_of}
+use Rattle.tk_problem_text.specs.HeaderValues.{is_coordinate_type}
 use Rattle.tk_problem_text.specs.declared.header_values.ProblemType.{ProblemType}
 use Rattle.tk_problem_text.specs.declared.header_values.ProblemType.TheVariants as types
 use Rattle.tk_problem_text.specs.declared.header_values.WeightType.{WeightType}
@@ -20,7 +23,8 @@ use Rattle.tk_problem_text.specs.declared.header_values.WeightType.TheVariants a
 use Rattle.tk_problem_text.specs.declared.header_values.WeightFormat.{WeightFormat}
 use Rattle.tk_problem_text.specs.declared.header_values.WeightFormat.TheVariants as weight_formats
 use Rattle.tk_lines.specs.Scan.{first_word}
-use Rattle.tk_lines.specs.Pieces.{Piece, Extent, Stop, first_at, or_else, After, has, value_of, tokens_in, Format, decided_by}
+use Rattle.tk_lines.specs.Pieces.{Piece, Extent, Stop, first_at, or_else, After, has, value_of, tokens_in, Format}
+use Rattle.tk_lines.specs.Pieces.{decided_by}
 use Rattle.tk_words.specs.Entry.{number_tests}
 use Rattle.tk_problem_text.specs.Sections.Rows.{place_tests, demand_tests, places_of, number_in}
 use Rattle.tk_problem_text.specs.Sections.WeightSection.{weight_count, weight_tests, lower_weights}
@@ -119,7 +123,8 @@ section_tests before words.EdgeWeightSection =
     ∷ (not (is_explicit (weight_type before)) || is_none (listed_format (weight_format before)), kinds.Unsupported)
     ∷ (nat_lt TABLE_LIMIT (size_of before), kinds.OutOfLimit) ∷ []
 section_tests before words.DemandSection =
-    (not (is_cvrp (problem_type before)), kinds.Unsupported) ∷ (nat_lt TABLE_LIMIT (size_of before), kinds.OutOfLimit) ∷ []
+    (not (is_cvrp (problem_type before)), kinds.Unsupported)
+    ∷ (nat_lt TABLE_LIMIT (size_of before), kinds.OutOfLimit) ∷ []
 section_tests before words.DepotSection = (not (is_cvrp (problem_type before)), kinds.Unsupported) ∷ []
 section_tests before _ = []
 

@@ -1,11 +1,14 @@
 //! The headers and sections of a problem that came so far.
-ghost use Rattle.std.specs.Prelude.{◌≡◌, ◌≤◌, ◌<◌, ◌-◌, ◌^◌, ◌++◌, ℕ, List, [], Some, None, IfOk, IfErr, IfSome, length, slice_index};
+ghost use Rattle.std.specs.Prelude.{◌≡◌, ◌≤◌, ◌<◌, ◌-◌, ◌^◌, ◌++◌, ℕ, List, [], Some, None, IfOk, IfErr, IfSome};
+ghost use Rattle.std.specs.Prelude.{length, slice_index};
 ghost use Rattle.tk_problem.specs.declared.limits.TheConstants.{TABLE_LIMIT};
 ghost use Rattle.tk_lines.specs.Pieces.{Piece, first_at, Fault};
 ghost use Rattle.tk_lines.specs.Forms.{IsToldWord, a_header};
-ghost use Rattle.tk_problem_text.specs.Problem.{problem_header, problem_end, first_kind, weights_ends, routing_ends_of, over_capacity};
+ghost use Rattle.tk_problem_text.specs.Problem.{problem_header, problem_end, first_kind, weights_ends, routing_ends_of};
+ghost use Rattle.tk_problem_text.specs.Problem.{over_capacity};
 ghost use Rattle.tk_lines.specs.Scan.{Scans};
-ghost use Rattle.tk_problem_text.specs.Parts.{MakesWeights, MakesRouting, weights_are, weights_in, routing_is, routing_in};
+ghost use Rattle.tk_problem_text.specs.Parts.{MakesWeights, MakesRouting, weights_are, weights_in, routing_is};
+ghost use Rattle.tk_problem_text.specs.Parts.{routing_in};
 ghost use Rattle.tk_problem.specs.Shape.{WeightsFit, RoutingFits};
 
 use crate::header_values::{ProblemType, WeightType};

@@ -1,5 +1,6 @@
 -- The first fault among the customers of claimed routes.
-use Rattle.std.proofs.Common.{◌≡◌, ℕ, ◌+◌, ◌-◌, ◌<◌, ◌≤◌, Bool, true, false, List, [], ◌∷◌, ◌++◌, length, take, drop, get_or, set, refl, sym, ap, ◌∙◌, subst, append_assoc}
+use Rattle.std.proofs.Common.{◌≡◌, ℕ, ◌+◌, ◌-◌, ◌<◌, ◌≤◌, Bool, true, false, List, [], ◌∷◌, ◌++◌, length, take, drop}
+use Rattle.std.proofs.Common.{get_or, set, refl, sym, ap, ◌∙◌, subst, append_assoc}
 use Rattle.std.specs.Prelude.{map}
 use Rattle.std.specs.List.{concat}
 use Rattle.std.proofs.lemmas.List.{take_more, take_all}
@@ -12,7 +13,8 @@ use Rattle.tk_routes.proofs.CutLists.{cut_at, cut_map, concat-take_more}
 use Rattle.tk_routes.proofs.Served.{AreServed-more, served_before}
 
 -- the k-th customer of a route comes after those of the routes before and the first k of its own
-stands_at : (before after : List (List ℕ)) (number : ℕ) (route : List ℕ) (k : ℕ) → number ≡ length before + 1 → k < length route →
+stands_at : (before after : List (List ℕ)) (number : ℕ) (route : List ℕ) (k : ℕ) → number ≡ length before + 1 →
+    k < length route →
     StandsAt (before ++ route ∷ after) number (get_or route k 0) (concat before ++ take k route)
 stands_at before after number route k is lt = record {
   before = before;
@@ -24,39 +26,64 @@ stands_at before after number route k is lt = record {
   earlier_is = refl;
 }
 
-served_so_far : (m : ℕ) (served : List Bool) (xs : List ℕ) → length served ≡ m → AreServed served xs → AreServedOnce m xs
+served_so_far : (m : ℕ) (served : List Bool) (xs : List ℕ) → length served ≡ m → AreServed served xs →
+    AreServedOnce m xs
 served_so_far m served xs size h = subst (λ (n : ℕ). AreServedOnce n xs) size h.once
 
-pub bad_customer : (m : ℕ) (served : List Bool) (before after : List (List ℕ)) (number : ℕ) (route : List ℕ) (k : ℕ) → number ≡ length before + 1 → k < length route →
-    length served ≡ m → AreServed served (concat before ++ take k route) → (IsCity m (get_or route k 0) → ⊥) → IsCustomerFault m (before ++ route ∷ after) (BadCustomer number (get_or route k 0))
+pub bad_customer : (m : ℕ) (served : List Bool) (before after : List (List ℕ)) (number : ℕ) (route : List ℕ) (k : ℕ) →
+    number ≡ length before + 1 → k < length route →
+    length served ≡ m → AreServed served (concat before ++ take k route) → (IsCity m (get_or route k 0) → ⊥) →
+    IsCustomerFault m (before ++ route ∷ after) (BadCustomer number (get_or route k 0))
 bad_customer m served before after number route k is lt size h bad =
     (concat before ++ take k route, (stands_at before after number route k is lt, served_so_far m served _ size h, bad))
 
-pub twice_served : (m : ℕ) (served : List Bool) (before after : List (List ℕ)) (number : ℕ) (route : List ℕ) (k : ℕ) → number ≡ length before + 1 → k < length route →
-    length served ≡ m → AreServed served (concat before ++ take k route) → IsCity (length served) (get_or route k 0) → get_or served (get_or route k 0 - 1) false ≡ true →
+pub twice_served : (m : ℕ) (served : List Bool) (before after : List (List ℕ)) (number : ℕ) (route : List ℕ) (k : ℕ) →
+    number ≡ length before + 1 → k < length route →
+    length served ≡ m → AreServed served (concat before ++ take k route) → IsCity (length served) (get_or route k 0) →
+    get_or served (get_or route k 0 - 1) false ≡ true →
     IsCustomerFault m (before ++ route ∷ after) (ServedTwice (get_or route k 0))
-twice_served m served before after number route k is lt size h city e =
-    (number, (concat before ++ take k route, (stands_at before after number route k is lt, served_so_far m served _ size h, served_before served _ (get_or route k 0) h city e)))
+twice_served m served before after number route k is lt size h city e = (
+  number,
+  (
+    concat before ++ take k route,
+    (
+      stands_at before after number route k is lt,
+      served_so_far m served _ size h,
+      served_before served _ (get_or route k 0) h city e,
+    ),
+  ),
+)
 
 -- one more customer of a route is served
-pub served_on : (served : List Bool) (earlier route : List ℕ) (k : ℕ) → k < length route → AreServed served (earlier ++ take k route) → IsCity (length served) (get_or route k 0) →
-    get_or served (get_or route k 0 - 1) false ≡ false → AreServed (set served (get_or route k 0 - 1) true) (earlier ++ take (k + 1) route)
+pub served_on : (served : List Bool) (earlier route : List ℕ) (k : ℕ) → k < length route →
+    AreServed served (earlier ++ take k route) → IsCity (length served) (get_or route k 0) →
+    get_or served (get_or route k 0 - 1) false ≡ false →
+    AreServed (set served (get_or route k 0 - 1) true) (earlier ++ take (k + 1) route)
 served_on served earlier route k lt h city e =
     let longer : (earlier ++ take k route) ++ get_or route k 0 ∷ [] ≡ earlier ++ take (k + 1) route =
-    append_assoc earlier (take k route) (get_or route k 0 ∷ []) ∙ ap (λ v. earlier ++ v) (sym (take_more route k 0 lt)) in
-    subst (λ (v : List ℕ). AreServed (set served (get_or route k 0 - 1) true) v) longer (AreServed-more served _ (get_or route k 0) h city e)
+    append_assoc earlier (take k route) (get_or route k 0 ∷ [])
+    ∙ ap (λ v. earlier ++ v) (sym (take_more route k 0 lt)) in
+    subst (λ (v : List ℕ). AreServed (set served (get_or route k 0 - 1) true) v) longer
+    (AreServed-more served _ (get_or route k 0) h city e)
 
-pub served_whole : (served : List Bool) (earlier route : List ℕ) (k : ℕ) → length route ≤ k → AreServed served (earlier ++ take k route) → AreServed served (earlier ++ route)
-served_whole served earlier route k le h = subst (λ (v : List ℕ). AreServed served (earlier ++ v)) (take_all k route le) h
+pub served_whole : (served : List Bool) (earlier route : List ℕ) (k : ℕ) → length route ≤ k →
+    AreServed served (earlier ++ take k route) → AreServed served (earlier ++ route)
+served_whole served earlier route k le h =
+    subst (λ (v : List ℕ). AreServed served (earlier ++ v)) (take_all k route le) h
 
 -- a fault on the k-th of the routes
-pub fault_in : {X : Type 0} (f : X → List ℕ) (xs : List X) (k : ℕ) (x : X) (route : List ℕ) (m n : ℕ) (v : RouteVerdict) → k < length xs → x ≡ get_or xs k x → route ≡ f x → n ≡ m →
+pub fault_in : {X : Type 0} (f : X → List ℕ) (xs : List X) (k : ℕ) (x : X) (route : List ℕ) (m n : ℕ)
+    (v : RouteVerdict) → k < length xs → x ≡ get_or xs k x → route ≡ f x → n ≡ m →
     IsCustomerFault n (map f (take k xs) ++ route ∷ map f (drop (k + 1) xs)) v → IsCustomerFault m (map f xs) v
 fault_in f xs k x route m n v lt at is size h =
-    let whole : map f (take k xs) ++ route ∷ map f (drop (k + 1) xs) ≡ map f xs = ap (λ (r : List ℕ). map f (take k xs) ++ r ∷ map f (drop (k + 1) xs)) is ∙ sym (cut_map f xs k x lt at) in
-    subst (λ (j : ℕ). IsCustomerFault j (map f xs) v) size (subst (λ (routes : List (List ℕ)). IsCustomerFault n routes v) whole h)
+    let whole : map f (take k xs) ++ route ∷ map f (drop (k + 1) xs) ≡ map f xs =
+    ap (λ (r : List ℕ). map f (take k xs) ++ r ∷ map f (drop (k + 1) xs)) is ∙ sym (cut_map f xs k x lt at) in
+    subst (λ (j : ℕ). IsCustomerFault j (map f xs) v) size
+    (subst (λ (routes : List (List ℕ)). IsCustomerFault n routes v) whole h)
 
-pub served_route : {X : Type 0} (f : X → List ℕ) (xs : List X) (k : ℕ) (x : X) (route : List ℕ) (served : List Bool) → k < length xs → x ≡ get_or xs k x → route ≡ f x →
+pub served_route : {X : Type 0} (f : X → List ℕ) (xs : List X) (k : ℕ) (x : X) (route : List ℕ) (served : List Bool) →
+    k < length xs → x ≡ get_or xs k x → route ≡ f x →
     AreServed served (concat (map f (take k xs)) ++ route) → AreServed served (concat (map f (take (k + 1) xs)))
 served_route f xs k x route served lt at is h =
-    subst (λ (v : List ℕ). AreServed served v) (ap (λ v. concat (map f (take k xs)) ++ v) is ∙ sym (concat-take_more f xs k x lt at)) h
+    subst (λ (v : List ℕ). AreServed served v) (ap (λ v. concat (map f (take k xs)) ++ v) is
+    ∙ sym (concat-take_more f xs k x lt at)) h

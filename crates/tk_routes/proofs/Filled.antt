@@ -1,5 +1,6 @@
 -- The routes that hold a customer.
-use Rattle.std.proofs.Common.{◌≡◌, ℕ, ◌≤◌, List, [], ◌∷◌, ◌++◌, length, refl, sym, ap, ◌∙◌, subst, arith, ltb, cond, ◌<◌, ◌-◌, Bool}
+use Rattle.std.proofs.Common.{◌≡◌, ℕ, ◌≤◌, List, [], ◌∷◌, ◌++◌, length, refl, sym, ap, ◌∙◌, subst, arith, ltb, cond}
+use Rattle.std.proofs.Common.{◌<◌, ◌-◌, Bool}
 use Rattle.std.specs.List.{All, concat}
 use Rattle.std.proofs.lemmas.Bool.{ltb-true, lt-ltb}
 use Rattle.std.proofs.lemmas.List.Elements.{All-filter, All-weaker, filter_passes}
@@ -13,7 +14,8 @@ use Rattle.tk_routes.proofs.Costs.{route_length-nil}
 use Rattle.tk_routes.proofs.Served.{IsTour-served, served_before}
 
 -- a route that holds a customer is kept
-filled_of-cons : (x : ℕ) (xs : List ℕ) (routes : List (List ℕ)) → filled_of ((x ∷ xs) ∷ routes) ≡ (x ∷ xs) ∷ filled_of routes
+filled_of-cons : (x : ℕ) (xs : List ℕ) (routes : List (List ℕ)) → filled_of ((x ∷ xs) ∷ routes) ≡ (x ∷ xs)
+    ∷ filled_of routes
 filled_of-cons x xs routes =
     let some : 0 < length (x ∷ xs) = omega arith in
     ap (λ b. cond b ((x ∷ xs) ∷ filled_of routes) (filled_of routes)) (lt-ltb 0 (length (x ∷ xs)) some)
@@ -21,29 +23,46 @@ filled_of-cons x xs routes =
 pub concat-filled : (routes : List (List ℕ)) → concat (filled_of routes) ≡ concat routes
 concat-filled [] = refl
 concat-filled ([] ∷ routes) = concat-filled routes
-concat-filled ((x ∷ xs) ∷ routes) = ap concat (filled_of-cons x xs routes) ∙ ap (λ v. (x ∷ xs) ++ v) (concat-filled routes)
+concat-filled ((x ∷ xs) ∷ routes) = ap concat (filled_of-cons x xs routes)
+    ∙ ap (λ v. (x ∷ xs) ++ v) (concat-filled routes)
 
-pub routes_cost-filled : (i : Instance) (routes : List (List ℕ)) → ((a : ℕ) → i.distance a a ≡ 0) → routes_cost i (filled_of routes) ≡ routes_cost i routes
+pub routes_cost-filled : (i : Instance) (routes : List (List ℕ)) → ((a : ℕ) → i.distance a a ≡ 0) →
+    routes_cost i (filled_of routes) ≡ routes_cost i routes
 routes_cost-filled i [] diagonal = refl
 routes_cost-filled i ([] ∷ routes) diagonal =
-    omega (arith, routes_cost-filled i routes diagonal, route_length-nil i diagonal, sum_by-cons (route_length i) [] routes)
+    omega (
+      arith,
+      routes_cost-filled i routes diagonal,
+      route_length-nil i diagonal,
+      sum_by-cons (route_length i) [] routes,
+    )
 routes_cost-filled i ((x ∷ xs) ∷ routes) diagonal =
-    omega (arith, ap (routes_cost i) (filled_of-cons x xs routes), routes_cost-filled i routes diagonal, sum_by-cons (route_length i) (x ∷ xs) routes, sum_by-cons (route_length i) (x ∷ xs) (filled_of routes))
+    omega (
+      arith,
+      ap (routes_cost i) (filled_of-cons x xs routes),
+      routes_cost-filled i routes diagonal,
+      sum_by-cons (route_length i) (x ∷ xs) routes,
+      sum_by-cons (route_length i) (x ∷ xs) (filled_of routes),
+    )
 
 filled_all : (routes : List (List ℕ)) → All (λ (route : List ℕ). 1 ≤ length route) (filled_of routes)
-filled_all routes = All-weaker _ _ (λ (route : List ℕ) passes. ltb-true 0 (length route) passes) (filled_of routes) (filter_passes (λ (route : List ℕ). ltb 0 (length route)) routes)
+filled_all routes = All-weaker _ _ (λ (route : List ℕ) passes. ltb-true 0 (length route) passes) (filled_of routes)
+    (filter_passes (λ (route : List ℕ). ltb 0 (length route)) routes)
 
 -- claimed routes without a fault, but for those that hold no customer
-pub AreRoutes-filled : (i : Instance) (routes : List (List ℕ)) → AreServedOnce (customer_count i) (concat routes) → All (IsLight i) routes →
+pub AreRoutes-filled : (i : Instance) (routes : List (List ℕ)) → AreServedOnce (customer_count i) (concat routes) →
+    All (IsLight i) routes →
     ((c : ℕ) → 1 ≤ c → c ≤ customer_count i → 1 ≤ occurrences c (concat routes)) → AreRoutes i (filled_of routes)
 AreRoutes-filled i routes served light all = record {
   filled = filled_all routes;
-  once = subst (λ (v : List ℕ). IsTour (customer_count i) v) (sym (concat-filled routes)) (IsTour-served (customer_count i) (concat routes) served all);
+  once = subst (λ (v : List ℕ). IsTour (customer_count i) v) (sym (concat-filled routes))
+      (IsTour-served (customer_count i) (concat routes) served all);
   light = All-filter _ (IsLight i) routes light;
 }
 
 -- where all customers are marked, nothing but the cost can be wrong
-pub AreRoutes-marked : (i : Instance) (served : List Bool) (routes : List (List ℕ)) → length served ≡ customer_count i → AreServed served (concat routes) → All (IsLight i) routes →
+pub AreRoutes-marked : (i : Instance) (served : List Bool) (routes : List (List ℕ)) → length served ≡ customer_count i →
+    AreServed served (concat routes) → All (IsLight i) routes →
     AreMarked served (length served) → AreRoutes i (filled_of routes)
 AreRoutes-marked i served routes size h light marked =
     AreRoutes-filled i routes (subst (λ (m : ℕ). AreServedOnce m (concat routes)) size h.once) light

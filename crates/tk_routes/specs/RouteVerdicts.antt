@@ -1,5 +1,6 @@
 -- What a verdict says of claimed routes and their claimed cost.
---     StandsAt routes r x earlier      x stands on the r-th route, after the customers `earlier` in the order of the text
+--     StandsAt routes r x earlier      x stands on the r-th route, after the customers `earlier` in the order of the
+-- text
 --     AreServedOnce m xs      customers of 1 to m, none of them twice
 --     IsFirstOver i routes r load      the r-th route is the first whose load is over the capacity
 --     filled_of routes      the routes that hold a customer
@@ -11,7 +12,8 @@ use Rattle.tk_tour.specs.Tour.{occurrences}
 use Rattle.tk_routes.specs.Instance.{Instance, customer_count}
 use Rattle.tk_routes.specs.Routes.{AreRoutes, IsLight, route_load, routes_cost}
 use Rattle.tk_routes.specs.declared.claims.verdict.RouteVerdict.{RouteVerdict}
-use Rattle.tk_routes.specs.declared.claims.verdict.RouteVerdict.TheVariants.{Valid, BadCustomer, ServedTwice, OverCapacity, NotServed, WrongCost}
+use Rattle.tk_routes.specs.declared.claims.verdict.RouteVerdict.TheVariants.{Valid, BadCustomer, ServedTwice}
+use Rattle.tk_routes.specs.declared.claims.verdict.RouteVerdict.TheVariants.{OverCapacity, NotServed, WrongCost}
 
 -- x stands on the r-th route, from 1, and `earlier` are the customers before it in the order of the text
 pub record StandsAt (routes : List (List ℕ)) (r x : ℕ) (earlier : List ℕ) : Type 0 where

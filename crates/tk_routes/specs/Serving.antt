@@ -1,5 +1,6 @@
 -- The marks of the customers that were served.
-use Rattle.std.specs.Prelude.{◌≡◌, ◌-◌, ◌<◌, ℕ, Bool, true, false, List, Option, MatchOption, length, nat_lt, slice_index_or}
+use Rattle.std.specs.Prelude.{◌≡◌, ◌-◌, ◌<◌, ℕ, Bool, true, false, List, Option, MatchOption, length, nat_lt}
+use Rattle.std.specs.Prelude.{slice_index_or}
 use Rattle.tk_distance.specs.Cities.{IsCity}
 use Rattle.tk_tour.specs.Tour.{occurrences}
 use Rattle.tk_routes.specs.RouteVerdicts.{AreServedOnce}

@@ -1,7 +1,8 @@
 -- The end of a trial, by the tours of a search.
 use Rattle.std.specs.Prelude.{◌≡◌, ℕ, ◌+◌, ◌<◌, ◌≤◌, true, false, length}
 use Rattle.tk_tour.specs.Counters.{saturated}
-use Rattle.tk_tour.specs.JournalTours.{swaps_of, undo_swaps_of, flips_of, copied_of, slots_of, flips_since, swaps_to_rewind}
+use Rattle.tk_tour.specs.JournalTours.{swaps_of, undo_swaps_of, flips_of, copied_of, slots_of, flips_since}
+use Rattle.tk_tour.specs.JournalTours.{swaps_to_rewind}
 use Rattle.tk_tour.specs.declared.store.TourStore.{Ghosts}
 use Rattle.tk_tour.specs.declared.undo.UndoStore as undo
 use Rattle.tk_search.specs.Best.{best_of, copied_to}

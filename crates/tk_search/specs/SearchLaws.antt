@@ -5,7 +5,8 @@ use Rattle.std.specs.Prelude.{◌≡◌, ℕ, ◌-◌, ◌^◌, ◌<◌, ◌≤�
 use Rattle.std.specs.List.{All}
 use Rattle.rand_core.specs.Stream.{Stream}
 use Rattle.tk_tour.specs.Tour.{IsTour, tour_length}
-use Rattle.tk_search.specs.Searching.{Searching, IsBegun, IsBoundedSearch, NextTrial, first, kicked, none, SearchRun, begin, trial}
+use Rattle.tk_search.specs.Searching.{Searching, IsBegun, IsBoundedSearch, NextTrial, first, kicked, none, SearchRun}
+use Rattle.tk_search.specs.Searching.{begin, trial}
 use Rattle.tk_search.specs.Totals.{capped}
 use Rattle.tk_search.specs.declared.trials.totals.TrialReport.{TrialReport}
 

@@ -78,8 +78,8 @@ pub record IsFirstTrial (old new : Searching) (report : TrialReport) : Type 0 wh
   pub settles : SettlesTrial (length old.best) trial.flips trial.swaps old.totals new.totals report
   pub bounded : IsBoundedTrial (length old.best) old.near.width (length old.best) old.rules report
 
--- A later trial: a descent from a kick of the best tour by four flips. Where the kick does not wake all cities, it wakes
--- at most 8.
+-- A later trial: a descent from a kick of the best tour by four flips. Where the kick does not wake all cities, it
+-- wakes at most 8.
 pub record IsKickedTrial (old : Searching) (words : Stream) (new : Searching) (rest : Stream)
     (report : TrialReport) : Type 0 where
   pub given : SameGiven old new

@@ -8,7 +8,8 @@ use Rattle.tk_search.specs.Best.{best_of}
 use Rattle.tk_search.specs.declared.trials.best.Best.{Best}
 
 -- the tour stands as the best does, and is settled there
-pub record IsAtBest {S : Type 0} {u : undo.Ghosts S} {s : Ghosts S} (tour : JournalTour S u s) (best : Best) : Type 0 where
+pub record IsAtBest {S : Type 0} {u : undo.Ghosts S} {s : Ghosts S} (tour : JournalTour S u s)
+    (best : Best) : Type 0 where
   pub order : cities_of tour ≡ best_of best
   pub settled : settled_order tour ≡ best_of best
   pub flips : flips_since tour ≡ 0

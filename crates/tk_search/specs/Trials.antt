@@ -1,5 +1,6 @@
 -- The trials of a search (iterated local search: O. Martin, S. W. Otto and E. W. Felten, 1991).
-use Rattle.std.specs.Prelude.{◌≡◌, ℕ, ◌+◌, ◌*◌, ◌/◌, ◌<◌, ◌≤◌, ◌↔◌, Bool, List, length, map, pos, ◌-ℤ◌, IsTrue, true, false}
+use Rattle.std.specs.Prelude.{◌≡◌, ℕ, ◌+◌, ◌*◌, ◌/◌, ◌<◌, ◌≤◌, ◌↔◌, Bool, List, length, map, pos, ◌-ℤ◌, IsTrue, true}
+use Rattle.std.specs.Prelude.{false}
 use Rattle.std.specs.Int.RustNames.{unsigned_abs}
 use Rattle.rand_core.specs.Stream.{Stream}
 use Rattle.tk_distance.specs.Cities.{city_at}

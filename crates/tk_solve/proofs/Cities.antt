@@ -8,4 +8,5 @@ use Rattle.tk_tour.proofs.Tours.{city_in_range}
 -- they are cities
 pub cities_of_tour : (n : ℕ) (cities : List ℕ) → IsTour n cities → All (IsCity n) cities
 cities_of_tour n cities tour =
-    All-from_get_or (IsCity n) cities 0 (λ i lt. let r = city_in_range n cities i tour (omega (arith, lt)) in (omega (arith, r.0), omega (arith, r.1)))
+    All-from_get_or (IsCity n) cities 0 (λ i lt. let r = city_in_range n cities i tour (omega (arith, lt)) in
+    (omega (arith, r.0), omega (arith, r.1)))

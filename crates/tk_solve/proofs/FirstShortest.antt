@@ -16,8 +16,15 @@ first_replaced dist tours old new f less =
     let Longer : List ℕ → Type 0 = λ tour. tour_length dist new < tour_length dist tour in
     let front : All Longer f.before = λ k d lt. omega (arith, less, f.longer k d lt) in
     let back : All Longer f.behind = λ k d lt. omega (arith, less, f.least k d lt) in
-    let all : All Longer (f.before ++ old ∷ f.behind) = All-append Longer f.before (old ∷ f.behind) front (All-cons Longer old f.behind less back) in
-    record { before = tours; behind = []; stands = refl; longer = subst (All Longer) (sym f.stands) all; least = All-nil _ }
+    let all : All Longer (f.before ++ old ∷ f.behind) =
+    All-append Longer f.before (old ∷ f.behind) front (All-cons Longer old f.behind less back) in
+    record {
+      before = tours;
+      behind = [];
+      stands = refl;
+      longer = subst (All Longer) (sym f.stands) all;
+      least = All-nil _;
+    }
 
 -- it is not
 pub first_kept : (dist : ℕ → ℕ → ℕ) (tours : List (List ℕ)) (old new : List ℕ) → IsFirstShortest dist tours old →

@@ -13,22 +13,30 @@ use Rattle.tk_solve.specs.Starts.{TourTask}
 use Rattle.tk_solve.specs.Watching.{IsShownTour, trial_event}
 use Rattle.tk_solve.proofs.Watched.{run_of, shown_of_more}
 
-trials_shown : (task : TourTask) (j : ℕ) {begun : Searching} {words : Stream} {t : ℕ} {shown : List Event} {ended : Searching} {rest : Stream} →
-    Trials (trial_event task j) begun words t shown ended rest → IsTour task.size begun.best → All (IsShownTour task) shown
+trials_shown : (task : TourTask) (j : ℕ) {begun : Searching} {words : Stream} {t : ℕ} {shown : List Event}
+    {ended : Searching} {rest : Stream} →
+    Trials (trial_event task j) begun words t shown ended rest → IsTour task.size begun.best →
+    All (IsShownTour task) shown
 trials_shown task j untried tour = All-nil (IsShownTour task)
 trials_shown task j (tried {shown = shown} before step) tour =
     All-append (IsShownTour task) shown _ (trials_shown task j before tour)
-    (All-cons (IsShownTour task) _ [] (tour_after task.size (trial (run_of before) step) tour, refl) (All-nil (IsShownTour task)))
+    (All-cons (IsShownTour task) _ [] (tour_after task.size (trial (run_of before) step) tour, refl)
+    (All-nil (IsShownTour task)))
 
-run_shown : (task : TourTask) (near : NearLists) (j : ℕ) (run : Run) → IsRun task near j run → All (IsShownTour task) run.shown
+run_shown : (task : TourTask) (near : NearLists) (j : ℕ) (run : Run) → IsRun task near j run →
+    All (IsShownTour task) run.shown
 run_shown task near j run is =
-    let begun : IsTour task.size is.searched.begun.best = subst (IsTour task.size) (sym is.searched.begins.best) is.tour in
+    let begun : IsTour task.size is.searched.begun.best =
+    subst (IsTour task.size) (sym is.searched.begins.best) is.tour in
     let end : Event = Ended (j + 1) (report_of task.distance run) in
     subst (All (IsShownTour task)) (sym is.shown)
-    (All-append (IsShownTour task) is.tried (end ∷ []) (trials_shown task j is.searched.trials begun) (All-cons (IsShownTour task) end [] tt (All-nil (IsShownTour task))))
+    (All-append (IsShownTour task) is.tried (end ∷ []) (trials_shown task j is.searched.trials begun)
+    (All-cons (IsShownTour task) end [] tt (All-nil (IsShownTour task))))
 
-pub runs_shown : (task : TourTask) (near : NearLists) {runs : List Run} → AreRuns task near runs → All (IsShownTour task) (shown_of runs)
+pub runs_shown : (task : TourTask) (near : NearLists) {runs : List Run} → AreRuns task near runs →
+    All (IsShownTour task) (shown_of runs)
 runs_shown task near none = All-nil (IsShownTour task)
 runs_shown task near (more {runs} {run} before is) =
     subst (All (IsShownTour task)) (sym (shown_of_more runs run))
-    (All-append (IsShownTour task) (shown_of runs) run.shown (runs_shown task near before) (run_shown task near _ run is))
+    (All-append (IsShownTour task) (shown_of runs) run.shown (runs_shown task near before)
+    (run_shown task near _ run is))

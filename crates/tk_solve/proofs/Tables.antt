@@ -13,10 +13,15 @@ use Rattle.tk_distance.specs.declared.table.Table.TheVariants as Kind
 use Rattle.tk_solve.specs.declared.options.TourOptions.{TourOptions}
 use Rattle.tk_solve.specs.Starts.{task_of, task_over}
 
-pub euclid_task : (table : Table) (planes : Planes) (euclid : Euclid) (options : TourOptions) → table ≡ Kind.Planes planes
+pub euclid_task : (table : Table) (planes : Planes) (euclid : Euclid) (options : TourOptions)
+    → table ≡ Kind.Planes planes
     → (planes.kind ≡ Euc2d) × (planes.places ≡ Whole euclid.unit euclid.places)
-    → task_of table options ≡ task_over (length (places_of (Whole euclid.unit euclid.places))) (city_distance Euc2d (places_of (Whole euclid.unit euclid.places))) options
+    → task_of table options ≡ task_over (length (places_of (Whole euclid.unit euclid.places)))
+    (city_distance Euc2d (places_of (Whole euclid.unit euclid.places))) options
 euclid_task table planes euclid options is same =
     ap (λ (t : Table). task_of t options) is
-    ∙ ap (λ (kind : PlaneKind). task_over (length (places_of planes.places)) (city_distance kind (places_of planes.places)) options) same.0
-    ∙ ap (λ (places : Places). task_over (length (places_of places)) (city_distance Euc2d (places_of places)) options) same.1
+    ∙ ap
+    (λ (kind : PlaneKind). task_over (length (places_of planes.places))
+    (city_distance kind (places_of planes.places)) options) same.0
+    ∙ ap (λ (places : Places). task_over (length (places_of places)) (city_distance Euc2d (places_of places)) options)
+    same.1

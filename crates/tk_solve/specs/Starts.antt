@@ -3,7 +3,8 @@
 --     AreCandidates task near      the near lists of the cities
 --     IsStart task near j cities      the tour that run j, from 0, begins with
 --     trials_of task      how many trials each run has
-use Rattle.std.specs.Prelude.{◌≡◌, ℕ, ◌+◌, ◌-◌, ◌%◌, List, ◌∷◌, Option, Some, None, MatchOption, flat_map, min, replicate, if◌then◌else◌, nat_lt}
+use Rattle.std.specs.Prelude.{◌≡◌, ℕ, ◌+◌, ◌-◌, ◌%◌, List, ◌∷◌, Option, Some, None, MatchOption, flat_map, min}
+use Rattle.std.specs.Prelude.{replicate, if◌then◌else◌, nat_lt}
 use Rattle.tk_near.specs.Near.{NearLists, AreNearest, near_of}
 use Rattle.tk_distance.specs.Tables.{table_size, table_distance}
 use Rattle.tk_distance.specs.declared.table.Table.{Table}

@@ -75,8 +75,8 @@ fn run_all<W: Watch>(
     Ok(outcome)
 }
 
-/// Searches for a short tour of a table's cities: `runs` runs, each of `trials` trials. Each trial is shown to `watch`, in
-/// order, with the length of the tour that it ended with and the best tour of its run so far; and each run after its
+/// Searches for a short tour of a table's cities: `runs` runs, each of `trials` trials. Each trial is shown to `watch`,
+/// in order, with the length of the tour that it ended with and the best tour of its run so far; and each run after its
 /// last trial, with its report. Nothing else is.
 ///
 /// # Errors

@@ -5,7 +5,8 @@
 --     may_join load n capacity E p      whether the pair may become a joint
 --     joints load n capacity [] pairs      the joints among the pairs, taken in their order
 --     ArePartPaths n hub E lists      the parts of the cities but the hub, each as the path of its joints
-use Rattle.std.specs.Prelude.{◌≡◌, ◌≢◌, ℕ, suc, zero, ◌+◌, ◌<◌, ◌≤◌, Bool, true, false, ◌&&◌, ◌||◌, not, nat_le, List, [], ◌∷◌, ◌==◌, if◌then◌else◌, length, ◌↔◌, slice_index_or}
+use Rattle.std.specs.Prelude.{◌≡◌, ◌≢◌, ℕ, suc, zero, ◌+◌, ◌<◌, ◌≤◌, Bool, true, false, ◌&&◌, ◌||◌, not, nat_le, List}
+use Rattle.std.specs.Prelude.{[], ◌∷◌, ◌==◌, if◌then◌else◌, length, ◌↔◌, slice_index_or}
 use Rattle.std.specs.List.{All}
 use Rattle.tk_starts.specs.Holding.{holds, IsDistinct}
 use Rattle.tk_distance.specs.Cities.{IsCity}

@@ -1,5 +1,6 @@
 -- What the arrays of the paths hold of the joints made so far.
-use Rattle.std.specs.Prelude.{◌≡◌, ◌≢◌, ℕ, ◌+◌, ◌<◌, true, List, [], ◌∷◌, ◌==◌, ◌⊎◌, ◌↔◌, if◌then◌else◌, slice_index_or, ◌-◌, Bool, ◌||◌, ◌&&◌, not, nat_le, length}
+use Rattle.std.specs.Prelude.{◌≡◌, ◌≢◌, ℕ, ◌+◌, ◌<◌, true, List, [], ◌∷◌, ◌==◌, ◌⊎◌, ◌↔◌, if◌then◌else◌, slice_index_or}
+use Rattle.std.specs.Prelude.{◌-◌, Bool, ◌||◌, ◌&&◌, not, nat_le, length}
 use Rattle.tk_starts.specs.Holding.{holds, IsDistinct}
 use Rattle.tk_distance.specs.Cities.{IsCity}
 use Rattle.tk_starts.specs.Joints.{part, part_load, joints_at, IsChain, last_from}

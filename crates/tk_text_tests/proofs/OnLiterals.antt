@@ -12,5 +12,6 @@ use Rattle.tk_text.specs.Rows.{place_rows, demand_rows}
 use Rattle.tk_text.specs.FixedSections.{tokens_stop}
 
 unfoldable pub on_literals : ⊤
-unfolding digits lines tokens_of keyword_of section_word rest_word cut judge decided_by answer_of list_extent entries entry_stop entries_stop place_rows demand_rows tokens_stop judge_lines solution_decided
+unfolding digits lines tokens_of keyword_of section_word rest_word cut judge decided_by answer_of list_extent entries
+    entry_stop entries_stop place_rows demand_rows tokens_stop judge_lines solution_decided
 on_literals = tt

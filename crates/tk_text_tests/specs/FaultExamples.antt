@@ -188,5 +188,9 @@ at_limits =
     ∷ (routing (codes "DEMAND_SECTION\n1 0\n2 6\nDEPOT_SECTION\n1"), fault 12 (kinds.DemandOverCapacity 2))
     ∷ (codes "TYPE : CVRP\nDIMENSION : 5000\nDEMAND_SECTION\n", fault 4 kinds.Truncated)
     ∷ (codes "TYPE : CVRP\nDIMENSION : 5001\nDEMAND_SECTION\n", fault 3 kinds.OutOfLimit)
-    ∷ (codes "TYPE : TSP\nDIMENSION : 5001\nEDGE_WEIGHT_TYPE : EXPLICIT\nEDGE_WEIGHT_FORMAT : UPPER_ROW\nEDGE_WEIGHT_SECTION\n", fault 5 kinds.OutOfLimit)
+    ∷ (
+      codes "TYPE : TSP\nDIMENSION : 5001\nEDGE_WEIGHT_TYPE : EXPLICIT\nEDGE_WEIGHT_FORMAT : UPPER_ROW\n"
+          ++ codes "EDGE_WEIGHT_SECTION\n",
+      fault 5 kinds.OutOfLimit,
+    )
     ∷ []

@@ -1,5 +1,6 @@
 -- Examples of problem texts that are accepted, and what their beginnings decide.
-use Rattle.std.specs.Prelude.{ℕ, ◌*◌, true, false, List, [], ◌∷◌, ◌++◌, Option, Some, None, Result, Ok, Err, pos, negsuc, codes}
+use Rattle.std.specs.Prelude.{ℕ, ◌*◌, true, false, List, [], ◌∷◌, ◌++◌, Option, Some, None, Result, Ok, Err, pos}
+use Rattle.std.specs.Prelude.{negsuc, codes}
 use Rattle.tk_text.specs.declared.Keyword.TheVariants as words
 use Rattle.tk_text.specs.declared.TextKind.{TextKind}
 use Rattle.tk_text.specs.declared.TextKind.TheVariants as kinds
@@ -58,13 +59,15 @@ two_places_are kind = tsp (codes "Unnamed") 2 (Points kind (place 0 0 ∷ place 
 abbrev pub everything : List ℕ
 everything =
     codes "NAME : all\nCOMMENT : c\nTYPE : CVRP\nCOMMENT : d\nDIMENSION : 2\nCAPACITY : 3\n"
-    ++ codes "EDGE_WEIGHT_TYPE : EXPLICIT\nEDGE_WEIGHT_FORMAT : UPPER_ROW\nNODE_COORD_TYPE : TWOD_COORDS\nDISPLAY_DATA_TYPE : TWOD_DISPLAY\n"
+    ++ codes "EDGE_WEIGHT_TYPE : EXPLICIT\nEDGE_WEIGHT_FORMAT : UPPER_ROW\n"
+    ++ codes "NODE_COORD_TYPE : TWOD_COORDS\nDISPLAY_DATA_TYPE : TWOD_DISPLAY\n"
     ++ codes "NODE_COORD_SECTION\n1 0 0\n2 3 4\nEDGE_WEIGHT_SECTION\n7\n"
     ++ codes "DEMAND_SECTION\n2 3\n1 0\nDEPOT_SECTION\n1\n-1\n-1\nDISPLAY_DATA_SECTION\n1 x y\n2 ? :\nEOF\n"
 
 abbrev pub problems : List (List ℕ × ProblemAnswer)
 problems = (
-  codes "NAME : p\nTYPE : TSP\nDIMENSION : 3\nEDGE_WEIGHT_TYPE : EUC_2D\nNODE_COORD_SECTION\n1 0 0\n2 3 0\n3 0 4\nEOF\n",
+  codes
+      "NAME : p\nTYPE : TSP\nDIMENSION : 3\nEDGE_WEIGHT_TYPE : EUC_2D\nNODE_COORD_SECTION\n1 0 0\n2 3 0\n3 0 4\nEOF\n",
   tsp (codes "p") 3 (Points planes.Euc2d (place 0 0 ∷ place 3 0 ∷ place 0 4 ∷ [])),
 )
     ∷ (two_places (codes "EUC_2D"), two_places_are planes.Euc2d)
@@ -74,17 +77,21 @@ problems = (
     ∷ (two_places (codes "att (pseudo-Euclidean)"), two_places_are planes.Att)
     -- nodes in any order, numbers in any lines, decimal coordinates
     ∷ (
-      codes "EDGE_WEIGHT_TYPE: MAX_2D\nDimension 2\n\ttype:tsp\r\nnode_coord_section: 2 .5\n\n-0.0000000019 1\n1e1 2.\n",
+      codes
+          "EDGE_WEIGHT_TYPE: MAX_2D\nDimension 2\n\ttype:tsp\r\nnode_coord_section: 2 .5\n\n-0.0000000019 1\n1e1 2.\n",
       tsp (codes "Unnamed") 2 (Points planes.Max2d
           (record { x = pos 10000000000; y = pos 2000000000 } ∷ record { x = pos 500000000; y = negsuc 0 } ∷ [])),
     )
     ∷ (
-      codes "TYPE : TSP\nDIMENSION : 4\nEDGE_WEIGHT_TYPE : EXPLICIT\nEDGE_WEIGHT_FORMAT : UPPER_ROW\nEDGE_WEIGHT_SECTION\n1 2 3 4 5 6\nEOF\n",
+      codes "TYPE : TSP\nDIMENSION : 4\nEDGE_WEIGHT_TYPE : EXPLICIT\nEDGE_WEIGHT_FORMAT : UPPER_ROW\n"
+          ++ codes "EDGE_WEIGHT_SECTION\n1 2 3 4 5 6\nEOF\n",
       tsp (codes "Unnamed") 4 (Lower (1 ∷ 2 ∷ 4 ∷ 3 ∷ 5 ∷ 6 ∷ [])),
     )
     -- a depot that is not the first node
     ∷ (
-      codes "NAME : v\nTYPE : CVRP\nDIMENSION : 3\nEDGE_WEIGHT_TYPE : EUC_2D\nCAPACITY : 2\nNODE_COORD_SECTION\n1 10 0\n2 0 0\n3 11 0\nDEMAND_SECTION\n1 1\n2 0\n3 1\nDEPOT_SECTION\n2\n-1\nEOF\n",
+      codes "NAME : v\nTYPE : CVRP\nDIMENSION : 3\nEDGE_WEIGHT_TYPE : EUC_2D\nCAPACITY : 2\n"
+          ++ codes "NODE_COORD_SECTION\n1 10 0\n2 0 0\n3 11 0\n"
+          ++ codes "DEMAND_SECTION\n1 1\n2 0\n3 1\nDEPOT_SECTION\n2\n-1\nEOF\n",
       cvrp (codes "v") 3 (Points planes.Euc2d (place 10 0 ∷ place 0 0 ∷ place 11 0 ∷ [])) 2 (1 ∷ 0 ∷ 1 ∷ []) 2,
     )
     ∷ (
@@ -99,11 +106,16 @@ plane rows = codes "TYPE : TSP\nDIMENSION : 2\nEDGE_WEIGHT_TYPE : EUC_2D\nNODE_C
 
 -- explicit weights of three nodes in a full matrix, whose rows begin on line 6
 abbrev pub full_matrix : List ℕ → List ℕ
-full_matrix rows = codes "TYPE : TSP\nDIMENSION : 3\nEDGE_WEIGHT_TYPE : EXPLICIT\nEDGE_WEIGHT_FORMAT : FULL_MATRIX\nEDGE_WEIGHT_SECTION\n" ++ rows
+full_matrix rows =
+    codes
+    "TYPE : TSP\nDIMENSION : 3\nEDGE_WEIGHT_TYPE : EXPLICIT\nEDGE_WEIGHT_FORMAT : FULL_MATRIX\nEDGE_WEIGHT_SECTION\n"
+    ++ rows
 
 -- a CVRP of two nodes, whose sections after the coordinates begin on line 8
 abbrev pub routing : List ℕ → List ℕ
-routing rest = codes "TYPE : CVRP\nDIMENSION : 2\nCAPACITY : 5\nEDGE_WEIGHT_TYPE : EUC_2D\nNODE_COORD_SECTION\n1 0 0\n2 1 0\n" ++ rest
+routing rest =
+    codes "TYPE : CVRP\nDIMENSION : 2\nCAPACITY : 5\nEDGE_WEIGHT_TYPE : EUC_2D\nNODE_COORD_SECTION\n1 0 0\n2 1 0\n"
+    ++ rest
 
 abbrev pub problem_beginnings : List (List ℕ × ProblemAnswer)
 problem_beginnings =

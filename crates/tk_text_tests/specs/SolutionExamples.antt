@@ -1,6 +1,7 @@
 -- Examples of solution texts: their routes and cost, what is wrong with them and on which line, and what their
 -- beginnings decide.
-use Rattle.std.specs.Prelude.{ℕ, true, false, List, [], ◌∷◌, ◌++◌, Option, Some, None, Result, Ok, Err, pos, codes, replicate}
+use Rattle.std.specs.Prelude.{ℕ, true, false, List, [], ◌∷◌, ◌++◌, Option, Some, None, Result, Ok, Err, pos, codes}
+use Rattle.std.specs.Prelude.{replicate}
 use Rattle.tk_text.specs.declared.Keyword.TheVariants as words
 use Rattle.tk_text.specs.declared.TextKind.{TextKind}
 use Rattle.tk_text.specs.declared.TextKind.TheVariants as kinds

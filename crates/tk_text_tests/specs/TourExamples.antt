@@ -1,5 +1,6 @@
 -- Examples of tour texts: what they list, what is wrong with them and on which line, and what their beginnings decide.
-use Rattle.std.specs.Prelude.{ℕ, true, false, List, [], ◌∷◌, ◌++◌, Option, Some, None, Result, Ok, Err, codes, replicate}
+use Rattle.std.specs.Prelude.{ℕ, true, false, List, [], ◌∷◌, ◌++◌, Option, Some, None, Result, Ok, Err, codes}
+use Rattle.std.specs.Prelude.{replicate}
 use Rattle.tk_text.specs.declared.Keyword.TheVariants as words
 use Rattle.tk_text.specs.declared.TextKind.{TextKind}
 use Rattle.tk_text.specs.declared.TextKind.TheVariants as kinds

@@ -24,8 +24,11 @@ written_lines =
     ∷ []
 
 abbrev pub written_texts : List (List ℕ × List ℕ)
-written_texts =
-    (tour_text (codes "p") 40 (1 ∷ 3 ∷ 2 ∷ 4 ∷ []), codes "NAME : p.40.tour\nCOMMENT : Length = 40\nTYPE : TOUR\nDIMENSION : 4\nTOUR_SECTION\n1\n3\n2\n4\n-1\nEOF\n")
+written_texts = (
+  tour_text (codes "p") 40 (1 ∷ 3 ∷ 2 ∷ 4 ∷ []),
+  codes
+      "NAME : p.40.tour\nCOMMENT : Length = 40\nTYPE : TOUR\nDIMENSION : 4\nTOUR_SECTION\n1\n3\n2\n4\n-1\nEOF\n",
+)
     ∷ (solution_text ((1 ∷ 2 ∷ []) ∷ (3 ∷ 4 ∷ []) ∷ []) 44, codes "Route #1: 1 2\nRoute #2: 3 4\nCost 44\n")
     ∷ (solution_text [] 0, codes "Cost 0\n")
     ∷ []

@@ -80,10 +80,15 @@ pub SameCycle-append : (xs ys : List ℕ) → SameCycle (xs ++ ys) (ys ++ xs)
 SameCycle-append xs ys = inl (IsRotation-append xs ys)
 
 -- paths
-pub IsPath-append : {d x y a : ℕ} {front back : List ℕ} → IsPath d front x → IsPath y back a → IsPath d (front ++ back) a
-IsPath-append {d} {x} {y} {a} {front} {back} f g =
-    ((f.0.0 ++ back, ap (λ v. v ++ back) f.0.1), (front ++ g.1.0, ap (λ v. front ++ v) g.1.1 ∙ sym (append_assoc front g.1.0 (a ∷ []))))
+pub IsPath-append : {d x y a : ℕ} {front back : List ℕ} → IsPath d front x → IsPath y back a →
+    IsPath d (front ++ back) a
+IsPath-append {d} {x} {y} {a} {front} {back} f g = (
+  (f.0.0 ++ back, ap (λ v. v ++ back) f.0.1),
+  (front ++ g.1.0, ap (λ v. front ++ v) g.1.1 ∙ sym (append_assoc front g.1.0 (a ∷ []))),
+)
 
 pub IsPath-reverse : {b c : ℕ} {path : List ℕ} → IsPath b path c → IsPath c (reverse path) b
-IsPath-reverse {b} {c} {path} h =
-    ((reverse h.1.0, ap reverse h.1.1 ∙ reverse-append h.1.0 (c ∷ [])), (reverse h.0.0, ap reverse h.0.1 ∙ reverse-append (b ∷ []) h.0.0))
+IsPath-reverse {b} {c} {path} h = (
+  (reverse h.1.0, ap reverse h.1.1 ∙ reverse-append h.1.0 (c ∷ [])),
+  (reverse h.0.0, ap reverse h.0.1 ∙ reverse-append (b ∷ []) h.0.0),
+)

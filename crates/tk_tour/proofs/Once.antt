@@ -1,5 +1,6 @@
 -- Lists that hold no city twice: a cut of their cycle at two steps is one cut only.
-use Rattle.std.proofs.Common.{◌≡◌, ℕ, ◌+◌, ◌≤◌, ⊎_elim, inl, inr, List, [], ◌∷◌, ◌++◌, refl, sym, ap, ◌∙◌, arith, eqb, cond}
+use Rattle.std.proofs.Common.{◌≡◌, ℕ, ◌+◌, ◌≤◌, ⊎_elim, inl, inr, List, [], ◌∷◌, ◌++◌, refl, sym, ap, ◌∙◌, arith, eqb}
+use Rattle.std.proofs.Common.{cond}
 use Rattle.std.specs.Prelude.{reverse}
 use Rattle.std.proofs.lemmas.List.{append-nil, append_assoc, reverse-append, reverse-reverse}
 use Rattle.std.proofs.lemmas.List.Sums.{sum_by-append, sum_by-cons}
@@ -7,7 +8,8 @@ use Rattle.std.proofs.lemmas.List.Sorted.{sum_by-IsPermutation, IsPermutation-re
 use Rattle.std.proofs.lemmas.Bool.{eq-eqb}
 use Rattle.tk_tour.specs.Tour.{IsRotation, SameCycle, IsPath, occurrences}
 use Rattle.tk_tour.specs.Moves.{ReplacesSteps}
-use Rattle.tk_tour.proofs.Cycle.{cuts_meet, IsRotation-trans, IsRotation-sym, SameCycle-trans, SameCycle-sym, SameCycle-append, SameCycle-either_side, IsPath-reverse}
+use Rattle.tk_tour.proofs.Cycle.{cuts_meet, IsRotation-trans, IsRotation-sym, SameCycle-trans, SameCycle-sym}
+use Rattle.tk_tour.proofs.Cycle.{SameCycle-append, SameCycle-either_side, IsPath-reverse}
 
 pub occurrences-append : (c : ℕ) (xs ys : List ℕ) → occurrences c (xs ++ ys) ≡ occurrences c xs + occurrences c ys
 unfolding occurrences
@@ -50,7 +52,8 @@ overlap c us ys vs (x ∷ t) once e =
     absurd (omega (arith, once, n, occurrences-at c us vs, occurrences-at c t ys))
 
 -- a city that stands once cuts the list at one place
-pub one_place : (c : ℕ) (xs ys us vs : List ℕ) → occurrences c (xs ++ c ∷ ys) ≤ 1 → xs ++ c ∷ ys ≡ us ++ c ∷ vs → (xs ≡ us) × (ys ≡ vs)
+pub one_place : (c : ℕ) (xs ys us vs : List ℕ) → occurrences c (xs ++ c ∷ ys) ≤ 1 → xs ++ c ∷ ys ≡ us ++ c ∷ vs →
+    (xs ≡ us) × (ys ≡ vs)
 one_place c xs ys us vs once e =
     let once' : occurrences c (us ++ c ∷ vs) ≤ 1 = rw (← e) once in
     let one : (t : List ℕ) × (xs ≡ us ++ t) × (c ∷ vs ≡ t ++ c ∷ ys) → (xs ≡ us) × (ys ≡ vs) = λ h.
@@ -61,7 +64,8 @@ one_place c xs ys us vs once e =
     (sym (h.1 ∙ ap (λ v. xs ++ v) k.0 ∙ append-nil xs), k.1) in
     ⊎_elim one two (cuts_meet xs (c ∷ ys) us (c ∷ vs) e)
 
-same_start : (c : ℕ) (front back r s : List ℕ) → occurrences c (front ++ back) ≤ 1 → front ++ back ≡ c ∷ r → back ++ front ≡ c ∷ s → front ++ back ≡ back ++ front
+same_start : (c : ℕ) (front back r s : List ℕ) → occurrences c (front ++ back) ≤ 1 → front ++ back ≡ c ∷ r →
+    back ++ front ≡ c ∷ s → front ++ back ≡ back ++ front
 same_start c [] back r s once e f = sym (append-nil back)
 same_start c (x ∷ front) [] r s once e f = append-nil (x ∷ front)
 same_start c (x ∷ front) (y ∷ back) r s once e f =
@@ -89,7 +93,8 @@ same_way : (a b c d : ℕ) (front back us vs : List ℕ) → HoldsOnce (front ++
     IsRotation (front ++ back) (us ++ vs) → SamePieces front back us vs
 same_way a b c d front back us vs once pf pb pu pv h =
     let e : front ++ back ≡ us ++ vs =
-    one_rotation d (front ++ back) (us ++ vs) (pf.0.0 ++ back) (pu.0.0 ++ vs) once h (ap (λ v. v ++ back) pf.0.1) (ap (λ v. v ++ vs) pu.0.1) in
+    one_rotation d (front ++ back) (us ++ vs) (pf.0.0 ++ back) (pu.0.0 ++ vs) once h (ap (λ v. v ++ back) pf.0.1)
+    (ap (λ v. v ++ vs) pu.0.1) in
     let e' : front ++ (b ∷ pb.0.0) ≡ us ++ (b ∷ pv.0.0) =
     ap (λ v. front ++ v) (sym pb.0.1) ∙ e ∙ ap (λ v. us ++ v) pv.0.1 in
     let o : occurrences b (front ++ (b ∷ pb.0.0)) ≤ 1 = rw (← pb.0.1) (once b) in
@@ -105,7 +110,13 @@ other_way a b c d front back us vs once pf pb pu pv h =
     let qv = IsPath-reverse pv in
     let f1 : List ℕ = pf.1.0 in
     let start : IsRotation (a ∷ (back ++ f1)) (front ++ back) =
-    record { front = a ∷ back; back = f1; before = refl; after = ap (λ v. v ++ back) pf.1.1 ∙ append_assoc f1 (a ∷ []) back } in
+    record {
+      front = a ∷ back;
+      back = f1;
+      before = refl;
+      after = ap (λ v. v ++ back) pf.1.1 ∙ append_assoc f1 (a
+          ∷ []) back;
+    } in
     let last : IsRotation (reverse (us ++ vs)) (reverse us ++ reverse vs) =
     record { front = reverse vs; back = reverse us; before = reverse-append us vs; after = refl } in
     let once' : HoldsOnce (a ∷ (back ++ f1)) = HoldsOnce-cycle once (inl (IsRotation-sym start)) in
@@ -115,10 +126,12 @@ other_way a b c d front back us vs once pf pb pu pv h =
     let r1 : List ℕ = qu.0.0 in
     let r2 : List ℕ = qv.1.0 in
     let e2 : a ∷ (b ∷ (pb.0.0 ++ f1)) ≡ a ∷ ((r1 ++ r2) ++ b ∷ []) =
-    ap (λ v. a ∷ (v ++ f1)) (sym pb.0.1) ∙ e ∙ ap (λ v. v ++ reverse vs) qu.0.1 ∙ ap (λ v. a ∷ (r1 ++ v)) qv.1.1 ∙ ap (λ v. a ∷ v) (sym (append_assoc r1 r2 (b ∷ []))) in
+    ap (λ v. a ∷ (v ++ f1)) (sym pb.0.1) ∙ e ∙ ap (λ v. v ++ reverse vs) qu.0.1 ∙ ap (λ v. a ∷ (r1 ++ v)) qv.1.1
+    ∙ ap (λ v. a ∷ v) (sym (append_assoc r1 r2 (b ∷ []))) in
     let e3 : b ∷ (pb.0.0 ++ f1) ≡ (r1 ++ r2) ++ b ∷ [] = cc in
     let o2 : occurrences b (a ∷ (b ∷ (pb.0.0 ++ f1))) ≤ 1 = rw (ap (λ v. a ∷ (v ++ f1)) (sym pb.0.1)) (once' b) in
-    let o3 : occurrences b (b ∷ (pb.0.0 ++ f1)) ≤ 1 = omega (arith, o2, occurrences-append b (a ∷ []) (b ∷ (pb.0.0 ++ f1))) in
+    let o3 : occurrences b (b ∷ (pb.0.0 ++ f1)) ≤ 1 =
+    omega (arith, o2, occurrences-append b (a ∷ []) (b ∷ (pb.0.0 ++ f1))) in
     let k = one_place b [] (pb.0.0 ++ f1) (r1 ++ r2) [] o3 e3 in
     let k1 = nil_parts r1 r2 k.0 in
     let k2 = nil_parts pb.0.0 f1 (sym k.1) in
@@ -138,17 +151,28 @@ pub ReplacesSteps-from_cut : (a b c d : ℕ) (old new front back : List ℕ) →
     IsPath d front a → IsPath b back c → SameCycle old (front ++ back) → SameCycle new (front ++ reverse back) →
     ReplacesSteps old new a b c d
 ReplacesSteps-from_cut a b c d old new front back once pf pb h k = λ us vs pu pv g.
-    let s = same_pieces a b c d front back us vs (HoldsOnce-cycle once h) pf pb pu pv (SameCycle-trans (SameCycle-sym h) g) in
+    let s =
+    same_pieces a b c d front back us vs (HoldsOnce-cycle once h) pf pb pu pv
+    (SameCycle-trans (SameCycle-sym h) g) in
     rw (s.0, s.1) k
 
 -- the steps may be named in the other order
-pub ReplacesSteps-turn : (a b c d : ℕ) (old new : List ℕ) → ReplacesSteps old new c d a b → ReplacesSteps old new a b c d
+pub ReplacesSteps-turn : (a b c d : ℕ) (old new : List ℕ) → ReplacesSteps old new c d a b →
+    ReplacesSteps old new a b c d
 ReplacesSteps-turn a b c d old new f = λ us vs pu pv g.
     let k : SameCycle new (vs ++ reverse us) = f vs us pv pu (SameCycle-trans g (SameCycle-append us vs)) in
     SameCycle-trans k (SameCycle-trans (SameCycle-append vs (reverse us)) (SameCycle-sym (SameCycle-either_side us vs)))
 
-pub ReplacesSteps-mirror : (a b c d : ℕ) (old new : List ℕ) → ReplacesSteps old new b a d c → ReplacesSteps old new a b c d
+pub ReplacesSteps-mirror : (a b c d : ℕ) (old new : List ℕ) → ReplacesSteps old new b a d c →
+    ReplacesSteps old new a b c d
 ReplacesSteps-mirror a b c d old new f = λ us vs pu pv g.
-    let g2 : SameCycle (us ++ vs) (reverse vs ++ reverse us) = inr (record { front = us ++ vs; back = []; before = sym (append-nil (us ++ vs)); after = ap reverse (sym (reverse-append us vs)) ∙ reverse-reverse (us ++ vs) }) in
-    let k : SameCycle new (reverse vs ++ reverse (reverse us)) = f (reverse vs) (reverse us) (IsPath-reverse pv) (IsPath-reverse pu) (SameCycle-trans g g2) in
+    let g2 : SameCycle (us ++ vs) (reverse vs ++ reverse us) =
+    inr (record {
+      front = us ++ vs;
+      back = [];
+      before = sym (append-nil (us ++ vs));
+      after = ap reverse (sym (reverse-append us vs)) ∙ reverse-reverse (us ++ vs);
+    }) in
+    let k : SameCycle new (reverse vs ++ reverse (reverse us)) =
+    f (reverse vs) (reverse us) (IsPath-reverse pv) (IsPath-reverse pu) (SameCycle-trans g g2) in
     SameCycle-trans (rw (reverse-reverse us) at k) (SameCycle-append (reverse vs) us)

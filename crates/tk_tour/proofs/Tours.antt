@@ -1,5 +1,6 @@
 -- A tour holds the numbers 1 to n and no other, each at one place.
-use Rattle.std.proofs.Common.{◌≡◌, ◌≢◌, ℕ, ◌+◌, ◌-◌, ◌<◌, ◌≤◌, ◌%◌, ◌*◌, suc, zero, ◌⊎◌, ⊎_elim, inl, inr, List, [], ◌∷◌, ◌++◌, length, take, drop, refl, sym, ap, ◌∙◌, arith, eqb, cond, get_or, zero-add}
+use Rattle.std.proofs.Common.{◌≡◌, ◌≢◌, ℕ, ◌+◌, ◌-◌, ◌<◌, ◌≤◌, ◌%◌, ◌*◌, suc, zero, ◌⊎◌, ⊎_elim, inl, inr, List, []}
+use Rattle.std.proofs.Common.{◌∷◌, ◌++◌, length, take, drop, refl, sym, ap, ◌∙◌, arith, eqb, cond, get_or, zero-add}
 use Rattle.std.proofs.lemmas.List.{take-append-drop, length-take, get_or-take, drop_more}
 use Rattle.std.proofs.lemmas.List.Sums.{sum_by-cons, position_or_len_is}
 use Rattle.std.proofs.lemmas.Bool.{eq-eqb, cases_lt}
@@ -12,7 +13,8 @@ use Rattle.tk_tour.proofs.Once.{HoldsOnce, occurrences-append, occurrences-cons,
 pub occurrences-other : (c x : ℕ) (xs : List ℕ) → c ≢ x → occurrences c (x ∷ xs) ≡ occurrences c xs
 unfolding occurrences
 occurrences-other c x xs ne =
-    ⊎_elim (λ h. absurd (ne (sym h.1))) (λ h. sum_by-cons (λ y. cond (eqb y c) 1 0) x xs ∙ ap (λ b. cond b 1 0 + occurrences c xs) h.0 ∙ zero-add (occurrences c xs)) (eqb_tells x c)
+    ⊎_elim (λ h. absurd (ne (sym h.1))) (λ h. sum_by-cons (λ y. cond (eqb y c) 1 0) x xs
+    ∙ ap (λ b. cond b 1 0 + occurrences c xs) h.0 ∙ zero-add (occurrences c xs)) (eqb_tells x c)
 
 pub occurrences-nil : (c : ℕ) → occurrences c [] ≡ 0
 unfolding occurrences
@@ -38,7 +40,11 @@ entries_to-outside : (m x : ℕ) (xs : List ℕ) → (0 < x → m < x) → entri
 unfolding entries_to
 entries_to-outside zero x xs out = refl
 entries_to-outside (suc m) x xs out =
-    omega (arith, entries_to-outside m x xs (λ h. omega (arith, out h)), occurrences-other (suc m) x xs (λ e. absurd (omega (arith, out (omega arith)))))
+    omega (
+      arith,
+      entries_to-outside m x xs (λ h. omega (arith, out h)),
+      occurrences-other (suc m) x xs (λ e. absurd (omega (arith, out (omega arith)))),
+    )
 
 entries_to-inside : (m x : ℕ) (xs : List ℕ) → 0 < x → x ≤ m → entries_to m (x ∷ xs) ≡ entries_to m xs + 1
 unfolding entries_to
@@ -68,7 +74,8 @@ entries_and_one_more m c out (x ∷ xs) =
     omega (arith, k, ih, entries_to-outside m x xs (λ h. omega (arith, out (omega arith)))))
     (λ ne.
     let k = occurrences-other c x xs ne in
-    ⊎_elim (λ h. omega (arith, k, ih, entries_to-inside m x xs h.0 h.1)) (λ h. omega (arith, k, ih, entries_to-outside m x xs h)) (inside_or_not m x))
+    ⊎_elim (λ h. omega (arith, k, ih, entries_to-inside m x xs h.0 h.1))
+    (λ h. omega (arith, k, ih, entries_to-outside m x xs h)) (inside_or_not m x))
     (same_or_not c x)
 
 entries_to-tour : (n m : ℕ) (xs : List ℕ) → IsTour n xs → m ≤ n → entries_to m xs ≡ m
@@ -93,9 +100,12 @@ occurrences-index (x ∷ xs) (suc k) lt =
     let ih : 1 ≤ occurrences c xs = occurrences-index xs k (omega arith) in
     omega (arith, ih, occurrences-append c (x ∷ []) xs)
 
-pub city_in_range : (n : ℕ) (xs : List ℕ) (k : ℕ) → IsTour n xs → k < length xs → (0 < get_or xs k 0) × (get_or xs k 0 ≤ n)
+pub city_in_range : (n : ℕ) (xs : List ℕ) (k : ℕ) → IsTour n xs → k < length xs →
+    (0 < get_or xs k 0) × (get_or xs k 0 ≤ n)
 city_in_range n xs k h lt =
-    ⊎_elim (λ r. r) (λ r. absurd (omega (arith, occurrences-index xs k lt, occurrences-outside n (get_or xs k 0) xs h r))) (inside_or_not n (get_or xs k 0))
+    ⊎_elim (λ r. r)
+    (λ r. absurd (omega (arith, occurrences-index xs k lt, occurrences-outside n (get_or xs k 0) xs h r)))
+    (inside_or_not n (get_or xs k 0))
 
 -- two places hold two cities
 pub places_differ : (xs : List ℕ) (i j : ℕ) → HoldsOnce xs → i < j → j < length xs → get_or xs i 0 ≢ get_or xs j 0
@@ -105,7 +115,8 @@ places_differ xs i j once lt le e =
     let one : 1 ≤ occurrences (get_or (take j xs) i 0) (take j xs) = occurrences-index (take j xs) i lt' in
     let same : get_or (take j xs) i 0 ≡ c = get_or-take j xs i 0 lt ∙ e in
     let one' : 1 ≤ occurrences c (take j xs) = rw same at one in
-    let whole : xs ≡ take j xs ++ (c ∷ drop (j + 1) xs) = sym (take-append-drop j xs) ∙ ap (λ v. take j xs ++ v) (drop_more xs j 0 le) in
+    let whole : xs ≡ take j xs ++ (c ∷ drop (j + 1) xs) = sym (take-append-drop j xs)
+    ∙ ap (λ v. take j xs ++ v) (drop_more xs j 0 le) in
     let k : occurrences c xs ≡ occurrences c (take j xs ++ (c ∷ drop (j + 1) xs)) = ap (occurrences c) whole in
     omega (arith, once c, k, one', occurrences-at c (take j xs) (drop (j + 1) xs))
 
@@ -113,7 +124,8 @@ pub place_of-get_or : (xs : List ℕ) (k : ℕ) → HoldsOnce xs → k < length 
 unfolding place_of
 place_of-get_or xs k once lt =
     position_or_len_is (λ x. eqb x (get_or xs k 0)) xs k 0 (omega arith)
-    (λ j h. ⊎_elim (λ t. absurd (places_differ xs j k once h lt t.1)) (λ t. t.0) (eqb_tells (get_or xs j 0) (get_or xs k 0)))
+    (λ j h. ⊎_elim (λ t. absurd (places_differ xs j k once h lt t.1)) (λ t. t.0)
+    (eqb_tells (get_or xs j 0) (get_or xs k 0)))
     (λ _. eq-eqb _ _ refl)
 
 -- a city that occurs stands at some place
@@ -128,37 +140,48 @@ place_found c (x ∷ xs) h =
     (same_or_not c x)
 
 -- each city stands at its place
-pub city_at_place : (order place : List ℕ) (c : ℕ) → IsTour (length order) order → IsInverse order place → 0 < c → c ≤ length order →
+pub city_at_place : (order place : List ℕ) (c : ℕ) → IsTour (length order) order → IsInverse order place → 0 < c →
+    c ≤ length order →
     (get_or place (c - 1) 0 < length order) × (get_or order (get_or place (c - 1) 0) 0 ≡ c)
 city_at_place order place c tour inverse low high =
     let f = place_found c order (omega (arith, tour.1 c low high)) in
     let e : get_or place (c - 1) 0 ≡ f.0 = ap (λ v. get_or place (v - 1) 0) (sym f.2) ∙ (inverse.1 f.0 f.1).2 in
     (omega (arith, e, f.1), ap (λ v. get_or order v 0) e ∙ f.2)
 
-pub next_city-inside : (xs : List ℕ) (k : ℕ) → HoldsOnce xs → k + 1 < length xs → next_city xs (get_or xs k 0) ≡ get_or xs (k + 1) 0
+pub next_city-inside : (xs : List ℕ) (k : ℕ) → HoldsOnce xs → k + 1 < length xs →
+    next_city xs (get_or xs k 0) ≡ get_or xs (k + 1) 0
 unfolding next_city
 next_city-inside xs k once lt =
-    ap (λ v. get_or xs ((v + 1) % length xs) 0) (place_of-get_or xs k once (omega arith)) ∙ ap (λ v. get_or xs v 0) (mod-eq_of_lt lt)
+    ap (λ v. get_or xs ((v + 1) % length xs) 0) (place_of-get_or xs k once (omega arith))
+    ∙ ap (λ v. get_or xs v 0) (mod-eq_of_lt lt)
 
-pub next_city-end : (xs : List ℕ) (k : ℕ) → HoldsOnce xs → k + 1 ≡ length xs → next_city xs (get_or xs k 0) ≡ get_or xs 0 0
+pub next_city-end : (xs : List ℕ) (k : ℕ) → HoldsOnce xs → k + 1 ≡ length xs →
+    next_city xs (get_or xs k 0) ≡ get_or xs 0 0
 unfolding next_city
 next_city-end xs k once e =
-    ap (λ v. get_or xs ((v + 1) % length xs) 0) (place_of-get_or xs k once (omega arith)) ∙ ap (λ v. get_or xs (v % length xs) 0) e ∙ ap (λ v. get_or xs v 0) (mod_self (length xs))
+    ap (λ v. get_or xs ((v + 1) % length xs) 0) (place_of-get_or xs k once (omega arith))
+    ∙ ap (λ v. get_or xs (v % length xs) 0) e ∙ ap (λ v. get_or xs v 0) (mod_self (length xs))
 
-pub prev_city-inside : (xs : List ℕ) (k : ℕ) → HoldsOnce xs → k + 1 < length xs → prev_city xs (get_or xs (k + 1) 0) ≡ get_or xs k 0
+pub prev_city-inside : (xs : List ℕ) (k : ℕ) → HoldsOnce xs → k + 1 < length xs →
+    prev_city xs (get_or xs (k + 1) 0) ≡ get_or xs k 0
 unfolding prev_city
 prev_city-inside xs k once lt =
     let e : k + 1 + length xs - 1 ≡ k + length xs * 1 = omega arith in
-    ap (λ v. get_or xs ((v + length xs - 1) % length xs) 0) (place_of-get_or xs (k + 1) once lt) ∙ ap (λ v. get_or xs (v % length xs) 0) e ∙ ap (λ v. get_or xs v 0) (add-mul-mod_self_left k (length xs) 1 ∙ mod-eq_of_lt (omega arith))
+    ap (λ v. get_or xs ((v + length xs - 1) % length xs) 0) (place_of-get_or xs (k + 1) once lt)
+    ∙ ap (λ v. get_or xs (v % length xs) 0) e
+    ∙ ap (λ v. get_or xs v 0) (add-mul-mod_self_left k (length xs) 1 ∙ mod-eq_of_lt (omega arith))
 
-pub prev_city-start : (xs : List ℕ) (k : ℕ) → HoldsOnce xs → k + 1 ≡ length xs → prev_city xs (get_or xs 0 0) ≡ get_or xs k 0
+pub prev_city-start : (xs : List ℕ) (k : ℕ) → HoldsOnce xs → k + 1 ≡ length xs →
+    prev_city xs (get_or xs 0 0) ≡ get_or xs k 0
 unfolding prev_city
 prev_city-start xs k once e =
     let f : 0 + length xs - 1 ≡ k = omega arith in
-    ap (λ v. get_or xs ((v + length xs - 1) % length xs) 0) (place_of-get_or xs 0 once (omega arith)) ∙ ap (λ v. get_or xs (v % length xs) 0) f ∙ ap (λ v. get_or xs v 0) (mod-eq_of_lt (omega arith))
+    ap (λ v. get_or xs ((v + length xs - 1) % length xs) 0) (place_of-get_or xs 0 once (omega arith))
+    ∙ ap (λ v. get_or xs (v % length xs) 0) f ∙ ap (λ v. get_or xs v 0) (mod-eq_of_lt (omega arith))
 
 -- the way back: entries that lie in 1 to n and differ are a tour
-pub HoldsOnce-from_distinct : (xs : List ℕ) → ((i j : ℕ) → i < j → j < length xs → get_or xs i 0 ≢ get_or xs j 0) → HoldsOnce xs
+pub HoldsOnce-from_distinct : (xs : List ℕ) →
+    ((i j : ℕ) → i < j → j < length xs → get_or xs i 0 ≢ get_or xs j 0) → HoldsOnce xs
 HoldsOnce-from_distinct [] h = λ c. omega (arith, occurrences-nil c)
 HoldsOnce-from_distinct (x ∷ xs) h = λ c.
     let ih = HoldsOnce-from_distinct xs (λ i j lt le. h (suc i) (suc j) (omega arith) (omega arith)) c in
@@ -173,7 +196,8 @@ HoldsOnce-from_distinct (x ∷ xs) h = λ c.
     (λ (ne : c ≢ x). omega (arith, ih, occurrences-other c x xs ne))
     (same_or_not c x)
 
-entries_to-all : (n : ℕ) (xs : List ℕ) → ((k : ℕ) → k < length xs → (0 < get_or xs k 0) × (get_or xs k 0 ≤ n)) → entries_to n xs ≡ length xs
+entries_to-all : (n : ℕ) (xs : List ℕ) → ((k : ℕ) → k < length xs → (0 < get_or xs k 0) × (get_or xs k 0 ≤ n)) →
+    entries_to n xs ≡ length xs
 entries_to-all n [] h = entries_to-nil n
 entries_to-all n (x ∷ xs) h =
     let r = h 0 (omega arith) in
@@ -198,7 +222,9 @@ entries_to-full (suc m) c xs once e low high =
     (λ (ne : c ≢ suc m). entries_to-full m c xs once f low (omega (arith, ne)))
     (same_or_not c (suc m))
 
-pub IsTour-from_distinct : (xs : List ℕ) → ((k : ℕ) → k < length xs → (0 < get_or xs k 0) × (get_or xs k 0 ≤ length xs)) → ((i j : ℕ) → i < j → j < length xs → get_or xs i 0 ≢ get_or xs j 0) → IsTour (length xs) xs
+pub IsTour-from_distinct : (xs : List ℕ) →
+    ((k : ℕ) → k < length xs → (0 < get_or xs k 0) × (get_or xs k 0 ≤ length xs)) →
+    ((i j : ℕ) → i < j → j < length xs → get_or xs i 0 ≢ get_or xs j 0) → IsTour (length xs) xs
 IsTour-from_distinct xs r d =
     let once = HoldsOnce-from_distinct xs d in
     (refl, λ c low high. entries_to-full (length xs) c xs once (entries_to-all (length xs) xs r) low high)
@@ -213,7 +239,8 @@ IsTour-from_inverse order place h =
     omega (arith, same))
 
 -- a list that holds no city twice, all of 1 to n, has at most n entries
-pub length-distinct : (n : ℕ) (xs : List ℕ) → ((k : ℕ) → k < length xs → (0 < get_or xs k 0) × (get_or xs k 0 ≤ n)) → HoldsOnce xs → length xs ≤ n
+pub length-distinct : (n : ℕ) (xs : List ℕ) → ((k : ℕ) → k < length xs → (0 < get_or xs k 0) × (get_or xs k 0 ≤ n)) →
+    HoldsOnce xs → length xs ≤ n
 length-distinct n xs r once = omega (arith, entries_to-all n xs r, entries_to-le n xs once)
 
 entries_to-least : (m : ℕ) (xs : List ℕ) → ((c : ℕ) → 0 < c → c ≤ m → 1 ≤ occurrences c xs) → m ≤ entries_to m xs
@@ -223,5 +250,6 @@ entries_to-least (suc m) xs h =
     omega (arith, entries_to-least m xs (λ c low high. h c low (omega arith)), h (suc m) (omega arith) (omega arith))
 
 -- and at least n where it holds them all
-pub length-whole : (n : ℕ) (xs : List ℕ) → ((k : ℕ) → k < length xs → (0 < get_or xs k 0) × (get_or xs k 0 ≤ n)) → ((c : ℕ) → 0 < c → c ≤ n → 1 ≤ occurrences c xs) → n ≤ length xs
+pub length-whole : (n : ℕ) (xs : List ℕ) → ((k : ℕ) → k < length xs → (0 < get_or xs k 0) × (get_or xs k 0 ≤ n)) →
+    ((c : ℕ) → 0 < c → c ≤ n → 1 ≤ occurrences c xs) → n ≤ length xs
 length-whole n xs r h = omega (arith, entries_to-all n xs r, entries_to-least n xs h)

@@ -13,8 +13,8 @@ use Rattle.tk_tour.specs.declared.undo.UndoStore as undo
 abbrev pub tour_of : {S : Type 0} → {u : undo.Ghosts S} → {s : Ghosts S} → JournalTour S u s → S
 tour_of journal = journal.tour
 
--- the cities of its tour in their order, and what it counts: the swaps of its flips, those of its undone flips, its flips, and the
--- cities that were copied into it
+-- the cities of its tour in their order, and what it counts: the swaps of its flips, those of its undone flips, its
+-- flips, and the cities that were copied into it
 abbrev pub cities_of : {S : Type 0} → {u : undo.Ghosts S} → {s : Ghosts S} → JournalTour S u s → List ℕ
 cities_of {S} {u} {s} journal = s.cities journal.tour
 

@@ -1,5 +1,5 @@
--- The steps of an Or-move, each one 2-opt move. The cycle is cut into a segment from x to e, a path from b to c ahead of
--- it and the rest, from d to a.
+-- The steps of an Or-move, each one 2-opt move. The cycle is cut into a segment from x to e, a path from b to c ahead
+-- of it and the rest, from d to a.
 use Rattle.std.specs.Prelude.{ℕ, List, ◌++◌, reverse}
 use Rattle.tk_tour.specs.Moves.{CutInThree, TwoOptMove}
 

@@ -1,5 +1,6 @@
 -- Places of a list, counted modulo its length, and their reversal.
-use Rattle.std.specs.Prelude.{◌≡◌, ℕ, ◌+◌, ◌-◌, ◌*◌, ◌/◌, ◌<◌, ◌≤◌, List, ◌++◌, length, reverse, take, drop, slice_index}
+use Rattle.std.specs.Prelude.{◌≡◌, ℕ, ◌+◌, ◌-◌, ◌*◌, ◌/◌, ◌<◌, ◌≤◌, List, ◌++◌, length, reverse, take, drop}
+use Rattle.std.specs.Prelude.{slice_index}
 
 -- xs begun at its k-th place, from 0
 abbrev pub begun_at : ℕ → List ℕ → List ℕ

@@ -4,7 +4,8 @@
 --     IsSpot runs v spot      the run of the spot shows its place at v
 --     AreNamed runs home      each run stands where its name says
 --     CanBeFound n bucket runs table      the run of a place is found by the table and by names
-use Rattle.std.specs.Prelude.{◌≡◌, ◌≢◌, ℕ, ◌+◌, ◌-◌, ◌*◌, ◌<◌, ◌≤◌, ◌⊎◌, List, [], ◌∷◌, ◌++◌, true, false, length, reverse, take, drop, not, if◌then◌else◌, slice_index, slice_index_or, sum_by}
+use Rattle.std.specs.Prelude.{◌≡◌, ◌≢◌, ℕ, ◌+◌, ◌-◌, ◌*◌, ◌<◌, ◌≤◌, ◌⊎◌, List, [], ◌∷◌, ◌++◌, true, false, length}
+use Rattle.std.specs.Prelude.{reverse, take, drop, not, if◌then◌else◌, slice_index, slice_index_or, sum_by}
 use Rattle.std.specs.List.{flat_map, All}
 use Rattle.tk_tour.specs.declared.stores.segments.run.Run.{Run}
 use Rattle.tk_tour.specs.declared.stores.segments.spots.Spot.{Spot}

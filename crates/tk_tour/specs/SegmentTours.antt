@@ -14,8 +14,8 @@ use Rattle.tk_tour.specs.declared.stores.segments.tour.SegmentTour.{SegmentTour}
 abbrev pub seen_order : SegmentTour → List ℕ
 seen_order tour = list_of tour.seen
 
--- the swaps that its flips take in an array, those that undoing flips takes, its flips, the cities that were copied into
--- it, and how many places of its own array it has written
+-- the swaps that its flips take in an array, those that undoing flips takes, its flips, the cities that were copied
+-- into it, and how many places of its own array it has written
 abbrev pub seen_swaps : SegmentTour → ℕ
 seen_swaps tour = tour.swaps
 

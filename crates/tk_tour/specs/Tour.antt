@@ -5,7 +5,8 @@
 --     IsPath from cities to      a list that begins with one city and ends with the other
 --     next_city cities c, prev_city cities c      the neighbours of c
 --     tour_length distance cities      the sum over the cyclic steps
-use Rattle.std.specs.Prelude.{◌≡◌, ℕ, ◌+◌, ◌-◌, ◌<◌, ◌≤◌, ◌==◌, ◌⊎◌, List, [], ◌∷◌, ◌++◌, length, reverse, count_by, slice_index, ◌%◌}
+use Rattle.std.specs.Prelude.{◌≡◌, ℕ, ◌+◌, ◌-◌, ◌<◌, ◌≤◌, ◌==◌, ◌⊎◌, List, [], ◌∷◌, ◌++◌, length, reverse, count_by}
+use Rattle.std.specs.Prelude.{slice_index, ◌%◌}
 use Rattle.std.specs.List.{position_or_len}
 use Rattle.tk_problem.specs.declared.limits.TheConstants.{CITY_LIMIT}
 

@@ -1,5 +1,6 @@
 -- At how many places two arrays differ.
-use Rattle.std.proofs.Common.{◌≡◌, ℕ, false, ◌+◌, ◌≤◌, suc, zero, ⊎_elim, List, [], ◌∷◌, length, set, refl, ap, arith, eqb, cond}
+use Rattle.std.proofs.Common.{◌≡◌, ℕ, false, ◌+◌, ◌≤◌, suc, zero, ⊎_elim, List, [], ◌∷◌, length, set, refl, ap, arith}
+use Rattle.std.proofs.Common.{eqb, cond}
 use Rattle.std.proofs.lemmas.Bool.{eq-eqb}
 use Rattle.std.proofs.lemmas.Bool.Decides.{eqb_tells}
 use Rattle.tk_tour.specs.Writes.{changed}

@@ -22,7 +22,8 @@ struct Rows {
 }
 
 impl Metric for Rows {
-    ghost use Rattle.tk_tour_tests.specs.Rows.{row_distance, row_distance-same, row_distance-swap, row_distance-limit, few_cities};
+    ghost use Rattle.tk_tour_tests.specs.Rows.{row_distance, row_distance-same, row_distance-swap, row_distance-limit};
+    ghost use Rattle.tk_tour_tests.specs.Rows.{few_cities};
 
     ghost size_of = { λ t. t.n };
 

@@ -1,5 +1,6 @@
 -- Bytes that are none of the formats' words.
-use Rattle.std.proofs.Common.{◌≡◌, ◌≢◌, ℕ, suc, ◌-◌, ◌<◌, ◌≤◌, Bool, true, false, cond, eqb, leb, ltb, ◌&&◌, List, [], ◌∷◌, length, get_or, take, map, Option, Some, None, ℤ, refl, sym, ap, ◌∙◌, arith}
+use Rattle.std.proofs.Common.{◌≡◌, ◌≢◌, ℕ, suc, ◌-◌, ◌<◌, ◌≤◌, Bool, true, false, cond, eqb, leb, ltb, ◌&&◌, List, []}
+use Rattle.std.proofs.Common.{◌∷◌, length, get_or, take, map, Option, Some, None, ℤ, refl, sym, ap, ◌∙◌, arith}
 use Rattle.std.specs.Prelude.{codes}
 use Rattle.std.specs.Char.{to_ascii_uppercase, is_ascii_digit}
 use Rattle.std.proofs.lemmas.Bool.{eqb-true, ne_eqb, le-leb, leb-true, ltb-true, ltb-false, lt-leb}
@@ -9,7 +10,9 @@ use Rattle.tk_words.proofs.Bools.{and_false, or_true}
 use Rattle.tk_words.specs.Entry.{without_colon}
 
 -- no word is spelled where no text is that begins with a letter and has at most 20 bytes
-pub keyword_of-none : (bs : List ℕ) → ((text : List ℕ) → (begins_word text && leb (length text) 20) ≡ true → spells bs text ≡ false) → keyword_of bs ≡ None
+pub keyword_of-none : (bs : List ℕ) →
+    ((text : List ℕ) → (begins_word text && leb (length text) 20) ≡ true → spells bs text ≡ false) →
+    keyword_of bs ≡ None
 unfolding keyword_of section_word rest_word
 keyword_of-none bs h = rw (
   h (codes "NAME") refl,
@@ -36,7 +39,8 @@ keyword_of-none bs h = rw (
 ) refl
 
 letter_low : (b : ℕ) → 97 ≤ b → b ≤ 122 → is_letter b ≡ true
-letter_low b l h = let p : leb 97 b ≡ true = le-leb _ _ l in let q : leb b 122 ≡ true = le-leb _ _ h in rw (p, q) (or_true (leb 65 b && leb b 90))
+letter_low b l h = let p : leb 97 b ≡ true = le-leb _ _ l in let q : leb b 122 ≡ true = le-leb _ _ h in
+    rw (p, q) (or_true (leb 65 b && leb b 90))
 
 upper_other : (b c : ℕ) → is_letter b ≡ false → is_letter c ≡ true → eqb (to_ascii_uppercase b) c ≡ false
 upper_other b c h k = by_test (ltb b 97) refl (ltb b 123) refl
@@ -44,9 +48,11 @@ upper_other b c h k = by_test (ltb b 97) refl (ltb b 123) refl
     same : eqb b c ≡ false
     same = ne_eqb b c (λ e. let m = sym h ∙ ap is_letter e ∙ k in absurd (let n = m in cc))
 
-    by_test : (low : Bool) → ltb b 97 ≡ low → (high : Bool) → ltb b 123 ≡ high → eqb (cond low b (cond high (b - 32) b)) c ≡ false
+    by_test : (low : Bool) → ltb b 97 ≡ low → (high : Bool) → ltb b 123 ≡ high →
+        eqb (cond low b (cond high (b - 32) b)) c ≡ false
     by_test true p high q = same
-    by_test false p true q = let m = sym h ∙ letter_low b (ltb-false _ _ p) (omega (arith, ltb-true _ _ q)) in absurd (let n = m in cc)
+    by_test false p true q = let m = sym h ∙ letter_low b (ltb-false _ _ p) (omega (arith, ltb-true _ _ q)) in
+        absurd (let n = m in cc)
     by_test false p false q = same
 
 pub keyword_of-other : (b : ℕ) (bs : List ℕ) → is_letter b ≡ false → keyword_of (b ∷ bs) ≡ None
@@ -56,7 +62,8 @@ keyword_of-other b bs h = keyword_of-none (b ∷ bs) (λ text is. by_text text i
     by_text [] is = absurd cc
     by_text (c ∷ cs) is = by_letter (is_letter c) refl is
       where
-        by_letter : (t : Bool) → is_letter c ≡ t → (t && leb (length (c ∷ cs)) 20) ≡ true → spells (b ∷ bs) (c ∷ cs) ≡ false
+        by_letter : (t : Bool) → is_letter c ≡ t → (t && leb (length (c ∷ cs)) 20) ≡ true →
+            spells (b ∷ bs) (c ∷ cs) ≡ false
         by_letter true l is = rw (upper_other b c h l) refl
         by_letter false l is = absurd cc
 
@@ -70,7 +77,8 @@ same_long (b ∷ bs) (c ∷ cs) h = rw (same_long bs cs (omega arith)) (by_test 
     by_test false = refl
 
 pub keyword_of-long : (bs : List ℕ) → 20 < length bs → keyword_of bs ≡ None
-keyword_of-long bs h = keyword_of-none bs (λ text is. same_long bs text (shorter text (and_right (begins_word text) _ is)))
+keyword_of-long bs h =
+    keyword_of-none bs (λ text is. same_long bs text (shorter text (and_right (begins_word text) _ is)))
   where
     and_right : (s t : Bool) → (s && t) ≡ true → t ≡ true
     and_right true t h = h

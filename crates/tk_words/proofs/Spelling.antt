@@ -11,4 +11,6 @@ pub differ_in_length : (xs ys : List ℕ) → length xs ≢ length ys → spells
 differ_in_length [] [] h = absurd (h refl)
 differ_in_length [] (y ∷ ys) h = refl
 differ_in_length (x ∷ xs) [] h = refl
-differ_in_length (x ∷ xs) (y ∷ ys) h = ap (λ b. eqb (to_ascii_uppercase x) y && b) (differ_in_length xs ys (λ e. h (ap suc e))) ∙ and_false (eqb (to_ascii_uppercase x) y)
+differ_in_length (x ∷ xs) (y ∷ ys) h =
+    ap (λ b. eqb (to_ascii_uppercase x) y && b) (differ_in_length xs ys (λ e. h (ap suc e)))
+    ∙ and_false (eqb (to_ascii_uppercase x) y)

@@ -1,5 +1,6 @@
 -- What a token is where a number is wanted.
-use Rattle.std.specs.Prelude.{◌≡◌, ◌≤◌, pos, true, false, List, ℕ, Some, None, Bool, not, ◌&&◌, ◌==◌, nat_le, [], ◌∷◌, Option, ℤ, if◌then◌else◌, is_none}
+use Rattle.std.specs.Prelude.{◌≡◌, ◌≤◌, pos, true, false, List, ℕ, Some, None, Bool, not, ◌&&◌, ◌==◌, nat_le, [], ◌∷◌}
+use Rattle.std.specs.Prelude.{Option, ℤ, if◌then◌else◌, is_none}
 use Rattle.tk_words.specs.declared.numbers.entries.Entry.{Entry}
 use Rattle.tk_words.specs.declared.numbers.entries.Entry.TheVariants as entries
 use Rattle.tk_words.specs.Lex.{integer, Token}

@@ -1,5 +1,6 @@
 -- The -1 that ends a list.
-use Rattle.std.specs.Prelude.{ℕ, Bool, false, not, ◌&&◌, ◌||◌, ◌==◌, List, [], ◌∷◌, ◌++◌, Option, Some, ℤ, negsuc, if◌then◌else◌}
+use Rattle.std.specs.Prelude.{ℕ, Bool, false, not, ◌&&◌, ◌||◌, ◌==◌, List, [], ◌∷◌, ◌++◌, Option, Some, ℤ, negsuc}
+use Rattle.std.specs.Prelude.{if◌then◌else◌}
 use Rattle.tk_words.specs.Lex.{Token, integer}
 
 abbrev pub is_minus_one : Option ℤ → Bool

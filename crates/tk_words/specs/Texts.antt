@@ -4,7 +4,8 @@
 --     IsAnswer decided limit text rest a      what a reader answered
 --     IsCutOff decided limit line text rest      where its source failed
 --     IsFaultWhereTold decided limit broken old new f      what a fault says
-use Rattle.std.specs.Prelude.{◌≡◌, ◌≢◌, ℕ, suc, ◌≤◌, IfSome, Bool, true, false, nat_le, List, [], ◌++◌, length, take, Option, Some, None, Result, Ok, Err, if◌then◌else◌, unwrap_or}
+use Rattle.std.specs.Prelude.{◌≡◌, ◌≢◌, ℕ, suc, ◌≤◌, IfSome, Bool, true, false, nat_le, List, [], ◌++◌, length, take}
+use Rattle.std.specs.Prelude.{Option, Some, None, Result, Ok, Err, if◌then◌else◌, unwrap_or}
 use Rattle.tk_words.specs.declared.fault.TextKind.{TextKind}
 use Rattle.tk_words.specs.declared.fault.TextKind.TheVariants as kinds
 use Rattle.tk_words.specs.declared.fault.TextFault.{TextFault}

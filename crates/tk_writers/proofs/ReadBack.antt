@@ -1,5 +1,6 @@
 -- A matrix text is read as the problem that it was written of.
-use Rattle.std.proofs.Common.{◌≡◌, ℕ, suc, ◌<◌, ◌≤◌, true, false, leb, ltb, List, [], ◌∷◌, ◌++◌, length, map, min, Some, None, Ok, refl, sym, ap, ◌∙◌, arith, append_assoc, inl, inr}
+use Rattle.std.proofs.Common.{◌≡◌, ℕ, suc, ◌<◌, ◌≤◌, true, false, leb, ltb, List, [], ◌∷◌, ◌++◌, length, map, min, Some}
+use Rattle.std.proofs.Common.{None, Ok, refl, sym, ap, ◌∙◌, arith, append_assoc, inl, inr}
 use Rattle.std.specs.Prelude.{codes, decimal, flat_map, unwrap_or, option_map}
 use Rattle.std.specs.List.{AllByRecursion}
 use Rattle.std.proofs.lemmas.Bool.{le-leb, le-ltb, cases_eq}
@@ -11,8 +12,10 @@ use Rattle.tk_problem.specs.declared.weights.Format.TheVariants as formats
 use Rattle.tk_problem_text.specs.Sections.FixedSections.{tokens_stop, fixed_extent}
 use Rattle.tk_words.specs.Lex.{Line, Token, is_blank, behind, lines, tokens, tokens_of}
 use Rattle.tk_writers.specs.MatrixText.{format_word, matrix_text, number_line}
-use Rattle.tk_lines.specs.Pieces.{Piece, Section, Clean, end_piece, end_token, last_line, pieces_at, section_at, stop, or_else, first_at}
-use Rattle.tk_problem_text.specs.Problem.{ProblemIs, Lower, problem_decided, problem_format, problem_value, wanted, size_of, format_in, listed_format, token_tests, word_tests}
+use Rattle.tk_lines.specs.Pieces.{Piece, Section, Clean, end_piece, end_token, last_line, pieces_at, section_at, stop}
+use Rattle.tk_lines.specs.Pieces.{or_else, first_at}
+use Rattle.tk_problem_text.specs.Problem.{ProblemIs, Lower, problem_decided, problem_format, problem_value, wanted}
+use Rattle.tk_problem_text.specs.Problem.{size_of, format_in, listed_format, token_tests, word_tests}
 use Rattle.tk_problem_text.specs.Sections.Rows.{number_in}
 use Rattle.tk_problem_text.specs.Names.{IsName}
 use Rattle.tk_writers.specs.ReadBack.{IsTable, ReadsBack, lower_triangle}
@@ -22,10 +25,17 @@ use Rattle.tk_words.specs.Words.{keyword_of, section_word, rest_word}
 use Rattle.tk_writers.specs.Written.{line}
 use Rattle.tk_lines.proofs.Sections.SectionEnds.{take_whole}
 use Rattle.tk_writers.proofs.Lengths.ShortMatrix.{length_short_matrix}
-use Rattle.tk_writers.proofs.Saying.{one_line, name_line, whole_lines, lines-listed, lines-none, clean, says, says-header, says-section, says-rows, says-eof, decided-says, read_within}
+use Rattle.tk_writers.proofs.Saying.{one_line, name_line, whole_lines, lines-listed, lines-none, clean, says}
+use Rattle.tk_writers.proofs.Saying.{says-header, says-section, says-rows, says-eof, decided-says, read_within}
 use Rattle.tk_lines.proofs.Sections.MiddleOfSection.{token}
-use Rattle.tk_writers.proofs.Written.WrittenHeaders.{after_1, after_2, after_3, after_4, after_5, after_6, name_value, size_value, format_value, name_piece, type_piece, size_piece, weight_type_piece, format_piece, name_passes, type_passes, size_passes, size_read, weight_type_passes, format_passes, format_read, name_read}
-use Rattle.tk_writers.proofs.Written.WrittenLines.{whole_line, lines-written, lines-rows, row_lines, row_tokens, next_line, tokens-rows, last_of_rows, rows_written, numbers_written, AreWritten, ShortRows}
+use Rattle.tk_writers.proofs.Written.WrittenHeaders.{after_1, after_2, after_3, after_4, after_5, after_6, name_value}
+use Rattle.tk_writers.proofs.Written.WrittenHeaders.{size_value, format_value, name_piece, type_piece, size_piece}
+use Rattle.tk_writers.proofs.Written.WrittenHeaders.{weight_type_piece, format_piece, name_passes, type_passes}
+use Rattle.tk_writers.proofs.Written.WrittenHeaders.{size_passes, size_read, weight_type_passes, format_passes}
+use Rattle.tk_writers.proofs.Written.WrittenHeaders.{format_read, name_read}
+use Rattle.tk_writers.proofs.Written.WrittenLines.{whole_line, lines-written, lines-rows, row_lines, row_tokens}
+use Rattle.tk_writers.proofs.Written.WrittenLines.{next_line, tokens-rows, last_of_rows, rows_written, numbers_written}
+use Rattle.tk_writers.proofs.Written.WrittenLines.{AreWritten, ShortRows}
 use Rattle.tk_writers.proofs.Written.WrittenNumbers.{IsShort, one_line_append, decimal_line}
 use Rattle.tk_lines.proofs.Lines.{OnOneLine}
 use Rattle.tk_writers.proofs.Written.WrittenPlaces.{at_place, rows_of, matrix_lines, rows-order, rows-short}
@@ -54,25 +64,45 @@ section_lines rows = row_lines 7 rows ++ ends (next_line 7 rows)
 
 abbrev head_lines : List ℕ → ℕ → Format → List (List ℕ)
 head_lines name n f =
-    (codes "NAME : " ++ name) ∷ codes "TYPE : TSP" ∷ (codes "DIMENSION : " ++ decimal n) ∷ codes "EDGE_WEIGHT_TYPE : EXPLICIT"
+    (codes "NAME : " ++ name) ∷ codes "TYPE : TSP" ∷ (codes "DIMENSION : " ++ decimal n)
+    ∷ codes "EDGE_WEIGHT_TYPE : EXPLICIT"
     ∷ (codes "EDGE_WEIGHT_FORMAT : " ++ format_word f) ∷ codes "EDGE_WEIGHT_SECTION" ∷ []
 
-module _ (name : List ℕ) (n : ℕ) (f : Format) (is_name : IsName name) (high : n ≤ TABLE_LIMIT) (rows : List (List ℕ)) (small : ShortRows rows) where
+module _ (name : List ℕ) (n : ℕ) (f : Format) (is_name : IsName name) (high : n ≤ TABLE_LIMIT) (rows : List (List ℕ))
+    (small : ShortRows rows) where
   head_whole : AllByRecursion OnOneLine (head_lines name n f)
   head_whole =
-      let name_whole = one_line_append (codes "NAME : ") name (one_line (codes "NAME : ") refl) (name_line name is_name.one_line) in
-      let size_whole = one_line_append (codes "DIMENSION : ") (decimal n) (one_line (codes "DIMENSION : ") refl) (decimal_line n (omega arith)) in
-      let format_whole = one_line_append (codes "EDGE_WEIGHT_FORMAT : ") (format_word f) (one_line (codes "EDGE_WEIGHT_FORMAT : ") refl) (word_line f) in
-      (name_whole, (one_line (codes "TYPE : TSP") refl, (size_whole, (one_line (codes "EDGE_WEIGHT_TYPE : EXPLICIT") refl, (format_whole, (one_line (codes "EDGE_WEIGHT_SECTION") refl, tt))))))
+      let name_whole =
+      one_line_append (codes "NAME : ") name (one_line (codes "NAME : ") refl) (name_line name is_name.one_line) in
+      let size_whole = one_line_append (codes "DIMENSION : ") (decimal n) (one_line (codes "DIMENSION : ") refl)
+      (decimal_line n (omega arith)) in
+      let format_whole =
+      one_line_append (codes "EDGE_WEIGHT_FORMAT : ") (format_word f)
+      (one_line (codes "EDGE_WEIGHT_FORMAT : ") refl) (word_line f) in (
+        name_whole,
+        (
+          one_line (codes "TYPE : TSP") refl,
+          (
+            size_whole,
+            (
+              one_line (codes "EDGE_WEIGHT_TYPE : EXPLICIT") refl,
+              (format_whole, (one_line (codes "EDGE_WEIGHT_SECTION") refl, tt)),
+            ),
+          ),
+        ),
+      )
 
-  lines_of_text : lines true 1 (flat_map line (head_lines name n f) ++ (flat_map number_line rows ++ line (codes "EOF"))) ≡ whole_lines 1 (head_lines name n f) ++ section_lines rows
+  lines_of_text : lines true 1
+      (flat_map line (head_lines name n f) ++ (flat_map number_line rows ++ line (codes "EOF"))) ≡ whole_lines 1
+      (head_lines name n f) ++ section_lines rows
   lines_of_text =
       lines-listed 1 (head_lines name n f) (flat_map number_line rows ++ line (codes "EOF")) head_whole
       ∙ ap (λ (ls : List Line). whole_lines 1 (head_lines name n f) ++ ls) (
       lines-rows 7 rows (line (codes "EOF")) small
       ∙ ap (λ (ls : List Line). row_lines 7 rows ++ ls) (
       lines-written (next_line 7 rows) (codes "EOF") [] (one_line (codes "EOF") refl)
-      ∙ ap (λ (ls : List Line). whole_line (next_line 7 rows) (codes "EOF") ∷ ls) (lines-none (suc (next_line 7 rows)))))
+      ∙ ap (λ (ls : List Line). whole_line (next_line 7 rows) (codes "EOF") ∷ ls)
+      (lines-none (suc (next_line 7 rows)))))
 
 -- ---- the section
 
@@ -81,8 +111,10 @@ unfolding tokens_of
 tokens-ends e = refl
 
 section_piece : (before : List Piece) (ls : List Line)
-    → pieces_at problem_format.extent before (whole_line 6 (codes "EDGE_WEIGHT_SECTION")) ls (behind is_blank (codes "EDGE_WEIGHT_SECTION"))
-    ≡ section_at problem_format.extent before words.EdgeWeightSection 6 (tokens ls) (end_token (whole_line 6 (codes "EDGE_WEIGHT_SECTION")) ls)
+    → pieces_at problem_format.extent before (whole_line 6 (codes "EDGE_WEIGHT_SECTION")) ls
+    (behind is_blank (codes "EDGE_WEIGHT_SECTION"))
+    ≡ section_at problem_format.extent before words.EdgeWeightSection 6 (tokens ls)
+    (end_token (whole_line 6 (codes "EDGE_WEIGHT_SECTION")) ls)
 unfolding keyword_of section_word rest_word tokens_of
 section_piece before ls = refl
 
@@ -97,7 +129,8 @@ module _ (name : List ℕ) (n : ℕ) (f : Format) (low : 2 ≤ n) (high : n ≤ 
   format_is = ap (λ o. unwrap_or (listed_format o) formats.FullMatrix) (format_read f)
 
   wanted_is : wanted (after_5 name n f) words.EdgeWeightSection ≡ weight_count n f
-  wanted_is = ap (λ o. unwrap_or (option_map (weight_count (size_of (after_5 name n f))) (listed_format o)) 0) (format_read f) ∙ ap (λ m. weight_count m f) size_is
+  wanted_is = ap (λ o. unwrap_or (option_map (weight_count (size_of (after_5 name n f))) (listed_format o)) 0)
+      (format_read f) ∙ ap (λ m. weight_count m f) size_is
 
   word_passes : first_at 6 (word_tests (after_5 name n f) words.EdgeWeightSection) ≡ None
   word_passes =
@@ -106,35 +139,43 @@ module _ (name : List ℕ) (n : ℕ) (f : Format) (low : 2 ≤ n) (high : n ≤ 
       rw (format_read f, size, few) refl
 
   section_made : (toks : List Token) (eof end : Token) → length toks ≡ weight_count n f → last_line 6 toks < eof.line
-      → section_at problem_format.extent (after_5 name n f) words.EdgeWeightSection 6 (toks ++ eof ∷ []) end ≡ Section words.EdgeWeightSection 6 toks Clean ∷ []
+      → section_at problem_format.extent (after_5 name n f) words.EdgeWeightSection 6 (toks ++ eof ∷ []) end ≡ Section
+      words.EdgeWeightSection 6 toks Clean ∷ []
   section_made toks eof end count lt =
       let most : length toks ≤ length (toks ++ eof ∷ []) = omega (arith, length-append toks (eof ∷ [])) in
       let some : min (length toks) (length (toks ++ eof ∷ [])) ≡ length toks = omega (arith, most) in
       let closed : leb (length toks) (length (toks ++ eof ∷ [])) ≡ true = le-leb _ _ most in
-      ap (λ w. section_at (λ before word ts. fixed_extent w ts) (after_5 name n f) words.EdgeWeightSection 6 (toks ++ eof ∷ []) end) (wanted_is ∙ sym count)
+      ap (λ w. section_at (λ before word ts. fixed_extent w ts) (after_5 name n f) words.EdgeWeightSection 6
+      (toks ++ eof ∷ []) end) (wanted_is ∙ sym count)
       ∙ rw (some, closed, take_whole toks (eof ∷ []), clean (last_line 6 toks) toks eof end lt) refl
 
   at_end_passes : (toks : List Token) → problem_format.at_end (after_6 name n f toks) ≡ None
   at_end_passes toks = refl
 
-  module _ (table : ℕ → ℕ → ℕ) (is_table : IsTable n table) (toks : List Token) (written : AreWritten toks (map (at_place table) (order f n))) where
+  module _ (table : ℕ → ℕ → ℕ) (is_table : IsTable n table) (toks : List Token)
+      (written : AreWritten toks (map (at_place table) (order f n))) where
     section_passes : stop problem_format (after_5 name n f) (Section words.EdgeWeightSection 6 toks Clean) ≡ None
     section_passes =
-        ap (λ s. or_else s (or_else (tokens_stop (token_tests (after_5 name n f) words.EdgeWeightSection) [] toks) None)) word_passes
+        ap (λ s. or_else s
+        (or_else (tokens_stop (token_tests (after_5 name n f) words.EdgeWeightSection) [] toks) None)) word_passes
         ∙ ap (λ m. or_else (tokens_stop (weight_tests m (format_in (after_5 name n f))) [] toks) None) size_is
         ∙ ap (λ g. or_else (tokens_stop (weight_tests n g) [] toks) None) format_is
         ∙ ap (λ s. or_else s None) (weights_accepted n table is_table f toks written)
 
     value_is : IsName name → problem_value (after_6 name n f toks) ≡ answer name n (lower_triangle n table)
     value_is is_name =
-        ap (λ given. answer given (size_of (after_6 name n f toks)) (lower_weights (size_of (after_6 name n f toks)) (format_in (after_6 name n f toks)) toks)) (name_read name is_name)
+        ap (λ given. answer given (size_of (after_6 name n f toks))
+        (lower_weights (size_of (after_6 name n f toks)) (format_in (after_6 name n f toks)) toks))
+        (name_read name is_name)
         ∙ ap (λ m. answer name m (lower_weights m (format_in (after_6 name n f toks)) toks)) size_is
         ∙ ap (λ g. answer name n (lower_weights n g toks)) format_is
-        ∙ ap (answer name n) (lower_read n table is_table f toks (numbers_written toks (map (at_place table) (order f n)) written))
+        ∙ ap (answer name n)
+        (lower_read n table is_table f toks (numbers_written toks (map (at_place table) (order f n)) written))
 
 -- ---- the text
 
-module _ (name : List ℕ) (n : ℕ) (f : Format) (is_name : IsName name) (low : 2 ≤ n) (high : n ≤ TABLE_LIMIT) (ls : List Line) (end : List Piece) where
+module _ (name : List ℕ) (n : ℕ) (f : Format) (is_name : IsName name) (low : 2 ≤ n) (high : n ≤ TABLE_LIMIT)
+    (ls : List Line) (end : List Piece) where
   abbrev line_6 : List Line
   line_6 = whole_line 6 (codes "EDGE_WEIGHT_SECTION") ∷ ls
 
@@ -150,15 +191,24 @@ module _ (name : List ℕ) (n : ℕ) (f : Format) (is_name : IsName name) (low :
   abbrev line_2 : List Line
   line_2 = whole_line 2 (codes "TYPE : TSP") ∷ line_3
 
-  says-head : says problem_format [] 0 (whole_line 1 (codes "NAME : " ++ name) ∷ line_2) end ≡ says problem_format (after_5 name n f) 0 line_6 end
+  says-head : says problem_format [] 0 (whole_line 1 (codes "NAME : " ++ name) ∷ line_2) end ≡ says problem_format
+      (after_5 name n f) 0 line_6 end
   says-head =
-      says-header problem_format [] 0 (codes "NAME : " ++ name) line_2 end words.Name (name_value name) (name_piece [] name line_2) (name_passes name is_name)
-      ∙ says-header problem_format (after_1 name) 1 (codes "TYPE : TSP") line_3 end words.Type (codes " : TSP") (type_piece (after_1 name) line_3) (type_passes name)
-      ∙ says-header problem_format (after_2 name) 2 (codes "DIMENSION : " ++ decimal n) line_4 end words.Dimension (size_value n) (size_piece (after_2 name) n line_4) (size_passes n low high name)
-      ∙ says-header problem_format (after_3 name n) 3 (codes "EDGE_WEIGHT_TYPE : EXPLICIT") line_5 end words.EdgeWeightType (codes " : EXPLICIT") (weight_type_piece (after_3 name n) line_5) (weight_type_passes n low high name)
-      ∙ says-header problem_format (after_4 name n) 4 (codes "EDGE_WEIGHT_FORMAT : " ++ format_word f) line_6 end words.EdgeWeightFormat (format_value f) (format_piece (after_4 name n) f line_6) (format_passes n low high name f)
+      says-header problem_format [] 0 (codes "NAME : " ++ name) line_2 end words.Name (name_value name)
+      (name_piece [] name line_2) (name_passes name is_name)
+      ∙ says-header problem_format (after_1 name) 1 (codes "TYPE : TSP") line_3 end words.Type (codes " : TSP")
+      (type_piece (after_1 name) line_3) (type_passes name)
+      ∙ says-header problem_format (after_2 name) 2 (codes "DIMENSION : " ++ decimal n) line_4 end words.Dimension
+      (size_value n) (size_piece (after_2 name) n line_4) (size_passes n low high name)
+      ∙ says-header problem_format (after_3 name n) 3 (codes "EDGE_WEIGHT_TYPE : EXPLICIT") line_5 end
+      words.EdgeWeightType (codes " : EXPLICIT") (weight_type_piece (after_3 name n) line_5)
+      (weight_type_passes n low high name)
+      ∙ says-header problem_format (after_4 name n) 4 (codes "EDGE_WEIGHT_FORMAT : " ++ format_word f) line_6 end
+      words.EdgeWeightFormat (format_value f) (format_piece (after_4 name n) f line_6)
+      (format_passes n low high name f)
 
-module _ (name : List ℕ) (n : ℕ) (table : ℕ → ℕ → ℕ) (f : Format) (is_name : IsName name) (is_table : IsTable n table) (low : 2 ≤ n) (high : n ≤ TABLE_LIMIT) where
+module _ (name : List ℕ) (n : ℕ) (table : ℕ → ℕ → ℕ) (f : Format) (is_name : IsName name) (is_table : IsTable n table)
+    (low : 2 ≤ n) (high : n ≤ TABLE_LIMIT) where
   abbrev rows : List (List ℕ)
   rows = rows_of n table f
 
@@ -181,7 +231,8 @@ module _ (name : List ℕ) (n : ℕ) (table : ℕ → ℕ → ℕ) (f : Format) 
   written = rw (← rows-order n table f) (rows_written 7 rows small)
 
   count : length toks ≡ weight_count n f
-  count = sym (length-map toks number_in) ∙ ap length (numbers_written toks (map (at_place table) (order f n)) written) ∙ length-map (order f n) (at_place table)
+  count = sym (length-map toks number_in) ∙ ap length (numbers_written toks (map (at_place table) (order f n)) written)
+      ∙ length-map (order f n) (at_place table)
 
   tokens_are : tokens (section_lines rows) ≡ toks ++ token (codes "EOF") last ∷ []
   tokens_are = tokens-rows 7 rows (ends last) small ∙ ap (λ (ts : List Token). toks ++ ts) (tokens-ends last)
@@ -189,24 +240,33 @@ module _ (name : List ℕ) (n : ℕ) (table : ℕ → ℕ → ℕ) (f : Format) 
   before_last : suc (last_line 6 toks) ≡ last
   before_last = last_of_rows 6 rows
 
-  piece : pieces_at problem_format.extent (after_5 name n f) (whole_line 6 (codes "EDGE_WEIGHT_SECTION")) (section_lines rows) (behind is_blank (codes "EDGE_WEIGHT_SECTION")) ≡ Section words.EdgeWeightSection 6 toks Clean ∷ []
+  piece : pieces_at problem_format.extent (after_5 name n f) (whole_line 6 (codes "EDGE_WEIGHT_SECTION"))
+      (section_lines rows) (behind is_blank (codes "EDGE_WEIGHT_SECTION")) ≡ Section words.EdgeWeightSection 6
+      toks Clean ∷ []
   piece =
       let end : Token = end_token (whole_line 6 (codes "EDGE_WEIGHT_SECTION")) (section_lines rows) in
       section_piece (after_5 name n f) (section_lines rows)
       ∙ ap (λ ts. section_at problem_format.extent (after_5 name n f) words.EdgeWeightSection 6 ts end) tokens_are
       ∙ section_made name n f low high toks (token (codes "EOF") last) end count (omega (arith, before_last))
 
-  says-body : (end : List Piece) → says problem_format (after_5 name n f) 0 (whole_line 6 (codes "EDGE_WEIGHT_SECTION") ∷ section_lines rows) end ≡ Some (Ok (answer name n (lower_triangle n table)))
+  says-body : (end : List Piece) →
+      says problem_format (after_5 name n f) 0 (whole_line 6 (codes "EDGE_WEIGHT_SECTION") ∷ section_lines rows)
+      end ≡ Some (Ok (answer name n (lower_triangle n table)))
   says-body end =
-      says-section problem_format (after_5 name n f) 5 (codes "EDGE_WEIGHT_SECTION") (section_lines rows) end words.EdgeWeightSection toks piece (section_passes name n f low high table is_table toks written)
-      ∙ says-rows problem_format (after_6 name n f toks) (last_line 6 toks) 7 rows (ends last) end (omega (arith, before_last))
-      ∙ says-eof problem_format (after_6 name n f toks) (last_line 6 toks) last (whole_line (suc last) [] ∷ []) end (omega (arith, before_last)) (at_end_passes name n f low high toks)
+      says-section problem_format (after_5 name n f) 5 (codes "EDGE_WEIGHT_SECTION") (section_lines rows) end
+      words.EdgeWeightSection toks piece (section_passes name n f low high table is_table toks written)
+      ∙ says-rows problem_format (after_6 name n f toks) (last_line 6 toks) 7 rows (ends last) end
+      (omega (arith, before_last))
+      ∙ says-eof problem_format (after_6 name n f toks) (last_line 6 toks) last (whole_line (suc last) [] ∷ []) end
+      (omega (arith, before_last)) (at_end_passes name n f low high toks)
       ∙ ap (λ v. Some (Ok v)) (value_is name n f low high table is_table toks written is_name)
 
   text_lines : lines true 1 (matrix_text name n table f) ≡ whole_lines 1 (head_lines name n f) ++ section_lines rows
   text_lines =
-      ap (λ body. lines true 1 ((flat_map line (head_lines name n f) ++ body) ++ line (codes "EOF"))) (matrix_lines n table f)
-      ∙ ap (lines true 1) (append_assoc (flat_map line (head_lines name n f)) (flat_map number_line rows) (line (codes "EOF")))
+      ap (λ body. lines true 1 ((flat_map line (head_lines name n f) ++ body) ++ line (codes "EOF")))
+      (matrix_lines n table f)
+      ∙ ap (lines true 1)
+      (append_assoc (flat_map line (head_lines name n f)) (flat_map number_line rows) (line (codes "EOF")))
       ∙ lines_of_text name n f is_name high rows small
 
   said : problem_decided true (matrix_text name n table f) ≡ Some (Ok (answer name n (lower_triangle n table)))
@@ -219,4 +279,5 @@ module _ (name : List ℕ) (n : ℕ) (table : ℕ → ℕ → ℕ) (f : Format) 
 
   pub reads_back : ReadsBack name n table f
   reads_back =
-      read_within problem_decided (matrix_text name n table f) (answer name n (lower_triangle n table)) (length_short_matrix name n table f is_name.short high small) said
+      read_within problem_decided (matrix_text name n table f) (answer name n (lower_triangle n table))
+      (length_short_matrix name n table f is_name.short high small) said

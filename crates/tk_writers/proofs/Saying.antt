@@ -1,5 +1,6 @@
 -- What the lines of a text that is written say, one after the other.
-use Rattle.std.proofs.Common.{◌≡◌, ◌≢◌, ℕ, suc, ◌<◌, ◌≤◌, Bool, true, false, eqb, leb, ◌||◌, List, [], ◌∷◌, ◌++◌, length, get_or, All, Option, Some, None, Ok, Result, refl, ap, ◌∙◌, arith, append_assoc}
+use Rattle.std.proofs.Common.{◌≡◌, ◌≢◌, ℕ, suc, ◌<◌, ◌≤◌, Bool, true, false, eqb, leb, ◌||◌, List, [], ◌∷◌, ◌++◌}
+use Rattle.std.proofs.Common.{length, get_or, All, Option, Some, None, Ok, Result, refl, ap, ◌∙◌, arith, append_assoc}
 use Rattle.std.specs.Prelude.{codes, flat_map}
 use Rattle.std.specs.List.{AllByRecursion, list_any}
 use Rattle.std.proofs.lemmas.Bool.{lt-leb, ne_eqb}
@@ -9,7 +10,8 @@ use Rattle.tk_words.specs.declared.fault.TextFault.{TextFault}
 use Rattle.tk_words.specs.declared.keyword.Keyword.{Keyword}
 use Rattle.tk_words.specs.Drive.{Decided}
 use Rattle.tk_words.specs.Lex.{LF, Line, Token, is_blank, behind, lines}
-use Rattle.tk_lines.specs.Pieces.{Piece, Header, Section, Clean, Format, cut, decided_by, end_piece, judge, last_line, pieces_at, stop, after_tokens}
+use Rattle.tk_lines.specs.Pieces.{Piece, Header, Section, Clean, Format, cut, decided_by, end_piece, judge, last_line}
+use Rattle.tk_lines.specs.Pieces.{pieces_at, stop, after_tokens}
 use Rattle.tk_words.specs.Words.{keyword_of, section_word, rest_word}
 use Rattle.tk_writers.specs.Written.{line}
 use Rattle.tk_writers.specs.ReadBack.{IsReadBackAs}
@@ -24,7 +26,8 @@ pub one_line : (bs : List ℕ) → list_any (λ b. eqb b LF) bs ≡ false → On
 one_line [] h = tt
 one_line (b ∷ bs) h = by_test (eqb b LF) refl (one_line bs) h
   where
-    by_test : (t : Bool) → eqb b LF ≡ t → (list_any (λ c. eqb c LF) bs ≡ false → OnOneLine bs) → (t || list_any (λ c. eqb c LF) bs) ≡ false → OnOneLine (b ∷ bs)
+    by_test : (t : Bool) → eqb b LF ≡ t → (list_any (λ c. eqb c LF) bs ≡ false → OnOneLine bs) →
+        (t || list_any (λ c. eqb c LF) bs) ≡ false → OnOneLine (b ∷ bs)
     by_test true e ih k = absurd cc
     by_test false e ih k = (e, ih k)
 
@@ -41,10 +44,12 @@ abbrev pub behind_lines : ℕ → List (List ℕ) → ℕ
 behind_lines n [] = n
 behind_lines n (bs ∷ bss) = behind_lines (suc n) bss
 
-pub lines-listed : (n : ℕ) (bss : List (List ℕ)) (rest : List ℕ) → AllByRecursion OnOneLine bss → lines true n (flat_map line bss ++ rest) ≡ whole_lines n bss ++ lines true (behind_lines n bss) rest
+pub lines-listed : (n : ℕ) (bss : List (List ℕ)) (rest : List ℕ) → AllByRecursion OnOneLine bss →
+    lines true n (flat_map line bss ++ rest) ≡ whole_lines n bss ++ lines true (behind_lines n bss) rest
 lines-listed n [] rest h = refl
 lines-listed n (bs ∷ bss) rest h =
-    ap (lines true n) (append_assoc (line bs) (flat_map line bss) rest) ∙ lines-written n bs (flat_map line bss ++ rest) h.0
+    ap (lines true n) (append_assoc (line bs) (flat_map line bss) rest)
+    ∙ lines-written n bs (flat_map line bss ++ rest) h.0
     ∙ ap (λ (ls : List Line). whole_line n bs ∷ ls) (lines-listed (suc n) bss rest h.1)
 
 pub lines-none : (n : ℕ) → lines true n [] ≡ whole_line n [] ∷ []
@@ -53,8 +58,10 @@ lines-none n = refl
 
 -- ---- what comes after a section
 
-pub clean : (last : ℕ) (toks : List Token) (eof end : Token) → last < eof.line → after_tokens last true (get_or (toks ++ eof ∷ []) (length toks) end) ≡ Clean
-clean last [] eof end lt = let later : eqb eof.line last ≡ false = ne_eqb _ _ (λ e. omega (arith, e, lt)) in rw later refl
+pub clean : (last : ℕ) (toks : List Token) (eof end : Token) → last < eof.line →
+    after_tokens last true (get_or (toks ++ eof ∷ []) (length toks) end) ≡ Clean
+clean last [] eof end lt = let later : eqb eof.line last ≡ false = ne_eqb _ _ (λ e. omega (arith, e, lt)) in
+    rw later refl
 clean last (t ∷ toks) eof end lt = clean last toks eof end lt
 
 -- ---- what lines say after pieces
@@ -67,34 +74,44 @@ module _ {V : Type 0} (f : Format V) where
   unfolding decided_by says
   decided-says bs = refl
 
-  pub says-header : (before : List Piece) (n : ℕ) (bs : List ℕ) (ls : List Line) (end : List Piece) (word : Keyword) (value : List ℕ)
-      → pieces_at f.extent before (whole_line (suc n) bs) ls (behind is_blank bs) ≡ Header word (token value (suc n)) ∷ []
+  pub says-header : (before : List Piece) (n : ℕ) (bs : List ℕ) (ls : List Line) (end : List Piece) (word : Keyword)
+      (value : List ℕ)
+      → pieces_at f.extent before (whole_line (suc n) bs) ls (behind is_blank bs) ≡ Header word
+      (token value (suc n)) ∷ []
       → stop f before (Header word (token value (suc n))) ≡ None
-      → says f before 0 (whole_line (suc n) bs ∷ ls) end ≡ says f (before ++ Header word (token value (suc n)) ∷ []) 0 ls end
+      → says f before 0 (whole_line (suc n) bs ∷ ls) end ≡ says f (before ++ Header word (token value (suc n))
+      ∷ []) 0 ls end
   unfolding says cut judge
   says-header before n bs ls end word value piece none =
       let later : leb (suc n) 0 ≡ false = lt-leb _ _ (omega arith) in
       rw (later, piece, none) refl
 
-  pub says-section : (before : List Piece) (n : ℕ) (bs : List ℕ) (ls : List Line) (end : List Piece) (word : Keyword) (toks : List Token)
+  pub says-section : (before : List Piece) (n : ℕ) (bs : List ℕ) (ls : List Line) (end : List Piece) (word : Keyword)
+      (toks : List Token)
       → pieces_at f.extent before (whole_line (suc n) bs) ls (behind is_blank bs) ≡ Section word (suc n) toks Clean ∷ []
       → stop f before (Section word (suc n) toks Clean) ≡ None
-      → says f before 0 (whole_line (suc n) bs ∷ ls) end ≡ says f (before ++ Section word (suc n) toks Clean ∷ []) (last_line (suc n) toks) ls end
+      → says f before 0 (whole_line (suc n) bs ∷ ls) end ≡ says f (before ++ Section word (suc n) toks Clean ∷ [])
+      (last_line (suc n) toks) ls end
   unfolding says cut judge
   says-section before n bs ls end word toks piece none =
       let later : leb (suc n) 0 ≡ false = lt-leb _ _ (omega arith) in
       rw (later, piece, none) refl
 
   -- lines that a section covers
-  pub says-rows : (before : List Piece) (upto n : ℕ) (rows : List (List ℕ)) (ls : List Line) (end : List Piece) → next_line n rows ≤ suc upto → says f before upto (row_lines n rows ++ ls) end ≡ says f before upto ls end
+  pub says-rows : (before : List Piece) (upto n : ℕ) (rows : List (List ℕ)) (ls : List Line) (end : List Piece) →
+      next_line n rows ≤ suc upto → says f before upto (row_lines n rows ++ ls) end ≡ says f before upto ls end
   unfolding says
-  says-rows before upto n rows ls end covered = ap (λ (ps : List Piece). judge f before (ps ++ end)) (cut-rows f.extent before upto n rows ls covered)
+  says-rows before upto n rows ls end covered =
+      ap (λ (ps : List Piece). judge f before (ps ++ end)) (cut-rows f.extent before upto n rows ls covered)
 
-  pub says-covered : (before : List Piece) (upto : ℕ) (l : Line) (ls : List Line) (end : List Piece) → l.number ≤ upto → says f before upto (l ∷ ls) end ≡ says f before upto ls end
+  pub says-covered : (before : List Piece) (upto : ℕ) (l : Line) (ls : List Line) (end : List Piece) → l.number ≤ upto →
+      says f before upto (l ∷ ls) end ≡ says f before upto ls end
   unfolding says
-  says-covered before upto l ls end le = ap (λ (ps : List Piece). judge f before (ps ++ end)) (cut-covered f.extent before upto l ls le)
+  says-covered before upto l ls end le =
+      ap (λ (ps : List Piece). judge f before (ps ++ end)) (cut-covered f.extent before upto l ls le)
 
-  pub says-eof : (before : List Piece) (upto e : ℕ) (ls : List Line) (end : List Piece) → upto < e → f.at_end before ≡ None → says f before upto (whole_line e (codes "EOF") ∷ ls) end ≡ Some (Ok (f.value before))
+  pub says-eof : (before : List Piece) (upto e : ℕ) (ls : List Line) (end : List Piece) → upto < e →
+      f.at_end before ≡ None → says f before upto (whole_line e (codes "EOF") ∷ ls) end ≡ Some (Ok (f.value before))
   unfolding says cut judge keyword_of section_word rest_word
   says-eof before upto e ls end lt none =
       let later : leb e upto ≡ false = lt-leb _ _ lt in
@@ -102,5 +119,6 @@ module _ {V : Type 0} (f : Format V) where
 
 -- ---- a text within its limit
 
-pub read_within : {V : Type 0} (d : Decided V) (text : List ℕ) (v : V) → length text ≤ TEXT_LIMIT → d true text ≡ Some (Ok v) → IsReadBackAs d text v
+pub read_within : {V : Type 0} (d : Decided V) (text : List ℕ) (v : V) → length text ≤ TEXT_LIMIT →
+    d true text ≡ Some (Ok v) → IsReadBackAs d text v
 read_within d text v fits said = record { fits = fits; answer = answer_ended d TEXT_LIMIT text (Ok v) fits said }

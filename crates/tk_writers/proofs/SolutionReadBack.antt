@@ -1,5 +1,6 @@
 -- A solution text that is written is read as the routes and the cost that it was written of.
-use Rattle.std.proofs.Common.{◌≡◌, ℕ, suc, ◌+◌, ◌<◌, ◌≤◌, Bool, true, false, eqb, leb, ltb, List, [], ◌∷◌, ◌++◌, length, map, Some, None, Ok, pos, refl, sym, ap, ◌∙◌, append_assoc, arith}
+use Rattle.std.proofs.Common.{◌≡◌, ℕ, suc, ◌+◌, ◌<◌, ◌≤◌, Bool, true, false, eqb, leb, ltb, List, [], ◌∷◌, ◌++◌, length}
+use Rattle.std.proofs.Common.{map, Some, None, Ok, pos, refl, sym, ap, ◌∙◌, append_assoc, arith}
 use Rattle.std.specs.Prelude.{codes, decimal}
 use Rattle.std.specs.Char.{is_ascii_digit}
 use Rattle.std.specs.List.{AllByRecursion, concat}
@@ -10,7 +11,9 @@ use Rattle.tk_words.specs.Lex.{Line, Token, lines, tokens_of, after_word, is_emp
 use Rattle.tk_words.specs.Entry.{numbers_of}
 use Rattle.tk_writers.specs.Written.{line, spaced_numbers}
 use Rattle.tk_writers.specs.SolutionWritten.{route_lines, solution_text}
-use Rattle.tk_lists.specs.Solution.{Behind, route_line, number_head, SolutionLine, Route, Cost, Empty, routes_of, count_of, has_cost, cost_of, customers_stop, line_of, line_stop, judge_lines, solution_decided}
+use Rattle.tk_lists.specs.Solution.{Behind, route_line, number_head, SolutionLine, Route, Cost, Empty, routes_of}
+use Rattle.tk_lists.specs.Solution.{count_of, has_cost, cost_of, customers_stop, line_of, line_stop, judge_lines}
+use Rattle.tk_lists.specs.Solution.{solution_decided}
 use Rattle.tk_writers.specs.ReadBack.{IsSolution, SolutionReadsBack}
 use Rattle.tk_lines.proofs.Headers.ByteRuns.{front-all, behind-all}
 use Rattle.tk_lines.proofs.Sections.MiddleOfSection.{tokens_of-gap, tokens_of-none, tokens_of-last}
@@ -18,7 +21,9 @@ use Rattle.tk_lists.proofs.SolutionLines.{routes_of-append, count_of-append, has
 use Rattle.tk_writers.proofs.Lengths.ListLength.{length_solution_text}
 use Rattle.tk_writers.proofs.Saying.{read_within}
 use Rattle.tk_writers.proofs.Written.WrittenLines.{whole_line, lines-written}
-use Rattle.tk_writers.proofs.Written.WrittenNumbers.{IsDigit, is_digit, digit_solid, spelled, IsShort, short_decimal, integer_decimal, decimal_run, decimal_line, one_line_append, AllShort, numbers_line, numbers_tokens, number_token}
+use Rattle.tk_writers.proofs.Written.WrittenNumbers.{IsDigit, is_digit, digit_solid, spelled, IsShort, short_decimal}
+use Rattle.tk_writers.proofs.Written.WrittenNumbers.{integer_decimal, decimal_run, decimal_line, one_line_append}
+use Rattle.tk_writers.proofs.Written.WrittenNumbers.{AllShort, numbers_line, numbers_tokens, number_token}
 use Rattle.tk_lines.proofs.Lines.{OnOneLine}
 
 -- ---- the lines
@@ -35,7 +40,8 @@ all_digits [] h = refl
 all_digits (d ∷ ds) h = rw (is_digit d h.0) (all_digits ds h.1)
 
 -- the head of a line, whose number is written without a sign
-number_ends : (ds tail : List ℕ) → AllByRecursion IsDigit ds → is_empty ds ≡ false → length ds ≤ 18 → number_head (ds ++ 58 ∷ tail) ≡ Behind tail
+number_ends : (ds tail : List ℕ) → AllByRecursion IsDigit ds → is_empty ds ≡ false → length ds ≤ 18 →
+    number_head (ds ++ 58 ∷ tail) ≡ Behind tail
 number_ends [] tail all some few = absurd cc
 number_ends (d ∷ ds) tail all some few =
     let b : eqb d 32 ≡ false = ne_eqb d 32 (λ e. omega (arith, e, all.0.0)) in
@@ -44,9 +50,12 @@ number_ends (d ∷ ds) tail all some few =
     let p : eqb d 43 ≡ false = ne_eqb d 43 (λ e. omega (arith, e, all.0.0)) in
     let m : eqb d 45 ≡ false = ne_eqb d 45 (λ e. omega (arith, e, all.0.0)) in
     let run = all_digits (d ∷ ds) all in
-    let f : front is_ascii_digit ((d ∷ ds) ++ 58 ∷ tail) ≡ d ∷ ds = front-all is_ascii_digit (d ∷ ds) (58 ∷ tail) run ∙ append-nil (d ∷ ds) in
-    let r : behind is_ascii_digit ((d ∷ ds) ++ 58 ∷ tail) ≡ 58 ∷ tail = behind-all is_ascii_digit (d ∷ ds) (58 ∷ tail) run in
-    let short : ltb 18 (0 + length (d ∷ ds)) ≡ false = (let few' : 0 + length (d ∷ ds) ≤ 18 = omega (arith, few) in le-ltb _ _ few') in
+    let f : front is_ascii_digit ((d ∷ ds) ++ 58 ∷ tail) ≡ d ∷ ds = front-all is_ascii_digit (d ∷ ds) (58 ∷ tail) run
+    ∙ append-nil (d ∷ ds) in
+    let r : behind is_ascii_digit ((d ∷ ds) ++ 58 ∷ tail) ≡ 58 ∷ tail =
+    behind-all is_ascii_digit (d ∷ ds) (58 ∷ tail) run in
+    let short : ltb 18 (0 + length (d ∷ ds)) ≡ false =
+    (let few' : 0 + length (d ∷ ds) ≤ 18 = omega (arith, few) in le-ltb _ _ few') in
     let count : eqb (0 + length (d ∷ ds)) 0 ≡ false = ne_eqb (0 + length (d ∷ ds)) 0 (λ e. omega (arith, e)) in
     rw (b, t, c, p, m, f, r, short, count) refl
 
@@ -58,12 +67,15 @@ tokens_on n r = map (number_token n) r
 
 customers_written : (n : ℕ) (r : List ℕ) → Small r → tokens_of true n (32 ∷ spaced_numbers r) ≡ tokens_on n r
 customers_written n [] small = tokens_of-gap true n 32 [] refl ∙ tokens_of-none true n
-customers_written n (x ∷ xs) small = tokens_of-gap true n 32 (spaced_numbers (x ∷ xs)) refl ∙ numbers_tokens n x xs (short_all (x ∷ xs) small)
+customers_written n (x ∷ xs) small = tokens_of-gap true n 32 (spaced_numbers (x ∷ xs)) refl
+    ∙ numbers_tokens n x xs (short_all (x ∷ xs) small)
 
 route_written : (n k : ℕ) (r : List ℕ) → IsShort k → Small r → line_of n true (route_bytes k r) ≡ Route (tokens_on n r)
 route_written n k r low small =
     let s = spelled k low in
-    ap (λ (x : List ℕ). route_line n true (number_head x)) (append_assoc (decimal k) (58 ∷ 32 ∷ []) (spaced_numbers r)) ∙ ap (route_line n true) (number_ends (decimal k) (32 ∷ spaced_numbers r) s.all s.some (short_decimal k low)) ∙ ap Route (customers_written n r small)
+    ap (λ (x : List ℕ). route_line n true (number_head x)) (append_assoc (decimal k) (58 ∷ 32 ∷ []) (spaced_numbers r))
+    ∙ ap (route_line n true) (number_ends (decimal k) (32 ∷ spaced_numbers r) s.all s.some (short_decimal k low))
+    ∙ ap Route (customers_written n r small)
 
 behind_space : (ds : List ℕ) → AllByRecursion IsDigit ds → is_empty ds ≡ false → after_word (32 ∷ ds) ≡ ds
 behind_space [] all some = absurd cc
@@ -72,15 +84,41 @@ behind_space (d ∷ ds) all some =
     rw (digit_solid d all.0, colon) refl
 
 cost_written : (n c : ℕ) → IsShort c → line_of n true (codes "Cost " ++ decimal c) ≡ Cost (number_token n c ∷ [])
-cost_written n c low = let s = spelled c low in rw (behind_space (decimal c) s.all s.some, tokens_of-last n (decimal c) (decimal_run c low)) refl
+cost_written n c low = let s = spelled c low in
+    rw (behind_space (decimal c) s.all s.some, tokens_of-last n (decimal c) (decimal_run c low)) refl
 
-last_line : (n c : ℕ) → IsShort c → lines true n (line (codes "Cost " ++ decimal c)) ≡ whole_line n (codes "Cost " ++ decimal c) ∷ whole_line (suc n) [] ∷ []
+last_line : (n c : ℕ) → IsShort c →
+    lines true n (line (codes "Cost " ++ decimal c)) ≡ whole_line n (codes "Cost " ++ decimal c)
+    ∷ whole_line (suc n) [] ∷ []
 unfolding lines
 last_line n c low =
-    ap (lines true n) (sym (append-nil (line (codes "Cost " ++ decimal c)))) ∙ lines-written n (codes "Cost " ++ decimal c) [] (refl, (refl, (refl, (refl, (refl, decimal_line c low)))))
+    ap (lines true n) (sym (append-nil (line (codes "Cost " ++ decimal c))))
+    ∙ lines-written n (codes "Cost " ++ decimal c) [] (refl, (refl, (refl, (refl, (refl, decimal_line c low)))))
 
 route_one_line : (k : ℕ) (r : List ℕ) → IsShort k → Small r → OnOneLine (route_bytes k r)
-route_one_line k r low small = (refl, (refl, (refl, (refl, (refl, (refl, (refl, one_line_append (decimal k ++ codes ": ") (spaced_numbers r) (one_line_append (decimal k) (codes ": ") (decimal_line k low) (refl, (refl, tt))) (numbers r small))))))))
+route_one_line k r low small = (
+  refl,
+  (
+    refl,
+    (
+      refl,
+      (
+        refl,
+        (
+          refl,
+          (
+            refl,
+            (
+              refl,
+              one_line_append (decimal k ++ codes ": ") (spaced_numbers r)
+                  (one_line_append (decimal k) (codes ": ") (decimal_line k low) (refl, (refl, tt))) (numbers r small),
+            ),
+          ),
+        ),
+      ),
+    ),
+  ),
+)
   where
     numbers : (r : List ℕ) → Small r → OnOneLine (spaced_numbers r)
     numbers [] small = tt
@@ -109,13 +147,18 @@ customers_fine k n (x ∷ xs) small few =
 -- ---- the whole text
 
 -- a line at which nothing stops
-judged : (before : List SolutionLine) (m n : ℕ) (w : Bool) (bs : List ℕ) (ls : List Line) (here : SolutionLine) → line_of n true bs ≡ here → line_stop before n true here ≡ None → judge_lines before m w (whole_line n bs ∷ ls) ≡ judge_lines (before ++ here ∷ []) n true ls
+judged : (before : List SolutionLine) (m n : ℕ) (w : Bool) (bs : List ℕ) (ls : List Line) (here : SolutionLine) →
+    line_of n true bs ≡ here → line_stop before n true here ≡ None →
+    judge_lines before m w (whole_line n bs ∷ ls) ≡ judge_lines (before ++ here ∷ []) n true ls
 unfolding judge_lines
 judged before m n w bs ls here is none = rw (is, none) refl
 
 module _ (c : ℕ) (cheap : IsShort c) where
-  reads : (before : List SolutionLine) (m n k : ℕ) (w : Bool) (rs : List (List ℕ)) → has_cost before ≡ false → length (routes_of before) + length rs ≤ ROUTE_LIMIT → count_of before + length (concat rs) ≤ ENTRY_LIMIT
-      → AllByRecursion Small rs → k + length rs < 10000000 → judge_lines before m w (lines true n (route_lines k rs ++ line (codes "Cost " ++ decimal c))) ≡ Some (Ok (routes_of before ++ rs, pos c))
+  reads : (before : List SolutionLine) (m n k : ℕ) (w : Bool) (rs : List (List ℕ)) → has_cost before ≡ false
+      → length (routes_of before) + length rs ≤ ROUTE_LIMIT → count_of before + length (concat rs) ≤ ENTRY_LIMIT
+      → AllByRecursion Small rs → k + length rs < 10000000 →
+      judge_lines before m w (lines true n (route_lines k rs ++ line (codes "Cost " ++ decimal c))) ≡ Some
+      (Ok (routes_of before ++ rs, pos c))
   unfolding judge_lines
   reads before m n k w [] unpriced few customers small low =
       let here : SolutionLine = Cost (number_token n c ∷ []) in
@@ -125,31 +168,52 @@ module _ (c : ℕ) (cheap : IsShort c) where
       let number = integer_decimal c cheap in
       let has_here : has_cost priced ≡ true = has_cost-append before (here ∷ []) ∙ rw unpriced refl in
       let has : has_cost all ≡ true = has_cost-append priced (Empty ∷ []) ∙ rw has_here refl in
-      let routes : routes_of all ≡ routes_of before ++ [] = routes_of-append priced (Empty ∷ []) ∙ append-nil (routes_of priced) ∙ routes_of-append before (here ∷ []) in
+      let routes : routes_of all ≡ routes_of before ++ [] = routes_of-append priced (Empty ∷ [])
+      ∙ append-nil (routes_of priced) ∙ routes_of-append before (here ∷ []) in
       let told : cost_of priced ≡ pos c = cost_of-append before (here ∷ []) ∙ rw (unpriced, number) refl in
       let cost : cost_of all ≡ pos c = cost_of-append priced (Empty ∷ []) ∙ rw has_here told in
       let fine : line_stop before n true here ≡ None = rw (unpriced, short, number) refl in
-      ap (judge_lines before m w) (last_line n c cheap) ∙ judged before m n w (codes "Cost " ++ decimal c) (whole_line (suc n) [] ∷ []) here (cost_written n c cheap) fine
+      ap (judge_lines before m w) (last_line n c cheap)
+      ∙ judged before m n w (codes "Cost " ++ decimal c) (whole_line (suc n) [] ∷ []) here
+      (cost_written n c cheap) fine
       ∙ judged priced n (suc n) true [] [] Empty refl refl ∙ rw (has, routes, cost) refl
   reads before m n k w (r ∷ rs) unpriced few customers small low =
       let here : SolutionLine = Route (tokens_on n r) in
       let next : List SolutionLine = before ++ here ∷ [] in
-      let split : lines true n ((line (route_bytes k r) ++ route_lines (k + 1) rs) ++ line (codes "Cost " ++ decimal c)) ≡ whole_line n (route_bytes k r) ∷ lines true (suc n) (route_lines (k + 1) rs ++ line (codes "Cost " ++ decimal c)) =
-      ap (lines true n) (append_assoc (line (route_bytes k r)) (route_lines (k + 1) rs) (line (codes "Cost " ++ decimal c))) ∙ lines-written n (route_bytes k r) (route_lines (k + 1) rs ++ line (codes "Cost " ++ decimal c)) (route_one_line k r (omega (arith, low)) small.0) in
+      let split : lines true n ((line (route_bytes k r) ++ route_lines (k + 1) rs)
+      ++ line (codes "Cost " ++ decimal c)) ≡ whole_line n (route_bytes k r)
+      ∷ lines true (suc n) (route_lines (k + 1) rs ++ line (codes "Cost " ++ decimal c)) =
+      ap (lines true n)
+      (append_assoc (line (route_bytes k r)) (route_lines (k + 1) rs) (line (codes "Cost " ++ decimal c)))
+      ∙ lines-written n (route_bytes k r) (route_lines (k + 1) rs ++ line (codes "Cost " ++ decimal c))
+      (route_one_line k r (omega (arith, low)) small.0) in
       let is = route_written n k r (omega (arith, low)) small.0 in
       let room : leb ROUTE_LIMIT (length (routes_of before)) ≡ false = lt-leb _ _ (omega (arith, few)) in
-      let fine : customers_stop (count_of before) (tokens_on n r) ≡ None = customers_fine (count_of before) n r small.0 (omega (arith, customers, length-append r (concat rs))) in
-      let more : routes_of next ≡ routes_of before ++ r ∷ [] = routes_of-append before (here ∷ []) ∙ rw (numbers_read n r small.0) refl in
-      let counted : count_of next ≡ count_of before + length r = omega (arith, count_of-append before (here ∷ []), length_on n r) in
+      let fine : customers_stop (count_of before) (tokens_on n r) ≡ None =
+      customers_fine (count_of before) n r small.0 (omega (arith, customers, length-append r (concat rs))) in
+      let more : routes_of next ≡ routes_of before ++ r ∷ [] = routes_of-append before (here ∷ [])
+      ∙ rw (numbers_read n r small.0) refl in
+      let counted : count_of next ≡ count_of before + length r =
+      omega (arith, count_of-append before (here ∷ []), length_on n r) in
       let still : has_cost next ≡ false = has_cost-append before (here ∷ []) ∙ rw unpriced refl in
-      let rest = reads next n (suc n) (k + 1) true rs still (omega (arith, few, ap length more, length-append (routes_of before) (r ∷ []))) (omega (arith, counted, customers, length-append r (concat rs))) small.1 (omega (arith, low)) in
+      let rest =
+      reads next n (suc n) (k + 1) true rs still
+      (omega (arith, few, ap length more, length-append (routes_of before) (r ∷ [])))
+      (omega (arith, counted, customers, length-append r (concat rs))) small.1 (omega (arith, low)) in
       let passes : line_stop before n true here ≡ None = rw (unpriced, room, fine) refl in
-      ap (judge_lines before m w) split ∙ judged before m n w (route_bytes k r) (lines true (suc n) (route_lines (k + 1) rs ++ line (codes "Cost " ++ decimal c))) here is passes ∙ (rest ∙ rw more (ap (λ (x : List (List ℕ)). Some (Ok (x, pos c))) (append_assoc (routes_of before) (r ∷ []) rs)))
+      ap (judge_lines before m w) split
+      ∙ judged before m n w (route_bytes k r)
+      (lines true (suc n) (route_lines (k + 1) rs ++ line (codes "Cost " ++ decimal c))) here is passes
+      ∙ (rest
+      ∙ rw more (ap (λ (x : List (List ℕ)). Some (Ok (x, pos c))) (append_assoc (routes_of before) (r ∷ []) rs)))
 
-said : (routes : List (List ℕ)) (cost : ℕ) → IsSolution routes cost → solution_decided true (solution_text routes cost) ≡ Some (Ok (routes, pos cost))
+said : (routes : List (List ℕ)) (cost : ℕ) → IsSolution routes cost →
+    solution_decided true (solution_text routes cost) ≡ Some (Ok (routes, pos cost))
 unfolding solution_decided
-said routes cost h = reads cost (omega (arith, h.cheap)) [] 1 1 1 true routes refl (omega (arith, h.few)) (omega (arith, h.customers)) h.small (omega (arith, h.few))
+said routes cost h = reads cost (omega (arith, h.cheap)) [] 1 1 1 true routes refl (omega (arith, h.few))
+    (omega (arith, h.customers)) h.small (omega (arith, h.few))
 
 pub solution_read_back : (routes : List (List ℕ)) (cost : ℕ) → IsSolution routes cost → SolutionReadsBack routes cost
 solution_read_back routes cost h =
-    read_within solution_decided (solution_text routes cost) (routes, pos cost) (length_solution_text routes cost h.few h.customers) (said routes cost h)
+    read_within solution_decided (solution_text routes cost) (routes, pos cost)
+    (length_solution_text routes cost h.few h.customers) (said routes cost h)

@@ -1,5 +1,6 @@
 -- A tour text that is written is read as the cities that it was written of.
-use Rattle.std.proofs.Common.{◌≡◌, ℕ, suc, ◌+◌, ◌≤◌, ◌<◌, Bool, true, false, cond, leb, ltb, List, [], ◌∷◌, ◌++◌, length, map, Some, None, Ok, pos, refl, sym, ap, subst, ◌∙◌, append_assoc, arith}
+use Rattle.std.proofs.Common.{◌≡◌, ℕ, suc, ◌+◌, ◌≤◌, ◌<◌, Bool, true, false, cond, leb, ltb, List, [], ◌∷◌, ◌++◌}
+use Rattle.std.proofs.Common.{length, map, Some, None, Ok, pos, refl, sym, ap, subst, ◌∙◌, append_assoc, arith}
 use Rattle.std.specs.Prelude.{codes, decimal, flat_map}
 use Rattle.std.specs.List.{AllByRecursion}
 use Rattle.std.proofs.lemmas.Bool.{lt-leb, le-leb, le-ltb}
@@ -20,13 +21,17 @@ use Rattle.tk_writers.specs.Written.{line}
 use Rattle.tk_lines.proofs.Sections.SectionEnds.{take_whole, last_line-append}
 use Rattle.tk_lists.proofs.Lists.{entries_ended, list_ended}
 use Rattle.tk_words.proofs.NoWord.{integer-no_word}
-use Rattle.tk_writers.proofs.Saying.{one_line, name_line, whole_lines, lines-listed, lines-none, clean, says, says-header, says-section, says-rows, says-covered, says-eof, decided-says, read_within}
+use Rattle.tk_writers.proofs.Saying.{one_line, name_line, whole_lines, lines-listed, lines-none, clean, says}
+use Rattle.tk_writers.proofs.Saying.{says-header, says-section, says-rows, says-covered, says-eof, decided-says}
+use Rattle.tk_writers.proofs.Saying.{read_within}
 use Rattle.tk_writers.proofs.Lengths.ListLength.{length_tour_text}
 use Rattle.tk_lines.proofs.Headers.HeaderBytes.{trimmed_short}
 use Rattle.tk_lines.proofs.Sections.MiddleOfSection.{token}
 use Rattle.tk_writers.proofs.Written.WrittenHeaders.{headed, size_value, first_word_run}
-use Rattle.tk_writers.proofs.Written.WrittenLines.{whole_line, lines-rows, row_lines, row_tokens, next_line, tokens-rows, rows_written, in_rows, AreWritten, IsWritten, ShortRows}
-use Rattle.tk_writers.proofs.Written.WrittenNumbers.{IsShort, one_line_append, decimal_line, decimal_run, integer_decimal, short_decimal}
+use Rattle.tk_writers.proofs.Written.WrittenLines.{whole_line, lines-rows, row_lines, row_tokens, next_line}
+use Rattle.tk_writers.proofs.Written.WrittenLines.{tokens-rows, rows_written, in_rows, AreWritten, IsWritten, ShortRows}
+use Rattle.tk_writers.proofs.Written.WrittenNumbers.{IsShort, one_line_append, decimal_line, decimal_run}
+use Rattle.tk_writers.proofs.Written.WrittenNumbers.{integer_decimal, short_decimal}
 use Rattle.tk_lines.proofs.Lines.{OnOneLine}
 
 -- ---- the cities, each on a line of its own
@@ -74,7 +79,8 @@ entry_fine k x t is small few =
     let room : leb ENTRY_LIMIT k ≡ false = lt-leb _ _ few in
     rw (short, whole, no_word, number, low, high, room) refl
 
-entries_fine : (k : ℕ) (ts : List Token) (xs : List ℕ) → AreWritten ts xs → Small xs → k + length xs ≤ ENTRY_LIMIT → entries_stop k ts ≡ None
+entries_fine : (k : ℕ) (ts : List Token) (xs : List ℕ) → AreWritten ts xs → Small xs → k + length xs ≤ ENTRY_LIMIT →
+    entries_stop k ts ≡ None
 unfolding entries_stop
 entries_fine k [] xs h small few = refl
 entries_fine k (t ∷ ts) [] h small few = absurd h
@@ -121,28 +127,35 @@ name_bytes name size = codes "NAME : " ++ name ++ codes "." ++ decimal size ++ c
 
 -- the pieces of the lines
 name_piece : (before : List Piece) (name : List ℕ) (size : ℕ) (ls : List Line)
-    → pieces_at tour_format.extent before (whole_line 1 (name_bytes name size)) ls (behind is_blank (name_bytes name size)) ≡ headed words.Name (name_value name size) 1 ∷ []
+    → pieces_at tour_format.extent before (whole_line 1 (name_bytes name size)) ls
+    (behind is_blank (name_bytes name size)) ≡ headed words.Name (name_value name size) 1 ∷ []
 unfolding keyword_of section_word rest_word
 name_piece before name size ls = refl
 
 length_piece : (before : List Piece) (size : ℕ) (ls : List Line)
-    → pieces_at tour_format.extent before (whole_line 2 (codes "COMMENT : Length = " ++ decimal size)) ls (behind is_blank (codes "COMMENT : Length = " ++ decimal size)) ≡ headed words.Comment (length_value size) 2 ∷ []
+    → pieces_at tour_format.extent before (whole_line 2 (codes "COMMENT : Length = " ++ decimal size)) ls
+    (behind is_blank (codes "COMMENT : Length = " ++ decimal size)) ≡ headed words.Comment
+    (length_value size) 2 ∷ []
 unfolding keyword_of section_word rest_word
 length_piece before size ls = refl
 
 type_piece : (before : List Piece) (ls : List Line)
-    → pieces_at tour_format.extent before (whole_line 3 (codes "TYPE : TOUR")) ls (behind is_blank (codes "TYPE : TOUR")) ≡ headed words.Type (codes " : TOUR") 3 ∷ []
+    → pieces_at tour_format.extent before (whole_line 3 (codes "TYPE : TOUR")) ls
+    (behind is_blank (codes "TYPE : TOUR")) ≡ headed words.Type (codes " : TOUR") 3 ∷ []
 unfolding keyword_of section_word rest_word
 type_piece before ls = refl
 
 size_piece : (before : List Piece) (n : ℕ) (ls : List Line)
-    → pieces_at tour_format.extent before (whole_line 4 (codes "DIMENSION : " ++ decimal n)) ls (behind is_blank (codes "DIMENSION : " ++ decimal n)) ≡ headed words.Dimension (size_value n) 4 ∷ []
+    → pieces_at tour_format.extent before (whole_line 4 (codes "DIMENSION : " ++ decimal n)) ls
+    (behind is_blank (codes "DIMENSION : " ++ decimal n)) ≡ headed words.Dimension (size_value n) 4 ∷ []
 unfolding keyword_of section_word rest_word
 size_piece before n ls = refl
 
 section_piece : (before : List Piece) (ls : List Line)
-    → pieces_at tour_format.extent before (whole_line 5 (codes "TOUR_SECTION")) ls (behind is_blank (codes "TOUR_SECTION"))
-    ≡ section_at tour_format.extent before words.TourSection 5 (tokens ls) (end_token (whole_line 5 (codes "TOUR_SECTION")) ls)
+    → pieces_at tour_format.extent before (whole_line 5 (codes "TOUR_SECTION")) ls
+    (behind is_blank (codes "TOUR_SECTION"))
+    ≡ section_at tour_format.extent before words.TourSection 5 (tokens ls)
+    (end_token (whole_line 5 (codes "TOUR_SECTION")) ls)
 unfolding keyword_of section_word rest_word tokens_of
 section_piece before ls = refl
 
@@ -151,35 +164,49 @@ behind_short : (bs : List ℕ) → length (behind is_blank bs) ≤ length bs
 behind_short [] = omega arith
 behind_short (b ∷ bs) = by_test (is_blank b) (behind_short bs)
   where
-    by_test : (t : Bool) → length (behind is_blank bs) ≤ length bs → length (cond t (behind is_blank bs) (b ∷ bs)) ≤ length (b ∷ bs)
+    by_test : (t : Bool) → length (behind is_blank bs) ≤ length bs →
+        length (cond t (behind is_blank bs) (b ∷ bs)) ≤ length (b ∷ bs)
     by_test true ih = omega (arith, ih)
     by_test false ih = omega arith
 
 labelled_short : (name : List ℕ) (size : ℕ) → length name ≤ 1000 → IsShort size → length (labelled name size) ≤ 1024
 labelled_short name size room cheap =
     let number = short_decimal size cheap in
-    omega (arith, number, room, length-append name (codes "."), length-append (name ++ codes ".") (decimal size), length-append (name ++ codes "." ++ decimal size) (codes ".tour"))
+    omega (
+      arith,
+      number,
+      room,
+      length-append name (codes "."),
+      length-append (name ++ codes ".") (decimal size),
+      length-append (name ++ codes "." ++ decimal size) (codes ".tour"),
+    )
 
-name_passes : (name : List ℕ) (size : ℕ) → length name ≤ 1000 → IsShort size → stop tour_format [] (headed words.Name (name_value name size) 1) ≡ None
+name_passes : (name : List ℕ) (size : ℕ) → length name ≤ 1000 → IsShort size →
+    stop tour_format [] (headed words.Name (name_value name size) 1) ≡ None
 name_passes name size room cheap =
     let short = labelled_short name size room cheap in
     let all : ltb 4096 (length (name_value name size)) ≡ false = le-ltb _ _ (omega (arith, short)) in
-    let kept : length (trim (labelled name size)) ≤ 1024 = omega (arith, short, behind_short (labelled name size), trimmed_short (behind is_blank (labelled name size))) in
+    let kept : length (trim (labelled name size)) ≤ 1024 =
+    omega (arith, short, behind_short (labelled name size), trimmed_short (behind is_blank (labelled name size))) in
     let some : ltb 1024 (length (trim (labelled name size))) ≡ false = le-ltb _ _ kept in
     rw (all, some) refl
 
-length_passes : (name : List ℕ) (size : ℕ) → IsShort size → stop tour_format (after_1 name size) (headed words.Comment (length_value size) 2) ≡ None
+length_passes : (name : List ℕ) (size : ℕ) → IsShort size →
+    stop tour_format (after_1 name size) (headed words.Comment (length_value size) 2) ≡ None
 length_passes name size cheap =
     let short : ltb 4096 (length (length_value size)) ≡ false = le-ltb _ _ (omega (arith, short_decimal size cheap)) in
     rw short refl
 
-type_passes : (name : List ℕ) (size : ℕ) → stop tour_format (after_2 name size) (headed words.Type (codes " : TOUR") 3) ≡ None
+type_passes : (name : List ℕ) (size : ℕ) →
+    stop tour_format (after_2 name size) (headed words.Type (codes " : TOUR") 3) ≡ None
 type_passes name size = refl
 
-size_passes : (name : List ℕ) (size n : ℕ) → 1 ≤ n → n ≤ ENTRY_LIMIT → stop tour_format (after_3 name size) (headed words.Dimension (size_value n) 4) ≡ None
+size_passes : (name : List ℕ) (size n : ℕ) → 1 ≤ n → n ≤ ENTRY_LIMIT →
+    stop tour_format (after_3 name size) (headed words.Dimension (size_value n) 4) ≡ None
 size_passes name size n low high =
     let short : ltb 4096 (length (size_value n)) ≡ false = le-ltb _ _ (omega (arith, short_decimal n (omega arith))) in
-    let number : integer (first_word (size_value n)) ≡ Some (pos n) = ap integer (first_word_run (decimal n) (decimal_run n (omega arith))) ∙ integer_decimal n (omega arith) in
+    let number : integer (first_word (size_value n)) ≡ Some (pos n) =
+    ap integer (first_word_run (decimal n) (decimal_run n (omega arith))) ∙ integer_decimal n (omega arith) in
     let above : leb 1 n ≡ true = le-leb _ _ low in
     let below : leb n ENTRY_LIMIT ≡ true = le-leb _ _ high in
     rw (short, number, above, below) refl
@@ -201,7 +228,8 @@ tokens-ends : (e : ℕ) → tokens (ends e) ≡ minus e ∷ token (codes "EOF") 
 unfolding tokens_of
 tokens-ends e = refl
 
-module _ (toks : List Token) (xs : List ℕ) (written : AreWritten toks xs) (small : Small xs) (few : length xs ≤ ENTRY_LIMIT) (e : ℕ) where
+module _ (toks : List Token) (xs : List ℕ) (written : AreWritten toks xs) (small : Small xs)
+    (few : length xs ≤ ENTRY_LIMIT) (e : ℕ) where
   abbrev all : List Token
   all = toks ++ minus e ∷ []
 
@@ -214,12 +242,16 @@ module _ (toks : List Token) (xs : List ℕ) (written : AreWritten toks xs) (sma
   last_is : last_line 5 all ≡ e
   last_is = last_line-append 5 toks (minus e ∷ [])
 
-  section_made : (before : List Piece) (end : Token) → section_at tour_format.extent before words.TourSection 5 (toks ++ minus e ∷ token (codes "EOF") (suc e) ∷ []) end ≡ Section words.TourSection 5 all Clean ∷ []
+  section_made : (before : List Piece) (end : Token) →
+      section_at tour_format.extent before words.TourSection 5 (toks ++ minus e ∷ token (codes "EOF") (suc e) ∷ [])
+      end ≡ Section words.TourSection 5 all Clean ∷ []
   section_made before end =
       let eof : Token = token (codes "EOF") (suc e) in
       let extent : list_extent (all ++ eof ∷ []) ≡ record { count = length all; closed = true; at_eof = false } =
-      list_ended toks are fine (minus e) (eof ∷ []) refl ∙ ap (λ (k : ℕ). record { count = k; closed = true; at_eof = false }) (omega arith) in
-      ap (λ (ts : List Token). section_at tour_format.extent before words.TourSection 5 ts end) (sym (append_assoc toks (minus e ∷ []) (eof ∷ [])))
+      list_ended toks are fine (minus e) (eof ∷ []) refl
+      ∙ ap (λ (k : ℕ). record { count = k; closed = true; at_eof = false }) (omega arith) in
+      ap (λ (ts : List Token). section_at tour_format.extent before words.TourSection 5 ts end)
+      (sym (append_assoc toks (minus e ∷ []) (eof ∷ [])))
       ∙ rw (extent, take_whole all (eof ∷ []), clean (last_line 5 all) all eof end (omega (arith, last_is))) refl
 
   entries_are : entries all ≡ toks
@@ -274,9 +306,17 @@ module _ (name : List ℕ) (size : ℕ) (cities : List ℕ) (h : IsTour name siz
 
   head_whole : AllByRecursion OnOneLine (tour_head name size n)
   head_whole =
-      let length_whole = one_line_append (codes "COMMENT : Length = ") (decimal size) (one_line (codes "COMMENT : Length = ") refl) (decimal_line size cheap) in
-      let size_whole = one_line_append (codes "DIMENSION : ") (decimal n) (one_line (codes "DIMENSION : ") refl) (decimal_line n short) in
-      (name_whole, (length_whole, (one_line (codes "TYPE : TOUR") refl, (size_whole, (one_line (codes "TOUR_SECTION") refl, tt)))))
+      let length_whole =
+      one_line_append (codes "COMMENT : Length = ") (decimal size) (one_line (codes "COMMENT : Length = ") refl)
+      (decimal_line size cheap) in
+      let size_whole = one_line_append (codes "DIMENSION : ") (decimal n) (one_line (codes "DIMENSION : ") refl)
+      (decimal_line n short) in (
+        name_whole,
+        (
+          length_whole,
+          (one_line (codes "TYPE : TOUR") refl, (size_whole, (one_line (codes "TOUR_SECTION") refl, tt))),
+        ),
+      )
 
   text_lines : lines true 1 (tour_text name size cities) ≡ whole_lines 1 (tour_head name size n) ++ section_lines
   text_lines =
@@ -299,21 +339,30 @@ module _ (name : List ℕ) (size : ℕ) (cities : List ℕ) (h : IsTour name siz
   abbrev line_2 : List Line
   line_2 = whole_line 2 (codes "COMMENT : Length = " ++ decimal size) ∷ line_3
 
-  says-head : (end : List Piece) → says tour_format [] 0 (whole_line 1 (name_bytes name size) ∷ line_2) end ≡ says tour_format (after_4 name size n) 0 line_5 end
+  says-head : (end : List Piece) →
+      says tour_format [] 0 (whole_line 1 (name_bytes name size) ∷ line_2) end ≡ says tour_format
+      (after_4 name size n) 0 line_5 end
   says-head end =
-      says-header tour_format [] 0 (name_bytes name size) line_2 end words.Name (name_value name size) (name_piece [] name size line_2) (name_passes name size h.room cheap)
-      ∙ says-header tour_format (after_1 name size) 1 (codes "COMMENT : Length = " ++ decimal size) line_3 end words.Comment (length_value size) (length_piece (after_1 name size) size line_3) (length_passes name size cheap)
-      ∙ says-header tour_format (after_2 name size) 2 (codes "TYPE : TOUR") line_4 end words.Type (codes " : TOUR") (type_piece (after_2 name size) line_4) (type_passes name size)
-      ∙ says-header tour_format (after_3 name size) 3 (codes "DIMENSION : " ++ decimal n) line_5 end words.Dimension (size_value n) (size_piece (after_3 name size) n line_5) (size_passes name size n h.some h.few)
+      says-header tour_format [] 0 (name_bytes name size) line_2 end words.Name (name_value name size)
+      (name_piece [] name size line_2) (name_passes name size h.room cheap)
+      ∙ says-header tour_format (after_1 name size) 1 (codes "COMMENT : Length = " ++ decimal size) line_3 end
+      words.Comment (length_value size) (length_piece (after_1 name size) size line_3)
+      (length_passes name size cheap)
+      ∙ says-header tour_format (after_2 name size) 2 (codes "TYPE : TOUR") line_4 end words.Type (codes " : TOUR")
+      (type_piece (after_2 name size) line_4) (type_passes name size)
+      ∙ says-header tour_format (after_3 name size) 3 (codes "DIMENSION : " ++ decimal n) line_5 end words.Dimension
+      (size_value n) (size_piece (after_3 name size) n line_5) (size_passes name size n h.some h.few)
 
   tokens_are : tokens section_lines ≡ toks ++ minus e ∷ token (codes "EOF") (suc e) ∷ []
   tokens_are = tokens-rows 6 rows (ends e) small ∙ ap (λ (ts : List Token). toks ++ ts) (tokens-ends e)
 
-  piece : pieces_at tour_format.extent (after_4 name size n) (whole_line 5 (codes "TOUR_SECTION")) section_lines (behind is_blank (codes "TOUR_SECTION")) ≡ Section words.TourSection 5 taken Clean ∷ []
+  piece : pieces_at tour_format.extent (after_4 name size n) (whole_line 5 (codes "TOUR_SECTION")) section_lines
+      (behind is_blank (codes "TOUR_SECTION")) ≡ Section words.TourSection 5 taken Clean ∷ []
   piece =
       let end : Token = end_token (whole_line 5 (codes "TOUR_SECTION")) section_lines in
       section_piece (after_4 name size n) section_lines
-      ∙ ap (λ (ts : List Token). section_at tour_format.extent (after_4 name size n) words.TourSection 5 ts end) tokens_are
+      ∙ ap (λ (ts : List Token). section_at tour_format.extent (after_4 name size n) words.TourSection 5 ts end)
+      tokens_are
       ∙ section_made toks cities written h.small h.few e (after_4 name size n) end
 
   section_passes : stop tour_format (after_4 name size n) (Section words.TourSection 5 taken Clean) ≡ None
@@ -324,11 +373,15 @@ module _ (name : List ℕ) (size : ℕ) (cities : List ℕ) (h : IsTour name siz
 
   says-body : (end : List Piece) → says tour_format (after_4 name size n) 0 line_5 end ≡ Some (Ok cities)
   says-body end =
-      says-section tour_format (after_4 name size n) 4 (codes "TOUR_SECTION") section_lines end words.TourSection taken piece section_passes
-      ∙ ap (λ (m : ℕ). says tour_format (after_5 name size n taken) m section_lines end) (last_is toks cities written h.small h.few e)
+      says-section tour_format (after_4 name size n) 4 (codes "TOUR_SECTION") section_lines end words.TourSection taken
+      piece section_passes
+      ∙ ap (λ (m : ℕ). says tour_format (after_5 name size n taken) m section_lines end)
+      (last_is toks cities written h.small h.few e)
       ∙ says-rows tour_format (after_5 name size n taken) e 6 rows (ends e) end (omega arith)
-      ∙ says-covered tour_format (after_5 name size n taken) e (whole_line e (codes "-1")) (whole_line (suc e) (codes "EOF") ∷ whole_line (suc (suc e)) [] ∷ []) end (omega arith)
-      ∙ says-eof tour_format (after_5 name size n taken) e (suc e) (whole_line (suc (suc e)) [] ∷ []) end (omega arith) at_end_passes
+      ∙ says-covered tour_format (after_5 name size n taken) e (whole_line e (codes "-1"))
+      (whole_line (suc e) (codes "EOF") ∷ whole_line (suc (suc e)) [] ∷ []) end (omega arith)
+      ∙ says-eof tour_format (after_5 name size n taken) e (suc e) (whole_line (suc (suc e)) [] ∷ []) end (omega arith)
+      at_end_passes
       ∙ ap (λ (cs : List ℕ). Some (Ok cs)) (numbers_read toks cities written h.small h.few e)
 
   said : tour_decided true (tour_text name size cities) ≡ Some (Ok cities)
@@ -339,6 +392,8 @@ module _ (name : List ℕ) (size : ℕ) (cities : List ℕ) (h : IsTour name siz
       ∙ says-head (end_piece all)
       ∙ says-body (end_piece all)
 
-pub tour_read_back : (name : List ℕ) (size : ℕ) (cities : List ℕ) → IsTour name size cities → TourReadsBack name size cities
+pub tour_read_back : (name : List ℕ) (size : ℕ) (cities : List ℕ) → IsTour name size cities →
+    TourReadsBack name size cities
 tour_read_back name size cities h =
-    read_within tour_decided (tour_text name size cities) cities (length_tour_text name size cities h.named.short h.few) (said name size cities h)
+    read_within tour_decided (tour_text name size cities) cities (length_tour_text name size cities h.named.short h.few)
+    (said name size cities h)

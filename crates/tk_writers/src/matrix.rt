@@ -1,5 +1,6 @@
 //! Writes a table of distances as explicit weights.
-ghost use Rattle.std.specs.Prelude.{◌≡◌, ◌≢◌, IfSome, ℕ, ◌+◌, ◌-◌, ◌≤◌, ◌<◌, ◌++◌, true, length, decimal, codes, pos, IsTrue, OnErr, flat_map};
+ghost use Rattle.std.specs.Prelude.{◌≡◌, ◌≢◌, IfSome, ℕ, ◌+◌, ◌-◌, ◌≤◌, ◌<◌, ◌++◌, true, length, decimal, codes, pos};
+ghost use Rattle.std.specs.Prelude.{IsTrue, OnErr, flat_map};
 ghost use Rattle.std.specs.List.{range_with_len};
 ghost use Rattle.tk_problem.specs.declared.limits.TheConstants.{TABLE_LIMIT};
 ghost use Rattle.tk_problem.specs.declared.weights.Format.{Format};

@@ -75,8 +75,8 @@ impl<'a> BestFile<'a> {
         }
     }
 
-    /// Saves the best tour so far where it is shorter than the one that is saved, and the pause has passed. At the end of
-    /// a run it is kept, or, where one is saved already, saved.
+    /// Saves the best tour so far where it is shorter than the one that is saved, and the pause has passed. At the end
+    /// of a run it is kept, or, where one is saved already, saved.
     pub fn trial(&mut self, progress: &Progress, best: &[u32]) {
         if self.name.is_none() {
             return;
@@ -106,7 +106,8 @@ impl<'a> BestFile<'a> {
         self.ended_length = length;
     }
 
-    /// Saves the tour, or the one that is kept where that is shorter, in a new file that then takes the old one's place.
+    /// Saves the tour, or the one that is kept where that is shorter, in a new file that then takes the old one's
+    /// place.
     fn save(&mut self, length: i64, cities: &[u32]) {
         let Some(name) = &self.name else {
             return;

@@ -4,7 +4,8 @@ use Rattle.tk_near.specs.Near.{AreNearest, NearLists}
 use Rattle.tourkit_c.specs.Arrays.{AreNearIn}
 
 -- near lists of this size and width, by their entries
-pub near_same : (distance : ℕ → ℕ → ℕ) (n k : ℕ) (v : NearLists) (out : List ℕ) → v.size ≡ n → v.width ≡ min k (n - 1) → out ≡ v.entries → AreNearest distance v → AreNearIn n distance k out
+pub near_same : (distance : ℕ → ℕ → ℕ) (n k : ℕ) (v : NearLists) (out : List ℕ) → v.size ≡ n → v.width ≡ min k (n - 1) →
+    out ≡ v.entries → AreNearest distance v → AreNearIn n distance k out
 near_same distance n k v out size width entries near =
     let same : v ≡ record { size = n; width = min k (n - 1); entries = out } =
     ap (λ (s : ℕ). record { size = s; width = v.width; entries = v.entries }) size

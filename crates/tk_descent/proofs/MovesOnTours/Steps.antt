@@ -1,10 +1,13 @@
 -- The city after a city, in the parts of a cycle.
-use Rattle.std.proofs.Common.{◌≡◌, ℕ, ◌+◌, ◌<◌, ◌≤◌, ◌≢◌, ◌⊎◌, true, false, ◌||◌, eqb, List, [], ◌∷◌, ◌++◌, length, reverse, refl, sym, ◌∙◌, ap, arith, inl, inr, subst, append-nil}
+use Rattle.std.proofs.Common.{◌≡◌, ℕ, ◌+◌, ◌<◌, ◌≤◌, ◌≢◌, ◌⊎◌, true, false, ◌||◌, eqb, List, [], ◌∷◌, ◌++◌, length}
+use Rattle.std.proofs.Common.{reverse, refl, sym, ◌∙◌, ap, arith, inl, inr, subst, append-nil}
 use Rattle.std.proofs.lemmas.List.{reverse-reverse, length-append}
 use Rattle.std.specs.Prelude.{slice_index, ◌%◌, ◌-◌}
-use Rattle.std.proofs.lemmas.Bool.{or_parts, or_cases, or_from, or_left, or_right, eqb-true, eq-eqb, cases_eq, cases_lt, false_from_ne_true, both_ways}
+use Rattle.std.proofs.lemmas.Bool.{or_parts, or_cases, or_from, or_left, or_right, eqb-true, eq-eqb, cases_eq, cases_lt}
+use Rattle.std.proofs.lemmas.Bool.{false_from_ne_true, both_ways}
 use Rattle.tk_tour.specs.Tour.{IsRotation, SameCycle, next_city, prev_city, occurrences, place_of}
-use Rattle.tk_tour.proofs.Cycle.{IsRotation-append, IsRotation-trans, IsRotation-reverse, SameCycle-trans, SameCycle-append}
+use Rattle.tk_tour.proofs.Cycle.{IsRotation-append, IsRotation-trans, IsRotation-reverse, SameCycle-trans}
+use Rattle.tk_tour.proofs.Cycle.{SameCycle-append}
 use Rattle.tk_tour.proofs.Once.{HoldsOnce}
 use Rattle.tk_tour.proofs.Tours.{occurrences-other, occurrences-same, occurrences-nil}
 use Rattle.tk_tour.proofs.Steps.{Neighbours-rotation}
@@ -39,7 +42,8 @@ cycle-reverse C X (inr h) = inl h
 abbrev pub Apart : List ℕ → List ℕ → Type 0
 Apart xs ys = (c : ℕ) → holds xs c ≡ true → holds ys c ≡ false
 
-apart_cons : (b : ℕ) (xs ys : List ℕ) → holds ys b ≡ false → Apart xs ys → (c : ℕ) → (eqb b c ≡ true) ⊎ (holds xs c ≡ true) → holds ys c ≡ false
+apart_cons : (b : ℕ) (xs ys : List ℕ) → holds ys b ≡ false → Apart xs ys → (c : ℕ) → (eqb b c ≡ true)
+    ⊎ (holds xs c ≡ true) → holds ys c ≡ false
 apart_cons b xs ys h k c (inl e) = subst (λ z. holds ys z ≡ false) (eqb-true b c e) h
 apart_cons b xs ys h k c (inr e) = k c e
 
@@ -47,13 +51,17 @@ pub distinct-parts : (xs ys : List ℕ) → IsDistinct (xs ++ ys) → IsDistinct
 distinct-parts [] ys h = (tt, h, λ c e. absurd (both_ways false refl e))
 distinct-parts (b ∷ xs) ys h =
     let r = distinct-parts xs ys h.1 in
-    let p : (holds xs b ≡ false) × (holds ys b ≡ false) = or_parts (holds xs b) (holds ys b) (sym (holds-append xs ys b) ∙ h.0) in
+    let p : (holds xs b ≡ false) × (holds ys b ≡ false) =
+    or_parts (holds xs b) (holds ys b) (sym (holds-append xs ys b) ∙ h.0) in
     ((p.0, r.0), r.1, λ c e. apart_cons b xs ys p.1 r.2 c (or_cases (eqb b c) (holds xs c) e))
 
 pub distinct-join : (xs ys : List ℕ) → IsDistinct xs → IsDistinct ys → Apart xs ys → IsDistinct (xs ++ ys)
 distinct-join [] ys h k a = k
-distinct-join (b ∷ xs) ys h k a =
-    (holds-append xs ys b ∙ or_from (holds xs b) (holds ys b) h.0 (a b (or_left (eqb b b) (holds xs b) (eq-eqb b b refl))), distinct-join xs ys h.1 k (λ c e. a c (or_right (eqb b c) (holds xs c) e)))
+distinct-join (b ∷ xs) ys h k a = (
+  holds-append xs ys b
+      ∙ or_from (holds xs b) (holds ys b) h.0 (a b (or_left (eqb b b) (holds xs b) (eq-eqb b b refl))),
+  distinct-join xs ys h.1 k (λ c e. a c (or_right (eqb b c) (holds xs c) e)),
+)
 
 pub apart-sym : (xs ys : List ℕ) → Apart xs ys → Apart ys xs
 apart-sym xs ys a c e = false_from_ne_true (holds xs c) (λ f. both_ways (holds ys c) (a c f) e)
@@ -66,15 +74,19 @@ distinct-rotation X Y h e = subst IsDistinct (sym h.after) (distinct-turn h.fron
 
 pub holds-reverse : (xs : List ℕ) (c : ℕ) → holds (reverse xs) c ≡ holds xs c
 holds-reverse [] c = refl
-holds-reverse (b ∷ xs) c = ap (λ z. holds z c) (reverse-cons b xs) ∙ holds-push (reverse xs) b c ∙ or-comm (holds (reverse xs) c) (eqb b c) ∙ ap (λ z. eqb b c || z) (holds-reverse xs c)
+holds-reverse (b ∷ xs) c = ap (λ z. holds z c) (reverse-cons b xs) ∙ holds-push (reverse xs) b c
+    ∙ or-comm (holds (reverse xs) c) (eqb b c) ∙ ap (λ z. eqb b c || z) (holds-reverse xs c)
 
 pub distinct-reverse : (xs : List ℕ) → IsDistinct xs → IsDistinct (reverse xs)
 distinct-reverse [] h = tt
-distinct-reverse (b ∷ xs) h = subst IsDistinct (sym (reverse-cons b xs)) (distinct-push (reverse xs) b (distinct-reverse xs h.1) (holds-reverse xs b ∙ h.0))
+distinct-reverse (b ∷ xs) h =
+    subst IsDistinct (sym (reverse-cons b xs))
+    (distinct-push (reverse xs) b (distinct-reverse xs h.1) (holds-reverse xs b ∙ h.0))
 
 pub distinct-cycle : (C X : List ℕ) → SameCycle C X → IsDistinct C → IsDistinct X
 distinct-cycle C X (inl h) e = distinct-rotation C X h e
-distinct-cycle C X (inr h) e = subst IsDistinct (reverse-reverse X) (distinct-reverse (reverse X) (distinct-rotation C (reverse X) h e))
+distinct-cycle C X (inr h) e =
+    subst IsDistinct (reverse-reverse X) (distinct-reverse (reverse X) (distinct-rotation C (reverse X) h e))
 
 -- the last city of a path
 
@@ -126,16 +138,23 @@ rotation_of_one C b h = one_part h.front h.back h.before h.after
     one_part (u ∷ us) (v ∷ vs) h k = absurd (omega (arith, ap length k, length-append (v ∷ vs) (u ∷ us)))
 
 -- where a rotation begins with b and ends with a, b comes after a, and a before b
-beside_of : (C D : List ℕ) (b a : ℕ) → IsRotation C D → Spans D b a → IsDistinct C → (next_city C a ≡ b) × (prev_city C b ≡ a)
+beside_of : (C D : List ℕ) (b a : ℕ) → IsRotation C D → Spans D b a → IsDistinct C →
+    (next_city C a ≡ b) × (prev_city C b ≡ a)
 beside_of C [] b a h s d = absurd s
 beside_of C (x ∷ []) b a h s d =
     let e : C ≡ x ∷ [] = rotation_of_one C x h in
-    let n = next_one x in
-    (subst (λ z. next_city C z ≡ b) s.1 (subst (λ z. next_city C x ≡ z) s.0 (subst (λ z. next_city z x ≡ x) (sym e) n.0)), subst (λ z. prev_city C z ≡ a) s.0 (subst (λ z. prev_city C x ≡ z) s.1 (subst (λ z. prev_city z x ≡ x) (sym e) n.1)))
+    let n = next_one x in (
+      subst (λ z. next_city C z ≡ b) s.1
+          (subst (λ z. next_city C x ≡ z) s.0 (subst (λ z. next_city z x ≡ x) (sym e) n.0)),
+      subst (λ z. prev_city C z ≡ a) s.0
+          (subst (λ z. prev_city C x ≡ z) s.1 (subst (λ z. prev_city z x ≡ x) (sym e) n.1)),
+    )
 beside_of C (x ∷ y ∷ D) b a h s d =
     let r = split_last (y ∷ D) y a (refl, s.1) in
     let e : x ∷ y ∷ D ≡ (b ∷ r.0) ++ a ∷ [] = cc in
-    Neighbours-rotation C [] r.0 a b (once_of C d) (rotation-trans C ((b ∷ r.0) ++ a ∷ []) (a ∷ b ∷ r.0) (subst (λ z. IsRotation C z) e h) (turned (b ∷ r.0) (a ∷ [])))
+    Neighbours-rotation C [] r.0 a b (once_of C d)
+    (rotation-trans C ((b ∷ r.0) ++ a ∷ []) (a ∷ b ∷ r.0) (subst (λ z. IsRotation C z) e h)
+    (turned (b ∷ r.0) (a ∷ [])))
 
 pub next_of : (C D : List ℕ) (b a : ℕ) → IsRotation C D → Spans D b a → IsDistinct C → next_city C a ≡ b
 next_of C D b a h s d = (beside_of C D b a h s d).0
@@ -143,13 +162,21 @@ next_of C D b a h s d = (beside_of C D b a h s d).0
 pub prev_of : (C D : List ℕ) (b a : ℕ) → IsRotation C D → Spans D b a → IsDistinct C → prev_city C b ≡ a
 prev_of C D b a h s d = (beside_of C D b a h s d).1
 
-pub next_both : (C A B : List ℕ) (a b c d : ℕ) → IsRotation C (A ++ B) → IsDistinct C → Spans A d a → Spans B b c → (b ≡ next_city C a) × (d ≡ next_city C c)
-next_both C A B a b c d h e p q =
-    (sym (next_of C (B ++ A) b a (rotation-trans C (A ++ B) (B ++ A) h (turned A B)) (Spans-append B A b c d a q p) e), sym (next_of C (A ++ B) d c h (Spans-append A B d a b c p q) e))
+pub next_both : (C A B : List ℕ) (a b c d : ℕ) → IsRotation C (A ++ B) → IsDistinct C → Spans A d a → Spans B b c →
+    (b ≡ next_city C a) × (d ≡ next_city C c)
+next_both C A B a b c d h e p q = (
+  sym (next_of C (B ++ A) b a (rotation-trans C (A ++ B) (B ++ A) h (turned A B)) (Spans-append B A b c d a q p) e),
+  sym (next_of C (A ++ B) d c h (Spans-append A B d a b c p q) e),
+)
 
-pub prev_both : (C A B : List ℕ) (a b c d : ℕ) → IsRotation C (reverse (A ++ B)) → IsDistinct C → Spans A d a → Spans B b c → (b ≡ prev_city C a) × (d ≡ prev_city C c)
-prev_both C A B a b c d h e p q =
-    (sym (prev_of C (reverse (B ++ A)) a b (rotation-trans C (reverse (A ++ B)) (reverse (B ++ A)) h (rotation-reverse (A ++ B) (B ++ A) (turned A B))) (Spans-reverse (B ++ A) b a (Spans-append B A b c d a q p)) e), sym (prev_of C (reverse (A ++ B)) c d h (Spans-reverse (A ++ B) d c (Spans-append A B d a b c p q)) e))
+pub prev_both : (C A B : List ℕ) (a b c d : ℕ) → IsRotation C (reverse (A ++ B)) → IsDistinct C → Spans A d a →
+    Spans B b c → (b ≡ prev_city C a) × (d ≡ prev_city C c)
+prev_both C A B a b c d h e p q = (
+  sym (prev_of C (reverse (B ++ A)) a b
+      (rotation-trans C (reverse (A ++ B)) (reverse (B ++ A)) h (rotation-reverse (A ++ B) (B ++ A) (turned A B)))
+      (Spans-reverse (B ++ A) b a (Spans-append B A b c d a q p)) e),
+  sym (prev_of C (reverse (A ++ B)) c d h (Spans-reverse (A ++ B) d c (Spans-append A B d a b c p q)) e),
+)
 
 pub turned_back : (C X : List ℕ) → IsRotation C (reverse X) → IsRotation (reverse C) X
 turned_back C X h = subst (λ z. IsRotation (reverse C) z) (reverse-reverse X) (rotation-reverse C (reverse X) h)
@@ -159,7 +186,8 @@ abbrev pub Steps : List ℕ → ℕ → ℕ → ℕ → ℕ → Type 0
 Steps C a b c d = ((b ≡ next_city C a) × (d ≡ next_city C c)) ⊎ ((b ≡ prev_city C a) × (d ≡ prev_city C c))
 
 -- two paths that make up a cycle are joined by steps of one direction
-pub steps_of : (C A B : List ℕ) (a b c d : ℕ) → SameCycle C (A ++ B) → IsDistinct C → Spans A d a → Spans B b c → Steps C a b c d
+pub steps_of : (C A B : List ℕ) (a b c d : ℕ) → SameCycle C (A ++ B) → IsDistinct C → Spans A d a → Spans B b c →
+    Steps C a b c d
 steps_of C A B a b c d (inl h) e p q = inl (next_both C A B a b c d h e p q)
 steps_of C A B a b c d (inr h) e p q = inr (prev_both C A B a b c d h e p q)
 
@@ -178,4 +206,5 @@ pub one_city : (X : List ℕ) (x : ℕ) → Spans X x x → IsDistinct X → rev
 one_city [] x h d = refl
 one_city (c ∷ []) x h d = refl
 one_city (c ∷ e ∷ X) x h d =
-    absurd (both_ways (holds (e ∷ X) c) d.0 (subst (λ z. holds (e ∷ X) z ≡ true) (sym h.0) (holds-last (e ∷ X) e x (refl, h.1))))
+    absurd (both_ways (holds (e ∷ X) c) d.0
+    (subst (λ z. holds (e ∷ X) z ≡ true) (sym h.0) (holds-last (e ∷ X) e x (refl, h.1))))

@@ -1,9 +1,12 @@
 -- How long a list of offers is, and what its first offer with positive gain says.
-use Rattle.std.proofs.Common.{◌≡◌, ℕ, suc, ◌+◌, ◌*◌, ◌<◌, ◌≤◌, Bool, true, false, cond, ◌||◌, ◌&&◌, leb, List, [], ◌∷◌, ◌++◌, length, take, Option, Some, refl, arith, subst, pos, ◌-ℤ◌, flat_map, length-append, length-take}
+use Rattle.std.proofs.Common.{◌≡◌, ℕ, suc, ◌+◌, ◌*◌, ◌<◌, ◌≤◌, Bool, true, false, cond, ◌||◌, ◌&&◌, leb, List, [], ◌∷◌}
+use Rattle.std.proofs.Common.{◌++◌, length, take, Option, Some, refl, arith, subst, pos, ◌-ℤ◌, flat_map, length-append}
+use Rattle.std.proofs.Common.{length-take}
 use Rattle.std.proofs.lemmas.Bool.{ltb-true, leb-true}
 use Rattle.std.proofs.lemmas.Int.{ints}
 use Rattle.tk_tour.specs.Tour.{next_city, prev_city, tour_length, walk}
-use Rattle.tk_descent.specs.Offers.{first_gain, tests_to, Searched, improves, removed, added, covers, or_offer, or_offers, offers_with, offers, segments, all_segments, segment_count, ends}
+use Rattle.tk_descent.specs.Offers.{first_gain, tests_to, Searched, improves, removed, added, covers, or_offer}
+use Rattle.tk_descent.specs.Offers.{or_offers, offers_with, offers, segments, all_segments, segment_count, ends}
 use Rattle.tk_descent.specs.Awake.{woken, woken_each, holds}
 use Rattle.tk_descent.specs.declared.offer.Offer.{Offer}
 use Rattle.tk_descent.specs.declared.offer.Offer.TheVariants.{Two, Or}
@@ -12,14 +15,16 @@ use Rattle.tk_problem.specs.declared.limits.TheConstants.{DISTANCE_LIMIT}
 use Rattle.tk_descent.specs.declared.offer.Segment.{Segment}
 use Rattle.tk_descent.specs.declared.offer.Found.{Found}
 
-step_improves : (b : Bool) (o p : Offer) (r : Option Offer) (P : Offer → Type 0) → (b ≡ true → P o) → (r ≡ Some p → P p) → cond b (Some o) r ≡ Some p → P p
+step_improves : (b : Bool) (o p : Offer) (r : Option Offer) (P : Offer → Type 0) → (b ≡ true → P o) →
+    (r ≡ Some p → P p) → cond b (Some o) r ≡ Some p → P p
 step_improves true o p r P h k e = let same : o ≡ p = cc in subst P same (h refl)
 step_improves false o p r P h k e = k e
 
 -- what is found improves, and has what each offer of the list has
 pub found_improves : (d : ℕ → ℕ → ℕ) (os : List Offer) (p : Offer) → first_gain d os ≡ Some p → added d p < removed d p
 found_improves d [] p e = cc
-found_improves d (o ∷ os) p e = step_improves (improves d o) o p (first_gain d os) (λ z. added d z < removed d z) (λ h. ltb-true (added d o) (removed d o) h) (found_improves d os p) e
+found_improves d (o ∷ os) p e = step_improves (improves d o) o p (first_gain d os) (λ z. added d z < removed d z)
+    (λ h. ltb-true (added d o) (removed d o) h) (found_improves d os p) e
 
 tests_step : (b : Bool) (k n : ℕ) → k ≤ n → cond b 1 (suc k) ≤ suc n
 tests_step true k n h = omega arith
@@ -29,7 +34,8 @@ pub tests_to-le : (d : ℕ → ℕ → ℕ) (os : List Offer) → tests_to d os 
 tests_to-le d [] = omega arith
 tests_to-le d (o ∷ os) = tests_step (improves d o) (tests_to d os) (length os) (tests_to-le d os)
 
-length-flat_map-le : {X : Type 0} (f : X → List Offer) (b : ℕ) → ((x : X) → length (f x) ≤ b) → (xs : List X) → length (flat_map f xs) ≤ b * length xs
+length-flat_map-le : {X : Type 0} (f : X → List Offer) (b : ℕ) → ((x : X) → length (f x) ≤ b) → (xs : List X) →
+    length (flat_map f xs) ≤ b * length xs
 length-flat_map-le f b h [] = omega arith
 length-flat_map-le f b h (x ∷ xs) = omega (arith, length-append (f x) (flat_map f xs), h x, length-flat_map-le f b h xs)
 
@@ -41,9 +47,11 @@ or_offer-le : (x y : ℕ) (s : Segment) (w : ℕ) → length (or_offer x y s w) 
 or_offer-le x y s w = one_or_none (covers x s y || covers x s w) (Or s.before x s.last s.after y w)
 
 or_offers-le : (x y ay by : ℕ) (s : Segment) → length (or_offers x y ay by s) ≤ 2
-or_offers-le x y ay by s = omega (arith, length-append (or_offer x y s ay) (or_offer x y s by), or_offer-le x y s ay, or_offer-le x y s by)
+or_offers-le x y ay by s =
+    omega (arith, length-append (or_offer x y s ay) (or_offer x y s by), or_offer-le x y s ay, or_offer-le x y s by)
 
-count_cases : (a b c : Bool) (m : ℕ) → (a ≡ true → 3 ≤ m) → (b ≡ true → 2 ≤ m) → 1 ≤ m → cond a 5 (cond b 3 (cond c 1 0)) + 1 ≤ 2 * m
+count_cases : (a b c : Bool) (m : ℕ) → (a ≡ true → 3 ≤ m) → (b ≡ true → 2 ≤ m) → 1 ≤ m →
+    cond a 5 (cond b 3 (cond c 1 0)) + 1 ≤ 2 * m
 count_cases true b c m h k l = omega (arith, h refl)
 count_cases false true c m h k l = omega (arith, k refl)
 count_cases false false true m h k l = omega arith
@@ -54,26 +62,40 @@ and_second true b h = h
 and_second false b h = cc
 
 pub segment_count-le : (n m : ℕ) → 1 ≤ m → segment_count n m + 1 ≤ 2 * m
-segment_count-le n m l = count_cases (leb 5 n && leb 3 m) (leb 4 n && leb 2 m) (leb 3 n) m (λ h. leb-true 3 m (and_second (leb 5 n) (leb 3 m) h)) (λ h. leb-true 2 m (and_second (leb 4 n) (leb 2 m) h)) l
+segment_count-le n m l =
+    count_cases (leb 5 n && leb 3 m) (leb 4 n && leb 2 m) (leb 3 n) m
+    (λ h. leb-true 3 m (and_second (leb 5 n) (leb 3 m) h)) (λ h. leb-true 2 m (and_second (leb 4 n) (leb 2 m) h)) l
 
 length-segments : (next prev : ℕ → ℕ) (n m x : ℕ) → length (segments next prev n m x) ≤ segment_count n m
 length-segments next prev n m x = omega (arith, length-take (segment_count n m) (all_segments next prev x))
 
-offers_with-le : (next prev : ℕ → ℕ) (n m x y : ℕ) → 1 ≤ m → length (offers_with next prev (segments next prev n m x) x y) ≤ 4 * m
+offers_with-le : (next prev : ℕ → ℕ) (n m x y : ℕ) → 1 ≤ m →
+    length (offers_with next prev (segments next prev n m x) x y) ≤ 4 * m
 offers_with-le next prev n m x y l =
-    omega (arith, length-flat_map-le (or_offers x y (next y) (prev y)) 2 (or_offers-le x y (next y) (prev y)) (segments next prev n m x), length-segments next prev n m x, segment_count-le n m l)
+    omega (
+      arith,
+      length-flat_map-le (or_offers x y (next y) (prev y)) 2 (or_offers-le x y (next y) (prev y))
+          (segments next prev n m x),
+      length-segments next prev n m x,
+      segment_count-le n m l,
+    )
 
 pub offers-le : (C near : List ℕ) (m x : ℕ) → 1 ≤ m → length (offers C m near x) ≤ 4 * m * length near
-offers-le C near m x l = length-flat_map-le (offers_with (next_city C) (prev_city C) (segments (next_city C) (prev_city C) (length C) m x) x) (4 * m) (λ y. offers_with-le (next_city C) (prev_city C) (length C) m x y l) near
+offers-le C near m x l =
+    length-flat_map-le (offers_with (next_city C) (prev_city C) (segments (next_city C) (prev_city C) (length C) m x) x)
+    (4 * m) (λ y. offers_with-le (next_city C) (prev_city C) (length C) m x y l) near
 
 -- at most 4 * m tests for each near city
-pub tested : (d : ℕ → ℕ → ℕ) (C near : List ℕ) (m x t u k : ℕ) (r : Option Found) → 1 ≤ m → length near ≤ k → Searched d (offers C m near x) r t u → u ≤ t + 4 * m * k
+pub tested : (d : ℕ → ℕ → ℕ) (C near : List ℕ) (m x t u k : ℕ) (r : Option Found) → 1 ≤ m → length near ≤ k →
+    Searched d (offers C m near x) r t u → u ≤ t + 4 * m * k
 tested d C near m x t u k r l e h =
     let p : 4 * m * length near ≤ 4 * m * k = mul-le-mul_left (4 * m) e in
     omega (arith, h.tests, tests_to-le d (offers C m near x), p, offers-le C near m x l)
 
 pub tested_part : (d : ℕ → ℕ → ℕ) (C near : List ℕ) (m x i t u k : ℕ) (r : Option Found) → 1 ≤ m → length near ≤ k →
-    Searched d (flat_map (offers_with (next_city C) (prev_city C) (segments (next_city C) (prev_city C) (length C) m x) x) (take i near)) r t u → u ≤ t + 4 * m * k
+    Searched d
+    (flat_map (offers_with (next_city C) (prev_city C) (segments (next_city C) (prev_city C) (length C) m x) x)
+    (take i near)) r t u → u ≤ t + 4 * m * k
 tested_part d C near m x i t u k r l e h = tested d C (take i near) m x t u k r l (omega (arith, length-take i near)) h
 
 -- the numbers of a move
@@ -81,11 +103,13 @@ tested_part d C near m x i t u k r l e h = tested d C (take i near) m x t u k r 
 pub gain_after : (L L2 a r : ℕ) → L + a ≡ L2 + r → pos L -ℤ (pos r -ℤ pos a) ≡ pos L2
 gain_after L L2 a r h = omega (arith, ints)
 
-walk-le : (d : ℕ → ℕ → ℕ) → ((a b : ℕ) → d a b ≤ DISTANCE_LIMIT) → (a : ℕ) (xs : List ℕ) → walk d a xs ≤ DISTANCE_LIMIT * length xs
+walk-le : (d : ℕ → ℕ → ℕ) → ((a b : ℕ) → d a b ≤ DISTANCE_LIMIT) → (a : ℕ) (xs : List ℕ) →
+    walk d a xs ≤ DISTANCE_LIMIT * length xs
 walk-le d h a [] = omega arith
 walk-le d h a (b ∷ xs) = omega (arith, h a b, walk-le d h b xs)
 
-pub tour_length-le : (d : ℕ → ℕ → ℕ) → ((a b : ℕ) → d a b ≤ DISTANCE_LIMIT) → (C : List ℕ) → tour_length d C ≤ DISTANCE_LIMIT * length C
+pub tour_length-le : (d : ℕ → ℕ → ℕ) → ((a b : ℕ) → d a b ≤ DISTANCE_LIMIT) → (C : List ℕ) →
+    tour_length d C ≤ DISTANCE_LIMIT * length C
 tour_length-le d h [] = omega arith
 tour_length-le d h (a ∷ C) = omega (arith, walk-le d h a (C ++ a ∷ []), length-append C (a ∷ []))
 

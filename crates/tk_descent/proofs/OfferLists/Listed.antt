@@ -8,11 +8,13 @@ abbrev pub IsListed : List Offer → Offer → Type 0
 IsListed [] o = ⊥
 IsListed (p ∷ os) o = (p ≡ o) ⊎ IsListed os o
 
--- under each symmetric table the two remove as much and add as much: their steps are the same but for order and direction
+-- under each symmetric table the two remove as much and add as much: their steps are the same but for order and
+-- direction
 abbrev pub HasSameSteps : Offer → Offer → Type 0
 HasSameSteps p o = (d : ℕ → ℕ → ℕ) → ((a b : ℕ) → d a b ≡ d b a) → (removed d p ≡ removed d o) × (added d p ≡ added d o)
 
 -- the list of x has an offer with the steps of each move of x
 abbrev pub IsComplete : List ℕ → ℕ → (ℕ → List ℕ) → ℕ → Type 0
 IsComplete C m near x =
-    (o : Offer) (D : List ℕ) → IsOf near x o → Makes m o C D → (p : Offer) × IsListed (offers C m (near x) x) p × HasSameSteps p o
+    (o : Offer) (D : List ℕ) → IsOf near x o → Makes m o C D → (p : Offer) × IsListed (offers C m (near x) x) p
+    × HasSameSteps p o

@@ -1,5 +1,7 @@
 -- A search of a list in pieces.
-use Rattle.std.proofs.Common.{◌≡◌, ℕ, suc, ◌+◌, ◌<◌, Bool, true, false, cond, List, [], ◌∷◌, ◌++◌, length, get_or, take, drop, Option, Some, None, refl, sym, ◌∙◌, ap, arith, append-nil, take-append-drop, subst, map}
+use Rattle.std.proofs.Common.{◌≡◌, ℕ, suc, ◌+◌, ◌<◌, Bool, true, false, cond, List, [], ◌∷◌, ◌++◌, length, get_or, take}
+use Rattle.std.proofs.Common.{drop, Option, Some, None, refl, sym, ◌∙◌, ap, arith, append-nil, take-append-drop, subst}
+use Rattle.std.proofs.Common.{map}
 use Rattle.std.specs.List.{flat_map}
 use Rattle.std.proofs.lemmas.List.{take_more, take-map}
 use Rattle.std.proofs.lemmas.List.Folds.{flat_map-map}
@@ -7,7 +9,8 @@ use Rattle.std.proofs.lemmas.List.Concat.{flat_map-append}
 use Rattle.std.specs.List.{All}
 use Rattle.std.proofs.lemmas.List.Elements.{All-cons, All-nil}
 use Rattle.tk_tour.specs.Counters.{saturated}
-use Rattle.tk_descent.specs.Offers.{first_gain, tests_to, Searched, improves, or_offers, offers_with, segments, segment_count, all_segments}
+use Rattle.tk_descent.specs.Offers.{first_gain, tests_to, Searched, improves, or_offers, offers_with, segments}
+use Rattle.tk_descent.specs.Offers.{segment_count, all_segments}
 use Rattle.tk_descent.specs.Sharing.{segment_of, piece_offers}
 use Rattle.tk_descent.specs.declared.looks.sharing.Beside.{Beside}
 use Rattle.tk_descent.specs.declared.looks.sharing.Piece.{Piece}
@@ -16,89 +19,136 @@ use Rattle.tk_descent.specs.declared.offer.Segment.{Segment}
 use Rattle.tk_descent.specs.declared.offer.Offer.{Offer}
 use Rattle.tk_descent.specs.declared.offer.Found.{Found}
 
-step_none : (b : Bool) (o : Offer) (r r2 s : Option Offer) → cond b (Some o) r ≡ None → (r ≡ None → r2 ≡ s) → cond b (Some o) r2 ≡ s
+step_none : (b : Bool) (o : Offer) (r r2 s : Option Offer) → cond b (Some o) r ≡ None → (r ≡ None → r2 ≡ s) →
+    cond b (Some o) r2 ≡ s
 step_none true o r r2 s h k = cc
 step_none false o r r2 s h k = k h
 
-step_some : (b : Bool) (o p : Offer) (r r2 : Option Offer) → cond b (Some o) r ≡ Some p → (r ≡ Some p → r2 ≡ Some p) → cond b (Some o) r2 ≡ Some p
+step_some : (b : Bool) (o p : Offer) (r r2 : Option Offer) → cond b (Some o) r ≡ Some p → (r ≡ Some p → r2 ≡ Some p) →
+    cond b (Some o) r2 ≡ Some p
 step_some true o p r r2 h k = h
 step_some false o p r r2 h k = k h
 
-step_none_tests : (b : Bool) (o : Offer) (r : Option Offer) (k l n : ℕ) → cond b (Some o) r ≡ None → (r ≡ None → k ≡ l + n) → cond b 1 (suc k) ≡ cond b 1 (suc l) + n
+step_none_tests : (b : Bool) (o : Offer) (r : Option Offer) (k l n : ℕ) → cond b (Some o) r ≡ None →
+    (r ≡ None → k ≡ l + n) → cond b 1 (suc k) ≡ cond b 1 (suc l) + n
 step_none_tests true o r k l n h f = cc
 step_none_tests false o r k l n h f = omega (arith, f h)
 
-step_some_tests : (b : Bool) (o p : Offer) (r : Option Offer) (k l : ℕ) → cond b (Some o) r ≡ Some p → (r ≡ Some p → k ≡ l) → cond b 1 (suc k) ≡ cond b 1 (suc l)
+step_some_tests : (b : Bool) (o p : Offer) (r : Option Offer) (k l : ℕ) → cond b (Some o) r ≡ Some p →
+    (r ≡ Some p → k ≡ l) → cond b 1 (suc k) ≡ cond b 1 (suc l)
 step_some_tests true o p r k l h f = refl
 step_some_tests false o p r k l h f = ap suc (f h)
 
-pub first_gain-after : (d : ℕ → ℕ → ℕ) (xs ys : List Offer) → first_gain d xs ≡ None → first_gain d (xs ++ ys) ≡ first_gain d ys
+pub first_gain-after : (d : ℕ → ℕ → ℕ) (xs ys : List Offer) → first_gain d xs ≡ None →
+    first_gain d (xs ++ ys) ≡ first_gain d ys
 first_gain-after d [] ys h = refl
-first_gain-after d (o ∷ xs) ys h = step_none (improves d o) o (first_gain d xs) (first_gain d (xs ++ ys)) (first_gain d ys) h (first_gain-after d xs ys)
+first_gain-after d (o ∷ xs) ys h =
+    step_none (improves d o) o (first_gain d xs) (first_gain d (xs ++ ys)) (first_gain d ys) h
+    (first_gain-after d xs ys)
 
-pub first_gain-found : (d : ℕ → ℕ → ℕ) (xs ys : List Offer) (p : Offer) → first_gain d xs ≡ Some p → first_gain d (xs ++ ys) ≡ Some p
+pub first_gain-found : (d : ℕ → ℕ → ℕ) (xs ys : List Offer) (p : Offer) → first_gain d xs ≡ Some p →
+    first_gain d (xs ++ ys) ≡ Some p
 first_gain-found d [] ys p h = cc
-first_gain-found d (o ∷ xs) ys p h = step_some (improves d o) o p (first_gain d xs) (first_gain d (xs ++ ys)) h (first_gain-found d xs ys p)
+first_gain-found d (o ∷ xs) ys p h =
+    step_some (improves d o) o p (first_gain d xs) (first_gain d (xs ++ ys)) h (first_gain-found d xs ys p)
 
-pub tests_to-after : (d : ℕ → ℕ → ℕ) (xs ys : List Offer) → first_gain d xs ≡ None → tests_to d (xs ++ ys) ≡ tests_to d xs + tests_to d ys
+pub tests_to-after : (d : ℕ → ℕ → ℕ) (xs ys : List Offer) → first_gain d xs ≡ None →
+    tests_to d (xs ++ ys) ≡ tests_to d xs + tests_to d ys
 tests_to-after d [] ys h = omega arith
-tests_to-after d (o ∷ xs) ys h = step_none_tests (improves d o) o (first_gain d xs) (tests_to d (xs ++ ys)) (tests_to d xs) (tests_to d ys) h (tests_to-after d xs ys)
+tests_to-after d (o ∷ xs) ys h =
+    step_none_tests (improves d o) o (first_gain d xs) (tests_to d (xs ++ ys)) (tests_to d xs) (tests_to d ys) h
+    (tests_to-after d xs ys)
 
-pub tests_to-found : (d : ℕ → ℕ → ℕ) (xs ys : List Offer) (p : Offer) → first_gain d xs ≡ Some p → tests_to d (xs ++ ys) ≡ tests_to d xs
+pub tests_to-found : (d : ℕ → ℕ → ℕ) (xs ys : List Offer) (p : Offer) → first_gain d xs ≡ Some p →
+    tests_to d (xs ++ ys) ≡ tests_to d xs
 tests_to-found d [] ys p h = cc
-tests_to-found d (o ∷ xs) ys p h = step_some_tests (improves d o) o p (first_gain d xs) (tests_to d (xs ++ ys)) (tests_to d xs) h (tests_to-found d xs ys p)
+tests_to-found d (o ∷ xs) ys p h = step_some_tests (improves d o) o p (first_gain d xs) (tests_to d (xs ++ ys))
+    (tests_to d xs) h (tests_to-found d xs ys p)
 
 pub saturated-saturated : (t j k : ℕ) → saturated (saturated (t + j) + k) ≡ saturated (t + (j + k))
 saturated-saturated t j k = omega arith
 
 -- a search that found nothing goes on with another list
-pub Searched-on : (d : ℕ → ℕ → ℕ) (xs ys : List Offer) (r : Option Found) (t u v : ℕ) → Searched d xs None t u → Searched d ys r u v → Searched d (xs ++ ys) r t v
+pub Searched-on : (d : ℕ → ℕ → ℕ) (xs ys : List Offer) (r : Option Found) (t u v : ℕ) → Searched d xs None t u →
+    Searched d ys r u v → Searched d (xs ++ ys) r t v
 Searched-on d xs ys r t u v h k =
     let e : first_gain d xs ≡ None = sym h.found in
-    record { found = k.found ∙ sym (first_gain-after d xs ys e); worth = k.worth; tests = k.tests ∙ ap (λ z. saturated (z + tests_to d ys)) h.tests ∙ saturated-saturated t (tests_to d xs) (tests_to d ys) ∙ ap (λ z. saturated (t + z)) (sym (tests_to-after d xs ys e)) }
+    record {
+      found = k.found ∙ sym (first_gain-after d xs ys e);
+      worth = k.worth;
+      tests = k.tests
+          ∙ ap (λ z. saturated (z + tests_to d ys)) h.tests ∙ saturated-saturated t (tests_to d xs) (tests_to d ys)
+          ∙ ap (λ z. saturated (t + z)) (sym (tests_to-after d xs ys e));
+    }
 
 -- a search that found an offer leaves the rest
-pub Searched-stop : (d : ℕ → ℕ → ℕ) (xs ys : List Offer) (f : Found) (t u : ℕ) → Searched d xs (Some f) t u → Searched d (xs ++ ys) (Some f) t u
+pub Searched-stop : (d : ℕ → ℕ → ℕ) (xs ys : List Offer) (f : Found) (t u : ℕ) → Searched d xs (Some f) t u →
+    Searched d (xs ++ ys) (Some f) t u
 Searched-stop d xs ys f t u h =
     let e : first_gain d xs ≡ Some f.offer = sym h.found in
-    record { found = sym (first_gain-found d xs ys f.offer e); worth = h.worth; tests = h.tests ∙ ap (λ z. saturated (t + z)) (sym (tests_to-found d xs ys f.offer e)) }
+    record {
+      found = sym (first_gain-found d xs ys f.offer e);
+      worth = h.worth;
+      tests = h.tests
+          ∙ ap (λ z. saturated (t + z)) (sym (tests_to-found d xs ys f.offer e));
+    }
 
-module _ {X : Type 0} (d : ℕ → ℕ → ℕ) (f : X → List Offer) (xs : List X) (i : ℕ) (x : X) (at : i < length xs) (t u v : ℕ) where
+module _ {X : Type 0} (d : ℕ → ℕ → ℕ) (f : X → List Offer) (xs : List X) (i : ℕ) (x : X) (at : i < length xs)
+    (t u v : ℕ) where
   one_more : flat_map f (take (i + 1) xs) ≡ flat_map f (take i xs) ++ f (get_or xs i x)
-  one_more = ap (flat_map f) (take_more xs i x at) ∙ flat_map-append f (take i xs) (get_or xs i x ∷ []) ∙ ap (λ z. flat_map f (take i xs) ++ z) (append-nil (f (get_or xs i x)))
+  one_more = ap (flat_map f) (take_more xs i x at) ∙ flat_map-append f (take i xs) (get_or xs i x ∷ [])
+      ∙ ap (λ z. flat_map f (take i xs) ++ z) (append-nil (f (get_or xs i x)))
 
-  pub Searched-more : Searched d (flat_map f (take i xs)) None t u → Searched d (f (get_or xs i x)) None u v → Searched d (flat_map f (take (i + 1) xs)) None t v
+  pub Searched-more : Searched d (flat_map f (take i xs)) None t u → Searched d (f (get_or xs i x)) None u v →
+      Searched d (flat_map f (take (i + 1) xs)) None t v
   Searched-more h k = rw one_more (Searched-on d (flat_map f (take i xs)) (f (get_or xs i x)) None t u v h k)
 
   pieces : flat_map f xs ≡ (flat_map f (take i xs) ++ f (get_or xs i x)) ++ flat_map f (drop (i + 1) xs)
-  pieces = ap (flat_map f) (sym (take-append-drop (i + 1) xs)) ∙ flat_map-append f (take (i + 1) xs) (drop (i + 1) xs) ∙ ap (λ z. z ++ flat_map f (drop (i + 1) xs)) one_more
+  pieces = ap (flat_map f) (sym (take-append-drop (i + 1) xs)) ∙ flat_map-append f (take (i + 1) xs) (drop (i + 1) xs)
+      ∙ ap (λ z. z ++ flat_map f (drop (i + 1) xs)) one_more
 
-  pub Searched-early : (r : Found) → Searched d (flat_map f (take i xs)) None t u → Searched d (f (get_or xs i x)) (Some r) u v → Searched d (flat_map f xs) (Some r) t v
-  Searched-early r h k = rw pieces (Searched-stop d (flat_map f (take i xs) ++ f (get_or xs i x)) (flat_map f (drop (i + 1) xs)) r t v (Searched-on d (flat_map f (take i xs)) (f (get_or xs i x)) (Some r) t u v h k))
+  pub Searched-early : (r : Found) → Searched d (flat_map f (take i xs)) None t u →
+      Searched d (f (get_or xs i x)) (Some r) u v → Searched d (flat_map f xs) (Some r) t v
+  Searched-early r h k =
+      rw pieces (Searched-stop d (flat_map f (take i xs) ++ f (get_or xs i x)) (flat_map f (drop (i + 1) xs)) r t v
+      (Searched-on d (flat_map f (take i xs)) (f (get_or xs i x)) (Some r) t u v h k))
 
 -- a search of nothing
 pub Searched-none : (d : ℕ → ℕ → ℕ) (t : ℕ) → t < 18446744073709551616 → Searched d [] None t t
 Searched-none d t h = record { found = refl; worth = tt; tests = omega (arith, h) }
 
-pub all_of_five : {X : Type 0} (P : X → Type 0) (a b c d e : X) → P a → P b → P c → P d → P e → All P (a ∷ b ∷ c ∷ d ∷ e ∷ [])
+pub all_of_five : {X : Type 0} (P : X → Type 0) (a b c d e : X) → P a → P b → P c → P d → P e →
+    All P (a ∷ b ∷ c ∷ d ∷ e ∷ [])
 all_of_five P a b c d e h1 h2 h3 h4 h5 =
-    All-cons P a (b ∷ c ∷ d ∷ e ∷ []) h1 (All-cons P b (c ∷ d ∷ e ∷ []) h2 (All-cons P c (d ∷ e ∷ []) h3 (All-cons P d (e ∷ []) h4 (All-cons P e [] h5 (All-nil P)))))
+    All-cons P a (b ∷ c ∷ d ∷ e ∷ []) h1
+    (All-cons P b (c ∷ d ∷ e ∷ []) h2
+    (All-cons P c (d ∷ e ∷ []) h3 (All-cons P d (e ∷ []) h4 (All-cons P e [] h5 (All-nil P)))))
 
-pub at_table : (d e : ℕ → ℕ → ℕ) (os : List Offer) (r : Option Found) (t u : ℕ) → e ≡ d → Searched e os r t u → Searched d os r t u
+pub at_table : (d e : ℕ → ℕ → ℕ) (os : List Offer) (r : Option Found) (t u : ℕ) → e ≡ d → Searched e os r t u →
+    Searched d os r t u
 at_table d e os r t u same h = subst (λ z. Searched z os r t u) same h
 
-pub on_list : (d : ℕ → ℕ → ℕ) (os qs : List Offer) (r : Option Found) (t u : ℕ) → os ≡ qs → Searched d os r t u → Searched d qs r t u
+pub on_list : (d : ℕ → ℕ → ℕ) (os qs : List Offer) (r : Option Found) (t u : ℕ) → os ≡ qs → Searched d os r t u →
+    Searched d qs r t u
 on_list d os qs r t u same h = subst (λ z. Searched d z r t u) same h
 
-pub pieces_are : (next prev : ℕ → ℕ) (n m k x z : ℕ) (all : List Piece) → k ≡ segment_count n m → z ≡ x → map segment_of all ≡ all_segments next prev z → map segment_of (take k all) ≡ segments next prev n m x
+pub pieces_are : (next prev : ℕ → ℕ) (n m k x z : ℕ) (all : List Piece) → k ≡ segment_count n m → z ≡ x →
+    map segment_of all ≡ all_segments next prev z → map segment_of (take k all) ≡ segments next prev n m x
 pieces_are next prev n m k x z all h1 h2 h3 =
-    sym (take-map segment_of k all) ∙ ap (take k) h3 ∙ ap (λ i. take i (all_segments next prev z)) h1 ∙ ap (λ i. take (segment_count n m) (all_segments next prev i)) h2
+    sym (take-map segment_of k all) ∙ ap (take k) h3 ∙ ap (λ i. take i (all_segments next prev z)) h1
+    ∙ ap (λ i. take (segment_count n m) (all_segments next prev i)) h2
 
 -- what a search with the cities beside x and y in hand says of the offers of x with y
-pub with_city : (next prev : ℕ → ℕ) (ss : List Segment) (ps : List Piece) (a b : Beside) (x y : ℕ) (d : ℕ → ℕ → ℕ) (r : Option Found) (t u : ℕ) →
-    a.city ≡ x → a.after ≡ next x → a.before ≡ prev x → b.city ≡ y → b.after ≡ next y → b.before ≡ prev y → map segment_of ps ≡ ss →
-    Searched d (Two a.city a.after b.city b.after ∷ Two a.city a.before b.city b.before ∷ flat_map (piece_offers a.city b) ps) r t u → Searched d (offers_with next prev ss x y) r t u
+pub with_city : (next prev : ℕ → ℕ) (ss : List Segment) (ps : List Piece) (a b : Beside) (x y : ℕ) (d : ℕ → ℕ → ℕ)
+    (r : Option Found) (t u : ℕ) →
+    a.city ≡ x → a.after ≡ next x → a.before ≡ prev x → b.city ≡ y → b.after ≡ next y → b.before ≡ prev y →
+    map segment_of ps ≡ ss →
+    Searched d (Two a.city a.after b.city b.after ∷ Two a.city a.before b.city b.before
+    ∷ flat_map (piece_offers a.city b) ps) r t u → Searched d (offers_with next prev ss x y) r t u
 with_city next prev ss ps a b x y d r t u h1 h2 h3 h4 h5 h6 h7 h =
-    let rest : flat_map (piece_offers a.city b) ps ≡ flat_map (or_offers a.city b.city b.after b.before) ss = sym (flat_map-map (or_offers a.city b.city b.after b.before) segment_of ps) ∙ ap (flat_map (or_offers a.city b.city b.after b.before)) h7 in
-    let same : (Two a.city a.after b.city b.after ∷ Two a.city a.before b.city b.before ∷ flat_map (piece_offers a.city b) ps) ≡ offers_with next prev ss x y = cc in
+    let rest : flat_map (piece_offers a.city b) ps ≡ flat_map (or_offers a.city b.city b.after b.before) ss =
+    sym (flat_map-map (or_offers a.city b.city b.after b.before) segment_of ps)
+    ∙ ap (flat_map (or_offers a.city b.city b.after b.before)) h7 in
+    let same : (Two a.city a.after b.city b.after ∷ Two a.city a.before b.city b.before
+    ∷ flat_map (piece_offers a.city b) ps) ≡ offers_with next prev ss x y = cc in
     on_list d _ _ r t u same h

@@ -1,10 +1,13 @@
 -- A descent's run is a run of the wake machine.
-use Rattle.std.proofs.Common.{◌≡◌, ℕ, ◌<◌, ◌≤◌, ◌≢◌, ◌⊎◌, Bool, true, false, cond, ◌||◌, eqb, List, [], ◌∷◌, ◌++◌, length, reverse, Option, Some, None, refl, sym, ◌∙◌, ap, arith, inl, inr, subst, flat_map}
-use Rattle.std.proofs.lemmas.Bool.{or_cases, or_left, or_right, eqb-true, eq-eqb, ne_eqb, both_ways, ltb-false, cases_eq}
+use Rattle.std.proofs.Common.{◌≡◌, ℕ, ◌<◌, ◌≤◌, ◌≢◌, ◌⊎◌, Bool, true, false, cond, ◌||◌, eqb, List, [], ◌∷◌, ◌++◌}
+use Rattle.std.proofs.Common.{length, reverse, Option, Some, None, refl, sym, ◌∙◌, ap, arith, inl, inr, subst, flat_map}
+use Rattle.std.proofs.lemmas.Bool.{or_cases, or_left, or_right, eqb-true, eq-eqb, ne_eqb, both_ways, ltb-false}
+use Rattle.std.proofs.lemmas.Bool.{cases_eq}
 use Rattle.tk_tour.specs.Tour.{SameCycle, next_city, prev_city}
 use Rattle.tk_descent.proofs.MovesOnTours.Views.{Made, made_of}
 use Rattle.tk_descent.proofs.MovesOnTours.Paths.{IsTable}
-use Rattle.tk_descent.specs.Offers.{first_gain, improves, or_offer, or_offers, offers_with, offers, segments, Makes, removed, added, ends}
+use Rattle.tk_descent.specs.Offers.{first_gain, improves, or_offer, or_offers, offers_with, offers, segments, Makes}
+use Rattle.tk_descent.specs.Offers.{removed, added, ends}
 use Rattle.tk_descent.specs.Awake.{woken, woken_each, IsDistinct, holds}
 use Rattle.tk_descent.specs.Machine.{Run, IsOfferOn}
 use Rattle.tk_descent.specs.Machine.Run.{start, asleep, move}
@@ -20,7 +23,8 @@ use Rattle.tk_descent.proofs.MovesOnTours.GainLaw.{gain_law}
 use Rattle.tk_descent.proofs.OfferLists.Count.{found_improves}
 use Rattle.tk_descent.proofs.OfferLists.Complete.{complete}
 use Rattle.tk_descent.proofs.OfferLists.OnCycle.{Each, each-append, found_has, each_or, holds-turn}
-use Rattle.tk_descent.proofs.MovesOnTours.Steps.{distinct-parts, distinct-join, distinct-turn, distinct-reverse, distinct-cycle, holds-reverse}
+use Rattle.tk_descent.proofs.MovesOnTours.Steps.{distinct-parts, distinct-join, distinct-turn, distinct-reverse}
+use Rattle.tk_descent.proofs.MovesOnTours.Steps.{distinct-cycle, holds-reverse}
 
 -- asleep
 
@@ -28,7 +32,8 @@ none_of : (b : Bool) (o : Offer) (r : Option Offer) → cond b (Some o) r ≡ No
 none_of true o r h = cc
 none_of false o r h = (refl, h)
 
-unlisted : (d : ℕ → ℕ → ℕ) (os : List Offer) (o : Offer) → first_gain d os ≡ None → IsListed os o → added d o < removed d o → ⊥
+unlisted : (d : ℕ → ℕ → ℕ) (os : List Offer) (o : Offer) → first_gain d os ≡ None → IsListed os o →
+    added d o < removed d o → ⊥
 unlisted d [] o e l h = l
 unlisted d (p ∷ os) o e (inl same) h =
     let q : (improves d p ≡ false) × (first_gain d os ≡ None) = none_of (improves d p) p (first_gain d os) e in
@@ -37,7 +42,8 @@ unlisted d (p ∷ os) o e (inr l) h =
     let q : (improves d p ≡ false) × (first_gain d os ≡ None) = none_of (improves d p) p (first_gain d os) e in
     unlisted d os o q.1 l h
 
-pub none_improves : (d : ℕ → ℕ → ℕ) (near : ℕ → List ℕ) (m x : ℕ) (C : List ℕ) → IsTable d → IsDistinct C → m ≤ 3 → first_gain d (offers C m (near x) x) ≡ None → HasNoOffer d near m x C
+pub none_improves : (d : ℕ → ℕ → ℕ) (near : ℕ → List ℕ) (m x : ℕ) (C : List ℕ) → IsTable d → IsDistinct C → m ≤ 3 →
+    first_gain d (offers C m (near x) x) ≡ None → HasNoOffer d near m x C
 none_improves d near m x C is dis small e =
     λ o D i. let p = complete C near m x dis small o D i.0 i.1 in
     let q = p.2 d is.0 in
@@ -45,33 +51,55 @@ none_improves d near m x C is dis small e =
 
 -- what is found is an offer of x
 
-each_held : (F : Offer → Type 0) (f : ℕ → List Offer) (xs : List ℕ) → ((y : ℕ) → holds xs y ≡ true → Each F (f y)) → Each F (flat_map f xs)
+each_held : (F : Offer → Type 0) (f : ℕ → List Offer) (xs : List ℕ) → ((y : ℕ) → holds xs y ≡ true → Each F (f y)) →
+    Each F (flat_map f xs)
 each_held F f [] h = tt
-each_held F f (y ∷ xs) h = each-append F (f y) (flat_map f xs) (h y (or_left (eqb y y) (holds xs y) (eq-eqb y y refl))) (each_held F f xs (λ z e. h z (or_right (eqb y z) (holds xs z) e)))
+each_held F f (y ∷ xs) h = each-append F (f y) (flat_map f xs) (h y (or_left (eqb y y) (holds xs y) (eq-eqb y y refl)))
+    (each_held F f xs (λ z e. h z (or_right (eqb y z) (holds xs z) e)))
 
-each_seg : (F : Offer → Type 0) (f : Segment → List Offer) (ss : List Segment) → ((s : Segment) → Each F (f s)) → Each F (flat_map f ss)
+each_seg : (F : Offer → Type 0) (f : Segment → List Offer) (ss : List Segment) → ((s : Segment) → Each F (f s)) →
+    Each F (flat_map f ss)
 each_seg F f [] h = tt
 each_seg F f (s ∷ ss) h = each-append F (f s) (flat_map f ss) (h s) (each_seg F f ss h)
 
 abbrev IsFrom : (ℕ → List ℕ) → ℕ → Offer → Type 0
 IsFrom near x o = IsOf near x o × (holds (ends o) x ≡ true)
 
-from_or : (near : ℕ → List ℕ) (x y ay by : ℕ) → holds (near x) y ≡ true → (s : Segment) → Each (IsFrom near x) (or_offers x y ay by s)
+from_or : (near : ℕ → List ℕ) (x y ay by : ℕ) → holds (near x) y ≡ true → (s : Segment) →
+    Each (IsFrom near x) (or_offers x y ay by s)
 from_or near x y ay by h s =
-    let here : (eqb x x || (eqb s.before x || (eqb s.last x || (eqb s.after x || (eqb y x || (eqb ay x || false)))))) ≡ true = or_left (eqb x x) (eqb s.before x || (eqb s.last x || (eqb s.after x || (eqb y x || (eqb ay x || false))))) (eq-eqb x x refl) in
-    let here2 : (eqb x x || (eqb s.before x || (eqb s.last x || (eqb s.after x || (eqb y x || (eqb by x || false)))))) ≡ true = or_left (eqb x x) (eqb s.before x || (eqb s.last x || (eqb s.after x || (eqb y x || (eqb by x || false))))) (eq-eqb x x refl) in
+    let here : (eqb x x || (eqb s.before x || (eqb s.last x || (eqb s.after x || (eqb y x || (eqb ay x || false))))))
+    ≡ true =
+    or_left (eqb x x) (eqb s.before x || (eqb s.last x || (eqb s.after x || (eqb y x || (eqb ay x || false)))))
+    (eq-eqb x x refl) in
+    let here2 : (eqb x x || (eqb s.before x || (eqb s.last x || (eqb s.after x || (eqb y x || (eqb by x || false))))))
+    ≡ true =
+    or_left (eqb x x) (eqb s.before x || (eqb s.last x || (eqb s.after x || (eqb y x || (eqb by x || false)))))
+    (eq-eqb x x refl) in
     each-append (IsFrom near x) (or_offer x y s ay) (or_offer x y s by)
     (each_or (IsFrom near x) x y s ay (λ u v. (inl (refl, h), here)))
     (each_or (IsFrom near x) x y s by (λ u v. (inl (refl, h), here2)))
 
-pub found_from : (d : ℕ → ℕ → ℕ) (near : ℕ → List ℕ) (m x : ℕ) (C : List ℕ) (o : Offer) → first_gain d (offers C m (near x) x) ≡ Some o → IsOf near x o × (holds (ends o) x ≡ true)
+pub found_from : (d : ℕ → ℕ → ℕ) (near : ℕ → List ℕ) (m x : ℕ) (C : List ℕ) (o : Offer) →
+    first_gain d (offers C m (near x) x) ≡ Some o → IsOf near x o × (holds (ends o) x ≡ true)
 found_from d near m x C o e =
     found_has (IsFrom near x) d (offers C m (near x) x) o
-    (each_held (IsFrom near x) (offers_with (next_city C) (prev_city C) (segments (next_city C) (prev_city C) (length C) m x) x) (near x) (λ y h. (
-      (inl (refl, h), or_left (eqb x x) (eqb (next_city C x) x || (eqb y x || (eqb (next_city C y) x || false))) (eq-eqb x x refl)),
+    (each_held (IsFrom near x)
+    (offers_with (next_city C) (prev_city C) (segments (next_city C) (prev_city C) (length C) m x) x)
+    (near x) (λ y h. (
       (
-        (inl (refl, h), or_left (eqb x x) (eqb (prev_city C x) x || (eqb y x || (eqb (prev_city C y) x || false))) (eq-eqb x x refl)),
-        each_seg (IsFrom near x) (or_offers x y (next_city C y) (prev_city C y)) (segments (next_city C) (prev_city C) (length C) m x) (from_or near x y (next_city C y) (prev_city C y) h),
+        inl (refl, h),
+        or_left (eqb x x) (eqb (next_city C x) x || (eqb y x || (eqb (next_city C y) x || false)))
+            (eq-eqb x x refl),
+      ),
+      (
+        (
+          inl (refl, h),
+          or_left (eqb x x) (eqb (prev_city C x) x || (eqb y x || (eqb (prev_city C y) x || false)))
+              (eq-eqb x x refl),
+        ),
+        each_seg (IsFrom near x) (or_offers x y (next_city C y) (prev_city C y))
+            (segments (next_city C) (prev_city C) (length C) m x) (from_or near x y (next_city C y) (prev_city C y) h),
       ),
     ))) e
 
@@ -80,31 +108,41 @@ found_from d near m x C o e =
 cycle-sym : (X Y : List ℕ) → SameCycle X Y → SameCycle Y X
 cycle-sym X Y h = SameCycle-sym h
 
-distinct_front : (X Y Q : List ℕ) → IsDistinct (X ++ Q) → IsDistinct Y → ((c : ℕ) → holds Y c ≡ holds X c) → IsDistinct (Y ++ Q)
-distinct_front X Y Q h k same = let p = distinct-parts X Q h in distinct-join Y Q k p.1 (λ c e. p.2 c (sym (same c) ∙ e))
+distinct_front : (X Y Q : List ℕ) → IsDistinct (X ++ Q) → IsDistinct Y → ((c : ℕ) → holds Y c ≡ holds X c) →
+    IsDistinct (Y ++ Q)
+distinct_front X Y Q h k same = let p = distinct-parts X Q h in
+    distinct-join Y Q k p.1 (λ c e. p.2 c (sym (same c) ∙ e))
 
 distinct_two : (A B : List ℕ) → IsDistinct (A ++ B) → IsDistinct (A ++ reverse B)
 distinct_two A B h =
-    distinct-turn (reverse B) A (distinct_front B (reverse B) A (distinct-turn A B h) (distinct-reverse B (distinct-parts A B h).1) (holds-reverse B))
+    distinct-turn (reverse B) A
+    (distinct_front B (reverse B) A (distinct-turn A B h) (distinct-reverse B (distinct-parts A B h).1)
+    (holds-reverse B))
 
 distinct_straight : (S P Q : List ℕ) → IsDistinct (S ++ P ++ Q) → IsDistinct (P ++ S ++ Q)
-distinct_straight S P Q h = distinct_front (S ++ P) (P ++ S) Q h (distinct-turn S P (distinct-parts (S ++ P) Q h).0) (holds-turn P S)
+distinct_straight S P Q h = distinct_front (S ++ P) (P ++ S) Q h (distinct-turn S P (distinct-parts (S ++ P) Q h).0)
+    (holds-turn P S)
 
 distinct_turned : (S P Q : List ℕ) → IsDistinct (S ++ P ++ Q) → IsDistinct (P ++ reverse S ++ Q)
 distinct_turned S P Q h =
     let k = distinct_straight S P Q h in
-    distinct_front (P ++ S) (P ++ reverse S) Q k (distinct_two P S (distinct-parts (P ++ S) Q k).0) (λ c. holds_two P S c)
+    distinct_front (P ++ S) (P ++ reverse S) Q k (distinct_two P S (distinct-parts (P ++ S) Q k).0)
+    (λ c. holds_two P S c)
   where
     holds_two : (P S : List ℕ) (c : ℕ) → holds (P ++ reverse S) c ≡ holds (P ++ S) c
     holds_two [] S c = holds-reverse S c
     holds_two (b ∷ P) S c = ap (λ z. eqb b c || z) (holds_two P S c)
 
 made_distinct : (m : ℕ) (o : Offer) (C D : List ℕ) → Made m o C D → IsDistinct C → IsDistinct D
-made_distinct m (Two a b c d) C D (A, (B, (h, hA, hB, k))) dis = distinct-cycle (A ++ reverse B) D (cycle-sym D (A ++ reverse B) k) (distinct_two A B (distinct-cycle C (A ++ B) h dis))
+made_distinct m (Two a b c d) C D (A, (B, (h, hA, hB, k))) dis =
+    distinct-cycle (A ++ reverse B) D (cycle-sym D (A ++ reverse B) k)
+    (distinct_two A B (distinct-cycle C (A ++ B) h dis))
 made_distinct m (Or a x e b y w) C D (S, (P, (Q, (h, short, hS, inl (hP, hQ, k))))) dis =
-    distinct-cycle (P ++ S ++ Q) D (cycle-sym D (P ++ S ++ Q) k) (distinct_straight S P Q (distinct-cycle C (S ++ P ++ Q) h dis))
+    distinct-cycle (P ++ S ++ Q) D (cycle-sym D (P ++ S ++ Q) k)
+    (distinct_straight S P Q (distinct-cycle C (S ++ P ++ Q) h dis))
 made_distinct m (Or a x e b y w) C D (S, (P, (Q, (h, short, hS, inr (hP, hQ, k))))) dis =
-    distinct-cycle (P ++ reverse S ++ Q) D (cycle-sym D (P ++ reverse S ++ Q) k) (distinct_turned S P Q (distinct-cycle C (S ++ P ++ Q) h dis))
+    distinct-cycle (P ++ reverse S ++ Q) D (cycle-sym D (P ++ reverse S ++ Q) k)
+    (distinct_turned S P Q (distinct-cycle C (S ++ P ++ Q) h dis))
 
 pub distinct_made : (m : ℕ) (o : Offer) (C D : List ℕ) → Makes m o C D → IsDistinct C → IsDistinct D
 distinct_made m o C D makes dis = made_distinct m o C D (made_of m o C D makes) dis
@@ -133,7 +171,8 @@ holds-woken_each [] W k = or-none (holds W k)
     or-none : (p : Bool) → p ≡ (p || false)
     or-none true = refl
     or-none false = refl
-holds-woken_each (c ∷ cs) W k = holds-woken_each cs (woken W c) k ∙ ap (λ z. z || holds cs k) (held_by (holds W c) W c k refl) ∙ or_assoc (holds W k) (eqb c k) (holds cs k)
+holds-woken_each (c ∷ cs) W k = holds-woken_each cs (woken W c) k
+    ∙ ap (λ z. z || holds cs k) (held_by (holds W c) W c k refl) ∙ or_assoc (holds W k) (eqb c k) (holds cs k)
 
 distinct-woken : (b : Bool) (W : List ℕ) (c : ℕ) → holds W c ≡ b → IsDistinct W → IsDistinct (cond b W (W ++ c ∷ []))
 distinct-woken true W c h k = k
@@ -148,54 +187,94 @@ module _ (V : List ℕ) (x : ℕ) (dis : IsDistinct (x ∷ V)) where
   stays c h = (or_right (eqb x c) (holds V c) h, λ e. both_ways (holds V x) dis.0 (subst (λ z. holds V z ≡ true) e h))
 
   stays_back : (c : ℕ) → (holds (x ∷ V) c ≡ true) × (c ≢ x) → holds V c ≡ true
-  stays_back c (h, ne) = elim (or_cases (eqb x c) (holds V c) h) [ inl e ↦ absurd (ne (sym (eqb-true x c e))) | inr e ↦ e ]
+  stays_back c (h, ne) =
+      elim (or_cases (eqb x c) (holds V c) h) [ inl e ↦ absurd (ne (sym (eqb-true x c e))) | inr e ↦ e ]
 
   module _ (es : List ℕ) (in' : holds es x ≡ true) where
     joins : (c : ℕ) → holds (woken_each V es) c ≡ true → (holds (x ∷ V) c ≡ true) ⊎ (holds es c ≡ true)
-    joins c h = elim (or_cases (holds V c) (holds es c) (sym (holds-woken_each es V c) ∙ h)) [ inl e ↦ inl (or_right (eqb x c) (holds V c) e) | inr e ↦ inr e ]
+    joins c h =
+        elim (or_cases (holds V c) (holds es c) (sym (holds-woken_each es V c) ∙ h)) [
+          | inl e ↦ inl
+              (or_right (eqb x c) (holds V c) e)
+          | inr e ↦ inr e
+        ]
 
     joins_back : (c : ℕ) → (holds (x ∷ V) c ≡ true) ⊎ (holds es c ≡ true) → holds (woken_each V es) c ≡ true
     joins_back c (inl h) =
         holds-woken_each es V c ∙
-        elim (or_cases (eqb x c) (holds V c) h) [ inl e ↦ or_right (holds V c) (holds es c) (subst (λ z. holds es z ≡ true) (eqb-true x c e) in') | inr e ↦ or_left (holds V c) (holds es c) e ]
+        elim (or_cases (eqb x c) (holds V c) h) [
+          | inl e ↦ or_right (holds V c) (holds es c)
+              (subst (λ z. holds es z ≡ true) (eqb-true x c e) in')
+          | inr e ↦ or_left (holds V c) (holds es c) e
+        ]
     joins_back c (inr h) = holds-woken_each es V c ∙ or_right (holds V c) (holds es c) h
 
-module _ (d : ℕ → ℕ → ℕ) (near : ℕ → List ℕ) (m : ℕ) (T W : List ℕ) (is : IsTable d) (small : m ≤ 3) (tour : IsDistinct T) (once : IsDistinct W) where
-  run_wakes_all : {C V : List ℕ} {looks moves tests : ℕ} → Run d near m T W C V looks moves tests → Wakes d near m T W C V × IsDistinct C × IsDistinct V
+module _ (d : ℕ → ℕ → ℕ) (near : ℕ → List ℕ) (m : ℕ) (T W : List ℕ) (is : IsTable d) (small : m ≤ 3)
+    (tour : IsDistinct T) (once : IsDistinct W) where
+  run_wakes_all : {C V : List ℕ} {looks moves tests : ℕ} → Run d near m T W C V looks moves tests →
+      Wakes d near m T W C V × IsDistinct C × IsDistinct V
   run_wakes_all start = (begin, tour, once)
   run_wakes_all (asleep {C = C} {V = V} {x = x} r e) =
-      let i = run_wakes_all r in
-      (fall_asleep x i.0 (or_left (eqb x x) (holds V x) (eq-eqb x x refl)) (none_improves d near m x C is i.1 small e) (λ c. (stays V x i.2 c, stays_back V x i.2 c)), i.1, i.2.1)
+      let i = run_wakes_all r in (
+        fall_asleep x i.0 (or_left (eqb x x) (holds V x) (eq-eqb x x refl)) (none_improves d near m x C is i.1 small e)
+            (λ c. (stays V x i.2 c, stays_back V x i.2 c)),
+        i.1,
+        i.2.1,
+      )
   run_wakes_all (move {C = C} {V = V} {D = D} {x = x} {o = o} r e made) =
       let i = run_wakes_all r in
       let f = found_from d near m x C o e in (
-        go_on x o i.0 (or_left (eqb x x) (holds V x) (eq-eqb x x refl)) (f.0, made, omega (arith, gain_law d is.0 C D m o made, found_improves d (offers C m (near x) x) o e)) (λ c. (joins V x i.2 (ends o) f.1 c, joins_back V x i.2 (ends o) f.1 c)),
+        go_on x o i.0 (or_left (eqb x x) (holds V x) (eq-eqb x x refl))
+            (f.0, made, omega (arith, gain_law d is.0 C D m o made, found_improves d (offers C m (near x) x) o e))
+            (λ c. (joins V x i.2 (ends o) f.1 c, joins_back V x i.2 (ends o) f.1 c)),
         distinct_made m o C D made i.1,
         distinct-woken_each (ends o) V i.2.1,
       )
 
-  pub run_wakes : {C V : List ℕ} {looks moves tests : ℕ} → Run d near m T W C V looks moves tests → Wakes d near m T W C V
+  pub run_wakes : {C V : List ℕ} {looks moves tests : ℕ} → Run d near m T W C V looks moves tests →
+      Wakes d near m T W C V
   run_wakes r = (run_wakes_all r).0
 
 -- a run without a move leaves the cycle, and puts to sleep only cities without an offer
-pub still : (d : ℕ → ℕ → ℕ) (near : ℕ → List ℕ) (m : ℕ) (T W : List ℕ) {C V : List ℕ} {looks moves tests : ℕ} → Run d near m T W C V looks moves tests → moves ≡ 0 →
+pub still : (d : ℕ → ℕ → ℕ) (near : ℕ → List ℕ) (m : ℕ) (T W : List ℕ) {C V : List ℕ} {looks moves tests : ℕ} →
+    Run d near m T W C V looks moves tests → moves ≡ 0 →
     (C ≡ T) × ((c : ℕ) → holds W c ≡ true → (holds V c ≡ true) ⊎ (first_gain d (offers T m (near c) c) ≡ None))
 still d near m T W start z = (refl, λ c h. inl h)
 still d near m T W (asleep {C = C} {V = V} {x = x} r e) z =
     let i = still d near m T W r z in (
       i.0,
       λ c h. elim (i.1 c h) [
-        | inl k ↦ elim (or_cases (eqb x c) (holds V c) k) [ inl j ↦ inr (subst (λ v. first_gain d (offers T m (near v) v) ≡ None) (eqb-true x c j) (subst (λ v. first_gain d (offers v m (near x) x) ≡ None) i.0 e)) | inr j ↦ inl j ]
+        | inl k ↦
+            elim (or_cases (eqb x c) (holds V c) k) [
+              | inl j ↦ inr
+                  (subst (λ v. first_gain d (offers T m (near v) v) ≡ None) (eqb-true x c j)
+                  (subst (λ v. first_gain d (offers v m (near x) x) ≡ None) i.0 e))
+              | inr j ↦ inl j
+            ]
         | inr k ↦ inr k
       ],
     )
 still d near m T W (move r e made) z = absurd (omega arith)
 
-pub still_optimum : (d : ℕ → ℕ → ℕ) (near : ℕ → List ℕ) (m : ℕ) (T W C : List ℕ) (looks moves tests : ℕ) → IsTable d → m ≤ 3 → IsDistinct T → ((c : ℕ) → holds T c ≡ true → holds W c ≡ true) → Run d near m T W C [] looks moves tests → moves ≡ 0 → IsLocalOptimum d near m C
+pub still_optimum : (d : ℕ → ℕ → ℕ) (near : ℕ → List ℕ) (m : ℕ) (T W C : List ℕ) (looks moves tests : ℕ) → IsTable d →
+    m ≤ 3 → IsDistinct T → ((c : ℕ) → holds T c ≡ true → holds W c ≡ true) → Run d near m T W C [] looks moves tests →
+    moves ≡ 0 → IsLocalOptimum d near m C
 still_optimum d near m T W C looks moves tests is small dis all r z =
     let i = still d near m T W r z in
     subst (λ v. IsLocalOptimum d near m v) (sym i.0)
-    (λ x h. elim (i.1 x (all x h)) [ inl k ↦ absurd (both_ways false refl k) | inr k ↦ none_improves d near m x T is dis small k ])
+    (λ x h. elim (i.1 x (all x h)) [
+      | inl k ↦ absurd (both_ways false refl k)
+      | inr k ↦ none_improves d near m x T is
+          dis small k
+    ])
 
-pub some_improves : (d : ℕ → ℕ → ℕ) (near : ℕ → List ℕ) (m x : ℕ) (C : List ℕ) (o : Offer) → IsTable d → first_gain d (offers C m (near x) x) ≡ Some o → IsOfferOn m o C → (D : List ℕ) × Improves d near m x C o D
-some_improves d near m x C o is e (D, made) = (D, ((found_from d near m x C o e).0, made, omega (arith, gain_law d is.0 C D m o made, found_improves d (offers C m (near x) x) o e)))
+pub some_improves : (d : ℕ → ℕ → ℕ) (near : ℕ → List ℕ) (m x : ℕ) (C : List ℕ) (o : Offer) → IsTable d →
+    first_gain d (offers C m (near x) x) ≡ Some o → IsOfferOn m o C → (D : List ℕ) × Improves d near m x C o D
+some_improves d near m x C o is e (D, made) = (
+  D,
+  (
+    (found_from d near m x C o e).0,
+    made,
+    omega (arith, gain_law d is.0 C D m o made, found_improves d (offers C m (near x) x) o e),
+  ),
+)

@@ -1,8 +1,10 @@
 //! A look at a city goes through its offers in order.
-ghost use Rattle.std.specs.Prelude.{◌≡◌, ◌≤◌, ◌<◌, [], ◌∷◌, length, flat_map, All, IfSome, None, ◌+◌, ◌*◌, pos, true, false};
+ghost use Rattle.std.specs.Prelude.{◌≡◌, ◌≤◌, ◌<◌, [], ◌∷◌, length, flat_map, All, IfSome, None, ◌+◌, ◌*◌, pos, true};
+ghost use Rattle.std.specs.Prelude.{false};
 ghost use Rattle.tk_near.specs.Near.{near_of};
 ghost use Rattle.tk_tour.specs.Counters.{saturated};
-ghost use Rattle.tk_descent.specs.Offers.{covers, Searched, or_offer, offers, EndsIn, segment_count, first_gain, tests_to};
+ghost use Rattle.tk_descent.specs.Offers.{covers, Searched, or_offer, offers, EndsIn, segment_count, first_gain};
+ghost use Rattle.tk_descent.specs.Offers.{tests_to};
 ghost use Rattle.tk_descent.specs.Sharing.{IsBeside, IsPiece, piece_offers, two_margin, or_margin};
 ghost use Rattle.tk_descent.specs.Steps.{AreMeasured};
 ghost use Rattle.tk_distance.specs.Cities.{IsCity};

@@ -27,11 +27,13 @@ pub least_from_root : (parts square q r d : ℕ) → square ≤ q * parts → q 
 least_from_root parts square q r d enough near root above below = record {
   holds =
       let a = mul-le r r (d * scale) (d * scale) above above in
-      let b = mul-le q parts (d * scale * (d * scale)) parts (let g = root.reaches in omega (arith, a, g)) (omega arith) in
+      let b = mul-le q parts (d * scale * (d * scale)) parts (let g = root.reaches in omega (arith, a, g))
+      (omega arith) in
       omega (arith, b);
   least = λ e h.
       let fits : q ≤ e * scale * (e * scale) = elim (cases_lt (e * scale * (e * scale)) q) [
-        | inl lt ↦ let more = mul-le (e * scale * (e * scale) + 1) parts q parts (omega arith) (omega arith) in absurd (omega (arith, more, h))
+        | inl lt ↦ let more = mul-le (e * scale * (e * scale) + 1) parts q parts (omega arith) (omega arith) in
+            absurd (omega (arith, more, h))
         | inr le ↦ le
       ] in
       let r_le : r ≤ e * scale = root.least (e * scale) fits in
@@ -63,4 +65,5 @@ least_whole n d reach low = record {
 pub least_along : (x d : ℕ) → x ≤ d * scale → d * scale < x + scale → IsLeast (Covers 1 (square_sum x 0)) d
 least_along x d reach low = least_between 1 (square_sum x 0) d
     (let more = mul-le x x (d * scale) (d * scale) reach reach in omega (arith, more))
-    (λ some. let more = mul-le ((d - 1) * scale + 1) ((d - 1) * scale + 1) x x (omega arith) (omega arith) in omega (arith, more))
+    (λ some. let more = mul-le ((d - 1) * scale + 1) ((d - 1) * scale + 1) x x (omega arith) (omega arith) in
+    omega (arith, more))

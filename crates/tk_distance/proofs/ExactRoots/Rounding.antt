@@ -61,7 +61,8 @@ fine_root_below square d t is = (below, within)
     within lt = elim (cases_lt square ((t * scale - 500000000) * (t * scale - 500000000))) [
       | inl low ↦ low
       | inr high ↦
-          let least = is.greatest t (omega arith) (reaches_above square t (t * scale - 500000000) (omega arith) refl high) in
+          let least =
+          is.greatest t (omega arith) (reaches_above square t (t * scale - 500000000) (omega arith) refl high) in
           absurd (omega (arith, lt, least))
     ]
 
@@ -111,11 +112,13 @@ root_below n d t some is = (below, within)
     below : n + t ≤ t * t → d < t
     below low = elim (cases_lt d t) [
       | inl lt ↦ lt
-      | inr le ↦ absurd (too_great_whole n (t - 1) (d - t) (2 * d - 1) (under (t - 1) (omega arith) low) (omega arith) (is.holds (omega arith)))
+      | inr le ↦ absurd (too_great_whole n (t - 1) (d - t) (2 * d - 1) (under (t - 1) (omega arith) low) (omega arith)
+          (is.holds (omega arith)))
     ]
       where
         under : (k : ℕ) → t ≡ k + 1 → n + t ≤ t * t → n ≤ k * k + k
-        under k is low = let P : ℕ → Type 0 = λ x. n + x ≤ x * x in let s : P (k + 1) = subst P is low in omega (arith, s)
+        under k is low = let P : ℕ → Type 0 = λ x. n + x ≤ x * x in let s : P (k + 1) = subst P is low in
+            omega (arith, s)
 
     within : d < t → n + t ≤ t * t
     within lt = elim (cases_lt (t * t) (n + t)) [
@@ -124,7 +127,8 @@ root_below n d t some is = (below, within)
     ]
       where
         reaches : (k : ℕ) → t ≡ k + 1 → t * t < n + t → RootReaches (n * (scale * scale)) t
-        reaches k is more = let P : ℕ → Type 0 = λ x. x * x < n + x in reaches_whole n k (2 * t - 1) (subst P is more) (omega (arith, is))
+        reaches k is more = let P : ℕ → Type 0 = λ x. x * x < n + x in
+            reaches_whole n k (2 * t - 1) (subst P is more) (omega (arith, is))
 
 -- ---- along an axis
 
@@ -151,7 +155,8 @@ nearest_along x d is = record {
 -- ---- lengths in units of 10^-9
 
 -- twice a length lies between the odd numbers beside twice a number
-pub nearest_length : (length d : ℕ) → (2 * d - 1) * scale ≤ 2 * length → 2 * length < (2 * d + 1) * scale → IsGreatest (Reaches length) d
+pub nearest_length : (length d : ℕ) → (2 * d - 1) * scale ≤ 2 * length → 2 * length < (2 * d + 1) * scale →
+    IsGreatest (Reaches length) d
 nearest_length length d low high = record {
   holds = λ some. low;
   greatest = λ e one r. omega arith;

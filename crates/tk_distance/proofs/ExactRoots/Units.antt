@@ -28,16 +28,25 @@ least_alike P Q d alike is = record {
 -- ---- squares that round alike; o is the double of a number, less one
 
 module _ (square k o : ℕ) (odd : o ≡ 2 * k + 1) where
-  tenths : (o * o * (scale * scale) ≤ 4 * (square * (100000000 * 100000000))) ↔ (o * o * (scale * scale) ≤ 4 * ((square + 75) / 100 * (scale * scale)))
-  tenths = subst (λ (x : ℕ). (x * x * (scale * scale) ≤ 4 * (square * (100000000 * 100000000))) ↔ (x * x * (scale * scale) ≤ 4 * ((square + 75) / 100 * (scale * scale)))) (sym odd)
+  tenths : (o * o * (scale * scale) ≤ 4 * (square * (100000000 * 100000000))) ↔
+      (o * o * (scale * scale) ≤ 4 * ((square + 75) / 100 * (scale * scale)))
+  tenths =
+      subst (λ (x : ℕ). (x * x * (scale * scale) ≤ 4 * (square * (100000000 * 100000000))) ↔
+      (x * x * (scale * scale) ≤ 4 * ((square + 75) / 100 * (scale * scale)))) (sym odd)
       (λ h. omega (arith, h), λ h. omega (arith, h))
 
-  hundredths : (o * o * (scale * scale) ≤ 4 * (square * (10000000 * 10000000))) ↔ (o * o * (scale * scale) ≤ 4 * ((square + 7500) / 10000 * (scale * scale)))
-  hundredths = subst (λ (x : ℕ). (x * x * (scale * scale) ≤ 4 * (square * (10000000 * 10000000))) ↔ (x * x * (scale * scale) ≤ 4 * ((square + 7500) / 10000 * (scale * scale)))) (sym odd)
+  hundredths : (o * o * (scale * scale) ≤ 4 * (square * (10000000 * 10000000))) ↔
+      (o * o * (scale * scale) ≤ 4 * ((square + 7500) / 10000 * (scale * scale)))
+  hundredths =
+      subst (λ (x : ℕ). (x * x * (scale * scale) ≤ 4 * (square * (10000000 * 10000000))) ↔
+      (x * x * (scale * scale) ≤ 4 * ((square + 7500) / 10000 * (scale * scale)))) (sym odd)
       (λ h. omega (arith, h), λ h. omega (arith, h))
 
-  thousandths : (o * o * (scale * scale) ≤ 4 * (square * (1000000 * 1000000))) ↔ (o * o * (scale * scale) ≤ 4 * ((square + 750000) / 1000000 * (scale * scale)))
-  thousandths = subst (λ (x : ℕ). (x * x * (scale * scale) ≤ 4 * (square * (1000000 * 1000000))) ↔ (x * x * (scale * scale) ≤ 4 * ((square + 750000) / 1000000 * (scale * scale)))) (sym odd)
+  thousandths : (o * o * (scale * scale) ≤ 4 * (square * (1000000 * 1000000))) ↔
+      (o * o * (scale * scale) ≤ 4 * ((square + 750000) / 1000000 * (scale * scale)))
+  thousandths =
+      subst (λ (x : ℕ). (x * x * (scale * scale) ≤ 4 * (square * (1000000 * 1000000))) ↔
+      (x * x * (scale * scale) ≤ 4 * ((square + 750000) / 1000000 * (scale * scale)))) (sym odd)
       (λ h. omega (arith, h), λ h. omega (arith, h))
 
 -- the square in ones that rounds like a square in a unit
@@ -57,7 +66,8 @@ rounds_alike Thousandth square d some = thousandths square (d - 1) (2 * d - 1) (
 pub rounds_by : (u v : Unit) (square : ℕ) → u ≡ v → (d : ℕ) → 1 ≤ d
     → (RootReaches (square * (step_of u * step_of u)) d ↔ RootReaches (rounding v square * (scale * scale)) d)
 rounds_by u v square is d some =
-    subst (λ (w : Unit). RootReaches (square * (step_of w * step_of w)) d ↔ RootReaches (rounding v square * (scale * scale)) d) (sym is)
+    subst (λ (w : Unit). RootReaches (square * (step_of w * step_of w)) d ↔ RootReaches
+    (rounding v square * (scale * scale)) d) (sym is)
     (rounds_alike v square d some)
 
 -- ---- squares below that of a bound less 1/2
@@ -68,7 +78,8 @@ below_at : (square d b t s : ℕ) → s ≤ 8000000000000000000 → 1 ≤ b → 
 below_at square d b t s near some is at = (below, within)
   where
     capped : s < min t 3000000000 * min t 3000000000 → s < t * t
-    capped h = let more = mul-le (min t 3000000000) (min t 3000000000) t t (omega arith) (omega arith) in omega (arith, h, more)
+    capped h = let more = mul-le (min t 3000000000) (min t 3000000000) t t (omega arith) (omega arith) in
+        omega (arith, h, more)
 
     below : s < min t 3000000000 * min t 3000000000 → d < b
     below h = elim (cases_lt d b) [
@@ -112,15 +123,18 @@ module _ (s d b : ℕ) (near : s ≤ 8000000000000000000) where
     | inr none ↦ let no : b ≡ 0 = omega (arith, none) in none_below s d b (b * b - b + min b 1) no (rw no refl)
   ]
 
-  halves : (unit : Unit) (half : ℕ) → (1 ≤ b → (RootReaches (s * (step_of unit * step_of unit)) b ↔ ((2 * b - 1) * half * ((2 * b - 1) * half) ≤ s)))
+  halves : (unit : Unit) (half : ℕ)
+      → (1 ≤ b → (RootReaches (s * (step_of unit * step_of unit)) b ↔ ((2 * b - 1) * half * ((2 * b - 1) * half) ≤ s)))
       → (b ≡ 0 → (2 * b - 1) * half ≡ 0) → IsGreatest (RootReaches (s * (step_of unit * step_of unit))) d
       → ((s < min ((2 * b - 1) * half) 3000000000 * min ((2 * b - 1) * half) 3000000000) ↔ (d < b))
   halves unit half at nothing is = elim (cases_lt 0 b) [
-    | inl some ↦ below_at (s * (step_of unit * step_of unit)) d b ((2 * b - 1) * half) s near (omega (arith, some)) is (at (omega (arith, some)))
+    | inl some ↦ below_at (s * (step_of unit * step_of unit)) d b ((2 * b - 1) * half) s near (omega (arith, some)) is
+        (at (omega (arith, some)))
     | inr none ↦
         let no : b ≡ 0 = omega (arith, none) in
         let zero_is = nothing no in
-        none_below s d b (min ((2 * b - 1) * half) 3000000000 * min ((2 * b - 1) * half) 3000000000) no (rw zero_is refl)
+        none_below s d b (min ((2 * b - 1) * half) 3000000000 * min ((2 * b - 1) * half) 3000000000) no
+        (rw zero_is refl)
   ]
 
   tenth_below : IsGreatest (RootReaches (s * (step_of Tenth * step_of Tenth))) d
@@ -153,7 +167,8 @@ pub below_by : (u v : Unit) (s d b r : ℕ) → u ≡ v → r ≡ square_below v
     → IsGreatest (RootReaches (s * (step_of u * step_of u))) d → ((s < r) ↔ (d < b))
 below_by u v s d b r same is near greatest =
     subst (λ (x : ℕ). (s < x) ↔ (d < b)) (sym is)
-    (below_alike v s d b near (subst (λ (w : Unit). IsGreatest (RootReaches (s * (step_of w * step_of w))) d) same greatest))
+    (below_alike v s d b near
+    (subst (λ (w : Unit). IsGreatest (RootReaches (s * (step_of w * step_of w))) d) same greatest))
 
 -- ---- squares that are covered alike
 
@@ -164,15 +179,18 @@ covering Tenth square = (square + 99) / 100
 covering Hundredth square = (square + 9999) / 10000
 covering Thousandth square = (square + 999999) / 1000000
 
-covered_alike : (unit : Unit) (square n : ℕ) → (square * (step_of unit * step_of unit) ≤ n * (scale * scale)) ↔ (covering unit square ≤ n)
+covered_alike : (unit : Unit) (square n : ℕ) →
+    (square * (step_of unit * step_of unit) ≤ n * (scale * scale)) ↔ (covering unit square ≤ n)
 covered_alike One square n = (λ h. omega (arith, h), λ h. omega (arith, h))
 covered_alike Tenth square n = (λ h. omega (arith, h), λ h. omega (arith, h))
 covered_alike Hundredth square n = (λ h. omega (arith, h), λ h. omega (arith, h))
 covered_alike Thousandth square n = (λ h. omega (arith, h), λ h. omega (arith, h))
 
-pub covers_by : (u v : Unit) (square n : ℕ) → u ≡ v → (square * (step_of u * step_of u) ≤ n * (scale * scale)) ↔ (covering v square ≤ n)
+pub covers_by : (u v : Unit) (square n : ℕ) → u ≡ v →
+    (square * (step_of u * step_of u) ≤ n * (scale * scale)) ↔ (covering v square ≤ n)
 covers_by u v square n is =
-    subst (λ (w : Unit). (square * (step_of w * step_of w) ≤ n * (scale * scale)) ↔ (covering v square ≤ n)) (sym is) (covered_alike v square n)
+    subst (λ (w : Unit). (square * (step_of w * step_of w) ≤ n * (scale * scale)) ↔ (covering v square ≤ n)) (sym is)
+    (covered_alike v square n)
 
 -- ---- lengths
 
@@ -190,11 +208,13 @@ rounded-is Hundredth length = nearest_length (length * 10000000) ((length + 50) 
 rounded-is Thousandth length = nearest_length (length * 1000000) ((length + 500) / 1000) (omega arith) (omega arith)
 
 pub length_by : (u v : Unit) (length : ℕ) → u ≡ v → IsGreatest (Reaches (length * step_of u)) (rounded v length)
-length_by u v length is = subst (λ (w : Unit). IsGreatest (Reaches (length * step_of w)) (rounded v length)) (sym is) (rounded-is v length)
+length_by u v length is = subst (λ (w : Unit). IsGreatest (Reaches (length * step_of w)) (rounded v length)) (sym is)
+    (rounded-is v length)
 
 -- ---- the distance at whole differences, from the square in ones
 
-pub square-in : (unit : Unit) (x y : ℕ) → square_sum x y * (step_of unit * step_of unit) ≡ square_sum (x * step_of unit) (y * step_of unit)
+pub square-in : (unit : Unit) (x y : ℕ) →
+    square_sum x y * (step_of unit * step_of unit) ≡ square_sum (x * step_of unit) (y * step_of unit)
 square-in One x y = omega arith
 square-in Tenth x y = omega arith
 square-in Hundredth x y = omega arith
@@ -202,22 +222,41 @@ square-in Thousandth x y = omega arith
 
 module _ (unit : Unit) (dx dy square : ℕ) (is : square ≡ square_sum dx dy) where
   in_unit : square * (step_of unit * step_of unit) ≡ square_sum (dx * step_of unit) (dy * step_of unit)
-  in_unit = subst (λ (s : ℕ). s * (step_of unit * step_of unit) ≡ square_sum (dx * step_of unit) (dy * step_of unit)) (sym is) (square-in unit dx dy)
+  in_unit = subst (λ (s : ℕ). s * (step_of unit * step_of unit) ≡ square_sum (dx * step_of unit) (dy * step_of unit))
+      (sym is) (square-in unit dx dy)
 
-  pub rounded_in : (m d : ℕ) → ((e : ℕ) → 1 ≤ e → (RootReaches (square * (step_of unit * step_of unit)) e ↔ RootReaches (m * (scale * scale)) e))
-      → IsGreatest (RootReaches (m * (scale * scale))) d → IsGreatest (RootReaches (square_sum (dx * step_of unit) (dy * step_of unit))) d
-  rounded_in m d alike nearest = subst (λ (s : ℕ). IsGreatest (RootReaches s) d) in_unit (greatest_alike _ _ d alike nearest)
+  pub rounded_in : (m d : ℕ)
+      → ((e : ℕ) → 1 ≤ e
+      → (RootReaches (square * (step_of unit * step_of unit)) e ↔ RootReaches (m * (scale * scale)) e))
+      → IsGreatest (RootReaches (m * (scale * scale))) d →
+      IsGreatest (RootReaches (square_sum (dx * step_of unit) (dy * step_of unit))) d
+  rounded_in m d alike nearest =
+      subst (λ (s : ℕ). IsGreatest (RootReaches s) d) in_unit (greatest_alike _ _ d alike nearest)
 
   pub covered_in : (m d : ℕ) → ((n : ℕ) → (square * (step_of unit * step_of unit) ≤ n * (scale * scale)) ↔ (m ≤ n))
-      → IsLeast (Covers 1 (m * (scale * scale))) d → IsLeast (Covers 1 (square_sum (dx * step_of unit) (dy * step_of unit))) d
-  covered_in m d alike least = subst (λ (s : ℕ). IsLeast (Covers 1 s) d) in_unit (least_alike (Covers 1 (square * (step_of unit * step_of unit))) _ d
-      (λ e. (λ h. let low = (alike (e * e)).0 (omega (arith, h)) in omega (arith, low), λ h. let high = (alike (e * e)).1 (omega (arith, h)) in omega (arith, high))) least)
+      → IsLeast (Covers 1 (m * (scale * scale))) d →
+      IsLeast (Covers 1 (square_sum (dx * step_of unit) (dy * step_of unit))) d
+  covered_in m d alike least =
+      subst (λ (s : ℕ). IsLeast (Covers 1 s) d) in_unit
+      (least_alike (Covers 1 (square * (step_of unit * step_of unit))) _ d
+      (λ e. (
+        λ h. let low = (alike (e * e)).0 (omega (arith, h)) in
+            omega (arith, low),
+        λ h. let high = (alike (e * e)).1 (omega (arith, h)) in omega (arith, high),
+      )) least)
 
-  pub tenth_covered_in : (m d : ℕ) → ((n : ℕ) → (square * (step_of unit * step_of unit) ≤ n * (scale * scale)) ↔ (m ≤ n))
-      → IsLeast (Covers 1 (div_ceil m 10 * (scale * scale))) d → IsLeast (Covers 10 (square_sum (dx * step_of unit) (dy * step_of unit))) d
+  pub tenth_covered_in : (m d : ℕ)
+      → ((n : ℕ) → (square * (step_of unit * step_of unit) ≤ n * (scale * scale)) ↔ (m ≤ n))
+      → IsLeast (Covers 1 (div_ceil m 10 * (scale * scale))) d →
+      IsLeast (Covers 10 (square_sum (dx * step_of unit) (dy * step_of unit))) d
   tenth_covered_in m d alike least = let t = div_ceil_times m 10 (omega arith) in
-      subst (λ (s : ℕ). IsLeast (Covers 10 s) d) in_unit (least_alike (Covers 10 (square * (step_of unit * step_of unit))) _ d
-      (λ e. (λ h. let low = (alike (10 * (e * e))).0 (omega (arith, h)) in omega (arith, low, t.0, t.1), λ h. let high = (alike (10 * (e * e))).1 (omega (arith, h, t.0, t.1)) in omega (arith, high))) least)
+      subst (λ (s : ℕ). IsLeast (Covers 10 s) d) in_unit
+      (least_alike (Covers 10 (square * (step_of unit * step_of unit))) _ d
+      (λ e. (
+        λ h. let low = (alike (10 * (e * e))).0 (omega (arith, h)) in omega (arith, low, t.0, t.1),
+        λ h. let high =
+            (alike (10 * (e * e))).1 (omega (arith, h, t.0, t.1)) in omega (arith, high),
+      )) least)
 
 pub sum-in : (unit : Unit) (x y : ℕ) → (x + y) * step_of unit ≡ x * step_of unit + y * step_of unit
 sum-in One x y = omega arith

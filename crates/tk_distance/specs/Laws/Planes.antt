@@ -1,5 +1,6 @@
 -- The laws of distances in the plane.
-use Rattle.std.proofs.Common.{◌≡◌, ℕ, ℤ, ◌-◌, ◌≤◌, List, All, length, ◌*ℤ◌, ◌*◌, pos, ap, ◌∙◌, arith, sym, subst, inl, inr}
+use Rattle.std.proofs.Common.{◌≡◌, ℕ, ℤ, ◌-◌, ◌≤◌, List, All, length, ◌*ℤ◌, ◌*◌, pos, ap, ◌∙◌, arith, sym, subst, inl}
+use Rattle.std.proofs.Common.{inr}
 use Rattle.std.proofs.lemmas.Bool.{cases_lt}
 use Rattle.std.proofs.lemmas.Int.{ints}
 use Rattle.std.proofs.lemmas.List.{get_or_past}
@@ -15,7 +16,8 @@ use Rattle.tk_problem.specs.Units.{place_in, step_of}
 use Rattle.tk_distance.specs.Distance.{gap, IsDistance, IsDistanceOf, reach}
 use Rattle.tk_distance.specs.PlaneDistance.{distance_at, distance_of}
 use Rattle.tk_distance.specs.PlaneOf.{city_place, city_distance}
-use Rattle.tk_distance.specs.Laws.Distances.{limit, distance-unique, distance_at-limit, distance_at-nothing, distance_at-rises, distance_at-swap}
+use Rattle.tk_distance.specs.Laws.Distances.{limit, distance-unique, distance_at-limit, distance_at-nothing}
+use Rattle.tk_distance.specs.Laws.Distances.{distance_at-rises, distance_at-swap}
 
 gap-swap : (x y : ℤ) → gap x y ≡ gap y x
 gap-swap x y = omega (arith, ints)
@@ -69,8 +71,10 @@ distance_of-limit kind p q a b =
     distance_at-limit kind (gap p.x q.x) (gap p.y q.y) (gap-limit p.x q.x a.x b.x) (gap-limit p.y q.y a.y b.y)
 
 -- places in whole numbers of a unit, by how far these are apart
-pub whole_places : (kind : PlaneKind) (unit : Unit) (p q : WholePoint) (dx dy d : ℕ) → dx ≡ gap p.x q.x → dy ≡ gap p.y q.y
-    → IsDistance kind (dx * step_of unit) (dy * step_of unit) d → IsDistanceOf kind (place_in unit p) (place_in unit q) d
+pub whole_places : (kind : PlaneKind) (unit : Unit) (p q : WholePoint) (dx dy d : ℕ) → dx ≡ gap p.x q.x
+    → dy ≡ gap p.y q.y
+    → IsDistance kind (dx * step_of unit) (dy * step_of unit) d →
+    IsDistanceOf kind (place_in unit p) (place_in unit q) d
 whole_places kind unit p q dx dy d x y is =
     let ex : gap (place_in unit p).x (place_in unit q).x ≡ dx * step_of unit = gap-in unit p.x q.x
     ∙ ap (λ g. g * step_of unit) (sym x) in

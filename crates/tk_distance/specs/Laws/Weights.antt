@@ -19,7 +19,8 @@ weight-limit ws small k = elim (cases_lt k (length ws)) [
   | inr le ↦ subst (λ (w : ℕ). w ≤ DISTANCE_LIMIT) (sym (get_or_past ws k 0 le)) (omega arith)
 ]
 
-pub weight_between-limit : (ws : List ℕ) → All (λ w. w ≤ DISTANCE_LIMIT) ws → (a b : ℕ) → weight_between ws a b ≤ DISTANCE_LIMIT
+pub weight_between-limit : (ws : List ℕ) → All (λ w. w ≤ DISTANCE_LIMIT) ws → (a b : ℕ) →
+    weight_between ws a b ≤ DISTANCE_LIMIT
 weight_between-limit ws small a b = let low = weight-limit ws small (triangle_index (min a b) (max a b)) in
     grind (arith, nat_tests)
 

@@ -2,7 +2,8 @@
 ghost use Rattle.std.specs.Prelude.{◌≡◌, ℕ, ◌+◌, ◌*◌, ◌^◌, ◌<◌, ◌≤◌, ◌↔◌, IsTrue};
 ghost use Rattle.std.specs.Int.RustNames.{unsigned_abs};
 ghost use Rattle.tk_problem.specs.declared.limits.TheConstants.{DISTANCE_LIMIT};
-ghost use Rattle.tk_distance.specs.Distance.{gap, reach, square_sum, IsGreatest, IsLeast, IsDistance, IsDistanceOf, Reaches, RootReaches, Covers};
+ghost use Rattle.tk_distance.specs.Distance.{gap, reach, square_sum, IsGreatest, IsLeast, IsDistance, IsDistanceOf};
+ghost use Rattle.tk_distance.specs.Distance.{Reaches, RootReaches, Covers};
 ghost use Rattle.tk_problem.specs.Places.{IsNearOrigin};
 
 use crate::exact::guess::{

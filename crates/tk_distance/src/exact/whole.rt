@@ -2,7 +2,8 @@
 ghost use Rattle.std.specs.Prelude.{◌≡◌, ℕ, ◌+◌, ◌*◌, ◌<◌, ◌≤◌, ◌^◌, ◌↔◌, IsTrue, true};
 ghost use Rattle.std.specs.Int.RustNames.{unsigned_abs};
 ghost use Rattle.tk_problem.specs.declared.limits.TheConstants.{COORDINATE_LIMIT, DISTANCE_LIMIT};
-ghost use Rattle.tk_distance.specs.Distance.{IsGreatest, IsLeast, IsDistance, IsDistanceOf, RootReaches, Covers, gap, square_sum};
+ghost use Rattle.tk_distance.specs.Distance.{IsGreatest, IsLeast, IsDistance, IsDistanceOf, RootReaches, Covers, gap};
+ghost use Rattle.tk_distance.specs.Distance.{square_sum};
 ghost use Rattle.tk_problem.specs.Places.{scale};
 ghost use Rattle.tk_problem.specs.Units.{place_in, step_of};
 

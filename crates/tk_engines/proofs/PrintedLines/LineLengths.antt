@@ -1,5 +1,6 @@
 -- The lines that `solve` prints are short, and so are its files.
-use Rattle.std.proofs.Common.{ℕ, ◌+◌, ◌*◌, ◌^◌, ◌≤◌, List, [], ◌∷◌, length, length-append, arith, ◌∙◌, ap, Result, Ok, Err, IfOk}
+use Rattle.std.proofs.Common.{ℕ, ◌+◌, ◌*◌, ◌^◌, ◌≤◌, List, [], ◌∷◌, length, length-append, arith, ◌∙◌, ap, Result, Ok}
+use Rattle.std.proofs.Common.{Err, IfOk}
 use Rattle.std.specs.Prelude.{flat_map}
 use Rattle.std.specs.List.{All, concat}
 use Rattle.std.specs.Int.RustNames.{unsigned_abs}
@@ -23,35 +24,56 @@ ignored_short key = let a = word_short key in simp length-append (omega arith)
 
 pub run_short : (number : ℕ) (r : RunReport) → length (run_line number r) ≤ 600
 run_short number r =
-    let a = length_decimal number in let b = length_decimal (unsigned_abs r.totals.start) in let c = length_decimal (unsigned_abs r.best) in
-    let d = length_decimal r.totals.trials in let e = length_decimal r.totals.moves in let f = length_decimal r.totals.tests in let h = length_decimal r.totals.swaps in
+    let a = length_decimal number in let b = length_decimal (unsigned_abs r.totals.start) in
+    let c = length_decimal (unsigned_abs r.best) in
+    let d = length_decimal r.totals.trials in let e = length_decimal r.totals.moves in
+    let f = length_decimal r.totals.tests in let h = length_decimal r.totals.swaps in
     simp length-append (omega (arith, a, b, c, d, e, f, h))
 
 runs_short : (number : ℕ) (rs : List RunReport) → length (run_lines number rs) ≤ length rs * 600
 runs_short number [] = omega arith
-runs_short number (r ∷ rs) = omega (arith, run_short number r, runs_short (number + 1) rs, length-append (run_line number r) (run_lines (number + 1) rs))
+runs_short number (r ∷ rs) =
+    omega (
+      arith,
+      run_short number r,
+      runs_short (number + 1) rs,
+      length-append (run_line number r) (run_lines (number + 1) rs),
+    )
 
 all_ignored_short : (ks : List Key) → length ks ≤ length all_keys → length (flat_map ignored_line ks) ≤ 10000
 all_ignored_short ks few = omega (arith, few, length_flat_map ignored_line 50 ignored_short ks)
 
-pub tour_lines_short : (ks : List Key) (solved : SolvedTour) → length ks ≤ length all_keys → length solved.runs.items ≤ 10000 → length (tour_lines ks solved) ≤ 2 ^ 63
+pub tour_lines_short : (ks : List Key) (solved : SolvedTour) → length ks ≤ length all_keys →
+    length solved.runs.items ≤ 10000 → length (tour_lines ks solved) ≤ 2 ^ 63
 tour_lines_short ks solved few runs =
-    let a = all_ignored_short ks few in let b = runs_short 1 solved.runs.items in let c = length_decimal (unsigned_abs solved.length) in
+    let a = all_ignored_short ks few in let b = runs_short 1 solved.runs.items in
+    let c = length_decimal (unsigned_abs solved.length) in
     simp length-append (omega (arith, a, b, c, runs))
 
-pub route_lines_short : (ks : List Key) (routes : ℕ) (r : RouteReport) → length ks ≤ length all_keys → length (route_lines ks routes r) ≤ 2 ^ 63
+pub route_lines_short : (ks : List Key) (routes : ℕ) (r : RouteReport) → length ks ≤ length all_keys →
+    length (route_lines ks routes r) ≤ 2 ^ 63
 route_lines_short ks routes r few =
-    let a = all_ignored_short ks few in let b = length_decimal (unsigned_abs r.before) in let c = length_decimal routes in
-    let d = length_decimal (unsigned_abs r.after) in let e = length_decimal r.moves in let f = length_decimal r.tests in let h = length_decimal r.swaps in
+    let a = all_ignored_short ks few in let b = length_decimal (unsigned_abs r.before) in
+    let c = length_decimal routes in
+    let d = length_decimal (unsigned_abs r.after) in let e = length_decimal r.moves in let f = length_decimal r.tests in
+    let h = length_decimal r.swaps in
     simp length-append (omega (arith, a, b, c, d, e, f, h))
 
 -- as many reports as runs
-pub IfOk-count : {E : Type 0} (r : Result SolvedTour E) (task : TourTask) (Watched : List Event → Type 0) (most : ℕ) → task.runs ≤ most → IfOk r (IsSolved task Watched) → IfOk r (λ s. length s.runs.items ≤ most)
-IfOk-count (Ok s) task Watched most few h = omega (arith, few, h.count, ap length h.reports ∙ length-map h.runs (report_of task.distance))
+pub IfOk-count : {E : Type 0} (r : Result SolvedTour E) (task : TourTask) (Watched : List Event → Type 0) (most : ℕ) →
+    task.runs ≤ most → IfOk r (IsSolved task Watched) → IfOk r (λ s. length s.runs.items ≤ most)
+IfOk-count (Ok s) task Watched most few h =
+    omega (arith, few, h.count, ap length h.reports ∙ length-map h.runs (report_of task.distance))
 IfOk-count (Err e) task Watched most few h = tt
 
 -- no more filled lists than entries
-pub count_filled : (routes : List (List ℕ)) → All (λ route. 1 ≤ length route) routes → length routes ≤ length (concat routes)
+pub count_filled : (routes : List (List ℕ)) → All (λ route. 1 ≤ length route) routes →
+    length routes ≤ length (concat routes)
 count_filled [] filled = omega arith
 count_filled (route ∷ routes) filled =
-    omega (arith, filled 0 [] (omega arith), count_filled routes (All-tail (λ r. 1 ≤ length r) route routes filled), length-append route (concat routes))
+    omega (
+      arith,
+      filled 0 [] (omega arith),
+      count_filled routes (All-tail (λ r. 1 ≤ length r) route routes filled),
+      length-append route (concat routes),
+    )

@@ -1,5 +1,6 @@
 -- The lines of keys and of runs, one more.
-use Rattle.std.proofs.Common.{◌≡◌, ℕ, suc, ◌+◌, ◌<◌, List, [], ◌∷◌, ◌++◌, length, take, get_or, refl, ap, ◌∙◌, sym, arith, append_assoc, append-nil}
+use Rattle.std.proofs.Common.{◌≡◌, ℕ, suc, ◌+◌, ◌<◌, List, [], ◌∷◌, ◌++◌, length, take, get_or, refl, ap, ◌∙◌, sym}
+use Rattle.std.proofs.Common.{arith, append_assoc, append-nil}
 use Rattle.std.specs.Prelude.{flat_map}
 use Rattle.std.proofs.lemmas.Grind.{flat_map-append}
 use Rattle.std.proofs.lemmas.List.{take_more, length-take-le}
@@ -7,7 +8,8 @@ use Rattle.tk_params.specs.declared.key.Key.{Key}
 use Rattle.tk_solve.specs.declared.outcome.RunReport.{RunReport}
 use Rattle.tk_engines.specs.Lines.SolveLines.{ignored_line, run_line, run_lines}
 
-run_lines_more : (number : ℕ) (rs : List RunReport) (r : RunReport) → run_lines number (rs ++ r ∷ []) ≡ run_lines number rs ++ run_line (number + length rs) r
+run_lines_more : (number : ℕ) (rs : List RunReport) (r : RunReport) →
+    run_lines number (rs ++ r ∷ []) ≡ run_lines number rs ++ run_line (number + length rs) r
 run_lines_more number [] r =
     let e : number + 0 ≡ number = omega arith in
     rw (append-nil, e) refl
@@ -20,7 +22,8 @@ pub run_lines_take : (rs : List RunReport) (i : ℕ) (r : RunReport) → i < len
 run_lines_take rs i r within =
     let before = take i rs in
     let count : 1 + length before ≡ i + 1 = omega (arith, length-take-le i rs (omega arith)) in
-    ap (run_lines 1) (take_more rs i r within) ∙ run_lines_more 1 before (get_or rs i r) ∙ ap (λ k. run_lines 1 before ++ run_line k (get_or rs i r)) count
+    ap (run_lines 1) (take_more rs i r within) ∙ run_lines_more 1 before (get_or rs i r)
+    ∙ ap (λ k. run_lines 1 before ++ run_line k (get_or rs i r)) count
 
 pub ignored_take : (ks : List Key) (i : ℕ) (k : Key) → i < length ks →
     flat_map ignored_line (take (i + 1) ks) ≡ flat_map ignored_line (take i ks) ++ ignored_line (get_or ks i k)

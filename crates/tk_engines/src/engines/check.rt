@@ -2,7 +2,8 @@
 ghost use Rattle.std.specs.Prelude.{◌≡◌, true, IfErr};
 ghost use Rattle.tk_writers.specs.Puts.{Writes};
 ghost use Rattle.tk_engines.specs.Check.{check_task};
-ghost use Rattle.tk_engines.specs.Engine.{Ends, ReadsProblem, ReadsTour, IsUntouched, BeforeSecond, UnlessWrite, AtWrite};
+ghost use Rattle.tk_engines.specs.Engine.{Ends, ReadsProblem, ReadsTour, IsUntouched, BeforeSecond, UnlessWrite};
+ghost use Rattle.tk_engines.specs.Engine.{AtWrite};
 
 use crate::fault::Fault;
 use crate::lines::tour_line::write_verdict;

@@ -1,7 +1,8 @@
 //! The check of routes.
 ghost use Rattle.std.specs.Prelude.{◌≡◌, true, IfErr};
 ghost use Rattle.tk_writers.specs.Puts.{Writes};
-ghost use Rattle.tk_engines.specs.Engine.{Ends, ReadsProblem, ReadsSolution, IsUntouched, BeforeSecond, UnlessWrite, AtWrite};
+ghost use Rattle.tk_engines.specs.Engine.{Ends, ReadsProblem, ReadsSolution, IsUntouched, BeforeSecond, UnlessWrite};
+ghost use Rattle.tk_engines.specs.Engine.{AtWrite};
 ghost use Rattle.tk_engines.specs.RouteCheck.{route_check_task};
 
 use crate::fault::Fault;

@@ -10,7 +10,9 @@ ghost use Rattle.tk_solve.specs.SolvedTours.{IsSolved, IsSound};
 ghost use Rattle.tk_solve.specs.Events.{Begun};
 ghost use Rattle.tk_solve.specs.Watching.{WereShown};
 ghost use Rattle.tk_engines.specs.Engine.{AtWrite, BeforeSecond, Ends, IsUntouched, ReadsProblem, UnlessWrite};
-ghost use Rattle.tk_engines.specs.Solve.{AreRoutesOf, AreUntouched, BeforeSearch, Gives, HasFailed, IsTourWritten, ReadsInitial, WritesFiles, cities_in, route_files, solve_task, tour_files, tour_task};
+ghost use Rattle.tk_engines.specs.Solve.{AreRoutesOf, AreUntouched, BeforeSearch, Gives, HasFailed, IsTourWritten};
+ghost use Rattle.tk_engines.specs.Solve.{ReadsInitial, WritesFiles, cities_in, route_files, solve_task, tour_files};
+ghost use Rattle.tk_engines.specs.Solve.{tour_task};
 
 use crate::engines::solve_given::{check_initial, options_of, read_initial, unfit};
 use crate::fault::Fault;
@@ -140,8 +142,8 @@ fn solve_cvrp<F: Sink, W: Sink>(
 /// and the best length.
 ///
 /// `initial` is read where the parameters name an INITIAL_TOUR_FILE. All texts are read before a byte is written.
-/// `watch` is shown the name of the problem, each trial of a search for a tour, with the best tour of its run so far, and
-/// each run after its last trial, in order, and nothing else; of a search for routes nothing.
+/// `watch` is shown the name of the problem, each trial of a search for a tour, with the best tour of its run so far,
+/// and each run after its last trial, in order, and nothing else; of a search for routes nothing.
 ///
 /// # Errors
 /// The fault of the problem text; `NotForType` of a key that the problem's type has no use for; the fault of the text

@@ -4,7 +4,8 @@ ghost use Rattle.std.specs.Int.RustNames.{unsigned_abs};
 ghost use Rattle.tk_writers.specs.Pens.{Puts};
 ghost use Rattle.tk_writers.specs.Puts.{Writes};
 ghost use Rattle.tk_params.specs.Keys.{all_keys};
-ghost use Rattle.tk_engines.specs.Lines.SolveLines.{best_line, ignored_line, improved_line, route_lines, run_line, run_lines, savings_line, tour_lines, work_of};
+ghost use Rattle.tk_engines.specs.Lines.SolveLines.{best_line, ignored_line, improved_line, route_lines, run_line};
+ghost use Rattle.tk_engines.specs.Lines.SolveLines.{run_lines, savings_line, tour_lines, work_of};
 
 use tk_params::Key;
 use tk_routes::RouteReport;

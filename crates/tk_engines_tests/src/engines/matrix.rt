@@ -19,7 +19,8 @@ fn writes_a_matrix(rt: HostRuntime) {
         &rt,
         matrix(rt.alloc(), SQUARE),
         Ok(()),
-        b"NAME : p\nTYPE : TSP\nDIMENSION : 4\nEDGE_WEIGHT_TYPE : EXPLICIT\nEDGE_WEIGHT_FORMAT : UPPER_ROW\nEDGE_WEIGHT_SECTION\n14 10 10\n10 10\n14\nEOF\n",
+        b"NAME : p\nTYPE : TSP\nDIMENSION : 4\nEDGE_WEIGHT_TYPE : EXPLICIT\nEDGE_WEIGHT_FORMAT : UPPER_ROW\n\
+        EDGE_WEIGHT_SECTION\n14 10 10\n10 10\n14\nEOF\n",
     );
 }
 

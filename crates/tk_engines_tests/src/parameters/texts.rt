@@ -84,7 +84,9 @@ fn expect_numbers<A: Abort>(rt: &A, params: &Params, numbers: [u32; 5]) {
 #[test]
 fn reads_each_key(rt: HostRuntime) {
     let text =
-        b"OPTIMUM = 7 $\n\n TOUR_FILE\t=\t a b \r\nPROBLEM_FILE = = p\nSOLUTION_FILE s\nInitial_Tour_File=t\nRUNS = 10000\nMAX_TRIALS = 1000000\nSEED = +4294967295\nMAX_CANDIDATES = 100\nCONSTRUCTION = Savings\nFINAL_SWEEP = yes\nOR_SEGMENT = 1\nCOMMENT = $\nCOMMENT\nEOF x\nFOO";
+        b"OPTIMUM = 7 $\n\n TOUR_FILE\t=\t a b \r\nPROBLEM_FILE = = p\nSOLUTION_FILE s\nInitial_Tour_File=t\n\
+        RUNS = 10000\nMAX_TRIALS = 1000000\nSEED = +4294967295\nMAX_CANDIDATES = 100\nCONSTRUCTION = Savings\n\
+        FINAL_SWEEP = yes\nOR_SEGMENT = 1\nCOMMENT = $\nCOMMENT\nEOF x\nFOO";
     let params = read(rt.alloc(), text).expect(&rt, "no fault");
     expect_files(&rt, &params, "= p", ["a b", "s", "t"]);
     expect_numbers(&rt, &params, [10_000, 1_000_000, 4_294_967_295, 100, 1]);

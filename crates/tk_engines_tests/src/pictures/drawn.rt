@@ -10,8 +10,10 @@ use tk_tour::Verdict;
 const CITIES: &[u8] = b"<svg xmlns=\"http://www.w3.org/2000/svg\" viewBox=\"0 0 1040 1080\">
 <title>a&lt;b &amp; &quot;c&quot;?\xc3\xa9: 4 cities</title>
 <rect width=\"100%\" height=\"100%\" fill=\"white\"/>
-<text x=\"20\" y=\"40\" font-family=\"sans-serif\" font-size=\"24\">a&lt;b &amp; &quot;c&quot;?\xc3\xa9: 4 cities</text>
-<g transform=\"translate(145 60) scale(0.1)\" fill=\"none\" stroke-linecap=\"round\" stroke-linejoin=\"round\" stroke-width=\"20\">
+<text x=\"20\" y=\"40\" font-family=\"sans-serif\" font-size=\"24\">\
+a&lt;b &amp; &quot;c&quot;?\xc3\xa9: 4 cities</text>
+<g transform=\"translate(145 60) scale(0.1)\" fill=\"none\" stroke-linecap=\"round\" \
+stroke-linejoin=\"round\" stroke-width=\"20\">
 <path stroke=\"black\" stroke-width=\"60\" d=\"
 M0,10000h0
 M7500,0h0
@@ -25,8 +27,10 @@ M0,0h0
 const TOUR: &[u8] = b"<svg xmlns=\"http://www.w3.org/2000/svg\" viewBox=\"0 0 1040 1080\">
 <title>a&lt;b &amp; &quot;c&quot;?\xc3\xa9: tour of 4 cities, length 14</title>
 <rect width=\"100%\" height=\"100%\" fill=\"white\"/>
-<text x=\"20\" y=\"40\" font-family=\"sans-serif\" font-size=\"24\">a&lt;b &amp; &quot;c&quot;?\xc3\xa9: tour of 4 cities, length 14</text>
-<g transform=\"translate(145 60) scale(0.1)\" fill=\"none\" stroke-linecap=\"round\" stroke-linejoin=\"round\" stroke-width=\"20\">
+<text x=\"20\" y=\"40\" font-family=\"sans-serif\" font-size=\"24\">\
+a&lt;b &amp; &quot;c&quot;?\xc3\xa9: tour of 4 cities, length 14</text>
+<g transform=\"translate(145 60) scale(0.1)\" fill=\"none\" stroke-linecap=\"round\" \
+stroke-linejoin=\"round\" stroke-width=\"20\">
 <polygon stroke=\"#0072B2\" points=\"
 0,10000
 7500,10000
@@ -48,7 +52,8 @@ pub const ROUTES: &[u8] = b"<svg xmlns=\"http://www.w3.org/2000/svg\" viewBox=\"
 <title>shop: 2 routes, cost 6</title>
 <rect width=\"100%\" height=\"100%\" fill=\"white\"/>
 <text x=\"20\" y=\"40\" font-family=\"sans-serif\" font-size=\"24\">shop: 2 routes, cost 6</text>
-<g transform=\"translate(20 160) scale(0.1)\" fill=\"none\" stroke-linecap=\"round\" stroke-linejoin=\"round\" stroke-width=\"20\">
+<g transform=\"translate(20 160) scale(0.1)\" fill=\"none\" stroke-linecap=\"round\" \
+stroke-linejoin=\"round\" stroke-width=\"20\">
 <polygon stroke=\"#0072B2\" points=\"
 6666,0
 10000,0

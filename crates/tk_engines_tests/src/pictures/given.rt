@@ -13,15 +13,18 @@ pub struct Given {
 
 /// The corners of a rectangle.
 pub const RECTANGLE: &[u8] =
-    b"NAME : a<b & \"c\"\x7f\xc3\xa9\nTYPE : TSP\nDIMENSION : 4\nEDGE_WEIGHT_TYPE : EUC_2D\nNODE_COORD_SECTION\n1 0 0\n2 3 4\n3 3 0\n4 0 4\nEOF\n";
+    b"NAME : a<b & \"c\"\x7f\xc3\xa9\nTYPE : TSP\nDIMENSION : 4\nEDGE_WEIGHT_TYPE : EUC_2D\nNODE_COORD_SECTION\n1 0 0\n\
+    2 3 4\n3 3 0\n4 0 4\nEOF\n";
 
 /// Two customers on the two sides of a depot, which is the second node.
 pub const SHOP: &[u8] =
-    b"NAME : shop\nTYPE : CVRP\nDIMENSION : 3\nCAPACITY : 2\nEDGE_WEIGHT_TYPE : EUC_2D\nNODE_COORD_SECTION\n1 -1 7\n2 1 7\n3 2 7\nDEMAND_SECTION\n1 2\n2 0\n3 1\nDEPOT_SECTION\n2\n-1\nEOF\n";
+    b"NAME : shop\nTYPE : CVRP\nDIMENSION : 3\nCAPACITY : 2\nEDGE_WEIGHT_TYPE : EUC_2D\nNODE_COORD_SECTION\n1 -1 7\n\
+    2 1 7\n3 2 7\nDEMAND_SECTION\n1 2\n2 0\n3 1\nDEPOT_SECTION\n2\n-1\nEOF\n";
 
 /// Two cities without places.
 pub const EXPLICIT: &[u8] =
-    b"TYPE : TSP\nDIMENSION : 2\nEDGE_WEIGHT_TYPE : EXPLICIT\nEDGE_WEIGHT_FORMAT : UPPER_ROW\nEDGE_WEIGHT_SECTION\n1\nEOF\n";
+    b"TYPE : TSP\nDIMENSION : 2\nEDGE_WEIGHT_TYPE : EXPLICIT\nEDGE_WEIGHT_FORMAT : UPPER_ROW\nEDGE_WEIGHT_SECTION\n1\n\
+    EOF\n";
 
 /// What the engine gives for a problem and what is claimed of it, as a picture.
 pub fn plotted(alloc: Global, problem: &[u8], claim: Option<&[u8]>) -> Given {

@@ -25,7 +25,8 @@ p {}
 const REST: &[u8] = b"</div>
 <div id=\"routes\">
 <table><caption>Routes, capacity 2</caption>
-<thead><tr><th scope=\"col\">Route<th scope=\"col\">Customers<th scope=\"col\">Load<th scope=\"col\">% of capacity<th scope=\"col\">Length
+<thead><tr><th scope=\"col\">Route<th scope=\"col\">Customers<th scope=\"col\">Load\
+<th scope=\"col\">% of capacity<th scope=\"col\">Length
 <tbody>
 <tr><th scope=\"row\">1<td>1<td>1<td>50<td>2
 <tr><th scope=\"row\">3<td>1<td>2<td>100<td>4

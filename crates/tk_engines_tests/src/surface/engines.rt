@@ -8,7 +8,8 @@ use tk_text::{Format, FromRead, ToWrite};
 
 /// Each key, with a value that is not its default.
 const PARAMETERS: &[u8] =
-    b"PROBLEM_FILE = p\nTOUR_FILE = t\nSOLUTION_FILE = s\nINITIAL_TOUR_FILE = i\nRUNS = 2\nMAX_TRIALS = 3\nSEED = 4\nMAX_CANDIDATES = 6\nCONSTRUCTION = SAVINGS\nFINAL_SWEEP = YES\nOR_SEGMENT = 2\nMOVE_TYPE = 5\n";
+    b"PROBLEM_FILE = p\nTOUR_FILE = t\nSOLUTION_FILE = s\nINITIAL_TOUR_FILE = i\nRUNS = 2\nMAX_TRIALS = 3\nSEED = 4\n\
+    MAX_CANDIDATES = 6\nCONSTRUCTION = SAVINGS\nFINAL_SWEEP = YES\nOR_SEGMENT = 2\nMOVE_TYPE = 5\n";
 
 /// The tour that no call reads.
 const NOTHING: &[u8] = b"";

@@ -143,7 +143,8 @@ fn few_weights<'a>(end: Option<&'a [u8]>, have: u64, size: Size) -> Here<'a> {
     let read = of_end("{}, after {} weights", end).number(have);
     Here::new(wanted, read)
         .advice(
-            "Add the weights that are missing, or correct DIMENSION or EDGE_WEIGHT_FORMAT: both say how many there are.",
+            "Add the weights that are missing, or correct DIMENSION or EDGE_WEIGHT_FORMAT: \
+            both say how many there are.",
         )
         .beside(line)
 }

@@ -1,11 +1,13 @@
 -- Where a token after the -1 ends.
-use Rattle.std.proofs.Common.{◌≡◌, ℕ, ◌+◌, ◌<◌, Bool, true, false, cond, eqb, leb, not, ◌&&◌, ◌||◌, List, [], ◌∷◌, ◌++◌, length, Option, Some, None, Err, refl, ap, subst, ◌∙◌, append_assoc, arith}
+use Rattle.std.proofs.Common.{◌≡◌, ℕ, ◌+◌, ◌<◌, Bool, true, false, cond, eqb, leb, not, ◌&&◌, ◌||◌, List, [], ◌∷◌, ◌++◌}
+use Rattle.std.proofs.Common.{length, Option, Some, None, Err, refl, ap, subst, ◌∙◌, append_assoc, arith}
 use Rattle.std.proofs.lemmas.List.{append-nil, length-append}
 use Rattle.std.proofs.lemmas.Bool.{eq-eqb, lt-leb, le-leb}
 use Rattle.tk_words.specs.declared.keyword.Keyword.{Keyword}
 use Rattle.tk_words.specs.declared.fault.TextKind.TheVariants as kinds
 use Rattle.tk_words.specs.Lex.{Token, integer, tokens, lines, is_empty, is_blank, is_letter, LF, IsRun}
-use Rattle.tk_lines.specs.Pieces.{Piece, Clean, Trailing, Stop, Fault, Extent, Format, last_line, cut, judge, stopped, decided_by}
+use Rattle.tk_lines.specs.Pieces.{Piece, Clean, Trailing, Stop, Fault, Extent, Format, last_line, cut, judge, stopped}
+use Rattle.tk_lines.specs.Pieces.{decided_by}
 use Rattle.tk_lines.specs.FromMiddle.{prepend, from_line, in_section, goes, new_pieces}
 use Rattle.tk_words.specs.MinusOne.{is_minus_one, one_more, begins_minus_one}
 use Rattle.tk_lines.specs.Forms.{whole, Closed, Ends, a_section}
@@ -20,11 +22,16 @@ use Rattle.tk_lines.proofs.Endings.MinusOneSteps.{after_byte}
 use Rattle.tk_lines.proofs.Sections.SectionSteps.{run_more}
 use Rattle.tk_words.specs.Words.{begins_word}
 
-module _ {V S : Type 0} (f : Format V) (H : S → List Piece → Type 0) (next : Next) (form : S) (line : ℕ) (o : Bool) (held bs : List ℕ) (within : Within next a_gap) (run : IsRun held) (a : AtAfter f H next form line o held bs) where
+module _ {V S : Type 0} (f : Format V) (H : S → List Piece → Type 0) (next : Next) (form : S) (line : ℕ) (o : Bool)
+    (held bs : List ℕ) (within : Within next a_gap) (run : IsRun held) (a : AtAfter f H next form line o held bs) where
   -- one -1 more ends the section
   one_closed : is_minus_one (integer held) ≡ true → Closed f a.before a.word a.first (a.toks ++ whole held line ∷ [])
   one_closed minus = record {
-    extent = λ more. ap (f.extent a.before a.word) (append_assoc a.toks (whole held line ∷ []) more) ∙ a.ends.extent (whole held line ∷ more) ∙ rw minus (ap (λ (k : ℕ). record { count = k; closed = true; at_eof = false }) (omega (arith, length-append a.toks (whole held line ∷ []))));
+    extent = λ more. ap (f.extent a.before a.word) (append_assoc a.toks (whole held line ∷ []) more)
+        ∙ a.ends.extent (whole held line ∷ more)
+        ∙ rw minus
+        (ap (λ (k : ℕ). record { count = k; closed = true; at_eof = false })
+        (omega (arith, length-append a.toks (whole held line ∷ []))));
     clean = a.ends.clean (whole held line ∷ []);
     trailing = a.ends.trailing (whole held line ∷ []);
   }
@@ -42,13 +49,18 @@ module _ {V S : Type 0} (f : Format V) (H : S → List Piece → Type 0) (next :
     holds = a.holds (whole held line ∷ []);
     closed = closed;
     last = last_of a.toks a.first (whole held line);
-    same = λ e more n. a.same e more n ∙ in_section-token f a.before a.word a.first a.toks held e line more run (within e more n) (λ rest. rw (closed.extent rest) (omega arith));
+    same = λ e more n. a.same e more n
+        ∙ in_section-token f a.before a.word a.first a.toks held e line more run (within e more n)
+        (λ rest. rw (closed.extent rest) (omega arith));
   }
 
-module _ {V : Type 0} (f : Format V) (before : List Piece) (word : Keyword) (n0 : ℕ) (toks : List Token) (held : List ℕ) (e : Bool) (n : ℕ) (bs : List ℕ) (run : IsRun held) where
+module _ {V : Type 0} (f : Format V) (before : List Piece) (word : Keyword) (n0 : ℕ) (toks : List Token) (held : List ℕ)
+    (e : Bool) (n : ℕ) (bs : List ℕ) (run : IsRun held) where
   -- a token on the line of the section's last one
-  in_section-another : last_line n0 toks ≡ n → ((line : ℕ) → f.section before word n0 toks (Trailing line) ≡ Some (Fault line kinds.TrailingData))
-      → f.extent before word (toks ++ tokens (prepend held (lines e n bs))) ≡ record { count = length toks; closed = true; at_eof = false }
+  in_section-another : last_line n0 toks ≡ n
+      → ((line : ℕ) → f.section before word n0 toks (Trailing line) ≡ Some (Fault line kinds.TrailingData))
+      → f.extent before word
+      (toks ++ tokens (prepend held (lines e n bs))) ≡ record { count = length toks; closed = true; at_eof = false }
       → in_section f before word n0 toks held e n bs ≡ Some (Err (record { line = n; kind = kinds.TrailingData }))
   unfolding in_section goes new_pieces judge
   in_section-another last trailing extent =
@@ -56,18 +68,32 @@ module _ {V : Type 0} (f : Format V) (before : List Piece) (word : Keyword) (n0 
       let u = front_token k.whole n held k.bytes run in
       let t : Token = record { bytes = held ++ u.bytes; line = n; whole = u.whole } in
       let is : tokens (prepend held (lines e n bs)) ≡ t ∷ (u.rest ++ tokens k.rest) = rw (k.is, u.is) refl in
-      let ext : f.extent before word (toks ++ t ∷ (u.rest ++ tokens k.rest)) ≡ record { count = length toks; closed = true; at_eof = false } = rw is at extent in
+      let ext : f.extent before word
+      (toks ++ t ∷ (u.rest ++ tokens k.rest)) ≡ record { count = length toks; closed = true; at_eof = false } =
+      rw is at extent in
       let one : eqb n n ≡ true = eq-eqb n n refl in
       let full : is_empty (held ++ u.bytes) ≡ false = run_full held u.bytes run in
-      rw (k.is, u.is, ext, take_whole toks (t ∷ (u.rest ++ tokens k.rest)), get_behind toks, last, one, full, trailing) refl
+      rw (
+        k.is,
+        u.is,
+        ext,
+        take_whole toks (t ∷ (u.rest ++ tokens k.rest)),
+        get_behind toks,
+        last,
+        one,
+        full,
+        trailing,
+      ) refl
     where
       run_full : (xs ys : List ℕ) → IsRun xs → is_empty (xs ++ ys) ≡ false
       run_full [] ys h = absurd h
       run_full (x ∷ xs) ys h = refl
 
 -- a line of its own that begins with no letter
-module _ {V : Type 0} (f : Format V) (before : List Piece) (upto : ℕ) (e : Bool) (n : ℕ) (bs : List ℕ) (lt : upto < n) where
-  from_line-run : (held : List ℕ) → IsRun held → begins_word held ≡ false → from_line f before upto held e n bs ≡ Some (Err (record { line = n; kind = kinds.TrailingData }))
+module _ {V : Type 0} (f : Format V) (before : List Piece) (upto : ℕ) (e : Bool) (n : ℕ) (bs : List ℕ)
+    (lt : upto < n) where
+  from_line-run : (held : List ℕ) → IsRun held → begins_word held ≡ false →
+      from_line f before upto held e n bs ≡ Some (Err (record { line = n; kind = kinds.TrailingData }))
   unfolding from_line cut judge
   from_line-run [] run other = absurd run
   from_line-run (b ∷ t) run other =
@@ -76,24 +102,40 @@ module _ {V : Type 0} (f : Format V) (before : List Piece) (upto : ℕ) (e : Boo
       rw (k.is, later, run_head b t run, other) refl
 
 -- after the -1, a token that is no -1
-module _ {V S : Type 0} (f : Format V) (H : S → List Piece → Type 0) (next : Next) (form : S) (line : ℕ) (held bs : List ℕ) (run : IsRun held) (other : begins_word held ≡ false)
-    (none : (e : Bool) (more : List ℕ) → next e more ≡ true → one_more (tokens (prepend held (lines e line more))) ≡ 0) where
-  as_before : (a_toks : List Token) (k : ℕ) → k ≡ 0 → ◌≡◌ {A = Extent} (record { count = length a_toks + k; closed = true; at_eof = false }) (record { count = length a_toks; closed = true; at_eof = false })
-  as_before a_toks k h = ap (λ (j : ℕ). record { count = j; closed = true; at_eof = false }) (omega (arith, h))
+module _ {V S : Type 0} (f : Format V) (H : S → List Piece → Type 0) (next : Next) (form : S) (line : ℕ)
+    (held bs : List ℕ) (run : IsRun held) (other : begins_word held ≡ false)
+    (none : (e : Bool) (more : List ℕ) → next e more ≡ true → one_more (tokens (prepend held (lines e line more))) ≡ 0)
+  where
+    as_before : (a_toks : List Token) (k : ℕ) → k ≡ 0 →
+        ◌≡◌ {A = Extent} (record { count = length a_toks + k; closed = true; at_eof = false })
+        (record { count = length a_toks; closed = true; at_eof = false })
+    as_before a_toks k h = ap (λ (j : ℕ). record { count = j; closed = true; at_eof = false }) (omega (arith, h))
 
-  pub one_other : (o : Bool) → AtAfter f H next form line o held bs → DecidesIf f next bs (Err (record { line = line; kind = kinds.TrailingData }))
-  one_other true a e more n =
-      a.same e more n ∙ in_section-another f a.before a.word a.first a.toks held e line more run a.last
-      (λ l. subst (λ (ts : List Token). f.section a.before a.word a.first ts (Trailing l) ≡ Some (Fault l kinds.TrailingData)) (append-nil a.toks) (a.ends.trailing [] l))
-      (a.ends.extent (tokens (prepend held (lines e line more))) ∙ as_before a.toks _ (none e more n))
-  one_other false a e more n =
-      let clean : f.section a.before a.word a.first a.toks Clean ≡ None = subst (λ (ts : List Token). f.section a.before a.word a.first ts Clean ≡ None) (append-nil a.toks) (a.ends.clean []) in
-      a.same e more n ∙ in_section-closed f a.before a.word a.first a.toks held e line more a.last (a.ends.extent (tokens (prepend held (lines e line more))) ∙ as_before a.toks _ (none e more n))
-      ∙ ap (λ (x : Option Stop). stopped x (from_line f (a.before ++ a_section a.word a.first a.toks Clean) (last_line a.first a.toks) held e line more)) clean
-      ∙ from_line-run f (a.before ++ a_section a.word a.first a.toks Clean) (last_line a.first a.toks) e line more a.last held run other
+    pub one_other : (o : Bool) → AtAfter f H next form line o held bs →
+        DecidesIf f next bs (Err (record { line = line; kind = kinds.TrailingData }))
+    one_other true a e more n =
+        a.same e more n ∙ in_section-another f a.before a.word a.first a.toks held e line more run a.last
+        (λ l. subst
+        (λ (ts : List Token). f.section a.before a.word a.first ts (Trailing l) ≡ Some (Fault l kinds.TrailingData))
+        (append-nil a.toks) (a.ends.trailing [] l))
+        (a.ends.extent (tokens (prepend held (lines e line more))) ∙ as_before a.toks _ (none e more n))
+    one_other false a e more n =
+        let clean : f.section a.before a.word a.first a.toks Clean ≡ None =
+        subst (λ (ts : List Token). f.section a.before a.word a.first ts Clean ≡ None) (append-nil a.toks)
+        (a.ends.clean []) in
+        a.same e more n
+        ∙ in_section-closed f a.before a.word a.first a.toks held e line more a.last
+        (a.ends.extent (tokens (prepend held (lines e line more))) ∙ as_before a.toks _ (none e more n))
+        ∙ ap
+        (λ (x : Option Stop). stopped x
+        (from_line f (a.before ++ a_section a.word a.first a.toks Clean) (last_line a.first a.toks) held e line more))
+        clean
+        ∙ from_line-run f (a.before ++ a_section a.word a.first a.toks Clean) (last_line a.first a.toks) e line more
+        a.last held run other
 
 -- no -1 in a token that has ended
-pub none_whole : (held : List ℕ) (line : ℕ) (next : Next) → Within next a_gap → IsRun held → is_minus_one (integer held) ≡ false
+pub none_whole : (held : List ℕ) (line : ℕ) (next : Next) → Within next a_gap → IsRun held
+    → is_minus_one (integer held) ≡ false
     → (e : Bool) (more : List ℕ) → next e more ≡ true → one_more (tokens (prepend held (lines e line more))) ≡ 0
 none_whole held line next within run minus e more n =
     let s = split_at held e line more run (within e more n) in
@@ -120,32 +162,53 @@ minus_first (b ∷ held) run more = let is = begins_minus b held more in rw is r
 
 module _ {V S : Type 0} (f : Format V) (H : S → List Piece → Type 0) (form : S) (line b : ℕ) where
   -- the first byte after the -1
-  pub shown_first : (bs : List ℕ) (o : Bool) → eqb b LF ≡ false → is_blank b ≡ false → is_letter b ≡ false → eqb b 45 ≡ false → AtAfter f H (this b) form line o [] bs
+  pub shown_first : (bs : List ℕ) (o : Bool) → eqb b LF ≡ false → is_blank b ≡ false → is_letter b ≡ false
+      → eqb b 45 ≡ false → AtAfter f H (this b) form line o [] bs
       → DecidesIf f anything (bs ++ b ∷ []) (Err (record { line = line; kind = kinds.TrailingData }))
   shown_first bs o other solid no_letter no_minus a =
-      one_other f H anything form line (b ∷ []) (bs ++ b ∷ []) solid no_letter (λ e more n. none_shown b [] line solid (other_begins b [] no_minus) e more) o
+      one_other f H anything form line (b ∷ []) (bs ++ b ∷ []) solid no_letter
+      (λ e more n. none_shown b [] line solid (other_begins b [] no_minus) e more) o
       (after_byte f H form line b bs o [] other a)
 
   -- a byte of the token
-  pub shown_later : (held bs : List ℕ) (o : Bool) → IsRun held → begins_minus_one held ≡ true → is_blank b ≡ false → eqb b LF ≡ false → begins_minus_one (held ++ b ∷ []) ≡ false → AtAfter f H (this b) form line o held bs
+  pub shown_later : (held bs : List ℕ) (o : Bool) → IsRun held → begins_minus_one held ≡ true → is_blank b ≡ false
+      → eqb b LF ≡ false → begins_minus_one (held ++ b ∷ []) ≡ false → AtAfter f H (this b) form line o held bs
       → DecidesIf f anything (bs ++ b ∷ []) (Err (record { line = line; kind = kinds.TrailingData }))
   shown_later [] bs o run begun solid other none a = absurd run
   shown_later (c ∷ held) bs o run begun solid other none a =
       let more : IsRun ((c ∷ held) ++ b ∷ []) = run_more (c ∷ held) b run solid in
-      one_other f H anything form line (c ∷ (held ++ b ∷ [])) (bs ++ b ∷ []) more (minus_first (c ∷ held) run begun) (λ e rest n. none_shown c (held ++ b ∷ []) line more none e rest) o
+      one_other f H anything form line (c ∷ (held ++ b ∷ [])) (bs ++ b ∷ []) more (minus_first (c ∷ held) run begun)
+      (λ e rest n. none_shown c (held ++ b ∷ []) line more none e rest) o
       (after_byte f H form line b bs o (c ∷ held) other a)
 
 -- ---- nothing is decided before the token has ended
 
 module _ {V S : Type 0} (f : Format V) (H : S → List Piece → Type 0) (form : S) (line : ℕ) (held bs : List ℕ) where
-  open_one_law : (before : List Piece) (word : Keyword) (n0 : ℕ) (toks : List Token) → IsRun held → begins_minus_one held ≡ true → Ends f before word n0 toks → in_section f before word n0 toks held false line [] ≡ None
+  open_one_law : (before : List Piece) (word : Keyword) (n0 : ℕ) (toks : List Token) → IsRun held →
+      begins_minus_one held ≡ true → Ends f before word n0 toks →
+      in_section f before word n0 toks held false line [] ≡ None
   unfolding in_section goes new_pieces cut judge lines
   open_one_law before word n0 toks run begun ends =
       let t : Token = record { bytes = held; line = line; whole = false } in
-      let extent : f.extent before word (toks ++ t ∷ []) ≡ record { count = length (toks ++ t ∷ []); closed = true; at_eof = false } = ends.extent (t ∷ []) ∙ rw begun (ap (λ (k : ℕ). record { count = k; closed = true; at_eof = false }) (omega (arith, length-append toks (t ∷ [])))) in
+      let extent : f.extent before word
+      (toks ++ t ∷ []) ≡ record { count = length (toks ++ t ∷ []); closed = true; at_eof = false } =
+      ends.extent (t ∷ [])
+      ∙ rw begun
+      (ap (λ (k : ℕ). record { count = k; closed = true; at_eof = false })
+      (omega (arith, length-append toks (t ∷ [])))) in
       let last : last_line n0 (toks ++ t ∷ []) ≡ line = last_is_line toks n0 t in
       let clean : f.section before word n0 (toks ++ t ∷ []) Clean ≡ None = ends.clean (t ∷ []) in
-      rw (append-nil held, tokens_of-open line held run, extent, take_all (toks ++ t ∷ []), get_end (toks ++ t ∷ []), and_false, clean, last, eq-leb line) refl
+      rw (
+        append-nil held,
+        tokens_of-open line held run,
+        extent,
+        take_all (toks ++ t ∷ []),
+        get_end (toks ++ t ∷ []),
+        and_false,
+        clean,
+        last,
+        eq-leb line,
+      ) refl
     where
       last_is_line : (xs : List Token) (m : ℕ) (t : Token) → last_line m (xs ++ t ∷ []) ≡ t.line
       last_is_line [] m t = refl
@@ -154,5 +217,7 @@ module _ {V S : Type 0} (f : Format V) (H : S → List Piece → Type 0) (form :
       eq-leb : (n : ℕ) → leb n n ≡ true
       eq-leb n = le-leb _ _ (omega arith)
 
-  pub open_minus_one : (o : Bool) → IsRun held → begins_minus_one held ≡ true → AtAfter f H anything form line o held bs → decided_by f false bs ≡ None
-  open_minus_one o run begun a = at_none f form line bs _ (a.same false [] refl) (open_one_law a.before a.word a.first a.toks run begun a.ends)
+  pub open_minus_one : (o : Bool) → IsRun held → begins_minus_one held ≡ true →
+      AtAfter f H anything form line o held bs → decided_by f false bs ≡ None
+  open_minus_one o run begun a =
+      at_none f form line bs _ (a.same false [] refl) (open_one_law a.before a.word a.first a.toks run begun a.ends)

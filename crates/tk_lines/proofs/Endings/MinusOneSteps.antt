@@ -1,5 +1,6 @@
 -- What a byte does after the -1 that ends a section.
-use Rattle.std.proofs.Common.{◌≡◌, ℕ, ◌+◌, ◌<◌, Bool, true, false, cond, eqb, not, ◌&&◌, ◌||◌, List, [], ◌∷◌, ◌++◌, length, Option, Some, None, Err, refl, ap, subst, ◌∙◌, arith}
+use Rattle.std.proofs.Common.{◌≡◌, ℕ, ◌+◌, ◌<◌, Bool, true, false, cond, eqb, not, ◌&&◌, ◌||◌, List, [], ◌∷◌, ◌++◌}
+use Rattle.std.proofs.Common.{length, Option, Some, None, Err, refl, ap, subst, ◌∙◌, arith}
 use Rattle.std.proofs.lemmas.List.{append-nil}
 use Rattle.std.proofs.lemmas.Bool.{eqb-true}
 use Rattle.tk_words.specs.declared.keyword.Keyword.{Keyword}
@@ -18,8 +19,10 @@ use Rattle.tk_lines.proofs.Lines.{blank_letter}
 use Rattle.tk_lines.proofs.Sections.SectionSteps.{same_now, last_is}
 use Rattle.tk_words.proofs.NumberLaws.MinusOne.{other_integer}
 
-letter_more : (b n : ℕ) (y : List ℕ) (w : Bool) (more : List Token) → is_letter b ≡ true → one_more (record { bytes = b ∷ y; line = n; whole = w } ∷ more) ≡ 0
-letter_more b n y w more h = let other = no_minus (eqb b 45) refl in rw (other_integer b y other, other_integer b (y ++ 49 ∷ []) other) (by_whole w)
+letter_more : (b n : ℕ) (y : List ℕ) (w : Bool) (more : List Token) → is_letter b ≡ true →
+    one_more (record { bytes = b ∷ y; line = n; whole = w } ∷ more) ≡ 0
+letter_more b n y w more h = let other = no_minus (eqb b 45) refl in
+    rw (other_integer b y other, other_integer b (y ++ 49 ∷ []) other) (by_whole w)
   where
     no_minus : (t : Bool) → eqb b 45 ≡ t → eqb b 45 ≡ false
     no_minus true is = let minus = eqb-true b 45 is in absurd (let k = rw minus at h in cc)
@@ -34,7 +37,8 @@ module _ {V S : Type 0} (f : Format V) (H : S → List Piece → Type 0) (form :
   earlier true last h = omega (arith, h)
   earlier false last h = omega (arith, h)
 
-  pub after_LF : (o : Bool) → AtAfter f H (this LF) form line o [] bs → AtAfter f H anything form (line + 1) false [] (bs ++ LF ∷ [])
+  pub after_LF : (o : Bool) → AtAfter f H (this LF) form line o [] bs →
+      AtAfter f H anything form (line + 1) false [] (bs ++ LF ∷ [])
   after_LF o a = record {
     before = a.before;
     word = a.word;
@@ -43,10 +47,12 @@ module _ {V S : Type 0} (f : Format V) (H : S → List Piece → Type 0) (form :
     holds = a.holds;
     ends = a.ends;
     last = earlier o (last_line a.first a.toks) a.last;
-    same = says_byte f LF bs _ _ a.same (λ e more. in_section-next f a.before a.word a.first a.toks e line more ∙ ap (λ (n : ℕ). in_section f a.before a.word a.first a.toks [] e n more) (omega arith));
+    same = says_byte f LF bs _ _ a.same (λ e more. in_section-next f a.before a.word a.first a.toks e line more
+        ∙ ap (λ (n : ℕ). in_section f a.before a.word a.first a.toks [] e n more) (omega arith));
   }
 
-  pub after_blank : (o : Bool) → eqb b LF ≡ false → is_blank b ≡ true → AtAfter f H (this b) form line o [] bs → AtAfter f H anything form line o [] (bs ++ b ∷ [])
+  pub after_blank : (o : Bool) → eqb b LF ≡ false → is_blank b ≡ true → AtAfter f H (this b) form line o [] bs →
+      AtAfter f H anything form line o [] (bs ++ b ∷ [])
   after_blank o other blank a = record {
     before = a.before;
     word = a.word;
@@ -55,11 +61,14 @@ module _ {V S : Type 0} (f : Format V) (H : S → List Piece → Type 0) (form :
     holds = a.holds;
     ends = a.ends;
     last = a.last;
-    same = says_byte f b bs _ _ a.same (λ e more. in_section-byte f a.before a.word a.first a.toks [] e line b more other ∙ in_section-drop f a.before a.word a.first a.toks e line more b blank);
+    same =
+        says_byte f b bs _ _ a.same (λ e more. in_section-byte f a.before a.word a.first a.toks [] e line b more other
+        ∙ in_section-drop f a.before a.word a.first a.toks e line more b blank);
   }
 
   -- a byte of what may be one -1 more
-  pub after_byte : (o : Bool) (pre : List ℕ) → eqb b LF ≡ false → AtAfter f H (this b) form line o pre bs → AtAfter f H anything form line o (pre ++ b ∷ []) (bs ++ b ∷ [])
+  pub after_byte : (o : Bool) (pre : List ℕ) → eqb b LF ≡ false → AtAfter f H (this b) form line o pre bs →
+      AtAfter f H anything form line o (pre ++ b ∷ []) (bs ++ b ∷ [])
   after_byte o pre other a = record {
     before = a.before;
     word = a.word;
@@ -68,39 +77,70 @@ module _ {V S : Type 0} (f : Format V) (H : S → List Piece → Type 0) (form :
     holds = a.holds;
     ends = a.ends;
     last = a.last;
-    same = says_byte f b bs _ _ a.same (λ e more. in_section-byte f a.before a.word a.first a.toks pre e line b more other);
+    same =
+        says_byte f b bs _ _ a.same
+        (λ e more. in_section-byte f a.before a.word a.first a.toks pre e line b more other);
   }
 
   clean_none : (a : AtAfter f H (this b) form line false [] bs) → f.section a.before a.word a.first a.toks Clean ≡ None
-  clean_none a = subst (λ (ts : List Token). f.section a.before a.word a.first ts Clean ≡ None) (append-nil a.toks) (a.ends.clean [])
+  clean_none a = subst (λ (ts : List Token). f.section a.before a.word a.first ts Clean ≡ None) (append-nil a.toks)
+      (a.ends.clean [])
 
-  pub after_trailing : eqb b LF ≡ false → is_letter b ≡ true → AtAfter f H (this b) form line true [] bs → DecidesIf f anything (bs ++ b ∷ []) (Err (record { line = line; kind = kinds.TrailingData }))
-  after_trailing other letter a = says_byte f b bs _ _ a.same (λ e more. in_section-byte f a.before a.word a.first a.toks [] e line b more other ∙
+  pub after_trailing : eqb b LF ≡ false → is_letter b ≡ true → AtAfter f H (this b) form line true [] bs →
+      DecidesIf f anything (bs ++ b ∷ []) (Err (record { line = line; kind = kinds.TrailingData }))
+  after_trailing other letter a =
+      says_byte f b bs _ _ a.same (λ e more. in_section-byte f a.before a.word a.first a.toks [] e line b more other ∙
       in_section-trailing f a.before a.word a.first a.toks e line more b [] (blank_letter b letter) a.last
-      (λ l. subst (λ (ts : List Token). f.section a.before a.word a.first ts (Trailing l) ≡ Some (Fault l kinds.TrailingData)) (append-nil a.toks) (a.ends.trailing [] l))
-      (λ w y rest. a.ends.extent (record { bytes = b ∷ y; line = line; whole = w } ∷ rest) ∙ ap (λ (k : ℕ). record { count = length a.toks + k; closed = true; at_eof = false }) (letter_more b line y w rest letter) ∙ ap (λ (k : ℕ). record { count = k; closed = true; at_eof = false }) (omega arith)))
+      (λ l. subst
+      (λ (ts : List Token). f.section a.before a.word a.first ts (Trailing l) ≡ Some (Fault l kinds.TrailingData))
+      (append-nil a.toks) (a.ends.trailing [] l))
+      (λ w y rest. a.ends.extent (record { bytes = b ∷ y; line = line; whole = w } ∷ rest)
+      ∙ ap (λ (k : ℕ). record { count = length a.toks + k; closed = true; at_eof = false })
+      (letter_more b line y w rest letter)
+      ∙ ap (λ (k : ℕ). record { count = k; closed = true; at_eof = false }) (omega arith)))
 
   -- a letter on a later line
-  pub after_word : eqb b LF ≡ false → is_letter b ≡ true → AtAfter f H (this b) form line false [] bs → AtLine f H anything form line (b ∷ []) (bs ++ b ∷ [])
+  pub after_word : eqb b LF ≡ false → is_letter b ≡ true → AtAfter f H (this b) form line false [] bs →
+      AtLine f H anything form line (b ∷ []) (bs ++ b ∷ [])
   after_word other letter a = record {
     before = a.before ++ a_section a.word a.first a.toks Clean;
     upto = last_line a.first a.toks;
     lt = a.last;
-    holds = subst (λ (ts : List Token). H form (a.before ++ a_section a.word a.first ts Clean)) (append-nil a.toks) (a.holds []);
-    same = says_byte f b bs _ _ a.same (λ e more. in_section-byte f a.before a.word a.first a.toks [] e line b more other ∙
-        in_section-closed f a.before a.word a.first a.toks (b ∷ []) e line more a.last (extent e more) ∙ ap (λ (x : Option Stop). stopped x (from_line f (a.before ++ a_section a.word a.first a.toks Clean) (last_line a.first a.toks) (b ∷ []) e line more)) (clean_none a));
+    holds = subst (λ (ts : List Token). H form (a.before ++ a_section a.word a.first ts Clean)) (append-nil a.toks)
+        (a.holds []);
+    same =
+        says_byte f b bs _ _ a.same (λ e more. in_section-byte f a.before a.word a.first a.toks [] e line b more other ∙
+        in_section-closed f a.before a.word a.first a.toks (b ∷ []) e line more a.last (extent e more)
+        ∙ ap
+        (λ (x : Option Stop). stopped x
+        (from_line f (a.before ++ a_section a.word a.first a.toks Clean) (last_line a.first a.toks) (b ∷ []) e line
+        more)) (clean_none a));
   }
     where
-      extent : (e : Bool) (more : List ℕ) → f.extent a.before a.word (a.toks ++ tokens (prepend (b ∷ []) (lines e line more))) ≡ record { count = length a.toks; closed = true; at_eof = false }
+      extent : (e : Bool) (more : List ℕ) →
+          f.extent a.before a.word
+          (a.toks ++ tokens (prepend (b ∷ []) (lines e line more))) ≡ record {
+            count = length a.toks;
+            closed = true;
+            at_eof = false;
+          }
       extent e more =
           let k = first_line e line more in
           let u = first_token k.whole line b k.bytes (blank_letter b letter) in
-          let none : one_more (tokens (prepend (b ∷ []) (lines e line more))) ≡ 0 = rw (k.is, u.is) (letter_more b line u.bytes u.whole (u.rest ++ tokens k.rest) letter) in
-          a.ends.extent (tokens (prepend (b ∷ []) (lines e line more))) ∙ ap (λ (k : ℕ). record { count = length a.toks + k; closed = true; at_eof = false }) none ∙ ap (λ (k : ℕ). record { count = k; closed = true; at_eof = false }) (omega arith)
+          let none : one_more (tokens (prepend (b ∷ []) (lines e line more))) ≡ 0 =
+          rw (k.is, u.is) (letter_more b line u.bytes u.whole (u.rest ++ tokens k.rest) letter) in
+          a.ends.extent (tokens (prepend (b ∷ []) (lines e line more)))
+          ∙ ap (λ (k : ℕ). record { count = length a.toks + k; closed = true; at_eof = false }) none
+          ∙ ap (λ (k : ℕ). record { count = k; closed = true; at_eof = false }) (omega arith)
 
 -- a token that ends a list
-module _ {V S : Type 0} (f : Format V) (W : S → List Piece → Keyword → ℕ → List Token → Type 0) (next : Next) (form : S) (line : ℕ) (held bs : List ℕ) (within : Within next a_gap) (run : IsRun held) (a : AtToken f W next form line held bs) where
-  pub token_ending : (H : S → List Piece → Type 0) (form' : S) → ((ones : List Token) → H form' (a.before ++ a_section a.word a.first ((a.toks ++ whole held line ∷ []) ++ ones) Clean)) → Ends f a.before a.word a.first (a.toks ++ whole held line ∷ []) → AtAfter f H next form' line true [] bs
+module _ {V S : Type 0} (f : Format V) (W : S → List Piece → Keyword → ℕ → List Token → Type 0) (next : Next) (form : S)
+    (line : ℕ) (held bs : List ℕ) (within : Within next a_gap) (run : IsRun held)
+    (a : AtToken f W next form line held bs) where
+  pub token_ending : (H : S → List Piece → Type 0) (form' : S) →
+      ((ones : List Token) →
+      H form' (a.before ++ a_section a.word a.first ((a.toks ++ whole held line ∷ []) ++ ones) Clean)) →
+      Ends f a.before a.word a.first (a.toks ++ whole held line ∷ []) → AtAfter f H next form' line true [] bs
   token_ending H form' holds ends = record {
     before = a.before;
     word = a.word;

@@ -1,5 +1,6 @@
 -- What a text says where its bytes end, wherever a reader stands.
-use Rattle.std.proofs.Common.{◌≡◌, ℕ, ◌≤◌, Bool, true, false, not, List, [], ◌∷◌, ◌++◌, length, Option, Some, None, Result, Ok, Err, refl, sym, ap, subst, ◌∙◌, arith}
+use Rattle.std.proofs.Common.{◌≡◌, ℕ, ◌≤◌, Bool, true, false, not, List, [], ◌∷◌, ◌++◌, length, Option, Some, None}
+use Rattle.std.proofs.Common.{Result, Ok, Err, refl, sym, ap, subst, ◌∙◌, arith}
 use Rattle.std.proofs.lemmas.List.{append-nil}
 use Rattle.tk_words.specs.declared.keyword.Keyword.{Keyword}
 use Rattle.tk_words.specs.declared.fault.TextKind.{TextKind}
@@ -11,17 +12,20 @@ use Rattle.tk_lines.specs.declared.reader.PieceReader.{PieceReader}
 use Rattle.tk_lines.specs.declared.place.Place.{Place}
 use Rattle.tk_lines.specs.declared.place.Place.TheVariants as places
 use Rattle.tk_words.specs.Lex.{Line, Token, lines, is_word_byte}
-use Rattle.tk_lines.specs.Pieces.{Piece, Clean, Early, Fault, Stop, Format, cut, judge, end_piece, stopped, ended, decided_by}
+use Rattle.tk_lines.specs.Pieces.{Piece, Clean, Early, Fault, Stop, Format, cut, judge, end_piece, stopped, ended}
+use Rattle.tk_lines.specs.Pieces.{decided_by}
 use Rattle.tk_lines.specs.FromMiddle.{from_line}
 use Rattle.tk_words.specs.Drive.{Decides, DecidesEnded, IsTold, FedMore}
 use Rattle.tk_lines.specs.Forms.{a_header, a_section}
-use Rattle.tk_lines.specs.Reader.{Within, anything, no_word, a_gap, a_line_end, at_end, DecidesIf, AtLine, AtTail, AtValue, AtBegin, AtToken, AtClose, AtAfter, AtPlace, HeaderTaken, AtEnd, Fed, HasFed}
+use Rattle.tk_lines.specs.Reader.{Within, anything, no_word, a_gap, a_line_end, at_end, DecidesIf, AtLine, AtTail}
+use Rattle.tk_lines.specs.Reader.{AtValue, AtBegin, AtToken, AtClose, AtAfter, AtPlace, HeaderTaken, AtEnd, Fed, HasFed}
 use Rattle.tk_words.proofs.Told.{told_kind}
 use Rattle.tk_lines.proofs.MiddleOfLine.{prepend-nil}
 use Rattle.tk_lines.proofs.Lines.{word_ends_behind, from_line-last}
 use Rattle.tk_lines.proofs.Sections.SectionEnds.{First}
 use Rattle.tk_lines.proofs.Sections.SectionBytes.{from_line-inside, from_line-tokens, first_same, plain_after, plain}
-use Rattle.tk_lines.proofs.Endings.TextEnds.{at_none, from_line-end, in_section-end, in_section-shut, open_start, open_word, open_value_law, open_gap, open_token, open_close, open_after}
+use Rattle.tk_lines.proofs.Endings.TextEnds.{at_none, from_line-end, in_section-end, in_section-shut, open_start}
+use Rattle.tk_lines.proofs.Endings.TextEnds.{open_word, open_value_law, open_gap, open_token, open_close, open_after}
 use Rattle.tk_lines.proofs.Endings.AfterMinusOne.{open_minus_one}
 
 -- ---- the end of the bytes ends a word, a token and a line
@@ -55,36 +59,58 @@ module _ {V : Type 0} (f : Format V) (bs : List ℕ) where
   decides_ended a h = ended_by (Some a) (h true [] refl)
 
   pub told_ended : (r : TextFault) → IsTold ⊥ (DecidesIf f at_end bs) r → IsTold ⊥ (DecidesEnded (decided_by f) bs) r
-  told_ended r h = told_kind ⊥ (DecidesIf f at_end bs) (DecidesEnded (decided_by f) bs) r r.kind (decides_ended (Err r)) h
+  told_ended r h = told_kind ⊥ (DecidesIf f at_end bs) (DecidesEnded (decided_by f) bs) r r.kind
+      (decides_ended (Err r)) h
 
 -- ---- where nothing is open
 
-module _ {V S : Type 0} (f : Format V) (H : S → List Piece → Type 0) (W : S → List Piece → Keyword → ℕ → List Token → Type 0) (form : S) (line : ℕ) (bs : List ℕ) where
+module _ {V S : Type 0} (f : Format V) (H : S → List Piece → Type 0)
+    (W : S → List Piece → Keyword → ℕ → List Token → Type 0) (form : S) (line : ℕ) (bs : List ℕ) where
   pub end_line : AtLine f H at_end form line [] bs → AtEnd f H form line bs
-  end_line a = record { before = a.before; holds = a.holds; same = ended_by f bs _ (a.same true [] refl) ∙ from_line-end f a.before true line a.upto a.lt }
+  end_line a =
+      record {
+        before = a.before;
+        holds = a.holds;
+        same = ended_by f bs _ (a.same true [] refl)
+            ∙ from_line-end f a.before true line a.upto a.lt;
+      }
 
   pub end_close : AtClose f H at_end form line bs → AtEnd f H form line bs
   end_close a = record {
     before = a.before ++ a_section a.word a.first a.toks Clean;
     holds = a.holds;
-    same = ended_by f bs _ (a.same true [] refl) ∙ in_section-shut f a.before true line a.word a.first a.toks (subst (λ (ts : List Token). f.extent a.before a.word ts ≡ record { count = length a.toks; closed = true; at_eof = false }) (append-nil a.toks) (a.closed.extent [])) a.closed.clean;
+    same = ended_by f bs _ (a.same true [] refl)
+        ∙ in_section-shut f a.before true line a.word a.first a.toks
+        (subst (λ (ts : List Token). f.extent a.before a.word
+        ts ≡ record { count = length a.toks; closed = true; at_eof = false }) (append-nil a.toks) (a.closed.extent []))
+        a.closed.clean;
   }
 
   pub end_after : (o : Bool) → AtAfter f H at_end form line o [] bs → AtEnd f H form line bs
   end_after o a = record {
     before = a.before ++ a_section a.word a.first a.toks Clean;
-    holds = subst (λ (ts : List Token). H form (a.before ++ a_section a.word a.first ts Clean)) (append-nil a.toks) (a.holds []);
+    holds = subst (λ (ts : List Token). H form (a.before ++ a_section a.word a.first ts Clean)) (append-nil a.toks)
+        (a.holds []);
     same = ended_by f bs _ (a.same true [] refl) ∙ in_section-shut f a.before true line a.word a.first a.toks
-        (subst (λ (ts : List Token). f.extent a.before a.word ts ≡ record { count = length a.toks; closed = true; at_eof = false }) (append-nil a.toks) (a.ends.extent [] ∙ ap (λ (k : ℕ). record { count = k; closed = true; at_eof = false }) (omega arith)))
-        (subst (λ (ts : List Token). f.section a.before a.word a.first ts Clean ≡ None) (append-nil a.toks) (a.ends.clean []));
+        (subst (λ (ts : List Token). f.extent a.before a.word
+        ts ≡ record { count = length a.toks; closed = true; at_eof = false }) (append-nil a.toks) (a.ends.extent []
+        ∙ ap (λ (k : ℕ). record { count = k; closed = true; at_eof = false }) (omega arith)))
+        (subst (λ (ts : List Token). f.section a.before a.word a.first ts Clean ≡ None) (append-nil a.toks)
+        (a.ends.clean []));
   }
 
-  pub end_header : (held : List ℕ) (word : Keyword) → HeaderTaken f H at_end form line held word bs → AtEnd f H form line bs
+  pub end_header : (held : List ℕ) (word : Keyword) → HeaderTaken f H at_end form line held word bs →
+      AtEnd f H form line bs
   end_header held word a = record {
     before = a.before ++ a_header word a.tail line;
     holds = a.holds;
-    same = ended_by f bs _ (a.at.same true [] refl) ∙ from_line-last f a.before a.at.upto held a.tail line a.at.lt a.at.is_word word a.at.word_is a.header (subst (λ (x : List ℕ). no_word true x ≡ true) (append-nil a.tail) (a.at.settled true [] refl))
-        ∙ ap (λ (x : Option Stop). stopped x (ended f (a.before ++ a_header word a.tail line) line true (f.at_end (a.before ++ a_header word a.tail line)))) a.none;
+    same = ended_by f bs _ (a.at.same true [] refl)
+        ∙ from_line-last f a.before a.at.upto held a.tail line a.at.lt a.at.is_word word a.at.word_is a.header
+        (subst (λ (x : List ℕ). no_word true x ≡ true) (append-nil a.tail) (a.at.settled true [] refl))
+        ∙ ap
+        (λ (x : Option Stop). stopped x
+        (ended f (a.before ++ a_header word a.tail line) line true
+        (f.at_end (a.before ++ a_header word a.tail line)))) a.none;
   }
 
   -- after a section's word, its tokens begin
@@ -96,25 +122,45 @@ module _ {V S : Type 0} (f : Format V) (H : S → List Piece → Type 0) (W : S 
     toks = [];
     wants = a.wants;
     goes = a.goes;
-    same = λ e more n. a.at.same e more n ∙ from_line-inside f a.before a.at.upto held a.tail e line more a.at.lt a.at.is_word (a.at.settled e more n) a.word a.at.word_is a.section a.blank (end_in_plain e more n);
+    same = λ e more n. a.at.same e more n
+        ∙ from_line-inside f a.before a.at.upto held a.tail e line more a.at.lt a.at.is_word (a.at.settled e more n)
+        a.word a.at.word_is a.section a.blank (end_in_plain e more n);
   }
 
-  section_ended : (a : AtToken f W at_end form line [] bs) → decided_by f true bs ≡ stopped (f.section a.before a.word a.first a.toks (Early line true)) (ended f (a.before ++ a_section a.word a.first a.toks (Early line true)) line true (f.at_end (a.before ++ a_section a.word a.first a.toks (Early line true))))
-  section_ended a = ended_by f bs _ (a.same true [] refl) ∙ in_section-end f a.before true line a.word a.first a.toks a.goes.ends
+  section_ended : (a : AtToken f W at_end form line [] bs) →
+      decided_by f true bs ≡ stopped (f.section a.before a.word a.first a.toks (Early line true))
+      (ended f (a.before ++ a_section a.word a.first a.toks (Early line true)) line true
+      (f.at_end (a.before ++ a_section a.word a.first a.toks (Early line true))))
+  section_ended a = ended_by f bs _ (a.same true [] refl)
+      ∙ in_section-end f a.before true line a.word a.first a.toks a.goes.ends
 
-  pub end_section : (form' : S) (a : AtToken f W at_end form line [] bs) → H form' (a.before ++ a_section a.word a.first a.toks (Early line true)) → f.section a.before a.word a.first a.toks (Early line true) ≡ None → AtEnd f H form' line bs
+  pub end_section : (form' : S) (a : AtToken f W at_end form line [] bs) →
+      H form' (a.before ++ a_section a.word a.first a.toks (Early line true)) →
+      f.section a.before a.word a.first a.toks (Early line true) ≡ None → AtEnd f H form' line bs
   end_section form' a holds none = record {
     before = a.before ++ a_section a.word a.first a.toks (Early line true);
     holds = holds;
-    same = section_ended a ∙ ap (λ (x : Option Stop). stopped x (ended f (a.before ++ a_section a.word a.first a.toks (Early line true)) line true (f.at_end (a.before ++ a_section a.word a.first a.toks (Early line true))))) none;
+    same = section_ended a
+        ∙ ap
+        (λ (x : Option Stop). stopped x
+        (ended f (a.before ++ a_section a.word a.first a.toks (Early line true)) line true
+        (f.at_end (a.before ++ a_section a.word a.first a.toks (Early line true))))) none;
   }
 
-  pub end_section_err : (k : TextKind) (a : AtToken f W at_end form line [] bs) → f.section a.before a.word a.first a.toks (Early line true) ≡ Some (Fault line k) → DecidesEnded (decided_by f) bs (Err (record { line = line; kind = k }))
-  end_section_err k a stops = section_ended a ∙ ap (λ (x : Option Stop). stopped x (ended f (a.before ++ a_section a.word a.first a.toks (Early line true)) line true (f.at_end (a.before ++ a_section a.word a.first a.toks (Early line true))))) stops
+  pub end_section_err : (k : TextKind) (a : AtToken f W at_end form line [] bs) →
+      f.section a.before a.word a.first a.toks (Early line true) ≡ Some (Fault line k) →
+      DecidesEnded (decided_by f) bs (Err (record { line = line; kind = k }))
+  end_section_err k a stops = section_ended a
+      ∙ ap
+      (λ (x : Option Stop). stopped x
+      (ended f (a.before ++ a_section a.word a.first a.toks (Early line true)) line true
+      (f.at_end (a.before ++ a_section a.word a.first a.toks (Early line true))))) stops
 
 -- ---- where more may follow, nothing is decided
 
-module _ {V S : Type 0} (f : Format V) (H : S → List Piece → Type 0) (W : S → List Piece → Keyword → ℕ → List Token → Type 0) (form : S) (line : ℕ) (held : List ℕ) (scan : Scan) (bs : List ℕ) where
+module _ {V S : Type 0} (f : Format V) (H : S → List Piece → Type 0)
+    (W : S → List Piece → Keyword → ℕ → List Token → Type 0) (form : S) (line : ℕ) (held : List ℕ) (scan : Scan)
+    (bs : List ℕ) where
   not_settled : (x : Type 0) → no_word false [] ≡ true → x
   not_settled x h = absurd (let k = h in cc)
 
@@ -125,9 +171,13 @@ module _ {V S : Type 0} (f : Format V) (H : S → List Piece → Type 0) (W : S 
   open_value : (word : Keyword) → AtValue f H anything form line held word scan bs → decided_by f false bs ≡ None
   open_value word a = by_tail a.tail a.at a.short
     where
-      by_tail : (tail : List ℕ) → AtTail f anything line held word a.before tail bs → length tail ≤ 4096 → decided_by f false bs ≡ None
+      by_tail : (tail : List ℕ) → AtTail f anything line held word a.before tail bs → length tail ≤ 4096 →
+          decided_by f false bs ≡ None
       by_tail [] at short = not_settled _ (at.settled false [] refl)
-      by_tail (d ∷ ds) at short = at_none f form line bs _ (at.same false [] refl) (open_value_law f form line bs a.before at.upto held d ds word at.lt at.is_word (solid_first (is_word_byte d) (at.settled false [] refl)) at.word_is a.header short)
+      by_tail (d ∷ ds) at short =
+          at_none f form line bs _ (at.same false [] refl)
+          (open_value_law f form line bs a.before at.upto held d ds word at.lt at.is_word
+          (solid_first (is_word_byte d) (at.settled false [] refl)) at.word_is a.header short)
 
   no_first : First false line []
   unfolding lines
@@ -140,9 +190,13 @@ module _ {V S : Type 0} (f : Format V) (H : S → List Piece → Type 0) (W : S 
       let k = (word_ends_behind a.tail false line [] ends).first in
       let none : k.bytes ≡ [] = first_same false line [] k no_first in
       at_none f form line bs _ (a.at.same false [] refl)
-      (from_line-tokens f a.before a.at.upto held a.tail false line [] a.at.lt a.at.is_word ends a.word a.at.word_is a.section [] k refl refl (plain_after a.tail k.bytes a.blank (rw none tt))
+      (from_line-tokens f a.before a.at.upto held a.tail false line [] a.at.lt a.at.is_word ends a.word a.at.word_is
+      a.section [] k refl refl (plain_after a.tail k.bytes a.blank (rw none tt))
       ∙ in_section-end f a.before false line a.word line [] a.goes.ends
-      ∙ ap (λ (x : Option Stop). stopped x (ended f (a.before ++ a_section a.word line [] (Early line false)) line false (f.at_end (a.before ++ a_section a.word line [] (Early line false))))) (a.goes.early line))
+      ∙ ap
+      (λ (x : Option Stop). stopped x
+      (ended f (a.before ++ a_section a.word line [] (Early line false)) line false
+      (f.at_end (a.before ++ a_section a.word line [] (Early line false))))) (a.goes.early line))
 
   pub open_place : (p : Place) → AtPlace f H W anything form line held scan bs p → decided_by f false bs ≡ None
   open_place places.Start a = open_start f form line bs H a
@@ -157,25 +211,29 @@ module _ {V S : Type 0} (f : Format V) (H : S → List Piece → Type 0) (W : S 
 
 -- ---- the first byte
 
-pub from_first : {V S : Type 0} (f : Format V) (H : S → List Piece → Type 0) (form : S) → H form [] → AtLine f H anything form 1 [] []
+pub from_first : {V S : Type 0} (f : Format V) (H : S → List Piece → Type 0) (form : S) → H form [] →
+    AtLine f H anything form 1 [] []
 unfolding decided_by from_line
 from_first f H form holds = record {
   before = [];
   upto = 0;
   holds = holds;
   lt = omega arith;
-  same = λ e more n. ap (λ (ls : List Line). judge f [] (cut f.extent [] 0 ls ++ end_piece (lines e 1 more))) (sym (prepend-nil (lines e 1 more)));
+  same = λ e more n. ap (λ (ls : List Line). judge f [] (cut f.extent [] 0 ls ++ end_piece (lines e 1 more)))
+      (sym (prepend-nil (lines e 1 more)));
 }
 
 -- ---- a step, as the driver asks it
 
-module _ {V S : Type 0} (f : Format V) (H : S → List Piece → Type 0) (W : S → List Piece → Keyword → ℕ → List Token → Type 0) (bs : List ℕ) where
+module _ {V S : Type 0} (f : Format V) (H : S → List Piece → Type 0)
+    (W : S → List Piece → Keyword → ℕ → List Token → Type 0) (bs : List ℕ) where
   pub decides_all : (a : Result V TextFault) → DecidesIf f anything bs a → Decides (decided_by f) bs a
   decides_all a h e more = h e more refl
 
   pub told_all : (r : TextFault) → IsTold ⊥ (DecidesIf f anything bs) r → IsTold ⊥ (Decides (decided_by f) bs) r
   told_all r h = told_kind ⊥ (DecidesIf f anything bs) (Decides (decided_by f) bs) r r.kind (decides_all (Err r)) h
 
-  pub fed_more : (s : PieceReader S) (v : V) (step : Step) → HasFed f anything (Fed f H W anything s) v bs step → FedMore (decided_by f) (Fed f H W anything s) v bs step
+  pub fed_more : (s : PieceReader S) (v : V) (step : Step) → HasFed f anything (Fed f H W anything s) v bs step →
+      FedMore (decided_by f) (Fed f H W anything s) v bs step
   fed_more s v steps.More h = (h, open_place f H W s.form s.line s.held s.scan bs s.place h.1)
   fed_more s v steps.Done h = decides_all (Ok v) h

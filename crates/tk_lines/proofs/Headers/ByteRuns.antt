@@ -1,10 +1,13 @@
 -- Runs of bytes, and one byte more.
-use Rattle.std.proofs.Common.{◌≡◌, ℕ, zero, suc, ◌<◌, Bool, true, false, cond, eqb, ◌&&◌, List, [], ◌∷◌, ◌++◌, length, take, refl, sym, ap, ◌∙◌, append_assoc, arith}
+use Rattle.std.proofs.Common.{◌≡◌, ℕ, zero, suc, ◌<◌, Bool, true, false, cond, eqb, ◌&&◌, List, [], ◌∷◌, ◌++◌, length}
+use Rattle.std.proofs.Common.{take, refl, sym, ap, ◌∙◌, append_assoc, arith}
 use Rattle.std.proofs.lemmas.List.{append-nil}
 use Rattle.tk_words.specs.Lex.{is_blank, is_empty, front, behind, after_word, without_colon_before, trim_end}
 use Rattle.tk_lines.specs.Scan.{IsEmpty, Settled}
 
-behind-all_step : (p : ℕ → Bool) (x : ℕ) (xs ys : List ℕ) (t : Bool) → (behind p xs ≡ [] → behind p (xs ++ ys) ≡ behind p ys) → cond t (behind p xs) (x ∷ xs) ≡ [] → cond t (behind p (xs ++ ys)) (x ∷ (xs ++ ys)) ≡ behind p ys
+behind-all_step : (p : ℕ → Bool) (x : ℕ) (xs ys : List ℕ) (t : Bool) →
+    (behind p xs ≡ [] → behind p (xs ++ ys) ≡ behind p ys) → cond t (behind p xs) (x ∷ xs) ≡ [] →
+    cond t (behind p (xs ++ ys)) (x ∷ (xs ++ ys)) ≡ behind p ys
 behind-all_step p x xs ys true ih k = ih k
 behind-all_step p x xs ys false ih k = absurd cc
 
@@ -12,7 +15,9 @@ pub behind-all : (p : ℕ → Bool) (xs ys : List ℕ) → behind p xs ≡ [] �
 behind-all p [] ys h = refl
 behind-all p (x ∷ xs) ys h = behind-all_step p x xs ys (p x) (behind-all p xs ys) h
 
-front-all_step : (p : ℕ → Bool) (x : ℕ) (xs ys : List ℕ) (t : Bool) → (behind p xs ≡ [] → front p (xs ++ ys) ≡ xs ++ front p ys) → cond t (behind p xs) (x ∷ xs) ≡ [] → cond t (x ∷ front p (xs ++ ys)) [] ≡ x ∷ (xs ++ front p ys)
+front-all_step : (p : ℕ → Bool) (x : ℕ) (xs ys : List ℕ) (t : Bool) →
+    (behind p xs ≡ [] → front p (xs ++ ys) ≡ xs ++ front p ys) → cond t (behind p xs) (x ∷ xs) ≡ [] →
+    cond t (x ∷ front p (xs ++ ys)) [] ≡ x ∷ (xs ++ front p ys)
 front-all_step p x xs ys true ih k = ap (λ (zs : List ℕ). x ∷ zs) (ih k)
 front-all_step p x xs ys false ih k = absurd cc
 
@@ -23,7 +28,10 @@ front-all p (x ∷ xs) ys h = front-all_step p x xs ys (p x) (front-all p xs ys)
 pub front-whole : (p : ℕ → Bool) (xs : List ℕ) → behind p xs ≡ [] → front p xs ≡ xs
 front-whole p xs h = ap (front p) (sym (append-nil xs)) ∙ front-all p xs [] h ∙ append-nil xs
 
-behind-on_step : (p : ℕ → Bool) (x : ℕ) (xs ys : List ℕ) (t : Bool) → ((IsEmpty (behind p xs) → ⊥) → behind p (xs ++ ys) ≡ behind p xs ++ ys) → (IsEmpty (cond t (behind p xs) (x ∷ xs)) → ⊥) → cond t (behind p (xs ++ ys)) (x ∷ (xs ++ ys)) ≡ cond t (behind p xs) (x ∷ xs) ++ ys
+behind-on_step : (p : ℕ → Bool) (x : ℕ) (xs ys : List ℕ) (t : Bool) →
+    ((IsEmpty (behind p xs) → ⊥) → behind p (xs ++ ys) ≡ behind p xs ++ ys) →
+    (IsEmpty (cond t (behind p xs) (x ∷ xs)) → ⊥) →
+    cond t (behind p (xs ++ ys)) (x ∷ (xs ++ ys)) ≡ cond t (behind p xs) (x ∷ xs) ++ ys
 behind-on_step p x xs ys true ih k = ih k
 behind-on_step p x xs ys false ih k = refl
 
@@ -31,7 +39,9 @@ pub behind-on : (p : ℕ → Bool) (xs ys : List ℕ) → (IsEmpty (behind p xs)
 behind-on p [] ys h = absurd (h tt)
 behind-on p (x ∷ xs) ys h = behind-on_step p x xs ys (p x) (behind-on p xs ys) h
 
-front-on_step : (p : ℕ → Bool) (x : ℕ) (xs ys : List ℕ) (t : Bool) → ((IsEmpty (behind p xs) → ⊥) → front p (xs ++ ys) ≡ front p xs) → (IsEmpty (cond t (behind p xs) (x ∷ xs)) → ⊥) → cond t (x ∷ front p (xs ++ ys)) [] ≡ cond t (x ∷ front p xs) []
+front-on_step : (p : ℕ → Bool) (x : ℕ) (xs ys : List ℕ) (t : Bool) →
+    ((IsEmpty (behind p xs) → ⊥) → front p (xs ++ ys) ≡ front p xs) → (IsEmpty (cond t (behind p xs) (x ∷ xs)) → ⊥) →
+    cond t (x ∷ front p (xs ++ ys)) [] ≡ cond t (x ∷ front p xs) []
 front-on_step p x xs ys true ih k = ap (λ (zs : List ℕ). x ∷ zs) (ih k)
 front-on_step p x xs ys false ih k = refl
 
@@ -43,7 +53,8 @@ pub trim_end-blank : (xs : List ℕ) (b : ℕ) → is_blank b ≡ true → trim_
 trim_end-blank [] b h = rw h refl
 trim_end-blank (x ∷ xs) b h = ap (λ (r : List ℕ). cond (is_blank x && is_empty r) [] (x ∷ r)) (trim_end-blank xs b h)
 
-not_empty : (x y : ℕ) (xs ys : List ℕ) → cond (is_blank x && is_empty (xs ++ y ∷ ys)) [] (x ∷ (xs ++ y ∷ ys)) ≡ x ∷ (xs ++ y ∷ ys)
+not_empty : (x y : ℕ) (xs ys : List ℕ) → cond (is_blank x && is_empty (xs ++ y ∷ ys)) [] (x ∷ (xs ++ y ∷ ys)) ≡ x
+    ∷ (xs ++ y ∷ ys)
 not_empty x y [] ys = by_test (is_blank x)
   where
     by_test : (t : Bool) → cond (t && false) [] (x ∷ y ∷ ys) ≡ x ∷ y ∷ ys
@@ -76,16 +87,22 @@ take-full (suc k) (x ∷ w) ys h = ap (λ (zs : List ℕ). x ∷ zs) (take-full 
 -- ---- the colon after a word
 
 pub settled_more : (v x : List ℕ) → Settled v → Settled (v ++ x)
-settled_more v x h more = ap after_word (append_assoc v x more) ∙ h (x ++ more) ∙ sym (append_assoc (after_word v) x more) ∙ ap (λ (y : List ℕ). y ++ more) (sym (h x))
+settled_more v x h more = ap after_word (append_assoc v x more) ∙ h (x ++ more)
+    ∙ sym (append_assoc (after_word v) x more) ∙ ap (λ (y : List ℕ). y ++ more) (sym (h x))
 
 pub after_colon : (v more : List ℕ) → behind is_blank v ≡ [] → after_word (v ++ 58 ∷ more) ≡ more
 after_colon v more h = ap without_colon_before (behind-all is_blank v (58 ∷ more) h)
 
 pub settled_colon : (v : List ℕ) → behind is_blank v ≡ [] → Settled (v ++ 58 ∷ [])
-settled_colon v h more = ap after_word (append_assoc v (58 ∷ []) more) ∙ after_colon v more h ∙ sym (ap (λ (y : List ℕ). y ++ more) (after_colon v [] h))
+settled_colon v h more = ap after_word (append_assoc v (58 ∷ []) more) ∙ after_colon v more h
+    ∙ sym (ap (λ (y : List ℕ). y ++ more) (after_colon v [] h))
 
-pub after_other : (v : List ℕ) (b : ℕ) (more : List ℕ) → behind is_blank v ≡ [] → is_blank b ≡ false → eqb b 58 ≡ false → after_word (v ++ b ∷ more) ≡ b ∷ more
-after_other v b more h solid other = ap without_colon_before (behind-all is_blank v (b ∷ more) h) ∙ rw (solid, other) refl
+pub after_other : (v : List ℕ) (b : ℕ) (more : List ℕ) → behind is_blank v ≡ [] → is_blank b ≡ false →
+    eqb b 58 ≡ false → after_word (v ++ b ∷ more) ≡ b ∷ more
+after_other v b more h solid other = ap without_colon_before (behind-all is_blank v (b ∷ more) h)
+    ∙ rw (solid, other) refl
 
-pub settled_other : (v : List ℕ) (b : ℕ) → behind is_blank v ≡ [] → is_blank b ≡ false → eqb b 58 ≡ false → Settled (v ++ b ∷ [])
-settled_other v b h solid other more = ap after_word (append_assoc v (b ∷ []) more) ∙ after_other v b more h solid other ∙ sym (ap (λ (y : List ℕ). y ++ more) (after_other v b [] h solid other))
+pub settled_other : (v : List ℕ) (b : ℕ) → behind is_blank v ≡ [] → is_blank b ≡ false → eqb b 58 ≡ false →
+    Settled (v ++ b ∷ [])
+settled_other v b h solid other more = ap after_word (append_assoc v (b ∷ []) more) ∙ after_other v b more h solid other
+    ∙ sym (ap (λ (y : List ℕ). y ++ more) (after_other v b [] h solid other))

@@ -21,8 +21,10 @@ has-append w (Stray l ∷ xs) ys = has-append w xs ys
 has-append w (LongWord l ∷ xs) ys = has-append w xs ys
 has-append w (OpenWord l ∷ xs) ys = has-append w xs ys
 has-append w (Unknown l ∷ xs) ys = has-append w xs ys
-has-append w (Header word v ∷ xs) ys = ap (λ (t : Bool). same_word word w || t) (has-append w xs ys) ∙ sym (or_assoc (same_word word w) (has w xs) (has w ys))
-has-append w (Section word n toks after ∷ xs) ys = ap (λ (t : Bool). same_word word w || t) (has-append w xs ys) ∙ sym (or_assoc (same_word word w) (has w xs) (has w ys))
+has-append w (Header word v ∷ xs) ys = ap (λ (t : Bool). same_word word w || t) (has-append w xs ys)
+    ∙ sym (or_assoc (same_word word w) (has w xs) (has w ys))
+has-append w (Section word n toks after ∷ xs) ys = ap (λ (t : Bool). same_word word w || t) (has-append w xs ys)
+    ∙ sym (or_assoc (same_word word w) (has w xs) (has w ys))
 has-append w (End l e ∷ xs) ys = has-append w xs ys
 
 -- a word that is none of the new pieces'
@@ -49,14 +51,16 @@ tokens_in-new w (Section word n toks after ∷ xs) ys h =
     rw none.0 (tokens_in-new w xs ys none.1)
 tokens_in-new w (End l e ∷ xs) ys h = tokens_in-new w xs ys h
 
-pub tokens_in-header : (w : Keyword) (xs : List Piece) (word : Keyword) (v : List ℕ) (n : ℕ) → tokens_in w (xs ++ a_header word v n) ≡ tokens_in w xs
+pub tokens_in-header : (w : Keyword) (xs : List Piece) (word : Keyword) (v : List ℕ) (n : ℕ) →
+    tokens_in w (xs ++ a_header word v n) ≡ tokens_in w xs
 tokens_in-header w [] word v n = refl
 tokens_in-header w (Stray l ∷ xs) word v n = tokens_in-header w xs word v n
 tokens_in-header w (LongWord l ∷ xs) word v n = tokens_in-header w xs word v n
 tokens_in-header w (OpenWord l ∷ xs) word v n = tokens_in-header w xs word v n
 tokens_in-header w (Unknown l ∷ xs) word v n = tokens_in-header w xs word v n
 tokens_in-header w (Header x y ∷ xs) word v n = tokens_in-header w xs word v n
-tokens_in-header w (Section x m toks after ∷ xs) word v n = ap (λ (ts : List Token). cond (same_word x w) toks ts) (tokens_in-header w xs word v n)
+tokens_in-header w (Section x m toks after ∷ xs) word v n =
+    ap (λ (ts : List Token). cond (same_word x w) toks ts) (tokens_in-header w xs word v n)
 tokens_in-header w (End l e ∷ xs) word v n = tokens_in-header w xs word v n
 
 pub tokens_in-none : (w : Keyword) (xs : List Piece) → has w xs ≡ false → tokens_in w xs ≡ []

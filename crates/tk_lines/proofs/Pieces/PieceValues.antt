@@ -4,7 +4,8 @@ use Rattle.std.proofs.lemmas.List.{append-nil}
 use Rattle.tk_words.specs.declared.keyword.Keyword.{Keyword}
 use Rattle.tk_words.specs.Lex.{Token}
 use Rattle.tk_words.specs.Words.{same_word}
-use Rattle.tk_lines.specs.Pieces.{Piece, Stray, LongWord, OpenWord, Unknown, Header, Section, End, After, has, value_of, tokens_in}
+use Rattle.tk_lines.specs.Pieces.{Piece, Stray, LongWord, OpenWord, Unknown, Header, Section, End, After, has, value_of}
+use Rattle.tk_lines.specs.Pieces.{tokens_in}
 use Rattle.tk_lines.specs.Forms.{a_header, a_section}
 use Rattle.tk_lines.proofs.Pieces.PieceLookups.{has-append, either_false}
 
@@ -12,11 +13,15 @@ or_none : (a : Bool) → (a || false) ≡ a
 or_none true = refl
 or_none false = refl
 
-pub has-header : (w word : Keyword) (ps : List Piece) (v : List ℕ) (n : ℕ) → has w (ps ++ a_header word v n) ≡ (has w ps || same_word word w)
-has-header w word ps v n = has-append w ps (a_header word v n) ∙ ap (λ (t : Bool). has w ps || t) (or_none (same_word word w))
+pub has-header : (w word : Keyword) (ps : List Piece) (v : List ℕ) (n : ℕ) →
+    has w (ps ++ a_header word v n) ≡ (has w ps || same_word word w)
+has-header w word ps v n = has-append w ps (a_header word v n)
+    ∙ ap (λ (t : Bool). has w ps || t) (or_none (same_word word w))
 
-pub has-section : (w word : Keyword) (ps : List Piece) (n : ℕ) (toks : List Token) (after : After) → has w (ps ++ a_section word n toks after) ≡ (has w ps || same_word word w)
-has-section w word ps n toks after = has-append w ps (a_section word n toks after) ∙ ap (λ (t : Bool). has w ps || t) (or_none (same_word word w))
+pub has-section : (w word : Keyword) (ps : List Piece) (n : ℕ) (toks : List Token) (after : After) →
+    has w (ps ++ a_section word n toks after) ≡ (has w ps || same_word word w)
+has-section w word ps n toks after = has-append w ps (a_section word n toks after)
+    ∙ ap (λ (t : Bool). has w ps || t) (or_none (same_word word w))
 
 -- ---- the value of a header
 
@@ -26,8 +31,11 @@ value_of-unseen w (Stray line ∷ ps) qs h = value_of-unseen w ps qs h
 value_of-unseen w (LongWord line ∷ ps) qs h = value_of-unseen w ps qs h
 value_of-unseen w (OpenWord line ∷ ps) qs h = value_of-unseen w ps qs h
 value_of-unseen w (Unknown line ∷ ps) qs h = value_of-unseen w ps qs h
-value_of-unseen w (Header v x ∷ ps) qs h = rw (either_false (same_word v w) (has w ps) h).0 (value_of-unseen w ps qs (either_false (same_word v w) (has w ps) h).1)
-value_of-unseen w (Section v n toks after ∷ ps) qs h = value_of-unseen w ps qs (either_false (same_word v w) (has w ps) h).1
+value_of-unseen w (Header v x ∷ ps) qs h =
+    rw (either_false (same_word v w) (has w ps) h).0
+    (value_of-unseen w ps qs (either_false (same_word v w) (has w ps) h).1)
+value_of-unseen w (Section v n toks after ∷ ps) qs h =
+    value_of-unseen w ps qs (either_false (same_word v w) (has w ps) h).1
 value_of-unseen w (End line e ∷ ps) qs h = value_of-unseen w ps qs h
 
 pub value_of-append : (w : Keyword) (ps qs : List Piece) → value_of w qs ≡ None → value_of w (ps ++ qs) ≡ value_of w ps
@@ -40,13 +48,16 @@ value_of-append w (Header v x ∷ ps) qs h = rw (value_of-append w ps qs h) refl
 value_of-append w (Section v n toks after ∷ ps) qs h = value_of-append w ps qs h
 value_of-append w (End line e ∷ ps) qs h = value_of-append w ps qs h
 
-pub value_of-other : (w word : Keyword) (ps : List Piece) (v : List ℕ) (n : ℕ) → same_word word w ≡ false → value_of w (ps ++ a_header word v n) ≡ value_of w ps
+pub value_of-other : (w word : Keyword) (ps : List Piece) (v : List ℕ) (n : ℕ) → same_word word w ≡ false →
+    value_of w (ps ++ a_header word v n) ≡ value_of w ps
 value_of-other w word ps v n other = value_of-append w ps (a_header word v n) (rw other refl)
 
-pub value_of-section : (w word : Keyword) (ps : List Piece) (n : ℕ) (toks : List Token) (after : After) → value_of w (ps ++ a_section word n toks after) ≡ value_of w ps
+pub value_of-section : (w word : Keyword) (ps : List Piece) (n : ℕ) (toks : List Token) (after : After) →
+    value_of w (ps ++ a_section word n toks after) ≡ value_of w ps
 value_of-section w word ps n toks after = value_of-append w ps (a_section word n toks after) refl
 
-pub value_of-new : (w word : Keyword) (ps : List Piece) (v : List ℕ) (n : ℕ) → same_word word w ≡ true → has w ps ≡ false → value_of w (ps ++ a_header word v n) ≡ Some v
+pub value_of-new : (w word : Keyword) (ps : List Piece) (v : List ℕ) (n : ℕ) → same_word word w ≡ true →
+    has w ps ≡ false → value_of w (ps ++ a_header word v n) ≡ Some v
 value_of-new w word ps v n same unseen = value_of-unseen w ps (a_header word v n) unseen ∙ rw same refl
 
 pub value_of-none : (w : Keyword) (ps : List Piece) → has w ps ≡ false → value_of w ps ≡ None
@@ -54,7 +65,8 @@ value_of-none w ps h = ap (value_of w) (sym (append-nil ps)) ∙ value_of-unseen
 
 -- ---- the tokens of a section
 
-pub tokens_in-append : (w : Keyword) (ps qs : List Piece) → tokens_in w qs ≡ [] → tokens_in w (ps ++ qs) ≡ tokens_in w ps
+pub tokens_in-append : (w : Keyword) (ps qs : List Piece) → tokens_in w qs ≡ [] →
+    tokens_in w (ps ++ qs) ≡ tokens_in w ps
 tokens_in-append w [] qs h = h
 tokens_in-append w (Stray line ∷ ps) qs h = tokens_in-append w ps qs h
 tokens_in-append w (LongWord line ∷ ps) qs h = tokens_in-append w ps qs h

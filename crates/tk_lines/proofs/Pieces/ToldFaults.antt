@@ -21,21 +21,26 @@ told_kind P kinds.NoMemory e h = tt
 told_kind P k e h = h
 
 module _ (line : ℕ) (k : TextKind) where
-  by_test : (t : Bool × TextKind) (ts : List (Bool × TextKind)) → IsTest t → (first_at line ts ≡ Some (Fault line k) → is_read k ≡ false)
+  by_test : (t : Bool × TextKind) (ts : List (Bool × TextKind)) → IsTest t
+      → (first_at line ts ≡ Some (Fault line k) → is_read k ≡ false)
       → (b : Bool) → cond b (Some (Fault line t.1)) (first_at line ts) ≡ Some (Fault line k) → is_read k ≡ false
   by_test t ts here later true e = let same : t.1 ≡ k = cc in subst (λ k. is_read k ≡ false) same here
   by_test t ts here later false e = later e
 
-  is_read-first_at : (tests : List (Bool × TextKind)) → AllByRecursion IsTest tests → first_at line tests ≡ Some (Fault line k) → is_read k ≡ false
+  is_read-first_at : (tests : List (Bool × TextKind)) → AllByRecursion IsTest tests →
+      first_at line tests ≡ Some (Fault line k) → is_read k ≡ false
   is_read-first_at [] all e = absurd cc
   is_read-first_at (t ∷ ts) all e = by_test t ts all.0 (is_read-first_at ts all.1) t.0 e
 
   -- the first test that holds is told
-  pub told_first : (tests : List (Bool × TextKind)) → AllByRecursion IsTest tests → first_at line tests ≡ Some (Fault line k) → IsToldWord (λ k. first_at line tests ≡ Some (Fault line k)) k
+  pub told_first : (tests : List (Bool × TextKind)) → AllByRecursion IsTest tests →
+      first_at line tests ≡ Some (Fault line k) → IsToldWord (λ k. first_at line tests ≡ Some (Fault line k)) k
   told_first tests all e = told_kind (λ k. first_at line tests ≡ Some (Fault line k)) k (is_read-first_at tests all e) e
 
   -- the same tests, the same fault
-  pub told_same : (tests others : List (Bool × TextKind)) → tests ≡ others → IsToldWord (λ k. first_at line others ≡ Some (Fault line k)) k → IsToldWord (λ k. first_at line tests ≡ Some (Fault line k)) k
+  pub told_same : (tests others : List (Bool × TextKind)) → tests ≡ others →
+      IsToldWord (λ k. first_at line others ≡ Some (Fault line k)) k →
+      IsToldWord (λ k. first_at line tests ≡ Some (Fault line k)) k
   told_same tests others same h = subst (λ ts. IsToldWord (λ k. first_at line ts ≡ Some (Fault line k)) k) (sym same) h
 
 -- a fault that is told for one reason is told for another

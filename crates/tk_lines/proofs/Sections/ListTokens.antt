@@ -1,5 +1,6 @@
 -- Tokens that end no list.
-use Rattle.std.proofs.Common.{◌≡◌, ℕ, suc, ◌<◌, ◌≤◌, Bool, true, false, cond, eqb, ◌&&◌, List, [], ◌∷◌, length, None, refl, arith}
+use Rattle.std.proofs.Common.{◌≡◌, ℕ, suc, ◌<◌, ◌≤◌, Bool, true, false, cond, eqb, ◌&&◌, List, [], ◌∷◌, length, None}
+use Rattle.std.proofs.Common.{refl, arith}
 use Rattle.tk_words.specs.Lex.{Token, integer}
 use Rattle.tk_words.specs.Words.{keyword_of}
 use Rattle.tk_words.specs.MinusOne.{is_ending}
@@ -11,7 +12,8 @@ use Rattle.tk_words.proofs.NumberLaws.MinusOne.{integer_long}
 pub long_goes : (t : Token) → 64 < length t.bytes → (is_ending t ≡ false) × ((t.whole && is_eof t.bytes) ≡ false)
 long_goes t long =
     let none : integer t.bytes ≡ None = integer_long t.bytes (omega (arith, long)) in
-    let no_word : keyword_of (without_colon t.bytes) ≡ None = keyword_of-long (without_colon t.bytes) (omega (arith, long, shorter t.bytes)) in
+    let no_word : keyword_of (without_colon t.bytes) ≡ None =
+    keyword_of-long (without_colon t.bytes) (omega (arith, long, shorter t.bytes)) in
     (rw none (and_no t.whole), rw no_word (and_no t.whole))
   where
     and_no : (t : Bool) → (t && false) ≡ false

@@ -1,5 +1,6 @@
 -- What a byte does in a section.
-use Rattle.std.proofs.Common.{◌≡◌, ℕ, suc, ◌+◌, ◌≤◌, Bool, true, false, eqb, List, [], ◌∷◌, ◌++◌, length, Option, Some, None, Ok, Err, refl, ap, ◌∙◌, arith}
+use Rattle.std.proofs.Common.{◌≡◌, ℕ, suc, ◌+◌, ◌≤◌, Bool, true, false, eqb, List, [], ◌∷◌, ◌++◌, length, Option, Some}
+use Rattle.std.proofs.Common.{None, Ok, Err, refl, ap, ◌∙◌, arith}
 use Rattle.std.proofs.lemmas.List.{length-append}
 use Rattle.std.proofs.lemmas.Bool.{eqb-true}
 use Rattle.tk_words.specs.declared.keyword.Keyword.{Keyword}
@@ -9,11 +10,14 @@ use Rattle.tk_words.specs.Lex.{LF, Token, is_blank, IsRun}
 use Rattle.tk_lines.specs.Pieces.{Piece, Clean, Early, Stop, Format, last_line, stopped, ended}
 use Rattle.tk_lines.specs.FromMiddle.{from_line, in_section}
 use Rattle.tk_lines.specs.Forms.{whole, Goes, Closed, EndsAtEof, StopsAt, a_section}
-use Rattle.tk_lines.specs.Reader.{Next, Within, anything, this, a_gap, Says, DecidesIf, AtLine, AtBegin, AtToken, AtClose}
+use Rattle.tk_lines.specs.Reader.{Next, Within, anything, this, a_gap, Says, DecidesIf, AtLine, AtBegin, AtToken}
+use Rattle.tk_lines.specs.Reader.{AtClose}
 use Rattle.tk_lines.proofs.Sections.MiddleOfSection.{in_section-byte, in_section-next}
 use Rattle.tk_lines.proofs.Sections.SectionEnds.{in_section-closed}
 use Rattle.tk_lines.proofs.Headers.ByteRuns.{behind-all}
-use Rattle.tk_lines.proofs.Sections.SectionBytes.{in_section-drop, in_section-token, in_section-stops, in_section-eof, in_section-trailing, in_section-long, from_line-inside, from_line-colon, plain}
+use Rattle.tk_lines.proofs.Sections.SectionBytes.{in_section-drop, in_section-token, in_section-stops, in_section-eof}
+use Rattle.tk_lines.proofs.Sections.SectionBytes.{in_section-trailing, in_section-long, from_line-inside}
+use Rattle.tk_lines.proofs.Sections.SectionBytes.{from_line-colon, plain}
 use Rattle.tk_lines.proofs.LineSteps.{says_byte, tail_byte}
 
 pub run_more : (held : List ℕ) (b : ℕ) → IsRun held → is_blank b ≡ false → IsRun (held ++ b ∷ [])
@@ -21,7 +25,8 @@ run_more [] b h solid = absurd h
 run_more (c ∷ []) b h solid = (h, solid)
 run_more (c ∷ d ∷ held) b h solid = (h.0, run_more (d ∷ held) b h.1 solid)
 
-module _ {V S : Type 0} (f : Format V) (W : S → List Piece → Keyword → ℕ → List Token → Type 0) (form : S) (line b : ℕ) (bs : List ℕ) where
+module _ {V S : Type 0} (f : Format V) (W : S → List Piece → Keyword → ℕ → List Token → Type 0) (form : S) (line b : ℕ)
+    (bs : List ℕ) where
   pub gap_LF : AtToken f W (this LF) form line [] bs → AtToken f W anything form (line + 1) [] (bs ++ LF ∷ [])
   gap_LF a = record {
     before = a.before;
@@ -30,10 +35,12 @@ module _ {V S : Type 0} (f : Format V) (W : S → List Piece → Keyword → ℕ
     toks = a.toks;
     wants = a.wants;
     goes = a.goes;
-    same = says_byte f LF bs _ _ a.same (λ e more. in_section-next f a.before a.word a.first a.toks e line more ∙ ap (λ (n : ℕ). in_section f a.before a.word a.first a.toks [] e n more) (omega arith));
+    same = says_byte f LF bs _ _ a.same (λ e more. in_section-next f a.before a.word a.first a.toks e line more
+        ∙ ap (λ (n : ℕ). in_section f a.before a.word a.first a.toks [] e n more) (omega arith));
   }
 
-  pub token_byte : (pre : List ℕ) → eqb b LF ≡ false → AtToken f W (this b) form line pre bs → AtToken f W anything form line (pre ++ b ∷ []) (bs ++ b ∷ [])
+  pub token_byte : (pre : List ℕ) → eqb b LF ≡ false → AtToken f W (this b) form line pre bs →
+      AtToken f W anything form line (pre ++ b ∷ []) (bs ++ b ∷ [])
   token_byte pre other a = record {
     before = a.before;
     word = a.word;
@@ -41,10 +48,13 @@ module _ {V S : Type 0} (f : Format V) (W : S → List Piece → Keyword → ℕ
     toks = a.toks;
     wants = a.wants;
     goes = a.goes;
-    same = says_byte f b bs _ _ a.same (λ e more. in_section-byte f a.before a.word a.first a.toks pre e line b more other);
+    same =
+        says_byte f b bs _ _ a.same
+        (λ e more. in_section-byte f a.before a.word a.first a.toks pre e line b more other);
   }
 
-  pub gap_blank : eqb b LF ≡ false → is_blank b ≡ true → AtToken f W (this b) form line [] bs → AtToken f W anything form line [] (bs ++ b ∷ [])
+  pub gap_blank : eqb b LF ≡ false → is_blank b ≡ true → AtToken f W (this b) form line [] bs →
+      AtToken f W anything form line [] (bs ++ b ∷ [])
   gap_blank other blank a = record {
     before = a.before;
     word = a.word;
@@ -52,10 +62,13 @@ module _ {V S : Type 0} (f : Format V) (W : S → List Piece → Keyword → ℕ
     toks = a.toks;
     wants = a.wants;
     goes = a.goes;
-    same = says_byte f b bs _ _ a.same (λ e more. in_section-byte f a.before a.word a.first a.toks [] e line b more other ∙ in_section-drop f a.before a.word a.first a.toks e line more b blank);
+    same =
+        says_byte f b bs _ _ a.same (λ e more. in_section-byte f a.before a.word a.first a.toks [] e line b more other
+        ∙ in_section-drop f a.before a.word a.first a.toks e line more b blank);
   }
 
-  pub begin_blank : (held : List ℕ) → eqb b LF ≡ false → is_blank b ≡ true → AtBegin f W (this b) form line held bs → AtBegin f W anything form line held (bs ++ b ∷ [])
+  pub begin_blank : (held : List ℕ) → eqb b LF ≡ false → is_blank b ≡ true → AtBegin f W (this b) form line held bs →
+      AtBegin f W anything form line held (bs ++ b ∷ [])
   begin_blank held other blank a = record {
     word = a.word;
     before = a.before;
@@ -67,7 +80,8 @@ module _ {V S : Type 0} (f : Format V) (W : S → List Piece → Keyword → ℕ
     blank = behind-all is_blank a.tail (b ∷ []) a.blank ∙ rw blank refl;
   }
 
-  pub begin_colon : (held : List ℕ) → AtBegin f W (this 58) form line held bs → AtToken f W anything form line [] (bs ++ 58 ∷ [])
+  pub begin_colon : (held : List ℕ) → AtBegin f W (this 58) form line held bs →
+      AtToken f W anything form line [] (bs ++ 58 ∷ [])
   begin_colon held a = record {
     before = a.before;
     word = a.word;
@@ -75,10 +89,14 @@ module _ {V S : Type 0} (f : Format V) (W : S → List Piece → Keyword → ℕ
     toks = [];
     wants = a.wants;
     goes = a.goes;
-    same = says_byte f 58 bs _ _ a.at.same (λ e more. from_line-colon f a.before a.at.upto held a.tail e line more a.at.lt a.at.is_word (a.at.settled e (58 ∷ more) refl) a.word a.at.word_is a.section a.blank);
+    same =
+        says_byte f 58 bs _ _ a.at.same
+        (λ e more. from_line-colon f a.before a.at.upto held a.tail e line more a.at.lt a.at.is_word
+        (a.at.settled e (58 ∷ more) refl) a.word a.at.word_is a.section a.blank);
   }
 
-  pub begin_other : (held : List ℕ) → is_blank b ≡ false → eqb b 58 ≡ false → AtBegin f W (this b) form line held bs → AtToken f W (this b) form line [] bs
+  pub begin_other : (held : List ℕ) → is_blank b ≡ false → eqb b 58 ≡ false → AtBegin f W (this b) form line held bs →
+      AtToken f W (this b) form line [] bs
   begin_other held solid other a = record {
     before = a.before;
     word = a.word;
@@ -86,7 +104,9 @@ module _ {V S : Type 0} (f : Format V) (W : S → List Piece → Keyword → ℕ
     toks = [];
     wants = a.wants;
     goes = a.goes;
-    same = λ e more n. a.at.same e more n ∙ from_line-inside f a.before a.at.upto held a.tail e line more a.at.lt a.at.is_word (a.at.settled e more n) a.word a.at.word_is a.section a.blank (plain_this e more n);
+    same = λ e more n. a.at.same e more n
+        ∙ from_line-inside f a.before a.at.upto held a.tail e line more a.at.lt a.at.is_word (a.at.settled e more n)
+        a.word a.at.word_is a.section a.blank (plain_this e more n);
   }
     where
       plain_this : (e : Bool) (more : List ℕ) → this b e more ≡ true → plain e more ≡ true
@@ -94,18 +114,29 @@ module _ {V S : Type 0} (f : Format V) (W : S → List Piece → Keyword → ℕ
       plain_this e (c ∷ more) n = let is : c ≡ b = eqb-true c b n in rw (is, solid, other) refl
 
 -- a token of more than 64 bytes
-module _ {V S : Type 0} (f : Format V) (W : S → List Piece → Keyword → ℕ → List Token → Type 0) (form : S) (line b : ℕ) (held bs : List ℕ) where
-  pub token_long : IsRun held → length held ≡ 64 → is_blank b ≡ false → eqb b LF ≡ false → AtToken f W (this b) form line held bs → DecidesIf f anything (bs ++ b ∷ []) (Err (record { line = line; kind = kinds.TooLong }))
-  token_long run full solid other a = says_byte f b bs _ _ a.same (λ e more. in_section-byte f a.before a.word a.first a.toks held e line b more other ∙
-      in_section-long f a.before a.word a.first a.toks (held ++ b ∷ []) e line more (run_more held b run solid) (omega (arith, full, length-append held (b ∷ []))) a.goes.long)
+module _ {V S : Type 0} (f : Format V) (W : S → List Piece → Keyword → ℕ → List Token → Type 0) (form : S) (line b : ℕ)
+    (held bs : List ℕ) where
+  pub token_long : IsRun held → length held ≡ 64 → is_blank b ≡ false → eqb b LF ≡ false →
+      AtToken f W (this b) form line held bs →
+      DecidesIf f anything (bs ++ b ∷ []) (Err (record { line = line; kind = kinds.TooLong }))
+  token_long run full solid other a =
+      says_byte f b bs _ _ a.same (λ e more. in_section-byte f a.before a.word a.first a.toks held e line b more other ∙
+      in_section-long f a.before a.word a.first a.toks (held ++ b ∷ []) e line more (run_more held b run solid)
+      (omega (arith, full, length-append held (b ∷ []))) a.goes.long)
 
 -- a token's end
-module _ {V S : Type 0} (f : Format V) (W : S → List Piece → Keyword → ℕ → List Token → Type 0) (next : Next) (form : S) (line : ℕ) (held bs : List ℕ) (within : Within next a_gap) (run : IsRun held) (a : AtToken f W next form line held bs) where
-  pub same_now : ((more : List Token) → length (a.toks ++ whole held line ∷ []) ≤ (f.extent a.before a.word ((a.toks ++ whole held line ∷ []) ++ more)).count)
+module _ {V S : Type 0} (f : Format V) (W : S → List Piece → Keyword → ℕ → List Token → Type 0) (next : Next) (form : S)
+    (line : ℕ) (held bs : List ℕ) (within : Within next a_gap) (run : IsRun held)
+    (a : AtToken f W next form line held bs) where
+  pub same_now : ((more : List Token)
+      → length (a.toks ++ whole held line
+      ∷ []) ≤ (f.extent a.before a.word ((a.toks ++ whole held line ∷ []) ++ more)).count)
       → Says f next bs (λ e more. in_section f a.before a.word a.first (a.toks ++ whole held line ∷ []) [] e line more)
-  same_now covers e more n = a.same e more n ∙ in_section-token f a.before a.word a.first a.toks held e line more run (within e more n) covers
+  same_now covers e more n = a.same e more n
+      ∙ in_section-token f a.before a.word a.first a.toks held e line more run (within e more n) covers
 
-  pub token_more : (form' : S) → W form' a.before a.word a.first (a.toks ++ whole held line ∷ []) → Goes f a.before a.word a.first (a.toks ++ whole held line ∷ []) → AtToken f W next form' line [] bs
+  pub token_more : (form' : S) → W form' a.before a.word a.first (a.toks ++ whole held line ∷ []) →
+      Goes f a.before a.word a.first (a.toks ++ whole held line ∷ []) → AtToken f W next form' line [] bs
   token_more form' wants goes = record {
     before = a.before;
     word = a.word;
@@ -116,23 +147,35 @@ module _ {V S : Type 0} (f : Format V) (W : S → List Piece → Keyword → ℕ
     same = same_now goes.covers;
   }
 
-  pub token_stops : (k : TextKind) → StopsAt f a.before a.word a.first a.toks (whole held line) k → DecidesIf f next bs (Err (record { line = line; kind = k }))
-  token_stops k stops e more n = a.same e more n ∙ in_section-stops f a.before a.word a.first a.toks held e line more run (within e more n) k stops
+  pub token_stops : (k : TextKind) → StopsAt f a.before a.word a.first a.toks (whole held line) k →
+      DecidesIf f next bs (Err (record { line = line; kind = k }))
+  token_stops k stops e more n = a.same e more n
+      ∙ in_section-stops f a.before a.word a.first a.toks held e line more run (within e more n) k stops
 
-  token_eof : EndsAtEof f a.before a.word a.first a.toks (whole held line) → Says f next bs (λ e more. ended f (a.before ++ a_section a.word a.first a.toks (Early line true)) line true (f.at_end (a.before ++ a_section a.word a.first a.toks (Early line true))))
-  token_eof eof e more n = a.same e more n ∙ in_section-eof f a.before a.word a.first a.toks held e line more run (within e more n) eof
+  token_eof : EndsAtEof f a.before a.word a.first a.toks (whole held line) →
+      Says f next bs
+      (λ e more. ended f (a.before ++ a_section a.word a.first a.toks (Early line true)) line true
+      (f.at_end (a.before ++ a_section a.word a.first a.toks (Early line true))))
+  token_eof eof e more n = a.same e more n
+      ∙ in_section-eof f a.before a.word a.first a.toks held e line more run (within e more n) eof
 
-  pub token_eof_ok : EndsAtEof f a.before a.word a.first a.toks (whole held line) → f.at_end (a.before ++ a_section a.word a.first a.toks (Early line true)) ≡ None → (v : V) → v ≡ f.value (a.before ++ a_section a.word a.first a.toks (Early line true)) → DecidesIf f next bs (Ok v)
+  pub token_eof_ok : EndsAtEof f a.before a.word a.first a.toks (whole held line) →
+      f.at_end (a.before ++ a_section a.word a.first a.toks (Early line true)) ≡ None → (v : V) →
+      v ≡ f.value (a.before ++ a_section a.word a.first a.toks (Early line true)) → DecidesIf f next bs (Ok v)
   token_eof_ok eof none v v_is e more n = token_eof eof e more n ∙ rw (none, v_is) refl
 
-  pub token_eof_err : EndsAtEof f a.before a.word a.first a.toks (whole held line) → (k : TextKind) → f.at_end (a.before ++ a_section a.word a.first a.toks (Early line true)) ≡ Some k → DecidesIf f next bs (Err (record { line = line; kind = k }))
+  pub token_eof_err : EndsAtEof f a.before a.word a.first a.toks (whole held line) → (k : TextKind) →
+      f.at_end (a.before ++ a_section a.word a.first a.toks (Early line true)) ≡ Some k →
+      DecidesIf f next bs (Err (record { line = line; kind = k }))
   token_eof_err eof k some e more n = token_eof eof e more n ∙ rw some refl
 
   pub last_is : (xs : List Token) (m : ℕ) (t : Token) → last_line m (xs ++ t ∷ []) ≡ t.line
   last_is [] m t = refl
   last_is (x ∷ xs) m t = last_is xs x.line t
 
-  pub token_last : (H : S → List Piece → Type 0) (form' : S) → H form' (a.before ++ a_section a.word a.first (a.toks ++ whole held line ∷ []) Clean) → Closed f a.before a.word a.first (a.toks ++ whole held line ∷ []) → AtClose f H next form' line bs
+  pub token_last : (H : S → List Piece → Type 0) (form' : S) →
+      H form' (a.before ++ a_section a.word a.first (a.toks ++ whole held line ∷ []) Clean) →
+      Closed f a.before a.word a.first (a.toks ++ whole held line ∷ []) → AtClose f H next form' line bs
   token_last H form' holds closed = record {
     before = a.before;
     word = a.word;
@@ -152,11 +195,19 @@ module _ {V S : Type 0} (f : Format V) (H : S → List Piece → Type 0) (form :
     upto = last_line a.first a.toks;
     holds = a.holds;
     lt = omega (arith, a.last);
-    same = says_byte f LF bs _ _ a.same (λ e more. in_section-next f a.before a.word a.first a.toks e line more ∙ in_section-closed f a.before a.word a.first a.toks [] e (suc line) more (omega (arith, a.last)) (a.closed.extent _)
-        ∙ ap (λ (x : Option Stop). stopped x (from_line f (a.before ++ a_section a.word a.first a.toks Clean) (last_line a.first a.toks) [] e (suc line) more)) a.closed.clean ∙ ap (λ (n : ℕ). from_line f (a.before ++ a_section a.word a.first a.toks Clean) (last_line a.first a.toks) [] e n more) (omega arith));
+    same = says_byte f LF bs _ _ a.same (λ e more. in_section-next f a.before a.word a.first a.toks e line more
+        ∙ in_section-closed f a.before a.word a.first a.toks [] e (suc line) more (omega (arith, a.last))
+        (a.closed.extent _)
+        ∙ ap
+        (λ (x : Option Stop). stopped x
+        (from_line f (a.before ++ a_section a.word a.first a.toks Clean) (last_line a.first a.toks) [] e (suc line)
+        more)) a.closed.clean
+        ∙ ap (λ (n : ℕ). from_line f (a.before ++ a_section a.word a.first a.toks Clean) (last_line a.first a.toks)
+        [] e n more) (omega arith));
   }
 
-  pub close_blank : eqb b LF ≡ false → is_blank b ≡ true → AtClose f H (this b) form line bs → AtClose f H anything form line (bs ++ b ∷ [])
+  pub close_blank : eqb b LF ≡ false → is_blank b ≡ true → AtClose f H (this b) form line bs →
+      AtClose f H anything form line (bs ++ b ∷ [])
   close_blank other blank a = record {
     before = a.before;
     word = a.word;
@@ -165,9 +216,14 @@ module _ {V S : Type 0} (f : Format V) (H : S → List Piece → Type 0) (form :
     holds = a.holds;
     closed = a.closed;
     last = a.last;
-    same = says_byte f b bs _ _ a.same (λ e more. in_section-byte f a.before a.word a.first a.toks [] e line b more other ∙ in_section-drop f a.before a.word a.first a.toks e line more b blank);
+    same =
+        says_byte f b bs _ _ a.same (λ e more. in_section-byte f a.before a.word a.first a.toks [] e line b more other
+        ∙ in_section-drop f a.before a.word a.first a.toks e line more b blank);
   }
 
-  pub close_trailing : eqb b LF ≡ false → is_blank b ≡ false → AtClose f H (this b) form line bs → DecidesIf f anything (bs ++ b ∷ []) (Err (record { line = line; kind = kinds.TrailingData }))
-  close_trailing other solid a = says_byte f b bs _ _ a.same (λ e more. in_section-byte f a.before a.word a.first a.toks [] e line b more other ∙
-      in_section-trailing f a.before a.word a.first a.toks e line more b [] solid a.last a.closed.trailing (λ w y rest. a.closed.extent _))
+  pub close_trailing : eqb b LF ≡ false → is_blank b ≡ false → AtClose f H (this b) form line bs →
+      DecidesIf f anything (bs ++ b ∷ []) (Err (record { line = line; kind = kinds.TrailingData }))
+  close_trailing other solid a =
+      says_byte f b bs _ _ a.same (λ e more. in_section-byte f a.before a.word a.first a.toks [] e line b more other ∙
+      in_section-trailing f a.before a.word a.first a.toks e line more b [] solid a.last a.closed.trailing
+      (λ w y rest. a.closed.extent _))

@@ -1,5 +1,6 @@
 -- The first of the cities of a row, by one place that keeps it.
-use Rattle.std.proofs.Common.{◌≡◌, ◌≢◌, ℕ, zero, suc, ◌+◌, ◌*◌, ◌<◌, ◌≤◌, ◌⊎◌, ⊎_elim, inl, inr, List, [], ◌∷◌, length, take, refl, sym, ap, ◌∙◌, arith, cond, true, false, get_or}
+use Rattle.std.proofs.Common.{◌≡◌, ◌≢◌, ℕ, zero, suc, ◌+◌, ◌*◌, ◌<◌, ◌≤◌, ◌⊎◌, ⊎_elim, inl, inr, List, [], ◌∷◌, length}
+use Rattle.std.proofs.Common.{take, refl, sym, ap, ◌∙◌, arith, cond, true, false, get_or}
 use Rattle.std.specs.Prelude.{All, nat_lt}
 use Rattle.tk_problem.specs.declared.point.Point.{Point}
 use Rattle.std.proofs.lemmas.Bool.Decides.{nat_tests}
@@ -16,7 +17,9 @@ use Rattle.tk_near.specs.Left.{IsOtherIn}
 use Rattle.tk_near.proofs.InPlane.Parting.{with_city-same, with_city-other}
 
 one_candidate : (x y : Candidate) → with_candidate x (y ∷ []) ≡ cond (nat_lt (rank x) (rank y)) x y ∷ []
-one_candidate x y = elim (nat_lt (rank x) (rank y)) as (λ b. take 1 (cond b (x ∷ y ∷ []) (y ∷ x ∷ [])) ≡ cond b x y ∷ []) [ true ↦ refl | false ↦ refl ]
+one_candidate x y =
+    elim (nat_lt (rank x) (rank y)) as (λ b. take 1 (cond b (x ∷ y ∷ []) (y ∷ x ∷ [])) ≡ cond b x y
+    ∷ []) [ true ↦ refl | false ↦ refl ]
 
 -- y is the first of x and the cities of the row but c
 pub record IsLeastOf (dist : ℕ → ℕ → ℕ) (c : ℕ) (row : List Placed) (x y : Candidate) : Type 0 where
@@ -26,7 +29,10 @@ pub record IsLeastOf (dist : ℕ → ℕ → ℕ) (c : ℕ) (row : List Placed) 
   pub least : (q : ℕ) → q < length row → city_at row q ≢ c → rank y ≤ rank (candidate dist c (city_at row q))
 
 module _ (dist : ℕ → ℕ → ℕ) (c : ℕ) where
-  least_more : (p : Placed) (row : List Placed) (x z : Candidate) (y : Candidate) → with_city dist c p (x ∷ []) ≡ z ∷ [] → rank z ≤ rank x → (p.city ≢ c → rank z ≤ rank (candidate dist c p.city)) → (z ≡ x) ⊎ ((p.city ≢ c) × (z ≡ candidate dist c p.city)) → IsLeastOf dist c row z y → IsLeastOf dist c (p ∷ row) x y
+  least_more : (p : Placed) (row : List Placed) (x z : Candidate) (y : Candidate) →
+      with_city dist c p (x ∷ []) ≡ z ∷ [] → rank z ≤ rank x → (p.city ≢ c → rank z ≤ rank (candidate dist c p.city)) →
+      (z ≡ x) ⊎ ((p.city ≢ c) × (z ≡ candidate dist c p.city)) → IsLeastOf dist c row z y →
+      IsLeastOf dist c (p ∷ row) x y
   least_more p row x z y step below here which h = record {
     kept = ap (with_cities dist c row) step ∙ h.kept;
     below = omega (arith, h.below);
@@ -37,7 +43,8 @@ module _ (dist : ℕ → ℕ → ℕ) (c : ℕ) where
     least = λ q l ne. at q l ne;
   }
     where
-      at : (q : ℕ) → q < length (p ∷ row) → city_at (p ∷ row) q ≢ c → rank y ≤ rank (candidate dist c (city_at (p ∷ row) q))
+      at : (q : ℕ) → q < length (p ∷ row) → city_at (p ∷ row) q ≢ c →
+          rank y ≤ rank (candidate dist c (city_at (p ∷ row) q))
       at zero l ne = let z' = here ne in omega (arith, z', h.below)
       at (suc q) l ne = h.least q (omega arith) ne
 
@@ -47,7 +54,11 @@ module _ (dist : ℕ → ℕ → ℕ) (c : ℕ) where
       let k : Candidate = candidate dist c p.city in
       let z : Candidate = cond (nat_lt (rank k) (rank x)) k x in
       ⊎_elim
-      (λ same. let r = least_of row x in (r.0, least_more p row x x r.0 (with_city-same dist c p (x ∷ []) same) (omega arith) (λ ne. absurd (ne same)) (inl refl) r.1))
+      (λ same. let r = least_of row x in (
+        r.0,
+        least_more p row x x r.0 (with_city-same dist c p (x ∷ []) same) (omega arith) (λ ne. absurd (ne same))
+            (inl refl) r.1,
+      ))
       (λ other.
       let r = least_of row z in
       let step : with_city dist c p (x ∷ []) ≡ z ∷ [] = with_city-other dist c p (x ∷ []) other ∙ one_candidate k x in
@@ -55,15 +66,24 @@ module _ (dist : ℕ → ℕ → ℕ) (c : ℕ) where
       (cases_eq p.city c)
     where
       lesser : (k x : Candidate) → rank (cond (nat_lt (rank k) (rank x)) k x) ≤ rank x
-      lesser k x = (elim (nat_lt (rank k) (rank x)) as (λ b. nat_lt (rank k) (rank x) ≡ b → rank (cond b k x) ≤ rank x) [ true ↦ λ e. grind (arith, nat_tests) | false ↦ λ e. omega arith ]) refl
+      lesser k x =
+          (elim (nat_lt (rank k) (rank x)) as (λ b. nat_lt (rank k) (rank x) ≡ b →
+          rank (cond b k x) ≤ rank x) [ true ↦ λ e. grind (arith, nat_tests) | false ↦ λ e. omega arith ]) refl
 
       lesser_first : (k x : Candidate) → rank (cond (nat_lt (rank k) (rank x)) k x) ≤ rank k
-      lesser_first k x = (elim (nat_lt (rank k) (rank x)) as (λ b. nat_lt (rank k) (rank x) ≡ b → rank (cond b k x) ≤ rank k) [ true ↦ λ e. omega arith | false ↦ λ e. grind (arith, nat_tests) ]) refl
+      lesser_first k x =
+          (elim (nat_lt (rank k) (rank x)) as (λ b. nat_lt (rank k) (rank x) ≡ b →
+          rank (cond b k x) ≤ rank k) [ true ↦ λ e. omega arith | false ↦ λ e. grind (arith, nat_tests) ]) refl
 
-      choice : (k x : Candidate) → p.city ≢ c → (cond (nat_lt (rank k) (rank x)) k x ≡ x) ⊎ ((p.city ≢ c) × (cond (nat_lt (rank k) (rank x)) k x ≡ k))
-      choice k x ne = elim (nat_lt (rank k) (rank x)) as (λ b. (cond b k x ≡ x) ⊎ ((p.city ≢ c) × (cond b k x ≡ k))) [ true ↦ inr (ne, refl) | false ↦ inl refl ]
+      choice : (k x : Candidate) → p.city ≢ c → (cond (nat_lt (rank k) (rank x)) k x ≡ x)
+          ⊎ ((p.city ≢ c) × (cond (nat_lt (rank k) (rank x)) k x ≡ k))
+      choice k x ne =
+          elim (nat_lt (rank k) (rank x)) as (λ b. (cond b k x ≡ x)
+          ⊎ ((p.city ≢ c) × (cond b k x ≡ k))) [ true ↦ inr (ne, refl) | false ↦ inl refl ]
 
-module _ (dist : ℕ → ℕ → ℕ) (c : ℕ) (limit : (a b : ℕ) → dist a b ≤ DISTANCE_LIMIT) (row : List Placed) (small : (q : ℕ) → q < length row → city_at row q ≤ CITY_LIMIT) (y : Candidate) (h : IsLeastOf dist c row open_place y) where
+module _ (dist : ℕ → ℕ → ℕ) (c : ℕ) (limit : (a b : ℕ) → dist a b ≤ DISTANCE_LIMIT) (row : List Placed)
+    (small : (q : ℕ) → q < length row → city_at row q ≤ CITY_LIMIT) (y : Candidate)
+    (h : IsLeastOf dist c row open_place y) where
   -- where the place stays open, the row has no other city
   pub none_left : y.distance ≡ 4294967295 → (b : ℕ) → IsOtherIn row c b → ⊥
   none_left unseen b s =
@@ -74,14 +94,19 @@ module _ (dist : ℕ → ℕ → ℕ) (c : ℕ) (limit : (a b : ℕ) → dist a 
 
   -- else it has the first
   pub first_left : y.distance ≢ 4294967295 → IsFirst dist c (IsOtherIn row c) y.city
-  first_left there = ⊎_elim (λ same. absurd (there (ap (λ (v : Candidate). v.distance) same))) (λ w. found w.0 w.1 w.2 w.3) h.one
+  first_left there =
+      ⊎_elim (λ same. absurd (there (ap (λ (v : Candidate). v.distance) same))) (λ w. found w.0 w.1 w.2 w.3) h.one
     where
-      rank_less : (q r a : ℕ) → city_at row r ≡ a → rank y ≤ rank (candidate dist c (city_at row r)) → y.city ≡ city_at row q → y.distance ≡ dist c (city_at row q) → a ≢ city_at row q → city_at row q ≤ CITY_LIMIT → a ≤ CITY_LIMIT → dist c (city_at row q) * 4294967296 + city_at row q < dist c a * 4294967296 + a
+      rank_less : (q r a : ℕ) → city_at row r ≡ a → rank y ≤ rank (candidate dist c (city_at row r)) →
+          y.city ≡ city_at row q → y.distance ≡ dist c (city_at row q) → a ≢ city_at row q →
+          city_at row q ≤ CITY_LIMIT → a ≤ CITY_LIMIT →
+          dist c (city_at row q) * 4294967296 + city_at row q < dist c a * 4294967296 + a
       rank_less q r a same least city far other mine theirs =
           let least' : rank y ≤ rank (candidate dist c a) = rw same at least in
           omega (arith, least', city, far, other, mine, theirs)
 
-      found : (q : ℕ) → q < length row → city_at row q ≢ c → y ≡ candidate dist c (city_at row q) → IsFirst dist c (IsOtherIn row c) y.city
+      found : (q : ℕ) → q < length row → city_at row q ≢ c → y ≡ candidate dist c (city_at row q) →
+          IsFirst dist c (IsOtherIn row c) y.city
       found q l ne is =
           let city : y.city ≡ city_at row q = ap (λ (v : Candidate). v.city) is in
           let far : y.distance ≡ dist c (city_at row q) = ap (λ (v : Candidate). v.distance) is in
@@ -92,11 +117,15 @@ module _ (dist : ℕ → ℕ → ℕ) (c : ℕ) (limit : (a b : ℕ) → dist a 
                 let mine = small q l in
                 let theirs = small s.0 s.1 in
                 let same : city_at row s.0 ≡ a = s.2 in
-                closer_from_rank (dist c (city_at row q)) (dist c a) (city_at row q) a (omega (arith, mine)) (omega (arith, theirs, same)) (rank_less q s.0 a same least city far other mine (omega (arith, theirs, same)));
+                closer_from_rank (dist c (city_at row q)) (dist c a) (city_at row q) a (omega (arith, mine))
+                (omega (arith, theirs, same))
+                (rank_less q s.0 a same least city far other mine (omega (arith, theirs, same)));
           }
 
 -- what one place keeps of a row
-module _ (dist : ℕ → ℕ → ℕ) (c : ℕ) (limit : (a b : ℕ) → dist a b ≤ DISTANCE_LIMIT) (n : ℕ) (place_of : ℕ → Point) (few : n ≤ CITY_LIMIT) (row : List Placed) (placed : All (IsPlaced n place_of) row) (kept : List Candidate) (seen : kept ≡ with_cities dist c row (open_place ∷ [])) where
+module _ (dist : ℕ → ℕ → ℕ) (c : ℕ) (limit : (a b : ℕ) → dist a b ≤ DISTANCE_LIMIT) (n : ℕ) (place_of : ℕ → Point)
+    (few : n ≤ CITY_LIMIT) (row : List Placed) (placed : All (IsPlaced n place_of) row) (kept : List Candidate)
+    (seen : kept ≡ with_cities dist c row (open_place ∷ [])) where
   small_city : (q : ℕ) → q < length row → city_at row q ≤ CITY_LIMIT
   small_city q l = let e = placed q nowhere l in omega (arith, e.0.1, few)
 
@@ -106,7 +135,8 @@ module _ (dist : ℕ → ℕ → ℕ) (c : ℕ) (limit : (a b : ℕ) → dist a 
       let one : kept ≡ r.0 ∷ [] = seen ∙ r.1.kept in
       none_left dist c limit row small_city r.0 r.1 (rw one at unseen)
 
-  pub first_kept : (d : Candidate) → (get_or kept 0 d).distance ≢ 4294967295 → IsFirst dist c (IsOtherIn row c) (get_or kept 0 d).city
+  pub first_kept : (d : Candidate) → (get_or kept 0 d).distance ≢ 4294967295 →
+      IsFirst dist c (IsOtherIn row c) (get_or kept 0 d).city
   first_kept d there =
       let r = least_of dist c row open_place in
       let one : kept ≡ r.0 ∷ [] = seen ∙ r.1.kept in

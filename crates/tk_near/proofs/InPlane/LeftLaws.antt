@@ -19,8 +19,10 @@ module _ (n : ℕ) (place_of : ℕ → Point) where
     once : OneEach (λ (v : Placed). v.city) nowhere (t.taken ∷ new)
     once =
         let start : OneEach (λ (v : Placed). v.city) nowhere old = λ i j li lj e.
-        ⊎_elim (λ l. absurd (h.apart i j l lj e)) (λ g. ⊎_elim (λ l. absurd (h.apart j i l li (sym e))) (λ k. omega arith) (cases_lt j i)) (cases_lt i j) in
-        IsPermutation-keeps old (OneEach (λ (v : Placed). v.city) nowhere) start (λ l a b. OneEach-swap (λ (v : Placed). v.city) nowhere l a b) (t.taken ∷ new) t.others
+        ⊎_elim (λ l. absurd (h.apart i j l lj e))
+        (λ g. ⊎_elim (λ l. absurd (h.apart j i l li (sym e))) (λ k. omega arith) (cases_lt j i)) (cases_lt i j) in
+        IsPermutation-keeps old (OneEach (λ (v : Placed). v.city) nowhere) start
+        (λ l a b. OneEach-swap (λ (v : Placed). v.city) nowhere l a b) (t.taken ∷ new) t.others
 
     -- those that are left are apart still
     pub AreApart-taken : AreApart n place_of new
@@ -36,20 +38,32 @@ module _ (n : ℕ) (place_of : ℕ → Point) where
     -- and the others are those that were left
     pub Stands-old : (b : ℕ) → Stands new b → Stands old b
     Stands-old b s =
-        let w = Contains-permutation (t.taken ∷ new) old (get_or new s.0 nowhere) (IsPermutation-sym old (t.taken ∷ new) t.others) (suc s.0, omega (arith, s.1), get_or_default new s.0 _ _ s.1) in
-        (w.0, w.1, ap (λ (v : Placed). v.city) (get_or_default old w.0 nowhere (get_or new s.0 nowhere) w.1 ∙ w.2) ∙ s.2)
+        let w =
+        Contains-permutation (t.taken ∷ new) old (get_or new s.0 nowhere)
+        (IsPermutation-sym old (t.taken ∷ new) t.others)
+        (suc s.0, omega (arith, s.1), get_or_default new s.0 _ _ s.1) in (
+          w.0,
+          w.1,
+          ap (λ (v : Placed). v.city) (get_or_default old w.0 nowhere (get_or new s.0 nowhere) w.1 ∙ w.2)
+              ∙ s.2,
+        )
 
     pub Stands-new : (b : ℕ) → b ≢ p.city → Stands old b → Stands new b
     Stands-new b ne s =
-        let w = Contains-permutation old (t.taken ∷ new) (get_or old s.0 nowhere) t.others (s.0, s.1, get_or_default old s.0 _ _ s.1) in
-        found w.0 w.1 (ap (λ (v : Placed). v.city) (get_or_default (t.taken ∷ new) w.0 nowhere (get_or old s.0 nowhere) w.1 ∙ w.2) ∙ s.2)
+        let w =
+        Contains-permutation old (t.taken ∷ new) (get_or old s.0 nowhere) t.others
+        (s.0, s.1, get_or_default old s.0 _ _ s.1) in
+        found w.0 w.1
+        (ap (λ (v : Placed). v.city) (get_or_default (t.taken ∷ new) w.0 nowhere (get_or old s.0 nowhere) w.1 ∙ w.2)
+        ∙ s.2)
       where
         found : (k : ℕ) → k < length (t.taken ∷ new) → city_at (t.taken ∷ new) k ≡ b → Stands new b
         found zero l e = absurd (ne (sym e ∙ t.is))
         found (suc k) l e = (k, omega arith, e)
 
   -- a city of the row is found there
-  pub not_missed : (p : Placed) (row : List Placed) → AreApart n place_of row → IsPlaced n place_of p → Stands row p.city → IsNotIn p row → ⊥
+  pub not_missed : (p : Placed) (row : List Placed) → AreApart n place_of row → IsPlaced n place_of p →
+      Stands row p.city → IsNotIn p row → ⊥
   not_missed p row h here s none =
       let there = h.each s.0 nowhere s.1 in
       none s.0 nowhere s.1 (same_placed (get_or row s.0 nowhere) p s.2 (there.1 ∙ ap place_of s.2 ∙ sym here.1))
@@ -58,7 +72,8 @@ module _ (n : ℕ) (place_of : ℕ → Point) where
       same_placed q r city place = rw (sym city, sym place) refl
 
   -- so a city that stands there was taken out, and what holds once one was taken out holds
-  pub taken_there : {R : Type 0} (p : Placed) (old new : List Placed) (Before After : Type 0) (o : Option R) → MatchOption o ((new ≡ old) × IsNotIn p old) (λ _. IsTakenOut p old new) → MatchOption o Before (λ _. After)
+  pub taken_there : {R : Type 0} (p : Placed) (old new : List Placed) (Before After : Type 0) (o : Option R)
+      → MatchOption o ((new ≡ old) × IsNotIn p old) (λ _. IsTakenOut p old new) → MatchOption o Before (λ _. After)
       → AreApart n place_of old → IsPlaced n place_of p → Stands old p.city → IsTakenOut p old new × After
   taken_there p old new Before After None t s h here there = absurd (not_missed p old h here there t.1)
   taken_there p old new Before After (Some r) t s h here there = (t, s)

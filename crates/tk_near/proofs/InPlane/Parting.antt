@@ -1,5 +1,7 @@
 -- What is kept of the cities of a tree, whatever the order.
-use Rattle.std.proofs.Common.{◌≡◌, ◌≢◌, ℕ, zero, suc, ◌+◌, ◌*◌, ◌-◌, ◌<◌, ◌≤◌, ◌⊎◌, ⊎_elim, inl, inr, List, [], ◌∷◌, ◌++◌, length, take, replicate, refl, sym, ap, ◌∙◌, arith, cond, true, false, get_or, subst, max}
+use Rattle.std.proofs.Common.{◌≡◌, ◌≢◌, ℕ, zero, suc, ◌+◌, ◌*◌, ◌-◌, ◌<◌, ◌≤◌, ◌⊎◌, ⊎_elim, inl, inr, List, [], ◌∷◌}
+use Rattle.std.proofs.Common.{◌++◌, length, take, replicate, refl, sym, ap, ◌∙◌, arith, cond, true, false, get_or}
+use Rattle.std.proofs.Common.{subst, max}
 use Rattle.std.specs.Prelude.{All, ◌==◌, nat_lt, ◌-ℤ◌}
 use Rattle.std.specs.Int.RustNames.{unsigned_abs}
 use Rattle.std.proofs.lemmas.Bool.Decides.{nat_tests}
@@ -15,44 +17,55 @@ use Rattle.tk_near.specs.declared.candidates.Candidate.{Candidate}
 use Rattle.tk_near.specs.declared.plane.placed.Placed.{Placed}
 use Rattle.tk_distance.specs.Cities.{IsCity}
 use Rattle.tk_near.specs.Near.{IsNear}
-use Rattle.tk_near.specs.Keeping.{Climbing, insert_by, with_candidate, rank, candidate, open_place, cities_of, KeepsFirst}
+use Rattle.tk_near.specs.Keeping.{Climbing, insert_by, with_candidate, rank, candidate, open_place, cities_of}
+use Rattle.tk_near.specs.Keeping.{KeepsFirst}
 use Rattle.tk_near.specs.Kept.{last_of}
 use Rattle.tk_near.specs.Placed.{IsPlaced, IsRow, IsAt, city_at, nowhere}
 use Rattle.tk_near.specs.declared.plane.tree.Frame.{Frame}
 use Rattle.tk_near.specs.declared.plane.tree.Tree.{Tree}
 use Rattle.tk_near.specs.Tree.{IsFrom, IsWithin, IsBeyond, entries_of, parts_of, with_city, with_cities}
-use Rattle.tk_near.proofs.Inserting.{take-insert_by, length-insert_by, IsPermutation-insert_by, Climbing-take, insert_by-full}
-use Rattle.tk_near.proofs.Keeping.{KeepsFirst-none, KeepsFirst-more, KeepsFirst-same, KeepsFirst-count, IsNear-from_kept, kept_length, same_twice}
+use Rattle.tk_near.proofs.Inserting.{take-insert_by, length-insert_by, IsPermutation-insert_by, Climbing-take}
+use Rattle.tk_near.proofs.Inserting.{insert_by-full}
+use Rattle.tk_near.proofs.Keeping.{KeepsFirst-none, KeepsFirst-more, KeepsFirst-same, KeepsFirst-count}
+use Rattle.tk_near.proofs.Keeping.{IsNear-from_kept, kept_length, same_twice}
 
 -- ---- the order of two candidates
 
 insert_before : {X : Type 0} (f : X → ℕ) (x z : X) (zs : List X) → f x < f z → insert_by f x (z ∷ zs) ≡ x ∷ z ∷ zs
 insert_before f x z zs l =
-    let e : nat_lt (f x) (f z) ≡ true = grind (arith, nat_tests) in ap (λ v. cond v (x ∷ z ∷ zs) (z ∷ insert_by f x zs)) e
+    let e : nat_lt (f x) (f z) ≡ true = grind (arith, nat_tests) in
+    ap (λ v. cond v (x ∷ z ∷ zs) (z ∷ insert_by f x zs)) e
 
-insert_after : {X : Type 0} (f : X → ℕ) (x z : X) (zs : List X) → f z ≤ f x → insert_by f x (z ∷ zs) ≡ z ∷ insert_by f x zs
+insert_after : {X : Type 0} (f : X → ℕ) (x z : X) (zs : List X) → f z ≤ f x →
+    insert_by f x (z ∷ zs) ≡ z ∷ insert_by f x zs
 insert_after f x z zs l =
-    let e : nat_lt (f x) (f z) ≡ false = grind (arith, nat_tests) in ap (λ v. cond v (x ∷ z ∷ zs) (z ∷ insert_by f x zs)) e
+    let e : nat_lt (f x) (f z) ≡ false = grind (arith, nat_tests) in
+    ap (λ v. cond v (x ∷ z ∷ zs) (z ∷ insert_by f x zs)) e
 
-insert_both : {X : Type 0} (f : X → ℕ) (x y : X) (l : List X) → f x < f y → insert_by f x (insert_by f y l) ≡ insert_by f y (insert_by f x l)
+insert_both : {X : Type 0} (f : X → ℕ) (x y : X) (l : List X) → f x < f y →
+    insert_by f x (insert_by f y l) ≡ insert_by f y (insert_by f x l)
 insert_both f x y [] l = insert_before f x y [] l ∙ sym (insert_after f y x [] (omega arith))
 insert_both f x y (z ∷ zs) l = elim (cases_lt (f y) (f z)) [
   | inl yz ↦
       let a = insert_before f y z zs yz in
       ap (insert_by f x) a ∙ insert_before f x y (z ∷ zs) l
-      ∙ sym (ap (insert_by f y) (insert_before f x z zs (omega arith)) ∙ insert_after f y x (z ∷ zs) (omega arith) ∙ ap (λ v. x ∷ v) a)
+      ∙ sym (ap (insert_by f y) (insert_before f x z zs (omega arith)) ∙ insert_after f y x (z ∷ zs) (omega arith)
+      ∙ ap (λ v. x ∷ v) a)
   | inr zy ↦ elim (cases_lt (f x) (f z)) [
     | inl xz ↦
         let a = insert_after f y z zs zy in
         ap (insert_by f x) a ∙ insert_before f x z (insert_by f y zs) xz
-        ∙ sym (ap (insert_by f y) (insert_before f x z zs xz) ∙ insert_after f y x (z ∷ zs) (omega arith) ∙ ap (λ v. x ∷ v) a)
+        ∙ sym (ap (insert_by f y) (insert_before f x z zs xz) ∙ insert_after f y x (z ∷ zs) (omega arith)
+        ∙ ap (λ v. x ∷ v) a)
     | inr zx ↦
-        ap (insert_by f x) (insert_after f y z zs zy) ∙ insert_after f x z (insert_by f y zs) zx ∙ ap (λ v. z ∷ v) (insert_both f x y zs l)
+        ap (insert_by f x) (insert_after f y z zs zy) ∙ insert_after f x z (insert_by f y zs) zx
+        ∙ ap (λ v. z ∷ v) (insert_both f x y zs l)
         ∙ sym (ap (insert_by f y) (insert_after f x z zs zx) ∙ insert_after f y z (insert_by f x zs) zy)
   ]
 ]
 
-insert_by-swap : {X : Type 0} (f : X → ℕ) (x y : X) (l : List X) → (f x ≡ f y → x ≡ y) → insert_by f x (insert_by f y l) ≡ insert_by f y (insert_by f x l)
+insert_by-swap : {X : Type 0} (f : X → ℕ) (x y : X) (l : List X) → (f x ≡ f y → x ≡ y) →
+    insert_by f x (insert_by f y l) ≡ insert_by f y (insert_by f x l)
 insert_by-swap f x y l one = elim (cases_lt (f x) (f y)) [
   | inl xy ↦ insert_both f x y l xy
   | inr yx ↦ elim (cases_lt (f y) (f x)) [
@@ -61,22 +74,29 @@ insert_by-swap f x y l one = elim (cases_lt (f x) (f y)) [
   ]
 ]
 
-with_two : (x y : Candidate) (kept : List Candidate) → with_candidate x (with_candidate y kept) ≡ take (length kept) (insert_by rank x (insert_by rank y kept))
+with_two : (x y : Candidate) (kept : List Candidate) →
+    with_candidate x (with_candidate y kept) ≡ take (length kept) (insert_by rank x (insert_by rank y kept))
 with_two x y kept =
-    let size : length (take (length kept) (insert_by rank y kept)) ≡ length kept = length-take-le (length kept) (insert_by rank y kept) (omega (arith, length-insert_by rank y kept)) in
-    ap (λ v. take v (insert_by rank x (take (length kept) (insert_by rank y kept)))) size ∙ take-insert_by rank x (length kept) (insert_by rank y kept)
+    let size : length (take (length kept) (insert_by rank y kept)) ≡ length kept =
+    length-take-le (length kept) (insert_by rank y kept) (omega (arith, length-insert_by rank y kept)) in
+    ap (λ v. take v (insert_by rank x (take (length kept) (insert_by rank y kept)))) size
+    ∙ take-insert_by rank x (length kept) (insert_by rank y kept)
 
-with_candidate-swap : (x y : Candidate) (kept : List Candidate) → (rank x ≡ rank y → x ≡ y) → with_candidate x (with_candidate y kept) ≡ with_candidate y (with_candidate x kept)
-with_candidate-swap x y kept one = with_two x y kept ∙ ap (take (length kept)) (insert_by-swap rank x y kept one) ∙ sym (with_two y x kept)
+with_candidate-swap : (x y : Candidate) (kept : List Candidate) → (rank x ≡ rank y → x ≡ y) →
+    with_candidate x (with_candidate y kept) ≡ with_candidate y (with_candidate x kept)
+with_candidate-swap x y kept one = with_two x y kept ∙ ap (take (length kept)) (insert_by-swap rank x y kept one)
+    ∙ sym (with_two y x kept)
 
 one_number : (p q a b : ℕ) → a < 4294967296 → b < 4294967296 → p * 4294967296 + a ≡ q * 4294967296 + b → a ≡ b
 one_number p q a b la lb e = omega arith
 
 pub with_candidate-length : (x : Candidate) (kept : List Candidate) → length (with_candidate x kept) ≡ length kept
-with_candidate-length x kept = length-take-le (length kept) (insert_by rank x kept) (omega (arith, length-insert_by rank x kept))
+with_candidate-length x kept =
+    length-take-le (length kept) (insert_by rank x kept) (omega (arith, length-insert_by rank x kept))
 
 -- what does not come before the last of the kept changes nothing
-pub with_candidate-out : (x : Candidate) (kept : List Candidate) → Climbing rank kept → 1 ≤ length kept → rank (last_of kept) ≤ rank x → with_candidate x kept ≡ kept
+pub with_candidate-out : (x : Candidate) (kept : List Candidate) → Climbing rank kept → 1 ≤ length kept →
+    rank (last_of kept) ≤ rank x → with_candidate x kept ≡ kept
 with_candidate-out x kept up room out = sym (insert_by-full rank x (length kept) kept open_place up refl room out)
 
 -- ---- the order of the cities
@@ -85,82 +105,120 @@ abbrev pub IsSmall : Placed → Type 0
 IsSmall p = p.city < 4294967296
 
 module _ (dist : ℕ → ℕ → ℕ) (c : ℕ) where
-  with_city-swap : (p q : Placed) (kept : List Candidate) → IsSmall p → IsSmall q → with_city dist c p (with_city dist c q kept) ≡ with_city dist c q (with_city dist c p kept)
+  with_city-swap : (p q : Placed) (kept : List Candidate) → IsSmall p → IsSmall q →
+      with_city dist c p (with_city dist c q kept) ≡ with_city dist c q (with_city dist c p kept)
   with_city-swap p q kept sp sq =
       let x : Candidate = candidate dist c p.city in
       let y : Candidate = candidate dist c q.city in
-      elim (p.city == c) as (λ b. cond b (with_city dist c q kept) (with_candidate x (with_city dist c q kept)) ≡ with_city dist c q (cond b kept (with_candidate x kept))) [
+      elim (p.city == c) as (λ b. cond b (with_city dist c q kept)
+      (with_candidate x (with_city dist c q kept)) ≡ with_city dist c q (cond b kept (with_candidate x kept))) [
         | true ↦ refl
-        | false ↦ elim (q.city == c) as (λ b. with_candidate x (cond b kept (with_candidate y kept)) ≡ cond b (with_candidate x kept) (with_candidate y (with_candidate x kept))) [
-          | true ↦ refl
-          | false ↦ with_candidate-swap x y kept (λ e. ap (candidate dist c) (one_number (dist c p.city) (dist c q.city) p.city q.city sp sq e))
-        ]
+        | false ↦
+            elim (q.city == c) as (λ b. with_candidate x (cond b kept (with_candidate y kept)) ≡ cond b
+            (with_candidate x kept) (with_candidate y (with_candidate x kept))) [
+              | true ↦ refl
+              | false ↦ with_candidate-swap x y kept
+                  (λ e. ap (candidate dist c) (one_number (dist c p.city) (dist c q.city) p.city q.city sp sq e))
+            ]
       ]
 
-  pub with_cities-append : (xs ys : List Placed) (kept : List Candidate) → with_cities dist c (xs ++ ys) kept ≡ with_cities dist c ys (with_cities dist c xs kept)
+  pub with_cities-append : (xs ys : List Placed) (kept : List Candidate) →
+      with_cities dist c (xs ++ ys) kept ≡ with_cities dist c ys (with_cities dist c xs kept)
   with_cities-append [] ys kept = refl
   with_cities-append (x ∷ xs) ys kept = with_cities-append xs ys (with_city dist c x kept)
 
-  with_cities-city : (p : Placed) (ps : List Placed) (kept : List Candidate) → IsSmall p → All IsSmall ps → with_cities dist c ps (with_city dist c p kept) ≡ with_city dist c p (with_cities dist c ps kept)
+  with_cities-city : (p : Placed) (ps : List Placed) (kept : List Candidate) → IsSmall p → All IsSmall ps →
+      with_cities dist c ps (with_city dist c p kept) ≡ with_city dist c p (with_cities dist c ps kept)
   with_cities-city p [] kept sp all = refl
   with_cities-city p (q ∷ qs) kept sp all =
-      ap (with_cities dist c qs) (with_city-swap q p kept (All-head IsSmall q qs all) sp) ∙ with_cities-city p qs (with_city dist c q kept) sp (All-tail IsSmall q qs all)
+      ap (with_cities dist c qs) (with_city-swap q p kept (All-head IsSmall q qs all) sp)
+      ∙ with_cities-city p qs (with_city dist c q kept) sp (All-tail IsSmall q qs all)
 
-  pub with_cities-swap : (xs ys : List Placed) (kept : List Candidate) → All IsSmall xs → All IsSmall ys → with_cities dist c xs (with_cities dist c ys kept) ≡ with_cities dist c ys (with_cities dist c xs kept)
+  pub with_cities-swap : (xs ys : List Placed) (kept : List Candidate) → All IsSmall xs → All IsSmall ys →
+      with_cities dist c xs (with_cities dist c ys kept) ≡ with_cities dist c ys (with_cities dist c xs kept)
   with_cities-swap [] ys kept sx sy = refl
   with_cities-swap (x ∷ xs) ys kept sx sy =
-      ap (with_cities dist c xs) (sym (with_cities-city x ys kept (All-head IsSmall x xs sx) sy)) ∙ with_cities-swap xs ys (with_city dist c x kept) (All-tail IsSmall x xs sx) sy
+      ap (with_cities dist c xs) (sym (with_cities-city x ys kept (All-head IsSmall x xs sx) sy))
+      ∙ with_cities-swap xs ys (with_city dist c x kept) (All-tail IsSmall x xs sx) sy
 
   pub with_city-same : (p : Placed) (kept : List Candidate) → p.city ≡ c → with_city dist c p kept ≡ kept
   with_city-same p kept e =
-      let t : (p.city == c) ≡ true = grind (arith, nat_tests) in ap (λ v. cond v kept (with_candidate (candidate dist c p.city) kept)) t
+      let t : (p.city == c) ≡ true = grind (arith, nat_tests) in
+      ap (λ v. cond v kept (with_candidate (candidate dist c p.city) kept)) t
 
-  pub with_city-other : (p : Placed) (kept : List Candidate) → p.city ≢ c → with_city dist c p kept ≡ with_candidate (candidate dist c p.city) kept
+  pub with_city-other : (p : Placed) (kept : List Candidate) → p.city ≢ c →
+      with_city dist c p kept ≡ with_candidate (candidate dist c p.city) kept
   with_city-other p kept ne =
-      let t : (p.city == c) ≡ false = grind (arith, nat_tests) in ap (λ v. cond v kept (with_candidate (candidate dist c p.city) kept)) t
+      let t : (p.city == c) ≡ false = grind (arith, nat_tests) in
+      ap (λ v. cond v kept (with_candidate (candidate dist c p.city) kept)) t
 
   -- one more city of a row
-  pub with_cities-more : (row : List Placed) (i : ℕ) (d : Placed) (kept : List Candidate) → i < length row → with_cities dist c (take (suc i) row) kept ≡ with_city dist c (get_or row i d) (with_cities dist c (take i row) kept)
-  with_cities-more row i d kept l = ap (λ v. with_cities dist c v kept) (take-suc row i d l) ∙ with_cities-append (take i row) (get_or row i d ∷ []) kept
+  pub with_cities-more : (row : List Placed) (i : ℕ) (d : Placed) (kept : List Candidate) → i < length row →
+      with_cities dist c (take (suc i) row) kept ≡ with_city dist c (get_or row i d)
+      (with_cities dist c (take i row) kept)
+  with_cities-more row i d kept l = ap (λ v. with_cities dist c v kept) (take-suc row i d l)
+      ∙ with_cities-append (take i row) (get_or row i d ∷ []) kept
 
   -- a loop over cities
-  pub seen_more : (row : List Placed) (i : ℕ) (d : Placed) (first kept : List Candidate) → i < length row → kept ≡ with_cities dist c (take i row) first → with_city dist c (get_or row i d) kept ≡ with_cities dist c (take (i + 1) row) first
+  pub seen_more : (row : List Placed) (i : ℕ) (d : Placed) (first kept : List Candidate) → i < length row →
+      kept ≡ with_cities dist c (take i row) first →
+      with_city dist c (get_or row i d) kept ≡ with_cities dist c (take (i + 1) row) first
   seen_more row i d first kept l e =
-      ap (with_city dist c (get_or row i d)) e ∙ sym (ap (λ v. with_cities dist c v first) (take_more row i d l) ∙ with_cities-append (take i row) (get_or row i d ∷ []) first)
+      ap (with_city dist c (get_or row i d)) e
+      ∙ sym (ap (λ v. with_cities dist c v first) (take_more row i d l)
+      ∙ with_cities-append (take i row) (get_or row i d ∷ []) first)
 
-  pub with_cities-length : (ps : List Placed) (kept : List Candidate) → length (with_cities dist c ps kept) ≡ length kept
+  pub with_cities-length : (ps : List Placed) (kept : List Candidate) →
+      length (with_cities dist c ps kept) ≡ length kept
   with_cities-length [] kept = refl
   with_cities-length (p ∷ ps) kept =
-      let here : length (with_city dist c p kept) ≡ length kept = elim (p.city == c) as (λ b. length (cond b kept (with_candidate (candidate dist c p.city) kept)) ≡ length kept) [ true ↦ refl | false ↦ with_candidate-length (candidate dist c p.city) kept ] in
+      let here : length (with_city dist c p kept) ≡ length kept =
+      elim (p.city == c) as (λ b. length (cond b kept (with_candidate (candidate dist c p.city) kept)) ≡ length
+      kept) [ true ↦ refl | false ↦ with_candidate-length (candidate dist c p.city) kept ] in
       with_cities-length ps (with_city dist c p kept) ∙ here
 
   -- cities that do not come before the last of the kept change nothing
-  pub with_cities-out : (ps : List Placed) (kept : List Candidate) → Climbing rank kept → 1 ≤ length kept → All (λ p. rank (last_of kept) ≤ rank (candidate dist c p.city)) ps → with_cities dist c ps kept ≡ kept
+  pub with_cities-out : (ps : List Placed) (kept : List Candidate) → Climbing rank kept → 1 ≤ length kept →
+      All (λ p. rank (last_of kept) ≤ rank (candidate dist c p.city)) ps → with_cities dist c ps kept ≡ kept
   with_cities-out [] kept up room all = refl
   with_cities-out (p ∷ ps) kept up room all =
       let last = All-head (λ p. rank (last_of kept) ≤ rank (candidate dist c p.city)) p ps all in
-      let one : with_candidate (candidate dist c p.city) kept ≡ kept = with_candidate-out (candidate dist c p.city) kept up room last in
-      let here : with_city dist c p kept ≡ kept = elim (p.city == c) as (λ b. cond b kept (with_candidate (candidate dist c p.city) kept) ≡ kept) [ true ↦ refl | false ↦ one ] in
-      ap (with_cities dist c ps) here ∙ with_cities-out ps kept up room (All-tail (λ p. rank (last_of kept) ≤ rank (candidate dist c p.city)) p ps all)
+      let one : with_candidate (candidate dist c p.city) kept ≡ kept =
+      with_candidate-out (candidate dist c p.city) kept up room last in
+      let here : with_city dist c p kept ≡ kept =
+      elim (p.city == c) as (λ b. cond b kept (with_candidate (candidate dist c p.city) kept) ≡ kept) [
+        | true ↦
+            refl
+        | false ↦ one
+      ] in
+      ap (with_cities dist c ps) here
+      ∙ with_cities-out ps kept up room
+      (All-tail (λ p. rank (last_of kept) ≤ rank (candidate dist c p.city)) p ps all)
 
 -- ---- the kept stay in order
 
 Climbing-insert_by : {X : Type 0} (f : X → ℕ) (x : X) (xs : List X) → Climbing f xs → Climbing f (insert_by f x xs)
 Climbing-insert_by f x [] h = (All-nil (λ y. f x ≤ f y), tt)
 Climbing-insert_by f x (y ∷ ys) h =
-    (elim (nat_lt (f x) (f y)) as (λ b. nat_lt (f x) (f y) ≡ b → Climbing f (cond b (x ∷ y ∷ ys) (y ∷ insert_by f x ys))) [
+    (elim (nat_lt (f x) (f y)) as (λ b. nat_lt (f x) (f y) ≡ b →
+    Climbing f (cond b (x ∷ y ∷ ys) (y ∷ insert_by f x ys))) [
       | true ↦ λ e.
-          let l : f x ≤ f y = grind (arith, nat_tests) in
-          (All-cons (λ z. f x ≤ f z) y ys l (All-weaker (λ z. f y ≤ f z) (λ z. f x ≤ f z) (λ z m. omega arith) ys h.0), h)
+          let l : f x ≤ f y = grind (arith, nat_tests) in (
+            All-cons (λ z. f x ≤ f z) y ys l (All-weaker (λ z. f y ≤ f z) (λ z. f x ≤ f z) (λ z m. omega arith) ys h.0),
+            h,
+          )
       | false ↦ λ e.
           let l : f y ≤ f x = grind (arith, nat_tests) in (
-            All-permutation (λ z. f y ≤ f z) (x ∷ ys) (insert_by f x ys) (IsPermutation-insert_by f x ys) (All-cons (λ z. f y ≤ f z) x ys l h.0),
+            All-permutation (λ z. f y ≤ f z) (x ∷ ys) (insert_by f x ys) (IsPermutation-insert_by f x ys)
+                (All-cons (λ z. f y ≤ f z) x ys l h.0),
             Climbing-insert_by f x ys h.1,
           )
     ]) refl
 
-pub with_candidate_climbing : (x : Candidate) (kept : List Candidate) → Climbing rank kept → Climbing rank (with_candidate x kept)
-with_candidate_climbing x kept up = Climbing-take rank (length kept) (insert_by rank x kept) (Climbing-insert_by rank x kept up)
+pub with_candidate_climbing : (x : Candidate) (kept : List Candidate) → Climbing rank kept →
+    Climbing rank (with_candidate x kept)
+with_candidate_climbing x kept up =
+    Climbing-take rank (length kept) (insert_by rank x kept) (Climbing-insert_by rank x kept up)
 
 -- ---- what a bound of a part says of its cities
 
@@ -173,21 +231,27 @@ pub record AreFloors (dist : ℕ → ℕ → ℕ) (place_of : ℕ → Point) (fl
   pub bounds_y : (a b : ℕ) → floor (unsigned_abs ((place_of a).y -ℤ (place_of b).y)) ≤ dist a b
 
 module _ (dist : ℕ → ℕ → ℕ) (n : ℕ) (place_of : ℕ → Point) (floor : ℕ → ℕ) (f : AreFloors dist place_of floor) where
-  pub floor_below : (here p : Placed) (gap : ℕ) → IsPlaced n place_of here → IsPlaced n place_of p → IsBeyond here gap p → floor gap ≤ dist here.city p.city
+  pub floor_below : (here p : Placed) (gap : ℕ) → IsPlaced n place_of here → IsPlaced n place_of p →
+      IsBeyond here gap p → floor gap ≤ dist here.city p.city
   floor_below here p gap h t beyond =
       ⊎_elim
       (λ l.
-      let e : unsigned_abs (here.place.x -ℤ p.place.x) ≡ unsigned_abs ((place_of here.city).x -ℤ (place_of p.city).x) = ap (λ (v : Point). unsigned_abs (v.x -ℤ p.place.x)) h.1 ∙ ap (λ (v : Point). unsigned_abs ((place_of here.city).x -ℤ v.x)) t.1 in
+      let e : unsigned_abs (here.place.x -ℤ p.place.x) ≡ unsigned_abs ((place_of here.city).x -ℤ (place_of p.city).x) =
+      ap (λ (v : Point). unsigned_abs (v.x -ℤ p.place.x)) h.1
+      ∙ ap (λ (v : Point). unsigned_abs ((place_of here.city).x -ℤ v.x)) t.1 in
       let rises = f.rises gap _ (rw e at l) (f.wide here.city p.city) in
       omega (arith, rises, f.bounds here.city p.city))
       (λ l.
-      let e : unsigned_abs (here.place.y -ℤ p.place.y) ≡ unsigned_abs ((place_of here.city).y -ℤ (place_of p.city).y) = ap (λ (v : Point). unsigned_abs (v.y -ℤ p.place.y)) h.1 ∙ ap (λ (v : Point). unsigned_abs ((place_of here.city).y -ℤ v.y)) t.1 in
+      let e : unsigned_abs (here.place.y -ℤ p.place.y) ≡ unsigned_abs ((place_of here.city).y -ℤ (place_of p.city).y) =
+      ap (λ (v : Point). unsigned_abs (v.y -ℤ p.place.y)) h.1
+      ∙ ap (λ (v : Point). unsigned_abs ((place_of here.city).y -ℤ v.y)) t.1 in
       let rises = f.rises gap _ (rw e at l) (f.tall here.city p.city) in
       omega (arith, rises, f.bounds_y here.city p.city))
       beyond
 
 -- a part of which no city comes before the last of the kept changes nothing
-pub kept_without_part : (dist : ℕ → ℕ → ℕ) (c : ℕ) (first : Candidate) (ps : List Placed) (kept : List Candidate) → All (IsFrom dist c first) ps → Climbing rank kept → 1 ≤ length kept
+pub kept_without_part : (dist : ℕ → ℕ → ℕ) (c : ℕ) (first : Candidate) (ps : List Placed) (kept : List Candidate)
+    → All (IsFrom dist c first) ps → Climbing rank kept → 1 ≤ length kept
     → rank (last_of kept) ≤ rank first → kept ≡ with_cities dist c ps kept
 kept_without_part dist c first ps kept from up room out =
     sym (with_cities-out dist c ps kept up room (λ k d l. let one = from k d l in omega (arith, one, out)))
@@ -203,20 +267,26 @@ count_same p i e = grind (arith, nat_tests)
 count_whole : (p n : ℕ) → p < n → cond (nat_lt p n) (n - 1) n ≡ n - 1
 count_whole p n l = grind (arith, nat_tests)
 
-module _ (dist : ℕ → ℕ → ℕ) (limit : (a b : ℕ) → dist a b ≤ DISTANCE_LIMIT) (n : ℕ) (place_of : ℕ → Point) (row : List Placed) (o : IsRow n place_of row) (few : n ≤ CITY_LIMIT) where
+module _ (dist : ℕ → ℕ → ℕ) (limit : (a b : ℕ) → dist a b ≤ DISTANCE_LIMIT) (n : ℕ) (place_of : ℕ → Point)
+    (row : List Placed) (o : IsRow n place_of row) (few : n ≤ CITY_LIMIT) where
   city_small : (W : ℕ → Type 0) (b : ℕ) → IsAt row W b → b < 4294967296
   city_small W b s = let e = o.each s.0 nowhere s.1 in let same = s.3 in omega (arith, e.0.1)
 
   one_place : (r q : ℕ) → r < length row → q < length row → city_at row r ≡ city_at row q → r ≡ q
   one_place r q lr lq e =
-      ⊎_elim (λ l. absurd (o.apart r q l lq e)) (λ g. ⊎_elim (λ l. absurd (o.apart q r l lr (sym e))) (λ h. omega arith) (cases_lt q r)) (cases_lt r q)
+      ⊎_elim (λ l. absurd (o.apart r q l lq e))
+      (λ g. ⊎_elim (λ l. absurd (o.apart q r l lr (sym e))) (λ h. omega arith) (cases_lt q r)) (cases_lt r q)
 
   abbrev Before : ℕ → ℕ → ℕ → Type 0
   Before p j q = (q < j) × (q ≢ p)
 
-  keeps_first : (p k j : ℕ) → p < length row → j ≤ length row → KeepsFirst dist (city_at row p) k (cond (nat_lt p j) (j - 1) j) (IsAt row (Before p j)) (with_cities dist (city_at row p) (take j row) (replicate k open_place))
+  keeps_first : (p k j : ℕ) → p < length row → j ≤ length row →
+      KeepsFirst dist (city_at row p) k (cond (nat_lt p j) (j - 1) j) (IsAt row (Before p j))
+      (with_cities dist (city_at row p) (take j row) (replicate k open_place))
   keeps_first p k zero lp lj =
-      KeepsFirst-count dist (city_at row p) k _ _ _ _ (same_twice (nat_lt p 0) 0) (KeepsFirst-none dist (city_at row p) k (IsAt row (Before p 0)) (λ b s. let w = s.2 in let high : s.0 < 0 = w.0 in omega arith))
+      KeepsFirst-count dist (city_at row p) k _ _ _ _ (same_twice (nat_lt p 0) 0)
+      (KeepsFirst-none dist (city_at row p) k (IsAt row (Before p 0))
+      (λ b s. let w = s.2 in let high : s.0 < 0 = w.0 in omega arith))
   keeps_first p k (suc i) lp lj =
       let c : ℕ = city_at row p in
       let kept : List Candidate = with_cities dist c (take i row) (replicate k open_place) in
@@ -227,7 +297,8 @@ module _ (dist : ℕ → ℕ → ℕ) (limit : (a b : ℕ) → dist a b ≤ DIST
       subst (KeepsFirst dist c k _ (IsAt row (Before p (suc i)))) (sym more)
       (⊎_elim
       (λ e.
-      subst (KeepsFirst dist c k _ (IsAt row (Before p (suc i)))) (sym (with_city-same dist c (get_or row i nowhere) kept (ap (city_at row) e)))
+      subst (KeepsFirst dist c k _ (IsAt row (Before p (suc i))))
+      (sym (with_city-same dist c (get_or row i nowhere) kept (ap (city_at row) e)))
       (KeepsFirst-count dist c k _ _ _ kept (count_same p i e)
       (KeepsFirst-same dist c k _ (IsAt row (Before p i)) (IsAt row (Before p (suc i))) kept h
       (λ a s. (s.0, s.1, (omega (arith, s.2), s.2.1), s.3))
@@ -235,8 +306,10 @@ module _ (dist : ℕ → ℕ → ℕ) (limit : (a b : ℕ) → dist a b ≤ DIST
       (λ ne.
       let other : city_at row i ≢ c = λ e. ne (one_place i p li lp e) in
       let size = kept_length h in
-      let there : with_city dist c (get_or row i nowhere) kept ≡ take k (insert_by rank (candidate dist c (city_at row i)) kept) =
-      with_city-other dist c (get_or row i nowhere) kept other ∙ ap (λ v. take v (insert_by rank (candidate dist c (city_at row i)) kept)) size in
+      let there : with_city dist c (get_or row i nowhere) kept ≡ take k
+      (insert_by rank (candidate dist c (city_at row i)) kept) =
+      with_city-other dist c (get_or row i nowhere) kept other
+      ∙ ap (λ v. take v (insert_by rank (candidate dist c (city_at row i)) kept)) size in
       subst (KeepsFirst dist c k _ (IsAt row (Before p (suc i)))) (sym there)
       (KeepsFirst-count dist c k _ _ _ _ (count_more p i ne)
       (KeepsFirst-more dist c k _ (IsAt row (Before p i)) (IsAt row (Before p (suc i))) kept (city_at row i) h
@@ -246,17 +319,21 @@ module _ (dist : ℕ → ℕ → ℕ) (limit : (a b : ℕ) → dist a b ≤ DIST
       (city_small (Before p i))
       (λ a s. (s.0, s.1, (omega (arith, s.2), s.2.1), s.3))
       (i, li, (omega arith, ne), refl)
-      (λ a s. ⊎_elim (λ e. inr (sym s.3 ∙ ap (city_at row) e)) (λ w. inl (s.0, s.1, (omega (arith, s.2, w), s.2.1), s.3)) (cases_eq s.0 i)))))
+      (λ a s. ⊎_elim (λ e. inr (sym s.3 ∙ ap (city_at row) e))
+      (λ w. inl (s.0, s.1, (omega (arith, s.2, w), s.2.1), s.3)) (cases_eq s.0 i)))))
       (cases_eq i p))
 
-  near_at : (p k : ℕ) → p < length row → k < n → IsNear dist n k (city_at row p) (cities_of (with_cities dist (city_at row p) row (replicate k open_place)))
+  near_at : (p k : ℕ) → p < length row → k < n →
+      IsNear dist n k (city_at row p) (cities_of (with_cities dist (city_at row p) row (replicate k open_place)))
   near_at p k lp kn =
       let m : ℕ = cond (nat_lt p (length row)) (length row - 1) (length row) in
       let count = count_whole p (length row) lp in
       let enough : k ≤ m = omega (arith, o.count) in
       let all = take_all (length row) row (omega arith) in
       IsNear-from_kept dist n (city_at row p) k m (IsAt row (Before p (length row))) _
-      (subst (λ v. KeepsFirst dist (city_at row p) k m (IsAt row (Before p (length row))) (with_cities dist (city_at row p) v (replicate k open_place))) all (keeps_first p k (length row) lp (omega arith)))
+      (subst (λ v. KeepsFirst dist (city_at row p) k m (IsAt row (Before p (length row)))
+      (with_cities dist (city_at row p) v (replicate k open_place))) all
+      (keeps_first p k (length row) lp (omega arith)))
       (omega arith) enough
       (λ b city ne. let w = o.whole b city in (w.0, w.1, (w.1, λ e. ne (sym w.2 ∙ ap (city_at row) e)), w.2))
       (λ b s.
@@ -264,10 +341,12 @@ module _ (dist : ℕ → ℕ → ℕ) (limit : (a b : ℕ) → dist a b ≤ DIST
       (subst (IsCity n) s.3 e.0, λ same. s.2.1 (one_place s.0 p s.1 lp (s.3 ∙ same))))
 
   -- the list of a city
-  pub IsNear-from_row : (c k : ℕ) → IsCity n c → k < n → IsNear dist n k c (cities_of (with_cities dist c row (replicate k open_place)))
+  pub IsNear-from_row : (c k : ℕ) → IsCity n c → k < n →
+      IsNear dist n k c (cities_of (with_cities dist c row (replicate k open_place)))
   IsNear-from_row c k city kn =
       let w = o.whole c city in
-      subst (λ v. IsNear dist n k v (cities_of (with_cities dist v row (replicate k open_place)))) w.2 (near_at w.0 k w.1 kn)
+      subst (λ v. IsNear dist n k v (cities_of (with_cities dist v row (replicate k open_place)))) w.2
+      (near_at w.0 k w.1 kn)
 
 -- ---- the greater of two gaps, cut off
 pub one_of_max : (gap x y a b : ℕ) → gap ≤ max x y → x ≤ a → y ≤ b → (gap ≤ a) ⊎ (gap ≤ b)
@@ -284,33 +363,45 @@ all_back P [] ys h = h
 all_back P (x ∷ xs) ys h = all_back P xs ys (All-tail P x (xs ++ ys) h)
 
 -- the cities of a part do not come before what none of its box comes before
-pub part_from : (dist : ℕ → ℕ → ℕ) (n : ℕ) (place_of : ℕ → Point) (c : ℕ) (frame : Frame) (first : Candidate) (ps : List Placed)
-    → ((p : Placed) → IsPlaced n place_of p → IsWithin frame p → IsFrom dist c first p) → All (IsPlaced n place_of) ps → All (IsWithin frame) ps → All (IsFrom dist c first) ps
-part_from dist n place_of c frame first ps from placed within = λ k d l. from (get_or ps k d) (placed k d l) (within k d l)
+pub part_from : (dist : ℕ → ℕ → ℕ) (n : ℕ) (place_of : ℕ → Point) (c : ℕ) (frame : Frame) (first : Candidate)
+    (ps : List Placed)
+    → ((p : Placed) → IsPlaced n place_of p → IsWithin frame p → IsFrom dist c first p) → All (IsPlaced n place_of) ps →
+    All (IsWithin frame) ps → All (IsFrom dist c first) ps
+part_from dist n place_of c frame first ps from placed within =
+    λ k d l. from (get_or ps k d) (placed k d l) (within k d l)
 
 -- what stands in either of two boxes stands in a box round both
 pub joined_within : (lower upper whole : Frame) (xs ys : List Placed)
     → ((p : Placed) → IsWithin lower p → IsWithin whole p) → ((p : Placed) → IsWithin upper p → IsWithin whole p)
     → All (IsWithin lower) xs → All (IsWithin upper) ys → All (IsWithin whole) (xs ++ ys)
 joined_within lower upper whole xs ys first second lows highs =
-    All-append (IsWithin whole) xs ys (All-weaker (IsWithin lower) (IsWithin whole) first xs lows) (All-weaker (IsWithin upper) (IsWithin whole) second ys highs)
+    All-append (IsWithin whole) xs ys (All-weaker (IsWithin lower) (IsWithin whole) first xs lows)
+    (All-weaker (IsWithin upper) (IsWithin whole) second ys highs)
 
 -- both halves were seen, in either order
 module _ (dist : ℕ → ℕ → ℕ) (c : ℕ) (lower upper tree : Tree) (first mid last : List Candidate) where
-  pub seen_both : entries_of tree ≡ entries_of lower ++ entries_of upper → mid ≡ with_cities dist c (entries_of lower) first → last ≡ with_cities dist c (entries_of upper) mid → last ≡ with_cities dist c (entries_of tree) first
+  pub seen_both : entries_of tree ≡ entries_of lower ++ entries_of upper →
+      mid ≡ with_cities dist c (entries_of lower) first → last ≡ with_cities dist c (entries_of upper) mid →
+      last ≡ with_cities dist c (entries_of tree) first
   seen_both cut h k =
       k ∙ ap (with_cities dist c (entries_of upper)) h
-      ∙ sym (ap (λ v. with_cities dist c v first) cut ∙ with_cities-append dist c (entries_of lower) (entries_of upper) first)
+      ∙ sym (ap (λ v. with_cities dist c v first) cut
+      ∙ with_cities-append dist c (entries_of lower) (entries_of upper) first)
 
-  pub seen_both_back : All IsSmall (entries_of lower) → All IsSmall (entries_of upper) → entries_of tree ≡ entries_of lower ++ entries_of upper → mid ≡ with_cities dist c (entries_of upper) first → last ≡ with_cities dist c (entries_of lower) mid → last ≡ with_cities dist c (entries_of tree) first
+  pub seen_both_back : All IsSmall (entries_of lower) → All IsSmall (entries_of upper) →
+      entries_of tree ≡ entries_of lower ++ entries_of upper → mid ≡ with_cities dist c (entries_of upper) first →
+      last ≡ with_cities dist c (entries_of lower) mid → last ≡ with_cities dist c (entries_of tree) first
   seen_both_back ls us cut h k =
       k ∙ ap (with_cities dist c (entries_of lower)) h
       ∙ with_cities-swap dist c (entries_of lower) (entries_of upper) first ls us
-      ∙ sym (ap (λ v. with_cities dist c v first) cut ∙ with_cities-append dist c (entries_of lower) (entries_of upper) first)
+      ∙ sym (ap (λ v. with_cities dist c v first) cut
+      ∙ with_cities-append dist c (entries_of lower) (entries_of upper) first)
 
-pub placed_small : (n : ℕ) (place_of : ℕ → Point) (ps : List Placed) → n ≤ CITY_LIMIT → All (IsPlaced n place_of) ps → All IsSmall ps
+pub placed_small : (n : ℕ) (place_of : ℕ → Point) (ps : List Placed) → n ≤ CITY_LIMIT → All (IsPlaced n place_of) ps →
+    All IsSmall ps
 placed_small n place_of ps few all = λ k d l. let e = all k d l in omega (arith, e.0.1)
 
-pub part_smaller : (tree lower upper s : Tree) (t : ℕ) → parts_of tree ≡ t → parts_of tree ≡ parts_of lower + parts_of upper + 1 → (s ≡ lower) ⊎ (s ≡ upper) → parts_of s < t
+pub part_smaller : (tree lower upper s : Tree) (t : ℕ) → parts_of tree ≡ t →
+    parts_of tree ≡ parts_of lower + parts_of upper + 1 → (s ≡ lower) ⊎ (s ≡ upper) → parts_of s < t
 part_smaller tree lower upper s t is cut part =
     ⊎_elim (λ e. let same = ap parts_of e in omega arith) (λ e. let same = ap parts_of e in omega arith) part

@@ -3,14 +3,16 @@ use Rattle.std.proofs.Common.{◌≡◌, ℕ, ◌+◌, ◌-◌, ◌<◌, ⊎_eli
 use Rattle.std.specs.List.Sorted.{IsPermutation}
 use Rattle.std.proofs.lemmas.Bool.{cases_lt}
 use Rattle.std.proofs.lemmas.List.{get_or_default}
-use Rattle.std.proofs.lemmas.List.Sorted.{All-permutation, Contains-permutation, IsPermutation-keeps, length_permutation}
+use Rattle.std.proofs.lemmas.List.Sorted.{All-permutation, Contains-permutation, IsPermutation-keeps}
+use Rattle.std.proofs.lemmas.List.Sorted.{length_permutation}
 use Rattle.tk_near.proofs.InPlane.OneEach.{OneEach, OneEach-swap}
 use Rattle.tk_near.specs.declared.plane.placed.Placed.{Placed}
 use Rattle.tk_problem.specs.declared.point.Point.{Point}
 use Rattle.tk_near.specs.Placed.{placed, nowhere, city_at, IsPlaced, IsRow}
 
 -- in the order of their numbers
-pub IsRow-by_number : (n : ℕ) (place_of : ℕ → Point) (row : List Placed) → length row ≡ n → ((j : ℕ) (d : Placed) → j < n → get_or row j d ≡ placed place_of (j + 1)) → IsRow n place_of row
+pub IsRow-by_number : (n : ℕ) (place_of : ℕ → Point) (row : List Placed) → length row ≡ n →
+    ((j : ℕ) (d : Placed) → j < n → get_or row j d ≡ placed place_of (j + 1)) → IsRow n place_of row
 IsRow-by_number n place_of row count entries =
     let city : (j : ℕ) → j < n → city_at row j ≡ j + 1 = λ j l. ap (λ (v : Placed). v.city) (entries j nowhere l) in
     record {
@@ -20,21 +22,32 @@ IsRow-by_number n place_of row count entries =
           let c : (get_or row j d).city ≡ j + 1 = ap (λ (v : Placed). v.city) e in
           ((omega arith, omega arith), ap (λ (v : Placed). v.place) e ∙ ap place_of (sym c));
       apart = λ i j l m e. let ei = city i (omega arith) in let ej = city j (omega arith) in omega arith;
-      whole = λ b is. (b - 1, omega (arith, is.0, is.1), city (b - 1) (omega (arith, is.0, is.1)) ∙ omega (arith, is.0));
+      whole =
+          λ b is. (b - 1, omega (arith, is.0, is.1), city (b - 1) (omega (arith, is.0, is.1)) ∙ omega (arith, is.0));
     }
 
 -- in another order
-pub IsRow-moved : (n : ℕ) (place_of : ℕ → Point) (first row : List Placed) → IsRow n place_of first → IsPermutation first row → IsRow n place_of row
+pub IsRow-moved : (n : ℕ) (place_of : ℕ → Point) (first row : List Placed) → IsRow n place_of first →
+    IsPermutation first row → IsRow n place_of row
 IsRow-moved n place_of first row o moved =
     let start : OneEach (λ (v : Placed). v.city) nowhere first = λ i j li lj e.
-    ⊎_elim (λ l. absurd (o.apart i j l lj e)) (λ g. ⊎_elim (λ l. absurd (o.apart j i l li (sym e))) (λ h. omega arith) (cases_lt j i)) (cases_lt i j) in
-    let once : OneEach (λ (v : Placed). v.city) nowhere row = IsPermutation-keeps first (OneEach (λ (v : Placed). v.city) nowhere) start (λ l a b. OneEach-swap (λ (v : Placed). v.city) nowhere l a b) row moved in
+    ⊎_elim (λ l. absurd (o.apart i j l lj e))
+    (λ g. ⊎_elim (λ l. absurd (o.apart j i l li (sym e))) (λ h. omega arith) (cases_lt j i)) (cases_lt i j) in
+    let once : OneEach (λ (v : Placed). v.city) nowhere row =
+    IsPermutation-keeps first (OneEach (λ (v : Placed). v.city) nowhere) start
+    (λ l a b. OneEach-swap (λ (v : Placed). v.city) nowhere l a b) row moved in
     record {
       count = length_permutation first row moved ∙ o.count;
       each = All-permutation (IsPlaced n place_of) first row moved o.each;
       apart = λ i j l m e. let same = once i j (omega arith) m e in omega arith;
       whole = λ b city.
           let at = o.whole b city in
-          let w = Contains-permutation first row (get_or first at.0 nowhere) moved (at.0, at.1, get_or_default first at.0 _ _ at.1) in
-          (w.0, w.1, ap (λ (v : Placed). v.city) (get_or_default row w.0 nowhere (get_or first at.0 nowhere) w.1 ∙ w.2) ∙ at.2);
+          let w =
+          Contains-permutation first row (get_or first at.0 nowhere) moved
+          (at.0, at.1, get_or_default first at.0 _ _ at.1) in (
+            w.0,
+            w.1,
+            ap (λ (v : Placed). v.city) (get_or_default row w.0 nowhere (get_or first at.0 nowhere) w.1 ∙ w.2)
+                ∙ at.2,
+          );
     }

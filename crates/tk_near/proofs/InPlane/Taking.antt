@@ -4,27 +4,34 @@ use Rattle.std.specs.Prelude.{All}
 use Rattle.std.specs.List.{swap_remove}
 use Rattle.std.proofs.lemmas.List.{get_or_default}
 use Rattle.std.proofs.lemmas.List.Elements.{All-tail}
-use Rattle.std.proofs.lemmas.List.Sorted.{All-permutation, IsPermutation-swap_remove, IsPermutation-trans, IsPermutation-append_left, IsPermutation-append_right, IsPermutation-to_front}
+use Rattle.std.proofs.lemmas.List.Sorted.{All-permutation, IsPermutation-swap_remove, IsPermutation-trans}
+use Rattle.std.proofs.lemmas.List.Sorted.{IsPermutation-append_left, IsPermutation-append_right, IsPermutation-to_front}
 use Rattle.tk_near.specs.declared.plane.placed.Placed.{Placed}
 use Rattle.tk_near.specs.Placed.{city_at, nowhere}
 use Rattle.tk_near.specs.Left.{IsTakenOut}
 
-pub taken_out : (p : Placed) (row : List Placed) (i : ℕ) (q : Placed) → (i < length row) × (city_at row i ≡ p.city) → q ≡ get_or row i q → IsTakenOut p row (swap_remove row i q)
+pub taken_out : (p : Placed) (row : List Placed) (i : ℕ) (q : Placed) → (i < length row) × (city_at row i ≡ p.city) →
+    q ≡ get_or row i q → IsTakenOut p row (swap_remove row i q)
 taken_out p row i q at is = record {
   taken = q;
   is = ap (λ (v : Placed). v.city) (is ∙ get_or_default row i q nowhere at.0) ∙ at.1;
   others = IsPermutation-swap_remove row i q at.0 is;
 }
 
-pub taken_behind : (p : Placed) (front old new : List Placed) → IsTakenOut p old new → IsTakenOut p (front ++ old) (front ++ new)
+pub taken_behind : (p : Placed) (front old new : List Placed) → IsTakenOut p old new →
+    IsTakenOut p (front ++ old) (front ++ new)
 taken_behind p front old new h = record {
   taken = h.taken;
   is = h.is;
-  others = IsPermutation-trans (front ++ old) (front ++ h.taken ∷ new) (h.taken ∷ front ++ new) (IsPermutation-append_right front old (h.taken ∷ new) h.others)
-      (rw (sym (append_assoc front (h.taken ∷ []) new)) (IsPermutation-append_left new (front ++ h.taken ∷ []) (h.taken ∷ front) (IsPermutation-to_front front h.taken)));
+  others = IsPermutation-trans (front ++ old) (front ++ h.taken ∷ new) (h.taken ∷ front ++ new)
+      (IsPermutation-append_right front old (h.taken ∷ new) h.others)
+      (rw (sym (append_assoc front (h.taken ∷ []) new))
+      (IsPermutation-append_left new (front ++ h.taken ∷ []) (h.taken ∷ front)
+      (IsPermutation-to_front front h.taken)));
 }
 
-pub taken_before : (p : Placed) (old new back : List Placed) → IsTakenOut p old new → IsTakenOut p (old ++ back) (new ++ back)
+pub taken_before : (p : Placed) (old new back : List Placed) → IsTakenOut p old new →
+    IsTakenOut p (old ++ back) (new ++ back)
 taken_before p old new back h = record {
   taken = h.taken;
   is = h.is;
@@ -32,5 +39,6 @@ taken_before p old new back h = record {
 }
 
 -- what holds of all cities holds of those that are left
-pub All-taken : (P : Placed → Type 0) (p : Placed) (old new : List Placed) → IsTakenOut p old new → All P old → All P new
+pub All-taken : (P : Placed → Type 0) (p : Placed) (old new : List Placed) → IsTakenOut p old new →
+    All P old → All P new
 All-taken P p old new h all = All-tail P h.taken new (All-permutation P old (h.taken ∷ new) h.others all)

@@ -140,8 +140,8 @@ fn fill_lists<P: Planar>(m: &P, row: &[Placed], kept: &mut [Candidate], entries:
     }
 }
 
-/// The near lists by a sweep from each city to both sides in x order, which takes long where many cities have almost the
-/// same x. Where they differ more in y, the metric can be given as [`Turned`](tk_distance::Turned).
+/// The near lists by a sweep from each city to both sides in x order, which takes long where many cities have almost
+/// the same x. Where they differ more in y, the metric can be given as [`Turned`](tk_distance::Turned).
 ///
 /// # Errors
 /// `AllocError` if there is no memory for the row, or for n lists of k cities.

@@ -1,5 +1,6 @@
 -- What the reader of the depot has taken, token by token.
-use Rattle.std.proofs.Common.{◌≡◌, ◌≤◌, ℕ, true, false, List, [], ◌∷◌, ◌++◌, get_or, map, Option, Some, None, Result, refl, sym, ap, subst}
+use Rattle.std.proofs.Common.{◌≡◌, ◌≤◌, ℕ, true, false, List, [], ◌∷◌, ◌++◌, get_or, map, Option, Some, None, Result}
+use Rattle.std.proofs.Common.{refl, sym, ap, subst}
 use Rattle.std.specs.Prelude.{IfOk, IfErr}
 use Rattle.tk_problem_text.specs.declared.sections.depot.Depot.{Depot}
 use Rattle.tk_words.specs.declared.fault.TextKind.{TextKind}
@@ -30,20 +31,25 @@ module _ (n : ℕ) (s : Depot) (toks : List Token) (has : HasDepot n s toks) whe
     refused_first k h = rw (at_none none) (subst (λ m. IsToldWord (DepotRefuses m [] t) k) has.size h)
 
     -- the node is taken
-    pub has_node : IsReady t → (x : ℕ) → IsNumber 1 s.size t.bytes x → first_at t.line (all_tests (depot_tests s.size) [] t) ≡ None → HasDepot n (record { size = s.size; node = Some x }) (toks ++ t ∷ [])
+    pub has_node : IsReady t → (x : ℕ) → IsNumber 1 s.size t.bytes x →
+        first_at t.line (all_tests (depot_tests s.size) [] t) ≡ None →
+        HasDepot n (record { size = s.size; node = Some x }) (toks ++ t ∷ [])
     has_node ready x is fine =
         let empty = at_none none in
         rw empty (record {
           size = has.size;
           node = (t, refl, ap natural_or_zero is.is, is.above, subst (λ m. x ≤ m) has.size is.below);
-          good = no_stop_at (depot_tests n) [] t (has_none n).good ready (subst (λ m. first_at t.line (all_tests (depot_tests m) [] t) ≡ None) has.size fine);
+          good =
+              no_stop_at (depot_tests n) [] t (has_none n).good ready
+              (subst (λ m. first_at t.line (all_tests (depot_tests m) [] t) ≡ None) has.size fine);
         })
 
   module _ (x : ℕ) (some : s.node ≡ Some x) (t : Token) (r : Result Taken TextKind) where
     pub takes_behind : ((node : Token) → IfOk r (DepotTakes n s s (node ∷ []) t)) → IfOk r (DepotTakes n s s toks t)
     takes_behind h = let a = at_some x some in rw a.1 (h a.0)
 
-    pub refused_behind : ((node : Token) → IfErr r (IsToldWord (DepotRefuses n (node ∷ []) t))) → IfErr r (IsToldWord (DepotRefuses n toks t))
+    pub refused_behind : ((node : Token) → IfErr r (IsToldWord (DepotRefuses n (node ∷ []) t))) →
+        IfErr r (IsToldWord (DepotRefuses n toks t))
     refused_behind h = let a = at_some x some in rw a.1 (h a.0)
 
   pub no_node : s.node ≡ None → is_empty toks ≡ true

@@ -1,5 +1,6 @@
 -- How a section of a problem begins.
-use Rattle.std.proofs.Common.{◌≡◌, ◌≢◌, ℕ, ◌<◌, ◌≤◌, Bool, true, false, cond, ltb, List, [], ◌∷◌, length, Option, Some, None, is_some, refl, ap, subst, ◌∙◌, arith}
+use Rattle.std.proofs.Common.{◌≡◌, ◌≢◌, ℕ, ◌<◌, ◌≤◌, Bool, true, false, cond, ltb, List, [], ◌∷◌, length, Option, Some}
+use Rattle.std.proofs.Common.{None, is_some, refl, ap, subst, ◌∙◌, arith}
 use Rattle.std.specs.Prelude.{count_by, unwrap_or}
 use Rattle.std.proofs.lemmas.Bool.{le-ltb}
 use Rattle.tk_problem.specs.declared.limits.TheConstants.{CITY_LIMIT, TABLE_LIMIT}
@@ -24,7 +25,8 @@ use Rattle.tk_lines.specs.Forms.{IsToldWord}
 use Rattle.tk_problem_text.specs.Parts.{HasParts}
 use Rattle.tk_problem_text.specs.Sections.Weighing.{HasWeights}
 use Rattle.tk_problem.specs.WeightOrder.{order, is_of, times_written}
-use Rattle.tk_problem_text.specs.Problem.{size_of, weight_type, weight_format, is_explicit, listed_format, wanted, is_known_section, section_tests, word_tests}
+use Rattle.tk_problem_text.specs.Problem.{size_of, weight_type, weight_format, is_explicit, listed_format, wanted}
+use Rattle.tk_problem_text.specs.Problem.{is_known_section, section_tests, word_tests}
 use Rattle.tk_problem_text.specs.Sections.OpenSections.{HasSome, IsOpen}
 use Rattle.tk_problem_text.specs.Sections.BegunSections.{IsUntouched, IsReady, IsBegun}
 use Rattle.tk_problem_text.specs.Sections.BegunSections as Begun
@@ -36,17 +38,22 @@ use Rattle.tk_problem_text.proofs.KeptHeaders.{told_map}
 
 -- ---- explicit weights
 
-module _ (p : Parts) (before : List Piece) (has_parts : HasParts p before) (size : ℕ) (same : size_of before ≡ size) (small : size ≤ TABLE_LIMIT) where
-  pub ready_weights : (t : WeightType) (l : WeightFormat) (f : Format) (s : ExplicitWeights) → p.headers.weight_type ≡ Some t → p.headers.weight_format ≡ Some l
-      → Some f ≡ cond (is_explicit (Some t)) (listed_format (Some l)) None → HasWeights size f s [] → IsReady before words.EdgeWeightSection (sections.Explicit s)
+module _ (p : Parts) (before : List Piece) (has_parts : HasParts p before) (size : ℕ) (same : size_of before ≡ size)
+    (small : size ≤ TABLE_LIMIT) where
+  pub ready_weights : (t : WeightType) (l : WeightFormat) (f : Format) (s : ExplicitWeights)
+      → p.headers.weight_type ≡ Some t → p.headers.weight_format ≡ Some l
+      → Some f ≡ cond (is_explicit (Some t)) (listed_format (Some l)) None → HasWeights size f s [] →
+      IsReady before words.EdgeWeightSection (sections.Explicit s)
   ready_weights (Plane kind) l f s is_type is_format given has_weights = absurd cc
   ready_weights Explicit Function f s is_type is_format given has_weights = absurd cc
   ready_weights Explicit (Listed g) f s is_type is_format given has_weights =
       let of_type : weight_type before ≡ Some Explicit = has_parts.headers.weight_type.says ∙ is_type in
       let of_format : weight_format before ≡ Some (Listed g) = has_parts.headers.weight_format.says ∙ is_format in
       let typed : has words.EdgeWeightType before ≡ true = has_parts.headers.weight_type.came ∙ ap is_some is_type in
-      let formatted : has words.EdgeWeightFormat before ≡ true = has_parts.headers.weight_format.came ∙ ap is_some is_format in
-      let few : ltb TABLE_LIMIT (size_of before) ≡ false = le-ltb TABLE_LIMIT (size_of before) (omega (arith, same, small)) in
+      let formatted : has words.EdgeWeightFormat before ≡ true = has_parts.headers.weight_format.came
+      ∙ ap is_some is_format in
+      let few : ltb TABLE_LIMIT (size_of before) ≡ false =
+      le-ltb TABLE_LIMIT (size_of before) (omega (arith, same, small)) in
       let is : g ≡ f = cc in
       record {
         tests = λ n. rw (typed, formatted, of_type, of_format, few) refl;
@@ -76,27 +83,44 @@ written formats.UpperDiagCol = omega arith
 written formats.LowerDiagCol = omega arith
 
 some_weights : (f : Format) (n : ℕ) → 2 ≤ n → 0 < length (order f n)
-some_weights f n low = some_places (is_of 1 0) (order f n) (λ e. omega (arith, written f, pair-order f n 1 0 (omega arith) (omega (arith, low)), e))
+some_weights f n low =
+    some_places (is_of 1 0) (order f n)
+    (λ e. omega (arith, written f, pair-order f n 1 0 (omega arith) (omega (arith, low)), e))
 
-module _ (before : List Piece) (word : Keyword) (n : ℕ) (none : first_at n (word_tests before word) ≡ None) (low : 2 ≤ size_of before) where
-  some_tokens : (w : Keyword) → word ≡ w → same_word w words.DepotSection ≡ false → 0 < wanted before w → HasSome before word n []
+module _ (before : List Piece) (word : Keyword) (n : ℕ) (none : first_at n (word_tests before word) ≡ None)
+    (low : 2 ≤ size_of before) where
+  some_tokens : (w : Keyword) → word ≡ w → same_word w words.DepotSection ≡ false → 0 < wanted before w →
+      HasSome before word n []
   some_tokens w is other more = begins (problem_fixed before word n (rw is other) none) (rw is more)
 
   open_at : (s : OpenSection) → IsUntouched before word s → IsOpen before word n [] s
   open_at sections.Nothing u = u
   open_at (sections.Places s) u = (u.0, some_tokens words.NodeCoordSection u.0 refl (omega (arith, low)), u.1)
-  open_at (sections.Explicit s) u = (u.0, some_tokens words.EdgeWeightSection u.0 refl (rw u.2.1 (some_weights _ (size_of before) low)), u.1, u.2)
+  open_at (sections.Explicit s) u =
+      (u.0, some_tokens words.EdgeWeightSection u.0 refl (rw u.2.1 (some_weights _ (size_of before) low)), u.1, u.2)
   open_at (sections.Loads s) u = (u.0, some_tokens words.DemandSection u.0 refl (omega (arith, low)), u.1, u.2)
-  open_at (sections.Home s) u = (u.0, record { word = subst (λ w. first_at n (word_tests before w) ≡ None) u.0 none; few = omega arith; good = u.1.good }, u.1)
-  open_at (sections.Display left) u = (u.0, some_tokens words.DisplayDataSection u.0 refl (omega (arith, low)), omega (arith, u.1))
+  open_at (sections.Home s) u = (
+    u.0,
+    record {
+      word = subst (λ w. first_at n (word_tests before w) ≡ None) u.0 none;
+      few = omega arith;
+      good = u.1.good;
+    },
+    u.1,
+  )
+  open_at (sections.Display left) u =
+      (u.0, some_tokens words.DisplayDataSection u.0 refl (omega (arith, low)), omega (arith, u.1))
 
-module _ (p : Parts) (before : List Piece) (word : Keyword) (n : ℕ) (has_parts : HasParts p before) (fresh : Begun.came before word ≡ Some false)
-    (kind : ProblemType) (typed : p.headers.problem_type ≡ Some kind) (size : ℕ) (sized : p.headers.dimension ≡ Some size) where
+module _ (p : Parts) (before : List Piece) (word : Keyword) (n : ℕ) (has_parts : HasParts p before)
+    (fresh : Begun.came before word ≡ Some false)
+    (kind : ProblemType) (typed : p.headers.problem_type ≡ Some kind) (size : ℕ)
+    (sized : p.headers.dimension ≡ Some size) where
   pub size_is : size_of before ≡ size
   size_is = ap (λ (o : Option ℕ). unwrap_or o 0) (has_parts.headers.dimension.says ∙ sized)
 
   pub size_within : (2 ≤ size) × (size ≤ CITY_LIMIT)
-  size_within = number_in_limits 2 CITY_LIMIT size (value_of words.Dimension before) (has_parts.headers.dimension.says ∙ sized)
+  size_within =
+      number_in_limits 2 CITY_LIMIT size (value_of words.Dimension before) (has_parts.headers.dimension.says ∙ sized)
 
   pub known : is_known_section word ≡ true
   known = (of_came (is_known_section word) (has word before) fresh).0
@@ -122,5 +146,8 @@ module _ (p : Parts) (before : List Piece) (word : Keyword) (n : ℕ) (has_parts
         begun = open_at before word n none (omega (arith, size_is, size_within.0)) s ready.untouched;
       }
 
-  pub told_word : (k : TextKind) → IsToldWord (λ k. first_at n (section_tests before word) ≡ Some (Fault n k)) k → IsToldWord (λ k. first_at n (word_tests before word) ≡ Some (Fault n k)) k
-  told_word k = told_map (λ k. first_at n (section_tests before word) ≡ Some (Fault n k)) (λ k. first_at n (word_tests before word) ≡ Some (Fault n k)) k (λ h. word_passes ∙ h)
+  pub told_word : (k : TextKind) → IsToldWord (λ k. first_at n (section_tests before word) ≡ Some (Fault n k)) k →
+      IsToldWord (λ k. first_at n (word_tests before word) ≡ Some (Fault n k)) k
+  told_word k =
+      told_map (λ k. first_at n (section_tests before word) ≡ Some (Fault n k))
+      (λ k. first_at n (word_tests before word) ≡ Some (Fault n k)) k (λ h. word_passes ∙ h)

@@ -4,7 +4,8 @@ use Rattle.tk_problem.specs.declared.limits.TheConstants.{TABLE_LIMIT}
 use Rattle.tk_words.specs.declared.keyword.Keyword.{Keyword}
 use Rattle.tk_words.specs.declared.keyword.Keyword.TheVariants as words
 use Rattle.tk_problem_text.specs.declared.sections.open_section.OpenSection.{OpenSection}
-use Rattle.tk_problem_text.specs.declared.sections.open_section.OpenSection.TheVariants.{Nothing, Places, Explicit, Loads, Home, Display}
+use Rattle.tk_problem_text.specs.declared.sections.open_section.OpenSection.TheVariants.{Nothing, Places, Explicit}
+use Rattle.tk_problem_text.specs.declared.sections.open_section.OpenSection.TheVariants.{Loads, Home, Display}
 use Rattle.tk_lines.specs.Pieces.{Piece, first_at, has}
 use Rattle.tk_problem_text.specs.Problem.{size_of, format_in, is_known_section, section_tests, word_tests}
 use Rattle.tk_problem_text.specs.Sections.OpenSections.{IsListed, IsOpen}

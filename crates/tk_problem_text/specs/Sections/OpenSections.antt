@@ -4,7 +4,8 @@ use Rattle.tk_problem.specs.declared.limits.TheConstants.{TABLE_LIMIT}
 use Rattle.tk_words.specs.declared.keyword.Keyword.{Keyword}
 use Rattle.tk_words.specs.declared.keyword.Keyword.TheVariants as words
 use Rattle.tk_problem_text.specs.declared.sections.open_section.OpenSection.{OpenSection}
-use Rattle.tk_problem_text.specs.declared.sections.open_section.OpenSection.TheVariants.{Nothing, Places, Explicit, Loads, Home, Display}
+use Rattle.tk_problem_text.specs.declared.sections.open_section.OpenSection.TheVariants.{Nothing, Places, Explicit}
+use Rattle.tk_problem_text.specs.declared.sections.open_section.OpenSection.TheVariants.{Loads, Home, Display}
 use Rattle.tk_words.specs.Lex.{Token}
 use Rattle.tk_lines.specs.Pieces.{Piece, After, has, first_at}
 use Rattle.tk_lines.specs.Forms.{a_section}

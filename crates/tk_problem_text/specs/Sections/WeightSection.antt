@@ -1,5 +1,6 @@
 -- The section of explicit weights.
-use Rattle.std.specs.Prelude.{ℕ, suc, Bool, false, true, not, ◌&&◌, ◌==◌, nat_lt, List, ◌∷◌, [], length, map, is_none, slice_index_or}
+use Rattle.std.specs.Prelude.{ℕ, suc, Bool, false, true, not, ◌&&◌, ◌==◌, nat_lt, List, ◌∷◌, [], length, map, is_none}
+use Rattle.std.specs.Prelude.{slice_index_or}
 use Rattle.tk_problem.specs.declared.limits.TheConstants.{DISTANCE_LIMIT}
 use Rattle.tk_words.specs.declared.fault.TextKind.{TextKind}
 use Rattle.tk_words.specs.declared.fault.TextKind.TheVariants as kinds

@@ -7,7 +7,8 @@ ghost use Rattle.tk_problem_text.specs.Sections.BegunSections.{IsReady, IsBegun}
 ghost use Rattle.tk_lines.specs.Forms.{IsToldWord};
 ghost use Rattle.tk_problem_text.specs.Parts.{HasParts};
 ghost use Rattle.tk_lines.specs.Pieces.{Piece, first_at, Fault};
-ghost use Rattle.tk_problem_text.specs.Problem.{size_of, is_known_section, is_explicit, listed_format, section_tests, word_tests, problem_type as problem_type_in};
+ghost use Rattle.tk_problem_text.specs.Problem.{size_of, is_known_section, is_explicit, listed_format, section_tests};
+ghost use Rattle.tk_problem_text.specs.Problem.{word_tests, problem_type as problem_type_in};
 
 use crate::header_values::{ProblemType, WeightFormat, WeightType};
 use crate::parts::Parts;

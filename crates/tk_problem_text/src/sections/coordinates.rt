@@ -1,5 +1,6 @@
 //! The coordinates of a problem, token by token.
-ghost use Rattle.std.specs.Prelude.{◌≡◌, ◌+◌, ◌*◌, ◌<◌, ◌≤◌, ℕ, List, [], ◌∷◌, ◌++◌, length, None, Some, IfOk, IfErr, OnErr};
+ghost use Rattle.std.specs.Prelude.{◌≡◌, ◌+◌, ◌*◌, ◌<◌, ◌≤◌, ℕ, List, [], ◌∷◌, ◌++◌, length, None, Some, IfOk, IfErr};
+ghost use Rattle.std.specs.Prelude.{OnErr};
 ghost use Rattle.tk_problem_text.specs.Sections.FixedSections.{fixed_taken};
 ghost use Rattle.tk_lines.specs.Forms.{whole, IsToldWord};
 ghost use Rattle.tk_words.specs.Lex.{Token};

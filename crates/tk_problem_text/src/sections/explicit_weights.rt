@@ -1,5 +1,6 @@
 //! The explicit weights of a problem, token by token.
-ghost use Rattle.std.specs.Prelude.{◌≡◌, ◌≢◌, ◌<◌, ◌≤◌, ℕ, suc, List, [], ◌∷◌, ◌++◌, length, None, Some, pos, slice_get, nat_lt, ◌&&◌, IfOk, IfErr, IfSome, OnErr};
+ghost use Rattle.std.specs.Prelude.{◌≡◌, ◌≢◌, ◌<◌, ◌≤◌, ℕ, suc, List, [], ◌∷◌, ◌++◌, length, None, Some, pos};
+ghost use Rattle.std.specs.Prelude.{slice_get, nat_lt, ◌&&◌, IfOk, IfErr, IfSome, OnErr};
 ghost use Rattle.tk_problem.specs.declared.limits.TheConstants.{DISTANCE_LIMIT, TABLE_LIMIT};
 ghost use Rattle.tk_problem.specs.declared.weights.Format.{Format};
 ghost use Rattle.tk_problem.specs.declared.weights.Weights.TheVariants as weights;
@@ -9,7 +10,8 @@ ghost use Rattle.tk_words.specs.Lex.{Token, integer};
 ghost use Rattle.tk_lines.specs.Pieces.{first_at, Fault};
 ghost use Rattle.tk_problem.specs.Shape.{WeightsFit};
 ghost use Rattle.tk_problem.specs.WeightOrder.{weight_of, entries};
-ghost use Rattle.tk_problem_text.specs.Sections.WeightSection.{is_full, weight_count, weight_tests, weights_in, lower_weights};
+ghost use Rattle.tk_problem_text.specs.Sections.WeightSection.{is_full, weight_count, weight_tests, weights_in};
+ghost use Rattle.tk_problem_text.specs.Sections.WeightSection.{lower_weights};
 
 use std::alloc::Global;
 use tk_lines::Taken;

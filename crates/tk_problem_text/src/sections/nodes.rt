@@ -1,5 +1,6 @@
 //! The nodes that a section names, each once.
-ghost use Rattle.std.specs.Prelude.{◌≡◌, ◌<◌, ◌==◌, ℕ, suc, pos, List, [], None, Some, IfOk, OnErr, IfErr, MatchResult, length};
+ghost use Rattle.std.specs.Prelude.{◌≡◌, ◌<◌, ◌==◌, ℕ, suc, pos, List, [], None, Some, IfOk, OnErr, IfErr, MatchResult};
+ghost use Rattle.std.specs.Prelude.{length};
 ghost use Rattle.tk_lines.specs.Forms.{whole};
 ghost use Rattle.tk_words.specs.Lex as Lex;
 ghost use Rattle.tk_problem_text.specs.Sections.Nodes.{HasNamed, HasNext};

@@ -1,5 +1,6 @@
 //! The section of a problem whose tokens come.
-ghost use Rattle.std.specs.Prelude.{◌≡◌, ◌≤◌, ◌-◌, ◌==◌, ◌++◌, ℕ, true, false, List, length, Some, None, if◌then◌else◌, IfOk, IfErr, OnErr};
+ghost use Rattle.std.specs.Prelude.{◌≡◌, ◌≤◌, ◌-◌, ◌==◌, ◌++◌, ℕ, true, false, List, length, Some, None, if◌then◌else◌};
+ghost use Rattle.std.specs.Prelude.{IfOk, IfErr, OnErr};
 ghost use Rattle.tk_words.specs.declared.keyword.Keyword.{Keyword};
 ghost use Rattle.tk_lines.specs.Forms.{whole, IsToldWord, HasTaken, StopsAt};
 ghost use Rattle.tk_words.specs.Lex.{Token};

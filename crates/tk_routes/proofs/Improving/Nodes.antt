@@ -33,28 +33,42 @@ not_later : (depot x : ℕ) (xs : List ℕ) → occurrences depot (x ∷ xs) ≡
 not_later depot x xs none = omega (arith, none, occurrences-append depot (x ∷ []) xs)
 
 -- nodes that were numbered as customers are found again
-pub nodes_again : (depot : ℕ) (xs : List ℕ) → occurrences depot xs ≡ 0 → map (node_of depot) (map (customer_of depot) xs) ≡ xs
+pub nodes_again : (depot : ℕ) (xs : List ℕ) → occurrences depot xs ≡ 0 →
+    map (node_of depot) (map (customer_of depot) xs) ≡ xs
 nodes_again depot [] none = refl
 nodes_again depot (x ∷ xs) none =
-    ap (λ v. v ∷ map (node_of depot) (map (customer_of depot) xs)) (node_of-customer_of depot x (not_here depot x xs none)) ∙ ap (λ v. x ∷ v) (nodes_again depot xs (not_later depot x xs none))
+    ap (λ v. v ∷ map (node_of depot) (map (customer_of depot) xs))
+    (node_of-customer_of depot x (not_here depot x xs none))
+    ∙ ap (λ v. x ∷ v) (nodes_again depot xs (not_later depot x xs none))
 
-pub all_nodes_again : (depot : ℕ) (xss : List (List ℕ)) → occurrences depot (concat xss) ≡ 0 → map (map (node_of depot)) (map (map (customer_of depot)) xss) ≡ xss
+pub all_nodes_again : (depot : ℕ) (xss : List (List ℕ)) → occurrences depot (concat xss) ≡ 0 →
+    map (map (node_of depot)) (map (map (customer_of depot)) xss) ≡ xss
 all_nodes_again depot [] none = refl
 all_nodes_again depot (xs ∷ xss) none =
     let parts = occurrences-append depot xs (concat xss) in
     let front : occurrences depot xs ≡ 0 = omega (arith, none, parts) in
     let back : occurrences depot (concat xss) ≡ 0 = omega (arith, none, parts) in
-    ap (λ v. v ∷ map (map (node_of depot)) (map (map (customer_of depot)) xss)) (nodes_again depot xs front) ∙ ap (λ v. xs ∷ v) (all_nodes_again depot xss back)
+    ap (λ v. v ∷ map (map (node_of depot)) (map (map (customer_of depot)) xss)) (nodes_again depot xs front)
+    ∙ ap (λ v. xs ∷ v) (all_nodes_again depot xss back)
 
 -- the demands of the customers are the loads of the nodes
-pub load-customers : (i : Instance) (xs : List ℕ) → occurrences i.depot xs ≡ 0 → sum_by (demand_of i) (map (customer_of i.depot) xs) ≡ sum_by (load_of i.demands) xs
+pub load-customers : (i : Instance) (xs : List ℕ) → occurrences i.depot xs ≡ 0 →
+    sum_by (demand_of i) (map (customer_of i.depot) xs) ≡ sum_by (load_of i.demands) xs
 load-customers i [] none = refl
 load-customers i (x ∷ xs) none =
-    let same : demand_of i (customer_of i.depot x) ≡ load_of i.demands x = ap (load_of i.demands) (node_of-customer_of i.depot x (not_here i.depot x xs none)) in
-    omega (arith, same, sum_by-cons (demand_of i) (customer_of i.depot x) (map (customer_of i.depot) xs), sum_by-cons (load_of i.demands) x xs, load-customers i xs (not_later i.depot x xs none))
+    let same : demand_of i (customer_of i.depot x) ≡ load_of i.demands x =
+    ap (load_of i.demands) (node_of-customer_of i.depot x (not_here i.depot x xs none)) in
+    omega (
+      arith,
+      same,
+      sum_by-cons (demand_of i) (customer_of i.depot x) (map (customer_of i.depot) xs),
+      sum_by-cons (load_of i.demands) x xs,
+      load-customers i xs (not_later i.depot x xs none),
+    )
 
 -- a customer stands as often as its node stood
-pub occurrences-customers : (depot c : ℕ) (xs : List ℕ) → occurrences depot xs ≡ 0 → occurrences c (map (customer_of depot) xs) ≡ occurrences (node_of depot c) xs
+pub occurrences-customers : (depot c : ℕ) (xs : List ℕ) → occurrences depot xs ≡ 0 →
+    occurrences c (map (customer_of depot) xs) ≡ occurrences (node_of depot c) xs
 occurrences-customers depot c [] none = omega (arith, occurrences-nil c, occurrences-nil (node_of depot c))
 occurrences-customers depot c (x ∷ xs) none =
     let rest = occurrences-customers depot c xs (not_later depot x xs none) in
@@ -62,10 +76,20 @@ occurrences-customers depot c (x ∷ xs) none =
     ⊎_elim
     (λ e.
     let here : c ≡ customer_of depot x = sym (customer_of-node_of depot c) ∙ ap (customer_of depot) e in
-    omega (arith, rest, occurrences-same (node_of depot c) x xs e, occurrences-same c (customer_of depot x) (map (customer_of depot) xs) here))
+    omega (
+      arith,
+      rest,
+      occurrences-same (node_of depot c) x xs e,
+      occurrences-same c (customer_of depot x) (map (customer_of depot) xs) here,
+    ))
     (λ ne.
     let other : c ≢ customer_of depot x = λ here. ne (ap (node_of depot) here ∙ node_of-customer_of depot x apart) in
-    omega (arith, rest, occurrences-other (node_of depot c) x xs ne, occurrences-other c (customer_of depot x) (map (customer_of depot) xs) other))
+    omega (
+      arith,
+      rest,
+      occurrences-other (node_of depot c) x xs ne,
+      occurrences-other c (customer_of depot x) (map (customer_of depot) xs) other,
+    ))
     (cases_eq (node_of depot c) x)
 
 pub concat-map : (f : ℕ → ℕ) (xss : List (List ℕ)) → concat (map (map f) xss) ≡ map f (concat xss)
@@ -73,15 +97,22 @@ concat-map f [] = refl
 concat-map f (xs ∷ xss) = ap (λ v. map f xs ++ v) (concat-map f xss) ∙ sym (map-append f xs (concat xss))
 
 -- after the depot, each other node stands once: so does each customer
-pub IsTour-customers : (n depot : ℕ) (xs : List ℕ) → IsCity n depot → IsTour n (depot ∷ xs) → IsTour (n - 1) (map (customer_of depot) xs) × (occurrences depot xs ≡ 0)
+pub IsTour-customers : (n depot : ℕ) (xs : List ℕ) → IsCity n depot → IsTour n (depot ∷ xs) →
+    IsTour (n - 1) (map (customer_of depot) xs) × (occurrences depot xs ≡ 0)
 IsTour-customers n depot xs city tour =
-    let none : occurrences depot xs ≡ 0 = omega (arith, tour.1 depot city.0 city.1, occurrences-same depot depot xs refl) in (
+    let none : occurrences depot xs ≡ 0 =
+    omega (arith, tour.1 depot city.0 city.1, occurrences-same depot depot xs refl) in (
       (
         omega (arith, tour.0, length-map xs (customer_of depot)),
         λ c low high.
             let node = node_of-city n depot c (low, high) in
             let once : occurrences (node_of depot c) (depot ∷ xs) ≡ 1 = tour.1 (node_of depot c) node.0 node.1 in
-            omega (arith, once, occurrences-customers depot c xs none, occurrences-other (node_of depot c) depot xs (node_of-other depot c)),
+            omega (
+              arith,
+              once,
+              occurrences-customers depot c xs none,
+              occurrences-other (node_of depot c) depot xs (node_of-other depot c),
+            ),
       ),
       none,
     )

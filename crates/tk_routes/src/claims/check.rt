@@ -6,7 +6,8 @@ ghost use Rattle.tk_routes.specs.Cvrps.{instance_of};
 ghost use Rattle.tk_routes.specs.Instance.{customer_count};
 ghost use Rattle.tk_routes.specs.Routes.{IsLight, routes_cost};
 ghost use Rattle.tk_routes.specs.Serving.{AreServed, IsLowestFree};
-ghost use Rattle.tk_routes.specs.RouteVerdicts.{AreServedOnce, IsCustomerFault, IsFirstOverIn, IsRouteVerdict, filled_of};
+ghost use Rattle.tk_routes.specs.RouteVerdicts.{AreServedOnce, IsCustomerFault, IsFirstOverIn, IsRouteVerdict};
+ghost use Rattle.tk_routes.specs.RouteVerdicts.{filled_of};
 
 use crate::claims::verdict::RouteVerdict;
 use crate::cvrp::Cvrp;

@@ -1,7 +1,9 @@
 -- The four parts of a list of cities at cuts, by their ends.
-use Rattle.std.proofs.Common.{◌≡◌, ℕ, ◌+◌, ◌-◌, ◌<◌, ◌≤◌, inl, List, [], ◌++◌, length, map, get_or, take, drop, refl, sym, ap, ◌∙◌, subst, arith}
+use Rattle.std.proofs.Common.{◌≡◌, ℕ, ◌+◌, ◌-◌, ◌<◌, ◌≤◌, inl, List, [], ◌++◌, length, map, get_or, take, drop, refl}
+use Rattle.std.proofs.Common.{sym, ap, ◌∙◌, subst, arith}
 use Rattle.std.proofs.Math.Seq.{take-length}
-use Rattle.std.proofs.lemmas.List.{append-nil, get_or-drop, get_or-take, length-drop, length-take-le, take-take, take-append-drop}
+use Rattle.std.proofs.lemmas.List.{append-nil, get_or-drop, get_or-take, length-drop, length-take-le, take-take}
+use Rattle.std.proofs.lemmas.List.{take-append-drop}
 use Rattle.tk_distance.specs.Cities.{city_at}
 use Rattle.tk_tour.specs.Moves.{CutInFour, IsBridged}
 use Rattle.tk_tour.specs.Tour.{IsPath, SameCycle, tour_length}
@@ -11,12 +13,16 @@ use Rattle.tk_search.specs.declared.double_bridges.cuts.Cuts.{Cuts}
 use Rattle.tk_search.proofs.DoubleBridge.BridgeLength.{exchanged}
 
 -- the places from i to below j are a path
-path : (xs : List ℕ) (i j from to : ℕ) → i < j → j ≤ length xs → get_or xs i 0 ≡ from → get_or xs (j - 1) 0 ≡ to → IsPath from (drop i (take j xs)) to
+path : (xs : List ℕ) (i j from to : ℕ) → i < j → j ≤ length xs → get_or xs i 0 ≡ from → get_or xs (j - 1) 0 ≡ to →
+    IsPath from (drop i (take j xs)) to
 path xs i j from to lt le ef et =
-    let l : length (drop i (take j xs)) ≡ j - i = length-drop i (take j xs) ∙ ap (λ v. v - i) (length-take-le j xs le) in
+    let l : length (drop i (take j xs)) ≡ j - i = length-drop i (take j xs)
+    ∙ ap (λ v. v - i) (length-take-le j xs le) in
     IsPath-from_ends from to (drop i (take j xs)) (omega (arith, l))
-    (get_or-drop i (take j xs) 0 0 ∙ get_or-take j xs (i + 0) 0 (omega arith) ∙ ap (λ v. get_or xs v 0) (omega arith) ∙ ef)
-    (ap (λ v. get_or (drop i (take j xs)) (v - 1) 0) l ∙ get_or-drop i (take j xs) (j - i - 1) 0 ∙ get_or-take j xs (i + (j - i - 1)) 0 (omega arith) ∙
+    (get_or-drop i (take j xs) 0 0 ∙ get_or-take j xs (i + 0) 0 (omega arith)
+    ∙ ap (λ v. get_or xs v 0) (omega arith) ∙ ef)
+    (ap (λ v. get_or (drop i (take j xs)) (v - 1) 0) l ∙ get_or-drop i (take j xs) (j - i - 1) 0
+    ∙ get_or-take j xs (i + (j - i - 1)) 0 (omega arith) ∙
     ap (λ v. get_or xs v 0) (omega arith) ∙ et)
 
 -- what stands before the place i, and from there to below j
@@ -24,7 +30,8 @@ joined : (xs : List ℕ) (i j : ℕ) → i ≤ j → take i xs ++ drop i (take j
 joined xs i j le = ap (λ v. v ++ drop i (take j xs)) (sym (take-take i j xs le)) ∙ take-append-drop i (take j xs)
 
 -- the parts make up the list
-pub parts_join : (xs : List ℕ) (cuts : Cuts) → AreCuts (length xs) cuts → part_a cuts xs ++ part_b cuts xs ++ part_c cuts xs ++ part_d cuts xs ≡ xs
+pub parts_join : (xs : List ℕ) (cuts : Cuts) → AreCuts (length xs) cuts → part_a cuts xs ++ part_b cuts xs
+    ++ part_c cuts xs ++ part_d cuts xs ≡ xs
 parts_join xs cuts are =
     ap (λ v. v ++ part_c cuts xs ++ part_d cuts xs) (joined xs cuts.p cuts.q (omega (arith, are.second))) ∙
     ap (λ v. v ++ part_d cuts xs) (joined xs cuts.q cuts.r (omega (arith, are.third))) ∙
@@ -32,7 +39,9 @@ parts_join xs cuts are =
 
 -- the list is cut in four at the ends of its parts
 cut : (xs : List ℕ) (cuts : Cuts) → AreCuts (length xs) cuts →
-    CutInFour xs (get_or xs 0 0) (get_or xs (cuts.p - 1) 0) (get_or xs (cuts.p + 1 - 1) 0) (get_or xs (cuts.q - 1) 0) (get_or xs (cuts.q + 1 - 1) 0) (get_or xs (cuts.r - 1) 0) (get_or xs (cuts.r + 1 - 1) 0) (get_or xs (length xs - 1) 0)
+    CutInFour xs (get_or xs 0 0) (get_or xs (cuts.p - 1) 0) (get_or xs (cuts.p + 1 - 1) 0) (get_or xs (cuts.q - 1) 0)
+    (get_or xs (cuts.q + 1 - 1) 0) (get_or xs (cuts.r - 1) 0) (get_or xs (cuts.r + 1 - 1) 0)
+    (get_or xs (length xs - 1) 0)
 cut xs cuts are =
     let n : ℕ = length xs in
     let next : (k : ℕ) → get_or xs k 0 ≡ get_or xs (k + 1 - 1) 0 = λ k. ap (λ v. get_or xs v 0) (omega arith) in
@@ -58,30 +67,40 @@ pub record SizedCut (xs : List ℕ) (a1 an b1 bn c1 cn d1 dn : ℕ) (cuts : Cuts
   pub d : length cut.d ≡ length xs - cuts.r
 
 sized : (xs : List ℕ) (cuts : Cuts) → AreCuts (length xs) cuts →
-    SizedCut xs (get_or xs 0 0) (get_or xs (cuts.p - 1) 0) (get_or xs (cuts.p + 1 - 1) 0) (get_or xs (cuts.q - 1) 0) (get_or xs (cuts.q + 1 - 1) 0) (get_or xs (cuts.r - 1) 0) (get_or xs (cuts.r + 1 - 1) 0) (get_or xs (length xs - 1) 0) cuts
+    SizedCut xs (get_or xs 0 0) (get_or xs (cuts.p - 1) 0) (get_or xs (cuts.p + 1 - 1) 0) (get_or xs (cuts.q - 1) 0)
+    (get_or xs (cuts.q + 1 - 1) 0) (get_or xs (cuts.r - 1) 0) (get_or xs (cuts.r + 1 - 1) 0)
+    (get_or xs (length xs - 1) 0) cuts
 unfolding cut
 sized xs cuts are = record {
   cut = cut xs cuts are;
   a = length-take-le cuts.p xs (omega (arith, are.second, are.third, are.last));
-  b = length-drop cuts.p (take cuts.q xs) ∙ ap (λ v. v - cuts.p) (length-take-le cuts.q xs (omega (arith, are.third, are.last)));
+  b = length-drop cuts.p (take cuts.q xs)
+      ∙ ap (λ v. v - cuts.p) (length-take-le cuts.q xs (omega (arith, are.third, are.last)));
   c = length-drop cuts.q (take cuts.r xs) ∙ ap (λ v. v - cuts.q) (length-take-le cuts.r xs (omega (arith, are.last)));
   d = length-drop cuts.r xs;
 }
 
-module _ (xs e : List ℕ) (cuts : Cuts) (are : AreCuts (length xs) cuts) (ends : e ≡ map (city_at xs) (end_places (length xs) cuts)) where
-  pub cut_at_ends : SizedCut xs (get_or e 0 0) (get_or e 1 0) (get_or e 2 0) (get_or e 3 0) (get_or e 4 0) (get_or e 5 0) (get_or e 6 0) (get_or e 7 0) cuts
+module _ (xs e : List ℕ) (cuts : Cuts) (are : AreCuts (length xs) cuts)
+    (ends : e ≡ map (city_at xs) (end_places (length xs) cuts)) where
+  pub cut_at_ends : SizedCut xs (get_or e 0 0) (get_or e 1 0) (get_or e 2 0) (get_or e 3 0) (get_or e 4 0)
+      (get_or e 5 0) (get_or e 6 0) (get_or e 7 0) cuts
   cut_at_ends =
-      let P : List ℕ → Type 0 = λ v. SizedCut xs (get_or v 0 0) (get_or v 1 0) (get_or v 2 0) (get_or v 3 0) (get_or v 4 0) (get_or v 5 0) (get_or v 6 0) (get_or v 7 0) cuts in
+      let P : List ℕ → Type 0 = λ v. SizedCut xs (get_or v 0 0) (get_or v 1 0) (get_or v 2 0) (get_or v 3 0)
+      (get_or v 4 0) (get_or v 5 0) (get_or v 6 0) (get_or v 7 0) cuts in
       subst P (sym ends) (sized xs cuts are)
 
-  pub bridged_at_ends : (ys : List ℕ) → IsBridged xs ys (get_or e 0 0) (get_or e 1 0) (get_or e 2 0) (get_or e 3 0) (get_or e 4 0) (get_or e 5 0) (get_or e 6 0) (get_or e 7 0) → SameCycle ys (bridged cuts xs)
+  pub bridged_at_ends : (ys : List ℕ) →
+      IsBridged xs ys (get_or e 0 0) (get_or e 1 0) (get_or e 2 0) (get_or e 3 0) (get_or e 4 0) (get_or e 5 0)
+      (get_or e 6 0) (get_or e 7 0) → SameCycle ys (bridged cuts xs)
   unfolding cut
   bridged_at_ends ys h =
-      let P : List ℕ → Type 0 = λ v. IsBridged xs ys (get_or v 0 0) (get_or v 1 0) (get_or v 2 0) (get_or v 3 0) (get_or v 4 0) (get_or v 5 0) (get_or v 6 0) (get_or v 7 0) in
+      let P : List ℕ → Type 0 = λ v. IsBridged xs ys (get_or v 0 0) (get_or v 1 0) (get_or v 2 0) (get_or v 3 0)
+      (get_or v 4 0) (get_or v 5 0) (get_or v 6 0) (get_or v 7 0) in
       subst P ends h (cut xs cuts are)
 
   -- the lengths before and after, by the steps at the ends of the parts
-  pub length_at_ends : (d : ℕ → ℕ → ℕ) → ((a b : ℕ) → d a b ≡ d b a) → (ys : List ℕ) → SameCycle ys (bridged cuts xs) → tour_length d ys + steps_out d e ≡ tour_length d xs + steps_in d e
+  pub length_at_ends : (d : ℕ → ℕ → ℕ) → ((a b : ℕ) → d a b ≡ d b a) → (ys : List ℕ) → SameCycle ys (bridged cuts xs) →
+      tour_length d ys + steps_out d e ≡ tour_length d xs + steps_in d e
   unfolding cut
   length_at_ends d s ys h =
       let P : List ℕ → Type 0 = λ v. tour_length d ys + steps_out d v ≡ tour_length d xs + steps_in d v in

@@ -1,5 +1,6 @@
 -- The bounds on the work of a search, after one more trial.
-use Rattle.std.proofs.Common.{◌≡◌, ℕ, zero, suc, ◌+◌, ◌-◌, ◌*◌, ◌/◌, ◌^◌, ◌<◌, ◌≤◌, ⊎_elim, Bool, true, false, refl, ap, ◌∙◌, arith, pos, ◌≤ℤ◌}
+use Rattle.std.proofs.Common.{◌≡◌, ℕ, zero, suc, ◌+◌, ◌-◌, ◌*◌, ◌/◌, ◌^◌, ◌<◌, ◌≤◌, ⊎_elim, Bool, true, false, refl, ap}
+use Rattle.std.proofs.Common.{◌∙◌, arith, pos, ◌≤ℤ◌}
 use Rattle.std.specs.Prelude.{if◌then◌else◌}
 use Rattle.std.proofs.Math.Nat.{mul-le-mul_left}
 use Rattle.std.proofs.lemmas.Bool.{cases_lt}
@@ -36,27 +37,52 @@ more c A B C X x h k le =
 
 module _ (n width shortest shorter flips swaps : ℕ) (rules : SearchRules) (old new : Totals) (report : TrialReport)
     (adds : AddsTrial old new report (gain_of report)) (bound : IsBounded n width rules shortest old) where
-  pub tests_first : old.tests ≡ 0 → report.descent.tests ≤ 4 * rules.or_segment * width * (n + 6 * report.descent.moves) →
+  pub tests_first : old.tests ≡ 0 →
+      report.descent.tests ≤ 4 * rules.or_segment * width * (n + 6 * report.descent.moves) →
       new.tests ≤ 4 * rules.or_segment * width * (n + 8 * (new.trials - 1) + 6 * new.moves)
   tests_first none h =
       let b : old.tests ≤ 4 * rules.or_segment * width * 0 = omega arith in
-      let le : capped (0 + (n + 6 * report.descent.moves)) ≤ n + 8 * (new.trials - 1) + 6 * new.moves = omega (arith, adds.trials, adds.moves) in
-      omega (arith, adds.tests, more (4 * rules.or_segment * width) 0 (n + 6 * report.descent.moves) (n + 8 * (new.trials - 1) + 6 * new.moves) old.tests report.descent.tests b h le)
+      let le : capped (0 + (n + 6 * report.descent.moves)) ≤ n + 8 * (new.trials - 1) + 6 * new.moves =
+      omega (arith, adds.trials, adds.moves) in
+      omega (
+        arith,
+        adds.tests,
+        more (4 * rules.or_segment * width) 0 (n + 6 * report.descent.moves)
+            (n + 8 * (new.trials - 1) + 6 * new.moves) old.tests report.descent.tests b h le,
+      )
 
-  pub tests_kicked : 1 ≤ old.trials → old.tests ≤ 4 * rules.or_segment * width * (n + 8 * (old.trials - 1) + 6 * old.moves) → report.descent.tests ≤ 4 * rules.or_segment * width * (8 + 6 * report.descent.moves) →
+  pub tests_kicked : 1 ≤ old.trials →
+      old.tests ≤ 4 * rules.or_segment * width * (n + 8 * (old.trials - 1) + 6 * old.moves) →
+      report.descent.tests ≤ 4 * rules.or_segment * width * (8 + 6 * report.descent.moves) →
       new.tests ≤ 4 * rules.or_segment * width * (n + 8 * (new.trials - 1) + 6 * new.moves)
   tests_kicked begun b h =
-      let le : capped (n + 8 * (old.trials - 1) + 6 * old.moves + (8 + 6 * report.descent.moves)) ≤ n + 8 * (new.trials - 1) + 6 * new.moves = omega (arith, adds.trials, adds.moves) in
-      omega (arith, adds.tests, more (4 * rules.or_segment * width) (n + 8 * (old.trials - 1) + 6 * old.moves) (8 + 6 * report.descent.moves) (n + 8 * (new.trials - 1) + 6 * new.moves) old.tests report.descent.tests b h le)
+      let le : capped (n + 8 * (old.trials - 1) + 6 * old.moves + (8 + 6 * report.descent.moves)) ≤ n + 8 *
+      (new.trials - 1) + 6 * new.moves = omega (arith, adds.trials, adds.moves) in
+      omega (
+        arith,
+        adds.tests,
+        more (4 * rules.or_segment * width) (n + 8 * (old.trials - 1) + 6 * old.moves)
+            (8 + 6 * report.descent.moves) (n + 8 * (new.trials - 1) + 6 * new.moves) old.tests
+            report.descent.tests b h le,
+      )
 
-  pub tests_swept : old.tests ≤ 4 * rules.or_segment * width * (n * old.passes + 6 * old.moves) → report.descent.tests ≤ 4 * rules.or_segment * width * (n * report.passes + 6 * report.descent.moves) →
+  pub tests_swept : old.tests ≤ 4 * rules.or_segment * width * (n * old.passes + 6 * old.moves) →
+      report.descent.tests ≤ 4 * rules.or_segment * width * (n * report.passes + 6 * report.descent.moves) →
       new.tests ≤ 4 * rules.or_segment * width * (n * new.passes + 6 * new.moves)
   tests_swept b h =
       let e : n * new.passes ≡ n * capped (old.passes + report.passes) = ap (λ v. n * v) adds.passes in
-      let le : capped (n * old.passes + 6 * old.moves + (n * report.passes + 6 * report.descent.moves)) ≤ n * new.passes + 6 * new.moves = omega (arith, e, capped_mul n (old.passes + report.passes), adds.moves) in
-      omega (arith, adds.tests, more (4 * rules.or_segment * width) (n * old.passes + 6 * old.moves) (n * report.passes + 6 * report.descent.moves) (n * new.passes + 6 * new.moves) old.tests report.descent.tests b h le)
+      let le : capped (n * old.passes + 6 * old.moves + (n * report.passes + 6 * report.descent.moves)) ≤ n *
+      new.passes + 6 * new.moves = omega (arith, e, capped_mul n (old.passes + report.passes), adds.moves) in
+      omega (
+        arith,
+        adds.tests,
+        more (4 * rules.or_segment * width) (n * old.passes + 6 * old.moves)
+            (n * report.passes + 6 * report.descent.moves) (n * new.passes + 6 * new.moves) old.tests
+            report.descent.tests b h le,
+      )
 
-  pub swaps_more : new.swaps < 2 ^ 64 → report.descent.swaps ≤ 3 * (n / 4) * report.descent.moves → new.swaps ≤ old.swaps + n + report.descent.swaps →
+  pub swaps_more : new.swaps < 2 ^ 64 → report.descent.swaps ≤ 3 * (n / 4) * report.descent.moves →
+      new.swaps ≤ old.swaps + n + report.descent.swaps →
       new.swaps ≤ 3 * (n / 4) * new.moves + n * new.trials
   swaps_more small h k =
       let q : ℕ = 3 * (n / 4) in
@@ -70,7 +96,8 @@ module _ (n width shortest shorter flips swaps : ℕ) (rules : SearchRules) (old
       let s : report.descent.swaps ≤ q * report.descent.moves = h in
       omega arith
 
-  pub copied_more : SettlesTrial n flips swaps old new report → flips ≤ 4 + 3 * report.descent.moves → new.copied ≤ n * new.better + 3 * (new.moves + new.trials)
+  pub copied_more : SettlesTrial n flips swaps old new report → flips ≤ 4 + 3 * report.descent.moves →
+      new.copied ≤ n * new.better + 3 * (new.moves + new.trials)
   copied_more k few = by report.better refl
     where
       small : new.copied < 2 ^ 65
@@ -89,13 +116,15 @@ module _ (n width shortest shorter flips swaps : ℕ) (rules : SearchRules) (old
       by : (b : Bool) → report.better ≡ b → new.copied ≤ n * new.better + 3 * (new.moves + new.trials)
       by true e =
           let to : new.copied ≤ old.copied + n = (k.taken e).1.most in
-          let one : new.better ≡ capped (old.better + 1) = adds.better ∙ ap (λ v. capped (old.better + (if v then 1 else 0))) e in
+          let one : new.better ≡ capped (old.better + 1) = adds.better
+          ∙ ap (λ v. capped (old.better + (if v then 1 else 0))) e in
           let eb : n * new.better ≡ n * capped (old.better + 1) = ap (λ v. n * v) one in
           let cb = capped_mul n (old.better + 1) in
           let d : n * (old.better + 1) ≡ n * old.better + n = omega arith in
           omega (arith, small, b, to, eb, cb, d, adds.moves, adds.trials)
       by false e =
-          let none : new.better ≡ capped (old.better + 0) = adds.better ∙ ap (λ v. capped (old.better + (if v then 1 else 0))) e in
+          let none : new.better ≡ capped (old.better + 0) = adds.better
+          ∙ ap (λ v. capped (old.better + (if v then 1 else 0))) e in
           let eb : n * new.better ≡ n * capped (old.better + 0) = ap (λ v. n * v) none in
           let cb = capped_mul n (old.better + 0) in
           let d : n * (old.better + 0) ≡ n * old.better = omega arith in
@@ -104,23 +133,28 @@ module _ (n width shortest shorter flips swaps : ℕ) (rules : SearchRules) (old
   pub moves_more : report.descent.moves ≤ gain_of report → new.moves ≤ new.gained
   moves_more h = omega (arith, adds.moves, adds.gained, bound.moves)
 
-  pub better_more : (report.better ≡ true → shorter < shortest) → (report.better ≡ false → shorter ≡ shortest) → pos (shorter + new.better) ≤ℤ new.start
+  pub better_more : (report.better ≡ true → shorter < shortest) → (report.better ≡ false → shorter ≡ shortest) →
+      pos (shorter + new.better) ≤ℤ new.start
   better_more less same = by report.better refl
     where
       by : (b : Bool) → report.better ≡ b → pos (shorter + new.better) ≤ℤ new.start
       by true e =
           let k = less e in
-          let one : new.better ≡ capped (old.better + 1) = adds.better ∙ ap (λ v. capped (old.better + (if v then 1 else 0))) e in
+          let one : new.better ≡ capped (old.better + 1) = adds.better
+          ∙ ap (λ v. capped (old.better + (if v then 1 else 0))) e in
           omega (arith, ints, bound.better, adds.start)
       by false e =
           let k = same e in
-          let none : new.better ≡ capped (old.better + 0) = adds.better ∙ ap (λ v. capped (old.better + (if v then 1 else 0))) e in
+          let none : new.better ≡ capped (old.better + 0) = adds.better
+          ∙ ap (λ v. capped (old.better + (if v then 1 else 0))) e in
           omega (arith, ints, bound.better, adds.start)
 
   -- all bounds after one more trial
-  pub bounded_more : {awake : ℕ} → SettlesTrial n flips swaps old new report → flips ≤ 4 + 3 * report.descent.moves → new.swaps ≤ old.swaps + n + report.descent.swaps → IsBoundedTrial n width awake rules report →
+  pub bounded_more : {awake : ℕ} → SettlesTrial n flips swaps old new report → flips ≤ 4 + 3 * report.descent.moves →
+      new.swaps ≤ old.swaps + n + report.descent.swaps → IsBoundedTrial n width awake rules report →
       (report.better ≡ true → shorter < shortest) → (report.better ≡ false → shorter ≡ shortest) →
-      (rules.sweep ≡ false → new.tests ≤ 4 * rules.or_segment * width * (n + 8 * (new.trials - 1) + 6 * new.moves)) → IsBounded n width rules shorter new
+      (rules.sweep ≡ false → new.tests ≤ 4 * rules.or_segment * width * (n + 8 * (new.trials - 1) + 6 * new.moves)) →
+      IsBounded n width rules shorter new
   bounded_more k few more b less same tests = record {
     tests = tests;
     swept = λ e. tests_swept (bound.swept e) (b.swept_tests e);

@@ -49,7 +49,8 @@ cities-reverse : (xs : List ℕ) → SameCities xs (reverse xs)
 cities-reverse xs = record { count = length-reverse xs; each = λ c. occurrences-reverse c xs }
 
 rotation_count : (xs ys : List ℕ) → IsRotation xs ys → length ys ≡ length xs
-rotation_count xs ys h = omega (arith, ap length h.before, ap length h.after, length-append h.front h.back, length-append h.back h.front)
+rotation_count xs ys h =
+    omega (arith, ap length h.before, ap length h.after, length-append h.front h.back, length-append h.back h.front)
 
 cycle_count : (xs ys : List ℕ) → SameCycle xs ys → length ys ≡ length xs
 cycle_count xs ys (inl h) = rotation_count xs ys h
@@ -60,22 +61,29 @@ cities-cycle xs ys h = record { count = cycle_count xs ys h; each = λ c. occurr
 
 -- by way of two lists that hold the same as the cycles before and after
 around : (C X Y D : List ℕ) → SameCycle C X → SameCities X Y → SameCycle D Y → SameCities C D
-around C X Y D h k l = cities-trans C X D (cities-cycle C X h) (cities-trans X Y D k (cities-sym D Y (cities-cycle D Y l)))
+around C X Y D h k l =
+    cities-trans C X D (cities-cycle C X h) (cities-trans X Y D k (cities-sym D Y (cities-cycle D Y l)))
 
 -- a segment between two others moves on
 moved_on : (S P Q : List ℕ) → SameCities (S ++ P ++ Q) (P ++ S ++ Q)
 moved_on S P Q = cities-append (S ++ P) Q (P ++ S) Q (cities-swap S P) (cities-refl Q)
 
 or_made : (C D S P Q : List ℕ) (a b y w : ℕ) → SameCycle C (S ++ P ++ Q) →
-    (IsPath b P y × IsPath w Q a × SameCycle D (P ++ S ++ Q)) ⊎ (IsPath b P w × IsPath y Q a × SameCycle D (P ++ reverse S ++ Q)) → SameCities C D
-or_made C D S P Q a b y w before (inl (ahead, rest, after)) = around C (S ++ P ++ Q) (P ++ S ++ Q) D before (moved_on S P Q) after
+    (IsPath b P y × IsPath w Q a × SameCycle D (P ++ S ++ Q))
+    ⊎ (IsPath b P w × IsPath y Q a × SameCycle D (P ++ reverse S ++ Q)) → SameCities C D
+or_made C D S P Q a b y w before (inl (ahead, rest, after)) =
+    around C (S ++ P ++ Q) (P ++ S ++ Q) D before (moved_on S P Q) after
 or_made C D S P Q a b y w before (inr (ahead, rest, after)) =
-    let turned : SameCities (P ++ S ++ Q) (P ++ reverse S ++ Q) = cities-append (P ++ S) Q (P ++ reverse S) Q (cities-append P S P (reverse S) (cities-refl P) (cities-reverse S)) (cities-refl Q) in
-    around C (S ++ P ++ Q) (P ++ reverse S ++ Q) D before (cities-trans (S ++ P ++ Q) (P ++ S ++ Q) (P ++ reverse S ++ Q) (moved_on S P Q) turned) after
+    let turned : SameCities (P ++ S ++ Q) (P ++ reverse S ++ Q) =
+    cities-append (P ++ S) Q (P ++ reverse S) Q (cities-append P S P (reverse S) (cities-refl P) (cities-reverse S))
+    (cities-refl Q) in
+    around C (S ++ P ++ Q) (P ++ reverse S ++ Q) D before
+    (cities-trans (S ++ P ++ Q) (P ++ S ++ Q) (P ++ reverse S ++ Q) (moved_on S P Q) turned) after
 
 cities_made : (m : ℕ) (o : Offer) (C D : List ℕ) → Makes m o C D → SameCities C D
 cities_made m (Two a b c d) C D h =
-    around C (h.kept ++ h.turned) (h.kept ++ reverse h.turned) D h.before (cities-append h.kept h.turned h.kept (reverse h.turned) (cities-refl h.kept) (cities-reverse h.turned)) h.after
+    around C (h.kept ++ h.turned) (h.kept ++ reverse h.turned) D h.before
+    (cities-append h.kept h.turned h.kept (reverse h.turned) (cities-refl h.kept) (cities-reverse h.turned)) h.after
 cities_made m (Or a x e b y w) C D h = or_made C D h.segment h.ahead h.rest a b y w h.before h.after
 
 module _ (dist : ℕ → ℕ → ℕ) (near : ℕ → List ℕ) (m : ℕ) (T W : List ℕ) where
@@ -85,14 +93,18 @@ module _ (dist : ℕ → ℕ → ℕ) (near : ℕ → List ℕ) (m : ℕ) (T W :
   cities_run (move {C = C} {D = D} {o = o} r e made) = cities-trans T C D (cities_run r) (cities_made m o C D made)
 
 module _ (dist : ℕ → ℕ → ℕ) (near : ℕ → List ℕ) (m : ℕ) (T : List ℕ) where
-  cities_moving : {C : List ℕ} {passes looks moves tests : ℕ} → Moving dist near m T C passes looks moves tests → SameCities T C
+  cities_moving : {C : List ℕ} {passes looks moves tests : ℕ} → Moving dist near m T C passes looks moves tests →
+      SameCities T C
   cities_moving unmoved = cities-refl T
-  cities_moving (pass {C = C} {D = D} chain once some) = cities-trans T C D (cities_moving chain) (cities_run dist near m C _ once)
+  cities_moving (pass {C = C} {D = D} chain once some) =
+      cities-trans T C D (cities_moving chain) (cities_run dist near m C _ once)
 
-  pub cities_swept : {D : List ℕ} {passes looks moves tests : ℕ} → Sweeps dist near m T D passes looks moves tests → SameCities T D
+  pub cities_swept : {D : List ℕ} {passes looks moves tests : ℕ} → Sweeps dist near m T D passes looks moves tests →
+      SameCities T D
   cities_swept {D = D} h = cities-trans T h.tour D (cities_moving h.chain) (cities_run dist near m h.tour _ h.last)
 
-pub cities_descent : (dist : ℕ → ℕ → ℕ) (near : ℕ → List ℕ) (rules : SearchRules) (T W D : List ℕ) (passes looks moves tests : ℕ) → Descends dist near rules T W D passes looks moves tests → SameCities T D
+pub cities_descent : (dist : ℕ → ℕ → ℕ) (near : ℕ → List ℕ) (rules : SearchRules) (T W D : List ℕ)
+    (passes looks moves tests : ℕ) → Descends dist near rules T W D passes looks moves tests → SameCities T D
 cities_descent dist near rules T W D passes looks moves tests h = by rules.sweep refl
   where
     by : (b : Bool) → rules.sweep ≡ b → SameCities T D
@@ -102,8 +114,26 @@ cities_descent dist near rules T W D passes looks moves tests h = by rules.sweep
 -- the second part and the fourth change places
 exchanged_parts : (a b c d : List ℕ) → SameCities (a ++ b ++ c ++ d) (a ++ d ++ c ++ b)
 exchanged_parts a b c d = record {
-  count = omega (arith, length-append (a ++ b ++ c) d, length-append (a ++ b) c, length-append a b, length-append (a ++ d ++ c) b, length-append (a ++ d) c, length-append a d);
-  each = λ x. omega (arith, occurrences-append x (a ++ b ++ c) d, occurrences-append x (a ++ b) c, occurrences-append x a b, occurrences-append x (a ++ d ++ c) b, occurrences-append x (a ++ d) c, occurrences-append x a d);
+  count =
+      omega (
+        arith,
+        length-append (a ++ b ++ c) d,
+        length-append (a ++ b) c,
+        length-append a b,
+        length-append (a ++ d ++ c) b,
+        length-append (a ++ d) c,
+        length-append a d,
+      );
+  each =
+      λ x. omega (
+        arith,
+        occurrences-append x (a ++ b ++ c) d,
+        occurrences-append x (a ++ b) c,
+        occurrences-append x a b,
+        occurrences-append x (a ++ d ++ c) b,
+        occurrences-append x (a ++ d) c,
+        occurrences-append x a d,
+      );
 }
 
 -- the parts of a kick are those of the tour
@@ -116,28 +146,40 @@ cities_bridged xs cuts are =
     let P : List ℕ → Type 0 = λ v. SameCities v (a ++ d ++ c ++ b) in
     subst P (parts_join xs cuts are) (exchanged_parts a b c d)
 
-cities_kick : {best asleep tour awake : List ℕ} {words rest : Stream} {sweep : Bool} → IsKick best words sweep asleep tour rest awake → SameCities best tour
-cities_kick {best = best} {tour = tour} h = cities-trans best (bridged h.cuts best) tour (cities_bridged best h.cuts h.are) (cities-sym tour (bridged h.cuts best) (cities-cycle tour (bridged h.cuts best) h.bridge))
+cities_kick : {best asleep tour awake : List ℕ} {words rest : Stream} {sweep : Bool} →
+    IsKick best words sweep asleep tour rest awake → SameCities best tour
+cities_kick {best = best} {tour = tour} h =
+    cities-trans best (bridged h.cuts best) tour (cities_bridged best h.cuts h.are)
+    (cities-sym tour (bridged h.cuts best) (cities-cycle tour (bridged h.cuts best) h.bridge))
 
 -- the best tour after a trial from a tour of its cities
-cities_trial : (dist : ℕ → ℕ → ℕ) (near : ℕ → List ℕ) (rules : SearchRules) (from awake best new : List ℕ) (report : TrialReport) → IsTrial dist near rules from awake best new report → SameCities best from → SameCities best new
+cities_trial : (dist : ℕ → ℕ → ℕ) (near : ℕ → List ℕ) (rules : SearchRules) (from awake best new : List ℕ)
+    (report : TrialReport) → IsTrial dist near rules from awake best new report → SameCities best from →
+    SameCities best new
 cities_trial dist near rules from awake best new report h same = by report.better refl
   where
     P : List ℕ → Type 0
     P v = SameCities best v
 
     by : (b : Bool) → report.better ≡ b → SameCities best new
-    by true e = subst P (sym (h.replaced e)) (cities-trans best from h.found same (cities_descent dist near rules from awake h.found _ _ _ _ h.descends))
+    by true e =
+        subst P (sym (h.replaced e))
+        (cities-trans best from h.found same (cities_descent dist near rules from awake h.found _ _ _ _ h.descends))
     by false e = subst P (sym (h.kept e)) (cities-refl best)
 
-pub cities_next : {old new : Searching} {words rest : Stream} {report : TrialReport} → NextTrial old words new rest report → SameCities old.best new.best
+pub cities_next : {old new : Searching} {words rest : Stream} {report : TrialReport} →
+    NextTrial old words new rest report → SameCities old.best new.best
 cities_next {old = old} (first untried h same) = cities_trial _ _ _ _ _ _ _ _ h.trial (cities-refl old.best)
 cities_next (kicked tried many h) = cities_trial _ _ _ _ _ _ _ _ h.trial (cities_kick h.kick)
-cities_next {old = old} (none tried few h stays same) = let P : Searching → Type 0 = λ v. SameCities old.best v.best in subst P (sym stays) (cities-refl old.best)
+cities_next {old = old} (none tried few h stays same) = let P : Searching → Type 0 = λ v. SameCities old.best v.best in
+    subst P (sym stays) (cities-refl old.best)
 
-pub cities_after : {begun : Searching} {words : Stream} {t : ℕ} {search : Searching} {rest : Stream} → SearchRun begun words t search rest → SameCities begun.best search.best
+pub cities_after : {begun : Searching} {words : Stream} {t : ℕ} {search : Searching} {rest : Stream} →
+    SearchRun begun words t search rest → SameCities begun.best search.best
 cities_after {begun = begun} begin = cities-refl begun.best
-cities_after {begun = begun} (trial {old = old} {new = new} run next) = cities-trans begun.best old.best new.best (cities_after run) (cities_next next)
+cities_after {begun = begun} (trial {old = old} {new = new} run next) =
+    cities-trans begun.best old.best new.best (cities_after run) (cities_next next)
 
-pub tour_after : {begun : Searching} {words : Stream} {t : ℕ} {search : Searching} {rest : Stream} (n : ℕ) → SearchRun begun words t search rest → IsTour n begun.best → IsTour n search.best
+pub tour_after : {begun : Searching} {words : Stream} {t : ℕ} {search : Searching} {rest : Stream} (n : ℕ) →
+    SearchRun begun words t search rest → IsTour n begun.best → IsTour n search.best
 tour_after n run h = let s = cities_after run in (s.count ∙ h.0, λ c above most. s.each c ∙ h.1 c above most)

@@ -1,5 +1,6 @@
 -- What runs of trials keep, and the best tour that they leave.
-use Rattle.std.proofs.Common.{◌≡◌, ℕ, ◌<◌, ◌≤◌, ⊎_elim, Bool, true, false, List, [], ◌∷◌, ◌++◌, refl, sym, ap, ◌∙◌, subst, arith, append_assoc, append-nil}
+use Rattle.std.proofs.Common.{◌≡◌, ℕ, ◌<◌, ◌≤◌, ⊎_elim, Bool, true, false, List, [], ◌∷◌, ◌++◌, refl, sym, ap, ◌∙◌}
+use Rattle.std.proofs.Common.{subst, arith, append_assoc, append-nil}
 use Rattle.std.specs.Prelude.{IsTrue}
 use Rattle.std.specs.List.{All}
 use Rattle.std.proofs.lemmas.Bool.{cases_lt}
@@ -13,12 +14,15 @@ use Rattle.tk_search.specs.declared.trials.descending.SearchRules.{SearchRules}
 use Rattle.tk_search.specs.declared.trials.totals.TrialReport.{TrialReport}
 
 -- what a search was given stays
-pub given_next : {old new : Searching} {words rest : Stream} {report : TrialReport} → NextTrial old words new rest report → SameGiven old new
+pub given_next : {old new : Searching} {words rest : Stream} {report : TrialReport} →
+    NextTrial old words new rest report → SameGiven old new
 given_next (first untried h same) = h.given
 given_next (kicked tried many h) = h.given
-given_next (none tried few h stays same) = record { distance = ap (λ s. s.distance) stays; near = ap (λ s. s.near) stays; rules = ap (λ s. s.rules) stays }
+given_next (none tried few h stays same) =
+    record { distance = ap (λ s. s.distance) stays; near = ap (λ s. s.near) stays; rules = ap (λ s. s.rules) stays }
 
-pub given_run : {begun : Searching} {words : Stream} {t : ℕ} {search : Searching} {rest : Stream} → SearchRun begun words t search rest → SameGiven begun search
+pub given_run : {begun : Searching} {words : Stream} {t : ℕ} {search : Searching} {rest : Stream} →
+    SearchRun begun words t search rest → SameGiven begun search
 given_run begin = record { distance = refl; near = refl; rules = refl }
 given_run (trial run next) =
     let i = given_run run in
@@ -26,8 +30,10 @@ given_run (trial run next) =
     record { distance = k.distance ∙ i.distance; near = k.near ∙ i.near; rules = k.rules ∙ i.rules }
 
 -- a trial keeps the first of the shortest
-module _ (dist : ℕ → ℕ → ℕ) (near : ℕ → List ℕ) (rules : SearchRules) (from awake old new : List ℕ) (report : TrialReport)
-    (h : IsTrial dist near rules from awake old new report) (tours : List (List ℕ)) (f : IsFirstShortest dist tours old) where
+module _ (dist : ℕ → ℕ → ℕ) (near : ℕ → List ℕ) (rules : SearchRules) (from awake old new : List ℕ)
+    (report : TrialReport)
+    (h : IsTrial dist near rules from awake old new report) (tours : List (List ℕ))
+    (f : IsFirstShortest dist tours old) where
   replaced_first : report.better ≡ true → IsFirstShortest dist (tours ++ h.found ∷ []) new
   replaced_first e =
       let is : IsTrue report.better = grind (arith, e) in
@@ -35,14 +41,24 @@ module _ (dist : ℕ → ℕ → ℕ) (near : ℕ → List ℕ) (rules : SearchR
       let Longer : List ℕ → Type 0 = λ tour. tour_length dist h.found < tour_length dist tour in
       let front : All Longer f.before = λ k d lt. omega (arith, less, f.longer k d lt) in
       let back : All Longer f.behind = λ k d lt. omega (arith, less, f.least k d lt) in
-      let all : All Longer (f.before ++ old ∷ f.behind) = All-append Longer f.before (old ∷ f.behind) front (All-cons Longer old f.behind less back) in
+      let all : All Longer (f.before ++ old ∷ f.behind) =
+      All-append Longer f.before (old ∷ f.behind) front (All-cons Longer old f.behind less back) in
       let P : List ℕ → Type 0 = λ v. IsFirstShortest dist (tours ++ h.found ∷ []) v in
-      subst P (sym (h.replaced e)) (record { before = tours; behind = []; stands = refl; longer = subst (All Longer) (sym f.stands) all; least = All-nil _ })
+      subst P (sym (h.replaced e))
+      (record {
+        before = tours;
+        behind = [];
+        stands = refl;
+        longer = subst (All Longer) (sym f.stands) all;
+        least = All-nil _;
+      })
 
   kept_first : report.better ≡ false → IsFirstShortest dist (tours ++ h.found ∷ []) new
   kept_first e =
       let least : tour_length dist old ≤ tour_length dist h.found =
-      ⊎_elim (λ (lt : tour_length dist h.found < tour_length dist old). absurd (grind (arith, e, h.better.1 lt))) (λ (le : tour_length dist old ≤ tour_length dist h.found). le) (cases_lt (tour_length dist h.found) (tour_length dist old)) in
+      ⊎_elim (λ (lt : tour_length dist h.found < tour_length dist old). absurd (grind (arith, e, h.better.1 lt)))
+      (λ (le : tour_length dist old ≤ tour_length dist h.found). le)
+      (cases_lt (tour_length dist h.found) (tour_length dist old)) in
       let Least : List ℕ → Type 0 = λ tour. tour_length dist old ≤ tour_length dist tour in
       let P : List ℕ → Type 0 = λ v. IsFirstShortest dist (tours ++ h.found ∷ []) v in
       subst P (sym (h.kept e)) (record {
@@ -57,17 +73,22 @@ module _ (dist : ℕ → ℕ → ℕ) (near : ℕ → List ℕ) (rules : SearchR
   trial_first true e = replaced_first e
   trial_first false e = kept_first e
 
-first_next : {old new : Searching} {words rest : Stream} {report : TrialReport} (next : NextTrial old words new rest report) (tours : List (List ℕ)) →
+first_next : {old new : Searching} {words rest : Stream} {report : TrialReport}
+    (next : NextTrial old words new rest report) (tours : List (List ℕ)) →
     IsFirstShortest old.distance tours old.best → IsFirstShortest old.distance (tours ++ found_by next) new.best
-first_next {report = report} (first untried h same) tours f = trial_first _ _ _ _ _ _ _ report h.trial tours f report.better refl
-first_next {report = report} (kicked tried many h) tours f = trial_first _ _ _ _ _ _ _ report h.trial tours f report.better refl
+first_next {report = report} (first untried h same) tours f =
+    trial_first _ _ _ _ _ _ _ report h.trial tours f report.better refl
+first_next {report = report} (kicked tried many h) tours f =
+    trial_first _ _ _ _ _ _ _ report h.trial tours f report.better refl
 first_next {old = old} {new = new} (none tried few h stays same) tours f =
     let P : List ℕ → Type 0 = λ v. IsFirstShortest old.distance (tours ++ []) v in
     let Q : List (List ℕ) → Type 0 = λ v. IsFirstShortest old.distance v old.best in
     subst P (sym (ap (λ s. s.best) stays)) (subst Q (sym (append-nil tours)) f)
 
-pub first_run : {begun : Searching} {words : Stream} {t : ℕ} {search : Searching} {rest : Stream} (run : SearchRun begun words t search rest) → IsFirstShortest begun.distance (begun.best ∷ found_in run) search.best
-first_run {begun = begun} begin = record { before = []; behind = []; stands = refl; longer = All-nil _; least = All-nil _ }
+pub first_run : {begun : Searching} {words : Stream} {t : ℕ} {search : Searching} {rest : Stream}
+    (run : SearchRun begun words t search rest) → IsFirstShortest begun.distance (begun.best ∷ found_in run) search.best
+first_run {begun = begun} begin =
+    record { before = []; behind = []; stands = refl; longer = All-nil _; least = All-nil _ }
 first_run {begun = begun} (trial {old = old} {new = new} run next) =
     let P : (ℕ → ℕ → ℕ) → Type 0 = λ v. IsFirstShortest v (begun.best ∷ found_in run) old.best in
     let Q : (ℕ → ℕ → ℕ) → Type 0 = λ v. IsFirstShortest v (begun.best ∷ (found_in run ++ found_by next)) new.best in
@@ -75,11 +96,16 @@ first_run {begun = begun} (trial {old = old} {new = new} run next) =
     subst Q same (first_next next (begun.best ∷ found_in run) (subst P (sym same) (first_run run)))
 
 -- the first of the shortest is not longer than the first
-no_longer : (dist : ℕ → ℕ → ℕ) (from best : List ℕ) (tours before behind : List (List ℕ)) → from ∷ tours ≡ before ++ best ∷ behind → All (λ tour. tour_length dist best < tour_length dist tour) before →
+no_longer : (dist : ℕ → ℕ → ℕ) (from best : List ℕ) (tours before behind : List (List ℕ)) →
+    from ∷ tours ≡ before ++ best ∷ behind → All (λ tour. tour_length dist best < tour_length dist tour) before →
     tour_length dist best ≤ tour_length dist from
-no_longer dist from best tours [] behind e longer = let same : from ≡ best = cc in omega (arith, ap (tour_length dist) same)
-no_longer dist from best tours (x ∷ xs) behind e longer = let same : from ≡ x = cc in omega (arith, ap (tour_length dist) same, longer 0 x (omega arith))
+no_longer dist from best tours [] behind e longer = let same : from ≡ best = cc in
+    omega (arith, ap (tour_length dist) same)
+no_longer dist from best tours (x ∷ xs) behind e longer = let same : from ≡ x = cc in
+    omega (arith, ap (tour_length dist) same, longer 0 x (omega arith))
 
-pub no_longer_run : {begun : Searching} {words : Stream} {t : ℕ} {search : Searching} {rest : Stream} → SearchRun begun words t search rest →
+pub no_longer_run : {begun : Searching} {words : Stream} {t : ℕ} {search : Searching} {rest : Stream} →
+    SearchRun begun words t search rest →
     tour_length begun.distance search.best ≤ tour_length begun.distance begun.best
-no_longer_run {begun = begun} {search = after} run = let f = first_run run in no_longer begun.distance begun.best after.best (found_in run) f.before f.behind f.stands f.longer
+no_longer_run {begun = begun} {search = after} run = let f = first_run run in
+    no_longer begun.distance begun.best after.best (found_in run) f.before f.behind f.stands f.longer

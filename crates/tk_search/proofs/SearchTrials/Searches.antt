@@ -1,5 +1,6 @@
 -- A search after one more trial.
-use Rattle.std.proofs.Common.{◌≡◌, ℕ, ◌+◌, ◌-◌, ◌*◌, ◌<◌, ◌≤◌, refl, Bool, true, false, List, [], length, sym, ap, ◌∙◌, subst, arith, pos, map}
+use Rattle.std.proofs.Common.{◌≡◌, ℕ, ◌+◌, ◌-◌, ◌*◌, ◌<◌, ◌≤◌, refl, Bool, true, false, List, [], length, sym, ap, ◌∙◌}
+use Rattle.std.proofs.Common.{subst, arith, pos, map}
 use Rattle.std.specs.Prelude.{IsTrue}
 use Rattle.std.proofs.Math.Nat.{mul-le-mul_left}
 use Rattle.rand_core.specs.Stream.{Stream}
@@ -25,16 +26,23 @@ use Rattle.tk_search.specs.declared.trials.totals.TrialReport.{TrialReport}
 use Rattle.tk_search.proofs.SearchTrials.Bounds.{tests_first, tests_kicked, bounded_more}
 
 -- the same trial in other words, with the same flips
-pub trial_at : (dist : ℕ → ℕ → ℕ) (near : ℕ → List ℕ) (rules : SearchRules) (from from' awake awake' best best' new : List ℕ) (report : TrialReport) → from ≡ from' → awake ≡ awake' → best ≡ best' →
-    (h : IsTrial dist near rules from awake best new report) → (t : IsTrial dist near rules from' awake' best' new report) × (t.flips ≡ h.flips) × (t.swaps ≡ h.swaps)
+pub trial_at : (dist : ℕ → ℕ → ℕ) (near : ℕ → List ℕ) (rules : SearchRules)
+    (from from' awake awake' best best' new : List ℕ) (report : TrialReport) → from ≡ from' → awake ≡ awake' →
+    best ≡ best' →
+    (h : IsTrial dist near rules from awake best new report) →
+    (t : IsTrial dist near rules from' awake' best' new report) × (t.flips ≡ h.flips) × (t.swaps ≡ h.swaps)
 trial_at dist near rules from from' awake awake' best best' new report ef ea eb h =
-    let P : List ℕ → Type 0 = λ v. (t : IsTrial dist near rules v awake best new report) × (t.flips ≡ h.flips) × (t.swaps ≡ h.swaps) in
-    let Q : List ℕ → Type 0 = λ v. (t : IsTrial dist near rules from' v best new report) × (t.flips ≡ h.flips) × (t.swaps ≡ h.swaps) in
-    let R : List ℕ → Type 0 = λ v. (t : IsTrial dist near rules from' awake' v new report) × (t.flips ≡ h.flips) × (t.swaps ≡ h.swaps) in
+    let P : List ℕ → Type 0 = λ v. (t : IsTrial dist near rules v awake best new report) × (t.flips ≡ h.flips)
+    × (t.swaps ≡ h.swaps) in
+    let Q : List ℕ → Type 0 = λ v. (t : IsTrial dist near rules from' v best new report) × (t.flips ≡ h.flips)
+    × (t.swaps ≡ h.swaps) in
+    let R : List ℕ → Type 0 = λ v. (t : IsTrial dist near rules from' awake' v new report) × (t.flips ≡ h.flips)
+    × (t.swaps ≡ h.swaps) in
     subst R eb (subst Q ea (subst P ef (h, refl, refl)))
 
 -- the same kick in other words, at the same cuts
-pub kick_at : (best best' asleep asleep' tour awake : List ℕ) (words rest : Stream) (sweep : Bool) → best ≡ best' → asleep ≡ asleep' → (k : IsKick best words sweep asleep tour rest awake) →
+pub kick_at : (best best' asleep asleep' tour awake : List ℕ) (words rest : Stream) (sweep : Bool) → best ≡ best' →
+    asleep ≡ asleep' → (k : IsKick best words sweep asleep tour rest awake) →
     (k' : IsKick best' words sweep asleep' tour rest awake) × (k'.cuts ≡ k.cuts)
 kick_at best best' asleep asleep' tour awake words rest sweep eb ea k =
     let P : List ℕ → Type 0 = λ v. (k' : IsKick v words sweep asleep tour rest awake) × (k'.cuts ≡ k.cuts) in
@@ -42,25 +50,31 @@ kick_at best best' asleep asleep' tour awake words rest sweep eb ea k =
     subst Q ea (subst P eb (k, refl))
 
 -- the best tour after a trial is shorter, or the same
-pub shorter_best : (dist : ℕ → ℕ → ℕ) (near : ℕ → List ℕ) (rules : SearchRules) (from awake best new : List ℕ) (report : TrialReport) → IsTrial dist near rules from awake best new report →
+pub shorter_best : (dist : ℕ → ℕ → ℕ) (near : ℕ → List ℕ) (rules : SearchRules) (from awake best new : List ℕ)
+    (report : TrialReport) → IsTrial dist near rules from awake best new report →
     report.better ≡ true → tour_length dist new < tour_length dist best
 shorter_best dist near rules from awake best new report h e =
     let P : List ℕ → Type 0 = λ v. tour_length dist v < tour_length dist best in
     let is : IsTrue report.better = grind (arith, e) in
     subst P (sym (h.replaced e)) (h.better.0 is)
 
-pub same_best : (dist : ℕ → ℕ → ℕ) (near : ℕ → List ℕ) (rules : SearchRules) (from awake best new : List ℕ) (report : TrialReport) → IsTrial dist near rules from awake best new report →
+pub same_best : (dist : ℕ → ℕ → ℕ) (near : ℕ → List ℕ) (rules : SearchRules) (from awake best new : List ℕ)
+    (report : TrialReport) → IsTrial dist near rules from awake best new report →
     report.better ≡ false → tour_length dist new ≡ tour_length dist best
 same_best dist near rules from awake best new report h e = ap (tour_length dist) (h.kept e)
 
 -- a kick wakes at most eight cities
-pub few_ends : (asleep awake xs : List ℕ) (n : ℕ) (cuts : Cuts) → asleep ≡ [] → awake ≡ woken_each asleep (map (city_at xs) (end_places n cuts)) → length awake ≤ 8
+pub few_ends : (asleep awake xs : List ℕ) (n : ℕ) (cuts : Cuts) → asleep ≡ [] →
+    awake ≡ woken_each asleep (map (city_at xs) (end_places n cuts)) → length awake ≤ 8
 few_ends asleep awake xs n cuts none e =
-    let le : length (woken_each asleep (map (city_at xs) (end_places n cuts))) ≤ length asleep + 8 = woken_each-le (map (city_at xs) (end_places n cuts)) asleep in
+    let le : length (woken_each asleep (map (city_at xs) (end_places n cuts))) ≤ length asleep + 8 =
+    woken_each-le (map (city_at xs) (end_places n cuts)) asleep in
     omega (arith, le, ap length e, ap length none)
 
 -- at most as much work with more cities awake
-pub more_awake : (n width awake more : ℕ) (rules : SearchRules) (report : TrialReport) → (rules.sweep ≡ false → awake ≤ more) → IsBoundedTrial n width awake rules report → IsBoundedTrial n width more rules report
+pub more_awake : (n width awake more : ℕ) (rules : SearchRules) (report : TrialReport) →
+    (rules.sweep ≡ false → awake ≤ more) → IsBoundedTrial n width awake rules report →
+    IsBoundedTrial n width more rules report
 more_awake n width awake more rules report le h =
     let c : ℕ = 4 * rules.or_segment * width in
     let k : ℕ = 6 * report.descent.moves in
@@ -79,7 +93,8 @@ more_awake n width awake more rules report le h =
     }
 
 -- what a trial leaves, by the state before it
-pub record Leaves {S : Type 0} {u : undo.Ghosts S} {w : Ghosts S} (near : NearLists) (dist : ℕ → ℕ → ℕ) (rules : SearchRules) (s t : State S u w) (awake flips swaps : ℕ) (report : TrialReport) : Type 0 where
+pub record Leaves {S : Type 0} {u : undo.Ghosts S} {w : Ghosts S} (near : NearLists) (dist : ℕ → ℕ → ℕ)
+    (rules : SearchRules) (s t : State S u w) (awake flips swaps : ℕ) (report : TrialReport) : Type 0 where
   pub size : length (best_of t.best) ≡ length (best_of s.best)
   pub slots : slots_of t.tour ≡ slots_of s.tour
   pub asleep : t.waking.queue ≡ []
@@ -96,15 +111,21 @@ pub record Leaves {S : Type 0} {u : undo.Ghosts S} {w : Ghosts S} (near : NearLi
   pub less : report.better ≡ true → tour_length dist (best_of t.best) < tour_length dist (best_of s.best)
   pub same : report.better ≡ false → tour_length dist (best_of t.best) ≡ tour_length dist (best_of s.best)
 
-module _ {S : Type 0} {u : undo.Ghosts S} {w : Ghosts S} (size : ℕ) (dist : ℕ → ℕ → ℕ) (near : NearLists) (rules : SearchRules) (s t : State S u w) (awake flips swaps : ℕ) (report : TrialReport)
+module _ {S : Type 0} {u : undo.Ghosts S} {w : Ghosts S} (size : ℕ) (dist : ℕ → ℕ → ℕ) (near : NearLists)
+    (rules : SearchRules) (s t : State S u w) (awake flips swaps : ℕ) (report : TrialReport)
     (h : IsSearching size dist near rules s) (k : Leaves near dist rules s t awake flips swaps report) where
-  bounded : (rules.sweep ≡ false → t.totals.tests ≤ 4 * rules.or_segment * near.width * (length (best_of s.best) + 8 * (t.totals.trials - 1) + 6 * t.totals.moves)) →
+  bounded : (rules.sweep ≡ false →
+      t.totals.tests ≤ 4 * rules.or_segment * near.width *
+      (length (best_of s.best) + 8 * (t.totals.trials - 1) + 6 * t.totals.moves)) →
       IsBounded (length (best_of s.best)) near.width rules (tour_length dist (best_of t.best)) t.totals
   bounded tests =
-      bounded_more (length (best_of s.best)) near.width (tour_length dist (best_of s.best)) (tour_length dist (best_of t.best)) flips swaps rules s.totals t.totals report k.adds h.bounds
+      bounded_more (length (best_of s.best)) near.width (tour_length dist (best_of s.best))
+      (tour_length dist (best_of t.best)) flips swaps rules s.totals t.totals report k.adds h.bounds
       k.settles k.few k.swapped k.bounded k.less k.same tests
 
-  searches : (rules.sweep ≡ false → t.totals.tests ≤ 4 * rules.or_segment * near.width * (length (best_of s.best) + 8 * (t.totals.trials - 1) + 6 * t.totals.moves)) →
+  searches : (rules.sweep ≡ false →
+      t.totals.tests ≤ 4 * rules.or_segment * near.width *
+      (length (best_of s.best) + 8 * (t.totals.trials - 1) + 6 * t.totals.moves)) →
       IsSearching size dist near rules t
   searches tests =
       let P : ℕ → Type 0 = λ v. IsBounded v near.width rules (tour_length dist (best_of t.best)) t.totals in
@@ -125,10 +146,14 @@ module _ {S : Type 0} {u : undo.Ghosts S} {w : Ghosts S} (size : ℕ) (dist : �
 
   pub searches_first : s.totals.trials ≡ 0 → awake ≡ length (best_of s.best) → IsSearching size dist near rules t
   searches_first none all =
-      let P : ℕ → Type 0 = λ v. report.descent.tests ≤ 4 * rules.or_segment * near.width * (v + 6 * report.descent.moves) in
-      searches (λ o. tests_first (length (best_of s.best)) near.width (tour_length dist (best_of s.best)) 0 flips swaps rules s.totals t.totals report k.adds h.bounds (h.untried none) (subst P all (k.bounded.tests o)))
+      let P : ℕ → Type 0 =
+      λ v. report.descent.tests ≤ 4 * rules.or_segment * near.width * (v + 6 * report.descent.moves) in
+      searches (λ o. tests_first (length (best_of s.best)) near.width (tour_length dist (best_of s.best)) 0 flips swaps
+      rules s.totals t.totals report k.adds h.bounds (h.untried none) (subst P all (k.bounded.tests o)))
 
   pub searches_kicked : 1 ≤ s.totals.trials → awake ≡ 8 → IsSearching size dist near rules t
   searches_kicked begun ends =
-      let P : ℕ → Type 0 = λ v. report.descent.tests ≤ 4 * rules.or_segment * near.width * (v + 6 * report.descent.moves) in
-      searches (λ o. tests_kicked (length (best_of s.best)) near.width (tour_length dist (best_of s.best)) 0 flips swaps rules s.totals t.totals report k.adds h.bounds begun (h.bounds.tests o) (subst P ends (k.bounded.tests o)))
+      let P : ℕ → Type 0 =
+      λ v. report.descent.tests ≤ 4 * rules.or_segment * near.width * (v + 6 * report.descent.moves) in
+      searches (λ o. tests_kicked (length (best_of s.best)) near.width (tour_length dist (best_of s.best)) 0 flips swaps
+      rules s.totals t.totals report k.adds h.bounds begun (h.bounds.tests o) (subst P ends (k.bounded.tests o)))

@@ -23,7 +23,8 @@ module _ (xs : List ℕ) (cuts : Cuts) (tour : IsTour (length xs) xs) (are : Are
   each (suc (suc (suc (suc (suc (suc (suc zero))))))) d lt = at (length xs) (omega (arith, are.last)) (omega arith)
   each (suc (suc (suc (suc (suc (suc (suc (suc k)))))))) d lt = absurd (omega arith)
 
-pub ends_are_cities : (xs ends : List ℕ) (n m : ℕ) → IsTour (length xs) xs → (cuts : Cuts) → m ≡ length xs → AreCuts m cuts → ends ≡ map (city_at xs) (end_places (length xs) cuts) → length xs ≡ n → All (IsCity n) ends
+pub ends_are_cities : (xs ends : List ℕ) (n m : ℕ) → IsTour (length xs) xs → (cuts : Cuts) → m ≡ length xs →
+    AreCuts m cuts → ends ≡ map (city_at xs) (end_places (length xs) cuts) → length xs ≡ n → All (IsCity n) ends
 ends_are_cities xs ends n m tour cuts em are e size =
     let P : List ℕ → Type 0 = λ v. All (IsCity n) v in
     let Q : ℕ → Type 0 = λ v. All (IsCity v) (map (city_at xs) (end_places (length xs) cuts)) in

@@ -22,7 +22,8 @@ pub struct Search<'a, M: Metric> {
     near: &'a Near,
     rules: SearchRules,
     stand: Stand,
-    ghost holds: { IsStanding (M.size_of metric.now) (M.distance metric.now) near.now rules stand } by { IsStanding-prop _ _ _ _ _ },
+    ghost holds: { IsStanding (M.size_of metric.now) (M.distance metric.now) near.now rules
+        stand } by { IsStanding-prop _ _ _ _ _ },
 }
 
 impl<'a, M: Metric> Search<'a, M> {

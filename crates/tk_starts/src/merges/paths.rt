@@ -1,11 +1,13 @@
 //! The paths that the joints make.
-ghost use Rattle.std.specs.Prelude.{◌≡◌, ◌≢◌, ℕ, ◌+◌, ◌-◌, ◌^◌, ◌≤◌, ◌<◌, IfOk, List, [], ◌∷◌, length, vec_len, slice_index_or, IsTrue, ◌==◌, if◌then◌else◌, map, not, nat_le, ◌&&◌};
+ghost use Rattle.std.specs.Prelude.{◌≡◌, ◌≢◌, ℕ, ◌+◌, ◌-◌, ◌^◌, ◌≤◌, ◌<◌, IfOk, List, [], ◌∷◌, length, vec_len};
+ghost use Rattle.std.specs.Prelude.{slice_index_or, IsTrue, ◌==◌, if◌then◌else◌, map, not, nat_le, ◌&&◌};
 ghost use Rattle.std.specs.List.{All};
 ghost use Rattle.tk_problem.specs.declared.limits.TheConstants.{CITY_LIMIT};
 ghost use Rattle.tk_starts.specs.Joints.{joints_at, ArePartPaths};
 ghost use Rattle.tk_starts.specs.declared.merges.pairs.Pair.{Pair};
 ghost use Rattle.tk_distance.specs.Cities.{IsCity};
-ghost use Rattle.tk_starts.specs.PathEnds.{at, AreJoined, AreBoth, IsLinked, IsSetAt, load_of, IsWithin, is_end_at, may_join_at, Follows, IsWay};
+ghost use Rattle.tk_starts.specs.PathEnds.{at, AreJoined, AreBoth, IsLinked, IsSetAt, load_of, IsWithin, is_end_at};
+ghost use Rattle.tk_starts.specs.PathEnds.{may_join_at, Follows, IsWay};
 
 use crate::merges::pairs::Pair;
 use std::alloc::{AllocError, Global};

@@ -93,7 +93,8 @@ fn unsupported_headers(rt: HostRuntime) {
             (b"FIXED_EDGES_SECTION\n", 1, TextKind::Unsupported),
             (b"TOUR_SECTION\n", 1, TextKind::Unsupported),
             (
-                b"\nNAME : p\n TYPE : TSP\nDIMENSION : 2\nEDGE_WEIGHT_TYPE : GEO\nNODE_COORD_SECTION\n1 0 0\n2 1 1\nEOF\n",
+                b"\nNAME : p\n TYPE : TSP\nDIMENSION : 2\nEDGE_WEIGHT_TYPE : GEO\nNODE_COORD_SECTION\n1 0 0\n2 1 1\n\
+                EOF\n",
                 5,
                 TextKind::Unsupported,
             ),

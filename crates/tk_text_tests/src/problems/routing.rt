@@ -128,17 +128,20 @@ fn ends_of_routings(rt: HostRuntime) {
         a,
         &[
             (
-                b"TYPE : CVRP\nDIMENSION : 2\nEDGE_WEIGHT_TYPE : MAX_2D\nNODE_COORD_SECTION 1 0 0 2 1 1\nDEMAND_SECTION 1 0 2 4\nDEPOT_SECTION 1 -1\nEOF\n",
+                b"TYPE : CVRP\nDIMENSION : 2\nEDGE_WEIGHT_TYPE : MAX_2D\nNODE_COORD_SECTION 1 0 0 2 1 1\n\
+                DEMAND_SECTION 1 0 2 4\nDEPOT_SECTION 1 -1\nEOF\n",
                 7,
                 TextKind::Missing(Keyword::Capacity),
             ),
             (
-                b"TYPE : CVRP\nDIMENSION : 2\nEDGE_WEIGHT_TYPE : MAX_2D\nCAPACITY : 4\nNODE_COORD_SECTION 1 0 0 2 1 1\nDEPOT_SECTION 1 -1\nEOF\n",
+                b"TYPE : CVRP\nDIMENSION : 2\nEDGE_WEIGHT_TYPE : MAX_2D\nCAPACITY : 4\nNODE_COORD_SECTION 1 0 0 2 1 1\n\
+                DEPOT_SECTION 1 -1\nEOF\n",
                 7,
                 TextKind::Missing(Keyword::DemandSection),
             ),
             (
-                b"TYPE : CVRP\nDIMENSION : 2\nEDGE_WEIGHT_TYPE : MAX_2D\nCAPACITY : 4\nNODE_COORD_SECTION 1 0 0 2 1 1\nDEMAND_SECTION 1 0 2 4\nEOF\n",
+                b"TYPE : CVRP\nDIMENSION : 2\nEDGE_WEIGHT_TYPE : MAX_2D\nCAPACITY : 4\nNODE_COORD_SECTION 1 0 0 2 1 1\n\
+                DEMAND_SECTION 1 0 2 4\nEOF\n",
                 7,
                 TextKind::Missing(Keyword::DepotSection),
             ),
@@ -148,42 +151,50 @@ fn ends_of_routings(rt: HostRuntime) {
                 TextKind::Missing(Keyword::Capacity),
             ),
             (
-                b"TYPE : CVRP\nDIMENSION : 2\nEDGE_WEIGHT_TYPE : MAX_2D\nCAPACITY : 4\nDEMAND_SECTION 1 0 2 4\nDEPOT_SECTION 1 -1\n",
+                b"TYPE : CVRP\nDIMENSION : 2\nEDGE_WEIGHT_TYPE : MAX_2D\nCAPACITY : 4\nDEMAND_SECTION 1 0 2 4\n\
+                DEPOT_SECTION 1 -1\n",
                 7,
                 TextKind::Missing(Keyword::NodeCoordSection),
             ),
             (
-                b"TYPE : CVRP\nDIMENSION : 2\nCAPACITY : 4\nNODE_COORD_SECTION 1 0 0 2 1 1\nDEMAND_SECTION 1 0 2 4\nDEPOT_SECTION 1 -1\n",
+                b"TYPE : CVRP\nDIMENSION : 2\nCAPACITY : 4\nNODE_COORD_SECTION 1 0 0 2 1 1\nDEMAND_SECTION 1 0 2 4\n\
+                DEPOT_SECTION 1 -1\n",
                 7,
                 TextKind::Missing(Keyword::EdgeWeightType),
             ),
             (
-                b"TYPE : CVRP\nDIMENSION : 2\nEDGE_WEIGHT_TYPE : MAX_2D\nCAPACITY : 4\nNODE_COORD_SECTION 1 0 0 2 1 1\nDEMAND_SECTION 1 1 2 4\nDEPOT_SECTION 1 -1\nEOF\n",
+                b"TYPE : CVRP\nDIMENSION : 2\nEDGE_WEIGHT_TYPE : MAX_2D\nCAPACITY : 4\nNODE_COORD_SECTION 1 0 0 2 1 1\n\
+                DEMAND_SECTION 1 1 2 4\nDEPOT_SECTION 1 -1\nEOF\n",
                 8,
                 TextKind::BadDepot,
             ),
             (
-                b"TYPE : CVRP\nDIMENSION : 2\nEDGE_WEIGHT_TYPE : MAX_2D\nCAPACITY : 4\nNODE_COORD_SECTION 1 0 0 2 1 1\nDEMAND_SECTION 1 0 2 4\nDEPOT_SECTION 2\nEOF\n",
+                b"TYPE : CVRP\nDIMENSION : 2\nEDGE_WEIGHT_TYPE : MAX_2D\nCAPACITY : 4\nNODE_COORD_SECTION 1 0 0 2 1 1\n\
+                DEMAND_SECTION 1 0 2 4\nDEPOT_SECTION 2\nEOF\n",
                 8,
                 TextKind::BadDepot,
             ),
             (
-                b"TYPE : CVRP\nDIMENSION : 2\nEDGE_WEIGHT_TYPE : MAX_2D\nCAPACITY : 4\nNODE_COORD_SECTION 1 0 0 2 1 1\nDEMAND_SECTION 1 5 2 5\nDEPOT_SECTION 1 -1\nEOF\n",
+                b"TYPE : CVRP\nDIMENSION : 2\nEDGE_WEIGHT_TYPE : MAX_2D\nCAPACITY : 4\nNODE_COORD_SECTION 1 0 0 2 1 1\n\
+                DEMAND_SECTION 1 5 2 5\nDEPOT_SECTION 1 -1\nEOF\n",
                 8,
                 TextKind::BadDepot,
             ),
             (
-                b"TYPE : CVRP\nDIMENSION : 2\nEDGE_WEIGHT_TYPE : MAX_2D\nCAPACITY : 4\nNODE_COORD_SECTION 1 0 0 2 1 1\nDEMAND_SECTION 1 0 2 5\nDEPOT_SECTION 1 -1\nEOF\n",
+                b"TYPE : CVRP\nDIMENSION : 2\nEDGE_WEIGHT_TYPE : MAX_2D\nCAPACITY : 4\nNODE_COORD_SECTION 1 0 0 2 1 1\n\
+                DEMAND_SECTION 1 0 2 5\nDEPOT_SECTION 1 -1\nEOF\n",
                 8,
                 TextKind::DemandOverCapacity(2),
             ),
             (
-                b"TYPE : CVRP\nDIMENSION : 2\nEDGE_WEIGHT_TYPE : MAX_2D\nCAPACITY : 4\nNODE_COORD_SECTION 1 0 0 2 1 1\nDEMAND_SECTION 2 0 1 5\nDEPOT_SECTION 2\n\n",
+                b"TYPE : CVRP\nDIMENSION : 2\nEDGE_WEIGHT_TYPE : MAX_2D\nCAPACITY : 4\nNODE_COORD_SECTION 1 0 0 2 1 1\n\
+                DEMAND_SECTION 2 0 1 5\nDEPOT_SECTION 2\n\n",
                 9,
                 TextKind::DemandOverCapacity(1),
             ),
             (
-                b"TYPE : CVRP\nDIMENSION : 4\nEDGE_WEIGHT_TYPE : ATT\nCAPACITY : 4\nNODE_COORD_SECTION 1 0 0 2 1 1 3 0 0 4 0 0\nDEMAND_SECTION 4 6 3 5 2 4 1 0\nDEPOT_SECTION 1 -1\n",
+                b"TYPE : CVRP\nDIMENSION : 4\nEDGE_WEIGHT_TYPE : ATT\nCAPACITY : 4\n\
+                NODE_COORD_SECTION 1 0 0 2 1 1 3 0 0 4 0 0\nDEMAND_SECTION 4 6 3 5 2 4 1 0\nDEPOT_SECTION 1 -1\n",
                 8,
                 TextKind::DemandOverCapacity(3),
             ),

@@ -100,27 +100,32 @@ fn unsupported_sections(rt: HostRuntime) {
                 TextKind::Unsupported,
             ),
             (
-                b"TYPE : TSP\nDIMENSION : 2\nEDGE_WEIGHT_TYPE : ATT\nEDGE_WEIGHT_FORMAT : UPPER_ROW\nEDGE_WEIGHT_SECTION\n",
+                b"TYPE : TSP\nDIMENSION : 2\nEDGE_WEIGHT_TYPE : ATT\nEDGE_WEIGHT_FORMAT : UPPER_ROW\n\
+                EDGE_WEIGHT_SECTION\n",
                 5,
                 TextKind::Unsupported,
             ),
             (
-                b"TYPE : TSP\nDIMENSION : 5001\nEDGE_WEIGHT_TYPE : ATT\nEDGE_WEIGHT_FORMAT : UPPER_ROW\nEDGE_WEIGHT_SECTION\n",
+                b"TYPE : TSP\nDIMENSION : 5001\nEDGE_WEIGHT_TYPE : ATT\nEDGE_WEIGHT_FORMAT : UPPER_ROW\n\
+                EDGE_WEIGHT_SECTION\n",
                 5,
                 TextKind::Unsupported,
             ),
             (
-                b"TYPE : TSP\nDIMENSION : 2\nEDGE_WEIGHT_TYPE : EXPLICIT\nEDGE_WEIGHT_FORMAT : FUNCTION\nEDGE_WEIGHT_SECTION\n",
+                b"TYPE : TSP\nDIMENSION : 2\nEDGE_WEIGHT_TYPE : EXPLICIT\nEDGE_WEIGHT_FORMAT : FUNCTION\n\
+                EDGE_WEIGHT_SECTION\n",
                 5,
                 TextKind::Unsupported,
             ),
             (
-                b"TYPE : TSP\nDIMENSION : 5001\nEDGE_WEIGHT_TYPE : EXPLICIT\nEDGE_WEIGHT_FORMAT : UPPER_ROW\nEDGE_WEIGHT_SECTION\n",
+                b"TYPE : TSP\nDIMENSION : 5001\nEDGE_WEIGHT_TYPE : EXPLICIT\nEDGE_WEIGHT_FORMAT : UPPER_ROW\n\
+                EDGE_WEIGHT_SECTION\n",
                 5,
                 TextKind::OutOfLimit,
             ),
             (
-                b"TYPE : TSP\nDIMENSION : 5000\nEDGE_WEIGHT_TYPE : EXPLICIT\nEDGE_WEIGHT_FORMAT : UPPER_ROW\nEDGE_WEIGHT_SECTION\n",
+                b"TYPE : TSP\nDIMENSION : 5000\nEDGE_WEIGHT_TYPE : EXPLICIT\nEDGE_WEIGHT_FORMAT : UPPER_ROW\n\
+                EDGE_WEIGHT_SECTION\n",
                 6,
                 TextKind::Truncated,
             ),
@@ -156,7 +161,8 @@ fn repeated_sections(rt: HostRuntime) {
                 TextKind::Repeated,
             ),
             (
-                b"TYPE : CVRP\nDIMENSION : 2\nEDGE_WEIGHT_TYPE : EXPLICIT\nEDGE_WEIGHT_FORMAT : UPPER_ROW\nEDGE_WEIGHT_SECTION 7\nEDGE_WEIGHT_SECTION 8\n",
+                b"TYPE : CVRP\nDIMENSION : 2\nEDGE_WEIGHT_TYPE : EXPLICIT\nEDGE_WEIGHT_FORMAT : UPPER_ROW\n\
+                EDGE_WEIGHT_SECTION 7\nEDGE_WEIGHT_SECTION 8\n",
                 6,
                 TextKind::Repeated,
             ),
@@ -307,17 +313,20 @@ fn places(rt: HostRuntime) {
                 TextKind::BadNumber,
             ),
             (
-                b"TYPE : TSP\nDIMENSION : 2\nEDGE_WEIGHT_TYPE : MAN_2D\nNODE_COORD_SECTION\n1111111111111111111111111111111111111111111111111111111111111111\n",
+                b"TYPE : TSP\nDIMENSION : 2\nEDGE_WEIGHT_TYPE : MAN_2D\nNODE_COORD_SECTION\n\
+                1111111111111111111111111111111111111111111111111111111111111111\n",
                 5,
                 TextKind::BadNumber,
             ),
             (
-                b"TYPE : TSP\nDIMENSION : 2\nEDGE_WEIGHT_TYPE : MAN_2D\nNODE_COORD_SECTION\n11111111111111111111111111111111111111111111111111111111111111111\n",
+                b"TYPE : TSP\nDIMENSION : 2\nEDGE_WEIGHT_TYPE : MAN_2D\nNODE_COORD_SECTION\n\
+                11111111111111111111111111111111111111111111111111111111111111111\n",
                 5,
                 TextKind::TooLong,
             ),
             (
-                b"TYPE : TSP\nDIMENSION : 2\nEDGE_WEIGHT_TYPE : MAN_2D\nNODE_COORD_SECTION\n1 0 00000000000000000000000000000000000000000000000000000000000000000\n",
+                b"TYPE : TSP\nDIMENSION : 2\nEDGE_WEIGHT_TYPE : MAN_2D\nNODE_COORD_SECTION\n\
+                1 0 00000000000000000000000000000000000000000000000000000000000000000\n",
                 5,
                 TextKind::TooLong,
             ),
@@ -334,12 +343,14 @@ fn contradictions(rt: HostRuntime) {
         a,
         &[
             (
-                b"NAME : p\nTYPE : TSP\nDIMENSION : 3\nEDGE_WEIGHT_TYPE : EUC_2D\nNODE_COORD_SECTION\n1 0 0\n2 3 0\n3 0 4\n4 0 0\nEOF\n",
+                b"NAME : p\nTYPE : TSP\nDIMENSION : 3\nEDGE_WEIGHT_TYPE : EUC_2D\nNODE_COORD_SECTION\n1 0 0\n2 3 0\n\
+                3 0 4\n4 0 0\nEOF\n",
                 9,
                 TextKind::TrailingData,
             ),
             (
-                b"NAME : p\nTYPE : TSP\nDIMENSION : 3\nDIMENSION : 3\nEDGE_WEIGHT_TYPE : EUC_2D\nNODE_COORD_SECTION\n1 0 0\n2 3 0\n3 0 4\nEOF\n",
+                b"NAME : p\nTYPE : TSP\nDIMENSION : 3\nDIMENSION : 3\nEDGE_WEIGHT_TYPE : EUC_2D\nNODE_COORD_SECTION\n\
+                1 0 0\n2 3 0\n3 0 4\nEOF\n",
                 4,
                 TextKind::Repeated,
             ),
@@ -349,7 +360,8 @@ fn contradictions(rt: HostRuntime) {
                 TextKind::Missing(Keyword::Dimension),
             ),
             (
-                b"NAME : p\nTYPE : TSP\nDIMENSION : 3\nEDGE_WEIGHT_TYPE : EUC_2D\nNODE_COORD_SECTION\n1 0 0\n1 0 0\n3 0 4\nEOF\n",
+                b"NAME : p\nTYPE : TSP\nDIMENSION : 3\nEDGE_WEIGHT_TYPE : EUC_2D\nNODE_COORD_SECTION\n1 0 0\n1 0 0\n\
+                3 0 4\nEOF\n",
                 7,
                 TextKind::BadNode,
             ),
@@ -365,82 +377,98 @@ fn explicit_weights(rt: HostRuntime) {
         a,
         &[
             (
-                b"TYPE : TSP\nDIMENSION : 3\nEDGE_WEIGHT_TYPE : EXPLICIT\nEDGE_WEIGHT_FORMAT : FULL_MATRIX\nEDGE_WEIGHT_SECTION\n0 3 5\n4 0 6\n5 6 0\nEOF\n",
+                b"TYPE : TSP\nDIMENSION : 3\nEDGE_WEIGHT_TYPE : EXPLICIT\nEDGE_WEIGHT_FORMAT : FULL_MATRIX\n\
+                EDGE_WEIGHT_SECTION\n0 3 5\n4 0 6\n5 6 0\nEOF\n",
                 7,
                 TextKind::NotSymmetric(1, 2),
             ),
             (
-                b"TYPE : TSP\nDIMENSION : 3\nEDGE_WEIGHT_TYPE : EXPLICIT\nEDGE_WEIGHT_FORMAT : FULL_MATRIX\nEDGE_WEIGHT_SECTION\n0 3 5\n3 0 6\n4 6 0\nEOF\n",
+                b"TYPE : TSP\nDIMENSION : 3\nEDGE_WEIGHT_TYPE : EXPLICIT\nEDGE_WEIGHT_FORMAT : FULL_MATRIX\n\
+                EDGE_WEIGHT_SECTION\n0 3 5\n3 0 6\n4 6 0\nEOF\n",
                 8,
                 TextKind::NotSymmetric(1, 3),
             ),
             (
-                b"TYPE : TSP\nDIMENSION : 3\nEDGE_WEIGHT_TYPE : EXPLICIT\nEDGE_WEIGHT_FORMAT : FULL_MATRIX\nEDGE_WEIGHT_SECTION\n0 3 5\n3 0 6\n5 7\n0\nEOF\n",
+                b"TYPE : TSP\nDIMENSION : 3\nEDGE_WEIGHT_TYPE : EXPLICIT\nEDGE_WEIGHT_FORMAT : FULL_MATRIX\n\
+                EDGE_WEIGHT_SECTION\n0 3 5\n3 0 6\n5 7\n0\nEOF\n",
                 8,
                 TextKind::NotSymmetric(2, 3),
             ),
             (
-                b"TYPE : TSP\nDIMENSION : 3\nEDGE_WEIGHT_TYPE : EXPLICIT\nEDGE_WEIGHT_FORMAT : FULL_MATRIX\nEDGE_WEIGHT_SECTION\n0 3 5\n-4 0 6\n",
+                b"TYPE : TSP\nDIMENSION : 3\nEDGE_WEIGHT_TYPE : EXPLICIT\nEDGE_WEIGHT_FORMAT : FULL_MATRIX\n\
+                EDGE_WEIGHT_SECTION\n0 3 5\n-4 0 6\n",
                 7,
                 TextKind::OutOfLimit,
             ),
             (
-                b"TYPE : TSP\nDIMENSION : 3\nEDGE_WEIGHT_TYPE : EXPLICIT\nEDGE_WEIGHT_FORMAT : FULL_MATRIX\nEDGE_WEIGHT_SECTION\n0 3 5\n4000000001 0 6\n",
+                b"TYPE : TSP\nDIMENSION : 3\nEDGE_WEIGHT_TYPE : EXPLICIT\nEDGE_WEIGHT_FORMAT : FULL_MATRIX\n\
+                EDGE_WEIGHT_SECTION\n0 3 5\n4000000001 0 6\n",
                 7,
                 TextKind::OutOfLimit,
             ),
             (
-                b"TYPE : TSP\nDIMENSION : 3\nEDGE_WEIGHT_TYPE : EXPLICIT\nEDGE_WEIGHT_FORMAT : FULL_MATRIX\nEDGE_WEIGHT_SECTION\nx 3 5\n",
+                b"TYPE : TSP\nDIMENSION : 3\nEDGE_WEIGHT_TYPE : EXPLICIT\nEDGE_WEIGHT_FORMAT : FULL_MATRIX\n\
+                EDGE_WEIGHT_SECTION\nx 3 5\n",
                 6,
                 TextKind::BadNumber,
             ),
             (
-                b"TYPE : TSP\nDIMENSION : 3\nEDGE_WEIGHT_TYPE : EXPLICIT\nEDGE_WEIGHT_FORMAT : FULL_MATRIX\nEDGE_WEIGHT_SECTION\n0 3 5\n3 0 6\n5 6\nEOF\n",
+                b"TYPE : TSP\nDIMENSION : 3\nEDGE_WEIGHT_TYPE : EXPLICIT\nEDGE_WEIGHT_FORMAT : FULL_MATRIX\n\
+                EDGE_WEIGHT_SECTION\n0 3 5\n3 0 6\n5 6\nEOF\n",
                 9,
                 TextKind::Truncated,
             ),
             (
-                b"TYPE : TSP\nDIMENSION : 3\nEDGE_WEIGHT_TYPE : EXPLICIT\nEDGE_WEIGHT_FORMAT : UPPER_ROW\nEDGE_WEIGHT_SECTION\n1 -1 1\n",
+                b"TYPE : TSP\nDIMENSION : 3\nEDGE_WEIGHT_TYPE : EXPLICIT\nEDGE_WEIGHT_FORMAT : UPPER_ROW\n\
+                EDGE_WEIGHT_SECTION\n1 -1 1\n",
                 6,
                 TextKind::OutOfLimit,
             ),
             (
-                b"TYPE : TSP\nDIMENSION : 3\nEDGE_WEIGHT_TYPE : EXPLICIT\nEDGE_WEIGHT_FORMAT : UPPER_ROW\nEDGE_WEIGHT_SECTION\n1 2\n4000000001\n",
+                b"TYPE : TSP\nDIMENSION : 3\nEDGE_WEIGHT_TYPE : EXPLICIT\nEDGE_WEIGHT_FORMAT : UPPER_ROW\n\
+                EDGE_WEIGHT_SECTION\n1 2\n4000000001\n",
                 7,
                 TextKind::OutOfLimit,
             ),
             (
-                b"TYPE : TSP\nDIMENSION : 3\nEDGE_WEIGHT_TYPE : EXPLICIT\nEDGE_WEIGHT_FORMAT : UPPER_ROW\nEDGE_WEIGHT_SECTION\n1 2.0 1\n",
+                b"TYPE : TSP\nDIMENSION : 3\nEDGE_WEIGHT_TYPE : EXPLICIT\nEDGE_WEIGHT_FORMAT : UPPER_ROW\n\
+                EDGE_WEIGHT_SECTION\n1 2.0 1\n",
                 6,
                 TextKind::BadNumber,
             ),
             (
-                b"TYPE : TSP\nDIMENSION : 3\nEDGE_WEIGHT_TYPE : EXPLICIT\nEDGE_WEIGHT_FORMAT : UPPER_ROW\nEDGE_WEIGHT_SECTION 1 2 EOF\n",
+                b"TYPE : TSP\nDIMENSION : 3\nEDGE_WEIGHT_TYPE : EXPLICIT\nEDGE_WEIGHT_FORMAT : UPPER_ROW\n\
+                EDGE_WEIGHT_SECTION 1 2 EOF\n",
                 5,
                 TextKind::Truncated,
             ),
             (
-                b"TYPE : TSP\nDIMENSION : 3\nEDGE_WEIGHT_TYPE : EXPLICIT\nEDGE_WEIGHT_FORMAT : UPPER_ROW\nEDGE_WEIGHT_SECTION\n1 2\n",
+                b"TYPE : TSP\nDIMENSION : 3\nEDGE_WEIGHT_TYPE : EXPLICIT\nEDGE_WEIGHT_FORMAT : UPPER_ROW\n\
+                EDGE_WEIGHT_SECTION\n1 2\n",
                 7,
                 TextKind::Truncated,
             ),
             (
-                b"TYPE : TSP\nDIMENSION : 3\nEDGE_WEIGHT_TYPE : EXPLICIT\nEDGE_WEIGHT_FORMAT : UPPER_ROW\nEDGE_WEIGHT_SECTION\n1 2 3 4\n",
+                b"TYPE : TSP\nDIMENSION : 3\nEDGE_WEIGHT_TYPE : EXPLICIT\nEDGE_WEIGHT_FORMAT : UPPER_ROW\n\
+                EDGE_WEIGHT_SECTION\n1 2 3 4\n",
                 6,
                 TextKind::TrailingData,
             ),
             (
-                b"TYPE : TSP\nDIMENSION : 3\nEDGE_WEIGHT_TYPE : EXPLICIT\nEDGE_WEIGHT_FORMAT : UPPER_ROW\nEDGE_WEIGHT_SECTION\n1 2 3\n4\n",
+                b"TYPE : TSP\nDIMENSION : 3\nEDGE_WEIGHT_TYPE : EXPLICIT\nEDGE_WEIGHT_FORMAT : UPPER_ROW\n\
+                EDGE_WEIGHT_SECTION\n1 2 3\n4\n",
                 7,
                 TextKind::TrailingData,
             ),
             (
-                b"TYPE : TSP\nDIMENSION : 3\nEDGE_WEIGHT_TYPE : EXPLICIT\nEDGE_WEIGHT_FORMAT : LOWER_DIAG_ROW\nEDGE_WEIGHT_SECTION\n0 1 x\n",
+                b"TYPE : TSP\nDIMENSION : 3\nEDGE_WEIGHT_TYPE : EXPLICIT\nEDGE_WEIGHT_FORMAT : LOWER_DIAG_ROW\n\
+                EDGE_WEIGHT_SECTION\n0 1 x\n",
                 6,
                 TextKind::BadNumber,
             ),
             (
-                b"TYPE : TSP\nDIMENSION : 3\nEDGE_WEIGHT_TYPE : EXPLICIT\nEDGE_WEIGHT_FORMAT : LOWER_DIAG_ROW\nEDGE_WEIGHT_SECTION\n0 1 0 2 -3 0\n",
+                b"TYPE : TSP\nDIMENSION : 3\nEDGE_WEIGHT_TYPE : EXPLICIT\nEDGE_WEIGHT_FORMAT : LOWER_DIAG_ROW\n\
+                EDGE_WEIGHT_SECTION\n0 1 0 2 -3 0\n",
                 6,
                 TextKind::OutOfLimit,
             ),
@@ -450,7 +478,8 @@ fn explicit_weights(rt: HostRuntime) {
                 TextKind::Missing(Keyword::EdgeWeightSection),
             ),
             (
-                b"TYPE : TSP\nDIMENSION : 3\nEDGE_WEIGHT_TYPE : EXPLICIT\nEDGE_WEIGHT_FORMAT : UPPER_ROW\nNODE_COORD_SECTION\n1 0 0 2 0 0 3 0 0\nEOF\n",
+                b"TYPE : TSP\nDIMENSION : 3\nEDGE_WEIGHT_TYPE : EXPLICIT\nEDGE_WEIGHT_FORMAT : UPPER_ROW\n\
+                NODE_COORD_SECTION\n1 0 0 2 0 0 3 0 0\nEOF\n",
                 7,
                 TextKind::Missing(Keyword::EdgeWeightSection),
             ),

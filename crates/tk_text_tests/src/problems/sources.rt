@@ -22,7 +22,8 @@ fn expect_failed_source(rt: &impl Abort, alloc: Global, text: &[u8]) {
 fn failing_sources(rt: HostRuntime) {
     let a = rt.alloc();
     let text: &[u8] =
-        b"NAME : p\nTYPE : TSP\nDIMENSION : 3\nEDGE_WEIGHT_TYPE : EUC_2D\nNODE_COORD_SECTION\n1 0 0\n2 3 0\n3 0 4\nEOF\n";
+        b"NAME : p\nTYPE : TSP\nDIMENSION : 3\nEDGE_WEIGHT_TYPE : EUC_2D\nNODE_COORD_SECTION\n1 0 0\n2 3 0\n3 0 4\n\
+        EOF\n";
     assert!(rt; text.len() == 101);
     for end in 0..101usize {
         expect_failed_source(&rt, a, &text[..end]);

@@ -343,7 +343,8 @@ fn weights_at_their_limits(rt: HostRuntime) -> Result<(), Fail> {
 #[test]
 fn coordinates(rt: HostRuntime) -> Result<(), Fail> {
     let text =
-        b"TYPE : TSP\nDIMENSION : 4\nEDGE_WEIGHT_TYPE : ATT\nNODE_COORD_SECTION\n1 0.1 1e9\n4 -1e9 -.1\n2 1.0e+01 .5\n3 0.0000000019 -0.0000000001\nEOF\n";
+        b"TYPE : TSP\nDIMENSION : 4\nEDGE_WEIGHT_TYPE : ATT\nNODE_COORD_SECTION\n1 0.1 1e9\n4 -1e9 -.1\n2 1.0e+01 .5\n\
+        3 0.0000000019 -0.0000000001\nEOF\n";
     let problem = read(&rt, rt.alloc(), text)?;
     let places = [
         Point {
@@ -420,7 +421,9 @@ fn expect_depot(rt: &impl Abort, alloc: Global, end: &[u8]) -> Result<(), Fail> 
     let problem = read_joined(
         rt,
         alloc,
-        b"name : a b  c \nTYPE : CVRP : x\nDIMENSION 3\nEDGE_WEIGHT_TYPE EUC_2D\nCAPACITY : 2000000000\nNODE_COORD_SECTION\n1 10 0\n2 0 0\n3 11 0\nDEMAND_SECTION\n3 2000000000\n1 1\n2 0\nDISPLAY_DATA_SECTION\n1 x y 2 x y 3 x y\nDEPOT_SECTION ",
+        b"name : a b  c \nTYPE : CVRP : x\nDIMENSION 3\nEDGE_WEIGHT_TYPE EUC_2D\nCAPACITY : 2000000000\n\
+        NODE_COORD_SECTION\n1 10 0\n2 0 0\n3 11 0\nDEMAND_SECTION\n3 2000000000\n1 1\n2 0\nDISPLAY_DATA_SECTION\n\
+        1 x y 2 x y 3 x y\nDEPOT_SECTION ",
         end,
     )?;
     assert!(rt; problem.name.as_slice() == b"a b  c".as_slice());

@@ -14,7 +14,8 @@ const FOUR: [u32; 16] = [0, 1, 2, 3, 1, 0, 4, 5, 2, 4, 0, 6, 3, 5, 6, 0];
 const THREE: [u32; 9] = [0, 3, 4, 3, 0, 5, 4, 5, 0];
 
 const THREE_TEXT: &[u8] =
-    b"NAME : p\nTYPE : TSP\nDIMENSION : 3\nEDGE_WEIGHT_TYPE : EXPLICIT\nEDGE_WEIGHT_FORMAT : LOWER_DIAG_ROW\nEDGE_WEIGHT_SECTION\n0\n3 0\n4 5 0\nEOF\n";
+    b"NAME : p\nTYPE : TSP\nDIMENSION : 3\nEDGE_WEIGHT_TYPE : EXPLICIT\nEDGE_WEIGHT_FORMAT : LOWER_DIAG_ROW\n\
+    EDGE_WEIGHT_SECTION\n0\n3 0\n4 5 0\nEOF\n";
 
 fn four(a: u32, b: u32) -> i64
     requires a { (1 ≤ a) × (a ≤ 4) }

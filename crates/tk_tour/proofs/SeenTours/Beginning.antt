@@ -10,21 +10,26 @@ use Rattle.tk_tour.specs.declared.stores.segments.run.Run.{Run}
 use Rattle.tk_tour.proofs.SeenTours.Showing.{shown-begun}
 use Rattle.tk_tour.proofs.SeenTours.SeenPlaces.{AreWithin}
 use Rattle.tk_tour.proofs.SeenTours.Placing.{shown-placed, sum_sizes-placed, placed-placed, sum_sizes-part}
-use Rattle.tk_tour.proofs.SeenTours.Turning.{within_of, all_within, within-append, within_left, within_right, within-placed, length-shown-sum}
+use Rattle.tk_tour.proofs.SeenTours.Turning.{within_of, all_within, within-append, within_left, within_right}
+use Rattle.tk_tour.proofs.SeenTours.Turning.{within-placed, length-shown-sum}
 
 whole_within : (n k : ℕ) (old : List Run) → AreLaidOut n old → AreWithin n (take k old ++ drop k old)
-whole_within n k old h = let P : List Run → Type 0 = λ v. AreWithin n v in subst P (sym (take-append-drop k old)) (within_of n old h.within)
+whole_within n k old h = let P : List Run → Type 0 = λ v. AreWithin n v in
+    subst P (sym (take-append-drop k old)) (within_of n old h.within)
 
-pub begun_shows : (n k v : ℕ) (order : List ℕ) (old new : List Run) → AreLaidOut n old → n ≤ length order → sum_by size_of (take k old) ≡ v → new ≡ placed 0 (drop k old ++ take k old) →
+pub begun_shows : (n k v : ℕ) (order : List ℕ) (old new : List Run) → AreLaidOut n old → n ≤ length order →
+    sum_by size_of (take k old) ≡ v → new ≡ placed 0 (drop k old ++ take k old) →
     shown order new ≡ begun_at v (shown order old)
 begun_shows n k v order old new h le e f =
     let us : List Run = take k old in
     let ws : List Run = drop k old in
     ap (shown order) f ∙ shown-placed order 0 (ws ++ us) ∙ shown-begun order us ws
-    ∙ ap (λ u. begun_at u (shown order (us ++ ws))) (length-shown-sum n order us (within_left n us ws (whole_within n k old h)) le ∙ e)
+    ∙ ap (λ u. begun_at u (shown order (us ++ ws)))
+    (length-shown-sum n order us (within_left n us ws (whole_within n k old h)) le ∙ e)
     ∙ ap (λ u. begun_at v (shown order u)) (take-append-drop k old)
 
-pub begun_laid : (n k : ℕ) (old new : List Run) → AreLaidOut n old → new ≡ placed 0 (drop k old ++ take k old) → AreLaidOut n new
+pub begun_laid : (n k : ℕ) (old new : List Run) → AreLaidOut n old → new ≡ placed 0 (drop k old ++ take k old) →
+    AreLaidOut n new
 begun_laid n k old new h f =
     let us : List Run = take k old in
     let ws : List Run = drop k old in
@@ -32,12 +37,15 @@ begun_laid n k old new h f =
     let P : List Run → Type 0 = λ v. AreLaidOut n v in
     subst P (sym f)
     (record {
-      within = all_within n (placed 0 (ws ++ us)) (within-placed n 0 (ws ++ us) (within-append n ws us (within_right n us ws all) (within_left n us ws all)));
+      within =
+          all_within n (placed 0 (ws ++ us))
+          (within-placed n 0 (ws ++ us) (within-append n ws us (within_right n us ws all) (within_left n us ws all)));
       starts = sym (placed-placed 0 0 (ws ++ us));
       whole = omega (arith, sum_sizes-placed 0 (ws ++ us), sum_by-append size_of ws us, sum_sizes-part k old, h.whole);
     })
 
-pub begun_sizes : (n k : ℕ) (old : List Run) → AreLaidOut n old → n ≤ 100000 → (All (λ r. r.low ≤ r.high) (drop k old ++ take k old)) × (0 + sum_by size_of (drop k old ++ take k old) ≤ 100000)
+pub begun_sizes : (n k : ℕ) (old : List Run) → AreLaidOut n old → n ≤ 100000 →
+    (All (λ r. r.low ≤ r.high) (drop k old ++ take k old)) × (0 + sum_by size_of (drop k old ++ take k old) ≤ 100000)
 begun_sizes n k old h small =
     let us : List Run = take k old in
     let ws : List Run = drop k old in

@@ -1,8 +1,10 @@
 -- The names of runs: after a split, and where the runs stand in another order.
-use Rattle.std.proofs.Common.{◌≡◌, ◌≢◌, ℕ, true, false, ◌+◌, ◌-◌, ◌<◌, ◌≤◌, ⊎_elim, List, length, set, sym, ap, ◌∙◌, subst, arith, get_or}
+use Rattle.std.proofs.Common.{◌≡◌, ◌≢◌, ℕ, true, false, ◌+◌, ◌-◌, ◌<◌, ◌≤◌, ⊎_elim, List, length, set, sym, ap, ◌∙◌}
+use Rattle.std.proofs.Common.{subst, arith, get_or}
 use Rattle.std.proofs.lemmas.Bool.{cases_lt}
 use Rattle.std.proofs.lemmas.List.{get_or_default, get_or-set_same, get_or-set_other}
-use Rattle.tk_tour.specs.Runs.{IsSplit, HaveNames, AreNamed, AreNamedTo, SameBefore, Names, Holds, CanBeFound, StandsAs, HoldsAs, AreFound}
+use Rattle.tk_tour.specs.Runs.{IsSplit, HaveNames, AreNamed, AreNamedTo, SameBefore, Names, Holds, CanBeFound, StandsAs}
+use Rattle.tk_tour.specs.Runs.{HoldsAs, AreFound}
 use Rattle.tk_tour.specs.declared.stores.segments.run.Run.{Run}
 use Rattle.tk_tour.proofs.SeenTours.Splitting.{cases_bool}
 use Rattle.tk_tour.proofs.SeenTours.Naming.{split_at, split_entry_before, split_entry_beyond}
@@ -14,14 +16,16 @@ named_names runs home named = record {
       absurd (omega (arith, (named j d (omega (arith, lt, lk))).1, ap (λ u. get_or home u 0) e, (named k d lk).1, lt));
 }
 
-pub named_to : (k : ℕ) (old new : List Run) (home : List ℕ) → AreNamed old home → SameBefore k old new → AreNamedTo k new home
+pub named_to : (k : ℕ) (old new : List Run) (home : List ℕ) → AreNamed old home → SameBefore k old new →
+    AreNamedTo k new home
 named_to k old new home named same = λ j d lj _.
     ap (λ u. get_or home u 0) (same.1 j d lj) ∙ (named j d (omega (arith, lj, same.0))).1
 
 pub SameBefore-sym : (k : ℕ) (old new : List Run) → k ≤ length new → SameBefore k old new → SameBefore k new old
 SameBefore-sym k old new le h = (le, λ j d lt. sym (h.1 j d lt))
 
-pub SameBefore-trans : (i j : ℕ) (old mid new : List Run) → SameBefore i old mid → SameBefore j mid new → i ≤ j → SameBefore i old new
+pub SameBefore-trans : (i j : ℕ) (old mid new : List Run) → SameBefore i old mid → SameBefore j mid new → i ≤ j →
+    SameBefore i old new
 SameBefore-trans i j old mid new h k le = (h.0, λ l d lt. k.1 l d (omega (arith, lt, le)) ∙ h.1 l d lt)
 
 -- the names after one run was put in at f, with a new name
@@ -34,7 +38,8 @@ pub record IdsAfter (f : ℕ) (old new : List Run) : Type 0 where
 
 pub names_after : (f : ℕ) (old new : List Run) → IdsAfter f old new → HaveNames old → HaveNames new
 names_after f old new h names =
-    let back : (i : ℕ) (d : Run) → f < i → i < length new → (get_or new i d).id ≡ (get_or old (i - 1) d).id = λ i d lt li.
+    let back : (i : ℕ) (d : Run) → f < i → i < length new →
+    (get_or new i d).id ≡ (get_or old (i - 1) d).id = λ i d lt li.
     let e : i - 1 + 1 ≡ i = omega (arith, lt) in
     ap (λ u. (get_or new u d).id) (sym e) ∙ h.beyond (i - 1) d (omega (arith, lt)) (omega (arith, lt, li, h.size)) in
     record {
@@ -43,13 +48,15 @@ names_after f old new h names =
           (λ (a : k < f). omega (arith, h.before k d a, names.less k d (omega (arith, a, h.inside)), h.size))
           (λ (a : f ≤ k). ⊎_elim
           (λ (b : f < k). omega (arith, back k d b lk, names.less (k - 1) d (omega (arith, b, lk, h.size)), h.size))
-          (λ (b : k ≤ f). let e : k ≡ f = omega (arith, a, b) in omega (arith, ap (λ u. (get_or new u d).id) e, h.fresh d, h.size))
+          (λ (b : k ≤ f). let e : k ≡ f = omega (arith, a, b) in
+          omega (arith, ap (λ u. (get_or new u d).id) e, h.fresh d, h.size))
           (cases_lt f k))
           (cases_lt k f);
       apart = λ j k d lt lk e.
           ⊎_elim
           (λ (a : k < f).
-          names.apart j k d lt (omega (arith, a, h.inside)) (sym (h.before j d (omega (arith, lt, a))) ∙ e ∙ h.before k d a))
+          names.apart j k d lt (omega (arith, a, h.inside)) (sym (h.before j d (omega (arith, lt, a))) ∙ e
+          ∙ h.before k d a))
           (λ (a : f ≤ k). ⊎_elim
           (λ (b : f < k).
           let ek = back k d b lk in
@@ -62,12 +69,26 @@ names_after f old new h names =
           names.apart (j - 1) (k - 1) d (omega (arith, g, lt)) (omega (arith, b, lk, h.size)) (sym ej ∙ e ∙ ek))
           (λ (g : j ≤ f).
           let s : j ≡ f = omega (arith, c, g) in
-          omega (arith, names.less (k - 1) d (omega (arith, b, lk, h.size)), ek, e, ap (λ u. (get_or new u d).id) s, h.fresh d))
+          omega (
+            arith,
+            names.less (k - 1) d (omega (arith, b, lk, h.size)),
+            ek,
+            e,
+            ap (λ u. (get_or new u d).id) s,
+            h.fresh d,
+          ))
           (cases_lt f j))
           (cases_lt j f))
           (λ (b : k ≤ f).
           let s : k ≡ f = omega (arith, a, b) in
-          omega (arith, names.less j d (omega (arith, lt, b, h.inside)), h.before j d (omega (arith, lt, b)), e, ap (λ u. (get_or new u d).id) s, h.fresh d))
+          omega (
+            arith,
+            names.less j d (omega (arith, lt, b, h.inside)),
+            h.before j d (omega (arith, lt, b)),
+            e,
+            ap (λ u. (get_or new u d).id) s,
+            h.fresh d,
+          ))
           (cases_lt f k))
           (cases_lt k f);
     }
@@ -86,15 +107,22 @@ names_before f old new h names =
       less = λ k d lk.
           ⊎_elim
           (λ (a : k < f). omega (arith, fresh k d (omega (arith, lk, h.size)) (omega (arith, a)), h.before k d a))
-          (λ (a : f ≤ k). omega (arith, fresh (k + 1) d (omega (arith, lk, h.size)) (omega (arith, a)), h.beyond k d a lk))
+          (λ (a : f ≤ k). omega (
+            arith,
+            fresh (k + 1) d (omega (arith, lk, h.size)) (omega (arith, a)),
+            h.beyond k d a lk,
+          ))
           (cases_lt k f);
       apart = λ j k d lt lk e.
           ⊎_elim
-          (λ (a : k < f). names.apart j k d lt (omega (arith, lk, h.size)) (h.before j d (omega (arith, lt, a)) ∙ e ∙ sym (h.before k d a)))
+          (λ (a : k < f). names.apart j k d lt (omega (arith, lk, h.size)) (h.before j d (omega (arith, lt, a)) ∙ e
+          ∙ sym (h.before k d a)))
           (λ (a : f ≤ k). ⊎_elim
-          (λ (b : j < f). names.apart j (k + 1) d (omega (arith, lt)) (omega (arith, lk, h.size)) (h.before j d b ∙ e ∙ sym (h.beyond k d a lk)))
+          (λ (b : j < f). names.apart j (k + 1) d (omega (arith, lt)) (omega (arith, lk, h.size)) (h.before j d b ∙ e
+          ∙ sym (h.beyond k d a lk)))
           (λ (b : f ≤ j).
-          names.apart (j + 1) (k + 1) d (omega (arith, lt)) (omega (arith, lk, h.size)) (h.beyond j d b (omega (arith, lt, lk)) ∙ e ∙ sym (h.beyond k d a lk)))
+          names.apart (j + 1) (k + 1) d (omega (arith, lt)) (omega (arith, lk, h.size))
+          (h.beyond j d b (omega (arith, lt, lk)) ∙ e ∙ sym (h.beyond k d a lk)))
           (cases_lt j f))
           (cases_lt k f);
     }
@@ -121,7 +149,8 @@ split_ids old new k m lt s =
                 (λ (a : k < i). ap (λ (r : Run). r.id) (split_entry_beyond old new k m i d lt s a))
                 (λ (a : i ≤ k).
                 let z : i ≡ k = omega (arith, a, le) in
-                ap (λ u. (get_or new (u + 1) d).id) z ∙ ap (λ (r : Run). r.id) (two_at d) ∙ p.low_is.3 ∙ ap (λ (r : Run). r.id) (run_is d) ∙ ap (λ u. (get_or old u d).id) (sym z))
+                ap (λ u. (get_or new (u + 1) d).id) z ∙ ap (λ (r : Run). r.id) (two_at d) ∙ p.low_is.3
+                ∙ ap (λ (r : Run). r.id) (run_is d) ∙ ap (λ u. (get_or old u d).id) (sym z))
                 (cases_lt k i);
             fresh = λ d. ap (λ (r : Run). r.id) (one_at d) ∙ p.high_is.3;
           }),
@@ -135,7 +164,8 @@ split_ids old new k m lt s =
                 (λ (a : i < k). ap (λ (r : Run). r.id) (split_entry_before old new k m i d lt s a))
                 (λ (a : k ≤ i).
                 let z : i ≡ k = omega (arith, a, li) in
-                ap (λ u. (get_or new u d).id) z ∙ ap (λ (r : Run). r.id) (one_at d) ∙ p.low_is.3 ∙ ap (λ (r : Run). r.id) (run_is d) ∙ ap (λ u. (get_or old u d).id) (sym z))
+                ap (λ u. (get_or new u d).id) z ∙ ap (λ (r : Run). r.id) (one_at d) ∙ p.low_is.3
+                ∙ ap (λ (r : Run). r.id) (run_is d) ∙ ap (λ u. (get_or old u d).id) (sym z))
                 (cases_lt i k);
             beyond = λ i d le li. ap (λ (r : Run). r.id) (split_entry_beyond old new k m i d lt s (omega (arith, le)));
             fresh = λ d. ap (λ (r : Run). r.id) (two_at d) ∙ p.high_is.3;
@@ -149,7 +179,8 @@ split_names old new k m lt s h =
     (λ (e : s.run.back ≡ false). names_after (k + 1) old new ((split_ids old new k m lt s).1 e) h)
     (cases_bool s.run.back)
 
-pub split_names_before : (old new : List Run) (k m : ℕ) → k < length old → IsSplit old new k m → HaveNames new → HaveNames old
+pub split_names_before : (old new : List Run) (k m : ℕ) → k < length old → IsSplit old new k m → HaveNames new →
+    HaveNames old
 split_names_before old new k m lt s h =
     ⊎_elim
     (λ (e : s.run.back ≡ true). names_before k old new ((split_ids old new k m lt s).0 e) h)
@@ -187,7 +218,8 @@ reordered_names R old new h names = record {
       let f = h.from j (omega (arith, lt, lk, h.size)) in
       let g = h.from k (omega (arith, lk, h.size)) in
       let same : (get_or old f.0 d).id ≡ (get_or old g.0 d).id =
-      sym (h.alike j f.0 d (omega (arith, lt, lk, h.size)) f.1 f.2).id ∙ e ∙ (h.alike k g.0 d (omega (arith, lk, h.size)) g.1 g.2).id in
+      sym (h.alike j f.0 d (omega (arith, lt, lk, h.size)) f.1 f.2).id ∙ e
+      ∙ (h.alike k g.0 d (omega (arith, lk, h.size)) g.1 g.2).id in
       ⊎_elim
       (λ (a : f.0 < g.0). names.apart f.0 g.0 d a g.1 same)
       (λ (a : g.0 ≤ f.0). ⊎_elim
@@ -200,7 +232,8 @@ reordered_names R old new h names = record {
       (cases_lt f.0 g.0);
 }
 
-pub reordered_found : (R : ℕ → ℕ → Type 0) (n bucket : ℕ) (old new : List Run) (table : List ℕ) → AreReordered R old new →
+pub reordered_found : (R : ℕ → ℕ → Type 0) (n bucket : ℕ) (old new : List Run) (table : List ℕ) →
+    AreReordered R old new →
     CanBeFound n bucket old table → CanBeFound n bucket new table
 reordered_found R n bucket old new table h found =
     let names : (id low : ℕ) → Names old id low → Names new id low = λ id low k.
@@ -213,7 +246,8 @@ reordered_found R n bucket old new table h found =
     let t = h.to k.0 k.1 in (
       t.0,
       omega (arith, t.1, h.size),
-      (λ d. let a = h.alike t.0 k.0 d t.1 k.1 t.2 in (a.id ∙ (k.2 d).0, omega (arith, a.low, (k.2 d).1), omega (arith, a.high, (k.2 d).2))),
+      (λ d. let a = h.alike t.0 k.0 d t.1 k.1 t.2 in
+          (a.id ∙ (k.2 d).0, omega (arith, a.low, (k.2 d).1), omega (arith, a.high, (k.2 d).2))),
     ) in
     record {
       apart = λ j k place d lj lk u v.
@@ -221,7 +255,8 @@ reordered_found R n bucket old new table h found =
           let g = h.from k (omega (arith, lk, h.size)) in
           let a = h.alike j f.0 d (omega (arith, lj, h.size)) f.1 f.2 in
           let b = h.alike k g.0 d (omega (arith, lk, h.size)) g.1 g.2 in
-          let e : f.0 ≡ g.0 = found.apart f.0 g.0 place d f.1 g.1 (omega (arith, u, a.low), omega (arith, u, a.high)) (omega (arith, v, b.low), omega (arith, v, b.high)) in
+          let e : f.0 ≡ g.0 = found.apart f.0 g.0 place d f.1 g.1 (omega (arith, u, a.low), omega (arith, u, a.high))
+          (omega (arith, v, b.low), omega (arith, v, b.high)) in
           let P : ℕ → Type 0 = λ w. R k w in
           h.one j k f.0 f.2 (subst P (sym e) g.2);
       next = λ k d lk lt.
@@ -235,28 +270,36 @@ reordered_found R n bucket old new table h found =
     }
 
 -- the run of a name, by the table of where runs stand
-pub found_by_names : (n bucket : ℕ) (runs : List Run) (home table : List ℕ) → AreFound n bucket runs home table → CanBeFound n bucket runs table
+pub found_by_names : (n bucket : ℕ) (runs : List Run) (home table : List ℕ) → AreFound n bucket runs home table →
+    CanBeFound n bucket runs table
 found_by_names n bucket runs home table h = record {
   apart = h.apart;
   next = λ k d lk lt. let f = h.next k d lk lt in (get_or home (get_or runs k d).next 0, f.0, f.1);
   early = λ b lb lt. let f = h.early b lb lt in (get_or home (get_or table b 0) 0, f.0, f.1);
 }
 
-stands_as : (runs : List Run) (home : List ℕ) (id low : ℕ) → AreNamed runs home → Names runs id low → StandsAs runs home id low
+stands_as : (runs : List Run) (home : List ℕ) (id low : ℕ) → AreNamed runs home → Names runs id low →
+    StandsAs runs home id low
 stands_as runs home id low named h =
     let none : Run = record { low = 0; high = 0; start = 0; id = 0; next = 0; back = false } in
     let e : get_or home id 0 ≡ h.0 = ap (λ u. get_or home u 0) (sym (h.2 none).0) ∙ (named h.0 none h.1).1 in
-    let P : ℕ → Type 0 = λ u. (u < length runs) × ((d : Run) → ((get_or runs u d).id ≡ id) × ((get_or runs u d).low ≡ low)) in
+    let P : ℕ → Type 0 =
+    λ u. (u < length runs) × ((d : Run) → ((get_or runs u d).id ≡ id) × ((get_or runs u d).low ≡ low)) in
     subst P (sym e) (h.1, h.2)
 
-holds_as : (runs : List Run) (home : List ℕ) (id place : ℕ) → AreNamed runs home → Holds runs id place → HoldsAs runs home id place
+holds_as : (runs : List Run) (home : List ℕ) (id place : ℕ) → AreNamed runs home → Holds runs id place →
+    HoldsAs runs home id place
 holds_as runs home id place named h =
     let none : Run = record { low = 0; high = 0; start = 0; id = 0; next = 0; back = false } in
     let e : get_or home id 0 ≡ h.0 = ap (λ u. get_or home u 0) (sym (h.2 none).0) ∙ (named h.0 none h.1).1 in
-    let P : ℕ → Type 0 = λ u. (u < length runs) × ((d : Run) → ((get_or runs u d).id ≡ id) × ((get_or runs u d).low ≤ place) × (place < (get_or runs u d).high)) in
+    let P : ℕ → Type 0 =
+    λ u. (u < length runs)
+    × ((d : Run) → ((get_or runs u d).id ≡ id) × ((get_or runs u d).low ≤ place)
+    × (place < (get_or runs u d).high)) in
     subst P (sym e) (h.1, h.2)
 
-pub found_by_home : (n bucket : ℕ) (runs : List Run) (home table : List ℕ) → AreNamed runs home → CanBeFound n bucket runs table → AreFound n bucket runs home table
+pub found_by_home : (n bucket : ℕ) (runs : List Run) (home table : List ℕ) → AreNamed runs home →
+    CanBeFound n bucket runs table → AreFound n bucket runs home table
 found_by_home n bucket runs home table named h = record {
   apart = h.apart;
   next = λ k d lk lt. stands_as runs home _ _ named (h.next k d lk lt);
@@ -264,7 +307,8 @@ found_by_home n bucket runs home table named h = record {
 }
 
 -- one more run that stands where its name says
-pub named_more : (runs : List Run) (home : List ℕ) (k : ℕ) (none : Run) → HaveNames runs → k < length runs → length runs ≤ length home →
+pub named_more : (runs : List Run) (home : List ℕ) (k : ℕ) (none : Run) → HaveNames runs → k < length runs →
+    length runs ≤ length home →
     AreNamedTo k runs home → AreNamedTo (k + 1) runs (set home (get_or runs k none).id k)
 named_more runs home k none names lt le h = λ j d lj lr.
     let id : ℕ = (get_or runs k none).id in

@@ -1,7 +1,9 @@
 -- Runs placed one after another.
-use Rattle.std.proofs.Common.{◌≡◌, ℕ, ◌+◌, ◌<◌, suc, List, [], ◌∷◌, ◌++◌, length, take, drop, set, refl, sym, ap, ◌∙◌, arith, get_or}
+use Rattle.std.proofs.Common.{◌≡◌, ℕ, ◌+◌, ◌<◌, suc, List, [], ◌∷◌, ◌++◌, length, take, drop, set, refl, sym, ap, ◌∙◌}
+use Rattle.std.proofs.Common.{arith, get_or}
 use Rattle.std.specs.Prelude.{sum_by}
-use Rattle.std.proofs.lemmas.List.{take_more, drop_more, append_assoc, set_at, get_or_at, take-append-drop, length-take-le}
+use Rattle.std.proofs.lemmas.List.{take_more, drop_more, append_assoc, set_at, get_or_at, take-append-drop}
+use Rattle.std.proofs.lemmas.List.{length-take-le}
 use Rattle.std.proofs.lemmas.List.Sums.{sum_by-cons, sum_by-append, sum_by_push}
 use Rattle.tk_tour.specs.Runs.{shown_by, shown, size_of, placed}
 use Rattle.tk_tour.specs.declared.stores.segments.run.Run.{Run}
@@ -9,21 +11,24 @@ use Rattle.tk_tour.specs.declared.stores.segments.run.Run.{Run}
 pub placed-append : (v : ℕ) (xs ys : List Run) → placed v (xs ++ ys) ≡ placed v xs ++ placed (v + sum_by size_of xs) ys
 placed-append v [] ys = ap (λ w. placed w ys) (omega arith)
 placed-append v (x ∷ xs) ys =
-    ap (λ w. record x { start = v } ∷ w) (placed-append (v + size_of x) xs ys ∙ ap (λ w. placed (v + size_of x) xs ++ placed w ys) (omega (arith, sum_by-cons size_of x xs)))
+    ap (λ w. record x { start = v } ∷ w) (placed-append (v + size_of x) xs ys
+    ∙ ap (λ w. placed (v + size_of x) xs ++ placed w ys) (omega (arith, sum_by-cons size_of x xs)))
 
 pub length-placed : (v : ℕ) (xs : List Run) → length (placed v xs) ≡ length xs
 length-placed v [] = refl
 length-placed v (x ∷ xs) = ap suc (length-placed (v + size_of x) xs)
 
 -- the step of a loop that places them
-pub placed-more : (v w k : ℕ) (xs ys : List Run) (x d : Run) → k < length xs → ys ≡ placed v (take k xs) ++ drop k xs → w ≡ v + sum_by size_of (take k xs) →
+pub placed-more : (v w k : ℕ) (xs ys : List Run) (x d : Run) → k < length xs → ys ≡ placed v (take k xs) ++ drop k xs →
+    w ≡ v + sum_by size_of (take k xs) →
     x ≡ get_or xs k d → set ys k (record x { start = w }) ≡ placed v (take (k + 1) xs) ++ drop (k + 1) xs
 placed-more v w k xs ys x d lt e f g =
     let y : Run = get_or xs k d in
     let A : List Run = placed v (take k xs) in
     let la : length A ≡ k = length-placed v (take k xs) ∙ length-take-le k xs (omega arith) in
     let front : placed v (take (k + 1) xs) ≡ A ++ record y { start = w } ∷ [] =
-    ap (placed v) (take_more xs k d lt) ∙ placed-append v (take k xs) (y ∷ []) ∙ ap (λ u. A ++ record y { start = u } ∷ []) (sym f) in
+    ap (placed v) (take_more xs k d lt) ∙ placed-append v (take k xs) (y ∷ [])
+    ∙ ap (λ u. A ++ record y { start = u } ∷ []) (sym f) in
     ap (λ u. set u k (record x { start = w })) (e ∙ ap (λ u. A ++ u) (drop_more xs k d lt))
     ∙ set_at A y (drop (k + 1) xs) (record x { start = w }) k la
     ∙ ap (λ (u : Run). A ++ record u { start = w } ∷ drop (k + 1) xs) g
@@ -36,18 +41,24 @@ shown-placed order v (x ∷ xs) = ap (λ w. shown_by order x ++ w) (shown-placed
 
 pub sum_sizes-placed : (v : ℕ) (xs : List Run) → sum_by size_of (placed v xs) ≡ sum_by size_of xs
 sum_sizes-placed v [] = refl
-sum_sizes-placed v (x ∷ xs) = sum_by-cons size_of (record x { start = v }) (placed (v + size_of x) xs) ∙ ap (λ w. size_of x + w) (sum_sizes-placed (v + size_of x) xs) ∙ sym (sum_by-cons size_of x xs)
+sum_sizes-placed v (x ∷ xs) = sum_by-cons size_of (record x { start = v }) (placed (v + size_of x) xs)
+    ∙ ap (λ w. size_of x + w) (sum_sizes-placed (v + size_of x) xs) ∙ sym (sum_by-cons size_of x xs)
 
 pub placed-placed : (v w : ℕ) (xs : List Run) → placed v (placed w xs) ≡ placed v xs
 placed-placed v w [] = refl
 placed-placed v w (x ∷ xs) = ap (λ u. record x { start = v } ∷ u) (placed-placed (v + size_of x) (w + size_of x) xs)
 
-pub sum_sizes-more : (k : ℕ) (xs ys : List Run) (v : ℕ) (d : Run) → k < length xs → ys ≡ placed v (take k xs) ++ drop k xs →
-    (get_or ys k d ≡ get_or xs k d) × (sum_by size_of (take (k + 1) xs) ≡ sum_by size_of (take k xs) + size_of (get_or xs k d))
+pub sum_sizes-more : (k : ℕ) (xs ys : List Run) (v : ℕ) (d : Run) → k < length xs →
+    ys ≡ placed v (take k xs) ++ drop k xs →
+    (get_or ys k d ≡ get_or xs k d)
+    × (sum_by size_of (take (k + 1) xs) ≡ sum_by size_of (take k xs) + size_of (get_or xs k d))
 sum_sizes-more k xs ys v d lt e = (
-  ap (λ u. get_or u k d) (e ∙ ap (λ u. placed v (take k xs) ++ u) (drop_more xs k d lt)) ∙ get_or_at (placed v (take k xs)) (get_or xs k d) (drop (k + 1) xs) d k (length-placed v (take k xs) ∙ length-take-le k xs (omega arith)),
+  ap (λ u. get_or u k d) (e ∙ ap (λ u. placed v (take k xs) ++ u) (drop_more xs k d lt))
+      ∙ get_or_at (placed v (take k xs)) (get_or xs k d) (drop (k + 1) xs) d k (length-placed v (take k xs)
+      ∙ length-take-le k xs (omega arith)),
   ap (sum_by size_of) (take_more xs k d lt) ∙ sum_by_push size_of (take k xs) (get_or xs k d),
 )
 
-pub sum_sizes-part : (k : ℕ) (xs : List Run) → sum_by size_of (take k xs) + sum_by size_of (drop k xs) ≡ sum_by size_of xs
+pub sum_sizes-part : (k : ℕ) (xs : List Run) →
+    sum_by size_of (take k xs) + sum_by size_of (drop k xs) ≡ sum_by size_of xs
 sum_sizes-part k xs = sym (sum_by-append size_of (take k xs) (drop k xs)) ∙ ap (sum_by size_of) (take-append-drop k xs)

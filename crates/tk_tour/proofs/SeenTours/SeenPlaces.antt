@@ -1,8 +1,11 @@
 -- Which place of the array is seen where, and what an exchange of two cities shows.
-use Rattle.std.proofs.Common.{◌≡◌, ◌≢◌, ℕ, Bool, true, false, ◌+◌, ◌-◌, ◌<◌, ◌≤◌, ⊎_elim, List, [], ◌∷◌, length, take, drop, set, refl, sym, ap, ◌∙◌, arith, get_or}
+use Rattle.std.proofs.Common.{◌≡◌, ◌≢◌, ℕ, Bool, true, false, ◌+◌, ◌-◌, ◌<◌, ◌≤◌, ⊎_elim, List, [], ◌∷◌, length, take}
+use Rattle.std.proofs.Common.{drop, set, refl, sym, ap, ◌∙◌, arith, get_or}
 use Rattle.std.specs.Prelude.{reverse, if◌then◌else◌}
 use Rattle.std.proofs.lemmas.Bool.{cases_lt, cases_eq}
-use Rattle.std.proofs.lemmas.List.{append-nil, take_all, length-append, length-reverse, length-take-le, length-drop, length-set, get_or-take, get_or-drop, get_or-reverse, get_or_append_left, get_or-append_right, get_or-set_same, get_or-set_other, ext_get_or}
+use Rattle.std.proofs.lemmas.List.{append-nil, take_all, length-append, length-reverse, length-take-le, length-drop}
+use Rattle.std.proofs.lemmas.List.{length-set, get_or-take, get_or-drop, get_or-reverse, get_or_append_left}
+use Rattle.std.proofs.lemmas.List.{get_or-append_right, get_or-set_same, get_or-set_other, ext_get_or}
 use Rattle.tk_tour.proofs.Once.{HoldsOnce}
 use Rattle.tk_tour.proofs.Tours.{places_differ}
 use Rattle.tk_tour.specs.Runs.{stretch, shown_by, shown, size_of, shown_place, IsWithin}
@@ -13,20 +16,25 @@ pub data AreWithin (n : ℕ) : List Run → Type 0 where
   none : AreWithin n []
   more : {r : Run} {rs : List Run} → IsWithin n r → AreWithin n rs → AreWithin n (r ∷ rs)
 
-length-stretch : (n : ℕ) (order : List ℕ) (r : Run) → IsWithin n r → n ≤ length order → length (stretch r.low r.high order) ≡ size_of r
-length-stretch n order r h le = length-take-le (r.high - r.low) (drop r.low order) (omega (arith, length-drop r.low order, h))
+length-stretch : (n : ℕ) (order : List ℕ) (r : Run) → IsWithin n r → n ≤ length order →
+    length (stretch r.low r.high order) ≡ size_of r
+length-stretch n order r h le =
+    length-take-le (r.high - r.low) (drop r.low order) (omega (arith, length-drop r.low order, h))
 
 length-turned_if : (b : Bool) (xs : List ℕ) → length (if b then reverse xs else xs) ≡ length xs
 length-turned_if true xs = length-reverse xs
 length-turned_if false xs = refl
 
-pub length-shown_by : (n : ℕ) (order : List ℕ) (r : Run) → IsWithin n r → n ≤ length order → length (shown_by order r) ≡ size_of r
+pub length-shown_by : (n : ℕ) (order : List ℕ) (r : Run) → IsWithin n r → n ≤ length order →
+    length (shown_by order r) ≡ size_of r
 length-shown_by n order r h le = length-turned_if r.back (stretch r.low r.high order) ∙ length-stretch n order r h le
 
 entry_if : (b : Bool) (order : List ℕ) (lo hi d : ℕ) → lo < hi → hi ≤ length order → d < hi - lo →
-    get_or (if b then reverse (stretch lo hi order) else stretch lo hi order) d 0 ≡ get_or order (if b then hi - 1 - d else lo + d) 0
+    get_or (if b then reverse (stretch lo hi order) else stretch lo hi order) d 0 ≡ get_or order
+    (if b then hi - 1 - d else lo + d) 0
 entry_if true order lo hi d lt le ld =
-    let l : length (stretch lo hi order) ≡ hi - lo = length-take-le (hi - lo) (drop lo order) (omega (arith, length-drop lo order)) in
+    let l : length (stretch lo hi order) ≡ hi - lo =
+    length-take-le (hi - lo) (drop lo order) (omega (arith, length-drop lo order)) in
     get_or-reverse (stretch lo hi order) d 0 (omega (arith, l))
     ∙ get_or-take (hi - lo) (drop lo order) (length (stretch lo hi order) - 1 - d) 0 (omega (arith, l))
     ∙ get_or-drop lo order (length (stretch lo hi order) - 1 - d) 0
@@ -46,12 +54,21 @@ within_if false n lo hi d lt le ld = omega arith
 place_within : (n : ℕ) (r : Run) (d : ℕ) → IsWithin n r → d < size_of r → shown_place r d < n
 place_within n r d h ld = within_if r.back n r.low r.high d h.0 h.1 ld
 
-pub length-shown : (n : ℕ) (one two : List ℕ) (runs : List Run) → AreWithin n runs → n ≤ length one → n ≤ length two → length (shown one runs) ≡ length (shown two runs)
+pub length-shown : (n : ℕ) (one two : List ℕ) (runs : List Run) → AreWithin n runs → n ≤ length one → n ≤ length two →
+    length (shown one runs) ≡ length (shown two runs)
 length-shown n one two _ AreWithin.none l1 l2 = refl
 length-shown n one two _ (AreWithin.more {r} {rs} h t) l1 l2 =
-    omega (arith, length-append (shown_by one r) (shown one rs), length-append (shown_by two r) (shown two rs), length-shown_by n one r h l1, length-shown_by n two r h l2, length-shown n one two rs t l1 l2)
+    omega (
+      arith,
+      length-append (shown_by one r) (shown one rs),
+      length-append (shown_by two r) (shown two rs),
+      length-shown_by n one r h l1,
+      length-shown_by n two r h l2,
+      length-shown n one two rs t l1 l2,
+    )
 
-pub seen_place : (n : ℕ) (some : List ℕ) (runs : List Run) (v : ℕ) → AreWithin n runs → n ≤ length some → v < length (shown some runs) →
+pub seen_place : (n : ℕ) (some : List ℕ) (runs : List Run) (v : ℕ) → AreWithin n runs → n ≤ length some →
+    v < length (shown some runs) →
     (p : ℕ) × (p < n) × ((order : List ℕ) → n ≤ length order → get_or (shown order runs) v 0 ≡ get_or order p 0)
 seen_place n some _ v AreWithin.none l lv = absurd (omega arith)
 seen_place n some _ v (AreWithin.more {r} {rs} h t) l lv =
@@ -59,20 +76,25 @@ seen_place n some _ v (AreWithin.more {r} {rs} h t) l lv =
     (λ (z : v < size_of r). (
       shown_place r v,
       place_within n r v h z,
-      (λ order le. get_or_append_left (shown_by order r) (shown order rs) 0 v (omega (arith, length-shown_by n order r h le)) ∙ get_or-shown_by n order r v h le z),
+      (λ order le. get_or_append_left (shown_by order r) (shown order rs) 0 v
+          (omega (arith, length-shown_by n order r h le)) ∙ get_or-shown_by n order r v h le z),
     ))
     (λ (z : size_of r ≤ v).
-    let k = seen_place n some rs (v - size_of r) t l (omega (arith, length-append (shown_by some r) (shown some rs), length-shown_by n some r h l)) in (
+    let k =
+    seen_place n some rs (v - size_of r) t l
+    (omega (arith, length-append (shown_by some r) (shown some rs), length-shown_by n some r h l)) in (
       k.0,
       k.1,
-      (λ order le. get_or-append_right (shown_by order r) (shown order rs) (size_of r) v 0 (length-shown_by n order r h le) z ∙ k.2 order le),
+      (λ order le. get_or-append_right (shown_by order r) (shown order rs) (size_of r) v 0
+          (length-shown_by n order r h le) z ∙ k.2 order le),
     ))
     (cases_lt v (size_of r))
 
 once_at : (xs : List ℕ) (i j : ℕ) → HoldsOnce xs → i < length xs → j < length xs → get_or xs i 0 ≡ get_or xs j 0 → i ≡ j
 once_at xs i j once li lj e =
     ⊎_elim (λ (a : i < j). absurd (places_differ xs i j once a lj e))
-    (λ (a : j ≤ i). ⊎_elim (λ (b : j < i). absurd (places_differ xs j i once b li (sym e))) (λ (b : i ≤ j). omega arith) (cases_lt j i))
+    (λ (a : j ≤ i). ⊎_elim (λ (b : j < i). absurd (places_differ xs j i once b li (sym e))) (λ (b : i ≤ j). omega arith)
+    (cases_lt j i))
     (cases_lt i j)
 
 -- two cities exchanged at the places that are seen at v and w
@@ -84,7 +106,8 @@ pub record Exchanges (n : ℕ) (some order : List ℕ) (runs : List Run) (v w p 
   pub p_seen : (p < n) × ((xs : List ℕ) → n ≤ length xs → get_or (shown xs runs) v 0 ≡ get_or xs p 0)
   pub q_seen : (q < n) × ((xs : List ℕ) → n ≤ length xs → get_or (shown xs runs) w 0 ≡ get_or xs q 0)
 
-pub shown-exchanged : (n : ℕ) (some order : List ℕ) (runs : List Run) (v w p q x y : ℕ) → Exchanges n some order runs v w p q →
+pub shown-exchanged : (n : ℕ) (some order : List ℕ) (runs : List Run) (v w p q x y : ℕ) →
+    Exchanges n some order runs v w p q →
     shown (set (set order p y) q x) runs ≡ set (set (shown order runs) v y) w x
 shown-exchanged n some order runs v w p q x y h =
     let now : List ℕ = set (set order p y) q x in
@@ -98,21 +121,29 @@ shown-exchanged n some order runs v w p q x y h =
     let l5 : length (set (set old v y) w x) ≡ n = length-set (set old v y) w x ∙ l4 in
     let lo : n ≤ length order = omega (arith, h.sizes) in
     let ln : n ≤ length now = omega (arith, l2) in
-    let same : (i j a b : ℕ) → i < n → j < n → get_or (shown some runs) i 0 ≡ get_or some a 0 → get_or (shown some runs) j 0 ≡ get_or some b 0 → a ≡ b → i ≡ j = λ i j a b li lj e f g.
-    once_at (shown some runs) i j h.once (omega (arith, h.sizes)) (omega (arith, h.sizes)) (e ∙ ap (λ u. get_or some u 0) g ∙ sym f) in
-    let pq : q ≢ p = λ e. h.apart.2 (same v w p q h.apart.0 h.apart.1 (h.p_seen.1 some ls) (h.q_seen.1 some ls) (sym e)) in
+    let same : (i j a b : ℕ) → i < n → j < n → get_or (shown some runs) i 0 ≡ get_or some a 0 →
+    get_or (shown some runs) j 0 ≡ get_or some b 0 → a ≡ b → i ≡ j = λ i j a b li lj e f g.
+    once_at (shown some runs) i j h.once (omega (arith, h.sizes)) (omega (arith, h.sizes))
+    (e ∙ ap (λ u. get_or some u 0) g ∙ sym f) in
+    let pq : q ≢ p =
+    λ e. h.apart.2 (same v w p q h.apart.0 h.apart.1 (h.p_seen.1 some ls) (h.q_seen.1 some ls) (sym e)) in
     ext_get_or 0 (shown now runs) (set (set old v y) w x) (l3 ∙ sym l5)
     (λ u lu'.
     let lu : u < n = omega (arith, l3) in
     ⊎_elim
     (λ (e : u ≡ w).
-    ap (λ k. get_or (shown now runs) k 0) e ∙ h.q_seen.1 now ln ∙ get_or-set_same (set order p y) q x 0 (omega (arith, l1, h.q_seen.0))
-    ∙ sym (ap (λ k. get_or (set (set old v y) w x) k 0) e ∙ get_or-set_same (set old v y) w x 0 (omega (arith, l4, h.apart.1))))
+    ap (λ k. get_or (shown now runs) k 0) e ∙ h.q_seen.1 now ln
+    ∙ get_or-set_same (set order p y) q x 0 (omega (arith, l1, h.q_seen.0))
+    ∙ sym (ap (λ k. get_or (set (set old v y) w x) k 0) e
+    ∙ get_or-set_same (set old v y) w x 0 (omega (arith, l4, h.apart.1))))
     (λ (nw : u ≢ w).
     ⊎_elim
     (λ (e : u ≡ v).
-    ap (λ k. get_or (shown now runs) k 0) e ∙ h.p_seen.1 now ln ∙ get_or-set_other (set order p y) q p x 0 (λ g. pq (sym g)) ∙ get_or-set_same order p y 0 (omega (arith, h.sizes, h.p_seen.0))
-    ∙ sym (get_or-set_other (set old v y) w u x 0 nw ∙ ap (λ k. get_or (set old v y) k 0) e ∙ get_or-set_same old v y 0 (omega (arith, l0, h.apart.0))))
+    ap (λ k. get_or (shown now runs) k 0) e ∙ h.p_seen.1 now ln
+    ∙ get_or-set_other (set order p y) q p x 0 (λ g. pq (sym g))
+    ∙ get_or-set_same order p y 0 (omega (arith, h.sizes, h.p_seen.0))
+    ∙ sym (get_or-set_other (set old v y) w u x 0 nw ∙ ap (λ k. get_or (set old v y) k 0) e
+    ∙ get_or-set_same old v y 0 (omega (arith, l0, h.apart.0))))
     (λ (nv : u ≢ v).
     let k = seen_place n some runs u h.within ls (omega (arith, h.sizes)) in
     let kq : k.0 ≢ q = λ e. nw (same u w k.0 q lu h.apart.1 (k.2 some ls) (h.q_seen.1 some ls) e) in
@@ -123,13 +154,17 @@ shown-exchanged n some order runs v w p q x y h =
     (cases_eq u w))
 
 -- two places that are seen apart are apart
-pub seen_apart : (n : ℕ) (some order : List ℕ) (runs : List Run) (v w p q : ℕ) → Exchanges n some order runs v w p q → p ≢ q
+pub seen_apart : (n : ℕ) (some order : List ℕ) (runs : List Run) (v w p q : ℕ) →
+    Exchanges n some order runs v w p q → p ≢ q
 seen_apart n some order runs v w p q h =
     let ls : n ≤ length some = omega (arith, h.sizes) in
-    λ e. h.apart.2 (once_at (shown some runs) v w h.once (omega (arith, h.sizes, h.apart.0)) (omega (arith, h.sizes, h.apart.1)) (h.p_seen.1 some ls ∙ ap (λ u. get_or some u 0) e ∙ sym (h.q_seen.1 some ls)))
+    λ e. h.apart.2
+    (once_at (shown some runs) v w h.once (omega (arith, h.sizes, h.apart.0)) (omega (arith, h.sizes, h.apart.1))
+    (h.p_seen.1 some ls ∙ ap (λ u. get_or some u 0) e ∙ sym (h.q_seen.1 some ls)))
 
 -- the array written as it is seen shows itself
-pub shown-written : (n : ℕ) (seen : List ℕ) (run : Run) → length seen ≡ n → run.low ≡ 0 → run.high ≡ n → run.back ≡ false → shown seen (run ∷ []) ≡ seen
+pub shown-written : (n : ℕ) (seen : List ℕ) (run : Run) → length seen ≡ n → run.low ≡ 0 → run.high ≡ n →
+    run.back ≡ false → shown seen (run ∷ []) ≡ seen
 shown-written n seen run l e1 e2 e3 =
     let z : run.high - 0 ≡ run.high = omega arith in
     append-nil (shown_by seen run)

@@ -1,15 +1,19 @@
 -- A run parted in two: the same is seen, and the runs are still laid out.
-use Rattle.std.proofs.Common.{◌≡◌, ℕ, Bool, true, false, ◌+◌, ◌-◌, ◌<◌, ◌⊎◌, inl, inr, ⊎_elim, zero, List, [], ◌∷◌, ◌++◌, length, take, drop, set, refl, sym, ap, ◌∙◌, subst, arith, get_or}
+use Rattle.std.proofs.Common.{◌≡◌, ℕ, Bool, true, false, ◌+◌, ◌-◌, ◌<◌, ◌⊎◌, inl, inr, ⊎_elim, zero, List, [], ◌∷◌}
+use Rattle.std.proofs.Common.{◌++◌, length, take, drop, set, refl, sym, ap, ◌∙◌, subst, arith, get_or}
 use Rattle.std.specs.Prelude.{sum_by}
 use Rattle.std.specs.List.{insert}
-use Rattle.std.proofs.lemmas.List.{append_assoc, length-append, take-append-drop, set_at, take_at, drop_at, length-take-le, drop_more}
+use Rattle.std.proofs.lemmas.List.{append_assoc, length-append, take-append-drop, set_at, take_at, drop_at}
+use Rattle.std.proofs.lemmas.List.{length-take-le, drop_more}
 use Rattle.std.proofs.lemmas.List.Sums.{sum_by-cons, sum_by-append}
-use Rattle.tk_tour.specs.Runs.{shown_by, shown, size_of, placed, IsWithin, AreLaidOut, ArePartsAt, AreSeenParts, IsSplit}
+use Rattle.tk_tour.specs.Runs.{shown_by, shown, size_of, placed, IsWithin, AreLaidOut, ArePartsAt, AreSeenParts}
+use Rattle.tk_tour.specs.Runs.{IsSplit}
 use Rattle.tk_tour.specs.declared.stores.segments.run.Run.{Run}
 use Rattle.tk_tour.proofs.SeenTours.Showing.{ArePartsOf, shown_by-ahead, shown_by-behind, shown-parted}
 use Rattle.tk_tour.proofs.SeenTours.SeenPlaces.{AreWithin}
 use Rattle.tk_tour.proofs.SeenTours.Placing.{placed-append}
-use Rattle.tk_tour.proofs.SeenTours.Turning.{within_of, all_within, within-append, within_left, within_right, take-placed, drop-placed}
+use Rattle.tk_tour.proofs.SeenTours.Turning.{within_of, all_within, within-append, within_left, within_right}
+use Rattle.tk_tour.proofs.SeenTours.Turning.{take-placed, drop-placed}
 
 pub cases_bool : (b : Bool) → (b ≡ true) ⊎ (b ≡ false)
 cases_bool true = inl refl
@@ -22,11 +26,14 @@ of_parts q id run low high h = record {
   inside = (omega (arith, h.inside), omega (arith, h.inside));
 }
 
-pub shown_by-parts : (order : List ℕ) (d id : ℕ) (run one two : Run) → AreSeenParts d id run one two → shown_by order run ≡ shown_by order one ++ shown_by order two
+pub shown_by-parts : (order : List ℕ) (d id : ℕ) (run one two : Run) → AreSeenParts d id run one two →
+    shown_by order run ≡ shown_by order one ++ shown_by order two
 shown_by-parts order d id run one two h =
     ⊎_elim
-    (λ (e : run.back ≡ true). shown_by-behind order run two one (run.high - d) (of_parts (run.high - d) id run two one (h.behind e)) e)
-    (λ (e : run.back ≡ false). shown_by-ahead order run one two (run.low + d) (of_parts (run.low + d) id run one two (h.ahead e)) e)
+    (λ (e : run.back ≡ true). shown_by-behind order run two one (run.high - d)
+    (of_parts (run.high - d) id run two one (h.behind e)) e)
+    (λ (e : run.back ≡ false). shown_by-ahead order run one two (run.low + d)
+    (of_parts (run.low + d) id run one two (h.ahead e)) e)
     (cases_bool run.back)
 
 -- what the parts keep of the run
@@ -35,7 +42,8 @@ pub record PartFacts (n d : ℕ) (run one two : Run) : Type 0 where
   pub within_two : IsWithin n two
   pub sizes : (size_of one ≡ d) × (size_of one + size_of two ≡ size_of run)
 
-pub part_facts : (n d id : ℕ) (run one two : Run) → AreSeenParts d id run one two → IsWithin n run → d < size_of run → PartFacts n d run one two
+pub part_facts : (n d id : ℕ) (run one two : Run) → AreSeenParts d id run one two → IsWithin n run → d < size_of run →
+    PartFacts n d run one two
 part_facts n d id run one two h w ld =
     ⊎_elim
     (λ (e : run.back ≡ true).
@@ -55,13 +63,15 @@ part_facts n d id run one two h w ld =
     (cases_bool run.back)
 
 -- the list of a split
-pub split_list : (old : List Run) (k : ℕ) (run one two : Run) → k < length old → insert (set old k one) (k + 1) two ≡ take k old ++ (one ∷ two ∷ drop (k + 1) old)
+pub split_list : (old : List Run) (k : ℕ) (run one two : Run) → k < length old →
+    insert (set old k one) (k + 1) two ≡ take k old ++ (one ∷ two ∷ drop (k + 1) old)
 split_list old k run one two lt =
     let A : List Run = take k old in
     let C : List Run = drop (k + 1) old in
     let la : length A ≡ k = length-take-le k old (omega arith) in
     let e : set old k one ≡ A ++ one ∷ C =
-    ap (λ u. set u k one) (sym (take-append-drop k old) ∙ ap (λ u. A ++ u) (drop_more old k run lt)) ∙ set_at A (get_or old k run) C one k la in
+    ap (λ u. set u k one) (sym (take-append-drop k old) ∙ ap (λ u. A ++ u) (drop_more old k run lt))
+    ∙ set_at A (get_or old k run) C one k la in
     let f : A ++ one ∷ C ≡ (A ++ one ∷ []) ++ C = sym (append_assoc A (one ∷ []) C) in
     let l : length (A ++ one ∷ []) ≡ k + 1 = omega (arith, length-append A (one ∷ []), la) in
     ap (λ u. insert u (k + 1) two) (e ∙ f)
@@ -69,20 +79,25 @@ split_list old k run one two lt =
     ∙ ap (λ u. (A ++ one ∷ []) ++ two ∷ u) (drop_at (A ++ one ∷ []) C (k + 1) l)
     ∙ append_assoc A (one ∷ []) (two ∷ C)
 
-pub old_is : (old : List Run) (k : ℕ) (run : Run) → k < length old → run ≡ get_or old k run → old ≡ take k old ++ run ∷ drop (k + 1) old
-old_is old k run lt e = sym (take-append-drop k old) ∙ ap (λ u. take k old ++ u) (drop_more old k run lt ∙ ap (λ u. u ∷ drop (k + 1) old) (sym e))
+pub old_is : (old : List Run) (k : ℕ) (run : Run) → k < length old → run ≡ get_or old k run →
+    old ≡ take k old ++ run ∷ drop (k + 1) old
+old_is old k run lt e = sym (take-append-drop k old)
+    ∙ ap (λ u. take k old ++ u) (drop_more old k run lt ∙ ap (λ u. u ∷ drop (k + 1) old) (sym e))
 
 -- a split shows the same
-pub split_shows : (order : List ℕ) (old new : List Run) (k d : ℕ) → k < length old → IsSplit old new k d → shown order new ≡ shown order old
+pub split_shows : (order : List ℕ) (old new : List Run) (k d : ℕ) → k < length old → IsSplit old new k d →
+    shown order new ≡ shown order old
 split_shows order old new k d lt h =
     ap (shown order) h.list
-    ∙ shown-parted order (take k old) (drop (k + 1) old) h.run h.one h.two (shown_by-parts order d (length old) h.run h.one h.two h.parts)
+    ∙ shown-parted order (take k old) (drop (k + 1) old) h.run h.one h.two
+    (shown_by-parts order d (length old) h.run h.one h.two h.parts)
     ∙ ap (shown order) (sym (old_is old k h.run lt h.run_is))
 
 pub head_of : {X : Type 0} (x y : X) (xs ys : List X) → x ∷ xs ≡ y ∷ ys → (x ≡ y) × (xs ≡ ys)
 head_of x y xs ys e = (cc, cc)
 
-pub split_laid : (n : ℕ) (old new : List Run) (k d : ℕ) → k < length old → AreLaidOut n old → (s : IsSplit old new k d) → d < size_of s.run → AreLaidOut n new
+pub split_laid : (n : ℕ) (old new : List Run) (k d : ℕ) → k < length old → AreLaidOut n old →
+    (s : IsSplit old new k d) → d < size_of s.run → AreLaidOut n new
 split_laid n old new k d lt h s ld =
     let us : List Run = take k old in
     let ws : List Run = drop (k + 1) old in
@@ -95,20 +110,41 @@ split_laid n old new k d lt h s ld =
     let wws : AreWithin n ws = within_right n (run ∷ []) ws (within_right n us (run ∷ ws) all) in
     let v : ℕ = sum_by size_of us in
     let tail : run ∷ ws ≡ placed v (run ∷ ws) =
-    sym (drop_at us (run ∷ ws) k (length-take-le k old (omega arith))) ∙ ap (drop k) (sym e) ∙ ap (drop k) h.starts ∙ drop-placed 0 k old (omega arith) ∙ ap (λ u. placed u (drop k old)) (omega arith)
+    sym (drop_at us (run ∷ ws) k (length-take-le k old (omega arith))) ∙ ap (drop k) (sym e) ∙ ap (drop k) h.starts
+    ∙ drop-placed 0 k old (omega arith) ∙ ap (λ u. placed u (drop k old)) (omega arith)
     ∙ ap (λ u. placed v (drop k u)) e ∙ ap (placed v) (drop_at us (run ∷ ws) k (length-take-le k old (omega arith))) in
     let both = head_of run (record run { start = v }) ws (placed (v + size_of run) ws) tail in
     let start : run.start ≡ v = ap (λ (r : Run). r.start) both.0 in
     let one_is : s.one ≡ record s.one { start = v } = ap (λ u. record s.one { start = u }) (s.parts.starts.0 ∙ start) in
-    let two_is : s.two ≡ record s.two { start = v + size_of s.one } = ap (λ u. record s.two { start = u }) (omega (arith, s.parts.starts.1, start, p.sizes)) in
-    let rest_is : ws ≡ placed (v + size_of s.one + size_of s.two) ws = both.1 ∙ ap (λ u. placed u ws) (omega (arith, p.sizes)) in
+    let two_is : s.two ≡ record s.two { start = v + size_of s.one } =
+    ap (λ u. record s.two { start = u }) (omega (arith, s.parts.starts.1, start, p.sizes)) in
+    let rest_is : ws ≡ placed (v + size_of s.one + size_of s.two) ws = both.1
+    ∙ ap (λ u. placed u ws) (omega (arith, p.sizes)) in
     let new_tail : s.one ∷ s.two ∷ ws ≡ placed v (s.one ∷ s.two ∷ ws) =
-    ap (λ u. u ∷ s.two ∷ ws) one_is ∙ ap (λ u. record s.one { start = v } ∷ u ∷ ws) two_is ∙ ap (λ u. record s.one { start = v } ∷ record s.two { start = v + size_of s.one } ∷ u) rest_is in
+    ap (λ u. u ∷ s.two ∷ ws) one_is ∙ ap (λ u. record s.one { start = v } ∷ u ∷ ws) two_is
+    ∙ ap (λ u. record s.one { start = v } ∷ record s.two { start = v + size_of s.one } ∷ u) rest_is in
     let Q : List Run → Type 0 = λ u. AreLaidOut n u in
     subst Q (sym s.list)
     (record {
-      within = all_within n (us ++ (s.one ∷ s.two ∷ ws)) (within-append n us (s.one ∷ s.two ∷ ws) (within_left n us (run ∷ ws) all) (AreWithin.more p.within_one (AreWithin.more p.within_two wws)));
-      starts = sym (placed-append 0 us (s.one ∷ s.two ∷ ws) ∙ ap (λ u. u ++ placed (0 + v) (s.one ∷ s.two ∷ ws)) (sym (ap (take k) h.starts ∙ take-placed 0 k old (omega arith)))
+      within =
+          all_within n (us ++ (s.one ∷ s.two ∷ ws))
+          (within-append n us (s.one ∷ s.two ∷ ws) (within_left n us (run ∷ ws) all)
+          (AreWithin.more p.within_one (AreWithin.more p.within_two wws)));
+      starts =
+          sym (placed-append 0 us (s.one ∷ s.two ∷ ws)
+          ∙ ap (λ u. u ++ placed (0 + v) (s.one ∷ s.two ∷ ws))
+          (sym (ap (take k) h.starts ∙ take-placed 0 k old (omega arith)))
           ∙ ap (λ u. us ++ placed u (s.one ∷ s.two ∷ ws)) (omega arith) ∙ ap (λ u. us ++ u) (sym new_tail));
-      whole = omega (arith, h.whole, ap (sum_by size_of) e, sum_by-append size_of us (run ∷ ws), sum_by-append size_of us (s.one ∷ s.two ∷ ws), sum_by-cons size_of run ws, sum_by-cons size_of s.one (s.two ∷ ws), sum_by-cons size_of s.two ws, p.sizes);
+      whole =
+          omega (
+            arith,
+            h.whole,
+            ap (sum_by size_of) e,
+            sum_by-append size_of us (run ∷ ws),
+            sum_by-append size_of us (s.one ∷ s.two ∷ ws),
+            sum_by-cons size_of run ws,
+            sum_by-cons size_of s.one (s.two ∷ ws),
+            sum_by-cons size_of s.two ws,
+            p.sizes,
+          );
     })

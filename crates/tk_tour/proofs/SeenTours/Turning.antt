@@ -1,8 +1,10 @@
 -- Runs of the midst turned round: what they show, and that they are still laid out.
-use Rattle.std.proofs.Common.{◌≡◌, ℕ, ◌+◌, ◌-◌, ◌≤◌, suc, zero, List, [], ◌∷◌, ◌++◌, length, take, drop, map, refl, sym, ap, ◌∙◌, subst, arith}
+use Rattle.std.proofs.Common.{◌≡◌, ℕ, ◌+◌, ◌-◌, ◌≤◌, suc, zero, List, [], ◌∷◌, ◌++◌, length, take, drop, map, refl, sym}
+use Rattle.std.proofs.Common.{ap, ◌∙◌, subst, arith}
 use Rattle.std.specs.Prelude.{reverse, sum_by}
 use Rattle.std.specs.List.{All}
-use Rattle.std.proofs.lemmas.List.{length-append, take-append-drop, drop-drop, take_at, drop_at, length-take-le, length-drop, reverse-append}
+use Rattle.std.proofs.lemmas.List.{length-append, take-append-drop, drop-drop, take_at, drop_at, length-take-le}
+use Rattle.std.proofs.lemmas.List.{length-drop, reverse-append}
 use Rattle.std.proofs.lemmas.List.Sums.{sum_by-cons, sum_by-append, sum_by_push}
 use Rattle.std.proofs.lemmas.List.Concat.{flat_map-append}
 use Rattle.tk_tour.specs.Reversal.{reversed_places}
@@ -10,7 +12,8 @@ use Rattle.tk_tour.specs.Runs.{shown_by, shown, size_of, placed, turned, IsWithi
 use Rattle.tk_tour.specs.declared.stores.segments.run.Run.{Run}
 use Rattle.tk_tour.proofs.SeenTours.Showing.{AreTurned, shown-turn}
 use Rattle.tk_tour.proofs.SeenTours.SeenPlaces.{AreWithin, length-shown_by}
-use Rattle.tk_tour.proofs.SeenTours.Placing.{placed-append, length-placed, shown-placed, sum_sizes-placed, placed-placed, sum_sizes-part}
+use Rattle.tk_tour.proofs.SeenTours.Placing.{placed-append, length-placed, shown-placed, sum_sizes-placed}
+use Rattle.tk_tour.proofs.SeenTours.Placing.{placed-placed, sum_sizes-part}
 
 pub turned_all : (xs : List Run) → AreTurned xs (map turned xs)
 turned_all [] = AreTurned.none
@@ -49,22 +52,37 @@ pub within-reverse : (n : ℕ) (xs : List Run) → AreWithin n xs → AreWithin 
 within-reverse n _ AreWithin.none = AreWithin.none
 within-reverse n _ (AreWithin.more {r} {rs} h t) =
     let P : List Run → Type 0 = λ v. AreWithin n v in
-    subst P (sym (reverse-append (r ∷ []) rs)) (within-append n (reverse rs) (r ∷ []) (within-reverse n rs t) (AreWithin.more h AreWithin.none))
+    subst P (sym (reverse-append (r ∷ []) rs))
+    (within-append n (reverse rs) (r ∷ []) (within-reverse n rs t) (AreWithin.more h AreWithin.none))
 
-pub length-shown-sum : (n : ℕ) (order : List ℕ) (xs : List Run) → AreWithin n xs → n ≤ length order → length (shown order xs) ≡ sum_by size_of xs
+pub length-shown-sum : (n : ℕ) (order : List ℕ) (xs : List Run) → AreWithin n xs → n ≤ length order →
+    length (shown order xs) ≡ sum_by size_of xs
 length-shown-sum n order _ AreWithin.none le = refl
 length-shown-sum n order _ (AreWithin.more {r} {rs} h t) le =
-    omega (arith, length-append (shown_by order r) (shown order rs), length-shown_by n order r h le, length-shown-sum n order rs t le, sum_by-cons size_of r rs)
+    omega (
+      arith,
+      length-append (shown_by order r) (shown order rs),
+      length-shown_by n order r h le,
+      length-shown-sum n order rs t le,
+      sum_by-cons size_of r rs,
+    )
 
 sum_sizes-turned : (xs : List Run) → sum_by size_of (map turned xs) ≡ sum_by size_of xs
 sum_sizes-turned [] = refl
-sum_sizes-turned (x ∷ xs) = sum_by-cons size_of (turned x) (map turned xs) ∙ ap (λ v. size_of x + v) (sum_sizes-turned xs) ∙ sym (sum_by-cons size_of x xs)
+sum_sizes-turned (x ∷ xs) = sum_by-cons size_of (turned x) (map turned xs)
+    ∙ ap (λ v. size_of x + v) (sum_sizes-turned xs) ∙ sym (sum_by-cons size_of x xs)
 
 sum_sizes-reverse : (xs : List Run) → sum_by size_of (reverse xs) ≡ sum_by size_of xs
 sum_sizes-reverse [] = refl
 sum_sizes-reverse (x ∷ xs) =
     let e : reverse (x ∷ xs) ≡ reverse xs ++ x ∷ [] = reverse-append (x ∷ []) xs in
-    omega (arith, ap (sum_by size_of) e, sum_by_push size_of (reverse xs) x, sum_sizes-reverse xs, sum_by-cons size_of x xs)
+    omega (
+      arith,
+      ap (sum_by size_of) e,
+      sum_by_push size_of (reverse xs) x,
+      sum_sizes-reverse xs,
+      sum_by-cons size_of x xs,
+    )
 
 -- the three parts of runs that are laid out
 pub record Parts (n : ℕ) (old us rs ws : List Run) : Type 0 where
@@ -79,25 +97,33 @@ pub record Parts (n : ℕ) (old us rs ws : List Run) : Type 0 where
 pub take-placed : (v k : ℕ) (xs : List Run) → k ≤ length xs → take k (placed v xs) ≡ placed v (take k xs)
 take-placed v k xs le =
     ap (λ u. take k (placed v u)) (sym (take-append-drop k xs)) ∙ ap (take k) (placed-append v (take k xs) (drop k xs))
-    ∙ take_at (placed v (take k xs)) (placed (v + sum_by size_of (take k xs)) (drop k xs)) k (length-placed v (take k xs) ∙ length-take-le k xs le)
+    ∙ take_at (placed v (take k xs)) (placed (v + sum_by size_of (take k xs)) (drop k xs)) k
+    (length-placed v (take k xs) ∙ length-take-le k xs le)
 
-pub drop-placed : (v k : ℕ) (xs : List Run) → k ≤ length xs → drop k (placed v xs) ≡ placed (v + sum_by size_of (take k xs)) (drop k xs)
+pub drop-placed : (v k : ℕ) (xs : List Run) → k ≤ length xs →
+    drop k (placed v xs) ≡ placed (v + sum_by size_of (take k xs)) (drop k xs)
 drop-placed v k xs le =
     ap (λ u. drop k (placed v u)) (sym (take-append-drop k xs)) ∙ ap (drop k) (placed-append v (take k xs) (drop k xs))
-    ∙ drop_at (placed v (take k xs)) (placed (v + sum_by size_of (take k xs)) (drop k xs)) k (length-placed v (take k xs) ∙ length-take-le k xs le)
+    ∙ drop_at (placed v (take k xs)) (placed (v + sum_by size_of (take k xs)) (drop k xs)) k
+    (length-placed v (take k xs) ∙ length-take-le k xs le)
 
-pub parts : (n i j : ℕ) (old : List Run) → AreLaidOut n old → i ≤ j → j ≤ length old → Parts n old (take i old) (take (j - i) (drop i old)) (drop (j - i) (drop i old))
+pub parts : (n i j : ℕ) (old : List Run) → AreLaidOut n old → i ≤ j → j ≤ length old →
+    Parts n old (take i old) (take (j - i) (drop i old)) (drop (j - i) (drop i old))
 parts n i j old h le lj =
     let us : List Run = take i old in
     let rs : List Run = take (j - i) (drop i old) in
     let ws : List Run = drop (j - i) (drop i old) in
-    let e : old ≡ us ++ (rs ++ ws) = sym (take-append-drop i old) ∙ ap (λ v. us ++ v) (sym (take-append-drop (j - i) (drop i old))) in
+    let e : old ≡ us ++ (rs ++ ws) = sym (take-append-drop i old)
+    ∙ ap (λ v. us ++ v) (sym (take-append-drop (j - i) (drop i old))) in
     let P : List Run → Type 0 = λ v. AreWithin n v in
     let all : AreWithin n (us ++ (rs ++ ws)) = subst P e (within_of n old h.within) in
     let rest : AreWithin n (rs ++ ws) = within_right n us (rs ++ ws) all in
-    let s1 : sum_by size_of us + sum_by size_of (rs ++ ws) ≡ n = sym (sum_by-append size_of us (rs ++ ws)) ∙ ap (sum_by size_of) (sym e) ∙ h.whole in
-    let d1 : drop i old ≡ placed (sum_by size_of us) (drop i old) = ap (drop i) h.starts ∙ drop-placed 0 i old (omega arith) ∙ ap (λ v. placed v (drop i old)) (omega arith) in
-    let d2 : ws ≡ placed (sum_by size_of us + sum_by size_of rs) ws = ap (drop (j - i)) d1 ∙ drop-placed (sum_by size_of us) (j - i) (drop i old) (omega (arith, length-drop i old)) in
+    let s1 : sum_by size_of us + sum_by size_of (rs ++ ws) ≡ n = sym (sum_by-append size_of us (rs ++ ws))
+    ∙ ap (sum_by size_of) (sym e) ∙ h.whole in
+    let d1 : drop i old ≡ placed (sum_by size_of us) (drop i old) = ap (drop i) h.starts
+    ∙ drop-placed 0 i old (omega arith) ∙ ap (λ v. placed v (drop i old)) (omega arith) in
+    let d2 : ws ≡ placed (sum_by size_of us + sum_by size_of rs) ws = ap (drop (j - i)) d1
+    ∙ drop-placed (sum_by size_of us) (j - i) (drop i old) (omega (arith, length-drop i old)) in
     record {
       whole = e;
       within_us = within_left n us (rs ++ ws) all;
@@ -108,14 +134,18 @@ parts n i j old h le lj =
       sum = omega (arith, s1, sum_by-append size_of rs ws);
     }
 
-pub turned_shows : (n first m : ℕ) (order : List ℕ) (old us rs ws part : List Run) → Parts n old us rs ws → n ≤ length order → first ≡ sum_by size_of us → m ≡ sum_by size_of rs →
-    part ≡ placed first (map turned (reverse rs)) → shown order (us ++ (part ++ ws)) ≡ reversed_places first m (shown order old)
+pub turned_shows : (n first m : ℕ) (order : List ℕ) (old us rs ws part : List Run) → Parts n old us rs ws →
+    n ≤ length order → first ≡ sum_by size_of us → m ≡ sum_by size_of rs →
+    part ≡ placed first (map turned (reverse rs)) →
+    shown order (us ++ (part ++ ws)) ≡ reversed_places first m (shown order old)
 turned_shows n first m order old us rs ws part h le ef em ep =
     let ss : List Run = map turned (reverse rs) in
     let f = shown_by order in
     let e1 : shown order part ≡ shown order ss = ap (shown order) ep ∙ shown-placed order first ss in
     let e2 : shown order (us ++ (part ++ ws)) ≡ shown order (us ++ (ss ++ ws)) =
-    flat_map-append f us (part ++ ws) ∙ ap (λ v. shown order us ++ v) (flat_map-append f part ws ∙ ap (λ v. v ++ shown order ws) e1 ∙ sym (flat_map-append f ss ws)) ∙ sym (flat_map-append f us (ss ++ ws)) in
+    flat_map-append f us (part ++ ws)
+    ∙ ap (λ v. shown order us ++ v) (flat_map-append f part ws ∙ ap (λ v. v ++ shown order ws) e1
+    ∙ sym (flat_map-append f ss ws)) ∙ sym (flat_map-append f us (ss ++ ws)) in
     let l1 : length (shown order us) ≡ first = length-shown-sum n order us h.within_us le ∙ sym ef in
     let l2 : length (shown order rs) ≡ m = length-shown-sum n order rs h.within_rs le ∙ sym em in
     e2 ∙ shown-turn order us rs ss ws (turned_all (reverse rs))
@@ -128,32 +158,43 @@ pub turned_laid : (n first : ℕ) (old us rs ws part : List Run) → Parts n old
 turned_laid n first old us rs ws part h ef ep =
     let ss : List Run = map turned (reverse rs) in
     let P : List Run → Type 0 = λ v. AreWithin n v in
-    let w : AreWithin n part = subst P (sym ep) (within-placed n first ss (within-turned n (reverse rs) (within-reverse n rs h.within_rs))) in
-    let s : sum_by size_of part ≡ sum_by size_of rs = ap (sum_by size_of) ep ∙ sum_sizes-placed first ss ∙ sum_sizes-turned (reverse rs) ∙ sum_sizes-reverse rs in
+    let w : AreWithin n part =
+    subst P (sym ep) (within-placed n first ss (within-turned n (reverse rs) (within-reverse n rs h.within_rs))) in
+    let s : sum_by size_of part ≡ sum_by size_of rs = ap (sum_by size_of) ep ∙ sum_sizes-placed first ss
+    ∙ sum_sizes-turned (reverse rs) ∙ sum_sizes-reverse rs in
     let again : placed first part ≡ part = ap (placed first) ep ∙ placed-placed first first ss ∙ sym ep in
     let e3 : placed (0 + sum_by size_of us) (part ++ ws) ≡ part ++ ws =
-    ap (λ v. placed v (part ++ ws)) (omega arith) ∙ placed-append first part ws ∙ ap (λ v. v ++ placed (first + sum_by size_of part) ws) again
+    ap (λ v. placed v (part ++ ws)) (omega arith) ∙ placed-append first part ws
+    ∙ ap (λ v. v ++ placed (first + sum_by size_of part) ws) again
     ∙ ap (λ v. part ++ placed v ws) (omega (arith, s, ef)) ∙ ap (λ v. part ++ v) (sym h.starts_ws) in
     record {
-      within = all_within n (us ++ (part ++ ws)) (within-append n us (part ++ ws) h.within_us (within-append n part ws w h.within_ws));
-      starts = sym (placed-append 0 us (part ++ ws) ∙ ap (λ v. v ++ placed (0 + sum_by size_of us) (part ++ ws)) (sym h.starts_us) ∙ ap (λ v. us ++ v) e3);
+      within =
+          all_within n (us ++ (part ++ ws))
+          (within-append n us (part ++ ws) h.within_us (within-append n part ws w h.within_ws));
+      starts =
+          sym (placed-append 0 us (part ++ ws)
+          ∙ ap (λ v. v ++ placed (0 + sum_by size_of us) (part ++ ws)) (sym h.starts_us) ∙ ap (λ v. us ++ v) e3);
       whole = omega (arith, sum_by-append size_of us (part ++ ws), sum_by-append size_of part ws, s, h.sum);
     }
 
-pub sum_sizes-range : (i j : ℕ) (xs : List Run) → i ≤ j → j ≤ length xs → sum_by size_of (take (j - i) (drop i xs)) ≡ sum_by size_of (take j xs) - sum_by size_of (take i xs)
+pub sum_sizes-range : (i j : ℕ) (xs : List Run) → i ≤ j → j ≤ length xs →
+    sum_by size_of (take (j - i) (drop i xs)) ≡ sum_by size_of (take j xs) - sum_by size_of (take i xs)
 sum_sizes-range i j xs le lj =
     let a = sum_sizes-part i xs in
     let b = sum_sizes-part j xs in
     let c = sum_sizes-part (j - i) (drop i xs) in
-    let d : sum_by size_of (drop (j - i) (drop i xs)) ≡ sum_by size_of (drop j xs) = ap (sum_by size_of) (drop-drop (j - i) i xs ∙ ap (λ v. drop v xs) (omega arith)) in
+    let d : sum_by size_of (drop (j - i) (drop i xs)) ≡ sum_by size_of (drop j xs) =
+    ap (sum_by size_of) (drop-drop (j - i) i xs ∙ ap (λ v. drop v xs) (omega arith)) in
     omega (arith, a, b, c, d)
 
-pub turned_sizes : (n first : ℕ) (old us rs ws part : List Run) → Parts n old us rs ws → first ≡ sum_by size_of us → n ≤ 100000 → part ≡ map turned (reverse rs) →
+pub turned_sizes : (n first : ℕ) (old us rs ws part : List Run) → Parts n old us rs ws → first ≡ sum_by size_of us →
+    n ≤ 100000 → part ≡ map turned (reverse rs) →
     (All (λ r. r.low ≤ r.high) part) × (first + sum_by size_of part ≤ 100000)
 turned_sizes n first old us rs ws part h ef small ep =
     let P : List Run → Type 0 = λ v. AreWithin n v in
     let w : AreWithin n part = subst P (sym ep) (within-turned n (reverse rs) (within-reverse n rs h.within_rs)) in
-    let s : sum_by size_of part ≡ sum_by size_of rs = ap (sum_by size_of) ep ∙ sum_sizes-turned (reverse rs) ∙ sum_sizes-reverse rs in (
+    let s : sum_by size_of part ≡ sum_by size_of rs = ap (sum_by size_of) ep ∙ sum_sizes-turned (reverse rs)
+    ∙ sum_sizes-reverse rs in (
       (λ k d lt. let z = all_within n part w k d lt in omega (arith, z.0)),
       omega (arith, s, h.sum, ef),
     )

@@ -24,7 +24,8 @@ whole_named n run home h e = λ k d lt.
     let P : ℕ → Type 0 = λ u. ((get_or (run ∷ []) u d).id < 1) × (get_or home (get_or (run ∷ []) u d).id 0 ≡ u) in
     subst P (sym z) (omega (arith, h.3), ap (λ u. get_or home u 0) h.3 ∙ e)
 
-pub whole_found : (n : ℕ) (run : Run) (table : List ℕ) → IsWhole n run → ((b : ℕ) → b < length table → get_or table b 0 ≡ 0) → CanBeFound n 32 (run ∷ []) table
+pub whole_found : (n : ℕ) (run : Run) (table : List ℕ) → IsWhole n run →
+    ((b : ℕ) → b < length table → get_or table b 0 ≡ 0) → CanBeFound n 32 (run ∷ []) table
 whole_found n run table h zeros = record {
   apart = λ j k place d lj lk u v. omega (arith, lj, lk);
   next = λ k d lt high.

@@ -14,21 +14,25 @@ factor : (a b c : ℕ) → 1 ≤ a → a * b ≤ a * c → b ≤ c
 factor a b c some le = grind arith
 
 -- a reversal by exchanges of two cities each
-pub paid_exchange : (n room writes runs swaps more : ℕ) → ArePaid n room writes runs swaps → ArePaid n room (writes + 2 * more) runs (swaps + more)
+pub paid_exchange : (n room writes runs swaps more : ℕ) → ArePaid n room writes runs swaps →
+    ArePaid n room (writes + 2 * more) runs (swaps + more)
 paid_exchange n room writes runs swaps more h = record { some = h.some; paid = grind (arith, h.paid) }
 
 -- one by runs, of which there are at most two more
-pub paid_turn : (n room writes runs swaps runs' more least : ℕ) → ArePaid n room writes runs swaps → 1 ≤ runs' → runs' ≤ runs + 2 → n ≤ room * least → least ≤ more →
+pub paid_turn : (n room writes runs swaps runs' more least : ℕ) → ArePaid n room writes runs swaps → 1 ≤ runs' →
+    runs' ≤ runs + 2 → n ≤ room * least → least ≤ more →
     ArePaid n room writes runs' (swaps + more)
 paid_turn n room writes runs swaps runs' more least h some two enough le =
-    let a : n * (runs' - 1) ≤ n * (runs - 1 + 2) = less_times n (runs' - 1) (runs - 1 + 2) (omega (arith, two, h.some)) in
+    let a : n * (runs' - 1) ≤ n * (runs - 1 + 2) =
+    less_times n (runs' - 1) (runs - 1 + 2) (omega (arith, two, h.some)) in
     let b : room * least ≤ room * more = less_times room least more le in
     let c : n * (runs - 1 + 2) ≡ n * (runs - 1) + 2 * n = grind arith in
     let d : room * (swaps + more) ≡ room * swaps + room * more = grind arith in
     record { some = some; paid = omega (arith, a, b, c, d, enough, h.paid) }
 
 -- the array is written again when there is no room for two more
-pub paid_rewrite : (n room writes runs swaps : ℕ) → ArePaid n room writes runs swaps → room + 1 ≤ runs → ArePaid n room (writes + n) 1 swaps
+pub paid_rewrite : (n room writes runs swaps : ℕ) → ArePaid n room writes runs swaps → room + 1 ≤ runs →
+    ArePaid n room (writes + n) 1 swaps
 paid_rewrite n room writes runs swaps h full =
     let a : n * room ≤ n * (runs - 1) = less_times n room (runs - 1) (omega (arith, full)) in
     let b : room * (writes + n) ≡ room * writes + n * room = grind arith in
@@ -40,7 +44,8 @@ writes_bound n room writes runs swaps some h =
     factor room writes (2 * swaps) some (omega (arith, h.paid, b))
 
 -- counters that stand still at their greatest value
-paid_saturated : (n room writes runs swaps : ℕ) → ArePaid n room writes runs swaps → 1 ≤ room → n ≤ 100000 → runs ≤ 100000 →
+paid_saturated : (n room writes runs swaps : ℕ) → ArePaid n room writes runs swaps → 1 ≤ room → n ≤ 100000 →
+    runs ≤ 100000 →
     ArePaid n room (saturated writes) runs (saturated swaps)
 paid_saturated n room writes runs swaps h some small few =
     let greatest : ℕ = 2 ^ 64 - 1 in
@@ -58,21 +63,25 @@ paid_saturated n room writes runs swaps h some small few =
     (cases_lt greatest swaps)
 
 -- two of them count the swaps
-pub paid_counted : (n room writes runs swaps counted : ℕ) → ArePaid n room writes runs swaps → 1 ≤ room → n ≤ 100000 → runs ≤ 100000 → saturated swaps ≤ counted →
+pub paid_counted : (n room writes runs swaps counted : ℕ) → ArePaid n room writes runs swaps → 1 ≤ room → n ≤ 100000 →
+    runs ≤ 100000 → saturated swaps ≤ counted →
     ArePaid n room (saturated writes) runs counted
 paid_counted n room writes runs swaps counted h some small few le =
     let k = paid_saturated n room writes runs swaps h some small few in
     record { some = k.some; paid = omega (arith, k.paid, less_times room (saturated swaps) counted le) }
 
 -- runs are joined
-pub paid_fewer : (n room writes runs swaps runs' : ℕ) → ArePaid n room writes runs swaps → 1 ≤ runs' → runs' ≤ runs → ArePaid n room writes runs' swaps
-paid_fewer n room writes runs swaps runs' h some le = record { some = some; paid = omega (arith, h.paid, less_times n (runs' - 1) (runs - 1) (omega (arith, le))) }
+pub paid_fewer : (n room writes runs swaps runs' : ℕ) → ArePaid n room writes runs swaps → 1 ≤ runs' → runs' ≤ runs →
+    ArePaid n room writes runs' swaps
+paid_fewer n room writes runs swaps runs' h some le =
+    record { some = some; paid = omega (arith, h.paid, less_times n (runs' - 1) (runs - 1) (omega (arith, le))) }
 
 -- the array is written from elsewhere
 pub paid_one : (n room writes runs swaps : ℕ) → ArePaid n room writes runs swaps → ArePaid n room writes 1 swaps
 paid_one n room writes runs swaps h = record { some = omega arith; paid = omega (arith, h.paid) }
 
-pub paid_alike : (n n' room room' writes writes' runs swaps swaps' : ℕ) → n ≡ n' → room ≡ room' → writes ≡ writes' → swaps ≡ swaps' → ArePaid n room writes runs swaps →
+pub paid_alike : (n n' room room' writes writes' runs swaps swaps' : ℕ) → n ≡ n' → room ≡ room' → writes ≡ writes' →
+    swaps ≡ swaps' → ArePaid n room writes runs swaps →
     ArePaid n' room' writes' runs swaps'
 paid_alike n n' room room' writes writes' runs swaps swaps' e f g i h =
     let P : ℕ → Type 0 = λ u. ArePaid u room writes runs swaps in

@@ -1,8 +1,10 @@
 -- The array written as it is seen.
-use Rattle.std.proofs.Common.{◌≡◌, ℕ, ◌+◌, ◌<◌, ◌≤◌, ⊎_elim, List, [], ◌∷◌, ◌++◌, length, take, drop, sym, ap, ◌∙◌, subst, arith, get_or}
+use Rattle.std.proofs.Common.{◌≡◌, ℕ, ◌+◌, ◌<◌, ◌≤◌, ⊎_elim, List, [], ◌∷◌, ◌++◌, length, take, drop, sym, ap, ◌∙◌}
+use Rattle.std.proofs.Common.{subst, arith, get_or}
 use Rattle.std.specs.Prelude.{sum_by}
 use Rattle.std.proofs.lemmas.Bool.{cases_lt}
-use Rattle.std.proofs.lemmas.List.{take_more, take_all, take_at, append_assoc, append-nil, length-append, length-take-le, length-drop}
+use Rattle.std.proofs.lemmas.List.{take_more, take_all, take_at, append_assoc, append-nil, length-append}
+use Rattle.std.proofs.lemmas.List.{length-take-le, length-drop}
 use Rattle.std.proofs.lemmas.List.Concat.{flat_map-append}
 use Rattle.tk_tour.specs.Runs.{size_of, shown_by, shown, IsWithin, AreLaidOut}
 use Rattle.tk_tour.specs.Tour.{IsTour}
@@ -19,12 +21,14 @@ pub record WrittenAt (n k : ℕ) (runs : List Run) (run : Run) : Type 0 where
   pub more : sum_by size_of (take (k + 1) runs) ≡ run.start + size_of run
   pub fits : run.start + size_of run ≤ n
 
-pub written_at : (n k : ℕ) (runs : List Run) (run d : Run) → AreLaidOut n runs → k < length runs → run ≡ get_or runs k d → WrittenAt n k runs run
+pub written_at : (n k : ℕ) (runs : List Run) (run d : Run) → AreLaidOut n runs → k < length runs →
+    run ≡ get_or runs k d → WrittenAt n k runs run
 written_at n k runs run d laid lt e =
     let P : Run → Type 0 = λ r. WrittenAt n k runs r in
     let r : Run = get_or runs k d in
     let s = start_is n k runs d laid lt in
-    let more : sum_by size_of (take (k + 1) runs) ≡ r.start + size_of r = sum_more k runs d lt ∙ ap (λ u. u + size_of r) (sym s) in
+    let more : sum_by size_of (take (k + 1) runs) ≡ r.start + size_of r = sum_more k runs d lt
+    ∙ ap (λ u. u + size_of r) (sym s) in
     let f : WrittenAt n k runs r = record {
       within = laid.within k d lt;
       start = s;
@@ -34,7 +38,8 @@ written_at n k runs run d laid lt e =
     subst P (sym e) f
 
 -- one more run is written
-pub written_more : (n k : ℕ) (runs : List Run) (run d : Run) (order list new : List ℕ) → AreLaidOut n runs → k < length runs → run ≡ get_or runs k d → n ≤ length order → length list ≡ n →
+pub written_more : (n k : ℕ) (runs : List Run) (run d : Run) (order list new : List ℕ) → AreLaidOut n runs →
+    k < length runs → run ≡ get_or runs k d → n ≤ length order → length list ≡ n →
     take (sum_by size_of (take k runs)) list ≡ shown order (take k runs) →
     new ≡ take run.start list ++ (shown_by order run ++ drop (run.start + size_of run) list) →
     take (sum_by size_of (take (k + 1) runs)) new ≡ shown order (take (k + 1) runs)
@@ -49,22 +54,35 @@ written_more n k runs run d order list new laid lt e le ll done f =
     let a : A ≡ shown order (take k runs) = ap (λ u. take u list) w.start ∙ done in
     let all : shown order (take (k + 1) runs) ≡ shown order (take k runs) ++ B =
     ap (shown order) (take_more runs k d lt) ∙ flat_map-append (shown_by order) (take k runs) (get_or runs k d ∷ [])
-    ∙ ap (λ u. shown order (take k runs) ++ u) (append-nil (shown_by order (get_or runs k d)) ∙ ap (shown_by order) (sym e)) in
+    ∙ ap (λ u. shown order (take k runs) ++ u) (append-nil (shown_by order (get_or runs k d))
+    ∙ ap (shown_by order) (sym e)) in
     ap (take (sum_by size_of (take (k + 1) runs))) (f ∙ sym (append_assoc A B C))
     ∙ take_at (A ++ B) C (sum_by size_of (take (k + 1) runs)) l
     ∙ ap (λ u. u ++ B) a ∙ sym all
 
-pub length-written : (n k : ℕ) (runs : List Run) (run d : Run) (order list new : List ℕ) → AreLaidOut n runs → k < length runs → run ≡ get_or runs k d → n ≤ length order → length list ≡ n →
+pub length-written : (n k : ℕ) (runs : List Run) (run d : Run) (order list new : List ℕ) → AreLaidOut n runs →
+    k < length runs → run ≡ get_or runs k d → n ≤ length order → length list ≡ n →
     new ≡ take run.start list ++ (shown_by order run ++ drop (run.start + size_of run) list) → length new ≡ n
 length-written n k runs run d order list new laid lt e le ll f =
     let w = written_at n k runs run d laid lt e in
     let A : List ℕ = take run.start list in
     let B : List ℕ = shown_by order run in
     let C : List ℕ = drop (run.start + size_of run) list in
-    omega (arith, ap length f, length-append A (B ++ C), length-append B C, length-take-le run.start list (omega (arith, w.fits, ll)), length-shown_by n order run w.within le, length-drop (run.start + size_of run) list, w.fits, ll)
+    omega (
+      arith,
+      ap length f,
+      length-append A (B ++ C),
+      length-append B C,
+      length-take-le run.start list (omega (arith, w.fits, ll)),
+      length-shown_by n order run w.within le,
+      length-drop (run.start + size_of run) list,
+      w.fits,
+      ll,
+    )
 
 -- all are written
-pub written_all : (n k : ℕ) (runs : List Run) (order list : List ℕ) → AreLaidOut n runs → length runs ≤ k → length list ≡ n →
+pub written_all : (n k : ℕ) (runs : List Run) (order list : List ℕ) → AreLaidOut n runs → length runs ≤ k →
+    length list ≡ n →
     take (sum_by size_of (take k runs)) list ≡ shown order (take k runs) → list ≡ shown order runs
 written_all n k runs order list laid le ll done =
     let e : take k runs ≡ runs = take_all k runs le in
@@ -72,7 +90,8 @@ written_all n k runs order list laid le ll done =
     sym (take_all (sum_by size_of (take k runs)) list (omega (arith, s, ll))) ∙ done ∙ ap (shown order) e
 
 -- no city of a tour is told its place yet
-pub Renumbering-none : (xs place : List ℕ) → IsTour (length xs) xs → length place ≡ length xs → Renumbering xs place 0 (length xs)
+pub Renumbering-none : (xs place : List ℕ) → IsTour (length xs) xs → length place ≡ length xs →
+    Renumbering xs place 0 (length xs)
 Renumbering-none xs place tour l =
     let once = HoldsOnce-tour (length xs) xs tour in
     record {
@@ -80,7 +99,10 @@ Renumbering-none xs place tour l =
       cities = λ i li. city_in_range (length xs) xs i tour li;
       apart = λ i j li lj e.
           ⊎_elim (λ (a : i < j). absurd (places_differ xs i j once a lj e))
-          (λ (a : j ≤ i). ⊎_elim (λ (b : j < i). absurd (places_differ xs j i once b li (sym e))) (λ (b : i ≤ j). omega (arith, a, b)) (cases_lt j i))
+          (λ (a : j ≤ i). ⊎_elim (λ (b : j < i). absurd (places_differ xs j i once b li (sym e)))
+          (λ (b : i ≤ j). omega (arith, a, b)) (cases_lt j i))
           (cases_lt i j);
-      told = λ i li side. absurd (⊎_elim (λ (a : i < 0). omega (arith, a)) (λ (a : length xs ≤ i). omega (arith, a, li)) side);
+      told =
+          λ i li side. absurd
+          (⊎_elim (λ (a : i < 0). omega (arith, a)) (λ (a : length xs ≤ i). omega (arith, a, li)) side);
     }

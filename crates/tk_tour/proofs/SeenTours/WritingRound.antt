@@ -1,6 +1,7 @@
 -- A list that is written from its k-th place on and goes round its end.
 use Rattle.std.proofs.Common.{◌≡◌, ℕ, ◌+◌, ◌-◌, ◌≤◌, List, ◌++◌, length, take, drop, take-add, sym, ap, ◌∙◌, arith}
-use Rattle.std.proofs.lemmas.List.{append_assoc, length-append, length-take-le, length-drop, drop-drop, take-append-drop, take-append-le, drop-append-le, take_at, drop_at}
+use Rattle.std.proofs.lemmas.List.{append_assoc, length-append, length-take-le, length-drop, drop-drop}
+use Rattle.std.proofs.lemmas.List.{take-append-drop, take-append-le, drop-append-le, take_at, drop_at}
 use Rattle.std.proofs.Math.Seq.{take-append-add, drop-append-add}
 use Rattle.tk_tour.specs.Reversal.{begun_at}
 
@@ -9,7 +10,8 @@ abbrev pub put_in : ℕ → List ℕ → List ℕ → List ℕ
 put_in at part list = take at list ++ (part ++ drop (at + length part) list)
 
 -- a part that is written before the end
-pub written_before : (n begin at : ℕ) (list part new : List ℕ) → length list ≡ n → begin ≤ n → at + length part ≤ begin →
+pub written_before : (n begin at : ℕ) (list part new : List ℕ) → length list ≡ n → begin ≤ n →
+    at + length part ≤ begin →
     new ≡ put_in (at + (n - begin)) part list → begun_at (n - begin) new ≡ put_in at part (begun_at (n - begin) list)
 written_before n begin at list part new l lb le h =
     let m : ℕ = n - begin in
@@ -46,7 +48,17 @@ written_after n begin at list part new l le fits h =
     let lq : length Q ≡ begin = omega (arith, length-drop m list, l, le, fits) in
     let whole : list ≡ P ++ Q = sym (take-append-drop m list) in
     let rest : List ℕ = take e P ++ (part ++ drop (e + x) P) in
-    let lr : length rest ≡ m = omega (arith, length-append (take e P) (part ++ drop (e + x) P), length-append part (drop (e + x) P), length-take-le e P (omega (arith, lp, le, fits)), length-drop (e + x) P, lp, le, fits) in
+    let lr : length rest ≡ m =
+    omega (
+      arith,
+      length-append (take e P) (part ++ drop (e + x) P),
+      length-append part (drop (e + x) P),
+      length-take-le e P (omega (arith, lp, le, fits)),
+      length-drop (e + x) P,
+      lp,
+      le,
+      fits,
+    ) in
     let is : new ≡ rest ++ Q =
     h ∙ ap (λ u. take e u ++ (part ++ drop (e + x) u)) whole
     ∙ ap (λ u. u ++ (part ++ drop (e + x) (P ++ Q))) (take-append-le e P Q (omega (arith, lp, le, fits)))
@@ -63,19 +75,22 @@ written_after n begin at list part new l le fits h =
     ∙ ap (λ u. take at (Q ++ P) ++ (part ++ u)) (sym (drop-append-add Q P (e + x)) ∙ ap (λ u. drop u (Q ++ P)) a2)
 
 -- two parts that are written one after another
-pub written_both : (at : ℕ) (list one two mid new : List ℕ) → at + length one ≤ length list → mid ≡ put_in at one list → new ≡ put_in (at + length one) two mid →
+pub written_both : (at : ℕ) (list one two mid new : List ℕ) → at + length one ≤ length list → mid ≡ put_in at one list →
+    new ≡ put_in (at + length one) two mid →
     new ≡ put_in at (one ++ two) list
 written_both at list one two mid new fits f g =
     let d : ℕ = length one in
     let x : ℕ = length two in
     let A : List ℕ = take at list in
     let C : List ℕ = drop (at + d) list in
-    let l : length (A ++ one) ≡ at + d = omega (arith, length-append A one, length-take-le at list (omega (arith, fits))) in
+    let l : length (A ++ one) ≡ at + d =
+    omega (arith, length-append A one, length-take-le at list (omega (arith, fits))) in
     let is : mid ≡ (A ++ one) ++ C = f ∙ sym (append_assoc A one C) in
     let z : at + d + x ≡ length (A ++ one) + x = omega (arith, l) in
     let w : at + d + x ≡ at + length (one ++ two) = omega (arith, length-append one two) in
     g ∙ ap (λ u. take (at + d) u ++ (two ++ drop (at + d + x) u)) is
     ∙ ap (λ u. u ++ (two ++ drop (at + d + x) ((A ++ one) ++ C))) (take_at (A ++ one) C (at + d) l)
-    ∙ ap (λ u. (A ++ one) ++ (two ++ u)) (ap (λ u. drop u ((A ++ one) ++ C)) z ∙ drop-append-add (A ++ one) C x ∙ drop-drop x (at + d) list ∙ ap (λ u. drop u list) w)
+    ∙ ap (λ u. (A ++ one) ++ (two ++ u)) (ap (λ u. drop u ((A ++ one) ++ C)) z ∙ drop-append-add (A ++ one) C x
+    ∙ drop-drop x (at + d) list ∙ ap (λ u. drop u list) w)
     ∙ append_assoc A one (two ++ drop (at + length (one ++ two)) list)
     ∙ ap (λ u. A ++ u) (sym (append_assoc one two (drop (at + length (one ++ two)) list)))

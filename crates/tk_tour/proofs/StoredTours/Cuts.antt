@@ -1,5 +1,6 @@
 -- Where a flip may be made, the cycle can be cut at its two steps.
-use Rattle.std.proofs.Common.{◌≡◌, ◌≢◌, ℕ, ◌+◌, ◌-◌, ◌<◌, ◌≤◌, ⊎_elim, inl, inr, List, [], ◌∷◌, ◌++◌, length, refl, sym, ap, ◌∙◌, subst, arith, get_or}
+use Rattle.std.proofs.Common.{◌≡◌, ◌≢◌, ℕ, ◌+◌, ◌-◌, ◌<◌, ◌≤◌, ⊎_elim, inl, inr, List, [], ◌∷◌, ◌++◌, length, refl, sym}
+use Rattle.std.proofs.Common.{ap, ◌∙◌, subst, arith, get_or}
 use Rattle.std.specs.Prelude.{reverse}
 use Rattle.std.proofs.lemmas.Bool.{cases_lt, cases_eq}
 use Rattle.std.proofs.lemmas.List.{append_assoc, length-reverse, reverse-reverse, get_or-reverse}
@@ -8,7 +9,8 @@ use Rattle.tk_tour.specs.Tour.{occurrences, IsTour, IsSizedTour, IsRotation, Sam
 use Rattle.tk_tour.specs.Moves.{CanFlip, TwoOptMove, ReplacesSteps}
 use Rattle.tk_tour.proofs.Cycle.{IsRotation-reverse, IsRotation-trans, IsRotation-append}
 use Rattle.tk_tour.proofs.Once.{HoldsOnce, occurrences-append, occurrences-reverse}
-use Rattle.tk_tour.proofs.Tours.{HoldsOnce-tour, occurrences-nil, occurrences-other, place_found, next_city-inside, next_city-end, prev_city-inside, prev_city-start}
+use Rattle.tk_tour.proofs.Tours.{HoldsOnce-tour, occurrences-nil, occurrences-other, place_found, next_city-inside}
+use Rattle.tk_tour.proofs.Tours.{next_city-end, prev_city-inside, prev_city-start}
 use Rattle.tk_tour.proofs.Steps.{Neighbours-paths}
 
 pub IsTour-reverse : (n : ℕ) (xs : List ℕ) → IsTour n xs → IsTour n (reverse xs)
@@ -28,15 +30,20 @@ prev_city-reverse n c xs tour ic =
     ⊎_elim
     (λ (lt : k + 1 < m).
     let i : ℕ = m - 2 - k in
-    ap (prev_city (reverse xs)) (sym f.2 ∙ sym (at (i + 1) k (omega arith))) ∙ prev_city-inside (reverse xs) i once' (omega (arith, l)) ∙ at i (k + 1) (omega arith) ∙ sym (next_city-inside xs k once lt) ∙ ap (next_city xs) f.2)
+    ap (prev_city (reverse xs)) (sym f.2 ∙ sym (at (i + 1) k (omega arith)))
+    ∙ prev_city-inside (reverse xs) i once' (omega (arith, l)) ∙ at i (k + 1) (omega arith)
+    ∙ sym (next_city-inside xs k once lt) ∙ ap (next_city xs) f.2)
     (λ (le : m ≤ k + 1).
     let e : k + 1 ≡ m = omega (arith, f.1) in
-    ap (prev_city (reverse xs)) (sym f.2 ∙ sym (at 0 k (omega arith))) ∙ prev_city-start (reverse xs) k once' (omega (arith, l)) ∙ at k 0 (omega arith) ∙ sym (next_city-end xs k once e) ∙ ap (next_city xs) f.2)
+    ap (prev_city (reverse xs)) (sym f.2 ∙ sym (at 0 k (omega arith)))
+    ∙ prev_city-start (reverse xs) k once' (omega (arith, l)) ∙ at k 0 (omega arith)
+    ∙ sym (next_city-end xs k once e) ∙ ap (next_city xs) f.2)
     (cases_lt (k + 1) m)
 
 pub next_city-reverse : (n c : ℕ) (xs : List ℕ) → IsTour n xs → IsCity n c → next_city (reverse xs) c ≡ prev_city xs c
 next_city-reverse n c xs tour ic =
-    sym (prev_city-reverse n c (reverse xs) (IsTour-reverse n xs tour) ic) ∙ ap (λ v. prev_city v c) (reverse-reverse xs)
+    sym (prev_city-reverse n c (reverse xs) (IsTour-reverse n xs tour) ic)
+    ∙ ap (λ v. prev_city v c) (reverse-reverse xs)
 
 -- the two parts of a list before and after a city
 record Split (c : ℕ) (xs : List ℕ) : Type 0 where
@@ -102,7 +109,8 @@ cut_at a c xs ne ha hc =
     let e3 = occurrences-other c a k.after (λ e. ne (sym e)) in
     ⊎_elim
     (λ (some : 0 < occurrences c k.after). cut_after a c xs k.before k.after k.whole (split c k.after (omega arith)))
-    (λ (none : occurrences c k.after ≤ 0). cut_before a c xs k.before k.after k.whole (split c k.before (omega (arith, hc, e1, e2, e3))))
+    (λ (none : occurrences c k.after ≤ 0). cut_before a c xs k.before k.after k.whole
+    (split c k.before (omega (arith, hc, e1, e2, e3))))
     (cases_lt 0 (occurrences c k.after))
 
 -- the cut at the steps from a and from c on
@@ -113,7 +121,8 @@ pub record CutAhead (xs : List ℕ) (a c : ℕ) : Type 0 where
   pub is_back : IsPath (next_city xs a) back c
   pub round : IsRotation xs (front ++ back)
 
-pub cut_ahead : (a c : ℕ) (xs : List ℕ) → HoldsOnce xs → a ≢ c → 1 ≤ occurrences a xs → 1 ≤ occurrences c xs → CutAhead xs a c
+pub cut_ahead : (a c : ℕ) (xs : List ℕ) → HoldsOnce xs → a ≢ c → 1 ≤ occurrences a xs → 1 ≤ occurrences c xs →
+    CutAhead xs a c
 cut_ahead a c xs once ne ha hc =
     let k = cut_at a c xs ne ha hc in
     let front : List ℕ = k.front ++ a ∷ [] in
@@ -125,10 +134,17 @@ cut_ahead a c xs once ne ha hc =
     let cd = Neighbours-paths xs back front c f.0 a g.0 once g.1 f.1 turned in
     let P : ℕ → Type 0 = λ v. IsPath v front a in
     let Q : ℕ → Type 0 = λ v. IsPath v back c in
-    record { front = front; back = back; is_front = subst P (sym cd.0) f.1; is_back = subst Q (sym ab.0) g.1; round = k.round }
+    record {
+      front = front;
+      back = back;
+      is_front = subst P (sym cd.0) f.1;
+      is_back = subst Q (sym ab.0) g.1;
+      round = k.round;
+    }
 
 -- so a 2-opt move is made
-pub TwoOptMove-from_steps : (old new : List ℕ) (a b c d : ℕ) → IsSizedTour old → CanFlip old a b c d → ReplacesSteps old new a b c d → TwoOptMove old new a b c d
+pub TwoOptMove-from_steps : (old new : List ℕ) (a b c d : ℕ) → IsSizedTour old → CanFlip old a b c d →
+    ReplacesSteps old new a b c d → TwoOptMove old new a b c d
 TwoOptMove-from_steps old new a b c d sized can steps =
     let n : ℕ = length old in
     let tour = sized.2 in
@@ -138,13 +154,22 @@ TwoOptMove-from_steps old new a b c d sized can steps =
     let hc : 1 ≤ occurrences c old = omega (arith, tour.1 c can.c_in.0 can.c_in.1) in
     let ha' : 1 ≤ occurrences a back' = omega (arith, ha, occurrences-reverse a old) in
     let hc' : 1 ≤ occurrences c back' = omega (arith, hc, occurrences-reverse c old) in
-    let made : (front back : List ℕ) → IsPath d front a → IsPath b back c → SameCycle old (front ++ back) → TwoOptMove old new a b c d = λ front back pf pb h.
-    record { kept = front; turned = back; is_kept = pf; is_turned = pb; before = h; after = steps front back pf pb h } in
+    let made : (front back : List ℕ) → IsPath d front a → IsPath b back c → SameCycle old (front ++ back) →
+    TwoOptMove old new a b c d = λ front back pf pb h.
+    record {
+      kept = front;
+      turned = back;
+      is_kept = pf;
+      is_turned = pb;
+      before = h;
+      after = steps front back pf pb h;
+    } in
     let P : List ℕ → ℕ → ℕ → Type 0 = λ xs x y. IsPath x xs y in
     ⊎_elim
     (λ (k : (b ≡ next_city old a) × (d ≡ next_city old c)).
     let cut = cut_ahead a c old (HoldsOnce-tour n old tour) can.apart ha hc in
-    made cut.front cut.back (subst (λ v. P cut.front v a) (sym k.1) cut.is_front) (subst (λ v. P cut.back v c) (sym k.0) cut.is_back) (inl cut.round))
+    made cut.front cut.back (subst (λ v. P cut.front v a) (sym k.1) cut.is_front)
+    (subst (λ v. P cut.back v c) (sym k.0) cut.is_back) (inl cut.round))
     (λ (k : (b ≡ prev_city old a) × (d ≡ prev_city old c)).
     let cut = cut_ahead a c back' (HoldsOnce-tour n back' tour') can.apart ha' hc' in
     let turned : IsRotation old (reverse (cut.front ++ cut.back)) =

@@ -1,5 +1,6 @@
 -- A flip of an array: which places it reverses, and what that does to the cycle.
-use Rattle.std.proofs.Common.{◌≡◌, ◌≢◌, ℕ, ◌+◌, ◌-◌, ◌<◌, ◌≤◌, ◌⊎◌, ⊎_elim, inl, inr, List, ◌++◌, length, take, drop, refl, sym, ap, ◌∙◌, subst, arith, get_or}
+use Rattle.std.proofs.Common.{◌≡◌, ◌≢◌, ℕ, ◌+◌, ◌-◌, ◌<◌, ◌≤◌, ◌⊎◌, ⊎_elim, inl, inr, List, ◌++◌, length, take, drop}
+use Rattle.std.proofs.Common.{refl, sym, ap, ◌∙◌, subst, arith, get_or}
 use Rattle.std.proofs.lemmas.Bool.{cases_lt}
 use Rattle.tk_tour.specs.Reversal.{begun_at, reversed_front, reversed_places, IsInverse}
 use Rattle.tk_tour.specs.Tour.{IsTour, IsSizedTour, SameCycle, next_city, prev_city}
@@ -11,19 +12,24 @@ use Rattle.tk_tour.specs.Tour.{occurrences}
 use Rattle.std.proofs.lemmas.List.{reverse-append, reverse-reverse, length-reverse}
 use Rattle.tk_tour.specs.Tour.{IsRotation}
 use Rattle.tk_tour.proofs.Cycle.{SameCycle-trans, IsRotation-append, IsPath-reverse}
-use Rattle.tk_tour.proofs.Once.{occurrences-rotation, occurrences-append, occurrences-reverse, ReplacesSteps-turn, ReplacesSteps-mirror}
-use Rattle.tk_tour.proofs.Tours.{HoldsOnce-tour, city_at_place, next_city-inside, next_city-end, prev_city-inside, prev_city-start, city_in_range}
-use Rattle.tk_tour.proofs.StoredTours.Places.{IsRotation-begun_at, length-reversed_places, AtPlace, get_or-begun_at, ReplacesSteps-path, SidesAre, sides_of_path}
+use Rattle.tk_tour.proofs.Once.{occurrences-rotation, occurrences-append, occurrences-reverse, ReplacesSteps-turn}
+use Rattle.tk_tour.proofs.Once.{ReplacesSteps-mirror}
+use Rattle.tk_tour.proofs.Tours.{HoldsOnce-tour, city_at_place, next_city-inside, next_city-end, prev_city-inside}
+use Rattle.tk_tour.proofs.Tours.{prev_city-start, city_in_range}
+use Rattle.tk_tour.proofs.StoredTours.Places.{IsRotation-begun_at, length-reversed_places, AtPlace, get_or-begun_at}
+use Rattle.tk_tour.proofs.StoredTours.Places.{ReplacesSteps-path, SidesAre, sides_of_path}
 use Rattle.tk_tour.proofs.StoredTours.Reversing.{at_place}
 
 -- q comes right after p, modulo n
 abbrev pub IsAfter : ℕ → ℕ → ℕ → Type 0
 IsAfter n p q = ((p + 1 < n) × (q ≡ p + 1)) ⊎ ((p + 1 ≡ n) × (q ≡ 0))
 
-pub place_is : (order place : List ℕ) (k c : ℕ) → IsInverse order place → k < length order → c ≡ get_or order k 0 → get_or place (c - 1) 0 ≡ k
+pub place_is : (order place : List ℕ) (k c : ℕ) → IsInverse order place → k < length order → c ≡ get_or order k 0 →
+    get_or place (c - 1) 0 ≡ k
 place_is order place k c inverse lt e = ap (λ v. get_or place (v - 1) 0) e ∙ (inverse.1 k lt).2
 
-pub place_after : (order place : List ℕ) (a b : ℕ) → IsTour (length order) order → IsInverse order place → IsCity (length order) a → b ≡ next_city order a →
+pub place_after : (order place : List ℕ) (a b : ℕ) → IsTour (length order) order → IsInverse order place →
+    IsCity (length order) a → b ≡ next_city order a →
     IsAfter (length order) (get_or place (a - 1) 0) (get_or place (b - 1) 0)
 place_after order place a b tour inverse ca e =
     let at_a = city_at_place order place a tour inverse ca.0 ca.1 in
@@ -31,13 +37,15 @@ place_after order place a b tour inverse ca e =
     let once = HoldsOnce-tour (length order) order tour in
     let e' : b ≡ next_city order (get_or order p 0) = e ∙ ap (next_city order) (sym at_a.1) in
     ⊎_elim
-    (λ (lt : p + 1 < length order). inl (lt, place_is order place (p + 1) b inverse lt (e' ∙ next_city-inside order p once lt)))
+    (λ (lt : p + 1 < length order). inl
+    (lt, place_is order place (p + 1) b inverse lt (e' ∙ next_city-inside order p once lt)))
     (λ (le : length order ≤ p + 1).
     let z : p + 1 ≡ length order = omega (arith, at_a.0) in
     inr (z, place_is order place 0 b inverse (omega arith) (e' ∙ next_city-end order p once z)))
     (cases_lt (p + 1) (length order))
 
-pub next_city-in : (order : List ℕ) (place : List ℕ) (a : ℕ) → IsTour (length order) order → IsInverse order place → IsCity (length order) a → IsCity (length order) (next_city order a)
+pub next_city-in : (order : List ℕ) (place : List ℕ) (a : ℕ) → IsTour (length order) order → IsInverse order place →
+    IsCity (length order) a → IsCity (length order) (next_city order a)
 next_city-in order place a tour inverse ca =
     let at_a = city_at_place order place a tour inverse ca.0 ca.1 in
     let p : ℕ = get_or place (a - 1) 0 in
@@ -45,12 +53,15 @@ next_city-in order place a tour inverse ca =
     let P : ℕ → Type 0 = λ v. IsCity (length order) v in
     let e0 : next_city order (get_or order p 0) ≡ next_city order a = ap (next_city order) at_a.1 in
     ⊎_elim
-    (λ (lt : p + 1 < length order). subst P (sym (next_city-inside order p once lt) ∙ e0) (city_in_range (length order) order (p + 1) tour lt))
-    (λ (le : length order ≤ p + 1). subst P (sym (next_city-end order p once (omega (arith, at_a.0))) ∙ e0) (city_in_range (length order) order 0 tour (omega arith)))
+    (λ (lt : p + 1 < length order). subst P (sym (next_city-inside order p once lt) ∙ e0)
+    (city_in_range (length order) order (p + 1) tour lt))
+    (λ (le : length order ≤ p + 1). subst P (sym (next_city-end order p once (omega (arith, at_a.0))) ∙ e0)
+    (city_in_range (length order) order 0 tour (omega arith)))
     (cases_lt (p + 1) (length order))
 
 abbrev PathPlaces : ℕ → ℕ → ℕ → ℕ → ℕ → ℕ → Type 0
-PathPlaces n m pa pb pc pd = (0 < m) × (m < n) × AtPlace n pb 0 pb × AtPlace n pb (m - 1) pc × AtPlace n pb m pd × AtPlace n pb (n - 1) pa
+PathPlaces n m pa pb pc pd = (0 < m) × (m < n) × AtPlace n pb 0 pb × AtPlace n pb (m - 1) pc × AtPlace n pb m pd
+    × AtPlace n pb (n - 1) pa
 
 -- the m places from pb to pc, where pb comes after pa and pd after pc
 path_places : (n m pa pb pc pd : ℕ) → pa < n → pb < n → pc < n → pd < n → pa ≢ pc → IsAfter n pa pb → IsAfter n pc pd →
@@ -59,21 +70,45 @@ path_places n m pa pb pc pd la lb lc ld ne ab cd e =
     ⊎_elim
     (λ (x : (pa + 1 < n) × (pb ≡ pa + 1)). ⊎_elim
     (λ (y : (pc + 1 < n) × (pd ≡ pc + 1)). ⊎_elim
-    (λ (z : (pb ≤ pc) × (m + pb ≡ pc + 1)).
-    (omega (arith, z), omega (arith, x, y, z), at_place n pb 0 pb (inl (omega arith, omega arith)), at_place n pb (m - 1) pc (inl (omega (arith, x, y, z), omega (arith, x, y, z))), at_place n pb m pd (inl (omega (arith, x, y, z), omega (arith, x, y, z))), at_place n pb (n - 1) pa (inr (omega (arith, x, y, z), omega (arith, x, y, z)))))
-    (λ (z : (pc < pb) × (m + pb ≡ pc + n + 1)).
-    (omega (arith, z), omega (arith, ne, x, y, z), at_place n pb 0 pb (inl (omega arith, omega arith)), at_place n pb (m - 1) pc (inr (omega (arith, x, y, z), omega (arith, x, y, z))), at_place n pb m pd (inr (omega (arith, x, y, z), omega (arith, x, y, z))), at_place n pb (n - 1) pa (inr (omega (arith, x, y, z), omega (arith, x, y, z)))))
+    (λ (z : (pb ≤ pc) × (m + pb ≡ pc + 1)). (
+      omega (arith, z),
+      omega (arith, x, y, z),
+      at_place n pb 0 pb (inl (omega arith, omega arith)),
+      at_place n pb (m - 1) pc (inl (omega (arith, x, y, z), omega (arith, x, y, z))),
+      at_place n pb m pd (inl (omega (arith, x, y, z), omega (arith, x, y, z))),
+      at_place n pb (n - 1) pa (inr (omega (arith, x, y, z), omega (arith, x, y, z))),
+    ))
+    (λ (z : (pc < pb) × (m + pb ≡ pc + n + 1)). (
+      omega (arith, z),
+      omega (arith, ne, x, y, z),
+      at_place n pb 0 pb (inl (omega arith, omega arith)),
+      at_place n pb (m - 1) pc (inr (omega (arith, x, y, z), omega (arith, x, y, z))),
+      at_place n pb m pd (inr (omega (arith, x, y, z), omega (arith, x, y, z))),
+      at_place n pb (n - 1) pa (inr (omega (arith, x, y, z), omega (arith, x, y, z))),
+    ))
     e)
     (λ (y : (pc + 1 ≡ n) × (pd ≡ 0)). ⊎_elim
-    (λ (z : (pb ≤ pc) × (m + pb ≡ pc + 1)).
-    (omega (arith, z), omega (arith, x, y, z), at_place n pb 0 pb (inl (omega arith, omega arith)), at_place n pb (m - 1) pc (inl (omega (arith, x, y, z), omega (arith, x, y, z))), at_place n pb m pd (inr (omega (arith, x, y, z), omega (arith, x, y, z))), at_place n pb (n - 1) pa (inr (omega (arith, x, y, z), omega (arith, x, y, z)))))
+    (λ (z : (pb ≤ pc) × (m + pb ≡ pc + 1)). (
+      omega (arith, z),
+      omega (arith, x, y, z),
+      at_place n pb 0 pb (inl (omega arith, omega arith)),
+      at_place n pb (m - 1) pc (inl (omega (arith, x, y, z), omega (arith, x, y, z))),
+      at_place n pb m pd (inr (omega (arith, x, y, z), omega (arith, x, y, z))),
+      at_place n pb (n - 1) pa (inr (omega (arith, x, y, z), omega (arith, x, y, z))),
+    ))
     (λ (z : (pc < pb) × (m + pb ≡ pc + n + 1)). absurd (omega (arith, x, y, z)))
     e)
     cd)
     (λ (x : (pa + 1 ≡ n) × (pb ≡ 0)). ⊎_elim
     (λ (y : (pc + 1 < n) × (pd ≡ pc + 1)). ⊎_elim
-    (λ (z : (pb ≤ pc) × (m + pb ≡ pc + 1)).
-    (omega (arith, z), omega (arith, x, y, z), at_place n pb 0 pb (inl (omega arith, omega arith)), at_place n pb (m - 1) pc (inl (omega (arith, x, y, z), omega (arith, x, y, z))), at_place n pb m pd (inl (omega (arith, x, y, z), omega (arith, x, y, z))), at_place n pb (n - 1) pa (inl (omega (arith, x, y, z), omega (arith, x, y, z)))))
+    (λ (z : (pb ≤ pc) × (m + pb ≡ pc + 1)). (
+      omega (arith, z),
+      omega (arith, x, y, z),
+      at_place n pb 0 pb (inl (omega arith, omega arith)),
+      at_place n pb (m - 1) pc (inl (omega (arith, x, y, z), omega (arith, x, y, z))),
+      at_place n pb m pd (inl (omega (arith, x, y, z), omega (arith, x, y, z))),
+      at_place n pb (n - 1) pa (inl (omega (arith, x, y, z), omega (arith, x, y, z))),
+    ))
     (λ (z : (pc < pb) × (m + pb ≡ pc + n + 1)). absurd (omega (arith, x, y, z)))
     e)
     (λ (y : (pc + 1 ≡ n) × (pd ≡ 0)). absurd (ne (omega (arith, x, y))))
@@ -81,9 +116,14 @@ path_places n m pa pb pc pd la lb lc ld ne ab cd e =
     ab
 
 -- what reversing the path from b to c does, where it stands at m places
-pub flip_path : (order place : List ℕ) (a b c d m : ℕ) → IsTour (length order) order → IsInverse order place → IsCity (length order) a → IsCity (length order) c → a ≢ c → b ≡ next_city order a → d ≡ next_city order c →
-    ((get_or place (b - 1) 0 ≤ get_or place (c - 1) 0) × (m + get_or place (b - 1) 0 ≡ get_or place (c - 1) 0 + 1)) ⊎ ((get_or place (c - 1) 0 < get_or place (b - 1) 0) × (m + get_or place (b - 1) 0 ≡ get_or place (c - 1) 0 + length order + 1)) →
-    (0 < m) × (m < length order) × (get_or place (b - 1) 0 < length order) × ReplacesSteps order (reversed_places (get_or place (b - 1) 0) m order) a b c d × SidesAre order (length order - m) m a b c d
+pub flip_path : (order place : List ℕ) (a b c d m : ℕ) → IsTour (length order) order → IsInverse order place →
+    IsCity (length order) a → IsCity (length order) c → a ≢ c → b ≡ next_city order a → d ≡ next_city order c →
+    ((get_or place (b - 1) 0 ≤ get_or place (c - 1) 0) × (m + get_or place (b - 1) 0 ≡ get_or place (c - 1) 0 + 1))
+    ⊎ ((get_or place (c - 1) 0 < get_or place (b - 1) 0)
+    × (m + get_or place (b - 1) 0 ≡ get_or place (c - 1) 0 + length order + 1)) →
+    (0 < m) × (m < length order) × (get_or place (b - 1) 0 < length order)
+    × ReplacesSteps order (reversed_places (get_or place (b - 1) 0) m order) a b c d
+    × SidesAre order (length order - m) m a b c d
 flip_path order place a b c d m tour inverse ca cc' ne eb ed em =
     let n : ℕ = length order in
     let P : ℕ → Type 0 = λ v. IsCity (length order) v in
@@ -98,7 +138,9 @@ flip_path order place a b c d m tour inverse ca cc' ne eb ed em =
     let pc : ℕ = get_or place (c - 1) 0 in
     let pd : ℕ = get_or place (d - 1) 0 in
     let apart : pa ≢ pc = λ e. ne (sym at_a.1 ∙ ap (λ v. get_or order v 0) e ∙ at_c.1) in
-    let k = path_places n m pa pb pc pd at_a.0 at_b.0 at_c.0 at_d.0 apart (place_after order place a b tour inverse ca eb) (place_after order place c d tour inverse cc' ed) em in (
+    let k =
+    path_places n m pa pb pc pd at_a.0 at_b.0 at_c.0 at_d.0 apart (place_after order place a b tour inverse ca eb)
+    (place_after order place c d tour inverse cc' ed) em in (
       k.0,
       k.1,
       at_b.0,
@@ -114,7 +156,8 @@ flip_path order place a b c d m tour inverse ca cc' ne eb ed em =
           (get_or-begun_at order pb (n - 1) pa 0 (omega (arith, at_b.0)) (omega (arith, at_b.0)) k.5 ∙ at_a.1),
     )
 
-prev_city-at : (order place : List ℕ) (a : ℕ) → IsTour (length order) order → IsInverse order place → IsCity (length order) a →
+prev_city-at : (order place : List ℕ) (a : ℕ) → IsTour (length order) order → IsInverse order place →
+    IsCity (length order) a →
     (k : ℕ) × (k < length order) × (prev_city order a ≡ get_or order k 0) × (next_city order (get_or order k 0) ≡ a)
 prev_city-at order place a tour inverse ca =
     let at_a = city_at_place order place a tour inverse ca.0 ca.1 in
@@ -127,7 +170,8 @@ prev_city-at order place a tour inverse ca =
     let e1 : p - 1 + 1 ≡ p = omega arith in (
       p - 1,
       omega (arith, at_a.0),
-      e0 ∙ ap (λ v. prev_city order (get_or order v 0)) (sym e1) ∙ prev_city-inside order (p - 1) once (omega (arith, at_a.0)),
+      e0 ∙ ap (λ v. prev_city order (get_or order v 0)) (sym e1)
+          ∙ prev_city-inside order (p - 1) once (omega (arith, at_a.0)),
       next_city-inside order (p - 1) once (omega (arith, at_a.0)) ∙ ap (λ v. get_or order v 0) e1 ∙ at_a.1,
     ))
     (λ (le : p ≤ 0).
@@ -140,13 +184,15 @@ prev_city-at order place a tour inverse ca =
     ))
     (cases_lt 0 p)
 
-pub prev_city-in : (order place : List ℕ) (a : ℕ) → IsTour (length order) order → IsInverse order place → IsCity (length order) a → IsCity (length order) (prev_city order a)
+pub prev_city-in : (order place : List ℕ) (a : ℕ) → IsTour (length order) order → IsInverse order place →
+    IsCity (length order) a → IsCity (length order) (prev_city order a)
 prev_city-in order place a tour inverse ca =
     let h = prev_city-at order place a tour inverse ca in
     let P : ℕ → Type 0 = λ v. IsCity (length order) v in
     subst P (sym h.2) (city_in_range (length order) order h.0 tour h.1)
 
-pub next_city-prev_city : (order place : List ℕ) (a : ℕ) → IsTour (length order) order → IsInverse order place → IsCity (length order) a → next_city order (prev_city order a) ≡ a
+pub next_city-prev_city : (order place : List ℕ) (a : ℕ) → IsTour (length order) order → IsInverse order place →
+    IsCity (length order) a → next_city order (prev_city order a) ≡ a
 next_city-prev_city order place a tour inverse ca =
     let h = prev_city-at order place a tour inverse ca in ap (next_city order) h.2 ∙ h.3
 
@@ -158,7 +204,8 @@ pub record AreForward (order : List ℕ) (a b c d : ℕ) : Type 0 where
   pub b_after : b ≡ next_city order a
   pub d_after : d ≡ next_city order c
 
-pub backward : (order place : List ℕ) (a b c d : ℕ) → IsTour (length order) order → IsInverse order place → IsCity (length order) a → IsCity (length order) c → a ≢ c →
+pub backward : (order place : List ℕ) (a b c d : ℕ) → IsTour (length order) order → IsInverse order place →
+    IsCity (length order) a → IsCity (length order) c → a ≢ c →
     b ≡ prev_city order a → d ≡ prev_city order c → AreForward order d c b a
 backward order place a b c d tour inverse ca cc' ne eb ed =
     let P : ℕ → Type 0 = λ v. IsCity (length order) v in
@@ -172,12 +219,15 @@ backward order place a b c d tour inverse ca cc' ne eb ed =
       d_after = sym na;
     }
 
-pub ReplacesSteps-backward : (old new : List ℕ) (a b c d : ℕ) → ReplacesSteps old new d c b a → ReplacesSteps old new a b c d
+pub ReplacesSteps-backward : (old new : List ℕ) (a b c d : ℕ) → ReplacesSteps old new d c b a →
+    ReplacesSteps old new a b c d
 ReplacesSteps-backward old new a b c d h = ReplacesSteps-mirror a b c d old new (ReplacesSteps-turn b a d c old new h)
 
 -- which way the steps run
-pub only_backward : (order : List ℕ) (a b c d : ℕ) → CanFlip order a b c d → (b ≡ next_city order a → d ≡ next_city order c → ⊥) → (b ≡ prev_city order a) × (d ≡ prev_city order c)
-only_backward order a b c d h not_ahead = ⊎_elim (λ (k : (b ≡ next_city order a) × (d ≡ next_city order c)). absurd (not_ahead k.0 k.1)) (λ k. k) h.steps
+pub only_backward : (order : List ℕ) (a b c d : ℕ) → CanFlip order a b c d →
+    (b ≡ next_city order a → d ≡ next_city order c → ⊥) → (b ≡ prev_city order a) × (d ≡ prev_city order c)
+only_backward order a b c d h not_ahead =
+    ⊎_elim (λ (k : (b ≡ next_city order a) × (d ≡ next_city order c)). absurd (not_ahead k.0 k.1)) (λ k. k) h.steps
 
 -- a reversal leaves a tour
 pub occurrences-reversed_places : (c k m : ℕ) (xs : List ℕ) → occurrences c (reversed_places k m xs) ≡ occurrences c xs
@@ -205,9 +255,11 @@ abbrev pub PathLength : ℕ → ℕ → ℕ → ℕ → Type 0
 PathLength n m pb pc = ((pb ≤ pc) × (m + pb ≡ pc + 1)) ⊎ ((pc < pb) × (m + pb ≡ pc + n + 1))
 
 -- the same, for places under names
-pub flip_inner : (order place : List ℕ) (a b c d m pb pc : ℕ) → IsTour (length order) order → IsInverse order place → IsCity (length order) a → IsCity (length order) c → a ≢ c → b ≡ next_city order a → d ≡ next_city order c →
+pub flip_inner : (order place : List ℕ) (a b c d m pb pc : ℕ) → IsTour (length order) order → IsInverse order place →
+    IsCity (length order) a → IsCity (length order) c → a ≢ c → b ≡ next_city order a → d ≡ next_city order c →
     pb ≡ get_or place (b - 1) 0 → pc ≡ get_or place (c - 1) 0 → PathLength (length order) m pb pc →
-    (0 < m) × (m < length order) × ReplacesSteps order (reversed_places pb m order) a b c d × SidesAre order (length order - m) m a b c d
+    (0 < m) × (m < length order) × ReplacesSteps order (reversed_places pb m order) a b c d
+    × SidesAre order (length order - m) m a b c d
 flip_inner order place a b c d m pb pc tour inverse ca cc' ne eb ed epb epc em =
     let qb : ℕ = get_or place (b - 1) 0 in
     let qc : ℕ = get_or place (c - 1) 0 in
@@ -221,7 +273,8 @@ flip_inner order place a b c d m pb pc tour inverse ca cc' ne eb ed epb epc em =
     (h.0, h.1, subst P (sym epb) h.3, h.4)
 
 -- the length of the other side
-other_side : (n m pa pb pc pd : ℕ) → pa < n → pc < n → pa ≢ pc → IsAfter n pa pb → IsAfter n pc pd → PathLength n m pb pc → PathLength n (n - m) pd pa
+other_side : (n m pa pb pc pd : ℕ) → pa < n → pc < n → pa ≢ pc → IsAfter n pa pb → IsAfter n pc pd →
+    PathLength n m pb pc → PathLength n (n - m) pd pa
 other_side n m pa pb pc pd la lc ne ab cd e =
     ⊎_elim
     (λ (x : (pa + 1 < n) × (pb ≡ pa + 1)). ⊎_elim
@@ -244,8 +297,10 @@ other_side n m pa pb pc pd la lc ne ab cd e =
     ab
 
 -- the other side: the path from d to a has the places that are left
-pub flip_outer : (order place : List ℕ) (a b c d m pb pc pd : ℕ) → IsTour (length order) order → IsInverse order place → IsCity (length order) a → IsCity (length order) c → a ≢ c → b ≡ next_city order a → d ≡ next_city order c →
-    pb ≡ get_or place (b - 1) 0 → pc ≡ get_or place (c - 1) 0 → pd ≡ get_or place (d - 1) 0 → PathLength (length order) m pb pc →
+pub flip_outer : (order place : List ℕ) (a b c d m pb pc pd : ℕ) → IsTour (length order) order → IsInverse order place →
+    IsCity (length order) a → IsCity (length order) c → a ≢ c → b ≡ next_city order a → d ≡ next_city order c →
+    pb ≡ get_or place (b - 1) 0 → pc ≡ get_or place (c - 1) 0 → pd ≡ get_or place (d - 1) 0 →
+    PathLength (length order) m pb pc →
     ReplacesSteps order (reversed_places pd (length order - m) order) a b c d
 flip_outer order place a b c d m pb pc pd tour inverse ca cc' ne eb ed epb epc epd em =
     let n : ℕ = length order in
@@ -254,31 +309,44 @@ flip_outer order place a b c d m pb pc pd tour inverse ca cc' ne eb ed epb epc e
     let ab = place_after order place a b tour inverse ca eb in
     let cd = place_after order place c d tour inverse cc' ed in
     let pa : ℕ = get_or place (a - 1) 0 in
-    let outer : PathLength n (n - m) pd pa = other_side n m pa pb pc pd at_a.0 (omega (arith, epc, at_c.0)) (λ e. ne (sym at_a.1 ∙ ap (λ v. get_or order v 0) (e ∙ epc) ∙ at_c.1))
-    (let P : ℕ → Type 0 = λ v. IsAfter n pa v in subst P (sym epb) ab) (let P : ℕ → Type 0 = λ v. IsAfter n v pd in subst P (sym epc) (let Q : ℕ → Type 0 = λ v. IsAfter n (get_or place (c - 1) 0) v in subst Q (sym epd) cd)) em in
+    let outer : PathLength n (n - m) pd pa =
+    other_side n m pa pb pc pd at_a.0 (omega (arith, epc, at_c.0))
+    (λ e. ne (sym at_a.1 ∙ ap (λ v. get_or order v 0) (e ∙ epc) ∙ at_c.1))
+    (let P : ℕ → Type 0 = λ v. IsAfter n pa v in subst P (sym epb) ab)
+    (let P : ℕ → Type 0 = λ v. IsAfter n v pd in
+    subst P (sym epc) (let Q : ℕ → Type 0 = λ v. IsAfter n (get_or place (c - 1) 0) v in subst Q (sym epd) cd))
+    em in
     let h = flip_inner order place c d a b (n - m) pd pa tour inverse cc' ca (λ e. ne (sym e)) ed eb epd refl outer in
     ReplacesSteps-turn a b c d order (reversed_places pd (n - m) order) h.2
 
 -- what stands beside the k-th place
-pub next_city_stored : (order : List ℕ) (k x c : ℕ) → IsTour (length order) order → k < length order → get_or order k 0 ≡ c →
-    ((k + 1 < length order) × (x ≡ get_or order (k + 1) 0)) ⊎ ((k + 1 ≡ length order) × (x ≡ get_or order 0 0)) → x ≡ next_city order c
+pub next_city_stored : (order : List ℕ) (k x c : ℕ) → IsTour (length order) order → k < length order →
+    get_or order k 0 ≡ c →
+    ((k + 1 < length order) × (x ≡ get_or order (k + 1) 0)) ⊎ ((k + 1 ≡ length order) × (x ≡ get_or order 0 0)) →
+    x ≡ next_city order c
 next_city_stored order k x c tour lt e h =
     let once = HoldsOnce-tour (length order) order tour in
     ⊎_elim
-    (λ (z : (k + 1 < length order) × (x ≡ get_or order (k + 1) 0)). z.1 ∙ sym (next_city-inside order k once z.0) ∙ ap (next_city order) e)
-    (λ (z : (k + 1 ≡ length order) × (x ≡ get_or order 0 0)). z.1 ∙ sym (next_city-end order k once z.0) ∙ ap (next_city order) e)
+    (λ (z : (k + 1 < length order) × (x ≡ get_or order (k + 1) 0)). z.1 ∙ sym (next_city-inside order k once z.0)
+    ∙ ap (next_city order) e)
+    (λ (z : (k + 1 ≡ length order) × (x ≡ get_or order 0 0)). z.1 ∙ sym (next_city-end order k once z.0)
+    ∙ ap (next_city order) e)
     h
 
-pub prev_city_stored : (order : List ℕ) (k x c : ℕ) → IsTour (length order) order → k < length order → get_or order k 0 ≡ c →
-    ((0 < k) × (x ≡ get_or order (k - 1) 0)) ⊎ ((k ≡ 0) × (x ≡ get_or order (length order - 1) 0)) → x ≡ prev_city order c
+pub prev_city_stored : (order : List ℕ) (k x c : ℕ) → IsTour (length order) order → k < length order →
+    get_or order k 0 ≡ c →
+    ((0 < k) × (x ≡ get_or order (k - 1) 0)) ⊎ ((k ≡ 0) × (x ≡ get_or order (length order - 1) 0)) →
+    x ≡ prev_city order c
 prev_city_stored order k x c tour lt e h =
     let once = HoldsOnce-tour (length order) order tour in
     ⊎_elim
     (λ (z : (0 < k) × (x ≡ get_or order (k - 1) 0)).
     let e1 : k - 1 + 1 ≡ k = omega (arith, z) in
-    z.1 ∙ sym (prev_city-inside order (k - 1) once (omega (arith, z))) ∙ ap (λ v. prev_city order (get_or order v 0)) e1 ∙ ap (prev_city order) e)
+    z.1 ∙ sym (prev_city-inside order (k - 1) once (omega (arith, z))) ∙ ap (λ v. prev_city order (get_or order v 0)) e1
+    ∙ ap (prev_city order) e)
     (λ (z : (k ≡ 0) × (x ≡ get_or order (length order - 1) 0)).
-    z.1 ∙ sym (prev_city-start order (length order - 1) once (omega arith)) ∙ ap (λ v. prev_city order (get_or order v 0)) (sym z.0) ∙ ap (prev_city order) e)
+    z.1 ∙ sym (prev_city-start order (length order - 1) once (omega arith))
+    ∙ ap (λ v. prev_city order (get_or order v 0)) (sym z.0) ∙ ap (prev_city order) e)
     h
 
 -- the same sides, read backward
@@ -286,6 +354,7 @@ pub IsShorterSide-backward : (xs : List ℕ) (n a b c d : ℕ) → IsShorterSide
 IsShorterSide-backward xs n a b c d h = λ front back pf pb g.
     let P : List ℕ → Type 0 = λ v. IsRotation (front ++ back) v in
     let e : reverse (reverse front ++ reverse back) ≡ back ++ front = simp (reverse-append, reverse-reverse) in
-    let g2 : SameCycle (front ++ back) (reverse front ++ reverse back) = inr (subst P (sym e) (IsRotation-append front back)) in
+    let g2 : SameCycle (front ++ back) (reverse front ++ reverse back) =
+    inr (subst P (sym e) (IsRotation-append front back)) in
     let k = h (reverse front) (reverse back) (IsPath-reverse pf) (IsPath-reverse pb) (SameCycle-trans g g2) in
     omega (arith, k, length-reverse front, length-reverse back)

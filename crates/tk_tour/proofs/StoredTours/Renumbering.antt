@@ -1,5 +1,6 @@
 -- Cities that stand in a new order, and the place array that is told their places anew, one after another.
-use Rattle.std.proofs.Common.{◌≡◌, ◌≢◌, ℕ, ◌+◌, ◌-◌, ◌<◌, ◌≤◌, ◌⊎◌, ⊎_elim, inl, inr, List, length, set, sym, ap, ◌∙◌, arith, get_or}
+use Rattle.std.proofs.Common.{◌≡◌, ◌≢◌, ℕ, ◌+◌, ◌-◌, ◌<◌, ◌≤◌, ◌⊎◌, ⊎_elim, inl, inr, List, length, set, sym, ap, ◌∙◌}
+use Rattle.std.proofs.Common.{arith, get_or}
 use Rattle.std.proofs.lemmas.List.{length-set, get_or-set_same, get_or-set_other}
 use Rattle.std.proofs.lemmas.Bool.{cases_lt, cases_eq}
 use Rattle.tk_tour.specs.Reversal.{IsInverse}
@@ -21,18 +22,25 @@ Renumbering-more order place k last h lt =
       apart = h.apart;
       told = λ i li side.
           ⊎_elim
-          (λ (e : i ≡ k). ap (λ v. get_or (set place (get_or order k 0 - 1) k) (get_or order v 0 - 1) 0) e ∙ get_or-set_same place (get_or order k 0 - 1) k 0 (omega (arith, h.size, at)) ∙ sym e)
+          (λ (e : i ≡ k). ap (λ v. get_or (set place (get_or order k 0 - 1) k) (get_or order v 0 - 1) 0) e
+          ∙ get_or-set_same place (get_or order k 0 - 1) k 0 (omega (arith, h.size, at)) ∙ sym e)
           (λ (ne : i ≢ k).
-          let other : get_or order i 0 - 1 ≢ get_or order k 0 - 1 = λ e. ne (h.apart i k li lt (omega (arith, e, at, h.cities i li))) in
-          let before : (i < k) ⊎ (last ≤ i) = ⊎_elim (λ (a : i < k + 1). inl (omega (arith, a, ne))) (λ (b : last ≤ i). inr b) side in
+          let other : get_or order i 0 - 1 ≢ get_or order k 0 - 1 =
+          λ e. ne (h.apart i k li lt (omega (arith, e, at, h.cities i li))) in
+          let before : (i < k) ⊎ (last ≤ i) =
+          ⊎_elim (λ (a : i < k + 1). inl (omega (arith, a, ne))) (λ (b : last ≤ i). inr b) side in
           get_or-set_other place (get_or order k 0 - 1) (get_or order i 0 - 1) k 0 other ∙ h.told i li before)
           (cases_eq i k);
     }
 
 -- all are told
-pub Renumbering-all : (order place : List ℕ) (k last : ℕ) → Renumbering order place k last → last ≤ k → IsInverse order place
+pub Renumbering-all : (order place : List ℕ) (k last : ℕ) → Renumbering order place k last → last ≤ k →
+    IsInverse order place
 Renumbering-all order place k last h le = (
   h.size,
-  λ i li. let at = h.cities i li in
-      (at.0, at.1, h.told i li (⊎_elim (λ (a : i < k). inl a) (λ (b : k ≤ i). inr (omega (arith, b, le))) (cases_lt i k))),
+  λ i li. let at = h.cities i li in (
+    at.0,
+    at.1,
+    h.told i li (⊎_elim (λ (a : i < k). inl a) (λ (b : k ≤ i). inr (omega (arith, b, le))) (cases_lt i k)),
+  ),
 )

@@ -1,11 +1,14 @@
 -- One exchange of a reversal, on the order and the place array.
-use Rattle.std.proofs.Common.{◌≡◌, ◌≢◌, ℕ, ◌+◌, ◌-◌, ◌<◌, ◌≤◌, ◌/◌, ◌⊎◌, ⊎_elim, inl, inr, List, length, set, refl, sym, ap, ◌∙◌, subst, arith, get_or}
+use Rattle.std.proofs.Common.{◌≡◌, ◌≢◌, ℕ, ◌+◌, ◌-◌, ◌<◌, ◌≤◌, ◌/◌, ◌⊎◌, ⊎_elim, inl, inr, List, length, set, refl, sym}
+use Rattle.std.proofs.Common.{ap, ◌∙◌, subst, arith, get_or}
 use Rattle.std.proofs.lemmas.List.{length-set, get_or-set_same, get_or-set_other}
 use Rattle.std.proofs.lemmas.Bool.{cases_lt, cases_eq}
 use Rattle.tk_tour.specs.Reversal.{begun_at, reversed_places, IsInverse}
-use Rattle.tk_tour.proofs.StoredTours.Places.{AtPlace, MirroredTo, MirroredTo-more, MirroredTo-all, begun_at-set, get_or-begun_at, length-begun_at, reversed_places-from}
+use Rattle.tk_tour.proofs.StoredTours.Places.{AtPlace, MirroredTo, MirroredTo-more, MirroredTo-all, begun_at-set}
+use Rattle.tk_tour.proofs.StoredTours.Places.{get_or-begun_at, length-begun_at, reversed_places-from}
 
-pub IsInverse-exchange : (order place : List ℕ) (i j x y : ℕ) → IsInverse order place → i < length order → j < length order → i ≢ j → x ≡ get_or order i 0 → y ≡ get_or order j 0 →
+pub IsInverse-exchange : (order place : List ℕ) (i j x y : ℕ) → IsInverse order place → i < length order →
+    j < length order → i ≢ j → x ≡ get_or order i 0 → y ≡ get_or order j 0 →
     IsInverse (set (set order i y) j x) (set (set place (y - 1) i) (x - 1) j)
 IsInverse-exchange order place i j x y h li lj ne ex ey =
     let n : ℕ = length order in
@@ -19,27 +22,40 @@ IsInverse-exchange order place i j x y h li lj ne ex ey =
     let lp : length (set (set place (y - 1) i) (x - 1) j) ≡ n = length-set (set place (y - 1) i) (x - 1) j ∙ lp1 in
     let bx : (0 < x) × (x ≤ n) = (omega arith, omega arith) in
     let by' : (0 < y) × (y ≤ n) = (omega arith, omega arith) in
-    let P : ℕ → ℕ → Type 0 = λ k z. (0 < z) × (z ≤ length (set (set order i y) j x)) × (get_or (set (set place (y - 1) i) (x - 1) j) (z - 1) 0 ≡ k) in
+    let P : ℕ → ℕ → Type 0 = λ k z. (0 < z) × (z ≤ length (set (set order i y) j x))
+    × (get_or (set (set place (y - 1) i) (x - 1) j) (z - 1) 0 ≡ k) in
     let here_j : P j x = (bx.0, omega arith, get_or-set_same (set place (y - 1) i) (x - 1) j 0 (omega arith)) in
-    let here_i : P i y =
-    (by'.0, omega arith, get_or-set_other (set place (y - 1) i) (x - 1) (y - 1) j 0 apart ∙ get_or-set_same place (y - 1) i 0 (omega (arith, h.0))) in
+    let here_i : P i y = (
+      by'.0,
+      omega arith,
+      get_or-set_other (set place (y - 1) i) (x - 1) (y - 1) j 0 apart
+          ∙ get_or-set_same place (y - 1) i 0 (omega (arith, h.0)),
+    ) in
     let value_i : get_or (set (set order i y) j x) i 0 ≡ y =
     get_or-set_other (set order i y) j i x 0 ne ∙ get_or-set_same order i y 0 li in
     let value_j : get_or (set (set order i y) j x) j 0 ≡ x =
     get_or-set_same (set order i y) j x 0 (omega (arith, length-set order i y)) in
     let all : (k : ℕ) → k < n → P k (get_or (set (set order i y) j x) k 0) = λ k lk.
     ⊎_elim
-    (λ (e : k ≡ j). let Q : ℕ → Type 0 = λ v. P v (get_or (set (set order i y) j x) v 0) in subst Q (sym e) (let R : ℕ → Type 0 = λ v. P j v in subst R (sym value_j) here_j))
+    (λ (e : k ≡ j). let Q : ℕ → Type 0 = λ v. P v (get_or (set (set order i y) j x) v 0) in
+    subst Q (sym e) (let R : ℕ → Type 0 = λ v. P j v in subst R (sym value_j) here_j))
     (λ (nj : k ≢ j).
     ⊎_elim
-    (λ (e : k ≡ i). let Q : ℕ → Type 0 = λ v. P v (get_or (set (set order i y) j x) v 0) in subst Q (sym e) (let R : ℕ → Type 0 = λ v. P i v in subst R (sym value_i) here_i))
+    (λ (e : k ≡ i). let Q : ℕ → Type 0 = λ v. P v (get_or (set (set order i y) j x) v 0) in
+    subst Q (sym e) (let R : ℕ → Type 0 = λ v. P i v in subst R (sym value_i) here_i))
     (λ (ni : k ≢ i).
     let z : ℕ = get_or order k 0 in
     let at_k = h.1 k lk in
-    let value_k : get_or (set (set order i y) j x) k 0 ≡ z = get_or-set_other (set order i y) j k x 0 nj ∙ get_or-set_other order i k y 0 ni in
+    let value_k : get_or (set (set order i y) j x) k 0 ≡ z = get_or-set_other (set order i y) j k x 0 nj
+    ∙ get_or-set_other order i k y 0 ni in
     let zx : z - 1 ≢ x - 1 = λ e. ni (sym at_k.2 ∙ ap (λ v. get_or place v 0) e ∙ px) in
     let zy : z - 1 ≢ y - 1 = λ e. nj (sym at_k.2 ∙ ap (λ v. get_or place v 0) e ∙ py) in
-    let here : P k z = (at_k.0, omega (arith, at_k.1), get_or-set_other (set place (y - 1) i) (x - 1) (z - 1) j 0 zx ∙ get_or-set_other place (y - 1) (z - 1) i 0 zy ∙ at_k.2) in
+    let here : P k z = (
+      at_k.0,
+      omega (arith, at_k.1),
+      get_or-set_other (set place (y - 1) i) (x - 1) (z - 1) j 0 zx
+          ∙ get_or-set_other place (y - 1) (z - 1) i 0 zy ∙ at_k.2,
+    ) in
     let R : ℕ → Type 0 = λ v. P k v in
     subst R (sym value_k) here)
     (cases_eq k i))
@@ -83,7 +99,8 @@ places_apart n f i j p q li lj h k ne e =
     (place_cases n f i p h)
 
 -- the place after, modulo n
-pub at_next : (n f i p q : ℕ) → f < n → i < n → AtPlace n f i p → ((p + 1 ≡ n) × (q ≡ 0)) ⊎ ((p + 1 < n) × (q ≡ p + 1)) → AtPlace n f (i + 1) q
+pub at_next : (n f i p q : ℕ) → f < n → i < n → AtPlace n f i p → ((p + 1 ≡ n) × (q ≡ 0))
+    ⊎ ((p + 1 < n) × (q ≡ p + 1)) → AtPlace n f (i + 1) q
 at_next n f i p q lf li h cases =
     at_place n f (i + 1) q
     (⊎_elim
@@ -98,60 +115,83 @@ at_next n f i p q lf li h cases =
     (place_cases n f i p h))
 
 -- the place before, modulo n
-pub at_previous : (n f i j p q : ℕ) → i ≡ j + 1 → f < n → i ≤ n → AtPlace n f i p → ((p ≡ 0) × (q + 1 ≡ n)) ⊎ ((0 < p) × (q + 1 ≡ p)) → AtPlace n f j q
+pub at_previous : (n f i j p q : ℕ) → i ≡ j + 1 → f < n → i ≤ n → AtPlace n f i p → ((p ≡ 0) × (q + 1 ≡ n))
+    ⊎ ((0 < p) × (q + 1 ≡ p)) → AtPlace n f j q
 at_previous n f i j p q e lf li h cases =
     ⊎_elim
     (λ (c : (p ≡ 0) × (q + 1 ≡ n)).
     ⊎_elim
     (λ (low : f + i < n). let k = h.0 low in absurd (omega (arith, k, c.0)))
-    (λ (high : n ≤ f + i). let k = h.1 high in ((λ (a : f + j < n). omega (arith, k, c)), (λ (a : n ≤ f + j). omega (arith, k, c))))
+    (λ (high : n ≤ f + i). let k = h.1 high in
+    ((λ (a : f + j < n). omega (arith, k, c)), (λ (a : n ≤ f + j). omega (arith, k, c))))
     (cases_lt (f + i) n))
     (λ (c : (0 < p) × (q + 1 ≡ p)).
     ⊎_elim
-    (λ (low : f + i < n). let k = h.0 low in ((λ (a : f + j < n). omega (arith, k, c)), (λ (a : n ≤ f + j). omega (arith, k, c))))
-    (λ (high : n ≤ f + i). let k = h.1 high in ((λ (a : f + j < n). omega (arith, k, c)), (λ (a : n ≤ f + j). omega (arith, k, c))))
+    (λ (low : f + i < n). let k = h.0 low in
+    ((λ (a : f + j < n). omega (arith, k, c)), (λ (a : n ≤ f + j). omega (arith, k, c))))
+    (λ (high : n ≤ f + i). let k = h.1 high in
+    ((λ (a : f + j < n). omega (arith, k, c)), (λ (a : n ≤ f + j). omega (arith, k, c))))
     (cases_lt (f + i) n))
     cases
 
 pub Reversing-more : (n first count t low high low' high' x y : ℕ) (start order place : List ℕ) →
     Reversing n first count t low high start order place → first < n → count ≤ n → t < count / 2 →
-    ((high ≡ 0 → high' + 1 ≡ n) × (0 < high → high' + 1 ≡ high)) → ((low + 1 ≡ n → low' ≡ 0) × (low + 1 < n → low' ≡ low + 1)) →
+    ((high ≡ 0 → high' + 1 ≡ n) × (0 < high → high' + 1 ≡ high)) →
+    ((low + 1 ≡ n → low' ≡ 0) × (low + 1 < n → low' ≡ low + 1)) →
     x ≡ get_or order low 0 → y ≡ get_or order high' 0 →
-    Reversing n first count (t + 1) low' high' start (set (set order low y) high' x) (set (set place (y - 1) low) (x - 1) high')
+    Reversing n first count (t + 1) low' high' start (set (set order low y) high' x)
+    (set (set place (y - 1) low) (x - 1) high')
 Reversing-more n first count t low high low' high' x y start order place h lf lc lt eh el ex ey =
     let j : ℕ = count - 1 - t in
     let two : t + t + 1 < count = omega arith in
     let e0 : length order ≡ n = h.lengths.1 in
     let e1 : length start ≡ n = h.lengths.0 in
     let cases : ((high ≡ 0) × (high' + 1 ≡ n)) ⊎ ((0 < high) × (high' + 1 ≡ high)) =
-    ⊎_elim (λ (p : 0 < high). inr (p, eh.1 p)) (λ (p : high ≤ 0). let z : high ≡ 0 = omega arith in inl (z, eh.0 z)) (cases_lt 0 high) in
-    let high_in : high' < n = ⊎_elim (λ (p : (high ≡ 0) × (high' + 1 ≡ n)). omega (arith, p)) (λ (p : (0 < high) × (high' + 1 ≡ high)). omega (arith, p, h.high_at.0)) cases in
+    ⊎_elim (λ (p : 0 < high). inr (p, eh.1 p)) (λ (p : high ≤ 0). let z : high ≡ 0 = omega arith in inl (z, eh.0 z))
+    (cases_lt 0 high) in
+    let high_in : high' < n =
+    ⊎_elim (λ (p : (high ≡ 0) × (high' + 1 ≡ n)). omega (arith, p))
+    (λ (p : (0 < high) × (high' + 1 ≡ high)). omega (arith, p, h.high_at.0)) cases in
     let at_low : AtPlace n first t low = h.low_at.1 in
-    let at_high : AtPlace n first j high' = at_previous n first (count - t) j high high' (omega arith) lf (omega arith) h.high_at.1 cases in
-    let apart : low ≢ high' = places_apart n first t j low high' (omega arith) (omega arith) at_low at_high (omega arith) in
+    let at_high : AtPlace n first j high' = at_previous n first (count - t) j high high' (omega arith) lf (omega arith)
+    h.high_at.1 cases in
+    let apart : low ≢ high' = places_apart n first t j low high' (omega arith) (omega arith) at_low at_high
+    (omega arith) in
     let ups : ((low + 1 ≡ n) × (low' ≡ 0)) ⊎ ((low + 1 < n) × (low' ≡ low + 1)) =
-    ⊎_elim (λ (p : low + 1 < n). inr (p, el.1 p)) (λ (p : n ≤ low + 1). let z : low + 1 ≡ n = omega (arith, h.low_at.0) in inl (z, el.0 z)) (cases_lt (low + 1) n) in
-    let low_in : low' < n = ⊎_elim (λ (p : (low + 1 ≡ n) × (low' ≡ 0)). omega (arith, p)) (λ (p : (low + 1 < n) × (low' ≡ low + 1)). omega (arith, p)) ups in
+    ⊎_elim (λ (p : low + 1 < n). inr (p, el.1 p)) (λ (p : n ≤ low + 1). let z : low + 1 ≡ n =
+    omega (arith, h.low_at.0) in inl (z, el.0 z)) (cases_lt (low + 1) n) in
+    let low_in : low' < n =
+    ⊎_elim (λ (p : (low + 1 ≡ n) × (low' ≡ 0)). omega (arith, p))
+    (λ (p : (low + 1 < n) × (low' ≡ low + 1)). omega (arith, p)) ups in
     let ys : List ℕ = begun_at first order in
     let Q : ℕ → Type 0 = λ v. AtPlace v first t low in
     let R : ℕ → Type 0 = λ v. AtPlace v first j high' in
-    let ex' : x ≡ get_or ys t 0 = ex ∙ sym (get_or-begun_at order first t low 0 (omega arith) (omega arith) (subst Q (sym e0) at_low)) in
-    let ey' : y ≡ get_or ys j 0 = ey ∙ sym (get_or-begun_at order first j high' 0 (omega arith) (omega arith) (subst R (sym e0) at_high)) in
+    let ex' : x ≡ get_or ys t 0 = ex
+    ∙ sym (get_or-begun_at order first t low 0 (omega arith) (omega arith) (subst Q (sym e0) at_low)) in
+    let ey' : y ≡ get_or ys j 0 = ey
+    ∙ sym (get_or-begun_at order first j high' 0 (omega arith) (omega arith) (subst R (sym e0) at_high)) in
     let e2 : length (set order low y) ≡ n = length-set order low y ∙ e0 in
     let moved : begun_at first (set (set order low y) high' x) ≡ set (set ys t y) j x =
-    begun_at-set (set order low y) first j high' x (omega arith) (omega arith) (subst R (sym e2) at_high) ∙ ap (λ v. set v j x) (begun_at-set order first t low y (omega arith) (omega arith) (subst Q (sym e0) at_low)) in
+    begun_at-set (set order low y) first j high' x (omega arith) (omega arith) (subst R (sym e2) at_high)
+    ∙ ap (λ v. set v j x)
+    (begun_at-set order first t low y (omega arith) (omega arith) (subst Q (sym e0) at_low)) in
     let more : MirroredTo (t + 1) count (begun_at first start) (set (set ys t y) j x) =
-    MirroredTo-more t count (begun_at first start) ys j x y h.mirrored two (omega (arith, length-begun_at first start)) refl ex' ey' in
+    MirroredTo-more t count (begun_at first start) ys j x y h.mirrored two (omega (arith, length-begun_at first start))
+    refl ex' ey' in
     record {
       lengths = (e1, length-set (set order low y) high' x ∙ e2);
       low_at = (low_in, at_next n first t low low' lf (omega arith) at_low ups);
       high_at = (high_in, let S : ℕ → Type 0 = λ v. AtPlace n first v high' in subst S (omega arith) at_high);
-      mirrored = let S : List ℕ → Type 0 = λ v. MirroredTo (t + 1) count (begun_at first start) v in subst S (sym moved) more;
-      inverse = IsInverse-exchange order place low high' x y h.inverse (omega (arith, h.low_at.0)) (omega arith) apart ex ey;
+      mirrored = let S : List ℕ → Type 0 = λ v. MirroredTo (t + 1) count (begun_at first start) v in
+          subst S (sym moved) more;
+      inverse = IsInverse-exchange order place low high' x y h.inverse (omega (arith, h.low_at.0))
+          (omega arith) apart ex ey;
     }
 
 pub Reversing-all : (n first count t low high : ℕ) (start order place : List ℕ) →
-    Reversing n first count t low high start order place → first < n → count ≤ n → t ≡ count / 2 → order ≡ reversed_places first count start
+    Reversing n first count t low high start order place → first < n → count ≤ n → t ≡ count / 2 →
+    order ≡ reversed_places first count start
 Reversing-all n first count t low high start order place h lf lc e =
     reversed_places-from first count start order (omega (arith, h.lengths.0)) (h.lengths.1 ∙ sym h.lengths.0)
-    (MirroredTo-all t count (begun_at first start) (begun_at first order) h.mirrored (omega arith) (omega arith) (omega (arith, length-begun_at first start, h.lengths.0)))
+    (MirroredTo-all t count (begun_at first start) (begun_at first order) h.mirrored (omega arith) (omega arith)
+    (omega (arith, length-begun_at first start, h.lengths.0)))

@@ -1,7 +1,10 @@
 -- The places of a list from `first` on, up to `last`, in reverse order.
-use Rattle.std.proofs.Common.{◌≡◌, ℕ, ◌+◌, ◌-◌, ◌<◌, ◌≤◌, ◌⊎◌, ⊎_elim, inl, inr, List, ◌++◌, length, take, drop, sym, ap, ◌∙◌, arith, get_or}
+use Rattle.std.proofs.Common.{◌≡◌, ℕ, ◌+◌, ◌-◌, ◌<◌, ◌≤◌, ◌⊎◌, ⊎_elim, inl, inr, List, ◌++◌, length, take, drop, sym}
+use Rattle.std.proofs.Common.{ap, ◌∙◌, arith, get_or}
 use Rattle.std.specs.Prelude.{reverse}
-use Rattle.std.proofs.lemmas.List.{append_assoc, length-append, length-take, length-take-le, length-drop, length-reverse, take_at, drop_at, take-append-le, drop-append-le, get_or-take, get_or-drop, get_or_append_left, get_or-append_right, get_or-reverse}
+use Rattle.std.proofs.lemmas.List.{append_assoc, length-append, length-take, length-take-le, length-drop}
+use Rattle.std.proofs.lemmas.List.{length-reverse, take_at, drop_at, take-append-le, drop-append-le, get_or-take}
+use Rattle.std.proofs.lemmas.List.{get_or-drop, get_or_append_left, get_or-append_right, get_or-reverse}
 use Rattle.std.proofs.lemmas.Bool.{cases_lt}
 use Rattle.tk_tour.specs.Reversal.{IsInverse, begun_at, reversed_front, reversed_places}
 use Rattle.tk_tour.proofs.StoredTours.Places.{reversed_places-from}
@@ -11,11 +14,13 @@ use Rattle.tk_tour.proofs.StoredTours.Renumbering.{Renumbering}
 abbrev pub turned_within : ℕ → ℕ → List ℕ → List ℕ
 turned_within first count xs = take first xs ++ (reverse (take count (drop first xs)) ++ drop count (drop first xs))
 
-pub length-turned_within : (first count : ℕ) (xs : List ℕ) → first + count ≤ length xs → length (turned_within first count xs) ≡ length xs
+pub length-turned_within : (first count : ℕ) (xs : List ℕ) → first + count ≤ length xs →
+    length (turned_within first count xs) ≡ length xs
 length-turned_within first count xs le = simp (length-append, length-drop, length-reverse, length-take) (omega arith)
 
 -- they do not run past the end
-pub turned_within-is : (first count : ℕ) (xs : List ℕ) → first + count ≤ length xs → turned_within first count xs ≡ reversed_places first count xs
+pub turned_within-is : (first count : ℕ) (xs : List ℕ) → first + count ≤ length xs →
+    turned_within first count xs ≡ reversed_places first count xs
 turned_within-is first count xs le =
     let back : List ℕ = drop first xs in
     let front : List ℕ = take first xs in
@@ -24,10 +29,13 @@ turned_within-is first count xs le =
     let size : length front ≡ first = length-take-le first xs (omega arith) in
     let room : count ≤ length back = omega (arith, length-drop first xs) in
     let begun : begun_at first (turned_within first count xs) ≡ turned ++ rest ++ front =
-    ap (λ v. v ++ take first (turned_within first count xs)) (drop_at front (turned ++ rest) first size) ∙ ap (λ v. turned ++ rest ++ v) (take_at front (turned ++ rest) first size) in
+    ap (λ v. v ++ take first (turned_within first count xs)) (drop_at front (turned ++ rest) first size)
+    ∙ ap (λ v. turned ++ rest ++ v) (take_at front (turned ++ rest) first size) in
     let there : reversed_front count (begun_at first xs) ≡ turned ++ (rest ++ front) =
-    ap (λ v. reverse v ++ drop count (back ++ front)) (take-append-le count back front room) ∙ ap (λ v. turned ++ v) (drop-append-le count back front room) in
-    reversed_places-from first count xs (turned_within first count xs) (omega arith) (length-turned_within first count xs le)
+    ap (λ v. reverse v ++ drop count (back ++ front)) (take-append-le count back front room)
+    ∙ ap (λ v. turned ++ v) (drop-append-le count back front room) in
+    reversed_places-from first count xs (turned_within first count xs) (omega arith)
+    (length-turned_within first count xs le)
     (begun ∙ append_assoc turned rest front ∙ sym there)
 
 turned_at : (first count : ℕ) (xs : List ℕ) (i : ℕ) → first + count ≤ length xs → first ≤ i → i < first + count →
@@ -51,9 +59,11 @@ kept_at first count xs i le side =
     let back : List ℕ = drop first xs in
     let turned : List ℕ = reverse (take count back) in
     let size : length (take first xs) ≡ first = length-take-le first xs (omega arith) in
-    let long : length turned ≡ count = length-reverse (take count back) ∙ length-take-le count back (omega (arith, length-drop first xs)) in
+    let long : length turned ≡ count = length-reverse (take count back)
+    ∙ length-take-le count back (omega (arith, length-drop first xs)) in
     ⊎_elim
-    (λ (below : i < first). get_or_append_left (take first xs) (turned ++ drop count back) 0 i (omega (arith, size)) ∙ get_or-take first xs i 0 below)
+    (λ (below : i < first). get_or_append_left (take first xs) (turned ++ drop count back) 0 i (omega (arith, size))
+    ∙ get_or-take first xs i 0 below)
     (λ (above : first + count ≤ i).
     get_or-append_right (take first xs) (turned ++ drop count back) first i 0 size (omega arith)
     ∙ get_or-append_right turned (drop count back) count (i - first) 0 long (omega arith)
@@ -70,13 +80,16 @@ record StoodAt (first count : ℕ) (xs : List ℕ) (i : ℕ) : Type 0 where
   pub inside : first ≤ i → i < first + count → place + i + 1 ≡ first + first + count
   pub outside : (i < first) ⊎ (first + count ≤ i) → place ≡ i
 
-stood_at : (first count : ℕ) (xs : List ℕ) (i : ℕ) → first + count ≤ length xs → i < length xs → StoodAt first count xs i
+stood_at : (first count : ℕ) (xs : List ℕ) (i : ℕ) → first + count ≤ length xs → i < length xs →
+    StoodAt first count xs i
 stood_at first count xs i le lt =
     let kept : (i < first) ⊎ (first + count ≤ i) → StoodAt first count xs i = λ side. record {
       place = i;
       within = lt;
       same = kept_at first count xs i le side;
-      inside = λ from to. ⊎_elim (λ (a : i < first). absurd (omega (arith, a, from))) (λ (b : first + count ≤ i). absurd (omega (arith, b, to))) side;
+      inside =
+          λ from to. ⊎_elim (λ (a : i < first). absurd (omega (arith, a, from)))
+          (λ (b : first + count ≤ i). absurd (omega (arith, b, to))) side;
       outside = λ _. omega arith;
     } in
     ⊎_elim
@@ -87,7 +100,9 @@ stood_at first count xs i le lt =
       within = omega (arith, le, from, to);
       same = turned_at first count xs i le from to;
       inside = λ _ _. omega (arith, from, to);
-      outside = λ side. ⊎_elim (λ (a : i < first). absurd (omega (arith, a, from))) (λ (b : first + count ≤ i). absurd (omega (arith, b, to))) side;
+      outside =
+          λ side. ⊎_elim (λ (a : i < first). absurd (omega (arith, a, from)))
+          (λ (b : first + count ≤ i). absurd (omega (arith, b, to))) side;
     })
     (λ (above : first + count ≤ i). kept (inr above))
     (cases_lt i (first + count)))
@@ -99,7 +114,8 @@ pub Renumbering-begin : (first count : ℕ) (xs place : List ℕ) → first + co
 Renumbering-begin first count xs place le inverse =
     let ys : List ℕ = turned_within first count xs in
     let size : length ys ≡ length xs = length-turned_within first count xs le in
-    let at : (i : ℕ) → i < length ys → StoodAt first count xs i = λ i li. stood_at first count xs i le (omega (arith, li, size)) in
+    let at : (i : ℕ) → i < length ys → StoodAt first count xs i =
+    λ i li. stood_at first count xs i le (omega (arith, li, size)) in
     record {
       size = inverse.0 ∙ sym size;
       cities = λ i li.
@@ -109,7 +125,8 @@ Renumbering-begin first count xs place le inverse =
       apart = λ i j li lj same.
           let s = at i li in
           let t = at j lj in
-          let one : s.place ≡ t.place = sym (inverse.1 s.place s.within).2 ∙ ap (λ v. get_or place (v - 1) 0) (sym s.same ∙ same ∙ t.same) ∙ (inverse.1 t.place t.within).2 in
+          let one : s.place ≡ t.place = sym (inverse.1 s.place s.within).2
+          ∙ ap (λ v. get_or place (v - 1) 0) (sym s.same ∙ same ∙ t.same) ∙ (inverse.1 t.place t.within).2 in
           ⊎_elim
           (λ (a : i < first). ⊎_elim
           (λ (b : j < first). sym (s.outside (inl a)) ∙ one ∙ t.outside (inl b))

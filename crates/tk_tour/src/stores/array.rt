@@ -30,7 +30,8 @@ pub struct ArrayTour {
 }
 
 impl TourStore for ArrayTour {
-    ghost use Rattle.tk_tour.specs.ArrayTours.{order_of, swaps_of, flips_of, FlipsAlone, FlipsAlone-refl, FlipsAlone-trans};
+    ghost use Rattle.tk_tour.specs.ArrayTours.{order_of, swaps_of, flips_of, FlipsAlone, FlipsAlone-refl};
+    ghost use Rattle.tk_tour.specs.ArrayTours.{FlipsAlone-trans};
 
     ghost cities = { order_of };
 

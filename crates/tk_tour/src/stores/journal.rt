@@ -1,5 +1,6 @@
 //! A tour that can go back to where it was settled.
-ghost use Rattle.std.specs.Prelude.{◌≡◌, ◌≤◌, ◌<◌, ◌+◌, ◌^◌, ◌↔◌, [], IfOk, ◌++◌, ◌∷◌, IsTrue, true, false, length, vec_len};
+ghost use Rattle.std.specs.Prelude.{◌≡◌, ◌≤◌, ◌<◌, ◌+◌, ◌^◌, ◌↔◌, [], IfOk, ◌++◌, ◌∷◌, IsTrue, true, false, length};
+ghost use Rattle.std.specs.Prelude.{vec_len};
 ghost use Rattle.std.specs.Vec.{vec_capacity};
 ghost use Rattle.tk_tour.specs.Counters.{saturated};
 ghost use Rattle.tk_tour.specs.Journal.{AreFlipsOf, swaps_to_undo};
@@ -42,7 +43,8 @@ pub struct JournalTour<S: UndoStore> {
 }
 
 impl<S: UndoStore> TourStore for JournalTour<S> {
-    ghost use Rattle.tk_tour.specs.JournalTours.{cities_of, swaps_of, flips_since, KeepsSettled, KeepsSettled-refl, KeepsSettled-trans};
+    ghost use Rattle.tk_tour.specs.JournalTours.{cities_of, swaps_of, flips_since, KeepsSettled, KeepsSettled-refl};
+    ghost use Rattle.tk_tour.specs.JournalTours.{KeepsSettled-trans};
 
     ghost cities = { cities_of };
 

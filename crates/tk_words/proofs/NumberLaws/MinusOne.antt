@@ -1,5 +1,6 @@
 -- A token that is -1, cut short.
-use Rattle.std.proofs.Common.{◌≡◌, ℕ, zero, suc, ◌+◌, ◌-◌, ◌*◌, ◌<◌, ◌≤◌, Bool, true, false, cond, eqb, ltb, ◌||◌, List, [], ◌∷◌, ◌++◌, length, Option, Some, None, pos, neg_ℤ, refl, ap, ◌∙◌, append_assoc, arith}
+use Rattle.std.proofs.Common.{◌≡◌, ℕ, zero, suc, ◌+◌, ◌-◌, ◌*◌, ◌<◌, ◌≤◌, Bool, true, false, cond, eqb, ltb, ◌||◌, List}
+use Rattle.std.proofs.Common.{[], ◌∷◌, ◌++◌, length, Option, Some, None, pos, neg_ℤ, refl, ap, ◌∙◌, append_assoc, arith}
 use Rattle.std.proofs.lemmas.List.{length-append}
 use Rattle.std.proofs.lemmas.Bool.{eqb-true, lt-ltb, le-ltb, ltb-true, ltb-false}
 use Rattle.std.specs.Char.{is_ascii_digit}
@@ -16,8 +17,10 @@ digits_split : (n : ℕ) (xs ys : List ℕ) (m : ℕ) → digits n (xs ++ ys) �
 digits_split n [] ys m h = record { between = n; front = refl; back = h }
 digits_split n (x ∷ xs) ys m h = by_digit (digits_split (n * 10 + (x - 48)) xs ys m) (is_ascii_digit x) refl
   where
-    by_digit : (digits (n * 10 + (x - 48)) (xs ++ ys) ≡ Some m → Split (n * 10 + (x - 48)) xs ys m) → (t : Bool) → is_ascii_digit x ≡ t → Split n (x ∷ xs) ys m
-    by_digit rest true is = let s = rest (rw is at h) in record { between = s.between; front = rw is s.front; back = s.back }
+    by_digit : (digits (n * 10 + (x - 48)) (xs ++ ys) ≡ Some m → Split (n * 10 + (x - 48)) xs ys m) → (t : Bool) →
+        is_ascii_digit x ≡ t → Split n (x ∷ xs) ys m
+    by_digit rest true is = let s = rest (rw is at h) in
+        record { between = s.between; front = rw is s.front; back = s.back }
     by_digit rest false is = absurd (let k = rw is at h in cc)
 
 digits_join : (n v : ℕ) (xs ys : List ℕ) → digits n xs ≡ Some v → digits n (xs ++ ys) ≡ digits v ys
@@ -27,7 +30,8 @@ digits_join n v [] ys h = ap (λ (k : ℕ). digits k ys) (same n v h)
     same a b h = cc
 digits_join n v (x ∷ xs) ys h = by_digit (digits_join (n * 10 + (x - 48)) v xs ys) (is_ascii_digit x) refl
   where
-    by_digit : (digits (n * 10 + (x - 48)) xs ≡ Some v → digits (n * 10 + (x - 48)) (xs ++ ys) ≡ digits v ys) → (t : Bool) → is_ascii_digit x ≡ t → digits n ((x ∷ xs) ++ ys) ≡ digits v ys
+    by_digit : (digits (n * 10 + (x - 48)) xs ≡ Some v → digits (n * 10 + (x - 48)) (xs ++ ys) ≡ digits v ys) →
+        (t : Bool) → is_ascii_digit x ≡ t → digits n ((x ∷ xs) ++ ys) ≡ digits v ys
     by_digit rest true is = rw is (rest (rw is at h))
     by_digit rest false is = absurd (let k = rw is at h in cc)
 
@@ -35,7 +39,8 @@ digits_ge : (n : ℕ) (xs : List ℕ) (m : ℕ) → digits n xs ≡ Some m → n
 digits_ge n [] m h = let is : n ≡ m = cc in omega (arith, is)
 digits_ge n (x ∷ xs) m h = by_digit (digits_ge (n * 10 + (x - 48)) xs m) (is_ascii_digit x) refl
   where
-    by_digit : (digits (n * 10 + (x - 48)) xs ≡ Some m → n * 10 + (x - 48) ≤ m) → (t : Bool) → is_ascii_digit x ≡ t → n ≤ m
+    by_digit : (digits (n * 10 + (x - 48)) xs ≡ Some m → n * 10 + (x - 48) ≤ m) → (t : Bool) →
+        is_ascii_digit x ≡ t → n ≤ m
     by_digit rest true is = omega (arith, rest (rw is at h))
     by_digit rest false is = absurd (let k = rw is at h in cc)
 
@@ -49,7 +54,8 @@ natural_digits (b ∷ bs) m h = by_length (ltb 18 (length (b ∷ bs))) refl
     by_length true is = absurd (let k = rw is at h in cc)
     by_length false is = (ltb-false _ _ is, rw is at h)
 
-digits_natural : (b : ℕ) (bs : List ℕ) (m : ℕ) → length (b ∷ bs) ≤ 18 → digits 0 (b ∷ bs) ≡ Some m → natural (b ∷ bs) ≡ Some m
+digits_natural : (b : ℕ) (bs : List ℕ) (m : ℕ) → length (b ∷ bs) ≤ 18 → digits 0 (b ∷ bs) ≡ Some m →
+    natural (b ∷ bs) ≡ Some m
 digits_natural b bs m short h = let t : ltb 18 (length (b ∷ bs)) ≡ false = le-ltb _ _ short in rw t h
 
 abbrev is_one : Option ℕ → Bool
@@ -61,17 +67,21 @@ one_is (Some zero) h = absurd (let k : false ≡ true = h in cc)
 one_is (Some (suc zero)) h = refl
 one_is (Some (suc (suc n))) h = absurd (omega (arith, eqb-true (suc n) 0 h))
 
-ones_front : (xs zs : List ℕ) → is_one (natural (xs ++ zs)) ≡ true → (is_one (natural xs) || is_one (natural (xs ++ 49 ∷ []))) ≡ true
+ones_front : (xs zs : List ℕ) → is_one (natural (xs ++ zs)) ≡ true →
+    (is_one (natural xs) || is_one (natural (xs ++ 49 ∷ []))) ≡ true
 ones_front xs zs h =
     let all = natural_digits (xs ++ zs) 1 (one_is _ h) in
     let parts = digits_split 0 xs zs 1 all.1 in
     by_value xs zs parts.between parts.front parts.back (omega (arith, all.0, length-append xs zs))
   where
-    by_value : (xs zs : List ℕ) (v : ℕ) → digits 0 xs ≡ Some v → digits v zs ≡ Some 1 → length xs + length zs ≤ 18 → (is_one (natural xs) || is_one (natural (xs ++ 49 ∷ []))) ≡ true
+    by_value : (xs zs : List ℕ) (v : ℕ) → digits 0 xs ≡ Some v → digits v zs ≡ Some 1 → length xs + length zs ≤ 18 →
+        (is_one (natural xs) || is_one (natural (xs ++ 49 ∷ []))) ≡ true
     by_value [] zs v front back short = refl
     by_value (x ∷ xs) [] zero front back short = absurd cc
     by_value (x ∷ xs) (z ∷ zs) zero front back short =
-        let longer : natural ((x ∷ xs) ++ 49 ∷ []) ≡ Some 1 = digits_natural x (xs ++ 49 ∷ []) 1 (omega (arith, short, length-append xs (49 ∷ []))) (digits_join 0 0 (x ∷ xs) (49 ∷ []) front) in
+        let longer : natural ((x ∷ xs) ++ 49 ∷ []) ≡ Some 1 =
+        digits_natural x (xs ++ 49 ∷ []) 1 (omega (arith, short, length-append xs (49 ∷ [])))
+        (digits_join 0 0 (x ∷ xs) (49 ∷ []) front) in
         rw longer (either (is_one (natural (x ∷ xs))))
       where
         either : (t : Bool) → (t || true) ≡ true
@@ -107,22 +117,26 @@ begins_minus b y h = by_minus (eqb b 45) refl
     by_minus false is = absurd (let k = other_begins b y is in cc)
 
 -- what goes on after the first bytes of a -1 is one no more
-front_begins : (b : ℕ) (xs zs : List ℕ) → is_minus_one (integer ((b ∷ xs) ++ zs)) ≡ true → begins_minus_one (b ∷ xs) ≡ true
+front_begins : (b : ℕ) (xs zs : List ℕ) → is_minus_one (integer ((b ∷ xs) ++ zs)) ≡ true →
+    begins_minus_one (b ∷ xs) ≡ true
 front_begins b xs zs h = by_minus (eqb b 45) refl
   where
     by_minus : (t : Bool) → eqb b 45 ≡ t → begins_minus_one (b ∷ xs) ≡ true
     by_minus true is = rw is (ones_front xs zs (rw is at h))
     by_minus false is = absurd (let k = other_integer b (xs ++ zs) is in cc)
 
-pub no_more : (b : ℕ) (xs zs : List ℕ) → begins_minus_one (b ∷ xs) ≡ false → is_minus_one (integer ((b ∷ xs) ++ zs)) ≡ false
+pub no_more : (b : ℕ) (xs zs : List ℕ) → begins_minus_one (b ∷ xs) ≡ false →
+    is_minus_one (integer ((b ∷ xs) ++ zs)) ≡ false
 no_more b xs zs h = by_test (is_minus_one (integer ((b ∷ xs) ++ zs))) refl
   where
     by_test : (t : Bool) → is_minus_one (integer ((b ∷ xs) ++ zs)) ≡ t → t ≡ false
     by_test true is = absurd (let k = front_begins b xs zs is in cc)
     by_test false is = refl
 
-pub no_more_with_one : (b : ℕ) (xs zs : List ℕ) → begins_minus_one (b ∷ xs) ≡ false → is_minus_one (integer (((b ∷ xs) ++ zs) ++ 49 ∷ [])) ≡ false
-no_more_with_one b xs zs h = ap (λ (ys : List ℕ). is_minus_one (integer (b ∷ ys))) (append_assoc xs zs (49 ∷ [])) ∙ no_more b xs (zs ++ 49 ∷ []) h
+pub no_more_with_one : (b : ℕ) (xs zs : List ℕ) → begins_minus_one (b ∷ xs) ≡ false →
+    is_minus_one (integer (((b ∷ xs) ++ zs) ++ 49 ∷ [])) ≡ false
+no_more_with_one b xs zs h = ap (λ (ys : List ℕ). is_minus_one (integer (b ∷ ys))) (append_assoc xs zs (49 ∷ []))
+    ∙ no_more b xs (zs ++ 49 ∷ []) h
 
 -- ---- they are short
 
@@ -137,7 +151,8 @@ integer_long (b ∷ bs) h =
     let all : natural (b ∷ bs) ≡ None = natural_long (b ∷ bs) (omega arith) in
     by_sign (eqb b 45) (eqb b 43) (natural bs) (natural (b ∷ bs)) tail all
   where
-    by_sign : (s t : Bool) (x y : Option ℕ) → x ≡ None → y ≡ None → cond s (signed (λ n. neg_ℤ (pos n)) x) (cond t (signed pos x) (signed pos y)) ≡ None
+    by_sign : (s t : Bool) (x y : Option ℕ) → x ≡ None → y ≡ None →
+        cond s (signed (λ n. neg_ℤ (pos n)) x) (cond t (signed pos x) (signed pos y)) ≡ None
     by_sign true t x y p q = rw p refl
     by_sign false true x y p q = rw p refl
     by_sign false false x y p q = rw q refl

@@ -10,7 +10,8 @@ pub below_limit : (n i : ℕ) → n < 10 ^ i → i ≤ 18 → n < 10 ^ 18
 below_limit n i small short = omega (arith, pow-le-pow_right {n = 10} (lit< tt) {i = i} {j = 18} short)
 
 pub room_for_digit : (n i : ℕ) → n < 10 ^ i → i < 18 → n * 10 + 9 < 10 ^ 18
-room_for_digit n i small short = omega (arith, pow_more 10 i, pow-le-pow_right {n = 10} (lit< tt) {i = i + 1} {j = 18} (omega arith))
+room_for_digit n i small short =
+    omega (arith, pow_more 10 i, pow-le-pow_right {n = 10} (lit< tt) {i = i + 1} {j = 18} (omega arith))
 
 -- what 1 to 18 digits spell
 pub natural-digits : (bs : List ℕ) → 0 < length bs → length bs ≤ 18 → natural bs ≡ digits 0 bs

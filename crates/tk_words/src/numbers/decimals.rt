@@ -1,5 +1,6 @@
 //! Decimal numbers, in billionths.
-ghost use Rattle.std.specs.Prelude.{◌≡◌, ◌≤◌, ◌+◌, ◌-◌, ◌*◌, ◌^◌, ◌++◌, All, IfOk, IfSome, SomeIff, ◌<◌, take, length, option_map, pos};
+ghost use Rattle.std.specs.Prelude.{◌≡◌, ◌≤◌, ◌+◌, ◌-◌, ◌*◌, ◌^◌, ◌++◌, All, IfOk, IfSome, SomeIff, ◌<◌, take, length};
+ghost use Rattle.std.specs.Prelude.{option_map, pos};
 ghost use Rattle.std.specs.Char.{IsAsciiDigit, is_ascii_digit};
 ghost use Rattle.std.specs.Int.RustNames.{unsigned_abs};
 ghost use Rattle.tk_problem.specs.Places.{greatest_coordinate};

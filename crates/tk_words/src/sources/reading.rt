@@ -1,7 +1,8 @@
 //! Bytes of a source, one after the other, to what reads a text.
 ghost use Rattle.std.specs.Prelude.{◌≡◌, ℕ, ◌+◌, ◌<◌, ◌≤◌, ◌^◌, List, [], ◌++◌, length, Ok, IfOk, IfErr};
 ghost use Rattle.tk_words.specs.Drive.{IsTold};
-ghost use Rattle.tk_words.specs.Texts.{FedAll, Answers, IsAnswerWhereTold, IsFaultWhereTold, IsOfSomeText, IsFaultOfSomeText, IsIntact};
+ghost use Rattle.tk_words.specs.Texts.{FedAll, Answers, IsAnswerWhereTold, IsFaultWhereTold, IsOfSomeText};
+ghost use Rattle.tk_words.specs.Texts.{IsFaultOfSomeText, IsIntact};
 
 use crate::fault::{TextFault, TextKind};
 use crate::sources::source::Source;

@@ -1,5 +1,6 @@
 //! What takes the bytes of a text.
-ghost use Rattle.std.specs.Prelude.{◌≡◌, ℕ, ◌+◌, ◌<◌, ◌^◌, Bool, false, List, [], ◌∷◌, ◌++◌, length, Option, None, Result, Ok, IfOk, IfErr};
+ghost use Rattle.std.specs.Prelude.{◌≡◌, ℕ, ◌+◌, ◌<◌, ◌^◌, Bool, false, List, [], ◌∷◌, ◌++◌, length, Option, None};
+ghost use Rattle.std.specs.Prelude.{Result, Ok, IfOk, IfErr};
 ghost use Rattle.tk_words.specs.declared.fault.TextFault.{TextFault};
 ghost use Rattle.tk_words.specs.Drive.{Decides, DecidesEnded, IsTold, FedMore, HasRun, IsToldWithin, line_behind};
 

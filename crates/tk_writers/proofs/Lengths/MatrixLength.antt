@@ -27,7 +27,8 @@ length_matrix_line n table f k =
     let few = count_by-le-length test (range_with_len 1 n) in
     let numbers : ℕ × ℕ → ℕ = λ p. table p.0 p.1 in
     let places = map (place f k) (on_line n f k) in
-    let count : length (map numbers places) ≤ n = simp length-map (omega (arith, few, length-filter test (range_with_len 1 n), length-range_with_len 1 n)) in
+    let count : length (map numbers places) ≤ n =
+    simp length-map (omega (arith, few, length-filter test (range_with_len 1 n), length-range_with_len 1 n)) in
     let lines = length_number_line (map numbers places) in
     omega arith
 
@@ -48,11 +49,18 @@ length_matrix_head name n f =
     let number = length_decimal n in
     simp length-append (omega arith)
 
-pub length_matrix_text : (name : List ℕ) (n : ℕ) (table : ℕ → ℕ → ℕ) (f : Format) → length name ≤ 1024 → n ≤ TABLE_LIMIT → length (matrix_text name n table f) ≤ 2 ^ 63
+pub length_matrix_text : (name : List ℕ) (n : ℕ) (table : ℕ → ℕ → ℕ) (f : Format) → length name ≤ 1024 →
+    n ≤ TABLE_LIMIT → length (matrix_text name n table f) ≤ 2 ^ 63
 length_matrix_text name n table f short few =
     let head = length_matrix_head name n f in
     let body = flat_map (matrix_line n table f) (range_with_len 1 n) in
-    let lines = length_flat_map (matrix_line n table f) 325000 (λ k. omega (arith, length_matrix_line n table f k)) (range_with_len 1 n) in
+    let lines = length_flat_map (matrix_line n table f) 325000 (λ k. omega (arith, length_matrix_line n table f k))
+    (range_with_len 1 n) in
     let count = length-range_with_len 1 n in
     let size : length body ≤ n * 325000 = subst (λ m. length body ≤ m * 325000) count lines in
-    omega (arith, size, length-append (matrix_head name n f) body, length-append (matrix_head name n f ++ body) (codes "EOF" ++ 10 ∷ []))
+    omega (
+      arith,
+      size,
+      length-append (matrix_head name n f) body,
+      length-append (matrix_head name n f ++ body) (codes "EOF" ++ 10 ∷ []),
+    )

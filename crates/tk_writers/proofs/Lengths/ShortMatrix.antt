@@ -14,7 +14,12 @@ use Rattle.tk_writers.proofs.Written.WrittenPlaces.{matrix_lines, rows_of, count
 length_spaced : (xs : List ℕ) → AllShort xs → length (flat_map (λ y. codes " " ++ decimal y) xs) ≤ length xs * 19
 length_spaced [] small = omega arith
 length_spaced (x ∷ xs) small =
-    omega (arith, short_decimal x small.0, length_spaced xs small.1, length-append (codes " " ++ decimal x) (flat_map (λ y. codes " " ++ decimal y) xs))
+    omega (
+      arith,
+      short_decimal x small.0,
+      length_spaced xs small.1,
+      length-append (codes " " ++ decimal x) (flat_map (λ y. codes " " ++ decimal y) xs),
+    )
 
 length_short_line : (xs : List ℕ) → AllShort xs → length (number_line xs) ≤ length xs * 19
 length_short_line [] small = omega arith
@@ -25,16 +30,28 @@ length_short_line (x ∷ xs) small =
     let ends = length-append (join_by decimal (codes " ") (x ∷ xs)) (10 ∷ []) in
     omega arith
 
-length_short_rows : (rows : List (List ℕ)) → ShortRows rows → AllByRecursion (λ row. length row ≤ TABLE_LIMIT) rows → length (flat_map number_line rows) ≤ length rows * 95000
+length_short_rows : (rows : List (List ℕ)) → ShortRows rows → AllByRecursion (λ row. length row ≤ TABLE_LIMIT) rows →
+    length (flat_map number_line rows) ≤ length rows * 95000
 length_short_rows [] small narrow = omega arith
 length_short_rows (r ∷ rows) small narrow =
-    omega (arith, length_short_line r small.0, narrow.0, length_short_rows rows small.1 narrow.1, length-append (number_line r) (flat_map number_line rows))
+    omega (
+      arith,
+      length_short_line r small.0,
+      narrow.0,
+      length_short_rows rows small.1 narrow.1,
+      length-append (number_line r) (flat_map number_line rows),
+    )
 
-pub length_short_matrix : (name : List ℕ) (n : ℕ) (table : ℕ → ℕ → ℕ) (f : Format) → length name ≤ 1024 → n ≤ TABLE_LIMIT → ShortRows (rows_of n table f) → length (matrix_text name n table f) ≤ TEXT_LIMIT
+pub length_short_matrix : (name : List ℕ) (n : ℕ) (table : ℕ → ℕ → ℕ) (f : Format) → length name ≤ 1024 →
+    n ≤ TABLE_LIMIT → ShortRows (rows_of n table f) → length (matrix_text name n table f) ≤ TEXT_LIMIT
 length_short_matrix name n table f short few small =
     let head = length_matrix_head name n f in
     let body = flat_map (matrix_line n table f) (range_with_len 1 n) in
     let same = ap length (matrix_lines n table f) in
     let rows = length_short_rows (rows_of n table f) small (rows-narrow n table f TABLE_LIMIT few) in
     let count = count_rows n table f in
-    omega (arith, length-append (matrix_head name n f) body, length-append (matrix_head name n f ++ body) (codes "EOF" ++ 10 ∷ []))
+    omega (
+      arith,
+      length-append (matrix_head name n f) body,
+      length-append (matrix_head name n f ++ body) (codes "EOF" ++ 10 ∷ []),
+    )

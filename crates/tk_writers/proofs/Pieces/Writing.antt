@@ -1,5 +1,6 @@
 -- Laws of writes.
-use Rattle.std.proofs.Common.{◌≡◌, ℕ, zero, suc, ◌+◌, ◌-◌, ◌<◌, ◌≤◌, Bool, true, false, List, ◌++◌, length, take, drop, Option, Ok, refl, sym, ap, ◌∙◌, subst, arith}
+use Rattle.std.proofs.Common.{◌≡◌, ℕ, zero, suc, ◌+◌, ◌-◌, ◌<◌, ◌≤◌, Bool, true, false, List, ◌++◌, length, take, drop}
+use Rattle.std.proofs.Common.{Option, Ok, refl, sym, ap, ◌∙◌, subst, arith}
 use Rattle.std.specs.Prelude.{◌||◌}
 use Rattle.std.specs.Io.KnownBytes.{Appends}
 use Rattle.std.proofs.KnownBytes.{Appends-trans}
@@ -17,8 +18,11 @@ write_goes_on b zero piece some = absurd (omega arith)
 write_goes_on b (suc n) piece some = or_false b
 
 -- what a second write took of the bytes that the first one left
-pub Appends-next : (u v w : Option (List ℕ)) (bytes : List ℕ) (done n : ℕ) → done ≤ length bytes → n ≤ length bytes - done
-    → Appends u v (take done bytes) → Appends v w (take n (take (length bytes - done) (drop done bytes))) → Appends u w (take (done + n) bytes)
+pub Appends-next : (u v w : Option (List ℕ)) (bytes : List ℕ) (done n : ℕ) → done ≤ length bytes
+    → n ≤ length bytes - done
+    → Appends u v (take done bytes) → Appends v w (take n (take (length bytes - done) (drop done bytes))) →
+    Appends u w (take (done + n) bytes)
 Appends-next u v w bytes done n within fits first second =
-    let joined = ap (λ l. take done bytes ++ l) (take-take n (length bytes - done) (drop done bytes) fits) ∙ sym (take-add done n bytes) in
+    let joined = ap (λ l. take done bytes ++ l) (take-take n (length bytes - done) (drop done bytes) fits)
+    ∙ sym (take-add done n bytes) in
     subst (Appends u w) joined (Appends-trans u v w _ _ first second)

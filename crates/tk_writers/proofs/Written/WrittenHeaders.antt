@@ -1,5 +1,6 @@
 -- The headers of a matrix text, as pieces without a fault.
-use Rattle.std.proofs.Common.{◌≡◌, ℕ, ◌≤◌, true, false, leb, ltb, List, [], ◌∷◌, ◌++◌, length, Some, None, pos, refl, ap, ◌∙◌, arith}
+use Rattle.std.proofs.Common.{◌≡◌, ℕ, ◌≤◌, true, false, leb, ltb, List, [], ◌∷◌, ◌++◌, length, Some, None, pos, refl}
+use Rattle.std.proofs.Common.{ap, ◌∙◌, arith}
 use Rattle.std.specs.Prelude.{codes, decimal}
 use Rattle.std.proofs.lemmas.Bool.{le-leb, le-ltb}
 use Rattle.tk_problem.specs.declared.limits.TheConstants.{CITY_LIMIT, TABLE_LIMIT}
@@ -54,27 +55,34 @@ after_6 name n f toks = after_5 name n f ++ Section words.EdgeWeightSection 6 to
 
 -- the pieces of the lines
 pub name_piece : (before : List Piece) (name : List ℕ) (ls : List Line)
-    → pieces_at problem_format.extent before (whole_line 1 (codes "NAME : " ++ name)) ls (behind is_blank (codes "NAME : " ++ name)) ≡ headed words.Name (name_value name) 1 ∷ []
+    → pieces_at problem_format.extent before (whole_line 1 (codes "NAME : " ++ name)) ls
+    (behind is_blank (codes "NAME : " ++ name)) ≡ headed words.Name (name_value name) 1 ∷ []
 unfolding keyword_of section_word rest_word
 name_piece before name ls = refl
 
 pub type_piece : (before : List Piece) (ls : List Line)
-    → pieces_at problem_format.extent before (whole_line 2 (codes "TYPE : TSP")) ls (behind is_blank (codes "TYPE : TSP")) ≡ headed words.Type (codes " : TSP") 2 ∷ []
+    → pieces_at problem_format.extent before (whole_line 2 (codes "TYPE : TSP")) ls
+    (behind is_blank (codes "TYPE : TSP")) ≡ headed words.Type (codes " : TSP") 2 ∷ []
 unfolding keyword_of section_word rest_word
 type_piece before ls = refl
 
 pub size_piece : (before : List Piece) (n : ℕ) (ls : List Line)
-    → pieces_at problem_format.extent before (whole_line 3 (codes "DIMENSION : " ++ decimal n)) ls (behind is_blank (codes "DIMENSION : " ++ decimal n)) ≡ headed words.Dimension (size_value n) 3 ∷ []
+    → pieces_at problem_format.extent before (whole_line 3 (codes "DIMENSION : " ++ decimal n)) ls
+    (behind is_blank (codes "DIMENSION : " ++ decimal n)) ≡ headed words.Dimension (size_value n) 3 ∷ []
 unfolding keyword_of section_word rest_word
 size_piece before n ls = refl
 
 pub weight_type_piece : (before : List Piece) (ls : List Line)
-    → pieces_at problem_format.extent before (whole_line 4 (codes "EDGE_WEIGHT_TYPE : EXPLICIT")) ls (behind is_blank (codes "EDGE_WEIGHT_TYPE : EXPLICIT")) ≡ headed words.EdgeWeightType (codes " : EXPLICIT") 4 ∷ []
+    → pieces_at problem_format.extent before (whole_line 4 (codes "EDGE_WEIGHT_TYPE : EXPLICIT")) ls
+    (behind is_blank (codes "EDGE_WEIGHT_TYPE : EXPLICIT")) ≡ headed words.EdgeWeightType
+    (codes " : EXPLICIT") 4 ∷ []
 unfolding keyword_of section_word rest_word
 weight_type_piece before ls = refl
 
 pub format_piece : (before : List Piece) (f : Layout.Format) (ls : List Line)
-    → pieces_at problem_format.extent before (whole_line 5 (codes "EDGE_WEIGHT_FORMAT : " ++ format_word f)) ls (behind is_blank (codes "EDGE_WEIGHT_FORMAT : " ++ format_word f)) ≡ headed words.EdgeWeightFormat (format_value f) 5 ∷ []
+    → pieces_at problem_format.extent before (whole_line 5 (codes "EDGE_WEIGHT_FORMAT : " ++ format_word f)) ls
+    (behind is_blank (codes "EDGE_WEIGHT_FORMAT : " ++ format_word f)) ≡ headed words.EdgeWeightFormat
+    (format_value f) 5 ∷ []
 unfolding keyword_of section_word rest_word
 format_piece before f ls = refl
 
@@ -105,9 +113,11 @@ module _ (n : ℕ) (low : 2 ≤ n) (high : n ≤ TABLE_LIMIT) where
   size_number : integer (first_word (size_value n)) ≡ Some (pos n)
   size_number = ap integer (first_word_run (decimal n) (decimal_run n (omega arith))) ∙ integer_decimal n (omega arith)
 
-  pub size_passes : (name : List ℕ) → stop problem_format (after_2 name) (headed words.Dimension (size_value n) 3) ≡ None
+  pub size_passes : (name : List ℕ) →
+      stop problem_format (after_2 name) (headed words.Dimension (size_value n) 3) ≡ None
   size_passes name =
-      let short : ltb 4096 (length (size_value n)) ≡ false = le-ltb _ _ (omega (arith, short_decimal n (omega arith))) in
+      let short : ltb 4096 (length (size_value n)) ≡ false =
+      le-ltb _ _ (omega (arith, short_decimal n (omega arith))) in
       let above : leb 2 n ≡ true = le-leb _ _ low in
       let below : leb n CITY_LIMIT ≡ true = le-leb _ _ (omega arith) in
       let number = size_number in
@@ -120,10 +130,12 @@ module _ (n : ℕ) (low : 2 ≤ n) (high : n ≤ TABLE_LIMIT) where
       let number = size_number in
       rw (number, above, below) refl
 
-  pub weight_type_passes : (name : List ℕ) → stop problem_format (after_3 name n) (headed words.EdgeWeightType (codes " : EXPLICIT") 4) ≡ None
+  pub weight_type_passes : (name : List ℕ) →
+      stop problem_format (after_3 name n) (headed words.EdgeWeightType (codes " : EXPLICIT") 4) ≡ None
   weight_type_passes name = refl
 
-  pub format_passes : (name : List ℕ) (f : Layout.Format) → stop problem_format (after_4 name n) (headed words.EdgeWeightFormat (format_value f) 5) ≡ None
+  pub format_passes : (name : List ℕ) (f : Layout.Format) →
+      stop problem_format (after_4 name n) (headed words.EdgeWeightFormat (format_value f) 5) ≡ None
   format_passes name formats.FullMatrix = refl
   format_passes name formats.UpperRow = refl
   format_passes name formats.LowerRow = refl

@@ -1,5 +1,6 @@
 -- Lines as they are written: their tokens, and what of them a section covers.
-use Rattle.std.proofs.Common.{◌≡◌, ℕ, suc, ◌≤◌, true, List, [], ◌∷◌, ◌++◌, length, map, Some, pos, refl, sym, ap, ◌∙◌, append_assoc, arith}
+use Rattle.std.proofs.Common.{◌≡◌, ℕ, suc, ◌≤◌, true, List, [], ◌∷◌, ◌++◌, length, map, Some, pos, refl, sym, ap, ◌∙◌}
+use Rattle.std.proofs.Common.{append_assoc, arith}
 use Rattle.std.specs.Prelude.{flat_map}
 use Rattle.std.specs.List.{AllByRecursion}
 use Rattle.tk_words.specs.Lex.{LF, Line, Token, onto_line, lines, tokens, integer}
@@ -12,16 +13,19 @@ use Rattle.tk_lines.proofs.MiddleOfLine.{lines-byte, lines-LF}
 use Rattle.tk_lines.proofs.Sections.MiddleOfSection.{cut-covered}
 use Rattle.tk_lines.proofs.Sections.SectionEnds.{last_line-append}
 use Rattle.tk_lines.proofs.Lines.{OnOneLine}
-use Rattle.tk_writers.proofs.Written.WrittenNumbers.{AllShort, number_token, numbers_line, numbers_tokens, integer_decimal, short_decimal}
+use Rattle.tk_writers.proofs.Written.WrittenNumbers.{AllShort, number_token, numbers_line, numbers_tokens}
+use Rattle.tk_writers.proofs.Written.WrittenNumbers.{integer_decimal, short_decimal}
 
 abbrev pub whole_line : ℕ → List ℕ → Line
 whole_line n bs = record { number = n; bytes = bs; whole = true }
 
-lines-first : (n : ℕ) (bs rest : List ℕ) → OnOneLine bs → lines true n (bs ++ LF ∷ rest) ≡ whole_line n bs ∷ lines true (suc n) rest
+lines-first : (n : ℕ) (bs rest : List ℕ) → OnOneLine bs → lines true n (bs ++ LF ∷ rest) ≡ whole_line n bs
+    ∷ lines true (suc n) rest
 lines-first n [] rest h = lines-LF true n rest
 lines-first n (b ∷ bs) rest h = lines-byte true n b (bs ++ LF ∷ rest) h.0 ∙ ap (onto_line b) (lines-first n bs rest h.1)
 
-pub lines-written : (n : ℕ) (bs rest : List ℕ) → OnOneLine bs → lines true n (line bs ++ rest) ≡ whole_line n bs ∷ lines true (suc n) rest
+pub lines-written : (n : ℕ) (bs rest : List ℕ) → OnOneLine bs → lines true n (line bs ++ rest) ≡ whole_line n bs
+    ∷ lines true (suc n) rest
 lines-written n bs rest h = ap (lines true n) (append_assoc bs (LF ∷ []) rest) ∙ lines-first n bs rest h
 
 -- ---- rows of numbers, each on a line of its own where it has some
@@ -47,7 +51,8 @@ in_rows rows = flat_map (λ xs. xs) rows
 abbrev pub ShortRows : List (List ℕ) → Type 0
 ShortRows rows = AllByRecursion AllShort rows
 
-pub lines-rows : (n : ℕ) (rows : List (List ℕ)) (rest : List ℕ) → ShortRows rows → lines true n (flat_map number_line rows ++ rest) ≡ row_lines n rows ++ lines true (next_line n rows) rest
+pub lines-rows : (n : ℕ) (rows : List (List ℕ)) (rest : List ℕ) → ShortRows rows →
+    lines true n (flat_map number_line rows ++ rest) ≡ row_lines n rows ++ lines true (next_line n rows) rest
 lines-rows n [] rest small = refl
 lines-rows n ([] ∷ rows) rest small = lines-rows n rows rest small.1
 lines-rows n ((x ∷ xs) ∷ rows) rest small =
@@ -55,7 +60,8 @@ lines-rows n ((x ∷ xs) ∷ rows) rest small =
     ∙ lines-written n (spaced_numbers (x ∷ xs)) (flat_map number_line rows ++ rest) (numbers_line x xs small.0)
     ∙ ap (λ (ls : List Line). whole_line n (spaced_numbers (x ∷ xs)) ∷ ls) (lines-rows (suc n) rows rest small.1)
 
-pub tokens-rows : (n : ℕ) (rows : List (List ℕ)) (ls : List Line) → ShortRows rows → tokens (row_lines n rows ++ ls) ≡ row_tokens n rows ++ tokens ls
+pub tokens-rows : (n : ℕ) (rows : List (List ℕ)) (ls : List Line) → ShortRows rows →
+    tokens (row_lines n rows ++ ls) ≡ row_tokens n rows ++ tokens ls
 tokens-rows n [] ls small = refl
 tokens-rows n ([] ∷ rows) ls small = tokens-rows n rows ls small.1
 tokens-rows n ((x ∷ xs) ∷ rows) ls small =
@@ -73,7 +79,8 @@ pub last_of_rows : (n : ℕ) (rows : List (List ℕ)) → suc (last_line n (row_
 last_of_rows n [] = refl
 last_of_rows n ([] ∷ rows) = last_of_rows n rows
 last_of_rows n ((x ∷ xs) ∷ rows) =
-    ap suc (last_line-append n (map (number_token (suc n)) (x ∷ xs)) (row_tokens (suc (suc n)) rows) ∙ ap (λ m. last_line m (row_tokens (suc (suc n)) rows)) (last_in_row (suc n) xs))
+    ap suc (last_line-append n (map (number_token (suc n)) (x ∷ xs)) (row_tokens (suc (suc n)) rows)
+    ∙ ap (λ m. last_line m (row_tokens (suc (suc n)) rows)) (last_in_row (suc n) xs))
     ∙ last_of_rows (suc n) rows
 
 next_line-ge : (n : ℕ) (rows : List (List ℕ)) → n ≤ next_line n rows
@@ -82,11 +89,13 @@ next_line-ge n ([] ∷ rows) = next_line-ge n rows
 next_line-ge n ((x ∷ xs) ∷ rows) = omega (arith, next_line-ge (suc n) rows)
 
 -- lines that a section covers begin nothing
-pub cut-rows : (extent : Extents) (before : List Piece) (upto n : ℕ) (rows : List (List ℕ)) (ls : List Line) → next_line n rows ≤ suc upto → cut extent before upto (row_lines n rows ++ ls) ≡ cut extent before upto ls
+pub cut-rows : (extent : Extents) (before : List Piece) (upto n : ℕ) (rows : List (List ℕ)) (ls : List Line) →
+    next_line n rows ≤ suc upto → cut extent before upto (row_lines n rows ++ ls) ≡ cut extent before upto ls
 cut-rows extent before upto n [] ls covered = refl
 cut-rows extent before upto n ([] ∷ rows) ls covered = cut-rows extent before upto n rows ls covered
 cut-rows extent before upto n ((x ∷ xs) ∷ rows) ls covered =
-    cut-covered extent before upto (whole_line n (spaced_numbers (x ∷ xs))) (row_lines (suc n) rows ++ ls) (omega (arith, next_line-ge (suc n) rows))
+    cut-covered extent before upto (whole_line n (spaced_numbers (x ∷ xs))) (row_lines (suc n) rows ++ ls)
+    (omega (arith, next_line-ge (suc n) rows))
     ∙ cut-rows extent before upto (suc n) rows ls covered
 
 -- ---- the tokens and the numbers
@@ -103,7 +112,8 @@ AreWritten [] (x ∷ xs) = ⊥
 AreWritten (t ∷ ts) [] = ⊥
 AreWritten (t ∷ ts) (x ∷ xs) = IsWritten t x × AreWritten ts xs
 
-are_append : (ts : List Token) (xs : List ℕ) (us : List Token) (ys : List ℕ) → AreWritten ts xs → AreWritten us ys → AreWritten (ts ++ us) (xs ++ ys)
+are_append : (ts : List Token) (xs : List ℕ) (us : List Token) (ys : List ℕ) → AreWritten ts xs → AreWritten us ys →
+    AreWritten (ts ++ us) (xs ++ ys)
 are_append [] [] us ys h k = k
 are_append [] (x ∷ xs) us ys h k = absurd h
 are_append (t ∷ ts) [] us ys h k = absurd h
@@ -111,12 +121,16 @@ are_append (t ∷ ts) (x ∷ xs) us ys h k = (h.0, are_append ts xs us ys h.1 k)
 
 row_written : (n : ℕ) (xs : List ℕ) → AllShort xs → AreWritten (map (number_token n) xs) xs
 row_written n [] small = tt
-row_written n (x ∷ xs) small = (record { whole = refl; short = omega (arith, short_decimal x small.0); is = integer_decimal x small.0 }, row_written n xs small.1)
+row_written n (x ∷ xs) small = (
+  record { whole = refl; short = omega (arith, short_decimal x small.0); is = integer_decimal x small.0 },
+  row_written n xs small.1,
+)
 
 pub rows_written : (n : ℕ) (rows : List (List ℕ)) → ShortRows rows → AreWritten (row_tokens n rows) (in_rows rows)
 rows_written n [] small = tt
 rows_written n ([] ∷ rows) small = rows_written n rows small.1
-rows_written n ((x ∷ xs) ∷ rows) small = are_append (map (number_token n) (x ∷ xs)) (x ∷ xs) (row_tokens (suc n) rows) (in_rows rows) (row_written n (x ∷ xs) small.0) (rows_written (suc n) rows small.1)
+rows_written n ((x ∷ xs) ∷ rows) small = are_append (map (number_token n) (x ∷ xs)) (x ∷ xs) (row_tokens (suc n) rows)
+    (in_rows rows) (row_written n (x ∷ xs) small.0) (rows_written (suc n) rows small.1)
 
 pub numbers_written : (ts : List Token) (xs : List ℕ) → AreWritten ts xs → map number_in ts ≡ xs
 numbers_written [] [] h = refl

@@ -1,5 +1,6 @@
 -- Numbers as they are written: read, they are the same numbers.
-use Rattle.std.proofs.Common.{◌≡◌, ℕ, ◌+◌, ◌-◌, ◌*◌, ◌/◌, ◌%◌, ◌<◌, ◌≤◌, true, false, eqb, leb, ltb, List, [], ◌∷◌, ◌++◌, length, Some, pos, refl, ap, ◌∙◌, arith}
+use Rattle.std.proofs.Common.{◌≡◌, ℕ, ◌+◌, ◌-◌, ◌*◌, ◌/◌, ◌%◌, ◌<◌, ◌≤◌, true, false, eqb, leb, ltb, List, [], ◌∷◌}
+use Rattle.std.proofs.Common.{◌++◌, length, Some, pos, refl, ap, ◌∙◌, arith}
 use Rattle.std.specs.Prelude.{codes, decimal, flat_map, map, unwrap_or}
 use Rattle.std.specs.Char.{is_ascii_digit}
 use Rattle.std.specs.List.{AllByRecursion}
@@ -17,7 +18,8 @@ abbrev pub IsDigit : ℕ → Type 0
 IsDigit b = (48 ≤ b) × (b ≤ 57)
 
 pub is_digit : (b : ℕ) → IsDigit b → is_ascii_digit b ≡ true
-is_digit b h = let low : leb 48 b ≡ true = le-leb _ _ h.0 in let high : leb b 57 ≡ true = le-leb _ _ h.1 in rw (low, high) refl
+is_digit b h = let low : leb 48 b ≡ true = le-leb _ _ h.0 in let high : leb b 57 ≡ true = le-leb _ _ h.1 in
+    rw (low, high) refl
 
 pub digit_solid : (b : ℕ) → IsDigit b → is_blank b ≡ false
 digit_solid b h =
@@ -40,7 +42,8 @@ some_push : (ds : List ℕ) (d : ℕ) → is_empty (ds ++ d ∷ []) ≡ false
 some_push [] d = refl
 some_push (b ∷ ds) d = refl
 
-digits_push : (k : ℕ) (ds : List ℕ) (d m : ℕ) → AllByRecursion IsDigit ds → IsDigit d → digits k ds ≡ Some m → digits k (ds ++ d ∷ []) ≡ Some (m * 10 + (d - 48))
+digits_push : (k : ℕ) (ds : List ℕ) (d m : ℕ) → AllByRecursion IsDigit ds → IsDigit d → digits k ds ≡ Some m →
+    digits k (ds ++ d ∷ []) ≡ Some (m * 10 + (d - 48))
 digits_push k [] d m all digit is =
     let same : k ≡ m = ap (λ o. unwrap_or o 0) is in
     rw (is_digit d digit) (ap (λ i. Some (i * 10 + (d - 48))) same)
@@ -56,7 +59,11 @@ spelled_one n small =
 spelled_more : (n : ℕ) (ds : List ℕ) → 10 ≤ n → Spelled (n / 10) ds → Spelled n (ds ++ ((48 + n % 10) ∷ []))
 spelled_more n ds many s =
     let digit : IsDigit (48 + n % 10) = (omega arith, omega arith) in
-    record { all = all_push ds (48 + n % 10) s.all digit; some = some_push ds (48 + n % 10); is = digits_push 0 ds (48 + n % 10) (n / 10) s.all digit s.is ∙ ap Some (omega arith) }
+    record {
+      all = all_push ds (48 + n % 10) s.all digit;
+      some = some_push ds (48 + n % 10);
+      is = digits_push 0 ds (48 + n % 10) (n / 10) s.all digit s.is ∙ ap Some (omega arith);
+    }
 
 -- below 10^18, as the digits of an integer go
 abbrev pub IsShort : ℕ → Type 0
@@ -111,7 +118,8 @@ spaced xs = flat_map (λ y. codes " " ++ decimal y) xs
 
 spaced_line : (xs : List ℕ) → AllShort xs → OnOneLine (spaced xs)
 spaced_line [] small = tt
-spaced_line (x ∷ xs) small = (refl, one_line_append (decimal x) (spaced xs) (decimal_line x small.0) (spaced_line xs small.1))
+spaced_line (x ∷ xs) small =
+    (refl, one_line_append (decimal x) (spaced xs) (decimal_line x small.0) (spaced_line xs small.1))
 
 pub numbers_line : (x : ℕ) (xs : List ℕ) → AllShort (x ∷ xs) → OnOneLine (spaced_numbers (x ∷ xs))
 numbers_line x xs small = one_line_append (decimal x) (spaced xs) (decimal_line x small.0) (spaced_line xs small.1)
@@ -119,10 +127,14 @@ numbers_line x xs small = one_line_append (decimal x) (spaced xs) (decimal_line 
 abbrev pub number_token : ℕ → ℕ → Token
 number_token n x = token (decimal x) n
 
-numbers_from : (n x : ℕ) (xs : List ℕ) → AllShort (x ∷ xs) → tokens_of true n (decimal x ++ spaced xs) ≡ map (number_token n) (x ∷ xs)
-numbers_from n x [] small = ap (tokens_of true n) (append-nil (decimal x)) ∙ tokens_of-last n (decimal x) (decimal_run x small.0)
+numbers_from : (n x : ℕ) (xs : List ℕ) → AllShort (x ∷ xs) →
+    tokens_of true n (decimal x ++ spaced xs) ≡ map (number_token n) (x ∷ xs)
+numbers_from n x [] small = ap (tokens_of true n) (append-nil (decimal x))
+    ∙ tokens_of-last n (decimal x) (decimal_run x small.0)
 numbers_from n x (y ∷ ys) small =
-    tokens_of-run true n (decimal x) 32 (decimal y ++ spaced ys) (decimal_run x small.0) refl ∙ ap (λ (ts : List Token). number_token n x ∷ ts) (numbers_from n y ys small.1)
+    tokens_of-run true n (decimal x) 32 (decimal y ++ spaced ys) (decimal_run x small.0) refl
+    ∙ ap (λ (ts : List Token). number_token n x ∷ ts) (numbers_from n y ys small.1)
 
-pub numbers_tokens : (n x : ℕ) (xs : List ℕ) → AllShort (x ∷ xs) → tokens_of true n (spaced_numbers (x ∷ xs)) ≡ map (number_token n) (x ∷ xs)
+pub numbers_tokens : (n x : ℕ) (xs : List ℕ) → AllShort (x ∷ xs) →
+    tokens_of true n (spaced_numbers (x ∷ xs)) ≡ map (number_token n) (x ∷ xs)
 numbers_tokens n x xs small = numbers_from n x xs small

@@ -5,7 +5,9 @@ use Rattle.tk_tour.specs.Tour.{tour_length, IsTour}
 use Rattle.tk_descent.specs.Machine.{Run}
 use Rattle.tk_descent.specs.Machine.Run.{start}
 use Rattle.tk_descent.proofs.MovesOnTours.Rounds.{round_of}
-use Rattle.tk_descent.proofs.WakeRuns.DescentSteps.{run_asleep, run_move, less_move, worth_move, queue_left, fits_length, more_swaps, tests_rise, count_look, few_tests, fresh_count}
+use Rattle.tk_descent.proofs.WakeRuns.DescentSteps.{run_asleep, run_move, less_move, worth_move, queue_left}
+use Rattle.tk_descent.proofs.WakeRuns.DescentSteps.{fits_length, more_swaps, tests_rise, count_look, few_tests}
+use Rattle.tk_descent.proofs.WakeRuns.DescentSteps.{fresh_count}
 use Rattle.tk_descent.proofs.OfferLists.Count.{fewer}
 use Rattle.tk_descent.specs.WakeMachine.{Wakes}
 use Rattle.tk_descent.proofs.WakeRuns.Machines.{run_wakes}
@@ -41,19 +43,37 @@ overflow_add-looks g c =
       c.requires.fits.2,
       c.size-cities.ensures.count,
       c.size-cities.ensures.limits.1,
-      fits_length (g.G.Gains.distance c.args.gains.now) (g.S.TourStore.cities c.args.tour.now) (g.met.G.Gains.symmetric c.args.gains.now, g.met.G.Gains.diagonal c.args.gains.now, g.met.G.Gains.distance_limit c.args.gains.now) (omega (arith, c.size-cities.ensures.count, c.size-cities.ensures.limits.1)),
+      fits_length (g.G.Gains.distance c.args.gains.now) (g.S.TourStore.cities c.args.tour.now) (
+        g.met.G.Gains.symmetric c.args.gains.now,
+        g.met.G.Gains.diagonal c.args.gains.now,
+        g.met.G.Gains.distance_limit c.args.gains.now,
+      )
+          (omega (arith, c.size-cities.ensures.count, c.size-cities.ensures.limits.1)),
     )
 
 pub make-requires-clause-offer : goal.make-requires-clause-offer
-make-requires-clause-offer g c = more_on c.args.or_segment c.in-Some-find_offer.found.offer (g.S.TourStore.cities c.loop-x.tour) c.requires.most.1 c.in-Some-find_offer.ensures.on_cycle.0
+make-requires-clause-offer g c =
+    more_on c.args.or_segment c.in-Some-find_offer.found.offer (g.S.TourStore.cities c.loop-x.tour) c.requires.most.1
+    c.in-Some-find_offer.ensures.on_cycle.0
 
 pub overflow_sub-after : goal.overflow_sub-after
 overflow_sub-after g c =
     let i = c.loop-x.invariant in
     let d = g.G.Gains.distance c.args.gains.now in
-    (worth_move d _ _ c.in-Some-find_offer.found _ _ c.args.or_segment (g.S.TourStore.cities c.loop-x.tour) (g.S.TourStore.cities c.make.new.tour) _ (g.met.G.Gains.symmetric c.args.gains.now, g.met.G.Gains.diagonal c.args.gains.now, g.met.G.Gains.distance_limit c.args.gains.now) i.table c.in-Some-find_offer.ensures.searched
+    (worth_move d _ _ c.in-Some-find_offer.found _ _ c.args.or_segment (g.S.TourStore.cities c.loop-x.tour)
+    (g.S.TourStore.cities c.make.new.tour) _ (
+      g.met.G.Gains.symmetric c.args.gains.now,
+      g.met.G.Gains.diagonal c.args.gains.now,
+      g.met.G.Gains.distance_limit c.args.gains.now,
+    ) i.table
+    c.in-Some-find_offer.ensures.searched
     (c.make.ensures.made c.args.or_segment c.in-Some-find_offer.ensures.on_cycle.0) i.after
-    (fits_length d (g.S.TourStore.cities c.make.new.tour) (g.met.G.Gains.symmetric c.args.gains.now, g.met.G.Gains.diagonal c.args.gains.now, g.met.G.Gains.distance_limit c.args.gains.now) (omega (arith, c.make.ensures.size, i.size, c.size-cities.ensures.count, c.size-cities.ensures.limits.1)))).0
+    (fits_length d (g.S.TourStore.cities c.make.new.tour) (
+      g.met.G.Gains.symmetric c.args.gains.now,
+      g.met.G.Gains.diagonal c.args.gains.now,
+      g.met.G.Gains.distance_limit c.args.gains.now,
+    )
+    (omega (arith, c.make.ensures.size, i.size, c.size-cities.ensures.count, c.size-cities.ensures.limits.1)))).0
 
 pub loop-x-smaller-in-Some-find_offer : goal.loop-x-smaller-in-Some-find_offer
 loop-x-smaller-in-Some-find_offer g c =
@@ -63,10 +83,20 @@ loop-x-smaller-in-Some-find_offer g c =
     let D = g.S.TourStore.cities c.make.new.tour in
     let f = c.in-Some-find_offer.found in
     let made = c.make.ensures.made c.args.or_segment c.in-Some-find_offer.ensures.on_cycle.0 in
-    let less : tour_length d D + 1 ≤ tour_length d C = less_move d _ _ f _ _ c.args.or_segment C D (g.met.G.Gains.symmetric c.args.gains.now, g.met.G.Gains.diagonal c.args.gains.now, g.met.G.Gains.distance_limit c.args.gains.now) i.table c.in-Some-find_offer.ensures.searched made in
-    let left : length c.wake_ends.new.waking.queue + 1 ≤ length c.loop-x.waking.queue + 6 = queue_left c.loop-x.waking.queue c.take.new.self.queue c.wake_ends.new.waking.queue _ f.offer c.in-Some.ensures.taken c.wake_ends.ensures.queue in
-    let before : tour_length (g.G.Gains.distance c.loop-x.gains) C ≡ tour_length d C = ap (λ z. tour_length z C) i.table in
-    let after : tour_length (g.G.Gains.distance c.find_offer.new.self) D ≡ tour_length d D = ap (λ z. tour_length z D) (c.find_offer.ensures.same.0 ∙ i.table) in
+    let less : tour_length d D + 1 ≤ tour_length d C =
+    less_move d _ _ f _ _ c.args.or_segment C D (
+      g.met.G.Gains.symmetric c.args.gains.now,
+      g.met.G.Gains.diagonal c.args.gains.now,
+      g.met.G.Gains.distance_limit c.args.gains.now,
+    ) i.table
+    c.in-Some-find_offer.ensures.searched made in
+    let left : length c.wake_ends.new.waking.queue + 1 ≤ length c.loop-x.waking.queue + 6 =
+    queue_left c.loop-x.waking.queue c.take.new.self.queue c.wake_ends.new.waking.queue _ f.offer
+    c.in-Some.ensures.taken c.wake_ends.ensures.queue in
+    let before : tour_length (g.G.Gains.distance c.loop-x.gains) C ≡ tour_length d C =
+    ap (λ z. tour_length z C) i.table in
+    let after : tour_length (g.G.Gains.distance c.find_offer.new.self) D ≡ tour_length d D =
+    ap (λ z. tour_length z D) (c.find_offer.ensures.same.0 ∙ i.table) in
     omega (arith, less, left, before, after)
 
 pub loop-x-preserved-in-Some-find_offer : goal.loop-x-preserved-in-Some-find_offer
@@ -75,26 +105,62 @@ loop-x-preserved-in-Some-find_offer g c =
     let d = g.G.Gains.distance c.args.gains.now in
     let f = c.in-Some-find_offer.found in
     let made = c.make.ensures.made c.args.or_segment c.in-Some-find_offer.ensures.on_cycle.0 in
-    let less = less_move d _ _ f _ _ c.args.or_segment (g.S.TourStore.cities c.loop-x.tour) (g.S.TourStore.cities c.make.new.tour) (g.met.G.Gains.symmetric c.args.gains.now, g.met.G.Gains.diagonal c.args.gains.now, g.met.G.Gains.distance_limit c.args.gains.now) i.table c.in-Some-find_offer.ensures.searched made in
+    let less = less_move d _ _ f _ _ c.args.or_segment (g.S.TourStore.cities c.loop-x.tour)
+    (g.S.TourStore.cities c.make.new.tour) (
+      g.met.G.Gains.symmetric c.args.gains.now,
+      g.met.G.Gains.diagonal c.args.gains.now,
+      g.met.G.Gains.distance_limit c.args.gains.now,
+    ) i.table
+    c.in-Some-find_offer.ensures.searched made in
     record {
       run = (
         _,
-        run_move d _ c.args.or_segment _ _ _ _ _ _ _ _ _ _ _ f _ _ _ i.table c.in-Some-find_offer.ensures.searched i.run.1 c.in-Some.ensures.taken made c.wake_ends.ensures.queue,
+        run_move d _ c.args.or_segment _ _ _ _ _ _ _ _ _ _ _ f _ _ _ i.table c.in-Some-find_offer.ensures.searched
+            i.run.1 c.in-Some.ensures.taken made c.wake_ends.ensures.queue,
         count_look d _ _ _ _ _ _ _ i.table c.in-Some-find_offer.ensures.searched i.run.2,
       );
       table = c.find_offer.ensures.same.0 ∙ i.table;
       range = c.find_offer.ensures.same.1 ∙ i.range;
       size = c.make.ensures.size ∙ i.size;
       awake = c.wake_ends.ensures.size ∙ c.take.ensures.size ∙ i.awake;
-      after = (worth_move d _ _ f _ _ c.args.or_segment (g.S.TourStore.cities c.loop-x.tour) (g.S.TourStore.cities c.make.new.tour) _ (g.met.G.Gains.symmetric c.args.gains.now, g.met.G.Gains.diagonal c.args.gains.now, g.met.G.Gains.distance_limit c.args.gains.now) i.table c.in-Some-find_offer.ensures.searched made i.after
-          (fits_length d (g.S.TourStore.cities c.make.new.tour) (g.met.G.Gains.symmetric c.args.gains.now, g.met.G.Gains.diagonal c.args.gains.now, g.met.G.Gains.distance_limit c.args.gains.now) (omega (arith, c.make.ensures.size, i.size, c.size-cities.ensures.count, c.size-cities.ensures.limits.1)))).1;
+      after =
+          (worth_move d _ _ f _ _ c.args.or_segment (g.S.TourStore.cities c.loop-x.tour)
+          (g.S.TourStore.cities c.make.new.tour) _ (
+            g.met.G.Gains.symmetric c.args.gains.now,
+            g.met.G.Gains.diagonal c.args.gains.now,
+            g.met.G.Gains.distance_limit c.args.gains.now,
+          ) i.table
+          c.in-Some-find_offer.ensures.searched made i.after
+          (fits_length d (g.S.TourStore.cities c.make.new.tour) (
+            g.met.G.Gains.symmetric c.args.gains.now,
+            g.met.G.Gains.diagonal c.args.gains.now,
+            g.met.G.Gains.distance_limit c.args.gains.now,
+          )
+          (omega (
+            arith,
+            c.make.ensures.size,
+            i.size,
+            c.size-cities.ensures.count,
+            c.size-cities.ensures.limits.1,
+          )))).1;
       gained = omega (arith, less, i.gained);
-      looked = omega (arith, i.looked, queue_left c.loop-x.waking.queue c.take.new.self.queue c.wake_ends.new.waking.queue _ f.offer c.in-Some.ensures.taken c.wake_ends.ensures.queue);
+      looked =
+          omega (
+            arith,
+            i.looked,
+            queue_left c.loop-x.waking.queue c.take.new.self.queue c.wake_ends.new.waking.queue
+                _ f.offer c.in-Some.ensures.taken c.wake_ends.ensures.queue,
+          );
       tests = omega (arith, i.tests, c.find_offer.ensures.bound);
-      tests_rise = tests_rise _ _ _ _ _ _ c.in-Some-find_offer.ensures.searched (g.met.G.Gains.count_limit c.loop-x.gains) i.tests_rise;
+      tests_rise =
+          tests_rise _ _ _ _ _ _ c.in-Some-find_offer.ensures.searched (g.met.G.Gains.count_limit c.loop-x.gains)
+          i.tests_rise;
       swaps_rise = omega (arith, i.swaps_rise, c.make.ensures.rises);
-      swaps = more_swaps (g.S.TourStore.swap_count c.args.tour.now) (g.S.TourStore.swap_count c.loop-x.tour) (g.S.TourStore.swap_count c.make.new.tour) (length (g.S.TourStore.cities c.args.tour.now) / 4) c.loop-x.moves i.swaps
-          (subst (λ z. g.S.TourStore.swap_count c.make.new.tour ≤ g.S.TourStore.swap_count c.loop-x.tour + 3 * (z / 4)) i.size c.make.ensures.swaps);
+      swaps = more_swaps (g.S.TourStore.swap_count c.args.tour.now) (g.S.TourStore.swap_count c.loop-x.tour)
+          (g.S.TourStore.swap_count c.make.new.tour) (length (g.S.TourStore.cities c.args.tour.now) / 4)
+          c.loop-x.moves i.swaps
+          (subst (λ z. g.S.TourStore.swap_count c.make.new.tour ≤ g.S.TourStore.swap_count c.loop-x.tour + 3 * (z / 4))
+          i.size c.make.ensures.swaps);
       flips = omega (arith, i.flips, c.make.ensures.flips);
       kept = g.met.S.TourStore.flips_more _ _ _ i.kept c.make.ensures.kept;
     }
@@ -106,7 +172,8 @@ loop-x-preserved g c =
     record {
       run = (
         _,
-        run_asleep d _ c.args.or_segment _ _ _ _ _ _ _ _ _ i.run.1 c.in-Some.ensures.taken _ _ _ i.table c.in_default-find_offer.ensures.searched,
+        run_asleep d _ c.args.or_segment _ _ _ _ _ _ _ _ _ i.run.1 c.in-Some.ensures.taken _ _ _ i.table
+            c.in_default-find_offer.ensures.searched,
         count_look d _ _ _ _ _ _ _ i.table c.in_default-find_offer.ensures.searched i.run.2,
       );
       table = c.find_offer.ensures.same.0 ∙ i.table;
@@ -117,7 +184,9 @@ loop-x-preserved g c =
       gained = i.gained;
       looked = omega (arith, i.looked, ap length c.in-Some.ensures.taken);
       tests = omega (arith, i.tests, c.find_offer.ensures.bound);
-      tests_rise = tests_rise _ _ _ _ _ _ c.in_default-find_offer.ensures.searched (g.met.G.Gains.count_limit c.loop-x.gains) i.tests_rise;
+      tests_rise =
+          tests_rise _ _ _ _ _ _ c.in_default-find_offer.ensures.searched (g.met.G.Gains.count_limit c.loop-x.gains)
+          i.tests_rise;
       swaps_rise = i.swaps_rise;
       swaps = i.swaps;
       flips = i.flips;
@@ -133,12 +202,28 @@ overflow_sub-result-2 g c = omega (arith, c.loop-x.invariant.swaps_rise, c.swaps
 pub returns-clause-tests : goal.returns-clause-tests
 returns-clause-tests g c =
     let i = c.loop-x.invariant in
-    omega (arith, i.tests, c.tests-tests.ensures, c.tests.ensures, fewer c.args.or_segment c.args.near.now.width c.loop-x.looks (length c.args.waking.now.queue + 6 * c.loop-x.moves) (omega (arith, i.looked)))
+    omega (
+      arith,
+      i.tests,
+      c.tests-tests.ensures,
+      c.tests.ensures,
+      fewer c.args.or_segment c.args.near.now.width c.loop-x.looks
+          (length c.args.waking.now.queue + 6 * c.loop-x.moves) (omega (arith, i.looked)),
+    )
 
 pub returns-clause-wakes : goal.returns-clause-wakes
 returns-clause-wakes g c =
-    subst (λ z. Wakes (g.G.Gains.distance c.args.gains.now) (near_of c.args.near.now) c.args.or_segment (g.S.TourStore.cities c.args.tour.now) c.args.waking.now.queue (g.S.TourStore.cities c.loop-x.tour) z) c.in_default.ensures.taken.0
-    (run_wakes (g.G.Gains.distance c.args.gains.now) (near_of c.args.near.now) c.args.or_segment (g.S.TourStore.cities c.args.tour.now) c.args.waking.now.queue (g.met.G.Gains.symmetric c.args.gains.now, g.met.G.Gains.diagonal c.args.gains.now, g.met.G.Gains.distance_limit c.args.gains.now) c.requires.most.1 (round_of _ (g.met.S.TourStore.is_tour c.args.tour.now)).distinct c.len-awake.ensures.distinct c.loop-x.invariant.run.1)
+    subst (λ z. Wakes (g.G.Gains.distance c.args.gains.now) (near_of c.args.near.now) c.args.or_segment
+    (g.S.TourStore.cities c.args.tour.now) c.args.waking.now.queue (g.S.TourStore.cities c.loop-x.tour) z)
+    c.in_default.ensures.taken.0
+    (run_wakes (g.G.Gains.distance c.args.gains.now) (near_of c.args.near.now) c.args.or_segment
+    (g.S.TourStore.cities c.args.tour.now) c.args.waking.now.queue (
+      g.met.G.Gains.symmetric c.args.gains.now,
+      g.met.G.Gains.diagonal c.args.gains.now,
+      g.met.G.Gains.distance_limit c.args.gains.now,
+    ) c.requires.most.1
+    (round_of _ (g.met.S.TourStore.is_tour c.args.tour.now)).distinct c.len-awake.ensures.distinct
+    c.loop-x.invariant.run.1)
 
 pub returns-clause-stored : goal.returns-clause-stored
 returns-clause-stored g c = c.width-candidates.ensures.stored ∙ ap (λ z. z * c.args.near.now.width) c.requires.fits.1
@@ -148,24 +233,54 @@ returns-clause-headline g c =
     let i = c.loop-x.invariant in
     let d = g.G.Gains.distance c.args.gains.now in
     let n = length (g.S.TourStore.cities c.args.tour.now) in
-    let shorter = tour_length d (g.S.TourStore.cities c.args.tour.now) - tour_length d (g.S.TourStore.cities c.loop-x.tour) in
-    let all : length c.args.waking.now.queue + 6 * c.loop-x.moves ≤ n + 6 * shorter = omega (arith, i.gained, c.len-awake.ensures.value, c.len-awake.ensures.limit, c.requires.fits.2) in
-    omega (arith, returns-clause-tests g c, fewer c.args.or_segment c.args.near.now.width (length c.args.waking.now.queue + 6 * c.loop-x.moves) (n + 6 * shorter) all)
+    let shorter =
+    tour_length d (g.S.TourStore.cities c.args.tour.now) - tour_length d (g.S.TourStore.cities c.loop-x.tour) in
+    let all : length c.args.waking.now.queue + 6 * c.loop-x.moves ≤ n + 6 * shorter =
+    omega (arith, i.gained, c.len-awake.ensures.value, c.len-awake.ensures.limit, c.requires.fits.2) in
+    omega (
+      arith,
+      returns-clause-tests g c,
+      fewer c.args.or_segment c.args.near.now.width (length c.args.waking.now.queue + 6 * c.loop-x.moves)
+          (n + 6 * shorter) all,
+    )
 
 pub returns-clause-tour : goal.returns-clause-tour
-returns-clause-tour g c = subst (λ z. IsTour z (g.S.TourStore.cities c.loop-x.tour)) c.loop-x.invariant.size (g.met.S.TourStore.is_tour c.loop-x.tour).2
+returns-clause-tour g c = subst (λ z. IsTour z (g.S.TourStore.cities c.loop-x.tour)) c.loop-x.invariant.size
+    (g.met.S.TourStore.is_tour c.loop-x.tour).2
 
 pub returns-clause-run : goal.returns-clause-run
 returns-clause-run g c =
-    let r = c.loop-x.invariant.run in
-    (r.0, subst (λ z. Run (g.G.Gains.distance c.args.gains.now) (near_of c.args.near.now) c.args.or_segment (g.S.TourStore.cities c.args.tour.now) c.args.waking.now.queue (g.S.TourStore.cities c.loop-x.tour) z c.loop-x.looks c.loop-x.moves r.0) c.in_default.ensures.taken.0 r.1, r.2)
+    let r = c.loop-x.invariant.run in (
+      r.0,
+      subst
+          (λ z. Run (g.G.Gains.distance c.args.gains.now) (near_of c.args.near.now) c.args.or_segment
+          (g.S.TourStore.cities c.args.tour.now) c.args.waking.now.queue (g.S.TourStore.cities c.loop-x.tour) z
+          c.loop-x.looks c.loop-x.moves r.0) c.in_default.ensures.taken.0 r.1,
+      r.2,
+    )
 
 pub returns-clause-fresh : goal.returns-clause-fresh
 returns-clause-fresh g c = λ fresh.
     let i = c.loop-x.invariant in
     let r = returns-clause-run g c in
     let d = g.G.Gains.distance c.args.gains.now in
-    subst (λ z. Run d (near_of c.args.near.now) c.args.or_segment (g.S.TourStore.cities c.args.tour.now) c.args.waking.now.queue (g.S.TourStore.cities c.loop-x.tour) [] c.loop-x.looks c.loop-x.moves z) (fresh_count _ _ r.0 _ r.2 (omega (arith, c.tests-tests.ensures, c.tests.ensures)) fresh
-    (few_tests c.args.or_segment c.args.near.now.width (length c.args.waking.now.queue) c.loop-x.moves _ (tour_length d (g.S.TourStore.cities c.args.tour.now)) c.requires.most.1 (omega (arith, c.width-candidates.ensures.value, c.width-candidates.ensures.limit))
-    (omega (arith, c.len-awake.ensures.value, c.len-awake.ensures.limit, c.requires.fits.2, c.size-cities.ensures.count, c.size-cities.ensures.limits.1)) (omega (arith, i.gained))
-    (fits_length d (g.S.TourStore.cities c.args.tour.now) (g.met.G.Gains.symmetric c.args.gains.now, g.met.G.Gains.diagonal c.args.gains.now, g.met.G.Gains.distance_limit c.args.gains.now) (omega (arith, c.size-cities.ensures.count, c.size-cities.ensures.limits.1))) (returns-clause-tests g c))) r.1
+    subst (λ z. Run d (near_of c.args.near.now) c.args.or_segment (g.S.TourStore.cities c.args.tour.now)
+    c.args.waking.now.queue (g.S.TourStore.cities c.loop-x.tour) [] c.loop-x.looks c.loop-x.moves z)
+    (fresh_count _ _ r.0 _ r.2 (omega (arith, c.tests-tests.ensures, c.tests.ensures)) fresh
+    (few_tests c.args.or_segment c.args.near.now.width (length c.args.waking.now.queue) c.loop-x.moves
+    _ (tour_length d (g.S.TourStore.cities c.args.tour.now)) c.requires.most.1
+    (omega (arith, c.width-candidates.ensures.value, c.width-candidates.ensures.limit))
+    (omega (
+      arith,
+      c.len-awake.ensures.value,
+      c.len-awake.ensures.limit,
+      c.requires.fits.2,
+      c.size-cities.ensures.count,
+      c.size-cities.ensures.limits.1,
+    )) (omega (arith, i.gained))
+    (fits_length d (g.S.TourStore.cities c.args.tour.now) (
+      g.met.G.Gains.symmetric c.args.gains.now,
+      g.met.G.Gains.diagonal c.args.gains.now,
+      g.met.G.Gains.distance_limit c.args.gains.now,
+    )
+    (omega (arith, c.size-cities.ensures.count, c.size-cities.ensures.limits.1))) (returns-clause-tests g c))) r.1

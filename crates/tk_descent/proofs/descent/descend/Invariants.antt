@@ -11,7 +11,8 @@ invariant-loop-x g l =
     let T = g.S.TourStore.cities l.fn.tour in
     let C = g.S.TourStore.cities l.tour in
     record {
-      run : (tests : ℕ) × Run dist (near_of l.near) l.or_segment T l.fn.waking.queue C l.waking.queue l.looks l.moves tests × (g.G.Gains.test_count l.gains ≡ saturated (g.G.Gains.test_count l.fn.gains + tests));
+      run : (tests : ℕ) × Run dist (near_of l.near) l.or_segment T l.fn.waking.queue C l.waking.queue l.looks l.moves
+          tests × (g.G.Gains.test_count l.gains ≡ saturated (g.G.Gains.test_count l.fn.gains + tests));
       table : g.G.Gains.distance l.gains ≡ dist;
       range : g.G.Gains.size_of l.gains ≡ length T;
       size : length C ≡ length T;
@@ -19,7 +20,8 @@ invariant-loop-x g l =
       after : l.after ≡ pos (tour_length dist C);
       gained : l.moves + tour_length dist C ≤ tour_length dist T;
       looked : l.looks + length l.waking.queue ≤ length l.fn.waking.queue + 6 * l.moves;
-      tests : g.G.Gains.test_count l.gains ≤ g.G.Gains.test_count l.fn.gains + 4 * l.or_segment * l.near.width * l.looks;
+      tests : g.G.Gains.test_count l.gains ≤ g.G.Gains.test_count l.fn.gains + 4 * l.or_segment *
+          l.near.width * l.looks;
       tests_rise : g.G.Gains.test_count l.fn.gains ≤ g.G.Gains.test_count l.gains;
       swaps_rise : g.S.TourStore.swap_count l.fn.tour ≤ g.S.TourStore.swap_count l.tour;
       swaps : g.S.TourStore.swap_count l.tour ≤ g.S.TourStore.swap_count l.fn.tour + 3 * (length T / 4) * l.moves;
@@ -28,4 +30,5 @@ invariant-loop-x g l =
     }
 
 abbrev pub decreases-loop-x : goal.decreases-loop-x
-decreases-loop-x g l = length l.waking.queue + 6 * tour_length (g.G.Gains.distance l.gains) (g.S.TourStore.cities l.tour)
+decreases-loop-x g l =
+    length l.waking.queue + 6 * tour_length (g.G.Gains.distance l.gains) (g.S.TourStore.cities l.tour)

@@ -14,7 +14,9 @@ loop-x-preserved g c =
     let C = g.S.TourStore.cities c.args.tour.now in
     record {
       none = λ k h l. elim (cases_eq k c.loop-x.x) [
-        | inl e ↦ subst (λ z. HasNoOffer (g.M.Metric.distance c.args.metric.now) near c.args.or_segment z C) (sym e) (subst (λ z. HasNoOffer z near c.args.or_segment c.loop-x.x C) i.table (c.look.ensures.none c.in_default.is))
+        | inl e ↦ subst (λ z. HasNoOffer (g.M.Metric.distance c.args.metric.now) near c.args.or_segment z C) (sym e)
+            (subst (λ z. HasNoOffer z near c.args.or_segment c.loop-x.x C) i.table
+            (c.look.ensures.none c.in_default.is))
         | inr ne ↦ i.none k h (omega (arith, ne))
       ];
       table = c.look.ensures.same.0 ∙ i.table;
@@ -31,12 +33,25 @@ returns-in-Some g c =
     let tour = round_of _ (g.met.S.TourStore.is_tour c.args.tour.now) in (
       λ t. absurd (both_ways false refl t),
       λ opt.
-          let w = some_improves d near c.args.or_segment c.loop-x.x C o (g.met.M.Metric.symmetric c.args.metric.now, g.met.M.Metric.diagonal c.args.metric.now, g.met.M.Metric.distance_limit c.args.metric.now) (subst (λ z. first_gain z (offers C c.args.or_segment (near c.loop-x.x) c.loop-x.x) ≡ Some o) i.table (sym c.in-Some.ensures.first)) c.in-Some.ensures.on_cycle.0 in
-          absurd (opt c.loop-x.x ((tour.members c.loop-x.x).1 (omega (arith, c.loop-x.auto.x), omega (arith, c.size-x-end.ensures.count, c.loop-x-test.true))) o w.0 w.1),
+          let w =
+          some_improves d near c.args.or_segment c.loop-x.x C o (
+            g.met.M.Metric.symmetric c.args.metric.now,
+            g.met.M.Metric.diagonal c.args.metric.now,
+            g.met.M.Metric.distance_limit c.args.metric.now,
+          )
+          (subst (λ z. first_gain z (offers C c.args.or_segment (near c.loop-x.x) c.loop-x.x) ≡ Some o) i.table
+          (sym c.in-Some.ensures.first)) c.in-Some.ensures.on_cycle.0 in
+          absurd (opt c.loop-x.x
+          ((tour.members c.loop-x.x).1
+          (omega (arith, c.loop-x.auto.x), omega (arith, c.size-x-end.ensures.count, c.loop-x-test.true))) o w.0
+          w.1),
     )
 
 pub returns : goal.returns
 returns g c =
     let i = c.loop-x.invariant in
-    let tour = round_of _ (g.met.S.TourStore.is_tour c.args.tour.now) in
-    (λ t x h. let r = (tour.members x).0 h in i.none x r.0 (omega (arith, c.size-x-end.ensures.count, c.loop-x-test.false, r.1)), λ opt. refl)
+    let tour = round_of _ (g.met.S.TourStore.is_tour c.args.tour.now) in (
+      λ t x h. let r = (tour.members x).0 h in
+          i.none x r.0 (omega (arith, c.size-x-end.ensures.count, c.loop-x-test.false, r.1)),
+      λ opt. refl,
+    )

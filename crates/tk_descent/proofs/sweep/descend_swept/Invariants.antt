@@ -11,7 +11,8 @@ invariant-sweeping g l =
     let T = g.S.TourStore.cities l.fn.tour in
     let C = g.S.TourStore.cities l.tour in
     record {
-      chain : (tests : ℕ) × Moving dist (near_of l.near) l.or_segment T C l.passes l.looks l.moves tests × (g.G.Gains.test_count l.gains ≡ saturated (g.G.Gains.test_count l.fn.gains + tests));
+      chain : (tests : ℕ) × Moving dist (near_of l.near) l.or_segment T C l.passes l.looks l.moves tests
+          × (g.G.Gains.test_count l.gains ≡ saturated (g.G.Gains.test_count l.fn.gains + tests));
       table : g.G.Gains.distance l.gains ≡ dist;
       range : g.G.Gains.size_of l.gains ≡ length T;
       size : length C ≡ length T;
@@ -21,7 +22,8 @@ invariant-sweeping g l =
       passed : l.passes ≤ l.moves;
       gained : l.moves + tour_length dist C ≤ tour_length dist T;
       looked : l.looks ≤ length T * l.passes + 6 * l.moves;
-      tests : g.G.Gains.test_count l.gains ≤ g.G.Gains.test_count l.fn.gains + 4 * l.or_segment * l.near.width * (length T * l.passes + 6 * l.moves);
+      tests : g.G.Gains.test_count l.gains ≤ g.G.Gains.test_count l.fn.gains + 4 * l.or_segment * l.near.width *
+          (length T * l.passes + 6 * l.moves);
       tests_rise : g.G.Gains.test_count l.fn.gains ≤ g.G.Gains.test_count l.gains;
       swaps_rise : g.S.TourStore.swap_count l.fn.tour ≤ g.S.TourStore.swap_count l.tour;
       swaps : g.S.TourStore.swap_count l.tour ≤ g.S.TourStore.swap_count l.fn.tour + 3 * (length T / 4) * l.moves;

@@ -6,4 +6,7 @@ use Rattle.tk_lists.proofs.solution_reader.begins.Goals as goal
 
 pub returns-else-bytes-text : goal.returns-else-bytes-text
 returns-else-bytes-text c =
-    lt-leb _ _ (omega (arith, c.if-bytes-text.false)) ∙ sym (differ_in_length c.args.bytes.now (take (length c.args.bytes.now) c.args.text.now) (λ e. omega (arith, e, length-take (length c.args.bytes.now) c.args.text.now, c.if-bytes-text.false)))
+    lt-leb _ _ (omega (arith, c.if-bytes-text.false))
+    ∙ sym
+    (differ_in_length c.args.bytes.now (take (length c.args.bytes.now) c.args.text.now)
+    (λ e. omega (arith, e, length-take (length c.args.bytes.now) c.args.text.now, c.if-bytes-text.false)))

@@ -2,7 +2,9 @@ use Rattle.std.proofs.Common.{arith, ◌≡◌, ◌≢◌, ℕ, ◌+◌, ◌-◌
 use Rattle.std.specs.Prelude.{nat_lt, replicate}
 use Rattle.std.proofs.lemmas.Bool.{cases_eq}
 use Rattle.tk_near.specs.Keeping.{open_place}
-use Rattle.tk_near.proofs.Keeping.{KeepsFirst-none, KeepsFirst-more, KeepsFirst-same, KeepsFirst-count, IsNear-from_kept, kept_climbing, kept_length, same_twice, count_others, count_self, count_all}
+use Rattle.tk_near.proofs.Keeping.{KeepsFirst-none, KeepsFirst-more, KeepsFirst-same, KeepsFirst-count}
+use Rattle.tk_near.proofs.Keeping.{IsNear-from_kept, kept_climbing, kept_length, same_twice, count_others, count_self}
+use Rattle.tk_near.proofs.Keeping.{count_all}
 use Rattle.tk_near.proofs.near.scan_city.Goals as goal
 use Rattle.tk_near.proofs.near.scan_city.Goals.{then-b-c, else-b-c}
 
@@ -10,7 +12,8 @@ pub loop-b-init : goal.loop-b-init
 loop-b-init g c =
     let k : ℕ = length c.args.kept.now in
     let clear : c.fill.new.self ≡ replicate k open_place = c.fill.ensures.after (λ y e. e) in
-    let none = KeepsFirst-none (g.M.Metric.distance c.args.m.now) c.args.c k (λ a. (1 ≤ a) × (a < 1) × (a ≢ c.args.c)) (λ b s. let low : 1 ≤ b = s.0 in let high : b < 1 = s.1 in omega arith) in
+    let none = KeepsFirst-none (g.M.Metric.distance c.args.m.now) c.args.c k (λ a. (1 ≤ a) × (a < 1) × (a ≢ c.args.c))
+    (λ b s. let low : 1 ≤ b = s.0 in let high : b < 1 = s.1 in omega arith) in
     rw clear (KeepsFirst-count _ c.args.c k _ _ _ _ (same_twice (nat_lt c.args.c 1) 0) none)
 
 pub keep-requires-clause-climbing : goal.keep-requires-clause-climbing
@@ -27,7 +30,9 @@ loop-b-preserved g c =
           let b = c.loop-b.b in
           let k : ℕ = length c.args.kept.now in
           let size : length c.loop-b.kept ≡ k = kept_length c.loop-b.invariant in
-          let more = KeepsFirst-more dist c.args.c k _ _ (λ a. (1 ≤ a) × (a < b + 1) × (a ≢ c.args.c)) c.loop-b.kept b c.loop-b.invariant (λ s. omega arith) (omega arith) (omega (arith, near)) (λ a s. omega (arith, s.1)) (λ a s. (s.0, omega (arith, s.1), s.2)) (c.loop-b.auto.b, omega arith, w.if-b-c.true)
+          let more = KeepsFirst-more dist c.args.c k _ _ (λ a. (1 ≤ a) × (a < b + 1) × (a ≢ c.args.c)) c.loop-b.kept b
+          c.loop-b.invariant (λ s. omega arith) (omega arith) (omega (arith, near)) (λ a s. omega (arith, s.1))
+          (λ a s. (s.0, omega (arith, s.1), s.2)) (c.loop-b.auto.b, omega arith, w.if-b-c.true)
           (λ a s. ⊎_elim (λ e. inr e) (λ ne. inl (s.0, omega (arith, s.1, ne), s.2)) (cases_eq a b)) in
           let count = count_others c.args.c b c.requires.city.0 c.loop-b.auto.b w.if-b-c.true in
           rw (w.kept-is, w.keep.ensures, w.measure.ensures, size) (KeepsFirst-count dist c.args.c k _ _ _ _ count more)
@@ -35,8 +40,10 @@ loop-b-preserved g c =
           let dist = g.M.Metric.distance c.args.m.now in
           let b = c.loop-b.b in
           let k : ℕ = length c.args.kept.now in
-          rw w.kept-is (KeepsFirst-count dist c.args.c k _ _ _ _ (count_self c.args.c b c.requires.city.0 w.if-b-c.false)
-          (KeepsFirst-same dist c.args.c k _ _ (λ a. (1 ≤ a) × (a < b + 1) × (a ≢ c.args.c)) _ c.loop-b.invariant (λ a s. (s.0, omega (arith, s.1), s.2)) (λ a s. (s.0, omega (arith, s.1, s.2), s.2))))
+          rw w.kept-is
+          (KeepsFirst-count dist c.args.c k _ _ _ _ (count_self c.args.c b c.requires.city.0 w.if-b-c.false)
+          (KeepsFirst-same dist c.args.c k _ _ (λ a. (1 ≤ a) × (a < b + 1) × (a ≢ c.args.c)) _ c.loop-b.invariant
+          (λ a s. (s.0, omega (arith, s.1), s.2)) (λ a s. (s.0, omega (arith, s.1, s.2), s.2))))
     ]
 
 pub returns-clause-near : goal.returns-clause-near
@@ -45,7 +52,9 @@ returns-clause-near g c =
     let k : ℕ = length c.args.kept.now in
     let m : ℕ = cond (nat_lt c.args.c c.loop-b.b) (c.loop-b.b - 2) (c.loop-b.b - 1) in
     let end : c.loop-b.b ≡ n + 1 = omega arith in
-    let count : m ≡ n - 1 = ap (λ v. cond (nat_lt c.args.c v) (v - 2) (v - 1)) end ∙ count_all c.args.c n c.requires.city.0 c.requires.city.1 in
+    let count : m ≡ n - 1 = ap (λ v. cond (nat_lt c.args.c v) (v - 2) (v - 1)) end
+    ∙ count_all c.args.c n c.requires.city.0 c.requires.city.1 in
     let enough : k ≤ m = omega arith in
-    IsNear-from_kept (g.M.Metric.distance c.args.m.now) n c.args.c k m (λ a. (1 ≤ a) × (a < c.loop-b.b) × (a ≢ c.args.c)) c.loop-b.kept c.loop-b.invariant (omega arith) enough
+    IsNear-from_kept (g.M.Metric.distance c.args.m.now) n c.args.c k m
+    (λ a. (1 ≤ a) × (a < c.loop-b.b) × (a ≢ c.args.c)) c.loop-b.kept c.loop-b.invariant (omega arith) enough
     (λ b h ne. (h.0, omega (arith, h.1), ne)) (λ b s. ((s.0, omega (arith, s.1)), s.2))

@@ -5,4 +5,5 @@ use Rattle.tk_near.proofs.near.scan_city.Given as goal
 
 abbrev pub invariant-loop-b : goal.invariant-loop-b
 invariant-loop-b g l =
-    KeepsFirst (g.M.Metric.distance l.m) l.c (length l.fn.kept) (cond (nat_lt l.c l.b) (l.b - 2) (l.b - 1)) (λ a. (1 ≤ a) × (a < l.b) × (a ≢ l.c)) l.kept
+    KeepsFirst (g.M.Metric.distance l.m) l.c (length l.fn.kept) (cond (nat_lt l.c l.b) (l.b - 2) (l.b - 1))
+    (λ a. (1 ≤ a) × (a < l.b) × (a ≢ l.c)) l.kept

@@ -10,8 +10,10 @@ pub returns-in-Some-clause-near : goal.returns-in-Some-clause-near
 returns-in-Some-clause-near c =
     let planes = c.in-Planes.planes in
     let same = rw c.in-Some.is at c.euclid.ensures.some in
-    let distances : table_distance c.args.table.now ≡ city_distance Euc2d (places_of (Whole c.in-Some.euclid.unit c.in-Some.euclid.places)) =
-    ap table_distance c.in-Planes.is ∙ ap (λ kind. city_distance kind (places_of planes.places)) same.0 ∙ ap (λ places. city_distance Euc2d (places_of places)) same.1 in
+    let distances : table_distance c.args.table.now ≡ city_distance Euc2d
+    (places_of (Whole c.in-Some.euclid.unit c.in-Some.euclid.places)) =
+    ap table_distance c.in-Planes.is ∙ ap (λ kind. city_distance kind (places_of planes.places)) same.0
+    ∙ ap (λ places. city_distance Euc2d (places_of places)) same.1 in
     rw distances c.near_tree.ensures.near
 
 pub returns-in-None-clause-near : goal.returns-in-None-clause-near

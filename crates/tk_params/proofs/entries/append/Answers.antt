@@ -4,4 +4,5 @@ use Rattle.tk_params.specs.Stored.{entry_is}
 use Rattle.tk_params.proofs.entries.append.Goals as goal
 
 pub returns-in-Ok-clause-ok : goal.returns-in-Ok-clause-ok
-returns-in-Ok-clause-ok c = ap (map entry_is) c.in-Ok.ensures.entries ∙ stored_last c.args.entries.now c.args.key c.args.setting c.requires
+returns-in-Ok-clause-ok c = ap (map entry_is) c.in-Ok.ensures.entries
+    ∙ stored_last c.args.entries.now c.args.key c.args.setting c.requires

@@ -17,13 +17,16 @@ loop-city-preserved g c =
 pub returns : goal.returns
 returns g c =
     let view = c.args.view.now in
-    let all : c.loop-city.city - 1 ≡ length (places_of view.places) = omega (arith, c.loop-city.auto.city-end, c.size-city-end.ensures.value) in
+    let all : c.loop-city.city - 1 ≡ length (places_of view.places) =
+    omega (arith, c.loop-city.auto.city-end, c.size-city-end.ensures.value) in
     Puts-then _ _ _ _ _ _ _
     (Puts-then _ _ _ _ _ _ _
     (Puts-then _ _ _ _ _ _ _
     (Puts-then _ _ _ _ _ _ _
-    (Puts-then _ _ _ _ _ _ _ c.put.ensures (subst (Puts _ _ _ _) (ap city_style c.size.ensures.value) c.put_city_style.ensures))
+    (Puts-then _ _ _ _ _ _ _ c.put.ensures
+    (subst (Puts _ _ _ _) (ap city_style c.size.ensures.value) c.put_city_style.ensures))
     c.put-2.ensures)
     c.put-3.ensures)
-    (subst (Puts _ _ _ _) (ap (λ n. flat_map (dot (spot view.frame (places_of view.places))) (range_with_len 1 n)) all) c.loop-city.invariant))
+    (subst (Puts _ _ _ _) (ap (λ n. flat_map (dot (spot view.frame (places_of view.places))) (range_with_len 1 n)) all)
+    c.loop-city.invariant))
     c.put-4.ensures

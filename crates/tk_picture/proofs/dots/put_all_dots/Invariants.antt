@@ -8,4 +8,6 @@ use Rattle.tk_picture.specs.PictureText.{dot, spot}
 use Rattle.tk_picture.proofs.dots.put_all_dots.Given as goal
 
 abbrev pub invariant-loop-city : goal.invariant-loop-city
-invariant-loop-city g l = Puts g.W.Sink.taken g.W.Sink.broken l.initial.pen l.pen (flat_map (dot (spot l.view.frame (places_of l.view.places))) (range_with_len 1 (l.city - 1)))
+invariant-loop-city g l =
+    Puts g.W.Sink.taken g.W.Sink.broken l.initial.pen l.pen
+    (flat_map (dot (spot l.view.frame (places_of l.view.places))) (range_with_len 1 (l.city - 1)))

@@ -12,12 +12,22 @@ pub returns-then-has_dots : goal.returns-then-has_dots
 returns-then-has_dots g c =
     let view = c.args.view.now in
     let n = length (places_of view.places) in
-    let drawn : has_dots (drawing_of c.args.subject) n ≡ true = sym (c.has_dots.ensures ∙ ap (has_dots (drawing_of c.args.subject)) c.size.ensures.value) ∙ c.if-has_dots.true in
-    subst (Puts _ _ _ _) (sym (ap (λ (b : Bool). if b then dots (spot view.frame (places_of view.places)) (city_style n) (range_with_len 1 n) else []) drawn)) c.put_all_dots.ensures
+    let drawn : has_dots (drawing_of c.args.subject) n ≡ true =
+    sym (c.has_dots.ensures ∙ ap (has_dots (drawing_of c.args.subject)) c.size.ensures.value)
+    ∙ c.if-has_dots.true in
+    subst (Puts _ _ _ _)
+    (sym (ap
+    (λ (b : Bool). if b then dots (spot view.frame (places_of view.places)) (city_style n) (range_with_len 1 n)
+    else []) drawn)) c.put_all_dots.ensures
 
 pub returns-else-has_dots : goal.returns-else-has_dots
 returns-else-has_dots g c =
     let view = c.args.view.now in
     let n = length (places_of view.places) in
-    let none : has_dots (drawing_of c.args.subject) n ≡ false = sym (c.has_dots.ensures ∙ ap (has_dots (drawing_of c.args.subject)) c.size.ensures.value) ∙ c.if-has_dots.false in
-    subst (Puts _ _ _ _) (sym (ap (λ (b : Bool). if b then dots (spot view.frame (places_of view.places)) (city_style n) (range_with_len 1 n) else []) none)) (Puts-none _ _ _)
+    let none : has_dots (drawing_of c.args.subject) n ≡ false =
+    sym (c.has_dots.ensures ∙ ap (has_dots (drawing_of c.args.subject)) c.size.ensures.value)
+    ∙ c.if-has_dots.false in
+    subst (Puts _ _ _ _)
+    (sym (ap
+    (λ (b : Bool). if b then dots (spot view.frame (places_of view.places)) (city_style n) (range_with_len 1 n)
+    else []) none)) (Puts-none _ _ _)

@@ -3,4 +3,5 @@ use Rattle.tk_picture.proofs.dots.put_dot.Goals as goal
 
 pub returns : goal.returns
 returns g c =
-    Puts-then _ _ _ _ _ _ _ (Puts-then _ _ _ _ _ _ _ (Puts-then _ _ _ _ _ _ _ c.put.ensures c.put_spot.ensures) c.put-2.ensures) c.put-3.ensures
+    Puts-then _ _ _ _ _ _ _ (Puts-then _ _ _ _ _ _ _ (Puts-then _ _ _ _ _ _ _ c.put.ensures c.put_spot.ensures)
+    c.put-2.ensures) c.put-3.ensures

@@ -3,4 +3,9 @@ use Rattle.tk_picture.proofs.numbers.put_mark.Goals as goal
 
 pub returns : goal.returns
 returns g c =
-    Puts-then _ _ _ _ _ _ _ (Puts-then _ _ _ _ _ _ _ (Puts-then _ _ _ _ _ _ _ (Puts-then _ _ _ _ _ _ _ (Puts-then _ _ _ _ _ _ _ (Puts-then _ _ _ _ _ _ _ (Puts-then _ _ _ _ _ _ _ c.put.ensures c.put_spot.ensures) c.put-2.ensures) c.put_colour.ensures) c.put-3.ensures) c.put_number.ensures) c.put-4.ensures) c.put-5.ensures
+    Puts-then _ _ _ _ _ _ _ (Puts-then
+    _ _ _ _ _ _ _ (Puts-then
+    _ _ _ _ _ _ _ (Puts-then
+    _ _ _ _ _ _ _ (Puts-then
+    _ _ _ _ _ _ _ (Puts-then _ _ _ _ _ _ _ (Puts-then _ _ _ _ _ _ _ c.put.ensures c.put_spot.ensures)
+    c.put-2.ensures) c.put_colour.ensures) c.put-3.ensures) c.put_number.ensures) c.put-4.ensures) c.put-5.ensures

@@ -12,7 +12,9 @@ use Rattle.tk_picture.proofs.numbers.put_numbers.Goals as goal
 
 pub put_number-requires-clause-known : goal.put_number-requires-clause-known
 put_number-requires-clause-known g c =
-    (route_served (λ r. r.items) (customer_count (instance_of c.args.cvrp.now)) c.args.routes.now c.loop-route.route-index c.route-item.result c.deref.result.now c.loop-route-test.true c.route-item.is c.deref.ensures.value c.requires.once).known
+    (route_served (λ r. r.items) (customer_count (instance_of c.args.cvrp.now)) c.args.routes.now
+    c.loop-route.route-index c.route-item.result c.deref.result.now c.loop-route-test.true c.route-item.is
+    c.deref.ensures.value c.requires.once).known
 
 pub loop-route-preserved : goal.loop-route-preserved
 loop-route-preserved g c =
@@ -20,7 +22,11 @@ loop-route-preserved g c =
     let n = c.loop-route in
     record {
       count = omega (arith, n.invariant.count);
-      text = subst (Puts _ _ _ _) (sym (filled_more (route_path (instance_of c.args.cvrp.now)) (number_mark (spot view.frame (places_of view.places))) (λ r. r.items) c.args.routes.now n.route-index (n.number + 1) c.route-item.result c.deref.result.now
+      text =
+          subst (Puts _ _ _ _)
+          (sym (filled_more (route_path (instance_of c.args.cvrp.now))
+          (number_mark (spot view.frame (places_of view.places))) (λ r. r.items) c.args.routes.now n.route-index
+          (n.number + 1) c.route-item.result c.deref.result.now
           c.loop-route-test.true c.route-item.is c.deref.ensures.value (omega (arith, n.invariant.count))))
           (Puts-then _ _ _ _ _ _ _ n.invariant.text c.put_number.ensures);
     }

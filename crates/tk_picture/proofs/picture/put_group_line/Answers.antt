@@ -12,7 +12,8 @@ returns g c =
     (Puts-then _ _ _ _ _ _ _
     (Puts-then _ _ _ _ _ _ _
     (Puts-then _ _ _ _ _ _ _
-    (Puts-then _ _ _ _ _ _ _ (Puts-then _ _ _ _ _ _ _ (Puts-then _ _ _ _ _ _ _ c.put.ensures across) c.put-2.ensures) down)
+    (Puts-then _ _ _ _ _ _ _ (Puts-then _ _ _ _ _ _ _ (Puts-then _ _ _ _ _ _ _ c.put.ensures across) c.put-2.ensures)
+    down)
     c.put-3.ensures)
     c.put_line_width.ensures)
     c.put-4.ensures)

@@ -8,5 +8,8 @@ use Rattle.tk_picture.proofs.picture.put_title_line.Goals as goal
 pub returns : goal.returns
 returns g c =
     let picture = c.args.picture.now in
-    let text = subst (Puts _ _ _ _) (ap (λ n. title picture.name.now n (drawing_of picture.subject)) c.size.ensures.value) c.put_title.ensures in
-    Puts-then _ _ _ _ _ _ _ (Puts-then _ _ _ _ _ _ _ (Puts-then _ _ _ _ _ _ _ c.put.ensures text) c.put-2.ensures) c.put-3.ensures
+    let text =
+    subst (Puts _ _ _ _) (ap (λ n. title picture.name.now n (drawing_of picture.subject)) c.size.ensures.value)
+    c.put_title.ensures in
+    Puts-then _ _ _ _ _ _ _ (Puts-then _ _ _ _ _ _ _ (Puts-then _ _ _ _ _ _ _ c.put.ensures text) c.put-2.ensures)
+    c.put-3.ensures

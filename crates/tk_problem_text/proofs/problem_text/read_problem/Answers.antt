@@ -11,11 +11,14 @@ use Rattle.tk_problem_text.proofs.ReadNames.{name_answered}
 use Rattle.tk_problem_text.proofs.problem_text.read_problem.Goals as goal
 
 pub returns-in-Ok-clause-named : goal.returns-in-Ok-clause-named
-returns-in-Ok-clause-named g c = IfOk-weaker c.read_text.result _ _ (λ problem said. name_answered TEXT_LIMIT said.0 (problem_is problem) said.1) c.read_text.ensures.some_text
+returns-in-Ok-clause-named g c =
+    IfOk-weaker c.read_text.result _ _ (λ problem said. name_answered TEXT_LIMIT said.0 (problem_is problem) said.1)
+    c.read_text.ensures.some_text
 
 wanted : problem_decided false [] ≡ None
 unfolding decided_by judge lines cut
 wanted = refl
 
 pub returns-in-Err-clause-err : goal.returns-in-Err-clause-err
-returns-in-Err-clause-err g c = where_unread problem_decided TEXT_LIMIT (g.R.Source.left c.args.source.now) (record { undecided = wanted; within = omega arith })
+returns-in-Err-clause-err g c = where_unread problem_decided TEXT_LIMIT (g.R.Source.left c.args.source.now)
+    (record { undecided = wanted; within = omega arith })

@@ -1,4 +1,5 @@
-use Rattle.std.proofs.Common.{◌≡◌, ◌+◌, ◌<◌, ◌≤◌, ℕ, ℤ, List, [], FitsSigned, w64, pos, nat_lt, ap, sym, ◌∙◌, subst, arith, rules}
+use Rattle.std.proofs.Common.{◌≡◌, ◌+◌, ◌<◌, ◌≤◌, ℕ, ℤ, List, [], FitsSigned, w64, pos, nat_lt, ap, sym, ◌∙◌, subst}
+use Rattle.std.proofs.Common.{arith, rules}
 use Rattle.std.specs.Prelude.{if◌then◌else◌}
 use Rattle.std.proofs.lemmas.Int.{to_z-of_z}
 use mir.Val.{to_z, of_z}
@@ -28,11 +29,24 @@ loop-trial-preserved g c =
     let best_fits : FitsSigned w64 c.shortest.result = search (rules, c.shortest.type_inv) in
     let given = given_run (trial (run_of c.loop-trial.invariant.1.0) c.trial-report.ensures.next) in
     let told : ℤ → ℤ → List ℕ → Event = λ length best cities.
-    Tried (record { run = c.args.j + 1; runs = c.args.options.now.runs; trial = c.loop-trial.trial + 1; trials = c.if-size-lt8.trials; length = length; best = best }) cities in
-    let best_is : to_z w64 (of_z w64 c.shortest.result) ≡ shortest = to_z-of_z w64 c.shortest.result best_fits ∙ c.shortest.ensures ∙ ap (λ d. pos (tour_length d tried_search.best)) (given.distance ∙ c.in_ok-search.ensures.begun.table.0) in
-    let Shown : ℤ → ℤ → List ℕ → Type 0 = λ length best cities. g.W.Watch.shows c.loop-trial.watch (told length best cities) c.trial.new.self in
-    let lengths = subst (λ length. Shown length (to_z w64 (of_z w64 c.shortest.result)) c.best.result.now) (to_z-of_z w64 after fits) c.trial.ensures in
-    let shown = subst (Shown after shortest) c.best.ensures (subst (λ best. Shown after best c.best.result.now) best_is lengths) in
+    Tried (record {
+      run = c.args.j + 1;
+      runs = c.args.options.now.runs;
+      trial = c.loop-trial.trial + 1;
+      trials = c.if-size-lt8.trials;
+      length = length;
+      best = best;
+    }) cities in
+    let best_is : to_z w64 (of_z w64 c.shortest.result) ≡ shortest = to_z-of_z w64 c.shortest.result best_fits
+    ∙ c.shortest.ensures
+    ∙ ap (λ d. pos (tour_length d tried_search.best)) (given.distance ∙ c.in_ok-search.ensures.begun.table.0) in
+    let Shown : ℤ → ℤ → List ℕ → Type 0 =
+    λ length best cities. g.W.Watch.shows c.loop-trial.watch (told length best cities) c.trial.new.self in
+    let lengths = subst (λ length. Shown length (to_z w64 (of_z w64 c.shortest.result)) c.best.result.now)
+    (to_z-of_z w64 after fits) c.trial.ensures in
+    let shown =
+    subst (Shown after shortest) c.best.ensures
+    (subst (λ best. Shown after best c.best.result.now) best_is lengths) in
     (_, (tried c.loop-trial.invariant.1.0 c.trial-report.ensures.next, next c.loop-trial.invariant.1.1 shown))
 
 one_trial : (size trials : ℕ) → size < 8 → (if nat_lt size 8 then 1 else trials) ≡ 1
@@ -44,18 +58,32 @@ all_trials size trials many = search rules
 pub returns : goal.returns
 returns g c =
     let words = words_of (c.args.options.now.seed + c.args.j) in
-    let task : TourTask = task_over (g.M.Metric.size_of c.args.metric.now) (g.M.Metric.distance c.args.metric.now) c.args.options.now in
+    let task : TourTask = task_over (g.M.Metric.size_of c.args.metric.now) (g.M.Metric.distance c.args.metric.now)
+    c.args.options.now in
     let all : c.if-size-lt8.trials ≡ trials_of task =
     elim c.if-size-lt8.branch [
-      | then-size-lt8 w ↦ w.trials-is ∙ sym (one_trial task.size task.trials (omega (arith, c.size.ensures, w.if-size-lt8)))
-      | else-size-lt8 w ↦ w.trials-is ∙ sym (all_trials task.size task.trials (omega (arith, c.size.ensures, w.if-size-lt8)))
+      | then-size-lt8 w ↦ w.trials-is
+          ∙ sym (one_trial task.size task.trials (omega (arith, c.size.ensures, w.if-size-lt8)))
+      | else-size-lt8 w ↦ w.trials-is
+          ∙ sym (all_trials task.size task.trials (omega (arith, c.size.ensures, w.if-size-lt8)))
     ] in
-    let count : c.loop-trial.trial ≡ trials_of task = omega (arith, c.loop-trial-test.false, c.loop-trial.auto.trial-end, all) in
+    let count : c.loop-trial.trial ≡ trials_of task =
+    omega (arith, c.loop-trial-test.false, c.loop-trial.auto.trial-end, all) in
     let shown = c.loop-trial.invariant.0 in
     let told : ℕ → ℕ → ℤ → Searching → Event = λ trials t length search.
-    Tried (record { run = c.args.j + 1; runs = c.args.options.now.runs; trial = t + 1; trials = trials; length = length; best = pos (tour_length task.distance search.best) }) search.best in
-    let P : ℕ → ℕ → Type 0 = λ trials t. Trials (told trials) (search_of c.in_ok-search.search) words t shown (search_of c.loop-trial.search) (stream_of (steps_u32 pcg32) c.loop-trial.generator) in
-    let trials = subst (P (trials_of task)) count (subst (λ trials. P trials c.loop-trial.trial) all c.loop-trial.invariant.1.0) in (
+    Tried (record {
+      run = c.args.j + 1;
+      runs = c.args.options.now.runs;
+      trial = t + 1;
+      trials = trials;
+      length = length;
+      best = pos (tour_length task.distance search.best);
+    }) search.best in
+    let P : ℕ → ℕ → Type 0 = λ trials t. Trials (told trials) (search_of c.in_ok-search.search) words t shown
+    (search_of c.loop-trial.search) (stream_of (steps_u32 pcg32) c.loop-trial.generator) in
+    let trials =
+    subst (P (trials_of task)) count
+    (subst (λ trials. P trials c.loop-trial.trial) all c.loop-trial.invariant.1.0) in (
       shown,
       (
         record {

@@ -1,5 +1,6 @@
 -- Two lists in one order that hold the same are equal.
-use Rattle.std.proofs.Common.{◌≡◌, suc, zero, List, [], ◌∷◌, refl, sym, ap, ◌∙◌, ◌⊎◌, inl, inr, ◌↔◌, arith, ⊎_elim, subst}
+use Rattle.std.proofs.Common.{◌≡◌, suc, zero, List, [], ◌∷◌, refl, sym, ap, ◌∙◌, ◌⊎◌, inl, inr, ◌↔◌, arith, ⊎_elim}
+use Rattle.std.proofs.Common.{subst}
 use Rattle.std.specs.List.{AllPairs, Contains}
 
 module _ {A : Type 0} where
@@ -26,18 +27,25 @@ module _ {A : Type 0} (R : A → A → Type 0) (one_way : (x y : A) → R x y �
   later_order : (x : A) (xs : List A) → AllPairs R (x ∷ xs) → AllPairs R xs
   later_order x xs a = λ i j d l m. a (suc i) (suc j) d (omega (arith, l)) (omega (arith, m))
 
-  same_first : (x y : A) (xs ys : List A) → AllPairs R (x ∷ xs) → AllPairs R (y ∷ ys) → (y ≡ x) ⊎ Contains ys x → (x ≡ y) ⊎ Contains xs y → x ≡ y
+  same_first : (x y : A) (xs ys : List A) → AllPairs R (x ∷ xs) → AllPairs R (y ∷ ys) → (y ≡ x) ⊎ Contains ys x →
+      (x ≡ y) ⊎ Contains xs y → x ≡ y
   same_first x y xs ys a b h k =
-      ⊎_elim (λ w. sym w) (λ w. ⊎_elim (λ v. v) (λ v. absurd (one_way x y (before_later x y xs a v) (before_later y x ys b w))) k) h
+      ⊎_elim (λ w. sym w)
+      (λ w. ⊎_elim (λ v. v) (λ v. absurd (one_way x y (before_later x y xs a v) (before_later y x ys b w))) k) h
 
-  pub same_ordered : (xs ys : List A) → AllPairs R xs → AllPairs R ys → ((x : A) → Contains xs x ↔ Contains ys x) → xs ≡ ys
+  pub same_ordered : (xs ys : List A) → AllPairs R xs → AllPairs R ys →
+      ((x : A) → Contains xs x ↔ Contains ys x) → xs ≡ ys
   same_ordered [] [] a b m = refl
   same_ordered [] (y ∷ ys) a b m = absurd (none_held y ((m y).1 (first_held y ys)))
   same_ordered (x ∷ xs) [] a b m = absurd (none_held x ((m x).0 (first_held x xs)))
   same_ordered (x ∷ xs) (y ∷ ys) a b m =
-      let e : x ≡ y = same_first x y xs ys a b (held_cases y x ys ((m x).0 (first_held x xs))) (held_cases x y xs ((m y).1 (first_held y ys))) in
+      let e : x ≡ y =
+      same_first x y xs ys a b (held_cases y x ys ((m x).0 (first_held x xs)))
+      (held_cases x y xs ((m y).1 (first_held y ys))) in
       let rest : xs ≡ ys = same_ordered xs ys (later_order x xs a) (later_order y ys b) (λ p. (
-        λ k. ⊎_elim (λ w. absurd (not_itself x p (e ∙ w) (before_later x p xs a k))) (λ w. w) (held_cases y p ys ((m p).0 (later_held x p xs k))),
-        λ k. ⊎_elim (λ w. absurd (not_itself y p (sym e ∙ w) (before_later y p ys b k))) (λ w. w) (held_cases x p xs ((m p).1 (later_held y p ys k))),
+        λ k. ⊎_elim (λ w. absurd (not_itself x p (e ∙ w) (before_later x p xs a k))) (λ w. w)
+            (held_cases y p ys ((m p).0 (later_held x p xs k))),
+        λ k. ⊎_elim (λ w. absurd (not_itself y p (sym e ∙ w) (before_later y p ys b k))) (λ w. w)
+            (held_cases x p xs ((m p).1 (later_held y p ys k))),
       )) in
       ap (λ (z : A). z ∷ xs) e ∙ ap (λ (z : List A). y ∷ z) rest

@@ -1,5 +1,6 @@
 -- The pairs found so far.
-use Rattle.std.proofs.Common.{eqb, ◌&&◌, ◌||◌, Bool, take, ◌≡◌, ℕ, suc, zero, ◌+◌, ◌≤◌, ◌<◌, true, List, [], ◌∷◌, ◌++◌, Some, None, length, get_or, refl, sym, ap, ◌∙◌, ◌⊎◌, inl, inr, arith, ⊎_elim, subst}
+use Rattle.std.proofs.Common.{eqb, ◌&&◌, ◌||◌, Bool, take, ◌≡◌, ℕ, suc, zero, ◌+◌, ◌≤◌, ◌<◌, true, List, [], ◌∷◌, ◌++◌}
+use Rattle.std.proofs.Common.{Some, None, length, get_or, refl, sym, ap, ◌∙◌, ◌⊎◌, inl, inr, arith, ⊎_elim, subst}
 use Rattle.std.proofs.Math.Bool.{or-false, or_assoc}
 use Rattle.std.specs.List.{Contains}
 use Rattle.std.specs.List.Sorted.{IsPermutation}
@@ -7,7 +8,8 @@ use Rattle.std.proofs.lemmas.List.Sorted.{Contains-permutation, IsPermutation-sy
 use Rattle.std.specs.Ordering.{nat_cmp, ordering_then}
 use Rattle.std.specs.declared.cmp.Ordering.TheVariants.{Less, Greater}
 use Rattle.std.proofs.lemmas.List.Elements.{Contains-append_left, Contains-append_cases, Contains-append_right}
-use Rattle.std.proofs.lemmas.Bool.{eqb-true, eq-eqb, or_cases, or_left, or_right, both_ways, cases_lt, cases_order, le-ltb, ne_eqb, and_parts}
+use Rattle.std.proofs.lemmas.Bool.{eqb-true, eq-eqb, or_cases, or_left, or_right, both_ways, cases_lt, cases_order}
+use Rattle.std.proofs.lemmas.Bool.{le-ltb, ne_eqb, and_parts}
 use Rattle.std.proofs.lemmas.Bool.Decides.{nat_tests}
 use Rattle.std.specs.declared.cmp.Ordering.{Ordering}
 use Rattle.tk_starts.specs.Holding.{holds}
@@ -19,14 +21,17 @@ holds-at [] k h = absurd (omega (arith, h))
 holds-at (x ∷ xs) zero h = or_left _ _ (eq-eqb x x refl)
 holds-at (x ∷ xs) (suc k) h = or_right _ _ (holds-at xs k (omega (arith, h)))
 
-holds-suc : (xs : List ℕ) (k b : ℕ) → k < length xs → holds (take (suc k) xs) b ≡ (holds (take k xs) b || eqb (get_or xs k 0) b)
+holds-suc : (xs : List ℕ) (k b : ℕ) → k < length xs →
+    holds (take (suc k) xs) b ≡ (holds (take k xs) b || eqb (get_or xs k 0) b)
 holds-suc [] k b h = absurd (omega (arith, h))
 holds-suc (x ∷ xs) zero b h = or-false (eqb x b)
 holds-suc (x ∷ xs) (suc k) b h =
-    ap (λ (v : Bool). eqb x b || v) (holds-suc xs k b (omega (arith, h))) ∙ sym (or_assoc (eqb x b) (holds (take k xs) b) (eqb (get_or xs k 0) b))
+    ap (λ (v : Bool). eqb x b || v) (holds-suc xs k b (omega (arith, h)))
+    ∙ sym (or_assoc (eqb x b) (holds (take k xs) b) (eqb (get_or xs k 0) b))
 
 -- what one more place makes of a list's beginning
-pub holds-next : (xs : List ℕ) (k b : ℕ) → k < length xs → holds (take (k + 1) xs) b ≡ (holds (take k xs) b || eqb (get_or xs k 0) b)
+pub holds-next : (xs : List ℕ) (k b : ℕ) → k < length xs →
+    holds (take (k + 1) xs) b ≡ (holds (take k xs) b || eqb (get_or xs k 0) b)
 holds-next xs k b h =
     let more : suc k ≡ k + 1 = omega arith in
     subst (λ (j : ℕ). holds (take j xs) b ≡ (holds (take k xs) b || eqb (get_or xs k 0) b)) more (holds-suc xs k b h)
@@ -34,17 +39,22 @@ holds-next xs k b h =
 pub place : (xs : List ℕ) (b : ℕ) → holds xs b ≡ true → (k : ℕ) × (k < length xs) × (get_or xs k 0 ≡ b)
 place [] b h = absurd (both_ways _ refl h)
 place (x ∷ xs) b h =
-    ⊎_elim (λ k. (0, omega arith, eqb-true x b k)) (λ k. let p = place xs b k in (suc p.0, omega (arith, p.1), p.2)) (or_cases _ _ h)
+    ⊎_elim (λ k. (0, omega arith, eqb-true x b k)) (λ k. let p = place xs b k in (suc p.0, omega (arith, p.1), p.2))
+    (or_cases _ _ h)
 
 pub only_one : {X : Type 0} (q p : X) → Contains (q ∷ []) p → q ≡ p
 only_one q p (zero, h, e) = e
 only_one q p (suc k, h, e) = absurd (omega (arith, h))
 
-pub near_one : (dist : ℕ → ℕ → ℕ) (near : ℕ → List ℕ) (n hub c d : ℕ) (p : Pair) → IsPair dist n hub p → IsOf c d p → holds (near c) d ≡ true → IsCandidate dist near n hub p
+pub near_one : (dist : ℕ → ℕ → ℕ) (near : ℕ → List ℕ) (n hub c d : ℕ) (p : Pair) → IsPair dist n hub p → IsOf c d p →
+    holds (near c) d ≡ true → IsCandidate dist near n hub p
 near_one dist near n hub c d p h o m = (
   h,
-  ⊎_elim (λ k. inl (subst (λ (x : ℕ). holds (near x) p.j ≡ true) (sym k.0) (subst (λ (x : ℕ). holds (near c) x ≡ true) (sym k.1) m)))
-      (λ k. inr (subst (λ (x : ℕ). holds (near x) p.i ≡ true) (sym k.1) (subst (λ (x : ℕ). holds (near c) x ≡ true) (sym k.0) m))) o,
+  ⊎_elim (λ k. inl
+      (subst (λ (x : ℕ). holds (near x) p.j ≡ true) (sym k.0) (subst (λ (x : ℕ). holds (near c) x ≡ true) (sym k.1) m)))
+      (λ k. inr
+      (subst (λ (x : ℕ). holds (near x) p.i ≡ true) (sym k.1)
+      (subst (λ (x : ℕ). holds (near c) x ≡ true) (sym k.0) m))) o,
 )
 
 pub last_one : {X : Type 0} (xs : List X) (q p : X) → q ≡ p → Contains (xs ++ q ∷ []) p
@@ -58,60 +68,83 @@ Sound dist near n hub pairs = (p : Pair) → Contains pairs p → IsCandidate di
 
 -- the pairs of the cities before c with their near ones
 abbrev pub Earlier : (ℕ → ℕ → ℕ) → (ℕ → List ℕ) → ℕ → ℕ → ℕ → List Pair → Type 0
-Earlier dist near n hub c pairs = (p : Pair) → IsPair dist n hub p → (a b : ℕ) → IsOf a b p → a < c → holds (near a) b ≡ true → Contains pairs p
+Earlier dist near n hub c pairs = (p : Pair) → IsPair dist n hub p → (a b : ℕ) → IsOf a b p → a < c →
+    holds (near a) b ≡ true → Contains pairs p
 
 -- the pairs of c with the first m of its near ones
 abbrev pub Here : (ℕ → ℕ → ℕ) → ℕ → ℕ → ℕ → List ℕ → ℕ → List Pair → Type 0
-Here dist n hub c items m pairs = (p : Pair) → IsPair dist n hub p → (k : ℕ) → k < m → IsOf c (get_or items k 0) p → Contains pairs p
+Here dist n hub c items m pairs = (p : Pair) → IsPair dist n hub p → (k : ℕ) → k < m → IsOf c (get_or items k 0) p →
+    Contains pairs p
 
-pub sound_more : (dist : ℕ → ℕ → ℕ) (near : ℕ → List ℕ) (n hub c d : ℕ) (pairs pairs' : List Pair) (q : Pair) → IsPermutation (pairs ++ q ∷ []) pairs' →
-    Sound dist near n hub pairs → IsPair dist n hub q × IsOf c d q → holds (near c) d ≡ true → Sound dist near n hub pairs'
+pub sound_more : (dist : ℕ → ℕ → ℕ) (near : ℕ → List ℕ) (n hub c d : ℕ) (pairs pairs' : List Pair) (q : Pair) →
+    IsPermutation (pairs ++ q ∷ []) pairs' →
+    Sound dist near n hub pairs → IsPair dist n hub q × IsOf c d q → holds (near c) d ≡ true →
+    Sound dist near n hub pairs'
 sound_more dist near n hub c d pairs pairs' q e s h m p k =
-    ⊎_elim (s p) (λ w. subst (λ (x : Pair). IsCandidate dist near n hub x) (only_one q p w) (near_one dist near n hub c d q h.0 h.1 m))
+    ⊎_elim (s p)
+    (λ w. subst (λ (x : Pair). IsCandidate dist near n hub x) (only_one q p w)
+    (near_one dist near n hub c d q h.0 h.1 m))
     (Contains-append_cases pairs (q ∷ []) p (Contains-permutation _ _ p (IsPermutation-sym _ _ e) k))
 
-pub kept : (pairs pairs' : List Pair) (q p : Pair) → IsPermutation (pairs ++ q ∷ []) pairs' → Contains pairs p → Contains pairs' p
+pub kept : (pairs pairs' : List Pair) (q p : Pair) → IsPermutation (pairs ++ q ∷ []) pairs' → Contains pairs p →
+    Contains pairs' p
 kept pairs pairs' q p e k = Contains-permutation _ _ p e (Contains-append_left pairs (q ∷ []) p k)
 
-pub here_more : (dist : ℕ → ℕ → ℕ) (n hub c : ℕ) (items : List ℕ) (m : ℕ) (pairs pairs' : List Pair) (q : Pair) → IsPermutation (pairs ++ q ∷ []) pairs' →
-    Here dist n hub c items m pairs → ((p : Pair) → IsPair dist n hub p → IsOf c (get_or items m 0) p → Some q ≡ Some p) → Here dist n hub c items (m + 1) pairs'
+pub here_more : (dist : ℕ → ℕ → ℕ) (n hub c : ℕ) (items : List ℕ) (m : ℕ) (pairs pairs' : List Pair) (q : Pair) →
+    IsPermutation (pairs ++ q ∷ []) pairs' →
+    Here dist n hub c items m pairs →
+    ((p : Pair) → IsPair dist n hub p → IsOf c (get_or items m 0) p → Some q ≡ Some p) →
+    Here dist n hub c items (m + 1) pairs'
 here_more dist n hub c items m pairs pairs' q e s all p h k l o =
     ⊎_elim
     (λ w. kept pairs pairs' q p e (s p h k w o))
     (λ w. let t : k ≡ m = omega (arith, l, w) in
-    Contains-permutation _ _ p e (last_one pairs q p (some_same q p (all p h (subst (λ (x : ℕ). IsOf c (get_or items x 0) p) t o)))))
+    Contains-permutation _ _ p e
+    (last_one pairs q p (some_same q p (all p h (subst (λ (x : ℕ). IsOf c (get_or items x 0) p) t o)))))
     (cases_lt k m)
 
 pub here_same : (dist : ℕ → ℕ → ℕ) (n hub c : ℕ) (items : List ℕ) (m : ℕ) (pairs : List Pair) →
-    Here dist n hub c items m pairs → ((p : Pair) → IsPair dist n hub p → IsOf c (get_or items m 0) p → ⊥) → Here dist n hub c items (m + 1) pairs
+    Here dist n hub c items m pairs → ((p : Pair) → IsPair dist n hub p → IsOf c (get_or items m 0) p → ⊥) →
+    Here dist n hub c items (m + 1) pairs
 here_same dist n hub c items m pairs s never p h k l o =
     ⊎_elim
     (λ w. s p h k w o)
-    (λ w. let t : k ≡ m = omega (arith, l, w) in absurd (never p h (subst (λ (x : ℕ). IsOf c (get_or items x 0) p) t o)))
+    (λ w. let t : k ≡ m = omega (
+      arith,
+      l,
+      w,
+    ) in absurd (never p h (subst (λ (x : ℕ). IsOf c (get_or items x 0) p) t o)))
     (cases_lt k m)
 
 -- the pair of c and an earlier city that has c near it was found there
 pub here_found : (dist : ℕ → ℕ → ℕ) (near : ℕ → List ℕ) (n hub c : ℕ) (items : List ℕ) (m : ℕ) (pairs : List Pair) →
-    Earlier dist near n hub c pairs → Here dist n hub c items m pairs → get_or items m 0 < c → holds (near (get_or items m 0)) c ≡ true → Here dist n hub c items (m + 1) pairs
+    Earlier dist near n hub c pairs → Here dist n hub c items m pairs → get_or items m 0 < c →
+    holds (near (get_or items m 0)) c ≡ true → Here dist n hub c items (m + 1) pairs
 here_found dist near n hub c items m pairs s here before held p h k l o =
     ⊎_elim
     (λ w. here p h k w o)
     (λ w. let t : k ≡ m = omega (arith, l, w) in
-    s p h (get_or items m 0) c (⊎_elim (λ u. inr u) (λ u. inl u) (subst (λ (x : ℕ). IsOf c (get_or items x 0) p) t o)) before held)
+    s p h (get_or items m 0) c
+    (⊎_elim (λ u. inr u) (λ u. inl u) (subst (λ (x : ℕ). IsOf c (get_or items x 0) p) t o)) before held)
     (cases_lt k m)
 
-pub earlier_more : (dist : ℕ → ℕ → ℕ) (near : ℕ → List ℕ) (n hub c : ℕ) (items : List ℕ) (m : ℕ) (pairs : List Pair) → items ≡ near c → length items ≤ m →
+pub earlier_more : (dist : ℕ → ℕ → ℕ) (near : ℕ → List ℕ) (n hub c : ℕ) (items : List ℕ) (m : ℕ) (pairs : List Pair) →
+    items ≡ near c → length items ≤ m →
     Earlier dist near n hub c pairs → Here dist n hub c items m pairs → Earlier dist near n hub (c + 1) pairs
 earlier_more dist near n hub c items m pairs e len s here p h a b o l k =
     ⊎_elim
     (λ w. s p h a b o w k)
     (λ w.
     let t : a ≡ c = omega (arith, l, w) in
-    let v = place items b (subst (λ (x : List ℕ). holds x b ≡ true) (sym e) (subst (λ (x : ℕ). holds (near x) b ≡ true) t k)) in
-    here p h v.0 (omega (arith, v.1, len)) (subst (λ (x : ℕ). IsOf c x p) (sym v.2) (subst (λ (x : ℕ). IsOf x b p) t o)))
+    let v =
+    place items b
+    (subst (λ (x : List ℕ). holds x b ≡ true) (sym e) (subst (λ (x : ℕ). holds (near x) b ≡ true) t k)) in
+    here p h v.0 (omega (arith, v.1, len))
+    (subst (λ (x : ℕ). IsOf c x p) (sym v.2) (subst (λ (x : ℕ). IsOf x b p) t o)))
     (cases_lt a c)
 
-pub all_found : (dist : ℕ → ℕ → ℕ) (near : ℕ → List ℕ) (n hub c : ℕ) (pairs : List Pair) (p : Pair) → n < c → Earlier dist near n hub c pairs → IsCandidate dist near n hub p → Contains pairs p
+pub all_found : (dist : ℕ → ℕ → ℕ) (near : ℕ → List ℕ) (n hub c : ℕ) (pairs : List Pair) (p : Pair) → n < c →
+    Earlier dist near n hub c pairs → IsCandidate dist near n hub p → Contains pairs p
 all_found dist near n hub c pairs p l s h =
     ⊎_elim
     (λ k. s p h.0 p.i p.j (inl (refl, refl)) (omega (arith, l, h.0.first.0.1)) k)
@@ -137,7 +170,9 @@ nat_less a b o h =
     (λ k. ⊎_elim (λ l. inl l) (λ l. absurd (no_greater (sym (cmp_greater a b l o) ∙ h))) k)
     (cases_order a b)
 
-pub Before-from_less : (p q : Pair) → ordering_then (nat_cmp q.saving.0 p.saving.0) (ordering_then (nat_cmp p.i q.i) (nat_cmp p.j q.j)) ≡ Less → Before p q
+pub Before-from_less : (p q : Pair) →
+    ordering_then (nat_cmp q.saving.0 p.saving.0) (ordering_then (nat_cmp p.i q.i) (nat_cmp p.j q.j)) ≡ Less →
+    Before p q
 Before-from_less p q h =
     ⊎_elim (λ k. inl k)
     (λ k. inr (sym k.0, ⊎_elim (λ l. inl l) (λ l. inr (l.0, nat_less_last p.j q.j l.1)) (nat_less p.i q.i _ k.1)))
@@ -154,4 +189,6 @@ unfolding pair_made
 same_pair x y h =
     let a = and_parts _ _ h in
     let b = and_parts _ _ a.1 in
-    ap (λ (s : ℕ). pair_made s x.i x.j) (eqb-true _ _ a.0) ∙ (ap (λ (i : ℕ). pair_made y.saving.0 i x.j) (eqb-true _ _ b.0) ∙ ap (λ (j : ℕ). pair_made y.saving.0 y.i j) (eqb-true _ _ b.1))
+    ap (λ (s : ℕ). pair_made s x.i x.j) (eqb-true _ _ a.0)
+    ∙ (ap (λ (i : ℕ). pair_made y.saving.0 i x.j) (eqb-true _ _ b.0)
+    ∙ ap (λ (j : ℕ). pair_made y.saving.0 y.i j) (eqb-true _ _ b.1))

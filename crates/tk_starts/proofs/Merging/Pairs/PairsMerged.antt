@@ -1,6 +1,9 @@
 -- The loop over the pairs: how it begins, and its step.
-use Rattle.std.proofs.Common.{drop, get_or, length, ◌≡◌, ◌≢◌, ℕ, suc, zero, ◌+◌, ◌-◌, ◌≤◌, ◌<◌, Bool, true, false, ◌||◌, ◌&&◌, not, eqb, leb, List, [], ◌∷◌, refl, sym, ap, ◌∙◌, ◌⊎◌, inl, inr, arith, ⊎_elim, subst}
-use Rattle.std.proofs.lemmas.Bool.{eqb-true, eq-eqb, ne_eqb, or_cases, or_left, both_ways, cases_eq, cond-true, cond-false, leb-true, and_parts, not-true}
+use Rattle.std.proofs.Common.{drop, get_or, length, ◌≡◌, ◌≢◌, ℕ, suc, zero, ◌+◌, ◌-◌, ◌≤◌, ◌<◌, Bool, true, false, ◌||◌}
+use Rattle.std.proofs.Common.{◌&&◌, not, eqb, leb, List, [], ◌∷◌, refl, sym, ap, ◌∙◌, ◌⊎◌, inl, inr, arith, ⊎_elim}
+use Rattle.std.proofs.Common.{subst}
+use Rattle.std.proofs.lemmas.Bool.{eqb-true, eq-eqb, ne_eqb, or_cases, or_left, both_ways, cases_eq, cond-true}
+use Rattle.std.proofs.lemmas.Bool.{cond-false, leb-true, and_parts, not-true}
 use Rattle.tk_distance.specs.Cities.{IsCity}
 use Rattle.tk_starts.specs.Joints.{part, part_load, joints_at, may_join, joints, IsChain}
 use Rattle.tk_starts.specs.PathEnds.{Follows, IsLinked, IsEnd, AreEnds, IsSetAt, IsWithin}
@@ -21,8 +24,10 @@ unfolding part_load part
 part_load-single load zero c a b = absurd (omega (arith, a, b))
 part_load-single load (suc n) c a b =
     ⊎_elim
-    (λ (e : suc n ≡ c). let none = part_load-none load n c (omega (arith, e)) in rw (eq-eqb (suc n) c e, none, ap load e) (omega arith))
-    (λ (e : suc n ≢ c). let ih = part_load-single load n c a (omega (arith, b, e)) in rw (ne_eqb (suc n) c e) (omega (arith, ih)))
+    (λ (e : suc n ≡ c). let none = part_load-none load n c (omega (arith, e)) in
+    rw (eq-eqb (suc n) c e, none, ap load e) (omega arith))
+    (λ (e : suc n ≢ c). let ih = part_load-single load n c a (omega (arith, b, e)) in
+    rw (ne_eqb (suc n) c e) (omega (arith, ih)))
     (cases_eq (suc n) c)
 
 pub part-none : (c : ℕ) → part [] c ≡ c
@@ -30,7 +35,9 @@ unfolding part
 part-none c = refl
 
 -- each city by itself
-pub AreEnds-single : (n : ℕ) (load : ℕ → ℕ) (one two other weight : ℕ → ℕ) → ((c : ℕ) → IsCity n c → (one c ≡ 0) × (two c ≡ 0) × (other c ≡ c) × (weight c ≡ load c)) → AreEnds n load [] one two other weight
+pub AreEnds-single : (n : ℕ) (load : ℕ → ℕ) (one two other weight : ℕ → ℕ) →
+    ((c : ℕ) → IsCity n c → (one c ≡ 0) × (two c ≡ 0) × (other c ≡ c) × (weight c ≡ load c)) →
+    AreEnds n load [] one two other weight
 unfolding joints_at part IsChain Follows
 AreEnds-single n load one two other weight s = record {
   degree = λ c r. let t = s c r in rw (t.0, t.1);
@@ -40,8 +47,13 @@ AreEnds-single n load one two other weight s = record {
       last = sym (s c r).2;
       chain = tt;
       distinct = (refl, tt);
-      whole = λ b. (λ k. ⊎_elim (λ w. sym (eqb-true c b w)) (λ w. absurd (both_ways _ refl w)) (or_cases _ _ k), λ k. or_left _ _ (eq-eqb c b (sym k)));
-      inside = λ b k. ⊎_elim (λ w. subst (λ (x : ℕ). IsCity n x) (eqb-true c b w) r) (λ w. absurd (both_ways _ refl w)) (or_cases _ _ k);
+      whole =
+          λ b. (
+            λ k. ⊎_elim (λ w. sym (eqb-true c b w)) (λ w. absurd (both_ways _ refl w)) (or_cases _ _ k),
+            λ k. or_left _ _ (eq-eqb c b (sym k)),
+          );
+      inside = λ b k. ⊎_elim (λ w. subst (λ (x : ℕ). IsCity n x) (eqb-true c b w) r) (λ w. absurd (both_ways _ refl w))
+          (or_cases _ _ k);
       follows = inl ((s c r).0, (s c r).1);
     },
   );
@@ -52,14 +64,18 @@ AreEnds-single n load one two other weight s = record {
 }
 
 -- a pair that is taken
-pub joints-taken : (load : ℕ → ℕ) (n capacity : ℕ) (E : List Pair) (p : Pair) (pairs : List Pair) → may_join load n capacity E p ≡ true → joints load n capacity E (p ∷ pairs) ≡ joints load n capacity (p ∷ E) pairs
+pub joints-taken : (load : ℕ → ℕ) (n capacity : ℕ) (E : List Pair) (p : Pair) (pairs : List Pair) →
+    may_join load n capacity E p ≡ true → joints load n capacity E (p ∷ pairs) ≡ joints load n capacity (p ∷ E) pairs
 unfolding joints
-joints-taken load n capacity E p pairs h = ap (λ (x : List Pair). joints load n capacity x pairs) (cond-true _ (p ∷ E) E h)
+joints-taken load n capacity E p pairs h =
+    ap (λ (x : List Pair). joints load n capacity x pairs) (cond-true _ (p ∷ E) E h)
 
 -- a pair that is left
-pub joints-left : (load : ℕ → ℕ) (n capacity : ℕ) (E : List Pair) (p : Pair) (pairs : List Pair) → may_join load n capacity E p ≡ false → joints load n capacity E (p ∷ pairs) ≡ joints load n capacity E pairs
+pub joints-left : (load : ℕ → ℕ) (n capacity : ℕ) (E : List Pair) (p : Pair) (pairs : List Pair) →
+    may_join load n capacity E p ≡ false → joints load n capacity E (p ∷ pairs) ≡ joints load n capacity E pairs
 unfolding joints
-joints-left load n capacity E p pairs h = ap (λ (x : List Pair). joints load n capacity x pairs) (cond-false _ (p ∷ E) E h)
+joints-left load n capacity E p pairs h =
+    ap (λ (x : List Pair). joints load n capacity x pairs) (cond-false _ (p ∷ E) E h)
 
 pub joints-none : (load : ℕ → ℕ) (n capacity : ℕ) (E : List Pair) → joints load n capacity E [] ≡ E
 unfolding joints
@@ -76,8 +92,11 @@ pub record IsTaken (n : ℕ) (E : List Pair) (one two other weight : ℕ → ℕ
 is_end-from : (p q : ℕ) → (eqb p 0 || eqb q 0) ≡ true → (p ≡ 0) ⊎ (q ≡ 0)
 is_end-from p q h = ⊎_elim (λ k. inl (eqb-true p 0 k)) (λ k. inr (eqb-true q 0 k)) (or_cases _ _ h)
 
-pub IsTaken-from : (n : ℕ) (load : ℕ → ℕ) (E : List Pair) (one two other weight : ℕ → ℕ) → AreEnds n load E one two other weight → (p : Pair) → IsCity n p.i → IsCity n p.j → p.i ≢ p.j → (capacity : ℕ) →
-    ((eqb (one p.i) 0 || eqb (two p.i) 0) && (eqb (one p.j) 0 || eqb (two p.j) 0) && not (eqb (other p.i) p.j) && leb (weight p.j) capacity && leb (weight p.i) (capacity - weight p.j)) ≡ true → IsTaken n E one two other weight capacity p
+pub IsTaken-from : (n : ℕ) (load : ℕ → ℕ) (E : List Pair) (one two other weight : ℕ → ℕ) →
+    AreEnds n load E one two other weight → (p : Pair) → IsCity n p.i → IsCity n p.j → p.i ≢ p.j → (capacity : ℕ) →
+    ((eqb (one p.i) 0 || eqb (two p.i) 0) && (eqb (one p.j) 0 || eqb (two p.j) 0) && not (eqb (other p.i) p.j)
+    && leb (weight p.j) capacity && leb (weight p.i) (capacity - weight p.j)) ≡ true →
+    IsTaken n E one two other weight capacity p
 IsTaken-from n load E one two other weight s p ri rj ne capacity h =
     let a = and_parts _ _ h in
     let b = and_parts _ _ a.0 in
@@ -87,7 +106,9 @@ IsTaken-from n load E one two other weight s p ri rj ne capacity h =
     let hj = is_end-from _ _ f.1 in
     let oi = other_end n load E one two other weight s p.i ri hi in
     let oj = other_end n load E one two other weight s p.j rj hj in
-    let ap' : part E p.i ≢ part E p.j = λ k. both_ways _ (not-true _ (sym (apart_test n load E one two other weight s p.i p.j ri rj ne hi hj) ∙ d.1)) (eq-eqb _ _ k) in
+    let ap' : part E p.i ≢ part E p.j =
+    λ k. both_ways _ (not-true _ (sym (apart_test n load E one two other weight s p.i p.j ri rj ne hi hj) ∙ d.1))
+    (eq-eqb _ _ k) in
     record {
       first = hi;
       second = hj;
@@ -99,18 +120,22 @@ IsTaken-from n load E one two other weight s p ri rj ne capacity h =
 -- the test of the arrays, at a pair
 abbrev pub test_at : (one two other weight : ℕ → ℕ) → ℕ → Pair → Bool
 test_at one two other weight capacity p =
-    (eqb (one p.i) 0 || eqb (two p.i) 0) && (eqb (one p.j) 0 || eqb (two p.j) 0) && not (eqb (other p.i) p.j) && leb (weight p.j) capacity && leb (weight p.i) (capacity - weight p.j)
+    (eqb (one p.i) 0 || eqb (two p.i) 0) && (eqb (one p.j) 0 || eqb (two p.j) 0) && not (eqb (other p.i) p.j)
+    && leb (weight p.j) capacity && leb (weight p.i) (capacity - weight p.j)
 
 -- the joints of what is left of the pairs, and the arrays of those made
 abbrev pub Going : ℕ → (ℕ → ℕ) → ℕ → List Pair → ℕ → (one two other weight : ℕ → ℕ) → Type 0
 Going n load capacity pairs k one two other weight =
-    (E : List Pair) × (joints load n capacity E (drop k pairs) ≡ joints load n capacity [] pairs) × AreEnds n load E one two other weight
+    (E : List Pair) × (joints load n capacity E (drop k pairs) ≡ joints load n capacity [] pairs)
+    × AreEnds n load E one two other weight
 
 -- what is left, from the pair at k on
-at_next : (pairs : List Pair) (k : ℕ) (p : Pair) → k < length pairs → p ≡ get_or pairs k p → drop k pairs ≡ p ∷ drop (k + 1) pairs
+at_next : (pairs : List Pair) (k : ℕ) (p : Pair) → k < length pairs → p ≡ get_or pairs k p →
+    drop k pairs ≡ p ∷ drop (k + 1) pairs
 at_next pairs k p l is = drop_more pairs k p l ∙ ap (λ (x : Pair). x ∷ drop (k + 1) pairs) (sym is)
 
-pub taken_step : (n : ℕ) (load : ℕ → ℕ) (capacity : ℕ) (pairs : List Pair) (k : ℕ) (p : Pair) (one two other weight one' two' other' weight' : ℕ → ℕ) → k < length pairs → p ≡ get_or pairs k p →
+pub taken_step : (n : ℕ) (load : ℕ → ℕ) (capacity : ℕ) (pairs : List Pair) (k : ℕ) (p : Pair)
+    (one two other weight one' two' other' weight' : ℕ → ℕ) → k < length pairs → p ≡ get_or pairs k p →
     IsWithin n p → true ≡ test_at one two other weight capacity p →
     IsLinked p.i p.j one two one' two' →
     IsSetAt (other p.i) (other p.j) (other p.j) (other p.i) other other' →
@@ -123,10 +148,20 @@ taken_step n load capacity pairs k p one two other weight one' two' other' weigh
     let e = joints-taken load n capacity g.0 p (drop (k + 1) pairs) (sym u ∙ sym t) in (
       p ∷ g.0,
       sym e ∙ (ap (joints load n capacity g.0) (sym (at_next pairs k p l is)) ∙ g.1),
-      AreEnds-joined n load g.0 p one two other weight one' two' other' weight' (record { ends = s; first = (w.0, v.first); second = (w.1, v.second); apart = v.apart; linked = a; far = b; heavy = c }),
+      AreEnds-joined n load g.0 p one two other weight one' two' other' weight'
+          (record {
+            ends = s;
+            first = (w.0, v.first);
+            second = (w.1, v.second);
+            apart = v.apart;
+            linked = a;
+            far = b;
+            heavy = c;
+          }),
     )
 
-pub left_step : (n : ℕ) (load : ℕ → ℕ) (capacity : ℕ) (pairs : List Pair) (k : ℕ) (p : Pair) (one two other weight : ℕ → ℕ) → k < length pairs → p ≡ get_or pairs k p →
+pub left_step : (n : ℕ) (load : ℕ → ℕ) (capacity : ℕ) (pairs : List Pair) (k : ℕ) (p : Pair)
+    (one two other weight : ℕ → ℕ) → k < length pairs → p ≡ get_or pairs k p →
     IsWithin n p → false ≡ test_at one two other weight capacity p →
     Going n load capacity pairs k one two other weight → Going n load capacity pairs (k + 1) one two other weight
 left_step n load capacity pairs k p one two other weight l is w t g =
@@ -134,8 +169,10 @@ left_step n load capacity pairs k p one two other weight l is w t g =
     let e = joints-left load n capacity g.0 p (drop (k + 1) pairs) (sym u ∙ sym t) in
     (g.0, sym e ∙ (ap (joints load n capacity g.0) (sym (at_next pairs k p l is)) ∙ g.1), g.2)
 
-pub going_ends : (n : ℕ) (load : ℕ → ℕ) (capacity : ℕ) (pairs : List Pair) (k : ℕ) (one two other weight : ℕ → ℕ) → length pairs ≤ k → Going n load capacity pairs k one two other weight →
+pub going_ends : (n : ℕ) (load : ℕ → ℕ) (capacity : ℕ) (pairs : List Pair) (k : ℕ) (one two other weight : ℕ → ℕ) →
+    length pairs ≤ k → Going n load capacity pairs k one two other weight →
     AreEnds n load (joints load n capacity [] pairs) one two other weight
 going_ends n load capacity pairs k one two other weight l g =
     let e : drop k pairs ≡ [] = drop_all k pairs l in
-    subst (λ (E : List Pair). AreEnds n load E one two other weight) (sym (joints-none load n capacity g.0) ∙ (ap (joints load n capacity g.0) (sym e) ∙ g.1)) g.2
+    subst (λ (E : List Pair). AreEnds n load E one two other weight) (sym (joints-none load n capacity g.0)
+    ∙ (ap (joints load n capacity g.0) (sym e) ∙ g.1)) g.2

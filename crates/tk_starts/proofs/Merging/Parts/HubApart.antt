@@ -1,5 +1,6 @@
 -- No joint touches the hub.
-use Rattle.std.proofs.Common.{take, map, ◌++◌, ◌≡◌, ◌≢◌, ℕ, suc, ◌≤◌, List, [], ◌∷◌, length, get_or, refl, sym, ap, ◌∙◌, arith, subst}
+use Rattle.std.proofs.Common.{take, map, ◌++◌, ◌≡◌, ◌≢◌, ℕ, suc, ◌≤◌, List, [], ◌∷◌, length, get_or, refl, sym, ap, ◌∙◌}
+use Rattle.std.proofs.Common.{arith, subst}
 use Rattle.std.specs.List.{All, Contains, flat_map}
 use Rattle.std.proofs.lemmas.Bool.{cond_both}
 use Rattle.std.proofs.lemmas.List.Elements.{All-contains_itself}
@@ -12,45 +13,62 @@ use Rattle.tk_starts.specs.SavingsMerges.{AreSavingsLists}
 use Rattle.tk_starts.specs.declared.merges.pairs.Pair.{Pair}
 use Rattle.tk_starts.proofs.Merging.Paths.EndsJoined.{joints_at-no}
 
-joints_apart : (load : ℕ → ℕ) (n capacity hub : ℕ) (pairs E : List Pair) → joints_at E hub ≡ 0 → ((p : Pair) → Contains pairs p → (hub ≢ p.i) × (hub ≢ p.j)) → joints_at (joints load n capacity E pairs) hub ≡ 0
+joints_apart : (load : ℕ → ℕ) (n capacity hub : ℕ) (pairs E : List Pair) → joints_at E hub ≡ 0 →
+    ((p : Pair) → Contains pairs p → (hub ≢ p.i) × (hub ≢ p.j)) → joints_at (joints load n capacity E pairs) hub ≡ 0
 unfolding joints
 joints_apart load n capacity hub [] E h k = h
 joints_apart load n capacity hub (p ∷ pairs) E h k =
     let a = k p (0, omega arith, refl) in
     joints_apart load n capacity hub pairs _
-    (cond_both (may_join load n capacity E p) (p ∷ E) E (λ (x : List Pair). joints_at x hub ≡ 0) (λ _. joints_at-no E p hub a.0 a.1 ∙ h) (λ _. h))
+    (cond_both (may_join load n capacity E p) (p ∷ E) E (λ (x : List Pair). joints_at x hub ≡ 0)
+    (λ _. joints_at-no E p hub a.0 a.1 ∙ h) (λ _. h))
     (λ q c. k q (suc c.0, omega (arith, c.1), c.2))
 
 joints_at-none : (c : ℕ) → joints_at [] c ≡ 0
 unfolding joints_at
 joints_at-none c = refl
 
-pub hub_apart : (dist : ℕ → ℕ → ℕ) (near : ℕ → List ℕ) (n hub : ℕ) (pairs : List Pair) (load : ℕ → ℕ) (capacity : ℕ) → AreCandidates dist near n hub pairs → joints_at (joints load n capacity [] pairs) hub ≡ 0
+pub hub_apart : (dist : ℕ → ℕ → ℕ) (near : ℕ → List ℕ) (n hub : ℕ) (pairs : List Pair) (load : ℕ → ℕ) (capacity : ℕ) →
+    AreCandidates dist near n hub pairs → joints_at (joints load n capacity [] pairs) hub ≡ 0
 hub_apart dist near n hub pairs load capacity a =
-    joints_apart load n capacity hub pairs [] (joints_at-none hub) (λ p c. let h = ((a.all p).0 c).0 in (λ e. h.first.1 (sym e), λ e. h.second.1 (sym e)))
+    joints_apart load n capacity hub pairs [] (joints_at-none hub) (λ p c. let h = ((a.all p).0 c).0 in
+    (λ e. h.first.1 (sym e), λ e. h.second.1 (sym e)))
 
-pub all_within : (dist : ℕ → ℕ → ℕ) (near : ℕ → List ℕ) (n hub m : ℕ) (pairs : List Pair) → m ≡ n → AreCandidates dist near n hub pairs → All (IsWithin m) pairs
+pub all_within : (dist : ℕ → ℕ → ℕ) (near : ℕ → List ℕ) (n hub m : ℕ) (pairs : List Pair) → m ≡ n →
+    AreCandidates dist near n hub pairs → All (IsWithin m) pairs
 all_within dist near n hub m pairs e a k d l =
-    let h = ((a.all _).0 (All-contains_itself pairs k d l)).0 in
-    (subst (λ (x : ℕ). IsCity x (get_or pairs k d).i) (sym e) h.first.0, subst (λ (x : ℕ). IsCity x (get_or pairs k d).j) (sym e) h.second.0, λ w. omega (arith, w, h.rising))
+    let h = ((a.all _).0 (All-contains_itself pairs k d l)).0 in (
+      subst (λ (x : ℕ). IsCity x (get_or pairs k d).i) (sym e) h.first.0,
+      subst (λ (x : ℕ). IsCity x (get_or pairs k d).j) (sym e) h.second.0,
+      λ w. omega (arith, w, h.rising),
+    )
 
 pub flat_map-map : {X : Type 0} (f : X → List ℕ) (xs : List X) → flat_map (λ (x : List ℕ). x) (map f xs) ≡ flat_map f xs
 flat_map-map f [] = refl
 flat_map-map f (x ∷ xs) = ap (λ (z : List ℕ). f x ++ z) (flat_map-map f xs)
 
-pub finished : (dist : ℕ → ℕ → ℕ) (near : ℕ → List ℕ) (n hub m k : ℕ) (pairs xs : List Pair) (load : ℕ → ℕ) (capacity : ℕ) (a b c d : List ℕ) (lists : List (List ℕ)) → m ≡ n → k ≡ n → xs ≡ pairs →
+pub finished : (dist : ℕ → ℕ → ℕ) (near : ℕ → List ℕ) (n hub m k : ℕ) (pairs xs : List Pair) (load : ℕ → ℕ)
+    (capacity : ℕ) (a b c d : List ℕ) (lists : List (List ℕ)) → m ≡ n → k ≡ n → xs ≡ pairs →
     AreCandidates dist near n hub pairs → AreJoined m load (joints load m capacity [] xs) a b c d →
     ((load : ℕ → ℕ) (E : List Pair) → AreJoined k load E a b c d → joints_at E hub ≡ 0 → ArePartPaths k hub E lists) →
     AreSavingsLists dist near n hub load capacity lists
 finished dist near n hub m k pairs xs load capacity a b c d lists e f g h j r =
     let s = subst (λ (x : List Pair). AreJoined m load (joints load m capacity [] x) a b c d) g j in
     let t = subst (λ (x : ℕ). AreJoined x load (joints load x capacity [] pairs) a b c d) e s in
-    let u = subst (λ (x : ℕ). AreJoined x load (joints load n capacity [] pairs) a b c d) (sym f) t in
-    (pairs, (h, subst (λ (x : ℕ). ArePartPaths x hub (joints load n capacity [] pairs) lists) f (r load _ u (hub_apart dist near n hub pairs load capacity h))))
+    let u = subst (λ (x : ℕ). AreJoined x load (joints load n capacity [] pairs) a b c d) (sym f) t in (
+      pairs,
+      (
+        h,
+        subst (λ (x : ℕ). ArePartPaths x hub (joints load n capacity [] pairs) lists) f
+            (r load _ u (hub_apart dist near n hub pairs load capacity h)),
+      ),
+    )
 
-pub tour_made : {X : Type 0} (dist : ℕ → ℕ → ℕ) (near : ℕ → List ℕ) (n : ℕ) (loads none : List ℕ) (tour : List ℕ) (f : X → List ℕ) (items xs : List X) (k : ℕ) → loads ≡ none → items ≡ xs → length items ≤ k →
+pub tour_made : {X : Type 0} (dist : ℕ → ℕ → ℕ) (near : ℕ → List ℕ) (n : ℕ) (loads none : List ℕ) (tour : List ℕ)
+    (f : X → List ℕ) (items xs : List X) (k : ℕ) → loads ≡ none → items ≡ xs → length items ≤ k →
     AreSavingsLists dist near n 1 (load_of loads) 0 (map f xs) → tour ≡ 1 ∷ flat_map f (take k items) →
-    (lists : List (List ℕ)) × (AreSavingsLists dist near n 1 (load_of none) 0 lists × (tour ≡ 1 ∷ flat_map (λ (x : List ℕ). x) lists))
+    (lists : List (List ℕ))
+    × (AreSavingsLists dist near n 1 (load_of none) 0 lists × (tour ≡ 1 ∷ flat_map (λ (x : List ℕ). x) lists))
 tour_made dist near n loads none tour f items xs k e g l h t = (
   map f xs,
   (

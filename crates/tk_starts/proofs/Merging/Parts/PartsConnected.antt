@@ -1,12 +1,14 @@
 -- Two cities are in the same part where a path of joints leads from the one to the other.
 use Rattle.std.proofs.Common.{◌≡◌, ◌≢◌, ℕ, true, cond, eqb, List, [], ◌∷◌, ◌++◌, refl, sym, ap, ◌∙◌, ⊎_elim, subst}
-use Rattle.std.proofs.lemmas.Bool.{eqb-true, eq-eqb, or_cases, or_left, or_right, both_ways, cases_eq, and_parts, and_from}
+use Rattle.std.proofs.lemmas.Bool.{eqb-true, eq-eqb, or_cases, or_left, or_right, both_ways, cases_eq, and_parts}
+use Rattle.std.proofs.lemmas.Bool.{and_from}
 use Rattle.tk_starts.specs.Joints.{part, joined, IsChain, IsConnected, last_from}
 use Rattle.tk_starts.specs.declared.merges.pairs.Pair.{Pair}
 use Rattle.tk_starts.proofs.Merging.Parts.PartsJoined.{part-second, part-other}
 use Rattle.tk_starts.proofs.Merging.Paths.PathLists.{IsChain-more}
 
-chain_on : (E : List Pair) (a : ℕ) (xs ys : List ℕ) → IsChain E a xs → IsChain E (last_from a xs) ys → IsChain E a (xs ++ ys)
+chain_on : (E : List Pair) (a : ℕ) (xs ys : List ℕ) → IsChain E a xs → IsChain E (last_from a xs) ys →
+    IsChain E a (xs ++ ys)
 unfolding IsChain
 chain_on E a [] ys h k = k
 chain_on E a (b ∷ xs) ys h k = (h.0, chain_on E b xs ys h.1 k)
@@ -16,8 +18,14 @@ last_on a [] ys = refl
 last_on a (b ∷ xs) ys = last_on b xs ys
 
 IsConnected-trans : (E : List Pair) (a b c : ℕ) → IsConnected E a b → IsConnected E b c → IsConnected E a c
-IsConnected-trans E a b c (xs, (h, e)) (ys, (k, f)) =
-    (xs ++ ys, (chain_on E a xs ys h (subst (λ (z : ℕ). IsChain E z ys) (sym e) k), last_on a xs ys ∙ (ap (λ (z : ℕ). last_from z ys) e ∙ f)))
+IsConnected-trans E a b c (xs, (h, e)) (ys, (k, f)) = (
+  xs ++ ys,
+  (
+    chain_on E a xs ys h (subst (λ (z : ℕ). IsChain E z ys) (sym e) k),
+    last_on a xs ys
+        ∙ (ap (λ (z : ℕ). last_from z ys) e ∙ f),
+  ),
+)
 
 IsConnected-more : (E : List Pair) (e : Pair) (a b : ℕ) → IsConnected E a b → IsConnected (e ∷ E) a b
 IsConnected-more E e a b (xs, (h, k)) = (xs, (IsChain-more E e a xs h, k))
@@ -41,12 +49,14 @@ joint_back E e = or_left _ _ (or_right _ _ (and_from _ _ (eq-eqb e.i e.i refl) (
 -- a new joint leads from its first part to its second
 across : (E : List Pair) (e : Pair) (a b : ℕ) → IsConnected E a e.i → IsConnected E e.j b → IsConnected (e ∷ E) a b
 across E e a b h k =
-    let t = IsConnected-trans (e ∷ E) e.i e.j b (IsConnected-joint (e ∷ E) e.i e.j (joint_forth E e)) (IsConnected-more E e e.j b k) in
+    let t = IsConnected-trans (e ∷ E) e.i e.j b (IsConnected-joint (e ∷ E) e.i e.j (joint_forth E e))
+    (IsConnected-more E e e.j b k) in
     IsConnected-trans (e ∷ E) a e.i b (IsConnected-more E e a e.i h) t
 
 back_across : (E : List Pair) (e : Pair) (a b : ℕ) → IsConnected E a e.j → IsConnected E e.i b → IsConnected (e ∷ E) a b
 back_across E e a b h k =
-    let t = IsConnected-trans (e ∷ E) e.j e.i b (IsConnected-joint (e ∷ E) e.j e.i (joint_back E e)) (IsConnected-more E e e.i b k) in
+    let t = IsConnected-trans (e ∷ E) e.j e.i b (IsConnected-joint (e ∷ E) e.j e.i (joint_back E e))
+    (IsConnected-more E e e.i b k) in
     IsConnected-trans (e ∷ E) a e.j b (IsConnected-more E e a e.j h) t
 
 pub IsConnected-from_part : (E : List Pair) (a b : ℕ) → part E a ≡ part E b → IsConnected E a b
@@ -64,7 +74,8 @@ IsConnected-from_part (e ∷ E) a b h =
     (λ (jb : part E b ≡ part E e.j).
     let i : part E a ≡ part E e.i = sym (part-other E e a na) ∙ (h ∙ part-second E e b jb) in
     across E e a b (IsConnected-from_part E a e.i i) (IsConnected-from_part E e.j b (sym jb)))
-    (λ (nb : part E b ≢ part E e.j). IsConnected-more E e a b (IsConnected-from_part E a b (sym (part-other E e a na) ∙ (h ∙ part-other E e b nb))))
+    (λ (nb : part E b ≢ part E e.j). IsConnected-more E e a b
+    (IsConnected-from_part E a b (sym (part-other E e a na) ∙ (h ∙ part-other E e b nb))))
     (cases_eq (part E b) (part E e.j)))
     (cases_eq (part E a) (part E e.j))
 
@@ -89,7 +100,8 @@ part-from_joined (e ∷ E) a b h =
     ⊎_elim
     (λ k. ⊎_elim
     (λ m. let p = and_parts _ _ m in ap P (sym (eqb-true e.i a p.0)) ∙ (first_second E e ∙ ap P (eqb-true e.j b p.1)))
-    (λ m. let p = and_parts _ _ m in ap P (sym (eqb-true e.j a p.1)) ∙ (sym (first_second E e) ∙ ap P (eqb-true e.i b p.0)))
+    (λ m. let p = and_parts _ _ m in ap P (sym (eqb-true e.j a p.1))
+    ∙ (sym (first_second E e) ∙ ap P (eqb-true e.i b p.0)))
     (or_cases _ _ k))
     (λ k. part-stays_same E e a b (part-from_joined E a b k))
     (or_cases _ _ h)

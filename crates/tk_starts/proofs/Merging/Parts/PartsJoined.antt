@@ -15,11 +15,13 @@ unfolding part
 part-other E e c h = cond-false _ _ _ (ne_eqb _ _ h)
 
 -- the part of a city of the first part, where the two differ
-pub part-first : (E : List Pair) (e : Pair) (c : ℕ) → part E e.i ≢ part E e.j → part E c ≡ part E e.i → part (e ∷ E) c ≡ part E e.i
+pub part-first : (E : List Pair) (e : Pair) (c : ℕ) → part E e.i ≢ part E e.j → part E c ≡ part E e.i →
+    part (e ∷ E) c ≡ part E e.i
 part-first E e c apart h = part-other E e c (λ k. apart (sym h ∙ k)) ∙ h
 
 -- who is in the new part
-pub part-joined : (E : List Pair) (e : Pair) (c : ℕ) → part E e.i ≢ part E e.j → part (e ∷ E) c ≡ part E e.i → (part E c ≡ part E e.i) ⊎ (part E c ≡ part E e.j)
+pub part-joined : (E : List Pair) (e : Pair) (c : ℕ) → part E e.i ≢ part E e.j → part (e ∷ E) c ≡ part E e.i →
+    (part E c ≡ part E e.i) ⊎ (part E c ≡ part E e.j)
 part-joined E e c apart h =
     ⊎_elim (λ k. inr k) (λ k. inl (sym (part-other E e c k) ∙ h)) (cases_eq (part E c) (part E e.j))
 
@@ -27,7 +29,8 @@ part-joined E e c apart h =
 pub part-stays : (E : List Pair) (e : Pair) (c b : ℕ) → part E c ≢ part E e.i → part E c ≢ part E e.j →
     (part (e ∷ E) b ≡ part (e ∷ E) c) ↔ (part E b ≡ part E c)
 part-stays E e c b p q = (
-  λ h. ⊎_elim (λ k. absurd (p (sym (sym (part-second E e b k) ∙ (h ∙ part-other E e c q))))) (λ k. sym (part-other E e b k) ∙ (h ∙ part-other E e c q)) (cases_eq (part E b) (part E e.j)),
+  λ h. ⊎_elim (λ k. absurd (p (sym (sym (part-second E e b k) ∙ (h ∙ part-other E e c q)))))
+      (λ k. sym (part-other E e b k) ∙ (h ∙ part-other E e c q)) (cases_eq (part E b) (part E e.j)),
   λ h. part-other E e b (λ k. q (sym h ∙ k)) ∙ (h ∙ sym (part-other E e c q)),
 )
 

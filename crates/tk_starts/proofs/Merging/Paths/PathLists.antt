@@ -1,6 +1,8 @@
 -- Chains, ends and distinct cities of two lists put together.
-use Rattle.std.proofs.Common.{◌≡◌, ◌≢◌, ℕ, ◌<◌, true, false, List, [], ◌∷◌, ◌++◌, refl, sym, ◌∙◌, ◌⊎◌, inl, inr, arith, ⊎_elim, subst}
-use Rattle.std.proofs.lemmas.Bool.{eqb-true, eq-eqb, or_cases, or_left, or_right, or_parts, false_from_ne_true, both_ways}
+use Rattle.std.proofs.Common.{◌≡◌, ◌≢◌, ℕ, ◌<◌, true, false, List, [], ◌∷◌, ◌++◌, refl, sym, ◌∙◌, ◌⊎◌, inl, inr, arith}
+use Rattle.std.proofs.Common.{⊎_elim, subst}
+use Rattle.std.proofs.lemmas.Bool.{eqb-true, eq-eqb, or_cases, or_left, or_right, or_parts, false_from_ne_true}
+use Rattle.std.proofs.lemmas.Bool.{both_ways}
 use Rattle.tk_starts.specs.Holding.{holds, IsDistinct}
 use Rattle.tk_starts.specs.Joints.{joined, IsChain, last_from}
 use Rattle.tk_starts.specs.PathEnds.{AreBoth, Follows, IsLinked}
@@ -30,16 +32,19 @@ holds-right (x ∷ xs) ys b h = or_right _ _ (holds-right xs ys b h)
 pub holds-append : (xs ys : List ℕ) (b : ℕ) → holds (xs ++ ys) b ≡ true → (holds xs b ≡ true) ⊎ (holds ys b ≡ true)
 holds-append [] ys b h = inr h
 holds-append (x ∷ xs) ys b h =
-    ⊎_elim (λ k. inl (or_left _ _ k)) (λ k. ⊎_elim (λ m. inl (or_right _ _ m)) (λ m. inr m) (holds-append xs ys b k)) (or_cases _ _ h)
+    ⊎_elim (λ k. inl (or_left _ _ k)) (λ k. ⊎_elim (λ m. inl (or_right _ _ m)) (λ m. inr m) (holds-append xs ys b k))
+    (or_cases _ _ h)
 
 pub last_from-append : (a : ℕ) (xs : List ℕ) (j : ℕ) (ys : List ℕ) → last_from a (xs ++ j ∷ ys) ≡ last_from j ys
 last_from-append a [] j ys = refl
 last_from-append a (b ∷ xs) j ys = last_from-append b xs j ys
 
-pub IsDistinct-append : (xs ys : List ℕ) → IsDistinct xs → IsDistinct ys → ((b : ℕ) → holds xs b ≡ true → holds ys b ≡ true → ⊥) → IsDistinct (xs ++ ys)
+pub IsDistinct-append : (xs ys : List ℕ) → IsDistinct xs → IsDistinct ys →
+    ((b : ℕ) → holds xs b ≡ true → holds ys b ≡ true → ⊥) → IsDistinct (xs ++ ys)
 IsDistinct-append [] ys h k apart = k
 IsDistinct-append (x ∷ xs) ys h k apart = (
-  false_from_ne_true _ (λ m. ⊎_elim (λ w. both_ways _ h.0 w) (λ w. apart x (holds-here x xs) w) (holds-append xs ys x m)),
+  false_from_ne_true _ (λ m. ⊎_elim (λ w. both_ways _ h.0 w) (λ w. apart x (holds-here x xs) w)
+      (holds-append xs ys x m)),
   IsDistinct-append xs ys h.1 k (λ b p q. apart b (or_right _ _ p) q),
 )
 
@@ -52,7 +57,8 @@ unfolding IsChain
 IsChain-more E e a [] h = tt
 IsChain-more E e a (b ∷ xs) h = (joined-more E e a b h.0, IsChain-more E e b xs h.1)
 
-pub IsChain-append : (E : List Pair) (a : ℕ) (xs : List ℕ) (j : ℕ) (ys : List ℕ) → IsChain E a xs → joined E (last_from a xs) j ≡ true → IsChain E j ys → IsChain E a (xs ++ j ∷ ys)
+pub IsChain-append : (E : List Pair) (a : ℕ) (xs : List ℕ) (j : ℕ) (ys : List ℕ) → IsChain E a xs →
+    joined E (last_from a xs) j ≡ true → IsChain E j ys → IsChain E a (xs ++ j ∷ ys)
 unfolding IsChain
 IsChain-append E a [] j ys h m k = (m, k)
 IsChain-append E a (b ∷ xs) j ys h m k = (h.0, IsChain-append E b xs j ys h.1 m k)
@@ -65,7 +71,8 @@ AreBoth-same p q p' q' x y e f h = ⊎_elim (λ k. inl (e ∙ k.0, f ∙ k.1)) (
 
 -- cities whose neighbours stay
 pub Follows-stays : (one two one' two' : ℕ → ℕ) (before c : ℕ) (xs : List ℕ) →
-    ((b : ℕ) → holds (c ∷ xs) b ≡ true → (one' b ≡ one b) × (two' b ≡ two b)) → Follows one two before c xs → Follows one' two' before c xs
+    ((b : ℕ) → holds (c ∷ xs) b ≡ true → (one' b ≡ one b) × (two' b ≡ two b)) → Follows one two before c xs →
+    Follows one' two' before c xs
 unfolding Follows
 Follows-stays one two one' two' before c [] same h =
     AreBoth-same _ _ _ _ before 0 (same c (holds-here c [])).0 (same c (holds-here c [])).1 h
@@ -76,18 +83,22 @@ Follows-stays one two one' two' before c (d ∷ xs) same h = (
 )
 
 -- a path whose first city j gets the neighbour i before it
-pub Follows-after : (one two one' two' : ℕ → ℕ) (i j : ℕ) (xs : List ℕ) → IsLinked i j one two one' two' → IsDistinct (j ∷ xs) → holds xs i ≡ false →
+pub Follows-after : (one two one' two' : ℕ → ℕ) (i j : ℕ) (xs : List ℕ) → IsLinked i j one two one' two' →
+    IsDistinct (j ∷ xs) → holds xs i ≡ false →
     Follows one two 0 j xs → Follows one' two' i j xs
 unfolding Follows
 Follows-after one two one' two' i j [] l h k f = AreBoth-flip _ _ 0 i (l.second 0 f)
 Follows-after one two one' two' i j (d ∷ xs) l h k f = (
   AreBoth-flip _ _ d i (l.second d (AreBoth-flip _ _ 0 d f.0)),
   f.1,
-  Follows-stays one two one' two' j d xs (λ b m. l.rest b (λ e. both_ways _ k (subst (λ (z : ℕ). holds (d ∷ xs) z ≡ true) e m)) (λ e. both_ways _ h.0 (subst (λ (z : ℕ). holds (d ∷ xs) z ≡ true) e m))) f.2,
+  Follows-stays one two one' two' j d xs
+      (λ b m. l.rest b (λ e. both_ways _ k (subst (λ (z : ℕ). holds (d ∷ xs) z ≡ true) e m))
+      (λ e. both_ways _ h.0 (subst (λ (z : ℕ). holds (d ∷ xs) z ≡ true) e m))) f.2,
 )
 
 -- and a path that ends at i and goes on with j
-pub Follows-append : (one two one' two' : ℕ → ℕ) (i j before a : ℕ) (xs ys : List ℕ) → IsLinked i j one two one' two' → last_from a xs ≡ i → 0 < j → IsDistinct (a ∷ xs) → holds (a ∷ xs) j ≡ false →
+pub Follows-append : (one two one' two' : ℕ → ℕ) (i j before a : ℕ) (xs ys : List ℕ) → IsLinked i j one two one' two' →
+    last_from a xs ≡ i → 0 < j → IsDistinct (a ∷ xs) → holds (a ∷ xs) j ≡ false →
     Follows one two before a xs → Follows one' two' i j ys → Follows one' two' before a (xs ++ j ∷ ys)
 unfolding Follows
 Follows-append one two one' two' i j before a [] ys l e pos h k f g = (
@@ -109,7 +120,8 @@ both_last p q x y z h k =
     (λ a. ⊎_elim (λ b. sym a.0 ∙ (b.0 ∙ (sym a.1 ∙ b.1))) (λ b. sym a.0 ∙ b.0) k) h
 
 -- the neighbours lead along one list alone
-pub Follows-one : (one two : ℕ → ℕ) (before c : ℕ) (xs ys : List ℕ) → Follows one two before c xs → Follows one two before c ys → xs ≡ ys
+pub Follows-one : (one two : ℕ → ℕ) (before c : ℕ) (xs ys : List ℕ) → Follows one two before c xs →
+    Follows one two before c ys → xs ≡ ys
 unfolding Follows
 Follows-one one two before c [] [] f g = refl
 Follows-one one two before c [] (e ∷ ys) f g = let h = both_last _ _ before 0 e f g.0 in absurd (omega (arith, h, g.1))
@@ -121,8 +133,10 @@ Follows-one one two before c (d ∷ xs) (e ∷ ys) f g =
 
 -- two links make the two cities neighbours
 pub IsLinked-from_links : (i j : ℕ) (one two one1 two1 one2 two2 : ℕ → ℕ) → i ≢ j →
-    ((x : ℕ) → AreBoth (one i) (two i) x 0 → AreBoth (one1 i) (two1 i) x j) → ((b : ℕ) → b ≢ i → (one1 b ≡ one b) × (two1 b ≡ two b)) →
-    ((x : ℕ) → AreBoth (one1 j) (two1 j) x 0 → AreBoth (one2 j) (two2 j) x i) → ((b : ℕ) → b ≢ j → (one2 b ≡ one1 b) × (two2 b ≡ two1 b)) →
+    ((x : ℕ) → AreBoth (one i) (two i) x 0 → AreBoth (one1 i) (two1 i) x j) →
+    ((b : ℕ) → b ≢ i → (one1 b ≡ one b) × (two1 b ≡ two b)) →
+    ((x : ℕ) → AreBoth (one1 j) (two1 j) x 0 → AreBoth (one2 j) (two2 j) x i) →
+    ((b : ℕ) → b ≢ j → (one2 b ≡ one1 b) × (two2 b ≡ two1 b)) →
     IsLinked i j one two one2 two2
 IsLinked-from_links i j one two one1 two1 one2 two2 ne a ra b rb =
     let ji : j ≢ i = λ e. ne (sym e) in

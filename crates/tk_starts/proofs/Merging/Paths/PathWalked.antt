@@ -1,5 +1,6 @@
 -- The walk along a path.
-use Rattle.std.proofs.Common.{◌≡◌, ◌≢◌, ℕ, ◌+◌, ◌≤◌, ◌<◌, true, cond, eqb, List, [], ◌∷◌, ◌++◌, length, refl, sym, ap, ◌∙◌, arith, ⊎_elim, subst}
+use Rattle.std.proofs.Common.{◌≡◌, ◌≢◌, ℕ, ◌+◌, ◌≤◌, ◌<◌, true, cond, eqb, List, [], ◌∷◌, ◌++◌, length, refl, sym, ap}
+use Rattle.std.proofs.Common.{◌∙◌, arith, ⊎_elim, subst}
 use Rattle.std.proofs.lemmas.Bool.{eq-eqb, ne_eqb, cond-true, cond-false, cases_eq}
 use Rattle.std.proofs.lemmas.List.{append_assoc, append-nil, length-append}
 use Rattle.tk_starts.specs.Holding.{holds}
@@ -22,11 +23,21 @@ pub record OnWay (n : ℕ) (one two : ℕ → ℕ) (a : ℕ) (cities : List ℕ)
   pub inside : (b : ℕ) → holds rest b ≡ true → IsCity n b
 
 pub OnWay-init : (n : ℕ) (one two : ℕ → ℕ) (a : ℕ) (xs : List ℕ) → IsWay n one two a xs → OnWay n one two a [] 0 a
-OnWay-init n one two a xs w = record { xs = xs; rest = a ∷ xs; way = w; whole = refl; ahead = (refl, (w.inside a (holds-here a xs)).0, w.follows); inside = w.inside }
+OnWay-init n one two a xs w =
+    record {
+      xs = xs;
+      rest = a ∷ xs;
+      way = w;
+      whole = refl;
+      ahead = (refl, (w.inside a (holds-here a xs)).0, w.follows);
+      inside = w.inside;
+    }
 
-pub ahead_city : (n : ℕ) (one two : ℕ → ℕ) (before c : ℕ) (rest : List ℕ) → c ≢ 0 → Ahead one two before c rest → ((b : ℕ) → holds rest b ≡ true → IsCity n b) → IsCity n c × (1 ≤ length rest)
+pub ahead_city : (n : ℕ) (one two : ℕ → ℕ) (before c : ℕ) (rest : List ℕ) → c ≢ 0 → Ahead one two before c rest →
+    ((b : ℕ) → holds rest b ≡ true → IsCity n b) → IsCity n c × (1 ≤ length rest)
 ahead_city n one two before c [] ne h i = absurd (ne h)
-ahead_city n one two before c (d ∷ rest) ne h i = (subst (λ (x : ℕ). IsCity n x) h.0 (i d (holds-here d rest)), omega arith)
+ahead_city n one two before c (d ∷ rest) ne h i =
+    (subst (λ (x : ℕ). IsCity n x) h.0 (i d (holds-here d rest)), omega arith)
 
 next_city : (p q before y : ℕ) → AreBoth p q before y → cond (eqb p before) q p ≡ y
 next_city p q before y h =
@@ -35,14 +46,17 @@ next_city p q before y h =
     (λ (k : p ≢ before). cond-false _ q p (ne_eqb p before k) ∙ ⊎_elim (λ w. absurd (k w.0)) (λ w. w.0) h)
     (cases_eq p before)
 
-next_ahead : (one two : ℕ → ℕ) (before c next : ℕ) (rest : List ℕ) → next ≡ cond (eqb (one c) before) (two c) (one c) → Follows one two before c rest → Ahead one two c next rest
+next_ahead : (one two : ℕ → ℕ) (before c next : ℕ) (rest : List ℕ) → next ≡ cond (eqb (one c) before) (two c) (one c) →
+    Follows one two before c rest → Ahead one two c next rest
 unfolding Follows
 next_ahead one two before c next [] e f = e ∙ next_city _ _ before 0 f
 next_ahead one two before c next (d ∷ rest) e f =
     let t : d ≡ next = sym (e ∙ next_city _ _ before d f.0) in
     (t, subst (λ (x : ℕ). 0 < x) t f.1, subst (λ (x : ℕ). Follows one two c x rest) t f.2)
 
-more : (n : ℕ) (one two : ℕ → ℕ) (a : ℕ) (cities : List ℕ) (before c next : ℕ) (xs rest : List ℕ) → IsWay n one two a xs → cities ++ rest ≡ a ∷ xs → Ahead one two before c rest → ((b : ℕ) → holds rest b ≡ true → IsCity n b) →
+more : (n : ℕ) (one two : ℕ → ℕ) (a : ℕ) (cities : List ℕ) (before c next : ℕ) (xs rest : List ℕ) →
+    IsWay n one two a xs → cities ++ rest ≡ a ∷ xs → Ahead one two before c rest →
+    ((b : ℕ) → holds rest b ≡ true → IsCity n b) →
     c ≢ 0 → next ≡ cond (eqb (one c) before) (two c) (one c) → OnWay n one two a (cities ++ c ∷ []) c next
 more n one two a cities before c next xs [] w e h i ne k = absurd (ne h)
 more n one two a cities before c next xs (d ∷ rest) w e h i ne k =
@@ -55,11 +69,15 @@ more n one two a cities before c next xs (d ∷ rest) w e h i ne k =
       inside = λ b m. i b (holds-later d b rest m);
     }
 
-pub OnWay-more : (n : ℕ) (one two : ℕ → ℕ) (a : ℕ) (cities : List ℕ) (before c next : ℕ) → OnWay n one two a cities before c → c ≢ 0 → next ≡ cond (eqb (one c) before) (two c) (one c) → OnWay n one two a (cities ++ c ∷ []) c next
-OnWay-more n one two a cities before c next o ne k = more n one two a cities before c next o.xs o.rest o.way o.whole o.ahead o.inside ne k
+pub OnWay-more : (n : ℕ) (one two : ℕ → ℕ) (a : ℕ) (cities : List ℕ) (before c next : ℕ) →
+    OnWay n one two a cities before c → c ≢ 0 → next ≡ cond (eqb (one c) before) (two c) (one c) →
+    OnWay n one two a (cities ++ c ∷ []) c next
+OnWay-more n one two a cities before c next o ne k =
+    more n one two a cities before c next o.xs o.rest o.way o.whole o.ahead o.inside ne k
 
 -- a city is still to come
-pub OnWay-city : (n : ℕ) (one two : ℕ → ℕ) (a : ℕ) (cities : List ℕ) (before c : ℕ) → OnWay n one two a cities before c → c ≢ 0 → IsCity n c × (length cities < n + 1)
+pub OnWay-city : (n : ℕ) (one two : ℕ → ℕ) (a : ℕ) (cities : List ℕ) (before c : ℕ) →
+    OnWay n one two a cities before c → c ≢ 0 → IsCity n c × (length cities < n + 1)
 OnWay-city n one two a cities before c o ne =
     let h = ahead_city n one two before c o.rest ne o.ahead o.inside in
     (h.0, omega (arith, h.1, o.way.short, length-append cities o.rest, ap length o.whole))
@@ -68,6 +86,9 @@ ended : (one two : ℕ → ℕ) (before c : ℕ) (rest : List ℕ) → c ≡ 0 �
 ended one two before c [] e h = refl
 ended one two before c (d ∷ rest) e h = absurd (omega (arith, e, h.1))
 
-pub OnWay-end : (n : ℕ) (one two : ℕ → ℕ) (a : ℕ) (cities : List ℕ) (before c : ℕ) → OnWay n one two a cities before c → c ≡ 0 → (ys : List ℕ) → Follows one two 0 a ys → cities ≡ a ∷ ys
+pub OnWay-end : (n : ℕ) (one two : ℕ → ℕ) (a : ℕ) (cities : List ℕ) (before c : ℕ) → OnWay n one two a cities before c →
+    c ≡ 0 → (ys : List ℕ) → Follows one two 0 a ys → cities ≡ a ∷ ys
 OnWay-end n one two a cities before c o e ys f =
-    sym (append-nil cities) ∙ (ap (λ (x : List ℕ). cities ++ x) (sym (ended one two before c o.rest e o.ahead)) ∙ (o.whole ∙ ap (λ (x : List ℕ). a ∷ x) (Follows-one one two 0 a o.xs ys o.way.follows f)))
+    sym (append-nil cities)
+    ∙ (ap (λ (x : List ℕ). cities ++ x) (sym (ended one two before c o.rest e o.ahead))
+    ∙ (o.whole ∙ ap (λ (x : List ℕ). a ∷ x) (Follows-one one two 0 a o.xs ys o.way.follows f)))

@@ -1,7 +1,10 @@
 -- The paths read off.
-use Rattle.std.proofs.Common.{leb, not, ◌&&◌, ◌≡◌, ◌≢◌, ℕ, ◌+◌, ◌≤◌, ◌<◌, Bool, true, false, cond, ◌||◌, eqb, List, [], ◌∷◌, ◌++◌, length, get_or, refl, sym, ap, ◌∙◌, ◌⊎◌, arith, ⊎_elim, subst}
+use Rattle.std.proofs.Common.{leb, not, ◌&&◌, ◌≡◌, ◌≢◌, ℕ, ◌+◌, ◌≤◌, ◌<◌, Bool, true, false, cond, ◌||◌, eqb, List, []}
+use Rattle.std.proofs.Common.{◌∷◌, ◌++◌, length, get_or, refl, sym, ap, ◌∙◌, ◌⊎◌, arith, ⊎_elim, subst}
 use Rattle.std.specs.List.{All, IsDistinct as IsDistinctBy, AllByRecursion, list_any}
-use Rattle.std.proofs.lemmas.Bool.{eqb-true, eqb-false, eq-eqb, ne_eqb, or_cases, or_left, or_right, or_parts, false_from_ne_true, both_ways, cases_lt, and_parts, and_from, not-true, not_from_false, leb-true, le-leb}
+use Rattle.std.proofs.lemmas.Bool.{eqb-true, eqb-false, eq-eqb, ne_eqb, or_cases, or_left, or_right, or_parts}
+use Rattle.std.proofs.lemmas.Bool.{false_from_ne_true, both_ways, cases_lt, and_parts, and_from, not-true}
+use Rattle.std.proofs.lemmas.Bool.{not_from_false, leb-true, le-leb}
 use Rattle.std.proofs.lemmas.List.{get_or_append_left, get_or_at, length-append}
 use Rattle.std.proofs.lemmas.List.Elements.{All-push}
 use Rattle.std.proofs.lemmas.Map.Steps.{length-le_from_distinct_below}
@@ -24,17 +27,21 @@ to_distinct (x ∷ xs) h = (to_all x xs h.0, to_distinct xs h.1)
 
 to_holds : (xs : List ℕ) (q : ℕ) → list_any (eqb q) xs ≡ true → holds xs q ≡ true
 to_holds [] q h = h
-to_holds (x ∷ xs) q h = ⊎_elim (λ k. or_left _ _ (eq-eqb x q (sym (eqb-true q x k)))) (λ k. or_right _ _ (to_holds xs q k)) (or_cases _ _ h)
+to_holds (x ∷ xs) q h =
+    ⊎_elim (λ k. or_left _ _ (eq-eqb x q (sym (eqb-true q x k)))) (λ k. or_right _ _ (to_holds xs q k)) (or_cases _ _ h)
 
 short : (n a : ℕ) (xs : List ℕ) → IsDistinct (a ∷ xs) → ((b : ℕ) → holds (a ∷ xs) b ≡ true → IsCity n b) → length xs < n
 short n a xs d inside =
     let z : holds (a ∷ xs) 0 ≡ false = false_from_ne_true _ (λ k. omega (arith, (inside 0 k).0)) in
     let l = length-le_from_distinct_below (0 ∷ a ∷ xs) (n + 1) (to_distinct (0 ∷ a ∷ xs) (z, d))
-    (λ q h. ⊎_elim (λ k. omega (arith, eqb-true 0 q k)) (λ k. omega (arith, (inside q k).1)) (or_cases _ _ (to_holds (0 ∷ a ∷ xs) q h))) in
+    (λ q h. ⊎_elim (λ k. omega (arith, eqb-true 0 q k)) (λ k. omega (arith, (inside q k).1))
+    (or_cases _ _ (to_holds (0 ∷ a ∷ xs) q h))) in
     omega (arith, l)
 
-pub IsWay-from_path : (n : ℕ) (E : List Pair) (one two : ℕ → ℕ) (a z : ℕ) (xs : List ℕ) → IsPathOf n E one two a z xs → IsWay n one two a xs
-IsWay-from_path n E one two a z xs p = record { follows = p.follows; inside = p.inside; short = short n a xs p.distinct p.inside }
+pub IsWay-from_path : (n : ℕ) (E : List Pair) (one two : ℕ → ℕ) (a z : ℕ) (xs : List ℕ) → IsPathOf n E one two a z xs →
+    IsWay n one two a xs
+IsWay-from_path n E one two a z xs p =
+    record { follows = p.follows; inside = p.inside; short = short n a xs p.distinct p.inside }
 
 no_joint : (b : Bool) (x : ℕ) → cond b 1 0 + x ≡ 0 → (b ≡ false) × (x ≡ 0)
 no_joint true x h = absurd (omega (arith, h))
@@ -60,40 +67,57 @@ pub record IsBegun (n : ℕ) (E : List Pair) (one two other : ℕ → ℕ) (c : 
   pub smaller : end ≤ other end
   pub inside : (b : ℕ) → holds list b ≡ true → part E b ≡ part E end
 
-IsBegun-later : (n : ℕ) (E : List Pair) (one two other : ℕ → ℕ) (c : ℕ) (list : List ℕ) → IsBegun n E one two other c list → IsBegun n E one two other (c + 1) list
-IsBegun-later n E one two other c list g = record { end = g.end; city = g.city; below = omega (arith, g.below); ends = g.ends; smaller = g.smaller; inside = g.inside }
+IsBegun-later : (n : ℕ) (E : List Pair) (one two other : ℕ → ℕ) (c : ℕ) (list : List ℕ) →
+    IsBegun n E one two other c list → IsBegun n E one two other (c + 1) list
+IsBegun-later n E one two other c list g =
+    record {
+      end = g.end;
+      city = g.city;
+      below = omega (arith, g.below);
+      ends = g.ends;
+      smaller = g.smaller;
+      inside = g.inside;
+    }
 
 -- the paths of two such ends share no city
-no_clash : (n : ℕ) (load : ℕ → ℕ) (E : List Pair) (one two other weight : ℕ → ℕ) (c b : ℕ) (list : List ℕ) → AreEnds n load E one two other weight → IsCity n c → IsEnd one two c → c ≤ other c →
+no_clash : (n : ℕ) (load : ℕ → ℕ) (E : List Pair) (one two other weight : ℕ → ℕ) (c b : ℕ) (list : List ℕ) →
+    AreEnds n load E one two other weight → IsCity n c → IsEnd one two c → c ≤ other c →
     IsBegun n E one two other c list → holds list b ≡ true → part E b ≡ part E c → ⊥
 no_clash n load E one two other weight c b list a r h le g m k =
     let below : g.end < c = g.below in
-    ⊎_elim (λ (e : g.end ≡ c). omega (arith, e, below)) (λ (e : g.end ≡ other c). omega (arith, e, below, le)) (a.only c g.end r g.city h g.ends (sym (g.inside b m) ∙ k))
+    ⊎_elim (λ (e : g.end ≡ c). omega (arith, e, below)) (λ (e : g.end ≡ other c). omega (arith, e, below, le))
+    (a.only c g.end r g.city h g.ends (sym (g.inside b m) ∙ k))
 
 -- the lists of the smaller ends below c
 pub record AreRead (n hub : ℕ) (E : List Pair) (one two other : ℕ → ℕ) (c : ℕ) (lists : List (List ℕ)) : Type 0 where
   pub paths : All (IsPartPath E) lists
   pub sound : (k b : ℕ) → k < length lists → holds (get_or lists k []) b ≡ true → IsCity n b × (b ≢ hub)
-  pub found : (e b : ℕ) → IsCity n e → e < c → IsEnd one two e → e ≢ hub → e ≤ other e → part E b ≡ part E e → (k : ℕ) × ((k < length lists) × (holds (get_or lists k []) b ≡ true))
+  pub found : (e b : ℕ) → IsCity n e → e < c → IsEnd one two e → e ≢ hub → e ≤ other e → part E b ≡ part E e →
+      (k : ℕ) × ((k < length lists) × (holds (get_or lists k []) b ≡ true))
   pub order : (k : ℕ) → k + 1 < length lists → first_of (get_or lists k []) < first_of (get_or lists (k + 1) [])
   pub below : (k : ℕ) → k < length lists → first_of (get_or lists k []) < c
   pub begun : (k : ℕ) → k < length lists → IsBegun n E one two other c (get_or lists k [])
-  pub once : (b k l : ℕ) → k < length lists → l < length lists → holds (get_or lists k []) b ≡ true → holds (get_or lists l []) b ≡ true → k ≡ l
+  pub once : (b k l : ℕ) → k < length lists → l < length lists → holds (get_or lists k []) b ≡ true →
+      holds (get_or lists l []) b ≡ true → k ≡ l
 
 -- c is not the smaller end of a path, or it is the hub
-pub AreRead-skip : (n hub : ℕ) (E : List Pair) (one two other : ℕ → ℕ) (c : ℕ) (lists : List (List ℕ)) → (IsEnd one two c → c ≢ hub → c ≤ other c → ⊥) → AreRead n hub E one two other c lists → AreRead n hub E one two other (c + 1) lists
+pub AreRead-skip : (n hub : ℕ) (E : List Pair) (one two other : ℕ → ℕ) (c : ℕ) (lists : List (List ℕ)) →
+    (IsEnd one two c → c ≢ hub → c ≤ other c → ⊥) → AreRead n hub E one two other c lists →
+    AreRead n hub E one two other (c + 1) lists
 AreRead-skip n hub E one two other c lists never s = record {
   paths = s.paths;
   sound = s.sound;
   found = λ e b r l h ne le k. ⊎_elim (λ w. s.found e b r w h ne le k)
-      (λ w. let t : e ≡ c = omega (arith, l, w) in absurd (never (subst (λ (x : ℕ). IsEnd one two x) t h) (λ m. ne (t ∙ m)) (subst (λ (x : ℕ). x ≤ other x) t le))) (cases_lt e c);
+      (λ w. let t : e ≡ c = omega (arith, l, w) in absurd (never (subst (λ (x : ℕ). IsEnd one two x) t h)
+      (λ m. ne (t ∙ m)) (subst (λ (x : ℕ). x ≤ other x) t le))) (cases_lt e c);
   order = s.order;
   below = λ k h. let t = s.below k h in omega (arith, t);
   begun = λ k h. IsBegun-later n E one two other c _ (s.begun k h);
   once = s.once;
 }
 
-at_left : (lists : List (List ℕ)) (l : List ℕ) (k : ℕ) → k < length lists → get_or (lists ++ l ∷ []) k [] ≡ get_or lists k []
+at_left : (lists : List (List ℕ)) (l : List ℕ) (k : ℕ) → k < length lists →
+    get_or (lists ++ l ∷ []) k [] ≡ get_or lists k []
 at_left lists l k h = get_or_append_left lists (l ∷ []) [] k h
 
 at_last : (lists : List (List ℕ)) (l : List ℕ) (k : ℕ) → k ≡ length lists → get_or (lists ++ l ∷ []) k [] ≡ l
@@ -102,7 +126,8 @@ at_last lists l k h = get_or_at lists l [] [] k (sym h)
 pushed : (lists : List (List ℕ)) (l : List ℕ) → length (lists ++ l ∷ []) ≡ length lists + 1
 pushed lists l = omega (arith, length-append lists (l ∷ []))
 
-path_made : (n : ℕ) (E : List Pair) (one two : ℕ → ℕ) (c z : ℕ) (xs : List ℕ) → IsPathOf n E one two c z xs → c ≤ z → IsPartPath E (c ∷ xs)
+path_made : (n : ℕ) (E : List Pair) (one two : ℕ → ℕ) (c z : ℕ) (xs : List ℕ) → IsPathOf n E one two c z xs → c ≤ z →
+    IsPartPath E (c ∷ xs)
 unfolding IsPartPath
 path_made n E one two c z xs p le = (p.chain, p.distinct, subst (λ (x : ℕ). c ≤ x) (sym p.last) le, p.whole)
 
@@ -110,7 +135,9 @@ first-cons : (c : ℕ) (xs : List ℕ) → first_of (c ∷ xs) ≡ c
 unfolding first_of
 first-cons c xs = refl
 
-pub AreRead-push : (n hub : ℕ) (load : ℕ → ℕ) (E : List Pair) (one two other weight : ℕ → ℕ) (c : ℕ) (lists : List (List ℕ)) (xs : List ℕ) → AreEnds n load E one two other weight → joints_at E hub ≡ 0 → IsCity n c → IsEnd one two c → c ≢ hub → c ≤ other c → IsPathOf n E one two c (other c) xs →
+pub AreRead-push : (n hub : ℕ) (load : ℕ → ℕ) (E : List Pair) (one two other weight : ℕ → ℕ) (c : ℕ)
+    (lists : List (List ℕ)) (xs : List ℕ) → AreEnds n load E one two other weight → joints_at E hub ≡ 0 → IsCity n c →
+    IsEnd one two c → c ≢ hub → c ≤ other c → IsPathOf n E one two c (other c) xs →
     AreRead n hub E one two other c lists → AreRead n hub E one two other (c + 1) (lists ++ (c ∷ xs) ∷ [])
 AreRead-push n hub load E one two other weight c lists xs a j r hc ne le p s =
     let l : List ℕ = c ∷ xs in
@@ -125,10 +152,22 @@ AreRead-push n hub load E one two other weight c lists xs a j r hc ne le p s =
           (p.inside b q, λ e. ne (alone E hub c j (sym ((p.whole b).0 q) ∙ ap (part E) e))))
           (cases_lt k (length lists));
       found = λ e b re l' h ne' le' k. ⊎_elim
-          (λ w. let f = s.found e b re w h ne' le' k in (f.0, (omega (arith, f.1.0, len), subst (λ (x : List ℕ). holds x b ≡ true) (sym (at_left lists l f.0 f.1.0)) f.1.1)))
+          (λ w. let f = s.found e b re w h ne' le' k in (
+            f.0,
+            (
+              omega (arith, f.1.0, len),
+              subst (λ (x : List ℕ). holds x b ≡ true) (sym (at_left lists l f.0 f.1.0)) f.1.1,
+            ),
+          ))
           (λ w.
-          let t : e ≡ c = omega (arith, l', w) in
-          (length lists, (omega (arith, len), subst (λ (x : List ℕ). holds x b ≡ true) (sym (at_last lists l (length lists) refl)) ((p.whole b).1 (k ∙ ap (part E) t)))))
+          let t : e ≡ c = omega (arith, l', w) in (
+            length lists,
+            (
+              omega (arith, len),
+              subst (λ (x : List ℕ). holds x b ≡ true) (sym (at_last lists l (length lists) refl))
+                  ((p.whole b).1 (k ∙ ap (part E) t)),
+            ),
+          ))
           (cases_lt e c);
       order = λ k h. ⊎_elim
           (λ w.
@@ -146,14 +185,22 @@ AreRead-push n hub load E one two other weight c lists xs a j r hc ne le p s =
           (λ w. let b = ap first_of (at_last lists l k (omega (arith, h, len, w))) in omega (arith, b, fc))
           (cases_lt k (length lists));
       begun = λ k h. ⊎_elim
-          (λ w. subst (λ (x : List ℕ). IsBegun n E one two other (c + 1) x) (sym (at_left lists l k w)) (IsBegun-later n E one two other c _ (s.begun k w)))
-          (λ w. subst (λ (x : List ℕ). IsBegun n E one two other (c + 1) x) (sym (at_last lists l k (omega (arith, h, len, w))))
+          (λ w. subst (λ (x : List ℕ). IsBegun n E one two other (c + 1) x) (sym (at_left lists l k w))
+          (IsBegun-later n E one two other c _ (s.begun k w)))
+          (λ w. subst (λ (x : List ℕ). IsBegun n E one two other (c + 1) x)
+          (sym (at_last lists l k (omega (arith, h, len, w))))
           (record { end = c; city = r; below = omega arith; ends = hc; smaller = le; inside = λ b m. (p.whole b).0 m }))
           (cases_lt k (length lists));
       once = λ b k m hk hm mk mm.
-          let old : (i : ℕ) → i < length lists → holds (get_or (lists ++ l ∷ []) i []) b ≡ true → holds (get_or lists i []) b ≡ true = λ i w q. subst (λ (x : List ℕ). holds x b ≡ true) (at_left lists l i w) q in
-          let new : (i : ℕ) → i ≡ length lists → holds (get_or (lists ++ l ∷ []) i []) b ≡ true → part E b ≡ part E c = λ i w q. (p.whole b).0 (subst (λ (x : List ℕ). holds x b ≡ true) (at_last lists l i w) q) in
-          let no : (i : ℕ) → i < length lists → holds (get_or lists i []) b ≡ true → part E b ≡ part E c → ⊥ = λ i w q e. no_clash n load E one two other weight c b (get_or lists i []) a r hc le (s.begun i w) q e in
+          let old : (i : ℕ) → i < length lists → holds (get_or (lists ++ l ∷ []) i []) b ≡ true →
+          holds (get_or lists i []) b ≡ true =
+          λ i w q. subst (λ (x : List ℕ). holds x b ≡ true) (at_left lists l i w) q in
+          let new : (i : ℕ) → i ≡ length lists → holds (get_or (lists ++ l ∷ []) i []) b ≡ true →
+          part E b ≡ part E c =
+          λ i w q. (p.whole b).0 (subst (λ (x : List ℕ). holds x b ≡ true) (at_last lists l i w) q) in
+          let no : (i : ℕ) → i < length lists → holds (get_or lists i []) b ≡ true → part E b ≡ part E c →
+          ⊥ = λ i w q e. no_clash n load E one two other weight c b (get_or lists i []) a r hc le
+          (s.begun i w) q e in
           ⊎_elim
           (λ (wk : k < length lists). ⊎_elim
           (λ (wm : m < length lists). s.once b k m wk wm (old k wk mk) (old m wm mm))
@@ -166,7 +213,9 @@ AreRead-push n hub load E one two other weight c lists xs a j r hc ne le p s =
           (cases_lt k (length lists));
     }
 
-pub AreRead-end : (n hub : ℕ) (load : ℕ → ℕ) (E : List Pair) (one two other weight : ℕ → ℕ) (c : ℕ) (lists : List (List ℕ)) → AreEnds n load E one two other weight → joints_at E hub ≡ 0 → n < c → AreRead n hub E one two other c lists → ArePartPaths n hub E lists
+pub AreRead-end : (n hub : ℕ) (load : ℕ → ℕ) (E : List Pair) (one two other weight : ℕ → ℕ) (c : ℕ)
+    (lists : List (List ℕ)) → AreEnds n load E one two other weight → joints_at E hub ≡ 0 → n < c →
+    AreRead n hub E one two other c lists → ArePartPaths n hub E lists
 AreRead-end n hub load E one two other weight c lists a j l s = record {
   paths = s.paths;
   cities = λ b. (
@@ -177,7 +226,8 @@ AreRead-end n hub load E one two other weight c lists a j l s = record {
         let w = a.back v.0 v.1.0 v.1.1 in
         let away : (x : ℕ) → part E x ≡ part E b → x ≢ hub = λ x e m. h.1 (alone E hub b j (sym e ∙ ap (part E) m)) in
         ⊎_elim
-        (λ (g : other v.0 < v.0). s.found (other v.0) b o.0 (omega (arith, o.0, l)) w.0 (away _ (o.1 ∙ v.1.2)) (omega (arith, g, w.1)) (sym (o.1 ∙ v.1.2)))
+        (λ (g : other v.0 < v.0). s.found (other v.0) b o.0 (omega (arith, o.0, l)) w.0 (away _ (o.1 ∙ v.1.2))
+        (omega (arith, g, w.1)) (sym (o.1 ∙ v.1.2)))
         (λ (g : v.0 ≤ other v.0). s.found v.0 b v.1.0 (omega (arith, v.1.0, l)) v.1.1 (away _ v.1.2) g (sym v.1.2))
         (cases_lt (other v.0) v.0),
   );
@@ -185,12 +235,16 @@ AreRead-end n hub load E one two other weight c lists a j l s = record {
   order = s.order;
 }
 
-pub begins : (c hub p q z : ℕ) → true ≡ (not (eqb c hub) && (eqb p 0 || eqb q 0) && leb c z) → (c ≢ hub) × ((p ≡ 0) ⊎ (q ≡ 0)) × (c ≤ z)
+pub begins : (c hub p q z : ℕ) → true ≡ (not (eqb c hub) && (eqb p 0 || eqb q 0) && leb c z) →
+    (c ≢ hub) × ((p ≡ 0) ⊎ (q ≡ 0)) × (c ≤ z)
 begins c hub p q z h =
     let a = and_parts _ _ (sym h) in
     let b = and_parts _ _ a.0 in
     (eqb-false c hub (not-true _ b.0), is_end-from p q b.1, leb-true c z a.1)
 
-pub begins_not : (c hub p q z : ℕ) → false ≡ (not (eqb c hub) && (eqb p 0 || eqb q 0) && leb c z) → (p ≡ 0) ⊎ (q ≡ 0) → c ≢ hub → c ≤ z → ⊥
+pub begins_not : (c hub p q z : ℕ) → false ≡ (not (eqb c hub) && (eqb p 0 || eqb q 0) && leb c z) → (p ≡ 0) ⊎ (q ≡ 0) →
+    c ≢ hub → c ≤ z → ⊥
 begins_not c hub p q z h e ne le =
-    both_ways _ (sym h) (and_from _ _ (and_from _ _ (not_from_false _ (ne_eqb c hub ne)) (⊎_elim (λ k. or_left _ _ (eq-eqb p 0 k)) (λ k. or_right _ _ (eq-eqb q 0 k)) e)) (le-leb c z le))
+    both_ways _ (sym h)
+    (and_from _ _ (and_from _ _ (not_from_false _ (ne_eqb c hub ne))
+    (⊎_elim (λ k. or_left _ _ (eq-eqb p 0 k)) (λ k. or_right _ _ (eq-eqb q 0 k)) e)) (le-leb c z le))

@@ -32,4 +32,5 @@ returns-clause-bridged g c = λ k.
 pub returns-clause-kept : goal.returns-clause-kept
 returns-clause-kept g c =
     let s = g.met.S.TourStore in
-    s.flips_more _ _ _ (s.flips_more _ _ _ (s.flips_more _ _ _ c.flip.ensures.kept c.flip-2.ensures.kept) c.flip-3.ensures.kept) c.flip-4.ensures.kept
+    s.flips_more _ _ _ (s.flips_more _ _ _ (s.flips_more _ _ _ c.flip.ensures.kept c.flip-2.ensures.kept)
+    c.flip-3.ensures.kept) c.flip-4.ensures.kept

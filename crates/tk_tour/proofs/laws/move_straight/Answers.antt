@@ -3,7 +3,8 @@ use Rattle.tk_tour.proofs.laws.move_straight.Goals as goal
 
 pub flip-requires : goal.flip-requires
 flip-requires g c =
-    third_cut _ _ _ _ _ _ _ _ c.requires (g.met.S.TourStore.is_tour c.move_reversed.new.tour) (c.move_reversed.ensures.moved c.requires)
+    third_cut _ _ _ _ _ _ _ _ c.requires (g.met.S.TourStore.is_tour c.move_reversed.new.tour)
+    (c.move_reversed.ensures.moved c.requires)
 
 pub returns-clause-moved : goal.returns-clause-moved
 returns-clause-moved g c = λ k.

@@ -8,14 +8,16 @@ use Rattle.tk_tour.proofs.Lengths.{way_back-step, way_back-end, tour_length-limi
 use Rattle.tk_tour.proofs.measure.length.Goals as goal
 
 -- a city of the rest is a city of the list
-city_in : (n first k : ℕ) (cities others : List ℕ) → cities ≡ first ∷ others → All (IsCity n) cities → k < length others → IsCity n (get_or others k 0)
+city_in : (n first k : ℕ) (cities others : List ℕ) → cities ≡ first ∷ others → All (IsCity n) cities →
+    k < length others → IsCity n (get_or others k 0)
 city_in n first k cities others e h lt =
     let P : List ℕ → Type 0 = λ v. All (IsCity n) v in
     All-get_or (IsCity n) (first ∷ others) (suc k) 0 (omega arith) (subst P e h)
 
 pub dist-total-requires-clause-b : goal.dist-total-requires-clause-b
 dist-total-requires-clause-b g c =
-    city_in (g.M.Metric.size_of c.args.metric.now) c.in-Some.field-0-0.now c.loop-city.city-index c.args.cities.now c.in-Some.others.now c.in-Some.ensures.cases.0 c.requires.cities c.loop-city-test.true
+    city_in (g.M.Metric.size_of c.args.metric.now) c.in-Some.field-0-0.now c.loop-city.city-index c.args.cities.now
+    c.in-Some.others.now c.in-Some.ensures.cases.0 c.requires.cities c.loop-city-test.true
 
 pub overflow_add-total : goal.overflow_add-total
 overflow_add-total g c =
@@ -34,7 +36,8 @@ loop-city-preserved g c =
     let limit = tour_length-limit d DISTANCE_LIMIT c.args.cities.now (g.met.M.Metric.distance_limit m) in
     let step = way_back-step d h.from c.in-Some.field-0-0.now h.city-index c.in-Some.others.now c.loop-city-test.true in
     record {
-      from_in = city_in (g.M.Metric.size_of m) c.in-Some.field-0-0.now h.city-index c.args.cities.now c.in-Some.others.now c.in-Some.ensures.cases.0 c.requires.cities c.loop-city-test.true;
+      from_in = city_in (g.M.Metric.size_of m) c.in-Some.field-0-0.now h.city-index c.args.cities.now
+          c.in-Some.others.now c.in-Some.ensures.cases.0 c.requires.cities c.loop-city-test.true;
       low = omega (arith, ints, limit, step, h.invariant.low, h.invariant.left, c.dist-total.ensures);
       left = omega (arith, ints, limit, step, h.invariant.low, h.invariant.left, c.dist-total.ensures);
     }

@@ -8,5 +8,6 @@ abbrev pub invariant-loop-city : goal.invariant-loop-city
 invariant-loop-city g l = record {
   from_in : IsCity (g.M.Metric.size_of l.metric) l.from;
   low : pos 0 ≤ℤ l.total;
-  left : l.total +ℤ pos (way_back (g.M.Metric.distance l.metric) l.from l.first l.city-index l.others) ≡ pos (tour_length (g.M.Metric.distance l.metric) l.cities);
+  left : l.total +ℤ pos (way_back (g.M.Metric.distance l.metric) l.from l.first l.city-index l.others) ≡ pos
+      (tour_length (g.M.Metric.distance l.metric) l.cities);
 }

@@ -192,8 +192,8 @@ impl SeenTour {
         written
     }
 
-    /// Reverses `count` places of the list from `first` on, from 0, and joins runs again that were parted for a reversal
-    /// of the same places: how many places it writes.
+    /// Reverses `count` places of the list from `first` on, from 0, and joins runs again that were parted for a
+    /// reversal of the same places: how many places it writes.
     pub(crate) fn undo(&mut self, first: u32, count: u32) -> u64
         requires first { first < length (list_of self.old) }
         requires count { 2 * count ≤ length (list_of self.old) }

@@ -1,5 +1,6 @@
 //! A run begins where something is seen.
-ghost use Rattle.std.specs.Prelude.{◌≡◌, ◌≤◌, ◌<◌, ◌+◌, ◌-◌, ◌*◌, ℕ, List, true, false, length, slice_index_or, sum_by, take, vec_len};
+ghost use Rattle.std.specs.Prelude.{◌≡◌, ◌≤◌, ◌<◌, ◌+◌, ◌-◌, ◌*◌, ℕ, List, true, false, length, slice_index_or, sum_by};
+ghost use Rattle.std.specs.Prelude.{take, vec_len};
 ghost use Rattle.std.specs.List.{insert};
 ghost use Rattle.std.specs.Vec.{vec_capacity};
 ghost use Rattle.tk_problem.specs.declared.limits.TheConstants.{CITY_LIMIT};
@@ -42,7 +43,8 @@ fn new_part(runs: &[Run], size: u32, k: usize) -> Run
     requires laid { AreLaidOut size runs.now }
     requires index { k + 1 < length runs.now }
     ensures behind { (d : Run) → (slice_index_or runs.now k d).back ≡ true → result ≡ slice_index_or runs.now k d }
-    ensures ahead { (d : Run) → (slice_index_or runs.now k d).back ≡ false → result ≡ slice_index_or runs.now (k + 1) d }
+    ensures ahead { (d : Run) → (slice_index_or runs.now k d).back ≡ false
+        → result ≡ slice_index_or runs.now (k + 1) d }
     ensures within { IsWithin size result }
 {
     let run = runs[k];

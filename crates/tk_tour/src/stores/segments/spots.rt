@@ -1,5 +1,6 @@
 //! Where something is seen: by which run, and at which place of the array.
-ghost use Rattle.std.specs.Prelude.{◌≡◌, ◌≤◌, ◌<◌, ◌+◌, ◌-◌, ◌*◌, ℕ, List, length, slice_index, slice_index_or, sum_by, take};
+ghost use Rattle.std.specs.Prelude.{◌≡◌, ◌≤◌, ◌<◌, ◌+◌, ◌-◌, ◌*◌, ℕ, List, length, slice_index, slice_index_or, sum_by};
+ghost use Rattle.std.specs.Prelude.{take};
 ghost use Rattle.tk_problem.specs.declared.limits.TheConstants.{CITY_LIMIT};
 ghost use Rattle.tk_tour.specs.Runs.{AreLaidOut, AreNamed, CanBeFound, IsAfterPlace, IsSpot, size_of};
 ghost use Rattle.tk_tour.specs.declared.stores.segments.run.Run.{Run};

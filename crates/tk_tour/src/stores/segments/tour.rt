@@ -40,7 +40,8 @@ pub struct SegmentTour {
 }
 
 impl TourStore for SegmentTour {
-    ghost use Rattle.tk_tour.specs.SegmentTours.{seen_order, seen_swaps, seen_flips, SeenFlips, SeenFlips-refl, SeenFlips-trans};
+    ghost use Rattle.tk_tour.specs.SegmentTours.{seen_order, seen_swaps, seen_flips, SeenFlips, SeenFlips-refl};
+    ghost use Rattle.tk_tour.specs.SegmentTours.{SeenFlips-trans};
 
     ghost cities = { seen_order };
 
@@ -145,7 +146,8 @@ impl UndoStore for SegmentTour {
 
 impl SegmentTour {
     ghost use Rattle.std.specs.Prelude.{OnOk, IfOk, IfErr};
-    ghost use Rattle.tk_tour.specs.SegmentTours.{seen_order, seen_swaps, seen_undo_swaps, seen_flips, seen_copied, writes_of, seen_array, segments_of, most_of};
+    ghost use Rattle.tk_tour.specs.SegmentTours.{seen_order, seen_swaps, seen_undo_swaps, seen_flips, seen_copied};
+    ghost use Rattle.tk_tour.specs.SegmentTours.{writes_of, seen_array, segments_of, most_of};
     ghost use Rattle.tk_tour.specs.Tour.{IsSizedTour};
     ghost use Rattle.tk_tour.specs.Fault.{IsFaultOf};
     ghost use Rattle.tk_tour.specs.Reversal.{reversed_places};
@@ -233,7 +235,8 @@ impl SegmentTour {
         ensures writes { saturated (writes_of self.old + changed (seen_array self.old) (seen_array self.new))
             ≤ writes_of self.new }
         ensures size { length (seen_array self.new) ≡ length (seen_array self.old) }
-        ensures others { (seen_flips self.new ≡ seen_flips self.old) × (seen_undo_swaps self.new ≡ seen_undo_swaps self.old)
+        ensures others { (seen_flips self.new ≡ seen_flips self.old)
+            × (seen_undo_swaps self.new ≡ seen_undo_swaps self.old)
             × (seen_copied self.new ≡ seen_copied self.old) × (most_of self.new ≡ most_of self.old) }
     {
         let written = self.seen.reverse(first, count);

@@ -11,7 +11,8 @@ length-requires-clause-cities c =
     let cities = c.order.result.now in
     let sized = subst (λ k. IsTour k c.args.tour.now.order.items) (sym c.requires) c.args.tour.now.tour.2 in
     let tour = subst (IsTour n) (sym c.order.ensures) sized in
-    All-from_get_or (IsCity n) cities 0 (λ i lt. let r = city_in_range n cities i tour (omega (arith, tour.0, lt)) in (omega (arith, r.0), omega (arith, r.1)))
+    All-from_get_or (IsCity n) cities 0 (λ i lt. let r = city_in_range n cities i tour (omega (arith, tour.0, lt)) in
+    (omega (arith, r.0), omega (arith, r.1)))
 
 pub length-requires-clause-count : goal.length-requires-clause-count
 length-requires-clause-count c = omega (arith, ap length c.order.ensures, c.args.tour.now.tour.1)

@@ -4,24 +4,45 @@ use Rattle.tk_writers.proofs.MatrixLines.{on_line-all, on_line-from_k, on_line-b
 use Rattle.tk_writers.proofs.matrix.places_on_line.Goals as goal
 
 pub returns-in-FullMatrix-clause-places : goal.returns-in-FullMatrix-clause-places
-returns-in-FullMatrix-clause-places c = rw c.in-FullMatrix.is (on_line-all c.args.n c.args.k formats.FullMatrix (λ m. refl))
+returns-in-FullMatrix-clause-places c =
+    rw c.in-FullMatrix.is (on_line-all c.args.n c.args.k formats.FullMatrix (λ m. refl))
 
 pub returns-in-UpperRow-clause-places : goal.returns-in-UpperRow-clause-places
 returns-in-UpperRow-clause-places c =
     let city = c.requires.city in
-    elim c.in-UpperRow.is [ inl e ↦ rw e (on_line-behind_k c.args.n c.args.k formats.UpperRow (λ m. refl) city.0 city.1) | inr e ↦ rw e (on_line-behind_k c.args.n c.args.k formats.LowerCol (λ m. refl) city.0 city.1) ]
+    elim c.in-UpperRow.is [
+      | inl e ↦ rw e
+          (on_line-behind_k c.args.n c.args.k formats.UpperRow (λ m. refl) city.0 city.1)
+      | inr e ↦ rw e
+          (on_line-behind_k c.args.n c.args.k formats.LowerCol (λ m. refl) city.0 city.1)
+    ]
 
 pub returns-in-LowerRow-clause-places : goal.returns-in-LowerRow-clause-places
 returns-in-LowerRow-clause-places c =
     let city = c.requires.city in
-    elim c.in-LowerRow.is [ inl e ↦ rw e (on_line-before_k c.args.n c.args.k formats.LowerRow (λ m. refl) city.0 city.1) | inr e ↦ rw e (on_line-before_k c.args.n c.args.k formats.UpperCol (λ m. refl) city.0 city.1) ]
+    elim c.in-LowerRow.is [
+      | inl e ↦ rw e
+          (on_line-before_k c.args.n c.args.k formats.LowerRow (λ m. refl) city.0 city.1)
+      | inr e ↦ rw e
+          (on_line-before_k c.args.n c.args.k formats.UpperCol (λ m. refl) city.0 city.1)
+    ]
 
 pub returns-in-UpperDiagRow-clause-places : goal.returns-in-UpperDiagRow-clause-places
 returns-in-UpperDiagRow-clause-places c =
     let city = c.requires.city in
-    elim c.in-UpperDiagRow.is [ inl e ↦ rw e (on_line-from_k c.args.n c.args.k formats.UpperDiagRow (λ m. refl) city.0 city.1) | inr e ↦ rw e (on_line-from_k c.args.n c.args.k formats.LowerDiagCol (λ m. refl) city.0 city.1) ]
+    elim c.in-UpperDiagRow.is [
+      | inl e ↦ rw e
+          (on_line-from_k c.args.n c.args.k formats.UpperDiagRow (λ m. refl) city.0 city.1)
+      | inr e ↦ rw e
+          (on_line-from_k c.args.n c.args.k formats.LowerDiagCol (λ m. refl) city.0 city.1)
+    ]
 
 pub returns-in-LowerDiagRow-clause-places : goal.returns-in-LowerDiagRow-clause-places
 returns-in-LowerDiagRow-clause-places c =
     let city = c.requires.city in
-    elim c.in-LowerDiagRow.is [ inl e ↦ rw e (on_line-to_k c.args.n c.args.k formats.LowerDiagRow (λ m. refl) city.0 city.1) | inr e ↦ rw e (on_line-to_k c.args.n c.args.k formats.UpperDiagCol (λ m. refl) city.0 city.1) ]
+    elim c.in-LowerDiagRow.is [
+      | inl e ↦ rw e
+          (on_line-to_k c.args.n c.args.k formats.LowerDiagRow (λ m. refl) city.0 city.1)
+      | inr e ↦ rw e
+          (on_line-to_k c.args.n c.args.k formats.UpperDiagCol (λ m. refl) city.0 city.1)
+    ]

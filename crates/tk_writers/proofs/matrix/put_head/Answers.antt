@@ -6,7 +6,8 @@ use Rattle.tk_writers.proofs.matrix.put_head.Goals as goal
 
 pub returns : goal.returns
 returns g c =
-    subst (Puts _ _ _ _) (matrix_head-pieces c.args.name.now c.args.n c.args.f c.format_word.result.now c.format_word.ensures)
+    subst (Puts _ _ _ _)
+    (matrix_head-pieces c.args.name.now c.args.n c.args.f c.format_word.result.now c.format_word.ensures)
     (Puts-then _ _ _ _ _ _ _ c.put.ensures
     (Puts-then _ _ _ _ _ _ _ c.put-2.ensures
     (Puts-then _ _ _ _ _ _ _ c.put-3.ensures

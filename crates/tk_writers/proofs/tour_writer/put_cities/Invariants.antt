@@ -6,4 +6,6 @@ use Rattle.tk_writers.specs.Written.{line}
 use Rattle.tk_writers.proofs.tour_writer.put_cities.Given as goal
 
 abbrev pub invariant-loop-city : goal.invariant-loop-city
-invariant-loop-city g l = Puts g.W.Sink.taken g.W.Sink.broken l.initial.pen l.pen (flat_map (λ c. line (decimal c)) (take l.city-index l.cities))
+invariant-loop-city g l =
+    Puts g.W.Sink.taken g.W.Sink.broken l.initial.pen l.pen
+    (flat_map (λ c. line (decimal c)) (take l.city-index l.cities))

@@ -5,4 +5,5 @@ use Rattle.tourkit_c.proofs.weights.are_small.Goals as goal
 
 pub returns-clause-yes : goal.returns-clause-yes
 returns-clause-yes c = λ _.
-    All-from_get_or (λ w. w ≤ DISTANCE_LIMIT) c.args.weights.now 0 (λ j lt. c.loop-i.invariant j (omega (arith, lt, c.loop-i.auto.i-end, c.loop-i-test.false)))
+    All-from_get_or (λ w. w ≤ DISTANCE_LIMIT) c.args.weights.now 0
+    (λ j lt. c.loop-i.invariant j (omega (arith, lt, c.loop-i.auto.i-end, c.loop-i-test.false)))

@@ -11,17 +11,25 @@ use Rattle.tk_descent.proofs.gains.Gains.find_offer.Goals as goal
 pub find_in-requires : goal.find_in-requires
 find_in-requires g c =
     let C = g.S.TourStore.cities c.args.tour.now in
-    with_ends C c.of-near_city-items.result.now c.args.or_segment c.args.city c.args.near.now.size (g.Self.Gains.size_of c.loop-near_city.self) c.loop-near_city.near_city-index _ (round_of C (g.met.S.TourStore.is_tour c.args.tour.now)) c.requires.fits.1
-    (c.loop-near_city.invariant.range ∙ c.requires.fits.0) c.requires.most.0 c.requires.city c.of-near_city-items.ensures.others c.loop-near_city-test.true (c.as_slice.ensures ∙ c.offers_with-offers.ensures)
+    with_ends C c.of-near_city-items.result.now c.args.or_segment c.args.city c.args.near.now.size
+    (g.Self.Gains.size_of c.loop-near_city.self) c.loop-near_city.near_city-index
+    _ (round_of C (g.met.S.TourStore.is_tour c.args.tour.now)) c.requires.fits.1
+    (c.loop-near_city.invariant.range ∙ c.requires.fits.0) c.requires.most.0 c.requires.city
+    c.of-near_city-items.ensures.others c.loop-near_city-test.true (c.as_slice.ensures
+    ∙ c.offers_with-offers.ensures)
 
 pub returns-in-Some-clause-searched : goal.returns-in-Some-clause-searched
 returns-in-Some-clause-searched g c =
     let d = g.Self.Gains.distance c.args.self.now in
     let C = g.S.TourStore.cities c.args.tour.now in
     let ss = segments (next_city C) (prev_city C) (length C) c.args.or_segment c.args.city in
-    on_list d _ _ _ _ _ (ap (flat_map (offers_with (next_city C) (prev_city C) ss c.args.city)) c.of-near_city-items.ensures.value)
-    (Searched-early d (offers_with (next_city C) (prev_city C) ss c.args.city) c.of-near_city-items.result.now c.loop-near_city.near_city-index 0 c.loop-near_city-test.true _ _ _ _ c.loop-near_city.invariant.searched
-    (at_table d _ _ _ _ _ c.loop-near_city.invariant.table (on_list _ _ _ _ _ _ (c.as_slice.ensures ∙ c.offers_with-offers.ensures) c.in-Some.ensures.searched)))
+    on_list d
+    _ _ _ _ _ (ap (flat_map (offers_with (next_city C) (prev_city C) ss c.args.city))
+    c.of-near_city-items.ensures.value)
+    (Searched-early d (offers_with (next_city C) (prev_city C) ss c.args.city) c.of-near_city-items.result.now
+    c.loop-near_city.near_city-index 0 c.loop-near_city-test.true _ _ _ _ c.loop-near_city.invariant.searched
+    (at_table d _ _ _ _ _ c.loop-near_city.invariant.table
+    (on_list _ _ _ _ _ _ (c.as_slice.ensures ∙ c.offers_with-offers.ensures) c.in-Some.ensures.searched)))
 
 pub loop-near_city-preserved : goal.loop-near_city-preserved
 loop-near_city-preserved g c =
@@ -30,8 +38,11 @@ loop-near_city-preserved g c =
     let C = g.S.TourStore.cities c.args.tour.now in
     let ss = segments (next_city C) (prev_city C) (length C) c.args.or_segment c.args.city in
     record {
-      searched = Searched-more d (offers_with (next_city C) (prev_city C) ss c.args.city) c.of-near_city-items.result.now c.loop-near_city.near_city-index 0 c.loop-near_city-test.true _ _ _ i.searched
-          (at_table d _ _ _ _ _ i.table (on_list _ _ _ _ _ _ (c.as_slice.ensures ∙ c.offers_with-offers.ensures) c.in_default.ensures.searched));
+      searched =
+          Searched-more d (offers_with (next_city C) (prev_city C) ss c.args.city) c.of-near_city-items.result.now
+          c.loop-near_city.near_city-index 0 c.loop-near_city-test.true _ _ _ i.searched
+          (at_table d _ _ _ _ _ i.table
+          (on_list _ _ _ _ _ _ (c.as_slice.ensures ∙ c.offers_with-offers.ensures) c.in_default.ensures.searched));
       table = c.find_in.ensures.same.0 ∙ i.table;
       range = c.find_in.ensures.same.1 ∙ i.range;
     }
@@ -40,15 +51,23 @@ pub returns-in-Some-clause-on_cycle : goal.returns-in-Some-clause-on_cycle
 returns-in-Some-clause-on_cycle g c =
     let C = g.S.TourStore.cities c.args.tour.now in
     let h = returns-in-Some-clause-searched g c in
-    offers_on (g.Self.Gains.distance c.args.self.now) C c.of-near_city-items.result.now c.args.or_segment c.args.city c.args.near.now.size c.in-Some.found.offer (round_of C (g.met.S.TourStore.is_tour c.args.tour.now)) c.requires.fits.1 c.requires.most.0 c.requires.city c.of-near_city-items.ensures.others
-    (ap (λ z. first_gain (g.Self.Gains.distance c.args.self.now) (offers C c.args.or_segment z c.args.city)) c.of-near_city-items.ensures.value ∙ sym h.found)
+    offers_on (g.Self.Gains.distance c.args.self.now) C c.of-near_city-items.result.now c.args.or_segment c.args.city
+    c.args.near.now.size c.in-Some.found.offer (round_of C (g.met.S.TourStore.is_tour c.args.tour.now))
+    c.requires.fits.1 c.requires.most.0 c.requires.city c.of-near_city-items.ensures.others
+    (ap (λ z. first_gain (g.Self.Gains.distance c.args.self.now) (offers C c.args.or_segment z c.args.city))
+    c.of-near_city-items.ensures.value ∙ sym h.found)
 
 pub returns-in-Some-clause-bound : goal.returns-in-Some-clause-bound
 returns-in-Some-clause-bound g c =
-    tested (g.Self.Gains.distance c.args.self.now) (g.S.TourStore.cities c.args.tour.now) (near_of c.args.near.now c.args.city) c.args.or_segment c.args.city _ _ c.args.near.now.width _ c.requires.most.0
-    (omega (arith, c.of-near_city-items.ensures.count, ap length c.of-near_city-items.ensures.value)) (returns-in-Some-clause-searched g c)
+    tested (g.Self.Gains.distance c.args.self.now) (g.S.TourStore.cities c.args.tour.now)
+    (near_of c.args.near.now c.args.city) c.args.or_segment c.args.city _ _ c.args.near.now.width
+    _ c.requires.most.0
+    (omega (arith, c.of-near_city-items.ensures.count, ap length c.of-near_city-items.ensures.value))
+    (returns-in-Some-clause-searched g c)
 
 pub returns-clause-bound : goal.returns-clause-bound
 returns-clause-bound g c =
-    tested_part (g.Self.Gains.distance c.args.self.now) (g.S.TourStore.cities c.args.tour.now) c.of-near_city-items.result.now c.args.or_segment c.args.city c.loop-near_city.near_city-index _ _ c.args.near.now.width _ c.requires.most.0
+    tested_part (g.Self.Gains.distance c.args.self.now) (g.S.TourStore.cities c.args.tour.now)
+    c.of-near_city-items.result.now c.args.or_segment c.args.city c.loop-near_city.near_city-index
+    _ _ c.args.near.now.width _ c.requires.most.0
     (omega (arith, c.of-near_city-items.ensures.count)) c.loop-near_city.invariant.searched

@@ -2,24 +2,35 @@ use Rattle.std.proofs.Common.{◌∙◌, length, ap, flat_map, arith, sym}
 use Rattle.tk_near.specs.Near.{near_of}
 use Rattle.tk_tour.specs.Tour.{next_city, prev_city}
 use Rattle.tk_descent.specs.Offers.{segments, offers_with, first_gain, offers, segment_count}
-use Rattle.tk_descent.proofs.OfferLists.Searching.{Searched-more, Searched-early, Searched-none, with_city, on_list, pieces_are}
+use Rattle.tk_descent.proofs.OfferLists.Searching.{Searched-more, Searched-early, Searched-none, with_city, on_list}
+use Rattle.tk_descent.proofs.OfferLists.Searching.{pieces_are}
 use Rattle.tk_descent.proofs.OfferLists.Count.{tested, tested_part}
 use Rattle.tk_descent.proofs.OfferLists.OnCycle.{offers_on}
 use Rattle.tk_descent.proofs.MovesOnTours.Rounds.{round_of}
 use Rattle.tk_descent.proofs.looks.looking.find_offer.Goals as goal
 
 pub loop-y-init : goal.loop-y-init
-loop-y-init g c = record { searched = Searched-none (g.M.Metric.distance c.args.metric.now) _ search; known = c.look_beside-from.ensures.known }
+loop-y-init g c =
+    record {
+      searched = Searched-none (g.M.Metric.distance c.args.metric.now) _ search;
+      known = c.look_beside-from.ensures.known;
+    }
 
 pub returns-in-Some-clause-searched : goal.returns-in-Some-clause-searched
 returns-in-Some-clause-searched g c =
     let d = g.M.Metric.distance c.args.metric.now in
     let C = g.S.TourStore.cities c.args.tour.now in
     let ss = segments (next_city C) (prev_city C) (length C) c.args.or_segment c.args.city in
-    on_list d _ _ _ _ _ (ap (flat_map (offers_with (next_city C) (prev_city C) ss c.args.city)) c.of-y-items.ensures.value)
-    (Searched-early d (offers_with (next_city C) (prev_city C) ss c.args.city) c.of-y-items.result.now c.loop-y.y-index 0 c.loop-y-test.true _ _ _ _ c.loop-y.invariant.searched
-    (with_city (next_city C) (prev_city C) ss _ c.look_beside-from.result c.look_beside-y.result _ _ d _ _ _ c.look_beside-from.ensures.city c.look_beside-from.ensures.after c.look_beside-from.ensures.before c.look_beside-y.ensures.city c.look_beside-y.ensures.after c.look_beside-y.ensures.before
-    (pieces_are (next_city C) (prev_city C) (length C) c.args.or_segment _ c.args.city _ _ (c.segment_count.ensures.value ∙ ap (λ z. segment_count z c.args.or_segment) c.size.ensures.count) c.look_beside-from.ensures.city c.pieces_of-all.ensures.value) c.in-Some.ensures))
+    on_list d
+    _ _ _ _ _ (ap (flat_map (offers_with (next_city C) (prev_city C) ss c.args.city)) c.of-y-items.ensures.value)
+    (Searched-early d (offers_with (next_city C) (prev_city C) ss c.args.city) c.of-y-items.result.now c.loop-y.y-index
+    0 c.loop-y-test.true _ _ _ _ c.loop-y.invariant.searched
+    (with_city (next_city C) (prev_city C) ss _ c.look_beside-from.result c.look_beside-y.result _ _ d
+    _ _ _ c.look_beside-from.ensures.city c.look_beside-from.ensures.after c.look_beside-from.ensures.before
+    c.look_beside-y.ensures.city c.look_beside-y.ensures.after c.look_beside-y.ensures.before
+    (pieces_are (next_city C) (prev_city C) (length C) c.args.or_segment _ c.args.city
+    _ _ (c.segment_count.ensures.value ∙ ap (λ z. segment_count z c.args.or_segment) c.size.ensures.count)
+    c.look_beside-from.ensures.city c.pieces_of-all.ensures.value) c.in-Some.ensures))
 
 pub loop-y-preserved : goal.loop-y-preserved
 loop-y-preserved g c =
@@ -27,9 +38,14 @@ loop-y-preserved g c =
     let C = g.S.TourStore.cities c.args.tour.now in
     let ss = segments (next_city C) (prev_city C) (length C) c.args.or_segment c.args.city in
     record {
-      searched = Searched-more d (offers_with (next_city C) (prev_city C) ss c.args.city) c.of-y-items.result.now c.loop-y.y-index 0 c.loop-y-test.true _ _ _ c.loop-y.invariant.searched
-          (with_city (next_city C) (prev_city C) ss _ c.look_beside-from.result c.look_beside-y.result _ _ d _ _ _ c.look_beside-from.ensures.city c.look_beside-from.ensures.after c.look_beside-from.ensures.before c.look_beside-y.ensures.city c.look_beside-y.ensures.after c.look_beside-y.ensures.before
-          (pieces_are (next_city C) (prev_city C) (length C) c.args.or_segment _ c.args.city _ _ (c.segment_count.ensures.value ∙ ap (λ z. segment_count z c.args.or_segment) c.size.ensures.count) c.look_beside-from.ensures.city c.pieces_of-all.ensures.value) c.in_default.ensures);
+      searched = Searched-more d (offers_with (next_city C) (prev_city C) ss c.args.city) c.of-y-items.result.now
+          c.loop-y.y-index 0 c.loop-y-test.true _ _ _ c.loop-y.invariant.searched
+          (with_city (next_city C) (prev_city C) ss _ c.look_beside-from.result c.look_beside-y.result _ _ d
+          _ _ _ c.look_beside-from.ensures.city c.look_beside-from.ensures.after c.look_beside-from.ensures.before
+          c.look_beside-y.ensures.city c.look_beside-y.ensures.after c.look_beside-y.ensures.before
+          (pieces_are (next_city C) (prev_city C) (length C) c.args.or_segment _ c.args.city
+          _ _ (c.segment_count.ensures.value ∙ ap (λ z. segment_count z c.args.or_segment) c.size.ensures.count)
+          c.look_beside-from.ensures.city c.pieces_of-all.ensures.value) c.in_default.ensures);
       known = c.look_beside-y.ensures.known;
     }
 
@@ -37,15 +53,22 @@ pub returns-in-Some-clause-on_cycle : goal.returns-in-Some-clause-on_cycle
 returns-in-Some-clause-on_cycle g c =
     let C = g.S.TourStore.cities c.args.tour.now in
     let h = returns-in-Some-clause-searched g c in
-    offers_on (g.M.Metric.distance c.args.metric.now) C c.of-y-items.result.now c.args.or_segment c.args.city c.args.near.now.size c.in-Some.found.offer (round_of C (g.met.S.TourStore.is_tour c.args.tour.now)) c.requires.fits.1 c.requires.most.0 c.requires.city c.of-y-items.ensures.others
-    (ap (λ z. first_gain (g.M.Metric.distance c.args.metric.now) (offers C c.args.or_segment z c.args.city)) c.of-y-items.ensures.value ∙ sym h.found)
+    offers_on (g.M.Metric.distance c.args.metric.now) C c.of-y-items.result.now c.args.or_segment c.args.city
+    c.args.near.now.size c.in-Some.found.offer (round_of C (g.met.S.TourStore.is_tour c.args.tour.now))
+    c.requires.fits.1 c.requires.most.0 c.requires.city c.of-y-items.ensures.others
+    (ap (λ z. first_gain (g.M.Metric.distance c.args.metric.now) (offers C c.args.or_segment z c.args.city))
+    c.of-y-items.ensures.value ∙ sym h.found)
 
 pub returns-in-Some-clause-bound : goal.returns-in-Some-clause-bound
 returns-in-Some-clause-bound g c =
-    tested (g.M.Metric.distance c.args.metric.now) (g.S.TourStore.cities c.args.tour.now) (near_of c.args.near.now c.args.city) c.args.or_segment c.args.city _ _ c.args.near.now.width _ c.requires.most.0
-    (omega (arith, c.of-y-items.ensures.count, ap length c.of-y-items.ensures.value)) (returns-in-Some-clause-searched g c)
+    tested (g.M.Metric.distance c.args.metric.now) (g.S.TourStore.cities c.args.tour.now)
+    (near_of c.args.near.now c.args.city) c.args.or_segment c.args.city _ _ c.args.near.now.width
+    _ c.requires.most.0
+    (omega (arith, c.of-y-items.ensures.count, ap length c.of-y-items.ensures.value))
+    (returns-in-Some-clause-searched g c)
 
 pub returns-clause-bound : goal.returns-clause-bound
 returns-clause-bound g c =
-    tested_part (g.M.Metric.distance c.args.metric.now) (g.S.TourStore.cities c.args.tour.now) c.of-y-items.result.now c.args.or_segment c.args.city c.loop-y.y-index _ _ c.args.near.now.width _ c.requires.most.0
+    tested_part (g.M.Metric.distance c.args.metric.now) (g.S.TourStore.cities c.args.tour.now) c.of-y-items.result.now
+    c.args.or_segment c.args.city c.loop-y.y-index _ _ c.args.near.now.width _ c.requires.most.0
     (omega (arith, c.of-y-items.ensures.count)) c.loop-y.invariant.searched

@@ -8,6 +8,9 @@ abbrev pub invariant-loop-y : goal.invariant-loop-y
 invariant-loop-y g l =
     let C = g.S.TourStore.cities l.tour in
     record {
-      searched : Searched (g.M.Metric.distance l.metric) (flat_map (offers_with (next_city C) (prev_city C) (segments (next_city C) (prev_city C) (length C) l.or_segment l.city) l.city) (take l.y-index l.y-items)) None l.fn.count l.count;
+      searched : Searched (g.M.Metric.distance l.metric)
+          (flat_map (offers_with (next_city C) (prev_city C)
+          (segments (next_city C) (prev_city C) (length C) l.or_segment l.city) l.city) (take l.y-index l.y-items)) None
+          l.fn.count l.count;
       known : AreMeasured (g.M.Metric.distance l.metric) l.steps;
     }

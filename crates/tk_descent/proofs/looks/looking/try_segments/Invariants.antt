@@ -4,4 +4,6 @@ use Rattle.tk_descent.specs.Sharing.{piece_offers}
 use Rattle.tk_descent.proofs.looks.looking.try_segments.Given as goal
 
 abbrev pub invariant-loop-piece : goal.invariant-loop-piece
-invariant-loop-piece g l = Searched (g.M.Metric.distance l.metric) (flat_map (piece_offers l.x l.y) (take l.piece-index l.pieces)) None l.fn.count l.count
+invariant-loop-piece g l =
+    Searched (g.M.Metric.distance l.metric) (flat_map (piece_offers l.x l.y) (take l.piece-index l.pieces)) None
+    l.fn.count l.count

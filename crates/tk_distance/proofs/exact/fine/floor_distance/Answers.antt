@@ -9,7 +9,8 @@ use Rattle.tk_distance.proofs.exact.fine.floor_distance.Goals as goal
 
 pub returns-in-Euc2d : goal.returns-in-Euc2d
 returns-in-Euc2d c =
-    subst (λ (k : PlaneKind). IsDistance k c.args.dx 0 c.rounded_length.result) (sym c.in-Euc2d.is) (nearest_along c.args.dx c.rounded_length.result c.rounded_length.ensures)
+    subst (λ (k : PlaneKind). IsDistance k c.args.dx 0 c.rounded_length.result) (sym c.in-Euc2d.is)
+    (nearest_along c.args.dx c.rounded_length.result c.rounded_length.ensures)
 
 pub returns-in-Ceil2d : goal.returns-in-Ceil2d
 returns-in-Ceil2d c =

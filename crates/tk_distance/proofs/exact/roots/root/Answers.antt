@@ -4,4 +4,5 @@ use Rattle.tk_distance.proofs.exact.roots.root.Goals as goal
 
 pub returns-then-x-square : goal.returns-then-x-square
 returns-then-x-square c =
-    root_between c.args.x c.near_wide_root-guess.result c.if-square-x.true (omega (arith, c.if-square-x.true, c.if-x-square.true))
+    root_between c.args.x c.near_wide_root-guess.result c.if-square-x.true
+    (omega (arith, c.if-square-x.true, c.if-x-square.true))

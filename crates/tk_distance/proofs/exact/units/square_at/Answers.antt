@@ -14,8 +14,10 @@ returns-in-Tenth c = λ square d near is.
 
 pub returns-in-Hundredth : goal.returns-in-Hundredth
 returns-in-Hundredth c = λ square d near is.
-    below_by c.args.unit Hundredth square d c.args.bound _ c.in-Hundredth.is c.square_of_half-in-Hundredth.ensures.value near is
+    below_by c.args.unit Hundredth square d c.args.bound _ c.in-Hundredth.is
+    c.square_of_half-in-Hundredth.ensures.value near is
 
 pub returns-in-Thousandth : goal.returns-in-Thousandth
 returns-in-Thousandth c = λ square d near is.
-    below_by c.args.unit Thousandth square d c.args.bound _ c.in-Thousandth.is c.square_of_half-in-Thousandth.ensures.value near is
+    below_by c.args.unit Thousandth square d c.args.bound _ c.in-Thousandth.is
+    c.square_of_half-in-Thousandth.ensures.value near is

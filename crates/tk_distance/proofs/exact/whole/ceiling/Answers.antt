@@ -4,4 +4,5 @@ use Rattle.tk_distance.proofs.exact.whole.ceiling.Goals as goal
 
 pub returns-else-middle-square-2 : goal.returns-else-middle-square-2
 returns-else-middle-square-2 c =
-    least_whole c.args.square c.rounded-guess.result c.if-middle-square-2.false (λ some. omega (arith, c.if-middle-square.true))
+    least_whole c.args.square c.rounded-guess.result c.if-middle-square-2.false
+    (λ some. omega (arith, c.if-middle-square.true))

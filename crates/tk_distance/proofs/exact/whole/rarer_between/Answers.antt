@@ -13,5 +13,6 @@ returns c =
     let is = whole_places c.args.kind c.args.unit c.args.p c.args.q _ _ _ x y c.whole_distance.ensures in
     record {
       distance = is;
-      limit = IsDistanceOf-limit c.args.kind (place_in c.args.unit c.args.p) (place_in c.args.unit c.args.q) _ (place_in-near c.args.unit c.args.p) (place_in-near c.args.unit c.args.q) is;
+      limit = IsDistanceOf-limit c.args.kind (place_in c.args.unit c.args.p) (place_in c.args.unit c.args.q)
+          _ (place_in-near c.args.unit c.args.p) (place_in-near c.args.unit c.args.q) is;
     }

@@ -4,18 +4,24 @@ use Rattle.tk_distance.proofs.planes.PlanesMetric.dist.Goals as goal
 
 pub returns-in-Whole : goal.returns-in-Whole
 returns-in-Whole c =
-    let is = whole_cities c.args.self.now.kind c.args.self.now.places c.in-Whole.unit c.in-Whole.places c.args.a c.args.b c.index-places-a.result c.index-places-b.result c.whole_between.result
+    let is = whole_cities c.args.self.now.kind c.args.self.now.places c.in-Whole.unit c.in-Whole.places c.args.a
+    c.args.b c.index-places-a.result c.index-places-b.result c.whole_between.result
     c.in-Whole.is c.requires.a c.requires.b c.index-places-a.is c.index-places-b.is c.whole_between.ensures.distance in
     record {
-      value = signed_value c.args.self.now.kind (places_of c.args.self.now.places) c.args.a c.args.b _ is c.whole_between.ensures.limit;
-      exact = signed_distance c.args.self.now.kind (places_of c.args.self.now.places) c.args.a c.args.b _ is c.whole_between.ensures.limit;
+      value = signed_value c.args.self.now.kind (places_of c.args.self.now.places) c.args.a c.args.b _ is
+          c.whole_between.ensures.limit;
+      exact = signed_distance c.args.self.now.kind (places_of c.args.self.now.places) c.args.a c.args.b _ is
+          c.whole_between.ensures.limit;
     }
 
 pub returns-in-Fine : goal.returns-in-Fine
 returns-in-Fine c =
-    let is = fine_cities c.args.self.now.kind c.args.self.now.places c.in-Fine.places c.args.a c.args.b c.fine_between.result
+    let is = fine_cities c.args.self.now.kind c.args.self.now.places c.in-Fine.places c.args.a c.args.b
+    c.fine_between.result
     c.in-Fine.is c.fine_between.ensures.distance in
     record {
-      value = signed_value c.args.self.now.kind (places_of c.args.self.now.places) c.args.a c.args.b _ is c.fine_between.ensures.limit;
-      exact = signed_distance c.args.self.now.kind (places_of c.args.self.now.places) c.args.a c.args.b _ is c.fine_between.ensures.limit;
+      value = signed_value c.args.self.now.kind (places_of c.args.self.now.places) c.args.a c.args.b _ is
+          c.fine_between.ensures.limit;
+      exact = signed_distance c.args.self.now.kind (places_of c.args.self.now.places) c.args.a c.args.b _ is
+          c.fine_between.ensures.limit;
     }

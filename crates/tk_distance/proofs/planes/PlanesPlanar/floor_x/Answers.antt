@@ -5,11 +5,13 @@ use Rattle.tk_distance.proofs.planes.PlanesPlanar.floor_x.Goals as goal
 
 pub overflow_cast-result : goal.overflow_cast-result
 overflow_cast-result c =
-    let low = limit c.args.self.now.kind c.args.dx 0 c.floor_distance.result c.requires (omega arith) c.floor_distance.ensures in
+    let low = limit c.args.self.now.kind c.args.dx 0 c.floor_distance.result c.requires (omega arith)
+    c.floor_distance.ensures in
     omega (arith, ints)
 
 pub returns : goal.returns
 returns c =
-    let low = limit c.args.self.now.kind c.args.dx 0 c.floor_distance.result c.requires (omega arith) c.floor_distance.ensures in
+    let low = limit c.args.self.now.kind c.args.dx 0 c.floor_distance.result c.requires (omega arith)
+    c.floor_distance.ensures in
     let value = distance-unique c.args.self.now.kind c.args.dx 0 c.floor_distance.result c.floor_distance.ensures in
     omega (arith, ints)

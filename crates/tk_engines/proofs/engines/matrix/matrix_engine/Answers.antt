@@ -9,7 +9,8 @@ returns-in-Ok-write_problem-clause-ends g c = record {
   second = tt;
   text = _;
   read = record {
-    is_problem = record { answer = c.in-Ok.ensures.ok; some_text = c.in-Ok.ensures.some_text; intact = c.in-Ok.ensures.intact };
+    is_problem =
+        record { answer = c.in-Ok.ensures.ok; some_text = c.in-Ok.ensures.some_text; intact = c.in-Ok.ensures.intact };
     fits = is_not_too_large (problem_is c.in-Ok.problem) c.if-problem-gt-TABLE_LIMIT.false;
     is_second = tt;
   };
@@ -26,7 +27,12 @@ returns-clause-ends g c = (
     second = tt;
     text = _;
     read = record {
-      is_problem = record { answer = c.in-Ok.ensures.ok; some_text = c.in-Ok.ensures.some_text; intact = c.in-Ok.ensures.intact };
+      is_problem =
+          record {
+            answer = c.in-Ok.ensures.ok;
+            some_text = c.in-Ok.ensures.some_text;
+            intact = c.in-Ok.ensures.intact;
+          };
       fits = is_not_too_large (problem_is c.in-Ok.problem) c.if-problem-gt-TABLE_LIMIT.false;
       is_second = tt;
     };

@@ -15,7 +15,8 @@ write_matrix-requires-clause-table g c =
       read_distance (weights_are weights),
       record {
         calls = λ a b a-low a-high b-low b-high. ((a-low, omega (arith, size)), (b-low, omega (arith, size)));
-        gives = λ a b r a-low a-high b-low b-high h. h ∙ ap pos (c.of-table.ensures.distances a b ∙ read_distance-weights weights a b);
+        gives = λ a b r a-low a-high b-low b-high h. h
+            ∙ ap pos (c.of-table.ensures.distances a b ∙ read_distance-weights weights a b);
       },
     )
 
@@ -24,8 +25,11 @@ returns-clause-read_back g c =
     let problem = c.args.problem.now in
     let size = c.of-table.ensures.size in
     let distance = read_distance (weights_are c.args.problem.now.weights) in
-    let same : (a b : ℕ) → table_distance c.of-table.result a b ≡ read_distance (weights_are c.args.problem.now.weights) a b = λ a b. c.of-table.ensures.distances a b ∙ read_distance-weights c.args.problem.now.weights a b in
-    subst (λ (given : List ℕ). IsName given → ReadsBack given c.args.problem.now.n (read_distance (weights_are c.args.problem.now.weights)) c.args.format) c.deref.ensures.value (λ name.
+    let same : (a b : ℕ) → table_distance c.of-table.result a b ≡ read_distance (weights_are c.args.problem.now.weights)
+    a b = λ a b. c.of-table.ensures.distances a b ∙ read_distance-weights c.args.problem.now.weights a b in
+    subst (λ (given : List ℕ). IsName given →
+    ReadsBack given c.args.problem.now.n (read_distance (weights_are c.args.problem.now.weights)) c.args.format)
+    c.deref.ensures.value (λ name.
     c.write_matrix.ensures.read_back distance (record {
       calls = λ a b a-low a-high b-low b-high. ((a-low, omega (arith, size)), (b-low, omega (arith, size)));
       gives = λ a b r a-low a-high b-low b-high h. h ∙ ap pos (same a b);

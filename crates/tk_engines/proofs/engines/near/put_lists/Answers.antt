@@ -19,5 +19,7 @@ loop-city-preserved g c =
 pub returns : goal.returns
 returns g c =
     let near = c.args.near.now in
-    let all : c.loop-city.city - 1 ≡ near.size = omega (arith, c.loop-city.auto.city-end, c.size-city-end.ensures.value) in
-    subst (Puts _ _ _ _) (ap (λ count. flat_map (λ x. near_line x (near_of near x)) (range_with_len 1 count)) all) c.loop-city.invariant
+    let all : c.loop-city.city - 1 ≡ near.size =
+    omega (arith, c.loop-city.auto.city-end, c.size-city-end.ensures.value) in
+    subst (Puts _ _ _ _) (ap (λ count. flat_map (λ x. near_line x (near_of near x)) (range_with_len 1 count)) all)
+    c.loop-city.invariant

@@ -14,7 +14,19 @@ returns-in_default-clause-ends g c =
     let p = c.args.problem.now in (
       problem_is p,
       RoutesClaim (map (λ r. r.items) c.in-Ok.solution.routes.items, c.in-Ok.solution.cost),
-      record { is_problem = refl; fits = c.requires.view.fits; is_second = (refl, routed_of p.routing _ c.requires.instance.routing, record { answer = c.in-Ok.ensures.ok; some_text = c.in-Ok.ensures.some_text; intact = c.in-Ok.ensures.intact }) },
+      record {
+        is_problem = refl;
+        fits = c.requires.view.fits;
+        is_second = (
+          refl,
+          routed_of p.routing _ c.requires.instance.routing,
+          record {
+            answer = c.in-Ok.ensures.ok;
+            some_text = c.in-Ok.ensures.some_text;
+            intact = c.in-Ok.ensures.intact;
+          },
+        );
+      },
       refl,
     )
 
@@ -29,10 +41,25 @@ returns-in-Ok-show_routes-clause-ends g c =
       problem = problem_is p;
       second = RoutesClaim (routes, cost);
       text = shown.0;
-      read = record { is_problem = refl; fits = c.requires.view.fits; is_second = (refl, routed_of p.routing _ c.requires.instance.routing, record { answer = c.in-Ok.ensures.ok; some_text = c.in-Ok.ensures.some_text; intact = c.in-Ok.ensures.intact }) };
+      read =
+          record {
+            is_problem = refl;
+            fits = c.requires.view.fits;
+            is_second = (
+              refl,
+              routed_of p.routing _ c.requires.instance.routing,
+              record {
+                answer = c.in-Ok.ensures.ok;
+                some_text = c.in-Ok.ensures.some_text;
+                intact = c.in-Ok.ensures.intact;
+              },
+            );
+          };
       together = refl;
       gives = some_of (routing_is p.routing) _
-          (instance_read p (instance_of c.args.cvrp.now) ⊥ (λ i. IsRouteVerdict i routes cost verdict × IsRouteOutput c.args.form (problem_is p) i routes verdict shown.0) c.requires.instance
+          (instance_read p (instance_of c.args.cvrp.now) ⊥
+          (λ i. IsRouteVerdict i routes cost verdict × IsRouteOutput c.args.form (problem_is p) i routes verdict
+          shown.0) c.requires.instance
           (c.in-Ok-check_routes.ensures, shown.1.0));
       written = shown.1.1;
     }
@@ -49,10 +76,25 @@ returns-clause-ends g c =
         problem = problem_is p;
         second = RoutesClaim (routes, cost);
         text = shown.0;
-        read = record { is_problem = refl; fits = c.requires.view.fits; is_second = (refl, routed_of p.routing _ c.requires.instance.routing, record { answer = c.in-Ok.ensures.ok; some_text = c.in-Ok.ensures.some_text; intact = c.in-Ok.ensures.intact }) };
+        read =
+            record {
+              is_problem = refl;
+              fits = c.requires.view.fits;
+              is_second = (
+                refl,
+                routed_of p.routing _ c.requires.instance.routing,
+                record {
+                  answer = c.in-Ok.ensures.ok;
+                  some_text = c.in-Ok.ensures.some_text;
+                  intact = c.in-Ok.ensures.intact;
+                },
+              );
+            };
         together = refl;
         gives = some_of (routing_is p.routing) _
-            (instance_read p (instance_of c.args.cvrp.now) ⊥ (λ i. IsRouteVerdict i routes cost verdict × IsRouteOutput c.args.form (problem_is p) i routes verdict shown.0) c.requires.instance
+            (instance_read p (instance_of c.args.cvrp.now) ⊥
+            (λ i. IsRouteVerdict i routes cost verdict × IsRouteOutput c.args.form (problem_is p) i routes verdict
+            shown.0) c.requires.instance
             (c.in-Ok-check_routes.ensures, shown.1.0));
         written = shown.1.1;
       },

@@ -9,7 +9,19 @@ returns-in_default-clause-ends g c =
     let p = c.args.problem.now in (
       problem_is p,
       TourClaim c.in-Ok.tour.cities.items,
-      record { is_problem = refl; fits = c.requires.view.fits; is_second = (refl, ap routing_is c.requires.tsp, record { answer = c.in-Ok.ensures.ok; some_text = c.in-Ok.ensures.some_text; intact = c.in-Ok.ensures.intact }) },
+      record {
+        is_problem = refl;
+        fits = c.requires.view.fits;
+        is_second = (
+          refl,
+          ap routing_is c.requires.tsp,
+          record {
+            answer = c.in-Ok.ensures.ok;
+            some_text = c.in-Ok.ensures.some_text;
+            intact = c.in-Ok.ensures.intact;
+          },
+        );
+      },
       refl,
     )
 
@@ -21,7 +33,20 @@ returns-in-Ok-show_tour-clause-ends g c =
       problem = problem_is p;
       second = TourClaim c.in-Ok.tour.cities.items;
       text = shown.0;
-      read = record { is_problem = refl; fits = c.requires.view.fits; is_second = (refl, ap routing_is c.requires.tsp, record { answer = c.in-Ok.ensures.ok; some_text = c.in-Ok.ensures.some_text; intact = c.in-Ok.ensures.intact }) };
+      read =
+          record {
+            is_problem = refl;
+            fits = c.requires.view.fits;
+            is_second = (
+              refl,
+              ap routing_is c.requires.tsp,
+              record {
+                answer = c.in-Ok.ensures.ok;
+                some_text = c.in-Ok.ensures.some_text;
+                intact = c.in-Ok.ensures.intact;
+              },
+            );
+          };
       together = refl;
       gives = (rw c.as_slice-cities.ensures.value at c.in-Ok-check.ensures, shown.1.0);
       written = shown.1.1;
@@ -36,7 +61,20 @@ returns-clause-ends g c =
         problem = problem_is p;
         second = TourClaim c.in-Ok.tour.cities.items;
         text = shown.0;
-        read = record { is_problem = refl; fits = c.requires.view.fits; is_second = (refl, ap routing_is c.requires.tsp, record { answer = c.in-Ok.ensures.ok; some_text = c.in-Ok.ensures.some_text; intact = c.in-Ok.ensures.intact }) };
+        read =
+            record {
+              is_problem = refl;
+              fits = c.requires.view.fits;
+              is_second = (
+                refl,
+                ap routing_is c.requires.tsp,
+                record {
+                  answer = c.in-Ok.ensures.ok;
+                  some_text = c.in-Ok.ensures.some_text;
+                  intact = c.in-Ok.ensures.intact;
+                },
+              );
+            };
         together = refl;
         gives = (rw c.as_slice-cities.ensures.value at c.in-Ok-check.ensures, shown.1.0);
         written = shown.1.1;

@@ -25,7 +25,8 @@ returns-in-Valid-clause-text g c =
     rw c.in-Valid.is (
       Drawn told.0,
       (
-        subst (λ (n : ℕ). IsPicture c.args.form (problem_is p) (SomeRoutes i (map (λ r. r.items) c.args.solution.now.routes.items) count n) told.0) cost told.1.0,
+        subst (λ (n : ℕ). IsPicture c.args.form (problem_is p)
+            (SomeRoutes i (map (λ r. r.items) c.args.solution.now.routes.items) count n) told.0) cost told.1.0,
         (told.1.1, (refl, refl)),
       ),
     )
@@ -34,7 +35,8 @@ pub returns-in_default-clause-text : goal.returns-in_default-clause-text
 returns-in_default-clause-text g c = (
   Refused _,
   (
-    routes_told c.args.form c.args.problem.now (instance_of c.args.cvrp.now) (map (λ r. r.items) c.args.solution.now.routes.items) c.args.verdict c.in_default.not-Valid,
+    routes_told c.args.form c.args.problem.now (instance_of c.args.cvrp.now)
+        (map (λ r. r.items) c.args.solution.now.routes.items) c.args.verdict c.in_default.not-Valid,
     ((refl, refl), c.write_route_verdict.ensures.text),
   ),
 )

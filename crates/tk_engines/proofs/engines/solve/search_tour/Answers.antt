@@ -14,19 +14,34 @@ pub returns-clause-solved : goal.returns-clause-solved
 returns-clause-solved g c =
     let options = c.options_of-options.result in
     let size = ap (λ (n : ℕ). task_over n (table_distance c.of.result) options) c.of.ensures.size in
-    let distance = ap (λ (d : ℕ → ℕ → ℕ). task_over c.args.problem.now.n d options) (distances_read (table_distance c.of.result) c.args.problem.now.weights c.of.ensures.distances) in
-    let begun = next nothing (subst (λ (name : List ℕ). g.V.Watch.shows c.args.watch.now (Begun name) c.begin.new.self) c.deref.ensures.value c.begin.ensures) in
-    let Watched : List Event → Type 0 = λ shown. WereShown g.V.Watch.shows c.args.watch.now c.solve_tour.new.watch (Begun c.args.problem.now.name.items ∷ shown) in
-    let solved = IfOk-watched c.solve_tour.result (task_of c.of.result options) (WereShown g.V.Watch.shows c.begin.new.self c.solve_tour.new.watch) Watched (λ shown is. shown_both begun is) c.solve_tour.ensures.solved in
-    subst (λ (task : TourTask). IfOk c.solve_tour.result (IsSolved task Watched)) (size ∙ distance ∙ c.options_of-options.ensures) solved
+    let distance =
+    ap (λ (d : ℕ → ℕ → ℕ). task_over c.args.problem.now.n d options)
+    (distances_read (table_distance c.of.result) c.args.problem.now.weights c.of.ensures.distances) in
+    let begun =
+    next nothing
+    (subst (λ (name : List ℕ). g.V.Watch.shows c.args.watch.now (Begun name) c.begin.new.self) c.deref.ensures.value
+    c.begin.ensures) in
+    let Watched : List Event → Type 0 =
+    λ shown. WereShown g.V.Watch.shows c.args.watch.now c.solve_tour.new.watch
+    (Begun c.args.problem.now.name.items ∷ shown) in
+    let solved =
+    IfOk-watched c.solve_tour.result (task_of c.of.result options)
+    (WereShown g.V.Watch.shows c.begin.new.self c.solve_tour.new.watch) Watched (λ shown is. shown_both begun is)
+    c.solve_tour.ensures.solved in
+    subst (λ (task : TourTask). IfOk c.solve_tour.result (IsSolved task Watched)) (size ∙ distance
+    ∙ c.options_of-options.ensures) solved
 
 pub returns-clause-sound : goal.returns-clause-sound
 returns-clause-sound g c =
     let options = c.options_of-options.result in
     let size = ap (λ (n : ℕ). task_over n (table_distance c.of.result) options) c.of.ensures.size in
-    let distance = ap (λ (d : ℕ → ℕ → ℕ). task_over c.args.problem.now.n d options) (distances_read (table_distance c.of.result) c.args.problem.now.weights c.of.ensures.distances) in
-    subst (λ (task : TourTask). IfOk c.solve_tour.result (IsSound task)) (size ∙ distance ∙ c.options_of-options.ensures) c.solve_tour.ensures.sound
+    let distance =
+    ap (λ (d : ℕ → ℕ → ℕ). task_over c.args.problem.now.n d options)
+    (distances_read (table_distance c.of.result) c.args.problem.now.weights c.of.ensures.distances) in
+    subst (λ (task : TourTask). IfOk c.solve_tour.result (IsSound task)) (size ∙ distance
+    ∙ c.options_of-options.ensures) c.solve_tour.ensures.sound
 
 pub returns-clause-runs : goal.returns-clause-runs
 returns-clause-runs g c =
-    IfOk-count c.solve_tour.result (task_of c.of.result c.options_of-options.result) _ 10000 c.options_of-options.result.some_runs.1 c.solve_tour.ensures.solved
+    IfOk-count c.solve_tour.result (task_of c.of.result c.options_of-options.result) _ 10000
+    c.options_of-options.result.some_runs.1 c.solve_tour.ensures.solved

@@ -8,13 +8,30 @@ use Rattle.tk_engines.proofs.engines.solve.solve_cvrp.Goals as goal
 pub returns-in-Ok-write_route_files-clause-gives : goal.returns-in-Ok-write_route_files-clause-gives
 returns-in-Ok-write_route_files-clause-gives g c = (
   route_files c.args.params.now (routes_of c.in-Ok.routes) c.in-Ok.report,
-  (record { routes = routes_of c.in-Ok.routes; report = c.in-Ok.report; are = rw (← c.max_candidates.ensures.value, ← c.or_segment.ensures.value) c.in-Ok.ensures; written = refl }, c.in-Ok-write_route_files.ensures.text),
+  (
+    record {
+      routes = routes_of c.in-Ok.routes;
+      report = c.in-Ok.report;
+      are = rw (
+        ← c.max_candidates.ensures.value,
+        ← c.or_segment.ensures.value,
+      ) c.in-Ok.ensures;
+      written = refl;
+    },
+    c.in-Ok-write_route_files.ensures.text,
+  ),
 )
 
 pub write_route_files-requires-clause-routes : goal.write_route_files-requires-clause-routes
 write_route_files-requires-clause-routes g c =
     let routes = routes_of c.in-Ok.routes in
-    omega (arith, count_filled routes c.in-Ok.ensures.valid.filled, c.in-Ok.ensures.valid.once.0, table_size-limit c.args.cvrp.now.table)
+    omega (
+      arith,
+      count_filled routes c.in-Ok.ensures.valid.filled,
+      c.in-Ok.ensures.valid.once.0,
+      table_size-limit c.args.cvrp.now.table,
+    )
 
 pub write_route_files-requires-clause-customers : goal.write_route_files-requires-clause-customers
-write_route_files-requires-clause-customers g c = omega (arith, c.in-Ok.ensures.valid.once.0, table_size-limit c.args.cvrp.now.table)
+write_route_files-requires-clause-customers g c =
+    omega (arith, c.in-Ok.ensures.valid.once.0, table_size-limit c.args.cvrp.now.table)

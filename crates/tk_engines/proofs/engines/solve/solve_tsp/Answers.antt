@@ -6,11 +6,17 @@ use Rattle.tk_engines.proofs.engines.solve.solve_tsp.Goals as goal
 pub returns-in-Ok-write_tour_files-clause-gives : goal.returns-in-Ok-write_tour_files-clause-gives
 returns-in-Ok-write_tour_files-clause-gives g c = (
   tour_files c.args.params.now (problem_is c.args.problem.now).name c.in-Ok.solved,
-  (record { solved = c.in-Ok.solved; is = c.in-Ok.ensures.solved; sound = c.in-Ok.ensures.sound; written = refl }, c.in-Ok-write_tour_files.ensures.text),
+  (
+    record { solved = c.in-Ok.solved; is = c.in-Ok.ensures.solved; sound = c.in-Ok.ensures.sound; written = refl },
+    c.in-Ok-write_tour_files.ensures.text,
+  ),
 )
 
 pub returns-clause-gives : goal.returns-clause-gives
 returns-clause-gives g c = (
   tour_files c.args.params.now (problem_is c.args.problem.now).name c.in-Ok.solved,
-  (record { solved = c.in-Ok.solved; is = c.in-Ok.ensures.solved; sound = c.in-Ok.ensures.sound; written = refl }, c.in-Err.ensures.text),
+  (
+    record { solved = c.in-Ok.solved; is = c.in-Ok.ensures.solved; sound = c.in-Ok.ensures.sound; written = refl },
+    c.in-Err.ensures.text,
+  ),
 )

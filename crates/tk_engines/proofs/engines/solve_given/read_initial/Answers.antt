@@ -9,10 +9,26 @@ returns-then-is_none-clause-ok g c =
 
 pub returns-in-Ok-clause-ok : goal.returns-in-Ok-clause-ok
 returns-in-Ok-clause-ok g c =
-    let given : is_some c.args.params.now.initial_tour_file ≡ true = search rules in
-    (given, record { answer = c.in-Ok.ensures.ok; some_text = c.in-Ok.ensures.some_text; intact = c.in-Ok.ensures.intact })
+    let given : is_some c.args.params.now.initial_tour_file ≡ true = search rules in (
+      given,
+      record {
+        answer = c.in-Ok.ensures.ok;
+        some_text = c.in-Ok.ensures.some_text;
+        intact = c.in-Ok.ensures.intact;
+      },
+    )
 
 pub returns-in-Err-clause-err : goal.returns-in-Err-clause-err
 returns-in-Err-clause-err g c =
-    let given : is_some c.args.params.now.initial_tour_file ≡ true = search rules in
-    (given, (c.in-Err.fault, refl, record { fault = c.in-Err.ensures.err; some_fault = c.in-Err.ensures.some_fault; intact = c.in-Err.ensures.intact }))
+    let given : is_some c.args.params.now.initial_tour_file ≡ true = search rules in (
+      given,
+      (
+        c.in-Err.fault,
+        refl,
+        record {
+          fault = c.in-Err.ensures.err;
+          some_fault = c.in-Err.ensures.some_fault;
+          intact = c.in-Err.ensures.intact;
+        },
+      ),
+    )

@@ -6,4 +6,5 @@ use Rattle.tk_engines.specs.Lines.SolveLines.{ignored_line}
 use Rattle.tk_engines.proofs.lines.solve_lines.put_ignored.Given as goal
 
 abbrev pub invariant-loop-i : goal.invariant-loop-i
-invariant-loop-i g l = Puts g.W.Sink.taken g.W.Sink.broken l.initial.pen l.pen (flat_map ignored_line (take l.i l.ignored))
+invariant-loop-i g l =
+    Puts g.W.Sink.taken g.W.Sink.broken l.initial.pen l.pen (flat_map ignored_line (take l.i l.ignored))

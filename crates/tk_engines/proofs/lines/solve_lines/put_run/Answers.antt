@@ -9,7 +9,12 @@ pub returns : goal.returns
 returns g c =
     let start : c.unsigned_abs.result ≡ unsigned_abs c.args.report.now.totals.start = search rules in
     let best : c.unsigned_abs-2.result ≡ unsigned_abs c.args.report.now.best = search rules in
-    Puts-then _ _ _ _ _ _ _ (Puts-then _ _ _ _ _ _ _ (Puts-then _ _ _ _ _ _ _ (Puts-then _ _ _ _ _ _ _ (Puts-then _ _ _ _ _ _ _ (Puts-then _ _ _ _ _ _ _ (Puts-then _ _ _ _ _ _ _ (Puts-then _ _ _ _ _ _ _ (Puts-then _ _ _ _ _ _ _ c.put.ensures
+    Puts-then _ _ _ _ _ _ _ (Puts-then
+    _ _ _ _ _ _ _ (Puts-then
+    _ _ _ _ _ _ _ (Puts-then
+    _ _ _ _ _ _ _ (Puts-then
+    _ _ _ _ _ _ _ (Puts-then
+    _ _ _ _ _ _ _ (Puts-then _ _ _ _ _ _ _ (Puts-then _ _ _ _ _ _ _ (Puts-then _ _ _ _ _ _ _ c.put.ensures
     c.put_number.ensures)
     c.put-2.ensures)
     (subst (Puts _ _ _ _) (ap decimal start) c.put_number-2.ensures))

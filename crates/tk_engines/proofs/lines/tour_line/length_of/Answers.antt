@@ -6,4 +6,5 @@ pub length-requires-clause-cities : goal.length-requires-clause-cities
 length-requires-clause-cities c = cities_of_tour c.args.problem.now.n _ _ c.in-Planes.ensures.size c.requires.tour
 
 pub length-requires-in-Triangle-clause-cities : goal.length-requires-in-Triangle-clause-cities
-length-requires-in-Triangle-clause-cities c = cities_of_tour c.args.problem.now.n _ _ c.in-Triangle.ensures.size c.requires.tour
+length-requires-in-Triangle-clause-cities c =
+    cities_of_tour c.args.problem.now.n _ _ c.in-Triangle.ensures.size c.requires.tour

@@ -9,7 +9,9 @@ use Rattle.tk_lines.proofs.reader.PieceReader.end_in_word.Goals as goal
 pub returns-in_err-end_word-clause-err : goal.returns-in_err-end_word-clause-err
 returns-in_err-end_word-clause-err g c = λ bs fed.
     let p = err_from_is_err_and c.from_residual.result c.from_residual.ensures.1 in
-    rw (p.1, p.2) (told_ended g.F.Form.format bs c.in_err-end_word.field-0.0 (c.in_err-end_word.ensures.err at_end bs end_in_no_word fed))
+    rw (p.1, p.2)
+    (told_ended g.F.Form.format bs c.in_err-end_word.field-0.0
+    (c.in_err-end_word.ensures.err at_end bs end_in_no_word fed))
 
 pub end_value-requires : goal.end_value-requires
 end_value-requires g c =
@@ -37,14 +39,16 @@ pub returns-in-Begin-clause-ok : goal.returns-in-Begin-clause-ok
 returns-in-Begin-clause-ok g c = λ bs fed.
     let went = rw c.in-Begin.is at (c.in_ok-end_word.ensures.went at_end bs end_in_no_word fed) in
     let n = c.end_word.new.self in
-    let at = at_place g.F.Form.format g.F.Form.holds g.F.Form.wants at_end n.form n.line n.held n.scan bs n.place places.Begin went.0 went.1.1 in
+    let at = at_place g.F.Form.format g.F.Form.holds g.F.Form.wants at_end n.form n.line n.held n.scan bs n.place
+    places.Begin went.0 went.1.1 in
     c.end_section.ensures.ok bs (end_begin g.F.Form.format g.F.Form.holds g.F.Form.wants n.form n.line bs n.held at)
 
 pub returns-in-Begin-clause-err : goal.returns-in-Begin-clause-err
 returns-in-Begin-clause-err g c = λ bs fed.
     let went = rw c.in-Begin.is at (c.in_ok-end_word.ensures.went at_end bs end_in_no_word fed) in
     let n = c.end_word.new.self in
-    let at = at_place g.F.Form.format g.F.Form.holds g.F.Form.wants at_end n.form n.line n.held n.scan bs n.place places.Begin went.0 went.1.1 in
+    let at = at_place g.F.Form.format g.F.Form.holds g.F.Form.wants at_end n.form n.line n.held n.scan bs n.place
+    places.Begin went.0 went.1.1 in
     c.end_section.ensures.err bs (end_begin g.F.Form.format g.F.Form.holds g.F.Form.wants n.form n.line bs n.held at)
 
 pub returns-in-Done-clause-complete : goal.returns-in-Done-clause-complete
@@ -59,5 +63,7 @@ pub returns-in-Begin-clause-complete : goal.returns-in-Begin-clause-complete
 returns-in-Begin-clause-complete g c = λ bs fed.
     let went = rw c.in-Begin.is at (c.in_ok-end_word.ensures.went at_end bs end_in_no_word fed) in
     let n = c.end_word.new.self in
-    let at = at_place g.F.Form.format g.F.Form.holds g.F.Form.wants at_end n.form n.line n.held n.scan bs n.place places.Begin went.0 went.1.1 in
-    c.end_section.ensures.complete bs (end_begin g.F.Form.format g.F.Form.holds g.F.Form.wants n.form n.line bs n.held at)
+    let at = at_place g.F.Form.format g.F.Form.holds g.F.Form.wants at_end n.form n.line n.held n.scan bs n.place
+    places.Begin went.0 went.1.1 in
+    c.end_section.ensures.complete bs
+    (end_begin g.F.Form.format g.F.Form.holds g.F.Form.wants n.form n.line bs n.held at)

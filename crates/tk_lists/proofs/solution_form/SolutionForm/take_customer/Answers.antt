@@ -7,5 +7,7 @@ pub returns-in-Ok-clause-ok : goal.returns-in-Ok-clause-ok
 returns-in-Ok-clause-ok c = λ before toks n k may.
     let f : SFits w64 c.in-Some.number = search rules in
     let limits = c.in-Some-limited.ensures.some in
-    let is = sym c.integer.ensures ∙ c.in-Some.is ∙ ap (λ (z : ℤ). Some z) (sym (to_z-of_z w64 c.in-Some.number f) ∙ limits.0) in
-    keeps_customer c.args.self.now _ before toks n c.in-Some-limited.customer c.args.bytes.now c.requires is limits.2 (omega (arith, c.if-self-ge-ENTRY_LIMIT.false)) refl c.in-Ok.ensures.items refl refl refl k may
+    let is = sym c.integer.ensures ∙ c.in-Some.is
+    ∙ ap (λ (z : ℤ). Some z) (sym (to_z-of_z w64 c.in-Some.number f) ∙ limits.0) in
+    keeps_customer c.args.self.now _ before toks n c.in-Some-limited.customer c.args.bytes.now c.requires is limits.2
+    (omega (arith, c.if-self-ge-ENTRY_LIMIT.false)) refl c.in-Ok.ensures.items refl refl refl k may

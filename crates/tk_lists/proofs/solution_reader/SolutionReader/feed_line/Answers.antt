@@ -18,28 +18,59 @@ returns-else-blank-clause-err c = λ before toks stands.
     let g = line_from n c.clear.new.self [] places.Word in
     let h = rest_of c.args.self.now toks in
     let at = rw c.in-Start.is at stands in
-    IfErr-weaker c.feed_word.result _ _ (λ k told. told_word (StopsAt before n b g) (StopsAt before n b h) k (stops_same before n b g h k (λ bs w. rw (c.in-Start.is, c.clear.ensures, solid) refl)) told) (c.feed_word.ensures.err before at.1)
+    IfErr-weaker c.feed_word.result
+    _ _ (λ k told. told_word (StopsAt before n b g) (StopsAt before n b h) k
+    (stops_same before n b g h k (λ bs w. rw (c.in-Start.is, c.clear.ensures, solid) refl)) told)
+    (c.feed_word.ensures.err before at.1)
 
 pub returns-then-not-blank-clause-ok : goal.returns-then-not-blank-clause-ok
 returns-then-not-blank-clause-ok c = λ before toks stands.
     let solid = sym c.blank-in-Gap.ensures ∙ c.if-not-blank.true in
     let at = rw c.in-Gap.is at stands in
-    record { toks = toks; stands = rw (c.begin_token.ensures.kept.1, c.begin_token.ensures.kept.0, c.begin_token.ensures.begun.0, c.begin_token.ensures.begun.1) (at.0, at.1, (solid, omega arith)); same = rw (c.in-Gap.is, c.begin_token.ensures.kept.0, c.begin_token.ensures.begun.0, c.begin_token.ensures.begun.1) (λ bs w. refl) }
+    record {
+      toks = toks;
+      stands = rw (
+        c.begin_token.ensures.kept.1,
+        c.begin_token.ensures.kept.0,
+        c.begin_token.ensures.begun.0,
+        c.begin_token.ensures.begun.1,
+      ) (at.0, at.1, (solid, omega arith));
+      same =
+          rw (c.in-Gap.is, c.begin_token.ensures.kept.0, c.begin_token.ensures.begun.0, c.begin_token.ensures.begun.1)
+          (λ bs w. refl);
+    }
 
 pub returns-else-not-blank-clause-ok : goal.returns-else-not-blank-clause-ok
 returns-else-not-blank-clause-ok c = λ before toks stands.
-    record { toks = toks; stands = stands; same = rw c.in-Gap.is (λ bs w. ap (λ (ts : List Token). Route (toks ++ ts)) (tokens_of-gap w c.args.self.now.line c.args.byte bs (sym c.blank-in-Gap.ensures ∙ c.if-not-blank.false))) }
+    record {
+      toks = toks;
+      stands = stands;
+      same =
+          rw c.in-Gap.is
+          (λ bs w. ap (λ (ts : List Token). Route (toks ++ ts))
+          (tokens_of-gap w c.args.self.now.line c.args.byte bs (sym c.blank-in-Gap.ensures ∙ c.if-not-blank.false)));
+    }
 
 pub returns-in-Digits-clause-ok : goal.returns-in-Digits-clause-ok
-returns-in-Digits-clause-ok c = λ before toks stands. rw c.in-Digits.is (c.feed_digits.ensures.ok before toks (rw c.in-Digits.is at stands))
+returns-in-Digits-clause-ok c =
+    λ before toks stands. rw c.in-Digits.is (c.feed_digits.ensures.ok before toks (rw c.in-Digits.is at stands))
 
 pub returns-in-Digits-clause-err : goal.returns-in-Digits-clause-err
-returns-in-Digits-clause-err c = λ before toks stands. rw c.in-Digits.is (c.feed_digits.ensures.err before toks (rw c.in-Digits.is at stands))
+returns-in-Digits-clause-err c =
+    λ before toks stands. rw c.in-Digits.is (c.feed_digits.ensures.err before toks (rw c.in-Digits.is at stands))
 
 pub returns-then-blank-2-clause-ok : goal.returns-then-blank-2-clause-ok
 returns-then-blank-2-clause-ok c = λ before toks stands.
-    record { toks = toks; stands = stands; same = rw c.in-Close.is (λ bs w. ap (λ (ts : List Token). Cost (toks ++ ts)) (tokens_of-gap w c.args.self.now.line c.args.byte bs (sym c.blank-in-Close.ensures ∙ c.if-blank-2.true))) }
+    record {
+      toks = toks;
+      stands = stands;
+      same =
+          rw c.in-Close.is
+          (λ bs w. ap (λ (ts : List Token). Cost (toks ++ ts))
+          (tokens_of-gap w c.args.self.now.line c.args.byte bs (sym c.blank-in-Close.ensures ∙ c.if-blank-2.true)));
+    }
 
 pub returns-else-blank-2-clause-err : goal.returns-else-blank-2-clause-err
 returns-else-blank-2-clause-err c = λ before toks stands.
-    rw c.in-Close.is (close_stops c.args.self.now.form before c.args.self.now.held c.args.self.now.line toks c.args.byte (sym c.blank-in-Close.ensures ∙ c.if-blank-2.false) (rw c.in-Close.is at stands))
+    rw c.in-Close.is (close_stops c.args.self.now.form before c.args.self.now.held c.args.self.now.line toks c.args.byte
+    (sym c.blank-in-Close.ensures ∙ c.if-blank-2.false) (rw c.in-Close.is at stands))

@@ -10,4 +10,7 @@ pub returns-in_err-skip-clause-err : goal.returns-in_err-skip-clause-err
 returns-in_err-skip-clause-err c = λ before k.
     let n = c.args.self.now.line in
     let p = err_from_is_err_and c.from_residual.result c.from_residual.ensures.1 in
-    rw (p.1, p.2) (told_word (λ k. first_at n (other_tests before) ≡ Some (Fault n k)) (StopsAt before n c.args.byte (λ bs w. Other)) c.in_err-skip.field-0.0 (λ h bs w. h) (c.in_err-skip.ensures.err before n k))
+    rw (p.1, p.2)
+    (told_word (λ k. first_at n (other_tests before) ≡ Some (Fault n k))
+    (StopsAt before n c.args.byte (λ bs w. Other)) c.in_err-skip.field-0.0 (λ h bs w. h)
+    (c.in_err-skip.ensures.err before n k))

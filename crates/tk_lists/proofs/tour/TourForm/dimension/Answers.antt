@@ -15,9 +15,14 @@ pub returns-in_err-number-clause-err : goal.returns-in_err-number-clause-err
 returns-in_err-number-clause-err c = λ before v n h scans.
     let p = err_from_is_err_and c.from_residual-in_err-number.result c.from_residual-in_err-number.ensures.1 in
     let k = c.in_err-number.field-0.0 in
-    rw (p.1, p.2) (told_word (λ k. first_at n (number_tests 1 ENTRY_LIMIT (first_word v)) ≡ Some (Fault n k)) (λ k. first_at n (tour_header before words.Dimension v) ≡ Some (Fault n k)) k (dimension_err c.args.self.now before v n k h c.in_ok-once.ensures.ok.0) (c.in_err-number.ensures.err v n scans))
+    rw (p.1, p.2)
+    (told_word (λ k. first_at n (number_tests 1 ENTRY_LIMIT (first_word v)) ≡ Some (Fault n k))
+    (λ k. first_at n (tour_header before words.Dimension v) ≡ Some (Fault n k)) k
+    (dimension_err c.args.self.now before v n k h c.in_ok-once.ensures.ok.0)
+    (c.in_err-number.ensures.err v n scans))
 
 pub returns-clause-ok : goal.returns-clause-ok
 returns-clause-ok c = λ before v n h scans.
     let p = c.in_ok-once.ensures.ok in
-    dimension_ok c.args.self.now c.once.new.seen before v n h p.1 p.0 (tests_fine 1 ENTRY_LIMIT n (first_word v) c.in_ok-number.field-0 (c.in_ok-number.ensures.ok v scans))
+    dimension_ok c.args.self.now c.once.new.seen before v n h p.1 p.0
+    (tests_fine 1 ENTRY_LIMIT n (first_word v) c.in_ok-number.field-0 (c.in_ok-number.ensures.ok v scans))

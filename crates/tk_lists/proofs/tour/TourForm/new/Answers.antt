@@ -4,4 +4,9 @@ use Rattle.tk_lists.proofs.tour.TourForm.new.Goals as goal
 
 pub returns : goal.returns
 unfolding entries
-returns c = record { seen = record { name = refl; kind = refl; dimension = refl }; section = refl; cities = c.new.ensures.items }
+returns c =
+    record {
+      seen = record { name = refl; kind = refl; dimension = refl };
+      section = refl;
+      cities = c.new.ensures.items;
+    }

@@ -3,8 +3,10 @@ use Rattle.tk_near.proofs.plane.halve.+select.Goals as goal
 
 pub returns-then-count-before : goal.returns-then-count-before
 returns-then-count-before t c =
-    IsPermutation-trans _ _ _ c.part-before.ensures.moved (rw c.split_at_mut-front.ensures.value (IsPermutation-append_left _ _ _ c.select.ensures))
+    IsPermutation-trans _ _ _ c.part-before.ensures.moved
+    (rw c.split_at_mut-front.ensures.value (IsPermutation-append_left _ _ _ c.select.ensures))
 
 pub returns-else-count-before : goal.returns-else-count-before
 returns-else-count-before t c =
-    IsPermutation-trans _ _ _ c.part-before.ensures.moved (rw c.split_at_mut-front.ensures.value (IsPermutation-append_right _ _ _ c.select-else-count-before.ensures))
+    IsPermutation-trans _ _ _ c.part-before.ensures.moved
+    (rw c.split_at_mut-front.ensures.value (IsPermutation-append_right _ _ _ c.select-else-count-before.ensures))

@@ -5,19 +5,28 @@ use Rattle.tk_near.proofs.Tables.{AreFilled-write, AreFilled-none, AreFilled-sam
 use Rattle.tk_near.proofs.plane.sweep.fill_lists.Goals as goal
 
 pub loop-p-init : goal.loop-p-init
-loop-p-init g c =
-    (AreFilled-none (g.P.Metric.distance c.args.m.now) (g.P.Metric.size_of c.args.m.now) (length c.args.kept.now) _ c.args.entries.now c.requires.room (λ a city s. omega (arith, s.2)), omega arith)
+loop-p-init g c = (
+  AreFilled-none (g.P.Metric.distance c.args.m.now) (g.P.Metric.size_of c.args.m.now) (length c.args.kept.now)
+      _ c.args.entries.now c.requires.room (λ a city s. omega (arith, s.2)),
+  omega arith,
+)
 
 pub loop-p-preserved : goal.loop-p-preserved
 loop-p-preserved g c =
     let p = c.loop-p.p in
     let row = c.args.row.now in
-    let size : length c.sweep_city.new.kept ≡ length c.args.kept.now = c.sweep_city.ensures.size ∙ c.loop-p.invariant.1 in (
-      AreFilled-write (g.P.Metric.distance c.args.m.now) (g.P.Metric.size_of c.args.m.now) (length c.args.kept.now) (city_at row p) (IsAt row (λ q. q < p)) (IsAt row (λ q. q < p + 1)) c.loop-p.entries c.write_cities.new.entries c.sweep_city.new.kept c.loop-p.invariant.0 (c.requires.order.each p c.loop-p-test.true).0 size (rw c.loop-p.invariant.1 at c.sweep_city.ensures.near)
-          (λ a s. ⊎_elim (λ e. inr (sym s.3 ∙ ap (city_at row) e)) (λ ne. inl (s.0, s.1, omega (arith, s.2, ne), s.3)) (cases_eq s.0 p)) c.write_cities.ensures,
+    let size : length c.sweep_city.new.kept ≡ length c.args.kept.now = c.sweep_city.ensures.size
+    ∙ c.loop-p.invariant.1 in (
+      AreFilled-write (g.P.Metric.distance c.args.m.now) (g.P.Metric.size_of c.args.m.now) (length c.args.kept.now)
+          (city_at row p) (IsAt row (λ q. q < p)) (IsAt row (λ q. q < p + 1)) c.loop-p.entries
+          c.write_cities.new.entries c.sweep_city.new.kept c.loop-p.invariant.0
+          (c.requires.order.each p c.loop-p-test.true).0 size (rw c.loop-p.invariant.1 at c.sweep_city.ensures.near)
+          (λ a s. ⊎_elim (λ e. inr (sym s.3 ∙ ap (city_at row) e)) (λ ne. inl (s.0, s.1, omega (arith, s.2, ne), s.3))
+          (cases_eq s.0 p)) c.write_cities.ensures,
       size,
     )
 
 pub returns : goal.returns
 returns g c =
-    AreFilled-same _ _ _ _ _ _ c.loop-p.invariant.0 (λ a city d. let w = c.requires.order.whole a city in (w.0, w.1, omega (arith, w.1), w.2))
+    AreFilled-same _ _ _ _ _ _ c.loop-p.invariant.0 (λ a city d. let w = c.requires.order.whole a city in
+    (w.0, w.1, omega (arith, w.1), w.2))

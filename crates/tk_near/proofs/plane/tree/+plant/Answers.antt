@@ -5,7 +5,9 @@ use Rattle.tk_near.proofs.plane.tree.+plant.Goals as goal
 
 pub returns-clause-moved : goal.returns-clause-moved
 returns-clause-moved t c =
-    IsPermutation-trans _ _ _ c.halve.ensures (rw c.split_at_mut-lower.ensures.value (IsPermutation-append _ _ _ _ c.in_ok-lower_tree.ensures.moved c.in_ok-upper_tree.ensures.moved))
+    IsPermutation-trans _ _ _ c.halve.ensures
+    (rw c.split_at_mut-lower.ensures.value
+    (IsPermutation-append _ _ _ _ c.in_ok-lower_tree.ensures.moved c.in_ok-upper_tree.ensures.moved))
 
 pub returns-clause-framed : goal.returns-clause-framed
 returns-clause-framed t c = (
@@ -17,6 +19,7 @@ returns-clause-framed t c = (
 
 pub returns-clause-within : goal.returns-clause-within
 returns-clause-within t c =
-    joined_within _ _ _ (entries_of c.in_ok-lower_box.lower_box.value) (entries_of c.in_ok-upper_box.upper_box.value) c.joined-frame.ensures.first c.joined-frame.ensures.second
+    joined_within _ _ _ (entries_of c.in_ok-lower_box.lower_box.value) (entries_of c.in_ok-upper_box.upper_box.value)
+    c.joined-frame.ensures.first c.joined-frame.ensures.second
     (rw c.in_ok-lower_box.ensures.ok c.in_ok-lower_tree.ensures.within)
     (rw c.in_ok-upper_box.ensures.ok c.in_ok-upper_tree.ensures.within)

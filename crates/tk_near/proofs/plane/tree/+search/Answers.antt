@@ -3,7 +3,8 @@ use Rattle.std.specs.Prelude.{All}
 use Rattle.tk_near.proofs.Inserting.{before_false}
 use Rattle.tk_near.specs.Placed.{IsPlaced}
 use Rattle.tk_near.specs.Tree.{entries_of, parts_of, with_cities}
-use Rattle.tk_near.proofs.InPlane.Parting.{IsSmall, kept_without_part, all_front, all_back, part_from, part_smaller, seen_both, seen_both_back, placed_small}
+use Rattle.tk_near.proofs.InPlane.Parting.{IsSmall, kept_without_part, all_front, all_back, part_from, part_smaller}
+use Rattle.tk_near.proofs.InPlane.Parting.{seen_both, seen_both_back, placed_small}
 use Rattle.tk_near.proofs.plane.tree.+search.Goals as goal
 use Rattle.tk_near.proofs.plane.tree.+search.Goals.{then-may_enter, else-may_enter, then-may_enter-3, else-may_enter-3}
 
@@ -13,8 +14,12 @@ search-requires g t c κs within =
     let framed = rw c.in-Cut.is at c.requires.framed in
     let placed = rw c.in-Cut.is at c.requires.placed in
     let e = c.deref-then-may_enter.ensures in
-    let mine = all_front (IsPlaced (g.P.Metric.size_of m) (g.P.Planar.place_of m)) (entries_of c.in-Cut.lower.value) (entries_of c.in-Cut.upper.value) placed in
-    (part_smaller c.args.tree.now c.in-Cut.lower.value c.in-Cut.upper.value _ t c.decreases (ap parts_of c.in-Cut.is) (inl e), (within.0, (within.1, (c.requires.here, (rw e mine, rw e framed.2)))))
+    let mine = all_front (IsPlaced (g.P.Metric.size_of m) (g.P.Planar.place_of m)) (entries_of c.in-Cut.lower.value)
+    (entries_of c.in-Cut.upper.value) placed in (
+      part_smaller c.args.tree.now c.in-Cut.lower.value c.in-Cut.upper.value _ t c.decreases (ap parts_of c.in-Cut.is)
+          (inl e),
+      (within.0, (within.1, (c.requires.here, (rw e mine, rw e framed.2)))),
+    )
 
 pub search-requires-then-may_enter-2 : goal.search-requires-then-may_enter-2
 search-requires-then-may_enter-2 g t c κs within =
@@ -22,8 +27,12 @@ search-requires-then-may_enter-2 g t c κs within =
     let framed = rw c.in-Cut.is at c.requires.framed in
     let placed = rw c.in-Cut.is at c.requires.placed in
     let e = c.deref-then-may_enter-2.ensures in
-    let mine = all_back (IsPlaced (g.P.Metric.size_of m) (g.P.Planar.place_of m)) (entries_of c.in-Cut.lower.value) (entries_of c.in-Cut.upper.value) placed in
-    (part_smaller c.args.tree.now c.in-Cut.lower.value c.in-Cut.upper.value _ t c.decreases (ap parts_of c.in-Cut.is) (inr e), (within.0, (within.1, (c.requires.here, (rw e mine, rw e framed.3)))))
+    let mine = all_back (IsPlaced (g.P.Metric.size_of m) (g.P.Planar.place_of m)) (entries_of c.in-Cut.lower.value)
+    (entries_of c.in-Cut.upper.value) placed in (
+      part_smaller c.args.tree.now c.in-Cut.lower.value c.in-Cut.upper.value _ t c.decreases (ap parts_of c.in-Cut.is)
+          (inr e),
+      (within.0, (within.1, (c.requires.here, (rw e mine, rw e framed.3)))),
+    )
 
 pub search-requires-then-may_enter-3 : goal.search-requires-then-may_enter-3
 search-requires-then-may_enter-3 g t c κs within =
@@ -31,8 +40,12 @@ search-requires-then-may_enter-3 g t c κs within =
     let framed = rw c.in-Cut.is at c.requires.framed in
     let placed = rw c.in-Cut.is at c.requires.placed in
     let e = c.deref-then-may_enter-3.ensures in
-    let mine = all_back (IsPlaced (g.P.Metric.size_of m) (g.P.Planar.place_of m)) (entries_of c.in-Cut.lower.value) (entries_of c.in-Cut.upper.value) placed in
-    (part_smaller c.args.tree.now c.in-Cut.lower.value c.in-Cut.upper.value _ t c.decreases (ap parts_of c.in-Cut.is) (inr e), (within.0, (within.1, (c.requires.here, (rw e mine, rw e framed.3)))))
+    let mine = all_back (IsPlaced (g.P.Metric.size_of m) (g.P.Planar.place_of m)) (entries_of c.in-Cut.lower.value)
+    (entries_of c.in-Cut.upper.value) placed in (
+      part_smaller c.args.tree.now c.in-Cut.lower.value c.in-Cut.upper.value _ t c.decreases (ap parts_of c.in-Cut.is)
+          (inr e),
+      (within.0, (within.1, (c.requires.here, (rw e mine, rw e framed.3)))),
+    )
 
 pub search-requires-then-may_enter-4 : goal.search-requires-then-may_enter-4
 search-requires-then-may_enter-4 g t c κs within =
@@ -40,8 +53,12 @@ search-requires-then-may_enter-4 g t c κs within =
     let framed = rw c.in-Cut.is at c.requires.framed in
     let placed = rw c.in-Cut.is at c.requires.placed in
     let e = c.deref-then-may_enter-4.ensures in
-    let mine = all_front (IsPlaced (g.P.Metric.size_of m) (g.P.Planar.place_of m)) (entries_of c.in-Cut.lower.value) (entries_of c.in-Cut.upper.value) placed in
-    (part_smaller c.args.tree.now c.in-Cut.lower.value c.in-Cut.upper.value _ t c.decreases (ap parts_of c.in-Cut.is) (inl e), (within.0, (within.1, (c.requires.here, (rw e mine, rw e framed.2)))))
+    let mine = all_front (IsPlaced (g.P.Metric.size_of m) (g.P.Planar.place_of m)) (entries_of c.in-Cut.lower.value)
+    (entries_of c.in-Cut.upper.value) placed in (
+      part_smaller c.args.tree.now c.in-Cut.lower.value c.in-Cut.upper.value _ t c.decreases (ap parts_of c.in-Cut.is)
+          (inl e),
+      (within.0, (within.1, (c.requires.here, (rw e mine, rw e framed.2)))),
+    )
 
 pub returns-then-may_enter-2 : goal.returns-then-may_enter-2
 returns-then-may_enter-2 g t c =
@@ -55,14 +72,20 @@ returns-then-may_enter-2 g t c =
     let kept = g.K.Keeper.kept_of c.args.keeper.now in
     let middle = g.K.Keeper.kept_of c.if-may_enter.keeper in
     let first : middle ≡ with_cities dist here (entries_of lower) kept = elim c.if-may_enter.branch [
-      | then-may_enter w ↦ rw w.keeper-is (w.search.ensures ∙ ap (λ tree. with_cities dist here (entries_of tree) kept) w.deref-then-may_enter.ensures)
+      | then-may_enter w ↦ rw w.keeper-is (w.search.ensures
+          ∙ ap (λ tree. with_cities dist here (entries_of tree) kept) w.deref-then-may_enter.ensures)
       | else-may_enter w ↦
-          let mine = all_front (IsPlaced (g.P.Metric.size_of m) (g.P.Planar.place_of m)) (entries_of lower) (entries_of upper) placed in
-          let from = part_from dist (g.P.Metric.size_of m) (g.P.Planar.place_of m) here c.in-Cut.lower_frame c.first-lower_first.result (entries_of lower) c.first-lower_first.ensures mine framed.0 in
+          let mine = all_front (IsPlaced (g.P.Metric.size_of m) (g.P.Planar.place_of m)) (entries_of lower)
+          (entries_of upper) placed in
+          let from = part_from dist (g.P.Metric.size_of m) (g.P.Planar.place_of m) here c.in-Cut.lower_frame
+          c.first-lower_first.result (entries_of lower) c.first-lower_first.ensures mine framed.0 in
           let out = rw c.last.ensures at (before_false c.may_enter.ensures w.if-may_enter.false) in
-          rw w.keeper-is (kept_without_part dist here c.first-lower_first.result (entries_of lower) kept from (g.met.K.Keeper.climbing c.args.keeper.now) (g.met.K.Keeper.room c.args.keeper.now) out)
+          rw w.keeper-is
+          (kept_without_part dist here c.first-lower_first.result (entries_of lower) kept from
+          (g.met.K.Keeper.climbing c.args.keeper.now) (g.met.K.Keeper.room c.args.keeper.now) out)
     ] in
-    let second = c.search-then-may_enter-2.ensures ∙ ap (λ tree. with_cities dist here (entries_of tree) middle) c.deref-then-may_enter-2.ensures in
+    let second = c.search-then-may_enter-2.ensures
+    ∙ ap (λ tree. with_cities dist here (entries_of tree) middle) c.deref-then-may_enter-2.ensures in
     seen_both dist here lower upper c.args.tree.now kept middle _ (ap entries_of c.in-Cut.is) first second
 
 pub returns-else-may_enter-2 : goal.returns-else-may_enter-2
@@ -77,17 +100,26 @@ returns-else-may_enter-2 g t c =
     let kept = g.K.Keeper.kept_of c.args.keeper.now in
     let middle = g.K.Keeper.kept_of c.if-may_enter.keeper in
     let first : middle ≡ with_cities dist here (entries_of lower) kept = elim c.if-may_enter.branch [
-      | then-may_enter w ↦ rw w.keeper-is (w.search.ensures ∙ ap (λ tree. with_cities dist here (entries_of tree) kept) w.deref-then-may_enter.ensures)
+      | then-may_enter w ↦ rw w.keeper-is (w.search.ensures
+          ∙ ap (λ tree. with_cities dist here (entries_of tree) kept) w.deref-then-may_enter.ensures)
       | else-may_enter w ↦
-          let mine = all_front (IsPlaced (g.P.Metric.size_of m) (g.P.Planar.place_of m)) (entries_of lower) (entries_of upper) placed in
-          let from = part_from dist (g.P.Metric.size_of m) (g.P.Planar.place_of m) here c.in-Cut.lower_frame c.first-lower_first.result (entries_of lower) c.first-lower_first.ensures mine framed.0 in
+          let mine = all_front (IsPlaced (g.P.Metric.size_of m) (g.P.Planar.place_of m)) (entries_of lower)
+          (entries_of upper) placed in
+          let from = part_from dist (g.P.Metric.size_of m) (g.P.Planar.place_of m) here c.in-Cut.lower_frame
+          c.first-lower_first.result (entries_of lower) c.first-lower_first.ensures mine framed.0 in
           let out = rw c.last.ensures at (before_false c.may_enter.ensures w.if-may_enter.false) in
-          rw w.keeper-is (kept_without_part dist here c.first-lower_first.result (entries_of lower) kept from (g.met.K.Keeper.climbing c.args.keeper.now) (g.met.K.Keeper.room c.args.keeper.now) out)
+          rw w.keeper-is
+          (kept_without_part dist here c.first-lower_first.result (entries_of lower) kept from
+          (g.met.K.Keeper.climbing c.args.keeper.now) (g.met.K.Keeper.room c.args.keeper.now) out)
     ] in
-    let mine = all_back (IsPlaced (g.P.Metric.size_of m) (g.P.Planar.place_of m)) (entries_of lower) (entries_of upper) placed in
-    let from = part_from dist (g.P.Metric.size_of m) (g.P.Planar.place_of m) here c.in-Cut.upper_frame c.first-upper_first.result (entries_of upper) c.first-upper_first.ensures mine framed.1 in
-    let out = rw c.last-then-is_before.ensures at (before_false c.may_enter-then-is_before.ensures c.if-may_enter-2.false) in
-    let second = kept_without_part dist here c.first-upper_first.result (entries_of upper) middle from (g.met.K.Keeper.climbing c.if-may_enter.keeper) (g.met.K.Keeper.room c.if-may_enter.keeper) out in
+    let mine = all_back (IsPlaced (g.P.Metric.size_of m) (g.P.Planar.place_of m)) (entries_of lower)
+    (entries_of upper) placed in
+    let from = part_from dist (g.P.Metric.size_of m) (g.P.Planar.place_of m) here c.in-Cut.upper_frame
+    c.first-upper_first.result (entries_of upper) c.first-upper_first.ensures mine framed.1 in
+    let out =
+    rw c.last-then-is_before.ensures at (before_false c.may_enter-then-is_before.ensures c.if-may_enter-2.false) in
+    let second = kept_without_part dist here c.first-upper_first.result (entries_of upper) middle from
+    (g.met.K.Keeper.climbing c.if-may_enter.keeper) (g.met.K.Keeper.room c.if-may_enter.keeper) out in
     seen_both dist here lower upper c.args.tree.now kept middle _ (ap entries_of c.in-Cut.is) first second
 
 pub returns-then-may_enter-4 : goal.returns-then-may_enter-4
@@ -102,16 +134,27 @@ returns-then-may_enter-4 g t c =
     let kept = g.K.Keeper.kept_of c.args.keeper.now in
     let middle = g.K.Keeper.kept_of c.if-may_enter-3.keeper in
     let first : middle ≡ with_cities dist here (entries_of upper) kept = elim c.if-may_enter-3.branch [
-      | then-may_enter-3 w ↦ rw w.keeper-is (w.search-then-may_enter-3.ensures ∙ ap (λ tree. with_cities dist here (entries_of tree) kept) w.deref-then-may_enter-3.ensures)
+      | then-may_enter-3 w ↦ rw w.keeper-is (w.search-then-may_enter-3.ensures
+          ∙ ap (λ tree. with_cities dist here (entries_of tree) kept) w.deref-then-may_enter-3.ensures)
       | else-may_enter-3 w ↦
-          let mine = all_back (IsPlaced (g.P.Metric.size_of m) (g.P.Planar.place_of m)) (entries_of lower) (entries_of upper) placed in
-          let from = part_from dist (g.P.Metric.size_of m) (g.P.Planar.place_of m) here c.in-Cut.upper_frame c.first-upper_first.result (entries_of upper) c.first-upper_first.ensures mine framed.1 in
-          let out = rw c.last-else-is_before.ensures at (before_false c.may_enter-else-is_before.ensures w.if-may_enter-3.false) in
-          rw w.keeper-is (kept_without_part dist here c.first-upper_first.result (entries_of upper) kept from (g.met.K.Keeper.climbing c.args.keeper.now) (g.met.K.Keeper.room c.args.keeper.now) out)
+          let mine = all_back (IsPlaced (g.P.Metric.size_of m) (g.P.Planar.place_of m)) (entries_of lower)
+          (entries_of upper) placed in
+          let from = part_from dist (g.P.Metric.size_of m) (g.P.Planar.place_of m) here c.in-Cut.upper_frame
+          c.first-upper_first.result (entries_of upper) c.first-upper_first.ensures mine framed.1 in
+          let out =
+          rw c.last-else-is_before.ensures at
+          (before_false c.may_enter-else-is_before.ensures w.if-may_enter-3.false) in
+          rw w.keeper-is
+          (kept_without_part dist here c.first-upper_first.result (entries_of upper) kept from
+          (g.met.K.Keeper.climbing c.args.keeper.now) (g.met.K.Keeper.room c.args.keeper.now) out)
     ] in
-    let second = c.search-then-may_enter-4.ensures ∙ ap (λ tree. with_cities dist here (entries_of tree) middle) c.deref-then-may_enter-4.ensures in
-    let small : All IsSmall (entries_of lower ++ entries_of upper) = placed_small (g.P.Metric.size_of m) (g.P.Planar.place_of m) (entries_of lower ++ entries_of upper) (g.met.P.Metric.size_limit m) placed in
-    seen_both_back dist here lower upper c.args.tree.now kept middle _ (all_front IsSmall _ _ small) (all_back IsSmall _ _ small) (ap entries_of c.in-Cut.is) first second
+    let second = c.search-then-may_enter-4.ensures
+    ∙ ap (λ tree. with_cities dist here (entries_of tree) middle) c.deref-then-may_enter-4.ensures in
+    let small : All IsSmall (entries_of lower ++ entries_of upper) =
+    placed_small (g.P.Metric.size_of m) (g.P.Planar.place_of m) (entries_of lower ++ entries_of upper)
+    (g.met.P.Metric.size_limit m) placed in
+    seen_both_back dist here lower upper c.args.tree.now kept middle _ (all_front IsSmall _ _ small)
+    (all_back IsSmall _ _ small) (ap entries_of c.in-Cut.is) first second
 
 pub returns-else-may_enter-4 : goal.returns-else-may_enter-4
 returns-else-may_enter-4 g t c =
@@ -125,16 +168,31 @@ returns-else-may_enter-4 g t c =
     let kept = g.K.Keeper.kept_of c.args.keeper.now in
     let middle = g.K.Keeper.kept_of c.if-may_enter-3.keeper in
     let first : middle ≡ with_cities dist here (entries_of upper) kept = elim c.if-may_enter-3.branch [
-      | then-may_enter-3 w ↦ rw w.keeper-is (w.search-then-may_enter-3.ensures ∙ ap (λ tree. with_cities dist here (entries_of tree) kept) w.deref-then-may_enter-3.ensures)
+      | then-may_enter-3 w ↦ rw w.keeper-is (w.search-then-may_enter-3.ensures
+          ∙ ap (λ tree. with_cities dist here (entries_of tree) kept) w.deref-then-may_enter-3.ensures)
       | else-may_enter-3 w ↦
-          let mine = all_back (IsPlaced (g.P.Metric.size_of m) (g.P.Planar.place_of m)) (entries_of lower) (entries_of upper) placed in
-          let from = part_from dist (g.P.Metric.size_of m) (g.P.Planar.place_of m) here c.in-Cut.upper_frame c.first-upper_first.result (entries_of upper) c.first-upper_first.ensures mine framed.1 in
-          let out = rw c.last-else-is_before.ensures at (before_false c.may_enter-else-is_before.ensures w.if-may_enter-3.false) in
-          rw w.keeper-is (kept_without_part dist here c.first-upper_first.result (entries_of upper) kept from (g.met.K.Keeper.climbing c.args.keeper.now) (g.met.K.Keeper.room c.args.keeper.now) out)
+          let mine = all_back (IsPlaced (g.P.Metric.size_of m) (g.P.Planar.place_of m)) (entries_of lower)
+          (entries_of upper) placed in
+          let from = part_from dist (g.P.Metric.size_of m) (g.P.Planar.place_of m) here c.in-Cut.upper_frame
+          c.first-upper_first.result (entries_of upper) c.first-upper_first.ensures mine framed.1 in
+          let out =
+          rw c.last-else-is_before.ensures at
+          (before_false c.may_enter-else-is_before.ensures w.if-may_enter-3.false) in
+          rw w.keeper-is
+          (kept_without_part dist here c.first-upper_first.result (entries_of upper) kept from
+          (g.met.K.Keeper.climbing c.args.keeper.now) (g.met.K.Keeper.room c.args.keeper.now) out)
     ] in
-    let mine = all_front (IsPlaced (g.P.Metric.size_of m) (g.P.Planar.place_of m)) (entries_of lower) (entries_of upper) placed in
-    let from = part_from dist (g.P.Metric.size_of m) (g.P.Planar.place_of m) here c.in-Cut.lower_frame c.first-lower_first.result (entries_of lower) c.first-lower_first.ensures mine framed.0 in
-    let out = rw c.last-else-is_before-2.ensures at (before_false c.may_enter-else-is_before-2.ensures c.if-may_enter-4.false) in
-    let second = kept_without_part dist here c.first-lower_first.result (entries_of lower) middle from (g.met.K.Keeper.climbing c.if-may_enter-3.keeper) (g.met.K.Keeper.room c.if-may_enter-3.keeper) out in
-    let small : All IsSmall (entries_of lower ++ entries_of upper) = placed_small (g.P.Metric.size_of m) (g.P.Planar.place_of m) (entries_of lower ++ entries_of upper) (g.met.P.Metric.size_limit m) placed in
-    seen_both_back dist here lower upper c.args.tree.now kept middle _ (all_front IsSmall _ _ small) (all_back IsSmall _ _ small) (ap entries_of c.in-Cut.is) first second
+    let mine = all_front (IsPlaced (g.P.Metric.size_of m) (g.P.Planar.place_of m)) (entries_of lower)
+    (entries_of upper) placed in
+    let from = part_from dist (g.P.Metric.size_of m) (g.P.Planar.place_of m) here c.in-Cut.lower_frame
+    c.first-lower_first.result (entries_of lower) c.first-lower_first.ensures mine framed.0 in
+    let out =
+    rw c.last-else-is_before-2.ensures at
+    (before_false c.may_enter-else-is_before-2.ensures c.if-may_enter-4.false) in
+    let second = kept_without_part dist here c.first-lower_first.result (entries_of lower) middle from
+    (g.met.K.Keeper.climbing c.if-may_enter-3.keeper) (g.met.K.Keeper.room c.if-may_enter-3.keeper) out in
+    let small : All IsSmall (entries_of lower ++ entries_of upper) =
+    placed_small (g.P.Metric.size_of m) (g.P.Planar.place_of m) (entries_of lower ++ entries_of upper)
+    (g.met.P.Metric.size_limit m) placed in
+    seen_both_back dist here lower upper c.args.tree.now kept middle _ (all_front IsSmall _ _ small)
+    (all_back IsSmall _ _ small) (ap entries_of c.in-Cut.is) first second

@@ -5,8 +5,11 @@ use Rattle.tk_near.proofs.Tables.{AreFilled-write, AreFilled-none, AreFilled-sam
 use Rattle.tk_near.proofs.plane.tree.fill_from_tree.Goals as goal
 
 pub loop-here-init : goal.loop-here-init
-loop-here-init g c =
-    (AreFilled-none (g.P.Metric.distance c.args.m.now) (g.P.Metric.size_of c.args.m.now) (length c.args.many.now.kept.items) _ c.args.entries.now c.requires.room (λ a city s. omega (arith, s.2)), omega arith)
+loop-here-init g c = (
+  AreFilled-none (g.P.Metric.distance c.args.m.now) (g.P.Metric.size_of c.args.m.now)
+      (length c.args.many.now.kept.items) _ c.args.entries.now c.requires.room (λ a city s. omega (arith, s.2)),
+  omega arith,
+)
 
 pub loop-here-preserved : goal.loop-here-preserved
 loop-here-preserved g c =
@@ -17,11 +20,15 @@ loop-here-preserved g c =
     let city = c.requires.row.each p nowhere l in
     let size : length c.search_city.new.many.kept.items ≡ k = c.search_city.ensures.size ∙ c.loop-here.invariant.1 in
     let near = rw c.loop-here.invariant.1 at c.search_city.ensures.near in (
-      AreFilled-write (g.P.Metric.distance c.args.m.now) (g.P.Metric.size_of c.args.m.now) k (city_at row p) (IsAt row (λ q. q < p)) (IsAt row (λ q. q < p + 1)) c.loop-here.entries c.write_cities.new.entries c.search_city.new.many.kept.items c.loop-here.invariant.0 city.0 size near
-          (λ a s. ⊎_elim (λ e. inr (sym s.3 ∙ ap (city_at row) e)) (λ ne. inl (s.0, s.1, omega (arith, s.2, ne), s.3)) (cases_eq s.0 p)) (rw c.kept.ensures at c.write_cities.ensures),
+      AreFilled-write (g.P.Metric.distance c.args.m.now) (g.P.Metric.size_of c.args.m.now) k (city_at row p)
+          (IsAt row (λ q. q < p)) (IsAt row (λ q. q < p + 1)) c.loop-here.entries c.write_cities.new.entries
+          c.search_city.new.many.kept.items c.loop-here.invariant.0 city.0 size near
+          (λ a s. ⊎_elim (λ e. inr (sym s.3 ∙ ap (city_at row) e)) (λ ne. inl (s.0, s.1, omega (arith, s.2, ne), s.3))
+          (cases_eq s.0 p)) (rw c.kept.ensures at c.write_cities.ensures),
       size,
     )
 
 pub returns : goal.returns
 returns g c =
-    AreFilled-same _ _ _ _ _ _ c.loop-here.invariant.0 (λ a city d. let w = c.requires.row.whole a city in (w.0, w.1, omega (arith, w.1), w.2))
+    AreFilled-same _ _ _ _ _ _ c.loop-here.invariant.0 (λ a city d. let w = c.requires.row.whole a city in
+    (w.0, w.1, omega (arith, w.1), w.2))

@@ -10,7 +10,9 @@ loop-p-preserved c =
     let row = c.args.row.now in
     let i = c.loop-p.p-index in
     let frame = c.widened-frame.result in
-    All-more (IsWithin frame) row i nowhere (omega arith) (All-weaker (IsWithin c.loop-p.frame) (IsWithin frame) c.widened-frame.ensures.others (take i row) c.loop-p.invariant) c.widened-frame.ensures.this
+    All-more (IsWithin frame) row i nowhere (omega arith)
+    (All-weaker (IsWithin c.loop-p.frame) (IsWithin frame) c.widened-frame.ensures.others (take i row)
+    c.loop-p.invariant) c.widened-frame.ensures.this
 
 pub returns : goal.returns
 returns c = rw (take_all c.loop-p.p-index c.args.row.now (omega arith)) at c.loop-p.invariant

@@ -7,7 +7,9 @@ use Rattle.tk_near.proofs.plane.tree.search_city.Goals as goal
 
 pub returns-clause-size : goal.returns-clause-size
 returns-clause-size g c =
-    ap length c.search.ensures ∙ with_cities-length (g.P.Metric.distance c.args.m.now) c.args.here.now.city (entries_of c.args.tree.now) c.clear.new.self.kept.items
+    ap length c.search.ensures
+    ∙ with_cities-length (g.P.Metric.distance c.args.m.now) c.args.here.now.city (entries_of c.args.tree.now)
+    c.clear.new.self.kept.items
     ∙ ap length c.clear.ensures ∙ length-replicate (length c.args.many.now.kept.items) open_place
 
 pub returns-clause-near : goal.returns-clause-near
@@ -17,4 +19,5 @@ returns-clause-near g c =
     let dist = g.P.Metric.distance m in
     let row = entries_of c.args.tree.now in
     let kept = c.search.ensures ∙ ap (with_cities dist c.args.here.now.city row) c.clear.ensures in
-    rw kept (IsNear-from_row dist (g.met.P.Metric.distance_limit m) (g.P.Metric.size_of m) (g.P.Planar.place_of m) row c.requires.row (g.met.P.Metric.size_limit m) c.args.here.now.city k c.requires.here.0 c.requires.high)
+    rw kept (IsNear-from_row dist (g.met.P.Metric.distance_limit m) (g.P.Metric.size_of m) (g.P.Planar.place_of m) row
+    c.requires.row (g.met.P.Metric.size_limit m) c.args.here.now.city k c.requires.here.0 c.requires.high)

@@ -10,6 +10,8 @@ returns-else-may_enter g c =
     let here = c.args.here.now.city in
     let half = entries_of c.args.half.now in
     let kept = g.K.Keeper.kept_of c.args.keeper.now in
-    let from = part_from dist (g.P.Metric.size_of m) (g.P.Planar.place_of m) here c.args.frame.now c.first.result half c.first.ensures c.requires.placed c.requires.within in
+    let from = part_from dist (g.P.Metric.size_of m) (g.P.Planar.place_of m) here c.args.frame.now c.first.result half
+    c.first.ensures c.requires.placed c.requires.within in
     let out = rw c.last.ensures at (before_false c.may_enter.ensures c.if-may_enter.false) in
-    kept_without_part dist here c.first.result half kept from (g.met.K.Keeper.climbing c.args.keeper.now) (g.met.K.Keeper.room c.args.keeper.now) out
+    kept_without_part dist here c.first.result half kept from (g.met.K.Keeper.climbing c.args.keeper.now)
+    (g.met.K.Keeper.room c.args.keeper.now) out

@@ -5,4 +5,6 @@ use Rattle.tk_near.proofs.plane.tree.search_leaf.Goals as goal
 
 pub loop-there-preserved : goal.loop-there-preserved
 loop-there-preserved g c =
-    c.show.ensures ∙ seen_more (g.P.Metric.distance c.args.m.now) c.args.here.now.city c.args.leaf.now c.loop-there.there-index nowhere (g.K.Keeper.kept_of c.args.keeper.now) (g.K.Keeper.kept_of c.loop-there.keeper) (omega arith) c.loop-there.invariant
+    c.show.ensures ∙ seen_more (g.P.Metric.distance c.args.m.now) c.args.here.now.city c.args.leaf.now
+    c.loop-there.there-index nowhere (g.K.Keeper.kept_of c.args.keeper.now) (g.K.Keeper.kept_of c.loop-there.keeper)
+    (omega arith) c.loop-there.invariant

@@ -3,7 +3,8 @@ use Rattle.tk_near.specs.Keeping.{candidate}
 use Rattle.tk_near.proofs.Inserting.{before_false}
 use Rattle.tk_near.proofs.InPlane.Parting.{with_candidate-out, with_city-other, with_city-same}
 use Rattle.tk_near.proofs.plane.tree.show.Goals as goal
-use Rattle.tk_near.proofs.plane.tree.show.Goals.{else-there-here-via-then-there-here+else-comes_before, else-there-here-via-else-there-here}
+use Rattle.tk_near.proofs.plane.tree.show.Goals.{else-there-here-via-then-there-here+else-comes_before}
+use Rattle.tk_near.proofs.plane.tree.show.Goals.{else-there-here-via-else-there-here}
 
 pub returns-else-there-here : goal.returns-else-there-here
 returns-else-there-here g c =
@@ -15,6 +16,8 @@ returns-else-there-here g c =
     elim c.else-there-here.branch [
       | else-there-here-via-then-there-here+else-comes_before w ↦
           let out = rw w.last.ensures at (before_false w.comes_before.ensures w.if-comes_before.false) in
-          sym (with_city-other dist here.city there kept w.if-there-here.true ∙ with_candidate-out (candidate dist here.city there.city) kept (g.met.K.Keeper.climbing keeper) (g.met.K.Keeper.room keeper) out)
+          sym (with_city-other dist here.city there kept w.if-there-here.true
+          ∙ with_candidate-out (candidate dist here.city there.city) kept (g.met.K.Keeper.climbing keeper)
+          (g.met.K.Keeper.room keeper) out)
       | else-there-here-via-else-there-here w ↦ sym (with_city-same dist here.city there kept w.if-there-here.false)
     ]

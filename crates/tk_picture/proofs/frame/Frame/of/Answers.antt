@@ -4,7 +4,8 @@ use mir.Syntax.{w64}
 use mir.Val.{SFits}
 use Rattle.tk_problem.specs.declared.point.Point.{Point}
 use Rattle.tk_problem.specs.PlacesOf.{places_of}
-use Rattle.tk_picture.proofs.Bounds.{coordinates_more, least_next, greatest_next, least_whole, greatest_whole, side_kept}
+use Rattle.tk_picture.proofs.Bounds.{coordinates_more, least_next, greatest_next, least_whole, greatest_whole}
+use Rattle.tk_picture.proofs.Bounds.{side_kept}
 use Rattle.tk_picture.proofs.frame.Frame.of.Goals as goal
 
 pub loop-i-preserved : goal.loop-i-preserved
@@ -18,16 +19,23 @@ loop-i-preserved c =
     let x_fits : SFits w64 place.x = search rules in
     let y_fits : SFits w64 place.y = search rules in
     record {
-      left = least_next n.low.x place.x c.min.result (map (λ p. p.x) (take n.i places)) _ (search rules) x_fits (search rules) c.min.ensures.value across n.invariant.left;
-      right = greatest_next n.high.x place.x c.max.result (map (λ p. p.x) (take n.i places)) _ (search rules) x_fits (search rules) c.max.ensures.value across n.invariant.right;
-      bottom = least_next n.low.y place.y c.min-in-loop-i.result (map (λ p. p.y) (take n.i places)) _ (search rules) y_fits (search rules) c.min-in-loop-i.ensures.value up n.invariant.bottom;
-      top = greatest_next n.high.y place.y c.max-in-loop-i.result (map (λ p. p.y) (take n.i places)) _ (search rules) y_fits (search rules) c.max-in-loop-i.ensures.value up n.invariant.top;
+      left = least_next n.low.x place.x c.min.result (map (λ p. p.x) (take n.i places)) _ (search rules) x_fits
+          (search rules) c.min.ensures.value across n.invariant.left;
+      right = greatest_next n.high.x place.x c.max.result (map (λ p. p.x) (take n.i places)) _ (search rules) x_fits
+          (search rules) c.max.ensures.value across n.invariant.right;
+      bottom = least_next n.low.y place.y c.min-in-loop-i.result (map (λ p. p.y) (take n.i places)) _ (search rules)
+          y_fits (search rules) c.min-in-loop-i.ensures.value up n.invariant.bottom;
+      top = greatest_next n.high.y place.y c.max-in-loop-i.result (map (λ p. p.y) (take n.i places)) _ (search rules)
+          y_fits (search rules) c.max-in-loop-i.ensures.value up n.invariant.top;
     }
 
 pub invariant_of-result : goal.invariant_of-result
 invariant_of-result c =
     let n = c.loop-i in
-    record { is_side = side_kept n.low.x n.high.x n.low.y n.high.y c.side_of.result (search rules) (search rules) (search rules) (search rules) c.side_of.ensures }
+    record {
+      is_side = side_kept n.low.x n.high.x n.low.y n.high.y c.side_of.result (search rules) (search
+          rules) (search rules) (search rules) c.side_of.ensures;
+    }
 
 pub returns : goal.returns
 returns c =

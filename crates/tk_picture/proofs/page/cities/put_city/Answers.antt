@@ -7,10 +7,12 @@ use Rattle.tk_picture.proofs.page.cities.put_city.Goals as goal
 
 pub returns : goal.returns
 returns g c =
-    let found = got c.get.result c.args.picture.now.demands.now (c.args.city - 1) _ c.get.ensures.lookup.1 c.get.ensures.lookup.3 in
+    let found = got c.get.result c.args.picture.now.demands.now (c.args.city - 1) _ c.get.ensures.lookup.1
+    c.get.ensures.lookup.3 in
     let demand = subst (Puts _ _ _ _) (ap demand_word found) c.put_demand.ensures in
     Puts-then _ _ _ _ _ _ _
     (Puts-then _ _ _ _ _ _ _
-    (Puts-then _ _ _ _ _ _ _ (Puts-then _ _ _ _ _ _ _ (Puts-then _ _ _ _ _ _ _ c.put_spot.ensures c.put.ensures) c.put_coordinates.ensures) demand)
+    (Puts-then _ _ _ _ _ _ _ (Puts-then _ _ _ _ _ _ _ (Puts-then _ _ _ _ _ _ _ c.put_spot.ensures c.put.ensures)
+    c.put_coordinates.ensures) demand)
     c.put_depot_word.ensures)
     c.put-2.ensures

@@ -15,9 +15,11 @@ pub loop-customer-preserved : goal.loop-customer-preserved
 loop-customer-preserved g c =
     let stop : ℕ → List ℕ = λ n. codes " " ++ decimal n in
     let depot = (instance_of c.args.cvrp.now).depot in
-    rw (flat_map_take (λ k. stop (node_of depot k)) c.args.route.now c.loop-customer.customer-index c.loop-customer-test.true)
+    rw (flat_map_take (λ k. stop (node_of depot k)) c.args.route.now c.loop-customer.customer-index
+    c.loop-customer-test.true)
     (Puts-then _ _ _ _ _ _ _ c.loop-customer.invariant
-    (subst (Puts _ _ _ _) (ap stop c.node.ensures.value) (Puts-then _ _ _ _ _ _ _ c.put.ensures c.put_number-in-loop-customer.ensures)))
+    (subst (Puts _ _ _ _) (ap stop c.node.ensures.value)
+    (Puts-then _ _ _ _ _ _ _ c.put.ensures c.put_number-in-loop-customer.ensures)))
 
 pub returns : goal.returns
 returns g c =
@@ -25,9 +27,12 @@ returns g c =
     let i = instance_of c.args.cvrp.now in
     let route = c.args.route.now in
     let all : c.loop-customer.customer-index ≡ length route = omega (arith, c.loop-customer.auto.customer-index-end) in
-    let rest = flat_map_all (λ k. stop (node_of i.depot k)) route c.loop-customer.customer-index all ∙ sym (flat_map-map stop (node_of i.depot) route) in
-    let some = filled_some (route_path i) path_line c.args.number route (sym c.is_empty.ensures ∙ c.if-is_empty.false) in
+    let rest = flat_map_all (λ k. stop (node_of i.depot k)) route c.loop-customer.customer-index all
+    ∙ sym (flat_map-map stop (node_of i.depot) route) in
+    let some =
+    filled_some (route_path i) path_line c.args.number route (sym c.is_empty.ensures ∙ c.if-is_empty.false) in
     subst (Puts _ _ _ _) (sym some)
     (Puts-then _ _ _ _ _ _ _
-    (Puts-then _ _ _ _ _ _ _ (subst (Puts _ _ _ _) (ap decimal c.depot.ensures.value) c.put_number.ensures) (subst (Puts _ _ _ _) rest c.loop-customer.invariant))
+    (Puts-then _ _ _ _ _ _ _ (subst (Puts _ _ _ _) (ap decimal c.depot.ensures.value) c.put_number.ensures)
+    (subst (Puts _ _ _ _) rest c.loop-customer.invariant))
     c.put-2.ensures)

@@ -16,9 +16,20 @@ returns g c =
     let route = c.args.route.now in
     let load : c.load-load.result ≡ route_load i route = c.load-load.ensures in
     let part : c.share.result ≡ share (route_load i route) i.capacity =
-    c.share.ensures ∙ ap (λ l. share l c.capacity.result) load ∙ ap (share (route_load i route)) c.capacity.ensures.value in
-    let way : c.unsigned_abs.result ≡ route_length i route = c.unsigned_abs.ensures.value ∙ ap unsigned_abs (to_z-of_z w64 c.length.result (search rules) ∙ c.length.ensures) in
+    c.share.ensures ∙ ap (λ l. share l c.capacity.result) load
+    ∙ ap (share (route_load i route)) c.capacity.ensures.value in
+    let way : c.unsigned_abs.result ≡ route_length i route = c.unsigned_abs.ensures.value
+    ∙ ap unsigned_abs (to_z-of_z w64 c.length.result (search rules) ∙ c.length.ensures) in
     let puts_load = subst (Puts _ _ _ _) (ap decimal load) c.put_number-3.ensures in
     let puts_share = subst (Puts _ _ _ _) (ap decimal part) c.put_wide.ensures in
     let puts_way = subst (Puts _ _ _ _) (ap decimal way) c.put_number-4.ensures in
-    Puts-then _ _ _ _ _ _ _ (Puts-then _ _ _ _ _ _ _ (Puts-then _ _ _ _ _ _ _ (Puts-then _ _ _ _ _ _ _ (Puts-then _ _ _ _ _ _ _ (Puts-then _ _ _ _ _ _ _ (Puts-then _ _ _ _ _ _ _ (Puts-then _ _ _ _ _ _ _ (Puts-then _ _ _ _ _ _ _ (Puts-then _ _ _ _ _ _ _ c.put.ensures c.put_number.ensures) c.put-2.ensures) c.put_number-2.ensures) c.put-3.ensures) puts_load) c.put-4.ensures) puts_share) c.put-5.ensures) puts_way) c.put-6.ensures
+    Puts-then _ _ _ _ _ _ _ (Puts-then
+    _ _ _ _ _ _ _ (Puts-then
+    _ _ _ _ _ _ _ (Puts-then
+    _ _ _ _ _ _ _ (Puts-then
+    _ _ _ _ _ _ _ (Puts-then
+    _ _ _ _ _ _ _ (Puts-then
+    _ _ _ _ _ _ _ (Puts-then
+    _ _ _ _ _ _ _ (Puts-then _ _ _ _ _ _ _ (Puts-then _ _ _ _ _ _ _ c.put.ensures c.put_number.ensures)
+    c.put-2.ensures) c.put_number-2.ensures) c.put-3.ensures) puts_load) c.put-4.ensures) puts_share)
+    c.put-5.ensures) puts_way) c.put-6.ensures

@@ -11,12 +11,15 @@ use Rattle.tk_picture.proofs.page.table.put_rows.Goals as goal
 
 pub put_filled-requires-clause-known : goal.put_filled-requires-clause-known
 put_filled-requires-clause-known g c =
-    (route_served (λ r. r.items) (customer_count (instance_of c.args.cvrp.now)) c.args.routes.now c.loop-route.route-index c.route-item.result c.deref.result.now c.loop-route-test.true c.route-item.is c.deref.ensures.value c.requires.once).known
+    (route_served (λ r. r.items) (customer_count (instance_of c.args.cvrp.now)) c.args.routes.now
+    c.loop-route.route-index c.route-item.result c.deref.result.now c.loop-route-test.true c.route-item.is
+    c.deref.ensures.value c.requires.once).known
 
 pub put_filled-requires-clause-few : goal.put_filled-requires-clause-few
 put_filled-requires-clause-few g c =
     let m = customer_count (instance_of c.args.cvrp.now) in
-    let one = route_served (λ r. r.items) m c.args.routes.now c.loop-route.route-index c.route-item.result c.deref.result.now c.loop-route-test.true c.route-item.is c.deref.ensures.value c.requires.once in
+    let one = route_served (λ r. r.items) m c.args.routes.now c.loop-route.route-index c.route-item.result
+    c.deref.result.now c.loop-route-test.true c.route-item.is c.deref.ensures.value c.requires.once in
     omega (arith, AreServedOnce-short m c.deref.result.now one, c.args.cvrp.now.few)
 
 pub loop-route-preserved : goal.loop-route-preserved
@@ -24,7 +27,10 @@ loop-route-preserved g c =
     let n = c.loop-route in
     record {
       count = omega (arith, n.invariant.count);
-      text = subst (Puts _ _ _ _) (sym (filled_more (row_of (instance_of c.args.cvrp.now)) row_line (λ r. r.items) c.args.routes.now n.route-index (n.number + 1) c.route-item.result c.deref.result.now
+      text =
+          subst (Puts _ _ _ _)
+          (sym (filled_more (row_of (instance_of c.args.cvrp.now)) row_line (λ r. r.items) c.args.routes.now
+          n.route-index (n.number + 1) c.route-item.result c.deref.result.now
           c.loop-route-test.true c.route-item.is c.deref.ensures.value (omega (arith, n.invariant.count))))
           (Puts-then _ _ _ _ _ _ _ n.invariant.text c.put_filled.ensures);
     }

@@ -14,6 +14,9 @@ returns g c =
     let place = city_place (places_of c.args.self.now.places) c.args.city in
     let right : c.across.result ≡ across frame place = c.across.ensures ∙ ap (across frame) c.get-place.ensures in
     let below : c.down.result ≡ down frame place = c.down.ensures ∙ ap (down frame) c.get-place.ensures in
-    let text : decimal c.across.result ++ codes "," ++ decimal c.down.result ≡ spot frame (places_of c.args.self.now.places) c.args.city =
-    ap (λ a. decimal a ++ codes "," ++ decimal c.down.result) right ∙ ap (λ d. decimal (across frame place) ++ codes "," ++ decimal d) below in
-    subst (Puts _ _ _ _) text (Puts-then _ _ _ _ _ _ _ (Puts-then _ _ _ _ _ _ _ c.put_wide.ensures c.put.ensures) c.put_wide-2.ensures)
+    let text : decimal c.across.result ++ codes ","
+    ++ decimal c.down.result ≡ spot frame (places_of c.args.self.now.places) c.args.city =
+    ap (λ a. decimal a ++ codes "," ++ decimal c.down.result) right
+    ∙ ap (λ d. decimal (across frame place) ++ codes "," ++ decimal d) below in
+    subst (Puts _ _ _ _) text
+    (Puts-then _ _ _ _ _ _ _ (Puts-then _ _ _ _ _ _ _ c.put_wide.ensures c.put.ensures) c.put_wide-2.ensures)

@@ -15,8 +15,10 @@ loop-customer-preserved g c =
     let view = c.args.self.now in
     let stop : ℕ → List ℕ = λ n. line (spot view.frame (places_of view.places) n) in
     let depot = (instance_of c.args.cvrp.now).depot in
-    rw (flat_map_take (λ k. stop (node_of depot k)) c.args.route.now c.loop-customer.customer-index c.loop-customer-test.true)
-    (Puts-then _ _ _ _ _ _ _ c.loop-customer.invariant (subst (Puts _ _ _ _) (ap stop c.node.ensures.value) c.put_corner-in-loop-customer.ensures))
+    rw (flat_map_take (λ k. stop (node_of depot k)) c.args.route.now c.loop-customer.customer-index
+    c.loop-customer-test.true)
+    (Puts-then _ _ _ _ _ _ _ c.loop-customer.invariant
+    (subst (Puts _ _ _ _) (ap stop c.node.ensures.value) c.put_corner-in-loop-customer.ensures))
 
 pub returns : goal.returns
 returns g c =
@@ -25,5 +27,7 @@ returns g c =
     let depot = (instance_of c.args.cvrp.now).depot in
     let route = c.args.route.now in
     let all : c.loop-customer.customer-index ≡ length route = omega (arith, c.loop-customer.auto.customer-index-end) in
-    let rest = flat_map_all (λ k. stop (node_of depot k)) route c.loop-customer.customer-index all ∙ sym (flat_map-map stop (node_of depot) route) in
-    Puts-then _ _ _ _ _ _ _ (subst (Puts _ _ _ _) (ap stop c.depot.ensures.value) c.put_corner.ensures) (subst (Puts _ _ _ _) rest c.loop-customer.invariant)
+    let rest = flat_map_all (λ k. stop (node_of depot k)) route c.loop-customer.customer-index all
+    ∙ sym (flat_map-map stop (node_of depot) route) in
+    Puts-then _ _ _ _ _ _ _ (subst (Puts _ _ _ _) (ap stop c.depot.ensures.value) c.put_corner.ensures)
+    (subst (Puts _ _ _ _) rest c.loop-customer.invariant)

@@ -8,6 +8,7 @@ pub returns : goal.returns
 returns c = λ f n ws w h.
     let s : Filling = record { places = c.self.inside.places; weights = c.self.inside.weights.items } in
     let so_far : IsSoFar s f n ws = subst (λ t. IsSoFar t f n ws) (sym c.self.view_is) h in
-    let on = subst (λ (t : Filling). IfSome (slice_get t.places 0) (λ q. q.row ≡ q.column)) (sym c.self.view_is) c.requires.diagonal in
+    let on = subst (λ (t : Filling). IfSome (slice_get t.places 0) (λ q. q.row ≡ q.column)) (sym c.self.view_is)
+    c.requires.diagonal in
     let some = subst (λ (t : Filling). 0 < length t.places) (sym c.self.view_is) c.requires.more in
     rw c.advance.ensures (so_far_skip s f n ws w so_far some on)

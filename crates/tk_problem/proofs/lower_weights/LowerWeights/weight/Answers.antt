@@ -11,9 +11,12 @@ returns c = λ f n ws h.
     let s : Filling = record { places = c.self.inside.places; weights = c.self.inside.weights.items } in
     let so_far : IsSoFar s f n ws = subst (λ t. IsSoFar t f n ws) (sym c.self.view_is) h in
     let next = next_place s f n ws p so_far c.place.ensures in
-    let at = subst (λ (t : Filling). IfSome (slice_get t.places 0) (λ q. q.row ≢ q.column)) (sym c.self.view_is) c.requires.pair in
+    let at = subst (λ (t : Filling). IfSome (slice_get t.places 0) (λ q. q.row ≢ q.column)) (sym c.self.view_is)
+    c.requires.pair in
     let here = subst (λ o. IfSome o (λ q. q.row ≢ q.column)) c.place.ensures at in
-    let read = subst (λ i. c.index.result.now ≡ get_or s.weights i c.index.result.now) c.lower_index.ensures c.index.ensures in
+    let read = subst (λ i. c.index.result.now ≡ get_or s.weights i c.index.result.now) c.lower_index.ensures
+    c.index.ensures in
     let value = weight_read s f n ws p c.index.result.now so_far next here read in
-    subst (λ (t : Filling). IfSome (slice_get t.places 0) (λ q. c.index.result.now ≡ weight_of q.row q.column (entries f n ws))) c.self.view_is
+    subst (λ (t : Filling). IfSome (slice_get t.places 0)
+    (λ q. c.index.result.now ≡ weight_of q.row q.column (entries f n ws))) c.self.view_is
     (rw c.place.ensures value)

@@ -16,13 +16,17 @@ returns-in-None-clause-err c = λ ps v n h s. rw (lt-ltb _ _ (c.name.ensures.lon
 
 pub returns-in-Some-clause-ok : goal.returns-in-Some-clause-ok
 returns-in-Some-clause-ok c = λ ps v n h s.
-    let name = subst (λ o. IfSome o (λ x. (x.now ≡ trim (after_word v)) × (length x.now ≤ 1024))) c.in-Some.is (c.name.ensures.name v s) in
-    IfOk-weaker c.keep_name.result _ _ (λ _ p. (p.0, rw (short v c.in-Some.name.now name.0 name.1, p.1) refl)) (c.keep_name.ensures.ok ps v n h name.0 name.1)
+    let name = subst (λ o. IfSome o (λ x. (x.now ≡ trim (after_word v)) × (length x.now ≤ 1024))) c.in-Some.is
+    (c.name.ensures.name v s) in
+    IfOk-weaker c.keep_name.result _ _ (λ _ p. (p.0, rw (short v c.in-Some.name.now name.0 name.1, p.1) refl))
+    (c.keep_name.ensures.ok ps v n h name.0 name.1)
 
 pub returns-in-Some-clause-err : goal.returns-in-Some-clause-err
 returns-in-Some-clause-err c = λ ps v n h s.
-    let name = subst (λ o. IfSome o (λ x. (x.now ≡ trim (after_word v)) × (length x.now ≤ 1024))) c.in-Some.is (c.name.ensures.name v s) in
+    let name = subst (λ o. IfSome o (λ x. (x.now ≡ trim (after_word v)) × (length x.now ≤ 1024))) c.in-Some.is
+    (c.name.ensures.name v s) in
     let is_short = short v c.in-Some.name.now name.0 name.1 in
     let P : TextKind → Type 0 = λ k. (k ≡ kinds.Repeated) × (has words.Name ps ≡ true) in
     let Q : TextKind → Type 0 = λ k. first_at n (problem_header ps words.Name v) ≡ Some (Fault n k) in
-    IfErr-weaker c.keep_name.result _ _ (λ k. told_map P Q k (λ p. rw (is_short, p.1, p.0) refl)) (c.keep_name.ensures.err ps h)
+    IfErr-weaker c.keep_name.result _ _ (λ k. told_map P Q k (λ p. rw (is_short, p.1, p.0) refl))
+    (c.keep_name.ensures.err ps h)

@@ -13,7 +13,8 @@ returns-in-Some-clause-fault c = λ ps k.
     let sized : is_none c.args.self.now.headers.dimension ≡ false = search rules in
     let P : TextKind → Type 0 = λ x. first_kind (weights_ends ps) ≡ Some x in
     let told = subst (λ o. IfSome o (IsToldWord P)) c.in-Some.is (c.weights_end.ensures.fault ps k) in
-    told_map P (λ x. problem_end ps ≡ Some x) c.in-Some.kind (end_stops c.args.self.now ps k typed sized c.in-Some.kind) told
+    told_map P (λ x. problem_end ps ≡ Some x) c.in-Some.kind
+    (end_stops c.args.self.now ps k typed sized c.in-Some.kind) told
 
 pub returns-in-None-clause-fault : goal.returns-in-None-clause-fault
 returns-in-None-clause-fault c = λ ps k.
@@ -22,4 +23,5 @@ returns-in-None-clause-fault c = λ ps k.
     let sized : is_none c.args.self.now.headers.dimension ≡ false = search rules in
     let P : TextKind → Type 0 = λ x. first_kind (routing_ends_of ps) ≡ Some x in
     some_map c.routing_end.result (IsToldWord P) (IsToldWord (λ x. problem_end ps ≡ Some x))
-    (λ x. told_map P (λ y. problem_end ps ≡ Some y) x (λ e. end_goes c.args.self.now ps k typed sized none ∙ e)) (c.routing_end.ensures.fault ps k)
+    (λ x. told_map P (λ y. problem_end ps ≡ Some y) x (λ e. end_goes c.args.self.now ps k typed sized none ∙ e))
+    (c.routing_end.ensures.fault ps k)

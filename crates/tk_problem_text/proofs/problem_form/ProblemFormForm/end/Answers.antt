@@ -7,4 +7,5 @@ returns-clause-value c = λ before parts none.
     (good, (whole_parts c.args.self.now.parts before parts good).1)
 
 pub returns-clause-complete : goal.returns-clause-complete
-returns-clause-complete c = λ before parts none. (whole_parts c.args.self.now.parts before parts (c.end.ensures.none before parts none)).0
+returns-clause-complete c =
+    λ before parts none. (whole_parts c.args.self.now.parts before parts (c.end.ensures.none before parts none)).0

@@ -15,12 +15,18 @@ returns-in_err-taken-clause-err c = λ before word n toks line wants.
 pub returns-in-More-clause-ok : goal.returns-in-More-clause-ok
 returns-in-More-clause-ok c = λ before word n toks line wants.
     let current = c.take.new.self in
-    let now : ProblemForm = record { alloc = c.args.self.now.alloc; parts = c.args.self.now.parts; current = current } in
-    taken_more problem_format (IsPast before word n current) (ProblemHolds now) (λ ps w m ts. IsOpen ps w m ts current) (ProblemWants now) before word n toks (whole c.args.bytes.now line) c.in_ok-taken.taken c.in-More.is
-    (λ ts is. record { parts = wants.parts; sized = wants.sized; fresh = wants.fresh; section = is }) (c.in_ok-taken.ensures.ok before word n toks line wants.section)
+    let now : ProblemForm =
+    record { alloc = c.args.self.now.alloc; parts = c.args.self.now.parts; current = current } in
+    taken_more problem_format (IsPast before word n current) (ProblemHolds now) (λ ps w m ts. IsOpen ps w m ts current)
+    (ProblemWants now) before word n toks (whole c.args.bytes.now line) c.in_ok-taken.taken c.in-More.is
+    (λ ts is. record { parts = wants.parts; sized = wants.sized; fresh = wants.fresh; section = is })
+    (c.in_ok-taken.ensures.ok before word n toks line wants.section)
 
 pub returns-in_default-clause-ok : goal.returns-in_default-clause-ok
 returns-in_default-clause-ok c = λ before word n toks line wants.
     let current = c.take.new.self in
-    taken_end problem_format (IsPast before word n current) (ProblemHolds c.close.new.self) (λ ps w m ts. IsOpen ps w m ts current) (ProblemWants c.close.new.self) before word n toks (whole c.args.bytes.now line) c.in_ok-taken.taken c.in_default.not-More
-    (λ ps past. c.close.ensures before word n ps wants.parts wants.sized wants.fresh past) (c.in_ok-taken.ensures.ok before word n toks line wants.section)
+    taken_end problem_format (IsPast before word n current) (ProblemHolds c.close.new.self)
+    (λ ps w m ts. IsOpen ps w m ts current) (ProblemWants c.close.new.self) before word n toks
+    (whole c.args.bytes.now line) c.in_ok-taken.taken c.in_default.not-More
+    (λ ps past. c.close.ensures before word n ps wants.parts wants.sized wants.fresh past)
+    (c.in_ok-taken.ensures.ok before word n toks line wants.section)

@@ -13,7 +13,9 @@ returns-clause-ok c = λ before n has_parts.
     let sized = c.in-Some-dimension.is in
     let fresh = sym (c.came.ensures before has_parts) ∙ c.in-Some.is ∙ ap Some c.if-came.false in
     IfOk-weaker c.begin_known.result _ _ (begun p before word n has_parts fresh kind typed size sized)
-    (c.begin_known.ensures.ok before has_parts typed (size_is p before word n has_parts fresh kind typed size sized) (size_within p before word n has_parts fresh kind typed size sized).1 (known p before word n has_parts fresh kind typed size sized))
+    (c.begin_known.ensures.ok before has_parts typed (size_is p before word n has_parts fresh kind typed size sized)
+    (size_within p before word n has_parts fresh kind typed size sized).1
+    (known p before word n has_parts fresh kind typed size sized))
 
 pub returns-clause-err : goal.returns-clause-err
 returns-clause-err c = λ before n has_parts.

@@ -9,20 +9,30 @@ use Rattle.tk_routes.proofs.claims.check.cost_of.Goals as goal
 
 pub length-cost-requires-clause-known : goal.length-cost-requires-clause-known
 length-cost-requires-clause-known c =
-    (route_served (λ r. r.items) (customer_count (instance_of c.args.cvrp.now)) c.args.routes.now c.loop-route.route-index c.route-item.result c.deref.result.now c.loop-route-test.true c.route-item.is c.deref.ensures.value c.requires).known
+    (route_served (λ r. r.items) (customer_count (instance_of c.args.cvrp.now)) c.args.routes.now
+    c.loop-route.route-index c.route-item.result c.deref.result.now c.loop-route-test.true c.route-item.is
+    c.deref.ensures.value c.requires).known
 
 pub length-cost-requires-clause-few : goal.length-cost-requires-clause-few
 length-cost-requires-clause-few c =
-    let served = route_served (λ r. r.items) (customer_count (instance_of c.args.cvrp.now)) c.args.routes.now c.loop-route.route-index c.route-item.result c.deref.result.now c.loop-route-test.true c.route-item.is c.deref.ensures.value c.requires in
-    omega (arith, AreServedOnce-short (customer_count (instance_of c.args.cvrp.now)) c.deref.result.now served, c.args.cvrp.now.few)
+    let served = route_served (λ r. r.items) (customer_count (instance_of c.args.cvrp.now)) c.args.routes.now
+    c.loop-route.route-index c.route-item.result c.deref.result.now c.loop-route-test.true c.route-item.is
+    c.deref.ensures.value c.requires in
+    omega (
+      arith,
+      AreServedOnce-short (customer_count (instance_of c.args.cvrp.now)) c.deref.result.now served,
+      c.args.cvrp.now.few,
+    )
 
 pub overflow_add-cost : goal.overflow_add-cost
 overflow_add-cost c =
     let cvrp = c.args.cvrp.now in
     let i = instance_of cvrp in
     let n = c.loop-route in
-    let more = routes_cost-more (λ r. r.items) i c.args.routes.now n.route-index c.route-item.result c.deref.result.now c.loop-route-test.true c.route-item.is c.deref.ensures.value in
-    let bound = routes_cost-bound (λ r. r.items) i (customer_count i) c.args.routes.now (n.route-index + 1) (table_distance-same cvrp.table) (table_distance-limit cvrp.table) c.requires in
+    let more = routes_cost-more (λ r. r.items) i c.args.routes.now n.route-index c.route-item.result c.deref.result.now
+    c.loop-route-test.true c.route-item.is c.deref.ensures.value in
+    let bound = routes_cost-bound (λ r. r.items) i (customer_count i) c.args.routes.now (n.route-index + 1)
+    (table_distance-same cvrp.table) (table_distance-limit cvrp.table) c.requires in
     omega (arith, ints, more, bound, n.invariant, c.length-cost.ensures, cvrp.few)
 
 pub loop-route-preserved : goal.loop-route-preserved
@@ -30,6 +40,8 @@ loop-route-preserved c =
     let cvrp = c.args.cvrp.now in
     let i = instance_of cvrp in
     let n = c.loop-route in
-    let more = routes_cost-more (λ r. r.items) i c.args.routes.now n.route-index c.route-item.result c.deref.result.now c.loop-route-test.true c.route-item.is c.deref.ensures.value in
-    let bound = routes_cost-bound (λ r. r.items) i (customer_count i) c.args.routes.now (n.route-index + 1) (table_distance-same cvrp.table) (table_distance-limit cvrp.table) c.requires in
+    let more = routes_cost-more (λ r. r.items) i c.args.routes.now n.route-index c.route-item.result c.deref.result.now
+    c.loop-route-test.true c.route-item.is c.deref.ensures.value in
+    let bound = routes_cost-bound (λ r. r.items) i (customer_count i) c.args.routes.now (n.route-index + 1)
+    (table_distance-same cvrp.table) (table_distance-limit cvrp.table) c.requires in
     omega (arith, ints, more, bound, n.invariant, c.length-cost.ensures, cvrp.few)

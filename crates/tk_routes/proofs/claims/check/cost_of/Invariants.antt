@@ -5,4 +5,5 @@ use Rattle.tk_routes.specs.Routes.{routes_cost}
 use Rattle.tk_routes.proofs.claims.check.cost_of.Given as goal
 
 abbrev pub invariant-loop-route : goal.invariant-loop-route
-invariant-loop-route l = l.cost ≡ pos (routes_cost (instance_of l.cvrp) (map (λ r. r.items) (take l.route-index l.routes)))
+invariant-loop-route l =
+    l.cost ≡ pos (routes_cost (instance_of l.cvrp) (map (λ r. r.items) (take l.route-index l.routes)))

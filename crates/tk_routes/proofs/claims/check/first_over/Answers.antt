@@ -10,23 +10,34 @@ use Rattle.tk_routes.proofs.claims.check.first_over.Goals as goal
 
 pub load-load-requires-clause-known : goal.load-load-requires-clause-known
 load-load-requires-clause-known c =
-    (route_served (λ r. r.items) (customer_count (instance_of c.args.cvrp.now)) c.args.routes.now c.loop-k.k c.index-routes-k.result c.deref.result.now c.loop-k-test.true c.index-routes-k.is c.deref.ensures.value c.requires).known
+    (route_served (λ r. r.items) (customer_count (instance_of c.args.cvrp.now)) c.args.routes.now c.loop-k.k
+    c.index-routes-k.result c.deref.result.now c.loop-k-test.true c.index-routes-k.is c.deref.ensures.value
+    c.requires).known
 
 pub load-load-requires-clause-few : goal.load-load-requires-clause-few
 load-load-requires-clause-few c =
-    let served = route_served (λ r. r.items) (customer_count (instance_of c.args.cvrp.now)) c.args.routes.now c.loop-k.k c.index-routes-k.result c.deref.result.now c.loop-k-test.true c.index-routes-k.is c.deref.ensures.value c.requires in
-    omega (arith, AreServedOnce-short (customer_count (instance_of c.args.cvrp.now)) c.deref.result.now served, c.args.cvrp.now.few)
+    let served = route_served (λ r. r.items) (customer_count (instance_of c.args.cvrp.now)) c.args.routes.now c.loop-k.k
+    c.index-routes-k.result c.deref.result.now c.loop-k-test.true c.index-routes-k.is c.deref.ensures.value
+    c.requires in
+    omega (
+      arith,
+      AreServedOnce-short (customer_count (instance_of c.args.cvrp.now)) c.deref.result.now served,
+      c.args.cvrp.now.few,
+    )
 
 pub returns-then-load-capacity : goal.returns-then-load-capacity
 returns-then-load-capacity c =
-    first_over_at (λ r. r.items) (instance_of c.args.cvrp.now) c.args.routes.now c.loop-k.k c.index-routes-k.result c.deref.result.now c.load-load.result c.loop-k-test.true c.index-routes-k.is c.deref.ensures.value
+    first_over_at (λ r. r.items) (instance_of c.args.cvrp.now) c.args.routes.now c.loop-k.k c.index-routes-k.result
+    c.deref.result.now c.load-load.result c.loop-k-test.true c.index-routes-k.is c.deref.ensures.value
     c.loop-k.invariant c.load-load.ensures (omega (arith, c.if-load-capacity.true, c.capacity.ensures.value))
 
 pub loop-k-preserved : goal.loop-k-preserved
 loop-k-preserved c =
-    light_more (λ r. r.items) (instance_of c.args.cvrp.now) c.args.routes.now c.loop-k.k c.index-routes-k.result c.deref.result.now c.loop-k-test.true c.index-routes-k.is c.deref.ensures.value
+    light_more (λ r. r.items) (instance_of c.args.cvrp.now) c.args.routes.now c.loop-k.k c.index-routes-k.result
+    c.deref.result.now c.loop-k-test.true c.index-routes-k.is c.deref.ensures.value
     c.loop-k.invariant (omega (arith, c.if-load-capacity.false, c.capacity.ensures.value, c.load-load.ensures))
 
 pub returns : goal.returns
 returns c =
-    subst (λ (v : List (List ℕ)). All (IsLight (instance_of c.args.cvrp.now)) v) (map-take_all (λ r. r.items) c.args.routes.now c.loop-k.k c.loop-k-test.false) c.loop-k.invariant
+    subst (λ (v : List (List ℕ)). All (IsLight (instance_of c.args.cvrp.now)) v)
+    (map-take_all (λ r. r.items) c.args.routes.now c.loop-k.k c.loop-k-test.false) c.loop-k.invariant

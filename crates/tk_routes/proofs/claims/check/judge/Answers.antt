@@ -14,19 +14,28 @@ returns-then-text-cost c =
     let i = instance_of c.args.cvrp.now in
     let routes = map (λ (r : Vec ℕ Global). r.items) c.args.text.now.routes.items in
     let light : All (IsLight i) routes = rw c.deref.ensures.value at c.in_default.ensures in
-    let count : c.count_filled.result ≡ length (filled_of routes) = rw c.deref-then-text-cost.ensures.value at c.count_filled.ensures in
-    let cost : c.cost_of-cost.result ≡ pos (routes_cost i routes) = rw c.deref-2.ensures.value at c.cost_of-cost.ensures in
-    let filled = routes_cost-filled i routes (table_distance-same c.args.cvrp.now.table) in
-    (AreRoutes-marked i c.args.served.now routes c.requires.size c.requires.served light c.in_default-first_missing.ensures, count, omega (arith, ints, cost, filled), omega (arith, ints, c.if-text-cost.true))
+    let count : c.count_filled.result ≡ length (filled_of routes) =
+    rw c.deref-then-text-cost.ensures.value at c.count_filled.ensures in
+    let cost : c.cost_of-cost.result ≡ pos (routes_cost i routes) =
+    rw c.deref-2.ensures.value at c.cost_of-cost.ensures in
+    let filled = routes_cost-filled i routes (table_distance-same c.args.cvrp.now.table) in (
+      AreRoutes-marked i c.args.served.now routes c.requires.size c.requires.served light
+          c.in_default-first_missing.ensures,
+      count,
+      omega (arith, ints, cost, filled),
+      omega (arith, ints, c.if-text-cost.true),
+    )
 
 pub returns-else-text-cost : goal.returns-else-text-cost
 returns-else-text-cost c =
     let i = instance_of c.args.cvrp.now in
     let routes = map (λ (r : Vec ℕ Global). r.items) c.args.text.now.routes.items in
     let light : All (IsLight i) routes = rw c.deref.ensures.value at c.in_default.ensures in
-    let cost : c.cost_of-cost.result ≡ pos (routes_cost i routes) = rw c.deref-2.ensures.value at c.cost_of-cost.ensures in
+    let cost : c.cost_of-cost.result ≡ pos (routes_cost i routes) =
+    rw c.deref-2.ensures.value at c.cost_of-cost.ensures in
     let filled = routes_cost-filled i routes (table_distance-same c.args.cvrp.now.table) in (
-      AreRoutes-marked i c.args.served.now routes c.requires.size c.requires.served light c.in_default-first_missing.ensures,
+      AreRoutes-marked i c.args.served.now routes c.requires.size c.requires.served light
+          c.in_default-first_missing.ensures,
       omega (arith, ints),
       omega (arith, ints, cost, filled),
       (λ same. omega (arith, ints, same, c.if-text-cost.false)),

@@ -12,5 +12,7 @@ abbrev pub invariant-loop-customer : goal.invariant-loop-customer
 invariant-loop-customer l = record {
   from_in : IsCity (table_size l.self.table) l.from;
   low : pos 0 ≤ℤ l.total;
-  left : l.total +ℤ pos (way_back (table_distance l.self.table) l.from l.self.depot l.customer-index (map (node_of l.self.depot) l.route)) ≡ pos (route_length (instance_of l.self) l.route);
+  left : l.total +ℤ pos
+      (way_back (table_distance l.self.table) l.from l.self.depot l.customer-index (map (node_of l.self.depot) l.route))
+      ≡ pos (route_length (instance_of l.self) l.route);
 }

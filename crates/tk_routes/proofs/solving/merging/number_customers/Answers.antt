@@ -9,7 +9,10 @@ pub loop-node-preserved : goal.loop-node-preserved
 loop-node-preserved c =
     let n = c.loop-node in
     elim c.if-node-depot.branch [
-      | then-node-depot w ↦ w.nodes-is ∙ mapped_on (customer_of c.args.depot) n.nodes c.args.nodes.now n.node-index _ 0 (omega arith) n.invariant (cond_below _ _ _ _ w.if-node-depot.true)
+      | then-node-depot w ↦ w.nodes-is
+          ∙ mapped_on (customer_of c.args.depot) n.nodes c.args.nodes.now n.node-index _ 0 (omega arith) n.invariant
+          (cond_below _ _ _ _ w.if-node-depot.true)
       | else-node-depot w ↦
-          w.nodes-is ∙ mapped_on (customer_of c.args.depot) n.nodes c.args.nodes.now n.node-index _ 0 (omega arith) n.invariant (cond_above _ _ _ _ _ w.if-node-depot.false refl)
+          w.nodes-is ∙ mapped_on (customer_of c.args.depot) n.nodes c.args.nodes.now n.node-index _ 0 (omega arith)
+          n.invariant (cond_above _ _ _ _ _ w.if-node-depot.false refl)
     ]

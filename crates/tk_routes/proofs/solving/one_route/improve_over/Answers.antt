@@ -10,17 +10,20 @@ use Rattle.tk_routes.specs.Instance.{Instance}
 use Rattle.tk_routes.specs.Routes.{route_nodes, route_length}
 use Rattle.tk_routes.specs.ImprovedRoutes.{IsReadOff, place_distance}
 use Rattle.tk_routes.proofs.Improving.DescendedRoutes.{IsImproved-read, IsReadOff-cycle, tests_within}
-use Rattle.tk_routes.proofs.Improving.ReadOffs.{IsTour-cycle, IsPermutation-read, route_length-read, route_length-places}
+use Rattle.tk_routes.proofs.Improving.ReadOffs.{IsTour-cycle, IsPermutation-read, route_length-read}
+use Rattle.tk_routes.proofs.Improving.ReadOffs.{route_length-places}
 use Rattle.tk_routes.proofs.solving.one_route.improve_over.Goals as goal
 
 pub read_off-requires-clause-tour : goal.read_off-requires-clause-tour
 read_off-requires-clause-tour g c =
     let i : Instance = instance_of c.args.cvrp.now in
     let size = c.requires.size in
-    let tour : IsTour (length c.args.route.now + 1) (order_of c.in_ok-tour.tour) = subst (λ (v : ℕ). IsTour v (order_of c.in_ok-tour.tour)) size c.in_ok-tour.ensures.tour in
+    let tour : IsTour (length c.args.route.now + 1) (order_of c.in_ok-tour.tour) =
+    subst (λ (v : ℕ). IsTour v (order_of c.in_ok-tour.tour)) size c.in_ok-tour.ensures.tour in
     let printed = c.in_ok-cycle.ensures.printed in
     subst (λ (v : List ℕ). IsTour (length c.args.route.now + 1) v) (sym c.deref.ensures.value)
-    (IsTour-cycle (length c.args.route.now + 1) (order_of c.in_ok-tour.tour) c.in_ok-cycle.cycle.items tour printed.cycle)
+    (IsTour-cycle (length c.args.route.now + 1) (order_of c.in_ok-tour.tour) c.in_ok-cycle.cycle.items tour
+    printed.cycle)
 
 pub returns-clause-improved : goal.returns-clause-improved
 returns-clause-improved g c =
@@ -31,13 +34,18 @@ returns-clause-improved g c =
     let size = c.requires.size in
     let tour : IsTour (length route + 1) T = subst (λ (v : ℕ). IsTour v T) size c.in_ok-tour.ensures.tour in
     let printed = c.in_ok-cycle.ensures.printed in
-    let off : IsReadOff route c.in_ok-cycle.cycle.items new = subst (λ (v : List ℕ). IsReadOff route v new) c.deref.ensures.value c.in_ok-read_off.ensures in
+    let off : IsReadOff route c.in_ok-cycle.cycle.items new =
+    subst (λ (v : List ℕ). IsReadOff route v new) c.deref.ensures.value c.in_ok-read_off.ensures in
     let read : IsReadOff route T new = IsReadOff-cycle route T c.in_ok-cycle.cycle.items new printed.cycle off in
     let given : ℕ → ℕ → ℕ = g.M.Metric.distance c.args.metric.now in
     let distances : given ≡ place_distance i.distance (route_nodes i route) = c.requires.distances in
-    let width : c.in_ok-near.near.width ≡ min c.args.max_candidates (length route) = c.in_ok-near.ensures.width ∙ c.min.ensures in
-    IsImproved-read i c.args.max_candidates c.args.m route new T T given (g.M.Metric.size_of c.args.metric.now) c.in_ok-near.near c.in_ok-tour.report.looks c.in_ok-tour.report.moves c.in_ok-tour.report.tests c.in_ok-tour.report.swaps
-    distances size c.in_ok-near.ensures.size width c.in_ok-near.ensures.near c.in_ok-tour.ensures.pass c.in_ok-tour.ensures.flipped c.in_ok-tour.ensures.swaps
+    let width : c.in_ok-near.near.width ≡ min c.args.max_candidates (length route) = c.in_ok-near.ensures.width
+    ∙ c.min.ensures in
+    IsImproved-read i c.args.max_candidates c.args.m route new T T given (g.M.Metric.size_of c.args.metric.now)
+    c.in_ok-near.near c.in_ok-tour.report.looks c.in_ok-tour.report.moves c.in_ok-tour.report.tests
+    c.in_ok-tour.report.swaps
+    distances size c.in_ok-near.ensures.size width c.in_ok-near.ensures.near c.in_ok-tour.ensures.pass
+    c.in_ok-tour.ensures.flipped c.in_ok-tour.ensures.swaps
     (inl (IsRotation-refl T)) read
 
 pub returns-clause-same : goal.returns-clause-same
@@ -49,7 +57,8 @@ returns-clause-same g c =
     let size = c.requires.size in
     let tour : IsTour (length route + 1) T = subst (λ (v : ℕ). IsTour v T) size c.in_ok-tour.ensures.tour in
     let printed = c.in_ok-cycle.ensures.printed in
-    let off : IsReadOff route c.in_ok-cycle.cycle.items new = subst (λ (v : List ℕ). IsReadOff route v new) c.deref.ensures.value c.in_ok-read_off.ensures in
+    let off : IsReadOff route c.in_ok-cycle.cycle.items new =
+    subst (λ (v : List ℕ). IsReadOff route v new) c.deref.ensures.value c.in_ok-read_off.ensures in
     let read : IsReadOff route T new = IsReadOff-cycle route T c.in_ok-cycle.cycle.items new printed.cycle off in
     IsPermutation-read route T new read tour
 
@@ -63,7 +72,8 @@ returns-clause-before g c =
     let given : ℕ → ℕ → ℕ = g.M.Metric.distance c.args.metric.now in
     let distances : given ≡ place_distance i.distance (route_nodes i route) = c.requires.distances in
     let before : route_length i route ≡ tour_length given (one_to (g.M.Metric.size_of c.args.metric.now)) =
-    route_length-places i route ∙ ap (λ (d : ℕ → ℕ → ℕ). tour_length d (one_to (length route + 1))) (sym distances) ∙ ap (λ (n : ℕ). tour_length given (one_to n)) (sym size) in
+    route_length-places i route ∙ ap (λ (d : ℕ → ℕ → ℕ). tour_length d (one_to (length route + 1))) (sym distances)
+    ∙ ap (λ (n : ℕ). tour_length given (one_to n)) (sym size) in
     c.in_ok-tour.ensures.before ∙ ap pos (sym before)
 
 pub returns-clause-after : goal.returns-clause-after
@@ -75,12 +85,14 @@ returns-clause-after g c =
     let size = c.requires.size in
     let tour : IsTour (length route + 1) T = subst (λ (v : ℕ). IsTour v T) size c.in_ok-tour.ensures.tour in
     let printed = c.in_ok-cycle.ensures.printed in
-    let off : IsReadOff route c.in_ok-cycle.cycle.items new = subst (λ (v : List ℕ). IsReadOff route v new) c.deref.ensures.value c.in_ok-read_off.ensures in
+    let off : IsReadOff route c.in_ok-cycle.cycle.items new =
+    subst (λ (v : List ℕ). IsReadOff route v new) c.deref.ensures.value c.in_ok-read_off.ensures in
     let read : IsReadOff route T new = IsReadOff-cycle route T c.in_ok-cycle.cycle.items new printed.cycle off in
     let given : ℕ → ℕ → ℕ = g.M.Metric.distance c.args.metric.now in
     let distances : given ≡ place_distance i.distance (route_nodes i route) = c.requires.distances in
     let after : route_length i new ≡ tour_length given T =
-    route_length-read i route T new (table_distance-swap c.args.cvrp.now.table) read tour ∙ ap (λ (d : ℕ → ℕ → ℕ). tour_length d T) (sym distances) in
+    route_length-read i route T new (table_distance-swap c.args.cvrp.now.table) read tour
+    ∙ ap (λ (d : ℕ → ℕ → ℕ). tour_length d T) (sym distances) in
     c.in_ok-tour.ensures.after ∙ ap pos (sym after)
 
 pub returns-clause-moves : goal.returns-clause-moves
@@ -92,16 +104,21 @@ returns-clause-moves g c =
     let size = c.requires.size in
     let tour : IsTour (length route + 1) T = subst (λ (v : ℕ). IsTour v T) size c.in_ok-tour.ensures.tour in
     let printed = c.in_ok-cycle.ensures.printed in
-    let off : IsReadOff route c.in_ok-cycle.cycle.items new = subst (λ (v : List ℕ). IsReadOff route v new) c.deref.ensures.value c.in_ok-read_off.ensures in
+    let off : IsReadOff route c.in_ok-cycle.cycle.items new =
+    subst (λ (v : List ℕ). IsReadOff route v new) c.deref.ensures.value c.in_ok-read_off.ensures in
     let read : IsReadOff route T new = IsReadOff-cycle route T c.in_ok-cycle.cycle.items new printed.cycle off in
     let given : ℕ → ℕ → ℕ = g.M.Metric.distance c.args.metric.now in
     let distances : given ≡ place_distance i.distance (route_nodes i route) = c.requires.distances in
     let after : route_length i new ≡ tour_length given T =
-    route_length-read i route T new (table_distance-swap c.args.cvrp.now.table) read tour ∙ ap (λ (d : ℕ → ℕ → ℕ). tour_length d T) (sym distances) in
+    route_length-read i route T new (table_distance-swap c.args.cvrp.now.table) read tour
+    ∙ ap (λ (d : ℕ → ℕ → ℕ). tour_length d T) (sym distances) in
     let before : route_length i route ≡ tour_length given (one_to (g.M.Metric.size_of c.args.metric.now)) =
-    route_length-places i route ∙ ap (λ (d : ℕ → ℕ → ℕ). tour_length d (one_to (length route + 1))) (sym distances) ∙ ap (λ (n : ℕ). tour_length given (one_to n)) (sym size) in
-    let made : c.in_ok-tour.report.moves + tour_length given T ≤ tour_length given (one_to (g.M.Metric.size_of c.args.metric.now)) = c.in_ok-tour.ensures.moves in
-    let goes : c.in_ok-tour.report.moves + route_length i new ≤ route_length i route = omega (arith, made, after, before) in
+    route_length-places i route ∙ ap (λ (d : ℕ → ℕ → ℕ). tour_length d (one_to (length route + 1))) (sym distances)
+    ∙ ap (λ (n : ℕ). tour_length given (one_to n)) (sym size) in
+    let made : c.in_ok-tour.report.moves + tour_length given T ≤ tour_length given
+    (one_to (g.M.Metric.size_of c.args.metric.now)) = c.in_ok-tour.ensures.moves in
+    let goes : c.in_ok-tour.report.moves + route_length i new ≤ route_length i route =
+    omega (arith, made, after, before) in
     goes
 
 pub returns-clause-tests : goal.returns-clause-tests
@@ -109,5 +126,7 @@ returns-clause-tests g c =
     let i : Instance = instance_of c.args.cvrp.now in
     let route : List ℕ = c.args.route.now in
     let size = c.requires.size in
-    let width : c.in_ok-near.near.width ≤ c.args.max_candidates = omega (arith, c.in_ok-near.ensures.width, c.min.ensures) in
-    tests_within c.args.m c.in_ok-near.near.width c.args.max_candidates (g.M.Metric.size_of c.args.metric.now) (length route + 1) c.in_ok-tour.report.moves c.in_ok-tour.report.tests width size c.in_ok-tour.ensures.tests
+    let width : c.in_ok-near.near.width ≤ c.args.max_candidates =
+    omega (arith, c.in_ok-near.ensures.width, c.min.ensures) in
+    tests_within c.args.m c.in_ok-near.near.width c.args.max_candidates (g.M.Metric.size_of c.args.metric.now)
+    (length route + 1) c.in_ok-tour.report.moves c.in_ok-tour.report.tests width size c.in_ok-tour.ensures.tests

@@ -18,8 +18,11 @@ loop-customer-preserved c =
     let pushed = c.in_ok-push-2.ensures.items in
     let nodes : List ℕ = map (node_of depot) (take at route) in
     let more : nodes ++ node ∷ [] ≡ map (node_of depot) (take (at + 1) route) =
-    ap (λ v. nodes ++ v ∷ []) c.node.ensures.value ∙ sym (map_more (node_of depot) route at 0 c.loop-customer-test.true) in
+    ap (λ v. nodes ++ v ∷ []) c.node.ensures.value
+    ∙ sym (map_more (node_of depot) route at 0 c.loop-customer-test.true) in
     record {
       value = pushed ∙ ap (λ v. v ++ node ∷ []) before.value ∙ ap (λ v. depot ∷ v) more;
-      known = subst (λ (v : List ℕ). All IsNode v) (sym pushed) (All-append IsNode _ _ before.known (All-cons IsNode node [] c.node.ensures.known (All-nil IsNode)));
+      known =
+          subst (λ (v : List ℕ). All IsNode v) (sym pushed)
+          (All-append IsNode _ _ before.known (All-cons IsNode node [] c.node.ensures.known (All-nil IsNode)));
     }

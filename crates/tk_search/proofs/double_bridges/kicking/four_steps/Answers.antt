@@ -11,4 +11,5 @@ overflow_add-result-3 g c =
 pub returns : goal.returns
 returns g c =
     let limit = g.met.M.Metric.distance_limit c.args.metric.now in
-    added_is _ _ _ _ _ _ _ _ c.dist.ensures c.dist-2.ensures c.dist-3.ensures c.dist-4.ensures (limit _ _) (limit _ _) (limit _ _) (limit _ _)
+    added_is _ _ _ _ _ _ _ _ c.dist.ensures c.dist-2.ensures c.dist-3.ensures c.dist-4.ensures (limit _ _) (limit _ _)
+    (limit _ _) (limit _ _)

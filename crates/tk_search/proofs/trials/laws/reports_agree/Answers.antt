@@ -6,7 +6,8 @@ use Rattle.tk_search.specs.Searching.{Searching, NextTrial, first, kicked, none}
 use Rattle.tk_search.specs.declared.trials.totals.TrialReport.{TrialReport}
 use Rattle.tk_search.proofs.trials.laws.reports_agree.Goals as goal
 
-agree : (old new : Searching) (words rest : Stream) (r s : TrialReport) → NextTrial old words new rest r → NextTrial old words new rest s →
+agree : (old new : Searching) (words rest : Stream) (r s : TrialReport) → NextTrial old words new rest r →
+    NextTrial old words new rest s →
     new.totals.moves < 2 ^ 128 - 1 → new.totals.tests < 2 ^ 128 - 1 → new.totals.passes < 2 ^ 128 - 1 → AreAlike r s
 agree old new words rest r s (first u a e) (first v b f) m t p = record {
   kicked = a.kicked ∙ sym b.kicked;

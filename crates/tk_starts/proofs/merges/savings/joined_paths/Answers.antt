@@ -1,4 +1,5 @@
-use Rattle.std.proofs.Common.{◌≡◌, ℕ, ◌+◌, ◌-◌, ◌≤◌, ◌<◌, [], get_or, List, length, subst, refl, sym, ◌∙◌, arith, Fits, w64}
+use Rattle.std.proofs.Common.{◌≡◌, ℕ, ◌+◌, ◌-◌, ◌≤◌, ◌<◌, [], get_or, List, length, subst, refl, sym, ◌∙◌, arith, Fits}
+use Rattle.std.proofs.Common.{w64}
 use Rattle.std.specs.List.{All}
 use Rattle.tk_starts.specs.PathEnds.{at, IsWithin}
 use Rattle.tk_starts.specs.declared.merges.pairs.Pair.{Pair}
@@ -7,7 +8,8 @@ use Rattle.tk_starts.proofs.merges.savings.joined_paths.Goals as goal
 use Rattle.tk_starts.proofs.merges.savings.joined_paths.Goals.{then-may_join, else-may_join}
 
 -- what holds of all pairs holds of the one at k
-within_at : (n : ℕ) (pairs : List Pair) (k : ℕ) (p : Pair) → All (IsWithin n) pairs → k < length pairs → p ≡ get_or pairs k p → IsWithin n p
+within_at : (n : ℕ) (pairs : List Pair) (k : ℕ) (p : Pair) → All (IsWithin n) pairs → k < length pairs →
+    p ≡ get_or pairs k p → IsWithin n p
 within_at n pairs k p all l is = subst (λ (x : Pair). IsWithin n x) (sym is) (all k p l)
 
 below_size : (n size x : ℕ) → size ≡ n + 1 → x ≤ n → x < size
@@ -24,7 +26,12 @@ loop-k-init c =
     let p = c.in_ok-paths.paths in
     record {
       sizes = c.in_ok-paths.ensures.sizes;
-      joined = ([], refl, AreEnds-single _ _ (at p.one.items) (at p.two.items) (at p.other.items) (at p.load.items) c.in_ok-paths.ensures.single);
+      joined = (
+        [],
+        refl,
+        AreEnds-single _ _ (at p.one.items) (at p.two.items) (at p.other.items) (at p.load.items)
+            c.in_ok-paths.ensures.single,
+      );
     }
 
 pub may_join-requires-clause-sizes : goal.may_join-requires-clause-sizes
@@ -34,7 +41,9 @@ may_join-requires-clause-sizes c =
 
 pub may_join-requires-clause-within : goal.may_join-requires-clause-within
 may_join-requires-clause-within c =
-    let w = within_at _ c.args.pairs.now c.loop-k.k c.at-pair.result c.requires.within (omega (arith, c.loop-k-test.true, c.len-k-end.ensures)) c.at-pair.ensures in
+    let w =
+    within_at _ c.args.pairs.now c.loop-k.k c.at-pair.result c.requires.within
+    (omega (arith, c.loop-k-test.true, c.len-k-end.ensures)) c.at-pair.ensures in
     let z = c.loop-k.invariant.sizes.0 in
     ((w.0.0, last_place _ _ _ z w.0.1), (w.1.0, last_place _ _ _ z w.1.1), w.2)
 
@@ -45,14 +54,18 @@ join-requires-clause-sizes c =
 
 pub join-requires-clause-cities : goal.join-requires-clause-cities
 join-requires-clause-cities c =
-    let w = within_at _ c.args.pairs.now c.loop-k.k c.at-pair.result c.requires.within (omega (arith, c.loop-k-test.true, c.len-k-end.ensures)) c.at-pair.ensures in
+    let w =
+    within_at _ c.args.pairs.now c.loop-k.k c.at-pair.result c.requires.within
+    (omega (arith, c.loop-k-test.true, c.len-k-end.ensures)) c.at-pair.ensures in
     let z = c.loop-k.invariant.sizes.0 in
     (below_size _ _ _ z w.0.1, below_size _ _ _ z w.1.1, w.2)
 
 pub join-requires-clause-load : goal.join-requires-clause-load
 join-requires-clause-load c =
     let p = c.loop-k.paths in
-    let w = within_at _ c.args.pairs.now c.loop-k.k c.at-pair.result c.requires.within (omega (arith, c.loop-k-test.true, c.len-k-end.ensures)) c.at-pair.ensures in
+    let w =
+    within_at _ c.args.pairs.now c.loop-k.k c.at-pair.result c.requires.within
+    (omega (arith, c.loop-k-test.true, c.len-k-end.ensures)) c.at-pair.ensures in
     let t = IsTaken-from _ _ _ (at p.one.items) (at p.two.items) (at p.other.items) (at p.load.items)
     c.loop-k.invariant.joined.2 c.at-pair.result w.0 w.1 w.2
     c.args.capacity (sym c.if-may_join.ensures) in
@@ -61,36 +74,53 @@ join-requires-clause-load c =
 pub join-requires-clause-ends : goal.join-requires-clause-ends
 join-requires-clause-ends c =
     let p = c.loop-k.paths in
-    let w = within_at _ c.args.pairs.now c.loop-k.k c.at-pair.result c.requires.within (omega (arith, c.loop-k-test.true, c.len-k-end.ensures)) c.at-pair.ensures in
-    let t = IsTaken-from _ _ _ (at p.one.items) (at p.two.items) (at p.other.items) (at p.load.items) c.loop-k.invariant.joined.2 c.at-pair.result w.0 w.1 w.2 c.args.capacity (sym c.if-may_join.ensures) in
+    let w =
+    within_at _ c.args.pairs.now c.loop-k.k c.at-pair.result c.requires.within
+    (omega (arith, c.loop-k-test.true, c.len-k-end.ensures)) c.at-pair.ensures in
+    let t = IsTaken-from _ _ _ (at p.one.items) (at p.two.items) (at p.other.items) (at p.load.items)
+    c.loop-k.invariant.joined.2 c.at-pair.result w.0 w.1 w.2 c.args.capacity (sym c.if-may_join.ensures) in
     let z = c.loop-k.invariant.sizes.0 in
     (below_size _ _ _ z t.far.0.1, below_size _ _ _ z t.far.1.1, t.far.2)
 
 pub loop-k-preserved : goal.loop-k-preserved
 loop-k-preserved c =
     let p = c.loop-k.paths in
-    let w = within_at _ c.args.pairs.now c.loop-k.k c.at-pair.result c.requires.within (omega (arith, c.loop-k-test.true, c.len-k-end.ensures)) c.at-pair.ensures in
+    let w =
+    within_at _ c.args.pairs.now c.loop-k.k c.at-pair.result c.requires.within
+    (omega (arith, c.loop-k-test.true, c.len-k-end.ensures)) c.at-pair.ensures in
     let z = c.loop-k.invariant.sizes in
     elim c.if-may_join.branch [
       | then-may_join b ↦
           let q = b.join.new.self in
           rw b.paths-is (record {
-            sizes = (b.join.ensures.sizes.0 ∙ z.0, b.join.ensures.sizes.1 ∙ z.0, b.join.ensures.sizes.2 ∙ z.0, b.join.ensures.sizes.3 ∙ z.0);
-            joined = taken_step _ _ c.args.capacity c.args.pairs.now c.loop-k.k c.at-pair.result (at p.one.items) (at p.two.items) (at p.other.items) (at p.load.items) (at q.one.items) (at q.two.items) (at q.other.items) (at q.load.items)
-                (omega (arith, c.loop-k-test.true, c.len-k-end.ensures)) c.at-pair.ensures w b.if-may_join.ensures b.join.ensures.linked b.join.ensures.far b.join.ensures.heavy c.loop-k.invariant.joined;
+            sizes = (
+              b.join.ensures.sizes.0 ∙ z.0,
+              b.join.ensures.sizes.1 ∙ z.0,
+              b.join.ensures.sizes.2
+                  ∙ z.0,
+              b.join.ensures.sizes.3 ∙ z.0,
+            );
+            joined = taken_step _ _ c.args.capacity c.args.pairs.now c.loop-k.k c.at-pair.result (at p.one.items)
+                (at p.two.items) (at p.other.items) (at p.load.items) (at q.one.items) (at q.two.items)
+                (at q.other.items) (at q.load.items)
+                (omega (arith, c.loop-k-test.true, c.len-k-end.ensures)) c.at-pair.ensures w b.if-may_join.ensures
+                b.join.ensures.linked b.join.ensures.far b.join.ensures.heavy c.loop-k.invariant.joined;
           })
       | else-may_join b ↦
           rw b.paths-is (record {
             sizes = z;
-            joined = left_step _ _ c.args.capacity c.args.pairs.now c.loop-k.k c.at-pair.result (at p.one.items) (at p.two.items) (at p.other.items) (at p.load.items)
-                (omega (arith, c.loop-k-test.true, c.len-k-end.ensures)) c.at-pair.ensures w b.if-may_join.ensures c.loop-k.invariant.joined;
+            joined = left_step _ _ c.args.capacity c.args.pairs.now c.loop-k.k c.at-pair.result (at p.one.items)
+                (at p.two.items) (at p.other.items) (at p.load.items)
+                (omega (arith, c.loop-k-test.true, c.len-k-end.ensures)) c.at-pair.ensures w b.if-may_join.ensures
+                c.loop-k.invariant.joined;
           })
     ]
 
 pub returns-clause-joined : goal.returns-clause-joined
 returns-clause-joined c =
     let p = c.loop-k.paths in
-    going_ends _ _ c.args.capacity c.args.pairs.now c.loop-k.k (at p.one.items) (at p.two.items) (at p.other.items) (at p.load.items) (omega (arith, c.loop-k-test.false, c.len-k-end.ensures)) c.loop-k.invariant.joined
+    going_ends _ _ c.args.capacity c.args.pairs.now c.loop-k.k (at p.one.items) (at p.two.items) (at p.other.items)
+    (at p.load.items) (omega (arith, c.loop-k-test.false, c.len-k-end.ensures)) c.loop-k.invariant.joined
 
 pub returns-clause-sizes : goal.returns-clause-sizes
 returns-clause-sizes c = c.loop-k.invariant.sizes

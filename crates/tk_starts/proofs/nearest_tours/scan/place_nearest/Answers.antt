@@ -8,4 +8,6 @@ loop-j-preserved g c =
     let limit = g.met.M.Metric.size_limit m in
     let small : g.M.Metric.size_of m < 4294967296 = omega (arith, limit) in
     let at = rw c.as_slice.ensures.value at c.first_from-at.ensures in
-    rw c.swap.ensures.items (IsNearestTo-more (g.M.Metric.distance m) (g.M.Metric.size_of m) _ c.loop-j.j c.first_from-at.result c.loop-j.cities.items small c.loop-j.auto.j c.loop-j.invariant at.from at.within at.first)
+    rw c.swap.ensures.items
+    (IsNearestTo-more (g.M.Metric.distance m) (g.M.Metric.size_of m) _ c.loop-j.j c.first_from-at.result
+    c.loop-j.cities.items small c.loop-j.auto.j c.loop-j.invariant at.from at.within at.first)

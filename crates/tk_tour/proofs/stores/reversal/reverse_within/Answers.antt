@@ -10,8 +10,10 @@ loop-k-init c =
     let xs = c.args.order.now in
     let to : first + count ≡ c.args.last = omega arith in
     let begun : Renumbering (turned_within first count xs) c.args.place.now first c.args.last =
-    subst (λ l. Renumbering (turned_within first count xs) c.args.place.now first l) to (Renumbering-begin first count xs c.args.place.now (omega arith) c.requires.places) in
-    subst (λ v. Renumbering (take first xs ++ (v ++ drop count (drop first xs))) c.args.place.now first c.args.last) (sym c.reverse.ensures.after) begun
+    subst (λ l. Renumbering (turned_within first count xs) c.args.place.now first l) to
+    (Renumbering-begin first count xs c.args.place.now (omega arith) c.requires.places) in
+    subst (λ v. Renumbering (take first xs ++ (v ++ drop count (drop first xs))) c.args.place.now first c.args.last)
+    (sym c.reverse.ensures.after) begun
 
 pub loop-k-preserved : goal.loop-k-preserved
 loop-k-preserved c = Renumbering-more _ c.loop-k.place c.loop-k.k c.args.last c.loop-k.invariant (omega arith)
@@ -21,7 +23,8 @@ returns-clause-reversed c =
     let first = c.args.first in
     let count = c.args.last - first in
     let xs = c.args.order.now in
-    ap (λ v. take first xs ++ (v ++ drop count (drop first xs))) c.reverse.ensures.after ∙ turned_within-is first count xs (omega arith)
+    ap (λ v. take first xs ++ (v ++ drop count (drop first xs))) c.reverse.ensures.after
+    ∙ turned_within-is first count xs (omega arith)
 
 pub returns-clause-places : goal.returns-clause-places
 returns-clause-places c = Renumbering-all _ c.loop-k.place c.loop-k.k c.args.last c.loop-k.invariant c.loop-k-test.false

@@ -12,7 +12,16 @@ length-requires-clause-cities g c =
     let P : List ℕ → Type 0 = λ u. All (IsCity size) u in
     let vec = c.in_ok-cities.cities in
     let new = c.write_order.new.cities in
-    let whole : length new ≡ vec.len = omega (arith, ap length c.write_order.ensures.order, ap (λ t. length (g.S.TourStore.cities t)) c.tour.ensures.tour, c.size.ensures, c.in_ok-cities.ensures.len) in
+    let whole : length new ≡ vec.len =
+    omega (
+      arith,
+      ap length c.write_order.ensures.order,
+      ap (λ t. length (g.S.TourStore.cities t)) c.tour.ensures.tour,
+      c.size.ensures,
+      c.in_ok-cities.ensures.len,
+    ) in
     let written : take vec.len (new ++ drop (length new) vec.items) ≡ new = grind (arith, common_steps) in
-    let e : c.deref.result.now ≡ order = c.deref.ensures.value ∙ written ∙ c.write_order.ensures.order ∙ ap (λ t. g.S.TourStore.cities t) c.tour.ensures.tour in
-    subst P (sym e) (cities_of_tour (length order) size order c.requires (g.met.S.TourStore.is_tour (tour_of c.args.tour.now)).2)
+    let e : c.deref.result.now ≡ order = c.deref.ensures.value ∙ written ∙ c.write_order.ensures.order
+    ∙ ap (λ t. g.S.TourStore.cities t) c.tour.ensures.tour in
+    subst P (sym e)
+    (cities_of_tour (length order) size order c.requires (g.met.S.TourStore.is_tour (tour_of c.args.tour.now)).2)

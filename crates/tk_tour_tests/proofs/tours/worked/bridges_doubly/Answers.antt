@@ -11,5 +11,7 @@ double_bridge-requires g c = record {
   is_b = ((4 ∷ [], refl), (3 ∷ [], refl));
   is_c = ((6 ∷ [], refl), (5 ∷ [], refl));
   is_d = ((8 ∷ [], refl), (7 ∷ [], refl));
-  cycle = inl (record { front = []; back = 1 ∷ 2 ∷ 3 ∷ 4 ∷ 5 ∷ 6 ∷ 7 ∷ 8 ∷ []; before = c.in_ok-tour.ensures.order; after = refl });
+  cycle =
+      inl (record
+      { front = []; back = 1 ∷ 2 ∷ 3 ∷ 4 ∷ 5 ∷ 6 ∷ 7 ∷ 8 ∷ []; before = c.in_ok-tour.ensures.order; after = refl });
 }

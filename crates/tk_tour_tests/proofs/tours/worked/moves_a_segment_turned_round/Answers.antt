@@ -9,5 +9,7 @@ move_reversed-requires g c = record {
   is_segment = ((3 ∷ [], refl), (2 ∷ [], refl));
   is_ahead = ((5 ∷ [], refl), (4 ∷ [], refl));
   is_rest = ((7 ∷ 8 ∷ 1 ∷ [], refl), (6 ∷ 7 ∷ 8 ∷ [], refl));
-  cycle = inl (record { front = 1 ∷ []; back = 2 ∷ 3 ∷ 4 ∷ 5 ∷ 6 ∷ 7 ∷ 8 ∷ []; before = c.in_ok-tour.ensures.order; after = refl });
+  cycle =
+      inl (record
+      { front = 1 ∷ []; back = 2 ∷ 3 ∷ 4 ∷ 5 ∷ 6 ∷ 7 ∷ 8 ∷ []; before = c.in_ok-tour.ensures.order; after = refl });
 }

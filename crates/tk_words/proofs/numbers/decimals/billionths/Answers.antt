@@ -7,15 +7,18 @@ pub first_digits-requires-clause-whole : goal.first_digits-requires-clause-whole
 first_digits-requires-clause-whole c = All-digits c.args.bytes.now _ c.split_digits.ensures.digits
 
 pub first_digits-requires-clause-fraction : goal.first_digits-requires-clause-fraction
-first_digits-requires-clause-fraction c = All-fraction_digits c.split_digits.result.1.now _ c.split_fraction.ensures.digits
+first_digits-requires-clause-fraction c =
+    All-fraction_digits c.split_digits.result.1.now _ c.split_fraction.ensures.digits
 
 pub returns-in-Some-first_digits-clause-value : goal.returns-in-Some-first_digits-clause-value
 returns-in-Some-first_digits-clause-value c =
     let whole = c.split_digits.result.0.now in
     let digits = c.split_fraction.result.0.now in
     let some : 0 < length whole + length digits = grind (arith, nat_tests) in
-    let value = billionths_is c.args.bytes.now whole c.split_digits.result.1.now digits c.split_fraction.result.1.now c.in-Some.up c.in-Some.down c.saturating_sub-count.result
-    c.split_digits.ensures.digits c.split_digits.ensures.rest c.split_fraction.ensures.digits c.split_fraction.ensures.rest some c.in-Some.ensures.value c.saturating_sub-count.ensures in
+    let value = billionths_is c.args.bytes.now whole c.split_digits.result.1.now digits c.split_fraction.result.1.now
+    c.in-Some.up c.in-Some.down c.saturating_sub-count.result
+    c.split_digits.ensures.digits c.split_digits.ensures.rest c.split_fraction.ensures.digits
+    c.split_fraction.ensures.rest some c.in-Some.ensures.value c.saturating_sub-count.ensures in
     sym (limited-low _ _ _ value c.in-Some-first_digits.ensures.0 c.in-Some-first_digits.ensures.1)
 
 pub returns-in-None-clause-value : goal.returns-in-None-clause-value
@@ -23,6 +26,8 @@ returns-in-None-clause-value c =
     let whole = c.split_digits.result.0.now in
     let digits = c.split_fraction.result.0.now in
     let some : 0 < length whole + length digits = grind (arith, nat_tests) in
-    let value = billionths_is c.args.bytes.now whole c.split_digits.result.1.now digits c.split_fraction.result.1.now c.in-Some.up c.in-Some.down c.saturating_sub-count.result
-    c.split_digits.ensures.digits c.split_digits.ensures.rest c.split_fraction.ensures.digits c.split_fraction.ensures.rest some c.in-Some.ensures.value c.saturating_sub-count.ensures in
+    let value = billionths_is c.args.bytes.now whole c.split_digits.result.1.now digits c.split_fraction.result.1.now
+    c.in-Some.up c.in-Some.down c.saturating_sub-count.result
+    c.split_digits.ensures.digits c.split_digits.ensures.rest c.split_fraction.ensures.digits
+    c.split_fraction.ensures.rest some c.in-Some.ensures.value c.saturating_sub-count.ensures in
     sym (limited-high _ _ value c.in-None.ensures)

@@ -13,4 +13,5 @@ pub returns-in_ok-billionths-in-45-clause-value : goal.returns-in_ok-billionths-
 returns-in_ok-billionths-in-45-clause-value c =
     let bytes = c.args.bytes.now in
     let z = c.in_ok-billionths-in-45.field-0 in
-    ap Ok (negated z c.in_ok-billionths-in-45.ensures.bound) ∙ sym (decimal-minus bytes z (omega arith) (omega arith) c.in_ok-billionths-in-45.ensures.value)
+    ap Ok (negated z c.in_ok-billionths-in-45.ensures.bound)
+    ∙ sym (decimal-minus bytes z (omega arith) (omega arith) c.in_ok-billionths-in-45.ensures.value)

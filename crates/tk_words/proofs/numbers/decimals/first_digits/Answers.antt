@@ -14,7 +14,13 @@ returns-in_err-number c =
     let number = number_of (take a whole) in
     let both = number_behind number (take b fraction) in
     rw c.from_residual.ensures (λ low. c.in_err-number.ensures (
-    omega (arith, low, first_of_two whole fraction c.args.count a b c.min-in_whole.ensures refl, number_behind-ge number (take b fraction), moved-ge both (c.args.count - a - b))))
+    omega (
+      arith,
+      low,
+      first_of_two whole fraction c.args.count a b c.min-in_whole.ensures refl,
+      number_behind-ge number (take b fraction),
+      moved-ge both (c.args.count - a - b),
+    )))
 
 pub returns-in_err-number-2 : goal.returns-in_err-number-2
 returns-in_err-number-2 c =
@@ -25,7 +31,14 @@ returns-in_err-number-2 c =
     let both = number_behind (number_of (take a whole)) (take b fraction) in
     let same = ap (λ n. number_behind n (take b fraction)) c.in_ok-number.ensures.1 in
     rw c.from_residual-in_err-number-2.ensures (λ low. c.in_err-number-2.ensures (
-    omega (arith, low, same, first_of_two whole fraction c.args.count a b c.min-in_whole.ensures c.min-in_fraction.ensures, moved-ge both (c.args.count - a - b))))
+    omega (
+      arith,
+      low,
+      same,
+      first_of_two whole fraction c.args.count a b c.min-in_whole.ensures
+          c.min-in_fraction.ensures,
+      moved-ge both (c.args.count - a - b),
+    )))
 
 pub returns : goal.returns
 returns c =
@@ -34,5 +47,6 @@ returns c =
     let a = c.min-in_whole.result in
     let b = c.min-in_fraction.result in
     let same = c.in_ok-number-2.ensures.1 ∙ ap (λ n. number_behind n (take b fraction)) c.in_ok-number.ensures.1 in
-    let total = ap (λ n. n * 10 ^ (c.args.count - a - b)) same ∙ sym (first_of_two whole fraction c.args.count a b c.min-in_whole.ensures c.min-in_fraction.ensures) in
+    let total = ap (λ n. n * 10 ^ (c.args.count - a - b)) same
+    ∙ sym (first_of_two whole fraction c.args.count a b c.min-in_whole.ensures c.min-in_fraction.ensures) in
     subst (λ n. SomeIff c.append_zeros.result (n ≤ LIMIT) n) total c.append_zeros.ensures

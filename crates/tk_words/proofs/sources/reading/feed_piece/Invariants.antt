@@ -6,7 +6,8 @@ abbrev pub invariant-loop-index : goal.invariant-loop-index
 invariant-loop-index g l =
     record {
       within : l.index ≤ l.end;
-      fed : (bs : List ℕ) → g.P.TextReader.fed l.initial.reader bs → length bs ≡ l.fn.count → g.P.TextReader.fed l.reader (bs ++ take l.index l.piece);
+      fed : (bs : List ℕ) → g.P.TextReader.fed l.initial.reader bs → length bs ≡ l.fn.count →
+          g.P.TextReader.fed l.reader (bs ++ take l.index l.piece);
     }
 
 abbrev pub decreases-loop-index : goal.decreases-loop-index

@@ -7,7 +7,8 @@ invariant-loop-n g l =
     record {
       room : l.count ≤ l.limit;
       broken : g.R.Source.broken l.source ≡ g.R.Source.broken l.initial.source;
-      fed : (bs : List ℕ) × g.P.TextReader.fed l.reader bs × (length bs ≡ l.count) × Consumes (g.R.Source.left l.initial.source) (g.R.Source.left l.source) bs;
+      fed : (bs : List ℕ) × g.P.TextReader.fed l.reader bs × (length bs ≡ l.count)
+          × Consumes (g.R.Source.left l.initial.source) (g.R.Source.left l.source) bs;
     }
 
 abbrev pub decreases-loop-n : goal.decreases-loop-n

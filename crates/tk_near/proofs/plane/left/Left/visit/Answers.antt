@@ -18,9 +18,14 @@ returns-clause-first g c =
     let left = entries_of c.take_from.new.tree in
     let apart = subst (AreApart n place_of) (sym c.self.view_is) c.requires.apart in
     let there = subst (λ row. Stands row here.city) (sym c.self.view_is) c.requires.there in
-    let taken = taken_there n place_of here old left _ _ c.take_from.result c.take_from.ensures.taken c.take_from.ensures.shown apart c.requires.here there in
+    let taken = taken_there n place_of here old left _ _ c.take_from.result c.take_from.ensures.taken
+    c.take_from.ensures.shown apart c.requires.here there in
     let others = AreApart-taken n place_of here old left apart taken.0 in
     elim c.if-one.branch [
-      | then-one w ↦ rw w.result-is (none_kept dist here.city (g.met.P.Metric.distance_limit m) n place_of (g.met.P.Metric.size_limit m) left others.each (c.take_from.new.keeper.best ∷ []) taken.1 open_place w.if-one.true)
-      | else-one w ↦ rw w.result-is (first_kept dist here.city (g.met.P.Metric.distance_limit m) n place_of (g.met.P.Metric.size_limit m) left others.each (c.take_from.new.keeper.best ∷ []) taken.1 open_place w.if-one.false)
+      | then-one w ↦ rw w.result-is
+          (none_kept dist here.city (g.met.P.Metric.distance_limit m) n place_of (g.met.P.Metric.size_limit m) left
+          others.each (c.take_from.new.keeper.best ∷ []) taken.1 open_place w.if-one.true)
+      | else-one w ↦ rw w.result-is
+          (first_kept dist here.city (g.met.P.Metric.distance_limit m) n place_of (g.met.P.Metric.size_limit m) left
+          others.each (c.take_from.new.keeper.best ∷ []) taken.1 open_place w.if-one.false)
     ]

@@ -8,7 +8,9 @@ use Rattle.tk_near.proofs.InPlane.Parting.{one_of_max}
 pub returns-clause-beyond : goal.returns-clause-beyond
 returns-clause-beyond c = λ p w.
     let x : c.gap_between-gap_x.result ≤ unsigned_abs (c.args.here.now.place.x -ℤ p.place.x) =
-    let near = c.gap_between-gap_x.ensures p.place.x (omega (arith, ints)) (omega (arith, ints)) in omega (arith, ints, near) in
+    let near = c.gap_between-gap_x.ensures p.place.x (omega (arith, ints)) (omega (arith, ints)) in
+    omega (arith, ints, near) in
     let y : c.gap_between-gap_y.result ≤ unsigned_abs (c.args.here.now.place.y -ℤ p.place.y) =
-    let near = c.gap_between-gap_y.ensures p.place.y (omega (arith, ints)) (omega (arith, ints)) in omega (arith, ints, near) in
+    let near = c.gap_between-gap_y.ensures p.place.y (omega (arith, ints)) (omega (arith, ints)) in
+    omega (arith, ints, near) in
     one_of_max c.min.result _ _ _ _ (omega arith) x y

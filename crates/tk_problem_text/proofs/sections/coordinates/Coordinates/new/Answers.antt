@@ -6,7 +6,16 @@ use Rattle.tk_problem_text.proofs.SectionTokens.Rows.{table-replicate, length-fl
 use Rattle.tk_problem_text.proofs.sections.coordinates.Coordinates.new.Goals as goal
 
 pub invariant_of-result : goal.invariant_of-result
-invariant_of-result c = record { sizes = omega (arith, length-flags c.args.n c.in_ok-new-in-Ok.field-0 [] c.in_ok-new-in-Ok.ensures.ok, ap length c.in-Ok.ensures, length-replicate c.args.n origin); within = tt }
+invariant_of-result c =
+    record {
+      sizes = omega (
+        arith,
+        length-flags c.args.n c.in_ok-new-in-Ok.field-0 [] c.in_ok-new-in-Ok.ensures.ok,
+        ap length c.in-Ok.ensures,
+        length-replicate c.args.n origin,
+      );
+      within = tt;
+    }
 
 pub returns-in_ok-new-in-Ok-clause-ok : goal.returns-in_ok-new-in-Ok-clause-ok
 unfolding place_rows

@@ -8,7 +8,10 @@ use Rattle.tk_lines.specs.Pieces.{first_at}
 use Rattle.tk_problem_text.specs.Sections.Rows.{place_tests, node_tests, coordinate_tests, nodes_in, place_rows}
 use Rattle.tk_lines.proofs.Pieces.ToldFaults.{told_same}
 use Rattle.tk_problem_text.proofs.SectionTokens.Rows.{node_tests-told}
-use Rattle.tk_problem_text.proofs.SectionTokens.PlaceRows.{opened, at_node, node_taken, place_tests-node, fewer_nodes, node_more, place_tests-x, x_more, x_taken, place_tests-y, y_last, y_more, y_taken, coordinate_tests-ok, coordinate_tests-err, limited-ok, fits, within_y, on_ok}
+use Rattle.tk_problem_text.proofs.SectionTokens.PlaceRows.{opened, at_node, node_taken, place_tests-node, fewer_nodes}
+use Rattle.tk_problem_text.proofs.SectionTokens.PlaceRows.{node_more, place_tests-x, x_more, x_taken, place_tests-y}
+use Rattle.tk_problem_text.proofs.SectionTokens.PlaceRows.{y_last, y_more, y_taken, coordinate_tests-ok}
+use Rattle.tk_problem_text.proofs.SectionTokens.PlaceRows.{coordinate_tests-err, limited-ok, fits, within_y, on_ok}
 use Rattle.tk_problem_text.proofs.sections.coordinates.Coordinates.take.Goals as goal
 
 pub returns-in_err-index-in-Node-clause-err : goal.returns-in_err-index-in-Node-clause-err
@@ -16,36 +19,53 @@ returns-in_err-index-in-Node-clause-err c = λ n toks line has.
     let inside = c.self.inside in
     let t = whole c.args.token.now line in
     let k = c.in_err-index-in-Node.field-0.0 in
-    let at = at_node n inside.places inside.nodes toks (opened n inside.places inside.nodes inside.wanted wants.Node c.args.self.now toks c.self.view_is c.in-Node.is has) in
+    let at =
+    at_node n inside.places inside.nodes toks
+    (opened n inside.places inside.nodes inside.wanted wants.Node c.args.self.now toks c.self.view_is
+    c.in-Node.is has) in
     let nodes = nodes_in (place_rows toks) in
     let p = err_from_is_err_and c.from_residual.result c.from_residual.ensures.1 in
-    rw (p.1, p.2) (told_same line k (place_tests n toks t) (node_tests n nodes t) (place_tests-node n toks t at.whole) (node_tests-told n nodes t line k (c.in_err-index-in-Node.ensures.err n nodes line at.named)))
+    rw (p.1, p.2) (told_same line k (place_tests n toks t) (node_tests n nodes t) (place_tests-node n toks t at.whole)
+    (node_tests-told n nodes t line k (c.in_err-index-in-Node.ensures.err n nodes line at.named)))
 
 pub returns-in_err-x-in-X-clause-err : goal.returns-in_err-x-in-X-clause-err
 returns-in_err-x-in-X-clause-err c = λ n toks line has.
     let inside = c.self.inside in
     let t = whole c.args.token.now line in
     let k = c.in_err-x-in-X.field-0.0 in
-    let here = opened n inside.places inside.nodes inside.wanted (wants.X c.in-X.index) c.args.self.now toks c.self.view_is c.in-X.is has in
+    let here = opened n inside.places inside.nodes inside.wanted (wants.X c.in-X.index) c.args.self.now toks
+    c.self.view_is c.in-X.is has in
     let p = err_from_is_err_and c.from_residual-in_err-x-in-X.result c.from_residual-in_err-x-in-X.ensures.1 in
-    rw (p.1, p.2) (told_same line k (place_tests n toks t) (coordinate_tests t) (place_tests-x n inside.places inside.nodes toks c.in-X.index here t) (coordinate_tests-err t line k c.in_err-x-in-X.ensures.value))
+    rw (p.1, p.2)
+    (told_same line k (place_tests n toks t) (coordinate_tests t)
+    (place_tests-x n inside.places inside.nodes toks c.in-X.index here t)
+    (coordinate_tests-err t line k c.in_err-x-in-X.ensures.value))
 
 pub returns-in_err-y-in-Y-clause-err : goal.returns-in_err-y-in-Y-clause-err
 returns-in_err-y-in-Y-clause-err c = λ n toks line has.
     let inside = c.self.inside in
     let t = whole c.args.token.now line in
     let k = c.in_err-y-in-Y.field-0.0 in
-    let here = opened n inside.places inside.nodes inside.wanted (wants.Y c.in-Y.index c.in-Y.x) c.args.self.now toks c.self.view_is c.in-Y.is has in
+    let here = opened n inside.places inside.nodes inside.wanted (wants.Y c.in-Y.index c.in-Y.x) c.args.self.now toks
+    c.self.view_is c.in-Y.is has in
     let p = err_from_is_err_and c.from_residual-in_err-y-in-Y.result c.from_residual-in_err-y-in-Y.ensures.1 in
-    rw (p.1, p.2) (told_same line k (place_tests n toks t) (coordinate_tests t) (place_tests-y n inside.places inside.nodes toks c.in-Y.index c.in-Y.x here t) (coordinate_tests-err t line k c.in_err-y-in-Y.ensures.value))
+    rw (p.1, p.2)
+    (told_same line k (place_tests n toks t) (coordinate_tests t)
+    (place_tests-y n inside.places inside.nodes toks c.in-Y.index c.in-Y.x here t)
+    (coordinate_tests-err t line k c.in_err-y-in-Y.ensures.value))
 
 pub returns-in_ok-index-in-Node-clause-ok : goal.returns-in_ok-index-in-Node-clause-ok
 returns-in_ok-index-in-Node-clause-ok c = λ n toks line has fewer.
     let inside = c.self.inside in
     let t = whole c.args.token.now line in
-    let at = at_node n inside.places inside.nodes toks (opened n inside.places inside.nodes inside.wanted wants.Node c.args.self.now toks c.self.view_is c.in-Node.is has) in
+    let at =
+    at_node n inside.places inside.nodes toks
+    (opened n inside.places inside.nodes inside.wanted wants.Node c.args.self.now toks c.self.view_is
+    c.in-Node.is has) in
     let nodes = nodes_in (place_rows toks) in
-    let next = c.in_ok-index-in-Node.ensures.ok n nodes line at.named (fewer_nodes n inside.places inside.nodes toks at fewer) in (
+    let next =
+    c.in_ok-index-in-Node.ensures.ok n nodes line at.named
+    (fewer_nodes n inside.places inside.nodes toks at fewer) in (
       ap (first_at line) (place_tests-node n toks t at.whole) ∙ next.1,
       node_taken n inside.places inside.nodes toks at c.name.new.self t c.in_ok-index-in-Node.index next.0,
       node_more n inside.places inside.nodes toks at,
@@ -56,10 +76,13 @@ returns-in_ok-x-in-X-clause-ok c = λ n toks line has fewer.
     let inside = c.self.inside in
     let t = whole c.args.token.now line in
     let x = c.in_ok-x-in-X.x in
-    let here = opened n inside.places inside.nodes inside.wanted (wants.X c.in-X.index) c.args.self.now toks c.self.view_is c.in-X.is has in
+    let here = opened n inside.places inside.nodes inside.wanted (wants.X c.in-X.index) c.args.self.now toks
+    c.self.view_is c.in-X.is has in
     let value = c.in_ok-x-in-X.ensures.value in (
-      ap (first_at line) (place_tests-x n inside.places inside.nodes toks c.in-X.index here t) ∙ coordinate_tests-ok t line x value,
-      rw (fits x c.in_ok-x-in-X.ensures.bound) (x_taken n inside.places inside.nodes toks c.in-X.index here t x (limited-ok (decimal_of t.bytes) x value).0),
+      ap (first_at line) (place_tests-x n inside.places inside.nodes toks c.in-X.index here t)
+          ∙ coordinate_tests-ok t line x value,
+      rw (fits x c.in_ok-x-in-X.ensures.bound)
+          (x_taken n inside.places inside.nodes toks c.in-X.index here t x (limited-ok (decimal_of t.bytes) x value).0),
       x_more n inside.places inside.nodes toks c.in-X.index here,
     )
 
@@ -69,13 +92,20 @@ returns-then-are_all-clause-ok c = λ n toks line has fewer.
     let t = whole c.args.token.now line in
     let x = c.in-Y.x in
     let y = c.in_ok-y-in-Y.y in
-    let here = opened n inside.places inside.nodes inside.wanted (wants.Y c.in-Y.index x) c.args.self.now toks c.self.view_is c.in-Y.is has in
+    let here = opened n inside.places inside.nodes inside.wanted (wants.Y c.in-Y.index x) c.args.self.now toks
+    c.self.view_is c.in-Y.is has in
     let value = c.in_ok-y-in-Y.ensures.value in
     let near = within_y (length inside.places) inside.wanted c.in-Y.index x c.in-Y.is c.self.invariant.within in
-    let written = rw (fits x near, fits y c.in_ok-y-in-Y.ensures.bound) at (on_ok c.set.result (sym c.is_err.ensures.value ∙ c.if-is_err.false) c.set.ensures.ok) in (
-      ap (first_at line) (place_tests-y n inside.places inside.nodes toks c.in-Y.index x here t) ∙ coordinate_tests-ok t line y value,
-      rw written (y_taken n inside.places inside.nodes toks c.in-Y.index x here t y (limited-ok (decimal_of t.bytes) y value).0),
-      y_last n inside.places inside.nodes toks c.in-Y.index x here (eqb-true inside.nodes.left 0 (sym c.are_all.ensures ∙ c.if-are_all.true)),
+    let written =
+    rw (fits x near, fits y c.in_ok-y-in-Y.ensures.bound) at
+    (on_ok c.set.result (sym c.is_err.ensures.value ∙ c.if-is_err.false) c.set.ensures.ok) in (
+      ap (first_at line) (place_tests-y n inside.places inside.nodes toks c.in-Y.index x here t)
+          ∙ coordinate_tests-ok t line y value,
+      rw written
+          (y_taken n inside.places inside.nodes toks c.in-Y.index x here t y
+          (limited-ok (decimal_of t.bytes) y value).0),
+      y_last n inside.places inside.nodes toks c.in-Y.index x here
+          (eqb-true inside.nodes.left 0 (sym c.are_all.ensures ∙ c.if-are_all.true)),
     )
 
 pub returns-else-are_all-clause-ok : goal.returns-else-are_all-clause-ok
@@ -84,11 +114,18 @@ returns-else-are_all-clause-ok c = λ n toks line has fewer.
     let t = whole c.args.token.now line in
     let x = c.in-Y.x in
     let y = c.in_ok-y-in-Y.y in
-    let here = opened n inside.places inside.nodes inside.wanted (wants.Y c.in-Y.index x) c.args.self.now toks c.self.view_is c.in-Y.is has in
+    let here = opened n inside.places inside.nodes inside.wanted (wants.Y c.in-Y.index x) c.args.self.now toks
+    c.self.view_is c.in-Y.is has in
     let value = c.in_ok-y-in-Y.ensures.value in
     let near = within_y (length inside.places) inside.wanted c.in-Y.index x c.in-Y.is c.self.invariant.within in
-    let written = rw (fits x near, fits y c.in_ok-y-in-Y.ensures.bound) at (on_ok c.set.result (sym c.is_err.ensures.value ∙ c.if-is_err.false) c.set.ensures.ok) in (
-      ap (first_at line) (place_tests-y n inside.places inside.nodes toks c.in-Y.index x here t) ∙ coordinate_tests-ok t line y value,
-      rw written (y_taken n inside.places inside.nodes toks c.in-Y.index x here t y (limited-ok (decimal_of t.bytes) y value).0),
-      y_more n inside.places inside.nodes toks c.in-Y.index x here (eqb-false inside.nodes.left 0 (sym c.are_all.ensures ∙ c.if-are_all.false)),
+    let written =
+    rw (fits x near, fits y c.in_ok-y-in-Y.ensures.bound) at
+    (on_ok c.set.result (sym c.is_err.ensures.value ∙ c.if-is_err.false) c.set.ensures.ok) in (
+      ap (first_at line) (place_tests-y n inside.places inside.nodes toks c.in-Y.index x here t)
+          ∙ coordinate_tests-ok t line y value,
+      rw written
+          (y_taken n inside.places inside.nodes toks c.in-Y.index x here t y
+          (limited-ok (decimal_of t.bytes) y value).0),
+      y_more n inside.places inside.nodes toks c.in-Y.index x here
+          (eqb-false inside.nodes.left 0 (sym c.are_all.ensures ∙ c.if-are_all.false)),
     )

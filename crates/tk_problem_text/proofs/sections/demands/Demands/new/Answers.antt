@@ -6,7 +6,13 @@ use Rattle.tk_problem_text.proofs.sections.demands.Demands.new.Goals as goal
 
 pub invariant_of-result : goal.invariant_of-result
 invariant_of-result c = record {
-  sizes = omega (arith, length-flags c.args.n c.in_ok-new-in-Ok.field-0 [] c.in_ok-new-in-Ok.ensures.ok, ap length (c.in-Ok.ensures.items_if_clones_equal (λ y h. h)), length-replicate {A = ℕ} c.args.n 0);
+  sizes =
+      omega (
+        arith,
+        length-flags c.args.n c.in_ok-new-in-Ok.field-0 [] c.in_ok-new-in-Ok.ensures.ok,
+        ap length (c.in-Ok.ensures.items_if_clones_equal (λ y h. h)),
+        length-replicate {A = ℕ} c.args.n 0,
+      );
   within = tt;
 }
 
@@ -17,6 +23,7 @@ returns-in_ok-new-in-Ok-clause-ok c = record {
   part = [];
   are = refl;
   whole = refl;
-  loads = c.in-Ok.ensures.items_if_clones_equal (λ y h. h) ∙ sym (table-replicate (row_of 0 []) 0 (λ _. refl) 1 c.args.n);
+  loads = c.in-Ok.ensures.items_if_clones_equal (λ y h. h)
+      ∙ sym (table-replicate (row_of 0 []) 0 (λ _. refl) 1 c.args.n);
   begun = (refl, c.in_ok-new-in-Ok.ensures.ok);
 }

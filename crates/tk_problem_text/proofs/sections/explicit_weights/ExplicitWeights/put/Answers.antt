@@ -11,5 +11,7 @@ returns-clause-ok c = λ n f toks t has is.
     let passed = to_z-of_z w64 c.args.number c.ranges.number in
     let value = ap natural_or_zero (is ∙ ap Some (sym passed ∙ c.in_ok-weight.ensures.is.0)) in (
       c.in_ok-weight.ensures.ok n f toks t has (is ∙ ap Some (sym passed)),
-      more_weights n f c.args.self.now toks has c.push.new.self t (subst (λ w. IsSoFar c.push.new.self f n (weights_in toks ++ w ∷ [])) (sym value) (c.push.ensures f n (weights_in toks) has.so_far)),
+      more_weights n f c.args.self.now toks has c.push.new.self t
+          (subst (λ w. IsSoFar c.push.new.self f n (weights_in toks ++ w ∷ [])) (sym value)
+          (c.push.ensures f n (weights_in toks) has.so_far)),
     )

@@ -9,18 +9,32 @@ pub returns-in_err-put-clause-err : goal.returns-in_err-put-clause-err
 returns-in_err-put-clause-err c = λ n f toks line has.
     let fits : SFits w64 c.in-Some.number = search rules in
     let p = err_from_is_err_and c.from_residual.result c.from_residual.ensures.1 in
-    rw (p.1, p.2) (c.in_err-put.ensures.err n f toks (whole c.args.token.now line) has (sym c.in-Some.ensures ∙ ap Some (sym (to_z-of_z w64 c.in-Some.number fits))))
+    rw (p.1, p.2)
+    (c.in_err-put.ensures.err n f toks (whole c.args.token.now line) has (sym c.in-Some.ensures
+    ∙ ap Some (sym (to_z-of_z w64 c.in-Some.number fits))))
 
 pub returns-then-is_done-2-clause-ok : goal.returns-then-is_done-2-clause-ok
 returns-then-is_done-2-clause-ok c = λ n f toks line has fewer.
     let t = whole c.args.token.now line in
     let fits : SFits w64 c.in-Some.number = search rules in
-    let next = c.in_ok-put.ensures.ok n f toks t has (sym c.in-Some.ensures ∙ ap Some (sym (to_z-of_z w64 c.in-Some.number fits))) in
-    (next.0, next.1, is_last n f c.put.new.self (toks ++ t ∷ []) next.1 toks t refl fewer (sym c.is_done-2.ensures ∙ c.if-is_done-2.true))
+    let next =
+    c.in_ok-put.ensures.ok n f toks t has (sym c.in-Some.ensures
+    ∙ ap Some (sym (to_z-of_z w64 c.in-Some.number fits))) in (
+      next.0,
+      next.1,
+      is_last n f c.put.new.self (toks ++ t ∷ []) next.1 toks t refl fewer (sym c.is_done-2.ensures
+          ∙ c.if-is_done-2.true),
+    )
 
 pub returns-clause-ok : goal.returns-clause-ok
 returns-clause-ok c = λ n f toks line has fewer.
     let t = whole c.args.token.now line in
     let fits : SFits w64 c.in-Some.number = search rules in
-    let next = c.in_ok-put.ensures.ok n f toks t has (sym c.in-Some.ensures ∙ ap Some (sym (to_z-of_z w64 c.in-Some.number fits))) in
-    (next.0, next.1, is_more n f c.put.new.self (toks ++ t ∷ []) next.1 toks t refl (sym c.is_done-2.ensures ∙ c.if-is_done-2.false))
+    let next =
+    c.in_ok-put.ensures.ok n f toks t has (sym c.in-Some.ensures
+    ∙ ap Some (sym (to_z-of_z w64 c.in-Some.number fits))) in (
+      next.0,
+      next.1,
+      is_more n f c.put.new.self (toks ++ t ∷ []) next.1 toks t refl (sym c.is_done-2.ensures
+          ∙ c.if-is_done-2.false),
+    )

@@ -9,7 +9,8 @@ use Rattle.tk_words.specs.Entry.{in_range}
 use Rattle.tk_lines.specs.Pieces.{first_at}
 use Rattle.tk_problem.specs.WeightOrder.{weight_of, entries}
 use Rattle.tk_problem_text.specs.Sections.WeightSection.{is_full, weights_in, weight_tests}
-use Rattle.tk_problem_text.proofs.SectionTokens.WeightTokens.{if_some, place_here, weight_once, weight_same, weight_beyond, told_again}
+use Rattle.tk_problem_text.proofs.SectionTokens.WeightTokens.{if_some, place_here, weight_once, weight_same}
+use Rattle.tk_problem_text.proofs.SectionTokens.WeightTokens.{weight_beyond, told_again}
 use Rattle.tk_problem_text.proofs.sections.explicit_weights.ExplicitWeights.weight.Goals as goal
 
 pub returns-in_default-clause-err : goal.returns-in_default-clause-err
@@ -44,7 +45,8 @@ pub returns-then-repeats-clause-is : goal.returns-then-repeats-clause-is
 returns-then-repeats-clause-is c =
     let is_weight = sym (to_z-of_z w64 c.args.number c.ranges.number) ∙ c.in-Some.ensures.some.0 in
     let small = c.in-Some.ensures.some.2 in
-    IfOk-weaker c.again.result (λ w. w ≡ c.in-Some.weight) (λ w. (c.args.number ≡ pos w) × (w ≤ DISTANCE_LIMIT)) (λ w same. rw same (is_weight, small)) c.again.ensures.same
+    IfOk-weaker c.again.result (λ w. w ≡ c.in-Some.weight) (λ w. (c.args.number ≡ pos w) × (w ≤ DISTANCE_LIMIT))
+    (λ w same. rw same (is_weight, small)) c.again.ensures.same
 
 pub returns-then-repeats-clause-err : goal.returns-then-repeats-clause-err
 returns-then-repeats-clause-err c = λ n f toks t has is.
@@ -53,7 +55,9 @@ returns-then-repeats-clause-err c = λ n f toks t has is.
     let place = c.place-place.result in
     let again = sym c.repeats.ensures ∙ c.if-repeats.true in
     let below = ltb-true place.column place.row (and_parts _ _ again).1 in
-    IfErr-weaker c.again.result _ _ (told_again n f c.args.self.now toks has t place c.in-Some.weight c.place-place.ensures below (is ∙ ap Some is_weight) small again) (c.again.ensures.err n f toks has)
+    IfErr-weaker c.again.result
+    _ _ (told_again n f c.args.self.now toks has t place c.in-Some.weight c.place-place.ensures below
+    (is ∙ ap Some is_weight) small again) (c.again.ensures.err n f toks has)
 
 pub returns-clause-ok : goal.returns-clause-ok
 returns-clause-ok c = λ n f toks t has is.

@@ -4,7 +4,8 @@ use Rattle.tk_problem_text.specs.Sections.Nodes.{Named, HasNamed}
 use Rattle.tk_lines.specs.Forms.{whole}
 use Rattle.tk_lines.specs.Pieces.{Fault, first_at}
 use Rattle.tk_problem_text.specs.Sections.Rows.{node_tests, is_among}
-use Rattle.tk_problem_text.proofs.SectionTokens.Rows.{flag_at, length-flags, named_more, number_in-node, node_tests-new, node_tests-again}
+use Rattle.tk_problem_text.proofs.SectionTokens.Rows.{flag_at, length-flags, named_more, number_in-node, node_tests-new}
+use Rattle.tk_problem_text.proofs.SectionTokens.Rows.{node_tests-again}
 use Rattle.tk_problem_text.proofs.sections.nodes.Nodes.name.Goals as goal
 
 pub returns-in_err-index-clause-err : goal.returns-in_err-index-clause-err
@@ -14,7 +15,9 @@ returns-in_err-index-clause-err c = λ n nodes line has.
     let has_inside : HasNamed n v nodes = subst (λ s. HasNamed n s nodes) (sym c.self.view_is) has in
     let size : c.len.result ≡ n = omega (arith, length-flags n v nodes has_inside, inside.named.ok.0, c.len.ensures) in
     let p = err_from_is_err_and c.from_residual.result c.from_residual.ensures.1 in
-    rw (p.1, p.2) (subst (λ m. first_at line (node_tests m nodes (whole c.args.token.now line)) ≡ Some (Fault line c.in_err-index.field-0.0)) size (c.in_err-index.ensures.err nodes line))
+    rw (p.1, p.2)
+    (subst (λ m. first_at line (node_tests m nodes (whole c.args.token.now line)) ≡ Some
+    (Fault line c.in_err-index.field-0.0)) size (c.in_err-index.ensures.err nodes line))
 
 pub returns-then-index-clause-err : goal.returns-then-index-clause-err
 returns-then-index-clause-err c = λ n nodes line has.
@@ -22,8 +25,16 @@ returns-then-index-clause-err c = λ n nodes line has.
     let index = c.in_ok-index.index in
     let v : Named = record { flags = inside.named.items; left = inside.left } in
     let has_inside : HasNamed n v nodes = subst (λ s. HasNamed n s nodes) (sym c.self.view_is) has in
-    let lt : index < n = omega (arith, length-flags n v nodes has_inside, inside.named.ok.0, c.len.ensures, c.in_ok-index.ensures.index) in
-    let again : is_among (suc index) nodes ≡ true = sym (flag_at n v nodes has_inside index c.index.result.now lt) ∙ sym c.index.ensures ∙ c.if-index.true in
+    let lt : index < n =
+    omega (
+      arith,
+      length-flags n v nodes has_inside,
+      inside.named.ok.0,
+      c.len.ensures,
+      c.in_ok-index.ensures.index,
+    ) in
+    let again : is_among (suc index) nodes ≡ true = sym (flag_at n v nodes has_inside index c.index.result.now lt)
+    ∙ sym c.index.ensures ∙ c.if-index.true in
     node_tests-again n nodes (whole c.args.token.now line) index line c.in_ok-index.ensures.ok lt again
 
 pub returns-clause-ok : goal.returns-clause-ok
@@ -33,8 +44,16 @@ returns-clause-ok c = λ n nodes line has fewer.
     let t = whole c.args.token.now line in
     let v : Named = record { flags = inside.named.items; left = inside.left } in
     let has_inside : HasNamed n v nodes = subst (λ s. HasNamed n s nodes) (sym c.self.view_is) has in
-    let lt : index < n = omega (arith, length-flags n v nodes has_inside, inside.named.ok.0, c.len.ensures, c.in_ok-index.ensures.index) in
-    let new : is_among (suc index) nodes ≡ false = sym (flag_at n v nodes has_inside index c.index.result.now lt) ∙ sym c.index.ensures ∙ c.if-index.false in (
+    let lt : index < n =
+    omega (
+      arith,
+      length-flags n v nodes has_inside,
+      inside.named.ok.0,
+      c.len.ensures,
+      c.in_ok-index.ensures.index,
+    ) in
+    let new : is_among (suc index) nodes ≡ false = sym (flag_at n v nodes has_inside index c.index.result.now lt)
+    ∙ sym c.index.ensures ∙ c.if-index.false in (
       record {
         within = lt;
         node = number_in-node n nodes t index line c.in_ok-index.ensures.ok lt;

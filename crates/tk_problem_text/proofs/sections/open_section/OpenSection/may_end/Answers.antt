@@ -8,8 +8,13 @@ use Rattle.tk_problem_text.proofs.sections.open_section.OpenSection.may_end.Goal
 
 pub returns-in-Home-clause-yes : goal.returns-in-Home-clause-yes
 returns-in-Home-clause-yes c = λ before word n toks line is some.
-    let past = home_past before word n toks c.in-Home.section line (subst (λ s. IsOpen before word n toks s) c.in-Home.is is) (sym c.is_some.ensures ∙ some) in
-    (subst (λ s. IsPast before word n s (before ++ a_section word n toks (Early line true))) (sym c.in-Home.is) past.0, past.1)
+    let past =
+    home_past before word n toks c.in-Home.section line (subst (λ s. IsOpen before word n toks s) c.in-Home.is is)
+    (sym c.is_some.ensures ∙ some) in (
+      subst (λ s. IsPast before word n s (before ++ a_section word n toks (Early line true))) (sym c.in-Home.is)
+          past.0,
+      past.1,
+    )
 
 pub returns-in-Home-clause-no : goal.returns-in-Home-clause-no
 returns-in-Home-clause-no c = λ before word n toks line is none.
@@ -18,5 +23,6 @@ returns-in-Home-clause-no c = λ before word n toks line is none.
 pub returns-in_default : goal.returns-in_default
 returns-in_default c = record {
   yes = λ before word n toks line is e. absurd (false≢true e);
-  no = λ before word n toks line is e. early_stop before word n toks c.args.self.now line is (not_home c.args.self.now c.in_default.not-Home);
+  no = λ before word n toks line is e. early_stop before word n toks c.args.self.now line is
+      (not_home c.args.self.now c.in_default.not-Home);
 }

@@ -16,36 +16,51 @@ use Rattle.tk_problem_text.proofs.sections.open_section.OpenSection.take_number.
 pub returns-in-Places-clause-ok : goal.returns-in-Places-clause-ok
 returns-in-Places-clause-ok c = λ before word n toks line counted number is_open.
     let o = subst (IsOpen before word n toks) c.in-Places.is is_open in
-    takes c.args.token.now c.requires before n toks line number c.take.result words.NodeCoordSection word o.0 o.1 (3 * size_of before) refl (Places c.take.new.self)
-    (HasPlaces (size_of before) c.take.new.self (toks ++ whole c.args.token.now line ∷ [])) (c.take.ensures.ok (size_of before) toks line o.2) (λ new all. (refl, new, all)) (λ new more. (refl, more, new))
+    takes c.args.token.now c.requires before n toks line number c.take.result words.NodeCoordSection word o.0 o.1
+    (3 * size_of before) refl (Places c.take.new.self)
+    (HasPlaces (size_of before) c.take.new.self (toks ++ whole c.args.token.now line ∷ []))
+    (c.take.ensures.ok (size_of before) toks line o.2) (λ new all. (refl, new, all)) (λ new more. (refl, more, new))
 
 pub returns-in-Places-clause-err : goal.returns-in-Places-clause-err
 returns-in-Places-clause-err c = λ before word n toks line counted number is_open.
     let o = subst (IsOpen before word n toks) c.in-Places.is is_open in
-    refuses c.args.token.now c.requires before n toks line number c.take.result words.NodeCoordSection word o.0 o.1 (c.take.ensures.err (size_of before) toks line o.2)
+    refuses c.args.token.now c.requires before n toks line number c.take.result words.NodeCoordSection word o.0 o.1
+    (c.take.ensures.err (size_of before) toks line o.2)
 
 pub returns-in-Explicit-clause-ok : goal.returns-in-Explicit-clause-ok
 returns-in-Explicit-clause-ok c = λ before word n toks line counted number is_open.
     let o = subst (IsOpen before word n toks) c.in-Explicit.is is_open in
-    takes c.args.token.now c.requires before n toks line number c.take-in-Explicit.result words.EdgeWeightSection word o.0 o.1 (weight_count (size_of before) (format_in before)) o.3.1 (Explicit c.take-in-Explicit.new.self)
-    (HasWeights (size_of before) (format_in before) c.take-in-Explicit.new.self (toks ++ whole c.args.token.now line ∷ [])) (c.take-in-Explicit.ensures.ok (size_of before) (format_in before) toks line o.2) (λ new all. (refl, new, o.3)) (λ new more. (refl, more, new, o.3))
+    takes c.args.token.now c.requires before n toks line number c.take-in-Explicit.result words.EdgeWeightSection word
+    o.0 o.1 (weight_count (size_of before) (format_in before)) o.3.1 (Explicit c.take-in-Explicit.new.self)
+    (HasWeights (size_of before) (format_in before) c.take-in-Explicit.new.self
+    (toks ++ whole c.args.token.now line ∷ []))
+    (c.take-in-Explicit.ensures.ok (size_of before) (format_in before) toks line o.2) (λ new all. (refl, new, o.3))
+    (λ new more. (refl, more, new, o.3))
 
 pub returns-in-Explicit-clause-err : goal.returns-in-Explicit-clause-err
 returns-in-Explicit-clause-err c = λ before word n toks line counted number is_open.
     let o = subst (IsOpen before word n toks) c.in-Explicit.is is_open in
-    refuses c.args.token.now c.requires before n toks line number c.take-in-Explicit.result words.EdgeWeightSection word o.0 o.1 (c.take-in-Explicit.ensures.err (size_of before) (format_in before) toks line o.2)
+    refuses c.args.token.now c.requires before n toks line number c.take-in-Explicit.result words.EdgeWeightSection word
+    o.0 o.1 (c.take-in-Explicit.ensures.err (size_of before) (format_in before) toks line o.2)
 
 pub returns-in-Loads-clause-ok : goal.returns-in-Loads-clause-ok
 returns-in-Loads-clause-ok c = λ before word n toks line counted number is_open.
     let o = subst (IsOpen before word n toks) c.in-Loads.is is_open in
-    takes c.args.token.now c.requires before n toks line number c.take-in-Loads.result words.DemandSection word o.0 o.1 (2 * size_of before) refl (Loads c.take-in-Loads.new.self)
-    (HasDemands (size_of before) c.take-in-Loads.new.self (toks ++ whole c.args.token.now line ∷ [])) (c.take-in-Loads.ensures.ok (size_of before) toks line o.2) (λ new all. (refl, new, all, o.3)) (λ new more. (refl, more, new, o.3))
+    takes c.args.token.now c.requires before n toks line number c.take-in-Loads.result words.DemandSection word o.0 o.1
+    (2 * size_of before) refl (Loads c.take-in-Loads.new.self)
+    (HasDemands (size_of before) c.take-in-Loads.new.self (toks ++ whole c.args.token.now line ∷ []))
+    (c.take-in-Loads.ensures.ok (size_of before) toks line o.2) (λ new all. (refl, new, all, o.3))
+    (λ new more. (refl, more, new, o.3))
 
 pub returns-in-Loads-clause-err : goal.returns-in-Loads-clause-err
 returns-in-Loads-clause-err c = λ before word n toks line counted number is_open.
     let o = subst (IsOpen before word n toks) c.in-Loads.is is_open in
-    refuses c.args.token.now c.requires before n toks line number c.take-in-Loads.result words.DemandSection word o.0 o.1 (IfErr-weaker c.take-in-Loads.result _ _ (demand_tests-told (size_of before) toks (whole c.args.token.now line) line) (c.take-in-Loads.ensures.err (size_of before) toks line o.2))
+    refuses c.args.token.now c.requires before n toks line number c.take-in-Loads.result words.DemandSection word o.0
+    o.1 (IfErr-weaker c.take-in-Loads.result
+    _ _ (demand_tests-told (size_of before) toks (whole c.args.token.now line) line)
+    (c.take-in-Loads.ensures.err (size_of before) toks line o.2))
 
 pub returns-in-Display-clause-ok : goal.returns-in-Display-clause-ok
 returns-in-Display-clause-ok c = λ before word n toks line counted number is_open.
-    display_take c.args.token.now c.requires before n toks line number c.in-Display.left c.count.new.left c.count.result word (subst (IsOpen before word n toks) c.in-Display.is is_open) c.count.ensures.fewer c.count.ensures.last
+    display_take c.args.token.now c.requires before n toks line number c.in-Display.left c.count.new.left c.count.result
+    word (subst (IsOpen before word n toks) c.in-Display.is is_open) c.count.ensures.fewer c.count.ensures.last

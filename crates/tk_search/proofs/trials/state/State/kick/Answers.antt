@@ -11,11 +11,13 @@ use Rattle.tk_search.proofs.trials.state.State.kick.Goals as goal
 
 pub bridged_length-requires-clause-cities : goal.bridged_length-requires-clause-cities
 bridged_length-requires-clause-cities g c =
-    ends_are_cities (cities_of c.args.self.now.tour) _ _ _ (g.met.S.TourStore.is_tour (tour_of c.args.self.now.tour)).2 c.draw-cuts.result c.size.ensures c.draw-cuts.ensures.cuts c.ends-ends.ensures (sym c.requires.fits.0)
+    ends_are_cities (cities_of c.args.self.now.tour) _ _ _ (g.met.S.TourStore.is_tour (tour_of c.args.self.now.tour)).2
+    c.draw-cuts.result c.size.ensures c.draw-cuts.ensures.cuts c.ends-ends.ensures (sym c.requires.fits.0)
 
 pub wake_kicked-requires : goal.wake_kicked-requires
 wake_kicked-requires g c =
-    ends_are_cities (cities_of c.args.self.now.tour) _ _ _ (g.met.S.TourStore.is_tour (tour_of c.args.self.now.tour)).2 c.draw-cuts.result c.size.ensures c.draw-cuts.ensures.cuts c.ends-ends.ensures (sym c.requires.fits.1)
+    ends_are_cities (cities_of c.args.self.now.tour) _ _ _ (g.met.S.TourStore.is_tour (tour_of c.args.self.now.tour)).2
+    c.draw-cuts.result c.size.ensures c.draw-cuts.ensures.cuts c.ends-ends.ensures (sym c.requires.fits.1)
 
 pub returns-clause-kicked : goal.returns-clause-kicked
 returns-clause-kicked g c = (
@@ -24,7 +26,8 @@ returns-clause-kicked g c = (
     are = let Are : ℕ → Type 0 = λ v. AreCuts v c.draw-cuts.result in subst Are c.size.ensures c.draw-cuts.ensures.cuts;
     drawn = c.draw-cuts.ensures.drawn ∙ ap (λ v. drawn_cuts v (g.R.Rng.stream c.args.rng.now)) c.size.ensures;
     bridge = c.kick.ensures.bridged;
-    swept = λ h. c.wake_kicked.ensures.swept h ∙ ap (λ v. woken_each c.args.self.now.waking.queue (one_to v)) c.requires.fits.1;
+    swept = λ h. c.wake_kicked.ensures.swept h
+        ∙ ap (λ v. woken_each c.args.self.now.waking.queue (one_to v)) c.requires.fits.1;
     ends = λ h. c.wake_kicked.ensures.ends h ∙ ap (woken_each c.args.self.now.waking.queue) c.ends-ends.ensures;
   },
   c.kick.ensures.swaps,
@@ -36,7 +39,8 @@ bridged_length-requires-clause-before g c =
     let d = g.M.Metric.distance m in
     let C : List ℕ = cities_of c.args.self.now.tour in
     let few : length C ≤ CITY_LIMIT = omega (arith, c.requires.fits.0, g.met.M.Metric.size_limit m) in
-    let bound = fits_length d C (g.met.M.Metric.symmetric m, g.met.M.Metric.diagonal m, g.met.M.Metric.distance_limit m) few in
+    let bound =
+    fits_length d C (g.met.M.Metric.symmetric m, g.met.M.Metric.diagonal m, g.met.M.Metric.distance_limit m) few in
     (omega (arith, ints, c.requires.shortest, bound), omega (arith, ints, c.requires.shortest, bound))
 
 pub returns-clause-length : goal.returns-clause-length
@@ -45,8 +49,11 @@ returns-clause-length g c =
     let d = g.M.Metric.distance m in
     let C : List ℕ = cities_of c.args.self.now.tour in
     let D : List ℕ = cities_of c.kick.new.store in
-    let few : length D ≤ CITY_LIMIT = omega (arith, c.kick.ensures.size, c.requires.fits.0, g.met.M.Metric.size_limit m) in
-    let bound = fits_length d D (g.met.M.Metric.symmetric m, g.met.M.Metric.diagonal m, g.met.M.Metric.distance_limit m) few in
+    let few : length D ≤ CITY_LIMIT =
+    omega (arith, c.kick.ensures.size, c.requires.fits.0, g.met.M.Metric.size_limit m) in
+    let bound =
+    fits_length d D (g.met.M.Metric.symmetric m, g.met.M.Metric.diagonal m, g.met.M.Metric.distance_limit m) few in
     let Are : ℕ → Type 0 = λ v. AreCuts v c.draw-cuts.result in
-    let law = length_at_ends C _ c.draw-cuts.result (subst Are c.size.ensures c.draw-cuts.ensures.cuts) c.ends-ends.ensures d (g.met.M.Metric.symmetric m) D c.kick.ensures.bridged in
+    let law = length_at_ends C _ c.draw-cuts.result (subst Are c.size.ensures c.draw-cuts.ensures.cuts)
+    c.ends-ends.ensures d (g.met.M.Metric.symmetric m) D c.kick.ensures.bridged in
     omega (arith, ints, bound, law, c.requires.shortest, c.bridged_length.ensures)

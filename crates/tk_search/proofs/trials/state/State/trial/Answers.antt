@@ -12,7 +12,8 @@ use Rattle.tk_search.specs.Trials.{gain_of, IsBoundedTrial}
 use Rattle.tk_near.specs.Near.{near_of}
 use Rattle.rand_core.specs.Stream.{Stream}
 use Rattle.tk_search.specs.declared.trials.totals.Totals.{Totals}
-use Rattle.tk_search.proofs.SearchTrials.Searches.{few_ends, kick_at, more_awake, same_best, searches_first, searches_kicked, shorter_best, trial_at}
+use Rattle.tk_search.proofs.SearchTrials.Searches.{few_ends, kick_at, more_awake, same_best, searches_first}
+use Rattle.tk_search.proofs.SearchTrials.Searches.{searches_kicked, shorter_best, trial_at}
 use Rattle.tk_tour.specs.Counters.{saturated}
 use Rattle.tk_search.specs.Cuts.{kick_swaps}
 use Rattle.tk_search.proofs.DoubleBridge.KickSwaps.{kick_few}
@@ -21,16 +22,19 @@ use Rattle.tk_search.proofs.trials.state.State.trial.Goals as goal
 
 pub descend-requires-2-clause-size : goal.descend-requires-2-clause-size
 descend-requires-2-clause-size g c =
-    c.kick-before.ensures.size ∙ ap length c.requires.at_best.order ∙ sym (ap (λ v. length (best_of v)) c.kick-before.ensures.others.0)
+    c.kick-before.ensures.size ∙ ap length c.requires.at_best.order
+    ∙ sym (ap (λ v. length (best_of v)) c.kick-before.ensures.others.0)
 
 pub returns-then-self-eq0-clause-next : goal.returns-then-self-eq0-clause-next
 returns-then-self-eq0-clause-next g c =
     let h = c.requires in
-    let front : c.wake_all.new.self.queue ≡ one_to (length (best_of c.args.self.now.best)) = all_awake _ _ _ _ c.wake_all.ensures.queue h.asleep h.queue in
+    let front : c.wake_all.new.self.queue ≡ one_to (length (best_of c.args.self.now.best)) =
+    all_awake _ _ _ _ c.wake_all.ensures.queue h.asleep h.queue in
     let s = c.args.self.now in
     let d = c.descend.ensures in
     let best : List ℕ = best_of s.best in
-    let t = trial_at _ _ _ (cities_of s.tour) best c.wake_all.new.self.queue (one_to (length best)) best best (best_of c.descend.new.self.best) c.descend.result h.at_best.order front refl d.trial.0 in
+    let t = trial_at _ _ _ (cities_of s.tour) best c.wake_all.new.self.queue (one_to (length best)) best best
+    (best_of c.descend.new.self.best) c.descend.result h.at_best.order front refl d.trial.0 in
     first (omega arith)
     (record {
       given = record { distance = refl; near = refl; rules = refl };
@@ -39,8 +43,14 @@ returns-then-self-eq0-clause-next g c =
       adds = d.adds;
       flips = omega (arith, d.trial.1.flips_are, t.1);
       swaps = omega (arith, d.counts.swaps, d.swapped, h.counts.swaps);
-      settles = settles (length best) t.0.flips t.0.swaps 0 d.trial.0.flips d.trial.0.swaps s.totals _ _ _ d.trial.1 d.counts refl h.slots (omega (arith, t.1, h.at_best.flips)) (omega (arith, t.2)) (omega (arith, h.counts.swaps, g.met.S.UndoStore.counts_fit s.tour.tour)) (omega (arith, h.counts.swaps, h.at_best.swaps, g.met.S.UndoStore.counts_fit s.tour.tour)) h.counts.undo_swaps h.counts.copied d.small;
-      bounded = more_awake _ _ _ _ _ _ (λ o. let e : length c.wake_all.new.self.queue ≡ length (best_of c.args.self.now.best) = ap length front ∙ one_to-length _ in omega arith) d.bounded;
+      settles = settles (length best) t.0.flips t.0.swaps 0 d.trial.0.flips d.trial.0.swaps s.totals _ _ _ d.trial.1
+          d.counts refl h.slots (omega (arith, t.1, h.at_best.flips)) (omega (arith, t.2))
+          (omega (arith, h.counts.swaps, g.met.S.UndoStore.counts_fit s.tour.tour))
+          (omega (arith, h.counts.swaps, h.at_best.swaps, g.met.S.UndoStore.counts_fit s.tour.tour)) h.counts.undo_swaps
+          h.counts.copied d.small;
+      bounded =
+          more_awake _ _ _ _ _ _ (λ o. let e : length c.wake_all.new.self.queue ≡ length (best_of
+          c.args.self.now.best) = ap length front ∙ one_to-length _ in omega arith) d.bounded;
     })
     refl
 
@@ -49,7 +59,8 @@ returns-then-self-eq0-clause-holds g c =
     let s = c.args.self.now in
     let h = c.requires in
     let d = c.descend.ensures in
-    let front : c.wake_all.new.self.queue ≡ one_to (length (best_of c.args.self.now.best)) = all_awake _ _ _ _ c.wake_all.ensures.queue h.asleep h.queue in
+    let front : c.wake_all.new.self.queue ≡ one_to (length (best_of c.args.self.now.best)) =
+    all_awake _ _ _ _ c.wake_all.ensures.queue h.asleep h.queue in
     searches_first _ _ _ _ s c.descend.new.self _ d.trial.0.flips d.trial.0.swaps c.descend.result h
     (record {
       size = d.size.0;
@@ -61,9 +72,15 @@ returns-then-self-eq0-clause-holds g c =
       shortest = d.shortest;
       counts = d.counts;
       adds = d.adds;
-      bounded = more_awake _ _ _ _ _ _ (λ o. let e : length c.wake_all.new.self.queue ≡ length (best_of c.args.self.now.best) = ap length front ∙ one_to-length _ in omega arith) d.bounded;
+      bounded =
+          more_awake _ _ _ _ _ _ (λ o. let e : length c.wake_all.new.self.queue ≡ length (best_of
+          c.args.self.now.best) = ap length front ∙ one_to-length _ in omega arith) d.bounded;
       swapped = omega (arith, d.counts.swaps, d.swapped, h.counts.swaps);
-      settles = settles (length (best_of s.best)) d.trial.0.flips d.trial.0.swaps 0 d.trial.0.flips d.trial.0.swaps s.totals _ _ _ d.trial.1 d.counts refl h.slots (omega (arith, h.at_best.flips)) (omega arith) (omega (arith, h.counts.swaps, g.met.S.UndoStore.counts_fit s.tour.tour)) (omega (arith, h.counts.swaps, h.at_best.swaps, g.met.S.UndoStore.counts_fit s.tour.tour)) h.counts.undo_swaps h.counts.copied d.small;
+      settles = settles (length (best_of s.best)) d.trial.0.flips d.trial.0.swaps 0 d.trial.0.flips d.trial.0.swaps
+          s.totals _ _ _ d.trial.1 d.counts refl h.slots (omega (arith, h.at_best.flips)) (omega arith)
+          (omega (arith, h.counts.swaps, g.met.S.UndoStore.counts_fit s.tour.tour))
+          (omega (arith, h.counts.swaps, h.at_best.swaps, g.met.S.UndoStore.counts_fit s.tour.tour)) h.counts.undo_swaps
+          h.counts.copied d.small;
       few = omega (arith, d.trial.0.few);
       less = shorter_best _ _ _ _ _ _ _ _ d.trial.0;
       same = same_best _ _ _ _ _ _ _ _ d.trial.0;
@@ -80,15 +97,25 @@ returns-clause-holds g c =
     let dist : ℕ → ℕ → ℕ = g.M.Metric.distance c.args.metric.now in
     let best : List ℕ = best_of c.descend-2.new.self.best in
     let Adds : Totals → Type 0 = λ v. AddsTrial v c.descend-2.new.self.totals r (gain_of r) in
-    let Bounded : Best → Type 0 = λ v. IsBoundedTrial (length (best_of v)) c.args.near.now.width (length c.kick-before.new.self.waking.queue) c.args.rules r in
+    let Bounded : Best → Type 0 =
+    λ v. IsBoundedTrial (length (best_of v)) c.args.near.now.width (length c.kick-before.new.self.waking.queue)
+    c.args.rules r in
     let n : ℕ = length (best_of s.best) in
     let size : length (cities_of s.tour) ≡ n = ap length h.at_best.order in
-    let turns : swaps_of c.kick-before.new.self.tour ≡ saturated (s.totals.swaps + kick_swaps n k.kicked.0.cuts) = k.kicked.1 ∙ ap (λ v. saturated (swaps_of s.tour + kick_swaps v k.kicked.0.cuts)) size ∙ ap (λ v. saturated (v + kick_swaps n k.kicked.0.cuts)) (sym h.counts.swaps) in
-    let kicks : c.descend-2.new.self.totals.swaps ≡ saturated (s.totals.swaps + kick_swaps n k.kicked.0.cuts) + r.descent.swaps = d.counts.swaps ∙ d.swapped ∙ ap (λ v. v + r.descent.swaps) turns in
-    let back = k.kept.swaps (omega (arith, k.flips, h.at_best.flips, k.kept.slots, h.slots, ap length h.at_best.order)) in
-    let undone : swaps_of c.kick-before.new.self.tour ≡ saturated (s.totals.swaps + swaps_to_rewind c.kick-before.new.self.tour) = omega (arith, k.kept.flipped.swaps_are, h.counts.swaps, back, h.at_best.swaps) in
+    let turns : swaps_of c.kick-before.new.self.tour ≡ saturated (s.totals.swaps + kick_swaps n k.kicked.0.cuts) =
+    k.kicked.1 ∙ ap (λ v. saturated (swaps_of s.tour + kick_swaps v k.kicked.0.cuts)) size
+    ∙ ap (λ v. saturated (v + kick_swaps n k.kicked.0.cuts)) (sym h.counts.swaps) in
+    let kicks : c.descend-2.new.self.totals.swaps ≡ saturated
+    (s.totals.swaps + kick_swaps n k.kicked.0.cuts) + r.descent.swaps = d.counts.swaps ∙ d.swapped
+    ∙ ap (λ v. v + r.descent.swaps) turns in
+    let back =
+    k.kept.swaps (omega (arith, k.flips, h.at_best.flips, k.kept.slots, h.slots, ap length h.at_best.order)) in
+    let undone : swaps_of c.kick-before.new.self.tour ≡ saturated
+    (s.totals.swaps + swaps_to_rewind c.kick-before.new.self.tour) =
+    omega (arith, k.kept.flipped.swaps_are, h.counts.swaps, back, h.at_best.swaps) in
     let Less : Best → Type 0 = λ v. tour_length dist best < tour_length dist (best_of v) in
-    searches_kicked _ _ _ _ s c.descend-2.new.self _ (4 + d.trial.0.flips) (kick_swaps n k.kicked.0.cuts + d.trial.0.swaps) r h
+    searches_kicked _ _ _ _ s c.descend-2.new.self _ (4 + d.trial.0.flips)
+    (kick_swaps n k.kicked.0.cuts + d.trial.0.swaps) r h
     (record {
       size = d.size.0 ∙ ap (λ v. length (best_of v)) k.others.0;
       slots = d.size.1 ∙ k.kept.slots;
@@ -99,9 +126,17 @@ returns-clause-holds g c =
       shortest = d.shortest;
       counts = d.counts;
       adds = subst Adds k.others.2 d.adds;
-      bounded = more_awake _ _ _ _ _ _ (λ o. few_ends s.waking.queue c.kick-before.new.self.waking.queue (cities_of s.tour) (length (cities_of s.tour)) k.kicked.0.cuts h.asleep (k.kicked.0.ends o)) (subst Bounded k.others.0 d.bounded);
+      bounded =
+          more_awake _ _ _ _ _ _ (λ o. few_ends s.waking.queue c.kick-before.new.self.waking.queue (cities_of s.tour)
+          (length (cities_of s.tour)) k.kicked.0.cuts h.asleep (k.kicked.0.ends o))
+          (subst Bounded k.others.0 d.bounded);
       swapped = omega (arith, kicks, kick_few n k.kicked.0.cuts);
-      settles = settles n (4 + d.trial.0.flips) (kick_swaps n k.kicked.0.cuts + d.trial.0.swaps) (kick_swaps n k.kicked.0.cuts) d.trial.0.flips d.trial.0.swaps s.totals c.kick-before.new.self c.descend-2.new.self r d.trial.1 d.counts (ap (λ v. length (best_of v)) k.others.0) (k.kept.slots ∙ h.slots) (omega (arith, k.flips, h.at_best.flips)) refl turns undone (h.counts.undo_swaps ∙ sym k.kept.flipped.undo_swaps) (omega (arith, h.counts.copied, k.kept.flipped.copied, ap copied_to k.others.0)) d.small;
+      settles = settles n (4 + d.trial.0.flips) (kick_swaps n k.kicked.0.cuts + d.trial.0.swaps)
+          (kick_swaps n k.kicked.0.cuts) d.trial.0.flips d.trial.0.swaps s.totals c.kick-before.new.self
+          c.descend-2.new.self r d.trial.1 d.counts (ap (λ v. length (best_of v)) k.others.0) (k.kept.slots ∙ h.slots)
+          (omega (arith, k.flips, h.at_best.flips)) refl turns undone (h.counts.undo_swaps
+          ∙ sym k.kept.flipped.undo_swaps)
+          (omega (arith, h.counts.copied, k.kept.flipped.copied, ap copied_to k.others.0)) d.small;
       few = omega (arith, d.trial.0.few);
       less = λ e. subst Less k.others.0 (shorter_best _ _ _ _ _ _ _ _ d.trial.0 e);
       same = λ e. same_best _ _ _ _ _ _ _ _ d.trial.0 e ∙ ap (λ v. tour_length dist (best_of v)) k.others.0;
@@ -121,16 +156,27 @@ returns-clause-next g c =
     let words : Stream = g.R.Rng.stream c.args.rng.now in
     let rest : Stream = g.R.Rng.stream c.kick-before.new.rng in
     let kick = kick_at _ _ _ _ tour awake words rest c.args.rules.sweep h.at_best.order h.asleep k.kicked.0 in
-    let t = trial_at dist (near_of c.args.near.now) c.args.rules tour tour awake awake (best_of c.kick-before.new.self.best) (best_of s.best) (best_of c.descend-2.new.self.best) r refl refl (ap best_of k.others.0) d.trial.0 in
+    let t =
+    trial_at dist (near_of c.args.near.now) c.args.rules tour tour awake awake (best_of c.kick-before.new.self.best)
+    (best_of s.best) (best_of c.descend-2.new.self.best) r refl refl (ap best_of k.others.0) d.trial.0 in
     let Adds : Totals → Type 0 = λ v. AddsTrial v c.descend-2.new.self.totals r (gain_of r) in
     let a = subst Adds k.others.2 d.adds in
-    let Bounded : Best → Type 0 = λ v. IsBoundedTrial (length (best_of v)) c.args.near.now.width (length c.kick-before.new.self.waking.queue) c.args.rules r in
+    let Bounded : Best → Type 0 =
+    λ v. IsBoundedTrial (length (best_of v)) c.args.near.now.width (length c.kick-before.new.self.waking.queue)
+    c.args.rules r in
     let n : ℕ = length (best_of s.best) in
     let size : length (cities_of s.tour) ≡ n = ap length h.at_best.order in
-    let turns : swaps_of c.kick-before.new.self.tour ≡ saturated (s.totals.swaps + kick_swaps n k.kicked.0.cuts) = k.kicked.1 ∙ ap (λ v. saturated (swaps_of s.tour + kick_swaps v k.kicked.0.cuts)) size ∙ ap (λ v. saturated (v + kick_swaps n k.kicked.0.cuts)) (sym h.counts.swaps) in
-    let kicks : c.descend-2.new.self.totals.swaps ≡ saturated (s.totals.swaps + kick_swaps n k.kicked.0.cuts) + r.descent.swaps = d.counts.swaps ∙ d.swapped ∙ ap (λ v. v + r.descent.swaps) turns in
-    let back = k.kept.swaps (omega (arith, k.flips, h.at_best.flips, k.kept.slots, h.slots, ap length h.at_best.order)) in
-    let undone : swaps_of c.kick-before.new.self.tour ≡ saturated (s.totals.swaps + swaps_to_rewind c.kick-before.new.self.tour) = omega (arith, k.kept.flipped.swaps_are, h.counts.swaps, back, h.at_best.swaps) in
+    let turns : swaps_of c.kick-before.new.self.tour ≡ saturated (s.totals.swaps + kick_swaps n k.kicked.0.cuts) =
+    k.kicked.1 ∙ ap (λ v. saturated (swaps_of s.tour + kick_swaps v k.kicked.0.cuts)) size
+    ∙ ap (λ v. saturated (v + kick_swaps n k.kicked.0.cuts)) (sym h.counts.swaps) in
+    let kicks : c.descend-2.new.self.totals.swaps ≡ saturated
+    (s.totals.swaps + kick_swaps n k.kicked.0.cuts) + r.descent.swaps = d.counts.swaps ∙ d.swapped
+    ∙ ap (λ v. v + r.descent.swaps) turns in
+    let back =
+    k.kept.swaps (omega (arith, k.flips, h.at_best.flips, k.kept.slots, h.slots, ap length h.at_best.order)) in
+    let undone : swaps_of c.kick-before.new.self.tour ≡ saturated
+    (s.totals.swaps + swaps_to_rewind c.kick-before.new.self.tour) =
+    omega (arith, k.kept.flipped.swaps_are, h.counts.swaps, back, h.at_best.swaps) in
     let four : k.kept.flipped.flips ≡ 4 = omega (arith, k.kept.flips, k.flips, h.at_best.flips) in
     kicked (omega arith) (omega (arith, ap length h.at_best.order))
     (record {
@@ -144,7 +190,15 @@ returns-clause-next g c =
       flips = omega (arith, d.trial.1.flips_are, k.kept.flipped.flips_are, four, t.1);
       swaps = kicks ∙ ap (λ v. saturated (s.totals.swaps + kick_swaps n v) + r.descent.swaps) (sym kick.1);
       settles =
-          settles n (4 + t.0.flips) (kick_swaps n kick.0.cuts + t.0.swaps) (kick_swaps n k.kicked.0.cuts) d.trial.0.flips d.trial.0.swaps s.totals c.kick-before.new.self c.descend-2.new.self r d.trial.1 d.counts (ap (λ v. length (best_of v)) k.others.0) (k.kept.slots ∙ h.slots) (omega (arith, t.1, k.flips, h.at_best.flips))
-          (ap (λ v. kick_swaps n v + t.0.swaps) kick.1 ∙ ap (λ v. kick_swaps n k.kicked.0.cuts + v) t.2) turns undone (h.counts.undo_swaps ∙ sym k.kept.flipped.undo_swaps) (omega (arith, h.counts.copied, k.kept.flipped.copied, ap copied_to k.others.0)) d.small;
-      bounded = more_awake _ _ _ _ _ _ (λ o. few_ends s.waking.queue c.kick-before.new.self.waking.queue (cities_of s.tour) (length (cities_of s.tour)) k.kicked.0.cuts h.asleep (k.kicked.0.ends o)) (subst Bounded k.others.0 d.bounded);
+          settles n (4 + t.0.flips) (kick_swaps n kick.0.cuts + t.0.swaps) (kick_swaps n k.kicked.0.cuts)
+          d.trial.0.flips d.trial.0.swaps s.totals c.kick-before.new.self c.descend-2.new.self r d.trial.1 d.counts
+          (ap (λ v. length (best_of v)) k.others.0) (k.kept.slots ∙ h.slots)
+          (omega (arith, t.1, k.flips, h.at_best.flips))
+          (ap (λ v. kick_swaps n v + t.0.swaps) kick.1 ∙ ap (λ v. kick_swaps n k.kicked.0.cuts + v) t.2) turns undone
+          (h.counts.undo_swaps ∙ sym k.kept.flipped.undo_swaps)
+          (omega (arith, h.counts.copied, k.kept.flipped.copied, ap copied_to k.others.0)) d.small;
+      bounded =
+          more_awake _ _ _ _ _ _ (λ o. few_ends s.waking.queue c.kick-before.new.self.waking.queue (cities_of s.tour)
+          (length (cities_of s.tour)) k.kicked.0.cuts h.asleep (k.kicked.0.ends o))
+          (subst Bounded k.others.0 d.bounded);
     })

@@ -8,17 +8,22 @@ loop-c-init c = rw c.new-cities.ensures.items (OnWay-init _ _ _ c.args.end c.req
 
 pub neighbour_past-next-requires-clause-city : goal.neighbour_past-next-requires-clause-city
 neighbour_past-next-requires-clause-city c =
-    let h = OnWay-city _ (at c.args.self.now.one.items) (at c.args.self.now.two.items) c.args.end c.loop-c.cities.items c.loop-c.before c.loop-c.c c.loop-c.invariant c.loop-c-test.true in
+    let h = OnWay-city _ (at c.args.self.now.one.items) (at c.args.self.now.two.items) c.args.end c.loop-c.cities.items
+    c.loop-c.before c.loop-c.c c.loop-c.invariant c.loop-c-test.true in
     omega (arith, h.0)
 
 pub loop-c-smaller : goal.loop-c-smaller
 loop-c-smaller c =
-    let h = OnWay-city _ (at c.args.self.now.one.items) (at c.args.self.now.two.items) c.args.end c.loop-c.cities.items c.loop-c.before c.loop-c.c c.loop-c.invariant c.loop-c-test.true in
+    let h = OnWay-city _ (at c.args.self.now.one.items) (at c.args.self.now.two.items) c.args.end c.loop-c.cities.items
+    c.loop-c.before c.loop-c.c c.loop-c.invariant c.loop-c-test.true in
     omega (arith, h.0, h.1, c.in_ok-push.ensures.len, c.loop-c.cities.ok.0)
 
 pub loop-c-preserved : goal.loop-c-preserved
 loop-c-preserved c =
-    rw c.in_ok-push.ensures.items (OnWay-more _ (at c.args.self.now.one.items) (at c.args.self.now.two.items) c.args.end c.loop-c.cities.items c.loop-c.before c.loop-c.c _ c.loop-c.invariant c.loop-c-test.true c.neighbour_past-next.ensures)
+    rw c.in_ok-push.ensures.items
+    (OnWay-more _ (at c.args.self.now.one.items) (at c.args.self.now.two.items) c.args.end c.loop-c.cities.items
+    c.loop-c.before c.loop-c.c _ c.loop-c.invariant c.loop-c-test.true c.neighbour_past-next.ensures)
 
 pub returns : goal.returns
-returns c = OnWay-end _ (at c.args.self.now.one.items) (at c.args.self.now.two.items) c.args.end c.loop-c.cities.items c.loop-c.before c.loop-c.c c.loop-c.invariant c.loop-c-test.false
+returns c = OnWay-end _ (at c.args.self.now.one.items) (at c.args.self.now.two.items) c.args.end c.loop-c.cities.items
+    c.loop-c.before c.loop-c.c c.loop-c.invariant c.loop-c-test.false

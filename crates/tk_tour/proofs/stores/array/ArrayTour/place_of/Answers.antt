@@ -8,7 +8,8 @@ returns-clause-within c =
     let s = c.args.self.now in
     let h = city_at_place s.order.items s.place.items c.args.c s.tour.2 s.inverse c.requires.0 c.requires.1 in
     let e : c.index.result.now ≡ get_or s.place.items (c.args.c - 1) 0 =
-    get_or_read s.place.items (c.args.c - 1) c.index.result.now (omega (arith, s.inverse.0, c.requires)) c.index.ensures 0 in
+    get_or_read s.place.items (c.args.c - 1) c.index.result.now (omega (arith, s.inverse.0, c.requires))
+    c.index.ensures 0 in
     omega (arith, e, h.0)
 
 pub returns-clause-city : goal.returns-clause-city
@@ -16,5 +17,6 @@ returns-clause-city c =
     let s = c.args.self.now in
     let h = city_at_place s.order.items s.place.items c.args.c s.tour.2 s.inverse c.requires.0 c.requires.1 in
     let e : c.index.result.now ≡ get_or s.place.items (c.args.c - 1) 0 =
-    get_or_read s.place.items (c.args.c - 1) c.index.result.now (omega (arith, s.inverse.0, c.requires)) c.index.ensures 0 in
+    get_or_read s.place.items (c.args.c - 1) c.index.result.now (omega (arith, s.inverse.0, c.requires))
+    c.index.ensures 0 in
     ap (λ v. get_or s.order.items v 0) e ∙ h.1

@@ -8,16 +8,25 @@ use Rattle.tk_tour.specs.ReversalLaws.{AreReversed-one}
 use Rattle.tk_tour.proofs.StoredTours.Cuts.{TwoOptMove-from_steps}
 use Rattle.tk_tour.proofs.StoredTours.Flips.{backward, only_backward, ReplacesSteps-backward, IsShorterSide-backward}
 use Rattle.tk_tour.proofs.stores.array.ArrayTourTourStore.flip.Goals as goal
-use Rattle.tk_tour.proofs.stores.array.ArrayTourTourStore.flip.Goals.{then-next-b+then-next-d, else-next-b, else-next-b-via-then-next-b+else-next-d, else-next-b-via-else-next-b}
+use Rattle.tk_tour.proofs.stores.array.ArrayTourTourStore.flip.Goals.{then-next-b+then-next-d, else-next-b}
+use Rattle.tk_tour.proofs.stores.array.ArrayTourTourStore.flip.Goals.{else-next-b-via-then-next-b+else-next-d}
+use Rattle.tk_tour.proofs.stores.array.ArrayTourTourStore.flip.Goals.{else-next-b-via-else-next-b}
 
 pub shorter_side-requires-else-next-b : goal.shorter_side-requires-else-next-b
 shorter_side-requires-else-next-b c =
     let s = c.args.self.now in
     let r = c.requires in
-    let not_ahead : c.args.b ≡ next_city s.order.items c.args.a → c.args.d ≡ next_city s.order.items c.args.c → ⊥ = λ e f.
-    elim c.else-next-b.branch [ else-next-b-via-then-next-b+else-next-d w ↦ w.if-next-d.false (w.next-then-next-b.ensures ∙ sym f) | else-next-b-via-else-next-b w ↦ w.if-next-b.false (c.next.ensures ∙ sym e) ] in
+    let not_ahead : c.args.b ≡ next_city s.order.items c.args.a →
+    c.args.d ≡ next_city s.order.items c.args.c → ⊥ = λ e f.
+    elim c.else-next-b.branch [
+      | else-next-b-via-then-next-b+else-next-d w ↦ w.if-next-d.false
+          (w.next-then-next-b.ensures ∙ sym f)
+      | else-next-b-via-else-next-b w ↦ w.if-next-b.false (c.next.ensures
+          ∙ sym e)
+    ] in
     let k = only_backward s.order.items c.args.a c.args.b c.args.c c.args.d r not_ahead in
-    let f = backward s.order.items s.place.items c.args.a c.args.b c.args.c c.args.d s.tour.2 s.inverse r.a_in r.c_in r.apart k.0 k.1 in
+    let f = backward s.order.items s.place.items c.args.a c.args.b c.args.c c.args.d s.tour.2 s.inverse r.a_in r.c_in
+    r.apart k.0 k.1 in
     record { a_in = f.a_in; c_in = f.c_in; apart = f.apart; b_after = f.b_after; d_after = f.d_after }
 
 pub returns-clause-steps : goal.returns-clause-steps
@@ -26,10 +35,13 @@ returns-clause-steps c =
     let P : List ℕ → Type 0 = λ v. ReplacesSteps xs v c.args.a c.args.b c.args.c c.args.d in
     elim c.if-next-b.branch [
       | then-next-b+then-next-d w ↦
-          subst P (sym (c.reverse.ensures.order ∙ ap (λ v. reversed_places v.0 v.1 xs) w.first-is)) w.shorter_side.ensures.steps
+          subst P (sym (c.reverse.ensures.order ∙ ap (λ v. reversed_places v.0 v.1 xs) w.first-is))
+          w.shorter_side.ensures.steps
       | else-next-b w ↦
           subst P (sym (c.reverse.ensures.order ∙ ap (λ v. reversed_places v.0 v.1 xs) w.first-is))
-          (ReplacesSteps-backward xs (reversed_places w.shorter_side-else-next-b.result.0 w.shorter_side-else-next-b.result.1 xs) c.args.a c.args.b c.args.c c.args.d w.shorter_side-else-next-b.ensures.steps)
+          (ReplacesSteps-backward xs
+          (reversed_places w.shorter_side-else-next-b.result.0 w.shorter_side-else-next-b.result.1 xs) c.args.a
+          c.args.b c.args.c c.args.d w.shorter_side-else-next-b.ensures.steps)
     ]
 
 pub returns-clause-side : goal.returns-clause-side
@@ -40,7 +52,8 @@ returns-clause-side c =
       | then-next-b+then-next-d w ↦ subst P (sym (ap (λ v. v.1) w.first-is)) w.shorter_side.ensures.side
       | else-next-b w ↦
           subst P (sym (ap (λ v. v.1) w.first-is))
-          (IsShorterSide-backward xs w.shorter_side-else-next-b.result.1 c.args.a c.args.b c.args.c c.args.d w.shorter_side-else-next-b.ensures.side)
+          (IsShorterSide-backward xs w.shorter_side-else-next-b.result.1 c.args.a c.args.b c.args.c c.args.d
+          w.shorter_side-else-next-b.ensures.side)
     ]
 
 pub returns-clause-made : goal.returns-clause-made
@@ -56,10 +69,13 @@ returns-clause-undone c =
     let e : first + 1 - 1 ≡ first = omega arith in
     let bounds : (first < length xs) × (2 * count ≤ length xs) =
     elim c.if-next-b.branch [
-      | then-next-b+then-next-d w ↦ let k = w.shorter_side.ensures in (omega (arith, ap (λ v. v.0) w.first-is, k.within), omega (arith, ap (λ v. v.1) w.first-is, k.shorter))
-      | else-next-b w ↦ let k = w.shorter_side-else-next-b.ensures in (omega (arith, ap (λ v. v.0) w.first-is, k.within), omega (arith, ap (λ v. v.1) w.first-is, k.shorter))
+      | then-next-b+then-next-d w ↦ let k = w.shorter_side.ensures in
+          (omega (arith, ap (λ v. v.0) w.first-is, k.within), omega (arith, ap (λ v. v.1) w.first-is, k.shorter))
+      | else-next-b w ↦ let k = w.shorter_side-else-next-b.ensures in
+          (omega (arith, ap (λ v. v.0) w.first-is, k.within), omega (arith, ap (λ v. v.1) w.first-is, k.shorter))
     ] in
-    ap (λ v. reversed_places v count ys) e ∙ reversed_places-undone first count xs ys c.reverse.ensures.order (omega arith) (omega arith)
+    ap (λ v. reversed_places v count ys) e
+    ∙ reversed_places-undone first count xs ys c.reverse.ensures.order (omega arith) (omega arith)
 
 pub returns-clause-places : goal.returns-clause-places
 returns-clause-places c =
@@ -77,8 +93,10 @@ returns-clause-kept c =
     let count = c.if-next-b.first.1 in
     let bounds : (first < length xs) × (2 * count ≤ length xs) =
     elim c.if-next-b.branch [
-      | then-next-b+then-next-d w ↦ let k = w.shorter_side.ensures in (omega (arith, ap (λ v. v.0) w.first-is, k.within), omega (arith, ap (λ v. v.1) w.first-is, k.shorter))
-      | else-next-b w ↦ let k = w.shorter_side-else-next-b.ensures in (omega (arith, ap (λ v. v.0) w.first-is, k.within), omega (arith, ap (λ v. v.1) w.first-is, k.shorter))
+      | then-next-b+then-next-d w ↦ let k = w.shorter_side.ensures in
+          (omega (arith, ap (λ v. v.0) w.first-is, k.within), omega (arith, ap (λ v. v.1) w.first-is, k.shorter))
+      | else-next-b w ↦ let k = w.shorter_side-else-next-b.ensures in
+          (omega (arith, ap (λ v. v.0) w.first-is, k.within), omega (arith, ap (λ v. v.1) w.first-is, k.shorter))
     ] in
     record {
       flips = 1;

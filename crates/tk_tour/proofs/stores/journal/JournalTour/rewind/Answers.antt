@@ -13,7 +13,8 @@ loop-flip-preserved g c =
     let e : h.self.journal.items ≡ rest ++ f ∷ [] = cc in
     let less = swaps_to_undo-push rest h.self.journal.items f e in
     record {
-      settled = ap (undone rest) c.undo.ensures.places ∙ sym (undone_push rest f order) ∙ ap (λ v. undone v order) (sym e) ∙ h.invariant.settled;
+      settled = ap (undone rest) c.undo.ensures.places ∙ sym (undone_push rest f order)
+          ∙ ap (λ v. undone v order) (sym e) ∙ h.invariant.settled;
       slots = h.invariant.slots;
       not_lost = omega (arith, h.invariant.not_lost);
       swaps = c.undo.ensures.others.0 ∙ h.invariant.swaps;
@@ -28,7 +29,13 @@ invariant_of-self-clause-undoes_its_own g c =
     let f = c.in-Some.flip in
     let rest = c.pop.new.self.items in
     let e : h.self.journal.items ≡ rest ++ f ∷ [] = cc in
-    omega (arith, swaps_to_undo-push rest h.self.journal.items f e, c.undo.ensures.undo_swaps, c.undo.ensures.others, h.self.undoes_its_own)
+    omega (
+      arith,
+      swaps_to_undo-push rest h.self.journal.items f e,
+      c.undo.ensures.undo_swaps,
+      c.undo.ensures.others,
+      h.self.undoes_its_own,
+    )
 
 pub invariant_of-self-clause-in_range : goal.invariant_of-self-clause-in_range
 invariant_of-self-clause-in_range g c =
@@ -37,6 +44,7 @@ invariant_of-self-clause-in_range g c =
     let rest = c.pop.new.self.items in
     let order = g.S.TourStore.cities h.self.tour in
     let e : h.self.journal.items ≡ rest ++ f ∷ [] = cc in
-    let n : length (g.S.TourStore.cities c.undo.new.self) ≡ length order = ap length c.undo.ensures.places ∙ length-reversed_places (f.first - 1) f.count order in
+    let n : length (g.S.TourStore.cities c.undo.new.self) ≡ length order = ap length c.undo.ensures.places
+    ∙ length-reversed_places (f.first - 1) f.count order in
     let P : ℕ → Type 0 = λ v. AreFlipsOf v rest in
     subst P (sym n) (AreFlipsOf-fewer (length order) rest h.self.journal.items f e h.self.in_range)

@@ -1,4 +1,5 @@
-use Rattle.std.proofs.Common.{◌≡◌, ◌+◌, ◌<◌, ◌∙◌, ◌++◌, ℕ, List, length, take, drop, ap, sym, subst, arith, get_or, false}
+use Rattle.std.proofs.Common.{◌≡◌, ◌+◌, ◌<◌, ◌∙◌, ◌++◌, ℕ, List, length, take, drop, ap, sym, subst, arith, get_or}
+use Rattle.std.proofs.Common.{false}
 use Rattle.std.specs.Prelude.{sum_by}
 use Rattle.std.proofs.lemmas.Grind.{common_steps}
 use Rattle.std.proofs.lemmas.List.{append-nil}
@@ -9,11 +10,14 @@ use Rattle.tk_tour.proofs.SeenTours.Searching.{start_is, sum_all, sum_more, sum_
 use Rattle.tk_tour.proofs.stores.segments.joining.join_runs.Goals as goal
 
 -- a run begins within the array
-begins_in : (n k : ℕ) (xs : List Run) (run : Run) → AreLaidOut n xs → k < length xs → run ≡ get_or xs k run → (run.start < n) × (run.start ≡ sum_by size_of (take k xs))
+begins_in : (n k : ℕ) (xs : List Run) (run : Run) → AreLaidOut n xs → k < length xs → run ≡ get_or xs k run →
+    (run.start < n) × (run.start ≡ sum_by size_of (take k xs))
 begins_in n k xs run laid lt e =
     let w = laid.within k run lt in
-    let s : run.start ≡ sum_by size_of (take k xs) = ap (λ (r : Run). r.start) e ∙ start_is n k xs run laid lt in
-    (omega (arith, s, sum_more k xs run lt, w, sum_mono (k + 1) (length xs) xs (omega (arith, lt)), sum_all n xs laid), s)
+    let s : run.start ≡ sum_by size_of (take k xs) = ap (λ (r : Run). r.start) e ∙ start_is n k xs run laid lt in (
+      omega (arith, s, sum_more k xs run lt, w, sum_mono (k + 1) (length xs) xs (omega (arith, lt)), sum_all n xs laid),
+      s,
+    )
 
 pub returns-then-k-len-clause-first : goal.returns-then-k-len-clause-first
 returns-then-k-len-clause-first c =
@@ -21,10 +25,17 @@ returns-then-k-len-clause-first c =
     let lt : c.args.k < length xs = omega (arith, c.requires.index, c.args.runs.now.ok.0) in
     let none : Run = record { low = 0; high = 0; start = 0; id = 0; next = 0; back = false } in
     let w = c.requires.laid.within c.args.k none lt in
-    omega (arith, sum_more c.args.k xs none lt, w, sum_mono (c.args.k + 1) (length xs) xs (omega (arith, lt)), sum_all c.args.size xs c.requires.laid)
+    omega (
+      arith,
+      sum_more c.args.k xs none lt,
+      w,
+      sum_mono (c.args.k + 1) (length xs) xs (omega (arith, lt)),
+      sum_all c.args.size xs c.requires.laid,
+    )
 
 pub returns-then-k-len-clause-shown : goal.returns-then-k-len-clause-shown
-returns-then-k-len-clause-shown c = λ order le. c.join_parts.ensures.shown order ∙ sym (append-nil (shown order c.args.runs.now.items))
+returns-then-k-len-clause-shown c = λ order le. c.join_parts.ensures.shown order
+    ∙ sym (append-nil (shown order c.args.runs.now.items))
 
 pub returns-clause-first : goal.returns-clause-first
 returns-clause-first c =
@@ -52,7 +63,8 @@ returns-clause-names c = λ names.
     let new = c.begin_run.new.runs in
     let w : take c.args.runs.now.len (new ++ drop (length new) xs) ≡ new = grind (arith, common_steps) in
     let P : List Run → Type 0 = λ u. HaveNames u in
-    c.join_parts-2.ensures.names (subst P (sym w) (c.begin_run.ensures.names (subst P (sym c.deref_mut.ensures.value) names)))
+    c.join_parts-2.ensures.names (subst P (sym w)
+    (c.begin_run.ensures.names (subst P (sym c.deref_mut.ensures.value) names)))
 
 pub returns-clause-found : goal.returns-clause-found
 returns-clause-found c = λ names found.

@@ -12,5 +12,6 @@ loop-index-preserved c =
     let h = c.loop-index in
     record {
       same_length = length-set h.home _ h.index ∙ h.invariant.same_length;
-      named = named_more c.args.runs.now h.home h.index none c.requires.names c.loop-index-test.true (omega (arith, h.invariant.same_length, c.requires.many)) h.invariant.named;
+      named = named_more c.args.runs.now h.home h.index none c.requires.names c.loop-index-test.true
+          (omega (arith, h.invariant.same_length, c.requires.many)) h.invariant.named;
     }

@@ -12,7 +12,12 @@ loop-high-preserved-then-runs-middle c =
     let middle : ℕ = h.low + (h.high - h.low) / 2 in
     let lt : middle < h.high = omega (arith, c.loop-high-test.true) in
     let s = start_is c.args.size middle c.args.runs.now none c.requires.laid (omega (arith, lt, h.invariant.high_in)) in
-    record { order = lt; high_in = h.invariant.high_in; from = omega (arith, s, c.if-runs-middle.true); to = h.invariant.to }
+    record {
+      order = lt;
+      high_in = h.invariant.high_in;
+      from = omega (arith, s, c.if-runs-middle.true);
+      to = h.invariant.to;
+    }
 
 pub loop-high-preserved : goal.loop-high-preserved
 loop-high-preserved c =
@@ -20,4 +25,9 @@ loop-high-preserved c =
     let middle : ℕ = h.low + (h.high - h.low) / 2 in
     let lt : middle < h.high = omega (arith, c.loop-high-test.true) in
     let s = start_is c.args.size middle c.args.runs.now none c.requires.laid (omega (arith, lt, h.invariant.high_in)) in
-    record { order = omega (arith, c.loop-high-test.true); high_in = omega (arith, lt, h.invariant.high_in); from = h.invariant.from; to = omega (arith, s, c.if-runs-middle.false) }
+    record {
+      order = omega (arith, c.loop-high-test.true);
+      high_in = omega (arith, lt, h.invariant.high_in);
+      from = h.invariant.from;
+      to = omega (arith, s, c.if-runs-middle.false);
+    }

@@ -16,7 +16,13 @@ overflow_sub-v c =
 pub place_in-requires-clause-inside : goal.place_in-requires-clause-inside
 place_in-requires-clause-inside c =
     let h = c.index_at-index in
-    omega (arith, start_is c.args.size h.result c.args.runs.now none c.requires.laid h.ensures.index_in, h.ensures.from, h.ensures.to, sum_more h.result c.args.runs.now none h.ensures.index_in)
+    omega (
+      arith,
+      start_is c.args.size h.result c.args.runs.now none c.requires.laid h.ensures.index_in,
+      h.ensures.from,
+      h.ensures.to,
+      sum_more h.result c.args.runs.now none h.ensures.index_in,
+    )
 
 pub returns : goal.returns
 returns c =
@@ -28,6 +34,8 @@ returns c =
       index_in = h.ensures.index_in;
       from = h.ensures.from;
       to = h.ensures.to;
-      place_is = λ d. c.place_in.ensures.place ∙ ap (λ u. shown_place u (c.args.v - u.start)) (get_or_default r h.result none d h.ensures.index_in)
-          ∙ ap (λ u. shown_place (get_or r h.result d) (c.args.v - u)) (start_is c.args.size h.result r d c.requires.laid h.ensures.index_in);
+      place_is = λ d. c.place_in.ensures.place
+          ∙ ap (λ u. shown_place u (c.args.v - u.start)) (get_or_default r h.result none d h.ensures.index_in)
+          ∙ ap (λ u. shown_place (get_or r h.result d) (c.args.v - u))
+          (start_is c.args.size h.result r d c.requires.laid h.ensures.index_in);
     }

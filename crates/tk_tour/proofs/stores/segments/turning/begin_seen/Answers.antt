@@ -10,4 +10,6 @@ returns-clause-found c = λ found.
     let new = c.begin_run.new.runs in
     let w : take cut.runs.len (new ++ drop (length new) cut.runs.items) ≡ new = grind (arith, common_steps) in
     let P : List Run → Type 0 = λ u. CanBeFound c.args.size 32 u cut.table in
-    subst P (sym w) (c.begin_run.ensures.found cut.table (subst P (sym c.deref_mut.ensures.value) (c.cut_runs-k.ensures.found found)))
+    subst P (sym w)
+    (c.begin_run.ensures.found cut.table
+    (subst P (sym c.deref_mut.ensures.value) (c.cut_runs-k.ensures.found found)))

@@ -14,6 +14,7 @@ loop-k-preserved c =
     let lt : h.k < length xs = c.loop-k-test.true in
     let more = sum_sizes-more h.k xs h.runs c.args.v none lt h.invariant.runs in
     record {
-      runs = placed-more c.args.v h.v h.k xs h.runs (get_or h.runs h.k none) none lt h.invariant.runs h.invariant.v more.0;
+      runs = placed-more c.args.v h.v h.k xs h.runs (get_or h.runs h.k none) none lt h.invariant.runs
+          h.invariant.v more.0;
       v = omega (arith, h.invariant.v, more.1, ap size_of more.0);
     }

@@ -13,4 +13,5 @@ loop-k-preserved c =
     let h = c.loop-k in
     let x : Run = get_or h.runs h.k none in
     let lt : h.k < length h.runs = omega (arith, h.auto.runs, c.loop-k-test.true) in
-    map_over_more turned c.reverse.new.self h.runs h.k x (omega (arith, c.loop-k-test.true)) h.invariant (get_or_default h.runs h.k none x lt)
+    map_over_more turned c.reverse.new.self h.runs h.k x (omega (arith, c.loop-k-test.true)) h.invariant
+    (get_or_default h.runs h.k none x lt)

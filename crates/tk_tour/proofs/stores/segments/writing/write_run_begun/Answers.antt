@@ -15,10 +15,12 @@ returns-then-run-begin c =
     let run = c.args.run in
     let list = c.args.list.now in
     let part = shown_by c.args.order.now run in
-    let size : length part ≡ size_of run = length-shown_by n c.args.order.now run c.requires.within (omega (arith, c.requires.length)) in
+    let size : length part ≡ size_of run =
+    length-shown_by n c.args.order.now run c.requires.within (omega (arith, c.requires.length)) in
     let given : c.write_run.new.list ≡ put_in (run.start + m) part list =
     c.write_run.ensures ∙ ap (λ u. take (run.start + m) list ++ (part ++ drop (run.start + m + u) list)) (sym size) in
-    written_before n c.args.begin run.start list part c.write_run.new.list c.requires.list (omega (arith, c.requires.begin)) (omega (arith, size, c.if-run-begin.true)) given
+    written_before n c.args.begin run.start list part c.write_run.new.list c.requires.list
+    (omega (arith, c.requires.begin)) (omega (arith, size, c.if-run-begin.true)) given
     ∙ ap (λ u. take run.start (begun_at m list) ++ (part ++ drop (run.start + u) (begun_at m list))) size
 
 pub returns-then-begin-run : goal.returns-then-begin-run
@@ -30,10 +32,13 @@ returns-then-begin-run c =
     let list = c.args.list.now in
     let new = c.write_run-then-begin-run.new.list in
     let part = shown_by c.args.order.now run in
-    let size : length part ≡ size_of run = length-shown_by n c.args.order.now run c.requires.within (omega (arith, c.requires.length)) in
+    let size : length part ≡ size_of run =
+    length-shown_by n c.args.order.now run c.requires.within (omega (arith, c.requires.length)) in
     let given : new ≡ put_in (run.start - b) part list =
-    c.write_run-then-begin-run.ensures ∙ ap (λ u. take (run.start - b) list ++ (part ++ drop (run.start - b + u) list)) (sym size) in
-    written_after n b run.start list part new c.requires.list c.if-begin-run.true (omega (arith, size, c.requires.fits)) given
+    c.write_run-then-begin-run.ensures ∙ ap (λ u. take (run.start - b) list ++ (part ++ drop (run.start - b + u) list))
+    (sym size) in
+    written_after n b run.start list part new c.requires.list c.if-begin-run.true
+    (omega (arith, size, c.requires.fits)) given
     ∙ ap (λ u. take run.start (begun_at m list) ++ (part ++ drop (run.start + u) (begun_at m list))) size
 
 pub returns-else-begin-run : goal.returns-else-begin-run
@@ -54,8 +59,10 @@ returns-else-begin-run c =
     let first = shown_by order one in
     let second = shown_by order two in
     let l1 : length first ≡ size_of one = length-shown_by n order one p.within_one (omega (arith, c.requires.length)) in
-    let l2 : length second ≡ size_of two = length-shown_by n order two p.within_two (omega (arith, c.requires.length)) in
-    let size : length part ≡ size_of run = length-shown_by n order run c.requires.within (omega (arith, c.requires.length)) in
+    let l2 : length second ≡ size_of two =
+    length-shown_by n order two p.within_two (omega (arith, c.requires.length)) in
+    let size : length part ≡ size_of run =
+    length-shown_by n order run c.requires.within (omega (arith, c.requires.length)) in
     let d_is : length first ≡ d = l1 ∙ p.sizes.0 in
     let start : one.start ≡ run.start = c.parts_of.ensures.starts.0 in
     let at : one.start + m ≡ run.start + m = ap (λ u. u + m) start in
@@ -66,17 +73,31 @@ returns-else-begin-run c =
     c.write_run-else-begin-run.ensures ∙ ap (λ u. take u list ++ (first ++ drop (u + size_of one) list)) at
     ∙ ap (λ u. take (run.start + m) list ++ (first ++ drop (run.start + m + u) list)) (sym l1) in
     let before : U1 ≡ put_in run.start first U =
-    written_before n b run.start list first mid c.requires.list (omega (arith, c.requires.begin)) (omega (arith, d_is, c.if-begin-run.false)) given1 in
+    written_before n b run.start list first mid c.requires.list (omega (arith, c.requires.begin))
+    (omega (arith, d_is, c.if-begin-run.false)) given1 in
     let lm : length mid ≡ n = sym (length-begun_at m mid) ∙ ap length before
-    ∙ omega (arith, length-append (take run.start U) (first ++ drop (run.start + length first) U), length-append first (drop (run.start + length first) U), length-take-le run.start U (omega (arith, length-begun_at m list, c.requires.list, c.requires.fits)), length-drop (run.start + length first) U, length-begun_at m list, c.requires.list, d_is, c.requires.begin, c.if-begin-run.false) in
+    ∙ omega (
+      arith,
+      length-append (take run.start U) (first ++ drop (run.start + length first) U),
+      length-append first (drop (run.start + length first) U),
+      length-take-le run.start U (omega (arith, length-begun_at m list, c.requires.list, c.requires.fits)),
+      length-drop (run.start + length first) U,
+      length-begun_at m list,
+      c.requires.list,
+      d_is,
+      c.requires.begin,
+      c.if-begin-run.false,
+    ) in
     let none : 0 ≡ b - b = omega arith in
     let given2 : new ≡ put_in (b - b) second mid =
     c.write_run-else-begin-run-2.ensures ∙ ap (λ u. take 0 mid ++ (second ++ drop (0 + u) mid)) (sym l2)
     ∙ ap (λ u. take u mid ++ (second ++ drop (u + length second) mid)) none in
     let after : U2 ≡ put_in b second U1 =
-    written_after n b b mid second new lm (omega arith) (omega (arith, l2, p.sizes, c.requires.fits, c.if-begin-run.false)) given2 in
+    written_after n b b mid second new lm (omega arith)
+    (omega (arith, l2, p.sizes, c.requires.fits, c.if-begin-run.false)) given2 in
     let b_is : b ≡ run.start + length first = omega (arith, d_is, c.if-begin-run.false) in
     let after' : U2 ≡ put_in (run.start + length first) second U1 = after ∙ ap (λ u. put_in u second U1) b_is in
-    written_both run.start U first second U1 U2 (omega (arith, length-begun_at m list, c.requires.list, b_is, c.requires.begin)) before after'
+    written_both run.start U first second U1 U2
+    (omega (arith, length-begun_at m list, c.requires.list, b_is, c.requires.begin)) before after'
     ∙ ap (λ u. put_in run.start u U) (sym (shown_by-parts order d 0 run one two c.parts_of.ensures))
     ∙ ap (λ u. take run.start U ++ (part ++ drop (run.start + u) U)) size

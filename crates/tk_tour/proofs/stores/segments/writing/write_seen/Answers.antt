@@ -11,7 +11,8 @@ none = record { low = 0; high = 0; start = 0; id = 0; next = 0; back = false }
 pub write_run_begun-requires-clause-fits : goal.write_run_begun-requires-clause-fits
 write_run_begun-requires-clause-fits c =
     let h = c.loop-k in
-    let w = written_at c.args.size h.k c.args.runs.now (get_or c.args.runs.now h.k none) none c.requires.laid c.loop-k-test.true refl in
+    let w = written_at c.args.size h.k c.args.runs.now (get_or c.args.runs.now h.k none) none c.requires.laid
+    c.loop-k-test.true refl in
     omega (arith, w.fits)
 
 pub loop-k-preserved : goal.loop-k-preserved
@@ -23,8 +24,12 @@ loop-k-preserved c =
     let new = c.write_run_begun.new.list in
     let size = length-begun_at m h.list ∙ h.invariant.size in
     record {
-      size = sym (length-begun_at m new) ∙ length-written n h.k c.args.runs.now run none c.args.order.now (begun_at m h.list) (begun_at m new) c.requires.laid c.loop-k-test.true refl (omega (arith, c.requires.length)) size c.write_run_begun.ensures;
-      written = written_more n h.k c.args.runs.now run none c.args.order.now (begun_at m h.list) (begun_at m new) c.requires.laid c.loop-k-test.true refl (omega (arith, c.requires.length)) size h.invariant.written c.write_run_begun.ensures;
+      size = sym (length-begun_at m new)
+          ∙ length-written n h.k c.args.runs.now run none c.args.order.now (begun_at m h.list) (begun_at m new)
+          c.requires.laid c.loop-k-test.true refl (omega (arith, c.requires.length)) size c.write_run_begun.ensures;
+      written = written_more n h.k c.args.runs.now run none c.args.order.now (begun_at m h.list) (begun_at m new)
+          c.requires.laid c.loop-k-test.true refl (omega (arith, c.requires.length)) size h.invariant.written
+          c.write_run_begun.ensures;
     }
 
 pub returns : goal.returns
@@ -33,4 +38,5 @@ returns c =
     let n = c.args.size in
     let b = c.args.begin in
     sym (begun_at-back n b h.list h.invariant.size (omega (arith, c.requires.begin)))
-    ∙ ap (begun_at b) (written_all n h.k c.args.runs.now c.args.order.now (begun_at (n - b) h.list) c.requires.laid c.loop-k-test.false (length-begun_at (n - b) h.list ∙ h.invariant.size) h.invariant.written)
+    ∙ ap (begun_at b) (written_all n h.k c.args.runs.now c.args.order.now (begun_at (n - b) h.list) c.requires.laid
+    c.loop-k-test.false (length-begun_at (n - b) h.list ∙ h.invariant.size) h.invariant.written)

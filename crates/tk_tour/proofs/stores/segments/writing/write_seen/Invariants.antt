@@ -7,5 +7,6 @@ use Rattle.tk_tour.proofs.stores.segments.writing.write_seen.Given as goal
 abbrev pub invariant-loop-k : goal.invariant-loop-k
 invariant-loop-k l = record {
   size : length l.list ≡ l.size;
-  written : take (sum_by size_of (take l.k l.runs)) (begun_at (l.size - l.begin) l.list) ≡ shown l.order (take l.k l.runs);
+  written : take (sum_by size_of (take l.k l.runs)) (begun_at (l.size - l.begin) l.list) ≡ shown l.order
+      (take l.k l.runs);
 }

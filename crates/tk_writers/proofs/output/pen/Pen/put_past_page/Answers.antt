@@ -7,7 +7,8 @@ loop-rest-preserved g c =
     let done = c.loop-rest.invariant.0 in
     let piece = c.split_at.result.0.now in
     let rest = c.split_at.result.1.now in
-    let parts : piece ++ rest ≡ c.loop-rest.rest.now = rw (c.split_at.ensures.front, c.split_at.ensures.back) (take-append-drop _ _) in (
+    let parts : piece ++ rest ≡ c.loop-rest.rest.now =
+    rw (c.split_at.ensures.front, c.split_at.ensures.back) (take-append-drop _ _) in (
       done ++ (piece ++ []),
       rw append-nil (append_assoc done piece rest ∙ ap (λ l. done ++ l) parts ∙ c.loop-rest.invariant.1),
       Puts-then _ _ _ _ _ _ _ c.loop-rest.invariant.2

@@ -26,7 +26,8 @@ pub name_runs-requires-clause-names : goal.name_runs-requires-clause-names
 name_runs-requires-clause-names c =
     let s = c.args.self.now in
     let P : List Run → Type 0 = λ u. HaveNames u in
-    subst P (sym c.deref-3.ensures.value) (c.join_runs-first.ensures.names (named_names s.runs.items s.home.items s.named))
+    subst P (sym c.deref-3.ensures.value)
+    (c.join_runs-first.ensures.names (named_names s.runs.items s.home.items s.named))
 
 pub invariant_of-self-2-clause-named : goal.invariant_of-self-2-clause-named
 invariant_of-self-2-clause-named c =
@@ -48,12 +49,17 @@ invariant_of-self-2-clause-found c =
     let P : List Run → Type 0 = λ u. AreNamed u home in
     let named : AreNamed runs home = subst P c.deref-3.ensures.value c.name_runs.ensures.named in
     let Q : List ℕ → Type 0 = λ u. CanBeFound n 32 s.runs.items u in
-    let found : CanBeFound n 32 s.runs.items c.deref_mut.result.now = subst Q (sym c.deref_mut.ensures.value) (found_by_names n 32 s.runs.items s.home.items s.table.items s.found) in
+    let found : CanBeFound n 32 s.runs.items c.deref_mut.result.now =
+    subst Q (sym c.deref_mut.ensures.value) (found_by_names n 32 s.runs.items s.home.items s.table.items s.found) in
     let table = c.join_runs-first.new.table in
     let e1 : take s.table.len (table ++ drop (length table) s.table.items) ≡ table = grind (arith, common_steps) in
-    let R : List ℕ → Type 0 = λ u. AreFound n 32 runs u (take s.table.len (table ++ drop (length table) s.table.items)) in
+    let R : List ℕ → Type 0 =
+    λ u. AreFound n 32 runs u (take s.table.len (table ++ drop (length table) s.table.items)) in
     let S : List ℕ → Type 0 = λ u. AreFound n 32 runs home u in
-    subst R (sym e) (subst S (sym e1) (found_by_home n 32 runs home table named (c.join_runs-first.ensures.found (named_names s.runs.items s.home.items s.named) found)))
+    subst R (sym e)
+    (subst S (sym e1)
+    (found_by_home n 32 runs home table named
+    (c.join_runs-first.ensures.found (named_names s.runs.items s.home.items s.named) found)))
 
 pub invariant_of-self-2-clause-homes : goal.invariant_of-self-2-clause-homes
 invariant_of-self-2-clause-homes c =

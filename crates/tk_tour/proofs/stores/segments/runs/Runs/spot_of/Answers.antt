@@ -9,4 +9,5 @@ spot_of-requires-clause-found c =
     let s = c.args.self.now in
     let P : List Run → Type 0 = λ u. CanBeFound s.size 32 u s.table.items in
     let Q : List ℕ → Type 0 = λ u. CanBeFound s.size 32 c.deref.result.now u in
-    subst Q (sym c.deref-3.ensures.value) (subst P (sym c.deref.ensures.value) (found_by_names s.size 32 s.runs.items s.home.items s.table.items s.found))
+    subst Q (sym c.deref-3.ensures.value)
+    (subst P (sym c.deref.ensures.value) (found_by_names s.size 32 s.runs.items s.home.items s.table.items s.found))

@@ -31,10 +31,12 @@ invariant_of-self-clause-found c =
     let P : List Run → Type 0 = λ u. AreNamed u home in
     let named : AreNamed runs home = subst P c.deref.ensures.value c.name_runs.ensures.named in
     let Q : List ℕ → Type 0 = λ u. CanBeFound n 32 s.runs.items u in
-    let found : CanBeFound n 32 s.runs.items c.deref_mut.result.now = subst Q (sym c.deref_mut.ensures.value) (found_by_names n 32 s.runs.items s.home.items s.table.items s.found) in
+    let found : CanBeFound n 32 s.runs.items c.deref_mut.result.now =
+    subst Q (sym c.deref_mut.ensures.value) (found_by_names n 32 s.runs.items s.home.items s.table.items s.found) in
     let table = c.turn_seen-k.new.table in
     let e1 : take s.table.len (table ++ drop (length table) s.table.items) ≡ table = grind (arith, common_steps) in
-    let R : List ℕ → Type 0 = λ u. AreFound n 32 runs u (take s.table.len (table ++ drop (length table) s.table.items)) in
+    let R : List ℕ → Type 0 =
+    λ u. AreFound n 32 runs u (take s.table.len (table ++ drop (length table) s.table.items)) in
     let S : List ℕ → Type 0 = λ u. AreFound n 32 runs home u in
     subst R (sym e) (subst S (sym e1) (found_by_home n 32 runs home table named (c.turn_seen-k.ensures.found found)))
 

@@ -17,5 +17,6 @@ returns c =
     let s = c.args.self.now in
     let f = facts s in
     let k = spot_is s c.seen_from.result c.spot_at.result c.spot_at.ensures in
-    let e = get_or_read s.order.items c.spot_at.result.place c.index.result.now (omega (arith, k.0, f.order)) c.index.ensures 0 in
+    let e = get_or_read s.order.items c.spot_at.result.place c.index.result.now (omega (arith, k.0, f.order))
+    c.index.ensures 0 in
     sym (list_at s c.args.k c.seen_from.result c.index.result.now c.requires c.seen_from.ensures (k.1 ∙ sym e))

@@ -24,7 +24,8 @@ invariant_of-self-2-clause-tour c =
     let now = c.exchange_seen.new.order in
     let w : take s.order.len (now ++ drop (length now) s.order.items) ≡ now = grind (arith, common_steps) in
     let e : shown now s.runs.runs.items ≡ reversed_places c.args.first c.args.count (seen_of s) =
-    ap (shown now) (sym c.deref.ensures.value) ∙ c.exchange_seen.ensures.shown ∙ ap (λ u. reversed_places c.args.first c.args.count (shown u c.deref.result.now)) c.deref_mut.ensures.value
+    ap (shown now) (sym c.deref.ensures.value) ∙ c.exchange_seen.ensures.shown
+    ∙ ap (λ u. reversed_places c.args.first c.args.count (shown u c.deref.result.now)) c.deref_mut.ensures.value
     ∙ ap (λ u. reversed_places c.args.first c.args.count (shown s.order.items u)) c.deref.ensures.value in
     let P : List ℕ → Type 0 = λ u. IsSizedTour (begun_at s.begin (shown u s.runs.runs.items)) in
     subst P (sym w) (reversed_tour s s.begin c.args.first c.args.count (shown now s.runs.runs.items) e)
@@ -36,10 +37,12 @@ returns-clause-list c = λ k lk h.
     let now = c.exchange_seen.new.order in
     let w : take s.order.len (now ++ drop (length now) s.order.items) ≡ now = grind (arith, common_steps) in
     let e : shown now s.runs.runs.items ≡ reversed_places c.args.first c.args.count (seen_of s) =
-    ap (shown now) (sym c.deref.ensures.value) ∙ c.exchange_seen.ensures.shown ∙ ap (λ u. reversed_places c.args.first c.args.count (shown u c.deref.result.now)) c.deref_mut.ensures.value
+    ap (shown now) (sym c.deref.ensures.value) ∙ c.exchange_seen.ensures.shown
+    ∙ ap (λ u. reversed_places c.args.first c.args.count (shown u c.deref.result.now)) c.deref_mut.ensures.value
     ∙ ap (λ u. reversed_places c.args.first c.args.count (shown s.order.items u)) c.deref.ensures.value in
     ap (λ u. begun_at s.begin (shown u s.runs.runs.items)) w ∙
-    reversed_list s k c.args.first c.args.count (shown now s.runs.runs.items) e lk (omega (arith, f.list, c.requires.first)) (omega (arith, f.list, c.requires.count)) h
+    reversed_list s k c.args.first c.args.count (shown now s.runs.runs.items) e lk
+    (omega (arith, f.list, c.requires.first)) (omega (arith, f.list, c.requires.count)) h
 
 pub invariant_of-self-2-clause-inverse : goal.invariant_of-self-2-clause-inverse
 invariant_of-self-2-clause-inverse c =

@@ -16,11 +16,13 @@ returns-clause-paid c = λ writes swaps h.
     let f = facts s in
     let g = facts t in
     let n = length (list_of s) in
-    let same : n ≡ c.len-2.result = omega (arith, ap length c.rewrite.ensures.list, g.list, g.order, t.order.ok, c.len-2.ensures) in
+    let same : n ≡ c.len-2.result =
+    omega (arith, ap length c.rewrite.ensures.list, g.list, g.order, t.order.ok, c.len-2.ensures) in
     let full : room_of s + 1 ≤ run_count_of s = omega (arith, c.if-len-self.false, c.len.ensures, s.some) in
     let P : ℕ → Type 0 = λ u. ArePaid n (room_of s) (writes + c.len-2.result) u swaps in
     subst P (sym c.rewrite.ensures.runs)
-    (paid_alike n n (room_of s) (room_of s) (writes + n) (writes + c.len-2.result) 1 swaps swaps refl refl (ap (λ u. writes + u) same) refl
+    (paid_alike n n (room_of s) (room_of s) (writes + n) (writes + c.len-2.result) 1 swaps swaps refl refl
+    (ap (λ u. writes + u) same) refl
     (paid_rewrite n (room_of s) writes (run_count_of s) swaps h full))
 
 pub returns-clause-small : goal.returns-clause-small

@@ -30,8 +30,14 @@ returns-then-v-self-clause-city c =
     let k = c.spot_of-v in
     let a = city_stands s c.args.c c.requires in
     let e = get_or_read s.place.items (c.args.c - 1) c.index.result.now a.0 c.index.ensures 0 in
-    let here = city_of_spot s c.args.c c.index.result.now k.result.1 k.result.0 c.requires e k.ensures.spot k.ensures.place in
-    list_at s _ k.result.1 c.args.c (omega (arith, f.list, s.begins, c.size.ensures, c.if-v-self.true)) (at_place _ s.begin _ k.result.1 (inr (omega (arith, f.list, s.begins, c.size.ensures, c.if-v-self.true), omega (arith, f.list, s.begins, c.size.ensures, c.if-v-self.true)))) here
+    let here = city_of_spot s c.args.c c.index.result.now k.result.1 k.result.0 c.requires e k.ensures.spot
+    k.ensures.place in
+    list_at s _ k.result.1 c.args.c (omega (arith, f.list, s.begins, c.size.ensures, c.if-v-self.true))
+    (at_place _ s.begin _ k.result.1
+    (inr (
+      omega (arith, f.list, s.begins, c.size.ensures, c.if-v-self.true),
+      omega (arith, f.list, s.begins, c.size.ensures, c.if-v-self.true),
+    ))) here
 
 pub returns-else-v-self-clause-within : goal.returns-else-v-self-clause-within
 returns-else-v-self-clause-within c =
@@ -46,5 +52,8 @@ returns-else-v-self-clause-city c =
     let k = c.spot_of-v in
     let a = city_stands s c.args.c c.requires in
     let e = get_or_read s.place.items (c.args.c - 1) c.index.result.now a.0 c.index.ensures 0 in
-    let here = city_of_spot s c.args.c c.index.result.now k.result.1 k.result.0 c.requires e k.ensures.spot k.ensures.place in
-    list_at s _ k.result.1 c.args.c (omega (arith, f.list, k.ensures.inside)) (at_place _ s.begin _ k.result.1 (inl (omega (arith, f.list, k.ensures.inside, c.if-v-self.false), omega (arith, c.if-v-self.false)))) here
+    let here = city_of_spot s c.args.c c.index.result.now k.result.1 k.result.0 c.requires e k.ensures.spot
+    k.ensures.place in
+    list_at s _ k.result.1 c.args.c (omega (arith, f.list, k.ensures.inside))
+    (at_place _ s.begin _ k.result.1
+    (inl (omega (arith, f.list, k.ensures.inside, c.if-v-self.false), omega (arith, c.if-v-self.false)))) here

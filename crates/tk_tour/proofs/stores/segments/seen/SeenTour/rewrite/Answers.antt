@@ -16,7 +16,10 @@ place_each-requires-clause-tour c =
     let list = c.write_seen.new.list in
     let w : take s.spare.len (list ++ drop (length list) s.spare.items) ≡ list = grind (arith, common_steps) in
     let seen : c.swap.new.x.items ≡ seen_of s =
-    ap (λ v. v.items) c.swap.ensures.x_after ∙ w ∙ c.write_seen.ensures ∙ append-nil (shown c.deref.result.now c.deref-2.result.now) ∙ ap (λ u. shown u c.deref-2.result.now) c.deref.ensures.value ∙ ap (shown s.order.items) c.deref-2.ensures.value in
+    ap (λ v. v.items) c.swap.ensures.x_after ∙ w ∙ c.write_seen.ensures
+    ∙ append-nil (shown c.deref.result.now c.deref-2.result.now)
+    ∙ ap (λ u. shown u c.deref-2.result.now) c.deref.ensures.value
+    ∙ ap (shown s.order.items) c.deref-2.ensures.value in
     let P : List ℕ → Type 0 = λ u. IsTour (length u) u in
     let Q : ℕ → Type 0 = λ u. IsTour u (seen_of s) in
     subst P (sym (c.deref-3.ensures.value ∙ seen)) (subst Q (sym f.seen) f.tour)
@@ -28,7 +31,10 @@ invariant_of-self-2-clause-tour c =
     let list = c.write_seen.new.list in
     let w : take s.spare.len (list ++ drop (length list) s.spare.items) ≡ list = grind (arith, common_steps) in
     let seen : c.swap.new.x.items ≡ seen_of s =
-    ap (λ v. v.items) c.swap.ensures.x_after ∙ w ∙ c.write_seen.ensures ∙ append-nil (shown c.deref.result.now c.deref-2.result.now) ∙ ap (λ u. shown u c.deref-2.result.now) c.deref.ensures.value ∙ ap (shown s.order.items) c.deref-2.ensures.value in
+    ap (λ v. v.items) c.swap.ensures.x_after ∙ w ∙ c.write_seen.ensures
+    ∙ append-nil (shown c.deref.result.now c.deref-2.result.now)
+    ∙ ap (λ u. shown u c.deref-2.result.now) c.deref.ensures.value
+    ∙ ap (shown s.order.items) c.deref-2.ensures.value in
     let P : List ℕ → Type 0 = λ u. IsSizedTour (begun_at s.begin u) in
     subst P (sym (c.reset.ensures.shown c.swap.new.x.items (ap length seen ∙ f.seen) ∙ seen)) s.tour
 
@@ -48,5 +54,11 @@ invariant_of-self-2-clause-sizes c =
     let list = c.write_seen.new.list in
     let w : take s.spare.len (list ++ drop (length list) s.spare.items) ≡ list = grind (arith, common_steps) in
     let seen : c.swap.new.x.items ≡ seen_of s =
-    ap (λ v. v.items) c.swap.ensures.x_after ∙ w ∙ c.write_seen.ensures ∙ append-nil (shown c.deref.result.now c.deref-2.result.now) ∙ ap (λ u. shown u c.deref-2.result.now) c.deref.ensures.value ∙ ap (shown s.order.items) c.deref-2.ensures.value in
-    (ap length seen ∙ f.seen ∙ sym c.reset.ensures.limits.0, ap (λ v. length v.items) c.swap.ensures.y_after ∙ f.order ∙ sym c.reset.ensures.limits.0)
+    ap (λ v. v.items) c.swap.ensures.x_after ∙ w ∙ c.write_seen.ensures
+    ∙ append-nil (shown c.deref.result.now c.deref-2.result.now)
+    ∙ ap (λ u. shown u c.deref-2.result.now) c.deref.ensures.value
+    ∙ ap (shown s.order.items) c.deref-2.ensures.value in (
+      ap length seen ∙ f.seen ∙ sym c.reset.ensures.limits.0,
+      ap (λ v. length v.items) c.swap.ensures.y_after ∙ f.order
+          ∙ sym c.reset.ensures.limits.0,
+    )

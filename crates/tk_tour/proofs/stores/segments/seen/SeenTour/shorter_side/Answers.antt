@@ -30,9 +30,14 @@ returns-then-inner-n-clause-steps c =
     let e = c.place_of-end in
     let n = c.size-n.ensures in
     let l : PathLength (length (list_of s)) c.if-start-end.inner b.result e.result =
-    elim c.if-start-end.branch [ then-start-end w ↦ inl (omega arith, omega arith) | else-start-end w ↦ inr (omega arith, omega (arith, n)) ] in
+    elim c.if-start-end.branch [
+      | then-start-end w ↦ inl (omega arith, omega arith)
+      | else-start-end w ↦ inr
+          (omega arith, omega (arith, n))
+    ] in
     (side_inner (list_of s) c.args.a c.args.b c.args.c c.args.d c.if-start-end.inner b.result e.result
-    s.tour.2 r.a_in r.c_in r.apart r.b_after r.d_after b.ensures.within b.ensures.city e.ensures.within e.ensures.city l).2
+    s.tour.2 r.a_in r.c_in r.apart r.b_after r.d_after b.ensures.within b.ensures.city e.ensures.within
+    e.ensures.city l).2
 
 pub returns-clause-steps : goal.returns-clause-steps
 returns-clause-steps c =
@@ -42,11 +47,18 @@ returns-clause-steps c =
     let e = c.place_of-end in
     let n = c.size-n.ensures in
     let l : PathLength (length (list_of s)) c.if-start-end.inner b.result e.result =
-    elim c.if-start-end.branch [ then-start-end w ↦ inl (omega arith, omega arith) | else-start-end w ↦ inr (omega arith, omega (arith, n)) ] in
-    let P : ℕ → Type 0 = λ v. ReplacesSteps (list_of s) (reversed_places c.place_of.result (v - c.if-start-end.inner) (list_of s)) c.args.a c.args.b c.args.c c.args.d in
+    elim c.if-start-end.branch [
+      | then-start-end w ↦ inl (omega arith, omega arith)
+      | else-start-end w ↦ inr
+          (omega arith, omega (arith, n))
+    ] in
+    let P : ℕ → Type 0 =
+    λ v. ReplacesSteps (list_of s) (reversed_places c.place_of.result (v - c.if-start-end.inner) (list_of s))
+    c.args.a c.args.b c.args.c c.args.d in
     subst P (sym n)
     (side_outer (list_of s) c.args.a c.args.b c.args.c c.args.d c.if-start-end.inner b.result e.result c.place_of.result
-    s.tour.2 r.a_in r.c_in r.apart r.b_after r.d_after b.ensures.within b.ensures.city e.ensures.within e.ensures.city c.place_of.ensures.within c.place_of.ensures.city l)
+    s.tour.2 r.a_in r.c_in r.apart r.b_after r.d_after b.ensures.within b.ensures.city e.ensures.within e.ensures.city
+    c.place_of.ensures.within c.place_of.ensures.city l)
 
 pub returns-then-inner-n-clause-side : goal.returns-then-inner-n-clause-side
 returns-then-inner-n-clause-side c = λ front back pf pk q.
@@ -56,9 +68,14 @@ returns-then-inner-n-clause-side c = λ front back pf pk q.
     let e = c.place_of-end in
     let n = c.size-n.ensures in
     let l : PathLength (length (list_of s)) c.if-start-end.inner b.result e.result =
-    elim c.if-start-end.branch [ then-start-end w ↦ inl (omega arith, omega arith) | else-start-end w ↦ inr (omega arith, omega (arith, n)) ] in
+    elim c.if-start-end.branch [
+      | then-start-end w ↦ inl (omega arith, omega arith)
+      | else-start-end w ↦ inr
+          (omega arith, omega (arith, n))
+    ] in
     let k = (side_inner (list_of s) c.args.a c.args.b c.args.c c.args.d c.if-start-end.inner b.result e.result
-    s.tour.2 r.a_in r.c_in r.apart r.b_after r.d_after b.ensures.within b.ensures.city e.ensures.within e.ensures.city l).3 front back pf pk q in
+    s.tour.2 r.a_in r.c_in r.apart r.b_after r.d_after b.ensures.within b.ensures.city e.ensures.within e.ensures.city
+    l).3 front back pf pk q in
     omega (arith, n, k)
 
 pub returns-clause-side : goal.returns-clause-side
@@ -69,7 +86,12 @@ returns-clause-side c = λ front back pf pk q.
     let e = c.place_of-end in
     let n = c.size-n.ensures in
     let l : PathLength (length (list_of s)) c.if-start-end.inner b.result e.result =
-    elim c.if-start-end.branch [ then-start-end w ↦ inl (omega arith, omega arith) | else-start-end w ↦ inr (omega arith, omega (arith, n)) ] in
+    elim c.if-start-end.branch [
+      | then-start-end w ↦ inl (omega arith, omega arith)
+      | else-start-end w ↦ inr
+          (omega arith, omega (arith, n))
+    ] in
     let k = (side_inner (list_of s) c.args.a c.args.b c.args.c c.args.d c.if-start-end.inner b.result e.result
-    s.tour.2 r.a_in r.c_in r.apart r.b_after r.d_after b.ensures.within b.ensures.city e.ensures.within e.ensures.city l).3 front back pf pk q in
+    s.tour.2 r.a_in r.c_in r.apart r.b_after r.d_after b.ensures.within b.ensures.city e.ensures.within e.ensures.city
+    l).3 front back pf pk q in
     omega (arith, n, k)

@@ -41,5 +41,6 @@ pub invariant_of-self-clause-sizes : goal.invariant_of-self-clause-sizes
 invariant_of-self-clause-sizes c =
     let s = c.args.self.now in
     let f = facts s in
-    let size : length c.copy_from_slice.new.self.items ≡ s.runs.size = ap length c.copy_from_slice.ensures.items ∙ c.requires.size ∙ f.list in
+    let size : length c.copy_from_slice.new.self.items ≡ s.runs.size = ap length c.copy_from_slice.ensures.items
+    ∙ c.requires.size ∙ f.list in
     (size ∙ sym c.reset.ensures.limits.0, s.sizes.1 ∙ sym c.reset.ensures.limits.0)

@@ -8,5 +8,6 @@ returns-clause-paid c = λ writes swaps h.
     let s = c.args.self.now in
     let r = c.reverse-written in
     let t = c.join-2 in
-    paid_fewer (length (list_of s)) (room_of s) (writes + r.result) (run_count_of r.new.self) (swaps + c.args.count / 2) (run_count_of t.new.self) (r.ensures.paid writes swaps h)
+    paid_fewer (length (list_of s)) (room_of s) (writes + r.result) (run_count_of r.new.self) (swaps + c.args.count / 2)
+    (run_count_of t.new.self) (r.ensures.paid writes swaps h)
     t.ensures.runs.0 (omega (arith, t.ensures.runs, c.join.ensures.runs))

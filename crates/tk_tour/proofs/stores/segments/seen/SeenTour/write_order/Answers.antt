@@ -12,4 +12,8 @@ write_seen-requires-clause-list c =
 pub returns : goal.returns
 returns c =
     let s = c.args.self.now in
-    record { order = c.write_seen.ensures ∙ ap (λ u. begun_at s.begin (shown u c.deref-2.result.now)) c.deref.ensures.value ∙ ap (λ u. begun_at s.begin (shown s.order.items u)) c.deref-2.ensures.value }
+    record {
+      order = c.write_seen.ensures
+          ∙ ap (λ u. begun_at s.begin (shown u c.deref-2.result.now)) c.deref.ensures.value
+          ∙ ap (λ u. begun_at s.begin (shown s.order.items u)) c.deref-2.ensures.value;
+    }

@@ -6,4 +6,5 @@ use Rattle.tk_tour.proofs.stores.segments.tour.SegmentTour.writes.Goals as goal
 pub returns-clause-paid : goal.returns-clause-paid
 returns-clause-paid c =
     let s = c.args.self.now in
-    writes_bound (length (list_of s.seen)) (room_of s.seen) s.writes (run_count_of s.seen) (s.swaps + s.undo_swaps) (omega (arith, s.seen.some)) s.paid
+    writes_bound (length (list_of s.seen)) (room_of s.seen) s.writes (run_count_of s.seen) (s.swaps + s.undo_swaps)
+    (omega (arith, s.seen.some)) s.paid
