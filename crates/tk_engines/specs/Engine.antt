@@ -6,14 +6,11 @@
 --     EndsByProblem      the same, where it depends on the problem what is read as the second text
 --     BeforeSecond, UnlessWrite, AtWrite      a fact, at some of the stages
 use Rattle.std.specs.Prelude.{◌≡◌, ◌≢◌, ℕ, Bool, true, List, Option, Some, None, Result, Ok, Err}
-use Rattle.tk_problem.specs.declared.limits.TheConstants.{TEXT_LIMIT}
-use Rattle.tk_words.specs.Drive.{Decided}
-use Rattle.tk_words.specs.Texts.{IsAnswerWhereTold, IsFaultWhereTold, IsOfSomeText, IsFaultOfSomeText}
-use Rattle.tk_problem_text.specs.Problem.{ProblemIs, problem_decided}
-use Rattle.tk_lists.specs.Solution.{Solution, solution_decided}
-use Rattle.tk_lists.specs.Tour.{tour_decided}
+use Rattle.tk_words.specs.Texts.{Texts, OfSource, IsAnswerWhereTold, IsFaultWhereTold, IsOfSomeText, IsFaultOfSomeText}
+use Rattle.tk_problem_text.specs.Problem.{ProblemIs, problem_texts}
+use Rattle.tk_lists.specs.Solution.{Solution, solution_texts}
+use Rattle.tk_lists.specs.Tour.{tour_texts}
 use Rattle.tk_words.specs.declared.fault.TextFault.{TextFault}
-use Rattle.tk_words.specs.declared.fault.TextKind.TheVariants as kinds
 use Rattle.tk_writers.specs.declared.output.pen.WriteFault.{WriteFault}
 use Rattle.tk_engines.specs.declared.fault.Fault.{Fault}
 use Rattle.tk_engines.specs.declared.fault.Fault.TheVariants as faults
@@ -21,18 +18,20 @@ use Rattle.tk_engines.specs.declared.fault.Fault.TheVariants as faults
 -- ---- sources and sinks
 
 -- the text of a source says this value, and no read failed
-pub record IsRead {V S : Type 0} (decided : Decided V) (left : S → Option (List ℕ)) (broken : S → Bool) (old new : S)
+pub record IsRead {V S : Type 0} (texts : Texts V TextFault) (left : S → Option (List ℕ)) (broken : S → Bool)
+    (old new : S)
     (value : V) : Type 0 where
-  pub answer : IsAnswerWhereTold decided TEXT_LIMIT (left old) (left new) (Ok value)
-  pub some_text : IsOfSomeText decided TEXT_LIMIT (Ok value)
+  pub answer : IsAnswerWhereTold texts (left old) (left new) (Ok value)
+  pub some_text : IsOfSomeText texts (Ok value)
   pub intact : broken new ≡ broken old
 
 -- the text of a source has this fault, or reading it failed, or memory ran out
-pub record IsRefused {V S : Type 0} (decided : Decided V) (left : S → Option (List ℕ)) (broken : S → Bool) (old new : S)
+pub record IsRefused {V S : Type 0} (texts : Texts V TextFault) (left : S → Option (List ℕ)) (broken : S → Bool)
+    (old new : S)
     (f : TextFault) : Type 0 where
-  pub fault : IsFaultWhereTold decided TEXT_LIMIT (broken new) (left old) (left new) f
-  pub some_fault : IsFaultOfSomeText decided TEXT_LIMIT f
-  pub intact : f.kind ≢ kinds.Read → broken new ≡ broken old
+  pub fault : IsFaultWhereTold texts (broken new) (left old) (left new) f
+  pub some_fault : IsFaultOfSomeText texts f
+  pub intact : texts.cause f ≢ OfSource → broken new ≡ broken old
 
 -- what is known where a text is read as a value, or is refused
 abbrev pub Reading : Type 0 → Type 1
@@ -43,20 +42,21 @@ abbrev pub Writing : Type 0 → Type 1
 Writing T = Result (Unit {0}) WriteFault → T → Type 0
 
 -- a source's text was read, or was refused with a fault that the engine wraps so
-abbrev pub Reads : {V S : Type 0} → Decided V → (TextFault → Fault) → (S → Option (List ℕ)) → (S → Bool) → S → S →
+abbrev pub Reads : {V S : Type 0} → Texts V TextFault → (TextFault → Fault) → (S → Option (List ℕ)) →
+    (S → Bool) → S → S →
     Reading V
-Reads decided wrap left broken old new (Ok value) = IsRead decided left broken old new value
-Reads decided wrap left broken old new (Err fault) =
-    (f : TextFault) × (fault ≡ wrap f) × IsRefused decided left broken old new f
+Reads texts wrap left broken old new (Ok value) = IsRead texts left broken old new value
+Reads texts wrap left broken old new (Err fault) =
+    (f : TextFault) × (fault ≡ wrap f) × IsRefused texts left broken old new f
 
 abbrev pub ReadsProblem : {S : Type 0} → (S → Option (List ℕ)) → (S → Bool) → S → S → Reading ProblemIs
-ReadsProblem = Reads problem_decided faults.Problem
+ReadsProblem = Reads problem_texts faults.Problem
 
 abbrev pub ReadsTour : {S : Type 0} → (S → Option (List ℕ)) → (S → Bool) → S → S → Reading (List ℕ)
-ReadsTour = Reads tour_decided faults.Tour
+ReadsTour = Reads tour_texts faults.Tour
 
 abbrev pub ReadsSolution : {S : Type 0} → (S → Option (List ℕ)) → (S → Bool) → S → S → Reading Solution
-ReadsSolution = Reads solution_decided faults.Solution
+ReadsSolution = Reads solution_texts faults.Solution
 
 -- there is no such text, so nothing is wrong with it
 abbrev pub NoText : Reading (Unit {0})

@@ -3,7 +3,7 @@ use Rattle.std.specs.Prelude.{◌≡◌, ℕ, false, List, Option, Some, None, n
 use Rattle.tk_problem.specs.declared.limits.TheConstants.{TABLE_LIMIT}
 use Rattle.tk_problem.specs.declared.weights.Format.{Format}
 use Rattle.tk_writers.specs.MatrixText.{matrix_text}
-use Rattle.tk_problem_text.specs.Problem.{ProblemIs, Lower, problem_decided}
+use Rattle.tk_problem_text.specs.Problem.{ProblemIs, Lower, problem_texts}
 use Rattle.tk_writers.specs.ReadBack.{IsReadBackAs, lower_triangle}
 use Rattle.tk_engines.specs.ReadProblems.{read_distance}
 use Rattle.tk_engines.specs.Engine.{Task, NoClash}
@@ -20,7 +20,7 @@ by_distances p =
 
 -- a text that keeps the limit of texts, and is read as this problem
 abbrev pub IsReadAs : List ℕ → ProblemIs → Type 0
-IsReadAs text p = IsReadBackAs problem_decided text p
+IsReadAs text p = IsReadBackAs problem_texts text p
 
 -- the text of a problem's matrix, which is read as the problem's distances
 pub record IsMatrixText (format : Format) (p : ProblemIs) (text : List ℕ) : Type 0 where

@@ -1,8 +1,7 @@
 -- Examples of parameter texts: what they ask for, what is wrong with them and on which line, and what their beginnings
 -- decide.
-use Rattle.std.specs.Prelude.{◌≡◌, ℕ, true, false, List, [], ◌∷◌, ◌++◌, map, Option, Some, None, Result, Ok, Err, codes}
+use Rattle.std.specs.Prelude.{◌≡◌, ℕ, true, false, List, [], ◌∷◌, ◌++◌, map, Option, Some, None, Ok, Err, codes}
 use Rattle.std.specs.Prelude.{replicate}
-use Rattle.tk_words.specs.declared.fault.TextFault.{TextFault}
 use Rattle.tk_text.specs.Texts.{answer_of}
 use Rattle.tk_params.specs.declared.fault.ParamKind.{ParamKind}
 use Rattle.tk_params.specs.declared.fault.ParamKind.TheVariants as kinds
@@ -10,14 +9,14 @@ use Rattle.tk_params.specs.declared.key.Key.{Key}
 use Rattle.tk_params.specs.declared.key.Key.TheVariants as keys
 use Rattle.tk_params.specs.declared.value.Construction.TheVariants.{Nearest, Savings}
 use Rattle.tk_engines.specs.Asked.{ParamsAre}
-use Rattle.tk_engines.specs.Params.{Answer, joined, params_decided}
+use Rattle.tk_engines.specs.Params.{Answer, params_decided, params_texts}
 
 -- a function gives what the table has beside each of its arguments
 abbrev pub HasTable : {A B : Type 0} → (A → B) → List (A × B) → Type 0
 HasTable f rows = map (λ row. f row.0) rows ≡ map (λ row. row.1) rows
 
 abbrev pub TextAnswer : Type 0
-TextAnswer = Option (Result Answer TextFault)
+TextAnswer = Option Answer
 
 -- what a text says
 abbrev pub said_by : List ℕ → TextAnswer
@@ -29,14 +28,14 @@ begun_by text = params_decided false text
 
 -- what a text says of which at most so many bytes are read
 abbrev pub said_within : ℕ × List ℕ → Answer
-said_within (limit, text) = joined (answer_of params_decided limit text)
+said_within (limit, text) = answer_of (record params_texts { limit = limit }) text
 
 -- these parameters; a fault on this line; or nothing, since more bytes decide
 abbrev pub asks : ParamsAre → TextAnswer
-asks p = Some (Ok (Ok p))
+asks p = Some (Ok p)
 
 abbrev pub fault : ℕ → ParamKind → TextAnswer
-fault line kind = Some (Ok (Err (record { line = line; kind = kind })))
+fault line kind = Some (Err (record { line = line; kind = kind }))
 
 abbrev pub undecided : TextAnswer
 undecided = None

@@ -1,12 +1,11 @@
 -- The fault that a file of a kind has, as the library's reader of that kind tells it.
 --     fault_of kind text      None where the reader accepts the text
 use Rattle.std.specs.Prelude.{◌≡◌, ℕ, List, Option, Some, None, Result, Ok, Err}
-use Rattle.tk_problem.specs.declared.limits.TheConstants.{TEXT_LIMIT}
 use Rattle.tk_words.specs.declared.fault.TextFault.{TextFault}
 use Rattle.tk_words.specs.Texts.{answer_of}
-use Rattle.tk_problem_text.specs.Problem.{problem_decided}
-use Rattle.tk_lists.specs.Tour.{tour_decided}
-use Rattle.tk_lists.specs.Solution.{solution_decided}
+use Rattle.tk_problem_text.specs.Problem.{problem_texts}
+use Rattle.tk_lists.specs.Tour.{tour_texts}
+use Rattle.tk_lists.specs.Solution.{solution_texts}
 use Rattle.tk_params.specs.declared.fault.ParamFault.{ParamFault}
 use Rattle.tk_params.specs.Params.{params_answer}
 use Rattle.tk_words.specs.declared.fault.TextKind.TheVariants as text
@@ -35,9 +34,9 @@ fault_in (answers.Faulty fault) = Some fault
 
 -- the fault that a text has as a file of this kind
 abbrev pub fault_of : Kind → List ℕ → Option FileFault
-fault_of kinds.Problem text = text_fault (answer_of problem_decided TEXT_LIMIT text)
-fault_of kinds.Tour text = text_fault (answer_of tour_decided TEXT_LIMIT text)
-fault_of kinds.Solution text = text_fault (answer_of solution_decided TEXT_LIMIT text)
+fault_of kinds.Problem text = text_fault (answer_of problem_texts text)
+fault_of kinds.Tour text = text_fault (answer_of tour_texts text)
+fault_of kinds.Solution text = text_fault (answer_of solution_texts text)
 fault_of kinds.Parameters text = param_fault (params_answer text)
 
 -- reading failed on this line

@@ -1,10 +1,9 @@
 //! What the library's reader of a kind answers to a text.
 ghost use Rattle.std.specs.Prelude.{◌≡◌, IfOk};
-ghost use Rattle.tk_problem.specs.declared.limits.TheConstants.{TEXT_LIMIT};
 ghost use Rattle.tk_words.specs.Texts.{answer_of};
-ghost use Rattle.tk_problem_text.specs.Problem.{problem_decided};
-ghost use Rattle.tk_lists.specs.Tour.{tour_decided};
-ghost use Rattle.tk_lists.specs.Solution.{solution_decided};
+ghost use Rattle.tk_problem_text.specs.Problem.{problem_texts};
+ghost use Rattle.tk_lists.specs.Tour.{tour_texts};
+ghost use Rattle.tk_lists.specs.Solution.{solution_texts};
 ghost use Rattle.tk_params.specs.Params.{params_answer};
 ghost use Rattle.tk_explain.specs.Answers.{fault_in, fault_of, text_fault, param_fault};
 
@@ -54,7 +53,7 @@ pub fn answer_to(alloc: Global, kind: Kind, text: &[u8]) -> Result<Answer, Alloc
 
 /// The answer of the reader of problems.
 fn of_problem(alloc: Global, text: &[u8]) -> Result<Answer, AllocError>
-    ensures { IfOk result (λ answer. fault_in answer ≡ text_fault (answer_of problem_decided TEXT_LIMIT text.now)) }
+    ensures { IfOk result (λ answer. fault_in answer ≡ text_fault (answer_of problem_texts text.now)) }
 {
     match read_problem(alloc, &mut Whole { bytes: text }) {
         Ok(problem) => Ok(Answer::Sound(Sound::Problem(problem))),
@@ -65,7 +64,7 @@ fn of_problem(alloc: Global, text: &[u8]) -> Result<Answer, AllocError>
 
 /// The answer of the reader of tours.
 fn of_tour(alloc: Global, text: &[u8]) -> Result<Answer, AllocError>
-    ensures { IfOk result (λ answer. fault_in answer ≡ text_fault (answer_of tour_decided TEXT_LIMIT text.now)) }
+    ensures { IfOk result (λ answer. fault_in answer ≡ text_fault (answer_of tour_texts text.now)) }
 {
     match read_tour(alloc, &mut Whole { bytes: text }) {
         Ok(tour) => Ok(Answer::Sound(Sound::Tour(tour))),
@@ -76,7 +75,7 @@ fn of_tour(alloc: Global, text: &[u8]) -> Result<Answer, AllocError>
 
 /// The answer of the reader of solutions.
 fn of_solution(alloc: Global, text: &[u8]) -> Result<Answer, AllocError>
-    ensures { IfOk result (λ answer. fault_in answer ≡ text_fault (answer_of solution_decided TEXT_LIMIT text.now)) }
+    ensures { IfOk result (λ answer. fault_in answer ≡ text_fault (answer_of solution_texts text.now)) }
 {
     match read_solution(alloc, &mut Whole { bytes: text }) {
         Ok(solution) => Ok(Answer::Sound(Sound::Solution(solution))),

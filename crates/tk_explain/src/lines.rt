@@ -1,6 +1,6 @@
 //! The lines of a text, and the words of a line.
 ghost use Rattle.std.specs.Prelude.{◌≡◌, ◌≤◌, ◌++◌, drop, length};
-ghost use Rattle.tk_words.specs.Drive.{line_behind};
+ghost use Rattle.tk_words.specs.Texts.{line_behind};
 ghost use Rattle.tk_words.specs.Lex.{behind, is_blank, is_word_byte};
 ghost use Rattle.tk_explain.specs.Lines.{behind_word};
 

@@ -1,5 +1,5 @@
 //! Files whose reading failed.
-ghost use Rattle.tk_words.specs.Drive.{line_behind};
+ghost use Rattle.tk_words.specs.Texts.{line_behind};
 ghost use Rattle.tk_explain.specs.Answers.{IsUnread};
 
 use crate::fault::FileFault;

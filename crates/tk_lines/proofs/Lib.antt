@@ -8,6 +8,7 @@ pub mod Lines
 pub mod MiddleOfLine
 pub mod NarrowPlaces
 pub mod Pieces
+pub mod Runs
 pub mod Sections
 pub mod Staying
 pub mod Steady

@@ -16,7 +16,7 @@ use Rattle.tk_words.specs.Words.{keyword_of, role}
 use Rattle.tk_lines.specs.Pieces.{Piece, Extents, After, Stop, Fault, Header, first_at, pieces_at, piece_of, piece_by}
 use Rattle.tk_lines.specs.Pieces.{cut, Format, stop, judge, stopped, ended, decided_by}
 use Rattle.tk_lines.specs.FromMiddle.{from_line}
-use Rattle.tk_words.specs.Drive.{line_behind}
+use Rattle.tk_words.specs.Texts.{line_behind}
 use Rattle.tk_lines.specs.Forms.{whole, a_header}
 use Rattle.tk_lines.specs.Reader.{Next, Within, anything, this, no_word, a_line_end, Says, DecidesIf, IsWord, AtLine}
 use Rattle.tk_lines.specs.Reader.{AtTail, HeaderTaken}

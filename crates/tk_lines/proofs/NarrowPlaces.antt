@@ -6,7 +6,9 @@ use Rattle.tk_lines.specs.declared.place.Place.TheVariants as places
 use Rattle.tk_lines.specs.declared.scan.Scan.{Scan}
 use Rattle.tk_words.specs.Lex.{Token}
 use Rattle.tk_lines.specs.Pieces.{Piece, Format}
-use Rattle.tk_lines.specs.Reader.{Next, anything, AtLine, AtTail, AtToken, AtAfter, AtPlace}
+use Rattle.tk_lines.specs.Forms.{Promise}
+use Rattle.tk_lines.specs.Reader.{Next, anything, AtLine, AtTail, AtToken, AtAfter, AtPlace, Fed}
+use Rattle.tk_lines.specs.declared.reader.PieceReader.{PieceReader}
 
 pub token_narrow : {V S : Type 0} (f : Format V) (W : S → List Piece → Keyword → ℕ → List Token → Type 0) (next : Next)
     (form : S) (line : ℕ) (bs pre : List ℕ) → AtToken f W anything form line pre bs → AtToken f W next form line pre bs
@@ -94,3 +96,13 @@ module _ {V S : Type 0} (f : Format V) (H : S → List Piece → Type 0)
       }
   place_narrow (places.After o) a = after_narrow o [] a
   place_narrow (places.MinusOne o) a = (a.0, after_narrow o held a.1)
+
+-- whatever follows, what is known of that stays
+pub narrow : {V S : Type 0} {p : Promise V S} (next : Next) {reader : PieceReader S} {bs : List ℕ} →
+    Fed p anything reader bs → Fed p next reader bs
+narrow {p = p} next {reader = reader} {bs = bs} fed =
+    record {
+      line = fed.line;
+      at = place_narrow p.format p.holds p.wants next reader.form reader.line reader.held reader.scan bs reader.place
+          fed.at;
+    }

@@ -6,8 +6,9 @@ use Rattle.std.proofs.lemmas.List.{length-drop}
 use Rattle.std.proofs.lemmas.List.Sums.{count_by-le-length}
 use Rattle.std.proofs.lemmas.List.Elements.{All-head, All-tail}
 use Rattle.tk_words.specs.declared.keyword.Keyword.{Keyword}
-use Rattle.tk_words.specs.Drive.{line_behind}
+use Rattle.tk_words.specs.Texts.{line_behind}
 use Rattle.tk_words.specs.Lex.{LF, Token, is_blank, IsRun}
+use Rattle.tk_lines.specs.Forms.{Promise}
 use Rattle.tk_lines.specs.Pieces.{Piece, Format}
 use Rattle.tk_lines.specs.Reader.{anything, this, IsIn, Fed, AtToken}
 use Rattle.tk_lines.specs.declared.reader.PieceReader.{PieceReader}
@@ -81,24 +82,20 @@ module _ (bytes : List ℕ) (s n : ℕ) (within : s + n < length bytes)
       ap (λ (l : List ℕ). l ++ get_or bytes (s + n) 0 ∷ []) whole
       ∙ rw (take_more bytes (s + n) 0 within) (append_assoc bs (take (s + n) bytes) (get_or bytes (s + n) 0 ∷ []))
 
-  pub token_stands : {V S : Type 0} (f : Format V) (H : S → List Piece → Type 0)
-      (W : S → List Piece → Keyword → ℕ → List Token → Type 0) (r : PieceReader S) (bs : List ℕ)
-      → r.place ≡ places.Gap → Fed f H W anything r (bs ++ take s bytes)
-      → IsIn f W (this (get_or bytes (s + n) 0)) r (take (s + n - s) (drop s bytes))
-      ((bs ++ take s bytes) ++ take (s + n - s) (drop s bytes))
-  token_stands f H W r bs gap fed =
-      let at = at_place f H W anything r.form r.line r.held r.scan (bs ++ take s bytes) r.place _ gap fed.1 in (
-        fed.0 ∙ sym (line_on (bs ++ take s bytes) token token_solid),
-        token_narrow f W (this (get_or bytes (s + n) 0)) r.form r.line
-            _ _ (token_on f W r.form r.line [] (bs ++ take s bytes) token token_solid at),
-      )
+  pub token_stands : {V S : Type 0} {p : Promise V S} (r : PieceReader S) (bs : List ℕ) → r.place ≡ places.Gap →
+      Fed p anything r (bs ++ take s bytes) →
+      IsIn p (this (get_or bytes (s + n) 0)) r token ((bs ++ take s bytes) ++ token)
+  token_stands {p = p} r bs gap fed = record {
+    line = fed.line ∙ sym (line_on (bs ++ take s bytes) token token_solid);
+    at = token_narrow p.format p.wants (this (get_or bytes (s + n) 0)) r.form r.line _ _
+        (token_on p.format p.wants r.form r.line [] (bs ++ take s bytes) token token_solid
+        (at_place places.Gap gap fed));
+  }
 
--- the line after some of the bytes
+-- the line after some bytes
+pub line_short : (bs : List ℕ) → line_behind bs ≤ length bs + 1
+line_short bs = omega (arith, count_by-le-length (λ b. b == 10) bs)
+
 pub line_within : (bs bytes : List ℕ) (s : ℕ) → line_behind (bs ++ take s bytes) ≤ length bs + s + 1
 line_within bs bytes s =
-    omega (
-      arith,
-      count_by-le-length (λ b. b == 10) (bs ++ take s bytes),
-      length-append bs (take s bytes),
-      length-take s bytes,
-    )
+    omega (arith, line_short (bs ++ take s bytes), length-append bs (take s bytes), length-take s bytes)

@@ -15,6 +15,15 @@ IsToldWord P kinds.NoMemory = Unit {0}
 IsToldWord P kinds.Read = ⊥
 IsToldWord P k = P k
 
+-- what a form promises: the format that it reads; which pieces it has taken, of which none has a fault; which pieces,
+-- and which tokens of a section whose word is on this line; what it holds; and where that is all of a value
+pub record Promise (V S : Type 0) : Type 1 where
+  pub format : Format V
+  pub holds : S → List Piece → Type 0
+  pub wants : S → List Piece → Keyword → ℕ → List Token → Type 0
+  pub held : S → V
+  pub complete : S → Type 0
+
 -- which pieces a form has taken, of which none has a fault
 abbrev pub Holding : Type 0 → Type 1
 Holding S = S → List Piece → Type 0

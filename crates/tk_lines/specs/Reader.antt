@@ -1,18 +1,12 @@
 -- A reader's place in a text.
 use Rattle.std.specs.Prelude.{◌≡◌, ◌<◌, ◌≤◌, ℕ, Bool, true, false, not, ◌||◌, ◌==◌, List, [], ◌∷◌, ◌++◌, length, Option}
-use Rattle.std.specs.Prelude.{Some, None, Result, Ok}
+use Rattle.std.specs.Prelude.{Some, None, Result}
 use Rattle.tk_words.specs.declared.keyword.Keyword.{Keyword}
 use Rattle.tk_words.specs.declared.fault.TextFault.{TextFault}
 use Rattle.tk_lines.specs.declared.scan.Scan.{Scan}
 use Rattle.tk_lines.specs.declared.place.Place.{Place}
 use Rattle.tk_lines.specs.declared.place.Place.TheVariants as places
-use Rattle.tk_lines.specs.declared.place.Went.{Went}
-use Rattle.tk_lines.specs.declared.place.Went.TheVariants as wents
-use Rattle.tk_lines.specs.declared.place.Ended.{Ended}
-use Rattle.tk_lines.specs.declared.place.Ended.TheVariants as endeds
 use Rattle.tk_lines.specs.declared.reader.PieceReader.{PieceReader}
-use Rattle.tk_words.specs.declared.sources.text_reader.Step.{Step}
-use Rattle.tk_words.specs.declared.sources.text_reader.Step.TheVariants as steps
 use Rattle.tk_words.specs.Lex.{LF, Token, is_blank, is_letter, is_word_byte, behind, IsRun}
 use Rattle.tk_words.specs.Words.{keyword_of, role}
 use Rattle.tk_words.specs.declared.keyword.Role.TheVariants.{BeginsHeader, BeginsSection}
@@ -20,8 +14,8 @@ use Rattle.tk_lines.specs.Pieces.{Piece, Header, stop, Clean, Format, ended, dec
 use Rattle.tk_lines.specs.FromMiddle.{from_line, in_section}
 use Rattle.tk_words.specs.MinusOne.{begins_minus_one}
 use Rattle.tk_lines.specs.Scan.{Scans}
-use Rattle.tk_lines.specs.Forms.{Goes, Closed, Ends, Holding, Wanting, a_section, a_header, whole}
-use Rattle.tk_words.specs.Drive.{line_behind}
+use Rattle.tk_lines.specs.Forms.{Promise, Goes, Closed, Ends, Holding, Wanting, a_section, a_header, whole}
+use Rattle.tk_words.specs.Texts.{line_behind}
 
 -- what may follow the bytes so far; true: nothing comes after them
 abbrev pub Next : Type 0
@@ -169,31 +163,15 @@ AtPlace f holds wants next form line held scan bs (places.MinusOne on_line) =
     IsMore held × AtAfter f holds next form line on_line held bs
 
 -- the reader has taken these bytes, and what follows is so
-abbrev pub Fed : {V S : Type 0} → Format V → Holding S → Wanting S → Next → PieceReader S → List ℕ → Type 0
-Fed f holds wants next s bs =
-    (s.line ≡ line_behind bs) × AtPlace f holds wants next s.form s.line s.held s.scan bs s.place
+pub record Fed {V S : Type 0} (p : Promise V S) (next : Next) (reader : PieceReader S) (bs : List ℕ) : Type 0 where
+  pub line : reader.line ≡ line_behind bs
+  pub at : AtPlace p.format p.holds p.wants next reader.form reader.line reader.held reader.scan bs reader.place
 
 -- it stands in a section, and of a token these bytes come after it
-abbrev pub IsIn : {V S : Type 0} → Format V → Wanting S → Next → PieceReader S → List ℕ → List ℕ → Type 0
-IsIn f wants next s token bs = (s.line ≡ line_behind bs) × AtToken f wants next s.form s.line token bs
-
--- a step of a byte
-abbrev pub HasFed : {V : Type 0} → Format V → Next → (List ℕ → Type 0) → V → List ℕ → Step → Type 0
-HasFed f next fed held bs steps.More = fed bs
-HasFed f next fed held bs steps.Done = DecidesIf f next bs (Ok held)
-
--- what a line's word began
-abbrev pub HasWent : {V : Type 0} → Format V → Next → (List ℕ → Type 0) → Place → V → List ℕ → Went → Type 0
-HasWent f next fed place held bs wents.Done = DecidesIf f next bs (Ok held)
-HasWent f next fed place held bs (wents.Value word) = (place ≡ places.Value word) × fed bs
-HasWent f next fed place held bs wents.Begin = (place ≡ places.Begin) × fed bs
-
--- what comes after a token
-abbrev pub HasEnded : {V : Type 0} → Format V → Next → (List ℕ → Type 0) → Place → V → List ℕ → Ended → Type 0
-HasEnded f next fed place held bs endeds.Done = DecidesIf f next bs (Ok held)
-HasEnded f next fed place held bs endeds.Gap = (place ≡ places.Gap) × fed bs
-HasEnded f next fed place held bs endeds.Close = (place ≡ places.Close) × fed bs
-HasEnded f next fed place held bs endeds.After = (place ≡ places.After true) × fed bs
+pub record IsIn {V S : Type 0} (p : Promise V S) (next : Next) (reader : PieceReader S)
+    (token bs : List ℕ) : Type 0 where
+  pub line : reader.line ≡ line_behind bs
+  pub at : AtToken p.format p.wants next reader.form reader.line token bs
 
 -- a header is taken, and its line's end comes
 pub record HeaderTaken {V S : Type 0} (f : Format V) (H : Holding S) (next : Next) (form : S) (line : ℕ) (held : List ℕ)

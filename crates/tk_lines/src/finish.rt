@@ -1,25 +1,22 @@
-//! What the end of its bytes makes of a text.
-ghost use Rattle.std.specs.Prelude.{◌≡◌, ℕ, List, [], Ok, IfOk, IfErr};
+//! What the end of its bytes makes of a text, and the whole reader.
+ghost use Rattle.std.specs.Prelude.{◌≡◌, ℕ, List, [], refl};
+ghost use Rattle.tk_problem.specs.declared.limits.TheConstants.{TEXT_LIMIT};
+ghost use Rattle.tk_words.specs.Texts.{texts_of};
 ghost use Rattle.tk_lines.specs.declared.place.Place.TheVariants as places;
-ghost use Rattle.tk_words.specs.Drive.{DecidesEnded, IsTold};
 ghost use Rattle.tk_lines.specs.Pieces.{decided_by};
-ghost use Rattle.tk_lines.specs.Reader.{Fed, anything, at_end, AtToken, AtEnd};
-ghost use Rattle.tk_lines.specs.Feeding.{IsFed, TakesEnd, RefusesEnd, CompletesEnd};
+ghost use Rattle.tk_lines.specs.Reader.{at_end, AtToken, AtEnd};
+ghost use Rattle.tk_lines.specs.Steps.{Waits, IsFed, HasFinished, Finishes};
 
 use crate::form::Form;
-use crate::place::{Ended, Place, Went};
+use crate::place::{Flow, Place};
 use crate::reader::PieceReader;
-use tk_words::{Keyword, Run, Step, TextFault, TextReader};
+use tk_words::{Keyword, Step, TextFault, TextKind, TextReader};
 
 impl<F: Form> PieceReader<F> {
     /// Ends the text, where nothing is open.
     fn end_text(&self) -> Result<(), TextFault>
-        ensures ok { (bs : List ℕ) → AtEnd F.format F.holds self.now.form self.now.line bs
-            → IfOk result (λ _. DecidesEnded (decided_by F.format) bs (Ok (F.held self.now.form))) }
-        ensures err { (bs : List ℕ) → AtEnd F.format F.holds self.now.form self.now.line bs
-            → IfErr result (IsTold ⊥ (DecidesEnded (decided_by F.format) bs)) }
-        ensures complete { (bs : List ℕ) → AtEnd F.format F.holds self.now.form self.now.line bs
-            → IfOk result (λ _. F.complete self.now.form) }
+        ensures { (before : List ℕ) → AtEnd F.promise.format F.promise.holds self.now.form self.now.line before
+            → HasFinished F.promise self.now before result }
     {
         match self.form.end() {
             None => Ok(()),
@@ -29,12 +26,9 @@ impl<F: Form> PieceReader<F> {
 
     /// Ends the text in a section, between tokens.
     fn end_section(&mut self) -> Result<(), TextFault>
-        ensures ok { (bs : List ℕ) → AtToken F.format F.wants at_end self.old.form self.old.line [] bs
-            → IfOk result (λ _. DecidesEnded (decided_by F.format) bs (Ok (F.held self.new.form))) }
-        ensures err { (bs : List ℕ) → AtToken F.format F.wants at_end self.old.form self.old.line [] bs
-            → IfErr result (IsTold ⊥ (DecidesEnded (decided_by F.format) bs)) }
-        ensures complete { (bs : List ℕ) → AtToken F.format F.wants at_end self.old.form self.old.line [] bs
-            → IfOk result (λ _. F.complete self.new.form) }
+        ensures { (before : List ℕ)
+            → AtToken F.promise.format F.promise.wants at_end self.old.form self.old.line [] before
+            → HasFinished F.promise self.new before result }
     {
         match self.form.end_section() {
             Err(kind) => Err(self.fault(kind)),
@@ -44,74 +38,27 @@ impl<F: Form> PieceReader<F> {
 
     /// Ends the text in a header's value.
     fn end_value(&mut self, word: Keyword) -> Result<(), TextFault>
-        requires place { self.old.place ≡ places.Value word }
-        ensures ok { TakesEnd F.format F.holds F.wants F.held self.old self.new result }
-        ensures err { RefusesEnd F.format F.holds F.wants self.old result }
-        ensures complete { CompletesEnd F.format F.holds F.wants F.complete self.old self.new result }
+        requires { self.old.place ≡ places.Value word }
+        ensures { Finishes F.promise self.old self.new result }
     {
         self.end_header(word)?;
         self.end_text()
     }
 
-    /// Ends the text in a line's word.
-    fn end_in_word(&mut self) -> Result<(), TextFault>
-        requires place { self.old.place ≡ places.Word }
-        requires known { IsFed F.format F.holds F.wants at_end self.old }
-        ensures ok { TakesEnd F.format F.holds F.wants F.held self.old self.new result }
-        ensures err { RefusesEnd F.format F.holds F.wants self.old result }
-        ensures complete { CompletesEnd F.format F.holds F.wants F.complete self.old self.new result }
-    {
-        match self.end_word()? {
-            Went::Done => Ok(()),
-            Went::Value(word) => self.end_value(word),
-            Went::Begin => self.end_section(),
-        }
-    }
-
-    /// Ends the text in a section's token.
-    fn end_in_token(&mut self) -> Result<(), TextFault>
-        requires place { self.old.place ≡ places.Token }
-        requires known { IsFed F.format F.holds F.wants at_end self.old }
-        ensures ok { TakesEnd F.format F.holds F.wants F.held self.old self.new result }
-        ensures err { RefusesEnd F.format F.holds F.wants self.old result }
-        ensures complete { CompletesEnd F.format F.holds F.wants F.complete self.old self.new result }
-    {
-        match self.end_token()? {
-            Ended::Done => Ok(()),
-            Ended::Gap => self.end_section(),
-            Ended::Close => self.end_text(),
-            Ended::After => self.end_text(),
-        }
-    }
-
-    /// Ends the text in a token after the `-1` that ends a section.
-    fn end_in_minus_one(&mut self, on_line: bool) -> Result<(), TextFault>
-        requires place { self.old.place ≡ places.MinusOne on_line }
-        ensures ok { TakesEnd F.format F.holds F.wants F.held self.old self.new result }
-        ensures err { RefusesEnd F.format F.holds F.wants self.old result }
-        ensures complete { CompletesEnd F.format F.holds F.wants F.complete self.old self.new result }
-    {
-        self.end_minus_one(on_line)?;
-        self.end_text()
-    }
-
     /// Ends the text, wherever it stands.
     fn end_bytes(&mut self) -> Result<(), TextFault>
-        requires known { IsFed F.format F.holds F.wants at_end self.old }
-        ensures ok { TakesEnd F.format F.holds F.wants F.held self.old self.new result }
-        ensures err { RefusesEnd F.format F.holds F.wants self.old result }
-        ensures complete { CompletesEnd F.format F.holds F.wants F.complete self.old self.new result }
+        requires { IsFed F.promise at_end self.old }
+        ensures { Finishes F.promise self.old self.new result }
     {
+        match self.close()? {
+            Flow::Whole => return Ok(()),
+            Flow::On => {}
+        }
         match self.place {
-            Place::Start => self.end_text(),
-            Place::Word => self.end_in_word(),
             Place::Value(word) => self.end_value(word),
             Place::Begin => self.end_section(),
             Place::Gap => self.end_section(),
-            Place::Token => self.end_in_token(),
-            Place::Close => self.end_text(),
-            Place::After(_) => self.end_text(),
-            Place::MinusOne(on_line) => self.end_in_minus_one(on_line),
+            _ => self.end_text(),
         }
     }
 }
@@ -119,28 +66,34 @@ impl<F: Form> PieceReader<F> {
 impl<F: Form> TextReader for PieceReader<F> {
     type Out = F::Out;
 
+    type Fault = TextFault;
+
     ghost Value = { F.Value };
 
     ghost view = { F.view };
 
-    ghost decided = { decided_by F.format };
+    ghost texts = { texts_of (decided_by F.promise.format) TEXT_LIMIT };
 
-    ghost fed = { λ s bs. Fed F.format F.holds F.wants anything s bs };
+    ghost fed = { λ reader before. Waits F.promise reader before };
 
-    ghost held = { λ s. F.held s.form };
+    ghost held = { λ reader. F.promise.held reader.form };
 
-    ghost complete = { λ s. F.complete s.form };
+    ghost complete = { λ reader. F.promise.complete reader.form };
 
-    fn line(&self) -> u64 {
-        self.line
-    }
+    ghost too_long_told = { λ line. refl };
 
-    fn feed(&mut self, byte: u8) -> Result<Step, TextFault> {
-        self.feed_byte(byte)
-    }
+    ghost waits = { λ reader before waits. waits.undecided };
 
-    fn feed_run(&mut self, bytes: &[u8]) -> Result<Run, TextFault> {
-        self.feed_tokens(bytes)
+    fn feed(&mut self, bytes: &[u8]) -> Result<Step, TextFault> {
+        match self.feed_tokens(bytes)? {
+            Step::Done => return Ok(Step::Done),
+            Step::Taken(0) => {}
+            Step::Taken(count) => return Ok(Step::Taken(count)),
+        }
+        match self.feed_byte(bytes[0])? {
+            Flow::On => Ok(Step::Taken(1)),
+            Flow::Whole => Ok(Step::Done),
+        }
     }
 
     fn finish(self) -> Result<F::Out, TextFault> {
@@ -151,5 +104,13 @@ impl<F: Form> TextReader for PieceReader<F> {
 
     fn value(self) -> F::Out {
         self.form.value()
+    }
+
+    fn too_long(&self) -> TextFault {
+        self.fault(TextKind::TooLong)
+    }
+
+    fn cut_off(&self) -> TextFault {
+        self.fault(TextKind::Read)
     }
 }

@@ -1,6 +1,8 @@
 //! Lines, headers and sections: a text as pieces, byte by byte.
 #![tactic(auto)]
 
+mod bytes;
+mod ends;
 mod finish;
 mod form;
 mod place;

@@ -1,4 +1,4 @@
-//! Where a reader stands in its text, and what a word and a token lead to.
+//! Where a reader stands in its text.
 
 use tk_words::Keyword;
 
@@ -25,19 +25,9 @@ pub enum Place {
     MinusOne(bool),
 }
 
-/// What a word began.
+/// Whether a text goes on.
 #[derive(Clone, Copy, PartialEq, Eq)]
-pub enum Went {
-    Done,
-    Value(Keyword),
-    Begin,
-}
-
-/// What comes after a token.
-#[derive(Clone, Copy, PartialEq, Eq)]
-pub enum Ended {
-    Done,
-    Gap,
-    Close,
-    After,
+pub enum Flow {
+    On,
+    Whole,
 }

@@ -1,31 +1,42 @@
 //! Whole tokens of a section, one after the other.
-ghost use Rattle.std.specs.Prelude.{◌≡◌, ◌<◌, ◌^◌, ◌+◌, ℕ, List, length, Ok, IfOk, IfErr};
-ghost use Rattle.tk_words.specs.declared.sources.text_reader.Run.TheVariants as runs;
-ghost use Rattle.tk_words.specs.Drive.{HasRun, IsToldWithin};
-ghost use Rattle.tk_lines.specs.Pieces.{decided_by};
-ghost use Rattle.tk_lines.specs.Reader.{Fed, anything};
+ghost use Rattle.std.specs.Prelude.{◌≡◌, ◌≤◌, ◌^◌, ◌+◌, ◌||◌, ◌==◌, true, ℕ, List, length};
+ghost use Rattle.tk_words.specs.Lex.{is_blank};
+ghost use Rattle.tk_lines.specs.Reader.{Fed, IsToken, IsIn, anything, this};
+ghost use Rattle.tk_lines.specs.Steps.{TakesRun, TakesWhole};
 
 use crate::form::Form;
-use crate::place::Place;
+use crate::place::{Flow, Place};
 use crate::reader::PieceReader;
-use tk_words::{Run, Step, TextFault, token_length};
+use tk_words::{Step, TextFault, token_length};
 
 impl<F: Form> PieceReader<F> {
+    /// Takes a whole token of a section, and the byte after it.
+    ///
+    /// # Errors
+    /// Those of `take_token`, and those of a byte after the token.
+    #[inline(always)]
+    fn feed_whole(&mut self, token: &[u8], byte: u8) -> Result<Flow, TextFault>
+        requires run { IsToken token.now }
+        requires gap { (is_blank byte || byte == 10) ≡ true }
+        requires room { self.old.line ≤ 2 ^ 63 }
+        requires known { (before : List ℕ) × IsIn F.promise (this byte) self.old token.now before }
+        ensures { TakesWhole F.promise token.now self.old self.new byte result }
+    {
+        match self.take_token(token)? {
+            Flow::Whole => Ok(Flow::Whole),
+            Flow::On => self.feed_settled(byte),
+        }
+    }
+
     /// Takes the tokens of a section that stand whole in the bytes, each with the byte after it, up to two blanks or
     /// what is no such token.
     ///
     /// # Errors
     /// The fault that one of these tokens shows, with its line.
-    pub fn feed_tokens(&mut self, bytes: &[u8]) -> Result<Run, TextFault>
-        requires { (bs : List ℕ) × Fed F.format F.holds F.wants anything self.old bs
-            × (length bs + length bytes.now < 2 ^ 63) }
-        ensures more { (bs : List ℕ) → Fed F.format F.holds F.wants anything self.old bs
-            → IfOk result (HasRun (decided_by F.format) (Fed F.format F.holds F.wants anything self.new)
-            (F.held self.new.form) bs bytes.now) }
-        ensures err { (bs : List ℕ) → Fed F.format F.holds F.wants anything self.old bs
-            → IfErr result (IsToldWithin (decided_by F.format) bs bytes.now) }
-        ensures complete { (bs : List ℕ) → Fed F.format F.holds F.wants anything self.old bs → result ≡ Ok runs.Whole
-            → F.complete self.new.form }
+    pub fn feed_tokens(&mut self, bytes: &[u8]) -> Result<Step, TextFault>
+        requires { (before : List ℕ) × Fed F.promise anything self.old before
+            × (length before + length bytes.now ≤ 2 ^ 63) }
+        ensures { TakesRun F.promise self.old self.new bytes.now result }
     {
         let mut start = 0;
         while let Place::Gap = self.place {
@@ -34,10 +45,10 @@ impl<F: Form> PieceReader<F> {
                 break;
             }
             match self.feed_whole(&bytes[start..end], bytes[end])? {
-                Step::Done => return Ok(Run::Whole),
-                Step::More => start = end + 1,
+                Flow::Whole => return Ok(Step::Done),
+                Flow::On => start = end + 1,
             }
         }
-        Ok(Run::Taken(start))
+        Ok(Step::Taken(start))
     }
 }

@@ -8,11 +8,11 @@ use Rattle.tk_words.specs.declared.keyword.Keyword.TheVariants as words
 use Rattle.tk_lists.specs.declared.solution_form.SolutionForm.{SolutionForm}
 use Rattle.tk_lists.specs.declared.solution_reader.LinePlace.TheVariants as places
 use Rattle.tk_lists.specs.declared.solution_reader.SolutionReader.{SolutionReader}
-use Rattle.tk_words.specs.Drive.{Decides, DecidesEnded}
+use Rattle.tk_words.specs.Texts.{Decides, DecidesEnded}
 use Rattle.tk_words.specs.Lex.{LF, lines}
 use Rattle.tk_lines.specs.Pieces.{Fault}
-use Rattle.tk_lists.specs.Solution.{has_cost, line_stop, at_end, judge_lines, solution_decided}
-use Rattle.tk_lists.specs.SolutionReader.{Stands, Went, StopsAt, HasEnded, Fed, rest_of, from}
+use Rattle.tk_lists.specs.Solution.{has_cost, line_stop, at_end, judge_lines, solution_decided, solution_texts}
+use Rattle.tk_lists.specs.SolutionReader.{Stands, Went, StopsAt, HasEnded, Fed, Waits, rest_of, from}
 use Rattle.tk_lines.proofs.Sections.SectionEnds.{first_line}
 use Rattle.tk_lines.proofs.LineSteps.{line_behind-byte, line_behind-LF}
 use Rattle.tk_lists.proofs.SolutionPlaces.{from_byte, from_stops, from_LF, from_LF_stops, from_end, from_end_stops}
@@ -30,11 +30,14 @@ fed_none s first start stands = record {
 }
 
 -- where nothing is decided yet
-pub fed_open : (s : SolutionReader) (bs : List ℕ) → Fed s bs → solution_decided false bs ≡ None
+fed_open : (s : SolutionReader) (bs : List ℕ) → Fed s bs → solution_decided false bs ≡ None
 fed_open s bs fed =
     ap (solution_decided false) (sym (append-nil bs)) ∙ fed.same false []
     ∙ from_open fed.before (rest_of s fed.toks) s.line
     (waits s.form fed.before s.held s.line fed.toks s.place fed.stands)
+
+pub fed_waits : (s : SolutionReader) (bs : List ℕ) → Fed s bs → Waits s bs
+fed_waits s bs fed = record { fed = fed; undecided = fed_open s bs fed }
 
 module _ (s t : SolutionReader) (bs : List ℕ) (fed : Fed s bs) where
   pub fed_byte : (b : ℕ) → eqb b LF ≡ false → t.line ≡ s.line → Went fed.before b (rest_of s fed.toks) t →
@@ -62,19 +65,19 @@ module _ (s t : SolutionReader) (bs : List ℕ) (fed : Fed s bs) where
 
 module _ (s : SolutionReader) (bs : List ℕ) (fed : Fed s bs) (k : TextKind) where
   pub byte_stops : (b : ℕ) → eqb b LF ≡ false → StopsAt fed.before s.line b (rest_of s fed.toks) k →
-      Decides solution_decided (bs ++ b ∷ []) (Err (record { line = s.line; kind = k }))
+      Decides solution_texts (bs ++ b ∷ []) (Err (record { line = s.line; kind = k }))
   byte_stops b other stops e more =
       ap (solution_decided e) (append_assoc bs (b ∷ []) more) ∙ fed.same e (b ∷ more)
       ∙ from_stops fed.before (rest_of s fed.toks) s.line e b more k other stops
 
   pub LF_stops : line_stop fed.before s.line true (rest_of s fed.toks [] true) ≡ Some (Fault s.line k) →
-      Decides solution_decided (bs ++ LF ∷ []) (Err (record { line = s.line; kind = k }))
+      Decides solution_texts (bs ++ LF ∷ []) (Err (record { line = s.line; kind = k }))
   LF_stops stop e more =
       ap (solution_decided e) (append_assoc bs (LF ∷ []) more) ∙ fed.same e (LF ∷ more)
       ∙ from_LF_stops fed.before (rest_of s fed.toks) s.line e more k stop
 
   pub end_stops : line_stop fed.before s.line true (rest_of s fed.toks [] true) ≡ Some (Fault s.line k) →
-      DecidesEnded solution_decided bs (Err (record { line = s.line; kind = k }))
+      DecidesEnded solution_texts bs (Err (record { line = s.line; kind = k }))
   end_stops stop = ap (solution_decided true) (sym (append-nil bs)) ∙ fed.same true []
       ∙ from_end_stops fed.before (rest_of s fed.toks) s.line k stop
 
@@ -85,12 +88,12 @@ module _ (s : SolutionReader) (bs : List ℕ) (fed : Fed s bs) (t : SolutionForm
       ∙ from_end fed.before (rest_of s fed.toks) s.line ended.fine
 
   pub end_missing : t.priced ≡ false →
-      DecidesEnded solution_decided bs (Err (record { line = s.line; kind = kinds.Missing words.Cost }))
+      DecidesEnded solution_texts bs (Err (record { line = s.line; kind = kinds.Missing words.Cost }))
   end_missing unpriced =
       let none : has_cost (fed.before ++ rest_of s fed.toks [] true ∷ []) ≡ false = sym ended.keeps.priced ∙ unpriced in
       at_the_end ∙ rw none refl
 
-  pub end_whole : t.priced ≡ true → DecidesEnded solution_decided bs (Ok (map (λ r. r.items) t.routes.items, t.cost))
+  pub end_whole : t.priced ≡ true → DecidesEnded solution_texts bs (Ok (map (λ r. r.items) t.routes.items, t.cost))
   end_whole priced =
       let some : has_cost (fed.before ++ rest_of s fed.toks [] true ∷ []) ≡ true = sym ended.keeps.priced ∙ priced in
       at_the_end ∙ rw (some, ended.keeps.routes, ended.keeps.cost) refl

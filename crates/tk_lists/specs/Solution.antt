@@ -3,13 +3,14 @@ use Rattle.std.specs.Prelude.{ℕ, suc, ◌+◌, Bool, true, false, not, ◌&&�
 use Rattle.std.specs.Prelude.{◌++◌, length, take, Option, Some, None, Result, Ok, Err, ℤ, pos, if◌then◌else◌, codes}
 use Rattle.std.specs.Prelude.{is_none}
 use Rattle.std.specs.Char.{is_ascii_digit}
-use Rattle.tk_problem.specs.declared.limits.TheConstants.{ENTRY_LIMIT, ROUTE_LIMIT}
+use Rattle.tk_problem.specs.declared.limits.TheConstants.{ENTRY_LIMIT, ROUTE_LIMIT, TEXT_LIMIT}
 use Rattle.tk_words.specs.declared.keyword.Keyword.TheVariants as words
 use Rattle.tk_words.specs.declared.fault.TextKind.{TextKind}
 use Rattle.tk_words.specs.declared.fault.TextKind.TheVariants as kinds
 use Rattle.tk_words.specs.declared.fault.TextFault.{TextFault}
 use Rattle.tk_words.specs.Lex.{Line, Token, lines, tokens_of, is_blank, is_word_byte, is_empty, front, behind}
 use Rattle.tk_words.specs.Lex.{after_word, integer}
+use Rattle.tk_words.specs.Texts.{Texts, texts_of}
 use Rattle.tk_words.specs.Words.{spells}
 use Rattle.tk_lines.specs.Pieces.{Stop, Open, Fault, first_at, checked, or_else, stopped}
 use Rattle.tk_words.specs.Entry.{in_range, numbers_of}
@@ -212,3 +213,7 @@ judge_lines before n whole (l ∷ ls) =
 -- what bytes decide: all of the text where it has ended, else what it begins with
 unfoldable pub solution_decided : Bool → List ℕ → Option (Result Solution TextFault)
 solution_decided ended bs = judge_lines [] 1 ended (lines ended 1 bs)
+
+-- solution texts
+abbrev pub solution_texts : Texts Solution TextFault
+solution_texts = texts_of solution_decided TEXT_LIMIT

@@ -1,6 +1,6 @@
 -- A reader's place in a solution text.
 use Rattle.std.specs.Prelude.{◌≡◌, ◌<◌, ◌≤◌, ℕ, ◌+◌, Bool, true, false, List, [], ◌∷◌, ◌++◌, length, map, Option, Some}
-use Rattle.std.specs.Prelude.{None, Result, codes}
+use Rattle.std.specs.Prelude.{None, Result, Ok, Err, codes}
 use Rattle.tk_words.specs.declared.fault.TextKind.{TextKind}
 use Rattle.tk_words.specs.declared.fault.TextKind.TheVariants as kinds
 use Rattle.tk_words.specs.declared.fault.TextFault.{TextFault}
@@ -19,11 +19,12 @@ use Rattle.tk_lines.specs.Pieces.{Fault, first_at, stopped}
 use Rattle.tk_words.specs.Words.{spells}
 use Rattle.tk_words.specs.Entry.{numbers_of}
 use Rattle.tk_lines.specs.Reader.{IsToken}
-use Rattle.tk_words.specs.Drive.{line_behind}
+use Rattle.tk_lines.specs.Steps.{IsRefused}
+use Rattle.tk_words.specs.Texts.{Decides, line_behind}
 use Rattle.tk_lists.specs.Solution.{Solution, Head, Bad, Behind, colon_head, digits_head, number_head, route_head}
 use Rattle.tk_lists.specs.Solution.{SolutionLine, Other, Route, Cost, route_line, may_be_word, solid_line, line_of}
 use Rattle.tk_lists.specs.Solution.{routes_of, count_of, has_cost, cost_of, customers_stop, cost_stop, route_tests}
-use Rattle.tk_lists.specs.Solution.{line_stop, judge_lines, solution_decided}
+use Rattle.tk_lists.specs.Solution.{line_stop, judge_lines, solution_decided, solution_texts}
 
 -- ---- the head of a Route line
 
@@ -151,3 +152,13 @@ pub record Fed (s : SolutionReader) (bs : List ℕ) : Type 0 where
   pub stands : Stands s before toks
   pub same : (ended : Bool) (more : List ℕ) →
       solution_decided ended (bs ++ more) ≡ from before (rest_of s toks) (lines ended s.line more)
+
+-- the reader has taken these bytes, which decide nothing
+pub record Waits (s : SolutionReader) (bs : List ℕ) : Type 0 where
+  pub fed : Fed s bs
+  pub undecided : solution_decided false bs ≡ None
+
+-- a byte is taken, or it shows a fault
+abbrev pub HasTakenByte : SolutionReader → List ℕ → Result (Unit {0}) TextFault → Type 0
+HasTakenByte new bs (Ok _) = Fed new bs
+HasTakenByte new bs (Err f) = IsRefused (Decides solution_texts bs) f

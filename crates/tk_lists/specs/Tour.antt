@@ -1,13 +1,14 @@
 -- Tour texts.
 use Rattle.std.specs.Prelude.{ℕ, suc, Bool, true, false, not, ◌||◌, nat_lt, nat_le, List, [], ◌∷◌, length, Option, Some}
 use Rattle.std.specs.Prelude.{None, Result, if◌then◌else◌, codes, is_none}
-use Rattle.tk_problem.specs.declared.limits.TheConstants.{ENTRY_LIMIT}
+use Rattle.tk_problem.specs.declared.limits.TheConstants.{ENTRY_LIMIT, TEXT_LIMIT}
 use Rattle.tk_words.specs.declared.keyword.Keyword.{Keyword}
 use Rattle.tk_words.specs.declared.keyword.Keyword.TheVariants as words
 use Rattle.tk_words.specs.declared.fault.TextKind.{TextKind}
 use Rattle.tk_words.specs.declared.fault.TextKind.TheVariants as kinds
 use Rattle.tk_words.specs.declared.fault.TextFault.{TextFault}
 use Rattle.tk_words.specs.Lex.{Token, after_word, trim, integer}
+use Rattle.tk_words.specs.Texts.{Texts, texts_of}
 use Rattle.tk_words.specs.Words.{spells}
 use Rattle.tk_lines.specs.Scan.{first_word}
 use Rattle.tk_lines.specs.Pieces.{Piece, Extent, Stop, After, first_at, checked, or_else, has, tokens_in, Format}
@@ -66,3 +67,7 @@ tour_format = record {
 -- what bytes decide: all of the text where it has ended, else what it begins with
 abbrev pub tour_decided : Bool → List ℕ → Option (Result (List ℕ) TextFault)
 tour_decided = decided_by tour_format
+
+-- tour texts
+abbrev pub tour_texts : Texts (List ℕ) TextFault
+tour_texts = texts_of tour_decided TEXT_LIMIT

@@ -8,8 +8,9 @@ use Rattle.tk_lists.specs.declared.tour.TourForm.{TourForm}
 use Rattle.tk_words.specs.Lex.{Token}
 use Rattle.tk_lines.specs.Pieces.{Piece, has, tokens_in}
 use Rattle.tk_words.specs.Entry.{in_range, numbers_of}
+use Rattle.tk_lines.specs.Forms.{Promise}
 use Rattle.tk_lines.specs.Lists.{entries, AreEntries}
-use Rattle.tk_lists.specs.Tour.{entries_stop}
+use Rattle.tk_lists.specs.Tour.{entries_stop, tour_format}
 
 -- which headers stand among the pieces
 pub record IsSeen (w : TourWords) (before : List Piece) : Type 0 where
@@ -30,6 +31,16 @@ pub record TourWants (s : TourForm) (before : List Piece) (word : Keyword) (n : 
   pub are : AreEntries toks
   pub fine : entries_stop 0 toks ≡ None
   pub cities : s.cities.items ≡ numbers_of toks
+
+abbrev pub tour_promise : Promise (List ℕ) TourForm
+tour_promise =
+    record {
+      format = tour_format;
+      holds = TourHolds;
+      wants = TourWants;
+      held = λ form. form.cities.items;
+      complete = λ form. Unit {0};
+    }
 
 -- a number that a list takes next, and one that it doesn't, after so many
 pub record IsNext (number : ℤ) (old new : List ℕ) : Type 0 where

@@ -1,9 +1,8 @@
 //! Solution texts.
-ghost use Rattle.std.specs.Prelude.{◌≡◌, List, [], map, Ok, IfOk, IfErr};
-ghost use Rattle.tk_problem.specs.declared.limits.TheConstants.{TEXT_LIMIT};
+ghost use Rattle.std.specs.Prelude.{◌≡◌, ◌^◌, ◌≤◌, ◌++◌, ◌∷◌, ℕ, List, [], map, refl, Ok, IfOk, IfErr};
 ghost use Rattle.tk_words.specs.Texts.{IsAnswerWhereTold, IsFaultWhereTold, IsOfSomeText, IsFaultOfSomeText, IsIntact};
-ghost use Rattle.tk_lists.specs.Solution.{Solution, solution_decided};
-ghost use Rattle.tk_lists.specs.SolutionReader.{Fed};
+ghost use Rattle.tk_lists.specs.Solution.{Solution, solution_texts};
+ghost use Rattle.tk_lists.specs.SolutionReader.{Fed, HasTakenByte, Waits};
 
 use crate::solution_reader::{LinePlace, SolutionReader};
 use crate::texts::SolText;
@@ -21,31 +20,19 @@ impl SolutionReader {
             kind,
         }
     }
-}
 
-impl TextReader for SolutionReader {
-    type Out = SolText;
-
-    ghost Value = { Solution };
-
-    ghost view = { λ s. (map (λ r. r.items) s.routes.items, s.cost) };
-
-    ghost decided = { solution_decided };
-
-    ghost fed = { Fed };
-
-    ghost held = { λ s. (map (λ r. r.items) s.form.routes.items, s.form.cost) };
-
-    ghost complete = { λ _. Unit {0} };
-
-    fn line(&self) -> u64 {
-        self.line
-    }
-
-    fn feed(&mut self, byte: u8) -> Result<Step, TextFault> {
+    /// Takes a byte.
+    ///
+    /// # Errors
+    /// The fault that the bytes up to this one show, with its line.
+    fn feed_byte(&mut self, byte: u8) -> Result<(), TextFault>
+        requires room { self.old.line ≤ 2 ^ 63 }
+        requires known { (before : List ℕ) × Fed self.old before }
+        ensures { (before : List ℕ) → Fed self.old before → HasTakenByte self.new (before ++ byte ∷ []) result }
+    {
         if byte != b'\n' {
             return match self.feed_line(byte) {
-                Ok(()) => Ok(Step::More),
+                Ok(()) => Ok(()),
                 Err(kind) => Err(self.fault(kind)),
             };
         }
@@ -55,7 +42,34 @@ impl TextReader for SolutionReader {
         }
         self.line += 1;
         self.place = LinePlace::Start;
-        Ok(Step::More)
+        Ok(())
+    }
+}
+
+impl TextReader for SolutionReader {
+    type Out = SolText;
+
+    type Fault = TextFault;
+
+    ghost Value = { Solution };
+
+    ghost view = { λ s. (map (λ r. r.items) s.routes.items, s.cost) };
+
+    ghost texts = { solution_texts };
+
+    ghost fed = { Waits };
+
+    ghost held = { λ s. (map (λ r. r.items) s.form.routes.items, s.form.cost) };
+
+    ghost complete = { λ _. Unit {0} };
+
+    ghost too_long_told = { λ line. refl };
+
+    ghost waits = { λ reader before waits. waits.undecided };
+
+    fn feed(&mut self, bytes: &[u8]) -> Result<Step, TextFault> {
+        self.feed_byte(bytes[0])?;
+        Ok(Step::Taken(1))
     }
 
     fn finish(self) -> Result<SolText, TextFault> {
@@ -73,6 +87,14 @@ impl TextReader for SolutionReader {
     fn value(self) -> SolText {
         self.form.into_solution()
     }
+
+    fn too_long(&self) -> TextFault {
+        self.fault(TextKind::TooLong)
+    }
+
+    fn cut_off(&self) -> TextFault {
+        self.fault(TextKind::Read)
+    }
 }
 
 /// Reads a solution text, as far as it takes to know the answer. What it answers is what every text says that begins
@@ -82,14 +104,14 @@ impl TextReader for SolutionReader {
 /// The first fault of the text, with its line; `Read` if the source fails before it is found, and `NoMemory` if memory
 /// runs out.
 pub fn read_solution<R: Source>(alloc: Global, source: &mut R) -> Result<SolText, TextFault>
-    ensures ok { IfOk result (λ solution. IsAnswerWhereTold solution_decided TEXT_LIMIT (R.left source.old)
-        (R.left source.new) (Ok (map (λ r. r.items) solution.routes.items, solution.cost))) }
-    ensures err { IfErr result (IsFaultWhereTold solution_decided TEXT_LIMIT (R.broken source.new)
-        (R.left source.old) (R.left source.new)) }
-    ensures some_text { IfOk result (λ solution. IsOfSomeText solution_decided TEXT_LIMIT
+    ensures ok { IfOk result (λ solution. IsAnswerWhereTold solution_texts (R.left source.old) (R.left source.new)
         (Ok (map (λ r. r.items) solution.routes.items, solution.cost))) }
-    ensures some_fault { IfErr result (IsFaultOfSomeText solution_decided TEXT_LIMIT) }
-    ensures intact { IsIntact (R.broken source.old) (R.broken source.new) result }
+    ensures err { IfErr result
+        (IsFaultWhereTold solution_texts (R.broken source.new) (R.left source.old) (R.left source.new)) }
+    ensures some_text { IfOk result (λ solution. IsOfSomeText solution_texts
+        (Ok (map (λ r. r.items) solution.routes.items, solution.cost))) }
+    ensures some_fault { IfErr result (IsFaultOfSomeText solution_texts) }
+    ensures intact { IsIntact solution_texts (R.broken source.old) (R.broken source.new) result }
 {
     read_text(source, SolutionReader::new(alloc), TEXT_LIMIT)
 }

@@ -1,6 +1,6 @@
 //! Tour texts.
 ghost use Rattle.std.specs.Prelude.{◌≡◌, ◌<◌, ℕ, true, false, List, [], ◌∷◌, ◌++◌, length, Some, None, Ok, IfOk, IfErr};
-ghost use Rattle.tk_problem.specs.declared.limits.TheConstants.{ENTRY_LIMIT, TEXT_LIMIT};
+ghost use Rattle.tk_problem.specs.declared.limits.TheConstants.{ENTRY_LIMIT};
 ghost use Rattle.tk_words.specs.declared.fault.TextKind.TheVariants as kinds;
 ghost use Rattle.tk_lines.specs.declared.form.Taken.TheVariants as takens;
 ghost use Rattle.tk_words.specs.declared.keyword.Keyword.TheVariants as words;
@@ -8,8 +8,8 @@ ghost use Rattle.tk_words.specs.Texts.{IsAnswerWhereTold, IsFaultWhereTold, IsOf
 ghost use Rattle.tk_lines.specs.Pieces.{Piece, Fault, first_at};
 ghost use Rattle.tk_lines.specs.Scan.{Scans};
 ghost use Rattle.tk_lines.specs.Forms.{IsToldWord, a_header};
-ghost use Rattle.tk_lists.specs.Tour.{tour_format, tour_header, tour_decided};
-ghost use Rattle.tk_lists.specs.TourForm.{TourHolds, TourWants, IsNext, IsOut};
+ghost use Rattle.tk_lists.specs.Tour.{tour_header, tour_texts};
+ghost use Rattle.tk_lists.specs.TourForm.{TourHolds, IsNext, IsOut, tour_promise};
 
 use crate::texts::TourText;
 use std::alloc::Global;
@@ -128,15 +128,7 @@ impl Form for TourForm {
 
     ghost view = { λ t. t.cities.items };
 
-    ghost format = { tour_format };
-
-    ghost holds = { TourHolds };
-
-    ghost wants = { TourWants };
-
-    ghost held = { λ s. s.cities.items };
-
-    ghost complete = { λ _. Unit {0} };
+    ghost promise = { tour_promise };
 
     fn header(&mut self, word: Keyword, value: &Scan) -> Result<(), TextKind> {
         match word {
@@ -197,13 +189,13 @@ impl Form for TourForm {
 /// The first fault of the text, with its line; `Read` if the source fails before it is found, and `NoMemory` if memory
 /// runs out.
 pub fn read_tour<R: Source>(alloc: Global, source: &mut R) -> Result<TourText, TextFault>
-    ensures ok { IfOk result (λ tour. IsAnswerWhereTold tour_decided TEXT_LIMIT (R.left source.old) (R.left source.new)
+    ensures ok { IfOk result (λ tour. IsAnswerWhereTold tour_texts (R.left source.old) (R.left source.new)
         (Ok tour.cities.items)) }
-    ensures err { IfErr result (IsFaultWhereTold tour_decided TEXT_LIMIT (R.broken source.new)
-        (R.left source.old) (R.left source.new)) }
-    ensures some_text { IfOk result (λ tour. IsOfSomeText tour_decided TEXT_LIMIT (Ok tour.cities.items)) }
-    ensures some_fault { IfErr result (IsFaultOfSomeText tour_decided TEXT_LIMIT) }
-    ensures intact { IsIntact (R.broken source.old) (R.broken source.new) result }
+    ensures err { IfErr result
+        (IsFaultWhereTold tour_texts (R.broken source.new) (R.left source.old) (R.left source.new)) }
+    ensures some_text { IfOk result (λ tour. IsOfSomeText tour_texts (Ok tour.cities.items)) }
+    ensures some_fault { IfErr result (IsFaultOfSomeText tour_texts) }
+    ensures intact { IsIntact tour_texts (R.broken source.old) (R.broken source.new) result }
 {
     read_text(source, PieceReader::new(TourForm::new(alloc)), TEXT_LIMIT)
 }

@@ -1,15 +1,25 @@
 -- A parameter reader, byte by byte.
-use Rattle.std.proofs.Common.{◌≡◌, ◌≢◌, ℕ, suc, ◌+◌, ◌<◌, Bool, true, false, eqb, List, [], ◌∷◌, ◌++◌, length, Some}
-use Rattle.std.proofs.Common.{None, Ok, Err, refl, sym, ap, subst, ◌∙◌, append_assoc, arith}
+use Rattle.std.proofs.Common.{◌≡◌, ◌≢◌, ℕ, suc, ◌+◌, ◌<◌, Bool, true, false, eqb, List, [], ◌∷◌, ◌++◌, length, Option}
+use Rattle.std.proofs.Common.{Some}
+use Rattle.std.proofs.Common.{◌≤◌, get_or, take, Result, None, Ok, Err, refl, sym, ap, subst, ◌∙◌, append_assoc, arith}
 use Rattle.std.proofs.lemmas.Bool.{eqb-true, ne_eqb}
 use Rattle.std.proofs.lemmas.List.{append-nil, length-append}
 use Rattle.tk_lines.proofs.MiddleOfLine.{prepend-nil}
 use Rattle.tk_lines.proofs.LineSteps.{line_behind-byte, line_behind-LF}
 use Rattle.tk_lines.proofs.Headers.ByteRuns.{behind-all, behind-on}
 use Rattle.tk_lines.specs.Scan.{IsEmpty}
+use Rattle.std.specs.Option.{IsSome, ok_or}
+use Rattle.std.specs.Prelude.{is_some, option_map, unwrap_or}
 use Rattle.tk_words.specs.declared.sources.text_reader.Step.{Step}
-use Rattle.tk_words.specs.declared.sources.text_reader.Step.TheVariants as steps
-use Rattle.tk_words.specs.Drive.{Decides}
+use Rattle.tk_words.specs.declared.sources.text_reader.Step.TheVariants.{Taken, Done}
+use Rattle.tk_words.specs.Taking as Taking
+use Rattle.tk_words.specs.Taking.{HasEnded}
+use Rattle.tk_words.proofs.Told.{told_of}
+use Rattle.tk_lines.proofs.Runs.{first_byte}
+use Rattle.tk_words.specs.Texts.{Decides, DecidesWithin}
+use Rattle.tk_params.specs.Asked.{ParamsAre, asked, asked_of, file_in}
+use Rattle.tk_params.specs.declared.key.Key.TheVariants as keys
+use Rattle.tk_params.specs.declared.fault.ParamFault.{ParamFault}
 use Rattle.tk_words.specs.Lex.{is_blank, is_word_byte, behind, lines}
 use Rattle.tk_params.proofs.Steps.{push_open, from_byte, from_over, from_eof, from_end_eof, from_open, from_LF}
 use Rattle.tk_params.proofs.Steps.{from_LF_fault, from_end, from_end_fault}
@@ -17,14 +27,15 @@ use Rattle.tk_params.specs.declared.fault.ParamKind.{ParamKind}
 use Rattle.tk_params.specs.declared.fault.ParamKind.TheVariants as kinds
 use Rattle.tk_params.specs.declared.reader.ParamReader.{ParamReader}
 use Rattle.tk_params.specs.Readers.{IsSound}
-use Rattle.tk_params.specs.Reading.{Feeds, IsTaken, TakesLine, answer_in, from_line}
-use Rattle.tk_params.specs.Values.{Meaning, Faulty, line_means, settings_of}
-use Rattle.tk_params.specs.Params.{at_end, is_eof, judge, line_limit, pieces, said, params_decided}
+use Rattle.tk_params.specs.Reading.{Feeds, HasRead, IsComplete, IsTaken, Waits, from_line, params_in}
+use Rattle.tk_params.specs.Values.{Settings, Meaning, Faulty, line_means, look, settings_of}
+use Rattle.tk_params.specs.Params.{Answer, at_end, cause_of, is_eof, judge, line_limit, pieces, params_decided}
+use Rattle.tk_params.specs.Params.{params_texts}
 
 -- nothing is read
 pub from_nothing : (e : Bool) (more : List ℕ) → params_decided e more ≡ from_line 1 [] [] e more
 unfolding params_decided from_line
-from_nothing e more = ap (λ ls. said (judge 1 [] (pieces ls))) (sym (prepend-nil (lines e 1 more)))
+from_nothing e more = ap (λ ls. (judge 1 [] (pieces ls))) (sym (prepend-nil (lines e 1 more)))
 
 -- what is read of a text, and one byte more
 module _ (s : ParamReader) (bs : List ℕ) (f : Feeds s bs) (b : ℕ) where
@@ -34,13 +45,13 @@ module _ (s : ParamReader) (bs : List ℕ) (f : Feeds s bs) (b : ℕ) where
 
   -- EOF has ended
   pub eof_ends : is_eof s.held.items ≡ true → is_word_byte b ≡ false →
-      Decides params_decided (bs ++ b ∷ []) (Ok (at_end s.line s.settings))
+      Decides params_texts (bs ++ b ∷ []) (at_end s.line s.settings)
   eof_ends k solid e more = on_byte e more
       ∙ from_eof s.line s.settings f.pre e b more (ap is_eof (sym f.held) ∙ k) f.short solid
 
   -- a line is too long
   pub line_over : b ≢ 10 → (is_eof s.held.items ≡ true → is_word_byte b ≡ true) → length f.pre ≡ line_limit →
-      Decides params_decided (bs ++ b ∷ []) (Ok (Err (record { line = s.line; kind = kinds.TooLong })))
+      Decides params_texts (bs ++ b ∷ []) (Err (record { line = s.line; kind = kinds.TooLong }))
   line_over ne k len e more =
       on_byte e more
       ∙ from_byte s.line s.settings f.pre e b more (ne_eqb _ _ ne)
@@ -50,7 +61,7 @@ module _ (s : ParamReader) (bs : List ℕ) (f : Feeds s bs) (b : ℕ) where
   -- a line has a fault
   pub line_faulty : b ≡ 10 → is_eof s.held.items ≡ false → (kind : ParamKind) →
       line_means s.settings s.held.items ≡ Faulty kind →
-      Decides params_decided (bs ++ b ∷ []) (Ok (Err (record { line = s.line; kind = kind })))
+      Decides params_texts (bs ++ b ∷ []) (Err (record { line = s.line; kind = kind }))
   line_faulty is k kind m e more =
       on_byte e more ∙ ap (λ c. from_line s.line s.settings f.pre e (c ∷ more)) is
       ∙ from_LF_fault s.line s.settings f.pre f.going f.short (ap is_eof (sym f.held) ∙ k) e more kind
@@ -59,13 +70,12 @@ module _ (s : ParamReader) (bs : List ℕ) (f : Feeds s bs) (b : ℕ) where
   -- a byte of a line
   pub kept_byte : (t : ParamReader) → b ≢ 10 → (is_eof s.held.items ≡ true → is_word_byte b ≡ true)
       → length f.pre < line_limit
-      → t.line ≡ s.line → t.fault ≡ s.fault → t.settings ≡ s.settings → t.count ≡ s.count + 1 →
+      → t.line ≡ s.line → t.settings ≡ s.settings → t.count ≡ s.count + 1 →
       t.held.items ≡ behind is_blank (f.pre ++ b ∷ []) → Feeds t (bs ++ b ∷ [])
-  kept_byte t ne k lt line fault settings count held =
+  kept_byte t ne k lt line settings count held =
       record {
         pre = f.pre ++ b ∷ [];
         line = line ∙ f.line ∙ sym (line_behind-byte bs b (ne_eqb _ _ ne));
-        fault = fault ∙ f.fault;
         count = omega (arith, count, f.count, length-append f.pre (b ∷ []));
         short = omega (arith, lt, length-append f.pre (b ∷ []));
         held = held;
@@ -94,13 +104,12 @@ hold_blank pre (c ∷ cs) b e n s = absurd (let k = eqb-true _ _ n in omega (ari
 
 -- ---- the reader's places
 
-pub fed_new : (t : ParamReader) → t.line ≡ 1 → t.count ≡ 0 → t.fault ≡ None → t.settings ≡ [] →
+pub fed_new : (t : ParamReader) → t.line ≡ 1 → t.count ≡ 0 → t.settings ≡ [] →
     t.held.items ≡ [] → Feeds t []
-fed_new t line count fault settings held =
+fed_new t line count settings held =
     record {
       pre = [];
       line = line;
-      fault = fault;
       count = count;
       short = omega arith;
       held = held;
@@ -130,14 +139,13 @@ module _ (s t : ParamReader) (bs : List ℕ) (f : Feeds s bs) (taken : IsTaken s
   same_settings : s.settings ++ settings_of (line_means s.settings (behind is_blank f.pre)) ≡ t.settings
   same_settings = ap (λ m. s.settings ++ settings_of m) same_means ∙ sym taken.taken.settings
 
-  pub fed_line : (u : ParamReader) → u.line ≡ t.line + 1 → u.count ≡ 0 → u.fault ≡ t.fault → u.settings ≡ t.settings →
+  pub fed_line : (u : ParamReader) → u.line ≡ t.line + 1 → u.count ≡ 0 → u.settings ≡ t.settings →
       u.held.items ≡ [] → Feeds u (bs ++ 10 ∷ [])
-  fed_line u line count fault settings held =
+  fed_line u line count settings held =
       let next : u.line ≡ suc s.line = omega (arith, line, taken.line) in
       record {
         pre = [];
         line = omega (arith, next, f.line, line_behind-LF bs);
-        fault = fault ∙ taken.fault ∙ f.fault;
         count = count;
         short = omega arith;
         held = held;
@@ -151,29 +159,93 @@ module _ (s t : ParamReader) (bs : List ℕ) (f : Feeds s bs) (taken : IsTaken s
       }
 
   -- the last line is taken, and nothing follows
-  ends_line : params_decided true bs ≡ Some (Ok (at_end s.line t.settings))
+  pub ends_line : params_decided true bs ≡ Some (at_end s.line t.settings)
   ends_line =
       ap (params_decided true) (sym (append-nil bs)) ∙ f.same true []
       ∙ from_end s.line s.settings f.pre f.going f.short no_eof is_sound
-      ∙ ap (λ ss. Some (Ok (at_end s.line ss))) same_settings
+      ∙ ap (λ ss. Some (at_end s.line ss)) same_settings
 
 module _ (s : ParamReader) (bs : List ℕ) (f : Feeds s bs) where
-  pub ends_eof : is_eof s.held.items ≡ true → params_decided true bs ≡ Some (Ok (at_end s.line s.settings))
+  pub ends_eof : is_eof s.held.items ≡ true → params_decided true bs ≡ Some (at_end s.line s.settings)
   ends_eof k = ap (params_decided true) (sym (append-nil bs)) ∙ f.same true []
       ∙ from_end_eof s.line s.settings f.pre (ap is_eof (sym f.held) ∙ k) f.short
 
-  ends_faulty : is_eof s.held.items ≡ false → (kind : ParamKind) → line_means s.settings s.held.items ≡ Faulty kind →
-      params_decided true bs ≡ Some (Ok (Err (record { line = s.line; kind = kind })))
+  pub ends_faulty : is_eof s.held.items ≡ false → (kind : ParamKind) →
+      line_means s.settings s.held.items ≡ Faulty kind →
+      params_decided true bs ≡ Some (Err (record { line = s.line; kind = kind }))
   ends_faulty k kind m =
       ap (params_decided true) (sym (append-nil bs)) ∙ f.same true []
       ∙ from_end_fault s.line s.settings f.pre f.going f.short (ap is_eof (sym f.held) ∙ k) kind
       (ap (line_means s.settings) (sym f.held) ∙ m)
 
--- the last line has a fault, or is taken
-pub ends_taken : (s t : ParamReader) (bs : List ℕ) → Feeds s bs → is_eof s.held.items ≡ false → (step : Step) →
-    TakesLine s t step → params_decided true bs ≡ Some (Ok (answer_in t))
-ends_taken s t bs f other steps.More taken = rw (taken.fault, f.fault, taken.line) (ends_line s t bs f taken other)
-ends_taken s t bs f other steps.Done st = rw st.answer (ends_faulty s bs f other st.kind st.means)
+pub fed_waits : (t : ParamReader) (bs : List ℕ) → Feeds t bs → Waits t bs
+fed_waits t bs f = record { fed = f; undecided = fed_open t bs f }
 
-pub fed_both : (t : ParamReader) (bs : List ℕ) → Feeds t bs → Feeds t bs × (params_decided false bs ≡ None)
-fed_both t bs f = (f, fed_open t bs f)
+-- ---- what the settings ask for at the end
+
+-- they name the problem's file
+pub whole_at_end : (s : ParamReader) → is_some (file_in (look keys.ProblemFile s.settings)) ≡ true →
+    (at_end s.line s.settings ≡ Ok (params_in s)) × IsComplete s
+whole_at_end s h = by_file (file_in (look keys.ProblemFile s.settings)) h
+  where
+    by_file : (name : Option (List ℕ)) → is_some name ≡ true →
+        (ok_or {E = ParamFault} (option_map (λ problem. asked_of problem s.settings) name)
+        (record { line = s.line; kind = kinds.MissingProblem }) ≡ Ok (asked_of (unwrap_or name []) s.settings))
+        × IsSome (option_map (λ problem. asked_of problem s.settings) name)
+    by_file None h = absurd cc
+    by_file (Some name) h = (refl, refl)
+
+-- they do not
+pub missing_at_end : (s : ParamReader) → is_some (file_in (look keys.ProblemFile s.settings)) ≡ false →
+    at_end s.line s.settings ≡ Err (record { line = s.line; kind = kinds.MissingProblem })
+missing_at_end s h = by_file (file_in (look keys.ProblemFile s.settings)) h
+  where
+    by_file : (name : Option (List ℕ)) → is_some name ≡ false →
+        ok_or {E = ParamFault} (option_map (λ problem. asked_of problem s.settings) name)
+        (record { line = s.line; kind = kinds.MissingProblem }) ≡ Err
+        (record { line = s.line; kind = kinds.MissingProblem })
+    by_file None h = refl
+    by_file (Some name) h = absurd cc
+
+-- what they ask for, once they name it
+pub asked_in : (s : ParamReader) (p : ParamsAre) → asked s.settings ≡ Some p → p ≡ params_in s
+asked_in s p h = by_file (file_in (look keys.ProblemFile s.settings)) h
+  where
+    by_file : (name : Option (List ℕ)) → option_map (λ problem. asked_of problem s.settings) name ≡ Some p →
+        p ≡ asked_of (unwrap_or name []) s.settings
+    by_file None h = absurd cc
+    by_file (Some name) h = cc
+
+-- the answer at the end, as the reader gives it
+pub ended_as : (line : ℕ) (settings : Settings) (bs : List ℕ) → params_decided true bs ≡ Some (at_end line settings) →
+    HasEnded params_texts (λ (p : ParamsAre). p) bs (at_end line settings)
+ended_as line settings bs h = by_asked (asked settings) h
+  where
+    missing : ParamFault
+    missing = record { line = line; kind = kinds.MissingProblem }
+
+    by_asked : (o : Option ParamsAre) → params_decided true bs ≡ Some (ok_or o missing) →
+        HasEnded params_texts (λ (p : ParamsAre). p) bs (ok_or o missing)
+    by_asked None h = h
+    by_asked (Some p) h = h
+
+within : (new : ParamReader) (before bytes : List ℕ) → 1 ≤ length bytes → (a : Answer) →
+    Decides params_texts (before ++ get_or bytes 0 0 ∷ []) a → DecidesWithin params_texts before bytes a
+within new before bytes some a h =
+    (1, some, subst (λ (l : List ℕ). Decides params_texts (before ++ l) a) (sym (first_byte bytes some)) h)
+
+-- the first of some bytes is read
+pub read_taken : (new : ParamReader) (before bytes : List ℕ) (r : Result Step ParamFault) → 1 ≤ length bytes →
+    HasRead new (before ++ get_or bytes 0 0 ∷ []) r →
+    Taking.HasTaken params_texts (Waits new) (params_in new) (IsComplete new) before bytes r
+read_taken new before bytes (Ok (Taken n)) some (one, fed) = (
+  omega (arith, one),
+  omega (arith, one, some),
+  fed_waits new _ (subst (λ (l : List ℕ). Feeds new (before ++ l))
+      (sym (first_byte bytes some) ∙ ap (λ (k : ℕ). take k bytes) (sym one)) fed),
+)
+read_taken new before bytes (Ok Done) some (decides, complete) = (within new before bytes some _ decides, complete)
+read_taken new before bytes (Err f) some told =
+    told_of ⊥ (λ e. Decides params_texts (before ++ get_or bytes 0 0 ∷ []) (Err e))
+    (λ e. DecidesWithin params_texts before bytes (Err e)) f (cause_of f.kind)
+    (within new before bytes some (Err f)) told

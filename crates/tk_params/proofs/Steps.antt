@@ -1,6 +1,6 @@
 -- How a line of a parameter file ends.
 use Rattle.std.proofs.Common.{◌≡◌, ℕ, suc, ◌-◌, ◌<◌, ◌≤◌, Bool, true, false, cond, eqb, leb, ltb, not, ◌&&◌, ◌||◌, List}
-use Rattle.std.proofs.Common.{[], ◌∷◌, ◌++◌, length, Option, Some, None, Ok, Err, refl, sym, ap, ◌∙◌, arith}
+use Rattle.std.proofs.Common.{[], ◌∷◌, ◌++◌, length, Option, Some, None, Err, refl, sym, ap, ◌∙◌, arith}
 use Rattle.std.proofs.lemmas.Bool.{eqb-true, ltb-true, ltb-false, lt-ltb, le-ltb, le-leb, and_parts, and_from, and_left}
 use Rattle.std.proofs.lemmas.Bool.{or_right, false_from_ne_true, cond-true, cond-false}
 use Rattle.std.proofs.lemmas.List.{append-nil, length-append}
@@ -19,7 +19,7 @@ use Rattle.tk_params.specs.Reading.{ends_in, from_line}
 use Rattle.tk_params.specs.Entries.{Entry, entry_of}
 use Rattle.tk_params.specs.Values.{Settings, Meaning, Nothing, Faulty, Sets, means, line_means, settings_of}
 use Rattle.tk_params.specs.Params.{Answer, Piece, LongLine, End, Open, Holds, after, at_end, behind_word, counted}
-use Rattle.tk_params.specs.Params.{is_end, is_eof, judge, line_limit, pieces, said, word_of}
+use Rattle.tk_params.specs.Params.{is_end, is_eof, judge, line_limit, pieces, word_of}
 
 -- ---- EOF
 
@@ -256,52 +256,51 @@ pub from_byte : (n : ℕ) (before : Settings) (pre : List ℕ) (e : Bool) (b : �
     from_line n before pre e (b ∷ more) ≡ from_line n before (pre ++ b ∷ []) e more
 unfolding from_line
 from_byte n before pre e b more h =
-    ap (λ (ls : List Line). said (judge n before (pieces (prepend pre ls)))) (lines-byte e n b more h)
-    ∙ ap (λ (ls : List Line). said (judge n before (pieces ls))) (prepend-onto pre b (lines e n more))
+    ap (λ (ls : List Line). (judge n before (pieces (prepend pre ls)))) (lines-byte e n b more h)
+    ∙ ap (λ (ls : List Line). (judge n before (pieces ls))) (prepend-onto pre b (lines e n more))
 
 pub from_over : (n : ℕ) (before : Settings) (pre : List ℕ) (e : Bool) (more : List ℕ) → ends_in pre ≡ false →
     length pre ≡ suc line_limit →
-    from_line n before pre e more ≡ Some (Ok (Err (record { line = n; kind = kinds.TooLong })))
+    from_line n before pre e more ≡ Some (Err (record { line = n; kind = kinds.TooLong }))
 unfolding from_line
 from_over n before pre e more none len =
     let f = first_line e n more in
-    ap (λ (ls : List Line). said (judge n before (pieces (prepend pre ls)))) f.is
-    ∙ ap said (judge_over n before _ f.rest (over pre none n f.bytes f.whole len))
+    ap (λ (ls : List Line). (judge n before (pieces (prepend pre ls)))) f.is
+    ∙ (judge_over n before _ f.rest (over pre none n f.bytes f.whole len))
 
 pub from_eof : (n : ℕ) (before : Settings) (pre : List ℕ) (e : Bool) (b : ℕ) (more : List ℕ) →
     is_eof (behind is_blank pre) ≡ true → length pre ≤ line_limit → is_word_byte b ≡ false →
-    from_line n before pre e (b ∷ more) ≡ Some (Ok (at_end n before))
+    from_line n before pre e (b ∷ more) ≡ Some (at_end n before)
 unfolding from_line
 from_eof n before pre e b more k le solid = by_test (eqb b LF) refl
   where
     by_test : (t : Bool) → eqb b LF ≡ t →
-        said (judge n before (pieces (prepend pre (lines e n (b ∷ more))))) ≡ Some (Ok (at_end n before))
+        (judge n before (pieces (prepend pre (lines e n (b ∷ more))))) ≡ Some (at_end n before)
     by_test true t =
         let is : b ≡ LF = eqb-true _ _ t in
         let i = eof_at pre [] n true k le refl refl in
         rw (is, lines-LF e n more)
-        (ap said (judge_end n before (record { number = n; bytes = pre ++ []; whole = true }) (lines e (suc n) more)
+        ((judge_end n before (record { number = n; bytes = pre ++ []; whole = true }) (lines e (suc n) more)
         i.counts i.ends))
     by_test false t =
         let f = first_line e n more in
         let i = eof_at pre (b ∷ f.bytes) n f.whole k le (rw solid refl) (or_right f.whole true refl) in
         rw (lines-byte e n b more t, f.is)
-        (ap said (judge_end n before (record { number = n; bytes = pre ++ b ∷ f.bytes; whole = f.whole }) f.rest
+        ((judge_end n before (record { number = n; bytes = pre ++ b ∷ f.bytes; whole = f.whole }) f.rest
         i.counts i.ends))
 
 pub from_end_eof : (n : ℕ) (before : Settings) (pre : List ℕ) → is_eof (behind is_blank pre) ≡ true →
-    length pre ≤ line_limit → from_line n before pre true [] ≡ Some (Ok (at_end n before))
+    length pre ≤ line_limit → from_line n before pre true [] ≡ Some (at_end n before)
 unfolding from_line lines
 from_end_eof n before pre k le = let i = eof_at pre [] n true k le refl refl in
-    ap said (judge_end n before (record { number = n; bytes = pre ++ []; whole = true }) [] i.counts i.ends)
+    (judge_end n before (record { number = n; bytes = pre ++ []; whole = true }) [] i.counts i.ends)
 
 module _ (n : ℕ) (before : Settings) (pre : List ℕ) (none : ends_in pre ≡ false) (le : length pre ≤ line_limit) where
   pub from_open : from_line n before pre false [] ≡ None
   unfolding from_line lines
   from_open =
       rw (append-nil pre)
-      (ap said
-      (judge_open n before (record { number = n; bytes = pre; whole = false }) []
+      ((judge_open n before (record { number = n; bytes = pre; whole = false }) []
       (counts_all (record { number = n; bytes = pre; whole = false }) none le) none refl))
 
   module _ (other : is_eof (behind is_blank pre) ≡ false) where
@@ -327,25 +326,25 @@ module _ (n : ℕ) (before : Settings) (pre : List ℕ) (none : ends_in pre ≡ 
     from_LF e more h =
         let b = before ++ settings_of (line_means before (behind is_blank pre)) in
         rw (lines-LF e n more, append-nil pre, prepend-nil (lines e (suc n) more))
-        (ap said (at_line (lines e (suc n) more) ∙ sound _ _ h ∙ any_number n (suc n) (suc n) b e more))
+        ((at_line (lines e (suc n) more) ∙ sound _ _ h ∙ any_number n (suc n) (suc n) b e more))
 
     pub from_LF_fault : (e : Bool) (more : List ℕ) (kind : ParamKind)
         → line_means before (behind is_blank pre) ≡ Faulty kind
-        → from_line n before pre e (LF ∷ more) ≡ Some (Ok (Err (record { line = n; kind = kind })))
+        → from_line n before pre e (LF ∷ more) ≡ Some (Err (record { line = n; kind = kind }))
     unfolding from_line
     from_LF_fault e more kind h =
-        rw (lines-LF e n more, append-nil pre) (ap said (at_line (lines e (suc n) more))
-        ∙ ap (λ (m : Meaning). said (after n m (judge n (before ++ settings_of m) (pieces (lines e (suc n) more))))) h)
+        rw (lines-LF e n more, append-nil pre) ((at_line (lines e (suc n) more))
+        ∙ ap (λ (m : Meaning). (after n m (judge n (before ++ settings_of m) (pieces (lines e (suc n) more))))) h)
 
     pub from_end : IsSound (line_means before (behind is_blank pre)) →
         from_line n before pre true [] ≡ Some
-        (Ok (at_end n (before ++ settings_of (line_means before (behind is_blank pre)))))
+        (at_end n (before ++ settings_of (line_means before (behind is_blank pre))))
     unfolding from_line lines
-    from_end h = rw (append-nil pre) (ap said (at_line [] ∙ sound _ _ h ∙ judge_none n _))
+    from_end h = rw (append-nil pre) ((at_line [] ∙ sound _ _ h ∙ judge_none n _))
 
     pub from_end_fault : (kind : ParamKind) → line_means before (behind is_blank pre) ≡ Faulty kind →
-        from_line n before pre true [] ≡ Some (Ok (Err (record { line = n; kind = kind })))
+        from_line n before pre true [] ≡ Some (Err (record { line = n; kind = kind }))
     unfolding from_line lines
     from_end_fault kind h =
-        rw (append-nil pre) (ap said (at_line [])
-        ∙ ap (λ (m : Meaning). said (after n m (judge n (before ++ settings_of m) []))) h)
+        rw (append-nil pre) ((at_line [])
+        ∙ ap (λ (m : Meaning). (after n m (judge n (before ++ settings_of m) []))) h)

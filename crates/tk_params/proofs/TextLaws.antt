@@ -1,11 +1,10 @@
 -- Each parameter text has an answer, and what is decided of it stays.
 use Rattle.std.proofs.Common.{◌≡◌, ℕ, suc, ◌-◌, ◌<◌, Bool, true, false, cond, ltb, not, ◌||◌, List, [], ◌∷◌, ◌++◌}
-use Rattle.std.proofs.Common.{length, take, drop, Option, Some, None, Result, Err, refl, sym, ap, subst, ◌∙◌}
+use Rattle.std.proofs.Common.{length, take, drop, Option, Some, None, Err, refl, sym, ap, subst, ◌∙◌}
 use Rattle.std.proofs.Common.{append_assoc, arith}
 use Rattle.std.specs.Option.{IsSome}
 use Rattle.std.proofs.lemmas.Bool.{ltb-true, and_parts, and_from}
 use Rattle.std.proofs.lemmas.List.{length-append, length-take, take-append-drop}
-use Rattle.tk_words.specs.declared.fault.TextFault.{TextFault}
 use Rattle.tk_words.specs.Lex.{Line, is_blank, is_word_byte, is_empty, front, behind, lines}
 use Rattle.tk_words.specs.TextLaws.{HasAnswers, StaysDecided}
 use Rattle.tk_words.proofs.Bools.{or_true}
@@ -15,7 +14,7 @@ use Rattle.tk_lines.proofs.MiddleOfLine.{behind-more, front-more}
 use Rattle.tk_params.proofs.Steps.{judge_line, judge_none, over}
 use Rattle.tk_params.specs.declared.fault.ParamKind.TheVariants as kinds
 use Rattle.tk_params.specs.Params.{Answer, after, at_end, behind_word, counted, is_end, is_eof, judge, line_limit}
-use Rattle.tk_params.specs.Params.{params_decided, pieces, said, word_of}
+use Rattle.tk_params.specs.Params.{params_decided, pieces, word_of}
 use Rattle.tk_params.specs.Reading.{ends_in}
 use Rattle.tk_params.specs.Values.{Settings, Meaning, Nothing, Faulty, Sets, line_means, settings_of}
 
@@ -33,10 +32,6 @@ some_after n Nothing z h = h
 some_after n (Faulty kind) z h = refl
 some_after n (Sets key value) z h = h
 
-some_said : (z : Option Answer) → IsSome z → IsSome (said z)
-some_said None h = h
-some_said (Some a) h = refl
-
 some_judged : (n : ℕ) (before : Settings) (ls : List Line) → AreWhole ls → IsSome (judge n before (pieces ls))
 some_judged n before [] h = rw (judge_none n before) refl
 some_judged n before (l ∷ ls) h =
@@ -50,8 +45,7 @@ some_judged n before (l ∷ ls) h =
 
 pub some_decided : HasAnswers params_decided
 unfolding params_decided
-some_decided text =
-    some_said (judge 1 [] (pieces (lines true 1 text))) (some_judged 1 [] (lines true 1 text) (whole_lines text 1))
+some_decided text = some_judged 1 [] (lines true 1 text) (whole_lines text 1)
 
 -- ---- a last line that goes on
 
@@ -158,11 +152,6 @@ kept_after n Nothing z z' a g h = g h
 kept_after n (Faulty kind) z z' a g h = h
 kept_after n (Sets key value) z z' a g h = g h
 
-kept_said : (z z' : Option Answer) (a : Result Answer TextFault) → ((x : Answer) → z ≡ Some x → z' ≡ Some x) →
-    said z ≡ Some a → said z' ≡ Some a
-kept_said None z' a g h = absurd cc
-kept_said (Some x) z' a g h = rw (g x refl) h
-
 module _ (n : ℕ) (bs x : List ℕ) (w : Bool) (rest : List Line) (a : Answer) where
   lines_stay : (front : List Line) (m : ℕ) (before : Settings) →
       judge m before (pieces (front ++ a_line n bs false ∷ [])) ≡ Some a →
@@ -184,5 +173,4 @@ pub decided_stays : StaysDecided params_decided
 unfolding params_decided
 decided_stays bs a h e more =
     let g = lines_grow e bs more 1 in
-    kept_said (judge 1 [] (pieces (lines false 1 bs))) (judge 1 [] (pieces (lines e 1 (bs ++ more)))) a
-    (λ x k. rw g.new (lines_stay g.number g.bytes g.more g.whole g.rest x g.front 1 [] (rw g.old at k))) h
+    rw g.new (lines_stay g.number g.bytes g.more g.whole g.rest a g.front 1 [] (rw g.old at h))

@@ -1,12 +1,8 @@
 -- Parameter texts (K. Helsgaun, LKH user guide; the limits and the keys are this project's).
-use Rattle.std.specs.Prelude.{◌≡◌, ◌≢◌, ℕ, ◌-◌, Bool, true, not, ◌&&◌, ◌||◌, nat_lt, List, [], ◌∷◌, ◌++◌, length, map}
-use Rattle.std.specs.Prelude.{Option, Some, None, Result, Ok, Err, if◌then◌else◌, codes}
+use Rattle.std.specs.Prelude.{ℕ, ◌-◌, Bool, not, ◌&&◌, ◌||◌, nat_lt, List, [], ◌∷◌, ◌++◌, length, map}
+use Rattle.std.specs.Prelude.{Option, Some, None, Result, Err, if◌then◌else◌, codes}
 use Rattle.std.specs.Option.{ok_or}
-use Rattle.tk_words.specs.declared.fault.TextFault.{TextFault}
-use Rattle.tk_words.specs.declared.fault.TextKind.{TextKind}
-use Rattle.tk_words.specs.declared.fault.TextKind.TheVariants as text
-use Rattle.tk_words.specs.Drive.{Decided}
-use Rattle.tk_words.specs.Texts.{answer_of, IsReadTo, IsCutOff, WhereTold}
+use Rattle.tk_words.specs.Texts.{Cause, OfText, OfSource, OfMemory, Decided, Texts, answer_of}
 use Rattle.tk_words.specs.Lex.{Line, is_blank, is_word_byte, is_empty, front, behind, lines}
 use Rattle.tk_words.specs.Words.{spells}
 use Rattle.tk_params.specs.declared.fault.ParamFault.{ParamFault}
@@ -79,64 +75,27 @@ judge n before (Holds line entry ∷ ps) =
     let meaning = means before entry in
     after line meaning (judge line (before ++ settings_of meaning) ps)
 
--- a fault of the text is what it says
-abbrev pub said : Option Answer → Option (Result Answer TextFault)
-said None = None
-said (Some a) = Some (Ok a)
-
 -- what bytes say, as a text that begins with them
-unfoldable pub params_decided : Decided Answer
-params_decided ended bs = said (judge 1 [] (pieces (lines ended 1 bs)))
+unfoldable pub params_decided : Decided ParamsAre ParamFault
+params_decided ended bs = judge 1 [] (pieces (lines ended 1 bs))
 
--- a text that is too long has that fault
-abbrev pub joined : Result Answer TextFault → Answer
-joined (Ok a) = a
-joined (Err f) = Err (record { line = f.line; kind = kinds.TooLong })
+-- what a fault is of
+abbrev pub cause_of : ParamKind → Cause
+cause_of kinds.NoMemory = OfMemory
+cause_of kinds.Read = OfSource
+cause_of _ = OfText
 
--- the answer to a text. Of one that is too long, only what its bytes up to and with the first too many decide counts
+-- parameter texts
+abbrev pub params_texts : Texts ParamsAre ParamFault
+params_texts =
+    record {
+      decided = params_decided;
+      limit = params_limit;
+      too_long = λ n. record { line = n; kind = kinds.TooLong };
+      cause = λ f. cause_of f.kind;
+      line_of = λ f. f.line;
+    }
+
+-- the answer to a text
 abbrev pub params_answer : List ℕ → Answer
-params_answer text = joined (answer_of params_decided params_limit text)
-
--- some text has this answer
-abbrev pub IsOfSomeParams : Answer → Type 0
-IsOfSomeParams a = (text : List ℕ) × (params_answer text ≡ a)
-
--- a fault other than of reading or of memory is the answer to some text
-abbrev pub IsKindOfSomeParams : ParamFault → ParamKind → Type 0
-IsKindOfSomeParams f kinds.NoMemory = Unit {0}
-IsKindOfSomeParams f kinds.Read = Unit {0}
-IsKindOfSomeParams f _ = IsOfSomeParams (Err f)
-
-abbrev pub IsFaultOfSomeParams : ParamFault → Type 0
-IsFaultOfSomeParams f = IsKindOfSomeParams f f.kind
-
--- what a reader answered, by the text and what is left of it: it is the text's answer, and where not all of the text
--- was read, it is the answer to every text that begins with the bytes read
-pub record IsParamAnswer (text rest : List ℕ) (a : Answer) : Type 0 where
-  pub read : IsReadTo params_decided params_limit text rest
-  pub answer : params_answer text ≡ a
-  pub unread : rest ≢ [] → (more : List ℕ) → params_answer ((read.before ++ read.last) ++ more) ≡ a
-
-abbrev pub IsParamAnswerWhereTold : Option (List ℕ) → Option (List ℕ) → Answer → Type 0
-IsParamAnswerWhereTold old new a = WhereTold old new (λ text rest. IsParamAnswer text rest a)
-
--- a fault of memory, where reading has come so far; of reading, where the source has failed; any other, as an answer
-abbrev pub IsParamFaultOfKind : Bool → Option (List ℕ) → Option (List ℕ) → ParamFault → ParamKind → Type 0
-IsParamFaultOfKind broken old new f kinds.NoMemory = WhereTold old new (IsReadTo params_decided params_limit)
-IsParamFaultOfKind broken old new f kinds.Read =
-    (broken ≡ true) × WhereTold old new (IsCutOff params_decided params_limit f.line)
-IsParamFaultOfKind broken old new f _ = IsParamAnswerWhereTold old new (Err f)
-
-abbrev pub IsParamFaultWhereTold : Bool → Option (List ℕ) → Option (List ℕ) → ParamFault → Type 0
-IsParamFaultWhereTold broken old new f = IsParamFaultOfKind broken old new f f.kind
-
--- what a fault of the source, of memory or of the text's limit is
-abbrev pub kind_of : TextKind → ParamKind
-kind_of text.Read = kinds.Read
-kind_of text.NoMemory = kinds.NoMemory
-kind_of _ = kinds.TooLong
-
--- but for a fault of reading, the source is as whole as before
-abbrev pub IsParamIntact : {V : Type 0} → Bool → Bool → Result V ParamFault → Type 0
-IsParamIntact old new (Ok v) = new ≡ old
-IsParamIntact old new (Err f) = f.kind ≢ kinds.Read → new ≡ old
+params_answer text = answer_of params_texts text

@@ -1,40 +1,34 @@
 -- A parameter reader's place in a text.
-use Rattle.std.specs.Prelude.{◌≡◌, ◌≤◌, ℕ, Bool, false, not, ◌&&◌, List, ◌++◌, length, Option, Some, None, Result, Err}
+use Rattle.std.specs.Prelude.{◌≡◌, ◌≤◌, ℕ, Bool, false, not, ◌&&◌, List, [], ◌++◌, length, Option, None, Result, Ok}
+use Rattle.std.specs.Prelude.{Err}
+use Rattle.std.specs.Prelude.{unwrap_or}
+use Rattle.std.specs.Option.{IsSome}
 use Rattle.tk_words.specs.declared.sources.text_reader.Step.{Step}
-use Rattle.tk_words.specs.declared.sources.text_reader.Step.TheVariants as steps
-use Rattle.tk_words.specs.declared.fault.TextFault.{TextFault}
-use Rattle.tk_words.specs.Drive.{line_behind}
+use Rattle.tk_words.specs.declared.sources.text_reader.Step.TheVariants.{Taken, Done}
+use Rattle.tk_words.specs.Texts.{Decides, IsTold, line_behind}
 use Rattle.tk_words.specs.Lex.{is_blank, is_empty, behind, lines}
 use Rattle.tk_lines.specs.FromMiddle.{prepend}
 use Rattle.tk_params.specs.declared.fault.ParamFault.{ParamFault}
-use Rattle.tk_params.specs.declared.fault.ParamKind.{ParamKind}
+use Rattle.tk_params.specs.declared.key.Key.TheVariants as keys
 use Rattle.tk_params.specs.declared.reader.ParamReader.{ParamReader}
-use Rattle.tk_params.specs.Readers.{HasTaken}
-use Rattle.tk_params.specs.Values.{Settings, Faulty, line_means}
-use Rattle.tk_params.specs.Params.{Answer, at_end, line_limit, is_eof, word_of, behind_word, judge, pieces, said}
-use Rattle.tk_params.specs.Params.{params_decided}
-
-abbrev pub answer_with : Option ParamFault → ℕ → Settings → Answer
-answer_with None n before = at_end n before
-answer_with (Some f) n before = Err f
-
--- what a reader answers
-abbrev pub answer_in : ParamReader → Answer
-answer_in s = answer_with s.fault s.line s.settings
+use Rattle.tk_params.specs.Asked.{ParamsAre, asked, asked_of, file_in}
+use Rattle.tk_params.specs.Readers.{HasTaken, IsToldOf}
+use Rattle.tk_params.specs.Values.{Settings, Faulty, line_means, look}
+use Rattle.tk_params.specs.Params.{line_limit, is_eof, word_of, behind_word, judge, pieces, params_decided}
+use Rattle.tk_params.specs.Params.{params_texts}
 
 -- EOF stands at the front, and something after it
 abbrev pub ends_in : List ℕ → Bool
 ends_in pre = is_eof (word_of pre) && not (is_empty (behind_word pre))
 
 -- what bytes say that go on after these settings, on line n, of which `pre` stands before them
-unfoldable pub from_line : ℕ → Settings → List ℕ → Bool → List ℕ → Option (Result Answer TextFault)
-from_line n before pre ended bs = said (judge n before (pieces (prepend pre (lines ended n bs))))
+unfoldable pub from_line : ℕ → Settings → List ℕ → Bool → List ℕ → Option (Result ParamsAre ParamFault)
+from_line n before pre ended bs = judge n before (pieces (prepend pre (lines ended n bs)))
 
--- the reader has taken these bytes, and they decide nothing
+-- the reader has taken these bytes
 pub record Feeds (s : ParamReader) (bs : List ℕ) : Type 0 where
   pub pre : List ℕ
   pub line : s.line ≡ line_behind bs
-  pub fault : s.fault ≡ None
   pub count : s.count ≡ length pre
   pub short : length pre ≤ line_limit
   pub held : s.held.items ≡ behind is_blank pre
@@ -42,18 +36,34 @@ pub record Feeds (s : ParamReader) (bs : List ℕ) : Type 0 where
   pub same : (ended : Bool) (more : List ℕ) →
       params_decided ended (bs ++ more) ≡ from_line s.line s.settings pre ended more
 
--- the line at hand has a fault
-pub record IsStopped (old new : ParamReader) : Type 0 where
-  pub kind : ParamKind
-  pub means : line_means old.settings old.held.items ≡ Faulty kind
-  pub answer : answer_in new ≡ Err (record { line = old.line; kind = kind })
+-- the reader has taken these bytes, which decide nothing
+pub record Waits (s : ParamReader) (bs : List ℕ) : Type 0 where
+  pub fed : Feeds s bs
+  pub undecided : params_decided false bs ≡ None
+
+-- what a reader holds whose settings name the problem's file
+abbrev pub params_in : ParamReader → ParamsAre
+params_in s = asked_of (unwrap_or (file_in (look keys.ProblemFile s.settings)) []) s.settings
+
+abbrev pub IsComplete : ParamReader → Type 0
+IsComplete s = IsSome (asked s.settings)
 
 -- the line at hand is taken
 pub record IsTaken (old new : ParamReader) : Type 0 where
   pub taken : HasTaken old.settings new.settings (line_means old.settings old.held.items)
   pub line : new.line ≡ old.line
-  pub fault : new.fault ≡ old.fault
 
-abbrev pub TakesLine : ParamReader → ParamReader → Step → Type 0
-TakesLine old new steps.More = IsTaken old new
-TakesLine old new steps.Done = IsStopped old new
+-- the line at hand has a fault, if memory lasts
+pub record IsStopped (old : ParamReader) (f : ParamFault) : Type 0 where
+  pub line : f.line ≡ old.line
+  pub told : IsToldOf (λ k. line_means old.settings old.held.items ≡ Faulty k) f.kind
+
+abbrev pub TakesLine : ParamReader → ParamReader → Result (Unit {0}) ParamFault → Type 0
+TakesLine old new (Ok _) = IsTaken old new
+TakesLine old new (Err f) = IsStopped old f
+
+-- bytes are taken; or they make the text whole; or they show a fault
+abbrev pub HasRead : ParamReader → List ℕ → Result Step ParamFault → Type 0
+HasRead new bs (Ok (Taken n)) = (n ≡ 1) × Feeds new bs
+HasRead new bs (Ok Done) = Decides params_texts bs (Ok (params_in new)) × IsComplete new
+HasRead new bs (Err f) = IsTold params_texts (Decides params_texts bs) f

@@ -1,22 +1,19 @@
 //! Parameter files, read from a source.
-ghost use Rattle.std.specs.Prelude.{◌≡◌, ◌≢◌, ◌<◌, ◌^◌, ◌++◌, ◌∷◌, ℕ, List, [], length, true, false, Ok, Err, IfOk};
+ghost use Rattle.std.specs.Prelude.{◌≡◌, ◌≢◌, ◌≤◌, ◌^◌, ◌++◌, ◌∷◌, ℕ, List, [], true, false, refl, Ok, IfOk};
 ghost use Rattle.std.specs.Prelude.{IfErr, OnOk};
-ghost use Rattle.tk_words.specs.Drive.{FedMore};
 ghost use Rattle.tk_words.specs.Lex.{behind, is_blank, is_word_byte};
-ghost use Rattle.tk_words.specs.declared.fault.TextKind.TheVariants as kinds;
-ghost use Rattle.tk_params.specs.Reading.{Feeds, TakesLine, answer_in};
-ghost use Rattle.tk_params.specs.Params as Text;
-ghost use Rattle.tk_params.specs.Params.{IsParamAnswerWhereTold, IsParamFaultWhereTold, IsOfSomeParams};
-ghost use Rattle.tk_params.specs.Params.{IsFaultOfSomeParams, IsParamIntact, is_eof};
+ghost use Rattle.tk_words.specs.Texts.{IsAnswerWhereTold, IsFaultWhereTold, IsOfSomeText, IsFaultOfSomeText, IsIntact};
+ghost use Rattle.tk_params.specs.Asked.{ParamsAre};
+ghost use Rattle.tk_params.specs.Reading.{Feeds, HasRead, IsComplete, TakesLine, Waits, params_in};
+ghost use Rattle.tk_params.specs.Params.{at_end, is_eof, params_texts};
 
 use crate::fault::{ParamFault, ParamKind};
+use crate::key::Key;
 use crate::line::take_line;
 use crate::params::Params;
 use crate::settings::Settings;
 use std::alloc::{AllocError, Global};
-use tk_words::{
-    Source, Step, TextFault, TextKind, TextReader, blank, read_text, spelled, word_byte,
-};
+use tk_words::{Source, Step, TextReader, blank, read_text, spelled, word_byte};
 
 /// The most bytes of a line.
 const LINE_LIMIT: u32 = 4096;
@@ -25,7 +22,7 @@ const LINE_LIMIT: u32 = 4096;
 const PARAMS_LIMIT: u64 = 1_048_576;
 
 /// What takes the bytes of a parameter file: what its lines said so far, and the bytes of the line at hand after the
-/// blanks at its front. A fault of the text is its answer.
+/// blanks at its front.
 #[derive(Drop)]
 pub struct ParamReader {
     alloc: Global,
@@ -33,7 +30,6 @@ pub struct ParamReader {
     count: u32,
     held: Vec<u8>,
     settings: Settings,
-    fault: Option<ParamFault>,
 }
 
 /// Takes a byte after those of a line that are held without the blanks at their front.
@@ -55,7 +51,7 @@ fn hold(held: &mut Vec<u8>, byte: u8) -> Result<(), AllocError>
 impl ParamReader {
     /// Has taken nothing.
     pub fn new(alloc: Global) -> Self
-        ensures { Feeds result [] }
+        ensures { Waits result [] }
     {
         ParamReader {
             alloc,
@@ -63,117 +59,74 @@ impl ParamReader {
             count: 0,
             held: Vec::new(alloc),
             settings: Settings::new(alloc),
-            fault: None,
         }
     }
 
-    /// Ends with a fault on this line.
-    fn stop(&mut self, kind: ParamKind) -> Step
-        ensures step { result ≡ Step.Done }
-        ensures answer { answer_in self.new ≡ Err (record { line = self.old.line; kind = kind }) }
+    /// A fault on this line.
+    fn fault(&self, kind: ParamKind) -> ParamFault
+        ensures { result ≡ record { line = self.now.line; kind = kind } }
     {
-        self.fault = Some(ParamFault {
+        ParamFault {
             line: self.line,
             kind,
-        });
-        Step::Done
+        }
     }
 
     /// Takes the line at hand.
-    fn take_held(&mut self) -> Result<Step, TextFault>
-        ensures ok { IfOk result (TakesLine self.old self.new) }
-        ensures err { IfErr result (λ f. f.kind ≡ kinds.NoMemory) }
+    fn take_held(&mut self) -> Result<(), ParamFault>
+        ensures { TakesLine self.old self.new result }
     {
         match take_line(self.alloc, &mut self.settings, &self.held) {
-            Ok(()) => Ok(Step::More),
-            Err(ParamKind::NoMemory) => Err(self.no_memory()),
-            Err(kind) => Ok(self.stop(kind)),
+            Ok(()) => Ok(()),
+            Err(kind) => Err(self.fault(kind)),
         }
     }
 
     /// Takes the end of a line.
-    fn end_line(&mut self) -> Result<Step, TextFault>
-        requires { (bs : List ℕ) × Feeds self.old bs × (length bs < 2 ^ 63) × (is_eof self.old.held.items ≡ false) }
-        ensures ok { (bs : List ℕ) → Feeds self.old bs → is_eof self.old.held.items ≡ false
-            → IfOk result (FedMore Text.params_decided (Feeds self.new) (answer_in self.new) (bs ++ 10 ∷ [])) }
-        ensures err { IfErr result (λ f. f.kind ≡ kinds.NoMemory) }
+    fn end_line(&mut self) -> Result<Step, ParamFault>
+        requires room { self.old.line ≤ 2 ^ 63 }
+        requires line { is_eof self.old.held.items ≡ false }
+        ensures { (before : List ℕ) → Feeds self.old before → HasRead self.new (before ++ 10 ∷ []) result }
     {
-        match self.take_held()? {
-            Step::Done => Ok(Step::Done),
-            Step::More => {
-                self.line += 1;
-                self.count = 0;
-                self.held.clear();
-                Ok(Step::More)
-            }
-        }
+        self.take_held()?;
+        self.line += 1;
+        self.count = 0;
+        self.held.clear();
+        Ok(Step::Taken(1))
     }
 
     /// Takes a byte of a line.
-    fn keep(&mut self, byte: u8) -> Result<Step, TextFault>
+    fn keep(&mut self, byte: u8) -> Result<Step, ParamFault>
         requires line { byte ≢ 10 }
         requires end { is_eof self.old.held.items ≡ true → is_word_byte byte ≡ true }
-        requires known { (bs : List ℕ) × Feeds self.old bs }
-        ensures ok { (bs : List ℕ) → Feeds self.old bs
-            → IfOk result (FedMore Text.params_decided (Feeds self.new) (answer_in self.new) (bs ++ byte ∷ [])) }
-        ensures err { IfErr result (λ f. f.kind ≡ kinds.NoMemory) }
+        requires known { (before : List ℕ) × Feeds self.old before }
+        ensures { (before : List ℕ) → Feeds self.old before → HasRead self.new (before ++ byte ∷ []) result }
     {
         if self.count == LINE_LIMIT {
-            return Ok(self.stop(ParamKind::TooLong));
+            return Err(self.fault(ParamKind::TooLong));
         }
         match hold(&mut self.held, byte) {
             Ok(()) => {
                 self.count += 1;
-                Ok(Step::More)
+                Ok(Step::Taken(1))
             }
-            Err(_) => Err(self.no_memory()),
+            Err(_) => Err(self.fault(ParamKind::NoMemory)),
         }
     }
 
-    fn no_memory(&self) -> TextFault
-        ensures { result.kind ≡ kinds.NoMemory }
+    /// Takes a byte.
+    ///
+    /// # Errors
+    /// The fault that the bytes up to this one show, with its line.
+    fn feed_byte(&mut self, byte: u8) -> Result<Step, ParamFault>
+        requires room { self.old.line ≤ 2 ^ 63 }
+        requires known { (before : List ℕ) × Feeds self.old before }
+        ensures { (before : List ℕ) → Feeds self.old before → HasRead self.new (before ++ byte ∷ []) result }
     {
-        TextFault {
-            line: self.line,
-            kind: TextKind::NoMemory,
-        }
-    }
-
-    /// The answer.
-    fn answer(self) -> Result<Params, ParamFault>
-        ensures { result ≡ answer_in self }
-    {
-        match self.fault {
-            Some(fault) => Err(fault),
-            None => Params::from_settings(self.settings).ok_or(ParamFault {
-                line: self.line,
-                kind: ParamKind::MissingProblem,
-            }),
-        }
-    }
-}
-
-impl TextReader for ParamReader {
-    type Out = Result<Params, ParamFault>;
-
-    ghost Value = { Text.Answer };
-
-    ghost view = { λ r. r };
-
-    ghost decided = { Text.params_decided };
-
-    ghost fed = { Feeds };
-
-    ghost held = { answer_in };
-
-    ghost complete = { λ _. Unit {0} };
-
-    fn line(&self) -> u64 {
-        self.line
-    }
-
-    fn feed(&mut self, byte: u8) -> Result<Step, TextFault> {
         if !word_byte(byte) && spelled(&self.held, b"EOF") {
+            if !self.settings.names(Key::ProblemFile) {
+                return Err(self.fault(ParamKind::MissingProblem));
+            }
             return Ok(Step::Done);
         }
         if byte == b'\n' {
@@ -182,32 +135,61 @@ impl TextReader for ParamReader {
         self.keep(byte)
     }
 
-    fn finish(self) -> Result<Result<Params, ParamFault>, TextFault> {
-        let mut reader = self;
-        if spelled(&reader.held, b"EOF") {
-            return Ok(reader.answer());
-        }
-        reader.take_held()?;
-        Ok(reader.answer())
-    }
-
-    fn value(self) -> Result<Params, ParamFault> {
-        self.answer()
+    /// What the settings ask for, at the end of the text.
+    fn answer(self) -> Result<Params, ParamFault>
+        ensures { result ≡ at_end self.line self.settings }
+    {
+        Params::from_settings(self.settings).ok_or(ParamFault {
+            line: self.line,
+            kind: ParamKind::MissingProblem,
+        })
     }
 }
 
-/// The fault that a text which is too long, a source or memory has.
-fn fault_of(fault: TextFault) -> ParamFault
-    ensures { result ≡ record { line = fault.line; kind = Text.kind_of fault.kind } }
-{
-    let kind = match fault.kind {
-        TextKind::Read => ParamKind::Read,
-        TextKind::NoMemory => ParamKind::NoMemory,
-        _ => ParamKind::TooLong,
-    };
-    ParamFault {
-        line: fault.line,
-        kind,
+impl TextReader for ParamReader {
+    type Out = Params;
+
+    type Fault = ParamFault;
+
+    ghost Value = { ParamsAre };
+
+    ghost view = { λ params. params };
+
+    ghost texts = { params_texts };
+
+    ghost fed = { Waits };
+
+    ghost held = { params_in };
+
+    ghost complete = { IsComplete };
+
+    ghost too_long_told = { λ line. refl };
+
+    ghost waits = { λ reader before waits. waits.undecided };
+
+    fn feed(&mut self, bytes: &[u8]) -> Result<Step, ParamFault> {
+        self.feed_byte(bytes[0])
+    }
+
+    fn finish(self) -> Result<Params, ParamFault> {
+        let mut reader = self;
+        if spelled(&reader.held, b"EOF") {
+            return reader.answer();
+        }
+        reader.take_held()?;
+        reader.answer()
+    }
+
+    fn value(self) -> Params {
+        Params::from_settings(self.settings).unwrap()
+    }
+
+    fn too_long(&self) -> ParamFault {
+        self.fault(ParamKind::TooLong)
+    }
+
+    fn cut_off(&self) -> ParamFault {
+        self.fault(ParamKind::Read)
     }
 }
 
@@ -218,14 +200,13 @@ fn fault_of(fault: TextFault) -> ParamFault
 /// # Errors
 /// The first fault of the text by line; `Read` where the source fails; `NoMemory` where a growth is refused.
 pub fn read_params<R: Source>(alloc: Global, source: &mut R) -> Result<Params, ParamFault>
-    ensures ok { IfOk result (λ p. IsParamAnswerWhereTold (R.left source.old) (R.left source.new) (Ok p)) }
-    ensures err { IfErr result (IsParamFaultWhereTold (R.broken source.new) (R.left source.old) (R.left source.new)) }
-    ensures some_text { IfOk result (λ p. IsOfSomeParams (Ok p)) }
-    ensures some_fault { IfErr result IsFaultOfSomeParams }
-    ensures intact { IsParamIntact (R.broken source.old) (R.broken source.new) result }
+    ensures ok { IfOk result (λ params. IsAnswerWhereTold params_texts (R.left source.old) (R.left source.new)
+        (Ok params)) }
+    ensures err { IfErr result
+        (IsFaultWhereTold params_texts (R.broken source.new) (R.left source.old) (R.left source.new)) }
+    ensures some_text { IfOk result (λ params. IsOfSomeText params_texts (Ok params)) }
+    ensures some_fault { IfErr result (IsFaultOfSomeText params_texts) }
+    ensures intact { IsIntact params_texts (R.broken source.old) (R.broken source.new) result }
 {
-    match read_text(source, ParamReader::new(alloc), PARAMS_LIMIT) {
-        Ok(answer) => answer,
-        Err(fault) => Err(fault_of(fault)),
-    }
+    read_text(source, ParamReader::new(alloc), PARAMS_LIMIT)
 }

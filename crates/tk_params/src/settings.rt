@@ -1,6 +1,6 @@
 //! What the lines of a parameter file have said so far.
-ghost use Rattle.std.specs.Prelude.{◌≡◌, ◌++◌, ◌∷◌, [], false, OnErr, OnOk};
-ghost use Rattle.tk_params.specs.Asked.{AreApart, AreSettings, IsSetting, ignored_keys};
+ghost use Rattle.std.specs.Prelude.{◌≡◌, ◌++◌, ◌∷◌, [], false, OnErr, OnOk, is_some};
+ghost use Rattle.tk_params.specs.Asked.{AreApart, AreSettings, IsSetting, file_in, ignored_keys};
 ghost use Rattle.tk_params.specs.Stored.{settings_in, value_is};
 ghost use Rattle.tk_params.specs.Values;
 
@@ -45,6 +45,13 @@ impl Settings {
         ensures { result ≡ Values.has key self.now }
     {
         stored(&self.entries, key).is_some()
+    }
+
+    /// Whether the key names a file.
+    pub fn names(&self, key: Key) -> bool
+        ensures { result ≡ is_some (file_in (Values.look key self.now)) }
+    {
+        matches!(stored(&self.entries, key), Some(Setting::File(_)))
     }
 
     /// Keeps what a new key says.

@@ -13,7 +13,8 @@ use Rattle.tk_words.specs.declared.keyword.Role.TheVariants.{BeginsHeader, Begin
 use Rattle.tk_words.specs.declared.fault.TextFault.{TextFault}
 use Rattle.tk_words.specs.declared.fault.TextKind.{TextKind}
 use Rattle.tk_words.specs.declared.fault.TextKind.TheVariants as kinds
-use Rattle.tk_words.specs.Drive.{line_behind}
+use Rattle.tk_words.specs.Texts.{line_behind}
+use Rattle.tk_problem.specs.declared.limits.TheConstants.{TEXT_LIMIT}
 use Rattle.tk_words.specs.Texts.{answer_of}
 use Rattle.tk_problem_text.specs.HeaderValues.{name_of}
 use Rattle.tk_words.specs.Lex.{LF, Line, Token, onto_line, lines, tokens, tokens_of, is_blank, is_letter, is_word_byte}
@@ -21,7 +22,7 @@ use Rattle.tk_words.specs.Lex.{is_empty, front, behind, after_word, without_colo
 use Rattle.tk_lines.specs.Pieces.{Piece, Stray, LongWord, OpenWord, Unknown, Header, Section, End, Stop, Open, Fault}
 use Rattle.tk_lines.specs.Pieces.{Extents, pieces_at, piece_of, piece_by, section_at, covered, cut, end_piece}
 use Rattle.tk_lines.specs.Pieces.{end_token, has, pieces, value_of, stop, stopped, ended, judge, decided_by}
-use Rattle.tk_problem_text.specs.Problem.{ProblemIs, problem_decided, problem_format, problem_value}
+use Rattle.tk_problem_text.specs.Problem.{ProblemIs, problem_decided, problem_format, problem_texts, problem_value}
 use Rattle.tk_problem_text.specs.Names.{IsName}
 use Rattle.tk_words.specs.Words.{keyword_of, role}
 use Rattle.tk_lines.proofs.Answered.{all_append}
@@ -292,14 +293,15 @@ answered None f v h = absurd cc
 answered (Some a) f v h = ap Some h
 
 -- the name of a problem that a text says is one
-pub name_answered : (limit : ℕ) (text : List ℕ) (v : ProblemIs) → answer_of problem_decided limit text ≡ Ok v →
+pub name_answered : (text : List ℕ) (v : ProblemIs) → answer_of problem_texts text ≡ Ok v →
     IsName v.name
 unfolding answer_of
-name_answered limit text v h = by_length (leb (length text) limit) h
+name_answered text v h = by_length (leb (length text) TEXT_LIMIT) h
   where
     by_length : (t : Bool) →
-        unwrap_or (cond t (problem_decided true text) (problem_decided false (take (suc limit) text)))
-        (Err (record { line = line_behind (take limit text); kind = kinds.TooLong })) ≡ Ok v → IsName v.name
+        unwrap_or (cond t (problem_decided true text) (problem_decided false (take (suc TEXT_LIMIT) text)))
+        (Err (record { line = line_behind (take TEXT_LIMIT text); kind = kinds.TooLong })) ≡ Ok v → IsName v.name
     by_length true e = decided_name true text v (answered (problem_decided true text) _ v e)
     by_length false e =
-        decided_name false (take (suc limit) text) v (answered (problem_decided false (take (suc limit) text)) _ v e)
+        decided_name false (take (suc TEXT_LIMIT) text) v
+        (answered (problem_decided false (take (suc TEXT_LIMIT) text)) _ v e)

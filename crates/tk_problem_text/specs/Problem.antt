@@ -2,7 +2,7 @@
 use Rattle.std.specs.Prelude.{ℕ, suc, ◌-◌, ◌*◌, Bool, true, false, not, ◌||◌, ◌==◌, nat_lt, List, [], ◌∷◌, ◌++◌, length}
 use Rattle.std.specs.Prelude.{get_or, map, Option, Some, None, Result, if◌then◌else◌, is_none, unwrap_or, option_map}
 use Rattle.std.specs.Prelude.{option_and_then}
-use Rattle.tk_problem.specs.declared.limits.TheConstants.{CAPACITY_LIMIT, CITY_LIMIT, TABLE_LIMIT}
+use Rattle.tk_problem.specs.declared.limits.TheConstants.{CAPACITY_LIMIT, CITY_LIMIT, TABLE_LIMIT, TEXT_LIMIT}
 use Rattle.tk_words.specs.declared.keyword.Keyword.{Keyword}
 use Rattle.tk_words.specs.declared.keyword.Keyword.TheVariants as words
 use Rattle.tk_words.specs.declared.fault.TextKind.{TextKind}
@@ -26,6 +26,7 @@ use Rattle.tk_lines.specs.Scan.{first_word}
 use Rattle.tk_lines.specs.Pieces.{Piece, Extent, Stop, first_at, or_else, After, has, value_of, tokens_in, Format}
 use Rattle.tk_lines.specs.Pieces.{decided_by}
 use Rattle.tk_words.specs.Entry.{number_tests}
+use Rattle.tk_words.specs.Texts.{Texts, texts_of}
 use Rattle.tk_problem_text.specs.Sections.Rows.{place_tests, demand_tests, places_of, number_in}
 use Rattle.tk_problem_text.specs.Sections.WeightSection.{weight_count, weight_tests, lower_weights}
 use Rattle.tk_problem_text.specs.Sections.Rows as Rows
@@ -241,3 +242,7 @@ problem_format = record {
 -- what bytes decide: all of the text where it has ended, else what it begins with
 abbrev pub problem_decided : Bool → List ℕ → Option (Result ProblemIs TextFault)
 problem_decided = decided_by problem_format
+
+-- problem texts
+abbrev pub problem_texts : Texts ProblemIs TextFault
+problem_texts = texts_of problem_decided TEXT_LIMIT

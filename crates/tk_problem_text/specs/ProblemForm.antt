@@ -4,9 +4,10 @@ use Rattle.tk_words.specs.declared.keyword.Keyword.{Keyword}
 use Rattle.tk_words.specs.declared.keyword.Keyword.TheVariants as words
 use Rattle.tk_problem_text.specs.declared.problem_form.ProblemForm.{ProblemForm}
 use Rattle.tk_words.specs.Lex.{Token}
+use Rattle.tk_lines.specs.Forms.{Promise}
 use Rattle.tk_lines.specs.Pieces.{Piece, has}
 use Rattle.tk_problem_text.specs.Parts.{HasParts, IsWhole, problem_in}
-use Rattle.tk_problem_text.specs.Problem.{ProblemIs}
+use Rattle.tk_problem_text.specs.Problem.{ProblemIs, problem_format}
 use Rattle.tk_problem_text.specs.Sections.OpenSections.{IsOpen}
 
 abbrev pub ProblemHolds : ProblemForm → List Piece → Type 0
@@ -24,3 +25,13 @@ problem_held s = problem_in s.parts
 
 abbrev pub IsComplete : ProblemForm → Type 0
 IsComplete s = IsWhole s.parts
+
+abbrev pub problem_promise : Promise ProblemIs ProblemForm
+problem_promise =
+    record {
+      format = problem_format;
+      holds = ProblemHolds;
+      wants = ProblemWants;
+      held = problem_held;
+      complete = IsComplete;
+    }

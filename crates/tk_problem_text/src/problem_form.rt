@@ -5,8 +5,8 @@ ghost use Rattle.tk_words.specs.declared.keyword.Keyword.TheVariants as words;
 ghost use Rattle.tk_problem_text.specs.Sections.OpenSections.{IsPast};
 ghost use Rattle.tk_problem_text.specs.Parts.{HasParts, problem_is};
 ghost use Rattle.tk_lines.specs.Pieces.{Piece, has};
-ghost use Rattle.tk_problem_text.specs.Problem.{ProblemIs, problem_format};
-ghost use Rattle.tk_problem_text.specs.ProblemForm.{ProblemHolds, ProblemWants, problem_held, IsComplete};
+ghost use Rattle.tk_problem_text.specs.Problem.{ProblemIs};
+ghost use Rattle.tk_problem_text.specs.ProblemForm.{ProblemHolds, problem_promise};
 
 use crate::parts::Parts;
 use crate::sections::begin::begin;
@@ -68,15 +68,7 @@ impl Form for ProblemForm {
 
     ghost view = { problem_is };
 
-    ghost format = { problem_format };
-
-    ghost holds = { ProblemHolds };
-
-    ghost wants = { ProblemWants };
-
-    ghost held = { problem_held };
-
-    ghost complete = { IsComplete };
+    ghost promise = { problem_promise };
 
     fn header(&mut self, word: Keyword, value: &Scan) -> Result<(), TextKind> {
         self.parts.take_header(self.alloc, word, value)

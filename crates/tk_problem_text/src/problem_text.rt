@@ -1,9 +1,8 @@
 //! Problem texts.
 ghost use Rattle.std.specs.Prelude.{◌≡◌, Ok, IfOk, IfErr};
-ghost use Rattle.tk_problem.specs.declared.limits.TheConstants.{TEXT_LIMIT};
 ghost use Rattle.tk_words.specs.Texts.{IsAnswerWhereTold, IsFaultWhereTold, IsOfSomeText, IsFaultOfSomeText, IsIntact};
 ghost use Rattle.tk_problem_text.specs.Parts.{problem_is};
-ghost use Rattle.tk_problem_text.specs.Problem.{problem_decided};
+ghost use Rattle.tk_problem_text.specs.Problem.{problem_texts};
 ghost use Rattle.tk_problem_text.specs.Names.{IsName};
 
 use crate::problem_form::ProblemForm;
@@ -19,14 +18,14 @@ use tk_words::{Source, TextFault, TextKind, read_text};
 /// The first fault of the text, with its line; `Read` if the source fails before it is found, and `NoMemory` if memory
 /// runs out.
 pub fn read_problem<R: Source>(alloc: Global, source: &mut R) -> Result<Problem, TextFault>
-    ensures ok { IfOk result (λ problem. IsAnswerWhereTold problem_decided TEXT_LIMIT (R.left source.old)
+    ensures ok { IfOk result (λ problem. IsAnswerWhereTold problem_texts (R.left source.old)
         (R.left source.new) (Ok (problem_is problem))) }
     ensures named { IfOk result (λ problem. IsName (problem_is problem).name) }
-    ensures err { IfErr result (IsFaultWhereTold problem_decided TEXT_LIMIT (R.broken source.new)
-        (R.left source.old) (R.left source.new)) }
-    ensures some_text { IfOk result (λ problem. IsOfSomeText problem_decided TEXT_LIMIT (Ok (problem_is problem))) }
-    ensures some_fault { IfErr result (IsFaultOfSomeText problem_decided TEXT_LIMIT) }
-    ensures intact { IsIntact (R.broken source.old) (R.broken source.new) result }
+    ensures err { IfErr result
+        (IsFaultWhereTold problem_texts (R.broken source.new) (R.left source.old) (R.left source.new)) }
+    ensures some_text { IfOk result (λ problem. IsOfSomeText problem_texts (Ok (problem_is problem))) }
+    ensures some_fault { IfErr result (IsFaultOfSomeText problem_texts) }
+    ensures intact { IsIntact problem_texts (R.broken source.old) (R.broken source.new) result }
 {
     match ProblemForm::new(alloc) {
         Ok(form) => read_text(source, PieceReader::new(form), TEXT_LIMIT),

@@ -14,7 +14,7 @@ pub use tk_problem::{
 };
 pub use tk_problem_text::{decided_problems_stay, each_problem_text_has_an_answer, read_problem};
 pub use tk_words::{
-    BUFFER_SIZE, Entry, Failed, FromRead, Keyword, Role, Run, Source, Step, TextFault, TextKind,
+    BUFFER_SIZE, Entry, Failed, FromRead, Keyword, Role, Source, Step, TextFault, TextKind,
     TextReader, blank, decimal, each_word_spells_its_keyword, entry_of, feed_piece, integer,
     keyword_in, letter, minus_one, read_text, spelled, word_byte,
 };

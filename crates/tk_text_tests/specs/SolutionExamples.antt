@@ -9,6 +9,7 @@ use Rattle.tk_text.specs.declared.TextFault.{TextFault}
 use Rattle.tk_text.specs.Texts.{answer_of}
 use Rattle.tk_text.specs.Pieces.{Stop, Fault}
 use Rattle.tk_text.specs.Solution.{Solution, Head, Short, Bad, Behind, customer_stop, solution_decided}
+use Rattle.tk_text.specs.Solution.{solution_texts}
 
 abbrev pub SolutionAnswer : Type 0
 SolutionAnswer = Option (Result Solution TextFault)
@@ -33,7 +34,7 @@ undecided = None
 
 -- what a text says of which at most so many bytes are read
 abbrev pub solution_within : ℕ × List ℕ → SolutionAnswer
-solution_within (limit, text) = Some (answer_of solution_decided limit text)
+solution_within (limit, text) = Some (answer_of (record solution_texts { limit = limit }) text)
 
 abbrev pub solutions : List (List ℕ × SolutionAnswer)
 solutions =

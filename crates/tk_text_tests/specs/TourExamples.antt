@@ -7,7 +7,7 @@ use Rattle.tk_text.specs.declared.TextKind.TheVariants as kinds
 use Rattle.tk_text.specs.declared.TextFault.{TextFault}
 use Rattle.tk_text.specs.Texts.{answer_of}
 use Rattle.tk_text.specs.Pieces.{Stop, Fault}
-use Rattle.tk_text.specs.Tour.{entry_stop, tour_decided}
+use Rattle.tk_text.specs.Tour.{entry_stop, tour_decided, tour_texts}
 
 abbrev pub TourAnswer : Type 0
 TourAnswer = Option (Result (List ℕ) TextFault)
@@ -32,7 +32,7 @@ undecided = None
 
 -- what a text says of which at most so many bytes are read
 abbrev pub tour_within : ℕ × List ℕ → TourAnswer
-tour_within (limit, text) = Some (answer_of tour_decided limit text)
+tour_within (limit, text) = Some (answer_of (record tour_texts { limit = limit }) text)
 
 -- a text whose numbers begin on line 3
 abbrev pub tour : List ℕ → List ℕ

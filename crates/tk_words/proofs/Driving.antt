@@ -1,17 +1,17 @@
 -- What bytes decide, they decide for every text that begins with them.
-use Rattle.std.proofs.Common.{◌≡◌, ℕ, zero, suc, ◌+◌, ◌-◌, ◌<◌, ◌≤◌, Bool, true, false, cond, leb, List, [], ◌∷◌, ◌++◌}
-use Rattle.std.proofs.Common.{length, get_or, take, take-add, drop, Option, Some, None, Result, Err, refl, sym, ap}
-use Rattle.std.proofs.Common.{subst, ◌∙◌, append_assoc, arith}
+use Rattle.std.proofs.Common.{◌≡◌, ℕ, zero, suc, ◌+◌, ◌-◌, ◌≤◌, Bool, true, false, cond, leb, List, [], ◌∷◌, ◌++◌}
+use Rattle.std.proofs.Common.{length, take, take-add, drop, Option, Some, None, Result, Ok, Err, IfOk, IfErr, refl}
+use Rattle.std.proofs.Common.{sym, ap, subst, ◌∙◌, append_assoc, arith}
 use Rattle.std.specs.Prelude.{unwrap_or}
 use Rattle.std.proofs.lemmas.Bool.{lt-leb, le-leb}
-use Rattle.std.proofs.lemmas.List.{length-append, take_at, take_more, take-take, length-take, drop_more}
+use Rattle.std.proofs.lemmas.List.{length-append, take_at, take-take, length-take, length-drop}
 use Rattle.std.proofs.lemmas.List.{take-append-drop, append-nil}
-use Rattle.tk_words.specs.declared.fault.TextFault.{TextFault}
-use Rattle.tk_words.specs.declared.fault.TextKind.TheVariants as kinds
-use Rattle.tk_words.specs.Drive.{Decided, Decides, line_behind, IsTold}
-use Rattle.tk_words.specs.Texts.{Answers, answer_of, WantMore, IsReadTo, IsCutOff, WhereTold, IsAnswerWhereTold}
+use Rattle.tk_words.specs.Taking.{HasEnded}
+use Rattle.tk_words.specs.Texts.{Texts, Decides, DecidesEnded, DecidesWithin, line_behind, IsTold, Answers, answer_of}
+use Rattle.tk_words.specs.Texts.{WantMore}
+use Rattle.tk_words.specs.Texts.{IsReadTo, IsCutOff, WhereTold, IsAnswerWhereTold}
 use Rattle.tk_words.specs.declared.sources.reading.TheConstants.{BUFFER_SIZE}
-use Rattle.tk_words.proofs.Told.{told_kind}
+use Rattle.tk_words.proofs.Told.{told_of}
 use Rattle.std.specs.Io.KnownBytes.{Consumes, IsAtEnd, Keeps}
 
 -- the front of a list, and its rest
@@ -22,131 +22,132 @@ take_front (suc k) (b ∷ bs) more h =
     rw e (ap (λ (xs : List ℕ). b ∷ xs) (take_front k bs more (omega arith)))
 take_front zero (b ∷ bs) more h = absurd (omega arith)
 
-chosen : {V : Type 0} (d : Result V TextFault) (t : Bool) (x y : Option (Result V TextFault)) (a : Result V TextFault) →
+chosen : {V E : Type 0} (d : Result V E) (t : Bool) (x y : Option (Result V E)) (a : Result V E) →
     x ≡ Some a → y ≡ Some a → unwrap_or (cond t x y) d ≡ a
 chosen d true x y a p q = rw p refl
 chosen d false x y a p q = rw q refl
 
-pub answers_decided : {V : Type 0} (d : Decided V) (limit : ℕ) (bs : List ℕ) (a : Result V TextFault) → Decides d bs a →
-    length bs ≤ suc limit → Answers d limit bs a
-unfolding answer_of
-answers_decided d limit bs a h le more =
-    chosen (Err (record { line = line_behind (take limit (bs ++ more)); kind = kinds.TooLong }))
-    (leb (length (bs ++ more)) limit) (d true (bs ++ more)) (d false (take (suc limit) (bs ++ more))) a
-    (h true more)
-    (rw (take_front (suc limit) bs more le) (h false (take (suc limit - length bs) more)))
+module _ {V E : Type 0} (texts : Texts V E) where
+  answers_decided : (bs : List ℕ) (a : Result V E) → Decides texts bs a → length bs ≤ suc texts.limit →
+      Answers texts bs a
+  unfolding answer_of
+  answers_decided bs a h le more =
+      chosen (Err (texts.too_long (line_behind (take texts.limit (bs ++ more)))))
+      (leb (length (bs ++ more)) texts.limit) (texts.decided true (bs ++ more))
+      (texts.decided false (take (suc texts.limit) (bs ++ more))) a (h true more)
+      (rw (take_front (suc texts.limit) bs more le) (h false (take (suc texts.limit - length bs) more)))
 
-pub answers_more : {V : Type 0} (d : Decided V) (limit : ℕ) (bs rest : List ℕ) (a : Result V TextFault) →
-    Answers d limit bs a → Answers d limit (bs ++ rest) a
-answers_more d limit bs rest a h more = rw append_assoc (h (rest ++ more))
+  answers_more : (bs rest : List ℕ) (a : Result V E) → Answers texts bs a → Answers texts (bs ++ rest) a
+  answers_more bs rest a h more = rw append_assoc (h (rest ++ more))
 
--- all of a text that is not too long
-pub answer_ended : {V : Type 0} (d : Decided V) (limit : ℕ) (bs : List ℕ) (a : Result V TextFault) → length bs ≤ limit →
-    d true bs ≡ Some a → answer_of d limit bs ≡ a
-unfolding answer_of
-answer_ended d limit bs a le h = let short : leb (length bs) limit ≡ true = le-leb _ _ le in rw (short, h) refl
+  -- all of a text that is not too long
+  pub answer_ended : (bs : List ℕ) (a : Result V E) → length bs ≤ texts.limit → texts.decided true bs ≡ Some a →
+      answer_of texts bs ≡ a
+  unfolding answer_of
+  answer_ended bs a le h = let short : leb (length bs) texts.limit ≡ true = le-leb _ _ le in rw (short, h) refl
 
--- a byte too many, with nothing decided
-pub answers_too_long : {V : Type 0} (d : Decided V) (limit : ℕ) (bs : List ℕ) (b : ℕ) → length bs ≡ limit →
-    d false (bs ++ b ∷ []) ≡ None →
-    Answers d limit (bs ++ b ∷ []) (Err (record { line = line_behind bs; kind = kinds.TooLong }))
-unfolding answer_of
-answers_too_long d limit bs b len none more =
-    let long : leb (length ((bs ++ b ∷ []) ++ more)) limit ≡ false =
-    lt-leb _ _ (omega (arith, length-append (bs ++ b ∷ []) more, length-append bs (b ∷ []))) in
-    let front : take (suc limit) ((bs ++ b ∷ []) ++ more) ≡ bs ++ b ∷ [] =
-    take_at (bs ++ b ∷ []) more (suc limit) (omega (arith, length-append bs (b ∷ []))) in
-    let before : take limit ((bs ++ b ∷ []) ++ more) ≡ bs = rw append_assoc (take_at bs (b ∷ more) limit len) in
-    rw (long, front, before, none) refl
+  -- a byte too many, with nothing decided
+  answers_too_long : (bs last : List ℕ) → length bs ≡ texts.limit → length last ≡ 1 →
+      texts.decided false (bs ++ last) ≡ None → Answers texts (bs ++ last) (Err (texts.too_long (line_behind bs)))
+  unfolding answer_of
+  answers_too_long bs last len one none more =
+      let long : leb (length ((bs ++ last) ++ more)) texts.limit ≡ false =
+      lt-leb _ _ (omega (arith, one, len, length-append (bs ++ last) more, length-append bs last)) in
+      let front : take (suc texts.limit) ((bs ++ last) ++ more) ≡ bs ++ last =
+      take_at (bs ++ last) more (suc texts.limit) (omega (arith, one, len, length-append bs last)) in
+      let before : take texts.limit ((bs ++ last) ++ more) ≡ bs =
+      rw append_assoc (take_at bs (last ++ more) texts.limit len) in
+      rw (long, front, before, none) refl
 
--- a piece, from a byte of it on
-split_piece : (bs piece : List ℕ) (i : ℕ) → i < length piece →
-    bs ++ piece ≡ ((bs ++ take i piece) ++ get_or piece i 0 ∷ []) ++ drop (i + 1) piece
-split_piece bs piece i lt =
-    let whole : take i piece ++ (get_or piece i 0 ∷ drop (i + 1) piece) ≡ piece =
-    rw (← drop_more piece i 0 lt) (take-append-drop i piece) in
-    ap (λ (x : List ℕ). bs ++ x) (sym whole)
-    ∙ sym (append_assoc bs (take i piece) (get_or piece i 0 ∷ drop (i + 1) piece))
-    ∙ sym (append_assoc (bs ++ take i piece) (get_or piece i 0 ∷ []) (drop (i + 1) piece))
+-- ---- a piece, from a place in it on
 
-module _ {V : Type 0} (d : Decided V) (limit : ℕ) (bs piece : List ℕ) (i : ℕ) (lt : i < length piece)
-    (room : length bs + i ≤ limit) where
-  -- what a byte decides, the whole piece decides
-  pub decided_at : (a : Result V TextFault) → Decides d ((bs ++ take i piece) ++ get_or piece i 0 ∷ []) a →
-      Answers d limit (bs ++ piece) a
-  decided_at a h =
-      let short : length ((bs ++ take i piece) ++ get_or piece i 0 ∷ []) ≤ suc limit =
-      omega (
-        arith,
-        length-append (bs ++ take i piece) (get_or piece i 0 ∷ []),
-        length-append bs (take i piece),
-        length-take i piece,
-      ) in
-      subst (λ (x : List ℕ). Answers d limit x a) (sym (split_piece bs piece i lt))
-      (answers_more d limit _ (drop (i + 1) piece) a (answers_decided d limit _ a h short))
+module _ (bs piece : List ℕ) (start end : ℕ) (le : start ≤ end) (in_piece : end ≤ length piece) where
+  pub part_size : length (take (end - start) (drop start piece)) ≡ end - start
+  part_size = omega (arith, length-take (end - start) (drop start piece), length-drop start piece)
 
-  pub told_at : (f : TextFault) → IsTold ⊥ (Decides d ((bs ++ take i piece) ++ get_or piece i 0 ∷ [])) f →
-      IsTold ⊥ (Answers d limit (bs ++ piece)) f
-  told_at f h = told_kind ⊥ (Decides d ((bs ++ take i piece) ++ get_or piece i 0 ∷ [])) (Answers d limit (bs ++ piece))
-      f f.kind (decided_at (Err f)) h
+  -- bytes that are taken of the part from the place to the end
+  pub taken_on : (n : ℕ) → n ≤ length (take (end - start) (drop start piece)) →
+      (bs ++ take start piece) ++ take n (take (end - start) (drop start piece)) ≡ bs ++ take (start + n) piece
+  taken_on n h =
+      ap (λ (l : List ℕ). (bs ++ take start piece) ++ l)
+      (take-take n (end - start) (drop start piece) (omega (arith, h, part_size)))
+      ∙ append_assoc bs (take start piece) (take n (drop start piece))
+      ∙ ap (λ (l : List ℕ). bs ++ l) (sym (take-add start n piece))
 
-  pub too_long_at : length bs + i ≡ limit → d false ((bs ++ take i piece) ++ get_or piece i 0 ∷ []) ≡ None →
-      Answers d limit (bs ++ piece) (Err (record { line = line_behind (bs ++ take i piece); kind = kinds.TooLong }))
-  too_long_at full none =
-      let len : length (bs ++ take i piece) ≡ limit =
-      omega (arith, length-append bs (take i piece), length-take i piece) in
-      let a : Result V TextFault = Err (record { line = line_behind (bs ++ take i piece); kind = kinds.TooLong }) in
-      subst (λ (x : List ℕ). Answers d limit x a) (sym (split_piece bs piece i lt))
-      (answers_more d limit _ (drop (i + 1) piece) a
-      (answers_too_long d limit (bs ++ take i piece) (get_or piece i 0) len none))
+  module _ {V E : Type 0} (texts : Texts V E) (room : length bs + end ≤ suc texts.limit) where
+    -- what they decide, the whole piece decides
+    pub decided_within : (a : Result V E) →
+        DecidesWithin texts (bs ++ take start piece) (take (end - start) (drop start piece)) a →
+        Answers texts (bs ++ piece) a
+    decided_within a (n, h, decides) =
+        let front : Decides texts (bs ++ take (start + n) piece) a =
+        subst (λ (x : List ℕ). Decides texts x a) (taken_on n h) decides in
+        let len : length (bs ++ take (start + n) piece) ≤ suc texts.limit =
+        omega (
+          arith,
+          room,
+          h,
+          part_size,
+          length-append bs (take (start + n) piece),
+          length-take (start + n) piece,
+        ) in
+        let parts : (bs ++ take (start + n) piece) ++ drop (start + n) piece ≡ bs ++ piece =
+        append_assoc bs (take (start + n) piece) (drop (start + n) piece)
+        ∙ ap (λ (x : List ℕ). bs ++ x) (take-append-drop (start + n) piece) in
+        subst (λ (x : List ℕ). Answers texts x a) parts
+        (answers_more texts _ (drop (start + n) piece) a (answers_decided texts _ a front len))
 
--- a byte, and a run of the bytes after it
-pub taken_on : (bs piece : List ℕ) (i run room : ℕ) → i < length piece → run ≤ room →
-    ((bs ++ take i piece) ++ get_or piece i 0 ∷ []) ++ take run (take room (drop (i + 1) piece)) ≡ bs
-    ++ take (i + 1 + run) piece
-taken_on bs piece i run room lt le =
-    let behind = take run (drop (i + 1) piece) in
-    let front : (bs ++ take i piece) ++ get_or piece i 0 ∷ [] ≡ bs ++ take (i + 1) piece =
-    rw (take_more piece i 0 lt) (append_assoc bs (take i piece) (get_or piece i 0 ∷ [])) in
-    ap (λ (l : List ℕ). ((bs ++ take i piece) ++ get_or piece i 0 ∷ []) ++ l)
-    (take-take run room (drop (i + 1) piece) le)
-    ∙ ap (λ (l : List ℕ). l ++ behind) front
-    ∙ rw (take-add (i + 1) run piece) (append_assoc bs (take (i + 1) piece) behind)
+    pub told_within : (f : E) →
+        IsTold texts (DecidesWithin texts (bs ++ take start piece) (take (end - start) (drop start piece))) f →
+        IsTold texts (Answers texts (bs ++ piece)) f
+    told_within f h =
+        told_of ⊥
+        (λ e. DecidesWithin texts (bs ++ take start piece) (take (end - start) (drop start piece)) (Err e))
+        (λ e. Answers texts (bs ++ piece) (Err e)) f (texts.cause f) (decided_within (Err f)) h
 
-module _ {V : Type 0} (d : Decided V) (limit : ℕ) (bs piece : List ℕ) (i n room : ℕ) (lt : i < length piece)
-    (within : n ≤ length (take room (drop (i + 1) piece))) (short : length bs + (i + 1 + room) ≤ limit) where
-  run_le : n ≤ room
-  run_le = omega (arith, within, length-take room (drop (i + 1) piece))
+-- the byte after the limit decides nothing
+pub too_long_at : {V E : Type 0} (texts : Texts V E) (bs piece : List ℕ) (end n : ℕ) → end + 1 ≤ length piece →
+    length bs + end ≡ texts.limit → 1 ≤ n → n ≤ length (take (end + 1 - end) (drop end piece)) →
+    texts.decided false ((bs ++ take end piece) ++ take n (take (end + 1 - end) (drop end piece))) ≡ None →
+    Answers texts (bs ++ piece) (Err (texts.too_long (line_behind (bs ++ take end piece))))
+too_long_at texts bs piece end n lt full some few none =
+    let byte = take n (take (end + 1 - end) (drop end piece)) in
+    let one : length byte ≡ 1 = omega (
+      arith,
+      some,
+      few,
+      length-take n (take (end + 1 - end) (drop end piece)),
+      part_size [] piece end (end + 1) (omega arith) lt,
+    ) in
+    let len : length (bs ++ take end piece) ≡ texts.limit =
+    omega (arith, full, lt, length-append bs (take end piece), length-take end piece) in
+    let parts : ((bs ++ take end piece) ++ byte) ++ drop (end + n) piece ≡ bs ++ piece =
+    ap (λ (l : List ℕ). l ++ drop (end + n) piece) (taken_on bs piece end (end + 1) (omega arith) lt n few)
+    ∙ append_assoc bs (take (end + n) piece) (drop (end + n) piece)
+    ∙ ap (λ (x : List ℕ). bs ++ x) (take-append-drop (end + n) piece) in
+    subst (λ (x : List ℕ). Answers texts x (Err (texts.too_long (line_behind (bs ++ take end piece))))) parts
+    (answers_more texts _ (drop (end + n) piece) _ (answers_too_long texts _ byte len one none))
 
-  pub run_decided : (a : Result V TextFault) →
-      Decides d (((bs ++ take i piece) ++ get_or piece i 0 ∷ []) ++ take n (take room (drop (i + 1) piece))) a →
-      Answers d limit (bs ++ piece) a
-  run_decided a h =
-      let front : Decides d (bs ++ take (i + 1 + n) piece) a =
-      subst (λ (x : List ℕ). Decides d x a) (taken_on bs piece i n room lt run_le) h in
-      let len : length (bs ++ take (i + 1 + n) piece) ≤ suc limit =
-      omega (arith, short, run_le, length-append bs (take (i + 1 + n) piece), length-take (i + 1 + n) piece) in
-      let parts : (bs ++ take (i + 1 + n) piece) ++ drop (i + 1 + n) piece ≡ bs ++ piece =
-      append_assoc bs (take (i + 1 + n) piece) (drop (i + 1 + n) piece)
-      ∙ ap (λ (x : List ℕ). bs ++ x) (take-append-drop (i + 1 + n) piece) in
-      subst (λ (x : List ℕ). Answers d limit x a) parts
-      (answers_more d limit _ (drop (i + 1 + n) piece) a (answers_decided d limit _ a front len))
+-- ---- the end of the bytes
 
-  pub run_told : (f : TextFault) →
-      IsTold ⊥ (Decides d (((bs ++ take i piece) ++ get_or piece i 0 ∷ []) ++ take n (take room (drop (i + 1) piece))))
-      f → IsTold ⊥ (Answers d limit (bs ++ piece)) f
-  run_told f h =
-      told_kind ⊥
-      (Decides d (((bs ++ take i piece) ++ get_or piece i 0 ∷ []) ++ take n (take room (drop (i + 1) piece))))
-      (Answers d limit (bs ++ piece)) f f.kind (run_decided (Err f)) h
+module _ {V E W : Type 0} (texts : Texts V E) (view : W → V) (before : List ℕ) where
+  pub ended_value : (r : Result W E) (P : W → Type 0) → HasEnded texts view before r →
+      ((v : W) → DecidesEnded texts before (Ok (view v)) → P v) → IfOk r P
+  ended_value (Ok v) P h k = k v h
+  ended_value (Err f) P h k = tt
+
+  pub ended_fault : (r : Result W E) (P : E → Type 0) → HasEnded texts view before r →
+      ((f : E) → IsTold texts (DecidesEnded texts before) f → P f) → IfErr r P
+  ended_fault (Ok v) P h k = tt
+  ended_fault (Err f) P h k = k f h
 
 -- ---- what a source has left
 
 -- all that a source gave stands before what it has left
-module _ {V : Type 0} (d : Decided V) (limit : ℕ) (bs : List ℕ) (want : WantMore d limit bs) where
+module _ {V E : Type 0} (texts : Texts V E) (bs : List ℕ) (want : WantMore texts bs) where
   -- the last read gave this piece
   abbrev read_to : (text between rest piece : List ℕ) → length piece ≤ BUFFER_SIZE → text ≡ bs ++ between →
-      between ≡ piece ++ rest → IsReadTo d limit text rest
+      between ≡ piece ++ rest → IsReadTo texts text rest
   read_to text between rest piece le p q =
       record {
         before = bs;
@@ -157,15 +158,15 @@ module _ {V : Type 0} (d : Decided V) (limit : ℕ) (bs : List ℕ) (want : Want
       }
 
   pub where_read : (old mid new : Option (List ℕ)) (piece : List ℕ) → length piece ≤ BUFFER_SIZE → Consumes old mid bs →
-      Consumes mid new piece → WhereTold old new (IsReadTo d limit)
+      Consumes mid new piece → WhereTold old new (IsReadTo texts)
   where_read None mid new piece le p q = tt
   where_read (Some text) None new piece le p q = absurd p
   where_read (Some text) (Some between) None piece le p q = absurd q
   where_read (Some text) (Some between) (Some rest) piece le p q = (rest, refl, read_to text between rest piece le p q)
 
-  pub where_decided : (a : Result V TextFault) (old mid new : Option (List ℕ)) (piece : List ℕ) →
-      length piece ≤ BUFFER_SIZE → Consumes old mid bs → Consumes mid new piece → Answers d limit (bs ++ piece) a →
-      IsAnswerWhereTold d limit old new a
+  pub where_decided : (a : Result V E) (old mid new : Option (List ℕ)) (piece : List ℕ) →
+      length piece ≤ BUFFER_SIZE → Consumes old mid bs → Consumes mid new piece → Answers texts (bs ++ piece) a →
+      IsAnswerWhereTold texts old new a
   where_decided a None mid new piece le p q h = tt
   where_decided a (Some text) None new piece le p q h = absurd p
   where_decided a (Some text) (Some between) None piece le p q h = absurd q
@@ -173,8 +174,8 @@ module _ {V : Type 0} (d : Decided V) (limit : ℕ) (bs : List ℕ) (want : Want
       let read = read_to text between rest piece le p q in
       (rest, refl, record { read = read; answer = rw read.parts (h rest); unread = λ _. h })
 
-  pub where_ended : (a : Result V TextFault) (old mid new : Option (List ℕ)) → d true bs ≡ Some a →
-      Consumes old mid bs → Consumes mid new [] → IsAtEnd new → IsAnswerWhereTold d limit old new a
+  pub where_ended : (a : Result V E) (old mid new : Option (List ℕ)) → texts.decided true bs ≡ Some a →
+      Consumes old mid bs → Consumes mid new [] → IsAtEnd new → IsAnswerWhereTold texts old new a
   where_ended a None mid new h p q e = tt
   where_ended a (Some text) None new h p q e = absurd p
   where_ended a (Some text) (Some between) None h p q e = absurd q
@@ -184,14 +185,14 @@ module _ {V : Type 0} (d : Decided V) (limit : ℕ) (bs : List ℕ) (want : Want
         refl,
         record {
           read = read_to text between rest [] (omega arith) p q;
-          answer = rw whole (answer_ended d limit bs a want.within h);
+          answer = rw whole (answer_ended texts bs a want.within h);
           unread = λ ne. absurd (ne e);
         },
       )
 
   -- the source fails, and is as it was
   pub where_cut_off : (line : ℕ) (old mid new : Option (List ℕ)) → line ≡ line_behind bs → Consumes old mid bs →
-      Keeps mid new → WhereTold old new (IsCutOff d limit line)
+      Keeps mid new → WhereTold old new (IsCutOff texts line)
   where_cut_off line None mid new n p q = tt
   where_cut_off line (Some text) None new n p q = absurd p
   where_cut_off line (Some text) (Some between) None n p q = absurd q

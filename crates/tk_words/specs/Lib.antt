@@ -1,9 +1,9 @@
 pub mod Decimal
-pub mod Drive
 pub mod Entry
 pub mod Lex
 pub mod MinusOne
 pub mod Sources
+pub mod Taking
 pub mod TextLaws
 pub mod Texts
 pub mod Words

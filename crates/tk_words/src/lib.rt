@@ -16,5 +16,5 @@ pub use numbers::entries::{Entry, begins_minus_one, entry_of, keyword_in, limite
 pub use numbers::integers::integer;
 pub use sources::reading::{BUFFER_SIZE, feed_piece, read_text};
 pub use sources::source::{Failed, FromRead, Source};
-pub use sources::text_reader::{Run, Step, TextReader};
+pub use sources::text_reader::{Step, TextReader};
 pub use words::{keyword_of, role};

@@ -14,7 +14,8 @@ use Rattle.tk_words.specs.Lex.{Line, Token, is_blank, behind, lines, tokens, tok
 use Rattle.tk_writers.specs.MatrixText.{format_word, matrix_text, number_line}
 use Rattle.tk_lines.specs.Pieces.{Piece, Section, Clean, end_piece, end_token, last_line, pieces_at, section_at, stop}
 use Rattle.tk_lines.specs.Pieces.{or_else, first_at}
-use Rattle.tk_problem_text.specs.Problem.{ProblemIs, Lower, problem_decided, problem_format, problem_value, wanted}
+use Rattle.tk_problem_text.specs.Problem.{ProblemIs, Lower, problem_decided, problem_format, problem_texts}
+use Rattle.tk_problem_text.specs.Problem.{problem_value, wanted}
 use Rattle.tk_problem_text.specs.Problem.{size_of, format_in, listed_format, token_tests, word_tests}
 use Rattle.tk_problem_text.specs.Sections.Rows.{number_in}
 use Rattle.tk_problem_text.specs.Names.{IsName}
@@ -279,5 +280,5 @@ module _ (name : List ℕ) (n : ℕ) (table : ℕ → ℕ → ℕ) (f : Format) 
 
   pub reads_back : ReadsBack name n table f
   reads_back =
-      read_within problem_decided (matrix_text name n table f) (answer name n (lower_triangle n table))
+      read_within problem_texts (matrix_text name n table f) (answer name n (lower_triangle n table))
       (length_short_matrix name n table f is_name.short high small) said

@@ -5,10 +5,10 @@ use Rattle.std.specs.Prelude.{codes, flat_map}
 use Rattle.std.specs.List.{AllByRecursion, list_any}
 use Rattle.std.proofs.lemmas.Bool.{lt-leb, ne_eqb}
 use Rattle.std.proofs.lemmas.List.Elements.{All-head, All-tail}
-use Rattle.tk_problem.specs.declared.limits.TheConstants.{TEXT_LIMIT}
 use Rattle.tk_words.specs.declared.fault.TextFault.{TextFault}
 use Rattle.tk_words.specs.declared.keyword.Keyword.{Keyword}
-use Rattle.tk_words.specs.Drive.{Decided}
+use Rattle.tk_words.specs.declared.fault.TextFault.{TextFault}
+use Rattle.tk_words.specs.Texts.{Texts}
 use Rattle.tk_words.specs.Lex.{LF, Line, Token, is_blank, behind, lines}
 use Rattle.tk_lines.specs.Pieces.{Piece, Header, Section, Clean, Format, cut, decided_by, end_piece, judge, last_line}
 use Rattle.tk_lines.specs.Pieces.{pieces_at, stop, after_tokens}
@@ -119,6 +119,6 @@ module _ {V : Type 0} (f : Format V) where
 
 -- ---- a text within its limit
 
-pub read_within : {V : Type 0} (d : Decided V) (text : List ℕ) (v : V) → length text ≤ TEXT_LIMIT →
-    d true text ≡ Some (Ok v) → IsReadBackAs d text v
-read_within d text v fits said = record { fits = fits; answer = answer_ended d TEXT_LIMIT text (Ok v) fits said }
+pub read_within : {V : Type 0} (texts : Texts V TextFault) (text : List ℕ) (v : V) → length text ≤ texts.limit →
+    texts.decided true text ≡ Some (Ok v) → IsReadBackAs texts text v
+read_within texts text v fits said = record { fits = fits; answer = answer_ended texts text (Ok v) fits said }

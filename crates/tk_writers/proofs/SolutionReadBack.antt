@@ -13,7 +13,7 @@ use Rattle.tk_writers.specs.Written.{line, spaced_numbers}
 use Rattle.tk_writers.specs.SolutionWritten.{route_lines, solution_text}
 use Rattle.tk_lists.specs.Solution.{Behind, route_line, number_head, SolutionLine, Route, Cost, Empty, routes_of}
 use Rattle.tk_lists.specs.Solution.{count_of, has_cost, cost_of, customers_stop, line_of, line_stop, judge_lines}
-use Rattle.tk_lists.specs.Solution.{solution_decided}
+use Rattle.tk_lists.specs.Solution.{solution_decided, solution_texts}
 use Rattle.tk_writers.specs.ReadBack.{IsSolution, SolutionReadsBack}
 use Rattle.tk_lines.proofs.Headers.ByteRuns.{front-all, behind-all}
 use Rattle.tk_lines.proofs.Sections.MiddleOfSection.{tokens_of-gap, tokens_of-none, tokens_of-last}
@@ -215,5 +215,5 @@ said routes cost h = reads cost (omega (arith, h.cheap)) [] 1 1 1 true routes re
 
 pub solution_read_back : (routes : List (List ℕ)) (cost : ℕ) → IsSolution routes cost → SolutionReadsBack routes cost
 solution_read_back routes cost h =
-    read_within solution_decided (solution_text routes cost) (routes, pos cost)
+    read_within solution_texts (solution_text routes cost) (routes, pos cost)
     (length_solution_text routes cost h.few h.customers) (said routes cost h)

@@ -13,7 +13,7 @@ use Rattle.tk_lines.specs.Pieces.{Piece, Section, Clean, end_piece, end_token, l
 use Rattle.tk_writers.specs.ReadBack.{IsTour, TourReadsBack}
 use Rattle.tk_lines.specs.Scan.{first_word}
 use Rattle.tk_lines.specs.Lists.{entries, list_extent, AreEntries}
-use Rattle.tk_lists.specs.Tour.{entries_stop, entry_stop, tour_decided, tour_format}
+use Rattle.tk_lists.specs.Tour.{entries_stop, entry_stop, tour_decided, tour_format, tour_texts}
 use Rattle.tk_words.specs.Entry.{is_eof, is_eof_word, is_keyword, is_some_word, natural_or_zero, numbers_of}
 use Rattle.tk_writers.specs.TourWritten.{tour_head, tour_text}
 use Rattle.tk_words.specs.Words.{keyword_of, section_word, rest_word}
@@ -395,5 +395,5 @@ module _ (name : List ℕ) (size : ℕ) (cities : List ℕ) (h : IsTour name siz
 pub tour_read_back : (name : List ℕ) (size : ℕ) (cities : List ℕ) → IsTour name size cities →
     TourReadsBack name size cities
 tour_read_back name size cities h =
-    read_within tour_decided (tour_text name size cities) cities (length_tour_text name size cities h.named.short h.few)
+    read_within tour_texts (tour_text name size cities) cities (length_tour_text name size cities h.named.short h.few)
     (said name size cities h)

@@ -1,22 +1,22 @@
 -- What a matrix text, a solution text and a tour text say to a reader.
 use Rattle.std.specs.Prelude.{◌≡◌, ◌≢◌, ℕ, ◌-◌, ◌*◌, ◌^◌, ◌<◌, ◌≤◌, List, length, map, flat_map, None, Ok, pos}
 use Rattle.std.specs.List.{range_with_len, concat, AllByRecursion}
-use Rattle.tk_problem.specs.declared.limits.TheConstants.{DISTANCE_LIMIT, ENTRY_LIMIT, ROUTE_LIMIT, TEXT_LIMIT}
+use Rattle.tk_problem.specs.declared.limits.TheConstants.{DISTANCE_LIMIT, ENTRY_LIMIT, ROUTE_LIMIT}
 use Rattle.tk_problem.specs.declared.weights.Format.{Format}
-use Rattle.tk_words.specs.Drive.{Decided}
-use Rattle.tk_words.specs.Texts.{answer_of}
+use Rattle.tk_words.specs.declared.fault.TextFault.{TextFault}
+use Rattle.tk_words.specs.Texts.{Texts, answer_of}
 use Rattle.tk_writers.specs.MatrixText.{matrix_text}
-use Rattle.tk_lists.specs.Solution.{solution_decided}
+use Rattle.tk_lists.specs.Solution.{solution_texts}
 use Rattle.tk_writers.specs.SolutionWritten.{solution_text}
-use Rattle.tk_lists.specs.Tour.{tour_decided}
+use Rattle.tk_lists.specs.Tour.{tour_texts}
 use Rattle.tk_writers.specs.TourWritten.{tour_text}
-use Rattle.tk_problem_text.specs.Problem.{Lower, problem_decided}
+use Rattle.tk_problem_text.specs.Problem.{Lower, problem_texts}
 use Rattle.tk_problem_text.specs.Names.{IsName}
 
 -- a text that keeps the limit of texts, and whose answer is this value
-pub record IsReadBackAs {V : Type 0} (decided : Decided V) (text : List ℕ) (value : V) : Type 0 where
-  pub fits : length text ≤ TEXT_LIMIT
-  pub answer : answer_of decided TEXT_LIMIT text ≡ Ok value
+pub record IsReadBackAs {V : Type 0} (texts : Texts V TextFault) (text : List ℕ) (value : V) : Type 0 where
+  pub fits : length text ≤ texts.limit
+  pub answer : answer_of texts text ≡ Ok value
 
 -- a table of weights as a problem can have them
 pub record IsTable (n : ℕ) (table : ℕ → ℕ → ℕ) : Type 0 where
@@ -31,7 +31,7 @@ lower_triangle n table = flat_map (λ a. map (table a) (range_with_len 1 (a - 1)
 -- the text is read as a problem of this name and these weights
 abbrev pub ReadsBack : List ℕ → ℕ → (ℕ → ℕ → ℕ) → Format → Type 0
 ReadsBack name n table f =
-    IsReadBackAs problem_decided (matrix_text name n table f)
+    IsReadBackAs problem_texts (matrix_text name n table f)
     (record { name = name; n = n; weights = Lower (lower_triangle n table); routing = None })
 
 -- routes and a cost as a solution text can have them
@@ -43,7 +43,7 @@ pub record IsSolution (routes : List (List ℕ)) (cost : ℕ) : Type 0 where
 
 -- the text is read as these routes and this cost
 abbrev pub SolutionReadsBack : List (List ℕ) → ℕ → Type 0
-SolutionReadsBack routes cost = IsReadBackAs solution_decided (solution_text routes cost) (routes, pos cost)
+SolutionReadsBack routes cost = IsReadBackAs solution_texts (solution_text routes cost) (routes, pos cost)
 
 -- a name, a length and cities as a tour text can have them: after the name there is room for the length and the text's
 -- ending
@@ -57,4 +57,4 @@ pub record IsTour (name : List ℕ) (size : ℕ) (cities : List ℕ) : Type 0 wh
 
 -- the text is read as these cities
 abbrev pub TourReadsBack : List ℕ → ℕ → List ℕ → Type 0
-TourReadsBack name size cities = IsReadBackAs tour_decided (tour_text name size cities) cities
+TourReadsBack name size cities = IsReadBackAs tour_texts (tour_text name size cities) cities

@@ -2,9 +2,9 @@
 use Rattle.std.proofs.Common.{◌≡◌, ℕ, Bool, true, List, [], Option, None, Some, Ok, Err, refl, sym, ap, ◌∙◌, subst}
 use Rattle.std.specs.Prelude.{MatchOption, is_some, unwrap_or}
 use Rattle.std.specs.Io.KnownBytes.{Appends}
-use Rattle.tk_text.specs.Problem.{ProblemIs, RoutingIs, problem_decided}
-use Rattle.tk_text.specs.Solution.{solution_decided}
-use Rattle.tk_text.specs.Tour.{tour_decided}
+use Rattle.tk_text.specs.Problem.{ProblemIs, RoutingIs, problem_texts}
+use Rattle.tk_text.specs.Solution.{solution_texts}
+use Rattle.tk_text.specs.Tour.{tour_texts}
 use Rattle.tk_engines.specs.Engine.{IsGiven, ReadsProblem, ReadsSolution, ReadsTour}
 use Rattle.tk_engines.specs.declared.fault.Fault.{Fault}
 use Rattle.tk_picture.specs.declared.picture.Form.TheVariants as forms
@@ -23,9 +23,9 @@ pub claim_says : {S : Type 0} (given : Bool) (left : S → Option (List ℕ)) (b
     ClaimSays given text p c
 claim_says given left broken old new text p Nothing e h = h.0
 claim_says given left broken old new text p (TourClaim cities) e h =
-    (h.0, h.1, says tour_decided left broken old new text cities e h.2)
+    (h.0, h.1, says tour_texts left broken old new text cities e h.2)
 claim_says given left broken old new text p (RoutesClaim s) e h =
-    (h.0, h.1, says solution_decided left broken old new text s e h.2)
+    (h.0, h.1, says solution_texts left broken old new text s e h.2)
 
 -- what an empty buffer took
 appended : (old new : Option (List ℕ)) (bs items : List ℕ) → old ≡ Some [] → new ≡ Some items →
@@ -71,7 +71,7 @@ plot_said left broken old new claim_left claim_broken claim_old claim_new taken 
       record {
         p = h.problem;
         c = h.second;
-        is_problem = says problem_decided left broken old new problem h.problem e h.read.is_problem;
+        is_problem = says problem_texts left broken old new problem h.problem e h.read.is_problem;
         is_claim = claim_says given claim_left claim_broken claim_old claim_new claim h.problem h.second f
             h.read.is_second;
         is = h.gives;
@@ -81,7 +81,7 @@ plot_said left broken old new claim_left claim_broken claim_old claim_new taken 
     )
 
 claim_stop_of : {C : Type 0} (given : Bool) (left : C → Option (List ℕ)) (broken : C → Bool) (old new : C)
-    (problem claim : List ℕ) (e : left old ≡ Some claim) (p : ProblemIs) (said : Says problem_decided problem p)
+    (problem claim : List ℕ) (e : left old ≡ Some claim) (p : ProblemIs) (said : Says problem_texts problem p)
     (fits : plot_misfit p ≡ None) (v : Fault) → given ≡ true → (o : Option RoutingIs) → p.routing ≡ o
     → MatchOption o (ReadsTour left broken old new (Err v)) (λ _. ReadsSolution left broken old new (Err v)) →
     IsStop plot_misfit NoClash (IsTourFault given claim) (IsSolutionFault given claim) problem v
@@ -95,7 +95,7 @@ claim_stop_of given left broken old new problem claim e p said fits v is (Some r
 -- what is claimed was refused
 pub claim_stop : {C : Type 0} (left : C → Option (List ℕ)) (broken : C → Bool) (old new : C) (problem claim : List ℕ)
     (e : left old ≡ Some claim) (given : Bool) (p : ProblemIs) (v : Fault)
-    → Says problem_decided problem p → plot_misfit p ≡ None → ReadsClaim given left broken old new p (Err v) →
+    → Says problem_texts problem p → plot_misfit p ≡ None → ReadsClaim given left broken old new p (Err v) →
     IsStop plot_misfit NoClash (IsTourFault given claim) (IsSolutionFault given claim) problem v
 claim_stop left broken old new problem claim e given p v said fits h =
     claim_stop_of given left broken old new problem claim e p said fits v h.0 p.routing refl h.1

@@ -1,9 +1,7 @@
 -- The numbers of faults, and what an answer tells of the fault of a text.
 use Rattle.std.specs.Prelude.{◌≡◌, ◌+◌, ◌⊎◌, ℕ, List, Option, Some, None, Err}
-use Rattle.tk_problem.specs.declared.limits.TheConstants.{TEXT_LIMIT}
-use Rattle.tk_text.specs.Drive.{Decided}
-use Rattle.tk_text.specs.Texts.{answer_of}
-use Rattle.tk_text.specs.Problem.{ProblemIs, problem_decided}
+use Rattle.tk_text.specs.Texts.{Texts, answer_of}
+use Rattle.tk_text.specs.Problem.{ProblemIs, problem_texts}
 use Rattle.tk_tour.specs.declared.fault.TourFault.{TourFault}
 use Rattle.tk_tour.specs.declared.fault.TourFault.TheVariants as tours
 use Rattle.tk_engines.specs.declared.fault.Fault.{Fault}
@@ -102,15 +100,16 @@ IsFaultAnswer problem faults.NoMemory answer = answer.status ≡ 3
 IsFaultAnswer problem f answer = (answer.text ≡ 0) × (answer.kind ≡ misfit_number f)
 
 -- the text has the fault that the answer tells
-pub record IsRefused {V : Type 0} (decided : Decided V) (number : ℕ) (text : List ℕ) (answer : Answer) : Type 0 where
+pub record IsRefused {V : Type 0} (texts : Texts V TextFault) (number : ℕ) (text : List ℕ)
+    (answer : Answer) : Type 0 where
   pub fault : TextFault
   pub told : Tells number fault answer
-  pub is : answer_of decided TEXT_LIMIT text ≡ Err fault
+  pub is : answer_of texts text ≡ Err fault
 
 -- the problem of a text does not fit the task, for this reason
 pub record IsMisfitOf (misfit : ProblemIs → Option Fault) (problem : List ℕ) (f : Fault) : Type 0 where
   pub p : ProblemIs
-  pub is_problem : Says problem_decided problem p
+  pub is_problem : Says problem_texts problem p
   pub misfit_is : misfit p ≡ Some f
 
 -- any problem fits the task
@@ -120,7 +119,7 @@ fits_any p = None
 -- the problem of a text fits the task, and this is so of it
 pub record IsFitAnd (misfit : ProblemIs → Option Fault) (problem : List ℕ) (Fact : ProblemIs → Type 0) : Type 0 where
   pub p : ProblemIs
-  pub is_problem : Says problem_decided problem p
+  pub is_problem : Says problem_texts problem p
   pub fits : misfit p ≡ None
   pub fact : Fact p
 
@@ -136,7 +135,7 @@ NoClash f = ⊥
 -- or of a solution's where the problem fits, at a tour that clashes with it, or otherwise
 abbrev pub IsStop : (ProblemIs → Option Fault) → (TourFault → Type 0) → (ProblemIs → TextFault → Type 0) →
     (ProblemIs → TextFault → Type 0) → List ℕ → Fault → Type 0
-IsStop misfit Clash Tour Solution problem (faults.Problem f) = HasFault problem_decided problem f
+IsStop misfit Clash Tour Solution problem (faults.Problem f) = HasFault problem_texts problem f
 IsStop misfit Clash Tour Solution problem (faults.Tour f) = IsFitAnd misfit problem (λ p. Tour p f)
 IsStop misfit Clash Tour Solution problem (faults.Solution f) = IsFitAnd misfit problem (λ p. Solution p f)
 IsStop misfit Clash Tour Solution problem (faults.Initial f) = Clash f
@@ -159,7 +158,7 @@ NoRefusal p answer = ⊥
 pub record IsRightRefusal (misfit : ProblemIs → Option Fault) (Clash : TourFault → Type 0)
     (Second : ProblemIs → Answer → Type 0) (first : ℕ) (problem : List ℕ) (answer : Answer) : Type 0 where
   pub known : (answer.text ≡ 0) ⊎ ((answer.text ≡ first) ⊎ (answer.text ≡ first + 1))
-  pub is_problem : answer.text ≡ first → IsRefused problem_decided first problem answer
+  pub is_problem : answer.text ≡ first → IsRefused problem_texts first problem answer
   pub is_second : answer.text ≡ first + 1 →
       IsFitAnd misfit problem (λ p. Second p answer) ⊎ ((f : TourFault) × Clash f × IsTourAnswer f answer)
   pub is_misfit : answer.text ≡ 0 → IsMisfitAnswer misfit problem answer

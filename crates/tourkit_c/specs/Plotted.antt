@@ -1,8 +1,8 @@
 -- What `plot` gives for texts in memory.
 use Rattle.std.specs.Prelude.{◌≡◌, ◌⊎◌, Option, ℕ, Bool, true, false, List, [], length, None, is_some}
-use Rattle.tk_text.specs.Problem.{ProblemIs, problem_decided}
-use Rattle.tk_text.specs.Solution.{solution_decided}
-use Rattle.tk_text.specs.Tour.{tour_decided}
+use Rattle.tk_text.specs.Problem.{ProblemIs, problem_texts}
+use Rattle.tk_text.specs.Solution.{solution_texts}
+use Rattle.tk_text.specs.Tour.{tour_texts}
 use Rattle.tk_engines.specs.declared.engines.plotted.Plotted.{Plotted}
 use Rattle.tk_engines.specs.declared.engines.plotted.Plotted.TheVariants as plotted
 use Rattle.tk_engines.specs.Plot.{Claim, Drawn, IsPlot, Nothing, Output, Refused, RoutesClaim, TourClaim}
@@ -18,13 +18,13 @@ use Rattle.tourkit_c.specs.declared.answer.Answer.{Answer}
 -- what is claimed of a problem: nothing, or a tour, or routes where the problem has a routing
 abbrev pub ClaimSays : Bool → List ℕ → ProblemIs → Claim → Type 0
 ClaimSays given text p Nothing = given ≡ false
-ClaimSays given text p (TourClaim cities) = (given ≡ true) × (p.routing ≡ None) × Says tour_decided text cities
-ClaimSays given text p (RoutesClaim s) = (given ≡ true) × (is_some p.routing ≡ true) × Says solution_decided text s
+ClaimSays given text p (TourClaim cities) = (given ≡ true) × (p.routing ≡ None) × Says tour_texts text cities
+ClaimSays given text p (RoutesClaim s) = (given ≡ true) × (is_some p.routing ≡ true) × Says solution_texts text s
 
 pub record IsPlotOf (given : Bool) (problem claim : List ℕ) (answer : Plotted) (output : Output) : Type 0 where
   pub p : ProblemIs
   pub c : Claim
-  pub is_problem : Says problem_decided problem p
+  pub is_problem : Says problem_texts problem p
   pub is_claim : ClaimSays given claim p c
   pub is : IsPlot forms.Svg p c answer output
 
@@ -55,14 +55,14 @@ plot_misfit p = without_places p.weights
 
 -- what is claimed is a tour, since the problem has no routing, and has this fault
 abbrev pub IsTourFault : Bool → List ℕ → ProblemIs → TextFault → Type 0
-IsTourFault given claim p f = (given ≡ true) × (p.routing ≡ None) × HasFault tour_decided claim f
+IsTourFault given claim p f = (given ≡ true) × (p.routing ≡ None) × HasFault tour_texts claim f
 
 -- what is claimed is a solution, since the problem has a routing, and has this fault
 abbrev pub IsSolutionFault : Bool → List ℕ → ProblemIs → TextFault → Type 0
-IsSolutionFault given claim p f = (given ≡ true) × (is_some p.routing ≡ true) × HasFault solution_decided claim f
+IsSolutionFault given claim p f = (given ≡ true) × (is_some p.routing ≡ true) × HasFault solution_texts claim f
 
 -- what is claimed has the fault that the answer tells: as a tour where the problem has no routing, else as a solution
 abbrev pub IsClaimRefused : Bool → List ℕ → ProblemIs → Answer → Type 0
 IsClaimRefused given claim p answer =
-    (given ≡ true) × (((p.routing ≡ None) × IsRefused tour_decided 2 claim answer)
-    ⊎ ((is_some p.routing ≡ true) × IsRefused solution_decided 2 claim answer))
+    (given ≡ true) × (((p.routing ≡ None) × IsRefused tour_texts 2 claim answer)
+    ⊎ ((is_some p.routing ≡ true) × IsRefused solution_texts 2 claim answer))

@@ -1,13 +1,11 @@
 -- What `solve` gives for texts in memory.
 use Rattle.std.specs.Prelude.{◌≡◌, ℕ, Bool, true, false, List, length, Option, None, Some, Ok, Err, is_some, option_map}
-use Rattle.tk_text.specs.Problem.{ProblemIs, problem_decided}
-use Rattle.tk_text.specs.Tour.{tour_decided}
+use Rattle.tk_text.specs.Problem.{ProblemIs, problem_texts}
+use Rattle.tk_text.specs.Tour.{tour_texts}
 use Rattle.tk_engines.specs.Asked.{ParamsAre}
-use Rattle.tk_engines.specs.Params.{params_answer}
+use Rattle.tk_engines.specs.Params.{params_answer, params_texts}
 use Rattle.tk_words.specs.declared.fault.TextFault.{TextFault}
 use Rattle.tk_params.specs.declared.fault.ParamFault.{ParamFault}
-use Rattle.tk_params.specs.declared.fault.ParamKind.{ParamKind}
-use Rattle.tk_params.specs.declared.fault.ParamKind.TheVariants as params
 use Rattle.tk_solve.specs.Watching.{WereShown}
 use Rattle.tk_solve.specs.declared.watch.Unwatched.{Unwatched}
 use Rattle.tk_engines.specs.Solve.{Files, IsInitial, solve_task, unfit_key}
@@ -22,14 +20,14 @@ use Rattle.tourkit_c.specs.declared.answer.Answer.{Answer}
 -- the tour to begin with, where the parameters name one
 abbrev pub InitialSays : Bool → List ℕ → Option (List ℕ) → Type 0
 InitialSays given text None = given ≡ false
-InitialSays given text (Some cities) = (given ≡ true) × Says tour_decided text cities
+InitialSays given text (Some cities) = (given ≡ true) × Says tour_texts text cities
 
 -- what these parameters give for a problem and a tour to begin with: the text of the tour or of the routes, and the
 -- lines on it; nobody watches the search
 pub record IsSolvedBy (p : ParamsAre) (problem initial : List ℕ) (files : Files) : Type 0 where
   pub q : ProblemIs
   pub tour : Option (List ℕ)
-  pub is_problem : Says problem_decided problem q
+  pub is_problem : Says problem_texts problem q
   pub is_initial : InitialSays (is_some p.initial_tour_file) initial tour
   pub together : IsInitial q tour None
   pub before : Unwatched
@@ -46,17 +44,17 @@ pub record IsClashOf (given : Bool) (problem initial : List ℕ) (f : TourFault)
   pub is_given : given ≡ true
   pub q : ProblemIs
   pub cities : List ℕ
-  pub is_problem : Says problem_decided problem q
-  pub is_tour : Says tour_decided initial cities
+  pub is_problem : Says problem_texts problem q
+  pub is_tour : Says tour_texts initial cities
   pub clash : IsInitial q (Some cities) (Some (Initial f))
 
 -- the text of a tour to begin with, which is given, has this fault
 abbrev pub IsInitialFault : Bool → List ℕ → ProblemIs → TextFault → Type 0
-IsInitialFault given initial p f = (given ≡ true) × HasFault tour_decided initial f
+IsInitialFault given initial p f = (given ≡ true) × HasFault tour_texts initial f
 
 -- it has the fault that the answer tells
 abbrev pub IsInitialRefused : Bool → List ℕ → ProblemIs → Answer → Type 0
-IsInitialRefused given initial p answer = (given ≡ true) × IsRefused tour_decided 3 initial answer
+IsInitialRefused given initial p answer = (given ≡ true) × IsRefused tour_texts 3 initial answer
 
 -- the lines and the text in two buffers
 pub record AreFilesWritten (files : Files) (out out' file file' : List ℕ) (answer : Answer) : Type 0 where
@@ -69,13 +67,8 @@ abbrev pub misfit_of : ParamsAre → ProblemIs → Option Fault
 misfit_of p problem = option_map NotForType (unfit_key p problem)
 
 -- parameters have this fault; of faults of memory and of reading nothing is said
-abbrev pub HasParamKind : List ℕ → ParamFault → ParamKind → Type 0
-HasParamKind parameters fault params.NoMemory = Unit {0}
-HasParamKind parameters fault params.Read = Unit {0}
-HasParamKind parameters fault _ = params_answer parameters ≡ Err fault
-
 abbrev pub HasParamFault : List ℕ → ParamFault → Type 0
-HasParamFault parameters fault = HasParamKind parameters fault fault.kind
+HasParamFault = HasFault params_texts
 
 -- the parameters have the fault that the answer tells
 pub record AreParamsRefused (parameters : List ℕ) (answer : Answer) : Type 0 where

@@ -1,16 +1,14 @@
 -- What is said of texts in memory.
---     Says decided text value      the text says this value
---     HasFault decided text fault      the text has this fault, or memory ran out
+--     Says texts text value      the text says this value
+--     HasFault texts text fault      the text has this fault, or memory ran out
 --     IsCheckOf problem tour verdict line      the verdict on the tour of a text, and the line on it
-use Rattle.std.specs.Prelude.{◌≡◌, ℕ, List, Ok, length}
-use Rattle.tk_problem.specs.declared.limits.TheConstants.{TEXT_LIMIT}
-use Rattle.tk_text.specs.Drive.{Decided, IsTold}
-use Rattle.tk_text.specs.Texts.{answer_of}
-use Rattle.tk_text.specs.Problem.{ProblemIs, problem_decided}
+use Rattle.std.specs.Prelude.{◌≡◌, ℕ, List, Ok, Err, length}
+use Rattle.tk_text.specs.Texts.{IsToldOf, Texts, answer_of}
+use Rattle.tk_text.specs.Problem.{ProblemIs, problem_texts}
 use Rattle.tk_problem.specs.declared.weights.Format.{Format}
 use Rattle.tk_words.specs.declared.fault.TextFault.{TextFault}
-use Rattle.tk_text.specs.Solution.{Solution, solution_decided}
-use Rattle.tk_text.specs.Tour.{tour_decided}
+use Rattle.tk_text.specs.Solution.{Solution, solution_texts}
+use Rattle.tk_text.specs.Tour.{tour_texts}
 use Rattle.tk_tour.specs.declared.verdict.Verdict.{Verdict}
 use Rattle.tk_tour.specs.declared.verdict.Verdict.TheVariants as verdicts
 use Rattle.tk_routes.specs.declared.claims.verdict.RouteVerdict.{RouteVerdict}
@@ -23,19 +21,19 @@ use Rattle.tk_engines.specs.NearText.{IsNearText}
 use Rattle.tk_engines.specs.RouteCheck.{IsRouteCheck}
 
 -- a text says this value
-abbrev pub Says : {V : Type 0} → Decided V → List ℕ → V → Type 0
-Says decided text value = answer_of decided TEXT_LIMIT text ≡ Ok value
+abbrev pub Says : {V E : Type 0} → Texts V E → List ℕ → V → Type 0
+Says texts text value = answer_of texts text ≡ Ok value
 
 -- a text has this fault; of faults of memory and of reading nothing is said
-abbrev pub HasFault : {V : Type 0} → Decided V → List ℕ → TextFault → Type 0
-HasFault decided text fault = IsTold (Unit {0}) (λ answer. answer_of decided TEXT_LIMIT text ≡ answer) fault
+abbrev pub HasFault : {V E : Type 0} → Texts V E → List ℕ → E → Type 0
+HasFault texts text fault = IsToldOf (Unit {0}) (λ f. answer_of texts text ≡ Err f) fault (texts.cause fault)
 
 -- the verdict on the tour of one text among the cities of another, and the line on it
 pub record IsCheckOf (problem tour : List ℕ) (verdict : Verdict) (line : List ℕ) : Type 0 where
   pub p : ProblemIs
   pub cities : List ℕ
-  pub is_problem : Says problem_decided problem p
-  pub is_tour : Says tour_decided tour cities
+  pub is_problem : Says problem_texts problem p
+  pub is_tour : Says tour_texts tour cities
   pub is : IsCheck p cities verdict line
 
 -- the status of a verdict: 0 for a tour, 1 for a fault
@@ -51,20 +49,20 @@ route_status _ = 1
 pub record IsRouteCheckOf (problem solution : List ℕ) (verdict : RouteVerdict) (line : List ℕ) : Type 0 where
   pub p : ProblemIs
   pub claimed : Solution
-  pub is_problem : Says problem_decided problem p
-  pub is_solution : Says solution_decided solution claimed
+  pub is_problem : Says problem_texts problem p
+  pub is_solution : Says solution_texts solution claimed
   pub is : IsRouteCheck p claimed verdict line
 
 -- the near lists of the problem of a text
 pub record IsNearTextOf (k : ℕ) (problem text : List ℕ) : Type 0 where
   pub p : ProblemIs
-  pub is_problem : Says problem_decided problem p
+  pub is_problem : Says problem_texts problem p
   pub is : IsNearText k p text
 
 -- the matrix of the problem of a text
 pub record IsMatrixTextOf (format : Format) (problem text : List ℕ) : Type 0 where
   pub p : ProblemIs
-  pub is_problem : Says problem_decided problem p
+  pub is_problem : Says problem_texts problem p
   pub is : IsMatrixText format p text
 
 -- some text was handed out: how many bytes it has, and its first bytes in the buffer

@@ -1,13 +1,11 @@
 -- What a text says where its bytes end, wherever a reader stands.
 use Rattle.std.proofs.Common.{◌≡◌, ℕ, ◌≤◌, Bool, true, false, not, List, [], ◌∷◌, ◌++◌, length, Option, Some, None}
-use Rattle.std.proofs.Common.{Result, Ok, Err, refl, sym, ap, subst, ◌∙◌, arith}
+use Rattle.std.proofs.Common.{Result, Err, refl, sym, ap, subst, ◌∙◌, arith}
 use Rattle.std.proofs.lemmas.List.{append-nil}
 use Rattle.tk_words.specs.declared.keyword.Keyword.{Keyword}
 use Rattle.tk_words.specs.declared.fault.TextKind.{TextKind}
 use Rattle.tk_words.specs.declared.fault.TextFault.{TextFault}
 use Rattle.tk_lines.specs.declared.scan.Scan.{Scan}
-use Rattle.tk_words.specs.declared.sources.text_reader.Step.{Step}
-use Rattle.tk_words.specs.declared.sources.text_reader.Step.TheVariants as steps
 use Rattle.tk_lines.specs.declared.reader.PieceReader.{PieceReader}
 use Rattle.tk_lines.specs.declared.place.Place.{Place}
 use Rattle.tk_lines.specs.declared.place.Place.TheVariants as places
@@ -15,11 +13,12 @@ use Rattle.tk_words.specs.Lex.{Line, Token, lines, is_word_byte}
 use Rattle.tk_lines.specs.Pieces.{Piece, Clean, Early, Fault, Stop, Format, cut, judge, end_piece, stopped, ended}
 use Rattle.tk_lines.specs.Pieces.{decided_by}
 use Rattle.tk_lines.specs.FromMiddle.{from_line}
-use Rattle.tk_words.specs.Drive.{Decides, DecidesEnded, IsTold, FedMore}
-use Rattle.tk_lines.specs.Forms.{a_header, a_section}
+use Rattle.tk_words.specs.Texts.{cause_of}
+use Rattle.tk_lines.specs.Forms.{Promise, a_header, a_section}
 use Rattle.tk_lines.specs.Reader.{Within, anything, no_word, a_gap, a_line_end, at_end, DecidesIf, AtLine, AtTail}
-use Rattle.tk_lines.specs.Reader.{AtValue, AtBegin, AtToken, AtClose, AtAfter, AtPlace, HeaderTaken, AtEnd, Fed, HasFed}
-use Rattle.tk_words.proofs.Told.{told_kind}
+use Rattle.tk_lines.specs.Reader.{AtValue, AtBegin, AtToken, AtClose, AtAfter, AtPlace, HeaderTaken, AtEnd, Fed}
+use Rattle.tk_lines.specs.Steps.{EndsPlace, IsSettled, IsAnswered, IsRefused, Waits}
+use Rattle.tk_words.proofs.Told.{told_of}
 use Rattle.tk_lines.proofs.MiddleOfLine.{prepend-nil}
 use Rattle.tk_lines.proofs.Lines.{word_ends_behind, from_line-last}
 use Rattle.tk_lines.proofs.Sections.SectionEnds.{First}
@@ -49,17 +48,25 @@ end_in_plain : Within at_end plain
 end_in_plain e [] n = n
 end_in_plain e (b ∷ more) n = at_end_absurd e b more _ n
 
+-- the end of the bytes ends what is open at a place
+pub end_closes : (place : Place) → EndsPlace at_end place
+end_closes places.Word = end_in_no_word
+end_closes places.Token = end_in_gap
+end_closes (places.MinusOne o) = end_in_gap
+end_closes _ = tt
+
 -- ---- what is decided there
 
 module _ {V : Type 0} (f : Format V) (bs : List ℕ) where
   ended_by : (x : Option (Result V TextFault)) → decided_by f true (bs ++ []) ≡ x → decided_by f true bs ≡ x
   ended_by x h = ap (decided_by f true) (sym (append-nil bs)) ∙ h
 
-  pub decides_ended : (a : Result V TextFault) → DecidesIf f at_end bs a → DecidesEnded (decided_by f) bs a
+  pub decides_ended : (a : Result V TextFault) → DecidesIf f at_end bs a → IsAnswered f bs a
   decides_ended a h = ended_by (Some a) (h true [] refl)
 
-  pub told_ended : (r : TextFault) → IsTold ⊥ (DecidesIf f at_end bs) r → IsTold ⊥ (DecidesEnded (decided_by f) bs) r
-  told_ended r h = told_kind ⊥ (DecidesIf f at_end bs) (DecidesEnded (decided_by f) bs) r r.kind
+  pub told_ended : (r : TextFault) → IsRefused (DecidesIf f at_end bs) r → IsRefused (IsAnswered f bs) r
+  told_ended r h =
+      told_of ⊥ (λ e. DecidesIf f at_end bs (Err e)) (λ e. IsAnswered f bs (Err e)) r (cause_of r.kind)
       (decides_ended (Err r)) h
 
 -- ---- where nothing is open
@@ -149,12 +156,28 @@ module _ {V S : Type 0} (f : Format V) (H : S → List Piece → Type 0)
 
   pub end_section_err : (k : TextKind) (a : AtToken f W at_end form line [] bs) →
       f.section a.before a.word a.first a.toks (Early line true) ≡ Some (Fault line k) →
-      DecidesEnded (decided_by f) bs (Err (record { line = line; kind = k }))
+      IsAnswered f bs (Err (record { line = line; kind = k }))
   end_section_err k a stops = section_ended a
       ∙ ap
       (λ (x : Option Stop). stopped x
       (ended f (a.before ++ a_section a.word a.first a.toks (Early line true)) line true
       (f.at_end (a.before ++ a_section a.word a.first a.toks (Early line true))))) stops
+
+-- no value, no section and nothing else is open
+pub nothing_open : {V S : Type 0} (f : Format V) (H : S → List Piece → Type 0)
+    (W : S → List Piece → Keyword → ℕ → List Token → Type 0) (form : S) (line : ℕ) (held : List ℕ) (scan : Scan)
+    (bs : List ℕ) (place : Place) → IsSettled place → ((word : Keyword) → place ≡ places.Value word → ⊥) →
+    (place ≡ places.Begin → ⊥) → (place ≡ places.Gap → ⊥) → AtPlace f H W at_end form line held scan bs place →
+    AtEnd f H form line bs
+nothing_open f H W form line held scan bs places.Start settled v b g at = end_line f H W form line bs at
+nothing_open f H W form line held scan bs places.Word settled v b g at = absurd settled
+nothing_open f H W form line held scan bs (places.Value word) settled v b g at = absurd (v word refl)
+nothing_open f H W form line held scan bs places.Begin settled v b g at = absurd (b refl)
+nothing_open f H W form line held scan bs places.Gap settled v b g at = absurd (g refl)
+nothing_open f H W form line held scan bs places.Token settled v b g at = absurd settled
+nothing_open f H W form line held scan bs places.Close settled v b g at = end_close f H W form line bs at
+nothing_open f H W form line held scan bs (places.After o) settled v b g at = end_after f H W form line bs o at
+nothing_open f H W form line held scan bs (places.MinusOne o) settled v b g at = absurd settled
 
 -- ---- where more may follow, nothing is decided
 
@@ -225,15 +248,12 @@ from_first f H form holds = record {
 
 -- ---- a step, as the driver asks it
 
-module _ {V S : Type 0} (f : Format V) (H : S → List Piece → Type 0)
-    (W : S → List Piece → Keyword → ℕ → List Token → Type 0) (bs : List ℕ) where
-  pub decides_all : (a : Result V TextFault) → DecidesIf f anything bs a → Decides (decided_by f) bs a
-  decides_all a h e more = h e more refl
-
-  pub told_all : (r : TextFault) → IsTold ⊥ (DecidesIf f anything bs) r → IsTold ⊥ (Decides (decided_by f) bs) r
-  told_all r h = told_kind ⊥ (DecidesIf f anything bs) (Decides (decided_by f) bs) r r.kind (decides_all (Err r)) h
-
-  pub fed_more : (s : PieceReader S) (v : V) (step : Step) → HasFed f anything (Fed f H W anything s) v bs step →
-      FedMore (decided_by f) (Fed f H W anything s) v bs step
-  fed_more s v steps.More h = (h, open_place f H W s.form s.line s.held s.scan bs s.place h.1)
-  fed_more s v steps.Done h = decides_all (Ok v) h
+-- what a reader has taken decides nothing
+pub fed_waits : {V S : Type 0} {p : Promise V S} {reader : PieceReader S} {bs : List ℕ} → Fed p anything reader bs →
+    Waits p reader bs
+fed_waits {p = p} {reader = reader} {bs = bs} fed =
+    record {
+      fed = fed;
+      undecided = open_place p.format p.holds p.wants reader.form reader.line reader.held reader.scan bs reader.place
+          fed.at;
+    }

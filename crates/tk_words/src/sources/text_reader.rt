@@ -1,40 +1,33 @@
 //! What takes the bytes of a text.
-ghost use Rattle.std.specs.Prelude.{◌≡◌, ℕ, ◌+◌, ◌<◌, ◌^◌, Bool, false, List, [], ◌∷◌, ◌++◌, length, Option, None};
-ghost use Rattle.std.specs.Prelude.{Result, Ok, IfOk, IfErr};
-ghost use Rattle.tk_words.specs.declared.fault.TextFault.{TextFault};
-ghost use Rattle.tk_words.specs.Drive.{Decides, DecidesEnded, IsTold, FedMore, HasRun, IsToldWithin, line_behind};
+ghost use Rattle.std.specs.Prelude.{◌≡◌, ℕ, ◌+◌, ◌≤◌, ◌^◌, false, List, length, None};
+ghost use Rattle.tk_words.specs.Texts.{Texts, OfSource, OfText, line_behind};
+ghost use Rattle.tk_words.specs.Taking.{HasTaken, HasEnded};
 
-use crate::fault::TextFault;
-
-/// Whether a text goes on.
+/// How far a reader has come with the bytes that it was given.
 #[derive(Clone, Copy, Debug, PartialEq, Eq)]
 pub enum Step {
-    More,
+    /// It has taken so many of them, and the text goes on.
+    Taken(usize),
+    /// They make the text whole.
     Done,
 }
 
-/// How far bytes were taken at once.
-#[derive(Clone, Copy, Debug, PartialEq, Eq)]
-pub enum Run {
-    /// So many of them, and the text goes on.
-    Taken(usize),
-    /// As many as make the text whole.
-    Whole,
-}
-
-/// What takes the bytes of a text one by one.
+/// What takes the bytes of a text.
 pub trait TextReader: Drop {
     /// What it reads.
     type Out;
 
-    /// What a contract sees of that.
+    /// Why it refuses a text.
+    type Fault: Copy;
+
+    /// What a contract sees of what it reads.
     ghost Value: { Type 0 };
 
     /// What is seen of it.
     ghost view: { Self.Out → Value };
 
-    /// What the bytes say: nothing where those after them decide. True: there are none after them.
-    ghost decided: { Bool → List ℕ → Option (Result Value TextFault) };
+    /// The texts that it reads.
+    ghost texts: { Texts Value Self.Fault };
 
     /// Holds where it has taken these bytes, and they decide nothing.
     ghost fed: { Self → List ℕ → Type 0 };
@@ -45,38 +38,41 @@ pub trait TextReader: Drop {
     /// Holds where it has all that a value is made of.
     ghost complete: { Self → Type 0 };
 
-    /// The line of the next byte, for which it waits.
-    fn line(&self) -> u64
-        ensures line { (bs : List ℕ) → fed self.now bs → result ≡ line_behind bs }
-        ensures undecided { (bs : List ℕ) → fed self.now bs → decided false bs ≡ None };
-
-    /// Takes a byte.
-    fn feed(&mut self, byte: u8) -> Result<Step, TextFault>
-        requires { (bs : List ℕ) × fed self.old bs × (length bs < 2 ^ 63) }
-        ensures more { (bs : List ℕ) → fed self.old bs
-            → IfOk result (λ s. FedMore (decided) (fed self.new) (held self.new) (bs ++ byte ∷ []) s) }
-        ensures err { (bs : List ℕ) → fed self.old bs → IfErr result (IsTold ⊥ (Decides decided (bs ++ byte ∷ []))) }
-        ensures complete { (bs : List ℕ) → fed self.old bs → result ≡ Ok Step.Done → complete self.new };
-
-    /// Takes as many of the bytes as it can at once: none, unless a reader says otherwise.
-    fn feed_run(&mut self, bytes: &[u8]) -> Result<Run, TextFault>
-        requires { (bs : List ℕ) × fed self.old bs × (length bs + length bytes.now < 2 ^ 63) }
-        ensures more { (bs : List ℕ) → fed self.old bs
-            → IfOk result (HasRun decided (fed self.new) (held self.new) bs bytes.now) }
-        ensures err { (bs : List ℕ) → fed self.old bs → IfErr result (IsToldWithin decided bs bytes.now) }
-        ensures complete { (bs : List ℕ) → fed self.old bs → result ≡ Ok Run.Whole → complete self.new }
-    {
-        Ok(Run::Taken(0))
-    }
+    /// Takes bytes that follow: at least one of them, if they do not show that the text ends or is refused.
+    ///
+    /// # Errors
+    /// The fault that the bytes up to some of these show.
+    fn feed(&mut self, bytes: &[u8]) -> Result<Step, Self::Fault>
+        requires some { 1 ≤ length bytes.now }
+        requires room { (before : List ℕ) × fed self.old before × (length before + length bytes.now ≤ 2 ^ 63) }
+        ensures { (before : List ℕ) → fed self.old before
+            → HasTaken texts (fed self.new) (held self.new) (complete self.new) before bytes.now result };
 
     /// The answer at the end of the bytes.
-    fn finish(self) -> Result<Self::Out, TextFault>
-        requires { (bs : List ℕ) × fed self bs }
-        ensures ok { (bs : List ℕ) → fed self bs → IfOk result (λ v. DecidesEnded decided bs (Ok (view v))) }
-        ensures err { (bs : List ℕ) → fed self bs → IfErr result (IsTold ⊥ (DecidesEnded decided bs)) };
+    ///
+    /// # Errors
+    /// The fault of the text.
+    fn finish(self) -> Result<Self::Out, Self::Fault>
+        requires { (before : List ℕ) × fed self before }
+        ensures { (before : List ℕ) → fed self before → HasEnded texts view before result };
 
-    /// The list, once all of the text is there.
+    /// What was read, once all of the text is there.
     fn value(self) -> Self::Out
         requires { complete self }
         ensures { view result ≡ held self };
+
+    /// The fault of a text whose limit is before the byte for which it waits.
+    fn too_long(&self) -> Self::Fault
+        ensures { (before : List ℕ) → fed self.now before → result ≡ texts.too_long (line_behind before) };
+
+    /// The fault where the source fails before the byte for which it waits.
+    fn cut_off(&self) -> Self::Fault
+        ensures cause { texts.cause result ≡ OfSource }
+        ensures line { (before : List ℕ) → fed self.now before → texts.line_of result ≡ line_behind before };
+
+    /// A text that is too long is at fault itself.
+    ghost too_long_told: { (line : ℕ) → texts.cause (texts.too_long line) ≡ OfText };
+
+    /// It waits for more: what it has taken decides nothing.
+    ghost waits: { (reader : Self) (before : List ℕ) → fed reader before → texts.decided false before ≡ None };
 }

@@ -1,18 +1,17 @@
 use Rattle.std.proofs.Common.{◌≡◌, [], None, false, refl, arith}
 use Rattle.std.proofs.lemmas.Result.{IfOk-weaker}
-use Rattle.tk_problem.specs.declared.limits.TheConstants.{TEXT_LIMIT}
 use Rattle.tk_words.specs.Texts.{WantMore}
 use Rattle.tk_words.proofs.Told.{where_unread}
 use Rattle.tk_words.specs.Lex.{lines}
 use Rattle.tk_lines.specs.Pieces.{decided_by, judge, cut}
 use Rattle.tk_problem_text.specs.Parts.{problem_is}
-use Rattle.tk_problem_text.specs.Problem.{problem_decided}
+use Rattle.tk_problem_text.specs.Problem.{problem_decided, problem_texts}
 use Rattle.tk_problem_text.proofs.ReadNames.{name_answered}
 use Rattle.tk_problem_text.proofs.problem_text.read_problem.Goals as goal
 
 pub returns-in-Ok-clause-named : goal.returns-in-Ok-clause-named
 returns-in-Ok-clause-named g c =
-    IfOk-weaker c.read_text.result _ _ (λ problem said. name_answered TEXT_LIMIT said.0 (problem_is problem) said.1)
+    IfOk-weaker c.read_text.result _ _ (λ problem said. name_answered said.0 (problem_is problem) said.1)
     c.read_text.ensures.some_text
 
 wanted : problem_decided false [] ≡ None
@@ -20,5 +19,5 @@ unfolding decided_by judge lines cut
 wanted = refl
 
 pub returns-in-Err-clause-err : goal.returns-in-Err-clause-err
-returns-in-Err-clause-err g c = where_unread problem_decided TEXT_LIMIT (g.R.Source.left c.args.source.now)
+returns-in-Err-clause-err g c = where_unread problem_texts (g.R.Source.left c.args.source.now)
     (record { undecided = wanted; within = omega arith })

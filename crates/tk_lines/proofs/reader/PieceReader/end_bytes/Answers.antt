@@ -1,116 +1,49 @@
+use Rattle.std.proofs.Common.{ap, Ok}
+use Rattle.std.proofs.lemmas.Result.{err_from_is_err_and}
 use Rattle.tk_lines.specs.declared.place.Place.TheVariants as places
 use Rattle.tk_lines.specs.Reader.{at_end}
 use Rattle.tk_lines.proofs.KnownPlaces.{at_place}
-use Rattle.tk_lines.proofs.Endings.ReaderEnds.{end_line, end_begin, end_close, end_after}
+use Rattle.tk_lines.proofs.Endings.ReaderEnds.{end_begin, end_closes, nothing_open, told_ended, decides_ended}
 use Rattle.tk_lines.proofs.reader.PieceReader.end_bytes.Goals as goal
 
-pub returns-in-Start-clause-ok : goal.returns-in-Start-clause-ok
-returns-in-Start-clause-ok g c = λ bs fed.
-    let at = at_place g.F.Form.format g.F.Form.holds g.F.Form.wants at_end c.args.self.now.form c.args.self.now.line
-    c.args.self.now.held c.args.self.now.scan bs c.args.self.now.place places.Start c.in-Start.is fed.1 in
-    c.end_text.ensures.ok bs
-    (end_line g.F.Form.format g.F.Form.holds g.F.Form.wants c.args.self.now.form c.args.self.now.line bs at)
+pub close-requires : goal.close-requires
+close-requires g c = (at_end, c.requires)
 
-pub returns-in-Start-clause-err : goal.returns-in-Start-clause-err
-returns-in-Start-clause-err g c = λ bs fed.
-    let at = at_place g.F.Form.format g.F.Form.holds g.F.Form.wants at_end c.args.self.now.form c.args.self.now.line
-    c.args.self.now.held c.args.self.now.scan bs c.args.self.now.place places.Start c.in-Start.is fed.1 in
-    c.end_text.ensures.err bs
-    (end_line g.F.Form.format g.F.Form.holds g.F.Form.wants c.args.self.now.form c.args.self.now.line bs at)
+pub returns-in_err-close : goal.returns-in_err-close
+returns-in_err-close g c = λ before fed.
+    let p = err_from_is_err_and c.from_residual.result c.from_residual.ensures.1 in
+    rw (p.1, p.2)
+    (told_ended g.F.Form.promise.format before c.in_err-close.field-0.0
+    (c.in_err-close.ensures.closed at_end before (end_closes c.args.self.now.place) fed))
 
-pub returns-in-Begin-clause-ok : goal.returns-in-Begin-clause-ok
-returns-in-Begin-clause-ok g c = λ bs fed.
-    let at = at_place g.F.Form.format g.F.Form.holds g.F.Form.wants at_end c.args.self.now.form c.args.self.now.line
-    c.args.self.now.held c.args.self.now.scan bs c.args.self.now.place places.Begin c.in-Begin.is fed.1 in
-    c.end_section.ensures.ok bs
-    (end_begin g.F.Form.format g.F.Form.holds g.F.Form.wants c.args.self.now.form c.args.self.now.line bs
-    c.args.self.now.held at)
+pub returns-in-Whole : goal.returns-in-Whole
+returns-in-Whole g c = λ before fed.
+    let whole =
+    rw c.in-Whole.is at (c.in_ok-close.ensures.closed at_end before (end_closes c.args.self.now.place) fed) in
+    (decides_ended g.F.Form.promise.format before _ whole.0, whole.1)
 
-pub returns-in-Begin-clause-err : goal.returns-in-Begin-clause-err
-returns-in-Begin-clause-err g c = λ bs fed.
-    let at = at_place g.F.Form.format g.F.Form.holds g.F.Form.wants at_end c.args.self.now.form c.args.self.now.line
-    c.args.self.now.held c.args.self.now.scan bs c.args.self.now.place places.Begin c.in-Begin.is fed.1 in
-    c.end_section.ensures.err bs
-    (end_begin g.F.Form.format g.F.Form.holds g.F.Form.wants c.args.self.now.form c.args.self.now.line bs
-    c.args.self.now.held at)
+pub returns-in-Value : goal.returns-in-Value
+returns-in-Value g c = λ before fed.
+    c.end_value.ensures before
+    (rw c.in-On.is at (c.in_ok-close.ensures.closed at_end before (end_closes c.args.self.now.place) fed))
 
-pub returns-in-Gap-clause-ok : goal.returns-in-Gap-clause-ok
-returns-in-Gap-clause-ok g c = λ bs fed.
-    let at = at_place g.F.Form.format g.F.Form.holds g.F.Form.wants at_end c.args.self.now.form c.args.self.now.line
-    c.args.self.now.held c.args.self.now.scan bs c.args.self.now.place places.Gap c.in-Gap.is fed.1 in
-    c.end_section-in-Gap.ensures.ok bs (at)
+pub returns-in-Begin : goal.returns-in-Begin
+returns-in-Begin g c = λ before fed.
+    let now = rw c.in-On.is at (c.in_ok-close.ensures.closed at_end before (end_closes c.args.self.now.place) fed) in
+    c.end_section.ensures before
+    (end_begin g.F.Form.promise.format g.F.Form.promise.holds g.F.Form.promise.wants c.close.new.self.form
+    c.close.new.self.line before c.close.new.self.held (at_place places.Begin c.in-Begin.is now))
 
-pub returns-in-Gap-clause-err : goal.returns-in-Gap-clause-err
-returns-in-Gap-clause-err g c = λ bs fed.
-    let at = at_place g.F.Form.format g.F.Form.holds g.F.Form.wants at_end c.args.self.now.form c.args.self.now.line
-    c.args.self.now.held c.args.self.now.scan bs c.args.self.now.place places.Gap c.in-Gap.is fed.1 in
-    c.end_section-in-Gap.ensures.err bs (at)
+pub returns-in-Gap : goal.returns-in-Gap
+returns-in-Gap g c = λ before fed.
+    let now = rw c.in-On.is at (c.in_ok-close.ensures.closed at_end before (end_closes c.args.self.now.place) fed) in
+    c.end_section-in-Gap.ensures before (at_place places.Gap c.in-Gap.is now)
 
-pub returns-in-Close-clause-ok : goal.returns-in-Close-clause-ok
-returns-in-Close-clause-ok g c = λ bs fed.
-    let at = at_place g.F.Form.format g.F.Form.holds g.F.Form.wants at_end c.args.self.now.form c.args.self.now.line
-    c.args.self.now.held c.args.self.now.scan bs c.args.self.now.place places.Close c.in-Close.is fed.1 in
-    c.end_text-in-Close.ensures.ok bs
-    (end_close g.F.Form.format g.F.Form.holds g.F.Form.wants c.args.self.now.form c.args.self.now.line bs at)
-
-pub returns-in-Close-clause-err : goal.returns-in-Close-clause-err
-returns-in-Close-clause-err g c = λ bs fed.
-    let at = at_place g.F.Form.format g.F.Form.holds g.F.Form.wants at_end c.args.self.now.form c.args.self.now.line
-    c.args.self.now.held c.args.self.now.scan bs c.args.self.now.place places.Close c.in-Close.is fed.1 in
-    c.end_text-in-Close.ensures.err bs
-    (end_close g.F.Form.format g.F.Form.holds g.F.Form.wants c.args.self.now.form c.args.self.now.line bs at)
-
-pub returns-in-After-clause-ok : goal.returns-in-After-clause-ok
-returns-in-After-clause-ok g c = λ bs fed.
-    let at = at_place g.F.Form.format g.F.Form.holds g.F.Form.wants at_end c.args.self.now.form c.args.self.now.line
-    c.args.self.now.held c.args.self.now.scan bs c.args.self.now.place (places.After c.in-After.field-0)
-    c.in-After.is fed.1 in
-    c.end_text-in-After.ensures.ok bs
-    (end_after g.F.Form.format g.F.Form.holds g.F.Form.wants c.args.self.now.form c.args.self.now.line bs
-    c.in-After.field-0 at)
-
-pub returns-in-After-clause-err : goal.returns-in-After-clause-err
-returns-in-After-clause-err g c = λ bs fed.
-    let at = at_place g.F.Form.format g.F.Form.holds g.F.Form.wants at_end c.args.self.now.form c.args.self.now.line
-    c.args.self.now.held c.args.self.now.scan bs c.args.self.now.place (places.After c.in-After.field-0)
-    c.in-After.is fed.1 in
-    c.end_text-in-After.ensures.err bs
-    (end_after g.F.Form.format g.F.Form.holds g.F.Form.wants c.args.self.now.form c.args.self.now.line bs
-    c.in-After.field-0 at)
-
-pub returns-in-Start-clause-complete : goal.returns-in-Start-clause-complete
-returns-in-Start-clause-complete g c = λ bs fed.
-    let at = at_place g.F.Form.format g.F.Form.holds g.F.Form.wants at_end c.args.self.now.form c.args.self.now.line
-    c.args.self.now.held c.args.self.now.scan bs c.args.self.now.place places.Start c.in-Start.is fed.1 in
-    c.end_text.ensures.complete bs
-    (end_line g.F.Form.format g.F.Form.holds g.F.Form.wants c.args.self.now.form c.args.self.now.line bs at)
-
-pub returns-in-Begin-clause-complete : goal.returns-in-Begin-clause-complete
-returns-in-Begin-clause-complete g c = λ bs fed.
-    let at = at_place g.F.Form.format g.F.Form.holds g.F.Form.wants at_end c.args.self.now.form c.args.self.now.line
-    c.args.self.now.held c.args.self.now.scan bs c.args.self.now.place places.Begin c.in-Begin.is fed.1 in
-    c.end_section.ensures.complete bs
-    (end_begin g.F.Form.format g.F.Form.holds g.F.Form.wants c.args.self.now.form c.args.self.now.line bs
-    c.args.self.now.held at)
-
-pub returns-in-Gap-clause-complete : goal.returns-in-Gap-clause-complete
-returns-in-Gap-clause-complete g c = λ bs fed.
-    let at = at_place g.F.Form.format g.F.Form.holds g.F.Form.wants at_end c.args.self.now.form c.args.self.now.line
-    c.args.self.now.held c.args.self.now.scan bs c.args.self.now.place places.Gap c.in-Gap.is fed.1 in
-    c.end_section-in-Gap.ensures.complete bs (at)
-
-pub returns-in-Close-clause-complete : goal.returns-in-Close-clause-complete
-returns-in-Close-clause-complete g c = λ bs fed.
-    let at = at_place g.F.Form.format g.F.Form.holds g.F.Form.wants at_end c.args.self.now.form c.args.self.now.line
-    c.args.self.now.held c.args.self.now.scan bs c.args.self.now.place places.Close c.in-Close.is fed.1 in
-    c.end_text-in-Close.ensures.complete bs
-    (end_close g.F.Form.format g.F.Form.holds g.F.Form.wants c.args.self.now.form c.args.self.now.line bs at)
-
-pub returns-in-After-clause-complete : goal.returns-in-After-clause-complete
-returns-in-After-clause-complete g c = λ bs fed.
-    let at = at_place g.F.Form.format g.F.Form.holds g.F.Form.wants at_end c.args.self.now.form c.args.self.now.line
-    c.args.self.now.held c.args.self.now.scan bs c.args.self.now.place (places.After c.in-After.field-0)
-    c.in-After.is fed.1 in
-    c.end_text-in-After.ensures.complete bs
-    (end_after g.F.Form.format g.F.Form.holds g.F.Form.wants c.args.self.now.form c.args.self.now.line bs
-    c.in-After.field-0 at)
+pub returns-in_default : goal.returns-in_default
+returns-in_default g c = λ before fed.
+    let now = rw c.in-On.is at (c.in_ok-close.ensures.closed at_end before (end_closes c.args.self.now.place) fed) in
+    let r = c.close.new.self in
+    c.end_text.ensures before
+    (nothing_open g.F.Form.promise.format g.F.Form.promise.holds g.F.Form.promise.wants r.form r.line r.held r.scan
+    before r.place (c.in_ok-close.ensures.settled (ap Ok c.in-On.is)) c.in_default.not-Value c.in_default.not-Begin
+    c.in_default.not-Gap now.at)

@@ -1,9 +1,16 @@
-use Rattle.std.proofs.Common.{◌∙◌}
+use Rattle.std.proofs.Common.{◌∙◌, List, ℕ, sym, subst}
+use Rattle.tk_words.specs.Lex.{IsRun}
+use Rattle.tk_lines.specs.Reader.{AtToken}
+use Rattle.tk_lines.specs.declared.place.Place.TheVariants as places
 use Rattle.tk_lines.proofs.KnownPlaces.{at_place}
 use Rattle.tk_lines.proofs.reader.PieceReader.end_token.Goals as goal
 
-pub returns-clause-complete : goal.returns-clause-complete
-returns-clause-complete g c = λ next bs fed done.
-    let at = at_place g.F.Form.format g.F.Form.holds g.F.Form.wants next c.args.self.now.form c.args.self.now.line
-    c.args.self.now.held c.args.self.now.scan bs c.args.self.now.place _ c.requires.place fed.1 in
-    c.take_token.ensures.complete next bs (fed.0, rw (c.as_slice.ensures ∙ c.replace-token.ensures.value) at.1) done
+pub returns-clause-closed : goal.returns-clause-closed
+returns-clause-closed g c = λ next before within fed.
+    let at = at_place places.Token c.requires.place fed in
+    let is = c.as_slice.ensures ∙ c.replace-token.ensures.value in
+    c.take_token.ensures.taken next before within (subst IsRun (sym is) at.0.0) (record {
+      line = fed.line;
+      at = subst (λ (held : List ℕ). AtToken g.F.Form.promise.format g.F.Form.promise.wants next
+          c.args.self.now.form c.args.self.now.line held before) (sym is) at.1;
+    })

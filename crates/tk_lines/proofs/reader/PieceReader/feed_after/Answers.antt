@@ -1,87 +1,63 @@
-use Rattle.std.proofs.Common.{◌∷◌, [], ◌++◌, refl, sym, ap, subst, ◌∙◌, List, ℕ, arith}
+use Rattle.std.proofs.Common.{[], refl, sym, ◌∙◌, arith}
 use Rattle.std.proofs.lemmas.Bool.{ne_eqb}
-use Rattle.tk_lines.specs.Reader.{anything, this, DecidesIf, AtAfter}
-use Rattle.tk_lines.proofs.KnownPlaces.{at_place, told_at}
+use Rattle.tk_lines.specs.declared.place.Place.TheVariants as places
+use Rattle.tk_lines.proofs.KnownPlaces.{at_place}
 use Rattle.tk_lines.proofs.Endings.MinusOneSteps.{after_LF, after_blank, after_byte, after_trailing, after_word}
 use Rattle.tk_lines.proofs.Endings.AfterMinusOne.{shown_first}
 use Rattle.tk_lines.proofs.LineSteps.{is_letter-word, line_behind-byte, line_behind-LF}
 use Rattle.tk_lines.proofs.reader.PieceReader.feed_after.Goals as goal
 
-pub returns-then-byte-eq10-clause-more : goal.returns-then-byte-eq10-clause-more
-returns-then-byte-eq10-clause-more g c = λ bs fed.
-    let at = at_place g.F.Form.format g.F.Form.holds g.F.Form.wants (this c.args.byte) c.args.self.now.form
-    c.args.self.now.line c.args.self.now.held c.args.self.now.scan bs c.args.self.now.place
-    _ c.requires.place fed.1 in
-    rw c.if-byte-eq10.true (
-      omega (arith, fed.0, line_behind-LF bs),
-      after_LF g.F.Form.format g.F.Form.holds c.args.self.now.form c.args.self.now.line 10 bs c.args.on_line
-          (rw c.if-byte-eq10.true at at),
-    )
+pub returns-then-byte-eq10 : goal.returns-then-byte-eq10
+returns-then-byte-eq10 g c = λ before fed.
+    let at = at_place (places.After c.args.on_line) c.requires.place fed in
+    rw c.if-byte-eq10.true (record {
+      line = omega (arith, fed.line, line_behind-LF before);
+      at = after_LF _ _ _ _ 10 _ c.args.on_line (rw c.if-byte-eq10.true at at);
+    })
 
-pub returns-then-blank-clause-more : goal.returns-then-blank-clause-more
-returns-then-blank-clause-more g c = λ bs fed.
-    let at = at_place g.F.Form.format g.F.Form.holds g.F.Form.wants (this c.args.byte) c.args.self.now.form
-    c.args.self.now.line c.args.self.now.held c.args.self.now.scan bs c.args.self.now.place
-    _ c.requires.place fed.1 in (
-      fed.0 ∙ sym (line_behind-byte bs c.args.byte (ne_eqb _ _ c.if-byte-eq10.false)),
-      rw c.requires.place
-          (after_blank g.F.Form.format g.F.Form.holds c.args.self.now.form c.args.self.now.line c.args.byte bs
-          c.args.on_line (ne_eqb _ _ c.if-byte-eq10.false) (sym c.blank.ensures ∙ c.if-blank.true) at),
-    )
+pub returns-then-blank : goal.returns-then-blank
+returns-then-blank g c = λ before fed.
+    let other = ne_eqb _ _ c.if-byte-eq10.false in
+    rw c.requires.place (record {
+      line = fed.line ∙ sym (line_behind-byte before c.args.byte other);
+      at = after_blank _ _ _ _ _ _ c.args.on_line other (sym c.blank.ensures ∙ c.if-blank.true)
+          (at_place (places.After c.args.on_line) c.requires.place fed);
+    })
 
-pub returns-then-on_line-clause-err : goal.returns-then-on_line-clause-err
-returns-then-on_line-clause-err g c = λ bs fed.
-    let at = at_place g.F.Form.format g.F.Form.holds g.F.Form.wants (this c.args.byte) c.args.self.now.form
-    c.args.self.now.line c.args.self.now.held c.args.self.now.scan bs c.args.self.now.place
-    _ c.requires.place fed.1 in
-    let at2 =
-    subst (λ o. AtAfter g.F.Form.format g.F.Form.holds (this c.args.byte) c.args.self.now.form c.args.self.now.line
-    o [] bs) c.if-on_line.true at in
-    told_at (DecidesIf g.F.Form.format anything (bs ++ c.args.byte ∷ [])) _ _ c.fault.ensures
-    (after_trailing g.F.Form.format g.F.Form.holds c.args.self.now.form c.args.self.now.line c.args.byte bs
-    (ne_eqb _ _ c.if-byte-eq10.false) (sym c.letter.ensures ∙ c.if-letter.true) at2)
+pub returns-then-on_line : goal.returns-then-on_line
+returns-then-on_line g c = λ before fed.
+    let at = at_place (places.After c.args.on_line) c.requires.place fed in
+    rw c.fault.ensures
+    (after_trailing _ _ _ _ _ _ (ne_eqb _ _ c.if-byte-eq10.false) (sym c.letter.ensures ∙ c.if-letter.true)
+    (rw c.if-on_line.true at at))
 
-pub returns-then-letter-clause-more : goal.returns-then-letter-clause-more
-returns-then-letter-clause-more g c = λ bs fed.
-    let at = at_place g.F.Form.format g.F.Form.holds g.F.Form.wants (this c.args.byte) c.args.self.now.form
-    c.args.self.now.line c.args.self.now.held c.args.self.now.scan bs c.args.self.now.place
-    _ c.requires.place fed.1 in
-    let at2 =
-    subst (λ o. AtAfter g.F.Form.format g.F.Form.holds (this c.args.byte) c.args.self.now.form c.args.self.now.line
-    o [] bs) c.if-on_line.false at in
-    let held = c.push.ensures ∙ ap (λ (x : List ℕ). x ++ c.args.byte ∷ []) c.clear.ensures in (
-      fed.0 ∙ sym (line_behind-byte bs c.args.byte (ne_eqb _ _ c.if-byte-eq10.false)),
-      rw held (
-        (
-          (sym c.letter.ensures ∙ c.if-letter.true),
-          rw (is_letter-word c.args.byte (sym c.letter.ensures ∙ c.if-letter.true)) refl,
-          omega arith,
-        ),
-        after_word g.F.Form.format g.F.Form.holds c.args.self.now.form c.args.self.now.line c.args.byte bs
-            (ne_eqb _ _ c.if-byte-eq10.false) (sym c.letter.ensures ∙ c.if-letter.true) at2,
-      ),
-    )
+pub returns-then-letter : goal.returns-then-letter
+returns-then-letter g c = λ before fed.
+    let at = at_place (places.After c.args.on_line) c.requires.place fed in
+    let other = ne_eqb _ _ c.if-byte-eq10.false in
+    let letter = sym c.letter.ensures ∙ c.if-letter.true in
+    rw c.begin.ensures (record {
+      line = fed.line ∙ sym (line_behind-byte before c.args.byte other);
+      at = (
+        (letter, rw (is_letter-word c.args.byte letter) refl, omega arith),
+        after_word _ _ _ _ _ _ other letter (rw c.if-on_line.false at at),
+      );
+    })
 
-pub returns-then-byte-ne45-clause-err : goal.returns-then-byte-ne45-clause-err
-returns-then-byte-ne45-clause-err g c = λ bs fed.
-    let at = at_place g.F.Form.format g.F.Form.holds g.F.Form.wants (this c.args.byte) c.args.self.now.form
-    c.args.self.now.line c.args.self.now.held c.args.self.now.scan bs c.args.self.now.place
-    _ c.requires.place fed.1 in
-    told_at (DecidesIf g.F.Form.format anything (bs ++ c.args.byte ∷ [])) _ _ c.fault-then-byte-ne45.ensures
-    (shown_first g.F.Form.format g.F.Form.holds c.args.self.now.form c.args.self.now.line c.args.byte bs c.args.on_line
-    (ne_eqb _ _ c.if-byte-eq10.false) (sym c.blank.ensures ∙ c.if-blank.false) (sym c.letter.ensures
-    ∙ c.if-letter.false) (ne_eqb _ _ c.if-byte-ne45.true) at)
+pub returns-then-byte-ne45 : goal.returns-then-byte-ne45
+returns-then-byte-ne45 g c = λ before fed.
+    rw c.fault-then-byte-ne45.ensures
+    (shown_first _ _ _ _ _ _ c.args.on_line (ne_eqb _ _ c.if-byte-eq10.false) (sym c.blank.ensures ∙ c.if-blank.false)
+    (sym c.letter.ensures ∙ c.if-letter.false) (ne_eqb _ _ c.if-byte-ne45.true)
+    (at_place (places.After c.args.on_line) c.requires.place fed))
 
-pub returns-clause-more : goal.returns-clause-more
-returns-clause-more g c = λ bs fed.
-    let at = at_place g.F.Form.format g.F.Form.holds g.F.Form.wants (this c.args.byte) c.args.self.now.form
-    c.args.self.now.line c.args.self.now.held c.args.self.now.scan bs c.args.self.now.place
-    _ c.requires.place fed.1 in
-    let held = c.push-2.ensures ∙ ap (λ (x : List ℕ). x ++ c.args.byte ∷ []) c.clear-2.ensures in (
-      fed.0 ∙ sym (line_behind-byte bs c.args.byte (ne_eqb _ _ c.if-byte-eq10.false)),
-      rw held (
+pub returns : goal.returns
+returns g c = λ before fed.
+    let other = ne_eqb _ _ c.if-byte-eq10.false in
+    rw c.begin-2.ensures (record {
+      line = fed.line ∙ sym (line_behind-byte before c.args.byte other);
+      at = (
         ((sym c.blank.ensures ∙ c.if-blank.false), rw c.if-byte-ne45.false refl),
-        after_byte g.F.Form.format g.F.Form.holds c.args.self.now.form c.args.self.now.line c.args.byte bs
-            c.args.on_line [] (ne_eqb _ _ c.if-byte-eq10.false) at,
-      ),
-    )
+        after_byte _ _ _ _ _ _ c.args.on_line [] other (at_place (places.After c.args.on_line) c.requires.place fed),
+      );
+    })

@@ -1,43 +1,35 @@
-use Rattle.std.proofs.Common.{◌∷◌, [], ◌++◌, sym, ap, ◌∙◌, List, ℕ, arith}
+use Rattle.std.proofs.Common.{[], sym, ◌∙◌, arith}
 use Rattle.std.proofs.lemmas.Bool.{ne_eqb}
-use Rattle.tk_lines.specs.Reader.{this}
+use Rattle.tk_lines.specs.declared.place.Place.TheVariants as places
 use Rattle.tk_lines.proofs.KnownPlaces.{at_place}
 use Rattle.tk_lines.proofs.Sections.SectionSteps.{gap_LF, gap_blank, token_byte}
 use Rattle.tk_lines.proofs.LineSteps.{line_behind-byte, line_behind-LF}
 use Rattle.tk_lines.proofs.reader.PieceReader.feed_gap.Goals as goal
 
-pub returns-then-byte-eq10-clause-more : goal.returns-then-byte-eq10-clause-more
-returns-then-byte-eq10-clause-more g c = λ bs fed.
-    let at = at_place g.F.Form.format g.F.Form.holds g.F.Form.wants (this c.args.byte) c.args.self.now.form
-    c.args.self.now.line c.args.self.now.held c.args.self.now.scan bs c.args.self.now.place
-    _ c.requires.place fed.1 in
-    rw (c.if-byte-eq10.true, c.requires.place) (
-      omega (arith, fed.0, line_behind-LF bs),
-      gap_LF g.F.Form.format g.F.Form.wants c.args.self.now.form c.args.self.now.line 10 bs
-          (rw c.if-byte-eq10.true at at),
-    )
+pub returns-then-byte-eq10 : goal.returns-then-byte-eq10
+returns-then-byte-eq10 g c = λ before fed.
+    let at = at_place places.Gap c.requires.place fed in
+    rw (c.if-byte-eq10.true, c.requires.place) (record {
+      line = omega (arith, fed.line, line_behind-LF before);
+      at = gap_LF _ _ _ _ 10 _ (rw c.if-byte-eq10.true at at);
+    })
 
-pub returns-then-blank-clause-more : goal.returns-then-blank-clause-more
-returns-then-blank-clause-more g c = λ bs fed.
-    let at = at_place g.F.Form.format g.F.Form.holds g.F.Form.wants (this c.args.byte) c.args.self.now.form
-    c.args.self.now.line c.args.self.now.held c.args.self.now.scan bs c.args.self.now.place
-    _ c.requires.place fed.1 in (
-      fed.0 ∙ sym (line_behind-byte bs c.args.byte (ne_eqb _ _ c.if-byte-eq10.false)),
-      rw c.requires.place
-          (gap_blank g.F.Form.format g.F.Form.wants c.args.self.now.form c.args.self.now.line c.args.byte bs
-          (ne_eqb _ _ c.if-byte-eq10.false) (sym c.blank.ensures ∙ c.if-blank.true) at),
-    )
+pub returns-else-not-blank : goal.returns-else-not-blank
+returns-else-not-blank g c = λ before fed.
+    let at = at_place places.Gap c.requires.place fed in
+    let other = ne_eqb _ _ c.if-byte-eq10.false in
+    rw c.requires.place (record {
+      line = fed.line ∙ sym (line_behind-byte before c.args.byte other);
+      at = gap_blank _ _ _ _ _ _ other (sym c.blank.ensures ∙ c.if-not-blank.false) at;
+    })
 
-pub returns-clause-more : goal.returns-clause-more
-returns-clause-more g c = λ bs fed.
-    let at = at_place g.F.Form.format g.F.Form.holds g.F.Form.wants (this c.args.byte) c.args.self.now.form
-    c.args.self.now.line c.args.self.now.held c.args.self.now.scan bs c.args.self.now.place
-    _ c.requires.place fed.1 in
-    let held = c.push.ensures ∙ ap (λ (x : List ℕ). x ++ c.args.byte ∷ []) c.clear.ensures in (
-      fed.0 ∙ sym (line_behind-byte bs c.args.byte (ne_eqb _ _ c.if-byte-eq10.false)),
-      rw held (
-        ((sym c.blank.ensures ∙ c.if-blank.false), omega arith),
-        token_byte g.F.Form.format g.F.Form.wants c.args.self.now.form c.args.self.now.line c.args.byte bs []
-            (ne_eqb _ _ c.if-byte-eq10.false) at,
-      ),
-    )
+pub returns-then-not-blank : goal.returns-then-not-blank
+returns-then-not-blank g c = λ before fed.
+    let other = ne_eqb _ _ c.if-byte-eq10.false in
+    rw c.begin.ensures (record {
+      line = fed.line ∙ sym (line_behind-byte before c.args.byte other);
+      at = (
+        ((sym c.blank.ensures ∙ c.if-not-blank.true), omega arith),
+        token_byte _ _ _ _ _ _ [] other (at_place places.Gap c.requires.place fed),
+      );
+    })

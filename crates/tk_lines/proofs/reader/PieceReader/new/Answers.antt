@@ -1,6 +1,8 @@
 use Rattle.std.proofs.Common.{refl}
-use Rattle.tk_lines.proofs.Endings.ReaderEnds.{from_first}
+use Rattle.tk_lines.proofs.Endings.ReaderEnds.{fed_waits, from_first}
 use Rattle.tk_lines.proofs.reader.PieceReader.new.Goals as goal
 
 pub returns : goal.returns
-returns g c = (refl, from_first g.F.Form.format g.F.Form.holds c.args.form c.requires)
+returns g c =
+    fed_waits (record
+    { line = refl; at = from_first g.F.Form.promise.format g.F.Form.promise.holds c.args.form c.requires })

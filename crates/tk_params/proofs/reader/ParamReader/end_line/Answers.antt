@@ -1,13 +1,23 @@
-use Rattle.std.proofs.Common.{refl}
-use Rattle.tk_params.proofs.Feeds.{fed_both, fed_line, line_faulty}
+use Rattle.std.proofs.Common.{refl, ◌∷◌, [], ◌++◌}
+use Rattle.std.proofs.lemmas.Result.{err_from_is_err_and}
+use Rattle.tk_words.specs.Texts.{Decides}
+use Rattle.tk_params.specs.Params.{params_texts}
+use Rattle.tk_params.proofs.Feeds.{fed_line, line_faulty}
+use Rattle.tk_params.proofs.Told.{told_line}
 use Rattle.tk_params.proofs.reader.ParamReader.end_line.Goals as goal
 
-pub returns-in-Done-clause-ok : goal.returns-in-Done-clause-ok
-returns-in-Done-clause-ok c = λ bs f k e more.
-    let st = rw c.in-Done.is at c.in_ok-take_held.ensures.ok in
-    rw st.answer (line_faulty c.args.self.now bs f 10 refl k st.kind st.means e more)
+pub returns-in_err-take_held : goal.returns-in_err-take_held
+returns-in_err-take_held c = λ before fed.
+    let p = err_from_is_err_and c.from_residual.result c.from_residual.ensures.1 in
+    let s = c.args.self.now in
+    let stopped = c.in_err-take_held.ensures in
+    rw (p.1, p.2)
+    (told_line s.settings s.held.items c.in_err-take_held.field-0.0 s.line (Decides params_texts (before ++ 10 ∷ []))
+    stopped.line stopped.told (line_faulty s before fed 10 refl c.requires.line))
 
-pub returns-in-More-clause-ok : goal.returns-in-More-clause-ok
-returns-in-More-clause-ok c = λ bs f k.
-    let t = rw c.in-More.is at c.in_ok-take_held.ensures.ok in
-    fed_both _ _ (fed_line c.args.self.now c.take_held.new.self bs f t k _ refl refl refl refl c.clear.ensures.items)
+pub returns : goal.returns
+returns c = λ before fed. (
+  refl,
+  fed_line c.args.self.now c.take_held.new.self before fed c.in_ok-take_held.ensures c.requires.line
+      _ refl refl refl c.clear.ensures.items,
+)

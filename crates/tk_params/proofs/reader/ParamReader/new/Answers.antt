@@ -1,6 +1,6 @@
 use Rattle.std.proofs.Common.{refl}
-use Rattle.tk_params.proofs.Feeds.{fed_new}
+use Rattle.tk_params.proofs.Feeds.{fed_new, fed_waits}
 use Rattle.tk_params.proofs.reader.ParamReader.new.Goals as goal
 
 pub returns : goal.returns
-returns c = fed_new _ refl refl refl c.new-2.ensures c.new.ensures.items
+returns c = fed_waits _ _ (fed_new _ refl refl c.new-2.ensures c.new.ensures.items)

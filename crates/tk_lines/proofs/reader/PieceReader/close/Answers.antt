@@ -1,0 +1,22 @@
+use Rattle.std.proofs.Common.{subst}
+use Rattle.tk_lines.specs.declared.place.Place.TheVariants as places
+use Rattle.tk_lines.specs.Steps.{EndsPlace}
+use Rattle.tk_lines.proofs.KnownPlaces.{at_place}
+use Rattle.tk_lines.proofs.reader.PieceReader.close.Goals as goal
+
+pub end_token-requires-clause-short : goal.end_token-requires-clause-short
+end_token-requires-clause-short g c =
+    let fed = c.requires.1.1 in
+    (at_place places.Token c.in-Token.is fed).0.1
+
+pub returns-in-Word-clause-closed : goal.returns-in-Word-clause-closed
+returns-in-Word-clause-closed g c = λ next before ends fed.
+    c.end_word.ensures.closed next before (subst (EndsPlace next) c.in-Word.is ends) fed
+
+pub returns-in-Token-clause-closed : goal.returns-in-Token-clause-closed
+returns-in-Token-clause-closed g c = λ next before ends fed.
+    c.end_token.ensures.closed next before (subst (EndsPlace next) c.in-Token.is ends) fed
+
+pub returns-in-MinusOne-clause-closed : goal.returns-in-MinusOne-clause-closed
+returns-in-MinusOne-clause-closed g c = λ next before ends fed.
+    c.end_minus_one.ensures.closed next before (subst (EndsPlace next) c.in-MinusOne.is ends) fed

@@ -1,0 +1,147 @@
+-- The steps of a reader: what bytes make of it, and what ends a word, a token and the text, whatever bytes it took
+-- before.
+--     HasCome p next new bs result      how far a reader has come with bytes: they are taken, or whole, or refused
+--     TakesByte, TakesSettled, TakesWhole, TakesRun      a byte; one that ends nothing; a token and a byte; tokens
+--     Closes, ClosesPlace, ClosesHeader, EndsToken      what ends a word or a token; wherever it stands; a header; a
+-- token
+--     Finishes p old new result      the end of the text
+use Rattle.std.specs.Prelude.{◌≡◌, ℕ, ◌≤◌, Bool, true, false, not, ◌||◌, ◌==◌, List, [], ◌∷◌, ◌++◌, length, take, Some}
+use Rattle.std.specs.Prelude.{None}
+use Rattle.std.specs.Prelude.{Result, Ok, Err}
+use Rattle.tk_words.specs.declared.fault.TextFault.{TextFault}
+use Rattle.tk_words.specs.declared.keyword.Keyword.{Keyword}
+use Rattle.tk_words.specs.declared.sources.text_reader.Step.{Step}
+use Rattle.tk_words.specs.declared.sources.text_reader.Step.TheVariants.{Taken, Done}
+use Rattle.tk_words.specs.Lex.{LF, IsRun, is_blank, is_word_byte}
+use Rattle.tk_words.specs.Texts.{IsToldOf, cause_of}
+use Rattle.tk_lines.specs.declared.place.Place.{Place}
+use Rattle.tk_lines.specs.declared.place.Place.TheVariants as places
+use Rattle.tk_lines.specs.declared.place.Flow.{Flow}
+use Rattle.tk_lines.specs.declared.place.Flow.TheVariants.{On, Whole}
+use Rattle.tk_lines.specs.declared.reader.PieceReader.{PieceReader}
+use Rattle.tk_lines.specs.Forms.{Promise}
+use Rattle.tk_lines.specs.Pieces.{Format, decided_by}
+use Rattle.tk_lines.specs.Reader.{Next, Within, Fed, IsIn, HeaderTaken, DecidesIf, this, anything, at_end, a_gap}
+use Rattle.tk_lines.specs.Reader.{a_line_end, no_word}
+
+-- a fault other than of memory is an answer with P
+abbrev pub IsRefused : {V : Type 0} → (Result V TextFault → Type 0) → TextFault → Type 0
+IsRefused P f = IsToldOf ⊥ (λ e. P (Err e)) f (cause_of f.kind)
+
+abbrev pub IsFed : {V S : Type 0} → Promise V S → Next → PieceReader S → Type 0
+IsFed p next reader = (before : List ℕ) × Fed p next reader before
+
+-- the reader has taken these bytes, which decide nothing
+pub record Waits {V S : Type 0} (p : Promise V S) (reader : PieceReader S) (before : List ℕ) : Type 0 where
+  pub fed : Fed p anything reader before
+  pub undecided : decided_by p.format false before ≡ None
+
+-- something is known of what comes next
+abbrev pub IsKnown : {V S : Type 0} → Promise V S → PieceReader S → Type 0
+IsKnown p reader = (next : Next) × IsFed p next reader
+
+-- how far a reader has come with bytes: they are taken; or they make the text whole, and its form has all that a value
+-- is made of; or they show a fault
+abbrev pub HasCome : {V S : Type 0} → Promise V S → Next → PieceReader S → List ℕ → Result Flow TextFault → Type 0
+HasCome p next new bs (Ok On) = Fed p next new bs
+HasCome p next new bs (Ok Whole) = DecidesIf p.format next bs (Ok (p.held new.form)) × p.complete new.form
+HasCome p next new bs (Err f) = IsRefused (DecidesIf p.format next bs) f
+
+-- ---- bytes
+
+abbrev pub TakesByte : {V S : Type 0} → Promise V S → PieceReader S → PieceReader S → ℕ → Result Flow TextFault →
+    Type 0
+TakesByte p old new byte result =
+    (before : List ℕ) → Fed p anything old before → HasCome p anything new (before ++ byte ∷ []) result
+
+-- a byte ends the word or the token that is open
+abbrev pub ends_at : ℕ → Place → Bool
+ends_at byte places.Word = not (is_word_byte byte)
+ends_at byte places.Token = is_blank byte || byte == LF
+ends_at byte (places.MinusOne on_line) = is_blank byte || byte == LF
+ends_at byte _ = false
+
+-- a byte that ends none
+abbrev pub TakesSettled : {V S : Type 0} → Promise V S → PieceReader S → PieceReader S → ℕ → Result Flow TextFault →
+    Type 0
+TakesSettled p old new byte result =
+    (before : List ℕ) → Fed p (this byte) old before → HasCome p anything new (before ++ byte ∷ []) result
+
+-- a byte after a token that is not held
+abbrev pub TakesWhole : {V S : Type 0} → Promise V S → List ℕ → PieceReader S → PieceReader S → ℕ →
+    Result Flow TextFault → Type 0
+TakesWhole p token old new byte result =
+    (before : List ℕ) → IsIn p (this byte) old token before → HasCome p anything new (before ++ byte ∷ []) result
+
+-- how far a reader has come with the first of some bytes
+abbrev pub HasRun : {V S : Type 0} → Promise V S → PieceReader S → List ℕ → List ℕ → Result Step TextFault → Type 0
+HasRun p new before bytes (Ok (Taken n)) = (n ≤ length bytes) × Fed p anything new (before ++ take n bytes)
+HasRun p new before bytes (Ok Done) =
+    (n : ℕ) × (n ≤ length bytes) × HasCome p anything new (before ++ take n bytes) (Ok Whole)
+HasRun p new before bytes (Err f) =
+    (n : ℕ) × (n ≤ length bytes) × HasCome p anything new (before ++ take n bytes) (Err f)
+
+abbrev pub TakesRun : {V S : Type 0} → Promise V S → PieceReader S → PieceReader S → List ℕ → Result Step TextFault →
+    Type 0
+TakesRun p old new bytes result = (before : List ℕ) → Fed p anything old before → HasRun p new before bytes result
+
+-- ---- what ends
+
+-- no word and no token is open
+abbrev pub IsSettled : Place → Type 0
+IsSettled places.Word = ⊥
+IsSettled places.Token = ⊥
+IsSettled (places.MinusOne on_line) = ⊥
+IsSettled _ = Unit {0}
+
+-- what follows is so that it ends what is open
+abbrev pub Closes : {V S : Type 0} → Promise V S → Next → PieceReader S → PieceReader S → Result Flow TextFault →
+    Type 0
+Closes p end old new result =
+    (next : Next) (before : List ℕ) → Within next end → Fed p next old before → HasCome p next new before result
+
+-- what ends what is open at a place
+abbrev pub EndsPlace : Next → Place → Type 0
+EndsPlace next places.Word = Within next no_word
+EndsPlace next places.Token = Within next a_gap
+EndsPlace next (places.MinusOne on_line) = Within next a_gap
+EndsPlace next _ = Unit {0}
+
+abbrev pub ClosesPlace : {V S : Type 0} → Promise V S → PieceReader S → PieceReader S → Result Flow TextFault → Type 0
+ClosesPlace p old new result =
+    (next : Next) (before : List ℕ) → EndsPlace next old.place → Fed p next old before
+    → HasCome p next new before result
+
+-- a token that is not held
+abbrev pub EndsToken : {V S : Type 0} → Promise V S → List ℕ → PieceReader S → PieceReader S →
+    Result Flow TextFault → Type 0
+EndsToken p token old new result =
+    (next : Next) (before : List ℕ) → Within next a_gap → IsRun token → IsIn p next old token before
+    → HasCome p next new before result
+
+-- the header of this word is taken, or refused
+abbrev pub HasClosed : {V S : Type 0} → Promise V S → Next → Keyword → List ℕ → PieceReader S → List ℕ →
+    Result (Unit {0}) TextFault → Type 0
+HasClosed p next word held new before (Ok _) = HeaderTaken p.format p.holds next new.form new.line held word before
+HasClosed p next word held new before (Err f) = IsRefused (DecidesIf p.format next before) f
+
+abbrev pub ClosesHeader : {V S : Type 0} → Promise V S → Keyword → PieceReader S → PieceReader S →
+    Result (Unit {0}) TextFault → Type 0
+ClosesHeader p word old new result =
+    (next : Next) (before : List ℕ) → Within next a_line_end → Fed p next old before
+    → HasClosed p next word old.held new before result
+
+-- ---- the end of the text
+
+-- this is the answer where the bytes have ended
+abbrev pub IsAnswered : {V : Type 0} → Format V → List ℕ → Result V TextFault → Type 0
+IsAnswered f before a = decided_by f true before ≡ Some a
+
+-- the form has all of the value that the text says, or the text is refused
+abbrev pub HasFinished : {V S : Type 0} → Promise V S → PieceReader S → List ℕ → Result (Unit {0}) TextFault → Type 0
+HasFinished p new before (Ok _) = IsAnswered p.format before (Ok (p.held new.form)) × p.complete new.form
+HasFinished p new before (Err f) = IsRefused (IsAnswered p.format before) f
+
+abbrev pub Finishes : {V S : Type 0} → Promise V S → PieceReader S → PieceReader S → Result (Unit {0}) TextFault →
+    Type 0
+Finishes p old new result = (before : List ℕ) → Fed p at_end old before → HasFinished p new before result

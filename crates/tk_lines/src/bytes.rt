@@ -1,0 +1,226 @@
+//! What a byte adds to the pieces of a text.
+ghost use Rattle.std.specs.Prelude.{◌≡◌, ◌^◌, ◌≤◌, ◌||◌, ◌==◌, true, false};
+ghost use Rattle.tk_words.specs.Lex.{is_blank, is_word_byte};
+ghost use Rattle.tk_lines.specs.declared.place.Place.TheVariants as places;
+ghost use Rattle.tk_lines.specs.Reader.{this, anything};
+ghost use Rattle.tk_lines.specs.Steps.{IsFed, TakesByte, TakesSettled, ends_at};
+
+use crate::form::Form;
+use crate::place::{Flow, Place};
+use crate::reader::PieceReader;
+use tk_words::{
+    Keyword, TextFault, TextKind, begins_minus_one, blank, blank_or_end, letter, word_byte,
+};
+
+/// The most bytes between a header's word and the end of its line.
+const HEADER_LIMIT: u32 = 4096;
+
+impl<F: Form> PieceReader<F> {
+    /// Takes a byte before the first word of a line.
+    fn feed_start(&mut self, byte: u8) -> Result<Flow, TextFault>
+        requires place { self.old.place ≡ places.Start }
+        requires room { self.old.line ≤ 2 ^ 63 }
+        ensures { TakesSettled F.promise self.old self.new byte result }
+    {
+        if byte == b'\n' {
+            self.line += 1;
+            return Ok(Flow::On);
+        }
+        if blank(byte) {
+            return Ok(Flow::On);
+        }
+        if !letter(byte) {
+            return Err(self.fault(TextKind::TrailingData));
+        }
+        self.begin(byte, Place::Word);
+        Ok(Flow::On)
+    }
+
+    /// Takes a byte of a line's word.
+    fn feed_word(&mut self, byte: u8) -> Result<Flow, TextFault>
+        requires place { self.old.place ≡ places.Word }
+        requires word { is_word_byte byte ≡ true }
+        ensures { TakesSettled F.promise self.old self.new byte result }
+    {
+        if self.held.is_full() {
+            return Err(self.fault(TextKind::TooLong));
+        }
+        self.held.push(byte);
+        Ok(Flow::On)
+    }
+
+    /// Takes a byte of a header's value.
+    fn feed_value(&mut self, byte: u8, word: Keyword) -> Result<Flow, TextFault>
+        requires place { self.old.place ≡ places.Value word }
+        requires room { self.old.line ≤ 2 ^ 63 }
+        requires known { IsFed F.promise (this byte) self.old }
+        ensures { TakesSettled F.promise self.old self.new byte result }
+    {
+        if byte == b'\n' {
+            self.end_header(word)?;
+            self.line += 1;
+            return Ok(Flow::On);
+        }
+        self.scan.push(byte);
+        if self.scan.count > HEADER_LIMIT {
+            return Err(self.fault(TextKind::TooLong));
+        }
+        Ok(Flow::On)
+    }
+
+    /// Takes a byte between the tokens of a section.
+    fn feed_gap(&mut self, byte: u8) -> Result<Flow, TextFault>
+        requires place { self.old.place ≡ places.Gap }
+        requires room { self.old.line ≤ 2 ^ 63 }
+        ensures { TakesSettled F.promise self.old self.new byte result }
+    {
+        if byte == b'\n' {
+            self.line += 1;
+            return Ok(Flow::On);
+        }
+        if !blank(byte) {
+            self.begin(byte, Place::Token);
+        }
+        Ok(Flow::On)
+    }
+
+    /// Takes a byte after a section's word.
+    fn feed_begin(&mut self, byte: u8) -> Result<Flow, TextFault>
+        requires place { self.old.place ≡ places.Begin }
+        requires room { self.old.line ≤ 2 ^ 63 }
+        ensures { TakesSettled F.promise self.old self.new byte result }
+    {
+        if blank(byte) {
+            return Ok(Flow::On);
+        }
+        self.place = Place::Gap;
+        if byte == b':' {
+            return Ok(Flow::On);
+        }
+        self.feed_gap(byte)
+    }
+
+    /// Takes a byte of a section's token.
+    fn feed_token(&mut self, byte: u8) -> Result<Flow, TextFault>
+        requires place { self.old.place ≡ places.Token }
+        requires solid { (is_blank byte || byte == 10) ≡ false }
+        ensures { TakesSettled F.promise self.old self.new byte result }
+    {
+        if self.held.is_full() {
+            return Err(self.fault(TextKind::TooLong));
+        }
+        self.held.push(byte);
+        Ok(Flow::On)
+    }
+
+    /// Takes a byte after a section's last token.
+    fn feed_close(&mut self, byte: u8) -> Result<Flow, TextFault>
+        requires place { self.old.place ≡ places.Close }
+        requires room { self.old.line ≤ 2 ^ 63 }
+        ensures { TakesSettled F.promise self.old self.new byte result }
+    {
+        if byte == b'\n' {
+            self.line += 1;
+            self.place = Place::Start;
+            return Ok(Flow::On);
+        }
+        if blank(byte) {
+            return Ok(Flow::On);
+        }
+        Err(self.fault(TextKind::TrailingData))
+    }
+
+    /// Takes a byte after the `-1` that ends a section.
+    fn feed_after(&mut self, byte: u8, on_line: bool) -> Result<Flow, TextFault>
+        requires place { self.old.place ≡ places.After on_line }
+        requires room { self.old.line ≤ 2 ^ 63 }
+        ensures { TakesSettled F.promise self.old self.new byte result }
+    {
+        if byte == b'\n' {
+            self.line += 1;
+            self.place = Place::After(false);
+            return Ok(Flow::On);
+        }
+        if blank(byte) {
+            return Ok(Flow::On);
+        }
+        if letter(byte) {
+            if on_line {
+                return Err(self.fault(TextKind::TrailingData));
+            }
+            self.begin(byte, Place::Word);
+            return Ok(Flow::On);
+        }
+        if byte != b'-' {
+            return Err(self.fault(TextKind::TrailingData));
+        }
+        self.begin(byte, Place::MinusOne(on_line));
+        Ok(Flow::On)
+    }
+
+    /// Takes a byte of a token after the `-1` that ends a section.
+    fn feed_minus_one(&mut self, byte: u8, on_line: bool) -> Result<Flow, TextFault>
+        requires place { self.old.place ≡ places.MinusOne on_line }
+        requires solid { (is_blank byte || byte == 10) ≡ false }
+        requires known { IsFed F.promise (this byte) self.old }
+        ensures { TakesSettled F.promise self.old self.new byte result }
+    {
+        self.held.push(byte);
+        if begins_minus_one(&self.held) {
+            return Ok(Flow::On);
+        }
+        Err(self.fault(TextKind::TrailingData))
+    }
+
+    /// Whether a byte ends the word or the token that is open.
+    fn ends_with(&self, byte: u8) -> bool
+        ensures { result ≡ ends_at byte self.now.place }
+    {
+        match self.place {
+            Place::Word => !word_byte(byte),
+            Place::Token | Place::MinusOne(_) => blank_or_end(byte),
+            _ => false,
+        }
+    }
+
+    /// Takes a byte that ends no word and no token.
+    ///
+    /// # Errors
+    /// The fault that the bytes up to this one show, with its line.
+    pub fn feed_settled(&mut self, byte: u8) -> Result<Flow, TextFault>
+        requires settled { ends_at byte self.old.place ≡ false }
+        requires room { self.old.line ≤ 2 ^ 63 }
+        requires known { IsFed F.promise (this byte) self.old }
+        ensures { TakesSettled F.promise self.old self.new byte result }
+    {
+        match self.place {
+            Place::Start => self.feed_start(byte),
+            Place::Word => self.feed_word(byte),
+            Place::Value(word) => self.feed_value(byte, word),
+            Place::Begin => self.feed_begin(byte),
+            Place::Gap => self.feed_gap(byte),
+            Place::Token => self.feed_token(byte),
+            Place::Close => self.feed_close(byte),
+            Place::After(on_line) => self.feed_after(byte, on_line),
+            Place::MinusOne(on_line) => self.feed_minus_one(byte, on_line),
+        }
+    }
+
+    /// Takes a byte.
+    ///
+    /// # Errors
+    /// The fault that the bytes up to this one show, with its line.
+    pub fn feed_byte(&mut self, byte: u8) -> Result<Flow, TextFault>
+        requires room { self.old.line ≤ 2 ^ 63 }
+        requires known { IsFed F.promise anything self.old }
+        ensures { TakesByte F.promise self.old self.new byte result }
+    {
+        if !self.ends_with(byte) {
+            return self.feed_settled(byte);
+        }
+        match self.close()? {
+            Flow::Whole => Ok(Flow::Whole),
+            Flow::On => self.feed_settled(byte),
+        }
+    }
+}

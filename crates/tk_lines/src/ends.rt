@@ -1,0 +1,152 @@
+//! The ends of words, of headers and of tokens.
+ghost use Rattle.std.specs.Prelude.{◌≡◌, ℕ, ◌≤◌, List, length, Ok, IfOk};
+ghost use Rattle.tk_words.specs.Lex.{IsRun};
+ghost use Rattle.tk_lines.specs.declared.place.Place.TheVariants as places;
+ghost use Rattle.tk_lines.specs.declared.place.Flow.TheVariants as flows;
+ghost use Rattle.tk_lines.specs.Reader.{Next, IsIn, a_gap, no_word};
+ghost use Rattle.tk_lines.specs.Steps.{Closes, ClosesHeader, ClosesPlace, EndsToken, IsKnown, IsSettled};
+
+use crate::form::{Form, Taken};
+use crate::place::{Flow, Place};
+use crate::reader::PieceReader;
+use std::mem;
+use tk_words::{Held, Keyword, Role, TextFault, TextKind, keyword_of, minus_one, role};
+
+impl<F: Form> PieceReader<F> {
+    ghost use Rattle.tk_words.specs.declared.keyword.Keyword.{Keyword};
+
+    /// Ends a line's word.
+    ///
+    /// # Errors
+    /// `UnknownKeyword` if the word is none of the formats'; else the fault of the form, on this line.
+    fn end_word(&mut self) -> Result<Flow, TextFault>
+        requires place { self.old.place ≡ places.Word }
+        ensures closed { Closes F.promise no_word self.old self.new result }
+        ensures settled { result ≡ Ok flows.On → IsSettled self.new.place }
+        ensures line { self.new.line ≡ self.old.line }
+    {
+        let word = match keyword_of(self.held.as_slice()) {
+            None => return Err(self.fault(TextKind::UnknownKeyword)),
+            Some(word) => word,
+        };
+        match role(word) {
+            Role::EndsText => match self.form.end() {
+                None => Ok(Flow::Whole),
+                Some(kind) => Err(self.fault(kind)),
+            },
+            Role::BeginsHeader => {
+                self.scan.clear();
+                self.place = Place::Value(word);
+                Ok(Flow::On)
+            }
+            Role::BeginsSection => match self.form.section(word) {
+                Err(kind) => Err(self.fault(kind)),
+                Ok(()) => {
+                    self.place = Place::Begin;
+                    Ok(Flow::On)
+                }
+            },
+        }
+    }
+
+    /// Ends a header's value.
+    ///
+    /// # Errors
+    /// The fault that the form finds in the value, on this line.
+    pub fn end_header(&mut self, word: Keyword) -> Result<(), TextFault>
+        requires place { self.old.place ≡ places.Value word }
+        ensures closed { ClosesHeader F.promise word self.old self.new result }
+        ensures place { IfOk result (λ _. self.new.place ≡ places.Start) }
+        ensures line { self.new.line ≡ self.old.line }
+    {
+        match self.form.header(word, &self.scan) {
+            Err(kind) => Err(self.fault(kind)),
+            Ok(()) => {
+                self.place = Place::Start;
+                Ok(())
+            }
+        }
+    }
+
+    /// Takes a whole token of a section.
+    ///
+    /// # Errors
+    /// The fault that the form finds in the token, or at the end of the text if the token is `EOF`, on this line.
+    #[inline(always)]
+    pub fn take_token(&mut self, token: &[u8]) -> Result<Flow, TextFault>
+        requires short { length token.now ≤ 64 }
+        ensures taken { EndsToken F.promise token.now self.old self.new result }
+        ensures settled { result ≡ Ok flows.On → IsSettled self.new.place }
+        ensures line { self.new.line ≡ self.old.line }
+    {
+        match self.form.token(token) {
+            Err(kind) => Err(self.fault(kind)),
+            Ok(Taken::More) => {
+                self.place = Place::Gap;
+                Ok(Flow::On)
+            }
+            Ok(Taken::Last) => {
+                self.place = Place::Close;
+                Ok(Flow::On)
+            }
+            Ok(Taken::Ending) => {
+                self.place = Place::After(true);
+                Ok(Flow::On)
+            }
+            Ok(Taken::Eof) => match self.form.end() {
+                None => Ok(Flow::Whole),
+                Some(kind) => Err(self.fault(kind)),
+            },
+        }
+    }
+
+    /// Ends a token of a section.
+    ///
+    /// # Errors
+    /// Those of `take_token`.
+    fn end_token(&mut self) -> Result<Flow, TextFault>
+        requires place { self.old.place ≡ places.Token }
+        requires short { length self.old.held ≤ 64 }
+        ensures closed { Closes F.promise a_gap self.old self.new result }
+        ensures settled { result ≡ Ok flows.On → IsSettled self.new.place }
+        ensures line { self.new.line ≡ self.old.line }
+    {
+        let token = mem::replace(&mut self.held, Held::new());
+        self.take_token(token.as_slice())
+    }
+
+    /// Ends a token after the `-1` that ends a section.
+    ///
+    /// # Errors
+    /// `TrailingData` if the token is no `-1`.
+    fn end_minus_one(&mut self, on_line: bool) -> Result<Flow, TextFault>
+        requires place { self.old.place ≡ places.MinusOne on_line }
+        ensures closed { Closes F.promise a_gap self.old self.new result }
+        ensures settled { result ≡ Ok flows.On → IsSettled self.new.place }
+        ensures line { self.new.line ≡ self.old.line }
+    {
+        if minus_one(self.held.as_slice()) {
+            self.place = Place::Close;
+            return Ok(Flow::On);
+        }
+        Err(self.fault(TextKind::TrailingData))
+    }
+
+    /// Ends the word or the token that is open, where one is.
+    ///
+    /// # Errors
+    /// The fault that it shows.
+    pub fn close(&mut self) -> Result<Flow, TextFault>
+        requires { IsKnown F.promise self.old }
+        ensures closed { ClosesPlace F.promise self.old self.new result }
+        ensures settled { result ≡ Ok flows.On → IsSettled self.new.place }
+        ensures line { self.new.line ≡ self.old.line }
+    {
+        match self.place {
+            Place::Word => self.end_word(),
+            Place::Token => self.end_token(),
+            Place::MinusOne(on_line) => self.end_minus_one(on_line),
+            _ => Ok(Flow::On),
+        }
+    }
+}
