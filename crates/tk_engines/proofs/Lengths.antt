@@ -1,6 +1,6 @@
 -- A verdict on a tour, and its line, under two names of the distances.
 use Rattle.std.proofs.Common.{◌≡◌, ℕ, List, ap, ◌∙◌, subst}
-use Rattle.tk_problem_text.specs.Parts.{weights_are, problem_is}
+use Rattle.tk_problem_text.specs.ProblemOf.{weights_are, problem_is}
 use Rattle.tk_problem.specs.declared.problem.Problem.{Problem}
 use Rattle.tk_problem.specs.declared.weights.Weights.{Weights}
 use Rattle.tk_distance.specs.Weights.{problem_distance}

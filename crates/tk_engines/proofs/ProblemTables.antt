@@ -8,7 +8,7 @@ use Rattle.tk_distance.specs.Tables.{table_size, table_distance, table_distance-
 use Rattle.tk_distance.specs.Weights.{problem_distance}
 use Rattle.tk_distance.specs.declared.table.Table.{Table}
 use Rattle.tk_problem.specs.declared.problem.Problem.{Problem}
-use Rattle.tk_problem_text.specs.Parts.{problem_is}
+use Rattle.tk_problem_text.specs.ProblemOf.{problem_is}
 use Rattle.tk_problem_text.specs.Problem.{ProblemIs}
 use Rattle.tk_writers.specs.ReadBack.{IsTable}
 use Rattle.tk_engines.proofs.ReadTables.{distances_read}

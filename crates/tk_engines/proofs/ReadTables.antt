@@ -7,7 +7,7 @@ use Rattle.tk_problem.specs.declared.problem.Problem.{Problem}
 use Rattle.tk_problem.specs.declared.routing.Routing.{Routing}
 use Rattle.tk_problem.specs.declared.weights.Weights.{Weights}
 use Rattle.tk_problem.specs.declared.weights.Weights.TheVariants.{Points, Lower}
-use Rattle.tk_problem_text.specs.Parts.{problem_is, routing_is, weights_are}
+use Rattle.tk_problem_text.specs.ProblemOf.{problem_is, routing_is, weights_are}
 use Rattle.tk_problem_text.specs.Problem.{RoutingIs}
 use Rattle.tk_routes.specs.Instance.{Instance, IsInstanceOf}
 use Rattle.tk_engines.specs.ReadProblems.{instance_in, read_distance}

@@ -3,7 +3,7 @@ use Rattle.std.proofs.Common.{◌≡◌, ℕ, List, Option, Some, None, refl, su
 use Rattle.std.specs.Prelude.{ℤ, IsSomeAnd, if◌then◌else◌, is_none}
 use Rattle.tk_problem.specs.declared.problem.Problem.{Problem}
 use Rattle.tk_problem.specs.declared.routing.Routing.{Routing}
-use Rattle.tk_problem_text.specs.Parts.{problem_is, routing_is, weights_are}
+use Rattle.tk_problem_text.specs.ProblemOf.{problem_is, routing_is, weights_are}
 use Rattle.tk_routes.specs.Instance.{Instance, IsInstanceOf}
 use Rattle.tk_routes.specs.RouteVerdicts.{IsRouteVerdict}
 use Rattle.tk_routes.specs.declared.claims.verdict.RouteVerdict.{RouteVerdict}

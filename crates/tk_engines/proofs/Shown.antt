@@ -4,7 +4,7 @@ use Rattle.std.specs.Prelude.{ℤ, IsSomeAnd, MatchOption, option_map, is_some}
 use Rattle.std.specs.List.{concat}
 use Rattle.tk_problem.specs.declared.problem.Problem.{Problem}
 use Rattle.tk_problem.specs.declared.routing.Routing.{Routing}
-use Rattle.tk_problem_text.specs.Parts.{problem_is, routing_is, weights_are}
+use Rattle.tk_problem_text.specs.ProblemOf.{problem_is, routing_is, weights_are}
 use Rattle.tk_problem.specs.PlacesOf.{places_of}
 use Rattle.tk_problem_text.specs.Problem.{RoutingIs}
 use Rattle.tk_distance.specs.Weights.{problem_distance}

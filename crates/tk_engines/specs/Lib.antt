@@ -8,9 +8,6 @@ pub use Rattle.tk_params.specs.Asked
 pub use Rattle.tk_params.specs.Keys
 pub use Rattle.tk_params.specs.Entries
 pub use Rattle.tk_params.specs.Params
-pub use Rattle.tk_params.specs.Readers
-pub use Rattle.tk_params.specs.Reading
-pub use Rattle.tk_params.specs.Stored
 pub use Rattle.tk_params.specs.Values
 pub mod ReadProblems
 pub mod RouteCheck

@@ -19,7 +19,7 @@ use Rattle.tk_lines.specs.Pieces.{After, Clean, Trailing, Early, Piece, Stray, L
 use Rattle.tk_lines.specs.Pieces.{Section, End, Extents, Stop, Open, Fault, Format, section_at, piece_by, piece_of}
 use Rattle.tk_lines.specs.Pieces.{pieces_at, covered, cut, end_token, first_at, checked, or_else, ended, stopped, judge}
 use Rattle.tk_lines.specs.Pieces.{decided_by}
-use Rattle.tk_lines.specs.FromMiddle.{ending}
+use Rattle.tk_lines.specs.Reader.FromMiddle.{ending}
 use Rattle.tk_lines.proofs.MiddleOfLine.{lines_cons}
 
 -- ---- lines and tokens that have ended

@@ -10,9 +10,9 @@ use Rattle.tk_lines.specs.declared.place.Place.{Place}
 use Rattle.tk_lines.specs.declared.place.Place.TheVariants as places
 use Rattle.tk_lines.specs.declared.reader.PieceReader.{PieceReader}
 use Rattle.tk_lines.specs.Pieces.{Format}
-use Rattle.tk_lines.specs.Forms.{Promise, IsToldWord}
-use Rattle.tk_lines.specs.Reader.{Next, Within, this, anything, DecidesIf, AtPlace, Fed}
-use Rattle.tk_lines.specs.Steps.{IsRefused, IsSettled, EndsPlace, ends_at}
+use Rattle.tk_lines.specs.Reader.Forms.{Promise, IsToldWord}
+use Rattle.tk_lines.specs.Reader.Places.{Next, Within, this, anything, DecidesIf, AtPlace, Fed}
+use Rattle.tk_lines.specs.Reader.Steps.{IsRefused, IsSettled, EndsPlace, ends_at}
 use Rattle.tk_lines.proofs.LineSteps.{decides_byte}
 
 -- where a reader stands that has taken these bytes

@@ -15,11 +15,12 @@ use Rattle.tk_words.specs.Lex.{LF, Line, Token, is_blank, is_letter, is_word_byt
 use Rattle.tk_words.specs.Words.{keyword_of, role}
 use Rattle.tk_lines.specs.Pieces.{Piece, Extents, After, Stop, Fault, Header, first_at, pieces_at, piece_of, piece_by}
 use Rattle.tk_lines.specs.Pieces.{cut, Format, stop, judge, stopped, ended, decided_by}
-use Rattle.tk_lines.specs.FromMiddle.{from_line}
+use Rattle.tk_lines.specs.Reader.FromMiddle.{from_line}
 use Rattle.tk_words.specs.Texts.{line_behind}
-use Rattle.tk_lines.specs.Forms.{whole, a_header}
-use Rattle.tk_lines.specs.Reader.{Next, Within, anything, this, no_word, a_line_end, Says, DecidesIf, IsWord, AtLine}
-use Rattle.tk_lines.specs.Reader.{AtTail, HeaderTaken}
+use Rattle.tk_lines.specs.Reader.Forms.{whole, a_header}
+use Rattle.tk_lines.specs.Reader.Places.{Next, Within, anything, this, no_word, a_line_end, Says, DecidesIf, IsWord}
+use Rattle.tk_lines.specs.Reader.Places.{AtLine}
+use Rattle.tk_lines.specs.Reader.Places.{AtTail, HeaderTaken}
 use Rattle.tk_lines.proofs.MiddleOfLine.{with_bytes, from_line-byte, from_line-blank}
 use Rattle.tk_lines.proofs.Sections.SectionEnds.{first_line}
 use Rattle.tk_lines.proofs.Headers.ByteRuns.{behind-all, front-all}

@@ -14,9 +14,9 @@ use Rattle.tk_words.specs.Lex.{behind}
 use Rattle.tk_words.specs.Words.{keyword_of, role}
 use Rattle.tk_lines.specs.Pieces.{Piece, Extents, After, Header, Fault, pieces_at, piece_of, covered, cut, end_piece}
 use Rattle.tk_lines.specs.Pieces.{Format, stop, judge, stopped, ended}
-use Rattle.tk_lines.specs.FromMiddle.{from_line}
-use Rattle.tk_lines.specs.Reader.{no_word, IsWord}
-use Rattle.tk_lines.specs.Forms.{whole}
+use Rattle.tk_lines.specs.Reader.FromMiddle.{from_line}
+use Rattle.tk_lines.specs.Reader.Places.{no_word, IsWord}
+use Rattle.tk_lines.specs.Reader.Forms.{whole}
 use Rattle.tk_lines.proofs.MiddleOfLine.{prepend-nil, lines-byte, lines-LF, end_token-bytes, from_line-LF}
 use Rattle.tk_words.proofs.Bools.{and_false}
 use Rattle.tk_lines.proofs.Sections.SectionEnds.{First, first_line}

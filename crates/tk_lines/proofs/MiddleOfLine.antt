@@ -5,7 +5,7 @@ use Rattle.std.proofs.lemmas.List.{append-nil}
 use Rattle.std.proofs.lemmas.Bool.{lt-leb}
 use Rattle.tk_words.specs.Lex.{LF, Line, onto_line, lines, is_blank, front, behind}
 use Rattle.tk_lines.specs.Pieces.{Piece, pieces_at, covered, cut, end_token, end_piece, Format, judge}
-use Rattle.tk_lines.specs.FromMiddle.{ending, prepend, from_line}
+use Rattle.tk_lines.specs.Reader.FromMiddle.{ending, prepend, from_line}
 
 abbrev pub with_bytes : Line → List ℕ → Line
 with_bytes l x = record { number = l.number; bytes = x; whole = l.whole }

@@ -6,8 +6,8 @@ use Rattle.tk_lines.specs.declared.place.Place.TheVariants as places
 use Rattle.tk_lines.specs.declared.scan.Scan.{Scan}
 use Rattle.tk_words.specs.Lex.{Token}
 use Rattle.tk_lines.specs.Pieces.{Piece, Format}
-use Rattle.tk_lines.specs.Forms.{Promise}
-use Rattle.tk_lines.specs.Reader.{Next, anything, AtLine, AtTail, AtToken, AtAfter, AtPlace, Fed}
+use Rattle.tk_lines.specs.Reader.Forms.{Promise}
+use Rattle.tk_lines.specs.Reader.Places.{Next, anything, AtLine, AtTail, AtToken, AtAfter, AtPlace, Fed}
 use Rattle.tk_lines.specs.declared.reader.PieceReader.{PieceReader}
 
 pub token_narrow : {V S : Type 0} (f : Format V) (W : S → List Piece → Keyword → ℕ → List Token → Type 0) (next : Next)

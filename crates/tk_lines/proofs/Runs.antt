@@ -8,10 +8,10 @@ use Rattle.tk_words.specs.Texts.{DecidesWithin, IsTold, texts_of, cause_of}
 use Rattle.tk_words.proofs.Told.{told_of}
 use Rattle.tk_problem.specs.declared.limits.TheConstants.{TEXT_LIMIT}
 use Rattle.tk_lines.specs.declared.reader.PieceReader.{PieceReader}
-use Rattle.tk_lines.specs.Forms.{Promise}
+use Rattle.tk_lines.specs.Reader.Forms.{Promise}
 use Rattle.tk_lines.specs.Pieces.{decided_by}
-use Rattle.tk_lines.specs.Reader.{DecidesIf, Fed, anything}
-use Rattle.tk_lines.specs.Steps.{HasRun}
+use Rattle.tk_lines.specs.Reader.Places.{DecidesIf, Fed, anything}
+use Rattle.tk_lines.specs.Reader.Steps.{HasRun}
 
 pub first_byte : (bytes : List ℕ) → 1 ≤ length bytes → take 1 bytes ≡ get_or bytes 0 0 ∷ []
 first_byte [] some = absurd (omega arith)

@@ -1,16 +1,17 @@
 -- A token that stands whole in some bytes.
-use Rattle.std.proofs.Common.{◌≤◌, ◌≢◌, subst, ◌+◌, ◌-◌, get_or, take, take-add, drop, ◌≡◌, ℕ, ◌<◌, ◌||◌, ◌==◌, false}
+use Rattle.std.proofs.Common.{◌≤◌, subst, ◌+◌, ◌-◌, get_or, take, take-add, drop, ◌≡◌, ℕ, ◌<◌, ◌||◌, ◌==◌, true, false}
 use Rattle.std.proofs.Common.{eqb, List, [], ◌∷◌, ◌++◌, All, length, sym, ap, ◌∙◌, arith}
-use Rattle.std.proofs.lemmas.List.{append_assoc, append-nil, take-take, take_more, length-append, length-take}
-use Rattle.std.proofs.lemmas.List.{length-drop}
+use Rattle.std.proofs.lemmas.List.{append_assoc, append-nil, get_or-drop, take_more, take_rest, length-append}
+use Rattle.std.proofs.lemmas.List.{length-drop, length-take}
 use Rattle.std.proofs.lemmas.List.Sums.{count_by-le-length}
 use Rattle.std.proofs.lemmas.List.Elements.{All-head, All-tail}
 use Rattle.tk_words.specs.declared.keyword.Keyword.{Keyword}
+use Rattle.tk_words.specs.FirstToken.{IsFirstToken}
 use Rattle.tk_words.specs.Texts.{line_behind}
 use Rattle.tk_words.specs.Lex.{LF, Token, is_blank, IsRun}
-use Rattle.tk_lines.specs.Forms.{Promise}
+use Rattle.tk_lines.specs.Reader.Forms.{Promise}
 use Rattle.tk_lines.specs.Pieces.{Piece, Format}
-use Rattle.tk_lines.specs.Reader.{anything, this, IsIn, Fed, AtToken}
+use Rattle.tk_lines.specs.Reader.Places.{anything, this, IsIn, Fed, AtToken}
 use Rattle.tk_lines.specs.declared.reader.PieceReader.{PieceReader}
 use Rattle.tk_lines.specs.declared.place.Place.TheVariants as places
 use Rattle.tk_lines.proofs.KnownPlaces.{at_place, or_false}
@@ -27,7 +28,7 @@ solid_head b bs all = or_false _ _ (All-head (λ b. (is_blank b || b == 10) ≡ 
 solid_tail : (b : ℕ) (bs : List ℕ) → IsSolid (b ∷ bs) → IsSolid bs
 solid_tail b bs all = All-tail (λ b. (is_blank b || b == 10) ≡ false) b bs all
 
-pub run_of : (bs : List ℕ) → 0 < length bs → IsSolid bs → IsRun bs
+run_of : (bs : List ℕ) → 0 < length bs → IsSolid bs → IsRun bs
 run_of [] some all = absurd (omega arith)
 run_of (b ∷ []) some all = (solid_head b [] all).0
 run_of (b ∷ c ∷ bs) some all =
@@ -49,46 +50,46 @@ module _ {V S : Type 0} (f : Format V) (W : S → List Piece → Keyword → ℕ
       let rest = token_on (held ++ b ∷ []) (bs ++ b ∷ []) run (solid_tail b run all) next in
       rw (append_assoc held (b ∷ []) run, append_assoc bs (b ∷ []) run) at rest
 
--- ---- a token in some bytes, after `s` of them
+-- ---- the first token of some bytes, after `s` of them
 
-pub token_ends : (bytes : List ℕ) (s n : ℕ) → s ≤ length bytes → n ≤ length (take (length bytes - s) (drop s bytes)) →
-    s + n ≢ length bytes → s + n < length bytes
-token_ends bytes s n le count other =
-    omega (arith, le, count, other, length-take (length bytes - s) (drop s bytes), length-drop s bytes)
+module _ (bytes : List ℕ) (s : ℕ) (le : s ≤ length bytes) (token : List ℕ)
+    (first : IsFirstToken token (take (length bytes - s) (drop s bytes))) (n : ℕ) (is : n ≡ length token) where
+  pub token_within : s + n < length bytes
+  token_within = omega (arith, is, first.within, le, length-take (length bytes - s) (drop s bytes), length-drop s bytes)
 
-module _ (bytes : List ℕ) (s n : ℕ) (within : s + n < length bytes)
-    (solid : IsSolid (take n (take (length bytes - s) (drop s bytes)))) where
-  abbrev token : List ℕ
-  token = take (s + n - s) (drop s bytes)
+  token_front : token ≡ take n (drop s bytes)
+  token_front =
+      first.begins ∙ ap (λ l. take (length token) l) (take_rest bytes s) ∙ ap (λ k. take k (drop s bytes)) (sym is)
 
-  count : s + n - s ≡ n
-  count = omega arith
+  pub token_run : IsRun token
+  token_run = run_of token (omega (arith, first.some)) first.solid
 
-  token_solid : IsSolid token
-  token_solid =
-      subst IsSolid (take-take n (length bytes - s) (drop s bytes) (omega (arith, within))
-      ∙ ap (λ (j : ℕ). take j (drop s bytes)) (sym count)) solid
+  -- the byte after it ends it
+  pub token_ended : (is_blank (get_or bytes (s + n) 0) || get_or bytes (s + n) 0 == 10) ≡ true
+  token_ended =
+      let same : get_or (take (length bytes - s) (drop s bytes)) (length token) 0 ≡ get_or bytes (s + n) 0 =
+      ap (λ l. get_or l (length token) 0) (take_rest bytes s) ∙ get_or-drop s bytes (length token) 0
+      ∙ ap (λ k. get_or bytes (s + k) 0) (sym is) in
+      subst (λ b. (is_blank b || b == 10) ≡ true) same first.ended
 
-  pub token_run : s + n ≢ s → IsRun (take (s + n - s) (drop s bytes))
-  token_run some =
-      run_of (take (s + n - s) (drop s bytes))
-      (omega (arith, within, some, length-take (s + n - s) (drop s bytes), length-drop s bytes)) token_solid
-
-  pub token_taken : (bs : List ℕ) → ((bs ++ take s bytes) ++ take (s + n - s) (drop s bytes)) ++ get_or bytes (s + n) 0
-      ∷ [] ≡ bs ++ take (s + n + 1) bytes
+  pub token_taken : (bs : List ℕ) → ((bs ++ take s bytes) ++ token) ++ get_or bytes (s + n) 0 ∷ []
+      ≡ bs ++ take (s + n + 1) bytes
   token_taken bs =
-      let whole : (bs ++ take s bytes) ++ take (s + n - s) (drop s bytes) ≡ bs ++ take (s + n) bytes =
-      rw (count, take-add s n bytes) (append_assoc bs (take s bytes) (take n (drop s bytes))) in
-      ap (λ (l : List ℕ). l ++ get_or bytes (s + n) 0 ∷ []) whole
-      ∙ rw (take_more bytes (s + n) 0 within) (append_assoc bs (take (s + n) bytes) (get_or bytes (s + n) 0 ∷ []))
+      let whole : (bs ++ take s bytes) ++ token ≡ bs ++ take (s + n) bytes =
+      append_assoc bs (take s bytes) token
+      ∙ ap (λ l. bs ++ l)
+      (ap (λ l. take s bytes ++ l) token_front ∙ sym (take-add s n bytes)) in
+      ap (λ l. l ++ get_or bytes (s + n) 0 ∷ []) whole
+      ∙ append_assoc bs (take (s + n) bytes) (get_or bytes (s + n) 0 ∷ [])
+      ∙ ap (λ l. bs ++ l) (sym (take_more bytes (s + n) 0 token_within))
 
   pub token_stands : {V S : Type 0} {p : Promise V S} (r : PieceReader S) (bs : List ℕ) → r.place ≡ places.Gap →
       Fed p anything r (bs ++ take s bytes) →
       IsIn p (this (get_or bytes (s + n) 0)) r token ((bs ++ take s bytes) ++ token)
   token_stands {p = p} r bs gap fed = record {
-    line = fed.line ∙ sym (line_on (bs ++ take s bytes) token token_solid);
+    line = fed.line ∙ sym (line_on (bs ++ take s bytes) token first.solid);
     at = token_narrow p.format p.wants (this (get_or bytes (s + n) 0)) r.form r.line _ _
-        (token_on p.format p.wants r.form r.line [] (bs ++ take s bytes) token token_solid
+        (token_on p.format p.wants r.form r.line [] (bs ++ take s bytes) token first.solid
         (at_place places.Gap gap fed));
   }
 

@@ -1,7 +1,4 @@
-pub mod Forms
-pub mod FromMiddle
+pub mod HeaderValue
 pub mod Lists
 pub mod Pieces
 pub mod Reader
-pub mod Scan
-pub mod Steps

@@ -2,8 +2,8 @@
 ghost use Rattle.std.specs.Prelude.{◌≡◌, ◌^◌, ◌≤◌, ◌||◌, ◌==◌, true, false};
 ghost use Rattle.tk_words.specs.Lex.{is_blank, is_word_byte};
 ghost use Rattle.tk_lines.specs.declared.place.Place.TheVariants as places;
-ghost use Rattle.tk_lines.specs.Reader.{this, anything};
-ghost use Rattle.tk_lines.specs.Steps.{IsFed, TakesByte, TakesSettled, ends_at};
+ghost use Rattle.tk_lines.specs.Reader.Places.{this, anything};
+ghost use Rattle.tk_lines.specs.Reader.Steps.{IsFed, TakesByte, TakesSettled, ends_at};
 
 use crate::form::Form;
 use crate::place::{Flow, Place};
@@ -69,7 +69,8 @@ impl<F: Form> PieceReader<F> {
     }
 
     /// Takes a byte between the tokens of a section.
-    fn feed_gap(&mut self, byte: u8) -> Result<Flow, TextFault>
+    #[inline(always)]
+    pub(crate) fn feed_gap(&mut self, byte: u8) -> Result<Flow, TextFault>
         requires place { self.old.place ≡ places.Gap }
         requires room { self.old.line ≤ 2 ^ 63 }
         ensures { TakesSettled F.promise self.old self.new byte result }
@@ -187,7 +188,7 @@ impl<F: Form> PieceReader<F> {
     ///
     /// # Errors
     /// The fault that the bytes up to this one show, with its line.
-    pub fn feed_settled(&mut self, byte: u8) -> Result<Flow, TextFault>
+    pub(crate) fn feed_settled(&mut self, byte: u8) -> Result<Flow, TextFault>
         requires settled { ends_at byte self.old.place ≡ false }
         requires room { self.old.line ≤ 2 ^ 63 }
         requires known { IsFed F.promise (this byte) self.old }
@@ -210,7 +211,7 @@ impl<F: Form> PieceReader<F> {
     ///
     /// # Errors
     /// The fault that the bytes up to this one show, with its line.
-    pub fn feed_byte(&mut self, byte: u8) -> Result<Flow, TextFault>
+    pub(crate) fn feed_byte(&mut self, byte: u8) -> Result<Flow, TextFault>
         requires room { self.old.line ≤ 2 ^ 63 }
         requires known { IsFed F.promise anything self.old }
         ensures { TakesByte F.promise self.old self.new byte result }

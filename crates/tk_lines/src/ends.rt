@@ -1,16 +1,15 @@
 //! The ends of words, of headers and of tokens.
-ghost use Rattle.std.specs.Prelude.{◌≡◌, ℕ, ◌≤◌, List, length, Ok, IfOk};
-ghost use Rattle.tk_words.specs.Lex.{IsRun};
+ghost use Rattle.std.specs.Prelude.{◌≡◌, ◌≤◌, length, Ok, IfOk};
 ghost use Rattle.tk_lines.specs.declared.place.Place.TheVariants as places;
 ghost use Rattle.tk_lines.specs.declared.place.Flow.TheVariants as flows;
-ghost use Rattle.tk_lines.specs.Reader.{Next, IsIn, a_gap, no_word};
-ghost use Rattle.tk_lines.specs.Steps.{Closes, ClosesHeader, ClosesPlace, EndsToken, IsKnown, IsSettled};
+ghost use Rattle.tk_lines.specs.Reader.Places.{a_gap, no_word};
+ghost use Rattle.tk_lines.specs.Reader.Steps.{Closes, ClosesHeader, ClosesPlace, EndsToken, IsKnown, IsSettled};
 
 use crate::form::{Form, Taken};
 use crate::place::{Flow, Place};
 use crate::reader::PieceReader;
 use std::mem;
-use tk_words::{Held, Keyword, Role, TextFault, TextKind, keyword_of, minus_one, role};
+use tk_words::{Held, Keyword, Lexeme, Role, TextFault, TextKind, keyword_of, minus_one, role};
 
 impl<F: Form> PieceReader<F> {
     ghost use Rattle.tk_words.specs.declared.keyword.Keyword.{Keyword};
@@ -53,7 +52,7 @@ impl<F: Form> PieceReader<F> {
     ///
     /// # Errors
     /// The fault that the form finds in the value, on this line.
-    pub fn end_header(&mut self, word: Keyword) -> Result<(), TextFault>
+    pub(crate) fn end_header(&mut self, word: Keyword) -> Result<(), TextFault>
         requires place { self.old.place ≡ places.Value word }
         ensures closed { ClosesHeader F.promise word self.old self.new result }
         ensures place { IfOk result (λ _. self.new.place ≡ places.Start) }
@@ -73,7 +72,7 @@ impl<F: Form> PieceReader<F> {
     /// # Errors
     /// The fault that the form finds in the token, or at the end of the text if the token is `EOF`, on this line.
     #[inline(always)]
-    pub fn take_token(&mut self, token: &[u8]) -> Result<Flow, TextFault>
+    pub(crate) fn take_token(&mut self, token: &Lexeme) -> Result<Flow, TextFault>
         requires short { length token.now ≤ 64 }
         ensures taken { EndsToken F.promise token.now self.old self.new result }
         ensures settled { result ≡ Ok flows.On → IsSettled self.new.place }
@@ -111,8 +110,9 @@ impl<F: Form> PieceReader<F> {
         ensures settled { result ≡ Ok flows.On → IsSettled self.new.place }
         ensures line { self.new.line ≡ self.old.line }
     {
-        let token = mem::replace(&mut self.held, Held::new());
-        self.take_token(token.as_slice())
+        let held = mem::replace(&mut self.held, Held::new());
+        let token = Lexeme::new(held.as_slice());
+        self.take_token(&token)
     }
 
     /// Ends a token after the `-1` that ends a section.
@@ -136,7 +136,7 @@ impl<F: Form> PieceReader<F> {
     ///
     /// # Errors
     /// The fault that it shows.
-    pub fn close(&mut self) -> Result<Flow, TextFault>
+    pub(crate) fn close(&mut self) -> Result<Flow, TextFault>
         requires { IsKnown F.promise self.old }
         ensures closed { ClosesPlace F.promise self.old self.new result }
         ensures settled { result ≡ Ok flows.On → IsSettled self.new.place }

@@ -4,8 +4,8 @@ ghost use Rattle.tk_problem.specs.declared.limits.TheConstants.{TEXT_LIMIT};
 ghost use Rattle.tk_words.specs.Texts.{texts_of};
 ghost use Rattle.tk_lines.specs.declared.place.Place.TheVariants as places;
 ghost use Rattle.tk_lines.specs.Pieces.{decided_by};
-ghost use Rattle.tk_lines.specs.Reader.{at_end, AtToken, AtEnd};
-ghost use Rattle.tk_lines.specs.Steps.{Waits, IsFed, HasFinished, Finishes};
+ghost use Rattle.tk_lines.specs.Reader.Places.{at_end, AtToken, AtEnd};
+ghost use Rattle.tk_lines.specs.Reader.Steps.{Waits, IsFed, HasFinished, Finishes};
 
 use crate::form::Form;
 use crate::place::{Flow, Place};

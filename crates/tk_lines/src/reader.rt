@@ -17,7 +17,7 @@ pub struct PieceReader<F> {
 }
 
 impl<F: Form> PieceReader<F> {
-    ghost use Rattle.tk_lines.specs.Steps.{Waits};
+    ghost use Rattle.tk_lines.specs.Reader.Steps.{Waits};
 
     /// A reader of a whole text, for a form that has taken no piece.
     pub fn new(form: F) -> Self
@@ -34,7 +34,7 @@ impl<F: Form> PieceReader<F> {
     }
 
     /// A fault on this line.
-    pub fn fault(&self, kind: TextKind) -> TextFault
+    pub(crate) fn fault(&self, kind: TextKind) -> TextFault
         ensures { result ≡ record { line = self.now.line; kind = kind } }
     {
         TextFault {
@@ -44,7 +44,7 @@ impl<F: Form> PieceReader<F> {
     }
 
     /// Begins a word or a token.
-    pub fn begin(&mut self, byte: u8, place: Place)
+    pub(crate) fn begin(&mut self, byte: u8, place: Place)
         ensures { self.new ≡ record self.old { held = byte ∷ []; place = place } }
     {
         self.held.clear();

@@ -1,13 +1,13 @@
 //! Whole tokens of a section, one after the other.
-ghost use Rattle.std.specs.Prelude.{◌≡◌, ◌≤◌, ◌^◌, ◌+◌, ◌||◌, ◌==◌, true, ℕ, List, length};
+ghost use Rattle.std.specs.Prelude.{◌≡◌, ◌≤◌, ◌^◌, ◌+◌, ◌||◌, ◌==◌, true, false, ℕ, List, length};
 ghost use Rattle.tk_words.specs.Lex.{is_blank};
-ghost use Rattle.tk_lines.specs.Reader.{Fed, IsToken, IsIn, anything, this};
-ghost use Rattle.tk_lines.specs.Steps.{TakesRun, TakesWhole};
+ghost use Rattle.tk_lines.specs.Reader.Places.{Fed, IsToken, IsIn, anything, this};
+ghost use Rattle.tk_lines.specs.Reader.Steps.{IsFed, TakesRun, TakesSettled, TakesWhole, ends_at};
 
 use crate::form::Form;
 use crate::place::{Flow, Place};
 use crate::reader::PieceReader;
-use tk_words::{Step, TextFault, token_length};
+use tk_words::{Lexeme, Step, TextFault};
 
 impl<F: Form> PieceReader<F> {
     /// Takes a whole token of a section, and the byte after it.
@@ -15,7 +15,7 @@ impl<F: Form> PieceReader<F> {
     /// # Errors
     /// Those of `take_token`, and those of a byte after the token.
     #[inline(always)]
-    fn feed_whole(&mut self, token: &[u8], byte: u8) -> Result<Flow, TextFault>
+    fn feed_whole(&mut self, token: &Lexeme, byte: u8) -> Result<Flow, TextFault>
         requires run { IsToken token.now }
         requires gap { (is_blank byte || byte == 10) ≡ true }
         requires room { self.old.line ≤ 2 ^ 63 }
@@ -24,7 +24,21 @@ impl<F: Form> PieceReader<F> {
     {
         match self.take_token(token)? {
             Flow::Whole => Ok(Flow::Whole),
-            Flow::On => self.feed_settled(byte),
+            Flow::On => self.feed_next(byte),
+        }
+    }
+
+    /// Takes the byte after a token. Most tokens have another one after them.
+    #[inline(always)]
+    fn feed_next(&mut self, byte: u8) -> Result<Flow, TextFault>
+        requires settled { ends_at byte self.old.place ≡ false }
+        requires room { self.old.line ≤ 2 ^ 63 }
+        requires known { IsFed F.promise (this byte) self.old }
+        ensures { TakesSettled F.promise self.old self.new byte result }
+    {
+        match self.place {
+            Place::Gap => self.feed_gap(byte),
+            _ => self.feed_settled(byte),
         }
     }
 
@@ -33,18 +47,18 @@ impl<F: Form> PieceReader<F> {
     ///
     /// # Errors
     /// The fault that one of these tokens shows, with its line.
-    pub fn feed_tokens(&mut self, bytes: &[u8]) -> Result<Step, TextFault>
+    pub(crate) fn feed_tokens(&mut self, bytes: &[u8]) -> Result<Step, TextFault>
         requires { (before : List ℕ) × Fed F.promise anything self.old before
             × (length before + length bytes.now ≤ 2 ^ 63) }
         ensures { TakesRun F.promise self.old self.new bytes.now result }
     {
         let mut start = 0;
         while let Place::Gap = self.place {
-            let end = start + token_length(&bytes[start..]);
-            if end == start || end == bytes.len() || end - start > 64 {
+            let Some(token) = Lexeme::first(&bytes[start..]) else {
                 break;
-            }
-            match self.feed_whole(&bytes[start..end], bytes[end])? {
+            };
+            let end = start + token.len();
+            match self.feed_whole(&token, bytes[end])? {
                 Flow::Whole => return Ok(Step::Done),
                 Flow::On => start = end + 1,
             }

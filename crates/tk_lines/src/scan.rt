@@ -1,12 +1,13 @@
 //! The value of a header, byte by byte.
 ghost use Rattle.std.specs.Prelude.{◌≡◌, ◌≤◌, ◌<◌, ℕ, List, [], ◌∷◌, ◌++◌, length, Some, None, IfSome, IfOk, IfErr};
 ghost use Rattle.std.specs.Prelude.{◌^◌};
-ghost use Rattle.tk_lines.specs.Scan.{Scans, first_word};
+ghost use Rattle.tk_lines.specs.Reader.Scan.{Scans};
+ghost use Rattle.tk_lines.specs.HeaderValue.{first_word};
 ghost use Rattle.tk_words.specs.Lex.{trim, after_word};
 ghost use Rattle.tk_words.specs.Words.{spells};
 ghost use Rattle.tk_lines.specs.Pieces.{first_at, Fault};
 ghost use Rattle.tk_words.specs.Entry.{number_tests, IsNumber};
-ghost use Rattle.tk_lines.specs.Forms.{IsToldWord};
+ghost use Rattle.tk_lines.specs.Reader.Forms.{IsToldWord};
 
 use tk_words::{Held, TextKind, blank, integer, limited, spelled};
 

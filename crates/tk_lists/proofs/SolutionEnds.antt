@@ -8,11 +8,11 @@ use Rattle.tk_lists.specs.declared.solution_form.SolutionForm.{SolutionForm}
 use Rattle.tk_lists.specs.declared.solution_reader.LinePlace.TheVariants as places
 use Rattle.tk_words.specs.Lex.{Token, is_blank}
 use Rattle.tk_lines.specs.Pieces.{Fault}
-use Rattle.tk_lines.specs.Forms.{whole}
-use Rattle.tk_lines.specs.Reader.{IsToken}
+use Rattle.tk_lines.specs.Reader.Forms.{whole}
+use Rattle.tk_lines.specs.Reader.Places.{IsToken}
 use Rattle.tk_lists.specs.Solution.{SolutionLine, Empty, Other, Route, has_cost, count_of, solid_line, line_stop}
 use Rattle.tk_lists.specs.Solution.{customer_stop, cost_stop}
-use Rattle.tk_lists.specs.SolutionReader.{Keeps, IsRoute, IsPriced, IsAt, HasEnded, StopsAt, line_from}
+use Rattle.tk_lists.specs.Reader.SolutionReader.{Keeps, IsRoute, IsPriced, IsAt, HasEnded, StopsAt, line_from}
 use Rattle.tk_lines.proofs.Sections.SectionBytes.{first_token}
 use Rattle.tk_lines.proofs.Sections.MiddleOfSection.{tokens_of-none, tokens_of-last}
 use Rattle.tk_lists.proofs.SolutionLines.{keeps_line, customers_at}

@@ -9,8 +9,8 @@ use Rattle.tk_words.specs.Lex.{Token, integer}
 use Rattle.tk_lists.specs.Solution.{SolutionLine, Route, Cost, is_natural, cost_stop, trailing_stop, customer_stop}
 use Rattle.tk_lists.specs.Solution.{customers_stop, routes_on, routes_of, count_on, count_of, is_cost, has_cost}
 use Rattle.tk_lists.specs.Solution.{cost_on, cost_of}
-use Rattle.tk_lists.specs.SolutionReader.{Keeps, IsRoute, IsPriced}
-use Rattle.tk_lines.specs.Forms.{whole}
+use Rattle.tk_lists.specs.Reader.SolutionReader.{Keeps, IsRoute, IsPriced}
+use Rattle.tk_lines.specs.Reader.Forms.{whole}
 use Rattle.tk_words.specs.declared.fault.TextKind.TheVariants as kinds
 use Rattle.tk_lines.specs.Pieces.{Stop, Open, Fault, or_else}
 use Rattle.std.specs.Int.Signed.{lt_z}

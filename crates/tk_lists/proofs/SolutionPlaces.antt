@@ -13,7 +13,7 @@ use Rattle.tk_words.specs.Lex.{LF, Token, lines, is_word_byte}
 use Rattle.tk_lines.specs.Pieces.{Open, Fault, stopped}
 use Rattle.tk_lists.specs.Solution.{Solution, Short, SolutionLine, Unsure, solid_line, line_stop, at_end, judge_lines}
 use Rattle.tk_lists.specs.Solution.{count_of, customer_stop}
-use Rattle.tk_lists.specs.SolutionReader.{head_from, IsHead, line_from, IsLineWord, IsAt, from}
+use Rattle.tk_lists.specs.Reader.SolutionReader.{head_from, IsHead, line_from, IsLineWord, IsAt, from}
 use Rattle.tk_lines.proofs.MiddleOfLine.{lines-byte, lines-LF}
 use Rattle.tk_lines.proofs.Sections.SectionEnds.{first_line}
 use Rattle.tk_lines.proofs.Headers.ByteRuns.{front-whole}

@@ -9,10 +9,10 @@ use Rattle.tk_lists.specs.declared.solution_reader.LinePlace.TheVariants as plac
 use Rattle.tk_lists.specs.declared.solution_reader.SolutionReader.{SolutionReader}
 use Rattle.tk_words.specs.Lex.{Token, tokens_of, is_blank}
 use Rattle.tk_lines.specs.Pieces.{Fault}
-use Rattle.tk_lines.specs.Forms.{whole}
-use Rattle.tk_lines.specs.Reader.{IsToken}
+use Rattle.tk_lines.specs.Reader.Forms.{whole}
+use Rattle.tk_lines.specs.Reader.Places.{IsToken}
 use Rattle.tk_lists.specs.Solution.{SolutionLine, Route, Cost, has_cost, count_of, customer_stop, cost_stop}
-use Rattle.tk_lists.specs.SolutionReader.{IsRoute, line_from, Went, StopsAt}
+use Rattle.tk_lists.specs.Reader.SolutionReader.{IsRoute, line_from, Went, StopsAt}
 use Rattle.tk_lines.proofs.Sections.SectionSteps.{run_more}
 use Rattle.tk_lines.proofs.Sections.SectionBytes.{front_token}
 use Rattle.tk_lines.proofs.Sections.MiddleOfSection.{tokens_of-run}

@@ -12,7 +12,7 @@ use Rattle.tk_words.specs.Texts.{Decides, DecidesEnded}
 use Rattle.tk_words.specs.Lex.{LF, lines}
 use Rattle.tk_lines.specs.Pieces.{Fault}
 use Rattle.tk_lists.specs.Solution.{has_cost, line_stop, at_end, judge_lines, solution_decided, solution_texts}
-use Rattle.tk_lists.specs.SolutionReader.{Stands, Went, StopsAt, HasEnded, Fed, Waits, rest_of, from}
+use Rattle.tk_lists.specs.Reader.SolutionReader.{Stands, Went, StopsAt, HasEnded, Fed, Waits, rest_of, from}
 use Rattle.tk_lines.proofs.Sections.SectionEnds.{first_line}
 use Rattle.tk_lines.proofs.LineSteps.{line_behind-byte, line_behind-LF}
 use Rattle.tk_lists.proofs.SolutionPlaces.{from_byte, from_stops, from_LF, from_LF_stops, from_end, from_end_stops}

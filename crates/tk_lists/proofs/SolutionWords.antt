@@ -9,7 +9,7 @@ use Rattle.tk_words.specs.Lex.{tokens_of, after_word, is_word_byte, is_empty, fr
 use Rattle.tk_words.specs.Words.{spells}
 use Rattle.tk_lists.specs.Solution.{Head, Short, Bad, Behind, route_head, route_line, route_tests, line_stop, Cost}
 use Rattle.tk_lists.specs.Solution.{SolutionLine, Unsure, Other, begins, may_be_word, by_word, solid_line}
-use Rattle.tk_lists.specs.SolutionReader.{IsLineWord}
+use Rattle.tk_lists.specs.Reader.SolutionReader.{IsLineWord}
 use Rattle.tk_lines.proofs.Sections.MiddleOfSection.{tokens_of-none}
 use Rattle.tk_lines.proofs.Headers.ByteRuns.{behind-all, front-all, front-whole}
 

@@ -14,14 +14,14 @@ use Rattle.tk_lists.specs.declared.tour.TourWords.{TourWords}
 use Rattle.tk_lists.specs.declared.tour.TourForm.{TourForm}
 use Rattle.tk_words.specs.Lex.{Token, integer, after_word, trim}
 use Rattle.tk_words.specs.Words.{spells}
-use Rattle.tk_lines.specs.Scan.{first_word}
+use Rattle.tk_lines.specs.HeaderValue.{first_word}
 use Rattle.tk_lines.specs.Pieces.{Piece, After, Clean, Early, Trailing, Stop, Open, Fault, first_at, or_else, has}
 use Rattle.tk_words.specs.MinusOne.{is_ending, is_minus_one}
-use Rattle.tk_lines.specs.Forms.{whole, taken, a_header, a_section, Goes, Ends, EndsAtEof, StopsAt}
+use Rattle.tk_lines.specs.Reader.Forms.{whole, taken, a_header, a_section, Goes, Ends, EndsAtEof, StopsAt}
 use Rattle.tk_words.specs.Entry.{is_keyword, is_eof, in_range, number_tests, numbers_of, natural_or_zero}
 use Rattle.tk_lines.specs.Lists.{entries, trailing_stop, AreEntries}
 use Rattle.tk_lists.specs.Tour.{entry_stop, entries_stop, tour_header, tour_section, tour_format}
-use Rattle.tk_lists.specs.TourForm.{IsSeen, TourHolds, TourWants, IsNext, IsOut}
+use Rattle.tk_lists.specs.Reader.TourForm.{IsSeen, TourHolds, TourWants, IsNext, IsOut}
 use Rattle.tk_lines.proofs.Pieces.PieceLookups.{has-kept, has-new, tokens_in-new, tokens_in-header, tokens_in-none}
 use Rattle.tk_lists.proofs.Lists.{are_more, entries_all, entries_ended, fine_more, fine_none, numbers_more}
 use Rattle.tk_lists.proofs.Lists.{length-numbers, list_stops, list_ended, list_eof, list_open, list_covers, entry_long}

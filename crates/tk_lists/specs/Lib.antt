@@ -1,4 +1,3 @@
+pub mod Reader
 pub mod Solution
-pub mod SolutionReader
 pub mod Tour
-pub mod TourForm

@@ -10,7 +10,7 @@ use Rattle.tk_words.specs.declared.fault.TextFault.{TextFault}
 use Rattle.tk_words.specs.Lex.{Token, after_word, trim, integer}
 use Rattle.tk_words.specs.Texts.{Texts, texts_of}
 use Rattle.tk_words.specs.Words.{spells}
-use Rattle.tk_lines.specs.Scan.{first_word}
+use Rattle.tk_lines.specs.HeaderValue.{first_word}
 use Rattle.tk_lines.specs.Pieces.{Piece, Extent, Stop, After, first_at, checked, or_else, has, tokens_in, Format}
 use Rattle.tk_lines.specs.Pieces.{decided_by}
 use Rattle.tk_words.specs.Entry.{in_range, is_keyword, number_tests, numbers_of}

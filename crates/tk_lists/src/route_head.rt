@@ -1,5 +1,5 @@
 //! The head of a Route line, byte by byte.
-ghost use Rattle.tk_lists.specs.SolutionReader.{IsHead, HasStepped};
+ghost use Rattle.tk_lists.specs.Reader.SolutionReader.{IsHead, HasStepped};
 
 use tk_words::blank;
 

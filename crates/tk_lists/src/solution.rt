@@ -2,7 +2,7 @@
 ghost use Rattle.std.specs.Prelude.{◌≡◌, ◌^◌, ◌≤◌, ◌++◌, ◌∷◌, ℕ, List, [], map, refl, Ok, IfOk, IfErr};
 ghost use Rattle.tk_words.specs.Texts.{IsAnswerWhereTold, IsFaultWhereTold, IsOfSomeText, IsFaultOfSomeText, IsIntact};
 ghost use Rattle.tk_lists.specs.Solution.{Solution, solution_texts};
-ghost use Rattle.tk_lists.specs.SolutionReader.{Fed, HasTakenByte, Waits};
+ghost use Rattle.tk_lists.specs.Reader.SolutionReader.{Fed, HasTakenByte, Waits};
 
 use crate::solution_reader::{LinePlace, SolutionReader};
 use crate::texts::SolText;

@@ -2,12 +2,12 @@
 ghost use Rattle.std.specs.Prelude.{◌≡◌, ◌≤◌, ℕ, ◌+◌, Bool, true, false, List, [], ◌∷◌, ◌++◌, length, Some, None, IfOk};
 ghost use Rattle.std.specs.Prelude.{IfErr};
 ghost use Rattle.tk_words.specs.declared.fault.TextKind.TheVariants as kinds;
-ghost use Rattle.tk_lines.specs.Forms.{IsToldWord, whole};
+ghost use Rattle.tk_lines.specs.Reader.Forms.{IsToldWord, whole};
 ghost use Rattle.tk_words.specs.Lex.{Token};
 ghost use Rattle.tk_lines.specs.Pieces.{Fault, first_at};
 ghost use Rattle.tk_lists.specs.Solution.{SolutionLine, Route, Cost, has_cost, count_of, route_tests, cost_tests};
 ghost use Rattle.tk_lists.specs.Solution.{other_tests, customer_stop, cost_stop};
-ghost use Rattle.tk_lists.specs.SolutionReader.{Keeps, IsRoute, IsPriced};
+ghost use Rattle.tk_lists.specs.Reader.SolutionReader.{Keeps, IsRoute, IsPriced};
 
 use crate::texts::SolText;
 use std::alloc::Global;

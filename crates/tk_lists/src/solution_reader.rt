@@ -2,10 +2,11 @@
 ghost use Rattle.std.specs.Prelude.{◌≡◌, ◌≤◌, true, false, List, [], ◌∷◌, length, Some, IfOk, IfErr};
 ghost use Rattle.tk_words.specs.Lex.{Token};
 ghost use Rattle.tk_lines.specs.Pieces.{Fault};
-ghost use Rattle.tk_lines.specs.Forms.{IsToldWord};
+ghost use Rattle.tk_lines.specs.Reader.Forms.{IsToldWord};
 ghost use Rattle.tk_lists.specs.Solution.{SolutionLine, Other, has_cost, may_be_word, solid_line, line_stop};
-ghost use Rattle.tk_lists.specs.SolutionReader.{Keeps, IsAt, IsHead, IsWordOf, IsFront, IsLineWord, IsRoute, Stands};
-ghost use Rattle.tk_lists.specs.SolutionReader.{Went, StopsAt, HasEnded, line_from, rest_of};
+ghost use Rattle.tk_lists.specs.Reader.SolutionReader.{Keeps, IsAt, IsHead, IsWordOf, IsFront, IsLineWord, IsRoute};
+ghost use Rattle.tk_lists.specs.Reader.SolutionReader.{Stands};
+ghost use Rattle.tk_lists.specs.Reader.SolutionReader.{Went, StopsAt, HasEnded, line_from, rest_of};
 ghost use Rattle.tk_lists.specs.declared.solution_reader.LinePlace.TheVariants as places;
 
 use crate::route_head::{HeadPlace, HeadStep};

@@ -1,21 +1,20 @@
 //! Tour texts.
-ghost use Rattle.std.specs.Prelude.{◌≡◌, ◌<◌, ℕ, true, false, List, [], ◌∷◌, ◌++◌, length, Some, None, Ok, IfOk, IfErr};
+ghost use Rattle.std.specs.Prelude.{◌≡◌, ◌<◌, ℕ, true, false, List, [], length, Some, None, Ok, IfOk, IfErr};
 ghost use Rattle.tk_problem.specs.declared.limits.TheConstants.{ENTRY_LIMIT};
 ghost use Rattle.tk_words.specs.declared.fault.TextKind.TheVariants as kinds;
 ghost use Rattle.tk_lines.specs.declared.form.Taken.TheVariants as takens;
 ghost use Rattle.tk_words.specs.declared.keyword.Keyword.TheVariants as words;
 ghost use Rattle.tk_words.specs.Texts.{IsAnswerWhereTold, IsFaultWhereTold, IsOfSomeText, IsFaultOfSomeText, IsIntact};
-ghost use Rattle.tk_lines.specs.Pieces.{Piece, Fault, first_at};
-ghost use Rattle.tk_lines.specs.Scan.{Scans};
-ghost use Rattle.tk_lines.specs.Forms.{IsToldWord, a_header};
+ghost use Rattle.tk_lines.specs.Reader.Forms.{IsToldWord};
 ghost use Rattle.tk_lists.specs.Tour.{tour_header, tour_texts};
-ghost use Rattle.tk_lists.specs.TourForm.{TourHolds, IsNext, IsOut, tour_promise};
+ghost use Rattle.tk_lists.specs.Reader.TourForm.{TourHolds, IsNext, IsOut, tour_promise};
+ghost use Rattle.tk_lines.specs.Reader.FormSteps.{RefusesHeader, TakesHeader};
 
 use crate::texts::TourText;
 use std::alloc::Global;
 use tk_lines::{Form, PieceReader, Scan, Taken};
 use tk_problem::{ENTRY_LIMIT, TEXT_LIMIT};
-use tk_words::{Entry, Keyword, Source, TextFault, TextKind, entry_of, limited, read_text};
+use tk_words::{Entry, Keyword, Lexeme, Source, TextFault, TextKind, limited, read_text};
 
 /// Which words a tour text has had.
 #[derive(Clone, Copy, Drop)]
@@ -62,11 +61,8 @@ impl TourForm {
     }
 
     fn name(&mut self, value: &Scan) -> Result<(), TextKind>
-        ensures ok { (before : List Piece) (v : List ℕ) (n : ℕ) → TourHolds self.old before → Scans value.now v
-            → IfOk result (λ _. TourHolds self.new (before ++ a_header words.Name v n)
-            × (first_at n (tour_header before words.Name v) ≡ None)) }
-        ensures err { (before : List Piece) (v : List ℕ) (n : ℕ) → TourHolds self.old before → Scans value.now v
-            → IfErr result (IsToldWord (λ k. first_at n (tour_header before words.Name v) ≡ Some (Fault n k))) }
+        ensures ok { TakesHeader TourHolds tour_header words.Name value.now self.old self.new result }
+        ensures err { RefusesHeader TourHolds tour_header words.Name value.now self.old result }
     {
         if value.trimmed > 1024 {
             return Err(TextKind::TooLong);
@@ -75,11 +71,8 @@ impl TourForm {
     }
 
     fn kind(&mut self, value: &Scan) -> Result<(), TextKind>
-        ensures ok { (before : List Piece) (v : List ℕ) (n : ℕ) → TourHolds self.old before → Scans value.now v
-            → IfOk result (λ _. TourHolds self.new (before ++ a_header words.Type v n)
-            × (first_at n (tour_header before words.Type v) ≡ None)) }
-        ensures err { (before : List Piece) (v : List ℕ) (n : ℕ) → TourHolds self.old before → Scans value.now v
-            → IfErr result (IsToldWord (λ k. first_at n (tour_header before words.Type v) ≡ Some (Fault n k))) }
+        ensures ok { TakesHeader TourHolds tour_header words.Type value.now self.old self.new result }
+        ensures err { RefusesHeader TourHolds tour_header words.Type value.now self.old result }
     {
         once(&mut self.seen.kind)?;
         if value.is(b"TOUR") {
@@ -89,11 +82,8 @@ impl TourForm {
     }
 
     fn dimension(&mut self, value: &Scan) -> Result<(), TextKind>
-        ensures ok { (before : List Piece) (v : List ℕ) (n : ℕ) → TourHolds self.old before → Scans value.now v
-            → IfOk result (λ _. TourHolds self.new (before ++ a_header words.Dimension v n)
-            × (first_at n (tour_header before words.Dimension v) ≡ None)) }
-        ensures err { (before : List Piece) (v : List ℕ) (n : ℕ) → TourHolds self.old before → Scans value.now v
-            → IfErr result (IsToldWord (λ k. first_at n (tour_header before words.Dimension v) ≡ Some (Fault n k))) }
+        ensures ok { TakesHeader TourHolds tour_header words.Dimension value.now self.old self.new result }
+        ensures err { RefusesHeader TourHolds tour_header words.Dimension value.now self.old result }
     {
         once(&mut self.seen.dimension)?;
         value.number(1, ENTRY_LIMIT as u32)?;
@@ -147,8 +137,8 @@ impl Form for TourForm {
         }
     }
 
-    fn token(&mut self, bytes: &[u8]) -> Result<Taken, TextKind> {
-        match entry_of(bytes) {
+    fn token(&mut self, token: &Lexeme) -> Result<Taken, TextKind> {
+        match token.entry() {
             Entry::Number(number) => {
                 if number == -1 {
                     return Ok(Taken::Ending);

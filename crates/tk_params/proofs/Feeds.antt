@@ -7,7 +7,7 @@ use Rattle.std.proofs.lemmas.List.{append-nil, length-append}
 use Rattle.tk_lines.proofs.MiddleOfLine.{prepend-nil}
 use Rattle.tk_lines.proofs.LineSteps.{line_behind-byte, line_behind-LF}
 use Rattle.tk_lines.proofs.Headers.ByteRuns.{behind-all, behind-on}
-use Rattle.tk_lines.specs.Scan.{IsEmpty}
+use Rattle.tk_lines.specs.Reader.Scan.{IsEmpty}
 use Rattle.std.specs.Option.{IsSome, ok_or}
 use Rattle.std.specs.Prelude.{is_some, option_map, unwrap_or}
 use Rattle.tk_words.specs.declared.sources.text_reader.Step.{Step}
@@ -26,8 +26,8 @@ use Rattle.tk_params.proofs.Steps.{from_LF_fault, from_end, from_end_fault}
 use Rattle.tk_params.specs.declared.fault.ParamKind.{ParamKind}
 use Rattle.tk_params.specs.declared.fault.ParamKind.TheVariants as kinds
 use Rattle.tk_params.specs.declared.reader.ParamReader.{ParamReader}
-use Rattle.tk_params.specs.Readers.{IsSound}
-use Rattle.tk_params.specs.Reading.{Feeds, HasRead, IsComplete, IsTaken, Waits, from_line, params_in}
+use Rattle.tk_params.specs.Reader.Lines.{IsSound}
+use Rattle.tk_params.specs.Reader.Places.{Feeds, HasRead, IsComplete, IsTaken, Waits, from_line, params_in}
 use Rattle.tk_params.specs.Values.{Settings, Meaning, Faulty, line_means, look, settings_of}
 use Rattle.tk_params.specs.Params.{Answer, at_end, cause_of, is_eof, judge, line_limit, pieces, params_decided}
 use Rattle.tk_params.specs.Params.{params_texts}

@@ -14,8 +14,8 @@ use Rattle.indexmap.specs.IndexMap.{IndexMap, insert_entry}
 use Rattle.std.specs.Map.{lookup}
 use Rattle.std.specs.Option.{option_copied, is_some}
 use Rattle.tk_params.specs.declared.value.Setting.{Setting}
-use Rattle.tk_params.specs.Readers.{HasTaken}
-use Rattle.tk_params.specs.Stored.{AreStored, entry_is, value_is}
+use Rattle.tk_params.specs.Reader.Lines.{HasTaken}
+use Rattle.tk_params.specs.Reader.Stored.{AreStored, entry_is, value_is}
 use Rattle.tk_params.specs.Asked.{IsSetting, ignored_keys, is_ignored}
 use Rattle.tk_params.proofs.Keys.{apart_push}
 use Rattle.std.specs.List.{IsDistinct}

@@ -10,12 +10,12 @@ use Rattle.tk_lines.proofs.Lines.{begins_no, behind_none}
 use Rattle.tk_lines.proofs.MiddleOfLine.{prepend-nil, prepend-onto, lines-byte, lines-LF, lines_cons}
 use Rattle.tk_lines.proofs.Headers.ByteRuns.{behind-all, behind-on, front-all, front-on, front-whole}
 use Rattle.tk_words.specs.Lex.{LF, Line, is_letter, is_blank, is_word_byte, is_empty, front, behind, lines}
-use Rattle.tk_lines.specs.FromMiddle.{prepend}
-use Rattle.tk_lines.specs.Scan.{IsEmpty}
+use Rattle.tk_lines.specs.Reader.FromMiddle.{prepend}
+use Rattle.tk_lines.specs.Reader.Scan.{IsEmpty}
 use Rattle.tk_params.specs.declared.fault.ParamKind.{ParamKind}
 use Rattle.tk_params.specs.declared.fault.ParamKind.TheVariants as kinds
-use Rattle.tk_params.specs.Readers.{IsSound}
-use Rattle.tk_params.specs.Reading.{ends_in, from_line}
+use Rattle.tk_params.specs.Reader.Lines.{IsSound}
+use Rattle.tk_params.specs.Reader.Places.{ends_in, from_line}
 use Rattle.tk_params.specs.Entries.{Entry, entry_of}
 use Rattle.tk_params.specs.Values.{Settings, Meaning, Nothing, Faulty, Sets, means, line_means, settings_of}
 use Rattle.tk_params.specs.Params.{Answer, Piece, LongLine, End, Open, Holds, after, at_end, behind_word, counted}

@@ -4,7 +4,7 @@ use Rattle.std.specs.Option.{unwrap_or}
 use Rattle.tk_params.specs.declared.key.Key.{Key}
 use Rattle.tk_params.specs.declared.key.Key.TheVariants as keys
 use Rattle.tk_params.specs.declared.value.Construction.TheVariants.{Nearest}
-use Rattle.tk_params.specs.Stored.{LosesOnly}
+use Rattle.tk_params.specs.Reader.Stored.{LosesOnly}
 use Rattle.tk_params.specs.Values.{Settings, look, same_key}
 use Rattle.tk_params.specs.Asked.{AreApart, AreSettings, AreWithinLimits, ParamsAre, asked, asked_of, file_in}
 use Rattle.tk_params.specs.Asked.{ignored_keys, number_in, switch_in, way_in}

@@ -15,7 +15,7 @@ use Rattle.tk_params.proofs.Steps.{judge_line, judge_none, over}
 use Rattle.tk_params.specs.declared.fault.ParamKind.TheVariants as kinds
 use Rattle.tk_params.specs.Params.{Answer, after, at_end, behind_word, counted, is_end, is_eof, judge, line_limit}
 use Rattle.tk_params.specs.Params.{params_decided, pieces, word_of}
-use Rattle.tk_params.specs.Reading.{ends_in}
+use Rattle.tk_params.specs.Reader.Places.{ends_in}
 use Rattle.tk_params.specs.Values.{Settings, Meaning, Nothing, Faulty, Sets, line_means, settings_of}
 
 -- ---- each text has an answer

@@ -14,7 +14,7 @@ use Rattle.tk_params.specs.Asked.{ParamsAre}
 use Rattle.tk_params.specs.Keys.{key_of}
 use Rattle.tk_params.specs.Entries.{Entry, Blank, Wrong, entry_of, key_entry, value_behind, word_entry}
 use Rattle.tk_params.specs.Params.{params_texts}
-use Rattle.tk_params.specs.Readers.{IsToldOf}
+use Rattle.tk_params.specs.Reader.Lines.{IsToldOf}
 use Rattle.tk_params.specs.Values.{Settings, Value, Meaning, Faulty, has, has_dollar, key_means, line_means}
 use Rattle.tk_params.specs.Values.{means, sets, value_of}
 

@@ -1,7 +1,7 @@
 //! Parameters that are given key by key.
 ghost use Rattle.std.specs.Prelude.{◌≡◌, [], OnErr, OnOk, IfErr};
 ghost use Rattle.tk_params.specs.Asked.{asked};
-ghost use Rattle.tk_params.specs.Readers.{HasTaken, IsToldOf};
+ghost use Rattle.tk_params.specs.Reader.Lines.{HasTaken, IsToldOf};
 ghost use Rattle.tk_params.specs.Values;
 
 use crate::fault::ParamKind;

@@ -2,7 +2,7 @@
 ghost use Rattle.std.specs.Prelude.{◌≡◌, ◌++◌, ◌∷◌, [], false, OnErr, OnOk, option_map};
 ghost use Rattle.std.specs.String.{string_bytes};
 ghost use Rattle.tk_params.specs.Asked.{file_in, number_in, switch_in, way_in};
-ghost use Rattle.tk_params.specs.Stored.{LosesOnly, settings_in, value_is};
+ghost use Rattle.tk_params.specs.Reader.Stored.{LosesOnly, settings_in, value_is};
 ghost use Rattle.tk_params.specs.Values;
 
 use crate::key::Key;

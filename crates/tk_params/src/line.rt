@@ -1,7 +1,7 @@
 //! A line of a parameter file.
 ghost use Rattle.std.specs.Prelude.{◌≡◌, ◌≤◌, List, length, take, drop, OnErr, OnOk, IfErr};
 ghost use Rattle.tk_words.specs.Lex.{behind, front, is_blank, is_word_byte, trim_end};
-ghost use Rattle.tk_params.specs.Readers.{HasTaken, IsToldOf};
+ghost use Rattle.tk_params.specs.Reader.Lines.{HasTaken, IsToldOf};
 ghost use Rattle.tk_params.specs.Entries;
 ghost use Rattle.tk_params.specs.Values;
 

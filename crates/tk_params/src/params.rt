@@ -33,7 +33,7 @@ impl Model for Params {
 
     ghost Value = { ParamsAre };
 
-    ghost use Rattle.tk_params.specs.Stored.{params_in};
+    ghost use Rattle.tk_params.specs.Reader.Stored.{params_in};
 
     ghost view = { params_in };
 

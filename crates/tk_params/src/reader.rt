@@ -4,7 +4,7 @@ ghost use Rattle.std.specs.Prelude.{IfErr, OnOk};
 ghost use Rattle.tk_words.specs.Lex.{behind, is_blank, is_word_byte};
 ghost use Rattle.tk_words.specs.Texts.{IsAnswerWhereTold, IsFaultWhereTold, IsOfSomeText, IsFaultOfSomeText, IsIntact};
 ghost use Rattle.tk_params.specs.Asked.{ParamsAre};
-ghost use Rattle.tk_params.specs.Reading.{Feeds, HasRead, IsComplete, TakesLine, Waits, params_in};
+ghost use Rattle.tk_params.specs.Reader.Places.{Feeds, HasRead, IsComplete, TakesLine, Waits, params_in};
 ghost use Rattle.tk_params.specs.Params.{at_end, is_eof, params_texts};
 
 use crate::fault::{ParamFault, ParamKind};

@@ -1,7 +1,7 @@
 //! What the lines of a parameter file have said so far.
 ghost use Rattle.std.specs.Prelude.{◌≡◌, ◌++◌, ◌∷◌, [], false, OnErr, OnOk, is_some};
 ghost use Rattle.tk_params.specs.Asked.{AreApart, AreSettings, IsSetting, file_in, ignored_keys};
-ghost use Rattle.tk_params.specs.Stored.{settings_in, value_is};
+ghost use Rattle.tk_params.specs.Reader.Stored.{settings_in, value_is};
 ghost use Rattle.tk_params.specs.Values;
 
 use crate::entries::{Entries, append, stored};
@@ -19,7 +19,7 @@ pub struct Settings {
 }
 
 impl Model for Settings {
-    ghost use Rattle.tk_params.specs.Stored.{AreStored, settings_in};
+    ghost use Rattle.tk_params.specs.Reader.Stored.{AreStored, settings_in};
     ghost use Rattle.tk_params.specs.Values;
 
     ghost Value = { Values.Settings };

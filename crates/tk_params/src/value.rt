@@ -3,8 +3,8 @@ ghost use Rattle.std.specs.Prelude.{◌≡◌, false, Some, None, IfOk, IfErr, o
 ghost use Rattle.tk_params.specs.Keys;
 ghost use Rattle.tk_params.specs.declared.fault.ParamKind.TheVariants as kinds;
 ghost use Rattle.tk_params.specs.Asked.{is_ignored};
-ghost use Rattle.tk_params.specs.Readers.{IsToldOf};
-ghost use Rattle.tk_params.specs.Stored.{value_is};
+ghost use Rattle.tk_params.specs.Reader.Lines.{IsToldOf};
+ghost use Rattle.tk_params.specs.Reader.Stored.{value_is};
 ghost use Rattle.tk_params.specs.Values;
 
 use crate::fault::ParamKind;

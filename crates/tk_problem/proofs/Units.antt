@@ -53,24 +53,19 @@ points_equal p q h =
 quotient-at : (unit : Unit) (w : ℤ) → unsigned_abs w ≤ COORDINATE_LIMIT
     → to_z w32
     (of_z w32
-    (to_z w64
-    (of_z w64 (quot_z (to_z w64 (of_z w64 (w *ℤ pos (step_of unit)))) (to_z w64 (of_z w64 (pos (step_of unit))))))))
-    ≡ w
+    (to_z w64 (of_z w64 (quot_z (to_z w64 (of_z w64 (w *ℤ pos (step_of unit)))) (pos (step_of unit)))))) ≡ w
 quotient-at One w near = omega (arith, ints, near)
 quotient-at Tenth w near = omega (arith, ints, near)
 quotient-at Hundredth w near = omega (arith, ints, near)
 quotient-at Thousandth w near = omega (arith, ints, near)
 
-pub quotient-in : (unit : Unit) (x step w : ℤ) → w *ℤ pos (step_of unit) ≡ x → step ≡ pos (step_of unit)
-    → unsigned_abs w ≤ COORDINATE_LIMIT
-    → to_z w32 (of_z w32 (to_z w64 (of_z w64 (quot_z (to_z w64 (of_z w64 x)) (to_z w64 (of_z w64 step)))))) ≡ w
-quotient-in unit x step w product is near =
-    subst (λ (s : ℤ). to_z w32
-    (of_z w32 (to_z w64 (of_z w64 (quot_z (to_z w64 (of_z w64 x)) (to_z w64 (of_z w64 s)))))) ≡ w) (sym is)
-    (subst (λ (p : ℤ). to_z w32
-    (of_z w32
-    (to_z w64 (of_z w64 (quot_z (to_z w64 (of_z w64 p)) (to_z w64 (of_z w64 (pos (step_of unit)))))))) ≡ w)
-    product (quotient-at unit w near))
+pub quotient-in : (unit : Unit) (x quotient w : ℤ) → w *ℤ pos (step_of unit) ≡ x
+    → quotient ≡ quot_z (to_z w64 (of_z w64 x)) (pos (step_of unit)) → unsigned_abs w ≤ COORDINATE_LIMIT
+    → to_z w32 (of_z w32 (to_z w64 (of_z w64 quotient))) ≡ w
+quotient-in unit x quotient w product is near =
+    ap (λ z. to_z w32 (of_z w32 (to_z w64 (of_z w64 z))))
+    (is ∙ ap (λ z. quot_z (to_z w64 (of_z w64 z)) (pos (step_of unit))) (sym product))
+    ∙ quotient-at unit w near
 
 pub points_differ : (p q : Point) → false ≡ (int_eq p.x q.x && int_eq p.y q.y) → p ≢ q
 points_differ p q differ same =

@@ -1,6 +1,6 @@
 -- The order of explicit weights, line by line.
 use Rattle.std.proofs.Common.{Bool, true, false, ltb, leb, ◌≡◌, ℕ, zero, suc, ◌+◌, ◌-◌, ◌<◌, ◌≤◌, List, [], ◌∷◌, ◌++◌}
-use Rattle.std.proofs.Common.{map, arith, ap, ◌∙◌, refl}
+use Rattle.std.proofs.Common.{map, arith, ap, ◌∙◌, refl, drop, length, sym}
 use Rattle.std.specs.List.{range_with_len, flat_map, filter}
 use Rattle.std.proofs.lemmas.List.{append-nil}
 use Rattle.std.proofs.lemmas.List.Elements.{filter-append}
@@ -17,9 +17,6 @@ pub items_more : (f : Format) (line from end : ℕ) → from < end → items f l
     ∷ items f line (from + 1) end
 items_more f line from end less = let some : end - from ≡ suc (end - (from + 1)) = omega arith in rw some refl
 
-pub lines_none : (f : Format) (n from : ℕ) → n ≤ from → lines f n from (n - from) ≡ []
-lines_none f n from over = let none : n - from ≡ 0 = omega arith in rw none refl
-
 pub lines_more : (f : Format) (n line : ℕ) → line < n →
     lines f n line (n - line) ≡ places_from f n line (first_item f line) (end_item f n line)
 lines_more f n line less = let some : n - line ≡ suc (n - (line + 1)) = omega arith in rw some refl
@@ -28,6 +25,31 @@ pub places_more : (f : Format) (n line item end : ℕ) → item < end → places
     ∷ places_from f n line (item + 1) end
 places_more f n line item end less =
     ap (λ ps. ps ++ lines f n (line + 1) (n - (line + 1))) (items_more f line item end less)
+
+-- after the last place of a line, the lines after it are left
+pub places_last : (f : Format) (n line item end : ℕ) → end ≤ item + 1
+    → (end ≤ item → lines f n (line + 1) (n - (line + 1)) ≡ []) → 0 < length (places_from f n line item end)
+    → lines f n (line + 1) (n - (line + 1)) ≡ drop 1 (places_from f n line item end)
+places_last f n line item end last done more = by_less (ltb item end) refl
+  where
+    rest : List Place
+    rest = lines f n (line + 1) (n - (line + 1))
+
+    none : (from : ℕ) → end ≤ from → items f line from end ≡ []
+    none from over = let left : end - from ≡ 0 = omega arith in rw left refl
+
+    empty : end ≤ item → places_from f n line item end ≡ []
+    empty over = rw (none item over, done over) refl
+
+    by_less : (less : Bool) → ltb item end ≡ less → rest ≡ drop 1 (places_from f n line item end)
+    by_less true is =
+        let item_less : item < end = grind (arith, nat_tests) in
+        let one : places_from f n line item end ≡ place_on f line item ∷ rest =
+        places_more f n line item end item_less ∙ ap (λ ps. place_on f line item ∷ ps ++ rest) (none (item + 1) last) in
+        sym (ap (drop 1) one)
+    by_less false is =
+        let over : end ≤ item = grind (arith, nat_tests) in
+        absurd (omega (arith, more, ap length (empty over)))
 
 -- ---- the order, which keeps some of all places, is the walk by lines
 

@@ -45,6 +45,7 @@ impl LowerWeights {
     }
 
     /// Whether no weight is to come.
+    #[inline(always)]
     pub fn is_done(&self) -> bool
         ensures { result ≡ (length self.now.places == 0) }
     {
@@ -52,6 +53,7 @@ impl LowerWeights {
     }
 
     /// The place of the next weight.
+    #[inline(always)]
     pub fn place(&self) -> Place
         requires { 0 < length self.now.places }
         ensures { slice_get self.now.places 0 ≡ Some result }
@@ -71,6 +73,7 @@ impl LowerWeights {
     }
 
     /// Takes the next weight.
+    #[inline(always)]
     pub fn push(&mut self, weight: u32)
         requires more { 0 < length self.old.places }
         requires pair { IfSome (slice_get self.old.places 0) (λ p. p.row ≢ p.column) }
@@ -84,6 +87,7 @@ impl LowerWeights {
     }
 
     /// Passes the next weight, which is on the diagonal.
+    #[inline(always)]
     pub fn skip(&mut self)
         requires more { 0 < length self.old.places }
         requires diagonal { IfSome (slice_get self.old.places 0) (λ p. p.row ≡ p.column) }

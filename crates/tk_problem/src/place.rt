@@ -12,6 +12,7 @@ impl Place {
     ghost use Rattle.tk_problem.specs.WeightOrder as Order;
 
     /// Whether it stands on the diagonal.
+    #[inline(always)]
     pub fn is_diagonal(self) -> bool
         ensures { IsTrue result ↔ (self.row ≡ self.column) }
     {
@@ -20,6 +21,7 @@ impl Place {
 
     /// Where the weight of its row and column stands among those of all pairs, row by row below
     /// the diagonal.
+    #[inline(always)]
     pub fn lower_index(self) -> usize
         requires { self.row ≢ self.column }
         ensures { result ≡ Order.lower_index self }

@@ -1,5 +1,6 @@
 //! The units in which coordinates are kept as whole numbers.
 ghost use Rattle.std.specs.Prelude.{◌≡◌, ◌≢◌, IfSome, IfNone, pos};
+ghost use Rattle.std.specs.Int.Signed.{quot_z};
 ghost use Rattle.tk_problem.specs.declared.point.WholePoint.{WholePoint};
 ghost use Rattle.tk_problem.specs.Places.{IsNearOrigin};
 ghost use Rattle.tk_problem.specs.Units.{place_in, step_of};
@@ -43,14 +44,26 @@ impl Unit {
         }
     }
 
+    /// How often a coordinate has it, rounded towards zero. The divisors are constants, since a division by one is a
+    /// product.
+    fn units(self, coordinate: i64) -> i64
+        ensures { result ≡ quot_z coordinate (pos (step_of self)) }
+    {
+        match self {
+            Unit::One => coordinate / 1_000_000_000,
+            Unit::Tenth => coordinate / 100_000_000,
+            Unit::Hundredth => coordinate / 10_000_000,
+            Unit::Thousandth => coordinate / 1_000_000,
+        }
+    }
+
     /// A place whose coordinates are whole numbers of this unit, of magnitude at most 10^9, as such.
     pub fn whole(self, place: Point) -> Option<WholePoint>
         ensures some { IfSome result (λ whole. place_in self whole ≡ place) }
         ensures none { IfNone result ((whole : WholePoint) → place_in self whole ≢ place) }
     {
-        let step = self.step();
-        let x = place.x / step;
-        let y = place.y / step;
+        let x = self.units(place.x);
+        let y = self.units(place.y);
         if x.unsigned_abs() > COORDINATE_LIMIT || y.unsigned_abs() > COORDINATE_LIMIT {
             return None;
         }

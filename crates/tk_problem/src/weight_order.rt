@@ -78,7 +78,16 @@ impl WeightCursor {
         ensures pairs { (i : ℕ) (j : ℕ) → j < i → i < n
             → count_by (Order.is_of i j) result ≡ Order.times_written format }
     {
-        match next_line(format, n, 0) {
+        WeightCursor::from_line(format, n, 0)
+    }
+
+    /// The places of the weights from a row or column on.
+    #[cold]
+    fn from_line(format: Format, n: u32, from: u32) -> Self
+        requires { n < 2 ^ 32 - 1 }
+        ensures { result ≡ Lines.lines format n from (n - from) }
+    {
+        match next_line(format, n, from) {
             Some(line) => WeightCursor {
                 format,
                 n,
@@ -97,6 +106,7 @@ impl WeightCursor {
     }
 
     /// Whether no weight is to come.
+    #[inline(always)]
     pub fn is_done(&self) -> bool
         ensures { result ≡ (length self.now == 0) }
     {
@@ -104,6 +114,7 @@ impl WeightCursor {
     }
 
     /// The place of the next weight.
+    #[inline(always)]
     pub fn place(&self) -> Place
         requires { 0 < length self.now }
         ensures { slice_get self.now 0 ≡ Some result }
@@ -123,18 +134,14 @@ impl WeightCursor {
     }
 
     /// Goes to the next place.
+    #[inline(always)]
     pub fn advance(&mut self)
         requires { 0 < length self.old }
         ensures { self.new ≡ drop 1 self.old }
     {
         self.item += 1;
-        if self.item < self.end {
-            return;
-        }
-        if let Some(line) = next_line(self.format, self.n, self.line + 1) {
-            self.line = line;
-            self.item = first_item(self.format, line);
-            self.end = end_item(self.format, self.n, line);
+        if self.item >= self.end {
+            *self = WeightCursor::from_line(self.format, self.n, self.line + 1);
         }
     }
 }

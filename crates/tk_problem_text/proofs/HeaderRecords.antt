@@ -14,9 +14,9 @@ use Rattle.tk_words.specs.Lex.{Token, trim, after_word, is_empty}
 use Rattle.tk_words.specs.Words.{same_word}
 use Rattle.tk_problem_text.specs.HeaderValues.{problem_type_of, weight_type_of, weight_format_of, number_of, name_of}
 use Rattle.tk_lines.specs.Pieces.{Piece, After, has}
-use Rattle.tk_lines.specs.Forms.{a_header, a_section}
-use Rattle.tk_problem_text.specs.Kept.{Keeps}
-use Rattle.tk_problem_text.specs.Headers.{HasHeaders}
+use Rattle.tk_lines.specs.Reader.Forms.{a_header, a_section}
+use Rattle.tk_problem_text.specs.Reader.Kept.{Keeps}
+use Rattle.tk_problem_text.specs.Reader.Headers.{HasHeaders}
 use Rattle.tk_lines.proofs.Pieces.PieceValues.{value_of-other, value_of-section, value_of-new, value_of-none}
 use Rattle.tk_problem_text.proofs.KeptHeaders.{has_other, has_past, keeps_other, keeps_section, noted}
 

@@ -8,11 +8,11 @@ use Rattle.tk_words.specs.declared.keyword.Keyword.{Keyword}
 use Rattle.tk_words.specs.Lex.{Token, trim, after_word}
 use Rattle.tk_words.specs.Words.{same_word}
 use Rattle.tk_lines.specs.Pieces.{Piece, After, has, first_at, Fault}
-use Rattle.tk_lines.specs.Forms.{a_header, a_section, IsToldWord}
-use Rattle.tk_problem_text.specs.Kept.{Keeps, Says}
+use Rattle.tk_lines.specs.Reader.Forms.{a_header, a_section, IsToldWord}
+use Rattle.tk_problem_text.specs.Reader.Kept.{Keeps, Says}
 use Rattle.tk_words.specs.declared.fault.TextKind.{TextKind}
 use Rattle.tk_words.specs.declared.fault.TextKind.TheVariants as kinds
-use Rattle.tk_lines.specs.Scan.{first_word}
+use Rattle.tk_lines.specs.HeaderValue.{first_word}
 use Rattle.tk_words.specs.Entry.{number_tests, IsNumber}
 use Rattle.tk_problem_text.specs.HeaderValues.{number_of}
 use Rattle.tk_lines.proofs.Pieces.PieceValues.{has-header, has-section, value_of-other, value_of-section, value_of-new}

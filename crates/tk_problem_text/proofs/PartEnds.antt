@@ -12,7 +12,7 @@ use Rattle.tk_words.specs.declared.keyword.Keyword.TheVariants as words
 use Rattle.tk_problem_text.specs.declared.header_values.ProblemType.TheVariants as types
 use Rattle.tk_problem_text.specs.declared.parts.Parts.{Parts}
 use Rattle.tk_lines.specs.Pieces.{Piece, has, tokens_in}
-use Rattle.tk_problem_text.specs.Parts.{HasParts}
+use Rattle.tk_problem_text.specs.Reader.Parts.{HasParts}
 use Rattle.tk_problem_text.specs.Sections.Rows.{row_of, demand_rows}
 use Rattle.tk_problem_text.specs.Problem.{first_kind, over_capacity, weights_ends, routing_ends_of, problem_end}
 use Rattle.tk_problem_text.specs.Problem.{size_of, demands_of, depot_of, capacity_of, problem_type}

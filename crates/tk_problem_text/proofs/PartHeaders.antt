@@ -12,9 +12,9 @@ use Rattle.tk_problem.specs.declared.weights.Weights.TheVariants.{Lower}
 use Rattle.tk_problem.specs.Shape.{WeightsFit}
 use Rattle.tk_words.specs.Words.{same_word}
 use Rattle.tk_lines.specs.Pieces.{Piece, Stop, Fault, first_at, has, tokens_in}
-use Rattle.tk_lines.specs.Forms.{a_header}
-use Rattle.tk_problem_text.specs.Headers.{HasHeaders}
-use Rattle.tk_problem_text.specs.Parts.{HasParts, KeepsValue, HasNoSection}
+use Rattle.tk_lines.specs.Reader.Forms.{a_header}
+use Rattle.tk_problem_text.specs.Reader.Headers.{HasHeaders}
+use Rattle.tk_problem_text.specs.Reader.Parts.{HasParts, KeepsValue, HasNoSection}
 use Rattle.tk_problem_text.specs.Problem.{problem_header, size_of, format_in, points_of, lower_of, demands_of, depot_of}
 use Rattle.tk_problem_text.specs.HeaderValues.{number_of}
 use Rattle.tk_lines.proofs.Pieces.PieceLookups.{tokens_in-header}

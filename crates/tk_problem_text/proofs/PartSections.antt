@@ -11,8 +11,8 @@ use Rattle.tk_problem.specs.Shape.{WeightsFit}
 use Rattle.tk_words.specs.Lex.{Token}
 use Rattle.tk_words.specs.Words.{same_word}
 use Rattle.tk_lines.specs.Pieces.{Piece, After, has, tokens_in}
-use Rattle.tk_lines.specs.Forms.{a_section}
-use Rattle.tk_problem_text.specs.Parts.{HasParts, KeepsValue, HasNoSection}
+use Rattle.tk_lines.specs.Reader.Forms.{a_section}
+use Rattle.tk_problem_text.specs.Reader.Parts.{HasParts, KeepsValue, HasNoSection}
 use Rattle.tk_problem_text.specs.Problem.{size_of, format_in, points_of, lower_of, demands_of, depot_of}
 use Rattle.tk_problem_text.specs.HeaderValues.{number_of}
 use Rattle.std.specs.declared.alloc.Global.{Global}

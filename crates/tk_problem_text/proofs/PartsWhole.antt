@@ -20,14 +20,14 @@ use Rattle.tk_problem.specs.declared.weights.PlaneKind.{PlaneKind}
 use Rattle.tk_problem_text.specs.declared.parts.Parts.{Parts}
 use Rattle.tk_problem.specs.declared.weights.Weights.TheVariants.{Lower}
 use Rattle.tk_words.specs.Lex.{integer}
-use Rattle.tk_lines.specs.Scan.{first_word}
+use Rattle.tk_lines.specs.HeaderValue.{first_word}
 use Rattle.tk_problem_text.specs.HeaderValues.{number_of, between}
 use Rattle.tk_problem.specs.Shape.{WeightsFit, IsRouting}
 use Rattle.tk_lines.specs.Pieces.{Piece, has, value_of, tokens_in}
 use Rattle.tk_problem_text.specs.Sections.Rows.{row_of, place_rows, demand_rows}
 use Rattle.tk_problem.specs.Places.{origin}
-use Rattle.tk_problem_text.specs.Parts.{HasParts, IsWhole, MakesWeights, MakesRouting, weights_in, routing_in}
-use Rattle.tk_problem_text.specs.Parts.{problem_in}
+use Rattle.tk_problem_text.specs.Reader.Parts.{HasParts, IsWhole, MakesWeights, MakesRouting, weights_in, routing_in}
+use Rattle.tk_problem_text.specs.Reader.Parts.{problem_in}
 use Rattle.tk_problem_text.specs.Problem.{first_kind, over_capacity, weights_ends, routing_ends, routing_ends_of}
 use Rattle.tk_problem_text.specs.Problem.{problem_end, problem_value, problem_type, weight_type, size_of, points_of}
 use Rattle.tk_problem_text.specs.Problem.{lower_of, demands_of, depot_of, capacity_of, is_explicit, is_cvrp}

@@ -12,15 +12,15 @@ use Rattle.tk_problem_text.specs.declared.sections.open_section.OpenSection.TheV
 use Rattle.tk_problem_text.specs.declared.sections.open_section.OpenSection.TheVariants.{Loads, Home, Display}
 use Rattle.tk_words.specs.Lex.{Token, is_empty}
 use Rattle.tk_lines.specs.Pieces.{Piece, After, Early, Fault, Format, has}
-use Rattle.tk_lines.specs.Forms.{a_section, Goes, HasTaken}
+use Rattle.tk_lines.specs.Reader.Forms.{a_section, Goes, HasTaken}
 use Rattle.std.specs.Prelude.{map, slice_index}
 use Rattle.tk_problem.specs.declared.limits.TheConstants.{TABLE_LIMIT}
 use Rattle.tk_problem_text.specs.Sections.Rows.{number_in}
 use Rattle.tk_problem_text.specs.Problem.{size_of, problem_format}
-use Rattle.tk_problem_text.specs.Sections.Coordinates.{Placing, HasPlaces}
-use Rattle.tk_problem_text.specs.Sections.Demands.{Loading, HasDemands}
-use Rattle.tk_problem_text.specs.Sections.DepotTaken.{IsDepot}
-use Rattle.tk_problem_text.specs.Sections.OpenSections.{IsOpen, IsPast, IsFirst}
+use Rattle.tk_problem_text.specs.Reader.Coordinates.{Placing, HasPlaces}
+use Rattle.tk_problem_text.specs.Reader.Demands.{Loading, HasDemands}
+use Rattle.tk_problem_text.specs.Reader.DepotTaken.{IsDepot}
+use Rattle.tk_problem_text.specs.Reader.OpenSections.{IsOpen, IsPast, IsFirst}
 use Rattle.tk_problem_text.proofs.SectionTokens.DepotTaken.{node_of}
 use Rattle.tk_problem_text.proofs.SectionTokens.FixedSections as Fixed
 use Rattle.tk_problem_text.proofs.SectionTokens.DepotList as Home

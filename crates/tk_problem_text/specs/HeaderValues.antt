@@ -13,7 +13,7 @@ use Rattle.tk_problem_text.specs.declared.header_values.WeightFormat.{WeightForm
 use Rattle.tk_problem_text.specs.declared.header_values.WeightFormat.TheVariants as weight_formats
 use Rattle.tk_words.specs.Lex.{integer, trim, after_word, is_empty}
 use Rattle.tk_words.specs.Words.{spells}
-use Rattle.tk_lines.specs.Scan.{first_word}
+use Rattle.tk_lines.specs.HeaderValue.{first_word}
 
 -- the first word of a header's value spells this text, without regard to case
 abbrev pub says : List ℕ → List ℕ → Bool

@@ -1,8 +1,6 @@
 pub mod HeaderValues
-pub mod Headers
-pub mod Kept
 pub mod Names
-pub mod Parts
 pub mod Problem
-pub mod ProblemForm
+pub mod ProblemOf
+pub mod Reader
 pub mod Sections

@@ -22,7 +22,7 @@ use Rattle.tk_problem_text.specs.declared.header_values.WeightType.{WeightType}
 use Rattle.tk_problem_text.specs.declared.header_values.WeightType.TheVariants as weight_types
 use Rattle.tk_problem_text.specs.declared.header_values.WeightFormat.{WeightFormat}
 use Rattle.tk_problem_text.specs.declared.header_values.WeightFormat.TheVariants as weight_formats
-use Rattle.tk_lines.specs.Scan.{first_word}
+use Rattle.tk_lines.specs.HeaderValue.{first_word}
 use Rattle.tk_lines.specs.Pieces.{Piece, Extent, Stop, first_at, or_else, After, has, value_of, tokens_in, Format}
 use Rattle.tk_lines.specs.Pieces.{decided_by}
 use Rattle.tk_words.specs.Entry.{number_tests}

@@ -1,11 +1,4 @@
-pub mod BegunSections
-pub mod Coordinates
-pub mod Demands
 pub mod DepotList
-pub mod DepotTaken
 pub mod FixedSections
-pub mod Nodes
-pub mod OpenSections
 pub mod Rows
-pub mod Weighing
 pub mod WeightSection

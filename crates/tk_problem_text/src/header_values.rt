@@ -1,7 +1,7 @@
 //! What the values of a problem's headers say.
 ghost use Rattle.std.specs.Prelude.{◌≡◌, List, ℕ};
 ghost use Rattle.tk_problem_text.specs.HeaderValues as Values;
-ghost use Rattle.tk_lines.specs.Scan.{Scans};
+ghost use Rattle.tk_lines.specs.Reader.Scan.{Scans};
 
 use tk_lines::Scan;
 use tk_problem::{Format, PlaneKind};

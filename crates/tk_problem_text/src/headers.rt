@@ -5,11 +5,11 @@ ghost use Rattle.tk_words.specs.declared.keyword.Keyword.{Keyword};
 ghost use Rattle.tk_words.specs.declared.fault.TextKind.{TextKind};
 ghost use Rattle.tk_words.specs.Words.{same_word};
 ghost use Rattle.tk_lines.specs.Pieces.{Piece, has, first_at, Fault};
-ghost use Rattle.tk_problem_text.specs.Kept.{Keeps, Says, once};
-ghost use Rattle.tk_lines.specs.Forms.{IsToldWord, a_header};
+ghost use Rattle.tk_problem_text.specs.Reader.Kept.{Keeps, Says, once};
+ghost use Rattle.tk_lines.specs.Reader.Forms.{IsToldWord, a_header};
 ghost use Rattle.tk_problem_text.specs.Problem.{problem_header};
-ghost use Rattle.tk_lines.specs.Scan.{Scans};
 ghost use Rattle.tk_words.specs.Lex.{trim, after_word};
+ghost use Rattle.tk_lines.specs.Reader.FormSteps.{RefusesHeader, TakesHeader};
 
 use crate::header_values::{
     ProblemType, WeightFormat, WeightType, is_coordinate_type, problem_type_of, weight_format_of,
@@ -68,7 +68,7 @@ fn note(came: &mut bool) -> Result<(), TextKind>
 }
 
 impl Headers {
-    ghost use Rattle.tk_problem_text.specs.Headers.{HasHeaders};
+    ghost use Rattle.tk_problem_text.specs.Reader.Headers.{HasHeaders};
     ghost use Rattle.tk_words.specs.declared.keyword.Keyword.TheVariants as words;
 
     /// Before the first one.
@@ -97,11 +97,8 @@ impl Headers {
     /// The first fault of the header: `Repeated`, `Unsupported`, `BadNumber`, `OutOfLimit` or `TooLong`, and `NoMemory`
     /// if there is no memory for a name.
     pub fn take(&mut self, alloc: Global, word: Keyword, value: &Scan) -> Result<(), TextKind>
-        ensures ok { (ps : List Piece) (v : List ℕ) (n : ℕ) → HasHeaders self.old ps → Scans value.now v
-            → IfOk result (λ _. HasHeaders self.new (ps ++ a_header word v n)
-            × (first_at n (problem_header ps word v) ≡ None)) }
-        ensures err { (ps : List Piece) (v : List ℕ) (n : ℕ) → HasHeaders self.old ps → Scans value.now v
-            → IfErr result (IsToldWord (λ k. first_at n (problem_header ps word v) ≡ Some (Fault n k))) }
+        ensures ok { TakesHeader HasHeaders problem_header word value.now self.old self.new result }
+        ensures err { RefusesHeader HasHeaders problem_header word value.now self.old result }
     {
         match word {
             Keyword::Name => self.take_name(alloc, value),
@@ -135,11 +132,8 @@ impl Headers {
 
     /// Takes the name.
     fn take_name(&mut self, alloc: Global, value: &Scan) -> Result<(), TextKind>
-        ensures ok { (ps : List Piece) (v : List ℕ) (n : ℕ) → HasHeaders self.old ps → Scans value.now v
-            → IfOk result (λ _. HasHeaders self.new (ps ++ a_header words.Name v n)
-            × (first_at n (problem_header ps words.Name v) ≡ None)) }
-        ensures err { (ps : List Piece) (v : List ℕ) (n : ℕ) → HasHeaders self.old ps → Scans value.now v
-            → IfErr result (IsToldWord (λ k. first_at n (problem_header ps words.Name v) ≡ Some (Fault n k))) }
+        ensures ok { TakesHeader HasHeaders problem_header words.Name value.now self.old self.new result }
+        ensures err { RefusesHeader HasHeaders problem_header words.Name value.now self.old result }
     {
         match value.name() {
             None => Err(TextKind::TooLong),

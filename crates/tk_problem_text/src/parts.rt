@@ -1,15 +1,16 @@
 //! The headers and sections of a problem that came so far.
-ghost use Rattle.std.specs.Prelude.{◌≡◌, ◌≤◌, ◌<◌, ◌-◌, ◌^◌, ◌++◌, ℕ, List, [], Some, None, IfOk, IfErr, IfSome};
+ghost use Rattle.std.specs.Prelude.{◌≡◌, ◌≤◌, ◌<◌, ◌-◌, ◌^◌, ◌++◌, ℕ, List, [], Some, None, IfOk, IfSome};
 ghost use Rattle.std.specs.Prelude.{length, slice_index};
 ghost use Rattle.tk_problem.specs.declared.limits.TheConstants.{TABLE_LIMIT};
-ghost use Rattle.tk_lines.specs.Pieces.{Piece, first_at, Fault};
-ghost use Rattle.tk_lines.specs.Forms.{IsToldWord, a_header};
+ghost use Rattle.tk_lines.specs.Pieces.{Piece};
+ghost use Rattle.tk_lines.specs.Reader.Forms.{IsToldWord};
 ghost use Rattle.tk_problem_text.specs.Problem.{problem_header, problem_end, first_kind, weights_ends, routing_ends_of};
 ghost use Rattle.tk_problem_text.specs.Problem.{over_capacity};
-ghost use Rattle.tk_lines.specs.Scan.{Scans};
-ghost use Rattle.tk_problem_text.specs.Parts.{MakesWeights, MakesRouting, weights_are, weights_in, routing_is};
-ghost use Rattle.tk_problem_text.specs.Parts.{routing_in};
+ghost use Rattle.tk_problem_text.specs.Reader.Parts.{MakesWeights, MakesRouting, weights_in};
+ghost use Rattle.tk_problem_text.specs.ProblemOf.{weights_are, routing_is};
+ghost use Rattle.tk_problem_text.specs.Reader.Parts.{routing_in};
 ghost use Rattle.tk_problem.specs.Shape.{WeightsFit, RoutingFits};
+ghost use Rattle.tk_lines.specs.Reader.FormSteps.{RefusesHeader, TakesHeader};
 
 use crate::header_values::{ProblemType, WeightType};
 use crate::headers::Headers;
@@ -35,11 +36,12 @@ impl Parts {
     ghost use Rattle.tk_problem.specs.declared.weights.Weights.TheVariants as weights;
     ghost use Rattle.tk_words.specs.Lex.{Token};
     ghost use Rattle.tk_lines.specs.Pieces.{After, has};
-    ghost use Rattle.tk_lines.specs.Forms.{a_section};
+    ghost use Rattle.tk_lines.specs.Reader.Forms.{a_section};
     ghost use Rattle.tk_problem_text.specs.Sections.Rows.{places_of, demands_of, number_in};
     ghost use Rattle.tk_problem_text.specs.Sections.WeightSection.{lower_weights};
     ghost use Rattle.tk_problem_text.specs.Problem.{size_of, format_in};
-    ghost use Rattle.tk_problem_text.specs.Parts.{HasParts, IsWhole, problem_is, problem_in};
+    ghost use Rattle.tk_problem_text.specs.Reader.Parts.{HasParts, IsWhole, problem_in};
+    ghost use Rattle.tk_problem_text.specs.ProblemOf.{problem_is};
 
     /// Before the first one.
     ///
@@ -68,11 +70,8 @@ impl Parts {
         word: Keyword,
         value: &Scan,
     ) -> Result<(), TextKind>
-        ensures ok { (ps : List Piece) (v : List ℕ) (n : ℕ) → HasParts self.old ps → Scans value.now v
-            → IfOk result (λ _. HasParts self.new (ps ++ a_header word v n)
-            × (first_at n (problem_header ps word v) ≡ None)) }
-        ensures err { (ps : List Piece) (v : List ℕ) (n : ℕ) → HasParts self.old ps → Scans value.now v
-            → IfErr result (IsToldWord (λ k. first_at n (problem_header ps word v) ≡ Some (Fault n k))) }
+        ensures ok { TakesHeader HasParts problem_header word value.now self.old self.new result }
+        ensures err { RefusesHeader HasParts problem_header word value.now self.old result }
     {
         self.headers.take(alloc, word, value)
     }

@@ -1,12 +1,13 @@
 //! What a problem text says so far.
-ghost use Rattle.std.specs.Prelude.{◌≡◌, ◌≤◌, ℕ, true, false, List, [], length, IfOk, IfErr};
+ghost use Rattle.std.specs.Prelude.{◌≡◌, ℕ, true, false, List, [], IfOk};
 ghost use Rattle.tk_words.specs.declared.keyword.Keyword.{Keyword};
 ghost use Rattle.tk_words.specs.declared.keyword.Keyword.TheVariants as words;
-ghost use Rattle.tk_problem_text.specs.Sections.OpenSections.{IsPast};
-ghost use Rattle.tk_problem_text.specs.Parts.{HasParts, problem_is};
+ghost use Rattle.tk_problem_text.specs.Reader.OpenSections.{IsPast};
+ghost use Rattle.tk_problem_text.specs.Reader.Parts.{HasParts};
+ghost use Rattle.tk_problem_text.specs.ProblemOf.{problem_is};
 ghost use Rattle.tk_lines.specs.Pieces.{Piece, has};
 ghost use Rattle.tk_problem_text.specs.Problem.{ProblemIs};
-ghost use Rattle.tk_problem_text.specs.ProblemForm.{ProblemHolds, problem_promise};
+ghost use Rattle.tk_problem_text.specs.Reader.ProblemForm.{ProblemHolds, problem_promise};
 
 use crate::parts::Parts;
 use crate::sections::begin::begin;
@@ -15,7 +16,7 @@ use std::alloc::{AllocError, Global};
 use std::mem;
 use tk_lines::{Form, Scan, Taken};
 use tk_problem::Problem;
-use tk_words::{Keyword, TextKind};
+use tk_words::{Keyword, Lexeme, TextKind};
 
 /// What a problem text says so far, and the section whose tokens come.
 #[derive(Drop)]
@@ -79,8 +80,9 @@ impl Form for ProblemForm {
         Ok(())
     }
 
-    fn token(&mut self, bytes: &[u8]) -> Result<Taken, TextKind> {
-        let taken = self.current.take(bytes)?;
+    #[inline(always)]
+    fn token(&mut self, token: &Lexeme) -> Result<Taken, TextKind> {
+        let taken = self.current.take(token)?;
         match taken {
             Taken::More => Ok(taken),
             _ => {

@@ -1,7 +1,7 @@
 //! Problem texts.
 ghost use Rattle.std.specs.Prelude.{◌≡◌, Ok, IfOk, IfErr};
 ghost use Rattle.tk_words.specs.Texts.{IsAnswerWhereTold, IsFaultWhereTold, IsOfSomeText, IsFaultOfSomeText, IsIntact};
-ghost use Rattle.tk_problem_text.specs.Parts.{problem_is};
+ghost use Rattle.tk_problem_text.specs.ProblemOf.{problem_is};
 ghost use Rattle.tk_problem_text.specs.Problem.{problem_texts};
 ghost use Rattle.tk_problem_text.specs.Names.{IsName};
 

@@ -7,7 +7,7 @@ ghost use Rattle.tk_text.specs.HeaderValues.{name_of};
 ghost use Rattle.tk_text.specs.Lex.{after_word, integer, trim};
 ghost use Rattle.tk_text_tests.specs.NumberExamples as Numbers;
 ghost use Rattle.tk_text_tests.specs.ProblemExamples as Problems;
-ghost use Rattle.tk_text.specs.Scan.{first_word};
+ghost use Rattle.tk_text.specs.HeaderValue.{first_word};
 ghost use Rattle.tk_text.specs.Solution.{route_head};
 ghost use Rattle.tk_text_tests.specs.SolutionExamples as Solutions;
 ghost use Rattle.tk_text.specs.Entry.{is_eof, is_keyword};

@@ -1,3 +1,4 @@
 pub mod Digits
 pub mod MinusOne
+pub mod Naturals
 pub mod Numbers

@@ -1,5 +1,6 @@
 pub mod Decimal
 pub mod Entry
+pub mod FirstToken
 pub mod Lex
 pub mod MinusOne
 pub mod Sources

@@ -1,8 +1,8 @@
 -- What a reader has made of bytes that follow those which it has taken.
-use Rattle.std.specs.Prelude.{◌≡◌, ℕ, ◌<◌, ◌≤◌, Bool, true, false, List, ◌++◌, length, take, Result, Ok, Err}
+use Rattle.std.specs.Prelude.{ℕ, ◌≤◌, Bool, true, false, List, ◌++◌, length, take, Result, Ok, Err}
 use Rattle.tk_words.specs.declared.sources.text_reader.Step.{Step}
 use Rattle.tk_words.specs.declared.sources.text_reader.Step.TheVariants.{Taken, Done}
-use Rattle.tk_words.specs.Texts.{Texts, Decides, DecidesEnded, DecidesWithin, IsTold, Answers}
+use Rattle.tk_words.specs.Texts.{Texts, DecidesEnded, DecidesWithin, IsTold, Answers}
 
 -- some of them, at least one, are taken; or some of them make the text whole, and all that its value is made of is
 -- held; or they show a fault

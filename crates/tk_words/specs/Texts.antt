@@ -5,6 +5,12 @@
 --     IsAnswer texts text rest a      what a reader answered
 --     IsCutOff texts line text rest      where its source failed
 --     IsFaultWhereTold texts broken old new f      what a fault says
+--
+-- A text is read from its front, and no further than its answer needs: where its first bytes show a fault, or that it
+-- ends, what follows is not read. So a definition of a format says what bytes say in two cases: that they are all, and
+-- that more may follow (`decided true`, `decided false`). In the second, the last line, and the last token on it, may
+-- go on: they are not `whole`. What they decide as they are, no more bytes change; where more bytes could, the answer
+-- is `None`. The laws of TextLaws.antt hold of each format: every text has an answer, and what is decided stays.
 use Rattle.std.specs.Prelude.{◌≡◌, ◌≢◌, ℕ, suc, ◌≤◌, IfSome, Bool, true, false, nat_le, ◌==◌, count_by, List, []}
 use Rattle.std.specs.Prelude.{◌++◌, length, take, Option, Some, None, Result, Ok, Err, if◌then◌else◌, unwrap_or}
 use Rattle.tk_words.specs.declared.fault.TextKind.{TextKind}

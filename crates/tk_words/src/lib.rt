@@ -4,13 +4,15 @@
 mod fault;
 mod held;
 mod keyword;
+mod lexeme;
 mod numbers;
 mod sources;
 mod words;
 
 pub use fault::{TextFault, TextKind};
-pub use held::{Held, blank, blank_or_end, letter, spelled, token_length, word_byte};
+pub use held::{Held, blank, blank_or_end, letter, spelled, word_byte};
 pub use keyword::{Keyword, Role, each_word_spells_its_keyword};
+pub use lexeme::Lexeme;
 pub use numbers::decimals::decimal;
 pub use numbers::entries::{Entry, begins_minus_one, entry_of, keyword_in, limited, minus_one};
 pub use numbers::integers::integer;

@@ -11,7 +11,7 @@ use Rattle.tk_words.specs.Lex.{Line, Token, is_blank, behind, integer, lines, to
 use Rattle.tk_writers.specs.MatrixText.{number_line}
 use Rattle.tk_lines.specs.Pieces.{Piece, Section, Clean, end_piece, end_token, last_line, pieces_at, section_at, stop}
 use Rattle.tk_writers.specs.ReadBack.{IsTour, TourReadsBack}
-use Rattle.tk_lines.specs.Scan.{first_word}
+use Rattle.tk_lines.specs.HeaderValue.{first_word}
 use Rattle.tk_lines.specs.Lists.{entries, list_extent, AreEntries}
 use Rattle.tk_lists.specs.Tour.{entries_stop, entry_stop, tour_decided, tour_format, tour_texts}
 use Rattle.tk_words.specs.Entry.{is_eof, is_eof_word, is_keyword, is_some_word, natural_or_zero, numbers_of}

@@ -2,7 +2,7 @@
 ghost use Rattle.std.specs.Prelude.{◌≡◌, ◌≢◌, ◌⊎◌, ◌≤◌, ◌<◌, ◌*◌, ◌-◌, min, length, IfOk, IfErr};
 ghost use Rattle.tk_problem.specs.declared.limits.TheConstants.{CANDIDATE_LIMIT};
 ghost use Rattle.tk_text.specs.Problem.{problem_texts};
-ghost use Rattle.tk_text.specs.Parts.{problem_is, weights_are};
+ghost use Rattle.tk_text.specs.ProblemOf.{problem_is, weights_are};
 ghost use Rattle.tk_metric.specs.Tables.{table_distance, table_size};
 ghost use Rattle.tk_engines.specs.ReadProblems.{read_distance};
 ghost use Rattle.tourkit_c.specs.Answers.{IsRefused};

@@ -3,7 +3,7 @@ ghost use Rattle.std.specs.Prelude.{◌≡◌, ◌≤◌, true, pos, OnErr, IfEr
 ghost use Rattle.tk_problem.specs.declared.limits.TheConstants.{TABLE_LIMIT};
 ghost use Rattle.tk_distance.specs.Cities.{IsCity};
 ghost use Rattle.tk_distance.specs.Tables.{table_size, table_distance};
-ghost use Rattle.tk_problem_text.specs.Parts.{problem_is};
+ghost use Rattle.tk_problem_text.specs.ProblemOf.{problem_is};
 ghost use Rattle.tk_writers.specs.Puts.{Writes};
 ghost use Rattle.tk_problem_text.specs.Names.{IsName};
 ghost use Rattle.tk_engines.specs.Engine.{Ends, ReadsProblem, NoText, IsUntouched, UnlessWrite, AtWrite};

@@ -2,7 +2,7 @@
 ghost use Rattle.std.specs.Prelude.{◌≡◌, ◌≤◌, ◌≤ℤ◌, ◌∷◌, pos, IfOk, IfErr, OnErr, MatchOption, is_some, length};
 ghost use Rattle.std.specs.List.{concat};
 ghost use Rattle.tk_problem.specs.declared.limits.TheConstants.{CITY_LIMIT, ENTRY_LIMIT, ROUTE_LIMIT};
-ghost use Rattle.tk_problem_text.specs.Parts.{problem_is};
+ghost use Rattle.tk_problem_text.specs.ProblemOf.{problem_is};
 ghost use Rattle.tk_tour.specs.Tour.{IsTour};
 ghost use Rattle.tk_routes.specs.Cvrps.{instance_of};
 ghost use Rattle.tk_routes.specs.RouteLists.{routes_of};

@@ -8,10 +8,10 @@ use Rattle.tk_words.specs.declared.fault.TextKind.TheVariants as kinds
 use Rattle.tk_words.specs.Lex.{Token, integer, tokens, lines, is_empty, is_blank, is_letter, LF, IsRun}
 use Rattle.tk_lines.specs.Pieces.{Piece, Clean, Trailing, Stop, Fault, Extent, Format, last_line, cut, judge, stopped}
 use Rattle.tk_lines.specs.Pieces.{decided_by}
-use Rattle.tk_lines.specs.FromMiddle.{prepend, from_line, in_section, goes, new_pieces}
+use Rattle.tk_lines.specs.Reader.FromMiddle.{prepend, from_line, in_section, goes, new_pieces}
 use Rattle.tk_words.specs.MinusOne.{is_minus_one, one_more, begins_minus_one}
-use Rattle.tk_lines.specs.Forms.{whole, Closed, Ends, a_section}
-use Rattle.tk_lines.specs.Reader.{Next, Within, anything, this, a_gap, DecidesIf, AtClose, AtAfter}
+use Rattle.tk_lines.specs.Reader.Forms.{whole, Closed, Ends, a_section}
+use Rattle.tk_lines.specs.Reader.Places.{Next, Within, anything, this, a_gap, DecidesIf, AtClose, AtAfter}
 use Rattle.tk_words.proofs.Bools.{and_false}
 use Rattle.tk_lines.proofs.Sections.MiddleOfSection.{run_head}
 use Rattle.tk_lines.proofs.Sections.SectionEnds.{first_line, take_whole, in_section-closed}

@@ -7,10 +7,11 @@ use Rattle.tk_words.specs.declared.keyword.Keyword.{Keyword}
 use Rattle.tk_words.specs.declared.fault.TextKind.TheVariants as kinds
 use Rattle.tk_words.specs.Lex.{LF, Token, tokens, lines, is_blank, is_letter, IsRun}
 use Rattle.tk_lines.specs.Pieces.{Piece, Clean, Trailing, Stop, Fault, Format, last_line, stopped}
-use Rattle.tk_lines.specs.FromMiddle.{prepend, from_line, in_section}
+use Rattle.tk_lines.specs.Reader.FromMiddle.{prepend, from_line, in_section}
 use Rattle.tk_words.specs.MinusOne.{one_more}
-use Rattle.tk_lines.specs.Forms.{whole, Ends, a_section}
-use Rattle.tk_lines.specs.Reader.{Next, Within, anything, this, a_gap, DecidesIf, AtLine, AtToken, AtAfter, IsLastLine}
+use Rattle.tk_lines.specs.Reader.Forms.{whole, Ends, a_section}
+use Rattle.tk_lines.specs.Reader.Places.{Next, Within, anything, this, a_gap, DecidesIf, AtLine, AtToken, AtAfter}
+use Rattle.tk_lines.specs.Reader.Places.{IsLastLine}
 use Rattle.tk_lines.proofs.Sections.MiddleOfSection.{in_section-byte, in_section-next}
 use Rattle.tk_lines.proofs.Sections.SectionEnds.{in_section-closed, first_line}
 use Rattle.tk_lines.proofs.Sections.SectionBytes.{in_section-drop, in_section-trailing, first_token}

@@ -12,12 +12,13 @@ use Rattle.tk_lines.specs.declared.place.Place.TheVariants as places
 use Rattle.tk_words.specs.Lex.{Line, Token, lines, is_word_byte}
 use Rattle.tk_lines.specs.Pieces.{Piece, Clean, Early, Fault, Stop, Format, cut, judge, end_piece, stopped, ended}
 use Rattle.tk_lines.specs.Pieces.{decided_by}
-use Rattle.tk_lines.specs.FromMiddle.{from_line}
+use Rattle.tk_lines.specs.Reader.FromMiddle.{from_line}
 use Rattle.tk_words.specs.Texts.{cause_of}
-use Rattle.tk_lines.specs.Forms.{Promise, a_header, a_section}
-use Rattle.tk_lines.specs.Reader.{Within, anything, no_word, a_gap, a_line_end, at_end, DecidesIf, AtLine, AtTail}
-use Rattle.tk_lines.specs.Reader.{AtValue, AtBegin, AtToken, AtClose, AtAfter, AtPlace, HeaderTaken, AtEnd, Fed}
-use Rattle.tk_lines.specs.Steps.{EndsPlace, IsSettled, IsAnswered, IsRefused, Waits}
+use Rattle.tk_lines.specs.Reader.Forms.{Promise, a_header, a_section}
+use Rattle.tk_lines.specs.Reader.Places.{Within, anything, no_word, a_gap, a_line_end, at_end, DecidesIf, AtLine}
+use Rattle.tk_lines.specs.Reader.Places.{AtTail}
+use Rattle.tk_lines.specs.Reader.Places.{AtValue, AtBegin, AtToken, AtClose, AtAfter, AtPlace, HeaderTaken, AtEnd, Fed}
+use Rattle.tk_lines.specs.Reader.Steps.{EndsPlace, IsSettled, IsAnswered, IsRefused, Waits}
 use Rattle.tk_words.proofs.Told.{told_of}
 use Rattle.tk_lines.proofs.MiddleOfLine.{prepend-nil}
 use Rattle.tk_lines.proofs.Lines.{word_ends_behind, from_line-last}

@@ -9,9 +9,9 @@ use Rattle.tk_words.specs.declared.fault.TextFault.{TextFault}
 use Rattle.tk_words.specs.Lex.{Token, lines, tokens_of, onto_token, is_word_byte, IsRun}
 use Rattle.tk_words.specs.Words.{keyword_of, role}
 use Rattle.tk_lines.specs.Pieces.{Piece, End, Clean, Early, Format, last_line, cut, judge, stopped, ended, decided_by}
-use Rattle.tk_lines.specs.FromMiddle.{from_line, in_section, goes, new_pieces}
-use Rattle.tk_lines.specs.Forms.{Goes, a_section}
-use Rattle.tk_lines.specs.Reader.{anything, IsWord, AtLine, AtToken, AtClose, AtAfter}
+use Rattle.tk_lines.specs.Reader.FromMiddle.{from_line, in_section, goes, new_pieces}
+use Rattle.tk_lines.specs.Reader.Forms.{Goes, a_section}
+use Rattle.tk_lines.specs.Reader.Places.{anything, IsWord, AtLine, AtToken, AtClose, AtAfter}
 use Rattle.tk_words.proofs.Bools.{and_false}
 use Rattle.tk_lines.proofs.Sections.MiddleOfSection.{tokens_of-none, tokens_of-more, tokens_of-end, run_head}
 use Rattle.tk_lines.proofs.Sections.SectionEnds.{First, take_whole}

@@ -3,7 +3,7 @@ use Rattle.std.proofs.Common.{◌≡◌, ℕ, zero, suc, ◌<◌, Bool, true, fa
 use Rattle.std.proofs.Common.{take, refl, sym, ap, ◌∙◌, append_assoc, arith}
 use Rattle.std.proofs.lemmas.List.{append-nil}
 use Rattle.tk_words.specs.Lex.{is_blank, is_empty, front, behind, after_word, without_colon_before, trim_end}
-use Rattle.tk_lines.specs.Scan.{IsEmpty, Settled}
+use Rattle.tk_lines.specs.Reader.Scan.{IsEmpty, Settled}
 
 behind-all_step : (p : ℕ → Bool) (x : ℕ) (xs ys : List ℕ) (t : Bool) →
     (behind p xs ≡ [] → behind p (xs ++ ys) ≡ behind p ys) → cond t (behind p xs) (x ∷ xs) ≡ [] →

@@ -5,7 +5,8 @@ use Rattle.std.proofs.lemmas.List.{length-append, length-take, append-nil}
 use Rattle.tk_lines.specs.declared.scan.Phase.TheVariants as phases
 use Rattle.tk_lines.specs.declared.scan.Scan.{Scan}
 use Rattle.tk_words.specs.Lex.{is_blank, is_empty, front, behind, after_word, trim, trim_end}
-use Rattle.tk_lines.specs.Scan.{IsEmpty, Settled, Scans, InPhase, body, first_word, not_blank}
+use Rattle.tk_lines.specs.Reader.Scan.{IsEmpty, Settled, Scans, InPhase}
+use Rattle.tk_lines.specs.HeaderValue.{body, first_word, not_blank}
 use Rattle.tk_lines.proofs.Headers.ByteRuns.{behind-all, front-all, front-whole, behind-on, front-on, trim_end-blank}
 use Rattle.tk_lines.proofs.Headers.ByteRuns.{trim_end-solid, take-room, take-full, settled_more, after_colon}
 use Rattle.tk_lines.proofs.Headers.ByteRuns.{settled_colon, after_other, settled_other}

@@ -6,7 +6,8 @@ use Rattle.std.proofs.lemmas.List.{take_all, length-take-le}
 use Rattle.std.proofs.lemmas.Bool.{leb-true, leb-false, le-leb}
 use Rattle.tk_words.specs.declared.fault.TextKind.TheVariants as kinds
 use Rattle.tk_lines.specs.declared.scan.Scan.{Scan}
-use Rattle.tk_lines.specs.Scan.{Scans, first_word}
+use Rattle.tk_lines.specs.Reader.Scan.{Scans}
+use Rattle.tk_lines.specs.HeaderValue.{first_word}
 use Rattle.tk_words.specs.Lex.{integer}
 use Rattle.tk_words.specs.Words.{spells}
 use Rattle.tk_lines.specs.Pieces.{first_at, Fault}

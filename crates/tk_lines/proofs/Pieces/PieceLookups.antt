@@ -4,7 +4,7 @@ use Rattle.tk_words.specs.declared.keyword.Keyword.{Keyword}
 use Rattle.tk_words.specs.Lex.{Token}
 use Rattle.tk_words.specs.Words.{same_word}
 use Rattle.tk_lines.specs.Pieces.{Piece, Stray, LongWord, OpenWord, Unknown, Header, Section, End, has, tokens_in}
-use Rattle.tk_lines.specs.Forms.{a_header}
+use Rattle.tk_lines.specs.Reader.Forms.{a_header}
 use Rattle.tk_words.proofs.Bools.{or_true}
 
 or_assoc : (s t u : Bool) → ((s || t) || u) ≡ (s || (t || u))

@@ -6,7 +6,7 @@ use Rattle.tk_words.specs.Lex.{Token}
 use Rattle.tk_words.specs.Words.{same_word}
 use Rattle.tk_lines.specs.Pieces.{Piece, Stray, LongWord, OpenWord, Unknown, Header, Section, End, After, has, value_of}
 use Rattle.tk_lines.specs.Pieces.{tokens_in}
-use Rattle.tk_lines.specs.Forms.{a_header, a_section}
+use Rattle.tk_lines.specs.Reader.Forms.{a_header, a_section}
 use Rattle.tk_lines.proofs.Pieces.PieceLookups.{has-append, either_false}
 
 or_none : (a : Bool) → (a || false) ≡ a

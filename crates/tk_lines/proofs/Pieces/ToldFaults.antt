@@ -5,7 +5,7 @@ use Rattle.std.specs.List.{AllByRecursion}
 use Rattle.tk_words.specs.declared.fault.TextKind.{TextKind}
 use Rattle.tk_words.specs.declared.fault.TextKind.TheVariants as kinds
 use Rattle.tk_lines.specs.Pieces.{Fault, first_at}
-use Rattle.tk_lines.specs.Forms.{IsToldWord}
+use Rattle.tk_lines.specs.Reader.Forms.{IsToldWord}
 
 -- a fault of reading, which no test tells
 abbrev pub is_read : TextKind → Bool

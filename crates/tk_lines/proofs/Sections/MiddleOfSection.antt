@@ -7,7 +7,7 @@ use Rattle.tk_words.specs.declared.keyword.Keyword.{Keyword}
 use Rattle.tk_words.specs.Lex.{LF, Line, Token, onto_line, onto_token, goes_on, lines, tokens, tokens_of, is_blank}
 use Rattle.tk_words.specs.Lex.{is_empty, behind, IsRun}
 use Rattle.tk_lines.specs.Pieces.{Piece, Extents, covered, cut, Format}
-use Rattle.tk_lines.specs.FromMiddle.{in_section, goes, new_pieces, end_of}
+use Rattle.tk_lines.specs.Reader.FromMiddle.{in_section, goes, new_pieces, end_of}
 use Rattle.tk_lines.proofs.MiddleOfLine.{prepend-onto, prepend-nil, lines-byte, lines-LF, lines_cons, end_token-bytes}
 use Rattle.tk_words.proofs.Bools.{or_true}
 

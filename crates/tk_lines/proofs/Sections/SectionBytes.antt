@@ -12,9 +12,9 @@ use Rattle.tk_words.specs.Lex.{without_colon_before, IsRun}
 use Rattle.tk_words.specs.Words.{keyword_of, role}
 use Rattle.tk_lines.specs.Pieces.{Piece, After, Trailing, Early, End, Fault, section_at, last_line, covered, cut}
 use Rattle.tk_lines.specs.Pieces.{end_token, Format, judge, ended}
-use Rattle.tk_lines.specs.FromMiddle.{ending, from_line, in_section, goes, new_pieces}
-use Rattle.tk_lines.specs.Forms.{whole, taken, StopsAt, EndsAtEof, a_section}
-use Rattle.tk_lines.specs.Reader.{IsWord, a_gap, no_word}
+use Rattle.tk_lines.specs.Reader.FromMiddle.{ending, from_line, in_section, goes, new_pieces}
+use Rattle.tk_lines.specs.Reader.Forms.{whole, taken, StopsAt, EndsAtEof, a_section}
+use Rattle.tk_lines.specs.Reader.Places.{IsWord, a_gap, no_word}
 use Rattle.tk_lines.proofs.MiddleOfLine.{with_bytes, end_token-bytes}
 use Rattle.tk_lines.proofs.Sections.MiddleOfSection.{token, run_head, tokens_of-more, tokens_of-end, cut-covered}
 use Rattle.tk_lines.proofs.Sections.MiddleOfSection.{tokens_of-gap, tokens_of-none, tokens_of-run, tokens_of-last}

@@ -8,7 +8,7 @@ use Rattle.tk_words.specs.Lex.{LF, Line, Token, onto_line, onto_token, goes_on, 
 use Rattle.tk_words.specs.Lex.{is_empty}
 use Rattle.tk_lines.specs.Pieces.{Piece, Section, End, Extents, Clean, section_at, after_tokens, last_line, covered}
 use Rattle.tk_lines.specs.Pieces.{end_token, end_piece, Format, stop, judge, stopped}
-use Rattle.tk_lines.specs.FromMiddle.{end_of, ending, new_pieces, goes, in_section, prepend, from_line}
+use Rattle.tk_lines.specs.Reader.FromMiddle.{end_of, ending, new_pieces, goes, in_section, prepend, from_line}
 use Rattle.tk_lines.proofs.MiddleOfLine.{lines-byte, lines_cons}
 use Rattle.tk_words.proofs.Bools.{and_false}
 

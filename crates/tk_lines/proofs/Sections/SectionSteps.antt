@@ -8,10 +8,10 @@ use Rattle.tk_words.specs.declared.fault.TextKind.{TextKind}
 use Rattle.tk_words.specs.declared.fault.TextKind.TheVariants as kinds
 use Rattle.tk_words.specs.Lex.{LF, Token, is_blank, IsRun}
 use Rattle.tk_lines.specs.Pieces.{Piece, Clean, Early, Stop, Format, last_line, stopped, ended}
-use Rattle.tk_lines.specs.FromMiddle.{from_line, in_section}
-use Rattle.tk_lines.specs.Forms.{whole, Goes, Closed, EndsAtEof, StopsAt, a_section}
-use Rattle.tk_lines.specs.Reader.{Next, Within, anything, this, a_gap, Says, DecidesIf, AtLine, AtBegin, AtToken}
-use Rattle.tk_lines.specs.Reader.{AtClose}
+use Rattle.tk_lines.specs.Reader.FromMiddle.{from_line, in_section}
+use Rattle.tk_lines.specs.Reader.Forms.{whole, Goes, Closed, EndsAtEof, StopsAt, a_section}
+use Rattle.tk_lines.specs.Reader.Places.{Next, Within, anything, this, a_gap, Says, DecidesIf, AtLine, AtBegin, AtToken}
+use Rattle.tk_lines.specs.Reader.Places.{AtClose}
 use Rattle.tk_lines.proofs.Sections.MiddleOfSection.{in_section-byte, in_section-next}
 use Rattle.tk_lines.proofs.Sections.SectionEnds.{in_section-closed}
 use Rattle.tk_lines.proofs.Headers.ByteRuns.{behind-all}

@@ -7,13 +7,13 @@ use Rattle.std.proofs.lemmas.List.{append-nil, length-map, length_push, map_push
 use Rattle.tk_problem.specs.declared.limits.TheConstants.{CAPACITY_LIMIT}
 use Rattle.tk_words.specs.declared.fault.TextKind.{TextKind}
 use Rattle.tk_lines.specs.Pieces.{Fault, first_at}
-use Rattle.tk_lines.specs.Forms.{IsToldWord}
+use Rattle.tk_lines.specs.Reader.Forms.{IsToldWord}
 use Rattle.tk_lines.specs.declared.form.Taken.TheVariants as takens
 use Rattle.tk_words.specs.Lex.{Token, integer}
-use Rattle.tk_problem_text.specs.Sections.FixedSections.{fixed_taken}
+use Rattle.tk_problem_text.specs.Reader.FixedTokens.{fixed_taken}
 use Rattle.tk_words.specs.Entry.{number_tests}
-use Rattle.tk_problem_text.specs.Sections.Nodes.{Named, HasNamed, HasNext}
-use Rattle.tk_problem_text.specs.Sections.Demands.{Loading, HasDemands}
+use Rattle.tk_problem_text.specs.Reader.Nodes.{Named, HasNamed, HasNext}
+use Rattle.tk_problem_text.specs.Reader.Demands.{Loading, HasDemands}
 use Rattle.tk_problem_text.specs.Sections.Rows.{number_in, nodes_in, demand_rows, demands_of, node_tests, demand_tests}
 use Rattle.tk_problem_text.proofs.SectionTokens.Rows.{by_node-push, node_tests-told, number_tests-told}
 use Rattle.tk_problem_text.proofs.SectionTokens.FixedSections.{fixed_taken-last, fixed_taken-more}

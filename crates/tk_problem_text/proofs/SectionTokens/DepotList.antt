@@ -21,11 +21,11 @@ use Rattle.tk_lines.specs.Pieces.{Piece, After, Clean, Trailing, Early, Stop, Op
 use Rattle.tk_words.specs.MinusOne.{is_ending}
 use Rattle.tk_words.specs.Entry.{is_eof}
 use Rattle.tk_lines.specs.Lists.{list_extent, entries}
-use Rattle.tk_lines.specs.Forms.{IsToldWord, a_section, taken, Goes, Ends, EndsAtEof, StopsAt, HasTaken}
+use Rattle.tk_lines.specs.Reader.Forms.{IsToldWord, a_section, taken, Goes, Ends, EndsAtEof, StopsAt, HasTaken}
 use Rattle.tk_problem_text.specs.Sections.FixedSections.{tokens_stop}
 use Rattle.tk_problem_text.specs.Sections.DepotList.{depot_tests, depot_extent, depot_entries, depot_end}
-use Rattle.tk_problem_text.specs.Sections.DepotTaken.{IsDepot, HasDepot, is_list_end, DepotTakes, DepotRefuses}
-use Rattle.tk_problem_text.specs.Sections.OpenSections.{HasDepotTokens}
+use Rattle.tk_problem_text.specs.Reader.DepotTaken.{IsDepot, HasDepot, is_list_end, DepotTakes, DepotRefuses}
+use Rattle.tk_problem_text.specs.Reader.OpenSections.{HasDepotTokens}
 use Rattle.tk_problem_text.specs.Problem.{problem_format, size_of, word_tests}
 use Rattle.tk_problem_text.proofs.SectionTokens.FixedSections.{IsReady, stop_at, stop_at_long, stop_at_open}
 use Rattle.tk_problem_text.proofs.SectionTokens.DepotTaken.{has_none}

@@ -9,10 +9,10 @@ use Rattle.tk_words.specs.Lex.{Token, is_empty}
 use Rattle.tk_lines.specs.Pieces.{first_at}
 use Rattle.tk_words.specs.Entry.{natural_or_zero, IsNumber}
 use Rattle.tk_problem_text.specs.Sections.Rows.{number_in}
-use Rattle.tk_lines.specs.Forms.{IsToldWord}
+use Rattle.tk_lines.specs.Reader.Forms.{IsToldWord}
 use Rattle.tk_problem_text.specs.Sections.FixedSections.{all_tests, tokens_stop}
 use Rattle.tk_problem_text.specs.Sections.DepotList.{depot_tests}
-use Rattle.tk_problem_text.specs.Sections.DepotTaken.{IsDepot, HasDepot, DepotTakes, DepotRefuses}
+use Rattle.tk_problem_text.specs.Reader.DepotTaken.{IsDepot, HasDepot, DepotTakes, DepotRefuses}
 use Rattle.tk_problem_text.proofs.SectionTokens.FixedSections.{IsReady, no_stop_at}
 
 pub has_none : (n : ℕ) → HasDepot n (record { size = n; node = None }) []

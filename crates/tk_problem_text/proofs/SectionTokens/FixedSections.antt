@@ -21,9 +21,10 @@ use Rattle.tk_words.specs.Lex.{Token}
 use Rattle.tk_lines.specs.Pieces.{Piece, Stop, Open, Fault, first_at, checked, or_else, After, Clean, Trailing, Early}
 use Rattle.tk_lines.specs.Pieces.{Format}
 use Rattle.tk_words.specs.Entry.{is_keyword}
-use Rattle.tk_lines.specs.Forms.{IsToldWord, whole, a_section, taken, Goes, Closed, StopsAt, HasTaken}
-use Rattle.tk_problem_text.specs.Sections.FixedSections.{TokenTests, all_tests, tokens_stop, fixed_taken, IsFixed}
-use Rattle.tk_problem_text.specs.Sections.FixedSections.{HasTokens}
+use Rattle.tk_lines.specs.Reader.Forms.{IsToldWord, whole, a_section, taken, Goes, Closed, StopsAt, HasTaken}
+use Rattle.tk_problem_text.specs.Sections.FixedSections.{TokenTests, all_tests, tokens_stop}
+use Rattle.tk_problem_text.specs.Reader.FixedTokens.{fixed_taken, IsFixed}
+use Rattle.tk_problem_text.specs.Reader.FixedTokens.{HasTokens}
 
 -- ---- one token
 

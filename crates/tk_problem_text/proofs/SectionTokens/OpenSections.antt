@@ -18,12 +18,13 @@ use Rattle.tk_problem_text.specs.declared.sections.open_section.OpenSection.TheV
 use Rattle.tk_words.specs.Lex.{Token, is_empty}
 use Rattle.tk_lines.specs.Pieces.{Piece, Clean, Early, Fault, first_at, Stop, or_else, After}
 use Rattle.tk_words.specs.Entry.{is_keyword, is_some_word}
-use Rattle.tk_lines.specs.Forms.{IsToldWord, whole, a_section, HasTaken, StopsAt}
-use Rattle.tk_problem_text.specs.Sections.FixedSections.{fixed_taken, IsFixed, tokens_stop, fixed_end}
+use Rattle.tk_lines.specs.Reader.Forms.{IsToldWord, whole, a_section, HasTaken, StopsAt}
+use Rattle.tk_problem_text.specs.Reader.FixedTokens.{fixed_taken, IsFixed}
+use Rattle.tk_problem_text.specs.Sections.FixedSections.{tokens_stop, fixed_end}
 use Rattle.tk_problem_text.specs.Sections.Rows.{number_in}
 use Rattle.tk_problem_text.specs.Problem.{problem_format, size_of, token_tests, wanted, word_tests}
-use Rattle.tk_problem_text.specs.Sections.DepotTaken.{HasDepot, DepotTakes, DepotRefuses}
-use Rattle.tk_problem_text.specs.Sections.OpenSections.{HasSome, IsOpen, IsCounted, IsFirst, IsFull, IsPast}
+use Rattle.tk_problem_text.specs.Reader.DepotTaken.{HasDepot, DepotTakes, DepotRefuses}
+use Rattle.tk_problem_text.specs.Reader.OpenSections.{HasSome, IsOpen, IsCounted, IsFirst, IsFull, IsPast}
 use Rattle.tk_problem_text.proofs.SectionTokens.FixedSections.{ready, stops_at_keyword, told, has_taken}
 use Rattle.tk_problem_text.proofs.SectionTokens.FixedSections.{fixed_taken-last, fixed_taken-more}
 use Rattle.tk_problem_text.proofs.SectionTokens.DepotTaken.{some_node, node_of, node_of-ended}

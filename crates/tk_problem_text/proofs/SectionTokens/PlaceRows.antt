@@ -18,12 +18,12 @@ use Rattle.tk_words.specs.Lex.{Token}
 use Rattle.tk_words.specs.Decimal.{decimal_of, limited}
 use Rattle.tk_lines.specs.Pieces.{Fault, first_at}
 use Rattle.tk_problem.specs.Places.{origin, greatest_coordinate}
-use Rattle.tk_problem_text.specs.Sections.FixedSections.{fixed_taken}
-use Rattle.tk_problem_text.specs.Sections.Nodes.{Named, HasNamed, HasNext}
-use Rattle.tk_problem_text.specs.Sections.Coordinates.{Placing, IsWithin, HasPlaces}
+use Rattle.tk_problem_text.specs.Reader.FixedTokens.{fixed_taken}
+use Rattle.tk_problem_text.specs.Reader.Nodes.{Named, HasNamed, HasNext}
+use Rattle.tk_problem_text.specs.Reader.Coordinates.{Placing, IsWithin, HasPlaces}
 use Rattle.tk_problem_text.specs.Sections.Rows.{number_in, coordinate_in, is_near, nodes_in, place_rows, places_of}
 use Rattle.tk_problem_text.specs.Sections.Rows.{node_tests, coordinate_tests, place_tests}
-use Rattle.tk_lines.specs.Forms.{IsToldWord}
+use Rattle.tk_lines.specs.Reader.Forms.{IsToldWord}
 use Rattle.tk_problem_text.proofs.SectionTokens.Rows.{by_node-push}
 use Rattle.tk_lines.proofs.Pieces.ToldFaults.{told_first}
 use Rattle.tk_problem_text.proofs.SectionTokens.FixedSections.{fixed_taken-last, fixed_taken-more}

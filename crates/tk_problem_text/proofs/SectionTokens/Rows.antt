@@ -12,8 +12,8 @@ use Rattle.tk_words.specs.declared.fault.TextKind.TheVariants as kinds
 use Rattle.tk_words.specs.Lex.{Token, integer}
 use Rattle.tk_lines.specs.Pieces.{Fault, first_at}
 use Rattle.tk_words.specs.Entry.{number_tests}
-use Rattle.tk_lines.specs.Forms.{IsToldWord}
-use Rattle.tk_problem_text.specs.Sections.Nodes.{Named, HasNamed}
+use Rattle.tk_lines.specs.Reader.Forms.{IsToldWord}
+use Rattle.tk_problem_text.specs.Reader.Nodes.{Named, HasNamed}
 use Rattle.tk_problem_text.specs.Sections.Rows.{number_in, is_among, nodes_in, row_of, by_node, node_tests}
 use Rattle.tk_lines.proofs.Pieces.ToldFaults.{told_first}
 

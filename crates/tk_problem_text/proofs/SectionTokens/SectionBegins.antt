@@ -21,15 +21,15 @@ use Rattle.tk_problem.specs.declared.weights.Format.{Format}
 use Rattle.tk_problem.specs.declared.weights.Format.TheVariants as formats
 use Rattle.tk_words.specs.Words.{same_word}
 use Rattle.tk_lines.specs.Pieces.{Piece, Fault, first_at, has, value_of}
-use Rattle.tk_lines.specs.Forms.{IsToldWord}
-use Rattle.tk_problem_text.specs.Parts.{HasParts}
-use Rattle.tk_problem_text.specs.Sections.Weighing.{HasWeights}
+use Rattle.tk_lines.specs.Reader.Forms.{IsToldWord}
+use Rattle.tk_problem_text.specs.Reader.Parts.{HasParts}
+use Rattle.tk_problem_text.specs.Reader.Weighing.{HasWeights}
 use Rattle.tk_problem.specs.WeightOrder.{order, is_of, times_written}
 use Rattle.tk_problem_text.specs.Problem.{size_of, weight_type, weight_format, is_explicit, listed_format, wanted}
 use Rattle.tk_problem_text.specs.Problem.{is_known_section, section_tests, word_tests}
-use Rattle.tk_problem_text.specs.Sections.OpenSections.{HasSome, IsOpen}
-use Rattle.tk_problem_text.specs.Sections.BegunSections.{IsUntouched, IsReady, IsBegun}
-use Rattle.tk_problem_text.specs.Sections.BegunSections as Begun
+use Rattle.tk_problem_text.specs.Reader.OpenSections.{HasSome, IsOpen}
+use Rattle.tk_problem_text.specs.Reader.BegunSections.{IsUntouched, IsReady, IsBegun}
+use Rattle.tk_problem_text.specs.Reader.BegunSections as Begun
 use Rattle.tk_problem_text.proofs.SectionTokens.FixedSections.{begins}
 use Rattle.tk_problem_text.proofs.SectionTokens.OpenSections.{problem_fixed}
 use Rattle.tk_problem.proofs.WeightCounts.{pair-order}

@@ -11,7 +11,7 @@ use Rattle.tk_problem.specs.declared.place.Place.{Place}
 use Rattle.tk_problem.specs.declared.weights.Format.{Format}
 use Rattle.tk_words.specs.declared.fault.TextKind.{TextKind}
 use Rattle.tk_words.specs.declared.fault.TextKind.TheVariants as kinds
-use Rattle.tk_lines.specs.Forms.{IsToldWord}
+use Rattle.tk_lines.specs.Reader.Forms.{IsToldWord}
 use Rattle.tk_words.specs.Lex.{Token, integer}
 use Rattle.tk_lines.specs.Pieces.{Fault, first_at}
 use Rattle.tk_words.specs.Entry.{in_range}
@@ -20,9 +20,9 @@ use Rattle.tk_problem.specs.WeightOrder.{order, weight_of, entries}
 use Rattle.tk_problem_text.specs.Sections.WeightSection.{weights_in, is_full, place_behind, weight_tests, weight_count}
 use Rattle.tk_problem.specs.WeightsSoFar.{Filling, IsSoFar}
 use Rattle.tk_problem_text.specs.declared.sections.explicit_weights.ExplicitWeights.{ExplicitWeights}
-use Rattle.tk_problem_text.specs.Sections.Weighing.{HasWeights}
+use Rattle.tk_problem_text.specs.Reader.Weighing.{HasWeights}
 use Rattle.tk_lines.specs.declared.form.Taken.TheVariants as takens
-use Rattle.tk_problem_text.specs.Sections.FixedSections.{fixed_taken}
+use Rattle.tk_problem_text.specs.Reader.FixedTokens.{fixed_taken}
 use Rattle.tk_problem_text.proofs.SectionTokens.FixedSections.{fixed_taken-last, fixed_taken-more}
 use Rattle.tk_problem.proofs.PairWeights.{origin}
 use Rattle.tk_problem.proofs.WeightsSoFar.{IsNext, next_place}

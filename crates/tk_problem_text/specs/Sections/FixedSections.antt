@@ -1,13 +1,10 @@
 -- Sections of a fixed count of tokens.
-use Rattle.std.specs.Prelude.{◌≡◌, ◌<◌, ℕ, suc, Bool, ◌==◌, false, nat_le, min, List, [], ◌∷◌, ◌++◌, length, Option}
+use Rattle.std.specs.Prelude.{ℕ, Bool, false, nat_le, min, List, [], ◌∷◌, ◌++◌, length, Option}
 use Rattle.std.specs.Prelude.{Some, None, if◌then◌else◌}
-use Rattle.tk_words.specs.declared.keyword.Keyword.{Keyword}
 use Rattle.tk_words.specs.declared.fault.TextKind.{TextKind}
 use Rattle.tk_words.specs.declared.fault.TextKind.TheVariants as kinds
-use Rattle.tk_lines.specs.declared.form.Taken.{Taken}
-use Rattle.tk_lines.specs.declared.form.Taken.TheVariants as takens
 use Rattle.tk_words.specs.Lex.{Token}
-use Rattle.tk_lines.specs.Pieces.{Piece, Extent, Stop, Fault, checked, or_else, After, Early, Format}
+use Rattle.tk_lines.specs.Pieces.{Extent, Stop, Fault, checked, or_else, After, Early}
 use Rattle.tk_words.specs.Entry.{is_keyword}
 use Rattle.tk_lines.specs.Lists.{trailing_stop}
 
@@ -33,21 +30,3 @@ fixed_extent count toks =
 abbrev pub fixed_end : After → Option Stop
 fixed_end (Early line whole) = if whole then Some (Fault line kinds.Truncated) else None
 fixed_end after = trailing_stop after
-
--- what a token does after those before it
-abbrev pub fixed_taken : ℕ → List Token → Taken
-fixed_taken count before = if suc (length before) == count then takens.Last else takens.More
-
--- a section of a fixed count, at whose word nothing stops
-pub record IsFixed {V : Type 0} (f : Format V) (before : List Piece) (word : Keyword) (n : ℕ) (tests : TokenTests)
-    (count : ℕ) : Type 0 where
-  pub extent : (toks : List Token) → f.extent before word toks ≡ fixed_extent count toks
-  pub section : (toks : List Token) (after : After) →
-      f.section before word n toks after ≡ or_else (tokens_stop tests [] toks) (fixed_end after)
-
--- these tokens of it have no fault, and more are to come
-pub record HasTokens {V : Type 0} (f : Format V) (before : List Piece) (word : Keyword) (n : ℕ) (tests : TokenTests)
-    (count : ℕ) (toks : List Token) : Type 0 where
-  pub fixed : IsFixed f before word n tests count
-  pub good : tokens_stop tests [] toks ≡ None
-  pub fewer : length toks < count

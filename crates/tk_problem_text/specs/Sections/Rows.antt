@@ -1,5 +1,5 @@
 -- Sections of rows: each a node and what belongs to it.
-use Rattle.std.specs.Prelude.{ℕ, ◌%◌, ◌^◌, Bool, false, not, ◌||◌, ◌==◌, nat_eq, nat_le, List, [], ◌∷◌, length, map}
+use Rattle.std.specs.Prelude.{ℕ, ◌%◌, Bool, false, not, ◌||◌, ◌==◌, nat_eq, nat_le, List, [], ◌∷◌, length, map}
 use Rattle.std.specs.Prelude.{Option, Some, None, ℤ, pos, if◌then◌else◌, is_none, unwrap_or}
 use Rattle.std.specs.Int.RustNames.{unsigned_abs}
 use Rattle.std.specs.List.{range_with_len, list_any}

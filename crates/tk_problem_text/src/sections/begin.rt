@@ -2,10 +2,10 @@
 ghost use Rattle.std.specs.Prelude.{◌≡◌, ◌≤◌, ℕ, true, List, Some, None, if◌then◌else◌, IfOk, IfErr};
 ghost use Rattle.tk_problem.specs.declared.limits.TheConstants.{CITY_LIMIT};
 ghost use Rattle.tk_words.specs.declared.keyword.Keyword.TheVariants as words;
-ghost use Rattle.tk_problem_text.specs.Sections.BegunSections as Begun;
-ghost use Rattle.tk_problem_text.specs.Sections.BegunSections.{IsReady, IsBegun};
-ghost use Rattle.tk_lines.specs.Forms.{IsToldWord};
-ghost use Rattle.tk_problem_text.specs.Parts.{HasParts};
+ghost use Rattle.tk_problem_text.specs.Reader.BegunSections as Begun;
+ghost use Rattle.tk_problem_text.specs.Reader.BegunSections.{IsReady, IsBegun};
+ghost use Rattle.tk_lines.specs.Reader.Forms.{IsToldWord};
+ghost use Rattle.tk_problem_text.specs.Reader.Parts.{HasParts};
 ghost use Rattle.tk_lines.specs.Pieces.{Piece, first_at, Fault};
 ghost use Rattle.tk_problem_text.specs.Problem.{size_of, is_known_section, is_explicit, listed_format, section_tests};
 ghost use Rattle.tk_problem_text.specs.Problem.{word_tests, problem_type as problem_type_in};

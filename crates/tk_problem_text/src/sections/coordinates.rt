@@ -1,18 +1,16 @@
 //! The coordinates of a problem, token by token.
-ghost use Rattle.std.specs.Prelude.{◌≡◌, ◌+◌, ◌*◌, ◌<◌, ◌≤◌, ℕ, List, [], ◌∷◌, ◌++◌, length, None, Some, IfOk, IfErr};
+ghost use Rattle.std.specs.Prelude.{◌≡◌, ◌*◌, ◌<◌, ◌≤◌, ℕ, List, [], length, IfOk, IfErr};
 ghost use Rattle.std.specs.Prelude.{OnErr};
-ghost use Rattle.tk_problem_text.specs.Sections.FixedSections.{fixed_taken};
-ghost use Rattle.tk_lines.specs.Forms.{whole, IsToldWord};
 ghost use Rattle.tk_words.specs.Lex.{Token};
-ghost use Rattle.tk_lines.specs.Pieces.{first_at, Fault};
 ghost use Rattle.tk_problem_text.specs.Sections.Rows.{place_tests, places_of};
+ghost use Rattle.tk_problem_text.specs.Reader.FixedTokens.{RefusesFixed, TakesFixed};
 
 use crate::sections::nodes::Nodes;
 use std::alloc::Global;
 use std::marker::Model;
 use tk_lines::Taken;
 use tk_problem::{Point, Points};
-use tk_words::{TextKind, decimal};
+use tk_words::{Lexeme, TextKind};
 
 /// What the next token of a row of coordinates is.
 #[derive(Clone, Copy, Debug, PartialEq, Eq)]
@@ -31,7 +29,7 @@ pub struct Coordinates {
 }
 
 impl Model for Coordinates {
-    ghost use Rattle.tk_problem_text.specs.Sections.Coordinates.{Placing, IsPlacing};
+    ghost use Rattle.tk_problem_text.specs.Reader.Coordinates.{Placing, IsPlacing};
 
     ghost Value = { Placing };
 
@@ -41,7 +39,7 @@ impl Model for Coordinates {
 }
 
 impl Coordinates {
-    ghost use Rattle.tk_problem_text.specs.Sections.Coordinates.{HasPlaces};
+    ghost use Rattle.tk_problem_text.specs.Reader.Coordinates.{HasPlaces};
 
     /// Of n nodes, none of them placed.
     ///
@@ -62,14 +60,10 @@ impl Coordinates {
     }
 
     /// Takes a token. After an error nothing was taken.
-    pub fn take(&mut self, token: &[u8]) -> Result<Taken, TextKind>
+    pub fn take(&mut self, token: &Lexeme) -> Result<Taken, TextKind>
         requires { length token.now ≤ 64 }
-        ensures ok { (n : ℕ) (toks : List Token) (line : ℕ) → HasPlaces n self.old toks → length toks < 3 * n
-            → IfOk result (λ taken. (first_at line (place_tests n toks (whole token.now line)) ≡ None)
-            × HasPlaces n self.new (toks ++ whole token.now line ∷ []) × (taken ≡ fixed_taken (3 * n) toks)) }
-        ensures err { (n : ℕ) (toks : List Token) (line : ℕ) → HasPlaces n self.old toks
-            → IfErr result (IsToldWord (λ k.
-            first_at line (place_tests n toks (whole token.now line)) ≡ Some (Fault line k))) }
+        ensures ok { (n : ℕ) → TakesFixed (HasPlaces n) (place_tests n) (3 * n) token.now self.old self.new result }
+        ensures err { (n : ℕ) → RefusesFixed (HasPlaces n) (place_tests n) token.now self.old result }
         ensures kept { OnErr result (self.new ≡ self.old) }
     {
         match self.wanted {
@@ -78,11 +72,11 @@ impl Coordinates {
                 self.wanted = Wanted::X { index };
             }
             Wanted::X { index } => {
-                let x = decimal(token)?;
+                let x = token.decimal()?;
                 self.wanted = Wanted::Y { index, x };
             }
             Wanted::Y { index, x } => {
-                let y = decimal(token)?;
+                let y = token.decimal()?;
                 if self.places.set(index, Point { x, y }).is_err() {
                     return Err(TextKind::NoMemory);
                 }

@@ -1,10 +1,10 @@
 //! The demands of a problem, token by token.
-ghost use Rattle.std.specs.Prelude.{◌≡◌, ◌*◌, ◌<◌, ℕ, List, [], ◌∷◌, ◌++◌, length, None, Some, IfOk, IfErr, OnErr};
-ghost use Rattle.tk_problem_text.specs.Sections.FixedSections.{fixed_taken};
-ghost use Rattle.tk_lines.specs.Forms.{whole};
+ghost use Rattle.std.specs.Prelude.{◌≡◌, ◌*◌, ◌<◌, ℕ, List, [], length, None, Some, IfOk, IfErr, OnErr};
+ghost use Rattle.tk_lines.specs.Reader.Forms.{whole};
 ghost use Rattle.tk_words.specs.Lex.{Token};
 ghost use Rattle.tk_lines.specs.Pieces.{first_at, Fault};
 ghost use Rattle.tk_problem_text.specs.Sections.Rows.{demand_tests, demands_of};
+ghost use Rattle.tk_problem_text.specs.Reader.FixedTokens.{TakesFixed};
 
 use crate::sections::nodes::Nodes;
 use crate::sections::within::number_of;
@@ -12,7 +12,7 @@ use std::alloc::Global;
 use std::marker::Model;
 use tk_lines::Taken;
 use tk_problem::CAPACITY_LIMIT;
-use tk_words::TextKind;
+use tk_words::{Lexeme, TextKind};
 
 /// DEMAND_SECTION: a node and its demand for each of n nodes.
 #[derive(Drop)]
@@ -23,7 +23,7 @@ pub struct Demands {
 }
 
 impl Model for Demands {
-    ghost use Rattle.tk_problem_text.specs.Sections.Demands.{Loading, IsLoading};
+    ghost use Rattle.tk_problem_text.specs.Reader.Demands.{Loading, IsLoading};
 
     ghost Value = { Loading };
 
@@ -33,7 +33,7 @@ impl Model for Demands {
 }
 
 impl Demands {
-    ghost use Rattle.tk_problem_text.specs.Sections.Demands.{HasDemands};
+    ghost use Rattle.tk_problem_text.specs.Reader.Demands.{HasDemands};
 
     /// Of n nodes, none of them named.
     ///
@@ -54,10 +54,8 @@ impl Demands {
     }
 
     /// Takes a token. After an error nothing was taken.
-    pub fn take(&mut self, token: &[u8]) -> Result<Taken, TextKind>
-        ensures ok { (n : ℕ) (toks : List Token) (line : ℕ) → HasDemands n self.old toks → length toks < 2 * n
-            → IfOk result (λ taken. (first_at line (demand_tests n toks (whole token.now line)) ≡ None)
-            × HasDemands n self.new (toks ++ whole token.now line ∷ []) × (taken ≡ fixed_taken (2 * n) toks)) }
+    pub fn take(&mut self, token: &Lexeme) -> Result<Taken, TextKind>
+        ensures ok { (n : ℕ) → TakesFixed (HasDemands n) (demand_tests n) (2 * n) token.now self.old self.new result }
         ensures err { (n : ℕ) (toks : List Token) (line : ℕ) → HasDemands n self.old toks
             → IfErr result (λ k. first_at line (demand_tests n toks (whole token.now line)) ≡ Some (Fault line k)) }
         ensures kept { OnErr result (self.new ≡ self.old) }

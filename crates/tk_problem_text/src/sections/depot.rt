@@ -1,15 +1,15 @@
 //! The depot of a problem, token by token.
 ghost use Rattle.std.specs.Prelude.{◌≡◌, ◌≤◌, ℕ, List, [], ◌∷◌, length, None, IfOk, IfErr, OnOk, OnErr};
 ghost use Rattle.tk_problem_text.specs.Sections.DepotList.{depot_tests};
-ghost use Rattle.tk_problem_text.specs.Sections.DepotTaken.{HasDepot, DepotTakes, DepotRefuses};
+ghost use Rattle.tk_problem_text.specs.Reader.DepotTaken.{HasDepot, DepotTakes, DepotRefuses};
 ghost use Rattle.tk_words.specs.Entry.{IsNumber};
 ghost use Rattle.tk_problem_text.specs.Sections.FixedSections.{all_tests};
-ghost use Rattle.tk_lines.specs.Forms.{whole, IsToldWord};
+ghost use Rattle.tk_lines.specs.Reader.Forms.{whole, IsToldWord};
 ghost use Rattle.tk_words.specs.Lex.{Token};
 ghost use Rattle.tk_lines.specs.Pieces.{first_at};
 
 use tk_lines::Taken;
-use tk_words::{Entry, TextKind, entry_of, limited};
+use tk_words::{Entry, Lexeme, TextKind, limited};
 
 /// DEPOT_SECTION: one node, then -1 or the end of the text.
 #[derive(Clone, Copy, Debug)]
@@ -32,7 +32,7 @@ impl Depot {
     /// Takes a token. `BadDepot` where a number is no node of the problem, or not the only one,
     /// `Truncated` for a word where a number is wanted, `BadNumber` for another token. After an
     /// error nothing was taken.
-    pub fn take(&mut self, token: &[u8]) -> Result<Taken, TextKind>
+    pub fn take(&mut self, token: &Lexeme) -> Result<Taken, TextKind>
         requires { length token.now ≤ 64 }
         ensures ok { (n : ℕ) (toks : List Token) (line : ℕ) → HasDepot n self.old toks
             → IfOk result (DepotTakes n self.old self.new toks (whole token.now line)) }
@@ -52,13 +52,13 @@ impl Depot {
 }
 
 /// The node that a token names where none stands before it.
-fn first_node(token: &[u8], size: u32) -> Result<u32, TextKind>
+fn first_node(token: &Lexeme, size: u32) -> Result<u32, TextKind>
     ensures node { IfOk result (IsNumber 1 size token.now) }
     ensures ok { (line : ℕ) → OnOk result (first_at line (all_tests (depot_tests size) [] (whole token.now line))
         ≡ None) }
     ensures err { (line : ℕ) → IfErr result (IsToldWord (DepotRefuses size [] (whole token.now line))) }
 {
-    match entry_of(token) {
+    match token.entry() {
         Entry::Number(number) => match limited(number, 1, size) {
             Some(node) => Ok(node),
             None => Err(TextKind::BadDepot),
@@ -69,13 +69,13 @@ fn first_node(token: &[u8], size: u32) -> Result<u32, TextKind>
 }
 
 /// What a token does after the node.
-fn behind_node(token: &[u8]) -> Result<Taken, TextKind>
+fn behind_node(token: &Lexeme) -> Result<Taken, TextKind>
     ensures ok { (n : ℕ) (depot : Depot) (node : Token) (line : ℕ)
         → IfOk result (DepotTakes n depot depot (node ∷ []) (whole token.now line)) }
     ensures err { (n : ℕ) (node : Token) (line : ℕ)
         → IfErr result (IsToldWord (DepotRefuses n (node ∷ []) (whole token.now line))) }
 {
-    match entry_of(token) {
+    match token.entry() {
         Entry::Number(number) => {
             if number == -1 {
                 return Ok(Taken::Ending);

@@ -4,19 +4,19 @@ ghost use Rattle.std.specs.Prelude.{slice_get, nat_lt, ◌&&◌, IfOk, IfErr, If
 ghost use Rattle.tk_problem.specs.declared.limits.TheConstants.{DISTANCE_LIMIT, TABLE_LIMIT};
 ghost use Rattle.tk_problem.specs.declared.weights.Format.{Format};
 ghost use Rattle.tk_problem.specs.declared.weights.Weights.TheVariants as weights;
-ghost use Rattle.tk_problem_text.specs.Sections.FixedSections.{fixed_taken};
-ghost use Rattle.tk_lines.specs.Forms.{whole, IsToldWord};
+ghost use Rattle.tk_lines.specs.Reader.Forms.{IsToldWord};
 ghost use Rattle.tk_words.specs.Lex.{Token, integer};
 ghost use Rattle.tk_lines.specs.Pieces.{first_at, Fault};
 ghost use Rattle.tk_problem.specs.Shape.{WeightsFit};
 ghost use Rattle.tk_problem.specs.WeightOrder.{weight_of, entries};
 ghost use Rattle.tk_problem_text.specs.Sections.WeightSection.{is_full, weight_count, weight_tests, weights_in};
 ghost use Rattle.tk_problem_text.specs.Sections.WeightSection.{lower_weights};
+ghost use Rattle.tk_problem_text.specs.Reader.FixedTokens.{RefusesFixed, TakesFixed};
 
 use std::alloc::Global;
 use tk_lines::Taken;
 use tk_problem::{DISTANCE_LIMIT, Format, LowerWeights, Place};
-use tk_words::{TextKind, integer, limited};
+use tk_words::{Lexeme, TextKind, limited};
 
 /// EDGE_WEIGHT_SECTION: the weights of a format, kept as the lower triangle row by row without its diagonal.
 #[derive(Drop)]
@@ -26,7 +26,7 @@ pub struct ExplicitWeights {
 }
 
 impl ExplicitWeights {
-    ghost use Rattle.tk_problem_text.specs.Sections.Weighing.{HasWeights};
+    ghost use Rattle.tk_problem_text.specs.Reader.Weighing.{HasWeights};
 
     /// Of n cities, before the first weight.
     ///
@@ -44,18 +44,15 @@ impl ExplicitWeights {
     }
 
     /// Takes a token. After an error nothing was taken.
-    pub fn take(&mut self, token: &[u8]) -> Result<Taken, TextKind>
-        ensures ok { (n : ℕ) (f : Format) (toks : List Token) (line : ℕ) → HasWeights n f self.old toks
-            → length toks < weight_count n f
-            → IfOk result (λ taken. (first_at line (weight_tests n f toks (whole token.now line)) ≡ None)
-            × HasWeights n f self.new (toks ++ whole token.now line ∷ [])
-            × (taken ≡ fixed_taken (weight_count n f) toks)) }
-        ensures err { (n : ℕ) (f : Format) (toks : List Token) (line : ℕ) → HasWeights n f self.old toks
-            → IfErr result (IsToldWord (λ k. first_at line (weight_tests n f toks (whole token.now line))
-            ≡ Some (Fault line k))) }
+    #[inline(always)]
+    pub fn take(&mut self, token: &Lexeme) -> Result<Taken, TextKind>
+        ensures ok { (n : ℕ) (f : Format) → TakesFixed (HasWeights n f) (weight_tests n f) (weight_count n f)
+            token.now self.old self.new result }
+        ensures err { (n : ℕ) (f : Format)
+            → RefusesFixed (HasWeights n f) (weight_tests n f) token.now self.old result }
         ensures kept { OnErr result (self.new ≡ self.old) }
     {
-        let Some(number) = integer(token) else {
+        let Some(number) = token.integer() else {
             return Err(TextKind::BadNumber);
         };
         if self.lower.is_done() {
@@ -69,6 +66,7 @@ impl ExplicitWeights {
     }
 
     /// Puts a number at the next place. After an error nothing was put.
+    #[inline(always)]
     fn put(&mut self, number: i64) -> Result<(), TextKind>
         requires { 0 < length self.old.lower.places }
         ensures ok { (n : ℕ) (f : Format) (toks : List Token) (t : Token) → HasWeights n f self.old toks
@@ -90,6 +88,7 @@ impl ExplicitWeights {
     }
 
     /// The weight that a number gives the next pair.
+    #[inline(always)]
     fn weight(&self, number: i64) -> Result<u32, TextKind>
         requires more { 0 < length self.now.lower.places }
         requires pair { IfSome (slice_get self.now.lower.places 0) (λ p. p.row ≢ p.column) }
@@ -128,6 +127,7 @@ impl ExplicitWeights {
     }
 
     /// Whether a full matrix has the pair of a place already.
+    #[inline(always)]
     fn repeats(&self, place: Place) -> bool
         ensures { result ≡ (is_full self.now.format && nat_lt place.column place.row) }
     {

@@ -1,15 +1,15 @@
 //! The nodes that a section names, each once.
-ghost use Rattle.std.specs.Prelude.{◌≡◌, ◌<◌, ◌==◌, ℕ, suc, pos, List, [], None, Some, IfOk, OnErr, IfErr, MatchResult};
+ghost use Rattle.std.specs.Prelude.{◌≡◌, ◌<◌, ◌==◌, ℕ, suc, pos, List, [], None, Some, IfOk, OnErr, IfErr};
 ghost use Rattle.std.specs.Prelude.{length};
-ghost use Rattle.tk_lines.specs.Forms.{whole};
+ghost use Rattle.tk_lines.specs.Reader.Forms.{whole};
 ghost use Rattle.tk_words.specs.Lex as Lex;
-ghost use Rattle.tk_problem_text.specs.Sections.Nodes.{HasNamed, HasNext};
+ghost use Rattle.tk_problem_text.specs.Reader.Nodes.{HasNamed, HasNext};
 ghost use Rattle.tk_lines.specs.Pieces.{first_at, Fault};
 ghost use Rattle.tk_problem_text.specs.Sections.Rows.{node_tests};
 
 use std::alloc::Global;
 use std::marker::Model;
-use tk_words::{TextKind, integer};
+use tk_words::{Lexeme, TextKind};
 
 /// Which of the nodes 1 to n were named.
 #[derive(Drop)]
@@ -19,7 +19,7 @@ pub struct Nodes {
 }
 
 impl Model for Nodes {
-    ghost use Rattle.tk_problem_text.specs.Sections.Nodes.{Named};
+    ghost use Rattle.tk_problem_text.specs.Reader.Nodes.{Named};
 
     ghost Value = { Named };
 
@@ -43,7 +43,7 @@ impl Nodes {
 
     /// Names a node, and answers it counted from 0. `BadNumber` where the token is no integer,
     /// `BadNode` where it is no node or was named before.
-    pub fn name(&mut self, token: &[u8]) -> Result<usize, TextKind>
+    pub fn name(&mut self, token: &Lexeme) -> Result<usize, TextKind>
         ensures index { IfOk result (λ index. index < length self.old.flags) }
         ensures flags { length self.new.flags ≡ length self.old.flags }
         ensures ok { (n : ℕ) (nodes : List ℕ) (line : ℕ) → HasNamed n self.old nodes → length nodes < n
@@ -72,13 +72,13 @@ impl Nodes {
 
 /// A node of 1 to `count`, counted from 0. `BadNumber` where the token is no integer, `BadNode` for
 /// another number.
-fn node_of(token: &[u8], count: usize) -> Result<usize, TextKind>
+fn node_of(token: &Lexeme, count: usize) -> Result<usize, TextKind>
     ensures index { IfOk result (λ index. index < count) }
     ensures ok { IfOk result (λ index. Lex.integer token.now ≡ Some (pos (suc index))) }
     ensures err { IfErr result (λ k. (nodes : List ℕ) (line : ℕ)
         → first_at line (node_tests count nodes (whole token.now line)) ≡ Some (Fault line k)) }
 {
-    let Some(number) = integer(token) else {
+    let Some(number) = token.integer() else {
         return Err(TextKind::BadNumber);
     };
     if number < 1 || number as usize > count {

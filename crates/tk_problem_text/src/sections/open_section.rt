@@ -1,19 +1,14 @@
 //! The section of a problem whose tokens come.
-ghost use Rattle.std.specs.Prelude.{◌≡◌, ◌≤◌, ◌-◌, ◌==◌, ◌++◌, ℕ, true, false, List, length, Some, None, if◌then◌else◌};
-ghost use Rattle.std.specs.Prelude.{IfOk, IfErr, OnErr};
-ghost use Rattle.tk_words.specs.declared.keyword.Keyword.{Keyword};
-ghost use Rattle.tk_lines.specs.Forms.{whole, IsToldWord, HasTaken, StopsAt};
-ghost use Rattle.tk_words.specs.Lex.{Token};
-ghost use Rattle.tk_lines.specs.Pieces.{Piece};
-ghost use Rattle.tk_problem_text.specs.Problem.{problem_format};
+ghost use Rattle.std.specs.Prelude.{◌≡◌, ◌≤◌, ◌-◌, ◌==◌, true, false, length, if◌then◌else◌, OnErr};
 ghost use Rattle.tk_words.specs.Entry.{is_keyword};
+ghost use Rattle.tk_problem_text.specs.Reader.OpenSections.{IsCounted, IsCutShort, MayEnd, RefusesOpen, TakesOpen};
 
 use crate::sections::coordinates::Coordinates;
 use crate::sections::demands::Demands;
 use crate::sections::depot::Depot;
 use crate::sections::explicit_weights::ExplicitWeights;
 use tk_lines::Taken;
-use tk_words::{TextKind, keyword_in};
+use tk_words::{Lexeme, TextKind};
 
 /// The section whose tokens come.
 #[derive(Drop)]
@@ -33,45 +28,32 @@ pub enum OpenSection {
 }
 
 impl OpenSection {
-    ghost use Rattle.tk_words.specs.declared.fault.TextKind.TheVariants as kinds;
-    ghost use Rattle.tk_lines.specs.Forms.{a_section};
-    ghost use Rattle.tk_problem_text.specs.Sections.OpenSections.{IsOpen, IsCounted, IsPast};
-    ghost use Rattle.tk_lines.specs.Pieces.{Early, Fault};
-
     /// Takes a token. After an error nothing was taken.
     ///
     /// # Errors
     /// The fault of the token in this section.
-    pub fn take(&mut self, token: &[u8]) -> Result<Taken, TextKind>
+    #[inline(always)]
+    pub fn take(&mut self, token: &Lexeme) -> Result<Taken, TextKind>
         requires { length token.now ≤ 64 }
-        ensures ok { (before : List Piece) (word : Keyword) (n : ℕ) (toks : List Token) (line : ℕ)
-            → IsOpen before word n toks self.old
-            → IfOk result (HasTaken problem_format (IsPast before word n self.new)
-            (λ ps w m ts. IsOpen ps w m ts self.new) before word n toks (whole token.now line)) }
-        ensures err { (before : List Piece) (word : Keyword) (n : ℕ) (toks : List Token) (line : ℕ)
-            → IsOpen before word n toks self.old
-            → IfErr result (IsToldWord (StopsAt problem_format before word n toks (whole token.now line))) }
+        ensures ok { TakesOpen token.now self.old self.new result }
+        ensures err { RefusesOpen token.now self.old result }
         ensures kept { OnErr result (self.new ≡ self.old) }
     {
         if let OpenSection::Home(section) = self {
             return section.take(token);
         }
-        if keyword_in(token).is_some() {
+        if token.keyword().is_some() {
             return Err(TextKind::Truncated);
         }
         self.take_number(token)
     }
 
     /// Takes a token that is no word, in a section of a fixed count.
-    fn take_number(&mut self, token: &[u8]) -> Result<Taken, TextKind>
+    #[inline(always)]
+    fn take_number(&mut self, token: &Lexeme) -> Result<Taken, TextKind>
         requires { length token.now ≤ 64 }
-        ensures ok { (before : List Piece) (word : Keyword) (n : ℕ) (toks : List Token) (line : ℕ)
-            → IsCounted self.old → is_keyword token.now ≡ false → IsOpen before word n toks self.old
-            → IfOk result (HasTaken problem_format (IsPast before word n self.new)
-            (λ ps w m ts. IsOpen ps w m ts self.new) before word n toks (whole token.now line)) }
-        ensures err { (before : List Piece) (word : Keyword) (n : ℕ) (toks : List Token) (line : ℕ)
-            → IsCounted self.old → is_keyword token.now ≡ false → IsOpen before word n toks self.old
-            → IfErr result (IsToldWord (StopsAt problem_format before word n toks (whole token.now line))) }
+        ensures ok { IsCounted self.old → is_keyword token.now ≡ false → TakesOpen token.now self.old self.new result }
+        ensures err { IsCounted self.old → is_keyword token.now ≡ false → RefusesOpen token.now self.old result }
         ensures kept { OnErr result (self.new ≡ self.old) }
     {
         match self {
@@ -85,13 +67,8 @@ impl OpenSection {
 
     /// Whether the text may end after the tokens that were taken: only after a depot.
     pub fn may_end(&self) -> bool
-        ensures yes { (before : List Piece) (word : Keyword) (n : ℕ) (toks : List Token) (line : ℕ)
-            → IsOpen before word n toks self.now → result ≡ true
-            → IsPast before word n self.now (before ++ a_section word n toks (Early line true))
-            × (problem_format.section before word n toks (Early line true) ≡ None) }
-        ensures no { (before : List Piece) (word : Keyword) (n : ℕ) (toks : List Token) (line : ℕ)
-            → IsOpen before word n toks self.now → result ≡ false
-            → problem_format.section before word n toks (Early line true) ≡ Some (Fault line kinds.Truncated) }
+        ensures yes { result ≡ true → MayEnd self.now }
+        ensures no { result ≡ false → IsCutShort self.now }
     {
         match self {
             OpenSection::Home(section) => section.node.is_some(),

@@ -15,7 +15,7 @@ use Rattle.tk_writers.specs.MatrixText.{format_word}
 use Rattle.tk_lines.specs.Pieces.{Piece, Header, Section, Clean, pieces_at, stop}
 use Rattle.tk_problem_text.specs.Problem.{problem_format}
 use Rattle.tk_problem_text.specs.Names.{IsName}
-use Rattle.tk_lines.specs.Scan.{first_word, not_blank}
+use Rattle.tk_lines.specs.HeaderValue.{first_word, not_blank}
 use Rattle.tk_words.specs.Words.{keyword_of, section_word, rest_word}
 use Rattle.tk_lines.proofs.Sections.MiddleOfSection.{token, run_head}
 use Rattle.tk_writers.proofs.Written.WrittenLines.{whole_line}

@@ -1,6 +1,6 @@
 use Rattle.std.proofs.Common.{◌∙◌, ap, map}
 use Rattle.tk_params.proofs.Looks.{stored_last}
-use Rattle.tk_params.specs.Stored.{entry_is}
+use Rattle.tk_params.specs.Reader.Stored.{entry_is}
 use Rattle.tk_params.proofs.entries.append.Goals as goal
 
 pub returns-in-Ok-clause-ok : goal.returns-in-Ok-clause-ok

@@ -1,5 +1,5 @@
 use Rattle.std.proofs.Common.{◌∙◌, ap, option_map}
-use Rattle.tk_params.specs.Stored.{value_is}
+use Rattle.tk_params.specs.Reader.Stored.{value_is}
 use Rattle.tk_params.proofs.Looks.{equal_looks, other_look}
 use Rattle.tk_params.proofs.entries.take.Goals as goal
 

@@ -1,7 +1,7 @@
 use Rattle.std.proofs.Common.{◌∙◌, sym}
 use Rattle.tk_params.proofs.Limits.{is_setting}
 use Rattle.tk_params.proofs.Looks.{taken_key}
-use Rattle.tk_params.specs.Stored.{value_is}
+use Rattle.tk_params.specs.Reader.Stored.{value_is}
 use Rattle.tk_params.proofs.line.take_key.Goals as goal
 
 pub returns-in-Ok-clause-ok : goal.returns-in-Ok-clause-ok

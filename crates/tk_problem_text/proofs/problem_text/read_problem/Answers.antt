@@ -1,10 +1,9 @@
 use Rattle.std.proofs.Common.{◌≡◌, [], None, false, refl, arith}
 use Rattle.std.proofs.lemmas.Result.{IfOk-weaker}
-use Rattle.tk_words.specs.Texts.{WantMore}
 use Rattle.tk_words.proofs.Told.{where_unread}
 use Rattle.tk_words.specs.Lex.{lines}
 use Rattle.tk_lines.specs.Pieces.{decided_by, judge, cut}
-use Rattle.tk_problem_text.specs.Parts.{problem_is}
+use Rattle.tk_problem_text.specs.ProblemOf.{problem_is}
 use Rattle.tk_problem_text.specs.Problem.{problem_decided, problem_texts}
 use Rattle.tk_problem_text.proofs.ReadNames.{name_answered}
 use Rattle.tk_problem_text.proofs.problem_text.read_problem.Goals as goal

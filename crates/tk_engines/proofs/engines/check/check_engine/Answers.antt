@@ -1,6 +1,6 @@
 -- check_engine
 use Rattle.std.proofs.Common.{refl}
-use Rattle.tk_problem_text.specs.Parts.{problem_is}
+use Rattle.tk_problem_text.specs.ProblemOf.{problem_is}
 use Rattle.tk_engines.proofs.Lengths.{IsCheck-of}
 use Rattle.tk_engines.proofs.engines.check.check_engine.Goals as goal
 

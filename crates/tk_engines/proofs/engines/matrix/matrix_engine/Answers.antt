@@ -1,5 +1,5 @@
 use Rattle.std.proofs.Common.{refl}
-use Rattle.tk_problem_text.specs.Parts.{problem_is}
+use Rattle.tk_problem_text.specs.ProblemOf.{problem_is}
 use Rattle.tk_engines.proofs.ProblemTables.{is_not_too_large}
 use Rattle.tk_engines.proofs.engines.matrix.matrix_engine.Goals as goal
 

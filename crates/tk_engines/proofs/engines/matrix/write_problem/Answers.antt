@@ -1,6 +1,6 @@
 use Rattle.std.proofs.Common.{◌≡◌, ℕ, List, ap, subst, ◌∙◌, pos, arith}
 use Rattle.tk_distance.specs.Tables.{table_distance}
-use Rattle.tk_problem_text.specs.Parts.{weights_are}
+use Rattle.tk_problem_text.specs.ProblemOf.{weights_are}
 use Rattle.tk_problem_text.specs.Names.{IsName}
 use Rattle.tk_writers.specs.ReadBack.{ReadsBack}
 use Rattle.tk_engines.proofs.ProblemTables.{IsTable-table}

@@ -1,4 +1,4 @@
-use Rattle.tk_problem_text.specs.Parts.{problem_is}
+use Rattle.tk_problem_text.specs.ProblemOf.{problem_is}
 use Rattle.tk_engines.specs.Engine.{ReadsProblem}
 use Rattle.tk_engines.specs.Plot.{ReadsClaim, WritesOutput}
 use Rattle.tk_engines.proofs.PlotEnds.{ends_from}

@@ -1,5 +1,5 @@
 use Rattle.std.proofs.Common.{Bool, refl, subst, sym}
-use Rattle.tk_problem_text.specs.Parts.{problem_is}
+use Rattle.tk_problem_text.specs.ProblemOf.{problem_is}
 use Rattle.tk_engines.specs.Engine.{EndsByProblem, IsUntouched}
 use Rattle.tk_engines.specs.Plot.{Drawn, HasRead, Nothing, ReadsClaim, WritesOutput, plot_task}
 use Rattle.tk_engines.specs.declared.engines.plotted.Plotted.TheVariants as plotted

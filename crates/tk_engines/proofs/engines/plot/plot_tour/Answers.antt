@@ -1,5 +1,5 @@
 use Rattle.std.proofs.Common.{ap, refl}
-use Rattle.tk_problem_text.specs.Parts.{problem_is, routing_is}
+use Rattle.tk_problem_text.specs.ProblemOf.{problem_is, routing_is}
 use Rattle.tk_engines.specs.declared.engines.plotted.Plotted.TheVariants as plotted
 use Rattle.tk_engines.specs.Plot.{TourClaim}
 use Rattle.tk_engines.proofs.engines.plot.plot_tour.Goals as goal

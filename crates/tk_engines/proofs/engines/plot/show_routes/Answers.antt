@@ -1,7 +1,7 @@
 use Rattle.std.proofs.Common.{◌≡◌, ℕ, refl, rules, subst}
 use Rattle.std.specs.Prelude.{map}
 use Rattle.std.specs.Int.RustNames.{unsigned_abs}
-use Rattle.tk_problem_text.specs.Parts.{problem_is}
+use Rattle.tk_problem_text.specs.ProblemOf.{problem_is}
 use Rattle.tk_routes.specs.Cvrps.{instance_of}
 use Rattle.tk_picture.specs.Drawings.{SomeRoutes}
 use Rattle.tk_engines.specs.Plot.{Drawn, Refused, IsPicture}

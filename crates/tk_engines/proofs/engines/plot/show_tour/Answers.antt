@@ -1,5 +1,5 @@
 use Rattle.std.proofs.Common.{ℕ, refl, subst, ◌∙◌, ◌∷◌, []}
-use Rattle.tk_problem_text.specs.Parts.{problem_is}
+use Rattle.tk_problem_text.specs.ProblemOf.{problem_is}
 use Rattle.tk_picture.specs.Drawings.{ATour}
 use Rattle.tk_engines.specs.Plot.{Drawn, Refused, IsPicture}
 use Rattle.tk_engines.proofs.Shown.{length_read, tour_told}

@@ -1,7 +1,7 @@
 -- route_check_engine
 use Rattle.std.proofs.Common.{refl}
 use Rattle.std.specs.Prelude.{map}
-use Rattle.tk_problem_text.specs.Parts.{problem_is}
+use Rattle.tk_problem_text.specs.ProblemOf.{problem_is}
 use Rattle.tk_engines.proofs.RouteChecks.{verdict_read, routing_fits}
 use Rattle.tk_engines.proofs.engines.route_check.route_check_engine.Goals as goal
 

@@ -1,6 +1,6 @@
 use Rattle.std.proofs.Common.{◌≡◌, ℕ, List, [], Option, None, ap, rules}
 use Rattle.std.specs.Prelude.{is_some, option_map}
-use Rattle.tk_problem_text.specs.Parts.{problem_is}
+use Rattle.tk_problem_text.specs.ProblemOf.{problem_is}
 use Rattle.tk_problem_text.specs.Problem.{ProblemIs}
 use Rattle.tk_routes.specs.Cvrps.{instance_of}
 use Rattle.tk_solve.specs.Events.{Event}

@@ -1,5 +1,5 @@
 use Rattle.std.proofs.Common.{refl}
-use Rattle.tk_problem_text.specs.Parts.{problem_is}
+use Rattle.tk_problem_text.specs.ProblemOf.{problem_is}
 use Rattle.tk_engines.specs.Solve.{tour_files}
 use Rattle.tk_engines.proofs.engines.solve.solve_tsp.Goals as goal
 

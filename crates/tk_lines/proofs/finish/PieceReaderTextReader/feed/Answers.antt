@@ -1,8 +1,8 @@
 use Rattle.std.proofs.Common.{◌++◌, ℕ, List, subst, sym, Err, Ok, arith}
 use Rattle.std.proofs.lemmas.Result.{err_from_is_err_and}
 use Rattle.tk_lines.specs.declared.place.Flow.TheVariants.{Whole}
-use Rattle.tk_lines.specs.Reader.{anything, Fed}
-use Rattle.tk_lines.specs.Steps.{HasCome}
+use Rattle.tk_lines.specs.Reader.Places.{anything, Fed}
+use Rattle.tk_lines.specs.Reader.Steps.{HasCome}
 use Rattle.tk_lines.proofs.Endings.ReaderEnds.{fed_waits}
 use Rattle.tk_lines.proofs.TokenRuns.{line_short}
 use Rattle.tk_lines.proofs.Runs.{first_byte, none_taken, told_run, whole_run}

@@ -1,6 +1,6 @@
 use Rattle.std.proofs.Common.{subst}
 use Rattle.tk_lines.specs.declared.place.Place.TheVariants as places
-use Rattle.tk_lines.specs.Steps.{EndsPlace}
+use Rattle.tk_lines.specs.Reader.Steps.{EndsPlace}
 use Rattle.tk_lines.proofs.KnownPlaces.{at_place}
 use Rattle.tk_lines.proofs.reader.PieceReader.close.Goals as goal
 

@@ -1,7 +1,7 @@
 use Rattle.std.proofs.Common.{ap, Ok}
 use Rattle.std.proofs.lemmas.Result.{err_from_is_err_and}
 use Rattle.tk_lines.specs.declared.place.Place.TheVariants as places
-use Rattle.tk_lines.specs.Reader.{at_end}
+use Rattle.tk_lines.specs.Reader.Places.{at_end}
 use Rattle.tk_lines.proofs.KnownPlaces.{at_place}
 use Rattle.tk_lines.proofs.Endings.ReaderEnds.{end_begin, end_closes, nothing_open, told_ended, decides_ended}
 use Rattle.tk_lines.proofs.reader.PieceReader.end_bytes.Goals as goal

@@ -1,6 +1,6 @@
 use Rattle.std.proofs.Common.{◌≡◌, ◌∙◌, Some}
 use Rattle.tk_lines.specs.Pieces.{Fault, first_at}
-use Rattle.tk_lines.specs.Reader.{DecidesIf}
+use Rattle.tk_lines.specs.Reader.Places.{DecidesIf}
 use Rattle.tk_lines.specs.declared.place.Place.TheVariants as places
 use Rattle.tk_lines.proofs.KnownPlaces.{at_place, told_word}
 use Rattle.tk_lines.proofs.LineSteps.{header_err, stop_header}

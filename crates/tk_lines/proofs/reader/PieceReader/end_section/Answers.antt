@@ -1,6 +1,6 @@
 use Rattle.std.proofs.Common.{◌≡◌, Some, true}
 use Rattle.tk_lines.specs.Pieces.{Early, Fault}
-use Rattle.tk_lines.specs.Steps.{IsAnswered}
+use Rattle.tk_lines.specs.Reader.Steps.{IsAnswered}
 use Rattle.tk_lines.proofs.KnownPlaces.{told_word}
 use Rattle.tk_lines.proofs.Endings.ReaderEnds.{end_section, end_section_err}
 use Rattle.tk_lines.proofs.reader.PieceReader.end_section.Goals as goal

@@ -1,5 +1,5 @@
 use Rattle.std.proofs.lemmas.Result.{err_from_is_err_and}
-use Rattle.tk_lines.specs.Reader.{at_end}
+use Rattle.tk_lines.specs.Reader.Places.{at_end}
 use Rattle.tk_lines.proofs.Endings.ReaderEnds.{end_in_line_end, told_ended, end_header}
 use Rattle.tk_lines.proofs.reader.PieceReader.end_value.Goals as goal
 

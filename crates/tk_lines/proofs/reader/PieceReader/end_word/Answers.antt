@@ -3,7 +3,7 @@ use Rattle.tk_words.specs.Lex.{Token}
 use Rattle.tk_words.specs.Words as words
 use Rattle.tk_lines.specs.Pieces.{After, Fault}
 use Rattle.tk_lines.specs.declared.place.Place.TheVariants as places
-use Rattle.tk_lines.specs.Reader.{DecidesIf}
+use Rattle.tk_lines.specs.Reader.Places.{DecidesIf}
 use Rattle.tk_lines.proofs.KnownPlaces.{at_place, told_word}
 use Rattle.tk_lines.proofs.LineSteps.{word_unknown, word_eof_ok, word_eof_err, word_section, word_tail}
 use Rattle.tk_lines.proofs.reader.PieceReader.end_word.Goals as goal

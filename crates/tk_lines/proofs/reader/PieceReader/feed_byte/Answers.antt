@@ -1,6 +1,6 @@
 use Rattle.std.proofs.Common.{◌∙◌, sym}
 use Rattle.std.proofs.lemmas.Result.{err_from_is_err_and}
-use Rattle.tk_lines.specs.Reader.{this}
+use Rattle.tk_lines.specs.Reader.Places.{this}
 use Rattle.tk_lines.proofs.KnownPlaces.{told_byte, this_ends}
 use Rattle.tk_lines.proofs.NarrowPlaces.{narrow}
 use Rattle.tk_lines.proofs.LineSteps.{decides_byte}

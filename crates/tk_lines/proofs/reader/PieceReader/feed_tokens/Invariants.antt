@@ -1,6 +1,6 @@
 -- the bytes before this one are taken
 use Rattle.std.proofs.Common.{ℕ, ◌-◌, ◌≤◌, List, ◌++◌, length, take}
-use Rattle.tk_lines.specs.Reader.{Fed, anything}
+use Rattle.tk_lines.specs.Reader.Places.{Fed, anything}
 use Rattle.tk_lines.proofs.reader.PieceReader.feed_tokens.Given as goal
 
 abbrev pub invariant-loop-self : goal.invariant-loop-self

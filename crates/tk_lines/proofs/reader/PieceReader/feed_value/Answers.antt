@@ -2,7 +2,7 @@ use Rattle.std.proofs.Common.{◌∷◌, [], ◌++◌, sym, ◌∙◌, arith}
 use Rattle.std.proofs.lemmas.Bool.{ne_eqb, eq-eqb}
 use Rattle.std.proofs.lemmas.Result.{err_from_is_err_and}
 use Rattle.tk_lines.specs.declared.place.Place.TheVariants as places
-use Rattle.tk_lines.specs.Reader.{this, a_line_end}
+use Rattle.tk_lines.specs.Reader.Places.{this, a_line_end}
 use Rattle.tk_lines.proofs.KnownPlaces.{at_place, told_byte, this_within}
 use Rattle.tk_lines.proofs.LineSteps.{line_behind-byte, line_behind-LF, tail_byte, tail_long, header_LF}
 use Rattle.tk_lines.proofs.reader.PieceReader.feed_value.Goals as goal

@@ -1,5 +1,5 @@
 use Rattle.std.proofs.lemmas.Result.{err_from_is_err_and}
-use Rattle.tk_lines.specs.Reader.{this, a_gap}
+use Rattle.tk_lines.specs.Reader.Places.{this, a_gap}
 use Rattle.tk_lines.proofs.KnownPlaces.{told_byte, this_within}
 use Rattle.tk_lines.proofs.LineSteps.{decides_byte}
 use Rattle.tk_lines.proofs.reader.PieceReader.feed_whole.Goals as goal
@@ -20,8 +20,8 @@ returns-in-Whole g c = λ before stands.
     (this_within c.args.byte a_gap (λ e more. c.requires.gap)) c.requires.run.0 stands) in
     (decides_byte g.F.Form.promise.format c.args.byte before _ whole.0, whole.1)
 
-pub feed_settled-requires-clause-known : goal.feed_settled-requires-clause-known
-feed_settled-requires-clause-known g c = (
+pub feed_next-requires-clause-known : goal.feed_next-requires-clause-known
+feed_next-requires-clause-known g c = (
   c.requires.known.0,
   rw c.in-On.is at
       (c.in_ok-take_token.ensures.taken (this c.args.byte) c.requires.known.0
@@ -30,7 +30,7 @@ feed_settled-requires-clause-known g c = (
 
 pub returns-in-On : goal.returns-in-On
 returns-in-On g c =
-    λ before stands. c.feed_settled.ensures before
+    λ before stands. c.feed_next.ensures before
     (rw c.in-On.is at
     (c.in_ok-take_token.ensures.taken (this c.args.byte) before
     (this_within c.args.byte a_gap (λ e more. c.requires.gap)) c.requires.run.0 stands))

@@ -1,7 +1,7 @@
 use Rattle.std.proofs.Common.{◌≡◌, ◌++◌, refl, Some, true}
 use Rattle.tk_lines.specs.Pieces.{Early}
-use Rattle.tk_lines.specs.Reader.{DecidesIf}
-use Rattle.tk_lines.specs.Forms.{StopsAt, a_section, whole}
+use Rattle.tk_lines.specs.Reader.Places.{DecidesIf}
+use Rattle.tk_lines.specs.Reader.Forms.{StopsAt, a_section, whole}
 use Rattle.tk_lines.proofs.KnownPlaces.{told_word}
 use Rattle.tk_lines.proofs.Sections.SectionSteps.{token_more, token_stops, token_eof_ok, token_eof_err, token_last}
 use Rattle.tk_lines.proofs.Endings.MinusOneSteps.{token_ending}

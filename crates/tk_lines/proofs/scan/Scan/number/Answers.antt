@@ -1,7 +1,7 @@
 use Rattle.std.proofs.Common.{◌∙◌, sym, refl, ap, Some, ℤ, SFits, w64, rules}
 use Rattle.std.proofs.lemmas.Int.{to_z-of_z}
 use Rattle.tk_words.specs.Entry.{in_range}
-use Rattle.tk_lines.specs.Scan.{first_word}
+use Rattle.tk_lines.specs.HeaderValue.{first_word}
 use Rattle.tk_lines.proofs.Headers.HeaderNumbers.{value_integer, tests_bad, tests_out}
 use Rattle.tk_lines.proofs.scan.Scan.number.Goals as goal
 

@@ -1,6 +1,6 @@
 use Rattle.std.proofs.Common.{◌∷◌, [], ◌++◌, sym, subst, ◌∙◌}
 use Rattle.std.proofs.lemmas.Bool.{ne_eqb}
-use Rattle.tk_lines.specs.Scan.{Scans}
+use Rattle.tk_lines.specs.Reader.Scan.{Scans}
 use Rattle.tk_lines.proofs.Headers.HeaderBytes.{before_blank, before_colon, before_first, behind_blank, behind_first}
 use Rattle.tk_lines.proofs.Headers.HeaderBytes.{first_blank, first_more, first_full, rest_blank, rest_solid}
 use Rattle.tk_lines.proofs.scan.Scan.push.Goals as goal

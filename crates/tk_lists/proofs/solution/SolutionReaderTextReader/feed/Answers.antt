@@ -5,7 +5,7 @@ use Rattle.tk_words.proofs.Told.{told_of}
 use Rattle.tk_lines.proofs.Runs.{first_byte}
 use Rattle.tk_lines.proofs.TokenRuns.{line_short}
 use Rattle.tk_lists.specs.Solution.{solution_texts}
-use Rattle.tk_lists.specs.SolutionReader.{Fed}
+use Rattle.tk_lists.specs.Reader.SolutionReader.{Fed}
 use Rattle.tk_lists.proofs.SolutionTexts.{fed_waits}
 use Rattle.tk_lists.proofs.solution.SolutionReaderTextReader.feed.Goals as goal
 

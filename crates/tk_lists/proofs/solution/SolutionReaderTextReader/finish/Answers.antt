@@ -2,7 +2,7 @@ use Rattle.std.proofs.Common.{◌≡◌, [], true, Some}
 use Rattle.tk_words.specs.Texts.{DecidesEnded}
 use Rattle.tk_lines.specs.Pieces.{Fault}
 use Rattle.tk_lists.specs.Solution.{line_stop, solution_texts}
-use Rattle.tk_lists.specs.SolutionReader.{rest_of}
+use Rattle.tk_lists.specs.Reader.SolutionReader.{rest_of}
 use Rattle.tk_lines.proofs.KnownPlaces.{told_word}
 use Rattle.tk_lists.proofs.SolutionTexts.{end_stops, end_missing, end_whole}
 use Rattle.tk_lists.proofs.solution.SolutionReaderTextReader.finish.Goals as goal

@@ -1,10 +1,10 @@
 use Rattle.std.proofs.Common.{◌≡◌, ◌∷◌, ◌++◌, ◌+◌, [], Bool, true, List, Some, length}
 use Rattle.std.proofs.lemmas.Result.{err_from_is_err_and, IfOk-weaker, IfErr-weaker}
-use Rattle.tk_lines.specs.Forms.{whole}
+use Rattle.tk_lines.specs.Reader.Forms.{whole}
 use Rattle.tk_words.specs.Lex.{Token}
 use Rattle.tk_lines.specs.Pieces.{Fault}
 use Rattle.tk_lists.specs.Solution.{line_stop, count_of, customer_stop, cost_stop}
-use Rattle.tk_lists.specs.SolutionReader.{line_from}
+use Rattle.tk_lists.specs.Reader.SolutionReader.{line_from}
 use Rattle.tk_lists.specs.declared.solution_reader.LinePlace.TheVariants as places
 use Rattle.tk_lines.proofs.Pieces.ToldFaults.{told_word}
 use Rattle.tk_lists.proofs.SolutionEnds.{end_start, end_skip, end_other, end_close, end_gap, end_customer}

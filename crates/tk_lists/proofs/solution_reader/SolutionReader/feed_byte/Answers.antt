@@ -3,7 +3,7 @@ use Rattle.std.proofs.lemmas.Bool.{ne_eqb}
 use Rattle.tk_words.specs.Texts.{Decides}
 use Rattle.tk_lines.specs.Pieces.{Fault}
 use Rattle.tk_lists.specs.Solution.{line_stop, solution_texts}
-use Rattle.tk_lists.specs.SolutionReader.{Fed, StopsAt, rest_of}
+use Rattle.tk_lists.specs.Reader.SolutionReader.{Fed, StopsAt, rest_of}
 use Rattle.tk_lists.specs.declared.solution_reader.LinePlace.TheVariants as places
 use Rattle.tk_lists.specs.declared.solution_reader.SolutionReader.{SolutionReader}
 use Rattle.tk_lines.proofs.KnownPlaces.{told_word}

@@ -1,9 +1,9 @@
 use Rattle.std.proofs.Common.{◌≡◌, ◌+◌, ◌∷◌, ◌++◌, [], length, Some, sym, ◌∙◌}
 use Rattle.std.proofs.lemmas.Result.{err_from_is_err_and}
-use Rattle.tk_lines.specs.Forms.{whole}
+use Rattle.tk_lines.specs.Reader.Forms.{whole}
 use Rattle.tk_lines.specs.Pieces.{Fault}
 use Rattle.tk_lists.specs.Solution.{count_of, customer_stop}
-use Rattle.tk_lists.specs.SolutionReader.{StopsAt, line_from}
+use Rattle.tk_lists.specs.Reader.SolutionReader.{StopsAt, line_from}
 use Rattle.tk_lists.specs.declared.solution_reader.LinePlace.TheVariants as places
 use Rattle.tk_lines.proofs.Pieces.ToldFaults.{told_word}
 use Rattle.tk_lists.proofs.SolutionSteps.{customer_same, customer_more, customer_stops, customer_long, token_grows}

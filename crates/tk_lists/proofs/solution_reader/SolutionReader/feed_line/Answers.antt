@@ -2,7 +2,7 @@ use Rattle.std.proofs.Common.{◌++◌, [], List, refl, sym, ap, ◌∙◌, arit
 use Rattle.std.proofs.lemmas.Result.{IfErr-weaker}
 use Rattle.tk_words.specs.Lex.{Token}
 use Rattle.tk_lists.specs.Solution.{Route, Cost}
-use Rattle.tk_lists.specs.SolutionReader.{StopsAt, line_from, rest_of}
+use Rattle.tk_lists.specs.Reader.SolutionReader.{StopsAt, line_from, rest_of}
 use Rattle.tk_lists.specs.declared.solution_reader.LinePlace.TheVariants as places
 use Rattle.tk_lines.proofs.Pieces.ToldFaults.{told_word}
 use Rattle.tk_lines.proofs.Sections.MiddleOfSection.{tokens_of-gap}

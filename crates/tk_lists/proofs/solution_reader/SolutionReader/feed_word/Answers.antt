@@ -3,7 +3,7 @@ use Rattle.std.proofs.lemmas.List.{length-append}
 use Rattle.std.proofs.lemmas.Result.{err_from_is_err_and, IfOk-weaker, IfErr-weaker}
 use Rattle.tk_lines.specs.Pieces.{Fault, first_at}
 use Rattle.tk_lists.specs.Solution.{solid_line, Other, may_be_word, route_head, route_tests, cost_tests}
-use Rattle.tk_lists.specs.SolutionReader.{StopsAt, line_from}
+use Rattle.tk_lists.specs.Reader.SolutionReader.{StopsAt, line_from}
 use Rattle.tk_lists.specs.declared.route_head.HeadPlace.TheVariants as heads
 use Rattle.tk_lists.specs.declared.solution_reader.LinePlace.TheVariants as places
 use Rattle.tk_lines.proofs.Pieces.ToldFaults.{told_word}

@@ -2,7 +2,7 @@ use Rattle.std.proofs.Common.{◌≡◌, Some}
 use Rattle.std.proofs.lemmas.Result.{err_from_is_err_and}
 use Rattle.tk_lines.specs.Pieces.{Fault, first_at}
 use Rattle.tk_lists.specs.Solution.{Other, other_tests}
-use Rattle.tk_lists.specs.SolutionReader.{StopsAt}
+use Rattle.tk_lists.specs.Reader.SolutionReader.{StopsAt}
 use Rattle.tk_lines.proofs.Pieces.ToldFaults.{told_word}
 use Rattle.tk_lists.proofs.solution_reader.SolutionReader.skip.Goals as goal
 

@@ -3,7 +3,7 @@ use Rattle.std.proofs.lemmas.Result.{err_from_is_err_and}
 use Rattle.tk_problem.specs.declared.limits.TheConstants.{ENTRY_LIMIT}
 use Rattle.tk_words.specs.declared.keyword.Keyword.TheVariants as words
 use Rattle.tk_lines.specs.Pieces.{first_at, Fault}
-use Rattle.tk_lines.specs.Scan.{first_word}
+use Rattle.tk_lines.specs.HeaderValue.{first_word}
 use Rattle.tk_words.specs.Entry.{number_tests}
 use Rattle.tk_lists.specs.Tour.{tour_header}
 use Rattle.tk_lines.proofs.Headers.HeaderNumbers.{tests_fine}

@@ -1,7 +1,7 @@
 use Rattle.std.proofs.Common.{◌∙◌, false, ap}
 use Rattle.std.specs.Option.{unwrap_or}
 use Rattle.tk_params.specs.declared.value.Construction.TheVariants.{Nearest}
-use Rattle.tk_params.specs.Stored.{params_in, settings_in}
+use Rattle.tk_params.specs.Reader.Stored.{params_in, settings_in}
 use Rattle.tk_params.specs.declared.params.Params.TheInside.{Inside as Fields}
 use Rattle.tk_params.proofs.Taken.{AreLookedUp, looked_within, some_asked}
 use Rattle.tk_params.proofs.params.Params.from_settings.Goals as goal

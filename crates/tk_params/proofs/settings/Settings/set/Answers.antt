@@ -1,5 +1,5 @@
 use Rattle.std.proofs.Common.{◌∙◌, ap, sym}
-use Rattle.tk_params.specs.Stored.{settings_in, value_is}
+use Rattle.tk_params.specs.Reader.Stored.{settings_in, value_is}
 use Rattle.tk_params.specs.Values.{has}
 use Rattle.tk_params.proofs.Looks.{one_more_ignored, one_more_used}
 use Rattle.tk_params.proofs.settings.Settings.set.Goals as goal

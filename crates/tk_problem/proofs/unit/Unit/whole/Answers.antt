@@ -9,9 +9,9 @@ returns-then-eq-clause-some c = sym c.place.ensures.place ∙ points_equal c.pla
 pub returns-else-eq-clause-none : goal.returns-else-eq-clause-none
 returns-else-eq-clause-none c = λ whole same.
     let step = pos (step_of c.args.self) in
-    let x = quotient-in c.args.self c.args.place.x c.step-step.result whole.x (ap (λ p. p.x) same) c.step-step.ensures
+    let x = quotient-in c.args.self c.args.place.x c.units-x.result whole.x (ap (λ p. p.x) same) c.units-x.ensures
     whole.x_near in
-    let y = quotient-in c.args.self c.args.place.y c.step-step.result whole.y (ap (λ p. p.y) same) c.step-step.ensures
+    let y = quotient-in c.args.self c.args.place.y c.units-y.result whole.y (ap (λ p. p.y) same) c.units-y.ensures
     whole.y_near in
     points_differ c.place.result c.args.place c.if-eq.ensures
     (c.place.ensures.place ∙ same_point _ _ _ _ (ap (λ z. z *ℤ step) x) (ap (λ z. z *ℤ step) y) ∙ same)

@@ -2,12 +2,12 @@ use Rattle.std.proofs.Common.{◌≡◌, false, ◌++◌, [], ◌∷◌, refl, s
 use Rattle.std.specs.Prelude.{IfOk, is_none}
 use Rattle.tk_words.specs.declared.keyword.Keyword.TheVariants as words
 use Rattle.tk_words.specs.declared.fault.TextKind.TheVariants as kinds
-use Rattle.tk_lines.specs.Scan.{first_word}
+use Rattle.tk_lines.specs.HeaderValue.{first_word}
 use Rattle.tk_words.specs.Entry.{number_tests}
 use Rattle.tk_problem_text.specs.HeaderValues.{problem_type_of, weight_type_of, weight_format_of, number_of}
 use Rattle.tk_lines.specs.Pieces.{has}
-use Rattle.tk_lines.specs.Forms.{a_header}
-use Rattle.tk_problem_text.specs.Kept.{Says}
+use Rattle.tk_lines.specs.Reader.Forms.{a_header}
+use Rattle.tk_problem_text.specs.Reader.Kept.{Says}
 use Rattle.std.proofs.lemmas.Result.{IfOk-weaker}
 use Rattle.tk_problem.specs.declared.limits.TheConstants.{CAPACITY_LIMIT, CITY_LIMIT}
 use Rattle.tk_problem_text.proofs.KeptHeaders.{says_known, says_number}

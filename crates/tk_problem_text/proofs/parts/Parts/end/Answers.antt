@@ -1,7 +1,7 @@
 use Rattle.std.proofs.Common.{rules, ◌≡◌, Some, false, subst, ◌∙◌}
 use Rattle.std.specs.Prelude.{IfSome, is_none}
 use Rattle.tk_words.specs.declared.fault.TextKind.{TextKind}
-use Rattle.tk_lines.specs.Forms.{IsToldWord}
+use Rattle.tk_lines.specs.Reader.Forms.{IsToldWord}
 use Rattle.tk_problem_text.specs.Problem.{first_kind, weights_ends, routing_ends_of, problem_end}
 use Rattle.tk_problem_text.proofs.KeptHeaders.{told_map, some_map}
 use Rattle.tk_problem_text.proofs.PartEnds.{end_stops, end_goes}

@@ -1,6 +1,6 @@
 use Rattle.std.proofs.Common.{subst, sym, ◌∙◌}
-use Rattle.tk_problem_text.specs.Sections.OpenSections.{IsPast}
-use Rattle.tk_problem_text.specs.Parts.{HasParts}
+use Rattle.tk_problem_text.specs.Reader.OpenSections.{IsPast}
+use Rattle.tk_problem_text.specs.Reader.Parts.{HasParts}
 use Rattle.tk_problem_text.specs.Problem.{size_of}
 use Rattle.tk_problem_text.proofs.ProblemForms.{past_places, past_loads}
 use Rattle.tk_problem_text.proofs.problem_form.ProblemForm.close.Goals as goal

@@ -1,9 +1,9 @@
 use Rattle.std.proofs.lemmas.Result.{err_from_is_err_and}
 use Rattle.tk_problem_text.specs.declared.problem_form.ProblemForm.{ProblemForm}
-use Rattle.tk_lines.specs.Forms.{whole}
-use Rattle.tk_problem_text.specs.Sections.OpenSections.{IsOpen, IsPast}
+use Rattle.tk_lines.specs.Reader.Forms.{whole}
+use Rattle.tk_problem_text.specs.Reader.OpenSections.{IsOpen, IsPast}
 use Rattle.tk_problem_text.specs.Problem.{problem_format}
-use Rattle.tk_problem_text.specs.ProblemForm.{ProblemHolds, ProblemWants}
+use Rattle.tk_problem_text.specs.Reader.ProblemForm.{ProblemHolds, ProblemWants}
 use Rattle.tk_problem_text.proofs.ProblemForms.{taken_more, taken_end}
 use Rattle.tk_problem_text.proofs.problem_form.ProblemFormForm.token.Goals as goal
 
@@ -18,7 +18,7 @@ returns-in-More-clause-ok c = λ before word n toks line wants.
     let now : ProblemForm =
     record { alloc = c.args.self.now.alloc; parts = c.args.self.now.parts; current = current } in
     taken_more problem_format (IsPast before word n current) (ProblemHolds now) (λ ps w m ts. IsOpen ps w m ts current)
-    (ProblemWants now) before word n toks (whole c.args.bytes.now line) c.in_ok-taken.taken c.in-More.is
+    (ProblemWants now) before word n toks (whole c.args.token.now line) c.in_ok-taken.taken c.in-More.is
     (λ ts is. record { parts = wants.parts; sized = wants.sized; fresh = wants.fresh; section = is })
     (c.in_ok-taken.ensures.ok before word n toks line wants.section)
 
@@ -27,6 +27,6 @@ returns-in_default-clause-ok c = λ before word n toks line wants.
     let current = c.take.new.self in
     taken_end problem_format (IsPast before word n current) (ProblemHolds c.close.new.self)
     (λ ps w m ts. IsOpen ps w m ts current) (ProblemWants c.close.new.self) before word n toks
-    (whole c.args.bytes.now line) c.in_ok-taken.taken c.in_default.not-More
+    (whole c.args.token.now line) c.in_ok-taken.taken c.in_default.not-More
     (λ ps past. c.close.ensures before word n ps wants.parts wants.sized wants.fresh past)
     (c.in_ok-taken.ensures.ok before word n toks line wants.section)

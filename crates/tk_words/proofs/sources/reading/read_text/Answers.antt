@@ -1,9 +1,8 @@
-use Rattle.std.proofs.Common.{◌≡◌, ◌≤◌, ◌++◌, [], take, length, Ok, Err, Result, IfErr, IfOk, true, arith}
+use Rattle.std.proofs.Common.{◌≤◌, ◌++◌, [], take, length, Ok, Err, arith}
 use Rattle.std.specs.Io.KnownBytes.{Consumes, IsAtEnd}
 use Rattle.std.proofs.lemmas.List.{length-take}
 use Rattle.std.proofs.lemmas.Result.{err_from_is_err_and}
-use Rattle.tk_words.specs.Taking.{HasEnded}
-use Rattle.tk_words.specs.Texts.{Texts, Answers, DecidesEnded, IsOfSomeText, IsFaultOfSomeText, WantMore}
+use Rattle.tk_words.specs.Texts.{Answers, DecidesEnded, IsOfSomeText, WantMore}
 use Rattle.tk_words.specs.declared.sources.reading.TheConstants.{BUFFER_SIZE}
 use Rattle.tk_words.proofs.Told.{told_of, fault_of}
 use Rattle.tk_words.proofs.Driving.{answer_ended, ended_fault, ended_value, where_read, where_decided}

@@ -3,7 +3,7 @@ use Rattle.std.proofs.lemmas.Bool.{eqb-true, eqb-false}
 use Rattle.std.proofs.lemmas.Result.{err_from_is_err_and}
 use Rattle.tk_problem_text.specs.declared.sections.coordinates.Wanted.TheVariants as wants
 use Rattle.tk_words.specs.Decimal.{decimal_of}
-use Rattle.tk_lines.specs.Forms.{whole}
+use Rattle.tk_lines.specs.Reader.Forms.{whole}
 use Rattle.tk_lines.specs.Pieces.{first_at}
 use Rattle.tk_problem_text.specs.Sections.Rows.{place_tests, node_tests, coordinate_tests, nodes_in, place_rows}
 use Rattle.tk_lines.proofs.Pieces.ToldFaults.{told_same}

@@ -1,7 +1,7 @@
 use Rattle.std.proofs.Common.{None, Some, sym, ap, ◌∙◌}
 use Rattle.std.proofs.lemmas.Bool.{eqb-true, eqb-false}
 use Rattle.std.proofs.lemmas.Result.{err_from_is_err_and}
-use Rattle.tk_lines.specs.Forms.{whole}
+use Rattle.tk_lines.specs.Reader.Forms.{whole}
 use Rattle.tk_lines.specs.Pieces.{first_at}
 use Rattle.tk_problem_text.specs.Sections.Rows.{nodes_in, demand_rows}
 use Rattle.tk_problem_text.proofs.SectionTokens.DemandRows.{opened, at_node, node_taken, demand_tests-node, fewer_nodes}

@@ -1,13 +1,13 @@
 use Rattle.std.proofs.Common.{subst, sym, ◌∙◌, ap, true, ◌++◌}
 use Rattle.std.proofs.lemmas.Bool.{false≢true}
-use Rattle.tk_problem_text.specs.Sections.OpenSections.{IsOpen, IsPast}
-use Rattle.tk_lines.specs.Forms.{a_section}
+use Rattle.tk_problem_text.specs.Reader.OpenSections.{IsOpen, IsPast}
+use Rattle.tk_lines.specs.Reader.Forms.{a_section}
 use Rattle.tk_lines.specs.Pieces.{Early}
 use Rattle.tk_problem_text.proofs.ProblemForms.{home_past, early_stop, is_home, not_home}
 use Rattle.tk_problem_text.proofs.sections.open_section.OpenSection.may_end.Goals as goal
 
 pub returns-in-Home-clause-yes : goal.returns-in-Home-clause-yes
-returns-in-Home-clause-yes c = λ before word n toks line is some.
+returns-in-Home-clause-yes c = λ some before word n toks line is.
     let past =
     home_past before word n toks c.in-Home.section line (subst (λ s. IsOpen before word n toks s) c.in-Home.is is)
     (sym c.is_some.ensures ∙ some) in (
@@ -17,12 +17,12 @@ returns-in-Home-clause-yes c = λ before word n toks line is some.
     )
 
 pub returns-in-Home-clause-no : goal.returns-in-Home-clause-no
-returns-in-Home-clause-no c = λ before word n toks line is none.
+returns-in-Home-clause-no c = λ none before word n toks line is.
     early_stop before word n toks c.args.self.now line is (ap is_home c.in-Home.is ∙ sym c.is_some.ensures ∙ none)
 
 pub returns-in_default : goal.returns-in_default
 returns-in_default c = record {
-  yes = λ before word n toks line is e. absurd (false≢true e);
-  no = λ before word n toks line is e. early_stop before word n toks c.args.self.now line is
+  yes = λ e before word n toks line is. absurd (false≢true e);
+  no = λ e before word n toks line is. early_stop before word n toks c.args.self.now line is
       (not_home c.args.self.now c.in_default.not-Home);
 }

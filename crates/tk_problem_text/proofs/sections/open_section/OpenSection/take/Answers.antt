@@ -1,6 +1,6 @@
 use Rattle.std.proofs.Common.{◌≡◌, true, false, refl, subst, sym, ap, ◌∙◌}
 use Rattle.tk_words.specs.Entry.{is_keyword, is_some_word}
-use Rattle.tk_problem_text.specs.Sections.OpenSections.{IsOpen}
+use Rattle.tk_problem_text.specs.Reader.OpenSections.{IsOpen}
 use Rattle.tk_problem_text.proofs.SectionTokens.OpenSections.{not_home, keyword_is, at_keyword, home_take, home_refuse}
 use Rattle.tk_problem_text.proofs.sections.open_section.OpenSection.take.Goals as goal
 
@@ -16,8 +16,8 @@ returns-in-Home-clause-err c = λ before word n toks line is_open.
 
 pub returns-then-is_some : goal.returns-then-is_some
 returns-then-is_some c =
-    let is : is_keyword c.args.token.now ≡ true = ap is_some_word (sym c.keyword_in.ensures)
-    ∙ keyword_is c.keyword_in.result true (sym c.is_some.ensures ∙ c.if-is_some.true) in
+    let is : is_keyword c.args.token.now ≡ true = ap is_some_word (sym c.keyword.ensures)
+    ∙ keyword_is c.keyword.result true (sym c.is_some.ensures ∙ c.if-is_some.true) in
     record {
       ok = λ before word n toks line is_open. tt;
       kept = refl;
@@ -27,12 +27,14 @@ returns-then-is_some c =
 
 pub returns : goal.returns
 returns c =
-    let number : is_keyword c.args.token.now ≡ false = ap is_some_word (sym c.keyword_in.ensures)
-    ∙ keyword_is c.keyword_in.result false (sym c.is_some.ensures ∙ c.if-is_some.false) in
+    let number : is_keyword c.args.token.now ≡ false = ap is_some_word (sym c.keyword.ensures)
+    ∙ keyword_is c.keyword.result false (sym c.is_some.ensures ∙ c.if-is_some.false) in
     record {
-      ok = λ before word n toks line is_open. c.take_number.ensures.ok before word n toks line
-          (not_home before word n toks c.args.self.now c.in_default.not-Home is_open) number is_open;
-      err = λ before word n toks line is_open. c.take_number.ensures.err before word n toks line
-          (not_home before word n toks c.args.self.now c.in_default.not-Home is_open) number is_open;
+      ok = λ before word n toks line is_open. c.take_number.ensures.ok
+          (not_home before word n toks c.args.self.now c.in_default.not-Home is_open) number before word n toks line
+          is_open;
+      err = λ before word n toks line is_open. c.take_number.ensures.err
+          (not_home before word n toks c.args.self.now c.in_default.not-Home is_open) number before word n toks line
+          is_open;
       kept = c.take_number.ensures.kept;
     }

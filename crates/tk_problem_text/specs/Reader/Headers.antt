@@ -5,7 +5,7 @@ use Rattle.tk_words.specs.declared.keyword.Keyword.TheVariants as words
 use Rattle.tk_problem_text.specs.declared.headers.Headers.{Headers}
 use Rattle.tk_problem_text.specs.HeaderValues.{problem_type_of, weight_type_of, weight_format_of, number_of, name_of}
 use Rattle.tk_lines.specs.Pieces.{Piece, has, value_of}
-use Rattle.tk_problem_text.specs.Kept.{Keeps}
+use Rattle.tk_problem_text.specs.Reader.Kept.{Keeps}
 
 pub record HasHeaders (h : Headers) (ps : List Piece) : Type 0 where
   pub named : h.has_name ≡ has words.Name ps

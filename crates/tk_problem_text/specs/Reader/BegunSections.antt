@@ -8,11 +8,11 @@ use Rattle.tk_problem_text.specs.declared.sections.open_section.OpenSection.TheV
 use Rattle.tk_problem_text.specs.declared.sections.open_section.OpenSection.TheVariants.{Loads, Home, Display}
 use Rattle.tk_lines.specs.Pieces.{Piece, first_at, has}
 use Rattle.tk_problem_text.specs.Problem.{size_of, format_in, is_known_section, section_tests, word_tests}
-use Rattle.tk_problem_text.specs.Sections.OpenSections.{IsListed, IsOpen}
-use Rattle.tk_problem_text.specs.Sections.Coordinates.{HasPlaces}
-use Rattle.tk_problem_text.specs.Sections.Demands.{HasDemands}
-use Rattle.tk_problem_text.specs.Sections.Weighing.{HasWeights}
-use Rattle.tk_problem_text.specs.Sections.DepotTaken.{HasDepot}
+use Rattle.tk_problem_text.specs.Reader.OpenSections.{IsListed, IsOpen}
+use Rattle.tk_problem_text.specs.Reader.Coordinates.{HasPlaces}
+use Rattle.tk_problem_text.specs.Reader.Demands.{HasDemands}
+use Rattle.tk_problem_text.specs.Reader.Weighing.{HasWeights}
+use Rattle.tk_problem_text.specs.Reader.DepotTaken.{HasDepot}
 
 -- no token of the word's section was taken
 abbrev pub IsUntouched : List Piece → Keyword → OpenSection → Type 0

@@ -1,20 +1,10 @@
 -- What is kept of a header's value.
-use Rattle.std.specs.Prelude.{◌≡◌, ◌≤◌, ℕ, Bool, not, List, [], ◌∷◌, ◌++◌, length, take}
+use Rattle.std.specs.Prelude.{◌≡◌, ◌≤◌, ℕ, List, [], ◌∷◌, ◌++◌, length, take}
 use Rattle.tk_lines.specs.declared.scan.Phase.{Phase}
 use Rattle.tk_lines.specs.declared.scan.Phase.TheVariants as phases
 use Rattle.tk_lines.specs.declared.scan.Scan.{Scan}
-use Rattle.tk_words.specs.Lex.{is_blank, front, behind, after_word, trim_end}
-
-abbrev pub not_blank : ℕ → Bool
-not_blank b = not (is_blank b)
-
--- a value from its first byte on that is no blank
-abbrev pub body : List ℕ → List ℕ
-body v = behind is_blank (after_word v)
-
--- the first word of a header's value
-abbrev pub first_word : List ℕ → List ℕ
-first_word v = front not_blank (body v)
+use Rattle.tk_words.specs.Lex.{is_blank, behind, after_word, trim_end}
+use Rattle.tk_lines.specs.HeaderValue.{body, first_word, not_blank}
 
 -- the byte that settles the colon has come
 abbrev pub Settled : List ℕ → Type 0

@@ -18,8 +18,8 @@ use Rattle.tk_words.specs.Lex.{Line, Token, lines, tokens_of, is_blank, is_word_
 use Rattle.tk_lines.specs.Pieces.{Fault, first_at, stopped}
 use Rattle.tk_words.specs.Words.{spells}
 use Rattle.tk_words.specs.Entry.{numbers_of}
-use Rattle.tk_lines.specs.Reader.{IsToken}
-use Rattle.tk_lines.specs.Steps.{IsRefused}
+use Rattle.tk_lines.specs.Reader.Places.{IsToken}
+use Rattle.tk_lines.specs.Reader.Steps.{IsRefused}
 use Rattle.tk_words.specs.Texts.{Decides, line_behind}
 use Rattle.tk_lists.specs.Solution.{Solution, Head, Bad, Behind, colon_head, digits_head, number_head, route_head}
 use Rattle.tk_lists.specs.Solution.{SolutionLine, Other, Route, Cost, route_line, may_be_word, solid_line, line_of}

@@ -7,12 +7,12 @@ use Rattle.tk_words.specs.declared.sources.text_reader.Step.{Step}
 use Rattle.tk_words.specs.declared.sources.text_reader.Step.TheVariants.{Taken, Done}
 use Rattle.tk_words.specs.Texts.{Decides, IsTold, line_behind}
 use Rattle.tk_words.specs.Lex.{is_blank, is_empty, behind, lines}
-use Rattle.tk_lines.specs.FromMiddle.{prepend}
+use Rattle.tk_lines.specs.Reader.FromMiddle.{prepend}
 use Rattle.tk_params.specs.declared.fault.ParamFault.{ParamFault}
 use Rattle.tk_params.specs.declared.key.Key.TheVariants as keys
 use Rattle.tk_params.specs.declared.reader.ParamReader.{ParamReader}
 use Rattle.tk_params.specs.Asked.{ParamsAre, asked, asked_of, file_in}
-use Rattle.tk_params.specs.Readers.{HasTaken, IsToldOf}
+use Rattle.tk_params.specs.Reader.Lines.{HasTaken, IsToldOf}
 use Rattle.tk_params.specs.Values.{Settings, Faulty, line_means, look}
 use Rattle.tk_params.specs.Params.{line_limit, is_eof, word_of, behind_word, judge, pieces, params_decided}
 use Rattle.tk_params.specs.Params.{params_texts}

@@ -7,7 +7,7 @@ use Rattle.tk_problem_text.specs.declared.sections.coordinates.Wanted.{Wanted}
 use Rattle.tk_problem_text.specs.declared.sections.coordinates.Wanted.TheVariants as wants
 use Rattle.tk_words.specs.Decimal.{decimal_of}
 use Rattle.tk_words.specs.Lex.{Token}
-use Rattle.tk_problem_text.specs.Sections.Nodes.{Named, HasNamed, HasNext}
+use Rattle.tk_problem_text.specs.Reader.Nodes.{Named, HasNamed, HasNext}
 use Rattle.tk_problem_text.specs.Sections.Rows.{place_rows, nodes_in, places_of}
 
 -- the places by node, the nodes that were named, and what is wanted next

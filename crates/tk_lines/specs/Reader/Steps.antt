@@ -19,10 +19,10 @@ use Rattle.tk_lines.specs.declared.place.Place.TheVariants as places
 use Rattle.tk_lines.specs.declared.place.Flow.{Flow}
 use Rattle.tk_lines.specs.declared.place.Flow.TheVariants.{On, Whole}
 use Rattle.tk_lines.specs.declared.reader.PieceReader.{PieceReader}
-use Rattle.tk_lines.specs.Forms.{Promise}
+use Rattle.tk_lines.specs.Reader.Forms.{Promise}
 use Rattle.tk_lines.specs.Pieces.{Format, decided_by}
-use Rattle.tk_lines.specs.Reader.{Next, Within, Fed, IsIn, HeaderTaken, DecidesIf, this, anything, at_end, a_gap}
-use Rattle.tk_lines.specs.Reader.{a_line_end, no_word}
+use Rattle.tk_lines.specs.Reader.Places.{Next, Within, Fed, IsIn, HeaderTaken, DecidesIf, this, anything, at_end, a_gap}
+use Rattle.tk_lines.specs.Reader.Places.{a_line_end, no_word}
 
 -- a fault other than of memory is an answer with P
 abbrev pub IsRefused : {V : Type 0} → (Result V TextFault → Type 0) → TextFault → Type 0

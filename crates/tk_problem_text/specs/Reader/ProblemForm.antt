@@ -4,11 +4,11 @@ use Rattle.tk_words.specs.declared.keyword.Keyword.{Keyword}
 use Rattle.tk_words.specs.declared.keyword.Keyword.TheVariants as words
 use Rattle.tk_problem_text.specs.declared.problem_form.ProblemForm.{ProblemForm}
 use Rattle.tk_words.specs.Lex.{Token}
-use Rattle.tk_lines.specs.Forms.{Promise}
+use Rattle.tk_lines.specs.Reader.Forms.{Promise}
 use Rattle.tk_lines.specs.Pieces.{Piece, has}
-use Rattle.tk_problem_text.specs.Parts.{HasParts, IsWhole, problem_in}
+use Rattle.tk_problem_text.specs.Reader.Parts.{HasParts, IsWhole, problem_in}
 use Rattle.tk_problem_text.specs.Problem.{ProblemIs, problem_format}
-use Rattle.tk_problem_text.specs.Sections.OpenSections.{IsOpen}
+use Rattle.tk_problem_text.specs.Reader.OpenSections.{IsOpen}
 
 abbrev pub ProblemHolds : ProblemForm → List Piece → Type 0
 ProblemHolds s before = HasParts s.parts before

@@ -1,22 +1,27 @@
 -- The section of a problem whose tokens come.
+use Rattle.std.specs.Prelude.{IfErr, IfOk, Result}
 use Rattle.std.specs.Prelude.{◌≡◌, ◌≤◌, ◌+◌, ◌*◌, ◌++◌, ℕ, true, List, length, map, slice_index, Option, Some, None, []}
 use Rattle.tk_problem.specs.declared.limits.TheConstants.{TABLE_LIMIT}
+use Rattle.tk_words.specs.declared.fault.TextKind.{TextKind}
+use Rattle.tk_words.specs.declared.fault.TextKind.TheVariants as kinds
 use Rattle.tk_words.specs.declared.keyword.Keyword.{Keyword}
 use Rattle.tk_words.specs.declared.keyword.Keyword.TheVariants as words
 use Rattle.tk_problem_text.specs.declared.sections.open_section.OpenSection.{OpenSection}
 use Rattle.tk_problem_text.specs.declared.sections.open_section.OpenSection.TheVariants.{Nothing, Places, Explicit}
 use Rattle.tk_problem_text.specs.declared.sections.open_section.OpenSection.TheVariants.{Loads, Home, Display}
 use Rattle.tk_words.specs.Lex.{Token}
-use Rattle.tk_lines.specs.Pieces.{Piece, After, has, first_at}
-use Rattle.tk_lines.specs.Forms.{a_section}
+use Rattle.tk_lines.specs.declared.form.Taken.{Taken}
+use Rattle.tk_lines.specs.Pieces.{Piece, After, Early, Fault, has, first_at}
+use Rattle.tk_lines.specs.Reader.Forms.{HasTaken, IsToldWord, StopsAt, a_section, whole}
 use Rattle.tk_problem_text.specs.Sections.Rows.{number_in}
-use Rattle.tk_problem_text.specs.Sections.FixedSections.{HasTokens, tokens_stop}
+use Rattle.tk_problem_text.specs.Reader.FixedTokens.{HasTokens}
+use Rattle.tk_problem_text.specs.Sections.FixedSections.{tokens_stop}
 use Rattle.tk_problem_text.specs.Sections.WeightSection.{weight_count}
 use Rattle.tk_problem_text.specs.Problem.{size_of, format_in, token_tests, wanted, problem_format, word_tests}
-use Rattle.tk_problem_text.specs.Sections.Coordinates.{HasPlaces}
-use Rattle.tk_problem_text.specs.Sections.Demands.{HasDemands}
-use Rattle.tk_problem_text.specs.Sections.Weighing.{HasWeights}
-use Rattle.tk_problem_text.specs.Sections.DepotTaken.{HasDepot}
+use Rattle.tk_problem_text.specs.Reader.Coordinates.{HasPlaces}
+use Rattle.tk_problem_text.specs.Reader.Demands.{HasDemands}
+use Rattle.tk_problem_text.specs.Reader.Weighing.{HasWeights}
+use Rattle.tk_problem_text.specs.Reader.DepotTaken.{HasDepot}
 use Rattle.tk_problem_text.specs.Sections.DepotList.{depot_tests}
 
 -- the section of a depot, at whose word nothing stops, and tokens of it without a fault
@@ -81,3 +86,27 @@ pub record IsPast (before : List Piece) (word : Keyword) (n : ℕ) (s : OpenSect
   pub after : After
   pub are : ps ≡ before ++ a_section word n toks after
   pub full : IsFull before word toks s
+
+-- a token of it is taken, or refused
+abbrev pub TakesOpen : List ℕ → OpenSection → OpenSection → Result Taken TextKind → Type 0
+TakesOpen token old new result =
+    (before : List Piece) (word : Keyword) (n : ℕ) (toks : List Token) (line : ℕ) → IsOpen before word n toks old
+    → IfOk result (HasTaken problem_format (IsPast before word n new) (λ ps w m ts. IsOpen ps w m ts new) before word n
+    toks (whole token line))
+
+abbrev pub RefusesOpen : List ℕ → OpenSection → Result Taken TextKind → Type 0
+RefusesOpen token old result =
+    (before : List Piece) (word : Keyword) (n : ℕ) (toks : List Token) (line : ℕ) → IsOpen before word n toks old
+    → IfErr result (IsToldWord (StopsAt problem_format before word n toks (whole token line)))
+
+-- the text may end after its tokens, or it is cut short there
+abbrev pub MayEnd : OpenSection → Type 0
+MayEnd s =
+    (before : List Piece) (word : Keyword) (n : ℕ) (toks : List Token) (line : ℕ) → IsOpen before word n toks s
+    → IsPast before word n s (before ++ a_section word n toks (Early line true))
+    × (problem_format.section before word n toks (Early line true) ≡ None)
+
+abbrev pub IsCutShort : OpenSection → Type 0
+IsCutShort s =
+    (before : List Piece) (word : Keyword) (n : ℕ) (toks : List Token) (line : ℕ) → IsOpen before word n toks s
+    → problem_format.section before word n toks (Early line true) ≡ Some (Fault line kinds.Truncated)

@@ -5,7 +5,7 @@ use Rattle.tk_words.specs.declared.keyword.Keyword.{Keyword}
 use Rattle.tk_words.specs.declared.fault.TextKind.{TextKind}
 use Rattle.tk_words.specs.declared.fault.TextKind.TheVariants as kinds
 use Rattle.tk_lines.specs.Pieces.{Piece, has, value_of, first_at, Fault}
-use Rattle.tk_lines.specs.Forms.{IsToldWord}
+use Rattle.tk_lines.specs.Reader.Forms.{IsToldWord}
 
 -- the header's value is kept, once it came
 pub record Keeps {A : Type 0} (word : Keyword) (of : List ℕ → Option A) (kept : Option A)

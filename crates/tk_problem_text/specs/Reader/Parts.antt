@@ -3,9 +3,6 @@ use Rattle.std.specs.Prelude.{◌≡◌, ◌≤◌, ℕ, false, List, [], length
 use Rattle.std.specs.declared.alloc.Global.{Global}
 use Rattle.tk_problem.specs.declared.limits.TheConstants.{CITY_LIMIT, TABLE_LIMIT}
 use Rattle.tk_problem.specs.declared.point.Point.{Point}
-use Rattle.tk_problem.specs.declared.weights.Weights.{Weights}
-use Rattle.tk_problem.specs.declared.routing.Routing.{Routing}
-use Rattle.tk_problem.specs.declared.problem.Problem.{Problem}
 use Rattle.tk_problem_text.specs.declared.header_values.WeightType.{WeightType}
 use Rattle.tk_problem_text.specs.declared.header_values.WeightType.TheVariants as types
 use Rattle.tk_problem_text.specs.declared.header_values.ProblemType.{ProblemType}
@@ -16,7 +13,7 @@ use Rattle.tk_problem_text.specs.declared.parts.Parts.{Parts}
 use Rattle.tk_problem.specs.declared.weights.Weights.TheVariants.{Points, Lower}
 use Rattle.tk_problem.specs.Shape.{WeightsFit, IsRouting}
 use Rattle.tk_lines.specs.Pieces.{Piece, has}
-use Rattle.tk_problem_text.specs.Headers.{HasHeaders}
+use Rattle.tk_problem_text.specs.Reader.Headers.{HasHeaders}
 use Rattle.tk_problem_text.specs.Problem.{WeightsAre, RoutingIs, ProblemIs, size_of, points_of, lower_of, demands_of}
 use Rattle.tk_problem_text.specs.Problem.{depot_of}
 use Rattle.tk_problem_text.specs.Problem as value
@@ -48,18 +45,6 @@ pub record HasParts (p : Parts) (ps : List Piece) : Type 0 where
   pub depot_in : IfSome p.depot (λ d. (1 ≤ d) × (d ≤ size_of ps))
 
 -- ---- the problem that the parts make
-
-abbrev pub weights_are : Weights → WeightsAre
-weights_are (Points kind places) = value.Points kind places
-weights_are (Lower weights) = value.Lower weights.items
-
-abbrev pub routing_is : Option Routing → Option RoutingIs
-routing_is None = None
-routing_is (Some r) = Some (record { capacity = r.capacity; demand = r.demand.items; depot = r.depot })
-
--- what a contract sees of a problem
-abbrev pub problem_is : Problem → ProblemIs
-problem_is p = record { name = p.name.items; n = p.n; weights = weights_are p.weights; routing = routing_is p.routing }
 
 -- the weights' parts are there, and fit n nodes
 abbrev pub MakesWeights : ℕ → Option WeightType → Option (List Point) → Option (Vec ℕ Global) → Type 0

@@ -1,7 +1,7 @@
 -- What the reader of demands has taken.
 use Rattle.std.specs.Prelude.{◌≡◌, ◌<◌, ◌*◌, ℕ, List, [], ◌∷◌, ◌++◌, length, Option, Some, None}
 use Rattle.tk_words.specs.Lex.{Token}
-use Rattle.tk_problem_text.specs.Sections.Nodes.{Named, HasNamed, HasNext}
+use Rattle.tk_problem_text.specs.Reader.Nodes.{Named, HasNamed, HasNext}
 use Rattle.tk_problem_text.specs.Sections.Rows.{demand_rows, nodes_in, demands_of}
 
 -- the demands by node, the nodes that were named, and the one whose demand is wanted next

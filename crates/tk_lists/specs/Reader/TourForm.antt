@@ -8,7 +8,7 @@ use Rattle.tk_lists.specs.declared.tour.TourForm.{TourForm}
 use Rattle.tk_words.specs.Lex.{Token}
 use Rattle.tk_lines.specs.Pieces.{Piece, has, tokens_in}
 use Rattle.tk_words.specs.Entry.{in_range, numbers_of}
-use Rattle.tk_lines.specs.Forms.{Promise}
+use Rattle.tk_lines.specs.Reader.Forms.{Promise}
 use Rattle.tk_lines.specs.Lists.{entries, AreEntries}
 use Rattle.tk_lists.specs.Tour.{entries_stop, tour_format}
 

@@ -1,0 +1,2 @@
+pub mod SolutionReader
+pub mod TourForm

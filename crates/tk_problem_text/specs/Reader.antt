@@ -1,0 +1,12 @@
+pub mod BegunSections
+pub mod Coordinates
+pub mod Demands
+pub mod DepotTaken
+pub mod FixedTokens
+pub mod Headers
+pub mod Kept
+pub mod Nodes
+pub mod OpenSections
+pub mod Parts
+pub mod ProblemForm
+pub mod Weighing

@@ -1,0 +1,108 @@
+-- What the digits of a whole number spell.
+use Rattle.std.proofs.Common.{◌≡◌, ℕ, ◌+◌, ◌-◌, ◌*◌, ◌^◌, ◌<◌, ◌≤◌, List, [], ◌∷◌, ◌++◌, length, take, Bool, true}
+use Rattle.std.proofs.Common.{false}
+use Rattle.std.proofs.Common.{◌||◌, ◌==◌, All, Some, Ok, Err, pos, ltb, leb, eqb, arith, ap, sym, ◌∙◌, refl}
+use Rattle.std.proofs.Common.{option_map, ◌*ℤ◌, of_z, to_z, w64}
+use Rattle.std.proofs.lemmas.Bool.Decides.{nat_tests}
+use Rattle.std.proofs.lemmas.Int.{ints}
+use Rattle.std.proofs.lemmas.List.{append-nil, take_all}
+use Rattle.std.proofs.lemmas.List.Elements.{All-cons, All-nil}
+use Rattle.std.specs.Char.{is_ascii_digit}
+use Rattle.tk_problem.specs.Places.{greatest_coordinate}
+use Rattle.tk_words.specs.declared.fault.TextKind.TheVariants as kinds
+use Rattle.tk_words.specs.Decimal.{decimal_of, limited, number_behind, number_of}
+use Rattle.tk_words.specs.Lex.{behind, digits, front, integer, is_blank, natural}
+use Rattle.tk_words.proofs.NumberLaws.Digits.{billionths_is}
+
+natural-spelled : (bs : List ℕ) (n : ℕ) → natural bs ≡ Some n → digits 0 bs ≡ Some n
+natural-spelled [] n e = cc
+natural-spelled (b ∷ bs) n e = by_length (ltb 18 (length (b ∷ bs))) refl
+  where
+    by_length : (long : Bool) → ltb 18 (length (b ∷ bs)) ≡ long → digits 0 (b ∷ bs) ≡ Some n
+    by_length true p = absurd (let k = rw p at e in cc)
+    by_length false p = rw p at e
+
+digits-first : (n b : ℕ) (bs : List ℕ) (m : ℕ) → digits n (b ∷ bs) ≡ Some m → is_ascii_digit b ≡ true
+digits-first n b bs m e = by_digit (is_ascii_digit b) refl
+  where
+    by_digit : (t : Bool) → is_ascii_digit b ≡ t → is_ascii_digit b ≡ true
+    by_digit true p = p
+    by_digit false p = absurd (let k = rw p at e in cc)
+
+digits-rest : (n b : ℕ) (bs : List ℕ) (m : ℕ) → digits n (b ∷ bs) ≡ Some m → digits (n * 10 + (b - 48)) bs ≡ Some m
+digits-rest n b bs m e = let p = digits-first n b bs m e in rw p at e
+
+-- one digit more
+pub digits-more : (n : ℕ) (bs : List ℕ) (m b : ℕ) → digits n bs ≡ Some m → is_ascii_digit b ≡ true
+    → digits n (bs ++ b ∷ []) ≡ Some (m * 10 + (b - 48))
+digits-more n [] m b e digit = let same : n ≡ m = cc in rw (digit, same) refl
+digits-more n (c ∷ bs) m b e digit =
+    rw (digits-first n c bs m e)
+    (digits-more (n * 10 + (c - 48)) bs m b (digits-rest n c bs m e) digit)
+
+-- digits end no token
+pub digits-solid : (n : ℕ) (bs : List ℕ) (m : ℕ) → digits n bs ≡ Some m
+    → All (λ b. (is_blank b || b == 10) ≡ false) bs
+digits-solid n [] m e = All-nil (λ b. (is_blank b || b == 10) ≡ false)
+digits-solid n (b ∷ bs) m e =
+    let digit = digits-first n b bs m e in
+    All-cons (λ b. (is_blank b || b == 10) ≡ false) b bs (grind (arith, nat_tests))
+    (digits-solid (n * 10 + (b - 48)) bs m (digits-rest n b bs m e))
+
+digits-front : (n : ℕ) (bs : List ℕ) (m : ℕ) → digits n bs ≡ Some m → front is_ascii_digit bs ≡ bs
+digits-front n [] m e = refl
+digits-front n (b ∷ bs) m e =
+    rw (digits-first n b bs m e)
+    (ap (λ l. b ∷ l) (digits-front (n * 10 + (b - 48)) bs m (digits-rest n b bs m e)))
+
+digits-behind : (n : ℕ) (bs : List ℕ) (m : ℕ) → digits n bs ≡ Some m → behind is_ascii_digit bs ≡ []
+digits-behind n [] m e = refl
+digits-behind n (b ∷ bs) m e =
+    rw (digits-first n b bs m e) (digits-behind (n * 10 + (b - 48)) bs m (digits-rest n b bs m e))
+
+digits-number : (n : ℕ) (bs : List ℕ) (m : ℕ) → digits n bs ≡ Some m → number_behind n bs ≡ m
+digits-number n [] m e = cc
+digits-number n (b ∷ bs) m e = digits-number (n * 10 + (b - 48)) bs m (digits-rest n b bs m e)
+
+pub natural-integer : (bs : List ℕ) (n : ℕ) → natural bs ≡ Some n → integer bs ≡ Some (pos n)
+natural-integer [] n e = cc
+natural-integer (b ∷ bs) n e =
+    let digit = digits-first 0 b bs n (natural-spelled (b ∷ bs) n e) in
+    let no_minus : eqb b 45 ≡ false = grind (arith, nat_tests) in
+    let no_plus : eqb b 43 ≡ false = grind (arith, nat_tests) in
+    rw (no_minus, no_plus, e) refl
+
+whole_number : (w : List ℕ) (n : ℕ) → number_of w ≡ n
+    → number_of (take (length w + 9 + 0 - 0) (w ++ [])) * 10 ^ (length w + 9 + 0 - 0 - length (w ++ [])) ≡ n * 10 ^ 9
+whole_number w n is =
+    let nine : length w + 9 + 0 - 0 - length w ≡ 9 = omega arith in
+    rw (append-nil w, take_all (length w + 9 + 0 - 0) w (omega arith), is, nine) refl
+
+pub natural-decimal : (bs : List ℕ) (n : ℕ) → natural bs ≡ Some n → decimal_of bs ≡ Some (pos (n * 10 ^ 9))
+natural-decimal [] n e = cc
+natural-decimal (b ∷ bs) n e =
+    let spelled = natural-spelled (b ∷ bs) n e in
+    let digit = digits-first 0 b bs n spelled in
+    let no_minus : eqb b 45 ≡ false = grind (arith, nat_tests) in
+    let no_plus : eqb b 43 ≡ false = grind (arith, nat_tests) in
+    let value =
+    billionths_is (b ∷ bs) (b ∷ bs) [] [] [] 0 0 (length (b ∷ bs) + 9 + 0 - 0)
+    (sym (digits-front 0 (b ∷ bs) n spelled)) (sym (digits-behind 0 (b ∷ bs) n spelled)) refl refl (omega arith) refl
+    refl ∙ ap Some (whole_number (b ∷ bs) n (digits-number 0 (b ∷ bs) n spelled)) in
+    rw (no_minus, no_plus) (ap (option_map pos) value)
+
+pub natural-near : (bs : List ℕ) (n : ℕ) → natural bs ≡ Some n → n * 10 ^ 9 ≤ greatest_coordinate
+    → limited (decimal_of bs) ≡ Ok (pos (n * 10 ^ 9))
+natural-near bs n e low =
+    let t : leb (n * 10 ^ 9) greatest_coordinate ≡ true = grind (arith, nat_tests) in
+    ap limited (natural-decimal bs n e) ∙ rw t refl
+
+pub natural-far : (bs : List ℕ) (n : ℕ) → natural bs ≡ Some n → greatest_coordinate < n * 10 ^ 9
+    → limited (decimal_of bs) ≡ Err kinds.OutOfLimit
+natural-far bs n e high =
+    let t : leb (n * 10 ^ 9) greatest_coordinate ≡ false = grind (arith, nat_tests) in
+    ap limited (natural-decimal bs n e) ∙ rw t refl
+
+-- the code's product of a whole number and a billion
+pub billion-fold : (n : ℕ) → n ≤ 1000000000 → to_z w64 (of_z w64 (to_z w64 n *ℤ pos 1000000000)) ≡ pos (n * 10 ^ 9)
+billion-fold n low = omega (arith, ints)
