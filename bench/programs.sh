@@ -17,3 +17,17 @@ find_programs() {
     fi
     compile_twin
 }
+
+# Runs a command: its processor time (user and system) in seconds, with what it prints in the files NAME.out and NAME.err of $work.
+# usage: processor_time NAME COMMAND ..
+processor_time() {
+    local name=$1 TIMEFORMAT='%3U %3S'
+    shift
+    { time "$@" >"$work/$name.out" 2>"$work/$name.err"; } 2>"$work/time" || { cat "$work/$name.err" >&2; exit 1; }
+    awk '{ printf "%.3f\n", $1 + $2 }' "$work/time"
+}
+
+# The least of the times in a file.
+least() {
+    sort -g "$1" | head -1
+}

@@ -16,20 +16,12 @@ while getopts n: option; do
     esac
 done
 shift $((OPTIND - 1))
-tourkit=$(readlink -f "$1")
+tourkit=$(readlink -f "${1:?usage: bench/reading/run.sh [-n ROUNDS] TOURKIT}")
 compile_twin
 rm -rf "$work/in"
 mkdir -p "$work/in"
 "$twin" instances "$work/in"
 cd "$work/in"
-
-# Runs a check: its processor time, with its output under a name.
-timed() {
-    local name=$1 TIMEFORMAT='%3U %3S'
-    shift
-    { time "$@" >"$work/$name.out" 2>&1; } 2>"$work/time" || { cat "$work/$name.out" >&2; exit 1; }
-    awk '{ printf "%.3f\n", $1 + $2 }' "$work/time"
-}
 
 printf '%-18s %9s %6s %9s %6s %7s %7s\n' input tourkit MB/s twin MB/s ratio lines
 for problem in *.tsp; do
@@ -38,13 +30,13 @@ for problem in *.tsp; do
     lines=same
     round=0
     while [ "$round" -lt "$rounds" ]; do
-        timed twin "$twin" check "$problem" "$input.tour" >>"$work/twin.times"
-        timed tourkit "$tourkit" check "$problem" "$input.tour" >>"$work/tourkit.times"
+        processor_time twin "$twin" check "$problem" "$input.tour" >>"$work/twin.times"
+        processor_time tourkit "$tourkit" check "$problem" "$input.tour" >>"$work/tourkit.times"
         cmp -s "$work/twin.out" "$work/tourkit.out" || lines=differ
         round=$((round + 1))
     done
-    own=$(sort -g "$work/tourkit.times" | head -1)
-    other=$(sort -g "$work/twin.times" | head -1)
+    own=$(least "$work/tourkit.times")
+    other=$(least "$work/twin.times")
     bytes=$(cat "$problem" "$input.tour" | wc -c)
     awk -v input="$input" -v a="$own" -v b="$other" -v bytes="$bytes" -v lines="$lines" \
         'BEGIN { printf "%-18s %9s %6.0f %9s %6.0f %7.2f %7s\n", input, a, bytes / a / 1e6, b, bytes / b / 1e6, a / b, lines }'

@@ -30,17 +30,12 @@ cd "$work/in"
 
 # Runs a program on a parameter file: its processor time, and its output and file beside each other under a name.
 timed() {
-    local name=$1 file TIMEFORMAT='%3U %3S'
+    local name=$1 file
     shift
     file=$(sed -n 's/^\(TOUR\|SOLUTION\)_FILE = //p' "$2")
     rm -f "$file"
-    { time "$1" solve "$2" "${@:3}" >"$work/$name.out" 2>"$work/$name.err"; } 2>"$work/time" || { cat "$work/$name.err" >&2; exit 1; }
+    processor_time "$name" "$1" solve "$2" "${@:3}"
     mv "$file" "$work/$name.file"
-    awk '{ printf "%.3f\n", $1 + $2 }' "$work/time"
-}
-
-least() {
-    sort -g "$1" | head -1
 }
 
 # A ratio of two times.
