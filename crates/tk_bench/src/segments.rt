@@ -11,8 +11,9 @@ use rand_pcg::Pcg32;
 use std::alloc::{AllocError, Global};
 use std::time::Instant;
 use tk_build::{Cuts, kick};
+use tk_segments::SegmentTour;
 use tk_text::CITY_LIMIT;
-use tk_tour::{ArrayTour, SegmentTour, TourStore};
+use tk_tour::{ArrayTour, TourStore};
 
 // How many flips follow a kick, and how many places they reach at most.
 const FLIPS: u32 = 16;

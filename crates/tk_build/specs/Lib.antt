@@ -1,4 +1,3 @@
-pub use Rattle.tk_starts.specs.Holding
 pub use Rattle.tk_starts.specs.HubDistances
 pub use Rattle.tk_starts.specs.Joints
 pub use Rattle.tk_starts.specs.NearestTour

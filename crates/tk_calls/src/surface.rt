@@ -28,9 +28,9 @@ pub mod distances {
 
 /// Tours.
 pub mod tours {
+    pub use tk_segments::SegmentTour;
     pub use tk_tour::{
-        ArrayTour, Flip, JournalTour, SegmentTour, TourFault, TourStore, UndoStore, Verdict, check,
-        length,
+        ArrayTour, Flip, JournalTour, TourFault, TourStore, UndoStore, Verdict, check, length,
     };
 }
 

@@ -3,7 +3,8 @@ use crate::again;
 use crate::refusals::{Refusal, Stopped};
 use std::alloc::{AllocError, Global};
 use tk_descent::{Steps, Waking};
-use tk_tour::{ArrayTour, Flip, JournalTour, SegmentTour, TourStore, check};
+use tk_segments::SegmentTour;
+use tk_tour::{ArrayTour, Flip, JournalTour, TourStore, check};
 
 /// Reverses the cities from after a to c, or those from after c to a.
 pub fn flip_after<S: TourStore>(tour: &mut S, a: u32, c: u32) -> Result<Flip, Stopped> {

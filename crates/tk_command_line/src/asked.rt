@@ -1,8 +1,8 @@
 //! What the words of a call ask for.
 
 use crate::completions::Shell;
-use crate::list_length::ListLength;
 use crate::search_options::SearchOptions;
+use tk_near::ListLength;
 
 /// The name of standard input.
 pub const STANDARD: &str = "-";

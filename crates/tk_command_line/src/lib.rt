@@ -5,7 +5,6 @@ mod argument;
 mod asked;
 mod command;
 mod completions;
-mod list_length;
 mod parsing;
 mod search_options;
 mod subcommand;
@@ -14,6 +13,5 @@ mod tips;
 
 pub use asked::{Asked, STANDARD, Shown};
 pub use completions::Shell;
-pub use list_length::ListLength;
 pub use parsing::{Refusal, parse};
 pub use search_options::SearchOptions;

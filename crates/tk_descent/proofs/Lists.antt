@@ -1,7 +1,7 @@
 -- Members of lists, and distinct lists.
 use Rattle.std.proofs.Common.{◌≡◌, ℕ, ◌≢◌, Bool, true, false, ◌||◌, eqb, List, [], ◌∷◌, ◌++◌, refl, sym, ◌∙◌, ap}
 use Rattle.std.proofs.lemmas.Bool.{or_parts, or_right, eqb-false, eq-eqb, ne_eqb}
-use Rattle.tk_descent.specs.Awake.{holds, IsDistinct}
+use Rattle.tk_distance.specs.Holding.{holds, IsDistinct}
 
 or_joins : (p q r s : Bool) → s ≡ (q || r) → (p || s) ≡ ((p || q) || r)
 or_joins true q r s h = refl

@@ -2,6 +2,8 @@ pub mod Complete
 pub mod Count
 pub mod Listed
 pub mod Made
+pub mod MadeOnCycle
 pub mod OnCycle
 pub mod OneByOne
 pub mod Searching
+pub mod Ways

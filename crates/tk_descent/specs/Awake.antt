@@ -1,16 +1,7 @@
 -- The cities that wait for a look.
-use Rattle.std.specs.Prelude.{◌≡◌, ℕ, zero, suc, ◌≤◌, ◌<◌, Bool, true, false, ◌||◌, ◌==◌, List, [], ◌∷◌, ◌++◌}
+use Rattle.std.specs.Prelude.{◌≡◌, ℕ, zero, suc, ◌≤◌, ◌<◌, Bool, true, false, List, [], ◌∷◌, ◌++◌}
 use Rattle.std.specs.Prelude.{if◌then◌else◌, length, count_by, slice_index_or}
-
--- whether a city is in a list
-abbrev pub holds : List ℕ → ℕ → Bool
-holds [] c = false
-holds (b ∷ xs) c = (b == c) || holds xs c
-
--- no city is in it twice
-abbrev pub IsDistinct : List ℕ → Type 0
-IsDistinct [] = Unit {0}
-IsDistinct (b ∷ xs) = (holds xs b ≡ false) × IsDistinct xs
+use Rattle.tk_distance.specs.Holding.{holds, IsDistinct}
 
 -- the cities that wait for a look, in their order, of 1..size
 pub record Awake : Type 0 where

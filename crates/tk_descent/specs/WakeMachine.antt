@@ -1,20 +1,20 @@
 -- The wake machine: local search with a set of cities that wait for a look (don't-look bits: J. L. Bentley, 1992).
 use Rattle.std.specs.Prelude.{◌≡◌, ℕ, ◌<◌, true, ◌⊎◌, ◌↔◌, ◌≢◌, List}
 use Rattle.tk_tour.specs.Tour.{tour_length}
-use Rattle.tk_descent.specs.Awake.{holds}
+use Rattle.tk_distance.specs.Holding.{holds}
 use Rattle.tk_descent.specs.Offers.{Makes, ends}
 use Rattle.tk_descent.specs.declared.offer.Offer.{Offer}
 use Rattle.tk_descent.specs.declared.offer.Offer.TheVariants.{Two, Or}
 
 -- the move adds a step from x to one of its near cities; an Or-move's x is an end of its segment
-abbrev pub IsOf : (ℕ → List ℕ) → ℕ → Offer → Type 0
-IsOf near x (Two a b c d) = ((a ≡ x) × (holds (near x) c ≡ true)) ⊎ ((c ≡ x) × (holds (near x) a ≡ true))
+abbrev pub IsOfferOf : (ℕ → List ℕ) → ℕ → Offer → Type 0
+IsOfferOf near x (Two a b c d) = ((a ≡ x) × (holds (near x) c ≡ true)) ⊎ ((c ≡ x) × (holds (near x) a ≡ true))
     ⊎ ((b ≡ x) × (holds (near x) d ≡ true)) ⊎ ((d ≡ x) × (holds (near x) b ≡ true))
-IsOf near x (Or a s e b y w) = ((s ≡ x) × (holds (near x) y ≡ true)) ⊎ ((e ≡ x) × (holds (near x) w ≡ true))
+IsOfferOf near x (Or a s e b y w) = ((s ≡ x) × (holds (near x) y ≡ true)) ⊎ ((e ≡ x) × (holds (near x) w ≡ true))
 
 -- an offer of x on C with positive gain, by the lengths of the whole cycles
 abbrev pub Improves : (ℕ → ℕ → ℕ) → (ℕ → List ℕ) → ℕ → ℕ → List ℕ → Offer → List ℕ → Type 0
-Improves dist near m x C o D = IsOf near x o × Makes m o C D × (tour_length dist D < tour_length dist C)
+Improves dist near m x C o D = IsOfferOf near x o × Makes m o C D × (tour_length dist D < tour_length dist C)
 
 -- no offer of x on C has positive gain
 abbrev pub HasNoOffer : (ℕ → ℕ → ℕ) → (ℕ → List ℕ) → ℕ → ℕ → List ℕ → Type 0

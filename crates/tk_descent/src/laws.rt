@@ -1,8 +1,8 @@
 //! What the definitions of a descent say together. The functions do no work: each is a theorem, stated by its contract.
-ghost use Rattle.std.specs.Prelude.{◌≡◌, ◌+◌, ◌*◌, ◌-ℤ◌, ◌≤◌, [], length, pos};
+ghost use Rattle.std.specs.Prelude.{◌≡◌, ◌+◌, ◌*◌, ◌-ℤ◌, ◌≤◌, length, pos};
 ghost use Rattle.tk_near.specs.Near.{near_of};
 ghost use Rattle.tk_tour.specs.Tour.{tour_length, IsSizedTour};
-ghost use Rattle.tk_descent.specs.Awake.{IsDistinct};
+ghost use Rattle.tk_distance.specs.Holding.{IsDistinct};
 ghost use Rattle.tk_descent.specs.Machine.{Run};
 ghost use Rattle.tk_descent.specs.Offers.{gain, Makes};
 ghost use Rattle.tk_descent.specs.Sweeps.{Sweeps};

@@ -1,5 +1,5 @@
 //! The steps of a tour, as they were last measured.
-ghost use Rattle.std.specs.Prelude.{◌≡◌, ◌≤◌, ◌<◌, ◌-◌, [], ℕ, IfOk, pos, true, false};
+ghost use Rattle.std.specs.Prelude.{◌≡◌, ◌<◌, ◌-◌, [], ℕ, IfOk, pos};
 ghost use Rattle.tk_distance.specs.Cities.{IsCity};
 ghost use Rattle.tk_descent.specs.Steps.{AreMeasured, AreTrueOf, IsMeasured, knows, measured_of};
 

@@ -1,6 +1,7 @@
 //! The cities that wait for a look.
 ghost use Rattle.std.specs.Prelude.{◌≡◌, ◌+◌, ◌≤◌, ◌<◌, [], ◌∷◌, IfOk, IfSome, MatchOption, All, vec_len, length};
-ghost use Rattle.tk_descent.specs.Awake.{woken, woken_each, one_to, IsDistinct};
+ghost use Rattle.tk_descent.specs.Awake.{woken, woken_each, one_to};
+ghost use Rattle.tk_distance.specs.Holding.{IsDistinct};
 ghost use Rattle.tk_distance.specs.Cities.{IsCity};
 
 use circular_buffer::HeapCircularBuffer;

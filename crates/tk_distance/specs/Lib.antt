@@ -1,5 +1,6 @@
 pub mod Cities
 pub mod Distance
+pub mod Holding
 pub mod Laws
 pub mod PlaneDistance
 pub mod PlaneOf

@@ -1,5 +1,5 @@
 //! Distances of the commonest kind.
-ghost use Rattle.std.specs.Prelude.{◌≡◌, ◌≤◌, ◌*◌, All, length};
+ghost use Rattle.std.specs.Prelude.{◌≤◌, ◌*◌, All, length};
 ghost use Rattle.tk_problem.specs.declared.limits.TheConstants.{CITY_LIMIT};
 ghost use Rattle.tk_problem.specs.Places.{IsNearOrigin};
 ghost use Rattle.tk_problem.specs.PlacesOf.{places_of};

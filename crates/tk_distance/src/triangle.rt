@@ -16,7 +16,6 @@ pub struct Triangle<'a> {
 
 impl Metric for Triangle<'_> {
     ghost use Rattle.std.specs.Prelude.{◌≤◌};
-    ghost use Rattle.std.proofs.Common.{arith};
     ghost use Rattle.tk_distance.specs.Weights.{weight_between};
     ghost use Rattle.tk_distance.specs.Laws.Weights.{weight_between-swap, weight_between-same, weight_between-limit};
     ghost use Rattle.tk_distance.specs.Laws.Weights.{few_cities};

@@ -8,7 +8,7 @@ use Rattle.tk_solve.specs.SolvedTours.{IsSolved}
 use Rattle.tk_solve.specs.Starts.{TourTask}
 use Rattle.tk_solve.specs.declared.tour.SolvedTour.{SolvedTour}
 use Rattle.tk_engines.specs.Engine.{AreRead, Ends, Reading, Writing}
-use Rattle.tk_engines.specs.Solve.{Files, Gives, IsInitial, IsInitialRefused, solve_task}
+use Rattle.tk_engines.specs.Solve.{Files, GivesFiles, IsInitial, IsInitialRefused, solve_task}
 use Rattle.tk_engines.specs.declared.fault.Fault.{Fault}
 use Rattle.tk_engines.specs.declared.fault.Fault.TheVariants as faults
 
@@ -39,7 +39,7 @@ module _ (p : ParamsAre) (Watched : List Event → Type 0) (Problem : Reading Pr
   -- the work was done
   pub given_ends : (Answer : Files → Type 0) (Quiet : Type 0) → IsInitial problem initial None →
       ((files : Files) → Answer files → (solve_task p Watched).Gives problem initial tt files) →
-      (r : Result (Unit {0}) Fault) → Gives Answer Writes Quiet r →
+      (r : Result (Unit {0}) Fault) → GivesFiles Answer Writes Quiet r →
       Ends (solve_task p Watched) Problem Second Writes r
   given_ends Answer Quiet together gives (Ok tt) h =
       record {

@@ -2,8 +2,8 @@
 --     plot_task form given      the task, by how a picture is written, and whether a tour or a solution is given
 --     ReadsClaim given      it is read as a tour where the problem has no routing, else as a solution
 --     WritesOutput      a picture goes to the one sink, or the line on a fault to the other
-use Rattle.std.specs.Prelude.{◌≡◌, ℕ, ◌⊎◌, Bool, true, false, List, [], ◌∷◌, Option, Some, None, Ok, Err, IsSomeAnd}
-use Rattle.std.specs.Prelude.{MatchOption, length, map, option_map, is_some}
+use Rattle.std.specs.Prelude.{◌≡◌, ℕ, ◌⊎◌, Bool, true, false, List, [], Option, Some, None, Ok, Err, IsSomeAnd}
+use Rattle.std.specs.Prelude.{MatchOption, length, option_map, is_some}
 use Rattle.std.specs.Int.RustNames.{unsigned_abs}
 use Rattle.tk_problem.specs.declared.point.Point.{Point}
 use Rattle.tk_problem_text.specs.Problem.{ProblemIs, RoutingIs, WeightsAre}

@@ -177,8 +177,8 @@ IsInitialRefused problem initial _ = ⊥
 
 -- files with the answer were written, or writing them broke off; or there was no memory for the answer, and nothing was
 -- written
-abbrev pub Gives : (Files → Type 0) → Writing Files → Type 0 → Result (Unit {0}) Fault → Type 0
-Gives Answer Writes Quiet (Ok _) = (files : Files) × (Answer files × Writes (Ok tt) files)
-Gives Answer Writes Quiet (Err (Write f)) = (files : Files) × (Answer files × Writes (Err f) files)
-Gives Answer Writes Quiet (Err NoMemory) = Quiet
-Gives Answer Writes Quiet (Err _) = ⊥
+abbrev pub GivesFiles : (Files → Type 0) → Writing Files → Type 0 → Result (Unit {0}) Fault → Type 0
+GivesFiles Answer Writes Quiet (Ok _) = (files : Files) × (Answer files × Writes (Ok tt) files)
+GivesFiles Answer Writes Quiet (Err (Write f)) = (files : Files) × (Answer files × Writes (Err f) files)
+GivesFiles Answer Writes Quiet (Err NoMemory) = Quiet
+GivesFiles Answer Writes Quiet (Err _) = ⊥

@@ -12,10 +12,10 @@ use Rattle.tk_words.specs.declared.fault.TextKind.TheVariants as text
 use Rattle.tk_params.specs.declared.fault.ParamKind.TheVariants as params
 use Rattle.tk_explain.specs.declared.answer.Answer.{Answer}
 use Rattle.tk_explain.specs.declared.answer.Answer.TheVariants as answers
-use Rattle.tk_explain.specs.declared.kind.Kind.{Kind}
-use Rattle.tk_explain.specs.declared.kind.Kind.TheVariants as kinds
-use Rattle.tk_explain.specs.declared.fault.FileFault.{FileFault}
-use Rattle.tk_explain.specs.declared.fault.FileFault.TheVariants as faults
+use Rattle.tk_diagnosis.specs.declared.kind.Kind.{Kind}
+use Rattle.tk_diagnosis.specs.declared.kind.Kind.TheVariants as kinds
+use Rattle.tk_diagnosis.specs.declared.fault.FileFault.{FileFault}
+use Rattle.tk_diagnosis.specs.declared.fault.FileFault.TheVariants as faults
 
 -- the fault in the answer to a text
 abbrev pub text_fault : {V : Type 0} → Result V TextFault → Option FileFault

@@ -1,3 +1,3 @@
 pub mod Answers
+pub mod FaultWords
 pub mod Faults
-pub mod Lines

@@ -7,11 +7,10 @@ ghost use Rattle.tk_lists.specs.Solution.{solution_texts};
 ghost use Rattle.tk_params.specs.Params.{params_answer};
 ghost use Rattle.tk_explain.specs.Answers.{fault_in, fault_of, text_fault, param_fault};
 
-use crate::fault::FileFault;
-use crate::kind::Kind;
 use crate::sound::Sound;
 use crate::whole::Whole;
 use std::alloc::{AllocError, Global};
+use tk_diagnosis::{FileFault, Kind};
 use tk_lists::{read_solution, read_tour};
 use tk_params::{ParamKind, read_params};
 use tk_problem_text::read_problem;

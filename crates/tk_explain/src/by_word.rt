@@ -2,9 +2,9 @@
 ghost use Rattle.std.specs.Prelude.{◌≡◌, ◌<◌, ◌↔◌, length, All, IsTrue, is_some, IfOk, IfSome};
 ghost use Rattle.std.specs.Char.{IsAsciiDigit};
 ghost use Rattle.std.specs.String.{string_len};
-ghost use Rattle.tk_explain.specs.Faults.{is_fault, is_named, same_word, without_zeros};
+ghost use Rattle.tk_explain.specs.FaultWords.{is_fault, is_named, same_fault_word, without_zeros};
 
-use crate::faults::{FaultText, faults};
+use crate::fault_table::{FaultText, faults};
 use crate::page::{CAUSES, MEANING, Page, REMEDY};
 use std::alloc::{AllocError, Global};
 
@@ -76,7 +76,7 @@ fn without_zeros(what: &[u8]) -> &[u8]
 
 /// Whether two words are the same, without regard to case.
 fn same_word(bytes: &[u8], text: &[u8]) -> bool
-    ensures { result ≡ same_word bytes.now text.now }
+    ensures { result ≡ same_fault_word bytes.now text.now }
 {
     if bytes.len() != text.len() {
         return false;

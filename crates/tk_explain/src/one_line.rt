@@ -4,12 +4,10 @@ ghost use Rattle.std.specs.String.{string_len};
 ghost use Rattle.tk_explain.specs.Answers.{fault_of};
 
 use crate::answer::{Answer, answer_to};
-use crate::kind::Kind;
-use crate::lines::last_line;
 use crate::page::Page;
-use crate::taken::taken_for;
 use crate::whole_file::{File, FilePage, Numbered, add_answer, add_sound};
 use std::alloc::{AllocError, Global};
+use tk_diagnosis::{Kind, last_line, taken_for};
 
 /// The explanation of a line: of the first fault, if it is on this line, and else what the line is taken for.
 ///

@@ -1,5 +1,5 @@
 //! What a file without a fault is.
-use crate::sentence::Sentence;
+use tk_diagnosis::Sentence;
 use tk_lists::{SolText, TourText};
 use tk_params::Params;
 use tk_problem::{PlaneKind, Problem, Weights};

@@ -2,9 +2,7 @@
 ghost use Rattle.tk_words.specs.Texts.{line_behind};
 ghost use Rattle.tk_explain.specs.Answers.{IsUnread};
 
-use crate::fault::FileFault;
-use crate::kind::{Kind, kind_of};
-use crate::lines::last_line;
+use tk_diagnosis::{FileFault, Kind, kind_of, last_line};
 use tk_params::{ParamFault, ParamKind};
 use tk_words::{TextFault, TextKind};
 

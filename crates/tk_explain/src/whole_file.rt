@@ -4,16 +4,14 @@ ghost use Rattle.std.specs.String.{string_len};
 ghost use Rattle.tk_explain.specs.Answers.{fault_of};
 
 use crate::answer::{Answer, answer_to};
-use crate::fault::FileFault;
-use crate::here::here_at;
-use crate::kind::{Kind, kind_of};
+use crate::fault_table::text_of;
 use crate::page::{CAUSES, MEANING, Page, READ, REMEDY, WANTED};
-use crate::shown::shown_line;
 use crate::sound::Sound;
-use crate::spot::{Here, Spot};
-use crate::wrapping::{wrapped, wrapping_of};
 use std::alloc::{AllocError, Global};
 use std::fmt;
+use tk_diagnosis::{
+    FileFault, Here, Kind, Spot, here_at, kind_of, shown_line, wrapped, wrapping_of,
+};
 
 /// A file that is explained.
 #[derive(Clone, Copy)]
@@ -116,7 +114,7 @@ fn add_here(
 ) -> Result<(), AllocError> {
     add_lines(page, file, fault.line(), here.other)?;
     page.line(&"")?;
-    let general = fault.text();
+    let general = text_of(fault);
     if let Some(general) = general {
         page.labelled(MEANING, &general.when)?;
     }

@@ -14,7 +14,7 @@ use Rattle.tk_words.specs.Lex.{is_letter, is_word_byte, is_empty, front, behind,
 use Rattle.tk_words.specs.MinusOne.{is_ending}
 use Rattle.tk_words.specs.TextLaws.{HasAnswers}
 use Rattle.tk_words.specs.Words.{keyword_of, role}
-use Rattle.tk_lines.specs.Lists.{entries, trailing_stop}
+use Rattle.tk_lines.specs.Lists.{list_entries, trailing_stop}
 use Rattle.tk_lines.specs.Pieces.{After, Clean, Trailing, Early, Piece, Stray, LongWord, OpenWord, Unknown, Header}
 use Rattle.tk_lines.specs.Pieces.{Section, End, Extents, Stop, Open, Fault, Format, section_at, piece_by, piece_of}
 use Rattle.tk_lines.specs.Pieces.{pieces_at, covered, cut, end_token, first_at, checked, or_else, ended, stopped, judge}
@@ -81,12 +81,12 @@ whole_taken zero ts h = tt
 whole_taken (suc k) [] h = tt
 whole_taken (suc k) (t ∷ ts) h = (h.0, whole_taken k ts h.1)
 
-pub whole_entries : (ts : List Token) → WholeTokens ts → WholeTokens (entries ts)
-unfolding entries
+pub whole_entries : (ts : List Token) → WholeTokens ts → WholeTokens (list_entries ts)
+unfolding list_entries
 whole_entries [] h = tt
 whole_entries (t ∷ ts) h = by_end (is_ending t) (whole_entries ts h.1)
   where
-    by_end : (e : Bool) → WholeTokens (entries ts) → WholeTokens (cond e [] (t ∷ entries ts))
+    by_end : (e : Bool) → WholeTokens (list_entries ts) → WholeTokens (cond e [] (t ∷ list_entries ts))
     by_end true k = tt
     by_end false k = (h.0, k)
 

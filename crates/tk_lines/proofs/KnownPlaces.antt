@@ -12,7 +12,7 @@ use Rattle.tk_lines.specs.declared.reader.PieceReader.{PieceReader}
 use Rattle.tk_lines.specs.Pieces.{Format}
 use Rattle.tk_lines.specs.Reader.Forms.{Promise, IsToldWord}
 use Rattle.tk_lines.specs.Reader.Places.{Next, Within, this, anything, DecidesIf, AtPlace, Fed}
-use Rattle.tk_lines.specs.Reader.Steps.{IsRefused, IsSettled, EndsPlace, ends_at}
+use Rattle.tk_lines.specs.Reader.Steps.{IsFaultWith, IsSettled, EndsPlace, ends_at}
 use Rattle.tk_lines.proofs.LineSteps.{decides_byte}
 
 -- where a reader stands that has taken these bytes
@@ -26,7 +26,7 @@ at_place {p = p} {next = next} {reader = reader} {bs = bs} place e fed =
 -- a kind that a form told, as a fault
 pub told_word : {V : Type 0} (P : TextKind → Type 0) (Q : Result V TextFault → Type 0) (line : ℕ) (k : TextKind) →
     IsToldWord P k → (P k → Q (Err (record { line = line; kind = k }))) →
-    IsRefused Q (record { line = line; kind = k })
+    IsFaultWith Q (record { line = line; kind = k })
 told_word P Q line kinds.NoMemory p h = tt
 told_word P Q line kinds.Read p h = absurd p
 told_word P Q line _ p h = h p
@@ -38,7 +38,7 @@ this_within b other h e (c ∷ more) k = subst (λ (x : ℕ). other e (x ∷ mor
 
 -- what is refused before a byte that comes, is refused with it
 pub told_byte : {V : Type 0} (f : Format V) (b : ℕ) (bs : List ℕ) (r : TextFault) →
-    IsRefused (DecidesIf f (this b) bs) r → IsRefused (DecidesIf f anything (bs ++ b ∷ [])) r
+    IsFaultWith (DecidesIf f (this b) bs) r → IsFaultWith (DecidesIf f anything (bs ++ b ∷ [])) r
 told_byte f b bs r h =
     told_of ⊥ (λ e. DecidesIf f (this b) bs (Err e)) (λ e. DecidesIf f anything (bs ++ b ∷ []) (Err e)) r
     (cause_of r.kind) (decides_byte f b bs (Err r)) h

@@ -1,6 +1,6 @@
 -- The first of some bytes, as the driver asks of it.
-use Rattle.std.proofs.Common.{◌≡◌, ℕ, ◌≤◌, List, [], ◌∷◌, ◌++◌, length, take, get_or, Result, Ok, Err, refl, ap}
-use Rattle.std.proofs.Common.{subst, ◌∙◌, arith}
+use Rattle.std.proofs.Common.{◌≡◌, ℕ, ◌≤◌, List, ◌++◌, length, take, Result, Ok, Err, refl, ap}
+use Rattle.std.proofs.Common.{subst, ◌∙◌}
 use Rattle.std.proofs.lemmas.List.{append-nil}
 use Rattle.tk_words.specs.declared.fault.TextFault.{TextFault}
 use Rattle.tk_words.specs.declared.sources.text_reader.Step.TheVariants.{Done}
@@ -12,10 +12,6 @@ use Rattle.tk_lines.specs.Reader.Forms.{Promise}
 use Rattle.tk_lines.specs.Pieces.{decided_by}
 use Rattle.tk_lines.specs.Reader.Places.{DecidesIf, Fed, anything}
 use Rattle.tk_lines.specs.Reader.Steps.{HasRun}
-
-pub first_byte : (bytes : List ℕ) → 1 ≤ length bytes → take 1 bytes ≡ get_or bytes 0 0 ∷ []
-first_byte [] some = absurd (omega arith)
-first_byte (b ∷ bytes) some = refl
 
 module _ {V S : Type 0} (p : Promise V S) (new : PieceReader S) (before bytes : List ℕ) where
   decides_within : (n : ℕ) (a : Result V TextFault) → n ≤ length bytes →

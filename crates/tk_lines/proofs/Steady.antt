@@ -9,7 +9,7 @@ use Rattle.tk_words.specs.Lex.{Token, is_empty, integer}
 use Rattle.tk_words.specs.Entry.{is_eof}
 use Rattle.tk_words.specs.MinusOne.{is_minus_one, is_ending, begins_minus_one, may_be_ending, one_more}
 use Rattle.tk_words.proofs.NumberLaws.MinusOne.{no_more, no_more_with_one}
-use Rattle.tk_lines.specs.Lists.{with_one, list_extent, entries, trailing_stop}
+use Rattle.tk_lines.specs.Lists.{with_one, list_extent, list_entries, trailing_stop}
 use Rattle.tk_lines.specs.Pieces.{After, Clean, Trailing, Early, Piece, Section, End, Extent, Extents, Stop, Open}
 use Rattle.tk_lines.specs.Pieces.{Fault, Format, after_tokens, section_at, last_line, checked, or_else}
 use Rattle.tk_lines.proofs.Growing.{AreLong, IsLonger, Lasts, or_else_kept, open_or_long, checked_grown}
@@ -263,16 +263,16 @@ lasts_taken zero (t ∷ []) (u ∷ rest) h le = absurd (omega (arith, le))
 lasts_taken (suc c) (t ∷ []) (u ∷ rest) h le = h
 lasts_taken c (t ∷ s ∷ last) rest h le = absurd h
 
-entries_goes : (t : Token) (ts : List Token) → is_ending t ≡ false → entries (t ∷ ts) ≡ t ∷ entries ts
-unfolding entries
+entries_goes : (t : Token) (ts : List Token) → is_ending t ≡ false → list_entries (t ∷ ts) ≡ t ∷ list_entries ts
+unfolding list_entries
 entries_goes t ts h = rw h refl
 
-entries_end : (t : Token) (ts : List Token) → is_ending t ≡ true → entries (t ∷ ts) ≡ []
-unfolding entries
+entries_end : (t : Token) (ts : List Token) → is_ending t ≡ true → list_entries (t ∷ ts) ≡ []
+unfolding list_entries
 entries_end t ts h = rw h refl
 
-entries_nothing : entries [] ≡ []
-unfolding entries
+entries_nothing : list_entries [] ≡ []
+unfolding list_entries
 entries_nothing = refl
 
 module _ {S : Type 0} (tests : S → Token → List (Bool × TextKind)) (next : S → Token → S) (line : ℕ)
@@ -302,8 +302,8 @@ module _ {S : Type 0} (tests : S → Token → List (Bool × TextKind)) (next : 
   -- of a list's entries
   pub list_stops : (s : S) (front last rest : List Token) → Lasts last rest
       → length (front ++ last) ≤ (list_extent (front ++ last)).count
-      → Faults s (entries (front ++ last)) →
-      Faults s (entries (take (list_extent (front ++ rest)).count (front ++ rest)))
+      → Faults s (list_entries (front ++ last)) →
+      Faults s (list_entries (take (list_extent (front ++ rest)).count (front ++ rest)))
   list_stops s [] [] rest h le f = absurd (let j = sym (ap (stops tests next s) entries_nothing) ∙ f in cc)
   list_stops s [] (t ∷ []) [] h le f = absurd h
   list_stops s [] (t ∷ []) (u ∷ rest) h le f = ⊎_elim opens longs (open_or_long 64 t u (tests s t) (tests s u) h)
@@ -313,28 +313,29 @@ module _ {S : Type 0} (tests : S → Token → List (Bool × TextKind)) (next : 
           sym (ap (stops tests next s) (entries_goes t [] (open_goes t h.partial).0
           ∙ ap (λ (xs : List Token). t ∷ xs) entries_nothing)) ∙ f
 
-      opens : checked 64 t (tests s t) ≡ Some Open → Faults s (entries (take (list_extent (u ∷ rest)).count (u ∷ rest)))
+      opens : checked 64 t (tests s t) ≡ Some Open →
+          Faults s (list_entries (take (list_extent (u ∷ rest)).count (u ∷ rest)))
       opens o = absurd (let j = sym (ap (λ (x : Option Stop). or_else x (stops tests next (next s t) [])) o)
           ∙ first in cc)
 
       longs : AreLong 64 t u (tests s t) (tests s u) →
-          Faults s (entries (take (list_extent (u ∷ rest)).count (u ∷ rest)))
+          Faults s (list_entries (take (list_extent (u ∷ rest)).count (u ∷ rest)))
       longs b =
           let g = long_goes u b.long in
           let more : List Token = take (list_extent rest).count rest in
-          ap (λ (e : Extent). stops tests next s (entries (take e.count (u ∷ rest)))) (list_goes u rest g.0 g.1)
+          ap (λ (e : Extent). stops tests next s (list_entries (take e.count (u ∷ rest)))) (list_goes u rest g.0 g.1)
           ∙ ap (stops tests next s) (entries_goes u more g.0)
           ∙ checked_grown 64 t u (tests s t) (tests s u) (stops tests next (next s t) [])
-          (stops tests next (next s u) (entries more)) line k h first
+          (stops tests next (next s u) (list_entries more)) line k h first
   list_stops s [] (t ∷ r ∷ last) rest h le f = absurd h
   list_stops s (x ∷ front) last rest h le f =
       by_kind (is_ending x) refl (x.whole && is_eof x.bytes) refl (list_stops (next s x) front last rest h)
     where
       by_kind : (a : Bool) → is_ending x ≡ a → (b : Bool) → (x.whole && is_eof x.bytes) ≡ b
           → (length (front ++ last) ≤ (list_extent (front ++ last)).count
-          → Faults (next s x) (entries (front ++ last))
-          → Faults (next s x) (entries (take (list_extent (front ++ rest)).count (front ++ rest))))
-          → Faults s (entries (take (list_extent (x ∷ front ++ rest)).count (x ∷ front ++ rest)))
+          → Faults (next s x) (list_entries (front ++ last))
+          → Faults (next s x) (list_entries (take (list_extent (front ++ rest)).count (front ++ rest))))
+          → Faults s (list_entries (take (list_extent (x ∷ front ++ rest)).count (x ∷ front ++ rest)))
       by_kind true i b j ih = absurd (let l = sym (ap (stops tests next s) (entries_end x (front ++ last) i)) ∙ f in cc)
       by_kind false i true j ih =
           let none : (list_extent (x ∷ front ++ last)).count ≡ 0 =
@@ -344,11 +345,11 @@ module _ {S : Type 0} (tests : S → Token → List (Bool × TextKind)) (next : 
           let one : (list_extent (x ∷ front ++ last)).count ≡ suc (list_extent (front ++ last)).count =
           ap (λ (e : Extent). e.count) (list_goes x (front ++ last) i j) in
           let more : List Token = take (list_extent (front ++ rest)).count (front ++ rest) in
-          ap (λ (e : Extent). stops tests next s (entries (take e.count (x ∷ front ++ rest))))
+          ap (λ (e : Extent). stops tests next s (list_entries (take e.count (x ∷ front ++ rest))))
           (list_goes x (front ++ rest) i j)
           ∙ ap (stops tests next s) (entries_goes x more i)
-          ∙ or_else_kept (checked 64 x (tests s x)) (stops tests next (next s x) (entries (front ++ last)))
-          (stops tests next (next s x) (entries more)) (Fault line k) (ih (omega (arith, le, one)))
+          ∙ or_else_kept (checked 64 x (tests s x)) (stops tests next (next s x) (list_entries (front ++ last)))
+          (stops tests next (next s x) (list_entries more)) (Fault line k) (ih (omega (arith, le, one)))
           (sym (ap (stops tests next s) (entries_goes x (front ++ last) i)) ∙ f)
 
 -- a fault of a section that has not ended stands at its word or at one of its tokens

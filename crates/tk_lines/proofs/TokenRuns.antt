@@ -3,15 +3,15 @@ use Rattle.std.proofs.Common.{◌≤◌, subst, ◌+◌, ◌-◌, get_or, take, 
 use Rattle.std.proofs.Common.{eqb, List, [], ◌∷◌, ◌++◌, All, length, sym, ap, ◌∙◌, arith}
 use Rattle.std.proofs.lemmas.List.{append_assoc, append-nil, get_or-drop, take_more, take_rest, length-append}
 use Rattle.std.proofs.lemmas.List.{length-drop, length-take}
-use Rattle.std.proofs.lemmas.List.Sums.{count_by-le-length}
 use Rattle.std.proofs.lemmas.List.Elements.{All-head, All-tail}
 use Rattle.tk_words.specs.declared.keyword.Keyword.{Keyword}
 use Rattle.tk_words.specs.FirstToken.{IsFirstToken}
+use Rattle.tk_words.proofs.FirstBytes.{line_short}
 use Rattle.tk_words.specs.Texts.{line_behind}
-use Rattle.tk_words.specs.Lex.{LF, Token, is_blank, IsRun}
+use Rattle.tk_words.specs.Lex.{LF, Token, is_blank, IsUnbroken}
 use Rattle.tk_lines.specs.Reader.Forms.{Promise}
 use Rattle.tk_lines.specs.Pieces.{Piece, Format}
-use Rattle.tk_lines.specs.Reader.Places.{anything, this, IsIn, Fed, AtToken}
+use Rattle.tk_lines.specs.Reader.Places.{anything, this, IsInSection, Fed, AtToken}
 use Rattle.tk_lines.specs.declared.reader.PieceReader.{PieceReader}
 use Rattle.tk_lines.specs.declared.place.Place.TheVariants as places
 use Rattle.tk_lines.proofs.KnownPlaces.{at_place, or_false}
@@ -28,7 +28,7 @@ solid_head b bs all = or_false _ _ (All-head (λ b. (is_blank b || b == 10) ≡ 
 solid_tail : (b : ℕ) (bs : List ℕ) → IsSolid (b ∷ bs) → IsSolid bs
 solid_tail b bs all = All-tail (λ b. (is_blank b || b == 10) ≡ false) b bs all
 
-run_of : (bs : List ℕ) → 0 < length bs → IsSolid bs → IsRun bs
+run_of : (bs : List ℕ) → 0 < length bs → IsSolid bs → IsUnbroken bs
 run_of [] some all = absurd (omega arith)
 run_of (b ∷ []) some all = (solid_head b [] all).0
 run_of (b ∷ c ∷ bs) some all =
@@ -61,7 +61,7 @@ module _ (bytes : List ℕ) (s : ℕ) (le : s ≤ length bytes) (token : List �
   token_front =
       first.begins ∙ ap (λ l. take (length token) l) (take_rest bytes s) ∙ ap (λ k. take k (drop s bytes)) (sym is)
 
-  pub token_run : IsRun token
+  pub token_run : IsUnbroken token
   token_run = run_of token (omega (arith, first.some)) first.solid
 
   -- the byte after it ends it
@@ -85,17 +85,13 @@ module _ (bytes : List ℕ) (s : ℕ) (le : s ≤ length bytes) (token : List �
 
   pub token_stands : {V S : Type 0} {p : Promise V S} (r : PieceReader S) (bs : List ℕ) → r.place ≡ places.Gap →
       Fed p anything r (bs ++ take s bytes) →
-      IsIn p (this (get_or bytes (s + n) 0)) r token ((bs ++ take s bytes) ++ token)
+      IsInSection p (this (get_or bytes (s + n) 0)) r token ((bs ++ take s bytes) ++ token)
   token_stands {p = p} r bs gap fed = record {
     line = fed.line ∙ sym (line_on (bs ++ take s bytes) token first.solid);
     at = token_narrow p.format p.wants (this (get_or bytes (s + n) 0)) r.form r.line _ _
         (token_on p.format p.wants r.form r.line [] (bs ++ take s bytes) token first.solid
         (at_place places.Gap gap fed));
   }
-
--- the line after some bytes
-pub line_short : (bs : List ℕ) → line_behind bs ≤ length bs + 1
-line_short bs = omega (arith, count_by-le-length (λ b. b == 10) bs)
 
 pub line_within : (bs bytes : List ℕ) (s : ℕ) → line_behind (bs ++ take s bytes) ≤ length bs + s + 1
 line_within bs bytes s =

@@ -18,9 +18,9 @@ list_extent (t ∷ ts) =
     else (if t.whole && is_eof t.bytes then record { count = 0; closed = false; at_eof = true } else with_one rest)
 
 -- the entries before the ending -1
-unfoldable pub entries : List Token → List Token
-entries [] = []
-entries (t ∷ ts) = let rest = entries ts in if is_ending t then [] else t ∷ rest
+unfoldable pub list_entries : List Token → List Token
+list_entries [] = []
+list_entries (t ∷ ts) = let rest = list_entries ts in if is_ending t then [] else t ∷ rest
 
 abbrev pub trailing_stop : After → Option Stop
 trailing_stop (Trailing line) = Some (Fault line kinds.TrailingData)

@@ -10,6 +10,7 @@ ghost use Rattle.tk_lines.specs.Reader.Steps.{Waits, IsFed, HasFinished, Finishe
 use crate::form::Form;
 use crate::place::{Flow, Place};
 use crate::reader::PieceReader;
+use tk_problem::TEXT_LIMIT;
 use tk_words::{Keyword, Step, TextFault, TextKind, TextReader};
 
 impl<F: Form> PieceReader<F> {
@@ -104,6 +105,10 @@ impl<F: Form> TextReader for PieceReader<F> {
 
     fn value(self) -> F::Out {
         self.form.value()
+    }
+
+    fn limit(&self) -> u64 {
+        TEXT_LIMIT
     }
 
     fn too_long(&self) -> TextFault {

@@ -1,7 +1,7 @@
 //! Whole tokens of a section, one after the other.
 ghost use Rattle.std.specs.Prelude.{◌≡◌, ◌≤◌, ◌^◌, ◌+◌, ◌||◌, ◌==◌, true, false, ℕ, List, length};
 ghost use Rattle.tk_words.specs.Lex.{is_blank};
-ghost use Rattle.tk_lines.specs.Reader.Places.{Fed, IsToken, IsIn, anything, this};
+ghost use Rattle.tk_lines.specs.Reader.Places.{Fed, IsToken, IsInSection, anything, this};
 ghost use Rattle.tk_lines.specs.Reader.Steps.{IsFed, TakesRun, TakesSettled, TakesWhole, ends_at};
 
 use crate::form::Form;
@@ -19,7 +19,7 @@ impl<F: Form> PieceReader<F> {
         requires run { IsToken token.now }
         requires gap { (is_blank byte || byte == 10) ≡ true }
         requires room { self.old.line ≤ 2 ^ 63 }
-        requires known { (before : List ℕ) × IsIn F.promise (this byte) self.old token.now before }
+        requires known { (before : List ℕ) × IsInSection F.promise (this byte) self.old token.now before }
         ensures { TakesWhole F.promise token.now self.old self.new byte result }
     {
         match self.take_token(token)? {

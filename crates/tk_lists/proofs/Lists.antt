@@ -8,7 +8,7 @@ use Rattle.tk_words.specs.Lex.{Token, integer}
 use Rattle.tk_lines.specs.Pieces.{Extent, Stop, Open, Fault, or_else}
 use Rattle.tk_words.specs.MinusOne.{is_ending, one_more}
 use Rattle.tk_words.specs.Entry.{is_eof, numbers_of, natural_or_zero}
-use Rattle.tk_lines.specs.Lists.{list_extent, entries, AreEntries}
+use Rattle.tk_lines.specs.Lists.{list_extent, list_entries, AreEntries}
 use Rattle.tk_lists.specs.Tour.{entry_stop, entries_stop}
 use Rattle.tk_lines.proofs.Sections.SectionEnds.{take_past}
 
@@ -34,8 +34,8 @@ nothing_before (Some s) y h = absurd cc
 -- the first entry at which something stops, stops the list, whatever follows
 entries_stop-at : (k : ℕ) (ts more : List Token) (t : Token) (s : Stop) → AreEntries ts → entries_stop k ts ≡ None
     → is_ending t ≡ false → entry_stop (k + length ts) t ≡ Some s
-    → entries_stop k (entries (ts ++ t ∷ more)) ≡ Some s
-unfolding entries entries_stop
+    → entries_stop k (list_entries (ts ++ t ∷ more)) ≡ Some s
+unfolding list_entries entries_stop
 entries_stop-at k [] more t s h fine goes stop =
     let here : entry_stop k t ≡ Some s = ap (λ (j : ℕ). entry_stop j t) (omega arith) ∙ stop in
     rw (goes, here) refl
@@ -49,14 +49,14 @@ pub are_more : (ts : List Token) (t : Token) → AreEntries ts → is_ending t �
 are_more [] t h a b = (a, b, tt)
 are_more (x ∷ ts) t h a b = (h.0, h.1, are_more ts t h.2 a b)
 
-pub entries_all : (ts : List Token) → AreEntries ts → entries ts ≡ ts
-unfolding entries
+pub entries_all : (ts : List Token) → AreEntries ts → list_entries ts ≡ ts
+unfolding list_entries
 entries_all [] h = refl
 entries_all (t ∷ ts) h = rw (h.0, entries_all ts h.2) refl
 
 pub entries_ended : (ts more : List Token) (t : Token) → AreEntries ts → is_ending t ≡ true →
-    entries (ts ++ t ∷ more) ≡ ts
-unfolding entries
+    list_entries (ts ++ t ∷ more) ≡ ts
+unfolding list_entries
 entries_ended [] more t h end = rw end refl
 entries_ended (x ∷ ts) more t h end = rw (h.0, entries_ended ts more t h.2 end) refl
 
@@ -97,7 +97,7 @@ module _ (ts : List Token) (are : AreEntries ts) (fine : entries_stop 0 ts ≡ N
   -- a token at which something stops, stops the tokens of the section
   pub list_stops : (t : Token) (more : List Token) (s : Stop) → is_ending t ≡ false
       → (t.whole && is_eof t.bytes) ≡ false → entry_stop (length ts) t ≡ Some s
-      → entries_stop 0 (entries (take (list_extent (ts ++ t ∷ more)).count (ts ++ t ∷ more))) ≡ Some s
+      → entries_stop 0 (list_entries (take (list_extent (ts ++ t ∷ more)).count (ts ++ t ∷ more))) ≡ Some s
   list_stops t more s a b stop =
       rw (count_past t more a b, take_at_least (list_extent more).count ts more t)
       (entries_stop-at 0 ts (take (list_extent more).count more) t s are fine a

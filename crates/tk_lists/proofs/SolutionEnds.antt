@@ -12,40 +12,42 @@ use Rattle.tk_lines.specs.Reader.Forms.{whole}
 use Rattle.tk_lines.specs.Reader.Places.{IsToken}
 use Rattle.tk_lists.specs.Solution.{SolutionLine, Empty, Other, Route, has_cost, count_of, solid_line, line_stop}
 use Rattle.tk_lists.specs.Solution.{customer_stop, cost_stop}
-use Rattle.tk_lists.specs.Reader.SolutionReader.{Keeps, IsRoute, IsPriced, IsAt, HasEnded, StopsAt, line_from}
+use Rattle.tk_lists.specs.Reader.SolutionReader.{Keeps, IsRoute, IsPriced, IsAtPlace, HasEndedLine, LineStopsAt}
+use Rattle.tk_lists.specs.Reader.SolutionReader.{line_from}
 use Rattle.tk_lines.proofs.Sections.SectionBytes.{first_token}
 use Rattle.tk_lines.proofs.Sections.MiddleOfSection.{tokens_of-none, tokens_of-last}
 use Rattle.tk_lists.proofs.SolutionLines.{keeps_line, customers_at}
 use Rattle.tk_lists.proofs.SolutionPlaces.{short_head}
 
 module _ (s : SolutionForm) (before : List SolutionLine) (held : List ℕ) (n : ℕ) (toks : List Token) where
-  pub end_start : IsAt s before held n toks places.Start →
-      HasEnded before n (line_from n held toks places.Start [] true) s
+  pub end_start : IsAtPlace s before held n toks places.Start →
+      HasEndedLine before n (line_from n held toks places.Start [] true) s
   end_start at = record { fine = refl; keeps = keeps_line s before Empty refl refl refl at.1 }
 
-  pub end_skip : IsAt s before held n toks places.Skip → HasEnded before n (line_from n held toks places.Skip [] true) s
+  pub end_skip : IsAtPlace s before held n toks places.Skip →
+      HasEndedLine before n (line_from n held toks places.Skip [] true) s
   end_skip at = record { fine = rw at.2 refl; keeps = keeps_line s before Other refl refl refl at.1 }
 
   pub end_other : Keeps s before [] → solid_line n true held ≡ Other → has_cost before ≡ true →
-      HasEnded before n (line_from n held toks places.Word [] true) s
+      HasEndedLine before n (line_from n held toks places.Word [] true) s
   end_other keeps other priced =
       rw (append-nil held, other)
       (record { fine = rw priced refl; keeps = keeps_line s before Other refl refl refl keeps })
 
-  pub end_close : IsAt s before held n toks places.Close →
-      HasEnded before n (line_from n held toks places.Close [] true) s
+  pub end_close : IsAtPlace s before held n toks places.Close →
+      HasEndedLine before n (line_from n held toks places.Close [] true) s
   end_close at =
       rw (tokens_of-none true n, append-nil toks)
       (record { fine = rw (at.priced, at.fine true) refl; keeps = at.keeps })
 
   pub end_gap : IsRoute before toks → Keeps s (before ++ Route toks ∷ []) [] →
-      HasEnded before n (line_from n held toks places.Gap [] true) s
+      HasEndedLine before n (line_from n held toks places.Gap [] true) s
   end_gap may keeps =
       rw (tokens_of-none true n, append-nil toks) (record { fine = rw (may.may n, may.fine) refl; keeps = keeps })
 
   pub end_customer : IsToken held → IsRoute before (toks ++ whole held n ∷ []) →
       Keeps s (before ++ Route (toks ++ whole held n ∷ []) ∷ []) [] →
-      HasEnded before n (line_from n held toks places.Customer [] true) s
+      HasEndedLine before n (line_from n held toks places.Customer [] true) s
   end_customer token may keeps =
       rw (append-nil held, tokens_of-last n held token.0)
       (record { fine = rw (may.may n, may.fine) refl; keeps = keeps })
@@ -58,7 +60,7 @@ module _ (s : SolutionForm) (before : List SolutionLine) (held : List ℕ) (n : 
       (customers_at (count_of before) toks [] (whole held n) (Fault n k) may.fine stop)
 
   pub end_digits : IsToken held → IsPriced s before n (whole held n ∷ []) →
-      HasEnded before n (line_from n held toks places.Digits [] true) s
+      HasEndedLine before n (line_from n held toks places.Digits [] true) s
   end_digits token at =
       rw (append-nil held, tokens_of-last n held token.0)
       (record { fine = rw (at.priced, at.fine true) refl; keeps = at.keeps })
@@ -68,7 +70,7 @@ module _ (s : SolutionForm) (before : List SolutionLine) (held : List ℕ) (n : 
       line_stop before n true (line_from n held toks places.Digits [] true) ≡ Some (Fault n k)
   end_digits_stops token unpriced k stop = rw (append-nil held, tokens_of-last n held token.0, unpriced) (stop true [])
 
-  pub end_head_stops : (p : HeadPlace) → IsAt s before held n toks (places.Head p) →
+  pub end_head_stops : (p : HeadPlace) → IsAtPlace s before held n toks (places.Head p) →
       line_stop before n true (line_from n held toks (places.Head p) [] true) ≡ Some (Fault n kinds.BadNumber)
   end_head_stops p at = rw (short_head p at.3, at.2.may n) refl
 
@@ -76,6 +78,6 @@ module _ (s : SolutionForm) (before : List SolutionLine) (held : List ℕ) (n : 
       line_stop before n true (line_from n held toks places.Colon [] true) ≡ Some (Fault n kinds.BadNumber)
   end_colon_stops unpriced = rw (tokens_of-none true n, unpriced) refl
 
-  pub close_stops : (b : ℕ) → is_blank b ≡ false → IsAt s before held n toks places.Close →
-      StopsAt before n b (line_from n held toks places.Close) kinds.TrailingData
+  pub close_stops : (b : ℕ) → is_blank b ≡ false → IsAtPlace s before held n toks places.Close →
+      LineStopsAt before n b (line_from n held toks places.Close) kinds.TrailingData
   close_stops b solid at bs w = let u = first_token w n b bs solid in rw (u.is, at.priced) (at.trailing w _ u.rest)

@@ -27,8 +27,8 @@ use Rattle.tk_lines.proofs.Steady.{stops, stops_grown}
 use Rattle.tk_lists.specs.Solution.{Head, Short, Bad, Behind, Solution, SolutionLine, Unsure, Other, Cost, colon_head}
 use Rattle.tk_lists.specs.Solution.{digits_head, number_head, route_head, is_sign, is_hash, route_line, may_be_word}
 use Rattle.tk_lists.specs.Solution.{by_word, solid_line, line_of, has_cost, count_of, is_natural, customer_stop}
-use Rattle.tk_lists.specs.Solution.{customers_stop, trailing_stop, cut_short, cost_stop, route_tests, cost_tests}
-use Rattle.tk_lists.specs.Solution.{other_tests, line_stop, at_end, judge_lines, solution_decided}
+use Rattle.tk_lists.specs.Solution.{customers_stop, line_trailing_stop, cut_short, cost_stop, route_tests, cost_tests}
+use Rattle.tk_lists.specs.Solution.{other_tests, line_stop, solution_at_end, judge_lines, solution_decided}
 use Rattle.tk_lists.proofs.SolutionWords.{route_stops, solid_other}
 
 -- ---- each text has an answer
@@ -51,10 +51,10 @@ customers_known k (t ∷ ts) h =
 cost_known : (n : ℕ) (ts : List Token) → WholeTokens ts → NotOpen (cost_stop n true ts)
 cost_known n [] h = tt
 cost_known n (t ∷ ts) h =
-    not_open_or (checked 64 t (cost_number_tests t)) (trailing_stop n ts)
+    not_open_or (checked 64 t (cost_number_tests t)) (line_trailing_stop n ts)
     (not_open_checked 64 t (cost_number_tests t) h.0) (trailing ts)
   where
-    trailing : (ts : List Token) → NotOpen (trailing_stop n ts)
+    trailing : (ts : List Token) → NotOpen (line_trailing_stop n ts)
     trailing [] = tt
     trailing (t ∷ ts) = tt
 
@@ -87,7 +87,7 @@ module _ (before : List SolutionLine) (n : ℕ) where
   solid_known [] = tt
   solid_known (b ∷ bs) = word_known (front is_word_byte (b ∷ bs)) (behind is_word_byte (b ∷ bs))
 
-some_end : (before : List SolutionLine) (n : ℕ) → IsSome (at_end before n true)
+some_end : (before : List SolutionLine) (n : ℕ) → IsSome (solution_at_end before n true)
 some_end before n = by_cost (has_cost before) _ _
   where
     by_cost : (t : Bool) (x y : Result Solution TextFault) → IsSome (cond t (Some x) (Some y))
@@ -230,7 +230,8 @@ module _ (before : List SolutionLine) (n : ℕ) (w : Bool) (x : List ℕ) (line 
       ∙ stops_grown customer_tests (λ k t. suc k) line k m g.front g.last g.rest g.lasts old
 
   trailing_stays : (front last rest : List Token) → Lasts last rest →
-      trailing_stop n (front ++ last) ≡ Some (Fault line k) → trailing_stop n (front ++ rest) ≡ Some (Fault line k)
+      line_trailing_stop n (front ++ last) ≡ Some (Fault line k) →
+      line_trailing_stop n (front ++ rest) ≡ Some (Fault line k)
   trailing_stays [] [] rest g h = absurd cc
   trailing_stays [] (t ∷ []) [] g h = absurd g
   trailing_stays [] (t ∷ []) (u ∷ rest) g h = h
@@ -242,11 +243,11 @@ module _ (before : List SolutionLine) (n : ℕ) (w : Bool) (x : List ℕ) (line 
   cost_grown [] [] rest g h = absurd (let j : Some Open ≡ Some (Fault line k) = h in cc)
   cost_grown [] (t ∷ []) [] g h = absurd g
   cost_grown [] (t ∷ []) (u ∷ rest) g h =
-      checked_grown 64 t u (cost_number_tests t) (cost_number_tests u) None (trailing_stop n rest) line k g h
+      checked_grown 64 t u (cost_number_tests t) (cost_number_tests u) None (line_trailing_stop n rest) line k g h
   cost_grown [] (t ∷ s ∷ last) rest g h = absurd g
   cost_grown (y ∷ front) last rest g h =
-      or_else_kept (checked 64 y (cost_number_tests y)) (trailing_stop n (front ++ last))
-      (trailing_stop n (front ++ rest)) (Fault line k) (trailing_stays front last rest g) h
+      or_else_kept (checked 64 y (cost_number_tests y)) (line_trailing_stop n (front ++ last))
+      (line_trailing_stop n (front ++ rest)) (Fault line k) (trailing_stays front last rest g) h
 
   cost_stays : (tail : List ℕ) → cost_stop n false (tokens_of false n (after_word tail)) ≡ Some (Fault line k) →
       cost_stop n w (tokens_of w n (after_word (tail ++ x))) ≡ Some (Fault line k)

@@ -6,8 +6,8 @@ use Rattle.std.proofs.lemmas.Bool.{le-leb, lt-leb, le-ltb}
 use Rattle.std.proofs.lemmas.List.{append-nil, length-append}
 use Rattle.tk_lists.specs.declared.solution_form.SolutionForm.{SolutionForm}
 use Rattle.tk_words.specs.Lex.{Token, integer}
-use Rattle.tk_lists.specs.Solution.{SolutionLine, Route, Cost, is_natural, cost_stop, trailing_stop, customer_stop}
-use Rattle.tk_lists.specs.Solution.{customers_stop, routes_on, routes_of, count_on, count_of, is_cost, has_cost}
+use Rattle.tk_lists.specs.Solution.{SolutionLine, Route, Cost, is_natural, cost_stop, line_trailing_stop, customer_stop}
+use Rattle.tk_lists.specs.Solution.{customers_stop, routes_on, routes_in, count_on, count_of, is_cost, has_cost}
 use Rattle.tk_lists.specs.Solution.{cost_on, cost_of}
 use Rattle.tk_lists.specs.Reader.SolutionReader.{Keeps, IsRoute, IsPriced}
 use Rattle.tk_lines.specs.Reader.Forms.{whole}
@@ -18,10 +18,10 @@ use Rattle.std.specs.Prelude.{is_none}
 use Rattle.tk_problem.specs.declared.limits.TheConstants.{ENTRY_LIMIT}
 use Rattle.tk_lists.proofs.Lists.{numbers_more}
 
-pub routes_of-append : (xs ys : List SolutionLine) → routes_of (xs ++ ys) ≡ routes_of xs ++ routes_of ys
+pub routes_of-append : (xs ys : List SolutionLine) → routes_in (xs ++ ys) ≡ routes_in xs ++ routes_in ys
 routes_of-append [] ys = refl
 routes_of-append (x ∷ xs) ys = ap (λ (rs : List (List ℕ)). routes_on x ++ rs) (routes_of-append xs ys)
-    ∙ sym (append_assoc (routes_on x) (routes_of xs) (routes_of ys))
+    ∙ sym (append_assoc (routes_on x) (routes_in xs) (routes_in ys))
 
 pub count_of-append : (xs ys : List SolutionLine) → count_of (xs ++ ys) ≡ count_of xs + count_of ys
 count_of-append [] ys = omega arith
@@ -59,7 +59,7 @@ no_cost (x ∷ xs) h = by_test (is_cost x) (no_cost xs) h
 pub keeps_line : (s : SolutionForm) (before : List SolutionLine) (l : SolutionLine) → routes_on l ≡ [] →
     count_on l ≡ 0 → is_cost l ≡ false → Keeps s before [] → Keeps s (before ++ l ∷ []) []
 keeps_line s before l no_route no_customer plain k = record {
-  routes = k.routes ∙ sym (routes_of-append before (l ∷ []) ∙ rw no_route (append-nil (routes_of before)));
+  routes = k.routes ∙ sym (routes_of-append before (l ∷ []) ∙ rw no_route (append-nil (routes_in before)));
   route = k.route;
   customers = omega (arith, k.customers, count_of-append before (l ∷ []), no_customer);
   priced = k.priced ∙ sym (has_cost-append before (l ∷ []) ∙ rw plain (or_false (has_cost before)));
@@ -147,7 +147,7 @@ keeps_customer s t before toks n m bs short is low few routes route customers pr
 -- ---- the cost
 
 natural_line : (t : Token) (ts : List Token) (n : ℕ) (ended : Bool) → ltb 64 (length t.bytes) ≡ false → t.whole ≡ true →
-    is_natural (integer t.bytes) ≡ true → cost_stop n ended (t ∷ ts) ≡ trailing_stop n ts
+    is_natural (integer t.bytes) ≡ true → cost_stop n ended (t ∷ ts) ≡ line_trailing_stop n ts
 natural_line t ts n ended short all is = by_value (integer t.bytes) is
   where
     by_value : (z : Option ℤ) → is_natural z ≡ true
@@ -156,7 +156,7 @@ natural_line t ts n ended short all is = by_value (integer t.bytes) is
         (cond (not t.whole) (Some Open)
         (cond (is_none z) (Some (Fault t.line kinds.BadNumber))
         (cond (not (is_natural z)) (Some (Fault t.line kinds.OutOfLimit)) None))))
-        (trailing_stop n ts) ≡ trailing_stop n ts
+        (line_trailing_stop n ts) ≡ line_trailing_stop n ts
     by_value None h = absurd cc
     by_value (Some z) h = rw (short, all, h) refl
 
@@ -175,7 +175,7 @@ keeps_cost s t before n bs z short is low routes route customers priced cost k u
       trailing = λ ended t ts. natural_line (whole bs n) (t ∷ ts) n ended fits refl nat;
       priced = unpriced;
       keeps = record {
-        routes = rw routes (k.routes ∙ sym (routes_of-append before (here ∷ []) ∙ append-nil (routes_of before)));
+        routes = rw routes (k.routes ∙ sym (routes_of-append before (here ∷ []) ∙ append-nil (routes_in before)));
         route = rw route k.route;
         customers = omega (arith, customers, k.customers, count_of-append before (here ∷ []));
         priced = priced ∙ sym (has_cost-append before (here ∷ []) ∙ rw unpriced refl);

@@ -11,9 +11,10 @@ use Rattle.tk_lists.specs.declared.solution_reader.LinePlace.{LinePlace}
 use Rattle.tk_lists.specs.declared.solution_reader.LinePlace.TheVariants as places
 use Rattle.tk_words.specs.Lex.{LF, Token, lines, is_word_byte}
 use Rattle.tk_lines.specs.Pieces.{Open, Fault, stopped}
-use Rattle.tk_lists.specs.Solution.{Solution, Short, SolutionLine, Unsure, solid_line, line_stop, at_end, judge_lines}
+use Rattle.tk_lists.specs.Solution.{Solution, Short, SolutionLine, Unsure, solid_line, line_stop, solution_at_end}
+use Rattle.tk_lists.specs.Solution.{judge_lines}
 use Rattle.tk_lists.specs.Solution.{count_of, customer_stop}
-use Rattle.tk_lists.specs.Reader.SolutionReader.{head_from, IsHead, line_from, IsLineWord, IsAt, from}
+use Rattle.tk_lists.specs.Reader.SolutionReader.{head_from, IsHead, line_from, IsLineWord, IsAtPlace, from}
 use Rattle.tk_lines.proofs.MiddleOfLine.{lines-byte, lines-LF}
 use Rattle.tk_lines.proofs.Sections.SectionEnds.{first_line}
 use Rattle.tk_lines.proofs.Headers.ByteRuns.{front-whole}
@@ -55,7 +56,7 @@ module _ (before : List SolutionLine) (g : List ℕ → Bool → SolutionLine) (
 
   -- the end of the bytes
   pub from_end : line_stop before n true (g [] true) ≡ None →
-      from before g (lines true n []) ≡ at_end (before ++ g [] true ∷ []) n true
+      from before g (lines true n []) ≡ solution_at_end (before ++ g [] true ∷ []) n true
   unfolding from lines judge_lines
   from_end none = rw none refl
 
@@ -95,7 +96,7 @@ customer_open : (k n : ℕ) (held : List ℕ) → length held ≤ 64 →
 customer_open k n held short = let test : ltb 64 (length held) ≡ false = le-ltb _ _ short in rw test refl
 
 pub waits : (s : SolutionForm) (before : List SolutionLine) (held : List ℕ) (n : ℕ) (toks : List Token)
-    (p : LinePlace) → IsAt s before held n toks p → Waits before n (line_from n held toks p [] false)
+    (p : LinePlace) → IsAtPlace s before held n toks p → Waits before n (line_from n held toks p [] false)
 waits s before held n toks places.Start at = refl
 waits s before held n toks places.Word at = rw (append-nil held, solid_open n held at.2) refl
 waits s before held n toks places.Skip at = rw at.2 refl

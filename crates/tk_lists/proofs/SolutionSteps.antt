@@ -12,7 +12,7 @@ use Rattle.tk_lines.specs.Pieces.{Fault}
 use Rattle.tk_lines.specs.Reader.Forms.{whole}
 use Rattle.tk_lines.specs.Reader.Places.{IsToken}
 use Rattle.tk_lists.specs.Solution.{SolutionLine, Route, Cost, has_cost, count_of, customer_stop, cost_stop}
-use Rattle.tk_lists.specs.Reader.SolutionReader.{IsRoute, line_from, Went, StopsAt}
+use Rattle.tk_lists.specs.Reader.SolutionReader.{IsRoute, line_from, Went, LineStopsAt}
 use Rattle.tk_lines.proofs.Sections.SectionSteps.{run_more}
 use Rattle.tk_lines.proofs.Sections.SectionBytes.{front_token}
 use Rattle.tk_lines.proofs.Sections.MiddleOfSection.{tokens_of-run}
@@ -25,7 +25,7 @@ went_same before b g h s same went =
     record { toks = went.toks; stands = went.stands; same = λ bs w. same bs w ∙ went.same bs w }
 
 pub stops_same : (before : List SolutionLine) (n b : ℕ) (g h : List ℕ → Bool → SolutionLine) (k : TextKind) →
-    ((bs : List ℕ) (w : Bool) → h (b ∷ bs) w ≡ g (b ∷ bs) w) → StopsAt before n b g k → StopsAt before n b h k
+    ((bs : List ℕ) (w : Bool) → h (b ∷ bs) w ≡ g (b ∷ bs) w) → LineStopsAt before n b g k → LineStopsAt before n b h k
 stops_same before n b g h k same stops bs w = rw (same bs w) (stops bs w)
 
 module _ (before : List SolutionLine) (n b : ℕ) (held : List ℕ) (toks : List Token) where
@@ -45,13 +45,13 @@ module _ (before : List SolutionLine) (n b : ℕ) (held : List ℕ) (toks : List
 
   pub customer_stops : is_blank b ≡ true → IsToken held → IsRoute before toks → (k : TextKind) →
       customer_stop (count_of before + length toks) (whole held n) ≡ Some (Fault n k) →
-      StopsAt before n b (line_from n held toks places.Customer) k
+      LineStopsAt before n b (line_from n held toks places.Customer) k
   customer_stops blank token may k stop bs w =
       rw (tokens_of-run w n held b bs token.0 blank, may.may n)
       (customers_at (count_of before) toks (tokens_of w n bs) (whole held n) (Fault n k) may.fine stop)
 
   pub customer_long : is_blank b ≡ false → IsToken held → IsRoute before toks → length held ≡ 64 →
-      StopsAt before n b (line_from n held toks places.Customer) kinds.TooLong
+      LineStopsAt before n b (line_from n held toks places.Customer) kinds.TooLong
   customer_long solid token may full bs w =
       let u = front_token w n (held ++ b ∷ []) bs (run_more held b token.0 solid) in
       let t : Token = record { bytes = (held ++ b ∷ []) ++ u.bytes; line = n; whole = u.whole } in
@@ -75,12 +75,12 @@ module _ (before : List SolutionLine) (n b : ℕ) (held : List ℕ) where
 
   pub cost_stops : is_blank b ≡ true → IsToken held → has_cost before ≡ false → (k : TextKind) →
       ((w : Bool) (ts : List Token) → cost_stop n w (whole held n ∷ ts) ≡ Some (Fault n k)) →
-      StopsAt before n b (line_from n held [] places.Digits) k
+      LineStopsAt before n b (line_from n held [] places.Digits) k
   cost_stops blank token unpriced k stop bs w =
       rw (tokens_of-run w n held b bs token.0 blank, unpriced) (stop w (tokens_of w n bs))
 
   pub cost_long : is_blank b ≡ false → IsToken held → has_cost before ≡ false → length held ≡ 64 →
-      StopsAt before n b (line_from n held [] places.Digits) kinds.TooLong
+      LineStopsAt before n b (line_from n held [] places.Digits) kinds.TooLong
   cost_long solid token unpriced full bs w =
       let u = front_token w n (held ++ b ∷ []) bs (run_more held b token.0 solid) in
       let long : ltb 64 (length ((held ++ b ∷ []) ++ u.bytes)) ≡ true =

@@ -11,15 +11,16 @@ use Rattle.tk_lists.specs.declared.solution_reader.SolutionReader.{SolutionReade
 use Rattle.tk_words.specs.Texts.{Decides, DecidesEnded}
 use Rattle.tk_words.specs.Lex.{LF, lines}
 use Rattle.tk_lines.specs.Pieces.{Fault}
-use Rattle.tk_lists.specs.Solution.{has_cost, line_stop, at_end, judge_lines, solution_decided, solution_texts}
-use Rattle.tk_lists.specs.Reader.SolutionReader.{Stands, Went, StopsAt, HasEnded, Fed, Waits, rest_of, from}
+use Rattle.tk_lists.specs.Solution.{has_cost, line_stop, solution_at_end, judge_lines, solution_decided, solution_texts}
+use Rattle.tk_lists.specs.Reader.SolutionReader.{StandsOnLine, Went, LineStopsAt, HasEndedLine, FedLines, SolutionWaits}
+use Rattle.tk_lists.specs.Reader.SolutionReader.{rest_of, from}
 use Rattle.tk_lines.proofs.Sections.SectionEnds.{first_line}
 use Rattle.tk_lines.proofs.LineSteps.{line_behind-byte, line_behind-LF}
 use Rattle.tk_lists.proofs.SolutionPlaces.{from_byte, from_stops, from_LF, from_LF_stops, from_end, from_end_stops}
 use Rattle.tk_lists.proofs.SolutionPlaces.{from_open, waits}
 
 -- before the first byte
-pub fed_none : (s : SolutionReader) → s.line ≡ 1 → s.place ≡ places.Start → Stands s [] [] → Fed s []
+pub fed_none : (s : SolutionReader) → s.line ≡ 1 → s.place ≡ places.Start → StandsOnLine s [] [] → FedLines s []
 unfolding solution_decided judge_lines from
 fed_none s first start stands = record {
   line = first;
@@ -30,18 +31,18 @@ fed_none s first start stands = record {
 }
 
 -- where nothing is decided yet
-fed_open : (s : SolutionReader) (bs : List ℕ) → Fed s bs → solution_decided false bs ≡ None
+fed_open : (s : SolutionReader) (bs : List ℕ) → FedLines s bs → solution_decided false bs ≡ None
 fed_open s bs fed =
     ap (solution_decided false) (sym (append-nil bs)) ∙ fed.same false []
     ∙ from_open fed.before (rest_of s fed.toks) s.line
     (waits s.form fed.before s.held s.line fed.toks s.place fed.stands)
 
-pub fed_waits : (s : SolutionReader) (bs : List ℕ) → Fed s bs → Waits s bs
+pub fed_waits : (s : SolutionReader) (bs : List ℕ) → FedLines s bs → SolutionWaits s bs
 fed_waits s bs fed = record { fed = fed; undecided = fed_open s bs fed }
 
-module _ (s t : SolutionReader) (bs : List ℕ) (fed : Fed s bs) where
+module _ (s t : SolutionReader) (bs : List ℕ) (fed : FedLines s bs) where
   pub fed_byte : (b : ℕ) → eqb b LF ≡ false → t.line ≡ s.line → Went fed.before b (rest_of s fed.toks) t →
-      Fed t (bs ++ b ∷ [])
+      FedLines t (bs ++ b ∷ [])
   fed_byte b other line went = record {
     line = line ∙ fed.line ∙ sym (line_behind-byte bs b other);
     before = fed.before;
@@ -53,7 +54,7 @@ module _ (s t : SolutionReader) (bs : List ℕ) (fed : Fed s bs) where
   }
 
   pub fed_LF : t.line ≡ s.line + 1 → t.place ≡ places.Start →
-      HasEnded fed.before s.line (rest_of s fed.toks [] true) t.form → Fed t (bs ++ LF ∷ [])
+      HasEndedLine fed.before s.line (rest_of s fed.toks [] true) t.form → FedLines t (bs ++ LF ∷ [])
   fed_LF line start ended = record {
     line = line ∙ ap (λ (n : ℕ). n + 1) fed.line ∙ sym (line_behind-LF bs);
     before = fed.before ++ rest_of s fed.toks [] true ∷ [];
@@ -63,8 +64,8 @@ module _ (s t : SolutionReader) (bs : List ℕ) (fed : Fed s bs) where
         ∙ from_LF fed.before (rest_of s fed.toks) s.line e more ended.fine ∙ rw (line, start) refl;
   }
 
-module _ (s : SolutionReader) (bs : List ℕ) (fed : Fed s bs) (k : TextKind) where
-  pub byte_stops : (b : ℕ) → eqb b LF ≡ false → StopsAt fed.before s.line b (rest_of s fed.toks) k →
+module _ (s : SolutionReader) (bs : List ℕ) (fed : FedLines s bs) (k : TextKind) where
+  pub byte_stops : (b : ℕ) → eqb b LF ≡ false → LineStopsAt fed.before s.line b (rest_of s fed.toks) k →
       Decides solution_texts (bs ++ b ∷ []) (Err (record { line = s.line; kind = k }))
   byte_stops b other stops e more =
       ap (solution_decided e) (append_assoc bs (b ∷ []) more) ∙ fed.same e (b ∷ more)
@@ -81,9 +82,9 @@ module _ (s : SolutionReader) (bs : List ℕ) (fed : Fed s bs) (k : TextKind) wh
   end_stops stop = ap (solution_decided true) (sym (append-nil bs)) ∙ fed.same true []
       ∙ from_end_stops fed.before (rest_of s fed.toks) s.line k stop
 
-module _ (s : SolutionReader) (bs : List ℕ) (fed : Fed s bs) (t : SolutionForm)
-    (ended : HasEnded fed.before s.line (rest_of s fed.toks [] true) t) where
-  at_the_end : solution_decided true bs ≡ at_end (fed.before ++ rest_of s fed.toks [] true ∷ []) s.line true
+module _ (s : SolutionReader) (bs : List ℕ) (fed : FedLines s bs) (t : SolutionForm)
+    (ended : HasEndedLine fed.before s.line (rest_of s fed.toks [] true) t) where
+  at_the_end : solution_decided true bs ≡ solution_at_end (fed.before ++ rest_of s fed.toks [] true ∷ []) s.line true
   at_the_end = ap (solution_decided true) (sym (append-nil bs)) ∙ fed.same true []
       ∙ from_end fed.before (rest_of s fed.toks) s.line ended.fine
 

@@ -10,7 +10,7 @@ use Rattle.tk_words.specs.declared.fault.TextKind.TheVariants as kinds
 use Rattle.tk_words.specs.Entry.{in_range, is_keyword}
 use Rattle.tk_words.specs.Lex.{Token, integer}
 use Rattle.tk_words.specs.TextLaws.{HasAnswers, StaysDecided}
-use Rattle.tk_lines.specs.Lists.{entries, list_extent, trailing_stop}
+use Rattle.tk_lines.specs.Lists.{list_entries, list_extent, trailing_stop}
 use Rattle.tk_lines.specs.Pieces.{After, Piece, Stop, Fault, first_at, checked, or_else, has}
 use Rattle.tk_lines.proofs.Answered.{AnswersSections, NotOpen, WholeTokens, not_open_checked, not_open_first}
 use Rattle.tk_lines.proofs.Answered.{not_open_or, not_open_trailing, some_decided, whole_entries}
@@ -36,10 +36,10 @@ entries_known k (t ∷ ts) h =
 section_known : AnswersSections tour_format
 section_known before words.TourSection n toks after h =
     not_open_or (first_at n ((has words.TourSection before, kinds.Repeated) ∷ []))
-    (or_else (entries_stop 0 (entries toks)) (trailing_stop after))
+    (or_else (entries_stop 0 (list_entries toks)) (trailing_stop after))
     (not_open_first n ((has words.TourSection before, kinds.Repeated) ∷ []))
-    (not_open_or (entries_stop 0 (entries toks)) (trailing_stop after)
-    (entries_known 0 (entries toks) (whole_entries toks h)) (not_open_trailing after))
+    (not_open_or (entries_stop 0 (list_entries toks)) (trailing_stop after)
+    (entries_known 0 (list_entries toks) (whole_entries toks h)) (not_open_trailing after))
 section_known before _ n toks after h = tt
 
 pub each_has_an_answer : HasAnswers tour_decided
@@ -65,8 +65,8 @@ faults : (before : List Piece) (word : Keyword) (n : ℕ) (front last rest : Lis
     → tour_section before word n (take (tour_extent before word (front ++ rest)).count (front ++ rest)) after' ≡ Some
     (Fault line k)
 faults before words.TourSection n front last rest after after' line k h le ended f =
-    let old : List Token = entries (front ++ last) in
-    let new : List Token = entries (take (list_extent (front ++ rest)).count (front ++ rest)) in
+    let old : List Token = list_entries (front ++ last) in
+    let new : List Token = list_entries (take (list_extent (front ++ rest)).count (front ++ rest)) in
     section_kept (first_at n ((has words.TourSection before, kinds.Repeated) ∷ [])) (entries_stop 0 old)
     (entries_stop 0 new) (trailing_stop after) (trailing_stop after') (Fault line k) (open_trailing after ended)
     (λ s. entries_as 0 new

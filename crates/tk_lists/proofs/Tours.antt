@@ -17,9 +17,9 @@ use Rattle.tk_words.specs.Words.{spells}
 use Rattle.tk_lines.specs.HeaderValue.{first_word}
 use Rattle.tk_lines.specs.Pieces.{Piece, After, Clean, Early, Trailing, Stop, Open, Fault, first_at, or_else, has}
 use Rattle.tk_words.specs.MinusOne.{is_ending, is_minus_one}
-use Rattle.tk_lines.specs.Reader.Forms.{whole, taken, a_header, a_section, Goes, Ends, EndsAtEof, StopsAt}
+use Rattle.tk_lines.specs.Reader.Forms.{whole, taken, a_header, a_section, Goes, EndsWithMinusOne, EndsAtEof, StopsAt}
 use Rattle.tk_words.specs.Entry.{is_keyword, is_eof, in_range, number_tests, numbers_of, natural_or_zero}
-use Rattle.tk_lines.specs.Lists.{entries, trailing_stop, AreEntries}
+use Rattle.tk_lines.specs.Lists.{list_entries, trailing_stop, AreEntries}
 use Rattle.tk_lists.specs.Tour.{entry_stop, entries_stop, tour_header, tour_section, tour_format}
 use Rattle.tk_lists.specs.Reader.TourForm.{IsSeen, TourHolds, TourWants, IsNext, IsOut}
 use Rattle.tk_lines.proofs.Pieces.PieceLookups.{has-kept, has-new, tokens_in-new, tokens_in-header, tokens_in-none}
@@ -39,7 +39,8 @@ module _ (s s' : TourForm) (before : List Piece) (word : Keyword) (v : List ℕ)
     seen = seen;
     section = has-kept words.TourSection before (a_header word v n) other ∙ h.section ∙ sym section;
     cities = cities ∙ h.cities
-        ∙ ap (λ (ts : List Token). numbers_of (entries ts)) (sym (tokens_in-header words.TourSection before word v n));
+        ∙ ap (λ (ts : List Token). numbers_of (list_entries ts))
+        (sym (tokens_in-header words.TourSection before word v n));
   }
 
 module _ (before : List Piece) (v : List ℕ) (n : ℕ) (w w' : TourWords) (h : IsSeen w before) where
@@ -130,16 +131,16 @@ dimension_err s before v n k h old stop = let none : has words.Dimension before 
 -- ---- sections
 
 module _ (before : List Piece) (n : ℕ) (fresh : has words.TourSection before ≡ false) where
-  section_by : (toks : List Token) (after : After) (s : Option Stop) → entries_stop 0 (entries toks) ≡ s →
+  section_by : (toks : List Token) (after : After) (s : Option Stop) → entries_stop 0 (list_entries toks) ≡ s →
       tour_section before words.TourSection n toks after ≡ or_else s (trailing_stop after)
   section_by toks after s h = rw (fresh, h) refl
 
-  section_at_stop : (toks : List Token) (after : After) (s : Stop) → entries_stop 0 (entries toks) ≡ Some s →
+  section_at_stop : (toks : List Token) (after : After) (s : Stop) → entries_stop 0 (list_entries toks) ≡ Some s →
       tour_section before words.TourSection n toks after ≡ Some s
   section_at_stop toks after s h = section_by toks after (Some s) h
 
   module _ (toks : List Token) (are : AreEntries toks) (fine : entries_stop 0 toks ≡ None) where
-    all_fine : entries_stop 0 (entries toks) ≡ None
+    all_fine : entries_stop 0 (list_entries toks) ≡ None
     all_fine = ap (entries_stop 0) (entries_all toks are) ∙ fine
 
     stops_at : (t : Token) (s : Stop) → is_ending t ≡ false → (t.whole && is_eof t.bytes) ≡ false
@@ -159,15 +160,16 @@ module _ (before : List Piece) (n : ℕ) (fresh : has words.TourSection before �
       early = λ line. section_by toks (Early line false) None all_fine;
     }
 
-    tour_ends : (t : Token) → is_ending t ≡ true → Ends tour_format before words.TourSection n (toks ++ t ∷ [])
+    tour_ends : (t : Token) → is_ending t ≡ true →
+        EndsWithMinusOne tour_format before words.TourSection n (toks ++ t ∷ [])
     tour_ends t end = record {
       extent = λ more. list_ended toks are fine t more end;
       clean = λ ones. section_by ((toks ++ t ∷ []) ++ ones) Clean None (ended ones);
       trailing = λ ones line. section_by ((toks ++ t ∷ []) ++ ones) (Trailing line) None (ended ones);
     }
       where
-        ended : (ones : List Token) → entries_stop 0 (entries ((toks ++ t ∷ []) ++ ones)) ≡ None
-        ended ones = ap (λ (ts : List Token). entries_stop 0 (entries ts)) (append_assoc toks (t ∷ []) ones)
+        ended : (ones : List Token) → entries_stop 0 (list_entries ((toks ++ t ∷ []) ++ ones)) ≡ None
+        ended ones = ap (λ (ts : List Token). entries_stop 0 (list_entries ts)) (append_assoc toks (t ∷ []) ones)
             ∙ ap (entries_stop 0) (entries_ended toks ones t are end) ∙ fine
 
     tour_eof : (t : Token) → is_ending t ≡ false → (t.whole && is_eof t.bytes) ≡ true →
@@ -183,11 +185,11 @@ module _ (s : TourForm) (before : List Piece) (n : ℕ) where
   pub wants_none : (s' : TourForm) → TourHolds s before → s.seen.section ≡ false
       → s'.seen ≡ record s.seen { section = true } → s'.cities.items ≡ s.cities.items
       → TourWants s' before words.TourSection n [] × Goes tour_format before words.TourSection n []
-  unfolding entries
+  unfolding list_entries
   wants_none s' h none seen cities =
       let fresh : has words.TourSection before ≡ false = h.section ∙ none in
       let empty : s.cities.items ≡ [] = h.cities
-      ∙ ap (λ (ts : List Token). numbers_of (entries ts)) (tokens_in-none words.TourSection before fresh) in (
+      ∙ ap (λ (ts : List Token). numbers_of (list_entries ts)) (tokens_in-none words.TourSection before fresh) in (
         record {
           seen = rw seen (record { name = h.seen.name; kind = h.seen.kind; dimension = h.seen.dimension });
           word_is = refl;
@@ -219,14 +221,14 @@ module _ (s s' : TourForm) (before : List Piece) (word : Keyword) (n : ℕ) (tok
       }
 
   -- after the section
-  holds_section : (ts : List Token) (after : After) → s'.cities.items ≡ numbers_of (entries ts) →
+  holds_section : (ts : List Token) (after : After) → s'.cities.items ≡ numbers_of (list_entries ts) →
       TourHolds s' (before ++ a_section words.TourSection n ts after)
   holds_section ts after cities = record {
     seen = section_seen (a_section words.TourSection n ts after) still_seen refl refl refl;
     section = has-new words.TourSection before (a_section words.TourSection n ts after) refl
         ∙ sym (ap (λ (x : TourWords). x.section) seen ∙ w.section);
     cities = cities
-        ∙ ap (λ (xs : List Token). numbers_of (entries xs))
+        ∙ ap (λ (xs : List Token). numbers_of (list_entries xs))
         (sym (tokens_in-new words.TourSection before (a_section words.TourSection n ts after) w.fresh));
   }
 
@@ -250,14 +252,14 @@ module _ (s s' : TourForm) (before : List Piece) (word : Keyword) (n : ℕ) (tok
     pub token_ending : s'.cities.items ≡ s.cities.items → is_minus_one (integer bytes) ≡ true
         → ((ones : List Token) →
         TourHolds s' (before ++ a_section word n ((toks ++ whole bytes line ∷ []) ++ ones) Clean))
-        × Ends tour_format before word n (toks ++ whole bytes line ∷ [])
+        × EndsWithMinusOne tour_format before word n (toks ++ whole bytes line ∷ [])
     token_ending cities minus =
         at_word (λ (x : Keyword). ((ones : List Token) →
         TourHolds s' (before ++ a_section x n ((toks ++ whole bytes line ∷ []) ++ ones) Clean))
-        × Ends tour_format before x n (toks ++ whole bytes line ∷ [])) (
+        × EndsWithMinusOne tour_format before x n (toks ++ whole bytes line ∷ [])) (
           λ ones. holds_section ((toks ++ whole bytes line ∷ []) ++ ones) Clean (cities ∙ w.cities
               ∙ ap numbers_of
-              (sym (ap entries (append_assoc toks (whole bytes line ∷ []) ones)
+              (sym (ap list_entries (append_assoc toks (whole bytes line ∷ []) ones)
               ∙ entries_ended toks ones (whole bytes line) w.are minus))),
           tour_ends before n w.fresh toks w.are w.fine (whole bytes line) minus,
         )

@@ -103,9 +103,9 @@ abbrev pub routes_on : SolutionLine → List (List ℕ)
 routes_on (Route toks) = numbers_of toks ∷ []
 routes_on _ = []
 
-abbrev pub routes_of : List SolutionLine → List (List ℕ)
-routes_of [] = []
-routes_of (l ∷ ls) = routes_on l ++ routes_of ls
+abbrev pub routes_in : List SolutionLine → List (List ℕ)
+routes_in [] = []
+routes_in (l ∷ ls) = routes_on l ++ routes_in ls
 
 -- how many customers stand on the lines
 abbrev pub count_on : SolutionLine → ℕ
@@ -142,7 +142,7 @@ abbrev pub Solution : Type 0
 Solution = List (List ℕ) × ℤ
 
 abbrev pub solution_of : List SolutionLine → Solution
-solution_of ls = (routes_of ls, cost_of ls)
+solution_of ls = (routes_in ls, cost_of ls)
 
 -- ---- the first fault
 
@@ -160,9 +160,9 @@ abbrev pub is_natural : Option ℤ → Bool
 is_natural (Some (pos n)) = true
 is_natural _ = false
 
-abbrev pub trailing_stop : ℕ → List Token → Option Stop
-trailing_stop n [] = None
-trailing_stop n (t ∷ ts) = Some (Fault n kinds.TrailingData)
+abbrev pub line_trailing_stop : ℕ → List Token → Option Stop
+line_trailing_stop n [] = None
+line_trailing_stop n (t ∷ ts) = Some (Fault n kinds.TrailingData)
 
 -- a number is missing, where nothing more can stand on the line
 abbrev pub cut_short : ℕ → Bool → Option Stop
@@ -172,12 +172,12 @@ abbrev pub cost_stop : ℕ → Bool → List Token → Option Stop
 cost_stop n whole [] = cut_short n whole
 cost_stop n whole (t ∷ ts) =
     or_else (checked 64 t ((is_none (integer t.bytes), kinds.BadNumber)
-    ∷ (not (is_natural (integer t.bytes)), kinds.OutOfLimit) ∷ [])) (trailing_stop n ts)
+    ∷ (not (is_natural (integer t.bytes)), kinds.OutOfLimit) ∷ [])) (line_trailing_stop n ts)
 
 -- the tests of a Route line's word, and of Cost
 abbrev pub route_tests : List SolutionLine → List (Bool × TextKind)
 route_tests before =
-    (has_cost before, kinds.TrailingData) ∷ (nat_le ROUTE_LIMIT (length (routes_of before)), kinds.OutOfLimit) ∷ []
+    (has_cost before, kinds.TrailingData) ∷ (nat_le ROUTE_LIMIT (length (routes_in before)), kinds.OutOfLimit) ∷ []
 
 abbrev pub cost_tests : List SolutionLine → List (Bool × TextKind)
 cost_tests before = (has_cost before, kinds.TrailingData) ∷ []
@@ -197,15 +197,15 @@ line_stop before n whole (Route toks) =
 line_stop before n whole (Cost toks) = or_else (first_at n (cost_tests before)) (cost_stop n whole toks)
 
 -- at the end of line n, of which whole says that it ends the text
-abbrev pub at_end : List SolutionLine → ℕ → Bool → Option (Result Solution TextFault)
-at_end before n whole =
+abbrev pub solution_at_end : List SolutionLine → ℕ → Bool → Option (Result Solution TextFault)
+solution_at_end before n whole =
     if not whole then None
     else (if has_cost before then Some (Ok (solution_of before))
     else Some (Err (record { line = n; kind = kinds.Missing words.Cost })))
 
 -- what the lines say after these, of which line n is the last
 unfoldable pub judge_lines : List SolutionLine → ℕ → Bool → List Line → Option (Result Solution TextFault)
-judge_lines before n whole [] = at_end before n whole
+judge_lines before n whole [] = solution_at_end before n whole
 judge_lines before n whole (l ∷ ls) =
     let here = line_of l.number l.whole l.bytes in
     stopped (line_stop before l.number l.whole here) (judge_lines (before ++ here ∷ []) l.number l.whole ls)

@@ -14,7 +14,7 @@ use Rattle.tk_lines.specs.HeaderValue.{first_word}
 use Rattle.tk_lines.specs.Pieces.{Piece, Extent, Stop, After, first_at, checked, or_else, has, tokens_in, Format}
 use Rattle.tk_lines.specs.Pieces.{decided_by}
 use Rattle.tk_words.specs.Entry.{in_range, is_keyword, number_tests, numbers_of}
-use Rattle.tk_lines.specs.Lists.{entries, list_extent, trailing_stop}
+use Rattle.tk_lines.specs.Lists.{list_entries, list_extent, trailing_stop}
 
 abbrev pub tour_extent : List Piece → Keyword → List Token → Extent
 tour_extent before words.TourSection toks = list_extent toks
@@ -46,7 +46,7 @@ tour_header before _ bs = (true, kinds.Unsupported) ∷ []
 abbrev pub tour_section : List Piece → Keyword → ℕ → List Token → After → Option Stop
 tour_section before words.TourSection n toks after =
     or_else (first_at n ((has words.TourSection before, kinds.Repeated) ∷ []))
-    (or_else (entries_stop 0 (entries toks)) (trailing_stop after))
+    (or_else (entries_stop 0 (list_entries toks)) (trailing_stop after))
 tour_section before _ n toks after = first_at n ((true, kinds.Unsupported) ∷ [])
 
 abbrev pub tour_end : List Piece → Option TextKind
@@ -61,7 +61,7 @@ tour_format = record {
   header = tour_header;
   section = tour_section;
   at_end = tour_end;
-  value = λ before. numbers_of (entries (tokens_in words.TourSection before));
+  value = λ before. numbers_of (list_entries (tokens_in words.TourSection before));
 }
 
 -- what bytes decide: all of the text where it has ended, else what it begins with

@@ -2,7 +2,7 @@
 ghost use Rattle.std.specs.Prelude.{◌≡◌, ◌^◌, ◌≤◌, ◌++◌, ◌∷◌, ℕ, List, [], map, refl, Ok, IfOk, IfErr};
 ghost use Rattle.tk_words.specs.Texts.{IsAnswerWhereTold, IsFaultWhereTold, IsOfSomeText, IsFaultOfSomeText, IsIntact};
 ghost use Rattle.tk_lists.specs.Solution.{Solution, solution_texts};
-ghost use Rattle.tk_lists.specs.Reader.SolutionReader.{Fed, HasTakenByte, Waits};
+ghost use Rattle.tk_lists.specs.Reader.SolutionReader.{FedLines, HasTakenByte, SolutionWaits};
 
 use crate::solution_reader::{LinePlace, SolutionReader};
 use crate::texts::SolText;
@@ -27,8 +27,8 @@ impl SolutionReader {
     /// The fault that the bytes up to this one show, with its line.
     fn feed_byte(&mut self, byte: u8) -> Result<(), TextFault>
         requires room { self.old.line ≤ 2 ^ 63 }
-        requires known { (before : List ℕ) × Fed self.old before }
-        ensures { (before : List ℕ) → Fed self.old before → HasTakenByte self.new (before ++ byte ∷ []) result }
+        requires known { (before : List ℕ) × FedLines self.old before }
+        ensures { (before : List ℕ) → FedLines self.old before → HasTakenByte self.new (before ++ byte ∷ []) result }
     {
         if byte != b'\n' {
             return match self.feed_line(byte) {
@@ -57,7 +57,7 @@ impl TextReader for SolutionReader {
 
     ghost texts = { solution_texts };
 
-    ghost fed = { Waits };
+    ghost fed = { SolutionWaits };
 
     ghost held = { λ s. (map (λ r. r.items) s.form.routes.items, s.form.cost) };
 
@@ -88,6 +88,10 @@ impl TextReader for SolutionReader {
         self.form.into_solution()
     }
 
+    fn limit(&self) -> u64 {
+        TEXT_LIMIT
+    }
+
     fn too_long(&self) -> TextFault {
         self.fault(TextKind::TooLong)
     }
@@ -113,5 +117,5 @@ pub fn read_solution<R: Source>(alloc: Global, source: &mut R) -> Result<SolText
     ensures some_fault { IfErr result (IsFaultOfSomeText solution_texts) }
     ensures intact { IsIntact solution_texts (R.broken source.old) (R.broken source.new) result }
 {
-    read_text(source, SolutionReader::new(alloc), TEXT_LIMIT)
+    read_text(source, SolutionReader::new(alloc))
 }

@@ -1,13 +1,11 @@
 //! What a solution text says, line by line.
-ghost use Rattle.std.specs.Prelude.{◌≡◌, ◌≤◌, ℕ, ◌+◌, Bool, true, false, List, [], ◌∷◌, ◌++◌, length, Some, None, IfOk};
+ghost use Rattle.std.specs.Prelude.{◌≡◌, ◌≤◌, ◌+◌, true, false, List, [], length, Some, IfOk};
 ghost use Rattle.std.specs.Prelude.{IfErr};
 ghost use Rattle.tk_words.specs.declared.fault.TextKind.TheVariants as kinds;
-ghost use Rattle.tk_lines.specs.Reader.Forms.{IsToldWord, whole};
-ghost use Rattle.tk_words.specs.Lex.{Token};
-ghost use Rattle.tk_lines.specs.Pieces.{Fault, first_at};
-ghost use Rattle.tk_lists.specs.Solution.{SolutionLine, Route, Cost, has_cost, count_of, route_tests, cost_tests};
-ghost use Rattle.tk_lists.specs.Solution.{other_tests, customer_stop, cost_stop};
-ghost use Rattle.tk_lists.specs.Reader.SolutionReader.{Keeps, IsRoute, IsPriced};
+ghost use Rattle.tk_lists.specs.Solution.{SolutionLine, has_cost};
+ghost use Rattle.tk_lists.specs.Reader.SolutionReader.{Keeps, IsRoute};
+ghost use Rattle.tk_lists.specs.Reader.SolutionSteps.{KeepsRoute, RefusesCost, RefusesCostLine, RefusesCustomer};
+ghost use Rattle.tk_lists.specs.Reader.SolutionSteps.{RefusesOther, RefusesRoute, TakesCost, TakesCustomer};
 
 use crate::texts::SolText;
 use std::alloc::Global;
@@ -47,8 +45,7 @@ impl SolutionForm {
     /// `TrailingData` after the cost, `OutOfLimit` after 100,000 routes.
     pub fn begin_route(&self) -> Result<(), TextKind>
         ensures ok { (before : List SolutionLine) → Keeps self.now before [] → IfOk result (λ _. IsRoute before []) }
-        ensures err { (before : List SolutionLine) (n : ℕ) → Keeps self.now before []
-            → IfErr result (IsToldWord (λ k. first_at n (route_tests before) ≡ Some (Fault n k))) }
+        ensures err { RefusesRoute self.now result }
     {
         if self.priced {
             return Err(TextKind::TrailingData);
@@ -66,12 +63,8 @@ impl SolutionForm {
     /// customers, and `NoMemory` if there is no memory for one more.
     pub fn take_customer(&mut self, bytes: &[u8]) -> Result<(), TextKind>
         requires { length bytes.now ≤ 64 }
-        ensures ok { (before : List SolutionLine) (toks : List Token) (n : ℕ) → Keeps self.old before toks
-            → IsRoute before toks → IfOk result (λ _. Keeps self.new before (toks ++ whole bytes.now n ∷ [])
-            × IsRoute before (toks ++ whole bytes.now n ∷ [])) }
-        ensures err { (before : List SolutionLine) (toks : List Token) (n : ℕ) → Keeps self.old before toks
-            → IsRoute before toks → IfErr result (IsToldWord
-            (λ k. customer_stop (count_of before + length toks) (whole bytes.now n) ≡ Some (Fault n k))) }
+        ensures ok { TakesCustomer bytes.now self.old self.new result }
+        ensures err { RefusesCustomer bytes.now self.old result }
     {
         let Some(number) = integer(bytes) else {
             return Err(TextKind::BadNumber);
@@ -96,8 +89,7 @@ impl SolutionForm {
     /// # Errors
     /// `NoMemory` if there is no memory for one more route.
     pub fn end_route(&mut self) -> Result<(), TextKind>
-        ensures ok { (before : List SolutionLine) (toks : List Token) → Keeps self.old before toks
-            → IsRoute before toks → IfOk result (λ _. Keeps self.new (before ++ Route toks ∷ []) []) }
+        ensures ok { KeepsRoute self.old self.new result }
         ensures err { IfErr result (λ k. k ≡ kinds.NoMemory) }
     {
         let route = mem::replace(&mut self.route, Vec::new(self.alloc));
@@ -115,8 +107,7 @@ impl SolutionForm {
     pub fn begin_cost(&self) -> Result<(), TextKind>
         ensures ok { (before : List SolutionLine) → Keeps self.now before []
             → IfOk result (λ _. has_cost before ≡ false) }
-        ensures err { (before : List SolutionLine) (n : ℕ) → Keeps self.now before []
-            → IfErr result (IsToldWord (λ k. first_at n (cost_tests before) ≡ Some (Fault n k))) }
+        ensures err { RefusesCostLine self.now result }
     {
         if self.priced {
             return Err(TextKind::TrailingData);
@@ -130,11 +121,8 @@ impl SolutionForm {
     /// `BadNumber` if the token is no integer, `OutOfLimit` if the number is negative.
     pub fn take_cost(&mut self, bytes: &[u8]) -> Result<(), TextKind>
         requires { length bytes.now ≤ 64 }
-        ensures ok { (before : List SolutionLine) (n : ℕ) → Keeps self.old before [] → has_cost before ≡ false
-            → IfOk result (λ _. IsPriced self.new before n (whole bytes.now n ∷ [])) }
-        ensures err { (before : List SolutionLine) (n : ℕ) → Keeps self.old before [] → has_cost before ≡ false
-            → IfErr result (IsToldWord (λ k. (ended : Bool) (toks : List Token)
-            → cost_stop n ended (whole bytes.now n ∷ toks) ≡ Some (Fault n k))) }
+        ensures ok { TakesCost bytes.now self.old self.new result }
+        ensures err { RefusesCost bytes.now self.old result }
     {
         let Some(number) = integer(bytes) else {
             return Err(TextKind::BadNumber);
@@ -154,8 +142,7 @@ impl SolutionForm {
     pub fn skip(&self) -> Result<(), TextKind>
         ensures ok { (before : List SolutionLine) → Keeps self.now before []
             → IfOk result (λ _. has_cost before ≡ true) }
-        ensures err { (before : List SolutionLine) (n : ℕ) → Keeps self.now before []
-            → IfErr result (IsToldWord (λ k. first_at n (other_tests before) ≡ Some (Fault n k))) }
+        ensures err { RefusesOther self.now result }
     {
         if self.priced {
             return Ok(());

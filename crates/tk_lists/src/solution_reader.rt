@@ -4,10 +4,12 @@ ghost use Rattle.tk_words.specs.Lex.{Token};
 ghost use Rattle.tk_lines.specs.Pieces.{Fault};
 ghost use Rattle.tk_lines.specs.Reader.Forms.{IsToldWord};
 ghost use Rattle.tk_lists.specs.Solution.{SolutionLine, Other, has_cost, may_be_word, solid_line, line_stop};
-ghost use Rattle.tk_lists.specs.Reader.SolutionReader.{Keeps, IsAt, IsHead, IsWordOf, IsFront, IsLineWord, IsRoute};
-ghost use Rattle.tk_lists.specs.Reader.SolutionReader.{Stands};
-ghost use Rattle.tk_lists.specs.Reader.SolutionReader.{Went, StopsAt, HasEnded, line_from, rest_of};
+ghost use Rattle.tk_lists.specs.Reader.SolutionReader.{Keeps, IsAtPlace, IsHead, IsWordOf, IsFront, IsLineWord};
+ghost use Rattle.tk_lists.specs.Reader.SolutionReader.{IsRoute};
+ghost use Rattle.tk_lists.specs.Reader.SolutionReader.{StandsOnLine};
+ghost use Rattle.tk_lists.specs.Reader.SolutionReader.{Went, LineStopsAt, line_from};
 ghost use Rattle.tk_lists.specs.declared.solution_reader.LinePlace.TheVariants as places;
+ghost use Rattle.tk_lists.specs.Reader.SolutionSteps.{EndsLine, RefusesLine, RefusesLineByte, TakesLineByte};
 
 use crate::route_head::{HeadPlace, HeadStep};
 use crate::solution_form::SolutionForm;
@@ -86,7 +88,7 @@ fn word_of(bytes: &[u8]) -> LineWord
 impl SolutionReader {
     /// Before the first byte.
     pub fn new(alloc: Global) -> Self
-        ensures stands { Stands result [] [] }
+        ensures stands { StandsOnLine result [] [] }
         ensures line { result.line ≡ 1 }
         ensures start { result.place ≡ places.Start }
     {
@@ -114,7 +116,7 @@ impl SolutionReader {
         ensures ok { (before : List SolutionLine) → Keeps self.old.form before []
             → IfOk result (λ _. Went before byte (λ bs whole. Other) self.new) }
         ensures err { (before : List SolutionLine) → Keeps self.old.form before []
-            → IfErr result (IsToldWord (StopsAt before self.old.line byte (λ bs whole. Other))) }
+            → IfErr result (IsToldWord (LineStopsAt before self.old.line byte (λ bs whole. Other))) }
     {
         self.form.skip()?;
         self.place = LinePlace::Skip;
@@ -128,7 +130,7 @@ impl SolutionReader {
         ensures ok { (before : List SolutionLine) → Keeps self.old.form before [] → IsRoute before []
             → IfOk result (λ _. Went before byte (line_from self.old.line [] [] (places.Head place)) self.new) }
         ensures err { (before : List SolutionLine) → IsRoute before []
-            → IfErr result (IsToldWord (StopsAt before self.old.line byte
+            → IfErr result (IsToldWord (LineStopsAt before self.old.line byte
             (line_from self.old.line [] [] (places.Head place)))) }
     {
         self.place = match place.step(byte) {
@@ -174,7 +176,7 @@ impl SolutionReader {
         ensures ok { (before : List SolutionLine) → Keeps self.old.form before []
             → IfOk result (λ _. Went before byte (line_from self.old.line self.old.held [] places.Word) self.new) }
         ensures err { (before : List SolutionLine) → Keeps self.old.form before []
-            → IfErr result (IsToldWord (StopsAt before self.old.line byte
+            → IfErr result (IsToldWord (LineStopsAt before self.old.line byte
             (line_from self.old.line self.old.held [] places.Word))) }
     {
         if word_byte(byte) {
@@ -204,12 +206,12 @@ impl SolutionReader {
         requires { length self.old.held ≤ 64 }
         ensures line { self.new.line ≡ self.old.line }
         ensures ok { (before : List SolutionLine) (toks : List Token)
-            → IsAt self.old.form before self.old.held self.old.line toks places.Customer
+            → IsAtPlace self.old.form before self.old.held self.old.line toks places.Customer
             → IfOk result (λ _. Went before byte (line_from self.old.line self.old.held toks places.Customer)
             self.new) }
         ensures err { (before : List SolutionLine) (toks : List Token)
-            → IsAt self.old.form before self.old.held self.old.line toks places.Customer
-            → IfErr result (IsToldWord (StopsAt before self.old.line byte
+            → IsAtPlace self.old.form before self.old.held self.old.line toks places.Customer
+            → IfErr result (IsToldWord (LineStopsAt before self.old.line byte
             (line_from self.old.line self.old.held toks places.Customer))) }
     {
         if blank(byte) {
@@ -230,11 +232,11 @@ impl SolutionReader {
         requires { length self.old.held ≤ 64 }
         ensures line { self.new.line ≡ self.old.line }
         ensures ok { (before : List SolutionLine) (toks : List Token)
-            → IsAt self.old.form before self.old.held self.old.line toks places.Digits
+            → IsAtPlace self.old.form before self.old.held self.old.line toks places.Digits
             → IfOk result (λ _. Went before byte (line_from self.old.line self.old.held toks places.Digits) self.new) }
         ensures err { (before : List SolutionLine) (toks : List Token)
-            → IsAt self.old.form before self.old.held self.old.line toks places.Digits
-            → IfErr result (IsToldWord (StopsAt before self.old.line byte
+            → IsAtPlace self.old.form before self.old.held self.old.line toks places.Digits
+            → IfErr result (IsToldWord (LineStopsAt before self.old.line byte
             (line_from self.old.line self.old.held toks places.Digits))) }
     {
         if blank(byte) {
@@ -255,12 +257,10 @@ impl SolutionReader {
     /// # Errors
     /// The fault that the bytes of the line up to this one show.
     pub fn feed_line(&mut self, byte: u8) -> Result<(), TextKind>
-        requires { (before : List SolutionLine) × (toks : List Token) × Stands self.old before toks }
+        requires { (before : List SolutionLine) × (toks : List Token) × StandsOnLine self.old before toks }
         ensures line { self.new.line ≡ self.old.line }
-        ensures ok { (before : List SolutionLine) (toks : List Token) → Stands self.old before toks
-            → IfOk result (λ _. Went before byte (rest_of self.old toks) self.new) }
-        ensures err { (before : List SolutionLine) (toks : List Token) → Stands self.old before toks
-            → IfErr result (IsToldWord (StopsAt before self.old.line byte (rest_of self.old toks))) }
+        ensures ok { TakesLineByte byte self.old self.new result }
+        ensures err { RefusesLineByte byte self.old result }
     {
         match self.place {
             LinePlace::Start => {
@@ -320,13 +320,10 @@ impl SolutionReader {
     /// # Errors
     /// The fault of the line.
     pub fn end_line(&mut self) -> Result<(), TextKind>
-        requires { (before : List SolutionLine) × (toks : List Token) × Stands self.old before toks }
+        requires { (before : List SolutionLine) × (toks : List Token) × StandsOnLine self.old before toks }
         ensures line { self.new.line ≡ self.old.line }
-        ensures ok { (before : List SolutionLine) (toks : List Token) → Stands self.old before toks
-            → IfOk result (λ _. HasEnded before self.old.line (rest_of self.old toks [] true) self.new.form) }
-        ensures err { (before : List SolutionLine) (toks : List Token) → Stands self.old before toks
-            → IfErr result (IsToldWord (λ k. line_stop before self.old.line true (rest_of self.old toks [] true)
-            ≡ Some (Fault self.old.line k))) }
+        ensures ok { EndsLine self.old self.new result }
+        ensures err { RefusesLine self.old result }
     {
         match self.place {
             LinePlace::Start => Ok(()),

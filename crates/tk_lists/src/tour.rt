@@ -13,7 +13,7 @@ ghost use Rattle.tk_lines.specs.Reader.FormSteps.{RefusesHeader, TakesHeader};
 use crate::texts::TourText;
 use std::alloc::Global;
 use tk_lines::{Form, PieceReader, Scan, Taken};
-use tk_problem::{ENTRY_LIMIT, TEXT_LIMIT};
+use tk_problem::ENTRY_LIMIT;
 use tk_words::{Entry, Keyword, Lexeme, Source, TextFault, TextKind, limited, read_text};
 
 /// Which words a tour text has had.
@@ -187,5 +187,5 @@ pub fn read_tour<R: Source>(alloc: Global, source: &mut R) -> Result<TourText, T
     ensures some_fault { IfErr result (IsFaultOfSomeText tour_texts) }
     ensures intact { IsIntact tour_texts (R.broken source.old) (R.broken source.new) result }
 {
-    read_text(source, PieceReader::new(TourForm::new(alloc)), TEXT_LIMIT)
+    read_text(source, PieceReader::new(TourForm::new(alloc)))
 }

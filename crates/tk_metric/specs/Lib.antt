@@ -1,5 +1,6 @@
 pub use Rattle.tk_distance.specs.Cities
 pub use Rattle.tk_distance.specs.Distance
+pub use Rattle.tk_distance.specs.Holding
 pub use Rattle.tk_distance.specs.Laws
 pub use Rattle.tk_distance.specs.PlaneDistance
 pub use Rattle.tk_distance.specs.PlaneOf

@@ -13,7 +13,7 @@ use Rattle.std.proofs.lemmas.List.Sorted.{All-permutation, Contains-permutation}
 use Rattle.tk_near.specs.declared.candidates.Candidate.{Candidate}
 use Rattle.tk_distance.specs.Cities.{IsCity}
 use Rattle.tk_near.specs.Near.{IsNear}
-use Rattle.tk_near.specs.Keeping.{Rising, Climbing, insert_by, rank, candidate, open_place, cities_of, KeepsFirst}
+use Rattle.tk_near.specs.Keeping.{Rising, Climbing, insert_by, rank, candidate, open_place, cities_kept, KeepsFirst}
 use Rattle.tk_near.proofs.Inserting.{Rising-insert_by, Climbing-take, length-insert_by, IsPermutation-insert_by}
 use Rattle.tk_near.proofs.Inserting.{take-insert_by, insert_by-append}
 
@@ -93,13 +93,13 @@ KeepsFirst-same dist c k m Seen Then kept h keeps only = record {
 -- once all others were seen
 pub IsNear-from_kept : (dist : ℕ → ℕ → ℕ) (n c k m : ℕ) (Seen : ℕ → Type 0) (kept : List Candidate) →
     KeepsFirst dist c k m Seen kept → n < 4294967296 → k ≤ m → ((b : ℕ) → IsCity n b → b ≢ c → Seen b) →
-    ((b : ℕ) → Seen b → IsCity n b × (b ≢ c)) → IsNear dist n k c (cities_of kept)
+    ((b : ℕ) → Seen b → IsCity n b × (b ≢ c)) → IsNear dist n k c (cities_kept kept)
 IsNear-from_kept dist n c k m Seen kept h small enough all only =
     let d : Candidate = record { distance = 0; city = 0 } in
     let full : kept ≡ take k h.whole = h.first
     ∙ take-append-le k h.whole (replicate k open_place) (omega (arith, h.count)) in
     let len : length (take k h.whole) ≡ k = length-take-le k h.whole (omega (arith, h.count)) in
-    let entry : (j : ℕ) → j < k → get_or (cities_of kept) j 0 ≡ (get_or h.whole j d).city = λ j l.
+    let entry : (j : ℕ) → j < k → get_or (cities_kept kept) j 0 ≡ (get_or h.whole j d).city = λ j l.
     let lj : j < length (take k h.whole) = omega (arith, len) in
     rw full (get_or-map (λ x. x.city) (take k h.whole) j d 0 lj
     ∙ ap (λ (x : Candidate). x.city) (get_or-take k h.whole j d l)) in

@@ -9,7 +9,7 @@ use Rattle.std.proofs.Math.Nat.{mul-le-mul_right}
 use Rattle.tk_near.specs.declared.candidates.Candidate.{Candidate}
 use Rattle.tk_distance.specs.Cities.{IsCity}
 use Rattle.tk_near.specs.Near.{IsNear, block}
-use Rattle.tk_near.specs.Keeping.{cities_of, overwritten, AreFilled}
+use Rattle.tk_near.specs.Keeping.{cities_kept, overwritten, AreFilled}
 
 pub product_step : (a k : ℕ) → 1 ≤ a → (a - 1) * k + k ≡ a * k
 product_step zero k l = absurd (omega arith)
@@ -21,12 +21,13 @@ product_step (suc b) k l =
 -- one more entry is written
 pub written_more : (xs : List ℕ) (from i : ℕ) (kept : List Candidate) (d : Candidate) → from + i < length xs →
     i < length kept →
-    set (take from xs ++ cities_of (take i kept) ++ drop (from + i) xs) (from + i) (get_or kept i d).city ≡ take from xs
-    ++ cities_of (take (i + 1) kept) ++ drop (from + (i + 1)) xs
+    set (take from xs ++ cities_kept (take i kept) ++ drop (from + i) xs) (from + i)
+    (get_or kept i d).city ≡ take from xs
+    ++ cities_kept (take (i + 1) kept) ++ drop (from + (i + 1)) xs
 written_more xs from i kept d l m =
-    let front : List ℕ = take from xs ++ cities_of (take i kept) in
+    let front : List ℕ = take from xs ++ cities_kept (take i kept) in
     let v : ℕ = (get_or kept i d).city in
-    let size : length front ≡ from + i = length-append (take from xs) (cities_of (take i kept))
+    let size : length front ≡ from + i = length-append (take from xs) (cities_kept (take i kept))
     ∙ omega (
       arith,
       length-take-le from xs (omega arith),
@@ -35,13 +36,14 @@ written_more xs from i kept d l m =
     ) in
     let rest = drop_more xs (from + i) 0 l in
     let next : from + i + 1 ≡ from + (i + 1) = omega arith in
-    let cities : cities_of (take (i + 1) kept) ≡ cities_of (take i kept) ++ v ∷ [] = ap cities_of (take_more kept i d m)
+    let cities : cities_kept (take (i + 1) kept) ≡ cities_kept (take i kept) ++ v ∷ [] =
+    ap cities_kept (take_more kept i d m)
     ∙ map-append (λ (x : Candidate). x.city) (take i kept) (get_or kept i d ∷ []) in
     ap (λ w. set (front ++ w) (from + i) v) rest
     ∙ set_at front (get_or xs (from + i) 0) (drop (from + i + 1) xs) v (from + i) size
     ∙ ap (λ w. front ++ v ∷ drop w xs) next
     ∙ sym (append_assoc front (v ∷ []) (drop (from + (i + 1)) xs))
-    ∙ ap (λ w. w ++ drop (from + (i + 1)) xs) (append_assoc (take from xs) (cities_of (take i kept)) (v ∷ []))
+    ∙ ap (λ w. w ++ drop (from + (i + 1)) xs) (append_assoc (take from xs) (cities_kept (take i kept)) (v ∷ []))
     ∙ ap (λ w. take from xs ++ w ++ drop (from + (i + 1)) xs) (sym cities)
 
 within_front : (k s : ℕ) (front rest : List ℕ) → s + k ≤ length front →
@@ -129,8 +131,8 @@ AreFilled-same dist n k Done Then xs h only = record {
 -- the same, as `write_cities` says it
 pub AreFilled-write : (dist : ℕ → ℕ → ℕ) (n k c : ℕ) (Done Then : ℕ → Type 0) (xs new : List ℕ)
     (kept : List Candidate) → AreFilled dist n k Done xs → IsCity n c → length kept ≡ k →
-    IsNear dist n k c (cities_of kept) → ((a : ℕ) → Then a → Done a ⊎ (a ≡ c)) →
-    new ≡ overwritten ((c - 1) * length kept) (cities_of kept) xs → AreFilled dist n k Then new
+    IsNear dist n k c (cities_kept kept) → ((a : ℕ) → Then a → Done a ⊎ (a ≡ c)) →
+    new ≡ overwritten ((c - 1) * length kept) (cities_kept kept) xs → AreFilled dist n k Then new
 AreFilled-write dist n k c Done Then xs new kept h city size near only e =
-    subst (AreFilled dist n k Then) (sym (e ∙ ap (λ v. overwritten ((c - 1) * v) (cities_of kept) xs) size))
-    (AreFilled-more dist n k c Done Then xs (cities_of kept) h city near only)
+    subst (AreFilled dist n k Then) (sym (e ∙ ap (λ v. overwritten ((c - 1) * v) (cities_kept kept) xs) size))
+    (AreFilled-more dist n k c Done Then xs (cities_kept kept) h city near only)

@@ -20,8 +20,8 @@ open_place = record { distance = 4294967295; city = 4294967295 }
 abbrev pub AreOpenFrom : ℕ → List Candidate → Type 0
 AreOpenFrom i kept = (j : ℕ) (d : Candidate) → i ≤ j → j < length kept → slice_index_or kept j d ≡ open_place
 
-abbrev pub cities_of : List Candidate → List ℕ
-cities_of = map (λ x. x.city)
+abbrev pub cities_kept : List Candidate → List ℕ
+cities_kept = map (λ x. x.city)
 
 -- strictly rising in f
 abbrev pub Rising : {X : Type 0} → (X → ℕ) → List X → Type 0

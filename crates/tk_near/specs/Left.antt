@@ -2,7 +2,7 @@
 use Rattle.std.specs.Prelude.{◌≡◌, ◌≢◌, ℕ, ◌<◌, List, ◌∷◌, length, All, IsPermutation}
 use Rattle.tk_problem.specs.declared.point.Point.{Point}
 use Rattle.tk_near.specs.declared.plane.placed.Placed.{Placed}
-use Rattle.tk_near.specs.Placed.{IsPlaced, city_at}
+use Rattle.tk_near.specs.Placed.{IsPlaced, placed_city}
 
 -- the city is taken out of the row, which may stand in another order then
 pub record IsTakenOut (p : Placed) (old new : List Placed) : Type 0 where
@@ -16,13 +16,13 @@ IsNotIn p row = All (λ q. q ≢ p) row
 
 -- a city that stands in the row, but c
 abbrev pub IsOtherIn : List Placed → ℕ → ℕ → Type 0
-IsOtherIn row c b = (q : ℕ) × (q < length row) × (city_at row q ≡ b) × (b ≢ c)
+IsOtherIn row c b = (q : ℕ) × (q < length row) × (placed_city row q ≡ b) × (b ≢ c)
 
 -- the city stands in the row
 abbrev pub Stands : List Placed → ℕ → Type 0
-Stands row b = (q : ℕ) × (q < length row) × (city_at row q ≡ b)
+Stands row b = (q : ℕ) × (q < length row) × (placed_city row q ≡ b)
 
 -- no city stands in the row twice, and each has its place
-pub record AreApart (n : ℕ) (place_of : ℕ → Point) (row : List Placed) : Type 0 where
+pub record ArePlacedApart (n : ℕ) (place_of : ℕ → Point) (row : List Placed) : Type 0 where
   pub each : All (IsPlaced n place_of) row
-  pub apart : (i j : ℕ) → i < j → j < length row → city_at row i ≢ city_at row j
+  pub apart : (i j : ℕ) → i < j → j < length row → placed_city row i ≢ placed_city row j

@@ -6,14 +6,14 @@ use Rattle.tk_problem.specs.Places.{origin}
 use Rattle.tk_near.specs.declared.plane.placed.Placed.{Placed}
 use Rattle.tk_distance.specs.Cities.{IsCity}
 
-abbrev pub placed : (ℕ → Point) → ℕ → Placed
-placed place_of b = record { place = place_of b; city = b }
+abbrev pub as_placed : (ℕ → Point) → ℕ → Placed
+as_placed place_of b = record { place = place_of b; city = b }
 
 abbrev pub nowhere : Placed
 nowhere = record { place = origin; city = 0 }
 
-abbrev pub city_at : List Placed → ℕ → ℕ
-city_at row q = (slice_index_or row q nowhere).city
+abbrev pub placed_city : List Placed → ℕ → ℕ
+placed_city row q = (slice_index_or row q nowhere).city
 
 -- the differences of two places
 abbrev pub x_gap : Placed → Placed → ℕ
@@ -30,9 +30,9 @@ IsPlaced n place_of p = IsCity n p.city × (p.place ≡ place_of p.city)
 pub record IsRow (n : ℕ) (place_of : ℕ → Point) (row : List Placed) : Type 0 where
   pub count : length row ≡ n
   pub each : All (IsPlaced n place_of) row
-  pub apart : (i j : ℕ) → i < j → j < length row → city_at row i ≢ city_at row j
-  pub whole : (b : ℕ) → IsCity n b → (q : ℕ) × (q < length row) × (city_at row q ≡ b)
+  pub apart : (i j : ℕ) → i < j → j < length row → placed_city row i ≢ placed_city row j
+  pub whole : (b : ℕ) → IsCity n b → (q : ℕ) × (q < length row) × (placed_city row q ≡ b)
 
 -- b stands at a place with W
 abbrev pub IsAt : List Placed → (ℕ → Type 0) → ℕ → Type 0
-IsAt row W b = (q : ℕ) × (q < length row) × W q × (city_at row q ≡ b)
+IsAt row W b = (q : ℕ) × (q < length row) × W q × (placed_city row q ≡ b)

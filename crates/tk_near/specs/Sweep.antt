@@ -7,18 +7,18 @@ use Rattle.tk_near.specs.declared.candidates.Candidate.{Candidate}
 use Rattle.tk_near.specs.declared.plane.placed.Placed.{Placed}
 use Rattle.tk_distance.specs.Cities.{IsCity}
 use Rattle.tk_near.specs.Keeping.{KeepsFirst, open_place, rank}
-use Rattle.tk_near.specs.Placed.{IsAt, IsPlaced, city_at, nowhere}
+use Rattle.tk_near.specs.Placed.{IsAt, IsPlaced, placed_city, nowhere}
 
-abbrev pub place_at : List Placed → ℕ → Point
-place_at row q = (slice_index_or row q nowhere).place
+abbrev pub point_at : List Placed → ℕ → Point
+point_at row q = (slice_index_or row q nowhere).place
 
 -- each city once with its place, in x order
 pub record IsXOrder (n : ℕ) (place_of : ℕ → Point) (row : List Placed) : Type 0 where
   pub count : length row ≡ n
   pub each : (q : ℕ) → q < length row → IsPlaced n place_of (slice_index_or row q nowhere)
-  pub rising : (i j : ℕ) → i ≤ j → j < length row → (place_at row i).x ≤ℤ (place_at row j).x
-  pub apart : (i j : ℕ) → i < j → j < length row → city_at row i ≢ city_at row j
-  pub whole : (b : ℕ) → IsCity n b → (q : ℕ) × (q < length row) × (city_at row q ≡ b)
+  pub rising : (i j : ℕ) → i ≤ j → j < length row → (point_at row i).x ≤ℤ (point_at row j).x
+  pub apart : (i j : ℕ) → i < j → j < length row → placed_city row i ≢ placed_city row j
+  pub whole : (b : ℕ) → IsCity n b → (q : ℕ) × (q < length row) × (placed_city row q ≡ b)
 
 -- the laws of the floor that a sweep in x order needs
 pub record IsFloor (dist : ℕ → ℕ → ℕ) (place_of : ℕ → Point) (floor : ℕ → ℕ) : Type 0 where
@@ -31,7 +31,8 @@ pub record IsSwept (dist : ℕ → ℕ → ℕ) (row : List Placed) (p low high 
   pub low_end : low ≤ p
   pub high_end : p < high
   pub within : high ≤ length row
-  pub keeps : KeepsFirst dist (city_at row p) k (high - low - 1) (IsAt row (λ q. (low ≤ q) × (q < high) × (q ≢ p))) kept
+  pub keeps : KeepsFirst dist (placed_city row p) k (high - low - 1)
+      (IsAt row (λ q. (low ≤ q) × (q < high) × (q ≢ p))) kept
 
 -- each candidate at this distance or beyond comes after the last of the kept
 abbrev pub IsBelow : ℕ → List Candidate → Type 0

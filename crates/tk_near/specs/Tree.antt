@@ -13,7 +13,7 @@ entries_of (Leaf row) = row.items
 entries_of (Cut' a p s b q t) = entries_of s ++ entries_of t
 
 -- a city stands in a box
-pub record IsWithin (f : Frame) (p : Placed) : Type 0 where
+pub record IsInBox (f : Frame) (p : Placed) : Type 0 where
   pub left : f.left ≤ℤ p.place.x
   pub right : p.place.x ≤ℤ f.right
   pub bottom : f.bottom ≤ℤ p.place.y
@@ -25,7 +25,7 @@ pub record IsWithin (f : Frame) (p : Placed) : Type 0 where
 abbrev pub IsFramed : Tree → Type 0
 IsFramed (Leaf row) = ⊤
 IsFramed (Cut' a p s b q t) =
-    All (IsWithin a) (entries_of s) × All (IsWithin b) (entries_of t) × IsFramed s × IsFramed t
+    All (IsInBox a) (entries_of s) × All (IsInBox b) (entries_of t) × IsFramed s × IsFramed t
 
 -- p has this difference in x, or in y, from here
 abbrev pub IsBeyond : Placed → ℕ → Placed → Type 0

@@ -1,7 +1,8 @@
 //! The nearest candidates of a city, kept in order.
-ghost use Rattle.std.specs.Prelude.{◌≡◌, ℕ, ◌≤◌, ◌<◌, ◌-◌, ◌*◌, ◌↔◌, IsTrue, length};
+ghost use Rattle.std.specs.Prelude.{◌≡◌, ◌≤◌, ◌<◌, ◌-◌, ◌*◌, ◌↔◌, IsTrue, length};
 ghost use Rattle.tk_distance.specs.Cities.{IsCity};
-ghost use Rattle.tk_near.specs.Keeping.{AreOpenFrom, candidate, rank, Climbing, with_candidate, overwritten, cities_of};
+ghost use Rattle.tk_near.specs.Keeping.{AreOpenFrom, candidate, rank, Climbing, with_candidate, overwritten};
+ghost use Rattle.tk_near.specs.Keeping.{cities_kept};
 
 use tk_distance::Metric;
 
@@ -97,7 +98,7 @@ pub fn keep(kept: &mut [Candidate], x: Candidate)
 pub fn write_cities(entries: &mut [u32], c: u32, kept: &[Candidate])
     requires city { 1 ≤ c }
     requires room { c * length kept.now ≤ length entries.old }
-    ensures { entries.new ≡ overwritten ((c - 1) * length kept.now) (cities_of kept.now) entries.old }
+    ensures { entries.new ≡ overwritten ((c - 1) * length kept.now) (cities_kept kept.now) entries.old }
 {
     let from = (c as usize - 1) * kept.len();
     for (i, x) in kept.iter().enumerate() {

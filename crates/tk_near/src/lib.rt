@@ -3,11 +3,13 @@
 #![tactic(auto)]
 
 mod candidates;
+mod list_length;
 mod near;
 mod plane;
 mod table;
 
 pub use candidates::measure;
+pub use list_length::ListLength;
 pub use near::{Near, near_lists_agree, near_scan};
 pub use plane::left::{Found, Left};
 pub use plane::placed::Placed;

@@ -1,9 +1,9 @@
 //! Near lists: for each city the first others by (distance, number).
-ghost use Rattle.std.specs.Prelude.{◌≡◌, ℕ, ◌*◌, ◌≤◌, ◌<◌, IfOk, All, length, ⊤};
+ghost use Rattle.std.specs.Prelude.{◌≡◌, ◌*◌, ◌≤◌, ◌<◌, IfOk, All, length, ⊤};
 ghost use Rattle.tk_problem.specs.declared.limits.TheConstants.{CANDIDATE_LIMIT, CITY_LIMIT};
 ghost use Rattle.tk_distance.specs.Cities.{IsCity};
 ghost use Rattle.tk_near.specs.Near.{IsNear, IsOther, AreNearest, near_of};
-ghost use Rattle.tk_near.specs.Keeping.{AreFilled, cities_of};
+ghost use Rattle.tk_near.specs.Keeping.{AreFilled, cities_kept};
 
 use crate::candidates::{Candidate, OPEN, keep, measure, write_cities};
 use std::alloc::{AllocError, Global};
@@ -88,7 +88,7 @@ fn scan_city<M: Metric>(m: &M, c: u32, kept: &mut [Candidate])
     requires low { 1 ≤ length kept.old }
     requires high { length kept.old < M.size_of m.now }
     ensures size { length kept.new ≡ length kept.old }
-    ensures near { IsNear (M.distance m.now) (M.size_of m.now) (length kept.old) c (cities_of kept.new) }
+    ensures near { IsNear (M.distance m.now) (M.size_of m.now) (length kept.old) c (cities_kept kept.new) }
 {
     kept.fill(OPEN);
     for b in 1..m.size() + 1 {

@@ -14,9 +14,8 @@ use Rattle.tk_words.specs.declared.sources.text_reader.Step.{Step}
 use Rattle.tk_words.specs.declared.sources.text_reader.Step.TheVariants.{Taken, Done}
 use Rattle.tk_words.specs.Taking as Taking
 use Rattle.tk_words.specs.Taking.{HasEnded}
-use Rattle.tk_words.proofs.Told.{told_of}
-use Rattle.tk_lines.proofs.Runs.{first_byte}
-use Rattle.tk_words.specs.Texts.{Decides, DecidesWithin}
+use Rattle.tk_words.proofs.FirstBytes.{first_byte, first_decides, first_told}
+use Rattle.tk_words.specs.Texts.{Decides}
 use Rattle.tk_params.specs.Asked.{ParamsAre, asked, asked_of, file_in}
 use Rattle.tk_params.specs.declared.key.Key.TheVariants as keys
 use Rattle.tk_params.specs.declared.fault.ParamFault.{ParamFault}
@@ -26,49 +25,52 @@ use Rattle.tk_params.proofs.Steps.{from_LF_fault, from_end, from_end_fault}
 use Rattle.tk_params.specs.declared.fault.ParamKind.{ParamKind}
 use Rattle.tk_params.specs.declared.fault.ParamKind.TheVariants as kinds
 use Rattle.tk_params.specs.declared.reader.ParamReader.{ParamReader}
-use Rattle.tk_params.specs.Reader.Lines.{IsSound}
-use Rattle.tk_params.specs.Reader.Places.{Feeds, HasRead, IsComplete, IsTaken, Waits, from_line, params_in}
+use Rattle.tk_params.specs.Reader.Lines.{IsFaultless}
+use Rattle.tk_params.specs.Reader.Places.{Feeds, HasReadByte, NamesProblem, IsLineTaken, ParamsWait, params_from_line}
+use Rattle.tk_params.specs.Reader.Places.{params_in}
 use Rattle.tk_params.specs.Values.{Settings, Meaning, Faulty, line_means, look, settings_of}
-use Rattle.tk_params.specs.Params.{Answer, at_end, cause_of, is_eof, judge, line_limit, pieces, params_decided}
+use Rattle.tk_params.specs.Params.{answer_at_end, spells_eof, judge_params, line_limit}
+use Rattle.tk_params.specs.Params.{param_pieces, params_decided}
 use Rattle.tk_params.specs.Params.{params_texts}
 
 -- nothing is read
-pub from_nothing : (e : Bool) (more : List ℕ) → params_decided e more ≡ from_line 1 [] [] e more
-unfolding params_decided from_line
-from_nothing e more = ap (λ ls. (judge 1 [] (pieces ls))) (sym (prepend-nil (lines e 1 more)))
+pub from_nothing : (e : Bool) (more : List ℕ) → params_decided e more ≡ params_from_line 1 [] [] e more
+unfolding params_decided params_from_line
+from_nothing e more = ap (λ ls. (judge_params 1 [] (param_pieces ls))) (sym (prepend-nil (lines e 1 more)))
 
 -- what is read of a text, and one byte more
 module _ (s : ParamReader) (bs : List ℕ) (f : Feeds s bs) (b : ℕ) where
   pub on_byte : (e : Bool) (more : List ℕ) →
-      params_decided e ((bs ++ b ∷ []) ++ more) ≡ from_line s.line s.settings f.pre e (b ∷ more)
+      params_decided e ((bs ++ b ∷ []) ++ more) ≡ params_from_line s.line s.settings f.pre e (b ∷ more)
   on_byte e more = ap (params_decided e) (append_assoc bs (b ∷ []) more) ∙ f.same e (b ∷ more)
 
   -- EOF has ended
-  pub eof_ends : is_eof s.held.items ≡ true → is_word_byte b ≡ false →
-      Decides params_texts (bs ++ b ∷ []) (at_end s.line s.settings)
+  pub eof_ends : spells_eof s.held.items ≡ true → is_word_byte b ≡ false →
+      Decides params_texts (bs ++ b ∷ []) (answer_at_end s.line s.settings)
   eof_ends k solid e more = on_byte e more
-      ∙ from_eof s.line s.settings f.pre e b more (ap is_eof (sym f.held) ∙ k) f.short solid
+      ∙ from_eof s.line s.settings f.pre e b more (ap spells_eof (sym f.held) ∙ k) f.short solid
 
   -- a line is too long
-  pub line_over : b ≢ 10 → (is_eof s.held.items ≡ true → is_word_byte b ≡ true) → length f.pre ≡ line_limit →
+  pub line_over : b ≢ 10 → (spells_eof s.held.items ≡ true → is_word_byte b ≡ true) → length f.pre ≡ line_limit →
       Decides params_texts (bs ++ b ∷ []) (Err (record { line = s.line; kind = kinds.TooLong }))
   line_over ne k len e more =
       on_byte e more
       ∙ from_byte s.line s.settings f.pre e b more (ne_eqb _ _ ne)
-      ∙ from_over s.line s.settings (f.pre ++ b ∷ []) e more (push_open f.pre f.going b (λ t. k (ap is_eof f.held ∙ t)))
+      ∙ from_over s.line s.settings (f.pre ++ b ∷ []) e more
+      (push_open f.pre f.going b (λ t. k (ap spells_eof f.held ∙ t)))
       (omega (arith, len, length-append f.pre (b ∷ [])))
 
   -- a line has a fault
-  pub line_faulty : b ≡ 10 → is_eof s.held.items ≡ false → (kind : ParamKind) →
+  pub line_faulty : b ≡ 10 → spells_eof s.held.items ≡ false → (kind : ParamKind) →
       line_means s.settings s.held.items ≡ Faulty kind →
       Decides params_texts (bs ++ b ∷ []) (Err (record { line = s.line; kind = kind }))
   line_faulty is k kind m e more =
-      on_byte e more ∙ ap (λ c. from_line s.line s.settings f.pre e (c ∷ more)) is
-      ∙ from_LF_fault s.line s.settings f.pre f.going f.short (ap is_eof (sym f.held) ∙ k) e more kind
+      on_byte e more ∙ ap (λ c. params_from_line s.line s.settings f.pre e (c ∷ more)) is
+      ∙ from_LF_fault s.line s.settings f.pre f.going f.short (ap spells_eof (sym f.held) ∙ k) e more kind
       (ap (line_means s.settings) (sym f.held) ∙ m)
 
   -- a byte of a line
-  pub kept_byte : (t : ParamReader) → b ≢ 10 → (is_eof s.held.items ≡ true → is_word_byte b ≡ true)
+  pub kept_byte : (t : ParamReader) → b ≢ 10 → (spells_eof s.held.items ≡ true → is_word_byte b ≡ true)
       → length f.pre < line_limit
       → t.line ≡ s.line → t.settings ≡ s.settings → t.count ≡ s.count + 1 →
       t.held.items ≡ behind is_blank (f.pre ++ b ∷ []) → Feeds t (bs ++ b ∷ [])
@@ -79,7 +81,7 @@ module _ (s : ParamReader) (bs : List ℕ) (f : Feeds s bs) (b : ℕ) where
         count = omega (arith, count, f.count, length-append f.pre (b ∷ []));
         short = omega (arith, lt, length-append f.pre (b ∷ []));
         held = held;
-        going = push_open f.pre f.going b (λ j. k (ap is_eof f.held ∙ j));
+        going = push_open f.pre f.going b (λ j. k (ap spells_eof f.held ∙ j));
         same =
             λ e more. rw (line, settings) (on_byte e more ∙ from_byte s.line s.settings f.pre e b more (ne_eqb _ _ ne));
       }
@@ -122,19 +124,19 @@ pub fed_open : (s : ParamReader) (bs : List ℕ) → Feeds s bs → params_decid
 fed_open s bs f = ap (params_decided false) (sym (append-nil bs)) ∙ f.same false []
     ∙ from_open s.line s.settings f.pre f.going f.short
 
-module _ (s t : ParamReader) (bs : List ℕ) (f : Feeds s bs) (taken : IsTaken s t)
-    (other : is_eof s.held.items ≡ false) where
+module _ (s t : ParamReader) (bs : List ℕ) (f : Feeds s bs) (taken : IsLineTaken s t)
+    (other : spells_eof s.held.items ≡ false) where
   abbrev means : Meaning
   means = line_means s.settings s.held.items
 
   same_means : line_means s.settings (behind is_blank f.pre) ≡ means
   same_means = ap (line_means s.settings) (sym f.held)
 
-  is_sound : IsSound (line_means s.settings (behind is_blank f.pre))
-  is_sound = subst IsSound (sym same_means) taken.taken.sound
+  is_sound : IsFaultless (line_means s.settings (behind is_blank f.pre))
+  is_sound = subst IsFaultless (sym same_means) taken.taken.sound
 
-  no_eof : is_eof (behind is_blank f.pre) ≡ false
-  no_eof = ap is_eof (sym f.held) ∙ other
+  no_eof : spells_eof (behind is_blank f.pre) ≡ false
+  no_eof = ap spells_eof (sym f.held) ∙ other
 
   same_settings : s.settings ++ settings_of (line_means s.settings (behind is_blank f.pre)) ≡ t.settings
   same_settings = ap (λ m. s.settings ++ settings_of m) same_means ∙ sym taken.taken.settings
@@ -153,39 +155,39 @@ module _ (s t : ParamReader) (bs : List ℕ) (f : Feeds s bs) (taken : IsTaken s
         same = λ e more.
             on_byte s bs f 10 e more
             ∙ from_LF s.line s.settings f.pre f.going f.short no_eof e more is_sound
-            ∙ ap (λ ss. from_line (suc s.line) ss [] e more) same_settings
-            ∙ ap (λ ss. from_line (suc s.line) ss [] e more) (sym settings)
-            ∙ ap (λ n. from_line n u.settings [] e more) (sym next);
+            ∙ ap (λ ss. params_from_line (suc s.line) ss [] e more) same_settings
+            ∙ ap (λ ss. params_from_line (suc s.line) ss [] e more) (sym settings)
+            ∙ ap (λ n. params_from_line n u.settings [] e more) (sym next);
       }
 
   -- the last line is taken, and nothing follows
-  pub ends_line : params_decided true bs ≡ Some (at_end s.line t.settings)
+  pub ends_line : params_decided true bs ≡ Some (answer_at_end s.line t.settings)
   ends_line =
       ap (params_decided true) (sym (append-nil bs)) ∙ f.same true []
       ∙ from_end s.line s.settings f.pre f.going f.short no_eof is_sound
-      ∙ ap (λ ss. Some (at_end s.line ss)) same_settings
+      ∙ ap (λ ss. Some (answer_at_end s.line ss)) same_settings
 
 module _ (s : ParamReader) (bs : List ℕ) (f : Feeds s bs) where
-  pub ends_eof : is_eof s.held.items ≡ true → params_decided true bs ≡ Some (at_end s.line s.settings)
+  pub ends_eof : spells_eof s.held.items ≡ true → params_decided true bs ≡ Some (answer_at_end s.line s.settings)
   ends_eof k = ap (params_decided true) (sym (append-nil bs)) ∙ f.same true []
-      ∙ from_end_eof s.line s.settings f.pre (ap is_eof (sym f.held) ∙ k) f.short
+      ∙ from_end_eof s.line s.settings f.pre (ap spells_eof (sym f.held) ∙ k) f.short
 
-  pub ends_faulty : is_eof s.held.items ≡ false → (kind : ParamKind) →
+  pub ends_faulty : spells_eof s.held.items ≡ false → (kind : ParamKind) →
       line_means s.settings s.held.items ≡ Faulty kind →
       params_decided true bs ≡ Some (Err (record { line = s.line; kind = kind }))
   ends_faulty k kind m =
       ap (params_decided true) (sym (append-nil bs)) ∙ f.same true []
-      ∙ from_end_fault s.line s.settings f.pre f.going f.short (ap is_eof (sym f.held) ∙ k) kind
+      ∙ from_end_fault s.line s.settings f.pre f.going f.short (ap spells_eof (sym f.held) ∙ k) kind
       (ap (line_means s.settings) (sym f.held) ∙ m)
 
-pub fed_waits : (t : ParamReader) (bs : List ℕ) → Feeds t bs → Waits t bs
+pub fed_waits : (t : ParamReader) (bs : List ℕ) → Feeds t bs → ParamsWait t bs
 fed_waits t bs f = record { fed = f; undecided = fed_open t bs f }
 
 -- ---- what the settings ask for at the end
 
 -- they name the problem's file
 pub whole_at_end : (s : ParamReader) → is_some (file_in (look keys.ProblemFile s.settings)) ≡ true →
-    (at_end s.line s.settings ≡ Ok (params_in s)) × IsComplete s
+    (answer_at_end s.line s.settings ≡ Ok (params_in s)) × NamesProblem s
 whole_at_end s h = by_file (file_in (look keys.ProblemFile s.settings)) h
   where
     by_file : (name : Option (List ℕ)) → is_some name ≡ true →
@@ -197,7 +199,7 @@ whole_at_end s h = by_file (file_in (look keys.ProblemFile s.settings)) h
 
 -- they do not
 pub missing_at_end : (s : ParamReader) → is_some (file_in (look keys.ProblemFile s.settings)) ≡ false →
-    at_end s.line s.settings ≡ Err (record { line = s.line; kind = kinds.MissingProblem })
+    answer_at_end s.line s.settings ≡ Err (record { line = s.line; kind = kinds.MissingProblem })
 missing_at_end s h = by_file (file_in (look keys.ProblemFile s.settings)) h
   where
     by_file : (name : Option (List ℕ)) → is_some name ≡ false →
@@ -217,8 +219,9 @@ asked_in s p h = by_file (file_in (look keys.ProblemFile s.settings)) h
     by_file (Some name) h = cc
 
 -- the answer at the end, as the reader gives it
-pub ended_as : (line : ℕ) (settings : Settings) (bs : List ℕ) → params_decided true bs ≡ Some (at_end line settings) →
-    HasEnded params_texts (λ (p : ParamsAre). p) bs (at_end line settings)
+pub ended_as : (line : ℕ) (settings : Settings) (bs : List ℕ) →
+    params_decided true bs ≡ Some (answer_at_end line settings) →
+    HasEnded params_texts (λ (p : ParamsAre). p) bs (answer_at_end line settings)
 ended_as line settings bs h = by_asked (asked settings) h
   where
     missing : ParamFault
@@ -229,23 +232,16 @@ ended_as line settings bs h = by_asked (asked settings) h
     by_asked None h = h
     by_asked (Some p) h = h
 
-within : (new : ParamReader) (before bytes : List ℕ) → 1 ≤ length bytes → (a : Answer) →
-    Decides params_texts (before ++ get_or bytes 0 0 ∷ []) a → DecidesWithin params_texts before bytes a
-within new before bytes some a h =
-    (1, some, subst (λ (l : List ℕ). Decides params_texts (before ++ l) a) (sym (first_byte bytes some)) h)
-
 -- the first of some bytes is read
 pub read_taken : (new : ParamReader) (before bytes : List ℕ) (r : Result Step ParamFault) → 1 ≤ length bytes →
-    HasRead new (before ++ get_or bytes 0 0 ∷ []) r →
-    Taking.HasTaken params_texts (Waits new) (params_in new) (IsComplete new) before bytes r
+    HasReadByte new (before ++ get_or bytes 0 0 ∷ []) r →
+    Taking.HasTaken params_texts (ParamsWait new) (params_in new) (NamesProblem new) before bytes r
 read_taken new before bytes (Ok (Taken n)) some (one, fed) = (
   omega (arith, one),
   omega (arith, one, some),
   fed_waits new _ (subst (λ (l : List ℕ). Feeds new (before ++ l))
       (sym (first_byte bytes some) ∙ ap (λ (k : ℕ). take k bytes) (sym one)) fed),
 )
-read_taken new before bytes (Ok Done) some (decides, complete) = (within new before bytes some _ decides, complete)
-read_taken new before bytes (Err f) some told =
-    told_of ⊥ (λ e. Decides params_texts (before ++ get_or bytes 0 0 ∷ []) (Err e))
-    (λ e. DecidesWithin params_texts before bytes (Err e)) f (cause_of f.kind)
-    (within new before bytes some (Err f)) told
+read_taken new before bytes (Ok Done) some (decides, complete) =
+    (first_decides params_texts before bytes some _ decides, complete)
+read_taken new before bytes (Err f) some told = first_told params_texts before bytes some f told

@@ -13,12 +13,13 @@ use Rattle.tk_words.specs.Lex.{integer}
 use Rattle.tk_params.specs.declared.key.Key.{Key}
 use Rattle.tk_params.specs.declared.key.Key.TheVariants as keys
 use Rattle.tk_params.specs.declared.value.Construction.{Construction}
-use Rattle.tk_params.specs.Keys.{all_keys, code}
+use Rattle.tk_params.specs.Keys.{all_keys, key_code}
 use Rattle.tk_params.proofs.Keys.{ignored_few}
 use Rattle.tk_params.specs.Values.{File, Number, Way, Switch, Ignored, Settings, Value, construction_of, file_of}
-use Rattle.tk_params.specs.Values.{greatest, has_dollar, least, look, same_key, switch_of, value_of}
-use Rattle.tk_params.specs.Asked.{AreApart, AreSettings, AreWithinLimits, IsFileName, IsSetting, IsWithin, asked_of}
-use Rattle.tk_params.specs.Asked.{file_in, number_in}
+use Rattle.tk_params.specs.Values.{greatest, has_dollar, least, look, same_key, switch_of, setting_value}
+use Rattle.tk_params.specs.Asked.{HasEachKeyOnce, AreSettings, AreWithinLimits, IsFileName, IsSetting, IsInLimits}
+use Rattle.tk_params.specs.Asked.{asked_of}
+use Rattle.tk_params.specs.Asked.{file_in, asked_number}
 
 -- ---- a key's value
 
@@ -66,7 +67,7 @@ switch_setting key (Some on) v e = let is : Switch on ≡ v = cc in subst (IsSet
 ignored_setting : (key : Key) (v : Value) → Some Ignored ≡ Some v → IsSetting key v
 ignored_setting key v e = let is : Ignored ≡ v = cc in subst (IsSetting key) is tt
 
-pub is_setting : (key : Key) (bs : List ℕ) (v : Value) → has_dollar key bs ≡ false → value_of key bs ≡ Some v →
+pub is_setting : (key : Key) (bs : List ℕ) (v : Value) → has_dollar key bs ≡ false → setting_value key bs ≡ Some v →
     IsSetting key v
 is_setting keys.ProblemFile bs v h e = file_setting keys.ProblemFile bs v e h
 is_setting keys.TourFile bs v h e = file_setting keys.TourFile bs v e h
@@ -88,7 +89,7 @@ is_setting keys.Optimum bs v h e = ignored_setting keys.Optimum v e
 
 -- ---- look-ups
 
-at_code : (key : Key) → get_or all_keys (code key) keys.Optimum ≡ key
+at_code : (key : Key) → get_or all_keys (key_code key) keys.Optimum ≡ key
 at_code keys.ProblemFile = refl
 at_code keys.TourFile = refl
 at_code keys.SolutionFile = refl
@@ -130,7 +131,7 @@ file_limits key (Some (Switch on)) h = tt
 file_limits key (Some Ignored) h = tt
 
 number_limits : (key : Key) (o : Option Value) → IfSome o (IsSetting key) →
-    IfSome (number_in o) (IsWithin (least key) (greatest key))
+    IfSome (asked_number o) (IsInLimits (least key) (greatest key))
 number_limits key None h = tt
 number_limits key (Some (File name)) h = tt
 number_limits key (Some (Number n)) h = h
@@ -138,16 +139,16 @@ number_limits key (Some (Way way)) h = tt
 number_limits key (Some (Switch on)) h = tt
 number_limits key (Some Ignored) h = tt
 
-or_default : (low high d : ℕ) (o : Option ℕ) → IfSome o (IsWithin low high) → low ≤ d → d ≤ high →
-    IsWithin low high (unwrap_or o d)
+or_default : (low high d : ℕ) (o : Option ℕ) → IfSome o (IsInLimits low high) → low ≤ d → d ≤ high →
+    IsInLimits low high (unwrap_or o d)
 or_default low high d None h a b = record { least = a; greatest = b }
 or_default low high d (Some n) h a b = h
 
-module _ (ss : Settings) (sound : AreSettings ss) (apart : AreApart ss) where
+module _ (ss : Settings) (sound : AreSettings ss) (apart : HasEachKeyOnce ss) where
   file_at : (key : Key) → IfSome (file_in (look key ss)) IsFileName
   file_at key = file_limits key (look key ss) (look_setting key ss sound)
 
-  number_at : (key : Key) → IfSome (number_in (look key ss)) (IsWithin (least key) (greatest key))
+  number_at : (key : Key) → IfSome (asked_number (look key ss)) (IsInLimits (least key) (greatest key))
   number_at key = number_limits key (look key ss) (look_setting key ss sound)
 
   pub asked_within : (problem : List ℕ) → file_in (look keys.ProblemFile ss) ≡ Some problem →

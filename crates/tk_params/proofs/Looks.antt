@@ -14,7 +14,7 @@ use Rattle.indexmap.specs.IndexMap.{IndexMap, insert_entry}
 use Rattle.std.specs.Map.{lookup}
 use Rattle.std.specs.Option.{option_copied, is_some}
 use Rattle.tk_params.specs.declared.value.Setting.{Setting}
-use Rattle.tk_params.specs.Reader.Lines.{HasTaken}
+use Rattle.tk_params.specs.Reader.Lines.{HasTakenLine}
 use Rattle.tk_params.specs.Reader.Stored.{AreStored, entry_is, value_is}
 use Rattle.tk_params.specs.Asked.{IsSetting, ignored_keys, is_ignored}
 use Rattle.tk_params.proofs.Keys.{apart_push}
@@ -23,8 +23,9 @@ use Rattle.tk_params.specs.contracts.key.KeyPartialEq.TheImpl.{eq-value}
 use Rattle.tk_params.specs.declared.key.Key.{Key}
 use Rattle.tk_params.specs.declared.key.Key.TheVariants as keys
 use Rattle.tk_params.specs.Entries.{entry_of, word_entry}
-use Rattle.tk_params.specs.Values.{Value, File, Meaning, Nothing, Settings, means, line_means, file_of, has, has_dollar}
-use Rattle.tk_params.specs.Values.{key_means, look, same_key, value_of}
+use Rattle.tk_params.specs.Values.{Value, File, Meaning, Nothing, Settings, means, line_means, file_of, has_key}
+use Rattle.tk_params.specs.Values.{has_dollar}
+use Rattle.tk_params.specs.Values.{key_means, look, same_key, setting_value}
 
 -- keys are equal where they have one place
 pub equal_keys : (a b : Key) → eq-value.it a b ≡ same_key a b
@@ -84,7 +85,7 @@ none_stored (Some x) v e f = absurd (let k = rw (← e) at f in cc)
 
 -- a new key goes last among what is stored
 pub stored_last : {S : Type 0} (m : IndexMap Key Setting S) (key : Key) (setting : Setting)
-    → has key (map entry_is m.entries) ≡ false
+    → has_key key (map entry_is m.entries) ≡ false
     → map entry_is (insert_entry eq-value.it m.entries key setting) ≡ map entry_is m.entries
     ++ (key, value_is setting) ∷ []
 stored_last m key setting absent =
@@ -122,7 +123,8 @@ pub none_kept : AreStored [] []
 unfolding ignored_keys IsDistinct
 none_kept = record { limits = All-nil (λ (x : Key × Value). IsSetting x.0 x.1); apart = tt; ignored = refl }
 
-module _ (ss : Settings) (ks : List Key) (key : Key) (v : Value) (kept : AreStored ss ks) (fresh : has key ss ≡ false)
+module _ (ss : Settings) (ks : List Key) (key : Key) (v : Value) (kept : AreStored ss ks)
+    (fresh : has_key key ss ≡ false)
     (limits : IsSetting key v) where
   one_more : (t : Bool) → is_ignored v ≡ t → AreStored (ss ++ (key, v) ∷ []) (ks ++ cond t (key ∷ []) [])
   one_more t e =
@@ -156,14 +158,14 @@ file_some (b ∷ bs) h u = let e : is_utf8 (b ∷ bs) ≡ true = is_utf8-from_Is
 
 -- ---- a key is taken
 
-pub taken_key : (old new : Settings) (key : Key) (bs : List ℕ) (v : Value) → has key old ≡ false
-    → has_dollar key bs ≡ false → value_of key bs ≡ Some v → new ≡ old ++ (key, v) ∷ []
-    → HasTaken old new (key_means old key bs)
+pub taken_key : (old new : Settings) (key : Key) (bs : List ℕ) (v : Value) → has_key key old ≡ false
+    → has_dollar key bs ≡ false → setting_value key bs ≡ Some v → new ≡ old ++ (key, v) ∷ []
+    → HasTakenLine old new (key_means old key bs)
 taken_key old new key bs v h d e s = rw (h, d, e) (record { sound = tt; settings = s })
 
 -- ---- lines that say nothing
 
-pub nothing_taken : (old : Settings) (m : Meaning) → m ≡ Nothing → HasTaken old old m
+pub nothing_taken : (old : Settings) (m : Meaning) → m ≡ Nothing → HasTakenLine old old m
 nothing_taken old m e = rw e (record { sound = tt; settings = sym (append-nil old) })
 
 pub comment_means : (before : Settings) (word rest : List ℕ) → length word ≤ 64 → spells word (codes "COMMENT") ≡ true →

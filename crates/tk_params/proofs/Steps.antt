@@ -14,12 +14,13 @@ use Rattle.tk_lines.specs.Reader.FromMiddle.{prepend}
 use Rattle.tk_lines.specs.Reader.Scan.{IsEmpty}
 use Rattle.tk_params.specs.declared.fault.ParamKind.{ParamKind}
 use Rattle.tk_params.specs.declared.fault.ParamKind.TheVariants as kinds
-use Rattle.tk_params.specs.Reader.Lines.{IsSound}
-use Rattle.tk_params.specs.Reader.Places.{ends_in, from_line}
+use Rattle.tk_params.specs.Reader.Lines.{IsFaultless}
+use Rattle.tk_params.specs.Reader.Places.{ends_in, params_from_line}
 use Rattle.tk_params.specs.Entries.{Entry, entry_of}
 use Rattle.tk_params.specs.Values.{Settings, Meaning, Nothing, Faulty, Sets, means, line_means, settings_of}
-use Rattle.tk_params.specs.Params.{Answer, Piece, LongLine, End, Open, Holds, after, at_end, behind_word, counted}
-use Rattle.tk_params.specs.Params.{is_end, is_eof, judge, line_limit, pieces, word_of}
+use Rattle.tk_params.specs.Params.{Answer, Piece, LongLine, End, Open, Holds, after, answer_at_end, behind_word}
+use Rattle.tk_params.specs.Params.{counted}
+use Rattle.tk_params.specs.Params.{is_end, spells_eof, judge_params, line_limit, param_pieces, word_of}
 
 -- ---- EOF
 
@@ -46,7 +47,7 @@ record IsWord (w : List ℕ) : Type 0 where
   pub word : behind is_word_byte w ≡ []
   pub some : IsEmpty w → ⊥
 
-eof_word : (w : List ℕ) → is_eof w ≡ true → IsWord w
+eof_word : (w : List ℕ) → spells_eof w ≡ true → IsWord w
 eof_word [] h = absurd cc
 eof_word (a ∷ []) h = let k = and_parts (eqb (to_ascii_uppercase a) 69) false h in absurd (let j = k.1 in cc)
 eof_word (a ∷ b ∷ []) h =
@@ -81,23 +82,23 @@ not_none : (h : List ℕ) (c : ℕ) (cs : List ℕ) → h ≡ c ∷ cs → IsEmp
 not_none [] c cs e = absurd cc
 not_none (x ∷ xs) c cs e = λ k. k
 
-one_byte : (b : ℕ) (s t : Bool) → (is_eof (front is_word_byte (cond s [] (b ∷ []))) && t) ≡ false
+one_byte : (b : ℕ) (s t : Bool) → (spells_eof (front is_word_byte (cond s [] (b ∷ []))) && t) ≡ false
 one_byte b true t = refl
 one_byte b false t = by_test (is_word_byte b)
   where
-    by_test : (w : Bool) → (is_eof (cond w (b ∷ []) []) && t) ≡ false
+    by_test : (w : Bool) → (spells_eof (cond w (b ∷ []) []) && t) ≡ false
     by_test true = and_left _ t (and_no (eqb (to_ascii_uppercase b) 69))
     by_test false = refl
 
-on_word : (h : List ℕ) (b : ℕ) → (is_eof h ≡ true → is_word_byte b ≡ true) →
-    (is_eof (h ++ front is_word_byte (b ∷ [])) && not (is_empty (behind is_word_byte (b ∷ [])))) ≡ false
+on_word : (h : List ℕ) (b : ℕ) → (spells_eof h ≡ true → is_word_byte b ≡ true) →
+    (spells_eof (h ++ front is_word_byte (b ∷ [])) && not (is_empty (behind is_word_byte (b ∷ [])))) ≡ false
 on_word h b k = by_test (is_word_byte b) refl
   where
     by_test : (w : Bool) → is_word_byte b ≡ w →
-        (is_eof (h ++ cond w (b ∷ []) []) && not (is_empty (cond w [] (b ∷ [])))) ≡ false
+        (spells_eof (h ++ cond w (b ∷ []) []) && not (is_empty (cond w [] (b ∷ [])))) ≡ false
     by_test true e = and_no _
     by_test false e =
-        and_left _ true (rw (append-nil h) (false_from_ne_true (is_eof h) (λ t. let j = k t in absurd cc)))
+        and_left _ true (rw (append-nil h) (false_from_ne_true (spells_eof h) (λ t. let j = k t in absurd cc)))
 
 shorter_step : (t : Bool) (x : ℕ) (xs ys : List ℕ) → length ys ≤ length xs →
     length (cond t ys (x ∷ xs)) ≤ suc (length xs)
@@ -109,10 +110,10 @@ shorter p [] = omega arith
 shorter p (x ∷ xs) = shorter_step (p x) x xs (behind p xs) (shorter p xs)
 
 module _ (pre : List ℕ) (none : ends_in pre ≡ false) where
-  past_word : (d : ℕ) (ds : List ℕ) → behind_word pre ≡ d ∷ ds → is_eof (word_of pre) ≡ false
+  past_word : (d : ℕ) (ds : List ℕ) → behind_word pre ≡ d ∷ ds → spells_eof (word_of pre) ≡ false
   past_word d ds e = false_from_ne_true _ (λ t. let j = rw (e, t) at none in absurd cc)
 
-  pub push_open : (b : ℕ) → (is_eof (behind is_blank pre) ≡ true → is_word_byte b ≡ true) →
+  pub push_open : (b : ℕ) → (spells_eof (behind is_blank pre) ≡ true → is_word_byte b ≡ true) →
       ends_in (pre ++ b ∷ []) ≡ false
   push_open b k = by_held (behind is_blank pre) refl (behind_word pre) refl
     where
@@ -137,7 +138,7 @@ module _ (pre : List ℕ) (none : ends_in pre ≡ false) where
           (and_left _ _ (past_word d ds f))
 
   -- an EOF that ends later has its end among the later bytes
-  late : (x : List ℕ) → is_eof (word_of (pre ++ x)) ≡ true → length (behind_word (pre ++ x)) ≤ length x
+  late : (x : List ℕ) → spells_eof (word_of (pre ++ x)) ≡ true → length (behind_word (pre ++ x)) ≤ length x
   late x k = by_held (behind is_blank pre) refl (behind_word pre) refl
     where
       by_held : (h : List ℕ) → behind is_blank pre ≡ h → (r : List ℕ) → behind_word pre ≡ r →
@@ -157,10 +158,10 @@ module _ (pre : List ℕ) (none : ends_in pre ≡ false) where
           absurd cc
 
   -- the line is no EOF
-  pub no_end : is_eof (behind is_blank pre) ≡ false → is_eof (word_of pre) ≡ false
+  pub no_end : spells_eof (behind is_blank pre) ≡ false → spells_eof (word_of pre) ≡ false
   no_end k = by_rest (behind_word pre) refl
     where
-      by_rest : (r : List ℕ) → behind_word pre ≡ r → is_eof (word_of pre) ≡ false
+      by_rest : (r : List ℕ) → behind_word pre ≡ r → spells_eof (word_of pre) ≡ false
       by_rest [] f = rw (front-whole is_word_byte (behind is_blank pre) f) k
       by_rest (d ∷ ds) f = past_word d ds f
 
@@ -175,53 +176,54 @@ module _ (pre : List ℕ) (none : ends_in pre ≡ false) where
 
 -- ---- what a line does
 
-pub judge_none : (m : ℕ) (before : Settings) → judge m before [] ≡ Some (at_end m before)
-unfolding judge
+pub judge_none : (m : ℕ) (before : Settings) → judge_params m before [] ≡ Some (answer_at_end m before)
+unfolding judge_params
 judge_none m before = refl
 
 judge_piece : (m : ℕ) (before : Settings) (over last more : Bool) (line : ℕ) (entry : Entry) (ps : List Piece)
-    → judge m before (cond over (LongLine line) (cond last (End line) (cond more Open (Holds line entry))) ∷ ps)
+    → judge_params m before (cond over (LongLine line) (cond last (End line) (cond more Open (Holds line entry))) ∷ ps)
     ≡ cond over (Some (Err (record { line = line; kind = kinds.TooLong })))
-    (cond last (Some (at_end line before))
-    (cond more None (after line (means before entry) (judge line (before ++ settings_of (means before entry)) ps))))
-unfolding judge
+    (cond last (Some (answer_at_end line before))
+    (cond more None
+    (after line (means before entry) (judge_params line (before ++ settings_of (means before entry)) ps))))
+unfolding judge_params
 judge_piece m before true last more line entry ps = refl
 judge_piece m before false true more line entry ps = refl
 judge_piece m before false false true line entry ps = refl
 judge_piece m before false false false line entry ps = refl
 
 -- what is judged of a line
-pub judge_line : (m : ℕ) (before : Settings) (l : Line) (ls : List Line) → judge m before (pieces (l ∷ ls))
+pub judge_line : (m : ℕ) (before : Settings) (l : Line) (ls : List Line) → judge_params m before (param_pieces (l ∷ ls))
     ≡ cond (ltb line_limit (counted l)) (Some (Err (record { line = l.number; kind = kinds.TooLong })))
-    (cond (is_end l) (Some (at_end l.number before))
+    (cond (is_end l) (Some (answer_at_end l.number before))
     (cond (not l.whole) None
     (after l.number (line_means before (behind is_blank l.bytes))
-    (judge l.number (before ++ settings_of (line_means before (behind is_blank l.bytes))) (pieces ls)))))
+    (judge_params l.number (before ++ settings_of (line_means before (behind is_blank l.bytes))) (param_pieces ls)))))
 judge_line m before l ls = judge_piece m before (ltb line_limit (counted l)) (is_end l) (not l.whole) l.number
-    (entry_of (behind is_blank l.bytes)) (pieces ls)
+    (entry_of (behind is_blank l.bytes)) (param_pieces ls)
 
 any_number : (m n k : ℕ) (before : Settings) (e : Bool) (bs : List ℕ) →
-    judge m before (pieces (lines e k bs)) ≡ judge n before (pieces (lines e k bs))
+    judge_params m before (param_pieces (lines e k bs)) ≡ judge_params n before (param_pieces (lines e k bs))
 any_number m n k before e bs = let c = lines_cons e bs k in
     rw c.is (judge_line m before c.first c.rest ∙ sym (judge_line n before c.first c.rest))
 
 judge_over : (m : ℕ) (before : Settings) (l : Line) (ls : List Line) → ltb line_limit (counted l) ≡ true →
-    judge m before (pieces (l ∷ ls)) ≡ Some (Err (record { line = l.number; kind = kinds.TooLong }))
+    judge_params m before (param_pieces (l ∷ ls)) ≡ Some (Err (record { line = l.number; kind = kinds.TooLong }))
 judge_over m before l ls h = judge_line m before l ls ∙ cond-true _ _ _ h
 
 judge_end : (m : ℕ) (before : Settings) (l : Line) (ls : List Line) → ltb line_limit (counted l) ≡ false →
-    is_end l ≡ true → judge m before (pieces (l ∷ ls)) ≡ Some (at_end l.number before)
+    is_end l ≡ true → judge_params m before (param_pieces (l ∷ ls)) ≡ Some (answer_at_end l.number before)
 judge_end m before l ls h e = judge_line m before l ls ∙ cond-false _ _ _ h ∙ cond-true _ _ _ e
 
 judge_open : (m : ℕ) (before : Settings) (l : Line) (ls : List Line) → ltb line_limit (counted l) ≡ false →
-    is_end l ≡ false → l.whole ≡ false → judge m before (pieces (l ∷ ls)) ≡ None
+    is_end l ≡ false → l.whole ≡ false → judge_params m before (param_pieces (l ∷ ls)) ≡ None
 judge_open m before l ls h e w = judge_line m before l ls ∙ cond-false _ _ _ h ∙ cond-false _ _ _ e
     ∙ cond-true _ _ _ (ap not w)
 
 judge_whole : (m : ℕ) (before : Settings) (l : Line) (ls : List Line) → ltb line_limit (counted l) ≡ false
     → is_end l ≡ false → l.whole ≡ true
-    → judge m before (pieces (l ∷ ls)) ≡ after l.number (line_means before (behind is_blank l.bytes))
-    (judge l.number (before ++ settings_of (line_means before (behind is_blank l.bytes))) (pieces ls))
+    → judge_params m before (param_pieces (l ∷ ls)) ≡ after l.number (line_means before (behind is_blank l.bytes))
+    (judge_params l.number (before ++ settings_of (line_means before (behind is_blank l.bytes))) (param_pieces ls))
 judge_whole m before l ls h e w = judge_line m before l ls ∙ cond-false _ _ _ h ∙ cond-false _ _ _ e
     ∙ cond-false _ _ _ (ap not w)
 
@@ -233,7 +235,7 @@ record EndsWith (pre y : List ℕ) (n : ℕ) (whole : Bool) : Type 0 where
   pub ends : is_end (record { number = n; bytes = pre ++ y; whole = whole }) ≡ true
   pub counts : ltb line_limit (counted (record { number = n; bytes = pre ++ y; whole = whole })) ≡ false
 
-eof_at : (pre y : List ℕ) (n : ℕ) (whole : Bool) → is_eof (behind is_blank pre) ≡ true → length pre ≤ line_limit →
+eof_at : (pre y : List ℕ) (n : ℕ) (whole : Bool) → spells_eof (behind is_blank pre) ≡ true → length pre ≤ line_limit →
     begins_no is_word_byte y ≡ true → (whole || not (is_empty y)) ≡ true → EndsWith pre y n whole
 eof_at pre y n whole k le solid w =
     let i = eof_word (behind is_blank pre) k in
@@ -244,7 +246,7 @@ eof_at pre y n whole k le solid w =
     let rest : behind_word (pre ++ y) ≡ y = ap (behind is_word_byte) on
     ∙ behind-all is_word_byte (behind is_blank pre) y i.word ∙ behind_none is_word_byte y solid in
     let ends : is_end (record { number = n; bytes = pre ++ y; whole = whole }) ≡ true =
-    and_from _ _ (ap is_eof word ∙ k) (ap (λ (z : List ℕ). whole || not (is_empty z)) rest ∙ w) in
+    and_from _ _ (ap spells_eof word ∙ k) (ap (λ (z : List ℕ). whole || not (is_empty z)) rest ∙ w) in
     let size : length (behind_word (pre ++ y)) ≡ length y = ap length rest in
     record {
       ends = ends;
@@ -253,29 +255,29 @@ eof_at pre y n whole k le solid w =
     }
 
 pub from_byte : (n : ℕ) (before : Settings) (pre : List ℕ) (e : Bool) (b : ℕ) (more : List ℕ) → eqb b LF ≡ false →
-    from_line n before pre e (b ∷ more) ≡ from_line n before (pre ++ b ∷ []) e more
-unfolding from_line
+    params_from_line n before pre e (b ∷ more) ≡ params_from_line n before (pre ++ b ∷ []) e more
+unfolding params_from_line
 from_byte n before pre e b more h =
-    ap (λ (ls : List Line). (judge n before (pieces (prepend pre ls)))) (lines-byte e n b more h)
-    ∙ ap (λ (ls : List Line). (judge n before (pieces ls))) (prepend-onto pre b (lines e n more))
+    ap (λ (ls : List Line). (judge_params n before (param_pieces (prepend pre ls)))) (lines-byte e n b more h)
+    ∙ ap (λ (ls : List Line). (judge_params n before (param_pieces ls))) (prepend-onto pre b (lines e n more))
 
 pub from_over : (n : ℕ) (before : Settings) (pre : List ℕ) (e : Bool) (more : List ℕ) → ends_in pre ≡ false →
     length pre ≡ suc line_limit →
-    from_line n before pre e more ≡ Some (Err (record { line = n; kind = kinds.TooLong }))
-unfolding from_line
+    params_from_line n before pre e more ≡ Some (Err (record { line = n; kind = kinds.TooLong }))
+unfolding params_from_line
 from_over n before pre e more none len =
     let f = first_line e n more in
-    ap (λ (ls : List Line). (judge n before (pieces (prepend pre ls)))) f.is
+    ap (λ (ls : List Line). (judge_params n before (param_pieces (prepend pre ls)))) f.is
     ∙ (judge_over n before _ f.rest (over pre none n f.bytes f.whole len))
 
 pub from_eof : (n : ℕ) (before : Settings) (pre : List ℕ) (e : Bool) (b : ℕ) (more : List ℕ) →
-    is_eof (behind is_blank pre) ≡ true → length pre ≤ line_limit → is_word_byte b ≡ false →
-    from_line n before pre e (b ∷ more) ≡ Some (at_end n before)
-unfolding from_line
+    spells_eof (behind is_blank pre) ≡ true → length pre ≤ line_limit → is_word_byte b ≡ false →
+    params_from_line n before pre e (b ∷ more) ≡ Some (answer_at_end n before)
+unfolding params_from_line
 from_eof n before pre e b more k le solid = by_test (eqb b LF) refl
   where
     by_test : (t : Bool) → eqb b LF ≡ t →
-        (judge n before (pieces (prepend pre (lines e n (b ∷ more))))) ≡ Some (at_end n before)
+        (judge_params n before (param_pieces (prepend pre (lines e n (b ∷ more))))) ≡ Some (answer_at_end n before)
     by_test true t =
         let is : b ≡ LF = eqb-true _ _ t in
         let i = eof_at pre [] n true k le refl refl in
@@ -289,40 +291,41 @@ from_eof n before pre e b more k le solid = by_test (eqb b LF) refl
         ((judge_end n before (record { number = n; bytes = pre ++ b ∷ f.bytes; whole = f.whole }) f.rest
         i.counts i.ends))
 
-pub from_end_eof : (n : ℕ) (before : Settings) (pre : List ℕ) → is_eof (behind is_blank pre) ≡ true →
-    length pre ≤ line_limit → from_line n before pre true [] ≡ Some (at_end n before)
-unfolding from_line lines
+pub from_end_eof : (n : ℕ) (before : Settings) (pre : List ℕ) → spells_eof (behind is_blank pre) ≡ true →
+    length pre ≤ line_limit → params_from_line n before pre true [] ≡ Some (answer_at_end n before)
+unfolding params_from_line lines
 from_end_eof n before pre k le = let i = eof_at pre [] n true k le refl refl in
     (judge_end n before (record { number = n; bytes = pre ++ []; whole = true }) [] i.counts i.ends)
 
 module _ (n : ℕ) (before : Settings) (pre : List ℕ) (none : ends_in pre ≡ false) (le : length pre ≤ line_limit) where
-  pub from_open : from_line n before pre false [] ≡ None
-  unfolding from_line lines
+  pub from_open : params_from_line n before pre false [] ≡ None
+  unfolding params_from_line lines
   from_open =
       rw (append-nil pre)
       ((judge_open n before (record { number = n; bytes = pre; whole = false }) []
       (counts_all (record { number = n; bytes = pre; whole = false }) none le) none refl))
 
-  module _ (other : is_eof (behind is_blank pre) ≡ false) where
+  module _ (other : spells_eof (behind is_blank pre) ≡ false) where
     line_ends : is_end (record { number = n; bytes = pre; whole = true }) ≡ false
     line_ends = and_left _ true (no_end pre none other)
 
-    at_line : (ls : List Line) → judge n before (pieces (record { number = n; bytes = pre; whole = true } ∷ ls)) ≡ after
+    at_line : (ls : List Line) →
+        judge_params n before (param_pieces (record { number = n; bytes = pre; whole = true } ∷ ls)) ≡ after
         n (line_means before (behind is_blank pre))
-        (judge n (before ++ settings_of (line_means before (behind is_blank pre))) (pieces ls))
+        (judge_params n (before ++ settings_of (line_means before (behind is_blank pre))) (param_pieces ls))
     at_line ls =
         judge_whole n before (record { number = n; bytes = pre; whole = true }) ls
         (counts_all (record { number = n; bytes = pre; whole = true }) line_ends le) line_ends refl
 
-    sound : (m : Meaning) (r : Option Answer) → IsSound m → after n m r ≡ r
+    sound : (m : Meaning) (r : Option Answer) → IsFaultless m → after n m r ≡ r
     sound Nothing r h = refl
     sound (Faulty kind) r h = absurd h
     sound (Sets key value) r h = refl
 
-    pub from_LF : (e : Bool) (more : List ℕ) → IsSound (line_means before (behind is_blank pre))
-        → from_line n before pre e (LF ∷ more) ≡ from_line (suc n)
+    pub from_LF : (e : Bool) (more : List ℕ) → IsFaultless (line_means before (behind is_blank pre))
+        → params_from_line n before pre e (LF ∷ more) ≡ params_from_line (suc n)
         (before ++ settings_of (line_means before (behind is_blank pre))) [] e more
-    unfolding from_line
+    unfolding params_from_line
     from_LF e more h =
         let b = before ++ settings_of (line_means before (behind is_blank pre)) in
         rw (lines-LF e n more, append-nil pre, prepend-nil (lines e (suc n) more))
@@ -330,21 +333,23 @@ module _ (n : ℕ) (before : Settings) (pre : List ℕ) (none : ends_in pre ≡ 
 
     pub from_LF_fault : (e : Bool) (more : List ℕ) (kind : ParamKind)
         → line_means before (behind is_blank pre) ≡ Faulty kind
-        → from_line n before pre e (LF ∷ more) ≡ Some (Err (record { line = n; kind = kind }))
-    unfolding from_line
+        → params_from_line n before pre e (LF ∷ more) ≡ Some (Err (record { line = n; kind = kind }))
+    unfolding params_from_line
     from_LF_fault e more kind h =
         rw (lines-LF e n more, append-nil pre) ((at_line (lines e (suc n) more))
-        ∙ ap (λ (m : Meaning). (after n m (judge n (before ++ settings_of m) (pieces (lines e (suc n) more))))) h)
+        ∙ ap
+        (λ (m : Meaning).
+        (after n m (judge_params n (before ++ settings_of m) (param_pieces (lines e (suc n) more))))) h)
 
-    pub from_end : IsSound (line_means before (behind is_blank pre)) →
-        from_line n before pre true [] ≡ Some
-        (at_end n (before ++ settings_of (line_means before (behind is_blank pre))))
-    unfolding from_line lines
+    pub from_end : IsFaultless (line_means before (behind is_blank pre)) →
+        params_from_line n before pre true [] ≡ Some
+        (answer_at_end n (before ++ settings_of (line_means before (behind is_blank pre))))
+    unfolding params_from_line lines
     from_end h = rw (append-nil pre) ((at_line [] ∙ sound _ _ h ∙ judge_none n _))
 
     pub from_end_fault : (kind : ParamKind) → line_means before (behind is_blank pre) ≡ Faulty kind →
-        from_line n before pre true [] ≡ Some (Err (record { line = n; kind = kind }))
-    unfolding from_line lines
+        params_from_line n before pre true [] ≡ Some (Err (record { line = n; kind = kind }))
+    unfolding params_from_line lines
     from_end_fault kind h =
         rw (append-nil pre) ((at_line [])
-        ∙ ap (λ (m : Meaning). (after n m (judge n (before ++ settings_of m) []))) h)
+        ∙ ap (λ (m : Meaning). (after n m (judge_params n (before ++ settings_of m) []))) h)

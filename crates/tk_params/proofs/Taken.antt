@@ -6,8 +6,8 @@ use Rattle.tk_params.specs.declared.key.Key.TheVariants as keys
 use Rattle.tk_params.specs.declared.value.Construction.TheVariants.{Nearest}
 use Rattle.tk_params.specs.Reader.Stored.{LosesOnly}
 use Rattle.tk_params.specs.Values.{Settings, look, same_key}
-use Rattle.tk_params.specs.Asked.{AreApart, AreSettings, AreWithinLimits, ParamsAre, asked, asked_of, file_in}
-use Rattle.tk_params.specs.Asked.{ignored_keys, number_in, switch_in, way_in}
+use Rattle.tk_params.specs.Asked.{HasEachKeyOnce, AreSettings, AreWithinLimits, ParamsAre, asked, asked_of, file_in}
+use Rattle.tk_params.specs.Asked.{ignored_keys, asked_number, switch_in, way_in}
 use Rattle.tk_params.proofs.Limits.{asked_within}
 
 -- the fields of parameters, as they are looked up in settings: s1 to s4 are what is left of them after each of the four
@@ -19,7 +19,7 @@ pub record AreLookedUp (ss : Settings) (p : ParamsAre) : Type 0 where
   pub s3 : Settings
   pub s4 : Settings
   pub limits : AreSettings ss
-  pub apart : AreApart ss
+  pub apart : HasEachKeyOnce ss
   pub start : s0 ≡ ss
   pub first : LosesOnly keys.ProblemFile s0 s1
   pub second : LosesOnly keys.TourFile s1 s2
@@ -29,13 +29,13 @@ pub record AreLookedUp (ss : Settings) (p : ParamsAre) : Type 0 where
   pub tour_file : p.tour_file ≡ file_in (look keys.TourFile s1)
   pub solution_file : p.solution_file ≡ file_in (look keys.SolutionFile s2)
   pub initial_tour_file : p.initial_tour_file ≡ file_in (look keys.InitialTourFile s3)
-  pub runs : p.runs ≡ unwrap_or (number_in (look keys.Runs s4)) 10
-  pub max_trials : p.max_trials ≡ number_in (look keys.MaxTrials s4)
-  pub seed : p.seed ≡ unwrap_or (number_in (look keys.Seed s4)) 1
-  pub max_candidates : p.max_candidates ≡ unwrap_or (number_in (look keys.MaxCandidates s4)) 5
+  pub runs : p.runs ≡ unwrap_or (asked_number (look keys.Runs s4)) 10
+  pub max_trials : p.max_trials ≡ asked_number (look keys.MaxTrials s4)
+  pub seed : p.seed ≡ unwrap_or (asked_number (look keys.Seed s4)) 1
+  pub max_candidates : p.max_candidates ≡ unwrap_or (asked_number (look keys.MaxCandidates s4)) 5
   pub construction : p.construction ≡ unwrap_or (way_in (look keys.Construction s4)) Nearest
   pub final_sweep : p.final_sweep ≡ unwrap_or (switch_in (look keys.FinalSweep s4)) false
-  pub or_segment : p.or_segment ≡ unwrap_or (number_in (look keys.OrSegment s4)) 3
+  pub or_segment : p.or_segment ≡ unwrap_or (asked_number (look keys.OrSegment s4)) 3
   pub unused : p.ignored ≡ ignored_keys ss
 
 module _ (ss : Settings) (p : ParamsAre) (l : AreLookedUp ss p) where
@@ -58,16 +58,17 @@ module _ (ss : Settings) (p : ParamsAre) (l : AreLookedUp ss p) where
       let initial = l.initial_tour_file
       ∙ ap file_in (l.third keys.InitialTourFile refl ∙ l.second keys.InitialTourFile refl
       ∙ l.first keys.InitialTourFile refl ∙ begun keys.InitialTourFile) in
-      let runs = l.runs ∙ ap (λ o. unwrap_or (number_in o) 10) (after_all keys.Runs refl refl refl refl) in
-      let trials = l.max_trials ∙ ap number_in (after_all keys.MaxTrials refl refl refl refl) in
-      let seed = l.seed ∙ ap (λ o. unwrap_or (number_in o) 1) (after_all keys.Seed refl refl refl refl) in
+      let runs = l.runs ∙ ap (λ o. unwrap_or (asked_number o) 10) (after_all keys.Runs refl refl refl refl) in
+      let trials = l.max_trials ∙ ap asked_number (after_all keys.MaxTrials refl refl refl refl) in
+      let seed = l.seed ∙ ap (λ o. unwrap_or (asked_number o) 1) (after_all keys.Seed refl refl refl refl) in
       let candidates = l.max_candidates
-      ∙ ap (λ o. unwrap_or (number_in o) 5) (after_all keys.MaxCandidates refl refl refl refl) in
+      ∙ ap (λ o. unwrap_or (asked_number o) 5) (after_all keys.MaxCandidates refl refl refl refl) in
       let construction = l.construction
       ∙ ap (λ o. unwrap_or (way_in o) Nearest) (after_all keys.Construction refl refl refl refl) in
       let sweep = l.final_sweep
       ∙ ap (λ o. unwrap_or (switch_in o) false) (after_all keys.FinalSweep refl refl refl refl) in
-      let segment = l.or_segment ∙ ap (λ o. unwrap_or (number_in o) 3) (after_all keys.OrSegment refl refl refl refl) in
+      let segment = l.or_segment
+      ∙ ap (λ o. unwrap_or (asked_number o) 3) (after_all keys.OrSegment refl refl refl refl) in
       rw (
         ← tour,
         ← solution,

@@ -13,8 +13,9 @@ use Rattle.tk_lines.proofs.Growing.{a_line, lines_grow}
 use Rattle.tk_lines.proofs.MiddleOfLine.{behind-more, front-more}
 use Rattle.tk_params.proofs.Steps.{judge_line, judge_none, over}
 use Rattle.tk_params.specs.declared.fault.ParamKind.TheVariants as kinds
-use Rattle.tk_params.specs.Params.{Answer, after, at_end, behind_word, counted, is_end, is_eof, judge, line_limit}
-use Rattle.tk_params.specs.Params.{params_decided, pieces, word_of}
+use Rattle.tk_params.specs.Params.{Answer, after, answer_at_end, behind_word, counted, is_end, spells_eof, judge_params}
+use Rattle.tk_params.specs.Params.{line_limit}
+use Rattle.tk_params.specs.Params.{params_decided, param_pieces, word_of}
 use Rattle.tk_params.specs.Reader.Places.{ends_in}
 use Rattle.tk_params.specs.Values.{Settings, Meaning, Nothing, Faulty, Sets, line_means, settings_of}
 
@@ -32,14 +33,15 @@ some_after n Nothing z h = h
 some_after n (Faulty kind) z h = refl
 some_after n (Sets key value) z h = h
 
-some_judged : (n : ℕ) (before : Settings) (ls : List Line) → AreWhole ls → IsSome (judge n before (pieces ls))
+some_judged : (n : ℕ) (before : Settings) (ls : List Line) → AreWhole ls →
+    IsSome (judge_params n before (param_pieces ls))
 some_judged n before [] h = rw (judge_none n before) refl
 some_judged n before (l ∷ ls) h =
     let means = line_means before (behind is_blank l.bytes) in
-    let rest = judge l.number (before ++ settings_of means) (pieces ls) in
+    let rest = judge_params l.number (before ++ settings_of means) (param_pieces ls) in
     subst IsSome (sym (judge_line n before l ls))
     (some_tests (ltb line_limit (counted l)) (is_end l) (not l.whole)
-    (Err (record { line = l.number; kind = kinds.TooLong })) (at_end l.number before)
+    (Err (record { line = l.number; kind = kinds.TooLong })) (answer_at_end l.number before)
     (after l.number means rest) (ap not h.0)
     (some_after l.number means rest (some_judged l.number (before ++ settings_of means) ls h.1)))
 
@@ -63,7 +65,7 @@ still_ends n bs x w h = by_held (behind is_blank bs) refl (behind_word bs) refl
     by_held : (held : List ℕ) → behind is_blank bs ≡ held → (r : List ℕ) → behind_word bs ≡ r → StillEnds n bs x w
     by_held [] e r f = absurd (
         let no_word : word_of bs ≡ [] = ap (front is_word_byte) e in
-        let j : false ≡ true = sym (ap is_eof no_word) ∙ (and_parts _ _ h).0 in cc)
+        let j : false ≡ true = sym (ap spells_eof no_word) ∙ (and_parts _ _ h).0 in cc)
     by_held (c ∷ cs) e [] f =
         absurd (let j : false ≡ true = sym (ap (λ (y : List ℕ). not (is_empty y)) f) ∙ (and_parts _ _ h).1 in cc)
     by_held (c ∷ cs) e (d ∷ ds) f =
@@ -74,7 +76,7 @@ still_ends n bs x w h = by_held (behind is_blank bs) refl (behind_word bs) refl
         let rest : behind_word (bs ++ x) ≡ (d ∷ ds) ++ x = ap (behind is_word_byte) on
         ∙ behind-more is_word_byte (c ∷ cs) x d ds past in
         let ends : is_end (a_line n (bs ++ x) w) ≡ true =
-        and_from _ _ (ap is_eof word ∙ (and_parts _ _ h).0) (ap (λ (y : List ℕ). w || not (is_empty y)) rest
+        and_from _ _ (ap spells_eof word ∙ (and_parts _ _ h).0) (ap (λ (y : List ℕ). w || not (is_empty y)) rest
         ∙ or_true w) in
         let size : length (bs ++ x) - length (behind_word (bs ++ x)) ≡ length bs - length (behind_word bs) =
         omega (arith, length-append bs x, length-append (d ∷ ds) x, ap length rest, ap length f) in
@@ -114,17 +116,17 @@ open_tests false c' true e' x y z' a p q h = absurd (let j : true ≡ false = q 
 open_tests false c' false e' x y z' a p q h = absurd (let j : None ≡ Some a = h in cc)
 
 last_stays : (m n : ℕ) (before : Settings) (bs x : List ℕ) (w : Bool) (rest : List Line) (a : Answer) →
-    judge m before (pieces (a_line n bs false ∷ [])) ≡ Some a →
-    judge m before (pieces (a_line n (bs ++ x) w ∷ rest)) ≡ Some a
+    judge_params m before (param_pieces (a_line n bs false ∷ [])) ≡ Some a →
+    judge_params m before (param_pieces (a_line n (bs ++ x) w ∷ rest)) ≡ Some a
 last_stays m n before bs x w rest a h = by_end (ends_in bs) refl
   where
-    by_end : (t : Bool) → ends_in bs ≡ t → judge m before (pieces (a_line n (bs ++ x) w ∷ rest)) ≡ Some a
+    by_end : (t : Bool) → ends_in bs ≡ t → judge_params m before (param_pieces (a_line n (bs ++ x) w ∷ rest)) ≡ Some a
     by_end true e =
         let s = still_ends n bs x w e in
         judge_line m before (a_line n (bs ++ x) w) rest
         ∙ ended_tests (ltb line_limit (counted (a_line n bs false))) (ltb line_limit (counted (a_line n (bs ++ x) w)))
         (is_end (a_line n bs false)) (is_end (a_line n (bs ++ x) w))
-        (Err (record { line = n; kind = kinds.TooLong })) (at_end n before) None _ a
+        (Err (record { line = n; kind = kinds.TooLong })) (answer_at_end n before) None _ a
         (ap (ltb line_limit) s.counts) e s.ends (sym (judge_line m before (a_line n bs false) []) ∙ h)
     by_end false e =
         let size : counted (a_line n bs false) ≡ length bs - 0 =
@@ -132,7 +134,7 @@ last_stays m n before bs x w rest a h = by_end (ends_in bs) refl
         judge_line m before (a_line n (bs ++ x) w) rest
         ∙ open_tests (ltb line_limit (counted (a_line n bs false))) (ltb line_limit (counted (a_line n (bs ++ x) w)))
         (is_end (a_line n bs false)) (is_end (a_line n (bs ++ x) w))
-        (Err (record { line = n; kind = kinds.TooLong })) (at_end n before) _ a
+        (Err (record { line = n; kind = kinds.TooLong })) (answer_at_end n before) _ a
         (λ t. still_over n bs x w e (omega (arith, ltb-true _ _ t, size))) e
         (sym (judge_line m before (a_line n bs false) []) ∙ h)
 
@@ -154,17 +156,18 @@ kept_after n (Sets key value) z z' a g h = g h
 
 module _ (n : ℕ) (bs x : List ℕ) (w : Bool) (rest : List Line) (a : Answer) where
   lines_stay : (front : List Line) (m : ℕ) (before : Settings) →
-      judge m before (pieces (front ++ a_line n bs false ∷ [])) ≡ Some a →
-      judge m before (pieces (front ++ a_line n (bs ++ x) w ∷ rest)) ≡ Some a
+      judge_params m before (param_pieces (front ++ a_line n bs false ∷ [])) ≡ Some a →
+      judge_params m before (param_pieces (front ++ a_line n (bs ++ x) w ∷ rest)) ≡ Some a
   lines_stay [] m before h = last_stays m n before bs x w rest a h
   lines_stay (l ∷ front) m before h =
       let means = line_means before (behind is_blank l.bytes) in
       let now = before ++ settings_of means in
-      let old = judge l.number now (pieces (front ++ a_line n bs false ∷ [])) in
-      let new = judge l.number now (pieces (front ++ a_line n (bs ++ x) w ∷ rest)) in
+      let old = judge_params l.number now (param_pieces (front ++ a_line n bs false ∷ [])) in
+      let new = judge_params l.number now (param_pieces (front ++ a_line n (bs ++ x) w ∷ rest)) in
       judge_line m before l (front ++ a_line n (bs ++ x) w ∷ rest)
       ∙ kept_tests (ltb line_limit (counted l)) (is_end l) (not l.whole)
-      (Err (record { line = l.number; kind = kinds.TooLong })) (at_end l.number before) (after l.number means old)
+      (Err (record { line = l.number; kind = kinds.TooLong })) (answer_at_end l.number before)
+      (after l.number means old)
       (after l.number means new) a
       (kept_after l.number means old new a (lines_stay front l.number now))
       (sym (judge_line m before l (front ++ a_line n bs false ∷ [])) ∙ h)

@@ -14,9 +14,9 @@ use Rattle.tk_params.specs.Asked.{ParamsAre}
 use Rattle.tk_params.specs.Keys.{key_of}
 use Rattle.tk_params.specs.Entries.{Entry, Blank, Wrong, entry_of, key_entry, value_behind, word_entry}
 use Rattle.tk_params.specs.Params.{params_texts}
-use Rattle.tk_params.specs.Reader.Lines.{IsToldOf}
-use Rattle.tk_params.specs.Values.{Settings, Value, Meaning, Faulty, has, has_dollar, key_means, line_means}
-use Rattle.tk_params.specs.Values.{means, sets, value_of}
+use Rattle.tk_params.specs.Reader.Lines.{IsToldKind}
+use Rattle.tk_params.specs.Values.{Settings, Value, Meaning, Faulty, has_key, has_dollar, key_means, line_means}
+use Rattle.tk_params.specs.Values.{means, sets, setting_value}
 
 abbrev IsOfText : ParamKind → Type 0
 IsOfText kinds.Read = ⊥
@@ -33,8 +33,8 @@ sets_of_text key (Some v) = tt
 
 key_of_text : (before : Settings) (key : Key) (bs : List ℕ) → OfMeaning (key_means before key bs)
 key_of_text before key bs =
-    cond_both (has key before) _ _ OfMeaning (λ e. tt)
-    (λ e. cond_both (has_dollar key bs) _ _ OfMeaning (λ d. tt) (λ d. sets_of_text key (value_of key bs)))
+    cond_both (has_key key before) _ _ OfMeaning (λ e. tt)
+    (λ e. cond_both (has_dollar key bs) _ _ OfMeaning (λ d. tt) (λ d. sets_of_text key (setting_value key bs)))
 
 entry_of_text : (before : Settings) (key : Option Key) (bs : List ℕ) → OfMeaning (means before (key_entry key bs))
 entry_of_text before None bs = tt
@@ -64,12 +64,12 @@ line_of_text before (b ∷ bs) =
 -- the fault of a line, told of an answer
 pub told_line : (before : Settings) (held : List ℕ) (f : ParamFault) (line : ℕ)
     (P : Result ParamsAre ParamFault → Type 0) → f.line ≡ line →
-    IsToldOf (λ k. line_means before held ≡ Faulty k) f.kind →
+    IsToldKind (λ k. line_means before held ≡ Faulty k) f.kind →
     ((k : ParamKind) → line_means before held ≡ Faulty k → P (Err (record { line = line; kind = k }))) →
     IsTold params_texts P f
 told_line before held f line P is told go = by_kind f.kind told
   where
-    by_kind : (k : ParamKind) → IsToldOf (λ k. line_means before held ≡ Faulty k) k →
+    by_kind : (k : ParamKind) → IsToldKind (λ k. line_means before held ≡ Faulty k) k →
         IsTold params_texts P (record { line = f.line; kind = k })
     by_kind kinds.NoMemory t = tt
     by_kind kinds.Read t = absurd (subst OfMeaning t (line_of_text before held))

@@ -31,9 +31,9 @@ abbrev pub file_in : Option Value → Option (List ℕ)
 file_in (Some (File name)) = Some name
 file_in _ = None
 
-abbrev pub number_in : Option Value → Option ℕ
-number_in (Some (Number n)) = Some n
-number_in _ = None
+abbrev pub asked_number : Option Value → Option ℕ
+asked_number (Some (Number n)) = Some n
+asked_number _ = None
 
 abbrev pub way_in : Option Value → Option Construction
 way_in (Some (Way way)) = Some way
@@ -60,13 +60,13 @@ asked_of problem ss =
       tour_file = file_in (look keys.TourFile ss);
       solution_file = file_in (look keys.SolutionFile ss);
       initial_tour_file = file_in (look keys.InitialTourFile ss);
-      runs = unwrap_or (number_in (look keys.Runs ss)) 10;
-      max_trials = number_in (look keys.MaxTrials ss);
-      seed = unwrap_or (number_in (look keys.Seed ss)) 1;
-      max_candidates = unwrap_or (number_in (look keys.MaxCandidates ss)) 5;
+      runs = unwrap_or (asked_number (look keys.Runs ss)) 10;
+      max_trials = asked_number (look keys.MaxTrials ss);
+      seed = unwrap_or (asked_number (look keys.Seed ss)) 1;
+      max_candidates = unwrap_or (asked_number (look keys.MaxCandidates ss)) 5;
       construction = unwrap_or (way_in (look keys.Construction ss)) Nearest;
       final_sweep = unwrap_or (switch_in (look keys.FinalSweep ss)) false;
-      or_segment = unwrap_or (number_in (look keys.OrSegment ss)) 3;
+      or_segment = unwrap_or (asked_number (look keys.OrSegment ss)) 3;
       ignored = ignored_keys ss;
     }
 
@@ -81,22 +81,22 @@ pub record IsFileName (name : List ℕ) : Type 0 where
   pub some : name ≢ []
   pub no_dollar : All (λ b. b ≢ 36) name
 
-pub record IsWithin (low high n : ℕ) : Type 0 where
+pub record IsInLimits (low high n : ℕ) : Type 0 where
   pub least : low ≤ n
   pub greatest : n ≤ high
 
 -- what a key may say
 abbrev pub IsSetting : Key → Value → Type 0
 IsSetting key (File name) = IsFileName name
-IsSetting key (Number n) = IsWithin (least key) (greatest key) n
+IsSetting key (Number n) = IsInLimits (least key) (greatest key) n
 IsSetting key _ = Unit {0}
 
 abbrev pub AreSettings : Settings → Type 0
 AreSettings ss = All (λ s. IsSetting s.0 s.1) ss
 
 -- each key stands at most once
-abbrev pub AreApart : Settings → Type 0
-AreApart ss = IsDistinct same_key (keys_of ss)
+abbrev pub HasEachKeyOnce : Settings → Type 0
+HasEachKeyOnce ss = IsDistinct same_key (keys_of ss)
 
 -- parameters within the limits of their keys, with at most as many ignored keys as there are keys
 pub record AreWithinLimits (p : ParamsAre) : Type 0 where
@@ -104,9 +104,9 @@ pub record AreWithinLimits (p : ParamsAre) : Type 0 where
   pub tour_file : IfSome p.tour_file IsFileName
   pub solution_file : IfSome p.solution_file IsFileName
   pub initial_tour_file : IfSome p.initial_tour_file IsFileName
-  pub runs : IsWithin 1 10000 p.runs
-  pub max_trials : IfSome p.max_trials (IsWithin 1 1000000)
-  pub seed : IsWithin 0 4294967295 p.seed
-  pub max_candidates : IsWithin 1 CANDIDATE_LIMIT p.max_candidates
-  pub or_segment : IsWithin 1 3 p.or_segment
+  pub runs : IsInLimits 1 10000 p.runs
+  pub max_trials : IfSome p.max_trials (IsInLimits 1 1000000)
+  pub seed : IsInLimits 0 4294967295 p.seed
+  pub max_candidates : IsInLimits 1 CANDIDATE_LIMIT p.max_candidates
+  pub or_segment : IsInLimits 1 3 p.or_segment
   pub few_ignored : length p.ignored ≤ length all_keys

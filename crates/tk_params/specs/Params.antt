@@ -30,19 +30,19 @@ word_of bs = front is_word_byte (behind is_blank bs)
 abbrev pub behind_word : List ℕ → List ℕ
 behind_word bs = behind is_word_byte (behind is_blank bs)
 
-abbrev pub is_eof : List ℕ → Bool
-is_eof word = spells word (codes "EOF")
+abbrev pub spells_eof : List ℕ → Bool
+spells_eof word = spells word (codes "EOF")
 
 -- at this line the text ends, whatever follows
 abbrev pub is_end : Line → Bool
-is_end l = is_eof (word_of l.bytes) && (l.whole || not (is_empty (behind_word l.bytes)))
+is_end l = spells_eof (word_of l.bytes) && (l.whole || not (is_empty (behind_word l.bytes)))
 
 -- the bytes of a line that count: of the line of EOF those up to the end of EOF
 abbrev pub counted : Line → ℕ
 counted l = length l.bytes - (if is_end l then length (behind_word l.bytes) else 0)
 
-abbrev pub at_end : ℕ → Settings → Answer
-at_end n before = ok_or (asked before) (record { line = n; kind = kinds.MissingProblem })
+abbrev pub answer_at_end : ℕ → Settings → Answer
+answer_at_end n before = ok_or (asked before) (record { line = n; kind = kinds.MissingProblem })
 
 abbrev pub after : ℕ → Meaning → Option Answer → Option Answer
 after n (Faulty kind) rest = Some (Err (record { line = n; kind = kind }))
@@ -55,35 +55,35 @@ pub data Piece : Type 0 where
   Open : Piece
   Holds : (line : ℕ) (entry : Entry) → Piece
 
-abbrev pub piece_of : Line → Piece
-piece_of l =
+abbrev pub param_piece_of : Line → Piece
+param_piece_of l =
     if nat_lt line_limit (counted l) then LongLine l.number
     else (if is_end l then End l.number
     else (if not l.whole then Open
     else Holds l.number (entry_of (behind is_blank l.bytes))))
 
-abbrev pub pieces : List Line → List Piece
-pieces ls = map piece_of ls
+abbrev pub param_pieces : List Line → List Piece
+param_pieces ls = map param_piece_of ls
 
 -- what pieces say after these settings, of which the last before them stands on line n; None where later bytes decide
-unfoldable pub judge : ℕ → Settings → List Piece → Option Answer
-judge n before [] = Some (at_end n before)
-judge n before (LongLine line ∷ ps) = Some (Err (record { line = line; kind = kinds.TooLong }))
-judge n before (End line ∷ ps) = Some (at_end line before)
-judge n before (Open ∷ ps) = None
-judge n before (Holds line entry ∷ ps) =
+unfoldable pub judge_params : ℕ → Settings → List Piece → Option Answer
+judge_params n before [] = Some (answer_at_end n before)
+judge_params n before (LongLine line ∷ ps) = Some (Err (record { line = line; kind = kinds.TooLong }))
+judge_params n before (End line ∷ ps) = Some (answer_at_end line before)
+judge_params n before (Open ∷ ps) = None
+judge_params n before (Holds line entry ∷ ps) =
     let meaning = means before entry in
-    after line meaning (judge line (before ++ settings_of meaning) ps)
+    after line meaning (judge_params line (before ++ settings_of meaning) ps)
 
 -- what bytes say, as a text that begins with them
 unfoldable pub params_decided : Decided ParamsAre ParamFault
-params_decided ended bs = judge 1 [] (pieces (lines ended 1 bs))
+params_decided ended bs = judge_params 1 [] (param_pieces (lines ended 1 bs))
 
 -- what a fault is of
-abbrev pub cause_of : ParamKind → Cause
-cause_of kinds.NoMemory = OfMemory
-cause_of kinds.Read = OfSource
-cause_of _ = OfText
+abbrev pub param_cause_of : ParamKind → Cause
+param_cause_of kinds.NoMemory = OfMemory
+param_cause_of kinds.Read = OfSource
+param_cause_of _ = OfText
 
 -- parameter texts
 abbrev pub params_texts : Texts ParamsAre ParamFault
@@ -92,7 +92,7 @@ params_texts =
       decided = params_decided;
       limit = params_limit;
       too_long = λ n. record { line = n; kind = kinds.TooLong };
-      cause = λ f. cause_of f.kind;
+      cause = λ f. param_cause_of f.kind;
       line_of = λ f. f.line;
     }
 

@@ -14,7 +14,7 @@ use Rattle.tk_params.specs.declared.value.Construction.{Construction}
 use Rattle.tk_params.specs.declared.value.Construction.TheVariants.{Nearest, Savings}
 use Rattle.tk_params.specs.declared.fault.ParamKind.{ParamKind}
 use Rattle.tk_params.specs.declared.fault.ParamKind.TheVariants as kinds
-use Rattle.tk_params.specs.Keys.{code, is_file}
+use Rattle.tk_params.specs.Keys.{key_code, is_file}
 use Rattle.tk_params.specs.Entries.{Entry, Blank, Wrong, Says, entry_of}
 
 -- what a key says
@@ -30,14 +30,14 @@ abbrev pub Settings : Type 0
 Settings = List (Key × Value)
 
 abbrev pub same_key : Key → Key → Bool
-same_key a b = code a == code b
+same_key a b = key_code a == key_code b
 
 -- what the key says
 abbrev pub look : Key → Settings → Option Value
 look key ss = lookup (same_key key) ss
 
-abbrev pub has : Key → Settings → Bool
-has key ss = is_some (look key ss)
+abbrev pub has_key : Key → Settings → Bool
+has_key key ss = is_some (look key ss)
 
 -- ---- values
 
@@ -59,8 +59,8 @@ abbrev pub number_within : ℕ → ℕ → List ℕ → Option ℕ
 number_within low high bs = if in_range low high (integer bs) then Some (natural_or_zero (integer bs)) else None
 
 -- a number that a key may have
-abbrev pub number_of : Key → List ℕ → Option Value
-number_of key bs = option_map Number (number_within (least key) (greatest key) bs)
+abbrev pub number_value : Key → List ℕ → Option Value
+number_value key bs = option_map Number (number_within (least key) (greatest key) bs)
 
 abbrev pub construction_of : List ℕ → Option Construction
 construction_of bs =
@@ -74,21 +74,21 @@ abbrev pub file_of : List ℕ → Option Value
 file_of bs = if is_empty bs || not (is_utf8 bs) then None else Some (File bs)
 
 -- what a key with this value says
-abbrev pub value_of : Key → List ℕ → Option Value
-value_of keys.Runs bs = number_of keys.Runs bs
-value_of keys.MaxTrials bs = number_of keys.MaxTrials bs
-value_of keys.Seed bs = number_of keys.Seed bs
-value_of keys.MaxCandidates bs = number_of keys.MaxCandidates bs
-value_of keys.OrSegment bs = number_of keys.OrSegment bs
-value_of keys.Construction bs = option_map Way (construction_of bs)
-value_of keys.FinalSweep bs = option_map Switch (switch_of bs)
-value_of keys.MoveType bs = Some Ignored
-value_of keys.PatchingA bs = Some Ignored
-value_of keys.PatchingC bs = Some Ignored
-value_of keys.Precision bs = Some Ignored
-value_of keys.TraceLevel bs = Some Ignored
-value_of keys.Optimum bs = Some Ignored
-value_of _ bs = file_of bs
+abbrev pub setting_value : Key → List ℕ → Option Value
+setting_value keys.Runs bs = number_value keys.Runs bs
+setting_value keys.MaxTrials bs = number_value keys.MaxTrials bs
+setting_value keys.Seed bs = number_value keys.Seed bs
+setting_value keys.MaxCandidates bs = number_value keys.MaxCandidates bs
+setting_value keys.OrSegment bs = number_value keys.OrSegment bs
+setting_value keys.Construction bs = option_map Way (construction_of bs)
+setting_value keys.FinalSweep bs = option_map Switch (switch_of bs)
+setting_value keys.MoveType bs = Some Ignored
+setting_value keys.PatchingA bs = Some Ignored
+setting_value keys.PatchingC bs = Some Ignored
+setting_value keys.Precision bs = Some Ignored
+setting_value keys.TraceLevel bs = Some Ignored
+setting_value keys.Optimum bs = Some Ignored
+setting_value _ bs = file_of bs
 
 -- ---- entries
 
@@ -114,9 +114,9 @@ has_dollar key bs = is_file key && list_any (λ b. b == 36) bs
 -- a key with its value, after these settings
 abbrev pub key_means : Settings → Key → List ℕ → Meaning
 key_means before key bs =
-    if has key before then Faulty kinds.RepeatedKey
+    if has_key key before then Faulty kinds.RepeatedKey
     else (if has_dollar key bs then Faulty kinds.DollarInName
-    else sets key (value_of key bs))
+    else sets key (setting_value key bs))
 
 -- an entry, after these settings
 abbrev pub means : Settings → Entry → Meaning

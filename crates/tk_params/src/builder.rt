@@ -1,7 +1,7 @@
 //! Parameters that are given key by key.
 ghost use Rattle.std.specs.Prelude.{◌≡◌, [], OnErr, OnOk, IfErr};
 ghost use Rattle.tk_params.specs.Asked.{asked};
-ghost use Rattle.tk_params.specs.Reader.Lines.{HasTaken, IsToldOf};
+ghost use Rattle.tk_params.specs.Reader.Lines.{HasTakenLine, IsToldKind};
 ghost use Rattle.tk_params.specs.Values;
 
 use crate::fault::ParamKind;
@@ -43,8 +43,8 @@ impl ParamsBuilder {
     /// # Errors
     /// `RepeatedKey`, `DollarInName` or `BadValue`, as for a line of a parameter file, or `NoMemory`.
     pub fn set(&mut self, key: Key, value: &[u8]) -> Result<(), ParamKind>
-        ensures ok { OnOk result (HasTaken self.old self.new (Values.key_means self.old key value.now)) }
-        ensures err { IfErr result (IsToldOf (λ k. Values.key_means self.old key value.now ≡ Values.Faulty k)) }
+        ensures ok { OnOk result (HasTakenLine self.old self.new (Values.key_means self.old key value.now)) }
+        ensures err { IfErr result (IsToldKind (λ k. Values.key_means self.old key value.now ≡ Values.Faulty k)) }
         ensures kept { OnErr result (self.new ≡ self.old) }
     {
         take_key(self.alloc, &mut self.settings, key, value)

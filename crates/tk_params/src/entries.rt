@@ -1,7 +1,7 @@
 //! Keys with what they say, in a map that keeps their order.
 ghost use Rattle.std.specs.Prelude.{◌≡◌, ◌++◌, ◌∷◌, [], false, OnErr, OnOk, option_map};
 ghost use Rattle.std.specs.String.{string_bytes};
-ghost use Rattle.tk_params.specs.Asked.{file_in, number_in, switch_in, way_in};
+ghost use Rattle.tk_params.specs.Asked.{file_in, asked_number, switch_in, way_in};
 ghost use Rattle.tk_params.specs.Reader.Stored.{LosesOnly, settings_in, value_is};
 ghost use Rattle.tk_params.specs.Values;
 
@@ -25,7 +25,7 @@ pub fn stored(entries: &Entries, key: Key) -> Option<&Setting>
 /// # Errors
 /// `AllocError` if there is no memory for one more key.
 pub fn append(entries: &mut Entries, key: Key, setting: Setting) -> Result<(), AllocError>
-    requires { Values.has key (settings_in entries.old) ≡ false }
+    requires { Values.has_key key (settings_in entries.old) ≡ false }
     ensures ok { OnOk result (settings_in entries.new ≡ settings_in entries.old ++ (key, value_is setting) ∷ []) }
     ensures err { OnErr result (settings_in entries.new ≡ settings_in entries.old) }
 {
@@ -56,7 +56,7 @@ pub fn take_file(entries: &mut Entries, key: Key) -> Option<String>
 
 /// The number of a key.
 pub fn number(entries: &Entries, key: Key) -> Option<u32>
-    ensures { result ≡ number_in (Values.look key (settings_in entries.now)) }
+    ensures { result ≡ asked_number (Values.look key (settings_in entries.now)) }
 {
     match stored(entries, key) {
         Some(Setting::Number(number)) => Some(*number),

@@ -51,7 +51,7 @@ const KEYS: [Key; 17] = [
 impl Key {
     /// The word of the key, in capitals.
     pub fn word(self) -> &'static str
-        ensures { result.now ≡ Keys.word self }
+        ensures { result.now ≡ Keys.key_word self }
     {
         match self {
             Key::ProblemFile => "PROBLEM_FILE",
@@ -87,7 +87,7 @@ impl Key {
 
 /// The key as parameter files write it.
 impl fmt::Display for Key {
-    ghost output = { λ key. Some (Keys.word key) };
+    ghost output = { λ key. Some (Keys.key_word key) };
 
     fn fmt<W: fmt::Write>(&self, f: &mut fmt::Formatter<W>) -> fmt::Result {
         f.write_str(self.word())
@@ -96,7 +96,7 @@ impl fmt::Display for Key {
 
 /// A law: the word of a key spells that key.
 pub fn each_word_spells_its_key()
-    ensures { (key : Key) → Keys.key_of (Keys.word key) ≡ Some key }
+    ensures { (key : Key) → Keys.key_of (Keys.key_word key) ≡ Some key }
 {}
 
 /// The key that a word spells, without regard to case.

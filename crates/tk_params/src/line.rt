@@ -1,7 +1,7 @@
 //! A line of a parameter file.
-ghost use Rattle.std.specs.Prelude.{◌≡◌, ◌≤◌, List, length, take, drop, OnErr, OnOk, IfErr};
+ghost use Rattle.std.specs.Prelude.{◌≡◌, ◌≤◌, length, take, drop, OnErr, OnOk, IfErr};
 ghost use Rattle.tk_words.specs.Lex.{behind, front, is_blank, is_word_byte, trim_end};
-ghost use Rattle.tk_params.specs.Reader.Lines.{HasTaken, IsToldOf};
+ghost use Rattle.tk_params.specs.Reader.Lines.{HasTakenLine, IsToldKind};
 ghost use Rattle.tk_params.specs.Entries;
 ghost use Rattle.tk_params.specs.Values;
 
@@ -79,8 +79,8 @@ pub fn take_key(
     key: Key,
     value: &[u8],
 ) -> Result<(), ParamKind>
-    ensures ok { OnOk result (HasTaken settings.old settings.new (Values.key_means settings.old key value.now)) }
-    ensures err { IfErr result (IsToldOf (λ k. Values.key_means settings.old key value.now ≡ Values.Faulty k)) }
+    ensures ok { OnOk result (HasTakenLine settings.old settings.new (Values.key_means settings.old key value.now)) }
+    ensures err { IfErr result (IsToldKind (λ k. Values.key_means settings.old key value.now ≡ Values.Faulty k)) }
     ensures kept { OnErr result (settings.new ≡ settings.old) }
 {
     if settings.has(key) {
@@ -104,9 +104,9 @@ fn take_words(
     word: &[u8],
     rest: &[u8],
 ) -> Result<(), ParamKind>
-    ensures ok { OnOk result (HasTaken settings.old settings.new
+    ensures ok { OnOk result (HasTakenLine settings.old settings.new
         (Values.means settings.old (Entries.word_entry word.now rest.now))) }
-    ensures err { IfErr result (IsToldOf (λ k. Values.means settings.old (Entries.word_entry word.now rest.now)
+    ensures err { IfErr result (IsToldKind (λ k. Values.means settings.old (Entries.word_entry word.now rest.now)
         ≡ Values.Faulty k)) }
 {
     if word.len() > KEY_LIMIT {
@@ -128,8 +128,8 @@ fn take_words(
 /// the faults of `setting_of`.
 #[tactic(auto, unfolding(crate::specs::Entries::entry_of))]
 pub fn take_line(alloc: Global, settings: &mut Settings, line: &[u8]) -> Result<(), ParamKind>
-    ensures ok { OnOk result (HasTaken settings.old settings.new (Values.line_means settings.old line.now)) }
-    ensures err { IfErr result (IsToldOf (λ k. Values.line_means settings.old line.now ≡ Values.Faulty k)) }
+    ensures ok { OnOk result (HasTakenLine settings.old settings.new (Values.line_means settings.old line.now)) }
+    ensures err { IfErr result (IsToldKind (λ k. Values.line_means settings.old line.now ≡ Values.Faulty k)) }
 {
     if line.is_empty() {
         return Ok(());

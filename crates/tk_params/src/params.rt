@@ -2,7 +2,7 @@
 ghost use Rattle.std.specs.Prelude.{◌≡◌, ◌≤◌, IfSome, length, option_map};
 ghost use Rattle.tk_problem.specs.declared.limits.TheConstants.{CANDIDATE_LIMIT};
 ghost use Rattle.tk_params.specs.Keys.{all_keys};
-ghost use Rattle.tk_params.specs.Asked.{IsFileName, IsWithin, asked};
+ghost use Rattle.tk_params.specs.Asked.{IsFileName, IsInLimits, asked};
 
 use crate::entries::{number, switch, take_file, way};
 use crate::key::Key;
@@ -98,7 +98,7 @@ impl Params {
     /// How many runs there are, 1 to 10,000; 10 by default.
     pub fn runs(&self) -> u32
         ensures value { result ≡ self.now.runs }
-        ensures limits { IsWithin 1 10000 result }
+        ensures limits { IsInLimits 1 10000 result }
     {
         self.runs
     }
@@ -106,7 +106,7 @@ impl Params {
     /// How many trials a run has, 1 to 1,000,000; `None`, the default, stands for as many as there are cities.
     pub fn max_trials(&self) -> Option<u32>
         ensures value { result ≡ self.now.max_trials }
-        ensures limits { IfSome result (IsWithin 1 1000000) }
+        ensures limits { IfSome result (IsInLimits 1 1000000) }
     {
         self.max_trials
     }
@@ -114,7 +114,7 @@ impl Params {
     /// What the random numbers begin with; 1 by default.
     pub fn seed(&self) -> u32
         ensures value { result ≡ self.now.seed }
-        ensures limits { IsWithin 0 4294967295 result }
+        ensures limits { IsInLimits 0 4294967295 result }
     {
         self.seed
     }
@@ -122,7 +122,7 @@ impl Params {
     /// How many near cities of each city are tried, 1 to 100; 5 by default.
     pub fn max_candidates(&self) -> u32
         ensures value { result ≡ self.now.max_candidates }
-        ensures limits { IsWithin 1 CANDIDATE_LIMIT result }
+        ensures limits { IsInLimits 1 CANDIDATE_LIMIT result }
     {
         self.max_candidates
     }
@@ -144,7 +144,7 @@ impl Params {
     /// The most cities of a segment that is moved, 1 to 3; 3 by default.
     pub fn or_segment(&self) -> u32
         ensures value { result ≡ self.now.or_segment }
-        ensures limits { IsWithin 1 3 result }
+        ensures limits { IsInLimits 1 3 result }
     {
         self.or_segment
     }

@@ -4,8 +4,8 @@ ghost use Rattle.std.specs.Prelude.{IfErr, OnOk};
 ghost use Rattle.tk_words.specs.Lex.{behind, is_blank, is_word_byte};
 ghost use Rattle.tk_words.specs.Texts.{IsAnswerWhereTold, IsFaultWhereTold, IsOfSomeText, IsFaultOfSomeText, IsIntact};
 ghost use Rattle.tk_params.specs.Asked.{ParamsAre};
-ghost use Rattle.tk_params.specs.Reader.Places.{Feeds, HasRead, IsComplete, TakesLine, Waits, params_in};
-ghost use Rattle.tk_params.specs.Params.{at_end, is_eof, params_texts};
+ghost use Rattle.tk_params.specs.Reader.Places.{Feeds, HasReadByte, NamesProblem, TakesLine, ParamsWait, params_in};
+ghost use Rattle.tk_params.specs.Params.{answer_at_end, spells_eof, params_texts};
 
 use crate::fault::{ParamFault, ParamKind};
 use crate::key::Key;
@@ -51,7 +51,7 @@ fn hold(held: &mut Vec<u8>, byte: u8) -> Result<(), AllocError>
 impl ParamReader {
     /// Has taken nothing.
     pub fn new(alloc: Global) -> Self
-        ensures { Waits result [] }
+        ensures { ParamsWait result [] }
     {
         ParamReader {
             alloc,
@@ -85,8 +85,8 @@ impl ParamReader {
     /// Takes the end of a line.
     fn end_line(&mut self) -> Result<Step, ParamFault>
         requires room { self.old.line ≤ 2 ^ 63 }
-        requires line { is_eof self.old.held.items ≡ false }
-        ensures { (before : List ℕ) → Feeds self.old before → HasRead self.new (before ++ 10 ∷ []) result }
+        requires line { spells_eof self.old.held.items ≡ false }
+        ensures { (before : List ℕ) → Feeds self.old before → HasReadByte self.new (before ++ 10 ∷ []) result }
     {
         self.take_held()?;
         self.line += 1;
@@ -98,9 +98,9 @@ impl ParamReader {
     /// Takes a byte of a line.
     fn keep(&mut self, byte: u8) -> Result<Step, ParamFault>
         requires line { byte ≢ 10 }
-        requires end { is_eof self.old.held.items ≡ true → is_word_byte byte ≡ true }
+        requires end { spells_eof self.old.held.items ≡ true → is_word_byte byte ≡ true }
         requires known { (before : List ℕ) × Feeds self.old before }
-        ensures { (before : List ℕ) → Feeds self.old before → HasRead self.new (before ++ byte ∷ []) result }
+        ensures { (before : List ℕ) → Feeds self.old before → HasReadByte self.new (before ++ byte ∷ []) result }
     {
         if self.count == LINE_LIMIT {
             return Err(self.fault(ParamKind::TooLong));
@@ -121,7 +121,7 @@ impl ParamReader {
     fn feed_byte(&mut self, byte: u8) -> Result<Step, ParamFault>
         requires room { self.old.line ≤ 2 ^ 63 }
         requires known { (before : List ℕ) × Feeds self.old before }
-        ensures { (before : List ℕ) → Feeds self.old before → HasRead self.new (before ++ byte ∷ []) result }
+        ensures { (before : List ℕ) → Feeds self.old before → HasReadByte self.new (before ++ byte ∷ []) result }
     {
         if !word_byte(byte) && spelled(&self.held, b"EOF") {
             if !self.settings.names(Key::ProblemFile) {
@@ -137,7 +137,7 @@ impl ParamReader {
 
     /// What the settings ask for, at the end of the text.
     fn answer(self) -> Result<Params, ParamFault>
-        ensures { result ≡ at_end self.line self.settings }
+        ensures { result ≡ answer_at_end self.line self.settings }
     {
         Params::from_settings(self.settings).ok_or(ParamFault {
             line: self.line,
@@ -157,11 +157,11 @@ impl TextReader for ParamReader {
 
     ghost texts = { params_texts };
 
-    ghost fed = { Waits };
+    ghost fed = { ParamsWait };
 
     ghost held = { params_in };
 
-    ghost complete = { IsComplete };
+    ghost complete = { NamesProblem };
 
     ghost too_long_told = { λ line. refl };
 
@@ -182,6 +182,10 @@ impl TextReader for ParamReader {
 
     fn value(self) -> Params {
         Params::from_settings(self.settings).unwrap()
+    }
+
+    fn limit(&self) -> u64 {
+        PARAMS_LIMIT
     }
 
     fn too_long(&self) -> ParamFault {
@@ -208,5 +212,5 @@ pub fn read_params<R: Source>(alloc: Global, source: &mut R) -> Result<Params, P
     ensures some_fault { IfErr result (IsFaultOfSomeText params_texts) }
     ensures intact { IsIntact params_texts (R.broken source.old) (R.broken source.new) result }
 {
-    read_text(source, ParamReader::new(alloc), PARAMS_LIMIT)
+    read_text(source, ParamReader::new(alloc))
 }

@@ -1,6 +1,6 @@
 //! What the lines of a parameter file have said so far.
 ghost use Rattle.std.specs.Prelude.{◌≡◌, ◌++◌, ◌∷◌, [], false, OnErr, OnOk, is_some};
-ghost use Rattle.tk_params.specs.Asked.{AreApart, AreSettings, IsSetting, file_in, ignored_keys};
+ghost use Rattle.tk_params.specs.Asked.{HasEachKeyOnce, AreSettings, IsSetting, file_in, ignored_keys};
 ghost use Rattle.tk_params.specs.Reader.Stored.{settings_in, value_is};
 ghost use Rattle.tk_params.specs.Values;
 
@@ -42,7 +42,7 @@ impl Settings {
 
     /// Whether the key is there.
     pub fn has(&self, key: Key) -> bool
-        ensures { result ≡ Values.has key self.now }
+        ensures { result ≡ Values.has_key key self.now }
     {
         stored(&self.entries, key).is_some()
     }
@@ -59,7 +59,7 @@ impl Settings {
     /// # Errors
     /// `AllocError` if there is no memory for one more key.
     pub fn set(&mut self, key: Key, setting: Setting) -> Result<(), AllocError>
-        requires fresh { Values.has key self.old ≡ false }
+        requires fresh { Values.has_key key self.old ≡ false }
         requires limits { IsSetting key (value_is setting) }
         ensures ok { OnOk result (self.new ≡ self.old ++ (key, value_is setting) ∷ []) }
         ensures err { OnErr result (self.new ≡ self.old) }
@@ -83,7 +83,7 @@ impl Settings {
         ensures settings { settings_in result.0 ≡ self }
         ensures ignored { result.1.items ≡ ignored_keys self }
         ensures limits { AreSettings self }
-        ensures apart { AreApart self }
+        ensures apart { HasEachKeyOnce self }
     {
         (self.entries, self.ignored)
     }

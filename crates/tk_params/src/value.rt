@@ -3,7 +3,7 @@ ghost use Rattle.std.specs.Prelude.{◌≡◌, false, Some, None, IfOk, IfErr, o
 ghost use Rattle.tk_params.specs.Keys;
 ghost use Rattle.tk_params.specs.declared.fault.ParamKind.TheVariants as kinds;
 ghost use Rattle.tk_params.specs.Asked.{is_ignored};
-ghost use Rattle.tk_params.specs.Reader.Lines.{IsToldOf};
+ghost use Rattle.tk_params.specs.Reader.Lines.{IsToldKind};
 ghost use Rattle.tk_params.specs.Reader.Stored.{value_is};
 ghost use Rattle.tk_params.specs.Values;
 
@@ -84,7 +84,7 @@ fn switch_of(value: &[u8]) -> Option<bool>
 /// The value as a file name.
 fn file_of(alloc: Global, value: &[u8]) -> Result<Setting, ParamKind>
     ensures ok { IfOk result (λ s. Values.file_of value.now ≡ Some (value_is s)) }
-    ensures err { IfErr result (IsToldOf (λ k. (k ≡ kinds.BadValue) × (Values.file_of value.now ≡ None))) }
+    ensures err { IfErr result (IsToldKind (λ k. (k ≡ kinds.BadValue) × (Values.file_of value.now ≡ None))) }
 {
     if value.is_empty() {
         return Err(ParamKind::BadValue);
@@ -108,7 +108,7 @@ fn numeric(value: &[u8], low: u32, high: u32) -> Option<Setting>
 /// What a key says that is no file.
 fn plain_of(key: Key, value: &[u8]) -> Option<Setting>
     requires { Keys.is_file key ≡ false }
-    ensures { option_map value_is result ≡ Values.value_of key value.now }
+    ensures { option_map value_is result ≡ Values.setting_value key value.now }
 {
     match key {
         Key::Runs => numeric(value, 1, 10_000),
@@ -128,8 +128,8 @@ fn plain_of(key: Key, value: &[u8]) -> Option<Setting>
 /// `BadValue` if the key has no such value, `DollarInName` for a file name with a `$`, and `NoMemory` if there is no
 /// memory for a name.
 pub fn setting_of(alloc: Global, key: Key, value: &[u8]) -> Result<Setting, ParamKind>
-    ensures ok { IfOk result (λ s. Values.value_of key value.now ≡ Some (value_is s)) }
-    ensures err { IfErr result (IsToldOf (λ k. (k ≡ kinds.BadValue) × (Values.value_of key value.now ≡ None))) }
+    ensures ok { IfOk result (λ s. Values.setting_value key value.now ≡ Some (value_is s)) }
+    ensures err { IfErr result (IsToldKind (λ k. (k ≡ kinds.BadValue) × (Values.setting_value key value.now ≡ None))) }
 {
     if key.is_file() {
         return file_of(alloc, value);

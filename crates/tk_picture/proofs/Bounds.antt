@@ -10,7 +10,7 @@ use Rattle.std.proofs.lemmas.Int.{ints, clamps, by_lt_z, to_z-of_z}
 use Rattle.std.proofs.lemmas.List.Elements.{Contains-append_left, Contains-append_right, All-append, All-weaker}
 use mir.Syntax.{w64}
 use mir.Val.{SFits, of_z, to_z}
-use Rattle.tk_picture.specs.Frames.{IsLeast, IsGreatest}
+use Rattle.tk_picture.specs.Frames.{IsLowest, IsHighest}
 use Rattle.tk_picture.specs.Sides.{longer_side}
 
 All-one : (P : ℤ → Type 0) (z : ℤ) → P z → All P (z ∷ [])
@@ -34,8 +34,8 @@ max_either : (m z : ℤ) → (int_max m z ≡ m) ⊎ (int_max m z ≡ z)
 max_either m z =
     by_lt_z z m (λ below. inl (omega (arith, ints, clamps, below))) (λ above. inr (omega (arith, ints, clamps, above)))
 
-pub IsLeast-more : (m z r : ℤ) (zs : List ℤ) → r ≡ int_min m z → r ≤ℤ m → r ≤ℤ z → IsLeast m zs →
-    IsLeast r (zs ++ z ∷ [])
+pub IsLeast-more : (m z r : ℤ) (zs : List ℤ) → r ≡ int_min m z → r ≤ℤ m → r ≤ℤ z → IsLowest m zs →
+    IsLowest r (zs ++ z ∷ [])
 IsLeast-more m z r zs is below below_z h = record {
   one = either_one m z r zs (elim (min_either m z) [ inl e ↦ inl (is ∙ e) | inr e ↦ inr (is ∙ e) ]) h.one;
   lowest =
@@ -44,8 +44,8 @@ IsLeast-more m z r zs is below below_z h = record {
       (All-one (λ x. r ≤ℤ x) z below_z);
 }
 
-pub IsGreatest-more : (m z r : ℤ) (zs : List ℤ) → r ≡ int_max m z → m ≤ℤ r → z ≤ℤ r → IsGreatest m zs →
-    IsGreatest r (zs ++ z ∷ [])
+pub IsGreatest-more : (m z r : ℤ) (zs : List ℤ) → r ≡ int_max m z → m ≤ℤ r → z ≤ℤ r → IsHighest m zs →
+    IsHighest r (zs ++ z ∷ [])
 IsGreatest-more m z r zs is above above_z h = record {
   one = either_one m z r zs (elim (max_either m z) [ inl e ↦ inl (is ∙ e) | inr e ↦ inr (is ∙ e) ]) h.one;
   highest =
@@ -67,39 +67,39 @@ abbrev kept : ℤ → ℤ
 kept z = to_z w64 (of_z w64 z)
 
 pub least_next : (m z r : ℤ) (zs more : List ℤ) → SFits w64 m → SFits w64 z → SFits w64 r →
-    r ≡ int_min (kept m) (kept z) → zs ++ z ∷ [] ≡ more → IsLeast m zs → IsLeast (kept r) more
+    r ≡ int_min (kept m) (kept z) → zs ++ z ∷ [] ≡ more → IsLowest m zs → IsLowest (kept r) more
 least_next m z r zs more m_fits z_fits r_fits is all h =
     let value : r ≡ int_min m z = is ∙ ap (λ v. int_min v (kept z)) (to_z-of_z w64 m m_fits)
     ∙ ap (int_min m) (to_z-of_z w64 z z_fits) in
     let below : r ≤ℤ m = omega (arith, ints, clamps, value) in
     let below_z : r ≤ℤ z = omega (arith, ints, clamps, value) in
-    subst (IsLeast (kept r)) all
-    (subst (λ v. IsLeast v (zs ++ z ∷ [])) (sym (to_z-of_z w64 r r_fits))
+    subst (IsLowest (kept r)) all
+    (subst (λ v. IsLowest v (zs ++ z ∷ [])) (sym (to_z-of_z w64 r r_fits))
     (IsLeast-more m z r zs value below below_z h))
 
 pub greatest_next : (m z r : ℤ) (zs more : List ℤ) → SFits w64 m → SFits w64 z → SFits w64 r →
-    r ≡ int_max (kept m) (kept z) → zs ++ z ∷ [] ≡ more → IsGreatest m zs → IsGreatest (kept r) more
+    r ≡ int_max (kept m) (kept z) → zs ++ z ∷ [] ≡ more → IsHighest m zs → IsHighest (kept r) more
 greatest_next m z r zs more m_fits z_fits r_fits is all h =
     let value : r ≡ int_max m z = is ∙ ap (λ v. int_max v (kept z)) (to_z-of_z w64 m m_fits)
     ∙ ap (int_max m) (to_z-of_z w64 z z_fits) in
     let above : m ≤ℤ r = omega (arith, ints, clamps, value) in
     let above_z : z ≤ℤ r = omega (arith, ints, clamps, value) in
-    subst (IsGreatest (kept r)) all
-    (subst (λ v. IsGreatest v (zs ++ z ∷ [])) (sym (to_z-of_z w64 r r_fits))
+    subst (IsHighest (kept r)) all
+    (subst (λ v. IsHighest v (zs ++ z ∷ [])) (sym (to_z-of_z w64 r r_fits))
     (IsGreatest-more m z r zs value above above_z h))
 
 -- of all places
 pub least_whole : (f : Point → ℤ) (places : List Point) (i : ℕ) (m : ℤ) → SFits w64 m → length places ≤ i →
-    IsLeast m (map f (take i places)) → IsLeast (kept m) (map f places)
+    IsLowest m (map f (take i places)) → IsLowest (kept m) (map f places)
 least_whole f places i m fits all h =
-    subst (λ v. IsLeast v (map f places)) (sym (to_z-of_z w64 m fits))
-    (subst (λ l. IsLeast m (map f l)) (take_all i places all) h)
+    subst (λ v. IsLowest v (map f places)) (sym (to_z-of_z w64 m fits))
+    (subst (λ l. IsLowest m (map f l)) (take_all i places all) h)
 
 pub greatest_whole : (f : Point → ℤ) (places : List Point) (i : ℕ) (m : ℤ) → SFits w64 m → length places ≤ i →
-    IsGreatest m (map f (take i places)) → IsGreatest (kept m) (map f places)
+    IsHighest m (map f (take i places)) → IsHighest (kept m) (map f places)
 greatest_whole f places i m fits all h =
-    subst (λ v. IsGreatest v (map f places)) (sym (to_z-of_z w64 m fits))
-    (subst (λ l. IsGreatest m (map f l)) (take_all i places all) h)
+    subst (λ v. IsHighest v (map f places)) (sym (to_z-of_z w64 m fits))
+    (subst (λ l. IsHighest m (map f l)) (take_all i places all) h)
 
 pub side_kept : (left right bottom top : ℤ) (s : ℕ) → SFits w64 left → SFits w64 right → SFits w64 bottom
     → SFits w64 top → s ≡ longer_side left right bottom top

@@ -9,7 +9,7 @@ use Rattle.std.proofs.lemmas.Bool.{eqb-false}
 use Rattle.std.proofs.lemmas.List.{get_or_default}
 use Rattle.std.proofs.lemmas.List.Elements.{All-append, All-cons, All-nil}
 use Rattle.std.proofs.lemmas.Str.{inside_one}
-use Rattle.tk_picture.specs.Names.{IsNoMarkup, is_plain, shown, shown_name}
+use Rattle.tk_picture.specs.Names.{IsNoMarkup, is_plain, shown_byte, shown_name}
 
 -- a byte of a character is below 128 only if it is the character
 byte_of : (c b k d : ℕ) → b < 128 → k < length (encode_utf8 c) → get_or (encode_utf8 c) k d ≡ b → c ≡ b
@@ -48,7 +48,7 @@ no_markup_text [] passes = All-nil IsNoMarkup
 no_markup_text (b ∷ bs) passes =
     no_markup_step b bs (b == 60) (b == 62) (b == 34) refl refl refl passes (no_markup_text bs)
 
-no_markup_shown : (c : ℕ) → All IsNoMarkup (shown c)
+no_markup_shown : (c : ℕ) → All IsNoMarkup (shown_byte c)
 no_markup_shown c =
     either_of (c == 38) (codes "&amp;") _ (λ _. no_markup_text (codes "&amp;") refl) (λ _.
     either_of (c == 60) (codes "&lt;") _ (λ _. no_markup_text (codes "&lt;") refl) (λ less.
@@ -58,9 +58,10 @@ no_markup_shown c =
     (λ _. no_markup_char c (eqb-false c 60 less) (eqb-false c 62 greater) (eqb-false c 34 quote))
     (λ _. no_markup_text (codes "?") refl)))))
 
-no_markup_all : (cs : List ℕ) → All IsNoMarkup (flat_map shown cs)
+no_markup_all : (cs : List ℕ) → All IsNoMarkup (flat_map shown_byte cs)
 no_markup_all [] = All-nil IsNoMarkup
-no_markup_all (c ∷ cs) = All-append IsNoMarkup (shown c) (flat_map shown cs) (no_markup_shown c) (no_markup_all cs)
+no_markup_all (c ∷ cs) = All-append IsNoMarkup (shown_byte c) (flat_map shown_byte cs) (no_markup_shown c)
+    (no_markup_all cs)
 
 pub no_markup_name : (name : List ℕ) → All IsNoMarkup (shown_name name)
 no_markup_name name = no_markup_all (chars (utf8_lossy name))

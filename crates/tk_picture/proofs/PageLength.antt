@@ -23,8 +23,9 @@ use Rattle.tk_picture.specs.declared.subject.Subject.{Subject}
 use Rattle.tk_picture.specs.declared.subject.Subject.TheVariants as subjects
 use Rattle.tk_picture.specs.Drawings.{Drawing, Path, caption_of, paths_of}
 use Rattle.tk_picture.specs.Names.{shown_name}
-use Rattle.tk_picture.specs.PageText.{Row, block, city_line, demand_word, depot_word, ending, heading, opening}
-use Rattle.tk_picture.specs.PageText.{page_text, path_line, row_line, row_of, rows, table, table_caption, table_end}
+use Rattle.tk_picture.specs.PageText.{Row, data_block, city_line, demand_word, depot_word, page_ending, heading}
+use Rattle.tk_picture.specs.PageText.{opening}
+use Rattle.tk_picture.specs.PageText.{page_text, path_line, row_line, route_row, rows, table, table_caption, table_end}
 use Rattle.tk_picture.specs.PageText.{table_head, table_start, verdict}
 use Rattle.tk_picture.specs.PictureText.{picture_text, spot, title, title_line}
 use Rattle.tk_picture.specs.Pictures.{Fits, drawing_of, text_in}
@@ -121,7 +122,7 @@ length_table n (subjects.Routes cvrp routes count cost) few fits =
       arith,
       length_table_start i.capacity,
       length_flat_map row_line 400 length_row (rows i 1 all),
-      filled_few (row_of i) 1 all,
+      filled_few (route_row i) 1 all,
       AreServedOnce-short (customer_count i) (concat all) fits.1,
       fits.0,
     )
@@ -169,12 +170,12 @@ length_spaced (x ∷ xs) =
 length_path : (p : Path) → length (path_line p) ≤ 500 + length p.cities * 130
 length_path p = omega (arith, length_spaced p.cities, length-append (spaced_numbers p.cities) (10 ∷ []))
 
-length_block : (name lines : List ℕ) → length name ≤ 10 → length (block name lines) ≤ 100 + length lines
+length_block : (name lines : List ℕ) → length name ≤ 10 → length (data_block name lines) ≤ 100 + length lines
 length_block name lines short = simp length-append (omega arith)
 
 -- ---- the whole
 
-length_ending : (parts : Parts) → length (ending parts) ≤ 2000020
+length_ending : (parts : Parts) → length (page_ending parts) ≤ 2000020
 length_ending parts =
     let one = parts.tools.now ++ line (codes "<script>") in
     let two = one ++ parts.script.now in
@@ -197,14 +198,14 @@ length_page parts f places name s depot demands named few fits lines corners =
     let two = one ++ picture_text f places name d depot in
     let three = two ++ line (codes "</div>") in
     let four = three ++ table d in
-    let five = four ++ block (codes "cities") cities in
-    let six = five ++ block (codes "paths") paths in
+    let five = four ++ data_block (codes "cities") cities in
+    let six = five ++ data_block (codes "paths") paths in
     let a = length-append one (picture_text f places name d depot) in
     let b = length-append two (line (codes "</div>")) in
     let c = length-append three (table d) in
-    let e = length-append four (block (codes "cities") cities) in
-    let g = length-append five (block (codes "paths") paths) in
-    let h = length-append six (ending parts) in
+    let e = length-append four (data_block (codes "cities") cities) in
+    let g = length-append five (data_block (codes "paths") paths) in
+    let h = length-append six (page_ending parts) in
     let p = length_opening parts name n d named in
     let q = length_picture f places name d depot named few lines corners in
     let r = length_table n s few fits in

@@ -15,7 +15,7 @@ use Rattle.tk_writers.specs.Written.{line}
 use Rattle.tk_routes.specs.Cvrps.{instance_of}
 use Rattle.tk_routes.specs.Instance.{Instance, customer_count, node_of}
 use Rattle.tk_routes.proofs.Served.{AreServedOnce-short}
-use Rattle.tk_picture.specs.Colours.{colour, first_colours, place_on_walk, rgb, walk}
+use Rattle.tk_picture.specs.Colours.{colour, first_colours, place_on_walk, rgb, colour_walk}
 use Rattle.tk_picture.specs.Drawings.{ATour, Cities, Drawing, Path, SomeRoutes, caption_of, each_filled, paths_of}
 use Rattle.tk_picture.specs.Drawings.{route_path, route_paths}
 use Rattle.tk_picture.specs.declared.colour.Colour.{Colour}
@@ -23,7 +23,7 @@ use Rattle.tk_picture.specs.declared.frame.Frame.{Frame}
 use Rattle.tk_picture.specs.declared.subject.Subject.{Subject}
 use Rattle.tk_picture.specs.declared.subject.Subject.TheVariants as subjects
 use Rattle.tk_picture.specs.Frames.{across, down, drawn_from_left, drawn_from_top, view_height}
-use Rattle.tk_picture.specs.Names.{is_plain, shown, shown_name}
+use Rattle.tk_picture.specs.Names.{is_plain, shown_byte, shown_name}
 use Rattle.tk_picture.specs.PictureText.{title, spot, line_start, closed_line, dot, dots, line_width, city_style}
 use Rattle.tk_picture.specs.PictureText.{city_dots, depot_mark, has_dots, mark, number_mark, number_size, numbers_start}
 use Rattle.tk_picture.specs.PictureText.{route_numbers, view_line, title_line, heading_line, group_line, head}
@@ -43,7 +43,7 @@ either_short false s t most short_s short_t = short_t
 length_char : (c : ℕ) → length (encode_utf8 c) ≤ 4
 length_char c = omega (arith, length-encode c, (len_utf8_bounds c).1)
 
-length_shown : (c : ℕ) → length (shown c) ≤ 6
+length_shown : (c : ℕ) → length (shown_byte c) ≤ 6
 length_shown c =
     either_short (c == 38) (codes "&amp;") _ 6 (omega arith)
     (either_short (c == 60) (codes "&lt;") _ 6 (omega arith)
@@ -91,7 +91,7 @@ pub length_name : (name : List ℕ) → length name ≤ 1024 → length (shown_n
 length_name name short =
     omega (
       arith,
-      length_flat_map shown 6 length_shown (chars (utf8_lossy name)),
+      length_flat_map shown_byte 6 length_shown (chars (utf8_lossy name)),
       chars_few (utf8_lossy name),
       lossy_short name short,
     )
@@ -128,8 +128,8 @@ length_rgb c = let a = length_decimal c.red in let b = length_decimal c.green in
 length_colour : (k : ℕ) → length (colour k) ≤ 200
 length_colour k =
     let first : length (slice_index_or first_colours (k - 1) []) ≤ 49 = length_text_at first_colours (k - 1) in
-    either_short (nat_lt k 8) _ (rgb (walk (place_on_walk k))) 200 (omega (arith, first))
-    (length_rgb (walk (place_on_walk k)))
+    either_short (nat_lt k 8) _ (rgb (colour_walk (place_on_walk k))) 200 (omega (arith, first))
+    (length_rgb (colour_walk (place_on_walk k)))
 
 line_start_parts : (a : List ℕ) → length a ≤ 200 →
     length (line (codes "<polygon stroke=\"" ++ a ++ codes "\" points=\"")) ≤ 300

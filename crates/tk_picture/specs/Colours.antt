@@ -19,8 +19,8 @@ abbrev pub opposite : Colour → Colour
 opposite c = record { red = 190 - c.red; green = 140 - c.green; blue = 250 - c.blue }
 
 -- there, and along the opposite edges back: 1,160 steps in all
-abbrev pub walk : ℕ → Colour
-walk p = if nat_lt p 580 then there p else opposite (there (p - 580))
+abbrev pub colour_walk : ℕ → Colour
+colour_walk p = if nat_lt p 580 then there p else opposite (there (p - 580))
 
 -- after the first seven, each line is 443 steps further, close to the golden section, so that neighbours differ
 abbrev pub place_on_walk : ℕ → ℕ
@@ -30,4 +30,4 @@ abbrev pub rgb : Colour → List ℕ
 rgb c = codes "rgb(" ++ decimal c.red ++ codes "," ++ decimal c.green ++ codes "," ++ decimal c.blue ++ codes ")"
 
 abbrev pub colour : ℕ → List ℕ
-colour k = if nat_lt k 8 then slice_index_or first_colours (k - 1) [] else rgb (walk (place_on_walk k))
+colour k = if nat_lt k 8 then slice_index_or first_colours (k - 1) [] else rgb (colour_walk (place_on_walk k))

@@ -7,24 +7,24 @@ use Rattle.std.specs.Prelude.{ℕ, ◌*◌, ◌/◌, ◌+◌, ◌-◌, max, ℤ,
 use Rattle.std.specs.Int.{div_ceil}
 use Rattle.tk_problem.specs.declared.point.Point.{Point}
 use Rattle.tk_picture.specs.declared.frame.Frame.{Frame}
-use Rattle.tk_picture.specs.Sides.{gap}
+use Rattle.tk_distance.specs.Distance.{gap}
 
 -- one of the numbers, and none is lower
-pub record IsLeast (least : ℤ) (zs : List ℤ) : Type 0 where
+pub record IsLowest (least : ℤ) (zs : List ℤ) : Type 0 where
   pub one : Contains zs least
   pub lowest : All (λ z. least ≤ℤ z) zs
 
 -- one of the numbers, and none is higher
-pub record IsGreatest (greatest : ℤ) (zs : List ℤ) : Type 0 where
+pub record IsHighest (greatest : ℤ) (zs : List ℤ) : Type 0 where
   pub one : Contains zs greatest
   pub highest : All (λ z. z ≤ℤ greatest) zs
 
 -- the least rectangle that holds all places
 pub record IsFrame (places : List Point) (f : Frame) : Type 0 where
-  pub left : IsLeast f.left (map (λ p. p.x) places)
-  pub right : IsGreatest f.right (map (λ p. p.x) places)
-  pub bottom : IsLeast f.bottom (map (λ p. p.y) places)
-  pub top : IsGreatest f.top (map (λ p. p.y) places)
+  pub left : IsLowest f.left (map (λ p. p.x) places)
+  pub right : IsHighest f.right (map (λ p. p.x) places)
+  pub bottom : IsLowest f.bottom (map (λ p. p.y) places)
+  pub top : IsHighest f.top (map (λ p. p.y) places)
 
 -- how far a place is from the left side and from the top, in ten-thousandths of the longer side
 abbrev pub across : Frame → Point → ℕ

@@ -1,5 +1,5 @@
 -- A name as it can stand in a text of XML or HTML.
---     shown c      a character of it
+--     shown_byte c      a character of it
 --     shown_name name      the whole: what is no UTF-8 is shown as U+FFFD
 --     IsNoMarkup b      what each byte of it is
 use Rattle.std.specs.Prelude.{ℕ, ◌≢◌, ◌==◌, Bool, ◌&&◌, ◌||◌, nat_lt, List, codes, flat_map, if◌then◌else◌}
@@ -13,14 +13,14 @@ abbrev pub is_plain : ℕ → Bool
 is_plain c = (nat_lt 31 c && nat_lt c 127) || (nat_lt 159 c && nat_lt c 8234) || (nat_lt 8238 c && nat_lt c 8294)
     || (nat_lt 8297 c && nat_lt c 65534) || nat_lt 65535 c
 
-abbrev pub shown : ℕ → List ℕ
-shown c =
+abbrev pub shown_byte : ℕ → List ℕ
+shown_byte c =
     if c == 38 then codes "&amp;" else (if c == 60 then codes "&lt;"
     else (if c == 62 then codes "&gt;" else (if c == 34 then codes "&quot;"
     else (if is_plain c then encode_utf8 c else codes "?"))))
 
 abbrev pub shown_name : List ℕ → List ℕ
-shown_name name = flat_map shown (chars (utf8_lossy name))
+shown_name name = flat_map shown_byte (chars (utf8_lossy name))
 
 -- a byte that neither begins nor ends a tag, and does not end an attribute
 abbrev pub IsNoMarkup : ℕ → Type 0

@@ -2,7 +2,7 @@
 -- reads the lines on cities and on paths.
 --     city_line f places demands depot c      a city
 --     path_line path      the cities of a closed line
---     row_of i k route      what the table says of a route
+--     route_row i k route      what the table says of a route
 --     page_text parts f places name drawing depot demands      the whole text
 use Rattle.std.specs.Prelude.{ℕ, ◌-◌, ◌*◌, ◌/◌, ◌==◌, List, [], ◌++◌, Option, Some, None, length, slice_get, flat_map}
 use Rattle.std.specs.Prelude.{codes, decimal, if◌then◌else◌}
@@ -48,8 +48,8 @@ pub record Row : Type 0 where
 abbrev pub share : ℕ → ℕ → ℕ
 share load capacity = if capacity == 0 then 0 else load * 100 / capacity
 
-abbrev pub row_of : Instance → ℕ → List ℕ → Row
-row_of i k route = record {
+abbrev pub route_row : Instance → ℕ → List ℕ → Row
+route_row i k route = record {
   number = k;
   customers = length route;
   load = route_load i route;
@@ -64,7 +64,7 @@ row_line r =
 
 -- the routes that hold a customer, numbered from k on
 abbrev pub rows : Instance → ℕ → List (List ℕ) → List Row
-rows i k routes = each_filled (row_of i) k routes
+rows i k routes = each_filled (route_row i) k routes
 
 abbrev pub table_caption : ℕ → List ℕ
 table_caption capacity = line (codes "<table><caption>Routes, capacity " ++ decimal capacity ++ codes "</caption>")
@@ -109,20 +109,20 @@ abbrev pub path_line : Path → List ℕ
 path_line path = line (spaced_numbers path.cities)
 
 -- lines that are data for the script
-abbrev pub block : List ℕ → List ℕ → List ℕ
-block name lines =
+abbrev pub data_block : List ℕ → List ℕ → List ℕ
+data_block name lines =
     line (codes "<script type=\"text/plain\" id=\"" ++ name ++ codes "\">") ++ lines ++ line (codes "</script>")
 
 -- ---- the whole
 
-abbrev pub ending : Parts → List ℕ
-ending parts = parts.tools.now ++ line (codes "<script>") ++ parts.script.now ++ line (codes "</script>")
+abbrev pub page_ending : Parts → List ℕ
+page_ending parts = parts.tools.now ++ line (codes "<script>") ++ parts.script.now ++ line (codes "</script>")
 
 abbrev pub page_text : Parts → Frame → List Point → List ℕ → Drawing → Option ℕ → List ℕ → List ℕ
 page_text parts f places name drawing depot demands =
     opening parts name (length places) drawing
     ++ picture_text f places name drawing depot ++ line (codes "</div>")
     ++ table drawing
-    ++ block (codes "cities") (flat_map (city_line f places demands depot) (range_with_len 1 (length places)))
-    ++ block (codes "paths") (flat_map path_line (paths_of drawing))
-    ++ ending parts
+    ++ data_block (codes "cities") (flat_map (city_line f places demands depot) (range_with_len 1 (length places)))
+    ++ data_block (codes "paths") (flat_map path_line (paths_of drawing))
+    ++ page_ending parts

@@ -1,10 +1,6 @@
 -- The sides of a rectangle.
-use Rattle.std.specs.Prelude.{ℕ, ℤ, ◌-ℤ◌, max}
-use Rattle.std.specs.Int.RustNames.{unsigned_abs}
-
--- how far two numbers are apart
-abbrev pub gap : ℤ → ℤ → ℕ
-gap a b = unsigned_abs (a -ℤ b)
+use Rattle.std.specs.Prelude.{ℕ, ℤ, max}
+use Rattle.tk_distance.specs.Distance.{gap}
 
 -- the longer side, and at least 1
 abbrev pub longer_side : ℤ → ℤ → ℤ → ℤ → ℕ

@@ -1,7 +1,7 @@
 //! The colours of closed lines.
 ghost use Rattle.std.specs.Prelude.{◌≡◌, ◌<◌, ◌≤◌};
 ghost use Rattle.tk_writers.specs.Pens.{Puts};
-ghost use Rattle.tk_picture.specs.Colours.{colour, opposite, place_on_walk, rgb, there, walk};
+ghost use Rattle.tk_picture.specs.Colours.{colour, opposite, rgb, there, colour_walk};
 
 use tk_writers::{Pen, Sink};
 
@@ -43,7 +43,7 @@ fn opposite(colour: Colour) -> Colour
 
 /// The colour after some steps of the walk.
 fn walk(steps: u64) -> Colour
-    ensures { result ≡ walk steps }
+    ensures { result ≡ colour_walk steps }
 {
     match steps.checked_sub(STEPS / 2) {
         None => there(steps),

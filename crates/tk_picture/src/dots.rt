@@ -1,5 +1,5 @@
 //! Cities as points.
-ghost use Rattle.std.specs.Prelude.{◌≡◌, Some, length, IfSome};
+ghost use Rattle.std.specs.Prelude.{◌≡◌, Some, IfSome};
 ghost use Rattle.std.specs.List.{range_with_len};
 ghost use Rattle.tk_writers.specs.Pens.{Puts};
 ghost use Rattle.tk_distance.specs.Cities.{IsCity};

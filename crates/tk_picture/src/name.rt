@@ -2,7 +2,7 @@
 ghost use Rattle.std.specs.Prelude.{◌≡◌, flat_map};
 ghost use Rattle.std.specs.Str.{chars};
 ghost use Rattle.tk_writers.specs.Pens.{Puts};
-ghost use Rattle.tk_picture.specs.Names.{is_plain, shown, shown_name};
+ghost use Rattle.tk_picture.specs.Names.{is_plain, shown_byte, shown_name};
 
 use tk_writers::{Pen, Sink};
 
@@ -23,7 +23,7 @@ fn is_plain(c: char) -> bool
 
 /// Puts a character of a name: the four of markup as references, and those that are not plain as `?`.
 fn put_char<W: Sink>(pen: &mut Pen<'_, W>, c: char)
-    ensures { Puts W.taken W.broken pen.old pen.new (shown c) }
+    ensures { Puts W.taken W.broken pen.old pen.new (shown_byte c) }
 {
     match c {
         '&' => pen.put(b"&amp;"),
@@ -37,7 +37,7 @@ fn put_char<W: Sink>(pen: &mut Pen<'_, W>, c: char)
 
 /// Puts a text, character by character.
 fn put_text<W: Sink>(pen: &mut Pen<'_, W>, text: &str)
-    ensures { Puts W.taken W.broken pen.old pen.new (flat_map shown (chars text.now)) }
+    ensures { Puts W.taken W.broken pen.old pen.new (flat_map shown_byte (chars text.now)) }
 {
     for c in text.chars() {
         put_char(pen, c);

@@ -1,8 +1,8 @@
 //! A page (HTML) with a picture.
-ghost use Rattle.std.specs.Prelude.{◌≡◌, IfSome};
+ghost use Rattle.std.specs.Prelude.{IfSome};
 ghost use Rattle.tk_writers.specs.Pens.{Puts};
 ghost use Rattle.tk_distance.specs.Cities.{IsCity};
-ghost use Rattle.tk_picture.specs.PageText.{ending, heading, opening, verdict};
+ghost use Rattle.tk_picture.specs.PageText.{page_ending, heading, opening, verdict};
 ghost use Rattle.tk_picture.specs.Pictures.{Fits, drawing_of, page_of};
 ghost use Rattle.tk_picture.specs.Views.{city_count};
 
@@ -58,7 +58,7 @@ fn put_opening<W: Sink>(pen: &mut Pen<'_, W>, picture: &Picture<'_>, parts: &Par
 
 /// Puts what comes after the data.
 fn put_ending<W: Sink>(pen: &mut Pen<'_, W>, parts: &Parts<'_>)
-    ensures { Puts W.taken W.broken pen.old pen.new (ending parts.now) }
+    ensures { Puts W.taken W.broken pen.old pen.new (page_ending parts.now) }
 {
     pen.put(parts.tools);
     pen.put(b"<script>\n");

@@ -11,29 +11,29 @@ use Rattle.tk_problem.specs.declared.weights.Format.TheVariants.{FullMatrix, Upp
 use Rattle.tk_problem.specs.declared.weights.Format.TheVariants.{LowerDiagRow, UpperCol, LowerCol, UpperDiagCol}
 use Rattle.tk_problem.specs.declared.weights.Format.TheVariants.{LowerDiagCol}
 use Rattle.tk_problem.specs.WeightOrder.{order, place}
-use Rattle.tk_problem.specs.WeightLines.{first_item, end_item, place_on, items, lines, places_from}
+use Rattle.tk_problem.specs.WeightLines.{first_item, end_item, place_on, items, weight_lines, places_from}
 
 pub items_more : (f : Format) (line from end : ℕ) → from < end → items f line from end ≡ place_on f line from
     ∷ items f line (from + 1) end
 items_more f line from end less = let some : end - from ≡ suc (end - (from + 1)) = omega arith in rw some refl
 
 pub lines_more : (f : Format) (n line : ℕ) → line < n →
-    lines f n line (n - line) ≡ places_from f n line (first_item f line) (end_item f n line)
+    weight_lines f n line (n - line) ≡ places_from f n line (first_item f line) (end_item f n line)
 lines_more f n line less = let some : n - line ≡ suc (n - (line + 1)) = omega arith in rw some refl
 
 pub places_more : (f : Format) (n line item end : ℕ) → item < end → places_from f n line item end ≡ place_on f line item
     ∷ places_from f n line (item + 1) end
 places_more f n line item end less =
-    ap (λ ps. ps ++ lines f n (line + 1) (n - (line + 1))) (items_more f line item end less)
+    ap (λ ps. ps ++ weight_lines f n (line + 1) (n - (line + 1))) (items_more f line item end less)
 
 -- after the last place of a line, the lines after it are left
 pub places_last : (f : Format) (n line item end : ℕ) → end ≤ item + 1
-    → (end ≤ item → lines f n (line + 1) (n - (line + 1)) ≡ []) → 0 < length (places_from f n line item end)
-    → lines f n (line + 1) (n - (line + 1)) ≡ drop 1 (places_from f n line item end)
+    → (end ≤ item → weight_lines f n (line + 1) (n - (line + 1)) ≡ []) → 0 < length (places_from f n line item end)
+    → weight_lines f n (line + 1) (n - (line + 1)) ≡ drop 1 (places_from f n line item end)
 places_last f n line item end last done more = by_less (ltb item end) refl
   where
     rest : List Place
-    rest = lines f n (line + 1) (n - (line + 1))
+    rest = weight_lines f n (line + 1) (n - (line + 1))
 
     none : (from : ℕ) → end ≤ from → items f line from end ≡ []
     none from over = let left : end - from ≡ 0 = omega arith in rw left refl
@@ -136,7 +136,7 @@ front_lines h p a n within kept left =
     (λ k less. filter_front (h k) p (a k) n (within k (omega arith)) (kept k) (left k))
 
 -- the walk by lines is the order
-pub order-lines : (f : Format) (n : ℕ) → order f n ≡ lines f n 0 n
+pub order-lines : (f : Format) (n : ℕ) → order f n ≡ weight_lines f n 0 n
 order-lines FullMatrix n =
     same_lines (λ i. map (λ j. place i j) (range_with_len 0 n)) (λ i. map (λ j. place i j) (range_with_len 0 (n - 0))) 0
     n (λ k less. ap (λ c. map (λ j. place k j) (range_with_len 0 c)) (omega arith))
@@ -159,5 +159,5 @@ order-lines UpperDiagCol n =
 order-lines LowerDiagCol n = rest_lines (λ j i. place i j) (λ p. leb p.column p.row) (λ j. j) n (λ k h. omega arith)
     (λ k m h. grind (arith, nat_tests)) (λ k m h. grind (arith, nat_tests))
 
-pub order-lines_rest : (f : Format) (n : ℕ) → order f n ≡ lines f n 0 (n - 0)
-order-lines_rest f n = order-lines f n ∙ ap (lines f n 0) (omega arith)
+pub order-lines_rest : (f : Format) (n : ℕ) → order f n ≡ weight_lines f n 0 (n - 0)
+order-lines_rest f n = order-lines f n ∙ ap (weight_lines f n 0) (omega arith)

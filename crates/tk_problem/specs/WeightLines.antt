@@ -35,10 +35,10 @@ abbrev pub items : Format → ℕ → ℕ → ℕ → List Place
 items f line from end = map (place_on f line) (range_with_len from (end - from))
 
 -- the places of a number of lines
-abbrev pub lines : Format → ℕ → ℕ → ℕ → List Place
-lines f n from count =
+abbrev pub weight_lines : Format → ℕ → ℕ → ℕ → List Place
+weight_lines f n from count =
     flat_map (λ line. items f line (first_item f line) (end_item f n line)) (range_with_len from count)
 
 -- the places from an item of a line on
 abbrev pub places_from : Format → ℕ → ℕ → ℕ → ℕ → List Place
-places_from f n line item end = items f line item end ++ lines f n (line + 1) (n - (line + 1))
+places_from f n line item end = items f line item end ++ weight_lines f n (line + 1) (n - (line + 1))

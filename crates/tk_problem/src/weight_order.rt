@@ -38,9 +38,9 @@ fn end_item(format: Format, n: u32, line: u32) -> u32
 fn next_line(format: Format, n: u32, from: u32) -> Option<u32>
     requires { n < 2 ^ 32 - 1 }
     ensures some { IfSome result (λ line. (line < n) × (Lines.first_item format line < Lines.end_item format n line)
-        × (Lines.lines format n from (n - from) ≡ Lines.places_from format n line (Lines.first_item format line)
+        × (Lines.weight_lines format n from (n - from) ≡ Lines.places_from format n line (Lines.first_item format line)
         (Lines.end_item format n line))) }
-    ensures none { IfNone result (Lines.lines format n from (n - from) ≡ []) }
+    ensures none { IfNone result (Lines.weight_lines format n from (n - from) ≡ []) }
 {
     for line in from..n {
         if first_item(format, line) < end_item(format, n, line) {
@@ -66,7 +66,7 @@ impl Model for WeightCursor {
     ghost view = { λ s. Lines.places_from s.format s.n s.line s.item s.end };
 
     ghost invariant = { λ s. (s.n < 2 ^ 32 - 1) × (s.line ≤ s.n) × (s.end ≤ s.n)
-        × (s.end ≤ s.item → Lines.lines s.format s.n (s.line + 1) (s.n - (s.line + 1)) ≡ []) };
+        × (s.end ≤ s.item → Lines.weight_lines s.format s.n (s.line + 1) (s.n - (s.line + 1)) ≡ []) };
 }
 
 impl WeightCursor {
@@ -85,7 +85,7 @@ impl WeightCursor {
     #[cold]
     fn from_line(format: Format, n: u32, from: u32) -> Self
         requires { n < 2 ^ 32 - 1 }
-        ensures { result ≡ Lines.lines format n from (n - from) }
+        ensures { result ≡ Lines.weight_lines format n from (n - from) }
     {
         match next_line(format, n, from) {
             Some(line) => WeightCursor {

@@ -12,17 +12,18 @@ use Rattle.tk_problem_text.specs.declared.header_values.WeightType.{WeightType}
 use Rattle.tk_problem_text.specs.declared.header_values.WeightFormat.{WeightFormat}
 use Rattle.tk_words.specs.Lex.{Token, trim, after_word, is_empty}
 use Rattle.tk_words.specs.Words.{same_word}
-use Rattle.tk_problem_text.specs.HeaderValues.{problem_type_of, weight_type_of, weight_format_of, number_of, name_of}
+use Rattle.tk_problem_text.specs.HeaderValues.{problem_type_of, weight_type_of, weight_format_of, header_number}
+use Rattle.tk_problem_text.specs.HeaderValues.{name_of}
 use Rattle.tk_lines.specs.Pieces.{Piece, After, has}
 use Rattle.tk_lines.specs.Reader.Forms.{a_header, a_section}
-use Rattle.tk_problem_text.specs.Reader.Kept.{Keeps}
+use Rattle.tk_problem_text.specs.Reader.Kept.{KeepsHeader}
 use Rattle.tk_problem_text.specs.Reader.Headers.{HasHeaders}
 use Rattle.tk_lines.proofs.Pieces.PieceValues.{value_of-other, value_of-section, value_of-new, value_of-none}
 use Rattle.tk_problem_text.proofs.KeptHeaders.{has_other, has_past, keeps_other, keeps_section, noted}
 
 module _ (h : Headers) (ps : List Piece) (v : List ℕ) (n : ℕ) (k : HasHeaders h ps) where
   pub with_problem_type : (x : Option ProblemType) →
-      Keeps words.Type problem_type_of x (ps ++ a_header words.Type v n) →
+      KeepsHeader words.Type problem_type_of x (ps ++ a_header words.Type v n) →
       HasHeaders (record h { problem_type = x }) (ps ++ a_header words.Type v n)
   with_problem_type x new = record {
     named = k.named ∙ sym (has_other words.Name words.Type ps v n refl);
@@ -31,8 +32,8 @@ module _ (h : Headers) (ps : List Piece) (v : List ℕ) (n : ℕ) (k : HasHeader
         (sym (value_of-other words.Name words.Type ps v n refl));
     short = k.short;
     problem_type = new;
-    dimension = keeps_other words.Dimension words.Type (number_of 2 CITY_LIMIT) h.dimension ps v n refl k.dimension;
-    capacity = keeps_other words.Capacity words.Type (number_of 1 CAPACITY_LIMIT) h.capacity ps v n refl k.capacity;
+    dimension = keeps_other words.Dimension words.Type (header_number 2 CITY_LIMIT) h.dimension ps v n refl k.dimension;
+    capacity = keeps_other words.Capacity words.Type (header_number 1 CAPACITY_LIMIT) h.capacity ps v n refl k.capacity;
     weight_type = keeps_other words.EdgeWeightType words.Type weight_type_of h.weight_type ps v n refl k.weight_type;
     weight_format = keeps_other words.EdgeWeightFormat words.Type weight_format_of h.weight_format ps v n refl
         k.weight_format;
@@ -41,7 +42,7 @@ module _ (h : Headers) (ps : List Piece) (v : List ℕ) (n : ℕ) (k : HasHeader
   }
 
   pub with_dimension : (x : Option ℕ) →
-      Keeps words.Dimension (number_of 2 CITY_LIMIT) x (ps ++ a_header words.Dimension v n) →
+      KeepsHeader words.Dimension (header_number 2 CITY_LIMIT) x (ps ++ a_header words.Dimension v n) →
       HasHeaders (record h { dimension = x }) (ps ++ a_header words.Dimension v n)
   with_dimension x new = record {
     named = k.named ∙ sym (has_other words.Name words.Dimension ps v n refl);
@@ -51,7 +52,7 @@ module _ (h : Headers) (ps : List Piece) (v : List ℕ) (n : ℕ) (k : HasHeader
     short = k.short;
     problem_type = keeps_other words.Type words.Dimension problem_type_of h.problem_type ps v n refl k.problem_type;
     dimension = new;
-    capacity = keeps_other words.Capacity words.Dimension (number_of 1 CAPACITY_LIMIT) h.capacity ps v n
+    capacity = keeps_other words.Capacity words.Dimension (header_number 1 CAPACITY_LIMIT) h.capacity ps v n
         refl k.capacity;
     weight_type = keeps_other words.EdgeWeightType words.Dimension weight_type_of h.weight_type ps v n refl
         k.weight_type;
@@ -62,7 +63,7 @@ module _ (h : Headers) (ps : List Piece) (v : List ℕ) (n : ℕ) (k : HasHeader
   }
 
   pub with_capacity : (x : Option ℕ) →
-      Keeps words.Capacity (number_of 1 CAPACITY_LIMIT) x (ps ++ a_header words.Capacity v n) →
+      KeepsHeader words.Capacity (header_number 1 CAPACITY_LIMIT) x (ps ++ a_header words.Capacity v n) →
       HasHeaders (record h { capacity = x }) (ps ++ a_header words.Capacity v n)
   with_capacity x new = record {
     named = k.named ∙ sym (has_other words.Name words.Capacity ps v n refl);
@@ -71,7 +72,8 @@ module _ (h : Headers) (ps : List Piece) (v : List ℕ) (n : ℕ) (k : HasHeader
         (sym (value_of-other words.Name words.Capacity ps v n refl));
     short = k.short;
     problem_type = keeps_other words.Type words.Capacity problem_type_of h.problem_type ps v n refl k.problem_type;
-    dimension = keeps_other words.Dimension words.Capacity (number_of 2 CITY_LIMIT) h.dimension ps v n refl k.dimension;
+    dimension = keeps_other words.Dimension words.Capacity (header_number 2 CITY_LIMIT) h.dimension ps v n
+        refl k.dimension;
     capacity = new;
     weight_type = keeps_other words.EdgeWeightType words.Capacity weight_type_of h.weight_type ps v n refl
         k.weight_type;
@@ -82,7 +84,7 @@ module _ (h : Headers) (ps : List Piece) (v : List ℕ) (n : ℕ) (k : HasHeader
   }
 
   pub with_weight_type : (x : Option WeightType) →
-      Keeps words.EdgeWeightType weight_type_of x (ps ++ a_header words.EdgeWeightType v n) →
+      KeepsHeader words.EdgeWeightType weight_type_of x (ps ++ a_header words.EdgeWeightType v n) →
       HasHeaders (record h { weight_type = x }) (ps ++ a_header words.EdgeWeightType v n)
   with_weight_type x new = record {
     named = k.named ∙ sym (has_other words.Name words.EdgeWeightType ps v n refl);
@@ -92,9 +94,9 @@ module _ (h : Headers) (ps : List Piece) (v : List ℕ) (n : ℕ) (k : HasHeader
     short = k.short;
     problem_type = keeps_other words.Type words.EdgeWeightType problem_type_of h.problem_type ps v n refl
         k.problem_type;
-    dimension = keeps_other words.Dimension words.EdgeWeightType (number_of 2 CITY_LIMIT) h.dimension ps v n
+    dimension = keeps_other words.Dimension words.EdgeWeightType (header_number 2 CITY_LIMIT) h.dimension ps v n
         refl k.dimension;
-    capacity = keeps_other words.Capacity words.EdgeWeightType (number_of 1 CAPACITY_LIMIT) h.capacity ps v n
+    capacity = keeps_other words.Capacity words.EdgeWeightType (header_number 1 CAPACITY_LIMIT) h.capacity ps v n
         refl k.capacity;
     weight_type = new;
     weight_format = keeps_other words.EdgeWeightFormat words.EdgeWeightType weight_format_of h.weight_format ps v n refl
@@ -104,7 +106,7 @@ module _ (h : Headers) (ps : List Piece) (v : List ℕ) (n : ℕ) (k : HasHeader
   }
 
   pub with_weight_format : (x : Option WeightFormat) →
-      Keeps words.EdgeWeightFormat weight_format_of x (ps ++ a_header words.EdgeWeightFormat v n) →
+      KeepsHeader words.EdgeWeightFormat weight_format_of x (ps ++ a_header words.EdgeWeightFormat v n) →
       HasHeaders (record h { weight_format = x }) (ps ++ a_header words.EdgeWeightFormat v n)
   with_weight_format x new = record {
     named = k.named ∙ sym (has_other words.Name words.EdgeWeightFormat ps v n refl);
@@ -114,9 +116,9 @@ module _ (h : Headers) (ps : List Piece) (v : List ℕ) (n : ℕ) (k : HasHeader
     short = k.short;
     problem_type = keeps_other words.Type words.EdgeWeightFormat problem_type_of h.problem_type ps v n refl
         k.problem_type;
-    dimension = keeps_other words.Dimension words.EdgeWeightFormat (number_of 2 CITY_LIMIT) h.dimension ps v n
+    dimension = keeps_other words.Dimension words.EdgeWeightFormat (header_number 2 CITY_LIMIT) h.dimension ps v n
         refl k.dimension;
-    capacity = keeps_other words.Capacity words.EdgeWeightFormat (number_of 1 CAPACITY_LIMIT) h.capacity ps v n
+    capacity = keeps_other words.Capacity words.EdgeWeightFormat (header_number 1 CAPACITY_LIMIT) h.capacity ps v n
         refl k.capacity;
     weight_type = keeps_other words.EdgeWeightType words.EdgeWeightFormat weight_type_of h.weight_type ps v n refl
         k.weight_type;
@@ -134,9 +136,9 @@ module _ (h : Headers) (ps : List Piece) (v : List ℕ) (n : ℕ) (k : HasHeader
         (sym (value_of-other words.Name words.NodeCoordType ps v n refl));
     short = k.short;
     problem_type = keeps_other words.Type words.NodeCoordType problem_type_of h.problem_type ps v n refl k.problem_type;
-    dimension = keeps_other words.Dimension words.NodeCoordType (number_of 2 CITY_LIMIT) h.dimension ps v n
+    dimension = keeps_other words.Dimension words.NodeCoordType (header_number 2 CITY_LIMIT) h.dimension ps v n
         refl k.dimension;
-    capacity = keeps_other words.Capacity words.NodeCoordType (number_of 1 CAPACITY_LIMIT) h.capacity ps v n
+    capacity = keeps_other words.Capacity words.NodeCoordType (header_number 1 CAPACITY_LIMIT) h.capacity ps v n
         refl k.capacity;
     weight_type = keeps_other words.EdgeWeightType words.NodeCoordType weight_type_of h.weight_type ps v n refl
         k.weight_type;
@@ -156,9 +158,9 @@ module _ (h : Headers) (ps : List Piece) (v : List ℕ) (n : ℕ) (k : HasHeader
     short = k.short;
     problem_type = keeps_other words.Type words.DisplayDataType problem_type_of h.problem_type ps v n refl
         k.problem_type;
-    dimension = keeps_other words.Dimension words.DisplayDataType (number_of 2 CITY_LIMIT) h.dimension ps v n
+    dimension = keeps_other words.Dimension words.DisplayDataType (header_number 2 CITY_LIMIT) h.dimension ps v n
         refl k.dimension;
-    capacity = keeps_other words.Capacity words.DisplayDataType (number_of 1 CAPACITY_LIMIT) h.capacity ps v n
+    capacity = keeps_other words.Capacity words.DisplayDataType (header_number 1 CAPACITY_LIMIT) h.capacity ps v n
         refl k.capacity;
     weight_type = keeps_other words.EdgeWeightType words.DisplayDataType weight_type_of h.weight_type ps v n refl
         k.weight_type;
@@ -176,8 +178,10 @@ module _ (h : Headers) (ps : List Piece) (v : List ℕ) (n : ℕ) (k : HasHeader
         (sym (value_of-other words.Name words.Comment ps v n refl));
     short = k.short;
     problem_type = keeps_other words.Type words.Comment problem_type_of h.problem_type ps v n refl k.problem_type;
-    dimension = keeps_other words.Dimension words.Comment (number_of 2 CITY_LIMIT) h.dimension ps v n refl k.dimension;
-    capacity = keeps_other words.Capacity words.Comment (number_of 1 CAPACITY_LIMIT) h.capacity ps v n refl k.capacity;
+    dimension = keeps_other words.Dimension words.Comment (header_number 2 CITY_LIMIT) h.dimension ps v n
+        refl k.dimension;
+    capacity = keeps_other words.Capacity words.Comment (header_number 1 CAPACITY_LIMIT) h.capacity ps v n
+        refl k.capacity;
     weight_type = keeps_other words.EdgeWeightType words.Comment weight_type_of h.weight_type ps v n refl k.weight_type;
     weight_format = keeps_other words.EdgeWeightFormat words.Comment weight_format_of h.weight_format ps v n refl
         k.weight_format;
@@ -196,8 +200,8 @@ module _ (h : Headers) (ps : List Piece) (v : List ℕ) (n : ℕ) (k : HasHeader
         (sym (value_of-new words.Name words.Name ps v n refl fresh));
     short = small;
     problem_type = keeps_other words.Type words.Name problem_type_of h.problem_type ps v n refl k.problem_type;
-    dimension = keeps_other words.Dimension words.Name (number_of 2 CITY_LIMIT) h.dimension ps v n refl k.dimension;
-    capacity = keeps_other words.Capacity words.Name (number_of 1 CAPACITY_LIMIT) h.capacity ps v n refl k.capacity;
+    dimension = keeps_other words.Dimension words.Name (header_number 2 CITY_LIMIT) h.dimension ps v n refl k.dimension;
+    capacity = keeps_other words.Capacity words.Name (header_number 1 CAPACITY_LIMIT) h.capacity ps v n refl k.capacity;
     weight_type = keeps_other words.EdgeWeightType words.Name weight_type_of h.weight_type ps v n refl k.weight_type;
     weight_format = keeps_other words.EdgeWeightFormat words.Name weight_format_of h.weight_format ps v n refl
         k.weight_format;
@@ -224,8 +228,10 @@ module _ (h : Headers) (word : Keyword) (ps : List Piece) (n : ℕ) (toks : List
         (sym (value_of-section words.Name word ps n toks after));
     short = k.short;
     problem_type = keeps_section words.Type word problem_type_of h.problem_type ps n toks after o2 k.problem_type;
-    dimension = keeps_section words.Dimension word (number_of 2 CITY_LIMIT) h.dimension ps n toks after o3 k.dimension;
-    capacity = keeps_section words.Capacity word (number_of 1 CAPACITY_LIMIT) h.capacity ps n toks after o4 k.capacity;
+    dimension = keeps_section words.Dimension word (header_number 2 CITY_LIMIT) h.dimension ps n toks after
+        o3 k.dimension;
+    capacity = keeps_section words.Capacity word (header_number 1 CAPACITY_LIMIT) h.capacity ps n toks after
+        o4 k.capacity;
     weight_type = keeps_section words.EdgeWeightType word weight_type_of h.weight_type ps n toks after o5 k.weight_type;
     weight_format = keeps_section words.EdgeWeightFormat word weight_format_of h.weight_format ps n toks after o6
         k.weight_format;

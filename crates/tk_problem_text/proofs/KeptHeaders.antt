@@ -9,12 +9,12 @@ use Rattle.tk_words.specs.Lex.{Token, trim, after_word}
 use Rattle.tk_words.specs.Words.{same_word}
 use Rattle.tk_lines.specs.Pieces.{Piece, After, has, first_at, Fault}
 use Rattle.tk_lines.specs.Reader.Forms.{a_header, a_section, IsToldWord}
-use Rattle.tk_problem_text.specs.Reader.Kept.{Keeps, Says}
+use Rattle.tk_problem_text.specs.Reader.Kept.{KeepsHeader, ValueSays}
 use Rattle.tk_words.specs.declared.fault.TextKind.{TextKind}
 use Rattle.tk_words.specs.declared.fault.TextKind.TheVariants as kinds
 use Rattle.tk_lines.specs.HeaderValue.{first_word}
 use Rattle.tk_words.specs.Entry.{number_tests, IsNumber}
-use Rattle.tk_problem_text.specs.HeaderValues.{number_of}
+use Rattle.tk_problem_text.specs.HeaderValues.{header_number}
 use Rattle.tk_lines.proofs.Pieces.PieceValues.{has-header, has-section, value_of-other, value_of-section, value_of-new}
 
 or_false : (a : Bool) → (a || false) ≡ a
@@ -32,7 +32,7 @@ has_past w word ps n toks after other = has-section w word ps n toks after ∙ r
 -- another header changes nothing
 pub keeps_other : {A : Type 0} (w word : Keyword) (f : List ℕ → Option A) (kept : Option A) (ps : List Piece)
     (v : List ℕ) (n : ℕ)
-    → same_word word w ≡ false → Keeps w f kept ps → Keeps w f kept (ps ++ a_header word v n)
+    → same_word word w ≡ false → KeepsHeader w f kept ps → KeepsHeader w f kept (ps ++ a_header word v n)
 keeps_other w word f kept ps v n other h = record {
   came = has_other w word ps v n other ∙ h.came;
   says = ap (option_and_then f) (value_of-other w word ps v n other) ∙ h.says;
@@ -41,7 +41,7 @@ keeps_other w word f kept ps v n other h = record {
 -- nor does a section of another word
 pub keeps_section : {A : Type 0} (w word : Keyword) (f : List ℕ → Option A) (kept : Option A) (ps : List Piece) (n : ℕ)
     (toks : List Token) (after : After)
-    → same_word word w ≡ false → Keeps w f kept ps → Keeps w f kept (ps ++ a_section word n toks after)
+    → same_word word w ≡ false → KeepsHeader w f kept ps → KeepsHeader w f kept (ps ++ a_section word n toks after)
 keeps_section w word f kept ps n toks after other h = record {
   came = has-section w word ps n toks after ∙ rw other (or_false (has w ps)) ∙ h.came;
   says = ap (option_and_then f) (value_of-section w word ps n toks after) ∙ h.says;
@@ -49,7 +49,7 @@ keeps_section w word f kept ps n toks after other h = record {
 
 -- the header comes
 pub keeps_new : {A : Type 0} (w : Keyword) (f : List ℕ → Option A) (a : A) (ps : List Piece) (v : List ℕ) (n : ℕ)
-    → same_word w w ≡ true → Keeps w f None ps → f v ≡ Some a → Keeps w f (Some a) (ps ++ a_header w v n)
+    → same_word w w ≡ true → KeepsHeader w f None ps → f v ≡ Some a → KeepsHeader w f (Some a) (ps ++ a_header w v n)
 keeps_new w f a ps v n same h is = record {
   came = has-header w w ps v n ∙ rw (same, h.came) refl;
   says = ap (option_and_then f) (value_of-new w w ps v n same h.came) ∙ is;
@@ -58,8 +58,8 @@ keeps_new w f a ps v n same h is = record {
 -- the header comes for the first time
 pub keeps_fresh : {A : Type 0} (w : Keyword) (f : List ℕ → Option A) (kept : Option A) (a : A) (ps : List Piece)
     (v : List ℕ) (n : ℕ)
-    → is_some kept ≡ false → same_word w w ≡ true → Keeps w f kept ps → f v ≡ Some a →
-    Keeps w f (Some a) (ps ++ a_header w v n) × (has w ps ≡ false)
+    → is_some kept ≡ false → same_word w w ≡ true → KeepsHeader w f kept ps → f v ≡ Some a →
+    KeepsHeader w f (Some a) (ps ++ a_header w v n) × (has w ps ≡ false)
 keeps_fresh w f None a ps v n fresh same h is = (keeps_new w f a ps v n same h is, h.came)
 keeps_fresh w f (Some b) a ps v n fresh same h is = absurd cc
 
@@ -75,7 +75,7 @@ noted w ps v n same = sym (has-header w w ps v n ∙ rw same (or_true (has w ps)
 
 -- a word that is known or not
 pub says_known : {A : Type 0} (f : List ℕ → Option A) (v : List ℕ) (o : Option A) → o ≡ f v →
-    Says f ((is_none (f v), kinds.Unsupported) ∷ []) v (ok_or o kinds.Unsupported)
+    ValueSays f ((is_none (f v), kinds.Unsupported) ∷ []) v (ok_or o kinds.Unsupported)
 says_known f v None e = record { ok = tt; err = λ n. rw (sym e) refl }
 says_known f v (Some a) e = record { ok = (sym e, λ n. rw (sym e) refl); err = tt }
 
@@ -101,7 +101,7 @@ told_all P kinds.TooLong h = h
 pub says_number : (low high : ℕ) (v : List ℕ) (said : Result ℕ TextKind)
     → IfOk said (λ n. IsNumber low high (first_word v) n)
     → ((n : ℕ) → IfErr said (IsToldWord (λ k. first_at n (number_tests low high (first_word v)) ≡ Some (Fault n k))))
-    → Says (number_of low high) (number_tests low high (first_word v)) v said
+    → ValueSays (header_number low high) (number_tests low high (first_word v)) v said
 says_number low high v (Ok a) h k =
     record {
       ok = (

@@ -15,8 +15,8 @@ use Rattle.tk_lines.specs.Pieces.{Piece, Stop, Fault, first_at, has, tokens_in}
 use Rattle.tk_lines.specs.Reader.Forms.{a_header}
 use Rattle.tk_problem_text.specs.Reader.Headers.{HasHeaders}
 use Rattle.tk_problem_text.specs.Reader.Parts.{HasParts, KeepsValue, HasNoSection}
-use Rattle.tk_problem_text.specs.Problem.{problem_header, size_of, format_in, points_of, lower_of, demands_of, depot_of}
-use Rattle.tk_problem_text.specs.HeaderValues.{number_of}
+use Rattle.tk_problem_text.specs.Problem.{problem_header, size_of, format_in, points_of, lower_in, demands_of, depot_of}
+use Rattle.tk_problem_text.specs.HeaderValues.{header_number}
 use Rattle.tk_lines.proofs.Pieces.PieceLookups.{tokens_in-header}
 use Rattle.tk_lines.proofs.Pieces.PieceValues.{value_of-other}
 use Rattle.tk_problem_text.proofs.KeptHeaders.{has_other}
@@ -138,7 +138,7 @@ module _ (p : Parts) (ps : List Piece) (w : Keyword) (v : List ℕ) (n : ℕ) (h
   display_stays = k.display ∙ sym (has_other words.DisplayDataSection w ps v n is.display)
 
   same_size : same_word w words.Dimension ≡ false → size_of ps ≡ size_of after
-  same_size differ = ap (λ (o : Option (List ℕ)). unwrap_or (option_and_then (number_of 2 CITY_LIMIT) o) 0)
+  same_size differ = ap (λ (o : Option (List ℕ)). unwrap_or (option_and_then (header_number 2 CITY_LIMIT) o) 0)
       (sym (value_of-other words.Dimension w ps v n differ))
 
   same_format : same_word w words.EdgeWeightFormat ≡ false → format_in ps ≡ format_in after
@@ -151,7 +151,7 @@ module _ (p : Parts) (ps : List Piece) (w : Keyword) (v : List ℕ) (n : ℕ) (h
   same_demands differ = rw (same_tokens words.DemandSection, ← same_size differ) refl
 
   same_lower : same_word w words.Dimension ≡ false → same_word w words.EdgeWeightFormat ≡ false →
-      lower_of ps ≡ lower_of after
+      lower_in ps ≡ lower_in after
   same_lower differ differ' = rw (same_tokens words.EdgeWeightSection, ← same_size differ, ← same_format differ') refl
 
   no_section : HasNoSection ps → HasNoSection after
@@ -170,7 +170,7 @@ module _ (p : Parts) (ps : List Piece) (w : Keyword) (v : List ℕ) (n : ℕ) (h
     headers = new;
     places = keeps_on words.NodeCoordSection w (λ x. x) (points_of ps) (points_of after) p.places ps v n is.places
         (same_points o.dimension) k.places;
-    lower = keeps_on words.EdgeWeightSection w (λ x. x.items) (lower_of ps) (lower_of after) p.lower ps v n is.lower
+    lower = keeps_on words.EdgeWeightSection w (λ x. x.items) (lower_in ps) (lower_in after) p.lower ps v n is.lower
         (same_lower o.dimension o.format) k.lower;
     demand = keeps_on words.DemandSection w (λ x. x.items) (demands_of ps) (demands_of after) p.demand ps v n is.demand
         (same_demands o.dimension) k.demand;
@@ -192,7 +192,7 @@ module _ (p : Parts) (ps : List Piece) (w : Keyword) (v : List ℕ) (n : ℕ) (h
         headers = new;
         places = keeps_on words.NodeCoordSection w (λ x. x) (points_of ps) (points_of after) p.places ps v n is.places
             (same_points differ) k.places;
-        lower = keeps_none words.EdgeWeightSection w (λ x. x.items) (lower_of ps) (lower_of after) p.lower ps v n
+        lower = keeps_none words.EdgeWeightSection w (λ x. x.items) (lower_in ps) (lower_in after) p.lower ps v n
             is.lower none k.lower;
         demand = keeps_on words.DemandSection w (λ x. x.items) (demands_of ps) (demands_of after) p.demand ps v n
             is.demand (same_demands differ) k.demand;
@@ -213,7 +213,7 @@ module _ (p : Parts) (ps : List Piece) (w : Keyword) (v : List ℕ) (n : ℕ) (h
         headers = new;
         places = keeps_none words.NodeCoordSection w (λ x. x) (points_of ps) (points_of after) p.places ps v n is.places
             none.places k.places;
-        lower = keeps_none words.EdgeWeightSection w (λ x. x.items) (lower_of ps) (lower_of after) p.lower ps v n
+        lower = keeps_none words.EdgeWeightSection w (λ x. x.items) (lower_in ps) (lower_in after) p.lower ps v n
             is.lower none.lower k.lower;
         demand = keeps_none words.DemandSection w (λ x. x.items) (demands_of ps) (demands_of after) p.demand ps v n
             is.demand none.demand k.demand;

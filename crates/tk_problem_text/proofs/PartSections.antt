@@ -13,11 +13,11 @@ use Rattle.tk_words.specs.Words.{same_word}
 use Rattle.tk_lines.specs.Pieces.{Piece, After, has, tokens_in}
 use Rattle.tk_lines.specs.Reader.Forms.{a_section}
 use Rattle.tk_problem_text.specs.Reader.Parts.{HasParts, KeepsValue, HasNoSection}
-use Rattle.tk_problem_text.specs.Problem.{size_of, format_in, points_of, lower_of, demands_of, depot_of}
-use Rattle.tk_problem_text.specs.HeaderValues.{number_of}
+use Rattle.tk_problem_text.specs.Problem.{size_of, format_in, points_of, lower_in, demands_of, depot_of}
+use Rattle.tk_problem_text.specs.HeaderValues.{header_number}
 use Rattle.std.specs.declared.alloc.Global.{Global}
 use Rattle.tk_problem.specs.declared.limits.TheConstants.{CITY_LIMIT, TABLE_LIMIT}
-use Rattle.tk_problem_text.specs.Sections.Rows.{places_of, number_in}
+use Rattle.tk_problem_text.specs.Sections.Rows.{row_places, number_in}
 use Rattle.tk_problem_text.specs.Sections.Rows as Rows
 use Rattle.tk_problem_text.specs.Sections.WeightSection.{lower_weights}
 use Rattle.tk_lines.proofs.Pieces.PieceLookups.{tokens_in-new}
@@ -52,7 +52,7 @@ module _ (p : Parts) (ps : List Piece) (w : Keyword) (n : ℕ) (toks : List Toke
   now = ps ++ a_section w n toks after
 
   same_size : size_of ps ≡ size_of now
-  same_size = ap (λ (o : Option (List ℕ)). unwrap_or (option_and_then (number_of 2 CITY_LIMIT) o) 0)
+  same_size = ap (λ (o : Option (List ℕ)). unwrap_or (option_and_then (header_number 2 CITY_LIMIT) o) 0)
       (sym (value_of-section words.Dimension w ps n toks after))
 
   same_format : format_in ps ≡ format_in now
@@ -75,7 +75,7 @@ module _ (p : Parts) (ps : List Piece) (w : Keyword) (n : ℕ) (toks : List Toke
   points_stay differ =
       rw (tokens_in-append words.NodeCoordSection ps (a_section w n toks after) (rw differ refl), ← same_size) refl
 
-  lower_stays : same_word w words.EdgeWeightSection ≡ false → lower_of ps ≡ lower_of now
+  lower_stays : same_word w words.EdgeWeightSection ≡ false → lower_in ps ≡ lower_in now
   lower_stays differ =
       rw (
         tokens_in-append words.EdgeWeightSection ps (a_section w n toks after) (rw differ refl),
@@ -93,13 +93,13 @@ module _ (p : Parts) (ps : List Piece) (w : Keyword) (n : ℕ) (toks : List Toke
 -- NodeCoordSection
 pub with_places : (p : Parts) (ps : List Piece) (n : ℕ) (toks : List Token) (after : After) → HasParts p ps
     → has words.Dimension ps ≡ true → has words.NodeCoordSection ps ≡ false → (x : List Point)
-    → x ≡ places_of (size_of ps) toks
+    → x ≡ row_places (size_of ps) toks
     → HasParts (record p { places = Some x }) (ps ++ a_section words.NodeCoordSection n toks after)
 with_places p ps n toks after k sized fresh x is =
     let here : tokens_in words.NodeCoordSection (ps ++ a_section words.NodeCoordSection n toks after) ≡ toks =
     tokens_in-new words.NodeCoordSection ps (a_section words.NodeCoordSection n toks after) fresh in
     let new : x ≡ points_of (ps ++ a_section words.NodeCoordSection n toks after) = is
-    ∙ ap (λ (m : ℕ). places_of m toks) (same_size p ps words.NodeCoordSection n toks after k sized)
+    ∙ ap (λ (m : ℕ). row_places m toks) (same_size p ps words.NodeCoordSection n toks after k sized)
     ∙ rw here refl in
     record {
       headers = past_section p.headers words.NodeCoordSection ps n toks after k.headers refl refl refl refl refl
@@ -107,8 +107,8 @@ with_places p ps n toks after k sized fresh x is =
       places =
           keeps_now words.NodeCoordSection (λ x. x) (points_of (now p ps words.NodeCoordSection n toks after k sized)) x
           ps n toks after refl new;
-      lower = keeps_past words.EdgeWeightSection words.NodeCoordSection (λ x. x.items) (lower_of ps)
-          (lower_of (now p ps words.NodeCoordSection n toks after k sized)) p.lower ps n toks after refl
+      lower = keeps_past words.EdgeWeightSection words.NodeCoordSection (λ x. x.items) (lower_in ps)
+          (lower_in (now p ps words.NodeCoordSection n toks after k sized)) p.lower ps n toks after refl
           (lower_stays p ps words.NodeCoordSection n toks after k sized refl) k.lower;
       demand = keeps_past words.DemandSection words.NodeCoordSection (λ x. x.items) (demands_of ps)
           (demands_of (now p ps words.NodeCoordSection n toks after k sized)) p.demand ps n toks after refl
@@ -134,7 +134,7 @@ pub with_lower : (p : Parts) (ps : List Piece) (n : ℕ) (toks : List Token) (af
 with_lower p ps n toks after k sized fresh x is formatted fit =
     let here : tokens_in words.EdgeWeightSection (ps ++ a_section words.EdgeWeightSection n toks after) ≡ toks =
     tokens_in-new words.EdgeWeightSection ps (a_section words.EdgeWeightSection n toks after) fresh in
-    let new : x.items ≡ lower_of (ps ++ a_section words.EdgeWeightSection n toks after) = is
+    let new : x.items ≡ lower_in (ps ++ a_section words.EdgeWeightSection n toks after) = is
     ∙ ap (λ (m : ℕ). lower_weights m (format_in ps) toks)
     (same_size p ps words.EdgeWeightSection n toks after k sized)
     ∙ ap (λ (f : Format). lower_weights (size_of (now p ps words.EdgeWeightSection n toks after k sized)) f toks)
@@ -147,7 +147,7 @@ with_lower p ps n toks after k sized fresh x is formatted fit =
           (points_stay p ps words.EdgeWeightSection n toks after k sized refl) k.places;
       lower =
           keeps_now words.EdgeWeightSection (λ x. x.items)
-          (lower_of (now p ps words.EdgeWeightSection n toks after k sized)) x ps n toks after refl new;
+          (lower_in (now p ps words.EdgeWeightSection n toks after k sized)) x ps n toks after refl new;
       demand = keeps_past words.DemandSection words.EdgeWeightSection (λ x. x.items) (demands_of ps)
           (demands_of (now p ps words.EdgeWeightSection n toks after k sized)) p.demand ps n toks after refl
           (demands_stay p ps words.EdgeWeightSection n toks after k sized refl) k.demand;
@@ -182,8 +182,8 @@ with_demand p ps n toks after k sized fresh x is few =
       places = keeps_past words.NodeCoordSection words.DemandSection (λ x. x) (points_of ps)
           (points_of (now p ps words.DemandSection n toks after k sized)) p.places ps n toks after refl
           (points_stay p ps words.DemandSection n toks after k sized refl) k.places;
-      lower = keeps_past words.EdgeWeightSection words.DemandSection (λ x. x.items) (lower_of ps)
-          (lower_of (now p ps words.DemandSection n toks after k sized)) p.lower ps n toks after refl
+      lower = keeps_past words.EdgeWeightSection words.DemandSection (λ x. x.items) (lower_in ps)
+          (lower_in (now p ps words.DemandSection n toks after k sized)) p.lower ps n toks after refl
           (lower_stays p ps words.DemandSection n toks after k sized refl) k.lower;
       demand =
           keeps_now words.DemandSection (λ x. x.items) (demands_of (now p ps words.DemandSection n toks after k sized))
@@ -216,8 +216,8 @@ with_depot p ps n toks after k sized fresh x is within =
       places = keeps_past words.NodeCoordSection words.DepotSection (λ x. x) (points_of ps)
           (points_of (now p ps words.DepotSection n toks after k sized)) p.places ps n toks after refl
           (points_stay p ps words.DepotSection n toks after k sized refl) k.places;
-      lower = keeps_past words.EdgeWeightSection words.DepotSection (λ x. x.items) (lower_of ps)
-          (lower_of (now p ps words.DepotSection n toks after k sized)) p.lower ps n toks after refl
+      lower = keeps_past words.EdgeWeightSection words.DepotSection (λ x. x.items) (lower_in ps)
+          (lower_in (now p ps words.DepotSection n toks after k sized)) p.lower ps n toks after refl
           (lower_stays p ps words.DepotSection n toks after k sized refl) k.lower;
       demand = keeps_past words.DemandSection words.DepotSection (λ x. x.items) (demands_of ps)
           (demands_of (now p ps words.DepotSection n toks after k sized)) p.demand ps n toks after refl
@@ -243,8 +243,8 @@ with_display p ps n toks after k sized = record {
   places = keeps_past words.NodeCoordSection words.DisplayDataSection (λ x. x) (points_of ps)
       (points_of (now p ps words.DisplayDataSection n toks after k sized)) p.places ps n toks after refl
       (points_stay p ps words.DisplayDataSection n toks after k sized refl) k.places;
-  lower = keeps_past words.EdgeWeightSection words.DisplayDataSection (λ x. x.items) (lower_of ps)
-      (lower_of (now p ps words.DisplayDataSection n toks after k sized)) p.lower ps n toks after refl
+  lower = keeps_past words.EdgeWeightSection words.DisplayDataSection (λ x. x.items) (lower_in ps)
+      (lower_in (now p ps words.DisplayDataSection n toks after k sized)) p.lower ps n toks after refl
       (lower_stays p ps words.DisplayDataSection n toks after k sized refl) k.lower;
   demand = keeps_past words.DemandSection words.DisplayDataSection (λ x. x.items) (demands_of ps)
       (demands_of (now p ps words.DisplayDataSection n toks after k sized)) p.demand ps n toks after refl

@@ -21,7 +21,7 @@ use Rattle.tk_problem_text.specs.declared.parts.Parts.{Parts}
 use Rattle.tk_problem.specs.declared.weights.Weights.TheVariants.{Lower}
 use Rattle.tk_words.specs.Lex.{integer}
 use Rattle.tk_lines.specs.HeaderValue.{first_word}
-use Rattle.tk_problem_text.specs.HeaderValues.{number_of, between}
+use Rattle.tk_problem_text.specs.HeaderValues.{header_number, between}
 use Rattle.tk_problem.specs.Shape.{WeightsFit, IsRouting}
 use Rattle.tk_lines.specs.Pieces.{Piece, has, value_of, tokens_in}
 use Rattle.tk_problem_text.specs.Sections.Rows.{row_of, place_rows, demand_rows}
@@ -30,7 +30,7 @@ use Rattle.tk_problem_text.specs.Reader.Parts.{HasParts, IsWhole, MakesWeights, 
 use Rattle.tk_problem_text.specs.Reader.Parts.{problem_in}
 use Rattle.tk_problem_text.specs.Problem.{first_kind, over_capacity, weights_ends, routing_ends, routing_ends_of}
 use Rattle.tk_problem_text.specs.Problem.{problem_end, problem_value, problem_type, weight_type, size_of, points_of}
-use Rattle.tk_problem_text.specs.Problem.{lower_of, demands_of, depot_of, capacity_of, is_explicit, is_cvrp}
+use Rattle.tk_problem_text.specs.Problem.{lower_in, demands_of, depot_of, capacity_of, is_explicit}
 use Rattle.tk_problem_text.specs.Problem as value
 
 -- ---- one by one
@@ -85,7 +85,7 @@ in_between low high n (Some (pos m)) h = by_test (leb low m && leb m high) refl 
         let same : m ≡ n = ap (λ (o : Option ℕ). unwrap_or o 0) h in
         (omega (arith, leb-true _ _ b.0, same), omega (arith, leb-true _ _ b.1, same))
 
-pub number_in_limits : (low high n : ℕ) (v : Option (List ℕ)) → option_and_then (number_of low high) v ≡ Some n →
+pub number_in_limits : (low high n : ℕ) (v : Option (List ℕ)) → option_and_then (header_number low high) v ≡ Some n →
     (low ≤ n) × (n ≤ high)
 number_in_limits low high n None h = absurd cc
 number_in_limits low high n (Some bs) h = in_between low high n (integer (first_word bs)) h
@@ -112,7 +112,7 @@ module _ (p : Parts) (ps : List Piece) (k : HasParts p ps) (n : ℕ) (size : siz
       × (weights_in p.headers.weight_type p.places p.lower ≡ (problem_value ps).weights)
 
   explicit_with : (lower : Vec ℕ Global) → p.headers.weight_type ≡ Some types.Explicit → p.lower ≡ Some lower →
-      weight_type ps ≡ Some types.Explicit → WeightsFit n (Lower lower) → lower.items ≡ lower_of ps → WeightsDone
+      weight_type ps ≡ Some types.Explicit → WeightsFit n (Lower lower) → lower.items ≡ lower_in ps → WeightsDone
   explicit_with lower is kept so fits items = rw (is, kept, so) (fits, ap value.Lower items)
 
   explicit_done : p.headers.weight_type ≡ Some types.Explicit → first_kind (weights_ends ps) ≡ None → WeightsDone
@@ -126,7 +126,7 @@ module _ (p : Parts) (ps : List Piece) (k : HasParts p ps) (n : ℕ) (size : siz
       explicit_with lower.0 is lower.1 so
       (subst (λ m. WeightsFit m (Lower lower.0)) size
       (subst (λ o. IfSome o (λ x. WeightsFit (size_of ps) (Lower x))) lower.1 k.lower_fits))
-      (subst (λ o. IfSome o (λ x. x.items ≡ lower_of ps)) lower.1 k.lower.is)
+      (subst (λ o. IfSome o (λ x. x.items ≡ lower_in ps)) lower.1 k.lower.is)
 
   plane_with : (kind : PlaneKind) (places : List Point) → p.headers.weight_type ≡ Some (types.Plane kind) →
       p.places ≡ Some places → weight_type ps ≡ Some (types.Plane kind) → places ≡ points_of ps → WeightsDone

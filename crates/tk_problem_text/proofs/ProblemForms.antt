@@ -12,7 +12,7 @@ use Rattle.tk_problem_text.specs.declared.sections.open_section.OpenSection.TheV
 use Rattle.tk_problem_text.specs.declared.sections.open_section.OpenSection.TheVariants.{Loads, Home, Display}
 use Rattle.tk_words.specs.Lex.{Token, is_empty}
 use Rattle.tk_lines.specs.Pieces.{Piece, After, Early, Fault, Format, has}
-use Rattle.tk_lines.specs.Reader.Forms.{a_section, Goes, HasTaken}
+use Rattle.tk_lines.specs.Reader.Forms.{a_section, Goes, HasTakenToken}
 use Rattle.std.specs.Prelude.{map, slice_index}
 use Rattle.tk_problem.specs.declared.limits.TheConstants.{TABLE_LIMIT}
 use Rattle.tk_problem_text.specs.Sections.Rows.{number_in}
@@ -20,7 +20,7 @@ use Rattle.tk_problem_text.specs.Problem.{size_of, problem_format}
 use Rattle.tk_problem_text.specs.Reader.Coordinates.{Placing, HasPlaces}
 use Rattle.tk_problem_text.specs.Reader.Demands.{Loading, HasDemands}
 use Rattle.tk_problem_text.specs.Reader.DepotTaken.{IsDepot}
-use Rattle.tk_problem_text.specs.Reader.OpenSections.{IsOpen, IsPast, IsFirst}
+use Rattle.tk_problem_text.specs.Reader.OpenSections.{IsOpen, IsPast, IsFirstNode}
 use Rattle.tk_problem_text.proofs.SectionTokens.DepotTaken.{node_of}
 use Rattle.tk_problem_text.proofs.SectionTokens.FixedSections as Fixed
 use Rattle.tk_problem_text.proofs.SectionTokens.DepotList as Home
@@ -96,7 +96,7 @@ module _ (before : List Piece) (word : Keyword) (n : ℕ) (toks : List Token) (s
   home_past =
       let node = some_of s.node some in
       let first = node_of (size_of before) s toks is.2 node.0 node.1 in
-      let is_first = subst (IsFirst (size_of before) (slice_index (map number_in toks) 0)) (sym node.1)
+      let is_first = subst (IsFirstNode (size_of before) (slice_index (map number_in toks) 0)) (sym node.1)
       (first.1, first.2, first.3) in (
         record { toks = toks; after = Early line true; are = refl; full = (is.0, is_first) },
         rw is.0 (Home.ends_behind is.1 first.0 line),
@@ -107,14 +107,14 @@ module _ (before : List Piece) (word : Keyword) (n : ℕ) (toks : List Token) (s
 module _ {V : Type 0} (f : Format V) (P Q : List Piece → Type 0) (W X : List Piece → Keyword → ℕ → List Token → Type 0)
     (before : List Piece) (word : Keyword) (n : ℕ) (toks : List Token) (t : Token) where
   pub taken_more : (taken : Taken) → taken ≡ More → ((ts : List Token) → W before word n ts → X before word n ts) →
-      HasTaken f P W before word n toks t taken → HasTaken f Q X before word n toks t taken
+      HasTakenToken f P W before word n toks t taken → HasTakenToken f Q X before word n toks t taken
   taken_more More is each h = (each (toks ++ t ∷ []) h.0, h.1)
   taken_more Last is each h = absurd cc
   taken_more Ending is each h = absurd cc
   taken_more Eof is each h = absurd cc
 
   pub taken_end : (taken : Taken) → taken ≢ More → ((ps : List Piece) → P ps → Q ps) →
-      HasTaken f P W before word n toks t taken → HasTaken f Q X before word n toks t taken
+      HasTakenToken f P W before word n toks t taken → HasTakenToken f Q X before word n toks t taken
   taken_end More is each h = absurd (is refl)
   taken_end Last is each h = (each _ h.0, h.1)
   taken_end Ending is each h = ((λ ones. each _ (h.0 ones)), h.1)

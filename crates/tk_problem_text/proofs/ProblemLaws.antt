@@ -8,7 +8,7 @@ use Rattle.tk_words.specs.declared.keyword.Keyword.TheVariants as words
 use Rattle.tk_words.specs.declared.fault.TextKind.{TextKind}
 use Rattle.tk_words.specs.Lex.{Token}
 use Rattle.tk_words.specs.TextLaws.{HasAnswers, StaysDecided}
-use Rattle.tk_lines.specs.Lists.{entries, list_extent}
+use Rattle.tk_lines.specs.Lists.{list_entries, list_extent}
 use Rattle.tk_lines.specs.Pieces.{After, Clean, Trailing, Early, Piece, Extent, Stop, Fault, first_at, checked, or_else}
 use Rattle.tk_lines.proofs.Answered.{AnswersSections, NotOpen, WholeTokens, not_open_checked, not_open_first}
 use Rattle.tk_lines.proofs.Answered.{not_open_or, not_open_trailing, some_decided, whole_entries}
@@ -133,16 +133,16 @@ module _ (tests : TokenTests) (line : ℕ) (k : TextKind) where
       → tokens_stop tests [] (depot_entries (front ++ last)) ≡ Some (Fault line k) →
       tokens_stop tests [] (depot_entries (take (depot_extent (front ++ rest)).count (front ++ rest))) ≡ Some
       (Fault line k)
-  unfolding tokens_stop entries
+  unfolding tokens_stop list_entries
   depot_stays [] [] rest h le f = absurd (let j : None ≡ Some (Fault line k) = f in cc)
   depot_stays [] (t ∷ []) [] h le f = absurd h
   depot_stays [] (t ∷ []) (u ∷ rest) h le f =
       checked_grown 64 t u (all_tests tests [] t) (all_tests tests [] u) None
-      (tokens_stop tests (u ∷ []) (entries (take (list_extent rest).count rest))) line k h f
+      (tokens_stop tests (u ∷ []) (list_entries (take (list_extent rest).count rest))) line k h f
   depot_stays [] (t ∷ s ∷ last) rest h le f = absurd h
   depot_stays (x ∷ front) last rest h le f =
-      let old : List Token = entries (front ++ last) in
-      let new : List Token = entries (take (list_extent (front ++ rest)).count (front ++ rest)) in
+      let old : List Token = list_entries (front ++ last) in
+      let new : List Token = list_entries (take (list_extent (front ++ rest)).count (front ++ rest)) in
       or_else_kept (checked 64 x (all_tests tests [] x)) (tokens_stop tests (x ∷ []) old)
       (tokens_stop tests (x ∷ []) new) (Fault line k)
       (λ s. tokens_as tests (x ∷ []) new

@@ -60,8 +60,8 @@ between low high (Some (pos n)) = if nat_le low n && nat_le n high then Some n e
 between low high _ = None
 
 -- the first word of a header's value as an integer within these limits
-abbrev pub number_of : ℕ → ℕ → List ℕ → Option ℕ
-number_of low high bs = between low high (integer (first_word bs))
+abbrev pub header_number : ℕ → ℕ → List ℕ → Option ℕ
+header_number low high bs = between low high (integer (first_word bs))
 
 -- the name that a header's value gives
 abbrev pub name_of : List ℕ → List ℕ

@@ -14,7 +14,8 @@ use Rattle.tk_problem.specs.declared.weights.PlaneKind.TheVariants as planes
 use Rattle.tk_problem.specs.declared.weights.Format as Layout
 use Rattle.tk_problem.specs.declared.weights.Format.TheVariants as formats
 use Rattle.tk_words.specs.Lex.{Token, after_word, trim}
-use Rattle.tk_problem_text.specs.HeaderValues.{problem_type_of, weight_type_of, weight_format_of, number_of, name_of}
+use Rattle.tk_problem_text.specs.HeaderValues.{problem_type_of, weight_type_of, weight_format_of, header_number}
+use Rattle.tk_problem_text.specs.HeaderValues.{name_of}
 use Rattle.tk_problem_text.specs.HeaderValues.{is_coordinate_type}
 use Rattle.tk_problem_text.specs.declared.header_values.ProblemType.{ProblemType}
 use Rattle.tk_problem_text.specs.declared.header_values.ProblemType.TheVariants as types
@@ -27,7 +28,7 @@ use Rattle.tk_lines.specs.Pieces.{Piece, Extent, Stop, first_at, or_else, After,
 use Rattle.tk_lines.specs.Pieces.{decided_by}
 use Rattle.tk_words.specs.Entry.{number_tests}
 use Rattle.tk_words.specs.Texts.{Texts, texts_of}
-use Rattle.tk_problem_text.specs.Sections.Rows.{place_tests, demand_tests, places_of, number_in}
+use Rattle.tk_problem_text.specs.Sections.Rows.{place_tests, demand_tests, row_places, number_in}
 use Rattle.tk_problem_text.specs.Sections.WeightSection.{weight_count, weight_tests, lower_weights}
 use Rattle.tk_problem_text.specs.Sections.Rows as Rows
 use Rattle.tk_problem_text.specs.Sections.FixedSections.{tokens_stop, fixed_extent, fixed_end}
@@ -46,10 +47,10 @@ weight_format ps = option_and_then weight_format_of (value_of words.EdgeWeightFo
 
 -- how many nodes there are
 abbrev pub size_of : List Piece → ℕ
-size_of ps = unwrap_or (option_and_then (number_of 2 CITY_LIMIT) (value_of words.Dimension ps)) 0
+size_of ps = unwrap_or (option_and_then (header_number 2 CITY_LIMIT) (value_of words.Dimension ps)) 0
 
 abbrev pub capacity_of : List Piece → ℕ
-capacity_of ps = unwrap_or (option_and_then (number_of 1 CAPACITY_LIMIT) (value_of words.Capacity ps)) 0
+capacity_of ps = unwrap_or (option_and_then (header_number 1 CAPACITY_LIMIT) (value_of words.Capacity ps)) 0
 
 abbrev pub is_cvrp : Option ProblemType → Bool
 is_cvrp (Some types.Cvrp) = true
@@ -174,13 +175,13 @@ pub record ProblemIs : Type 0 where
   pub routing : Option RoutingIs
 
 abbrev pub points_of : List Piece → List Point
-points_of ps = places_of (size_of ps) (tokens_in words.NodeCoordSection ps)
+points_of ps = row_places (size_of ps) (tokens_in words.NodeCoordSection ps)
 
 abbrev pub demands_of : List Piece → List ℕ
 demands_of ps = Rows.demands_of (size_of ps) (tokens_in words.DemandSection ps)
 
-abbrev pub lower_of : List Piece → List ℕ
-lower_of ps = lower_weights (size_of ps) (format_in ps) (tokens_in words.EdgeWeightSection ps)
+abbrev pub lower_in : List Piece → List ℕ
+lower_in ps = lower_weights (size_of ps) (format_in ps) (tokens_in words.EdgeWeightSection ps)
 
 abbrev pub depot_of : List Piece → ℕ
 depot_of ps = get_or (map number_in (tokens_in words.DepotSection ps)) 0 0
@@ -189,7 +190,7 @@ abbrev pub problem_value : List Piece → ProblemIs
 problem_value ps = record {
   name = name_of (unwrap_or (value_of words.Name ps) []);
   n = size_of ps;
-  weights = if is_explicit (weight_type ps) then Lower (lower_of ps)
+  weights = if is_explicit (weight_type ps) then Lower (lower_in ps)
       else Points (plane_kind (weight_type ps)) (points_of ps);
   routing = if is_cvrp (problem_type ps)
       then Some (record { capacity = capacity_of ps; demand = demands_of ps; depot = depot_of ps }) else None;

@@ -5,7 +5,7 @@ ghost use Rattle.tk_words.specs.declared.keyword.Keyword.{Keyword};
 ghost use Rattle.tk_words.specs.declared.fault.TextKind.{TextKind};
 ghost use Rattle.tk_words.specs.Words.{same_word};
 ghost use Rattle.tk_lines.specs.Pieces.{Piece, has, first_at, Fault};
-ghost use Rattle.tk_problem_text.specs.Reader.Kept.{Keeps, Says, once};
+ghost use Rattle.tk_problem_text.specs.Reader.Kept.{KeepsHeader, ValueSays, once};
 ghost use Rattle.tk_lines.specs.Reader.Forms.{IsToldWord, a_header};
 ghost use Rattle.tk_problem_text.specs.Problem.{problem_header};
 ghost use Rattle.tk_words.specs.Lex.{trim, after_word};
@@ -36,14 +36,13 @@ pub struct Headers {
 
 /// Keeps what a header says, which may come once.
 fn keep<A: Copy>(kept: &mut Option<A>, said: Result<A, TextKind>) -> Result<(), TextKind>
-    ensures ok { (word : Keyword) (f : List ℕ
-        → Option A) (tests : List (Bool × TextKind)) (ps : List Piece) (v : List ℕ) (n : ℕ)
-        → same_word word word ≡ true → Keeps word f kept.old ps → Says f tests v said
-        → IfOk result (λ _. Keeps word f kept.new (ps ++ a_header word v n)
+    ensures ok { (word : Keyword) (f : List ℕ → Option A) (tests : List (Bool × TextKind)) (ps : List Piece)
+        (v : List ℕ) (n : ℕ) → same_word word word ≡ true → KeepsHeader word f kept.old ps → ValueSays f tests v said
+        → IfOk result (λ _. KeepsHeader word f kept.new (ps ++ a_header word v n)
         × (first_at n (once word ps tests) ≡ None)) }
-    ensures err { (word : Keyword) (f : List ℕ
-        → Option A) (tests : List (Bool × TextKind)) (ps : List Piece) (v : List ℕ) (n : ℕ) → Keeps word f kept.old ps
-        → Says f tests v said → IfErr result (IsToldWord (λ k. first_at n (once word ps tests) ≡ Some (Fault n k))) }
+    ensures err { (word : Keyword) (f : List ℕ → Option A) (tests : List (Bool × TextKind)) (ps : List Piece)
+        (v : List ℕ) (n : ℕ) → KeepsHeader word f kept.old ps → ValueSays f tests v said
+        → IfErr result (IsToldWord (λ k. first_at n (once word ps tests) ≡ Some (Fault n k))) }
 {
     if kept.is_some() {
         return Err(TextKind::Repeated);

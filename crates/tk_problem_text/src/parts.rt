@@ -1,7 +1,6 @@
 //! The headers and sections of a problem that came so far.
-ghost use Rattle.std.specs.Prelude.{◌≡◌, ◌≤◌, ◌<◌, ◌-◌, ◌^◌, ◌++◌, ℕ, List, [], Some, None, IfOk, IfSome};
+ghost use Rattle.std.specs.Prelude.{◌≡◌, ◌≤◌, ◌<◌, ◌-◌, ◌^◌, ℕ, List, [], Some, None, IfOk, IfSome};
 ghost use Rattle.std.specs.Prelude.{length, slice_index};
-ghost use Rattle.tk_problem.specs.declared.limits.TheConstants.{TABLE_LIMIT};
 ghost use Rattle.tk_lines.specs.Pieces.{Piece};
 ghost use Rattle.tk_lines.specs.Reader.Forms.{IsToldWord};
 ghost use Rattle.tk_problem_text.specs.Problem.{problem_header, problem_end, first_kind, weights_ends, routing_ends_of};
@@ -11,6 +10,7 @@ ghost use Rattle.tk_problem_text.specs.ProblemOf.{weights_are, routing_is};
 ghost use Rattle.tk_problem_text.specs.Reader.Parts.{routing_in};
 ghost use Rattle.tk_problem.specs.Shape.{WeightsFit, RoutingFits};
 ghost use Rattle.tk_lines.specs.Reader.FormSteps.{RefusesHeader, TakesHeader};
+ghost use Rattle.tk_problem_text.specs.Reader.Parts.{KeepsDemand, KeepsDepot, KeepsLower, KeepsPlaces, NotesDisplay};
 
 use crate::header_values::{ProblemType, WeightType};
 use crate::headers::Headers;
@@ -31,15 +31,8 @@ pub struct Parts {
 }
 
 impl Parts {
-    ghost use Rattle.std.specs.Prelude.{true, false, map};
-    ghost use Rattle.tk_words.specs.declared.keyword.Keyword.TheVariants as words;
+    ghost use Rattle.std.specs.Prelude.{true, false};
     ghost use Rattle.tk_problem.specs.declared.weights.Weights.TheVariants as weights;
-    ghost use Rattle.tk_words.specs.Lex.{Token};
-    ghost use Rattle.tk_lines.specs.Pieces.{After, has};
-    ghost use Rattle.tk_lines.specs.Reader.Forms.{a_section};
-    ghost use Rattle.tk_problem_text.specs.Sections.Rows.{places_of, demands_of, number_in};
-    ghost use Rattle.tk_problem_text.specs.Sections.WeightSection.{lower_weights};
-    ghost use Rattle.tk_problem_text.specs.Problem.{size_of, format_in};
     ghost use Rattle.tk_problem_text.specs.Reader.Parts.{HasParts, IsWhole, problem_in};
     ghost use Rattle.tk_problem_text.specs.ProblemOf.{problem_is};
 
@@ -78,50 +71,35 @@ impl Parts {
 
     /// Keeps the places of NODE_COORD_SECTION.
     pub fn keep_places(&mut self, places: Points)
-        ensures { (ps : List Piece) (n : ℕ) (toks : List Token) (after : After) → HasParts self.old ps
-            → has words.Dimension ps ≡ true → has words.NodeCoordSection ps ≡ false
-            → places ≡ places_of (size_of ps) toks
-            → HasParts self.new (ps ++ a_section words.NodeCoordSection n toks after) }
+        ensures { KeepsPlaces places self.old self.new }
     {
         self.places = Some(places);
     }
 
     /// Keeps the lower triangle of EDGE_WEIGHT_SECTION.
     pub fn keep_lower(&mut self, lower: Vec<u32>)
-        ensures { (ps : List Piece) (n : ℕ) (toks : List Token) (after : After) → HasParts self.old ps
-            → has words.Dimension ps ≡ true → has words.EdgeWeightSection ps ≡ false
-            → lower.items ≡ lower_weights (size_of ps) (format_in ps) toks → has words.EdgeWeightFormat ps ≡ true
-            → WeightsFit (size_of ps) (weights.Lower lower)
-            → HasParts self.new (ps ++ a_section words.EdgeWeightSection n toks after) }
+        ensures { KeepsLower lower self.old self.new }
     {
         self.lower = Some(lower);
     }
 
     /// Keeps the demands of DEMAND_SECTION.
     pub fn keep_demand(&mut self, demand: Vec<u32>)
-        ensures { (ps : List Piece) (n : ℕ) (toks : List Token) (after : After) → HasParts self.old ps
-            → has words.Dimension ps ≡ true → has words.DemandSection ps ≡ false
-            → demand.items ≡ demands_of (size_of ps) toks → size_of ps ≤ TABLE_LIMIT
-            → HasParts self.new (ps ++ a_section words.DemandSection n toks after) }
+        ensures { KeepsDemand demand self.old self.new }
     {
         self.demand = Some(demand);
     }
 
     /// Keeps the node of DEPOT_SECTION.
     pub fn keep_depot(&mut self, depot: u32)
-        ensures { (ps : List Piece) (n : ℕ) (toks : List Token) (after : After) → HasParts self.old ps
-            → has words.Dimension ps ≡ true → has words.DepotSection ps ≡ false
-            → depot ≡ slice_index (map number_in toks) 0 → (1 ≤ depot) × (depot ≤ size_of ps)
-            → HasParts self.new (ps ++ a_section words.DepotSection n toks after) }
+        ensures { KeepsDepot depot self.old self.new }
     {
         self.depot = Some(depot);
     }
 
     /// Notes DISPLAY_DATA_SECTION.
     pub fn note_display(&mut self)
-        ensures { (ps : List Piece) (n : ℕ) (toks : List Token) (after : After) → HasParts self.old ps
-            → has words.Dimension ps ≡ true
-            → HasParts self.new (ps ++ a_section words.DisplayDataSection n toks after) }
+        ensures { NotesDisplay self.old self.new }
     {
         self.has_display = true;
     }

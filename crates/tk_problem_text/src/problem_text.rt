@@ -1,5 +1,5 @@
 //! Problem texts.
-ghost use Rattle.std.specs.Prelude.{◌≡◌, Ok, IfOk, IfErr};
+ghost use Rattle.std.specs.Prelude.{Ok, IfOk, IfErr};
 ghost use Rattle.tk_words.specs.Texts.{IsAnswerWhereTold, IsFaultWhereTold, IsOfSomeText, IsFaultOfSomeText, IsIntact};
 ghost use Rattle.tk_problem_text.specs.ProblemOf.{problem_is};
 ghost use Rattle.tk_problem_text.specs.Problem.{problem_texts};
@@ -8,7 +8,7 @@ ghost use Rattle.tk_problem_text.specs.Names.{IsName};
 use crate::problem_form::ProblemForm;
 use std::alloc::Global;
 use tk_lines::PieceReader;
-use tk_problem::{Problem, TEXT_LIMIT};
+use tk_problem::Problem;
 use tk_words::{Source, TextFault, TextKind, read_text};
 
 /// Reads a problem text, as far as it takes to know the answer. What it answers is what every text says that begins
@@ -28,7 +28,7 @@ pub fn read_problem<R: Source>(alloc: Global, source: &mut R) -> Result<Problem,
     ensures intact { IsIntact problem_texts (R.broken source.old) (R.broken source.new) result }
 {
     match ProblemForm::new(alloc) {
-        Ok(form) => read_text(source, PieceReader::new(form), TEXT_LIMIT),
+        Ok(form) => read_text(source, PieceReader::new(form)),
         Err(_) => Err(TextFault {
             line: 1,
             kind: TextKind::NoMemory,

@@ -1,9 +1,7 @@
 //! The tours that runs begin with.
 ghost use Rattle.std.specs.Prelude.{◌≡◌, ◌+◌, ◌%◌, ◌≤◌, IfOk, MatchOption, option_map};
-ghost use Rattle.tk_distance.specs.Cities.{IsCity};
 ghost use Rattle.tk_distance.specs.Tables.{table_size, table_distance};
 ghost use Rattle.tk_near.specs.Near.{near_of};
-ghost use Rattle.tk_tour.specs.Tour.{IsTour};
 ghost use Rattle.tk_tour.specs.ArrayTours.{order_of};
 ghost use Rattle.tk_starts.specs.NearestTour.{IsNearestTour};
 ghost use Rattle.tk_solve.specs.Starts.{IsSavedFor, common_of};

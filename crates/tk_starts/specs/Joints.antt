@@ -8,7 +8,7 @@
 use Rattle.std.specs.Prelude.{◌≡◌, ◌≢◌, ℕ, suc, zero, ◌+◌, ◌<◌, ◌≤◌, Bool, true, false, ◌&&◌, ◌||◌, not, nat_le, List}
 use Rattle.std.specs.Prelude.{[], ◌∷◌, ◌==◌, if◌then◌else◌, length, ◌↔◌, slice_index_or}
 use Rattle.std.specs.List.{All}
-use Rattle.tk_starts.specs.Holding.{holds, IsDistinct}
+use Rattle.tk_distance.specs.Holding.{holds, IsDistinct}
 use Rattle.tk_distance.specs.Cities.{IsCity}
 use Rattle.tk_starts.specs.declared.merges.pairs.Pair.{Pair}
 

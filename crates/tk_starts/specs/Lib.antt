@@ -1,9 +1,9 @@
-pub mod Holding
 pub mod HubDistances
 pub mod Joints
 pub mod NearestTour
 pub mod PairKeys
 pub mod PathEnds
+pub mod PathsOf
 pub mod SavingPairs
 pub mod SavingsMerges
 pub mod Unvisited

@@ -1,7 +1,7 @@
 -- What the arrays of the paths hold of the joints made so far.
 use Rattle.std.specs.Prelude.{◌≡◌, ◌≢◌, ℕ, ◌+◌, ◌<◌, true, List, [], ◌∷◌, ◌==◌, ◌⊎◌, ◌↔◌, if◌then◌else◌, slice_index_or}
 use Rattle.std.specs.Prelude.{◌-◌, Bool, ◌||◌, ◌&&◌, not, nat_le, length}
-use Rattle.tk_starts.specs.Holding.{holds, IsDistinct}
+use Rattle.tk_distance.specs.Holding.{holds, IsDistinct}
 use Rattle.tk_distance.specs.Cities.{IsCity}
 use Rattle.tk_starts.specs.Joints.{part, part_load, joints_at, IsChain, last_from}
 use Rattle.tk_starts.specs.declared.merges.pairs.Pair.{Pair}
@@ -75,8 +75,8 @@ abbrev pub load_of : List ℕ → ℕ → ℕ
 load_of loads c = slice_index_or loads (c - 1) 0
 
 -- two cities of 1..n
-abbrev pub IsWithin : ℕ → Pair → Type 0
-IsWithin n p = IsCity n p.i × IsCity n p.j × (p.i ≢ p.j)
+abbrev pub IsPairWithin : ℕ → Pair → Type 0
+IsPairWithin n p = IsCity n p.i × IsCity n p.j × (p.i ≢ p.j)
 
 abbrev pub is_end_at : List ℕ → List ℕ → ℕ → Bool
 is_end_at one two c = (at one c == 0) || (at two c == 0)

@@ -2,10 +2,10 @@
 --     saving_of dist hub i j      what joining i and j saves
 --     IsPair dist n hub p      two cities i < j other than the hub, with a positive saving
 --     IsCandidate dist near n hub p      such a pair of which one is near the other
---     AreCandidates dist near n hub pairs      all of them, each once, in the rule's order
+--     AreSavingPairs dist near n hub pairs      all of them, each once, in the rule's order
 use Rattle.std.specs.Prelude.{◌≡◌, ◌≢◌, ℕ, ◌+◌, ◌-◌, ◌<◌, true, List, ◌⊎◌, ◌↔◌}
 use Rattle.std.specs.List.{AllPairs, Contains}
-use Rattle.tk_starts.specs.Holding.{holds}
+use Rattle.tk_distance.specs.Holding.{holds}
 use Rattle.tk_distance.specs.Cities.{IsCity}
 use Rattle.tk_starts.specs.declared.merges.pairs.Pair.{Pair}
 
@@ -26,14 +26,14 @@ abbrev pub IsCandidate : (ℕ → ℕ → ℕ) → (ℕ → List ℕ) → ℕ �
 IsCandidate dist near n hub p = IsPair dist n hub p × ((holds (near p.i) p.j ≡ true) ⊎ (holds (near p.j) p.i ≡ true))
 
 -- the pair of c and d
-abbrev pub IsOf : ℕ → ℕ → Pair → Type 0
-IsOf c d p = ((p.i ≡ c) × (p.j ≡ d)) ⊎ ((p.i ≡ d) × (p.j ≡ c))
+abbrev pub IsPairOf : ℕ → ℕ → Pair → Type 0
+IsPairOf c d p = ((p.i ≡ c) × (p.j ≡ d)) ⊎ ((p.i ≡ d) × (p.j ≡ c))
 
 -- by saving falling, then i, then j
 abbrev pub Before : Pair → Pair → Type 0
 Before p q = (q.saving.0 < p.saving.0) ⊎ ((p.saving.0 ≡ q.saving.0) × ((p.i < q.i) ⊎ ((p.i ≡ q.i) × (p.j < q.j))))
 
 -- the pairs of the savings rule, each once, in their order
-pub record AreCandidates (dist : ℕ → ℕ → ℕ) (near : ℕ → List ℕ) (n hub : ℕ) (pairs : List Pair) : Type 0 where
+pub record AreSavingPairs (dist : ℕ → ℕ → ℕ) (near : ℕ → List ℕ) (n hub : ℕ) (pairs : List Pair) : Type 0 where
   pub order : AllPairs Before pairs
   pub all : (p : Pair) → Contains pairs p ↔ IsCandidate dist near n hub p

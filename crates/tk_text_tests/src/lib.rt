@@ -4,6 +4,8 @@
 #[cfg(test)]
 mod examples;
 #[cfg(test)]
+mod fakes;
+#[cfg(test)]
 mod faults;
 #[cfg(test)]
 mod numbers;

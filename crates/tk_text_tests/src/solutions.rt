@@ -1,9 +1,9 @@
 //! Solution texts, read at once and byte by byte.
 
+use crate::fakes::Drip;
 use std::alloc::{AllocError, Global};
 use std::process::Abort;
 use std::test::Fail;
-use tk_fakes::Drip;
 use tk_text::{
     FromRead, Keyword, SolText, TextFault, TextKind, ToWrite, read_solution, write_solution,
 };

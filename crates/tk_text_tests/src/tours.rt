@@ -1,8 +1,8 @@
 //! Tour texts, read at once, byte by byte and in small pieces.
 
+use crate::fakes::{Drip, Padded};
 use std::alloc::{AllocError, Global};
 use std::test::Fail;
-use tk_fakes::{Drip, Padded};
 use tk_text::{FromRead, Keyword, TEXT_LIMIT, TextFault, TextKind, TourText, read_tour};
 
 fn read_whole(alloc: Global, text: &[u8]) -> Result<TourText, TextFault> {
@@ -305,12 +305,20 @@ fn read_padded(alloc: Global, len: u64) -> Result<TourText, TextFault> {
     read_tour(alloc, &mut Padded { text, blanks })
 }
 
-/// A text of the limit's bytes, and one of a byte more.
 #[test]
-fn text_limit(rt: HostRuntime) {
-    let a = rt.alloc();
-    assert!(rt; is_list(read_padded(a, TEXT_LIMIT), &[1]));
-    assert!(rt; is_fault(read_padded(a, TEXT_LIMIT + 1), 3, TextKind::TooLong));
+fn a_text_of_the_limit(rt: HostRuntime) {
+    assert!(rt; is_list(read_padded(rt.alloc(), TEXT_LIMIT), &[1]));
+}
+
+#[test]
+fn a_text_of_one_byte_more(rt: HostRuntime) {
+    assert!(rt;
+        is_fault(
+            read_padded(rt.alloc(), TEXT_LIMIT + 1),
+            3,
+            TextKind::TooLong
+        )
+    );
 }
 
 /// A source is not read past the byte that decides.

@@ -4,7 +4,6 @@ pub mod Cycle
 pub mod Lengths
 pub mod Once
 pub mod Placing
-pub mod SeenTours
 pub mod SegmentMove
 pub mod Steps
 pub mod StoredTours

@@ -11,10 +11,10 @@ abbrev pub IsTourSize : ℕ → Type 0
 IsTourSize n = (2 ≤ n) × (n ≤ CITY_LIMIT)
 
 -- the count comes first; a list of so many cities that is no tour has the fault of its verdict
-abbrev pub IsFaultOf : List ℕ → TourFault → Type 0
-IsFaultOf cities fault.WrongCount = (length cities < 2) ⊎ (CITY_LIMIT < length cities)
-IsFaultOf cities (fault.OutOfRange p) =
+abbrev pub HasTourFault : List ℕ → TourFault → Type 0
+HasTourFault cities fault.WrongCount = (length cities < 2) ⊎ (CITY_LIMIT < length cities)
+HasTourFault cities (fault.OutOfRange p) =
     IsTourSize (length cities) × IsVerdict (length cities) cities (OutOfRange p)
-IsFaultOf cities (fault.RepeatedCity p) =
+HasTourFault cities (fault.RepeatedCity p) =
     IsTourSize (length cities) × IsVerdict (length cities) cities (RepeatedCity p)
-IsFaultOf cities fault.NoMemory = IsTourSize (length cities)
+HasTourFault cities fault.NoMemory = IsTourSize (length cities)

@@ -9,10 +9,5 @@ pub mod Places
 pub mod Printed
 pub mod Reversal
 pub mod ReversalLaws
-pub mod Runs
-pub mod SeenTours
-pub mod SegmentTours
 pub mod Tour
 pub mod Verdict
-pub mod WriteLaws
-pub mod Writes

@@ -1,5 +1,5 @@
 //! Tours: checking, length, what a tour store does, moves made of reversals; array tours and their printed form,
-//! journals that undo reversals, tours that are seen through segments.
+//! journals that undo reversals.
 #![tactic(auto)]
 
 mod fault;
@@ -15,6 +15,6 @@ pub use measure::length;
 pub use store::{Flip, TourStore};
 pub use stores::array::ArrayTour;
 pub use stores::journal::JournalTour;
-pub use stores::segments::tour::SegmentTour;
+pub use stores::placing::place_each;
 pub use undo::UndoStore;
-pub use verdict::{Verdict, check};
+pub use verdict::{Verdict, check, place_cities};

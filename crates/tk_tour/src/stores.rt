@@ -1,6 +1,5 @@
-//! Tour stores: array tours, journals that undo reversals, and tours that are seen through segments.
+//! Tour stores: array tours, and journals that undo reversals.
 pub mod array;
 pub mod journal;
 pub mod placing;
 pub mod reversal;
-pub mod segments;

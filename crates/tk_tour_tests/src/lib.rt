@@ -1,9 +1,11 @@
-//! The tests of tours, descents, starting tours and searches. They have a crate of their own, because the tests of a
-//! crate are proved together with all of its functions.
+//! The tests of distances, near lists, tours, descents, starting tours and searches. They have a crate of their own,
+//! because the tests of a crate are proved together with all of its functions.
 #![tactic(auto)]
 
 #[cfg(test)]
 mod descents;
+#[cfg(test)]
+mod metric;
 #[cfg(test)]
 mod places;
 #[cfg(test)]

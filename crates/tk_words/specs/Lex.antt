@@ -114,7 +114,7 @@ integer (b ∷ bs) =
     else (if b == 43 then signed pos (natural bs) else signed pos (natural (b ∷ bs)))
 
 -- bytes that stand together
-abbrev pub IsRun : List ℕ → Type 0
-IsRun [] = ⊥
-IsRun (b ∷ []) = is_blank b ≡ false
-IsRun (b ∷ c ∷ bs) = (is_blank b ≡ false) × IsRun (c ∷ bs)
+abbrev pub IsUnbroken : List ℕ → Type 0
+IsUnbroken [] = ⊥
+IsUnbroken (b ∷ []) = is_blank b ≡ false
+IsUnbroken (b ∷ c ∷ bs) = (is_blank b ≡ false) × IsUnbroken (c ∷ bs)

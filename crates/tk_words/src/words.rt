@@ -1,5 +1,5 @@
 //! The words that bytes spell.
-ghost use Rattle.std.specs.Prelude.{◌≡◌, List, [], ◌∷◌};
+ghost use Rattle.std.specs.Prelude.{◌≡◌};
 ghost use Rattle.tk_words.specs.Words as Words;
 
 use crate::held::spelled;

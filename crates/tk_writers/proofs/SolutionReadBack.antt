@@ -10,8 +10,8 @@ use Rattle.tk_problem.specs.declared.limits.TheConstants.{ENTRY_LIMIT, ROUTE_LIM
 use Rattle.tk_words.specs.Lex.{Line, Token, lines, tokens_of, after_word, is_empty, front, behind}
 use Rattle.tk_words.specs.Entry.{numbers_of}
 use Rattle.tk_writers.specs.Written.{line, spaced_numbers}
-use Rattle.tk_writers.specs.SolutionWritten.{route_lines, solution_text}
-use Rattle.tk_lists.specs.Solution.{Behind, route_line, number_head, SolutionLine, Route, Cost, Empty, routes_of}
+use Rattle.tk_writers.specs.SolutionWritten.{written_routes, solution_text}
+use Rattle.tk_lists.specs.Solution.{Behind, route_line, number_head, SolutionLine, Route, Cost, Empty, routes_in}
 use Rattle.tk_lists.specs.Solution.{count_of, has_cost, cost_of, customers_stop, line_of, line_stop, judge_lines}
 use Rattle.tk_lists.specs.Solution.{solution_decided, solution_texts}
 use Rattle.tk_writers.specs.ReadBack.{IsSolution, SolutionReadsBack}
@@ -155,10 +155,10 @@ judged before m n w bs ls here is none = rw (is, none) refl
 
 module _ (c : ℕ) (cheap : IsShort c) where
   reads : (before : List SolutionLine) (m n k : ℕ) (w : Bool) (rs : List (List ℕ)) → has_cost before ≡ false
-      → length (routes_of before) + length rs ≤ ROUTE_LIMIT → count_of before + length (concat rs) ≤ ENTRY_LIMIT
+      → length (routes_in before) + length rs ≤ ROUTE_LIMIT → count_of before + length (concat rs) ≤ ENTRY_LIMIT
       → AllByRecursion Small rs → k + length rs < 10000000 →
-      judge_lines before m w (lines true n (route_lines k rs ++ line (codes "Cost " ++ decimal c))) ≡ Some
-      (Ok (routes_of before ++ rs, pos c))
+      judge_lines before m w (lines true n (written_routes k rs ++ line (codes "Cost " ++ decimal c))) ≡ Some
+      (Ok (routes_in before ++ rs, pos c))
   unfolding judge_lines
   reads before m n k w [] unpriced few customers small low =
       let here : SolutionLine = Cost (number_token n c ∷ []) in
@@ -168,8 +168,8 @@ module _ (c : ℕ) (cheap : IsShort c) where
       let number = integer_decimal c cheap in
       let has_here : has_cost priced ≡ true = has_cost-append before (here ∷ []) ∙ rw unpriced refl in
       let has : has_cost all ≡ true = has_cost-append priced (Empty ∷ []) ∙ rw has_here refl in
-      let routes : routes_of all ≡ routes_of before ++ [] = routes_of-append priced (Empty ∷ [])
-      ∙ append-nil (routes_of priced) ∙ routes_of-append before (here ∷ []) in
+      let routes : routes_in all ≡ routes_in before ++ [] = routes_of-append priced (Empty ∷ [])
+      ∙ append-nil (routes_in priced) ∙ routes_of-append before (here ∷ []) in
       let told : cost_of priced ≡ pos c = cost_of-append before (here ∷ []) ∙ rw (unpriced, number) refl in
       let cost : cost_of all ≡ pos c = cost_of-append priced (Empty ∷ []) ∙ rw has_here told in
       let fine : line_stop before n true here ≡ None = rw (unpriced, short, number) refl in
@@ -180,32 +180,32 @@ module _ (c : ℕ) (cheap : IsShort c) where
   reads before m n k w (r ∷ rs) unpriced few customers small low =
       let here : SolutionLine = Route (tokens_on n r) in
       let next : List SolutionLine = before ++ here ∷ [] in
-      let split : lines true n ((line (route_bytes k r) ++ route_lines (k + 1) rs)
+      let split : lines true n ((line (route_bytes k r) ++ written_routes (k + 1) rs)
       ++ line (codes "Cost " ++ decimal c)) ≡ whole_line n (route_bytes k r)
-      ∷ lines true (suc n) (route_lines (k + 1) rs ++ line (codes "Cost " ++ decimal c)) =
+      ∷ lines true (suc n) (written_routes (k + 1) rs ++ line (codes "Cost " ++ decimal c)) =
       ap (lines true n)
-      (append_assoc (line (route_bytes k r)) (route_lines (k + 1) rs) (line (codes "Cost " ++ decimal c)))
-      ∙ lines-written n (route_bytes k r) (route_lines (k + 1) rs ++ line (codes "Cost " ++ decimal c))
+      (append_assoc (line (route_bytes k r)) (written_routes (k + 1) rs) (line (codes "Cost " ++ decimal c)))
+      ∙ lines-written n (route_bytes k r) (written_routes (k + 1) rs ++ line (codes "Cost " ++ decimal c))
       (route_one_line k r (omega (arith, low)) small.0) in
       let is = route_written n k r (omega (arith, low)) small.0 in
-      let room : leb ROUTE_LIMIT (length (routes_of before)) ≡ false = lt-leb _ _ (omega (arith, few)) in
+      let room : leb ROUTE_LIMIT (length (routes_in before)) ≡ false = lt-leb _ _ (omega (arith, few)) in
       let fine : customers_stop (count_of before) (tokens_on n r) ≡ None =
       customers_fine (count_of before) n r small.0 (omega (arith, customers, length-append r (concat rs))) in
-      let more : routes_of next ≡ routes_of before ++ r ∷ [] = routes_of-append before (here ∷ [])
+      let more : routes_in next ≡ routes_in before ++ r ∷ [] = routes_of-append before (here ∷ [])
       ∙ rw (numbers_read n r small.0) refl in
       let counted : count_of next ≡ count_of before + length r =
       omega (arith, count_of-append before (here ∷ []), length_on n r) in
       let still : has_cost next ≡ false = has_cost-append before (here ∷ []) ∙ rw unpriced refl in
       let rest =
       reads next n (suc n) (k + 1) true rs still
-      (omega (arith, few, ap length more, length-append (routes_of before) (r ∷ [])))
+      (omega (arith, few, ap length more, length-append (routes_in before) (r ∷ [])))
       (omega (arith, counted, customers, length-append r (concat rs))) small.1 (omega (arith, low)) in
       let passes : line_stop before n true here ≡ None = rw (unpriced, room, fine) refl in
       ap (judge_lines before m w) split
       ∙ judged before m n w (route_bytes k r)
-      (lines true (suc n) (route_lines (k + 1) rs ++ line (codes "Cost " ++ decimal c))) here is passes
+      (lines true (suc n) (written_routes (k + 1) rs ++ line (codes "Cost " ++ decimal c))) here is passes
       ∙ (rest
-      ∙ rw more (ap (λ (x : List (List ℕ)). Some (Ok (x, pos c))) (append_assoc (routes_of before) (r ∷ []) rs)))
+      ∙ rw more (ap (λ (x : List (List ℕ)). Some (Ok (x, pos c))) (append_assoc (routes_in before) (r ∷ []) rs)))
 
 said : (routes : List (List ℕ)) (cost : ℕ) → IsSolution routes cost →
     solution_decided true (solution_text routes cost) ≡ Some (Ok (routes, pos cost))

@@ -10,9 +10,9 @@ use Rattle.tk_words.specs.declared.keyword.Keyword.TheVariants as words
 use Rattle.tk_words.specs.Lex.{Line, Token, is_blank, behind, integer, lines, tokens, tokens_of, trim}
 use Rattle.tk_writers.specs.MatrixText.{number_line}
 use Rattle.tk_lines.specs.Pieces.{Piece, Section, Clean, end_piece, end_token, last_line, pieces_at, section_at, stop}
-use Rattle.tk_writers.specs.ReadBack.{IsTour, TourReadsBack}
+use Rattle.tk_writers.specs.ReadBack.{IsTourText, TourReadsBack}
 use Rattle.tk_lines.specs.HeaderValue.{first_word}
-use Rattle.tk_lines.specs.Lists.{entries, list_extent, AreEntries}
+use Rattle.tk_lines.specs.Lists.{list_entries, list_extent, AreEntries}
 use Rattle.tk_lists.specs.Tour.{entries_stop, entry_stop, tour_decided, tour_format, tour_texts}
 use Rattle.tk_words.specs.Entry.{is_eof, is_eof_word, is_keyword, is_some_word, natural_or_zero, numbers_of}
 use Rattle.tk_writers.specs.TourWritten.{tour_head, tour_text}
@@ -254,18 +254,18 @@ module _ (toks : List Token) (xs : List ℕ) (written : AreWritten toks xs) (sma
       (sym (append_assoc toks (minus e ∷ []) (eof ∷ [])))
       ∙ rw (extent, take_whole all (eof ∷ []), clean (last_line 5 all) all eof end (omega (arith, last_is))) refl
 
-  entries_are : entries all ≡ toks
+  entries_are : list_entries all ≡ toks
   entries_are = entries_ended toks [] (minus e) are refl
 
-  numbers_read : numbers_of (entries all) ≡ xs
+  numbers_read : numbers_of (list_entries all) ≡ xs
   numbers_read = ap numbers_of entries_are ∙ numbers_are toks xs written
 
-  all_fine : entries_stop 0 (entries all) ≡ None
+  all_fine : entries_stop 0 (list_entries all) ≡ None
   all_fine = ap (entries_stop 0) entries_are ∙ fine
 
 -- ---- the text
 
-module _ (name : List ℕ) (size : ℕ) (cities : List ℕ) (h : IsTour name size cities) where
+module _ (name : List ℕ) (size : ℕ) (cities : List ℕ) (h : IsTourText name size cities) where
   abbrev n : ℕ
   n = length cities
 
@@ -392,7 +392,7 @@ module _ (name : List ℕ) (size : ℕ) (cities : List ℕ) (h : IsTour name siz
       ∙ says-head (end_piece all)
       ∙ says-body (end_piece all)
 
-pub tour_read_back : (name : List ℕ) (size : ℕ) (cities : List ℕ) → IsTour name size cities →
+pub tour_read_back : (name : List ℕ) (size : ℕ) (cities : List ℕ) → IsTourText name size cities →
     TourReadsBack name size cities
 tour_read_back name size cities h =
     read_within tour_texts (tour_text name size cities) cities (length_tour_text name size cities h.named.short h.few)

@@ -17,25 +17,25 @@ has_entry formats.UpperDiagCol i j = nat_le i j
 has_entry formats.LowerDiagCol i j = nat_le j i
 
 -- whether its lines are the columns and not the rows
-abbrev pub by_columns : Format → Bool
-by_columns formats.FullMatrix = false
-by_columns formats.UpperRow = false
-by_columns formats.LowerRow = false
-by_columns formats.UpperDiagRow = false
-by_columns formats.LowerDiagRow = false
-by_columns formats.UpperCol = true
-by_columns formats.LowerCol = true
-by_columns formats.UpperDiagCol = true
-by_columns formats.LowerDiagCol = true
+abbrev pub has_column_lines : Format → Bool
+has_column_lines formats.FullMatrix = false
+has_column_lines formats.UpperRow = false
+has_column_lines formats.LowerRow = false
+has_column_lines formats.UpperDiagRow = false
+has_column_lines formats.LowerDiagRow = false
+has_column_lines formats.UpperCol = true
+has_column_lines formats.LowerCol = true
+has_column_lines formats.UpperDiagCol = true
+has_column_lines formats.LowerDiagCol = true
 
 -- the row and the column of place m of line k
-abbrev pub place : Format → ℕ → ℕ → ℕ × ℕ
-place f k m = if by_columns f then (m, k) else (k, m)
+abbrev pub entry_place : Format → ℕ → ℕ → ℕ × ℕ
+entry_place f k m = if has_column_lines f then (m, k) else (k, m)
 
 -- the places of line k that the format has
 abbrev pub on_line : ℕ → Format → ℕ → List ℕ
-on_line n f k = filter (λ m. has_entry f (place f k m).0 (place f k m).1) (range_with_len 1 n)
+on_line n f k = filter (λ m. has_entry f (entry_place f k m).0 (entry_place f k m).1) (range_with_len 1 n)
 
 -- the rows and columns of all entries, in their order
 abbrev pub line_places : ℕ → Format → ℕ → List (ℕ × ℕ)
-line_places n f k = map (place f k) (on_line n f k)
+line_places n f k = map (entry_place f k) (on_line n f k)

@@ -43,6 +43,6 @@ matrix_text name n table f =
     ++ line (codes "EOF")
 
 -- calls at two of the cities 1 to n may be made, and give what the table has
-pub record Gives (pre : ℕ → ℕ → Type 0) (post : ℕ → ℕ → ℤ → Type 0) (n : ℕ) (table : ℕ → ℕ → ℕ) : Type 0 where
+pub record GivesTable (pre : ℕ → ℕ → Type 0) (post : ℕ → ℕ → ℤ → Type 0) (n : ℕ) (table : ℕ → ℕ → ℕ) : Type 0 where
   pub calls : (a b : ℕ) → 1 ≤ a → a ≤ n → 1 ≤ b → b ≤ n → pre a b
   pub gives : (a b : ℕ) (r : ℤ) → 1 ≤ a → a ≤ n → 1 ≤ b → b ≤ n → post a b r → r ≡ pos (table a b)

@@ -6,18 +6,20 @@ use Rattle.tk_writers.specs.declared.output.pen.WriteFault.{WriteFault}
 use Rattle.tk_writers.specs.Puts.{IsPut, Stops}
 
 -- a text was put into a pen
-abbrev pub Holds : {W : Type 0} → (W → Option (List ℕ)) → (W → Bool) → Option (List ℕ) → Bool → List ℕ → Pen W → Type 0
-Holds taken broken start failed text p = IsPut taken broken start failed text p.sink.now p.written p.stopped p.page
+abbrev pub PenHolds : {W : Type 0} → (W → Option (List ℕ)) → (W → Bool) → Option (List ℕ) → Bool → List ℕ →
+    Pen W → Type 0
+PenHolds taken broken start failed text p = IsPut taken broken start failed text p.sink.now p.written p.stopped p.page
 
 -- bytes are put after all that was put before
 pub record Puts {W : Type 0} (taken : W → Option (List ℕ)) (broken : W → Bool) (p q : Pen W)
     (bytes : List ℕ) : Type 0 where
   pub same : q.sink.ghost_name ≡ p.sink.ghost_name
-  pub text : (start : Option (List ℕ)) (failed : Bool) (text : List ℕ) → Holds taken broken start failed text p →
-      Holds taken broken start failed (text ++ bytes) q
+  pub text : (start : Option (List ℕ)) (failed : Bool) (text : List ℕ) → PenHolds taken broken start failed text p →
+      PenHolds taken broken start failed (text ++ bytes) q
 
 -- a pen that ends leaves all that was put in its sink, or just the first bytes of it
-abbrev pub Ends : {W : Type 0} → (W → Option (List ℕ)) → (W → Bool) → Pen W → W → Result (Unit {0}) WriteFault → Type 0
-Ends taken broken p w r =
-    (start : Option (List ℕ)) (failed : Bool) (text : List ℕ) → Holds taken broken start failed text p →
+abbrev pub PenEnds : {W : Type 0} → (W → Option (List ℕ)) → (W → Bool) → Pen W → W →
+    Result (Unit {0}) WriteFault → Type 0
+PenEnds taken broken p w r =
+    (start : Option (List ℕ)) (failed : Bool) (text : List ℕ) → PenHolds taken broken start failed text p →
     MatchResult r (λ _. Appends start (taken w) text × (broken w ≡ failed)) (λ f. Stops taken broken start text w f)

@@ -47,7 +47,7 @@ SolutionReadsBack routes cost = IsReadBackAs solution_texts (solution_text route
 
 -- a name, a length and cities as a tour text can have them: after the name there is room for the length and the text's
 -- ending
-pub record IsTour (name : List ℕ) (size : ℕ) (cities : List ℕ) : Type 0 where
+pub record IsTourText (name : List ℕ) (size : ℕ) (cities : List ℕ) : Type 0 where
   pub named : IsName name
   pub room : length name ≤ 1000
   pub cheap : size ≤ 4 * 10 ^ 14

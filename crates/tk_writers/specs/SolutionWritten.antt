@@ -3,13 +3,13 @@ use Rattle.std.specs.Prelude.{ℕ, ◌+◌, List, [], ◌∷◌, ◌++◌, codes
 use Rattle.tk_writers.specs.Written.{line, spaced_numbers}
 
 -- a route's number and its customers
-abbrev pub route_line : ℕ → List ℕ → List ℕ
-route_line number customers = line (codes "Route #" ++ decimal number ++ codes ": " ++ spaced_numbers customers)
+abbrev pub written_route : ℕ → List ℕ → List ℕ
+written_route number customers = line (codes "Route #" ++ decimal number ++ codes ": " ++ spaced_numbers customers)
 
 -- routes, numbered from a number on
-abbrev pub route_lines : ℕ → List (List ℕ) → List ℕ
-route_lines number [] = []
-route_lines number (r ∷ rs) = route_line number r ++ route_lines (number + 1) rs
+abbrev pub written_routes : ℕ → List (List ℕ) → List ℕ
+written_routes number [] = []
+written_routes number (r ∷ rs) = written_route number r ++ written_routes (number + 1) rs
 
 abbrev pub solution_text : List (List ℕ) → ℕ → List ℕ
-solution_text routes cost = route_lines 1 routes ++ line (codes "Cost " ++ decimal cost)
+solution_text routes cost = written_routes 1 routes ++ line (codes "Cost " ++ decimal cost)

@@ -1,11 +1,11 @@
 //! Writes a table of distances as explicit weights.
-ghost use Rattle.std.specs.Prelude.{◌≡◌, ◌≢◌, IfSome, ℕ, ◌+◌, ◌-◌, ◌≤◌, ◌<◌, ◌++◌, true, length, decimal, codes, pos};
-ghost use Rattle.std.specs.Prelude.{IsTrue, OnErr, flat_map};
+ghost use Rattle.std.specs.Prelude.{◌≡◌, ◌≢◌, IfSome, ℕ, ◌+◌, ◌-◌, ◌≤◌, ◌<◌, true, length};
+ghost use Rattle.std.specs.Prelude.{OnErr};
 ghost use Rattle.std.specs.List.{range_with_len};
 ghost use Rattle.tk_problem.specs.declared.limits.TheConstants.{TABLE_LIMIT};
 ghost use Rattle.tk_problem.specs.declared.weights.Format.{Format};
-ghost use Rattle.tk_writers.specs.FormatLines.{by_columns, on_line, place};
-ghost use Rattle.tk_writers.specs.MatrixText.{format_word, Gives, matrix_head, matrix_line, matrix_text};
+ghost use Rattle.tk_writers.specs.FormatLines.{has_column_lines, on_line, entry_place};
+ghost use Rattle.tk_writers.specs.MatrixText.{format_word, GivesTable, matrix_head, matrix_line, matrix_text};
 ghost use Rattle.tk_writers.specs.Pens.{Puts};
 ghost use Rattle.tk_writers.specs.Puts.{Writes};
 ghost use Rattle.tk_problem_text.specs.Names.{IsName};
@@ -53,7 +53,7 @@ pub fn format_of(word: &str) -> Option<Format>
 
 /// Whether the lines of a format are columns.
 fn is_by_columns(f: Format) -> bool
-    ensures { result ≡ by_columns f }
+    ensures { result ≡ has_column_lines f }
 {
     matches!(
         f,
@@ -82,9 +82,9 @@ fn places_on_line(n: u32, f: Format, k: u32) -> (u32, u32)
 fn entry<D: Fn(u32, u32) -> i64>(n: u32, d: &D, f: Format, k: u32, m: u32) -> u64
     requires k { (1 ≤ k) × (k ≤ n) }
     requires m { (1 ≤ m) × (m ≤ n) }
-    requires table { (table : ℕ → ℕ → ℕ) × Gives (D.pre d.now) (D.post d.now) n table }
-    ensures { (table : ℕ → ℕ → ℕ) → Gives (D.pre d.now) (D.post d.now) n table
-        → result ≡ table (place f k m).0 (place f k m).1 }
+    requires table { (table : ℕ → ℕ → ℕ) × GivesTable (D.pre d.now) (D.post d.now) n table }
+    ensures { (table : ℕ → ℕ → ℕ) → GivesTable (D.pre d.now) (D.post d.now) n table
+        → result ≡ table (entry_place f k m).0 (entry_place f k m).1 }
 {
     let distance = if is_by_columns(f) { d(m, k) } else { d(k, m) };
     distance as u64
@@ -107,9 +107,9 @@ fn put_head<W: Sink>(pen: &mut Pen<'_, W>, name: &[u8], n: u32, f: Format)
 fn put_line<W: Sink, D: Fn(u32, u32) -> i64>(pen: &mut Pen<'_, W>, n: u32, d: &D, f: Format, k: u32)
     requires few { n ≤ TABLE_LIMIT }
     requires k { (1 ≤ k) × (k ≤ n) }
-    requires table { (table : ℕ → ℕ → ℕ) × Gives (D.pre d.now) (D.post d.now) n table }
+    requires table { (table : ℕ → ℕ → ℕ) × GivesTable (D.pre d.now) (D.post d.now) n table }
     ensures same { pen.new.sink.ghost_name ≡ pen.old.sink.ghost_name }
-    ensures puts { (table : ℕ → ℕ → ℕ) → Gives (D.pre d.now) (D.post d.now) n table
+    ensures puts { (table : ℕ → ℕ → ℕ) → GivesTable (D.pre d.now) (D.post d.now) n table
         → Puts W.taken W.broken pen.old pen.new (matrix_line n table f k) }
 {
     let (first, end) = places_on_line(n, f, k);
@@ -133,9 +133,9 @@ fn put_matrix<W: Sink, D: Fn(u32, u32) -> i64>(
     f: Format,
 )
     requires few { n ≤ TABLE_LIMIT }
-    requires table { (table : ℕ → ℕ → ℕ) × Gives (D.pre d.now) (D.post d.now) n table }
+    requires table { (table : ℕ → ℕ → ℕ) × GivesTable (D.pre d.now) (D.post d.now) n table }
     ensures same { pen.new.sink.ghost_name ≡ pen.old.sink.ghost_name }
-    ensures puts { (table : ℕ → ℕ → ℕ) → Gives (D.pre d.now) (D.post d.now) n table
+    ensures puts { (table : ℕ → ℕ → ℕ) → GivesTable (D.pre d.now) (D.post d.now) n table
         → Puts W.taken W.broken pen.old pen.new (matrix_text name.now n table f) }
 {
     put_head(pen, name, n, f);
@@ -158,10 +158,10 @@ pub fn write_matrix<W: Sink, D: Fn(u32, u32) -> i64>(
     f: Format,
 ) -> Result<(), WriteFault>
     requires few { n ≤ TABLE_LIMIT }
-    requires table { (table : ℕ → ℕ → ℕ) × Gives (D.pre d.now) (D.post d.now) n table }
-    ensures text { (table : ℕ → ℕ → ℕ) → Gives (D.pre d.now) (D.post d.now) n table
+    requires table { (table : ℕ → ℕ → ℕ) × GivesTable (D.pre d.now) (D.post d.now) n table }
+    ensures text { (table : ℕ → ℕ → ℕ) → GivesTable (D.pre d.now) (D.post d.now) n table
         → Writes W.taken W.broken w.old w.new result (matrix_text name.now n table f) }
-    ensures read_back { (table : ℕ → ℕ → ℕ) → Gives (D.pre d.now) (D.post d.now) n table → IsName name.now
+    ensures read_back { (table : ℕ → ℕ → ℕ) → GivesTable (D.pre d.now) (D.post d.now) n table → IsName name.now
         → IsTable n table → 2 ≤ n
         → ReadsBack name.now n table f }
     ensures failed { length name.now ≤ 1024 → OnErr result (W.broken w.new ≡ true) }

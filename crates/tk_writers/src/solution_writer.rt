@@ -6,14 +6,14 @@ ghost use Rattle.tk_problem.specs.declared.limits.TheConstants.{ENTRY_LIMIT, ROU
 ghost use Rattle.tk_writers.specs.Pens.{Puts};
 ghost use Rattle.tk_writers.specs.Puts.{Writes};
 ghost use Rattle.tk_writers.specs.ReadBack.{IsSolution, SolutionReadsBack};
-ghost use Rattle.tk_writers.specs.SolutionWritten.{route_line, route_lines, solution_text};
+ghost use Rattle.tk_writers.specs.SolutionWritten.{written_route, written_routes, solution_text};
 
 use crate::output::pen::{Pen, WriteFault};
 use crate::output::sink::Sink;
 
 /// Writes a route's line.
 fn put_route<W: Sink>(pen: &mut Pen<'_, W>, number: u64, customers: &[u32])
-    ensures { Puts W.taken W.broken pen.old pen.new (route_line number customers.now) }
+    ensures { Puts W.taken W.broken pen.old pen.new (written_route number customers.now) }
 {
     pen.put(b"Route #");
     pen.put_number(number);
@@ -24,7 +24,7 @@ fn put_route<W: Sink>(pen: &mut Pen<'_, W>, number: u64, customers: &[u32])
 
 /// Writes the lines of all routes.
 fn put_routes<W: Sink>(pen: &mut Pen<'_, W>, routes: &[Vec<u32>])
-    ensures { Puts W.taken W.broken pen.old pen.new (route_lines 1 (map (λ r. r.items) routes.now)) }
+    ensures { Puts W.taken W.broken pen.old pen.new (written_routes 1 (map (λ r. r.items) routes.now)) }
 {
     for (i, route) in routes.iter().enumerate() {
         put_route(pen, i as u64 + 1, route.as_slice());

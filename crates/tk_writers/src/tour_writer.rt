@@ -4,7 +4,7 @@ ghost use Rattle.std.specs.Int.RustNames.{unsigned_abs};
 ghost use Rattle.tk_problem.specs.declared.limits.TheConstants.{ENTRY_LIMIT};
 ghost use Rattle.tk_writers.specs.Pens.{Puts};
 ghost use Rattle.tk_writers.specs.Puts.{Writes};
-ghost use Rattle.tk_writers.specs.ReadBack.{IsTour, TourReadsBack};
+ghost use Rattle.tk_writers.specs.ReadBack.{IsTourText, TourReadsBack};
 ghost use Rattle.tk_writers.specs.TourWritten.{tour_head, tour_text};
 ghost use Rattle.tk_writers.specs.Written.{line};
 
@@ -58,7 +58,7 @@ pub fn write_tour<W: Sink>(
 ) -> Result<(), WriteFault>
     requires { pos 0 ≤ℤ length }
     ensures text { Writes W.taken W.broken w.old w.new result (tour_text name.now (unsigned_abs length) cities.now) }
-    ensures read_back { IsTour name.now (unsigned_abs length) cities.now
+    ensures read_back { IsTourText name.now (unsigned_abs length) cities.now
         → TourReadsBack name.now (unsigned_abs length) cities.now }
     ensures failed { count name.now ≤ 1024 → count cities.now ≤ ENTRY_LIMIT → OnErr result (W.broken w.new ≡ true) }
 {

@@ -13,9 +13,9 @@ use Rattle.tk_engines.specs.Plot.{WritesOutput, plot_task}
 use Rattle.tk_engines.specs.declared.engines.plotted.Plotted.{Plotted}
 use Rattle.tourkit_c.proofs.TextsSaid.{says}
 use Rattle.tourkit_c.proofs.Stops.{solution_stop, tour_stop}
-use Rattle.tourkit_c.specs.Answers.{IsStop, NoClash}
+use Rattle.tourkit_c.specs.Answers.{IsStop, NeverClashes}
 use Rattle.tourkit_c.specs.Plotted.{ClaimSays, IsPlotOf, IsSolutionFault, IsTourFault, line_in, picture_in, plot_misfit}
-use Rattle.tourkit_c.specs.Texts.{Says}
+use Rattle.tourkit_c.specs.Texts.{TextSays}
 
 -- what is claimed, its text says
 pub claim_says : {S : Type 0} (given : Bool) (left : S → Option (List ℕ)) (broken : S → Bool) (old new : S)
@@ -81,21 +81,22 @@ plot_said left broken old new claim_left claim_broken claim_old claim_new taken 
     )
 
 claim_stop_of : {C : Type 0} (given : Bool) (left : C → Option (List ℕ)) (broken : C → Bool) (old new : C)
-    (problem claim : List ℕ) (e : left old ≡ Some claim) (p : ProblemIs) (said : Says problem_texts problem p)
+    (problem claim : List ℕ) (e : left old ≡ Some claim) (p : ProblemIs) (said : TextSays problem_texts problem p)
     (fits : plot_misfit p ≡ None) (v : Fault) → given ≡ true → (o : Option RoutingIs) → p.routing ≡ o
     → MatchOption o (ReadsTour left broken old new (Err v)) (λ _. ReadsSolution left broken old new (Err v)) →
-    IsStop plot_misfit NoClash (IsTourFault given claim) (IsSolutionFault given claim) problem v
+    IsStop plot_misfit NeverClashes (IsTourFault given claim) (IsSolutionFault given claim) problem v
 claim_stop_of given left broken old new problem claim e p said fits v is None r h =
-    tour_stop plot_misfit NoClash (IsTourFault given claim) (IsSolutionFault given claim) problem p said fits left
+    tour_stop plot_misfit NeverClashes (IsTourFault given claim) (IsSolutionFault given claim) problem p said fits left
     broken old new claim e v (λ f has. (is, r, has)) h
 claim_stop_of given left broken old new problem claim e p said fits v is (Some routing) r h =
-    solution_stop plot_misfit NoClash (IsTourFault given claim) (IsSolutionFault given claim) problem p said fits left
+    solution_stop plot_misfit NeverClashes (IsTourFault given claim) (IsSolutionFault given claim) problem p
+    said fits left
     broken old new claim e v (λ f has. (is, ap is_some r, has)) h
 
 -- what is claimed was refused
 pub claim_stop : {C : Type 0} (left : C → Option (List ℕ)) (broken : C → Bool) (old new : C) (problem claim : List ℕ)
     (e : left old ≡ Some claim) (given : Bool) (p : ProblemIs) (v : Fault)
-    → Says problem_texts problem p → plot_misfit p ≡ None → ReadsClaim given left broken old new p (Err v) →
-    IsStop plot_misfit NoClash (IsTourFault given claim) (IsSolutionFault given claim) problem v
+    → TextSays problem_texts problem p → plot_misfit p ≡ None → ReadsClaim given left broken old new p (Err v) →
+    IsStop plot_misfit NeverClashes (IsTourFault given claim) (IsSolutionFault given claim) problem v
 claim_stop left broken old new problem claim e given p v said fits h =
     claim_stop_of given left broken old new problem claim e p said fits v h.0 p.routing refl h.1

@@ -11,12 +11,12 @@ use Rattle.tk_engines.specs.declared.fault.Fault.{Fault}
 use Rattle.tk_engines.specs.declared.fault.Fault.TheVariants as faults
 use Rattle.tourkit_c.proofs.TextsSaid.{has_fault, says}
 use Rattle.tourkit_c.specs.Answers.{IsMisfitOf, IsStop}
-use Rattle.tourkit_c.specs.Texts.{HasFault, Says}
+use Rattle.tourkit_c.specs.Texts.{HasFault, TextSays}
 
 -- the text of a tour, or of a solution, was refused, of a problem that fits
 module _ {S : Type 0} (misfit : ProblemIs → Option Fault) (Clash : TourFault → Type 0)
     (Tour Solution : ProblemIs → TextFault → Type 0) (problem : List ℕ) (p : ProblemIs)
-    (said : Says problem_texts problem p) (fits : misfit p ≡ None) (left : S → Option (List ℕ)) (broken : S → Bool)
+    (said : TextSays problem_texts problem p) (fits : misfit p ≡ None) (left : S → Option (List ℕ)) (broken : S → Bool)
     (old new : S) (text : List ℕ) (e : left old ≡ Some text) (v : Fault) where
   pub tour_stop : ((f : TextFault) → HasFault tour_texts text f → Tour p f) → ReadsTour left broken old new (Err v) →
       IsStop misfit Clash Tour Solution problem v
@@ -44,9 +44,10 @@ module _ {S B R T : Type 0} (task : Task B R T) (Clash : TourFault → Type 0)
     (Tour Solution : ProblemIs → TextFault → Type 0) (left : S → Option (List ℕ)) (broken : S → Bool) (old new : S)
     (problem : List ℕ) (e : left old ≡ Some problem)
     (Second : ProblemIs → Reading B) (Writes : Writing T)
-    (seconds : (p : ProblemIs) (v : Fault) → Says problem_texts problem p → task.misfit p ≡ None → Second p (Err v) →
+    (seconds : (p : ProblemIs) (v : Fault) → TextSays problem_texts problem p → task.misfit p ≡ None →
+    Second p (Err v) →
     IsStop task.misfit Clash Tour Solution problem v)
-    (clashes : (p : ProblemIs) (b : B) (f : TourFault) → Says problem_texts problem p → Second p (Ok b) →
+    (clashes : (p : ProblemIs) (b : B) (f : TourFault) → TextSays problem_texts problem p → Second p (Ok b) →
     task.IsClash p b (Some (faults.Initial f)) → Clash f) where
   misfit_stop : (v : Fault) → IsMisfit task (ReadsProblem left broken old new) v → IsMisfitOf task.misfit problem v
   misfit_stop v h =

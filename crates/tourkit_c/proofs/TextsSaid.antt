@@ -4,11 +4,11 @@ use Rattle.std.specs.Prelude.{IfSome}
 use Rattle.tk_words.specs.declared.fault.TextFault.{TextFault}
 use Rattle.tk_text.specs.Texts.{Cause, OfText, OfSource, OfMemory, Texts, IsAnswer, IsFaultOf, IsToldOf, answer_of}
 use Rattle.tk_engines.specs.Engine.{IsRead, IsRefused}
-use Rattle.tourkit_c.specs.Texts.{HasFault, Says}
+use Rattle.tourkit_c.specs.Texts.{HasFault, TextSays}
 
 -- what a source was read as, its text says
 pub says : {V S : Type 0} (texts : Texts V TextFault) (left : S → Option (List ℕ)) (broken : S → Bool) (old new : S)
-    (text : List ℕ) (v : V) → left old ≡ Some text → IsRead texts left broken old new v → Says texts text v
+    (text : List ℕ) (v : V) → left old ≡ Some text → IsRead texts left broken old new v → TextSays texts text v
 says {V} texts left broken old new text v e h =
     (subst (λ (o : Option (List ℕ)). IfSome o (λ t. (rest : List ℕ) × (left new ≡ Some rest)
     × IsAnswer texts t rest (Ok v))) e h.answer).2.answer

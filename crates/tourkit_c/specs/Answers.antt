@@ -12,7 +12,7 @@ use Rattle.tk_words.specs.declared.fault.TextKind.TheVariants as kinds
 use Rattle.tk_params.specs.declared.fault.ParamFault.{ParamFault}
 use Rattle.tk_params.specs.declared.fault.ParamKind.{ParamKind}
 use Rattle.tk_params.specs.declared.fault.ParamKind.TheVariants as params
-use Rattle.tourkit_c.specs.Texts.{HasFault, Says}
+use Rattle.tourkit_c.specs.Texts.{HasFault, TextSays}
 use Rattle.tourkit_c.specs.declared.answer.Answer.{Answer}
 
 -- the number of a kind of fault, as the message has it
@@ -100,7 +100,7 @@ IsFaultAnswer problem faults.NoMemory answer = answer.status ≡ 3
 IsFaultAnswer problem f answer = (answer.text ≡ 0) × (answer.kind ≡ misfit_number f)
 
 -- the text has the fault that the answer tells
-pub record IsRefused {V : Type 0} (texts : Texts V TextFault) (number : ℕ) (text : List ℕ)
+pub record IsFaulty {V : Type 0} (texts : Texts V TextFault) (number : ℕ) (text : List ℕ)
     (answer : Answer) : Type 0 where
   pub fault : TextFault
   pub told : Tells number fault answer
@@ -109,7 +109,7 @@ pub record IsRefused {V : Type 0} (texts : Texts V TextFault) (number : ℕ) (te
 -- the problem of a text does not fit the task, for this reason
 pub record IsMisfitOf (misfit : ProblemIs → Option Fault) (problem : List ℕ) (f : Fault) : Type 0 where
   pub p : ProblemIs
-  pub is_problem : Says problem_texts problem p
+  pub is_problem : TextSays problem_texts problem p
   pub misfit_is : misfit p ≡ Some f
 
 -- any problem fits the task
@@ -119,7 +119,7 @@ fits_any p = None
 -- the problem of a text fits the task, and this is so of it
 pub record IsFitAnd (misfit : ProblemIs → Option Fault) (problem : List ℕ) (Fact : ProblemIs → Type 0) : Type 0 where
   pub p : ProblemIs
-  pub is_problem : Says problem_texts problem p
+  pub is_problem : TextSays problem_texts problem p
   pub fits : misfit p ≡ None
   pub fact : Fact p
 
@@ -128,8 +128,8 @@ abbrev pub NoFault : ProblemIs → TextFault → Type 0
 NoFault p f = ⊥
 
 -- no second text clashes with the problem
-abbrev pub NoClash : TourFault → Type 0
-NoClash f = ⊥
+abbrev pub NeverClashes : TourFault → Type 0
+NeverClashes f = ⊥
 
 -- an engine stopped at the fault of the problem's text, at a problem that does not fit, at the fault of a tour's text
 -- or of a solution's where the problem fits, at a tour that clashes with it, or otherwise
@@ -158,7 +158,7 @@ NoRefusal p answer = ⊥
 pub record IsRightRefusal (misfit : ProblemIs → Option Fault) (Clash : TourFault → Type 0)
     (Second : ProblemIs → Answer → Type 0) (first : ℕ) (problem : List ℕ) (answer : Answer) : Type 0 where
   pub known : (answer.text ≡ 0) ⊎ ((answer.text ≡ first) ⊎ (answer.text ≡ first + 1))
-  pub is_problem : answer.text ≡ first → IsRefused problem_texts first problem answer
+  pub is_problem : answer.text ≡ first → IsFaulty problem_texts first problem answer
   pub is_second : answer.text ≡ first + 1 →
       IsFitAnd misfit problem (λ p. Second p answer) ⊎ ((f : TourFault) × Clash f × IsTourAnswer f answer)
   pub is_misfit : answer.text ≡ 0 → IsMisfitAnswer misfit problem answer

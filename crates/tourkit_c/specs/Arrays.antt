@@ -6,7 +6,7 @@ use Rattle.tk_metric.specs.Near.{AreNearest}
 use Rattle.tk_tour.specs.Tour.{tour_length}
 use Rattle.tk_tour.specs.Verdict.{IsVerdict}
 use Rattle.tk_tour.specs.declared.verdict.Verdict.TheVariants.{Tour, WrongCount, OutOfRange, RepeatedCity}
-use Rattle.tourkit_c.specs.Texts.{Says}
+use Rattle.tourkit_c.specs.Texts.{TextSays}
 use Rattle.tourkit_c.specs.declared.answer.Answer.{Answer}
 
 -- the distances of n cities, row by row: that of cities a and b at (a - 1) n + (b - 1)
@@ -17,7 +17,7 @@ pub record AreDistances (n : ℕ) (distance : ℕ → ℕ → ℕ) (entries : Li
 -- the distances of the problem of a text
 pub record AreDistancesOf (problem : List ℕ) (entries : List ℤ) : Type 0 where
   pub p : ProblemIs
-  pub is_problem : Says problem_texts problem p
+  pub is_problem : TextSays problem_texts problem p
   pub are : AreDistances p.n (read_distance p.weights) entries
 
 -- the near lists of n cities, one after another: k cities each, or all others where there are fewer
@@ -28,7 +28,7 @@ AreNearIn n distance k entries =
 -- the near lists of the problem of a text
 pub record AreNearOf (k : ℕ) (problem : List ℕ) (entries : List ℕ) : Type 0 where
   pub p : ProblemIs
-  pub is_problem : Says problem_texts problem p
+  pub is_problem : TextSays problem_texts problem p
   pub are : AreNearIn p.n (read_distance p.weights) k entries
 
 -- what the status says of an array with so many numbers: it is 0 where just as many are needed, which are written, and
@@ -41,7 +41,7 @@ pub record IsArrayStatus (count : ℕ) (answer : Answer) : Type 0 where
 
 -- how many numbers there are, told in place of them
 abbrev pub IsCountOf : (ProblemIs → ℕ) → List ℕ → Answer → Type 0
-IsCountOf count problem answer = (p : ProblemIs) × Says problem_texts problem p × (answer.needed ≡ count p)
+IsCountOf count problem answer = (p : ProblemIs) × TextSays problem_texts problem p × (answer.needed ≡ count p)
 
 -- what an answer tells of a list as a tour: its length, or the number of its first fault and the place of that
 pub record HasVerdict (n : ℕ) (distance : ℕ → ℕ → ℕ) (cities : List ℕ) (answer : Answer) : Type 0 where
@@ -54,5 +54,5 @@ pub record HasVerdict (n : ℕ) (distance : ℕ → ℕ → ℕ) (cities : List 
 -- the same of a list as a tour of the problem of a text
 pub record IsTourCheckOf (problem cities : List ℕ) (answer : Answer) : Type 0 where
   pub p : ProblemIs
-  pub is_problem : Says problem_texts problem p
+  pub is_problem : TextSays problem_texts problem p
   pub verdict : HasVerdict p.n (read_distance p.weights) cities answer

@@ -1,5 +1,6 @@
 pub mod Answers
 pub mod Arrays
+pub mod Checks
 pub mod HandedOut
 pub mod Plotted
 pub mod Points

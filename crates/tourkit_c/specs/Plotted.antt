@@ -9,22 +9,22 @@ use Rattle.tk_engines.specs.Plot.{Claim, Drawn, IsPlot, Nothing, Output, Refused
 use Rattle.tk_engines.specs.Plot.{without_places}
 use Rattle.tk_engines.specs.declared.fault.Fault.{Fault}
 use Rattle.tk_picture.specs.declared.picture.Form.TheVariants as forms
-use Rattle.tourkit_c.specs.Answers.{IsRefused}
+use Rattle.tourkit_c.specs.Answers.{IsFaulty}
 use Rattle.tourkit_c.specs.HandedOut.{handed_out}
-use Rattle.tourkit_c.specs.Texts.{HasFault, IsWritten, Says, route_status, tour_status}
+use Rattle.tourkit_c.specs.Texts.{HasFault, IsWritten, TextSays, route_status, tour_status}
 use Rattle.tk_words.specs.declared.fault.TextFault.{TextFault}
 use Rattle.tourkit_c.specs.declared.answer.Answer.{Answer}
 
 -- what is claimed of a problem: nothing, or a tour, or routes where the problem has a routing
 abbrev pub ClaimSays : Bool → List ℕ → ProblemIs → Claim → Type 0
 ClaimSays given text p Nothing = given ≡ false
-ClaimSays given text p (TourClaim cities) = (given ≡ true) × (p.routing ≡ None) × Says tour_texts text cities
-ClaimSays given text p (RoutesClaim s) = (given ≡ true) × (is_some p.routing ≡ true) × Says solution_texts text s
+ClaimSays given text p (TourClaim cities) = (given ≡ true) × (p.routing ≡ None) × TextSays tour_texts text cities
+ClaimSays given text p (RoutesClaim s) = (given ≡ true) × (is_some p.routing ≡ true) × TextSays solution_texts text s
 
 pub record IsPlotOf (given : Bool) (problem claim : List ℕ) (answer : Plotted) (output : Output) : Type 0 where
   pub p : ProblemIs
   pub c : Claim
-  pub is_problem : Says problem_texts problem p
+  pub is_problem : TextSays problem_texts problem p
   pub is_claim : ClaimSays given claim p c
   pub is : IsPlot forms.Svg p c answer output
 
@@ -49,6 +49,12 @@ pub record IsPlotWritten (status : ℕ) (output : Output) (out out' told told' :
   pub needed_is : answer.needed_file ≡ length (line_in output)
   pub bytes : told' ≡ handed_out (line_in output) told
 
+-- the picture of a problem and of what is claimed of it, or the line on its fault, stands in one of two buffers
+abbrev pub HoldPlot : Bool → List ℕ → List ℕ → List ℕ → List ℕ → List ℕ → List ℕ → Answer → Type 0
+HoldPlot given problem claim out out' told told' answer =
+    (done : Plotted) × (output : Output) × IsPlotOf given problem claim done output
+    × IsPlotWritten (plot_status done) output out out' told told' answer
+
 -- a picture is made of places
 abbrev pub plot_misfit : ProblemIs → Option Fault
 plot_misfit p = without_places p.weights
@@ -64,5 +70,5 @@ IsSolutionFault given claim p f = (given ≡ true) × (is_some p.routing ≡ tru
 -- what is claimed has the fault that the answer tells: as a tour where the problem has no routing, else as a solution
 abbrev pub IsClaimRefused : Bool → List ℕ → ProblemIs → Answer → Type 0
 IsClaimRefused given claim p answer =
-    (given ≡ true) × (((p.routing ≡ None) × IsRefused tour_texts 2 claim answer)
-    ⊎ ((is_some p.routing ≡ true) × IsRefused solution_texts 2 claim answer))
+    (given ≡ true) × (((p.routing ≡ None) × IsFaulty tour_texts 2 claim answer)
+    ⊎ ((is_some p.routing ≡ true) × IsFaulty solution_texts 2 claim answer))

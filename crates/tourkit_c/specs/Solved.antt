@@ -12,22 +12,22 @@ use Rattle.tk_engines.specs.Solve.{Files, IsInitial, solve_task, unfit_key}
 use Rattle.tk_tour.specs.declared.fault.TourFault.{TourFault}
 use Rattle.tk_engines.specs.declared.fault.Fault.{Fault}
 use Rattle.tk_engines.specs.declared.fault.Fault.TheVariants.{Initial, NotForType}
-use Rattle.tourkit_c.specs.Answers.{IsRefused, TellsParam}
+use Rattle.tourkit_c.specs.Answers.{IsFaulty, IsRightRefusal, TellsParam}
 use Rattle.tourkit_c.specs.HandedOut.{handed_out}
-use Rattle.tourkit_c.specs.Texts.{HasFault, IsWritten, Says}
+use Rattle.tourkit_c.specs.Texts.{HasFault, IsWritten, TextSays}
 use Rattle.tourkit_c.specs.declared.answer.Answer.{Answer}
 
 -- the tour to begin with, where the parameters name one
 abbrev pub InitialSays : Bool → List ℕ → Option (List ℕ) → Type 0
 InitialSays given text None = given ≡ false
-InitialSays given text (Some cities) = (given ≡ true) × Says tour_texts text cities
+InitialSays given text (Some cities) = (given ≡ true) × TextSays tour_texts text cities
 
 -- what these parameters give for a problem and a tour to begin with: the text of the tour or of the routes, and the
 -- lines on it; nobody watches the search
 pub record IsSolvedBy (p : ParamsAre) (problem initial : List ℕ) (files : Files) : Type 0 where
   pub q : ProblemIs
   pub tour : Option (List ℕ)
-  pub is_problem : Says problem_texts problem q
+  pub is_problem : TextSays problem_texts problem q
   pub is_initial : InitialSays (is_some p.initial_tour_file) initial tour
   pub together : IsInitial q tour None
   pub before : Unwatched
@@ -44,8 +44,8 @@ pub record IsClashOf (given : Bool) (problem initial : List ℕ) (f : TourFault)
   pub is_given : given ≡ true
   pub q : ProblemIs
   pub cities : List ℕ
-  pub is_problem : Says problem_texts problem q
-  pub is_tour : Says tour_texts initial cities
+  pub is_problem : TextSays problem_texts problem q
+  pub is_tour : TextSays tour_texts initial cities
   pub clash : IsInitial q (Some cities) (Some (Initial f))
 
 -- the text of a tour to begin with, which is given, has this fault
@@ -53,8 +53,8 @@ abbrev pub IsInitialFault : Bool → List ℕ → ProblemIs → TextFault → Ty
 IsInitialFault given initial p f = (given ≡ true) × HasFault tour_texts initial f
 
 -- it has the fault that the answer tells
-abbrev pub IsInitialRefused : Bool → List ℕ → ProblemIs → Answer → Type 0
-IsInitialRefused given initial p answer = (given ≡ true) × IsRefused tour_texts 3 initial answer
+abbrev pub IsInitialFaulty : Bool → List ℕ → ProblemIs → Answer → Type 0
+IsInitialFaulty given initial p answer = (given ≡ true) × IsFaulty tour_texts 3 initial answer
 
 -- the lines and the text in two buffers
 pub record AreFilesWritten (files : Files) (out out' file file' : List ℕ) (answer : Answer) : Type 0 where
@@ -75,3 +75,19 @@ pub record AreParamsRefused (parameters : List ℕ) (answer : Answer) : Type 0 w
   pub fault : ParamFault
   pub told : TellsParam fault answer
   pub is : params_answer parameters ≡ Err fault
+
+-- the files that solve a problem stand in the two buffers
+abbrev pub HoldFiles : (Files → Type 0) → List ℕ → List ℕ → List ℕ → List ℕ → Answer → Type 0
+HoldFiles Solves out out' file file' answer =
+    (files : Files) × Solves files × AreFilesWritten files out out' file file' answer
+
+-- what the answer tells keeps these parameters from being searched with: the problem, or the tour to begin with
+abbrev pub IsSearchRefused : ParamsAre → List ℕ → List ℕ → Answer → Type 0
+IsSearchRefused p problem initial answer =
+    IsRightRefusal (misfit_of p) (IsClashOf (is_some p.initial_tour_file) problem initial)
+    (IsInitialFaulty (is_some p.initial_tour_file) initial) 2 problem answer
+
+-- the same of the parameters of a text
+abbrev pub IsSolveRefused : List ℕ → List ℕ → List ℕ → Answer → Type 0
+IsSolveRefused parameters problem initial answer =
+    (p : ParamsAre) × (params_answer parameters ≡ Ok p) × IsSearchRefused p problem initial answer

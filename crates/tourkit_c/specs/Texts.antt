@@ -1,12 +1,11 @@
 -- What is said of texts in memory.
---     Says texts text value      the text says this value
+--     TextSays texts text value      the text says this value
 --     HasFault texts text fault      the text has this fault, or memory ran out
 --     IsCheckOf problem tour verdict line      the verdict on the tour of a text, and the line on it
 use Rattle.std.specs.Prelude.{◌≡◌, ℕ, List, Ok, Err, length}
 use Rattle.tk_text.specs.Texts.{IsToldOf, Texts, answer_of}
 use Rattle.tk_text.specs.Problem.{ProblemIs, problem_texts}
 use Rattle.tk_problem.specs.declared.weights.Format.{Format}
-use Rattle.tk_words.specs.declared.fault.TextFault.{TextFault}
 use Rattle.tk_text.specs.Solution.{Solution, solution_texts}
 use Rattle.tk_text.specs.Tour.{tour_texts}
 use Rattle.tk_tour.specs.declared.verdict.Verdict.{Verdict}
@@ -21,8 +20,8 @@ use Rattle.tk_engines.specs.NearText.{IsNearText}
 use Rattle.tk_engines.specs.RouteCheck.{IsRouteCheck}
 
 -- a text says this value
-abbrev pub Says : {V E : Type 0} → Texts V E → List ℕ → V → Type 0
-Says texts text value = answer_of texts text ≡ Ok value
+abbrev pub TextSays : {V E : Type 0} → Texts V E → List ℕ → V → Type 0
+TextSays texts text value = answer_of texts text ≡ Ok value
 
 -- a text has this fault; of faults of memory and of reading nothing is said
 abbrev pub HasFault : {V E : Type 0} → Texts V E → List ℕ → E → Type 0
@@ -32,8 +31,8 @@ HasFault texts text fault = IsToldOf (Unit {0}) (λ f. answer_of texts text ≡ 
 pub record IsCheckOf (problem tour : List ℕ) (verdict : Verdict) (line : List ℕ) : Type 0 where
   pub p : ProblemIs
   pub cities : List ℕ
-  pub is_problem : Says problem_texts problem p
-  pub is_tour : Says tour_texts tour cities
+  pub is_problem : TextSays problem_texts problem p
+  pub is_tour : TextSays tour_texts tour cities
   pub is : IsCheck p cities verdict line
 
 -- the status of a verdict: 0 for a tour, 1 for a fault
@@ -49,20 +48,20 @@ route_status _ = 1
 pub record IsRouteCheckOf (problem solution : List ℕ) (verdict : RouteVerdict) (line : List ℕ) : Type 0 where
   pub p : ProblemIs
   pub claimed : Solution
-  pub is_problem : Says problem_texts problem p
-  pub is_solution : Says solution_texts solution claimed
+  pub is_problem : TextSays problem_texts problem p
+  pub is_solution : TextSays solution_texts solution claimed
   pub is : IsRouteCheck p claimed verdict line
 
 -- the near lists of the problem of a text
 pub record IsNearTextOf (k : ℕ) (problem text : List ℕ) : Type 0 where
   pub p : ProblemIs
-  pub is_problem : Says problem_texts problem p
+  pub is_problem : TextSays problem_texts problem p
   pub is : IsNearText k p text
 
 -- the matrix of the problem of a text
 pub record IsMatrixTextOf (format : Format) (problem text : List ℕ) : Type 0 where
   pub p : ProblemIs
-  pub is_problem : Says problem_texts problem p
+  pub is_problem : TextSays problem_texts problem p
   pub is : IsMatrixText format p text
 
 -- some text was handed out: how many bytes it has, and its first bytes in the buffer

@@ -5,10 +5,10 @@ ghost use Rattle.tk_text.specs.Problem.{problem_texts};
 ghost use Rattle.tk_text.specs.ProblemOf.{problem_is, weights_are};
 ghost use Rattle.tk_metric.specs.Tables.{table_distance, table_size};
 ghost use Rattle.tk_engines.specs.ReadProblems.{read_distance};
-ghost use Rattle.tourkit_c.specs.Answers.{IsRefused};
+ghost use Rattle.tourkit_c.specs.Answers.{IsFaulty};
 ghost use Rattle.tourkit_c.specs.Arrays.{AreDistances, AreDistancesOf, AreNearIn, AreNearOf, HasVerdict, IsArrayStatus};
 ghost use Rattle.tourkit_c.specs.Arrays.{IsCountOf, IsTourCheckOf};
-ghost use Rattle.tourkit_c.specs.Texts.{HasFault, Says};
+ghost use Rattle.tourkit_c.specs.Texts.{HasFault, TextSays};
 
 use crate::answer::{Answer, NO_ROOM, REFUSED};
 use crate::tables::{fill_distances, near_in, verdict_in};
@@ -18,7 +18,7 @@ use tk_text::{CANDIDATE_LIMIT, FromRead, Problem, TextFault, read_problem};
 
 /// The problem of a text.
 fn problem_of(alloc: Global, text: &[u8]) -> Result<Problem, TextFault>
-    ensures ok { IfOk result (λ p. Says problem_texts text.now (problem_is p)) }
+    ensures ok { IfOk result (λ p. TextSays problem_texts text.now (problem_is p)) }
     ensures err { IfErr result (HasFault problem_texts text.now) }
 {
     read_problem(alloc, &mut FromRead::new(text))
@@ -85,7 +85,7 @@ pub extern "C" fn tourkit_distances(
     ensures room { answer.new.status ≡ 4 → IsCountOf (λ p. p.n * p.n) problem.now answer.new }
     ensures status { IsArrayStatus (length out.old) answer.new }
     ensures kept { 2 ≤ answer.new.status → out.new ≡ out.old }
-    ensures problem { answer.new.status ≡ 2 → IsRefused problem_texts 1 problem.now answer.new }
+    ensures problem { answer.new.status ≡ 2 → IsFaulty problem_texts 1 problem.now answer.new }
 {
     *answer = match problem_of(alloc, problem) {
         Ok(problem) => distances_of(&problem, out),
@@ -109,7 +109,7 @@ pub extern "C" fn tourkit_near_cities(
     ensures kept { 2 ≤ answer.new.status → out.new ≡ out.old }
     ensures others { answer.new.status ≡ 2 → answer.new.text ≢ 1 → (k ≡ 0) ⊎ (CANDIDATE_LIMIT < k) }
     ensures candidates { answer.new.status ≢ 2 → (1 ≤ k) × (k ≤ CANDIDATE_LIMIT) }
-    ensures problem { answer.new.status ≡ 2 → answer.new.text ≡ 1 → IsRefused problem_texts 1 problem.now answer.new }
+    ensures problem { answer.new.status ≡ 2 → answer.new.text ≡ 1 → IsFaulty problem_texts 1 problem.now answer.new }
 {
     if k < 1 || k > CANDIDATE_LIMIT {
         *answer = Answer::ended(REFUSED, 0);
@@ -132,7 +132,7 @@ pub extern "C" fn tourkit_check_cities(
 )
     ensures given { answer.new.status ≤ 1 → IsTourCheckOf problem.now cities.now answer.new }
     ensures known { answer.new.status ≤ 3 }
-    ensures problem { answer.new.status ≡ 2 → IsRefused problem_texts 1 problem.now answer.new }
+    ensures problem { answer.new.status ≡ 2 → IsFaulty problem_texts 1 problem.now answer.new }
 {
     *answer = match problem_of(alloc, problem) {
         Ok(problem) => verdict_of(alloc, &problem, cities),

@@ -3,7 +3,8 @@ ghost use Rattle.std.specs.Prelude.{◌≡◌, ◌≤◌, IfOk, IfErr};
 ghost use Rattle.tk_text.specs.Solution.{solution_texts};
 ghost use Rattle.tk_text.specs.Tour.{tour_texts};
 ghost use Rattle.tk_engines.specs.RouteCheck.{without_routing};
-ghost use Rattle.tourkit_c.specs.Answers.{IsRefused, IsRightRefusal, IsStop, NoClash, NoFault, fits_any};
+ghost use Rattle.tourkit_c.specs.Answers.{IsStop, NeverClashes, NoFault, fits_any};
+ghost use Rattle.tourkit_c.specs.Checks.{IsCheckRefused, IsRouteCheckRefused};
 ghost use Rattle.tourkit_c.specs.Texts.{HasFault, IsCheckOf, IsCheckWritten, IsRouteCheckOf, IsRouteCheckWritten};
 ghost use Rattle.tourkit_c.specs.Texts.{IsSomeText, route_status, tour_status};
 
@@ -18,7 +19,7 @@ use tk_tour::Verdict;
 /// The verdict on a tour, and the line on it.
 fn checked(alloc: Global, problem: &[u8], tour: &[u8]) -> Result<(Verdict, Vec<u8>), Fault>
     ensures ok { IfOk result (λ r. IsCheckOf problem.now tour.now r.0 r.1.items) }
-    ensures err { IfErr result (IsStop fits_any NoClash (λ _. HasFault tour_texts tour.now) NoFault problem.now) }
+    ensures err { IfErr result (IsStop fits_any NeverClashes (λ _. HasFault tour_texts tour.now) NoFault problem.now) }
 {
     let mut problem = FromRead::new(problem);
     let mut tour = FromRead::new(tour);
@@ -37,7 +38,7 @@ fn routes_checked(
 ) -> Result<(RouteVerdict, Vec<u8>), Fault>
     ensures ok { IfOk result (λ r. IsRouteCheckOf problem.now solution.now r.0 r.1.items) }
     ensures err { IfErr result
-        (IsStop without_routing NoClash NoFault (λ _. HasFault solution_texts solution.now) problem.now) }
+        (IsStop without_routing NeverClashes NoFault (λ _. HasFault solution_texts solution.now) problem.now) }
 {
     let mut problem = FromRead::new(problem);
     let mut solution = FromRead::new(solution);
@@ -80,8 +81,7 @@ pub extern "C" fn tourkit_check(
 )
     ensures given { answer.new.status ≤ 1 → IsCheckWritten problem.now tour.now out.old out.new answer.new }
     ensures known { answer.new.status ≤ 3 }
-    ensures refused { answer.new.status ≡ 2
-        → IsRightRefusal fits_any NoClash (λ _. IsRefused tour_texts 2 tour.now) 1 problem.now answer.new }
+    ensures refused { answer.new.status ≡ 2 → IsCheckRefused problem.now tour.now answer.new }
     ensures message { 2 ≤ answer.new.status → IsSomeText out.old out.new answer.new }
 {
     *answer = match checked(alloc, problem, tour) {
@@ -102,9 +102,7 @@ pub extern "C" fn tourkit_checksol(
 )
     ensures given { answer.new.status ≤ 1 → IsRouteCheckWritten problem.now solution.now out.old out.new answer.new }
     ensures known { answer.new.status ≤ 3 }
-    ensures refused { answer.new.status ≡ 2
-        → IsRightRefusal without_routing NoClash (λ _. IsRefused solution_texts 2 solution.now) 1 problem.now
-        answer.new }
+    ensures refused { answer.new.status ≡ 2 → IsRouteCheckRefused problem.now solution.now answer.new }
     ensures message { 2 ≤ answer.new.status → IsSomeText out.old out.new answer.new }
 {
     *answer = match routes_checked(alloc, problem, solution) {

@@ -13,6 +13,4 @@ mod plot;
 mod points;
 mod solve;
 mod tables;
-#[cfg(test)]
-mod tests;
 mod weights;

@@ -3,7 +3,7 @@ ghost use Rattle.std.specs.Prelude.{◌≡◌, ◌≢◌, ◌≤◌, IfOk, IfErr
 ghost use Rattle.tk_problem.specs.declared.limits.TheConstants.{CANDIDATE_LIMIT};
 ghost use Rattle.tk_problem.specs.declared.weights.Format.TheVariants.{FullMatrix};
 ghost use Rattle.tk_engines.specs.MatrixOf.{too_large};
-ghost use Rattle.tourkit_c.specs.Answers.{IsRightRefusal, IsStop, NoClash, NoFault, NoRefusal, fits_any};
+ghost use Rattle.tourkit_c.specs.Answers.{IsRightRefusal, IsStop, NeverClashes, NoFault, NoRefusal, fits_any};
 ghost use Rattle.tourkit_c.specs.Texts.{IsMatrixTextOf, IsNearTextOf, IsSomeText, IsTextWritten};
 
 use crate::answer::{Answer, REFUSED, stopped};
@@ -17,7 +17,7 @@ fn near_text(alloc: Global, problem: &[u8], k: u32) -> Result<Vec<u8>, Fault>
     requires low { 1 ≤ k }
     requires limit { k ≤ CANDIDATE_LIMIT }
     ensures ok { IfOk result (λ text. IsNearTextOf k problem.now text.items) }
-    ensures err { IfErr result (IsStop fits_any NoClash NoFault NoFault problem.now) }
+    ensures err { IfErr result (IsStop fits_any NeverClashes NoFault NoFault problem.now) }
 {
     let mut problem = FromRead::new(problem);
     let mut text = ToWrite::new(Vec::new(alloc));
@@ -30,7 +30,7 @@ fn near_text(alloc: Global, problem: &[u8], k: u32) -> Result<Vec<u8>, Fault>
 /// The text of the matrix of a problem.
 fn matrix_text(alloc: Global, problem: &[u8]) -> Result<Vec<u8>, Fault>
     ensures ok { IfOk result (λ text. IsMatrixTextOf FullMatrix problem.now text.items) }
-    ensures err { IfErr result (IsStop too_large NoClash NoFault NoFault problem.now) }
+    ensures err { IfErr result (IsStop too_large NeverClashes NoFault NoFault problem.now) }
 {
     let mut problem = FromRead::new(problem);
     let mut text = ToWrite::new(Vec::new(alloc));
@@ -53,7 +53,7 @@ pub extern "C" fn tourkit_near(
     ensures given { answer.new.status ≤ 1 → IsTextWritten (IsNearTextOf k problem.now) out.old out.new answer.new }
     ensures known { answer.new.status ≤ 3 }
     ensures refused { answer.new.status ≡ 2 → 1 ≤ k → k ≤ CANDIDATE_LIMIT
-        → IsRightRefusal fits_any NoClash NoRefusal 1 problem.now answer.new }
+        → IsRightRefusal fits_any NeverClashes NoRefusal 1 problem.now answer.new }
     ensures candidates { answer.new.status ≢ 2 → (1 ≤ k) × (k ≤ CANDIDATE_LIMIT) }
     ensures message { 2 ≤ answer.new.status → IsSomeText out.old out.new answer.new }
 {
@@ -74,7 +74,7 @@ pub extern "C" fn tourkit_matrix(alloc: Global, problem: &[u8], out: &mut [u8], 
         → IsTextWritten (IsMatrixTextOf FullMatrix problem.now) out.old out.new answer.new }
     ensures known { answer.new.status ≤ 3 }
     ensures refused { answer.new.status ≡ 2
-        → IsRightRefusal too_large NoClash NoRefusal 1 problem.now answer.new }
+        → IsRightRefusal too_large NeverClashes NoRefusal 1 problem.now answer.new }
     ensures message { 2 ≤ answer.new.status → IsSomeText out.old out.new answer.new }
 {
     *answer = match matrix_text(alloc, problem) {

@@ -2,8 +2,8 @@
 ghost use Rattle.std.specs.Prelude.{◌≡◌, ◌≤◌, IfOk, IfErr};
 ghost use Rattle.tk_engines.specs.Plot.{Output};
 ghost use Rattle.tk_engines.specs.declared.engines.plotted.Plotted.{Plotted};
-ghost use Rattle.tourkit_c.specs.Answers.{IsRightRefusal, IsStop, NoClash};
-ghost use Rattle.tourkit_c.specs.Plotted.{IsClaimRefused, IsPlotOf, IsPlotWritten, IsSolutionFault, IsTourFault};
+ghost use Rattle.tourkit_c.specs.Answers.{IsRightRefusal, IsStop, NeverClashes};
+ghost use Rattle.tourkit_c.specs.Plotted.{IsClaimRefused, IsPlotOf, HoldPlot, IsSolutionFault, IsTourFault};
 ghost use Rattle.tourkit_c.specs.Plotted.{line_in, picture_in, plot_misfit, plot_status};
 ghost use Rattle.tourkit_c.specs.Texts.{IsSomeText};
 
@@ -25,7 +25,7 @@ fn plotted(
 ) -> Result<(Plotted, Vec<u8>, Vec<u8>), Fault>
     ensures ok { IfOk result (λ r. (output : Output) × IsPlotOf has_claim problem.now claim.now r.0 output
         × (r.1.items ≡ picture_in output) × (r.2.items ≡ line_in output)) }
-    ensures err { IfErr result (IsStop plot_misfit NoClash (IsTourFault has_claim claim.now)
+    ensures err { IfErr result (IsStop plot_misfit NeverClashes (IsTourFault has_claim claim.now)
         (IsSolutionFault has_claim claim.now) problem.now) }
 {
     let mut problem = FromRead::new(problem);
@@ -70,12 +70,11 @@ pub extern "C" fn tourkit_plot(
     told: &mut [u8],
     answer: &mut Answer,
 )
-    ensures given { answer.new.status ≤ 1 → (done : Plotted) × (output : Output)
-        × IsPlotOf has_claim problem.now claim.now done output
-        × IsPlotWritten (plot_status done) output out.old out.new told.old told.new answer.new }
+    ensures given { answer.new.status ≤ 1
+        → HoldPlot has_claim problem.now claim.now out.old out.new told.old told.new answer.new }
     ensures known { answer.new.status ≤ 3 }
     ensures refused { answer.new.status ≡ 2
-        → IsRightRefusal plot_misfit NoClash (IsClaimRefused has_claim claim.now) 1 problem.now answer.new }
+        → IsRightRefusal plot_misfit NeverClashes (IsClaimRefused has_claim claim.now) 1 problem.now answer.new }
     ensures message { 2 ≤ answer.new.status → IsSomeText told.old told.new answer.new }
     ensures kept { 2 ≤ answer.new.status → out.new ≡ out.old }
 {

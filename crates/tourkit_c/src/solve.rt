@@ -1,11 +1,9 @@
 //! The search for a tour or for routes, over texts in memory.
 ghost use Rattle.std.specs.Prelude.{◌≡◌, ◌≢◌, ◌≤◌, IfOk, IfErr, Ok, is_some};
-ghost use Rattle.tk_engines.specs.Asked.{ParamsAre};
 ghost use Rattle.tk_engines.specs.Params.{params_answer};
-ghost use Rattle.tk_engines.specs.Solve.{Files};
-ghost use Rattle.tourkit_c.specs.Answers.{IsRightRefusal, IsStop, NoFault};
-ghost use Rattle.tourkit_c.specs.Solved.{AreFilesWritten, AreParamsRefused, HasParamFault, IsClashOf, IsInitialFault};
-ghost use Rattle.tourkit_c.specs.Solved.{IsInitialRefused, IsSolvedBy, IsSolvedOf, misfit_of};
+ghost use Rattle.tourkit_c.specs.Answers.{IsStop, NoFault};
+ghost use Rattle.tourkit_c.specs.Solved.{AreParamsRefused, HasParamFault, IsClashOf, IsInitialFault};
+ghost use Rattle.tourkit_c.specs.Solved.{HoldFiles, IsSearchRefused, IsSolveRefused, IsSolvedBy, IsSolvedOf, misfit_of};
 ghost use Rattle.tourkit_c.specs.Texts.{IsSomeText};
 
 use crate::answer::{Answer, params_stopped, stopped};
@@ -63,12 +61,10 @@ fn search(
     out: &mut [u8],
     file: &mut [u8],
 ) -> Answer
-    ensures given { result.status ≤ 1 → (files : Files) × IsSolvedBy params.now problem.now initial.now files
-        × AreFilesWritten files out.old out.new file.old file.new result }
+    ensures given { result.status ≤ 1
+        → HoldFiles (IsSolvedBy params.now problem.now initial.now) out.old out.new file.old file.new result }
     ensures known { result.status ≤ 3 }
-    ensures refused { result.status ≡ 2 → IsRightRefusal (misfit_of params.now)
-        (IsClashOf (is_some params.now.initial_tour_file) problem.now initial.now)
-        (IsInitialRefused (is_some params.now.initial_tour_file) initial.now) 2 problem.now result }
+    ensures refused { result.status ≡ 2 → IsSearchRefused params.now problem.now initial.now result }
     ensures later { result.status ≡ 2 → result.text ≢ 1 }
     ensures message { 2 ≤ result.status → IsSomeText out.old out.new result }
     ensures kept { 2 ≤ result.status → file.new ≡ file.old }
@@ -94,15 +90,12 @@ pub extern "C" fn tourkit_solve(
     file: &mut [u8],
     answer: &mut Answer,
 )
-    ensures given { answer.new.status ≤ 1 → (files : Files)
-        × IsSolvedOf parameters.now problem.now initial.now files
-        × AreFilesWritten files out.old out.new file.old file.new answer.new }
+    ensures given { answer.new.status ≤ 1
+        → HoldFiles (IsSolvedOf parameters.now problem.now initial.now) out.old out.new file.old file.new answer.new }
     ensures known { answer.new.status ≤ 3 }
     ensures parameters { answer.new.status ≡ 2 → answer.new.text ≡ 1 → AreParamsRefused parameters.now answer.new }
     ensures refused { answer.new.status ≡ 2 → answer.new.text ≢ 1
-        → (p : ParamsAre) × (params_answer parameters.now ≡ Ok p)
-        × IsRightRefusal (misfit_of p) (IsClashOf (is_some p.initial_tour_file) problem.now initial.now)
-        (IsInitialRefused (is_some p.initial_tour_file) initial.now) 2 problem.now answer.new }
+        → IsSolveRefused parameters.now problem.now initial.now answer.new }
     ensures message { 2 ≤ answer.new.status → IsSomeText out.old out.new answer.new }
     ensures kept { 2 ≤ answer.new.status → file.new ≡ file.old }
 {

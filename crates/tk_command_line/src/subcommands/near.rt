@@ -2,10 +2,10 @@
 
 use crate::argument::{Argument, Form, PROBLEM};
 use crate::asked::Asked;
-use crate::list_length::ListLength;
 use crate::subcommand::Subcommand;
 use clap::ArgMatches;
 use clap::builder::ValueParser;
+use tk_near::ListLength;
 use tk_problem::CANDIDATE_LIMIT;
 
 /// What `near --help` ends with.

@@ -2,7 +2,7 @@
 use Rattle.std.proofs.Common.{◌≡◌, ◌≤◌, ℕ, ◌↔◌, true, List, [], ◌∷◌, length}
 use Rattle.tk_problem.specs.declared.limits.TheConstants.{DISTANCE_LIMIT}
 use Rattle.tk_distance.specs.Cities.{IsCity}
-use Rattle.tk_descent.specs.Awake.{holds, IsDistinct}
+use Rattle.tk_distance.specs.Holding.{holds, IsDistinct}
 
 -- the last city of a path that begins with a
 abbrev pub last_from : ℕ → List ℕ → ℕ

@@ -8,10 +8,11 @@ use Rattle.tk_tour.specs.Tour.{occurrences, IsTour, next_city, prev_city, IsSize
 use Rattle.tk_tour.proofs.Once.{HoldsOnce}
 use Rattle.tk_tour.proofs.Tours.{HoldsOnce-tour, occurrences-outside, occurrences-other, occurrences-same}
 use Rattle.tk_tour.proofs.Tours.{inside_or_not}
-use Rattle.tk_descent.specs.Awake.{IsDistinct, holds}
+use Rattle.tk_distance.specs.Holding.{IsDistinct, holds}
 use Rattle.tk_descent.proofs.MovesOnTours.Paths.{IsRound}
 use Rattle.tk_descent.proofs.MovesOnTours.Steps.{Steps, held, holds-reverse}
-use Rattle.tk_descent.proofs.OfferLists.OnCycle.{next_member, ways_on, ways_back}
+use Rattle.tk_descent.proofs.OfferLists.OnCycle.{next_member}
+use Rattle.tk_descent.proofs.OfferLists.Ways.{ways_on, ways_back}
 
 counted_step : (b c : ℕ) (xs : List ℕ) → (holds xs c ≡ true → 1 ≤ occurrences c xs) → (eqb b c ≡ true)
     ⊎ (holds xs c ≡ true) → (c ≡ b) ⊎ (c ≡ b → ⊥) → 1 ≤ occurrences c (b ∷ xs)

@@ -12,7 +12,7 @@ use Rattle.tk_tour.proofs.Once.{HoldsOnce}
 use Rattle.tk_tour.proofs.Tours.{occurrences-other, occurrences-same, occurrences-nil}
 use Rattle.tk_tour.proofs.Steps.{Neighbours-rotation}
 use Rattle.tk_descent.proofs.MovesOnTours.Paths.{last_from, Spans}
-use Rattle.tk_descent.specs.Awake.{holds, IsDistinct}
+use Rattle.tk_distance.specs.Holding.{holds, IsDistinct}
 use Rattle.tk_descent.proofs.Lists.{holds-append, or-comm, holds-push, holds-push_same, distinct-push}
 use Rattle.tk_descent.proofs.MovesOnTours.Length.{reverse-cons, Spans-reverse, Spans-append}
 

@@ -8,10 +8,10 @@ use Rattle.std.proofs.lemmas.Bool.{cond-true}
 use Rattle.tk_tour.specs.Tour.{IsRotation, SameCycle, next_city, prev_city}
 use Rattle.tk_descent.proofs.MovesOnTours.Views.{Made, made_of}
 use Rattle.tk_descent.proofs.MovesOnTours.Paths.{Spans, last_from}
-use Rattle.tk_descent.specs.Awake.{IsDistinct, holds}
+use Rattle.tk_distance.specs.Holding.{IsDistinct, holds}
 use Rattle.tk_descent.specs.Offers.{covers, segment_of_one, segment_of_two, segment_of_three, segment_count, segments}
 use Rattle.tk_descent.specs.Offers.{or_offer, or_offers, offers_with, offers, removed, added}
-use Rattle.tk_descent.specs.WakeMachine.{IsOf}
+use Rattle.tk_descent.specs.WakeMachine.{IsOfferOf}
 use Rattle.tk_descent.proofs.OfferLists.Listed.{IsListed, HasSameSteps, IsComplete}
 use Rattle.tk_descent.specs.declared.offer.Segment.{Segment}
 use Rattle.tk_descent.specs.declared.offer.Offer.{Offer}
@@ -19,7 +19,7 @@ use Rattle.tk_descent.specs.declared.offer.Offer.TheVariants.{Two, Or}
 use Rattle.tk_descent.proofs.Lists.{holds-append}
 use Rattle.tk_descent.proofs.MovesOnTours.Length.{Spans-append, Spans-reverse}
 use Rattle.tk_descent.proofs.OfferLists.Made.{mirrored, two_steps, length-reverse}
-use Rattle.tk_descent.proofs.OfferLists.OnCycle.{Ways, ways_on, ways_back}
+use Rattle.tk_descent.proofs.OfferLists.Ways.{Ways, ways_on, ways_back}
 use Rattle.tk_descent.proofs.MovesOnTours.Steps.{Apart, turned, rotation-trans, turned_back, distinct-rotation}
 use Rattle.tk_descent.proofs.MovesOnTours.Steps.{distinct-parts, apart-ne, holds-first, holds-last, cycle-turn}
 use Rattle.tk_descent.proofs.MovesOnTours.Steps.{cycle-same, cycle-reverse, steps_of, Steps}
@@ -131,7 +131,8 @@ steps_back C A B a b c d h dis hA hB =
     (cycle-same C (reverse (A ++ B)) (reverse B ++ reverse A) (reverse-append A B) (cycle-reverse C (A ++ B) h)))
     dis (Spans-reverse A d a hA) (Spans-reverse B b c hB)
 
-two_complete : (C : List ℕ) (m : ℕ) (near : ℕ → List ℕ) (x a b c d : ℕ) → IsOf near x (Two a b c d) → Steps C a b c d →
+two_complete : (C : List ℕ) (m : ℕ) (near : ℕ → List ℕ) (x a b c d : ℕ) → IsOfferOf near x (Two a b c d) →
+    Steps C a b c d →
     Steps C d c b a → (p : Offer) × IsListed (offers C m (near x) x) p × HasSameSteps p (Two a b c d)
 two_complete C m near x a b c d (inl (e, h)) s t =
     (Two a b c d, two_listed C (near x) m x a b c d e h s, λ f k. (refl, refl))
@@ -423,7 +424,7 @@ or_mirror a s e b y w p h =
     λ f k. let q = h f k in (omega (arith, q.0, k b e, k s a, k w y), omega (arith, q.1, k b a))
 
 or_complete : (C : List ℕ) (dis : IsDistinct C) (near : ℕ → List ℕ) (m : ℕ) → m ≤ 3 → (x a s e b y w : ℕ) (D : List ℕ) →
-    IsOf near x (Or a s e b y w) → Made m (Or a s e b y w) C D →
+    IsOfferOf near x (Or a s e b y w) → Made m (Or a s e b y w) C D →
     (p : Offer) × IsListed (offers C m (near x) x) p × HasSameSteps p (Or a s e b y w)
 or_complete C dis near m small x a s e b y w D (inl (i, h)) made =
     subst (λ z. (p : Offer) × IsListed (offers C m (near z) z) p × HasSameSteps p (Or a s e b y w)) i
@@ -437,7 +438,7 @@ or_complete C dis near m small x a s e b y w D (inr (i, h)) made =
 pub complete : (C : List ℕ) (near : ℕ → List ℕ) (m x : ℕ) → IsDistinct C → m ≤ 3 → IsComplete C m near x
 complete C near m x dis small o D of makes = complete_made o D of (made_of m o C D makes)
   where
-    complete_made : (o : Offer) (D : List ℕ) → IsOf near x o → Made m o C D →
+    complete_made : (o : Offer) (D : List ℕ) → IsOfferOf near x o → Made m o C D →
         (p : Offer) × IsListed (offers C m (near x) x) p × HasSameSteps p o
     complete_made (Two a b c d) D of made =
         two_complete C m near x a b c d of (two_steps m C a b c d dis (D, made)).0

@@ -7,7 +7,8 @@ use Rattle.std.proofs.lemmas.Int.{ints}
 use Rattle.tk_tour.specs.Tour.{next_city, prev_city, tour_length, walk}
 use Rattle.tk_descent.specs.Offers.{first_gain, tests_to, Searched, improves, removed, added, covers, or_offer}
 use Rattle.tk_descent.specs.Offers.{or_offers, offers_with, offers, segments, all_segments, segment_count, ends}
-use Rattle.tk_descent.specs.Awake.{woken, woken_each, holds}
+use Rattle.tk_descent.specs.Awake.{woken, woken_each}
+use Rattle.tk_distance.specs.Holding.{holds}
 use Rattle.tk_descent.specs.declared.offer.Offer.{Offer}
 use Rattle.tk_descent.specs.declared.offer.Offer.TheVariants.{Two, Or}
 use Rattle.std.proofs.Math.Nat.{mul-le-mul_left}

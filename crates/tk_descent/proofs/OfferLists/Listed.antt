@@ -1,7 +1,7 @@
 -- What it says that a list of offers is complete.
 use Rattle.std.proofs.Common.{◌≡◌, ℕ, ◌⊎◌, List, [], ◌∷◌}
 use Rattle.tk_descent.specs.Offers.{offers, removed, added, Makes}
-use Rattle.tk_descent.specs.WakeMachine.{IsOf}
+use Rattle.tk_descent.specs.WakeMachine.{IsOfferOf}
 use Rattle.tk_descent.specs.declared.offer.Offer.{Offer}
 
 abbrev pub IsListed : List Offer → Offer → Type 0
@@ -16,5 +16,5 @@ HasSameSteps p o = (d : ℕ → ℕ → ℕ) → ((a b : ℕ) → d a b ≡ d b 
 -- the list of x has an offer with the steps of each move of x
 abbrev pub IsComplete : List ℕ → ℕ → (ℕ → List ℕ) → ℕ → Type 0
 IsComplete C m near x =
-    (o : Offer) (D : List ℕ) → IsOf near x o → Makes m o C D → (p : Offer) × IsListed (offers C m (near x) x) p
+    (o : Offer) (D : List ℕ) → IsOfferOf near x o → Makes m o C D → (p : Offer) × IsListed (offers C m (near x) x) p
     × HasSameSteps p o

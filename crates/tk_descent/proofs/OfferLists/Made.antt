@@ -9,7 +9,7 @@ use Rattle.tk_tour.specs.Moves.{CutInThree, MovesStraight, MovesReversed}
 use Rattle.tk_tour.specs.Tour.{IsRotation, SameCycle, next_city}
 use Rattle.tk_descent.proofs.MovesOnTours.Views.{Made, IsMadeOn, path_of, made_of, makes_of, made_on}
 use Rattle.tk_descent.proofs.MovesOnTours.Paths.{Spans}
-use Rattle.tk_descent.specs.Awake.{IsDistinct, holds}
+use Rattle.tk_distance.specs.Holding.{IsDistinct, holds}
 use Rattle.tk_descent.specs.declared.offer.Offer.TheVariants.{Two, Or}
 use Rattle.tk_descent.proofs.MovesOnTours.Length.{Spans-reverse, Spans-append, reverse-cons}
 use Rattle.tk_descent.proofs.MovesOnTours.Steps.{turned, rotation-trans, distinct-rotation, next_of, cycle-turn}

@@ -1,207 +1,31 @@
 -- Each offer of the list is one on the cycle.
 use Rattle.std.proofs.Common.{◌≡◌, ℕ, suc, ◌<◌, ◌≤◌, ◌≢◌, ◌⊎◌, Bool, true, false, cond, ◌||◌, eqb, List, [], ◌∷◌, ◌++◌}
 use Rattle.std.proofs.Common.{length, reverse, Option, Some, refl, sym, ◌∙◌, ap, arith, inl, inr, subst, ◌&&◌, leb}
-use Rattle.std.proofs.Common.{take, flat_map, slice_index, append_assoc, length-append}
-use Rattle.std.proofs.lemmas.Bool.{or_parts, or_cases, or_from, and_parts, leb-true, eqb-false, eqb-true, ne_eqb}
-use Rattle.std.proofs.lemmas.Bool.{both_ways}
+use Rattle.std.proofs.Common.{take, flat_map, slice_index, length-append}
+use Rattle.std.proofs.lemmas.Bool.{or_parts, or_from, and_parts, leb-true, eqb-false, ne_eqb}
 use Rattle.std.proofs.lemmas.List.{reverse-reverse}
 use Rattle.std.specs.List.{All}
 use Rattle.std.proofs.lemmas.List.Elements.{All-cons, All-nil}
 use Rattle.tk_near.specs.Near.{IsOther}
 use Rattle.tk_descent.specs.Machine.{IsOfferOn}
-use Rattle.tk_tour.proofs.Cycle.{IsRotation-refl}
 use Rattle.tk_tour.specs.Tour.{IsRotation, SameCycle, next_city, prev_city}
 use Rattle.tk_descent.proofs.MovesOnTours.Views.{IsMadeOn, offer_on}
 use Rattle.tk_descent.proofs.MovesOnTours.Paths.{Spans, last_from, IsRound}
-use Rattle.tk_descent.specs.Awake.{IsDistinct, holds}
+use Rattle.tk_distance.specs.Holding.{IsDistinct, holds}
 use Rattle.tk_descent.specs.Offers.{first_gain, improves, covers, segment_of_one, segment_of_two, segment_of_three}
 use Rattle.tk_descent.specs.Offers.{all_segments, segments, or_offer, or_offers, offers_with, offers, EndsIn}
 use Rattle.tk_distance.specs.Cities.{IsCity}
 use Rattle.tk_descent.specs.declared.offer.Segment.{Segment}
 use Rattle.tk_descent.specs.declared.offer.Offer.{Offer}
 use Rattle.tk_descent.specs.declared.offer.Offer.TheVariants.{Two, Or}
-use Rattle.tk_descent.proofs.Lists.{holds-append, or-comm, holds-push_other}
-use Rattle.tk_descent.proofs.MovesOnTours.Length.{Spans-append, Spans-reverse, last_from-append}
+use Rattle.tk_descent.proofs.Lists.{holds-append}
+use Rattle.tk_descent.proofs.MovesOnTours.Length.{Spans-append}
 use Rattle.tk_descent.proofs.OfferLists.Made.{length-reverse}
-use Rattle.tk_descent.proofs.MovesOnTours.Steps.{Apart, turned, rotation-trans, rotation-reverse, turned_back, next_of}
-use Rattle.tk_descent.proofs.MovesOnTours.Steps.{prev_of, distinct-rotation, distinct-reverse, distinct-parts, apart-ne}
-use Rattle.tk_descent.proofs.MovesOnTours.Steps.{holds-first, holds-last, holds-reverse}
-
-same_cycle : (D : List ℕ) → SameCycle D D
-same_cycle D = inl (IsRotation-refl D)
-
-split_cons : (b : ℕ) (xs : List ℕ) (y : ℕ) →
-    ((eqb b y ≡ true) ⊎ ((us : List ℕ) × ((vs : List ℕ) × (xs ≡ us ++ y ∷ vs)))) →
-    (us : List ℕ) × ((vs : List ℕ) × (b ∷ xs ≡ us ++ y ∷ vs))
-split_cons b xs y (inl e) = ([], (xs, ap (λ z. z ∷ xs) (eqb-true b y e)))
-split_cons b xs y (inr (us, (vs, e))) = (b ∷ us, (vs, ap (λ z. b ∷ z) e))
-
-pub member_split : (C : List ℕ) (y : ℕ) → holds C y ≡ true → (us : List ℕ) × ((vs : List ℕ) × (C ≡ us ++ y ∷ vs))
-member_split [] y h = absurd (both_ways false refl h)
-member_split (b ∷ xs) y h =
-    split_cons b xs y (elim (or_cases (eqb b y) (holds xs y) h) [ inl e ↦ inl e | inr e ↦ inr (member_split xs y e) ])
-
-spans_push : (us : List ℕ) (a : ℕ) → (f : ℕ) × Spans (us ++ a ∷ []) f a
-spans_push [] a = (a, (refl, refl))
-spans_push (u ∷ us) a = (u, (refl, last_from-append u us (a ∷ [])))
-
-pub holds-turn : (A B : List ℕ) (c : ℕ) → holds (A ++ B) c ≡ holds (B ++ A) c
-holds-turn A B c = holds-append A B c ∙ or-comm (holds A c) (holds B c) ∙ sym (holds-append B A c)
-
-pub holds-rotation : (X Y : List ℕ) (c : ℕ) → IsRotation X Y → holds X c ≡ holds Y c
-holds-rotation X Y c h = ap (λ z. holds z c) h.before ∙ holds-turn h.front h.back c ∙ sym (ap (λ z. holds z c) h.after)
-
--- the rotation that ends with x
-rotated_to : (us vs : List ℕ) (x : ℕ) (C : List ℕ) → C ≡ us ++ x ∷ vs → IsRotation C ((vs ++ us) ++ x ∷ [])
-rotated_to us vs x C e =
-    record {
-      front = us ++ x ∷ [];
-      back = vs;
-      before = e ∙ sym (append_assoc us (x ∷ []) vs);
-      after = append_assoc vs us (x ∷ []);
-    }
-
-spans_two : (A B : List ℕ) (p q r s b a : ℕ) → Spans A p q → Spans B r s → Spans (A ++ B) b a → (p ≡ b) × (s ≡ a)
-spans_two [] B p q r s b a h k l = absurd h
-spans_two (c ∷ A) [] p q r s b a h k l = absurd k
-spans_two (c ∷ A) (e ∷ B) p q r s b a h k l = (sym h.0 ∙ l.0, sym k.1 ∙ sym (last_from-append c A (e ∷ B)) ∙ l.1)
-
-last_same : (us : List ℕ) (y b a : ℕ) → Spans (us ++ y ∷ []) b a → a ≡ y
-last_same [] y b a h = sym h.1
-last_same (u ∷ us) y b a h = sym h.1 ∙ last_from-append u us (y ∷ [])
-
--- nx and pv are the neighbours of the cities of K, where each rotation of K shows them
-pub record Ways (K : List ℕ) (nx pv : ℕ → ℕ) : Type 0 where
-  pub distinct : IsDistinct K
-  pub next : (D : List ℕ) (b a : ℕ) → IsRotation K D → Spans D b a → nx a ≡ b
-  pub prev : (D : List ℕ) (b a : ℕ) → IsRotation K D → Spans D b a → pv b ≡ a
-
-pub ways_on : (C : List ℕ) → IsDistinct C → Ways C (next_city C) (prev_city C)
-ways_on C dis = record {
-  distinct = dis;
-  next = λ D b a r s. next_of C D b a r s dis;
-  prev = λ D b a r s. prev_of C D b a r s dis;
-}
-
-back_rotation : (C D : List ℕ) → IsRotation (reverse C) D → IsRotation C (reverse D)
-back_rotation C D r = subst (λ z. IsRotation z (reverse D)) (reverse-reverse C) (rotation-reverse (reverse C) D r)
-
-pub ways_back : (C : List ℕ) → IsDistinct C → Ways (reverse C) (prev_city C) (next_city C)
-ways_back C dis = record {
-  distinct = distinct-reverse C dis;
-  next = λ D b a r s. prev_of C (reverse D) a b (back_rotation C D r) (Spans-reverse D b a s) dis;
-  prev = λ D b a r s. next_of C (reverse D) a b (back_rotation C D r) (Spans-reverse D b a s) dis;
-}
-
-module _ (C : List ℕ) (nx pv : ℕ → ℕ) (ways : Ways C nx pv) where
-  two_of : (m x y : ℕ) (us vs : List ℕ) → IsRotation C ((us ++ y ∷ vs) ++ x ∷ []) → IsMadeOn m (Two x (nx x) y (nx y)) C
-  two_of m x y us vs h =
-      let A = vs ++ x ∷ [] in
-      let B = us ++ y ∷ [] in
-      let e : (us ++ y ∷ vs) ++ x ∷ [] ≡ B ++ A = ap (λ z. z ++ x ∷ []) (sym (append_assoc us (y ∷ []) vs))
-      ∙ append_assoc B vs (x ∷ []) in
-      let r : IsRotation C (A ++ B) =
-      rotation-trans C (B ++ A) (A ++ B) (subst (λ z. IsRotation C z) e h) (turned B A) in
-      let p = spans_push vs x in
-      let q = spans_push us y in
-      let n1 : q.0 ≡ nx x =
-      sym (ways.next (B ++ A) q.0 x (rotation-trans C (A ++ B) (B ++ A) r (turned A B))
-      (Spans-append B A q.0 y p.0 x q.1 p.1)) in
-      let n2 : p.0 ≡ nx y = sym (ways.next (A ++ B) p.0 y r (Spans-append A B p.0 x q.0 y p.1 q.1)) in (
-        A ++ reverse B,
-        (
-          A,
-          (
-            B,
-            (inl r, subst (λ z. Spans A z x) n2 p.1, subst (λ z. Spans B z y) n1 q.1, same_cycle (A ++ reverse B)),
-          ),
-        ),
-      )
-
-  pub two_on : (m x y : ℕ) → holds C x ≡ true → holds C y ≡ true → y ≢ x → IsMadeOn m (Two x (nx x) y (nx y)) C
-  two_on m x y hx hy ne =
-      let s = member_split C x hx in
-      let r = rotated_to s.0 s.1.0 x C s.1.1 in
-      let E = s.1.0 ++ s.0 in
-      let t = member_split E y (sym (holds-push_other E x y ne) ∙ sym (holds-rotation C (E ++ x ∷ []) y r) ∙ hy) in
-      two_of m x y t.0 t.1.0 (subst (λ z. IsRotation C (z ++ x ∷ [])) t.1.1 r)
-
-  -- a segment S with the rest R of the cycle, and y with its neighbour w in the rest
-  module _ (m : ℕ) (S R : List ℕ) (x e b a y w : ℕ) (rot : IsRotation C (S ++ R)) (hS : Spans S x e) (hR : Spans R b a)
-      (short : length S ≤ m) (wR : holds R w ≡ true) where
-    apartSR : Apart S R
-    apartSR = (distinct-parts S R (distinct-rotation C (S ++ R) rot ways.distinct)).2
-
-    or_next : (us vs : List ℕ) → R ≡ us ++ y ∷ vs → w ≡ nx y → IsMadeOn m (Or a x e b y w) C
-    or_next us [] k n =
-        let last : a ≡ y = last_same us y b a (subst (λ z. Spans z b a) k hR) in
-        absurd (apart-ne S R x w apartSR (holds-first S x e hS) wR
-        (sym (n ∙ ap nx (sym last) ∙ ways.next (S ++ R) x a rot (Spans-append S R x e b a hS hR))))
-    or_next us (r ∷ vs) k n =
-        let P = us ++ y ∷ [] in
-        let Q = r ∷ vs in
-        let cut : R ≡ P ++ Q = k ∙ sym (append_assoc us (y ∷ []) Q) in
-        let p = spans_push us y in
-        let ends = spans_two P Q p.0 y r (last_from r vs) b a p.1 (refl, refl) (subst (λ z. Spans z b a) cut hR) in
-        let whole : IsRotation C (S ++ P ++ Q) =
-        subst (λ z. IsRotation C z) (ap (λ z. S ++ z) cut ∙ sym (append_assoc S P Q)) rot in
-        let next : nx y ≡ r =
-        ways.next (Q ++ (S ++ P)) r y (rotation-trans C (S ++ P ++ Q) (Q ++ (S ++ P)) whole (turned (S ++ P) Q))
-        (Spans-append Q (S ++ P) r (last_from r vs) x y (refl, refl) (Spans-append S P x e p.0 y hS p.1)) in (
-          P ++ S ++ Q,
-          (
-            S,
-            (
-              P,
-              (
-                Q,
-                (
-                  inl whole,
-                  short,
-                  hS,
-                  inl (subst (λ z. Spans P z y) ends.0 p.1, (sym (n ∙ next), ends.1), same_cycle (P ++ S ++ Q)),
-                ),
-              ),
-            ),
-          ),
-        )
-
-    or_prev : (us vs : List ℕ) → R ≡ us ++ y ∷ vs → w ≡ pv y → IsMadeOn m (Or a x e b y w) C
-    or_prev [] vs k n =
-        let first : b ≡ y = sym (subst (λ z. Spans z b a) k hR).0 in
-        absurd (apart-ne S R e w apartSR (holds-last S x e hS) wR
-        (sym (n ∙ ap pv (sym first)
-        ∙ ways.prev (R ++ S) b e (rotation-trans C (S ++ R) (R ++ S) rot (turned S R))
-        (Spans-append R S b a x e hR hS))))
-    or_prev (u ∷ us) vs k n =
-        let P = u ∷ us in
-        let Q = y ∷ vs in
-        let ends = spans_two P Q u (last_from u us) y (last_from y vs) b a (refl, refl) (refl, refl)
-        (subst (λ z. Spans z b a) k hR) in
-        let whole : IsRotation C (S ++ P ++ Q) =
-        subst (λ z. IsRotation C z) (ap (λ z. S ++ z) k ∙ sym (append_assoc S P Q)) rot in
-        let prev : pv y ≡ last_from u us =
-        ways.prev (Q ++ (S ++ P)) y (last_from u us)
-        (rotation-trans C (S ++ P ++ Q) (Q ++ (S ++ P)) whole (turned (S ++ P) Q))
-        (Spans-append Q (S ++ P) y (last_from y vs) x (last_from u us) (refl, refl)
-        (Spans-append S P x e u (last_from u us) hS (refl, refl))) in (
-          P ++ reverse S ++ Q,
-          (
-            S,
-            (
-              P,
-              (
-                Q,
-                (
-                  inl whole,
-                  short,
-                  hS,
-                  inr ((ends.0, sym (n ∙ prev)), (refl, ends.1), same_cycle (P ++ reverse S ++ Q)),
-                ),
-              ),
-            ),
-          ),
-        )
+use Rattle.tk_descent.proofs.MovesOnTours.Steps.{turned, rotation-trans, rotation-reverse, turned_back}
+use Rattle.tk_descent.proofs.MovesOnTours.Steps.{holds-first, holds-reverse}
+use Rattle.tk_descent.proofs.OfferLists.MadeOnCycle.{two_on, or_next, or_prev}
+use Rattle.tk_descent.proofs.OfferLists.Ways.{member_split, spans_push, holds-rotation, rotated_to}
+use Rattle.tk_descent.proofs.OfferLists.Ways.{Ways, ways_on, ways_back}
 
 -- from the cycle the other way round
 back_cycle : (C X : List ℕ) → SameCycle (reverse C) X → SameCycle C X

@@ -8,10 +8,11 @@ use Rattle.tk_descent.proofs.MovesOnTours.Views.{Made, made_of}
 use Rattle.tk_descent.proofs.MovesOnTours.Paths.{IsTable}
 use Rattle.tk_descent.specs.Offers.{first_gain, improves, or_offer, or_offers, offers_with, offers, segments, Makes}
 use Rattle.tk_descent.specs.Offers.{removed, added, ends}
-use Rattle.tk_descent.specs.Awake.{woken, woken_each, IsDistinct, holds}
+use Rattle.tk_descent.specs.Awake.{woken, woken_each}
+use Rattle.tk_distance.specs.Holding.{IsDistinct, holds}
 use Rattle.tk_descent.specs.Machine.{Run, IsOfferOn}
 use Rattle.tk_descent.specs.Machine.Run.{start, asleep, move}
-use Rattle.tk_descent.specs.WakeMachine.{IsOf, Improves, HasNoOffer, IsLocalOptimum, Wakes}
+use Rattle.tk_descent.specs.WakeMachine.{IsOfferOf, Improves, HasNoOffer, IsLocalOptimum, Wakes}
 use Rattle.tk_descent.specs.WakeMachine.Wakes.{start as begin, asleep as fall_asleep, move as go_on}
 use Rattle.tk_descent.proofs.OfferLists.Listed.{IsListed}
 use Rattle.tk_descent.specs.declared.offer.Segment.{Segment}
@@ -22,7 +23,8 @@ use Rattle.tk_descent.proofs.Lists.{holds-push, distinct-push}
 use Rattle.tk_descent.proofs.MovesOnTours.GainLaw.{gain_law}
 use Rattle.tk_descent.proofs.OfferLists.Count.{found_improves}
 use Rattle.tk_descent.proofs.OfferLists.Complete.{complete}
-use Rattle.tk_descent.proofs.OfferLists.OnCycle.{Each, each-append, found_has, each_or, holds-turn}
+use Rattle.tk_descent.proofs.OfferLists.OnCycle.{Each, each-append, found_has, each_or}
+use Rattle.tk_descent.proofs.OfferLists.Ways.{holds-turn}
 use Rattle.tk_descent.proofs.MovesOnTours.Steps.{distinct-parts, distinct-join, distinct-turn, distinct-reverse}
 use Rattle.tk_descent.proofs.MovesOnTours.Steps.{distinct-cycle, holds-reverse}
 
@@ -63,7 +65,7 @@ each_seg F f [] h = tt
 each_seg F f (s ∷ ss) h = each-append F (f s) (flat_map f ss) (h s) (each_seg F f ss h)
 
 abbrev IsFrom : (ℕ → List ℕ) → ℕ → Offer → Type 0
-IsFrom near x o = IsOf near x o × (holds (ends o) x ≡ true)
+IsFrom near x o = IsOfferOf near x o × (holds (ends o) x ≡ true)
 
 from_or : (near : ℕ → List ℕ) (x y ay by : ℕ) → holds (near x) y ≡ true → (s : Segment) →
     Each (IsFrom near x) (or_offers x y ay by s)
@@ -81,7 +83,7 @@ from_or near x y ay by h s =
     (each_or (IsFrom near x) x y s by (λ u v. (inl (refl, h), here2)))
 
 pub found_from : (d : ℕ → ℕ → ℕ) (near : ℕ → List ℕ) (m x : ℕ) (C : List ℕ) (o : Offer) →
-    first_gain d (offers C m (near x) x) ≡ Some o → IsOf near x o × (holds (ends o) x ≡ true)
+    first_gain d (offers C m (near x) x) ≡ Some o → IsOfferOf near x o × (holds (ends o) x ≡ true)
 found_from d near m x C o e =
     found_has (IsFrom near x) d (offers C m (near x) x) o
     (each_held (IsFrom near x)

@@ -8,7 +8,8 @@ use Rattle.std.proofs.lemmas.List.{length_push, get_or_read}
 use Rattle.std.proofs.lemmas.Bool.{or_cases, or_left, or_right, eqb-true, eq-eqb, ne_eqb, cases_eq, cond-false}
 use Rattle.std.proofs.lemmas.Bool.{false_from_ne_true}
 use Rattle.std.specs.Prelude.{slice_get}
-use Rattle.tk_descent.specs.Awake.{IsWaking, woken, holds}
+use Rattle.tk_descent.specs.Awake.{IsWaking, woken}
+use Rattle.tk_distance.specs.Holding.{holds}
 use Rattle.circular_buffer.specs.Buffer.{Buffer}
 use Rattle.tk_descent.proofs.Lists.{holds-push, holds-push_other, holds-push_same, distinct-push}
 

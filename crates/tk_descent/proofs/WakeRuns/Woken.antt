@@ -4,7 +4,8 @@ use Rattle.std.proofs.Common.{length, get_or, take, refl, sym, ◌∙◌, ap, ar
 use Rattle.std.proofs.lemmas.List.{take_more}
 use Rattle.std.proofs.lemmas.Bool.{or_cases, or_left, or_right, eqb-true, eq-eqb, cases_eq, both_ways, cond-false}
 use Rattle.std.proofs.lemmas.Bool.{false_from_ne_true}
-use Rattle.tk_descent.specs.Awake.{woken, woken_each, one_to, holds}
+use Rattle.tk_descent.specs.Awake.{woken, woken_each, one_to}
+use Rattle.tk_distance.specs.Holding.{holds}
 use Rattle.tk_descent.proofs.Lists.{holds-push}
 
 woken_each-append : (xs ys W : List ℕ) → woken_each W (xs ++ ys) ≡ woken_each (woken_each W xs) ys

@@ -1,9 +1,8 @@
 //! The offers of a city with another, in their order.
-ghost use Rattle.std.specs.Prelude.{◌≡◌, ◌+◌, ◌<◌, ◌≤◌, [], ◌∷◌, ◌++◌, All, length};
+ghost use Rattle.std.specs.Prelude.{◌≡◌, ◌+◌, ◌<◌, ◌≤◌, [], ◌∷◌, ◌++◌, length};
 ghost use Rattle.tk_distance.specs.Cities.{IsCity};
-ghost use Rattle.tk_near.specs.Near.{IsOther};
 ghost use Rattle.tk_tour.specs.Tour.{next_city, prev_city};
-ghost use Rattle.tk_descent.specs.Offers.{EndsIn, offers_with, or_offer, segments};
+ghost use Rattle.tk_descent.specs.Offers.{offers_with, or_offer, segments};
 
 use crate::looks::segments::{segment_count, segments_of};
 use crate::offer::{Offer, Segment};

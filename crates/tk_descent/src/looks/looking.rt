@@ -1,6 +1,5 @@
 //! A look at a city goes through its offers in order.
-ghost use Rattle.std.specs.Prelude.{◌≡◌, ◌≤◌, ◌<◌, [], ◌∷◌, length, flat_map, All, IfSome, None, ◌+◌, ◌*◌, pos, true};
-ghost use Rattle.std.specs.Prelude.{false};
+ghost use Rattle.std.specs.Prelude.{◌≡◌, ◌≤◌, ◌<◌, [], ◌∷◌, length, flat_map, All, IfSome, None, ◌+◌, ◌*◌, pos};
 ghost use Rattle.tk_near.specs.Near.{near_of};
 ghost use Rattle.tk_tour.specs.Counters.{saturated};
 ghost use Rattle.tk_descent.specs.Offers.{covers, Searched, or_offer, offers, EndsIn, segment_count, first_gain};
@@ -10,7 +9,7 @@ ghost use Rattle.tk_descent.specs.Steps.{AreMeasured};
 ghost use Rattle.tk_distance.specs.Cities.{IsCity};
 ghost use Rattle.tk_descent.specs.Machine.{IsOfferOn};
 ghost use Rattle.tk_descent.specs.WakeMachine.{HasNoOffer};
-ghost use Rattle.tk_descent.specs.declared.offer.Offer.TheVariants.{Two, Or};
+ghost use Rattle.tk_descent.specs.declared.offer.Offer.TheVariants.{Two};
 
 use crate::gains::Gains;
 use crate::looks::segments::segment_count;

@@ -1,5 +1,5 @@
 //! Integer roots.
-ghost use Rattle.std.specs.Prelude.{◌≡◌, ◌+◌, ◌*◌, ◌<◌, ◌≤◌};
+ghost use Rattle.std.specs.Prelude.{◌+◌, ◌*◌, ◌<◌};
 ghost use Rattle.tk_distance.specs.Roots.{IsRoot, IsRootUp};
 
 use crate::exact::guess::near_wide_root;

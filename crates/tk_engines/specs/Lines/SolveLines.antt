@@ -10,7 +10,7 @@ use Rattle.tk_solve.specs.declared.tour.SolvedTour.{SolvedTour}
 
 -- a key that is read and not used
 abbrev pub ignored_line : Key → List ℕ
-ignored_line key = line (codes "ignored " ++ keys.word key)
+ignored_line key = line (codes "ignored " ++ keys.key_word key)
 
 -- what a descent did
 abbrev pub work_of : ℕ → ℕ → ℕ → List ℕ

@@ -10,7 +10,7 @@ ghost use Rattle.tk_solve.specs.SolvedTours.{IsSolved, IsSound};
 ghost use Rattle.tk_solve.specs.Events.{Begun};
 ghost use Rattle.tk_solve.specs.Watching.{WereShown};
 ghost use Rattle.tk_engines.specs.Engine.{AtWrite, BeforeSecond, Ends, IsUntouched, ReadsProblem, UnlessWrite};
-ghost use Rattle.tk_engines.specs.Solve.{AreRoutesOf, AreUntouched, BeforeSearch, Gives, HasFailed, IsTourWritten};
+ghost use Rattle.tk_engines.specs.Solve.{AreRoutesOf, AreUntouched, BeforeSearch, GivesFiles, HasFailed, IsTourWritten};
 ghost use Rattle.tk_engines.specs.Solve.{ReadsInitial, WritesFiles, cities_in, route_files, solve_task, tour_files};
 ghost use Rattle.tk_engines.specs.Solve.{tour_task};
 
@@ -96,7 +96,7 @@ fn solve_tsp<F: Sink, W: Sink, V: Watch>(
     watch: &mut V,
 ) -> Result<(), Fault>
     requires { MatchOption (cities_in initial.now) (Unit {0}) (IsTour problem.now.n) }
-    ensures gives { Gives (IsTourWritten params.now
+    ensures gives { GivesFiles (IsTourWritten params.now
         (WereShown V.shows watch.old watch.new) (problem_is problem.now) (cities_in initial.now))
         (WritesFiles F.taken F.broken W.taken W.broken file.old file.new out.old out.new)
         (AreUntouched F.taken F.broken W.taken W.broken file.old file.new out.old out.new) result }
@@ -119,7 +119,7 @@ fn solve_cvrp<F: Sink, W: Sink>(
     file: &mut F,
     out: &mut W,
 ) -> Result<(), Fault>
-    ensures gives { Gives (AreRoutesOf params.now (instance_of cvrp.now))
+    ensures gives { GivesFiles (AreRoutesOf params.now (instance_of cvrp.now))
         (WritesFiles F.taken F.broken W.taken W.broken file.old file.new out.old out.new)
         (AreUntouched F.taken F.broken W.taken W.broken file.old file.new out.old out.new) result }
     ensures failed { IfErr result (AtWrite (HasFailed (F.broken file.new) (W.broken out.new))) }

@@ -1,5 +1,5 @@
 //! What `solve` is given: whether its keys fit the problem, the tour to begin with, and the options of the search.
-ghost use Rattle.std.specs.Prelude.{◌≡◌, ◌≤◌, true, false, IfOk, IfErr, OnOk, Ok, Err, Some, None, MatchOption};
+ghost use Rattle.std.specs.Prelude.{◌≡◌, IfOk, IfErr, OnOk, Ok, Err, Some, None, MatchOption};
 ghost use Rattle.std.specs.Prelude.{is_some};
 ghost use Rattle.tk_problem_text.specs.ProblemOf.{problem_is, weights_are};
 ghost use Rattle.tk_tour.specs.Tour.{IsTour};

@@ -5,12 +5,12 @@ use Rattle.std.proofs.lemmas.List.{append-nil, length-append}
 use Rattle.std.proofs.lemmas.Bool.{eq-eqb, lt-leb, le-leb}
 use Rattle.tk_words.specs.declared.keyword.Keyword.{Keyword}
 use Rattle.tk_words.specs.declared.fault.TextKind.TheVariants as kinds
-use Rattle.tk_words.specs.Lex.{Token, integer, tokens, lines, is_empty, is_blank, is_letter, LF, IsRun}
+use Rattle.tk_words.specs.Lex.{Token, integer, tokens, lines, is_empty, is_blank, is_letter, LF, IsUnbroken}
 use Rattle.tk_lines.specs.Pieces.{Piece, Clean, Trailing, Stop, Fault, Extent, Format, last_line, cut, judge, stopped}
 use Rattle.tk_lines.specs.Pieces.{decided_by}
 use Rattle.tk_lines.specs.Reader.FromMiddle.{prepend, from_line, in_section, goes, new_pieces}
 use Rattle.tk_words.specs.MinusOne.{is_minus_one, one_more, begins_minus_one}
-use Rattle.tk_lines.specs.Reader.Forms.{whole, Closed, Ends, a_section}
+use Rattle.tk_lines.specs.Reader.Forms.{whole, Closed, EndsWithMinusOne, a_section}
 use Rattle.tk_lines.specs.Reader.Places.{Next, Within, anything, this, a_gap, DecidesIf, AtClose, AtAfter}
 use Rattle.tk_words.proofs.Bools.{and_false}
 use Rattle.tk_lines.proofs.Sections.MiddleOfSection.{run_head}
@@ -23,7 +23,8 @@ use Rattle.tk_lines.proofs.Sections.SectionSteps.{run_more}
 use Rattle.tk_words.specs.Words.{begins_word}
 
 module _ {V S : Type 0} (f : Format V) (H : S → List Piece → Type 0) (next : Next) (form : S) (line : ℕ) (o : Bool)
-    (held bs : List ℕ) (within : Within next a_gap) (run : IsRun held) (a : AtAfter f H next form line o held bs) where
+    (held bs : List ℕ) (within : Within next a_gap) (run : IsUnbroken held)
+    (a : AtAfter f H next form line o held bs) where
   -- one -1 more ends the section
   one_closed : is_minus_one (integer held) ≡ true → Closed f a.before a.word a.first (a.toks ++ whole held line ∷ [])
   one_closed minus = record {
@@ -55,7 +56,7 @@ module _ {V S : Type 0} (f : Format V) (H : S → List Piece → Type 0) (next :
   }
 
 module _ {V : Type 0} (f : Format V) (before : List Piece) (word : Keyword) (n0 : ℕ) (toks : List Token) (held : List ℕ)
-    (e : Bool) (n : ℕ) (bs : List ℕ) (run : IsRun held) where
+    (e : Bool) (n : ℕ) (bs : List ℕ) (run : IsUnbroken held) where
   -- a token on the line of the section's last one
   in_section-another : last_line n0 toks ≡ n
       → ((line : ℕ) → f.section before word n0 toks (Trailing line) ≡ Some (Fault line kinds.TrailingData))
@@ -85,14 +86,14 @@ module _ {V : Type 0} (f : Format V) (before : List Piece) (word : Keyword) (n0 
         trailing,
       ) refl
     where
-      run_full : (xs ys : List ℕ) → IsRun xs → is_empty (xs ++ ys) ≡ false
+      run_full : (xs ys : List ℕ) → IsUnbroken xs → is_empty (xs ++ ys) ≡ false
       run_full [] ys h = absurd h
       run_full (x ∷ xs) ys h = refl
 
 -- a line of its own that begins with no letter
 module _ {V : Type 0} (f : Format V) (before : List Piece) (upto : ℕ) (e : Bool) (n : ℕ) (bs : List ℕ)
     (lt : upto < n) where
-  from_line-run : (held : List ℕ) → IsRun held → begins_word held ≡ false →
+  from_line-run : (held : List ℕ) → IsUnbroken held → begins_word held ≡ false →
       from_line f before upto held e n bs ≡ Some (Err (record { line = n; kind = kinds.TrailingData }))
   unfolding from_line cut judge
   from_line-run [] run other = absurd run
@@ -103,7 +104,7 @@ module _ {V : Type 0} (f : Format V) (before : List Piece) (upto : ℕ) (e : Boo
 
 -- after the -1, a token that is no -1
 module _ {V S : Type 0} (f : Format V) (H : S → List Piece → Type 0) (next : Next) (form : S) (line : ℕ)
-    (held bs : List ℕ) (run : IsRun held) (other : begins_word held ≡ false)
+    (held bs : List ℕ) (run : IsUnbroken held) (other : begins_word held ≡ false)
     (none : (e : Bool) (more : List ℕ) → next e more ≡ true → one_more (tokens (prepend held (lines e line more))) ≡ 0)
   where
     as_before : (a_toks : List Token) (k : ℕ) → k ≡ 0 →
@@ -134,7 +135,7 @@ module _ {V S : Type 0} (f : Format V) (H : S → List Piece → Type 0) (next :
         a.last held run other
 
 -- no -1 in a token that has ended
-pub none_whole : (held : List ℕ) (line : ℕ) (next : Next) → Within next a_gap → IsRun held
+pub none_whole : (held : List ℕ) (line : ℕ) (next : Next) → Within next a_gap → IsUnbroken held
     → is_minus_one (integer held) ≡ false
     → (e : Bool) (more : List ℕ) → next e more ≡ true → one_more (tokens (prepend held (lines e line more))) ≡ 0
 none_whole held line next within run minus e more n =
@@ -142,7 +143,7 @@ none_whole held line next within run minus e more n =
     rw (s.first.is, s.split, minus) refl
 
 -- nor where the bytes show that it is none
-pub none_shown : (b : ℕ) (t : List ℕ) (line : ℕ) → IsRun (b ∷ t) → begins_minus_one (b ∷ t) ≡ false
+pub none_shown : (b : ℕ) (t : List ℕ) (line : ℕ) → IsUnbroken (b ∷ t) → begins_minus_one (b ∷ t) ≡ false
     → (e : Bool) (more : List ℕ) → one_more (tokens (prepend (b ∷ t) (lines e line more))) ≡ 0
 none_shown b t line run other e more =
     let k = first_line e line more in
@@ -154,7 +155,7 @@ none_shown b t line run other e more =
     by_whole false = refl
 
 -- what may be -1 begins with no letter
-pub minus_first : (held : List ℕ) → IsRun held → begins_minus_one held ≡ true → begins_word held ≡ false
+pub minus_first : (held : List ℕ) → IsUnbroken held → begins_minus_one held ≡ true → begins_word held ≡ false
 minus_first [] run more = absurd run
 minus_first (b ∷ held) run more = let is = begins_minus b held more in rw is refl
 
@@ -171,12 +172,12 @@ module _ {V S : Type 0} (f : Format V) (H : S → List Piece → Type 0) (form :
       (after_byte f H form line b bs o [] other a)
 
   -- a byte of the token
-  pub shown_later : (held bs : List ℕ) (o : Bool) → IsRun held → begins_minus_one held ≡ true → is_blank b ≡ false
+  pub shown_later : (held bs : List ℕ) (o : Bool) → IsUnbroken held → begins_minus_one held ≡ true → is_blank b ≡ false
       → eqb b LF ≡ false → begins_minus_one (held ++ b ∷ []) ≡ false → AtAfter f H (this b) form line o held bs
       → DecidesIf f anything (bs ++ b ∷ []) (Err (record { line = line; kind = kinds.TrailingData }))
   shown_later [] bs o run begun solid other none a = absurd run
   shown_later (c ∷ held) bs o run begun solid other none a =
-      let more : IsRun ((c ∷ held) ++ b ∷ []) = run_more (c ∷ held) b run solid in
+      let more : IsUnbroken ((c ∷ held) ++ b ∷ []) = run_more (c ∷ held) b run solid in
       one_other f H anything form line (c ∷ (held ++ b ∷ [])) (bs ++ b ∷ []) more (minus_first (c ∷ held) run begun)
       (λ e rest n. none_shown c (held ++ b ∷ []) line more none e rest) o
       (after_byte f H form line b bs o (c ∷ held) other a)
@@ -184,8 +185,8 @@ module _ {V S : Type 0} (f : Format V) (H : S → List Piece → Type 0) (form :
 -- ---- nothing is decided before the token has ended
 
 module _ {V S : Type 0} (f : Format V) (H : S → List Piece → Type 0) (form : S) (line : ℕ) (held bs : List ℕ) where
-  open_one_law : (before : List Piece) (word : Keyword) (n0 : ℕ) (toks : List Token) → IsRun held →
-      begins_minus_one held ≡ true → Ends f before word n0 toks →
+  open_one_law : (before : List Piece) (word : Keyword) (n0 : ℕ) (toks : List Token) → IsUnbroken held →
+      begins_minus_one held ≡ true → EndsWithMinusOne f before word n0 toks →
       in_section f before word n0 toks held false line [] ≡ None
   unfolding in_section goes new_pieces cut judge lines
   open_one_law before word n0 toks run begun ends =
@@ -217,7 +218,7 @@ module _ {V S : Type 0} (f : Format V) (H : S → List Piece → Type 0) (form :
       eq-leb : (n : ℕ) → leb n n ≡ true
       eq-leb n = le-leb _ _ (omega arith)
 
-  pub open_minus_one : (o : Bool) → IsRun held → begins_minus_one held ≡ true →
+  pub open_minus_one : (o : Bool) → IsUnbroken held → begins_minus_one held ≡ true →
       AtAfter f H anything form line o held bs → decided_by f false bs ≡ None
   open_minus_one o run begun a =
       at_none f form line bs _ (a.same false [] refl) (open_one_law a.before a.word a.first a.toks run begun a.ends)

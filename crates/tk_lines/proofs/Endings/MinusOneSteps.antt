@@ -5,11 +5,11 @@ use Rattle.std.proofs.lemmas.List.{append-nil}
 use Rattle.std.proofs.lemmas.Bool.{eqb-true}
 use Rattle.tk_words.specs.declared.keyword.Keyword.{Keyword}
 use Rattle.tk_words.specs.declared.fault.TextKind.TheVariants as kinds
-use Rattle.tk_words.specs.Lex.{LF, Token, tokens, lines, is_blank, is_letter, IsRun}
+use Rattle.tk_words.specs.Lex.{LF, Token, tokens, lines, is_blank, is_letter, IsUnbroken}
 use Rattle.tk_lines.specs.Pieces.{Piece, Clean, Trailing, Stop, Fault, Format, last_line, stopped}
 use Rattle.tk_lines.specs.Reader.FromMiddle.{prepend, from_line, in_section}
 use Rattle.tk_words.specs.MinusOne.{one_more}
-use Rattle.tk_lines.specs.Reader.Forms.{whole, Ends, a_section}
+use Rattle.tk_lines.specs.Reader.Forms.{whole, EndsWithMinusOne, a_section}
 use Rattle.tk_lines.specs.Reader.Places.{Next, Within, anything, this, a_gap, DecidesIf, AtLine, AtToken, AtAfter}
 use Rattle.tk_lines.specs.Reader.Places.{IsLastLine}
 use Rattle.tk_lines.proofs.Sections.MiddleOfSection.{in_section-byte, in_section-next}
@@ -136,12 +136,13 @@ module _ {V S : Type 0} (f : Format V) (H : S → List Piece → Type 0) (form :
 
 -- a token that ends a list
 module _ {V S : Type 0} (f : Format V) (W : S → List Piece → Keyword → ℕ → List Token → Type 0) (next : Next) (form : S)
-    (line : ℕ) (held bs : List ℕ) (within : Within next a_gap) (run : IsRun held)
+    (line : ℕ) (held bs : List ℕ) (within : Within next a_gap) (run : IsUnbroken held)
     (a : AtToken f W next form line held bs) where
   pub token_ending : (H : S → List Piece → Type 0) (form' : S) →
       ((ones : List Token) →
       H form' (a.before ++ a_section a.word a.first ((a.toks ++ whole held line ∷ []) ++ ones) Clean)) →
-      Ends f a.before a.word a.first (a.toks ++ whole held line ∷ []) → AtAfter f H next form' line true [] bs
+      EndsWithMinusOne f a.before a.word a.first (a.toks ++ whole held line ∷ []) →
+      AtAfter f H next form' line true [] bs
   token_ending H form' holds ends = record {
     before = a.before;
     word = a.word;

@@ -18,7 +18,7 @@ use Rattle.tk_lines.specs.Reader.Forms.{Promise, a_header, a_section}
 use Rattle.tk_lines.specs.Reader.Places.{Within, anything, no_word, a_gap, a_line_end, at_end, DecidesIf, AtLine}
 use Rattle.tk_lines.specs.Reader.Places.{AtTail}
 use Rattle.tk_lines.specs.Reader.Places.{AtValue, AtBegin, AtToken, AtClose, AtAfter, AtPlace, HeaderTaken, AtEnd, Fed}
-use Rattle.tk_lines.specs.Reader.Steps.{EndsPlace, IsSettled, IsAnswered, IsRefused, Waits}
+use Rattle.tk_lines.specs.Reader.Steps.{EndsPlace, IsSettled, IsAnswered, IsFaultWith, Waits}
 use Rattle.tk_words.proofs.Told.{told_of}
 use Rattle.tk_lines.proofs.MiddleOfLine.{prepend-nil}
 use Rattle.tk_lines.proofs.Lines.{word_ends_behind, from_line-last}
@@ -65,7 +65,7 @@ module _ {V : Type 0} (f : Format V) (bs : List ℕ) where
   pub decides_ended : (a : Result V TextFault) → DecidesIf f at_end bs a → IsAnswered f bs a
   decides_ended a h = ended_by (Some a) (h true [] refl)
 
-  pub told_ended : (r : TextFault) → IsRefused (DecidesIf f at_end bs) r → IsRefused (IsAnswered f bs) r
+  pub told_ended : (r : TextFault) → IsFaultWith (DecidesIf f at_end bs) r → IsFaultWith (IsAnswered f bs) r
   told_ended r h =
       told_of ⊥ (λ e. DecidesIf f at_end bs (Err e)) (λ e. IsAnswered f bs (Err e)) r (cause_of r.kind)
       (decides_ended (Err r)) h

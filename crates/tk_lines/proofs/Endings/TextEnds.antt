@@ -6,7 +6,7 @@ use Rattle.std.proofs.lemmas.Bool.{lt-leb, le-ltb}
 use Rattle.tk_words.specs.declared.keyword.Keyword.{Keyword}
 use Rattle.tk_words.specs.declared.keyword.Role.TheVariants.{BeginsHeader}
 use Rattle.tk_words.specs.declared.fault.TextFault.{TextFault}
-use Rattle.tk_words.specs.Lex.{Token, lines, tokens_of, onto_token, is_word_byte, IsRun}
+use Rattle.tk_words.specs.Lex.{Token, lines, tokens_of, onto_token, is_word_byte, IsUnbroken}
 use Rattle.tk_words.specs.Words.{keyword_of, role}
 use Rattle.tk_lines.specs.Pieces.{Piece, End, Clean, Early, Format, last_line, cut, judge, stopped, ended, decided_by}
 use Rattle.tk_lines.specs.Reader.FromMiddle.{from_line, in_section, goes, new_pieces}
@@ -78,7 +78,7 @@ module _ {V : Type 0} (f : Format V) (before : List Piece) (e : Bool) (n : ℕ) 
 
 -- ---- where more may follow, nothing is decided
 
-pub tokens_of-open : (n : ℕ) (held : List ℕ) → IsRun held →
+pub tokens_of-open : (n : ℕ) (held : List ℕ) → IsUnbroken held →
     tokens_of false n held ≡ record { bytes = held; line = n; whole = false } ∷ []
 tokens_of-open n [] h = absurd h
 tokens_of-open n (b ∷ []) h = tokens_of-end false n b [] h refl
@@ -113,14 +113,15 @@ module _ {V S : Type 0} (f : Format V) (form : S) (line : ℕ) (bs : List ℕ) w
       at_none _ (a.same false [] refl) (in_section-end f a.before false line a.word a.first a.toks a.goes.ends
       ∙ rw (a.goes.early line) refl)
 
-  open_token_law : (before : List Piece) (word : Keyword) (n0 : ℕ) (toks : List Token) (held : List ℕ) → IsRun held →
+  open_token_law : (before : List Piece) (word : Keyword) (n0 : ℕ) (toks : List Token) (held : List ℕ) →
+      IsUnbroken held →
       length held ≤ 64 → Goes f before word n0 toks → in_section f before word n0 toks held false line [] ≡ None
   unfolding in_section goes new_pieces cut judge lines
   open_token_law before word n0 toks held run short g =
       let t : Token = record { bytes = held; line = line; whole = false } in
       rw (append-nil held, tokens_of-open line held run, g.opens t _ refl short) refl
 
-  pub open_token : (W : S → List Piece → Keyword → ℕ → List Token → Type 0) (held : List ℕ) → IsRun held →
+  pub open_token : (W : S → List Piece → Keyword → ℕ → List Token → Type 0) (held : List ℕ) → IsUnbroken held →
       length held ≤ 64 → AtToken f W anything form line held bs → decided_by f false bs ≡ None
   open_token W held run short a =
       at_none _ (a.same false [] refl) (open_token_law a.before a.word a.first a.toks held run short a.goes)

@@ -5,13 +5,13 @@ use Rattle.std.proofs.lemmas.List.{append-nil}
 use Rattle.std.proofs.lemmas.Bool.{le-leb}
 use Rattle.tk_words.specs.declared.keyword.Keyword.{Keyword}
 use Rattle.tk_words.specs.Lex.{LF, Line, Token, onto_line, onto_token, goes_on, lines, tokens, tokens_of, is_blank}
-use Rattle.tk_words.specs.Lex.{is_empty, behind, IsRun}
+use Rattle.tk_words.specs.Lex.{is_empty, behind, IsUnbroken}
 use Rattle.tk_lines.specs.Pieces.{Piece, Extents, covered, cut, Format}
 use Rattle.tk_lines.specs.Reader.FromMiddle.{in_section, goes, new_pieces, end_of}
 use Rattle.tk_lines.proofs.MiddleOfLine.{prepend-onto, prepend-nil, lines-byte, lines-LF, lines_cons, end_token-bytes}
 use Rattle.tk_words.proofs.Bools.{or_true}
 
-pub run_head : (b : ℕ) (bs : List ℕ) → IsRun (b ∷ bs) → is_blank b ≡ false
+pub run_head : (b : ℕ) (bs : List ℕ) → IsUnbroken (b ∷ bs) → is_blank b ≡ false
 run_head b [] h = h
 run_head b (c ∷ bs) h = h.0
 
@@ -40,7 +40,7 @@ tokens_of-none w n = refl
 goes_on-is : (b : ℕ) (bs : List ℕ) (t : Bool) → is_blank b ≡ t → goes_on (b ∷ bs) ≡ not t
 goes_on-is b bs t h = ap not h
 
-pub tokens_of-run : (w : Bool) (n : ℕ) (held : List ℕ) (c : ℕ) (more : List ℕ) → IsRun held → is_blank c ≡ true →
+pub tokens_of-run : (w : Bool) (n : ℕ) (held : List ℕ) (c : ℕ) (more : List ℕ) → IsUnbroken held → is_blank c ≡ true →
     tokens_of w n (held ++ c ∷ more) ≡ token held n ∷ tokens_of w n more
 tokens_of-run w n [] c more h blank = absurd h
 tokens_of-run w n (b ∷ []) c more h blank = tokens_of-end w n b (c ∷ more) h (goes_on-is c more true blank)
@@ -50,7 +50,7 @@ tokens_of-run w n (b ∷ d ∷ held) c more h blank =
     ∙ ap (onto_token b) (tokens_of-run w n (d ∷ held) c more h.1 blank)
 
 -- at the end of a whole line
-pub tokens_of-last : (n : ℕ) (held : List ℕ) → IsRun held → tokens_of true n held ≡ token held n ∷ []
+pub tokens_of-last : (n : ℕ) (held : List ℕ) → IsUnbroken held → tokens_of true n held ≡ token held n ∷ []
 tokens_of-last n [] h = absurd h
 tokens_of-last n (b ∷ []) h = tokens_of-end true n b [] h refl
     ∙ ap (λ (ts : List Token). token (b ∷ []) n ∷ ts) (tokens_of-none true n)

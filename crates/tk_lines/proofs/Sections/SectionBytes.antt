@@ -8,7 +8,7 @@ use Rattle.tk_words.specs.declared.keyword.Role.TheVariants.{BeginsSection}
 use Rattle.tk_words.specs.declared.fault.TextKind.{TextKind}
 use Rattle.tk_words.specs.declared.fault.TextKind.TheVariants as kinds
 use Rattle.tk_words.specs.Lex.{LF, Line, Token, lines, tokens, tokens_of, onto_token, is_blank, behind, after_word}
-use Rattle.tk_words.specs.Lex.{without_colon_before, IsRun}
+use Rattle.tk_words.specs.Lex.{without_colon_before, IsUnbroken}
 use Rattle.tk_words.specs.Words.{keyword_of, role}
 use Rattle.tk_lines.specs.Pieces.{Piece, After, Trailing, Early, End, Fault, section_at, last_line, covered, cut}
 use Rattle.tk_lines.specs.Pieces.{end_token, Format, judge, ended}
@@ -44,7 +44,8 @@ pub record Split (held : List ℕ) (e : Bool) (n : ℕ) (bs : List ℕ) : Type 0
   pub first : First e n bs
   pub split : tokens_of first.whole n (held ++ first.bytes) ≡ token held n ∷ tokens_of first.whole n first.bytes
 
-pub split_at : (held : List ℕ) (e : Bool) (n : ℕ) (bs : List ℕ) → IsRun held → a_gap e bs ≡ true → Split held e n bs
+pub split_at : (held : List ℕ) (e : Bool) (n : ℕ) (bs : List ℕ) → IsUnbroken held → a_gap e bs ≡ true →
+    Split held e n bs
 unfolding lines first-byte first-LF
 split_at held e n [] run h =
     record {
@@ -83,7 +84,7 @@ split_at held e n (b ∷ bs) run h = by_lf (eqb b LF) refl
         by_blank false h = absurd cc
 
 module _ {V : Type 0} (f : Format V) (before : List Piece) (word : Keyword) (n0 : ℕ) (toks : List Token) (held : List ℕ)
-    (e : Bool) (n : ℕ) (bs : List ℕ) (run : IsRun held) (gap : a_gap e bs ≡ true) where
+    (e : Bool) (n : ℕ) (bs : List ℕ) (run : IsUnbroken held) (gap : a_gap e bs ≡ true) where
   -- the end of a token
   pub in_section-token : ((more : List Token)
       → length (toks ++ token held n ∷ []) ≤ (f.extent before word ((toks ++ token held n ∷ []) ++ more)).count)
@@ -285,7 +286,7 @@ pub record Front (held : List ℕ) (n : ℕ) (ts : List Token) : Type 0 where
   pub rest : List Token
   pub is : ts ≡ record { bytes = held ++ bytes; line = n; whole = whole } ∷ rest
 
-pub front_token : (w : Bool) (n : ℕ) (held x : List ℕ) → IsRun held → Front held n (tokens_of w n (held ++ x))
+pub front_token : (w : Bool) (n : ℕ) (held x : List ℕ) → IsUnbroken held → Front held n (tokens_of w n (held ++ x))
 front_token w n [] x run = absurd run
 front_token w n (b ∷ []) x run = let u = first_token w n b x run in
     record { bytes = u.bytes; whole = u.whole; rest = u.rest; is = u.is }
@@ -300,7 +301,7 @@ front_token w n (b ∷ c ∷ held) x run =
     }
 
 module _ {V : Type 0} (f : Format V) (before : List Piece) (word : Keyword) (n0 : ℕ) (toks : List Token) (held : List ℕ)
-    (e : Bool) (n : ℕ) (bs : List ℕ) (run : IsRun held) where
+    (e : Bool) (n : ℕ) (bs : List ℕ) (run : IsUnbroken held) where
   -- a token that is too long already
   pub in_section-long : 64 < length held
       → ((t : Token) (more : List Token) (after : After) → 64 < length t.bytes

@@ -6,7 +6,7 @@ use Rattle.std.proofs.lemmas.Bool.{eqb-true}
 use Rattle.tk_words.specs.declared.keyword.Keyword.{Keyword}
 use Rattle.tk_words.specs.declared.fault.TextKind.{TextKind}
 use Rattle.tk_words.specs.declared.fault.TextKind.TheVariants as kinds
-use Rattle.tk_words.specs.Lex.{LF, Token, is_blank, IsRun}
+use Rattle.tk_words.specs.Lex.{LF, Token, is_blank, IsUnbroken}
 use Rattle.tk_lines.specs.Pieces.{Piece, Clean, Early, Stop, Format, last_line, stopped, ended}
 use Rattle.tk_lines.specs.Reader.FromMiddle.{from_line, in_section}
 use Rattle.tk_lines.specs.Reader.Forms.{whole, Goes, Closed, EndsAtEof, StopsAt, a_section}
@@ -20,7 +20,7 @@ use Rattle.tk_lines.proofs.Sections.SectionBytes.{in_section-trailing, in_sectio
 use Rattle.tk_lines.proofs.Sections.SectionBytes.{from_line-colon, plain}
 use Rattle.tk_lines.proofs.LineSteps.{says_byte, tail_byte}
 
-pub run_more : (held : List ℕ) (b : ℕ) → IsRun held → is_blank b ≡ false → IsRun (held ++ b ∷ [])
+pub run_more : (held : List ℕ) (b : ℕ) → IsUnbroken held → is_blank b ≡ false → IsUnbroken (held ++ b ∷ [])
 run_more [] b h solid = absurd h
 run_more (c ∷ []) b h solid = (h, solid)
 run_more (c ∷ d ∷ held) b h solid = (h.0, run_more (d ∷ held) b h.1 solid)
@@ -116,7 +116,7 @@ module _ {V S : Type 0} (f : Format V) (W : S → List Piece → Keyword → ℕ
 -- a token of more than 64 bytes
 module _ {V S : Type 0} (f : Format V) (W : S → List Piece → Keyword → ℕ → List Token → Type 0) (form : S) (line b : ℕ)
     (held bs : List ℕ) where
-  pub token_long : IsRun held → length held ≡ 64 → is_blank b ≡ false → eqb b LF ≡ false →
+  pub token_long : IsUnbroken held → length held ≡ 64 → is_blank b ≡ false → eqb b LF ≡ false →
       AtToken f W (this b) form line held bs →
       DecidesIf f anything (bs ++ b ∷ []) (Err (record { line = line; kind = kinds.TooLong }))
   token_long run full solid other a =
@@ -126,7 +126,7 @@ module _ {V S : Type 0} (f : Format V) (W : S → List Piece → Keyword → ℕ
 
 -- a token's end
 module _ {V S : Type 0} (f : Format V) (W : S → List Piece → Keyword → ℕ → List Token → Type 0) (next : Next) (form : S)
-    (line : ℕ) (held bs : List ℕ) (within : Within next a_gap) (run : IsRun held)
+    (line : ℕ) (held bs : List ℕ) (within : Within next a_gap) (run : IsUnbroken held)
     (a : AtToken f W next form line held bs) where
   pub same_now : ((more : List Token)
       → length (a.toks ++ whole held line

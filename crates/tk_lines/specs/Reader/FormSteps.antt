@@ -8,7 +8,7 @@ use Rattle.tk_words.specs.Lex.{Token}
 use Rattle.tk_lines.specs.declared.form.Taken.{Taken}
 use Rattle.tk_lines.specs.declared.scan.Scan.{Scan}
 use Rattle.tk_lines.specs.Pieces.{Piece, After, Early, Fault, first_at}
-use Rattle.tk_lines.specs.Reader.Forms.{Goes, HasTaken, Holding, IsToldWord, Promise, StopsAt, a_header, a_section}
+use Rattle.tk_lines.specs.Reader.Forms.{Goes, HasTakenToken, Holding, IsToldWord, Promise, StopsAt, a_header, a_section}
 use Rattle.tk_lines.specs.Reader.Forms.{whole}
 use Rattle.tk_lines.specs.Reader.Scan.{Scans}
 
@@ -42,7 +42,7 @@ RefusesSection p word old result =
 abbrev pub TakesToken : {V S : Type 0} → Promise V S → List ℕ → S → S → Result Taken TextKind → Type 0
 TakesToken p token old new result =
     (before : List Piece) (word : Keyword) (n : ℕ) (toks : List Token) (line : ℕ) → p.wants old before word n toks
-    → IfOk result (HasTaken p.format (p.holds new) (p.wants new) before word n toks (whole token line))
+    → IfOk result (HasTakenToken p.format (p.holds new) (p.wants new) before word n toks (whole token line))
 
 abbrev pub RefusesToken : {V S : Type 0} → Promise V S → List ℕ → S → Result Taken TextKind → Type 0
 RefusesToken p token old result =

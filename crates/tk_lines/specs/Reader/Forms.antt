@@ -65,7 +65,7 @@ pub record Closed {V : Type 0} (f : Format V) (before : List Piece) (word : Keyw
   pub trailing : (line : ℕ) → f.section before word n toks (Trailing line) ≡ Some (Fault line kinds.TrailingData)
 
 -- a section that ends with these tokens, and one -1 more where it is the next
-pub record Ends {V : Type 0} (f : Format V) (before : List Piece) (word : Keyword) (n : ℕ)
+pub record EndsWithMinusOne {V : Type 0} (f : Format V) (before : List Piece) (word : Keyword) (n : ℕ)
     (toks : List Token) : Type 0 where
   pub extent : (more : List Token) → f.extent before word (toks ++ more)
       ≡ record { count = length toks + one_more more; closed = true; at_eof = false }
@@ -81,16 +81,16 @@ pub record EndsAtEof {V : Type 0} (f : Format V) (before : List Piece) (word : K
   pub early : f.section before word n toks (Early t.line true) ≡ None
 
 -- what a token does to a section
-abbrev pub HasTaken : {V : Type 0} → Format V → (List Piece → Type 0) →
+abbrev pub HasTakenToken : {V : Type 0} → Format V → (List Piece → Type 0) →
     (List Piece → Keyword → ℕ → List Token → Type 0) → List Piece → Keyword → ℕ → List Token → Token → Taken → Type 0
-HasTaken f holds wants before word n toks t takens.More =
+HasTakenToken f holds wants before word n toks t takens.More =
     wants before word n (toks ++ t ∷ []) × Goes f before word n (toks ++ t ∷ [])
-HasTaken f holds wants before word n toks t takens.Last =
+HasTakenToken f holds wants before word n toks t takens.Last =
     holds (before ++ a_section word n (toks ++ t ∷ []) Clean) × Closed f before word n (toks ++ t ∷ [])
-HasTaken f holds wants before word n toks t takens.Ending =
+HasTakenToken f holds wants before word n toks t takens.Ending =
     ((ones : List Token) → holds (before ++ a_section word n ((toks ++ t ∷ []) ++ ones) Clean))
-    × Ends f before word n (toks ++ t ∷ [])
-HasTaken f holds wants before word n toks t takens.Eof =
+    × EndsWithMinusOne f before word n (toks ++ t ∷ [])
+HasTakenToken f holds wants before word n toks t takens.Eof =
     holds (before ++ a_section word n toks (Early t.line true)) × EndsAtEof f before word n toks t
 
 -- whatever follows a token, the section stops at it

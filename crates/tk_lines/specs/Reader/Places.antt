@@ -7,14 +7,15 @@ use Rattle.tk_lines.specs.declared.scan.Scan.{Scan}
 use Rattle.tk_lines.specs.declared.place.Place.{Place}
 use Rattle.tk_lines.specs.declared.place.Place.TheVariants as places
 use Rattle.tk_lines.specs.declared.reader.PieceReader.{PieceReader}
-use Rattle.tk_words.specs.Lex.{LF, Token, is_blank, is_letter, is_word_byte, behind, IsRun}
+use Rattle.tk_words.specs.Lex.{LF, Token, is_blank, is_letter, is_word_byte, behind, IsUnbroken}
 use Rattle.tk_words.specs.Words.{keyword_of, role}
 use Rattle.tk_words.specs.declared.keyword.Role.TheVariants.{BeginsHeader, BeginsSection}
 use Rattle.tk_lines.specs.Pieces.{Piece, Header, stop, Clean, Format, ended, decided_by, last_line}
 use Rattle.tk_lines.specs.Reader.FromMiddle.{from_line, in_section}
 use Rattle.tk_words.specs.MinusOne.{begins_minus_one}
 use Rattle.tk_lines.specs.Reader.Scan.{Scans}
-use Rattle.tk_lines.specs.Reader.Forms.{Promise, Goes, Closed, Ends, Holding, Wanting, a_section, a_header, whole}
+use Rattle.tk_lines.specs.Reader.Forms.{Promise, Goes, Closed, EndsWithMinusOne, Holding, Wanting, a_section, a_header}
+use Rattle.tk_lines.specs.Reader.Forms.{whole}
 use Rattle.tk_words.specs.Texts.{line_behind}
 
 -- what may follow the bytes so far; true: nothing comes after them
@@ -104,7 +105,7 @@ pub record AtBegin {V S : Type 0} (f : Format V) (W : Wanting S) (next : Next) (
   pub blank : behind is_blank tail ≡ []
 
 abbrev pub IsToken : List ℕ → Type 0
-IsToken held = IsRun held × (length held ≤ 64)
+IsToken held = IsUnbroken held × (length held ≤ 64)
 
 -- in a section, after these tokens
 pub record AtToken {V S : Type 0} (f : Format V) (W : Wanting S) (next : Next) (form : S) (line : ℕ) (pre : List ℕ)
@@ -141,13 +142,13 @@ pub record AtAfter {V S : Type 0} (f : Format V) (H : Holding S) (next : Next) (
   pub first : ℕ
   pub toks : List Token
   pub holds : (ones : List Token) → H form (before ++ a_section word first (toks ++ ones) Clean)
-  pub ends : Ends f before word first toks
+  pub ends : EndsWithMinusOne f before word first toks
   pub last : IsLastLine on_line (last_line first toks) line
   pub same : Says f next bs (λ e more. in_section f before word first toks pre e line more)
 
 -- what comes after the -1, and may be one more
 abbrev pub IsMore : List ℕ → Type 0
-IsMore held = IsRun held × (begins_minus_one held ≡ true)
+IsMore held = IsUnbroken held × (begins_minus_one held ≡ true)
 
 abbrev pub AtPlace : {V S : Type 0} → Format V → Holding S → Wanting S → Next → S → ℕ → List ℕ → Scan → List ℕ → Place →
     Type 0
@@ -168,7 +169,7 @@ pub record Fed {V S : Type 0} (p : Promise V S) (next : Next) (reader : PieceRea
   pub at : AtPlace p.format p.holds p.wants next reader.form reader.line reader.held reader.scan bs reader.place
 
 -- it stands in a section, and of a token these bytes come after it
-pub record IsIn {V S : Type 0} (p : Promise V S) (next : Next) (reader : PieceReader S)
+pub record IsInSection {V S : Type 0} (p : Promise V S) (next : Next) (reader : PieceReader S)
     (token bs : List ℕ) : Type 0 where
   pub line : reader.line ≡ line_behind bs
   pub at : AtToken p.format p.wants next reader.form reader.line token bs

@@ -12,7 +12,7 @@ use Rattle.tk_words.specs.declared.fault.TextFault.{TextFault}
 use Rattle.tk_words.specs.declared.keyword.Keyword.{Keyword}
 use Rattle.tk_words.specs.declared.sources.text_reader.Step.{Step}
 use Rattle.tk_words.specs.declared.sources.text_reader.Step.TheVariants.{Taken, Done}
-use Rattle.tk_words.specs.Lex.{LF, IsRun, is_blank, is_word_byte}
+use Rattle.tk_words.specs.Lex.{LF, IsUnbroken, is_blank, is_word_byte}
 use Rattle.tk_words.specs.Texts.{IsToldOf, cause_of}
 use Rattle.tk_lines.specs.declared.place.Place.{Place}
 use Rattle.tk_lines.specs.declared.place.Place.TheVariants as places
@@ -21,12 +21,13 @@ use Rattle.tk_lines.specs.declared.place.Flow.TheVariants.{On, Whole}
 use Rattle.tk_lines.specs.declared.reader.PieceReader.{PieceReader}
 use Rattle.tk_lines.specs.Reader.Forms.{Promise}
 use Rattle.tk_lines.specs.Pieces.{Format, decided_by}
-use Rattle.tk_lines.specs.Reader.Places.{Next, Within, Fed, IsIn, HeaderTaken, DecidesIf, this, anything, at_end, a_gap}
+use Rattle.tk_lines.specs.Reader.Places.{Next, Within, Fed, IsInSection, HeaderTaken, DecidesIf, this, anything, at_end}
+use Rattle.tk_lines.specs.Reader.Places.{a_gap}
 use Rattle.tk_lines.specs.Reader.Places.{a_line_end, no_word}
 
 -- a fault other than of memory is an answer with P
-abbrev pub IsRefused : {V : Type 0} → (Result V TextFault → Type 0) → TextFault → Type 0
-IsRefused P f = IsToldOf ⊥ (λ e. P (Err e)) f (cause_of f.kind)
+abbrev pub IsFaultWith : {V : Type 0} → (Result V TextFault → Type 0) → TextFault → Type 0
+IsFaultWith P f = IsToldOf ⊥ (λ e. P (Err e)) f (cause_of f.kind)
 
 abbrev pub IsFed : {V S : Type 0} → Promise V S → Next → PieceReader S → Type 0
 IsFed p next reader = (before : List ℕ) × Fed p next reader before
@@ -45,7 +46,7 @@ IsKnown p reader = (next : Next) × IsFed p next reader
 abbrev pub HasCome : {V S : Type 0} → Promise V S → Next → PieceReader S → List ℕ → Result Flow TextFault → Type 0
 HasCome p next new bs (Ok On) = Fed p next new bs
 HasCome p next new bs (Ok Whole) = DecidesIf p.format next bs (Ok (p.held new.form)) × p.complete new.form
-HasCome p next new bs (Err f) = IsRefused (DecidesIf p.format next bs) f
+HasCome p next new bs (Err f) = IsFaultWith (DecidesIf p.format next bs) f
 
 -- ---- bytes
 
@@ -71,7 +72,7 @@ TakesSettled p old new byte result =
 abbrev pub TakesWhole : {V S : Type 0} → Promise V S → List ℕ → PieceReader S → PieceReader S → ℕ →
     Result Flow TextFault → Type 0
 TakesWhole p token old new byte result =
-    (before : List ℕ) → IsIn p (this byte) old token before → HasCome p anything new (before ++ byte ∷ []) result
+    (before : List ℕ) → IsInSection p (this byte) old token before → HasCome p anything new (before ++ byte ∷ []) result
 
 -- how far a reader has come with the first of some bytes
 abbrev pub HasRun : {V S : Type 0} → Promise V S → PieceReader S → List ℕ → List ℕ → Result Step TextFault → Type 0
@@ -116,14 +117,14 @@ ClosesPlace p old new result =
 abbrev pub EndsToken : {V S : Type 0} → Promise V S → List ℕ → PieceReader S → PieceReader S →
     Result Flow TextFault → Type 0
 EndsToken p token old new result =
-    (next : Next) (before : List ℕ) → Within next a_gap → IsRun token → IsIn p next old token before
+    (next : Next) (before : List ℕ) → Within next a_gap → IsUnbroken token → IsInSection p next old token before
     → HasCome p next new before result
 
 -- the header of this word is taken, or refused
 abbrev pub HasClosed : {V S : Type 0} → Promise V S → Next → Keyword → List ℕ → PieceReader S → List ℕ →
     Result (Unit {0}) TextFault → Type 0
 HasClosed p next word held new before (Ok _) = HeaderTaken p.format p.holds next new.form new.line held word before
-HasClosed p next word held new before (Err f) = IsRefused (DecidesIf p.format next before) f
+HasClosed p next word held new before (Err f) = IsFaultWith (DecidesIf p.format next before) f
 
 abbrev pub ClosesHeader : {V S : Type 0} → Promise V S → Keyword → PieceReader S → PieceReader S →
     Result (Unit {0}) TextFault → Type 0
@@ -140,7 +141,7 @@ IsAnswered f before a = decided_by f true before ≡ Some a
 -- the form has all of the value that the text says, or the text is refused
 abbrev pub HasFinished : {V S : Type 0} → Promise V S → PieceReader S → List ℕ → Result (Unit {0}) TextFault → Type 0
 HasFinished p new before (Ok _) = IsAnswered p.format before (Ok (p.held new.form)) × p.complete new.form
-HasFinished p new before (Err f) = IsRefused (IsAnswered p.format before) f
+HasFinished p new before (Err f) = IsFaultWith (IsAnswered p.format before) f
 
 abbrev pub Finishes : {V S : Type 0} → Promise V S → PieceReader S → PieceReader S → Result (Unit {0}) TextFault →
     Type 0

@@ -19,11 +19,11 @@ use Rattle.tk_lines.specs.Pieces.{Fault, first_at, stopped}
 use Rattle.tk_words.specs.Words.{spells}
 use Rattle.tk_words.specs.Entry.{numbers_of}
 use Rattle.tk_lines.specs.Reader.Places.{IsToken}
-use Rattle.tk_lines.specs.Reader.Steps.{IsRefused}
+use Rattle.tk_lines.specs.Reader.Steps.{IsFaultWith}
 use Rattle.tk_words.specs.Texts.{Decides, line_behind}
 use Rattle.tk_lists.specs.Solution.{Solution, Head, Bad, Behind, colon_head, digits_head, number_head, route_head}
 use Rattle.tk_lists.specs.Solution.{SolutionLine, Other, Route, Cost, route_line, may_be_word, solid_line, line_of}
-use Rattle.tk_lists.specs.Solution.{routes_of, count_of, has_cost, cost_of, customers_stop, cost_stop, route_tests}
+use Rattle.tk_lists.specs.Solution.{routes_in, count_of, has_cost, cost_of, customers_stop, cost_stop, route_tests}
 use Rattle.tk_lists.specs.Solution.{line_stop, judge_lines, solution_decided, solution_texts}
 
 -- ---- the head of a Route line
@@ -48,7 +48,7 @@ HasStepped p b steps.Bad = (bs : List ℕ) → head_from p (b ∷ bs) ≡ Bad
 
 -- of these lines, and of these customers on the line after them
 pub record Keeps (s : SolutionForm) (before : List SolutionLine) (toks : List Token) : Type 0 where
-  pub routes : map (λ r. r.items) s.routes.items ≡ routes_of before
+  pub routes : map (λ r. r.items) s.routes.items ≡ routes_in before
   pub route : s.route.items ≡ numbers_of toks
   pub customers : s.customers ≡ count_of before + length toks
   pub priced : s.priced ≡ has_cost before
@@ -98,21 +98,22 @@ pub record IsPriced (s : SolutionForm) (before : List SolutionLine) (n : ℕ) (t
   pub priced : has_cost before ≡ false
   pub keeps : Keeps s (before ++ Cost toks ∷ []) []
 
-abbrev pub IsAt : SolutionForm → List SolutionLine → List ℕ → ℕ → List Token → LinePlace → Type 0
-IsAt s before held n toks places.Start = (toks ≡ []) × Keeps s before []
-IsAt s before held n toks places.Word = (toks ≡ []) × Keeps s before [] × IsLineWord held
-IsAt s before held n toks places.Skip = (toks ≡ []) × Keeps s before [] × (has_cost before ≡ true)
-IsAt s before held n toks (places.Head p) = (toks ≡ []) × Keeps s before [] × IsRoute before [] × IsHead p
-IsAt s before held n toks places.Gap = Keeps s before toks × IsRoute before toks
-IsAt s before held n toks places.Customer = Keeps s before toks × IsRoute before toks × IsToken held
-IsAt s before held n toks places.Colon = (toks ≡ []) × Keeps s before [] × (has_cost before ≡ false)
-IsAt s before held n toks places.Price = (toks ≡ []) × Keeps s before [] × (has_cost before ≡ false)
-IsAt s before held n toks places.Digits = (toks ≡ []) × Keeps s before [] × (has_cost before ≡ false) × IsToken held
-IsAt s before held n toks places.Close = IsPriced s before n toks
+abbrev pub IsAtPlace : SolutionForm → List SolutionLine → List ℕ → ℕ → List Token → LinePlace → Type 0
+IsAtPlace s before held n toks places.Start = (toks ≡ []) × Keeps s before []
+IsAtPlace s before held n toks places.Word = (toks ≡ []) × Keeps s before [] × IsLineWord held
+IsAtPlace s before held n toks places.Skip = (toks ≡ []) × Keeps s before [] × (has_cost before ≡ true)
+IsAtPlace s before held n toks (places.Head p) = (toks ≡ []) × Keeps s before [] × IsRoute before [] × IsHead p
+IsAtPlace s before held n toks places.Gap = Keeps s before toks × IsRoute before toks
+IsAtPlace s before held n toks places.Customer = Keeps s before toks × IsRoute before toks × IsToken held
+IsAtPlace s before held n toks places.Colon = (toks ≡ []) × Keeps s before [] × (has_cost before ≡ false)
+IsAtPlace s before held n toks places.Price = (toks ≡ []) × Keeps s before [] × (has_cost before ≡ false)
+IsAtPlace s before held n toks places.Digits = (toks ≡ []) × Keeps s before [] × (has_cost before ≡ false)
+    × IsToken held
+IsAtPlace s before held n toks places.Close = IsPriced s before n toks
 
 -- the reader stands on a line after these lines
-abbrev pub Stands : SolutionReader → List SolutionLine → List Token → Type 0
-Stands s before toks = IsAt s.form before s.held s.line toks s.place
+abbrev pub StandsOnLine : SolutionReader → List SolutionLine → List Token → Type 0
+StandsOnLine s before toks = IsAtPlace s.form before s.held s.line toks s.place
 
 -- what is left of its line
 abbrev pub rest_of : SolutionReader → List Token → List ℕ → Bool → SolutionLine
@@ -122,15 +123,16 @@ rest_of s toks = line_from s.line s.held toks s.place
 pub record Went (before : List SolutionLine) (b : ℕ) (g : List ℕ → Bool → SolutionLine)
     (s : SolutionReader) : Type 0 where
   pub toks : List Token
-  pub stands : Stands s before toks
+  pub stands : StandsOnLine s before toks
   pub same : (bs : List ℕ) (whole : Bool) → g (b ∷ bs) whole ≡ rest_of s toks bs whole
 
 -- a byte stops at its line, whatever follows
-abbrev pub StopsAt : List SolutionLine → ℕ → ℕ → (List ℕ → Bool → SolutionLine) → TextKind → Type 0
-StopsAt before n b g k = (bs : List ℕ) (whole : Bool) → line_stop before n whole (g (b ∷ bs) whole) ≡ Some (Fault n k)
+abbrev pub LineStopsAt : List SolutionLine → ℕ → ℕ → (List ℕ → Bool → SolutionLine) → TextKind → Type 0
+LineStopsAt before n b g k = (bs : List ℕ) (whole : Bool) →
+    line_stop before n whole (g (b ∷ bs) whole) ≡ Some (Fault n k)
 
 -- a line has ended
-pub record HasEnded (before : List SolutionLine) (n : ℕ) (here : SolutionLine) (s : SolutionForm) : Type 0 where
+pub record HasEndedLine (before : List SolutionLine) (n : ℕ) (here : SolutionLine) (s : SolutionForm) : Type 0 where
   pub fine : line_stop before n true here ≡ None
   pub keeps : Keeps s (before ++ here ∷ []) []
 
@@ -145,20 +147,20 @@ from before g (l ∷ ls) =
     stopped (line_stop before l.number l.whole here) (judge_lines (before ++ here ∷ []) l.number l.whole ls)
 
 -- the reader has taken these bytes
-pub record Fed (s : SolutionReader) (bs : List ℕ) : Type 0 where
+pub record FedLines (s : SolutionReader) (bs : List ℕ) : Type 0 where
   pub line : s.line ≡ line_behind bs
   pub before : List SolutionLine
   pub toks : List Token
-  pub stands : Stands s before toks
+  pub stands : StandsOnLine s before toks
   pub same : (ended : Bool) (more : List ℕ) →
       solution_decided ended (bs ++ more) ≡ from before (rest_of s toks) (lines ended s.line more)
 
 -- the reader has taken these bytes, which decide nothing
-pub record Waits (s : SolutionReader) (bs : List ℕ) : Type 0 where
-  pub fed : Fed s bs
+pub record SolutionWaits (s : SolutionReader) (bs : List ℕ) : Type 0 where
+  pub fed : FedLines s bs
   pub undecided : solution_decided false bs ≡ None
 
 -- a byte is taken, or it shows a fault
 abbrev pub HasTakenByte : SolutionReader → List ℕ → Result (Unit {0}) TextFault → Type 0
-HasTakenByte new bs (Ok _) = Fed new bs
-HasTakenByte new bs (Err f) = IsRefused (Decides solution_texts bs) f
+HasTakenByte new bs (Ok _) = FedLines new bs
+HasTakenByte new bs (Err f) = IsFaultWith (Decides solution_texts bs) f

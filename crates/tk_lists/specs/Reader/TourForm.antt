@@ -9,7 +9,7 @@ use Rattle.tk_words.specs.Lex.{Token}
 use Rattle.tk_lines.specs.Pieces.{Piece, has, tokens_in}
 use Rattle.tk_words.specs.Entry.{in_range, numbers_of}
 use Rattle.tk_lines.specs.Reader.Forms.{Promise}
-use Rattle.tk_lines.specs.Lists.{entries, AreEntries}
+use Rattle.tk_lines.specs.Lists.{list_entries, AreEntries}
 use Rattle.tk_lists.specs.Tour.{entries_stop, tour_format}
 
 -- which headers stand among the pieces
@@ -21,7 +21,7 @@ pub record IsSeen (w : TourWords) (before : List Piece) : Type 0 where
 pub record TourHolds (s : TourForm) (before : List Piece) : Type 0 where
   pub seen : IsSeen s.seen before
   pub section : has words.TourSection before ≡ s.seen.section
-  pub cities : s.cities.items ≡ numbers_of (entries (tokens_in words.TourSection before))
+  pub cities : s.cities.items ≡ numbers_of (list_entries (tokens_in words.TourSection before))
 
 pub record TourWants (s : TourForm) (before : List Piece) (word : Keyword) (n : ℕ) (toks : List Token) : Type 0 where
   pub seen : IsSeen s.seen before

@@ -11,7 +11,7 @@ use Rattle.tk_near.specs.declared.plane.placed.Placed.{Placed}
 use Rattle.tk_near.specs.Near.{IsFirst}
 use Rattle.tk_near.specs.Keeping.{rank, candidate, open_place, with_candidate}
 use Rattle.tk_near.proofs.Keeping.{closer_from_rank}
-use Rattle.tk_near.specs.Placed.{IsPlaced, city_at, nowhere}
+use Rattle.tk_near.specs.Placed.{IsPlaced, placed_city, nowhere}
 use Rattle.tk_near.specs.Tree.{with_city, with_cities}
 use Rattle.tk_near.specs.Left.{IsOtherIn}
 use Rattle.tk_near.proofs.InPlane.Parting.{with_city-same, with_city-other}
@@ -25,8 +25,9 @@ one_candidate x y =
 pub record IsLeastOf (dist : ℕ → ℕ → ℕ) (c : ℕ) (row : List Placed) (x y : Candidate) : Type 0 where
   pub kept : with_cities dist c row (x ∷ []) ≡ y ∷ []
   pub below : rank y ≤ rank x
-  pub one : (y ≡ x) ⊎ ((q : ℕ) × (q < length row) × (city_at row q ≢ c) × (y ≡ candidate dist c (city_at row q)))
-  pub least : (q : ℕ) → q < length row → city_at row q ≢ c → rank y ≤ rank (candidate dist c (city_at row q))
+  pub one : (y ≡ x)
+      ⊎ ((q : ℕ) × (q < length row) × (placed_city row q ≢ c) × (y ≡ candidate dist c (placed_city row q)))
+  pub least : (q : ℕ) → q < length row → placed_city row q ≢ c → rank y ≤ rank (candidate dist c (placed_city row q))
 
 module _ (dist : ℕ → ℕ → ℕ) (c : ℕ) where
   least_more : (p : Placed) (row : List Placed) (x z : Candidate) (y : Candidate) →
@@ -43,8 +44,8 @@ module _ (dist : ℕ → ℕ → ℕ) (c : ℕ) where
     least = λ q l ne. at q l ne;
   }
     where
-      at : (q : ℕ) → q < length (p ∷ row) → city_at (p ∷ row) q ≢ c →
-          rank y ≤ rank (candidate dist c (city_at (p ∷ row) q))
+      at : (q : ℕ) → q < length (p ∷ row) → placed_city (p ∷ row) q ≢ c →
+          rank y ≤ rank (candidate dist c (placed_city (p ∷ row) q))
       at zero l ne = let z' = here ne in omega (arith, z', h.below)
       at (suc q) l ne = h.least q (omega arith) ne
 
@@ -82,13 +83,13 @@ module _ (dist : ℕ → ℕ → ℕ) (c : ℕ) where
           ⊎ ((p.city ≢ c) × (cond b k x ≡ k))) [ true ↦ inr (ne, refl) | false ↦ inl refl ]
 
 module _ (dist : ℕ → ℕ → ℕ) (c : ℕ) (limit : (a b : ℕ) → dist a b ≤ DISTANCE_LIMIT) (row : List Placed)
-    (small : (q : ℕ) → q < length row → city_at row q ≤ CITY_LIMIT) (y : Candidate)
+    (small : (q : ℕ) → q < length row → placed_city row q ≤ CITY_LIMIT) (y : Candidate)
     (h : IsLeastOf dist c row open_place y) where
   -- where the place stays open, the row has no other city
   pub none_left : y.distance ≡ 4294967295 → (b : ℕ) → IsOtherIn row c b → ⊥
   none_left unseen b s =
       let l = h.least s.0 s.1 (λ e. s.3 (sym s.2 ∙ e)) in
-      let near = limit c (city_at row s.0) in
+      let near = limit c (placed_city row s.0) in
       let city = small s.0 s.1 in
       omega (arith, l, near, city, unseen)
 
@@ -97,27 +98,27 @@ module _ (dist : ℕ → ℕ → ℕ) (c : ℕ) (limit : (a b : ℕ) → dist a 
   first_left there =
       ⊎_elim (λ same. absurd (there (ap (λ (v : Candidate). v.distance) same))) (λ w. found w.0 w.1 w.2 w.3) h.one
     where
-      rank_less : (q r a : ℕ) → city_at row r ≡ a → rank y ≤ rank (candidate dist c (city_at row r)) →
-          y.city ≡ city_at row q → y.distance ≡ dist c (city_at row q) → a ≢ city_at row q →
-          city_at row q ≤ CITY_LIMIT → a ≤ CITY_LIMIT →
-          dist c (city_at row q) * 4294967296 + city_at row q < dist c a * 4294967296 + a
+      rank_less : (q r a : ℕ) → placed_city row r ≡ a → rank y ≤ rank (candidate dist c (placed_city row r)) →
+          y.city ≡ placed_city row q → y.distance ≡ dist c (placed_city row q) → a ≢ placed_city row q →
+          placed_city row q ≤ CITY_LIMIT → a ≤ CITY_LIMIT →
+          dist c (placed_city row q) * 4294967296 + placed_city row q < dist c a * 4294967296 + a
       rank_less q r a same least city far other mine theirs =
           let least' : rank y ≤ rank (candidate dist c a) = rw same at least in
           omega (arith, least', city, far, other, mine, theirs)
 
-      found : (q : ℕ) → q < length row → city_at row q ≢ c → y ≡ candidate dist c (city_at row q) →
+      found : (q : ℕ) → q < length row → placed_city row q ≢ c → y ≡ candidate dist c (placed_city row q) →
           IsFirst dist c (IsOtherIn row c) y.city
       found q l ne is =
-          let city : y.city ≡ city_at row q = ap (λ (v : Candidate). v.city) is in
-          let far : y.distance ≡ dist c (city_at row q) = ap (λ (v : Candidate). v.distance) is in
+          let city : y.city ≡ placed_city row q = ap (λ (v : Candidate). v.city) is in
+          let far : y.distance ≡ dist c (placed_city row q) = ap (λ (v : Candidate). v.distance) is in
           rw city record {
             member = (q, l, refl, ne);
             before = λ a s other.
                 let least = h.least s.0 s.1 (λ e. s.3 (sym s.2 ∙ e)) in
                 let mine = small q l in
                 let theirs = small s.0 s.1 in
-                let same : city_at row s.0 ≡ a = s.2 in
-                closer_from_rank (dist c (city_at row q)) (dist c a) (city_at row q) a (omega (arith, mine))
+                let same : placed_city row s.0 ≡ a = s.2 in
+                closer_from_rank (dist c (placed_city row q)) (dist c a) (placed_city row q) a (omega (arith, mine))
                 (omega (arith, theirs, same))
                 (rank_less q s.0 a same least city far other mine (omega (arith, theirs, same)));
           }
@@ -126,7 +127,7 @@ module _ (dist : ℕ → ℕ → ℕ) (c : ℕ) (limit : (a b : ℕ) → dist a 
 module _ (dist : ℕ → ℕ → ℕ) (c : ℕ) (limit : (a b : ℕ) → dist a b ≤ DISTANCE_LIMIT) (n : ℕ) (place_of : ℕ → Point)
     (few : n ≤ CITY_LIMIT) (row : List Placed) (placed : All (IsPlaced n place_of) row) (kept : List Candidate)
     (seen : kept ≡ with_cities dist c row (open_place ∷ [])) where
-  small_city : (q : ℕ) → q < length row → city_at row q ≤ CITY_LIMIT
+  small_city : (q : ℕ) → q < length row → placed_city row q ≤ CITY_LIMIT
   small_city q l = let e = placed q nowhere l in omega (arith, e.0.1, few)
 
   pub none_kept : (d : Candidate) → (get_or kept 0 d).distance ≡ 4294967295 → (b : ℕ) → IsOtherIn row c b → ⊥

@@ -7,12 +7,12 @@ use Rattle.std.proofs.lemmas.List.Elements.{All-tail}
 use Rattle.std.proofs.lemmas.List.Sorted.{All-permutation, Contains-permutation, IsPermutation-keeps, IsPermutation-sym}
 use Rattle.tk_problem.specs.declared.point.Point.{Point}
 use Rattle.tk_near.specs.declared.plane.placed.Placed.{Placed}
-use Rattle.tk_near.specs.Placed.{IsPlaced, city_at, nowhere}
-use Rattle.tk_near.specs.Left.{AreApart, IsNotIn, IsTakenOut, Stands}
+use Rattle.tk_near.specs.Placed.{IsPlaced, placed_city, nowhere}
+use Rattle.tk_near.specs.Left.{ArePlacedApart, IsNotIn, IsTakenOut, Stands}
 use Rattle.tk_near.proofs.InPlane.OneEach.{OneEach, OneEach-swap}
 
 module _ (n : ℕ) (place_of : ℕ → Point) where
-  module _ (p : Placed) (old new : List Placed) (h : AreApart n place_of old) (t : IsTakenOut p old new) where
+  module _ (p : Placed) (old new : List Placed) (h : ArePlacedApart n place_of old) (t : IsTakenOut p old new) where
     all : All (IsPlaced n place_of) (t.taken ∷ new)
     all = All-permutation (IsPlaced n place_of) old (t.taken ∷ new) t.others h.each
 
@@ -25,7 +25,7 @@ module _ (n : ℕ) (place_of : ℕ → Point) where
         (λ l a b. OneEach-swap (λ (v : Placed). v.city) nowhere l a b) (t.taken ∷ new) t.others
 
     -- those that are left are apart still
-    pub AreApart-taken : AreApart n place_of new
+    pub AreApart-taken : ArePlacedApart n place_of new
     AreApart-taken = record {
       each = All-tail (IsPlaced n place_of) t.taken new all;
       apart = λ i j l m e. let same = once (suc i) (suc j) (omega arith) (omega arith) e in omega arith;
@@ -57,12 +57,12 @@ module _ (n : ℕ) (place_of : ℕ → Point) where
         (ap (λ (v : Placed). v.city) (get_or_default (t.taken ∷ new) w.0 nowhere (get_or old s.0 nowhere) w.1 ∙ w.2)
         ∙ s.2)
       where
-        found : (k : ℕ) → k < length (t.taken ∷ new) → city_at (t.taken ∷ new) k ≡ b → Stands new b
+        found : (k : ℕ) → k < length (t.taken ∷ new) → placed_city (t.taken ∷ new) k ≡ b → Stands new b
         found zero l e = absurd (ne (sym e ∙ t.is))
         found (suc k) l e = (k, omega arith, e)
 
   -- a city of the row is found there
-  pub not_missed : (p : Placed) (row : List Placed) → AreApart n place_of row → IsPlaced n place_of p →
+  pub not_missed : (p : Placed) (row : List Placed) → ArePlacedApart n place_of row → IsPlaced n place_of p →
       Stands row p.city → IsNotIn p row → ⊥
   not_missed p row h here s none =
       let there = h.each s.0 nowhere s.1 in
@@ -74,6 +74,6 @@ module _ (n : ℕ) (place_of : ℕ → Point) where
   -- so a city that stands there was taken out, and what holds once one was taken out holds
   pub taken_there : {R : Type 0} (p : Placed) (old new : List Placed) (Before After : Type 0) (o : Option R)
       → MatchOption o ((new ≡ old) × IsNotIn p old) (λ _. IsTakenOut p old new) → MatchOption o Before (λ _. After)
-      → AreApart n place_of old → IsPlaced n place_of p → Stands old p.city → IsTakenOut p old new × After
+      → ArePlacedApart n place_of old → IsPlaced n place_of p → Stands old p.city → IsTakenOut p old new × After
   taken_there p old new Before After None t s h here there = absurd (not_missed p old h here there t.1)
   taken_there p old new Before After (Some r) t s h here there = (t, s)

@@ -17,13 +17,13 @@ use Rattle.tk_near.specs.declared.candidates.Candidate.{Candidate}
 use Rattle.tk_near.specs.declared.plane.placed.Placed.{Placed}
 use Rattle.tk_distance.specs.Cities.{IsCity}
 use Rattle.tk_near.specs.Near.{IsNear}
-use Rattle.tk_near.specs.Keeping.{Climbing, insert_by, with_candidate, rank, candidate, open_place, cities_of}
+use Rattle.tk_near.specs.Keeping.{Climbing, insert_by, with_candidate, rank, candidate, open_place, cities_kept}
 use Rattle.tk_near.specs.Keeping.{KeepsFirst}
 use Rattle.tk_near.specs.Kept.{last_of}
-use Rattle.tk_near.specs.Placed.{IsPlaced, IsRow, IsAt, city_at, nowhere}
+use Rattle.tk_near.specs.Placed.{IsPlaced, IsRow, IsAt, placed_city, nowhere}
 use Rattle.tk_near.specs.declared.plane.tree.Frame.{Frame}
 use Rattle.tk_near.specs.declared.plane.tree.Tree.{Tree}
-use Rattle.tk_near.specs.Tree.{IsFrom, IsWithin, IsBeyond, entries_of, parts_of, with_city, with_cities}
+use Rattle.tk_near.specs.Tree.{IsFrom, IsInBox, IsBeyond, entries_of, parts_of, with_city, with_cities}
 use Rattle.tk_near.proofs.Inserting.{take-insert_by, length-insert_by, IsPermutation-insert_by, Climbing-take}
 use Rattle.tk_near.proofs.Inserting.{insert_by-full}
 use Rattle.tk_near.proofs.Keeping.{KeepsFirst-none, KeepsFirst-more, KeepsFirst-same, KeepsFirst-count}
@@ -272,7 +272,7 @@ module _ (dist : ℕ → ℕ → ℕ) (limit : (a b : ℕ) → dist a b ≤ DIST
   city_small : (W : ℕ → Type 0) (b : ℕ) → IsAt row W b → b < 4294967296
   city_small W b s = let e = o.each s.0 nowhere s.1 in let same = s.3 in omega (arith, e.0.1)
 
-  one_place : (r q : ℕ) → r < length row → q < length row → city_at row r ≡ city_at row q → r ≡ q
+  one_place : (r q : ℕ) → r < length row → q < length row → placed_city row r ≡ placed_city row q → r ≡ q
   one_place r q lr lq e =
       ⊎_elim (λ l. absurd (o.apart r q l lq e))
       (λ g. ⊎_elim (λ l. absurd (o.apart q r l lr (sym e))) (λ h. omega arith) (cases_lt q r)) (cases_lt r q)
@@ -281,14 +281,14 @@ module _ (dist : ℕ → ℕ → ℕ) (limit : (a b : ℕ) → dist a b ≤ DIST
   Before p j q = (q < j) × (q ≢ p)
 
   keeps_first : (p k j : ℕ) → p < length row → j ≤ length row →
-      KeepsFirst dist (city_at row p) k (cond (nat_lt p j) (j - 1) j) (IsAt row (Before p j))
-      (with_cities dist (city_at row p) (take j row) (replicate k open_place))
+      KeepsFirst dist (placed_city row p) k (cond (nat_lt p j) (j - 1) j) (IsAt row (Before p j))
+      (with_cities dist (placed_city row p) (take j row) (replicate k open_place))
   keeps_first p k zero lp lj =
-      KeepsFirst-count dist (city_at row p) k _ _ _ _ (same_twice (nat_lt p 0) 0)
-      (KeepsFirst-none dist (city_at row p) k (IsAt row (Before p 0))
+      KeepsFirst-count dist (placed_city row p) k _ _ _ _ (same_twice (nat_lt p 0) 0)
+      (KeepsFirst-none dist (placed_city row p) k (IsAt row (Before p 0))
       (λ b s. let w = s.2 in let high : s.0 < 0 = w.0 in omega arith))
   keeps_first p k (suc i) lp lj =
-      let c : ℕ = city_at row p in
+      let c : ℕ = placed_city row p in
       let kept : List Candidate = with_cities dist c (take i row) (replicate k open_place) in
       let h = keeps_first p k i lp (omega arith) in
       let li : i < length row = omega arith in
@@ -298,54 +298,55 @@ module _ (dist : ℕ → ℕ → ℕ) (limit : (a b : ℕ) → dist a b ≤ DIST
       (⊎_elim
       (λ e.
       subst (KeepsFirst dist c k _ (IsAt row (Before p (suc i))))
-      (sym (with_city-same dist c (get_or row i nowhere) kept (ap (city_at row) e)))
+      (sym (with_city-same dist c (get_or row i nowhere) kept (ap (placed_city row) e)))
       (KeepsFirst-count dist c k _ _ _ kept (count_same p i e)
       (KeepsFirst-same dist c k _ (IsAt row (Before p i)) (IsAt row (Before p (suc i))) kept h
       (λ a s. (s.0, s.1, (omega (arith, s.2), s.2.1), s.3))
       (λ a s. (s.0, s.1, (omega (arith, s.2, s.2.1), s.2.1), s.3)))))
       (λ ne.
-      let other : city_at row i ≢ c = λ e. ne (one_place i p li lp e) in
+      let other : placed_city row i ≢ c = λ e. ne (one_place i p li lp e) in
       let size = kept_length h in
       let there : with_city dist c (get_or row i nowhere) kept ≡ take k
-      (insert_by rank (candidate dist c (city_at row i)) kept) =
+      (insert_by rank (candidate dist c (placed_city row i)) kept) =
       with_city-other dist c (get_or row i nowhere) kept other
-      ∙ ap (λ v. take v (insert_by rank (candidate dist c (city_at row i)) kept)) size in
+      ∙ ap (λ v. take v (insert_by rank (candidate dist c (placed_city row i)) kept)) size in
       subst (KeepsFirst dist c k _ (IsAt row (Before p (suc i)))) (sym there)
       (KeepsFirst-count dist c k _ _ _ _ (count_more p i ne)
-      (KeepsFirst-more dist c k _ (IsAt row (Before p i)) (IsAt row (Before p (suc i))) kept (city_at row i) h
+      (KeepsFirst-more dist c k _ (IsAt row (Before p i)) (IsAt row (Before p (suc i))) kept (placed_city row i) h
       (λ s. let same : s.0 ≡ i = one_place s.0 i s.1 li s.3 in let w = s.2 in omega arith)
       (omega (arith, city.0.1))
-      (omega (arith, limit c (city_at row i)))
+      (omega (arith, limit c (placed_city row i)))
       (city_small (Before p i))
       (λ a s. (s.0, s.1, (omega (arith, s.2), s.2.1), s.3))
       (i, li, (omega arith, ne), refl)
-      (λ a s. ⊎_elim (λ e. inr (sym s.3 ∙ ap (city_at row) e))
+      (λ a s. ⊎_elim (λ e. inr (sym s.3 ∙ ap (placed_city row) e))
       (λ w. inl (s.0, s.1, (omega (arith, s.2, w), s.2.1), s.3)) (cases_eq s.0 i)))))
       (cases_eq i p))
 
   near_at : (p k : ℕ) → p < length row → k < n →
-      IsNear dist n k (city_at row p) (cities_of (with_cities dist (city_at row p) row (replicate k open_place)))
+      IsNear dist n k (placed_city row p)
+      (cities_kept (with_cities dist (placed_city row p) row (replicate k open_place)))
   near_at p k lp kn =
       let m : ℕ = cond (nat_lt p (length row)) (length row - 1) (length row) in
       let count = count_whole p (length row) lp in
       let enough : k ≤ m = omega (arith, o.count) in
       let all = take_all (length row) row (omega arith) in
-      IsNear-from_kept dist n (city_at row p) k m (IsAt row (Before p (length row))) _
-      (subst (λ v. KeepsFirst dist (city_at row p) k m (IsAt row (Before p (length row)))
-      (with_cities dist (city_at row p) v (replicate k open_place))) all
+      IsNear-from_kept dist n (placed_city row p) k m (IsAt row (Before p (length row))) _
+      (subst (λ v. KeepsFirst dist (placed_city row p) k m (IsAt row (Before p (length row)))
+      (with_cities dist (placed_city row p) v (replicate k open_place))) all
       (keeps_first p k (length row) lp (omega arith)))
       (omega arith) enough
-      (λ b city ne. let w = o.whole b city in (w.0, w.1, (w.1, λ e. ne (sym w.2 ∙ ap (city_at row) e)), w.2))
+      (λ b city ne. let w = o.whole b city in (w.0, w.1, (w.1, λ e. ne (sym w.2 ∙ ap (placed_city row) e)), w.2))
       (λ b s.
       let e = o.each s.0 nowhere s.1 in
       (subst (IsCity n) s.3 e.0, λ same. s.2.1 (one_place s.0 p s.1 lp (s.3 ∙ same))))
 
   -- the list of a city
   pub IsNear-from_row : (c k : ℕ) → IsCity n c → k < n →
-      IsNear dist n k c (cities_of (with_cities dist c row (replicate k open_place)))
+      IsNear dist n k c (cities_kept (with_cities dist c row (replicate k open_place)))
   IsNear-from_row c k city kn =
       let w = o.whole c city in
-      subst (λ v. IsNear dist n k v (cities_of (with_cities dist v row (replicate k open_place)))) w.2
+      subst (λ v. IsNear dist n k v (cities_kept (with_cities dist v row (replicate k open_place)))) w.2
       (near_at w.0 k w.1 kn)
 
 -- ---- the greater of two gaps, cut off
@@ -365,18 +366,18 @@ all_back P (x ∷ xs) ys h = all_back P xs ys (All-tail P x (xs ++ ys) h)
 -- the cities of a part do not come before what none of its box comes before
 pub part_from : (dist : ℕ → ℕ → ℕ) (n : ℕ) (place_of : ℕ → Point) (c : ℕ) (frame : Frame) (first : Candidate)
     (ps : List Placed)
-    → ((p : Placed) → IsPlaced n place_of p → IsWithin frame p → IsFrom dist c first p) → All (IsPlaced n place_of) ps →
-    All (IsWithin frame) ps → All (IsFrom dist c first) ps
+    → ((p : Placed) → IsPlaced n place_of p → IsInBox frame p → IsFrom dist c first p) → All (IsPlaced n place_of) ps →
+    All (IsInBox frame) ps → All (IsFrom dist c first) ps
 part_from dist n place_of c frame first ps from placed within =
     λ k d l. from (get_or ps k d) (placed k d l) (within k d l)
 
 -- what stands in either of two boxes stands in a box round both
 pub joined_within : (lower upper whole : Frame) (xs ys : List Placed)
-    → ((p : Placed) → IsWithin lower p → IsWithin whole p) → ((p : Placed) → IsWithin upper p → IsWithin whole p)
-    → All (IsWithin lower) xs → All (IsWithin upper) ys → All (IsWithin whole) (xs ++ ys)
+    → ((p : Placed) → IsInBox lower p → IsInBox whole p) → ((p : Placed) → IsInBox upper p → IsInBox whole p)
+    → All (IsInBox lower) xs → All (IsInBox upper) ys → All (IsInBox whole) (xs ++ ys)
 joined_within lower upper whole xs ys first second lows highs =
-    All-append (IsWithin whole) xs ys (All-weaker (IsWithin lower) (IsWithin whole) first xs lows)
-    (All-weaker (IsWithin upper) (IsWithin whole) second ys highs)
+    All-append (IsInBox whole) xs ys (All-weaker (IsInBox lower) (IsInBox whole) first xs lows)
+    (All-weaker (IsInBox upper) (IsInBox whole) second ys highs)
 
 -- both halves were seen, in either order
 module _ (dist : ℕ → ℕ → ℕ) (c : ℕ) (lower upper tree : Tree) (first mid last : List Candidate) where

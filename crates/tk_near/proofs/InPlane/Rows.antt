@@ -8,13 +8,13 @@ use Rattle.std.proofs.lemmas.List.Sorted.{length_permutation}
 use Rattle.tk_near.proofs.InPlane.OneEach.{OneEach, OneEach-swap}
 use Rattle.tk_near.specs.declared.plane.placed.Placed.{Placed}
 use Rattle.tk_problem.specs.declared.point.Point.{Point}
-use Rattle.tk_near.specs.Placed.{placed, nowhere, city_at, IsPlaced, IsRow}
+use Rattle.tk_near.specs.Placed.{as_placed, nowhere, placed_city, IsPlaced, IsRow}
 
 -- in the order of their numbers
 pub IsRow-by_number : (n : ℕ) (place_of : ℕ → Point) (row : List Placed) → length row ≡ n →
-    ((j : ℕ) (d : Placed) → j < n → get_or row j d ≡ placed place_of (j + 1)) → IsRow n place_of row
+    ((j : ℕ) (d : Placed) → j < n → get_or row j d ≡ as_placed place_of (j + 1)) → IsRow n place_of row
 IsRow-by_number n place_of row count entries =
-    let city : (j : ℕ) → j < n → city_at row j ≡ j + 1 = λ j l. ap (λ (v : Placed). v.city) (entries j nowhere l) in
+    let city : (j : ℕ) → j < n → placed_city row j ≡ j + 1 = λ j l. ap (λ (v : Placed). v.city) (entries j nowhere l) in
     record {
       count = count;
       each = λ j d l.

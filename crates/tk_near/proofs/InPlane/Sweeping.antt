@@ -11,9 +11,9 @@ use Rattle.tk_near.specs.declared.candidates.Candidate.{Candidate}
 use Rattle.tk_near.specs.declared.plane.placed.Placed.{Placed}
 use Rattle.tk_distance.specs.Cities.{IsCity}
 use Rattle.tk_near.specs.Near.{IsNear}
-use Rattle.tk_near.specs.Keeping.{Climbing, insert_by, rank, candidate, open_place, cities_of, KeepsFirst}
-use Rattle.tk_near.specs.Placed.{IsAt, city_at}
-use Rattle.tk_near.specs.Sweep.{IsXOrder, IsFloor, IsSwept, IsBelow, place_at}
+use Rattle.tk_near.specs.Keeping.{Climbing, insert_by, rank, candidate, open_place, cities_kept, KeepsFirst}
+use Rattle.tk_near.specs.Placed.{IsAt, placed_city}
+use Rattle.tk_near.specs.Sweep.{IsXOrder, IsFloor, IsSwept, IsBelow, point_at}
 use Rattle.tk_near.proofs.Inserting.{insert_by-full}
 use Rattle.tk_near.proofs.Keeping.{KeepsFirst-none, KeepsFirst-more, KeepsFirst-count, IsNear-from_kept, kept_climbing}
 use Rattle.tk_near.proofs.Keeping.{kept_length}
@@ -44,7 +44,7 @@ module _ (dist : ℕ → ℕ → ℕ) (limit : (a b : ℕ) → dist a b ≤ DIST
   city_small : (W : ℕ → Type 0) (b : ℕ) → IsAt row W b → b < 4294967296
   city_small W b s = let e = o.each s.0 s.1 in let same = s.3 in omega (arith, e.0.1)
 
-  one_place : (r q : ℕ) → r < length row → q < length row → city_at row r ≡ city_at row q → r ≡ q
+  one_place : (r q : ℕ) → r < length row → q < length row → placed_city row r ≡ placed_city row q → r ≡ q
   one_place r q lr lq e =
       ⊎_elim (λ l. absurd (o.apart r q l lq e))
       (λ g. ⊎_elim (λ l. absurd (o.apart q r l lr (sym e))) (λ h. omega arith) (cases_lt q r)) (cases_lt r q)
@@ -52,17 +52,17 @@ module _ (dist : ℕ → ℕ → ℕ) (limit : (a b : ℕ) → dist a b ≤ DIST
   -- one more place
   with_place : (c k m q : ℕ) (W V : ℕ → Type 0) (kept : List Candidate) → KeepsFirst dist c k m (IsAt row W) kept →
       q < length row → (W q → ⊥) → ((r : ℕ) → W r → V r) → V q → ((r : ℕ) → V r → W r ⊎ (r ≡ q)) →
-      KeepsFirst dist c k (m + 1) (IsAt row V) (take k (insert_by rank (candidate dist c (city_at row q)) kept))
+      KeepsFirst dist c k (m + 1) (IsAt row V) (take k (insert_by rank (candidate dist c (placed_city row q)) kept))
   with_place c k m q W V kept h lq fresh keeps now only =
       let city = o.each q lq in
-      KeepsFirst-more dist c k m (IsAt row W) (IsAt row V) kept (city_at row q) h
+      KeepsFirst-more dist c k m (IsAt row W) (IsAt row V) kept (placed_city row q) h
       (λ s. fresh (subst W (one_place s.0 q s.1 lq s.3) s.2))
       (omega (arith, city.0.1))
-      (omega (arith, limit c (city_at row q)))
+      (omega (arith, limit c (placed_city row q)))
       (city_small W)
       (λ a s. (s.0, s.1, keeps s.0 s.2, s.3))
       (q, lq, now, refl)
-      (λ a s. ⊎_elim (λ w. inl (s.0, s.1, w, s.3)) (λ e. inr (sym s.3 ∙ ap (city_at row) e)) (only s.0 s.2))
+      (λ a s. ⊎_elim (λ w. inl (s.0, s.1, w, s.3)) (λ e. inr (sym s.3 ∙ ap (placed_city row) e)) (only s.0 s.2))
 
   climbing : (c k m : ℕ) (W : ℕ → Type 0) (kept : List Candidate) → KeepsFirst dist c k m (IsAt row W) kept →
       Climbing rank kept
@@ -71,16 +71,16 @@ module _ (dist : ℕ → ℕ → ℕ) (limit : (a b : ℕ) → dist a b ≤ DIST
   -- one more place that is too far
   with_far_place : (c k m q : ℕ) (W V : ℕ → Type 0) (kept : List Candidate) → KeepsFirst dist c k m (IsAt row W) kept →
       q < length row → (W q → ⊥) → ((r : ℕ) → W r → V r) → V q → ((r : ℕ) → V r → W r ⊎ (r ≡ q)) → 1 ≤ k →
-      IsBelow (dist c (city_at row q)) kept → KeepsFirst dist c k (m + 1) (IsAt row V) kept
+      IsBelow (dist c (placed_city row q)) kept → KeepsFirst dist c k (m + 1) (IsAt row V) kept
   with_far_place c k m q W V kept h lq fresh keeps now only one far =
-      let x : Candidate = candidate dist c (city_at row q) in
+      let x : Candidate = candidate dist c (placed_city row q) in
       subst (KeepsFirst dist c k (m + 1) (IsAt row V))
-      (sym (kept_without k (dist c (city_at row q)) kept x (climbing c k m W kept h) (kept_length h) one far
+      (sym (kept_without k (dist c (placed_city row q)) kept x (climbing c k m W kept h) (kept_length h) one far
       (omega arith)))
       (with_place c k m q W V kept h lq fresh keeps now only)
 
   far_below : (c k p high low : ℕ) (kept : List Candidate) → high ≤ length row → low ≤ p → p < high → 1 ≤ k →
-      ((q : ℕ) → q < low → IsBelow (dist c (city_at row q)) kept) →
+      ((q : ℕ) → q < low → IsBelow (dist c (placed_city row q)) kept) →
       KeepsFirst dist c k (high - low - 1) (IsAt row (Window low high p)) kept →
       KeepsFirst dist c k (high - 0 - 1) (IsAt row (Window 0 high p)) kept
   far_below c k p high zero kept in' lp ph one far h = h
@@ -94,7 +94,7 @@ module _ (dist : ℕ → ℕ → ℕ) (limit : (a b : ℕ) → dist a b ≤ DIST
       (far l (omega arith))))
 
   far_above : (c k p low t high : ℕ) (kept : List Candidate) → high + t ≡ length row → low ≤ p → p < high → 1 ≤ k →
-      ((q : ℕ) → high ≤ q → q < length row → IsBelow (dist c (city_at row q)) kept) →
+      ((q : ℕ) → high ≤ q → q < length row → IsBelow (dist c (placed_city row q)) kept) →
       KeepsFirst dist c k (high - low - 1) (IsAt row (Window low high p)) kept →
       KeepsFirst dist c k (length row - low - 1) (IsAt row (Window low (length row) p)) kept
   far_above c k p low zero high kept e lp ph one far h =
@@ -111,17 +111,17 @@ module _ (dist : ℕ → ℕ → ℕ) (limit : (a b : ℕ) → dist a b ≤ DIST
 
   -- a place at least as far in x as the bound tells is too far
   far_place : (floor : ℕ → ℕ) → IsFloor dist place_of floor → (p q s : ℕ) (kept : List Candidate) → p < length row →
-      q < length row → s ≤ unsigned_abs ((place_at row p).x -ℤ (place_at row q).x) → IsBelow (floor s) kept →
-      IsBelow (dist (city_at row p) (city_at row q)) kept
+      q < length row → s ≤ unsigned_abs ((point_at row p).x -ℤ (point_at row q).x) → IsBelow (floor s) kept →
+      IsBelow (dist (placed_city row p) (placed_city row q)) kept
   far_place floor f p q s kept lp lq wider below =
       let here = o.each p lp in
       let there = o.each q lq in
-      let e : unsigned_abs ((place_at row p).x -ℤ (place_at row q).x) ≡ unsigned_abs
-      ((place_of (city_at row p)).x -ℤ (place_of (city_at row q)).x) =
-      ap (λ (v : Point). unsigned_abs (v.x -ℤ (place_at row q).x)) here.1
-      ∙ ap (λ (v : Point). unsigned_abs ((place_of (city_at row p)).x -ℤ v.x)) there.1 in
-      let rises = f.rises _ _ (rw e at wider) (f.wide (city_at row p) (city_at row q)) in
-      below_weaker _ _ kept (omega (arith, rises, f.bounds (city_at row p) (city_at row q))) below
+      let e : unsigned_abs ((point_at row p).x -ℤ (point_at row q).x) ≡ unsigned_abs
+      ((place_of (placed_city row p)).x -ℤ (place_of (placed_city row q)).x) =
+      ap (λ (v : Point). unsigned_abs (v.x -ℤ (point_at row q).x)) here.1
+      ∙ ap (λ (v : Point). unsigned_abs ((place_of (placed_city row p)).x -ℤ v.x)) there.1 in
+      let rises = f.rises _ _ (rw e at wider) (f.wide (placed_city row p) (placed_city row q)) in
+      below_weaker _ _ kept (omega (arith, rises, f.bounds (placed_city row p) (placed_city row q))) below
 
   pub IsSwept-none : (p k : ℕ) → p < length row → IsSwept dist row p p (p + 1) k (replicate k open_place)
   IsSwept-none p k l =
@@ -131,18 +131,18 @@ module _ (dist : ℕ → ℕ → ℕ) (limit : (a b : ℕ) → dist a b ≤ DIST
         high_end = omega arith;
         within = omega arith;
         keeps =
-            KeepsFirst-count dist (city_at row p) k _ _ _ _ count
-            (KeepsFirst-none dist (city_at row p) k (IsAt row (Window p (p + 1) p))
+            KeepsFirst-count dist (placed_city row p) k _ _ _ _ count
+            (KeepsFirst-none dist (placed_city row p) k (IsAt row (Window p (p + 1) p))
             (λ b s. let w = s.2 in let low : p ≤ s.0 = w.0 in let high : s.0 < p + 1 = w.1 in w.2 (omega arith)));
       }
 
   module _ (p low high k : ℕ) (kept : List Candidate) (h : IsSwept dist row p low high k kept) where
     pub swept_climbing : Climbing rank kept
-    swept_climbing = climbing (city_at row p) k _ _ kept h.keeps
+    swept_climbing = climbing (placed_city row p) k _ _ kept h.keeps
 
     pub swept_down_near : 0 < low →
         IsSwept dist row p (low - 1) high k
-        (take k (insert_by rank (candidate dist (city_at row p) (city_at row (low - 1))) kept))
+        (take k (insert_by rank (candidate dist (placed_city row p) (placed_city row (low - 1))) kept))
     swept_down_near l =
         let in' : low - 1 < length row = omega (arith, h.within, h.low_end, h.high_end) in
         let count : high - low - 1 + 1 ≡ high - (low - 1) - 1 = omega (arith, h.low_end, h.high_end) in
@@ -151,8 +151,8 @@ module _ (dist : ℕ → ℕ → ℕ) (limit : (a b : ℕ) → dist a b ≤ DIST
           high_end = h.high_end;
           within = h.within;
           keeps =
-              KeepsFirst-count dist (city_at row p) k _ _ _ _ count
-              (with_place (city_at row p) k (high - low - 1) (low - 1) (Window low high p) (Window (low - 1) high p)
+              KeepsFirst-count dist (placed_city row p) k _ _ _ _ count
+              (with_place (placed_city row p) k (high - low - 1) (low - 1) (Window low high p) (Window (low - 1) high p)
               kept h.keeps in'
               (λ w. omega (arith, w.0)) (λ r w. (omega (arith, w.0), w.1, w.2))
               (omega arith, omega (arith, h.low_end, h.high_end), omega (arith, h.low_end))
@@ -161,7 +161,7 @@ module _ (dist : ℕ → ℕ → ℕ) (limit : (a b : ℕ) → dist a b ≤ DIST
 
     pub swept_up_near : high < length row →
         IsSwept dist row p low (high + 1) k
-        (take k (insert_by rank (candidate dist (city_at row p) (city_at row high)) kept))
+        (take k (insert_by rank (candidate dist (placed_city row p) (placed_city row high)) kept))
     swept_up_near l =
         let count : high - low - 1 + 1 ≡ high + 1 - low - 1 = omega (arith, h.low_end, h.high_end) in
         record {
@@ -169,8 +169,8 @@ module _ (dist : ℕ → ℕ → ℕ) (limit : (a b : ℕ) → dist a b ≤ DIST
           high_end = omega (arith, h.high_end);
           within = omega arith;
           keeps =
-              KeepsFirst-count dist (city_at row p) k _ _ _ _ count
-              (with_place (city_at row p) k (high - low - 1) high (Window low high p) (Window low (high + 1) p)
+              KeepsFirst-count dist (placed_city row p) k _ _ _ _ count
+              (with_place (placed_city row p) k (high - low - 1) high (Window low high p) (Window low (high + 1) p)
               kept h.keeps l
               (λ w. omega (arith, w.1)) (λ r w. (w.0, omega (arith, w.1), w.2)) (
                 omega (arith, h.low_end, h.high_end),
@@ -181,7 +181,7 @@ module _ (dist : ℕ → ℕ → ℕ) (limit : (a b : ℕ) → dist a b ≤ DIST
         }
 
     pub swept_down_far : (floor : ℕ → ℕ) → IsFloor dist place_of floor → 0 < low → 1 ≤ k →
-        IsBelow (floor (unsigned_abs ((place_at row p).x -ℤ (place_at row (low - 1)).x))) kept →
+        IsBelow (floor (unsigned_abs ((point_at row p).x -ℤ (point_at row (low - 1)).x))) kept →
         IsSwept dist row p 0 high k kept
     swept_down_far floor f l one far =
         let lp : p < length row = omega (arith, h.within, h.high_end) in
@@ -189,16 +189,16 @@ module _ (dist : ℕ → ℕ → ℕ) (limit : (a b : ℕ) → dist a b ≤ DIST
           low_end = omega arith;
           high_end = h.high_end;
           within = h.within;
-          keeps = far_below (city_at row p) k p high low kept h.within h.low_end h.high_end one
+          keeps = far_below (placed_city row p) k p high low kept h.within h.low_end h.high_end one
               (λ q lq. far_place floor f p q _ kept lp (omega (arith, h.low_end))
-              (wider_down (place_at row q).x (place_at row (low - 1)).x (place_at row p).x
+              (wider_down (point_at row q).x (point_at row (low - 1)).x (point_at row p).x
               (o.rising q (low - 1) (omega arith) (omega (arith, h.low_end)))
               (o.rising (low - 1) p (omega (arith, h.low_end)) lp)) far)
               h.keeps;
         }
 
     pub swept_up_far : (floor : ℕ → ℕ) → IsFloor dist place_of floor → high < length row → 1 ≤ k →
-        IsBelow (floor (unsigned_abs ((place_at row p).x -ℤ (place_at row high).x))) kept →
+        IsBelow (floor (unsigned_abs ((point_at row p).x -ℤ (point_at row high).x))) kept →
         IsSwept dist row p low (length row) k kept
     swept_up_far floor f l one far =
         let lp : p < length row = omega (arith, h.within, h.high_end) in
@@ -207,21 +207,21 @@ module _ (dist : ℕ → ℕ → ℕ) (limit : (a b : ℕ) → dist a b ≤ DIST
           low_end = h.low_end;
           high_end = lp;
           within = omega arith;
-          keeps = far_above (city_at row p) k p low (length row - high) high kept rest h.low_end h.high_end one
+          keeps = far_above (placed_city row p) k p low (length row - high) high kept rest h.low_end h.high_end one
               (λ q hq in'. far_place floor f p q _ kept lp in'
-              (wider_up (place_at row q).x (place_at row high).x (place_at row p).x
+              (wider_up (point_at row q).x (point_at row high).x (point_at row p).x
               (o.rising p high (omega (arith, h.high_end)) l) (o.rising high q hq in')) far)
               h.keeps;
         }
 
   pub IsNear-from_swept : (p k : ℕ) (kept : List Candidate) → k < n → IsSwept dist row p 0 (length row) k kept →
-      IsNear dist n k (city_at row p) (cities_of kept)
+      IsNear dist n k (placed_city row p) (cities_kept kept)
   IsNear-from_swept p k kept kn h =
       let enough : k ≤ length row - 0 - 1 = omega (arith, o.count) in
-      IsNear-from_kept dist n (city_at row p) k (length row - 0 - 1) (IsAt row (Window 0 (length row) p)) kept
+      IsNear-from_kept dist n (placed_city row p) k (length row - 0 - 1) (IsAt row (Window 0 (length row) p)) kept
       h.keeps small enough
       (λ b city ne. let w = o.whole b city in
-      (w.0, w.1, (omega arith, w.1, λ e. ne (sym w.2 ∙ ap (city_at row) e)), w.2))
+      (w.0, w.1, (omega arith, w.1, λ e. ne (sym w.2 ∙ ap (placed_city row) e)), w.2))
       (λ b s.
       let e = o.each s.0 s.1 in
       (subst (IsCity n) s.3 e.0, λ same. s.2.2 (one_place s.0 p s.1 (omega (arith, h.high_end)) (s.3 ∙ same))))

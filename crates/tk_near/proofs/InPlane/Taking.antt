@@ -7,10 +7,11 @@ use Rattle.std.proofs.lemmas.List.Elements.{All-tail}
 use Rattle.std.proofs.lemmas.List.Sorted.{All-permutation, IsPermutation-swap_remove, IsPermutation-trans}
 use Rattle.std.proofs.lemmas.List.Sorted.{IsPermutation-append_left, IsPermutation-append_right, IsPermutation-to_front}
 use Rattle.tk_near.specs.declared.plane.placed.Placed.{Placed}
-use Rattle.tk_near.specs.Placed.{city_at, nowhere}
+use Rattle.tk_near.specs.Placed.{placed_city, nowhere}
 use Rattle.tk_near.specs.Left.{IsTakenOut}
 
-pub taken_out : (p : Placed) (row : List Placed) (i : ℕ) (q : Placed) → (i < length row) × (city_at row i ≡ p.city) →
+pub taken_out : (p : Placed) (row : List Placed) (i : ℕ) (q : Placed) →
+    (i < length row) × (placed_city row i ≡ p.city) →
     q ≡ get_or row i q → IsTakenOut p row (swap_remove row i q)
 taken_out p row i q at is = record {
   taken = q;

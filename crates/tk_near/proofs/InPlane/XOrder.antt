@@ -10,7 +10,7 @@ use Rattle.tk_near.proofs.InPlane.Rows.{IsRow-moved}
 use Rattle.tk_near.specs.declared.plane.placed.Placed.{Placed}
 use Rattle.tk_problem.specs.declared.point.Point.{Point}
 use Rattle.tk_near.specs.Placed.{nowhere, IsRow}
-use Rattle.tk_near.specs.Sweep.{place_at, IsXOrder}
+use Rattle.tk_near.specs.Sweep.{point_at, IsXOrder}
 
 not_less : (a b : ℤ) (o : Ordering) → is_lt (ordering_then (int_cmp a b) o) ≡ false → b ≤ℤ a
 not_less a b o =
@@ -20,15 +20,15 @@ not_less a b o =
       | false ↦ λ e h. grind (arith, ints)
     ]) refl
 
-climbs : (row : List Placed) → ((k : ℕ) → k + 1 < length row → (place_at row k).x ≤ℤ (place_at row (k + 1)).x) →
-    (i t : ℕ) → i + t < length row → (place_at row i).x ≤ℤ (place_at row (i + t)).x
+climbs : (row : List Placed) → ((k : ℕ) → k + 1 < length row → (point_at row k).x ≤ℤ (point_at row (k + 1)).x) →
+    (i t : ℕ) → i + t < length row → (point_at row i).x ≤ℤ (point_at row (i + t)).x
 climbs row up i zero l = let e : i ≡ i + 0 = omega arith in
-    subst (λ v. (place_at row i).x ≤ℤ (place_at row v).x) e (omega (arith, ints))
+    subst (λ v. (point_at row i).x ≤ℤ (point_at row v).x) e (omega (arith, ints))
 climbs row up i (suc t) l =
     let e : i + t + 1 ≡ i + suc t = omega arith in
     let here = climbs row up i t (omega arith) in
     let next = up (i + t) (omega arith) in
-    subst (λ v. (place_at row i).x ≤ℤ (place_at row v).x) e (omega (arith, ints))
+    subst (λ v. (point_at row i).x ≤ℤ (point_at row v).x) e (omega (arith, ints))
 
 pub IsXOrder-from_sort : (n : ℕ) (place_of : ℕ → Point) (first row : List Placed) → IsRow n place_of first →
     IsPermutation first row →
@@ -37,13 +37,13 @@ pub IsXOrder-from_sort : (n : ℕ) (place_of : ℕ → Point) (first row : List 
     (nat_cmp (get_or row (k + 1) d).city (get_or row k d).city)) ≡ false) → IsXOrder n place_of row
 IsXOrder-from_sort n place_of first row o moved sorted =
     let all = IsRow-moved n place_of first row o moved in
-    let adjacent : (k : ℕ) → k + 1 < length row → (place_at row k).x ≤ℤ (place_at row (k + 1)).x = λ k l.
-    not_less ((place_at row (k + 1)).x) ((place_at row k).x) _ (sorted k nowhere (omega arith) l) in
+    let adjacent : (k : ℕ) → k + 1 < length row → (point_at row k).x ≤ℤ (point_at row (k + 1)).x = λ k l.
+    not_less ((point_at row (k + 1)).x) ((point_at row k).x) _ (sorted k nowhere (omega arith) l) in
     record {
       count = all.count;
       each = λ q l. all.each q nowhere l;
       rising = λ i j l m. let e : i + (j - i) ≡ j = omega arith in
-          subst (λ v. (place_at row i).x ≤ℤ (place_at row v).x) e (climbs row adjacent i (j - i) (omega arith));
+          subst (λ v. (point_at row i).x ≤ℤ (point_at row v).x) e (climbs row adjacent i (j - i) (omega arith));
       apart = all.apart;
       whole = all.whole;
     }

@@ -1,10 +1,10 @@
 //! Cities that are left: they are taken out of a tree one by one, and the first of the others is found there.
-ghost use Rattle.std.specs.Prelude.{◌≡◌, ℕ, ◌<◌, ◌≤◌, All, length, IfOk, MatchOption, slice_index};
+ghost use Rattle.std.specs.Prelude.{◌≡◌, ℕ, ◌<◌, All, length, IfOk, MatchOption};
 ghost use Rattle.tk_near.specs.declared.plane.placed.Placed.{Placed};
 ghost use Rattle.tk_near.specs.Near.{IsFirst};
-ghost use Rattle.tk_near.specs.Placed.{IsPlaced, IsRow, city_at};
-ghost use Rattle.tk_near.specs.Tree.{entries_of, IsFramed, IsWithin, with_cities};
-ghost use Rattle.tk_near.specs.Left.{AreApart, IsTakenOut, IsNotIn, IsOtherIn, Stands};
+ghost use Rattle.tk_near.specs.Placed.{IsPlaced, IsRow, placed_city};
+ghost use Rattle.tk_near.specs.Tree.{entries_of, IsFramed, IsInBox, with_cities};
+ghost use Rattle.tk_near.specs.Left.{ArePlacedApart, IsTakenOut, IsNotIn, IsOtherIn, Stands};
 
 use crate::candidates::OPEN;
 use crate::plane::keeper::{Keeper, One};
@@ -65,7 +65,7 @@ impl Left {
     /// by distance and number.
     pub fn visit<P: BothAxes>(&mut self, m: &P, here: Placed, at: Found) -> Option<Found>
         requires here { IsPlaced (P.size_of m.now) (P.place_of m.now) here }
-        requires apart { AreApart (P.size_of m.now) (P.place_of m.now) self.old }
+        requires apart { ArePlacedApart (P.size_of m.now) (P.place_of m.now) self.old }
         requires there { Stands self.old here.city }
         ensures taken { IsTakenOut here self.old self.new }
         ensures first { MatchOption result ((b : ℕ) → IsOtherIn self.new here.city b → ⊥)
@@ -90,7 +90,7 @@ impl Left {
 /// Where the city stands in the row.
 fn index_of(row: &[Placed], p: &Placed) -> Option<usize>
     ensures { MatchOption result (IsNotIn p.now row.now)
-        (λ i. (i < length row.now) × (city_at row.now i ≡ p.now.city)) }
+        (λ i. (i < length row.now) × (placed_city row.now i ≡ p.now.city)) }
 {
     for i in 0..row.len() {
         if row[i].city == p.city {
@@ -117,7 +117,7 @@ impl Rest {
 /// The box of the cities of a tree.
 fn frame_over(tree: &Tree) -> Frame
     requires { IsFramed tree.now }
-    ensures { All (IsWithin result) (entries_of tree.now) }
+    ensures { All (IsInBox result) (entries_of tree.now) }
 {
     match tree {
         Tree::Leaf(row) => frame_of(row),
@@ -129,8 +129,8 @@ fn frame_over(tree: &Tree) -> Frame
 #[inline(always)]
 fn renew(frame: &mut Frame, tree: &Tree, rest: Rest)
     requires framed { IsFramed tree.now }
-    requires within { All (IsWithin frame.old) (entries_of tree.now) }
-    ensures { All (IsWithin frame.new) (entries_of tree.now) }
+    requires within { All (IsInBox frame.old) (entries_of tree.now) }
+    ensures { All (IsInBox frame.new) (entries_of tree.now) }
 {
     if matches!(rest, Rest::None) {
         *frame = frame_over(tree);

@@ -1,10 +1,10 @@
 //! Near lists by a sweep in x order.
-ghost use Rattle.std.specs.Prelude.{◌≡◌, ℕ, ◌*◌, ◌≤◌, ◌<◌, ◌↔◌, IfOk, length, IsTrue, MatchBool, ⊤};
+ghost use Rattle.std.specs.Prelude.{◌≡◌, ◌*◌, ◌≤◌, ◌<◌, ◌↔◌, IfOk, length, IsTrue, MatchBool, ⊤};
 ghost use Rattle.tk_problem.specs.declared.limits.TheConstants.{CANDIDATE_LIMIT};
 ghost use Rattle.tk_distance.specs.Distance.{reach};
 ghost use Rattle.tk_near.specs.Near.{IsNear, AreNearest};
-ghost use Rattle.tk_near.specs.Keeping.{AreFilled, rank, Climbing, with_candidate, candidate, cities_of};
-ghost use Rattle.tk_near.specs.Placed.{IsPlaced, city_at, x_gap};
+ghost use Rattle.tk_near.specs.Keeping.{AreFilled, rank, Climbing, with_candidate, candidate, cities_kept};
+ghost use Rattle.tk_near.specs.Placed.{IsPlaced, placed_city, x_gap};
 ghost use Rattle.tk_near.specs.Sweep.{IsXOrder, IsSwept, IsBelow};
 
 use crate::candidates::{Candidate, OPEN, comes_before, keep, measure, write_cities};
@@ -110,8 +110,8 @@ fn sweep_city<P: Planar>(m: &P, row: &[Placed], p: usize, kept: &mut [Candidate]
     requires low { 1 ≤ length kept.old }
     requires high { length kept.old < P.size_of m.now }
     ensures size { length kept.new ≡ length kept.old }
-    ensures near { IsNear (P.distance m.now) (P.size_of m.now) (length kept.old) (city_at row.now p)
-        (cities_of kept.new) }
+    ensures near { IsNear (P.distance m.now) (P.size_of m.now) (length kept.old) (placed_city row.now p)
+        (cities_kept kept.new) }
 {
     kept.fill(OPEN);
     let mut low = p;

@@ -1,15 +1,14 @@
 //! Near lists by a k-d tree (J. L. Bentley, 1975).
-ghost use Rattle.std.specs.Prelude.{◌≡◌, ℕ, ℤ, ◌*◌, ◌≤◌, ◌<◌, ◌-ℤ◌, ◌≤ℤ◌, ◌↔◌, IfOk, IsTrue, All, IsPermutation};
+ghost use Rattle.std.specs.Prelude.{◌≡◌, ℤ, ◌*◌, ◌≤◌, ◌<◌, ◌-ℤ◌, ◌≤ℤ◌, ◌↔◌, IfOk, IsTrue, All, IsPermutation};
 ghost use Rattle.std.specs.Prelude.{length, ⊤};
 ghost use Rattle.std.specs.Int.RustNames.{unsigned_abs};
 ghost use Rattle.tk_problem.specs.declared.limits.TheConstants.{CANDIDATE_LIMIT};
 ghost use Rattle.tk_distance.specs.Distance.{reach};
 ghost use Rattle.tk_near.specs.declared.plane.placed.Placed.{Placed};
 ghost use Rattle.tk_near.specs.Near.{IsNear, AreNearest};
-ghost use Rattle.tk_near.specs.Keeping.{AreFilled, candidate, cities_of, rank};
-ghost use Rattle.tk_distance.specs.Cities.{IsCity};
+ghost use Rattle.tk_near.specs.Keeping.{AreFilled, cities_kept, rank};
 ghost use Rattle.tk_near.specs.Placed.{IsPlaced, IsRow};
-ghost use Rattle.tk_near.specs.Tree.{entries_of, IsWithin, IsFramed, IsBeyond, IsFrom, with_city, with_cities};
+ghost use Rattle.tk_near.specs.Tree.{entries_of, IsInBox, IsFramed, IsBeyond, IsFrom, with_city, with_cities};
 
 use crate::candidates::{Candidate, OPEN, comes_before, measure, write_cities};
 use crate::near::Near;
@@ -73,8 +72,8 @@ fn gap_between(at: i64, low: i64, high: i64) -> u64
 impl Frame {
     /// The least box that has a further city.
     fn widened(self, p: Placed) -> Frame
-        ensures this { IsWithin result p }
-        ensures others { (q : Placed) → IsWithin self q → IsWithin result q }
+        ensures this { IsInBox result p }
+        ensures others { (q : Placed) → IsInBox self q → IsInBox result q }
     {
         Frame {
             left: self.left.min(p.place.x),
@@ -88,8 +87,8 @@ impl Frame {
 
     /// The least box that has the cities of both.
     pub fn joined(self, other: Frame) -> Frame
-        ensures first { (p : Placed) → IsWithin self p → IsWithin result p }
-        ensures second { (p : Placed) → IsWithin other p → IsWithin result p }
+        ensures first { (p : Placed) → IsInBox self p → IsInBox result p }
+        ensures second { (p : Placed) → IsInBox other p → IsInBox result p }
     {
         Frame {
             left: self.left.min(other.left),
@@ -105,7 +104,7 @@ impl Frame {
     #[inline(always)]
     fn gap(&self, here: &Placed) -> u64
         ensures limit { result ≤ reach }
-        ensures beyond { (p : Placed) → IsWithin self.now p → IsBeyond here.now result p }
+        ensures beyond { (p : Placed) → IsInBox self.now p → IsBeyond here.now result p }
     {
         let gap_x = gap_between(here.place.x, self.left, self.right);
         let gap_y = gap_between(here.place.y, self.bottom, self.top);
@@ -116,7 +115,7 @@ impl Frame {
     #[inline(always)]
     fn first<P: BothAxes>(&self, m: &P, here: &Placed) -> Candidate
         requires { IsPlaced (P.size_of m.now) (P.place_of m.now) here.now }
-        ensures { (p : Placed) → IsPlaced (P.size_of m.now) (P.place_of m.now) p → IsWithin self.now p
+        ensures { (p : Placed) → IsPlaced (P.size_of m.now) (P.place_of m.now) p → IsInBox self.now p
             → IsFrom (P.distance m.now) here.now.city result p }
     {
         let gap = self.gap(here);
@@ -147,7 +146,7 @@ impl Frame {
 
 /// The box of these cities.
 pub fn frame_of(row: &[Placed]) -> Frame
-    ensures { All (IsWithin result) row.now }
+    ensures { All (IsInBox result) row.now }
 {
     let mut frame = NOTHING;
     for p in row {
@@ -173,7 +172,7 @@ fn plant(alloc: Global, row: &mut [Placed]) -> Result<(Tree, Frame), AllocError>
     ensures moved { IfOk result (λ _. IsPermutation row.old row.new) }
     ensures entries { IfOk result (λ r. entries_of r.0 ≡ row.new) }
     ensures framed { IfOk result (λ r. IsFramed r.0) }
-    ensures within { IfOk result (λ r. All (IsWithin r.1) (entries_of r.0)) }
+    ensures within { IfOk result (λ r. All (IsInBox r.1) (entries_of r.0)) }
 {
     if row.len() <= LEAF {
         let mut leaf = Vec::with_capacity(alloc, row.len())?;
@@ -330,7 +329,7 @@ pub fn search_half<P: BothAxes, K: Keeper>(
     requires here { IsPlaced (P.size_of m.now) (P.place_of m.now) here.now }
     requires placed { All (IsPlaced (P.size_of m.now) (P.place_of m.now)) (entries_of half.now) }
     requires framed { IsFramed half.now }
-    requires within { All (IsWithin frame.now) (entries_of half.now) }
+    requires within { All (IsInBox frame.now) (entries_of half.now) }
     ensures { K.kept_of keeper.new
         ≡ with_cities (P.distance m.now) here.now.city (entries_of half.now) (K.kept_of keeper.old) }
 {
@@ -347,7 +346,7 @@ fn search_city<P: BothAxes>(m: &P, here: &Placed, tree: &Tree, many: &mut Many)
     requires high { length many.old.kept.items < P.size_of m.now }
     ensures size { length many.new.kept.items ≡ length many.old.kept.items }
     ensures near { IsNear (P.distance m.now) (P.size_of m.now) (length many.old.kept.items) here.now.city
-        (cities_of many.new.kept.items) }
+        (cities_kept many.new.kept.items) }
 {
     many.clear();
     search(m, here, tree, START, many);

@@ -5,16 +5,16 @@ use Rattle.tk_params.specs.declared.fault.ParamKind.TheVariants as kinds
 use Rattle.tk_params.specs.Values.{Meaning, Faulty, Settings, settings_of}
 
 -- no fault
-abbrev pub IsSound : Meaning → Type 0
-IsSound (Faulty kind) = ⊥
-IsSound _ = Unit {0}
+abbrev pub IsFaultless : Meaning → Type 0
+IsFaultless (Faulty kind) = ⊥
+IsFaultless _ = Unit {0}
 
 -- a kind of fault other than want of memory has P
-abbrev pub IsToldOf : (ParamKind → Type 0) → ParamKind → Type 0
-IsToldOf P kinds.NoMemory = Unit {0}
-IsToldOf P k = P k
+abbrev pub IsToldKind : (ParamKind → Type 0) → ParamKind → Type 0
+IsToldKind P kinds.NoMemory = Unit {0}
+IsToldKind P k = P k
 
 -- a line was taken that means no fault
-pub record HasTaken (old new : Settings) (means : Meaning) : Type 0 where
-  pub sound : IsSound means
+pub record HasTakenLine (old new : Settings) (means : Meaning) : Type 0 where
+  pub sound : IsFaultless means
   pub settings : new ≡ old ++ settings_of means

@@ -12,18 +12,19 @@ use Rattle.tk_params.specs.declared.fault.ParamFault.{ParamFault}
 use Rattle.tk_params.specs.declared.key.Key.TheVariants as keys
 use Rattle.tk_params.specs.declared.reader.ParamReader.{ParamReader}
 use Rattle.tk_params.specs.Asked.{ParamsAre, asked, asked_of, file_in}
-use Rattle.tk_params.specs.Reader.Lines.{HasTaken, IsToldOf}
+use Rattle.tk_params.specs.Reader.Lines.{HasTakenLine, IsToldKind}
 use Rattle.tk_params.specs.Values.{Settings, Faulty, line_means, look}
-use Rattle.tk_params.specs.Params.{line_limit, is_eof, word_of, behind_word, judge, pieces, params_decided}
+use Rattle.tk_params.specs.Params.{line_limit, spells_eof, word_of, behind_word, judge_params, param_pieces}
+use Rattle.tk_params.specs.Params.{params_decided}
 use Rattle.tk_params.specs.Params.{params_texts}
 
 -- EOF stands at the front, and something after it
 abbrev pub ends_in : List ℕ → Bool
-ends_in pre = is_eof (word_of pre) && not (is_empty (behind_word pre))
+ends_in pre = spells_eof (word_of pre) && not (is_empty (behind_word pre))
 
 -- what bytes say that go on after these settings, on line n, of which `pre` stands before them
-unfoldable pub from_line : ℕ → Settings → List ℕ → Bool → List ℕ → Option (Result ParamsAre ParamFault)
-from_line n before pre ended bs = judge n before (pieces (prepend pre (lines ended n bs)))
+unfoldable pub params_from_line : ℕ → Settings → List ℕ → Bool → List ℕ → Option (Result ParamsAre ParamFault)
+params_from_line n before pre ended bs = judge_params n before (param_pieces (prepend pre (lines ended n bs)))
 
 -- the reader has taken these bytes
 pub record Feeds (s : ParamReader) (bs : List ℕ) : Type 0 where
@@ -34,10 +35,10 @@ pub record Feeds (s : ParamReader) (bs : List ℕ) : Type 0 where
   pub held : s.held.items ≡ behind is_blank pre
   pub going : ends_in pre ≡ false
   pub same : (ended : Bool) (more : List ℕ) →
-      params_decided ended (bs ++ more) ≡ from_line s.line s.settings pre ended more
+      params_decided ended (bs ++ more) ≡ params_from_line s.line s.settings pre ended more
 
 -- the reader has taken these bytes, which decide nothing
-pub record Waits (s : ParamReader) (bs : List ℕ) : Type 0 where
+pub record ParamsWait (s : ParamReader) (bs : List ℕ) : Type 0 where
   pub fed : Feeds s bs
   pub undecided : params_decided false bs ≡ None
 
@@ -45,25 +46,25 @@ pub record Waits (s : ParamReader) (bs : List ℕ) : Type 0 where
 abbrev pub params_in : ParamReader → ParamsAre
 params_in s = asked_of (unwrap_or (file_in (look keys.ProblemFile s.settings)) []) s.settings
 
-abbrev pub IsComplete : ParamReader → Type 0
-IsComplete s = IsSome (asked s.settings)
+abbrev pub NamesProblem : ParamReader → Type 0
+NamesProblem s = IsSome (asked s.settings)
 
 -- the line at hand is taken
-pub record IsTaken (old new : ParamReader) : Type 0 where
-  pub taken : HasTaken old.settings new.settings (line_means old.settings old.held.items)
+pub record IsLineTaken (old new : ParamReader) : Type 0 where
+  pub taken : HasTakenLine old.settings new.settings (line_means old.settings old.held.items)
   pub line : new.line ≡ old.line
 
 -- the line at hand has a fault, if memory lasts
 pub record IsStopped (old : ParamReader) (f : ParamFault) : Type 0 where
   pub line : f.line ≡ old.line
-  pub told : IsToldOf (λ k. line_means old.settings old.held.items ≡ Faulty k) f.kind
+  pub told : IsToldKind (λ k. line_means old.settings old.held.items ≡ Faulty k) f.kind
 
 abbrev pub TakesLine : ParamReader → ParamReader → Result (Unit {0}) ParamFault → Type 0
-TakesLine old new (Ok _) = IsTaken old new
+TakesLine old new (Ok _) = IsLineTaken old new
 TakesLine old new (Err f) = IsStopped old f
 
 -- bytes are taken; or they make the text whole; or they show a fault
-abbrev pub HasRead : ParamReader → List ℕ → Result Step ParamFault → Type 0
-HasRead new bs (Ok (Taken n)) = (n ≡ 1) × Feeds new bs
-HasRead new bs (Ok Done) = Decides params_texts bs (Ok (params_in new)) × IsComplete new
-HasRead new bs (Err f) = IsTold params_texts (Decides params_texts bs) f
+abbrev pub HasReadByte : ParamReader → List ℕ → Result Step ParamFault → Type 0
+HasReadByte new bs (Ok (Taken n)) = (n ≡ 1) × Feeds new bs
+HasReadByte new bs (Ok Done) = Decides params_texts bs (Ok (params_in new)) × NamesProblem new
+HasReadByte new bs (Err f) = IsTold params_texts (Decides params_texts bs) f

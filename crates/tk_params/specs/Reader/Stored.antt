@@ -6,7 +6,7 @@ use Rattle.tk_params.specs.declared.key.Key.{Key}
 use Rattle.tk_params.specs.declared.value.Setting.{Setting}
 use Rattle.tk_params.specs.declared.value.Setting.TheVariants as stored
 use Rattle.tk_params.specs.declared.params.Params.TheInside.{Inside as Fields}
-use Rattle.tk_params.specs.Asked.{AreApart, AreSettings, ParamsAre, ignored_keys}
+use Rattle.tk_params.specs.Asked.{HasEachKeyOnce, AreSettings, ParamsAre, ignored_keys}
 use Rattle.tk_params.specs.Values.{Value, File, Number, Way, Switch, Ignored, Settings, look, same_key}
 
 -- what a stored setting says
@@ -31,7 +31,7 @@ LosesOnly key old new = (other : Key) → same_key key other ≡ false → look 
 -- stored settings have their limits and each key at most once, and the keys that are not used stand beside them
 pub record AreStored (settings : Settings) (unused : List Key) : Type 0 where
   pub limits : AreSettings settings
-  pub apart : AreApart settings
+  pub apart : HasEachKeyOnce settings
   pub ignored : unused ≡ ignored_keys settings
 
 -- the parameters that the fields hold

@@ -1,11 +1,11 @@
 //! The cities of a page, as lines for its script.
-ghost use Rattle.std.specs.Prelude.{◌≡◌, ◌-◌, flat_map, codes, length, option_copied, slice_get};
+ghost use Rattle.std.specs.Prelude.{◌-◌, flat_map, codes, option_copied};
 ghost use Rattle.std.specs.Fmt.{signed_decimal};
 ghost use Rattle.std.specs.List.{range_with_len};
 ghost use Rattle.tk_problem.specs.PlacesOf.{places_of};
 ghost use Rattle.tk_writers.specs.Pens.{Puts};
 ghost use Rattle.tk_distance.specs.Cities.{IsCity};
-ghost use Rattle.tk_picture.specs.PageText.{block, city_line, coordinates, demand_word, depot_word};
+ghost use Rattle.tk_picture.specs.PageText.{data_block, city_line, coordinates, demand_word, depot_word};
 ghost use Rattle.tk_picture.specs.Views.{city_count};
 
 use crate::picture::Picture;
@@ -70,9 +70,9 @@ fn put_city<W: Sink>(pen: &mut Pen<'_, W>, picture: &Picture<'_>, city: u32)
 
 /// Puts the lines of all cities.
 pub(crate) fn put_cities<W: Sink>(pen: &mut Pen<'_, W>, picture: &Picture<'_>)
-    ensures { Puts W.taken W.broken pen.old pen.new (block (codes "cities") (flat_map (city_line picture.now.view.frame
-        (places_of picture.now.view.places) picture.now.demands.now picture.now.depot)
-        (range_with_len 1 (city_count picture.now.view)))) }
+    ensures { Puts W.taken W.broken pen.old pen.new (data_block (codes "cities")
+        (flat_map (city_line picture.now.view.frame (places_of picture.now.view.places) picture.now.demands.now
+        picture.now.depot) (range_with_len 1 (city_count picture.now.view)))) }
 {
     pen.put(b"<script type=\"text/plain\" id=\"cities\">\n");
     for city in 1..picture.view.size() + 1 {

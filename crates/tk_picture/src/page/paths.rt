@@ -1,5 +1,5 @@
 //! The closed lines of a page, as lines of cities for its script.
-ghost use Rattle.std.specs.Prelude.{◌≡◌, ◌≤◌, [], ◌∷◌, All, codes, flat_map, length, map};
+ghost use Rattle.std.specs.Prelude.{[], ◌∷◌, All, codes, flat_map, map};
 ghost use Rattle.std.specs.List.{concat};
 ghost use Rattle.tk_writers.specs.Pens.{Puts};
 ghost use Rattle.tk_distance.specs.Cities.{IsCity};
@@ -7,7 +7,7 @@ ghost use Rattle.tk_routes.specs.Cvrps.{instance_of};
 ghost use Rattle.tk_routes.specs.Instance.{customer_count};
 ghost use Rattle.tk_routes.specs.RouteVerdicts.{AreServedOnce};
 ghost use Rattle.tk_picture.specs.Drawings.{paths_of, route_paths};
-ghost use Rattle.tk_picture.specs.PageText.{block, path_line};
+ghost use Rattle.tk_picture.specs.PageText.{data_block, path_line};
 ghost use Rattle.tk_picture.specs.Pictures.{Fits, drawing_of};
 
 use crate::subject::Subject;
@@ -68,7 +68,7 @@ fn put_path_lines<W: Sink>(pen: &mut Pen<'_, W>, size: u32, subject: Subject<'_>
 pub(crate) fn put_paths<W: Sink>(pen: &mut Pen<'_, W>, size: u32, subject: Subject<'_>)
     requires { Fits size subject }
     ensures { Puts W.taken W.broken pen.old pen.new
-        (block (codes "paths") (flat_map path_line (paths_of (drawing_of subject.entry)))) }
+        (data_block (codes "paths") (flat_map path_line (paths_of (drawing_of subject.entry)))) }
 {
     pen.put(b"<script type=\"text/plain\" id=\"paths\">\n");
     put_path_lines(pen, size, subject);

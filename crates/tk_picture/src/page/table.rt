@@ -7,7 +7,7 @@ ghost use Rattle.tk_problem.specs.declared.limits.TheConstants.{CITY_LIMIT};
 ghost use Rattle.tk_routes.specs.Cvrps.{instance_of};
 ghost use Rattle.tk_routes.specs.Instance.{customer_count};
 ghost use Rattle.tk_routes.specs.RouteVerdicts.{AreServedOnce};
-ghost use Rattle.tk_picture.specs.PageText.{row_line, row_of, rows, share};
+ghost use Rattle.tk_picture.specs.PageText.{row_line, route_row, rows, share};
 ghost use Rattle.tk_picture.specs.PageText.{table, table_caption, table_head, table_start};
 ghost use Rattle.tk_picture.specs.Pictures.{Fits, drawing_of};
 
@@ -57,7 +57,7 @@ fn share(load: u64, capacity: u32) -> u128
 fn put_row<W: Sink>(pen: &mut Pen<'_, W>, number: u64, cvrp: &Cvrp<'_>, route: &[u32])
     requires known { All (IsCity (customer_count (instance_of cvrp.now))) route.now }
     requires few { length route.now ≤ CITY_LIMIT }
-    ensures { Puts W.taken W.broken pen.old pen.new (row_line (row_of (instance_of cvrp.now) number route.now)) }
+    ensures { Puts W.taken W.broken pen.old pen.new (row_line (route_row (instance_of cvrp.now) number route.now)) }
 {
     let load = cvrp.load(route);
     pen.put(b"<tr><th scope=\"row\">");

@@ -20,8 +20,9 @@ use Rattle.tk_words.specs.Lex.{Token, is_empty}
 use Rattle.tk_lines.specs.Pieces.{Piece, After, Clean, Trailing, Early, Stop, Open, Fault, first_at, or_else}
 use Rattle.tk_words.specs.MinusOne.{is_ending}
 use Rattle.tk_words.specs.Entry.{is_eof}
-use Rattle.tk_lines.specs.Lists.{list_extent, entries}
-use Rattle.tk_lines.specs.Reader.Forms.{IsToldWord, a_section, taken, Goes, Ends, EndsAtEof, StopsAt, HasTaken}
+use Rattle.tk_lines.specs.Lists.{list_extent, list_entries}
+use Rattle.tk_lines.specs.Reader.Forms.{IsToldWord, a_section, taken, Goes, EndsWithMinusOne, EndsAtEof, StopsAt}
+use Rattle.tk_lines.specs.Reader.Forms.{HasTakenToken}
 use Rattle.tk_problem_text.specs.Sections.FixedSections.{tokens_stop}
 use Rattle.tk_problem_text.specs.Sections.DepotList.{depot_tests, depot_extent, depot_entries, depot_end}
 use Rattle.tk_problem_text.specs.Reader.DepotTaken.{IsDepot, HasDepot, is_list_end, DepotTakes, DepotRefuses}
@@ -61,11 +62,11 @@ no_end (x ∷ ts) line = refl
 behind : (toks more : List Token) (t : Token) → length toks ≤ 1 → (not (is_empty toks) && is_list_end t) ≡ false
     → (rest : List Token)
     × (depot_entries (take (depot_extent (toks ++ t ∷ more)).count (toks ++ t ∷ more)) ≡ toks ++ t ∷ rest)
-unfolding list_extent entries
-behind [] more t few goes = (entries (take (list_extent more).count more), refl)
+unfolding list_extent list_entries
+behind [] more t few goes = (list_entries (take (list_extent more).count more), refl)
 behind (x ∷ []) more t few goes =
     let no = neither (is_ending t) (t.whole && is_eof t.bytes) goes in
-    (entries (take (list_extent more).count more), rw (no.0, no.1, no.0) refl)
+    (list_entries (take (list_extent more).count more), rw (no.0, no.1, no.0) refl)
 behind (x ∷ y ∷ ts) more t few goes = absurd (omega (arith, few))
 
 module _ {before : List Piece} {n : ℕ} where
@@ -101,7 +102,7 @@ module _ {before : List Piece} {n : ℕ} where
 
   all_good : {toks : List Token} → HasDepotTokens before n toks →
       tokens_stop (depot_tests (size_of before)) [] (depot_entries toks) ≡ None
-  unfolding entries
+  unfolding list_entries
   all_good {toks = []} has = has.good
   all_good {toks = x ∷ []} has = has.good
   all_good {toks = x ∷ y ∷ ts} has = absurd (omega (arith, has.few))
@@ -131,8 +132,8 @@ module _ {before : List Piece} {n : ℕ} where
 
   -- the -1 after the node
   ends : {toks : List Token} → HasDepotTokens before n toks → is_empty toks ≡ false → (t : Token) → is_ending t ≡ true →
-      Ends problem_format before words.DepotSection n (toks ++ t ∷ [])
-  unfolding list_extent entries
+      EndsWithMinusOne problem_format before words.DepotSection n (toks ++ t ∷ [])
+  unfolding list_extent list_entries
   ends {toks = []} has some t end = absurd cc
   ends {toks = x ∷ []} has some t end =
       let fine : (ones : List Token) →
@@ -179,7 +180,7 @@ module _ {before : List Piece} {n : ℕ} where
       → holds (before ++ a_section words.DepotSection n ((toks ++ t ∷ []) ++ ones) Clean))
       → (new ≡ old → is_empty toks ≡ false → holds (before ++ a_section words.DepotSection n toks (Early t.line true)))
       → (does : Taken) → DepotTakes (size_of before) old new toks t does →
-      HasTaken problem_format holds wants before words.DepotSection n toks t does
+      HasTakenToken problem_format holds wants before words.DepotSection n toks t does
   has_taken {toks = toks} has t old new holds wants more ending eof takens.More h =
       let now = reads has.word new (toks ++ t ∷ []) h in
       (more h now, goes now)

@@ -21,7 +21,7 @@ use Rattle.tk_words.specs.Lex.{Token}
 use Rattle.tk_lines.specs.Pieces.{Piece, Stop, Open, Fault, first_at, checked, or_else, After, Clean, Trailing, Early}
 use Rattle.tk_lines.specs.Pieces.{Format}
 use Rattle.tk_words.specs.Entry.{is_keyword}
-use Rattle.tk_lines.specs.Reader.Forms.{IsToldWord, whole, a_section, taken, Goes, Closed, StopsAt, HasTaken}
+use Rattle.tk_lines.specs.Reader.Forms.{IsToldWord, whole, a_section, taken, Goes, Closed, StopsAt, HasTakenToken}
 use Rattle.tk_problem_text.specs.Sections.FixedSections.{TokenTests, all_tests, tokens_stop}
 use Rattle.tk_problem_text.specs.Reader.FixedTokens.{fixed_taken, IsFixed}
 use Rattle.tk_problem_text.specs.Reader.FixedTokens.{HasTokens}
@@ -226,11 +226,11 @@ module _ {V : Type 0} {f : Format V} {before : List Piece} {word : Keyword} {n :
         pub has_taken : (holds : List Piece → Type 0) (wants : List Piece → Keyword → ℕ → List Token → Type 0)
             → (suc (length toks) ≡ count → holds (before ++ a_section word n (toks ++ t ∷ []) Clean))
             → (HasTokens f before word n tests count (toks ++ t ∷ []) → wants before word n (toks ++ t ∷ []))
-            → HasTaken f holds wants before word n toks t (fixed_taken count toks)
+            → HasTakenToken f holds wants before word n toks t (fixed_taken count toks)
         has_taken holds wants last more = by_test (eqb (suc (length toks)) count) refl
           where
             by_test : (b : Bool) → eqb (suc (length toks)) count ≡ b →
-                HasTaken f holds wants before word n toks t (cond b takens.Last takens.More)
+                HasTakenToken f holds wants before word n toks t (cond b takens.Last takens.More)
             by_test true e = let all : suc (length toks) ≡ count = eqb-true _ _ e in (last all, closes all)
             by_test false e =
                 let fewer : suc (length toks) < count = omega (arith, has.fewer, eqb-false _ _ e) in

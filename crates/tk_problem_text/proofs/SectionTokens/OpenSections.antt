@@ -18,13 +18,13 @@ use Rattle.tk_problem_text.specs.declared.sections.open_section.OpenSection.TheV
 use Rattle.tk_words.specs.Lex.{Token, is_empty}
 use Rattle.tk_lines.specs.Pieces.{Piece, Clean, Early, Fault, first_at, Stop, or_else, After}
 use Rattle.tk_words.specs.Entry.{is_keyword, is_some_word}
-use Rattle.tk_lines.specs.Reader.Forms.{IsToldWord, whole, a_section, HasTaken, StopsAt}
+use Rattle.tk_lines.specs.Reader.Forms.{IsToldWord, whole, a_section, HasTakenToken, StopsAt}
 use Rattle.tk_problem_text.specs.Reader.FixedTokens.{fixed_taken, IsFixed}
 use Rattle.tk_problem_text.specs.Sections.FixedSections.{tokens_stop, fixed_end}
 use Rattle.tk_problem_text.specs.Sections.Rows.{number_in}
 use Rattle.tk_problem_text.specs.Problem.{problem_format, size_of, token_tests, wanted, word_tests}
 use Rattle.tk_problem_text.specs.Reader.DepotTaken.{HasDepot, DepotTakes, DepotRefuses}
-use Rattle.tk_problem_text.specs.Reader.OpenSections.{HasSome, IsOpen, IsCounted, IsFirst, IsFull, IsPast}
+use Rattle.tk_problem_text.specs.Reader.OpenSections.{HasSome, IsOpen, IsCounted, IsFirstNode, IsFull, IsPast}
 use Rattle.tk_problem_text.proofs.SectionTokens.FixedSections.{ready, stops_at_keyword, told, has_taken}
 use Rattle.tk_problem_text.proofs.SectionTokens.FixedSections.{fixed_taken-last, fixed_taken-more}
 use Rattle.tk_problem_text.proofs.SectionTokens.DepotTaken.{some_node, node_of, node_of-ended}
@@ -56,7 +56,8 @@ keyword_is (Some word) b is = is
 module _ (bytes : List ℕ) (short : length bytes ≤ 64) (before : List Piece) (n : ℕ) (toks : List Token) (line : ℕ) where
   -- what is promised where a section's state is s after the token
   abbrev Takes : Keyword → OpenSection → Taken → Type 0
-  Takes word s = HasTaken problem_format (IsPast before word n s) (λ ps w m ts. IsOpen ps w m ts s) before word n toks
+  Takes word s = HasTakenToken problem_format (IsPast before word n s) (λ ps w m ts. IsOpen ps w m ts s)
+      before word n toks
       (whole bytes line)
 
   abbrev Refuses : Keyword → TextKind → Type 0
@@ -146,11 +147,11 @@ module _ (bytes : List ℕ) (short : length bytes ≤ 64) (before : List Piece) 
     -- the depot is what the first token says
     is_first : (s' : Depot) → s' ≡ s → is_empty toks ≡ false → (ts : List Token) →
         ((x : ℕ) → s.node ≡ Some x → x ≡ slice_index (map number_in ts) 0) →
-        IsFirst (size_of before) (slice_index (map number_in ts) 0) s'.node
+        IsFirstNode (size_of before) (slice_index (map number_in ts) 0) s'.node
     is_first s' same some ts first =
         let x = some_node (size_of before) s toks is_open.2 some in
         let is = node_of (size_of before) s toks is_open.2 x.0 x.1 in
-        subst (IsFirst (size_of before) (slice_index (map number_in ts) 0))
+        subst (IsFirstNode (size_of before) (slice_index (map number_in ts) 0))
         (sym (ap (λ (depot : Depot). depot.node) same ∙ x.1)) (first x.0 x.1, is.2, is.3)
 
     ended : (s' : Depot) → s' ≡ s → is_empty toks ≡ false → (ones : List Token) →

@@ -20,8 +20,8 @@ use Rattle.tk_lines.specs.Pieces.{Fault, first_at}
 use Rattle.tk_problem.specs.Places.{origin, greatest_coordinate}
 use Rattle.tk_problem_text.specs.Reader.FixedTokens.{fixed_taken}
 use Rattle.tk_problem_text.specs.Reader.Nodes.{Named, HasNamed, HasNext}
-use Rattle.tk_problem_text.specs.Reader.Coordinates.{Placing, IsWithin, HasPlaces}
-use Rattle.tk_problem_text.specs.Sections.Rows.{number_in, coordinate_in, is_near, nodes_in, place_rows, places_of}
+use Rattle.tk_problem_text.specs.Reader.Coordinates.{Placing, IsWantedWithin, HasPlaces}
+use Rattle.tk_problem_text.specs.Sections.Rows.{number_in, coordinate_in, is_near, nodes_in, place_rows, row_places}
 use Rattle.tk_problem_text.specs.Sections.Rows.{node_tests, coordinate_tests, place_tests}
 use Rattle.tk_lines.specs.Reader.Forms.{IsToldWord}
 use Rattle.tk_problem_text.proofs.SectionTokens.Rows.{by_node-push}
@@ -109,13 +109,15 @@ opened n places nodes wanted next now toks is here has =
 -- after whole rows
 pub record AtNode (n : ℕ) (places : List Point) (nodes : Named) (toks : List Token) : Type 0 where
   pub whole : IsWhole toks
-  pub are : places ≡ places_of n toks
+  pub are : places ≡ row_places n toks
   pub named : HasNamed n nodes (nodes_in (place_rows toks))
 
 -- a coordinate that is wanted has its limit
-pub within_y : (size : ℕ) (wanted : Wanted) (index : ℕ) (x : ℤ) → wanted ≡ wants.Y index x → IsWithin size wanted →
+pub within_y : (size : ℕ) (wanted : Wanted) (index : ℕ) (x : ℤ) → wanted ≡ wants.Y index x →
+    IsWantedWithin size wanted →
     unsigned_abs x ≤ greatest_coordinate
-within_y size wanted index x is h = let at : IsWithin size (wants.Y index x) = subst (IsWithin size) is h in at.1
+within_y size wanted index x is h = let at : IsWantedWithin size (wants.Y index x) =
+    subst (IsWantedWithin size) is h in at.1
 
 -- what holds of a success
 pub on_ok : {T E P : Type 0} (r : Result T E) → is_err r ≡ false → OnOk r P → P

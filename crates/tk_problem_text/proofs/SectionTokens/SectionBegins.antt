@@ -28,7 +28,7 @@ use Rattle.tk_problem.specs.WeightOrder.{order, is_of, times_written}
 use Rattle.tk_problem_text.specs.Problem.{size_of, weight_type, weight_format, is_explicit, listed_format, wanted}
 use Rattle.tk_problem_text.specs.Problem.{is_known_section, section_tests, word_tests}
 use Rattle.tk_problem_text.specs.Reader.OpenSections.{HasSome, IsOpen}
-use Rattle.tk_problem_text.specs.Reader.BegunSections.{IsUntouched, IsReady, IsBegun}
+use Rattle.tk_problem_text.specs.Reader.BegunSections.{HasNoToken, IsReady, IsBegunSection}
 use Rattle.tk_problem_text.specs.Reader.BegunSections as Begun
 use Rattle.tk_problem_text.proofs.SectionTokens.FixedSections.{begins}
 use Rattle.tk_problem_text.proofs.SectionTokens.OpenSections.{problem_fixed}
@@ -93,7 +93,7 @@ module _ (before : List Piece) (word : Keyword) (n : ℕ) (none : first_at n (wo
       HasSome before word n []
   some_tokens w is other more = begins (problem_fixed before word n (rw is other) none) (rw is more)
 
-  open_at : (s : OpenSection) → IsUntouched before word s → IsOpen before word n [] s
+  open_at : (s : OpenSection) → HasNoToken before word s → IsOpen before word n [] s
   open_at sections.Nothing u = u
   open_at (sections.Places s) u = (u.0, some_tokens words.NodeCoordSection u.0 refl (omega (arith, low)), u.1)
   open_at (sections.Explicit s) u =
@@ -136,7 +136,7 @@ module _ (p : Parts) (before : List Piece) (word : Keyword) (n : ℕ) (has_parts
       let two = of_came (is_known_section word) (has word before) fresh in
       rw (two.0, two.1, typed_before, sized_before) refl
 
-  pub begun : (s : OpenSection) → IsReady before word s → IsBegun before word n s
+  pub begun : (s : OpenSection) → IsReady before word s → IsBegunSection before word n s
   begun s ready =
       let none : first_at n (word_tests before word) ≡ None = word_passes ∙ ready.tests n in
       record {

@@ -1,4 +1,10 @@
 -- A section of a problem that begins.
+use Rattle.std.specs.Prelude.{IfErr, Result}
+use Rattle.tk_words.specs.declared.fault.TextKind.{TextKind}
+use Rattle.tk_problem_text.specs.declared.parts.Parts.{Parts}
+use Rattle.tk_lines.specs.Pieces.{Fault}
+use Rattle.tk_lines.specs.Reader.Forms.{IsToldWord}
+use Rattle.tk_problem_text.specs.Reader.Parts.{HasParts}
 use Rattle.std.specs.Prelude.{◌≡◌, ◌≤◌, ◌*◌, ℕ, Bool, true, false, List, [], Option, Some, None, if◌then◌else◌}
 use Rattle.tk_problem.specs.declared.limits.TheConstants.{TABLE_LIMIT}
 use Rattle.tk_words.specs.declared.keyword.Keyword.{Keyword}
@@ -15,15 +21,15 @@ use Rattle.tk_problem_text.specs.Reader.Weighing.{HasWeights}
 use Rattle.tk_problem_text.specs.Reader.DepotTaken.{HasDepot}
 
 -- no token of the word's section was taken
-abbrev pub IsUntouched : List Piece → Keyword → OpenSection → Type 0
-IsUntouched before word Nothing = ⊥
-IsUntouched before word (Places s) = (word ≡ words.NodeCoordSection) × HasPlaces (size_of before) s []
-IsUntouched before word (Explicit s) =
+abbrev pub HasNoToken : List Piece → Keyword → OpenSection → Type 0
+HasNoToken before word Nothing = ⊥
+HasNoToken before word (Places s) = (word ≡ words.NodeCoordSection) × HasPlaces (size_of before) s []
+HasNoToken before word (Explicit s) =
     (word ≡ words.EdgeWeightSection) × HasWeights (size_of before) (format_in before) s [] × IsListed before
-IsUntouched before word (Loads s) =
+HasNoToken before word (Loads s) =
     (word ≡ words.DemandSection) × HasDemands (size_of before) s [] × (size_of before ≤ TABLE_LIMIT)
-IsUntouched before word (Home s) = (word ≡ words.DepotSection) × HasDepot (size_of before) s []
-IsUntouched before word (Display left) = (word ≡ words.DisplayDataSection) × (left ≡ 3 * size_of before)
+HasNoToken before word (Home s) = (word ≡ words.DepotSection) × HasDepot (size_of before) s []
+HasNoToken before word (Display left) = (word ≡ words.DisplayDataSection) × (left ≡ 3 * size_of before)
 
 -- whether a problem's section came, of the words that it can have
 abbrev pub came : List Piece → Keyword → Option Bool
@@ -32,11 +38,17 @@ came ps word = if is_known_section word then Some (has word ps) else None
 -- nothing that must stand before the section is missing, and none of its tokens was taken
 pub record IsReady (before : List Piece) (word : Keyword) (s : OpenSection) : Type 0 where
   pub tests : (n : ℕ) → first_at n (section_tests before word) ≡ None
-  pub untouched : IsUntouched before word s
+  pub untouched : HasNoToken before word s
 
 -- the section of a word on this line begins
-pub record IsBegun (before : List Piece) (word : Keyword) (n : ℕ) (s : OpenSection) : Type 0 where
+pub record IsBegunSection (before : List Piece) (word : Keyword) (n : ℕ) (s : OpenSection) : Type 0 where
   pub sized : has words.Dimension before ≡ true
   pub fresh : has word before ≡ false
   pub none : first_at n (word_tests before word) ≡ None
   pub begun : IsOpen before word n [] s
+
+-- the section of a word does not begin
+abbrev pub RefusesToBegin : Parts → Keyword → Result OpenSection TextKind → Type 0
+RefusesToBegin parts word result =
+    (before : List Piece) (n : ℕ) → HasParts parts before →
+    IfErr result (IsToldWord (λ k. first_at n (word_tests before word) ≡ Some (Fault n k)))

@@ -8,7 +8,7 @@ use Rattle.tk_problem_text.specs.declared.sections.coordinates.Wanted.TheVariant
 use Rattle.tk_words.specs.Decimal.{decimal_of}
 use Rattle.tk_words.specs.Lex.{Token}
 use Rattle.tk_problem_text.specs.Reader.Nodes.{Named, HasNamed, HasNext}
-use Rattle.tk_problem_text.specs.Sections.Rows.{place_rows, nodes_in, places_of}
+use Rattle.tk_problem_text.specs.Sections.Rows.{place_rows, nodes_in, row_places}
 
 -- the places by node, the nodes that were named, and what is wanted next
 pub record Placing : Type 0 where
@@ -17,14 +17,14 @@ pub record Placing : Type 0 where
   pub wanted : Wanted
 
 -- an index within the places, and a coordinate within its limit
-abbrev pub IsWithin : ℕ → Wanted → Type 0
-IsWithin size wants.Node = Unit {0}
-IsWithin size (wants.X index) = index < size
-IsWithin size (wants.Y index x) = (index < size) × (unsigned_abs x ≤ greatest_coordinate)
+abbrev pub IsWantedWithin : ℕ → Wanted → Type 0
+IsWantedWithin size wants.Node = Unit {0}
+IsWantedWithin size (wants.X index) = index < size
+IsWantedWithin size (wants.Y index x) = (index < size) × (unsigned_abs x ≤ greatest_coordinate)
 
 pub record IsPlacing (places : List Point) (nodes : Named) (wanted : Wanted) : Type 0 where
   pub sizes : length nodes.flags ≡ length places
-  pub within : IsWithin (length places) wanted
+  pub within : IsWantedWithin (length places) wanted
 
 -- the tokens of a row that is not whole, after rows that name these nodes
 abbrev pub HasPart : ℕ → Named → List ℕ → Wanted → List Token → Type 0
@@ -39,5 +39,5 @@ pub record HasPlaces (n : ℕ) (s : Placing) (toks : List Token) : Type 0 where
   pub part : List Token
   pub are : toks ≡ rows ++ part
   pub whole : length rows ≡ 3 * length (place_rows rows)
-  pub places : s.places ≡ places_of n rows
+  pub places : s.places ≡ row_places n rows
   pub begun : HasPart n s.nodes (nodes_in (place_rows rows)) s.wanted part

@@ -1,4 +1,10 @@
 -- What the reader of demands has taken.
+use Rattle.std.specs.Prelude.{IfErr, Result}
+use Rattle.tk_words.specs.declared.fault.TextKind.{TextKind}
+use Rattle.tk_lines.specs.declared.form.Taken.{Taken}
+use Rattle.tk_lines.specs.Pieces.{Fault, first_at}
+use Rattle.tk_lines.specs.Reader.Forms.{whole}
+use Rattle.tk_problem_text.specs.Sections.Rows.{demand_tests}
 use Rattle.std.specs.Prelude.{◌≡◌, ◌<◌, ◌*◌, ℕ, List, [], ◌∷◌, ◌++◌, length, Option, Some, None}
 use Rattle.tk_words.specs.Lex.{Token}
 use Rattle.tk_problem_text.specs.Reader.Nodes.{Named, HasNamed, HasNext}
@@ -32,3 +38,9 @@ pub record HasDemands (n : ℕ) (s : Loading) (toks : List Token) : Type 0 where
   pub whole : length rows ≡ 2 * length (demand_rows rows)
   pub loads : s.loads ≡ demands_of n rows
   pub begun : HasPart n s.nodes (nodes_in (demand_rows rows)) s.node part
+
+-- a token is refused; memory is not asked for
+abbrev pub RefusesDemand : List ℕ → Loading → Result Taken TextKind → Type 0
+RefusesDemand token old result =
+    (n : ℕ) (toks : List Token) (line : ℕ) → HasDemands n old toks →
+    IfErr result (λ k. first_at line (demand_tests n toks (whole token line)) ≡ Some (Fault line k))

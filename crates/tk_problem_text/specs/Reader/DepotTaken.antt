@@ -1,4 +1,6 @@
 -- What the reader of the depot has taken.
+use Rattle.std.specs.Prelude.{IfErr, IfOk, Result}
+use Rattle.tk_lines.specs.Reader.Forms.{IsToldWord, whole}
 use Rattle.std.specs.Prelude.{◌≡◌, ◌≤◌, ℕ, Bool, true, false, not, ◌&&◌, ◌||◌, List, [], ◌∷◌, ◌++◌, Option, Some, None}
 use Rattle.tk_problem_text.specs.declared.sections.depot.Depot.{Depot}
 use Rattle.tk_words.specs.declared.fault.TextKind.{TextKind}
@@ -38,3 +40,15 @@ DepotTakes n old new toks t takens.Eof =
 pub record DepotRefuses (n : ℕ) (toks : List Token) (t : Token) (k : TextKind) : Type 0 where
   pub goes : (not (is_empty toks) && is_list_end t) ≡ false
   pub fault : first_at t.line (all_tests (depot_tests n) toks t) ≡ Some (Fault t.line k)
+
+-- a token is taken
+abbrev pub TakesDepot : List ℕ → Depot → Depot → Result Taken TextKind → Type 0
+TakesDepot token old new result =
+    (n : ℕ) (toks : List Token) (line : ℕ) → HasDepot n old toks →
+    IfOk result (DepotTakes n old new toks (whole token line))
+
+-- a token is refused
+abbrev pub RefusesDepot : List ℕ → Depot → Result Taken TextKind → Type 0
+RefusesDepot token old result =
+    (n : ℕ) (toks : List Token) (line : ℕ) → HasDepot n old toks →
+    IfErr result (IsToldWord (DepotRefuses n toks (whole token line)))

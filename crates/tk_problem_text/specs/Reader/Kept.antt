@@ -8,13 +8,13 @@ use Rattle.tk_lines.specs.Pieces.{Piece, has, value_of, first_at, Fault}
 use Rattle.tk_lines.specs.Reader.Forms.{IsToldWord}
 
 -- the header's value is kept, once it came
-pub record Keeps {A : Type 0} (word : Keyword) (of : List ℕ → Option A) (kept : Option A)
+pub record KeepsHeader {A : Type 0} (word : Keyword) (of : List ℕ → Option A) (kept : Option A)
     (ps : List Piece) : Type 0 where
   pub came : has word ps ≡ is_some kept
   pub says : option_and_then of (value_of word ps) ≡ kept
 
 -- what a header's value says by f is what its tests find
-pub record Says {A : Type 0} (f : List ℕ → Option A) (tests : List (Bool × TextKind)) (v : List ℕ)
+pub record ValueSays {A : Type 0} (f : List ℕ → Option A) (tests : List (Bool × TextKind)) (v : List ℕ)
     (said : Result A TextKind) : Type 0 where
   pub ok : IfOk said (λ a. (f v ≡ Some a) × ((n : ℕ) → first_at n tests ≡ None))
   pub err : IfErr said (IsToldWord (λ k. (n : ℕ) → first_at n tests ≡ Some (Fault n k)))

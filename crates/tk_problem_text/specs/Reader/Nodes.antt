@@ -1,4 +1,9 @@
 -- Which nodes the rows of a section name.
+use Rattle.std.specs.Prelude.{IfErr, IfOk, None, Result, Some}
+use Rattle.tk_words.specs.declared.fault.TextKind.{TextKind}
+use Rattle.tk_lines.specs.Pieces.{Fault, first_at}
+use Rattle.tk_lines.specs.Reader.Forms.{whole}
+use Rattle.tk_problem_text.specs.Sections.Rows.{node_tests}
 use Rattle.std.specs.Prelude.{◌≡◌, ◌<◌, ◌+◌, ℕ, suc, Bool, false, List, [], ◌∷◌, ◌++◌, length, map}
 use Rattle.std.specs.List.{range_with_len}
 use Rattle.tk_words.specs.Lex.{Token}
@@ -20,3 +25,16 @@ pub record HasNext (n : ℕ) (s : Named) (nodes : List ℕ) (t : Token) (index :
   pub node : number_in t ≡ suc index
   pub new : is_among (suc index) nodes ≡ false
   pub named : HasNamed n s (nodes ++ suc index ∷ [])
+
+-- a token names a node that was not named
+abbrev pub NamesNode : List ℕ → Named → Named → Result ℕ TextKind → Type 0
+NamesNode token old new result =
+    (n : ℕ) (nodes : List ℕ) (line : ℕ) → HasNamed n old nodes → length nodes < n →
+    IfOk result (λ index. HasNext n new nodes (whole token line) index
+    × (first_at line (node_tests n nodes (whole token line)) ≡ None))
+
+-- a token names none
+abbrev pub RefusesNode : List ℕ → Named → Result ℕ TextKind → Type 0
+RefusesNode token old result =
+    (n : ℕ) (nodes : List ℕ) (line : ℕ) → HasNamed n old nodes →
+    IfErr result (λ k. first_at line (node_tests n nodes (whole token line)) ≡ Some (Fault line k))

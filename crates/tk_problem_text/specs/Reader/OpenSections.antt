@@ -12,7 +12,7 @@ use Rattle.tk_problem_text.specs.declared.sections.open_section.OpenSection.TheV
 use Rattle.tk_words.specs.Lex.{Token}
 use Rattle.tk_lines.specs.declared.form.Taken.{Taken}
 use Rattle.tk_lines.specs.Pieces.{Piece, After, Early, Fault, has, first_at}
-use Rattle.tk_lines.specs.Reader.Forms.{HasTaken, IsToldWord, StopsAt, a_section, whole}
+use Rattle.tk_lines.specs.Reader.Forms.{HasTakenToken, IsToldWord, StopsAt, a_section, whole}
 use Rattle.tk_problem_text.specs.Sections.Rows.{number_in}
 use Rattle.tk_problem_text.specs.Reader.FixedTokens.{HasTokens}
 use Rattle.tk_problem_text.specs.Sections.FixedSections.{tokens_stop}
@@ -62,9 +62,9 @@ IsCounted (Home s) = ⊥
 IsCounted _ = Unit {0}
 
 -- a node of 1..n, the first one that is listed
-abbrev pub IsFirst : ℕ → ℕ → Option ℕ → Type 0
-IsFirst n first None = ⊥
-IsFirst n first (Some node) = (node ≡ first) × (1 ≤ node) × (node ≤ n)
+abbrev pub IsFirstNode : ℕ → ℕ → Option ℕ → Type 0
+IsFirstNode n first None = ⊥
+IsFirstNode n first (Some node) = (node ≡ first) × (1 ≤ node) × (node ≤ n)
 
 -- these are all of its tokens
 abbrev pub IsFull : List Piece → Keyword → List Token → OpenSection → Type 0
@@ -77,7 +77,7 @@ IsFull before word toks (Loads s) =
     (word ≡ words.DemandSection) × HasDemands (size_of before) s toks × (length toks ≡ 2 * size_of before)
     × (size_of before ≤ TABLE_LIMIT)
 IsFull before word toks (Home s) =
-    (word ≡ words.DepotSection) × IsFirst (size_of before) (slice_index (map number_in toks) 0) s.node
+    (word ≡ words.DepotSection) × IsFirstNode (size_of before) (slice_index (map number_in toks) 0) s.node
 IsFull before word toks (Display left) = word ≡ words.DisplayDataSection
 
 -- these pieces are those after which it began, and the whole section
@@ -91,7 +91,8 @@ pub record IsPast (before : List Piece) (word : Keyword) (n : ℕ) (s : OpenSect
 abbrev pub TakesOpen : List ℕ → OpenSection → OpenSection → Result Taken TextKind → Type 0
 TakesOpen token old new result =
     (before : List Piece) (word : Keyword) (n : ℕ) (toks : List Token) (line : ℕ) → IsOpen before word n toks old
-    → IfOk result (HasTaken problem_format (IsPast before word n new) (λ ps w m ts. IsOpen ps w m ts new) before word n
+    → IfOk result
+    (HasTakenToken problem_format (IsPast before word n new) (λ ps w m ts. IsOpen ps w m ts new) before word n
     toks (whole token line))
 
 abbrev pub RefusesOpen : List ℕ → OpenSection → Result Taken TextKind → Type 0

@@ -1,4 +1,12 @@
 -- What is kept of the pieces of a problem.
+use Rattle.std.specs.Prelude.{◌++◌, map, slice_index, true}
+use Rattle.tk_words.specs.Lex.{Token}
+use Rattle.tk_lines.specs.Pieces.{After}
+use Rattle.tk_lines.specs.Reader.Forms.{a_section}
+use Rattle.tk_problem_text.specs.Sections.Rows as Rows
+use Rattle.tk_problem_text.specs.Sections.Rows.{number_in, row_places}
+use Rattle.tk_problem_text.specs.Sections.WeightSection.{lower_weights}
+use Rattle.tk_problem_text.specs.Problem.{format_in}
 use Rattle.std.specs.Prelude.{◌≡◌, ◌≤◌, ℕ, false, List, [], length, Option, Some, None, IfSome, is_some, unwrap_or, Vec}
 use Rattle.std.specs.declared.alloc.Global.{Global}
 use Rattle.tk_problem.specs.declared.limits.TheConstants.{CITY_LIMIT, TABLE_LIMIT}
@@ -14,7 +22,7 @@ use Rattle.tk_problem.specs.declared.weights.Weights.TheVariants.{Points, Lower}
 use Rattle.tk_problem.specs.Shape.{WeightsFit, IsRouting}
 use Rattle.tk_lines.specs.Pieces.{Piece, has}
 use Rattle.tk_problem_text.specs.Reader.Headers.{HasHeaders}
-use Rattle.tk_problem_text.specs.Problem.{WeightsAre, RoutingIs, ProblemIs, size_of, points_of, lower_of, demands_of}
+use Rattle.tk_problem_text.specs.Problem.{WeightsAre, RoutingIs, ProblemIs, size_of, points_of, lower_in, demands_of}
 use Rattle.tk_problem_text.specs.Problem.{depot_of}
 use Rattle.tk_problem_text.specs.Problem as value
 
@@ -34,7 +42,7 @@ pub record HasNoSection (ps : List Piece) : Type 0 where
 pub record HasParts (p : Parts) (ps : List Piece) : Type 0 where
   pub headers : HasHeaders p.headers ps
   pub places : KeepsValue words.NodeCoordSection (λ x. x) (points_of ps) p.places ps
-  pub lower : KeepsValue words.EdgeWeightSection (λ v. v.items) (lower_of ps) p.lower ps
+  pub lower : KeepsValue words.EdgeWeightSection (λ v. v.items) (lower_in ps) p.lower ps
   pub demand : KeepsValue words.DemandSection (λ v. v.items) (demands_of ps) p.demand ps
   pub depot : KeepsValue words.DepotSection (λ d. d) (depot_of ps) p.depot ps
   pub display : p.has_display ≡ has words.DisplayDataSection ps
@@ -88,3 +96,39 @@ problem_in p = record {
   weights = weights_in p.headers.weight_type p.places p.lower;
   routing = routing_in p.headers.problem_type p.headers.capacity p.demand p.depot;
 }
+
+-- the places of NODE_COORD_SECTION are kept
+abbrev pub KeepsPlaces : List Point → Parts → Parts → Type 0
+KeepsPlaces places old new =
+    (ps : List Piece) (n : ℕ) (toks : List Token) (after : After) → HasParts old ps → has words.Dimension ps ≡ true →
+    has words.NodeCoordSection ps ≡ false → places ≡ row_places (size_of ps) toks →
+    HasParts new (ps ++ a_section words.NodeCoordSection n toks after)
+
+-- the weights of EDGE_WEIGHT_SECTION are kept
+abbrev pub KeepsLower : Vec ℕ Global → Parts → Parts → Type 0
+KeepsLower lower old new =
+    (ps : List Piece) (n : ℕ) (toks : List Token) (after : After) → HasParts old ps → has words.Dimension ps ≡ true →
+    has words.EdgeWeightSection ps ≡ false → lower.items ≡ lower_weights (size_of ps) (format_in ps) toks →
+    has words.EdgeWeightFormat ps ≡ true → WeightsFit (size_of ps) (Lower lower) →
+    HasParts new (ps ++ a_section words.EdgeWeightSection n toks after)
+
+-- the demands of DEMAND_SECTION are kept
+abbrev pub KeepsDemand : Vec ℕ Global → Parts → Parts → Type 0
+KeepsDemand demand old new =
+    (ps : List Piece) (n : ℕ) (toks : List Token) (after : After) → HasParts old ps → has words.Dimension ps ≡ true →
+    has words.DemandSection ps ≡ false → demand.items ≡ Rows.demands_of (size_of ps) toks →
+    size_of ps ≤ TABLE_LIMIT →
+    HasParts new (ps ++ a_section words.DemandSection n toks after)
+
+-- the node of DEPOT_SECTION is kept
+abbrev pub KeepsDepot : ℕ → Parts → Parts → Type 0
+KeepsDepot depot old new =
+    (ps : List Piece) (n : ℕ) (toks : List Token) (after : After) → HasParts old ps → has words.Dimension ps ≡ true →
+    has words.DepotSection ps ≡ false → depot ≡ slice_index (map number_in toks) 0 →
+    (1 ≤ depot) × (depot ≤ size_of ps) → HasParts new (ps ++ a_section words.DepotSection n toks after)
+
+-- DISPLAY_DATA_SECTION is noted
+abbrev pub NotesDisplay : Parts → Parts → Type 0
+NotesDisplay old new =
+    (ps : List Piece) (n : ℕ) (toks : List Token) (after : After) → HasParts old ps → has words.Dimension ps ≡ true →
+    HasParts new (ps ++ a_section words.DisplayDataSection n toks after)

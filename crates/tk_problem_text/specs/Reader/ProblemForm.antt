@@ -23,8 +23,8 @@ pub record ProblemWants (s : ProblemForm) (before : List Piece) (word : Keyword)
 abbrev pub problem_held : ProblemForm → ProblemIs
 problem_held s = problem_in s.parts
 
-abbrev pub IsComplete : ProblemForm → Type 0
-IsComplete s = IsWhole s.parts
+abbrev pub HasAllParts : ProblemForm → Type 0
+HasAllParts s = IsWhole s.parts
 
 abbrev pub problem_promise : Promise ProblemIs ProblemForm
 problem_promise =
@@ -33,5 +33,5 @@ problem_promise =
       holds = ProblemHolds;
       wants = ProblemWants;
       held = problem_held;
-      complete = IsComplete;
+      complete = HasAllParts;
     }

@@ -1,4 +1,9 @@
 -- What the reader of explicit weights has taken.
+use Rattle.std.specs.Prelude.{Vec}
+use Rattle.std.specs.declared.alloc.Global.{Global}
+use Rattle.tk_problem.specs.declared.weights.Weights.TheVariants as weights
+use Rattle.tk_problem.specs.Shape.{WeightsFit}
+use Rattle.tk_problem_text.specs.Sections.WeightSection.{lower_weights}
 use Rattle.std.specs.Prelude.{◌≡◌, ◌≤◌, ℕ, List}
 use Rattle.tk_problem.specs.declared.limits.TheConstants.{TABLE_LIMIT}
 use Rattle.tk_problem_text.specs.declared.sections.explicit_weights.ExplicitWeights.{ExplicitWeights}
@@ -12,3 +17,9 @@ pub record HasWeights (n : ℕ) (f : Format) (s : ExplicitWeights) (toks : List 
   pub few : n ≤ TABLE_LIMIT
   pub format : s.format ≡ f
   pub so_far : IsSoFar s.lower f n (weights_in toks)
+
+-- the weights that its tokens make
+abbrev pub GivesLower : ExplicitWeights → Vec ℕ Global → Type 0
+GivesLower s lower =
+    (n : ℕ) (f : Format) (toks : List Token) → HasWeights n f s toks → (lower.items ≡ lower_weights n f toks)
+    × WeightsFit n (weights.Lower lower)

@@ -4,7 +4,7 @@ use Rattle.tk_words.specs.declared.fault.TextKind.TheVariants as kinds
 use Rattle.tk_words.specs.Lex.{Token, is_empty, integer}
 use Rattle.tk_lines.specs.Pieces.{Extent, Stop, After}
 use Rattle.tk_words.specs.Entry.{in_range}
-use Rattle.tk_lines.specs.Lists.{with_one, list_extent, entries, trailing_stop}
+use Rattle.tk_lines.specs.Lists.{with_one, list_extent, list_entries, trailing_stop}
 use Rattle.tk_problem_text.specs.Sections.FixedSections.{TokenTests, fixed_end}
 
 -- a node of 1..n, before which there is none
@@ -19,7 +19,7 @@ depot_extent (t ∷ ts) = with_one (list_extent ts)
 
 abbrev pub depot_entries : List Token → List Token
 depot_entries [] = []
-depot_entries (t ∷ ts) = t ∷ entries ts
+depot_entries (t ∷ ts) = t ∷ list_entries ts
 
 -- how the list ends: too early is Truncated, where there is no node
 abbrev pub depot_end : List Token → After → Option Stop

@@ -43,8 +43,8 @@ row_of without (r ∷ rows) c = let rest = row_of without rows c in if c == r.0 
 abbrev pub by_node : {A : Type 0} → A → ℕ → List (ℕ × A) → List A
 by_node without n rows = map (row_of without rows) (range_with_len 1 n)
 
-abbrev pub places_of : ℕ → List Token → List Point
-places_of n toks = by_node origin n (place_rows toks)
+abbrev pub row_places : ℕ → List Token → List Point
+row_places n toks = by_node origin n (place_rows toks)
 
 abbrev pub demands_of : ℕ → List Token → List ℕ
 demands_of n toks = by_node 0 n (demand_rows toks)

@@ -3,12 +3,13 @@ ghost use Rattle.std.specs.Prelude.{◌≡◌, ◌≤◌, ℕ, true, List, Some,
 ghost use Rattle.tk_problem.specs.declared.limits.TheConstants.{CITY_LIMIT};
 ghost use Rattle.tk_words.specs.declared.keyword.Keyword.TheVariants as words;
 ghost use Rattle.tk_problem_text.specs.Reader.BegunSections as Begun;
-ghost use Rattle.tk_problem_text.specs.Reader.BegunSections.{IsReady, IsBegun};
+ghost use Rattle.tk_problem_text.specs.Reader.BegunSections.{IsReady, IsBegunSection};
 ghost use Rattle.tk_lines.specs.Reader.Forms.{IsToldWord};
 ghost use Rattle.tk_problem_text.specs.Reader.Parts.{HasParts};
 ghost use Rattle.tk_lines.specs.Pieces.{Piece, first_at, Fault};
 ghost use Rattle.tk_problem_text.specs.Problem.{size_of, is_known_section, is_explicit, listed_format, section_tests};
-ghost use Rattle.tk_problem_text.specs.Problem.{word_tests, problem_type as problem_type_in};
+ghost use Rattle.tk_problem_text.specs.Problem.{problem_type as problem_type_in};
+ghost use Rattle.tk_problem_text.specs.Reader.BegunSections.{RefusesToBegin};
 
 use crate::header_values::{ProblemType, WeightFormat, WeightType};
 use crate::parts::Parts;
@@ -27,9 +28,9 @@ use tk_words::{Keyword, TextKind};
 /// The first thing that speaks against the section: `Unsupported`, `Repeated`, `Missing` or `OutOfLimit`, and
 /// `NoMemory` if there is no memory for what it holds.
 pub fn begin(alloc: Global, parts: &Parts, word: Keyword) -> Result<OpenSection, TextKind>
-    ensures ok { (before : List Piece) (n : ℕ) → HasParts parts.now before → IfOk result (IsBegun before word n) }
-    ensures err { (before : List Piece) (n : ℕ) → HasParts parts.now before
-        → IfErr result (IsToldWord (λ k. first_at n (word_tests before word) ≡ Some (Fault n k))) }
+    ensures ok { (before : List Piece) (n : ℕ) → HasParts parts.now before
+        → IfOk result (IsBegunSection before word n) }
+    ensures err { RefusesToBegin parts.now word result }
 {
     let Some(came) = came(parts, word) else {
         return Err(TextKind::Unsupported);

@@ -2,7 +2,7 @@
 ghost use Rattle.std.specs.Prelude.{◌≡◌, ◌*◌, ◌<◌, ◌≤◌, ℕ, List, [], length, IfOk, IfErr};
 ghost use Rattle.std.specs.Prelude.{OnErr};
 ghost use Rattle.tk_words.specs.Lex.{Token};
-ghost use Rattle.tk_problem_text.specs.Sections.Rows.{place_tests, places_of};
+ghost use Rattle.tk_problem_text.specs.Sections.Rows.{place_tests, row_places};
 ghost use Rattle.tk_problem_text.specs.Reader.FixedTokens.{RefusesFixed, TakesFixed};
 
 use crate::sections::nodes::Nodes;
@@ -92,7 +92,7 @@ impl Coordinates {
     /// The places by node.
     pub fn into_places(self) -> Points
         ensures { (n : ℕ) (toks : List Token) → HasPlaces n self toks → length toks ≡ 3 * n
-            → result ≡ places_of n toks }
+            → result ≡ row_places n toks }
     {
         self.places
     }

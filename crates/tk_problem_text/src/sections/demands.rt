@@ -1,10 +1,9 @@
 //! The demands of a problem, token by token.
 ghost use Rattle.std.specs.Prelude.{◌≡◌, ◌*◌, ◌<◌, ℕ, List, [], length, None, Some, IfOk, IfErr, OnErr};
-ghost use Rattle.tk_lines.specs.Reader.Forms.{whole};
 ghost use Rattle.tk_words.specs.Lex.{Token};
-ghost use Rattle.tk_lines.specs.Pieces.{first_at, Fault};
 ghost use Rattle.tk_problem_text.specs.Sections.Rows.{demand_tests, demands_of};
 ghost use Rattle.tk_problem_text.specs.Reader.FixedTokens.{TakesFixed};
+ghost use Rattle.tk_problem_text.specs.Reader.Demands.{RefusesDemand};
 
 use crate::sections::nodes::Nodes;
 use crate::sections::within::number_of;
@@ -56,8 +55,7 @@ impl Demands {
     /// Takes a token. After an error nothing was taken.
     pub fn take(&mut self, token: &Lexeme) -> Result<Taken, TextKind>
         ensures ok { (n : ℕ) → TakesFixed (HasDemands n) (demand_tests n) (2 * n) token.now self.old self.new result }
-        ensures err { (n : ℕ) (toks : List Token) (line : ℕ) → HasDemands n self.old toks
-            → IfErr result (λ k. first_at line (demand_tests n toks (whole token.now line)) ≡ Some (Fault line k)) }
+        ensures err { RefusesDemand token.now self.old result }
         ensures kept { OnErr result (self.new ≡ self.old) }
     {
         match self.node {

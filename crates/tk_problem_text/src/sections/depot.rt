@@ -1,5 +1,5 @@
 //! The depot of a problem, token by token.
-ghost use Rattle.std.specs.Prelude.{◌≡◌, ◌≤◌, ℕ, List, [], ◌∷◌, length, None, IfOk, IfErr, OnOk, OnErr};
+ghost use Rattle.std.specs.Prelude.{◌≡◌, ◌≤◌, ℕ, [], ◌∷◌, length, None, IfOk, IfErr, OnOk, OnErr};
 ghost use Rattle.tk_problem_text.specs.Sections.DepotList.{depot_tests};
 ghost use Rattle.tk_problem_text.specs.Reader.DepotTaken.{HasDepot, DepotTakes, DepotRefuses};
 ghost use Rattle.tk_words.specs.Entry.{IsNumber};
@@ -7,6 +7,7 @@ ghost use Rattle.tk_problem_text.specs.Sections.FixedSections.{all_tests};
 ghost use Rattle.tk_lines.specs.Reader.Forms.{whole, IsToldWord};
 ghost use Rattle.tk_words.specs.Lex.{Token};
 ghost use Rattle.tk_lines.specs.Pieces.{first_at};
+ghost use Rattle.tk_problem_text.specs.Reader.DepotTaken.{RefusesDepot, TakesDepot};
 
 use tk_lines::Taken;
 use tk_words::{Entry, Lexeme, TextKind, limited};
@@ -34,10 +35,8 @@ impl Depot {
     /// error nothing was taken.
     pub fn take(&mut self, token: &Lexeme) -> Result<Taken, TextKind>
         requires { length token.now ≤ 64 }
-        ensures ok { (n : ℕ) (toks : List Token) (line : ℕ) → HasDepot n self.old toks
-            → IfOk result (DepotTakes n self.old self.new toks (whole token.now line)) }
-        ensures err { (n : ℕ) (toks : List Token) (line : ℕ) → HasDepot n self.old toks
-            → IfErr result (IsToldWord (DepotRefuses n toks (whole token.now line))) }
+        ensures ok { TakesDepot token.now self.old self.new result }
+        ensures err { RefusesDepot token.now self.old result }
         ensures kept { OnErr result (self.new ≡ self.old) }
     {
         match self.node {

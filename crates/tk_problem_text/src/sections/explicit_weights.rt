@@ -7,11 +7,10 @@ ghost use Rattle.tk_problem.specs.declared.weights.Weights.TheVariants as weight
 ghost use Rattle.tk_lines.specs.Reader.Forms.{IsToldWord};
 ghost use Rattle.tk_words.specs.Lex.{Token, integer};
 ghost use Rattle.tk_lines.specs.Pieces.{first_at, Fault};
-ghost use Rattle.tk_problem.specs.Shape.{WeightsFit};
 ghost use Rattle.tk_problem.specs.WeightOrder.{weight_of, entries};
 ghost use Rattle.tk_problem_text.specs.Sections.WeightSection.{is_full, weight_count, weight_tests, weights_in};
-ghost use Rattle.tk_problem_text.specs.Sections.WeightSection.{lower_weights};
 ghost use Rattle.tk_problem_text.specs.Reader.FixedTokens.{RefusesFixed, TakesFixed};
+ghost use Rattle.tk_problem_text.specs.Reader.Weighing.{GivesLower};
 
 use std::alloc::Global;
 use tk_lines::Taken;
@@ -139,8 +138,7 @@ impl ExplicitWeights {
 
     /// The lower triangle, at the end.
     pub fn into_lower(self) -> Vec<u32>
-        ensures { (n : ℕ) (f : Format) (toks : List Token) → HasWeights n f self toks
-            → (result.items ≡ lower_weights n f toks) × WeightsFit n (weights.Lower result) }
+        ensures { GivesLower self result }
     {
         self.lower.into_weights()
     }

@@ -1,11 +1,12 @@
 //! The nodes that a section names, each once.
-ghost use Rattle.std.specs.Prelude.{◌≡◌, ◌<◌, ◌==◌, ℕ, suc, pos, List, [], None, Some, IfOk, OnErr, IfErr};
+ghost use Rattle.std.specs.Prelude.{◌≡◌, ◌<◌, ◌==◌, ℕ, suc, pos, List, [], Some, IfOk, OnErr, IfErr};
 ghost use Rattle.std.specs.Prelude.{length};
 ghost use Rattle.tk_lines.specs.Reader.Forms.{whole};
 ghost use Rattle.tk_words.specs.Lex as Lex;
-ghost use Rattle.tk_problem_text.specs.Reader.Nodes.{HasNamed, HasNext};
+ghost use Rattle.tk_problem_text.specs.Reader.Nodes.{HasNamed};
 ghost use Rattle.tk_lines.specs.Pieces.{first_at, Fault};
 ghost use Rattle.tk_problem_text.specs.Sections.Rows.{node_tests};
+ghost use Rattle.tk_problem_text.specs.Reader.Nodes.{NamesNode, RefusesNode};
 
 use std::alloc::Global;
 use std::marker::Model;
@@ -46,11 +47,8 @@ impl Nodes {
     pub fn name(&mut self, token: &Lexeme) -> Result<usize, TextKind>
         ensures index { IfOk result (λ index. index < length self.old.flags) }
         ensures flags { length self.new.flags ≡ length self.old.flags }
-        ensures ok { (n : ℕ) (nodes : List ℕ) (line : ℕ) → HasNamed n self.old nodes → length nodes < n
-            → IfOk result (λ index. HasNext n self.new nodes (whole token.now line) index
-            × (first_at line (node_tests n nodes (whole token.now line)) ≡ None)) }
-        ensures err { (n : ℕ) (nodes : List ℕ) (line : ℕ) → HasNamed n self.old nodes
-            → IfErr result (λ k. first_at line (node_tests n nodes (whole token.now line)) ≡ Some (Fault line k)) }
+        ensures ok { NamesNode token.now self.old self.new result }
+        ensures err { RefusesNode token.now self.old result }
         ensures kept { OnErr result (self.new ≡ self.old) }
     {
         let index = node_of(token, self.named.len())?;

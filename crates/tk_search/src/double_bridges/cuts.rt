@@ -1,6 +1,5 @@
 //! Where a kick cuts a tour.
 ghost use Rattle.std.specs.Prelude.{◌≡◌, ◌≤◌, length, map};
-ghost use Rattle.rand_core.specs.Stream.{Stream};
 ghost use Rattle.tk_distance.specs.Cities.{city_at};
 ghost use Rattle.tk_search.specs.Cuts.{AreCuts, drawn_cuts, end_places};
 

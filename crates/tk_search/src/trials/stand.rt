@@ -8,7 +8,8 @@ use crate::trials::state::State;
 use std::alloc::{AllocError, Global};
 use tk_distance::Metric;
 use tk_near::Near;
-use tk_tour::{ArrayTour, SegmentTour};
+use tk_segments::SegmentTour;
+use tk_tour::ArrayTour;
 
 /// From so many cities on, a tour is seen through segments.
 const MANY: usize = 8_000;

@@ -1,4 +1,5 @@
 pub mod EndsJoined
+pub mod JoinTest
 pub mod NeighbourArrays
 pub mod OnePath
 pub mod PathLists

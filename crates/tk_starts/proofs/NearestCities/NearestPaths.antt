@@ -11,7 +11,7 @@ use Rattle.tk_tour.specs.Tour.{occurrences}
 use Rattle.tk_tour.proofs.Tours.{HoldsOnce-from_distinct, length-distinct, length-whole, occurrences-index}
 use Rattle.tk_starts.specs.NearestTour.{IsNearestPath, IsNearestTour}
 use Rattle.tk_starts.specs.Unvisited.{IsFirstLeft, AreAllVisited, AreVisited}
-use Rattle.tk_near.specs.Left.{AreApart, IsOtherIn, IsTakenOut, Stands}
+use Rattle.tk_near.specs.Left.{ArePlacedApart, IsOtherIn, IsTakenOut, Stands}
 use Rattle.tk_near.proofs.InPlane.LeftLaws.{Stands-old, Stands-new, gone}
 use Rattle.tk_near.specs.declared.plane.left.Found.{Found}
 use Rattle.tk_near.specs.declared.plane.placed.Placed.{Placed}
@@ -36,7 +36,8 @@ module _ (xs : List ℕ) (b : ℕ) where
 
 -- one more city is visited
 pub visited_more : (n m : ℕ) (place_of : ℕ → Point) (p : Placed) (left now : List Placed) (cities : List ℕ) →
-    AreVisited n left m cities → slice_index cities m ≡ p.city → AreApart n place_of left → IsTakenOut p left now →
+    AreVisited n left m cities → slice_index cities m ≡ p.city → ArePlacedApart n place_of left →
+    IsTakenOut p left now →
     AreVisited n now (m + 1) cities
 visited_more n m place_of p left now cities h is apart taken c cc = (
   λ stands i li at.
@@ -106,7 +107,8 @@ module _ (dist : ℕ → ℕ → ℕ) (n start here : ℕ) (left : List Placed) 
       (λ i li e. path_apart dist n start cities h.path i (length cities - 1) li (omega (arith, h.path.some))
       (e ∙ sym h.last))
 
-  all_visited : (place_of : ℕ → Point) (p : Placed) (now : List Placed) → p.city ≡ here → AreApart n place_of left →
+  all_visited : (place_of : ℕ → Point) (p : Placed) (now : List Placed) → p.city ≡ here →
+      ArePlacedApart n place_of left →
       IsTakenOut p left now → AreVisited n now (length cities) cities
   all_visited place_of p now is apart taken =
       let k : length cities - 1 + 1 ≡ length cities = omega (arith, h.path.some) in
@@ -114,7 +116,7 @@ module _ (dist : ℕ → ℕ → ℕ) (n start here : ℕ) (left : List Placed) 
       (visited_more n (length cities - 1) place_of p left now cities h.marked (h.last ∙ sym is) apart taken)
 
   pub IsUnderWay-more : (place_of : ℕ → Point) (p : Placed) (now : List Placed) (b : ℕ) → p.city ≡ here →
-      AreApart n place_of left → IsTakenOut p left now → IsFirstLeft dist n now here b →
+      ArePlacedApart n place_of left → IsTakenOut p left now → IsFirstLeft dist n now here b →
       IsUnderWay dist n start b now (cities ++ b ∷ [])
   IsUnderWay-more place_of p now b is apart taken first =
       let v = all_visited place_of p now is apart taken in
@@ -139,7 +141,7 @@ module _ (dist : ℕ → ℕ → ℕ) (n start here : ℕ) (left : List Placed) 
 
   -- once no city is left, the list is whole
   pub IsNearestTour-whole : (place_of : ℕ → Point) (p : Placed) (now : List Placed) → p.city ≡ here →
-      AreApart n place_of left → IsTakenOut p left now → AreAllVisited n now → IsNearestTour dist n start cities
+      ArePlacedApart n place_of left → IsTakenOut p left now → AreAllVisited n now → IsNearestTour dist n start cities
   IsNearestTour-whole place_of p now is apart taken all =
       let v = all_visited place_of p now is apart taken in
       let held : (c : ℕ) → 0 < c → c ≤ n → 1 ≤ occurrences c cities = λ c low high. ⊎_elim
@@ -156,7 +158,7 @@ module _ (dist : ℕ → ℕ → ℕ) (n start here : ℕ) (left : List Placed) 
 
 -- where c does not stand in a row, the first of its other cities is the first of all
 pub first_of_left : (dist : ℕ → ℕ → ℕ) (n : ℕ) (place_of : ℕ → Point) (c : ℕ) (row : List Placed)
-    → AreApart n place_of row → (Stands row c → ⊥) → (o : Option Found)
+    → ArePlacedApart n place_of row → (Stands row c → ⊥) → (o : Option Found)
     → MatchOption o ((b : ℕ) → IsOtherIn row c b → ⊥) (λ f. IsFirst dist c (IsOtherIn row c) f.city) →
     MatchOption o (AreAllVisited n row) (λ f. IsFirstLeft dist n row c f.city)
 first_of_left dist n place_of c row apart gone None h =

@@ -2,9 +2,9 @@
 ghost use Rattle.std.specs.Prelude.{◌≡◌, ◌≢◌, IfOk, IfSome};
 ghost use Rattle.tk_distance.specs.Cities.{IsCity};
 ghost use Rattle.tk_near.specs.Near.{near_of};
-ghost use Rattle.tk_starts.specs.Holding.{holds};
+ghost use Rattle.tk_distance.specs.Holding.{holds};
 ghost use Rattle.tk_starts.specs.HubDistances.{AreFromHub};
-ghost use Rattle.tk_starts.specs.SavingPairs.{saving_of, AreCandidates, IsPair, IsOf};
+ghost use Rattle.tk_starts.specs.SavingPairs.{saving_of, AreSavingPairs, IsPair, IsPairOf};
 
 use crate::merges::pair_list::PairList;
 use std::alloc::{AllocError, Global};
@@ -53,8 +53,8 @@ fn pair_of<M: Metric>(metric: &M, hub: u32, from_hub: &[u64], c: u32, d: u32) ->
         × IsCity (M.size_of metric.now) d }
     requires apart { c ≢ d }
     requires from_hub { AreFromHub (M.distance metric.now) (M.size_of metric.now) hub from_hub.now }
-    ensures some { IfSome result (λ p. IsPair (M.distance metric.now) (M.size_of metric.now) hub p × IsOf c d p) }
-    ensures all { (p : Pair) → IsPair (M.distance metric.now) (M.size_of metric.now) hub p → IsOf c d p
+    ensures some { IfSome result (λ p. IsPair (M.distance metric.now) (M.size_of metric.now) hub p × IsPairOf c d p) }
+    ensures all { (p : Pair) → IsPair (M.distance metric.now) (M.size_of metric.now) hub p → IsPairOf c d p
         → result ≡ Some p }
 {
     let (i, j) = if c < d { (c, d) } else { (d, c) };
@@ -91,7 +91,7 @@ pub(crate) fn candidate_pairs<M: Metric>(
 ) -> Result<PairList, AllocError>
     requires hub { IsCity (M.size_of metric.now) hub }
     requires size { near.now.size ≡ M.size_of metric.now }
-    ensures { IfOk result (λ v. AreCandidates (M.distance metric.now) (near_of near.now)
+    ensures { IfOk result (λ v. AreSavingPairs (M.distance metric.now) (near_of near.now)
         (M.size_of metric.now) hub v) }
 {
     let from_hub = hub_distances(alloc, metric, hub)?;

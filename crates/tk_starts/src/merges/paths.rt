@@ -1,13 +1,12 @@
 //! The paths that the joints make.
-ghost use Rattle.std.specs.Prelude.{◌≡◌, ◌≢◌, ℕ, ◌+◌, ◌-◌, ◌^◌, ◌≤◌, ◌<◌, IfOk, List, [], ◌∷◌, length, vec_len};
-ghost use Rattle.std.specs.Prelude.{slice_index_or, IsTrue, ◌==◌, if◌then◌else◌, map, not, nat_le, ◌&&◌};
-ghost use Rattle.std.specs.List.{All};
+ghost use Rattle.std.specs.Prelude.{◌≡◌, ◌≢◌, ℕ, ◌+◌, ◌-◌, ◌^◌, ◌≤◌, ◌<◌, IfOk, List, ◌∷◌, length, vec_len};
+ghost use Rattle.std.specs.Prelude.{◌==◌, if◌then◌else◌, not, nat_le, ◌&&◌};
 ghost use Rattle.tk_problem.specs.declared.limits.TheConstants.{CITY_LIMIT};
-ghost use Rattle.tk_starts.specs.Joints.{joints_at, ArePartPaths};
 ghost use Rattle.tk_starts.specs.declared.merges.pairs.Pair.{Pair};
-ghost use Rattle.tk_distance.specs.Cities.{IsCity};
-ghost use Rattle.tk_starts.specs.PathEnds.{at, AreJoined, AreBoth, IsLinked, IsSetAt, load_of, IsWithin, is_end_at};
+ghost use Rattle.tk_starts.specs.PathEnds.{at, AreBoth, IsLinked, IsPairWithin, is_end_at};
 ghost use Rattle.tk_starts.specs.PathEnds.{may_join_at, Follows, IsWay};
+ghost use Rattle.tk_starts.specs.PathsOf.{AreEven, AreListsOf, AreOf, AreSingle, EndsMeet, HaveEnds, HaveSize};
+ghost use Rattle.tk_starts.specs.PathsOf.{LoadsMeet};
 
 use crate::merges::pairs::Pair;
 use std::alloc::{AllocError, Global};
@@ -28,11 +27,8 @@ impl Paths {
     /// `AllocError` if there is no memory for the ends and loads of n paths.
     pub fn new(alloc: Global, loads: &[u32]) -> Result<Paths, AllocError>
         requires { length loads.now ≤ CITY_LIMIT }
-        ensures sizes { IfOk result (λ p. (vec_len p.one ≡ length loads.now + 1)
-            × (vec_len p.two ≡ length loads.now + 1) × (vec_len p.other ≡ length loads.now + 1)
-            × (vec_len p.load ≡ length loads.now + 1)) }
-        ensures single { IfOk result (λ p. (c : ℕ) → IsCity (length loads.now) c → (at p.one.items c ≡ 0)
-            × (at p.two.items c ≡ 0) × (at p.other.items c ≡ c) × (at p.load.items c ≡ load_of loads.now c)) }
+        ensures sizes { IfOk result (λ p. HaveSize p (length loads.now + 1)) }
+        ensures single { IfOk result (AreSingle loads.now) }
     {
         let places = loads.len() + 1;
         let one = vec![in alloc; 0; places]?;
@@ -53,9 +49,8 @@ impl Paths {
 
     /// Whether i and j are ends of two paths that are within the capacity together.
     pub fn may_join(&self, pair: &Pair, capacity: u64) -> bool
-        requires sizes { (vec_len self.now.two ≡ vec_len self.now.one)
-            × (vec_len self.now.other ≡ vec_len self.now.one) × (vec_len self.now.load ≡ vec_len self.now.one) }
-        requires within { IsWithin (vec_len self.now.one - 1) pair.now }
+        requires sizes { AreEven self.now }
+        requires within { IsPairWithin (vec_len self.now.one - 1) pair.now }
         ensures { result ≡ may_join_at self.now.one.items self.now.two.items self.now.other.items self.now.load.items
             capacity pair.now }
     {
@@ -79,22 +74,15 @@ impl Paths {
 
     /// Makes i and j neighbours.
     pub fn join(&mut self, i: u32, j: u32)
-        requires sizes { (vec_len self.old.two ≡ vec_len self.old.one)
-            × (vec_len self.old.other ≡ vec_len self.old.one) × (vec_len self.old.load ≡ vec_len self.old.one) }
+        requires sizes { AreEven self.old }
         requires cities { (i < vec_len self.old.one) × (j < vec_len self.old.one) × (i ≢ j) }
-        requires ends { (at self.old.other.items i < vec_len self.old.one)
-            × (at self.old.other.items j < vec_len self.old.one)
-            × (at self.old.other.items i ≢ at self.old.other.items j) }
+        requires ends { HaveEnds self.old i j }
         requires load { at self.old.load.items i + at self.old.load.items j < 2 ^ 64 }
-        ensures sizes { (vec_len self.new.one ≡ vec_len self.old.one) × (vec_len self.new.two ≡ vec_len self.old.one)
-            × (vec_len self.new.other ≡ vec_len self.old.one) × (vec_len self.new.load ≡ vec_len self.old.one) }
+        ensures sizes { HaveSize self.new (vec_len self.old.one) }
         ensures linked { IsLinked i j (at self.old.one.items) (at self.old.two.items) (at self.new.one.items)
             (at self.new.two.items) }
-        ensures far { IsSetAt (at self.old.other.items i) (at self.old.other.items j) (at self.old.other.items j)
-            (at self.old.other.items i) (at self.old.other.items) (at self.new.other.items) }
-        ensures heavy { IsSetAt (at self.old.other.items i) (at self.old.load.items i + at self.old.load.items j)
-            (at self.old.other.items j) (at self.old.load.items i + at self.old.load.items j) (at self.old.load.items)
-            (at self.new.load.items) }
+        ensures far { EndsMeet i j self.old self.new }
+        ensures heavy { LoadsMeet i j self.old self.new }
     {
         let first = self.other[i as usize];
         let last = self.other[j as usize];
@@ -181,13 +169,8 @@ impl Paths {
         requires sizes { (vec_len self.now.two ≡ vec_len self.now.one)
             × (vec_len self.now.other ≡ vec_len self.now.one) }
         requires limit { (1 ≤ vec_len self.now.one) × (vec_len self.now.one ≤ 100001) }
-        requires some { (load : ℕ → ℕ) × ((E : List Pair)
-            × AreJoined (vec_len self.now.one - 1) load E self.now.one.items self.now.two.items self.now.other.items
-            self.now.load.items) }
-        ensures { IfOk result (λ v. (load : ℕ → ℕ) (E : List Pair)
-            → AreJoined (vec_len self.now.one - 1) load E self.now.one.items self.now.two.items self.now.other.items
-            self.now.load.items → joints_at E hub ≡ 0
-            → ArePartPaths (vec_len self.now.one - 1) hub E (map (λ x. x.items) v.items)) }
+        requires some { (load : ℕ → ℕ) × ((joints : List Pair) × AreOf self.now load joints) }
+        ensures { IfOk result (λ v. AreListsOf self.now hub v.items) }
     {
         let mut lists = Vec::new(alloc);
         for c in 1..self.one.len() as u32 {

@@ -6,7 +6,7 @@ ghost use Rattle.tk_distance.specs.Cities.{IsCity};
 ghost use Rattle.tk_near.specs.Near.{near_of};
 ghost use Rattle.tk_tour.specs.Tour.{IsTour};
 ghost use Rattle.tk_starts.specs.SavingsMerges.{AreSavingsLists, AreLight};
-ghost use Rattle.tk_starts.specs.PathEnds.{AreJoined, load_of, IsWithin};
+ghost use Rattle.tk_starts.specs.PathEnds.{AreJoined, load_of, IsPairWithin};
 ghost use Rattle.tk_starts.specs.Joints.{joints};
 
 use crate::merges::pair_list::PairList;
@@ -24,7 +24,7 @@ fn joined_paths(
     pairs: &PairList,
 ) -> Result<Paths, AllocError>
     requires limit { length loads.now ≤ CITY_LIMIT }
-    requires within { All (IsWithin (length loads.now)) pairs.now }
+    requires within { All (IsPairWithin (length loads.now)) pairs.now }
     ensures sizes { IfOk result (λ p. (vec_len p.one ≡ length loads.now + 1) × (vec_len p.two ≡ length loads.now + 1)
         × (vec_len p.other ≡ length loads.now + 1) × (vec_len p.load ≡ length loads.now + 1)) }
     ensures joined { IfOk result (λ p. AreJoined (length loads.now) (load_of loads.now)

@@ -2,7 +2,7 @@
 ghost use Rattle.std.specs.Prelude.{◌≡◌, IfOk, MatchOption};
 ghost use Rattle.tk_distance.specs.Cities.{IsCity};
 ghost use Rattle.tk_near.specs.Placed.{IsPlaced};
-ghost use Rattle.tk_near.specs.Left.{AreApart, IsTakenOut, Stands};
+ghost use Rattle.tk_near.specs.Left.{ArePlacedApart, IsTakenOut, Stands};
 ghost use Rattle.tk_tour.specs.Tour.{IsTour};
 ghost use Rattle.tk_starts.specs.NearestTour.{IsNearestTour};
 ghost use Rattle.tk_starts.specs.Unvisited.{AreAllVisited, IsFirstLeft};
@@ -24,10 +24,10 @@ fn placed<P: Planar>(metric: &P, city: u32) -> Placed
 /// Takes a city out, and finds the first of those that are left then, if any, by (distance, number).
 fn visit<P: BothAxes>(left: &mut Left, metric: &P, here: Placed, at: Found) -> Option<Found>
     requires here { IsPlaced (P.size_of metric.now) (P.place_of metric.now) here }
-    requires apart { AreApart (P.size_of metric.now) (P.place_of metric.now) left.old }
+    requires apart { ArePlacedApart (P.size_of metric.now) (P.place_of metric.now) left.old }
     requires left { Stands left.old here.city }
     ensures taken { IsTakenOut here left.old left.new }
-    ensures apart { AreApart (P.size_of metric.now) (P.place_of metric.now) left.new }
+    ensures apart { ArePlacedApart (P.size_of metric.now) (P.place_of metric.now) left.new }
     ensures first { MatchOption result (AreAllVisited (P.size_of metric.now) left.new)
         (λ found. IsFirstLeft (P.distance metric.now) (P.size_of metric.now) left.new here.city found.city) }
 {

@@ -1,5 +1,5 @@
 //! The nearest-neighbour tour by a scan of all cities that are left.
-ghost use Rattle.std.specs.Prelude.{◌≡◌, ℕ, ◌-◌, ◌≤◌, ◌<◌, IfOk, length, slice_index};
+ghost use Rattle.std.specs.Prelude.{ℕ, ◌-◌, ◌≤◌, ◌<◌, IfOk, length, slice_index};
 ghost use Rattle.tk_distance.specs.Cities.{IsCity};
 ghost use Rattle.tk_near.specs.Keeping.{rank, candidate};
 ghost use Rattle.tk_tour.specs.Tour.{IsTour};

@@ -1,8 +1,8 @@
 //! Problem texts, read at once, byte by byte and in small pieces.
 
+use crate::fakes::Drip;
 use std::alloc::Global;
 use std::process::Abort;
-use tk_fakes::Drip;
 use tk_text::{
     FromRead, Point, Points, Problem, Routing, TextFault, TextKind, Weights, read_problem,
 };

@@ -1,10 +1,10 @@
 //! What is written of small tables.
 ghost use Rattle.std.specs.Prelude.{◌≡◌, ◌+◌, ◌-◌, ◌*◌, ◌≤◌, pos, slice_index};
 
+use crate::fakes::FakeSink;
 use std::alloc::{AllocError, Global};
 use std::process::Abort;
 use std::test::Fail;
-use tk_fakes::FakeSink;
 use tk_text::{Format, FromRead, Sink, ToWrite, Weights, WriteFault, read_problem, write_matrix};
 
 /// Four cities, row by row.

@@ -1,7 +1,7 @@
 //! What is written to memory is read from there as the same value.
 ghost use Rattle.std.specs.Prelude.{◌≡◌, ◌⊎◌, map, pos, ◌≤ℤ◌, IfOk, IfErr};
 ghost use Rattle.std.specs.Int.RustNames.{unsigned_abs};
-ghost use Rattle.tk_text.specs.ReadBack.{IsSolution, IsTour};
+ghost use Rattle.tk_text.specs.ReadBack.{IsSolution, IsTourText};
 ghost use Rattle.tk_text.specs.declared.TextKind.TheVariants as kinds;
 
 use std::alloc::Global;
@@ -19,9 +19,9 @@ fn tour_again(
     cities: &[u32],
 ) -> Result<Result<TourText, TextFault>, WriteFault>
     requires { pos 0 ≤ℤ length }
-    ensures same { IsTour name.now (unsigned_abs length) cities.now
+    ensures same { IsTourText name.now (unsigned_abs length) cities.now
         → IfOk result (λ answer. IfOk answer (λ tour. tour.cities.items ≡ cities.now)) }
-    ensures refused { IsTour name.now (unsigned_abs length) cities.now
+    ensures refused { IsTourText name.now (unsigned_abs length) cities.now
         → IfOk result (λ answer. IfErr answer (λ f. (f.kind ≡ kinds.NoMemory) ⊎ (f.kind ≡ kinds.Read))) }
 {
     let mut sink = ToWrite::new(Vec::new(alloc));

@@ -1,7 +1,7 @@
 //! What is written of pieces, tours and routes, whole and to sinks that fail.
 
+use crate::fakes::FakeSink;
 use std::test::Fail;
-use tk_fakes::FakeSink;
 use tk_text::{Pen, Sink, ToWrite, WriteFault, write_solution, write_tour};
 
 // `abcde0/18446744073709551615: 7 10`

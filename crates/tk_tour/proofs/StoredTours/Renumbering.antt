@@ -4,6 +4,8 @@ use Rattle.std.proofs.Common.{arith, get_or}
 use Rattle.std.proofs.lemmas.List.{length-set, get_or-set_same, get_or-set_other}
 use Rattle.std.proofs.lemmas.Bool.{cases_lt, cases_eq}
 use Rattle.tk_tour.specs.Reversal.{IsInverse}
+use Rattle.tk_tour.specs.Tour.{IsTour}
+use Rattle.tk_tour.proofs.Tours.{HoldsOnce-tour, city_in_range, places_differ}
 
 -- the places before k and those from `last` on are told; each city stands once
 pub record Renumbering (order place : List ℕ) (k last : ℕ) : Type 0 where
@@ -11,6 +13,24 @@ pub record Renumbering (order place : List ℕ) (k last : ℕ) : Type 0 where
   pub cities : (i : ℕ) → i < length order → (0 < get_or order i 0) × (get_or order i 0 ≤ length order)
   pub apart : (i j : ℕ) → i < length order → j < length order → get_or order i 0 ≡ get_or order j 0 → i ≡ j
   pub told : (i : ℕ) → i < length order → (i < k) ⊎ (last ≤ i) → get_or place (get_or order i 0 - 1) 0 ≡ i
+
+-- no city of a tour is told its place yet
+pub Renumbering-none : (xs place : List ℕ) → IsTour (length xs) xs → length place ≡ length xs →
+    Renumbering xs place 0 (length xs)
+Renumbering-none xs place tour l =
+    let once = HoldsOnce-tour (length xs) xs tour in
+    record {
+      size = l;
+      cities = λ i li. city_in_range (length xs) xs i tour li;
+      apart = λ i j li lj e.
+          ⊎_elim (λ (a : i < j). absurd (places_differ xs i j once a lj e))
+          (λ (a : j ≤ i). ⊎_elim (λ (b : j < i). absurd (places_differ xs j i once b li (sym e)))
+          (λ (b : i ≤ j). omega (arith, a, b)) (cases_lt j i))
+          (cases_lt i j);
+      told =
+          λ i li side. absurd
+          (⊎_elim (λ (a : i < 0). omega (arith, a)) (λ (a : length xs ≤ i). omega (arith, a, li)) side);
+    }
 
 pub Renumbering-more : (order place : List ℕ) (k last : ℕ) → Renumbering order place k last → k < length order →
     Renumbering order (set place (get_or order k 0 - 1) k) (k + 1) last

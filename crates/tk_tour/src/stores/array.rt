@@ -141,7 +141,7 @@ impl UndoStore for ArrayTour {
 impl ArrayTour {
     ghost use Rattle.std.specs.Prelude.{OnOk, IfOk, IfErr};
     ghost use Rattle.tk_tour.specs.ArrayTours.{order_of, swaps_of, undo_swaps_of, flips_of, copied_of};
-    ghost use Rattle.tk_tour.specs.Fault.{IsFaultOf};
+    ghost use Rattle.tk_tour.specs.Fault.{HasTourFault};
     ghost use Rattle.tk_tour.specs.Printed.{IsPrintedForm};
 
     /// A tour that stands as the list does, with every count at 0.
@@ -154,7 +154,7 @@ impl ArrayTour {
         ensures order { IfOk result (λ t. order_of t ≡ cities.now) }
         ensures counts { IfOk result (λ t. (swaps_of t ≡ 0) × (undo_swaps_of t ≡ 0) × (flips_of t ≡ 0)
             × (copied_of t ≡ 0)) }
-        ensures fault { IfErr result (λ e. IsFaultOf cities.now e) }
+        ensures fault { IfErr result (λ e. HasTourFault cities.now e) }
     {
         let n = cities.len();
         if n < 2 || n > CITY_LIMIT as usize {

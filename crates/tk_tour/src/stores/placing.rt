@@ -5,7 +5,7 @@ ghost use Rattle.tk_tour.specs.Reversal.{IsInverse};
 ghost use Rattle.tk_tour.specs.Tour.{IsTour};
 
 /// Tells each city of a tour where it stands.
-pub(crate) fn place_each(order: &[u32], place: &mut [u32])
+pub fn place_each(order: &[u32], place: &mut [u32])
     requires size { length order.now ≤ CITY_LIMIT }
     requires tour { IsTour (length order.now) order.now }
     requires place_size { length place.old ≡ length order.now }

@@ -1,5 +1,5 @@
 //! A search goes the same way over a tour in an array and over one that is seen through segments.
-ghost use Rattle.std.specs.Prelude.{◌≡◌, ◌≤◌, IfOk, pos, length};
+ghost use Rattle.std.specs.Prelude.{◌≡◌, IfOk, pos, length};
 ghost use Rattle.tk_tour.specs.JournalTours.{cities_of};
 ghost use Rattle.tk_tour.specs.Tour.{tour_length};
 
@@ -13,8 +13,9 @@ use std::test::Fail;
 use tk_build::{Cuts, kick};
 use tk_descent::{Probe, Waking, descend};
 use tk_metric::{Metric, Near, Planes, near_scan};
+use tk_segments::SegmentTour;
 use tk_text::PlaneKind;
-use tk_tour::{ArrayTour, JournalTour, SegmentTour, TourStore, UndoStore, length};
+use tk_tour::{ArrayTour, JournalTour, TourStore, UndoStore, length};
 
 // The length of a tour as it stands.
 fn length_now<S: UndoStore, M: Metric>(

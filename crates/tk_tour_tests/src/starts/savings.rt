@@ -1,5 +1,4 @@
 //! Worked examples of the savings merges.
-ghost use Rattle.std.specs.Prelude.{◌≡◌};
 
 use std::alloc::Global;
 use std::process::Abort;

@@ -4,7 +4,8 @@ ghost use Rattle.std.specs.Prelude.{◌<◌, ◌≤◌};
 use std::alloc::Global;
 use std::process::Abort;
 use std::test::Fail;
-use tk_tour::{ArrayTour, Flip, JournalTour, SegmentTour, TourStore, UndoStore};
+use tk_segments::SegmentTour;
+use tk_tour::{ArrayTour, Flip, JournalTour, TourStore, UndoStore};
 
 // The next of the pseudorandom numbers below a limit.
 fn draw_below(state: &mut u64, limit: u32) -> u32

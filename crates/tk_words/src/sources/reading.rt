@@ -50,15 +50,10 @@ pub fn feed_piece<P: TextReader>(
 /// and so is a fault of the text, also where the source does not tell its bytes.
 ///
 /// # Errors
-/// The fault that the reader finds; that of a text which is longer than the limit; and its `cut_off` if the source
+/// The fault that the reader finds; that of a text which is longer than its limit; and its `cut_off` if the source
 /// fails.
-pub fn read_text<R: Source, P: TextReader>(
-    source: &mut R,
-    reader: P,
-    limit: u64,
-) -> Result<P::Out, P::Fault>
-    requires limit { (limit ≡ P.texts.limit) × (limit < 2 ^ 63) }
-    requires fresh { P.fed reader [] }
+pub fn read_text<R: Source, P: TextReader>(source: &mut R, reader: P) -> Result<P::Out, P::Fault>
+    requires { P.fed reader [] }
     ensures ok { IfOk result (λ v.
         IsAnswerWhereTold P.texts (R.left source.old) (R.left source.new) (Ok (P.view v))) }
     ensures err { IfErr result
@@ -68,6 +63,7 @@ pub fn read_text<R: Source, P: TextReader>(
     ensures intact { IsIntact P.texts (R.broken source.old) (R.broken source.new) result }
 {
     let mut reader = reader;
+    let limit = reader.limit();
     let mut buf = [0; BUFFER_SIZE];
     let mut count = 0;
     loop {

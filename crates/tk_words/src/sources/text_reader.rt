@@ -1,5 +1,5 @@
 //! What takes the bytes of a text.
-ghost use Rattle.std.specs.Prelude.{◌≡◌, ℕ, ◌+◌, ◌≤◌, ◌^◌, false, List, length, None};
+ghost use Rattle.std.specs.Prelude.{◌≡◌, ℕ, ◌+◌, ◌≤◌, ◌<◌, ◌^◌, false, List, length, None};
 ghost use Rattle.tk_words.specs.Texts.{Texts, OfSource, OfText, line_behind};
 ghost use Rattle.tk_words.specs.Taking.{HasTaken, HasEnded};
 
@@ -60,6 +60,10 @@ pub trait TextReader: Drop {
     fn value(self) -> Self::Out
         requires { complete self }
         ensures { view result ≡ held self };
+
+    /// The most bytes of a text.
+    fn limit(&self) -> u64
+        ensures { (result ≡ texts.limit) × (result < 2 ^ 63) };
 
     /// The fault of a text whose limit is before the byte for which it waits.
     fn too_long(&self) -> Self::Fault

@@ -4,7 +4,7 @@ use Rattle.std.specs.Prelude.{flat_map, codes, decimal}
 use Rattle.std.specs.List.{concat}
 use Rattle.tk_problem.specs.declared.limits.TheConstants.{ENTRY_LIMIT, ROUTE_LIMIT, TEXT_LIMIT}
 use Rattle.tk_writers.specs.TourWritten.{tour_head, tour_text}
-use Rattle.tk_writers.specs.SolutionWritten.{route_line, route_lines, solution_text}
+use Rattle.tk_writers.specs.SolutionWritten.{written_route, written_routes, solution_text}
 use Rattle.tk_writers.specs.Written.{line, spaced_numbers}
 use Rattle.tk_writers.proofs.Pieces.NumberLengths.{length_decimal, length_flat_map}
 
@@ -37,19 +37,19 @@ length_spaced (x ∷ xs) =
     omega (arith, length_decimal x, length-append (decimal x) (flat_map (λ y. codes " " ++ decimal y) xs))
 
 length_route_line : (number : ℕ) (customers : List ℕ) →
-    length (route_line number customers) ≤ 80 + length customers * 65
+    length (written_route number customers) ≤ 80 + length customers * 65
 length_route_line number customers =
     let digits = length_decimal number in
     let row = length_spaced customers in
     simp length-append (omega arith)
 
 length_route_lines : (number : ℕ) (rs : List (List ℕ)) →
-    length (route_lines number rs) ≤ length rs * 80 + length (concat rs) * 65
+    length (written_routes number rs) ≤ length rs * 80 + length (concat rs) * 65
 length_route_lines number [] = omega arith
 length_route_lines number (r ∷ rs) =
     let one = length_route_line number r in
     let rest = length_route_lines (number + 1) rs in
-    omega (arith, length-append (route_line number r) (route_lines (number + 1) rs), length-append r (concat rs))
+    omega (arith, length-append (written_route number r) (written_routes (number + 1) rs), length-append r (concat rs))
 
 pub length_solution_text : (routes : List (List ℕ)) (cost : ℕ) → length routes ≤ ROUTE_LIMIT →
     length (concat routes) ≤ ENTRY_LIMIT → length (solution_text routes cost) ≤ TEXT_LIMIT
@@ -58,6 +58,6 @@ length_solution_text routes cost few customers =
     let number = length_decimal cost in
     omega (
       arith,
-      length-append (route_lines 1 routes) (line (codes "Cost " ++ decimal cost)),
+      length-append (written_routes 1 routes) (line (codes "Cost " ++ decimal cost)),
       length-append (decimal cost) (10 ∷ []),
     )

@@ -9,7 +9,7 @@ use Rattle.std.specs.Io.KnownBytes.{Appends}
 use Rattle.std.proofs.KnownBytes.{Appends-trans}
 use Rattle.tk_writers.specs.declared.output.pen.Pen.{Pen}
 use Rattle.tk_writers.specs.declared.output.pen.WriteFault.{WriteFault}
-use Rattle.tk_writers.specs.Pens.{Holds, Puts, Ends}
+use Rattle.tk_writers.specs.Pens.{PenHolds, Puts, PenEnds}
 use Rattle.tk_writers.specs.Puts.{IsPut, Writes}
 
 -- n bytes of a page go out
@@ -64,7 +64,7 @@ pub Puts-then : {W : Type 0} (taken : W → Option (List ℕ)) (broken : W → B
     → Puts taken broken p q one → Puts taken broken q s two → Puts taken broken p s (one ++ two)
 Puts-then taken broken p q s one two first second = record {
   same = second.same ∙ first.same;
-  text = λ start failed text h. subst (λ l. Holds taken broken start failed l s) (append_assoc text one two)
+  text = λ start failed text h. subst (λ l. PenHolds taken broken start failed l s) (append_assoc text one two)
       (second.text start failed (text ++ one) (first.text start failed text h));
 }
 
@@ -81,7 +81,8 @@ Puts-added taken broken p q bytes same sink written stopped page = record {
 -- a text is put into a new pen, which ends then; x is what the sink is after the loan to the pen
 pub Writes-end : {W : Type 0} (taken : W → Option (List ℕ)) (broken : W → Bool) (v w x : W) (p q : Pen W)
     (r : Result (Unit {0}) WriteFault) (text : List ℕ)
-    → Holds taken broken (taken v) (broken v) [] p → Puts taken broken p q text → Ends taken broken q w r → x ≡ w →
+    → PenHolds taken broken (taken v) (broken v) [] p → Puts taken broken p q text →
+    PenEnds taken broken q w r → x ≡ w →
     Writes taken broken v x r text
 Writes-end taken broken v w x p q r text h puts ends is =
     rw is (ends (taken v) (broken v) text (puts.text (taken v) (broken v) [] h))

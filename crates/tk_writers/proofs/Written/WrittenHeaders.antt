@@ -9,8 +9,8 @@ use Rattle.tk_words.specs.declared.keyword.Keyword.TheVariants as words
 use Rattle.tk_problem_text.specs.declared.header_values.WeightFormat.TheVariants as weight_formats
 use Rattle.tk_problem.specs.declared.weights.Format as Layout
 use Rattle.tk_problem.specs.declared.weights.Format.TheVariants as formats
-use Rattle.tk_problem_text.specs.HeaderValues.{weight_format_of, number_of, name_of}
-use Rattle.tk_words.specs.Lex.{Line, Token, is_blank, behind, front, integer, trim, IsRun}
+use Rattle.tk_problem_text.specs.HeaderValues.{weight_format_of, header_number, name_of}
+use Rattle.tk_words.specs.Lex.{Line, Token, is_blank, behind, front, integer, trim, IsUnbroken}
 use Rattle.tk_writers.specs.MatrixText.{format_word}
 use Rattle.tk_lines.specs.Pieces.{Piece, Header, Section, Clean, pieces_at, stop}
 use Rattle.tk_problem_text.specs.Problem.{problem_format}
@@ -97,16 +97,16 @@ name_passes name is =
 pub type_passes : (name : List ℕ) → stop problem_format (after_1 name) (headed words.Type (codes " : TSP") 2) ≡ None
 type_passes name = refl
 
-behind_run : (ds : List ℕ) → IsRun ds → behind is_blank ds ≡ ds
+behind_run : (ds : List ℕ) → IsUnbroken ds → behind is_blank ds ≡ ds
 behind_run [] run = absurd run
 behind_run (b ∷ bs) run = rw (run_head b bs run) refl
 
-front_run : (ds : List ℕ) → IsRun ds → front not_blank ds ≡ ds
+front_run : (ds : List ℕ) → IsUnbroken ds → front not_blank ds ≡ ds
 front_run [] run = absurd run
 front_run (b ∷ []) run = rw run refl
 front_run (b ∷ c ∷ ds) run = let first = run.0 in rw first (ap (λ (bs : List ℕ). b ∷ bs) (front_run (c ∷ ds) run.1))
 
-pub first_word_run : (ds : List ℕ) → IsRun ds → first_word (codes " : " ++ ds) ≡ ds
+pub first_word_run : (ds : List ℕ) → IsUnbroken ds → first_word (codes " : " ++ ds) ≡ ds
 first_word_run ds run = ap (front not_blank) (behind_run ds run) ∙ front_run ds run
 
 module _ (n : ℕ) (low : 2 ≤ n) (high : n ≤ TABLE_LIMIT) where
@@ -123,7 +123,7 @@ module _ (n : ℕ) (low : 2 ≤ n) (high : n ≤ TABLE_LIMIT) where
       let number = size_number in
       rw (short, number, above, below) refl
 
-  pub size_read : number_of 2 CITY_LIMIT (size_value n) ≡ Some n
+  pub size_read : header_number 2 CITY_LIMIT (size_value n) ≡ Some n
   size_read =
       let above : leb 2 n ≡ true = le-leb _ _ low in
       let below : leb n CITY_LIMIT ≡ true = le-leb _ _ (omega arith) in

@@ -7,7 +7,7 @@ use Rattle.std.specs.List.{AllByRecursion}
 use Rattle.std.proofs.lemmas.Fmt.{decimal_by_steps, length-decimal-le}
 use Rattle.std.proofs.lemmas.Bool.{ne_eqb, le-leb, le-ltb}
 use Rattle.std.proofs.lemmas.List.{append-nil}
-use Rattle.tk_words.specs.Lex.{Token, is_blank, is_empty, digits, integer, tokens_of, IsRun}
+use Rattle.tk_words.specs.Lex.{Token, is_blank, is_empty, digits, integer, tokens_of, IsUnbroken}
 use Rattle.tk_writers.specs.Written.{spaced_numbers}
 use Rattle.tk_lines.proofs.Sections.MiddleOfSection.{token, tokens_of-run, tokens_of-last}
 use Rattle.tk_lines.proofs.Lines.{OnOneLine}
@@ -89,12 +89,12 @@ integer_decimal n small = integer_spelled n (decimal n) (spelled n small) (short
 
 -- ---- runs and lines
 
-digits_run : (ds : List ℕ) → AllByRecursion IsDigit ds → is_empty ds ≡ false → IsRun ds
+digits_run : (ds : List ℕ) → AllByRecursion IsDigit ds → is_empty ds ≡ false → IsUnbroken ds
 digits_run [] all some = absurd (let k = some in cc)
 digits_run (b ∷ []) all some = digit_solid b all.0
 digits_run (b ∷ c ∷ ds) all some = (digit_solid b all.0, digits_run (c ∷ ds) all.1 refl)
 
-pub decimal_run : (n : ℕ) → IsShort n → IsRun (decimal n)
+pub decimal_run : (n : ℕ) → IsShort n → IsUnbroken (decimal n)
 decimal_run n small = let s = spelled n small in digits_run (decimal n) s.all s.some
 
 pub one_line_append : (xs ys : List ℕ) → OnOneLine xs → OnOneLine ys → OnOneLine (xs ++ ys)

@@ -51,7 +51,8 @@ on_line-items formats.LowerDiagCol n k h =
     same_range _ _ _ _ _ (on_line-from_k n (suc k) formats.LowerDiagCol (λ m. refl) (omega arith) h) refl (omega arith)
 
 value-same : (f : Format) (table : ℕ → ℕ → ℕ) (k m : ℕ) →
-    table (Written.place f (suc k) (suc m)).0 (Written.place f (suc k) (suc m)).1 ≡ at_place table (place_on f k m)
+    table (Written.entry_place f (suc k) (suc m)).0 (Written.entry_place f (suc k) (suc m)).1 ≡ at_place table
+    (place_on f k m)
 value-same formats.FullMatrix table k m = refl
 value-same formats.UpperRow table k m = refl
 value-same formats.LowerRow table k m = refl
@@ -63,16 +64,16 @@ value-same formats.UpperDiagCol table k m = refl
 value-same formats.LowerDiagCol table k m = refl
 
 values-from : (f : Format) (table : ℕ → ℕ → ℕ) (k a c : ℕ)
-    → map (λ p. table p.0 p.1) (map (Written.place f (suc k)) (range_with_len (suc a) c)) ≡ map (at_place table)
+    → map (λ p. table p.0 p.1) (map (Written.entry_place f (suc k)) (range_with_len (suc a) c)) ≡ map (at_place table)
     (map (place_on f k) (range_with_len a c))
 values-from f table k a zero = refl
 values-from f table k a (suc c) =
     let next : suc a + 1 ≡ suc (a + 1) = omega arith in
-    ap (λ v. v ∷ map (λ p. table p.0 p.1) (map (Written.place f (suc k)) (range_with_len (suc a + 1) c)))
+    ap (λ v. v ∷ map (λ p. table p.0 p.1) (map (Written.entry_place f (suc k)) (range_with_len (suc a + 1) c)))
     (value-same f table k a)
     ∙ ap
     (λ b. at_place table (place_on f k a)
-    ∷ map (λ p. table p.0 p.1) (map (Written.place f (suc k)) (range_with_len b c))) next
+    ∷ map (λ p. table p.0 p.1) (map (Written.entry_place f (suc k)) (range_with_len b c))) next
     ∙ ap (λ vs. at_place table (place_on f k a) ∷ vs) (values-from f table k (a + 1) c)
 
 -- the numbers of a line, and of all lines
@@ -85,7 +86,7 @@ rows_of n table f = map (row_values n table f) (range_with_len 0 n)
 line_values : (f : Format) (n : ℕ) (table : ℕ → ℕ → ℕ) (k : ℕ) → k < n →
     map (λ p. table p.0 p.1) (line_places n f (suc k)) ≡ row_values n table f k
 line_values f n table k h =
-    ap (λ ms. map (λ p. table p.0 p.1) (map (Written.place f (suc k)) ms)) (on_line-items f n k h)
+    ap (λ ms. map (λ p. table p.0 p.1) (map (Written.entry_place f (suc k)) ms)) (on_line-items f n k h)
     ∙ values-from f table k (first_item f k) (end_item f n k - first_item f k)
 
 -- the lines are those of the rows, from the first of both on

@@ -93,13 +93,13 @@ fn send_last<W: Sink>(
 
 impl<'a, W: Sink> Pen<'a, W> {
     ghost use Rattle.std.specs.Prelude.{decimal};
-    ghost use Rattle.tk_writers.specs.Pens.{Holds, Puts, Ends};
+    ghost use Rattle.tk_writers.specs.Pens.{PenHolds, Puts, PenEnds};
     ghost use Rattle.tk_writers.specs.Written.{spaced_numbers};
 
     /// A pen that has written nothing.
     pub fn new(sink: &'a mut W) -> Pen<'a, W>
         ensures same { result.sink.ghost_name ≡ sink.entry.ghost_name }
-        ensures empty { Holds W.taken W.broken (W.taken sink.old) (W.broken sink.old) [] result }
+        ensures empty { PenHolds W.taken W.broken (W.taken sink.old) (W.broken sink.old) [] result }
     {
         Pen {
             sink,
@@ -183,7 +183,7 @@ impl<'a, W: Sink> Pen<'a, W> {
     /// # Errors
     /// That a write failed, and how many bytes had gone out by then.
     pub fn end(self) -> Result<(), WriteFault>
-        ensures { Ends W.taken W.broken self.entry self.exit.0.now result }
+        ensures { PenEnds W.taken W.broken self.entry self.exit.0.now result }
     {
         let Pen {
             sink,

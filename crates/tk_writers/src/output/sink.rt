@@ -34,12 +34,12 @@ pub struct ToWrite<W> {
 }
 
 impl<W: Write> ToWrite<W> {
-    ghost use Rattle.tk_writers.specs.Sinks.{has_failed};
+    ghost use Rattle.tk_writers.specs.Sinks.{has_write_failed};
 
     /// A sink that has not failed.
     pub fn new(inner: W) -> Self
         ensures inner { result.inner ≡ inner }
-        ensures fresh { has_failed result ≡ false }
+        ensures fresh { has_write_failed result ≡ false }
     {
         ToWrite {
             inner,
@@ -49,11 +49,11 @@ impl<W: Write> ToWrite<W> {
 }
 
 impl<W: Write> Sink for ToWrite<W> {
-    ghost use Rattle.tk_writers.specs.Sinks.{has_failed};
+    ghost use Rattle.tk_writers.specs.Sinks.{has_write_failed};
 
     ghost taken = { λ s. W.contents s.inner };
 
-    ghost broken = { has_failed };
+    ghost broken = { has_write_failed };
 
     fn write(&mut self, piece: &[u8]) -> Result<usize, Failed> {
         match self.inner.write(piece) {

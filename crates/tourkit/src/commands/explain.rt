@@ -5,7 +5,8 @@ use std::alloc::Global;
 use std::fs;
 use std::io::{Read, Write};
 use std::process::ExitCode;
-use tk_explain::{FileFault, fault_page, file_page, is_number, line_page, unread_fault};
+use tk_diagnosis::FileFault;
+use tk_explain::{fault_page, file_page, is_number, line_page, unread_fault};
 use tk_problem::TEXT_LIMIT;
 
 /// Why a file was not read.

@@ -2,8 +2,8 @@
 use crate::input::open;
 use crate::report;
 use std::process::ExitCode;
-use tk_command_line::ListLength;
 use tk_engines::near_engine;
+use tk_near::ListLength;
 use tk_words::FromRead;
 use tk_writers::ToWrite;
 
@@ -15,7 +15,7 @@ pub fn near_command(rt: &HostRuntime, file: &str, length: ListLength) -> ExitCod
     };
     let mut problem = FromRead::new(problem);
     let mut out = ToWrite::new(rt.stdout());
-    match near_engine(rt.alloc(), &mut problem, length.cities(), &mut out) {
+    match near_engine(rt.alloc(), &mut problem, length.cities, &mut out) {
         Ok(()) => ExitCode::SUCCESS,
         Err(fault) => report::stopped(rt, file, &fault),
     }

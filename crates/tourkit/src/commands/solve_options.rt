@@ -6,9 +6,8 @@ use std::fs::File;
 use std::io::Read;
 use std::process::ExitCode;
 use tk_command_line::{STANDARD, SearchOptions};
-use tk_explain::split_word;
-use tk_params::{Key, ParamKind, Params, ParamsBuilder, key_of};
-use tk_words::spelled;
+use tk_diagnosis::begins_with_key;
+use tk_params::{Key, ParamKind, Params, ParamsBuilder};
 
 /// How much is looked at to see whether a file is a parameter file.
 const HEAD: usize = 4096;
@@ -74,16 +73,4 @@ pub fn is_parameter_file(rt: &HostRuntime, name: &str) -> bool {
         Ok(count) => begins_with_key(head.get(..count).unwrap_or(&[])),
         Err(_) => false,
     }
-}
-
-/// Whether the first line that is not blank and no comment begins with a key.
-fn begins_with_key(text: &[u8]) -> bool {
-    for line in text.split(|byte| *byte == b'\n') {
-        let line = line.trim_ascii_start();
-        let word = split_word(line).0;
-        if !line.is_empty() && line[0] != b'#' && !spelled(word, b"COMMENT") {
-            return key_of(word).is_some();
-        }
-    }
-    false
 }

@@ -2,7 +2,8 @@ use Rattle.std.proofs.Common.{◌∙◌, ap, sym, rules, tests}
 use Rattle.std.specs.List.{list_any}
 use Rattle.std.proofs.lemmas.Iterator.{YieldsList-from_slice}
 use Rattle.std.proofs.lemmas.Iterator.Search.{any_from_yields_List}
-use Rattle.tk_explain.specs.Faults.{is_named, named}
+use Rattle.tk_explain.specs.Faults.{named}
+use Rattle.tk_explain.specs.FaultWords.{is_named}
 use Rattle.tk_explain.proofs.Anys.{list_any-map}
 use Rattle.tk_explain.proofs.by_word.is_fault.Goals as goal
 

@@ -1,6 +1,6 @@
 -- all bytes before this one are zeros
 use Rattle.std.proofs.Common.{◌≡◌, drop}
-use Rattle.tk_explain.specs.Faults.{without_zeros}
+use Rattle.tk_explain.specs.FaultWords.{without_zeros}
 use Rattle.tk_explain.proofs.by_word.without_zeros.Given as goal
 
 abbrev pub invariant-loop-i : goal.invariant-loop-i

@@ -4,7 +4,7 @@ use Rattle.std.specs.Str.{chars}
 use Rattle.std.specs.Str.Chunks.{utf8_chunks_rest}
 use Rattle.tk_writers.specs.Pens.{Puts}
 use Rattle.tk_writers.proofs.Pieces.Putting.{Puts-then}
-use Rattle.tk_picture.specs.Names.{shown}
+use Rattle.tk_picture.specs.Names.{shown_byte}
 use Rattle.tk_picture.proofs.Shown.{shown_chunk, shown_empty, shown_last}
 use Rattle.tk_picture.proofs.name.put_name.Goals as goal
 
@@ -17,7 +17,7 @@ loop-chunk-preserved-then-not-is_empty g c =
     let utf8 : IsUtf8 valid = subst IsUtf8 c.valid.ensures c.valid.utf8 in
     let text = shown_chunk _ _ _ _ steps.0 steps.3.0 steps.3.1 some utf8 in
     record {
-      done = (before.done ++ flat_map shown (chars valid)) ++ (0xEF ∷ 0xBF ∷ 0xBD ∷ []);
+      done = (before.done ++ flat_map shown_byte (chars valid)) ++ (0xEF ∷ 0xBF ∷ 0xBD ∷ []);
       puts = Puts-then _ _ _ _ _ _ _ (Puts-then _ _ _ _ _ _ _ before.puts (rw c.valid.ensures at c.put_text.ensures))
           (rw c.as_bytes.ensures.value at c.put.ensures);
       rest = simp append_assoc (rw text at before.rest);
@@ -32,7 +32,7 @@ loop-chunk-preserved g c =
     let utf8 : IsUtf8 valid = subst IsUtf8 c.valid.ensures c.valid.utf8 in
     let text = shown_last _ _ _ _ steps.0 steps.3.0 none (steps.2 none) utf8 in
     record {
-      done = before.done ++ flat_map shown (chars valid);
+      done = before.done ++ flat_map shown_byte (chars valid);
       puts = Puts-then _ _ _ _ _ _ _ before.puts (rw c.valid.ensures at c.put_text.ensures);
       rest = rw append_assoc (rw text at before.rest);
     }

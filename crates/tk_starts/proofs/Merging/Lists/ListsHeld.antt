@@ -8,7 +8,7 @@ use Rattle.std.proofs.lemmas.List.Sums.{sum_by-cons}
 use Rattle.tk_distance.specs.Cities.{IsCity}
 use Rattle.tk_tour.specs.Tour.{IsTour, occurrences}
 use Rattle.tk_tour.proofs.Tours.{occurrences-other, occurrences-same, occurrences-nil}
-use Rattle.tk_starts.specs.Holding.{holds, IsDistinct}
+use Rattle.tk_distance.specs.Holding.{holds, IsDistinct}
 use Rattle.tk_starts.specs.Joints.{part, part_load, IsPartPath, ArePartPaths}
 use Rattle.tk_starts.specs.declared.merges.pairs.Pair.{Pair}
 use Rattle.tk_starts.proofs.Merging.Paths.PathLists.{holds-here, holds-later, holds-cases, holds-left, holds-right}

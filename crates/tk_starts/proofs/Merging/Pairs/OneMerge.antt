@@ -2,7 +2,7 @@
 use Rattle.std.proofs.Common.{◌≡◌, ℕ, ◌+◌, ◌<◌, true, List, [], ◌∷◌, length, map, get_or, refl, sym, ◌∙◌, arith, ⊎_elim}
 use Rattle.std.proofs.Common.{subst}
 use Rattle.std.specs.List.{AllPairs, Contains}
-use Rattle.tk_starts.specs.Holding.{holds}
+use Rattle.tk_distance.specs.Holding.{holds}
 use Rattle.tk_starts.specs.Joints.{joints, IsPartPath, first_of, ArePartPaths}
 use Rattle.tk_starts.specs.SavingPairs.{Before}
 use Rattle.tk_starts.specs.SavingsMerges.{PairsAgree, ListsAgree}

@@ -12,8 +12,8 @@ use Rattle.std.proofs.lemmas.Bool.{eqb-true, eq-eqb, or_cases, or_left, or_right
 use Rattle.std.proofs.lemmas.Bool.{le-ltb, ne_eqb, and_parts}
 use Rattle.std.proofs.lemmas.Bool.Decides.{nat_tests}
 use Rattle.std.specs.declared.cmp.Ordering.{Ordering}
-use Rattle.tk_starts.specs.Holding.{holds}
-use Rattle.tk_starts.specs.SavingPairs.{IsPair, IsCandidate, IsOf, Before}
+use Rattle.tk_distance.specs.Holding.{holds}
+use Rattle.tk_starts.specs.SavingPairs.{IsPair, IsCandidate, IsPairOf, Before}
 use Rattle.tk_starts.specs.declared.merges.pairs.Pair.{Pair}
 
 pub holds-at : (xs : List ℕ) (k : ℕ) → k < length xs → holds xs (get_or xs k 0) ≡ true
@@ -46,7 +46,8 @@ pub only_one : {X : Type 0} (q p : X) → Contains (q ∷ []) p → q ≡ p
 only_one q p (zero, h, e) = e
 only_one q p (suc k, h, e) = absurd (omega (arith, h))
 
-pub near_one : (dist : ℕ → ℕ → ℕ) (near : ℕ → List ℕ) (n hub c d : ℕ) (p : Pair) → IsPair dist n hub p → IsOf c d p →
+pub near_one : (dist : ℕ → ℕ → ℕ) (near : ℕ → List ℕ) (n hub c d : ℕ) (p : Pair) → IsPair dist n hub p →
+    IsPairOf c d p →
     holds (near c) d ≡ true → IsCandidate dist near n hub p
 near_one dist near n hub c d p h o m = (
   h,
@@ -68,17 +69,17 @@ Sound dist near n hub pairs = (p : Pair) → Contains pairs p → IsCandidate di
 
 -- the pairs of the cities before c with their near ones
 abbrev pub Earlier : (ℕ → ℕ → ℕ) → (ℕ → List ℕ) → ℕ → ℕ → ℕ → List Pair → Type 0
-Earlier dist near n hub c pairs = (p : Pair) → IsPair dist n hub p → (a b : ℕ) → IsOf a b p → a < c →
+Earlier dist near n hub c pairs = (p : Pair) → IsPair dist n hub p → (a b : ℕ) → IsPairOf a b p → a < c →
     holds (near a) b ≡ true → Contains pairs p
 
 -- the pairs of c with the first m of its near ones
 abbrev pub Here : (ℕ → ℕ → ℕ) → ℕ → ℕ → ℕ → List ℕ → ℕ → List Pair → Type 0
-Here dist n hub c items m pairs = (p : Pair) → IsPair dist n hub p → (k : ℕ) → k < m → IsOf c (get_or items k 0) p →
+Here dist n hub c items m pairs = (p : Pair) → IsPair dist n hub p → (k : ℕ) → k < m → IsPairOf c (get_or items k 0) p →
     Contains pairs p
 
 pub sound_more : (dist : ℕ → ℕ → ℕ) (near : ℕ → List ℕ) (n hub c d : ℕ) (pairs pairs' : List Pair) (q : Pair) →
     IsPermutation (pairs ++ q ∷ []) pairs' →
-    Sound dist near n hub pairs → IsPair dist n hub q × IsOf c d q → holds (near c) d ≡ true →
+    Sound dist near n hub pairs → IsPair dist n hub q × IsPairOf c d q → holds (near c) d ≡ true →
     Sound dist near n hub pairs'
 sound_more dist near n hub c d pairs pairs' q e s h m p k =
     ⊎_elim (s p)
@@ -93,18 +94,18 @@ kept pairs pairs' q p e k = Contains-permutation _ _ p e (Contains-append_left p
 pub here_more : (dist : ℕ → ℕ → ℕ) (n hub c : ℕ) (items : List ℕ) (m : ℕ) (pairs pairs' : List Pair) (q : Pair) →
     IsPermutation (pairs ++ q ∷ []) pairs' →
     Here dist n hub c items m pairs →
-    ((p : Pair) → IsPair dist n hub p → IsOf c (get_or items m 0) p → Some q ≡ Some p) →
+    ((p : Pair) → IsPair dist n hub p → IsPairOf c (get_or items m 0) p → Some q ≡ Some p) →
     Here dist n hub c items (m + 1) pairs'
 here_more dist n hub c items m pairs pairs' q e s all p h k l o =
     ⊎_elim
     (λ w. kept pairs pairs' q p e (s p h k w o))
     (λ w. let t : k ≡ m = omega (arith, l, w) in
     Contains-permutation _ _ p e
-    (last_one pairs q p (some_same q p (all p h (subst (λ (x : ℕ). IsOf c (get_or items x 0) p) t o)))))
+    (last_one pairs q p (some_same q p (all p h (subst (λ (x : ℕ). IsPairOf c (get_or items x 0) p) t o)))))
     (cases_lt k m)
 
 pub here_same : (dist : ℕ → ℕ → ℕ) (n hub c : ℕ) (items : List ℕ) (m : ℕ) (pairs : List Pair) →
-    Here dist n hub c items m pairs → ((p : Pair) → IsPair dist n hub p → IsOf c (get_or items m 0) p → ⊥) →
+    Here dist n hub c items m pairs → ((p : Pair) → IsPair dist n hub p → IsPairOf c (get_or items m 0) p → ⊥) →
     Here dist n hub c items (m + 1) pairs
 here_same dist n hub c items m pairs s never p h k l o =
     ⊎_elim
@@ -113,7 +114,7 @@ here_same dist n hub c items m pairs s never p h k l o =
       arith,
       l,
       w,
-    ) in absurd (never p h (subst (λ (x : ℕ). IsOf c (get_or items x 0) p) t o)))
+    ) in absurd (never p h (subst (λ (x : ℕ). IsPairOf c (get_or items x 0) p) t o)))
     (cases_lt k m)
 
 -- the pair of c and an earlier city that has c near it was found there
@@ -125,7 +126,7 @@ here_found dist near n hub c items m pairs s here before held p h k l o =
     (λ w. here p h k w o)
     (λ w. let t : k ≡ m = omega (arith, l, w) in
     s p h (get_or items m 0) c
-    (⊎_elim (λ u. inr u) (λ u. inl u) (subst (λ (x : ℕ). IsOf c (get_or items x 0) p) t o)) before held)
+    (⊎_elim (λ u. inr u) (λ u. inl u) (subst (λ (x : ℕ). IsPairOf c (get_or items x 0) p) t o)) before held)
     (cases_lt k m)
 
 pub earlier_more : (dist : ℕ → ℕ → ℕ) (near : ℕ → List ℕ) (n hub c : ℕ) (items : List ℕ) (m : ℕ) (pairs : List Pair) →
@@ -140,7 +141,7 @@ earlier_more dist near n hub c items m pairs e len s here p h a b o l k =
     place items b
     (subst (λ (x : List ℕ). holds x b ≡ true) (sym e) (subst (λ (x : ℕ). holds (near x) b ≡ true) t k)) in
     here p h v.0 (omega (arith, v.1, len))
-    (subst (λ (x : ℕ). IsOf c x p) (sym v.2) (subst (λ (x : ℕ). IsOf x b p) t o)))
+    (subst (λ (x : ℕ). IsPairOf c x p) (sym v.2) (subst (λ (x : ℕ). IsPairOf x b p) t o)))
     (cases_lt a c)
 
 pub all_found : (dist : ℕ → ℕ → ℕ) (near : ℕ → List ℕ) (n hub c : ℕ) (pairs : List Pair) (p : Pair) → n < c →

@@ -6,10 +6,11 @@ use Rattle.std.proofs.lemmas.Bool.{eqb-true, eq-eqb, ne_eqb, or_cases, or_left, 
 use Rattle.std.proofs.lemmas.Bool.{cond-false, leb-true, and_parts, not-true}
 use Rattle.tk_distance.specs.Cities.{IsCity}
 use Rattle.tk_starts.specs.Joints.{part, part_load, joints_at, may_join, joints, IsChain}
-use Rattle.tk_starts.specs.PathEnds.{Follows, IsLinked, IsEnd, AreEnds, IsSetAt, IsWithin}
+use Rattle.tk_starts.specs.PathEnds.{Follows, IsLinked, IsEnd, AreEnds, IsSetAt, IsPairWithin}
 use Rattle.std.proofs.lemmas.List.{drop_more, drop_all}
 use Rattle.tk_starts.specs.declared.merges.pairs.Pair.{Pair}
-use Rattle.tk_starts.proofs.Merging.Paths.EndsJoined.{AreEnds-joined, other_end, apart_test, may_join-test}
+use Rattle.tk_starts.proofs.Merging.Paths.EndsJoined.{AreEnds-joined, other_end}
+use Rattle.tk_starts.proofs.Merging.Paths.JoinTest.{apart_test, may_join-test}
 
 part_load-none : (load : ℕ → ℕ) (n c : ℕ) → n < c → part_load load [] n c ≡ 0
 unfolding part_load part
@@ -136,7 +137,7 @@ at_next pairs k p l is = drop_more pairs k p l ∙ ap (λ (x : Pair). x ∷ drop
 
 pub taken_step : (n : ℕ) (load : ℕ → ℕ) (capacity : ℕ) (pairs : List Pair) (k : ℕ) (p : Pair)
     (one two other weight one' two' other' weight' : ℕ → ℕ) → k < length pairs → p ≡ get_or pairs k p →
-    IsWithin n p → true ≡ test_at one two other weight capacity p →
+    IsPairWithin n p → true ≡ test_at one two other weight capacity p →
     IsLinked p.i p.j one two one' two' →
     IsSetAt (other p.i) (other p.j) (other p.j) (other p.i) other other' →
     IsSetAt (other p.i) (weight p.i + weight p.j) (other p.j) (weight p.i + weight p.j) weight weight' →
@@ -162,7 +163,7 @@ taken_step n load capacity pairs k p one two other weight one' two' other' weigh
 
 pub left_step : (n : ℕ) (load : ℕ → ℕ) (capacity : ℕ) (pairs : List Pair) (k : ℕ) (p : Pair)
     (one two other weight : ℕ → ℕ) → k < length pairs → p ≡ get_or pairs k p →
-    IsWithin n p → false ≡ test_at one two other weight capacity p →
+    IsPairWithin n p → false ≡ test_at one two other weight capacity p →
     Going n load capacity pairs k one two other weight → Going n load capacity pairs (k + 1) one two other weight
 left_step n load capacity pairs k p one two other weight l is w t g =
     let u = may_join-test n load g.0 one two other weight g.2 p w.0 w.1 w.2 capacity in

@@ -5,9 +5,9 @@ use Rattle.std.specs.List.{All, Contains, flat_map}
 use Rattle.std.proofs.lemmas.Bool.{cond_both}
 use Rattle.std.proofs.lemmas.List.Elements.{All-contains_itself}
 use Rattle.tk_distance.specs.Cities.{IsCity}
-use Rattle.tk_starts.specs.SavingPairs.{AreCandidates}
+use Rattle.tk_starts.specs.SavingPairs.{AreSavingPairs}
 use Rattle.tk_starts.specs.Joints.{joints_at, may_join, joints, ArePartPaths}
-use Rattle.tk_starts.specs.PathEnds.{IsWithin, AreJoined, load_of}
+use Rattle.tk_starts.specs.PathEnds.{IsPairWithin, AreJoined, load_of}
 use Rattle.std.proofs.lemmas.List.{take_all}
 use Rattle.tk_starts.specs.SavingsMerges.{AreSavingsLists}
 use Rattle.tk_starts.specs.declared.merges.pairs.Pair.{Pair}
@@ -29,13 +29,13 @@ unfolding joints_at
 joints_at-none c = refl
 
 pub hub_apart : (dist : ℕ → ℕ → ℕ) (near : ℕ → List ℕ) (n hub : ℕ) (pairs : List Pair) (load : ℕ → ℕ) (capacity : ℕ) →
-    AreCandidates dist near n hub pairs → joints_at (joints load n capacity [] pairs) hub ≡ 0
+    AreSavingPairs dist near n hub pairs → joints_at (joints load n capacity [] pairs) hub ≡ 0
 hub_apart dist near n hub pairs load capacity a =
     joints_apart load n capacity hub pairs [] (joints_at-none hub) (λ p c. let h = ((a.all p).0 c).0 in
     (λ e. h.first.1 (sym e), λ e. h.second.1 (sym e)))
 
 pub all_within : (dist : ℕ → ℕ → ℕ) (near : ℕ → List ℕ) (n hub m : ℕ) (pairs : List Pair) → m ≡ n →
-    AreCandidates dist near n hub pairs → All (IsWithin m) pairs
+    AreSavingPairs dist near n hub pairs → All (IsPairWithin m) pairs
 all_within dist near n hub m pairs e a k d l =
     let h = ((a.all _).0 (All-contains_itself pairs k d l)).0 in (
       subst (λ (x : ℕ). IsCity x (get_or pairs k d).i) (sym e) h.first.0,
@@ -49,7 +49,7 @@ flat_map-map f (x ∷ xs) = ap (λ (z : List ℕ). f x ++ z) (flat_map-map f xs)
 
 pub finished : (dist : ℕ → ℕ → ℕ) (near : ℕ → List ℕ) (n hub m k : ℕ) (pairs xs : List Pair) (load : ℕ → ℕ)
     (capacity : ℕ) (a b c d : List ℕ) (lists : List (List ℕ)) → m ≡ n → k ≡ n → xs ≡ pairs →
-    AreCandidates dist near n hub pairs → AreJoined m load (joints load m capacity [] xs) a b c d →
+    AreSavingPairs dist near n hub pairs → AreJoined m load (joints load m capacity [] xs) a b c d →
     ((load : ℕ → ℕ) (E : List Pair) → AreJoined k load E a b c d → joints_at E hub ≡ 0 → ArePartPaths k hub E lists) →
     AreSavingsLists dist near n hub load capacity lists
 finished dist near n hub m k pairs xs load capacity a b c d lists e f g h j r =

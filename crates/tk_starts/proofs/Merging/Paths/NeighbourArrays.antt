@@ -6,9 +6,10 @@ use Rattle.std.specs.List.{All}
 use Rattle.std.proofs.lemmas.Bool.{eqb-true, eq-eqb, ne_eqb, or_cases, both_ways, cases_eq, cond-true, cond-false}
 use Rattle.std.proofs.lemmas.Bool.{cond_both, and_parts}
 use Rattle.tk_starts.specs.Joints.{may_join, joints, joined}
-use Rattle.tk_starts.specs.PathEnds.{AreBoth, IsLinked, IsEnd, AreEnds, IsSetAt, IsWithin}
+use Rattle.tk_starts.specs.PathEnds.{AreBoth, IsLinked, IsEnd, AreEnds, IsSetAt, IsPairWithin}
 use Rattle.tk_starts.specs.declared.merges.pairs.Pair.{Pair}
-use Rattle.tk_starts.proofs.Merging.Paths.EndsJoined.{AreEnds-joined, may_join-test}
+use Rattle.tk_starts.proofs.Merging.Paths.EndsJoined.{AreEnds-joined}
+use Rattle.tk_starts.proofs.Merging.Paths.JoinTest.{may_join-test}
 use Rattle.tk_starts.proofs.Merging.Pairs.PairsMerged.{AreEnds-single, IsTaken-from}
 use Rattle.tk_starts.proofs.Merging.Paths.PathLists.{AreBoth-flip, IsLinked-from_links}
 
@@ -158,7 +159,7 @@ HasArrays-none n load = record {
   beside = λ b c h. absurd (both_ways _ refl h);
 }
 
-HasArrays-joined : (n : ℕ) (load : ℕ → ℕ) (capacity : ℕ) (E : List Pair) (p : Pair) → IsWithin n p →
+HasArrays-joined : (n : ℕ) (load : ℕ → ℕ) (capacity : ℕ) (E : List Pair) (p : Pair) → IsPairWithin n p →
     may_join load n capacity E p ≡ true → HasArrays n load E → HasArrays n load (p ∷ E)
 HasArrays-joined n load capacity E p w h k =
     let t = may_join-test n load E k.one k.two k.other k.weight k.ends p w.0 w.1 w.2 capacity ∙ h in
@@ -185,7 +186,7 @@ HasArrays-joined n load capacity E p w h k =
       beside = AreBeside-joined E p k.one k.two a.0 a.1.0 a.1.1 v.first v.second w.0.0 w.1.0 k.beside;
     }
 
-HasArrays-more : (n : ℕ) (load : ℕ → ℕ) (capacity : ℕ) (pairs E : List Pair) → All (IsWithin n) pairs →
+HasArrays-more : (n : ℕ) (load : ℕ → ℕ) (capacity : ℕ) (pairs E : List Pair) → All (IsPairWithin n) pairs →
     HasArrays n load E → HasArrays n load (joints load n capacity E pairs)
 unfolding joints
 HasArrays-more n load capacity [] E w k = k
@@ -194,6 +195,6 @@ HasArrays-more n load capacity (p ∷ pairs) E w k =
     (cond_both (may_join load n capacity E p) (p ∷ E) E (λ (x : List Pair). HasArrays n load x)
     (λ h. HasArrays-joined n load capacity E p (w 0 p (omega arith)) h k) (λ _. k))
 
-pub HasArrays-joints : (n : ℕ) (load : ℕ → ℕ) (capacity : ℕ) (pairs : List Pair) → All (IsWithin n) pairs →
+pub HasArrays-joints : (n : ℕ) (load : ℕ → ℕ) (capacity : ℕ) (pairs : List Pair) → All (IsPairWithin n) pairs →
     HasArrays n load (joints load n capacity [] pairs)
 HasArrays-joints n load capacity pairs w = HasArrays-more n load capacity pairs [] w (HasArrays-none n load)

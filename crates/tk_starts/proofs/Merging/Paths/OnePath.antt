@@ -4,7 +4,7 @@ use Rattle.std.proofs.Common.{◌⊎◌, ◌↔◌, arith, ⊎_elim, subst}
 use Rattle.std.proofs.lemmas.Bool.{or_parts, false_from_ne_true, both_ways}
 use Rattle.std.proofs.Math.Bool.{or_comm}
 use Rattle.tk_distance.specs.Cities.{IsCity}
-use Rattle.tk_starts.specs.Holding.{holds, IsDistinct}
+use Rattle.tk_distance.specs.Holding.{holds, IsDistinct}
 use Rattle.tk_starts.specs.Joints.{part, joined, IsChain, IsPartPath, last_from}
 use Rattle.tk_starts.specs.PathEnds.{AreBoth, Follows, IsEnd}
 use Rattle.tk_starts.specs.declared.merges.pairs.Pair.{Pair}

@@ -3,7 +3,7 @@ use Rattle.std.proofs.Common.{◌≡◌, ◌≢◌, ℕ, ◌<◌, true, false, L
 use Rattle.std.proofs.Common.{⊎_elim, subst}
 use Rattle.std.proofs.lemmas.Bool.{eqb-true, eq-eqb, or_cases, or_left, or_right, or_parts, false_from_ne_true}
 use Rattle.std.proofs.lemmas.Bool.{both_ways}
-use Rattle.tk_starts.specs.Holding.{holds, IsDistinct}
+use Rattle.tk_distance.specs.Holding.{holds, IsDistinct}
 use Rattle.tk_starts.specs.Joints.{joined, IsChain, last_from}
 use Rattle.tk_starts.specs.PathEnds.{AreBoth, Follows, IsLinked}
 use Rattle.tk_starts.specs.declared.merges.pairs.Pair.{Pair}

@@ -3,7 +3,7 @@ use Rattle.std.proofs.Common.{◌≡◌, ◌≢◌, ℕ, ◌+◌, ◌≤◌, ◌
 use Rattle.std.proofs.Common.{◌∙◌, arith, ⊎_elim, subst}
 use Rattle.std.proofs.lemmas.Bool.{eq-eqb, ne_eqb, cond-true, cond-false, cases_eq}
 use Rattle.std.proofs.lemmas.List.{append_assoc, append-nil, length-append}
-use Rattle.tk_starts.specs.Holding.{holds}
+use Rattle.tk_distance.specs.Holding.{holds}
 use Rattle.tk_distance.specs.Cities.{IsCity}
 use Rattle.tk_starts.specs.PathEnds.{AreBoth, Follows, IsWay}
 use Rattle.tk_starts.proofs.Merging.Paths.PathLists.{holds-here, holds-later, Follows-one}

@@ -8,13 +8,14 @@ use Rattle.std.proofs.lemmas.Bool.{not_from_false, leb-true, le-leb}
 use Rattle.std.proofs.lemmas.List.{get_or_append_left, get_or_at, length-append}
 use Rattle.std.proofs.lemmas.List.Elements.{All-push}
 use Rattle.std.proofs.lemmas.Map.Steps.{length-le_from_distinct_below}
-use Rattle.tk_starts.specs.Holding.{holds, IsDistinct}
+use Rattle.tk_distance.specs.Holding.{holds, IsDistinct}
 use Rattle.tk_distance.specs.Cities.{IsCity}
 use Rattle.tk_starts.specs.Joints.{part, joints_at, IsPartPath, ArePartPaths, first_of}
 use Rattle.tk_starts.specs.PathEnds.{IsEnd, IsPathOf, AreEnds, IsWay}
 use Rattle.tk_starts.specs.declared.merges.pairs.Pair.{Pair}
 use Rattle.tk_starts.proofs.Merging.Parts.PartsJoined.{part-stays}
-use Rattle.tk_starts.proofs.Merging.Paths.EndsJoined.{other_end, is_end-from}
+use Rattle.tk_starts.proofs.Merging.Paths.EndsJoined.{other_end}
+use Rattle.tk_starts.proofs.Merging.Paths.JoinTest.{is_end-from}
 
 to_all : (x : ℕ) (xs : List ℕ) → holds xs x ≡ false → AllByRecursion (λ y. eqb x y ≡ false) xs
 to_all x [] h = tt

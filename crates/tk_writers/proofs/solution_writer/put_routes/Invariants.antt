@@ -2,9 +2,9 @@
 use Rattle.std.proofs.Common.{take}
 use Rattle.std.specs.Prelude.{map}
 use Rattle.tk_writers.specs.Pens.{Puts}
-use Rattle.tk_writers.specs.SolutionWritten.{route_lines}
+use Rattle.tk_writers.specs.SolutionWritten.{written_routes}
 use Rattle.tk_writers.proofs.solution_writer.put_routes.Given as goal
 
 abbrev pub invariant-loop-i : goal.invariant-loop-i
 invariant-loop-i g l =
-    Puts g.W.Sink.taken g.W.Sink.broken l.initial.pen l.pen (route_lines 1 (map (λ r. r.items) (take l.i l.routes)))
+    Puts g.W.Sink.taken g.W.Sink.broken l.initial.pen l.pen (written_routes 1 (map (λ r. r.items) (take l.i l.routes)))

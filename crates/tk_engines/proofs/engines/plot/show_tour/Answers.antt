@@ -1,4 +1,4 @@
-use Rattle.std.proofs.Common.{ℕ, refl, subst, ◌∙◌, ◌∷◌, []}
+use Rattle.std.proofs.Common.{ℕ, refl, subst, ◌∙◌}
 use Rattle.tk_problem_text.specs.ProblemOf.{problem_is}
 use Rattle.tk_picture.specs.Drawings.{ATour}
 use Rattle.tk_engines.specs.Plot.{Drawn, Refused, IsPicture}

@@ -4,8 +4,8 @@ use Rattle.tk_lines.specs.declared.place.Flow.TheVariants.{Whole}
 use Rattle.tk_lines.specs.Reader.Places.{anything, Fed}
 use Rattle.tk_lines.specs.Reader.Steps.{HasCome}
 use Rattle.tk_lines.proofs.Endings.ReaderEnds.{fed_waits}
-use Rattle.tk_lines.proofs.TokenRuns.{line_short}
-use Rattle.tk_lines.proofs.Runs.{first_byte, none_taken, told_run, whole_run}
+use Rattle.tk_lines.proofs.Runs.{none_taken, told_run, whole_run}
+use Rattle.tk_words.proofs.FirstBytes.{first_byte, line_short}
 use Rattle.tk_lines.proofs.finish.PieceReaderTextReader.feed.Goals as goal
 
 pub returns-in_err-feed_tokens : goal.returns-in_err-feed_tokens

@@ -3,7 +3,7 @@ use Rattle.std.proofs.lemmas.Bool.{ne_eqb}
 use Rattle.tk_words.specs.Texts.{Decides}
 use Rattle.tk_lines.specs.Pieces.{Fault}
 use Rattle.tk_lists.specs.Solution.{line_stop, solution_texts}
-use Rattle.tk_lists.specs.Reader.SolutionReader.{Fed, StopsAt, rest_of}
+use Rattle.tk_lists.specs.Reader.SolutionReader.{FedLines, LineStopsAt, rest_of}
 use Rattle.tk_lists.specs.declared.solution_reader.LinePlace.TheVariants as places
 use Rattle.tk_lists.specs.declared.solution_reader.SolutionReader.{SolutionReader}
 use Rattle.tk_lines.proofs.KnownPlaces.{told_word}
@@ -21,7 +21,7 @@ returns-in-Err c = λ before fed.
     let b = c.args.byte in
     let k = c.in-Err.kind in
     rw (c.fault.ensures, c.feed_line.ensures.line)
-    (told_word (StopsAt fed.before s.line b (rest_of s fed.toks)) (Decides solution_texts (before ++ b ∷ []))
+    (told_word (LineStopsAt fed.before s.line b (rest_of s fed.toks)) (Decides solution_texts (before ++ b ∷ []))
     s.line k (c.in-Err.ensures.err fed.before fed.toks fed.stands)
     (byte_stops s before fed k b (ne_eqb _ _ c.if-byte-ne10.true)))
 
@@ -47,5 +47,5 @@ returns c = λ before fed.
     } in
     let ended = c.in-Ok-end_line.ensures.ok fed.before fed.toks fed.stands in
     let next = ap (λ (n : ℕ). n + 1) c.end_line.ensures.line in
-    subst (λ (x : ℕ). Fed t (before ++ x ∷ [])) (sym c.if-byte-ne10.false)
+    subst (λ (x : ℕ). FedLines t (before ++ x ∷ [])) (sym c.if-byte-ne10.false)
     (fed_LF c.args.self.now t before fed next refl ended)

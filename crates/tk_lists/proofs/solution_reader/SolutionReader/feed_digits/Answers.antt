@@ -4,7 +4,7 @@ use Rattle.tk_lines.specs.Reader.Forms.{whole}
 use Rattle.tk_words.specs.Lex.{Token}
 use Rattle.tk_lines.specs.Pieces.{Fault}
 use Rattle.tk_lists.specs.Solution.{cost_stop}
-use Rattle.tk_lists.specs.Reader.SolutionReader.{StopsAt, line_from}
+use Rattle.tk_lists.specs.Reader.SolutionReader.{LineStopsAt, line_from}
 use Rattle.tk_lists.specs.declared.solution_reader.LinePlace.TheVariants as places
 use Rattle.tk_lines.proofs.Pieces.ToldFaults.{told_word}
 use Rattle.tk_lists.proofs.SolutionSteps.{cost_same, cost_more, cost_stops, cost_long, token_grows}
@@ -19,7 +19,7 @@ returns-in_err-take_cost-clause-err c = λ before toks at.
     let p = err_from_is_err_and c.from_residual.result c.from_residual.ensures.1 in
     rw (p.1, p.2)
     (told_word (λ k. (ended : Bool) (ts : List Token) → cost_stop n ended (whole held n ∷ ts) ≡ Some (Fault n k))
-    (StopsAt before n c.args.byte (line_from n held toks places.Digits)) k
+    (LineStopsAt before n c.args.byte (line_from n held toks places.Digits)) k
     (cost_stops before n c.args.byte held blank at.3 at.2 k)
     (rw c.as_slice.ensures at (c.in_err-take_cost.ensures.err before n at.1 at.2)))
 

@@ -2,7 +2,7 @@ use Rattle.std.proofs.Common.{◌++◌, [], List, refl, sym, ap, ◌∙◌, arit
 use Rattle.std.proofs.lemmas.Result.{IfErr-weaker}
 use Rattle.tk_words.specs.Lex.{Token}
 use Rattle.tk_lists.specs.Solution.{Route, Cost}
-use Rattle.tk_lists.specs.Reader.SolutionReader.{StopsAt, line_from, rest_of}
+use Rattle.tk_lists.specs.Reader.SolutionReader.{LineStopsAt, line_from, rest_of}
 use Rattle.tk_lists.specs.declared.solution_reader.LinePlace.TheVariants as places
 use Rattle.tk_lines.proofs.Pieces.ToldFaults.{told_word}
 use Rattle.tk_lines.proofs.Sections.MiddleOfSection.{tokens_of-gap}
@@ -19,7 +19,7 @@ returns-else-blank-clause-err c = λ before toks stands.
     let h = rest_of c.args.self.now toks in
     let at = rw c.in-Start.is at stands in
     IfErr-weaker c.feed_word.result
-    _ _ (λ k told. told_word (StopsAt before n b g) (StopsAt before n b h) k
+    _ _ (λ k told. told_word (LineStopsAt before n b g) (LineStopsAt before n b h) k
     (stops_same before n b g h k (λ bs w. rw (c.in-Start.is, c.clear.ensures, solid) refl)) told)
     (c.feed_word.ensures.err before at.1)
 

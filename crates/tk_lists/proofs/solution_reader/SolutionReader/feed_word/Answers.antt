@@ -3,7 +3,7 @@ use Rattle.std.proofs.lemmas.List.{length-append}
 use Rattle.std.proofs.lemmas.Result.{err_from_is_err_and, IfOk-weaker, IfErr-weaker}
 use Rattle.tk_lines.specs.Pieces.{Fault, first_at}
 use Rattle.tk_lists.specs.Solution.{solid_line, Other, may_be_word, route_head, route_tests, cost_tests}
-use Rattle.tk_lists.specs.Reader.SolutionReader.{StopsAt, line_from}
+use Rattle.tk_lists.specs.Reader.SolutionReader.{LineStopsAt, line_from}
 use Rattle.tk_lists.specs.declared.route_head.HeadPlace.TheVariants as heads
 use Rattle.tk_lists.specs.declared.solution_reader.LinePlace.TheVariants as places
 use Rattle.tk_lines.proofs.Pieces.ToldFaults.{told_word}
@@ -56,8 +56,8 @@ returns-then-word_byte-clause-err c = λ before k.
     ∙ sym c.may_become_word.ensures ∙ c.if-may_become_word.false in
     let same = grown_other n held b c.requires.0 is may in
     IfErr-weaker c.skip.result
-    _ _ (λ f h. told_word (StopsAt before n b (λ bs w. Other))
-    (StopsAt before n b (line_from n held [] places.Word)) f
+    _ _ (λ f h. told_word (LineStopsAt before n b (λ bs w. Other))
+    (LineStopsAt before n b (line_from n held [] places.Word)) f
     (stops_same before n b (λ bs w. Other) (line_from n held [] places.Word) f same) h)
     (c.skip.ensures.err before k)
 
@@ -72,7 +72,7 @@ returns-in_err-begin_route-in-Route-clause-err c = λ before keeps.
     let p = err_from_is_err_and c.from_residual.result c.from_residual.ensures.1 in
     rw (p.1, p.2)
     (told_word (λ k. first_at n (route_tests before) ≡ Some (Fault n k))
-    (StopsAt before n b (line_from n held [] places.Word)) k
+    (LineStopsAt before n b (line_from n held [] places.Word)) k
     (λ stop bs w. rw (same bs w) (route_stops before n w (Fault n k) (route_head (b ∷ bs)) stop))
     (c.in_err-begin_route-in-Route.ensures.err before n keeps))
 
@@ -89,7 +89,7 @@ returns-in_err-begin_cost-in-Cost-clause-err c = λ before keeps.
     c.from_residual-in_err-begin_cost-in-Cost.ensures.1 in
     rw (p.1, p.2)
     (told_word (λ k. first_at n (cost_tests before) ≡ Some (Fault n k))
-    (StopsAt before n b (line_from n held [] places.Word)) k (λ stop bs w. rw (same bs w, stop) refl)
+    (LineStopsAt before n b (line_from n held [] places.Word)) k (λ stop bs w. rw (same bs w, stop) refl)
     (c.in_err-begin_cost-in-Cost.ensures.err before n keeps))
 
 pub returns-in_ok-begin_route-in-Route-clause-ok : goal.returns-in_ok-begin_route-in-Route-clause-ok
@@ -112,8 +112,8 @@ returns-in_ok-begin_route-in-Route-clause-err c = λ before k.
     let is = rw c.as_slice-2.ensures at c.in-Route.ensures in
     let same = ended_route n held b c.requires.0 (sym c.word_byte.ensures ∙ c.if-word_byte.false) is in
     IfErr-weaker c.feed_head.result
-    _ _ (λ f h. told_word (StopsAt before n b (line_from n [] [] (places.Head heads.Word)))
-    (StopsAt before n b (line_from n held [] places.Word)) f
+    _ _ (λ f h. told_word (LineStopsAt before n b (line_from n [] [] (places.Head heads.Word)))
+    (LineStopsAt before n b (line_from n held [] places.Word)) f
     (stops_same before n b (line_from n [] [] (places.Head heads.Word)) (line_from n held [] places.Word) f same) h)
     (c.feed_head.ensures.err before (c.in_ok-begin_route-in-Route.ensures.ok before k))
 
@@ -146,7 +146,7 @@ returns-in-Other-clause-err c = λ before k.
     let is = rw c.as_slice-2.ensures at c.in-Other.ensures in
     let same = ended_other n held b c.requires.0 (sym c.word_byte.ensures ∙ c.if-word_byte.false) is.0 is.1 in
     IfErr-weaker c.skip-in-Other.result
-    _ _ (λ f h. told_word (StopsAt before n b (λ bs w. Other))
-    (StopsAt before n b (line_from n held [] places.Word)) f
+    _ _ (λ f h. told_word (LineStopsAt before n b (λ bs w. Other))
+    (LineStopsAt before n b (line_from n held [] places.Word)) f
     (stops_same before n b (λ bs w. Other) (line_from n held [] places.Word) f same) h)
     (c.skip-in-Other.ensures.err before k)

@@ -1,9 +1,9 @@
 use Rattle.std.proofs.Common.{refl}
-use Rattle.tk_lines.specs.Lists.{entries}
+use Rattle.tk_lines.specs.Lists.{list_entries}
 use Rattle.tk_lists.proofs.tour.TourForm.new.Goals as goal
 
 pub returns : goal.returns
-unfolding entries
+unfolding list_entries
 returns c =
     record {
       seen = record { name = refl; kind = refl; dimension = refl };

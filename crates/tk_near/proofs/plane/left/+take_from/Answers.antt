@@ -1,7 +1,7 @@
 use Rattle.std.proofs.Common.{◌≡◌, ◌++◌, ◌∙◌, ap, inl, inr}
 use Rattle.std.specs.Prelude.{All}
 use Rattle.tk_near.specs.Placed.{IsPlaced}
-use Rattle.tk_near.specs.Tree.{entries_of, IsWithin, parts_of, with_cities}
+use Rattle.tk_near.specs.Tree.{entries_of, IsInBox, parts_of, with_cities}
 use Rattle.tk_near.proofs.InPlane.Leaving.{shown_lower_first, shown_upper_first}
 use Rattle.tk_near.proofs.InPlane.Parting.{all_back, all_front, IsSmall, part_smaller, placed_small}
 use Rattle.tk_near.proofs.InPlane.Taking.{All-taken, taken_before, taken_behind}
@@ -33,7 +33,7 @@ renew-requires-clause-within g t c =
     let framed = rw c.in-Cut.is at c.requires.framed in
     let taken = rw c.deref_mut.ensures.value at c.in-Some.ensures.taken in
     rw c.deref-in-Some.ensures
-    (All-taken (IsWithin c.in-Cut.upper_frame) c.args.here.now (entries_of c.in-Cut.upper.value)
+    (All-taken (IsInBox c.in-Cut.upper_frame) c.args.here.now (entries_of c.in-Cut.upper.value)
     (entries_of c.take_from.new.tree) taken framed.1)
 
 pub search_half-requires-clause-placed : goal.search_half-requires-clause-placed
@@ -90,7 +90,7 @@ renew-requires-in-Some-take_from-clause-within g t c =
     let framed = rw c.in-Cut.is at c.requires.framed in
     let taken = rw c.deref_mut-then-goes_up.ensures.value at c.in-Some-take_from.ensures.taken in
     rw c.deref-in-Some-take_from.ensures
-    (All-taken (IsWithin c.in-Cut.lower_frame) c.args.here.now (entries_of c.in-Cut.lower.value)
+    (All-taken (IsInBox c.in-Cut.lower_frame) c.args.here.now (entries_of c.in-Cut.lower.value)
     (entries_of c.take_from-then-goes_up.new.tree) taken framed.0)
 
 pub search_half-requires-in-Some-take_from-clause-placed : goal.search_half-requires-in-Some-take_from-clause-placed
@@ -144,7 +144,7 @@ renew-requires-in-Some-take_from-2-clause-within g t c =
     let framed = rw c.in-Cut.is at c.requires.framed in
     let taken = rw c.deref_mut-in-Cut.ensures.value at c.in-Some-take_from-2.ensures.taken in
     rw c.deref-in-Some-take_from-2-2.ensures
-    (All-taken (IsWithin c.in-Cut.lower_frame) c.args.here.now (entries_of c.in-Cut.lower.value)
+    (All-taken (IsInBox c.in-Cut.lower_frame) c.args.here.now (entries_of c.in-Cut.lower.value)
     (entries_of c.take_from-in-Cut.new.tree) taken framed.0)
 
 pub search_half-requires-in-Some-take_from-2-clause-placed : goal.search_half-requires-in-Some-take_from-2-clause-placed
@@ -192,7 +192,7 @@ renew-requires-in-Some-take_from-3-clause-within g t c =
     let framed = rw c.in-Cut.is at c.requires.framed in
     let taken = rw c.deref_mut-in-Cut-2.ensures.value at c.in-Some-take_from-3.ensures.taken in
     rw c.deref-in-Some-take_from-3.ensures
-    (All-taken (IsWithin c.in-Cut.upper_frame) c.args.here.now (entries_of c.in-Cut.upper.value)
+    (All-taken (IsInBox c.in-Cut.upper_frame) c.args.here.now (entries_of c.in-Cut.upper.value)
     (entries_of c.take_from-in-Cut-2.new.tree) taken framed.1)
 
 pub search_half-requires-in-Some-take_from-3-clause-placed : goal.search_half-requires-in-Some-take_from-3-clause-placed

@@ -2,7 +2,7 @@ use Rattle.std.proofs.Common.{arith, take}
 use Rattle.std.proofs.lemmas.List.{take_all}
 use Rattle.std.proofs.lemmas.List.Elements.{All-more, All-weaker}
 use Rattle.tk_near.specs.Placed.{nowhere}
-use Rattle.tk_near.specs.Tree.{IsWithin}
+use Rattle.tk_near.specs.Tree.{IsInBox}
 use Rattle.tk_near.proofs.plane.tree.frame_of.Goals as goal
 
 pub loop-p-preserved : goal.loop-p-preserved
@@ -10,8 +10,8 @@ loop-p-preserved c =
     let row = c.args.row.now in
     let i = c.loop-p.p-index in
     let frame = c.widened-frame.result in
-    All-more (IsWithin frame) row i nowhere (omega arith)
-    (All-weaker (IsWithin c.loop-p.frame) (IsWithin frame) c.widened-frame.ensures.others (take i row)
+    All-more (IsInBox frame) row i nowhere (omega arith)
+    (All-weaker (IsInBox c.loop-p.frame) (IsInBox frame) c.widened-frame.ensures.others (take i row)
     c.loop-p.invariant) c.widened-frame.ensures.this
 
 pub returns : goal.returns

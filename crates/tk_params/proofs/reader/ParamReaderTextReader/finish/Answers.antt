@@ -1,7 +1,7 @@
 use Rattle.std.proofs.Common.{◌∙◌, ap, sym}
 use Rattle.std.proofs.lemmas.Result.{err_from_is_err_and}
 use Rattle.tk_words.specs.Texts.{DecidesEnded}
-use Rattle.tk_params.specs.Params.{is_eof, params_texts}
+use Rattle.tk_params.specs.Params.{spells_eof, params_texts}
 use Rattle.tk_params.proofs.Feeds.{ended_as, ends_eof, ends_faulty, ends_line}
 use Rattle.tk_params.proofs.Told.{told_line}
 use Rattle.tk_params.proofs.reader.ParamReaderTextReader.finish.Goals as goal
@@ -11,7 +11,7 @@ returns-then-spelled c = λ before waits.
     rw c.answer.ensures
     (ended_as c.args.self.line c.args.self.settings before
     (ends_eof c.args.self before waits.fed
-    (ap is_eof (sym c.deref.ensures.value) ∙ sym c.spelled.ensures ∙ c.if-spelled.true)))
+    (ap spells_eof (sym c.deref.ensures.value) ∙ sym c.spelled.ensures ∙ c.if-spelled.true)))
 
 pub returns-in_err-take_held : goal.returns-in_err-take_held
 returns-in_err-take_held c = λ before waits.
@@ -21,7 +21,7 @@ returns-in_err-take_held c = λ before waits.
     rw (p.1, p.2)
     (told_line s.settings s.held.items c.in_err-take_held.field-0.0 s.line (DecidesEnded params_texts before)
     stopped.line stopped.told (ends_faulty s before waits.fed
-    (ap is_eof (sym c.deref.ensures.value) ∙ sym c.spelled.ensures ∙ c.if-spelled.false)))
+    (ap spells_eof (sym c.deref.ensures.value) ∙ sym c.spelled.ensures ∙ c.if-spelled.false)))
 
 pub returns : goal.returns
 returns c = λ before waits.
@@ -30,4 +30,4 @@ returns c = λ before waits.
     rw c.answer-2.ensures
     (ended_as t.line t.settings before
     (rw taken.line (ends_line c.args.self t before waits.fed taken
-    (ap is_eof (sym c.deref.ensures.value) ∙ sym c.spelled.ensures ∙ c.if-spelled.false))))
+    (ap spells_eof (sym c.deref.ensures.value) ∙ sym c.spelled.ensures ∙ c.if-spelled.false))))

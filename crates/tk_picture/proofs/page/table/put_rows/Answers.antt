@@ -5,7 +5,7 @@ use Rattle.tk_routes.specs.Cvrps.{instance_of}
 use Rattle.tk_routes.specs.Instance.{customer_count}
 use Rattle.tk_routes.proofs.RouteSteps.{route_served}
 use Rattle.tk_routes.proofs.Served.{AreServedOnce-short}
-use Rattle.tk_picture.specs.PageText.{row_line, row_of}
+use Rattle.tk_picture.specs.PageText.{row_line, route_row}
 use Rattle.tk_picture.proofs.Paths.{filled_more}
 use Rattle.tk_picture.proofs.page.table.put_rows.Goals as goal
 
@@ -29,7 +29,7 @@ loop-route-preserved g c =
       count = omega (arith, n.invariant.count);
       text =
           subst (Puts _ _ _ _)
-          (sym (filled_more (row_of (instance_of c.args.cvrp.now)) row_line (λ r. r.items) c.args.routes.now
+          (sym (filled_more (route_row (instance_of c.args.cvrp.now)) row_line (λ r. r.items) c.args.routes.now
           n.route-index (n.number + 1) c.route-item.result c.deref.result.now
           c.loop-route-test.true c.route-item.is c.deref.ensures.value (omega (arith, n.invariant.count))))
           (Puts-then _ _ _ _ _ _ _ n.invariant.text c.put_filled.ensures);

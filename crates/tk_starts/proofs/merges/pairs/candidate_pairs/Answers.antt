@@ -1,5 +1,5 @@
 use Rattle.std.proofs.Common.{◌≡◌, ℕ, ◌≤◌, ◌<◌, true, List, get_or, subst, sym, arith}
-use Rattle.tk_starts.specs.Holding.{holds}
+use Rattle.tk_distance.specs.Holding.{holds}
 use Rattle.tk_near.specs.Near.{near_of}
 use Rattle.tk_starts.proofs.Merging.Pairs.PairsFound.{sound_more, kept, here_more, here_same, here_found, earlier_more}
 use Rattle.tk_starts.proofs.Merging.Pairs.PairsFound.{all_found, holds-at, none_some}

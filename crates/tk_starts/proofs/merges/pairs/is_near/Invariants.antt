@@ -1,5 +1,5 @@
 use Rattle.std.proofs.Common.{◌≡◌, take}
-use Rattle.tk_starts.specs.Holding.{holds}
+use Rattle.tk_distance.specs.Holding.{holds}
 use Rattle.tk_starts.proofs.merges.pairs.is_near.Given as goal
 
 abbrev pub invariant-loop-city : goal.invariant-loop-city

@@ -1,16 +1,16 @@
 use Rattle.std.proofs.Common.{◌≡◌, ℕ, ◌+◌, ◌-◌, ◌≤◌, ◌<◌, [], get_or, List, length, subst, refl, sym, ◌∙◌, arith, Fits}
 use Rattle.std.proofs.Common.{w64}
 use Rattle.std.specs.List.{All}
-use Rattle.tk_starts.specs.PathEnds.{at, IsWithin}
+use Rattle.tk_starts.specs.PathEnds.{at, IsPairWithin}
 use Rattle.tk_starts.specs.declared.merges.pairs.Pair.{Pair}
 use Rattle.tk_starts.proofs.Merging.Pairs.PairsMerged.{AreEnds-single, IsTaken-from, taken_step, left_step, going_ends}
 use Rattle.tk_starts.proofs.merges.savings.joined_paths.Goals as goal
 use Rattle.tk_starts.proofs.merges.savings.joined_paths.Goals.{then-may_join, else-may_join}
 
 -- what holds of all pairs holds of the one at k
-within_at : (n : ℕ) (pairs : List Pair) (k : ℕ) (p : Pair) → All (IsWithin n) pairs → k < length pairs →
-    p ≡ get_or pairs k p → IsWithin n p
-within_at n pairs k p all l is = subst (λ (x : Pair). IsWithin n x) (sym is) (all k p l)
+within_at : (n : ℕ) (pairs : List Pair) (k : ℕ) (p : Pair) → All (IsPairWithin n) pairs → k < length pairs →
+    p ≡ get_or pairs k p → IsPairWithin n p
+within_at n pairs k p all l is = subst (λ (x : Pair). IsPairWithin n x) (sym is) (all k p l)
 
 below_size : (n size x : ℕ) → size ≡ n + 1 → x ≤ n → x < size
 below_size n size x is near = omega arith

@@ -1,11 +1,11 @@
 use Rattle.std.proofs.Common.{◌-◌, length}
-use Rattle.tk_near.specs.Left.{AreApart}
+use Rattle.tk_near.specs.Left.{ArePlacedApart}
 use Rattle.tk_starts.proofs.NearestCities.NearestPaths.{IsUnderWay}
 use Rattle.tk_starts.proofs.nearest_tours.by_tree.nearest_tree.Given as goal
 
 abbrev pub invariant-loop-found : goal.invariant-loop-found
 invariant-loop-found g l = record {
-  apart : AreApart (g.P.Metric.size_of l.metric) (g.P.Planar.place_of l.metric) l.left;
+  apart : ArePlacedApart (g.P.Metric.size_of l.metric) (g.P.Planar.place_of l.metric) l.left;
   way : IsUnderWay (g.P.Metric.distance l.metric) (g.P.Metric.size_of l.metric) l.start l.at.city l.left l.cities.items;
 }
 

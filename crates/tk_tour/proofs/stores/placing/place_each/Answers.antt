@@ -1,4 +1,4 @@
-use Rattle.tk_tour.proofs.SeenTours.Writing.{Renumbering-none}
+use Rattle.tk_tour.proofs.StoredTours.Renumbering.{Renumbering-none}
 use Rattle.tk_tour.proofs.stores.placing.place_each.Goals as goal
 
 pub loop-k-init : goal.loop-k-init

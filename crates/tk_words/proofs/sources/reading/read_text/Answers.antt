@@ -17,7 +17,7 @@ returns-in-Err-clause-err g c =
     let want : WantMore texts i.0 =
     record {
       undecided = g.met.P.TextReader.waits _ _ i.1;
-      within = omega (arith, i.2, c.requires.limit.0, c.loop-n.invariant.room);
+      within = omega (arith, i.2, c.limit-limit.ensures.0, c.loop-n.invariant.room);
     } in
     rw c.cut_off.ensures.cause (
       c.in-Err.ensures.err,
@@ -33,7 +33,7 @@ returns-then-n-eq0-clause-ok g c =
     let want : WantMore texts i.0 =
     record {
       undecided = g.met.P.TextReader.waits _ _ i.1;
-      within = omega (arith, i.2, c.requires.limit.0, c.loop-n.invariant.room);
+      within = omega (arith, i.2, c.limit-limit.ensures.0, c.loop-n.invariant.room);
     } in
     let none : Consumes (left c.loop-n.source) (left c.read.new.self) [] =
     rw c.if-n-eq0.true at c.in-Ok.ensures.bytes.0 in
@@ -50,7 +50,7 @@ returns-then-n-eq0-clause-some_text g c =
     _ (c.finish.ensures i.0 i.1) (λ v h. (
       i.0,
       answer_ended texts i.0 (Ok (g.P.TextReader.view v))
-          (omega (arith, i.2, c.requires.limit.0, c.loop-n.invariant.room)) h,
+          (omega (arith, i.2, c.limit-limit.ensures.0, c.loop-n.invariant.room)) h,
     ))
 
 pub returns-then-n-eq0-clause-some_fault : goal.returns-then-n-eq0-clause-some_fault
@@ -62,7 +62,7 @@ returns-then-n-eq0-clause-some_fault g c =
     (λ f h. told_of (Unit {0}) (λ e. DecidesEnded texts i.0 (Err e)) (λ e. IsOfSomeText texts (Err e)) f
     (texts.cause f) (λ e. (
       i.0,
-      answer_ended texts i.0 (Err f) (omega (arith, i.2, c.requires.limit.0, c.loop-n.invariant.room)) e,
+      answer_ended texts i.0 (Err f) (omega (arith, i.2, c.limit-limit.ensures.0, c.loop-n.invariant.room)) e,
     )) h)
 
 pub returns-then-n-eq0-clause-err : goal.returns-then-n-eq0-clause-err
@@ -73,7 +73,7 @@ returns-then-n-eq0-clause-err g c =
     let want : WantMore texts i.0 =
     record {
       undecided = g.met.P.TextReader.waits _ _ i.1;
-      within = omega (arith, i.2, c.requires.limit.0, c.loop-n.invariant.room);
+      within = omega (arith, i.2, c.limit-limit.ensures.0, c.loop-n.invariant.room);
     } in
     let none : Consumes (left c.loop-n.source) (left c.read.new.self) [] =
     rw c.if-n-eq0.true at c.in-Ok.ensures.bytes.0 in
@@ -96,7 +96,7 @@ returns-in_err-feed_piece-clause-err g c =
     let want : WantMore texts i.0 =
     record {
       undecided = g.met.P.TextReader.waits _ _ i.1;
-      within = omega (arith, i.2, c.requires.limit.0, c.loop-n.invariant.room);
+      within = omega (arith, i.2, c.limit-limit.ensures.0, c.loop-n.invariant.room);
     } in
     let few : length piece ≤ BUFFER_SIZE = omega (arith, length-take c.in-Ok.n c.read.new.buf) in
     let far = where_read texts i.0 want (left c.args.source.now) (left c.loop-n.source) (left c.read.new.self)
@@ -128,7 +128,7 @@ returns-then-branch-clause-ok g c =
     let want : WantMore texts i.0 =
     record {
       undecided = g.met.P.TextReader.waits _ _ i.1;
-      within = omega (arith, i.2, c.requires.limit.0, c.loop-n.invariant.room);
+      within = omega (arith, i.2, c.limit-limit.ensures.0, c.loop-n.invariant.room);
     } in
     let few : length piece ≤ BUFFER_SIZE = omega (arith, length-take c.in-Ok.n c.read.new.buf) in
     let told = rw c.if-branch.true at (c.in_ok-feed_piece.ensures.taken i.0 i.1 i.2) in

@@ -1,7 +1,7 @@
 use Rattle.std.proofs.Common.{[], ◌∷◌, subst, sym}
 use Rattle.tk_near.specs.Keeping.{open_place}
 use Rattle.tk_near.specs.Tree.{entries_of}
-use Rattle.tk_near.specs.Left.{AreApart, Stands}
+use Rattle.tk_near.specs.Left.{ArePlacedApart, Stands}
 use Rattle.tk_near.proofs.InPlane.FirstLeft.{none_kept, first_kept}
 use Rattle.tk_near.proofs.InPlane.LeftLaws.{AreApart-taken, taken_there}
 use Rattle.tk_near.proofs.plane.left.Left.visit.Goals as goal
@@ -16,7 +16,7 @@ returns-clause-first g c =
     let here = c.args.here in
     let old = entries_of c.self.inside.tree in
     let left = entries_of c.take_from.new.tree in
-    let apart = subst (AreApart n place_of) (sym c.self.view_is) c.requires.apart in
+    let apart = subst (ArePlacedApart n place_of) (sym c.self.view_is) c.requires.apart in
     let there = subst (λ row. Stands row here.city) (sym c.self.view_is) c.requires.there in
     let taken = taken_there n place_of here old left _ _ c.take_from.result c.take_from.ensures.taken
     c.take_from.ensures.shown apart c.requires.here there in

@@ -1,0 +1,116 @@
+//! What kind of file it is.
+use crate::lines::{first_token, split_word, value_behind};
+use tk_params::key_of;
+use tk_words::{Keyword, keyword_of, spelled};
+
+/// What a file holds.
+#[derive(Clone, Copy, PartialEq, Eq)]
+pub enum Kind {
+    Problem,
+    Tour,
+    Solution,
+    Parameters,
+}
+
+/// Keys of LKH that tourkit does not have.
+static OTHER_KEYS: [&str; 24] = [
+    "ASCENT_CANDIDATES",
+    "BACKBONE_TRIALS",
+    "CANDIDATE_SET_TYPE",
+    "DEPOT",
+    "EXCESS",
+    "GAIN23",
+    "INITIAL_PERIOD",
+    "INITIAL_STEP_SIZE",
+    "INITIAL_TOUR_ALGORITHM",
+    "KICKS",
+    "KICK_TYPE",
+    "MAX_SWAPS",
+    "MTSP_SOLUTION_FILE",
+    "OUTPUT_TOUR_FILE",
+    "POPULATION_SIZE",
+    "RECOMBINATION",
+    "SALESMEN",
+    "SINTEF_SOLUTION_FILE",
+    "SPECIAL",
+    "STOP_AT_OPTIMUM",
+    "SUBGRADIENT",
+    "SUBSEQUENT_MOVE_TYPE",
+    "TIME_LIMIT",
+    "TOTAL_TIME_LIMIT",
+];
+
+/// Whether a word is a key of LKH that tourkit does not have.
+pub fn is_other_key(word: &[u8]) -> bool {
+    for key in OTHER_KEYS {
+        if spelled(word, key.as_bytes()) {
+            return true;
+        }
+    }
+    false
+}
+
+/// The kind that a file's lines show, or else its name.
+pub fn kind_of(text: &[u8], name: &str) -> Kind {
+    let text = match text {
+        [0xef, 0xbb, 0xbf, rest @ ..] => rest,
+        _ => text,
+    };
+    for line in text.split(|byte| *byte == b'\n') {
+        if let Some(kind) = kind_shown(line) {
+            return kind;
+        }
+    }
+    kind_named(name)
+}
+
+/// The kind of the only files that have such a line.
+fn kind_shown(line: &[u8]) -> Option<Kind> {
+    let (word, rest) = split_word(line);
+    if spelled(word, b"ROUTE") || spelled(word, b"COST") {
+        return Some(Kind::Solution);
+    }
+    if key_of(word).is_some() || is_other_key(word) {
+        return Some(Kind::Parameters);
+    }
+    match keyword_of(word) {
+        Some(Keyword::Type) if spelled(first_token(value_behind(line, b':')), b"TOUR") => Some(
+            Kind::Tour,
+        ),
+        Some(Keyword::TourSection) => Some(Kind::Tour),
+        Some(Keyword::Name | Keyword::Comment | Keyword::Dimension | Keyword::Eof) => None,
+        Some(_) => Some(Kind::Problem),
+        None if !word.is_empty() && is_assigned(rest) => Some(Kind::Parameters),
+        None => None,
+    }
+}
+
+/// Whether an equals sign comes first.
+fn is_assigned(rest: &[u8]) -> bool {
+    rest.trim_ascii_start().starts_with(b"=")
+}
+
+/// The kind that the end of a name says: a problem for any other end.
+fn kind_named(name: &str) -> Kind {
+    if name.ends_with(".tour") {
+        Kind::Tour
+    } else if name.ends_with(".sol") {
+        Kind::Solution
+    } else if name.ends_with(".par") {
+        Kind::Parameters
+    } else {
+        Kind::Problem
+    }
+}
+
+/// Whether the first line that is not blank and no comment begins with a key of parameter files.
+pub fn begins_with_key(text: &[u8]) -> bool {
+    for line in text.split(|byte| *byte == b'\n') {
+        let line = line.trim_ascii_start();
+        let word = split_word(line).0;
+        if !line.is_empty() && line[0] != b'#' && !spelled(word, b"COMMENT") {
+            return key_of(word).is_some();
+        }
+    }
+    false
+}

@@ -1,0 +1,26 @@
+//! What a file has at the line of a fault: what was wanted there, what was read and what to do, in words; what kind of
+//! file it is, and what its other lines are taken for.
+#![tactic(auto)]
+
+mod fault;
+mod here;
+mod kind;
+mod lines;
+mod nearest;
+mod place;
+mod repeats;
+mod sentence;
+mod shown;
+mod spot;
+mod taken;
+mod wrapping;
+
+pub use fault::FileFault;
+pub use here::here_at;
+pub use kind::{Kind, begins_with_key, kind_of};
+pub use lines::last_line;
+pub use sentence::Sentence;
+pub use shown::shown_line;
+pub use spot::{Here, Spot};
+pub use taken::taken_for;
+pub use wrapping::{wrapped, wrapping_of};

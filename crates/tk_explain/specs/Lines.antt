@@ -1,8 +1,0 @@
--- The word of a line.
-use Rattle.std.specs.Prelude.{ℕ, List, [], ◌∷◌, if◌then◌else◌}
-use Rattle.tk_words.specs.Lex.{behind, is_letter, is_word_byte}
-
--- what follows the word at the front, which begins with a letter
-abbrev pub behind_word : List ℕ → List ℕ
-behind_word [] = []
-behind_word (b ∷ bs) = if is_letter b then behind is_word_byte (b ∷ bs) else b ∷ bs

@@ -1,0 +1,184 @@
+-- A run joined again: its parts are those of a split of it.
+use Rattle.std.proofs.Common.{◌≡◌, ℕ, true, false, ◌+◌, ◌<◌, ◌≤◌, ⊎_elim, List, [], ◌∷◌, ◌++◌, length, take, drop, set}
+use Rattle.std.proofs.Common.{refl, sym, ap, ◌∙◌, subst, arith, get_or}
+use Rattle.std.specs.Prelude.{sum_by}
+use Rattle.std.proofs.lemmas.List.{append_assoc, length-append, length-drop, set_at, get_or_at, get_or_default, take_at}
+use Rattle.std.proofs.lemmas.List.{drop_at, length-take-le, drop_more}
+use Rattle.std.proofs.lemmas.List.Sums.{sum_by-cons, sum_by-append}
+use Rattle.tk_segments.specs.Runs.{run_size, placed, IsWithin, AreLaidOut, AreSeenParts, IsSplit}
+use Rattle.tk_segments.specs.declared.run.Run.{Run}
+use Rattle.tk_segments.proofs.SeenTours.SeenPlaces.{AreWithin}
+use Rattle.tk_segments.proofs.SeenTours.Placing.{placed-append, length-placed}
+use Rattle.tk_segments.proofs.SeenTours.Searching.{start_is, sum_more}
+use Rattle.tk_segments.proofs.SeenTours.Splitting.{cases_bool, part_facts, old_is, head_of}
+use Rattle.tk_segments.proofs.SeenTours.Turning.{within_of, all_within, within-append, within_left, within_right}
+
+-- there is a run where there is a place
+pub some_runs : (n : ℕ) (xs : List Run) → AreLaidOut n xs → 0 < n → 0 < length xs
+some_runs n [] h lt = omega (arith, h.whole, lt)
+some_runs n (x ∷ xs) h lt = omega arith
+
+-- the run of two parts
+join_within : (n d id : ℕ) (run one two : Run) → AreSeenParts d id run one two → IsWithin n one → IsWithin n two →
+    (run.low < run.high) × IsWithin n run × (d < run_size run)
+join_within n d id run one two h w x =
+    ⊎_elim
+    (λ (e : run.back ≡ true). let p = h.behind e in (
+      omega (arith, p.inside),
+      (omega (arith, p.inside), omega (arith, p.high_is, w)),
+      omega (arith, p.inside, p.low_is, p.high_is),
+    ))
+    (λ (e : run.back ≡ false). let p = h.ahead e in (
+      omega (arith, p.inside),
+      (omega (arith, p.inside), omega (arith, p.high_is, x)),
+      omega (arith, p.inside, p.low_is, p.high_is),
+    ))
+    (cases_bool run.back)
+
+-- the second of two runs begins where the first one ends
+pub begins_after : (n k : ℕ) (xs : List Run) (one two : Run) → AreLaidOut n xs → k + 1 < length xs →
+    one ≡ get_or xs k one → two ≡ get_or xs (k + 1) two → two.start ≡ one.start + run_size one
+begins_after n k xs one two laid lt e f =
+    let e' : one ≡ get_or xs k two = e ∙ get_or_default xs k one two (omega (arith, lt)) in
+    omega (
+      arith,
+      ap (λ (r : Run). r.start) e',
+      ap run_size e',
+      ap (λ (r : Run). r.start) f,
+      start_is n k xs two laid (omega (arith, lt)),
+      start_is n (k + 1) xs two laid lt,
+      sum_more k xs two (omega (arith, lt)),
+    )
+
+two_of : (xs : List Run) (k : ℕ) (one two : Run) → k + 1 < length xs → one ≡ get_or xs k one →
+    two ≡ get_or xs (k + 1) two → xs ≡ take k xs ++ (one ∷ two ∷ drop (k + 2) xs)
+two_of xs k one two lt e f =
+    let g : k + 1 + 1 ≡ k + 2 = omega arith in
+    old_is xs k one (omega (arith, lt)) e
+    ∙ ap (λ u. take k xs ++ one ∷ u) (drop_more xs (k + 1) two lt ∙ ap (λ u. u ∷ drop (k + 1 + 1) xs) (sym f)
+    ∙ ap (λ u. two ∷ drop u xs) g)
+
+-- the list where a run has taken the place of two
+pub put_list : (old : List Run) (k : ℕ) (run : Run) → k + 1 < length old →
+    take (k + 1) (set old k run) ++ drop (k + 1 + 1) (set old k run) ≡ take k old ++ run ∷ drop (k + 2) old
+put_list old k run lt =
+    let A : List Run = take k old in
+    let one : Run = get_or old k run in
+    let two : Run = get_or old (k + 1) run in
+    let C : List Run = drop (k + 2) old in
+    let la : length A ≡ k = length-take-le k old (omega (arith, lt)) in
+    let l1 : length (A ++ run ∷ []) ≡ k + 1 = omega (arith, length-append A (run ∷ []), la) in
+    let l2 : length (A ++ run ∷ two ∷ []) ≡ k + 1 + 1 = omega (arith, length-append A (run ∷ two ∷ []), la) in
+    let e : one ≡ get_or old k one = get_or_default old k run one (omega (arith, lt)) in
+    let f : two ≡ get_or old (k + 1) two = get_or_default old (k + 1) run two lt in
+    let put : set old k run ≡ A ++ (run ∷ two ∷ C) = ap (λ u. set u k run) (two_of old k one two lt e f)
+    ∙ set_at A one (two ∷ C) run k la in
+    ap (λ u. take (k + 1) u ++ drop (k + 1 + 1) u) put
+    ∙ ap (λ u. u ++ drop (k + 1 + 1) (A ++ (run ∷ two ∷ C)))
+    (ap (take (k + 1)) (sym (append_assoc A (run ∷ []) (two ∷ C))) ∙ take_at (A ++ run ∷ []) (two ∷ C) (k + 1) l1)
+    ∙ ap (λ u. (A ++ run ∷ []) ++ u) (ap (drop (k + 1 + 1)) (sym (append_assoc A (run ∷ two ∷ []) C))
+    ∙ drop_at (A ++ run ∷ two ∷ []) C (k + 1 + 1) l2)
+    ∙ append_assoc A (run ∷ []) C
+
+-- the runs before the join are a split of those after it
+pub join_split : (old new : List Run) (k id : ℕ) (run one two : Run) → k + 1 < length old → one ≡ get_or old k one →
+    two ≡ get_or old (k + 1) two → id + 1 ≡ length old →
+    AreSeenParts (run_size one) id run one two → new ≡ take k old ++ run ∷ drop (k + 2) old →
+    (s : IsSplit new old k (run_size one)) × (s.run ≡ run) × (id ≡ length new) × (k < length new)
+join_split old new k id run one two lt e f ids parts joined =
+    let A : List Run = take k old in
+    let C : List Run = drop (k + 2) old in
+    let la : length A ≡ k = length-take-le k old (omega (arith, lt)) in
+    let l1 : length (A ++ run ∷ []) ≡ k + 1 = omega (arith, length-append A (run ∷ []), la) in
+    let before : take k new ≡ A = ap (take k) joined ∙ take_at A (run ∷ C) k la in
+    let beyond : drop (k + 1) new ≡ C = ap (drop (k + 1)) (joined ∙ sym (append_assoc A (run ∷ []) C))
+    ∙ drop_at (A ++ run ∷ []) C (k + 1) l1 in
+    let size : id ≡ length new =
+    omega (arith, ap length joined, length-append A (run ∷ C), la, length-drop (k + 2) old, ids, lt) in
+    let P : ℕ → Type 0 = λ u. AreSeenParts (run_size one) u run one two in (
+      record {
+        run = run;
+        one = one;
+        two = two;
+        run_is = sym (ap (λ u. get_or u k run) joined ∙ get_or_at A run C run k la);
+        parts = subst P size parts;
+        list = two_of old k one two lt e f ∙ ap (λ u. u ++ (one ∷ two ∷ C)) (sym before)
+            ∙ ap (λ u. take k new ++ (one ∷ two ∷ u)) (sym beyond);
+      },
+      refl,
+      size,
+      omega (arith, size, ids, lt),
+    )
+
+-- the joined run is one of the array
+pub join_bounds : (n k id : ℕ) (xs : List Run) (run one two : Run) → AreLaidOut n xs → k + 1 < length xs →
+    one ≡ get_or xs k one → two ≡ get_or xs (k + 1) two →
+    AreSeenParts (run_size one) id run one two → (run.low < run.high) × (run.high ≤ n)
+join_bounds n k id xs run one two laid lt e f parts =
+    let P : Run → Type 0 = λ r. IsWithin n r in
+    let w = join_within n (run_size one) id run one two parts (subst P (sym e) (laid.within k one (omega (arith, lt))))
+    (subst P (sym f) (laid.within (k + 1) two lt)) in
+    (w.0, w.1.1)
+
+-- runs that are laid out begin one after another, in both parts of them
+laid_parts : (n : ℕ) (us ts xs : List Run) → AreLaidOut n xs → xs ≡ us ++ ts →
+    (us ≡ placed 0 us) × (ts ≡ placed (sum_by run_size us) ts)
+laid_parts n us ts xs h e =
+    let rest : List Run = placed (0 + sum_by run_size us) ts in
+    let all : us ++ ts ≡ placed 0 us ++ rest = sym e ∙ h.starts ∙ ap (placed 0) e ∙ placed-append 0 us ts in
+    let z : 0 + sum_by run_size us ≡ sum_by run_size us = omega arith in (
+      sym (take_at us ts (length us) refl) ∙ ap (take (length us)) all
+          ∙ take_at (placed 0 us) rest (length us) (length-placed 0 us),
+      sym (drop_at us ts (length us) refl) ∙ ap (drop (length us)) all
+          ∙ drop_at (placed 0 us) rest (length us) (length-placed 0 us) ∙ ap (λ u. placed u ts) z,
+    )
+
+pub join_laid : (n : ℕ) (old new : List Run) (k d : ℕ) → k < length old → AreLaidOut n new → IsSplit old new k d →
+    AreLaidOut n old
+join_laid n old new k d lt h s =
+    let us : List Run = take k old in
+    let ws : List Run = drop (k + 1) old in
+    let run : Run = s.run in
+    let v : ℕ = sum_by run_size us in
+    let e : old ≡ us ++ run ∷ ws = old_is old k run lt s.run_is in
+    let P : List Run → Type 0 = λ u. AreWithin n u in
+    let all : AreWithin n (us ++ (s.one ∷ s.two ∷ ws)) = subst P s.list (within_of n new h.within) in
+    let tail : AreWithin n (s.one ∷ s.two ∷ ws) = within_right n us (s.one ∷ s.two ∷ ws) all in
+    let w1 : IsWithin n s.one = all_within n (s.one ∷ s.two ∷ ws) tail 0 run (omega arith) in
+    let w2 : IsWithin n s.two = all_within n (s.one ∷ s.two ∷ ws) tail 1 run (omega arith) in
+    let w = join_within n d (length old) run s.one s.two s.parts w1 w2 in
+    let p = part_facts n d (length old) run s.one s.two s.parts w.1 w.2 in
+    let both = laid_parts n us (s.one ∷ s.two ∷ ws) new h s.list in
+    let first =
+    head_of s.one (record s.one { start = v }) (s.two ∷ ws) (placed (v + run_size s.one) (s.two ∷ ws)) both.1 in
+    let second =
+    head_of s.two (record s.two { start = v + run_size s.one }) ws
+    (placed (v + run_size s.one + run_size s.two) ws) first.1 in
+    let start : run.start ≡ v = sym s.parts.starts.0 ∙ ap (λ (r : Run). r.start) first.0 in
+    let run_is : run ≡ record run { start = v } = ap (λ u. record run { start = u }) start in
+    let rest_is : ws ≡ placed (v + run_size run) ws = second.1 ∙ ap (λ u. placed u ws) (omega (arith, p.sizes)) in
+    let new_tail : run ∷ ws ≡ placed v (run ∷ ws) = ap (λ u. u ∷ ws) run_is
+    ∙ ap (λ u. record run { start = v } ∷ u) rest_is in
+    let z : 0 + v ≡ v = omega arith in
+    let Q : List Run → Type 0 = λ u. AreLaidOut n u in
+    subst Q (sym e)
+    (record {
+      within =
+          all_within n (us ++ run ∷ ws)
+          (within-append n us (run ∷ ws) (within_left n us (s.one ∷ s.two ∷ ws) all)
+          (AreWithin.more w.1 (within_right n (s.one ∷ s.two ∷ []) ws tail)));
+      starts = sym (placed-append 0 us (run ∷ ws) ∙ ap (λ u. u ++ placed (0 + v) (run ∷ ws)) (sym both.0)
+          ∙ ap (λ u. us ++ placed u (run ∷ ws)) z ∙ ap (λ u. us ++ u) (sym new_tail));
+      whole =
+          omega (
+            arith,
+            h.whole,
+            ap (sum_by run_size) s.list,
+            sum_by-append run_size us (run ∷ ws),
+            sum_by-append run_size us (s.one ∷ s.two ∷ ws),
+            sum_by-cons run_size run ws,
+            sum_by-cons run_size s.one (s.two ∷ ws),
+            sum_by-cons run_size s.two ws,
+            p.sizes,
+          );
+    })

@@ -1,0 +1,231 @@
+-- Names of runs: what stays when a run is parted, or runs are turned round.
+use Rattle.std.proofs.Common.{◌≡◌, ◌≢◌, ℕ, true, false, ◌+◌, ◌-◌, ◌<◌, ◌≤◌, ◌⊎◌, inl, inr, ⊎_elim, suc, zero, List, ◌∷◌}
+use Rattle.std.proofs.Common.{◌++◌, length, take, drop, sym, ap, ◌∙◌, subst, arith, get_or}
+use Rattle.std.proofs.lemmas.Bool.{cases_lt}
+use Rattle.std.proofs.lemmas.List.{get_or_default, get_or-drop, get_or-take, get_or_append_left, get_or-append_right}
+use Rattle.std.proofs.lemmas.List.{length-take-le, length-drop, length-append}
+use Rattle.tk_segments.specs.Runs.{IsSplit, AreNamed, Names, Holds}
+use Rattle.tk_segments.specs.declared.run.Run.{Run}
+use Rattle.tk_segments.proofs.SeenTours.Splitting.{cases_bool}
+
+-- the run of a name stands where the name says
+pub named_home : (runs : List Run) (home : List ℕ) (id lo : ℕ) (d : Run) → AreNamed runs home → (h : Names runs id lo) →
+    (get_or home id 0 < length runs) × ((get_or runs (get_or home id 0) d).low ≡ lo)
+named_home runs home id lo d named h =
+    let k = named h.0 d h.1 in
+    let e : get_or home id 0 ≡ h.0 = ap (λ u. get_or home u 0) (sym (h.2 d).0) ∙ k.1 in
+    (omega (arith, e, h.1), ap (λ u. (get_or runs u d).low) e ∙ (h.2 d).1)
+
+pub held_home : (runs : List Run) (home : List ℕ) (id place : ℕ) (d : Run) → AreNamed runs home →
+    (h : Holds runs id place) →
+    (id < length runs) × (get_or home id 0 < length runs) × ((get_or runs (get_or home id 0) d).low ≤ place)
+held_home runs home id place d named h =
+    let k = named h.0 d h.1 in
+    let e : get_or home id 0 ≡ h.0 = ap (λ u. get_or home u 0) (sym (h.2 d).0) ∙ k.1 in
+    (omega (arith, k.0, (h.2 d).0), omega (arith, e, h.1), omega (arith, ap (λ u. (get_or runs u d).low) e, (h.2 d).1))
+
+pub named_less : (runs : List Run) (home : List ℕ) (id lo : ℕ) (d : Run) → AreNamed runs home → Names runs id lo →
+    id < length runs
+named_less runs home id lo d named h = omega (arith, named h.0 d h.1, (h.2 d).0)
+
+-- where the entries of a split list come from
+pub entry_before : (us ws : List Run) (one two : Run) (i k : ℕ) (d : Run) → length us ≡ k → i < k →
+    get_or (us ++ (one ∷ two ∷ ws)) i d ≡ get_or us i d
+entry_before us ws one two i k d l lt = get_or_append_left us (one ∷ two ∷ ws) d i (omega (arith, l))
+
+pub entry_from : (us ws : List Run) (one two : Run) (i k : ℕ) (d : Run) → length us ≡ k → k ≤ i →
+    get_or (us ++ (one ∷ two ∷ ws)) i d ≡ get_or (one ∷ two ∷ ws) (i - k) d
+entry_from us ws one two i k d l le = get_or-append_right us (one ∷ two ∷ ws) k i d l le
+
+-- the names of runs stay when one is parted
+pub Names-split : (old new : List Run) (k m : ℕ) (id lo : ℕ) → k < length old → IsSplit old new k m → Names old id lo →
+    Names new id lo
+Names-split old new k m id lo lt s h =
+    let us : List Run = take k old in
+    let ws : List Run = drop (k + 1) old in
+    let l : length us ≡ k = length-take-le k old (omega arith) in
+    let n : length new ≡ length old + 1 = ap length s.list
+    ∙ omega (arith, length-append us (s.one ∷ s.two ∷ ws), l, length-drop (k + 1) old, lt) in
+    let at : (i : ℕ) (d : Run) → get_or new i d ≡ get_or (us ++ (s.one ∷ s.two ∷ ws)) i d =
+    λ i d. ap (λ u. get_or u i d) s.list in
+    let j : ℕ = h.0 in
+    ⊎_elim
+    (λ (a : j < k). (
+      j,
+      omega (arith, n, h.1),
+      (λ d.
+          let e : get_or new j d ≡ get_or old j d = at j d ∙ entry_before us ws s.one s.two j k d l a
+          ∙ get_or-take k old j d a in
+          (ap (λ (r : Run). r.id) e ∙ (h.2 d).0, ap (λ (r : Run). r.low) e ∙ (h.2 d).1)),
+    ))
+    (λ (a : k ≤ j).
+    ⊎_elim
+    (λ (b : k < j). (
+      j + 1,
+      omega (arith, n, h.1),
+      (λ d.
+          let e0 : j + 1 - k ≡ suc (suc (j - (k + 1))) = omega arith in
+          let e : get_or new (j + 1) d ≡ get_or old j d =
+          at (j + 1) d ∙ entry_from us ws s.one s.two (j + 1) k d l (omega arith)
+          ∙ ap (λ u. get_or (s.one ∷ s.two ∷ ws) u d) e0
+          ∙ get_or-drop (k + 1) old (j - (k + 1)) d ∙ ap (λ u. get_or old u d) (omega arith) in
+          (ap (λ (r : Run). r.id) e ∙ (h.2 d).0, ap (λ (r : Run). r.low) e ∙ (h.2 d).1)),
+    ))
+    (λ (b : j ≤ k).
+    let same : j ≡ k = omega arith in
+    let run_is : (d : Run) → s.run ≡ get_or old j d = λ d. s.run_is ∙ get_or_default old k s.run d lt
+    ∙ ap (λ u. get_or old u d) (sym same) in
+    ⊎_elim
+    (λ (e : s.run.back ≡ true).
+    let p = s.parts.behind e in
+    let e1 : k + 1 - k ≡ suc zero = omega arith in (
+      k + 1,
+      omega (arith, n, lt),
+      (λ d.
+          let f : get_or new (k + 1) d ≡ s.two = at (k + 1) d ∙ entry_from us ws s.one s.two (k + 1) k d l (omega arith)
+          ∙ ap (λ u. get_or (s.one ∷ s.two ∷ ws) u d) e1 in (
+            ap (λ (r : Run). r.id) f ∙ p.low_is.3 ∙ ap (λ (r : Run). r.id) (run_is d)
+                ∙ (h.2 d).0,
+            ap (λ (r : Run). r.low) f ∙ p.low_is.0 ∙ ap (λ (r : Run). r.low) (run_is d) ∙ (h.2 d).1,
+          )),
+    ))
+    (λ (e : s.run.back ≡ false).
+    let p = s.parts.ahead e in
+    let e1 : k - k ≡ zero = omega arith in (
+      k,
+      omega (arith, n, lt),
+      (λ d.
+          let f : get_or new k d ≡ s.one = at k d ∙ entry_from us ws s.one s.two k k d l (omega arith)
+          ∙ ap (λ u. get_or (s.one ∷ s.two ∷ ws) u d) e1 in (
+            ap (λ (r : Run). r.id) f ∙ p.low_is.3 ∙ ap (λ (r : Run). r.id) (run_is d)
+                ∙ (h.2 d).0,
+            ap (λ (r : Run). r.low) f ∙ p.low_is.0 ∙ ap (λ (r : Run). r.low) (run_is d) ∙ (h.2 d).1,
+          )),
+    ))
+    (cases_bool s.run.back))
+    (cases_lt k j))
+    (cases_lt j k)
+
+-- a new list whose first runs are old ones, and whose other runs come from the parted one: each run of it is an old
+-- one, or one of the two parts
+pub split_entry : (old new : List Run) (k m i : ℕ) (d : Run) → k < length old → (s : IsSplit old new k m) →
+    i < length new →
+    ((j : ℕ) × (j < length old) × (j ≢ k) × (get_or new i d ≡ get_or old j d))
+    ⊎ ((get_or new i d ≡ s.one) ⊎ (get_or new i d ≡ s.two))
+split_entry old new k m i d lt s li =
+    let us : List Run = take k old in
+    let ws : List Run = drop (k + 1) old in
+    let l : length us ≡ k = length-take-le k old (omega arith) in
+    let n : length new ≡ length old + 1 = ap length s.list
+    ∙ omega (arith, length-append us (s.one ∷ s.two ∷ ws), l, length-drop (k + 1) old, lt) in
+    let at : get_or new i d ≡ get_or (us ++ (s.one ∷ s.two ∷ ws)) i d = ap (λ u. get_or u i d) s.list in
+    ⊎_elim
+    (λ (a : i < k). inl (
+      i,
+      omega arith,
+      omega arith,
+      at ∙ entry_before us ws s.one s.two i k d l a
+          ∙ get_or-take k old i d a,
+    ))
+    (λ (a : k ≤ i).
+    let from : get_or new i d ≡ get_or (s.one ∷ s.two ∷ ws) (i - k) d = at ∙ entry_from us ws s.one s.two i k d l a in
+    ⊎_elim
+    (λ (b : k + 1 < i).
+    let e0 : i - k ≡ suc (suc (i - k - 2)) = omega arith in
+    inl (
+      i - 1,
+      omega (arith, n),
+      omega arith,
+      from ∙ ap (λ u. get_or (s.one ∷ s.two ∷ ws) u d) e0
+          ∙ get_or-drop (k + 1) old (i - k - 2) d ∙ ap (λ u. get_or old u d) (omega arith),
+    ))
+    (λ (b : i ≤ k + 1).
+    ⊎_elim
+    (λ (c : i < k + 1). let e0 : i - k ≡ zero = omega arith in
+    inr (inl (from ∙ ap (λ u. get_or (s.one ∷ s.two ∷ ws) u d) e0)))
+    (λ (c : k + 1 ≤ i). let e0 : i - k ≡ suc zero = omega arith in
+    inr (inr (from ∙ ap (λ u. get_or (s.one ∷ s.two ∷ ws) u d) e0)))
+    (cases_lt i (k + 1)))
+    (cases_lt (k + 1) i))
+    (cases_lt i k)
+
+pub split_at : (old new : List Run) (k m : ℕ) (d : Run) → k < length old → (s : IsSplit old new k m) →
+    (length new ≡ length old + 1) × (get_or new k d ≡ s.one) × (get_or new (k + 1) d ≡ s.two)
+split_at old new k m d lt s =
+    let us : List Run = take k old in
+    let ws : List Run = drop (k + 1) old in
+    let l : length us ≡ k = length-take-le k old (omega arith) in
+    let e0 : k - k ≡ zero = omega arith in
+    let e1 : k + 1 - k ≡ suc zero = omega arith in
+    let at : (i : ℕ) → get_or new i d ≡ get_or (us ++ (s.one ∷ s.two ∷ ws)) i d =
+    λ i. ap (λ u. get_or u i d) s.list in (
+      ap length s.list ∙ omega (arith, length-append us (s.one ∷ s.two ∷ ws), l, length-drop (k + 1) old, lt),
+      at k ∙ entry_from us ws s.one s.two k k d l (omega arith) ∙ ap (λ u. get_or (s.one ∷ s.two ∷ ws) u d) e0,
+      at (k + 1) ∙ entry_from us ws s.one s.two (k + 1) k d l (omega arith)
+          ∙ ap (λ u. get_or (s.one ∷ s.two ∷ ws) u d) e1,
+    )
+
+-- the entries before the parted run, and those after it
+pub split_entry_before : (old new : List Run) (k m i : ℕ) (d : Run) → k < length old → IsSplit old new k m → i < k →
+    get_or new i d ≡ get_or old i d
+split_entry_before old new k m i d lt s a =
+    let us : List Run = take k old in
+    let ws : List Run = drop (k + 1) old in
+    let l : length us ≡ k = length-take-le k old (omega arith) in
+    ap (λ u. get_or u i d) s.list ∙ entry_before us ws s.one s.two i k d l a ∙ get_or-take k old i d a
+
+pub split_entry_beyond : (old new : List Run) (k m i : ℕ) (d : Run) → k < length old → IsSplit old new k m → k < i →
+    get_or new (i + 1) d ≡ get_or old i d
+split_entry_beyond old new k m i d lt s a =
+    let us : List Run = take k old in
+    let ws : List Run = drop (k + 1) old in
+    let l : length us ≡ k = length-take-le k old (omega arith) in
+    let e0 : i + 1 - k ≡ suc (suc (i - (k + 1))) = omega (arith, a) in
+    ap (λ u. get_or u (i + 1) d) s.list ∙ entry_from us ws s.one s.two (i + 1) k d l (omega (arith, a))
+    ∙ ap (λ u. get_or (s.one ∷ s.two ∷ ws) u d) e0
+    ∙ get_or-drop (k + 1) old (i - (k + 1)) d ∙ ap (λ u. get_or old u d) (omega (arith, a))
+
+-- each run of a split still names the one that begins where it ends
+pub split_next : (n : ℕ) (old new : List Run) (k m : ℕ) → k < length old → IsSplit old new k m →
+    ((j : ℕ) (d : Run) → j < length old → (get_or old j d).high < n →
+    Names old (get_or old j d).next (get_or old j d).high) →
+    (i : ℕ) (d : Run) → i < length new → (get_or new i d).high < n →
+    Names new (get_or new i d).next (get_or new i d).high
+split_next n old new k m lt s next i d li hi =
+    let P : Run → Type 0 = λ r. r.high < n → Names new r.next r.high in
+    let of_old : (j : ℕ) → j < length old → P (get_or old j d) =
+    λ j lj h. Names-split old new k m _ _ lt s (next j d lj h) in
+    let run_is : s.run ≡ get_or old k d = s.run_is ∙ get_or_default old k s.run d lt in
+    let of_run : P s.run = subst P (sym run_is) (of_old k lt) in
+    let fields : (r x : Run) → x.next ≡ r.next → x.high ≡ r.high → P r → P x = λ r x e f h lx.
+    let Q : ℕ → Type 0 = λ v. Names new v x.high in
+    let R : ℕ → Type 0 = λ v. Names new r.next v in
+    subst Q (sym e) (subst R (sym f) (h (omega (arith, f)))) in
+    let there : (x high : Run) (j : ℕ) → j < length new → ((e : Run) → get_or new j e ≡ high) → x.next ≡ high.id →
+    x.high ≡ high.low → P x = λ x high j lj e f g _.
+    (j, lj, (λ e'. (ap (λ (r : Run). r.id) (e e') ∙ sym f, ap (λ (r : Run). r.low) (e e') ∙ sym g))) in
+    let size = (split_at old new k m d lt s).0 in
+    let both : P s.one × P s.two =
+    ⊎_elim
+    (λ (e : s.run.back ≡ true).
+    let p = s.parts.behind e in (
+      fields s.run s.one p.high_is.4 p.high_is.1 of_run,
+      there s.two s.one k (omega (arith, size, lt)) (λ e'. (split_at old new k m e' lt s).1) (p.low_is.4
+          ∙ sym p.high_is.3) (p.low_is.1 ∙ sym p.high_is.0),
+    ))
+    (λ (e : s.run.back ≡ false).
+    let p = s.parts.ahead e in (
+      there s.one s.two (k + 1) (omega (arith, size, lt)) (λ e'. (split_at old new k m e' lt s).2) (p.low_is.4
+          ∙ sym p.high_is.3) (p.low_is.1 ∙ sym p.high_is.0),
+      fields s.run s.two p.high_is.4 p.high_is.1 of_run,
+    ))
+    (cases_bool s.run.back) in
+    let all : P (get_or new i d) =
+    ⊎_elim
+    (λ (z : (j : ℕ) × (j < length old) × (j ≢ k) × (get_or new i d ≡ get_or old j d)). subst P (sym z.3)
+    (of_old z.0 z.1))
+    (λ (z : (get_or new i d ≡ s.one) ⊎ (get_or new i d ≡ s.two)).
+    ⊎_elim (λ (e : get_or new i d ≡ s.one). subst P (sym e) both.0)
+    (λ (e : get_or new i d ≡ s.two). subst P (sym e) both.1) z)
+    (split_entry old new k m i d lt s li) in
+    all hi

@@ -1,0 +1,116 @@
+-- A reversal by exchanges of cities that are seen from both ends on, spot by spot.
+use Rattle.std.proofs.Common.{◌≡◌, ℕ, false, ◌+◌, ◌-◌, ◌<◌, ◌≤◌, ◌/◌, ⊎_elim, inl, inr, List, length, set, refl, arith}
+use Rattle.std.proofs.Common.{get_or}
+use Rattle.std.proofs.lemmas.Bool.{cases_lt}
+use Rattle.tk_segments.specs.Runs.{AreLaidOut, IsSpot, IsAfterPlace}
+use Rattle.tk_segments.specs.Writes.{changed}
+use Rattle.tk_segments.specs.WriteLaws.{changed-set}
+use Rattle.tk_segments.specs.declared.run.Run.{Run}
+use Rattle.tk_segments.specs.declared.spots.Spot.{Spot}
+use Rattle.tk_segments.proofs.SeenTours.Spots.{spot_facts, spot_held, spot_shows}
+use Rattle.tk_segments.proofs.SeenTours.SeenReversing.{SeenAt, Exchanging, Exchanging-more}
+
+abbrev none : Run
+none = record { low = 0; high = 0; start = 0; id = 0; next = 0; back = false }
+
+pub spot_seen : (n v : ℕ) (runs : List Run) (spot : Spot) → AreLaidOut n runs → IsSpot runs v spot →
+    SeenAt n runs v spot.place
+spot_seen n v runs spot laid h = (
+  (spot_held n _ v runs spot (get_or runs spot.index none)
+      (spot_facts n v runs spot (get_or runs spot.index none) none laid refl h)).2,
+  λ order le. spot_shows n v runs spot order none laid le h,
+)
+
+-- after t exchanges the next two cities are shown by `low` and before `high`
+pub record Stepping (n first count t : ℕ) (low high : Spot) (begin order place : List ℕ)
+    (runs : List Run) : Type 0 where
+  pub low_v : ℕ
+  pub high_v : ℕ
+  pub low_is : IsSpot runs low_v low
+  pub high_is : IsSpot runs high_v high
+  pub exchanging : Exchanging n first count t low_v high_v begin order place runs
+  pub written : changed begin order ≤ t + t
+
+-- the place before, and the one after
+pub record Before (n w : ℕ) : Type 0 where
+  pub v : ℕ
+  pub after : IsAfterPlace n v w
+  pub is : (w ≡ 0 → v + 1 ≡ n) × (0 < w → v + 1 ≡ w)
+
+pub before_place : (n w : ℕ) → w < n → Before n w
+before_place n w lt =
+    ⊎_elim
+    (λ (a : 0 < w).
+    record {
+      v = w - 1;
+      after = inl (omega (arith, a, lt), omega (arith, a));
+      is = ((λ e. absurd (omega (arith, a, e))), (λ _. omega (arith, a)));
+    })
+    (λ (a : w ≤ 0).
+    record {
+      v = n - 1;
+      after = inr (omega (arith, lt), omega (arith, a));
+      is = (
+        (λ _. omega (arith, lt)),
+        (λ e. absurd (omega (arith, a, e))),
+      );
+    })
+    (cases_lt 0 w)
+
+pub record After (n v : ℕ) : Type 0 where
+  pub w : ℕ
+  pub after : IsAfterPlace n v w
+  pub is : (v + 1 ≡ n → w ≡ 0) × (v + 1 < n → w ≡ v + 1)
+
+pub after_place : (n v : ℕ) → v < n → After n v
+after_place n v lt =
+    ⊎_elim
+    (λ (a : v + 1 < n).
+    record { w = v + 1; after = inl (a, refl); is = ((λ e. absurd (omega (arith, a, e))), (λ _. refl)) })
+    (λ (a : n ≤ v + 1).
+    record {
+      w = 0;
+      after = inr (omega (arith, a, lt), refl);
+      is = ((λ _. refl), (λ e. absurd (omega (arith, a, e))));
+    })
+    (cases_lt (v + 1) n)
+
+pub Stepping-high : (n first count t : ℕ) (low high high' : Spot) (begin order place : List ℕ) (runs : List Run) →
+    AreLaidOut n runs →
+    Stepping n first count t low high begin order place runs →
+    ((v w : ℕ) → IsSpot runs w high → IsAfterPlace n v w → IsSpot runs v high') →
+    (low.place < length order) × (high'.place < length order)
+Stepping-high n first count t low high high' begin order place runs laid h step =
+    let b = before_place n h.high_v h.exchanging.seen.high_at.0 in
+    let l = spot_seen n h.low_v runs low laid h.low_is in
+    let g = spot_seen n b.v runs high' laid (step b.v h.high_v h.high_is b.after) in
+    (omega (arith, l.0, h.exchanging.sizes), omega (arith, g.0, h.exchanging.sizes))
+
+pub Stepping-more : (n first count t x y : ℕ) (low high low' high' : Spot) (begin order place : List ℕ)
+    (runs : List Run) → AreLaidOut n runs →
+    Stepping n first count t low high begin order place runs → first < n → count ≤ n → t < count / 2 →
+    ((v w : ℕ) → IsSpot runs w high → IsAfterPlace n v w → IsSpot runs v high') →
+    ((v w : ℕ) → IsSpot runs v low → IsAfterPlace n v w → IsSpot runs w low') →
+    x ≡ get_or order low.place 0 → y ≡ get_or order high'.place 0 →
+    Stepping n first count (t + 1) low' high' begin (set (set order low.place y) high'.place x)
+    (set (set place (y - 1) low.place) (x - 1) high'.place) runs
+Stepping-more n first count t x y low high low' high' begin order place runs laid h lf lc lt down up ex ey =
+    let b = before_place n h.high_v h.exchanging.seen.high_at.0 in
+    let a = after_place n h.low_v h.exchanging.seen.low_at.0 in
+    let high_is : IsSpot runs b.v high' = down b.v h.high_v h.high_is b.after in
+    record {
+      low_v = a.w;
+      high_v = b.v;
+      low_is = up h.low_v a.w h.low_is a.after;
+      high_is = high_is;
+      exchanging = Exchanging-more n first count t h.low_v h.high_v a.w b.v low.place high'.place x y begin order place
+          runs h.exchanging lf lc lt b.is a.is
+          (spot_seen n h.low_v runs low laid h.low_is) (spot_seen n b.v runs high' laid high_is) ex ey;
+      written =
+          omega (
+            arith,
+            h.written,
+            changed-set begin order low.place y,
+            changed-set begin (set order low.place y) high'.place x,
+          );
+    }

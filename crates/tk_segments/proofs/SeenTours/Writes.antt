@@ -1,0 +1,87 @@
+-- What is written is paid by swaps: a potential.
+use Rattle.std.proofs.Common.{◌≡◌, ℕ, ◌+◌, ◌-◌, ◌*◌, ◌<◌, ◌≤◌, ◌^◌, ⊎_elim, subst, ap, arith}
+use Rattle.std.proofs.lemmas.Bool.{cases_lt}
+use Rattle.tk_tour.specs.Counters.{saturated}
+use Rattle.tk_segments.specs.Writes.{ArePaid}
+
+less_times : (a b c : ℕ) → b ≤ c → a * b ≤ a * c
+less_times a b c le = grind arith
+
+times_less : (a b c : ℕ) → a ≤ b → a * c ≤ b * c
+times_less a b c le = grind arith
+
+factor : (a b c : ℕ) → 1 ≤ a → a * b ≤ a * c → b ≤ c
+factor a b c some le = grind arith
+
+-- a reversal by exchanges of two cities each
+pub paid_exchange : (n room writes runs swaps more : ℕ) → ArePaid n room writes runs swaps →
+    ArePaid n room (writes + 2 * more) runs (swaps + more)
+paid_exchange n room writes runs swaps more h = record { some = h.some; paid = grind (arith, h.paid) }
+
+-- one by runs, of which there are at most two more
+pub paid_turn : (n room writes runs swaps runs' more least : ℕ) → ArePaid n room writes runs swaps → 1 ≤ runs' →
+    runs' ≤ runs + 2 → n ≤ room * least → least ≤ more →
+    ArePaid n room writes runs' (swaps + more)
+paid_turn n room writes runs swaps runs' more least h some two enough le =
+    let a : n * (runs' - 1) ≤ n * (runs - 1 + 2) =
+    less_times n (runs' - 1) (runs - 1 + 2) (omega (arith, two, h.some)) in
+    let b : room * least ≤ room * more = less_times room least more le in
+    let c : n * (runs - 1 + 2) ≡ n * (runs - 1) + 2 * n = grind arith in
+    let d : room * (swaps + more) ≡ room * swaps + room * more = grind arith in
+    record { some = some; paid = omega (arith, a, b, c, d, enough, h.paid) }
+
+-- the array is written again when there is no room for two more
+pub paid_rewrite : (n room writes runs swaps : ℕ) → ArePaid n room writes runs swaps → room + 1 ≤ runs →
+    ArePaid n room (writes + n) 1 swaps
+paid_rewrite n room writes runs swaps h full =
+    let a : n * room ≤ n * (runs - 1) = less_times n room (runs - 1) (omega (arith, full)) in
+    let b : room * (writes + n) ≡ room * writes + n * room = grind arith in
+    record { some = omega arith; paid = omega (arith, a, b, h.paid) }
+
+pub writes_bound : (n room writes runs swaps : ℕ) → 1 ≤ room → ArePaid n room writes runs swaps → writes ≤ 2 * swaps
+writes_bound n room writes runs swaps some h =
+    let b : 2 * (room * swaps) ≡ room * (2 * swaps) = grind arith in
+    factor room writes (2 * swaps) some (omega (arith, h.paid, b))
+
+-- counters that stand still at their greatest value
+paid_saturated : (n room writes runs swaps : ℕ) → ArePaid n room writes runs swaps → 1 ≤ room → n ≤ 100000 →
+    runs ≤ 100000 →
+    ArePaid n room (saturated writes) runs (saturated swaps)
+paid_saturated n room writes runs swaps h some small few =
+    let greatest : ℕ = 2 ^ 64 - 1 in
+    let a : room * saturated writes ≤ room * writes = less_times room (saturated writes) writes (omega arith) in
+    let b : room * saturated writes ≤ room * greatest = less_times room (saturated writes) greatest (omega arith) in
+    let c : n * (runs - 1) ≤ n * 100000 = less_times n (runs - 1) 100000 (omega (arith, few)) in
+    let d : 1 * greatest ≤ room * greatest = times_less 1 room greatest some in
+    ⊎_elim
+    (λ (big : greatest < swaps).
+    let e : saturated swaps ≡ greatest = omega (arith, big) in
+    record { some = h.some; paid = omega (arith, b, c, d, small, ap (λ u. 2 * (room * u)) e) })
+    (λ (exact : swaps ≤ greatest).
+    let e : saturated swaps ≡ swaps = omega (arith, exact) in
+    record { some = h.some; paid = omega (arith, a, h.paid, ap (λ u. 2 * (room * u)) e) })
+    (cases_lt greatest swaps)
+
+-- two of them count the swaps
+pub paid_counted : (n room writes runs swaps counted : ℕ) → ArePaid n room writes runs swaps → 1 ≤ room → n ≤ 100000 →
+    runs ≤ 100000 → saturated swaps ≤ counted →
+    ArePaid n room (saturated writes) runs counted
+paid_counted n room writes runs swaps counted h some small few le =
+    let k = paid_saturated n room writes runs swaps h some small few in
+    record { some = k.some; paid = omega (arith, k.paid, less_times room (saturated swaps) counted le) }
+
+-- runs are joined
+pub paid_fewer : (n room writes runs swaps runs' : ℕ) → ArePaid n room writes runs swaps → 1 ≤ runs' → runs' ≤ runs →
+    ArePaid n room writes runs' swaps
+paid_fewer n room writes runs swaps runs' h some le =
+    record { some = some; paid = omega (arith, h.paid, less_times n (runs' - 1) (runs - 1) (omega (arith, le))) }
+
+pub paid_alike : (n n' room room' writes writes' runs swaps swaps' : ℕ) → n ≡ n' → room ≡ room' → writes ≡ writes' →
+    swaps ≡ swaps' → ArePaid n room writes runs swaps →
+    ArePaid n' room' writes' runs swaps'
+paid_alike n n' room room' writes writes' runs swaps swaps' e f g i h =
+    let P : ℕ → Type 0 = λ u. ArePaid u room writes runs swaps in
+    let Q : ℕ → Type 0 = λ u. ArePaid n' u writes runs swaps in
+    let R : ℕ → Type 0 = λ u. ArePaid n' room' u runs swaps in
+    let S : ℕ → Type 0 = λ u. ArePaid n' room' writes' runs u in
+    subst S i (subst R g (subst Q f (subst P e h)))

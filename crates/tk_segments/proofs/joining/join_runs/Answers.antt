@@ -1,0 +1,79 @@
+use Rattle.std.proofs.Common.{◌≡◌, ◌+◌, ◌<◌, ◌∙◌, ◌++◌, ℕ, List, length, take, drop, ap, sym, subst, arith, get_or}
+use Rattle.std.proofs.Common.{false}
+use Rattle.std.specs.Prelude.{sum_by}
+use Rattle.std.proofs.lemmas.Grind.{common_steps}
+use Rattle.std.proofs.lemmas.List.{append-nil}
+use Rattle.tk_tour.specs.Reversal.{begun_at}
+use Rattle.tk_segments.specs.Runs.{run_size, shown, AreLaidOut, HaveNames, CanBeFound}
+use Rattle.tk_segments.specs.declared.run.Run.{Run}
+use Rattle.tk_segments.proofs.SeenTours.Searching.{start_is, sum_all, sum_more, sum_mono}
+use Rattle.tk_segments.proofs.joining.join_runs.Goals as goal
+
+-- a run begins within the array
+begins_in : (n k : ℕ) (xs : List Run) (run : Run) → AreLaidOut n xs → k < length xs → run ≡ get_or xs k run →
+    (run.start < n) × (run.start ≡ sum_by run_size (take k xs))
+begins_in n k xs run laid lt e =
+    let w = laid.within k run lt in
+    let s : run.start ≡ sum_by run_size (take k xs) = ap (λ (r : Run). r.start) e ∙ start_is n k xs run laid lt in (
+      omega (arith, s, sum_more k xs run lt, w, sum_mono (k + 1) (length xs) xs (omega (arith, lt)), sum_all n xs laid),
+      s,
+    )
+
+pub returns-then-k-len-clause-first : goal.returns-then-k-len-clause-first
+returns-then-k-len-clause-first c =
+    let xs = c.args.runs.now.items in
+    let lt : c.args.k < length xs = omega (arith, c.requires.index, c.args.runs.now.ok.0) in
+    let none : Run = record { low = 0; high = 0; start = 0; id = 0; next = 0; back = false } in
+    let w = c.requires.laid.within c.args.k none lt in
+    omega (
+      arith,
+      sum_more c.args.k xs none lt,
+      w,
+      sum_mono (c.args.k + 1) (length xs) xs (omega (arith, lt)),
+      sum_all c.args.size xs c.requires.laid,
+    )
+
+pub returns-then-k-len-clause-shown : goal.returns-then-k-len-clause-shown
+returns-then-k-len-clause-shown c = λ order le. c.join_parts.ensures.shown order
+    ∙ sym (append-nil (shown order c.args.runs.now.items))
+
+pub returns-clause-first : goal.returns-clause-first
+returns-clause-first c =
+    let xs = c.args.runs.now.items in
+    let lt : c.args.k < length xs = omega (arith, c.requires.index, c.args.runs.now.ok.0) in
+    (begins_in c.args.size c.args.k xs c.index.result.now c.requires.laid lt c.index.ensures).0
+
+pub returns-clause-shown : goal.returns-clause-shown
+returns-clause-shown c = λ order le.
+    let xs = c.args.runs.now.items in
+    let lt : c.args.k < length xs = omega (arith, c.requires.index, c.args.runs.now.ok.0) in
+    let e : c.deref_mut.result.now ≡ xs = c.deref_mut.ensures.value in
+    let new = c.begin_run.new.runs in
+    let w : take c.args.runs.now.len (new ++ drop (length new) xs) ≡ new = grind (arith, common_steps) in
+    let v = (begins_in c.args.size c.args.k xs c.index.result.now c.requires.laid lt c.index.ensures).1 in
+    c.join_parts-2.ensures.shown order
+    ∙ ap (shown order) w
+    ∙ c.begin_run.ensures.shown order le
+    ∙ ap (λ u. begun_at (sum_by run_size (take c.args.k u)) (shown order u)) e
+    ∙ ap (λ u. begun_at u (shown order xs)) (sym v)
+
+pub returns-clause-names : goal.returns-clause-names
+returns-clause-names c = λ names.
+    let xs = c.args.runs.now.items in
+    let new = c.begin_run.new.runs in
+    let w : take c.args.runs.now.len (new ++ drop (length new) xs) ≡ new = grind (arith, common_steps) in
+    let P : List Run → Type 0 = λ u. HaveNames u in
+    c.join_parts-2.ensures.names (subst P (sym w)
+    (c.begin_run.ensures.names (subst P (sym c.deref_mut.ensures.value) names)))
+
+pub returns-clause-found : goal.returns-clause-found
+returns-clause-found c = λ names found.
+    let n = c.args.size in
+    let xs = c.args.runs.now.items in
+    let new = c.begin_run.new.runs in
+    let w : take c.args.runs.now.len (new ++ drop (length new) xs) ≡ new = grind (arith, common_steps) in
+    let P : List Run → Type 0 = λ u. HaveNames u in
+    let Q : List Run → Type 0 = λ u. CanBeFound n 32 u c.args.table.now in
+    c.join_parts-2.ensures.found
+    (subst P (sym w) (c.begin_run.ensures.names (subst P (sym c.deref_mut.ensures.value) names)))
+    (subst Q (sym w) (c.begin_run.ensures.found c.args.table.now (subst Q (sym c.deref_mut.ensures.value) found)))

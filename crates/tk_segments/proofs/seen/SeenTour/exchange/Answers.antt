@@ -1,0 +1,63 @@
+use Rattle.std.proofs.Common.{◌≡◌, ◌∙◌, ℕ, List, length, sym, ap, subst, arith}
+use Rattle.tk_tour.specs.Reversal.{IsInverse, begun_at, reversed_places}
+use Rattle.tk_segments.specs.Runs.{shown}
+use Rattle.tk_tour.specs.Tour.{IsSizedTour}
+use Rattle.std.proofs.Common.{◌++◌, take, drop}
+use Rattle.std.proofs.lemmas.Grind.{common_steps}
+use Rattle.tk_segments.proofs.SeenTours.Facts.{facts, seen_of, reversed_tour, reversed_list}
+use Rattle.tk_segments.proofs.seen.SeenTour.exchange.Goals as goal
+
+pub exchange_seen-requires-clause-tour : goal.exchange_seen-requires-clause-tour
+exchange_seen-requires-clause-tour c =
+    let s = c.args.self.now in
+    rw (c.deref_mut.ensures.value, c.deref.ensures.value) (facts s).tour
+
+pub exchange_seen-requires-clause-first_in : goal.exchange_seen-requires-clause-first_in
+exchange_seen-requires-clause-first_in c = omega (arith, (facts c.args.self.now).list, c.requires.first)
+
+pub exchange_seen-requires-clause-count_in : goal.exchange_seen-requires-clause-count_in
+exchange_seen-requires-clause-count_in c = omega (arith, (facts c.args.self.now).list, c.requires.count)
+
+pub invariant_of-self-2-clause-tour : goal.invariant_of-self-2-clause-tour
+invariant_of-self-2-clause-tour c =
+    let s = c.args.self.now in
+    let now = c.exchange_seen.new.order in
+    let w : take s.order.len (now ++ drop (length now) s.order.items) ≡ now = grind (arith, common_steps) in
+    let e : shown now s.runs.runs.items ≡ reversed_places c.args.first c.args.count (seen_of s) =
+    ap (shown now) (sym c.deref.ensures.value) ∙ c.exchange_seen.ensures.shown
+    ∙ ap (λ u. reversed_places c.args.first c.args.count (shown u c.deref.result.now)) c.deref_mut.ensures.value
+    ∙ ap (λ u. reversed_places c.args.first c.args.count (shown s.order.items u)) c.deref.ensures.value in
+    let P : List ℕ → Type 0 = λ u. IsSizedTour (begun_at s.begin (shown u s.runs.runs.items)) in
+    subst P (sym w) (reversed_tour s s.begin c.args.first c.args.count (shown now s.runs.runs.items) e)
+
+pub returns-clause-list : goal.returns-clause-list
+returns-clause-list c = λ k lk h.
+    let s = c.args.self.now in
+    let f = facts s in
+    let now = c.exchange_seen.new.order in
+    let w : take s.order.len (now ++ drop (length now) s.order.items) ≡ now = grind (arith, common_steps) in
+    let e : shown now s.runs.runs.items ≡ reversed_places c.args.first c.args.count (seen_of s) =
+    ap (shown now) (sym c.deref.ensures.value) ∙ c.exchange_seen.ensures.shown
+    ∙ ap (λ u. reversed_places c.args.first c.args.count (shown u c.deref.result.now)) c.deref_mut.ensures.value
+    ∙ ap (λ u. reversed_places c.args.first c.args.count (shown s.order.items u)) c.deref.ensures.value in
+    ap (λ u. begun_at s.begin (shown u s.runs.runs.items)) w ∙
+    reversed_list s k c.args.first c.args.count (shown now s.runs.runs.items) e lk
+    (omega (arith, f.list, c.requires.first)) (omega (arith, f.list, c.requires.count)) h
+
+pub invariant_of-self-2-clause-inverse : goal.invariant_of-self-2-clause-inverse
+invariant_of-self-2-clause-inverse c =
+    let s = c.args.self.now in
+    let now = c.exchange_seen.new.order in
+    let place = c.exchange_seen.new.place in
+    let w : take s.order.len (now ++ drop (length now) s.order.items) ≡ now = grind (arith, common_steps) in
+    let e : take s.place.len (place ++ drop (length place) s.place.items) ≡ place = grind (arith, common_steps) in
+    let P : List ℕ → Type 0 = λ u. IsInverse now u in
+    let Q : List ℕ → Type 0 = λ u. IsInverse u (take s.place.len (place ++ drop (length place) s.place.items)) in
+    subst Q (sym w) (subst P (sym e) c.exchange_seen.ensures.places)
+
+pub invariant_of-self-2-clause-sizes : goal.invariant_of-self-2-clause-sizes
+invariant_of-self-2-clause-sizes c =
+    let s = c.args.self.now in
+    let now = c.exchange_seen.new.order in
+    let w : take s.order.len (now ++ drop (length now) s.order.items) ≡ now = grind (arith, common_steps) in
+    (ap length w ∙ c.exchange_seen.auto.order ∙ ap length c.deref_mut.ensures.value ∙ s.sizes.0, s.sizes.1)

@@ -1,0 +1,57 @@
+use Rattle.std.proofs.Common.{◌≡◌, ◌<◌, ◌≤◌, ◌-◌, ◌∙◌, sym, subst, ℕ, List, ◌++◌, length, take, drop, arith, ⊎_elim}
+use Rattle.std.specs.Prelude.{sum_by}
+use Rattle.std.proofs.lemmas.Bool.{cases_lt}
+use Rattle.std.proofs.lemmas.Grind.{common_steps}
+use Rattle.tk_segments.specs.Runs.{run_size, CanBeFound, SameBefore}
+use Rattle.tk_segments.specs.declared.run.Run.{Run}
+use Rattle.tk_segments.proofs.SeenTours.Names.{SameBefore-trans}
+use Rattle.tk_segments.proofs.SeenTours.Searching.{sum_mono}
+use Rattle.tk_segments.proofs.turning.turn_seen.Goals as goal
+
+in_order : (xs : List Run) (i j a b : ℕ) → sum_by run_size (take i xs) ≡ a → sum_by run_size (take j xs) ≡ b →
+    a < b → i ≤ j
+in_order xs i j a b e f lt = ⊎_elim (λ (z : j < i). absurd (omega (arith, sum_mono j i xs (omega arith), e, f)))
+    (λ (z : i ≤ j). z) (cases_lt j i)
+
+pub turn_runs-requires-clause-range : goal.turn_runs-requires-clause-range
+turn_runs-requires-clause-range c =
+    let i = c.cut_runs-i in
+    let j = c.cut_runs-j in
+    let e : sum_by run_size (take i.result j.new.runs.items) ≡ c.args.first =
+    j.ensures.before i.result i.ensures.index (omega (arith, i.ensures.begins, c.requires.range))
+    ∙ i.ensures.begins in (
+      in_order j.new.runs.items i.result j.result c.args.first c.args.last e j.ensures.begins c.requires.range.0,
+      omega (arith, j.ensures.index, c.deref_mut.ensures.len),
+    )
+
+pub returns-clause-same : goal.returns-clause-same
+returns-clause-same c =
+    let i = c.cut_runs-i in
+    let j = c.cut_runs-j in
+    let old = c.args.runs.now.items in
+    let e : sum_by run_size (take i.result j.new.runs.items) ≡ c.args.first =
+    j.ensures.before i.result i.ensures.index (omega (arith, i.ensures.begins, c.requires.range)) ∙ i.ensures.begins in
+    let le : i.result ≤ j.result =
+    in_order j.new.runs.items i.result j.result c.args.first c.args.last e j.ensures.begins c.requires.range.0 in
+    let first = SameBefore-trans (i.result - 1) (j.result - 1) old i.new.runs.items j.new.runs.items i.ensures.same
+    j.ensures.same (omega (arith, le)) in
+    let new = c.turn_runs.new.runs in
+    let w : take j.new.runs.len (new ++ drop (length new) j.new.runs.items) ≡ new = grind (arith, common_steps) in
+    let P : List Run → Type 0 = λ u. SameBefore i.result u new in
+    let Q : List Run → Type 0 = λ u. SameBefore (i.result - 1) old u in
+    let e' : i.result - 1 ≡ c.saturating_sub.result = omega (arith, c.saturating_sub.ensures) in
+    let R : ℕ → Type 0 = λ u. SameBefore u old (take j.new.runs.len (new ++ drop (length new) j.new.runs.items)) in
+    subst R e'
+    (subst Q (sym w)
+    (SameBefore-trans (i.result - 1) i.result old j.new.runs.items new first
+    (subst P c.deref_mut.ensures.value c.turn_runs.ensures.same) (omega arith)))
+
+pub returns-clause-found : goal.returns-clause-found
+returns-clause-found c = λ found.
+    let cut = c.cut_runs-j.new in
+    let new = c.turn_runs.new.runs in
+    let w : take cut.runs.len (new ++ drop (length new) cut.runs.items) ≡ new = grind (arith, common_steps) in
+    let P : List Run → Type 0 = λ u. CanBeFound c.args.size 32 u cut.table in
+    subst P (sym w)
+    (c.turn_runs.ensures.found cut.table
+    (subst P (sym c.deref_mut.ensures.value) (c.cut_runs-j.ensures.found (c.cut_runs-i.ensures.found found))))

@@ -1,0 +1,5 @@
+pub mod Runs
+pub mod SeenTours
+pub mod SegmentTours
+pub mod WriteLaws
+pub mod Writes

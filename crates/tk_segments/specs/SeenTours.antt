@@ -1,0 +1,21 @@
+-- What is seen of a tour through runs of its array.
+use Rattle.std.specs.Prelude.{ℕ, ◌-◌, List, vec_len}
+use Rattle.tk_tour.specs.Reversal.{begun_at}
+use Rattle.tk_segments.specs.Runs.{shown}
+use Rattle.tk_segments.specs.declared.seen.SeenTour.{SeenTour}
+
+-- what the runs show, begun where the list begins
+abbrev pub list_of : SeenTour → List ℕ
+list_of tour = begun_at tour.begin (shown tour.order.items tour.runs.runs.items)
+
+-- how many runs there are
+abbrev pub run_count_of : SeenTour → ℕ
+run_count_of tour = vec_len tour.runs.runs
+
+-- how many runs there may be, and two more
+abbrev pub room_of : SeenTour → ℕ
+room_of tour = tour.runs.most - 2
+
+-- the array
+abbrev pub array_of : SeenTour → List ℕ
+array_of tour = tour.order.items

@@ -1,0 +1,99 @@
+-- What callers see of a `SegmentTour`: the order of its cities and its counts.
+use Rattle.std.specs.Prelude.{◌≡◌, ℕ, ◌+◌, ◌^◌, ◌<◌, ◌≤◌, List, length, refl}
+use Rattle.std.proofs.Common.{◌∙◌, arith}
+use Rattle.tk_tour.specs.Counters.{saturated}
+use Rattle.tk_tour.specs.Reversal.{AreReversed}
+use Rattle.tk_tour.specs.Reversal.AreReversed.{none}
+use Rattle.tk_tour.specs.ReversalLaws.{AreReversed-append}
+use Rattle.tk_segments.specs.SeenTours.{array_of, list_of, run_count_of, room_of}
+use Rattle.tk_segments.specs.Writes.{changed}
+use Rattle.tk_segments.specs.WriteLaws.{changed-refl, changed-trans}
+use Rattle.tk_segments.specs.declared.tour.SegmentTour.{SegmentTour}
+
+-- the cities in the order in which they are seen
+abbrev pub seen_order : SegmentTour → List ℕ
+seen_order tour = list_of tour.seen
+
+-- the swaps that its flips take in an array, those that undoing flips takes, its flips, the cities that were copied
+-- into it, and how many places of its own array it has written
+abbrev pub seen_swaps : SegmentTour → ℕ
+seen_swaps tour = tour.swaps
+
+abbrev pub seen_undo_swaps : SegmentTour → ℕ
+seen_undo_swaps tour = tour.undo_swaps
+
+abbrev pub seen_flips : SegmentTour → ℕ
+seen_flips tour = tour.flips
+
+abbrev pub seen_copied : SegmentTour → ℕ
+seen_copied tour = tour.copied
+
+abbrev pub writes_of : SegmentTour → ℕ
+writes_of tour = tour.writes
+
+-- its array, which is seen through segments
+abbrev pub seen_array : SegmentTour → List ℕ
+seen_array tour = array_of tour.seen
+
+-- how many segments there are, and how many there may be
+abbrev pub segments_of : SegmentTour → ℕ
+segments_of tour = run_count_of tour.seen
+
+abbrev pub most_of : SegmentTour → ℕ
+most_of tour = room_of tour.seen + 2
+
+-- what flips alone do: the new order comes from the old one by reversals, which are counted with their swaps, and each
+-- place of the array that has changed is counted
+pub record SeenFlips (old new : SegmentTour) : Type 0 where
+  pub flips : ℕ
+  pub swaps : ℕ
+  pub reversed : AreReversed (seen_order old) (seen_order new) flips swaps
+  pub flips_are : seen_flips new ≡ saturated (seen_flips old + flips)
+  pub swaps_are : seen_swaps new ≡ saturated (seen_swaps old + swaps)
+  pub undo_swaps : seen_undo_swaps new ≡ seen_undo_swaps old
+  pub copied : seen_copied new ≡ seen_copied old
+  pub most : most_of new ≡ most_of old
+  pub size : length (seen_array new) ≡ length (seen_array old)
+  pub writes : saturated (writes_of old + changed (seen_array old) (seen_array new)) ≤ writes_of new
+
+pub SeenFlips-refl : (tour : SegmentTour) → SeenFlips tour tour
+SeenFlips-refl tour = record {
+  flips = 0;
+  swaps = 0;
+  reversed = none;
+  flips_are = omega (arith, tour.fits.2);
+  swaps_are = omega (arith, tour.fits.0);
+  undo_swaps = refl;
+  copied = refl;
+  most = refl;
+  size = refl;
+  writes = omega (arith, tour.writes_fit, changed-refl (seen_array tour));
+}
+
+pub SeenFlips-trans : (r s t : SegmentTour) → SeenFlips r s → SeenFlips s t → SeenFlips r t
+SeenFlips-trans r s t h k = record {
+  flips = h.flips + k.flips;
+  swaps = h.swaps + k.swaps;
+  reversed = AreReversed-append _ _ _ _ _ _ _ h.reversed k.reversed;
+  flips_are = omega (arith, h.flips_are, k.flips_are);
+  swaps_are = omega (arith, h.swaps_are, k.swaps_are);
+  undo_swaps = k.undo_swaps ∙ h.undo_swaps;
+  copied = k.copied ∙ h.copied;
+  most = k.most ∙ h.most;
+  size = k.size ∙ h.size;
+  writes = omega (
+    arith,
+    h.writes,
+    k.writes,
+    changed-trans (seen_array r) (seen_array s) (seen_array t) (omega (arith, h.size)),
+  );
+}
+
+-- and nothing else is counted
+pub SeenFlips-kept : (old new : SegmentTour) → SeenFlips old new →
+    (seen_undo_swaps new ≡ seen_undo_swaps old) × (seen_copied new ≡ seen_copied old)
+SeenFlips-kept old new h = (h.undo_swaps, h.copied)
+
+pub SegmentTour-fits : (tour : SegmentTour) →
+    (seen_swaps tour < 2 ^ 64) × (seen_flips tour < 2 ^ 64) × (seen_undo_swaps tour < 2 ^ 64)
+SegmentTour-fits tour = (tour.fits.0, tour.fits.2, tour.fits.1)

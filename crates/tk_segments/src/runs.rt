@@ -1,0 +1,159 @@
+//! Runs in the order in which they are seen, and how the run of a place is found.
+ghost use Rattle.std.specs.Prelude.{◌≡◌, ◌≤◌, ◌<◌, ◌+◌, ◌-◌, ◌*◌, ℕ, List, IfOk, false, length, vec_len};
+ghost use Rattle.std.specs.Vec.{vec_capacity};
+ghost use Rattle.tk_problem.specs.declared.limits.TheConstants.{CITY_LIMIT};
+ghost use Rattle.tk_tour.specs.Reversal.{begun_at, reversed_places};
+ghost use Rattle.tk_segments.specs.Runs.{AreFound, AreLaidOut, AreNamed, IsAfterPlace, IsSpot, shown};
+
+use crate::joining::{join_runs, parted_at};
+use crate::naming::name_runs;
+use crate::run::Run;
+use crate::spots::{Spot, beside, spot_at, spot_of};
+use crate::turning::{begin_seen, turn_rest, turn_seen};
+use std::alloc::{AllocError, Global};
+
+// One run of all places as they are.
+fn whole(size: u32) -> Run
+    ensures { (result.low ≡ 0) × (result.high ≡ size) × (result.start ≡ 0) × (result.id ≡ 0) × (result.next ≡ 0)
+        × (result.back ≡ false) }
+{
+    Run {
+        low: 0,
+        high: size,
+        start: 0,
+        id: 0,
+        next: 0,
+        back: false,
+    }
+}
+
+/// At most `most` runs of an array of `size` places, in the order in which they are seen. `home` has the index of each
+/// name, and `table` a name for each bucket of places.
+#[derive(Drop)]
+pub struct Runs {
+    pub runs: Vec<Run>,
+    home: Vec<u32>,
+    table: Vec<u32>,
+    pub size: u32,
+    pub most: u32,
+    ghost laid: { AreLaidOut size runs.items },
+    ghost named: { AreNamed runs.items home.items },
+    ghost found: { AreFound size 32 runs.items home.items table.items },
+    ghost room: { most ≤ vec_capacity runs },
+    ghost few: { vec_len runs ≤ most },
+    ghost homes: { length home.items ≡ most },
+    ghost buckets: { size ≤ 32 * length table.items },
+    ghost limits: { (0 < size) × (size ≤ CITY_LIMIT) × (0 < most) × (most ≤ CITY_LIMIT) },
+}
+
+impl Runs {
+    /// All places as they are.
+    ///
+    /// # Errors
+    /// `AllocError` where there is no memory for so many runs.
+    pub fn new(alloc: Global, size: u32, most: u32) -> Result<Runs, AllocError>
+        requires size { (0 < size) × (size ≤ CITY_LIMIT) }
+        requires most { (0 < most) × (most ≤ CITY_LIMIT) }
+        ensures shown { IfOk result (λ r. (order : List ℕ) → length order ≡ size → shown order r.runs.items ≡ order) }
+        ensures one { IfOk result (λ r. vec_len r.runs ≡ 1) }
+        ensures limits { IfOk result (λ r. (r.size ≡ size) × (r.most ≡ most)) }
+    {
+        let mut runs = Vec::with_capacity(alloc, most as usize)?;
+        runs.push_reserved(whole(size));
+        let home = vec![in alloc; 0u32; most as usize]?;
+        let table = vec![in alloc; 0u32; size.div_ceil(32) as usize]?;
+        Ok(Runs {
+            runs,
+            home,
+            table,
+            size,
+            most,
+        })
+    }
+
+    /// All places as they are again.
+    pub fn reset(&mut self)
+        ensures shown { (order : List ℕ) → length order ≡ self.old.size → shown order self.new.runs.items ≡ order }
+        ensures one { vec_len self.new.runs ≡ 1 }
+        ensures limits { (self.new.size ≡ self.old.size) × (self.new.most ≡ self.old.most) }
+    {
+        self.runs.clear();
+        self.runs.push_reserved(whole(self.size));
+        self.home[0] = 0;
+        self.table.fill(0);
+    }
+
+    /// Where a place of the array is seen: the spot, and how many places are seen before it.
+    pub fn spot_of(&self, place: u32) -> (Spot, u32)
+        requires { place < self.now.size }
+        ensures spot { IsSpot self.now.runs.items result.1 result.0 }
+        ensures place { result.0.place ≡ place }
+        ensures inside { result.1 < self.now.size }
+    {
+        spot_of(&self.runs, &self.home, &self.table, self.size, place)
+    }
+
+    /// What is seen at v.
+    pub fn spot_at(&self, v: u32) -> Spot
+        requires { v < self.now.size }
+        ensures { IsSpot self.now.runs.items v result }
+    {
+        spot_at(&self.runs, self.size, v)
+    }
+
+    /// What is seen after a spot, and before it, on the cycle.
+    pub fn beside(&self, spot: Spot) -> (Spot, Spot)
+        requires spot { (v : ℕ) × (IsSpot self.now.runs.items v spot) }
+        ensures after { (v w : ℕ) → IsSpot self.now.runs.items v spot → IsAfterPlace self.now.size v w
+            → IsSpot self.now.runs.items w result.0 }
+        ensures before { (v w : ℕ) → IsSpot self.now.runs.items w spot → IsAfterPlace self.now.size v w
+            → IsSpot self.now.runs.items v result.1 }
+    {
+        beside(&self.runs, self.size, spot)
+    }
+
+    /// What is seen from `first` on, up to `last`, is seen in reverse order.
+    pub fn turn(&mut self, first: u32, last: u32)
+        requires range { (first < last) × (last ≤ self.old.size) }
+        requires room { vec_len self.old.runs + 2 ≤ self.old.most }
+        ensures shown { (order : List ℕ) → self.old.size ≤ length order → shown order self.new.runs.items
+            ≡ reversed_places first (last - first) (shown order self.old.runs.items) }
+        ensures more { vec_len self.new.runs ≤ vec_len self.old.runs + 2 }
+        ensures limits { (self.new.size ≡ self.old.size) × (self.new.most ≡ self.old.most) }
+    {
+        let k = turn_seen(&mut self.runs, &mut self.table, self.size, first, last);
+        name_runs(&self.runs, &mut self.home, k);
+    }
+
+    /// What is seen at v is seen first, and then what is seen from `first` on, up to the end, in reverse order.
+    pub fn begin_and_turn(&mut self, v: u32, first: u32)
+        requires v_in { v < self.old.size }
+        requires range { first < self.old.size }
+        requires room { vec_len self.old.runs + 2 ≤ self.old.most }
+        ensures shown { (order : List ℕ) → self.old.size ≤ length order → shown order self.new.runs.items
+            ≡ reversed_places first (self.old.size - first) (begun_at v (shown order self.old.runs.items)) }
+        ensures more { vec_len self.new.runs ≤ vec_len self.old.runs + 2 }
+        ensures limits { (self.new.size ≡ self.old.size) × (self.new.most ≡ self.old.most) }
+    {
+        begin_seen(&mut self.runs, &mut self.table, self.size, v);
+        turn_rest(&mut self.runs, &mut self.table, self.size, first);
+        name_runs(&self.runs, &mut self.home, 0);
+    }
+
+    /// Joins the run of the newest name to the one from which it was parted, if that is beside it again. What was seen
+    /// at the result is then seen first.
+    pub fn join(&mut self) -> u32
+        ensures first { result < self.old.size }
+        ensures shown { (order : List ℕ) → self.old.size ≤ length order → shown order self.new.runs.items
+            ≡ begun_at result (shown order self.old.runs.items) }
+        ensures fewer { (1 ≤ vec_len self.new.runs) × (vec_len self.new.runs ≤ vec_len self.old.runs) }
+        ensures limits { (self.new.size ≡ self.old.size) × (self.new.most ≡ self.old.most) }
+    {
+        let Some(k) = parted_at(&self.runs, &self.home, self.size) else {
+            return 0;
+        };
+        let (first, named) = join_runs(&mut self.runs, &mut self.table, self.size, k);
+        name_runs(&self.runs, &mut self.home, named);
+        first
+    }
+}

@@ -1,0 +1,351 @@
+//! A tour as an array that is seen through runs.
+ghost use Rattle.std.specs.Prelude.{◌≡◌, ◌≢◌, ◌≤◌, ◌<◌, ◌+◌, ◌-◌, ◌*◌, ◌/◌, ℕ, length, slice_index, vec_len};
+ghost use Rattle.tk_distance.specs.Cities.{IsCity};
+ghost use Rattle.tk_tour.specs.Moves.{IsShorterSide, ReplacesSteps};
+ghost use Rattle.tk_tour.specs.Places.{IsPlaceFrom};
+ghost use Rattle.tk_tour.specs.Reversal.{IsInverse, begun_at, reversed_places};
+ghost use Rattle.tk_segments.specs.Runs.{shown};
+ghost use Rattle.tk_tour.specs.Tour.{IsSizedTour, next_city, prev_city};
+ghost use Rattle.tk_segments.specs.Writes.{ArePaid, changed};
+
+use crate::exchanging::exchange_seen;
+use crate::runs::Runs;
+use crate::writing::write_seen;
+use tk_tour::place_each;
+
+/// The cities of a tour as an array that is seen through runs, begun at `begin`. A reversal of at most `short` places
+/// exchanges cities, a longer one turns runs round.
+#[derive(Drop)]
+pub struct SeenTour {
+    order: Vec<u32>,
+    place: Vec<u32>,
+    spare: Vec<u32>,
+    runs: Runs,
+    begin: u32,
+    short: u32,
+    ghost tour: { IsSizedTour (begun_at begin (shown order.items runs.runs.items)) },
+    ghost inverse: { IsInverse order.items place.items },
+    ghost sizes: { (length order.items ≡ runs.size) × (length spare.items ≡ runs.size) },
+    ghost begins: { begin < runs.size },
+    ghost enough: { runs.size ≤ (runs.most - 2) * ((short + 1) / 2) },
+    ghost some: { 3 ≤ runs.most },
+}
+
+impl SeenTour {
+    ghost use Rattle.tk_segments.specs.SeenTours.{array_of, list_of, room_of, run_count_of};
+
+    /// The tour stands as the list does.
+    pub fn new(
+        order: Vec<u32>,
+        place: Vec<u32>,
+        spare: Vec<u32>,
+        runs: Runs,
+        short: u32,
+    ) -> SeenTour
+        requires tour { IsSizedTour order.items }
+        requires inverse { IsInverse order.items place.items }
+        requires sizes { (length order.items ≡ runs.size) × (length spare.items ≡ runs.size) }
+        requires shown { shown order.items runs.runs.items ≡ order.items }
+        requires enough { (3 ≤ runs.most) × (runs.size ≤ (runs.most - 2) * ((short + 1) / 2)) }
+        ensures list { list_of result ≡ order.items }
+        ensures runs { run_count_of result ≡ vec_len runs.runs }
+        ensures room { room_of result ≡ runs.most - 2 }
+    {
+        SeenTour {
+            order,
+            place,
+            spare,
+            runs,
+            begin: 0,
+            short,
+        }
+    }
+
+    /// How many cities there are.
+    pub fn size(&self) -> u32
+        ensures { result ≡ length (list_of self.now) }
+    {
+        self.order.len() as u32
+    }
+
+    /// How many runs there are.
+    pub fn run_count(&self) -> usize
+        ensures count { result ≡ run_count_of self.now }
+        ensures few { result ≤ room_of self.now + 2 }
+    {
+        self.runs.runs.len()
+    }
+
+    /// The city after c.
+    pub fn next(&self, c: u32) -> u32
+        requires { IsCity (length (list_of self.now)) c }
+        ensures { result ≡ next_city (list_of self.now) c }
+    {
+        self.beside(c).0
+    }
+
+    /// The city before c.
+    pub fn prev(&self, c: u32) -> u32
+        requires { IsCity (length (list_of self.now)) c }
+        ensures { result ≡ prev_city (list_of self.now) c }
+    {
+        self.beside(c).1
+    }
+
+    /// The cities after and before c.
+    pub fn beside(&self, c: u32) -> (u32, u32)
+        requires { IsCity (length (list_of self.now)) c }
+        ensures after { result.0 ≡ next_city (list_of self.now) c }
+        ensures before { result.1 ≡ prev_city (list_of self.now) c }
+    {
+        let (spot, _) = self.runs.spot_of(self.place[c as usize - 1]);
+        let (after, before) = self.runs.beside(spot);
+        (
+            self.order[after.place as usize],
+            self.order[before.place as usize],
+        )
+    }
+
+    // Where the k-th place of the list, from 0, is seen.
+    fn seen_from(&self, k: u32) -> u32
+        requires { k < length (list_of self.now) }
+        ensures { IsPlaceFrom (length (list_of self.now)) self.now.begin k result }
+    {
+        let n = self.size();
+        if k < n - self.begin {
+            self.begin + k
+        } else {
+            self.begin + k - n
+        }
+    }
+
+    /// The city at the k-th place of the list, from 0.
+    pub fn at(&self, k: u32) -> u32
+        requires { k < length (list_of self.now) }
+        ensures { result ≡ slice_index (list_of self.now) k }
+    {
+        self.order[self.runs.spot_at(self.seen_from(k)).place as usize]
+    }
+
+    // Where the city stands in the list, from 0.
+    fn place_of(&self, c: u32) -> u32
+        requires { IsCity (length (list_of self.now)) c }
+        ensures within { result < length (list_of self.now) }
+        ensures city { slice_index (list_of self.now) result ≡ c }
+    {
+        let (_, v) = self.runs.spot_of(self.place[c as usize - 1]);
+        if v < self.begin {
+            v + self.size() - self.begin
+        } else {
+            v - self.begin
+        }
+    }
+
+    /// Where b comes after a and d after c: the places from b to c, or those from d to a where there are fewer of them,
+    /// as the first from 0 and their number.
+    pub fn shorter_side(&self, a: u32, b: u32, c: u32, d: u32) -> (u32, u32)
+        requires a_in { IsCity (length (list_of self.now)) a }
+        requires c_in { IsCity (length (list_of self.now)) c }
+        requires apart { a ≢ c }
+        requires b_after { b ≡ next_city (list_of self.now) a }
+        requires d_after { d ≡ next_city (list_of self.now) c }
+        ensures steps { ReplacesSteps (list_of self.now)
+            (reversed_places result.0 result.1 (list_of self.now)) a b c d }
+        ensures within { result.0 < length (list_of self.now) }
+        ensures side { IsShorterSide (list_of self.now) result.1 a b c d }
+        ensures shorter { 2 * result.1 ≤ length (list_of self.now) }
+    {
+        let n = self.size();
+        let start = self.place_of(b);
+        let end = self.place_of(c);
+        let inner = if start <= end {
+            end - start + 1
+        } else {
+            end + n - start + 1
+        };
+        if inner <= n - inner {
+            return (start, inner);
+        }
+        (self.place_of(d), n - inner)
+    }
+
+    /// Reverses `count` places of the list from `first` on, from 0: how many places it writes.
+    pub fn reverse(&mut self, first: u32, count: u32) -> u64
+        requires first { first < length (list_of self.old) }
+        requires count { 2 * count ≤ length (list_of self.old) }
+        ensures list { list_of self.new ≡ reversed_places first count (list_of self.old) }
+        ensures paid { (writes swaps : ℕ)
+            → ArePaid (length (list_of self.old)) (room_of self.old) writes (run_count_of self.old) swaps
+            → ArePaid (length (list_of self.old)) (room_of self.old) (writes + result) (run_count_of self.new)
+            (swaps + count / 2) }
+        ensures room { room_of self.new ≡ room_of self.old }
+        ensures small { result ≤ length (list_of self.old) }
+        ensures written { changed (array_of self.old) (array_of self.new) ≤ result }
+        ensures size { length (array_of self.new) ≡ length (array_of self.old) }
+    {
+        let v = self.seen_from(first);
+        if count <= self.short {
+            return self.exchange(v, count);
+        }
+        let written = self.make_room();
+        self.turn(v, count);
+        written
+    }
+
+    /// Reverses `count` places of the list from `first` on, from 0, and joins runs again that were parted for a
+    /// reversal of the same places: how many places it writes.
+    pub fn undo(&mut self, first: u32, count: u32) -> u64
+        requires first { first < length (list_of self.old) }
+        requires count { 2 * count ≤ length (list_of self.old) }
+        ensures list { list_of self.new ≡ reversed_places first count (list_of self.old) }
+        ensures paid { (writes swaps : ℕ)
+            → ArePaid (length (list_of self.old)) (room_of self.old) writes (run_count_of self.old) swaps
+            → ArePaid (length (list_of self.old)) (room_of self.old) (writes + result) (run_count_of self.new)
+            (swaps + count / 2) }
+        ensures room { room_of self.new ≡ room_of self.old }
+        ensures small { result ≤ length (list_of self.old) }
+        ensures written { changed (array_of self.old) (array_of self.new) ≤ result }
+        ensures size { length (array_of self.new) ≡ length (array_of self.old) }
+    {
+        let written = self.reverse(first, count);
+        if count <= self.short {
+            return written;
+        }
+        self.join();
+        self.join();
+        written
+    }
+
+    // Joins two runs if they were one when the newest of them was made.
+    fn join(&mut self)
+        ensures list { list_of self.new ≡ list_of self.old }
+        ensures runs { (1 ≤ run_count_of self.new) × (run_count_of self.new ≤ run_count_of self.old) }
+        ensures array { array_of self.new ≡ array_of self.old }
+        ensures room { room_of self.new ≡ room_of self.old }
+    {
+        let first = self.runs.join();
+        self.begin = if first <= self.begin {
+            self.begin - first
+        } else {
+            self.begin + self.runs.size - first
+        };
+    }
+
+    // Reverses what is seen at `count` places from `first` on, by exchanges of two cities: how many places it writes.
+    fn exchange(&mut self, first: u32, count: u32) -> u64
+        requires first { first < length (list_of self.old) }
+        requires count { count ≤ length (list_of self.old) }
+        ensures list { (k : ℕ) → k < length (list_of self.old)
+            → IsPlaceFrom (length (list_of self.old)) self.old.begin k first
+            → list_of self.new ≡ reversed_places k count (list_of self.old) }
+        ensures count { result ≡ 2 * (count / 2) }
+        ensures written { changed (array_of self.old) (array_of self.new) ≤ result }
+        ensures runs { run_count_of self.new ≡ run_count_of self.old }
+        ensures room { room_of self.new ≡ room_of self.old }
+    {
+        exchange_seen(
+            &mut self.order,
+            &mut self.place,
+            &self.runs.runs,
+            self.runs.size,
+            first,
+            count,
+        );
+        2 * (count as u64 / 2)
+    }
+
+    // There is room for two more runs; how many places were written for it.
+    fn make_room(&mut self) -> u64
+        ensures list { list_of self.new ≡ list_of self.old }
+        ensures begin { self.new.begin ≡ self.old.begin }
+        ensures runs { run_count_of self.new ≤ room_of self.new }
+        ensures paid { (writes swaps : ℕ)
+            → ArePaid (length (list_of self.old)) (room_of self.old) writes (run_count_of self.old) swaps
+            → ArePaid (length (list_of self.old)) (room_of self.old) (writes + result) (run_count_of self.new) swaps }
+        ensures room { room_of self.new ≡ room_of self.old }
+        ensures short { self.new.short ≡ self.old.short }
+        ensures small { result ≤ length (list_of self.old) }
+        ensures written { changed (array_of self.old) (array_of self.new) ≤ result }
+    {
+        if self.runs.runs.len() + 2 <= self.runs.most as usize {
+            return 0;
+        }
+        self.rewrite();
+        self.order.len() as u64
+    }
+
+    /// Writes the array as it is seen.
+    pub fn rewrite(&mut self)
+        ensures list { list_of self.new ≡ list_of self.old }
+        ensures begin { self.new.begin ≡ self.old.begin }
+        ensures runs { run_count_of self.new ≡ 1 }
+        ensures room { room_of self.new ≡ room_of self.old }
+        ensures short { self.new.short ≡ self.old.short }
+    {
+        write_seen(
+            &self.order,
+            &self.runs.runs,
+            self.runs.size,
+            0,
+            &mut self.spare,
+        );
+        std::mem::swap(&mut self.order, &mut self.spare);
+        place_each(&self.order, &mut self.place);
+        self.runs.reset();
+    }
+
+    /// Takes the order of a list of the same cities, which one run shows.
+    pub fn take_order(&mut self, cities: &[u32])
+        requires tour { IsSizedTour cities.now }
+        requires size { length cities.now ≡ length (list_of self.old) }
+        ensures list { list_of self.new ≡ cities.now }
+        ensures runs { run_count_of self.new ≡ 1 }
+        ensures room { room_of self.new ≡ room_of self.old }
+    {
+        self.order.copy_from_slice(cities);
+        place_each(&self.order, &mut self.place);
+        self.runs.reset();
+        self.begin = 0;
+    }
+
+    /// Writes the cities into a list, in their order.
+    pub fn write_order(&self, cities: &mut [u32])
+        requires size { length cities.old ≡ length (list_of self.now) }
+        ensures order { cities.new ≡ list_of self.now }
+    {
+        write_seen(
+            &self.order,
+            &self.runs.runs,
+            self.runs.size,
+            self.begin,
+            cities,
+        );
+    }
+
+    // Reverses what is seen at `count` places from `first` on, by turning runs round.
+    fn turn(&mut self, first: u32, count: u32)
+        requires first { first < length (list_of self.old) }
+        requires count { (0 < count) × (count ≤ length (list_of self.old)) }
+        requires room { run_count_of self.old ≤ room_of self.old }
+        ensures list { (k : ℕ) → k < length (list_of self.old)
+            → IsPlaceFrom (length (list_of self.old)) self.old.begin k first
+            → list_of self.new ≡ reversed_places k count (list_of self.old) }
+        ensures runs { run_count_of self.new ≤ run_count_of self.old + 2 }
+        ensures some { 1 ≤ run_count_of self.new }
+        ensures array { array_of self.new ≡ array_of self.old }
+        ensures room { room_of self.new ≡ room_of self.old }
+    {
+        let n = self.runs.size;
+        if count <= n - first {
+            self.runs.turn(first, first + count);
+            return;
+        }
+        let before = first + count - n;
+        self.runs.begin_and_turn(before, first - before);
+        self.begin = if before <= self.begin {
+            self.begin - before
+        } else {
+            self.begin + n - before
+        };
+    }
+}

@@ -1,0 +1,87 @@
+//! A run begins where something is seen.
+ghost use Rattle.std.specs.Prelude.{◌≡◌, ◌≤◌, ◌<◌, ◌+◌, ◌-◌, ◌*◌, ℕ, List, true, false, length, slice_index_or, sum_by};
+ghost use Rattle.std.specs.Prelude.{take, vec_len};
+ghost use Rattle.std.specs.List.{insert};
+ghost use Rattle.std.specs.Vec.{vec_capacity};
+ghost use Rattle.tk_problem.specs.declared.limits.TheConstants.{CITY_LIMIT};
+ghost use Rattle.tk_segments.specs.Runs.{AreLaidOut, CanBeFound, HaveNames, IsSplit, IsWithin, SameBefore};
+ghost use Rattle.tk_segments.specs.Runs.{run_size, shown};
+ghost use Rattle.tk_segments.specs.declared.run.Run.{Run};
+
+use crate::naming::note_run;
+use crate::run::{Run, parts_of};
+use crate::spots::index_at;
+
+// Puts a run before the k-th one.
+fn insert_run(runs: &mut Vec<Run>, k: usize, run: Run)
+    requires index { k ≤ vec_len runs.old }
+    requires room { vec_len runs.old < vec_capacity runs.old }
+    ensures items { runs.new.items ≡ insert runs.old.items k run }
+    ensures capacity { vec_capacity runs.new ≡ vec_capacity runs.old }
+{
+    runs.push_reserved(run);
+    runs[k..].rotate_right(1);
+}
+
+// Parts the k-th run in two, where the second is seen d after the first.
+fn split_run(runs: &mut Vec<Run>, k: usize, d: u32)
+    requires index { k < vec_len runs.old }
+    requires room { vec_len runs.old < vec_capacity runs.old }
+    requires many { vec_len runs.old ≤ CITY_LIMIT }
+    requires inside { (run : Run) → run ≡ slice_index_or runs.old.items k run
+        → (0 < d) × (d < run_size run) × (run.start + d ≤ CITY_LIMIT) }
+    ensures split { IsSplit runs.old.items runs.new.items k d }
+    ensures capacity { vec_capacity runs.new ≡ vec_capacity runs.old }
+{
+    let run = runs[k];
+    let (one, two) = parts_of(run, d, runs.len() as u32);
+    runs[k] = one;
+    insert_run(runs, k + 1, two);
+}
+
+// Of a run that was parted at k, the part of the higher places, which has a new name.
+fn new_part(runs: &[Run], size: u32, k: usize) -> Run
+    requires laid { AreLaidOut size runs.now }
+    requires index { k + 1 < length runs.now }
+    ensures behind { (d : Run) → (slice_index_or runs.now k d).back ≡ true → result ≡ slice_index_or runs.now k d }
+    ensures ahead { (d : Run) → (slice_index_or runs.now k d).back ≡ false
+        → result ≡ slice_index_or runs.now (k + 1) d }
+    ensures within { IsWithin size result }
+{
+    let run = runs[k];
+    if run.back { run } else { runs[k + 1] }
+}
+
+/// A run begins where v is seen: its index.
+pub fn cut_runs(runs: &mut Vec<Run>, table: &mut [u32], size: u32, v: u32) -> usize
+    requires size { size ≤ CITY_LIMIT }
+    requires many { vec_len runs.old ≤ CITY_LIMIT }
+    requires laid { AreLaidOut size runs.old.items }
+    requires buckets { size ≤ 32 * length table.old }
+    requires v_in { v ≤ size }
+    requires room { vec_len runs.old < vec_capacity runs.old }
+    ensures index { result ≤ vec_len runs.new }
+    ensures begins { sum_by run_size (take result runs.new.items) ≡ v }
+    ensures shown { (order : List ℕ) → shown order runs.new.items ≡ shown order runs.old.items }
+    ensures laid { AreLaidOut size runs.new.items }
+    ensures before { (i : ℕ) → i ≤ vec_len runs.old → sum_by run_size (take i runs.old.items) ≤ v
+        → sum_by run_size (take i runs.new.items) ≡ sum_by run_size (take i runs.old.items) }
+    ensures more { (vec_len runs.old ≤ vec_len runs.new) × (vec_len runs.new ≤ vec_len runs.old + 1) }
+    ensures capacity { vec_capacity runs.new ≡ vec_capacity runs.old }
+    ensures names { HaveNames runs.old.items → HaveNames runs.new.items }
+    ensures same { SameBefore (result - 1) runs.old.items runs.new.items }
+    ensures found { CanBeFound size 32 runs.old.items table.old → CanBeFound size 32 runs.new.items table.new }
+    ensures table { length table.new ≡ length table.old }
+{
+    if v == size {
+        return runs.len();
+    }
+    let k = index_at(runs, size, v);
+    let start = runs[k].start;
+    if start == v {
+        return k;
+    }
+    split_run(runs, k, v - start);
+    note_run(table, new_part(runs, size, k));
+    k + 1
+}

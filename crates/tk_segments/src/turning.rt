@@ -1,0 +1,137 @@
+//! What runs show is turned round, or begun elsewhere.
+ghost use Rattle.std.specs.Prelude.{◌≡◌, ◌≤◌, ◌<◌, ◌+◌, ◌-◌, ◌*◌, ℕ, List, length, map, reverse, sum_by, take, vec_len};
+ghost use Rattle.std.specs.List.{All};
+ghost use Rattle.std.specs.Vec.{vec_capacity};
+ghost use Rattle.tk_problem.specs.declared.limits.TheConstants.{CITY_LIMIT};
+ghost use Rattle.tk_tour.specs.Reversal.{begun_at, reversed_places};
+ghost use Rattle.tk_segments.specs.Runs.{AreLaidOut, CanBeFound, HaveNames, SameBefore, placed, shown, run_size};
+ghost use Rattle.tk_segments.specs.Runs.{turned_run};
+
+use crate::run::Run;
+use crate::splitting::cut_runs;
+
+// Each run is seen the other way, in reverse order.
+fn turn_round(runs: &mut [Run])
+    ensures { runs.new ≡ map turned_run (reverse runs.old) }
+{
+    runs.reverse();
+    for k in 0..runs.len() {
+        runs[k].back = !runs[k].back;
+    }
+}
+
+// The runs are seen from v on, one after another.
+fn place_runs(runs: &mut [Run], v: u32)
+    requires sizes { All (λ r. r.low ≤ r.high) runs.old }
+    requires fits { v + sum_by run_size runs.old ≤ CITY_LIMIT }
+    ensures { runs.new ≡ placed v runs.old }
+{
+    let mut v = v;
+    for k in 0..runs.len() {
+        let run = runs[k];
+        runs[k].start = v;
+        v += run.high - run.low;
+    }
+}
+
+// What the runs from i up to j show, from `first` on, is seen in reverse order.
+fn turn_runs(runs: &mut [Run], size: u32, i: usize, j: usize, first: u32)
+    requires range { (i ≤ j) × (j ≤ length runs.old) }
+    requires size { size ≤ CITY_LIMIT }
+    requires laid { AreLaidOut size runs.old }
+    requires first { first ≡ sum_by run_size (take i runs.old) }
+    ensures shown { (order : List ℕ) → size ≤ length order → shown order runs.new
+        ≡ reversed_places first (sum_by run_size (take j runs.old) - first) (shown order runs.old) }
+    ensures laid { AreLaidOut size runs.new }
+    ensures same_length { length runs.new ≡ length runs.old }
+    ensures names { HaveNames runs.old → HaveNames runs.new }
+    ensures same { SameBefore i runs.old runs.new }
+    ensures found { (table : List ℕ) → CanBeFound size 32 runs.old table → CanBeFound size 32 runs.new table }
+{
+    let part = &mut runs[i..j];
+    turn_round(part);
+    place_runs(part, first);
+}
+
+/// What is seen from `first` on, up to `last`, is seen in reverse order: the index up to which no run has changed.
+pub fn turn_seen(runs: &mut Vec<Run>, table: &mut [u32], size: u32, first: u32, last: u32) -> usize
+    requires size { size ≤ CITY_LIMIT }
+    requires many { vec_len runs.old < CITY_LIMIT }
+    requires laid { AreLaidOut size runs.old.items }
+    requires buckets { size ≤ 32 * length table.old }
+    requires range { (first < last) × (last ≤ size) }
+    requires room { vec_len runs.old + 2 ≤ vec_capacity runs.old }
+    ensures shown { (order : List ℕ) → size ≤ length order → shown order runs.new.items
+        ≡ reversed_places first (last - first) (shown order runs.old.items) }
+    ensures laid { AreLaidOut size runs.new.items }
+    ensures more { (vec_len runs.old ≤ vec_len runs.new) × (vec_len runs.new ≤ vec_len runs.old + 2) }
+    ensures capacity { vec_capacity runs.new ≡ vec_capacity runs.old }
+    ensures names { HaveNames runs.old.items → HaveNames runs.new.items }
+    ensures same { SameBefore result runs.old.items runs.new.items }
+    ensures found { CanBeFound size 32 runs.old.items table.old → CanBeFound size 32 runs.new.items table.new }
+    ensures table { length table.new ≡ length table.old }
+{
+    let i = cut_runs(runs, table, size, first);
+    let j = cut_runs(runs, table, size, last);
+    turn_runs(runs, size, i, j, first);
+    i.saturating_sub(1)
+}
+
+/// What is seen from `first` on, up to the end, is seen in reverse order.
+pub fn turn_rest(runs: &mut Vec<Run>, table: &mut [u32], size: u32, first: u32)
+    requires size { size ≤ CITY_LIMIT }
+    requires many { vec_len runs.old ≤ CITY_LIMIT }
+    requires laid { AreLaidOut size runs.old.items }
+    requires buckets { size ≤ 32 * length table.old }
+    requires first_in { first < size }
+    requires room { vec_len runs.old < vec_capacity runs.old }
+    ensures shown { (order : List ℕ) → size ≤ length order → shown order runs.new.items
+        ≡ reversed_places first (size - first) (shown order runs.old.items) }
+    ensures laid { AreLaidOut size runs.new.items }
+    ensures more { (vec_len runs.old ≤ vec_len runs.new) × (vec_len runs.new ≤ vec_len runs.old + 1) }
+    ensures capacity { vec_capacity runs.new ≡ vec_capacity runs.old }
+    ensures names { HaveNames runs.old.items → HaveNames runs.new.items }
+    ensures found { CanBeFound size 32 runs.old.items table.old → CanBeFound size 32 runs.new.items table.new }
+    ensures table { length table.new ≡ length table.old }
+{
+    let i = cut_runs(runs, table, size, first);
+    let j = runs.len();
+    turn_runs(runs, size, i, j, first);
+}
+
+/// What the k-th run shows is seen first.
+pub fn begin_run(runs: &mut [Run], size: u32, k: usize)
+    requires index { k ≤ length runs.old }
+    requires size { size ≤ CITY_LIMIT }
+    requires laid { AreLaidOut size runs.old }
+    ensures shown { (order : List ℕ) → size ≤ length order → shown order runs.new
+        ≡ begun_at (sum_by run_size (take k runs.old)) (shown order runs.old) }
+    ensures laid { AreLaidOut size runs.new }
+    ensures same_length { length runs.new ≡ length runs.old }
+    ensures names { HaveNames runs.old → HaveNames runs.new }
+    ensures found { (table : List ℕ) → CanBeFound size 32 runs.old table → CanBeFound size 32 runs.new table }
+{
+    runs.rotate_left(k);
+    place_runs(runs, 0);
+}
+
+/// What is seen at v is seen first.
+pub fn begin_seen(runs: &mut Vec<Run>, table: &mut [u32], size: u32, v: u32)
+    requires size { size ≤ CITY_LIMIT }
+    requires many { vec_len runs.old ≤ CITY_LIMIT }
+    requires laid { AreLaidOut size runs.old.items }
+    requires buckets { size ≤ 32 * length table.old }
+    requires v_in { v ≤ size }
+    requires room { vec_len runs.old < vec_capacity runs.old }
+    ensures shown { (order : List ℕ) → size ≤ length order → shown order runs.new.items
+        ≡ begun_at v (shown order runs.old.items) }
+    ensures laid { AreLaidOut size runs.new.items }
+    ensures more { (vec_len runs.old ≤ vec_len runs.new) × (vec_len runs.new ≤ vec_len runs.old + 1) }
+    ensures capacity { vec_capacity runs.new ≡ vec_capacity runs.old }
+    ensures names { HaveNames runs.old.items → HaveNames runs.new.items }
+    ensures found { CanBeFound size 32 runs.old.items table.old → CanBeFound size 32 runs.new.items table.new }
+    ensures table { length table.new ≡ length table.old }
+{
+    let k = cut_runs(runs, table, size, v);
+    begin_run(runs, size, k);
+}

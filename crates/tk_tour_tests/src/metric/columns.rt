@@ -1,0 +1,75 @@
+//! A sweep of a metric in which y tells nothing.
+ghost use Rattle.std.specs.Prelude.{◌≤◌};
+ghost use Rattle.tk_problem.specs.declared.limits.TheConstants.{CITY_LIMIT};
+
+use crate::metric::lists::expect;
+use std::test::Fail;
+use tk_metric::{Metric, Planar, near_scan, near_sweep};
+use tk_text::Point;
+
+/// Cities in ten columns, where the columns alone tell how far two cities are apart.
+#[derive(Drop)]
+struct Columns {
+    cities: u32,
+    ghost few: { cities ≤ CITY_LIMIT },
+}
+
+impl Metric for Columns {
+    ghost use Rattle.tk_tour_tests.specs.Columns.{column_gap, column_gap-swap, column_gap-same, column_gap-limit};
+
+    ghost size_of = { λ m. m.cities };
+
+    ghost distance = { λ _. column_gap };
+
+    ghost size_limit = { λ m. m.few };
+
+    ghost symmetric = { λ _. column_gap-swap };
+
+    ghost diagonal = { λ _. column_gap-same };
+
+    ghost distance_limit = { λ _. column_gap-limit };
+
+    fn size(&self) -> u32 {
+        self.cities
+    }
+
+    fn dist(&self, a: u32, b: u32) -> i64 {
+        (a % 10).abs_diff(b % 10) as i64
+    }
+}
+
+impl Planar for Columns {
+    ghost use Rattle.tk_tour_tests.specs.Columns.{column_place, column_gap-wide, column_gap-floor};
+
+    ghost place_of = { λ _. column_place };
+
+    ghost floor = { λ _ dx. dx };
+
+    ghost wide = { λ _. column_gap-wide };
+
+    ghost floor_rises = { λ _ s t below _. below };
+
+    ghost floor_bounds = { λ _. column_gap-floor };
+
+    fn place(&self, c: u32) -> Point {
+        Point {
+            x: (c % 10) as i64,
+            y: c as i64 * 1000,
+        }
+    }
+
+    fn floor_x(&self, dx: u64) -> i64 {
+        dx as i64
+    }
+}
+
+#[test]
+fn sweeps_a_metric_in_which_y_tells_nothing(rt: HostRuntime) -> Result<(), Fail> {
+    let columns = Columns { cities: 12 };
+    let want = [
+        11, 2, 12, 1, 2, 4, 3, 5, 4, 6, 5, 7, 6, 8, 7, 9, 8, 7, 1, 11, 1, 2, 2, 1,
+    ];
+    expect(&rt, &near_scan(rt.alloc(), &columns, 2)?, &want);
+    expect(&rt, &near_sweep(rt.alloc(), &columns, 2)?, &want);
+    Ok(())
+}
