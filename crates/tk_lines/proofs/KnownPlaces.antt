@@ -12,7 +12,7 @@ use Rattle.tk_lines.specs.declared.reader.PieceReader.{PieceReader}
 use Rattle.tk_lines.specs.Pieces.{Format}
 use Rattle.tk_lines.specs.Reader.Forms.{Promise, IsToldWord}
 use Rattle.tk_lines.specs.Reader.Places.{Next, Within, this, anything, DecidesIf, AtPlace, Fed}
-use Rattle.tk_lines.specs.Reader.Steps.{IsFaultWith, IsSettled, EndsPlace, ends_at}
+use Rattle.tk_lines.specs.Reader.Steps.{IsFaultWith, EndsPlace, ends_at}
 use Rattle.tk_lines.proofs.LineSteps.{decides_byte}
 
 -- where a reader stands that has taken these bytes
@@ -53,10 +53,3 @@ this_ends b places.Word h = this_within b _ (λ e more. h)
 this_ends b places.Token h = this_within b _ (λ e more. h)
 this_ends b (places.MinusOne o) h = this_within b _ (λ e more. h)
 this_ends b _ h = tt
-
--- where nothing is open, no byte ends it
-pub settled_ends : (b : ℕ) (place : Place) → IsSettled place → ends_at b place ≡ false
-settled_ends b places.Word h = absurd h
-settled_ends b places.Token h = absurd h
-settled_ends b (places.MinusOne o) h = absurd h
-settled_ends b _ h = refl

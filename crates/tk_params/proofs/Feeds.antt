@@ -209,15 +209,6 @@ missing_at_end s h = by_file (file_in (look keys.ProblemFile s.settings)) h
     by_file None h = refl
     by_file (Some name) h = absurd cc
 
--- what they ask for, once they name it
-pub asked_in : (s : ParamReader) (p : ParamsAre) → asked s.settings ≡ Some p → p ≡ params_in s
-asked_in s p h = by_file (file_in (look keys.ProblemFile s.settings)) h
-  where
-    by_file : (name : Option (List ℕ)) → option_map (λ problem. asked_of problem s.settings) name ≡ Some p →
-        p ≡ asked_of (unwrap_or name []) s.settings
-    by_file None h = absurd cc
-    by_file (Some name) h = cc
-
 -- the answer at the end, as the reader gives it
 pub ended_as : (line : ℕ) (settings : Settings) (bs : List ℕ) →
     params_decided true bs ≡ Some (answer_at_end line settings) →

@@ -45,12 +45,6 @@ FlipsAlone-refl tour = record {
   copied = refl;
 }
 
--- no flips, and no swaps
-pub FlipsAlone-refl-counts : (tour : ArrayTour) →
-    ((FlipsAlone-refl tour).flips ≡ 0) × ((FlipsAlone-refl tour).swaps ≡ 0)
-unfolding FlipsAlone-refl
-FlipsAlone-refl-counts tour = (refl, refl)
-
 pub FlipsAlone-trans : (r s t : ArrayTour) → FlipsAlone r s → FlipsAlone s t → FlipsAlone r t
 FlipsAlone-trans r s t h k = record {
   flips = h.flips + k.flips;
@@ -61,12 +55,6 @@ FlipsAlone-trans r s t h k = record {
   undo_swaps = k.undo_swaps ∙ h.undo_swaps;
   copied = k.copied ∙ h.copied;
 }
-
--- the flips of both, and the swaps of both
-pub FlipsAlone-trans-counts : (r s t : ArrayTour) (h : FlipsAlone r s) (k : FlipsAlone s t) →
-    ((FlipsAlone-trans r s t h k).flips ≡ h.flips + k.flips) × ((FlipsAlone-trans r s t h k).swaps ≡ h.swaps + k.swaps)
-unfolding FlipsAlone-trans
-FlipsAlone-trans-counts r s t h k = (refl, refl)
 
 -- and nothing else is counted
 pub FlipsAlone-kept : (old new : ArrayTour) → FlipsAlone old new →
