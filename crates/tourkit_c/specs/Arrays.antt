@@ -5,7 +5,8 @@ use Rattle.tk_engines.specs.ReadProblems.{read_distance}
 use Rattle.tk_metric.specs.Near.{AreNearest}
 use Rattle.tk_tour.specs.Tour.{tour_length}
 use Rattle.tk_tour.specs.Verdict.{IsVerdict}
-use Rattle.tk_tour.specs.declared.verdict.Verdict.TheVariants.{Tour, WrongCount, OutOfRange, RepeatedCity}
+use Rattle.tk_tour.specs.declared.verdict.Verdict.{Verdict}
+use Rattle.tourkit_c.specs.Outcomes.{ended, verdict_answer}
 use Rattle.tourkit_c.specs.Texts.{TextSays}
 use Rattle.tourkit_c.specs.declared.answer.Answer.{Answer}
 
@@ -32,24 +33,24 @@ pub record AreNearOf (k : ℕ) (problem : List ℕ) (entries : List ℕ) : Type 
   pub are : AreNearIn p.n (read_distance p.weights) k entries
 
 -- what the status says of an array with so many numbers: it is 0 where just as many are needed, which are written, and
--- 4 where another number of them is needed; it is not 1, since nothing is claimed
+-- 4 where another number of them is needed; it is not 1, since nothing is claimed. Nothing is needed after a refusal
 pub record IsArrayStatus (count : ℕ) (answer : Answer) : Type 0 where
   pub known : answer.status ≤ 4
   pub unclaimed : answer.status ≢ 1
-  pub fits : answer.status ≡ 0 → answer.needed ≡ count
+  pub fits : answer.status ≡ 0 → answer ≡ ended 0 count
+  pub unwritten : answer.status ≡ 2 → answer.needed ≡ 0
+  pub memory : answer.status ≡ 3 → answer ≡ ended 3 0
   pub misfits : answer.status ≡ 4 → answer.needed ≢ count
 
 -- how many numbers there are, told in place of them
 abbrev pub IsCountOf : (ProblemIs → ℕ) → List ℕ → Answer → Type 0
-IsCountOf count problem answer = (p : ProblemIs) × TextSays problem_texts problem p × (answer.needed ≡ count p)
+IsCountOf count problem answer = (p : ProblemIs) × TextSays problem_texts problem p × (answer ≡ ended 4 (count p))
 
 -- what an answer tells of a list as a tour: its length, or the number of its first fault and the place of that
 pub record HasVerdict (n : ℕ) (distance : ℕ → ℕ → ℕ) (cities : List ℕ) (answer : Answer) : Type 0 where
-  pub tour : answer.status ≡ 0 → IsVerdict n cities Tour × (answer.length ≡ tour_length distance cities)
-  pub numbers : answer.status ≡ 1 → (20 ≤ answer.kind) × (answer.kind ≤ 22)
-  pub count : answer.status ≡ 1 → answer.kind ≡ 20 → IsVerdict n cities WrongCount
-  pub range : answer.status ≡ 1 → answer.kind ≡ 21 → IsVerdict n cities (OutOfRange answer.place)
-  pub repeated : answer.status ≡ 1 → answer.kind ≡ 22 → IsVerdict n cities (RepeatedCity answer.place)
+  pub verdict : Verdict
+  pub is : IsVerdict n cities verdict
+  pub answer_is : answer ≡ verdict_answer verdict (tour_length distance cities)
 
 -- the same of a list as a tour of the problem of a text
 pub record IsTourCheckOf (problem cities : List ℕ) (answer : Answer) : Type 0 where

@@ -2,6 +2,7 @@ pub mod Answers
 pub mod Arrays
 pub mod Checks
 pub mod HandedOut
+pub mod Outcomes
 pub mod Plotted
 pub mod Points
 pub mod Solved

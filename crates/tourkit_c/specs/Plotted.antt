@@ -1,5 +1,5 @@
 -- What `plot` gives for texts in memory.
-use Rattle.std.specs.Prelude.{◌≡◌, ◌⊎◌, Option, ℕ, Bool, true, false, List, [], length, None, is_some}
+use Rattle.std.specs.Prelude.{◌≡◌, ◌⊎◌, Option, ℕ, Bool, true, false, List, [], None, is_some}
 use Rattle.tk_text.specs.Problem.{ProblemIs, problem_texts}
 use Rattle.tk_text.specs.Solution.{solution_texts}
 use Rattle.tk_text.specs.Tour.{tour_texts}
@@ -10,8 +10,7 @@ use Rattle.tk_engines.specs.Plot.{without_places}
 use Rattle.tk_engines.specs.declared.fault.Fault.{Fault}
 use Rattle.tk_picture.specs.declared.picture.Form.TheVariants as forms
 use Rattle.tourkit_c.specs.Answers.{IsFaulty}
-use Rattle.tourkit_c.specs.HandedOut.{handed_out}
-use Rattle.tourkit_c.specs.Texts.{HasFault, IsWritten, TextSays, route_status, tour_status}
+use Rattle.tourkit_c.specs.Texts.{AreWritten, HasFault, TextSays, route_status, tour_status}
 use Rattle.tk_words.specs.declared.fault.TextFault.{TextFault}
 use Rattle.tourkit_c.specs.declared.answer.Answer.{Answer}
 
@@ -43,17 +42,11 @@ abbrev pub line_in : Output → List ℕ
 line_in (Drawn picture) = []
 line_in (Refused line) = line
 
--- the picture and the line in two buffers
-pub record IsPlotWritten (status : ℕ) (output : Output) (out out' told told' : List ℕ) (answer : Answer) : Type 0 where
-  pub picture : IsWritten status (picture_in output) out out' answer
-  pub needed_is : answer.needed_file ≡ length (line_in output)
-  pub bytes : told' ≡ handed_out (line_in output) told
-
 -- the picture of a problem and of what is claimed of it, or the line on its fault, stands in one of two buffers
 abbrev pub HoldPlot : Bool → List ℕ → List ℕ → List ℕ → List ℕ → List ℕ → List ℕ → Answer → Type 0
 HoldPlot given problem claim out out' told told' answer =
     (done : Plotted) × (output : Output) × IsPlotOf given problem claim done output
-    × IsPlotWritten (plot_status done) output out out' told told' answer
+    × AreWritten (plot_status done) (picture_in output) out out' (line_in output) told told' answer
 
 -- a picture is made of places
 abbrev pub plot_misfit : ProblemIs → Option Fault

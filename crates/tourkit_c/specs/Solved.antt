@@ -1,5 +1,5 @@
 -- What `solve` gives for texts in memory.
-use Rattle.std.specs.Prelude.{◌≡◌, ℕ, Bool, true, false, List, length, Option, None, Some, Ok, Err, is_some, option_map}
+use Rattle.std.specs.Prelude.{◌≡◌, ℕ, Bool, true, false, List, Option, None, Some, Ok, Err, is_some, option_map}
 use Rattle.tk_text.specs.Problem.{ProblemIs, problem_texts}
 use Rattle.tk_text.specs.Tour.{tour_texts}
 use Rattle.tk_engines.specs.Asked.{ParamsAre}
@@ -12,9 +12,9 @@ use Rattle.tk_engines.specs.Solve.{Files, IsInitial, solve_task, unfit_key}
 use Rattle.tk_tour.specs.declared.fault.TourFault.{TourFault}
 use Rattle.tk_engines.specs.declared.fault.Fault.{Fault}
 use Rattle.tk_engines.specs.declared.fault.Fault.TheVariants.{Initial, NotForType}
-use Rattle.tourkit_c.specs.Answers.{IsFaulty, IsRightRefusal, TellsParam}
-use Rattle.tourkit_c.specs.HandedOut.{handed_out}
-use Rattle.tourkit_c.specs.Texts.{HasFault, IsWritten, TextSays}
+use Rattle.tourkit_c.specs.Answers.{IsFaulty, IsRightRefusal}
+use Rattle.tourkit_c.specs.Outcomes.{param_number, refused}
+use Rattle.tourkit_c.specs.Texts.{AreWritten, HasFault, TextSays}
 use Rattle.tourkit_c.specs.declared.answer.Answer.{Answer}
 
 -- the tour to begin with, where the parameters name one
@@ -56,12 +56,6 @@ IsInitialFault given initial p f = (given ≡ true) × HasFault tour_texts initi
 abbrev pub IsInitialFaulty : Bool → List ℕ → ProblemIs → Answer → Type 0
 IsInitialFaulty given initial p answer = (given ≡ true) × IsFaulty tour_texts 3 initial answer
 
--- the lines and the text in two buffers
-pub record AreFilesWritten (files : Files) (out out' file file' : List ℕ) (answer : Answer) : Type 0 where
-  pub lines : IsWritten 0 files.out out out' answer
-  pub needed_is : answer.needed_file ≡ length files.file
-  pub bytes : file' ≡ handed_out files.file file
-
 -- what keeps a problem from what parameters ask for: the first key that its type has no use for
 abbrev pub misfit_of : ParamsAre → ProblemIs → Option Fault
 misfit_of p problem = option_map NotForType (unfit_key p problem)
@@ -73,13 +67,13 @@ HasParamFault = HasFault params_texts
 -- the parameters have the fault that the answer tells
 pub record AreParamsRefused (parameters : List ℕ) (answer : Answer) : Type 0 where
   pub fault : ParamFault
-  pub told : TellsParam fault answer
+  pub told : answer ≡ refused 1 fault.line (param_number fault.kind) answer.needed
   pub is : params_answer parameters ≡ Err fault
 
 -- the files that solve a problem stand in the two buffers
 abbrev pub HoldFiles : (Files → Type 0) → List ℕ → List ℕ → List ℕ → List ℕ → Answer → Type 0
 HoldFiles Solves out out' file file' answer =
-    (files : Files) × Solves files × AreFilesWritten files out out' file file' answer
+    (files : Files) × Solves files × AreWritten 0 files.out out out' files.file file file' answer
 
 -- what the answer tells keeps these parameters from being searched with: the problem, or the tour to begin with
 abbrev pub IsSearchRefused : ParamsAre → List ℕ → List ℕ → Answer → Type 0

@@ -1,7 +1,7 @@
 //! What an export tells beside what it writes.
-ghost use Rattle.std.specs.Prelude.{◌≡◌, ◌≤◌, ◌⊎◌};
-ghost use Rattle.tourkit_c.specs.Answers.{IsFaultAnswer, IsParamAnswer, IsTextAnswer, IsTourAnswer, param_number};
-ghost use Rattle.tourkit_c.specs.Answers.{text_number};
+ghost use Rattle.std.specs.Prelude.{◌≡◌, ◌≤◌};
+ghost use Rattle.tourkit_c.specs.Outcomes.{ended, ended_twice, fault_answer, found, of_length, param_answer};
+ghost use Rattle.tourkit_c.specs.Outcomes.{clash_answer, clashing, param_number, refused, text_answer, text_number};
 ghost use Rattle.tourkit_c.specs.Texts.{IsSomeText};
 
 use crate::hand_out::hand_out;
@@ -82,9 +82,7 @@ fn number_of_params(kind: &ParamKind) -> u32
 impl Answer {
     /// A call that ended with a status alone.
     pub(crate) fn ended(status: u32, needed: usize) -> Answer
-        ensures status { result.status ≡ status }
-        ensures needed { result.needed ≡ needed }
-        ensures text { result.text ≡ 0 }
+        ensures { result ≡ ended status needed }
     {
         Answer {
             status,
@@ -100,10 +98,7 @@ impl Answer {
 
     /// A call that ended with a status and two texts.
     pub(crate) fn ended_twice(status: u32, needed: usize, needed_file: usize) -> Answer
-        ensures status { result.status ≡ status }
-        ensures needed { result.needed ≡ needed }
-        ensures needed_file { result.needed_file ≡ needed_file }
-        ensures text { result.text ≡ 0 }
+        ensures { result ≡ ended_twice status needed needed_file }
     {
         Answer {
             needed_file,
@@ -113,9 +108,7 @@ impl Answer {
 
     /// A tour of this length.
     pub(crate) fn of_length(length: u64) -> Answer
-        ensures status { result.status ≡ 0 }
-        ensures length { result.length ≡ length }
-        ensures text { result.text ≡ 0 }
+        ensures { result ≡ of_length length }
     {
         Answer {
             length,
@@ -125,10 +118,7 @@ impl Answer {
 
     /// A fault of what was claimed, and its place.
     pub(crate) fn found(kind: u32, place: u32) -> Answer
-        ensures status { result.status ≡ 1 }
-        ensures kind { result.kind ≡ kind }
-        ensures place { result.place ≡ place }
-        ensures text { result.text ≡ 0 }
+        ensures { result ≡ found kind place }
     {
         Answer {
             kind,
@@ -137,100 +127,79 @@ impl Answer {
         }
     }
 
-    /// A text with a fault.
-    pub(crate) fn refused(text: u32, line: u64, kind: u32) -> Answer
-        ensures status { result.status ≡ 2 }
-        ensures text { result.text ≡ text }
-        ensures line { result.line ≡ line }
-        ensures kind { result.kind ≡ kind }
+    /// A text with a fault, and how many bytes its message has.
+    pub(crate) fn refused(text: u32, line: u64, kind: u32, needed: usize) -> Answer
+        ensures { result ≡ refused text line kind needed }
     {
         Answer {
-            status: REFUSED,
             text,
             line,
             kind,
-            place: 0,
-            length: 0,
-            needed: 0,
-            needed_file: 0,
+            ..Answer::ended(REFUSED, needed)
         }
     }
 
-    /// The fault of a text.
-    pub(crate) fn of_text(text: u32, fault: &TextFault) -> Answer
-        ensures is { IsTextAnswer text fault.now result }
-        ensures early { result.status ≤ 3 }
-        ensures text { (result.text ≡ 0) ⊎ (result.text ≡ text) }
+    /// The fault of a text, whose message has so many bytes.
+    pub(crate) fn of_text(text: u32, fault: &TextFault, needed: usize) -> Answer
+        ensures { result ≡ text_answer text fault.now needed }
     {
         match fault.kind {
-            TextKind::NoMemory | TextKind::Read => Answer::ended(NO_MEMORY, 0),
-            _ => Answer::refused(text, fault.line, number(&fault.kind)),
+            TextKind::NoMemory | TextKind::Read => Answer::ended(NO_MEMORY, needed),
+            _ => Answer::refused(text, fault.line, number(&fault.kind), needed),
         }
     }
 
-    /// The fault of parameters.
-    pub(crate) fn of_params(fault: &ParamFault) -> Answer
-        ensures late { 2 ≤ result.status }
-        ensures is { IsParamAnswer fault.now result }
+    /// The fault of parameters, whose message has so many bytes.
+    fn of_params(fault: &ParamFault, needed: usize) -> Answer
+        ensures { result ≡ param_answer fault.now needed }
     {
         match fault.kind {
-            ParamKind::NoMemory | ParamKind::Read => Answer::ended(NO_MEMORY, 0),
-            _ => Answer::refused(1, fault.line, number_of_params(&fault.kind)),
+            ParamKind::NoMemory | ParamKind::Read => Answer::ended(NO_MEMORY, needed),
+            _ => Answer::refused(1, fault.line, number_of_params(&fault.kind), needed),
         }
     }
 
-    /// The fault that ended an engine: the problem is the first text and the other is the second, if `problem` is 1.
-    pub(crate) fn of(problem: u32, fault: &Fault) -> Answer
+    /// The fault that ended an engine, whose message has so many bytes. The problem is the text of this number, and the
+    /// other text is the next.
+    fn of(problem: u32, fault: &Fault, needed: usize) -> Answer
         requires { problem ≤ 2 }
-        ensures late { 2 ≤ result.status }
-        ensures early { result.status ≤ 3 }
-        ensures text { (result.text ≡ 0) ⊎ (problem ≤ result.text) }
-        ensures is { IsFaultAnswer problem fault.now result }
+        ensures { result ≡ fault_answer problem fault.now needed }
     {
         match fault {
-            Fault::Problem(fault) => Answer::of_text(problem, fault),
-            Fault::Tour(fault) | Fault::Solution(fault) => Answer::of_text(problem + 1, fault),
-            Fault::Initial(fault) => Answer::of_tour(3, fault),
-            Fault::WrongType => Answer::refused(0, 0, 16),
-            Fault::NotForType(_) => Answer::refused(0, 0, 17),
-            Fault::TooLarge => Answer::refused(0, 0, 18),
-            Fault::NoPlaces => Answer::refused(0, 0, 19),
-            Fault::Write(_) | Fault::NoMemory => Answer::ended(NO_MEMORY, 0),
+            Fault::Problem(fault) => Answer::of_text(problem, fault, needed),
+            Fault::Tour(fault) | Fault::Solution(fault) => Answer::of_text(
+                problem + 1,
+                fault,
+                needed,
+            ),
+            Fault::Initial(fault) => Answer::of_tour(fault, needed),
+            Fault::WrongType => Answer::refused(0, 0, 16, needed),
+            Fault::NotForType(_) => Answer::refused(0, 0, 17, needed),
+            Fault::TooLarge => Answer::refused(0, 0, 18, needed),
+            Fault::NoPlaces => Answer::refused(0, 0, 19, needed),
+            Fault::Write(_) | Fault::NoMemory => Answer::ended(NO_MEMORY, needed),
         }
     }
 
-    /// The fault of a list as a tour.
-    fn of_tour(text: u32, fault: &TourFault) -> Answer
-        ensures late { 2 ≤ result.status }
-        ensures early { result.status ≤ 3 }
-        ensures known { (result.text ≡ 0) ⊎ (result.text ≡ text) }
-        ensures is { text ≡ 3 → IsTourAnswer fault.now result }
-        ensures kind { (20 ≤ result.kind) ⊎ (result.status ≡ 3) }
+    /// The fault of a tour to begin with, which is the third text.
+    fn of_tour(fault: &TourFault, needed: usize) -> Answer
+        ensures { result ≡ clash_answer fault.now needed }
     {
         match fault {
-            TourFault::WrongCount => Answer::at_place(text, 20, 0),
-            TourFault::OutOfRange(place) => Answer::at_place(text, 21, *place),
-            TourFault::RepeatedCity(place) => Answer::at_place(text, 22, *place),
-            TourFault::NoMemory => Answer::ended(NO_MEMORY, 0),
+            TourFault::WrongCount => Answer::clashing(20, 0, needed),
+            TourFault::OutOfRange(place) => Answer::clashing(21, *place, needed),
+            TourFault::RepeatedCity(place) => Answer::clashing(22, *place, needed),
+            TourFault::NoMemory => Answer::ended(NO_MEMORY, needed),
         }
     }
 
-    /// A tour with a fault, and its place.
-    fn at_place(text: u32, kind: u32, place: u32) -> Answer
-        ensures status { result.status ≡ 2 }
-        ensures text { result.text ≡ text }
-        ensures kind { result.kind ≡ kind }
-        ensures place { result.place ≡ place }
+    /// A tour to begin with that has a fault at a place.
+    fn clashing(kind: u32, place: u32, needed: usize) -> Answer
+        ensures { result ≡ clashing kind place needed }
     {
         Answer {
-            status: REFUSED,
-            text,
-            line: 0,
-            kind,
             place,
-            length: 0,
-            needed: 0,
-            needed_file: 0,
+            ..Answer::refused(3, 0, kind, needed)
         }
     }
 }
@@ -239,30 +208,24 @@ impl Answer {
 /// problem is the text of that number, and the other text is the one after it.
 pub(crate) fn stopped(alloc: Global, problem: u32, fault: &Fault, out: &mut [u8]) -> Answer
     requires { problem ≤ 2 }
-    ensures late { 2 ≤ result.status }
-    ensures early { result.status ≤ 3 }
-    ensures text { (result.text ≡ 0) ⊎ (problem ≤ result.text) }
-    ensures is { IsFaultAnswer problem fault.now result }
+    ensures is { result ≡ fault_answer problem fault.now result.needed }
     ensures message { IsSomeText out.old out.new result }
 {
-    let mut answer = Answer::of(problem, fault);
-    answer.needed = match format!(in alloc; "{fault}") {
+    let needed = match format!(in alloc; "{fault}") {
         Ok(message) => hand_out(message.as_bytes(), out),
         Err(_) => hand_out(b"", out),
     };
-    answer
+    Answer::of(problem, fault, needed)
 }
 
 /// What a fault of parameters tells: the answer, and the message in `out` as far as there is room and memory for it.
 pub(crate) fn params_stopped(alloc: Global, fault: &ParamFault, out: &mut [u8]) -> Answer
-    ensures late { 2 ≤ result.status }
-    ensures is { IsParamAnswer fault.now result }
+    ensures is { result ≡ param_answer fault.now result.needed }
     ensures message { IsSomeText out.old out.new result }
 {
-    let mut answer = Answer::of_params(fault);
-    answer.needed = match format!(in alloc; "{fault}") {
+    let needed = match format!(in alloc; "{fault}") {
         Ok(message) => hand_out(message.as_bytes(), out),
         Err(_) => hand_out(b"", out),
     };
-    answer
+    Answer::of_params(fault, needed)
 }

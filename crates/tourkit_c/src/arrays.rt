@@ -1,6 +1,6 @@
 //! Arrays of numbers in place of texts: the distances and the near lists of a problem, and the check of a list.
-ghost use Rattle.std.specs.Prelude.{◌≡◌, ◌≢◌, ◌⊎◌, ◌≤◌, ◌<◌, ◌*◌, ◌-◌, min, length, IfOk, IfErr};
-ghost use Rattle.tk_problem.specs.declared.limits.TheConstants.{CANDIDATE_LIMIT};
+ghost use Rattle.std.specs.Prelude.{◌≡◌, ◌≢◌, ◌≤◌, ◌*◌, ◌-◌, min, length, IfOk, IfErr};
+ghost use Rattle.tk_near.specs.ListLengths.{IsListLength};
 ghost use Rattle.tk_text.specs.Problem.{problem_texts};
 ghost use Rattle.tk_text.specs.ProblemOf.{problem_is, weights_are};
 ghost use Rattle.tk_metric.specs.Tables.{table_distance, table_size};
@@ -8,13 +8,15 @@ ghost use Rattle.tk_engines.specs.ReadProblems.{read_distance};
 ghost use Rattle.tourkit_c.specs.Answers.{IsFaulty};
 ghost use Rattle.tourkit_c.specs.Arrays.{AreDistances, AreDistancesOf, AreNearIn, AreNearOf, HasVerdict, IsArrayStatus};
 ghost use Rattle.tourkit_c.specs.Arrays.{IsCountOf, IsTourCheckOf};
+ghost use Rattle.tourkit_c.specs.Outcomes.{ended};
 ghost use Rattle.tourkit_c.specs.Texts.{HasFault, TextSays};
 
 use crate::answer::{Answer, NO_ROOM, REFUSED};
 use crate::tables::{fill_distances, near_in, verdict_in};
 use std::alloc::Global;
 use tk_metric::Table;
-use tk_text::{CANDIDATE_LIMIT, FromRead, Problem, TextFault, read_problem};
+use tk_near::ListLength;
+use tk_text::{FromRead, Problem, TextFault, read_problem};
 
 /// The problem of a text.
 fn problem_of(alloc: Global, text: &[u8]) -> Result<Problem, TextFault>
@@ -36,7 +38,7 @@ fn table_of(problem: &Problem) -> Table<'_>
 fn distances_of(problem: &Problem, out: &mut [i64]) -> Answer
     ensures given { result.status ≡ 0
         → AreDistances problem.now.n (read_distance (weights_are problem.now.weights)) out.new }
-    ensures room { result.status ≡ 4 → result.needed ≡ problem.now.n * problem.now.n }
+    ensures room { result.status ≡ 4 → result ≡ ended 4 (problem.now.n * problem.now.n) }
     ensures status { IsArrayStatus (length out.old) result }
     ensures kept { 2 ≤ result.status → out.new ≡ out.old }
     ensures unrefused { result.status ≢ 2 }
@@ -50,17 +52,15 @@ fn distances_of(problem: &Problem, out: &mut [i64]) -> Answer
 }
 
 /// Writes the near lists of a problem's cities.
-fn near_of(alloc: Global, problem: &Problem, k: u32, out: &mut [u32]) -> Answer
-    requires low { 1 ≤ k }
-    requires limit { k ≤ CANDIDATE_LIMIT }
+fn near_of(alloc: Global, problem: &Problem, candidates: ListLength, out: &mut [u32]) -> Answer
     ensures given { result.status ≡ 0
-        → AreNearIn problem.now.n (read_distance (weights_are problem.now.weights)) k out.new }
-    ensures room { result.status ≡ 4 → result.needed ≡ problem.now.n * min k (problem.now.n - 1) }
+        → AreNearIn problem.now.n (read_distance (weights_are problem.now.weights)) candidates.cities out.new }
+    ensures room { result.status ≡ 4 → result ≡ ended 4 (problem.now.n * min candidates.cities (problem.now.n - 1)) }
     ensures status { IsArrayStatus (length out.old) result }
     ensures kept { 2 ≤ result.status → out.new ≡ out.old }
     ensures unrefused { result.status ≢ 2 }
 {
-    near_in(alloc, &table_of(problem), k, out)
+    near_in(alloc, &table_of(problem), candidates, out)
 }
 
 /// What is told of a list as a tour of a problem's cities.
@@ -69,6 +69,8 @@ fn verdict_of(alloc: Global, problem: &Problem, cities: &[u32]) -> Answer
         → HasVerdict problem.now.n (read_distance (weights_are problem.now.weights)) cities.now result }
     ensures known { result.status ≤ 3 }
     ensures unrefused { result.status ≢ 2 }
+    ensures unwritten { result.needed ≡ 0 }
+    ensures memory { result.status ≡ 3 → result ≡ ended 3 0 }
 {
     verdict_in(alloc, &table_of(problem), cities)
 }
@@ -89,7 +91,7 @@ pub extern "C" fn tourkit_distances(
 {
     *answer = match problem_of(alloc, problem) {
         Ok(problem) => distances_of(&problem, out),
-        Err(fault) => Answer::of_text(1, &fault),
+        Err(fault) => Answer::of_text(1, &fault, 0),
     };
 }
 
@@ -107,17 +109,16 @@ pub extern "C" fn tourkit_near_cities(
     ensures room { answer.new.status ≡ 4 → IsCountOf (λ p. p.n * min k (p.n - 1)) problem.now answer.new }
     ensures status { IsArrayStatus (length out.old) answer.new }
     ensures kept { 2 ≤ answer.new.status → out.new ≡ out.old }
-    ensures others { answer.new.status ≡ 2 → answer.new.text ≢ 1 → (k ≡ 0) ⊎ (CANDIDATE_LIMIT < k) }
-    ensures candidates { answer.new.status ≢ 2 → (1 ≤ k) × (k ≤ CANDIDATE_LIMIT) }
-    ensures problem { answer.new.status ≡ 2 → answer.new.text ≡ 1 → IsFaulty problem_texts 1 problem.now answer.new }
+    ensures refused { answer.new.status ≡ 2 → IsListLength k → IsFaulty problem_texts 1 problem.now answer.new }
+    ensures outside { (IsListLength k → ⊥) → answer.new ≡ ended 2 0 }
 {
-    if k < 1 || k > CANDIDATE_LIMIT {
+    let Some(candidates) = ListLength::of(k) else {
         *answer = Answer::ended(REFUSED, 0);
         return;
-    }
+    };
     *answer = match problem_of(alloc, problem) {
-        Ok(problem) => near_of(alloc, &problem, k, out),
-        Err(fault) => Answer::of_text(1, &fault),
+        Ok(problem) => near_of(alloc, &problem, candidates, out),
+        Err(fault) => Answer::of_text(1, &fault, 0),
     };
 }
 
@@ -133,9 +134,11 @@ pub extern "C" fn tourkit_check_cities(
     ensures given { answer.new.status ≤ 1 → IsTourCheckOf problem.now cities.now answer.new }
     ensures known { answer.new.status ≤ 3 }
     ensures problem { answer.new.status ≡ 2 → IsFaulty problem_texts 1 problem.now answer.new }
+    ensures unwritten { answer.new.needed ≡ 0 }
+    ensures memory { answer.new.status ≡ 3 → answer.new ≡ ended 3 0 }
 {
     *answer = match problem_of(alloc, problem) {
         Ok(problem) => verdict_of(alloc, &problem, cities),
-        Err(fault) => Answer::of_text(1, &fault),
+        Err(fault) => Answer::of_text(1, &fault, 0),
     };
 }

@@ -1,27 +1,27 @@
 //! Near lists and matrices as texts.
-ghost use Rattle.std.specs.Prelude.{◌≡◌, ◌≢◌, ◌≤◌, IfOk, IfErr};
-ghost use Rattle.tk_problem.specs.declared.limits.TheConstants.{CANDIDATE_LIMIT};
+ghost use Rattle.std.specs.Prelude.{◌≡◌, ◌≤◌, IfOk, IfErr};
 ghost use Rattle.tk_problem.specs.declared.weights.Format.TheVariants.{FullMatrix};
+ghost use Rattle.tk_near.specs.ListLengths.{IsListLength};
 ghost use Rattle.tk_engines.specs.MatrixOf.{too_large};
 ghost use Rattle.tourkit_c.specs.Answers.{IsRightRefusal, IsStop, NeverClashes, NoFault, NoRefusal, fits_any};
+ghost use Rattle.tourkit_c.specs.Outcomes.{ended};
 ghost use Rattle.tourkit_c.specs.Texts.{IsMatrixTextOf, IsNearTextOf, IsSomeText, IsTextWritten};
 
 use crate::answer::{Answer, REFUSED, stopped};
 use crate::hand_out::hand_out;
 use std::alloc::Global;
 use tk_engines::{Fault, matrix_engine, near_engine};
-use tk_text::{CANDIDATE_LIMIT, Format, FromRead, ToWrite};
+use tk_near::ListLength;
+use tk_text::{Format, FromRead, ToWrite};
 
 /// The text of the near lists of a problem.
-fn near_text(alloc: Global, problem: &[u8], k: u32) -> Result<Vec<u8>, Fault>
-    requires low { 1 ≤ k }
-    requires limit { k ≤ CANDIDATE_LIMIT }
-    ensures ok { IfOk result (λ text. IsNearTextOf k problem.now text.items) }
+fn near_text(alloc: Global, problem: &[u8], candidates: ListLength) -> Result<Vec<u8>, Fault>
+    ensures ok { IfOk result (λ text. IsNearTextOf candidates.cities problem.now text.items) }
     ensures err { IfErr result (IsStop fits_any NeverClashes NoFault NoFault problem.now) }
 {
     let mut problem = FromRead::new(problem);
     let mut text = ToWrite::new(Vec::new(alloc));
-    match near_engine(alloc, &mut problem, k, &mut text) {
+    match near_engine(alloc, &mut problem, candidates.cities, &mut text) {
         Ok(()) => Ok(text.inner),
         Err(fault) => Err(fault),
     }
@@ -52,16 +52,17 @@ pub extern "C" fn tourkit_near(
 )
     ensures given { answer.new.status ≤ 1 → IsTextWritten (IsNearTextOf k problem.now) out.old out.new answer.new }
     ensures known { answer.new.status ≤ 3 }
-    ensures refused { answer.new.status ≡ 2 → 1 ≤ k → k ≤ CANDIDATE_LIMIT
+    ensures refused { answer.new.status ≡ 2 → IsListLength k
         → IsRightRefusal fits_any NeverClashes NoRefusal 1 problem.now answer.new }
-    ensures candidates { answer.new.status ≢ 2 → (1 ≤ k) × (k ≤ CANDIDATE_LIMIT) }
+    ensures outside { (IsListLength k → ⊥) → answer.new ≡ ended 2 0 }
+    ensures memory { answer.new.status ≡ 3 → answer.new ≡ ended 3 answer.new.needed }
     ensures message { 2 ≤ answer.new.status → IsSomeText out.old out.new answer.new }
 {
-    if k < 1 || k > CANDIDATE_LIMIT {
+    let Some(candidates) = ListLength::of(k) else {
         *answer = Answer::ended(REFUSED, hand_out(b"", out));
         return;
-    }
-    *answer = match near_text(alloc, problem, k) {
+    };
+    *answer = match near_text(alloc, problem, candidates) {
         Ok(text) => Answer::ended(0, hand_out(&text, out)),
         Err(fault) => stopped(alloc, 1, &fault, out),
     };
@@ -75,6 +76,7 @@ pub extern "C" fn tourkit_matrix(alloc: Global, problem: &[u8], out: &mut [u8], 
     ensures known { answer.new.status ≤ 3 }
     ensures refused { answer.new.status ≡ 2
         → IsRightRefusal too_large NeverClashes NoRefusal 1 problem.now answer.new }
+    ensures memory { answer.new.status ≡ 3 → answer.new ≡ ended 3 answer.new.needed }
     ensures message { 2 ≤ answer.new.status → IsSomeText out.old out.new answer.new }
 {
     *answer = match matrix_text(alloc, problem) {

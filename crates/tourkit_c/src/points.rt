@@ -1,16 +1,19 @@
 //! Cities by their coordinates in two arrays, in units of 10^-9.
 ghost use Rattle.std.specs.Prelude.{◌≡◌, ◌≢◌, ◌≤◌, ◌*◌, ◌-◌, min, length, IfOk, IfSome, IfNone};
-ghost use Rattle.tk_problem.specs.declared.limits.TheConstants.{CANDIDATE_LIMIT, CITY_LIMIT};
+ghost use Rattle.tk_problem.specs.declared.limits.TheConstants.{CITY_LIMIT};
+ghost use Rattle.tk_near.specs.ListLengths.{IsListLength};
 ghost use Rattle.tk_metric.specs.PlaneOf.{city_distance};
 ghost use Rattle.tk_metric.specs.Tables.{table_distance, table_size};
 ghost use Rattle.tourkit_c.specs.Arrays.{IsArrayStatus};
+ghost use Rattle.tourkit_c.specs.Outcomes.{ended};
 ghost use Rattle.tourkit_c.specs.Points.{ArePlaces, ArePointsNear, CanBePlaces, IsPointsCheck, kind_number};
 
 use crate::answer::{Answer, NO_MEMORY, REFUSED};
 use crate::tables::{near_in, verdict_in};
 use std::alloc::{AllocError, Global};
 use tk_metric::{Planes, Table};
-use tk_text::{CANDIDATE_LIMIT, CITY_LIMIT, COORDINATE_LIMIT, PlaneKind, Point, Points, SCALE};
+use tk_near::ListLength;
+use tk_text::{CITY_LIMIT, COORDINATE_LIMIT, PlaneKind, Point, Points, SCALE};
 
 /// The distance type of a number.
 fn kind_of(kind: u32) -> Option<PlaneKind>
@@ -75,25 +78,25 @@ pub extern "C" fn tourkit_near_points(
     answer: &mut Answer,
 )
     ensures given { answer.new.status ≡ 0 → ArePointsNear kind xs.now ys.now k out.new }
-    ensures room { answer.new.status ≡ 4 → answer.new.needed ≡ length xs.now * min k (length xs.now - 1) }
+    ensures room { answer.new.status ≡ 4 → answer.new ≡ ended 4 (length xs.now * min k (length xs.now - 1)) }
     ensures status { IsArrayStatus (length out.old) answer.new }
     ensures kept { 2 ≤ answer.new.status → out.new ≡ out.old }
-    ensures refused { answer.new.status ≡ 2
-        → 1 ≤ k → k ≤ CANDIDATE_LIMIT → kind ≤ 4 → CanBePlaces xs.now ys.now → ⊥ }
-    ensures candidates { answer.new.status ≢ 2 → (1 ≤ k) × (k ≤ CANDIDATE_LIMIT) }
+    ensures refused { answer.new.status ≡ 2 → answer.new ≡ ended 2 0 }
+    ensures justified { answer.new.status ≡ 2 → IsListLength k → kind ≤ 4 → CanBePlaces xs.now ys.now → ⊥ }
+    ensures candidates { answer.new.status ≢ 2 → IsListLength k }
     ensures kinds { answer.new.status ≢ 2 → kind ≤ 4 }
     ensures places { answer.new.status ≢ 2 → answer.new.status ≢ 3 → CanBePlaces xs.now ys.now }
 {
-    if k < 1 || k > CANDIDATE_LIMIT {
+    let Some(candidates) = ListLength::of(k) else {
         *answer = Answer::ended(REFUSED, 0);
         return;
-    }
+    };
     let Some(kind) = kind_of(kind) else {
         *answer = Answer::ended(REFUSED, 0);
         return;
     };
     *answer = match places_of(alloc, xs, ys) {
-        Ok(Some(places)) => near_in(alloc, &table_of(kind, &places), k, out),
+        Ok(Some(places)) => near_in(alloc, &table_of(kind, &places), candidates, out),
         Ok(None) => Answer::ended(REFUSED, 0),
         Err(_) => Answer::ended(NO_MEMORY, 0),
     };
@@ -111,7 +114,8 @@ pub extern "C" fn tourkit_check_points(
 )
     ensures given { answer.new.status ≤ 1 → IsPointsCheck kind xs.now ys.now cities.now answer.new }
     ensures known { answer.new.status ≤ 3 }
-    ensures refused { answer.new.status ≡ 2 → kind ≤ 4 → CanBePlaces xs.now ys.now → ⊥ }
+    ensures refused { 2 ≤ answer.new.status → answer.new ≡ ended answer.new.status 0 }
+    ensures justified { answer.new.status ≡ 2 → kind ≤ 4 → CanBePlaces xs.now ys.now → ⊥ }
     ensures kinds { answer.new.status ≢ 2 → kind ≤ 4 }
     ensures places { answer.new.status ≢ 2 → answer.new.status ≢ 3 → CanBePlaces xs.now ys.now }
 {

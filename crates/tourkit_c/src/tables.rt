@@ -1,12 +1,13 @@
 //! Arrays of numbers over a table of distances, whatever it comes from: distances, near lists, the verdict on a list.
 ghost use Rattle.std.specs.Prelude.{◌≡◌, ◌≢◌, ◌≤◌, ◌*◌, ◌-◌, min, length};
-ghost use Rattle.tk_problem.specs.declared.limits.TheConstants.{CANDIDATE_LIMIT};
 ghost use Rattle.tk_metric.specs.Tables.{table_distance, table_size};
 ghost use Rattle.tourkit_c.specs.Arrays.{AreDistances, AreNearIn, HasVerdict, IsArrayStatus};
+ghost use Rattle.tourkit_c.specs.Outcomes.{ended};
 
 use crate::answer::{Answer, NO_MEMORY, NO_ROOM};
 use std::alloc::Global;
 use tk_metric::{Metric, Table, near_lists};
+use tk_near::ListLength;
 use tk_tour::{Verdict, check, length};
 
 /// Writes the distances of all pairs, row by row.
@@ -35,19 +36,23 @@ pub(crate) fn fill_distances(table: &Table<'_>, out: &mut [i64])
 
 /// Writes the near lists of a table's cities, k for each, or all others where there are fewer, if `out` has room for
 /// just as many.
-pub(crate) fn near_in(alloc: Global, table: &Table<'_>, k: u32, out: &mut [u32]) -> Answer
-    requires low { 1 ≤ k }
-    requires limit { k ≤ CANDIDATE_LIMIT }
+pub(crate) fn near_in(
+    alloc: Global,
+    table: &Table<'_>,
+    candidates: ListLength,
+    out: &mut [u32],
+) -> Answer
     requires some { 2 ≤ table_size table.now }
-    ensures given { result.status ≡ 0 → AreNearIn (table_size table.now) (table_distance table.now) k out.new }
-    ensures room { result.status ≡ 4 → result.needed ≡ table_size table.now * min k (table_size table.now - 1) }
+    ensures given { result.status ≡ 0
+        → AreNearIn (table_size table.now) (table_distance table.now) candidates.cities out.new }
+    ensures room { result.status ≡ 4
+        → result ≡ ended 4 (table_size table.now * min candidates.cities (table_size table.now - 1)) }
     ensures status { IsArrayStatus (length out.old) result }
     ensures kept { 2 ≤ result.status → out.new ≡ out.old }
     ensures unrefused { result.status ≢ 2 }
-    ensures text { result.text ≡ 0 }
 {
     let n = table.size();
-    let width = k.min(n - 1);
+    let width = candidates.cities.min(n - 1);
     let needed = n as usize * width as usize;
     if out.len() != needed {
         return Answer::ended(NO_ROOM, needed);
@@ -66,7 +71,8 @@ fn verdict_by<M: Metric>(alloc: Global, metric: &M, cities: &[u32]) -> Answer
     ensures given { result.status ≤ 1 → HasVerdict (M.size_of metric.now) (M.distance metric.now) cities.now result }
     ensures known { result.status ≤ 3 }
     ensures unrefused { result.status ≢ 2 }
-    ensures text { result.text ≡ 0 }
+    ensures unwritten { result.needed ≡ 0 }
+    ensures memory { result.status ≡ 3 → result ≡ ended 3 0 }
 {
     match check(alloc, metric.size(), cities) {
         Ok(Verdict::Tour) => Answer::of_length(length(metric, cities).unsigned_abs()),
@@ -83,7 +89,8 @@ pub(crate) fn verdict_in(alloc: Global, table: &Table<'_>, cities: &[u32]) -> An
         → HasVerdict (table_size table.now) (table_distance table.now) cities.now result }
     ensures known { result.status ≤ 3 }
     ensures unrefused { result.status ≢ 2 }
-    ensures text { result.text ≡ 0 }
+    ensures unwritten { result.needed ≡ 0 }
+    ensures memory { result.status ≡ 3 → result ≡ ended 3 0 }
 {
     match table {
         Table::Planes(planes) => verdict_by(alloc, planes, cities),

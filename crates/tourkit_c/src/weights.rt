@@ -1,16 +1,19 @@
 //! Cities by their explicit weights in an array: the lower triangle row by row without its diagonal.
 ghost use Rattle.std.specs.Prelude.{◌≡◌, ◌≢◌, ◌≤◌, ◌*◌, ◌-◌, true, false, All, length, min, IfSome, IfNone};
-ghost use Rattle.tk_problem.specs.declared.limits.TheConstants.{CANDIDATE_LIMIT, DISTANCE_LIMIT};
+ghost use Rattle.tk_problem.specs.declared.limits.TheConstants.{DISTANCE_LIMIT};
+ghost use Rattle.tk_near.specs.ListLengths.{IsListLength};
 ghost use Rattle.tk_metric.specs.Tables.{table_distance, table_size};
 ghost use Rattle.tk_metric.specs.Weights.{weight_between};
 ghost use Rattle.tourkit_c.specs.Arrays.{AreNearIn, HasVerdict, IsArrayStatus};
+ghost use Rattle.tourkit_c.specs.Outcomes.{ended};
 ghost use Rattle.tourkit_c.specs.Weights.{AreWeights};
 
 use crate::answer::{Answer, REFUSED};
 use crate::tables::{near_in, verdict_in};
 use std::alloc::Global;
 use tk_metric::{Table, Triangle};
-use tk_text::{CANDIDATE_LIMIT, DISTANCE_LIMIT, TABLE_LIMIT};
+use tk_near::ListLength;
+use tk_text::{DISTANCE_LIMIT, TABLE_LIMIT};
 
 /// Whether no weight is too great.
 fn are_small(weights: &[u32]) -> bool
@@ -55,19 +58,20 @@ pub extern "C" fn tourkit_near_weights(
     answer: &mut Answer,
 )
     ensures given { answer.new.status ≡ 0 → AreNearIn n (weight_between weights.now) k out.new }
-    ensures room { answer.new.status ≡ 4 → answer.new.needed ≡ n * min k (n - 1) }
+    ensures room { answer.new.status ≡ 4 → answer.new ≡ ended 4 (n * min k (n - 1)) }
     ensures status { IsArrayStatus (length out.old) answer.new }
     ensures kept { 2 ≤ answer.new.status → out.new ≡ out.old }
-    ensures refused { answer.new.status ≡ 2 → 1 ≤ k → k ≤ CANDIDATE_LIMIT → AreWeights n weights.now → ⊥ }
-    ensures candidates { answer.new.status ≢ 2 → (1 ≤ k) × (k ≤ CANDIDATE_LIMIT) }
+    ensures refused { answer.new.status ≡ 2 → answer.new ≡ ended 2 0 }
+    ensures justified { answer.new.status ≡ 2 → IsListLength k → AreWeights n weights.now → ⊥ }
+    ensures candidates { answer.new.status ≢ 2 → IsListLength k }
     ensures weights { answer.new.status ≢ 2 → AreWeights n weights.now }
 {
-    if k < 1 || k > CANDIDATE_LIMIT {
+    let Some(candidates) = ListLength::of(k) else {
         *answer = Answer::ended(REFUSED, 0);
         return;
-    }
+    };
     *answer = match table_of(n, weights) {
-        Some(table) => near_in(alloc, &table, k, out),
+        Some(table) => near_in(alloc, &table, candidates, out),
         None => Answer::ended(REFUSED, 0),
     };
 }
@@ -84,7 +88,8 @@ pub extern "C" fn tourkit_check_weights(
 )
     ensures given { answer.new.status ≤ 1 → HasVerdict n (weight_between weights.now) cities.now answer.new }
     ensures known { answer.new.status ≤ 3 }
-    ensures refused { answer.new.status ≡ 2 → AreWeights n weights.now → ⊥ }
+    ensures refused { 2 ≤ answer.new.status → answer.new ≡ ended answer.new.status 0 }
+    ensures justified { answer.new.status ≡ 2 → AreWeights n weights.now → ⊥ }
     ensures weights { answer.new.status ≢ 2 → AreWeights n weights.now }
 {
     *answer = match table_of(n, weights) {

@@ -1,0 +1,137 @@
+-- What an answer is, by what came of a call: each field, and 0 where there is nothing to tell.
+use Rattle.std.specs.Prelude.{◌+◌, ℕ}
+use Rattle.tk_tour.specs.declared.fault.TourFault.{TourFault}
+use Rattle.tk_tour.specs.declared.fault.TourFault.TheVariants as tours
+use Rattle.tk_tour.specs.declared.verdict.Verdict.{Verdict}
+use Rattle.tk_tour.specs.declared.verdict.Verdict.TheVariants as verdicts
+use Rattle.tk_engines.specs.declared.fault.Fault.{Fault}
+use Rattle.tk_engines.specs.declared.fault.Fault.TheVariants as faults
+use Rattle.tk_words.specs.declared.fault.TextFault.{TextFault}
+use Rattle.tk_words.specs.declared.fault.TextKind.{TextKind}
+use Rattle.tk_words.specs.declared.fault.TextKind.TheVariants as kinds
+use Rattle.tk_params.specs.declared.fault.ParamFault.{ParamFault}
+use Rattle.tk_params.specs.declared.fault.ParamKind.{ParamKind}
+use Rattle.tk_params.specs.declared.fault.ParamKind.TheVariants as params
+use Rattle.tourkit_c.specs.declared.answer.Answer.{Answer}
+
+-- a status, and how many bytes or numbers there are to write
+abbrev pub ended : ℕ → ℕ → Answer
+ended status needed =
+    record { status = status; text = 0; line = 0; kind = 0; place = 0; length = 0; needed = needed; needed_file = 0 }
+
+-- the same for two buffers
+abbrev pub ended_twice : ℕ → ℕ → ℕ → Answer
+ended_twice status needed needed_file = record {
+  status = status;
+  text = 0;
+  line = 0;
+  kind = 0;
+  place = 0;
+  length = 0;
+  needed = needed;
+  needed_file = needed_file;
+}
+
+-- a list that is a tour of this length, or that has a fault at a place
+abbrev pub of_length : ℕ → Answer
+of_length length =
+    record { status = 0; text = 0; line = 0; kind = 0; place = 0; length = length; needed = 0; needed_file = 0 }
+
+abbrev pub found : ℕ → ℕ → Answer
+found kind place =
+    record { status = 1; text = 0; line = 0; kind = kind; place = place; length = 0; needed = 0; needed_file = 0 }
+
+abbrev pub verdict_answer : Verdict → ℕ → Answer
+verdict_answer verdicts.Tour length = of_length length
+verdict_answer verdicts.WrongCount length = found 20 0
+verdict_answer (verdicts.OutOfRange place) length = found 21 place
+verdict_answer (verdicts.RepeatedCity place) length = found 22 place
+
+-- which text was refused, its line, the number of its fault, and how many bytes the message has
+abbrev pub refused : ℕ → ℕ → ℕ → ℕ → Answer
+refused text line kind needed = record {
+  status = 2;
+  text = text;
+  line = line;
+  kind = kind;
+  place = 0;
+  length = 0;
+  needed = needed;
+  needed_file = 0;
+}
+
+-- a tour to begin with, the third text, clashes with the problem at a place
+abbrev pub clashing : ℕ → ℕ → ℕ → Answer
+clashing kind place needed =
+    record { status = 2; text = 3; line = 0; kind = kind; place = place; length = 0; needed = needed; needed_file = 0 }
+
+abbrev pub clash_answer : TourFault → ℕ → Answer
+clash_answer tours.WrongCount needed = clashing 20 0 needed
+clash_answer (tours.OutOfRange place) needed = clashing 21 place needed
+clash_answer (tours.RepeatedCity place) needed = clashing 22 place needed
+clash_answer tours.NoMemory needed = ended 3 needed
+
+-- the number of a kind of fault, as the message has it
+abbrev pub text_number : TextKind → ℕ
+text_number kinds.UnknownKeyword = 1
+text_number kinds.Repeated = 2
+text_number (kinds.Missing keyword) = 3
+text_number kinds.Unsupported = 4
+text_number kinds.BadNumber = 5
+text_number kinds.OutOfLimit = 6
+text_number kinds.BadNode = 7
+text_number (kinds.NotSymmetric a b) = 8
+text_number kinds.Truncated = 9
+text_number kinds.TrailingData = 10
+text_number kinds.BadDepot = 11
+text_number (kinds.DemandOverCapacity node) = 12
+text_number kinds.TooLong = 13
+text_number kinds.Read = 14
+text_number kinds.NoMemory = 15
+
+abbrev pub param_number : ParamKind → ℕ
+param_number params.UnknownKey = 1
+param_number params.RepeatedKey = 2
+param_number params.BadValue = 3
+param_number params.MissingProblem = 4
+param_number params.DollarInName = 5
+param_number params.TooLong = 6
+param_number params.Read = 7
+param_number params.NoMemory = 8
+
+-- the number of what keeps a problem from a task
+abbrev pub misfit_number : Fault → ℕ
+misfit_number faults.WrongType = 16
+misfit_number (faults.NotForType key) = 17
+misfit_number faults.TooLarge = 18
+misfit_number faults.NoPlaces = 19
+misfit_number _ = 0
+
+-- the line and the number of a fault of a text; a refusal of memory has a status of its own, and so has a failed read,
+-- which no text in memory gives
+abbrev pub kind_answer : TextKind → ℕ → ℕ → ℕ → Answer
+kind_answer kinds.NoMemory text line needed = ended 3 needed
+kind_answer kinds.Read text line needed = ended 3 needed
+kind_answer kind text line needed = refused text line (text_number kind) needed
+
+abbrev pub text_answer : ℕ → TextFault → ℕ → Answer
+text_answer text fault needed = kind_answer fault.kind text fault.line needed
+
+-- the same of parameters, the first text
+abbrev pub param_kind_answer : ParamKind → ℕ → ℕ → Answer
+param_kind_answer params.NoMemory line needed = ended 3 needed
+param_kind_answer params.Read line needed = ended 3 needed
+param_kind_answer kind line needed = refused 1 line (param_number kind) needed
+
+abbrev pub param_answer : ParamFault → ℕ → Answer
+param_answer fault needed = param_kind_answer fault.kind fault.line needed
+
+-- what ended an engine, whose problem is the text of this number and whose other text is the next
+abbrev pub fault_answer : ℕ → Fault → ℕ → Answer
+fault_answer problem (faults.Problem f) needed = text_answer problem f needed
+fault_answer problem (faults.Tour f) needed = text_answer (problem + 1) f needed
+fault_answer problem (faults.Solution f) needed = text_answer (problem + 1) f needed
+fault_answer problem (faults.Initial f) needed = clash_answer f needed
+fault_answer problem (faults.Write f) needed = ended 3 needed
+fault_answer problem faults.NoMemory needed = ended 3 needed
+fault_answer problem f needed = refused 0 0 (misfit_number f) needed
