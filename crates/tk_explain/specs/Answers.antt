@@ -1,6 +1,6 @@
 -- The fault that a file of a kind has, as the library's reader of that kind tells it.
 --     fault_of kind text      None where the reader accepts the text
-use Rattle.std.specs.Prelude.{◌≡◌, ℕ, List, Option, Some, None, Result, Ok, Err}
+use Rattle.std.specs.Prelude.{ℕ, List, Option, Some, None, Result, Ok, Err}
 use Rattle.tk_words.specs.declared.fault.TextFault.{TextFault}
 use Rattle.tk_words.specs.Texts.{answer_of}
 use Rattle.tk_problem_text.specs.Problem.{problem_texts}
@@ -39,7 +39,7 @@ fault_of kinds.Tour text = text_fault (answer_of tour_texts text)
 fault_of kinds.Solution text = text_fault (answer_of solution_texts text)
 fault_of kinds.Parameters text = param_fault (params_answer text)
 
--- reading failed on this line
-abbrev pub IsUnread : ℕ → FileFault → Type 0
-IsUnread line (faults.Text f) = f ≡ record { line = line; kind = text.Read }
-IsUnread line (faults.Parameters f) = f ≡ record { line = line; kind = params.Read }
+-- reading failed on this line of a file of this kind
+abbrev pub unread_of : Kind → ℕ → FileFault
+unread_of kinds.Parameters line = faults.Parameters (record { line = line; kind = params.Read })
+unread_of _ line = faults.Text (record { line = line; kind = text.Read })

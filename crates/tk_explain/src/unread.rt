@@ -1,20 +1,26 @@
 //! Files whose reading failed.
+ghost use Rattle.std.specs.Prelude.{◌≡◌};
 ghost use Rattle.tk_words.specs.Texts.{line_behind};
-ghost use Rattle.tk_explain.specs.Answers.{IsUnread};
+ghost use Rattle.tk_explain.specs.Answers.{unread_of};
 
-use tk_diagnosis::{FileFault, Kind, kind_of, last_line};
+use tk_diagnosis::{FileFault, Kind, last_line};
 use tk_params::{ParamFault, ParamKind};
 use tk_words::{TextFault, TextKind};
 
-/// The fault of a file that could be read no further than these bytes, as the commands tell it that want such a file.
-pub fn unread_fault(name: &str, text: &[u8]) -> FileFault
-    ensures { IsUnread (line_behind text.now) result }
+/// The fault of a file of a kind that could be read no further than these bytes, as the commands tell it that want such
+/// a file.
+pub fn unread_fault(kind: Kind, text: &[u8]) -> FileFault
+    ensures { result ≡ unread_of kind (line_behind text.now) }
 {
     let line = last_line(text);
-    if kind_of(text, name) == Kind::Parameters {
-        let kind = ParamKind::Read;
-        return FileFault::Parameters(ParamFault { line, kind });
+    match kind {
+        Kind::Parameters => FileFault::Parameters(ParamFault {
+            line,
+            kind: ParamKind::Read,
+        }),
+        Kind::Problem | Kind::Tour | Kind::Solution => FileFault::Text(TextFault {
+            line,
+            kind: TextKind::Read,
+        }),
     }
-    let kind = TextKind::Read;
-    FileFault::Text(TextFault { line, kind })
 }

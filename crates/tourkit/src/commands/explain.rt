@@ -5,7 +5,7 @@ use std::alloc::Global;
 use std::fs;
 use std::io::{Read, Write};
 use std::process::ExitCode;
-use tk_diagnosis::FileFault;
+use tk_diagnosis::{FileFault, kind_of};
 use tk_explain::{fault_page, file_page, is_number, line_page, unread_fault};
 use tk_problem::TEXT_LIMIT;
 
@@ -79,7 +79,7 @@ fn read_whole(alloc: Global, input: &mut Input) -> Result<Vec<u8>, Unread> {
 
 /// Tells that a file could not be read to its end.
 fn tell_unread(rt: &HostRuntime, name: &str, text: &[u8]) -> ExitCode {
-    match unread_fault(name, text) {
+    match unread_fault(kind_of(text, name), text) {
         FileFault::Text(fault) => report::text_fault(rt, name, &fault),
         FileFault::Parameters(fault) => report::param_fault(rt, name, &fault),
     }
