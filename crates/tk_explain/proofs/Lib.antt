@@ -1,2 +1,3 @@
 pub mod Anys
 pub mod Lengths
+pub mod Lookups

@@ -1,5 +1,11 @@
 -- The numbers and the names of the faults.
 use Rattle.std.specs.Prelude.{ℕ, List, [], ◌∷◌, codes}
+use Rattle.tk_words.specs.declared.fault.TextKind.{TextKind}
+use Rattle.tk_words.specs.declared.fault.TextKind.TheVariants as text
+use Rattle.tk_params.specs.declared.fault.ParamKind.{ParamKind}
+use Rattle.tk_params.specs.declared.fault.ParamKind.TheVariants as params
+use Rattle.tk_diagnosis.specs.declared.fault.FileFault.{FileFault}
+use Rattle.tk_diagnosis.specs.declared.fault.FileFault.TheVariants as files
 use Rattle.tk_explain.specs.declared.fault_table.FaultText.{FaultText}
 
 -- the number and the name of a fault
@@ -35,3 +41,36 @@ faults =
     (codes "1", codes "WrongCount") ∷
     (codes "2", codes "OutOfRange") ∷
     (codes "3", codes "RepeatedCity") ∷ []
+
+-- the number and the name of a kind of fault
+abbrev pub text_named : TextKind → List ℕ × List ℕ
+text_named text.UnknownKeyword = (codes "1", codes "UnknownKeyword")
+text_named text.Repeated = (codes "2", codes "Repeated")
+text_named (text.Missing keyword) = (codes "3", codes "Missing")
+text_named text.Unsupported = (codes "4", codes "Unsupported")
+text_named text.BadNumber = (codes "5", codes "BadNumber")
+text_named text.OutOfLimit = (codes "6", codes "OutOfLimit")
+text_named text.BadNode = (codes "7", codes "BadNode")
+text_named (text.NotSymmetric a b) = (codes "8", codes "NotSymmetric")
+text_named text.Truncated = (codes "9", codes "Truncated")
+text_named text.TrailingData = (codes "10", codes "TrailingData")
+text_named text.BadDepot = (codes "11", codes "BadDepot")
+text_named (text.DemandOverCapacity node) = (codes "12", codes "DemandOverCapacity")
+text_named text.TooLong = (codes "13", codes "TooLong")
+text_named text.Read = (codes "14", codes "Read")
+text_named text.NoMemory = (codes "15", codes "NoMemory")
+
+abbrev pub param_named : ParamKind → List ℕ × List ℕ
+param_named params.UnknownKey = (codes "1", codes "UnknownKey")
+param_named params.RepeatedKey = (codes "2", codes "RepeatedKey")
+param_named params.BadValue = (codes "3", codes "BadValue")
+param_named params.MissingProblem = (codes "4", codes "MissingProblem")
+param_named params.DollarInName = (codes "5", codes "DollarInName")
+param_named params.TooLong = (codes "6", codes "TooLong")
+param_named params.Read = (codes "7", codes "Read")
+param_named params.NoMemory = (codes "8", codes "NoMemory")
+
+-- the number and the name of the fault of a file
+abbrev pub fault_named : FileFault → List ℕ × List ℕ
+fault_named (files.Text f) = text_named f.kind
+fault_named (files.Parameters f) = param_named f.kind

@@ -1,7 +1,7 @@
 //! The faults of files: what each means, what it usually comes from, and what to do. docs/FORMATS.md and docs/tourkit.1
 //! have the same texts, which `tests/explained` compares.
-ghost use Rattle.std.specs.Prelude.{◌≡◌, map};
-ghost use Rattle.tk_explain.specs.Faults.{faults, named};
+ghost use Rattle.std.specs.Prelude.{◌≡◌, Some, map, option_map, slice_get};
+ghost use Rattle.tk_explain.specs.Faults.{fault_named, faults, named, param_named, text_named};
 
 use std::fmt;
 use tk_diagnosis::FileFault;
@@ -303,7 +303,9 @@ pub fn faults() -> &'static [FaultText]
 }
 
 /// What the table has on the fault of a file.
-pub fn text_of(fault: &FileFault) -> Option<&'static FaultText> {
+pub fn text_of(fault: &FileFault) -> Option<&'static FaultText>
+    ensures { option_map (λ text. named text.now) result ≡ Some (fault_named fault.now) }
+{
     let place = match fault {
         FileFault::Text(fault) => place_of_text_kind(fault.kind),
         FileFault::Parameters(fault) => place_of_parameter_kind(fault.kind),
@@ -312,7 +314,9 @@ pub fn text_of(fault: &FileFault) -> Option<&'static FaultText> {
 }
 
 /// Where the table has a fault of a problem, tour or solution file.
-fn place_of_text_kind(kind: TextKind) -> usize {
+fn place_of_text_kind(kind: TextKind) -> usize
+    ensures { slice_get faults result ≡ Some (text_named kind) }
+{
     match kind {
         TextKind::UnknownKeyword => 0,
         TextKind::Repeated => 1,
@@ -333,7 +337,9 @@ fn place_of_text_kind(kind: TextKind) -> usize {
 }
 
 /// Where it has one of a parameter file.
-fn place_of_parameter_kind(kind: ParamKind) -> usize {
+fn place_of_parameter_kind(kind: ParamKind) -> usize
+    ensures { slice_get faults result ≡ Some (param_named kind) }
+{
     match kind {
         ParamKind::UnknownKey => 15,
         ParamKind::RepeatedKey => 16,
