@@ -1,13 +1,19 @@
--- What is found in a table.
-use Rattle.std.proofs.Common.{◌≡◌, ◌<◌, ◌≤◌, ◌∙◌, ℕ, List, Option, None, Some, Bor, ap, map, get_or, length, option_map}
-use Rattle.std.proofs.Common.{refl, slice_get, sym}
-use Rattle.std.specs.Prelude.{IfSome, MatchOption}
-use Rattle.std.proofs.lemmas.Option.{slice_get-map, slice_get_past, slice_get_read}
+-- What stands in a table, by the names of its rows.
+use Rattle.std.proofs.Common.{◌≡◌, ◌<◌, ◌∙◌, ℕ, List, Some, ap, map, get_or, length, option_map, slice_get, subst, sym}
+use Rattle.std.specs.Prelude.{unwrap_or}
+use Rattle.std.proofs.lemmas.List.{length-map}
+use Rattle.std.proofs.lemmas.Option.{slice_get-get_or, slice_get-map, slice_get_within}
 
--- a row that was looked up is the one at its place
-pub looked_up : {X Y : Type 0} (f : X → Y) (r : Option (Bor X)) (xs : List X) (i : ℕ) (P : Bor X → Type 0)
-    → IfSome r (λ x. x.now ≡ get_or xs i x.now) → MatchOption r (length xs ≤ i) (λ x. (i < length xs) × P x) →
-    option_map (λ x. f x.now) r ≡ slice_get (map f xs) i
-looked_up f None xs i P is within = sym (slice_get-map f xs i ∙ ap (option_map f) (slice_get_past xs i within))
-looked_up f (Some x) xs i P is within =
-    sym (slice_get-map f xs i ∙ ap (option_map f) (slice_get_read xs (length xs) i x.now refl within.0 is))
+-- a place that has a name is within the table
+pub has_row : {X Y : Type 0} (name : X → Y) (rows : List X) (names : List Y) (i : ℕ) (y : Y) → map name rows ≡ names →
+    slice_get names i ≡ Some y → i < length rows
+has_row name rows names i y e is =
+    subst (λ n. i < n) (ap length (sym e) ∙ length-map rows name) (slice_get_within names i y is)
+
+-- and its row has that name
+pub row_named : {X Y : Type 0} (name : X → Y) (rows : List X) (names : List Y) (i : ℕ) (y : Y) (other : X) →
+    map name rows ≡ names → slice_get names i ≡ Some y → name (get_or rows i other) ≡ y
+row_named name rows names i y other e is =
+    ap (λ o. unwrap_or o y)
+    (ap (option_map name) (sym (slice_get-get_or rows i other (has_row name rows names i y e is)))
+    ∙ sym (slice_get-map name rows i) ∙ ap (λ l. slice_get l i) e ∙ is)

@@ -1,6 +1,6 @@
 //! The faults of files: what each means, what it usually comes from, and what to do. docs/FORMATS.md and docs/tourkit.1
 //! have the same texts, which `tests/explained` compares.
-ghost use Rattle.std.specs.Prelude.{◌≡◌, Some, map, option_map, slice_get};
+ghost use Rattle.std.specs.Prelude.{◌≡◌, Some, map, slice_get};
 ghost use Rattle.tk_explain.specs.Faults.{fault_named, faults, named, param_named, text_named};
 
 use std::fmt;
@@ -303,14 +303,14 @@ pub fn faults() -> &'static [FaultText]
 }
 
 /// What the table has on the fault of a file.
-pub fn text_of(fault: &FileFault) -> Option<&'static FaultText>
-    ensures { option_map (λ text. named text.now) result ≡ Some (fault_named fault.now) }
+pub fn text_of(fault: &FileFault) -> &'static FaultText
+    ensures { named result.now ≡ fault_named fault.now }
 {
     let place = match fault {
         FileFault::Text(fault) => place_of_text_kind(fault.kind),
         FileFault::Parameters(fault) => place_of_parameter_kind(fault.kind),
     };
-    faults().get(place)
+    &faults()[place]
 }
 
 /// Where the table has a fault of a problem, tour or solution file.

@@ -115,18 +115,15 @@ fn add_here(
     add_lines(page, file, fault.line(), here.other)?;
     page.line(&"")?;
     let general = text_of(fault);
-    if let Some(general) = general {
-        page.labelled(MEANING, &general.when)?;
-    }
+    page.labelled(MEANING, &general.when)?;
     page.labelled(WANTED, &here.wanted)?;
     page.labelled(READ, &here.read)?;
-    if let (true, Some(general)) = (has_causes, general) {
+    if has_causes {
         page.labelled(CAUSES, &general.causes)?;
     }
-    match (&here.remedy, general) {
-        (Some(remedy), _) => page.labelled(REMEDY, remedy),
-        (None, Some(general)) => page.labelled(REMEDY, &general.remedy),
-        (None, None) => Ok(()),
+    match &here.remedy {
+        Some(remedy) => page.labelled(REMEDY, remedy),
+        None => page.labelled(REMEDY, &general.remedy),
     }
 }
 

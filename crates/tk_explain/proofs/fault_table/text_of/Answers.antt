@@ -1,10 +1,20 @@
-use Rattle.std.proofs.Common.{◌≡◌, ◌∙◌, Some, ap, rules, slice_get}
-use Rattle.tk_explain.proofs.Lookups.{looked_up}
+use Rattle.std.proofs.Common.{◌≡◌, ◌<◌, Some, arith, rules, slice_get}
+use Rattle.std.proofs.lemmas.Option.{slice_get_within}
+use Rattle.tk_explain.proofs.Lookups.{has_row, row_named}
 use Rattle.tk_explain.proofs.fault_table.text_of.Goals as goal
 use Rattle.tk_explain.specs.Faults.{fault_named, faults, named}
+
+pub offset_bounds-faults-place : goal.offset_bounds-faults-place
+offset_bounds-faults-place c =
+    let at : slice_get faults c.match-fault.place ≡ Some (fault_named c.args.fault.now) = search rules in
+    let low : c.match-fault.place < 26 = slice_get_within faults c.match-fault.place _ at in omega (arith, low)
+
+pub bounds-faults-place : goal.bounds-faults-place
+bounds-faults-place c =
+    let at : slice_get faults c.match-fault.place ≡ Some (fault_named c.args.fault.now) = search rules in
+    has_row named c.faults.result.now faults c.match-fault.place _ c.faults.ensures at
 
 pub returns : goal.returns
 returns c =
     let at : slice_get faults c.match-fault.place ≡ Some (fault_named c.args.fault.now) = search rules in
-    looked_up named c.get.result c.faults.result.now c.match-fault.place _ c.get.ensures.lookup.1 c.get.ensures.lookup.3
-    ∙ ap (λ rows. slice_get rows c.match-fault.place) c.faults.ensures ∙ at
+    row_named named c.faults.result.now faults c.match-fault.place _ _ c.faults.ensures at
