@@ -6,7 +6,7 @@ use Rattle.tk_metric.specs.Near.{AreNearest}
 use Rattle.tk_tour.specs.Tour.{tour_length}
 use Rattle.tk_tour.specs.Verdict.{IsVerdict}
 use Rattle.tk_tour.specs.declared.verdict.Verdict.{Verdict}
-use Rattle.tourkit_c.specs.Outcomes.{ended, verdict_answer}
+use Rattle.tourkit_c.specs.Outcomes.{with_status, verdict_answer}
 use Rattle.tourkit_c.specs.Texts.{TextSays}
 use Rattle.tourkit_c.specs.declared.answer.Answer.{Answer}
 
@@ -37,14 +37,14 @@ pub record AreNearOf (k : ℕ) (problem : List ℕ) (entries : List ℕ) : Type 
 pub record IsArrayStatus (count : ℕ) (answer : Answer) : Type 0 where
   pub known : answer.status ≤ 4
   pub unclaimed : answer.status ≢ 1
-  pub fits : answer.status ≡ 0 → answer ≡ ended 0 count
+  pub fits : answer.status ≡ 0 → answer ≡ with_status 0 count
   pub unwritten : answer.status ≡ 2 → answer.needed ≡ 0
-  pub memory : answer.status ≡ 3 → answer ≡ ended 3 0
+  pub memory : answer.status ≡ 3 → answer ≡ with_status 3 0
   pub misfits : answer.status ≡ 4 → answer.needed ≢ count
 
 -- how many numbers there are, told in place of them
 abbrev pub IsCountOf : (ProblemIs → ℕ) → List ℕ → Answer → Type 0
-IsCountOf count problem answer = (p : ProblemIs) × TextSays problem_texts problem p × (answer ≡ ended 4 (count p))
+IsCountOf count problem answer = (p : ProblemIs) × TextSays problem_texts problem p × (answer ≡ with_status 4 (count p))
 
 -- what an answer tells of a list as a tour: its length, or the number of its first fault and the place of that
 pub record HasVerdict (n : ℕ) (distance : ℕ → ℕ → ℕ) (cities : List ℕ) (answer : Answer) : Type 0 where

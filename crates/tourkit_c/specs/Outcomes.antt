@@ -15,13 +15,13 @@ use Rattle.tk_params.specs.declared.fault.ParamKind.TheVariants as params
 use Rattle.tourkit_c.specs.declared.answer.Answer.{Answer}
 
 -- a status, and how many bytes or numbers there are to write
-abbrev pub ended : ℕ → ℕ → Answer
-ended status needed =
+abbrev pub with_status : ℕ → ℕ → Answer
+with_status status needed =
     record { status = status; text = 0; line = 0; kind = 0; place = 0; length = 0; needed = needed; needed_file = 0 }
 
 -- the same for two buffers
-abbrev pub ended_twice : ℕ → ℕ → ℕ → Answer
-ended_twice status needed needed_file = record {
+abbrev pub with_status_twice : ℕ → ℕ → ℕ → Answer
+with_status_twice status needed needed_file = record {
   status = status;
   text = 0;
   line = 0;
@@ -69,7 +69,7 @@ abbrev pub clash_answer : TourFault → ℕ → Answer
 clash_answer tours.WrongCount needed = clashing 20 0 needed
 clash_answer (tours.OutOfRange place) needed = clashing 21 place needed
 clash_answer (tours.RepeatedCity place) needed = clashing 22 place needed
-clash_answer tours.NoMemory needed = ended 3 needed
+clash_answer tours.NoMemory needed = with_status 3 needed
 
 -- the number of a kind of fault, as the message has it
 abbrev pub text_number : TextKind → ℕ
@@ -110,8 +110,8 @@ misfit_number _ = 0
 -- the line and the number of a fault of a text; a refusal of memory has a status of its own, and so has a failed read,
 -- which no text in memory gives
 abbrev pub kind_answer : TextKind → ℕ → ℕ → ℕ → Answer
-kind_answer kinds.NoMemory text line needed = ended 3 needed
-kind_answer kinds.Read text line needed = ended 3 needed
+kind_answer kinds.NoMemory text line needed = with_status 3 needed
+kind_answer kinds.Read text line needed = with_status 3 needed
 kind_answer kind text line needed = refused text line (text_number kind) needed
 
 abbrev pub text_answer : ℕ → TextFault → ℕ → Answer
@@ -119,8 +119,8 @@ text_answer text fault needed = kind_answer fault.kind text fault.line needed
 
 -- the same of parameters, the first text
 abbrev pub param_kind_answer : ParamKind → ℕ → ℕ → Answer
-param_kind_answer params.NoMemory line needed = ended 3 needed
-param_kind_answer params.Read line needed = ended 3 needed
+param_kind_answer params.NoMemory line needed = with_status 3 needed
+param_kind_answer params.Read line needed = with_status 3 needed
 param_kind_answer kind line needed = refused 1 line (param_number kind) needed
 
 abbrev pub param_answer : ParamFault → ℕ → Answer
@@ -132,6 +132,6 @@ fault_answer problem (faults.Problem f) needed = text_answer problem f needed
 fault_answer problem (faults.Tour f) needed = text_answer (problem + 1) f needed
 fault_answer problem (faults.Solution f) needed = text_answer (problem + 1) f needed
 fault_answer problem (faults.Initial f) needed = clash_answer f needed
-fault_answer problem (faults.Write f) needed = ended 3 needed
-fault_answer problem faults.NoMemory needed = ended 3 needed
+fault_answer problem (faults.Write f) needed = with_status 3 needed
+fault_answer problem faults.NoMemory needed = with_status 3 needed
 fault_answer problem f needed = refused 0 0 (misfit_number f) needed

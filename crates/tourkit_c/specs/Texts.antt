@@ -13,7 +13,7 @@ use Rattle.tk_tour.specs.declared.verdict.Verdict.TheVariants as verdicts
 use Rattle.tk_routes.specs.declared.claims.verdict.RouteVerdict.{RouteVerdict}
 use Rattle.tk_routes.specs.declared.claims.verdict.RouteVerdict.TheVariants as routes
 use Rattle.tourkit_c.specs.HandedOut.{handed_out}
-use Rattle.tourkit_c.specs.Outcomes.{ended, ended_twice}
+use Rattle.tourkit_c.specs.Outcomes.{with_status, with_status_twice}
 use Rattle.tourkit_c.specs.declared.answer.Answer.{Answer}
 use Rattle.tk_engines.specs.Check.{IsCheck}
 use Rattle.tk_engines.specs.MatrixOf.{IsMatrixText}
@@ -71,12 +71,12 @@ IsSomeText old new answer = (text : List ℕ) × (answer.needed ≡ length text)
 
 -- what was written: the status, how many bytes the text has, and its first bytes in the buffer
 pub record IsWritten (status : ℕ) (text old new : List ℕ) (answer : Answer) : Type 0 where
-  pub answer_is : answer ≡ ended status (length text)
+  pub answer_is : answer ≡ with_status status (length text)
   pub bytes : new ≡ handed_out text old
 
 -- the same of two texts and two buffers
 pub record AreWritten (status : ℕ) (text old new text' old' new' : List ℕ) (answer : Answer) : Type 0 where
-  pub answer_is : answer ≡ ended_twice status (length text) (length text')
+  pub answer_is : answer ≡ with_status_twice status (length text) (length text')
   pub first : new ≡ handed_out text old
   pub second : new' ≡ handed_out text' old'
 

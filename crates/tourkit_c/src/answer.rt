@@ -1,7 +1,8 @@
 //! What an export tells beside what it writes.
 ghost use Rattle.std.specs.Prelude.{◌≡◌, ◌≤◌};
-ghost use Rattle.tourkit_c.specs.Outcomes.{ended, ended_twice, fault_answer, found, of_length, param_answer};
-ghost use Rattle.tourkit_c.specs.Outcomes.{clash_answer, clashing, param_number, refused, text_answer, text_number};
+ghost use Rattle.tourkit_c.specs.Outcomes.{clash_answer, clashing, fault_answer, found, of_length, param_answer};
+ghost use Rattle.tourkit_c.specs.Outcomes.{param_number, refused, text_answer, text_number, with_status};
+ghost use Rattle.tourkit_c.specs.Outcomes.{with_status_twice};
 ghost use Rattle.tourkit_c.specs.Texts.{IsSomeText};
 
 use crate::hand_out::hand_out;
@@ -82,7 +83,7 @@ fn number_of_params(kind: &ParamKind) -> u32
 impl Answer {
     /// A call that ended with a status alone.
     pub(crate) fn ended(status: u32, needed: usize) -> Answer
-        ensures { result ≡ ended status needed }
+        ensures { result ≡ with_status status needed }
     {
         Answer {
             status,
@@ -98,7 +99,7 @@ impl Answer {
 
     /// A call that ended with a status and two texts.
     pub(crate) fn ended_twice(status: u32, needed: usize, needed_file: usize) -> Answer
-        ensures { result ≡ ended_twice status needed needed_file }
+        ensures { result ≡ with_status_twice status needed needed_file }
     {
         Answer {
             needed_file,

@@ -8,7 +8,7 @@ ghost use Rattle.tk_engines.specs.ReadProblems.{read_distance};
 ghost use Rattle.tourkit_c.specs.Answers.{IsFaulty};
 ghost use Rattle.tourkit_c.specs.Arrays.{AreDistances, AreDistancesOf, AreNearIn, AreNearOf, HasVerdict, IsArrayStatus};
 ghost use Rattle.tourkit_c.specs.Arrays.{IsCountOf, IsTourCheckOf};
-ghost use Rattle.tourkit_c.specs.Outcomes.{ended};
+ghost use Rattle.tourkit_c.specs.Outcomes.{with_status};
 ghost use Rattle.tourkit_c.specs.Texts.{HasFault, TextSays};
 
 use crate::answer::{Answer, NO_ROOM, REFUSED};
@@ -38,7 +38,7 @@ fn table_of(problem: &Problem) -> Table<'_>
 fn distances_of(problem: &Problem, out: &mut [i64]) -> Answer
     ensures given { result.status ≡ 0
         → AreDistances problem.now.n (read_distance (weights_are problem.now.weights)) out.new }
-    ensures room { result.status ≡ 4 → result ≡ ended 4 (problem.now.n * problem.now.n) }
+    ensures room { result.status ≡ 4 → result ≡ with_status 4 (problem.now.n * problem.now.n) }
     ensures status { IsArrayStatus (length out.old) result }
     ensures kept { 2 ≤ result.status → out.new ≡ out.old }
     ensures unrefused { result.status ≢ 2 }
@@ -55,7 +55,8 @@ fn distances_of(problem: &Problem, out: &mut [i64]) -> Answer
 fn near_of(alloc: Global, problem: &Problem, candidates: ListLength, out: &mut [u32]) -> Answer
     ensures given { result.status ≡ 0
         → AreNearIn problem.now.n (read_distance (weights_are problem.now.weights)) candidates.cities out.new }
-    ensures room { result.status ≡ 4 → result ≡ ended 4 (problem.now.n * min candidates.cities (problem.now.n - 1)) }
+    ensures room { result.status ≡ 4
+        → result ≡ with_status 4 (problem.now.n * min candidates.cities (problem.now.n - 1)) }
     ensures status { IsArrayStatus (length out.old) result }
     ensures kept { 2 ≤ result.status → out.new ≡ out.old }
     ensures unrefused { result.status ≢ 2 }
@@ -70,7 +71,7 @@ fn verdict_of(alloc: Global, problem: &Problem, cities: &[u32]) -> Answer
     ensures known { result.status ≤ 3 }
     ensures unrefused { result.status ≢ 2 }
     ensures unwritten { result.needed ≡ 0 }
-    ensures memory { result.status ≡ 3 → result ≡ ended 3 0 }
+    ensures memory { result.status ≡ 3 → result ≡ with_status 3 0 }
 {
     verdict_in(alloc, &table_of(problem), cities)
 }
@@ -110,7 +111,7 @@ pub extern "C" fn tourkit_near_cities(
     ensures status { IsArrayStatus (length out.old) answer.new }
     ensures kept { 2 ≤ answer.new.status → out.new ≡ out.old }
     ensures refused { answer.new.status ≡ 2 → IsListLength k → IsFaulty problem_texts 1 problem.now answer.new }
-    ensures outside { (IsListLength k → ⊥) → answer.new ≡ ended 2 0 }
+    ensures outside { (IsListLength k → ⊥) → answer.new ≡ with_status 2 0 }
 {
     let Some(candidates) = ListLength::of(k) else {
         *answer = Answer::ended(REFUSED, 0);
@@ -135,7 +136,7 @@ pub extern "C" fn tourkit_check_cities(
     ensures known { answer.new.status ≤ 3 }
     ensures problem { answer.new.status ≡ 2 → IsFaulty problem_texts 1 problem.now answer.new }
     ensures unwritten { answer.new.needed ≡ 0 }
-    ensures memory { answer.new.status ≡ 3 → answer.new ≡ ended 3 0 }
+    ensures memory { answer.new.status ≡ 3 → answer.new ≡ with_status 3 0 }
 {
     *answer = match problem_of(alloc, problem) {
         Ok(problem) => verdict_of(alloc, &problem, cities),

@@ -5,7 +5,7 @@ ghost use Rattle.tk_text.specs.Tour.{tour_texts};
 ghost use Rattle.tk_engines.specs.RouteCheck.{without_routing};
 ghost use Rattle.tourkit_c.specs.Answers.{IsStop, NeverClashes, NoFault, fits_any};
 ghost use Rattle.tourkit_c.specs.Checks.{IsCheckRefused, IsRouteCheckRefused};
-ghost use Rattle.tourkit_c.specs.Outcomes.{ended};
+ghost use Rattle.tourkit_c.specs.Outcomes.{with_status};
 ghost use Rattle.tourkit_c.specs.Texts.{HasFault, IsCheckOf, IsCheckWritten, IsRouteCheckOf, IsRouteCheckWritten};
 ghost use Rattle.tourkit_c.specs.Texts.{IsSomeText, route_status, tour_status};
 
@@ -83,7 +83,7 @@ pub extern "C" fn tourkit_check(
     ensures given { answer.new.status ≤ 1 → IsCheckWritten problem.now tour.now out.old out.new answer.new }
     ensures known { answer.new.status ≤ 3 }
     ensures refused { answer.new.status ≡ 2 → IsCheckRefused problem.now tour.now answer.new }
-    ensures memory { answer.new.status ≡ 3 → answer.new ≡ ended 3 answer.new.needed }
+    ensures memory { answer.new.status ≡ 3 → answer.new ≡ with_status 3 answer.new.needed }
     ensures message { 2 ≤ answer.new.status → IsSomeText out.old out.new answer.new }
 {
     *answer = match checked(alloc, problem, tour) {
@@ -105,7 +105,7 @@ pub extern "C" fn tourkit_checksol(
     ensures given { answer.new.status ≤ 1 → IsRouteCheckWritten problem.now solution.now out.old out.new answer.new }
     ensures known { answer.new.status ≤ 3 }
     ensures refused { answer.new.status ≡ 2 → IsRouteCheckRefused problem.now solution.now answer.new }
-    ensures memory { answer.new.status ≡ 3 → answer.new ≡ ended 3 answer.new.needed }
+    ensures memory { answer.new.status ≡ 3 → answer.new ≡ with_status 3 answer.new.needed }
     ensures message { 2 ≤ answer.new.status → IsSomeText out.old out.new answer.new }
 {
     *answer = match routes_checked(alloc, problem, solution) {

@@ -4,7 +4,7 @@ ghost use Rattle.tk_problem.specs.declared.weights.Format.TheVariants.{FullMatri
 ghost use Rattle.tk_near.specs.ListLengths.{IsListLength};
 ghost use Rattle.tk_engines.specs.MatrixOf.{too_large};
 ghost use Rattle.tourkit_c.specs.Answers.{IsRightRefusal, IsStop, NeverClashes, NoFault, NoRefusal, fits_any};
-ghost use Rattle.tourkit_c.specs.Outcomes.{ended};
+ghost use Rattle.tourkit_c.specs.Outcomes.{with_status};
 ghost use Rattle.tourkit_c.specs.Texts.{IsMatrixTextOf, IsNearTextOf, IsSomeText, IsTextWritten};
 
 use crate::answer::{Answer, REFUSED, stopped};
@@ -54,8 +54,8 @@ pub extern "C" fn tourkit_near(
     ensures known { answer.new.status ≤ 3 }
     ensures refused { answer.new.status ≡ 2 → IsListLength k
         → IsRightRefusal fits_any NeverClashes NoRefusal 1 problem.now answer.new }
-    ensures outside { (IsListLength k → ⊥) → answer.new ≡ ended 2 0 }
-    ensures memory { answer.new.status ≡ 3 → answer.new ≡ ended 3 answer.new.needed }
+    ensures outside { (IsListLength k → ⊥) → answer.new ≡ with_status 2 0 }
+    ensures memory { answer.new.status ≡ 3 → answer.new ≡ with_status 3 answer.new.needed }
     ensures message { 2 ≤ answer.new.status → IsSomeText out.old out.new answer.new }
 {
     let Some(candidates) = ListLength::of(k) else {
@@ -76,7 +76,7 @@ pub extern "C" fn tourkit_matrix(alloc: Global, problem: &[u8], out: &mut [u8], 
     ensures known { answer.new.status ≤ 3 }
     ensures refused { answer.new.status ≡ 2
         → IsRightRefusal too_large NeverClashes NoRefusal 1 problem.now answer.new }
-    ensures memory { answer.new.status ≡ 3 → answer.new ≡ ended 3 answer.new.needed }
+    ensures memory { answer.new.status ≡ 3 → answer.new ≡ with_status 3 answer.new.needed }
     ensures message { 2 ≤ answer.new.status → IsSomeText out.old out.new answer.new }
 {
     *answer = match matrix_text(alloc, problem) {

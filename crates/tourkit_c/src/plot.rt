@@ -3,7 +3,7 @@ ghost use Rattle.std.specs.Prelude.{◌≡◌, ◌≤◌, IfOk, IfErr};
 ghost use Rattle.tk_engines.specs.Plot.{Output};
 ghost use Rattle.tk_engines.specs.declared.engines.plotted.Plotted.{Plotted};
 ghost use Rattle.tourkit_c.specs.Answers.{IsRightRefusal, IsStop, NeverClashes};
-ghost use Rattle.tourkit_c.specs.Outcomes.{ended};
+ghost use Rattle.tourkit_c.specs.Outcomes.{with_status};
 ghost use Rattle.tourkit_c.specs.Plotted.{IsClaimRefused, IsPlotOf, HoldPlot, IsSolutionFault, IsTourFault};
 ghost use Rattle.tourkit_c.specs.Plotted.{line_in, picture_in, plot_misfit, plot_status};
 ghost use Rattle.tourkit_c.specs.Texts.{IsSomeText};
@@ -76,7 +76,7 @@ pub extern "C" fn tourkit_plot(
     ensures known { answer.new.status ≤ 3 }
     ensures refused { answer.new.status ≡ 2
         → IsRightRefusal plot_misfit NeverClashes (IsClaimRefused has_claim claim.now) 1 problem.now answer.new }
-    ensures memory { answer.new.status ≡ 3 → answer.new ≡ ended 3 answer.new.needed }
+    ensures memory { answer.new.status ≡ 3 → answer.new ≡ with_status 3 answer.new.needed }
     ensures message { 2 ≤ answer.new.status → IsSomeText told.old told.new answer.new }
     ensures kept { 2 ≤ answer.new.status → out.new ≡ out.old }
 {

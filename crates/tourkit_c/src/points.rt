@@ -5,7 +5,7 @@ ghost use Rattle.tk_near.specs.ListLengths.{IsListLength};
 ghost use Rattle.tk_metric.specs.PlaneOf.{city_distance};
 ghost use Rattle.tk_metric.specs.Tables.{table_distance, table_size};
 ghost use Rattle.tourkit_c.specs.Arrays.{IsArrayStatus};
-ghost use Rattle.tourkit_c.specs.Outcomes.{ended};
+ghost use Rattle.tourkit_c.specs.Outcomes.{with_status};
 ghost use Rattle.tourkit_c.specs.Points.{ArePlaces, ArePointsNear, CanBePlaces, IsPointsCheck, kind_number};
 
 use crate::answer::{Answer, NO_MEMORY, REFUSED};
@@ -78,10 +78,10 @@ pub extern "C" fn tourkit_near_points(
     answer: &mut Answer,
 )
     ensures given { answer.new.status ≡ 0 → ArePointsNear kind xs.now ys.now k out.new }
-    ensures room { answer.new.status ≡ 4 → answer.new ≡ ended 4 (length xs.now * min k (length xs.now - 1)) }
+    ensures room { answer.new.status ≡ 4 → answer.new ≡ with_status 4 (length xs.now * min k (length xs.now - 1)) }
     ensures status { IsArrayStatus (length out.old) answer.new }
     ensures kept { 2 ≤ answer.new.status → out.new ≡ out.old }
-    ensures refused { answer.new.status ≡ 2 → answer.new ≡ ended 2 0 }
+    ensures refused { answer.new.status ≡ 2 → answer.new ≡ with_status 2 0 }
     ensures justified { answer.new.status ≡ 2 → IsListLength k → kind ≤ 4 → CanBePlaces xs.now ys.now → ⊥ }
     ensures candidates { answer.new.status ≢ 2 → IsListLength k }
     ensures kinds { answer.new.status ≢ 2 → kind ≤ 4 }
@@ -114,7 +114,7 @@ pub extern "C" fn tourkit_check_points(
 )
     ensures given { answer.new.status ≤ 1 → IsPointsCheck kind xs.now ys.now cities.now answer.new }
     ensures known { answer.new.status ≤ 3 }
-    ensures refused { 2 ≤ answer.new.status → answer.new ≡ ended answer.new.status 0 }
+    ensures refused { 2 ≤ answer.new.status → answer.new ≡ with_status answer.new.status 0 }
     ensures justified { answer.new.status ≡ 2 → kind ≤ 4 → CanBePlaces xs.now ys.now → ⊥ }
     ensures kinds { answer.new.status ≢ 2 → kind ≤ 4 }
     ensures places { answer.new.status ≢ 2 → answer.new.status ≢ 3 → CanBePlaces xs.now ys.now }

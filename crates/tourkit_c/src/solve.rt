@@ -2,7 +2,7 @@
 ghost use Rattle.std.specs.Prelude.{◌≡◌, ◌≢◌, ◌≤◌, IfOk, IfErr, Ok, is_some};
 ghost use Rattle.tk_engines.specs.Params.{params_answer};
 ghost use Rattle.tourkit_c.specs.Answers.{IsStop, NoFault};
-ghost use Rattle.tourkit_c.specs.Outcomes.{ended};
+ghost use Rattle.tourkit_c.specs.Outcomes.{with_status};
 ghost use Rattle.tourkit_c.specs.Solved.{AreParamsRefused, HasParamFault, IsClashOf, IsInitialFault};
 ghost use Rattle.tourkit_c.specs.Solved.{HoldFiles, IsSearchRefused, IsSolveRefused, IsSolvedBy, IsSolvedOf, misfit_of};
 ghost use Rattle.tourkit_c.specs.Texts.{IsSomeText};
@@ -67,7 +67,7 @@ fn search(
     ensures known { result.status ≤ 3 }
     ensures refused { result.status ≡ 2 → IsSearchRefused params.now problem.now initial.now result }
     ensures later { result.status ≡ 2 → result.text ≢ 1 }
-    ensures memory { result.status ≡ 3 → result ≡ ended 3 result.needed }
+    ensures memory { result.status ≡ 3 → result ≡ with_status 3 result.needed }
     ensures message { 2 ≤ result.status → IsSomeText out.old out.new result }
     ensures kept { 2 ≤ result.status → file.new ≡ file.old }
 {
@@ -98,7 +98,7 @@ pub extern "C" fn tourkit_solve(
     ensures parameters { answer.new.status ≡ 2 → answer.new.text ≡ 1 → AreParamsRefused parameters.now answer.new }
     ensures refused { answer.new.status ≡ 2 → answer.new.text ≢ 1
         → IsSolveRefused parameters.now problem.now initial.now answer.new }
-    ensures memory { answer.new.status ≡ 3 → answer.new ≡ ended 3 answer.new.needed }
+    ensures memory { answer.new.status ≡ 3 → answer.new ≡ with_status 3 answer.new.needed }
     ensures message { 2 ≤ answer.new.status → IsSomeText out.old out.new answer.new }
     ensures kept { 2 ≤ answer.new.status → file.new ≡ file.old }
 {

@@ -2,7 +2,7 @@
 ghost use Rattle.std.specs.Prelude.{◌≡◌, ◌≢◌, ◌≤◌, ◌*◌, ◌-◌, min, length};
 ghost use Rattle.tk_metric.specs.Tables.{table_distance, table_size};
 ghost use Rattle.tourkit_c.specs.Arrays.{AreDistances, AreNearIn, HasVerdict, IsArrayStatus};
-ghost use Rattle.tourkit_c.specs.Outcomes.{ended};
+ghost use Rattle.tourkit_c.specs.Outcomes.{with_status};
 
 use crate::answer::{Answer, NO_MEMORY, NO_ROOM};
 use std::alloc::Global;
@@ -46,7 +46,7 @@ pub(crate) fn near_in(
     ensures given { result.status ≡ 0
         → AreNearIn (table_size table.now) (table_distance table.now) candidates.cities out.new }
     ensures room { result.status ≡ 4
-        → result ≡ ended 4 (table_size table.now * min candidates.cities (table_size table.now - 1)) }
+        → result ≡ with_status 4 (table_size table.now * min candidates.cities (table_size table.now - 1)) }
     ensures status { IsArrayStatus (length out.old) result }
     ensures kept { 2 ≤ result.status → out.new ≡ out.old }
     ensures unrefused { result.status ≢ 2 }
@@ -72,7 +72,7 @@ fn verdict_by<M: Metric>(alloc: Global, metric: &M, cities: &[u32]) -> Answer
     ensures known { result.status ≤ 3 }
     ensures unrefused { result.status ≢ 2 }
     ensures unwritten { result.needed ≡ 0 }
-    ensures memory { result.status ≡ 3 → result ≡ ended 3 0 }
+    ensures memory { result.status ≡ 3 → result ≡ with_status 3 0 }
 {
     match check(alloc, metric.size(), cities) {
         Ok(Verdict::Tour) => Answer::of_length(length(metric, cities).unsigned_abs()),
@@ -90,7 +90,7 @@ pub(crate) fn verdict_in(alloc: Global, table: &Table<'_>, cities: &[u32]) -> An
     ensures known { result.status ≤ 3 }
     ensures unrefused { result.status ≢ 2 }
     ensures unwritten { result.needed ≡ 0 }
-    ensures memory { result.status ≡ 3 → result ≡ ended 3 0 }
+    ensures memory { result.status ≡ 3 → result ≡ with_status 3 0 }
 {
     match table {
         Table::Planes(planes) => verdict_by(alloc, planes, cities),

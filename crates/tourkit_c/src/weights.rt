@@ -5,7 +5,7 @@ ghost use Rattle.tk_near.specs.ListLengths.{IsListLength};
 ghost use Rattle.tk_metric.specs.Tables.{table_distance, table_size};
 ghost use Rattle.tk_metric.specs.Weights.{weight_between};
 ghost use Rattle.tourkit_c.specs.Arrays.{AreNearIn, HasVerdict, IsArrayStatus};
-ghost use Rattle.tourkit_c.specs.Outcomes.{ended};
+ghost use Rattle.tourkit_c.specs.Outcomes.{with_status};
 ghost use Rattle.tourkit_c.specs.Weights.{AreWeights};
 
 use crate::answer::{Answer, REFUSED};
@@ -58,10 +58,10 @@ pub extern "C" fn tourkit_near_weights(
     answer: &mut Answer,
 )
     ensures given { answer.new.status ≡ 0 → AreNearIn n (weight_between weights.now) k out.new }
-    ensures room { answer.new.status ≡ 4 → answer.new ≡ ended 4 (n * min k (n - 1)) }
+    ensures room { answer.new.status ≡ 4 → answer.new ≡ with_status 4 (n * min k (n - 1)) }
     ensures status { IsArrayStatus (length out.old) answer.new }
     ensures kept { 2 ≤ answer.new.status → out.new ≡ out.old }
-    ensures refused { answer.new.status ≡ 2 → answer.new ≡ ended 2 0 }
+    ensures refused { answer.new.status ≡ 2 → answer.new ≡ with_status 2 0 }
     ensures justified { answer.new.status ≡ 2 → IsListLength k → AreWeights n weights.now → ⊥ }
     ensures candidates { answer.new.status ≢ 2 → IsListLength k }
     ensures weights { answer.new.status ≢ 2 → AreWeights n weights.now }
@@ -88,7 +88,7 @@ pub extern "C" fn tourkit_check_weights(
 )
     ensures given { answer.new.status ≤ 1 → HasVerdict n (weight_between weights.now) cities.now answer.new }
     ensures known { answer.new.status ≤ 3 }
-    ensures refused { 2 ≤ answer.new.status → answer.new ≡ ended answer.new.status 0 }
+    ensures refused { 2 ≤ answer.new.status → answer.new ≡ with_status answer.new.status 0 }
     ensures justified { answer.new.status ≡ 2 → AreWeights n weights.now → ⊥ }
     ensures weights { answer.new.status ≢ 2 → AreWeights n weights.now }
 {
