@@ -1,12 +1,13 @@
 //! Cities by their coordinates in two arrays, in units of 10^-9.
-ghost use Rattle.std.specs.Prelude.{◌≡◌, ◌≢◌, ◌≤◌, ◌*◌, ◌-◌, min, length, IfOk, IfSome, IfNone};
+ghost use Rattle.std.specs.Prelude.{◌≡◌, ◌≢◌, ◌≤◌, ◌<◌, ◌*◌, ◌-◌, min, length, IfOk, IfSome, IfNone};
 ghost use Rattle.tk_problem.specs.declared.limits.TheConstants.{CITY_LIMIT};
 ghost use Rattle.tk_near.specs.ListLengths.{IsListLength};
 ghost use Rattle.tk_metric.specs.PlaneOf.{city_distance};
 ghost use Rattle.tk_metric.specs.Tables.{table_distance, table_size};
 ghost use Rattle.tourkit_c.specs.Arrays.{IsArrayStatus};
 ghost use Rattle.tourkit_c.specs.Outcomes.{with_status};
-ghost use Rattle.tourkit_c.specs.Points.{ArePlaces, ArePointsNear, CanBePlaces, IsPointsCheck, kind_number};
+ghost use Rattle.tk_text.specs.Places.{IsNearOrigin};
+ghost use Rattle.tourkit_c.specs.Points.{ArePlaces, ArePointsNear, CanBePlaces, IsPointsCheck, kind_number, place_at};
 
 use crate::answer::{Answer, NO_MEMORY, REFUSED};
 use crate::tables::{near_in, verdict_in};
@@ -34,6 +35,21 @@ fn kind_of(kind: u32) -> Option<PlaneKind>
 /// The greatest magnitude of a coordinate, in units.
 const FAR: u64 = COORDINATE_LIMIT * SCALE as u64;
 
+/// The place with the coordinates at an index; `None` where it is too far away.
+fn place_in(xs: &[i64], ys: &[i64], i: usize) -> Option<Point>
+    requires inside { i < length xs.now }
+    requires count { length ys.now ≡ length xs.now }
+    ensures place { IfSome result (λ place. place ≡ place_at xs.now ys.now i) }
+    ensures some { IfSome result (λ _. IsNearOrigin (place_at xs.now ys.now i)) }
+    ensures none { IfNone result (IsNearOrigin (place_at xs.now ys.now i) → ⊥) }
+{
+    let (x, y) = (xs[i], ys[i]);
+    if x.unsigned_abs() > FAR || y.unsigned_abs() > FAR {
+        return None;
+    }
+    Some(Point { x, y })
+}
+
 /// The places with these coordinates; `None` where they are not 2 to 100,000, or one is too far away.
 fn places_of(alloc: Global, xs: &[i64], ys: &[i64]) -> Result<Option<Points>, AllocError>
     ensures places { IfOk result (λ found. IfSome found (ArePlaces xs.now ys.now)) }
@@ -47,10 +63,9 @@ fn places_of(alloc: Global, xs: &[i64], ys: &[i64]) -> Result<Option<Points>, Al
     }
     let mut points = Points::at_origin(alloc, xs.len())?;
     for i in 0..xs.len() {
-        let place = Point { x: xs[i], y: ys[i] };
-        if place.x.unsigned_abs() > FAR || place.y.unsigned_abs() > FAR {
+        let Some(place) = place_in(xs, ys, i) else {
             return Ok(None);
-        }
+        };
         points.set(i, place)?;
     }
     Ok(Some(points))
