@@ -91,53 +91,68 @@ fn length_of(metric: &Rows, tour: &ArrayTour) -> i64
     length(metric, tour.order())
 }
 
-/// A descent: its report, and whether the tour is then a local optimum.
+/// A descent of a tour: its report, and whether the tour is then a local optimum.
+fn descend_tour(
+    rt: &impl Abort,
+    alloc: Global,
+    metric: &Rows,
+    tour: &mut ArrayTour,
+    (k, m): (u32, u32),
+    awake: bool,
+) -> Result<(Report, bool), Fail> {
+    assert!(rt; metric.n == tour.size() && 1 <= k && k < metric.n && 1 <= m && m <= 3);
+    let near = near_scan(alloc, metric, k)?;
+    let mut waking = Waking::new(alloc, metric.n)?;
+    if awake {
+        waking.wake_all();
+    }
+    let before = length_of(metric, tour);
+    let report = descend(tour, &mut Probe::new(metric), &near, &mut waking, m, before);
+    Ok((report, is_local_optimum(tour, metric, &near, m)))
+}
+
+/// A descent of a list: the tour and its report, and whether the tour is then a local optimum.
 fn descent(
     rt: &impl Abort,
     alloc: Global,
     metric: &Rows,
     cities: &[u32],
-    k: u32,
-    m: u32,
+    widths: (u32, u32),
     awake: bool,
 ) -> Result<(ArrayTour, Report, bool), Fail> {
     let mut tour = ArrayTour::from_list(alloc, cities)?;
-    assert!(rt; metric.n == tour.size());
-    assert!(rt; 1 <= k && k < metric.n);
-    assert!(rt; 1 <= m && m <= 3);
-    let near = near_scan(alloc, metric, k)?;
-    let mut gains = Probe::new(metric);
-    let mut waking = Waking::new(alloc, metric.n)?;
-    if awake {
-        waking.wake_all();
-    }
-    let before = length_of(metric, &tour);
-    let report = descend(&mut tour, &mut gains, &near, &mut waking, m, before);
-    let optimum = is_local_optimum(&tour, metric, &near, m);
+    let (report, optimum) = descend_tour(rt, alloc, metric, &mut tour, widths, awake)?;
     Ok((tour, report, optimum))
 }
 
-/// A swept descent: its report, and whether the tour is then a local optimum.
+/// A swept descent of a tour: its report, and whether the tour is then a local optimum.
+fn sweep_tour(
+    rt: &impl Abort,
+    alloc: Global,
+    metric: &Rows,
+    tour: &mut ArrayTour,
+    (k, m): (u32, u32),
+) -> Result<(SweptReport, bool), Fail> {
+    assert!(rt; metric.n == tour.size() && 1 <= k && k < metric.n && 1 <= m && m <= 3);
+    let near = near_scan(alloc, metric, k)?;
+    let mut waking = Waking::new(alloc, metric.n)?;
+    waking.wake(2);
+    let before = length_of(metric, tour);
+    let report = descend_swept(tour, &mut Probe::new(metric), &near, &mut waking, m, before);
+    assert!(rt; waking.take().is_none());
+    Ok((report, is_local_optimum(tour, metric, &near, m)))
+}
+
+/// A swept descent of a list: its report, and whether the tour is then a local optimum.
 fn sweep(
     rt: &impl Abort,
     alloc: Global,
     metric: &Rows,
     cities: &[u32],
-    (k, m): (u32, u32),
+    widths: (u32, u32),
 ) -> Result<(SweptReport, bool), Fail> {
     let mut tour = ArrayTour::from_list(alloc, cities)?;
-    assert!(rt; metric.n == tour.size());
-    assert!(rt; 1 <= k && k < metric.n);
-    assert!(rt; 1 <= m && m <= 3);
-    let near = near_scan(alloc, metric, k)?;
-    let mut gains = Probe::new(metric);
-    let mut waking = Waking::new(alloc, metric.n)?;
-    waking.wake(2);
-    let before = length_of(metric, &tour);
-    let report = descend_swept(&mut tour, &mut gains, &near, &mut waking, m, before);
-    let optimum = is_local_optimum(&tour, metric, &near, m);
-    assert!(rt; waking.take().is_none());
-    Ok((report, optimum))
+    sweep_tour(rt, alloc, metric, &mut tour, widths)
 }
 
 /// before, after, moves, looks, tests and swaps
@@ -151,10 +166,10 @@ fn expect_descent(
     alloc: Global,
     metric: &Rows,
     cities: &[u32],
-    (k, m): (u32, u32),
+    widths: (u32, u32),
     want: (i64, i64, u64, u64, u64, u64),
 ) -> Result<(ArrayTour, bool), Fail> {
-    let (tour, report, optimum) = descent(rt, alloc, metric, cities, k, m, true)?;
+    let (tour, report, optimum) = descent(rt, alloc, metric, cities, widths, true)?;
     assert!(rt; numbers(&report) == want);
     Ok((tour, optimum))
 }
@@ -165,11 +180,11 @@ fn expect_sweep(
     alloc: Global,
     metric: &Rows,
     cities: &[u32],
-    (k, m): (u32, u32),
+    widths: (u32, u32),
     passes: u64,
     want: (i64, i64, u64, u64, u64, u64),
 ) -> Result<(), Fail> {
-    let (report, optimum) = sweep(rt, alloc, metric, cities, (k, m))?;
+    let (report, optimum) = sweep(rt, alloc, metric, cities, widths)?;
     assert!(rt; numbers(&report.descent) == want);
     assert!(rt; report.passes == passes);
     assert!(rt; optimum);
@@ -269,7 +284,14 @@ fn crossed_square(rt: HostRuntime) -> Result<(), Fail> {
 
 #[test]
 fn crossed_square_asleep(rt: HostRuntime) -> Result<(), Fail> {
-    let (tour, report, optimum) = descent(&rt, rt.alloc(), &square(), &[1, 2, 3, 4], 3, 3, false)?;
+    let (tour, report, optimum) = descent(
+        &rt,
+        rt.alloc(),
+        &square(),
+        &[1, 2, 3, 4],
+        (3, 3),
+        false,
+    )?;
     assert!(rt; numbers(&report) == (48, 48, 0, 0, 0, 0));
     assert!(rt; !optimum);
     assert!(rt; tour.order() == [1, 2, 3, 4].as_slice());
@@ -411,22 +433,35 @@ fn remembers_steps(rt: HostRuntime) -> Result<(), Fail> {
     Ok(())
 }
 
+/// The first look at city 1 finds an offer, and after its move none.
+fn expect_one_offer(
+    rt: &impl Abort,
+    metric: &Rows,
+    tour: &mut ArrayTour,
+    near: &Near,
+) -> Result<(), Fail>
+    requires size { metric.now.n ≡ length (⟦<ArrayTour as TourStore>⟧.cities tour.old) }
+    requires near { near.now.size ≡ metric.now.n }
+{
+    let mut gains = Probe::new(metric);
+    let Some(offer) = look(tour, &mut gains, near, 3, 1) else {
+        return Err(Fail::from("no offer"));
+    };
+    assert!(rt; gains.tests() == 1);
+    make(tour, &offer);
+    assert!(rt; look(tour, &mut gains, near, 3, 1).is_none());
+    assert!(rt; gains.tests() == 15);
+    Ok(())
+}
+
 #[test]
 fn looks_and_makes(rt: HostRuntime) -> Result<(), Fail> {
     let metric = square();
     let mut tour = ArrayTour::from_list(rt.alloc(), &[1, 2, 3, 4])?;
     assert!(rt; metric.n == tour.size());
     let near = near_scan(rt.alloc(), &metric, 3)?;
-    let mut gains = Probe::new(&metric);
-    let Some(offer) = look(&tour, &mut gains, &near, 3, 1) else {
-        return Err(Fail::from("no offer"));
-    };
-    assert!(rt; gains.tests() == 1);
-    make(&mut tour, &offer);
-    expect_printed(&rt, rt.alloc(), &tour, &[1, 3, 2, 4])?;
-    assert!(rt; look(&tour, &mut gains, &near, 3, 1).is_none());
-    assert!(rt; gains.tests() == 15);
-    Ok(())
+    expect_one_offer(&rt, &metric, &mut tour, &near)?;
+    expect_printed(&rt, rt.alloc(), &tour, &[1, 3, 2, 4])
 }
 
 #[test]
@@ -438,28 +473,5 @@ fn gains_of_the_square(rt: HostRuntime) -> Result<(), Fail> {
     let moved = gains.gain3(1, 2, 2, 3, 4, 1);
     assert!(rt; (crossed, straight, moved) == (8, -8, 0));
     assert!(rt; gains.tests() == 3);
-    Ok(())
-}
-
-/// This city is the next to be taken, or none is.
-fn expect_next(rt: &impl Abort, waking: &mut Waking, want: Option<u32>)
-    ensures { waking.new.size ≡ waking.old.size }
-{
-    assert!(rt; waking.take() == want);
-}
-
-#[test]
-fn wakes_in_order(rt: HostRuntime) -> Result<(), Fail> {
-    let mut waking = Waking::new(rt.alloc(), 3)?;
-    waking.wake_all();
-    waking.wake(2);
-    expect_next(&rt, &mut waking, Some(1));
-    expect_next(&rt, &mut waking, Some(2));
-    expect_next(&rt, &mut waking, Some(3));
-    expect_next(&rt, &mut waking, None);
-    waking.wake_each(&[3, 1, 3]);
-    expect_next(&rt, &mut waking, Some(3));
-    expect_next(&rt, &mut waking, Some(1));
-    expect_next(&rt, &mut waking, None);
     Ok(())
 }

@@ -14,3 +14,5 @@ mod searches;
 mod starts;
 #[cfg(test)]
 mod tours;
+#[cfg(test)]
+mod waking;

@@ -115,6 +115,15 @@ fn whole_places(rt: HostRuntime) -> Result<(), Fail> {
     Ok(())
 }
 
+/// The distances of these places are those of places that are not whole.
+fn expect_fine(rt: &impl Abort, points: &Points) {
+    assert!(rt; points.len() == 3);
+    let planes = Planes::new(PlaneKind::Euc2d, points);
+    assert!(rt; planes.size() == 3);
+    assert!(rt; planes.place(3) == FINE);
+    assert!(rt; planes.dist(1, 2) == 11);
+}
+
 #[test]
 fn places_one_of_which_is_not_whole(rt: HostRuntime) -> Result<(), Fail> {
     let mut points = Points::at_origin(rt.alloc(), 3)?;
@@ -122,11 +131,7 @@ fn places_one_of_which_is_not_whole(rt: HostRuntime) -> Result<(), Fail> {
     points.set(2, FINE)?;
     assert!(rt; matches!(points.places(), Places::Fine(_)));
     assert!(rt; points.get(0) == Point { x: 0, y: 0 } && points.get(1) == WHOLE);
-    assert!(rt; points.len() == 3);
-    let planes = Planes::new(PlaneKind::Euc2d, &points);
-    assert!(rt; planes.size() == 3);
-    assert!(rt; planes.place(3) == FINE);
-    assert!(rt; planes.dist(1, 2) == 11);
+    expect_fine(&rt, &points);
     Ok(())
 }
 
@@ -139,17 +144,20 @@ fn expect_pairs<M: Metric>(rt: &impl Abort, metric: &M, rows: &[(u32, u32, i64)]
     }
 }
 
+/// A distance of 5 between two cities.
+fn expect_five<M: Metric>(rt: &impl Abort, metric: &M) {
+    assert!(rt; metric.size() == 2);
+    expect_pairs(rt, metric, &[(1, 2, 5), (2, 1, 5), (2, 2, 0)]);
+    assert!(rt; metric.is_nearer(1, 2, 6) && !metric.is_nearer(1, 2, 5));
+}
+
 #[test]
 fn euclid_of_whole_places(rt: HostRuntime) -> Result<(), Fail> {
-    let alloc = rt.alloc();
-    let mut points = pair(alloc, 3 * UNIT, 4 * UNIT)?;
+    let mut points = pair(rt.alloc(), 3 * UNIT, 4 * UNIT)?;
     assert!(rt; points.len() == 2);
-    let euclid = Planes::new(PlaneKind::Euc2d, &points).euclid();
-    assert!(rt; euclid.is_some());
-    if let Some(euclid) = euclid {
-        assert!(rt; euclid.size() == 2);
-        expect_pairs(&rt, &euclid, &[(1, 2, 5), (2, 1, 5), (2, 2, 0)]);
-        assert!(rt; euclid.is_nearer(1, 2, 6) && !euclid.is_nearer(1, 2, 5));
+    match Planes::new(PlaneKind::Euc2d, &points).euclid() {
+        Some(euclid) => expect_five(&rt, &euclid),
+        None => return Err(Fail::from("places that are not whole")),
     }
     assert!(rt; Planes::new(PlaneKind::Ceil2d, &points).euclid().is_none());
     points.set(0, Point { x: 0, y: 1 })?;

@@ -6,8 +6,8 @@ use std::alloc::{AllocError, Global};
 use std::process::Abort;
 use std::test::Fail;
 use tk_metric::{
-    Metric, Near, Planes, Table, Turned, near_lists, near_lists_agree, near_scan, near_sweep,
-    near_tree,
+    BothAxes, Metric, Near, Planes, Table, Turned, near_lists, near_lists_agree, near_scan,
+    near_sweep, near_tree,
 };
 use tk_text::{PlaneKind, Point, Points};
 
@@ -51,6 +51,38 @@ pub fn expect(rt: &impl Abort, near: &Near, want: &[u32]) {
     }
 }
 
+// The lists that a call made are these.
+fn expect_made(rt: &impl Abort, made: Result<Near, AllocError>, want: &[u32]) -> Result<(), Fail> {
+    expect(rt, &made?, want);
+    Ok(())
+}
+
+// The lists of a scan, of a sweep by x and of a tree are these.
+fn expect_in_plane<P: BothAxes>(
+    rt: &impl Abort,
+    alloc: Global,
+    metric: &P,
+    k: u32,
+    want: &[u32],
+) -> Result<(), Fail> {
+    assert!(rt; 1 <= k && k <= 100 && k < metric.size());
+    expect_made(rt, near_scan(alloc, metric, k), want)?;
+    expect_made(rt, near_sweep(alloc, metric, k), want)?;
+    expect_made(rt, near_tree(alloc, metric, k), want)
+}
+
+// The lists of a table are these.
+fn expect_of_table(
+    rt: &impl Abort,
+    alloc: Global,
+    planes: Planes<'_>,
+    k: u32,
+    want: &[u32],
+) -> Result<(), Fail> {
+    assert!(rt; 1 <= k && k <= 100 && k < planes.size());
+    expect_made(rt, near_lists(alloc, &Table::Planes(planes), k), want)
+}
+
 // The lists of a scan, of a sweep by x and by y, of a tree in either direction and of a table are these.
 fn expect_lists(
     rt: &impl Abort,
@@ -65,15 +97,10 @@ fn expect_lists(
 {
     assert!(rt; coordinates.len() <= 10);
     let points = places(alloc, coordinates, unit)?;
-    let m = Planes::new(kind, &points);
-    assert!(rt; 1 <= k && k < m.size());
-    expect(rt, &near_scan(alloc, &m, k)?, want);
-    expect(rt, &near_sweep(alloc, &m, k)?, want);
-    expect(rt, &near_sweep(alloc, &Turned(&m), k)?, want);
-    expect(rt, &near_tree(alloc, &m, k)?, want);
-    expect(rt, &near_tree(alloc, &Turned(&m), k)?, want);
-    expect(rt, &near_lists(alloc, &Table::Planes(m), k)?, want);
-    Ok(())
+    let metric = Planes::new(kind, &points);
+    expect_in_plane(rt, alloc, &metric, k, want)?;
+    expect_in_plane(rt, alloc, &Turned(&metric), k, want)?;
+    expect_of_table(rt, alloc, metric, k, want)
 }
 
 #[test]
@@ -169,33 +196,40 @@ fn expect_same(rt: &impl Abort, near: &Near, other: &Near) {
     }
 }
 
-// A sweep, a tree and a table of 300 places in a box have the lists of a scan.
-fn expect_agreed(
+// The lists that a call made are those of another.
+fn expect_same_made(
+    rt: &impl Abort,
+    made: Result<Near, AllocError>,
+    other: &Near,
+) -> Result<(), Fail> {
+    expect_same(rt, &made?, other);
+    Ok(())
+}
+
+// The lists of a tree are those of a scan, as they have to be by the law that near lists agree.
+fn expect_tree_agrees<P: BothAxes>(
     rt: &impl Abort,
     alloc: Global,
-    kind: PlaneKind,
-    wide: u16,
-    tall: u16,
-    unit: u32,
+    metric: &P,
     k: u32,
-) -> Result<(), Fail>
-    requires wide { 1 ≤ wide }
-    requires tall { 1 ≤ tall }
-    requires unit { unit ≤ 1000000000 }
-    requires low { 1 ≤ k }
-    requires limit { k ≤ 100 }
-{
-    let points = sample(alloc, wide, tall, unit)?;
-    let m = Planes::new(kind, &points);
-    let scanned = near_scan(alloc, &m, k)?;
-    expect_same(rt, &near_sweep(alloc, &m, k)?, &scanned);
-    let found = near_tree(alloc, &m, k)?;
-    expect_same(rt, &found, &scanned);
-    expect_same(rt, &near_lists(alloc, &Table::Planes(m), k)?, &scanned);
-    for c in 1..m.size() + 1 {
-        near_lists_agree(&m, c, k, found.of(c), scanned.of(c));
+) -> Result<(), Fail> {
+    assert!(rt; 1 <= k && k <= 100 && k < metric.size());
+    let scanned = near_scan(alloc, metric, k)?;
+    let found = near_tree(alloc, metric, k)?;
+    for c in 1..metric.size() + 1 {
+        near_lists_agree(metric, c, k, found.of(c), scanned.of(c));
     }
+    expect_same(rt, &found, &scanned);
     Ok(())
+}
+
+// A sweep, a tree and a table of 300 places in a box have the lists of a scan.
+fn expect_agreed(rt: &impl Abort, alloc: Global, metric: &Planes<'_>, k: u32) -> Result<(), Fail> {
+    expect_tree_agrees(rt, alloc, metric, k)?;
+    assert!(rt; 1 <= k && k <= 100 && k < metric.size());
+    let scanned = near_scan(alloc, metric, k)?;
+    expect_same_made(rt, near_sweep(alloc, metric, k), &scanned)?;
+    expect_same_made(rt, near_lists(alloc, &Table::Planes(*metric), k), &scanned)
 }
 
 #[test]
@@ -214,8 +248,9 @@ fn sweep_and_tree_agree_with_scan(rt: HostRuntime) -> Result<(), Fail> {
         (PlaneKind::Att, 100, 100, WHOLE, 5),
     ];
     for (kind, wide, tall, unit, k) in rows {
-        assert!(rt; 1 <= wide && 1 <= tall && unit <= WHOLE && 1 <= k && k <= 100);
-        expect_agreed(&rt, rt.alloc(), kind, wide, tall, unit, k)?;
+        assert!(rt; 1 <= wide && 1 <= tall && unit <= WHOLE);
+        let points = sample(rt.alloc(), wide, tall, unit)?;
+        expect_agreed(&rt, rt.alloc(), &Planes::new(kind, &points), k)?;
     }
     Ok(())
 }

@@ -56,6 +56,16 @@ struct Few<'a> {
     counts: [[u64; 5]; 6],
 }
 
+// A search on few cities makes a trial, and then none.
+fn expect_trials<M: Metric>(rt: &impl Abort, search: &mut Search<M>, few: &Few, counts: [u64; 5]) {
+    let mut rng = Pcg32::seed_from_u64(1);
+    let [_, after] = few.lengths;
+    expect_report(rt, &search.trial(&mut rng), few.lengths, counts);
+    expect_report(rt, &search.trial(&mut rng), [after, after], [0; 5]);
+    assert!(rt; search.totals().trials == 1);
+    assert!(rt; search.best() == few.best);
+}
+
 fn expect_trial_and_none(
     rt: &impl Abort,
     alloc: Global,
@@ -71,12 +81,7 @@ fn expect_trial_and_none(
         or_segment: k as u32 % 3 + 1,
     };
     let mut search = begin(rt, alloc, &few.metric, near, few.start, rules)?;
-    let mut rng = Pcg32::seed_from_u64(1);
-    let [_, after] = few.lengths;
-    expect_report(rt, &search.trial(&mut rng), few.lengths, few.counts[k]);
-    expect_report(rt, &search.trial(&mut rng), [after, after], [0; 5]);
-    assert!(rt; search.totals().trials == 1);
-    assert!(rt; search.best() == few.best);
+    expect_trials(rt, &mut search, few, few.counts[k]);
     Ok(())
 }
 
@@ -220,6 +225,17 @@ fn run<M: Metric>(
     }
 }
 
+// The trials of a search have these totals and lead to this tour.
+fn expect_all_totals<M: Metric>(rt: &impl Abort, search: &mut Search<M>, many: &Many) {
+    let mut rng = Pcg32::seed_from_u64(many.seed);
+    for counts in many.totals {
+        let want = totals(many.length, *counts);
+        run(rt, search, &mut rng, want.trials, many.sweep);
+        assert!(rt; search.totals() == want);
+    }
+    assert!(rt; search.best() == many.best);
+}
+
 fn expect_totals<M: Metric>(
     rt: &impl Abort,
     alloc: Global,
@@ -234,13 +250,7 @@ fn expect_totals<M: Metric>(
         or_segment: 3,
     };
     let mut search = begin(rt, alloc, metric, near, many.start, rules)?;
-    let mut rng = Pcg32::seed_from_u64(many.seed);
-    for counts in many.totals {
-        let want = totals(many.length, *counts);
-        run(rt, &mut search, &mut rng, want.trials, many.sweep);
-        assert!(rt; search.totals() == want);
-    }
-    assert!(rt; search.best() == many.best);
+    expect_all_totals(rt, &mut search, many);
     Ok(())
 }
 

@@ -5,8 +5,30 @@ use std::alloc::Global;
 use std::process::Abort;
 use std::test::Fail;
 use tk_build::{nearest, nearest_tour, nearest_tours_agree, nearest_tree};
-use tk_metric::{Metric, Planes, Table, Triangle};
+use tk_metric::{BothAxes, Metric, Planes, Table, Triangle};
 use tk_text::{PlaneKind, Points};
+
+// A tour that begins there is this one.
+fn expect_cities(rt: &impl Abort, found: &[u32], start: u32, want: &[u32]) {
+    assert!(rt; found == want, "from {start}: {found:?}");
+}
+
+// The tours of a scan and of a tree are this one.
+fn expect_in_plane<P: BothAxes>(
+    rt: &impl Abort,
+    alloc: Global,
+    metric: &P,
+    start: u32,
+    want: &[u32],
+) -> Result<(), Fail> {
+    assert!(rt; 1 <= start && start <= metric.size());
+    let tour = nearest(alloc, metric, start)?;
+    let found = nearest_tree(alloc, metric, start)?;
+    nearest_tours_agree(metric, start, &tour, &found);
+    expect_cities(rt, &tour, start, want);
+    expect_cities(rt, &found, start, want);
+    Ok(())
+}
 
 // The tours of a scan, of a tree and of a table are this one.
 fn expect_tour(
@@ -18,16 +40,10 @@ fn expect_tour(
 ) -> Result<(), Fail> {
     assert!(rt; points.len() <= 5);
     let metric = Planes::new(PlaneKind::Euc2d, points);
+    expect_in_plane(rt, alloc, &metric, start, want)?;
     assert!(rt; 1 <= start && start <= metric.size());
-    let tour = nearest(alloc, &metric, start)?;
-    let found = nearest_tree(alloc, &metric, start)?;
-    nearest_tours_agree(&metric, start, &tour, &found);
     let of_table = nearest_tour(alloc, &Table::Planes(metric), start)?;
-    assert!(rt; of_table.as_slice() == want, "from {start}: {of_table:?}");
-    assert!(rt;
-        tour.as_slice() == want && found.as_slice() == want,
-        "from {start}: {tour:?}, {found:?}"
-    );
+    expect_cities(rt, &of_table, start, want);
     Ok(())
 }
 

@@ -159,28 +159,61 @@ fn cities_of<S: UndoStore>(alloc: Global, tour: &S) -> Result<Vec<u32>, Fail> {
     Ok(cities)
 }
 
-#[test]
-fn takes_an_order_where_flips_were_lost(rt: HostRuntime) -> Result<(), Fail> {
-    let start = [6, 2, 8, 4, 1, 7, 3, 5];
-    let other = ArrayTour::from_list(rt.alloc(), &start)?;
-    let segments = SegmentTour::with_limits(rt.alloc(), &start, 1, 10)?;
-    let mut tour = JournalTour::new(rt.alloc(), segments, 2)?;
+// The cities of a tour are these, in this order.
+fn expect_order<S: UndoStore>(
+    rt: &impl Abort,
+    alloc: Global,
+    tour: &S,
+    want: &[u32],
+) -> Result<(), Fail> {
+    let cities = cities_of(alloc, tour)?;
+    assert!(rt; cities.as_slice() == want);
+    Ok(())
+}
+
+// A list, seen through at most ten segments, with a journal that has lost flips.
+fn with_lost_flips(
+    rt: &impl Abort,
+    alloc: Global,
+    start: &[u32; 8],
+) -> Result<JournalTour<SegmentTour>, Fail> {
+    let segments = SegmentTour::with_limits(alloc, start, 1, 10)?;
+    let mut tour = JournalTour::new(alloc, segments, 2)?;
     for (a, c) in [(6, 4), (3, 2), (8, 5)] {
-        let _ = flip_at(&rt, &mut tour, a, c, true);
+        let _ = flip_at(rt, &mut tour, a, c, true);
     }
     assert!(rt; tour.lost() && !tour.rewind());
     assert!(rt; tour.tour().segments() > 1);
-    assert!(rt; cities_of(rt.alloc(), tour.tour())?.as_slice() != start.as_slice());
+    Ok(tour)
+}
+
+// Takes the order of a list where flips were lost, and undoes one more flip.
+fn expect_restored(
+    rt: &impl Abort,
+    alloc: Global,
+    tour: &mut JournalTour<SegmentTour>,
+    start: &[u32],
+) -> Result<(), Fail> {
+    let other = ArrayTour::from_list(alloc, start)?;
     assert!(rt; tour.size() == other.size());
     tour.restore(&other);
-    assert!(rt; cities_of(rt.alloc(), tour.tour())?.as_slice() == start.as_slice());
+    expect_order(rt, alloc, tour.tour(), start)?;
     assert!(rt; tour.tour().copied() == 8 && tour.tour().segments() == 1);
     let swaps = tour.swaps();
-    let _ = flip_at(&rt, &mut tour, 6, 4, true);
+    let _ = flip_at(rt, tour, 6, 4, true);
     assert!(rt; tour.rewind());
-    assert!(rt; cities_of(rt.alloc(), tour.tour())?.as_slice() == start.as_slice());
+    expect_order(rt, alloc, tour.tour(), start)?;
     assert!(rt; tour.swaps().checked_sub(swaps) == Some(tour.tour().undo_swaps()));
     Ok(())
+}
+
+#[test]
+fn takes_an_order_where_flips_were_lost(rt: HostRuntime) -> Result<(), Fail> {
+    let start = [6, 2, 8, 4, 1, 7, 3, 5];
+    let mut tour = with_lost_flips(&rt, rt.alloc(), &start)?;
+    let flipped = cities_of(rt.alloc(), tour.tour())?;
+    assert!(rt; flipped.as_slice() != start.as_slice());
+    expect_restored(&rt, rt.alloc(), &mut tour, &start)
 }
 
 // Makes some flips between random cities.
@@ -196,25 +229,47 @@ fn flip_some<S: TourStore>(rt: &impl Abort, tour: &mut S, flips: u32, state: &mu
     }
 }
 
+// A rewind leaves no more segments than there were, and the cities in their order.
+fn expect_undone(
+    rt: &impl Abort,
+    alloc: Global,
+    tour: &mut JournalTour<SegmentTour>,
+    state: &mut u64,
+) -> Result<(), Fail> {
+    let count = tour.tour().segments();
+    let before = cities_of(alloc, tour.tour())?;
+    for flips in 0..30 {
+        flip_some(rt, tour, flips % 7, state);
+        assert!(rt; tour.rewind());
+        assert!(rt; tour.tour().segments() <= count);
+        expect_order(rt, alloc, tour.tour(), &before)?;
+    }
+    Ok(())
+}
+
+// Cities in a random order, seen through at most 160 segments.
+fn journal_of(
+    rt: &impl Abort,
+    alloc: Global,
+    n: u32,
+    state: &mut u64,
+) -> Result<JournalTour<SegmentTour>, Fail> {
+    assert!(rt; n <= 150);
+    let cities = shuffled(alloc, n, state)?;
+    assert!(rt; cities.len() <= 150);
+    let segments = SegmentTour::with_limits(alloc, &cities, 1, 160)?;
+    Ok(JournalTour::new(alloc, segments, 100)?)
+}
+
 #[test]
 fn undone_flips_leave_no_more_segments(rt: HostRuntime) -> Result<(), Fail> {
     for n in [9, 40, 150] {
         let mut state = n as u64;
-        let cities = shuffled(rt.alloc(), n, &mut state)?;
-        assert!(rt; cities.len() <= 150);
-        let segments = SegmentTour::with_limits(rt.alloc(), &cities, 1, 160)?;
-        let mut tour = JournalTour::new(rt.alloc(), segments, 100)?;
+        let mut tour = journal_of(&rt, rt.alloc(), n, &mut state)?;
         for kept in [0, 1, 3] {
             flip_some(&rt, &mut tour, kept, &mut state);
             tour.settle();
-            let count = tour.tour().segments();
-            let before = cities_of(rt.alloc(), tour.tour())?;
-            for flips in 0..30 {
-                flip_some(&rt, &mut tour, flips % 7, &mut state);
-                assert!(rt; tour.rewind());
-                assert!(rt; tour.tour().segments() <= count);
-                assert!(rt; cities_of(rt.alloc(), tour.tour())?.as_slice() == before.as_slice());
-            }
+            expect_undone(&rt, rt.alloc(), &mut tour, &mut state)?;
         }
     }
     Ok(())

@@ -19,22 +19,33 @@ fn flip_after<S: TourStore>(rt: &impl Abort, tour: &mut S, a: u32, c: u32) -> Fl
     tour.flip(a, b, c, d)
 }
 
+// This flip is made, which takes one swap and leads to this order.
+fn expect_flipped(
+    rt: &impl Abort,
+    tour: &mut ArrayTour,
+    (a, c): (u32, u32),
+    want: Flip,
+    order: &[u32],
+) {
+    let flip = flip_after(rt, tour, a, c);
+    assert!(rt; flip == want && tour.order() == order);
+    assert!(rt; tour.swaps() == 1 && tour.flips() == 1);
+}
+
 // This flip is made, which takes one swap and leads to this order; undone, it leads back.
 fn expect_flip(
     rt: &impl Abort,
     alloc: Global,
     cities: &[u32],
-    (a, c): (u32, u32),
+    ends: (u32, u32),
     want: Flip,
     order: &[u32],
 ) -> Result<(), Fail> {
     let mut tour = ArrayTour::from_list(alloc, cities)?;
-    let flip = flip_after(rt, &mut tour, a, c);
-    assert!(rt; flip == want && tour.order() == order);
-    assert!(rt; tour.swaps() == 1 && tour.flips() == 1);
+    expect_flipped(rt, &mut tour, ends, want, order);
     let n = tour.size();
-    assert!(rt; 1 <= flip.first && flip.first <= n && flip.count <= n);
-    tour.undo(&flip);
+    assert!(rt; 1 <= want.first && want.first <= n && want.count <= n);
+    tour.undo(&want);
     assert!(rt; tour.order() == cities && tour.swaps() == 1 && tour.undo_swaps() == 1);
     Ok(())
 }
