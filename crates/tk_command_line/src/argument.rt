@@ -11,30 +11,33 @@ pub struct Argument {
     pub name: &'static str,
     pub help: &'static str,
     pub form: Form,
+    /// What its value has to be.
+    pub values: ValueParser<'static>,
 }
 
 /// How an argument is written.
 #[derive(Clone, Copy)]
 pub enum Form {
     /// A word that must be given.
-    Required(ValueParser<'static>),
+    Required,
     /// A word that can be left out.
-    Optional(ValueParser<'static>),
+    Optional,
     /// `--NAME`
     Flag,
     /// `--NAME VALUE`, with the word that help shows for the value.
-    Long(&'static str, ValueParser<'static>),
+    Long(&'static str),
     /// `--NAME FILE`, or `-C FILE` with this letter.
     File(char),
     /// `-C N` with this letter, and what it is if it is not given.
-    Number(char, &'static str, ValueParser<'static>),
+    Number(char, &'static str),
 }
 
 /// The file that most subcommands name first.
 pub const PROBLEM: Argument = Argument {
     name: "PROBLEM",
     help: "a TSPLIB or CVRPLIB problem file, or - for standard input",
-    form: Form::Required(ValueParser::String),
+    form: Form::Required,
+    values: ValueParser::String,
 };
 
 /// The option that asks for an object in place of lines.
@@ -42,22 +45,24 @@ pub const JSON: Argument = Argument {
     name: "json",
     help: "print one JSON object in place of lines",
     form: Form::Flag,
+    values: ValueParser::Bool,
 };
 
 impl Argument {
     /// What clap knows of it.
     pub fn arg<'a>(&self, alloc: Global) -> Arg<'a> {
-        let arg = Arg::new(alloc, self.name).help(self.help);
+        let arg = Arg::new(alloc, self.name)
+            .help(self.help)
+            .value_parser(self.values);
         match self.form {
-            Form::Required(values) => arg.required(true).value_parser(values),
-            Form::Optional(values) => arg.value_parser(values),
+            Form::Required => arg.required(true),
+            Form::Optional => arg,
             Form::Flag => arg.long(self.name).action(ArgAction::SetTrue),
-            Form::Long(value, values) => arg.long(self.name).value_name(value).value_parser(values),
+            Form::Long(value) => arg.long(self.name).value_name(value),
             Form::File(letter) => arg.short(letter).long(self.name).value_name("FILE"),
-            Form::Number(letter, default, values) => arg
+            Form::Number(letter, default) => arg
                 .short(letter)
                 .value_name("N")
-                .value_parser(values)
                 .default_value(default),
         }
     }

@@ -1,6 +1,6 @@
 //! The program with its subcommands.
 use crate::completions::COMPLETIONS;
-use crate::subcommand::Subcommand;
+use crate::subcommand::{Subcommand, described};
 use crate::subcommands;
 use clap::error::ErrorKind;
 use clap::{Command, Error};
@@ -28,18 +28,26 @@ Example:
 /// # Errors
 /// An error if memory runs out.
 pub fn tourkit<'a>(alloc: Global, for_completions: bool) -> Result<Command<'a>, AllocError> {
-    let mut made = Command::new(alloc, "tourkit")
-        .version("0.1.0")
-        .about("Reads, checks and improves tours and routes")
-        .override_usage(USAGE)
-        .after_help(HELP)
-        .arg(COMPLETIONS.arg(alloc))?
-        .args_conflicts_with_subcommands(true)
-        .subcommand_required(!for_completions);
+    let mut made = program(alloc, for_completions)?;
     for subcommand in &subcommands::all() {
         made = with(alloc, made, subcommand)?;
     }
     Ok(made)
+}
+
+/// The program without its subcommands.
+fn program<'a>(alloc: Global, for_completions: bool) -> Result<Command<'a>, AllocError> {
+    described(
+        alloc,
+        "tourkit",
+        "Reads, checks and improves tours and routes",
+        HELP,
+    )
+    .version("0.1.0")
+    .override_usage(USAGE)
+    .args_conflicts_with_subcommands(true)
+    .subcommand_required(!for_completions)
+    .arg(COMPLETIONS.arg(alloc))
 }
 
 /// A command with one more subcommand.
@@ -48,7 +56,7 @@ fn with<'a>(
     command: Command<'a>,
     subcommand: &Subcommand,
 ) -> Result<Command<'a>, AllocError> {
-    let subcommand = subcommand.command(alloc)?;
+    let subcommand = subcommand.command(alloc, subcommand.name)?;
     command.subcommand(subcommand)
 }
 
@@ -57,6 +65,6 @@ fn with<'a>(
 /// # Errors
 /// An error if memory runs out.
 pub fn refused(alloc: Global, subcommand: &Subcommand, message: &str) -> Result<Error, AllocError> {
-    let mut command = subcommand.command(alloc)?.bin_name(subcommand.called)?;
+    let mut command = subcommand.command(alloc, subcommand.called)?;
     command.error(ErrorKind::ArgumentConflict, message)
 }

@@ -20,7 +20,8 @@ const SHELLS: [&str; 3] = ["bash", "zsh", "fish"];
 pub const COMPLETIONS: Argument = Argument {
     name: "completions",
     help: "print the completions for a shell",
-    form: Form::Long("SHELL", ValueParser::Names(&SHELLS)),
+    form: Form::Long("SHELL"),
+    values: ValueParser::Names(&SHELLS),
 };
 
 /// Whether the first word of a call is this option. No subcommand comes with it.

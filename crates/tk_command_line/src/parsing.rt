@@ -3,9 +3,8 @@
 use crate::asked::{Asked, STANDARD};
 use crate::command::{refused, tourkit};
 use crate::completions;
-use crate::search_options::SearchOptions;
-use crate::subcommand::Subcommand;
-use crate::subcommands::{check, checksol, explain, matrix, near, plot, solve};
+use crate::subcommand::Kind;
+use crate::subcommands::{check, checksol, explain, matrix, named, near, plot, solve};
 use crate::tips::with_tips;
 use clap::error::ErrorKind;
 use clap::{ArgMatches, Error};
@@ -60,75 +59,65 @@ fn tell(rt: &HostRuntime, words: &[String], error: &Error) -> Refusal {
 
 /// What the words ask for, if they can be parsed and fit each other.
 fn asked<'a>(alloc: Global, words: &'a [String]) -> Result<Option<Asked<'a>>, Error> {
-    let Some(asked) = read(alloc, words)? else {
-        return Ok(None);
-    };
-    match misfit(&asked) {
-        Some((subcommand, message)) => Err(refused(alloc, &subcommand, message)?),
-        None => Ok(Some(asked)),
-    }
-}
-
-/// What the words ask for, if they can be parsed.
-fn read<'a>(alloc: Global, words: &'a [String]) -> Result<Option<Asked<'a>>, Error> {
     let command = tourkit(alloc, completions::are_asked(words))?;
     let matches = command.try_get_matches_from(words)?;
-    Ok(asked_by(&matches))
-}
-
-/// The subcommand of words that do not fit each other, and what is wrong with them: they name standard input twice, or
-/// as the file to write.
-fn misfit(asked: &Asked<'_>) -> Option<(Subcommand, &'static str)> {
-    match *asked {
-        Asked::Check {
-            problem: STANDARD,
-            tour: STANDARD,
-            ..
-        } => Some((check::subcommand(), TWICE_STANDARD)),
-        Asked::Checksol {
-            problem: STANDARD,
-            solution: STANDARD,
-            ..
-        } => Some((checksol::subcommand(), TWICE_STANDARD)),
-        Asked::Plot {
-            problem: STANDARD,
-            claim: Some(STANDARD),
-            ..
-        } => Some((plot::subcommand(), TWICE_STANDARD)),
-        Asked::Solve {
-            file: STANDARD,
-            options: Some(
-                SearchOptions {
-                    initial_tour: Some(STANDARD),
-                    ..
-                },
-            ),
-            ..
-        } => Some((solve::subcommand(), TWICE_STANDARD)),
-        Asked::Solve {
-            options: Some(
-                SearchOptions {
-                    output: Some(STANDARD),
-                    ..
-                },
-            ),
-            ..
-        } => Some((solve::subcommand(), STANDARD_OUTPUT)),
-        _ => None,
+    match matches.subcommand() {
+        Some((name, words)) => asked_of(alloc, name, words),
+        None => Ok(completions::asked(&matches)),
     }
 }
 
-/// What a subcommand and its words ask for, or words without a subcommand.
-fn asked_by<'a>(matches: &ArgMatches<'a>) -> Option<Asked<'a>> {
-    match matches.subcommand() {
-        Some(("check", words)) => check::asked(words),
-        Some(("checksol", words)) => checksol::asked(words),
-        Some(("explain", words)) => explain::asked(words),
-        Some(("matrix", words)) => matrix::asked(words),
-        Some(("near", words)) => near::asked(words),
-        Some(("plot", words)) => plot::asked(words),
-        Some(("solve", words)) => solve::asked(words),
-        Some(_) => None,
-        None => completions::asked(matches),
+/// What the words of the subcommand with this name ask for, if they fit each other.
+fn asked_of<'a>(
+    alloc: Global,
+    name: &str,
+    words: &ArgMatches<'a>,
+) -> Result<Option<Asked<'a>>, Error> {
+    let Some(subcommand) = named(name) else {
+        return Ok(None);
+    };
+    let asked = asked_by(subcommand.kind, words);
+    match asked.as_ref().and_then(misfit) {
+        Some(message) => Err(refused(alloc, &subcommand, message)?),
+        None => Ok(asked),
+    }
+}
+
+/// What is wrong with words that do not fit each other: they name standard input twice, or as the file to write.
+fn misfit(asked: &Asked<'_>) -> Option<&'static str> {
+    let (first, second, written) = match *asked {
+        Asked::Check { problem, tour, .. } => (problem, Some(tour), None),
+        Asked::Checksol {
+            problem,
+            solution,
+            ..
+        } => (problem, Some(solution), None),
+        Asked::Plot { problem, claim, .. } => (problem, claim, None),
+        Asked::Solve {
+            file,
+            options: Some(options),
+            ..
+        } => (file, options.initial_tour, options.output),
+        _ => return None,
+    };
+    if first == STANDARD && second == Some(STANDARD) {
+        Some(TWICE_STANDARD)
+    } else if written == Some(STANDARD) {
+        Some(STANDARD_OUTPUT)
+    } else {
+        None
+    }
+}
+
+/// What the words of a subcommand ask for.
+fn asked_by<'a>(kind: Kind, words: &ArgMatches<'a>) -> Option<Asked<'a>> {
+    match kind {
+        Kind::Check => check::asked(words),
+        Kind::Checksol => checksol::asked(words),
+        Kind::Explain => explain::asked(words),
+        Kind::Matrix => matrix::asked(words),
+        Kind::Near => near::asked(words),
+        Kind::Plot => plot::asked(words),
+        Kind::Solve => solve::asked(words),
     }
 }

@@ -99,10 +99,10 @@ fn is_named(argument: &Argument, word: &str) -> bool {
     };
     let name = name.strip_prefix('-').unwrap_or(name);
     match argument.form {
-        Form::Flag | Form::Long(..) => name == argument.name,
+        Form::Flag | Form::Long(_) => name == argument.name,
         Form::File(letter) => name == argument.name || is_letter(name, letter),
-        Form::Number(letter, ..) => is_letter(name, letter),
-        Form::Required(_) | Form::Optional(_) => false,
+        Form::Number(letter, _) => is_letter(name, letter),
+        Form::Required | Form::Optional => false,
     }
 }
 
@@ -114,8 +114,8 @@ fn is_letter(name: &str, letter: char) -> bool {
 /// Puts how an argument is written: an option with its dashes, and a word by its name.
 fn push_name(text: &mut String, argument: &Argument) -> Result<(), AllocError> {
     match argument.form {
-        Form::Flag | Form::Long(..) | Form::File(_) => write!(text, "--{}", argument.name),
-        Form::Number(letter, ..) => write!(text, "-{letter}"),
-        Form::Required(_) | Form::Optional(_) => text.push_str(argument.name),
+        Form::Flag | Form::Long(_) | Form::File(_) => write!(text, "--{}", argument.name),
+        Form::Number(letter, _) => write!(text, "-{letter}"),
+        Form::Required | Form::Optional => text.push_str(argument.name),
     }
 }

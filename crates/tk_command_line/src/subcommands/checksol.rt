@@ -2,7 +2,7 @@
 
 use crate::argument::{Argument, Form, JSON, PROBLEM};
 use crate::asked::Asked;
-use crate::subcommand::Subcommand;
+use crate::subcommand::{Kind, Subcommand};
 use clap::ArgMatches;
 use clap::builder::ValueParser;
 
@@ -25,7 +25,8 @@ static ARGUMENTS: [Argument; 3] = [
     Argument {
         name: "SOLUTION",
         help: "a CVRPLIB solution file, or - for standard input",
-        form: Form::Required(ValueParser::String),
+        form: Form::Required,
+        values: ValueParser::String,
     },
     JSON,
 ];
@@ -33,6 +34,7 @@ static ARGUMENTS: [Argument; 3] = [
 /// The subcommand.
 pub fn subcommand() -> Subcommand {
     Subcommand {
+        kind: Kind::Checksol,
         name: "checksol",
         called: "tourkit checksol",
         about: "Checks the routes of a CVRP and their cost",

@@ -2,7 +2,7 @@
 
 use crate::argument::{Argument, Form};
 use crate::asked::Asked;
-use crate::subcommand::Subcommand;
+use crate::subcommand::{Kind, Subcommand};
 use clap::ArgMatches;
 use clap::builder::ValueParser;
 
@@ -25,18 +25,21 @@ static ARGUMENTS: [Argument; 2] = [
     Argument {
         name: "WHAT",
         help: "the number or the name of a fault, a file, or - for standard input",
-        form: Form::Required(ValueParser::String),
+        form: Form::Required,
+        values: ValueParser::String,
     },
     Argument {
         name: "LINE",
         help: "a line of the file, from 1 on",
-        form: Form::Optional(ValueParser::Unsigned(1, u64::MAX)),
+        form: Form::Optional,
+        values: ValueParser::Unsigned(1, u64::MAX),
     },
 ];
 
 /// The subcommand.
 pub fn subcommand() -> Subcommand {
     Subcommand {
+        kind: Kind::Explain,
         name: "explain",
         called: "tourkit explain",
         about: "Explains a fault, or what is wrong with a file",

@@ -2,7 +2,7 @@
 
 use crate::argument::{Argument, Form, PROBLEM};
 use crate::asked::Asked;
-use crate::subcommand::Subcommand;
+use crate::subcommand::{Kind, Subcommand};
 use clap::ArgMatches;
 use clap::builder::ValueParser;
 
@@ -37,13 +37,15 @@ static ARGUMENTS: [Argument; 2] = [
     Argument {
         name: "FORMAT",
         help: "the order of the weights",
-        form: Form::Required(ValueParser::Names(&FORMATS)),
+        form: Form::Required,
+        values: ValueParser::Names(&FORMATS),
     },
 ];
 
 /// The subcommand.
 pub fn subcommand() -> Subcommand {
     Subcommand {
+        kind: Kind::Matrix,
         name: "matrix",
         called: "tourkit matrix",
         about: "Prints a problem as a TSP with explicit weights",

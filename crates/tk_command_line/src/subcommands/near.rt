@@ -2,7 +2,7 @@
 
 use crate::argument::{Argument, Form, PROBLEM};
 use crate::asked::Asked;
-use crate::subcommand::Subcommand;
+use crate::subcommand::{Kind, Subcommand};
 use clap::ArgMatches;
 use clap::builder::ValueParser;
 use tk_near::ListLength;
@@ -26,13 +26,15 @@ static ARGUMENTS: [Argument; 2] = [
     Argument {
         name: "k",
         help: "how many cities a list has, 1 to 100",
-        form: Form::Number('k', "5", ValueParser::Unsigned(1, CANDIDATE_LIMIT as u64)),
+        form: Form::Number('k', "5"),
+        values: ValueParser::Unsigned(1, CANDIDATE_LIMIT as u64),
     },
 ];
 
 /// The subcommand.
 pub fn subcommand() -> Subcommand {
     Subcommand {
+        kind: Kind::Near,
         name: "near",
         called: "tourkit near",
         about: "Prints the nearest other cities of each city",

@@ -2,7 +2,7 @@
 
 use crate::argument::{Argument, Form, PROBLEM};
 use crate::asked::Asked;
-use crate::subcommand::Subcommand;
+use crate::subcommand::{Kind, Subcommand};
 use clap::ArgMatches;
 use clap::builder::ValueParser;
 
@@ -30,18 +30,21 @@ static ARGUMENTS: [Argument; 3] = [
     Argument {
         name: "TOUR | SOLUTION",
         help: "a TSPLIB tour file, or for a CVRP a CVRPLIB solution file, or - for standard input",
-        form: Form::Optional(ValueParser::String),
+        form: Form::Optional,
+        values: ValueParser::String,
     },
     Argument {
         name: "html",
         help: "print a page of HTML in place of a picture",
         form: Form::Flag,
+        values: ValueParser::Bool,
     },
 ];
 
 /// The subcommand.
 pub fn subcommand() -> Subcommand {
     Subcommand {
+        kind: Kind::Plot,
         name: "plot",
         called: "tourkit plot",
         about: "Draws a problem, and a tour or routes of it, as SVG or HTML",

@@ -3,7 +3,7 @@
 use crate::argument::{Argument, Form, JSON};
 use crate::asked::{Asked, Shown};
 use crate::search_options::SearchOptions;
-use crate::subcommand::Subcommand;
+use crate::subcommand::{Kind, Subcommand};
 use clap::ArgMatches;
 use clap::builder::ValueParser;
 use tk_problem::CANDIDATE_LIMIT;
@@ -32,57 +32,68 @@ static ARGUMENTS: [Argument; 12] = [
     Argument {
         name: "PROBLEM | PARAMETERS",
         help: "a problem file, or a parameter file like LKH's; - for standard input",
-        form: Form::Required(ValueParser::String),
+        form: Form::Required,
+        values: ValueParser::String,
     },
     Argument {
         name: "output",
         help: "where the best tour is written, or the routes of a CVRP",
         form: Form::File('o'),
+        values: ValueParser::String,
     },
     Argument {
         name: "trials",
         help: "how many trials a run has, 1 to 1,000,000 [default: the number of cities]",
-        form: Form::Long("N", ValueParser::Unsigned(1, 1_000_000)),
+        form: Form::Long("N"),
+        values: ValueParser::Unsigned(1, 1_000_000),
     },
     Argument {
         name: "candidates",
         help: "how many near cities of each city are tried, 1 to 100 [default: 5]",
-        form: Form::Long("N", ValueParser::Unsigned(1, CANDIDATE_LIMIT as u64)),
+        form: Form::Long("N"),
+        values: ValueParser::Unsigned(1, CANDIDATE_LIMIT as u64),
     },
     Argument {
         name: "runs",
         help: "how many runs there are, 1 to 10,000 [default: 10]",
-        form: Form::Long("N", ValueParser::Unsigned(1, 10_000)),
+        form: Form::Long("N"),
+        values: ValueParser::Unsigned(1, 10_000),
     },
     Argument {
         name: "seed",
         help: "what the random numbers begin with [default: 1]",
-        form: Form::Long("N", ValueParser::Unsigned(0, u32::MAX as u64)),
+        form: Form::Long("N"),
+        values: ValueParser::Unsigned(0, u32::MAX as u64),
     },
     Argument {
         name: "or-segment",
         help: "the most cities that an Or-move moves, 1 to 3 [default: 3]",
-        form: Form::Long("N", ValueParser::Unsigned(1, 3)),
+        form: Form::Long("N"),
+        values: ValueParser::Unsigned(1, 3),
     },
     Argument {
         name: "construction",
         help: "how the tour is made that a run begins with [default: nearest]",
-        form: Form::Long("HOW", ValueParser::Names(&CONSTRUCTIONS)),
+        form: Form::Long("HOW"),
+        values: ValueParser::Names(&CONSTRUCTIONS),
     },
     Argument {
         name: "final-sweep",
         help: "go on with each trial until no city has an improving move",
         form: Form::Flag,
+        values: ValueParser::Bool,
     },
     Argument {
         name: "initial-tour",
         help: "the tour that each run begins with, or - for standard input (not for a CVRP)",
-        form: Form::Long("TOUR", ValueParser::String),
+        form: Form::Long("TOUR"),
+        values: ValueParser::String,
     },
     Argument {
         name: "progress",
         help: "write each run's line to standard error when the run ends",
         form: Form::Flag,
+        values: ValueParser::Bool,
     },
     JSON,
 ];
@@ -90,6 +101,7 @@ static ARGUMENTS: [Argument; 12] = [
 /// The subcommand.
 pub fn subcommand() -> Subcommand {
     Subcommand {
+        kind: Kind::Solve,
         name: "solve",
         called: "tourkit solve",
         about: "Searches for a short tour or for short routes",
