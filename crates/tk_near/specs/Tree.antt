@@ -27,6 +27,10 @@ IsFramed (Leaf row) = ⊤
 IsFramed (Cut' a p s b q t) =
     All (IsInBox a) (entries_of s) × All (IsInBox b) (entries_of t) × IsFramed s × IsFramed t
 
+-- the cities of a half stand in its box, and so do those of its parts
+abbrev pub IsHalf : Frame → Tree → Type 0
+IsHalf f t = All (IsInBox f) (entries_of t) × IsFramed t
+
 -- p has this difference in x, or in y, from here
 abbrev pub IsBeyond : Placed → ℕ → Placed → Type 0
 IsBeyond here gap p = (gap ≤ x_gap here p) ⊎ (gap ≤ y_gap here p)

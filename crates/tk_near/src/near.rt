@@ -98,6 +98,31 @@ fn scan_city<M: Metric>(m: &M, c: u32, kept: &mut [Candidate])
     }
 }
 
+/// Room for n lists of k cities.
+///
+/// # Errors
+/// `AllocError` if there is no memory for them.
+pub fn room_for<M: Metric>(alloc: Global, m: &M, k: u32) -> Result<Vec<u32>, AllocError>
+    requires { k ≤ CANDIDATE_LIMIT }
+    ensures { IfOk result (λ v. length v.items ≡ M.size_of m.now * k) }
+{
+    let count = m.size() as usize * k as usize;
+    vec![in alloc; 0u32; count]
+}
+
+/// Fills the list of each city, in the order of their numbers.
+fn fill_by_scan<M: Metric>(m: &M, kept: &mut [Candidate], entries: &mut [u32])
+    requires low { 1 ≤ length kept.old }
+    requires high { length kept.old < M.size_of m.now }
+    requires room { length entries.old ≡ M.size_of m.now * length kept.old }
+    ensures { AreFilled (M.distance m.now) (M.size_of m.now) (length kept.old) (λ _. ⊤) entries.new }
+{
+    for c in 1..m.size() + 1 {
+        scan_city(m, c, kept);
+        write_cities(entries, c, kept);
+    }
+}
+
 /// The near lists by a scan of all cities for each.
 ///
 /// # Errors
@@ -110,13 +135,9 @@ pub fn near_scan<M: Metric>(alloc: Global, m: &M, k: u32) -> Result<Near, AllocE
     ensures width { IfOk result (λ v. v.width ≡ k) }
     ensures near { IfOk result (λ v. AreNearest (M.distance m.now) v) }
 {
-    let width = k as usize;
-    let mut kept = vec![in alloc; OPEN; width]?;
-    let mut entries = vec![in alloc; 0u32; m.size() as usize * width]?;
-    for c in 1..m.size() + 1 {
-        scan_city(m, c, &mut kept);
-        write_cities(&mut entries, c, &kept);
-    }
+    let mut kept = vec![in alloc; OPEN; k as usize]?;
+    let mut entries = room_for(alloc, m, k)?;
+    fill_by_scan(m, &mut kept, &mut entries);
     Ok(Near::from_filled(m, k, entries))
 }
 

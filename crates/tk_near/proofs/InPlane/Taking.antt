@@ -4,8 +4,9 @@ use Rattle.std.specs.Prelude.{All}
 use Rattle.std.specs.List.{swap_remove}
 use Rattle.std.proofs.lemmas.List.{get_or_default}
 use Rattle.std.proofs.lemmas.List.Elements.{All-tail}
-use Rattle.std.proofs.lemmas.List.Sorted.{All-permutation, IsPermutation-swap_remove, IsPermutation-trans}
-use Rattle.std.proofs.lemmas.List.Sorted.{IsPermutation-append_left, IsPermutation-append_right, IsPermutation-to_front}
+use Rattle.std.proofs.lemmas.List.Sorted.{All-permutation, IsPermutation-append_comm, IsPermutation-swap_remove}
+use Rattle.std.proofs.lemmas.List.Sorted.{IsPermutation-append_left, IsPermutation-append_right, IsPermutation-cons}
+use Rattle.std.proofs.lemmas.List.Sorted.{IsPermutation-to_front, IsPermutation-trans}
 use Rattle.tk_near.specs.declared.plane.placed.Placed.{Placed}
 use Rattle.tk_near.specs.Placed.{placed_city, nowhere}
 use Rattle.tk_near.specs.Left.{IsTakenOut}
@@ -43,3 +44,20 @@ taken_before p old new back h = record {
 pub All-taken : (P : Placed → Type 0) (p : Placed) (old new : List Placed) → IsTakenOut p old new →
     All P old → All P new
 All-taken P p old new h all = All-tail P h.taken new (All-permutation P old (h.taken ∷ new) h.others all)
+
+pub All-swapped : (P : Placed → Type 0) (front back : List Placed) → All P (front ++ back) → All P (back ++ front)
+All-swapped P front back all =
+    All-permutation P (front ++ back) (back ++ front) (IsPermutation-append_comm front back) all
+
+pub taken_swapped : (p : Placed) (front back front_left back_left : List Placed) →
+    IsTakenOut p (front ++ back) (front_left ++ back_left) → IsTakenOut p (back ++ front) (back_left ++ front_left)
+taken_swapped p front back front_left back_left h = record {
+  taken = h.taken;
+  is = h.is;
+  others = IsPermutation-trans (back ++ front) (front ++ back) (h.taken ∷ back_left ++ front_left)
+      (IsPermutation-append_comm back front)
+      (IsPermutation-trans (front ++ back) (h.taken ∷ front_left ++ back_left) (h.taken ∷ back_left ++ front_left)
+      h.others
+      (IsPermutation-cons h.taken (front_left ++ back_left) (back_left ++ front_left)
+      (IsPermutation-append_comm front_left back_left)));
+}

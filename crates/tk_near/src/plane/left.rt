@@ -1,9 +1,9 @@
 //! Cities that are left: they are taken out of a tree one by one, and the first of the others is found there.
-ghost use Rattle.std.specs.Prelude.{◌≡◌, ℕ, ◌<◌, All, length, IfOk, MatchOption};
+ghost use Rattle.std.specs.Prelude.{◌≡◌, ℕ, ◌<◌, ◌++◌, All, length, IfOk, MatchOption};
 ghost use Rattle.tk_near.specs.declared.plane.placed.Placed.{Placed};
 ghost use Rattle.tk_near.specs.Near.{IsFirst};
 ghost use Rattle.tk_near.specs.Placed.{IsPlaced, IsRow, placed_city};
-ghost use Rattle.tk_near.specs.Tree.{entries_of, IsFramed, IsInBox, with_cities};
+ghost use Rattle.tk_near.specs.Tree.{entries_of, IsFramed, IsHalf, IsInBox, with_cities};
 ghost use Rattle.tk_near.specs.Left.{ArePlacedApart, IsTakenOut, IsNotIn, IsOtherIn, Stands};
 
 use crate::candidates::OPEN;
@@ -158,6 +158,7 @@ fn take_from_leaf(row: &mut Vec<Placed>, p: &Placed) -> Option<Rest>
 
 /// Takes the city here out of a tree, shows what is near of the others, and tells what is left, if it was there. It is
 /// looked for at the end of these turns first.
+#[cycle(take_from)]
 fn take_from<P: BothAxes, K: Keeper>(
     m: &P,
     here: &Placed,
@@ -185,30 +186,80 @@ fn take_from<P: BothAxes, K: Keeper>(
             Some(rest)
         }
         Tree::Cut(lower_frame, lower, upper_frame, upper) => {
+            let lower_path = path.lower();
+            let upper_path = path.upper();
             if path.goes_up(sides) {
-                if let Some(rest) = take_from(m, here, upper, sides, path.upper(), keeper) {
-                    renew(upper_frame, upper, rest);
-                    search_half(m, here, lower_frame, lower, path.lower(), keeper);
-                    return Some(rest_of(rest, lower_frame));
-                }
-                if let Some(rest) = take_from(m, here, lower, sides, path.lower(), keeper) {
-                    renew(lower_frame, lower, rest);
-                    search_half(m, here, upper_frame, upper, path.upper(), keeper);
-                    return Some(rest_of(rest, upper_frame));
-                }
-                return None;
+                take_from_halves(
+                    m,
+                    here,
+                    upper_frame,
+                    upper,
+                    upper_path,
+                    lower_frame,
+                    lower,
+                    lower_path,
+                    sides,
+                    keeper,
+                )
+            } else {
+                take_from_halves(
+                    m,
+                    here,
+                    lower_frame,
+                    lower,
+                    lower_path,
+                    upper_frame,
+                    upper,
+                    upper_path,
+                    sides,
+                    keeper,
+                )
             }
-            if let Some(rest) = take_from(m, here, lower, sides, path.lower(), keeper) {
-                renew(lower_frame, lower, rest);
-                search_half(m, here, upper_frame, upper, path.upper(), keeper);
-                return Some(rest_of(rest, upper_frame));
-            }
-            if let Some(rest) = take_from(m, here, upper, sides, path.upper(), keeper) {
-                renew(upper_frame, upper, rest);
-                search_half(m, here, lower_frame, lower, path.lower(), keeper);
-                return Some(rest_of(rest, lower_frame));
-            }
-            None
         }
     }
+}
+
+/// Takes the city here out of the first of two halves, or else out of the second, shows what is near of the others, and
+/// tells what is left, if it was there.
+#[cycle(take_from)]
+#[inline(always)]
+fn take_from_halves<P: BothAxes, K: Keeper>(
+    m: &P,
+    here: &Placed,
+    first_frame: &mut Frame,
+    first: &mut Tree,
+    first_path: Path,
+    second_frame: &mut Frame,
+    second: &mut Tree,
+    second_path: Path,
+    sides: u64,
+    keeper: &mut K,
+) -> Option<Rest>
+    requires here { IsPlaced (P.size_of m.now) (P.place_of m.now) here.now }
+    requires placed { All (IsPlaced (P.size_of m.now) (P.place_of m.now))
+        (entries_of first.old ++ entries_of second.old) }
+    requires first { IsHalf first_frame.old first.old }
+    requires second { IsHalf second_frame.old second.old }
+    ensures first { IsHalf first_frame.new first.new }
+    ensures second { IsHalf second_frame.new second.new }
+    ensures taken { MatchOption result
+        ((entries_of first.new ≡ entries_of first.old) × (entries_of second.new ≡ entries_of second.old)
+        × IsNotIn here.now (entries_of first.old ++ entries_of second.old))
+        (λ _. IsTakenOut here.now (entries_of first.old ++ entries_of second.old)
+        (entries_of first.new ++ entries_of second.new)) }
+    ensures shown { MatchOption result
+        (K.kept_of keeper.new ≡ K.kept_of keeper.old)
+        (λ _. K.kept_of keeper.new
+        ≡ with_cities (P.distance m.now) here.now.city (entries_of first.new ++ entries_of second.new)
+        (K.kept_of keeper.old)) }
+{
+    if let Some(rest) = take_from(m, here, first, sides, first_path, keeper) {
+        renew(first_frame, first, rest);
+        search_half(m, here, second_frame, second, second_path, keeper);
+        return Some(rest_of(rest, second_frame));
+    }
+    let rest = take_from(m, here, second, sides, second_path, keeper)?;
+    renew(second_frame, second, rest);
+    search_half(m, here, first_frame, first, first_path, keeper);
+    Some(rest_of(rest, first_frame))
 }

@@ -8,7 +8,7 @@ ghost use Rattle.tk_near.specs.Placed.{IsPlaced, placed_city, x_gap};
 ghost use Rattle.tk_near.specs.Sweep.{IsXOrder, IsSwept, IsBelow};
 
 use crate::candidates::{Candidate, OPEN, comes_before, keep, measure, write_cities};
-use crate::near::Near;
+use crate::near::{Near, room_for};
 use crate::plane::placed::{Placed, row_of};
 use std::alloc::{AllocError, Global};
 use tk_distance::Planar;
@@ -153,10 +153,9 @@ pub fn near_sweep<P: Planar>(alloc: Global, m: &P, k: u32) -> Result<Near, Alloc
     ensures width { IfOk result (λ v. v.width ≡ k) }
     ensures near { IfOk result (λ v. AreNearest (P.distance m.now) v) }
 {
-    let width = k as usize;
     let row = order_by_x(alloc, m)?;
-    let mut kept = vec![in alloc; OPEN; width]?;
-    let mut entries = vec![in alloc; 0u32; m.size() as usize * width]?;
+    let mut kept = vec![in alloc; OPEN; k as usize]?;
+    let mut entries = room_for(alloc, m, k)?;
     fill_lists(m, &row, &mut kept, &mut entries);
     Ok(Near::from_filled(m, k, entries))
 }

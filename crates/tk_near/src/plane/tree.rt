@@ -1,6 +1,6 @@
 //! Near lists by a k-d tree (J. L. Bentley, 1975).
 ghost use Rattle.std.specs.Prelude.{◌≡◌, ℤ, ◌*◌, ◌≤◌, ◌<◌, ◌-ℤ◌, ◌≤ℤ◌, ◌↔◌, IfOk, IsTrue, All, IsPermutation};
-ghost use Rattle.std.specs.Prelude.{length, ⊤};
+ghost use Rattle.std.specs.Prelude.{◌++◌, length, ⊤};
 ghost use Rattle.std.specs.Int.RustNames.{unsigned_abs};
 ghost use Rattle.tk_problem.specs.declared.limits.TheConstants.{CANDIDATE_LIMIT};
 ghost use Rattle.tk_distance.specs.Distance.{reach};
@@ -8,10 +8,10 @@ ghost use Rattle.tk_near.specs.declared.plane.placed.Placed.{Placed};
 ghost use Rattle.tk_near.specs.Near.{IsNear, AreNearest};
 ghost use Rattle.tk_near.specs.Keeping.{AreFilled, cities_kept, rank};
 ghost use Rattle.tk_near.specs.Placed.{IsPlaced, IsRow};
-ghost use Rattle.tk_near.specs.Tree.{entries_of, IsInBox, IsFramed, IsBeyond, IsFrom, with_city, with_cities};
+ghost use Rattle.tk_near.specs.Tree.{entries_of, IsInBox, IsFramed, IsHalf, IsBeyond, IsFrom, with_city, with_cities};
 
 use crate::candidates::{Candidate, OPEN, comes_before, measure, write_cities};
-use crate::near::Near;
+use crate::near::{Near, room_for};
 use crate::plane::halve::halve;
 use crate::plane::keeper::{Keeper, Many};
 use crate::plane::placed::{Placed, row_of};
@@ -70,19 +70,26 @@ fn gap_between(at: i64, low: i64, high: i64) -> u64
 }
 
 impl Frame {
+    /// The box of one city.
+    fn of(p: Placed) -> Frame
+        ensures { IsInBox result p }
+    {
+        Frame {
+            left: p.place.x,
+            right: p.place.x,
+            bottom: p.place.y,
+            top: p.place.y,
+            least: p.city,
+            greatest: p.city,
+        }
+    }
+
     /// The least box that has a further city.
     fn widened(self, p: Placed) -> Frame
         ensures this { IsInBox result p }
         ensures others { (q : Placed) → IsInBox self q → IsInBox result q }
     {
-        Frame {
-            left: self.left.min(p.place.x),
-            right: self.right.max(p.place.x),
-            bottom: self.bottom.min(p.place.y),
-            top: self.top.max(p.place.y),
-            least: self.least.min(p.city),
-            greatest: self.greatest.max(p.city),
-        }
+        self.joined(Frame::of(p))
     }
 
     /// The least box that has the cities of both.
@@ -167,6 +174,37 @@ fn is_tall(row: &[Placed]) -> bool {
     frame.is_tall()
 }
 
+/// The tree of a few cities, which is a leaf, and their box.
+fn leaf_of(alloc: Global, row: &[Placed]) -> Result<(Tree, Frame), AllocError>
+    ensures entries { IfOk result (λ r. entries_of r.0 ≡ row.now) }
+    ensures framed { IfOk result (λ r. IsFramed r.0) }
+    ensures within { IfOk result (λ r. All (IsInBox r.1) (entries_of r.0)) }
+{
+    let mut leaf = Vec::with_capacity(alloc, row.len())?;
+    leaf.extend_from_slice(row)?;
+    Ok((Tree::Leaf(leaf), frame_of(row)))
+}
+
+/// The tree of two halves, each given with its box, and the box of both.
+fn cut_into(
+    alloc: Global,
+    lower: (Tree, Frame),
+    upper: (Tree, Frame),
+) -> Result<(Tree, Frame), AllocError>
+    requires lower { IsHalf lower.1 lower.0 }
+    requires upper { IsHalf upper.1 upper.0 }
+    ensures entries { IfOk result (λ r. entries_of r.0 ≡ entries_of lower.0 ++ entries_of upper.0) }
+    ensures framed { IfOk result (λ r. IsFramed r.0) }
+    ensures within { IfOk result (λ r. All (IsInBox r.1) (entries_of r.0)) }
+{
+    let (lower_tree, lower_frame) = lower;
+    let (upper_tree, upper_frame) = upper;
+    let lower_box = Box::new(alloc, lower_tree)?;
+    let upper_box = Box::new(alloc, upper_tree)?;
+    let tree = Tree::Cut(lower_frame, lower_box, upper_frame, upper_box);
+    Ok((tree, lower_frame.joined(upper_frame)))
+}
+
 /// The tree of these cities, which are put in its order, and their box.
 fn plant(alloc: Global, row: &mut [Placed]) -> Result<(Tree, Frame), AllocError>
     ensures moved { IfOk result (λ _. IsPermutation row.old row.new) }
@@ -175,19 +213,13 @@ fn plant(alloc: Global, row: &mut [Placed]) -> Result<(Tree, Frame), AllocError>
     ensures within { IfOk result (λ r. All (IsInBox r.1) (entries_of r.0)) }
 {
     if row.len() <= LEAF {
-        let mut leaf = Vec::with_capacity(alloc, row.len())?;
-        leaf.extend_from_slice(row)?;
-        return Ok((Tree::Leaf(leaf), frame_of(row)));
+        return leaf_of(alloc, row);
     }
     halve(row, is_tall(row));
-    let (lower, upper) = row.split_at_mut(row.len() / 2);
-    let (lower_tree, lower_frame) = plant(alloc, lower)?;
-    let (upper_tree, upper_frame) = plant(alloc, upper)?;
-    let lower_box = Box::new(alloc, lower_tree)?;
-    let upper_box = Box::new(alloc, upper_tree)?;
-    let frame = lower_frame.joined(upper_frame);
-    let tree = Tree::Cut(lower_frame, lower_box, upper_frame, upper_box);
-    Ok((tree, frame))
+    let (lower_row, upper_row) = row.split_at_mut(row.len() / 2);
+    let lower = plant(alloc, lower_row)?;
+    let upper = plant(alloc, upper_row)?;
+    cut_into(alloc, lower, upper)
 }
 
 /// The cities of a metric in the order of a tree, and that tree.
@@ -373,6 +405,33 @@ fn fill_from_tree<P: BothAxes>(
     }
 }
 
+/// The near lists by a search of this tree for each city, in the order of the row.
+///
+/// # Errors
+/// `AllocError` if there is no memory for n lists of k cities.
+fn lists_by_tree<P: BothAxes>(
+    alloc: Global,
+    m: &P,
+    row: &[Placed],
+    tree: &Tree,
+    k: u32,
+) -> Result<Near, AllocError>
+    requires row { IsRow (P.size_of m.now) (P.place_of m.now) row.now }
+    requires tree { entries_of tree.now ≡ row.now }
+    requires framed { IsFramed tree.now }
+    requires low { 1 ≤ k }
+    requires limit { k ≤ CANDIDATE_LIMIT }
+    requires high { k < P.size_of m.now }
+    ensures size { IfOk result (λ v. v.size ≡ P.size_of m.now) }
+    ensures width { IfOk result (λ v. v.width ≡ k) }
+    ensures near { IfOk result (λ v. AreNearest (P.distance m.now) v) }
+{
+    let mut many = Many::new(alloc, k as usize)?;
+    let mut entries = room_for(alloc, m, k)?;
+    fill_from_tree(m, row, tree, &mut many, &mut entries);
+    Ok(Near::from_filled(m, k, entries))
+}
+
 /// The near lists by a search of a tree for each city.
 ///
 /// # Errors
@@ -385,10 +444,6 @@ pub fn near_tree<P: BothAxes>(alloc: Global, m: &P, k: u32) -> Result<Near, Allo
     ensures width { IfOk result (λ v. v.width ≡ k) }
     ensures near { IfOk result (λ v. AreNearest (P.distance m.now) v) }
 {
-    let width = k as usize;
     let (row, tree) = planted(alloc, m)?;
-    let mut many = Many::new(alloc, width)?;
-    let mut entries = vec![in alloc; 0u32; m.size() as usize * width]?;
-    fill_from_tree(m, &row, &tree, &mut many, &mut entries);
-    Ok(Near::from_filled(m, k, entries))
+    lists_by_tree(alloc, m, &row, &tree, k)
 }

@@ -1,240 +1,219 @@
-use Rattle.std.proofs.Common.{◌≡◌, ◌++◌, ◌∙◌, ap, inl, inr}
+use Rattle.std.proofs.Common.{◌≢◌, ◌++◌, ◌∙◌, ap, arith}
 use Rattle.std.specs.Prelude.{All}
+use Rattle.std.proofs.lemmas.List.Elements.{All-append}
 use Rattle.tk_near.specs.Placed.{IsPlaced}
 use Rattle.tk_near.specs.Tree.{entries_of, IsInBox, parts_of, with_cities}
-use Rattle.tk_near.proofs.InPlane.Leaving.{shown_lower_first, shown_upper_first}
-use Rattle.tk_near.proofs.InPlane.Parting.{all_back, all_front, IsSmall, part_smaller, placed_small}
-use Rattle.tk_near.proofs.InPlane.Taking.{All-taken, taken_before, taken_behind}
+use Rattle.tk_near.proofs.InPlane.Leaving.{first_smaller, halves_smaller, second_smaller, shown_back_first}
+use Rattle.tk_near.proofs.InPlane.Leaving.{shown_front_first, shown_upper_first}
+use Rattle.tk_near.proofs.InPlane.Leaving.{taken_lower_first, taken_upper_first}
+use Rattle.tk_near.proofs.InPlane.Parting.{all_back, all_front, IsSmall, placed_small}
+use Rattle.tk_near.proofs.InPlane.Taking.{All-swapped, All-taken, taken_before, taken_behind}
 use Rattle.tk_near.proofs.plane.left.+take_from.Goals as goal
 
-pub search_leaf-requires-clause-placed : goal.search_leaf-requires-clause-placed
-search_leaf-requires-clause-placed g t c =
+pub take_from-search_leaf-requires-clause-placed : goal.take_from-search_leaf-requires-clause-placed
+take_from-search_leaf-requires-clause-placed g t c =
     let m = c.args.m.now in
     let placed = rw c.in-Leaf.is at c.requires.placed in
     rw c.deref.ensures.value
     (All-taken (IsPlaced (g.P.Metric.size_of m) (g.P.Planar.place_of m)) c.args.here.now c.in-Leaf.row.items
     c.take_from_leaf.new.row.items c.in_ok-rest-in-Leaf.ensures placed)
 
-pub take_from-requires : goal.take_from-requires
-take_from-requires g t c κs within =
+pub take_from-take_from_halves-requires : goal.take_from-take_from_halves-requires
+take_from-take_from_halves-requires g t c κs within =
     let m = c.args.m.now in
     let framed = rw c.in-Cut.is at c.requires.framed in
     let placed = rw c.in-Cut.is at c.requires.placed in
-    let e = c.deref_mut.ensures.value in
-    let mine = all_back (IsPlaced (g.P.Metric.size_of m) (g.P.Planar.place_of m)) (entries_of c.in-Cut.lower.value)
-    (entries_of c.in-Cut.upper.value) placed in (
-      part_smaller c.args.tree.now c.in-Cut.lower.value c.in-Cut.upper.value _ t c.decreases (ap parts_of c.in-Cut.is)
-          (inr e),
-      (within.0, (within.1, (c.requires.here, (rw e mine, rw e framed.3)))),
+    let swapped = All-swapped (IsPlaced (g.P.Metric.size_of m) (g.P.Planar.place_of m))
+    (entries_of c.in-Cut.lower.value) (entries_of c.in-Cut.upper.value) placed in
+    let first = c.deref_mut.ensures.value in
+    let second = c.deref_mut-then-goes_up.ensures.value in
+    let parts = halves_smaller (parts_of c.args.tree.now) (parts_of c.in-Cut.lower.value)
+    (parts_of c.in-Cut.upper.value) (parts_of c.deref_mut.result.now) (parts_of c.deref_mut-then-goes_up.result.now) t
+    c.decreases (ap parts_of c.in-Cut.is) (omega (arith, ap parts_of first, ap parts_of second)) in (
+      parts,
+      (
+        within.0,
+        (
+          within.1,
+          (
+            c.requires.here,
+            (
+              rw (first, second) swapped,
+              (
+                (rw first framed.1, rw first framed.3),
+                (rw second framed.0, rw second framed.2),
+              ),
+            ),
+          ),
+        ),
+      ),
     )
 
-pub renew-requires-clause-within : goal.renew-requires-clause-within
-renew-requires-clause-within g t c =
+pub take_from-take_from_halves-requires-else-goes_up : goal.take_from-take_from_halves-requires-else-goes_up
+take_from-take_from_halves-requires-else-goes_up g t c κs within =
+    let m = c.args.m.now in
     let framed = rw c.in-Cut.is at c.requires.framed in
-    let taken = rw c.deref_mut.ensures.value at c.in-Some.ensures.taken in
-    rw c.deref-in-Some.ensures
-    (All-taken (IsInBox c.in-Cut.upper_frame) c.args.here.now (entries_of c.in-Cut.upper.value)
-    (entries_of c.take_from.new.tree) taken framed.1)
+    let placed = rw c.in-Cut.is at c.requires.placed in
+    let first = c.deref_mut-else-goes_up.ensures.value in
+    let second = c.deref_mut-else-goes_up-2.ensures.value in
+    let parts = halves_smaller (parts_of c.args.tree.now) (parts_of c.in-Cut.lower.value)
+    (parts_of c.in-Cut.upper.value) (parts_of c.deref_mut-else-goes_up.result.now)
+    (parts_of c.deref_mut-else-goes_up-2.result.now) t c.decreases (ap parts_of c.in-Cut.is)
+    (omega (arith, ap parts_of first, ap parts_of second)) in (
+      parts,
+      (
+        within.0,
+        (
+          within.1,
+          (
+            c.requires.here,
+            (
+              rw (first, second) placed,
+              (
+                (rw first framed.0, rw first framed.2),
+                (rw second framed.1, rw second framed.3),
+              ),
+            ),
+          ),
+        ),
+      ),
+    )
 
-pub search_half-requires-clause-placed : goal.search_half-requires-clause-placed
-search_half-requires-clause-placed g t c =
+pub take_from-returns-else-goes_up-clause-framed : goal.take_from-returns-else-goes_up-clause-framed
+take_from-returns-else-goes_up-clause-framed g t c =
+    let halves = c.take_from_halves-else-goes_up.ensures in
+    (halves.first.0, halves.second.0, halves.first.1, halves.second.1)
+
+pub take_from-returns-else-goes_up-clause-taken : goal.take_from-returns-else-goes_up-clause-taken
+take_from-returns-else-goes_up-clause-taken g t c =
+    let lower = c.deref_mut-else-goes_up.ensures.value in
+    let upper = c.deref_mut-else-goes_up-2.ensures.value in
+    let taken = rw (lower, upper) at c.take_from_halves-else-goes_up.ensures.taken in
+    taken_lower_first c.args.here.now (entries_of c.in-Cut.lower.value) (entries_of c.in-Cut.upper.value)
+    (entries_of c.take_from_halves-else-goes_up.new.first) (entries_of c.take_from_halves-else-goes_up.new.second)
+    (entries_of c.args.tree.now) c.take_from_halves-else-goes_up.result (ap entries_of c.in-Cut.is) taken
+
+pub take_from-returns-else-goes_up-clause-shown : goal.take_from-returns-else-goes_up-clause-shown
+take_from-returns-else-goes_up-clause-shown g t c = c.take_from_halves-else-goes_up.ensures.shown
+
+pub take_from-returns-then-goes_up-clause-taken : goal.take_from-returns-then-goes_up-clause-taken
+take_from-returns-then-goes_up-clause-taken g t c =
+    let lower = c.deref_mut-then-goes_up.ensures.value in
+    let upper = c.deref_mut.ensures.value in
+    let taken = rw (lower, upper) at c.take_from_halves.ensures.taken in
+    taken_upper_first c.args.here.now (entries_of c.in-Cut.lower.value) (entries_of c.in-Cut.upper.value)
+    (entries_of c.take_from_halves.new.second) (entries_of c.take_from_halves.new.first) c.take_from_halves.result
+    (entries_of c.args.tree.now) (ap entries_of c.in-Cut.is) taken
+
+pub take_from-returns-then-goes_up-clause-shown : goal.take_from-returns-then-goes_up-clause-shown
+take_from-returns-then-goes_up-clause-shown g t c =
     let m = c.args.m.now in
     let placed = rw c.in-Cut.is at c.requires.placed in
-    rw c.deref-in-Some-2.ensures
-    (all_front (IsPlaced (g.P.Metric.size_of m) (g.P.Planar.place_of m)) (entries_of c.in-Cut.lower.value)
-    (entries_of c.in-Cut.upper.value) placed)
-
-pub returns-in-Some-clause-taken : goal.returns-in-Some-clause-taken
-returns-in-Some-clause-taken g t c =
-    let old = ap entries_of c.in-Cut.is in
-    let taken = rw c.deref_mut.ensures.value at c.in-Some.ensures.taken in
-    rw old (taken_behind c.args.here.now (entries_of c.in-Cut.lower.value) (entries_of c.in-Cut.upper.value)
-    (entries_of c.take_from.new.tree) taken)
-
-pub returns-in-Some-clause-shown : goal.returns-in-Some-clause-shown
-returns-in-Some-clause-shown g t c =
-    let m = c.args.m.now in
-    let dist = g.P.Metric.distance m in
-    let here = c.args.here.now.city in
-    let middle = g.K.Keeper.kept_of c.take_from.new.keeper in
-    let near = c.in-Some.ensures.shown in
-    let far = c.search_half.ensures
-    ∙ ap (λ tree. with_cities dist here (entries_of tree) middle) c.deref-in-Some-2.ensures in
-    let placed = rw c.in-Cut.is at c.requires.placed in
-    let small : All IsSmall (entries_of c.in-Cut.lower.value ++ entries_of c.in-Cut.upper.value) =
-    placed_small (g.P.Metric.size_of m) (g.P.Planar.place_of m)
+    let small = placed_small (g.P.Metric.size_of m) (g.P.Planar.place_of m)
     (entries_of c.in-Cut.lower.value ++ entries_of c.in-Cut.upper.value) (g.met.P.Metric.size_limit m) placed in
-    let small_lower : All IsSmall (entries_of c.in-Cut.lower.value) = (all_front IsSmall _ _ small) in
-    let taken = rw c.deref_mut.ensures.value at c.in-Some.ensures.taken in
-    let small_upper =
-    All-taken IsSmall c.args.here.now (entries_of c.in-Cut.upper.value) (entries_of c.take_from.new.tree) taken
-    (all_back IsSmall (entries_of c.in-Cut.lower.value) (entries_of c.in-Cut.upper.value) small) in
-    shown_upper_first dist here (entries_of c.in-Cut.lower.value) (entries_of c.take_from.new.tree)
-    (g.K.Keeper.kept_of c.args.keeper.now) middle _ small_lower small_upper near far
+    let lower = c.deref_mut-then-goes_up.ensures.value in
+    let upper = c.deref_mut.ensures.value in
+    let taken = rw (lower, upper) at c.take_from_halves.ensures.taken in
+    shown_upper_first c.args.here.now (entries_of c.in-Cut.lower.value) (entries_of c.in-Cut.upper.value)
+    (entries_of c.take_from_halves.new.second) (entries_of c.take_from_halves.new.first)
+    (g.P.Metric.distance m) c.args.here.now.city (g.K.Keeper.kept_of c.args.keeper.now)
+    (g.K.Keeper.kept_of c.take_from_halves.new.keeper) c.take_from_halves.result
+    (All-swapped IsSmall (entries_of c.in-Cut.lower.value) (entries_of c.in-Cut.upper.value) small) taken
+    c.take_from_halves.ensures.shown
 
-pub take_from-requires-then-goes_up : goal.take_from-requires-then-goes_up
-take_from-requires-then-goes_up g t c κs within =
+pub take_from_halves-take_from-requires : goal.take_from_halves-take_from-requires
+take_from_halves-take_from-requires g t c κs within =
     let m = c.args.m.now in
-    let framed = rw c.in-Cut.is at c.requires.framed in
-    let placed = rw c.in-Cut.is at c.requires.placed in
-    let e = c.deref_mut-then-goes_up.ensures.value in
-    let mine = all_front (IsPlaced (g.P.Metric.size_of m) (g.P.Planar.place_of m)) (entries_of c.in-Cut.lower.value)
-    (entries_of c.in-Cut.upper.value) placed in (
-      part_smaller c.args.tree.now c.in-Cut.lower.value c.in-Cut.upper.value _ t c.decreases (ap parts_of c.in-Cut.is)
-          (inl e),
-      (within.0, (within.1, (c.requires.here, (rw e mine, rw e framed.2)))),
+    let mine = all_front (IsPlaced (g.P.Metric.size_of m) (g.P.Planar.place_of m)) (entries_of c.args.first.now)
+    (entries_of c.args.second.now) c.requires.placed in (
+      first_smaller (parts_of c.args.first.now) (parts_of c.args.second.now) t c.decreases,
+      (within.0, (within.1, (c.requires.here, (mine, c.requires.first.1)))),
     )
 
-pub renew-requires-in-Some-take_from-clause-within : goal.renew-requires-in-Some-take_from-clause-within
-renew-requires-in-Some-take_from-clause-within g t c =
-    let framed = rw c.in-Cut.is at c.requires.framed in
-    let taken = rw c.deref_mut-then-goes_up.ensures.value at c.in-Some-take_from.ensures.taken in
-    rw c.deref-in-Some-take_from.ensures
-    (All-taken (IsInBox c.in-Cut.lower_frame) c.args.here.now (entries_of c.in-Cut.lower.value)
-    (entries_of c.take_from-then-goes_up.new.tree) taken framed.0)
+pub take_from_halves-renew-requires-clause-within : goal.take_from_halves-renew-requires-clause-within
+take_from_halves-renew-requires-clause-within g t c =
+    All-taken (IsInBox c.args.first_frame.now) c.args.here.now (entries_of c.args.first.now)
+    (entries_of c.take_from.new.tree) c.in-Some.ensures.taken c.requires.first.0
 
-pub search_half-requires-in-Some-take_from-clause-placed : goal.search_half-requires-in-Some-take_from-clause-placed
-search_half-requires-in-Some-take_from-clause-placed g t c =
+pub take_from_halves-search_half-requires-clause-placed : goal.take_from_halves-search_half-requires-clause-placed
+take_from_halves-search_half-requires-clause-placed g t c =
     let m = c.args.m.now in
-    let placed = rw c.in-Cut.is at c.requires.placed in
-    let upper : entries_of c.take_from.new.tree ≡ entries_of c.in-Cut.upper.value = c.in_default.ensures.taken.0
-    ∙ ap entries_of c.deref_mut.ensures.value in
-    rw (c.deref-in-Some-take_from-2.ensures, upper)
-    (all_back (IsPlaced (g.P.Metric.size_of m) (g.P.Planar.place_of m)) (entries_of c.in-Cut.lower.value)
-    (entries_of c.in-Cut.upper.value) placed)
+    all_back (IsPlaced (g.P.Metric.size_of m) (g.P.Planar.place_of m)) (entries_of c.args.first.now)
+    (entries_of c.args.second.now) c.requires.placed
 
-pub returns-in-Some-take_from-clause-taken : goal.returns-in-Some-take_from-clause-taken
-returns-in-Some-take_from-clause-taken g t c =
-    let old = ap entries_of c.in-Cut.is in
-    let upper : entries_of c.take_from.new.tree ≡ entries_of c.in-Cut.upper.value = c.in_default.ensures.taken.0
-    ∙ ap entries_of c.deref_mut.ensures.value in
-    let taken = rw c.deref_mut-then-goes_up.ensures.value at c.in-Some-take_from.ensures.taken in
-    rw (old, upper)
-    (taken_before c.args.here.now (entries_of c.in-Cut.lower.value) (entries_of c.take_from-then-goes_up.new.tree)
-    (entries_of c.in-Cut.upper.value) taken)
+pub take_from_halves-returns-in-Some-clause-taken : goal.take_from_halves-returns-in-Some-clause-taken
+take_from_halves-returns-in-Some-clause-taken g t c =
+    taken_before c.args.here.now (entries_of c.args.first.now) (entries_of c.take_from.new.tree)
+    (entries_of c.args.second.now) c.in-Some.ensures.taken
 
-pub returns-in-Some-take_from-clause-shown : goal.returns-in-Some-take_from-clause-shown
-returns-in-Some-take_from-clause-shown g t c =
+pub take_from_halves-returns-in-Some-clause-shown : goal.take_from_halves-returns-in-Some-clause-shown
+take_from_halves-returns-in-Some-clause-shown g t c =
+    shown_front_first (g.P.Metric.distance c.args.m.now) c.args.here.now.city (entries_of c.take_from.new.tree)
+    (entries_of c.args.second.now) (g.K.Keeper.kept_of c.args.keeper.now)
+    (g.K.Keeper.kept_of c.take_from.new.keeper) (g.K.Keeper.kept_of c.search_half.new.keeper)
+    c.in-Some.ensures.shown c.search_half.ensures
+
+pub take_from_halves-take_from-requires-2 : goal.take_from_halves-take_from-requires-2
+take_from_halves-take_from-requires-2 g t c κs within =
+    let m = c.args.m.now in
+    let mine = all_back (IsPlaced (g.P.Metric.size_of m) (g.P.Planar.place_of m)) (entries_of c.args.first.now)
+    (entries_of c.args.second.now) c.requires.placed in (
+      second_smaller (parts_of c.args.first.now) (parts_of c.args.second.now) t c.decreases,
+      (within.0, (within.1, (c.requires.here, (mine, c.requires.second.1)))),
+    )
+
+pub take_from_halves-renew-requires-2-clause-within : goal.take_from_halves-renew-requires-2-clause-within
+take_from_halves-renew-requires-2-clause-within g t c =
+    All-taken (IsInBox c.args.second_frame.now) c.args.here.now (entries_of c.args.second.now)
+    (entries_of c.take_from-2.new.tree) c.in_ok-rest.ensures.taken c.requires.second.0
+
+pub take_from_halves-search_half-requires-2-clause-placed : goal.take_from_halves-search_half-requires-2-clause-placed
+take_from_halves-search_half-requires-2-clause-placed g t c =
+    let m = c.args.m.now in
+    rw c.in_default.ensures.taken.0
+    (all_front (IsPlaced (g.P.Metric.size_of m) (g.P.Planar.place_of m)) (entries_of c.args.first.now)
+    (entries_of c.args.second.now) c.requires.placed)
+
+pub take_from_halves-returns-clause-taken : goal.take_from_halves-returns-clause-taken
+take_from_halves-returns-clause-taken g t c =
+    rw c.in_default.ensures.taken.0
+    (taken_behind c.args.here.now (entries_of c.args.first.now) (entries_of c.args.second.now)
+    (entries_of c.take_from-2.new.tree) c.in_ok-rest.ensures.taken)
+
+pub take_from_halves-returns-clause-shown : goal.take_from_halves-returns-clause-shown
+take_from_halves-returns-clause-shown g t c =
     let m = c.args.m.now in
     let dist = g.P.Metric.distance m in
     let here = c.args.here.now.city in
-    let middle = g.K.Keeper.kept_of c.take_from-then-goes_up.new.keeper in
-    let near = c.in-Some-take_from.ensures.shown
-    ∙ ap (with_cities dist here (entries_of c.take_from-then-goes_up.new.tree)) c.in_default.ensures.shown in
-    let far = c.search_half-in-Some-take_from.ensures
-    ∙ ap (λ tree. with_cities dist here (entries_of tree) middle) c.deref-in-Some-take_from-2.ensures in
-    shown_lower_first dist here (entries_of c.take_from-then-goes_up.new.tree) (entries_of c.take_from.new.tree)
-    (g.K.Keeper.kept_of c.args.keeper.now) middle _ near far
+    let first = entries_of c.args.first.now in
+    let second = entries_of c.args.second.now in
+    let small = placed_small (g.P.Metric.size_of m) (g.P.Planar.place_of m) (first ++ second)
+    (g.met.P.Metric.size_limit m) c.requires.placed in
+    let small_first : All IsSmall (entries_of c.take_from.new.tree) =
+    rw c.in_default.ensures.taken.0 (all_front IsSmall first second small) in
+    let small_second = All-taken IsSmall c.args.here.now second (entries_of c.take_from-2.new.tree)
+    c.in_ok-rest.ensures.taken (all_back IsSmall first second small) in
+    shown_back_first dist here (entries_of c.take_from.new.tree) (entries_of c.take_from-2.new.tree)
+    (g.K.Keeper.kept_of c.args.keeper.now) (g.K.Keeper.kept_of c.take_from-2.new.keeper)
+    (g.K.Keeper.kept_of c.search_half-2.new.keeper) small_first small_second
+    (c.in_ok-rest.ensures.shown ∙ ap (with_cities dist here (entries_of c.take_from-2.new.tree))
+    c.in_default.ensures.shown)
+    c.search_half-2.ensures
 
-pub take_from-requires-in-Cut : goal.take_from-requires-in-Cut
-take_from-requires-in-Cut g t c κs within =
-    let m = c.args.m.now in
-    let framed = rw c.in-Cut.is at c.requires.framed in
-    let placed = rw c.in-Cut.is at c.requires.placed in
-    let e = c.deref_mut-in-Cut.ensures.value in
-    let mine = all_front (IsPlaced (g.P.Metric.size_of m) (g.P.Planar.place_of m)) (entries_of c.in-Cut.lower.value)
-    (entries_of c.in-Cut.upper.value) placed in (
-      part_smaller c.args.tree.now c.in-Cut.lower.value c.in-Cut.upper.value _ t c.decreases (ap parts_of c.in-Cut.is)
-          (inl e),
-      (within.0, (within.1, (c.requires.here, (rw e mine, rw e framed.2)))),
-    )
+pub take_from_halves-returns-in_err-rest-clause-first : goal.take_from_halves-returns-in_err-rest-clause-first
+take_from_halves-returns-in_err-rest-clause-first g t c =
+    (rw c.in_default.ensures.taken.0 c.requires.first.0, c.in_default.ensures.framed)
 
-pub renew-requires-in-Some-take_from-2-clause-within : goal.renew-requires-in-Some-take_from-2-clause-within
-renew-requires-in-Some-take_from-2-clause-within g t c =
-    let framed = rw c.in-Cut.is at c.requires.framed in
-    let taken = rw c.deref_mut-in-Cut.ensures.value at c.in-Some-take_from-2.ensures.taken in
-    rw c.deref-in-Some-take_from-2-2.ensures
-    (All-taken (IsInBox c.in-Cut.lower_frame) c.args.here.now (entries_of c.in-Cut.lower.value)
-    (entries_of c.take_from-in-Cut.new.tree) taken framed.0)
+pub take_from_halves-returns-in_err-rest-clause-second : goal.take_from_halves-returns-in_err-rest-clause-second
+take_from_halves-returns-in_err-rest-clause-second g t c =
+    (rw c.in_err-rest.ensures.taken.0 c.requires.second.0, c.in_err-rest.ensures.framed)
 
-pub search_half-requires-in-Some-take_from-2-clause-placed : goal.search_half-requires-in-Some-take_from-2-clause-placed
-search_half-requires-in-Some-take_from-2-clause-placed g t c =
-    let m = c.args.m.now in
-    let placed = rw c.in-Cut.is at c.requires.placed in
-    rw c.deref-in-Some-take_from-2-3.ensures
-    (all_back (IsPlaced (g.P.Metric.size_of m) (g.P.Planar.place_of m)) (entries_of c.in-Cut.lower.value)
-    (entries_of c.in-Cut.upper.value) placed)
+pub take_from_halves-returns-in_err-rest-clause-taken : goal.take_from_halves-returns-in_err-rest-clause-taken
+take_from_halves-returns-in_err-rest-clause-taken g t c =
+    let none = All-append (λ q. q ≢ c.args.here.now) (entries_of c.args.first.now) (entries_of c.args.second.now)
+    c.in_default.ensures.taken.1 c.in_err-rest.ensures.taken.1 in
+    rw c.from_residual.ensures (c.in_default.ensures.taken.0, c.in_err-rest.ensures.taken.0, none)
 
-pub returns-in-Some-take_from-2-clause-taken : goal.returns-in-Some-take_from-2-clause-taken
-returns-in-Some-take_from-2-clause-taken g t c =
-    let old = ap entries_of c.in-Cut.is in
-    let taken = rw c.deref_mut-in-Cut.ensures.value at c.in-Some-take_from-2.ensures.taken in
-    rw old (taken_before c.args.here.now (entries_of c.in-Cut.lower.value) (entries_of c.take_from-in-Cut.new.tree)
-    (entries_of c.in-Cut.upper.value) taken)
-
-pub returns-in-Some-take_from-2-clause-shown : goal.returns-in-Some-take_from-2-clause-shown
-returns-in-Some-take_from-2-clause-shown g t c =
-    let m = c.args.m.now in
-    let dist = g.P.Metric.distance m in
-    let here = c.args.here.now.city in
-    let middle = g.K.Keeper.kept_of c.take_from-in-Cut.new.keeper in
-    let near = c.in-Some-take_from-2.ensures.shown in
-    let far = c.search_half-in-Some-take_from-2.ensures
-    ∙ ap (λ tree. with_cities dist here (entries_of tree) middle) c.deref-in-Some-take_from-2-3.ensures in
-    shown_lower_first dist here (entries_of c.take_from-in-Cut.new.tree) (entries_of c.in-Cut.upper.value)
-    (g.K.Keeper.kept_of c.args.keeper.now) middle _ near far
-
-pub take_from-requires-in-Cut-2 : goal.take_from-requires-in-Cut-2
-take_from-requires-in-Cut-2 g t c κs within =
-    let m = c.args.m.now in
-    let framed = rw c.in-Cut.is at c.requires.framed in
-    let placed = rw c.in-Cut.is at c.requires.placed in
-    let e = c.deref_mut-in-Cut-2.ensures.value in
-    let mine = all_back (IsPlaced (g.P.Metric.size_of m) (g.P.Planar.place_of m)) (entries_of c.in-Cut.lower.value)
-    (entries_of c.in-Cut.upper.value) placed in (
-      part_smaller c.args.tree.now c.in-Cut.lower.value c.in-Cut.upper.value _ t c.decreases (ap parts_of c.in-Cut.is)
-          (inr e),
-      (within.0, (within.1, (c.requires.here, (rw e mine, rw e framed.3)))),
-    )
-
-pub renew-requires-in-Some-take_from-3-clause-within : goal.renew-requires-in-Some-take_from-3-clause-within
-renew-requires-in-Some-take_from-3-clause-within g t c =
-    let framed = rw c.in-Cut.is at c.requires.framed in
-    let taken = rw c.deref_mut-in-Cut-2.ensures.value at c.in-Some-take_from-3.ensures.taken in
-    rw c.deref-in-Some-take_from-3.ensures
-    (All-taken (IsInBox c.in-Cut.upper_frame) c.args.here.now (entries_of c.in-Cut.upper.value)
-    (entries_of c.take_from-in-Cut-2.new.tree) taken framed.1)
-
-pub search_half-requires-in-Some-take_from-3-clause-placed : goal.search_half-requires-in-Some-take_from-3-clause-placed
-search_half-requires-in-Some-take_from-3-clause-placed g t c =
-    let m = c.args.m.now in
-    let placed = rw c.in-Cut.is at c.requires.placed in
-    let lower : entries_of c.take_from-in-Cut.new.tree ≡ entries_of c.in-Cut.lower.value =
-    c.in_default-take_from-2.ensures.taken.0 ∙ ap entries_of c.deref_mut-in-Cut.ensures.value in
-    rw (c.deref-in-Some-take_from-3-2.ensures, lower)
-    (all_front (IsPlaced (g.P.Metric.size_of m) (g.P.Planar.place_of m)) (entries_of c.in-Cut.lower.value)
-    (entries_of c.in-Cut.upper.value) placed)
-
-pub returns-in-Some-take_from-3-clause-taken : goal.returns-in-Some-take_from-3-clause-taken
-returns-in-Some-take_from-3-clause-taken g t c =
-    let old = ap entries_of c.in-Cut.is in
-    let lower : entries_of c.take_from-in-Cut.new.tree ≡ entries_of c.in-Cut.lower.value =
-    c.in_default-take_from-2.ensures.taken.0 ∙ ap entries_of c.deref_mut-in-Cut.ensures.value in
-    let taken = rw c.deref_mut-in-Cut-2.ensures.value at c.in-Some-take_from-3.ensures.taken in
-    rw (old, lower) (taken_behind c.args.here.now (entries_of c.in-Cut.lower.value) (entries_of c.in-Cut.upper.value)
-    (entries_of c.take_from-in-Cut-2.new.tree) taken)
-
-pub returns-in-Some-take_from-3-clause-shown : goal.returns-in-Some-take_from-3-clause-shown
-returns-in-Some-take_from-3-clause-shown g t c =
-    let m = c.args.m.now in
-    let dist = g.P.Metric.distance m in
-    let here = c.args.here.now.city in
-    let middle = g.K.Keeper.kept_of c.take_from-in-Cut-2.new.keeper in
-    let near = c.in-Some-take_from-3.ensures.shown
-    ∙ ap (with_cities dist here (entries_of c.take_from-in-Cut-2.new.tree))
-    c.in_default-take_from-2.ensures.shown in
-    let far = c.search_half-in-Some-take_from-3.ensures
-    ∙ ap (λ tree. with_cities dist here (entries_of tree) middle) c.deref-in-Some-take_from-3-2.ensures in
-    let placed = rw c.in-Cut.is at c.requires.placed in
-    let small : All IsSmall (entries_of c.in-Cut.lower.value ++ entries_of c.in-Cut.upper.value) =
-    placed_small (g.P.Metric.size_of m) (g.P.Planar.place_of m)
-    (entries_of c.in-Cut.lower.value ++ entries_of c.in-Cut.upper.value) (g.met.P.Metric.size_limit m) placed in
-    let lower : entries_of c.take_from-in-Cut.new.tree ≡ entries_of c.in-Cut.lower.value =
-    c.in_default-take_from-2.ensures.taken.0 ∙ ap entries_of c.deref_mut-in-Cut.ensures.value in
-    let small_lower : All IsSmall (entries_of c.take_from-in-Cut.new.tree) = rw lower (all_front IsSmall _ _ small) in
-    let taken = rw c.deref_mut-in-Cut-2.ensures.value at c.in-Some-take_from-3.ensures.taken in
-    let small_upper =
-    All-taken IsSmall c.args.here.now (entries_of c.in-Cut.upper.value) (entries_of c.take_from-in-Cut-2.new.tree)
-    taken (all_back IsSmall (entries_of c.in-Cut.lower.value) (entries_of c.in-Cut.upper.value) small) in
-    shown_upper_first dist here (entries_of c.take_from-in-Cut.new.tree) (entries_of c.take_from-in-Cut-2.new.tree)
-    (g.K.Keeper.kept_of c.args.keeper.now) middle _ small_lower small_upper near far
+pub take_from_halves-returns-in_err-rest-clause-shown : goal.take_from_halves-returns-in_err-rest-clause-shown
+take_from_halves-returns-in_err-rest-clause-shown g t c =
+    rw c.from_residual.ensures (c.in_err-rest.ensures.shown ∙ c.in_default.ensures.shown)
