@@ -1,9 +1,12 @@
 //! A tour store over runs of an array.
-ghost use Rattle.std.specs.Prelude.{◌≡◌, ◌≤◌, ◌<◌, ◌+◌, ◌-◌, ◌*◌, ◌/◌, ◌^◌, length};
+ghost use Rattle.std.specs.Prelude.{◌≡◌, ◌≤◌, ◌<◌, ◌+◌, ◌-◌, ◌*◌, ◌/◌, ◌^◌, OnOk, IfOk, IfErr, length};
 ghost use Rattle.tk_segments.specs.SeenTours.{list_of, room_of, run_count_of};
 ghost use Rattle.tk_segments.specs.Writes.{AreEnough, ArePaid};
 ghost use Rattle.tk_segments.specs.declared.tour.TheConstants.{MOST};
 ghost use Rattle.tk_problem.specs.declared.limits.TheConstants.{CITY_LIMIT};
+ghost use Rattle.tk_tour.specs.Fault.{HasTourFault, IsTourSize};
+ghost use Rattle.tk_tour.specs.Reversal.{IsInverse};
+ghost use Rattle.tk_tour.specs.Tour.{IsSizedTour};
 
 use crate::runs::Runs;
 use crate::seen::SeenTour;
@@ -20,6 +23,24 @@ fn short_for(n: u32) -> u32
     ensures limits { AreEnough n result MOST }
 {
     (n / 124).max(499) + 1
+}
+
+// Where each city of the list stands, from 0.
+fn places_of(alloc: Global, cities: &[u32]) -> Result<Vec<u32>, TourFault>
+    requires size { IsTourSize (length cities.now) }
+    ensures tour { OnOk result (IsSizedTour cities.now) }
+    ensures inverse { IfOk result (λ place. IsInverse cities.now place.items) }
+    ensures fault { IfErr result (λ e. HasTourFault cities.now e) }
+{
+    let Ok(mut place) = vec![in alloc; u32::MAX; cities.len()] else {
+        return Err(TourFault::NoMemory);
+    };
+    match place_cities(cities, &mut place) {
+        Verdict::Tour => Ok(place),
+        Verdict::WrongCount => Err(TourFault::WrongCount),
+        Verdict::OutOfRange(p) => Err(TourFault::OutOfRange(p)),
+        Verdict::RepeatedCity(p) => Err(TourFault::RepeatedCity(p)),
+    }
 }
 
 /// A tour of 2 to 100,000 cities, as an array that is seen through at most so many segments.
@@ -77,11 +98,7 @@ impl TourStore for SegmentTour {
     }
 
     fn flip(&mut self, a: u32, b: u32, c: u32, d: u32) -> Flip {
-        let (first, count) = if self.next(a) == b && self.next(c) == d {
-            self.seen.shorter_side(a, b, c, d)
-        } else {
-            self.seen.shorter_side(d, c, b, a)
-        };
+        let (first, count) = self.shorter_side(a, b, c, d);
         self.reverse(first, count);
         self.flips = self.flips.saturating_add(1);
         Flip {
@@ -142,11 +159,9 @@ impl UndoStore for SegmentTour {
 }
 
 impl SegmentTour {
-    ghost use Rattle.std.specs.Prelude.{OnOk, IfOk, IfErr};
     ghost use Rattle.tk_segments.specs.SegmentTours.{seen_order, seen_swaps, seen_undo_swaps, seen_flips, seen_copied};
     ghost use Rattle.tk_segments.specs.SegmentTours.{writes_of, seen_array, segments_of, most_of};
-    ghost use Rattle.tk_tour.specs.Tour.{IsSizedTour};
-    ghost use Rattle.tk_tour.specs.Fault.{HasTourFault};
+    ghost use Rattle.tk_tour.specs.Moves.{CanFlip, IsShorterSide, ReplacesSteps};
     ghost use Rattle.tk_tour.specs.Reversal.{reversed_places};
     ghost use Rattle.tk_tour.specs.Counters.{saturated};
     ghost use Rattle.tk_segments.specs.Writes.{changed};
@@ -199,27 +214,36 @@ impl SegmentTour {
         let Ok(order) = Vec::from_slice(alloc, cities) else {
             return Err(TourFault::NoMemory);
         };
-        let Ok(mut place) = vec![in alloc; u32::MAX; n] else {
-            return Err(TourFault::NoMemory);
-        };
         let Ok(spare) = vec![in alloc; 0u32; n] else {
             return Err(TourFault::NoMemory);
         };
         let Ok(runs) = Runs::new(alloc, n as u32, most) else {
             return Err(TourFault::NoMemory);
         };
-        match place_cities(cities, &mut place) {
-            Verdict::Tour => Ok(SegmentTour {
-                seen: SeenTour::new(order, place, spare, runs, short),
-                swaps: 0,
-                undo_swaps: 0,
-                flips: 0,
-                copied: 0,
-                writes: 0,
-            }),
-            Verdict::WrongCount => Err(TourFault::WrongCount),
-            Verdict::OutOfRange(p) => Err(TourFault::OutOfRange(p)),
-            Verdict::RepeatedCity(p) => Err(TourFault::RepeatedCity(p)),
+        let place = places_of(alloc, cities)?;
+        Ok(SegmentTour {
+            seen: SeenTour::new(order, place, spare, runs, short),
+            swaps: 0,
+            undo_swaps: 0,
+            flips: 0,
+            copied: 0,
+            writes: 0,
+        })
+    }
+
+    // The places that a flip reverses, as the first from 0 and their number.
+    fn shorter_side(&self, a: u32, b: u32, c: u32, d: u32) -> (u32, u32)
+        requires { CanFlip (seen_order self.now) a b c d }
+        ensures steps { ReplacesSteps (seen_order self.now)
+            (reversed_places result.0 result.1 (seen_order self.now)) a b c d }
+        ensures within { result.0 < length (seen_order self.now) }
+        ensures side { IsShorterSide (seen_order self.now) result.1 a b c d }
+        ensures shorter { 2 * result.1 ≤ length (seen_order self.now) }
+    {
+        if self.next(a) == b && self.next(c) == d {
+            self.seen.shorter_side(a, b, c, d)
+        } else {
+            self.seen.shorter_side(d, c, b, a)
         }
     }
 

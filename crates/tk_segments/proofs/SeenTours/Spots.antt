@@ -159,3 +159,45 @@ first_ahead n s w runs spot run f b le = omega (arith, f.ahead b, f.inside, f.lo
 pub first_behind : (n s w : ℕ) (runs : List Run) (spot : Spot) (run : Run) → SpotFacts n s w runs spot run →
     run.back ≡ true → run.high ≤ spot.place + 1 → w ≡ s
 first_behind n s w runs spot run f b le = omega (arith, f.behind b, f.inside, f.low_high, le)
+
+pub last_ahead : (n s v : ℕ) (runs : List Run) (spot : Spot) (run : Run) → SpotFacts n s v runs spot run →
+    run.back ≡ false → run.high ≤ spot.place + 1 → v + 1 ≡ s + run_size run
+last_ahead n s v runs spot run f b le = omega (arith, f.ahead b, f.inside, f.low_high, le)
+
+pub last_behind : (n s v : ℕ) (runs : List Run) (spot : Spot) (run : Run) → SpotFacts n s v runs spot run →
+    run.back ≡ true → spot.place ≤ run.low → v + 1 ≡ s + run_size run
+last_behind n s v runs spot run f b le = omega (arith, f.behind b, f.inside, f.low_high, le)
+
+-- the run after the last one is the first
+pub after_last : (n s v w k : ℕ) (runs : List Run) (spot new : Spot) (run next d : Run) → AreLaidOut n runs →
+    SpotFacts n s v runs spot run → IsAfterPlace n v w → v + 1 ≡ s + run_size run →
+    ((spot.index + 1 ≡ length runs) × (k ≡ 0)) ⊎ ((spot.index + 1 < length runs) × (k ≡ spot.index + 1)) →
+    next ≡ get_or runs k d → new.index ≡ k → new.place ≡ shown_place next 0 → IsSpot runs w new
+after_last n s v w k runs spot new run next d laid f h last cases e ei ep =
+    let lk : k < length runs = ⊎_elim (λ (a : (spot.index + 1 ≡ length runs) × (k ≡ 0)). omega (arith, a))
+    (λ (a : (spot.index + 1 < length runs) × (k ≡ spot.index + 1)). omega (arith, a)) cases in
+    let size : 0 < run_size next = let P : Run → Type 0 = λ r. 0 < run_size r in
+    subst P (sym e) (let l = laid.within k d lk in omega (arith, l)) in
+    let more : sum_by run_size (take (k + 1) runs) ≡ sum_by run_size (take k runs) + run_size next =
+    sum_more k runs d lk
+    ∙ ap (λ r. sum_by run_size (take k runs) + run_size r) (sym e) in
+    let within : sum_by run_size (take (k + 1) runs) ≤ n =
+    omega (arith, sum_mono (k + 1) (length runs) runs (omega (arith, lk)), sum_all n runs laid) in
+    let start : sum_by run_size (take k runs) ≡ w =
+    ⊎_elim
+    (λ (a : (spot.index + 1 ≡ length runs) × (k ≡ 0)).
+    let t : v + 1 ≡ n =
+    last ∙ sym f.size ∙ ap (λ u. sum_by run_size (take u runs)) a.0 ∙ sum_all n runs laid in
+    ap (λ u. sum_by run_size (take u runs)) a.1
+    ∙ ⊎_elim (λ (b : (v + 1 < n) × (w ≡ v + 1)). absurd (omega (arith, b, t)))
+    (λ (b : (v + 1 ≡ n) × (w ≡ 0)). sym b.1) h)
+    (λ (a : (spot.index + 1 < length runs) × (k ≡ spot.index + 1)).
+    let t : sum_by run_size (take k runs) ≡ v + 1 =
+    ap (λ u. sum_by run_size (take u runs)) a.1 ∙ f.size ∙ sym last in
+    t ∙ ⊎_elim (λ (b : (v + 1 < n) × (w ≡ v + 1)). sym b.1)
+    (λ (b : (v + 1 ≡ n) × (w ≡ 0)). absurd (omega (arith, b, t, more, size, within))) h)
+    cases in
+    let at : sum_by run_size (take new.index runs) ≡ w = ap (λ u. sum_by run_size (take u runs)) ei ∙ start in
+    let z : w - sum_by run_size (take new.index runs) ≡ 0 = omega (arith, at) in
+    is_spot n w runs new next d (e ∙ ap (λ u. get_or runs u d) (sym ei)) (omega (arith, ei, lk))
+    (omega (arith, at)) (omega (arith, at, size)) (ep ∙ ap (shown_place next) (sym z))

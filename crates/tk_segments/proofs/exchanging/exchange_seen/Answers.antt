@@ -1,4 +1,4 @@
-use Rattle.std.proofs.Common.{refl, arith, get_or}
+use Rattle.std.proofs.Common.{◌-◌, refl, arith, get_or}
 use Rattle.std.proofs.lemmas.List.{length-set}
 use Rattle.tk_segments.specs.Runs.{shown}
 use Rattle.tk_segments.specs.WriteLaws.{changed-refl}
@@ -63,6 +63,27 @@ overflow_sub-place-in-loop-done c =
     let b = Stepping-high c.args.size c.args.first c.args.count h.done h.low h.high c.before-high.result
     c.args.order.now h.order h.place c.args.runs.now c.requires.laid h.invariant c.before-high.ensures in
     omega (arith, (h.invariant.exchanging.inverse.1 h.low.place b.0).0)
+
+pub bounds-place-y : goal.bounds-place-y
+bounds-place-y c =
+    let h = c.loop-done in
+    let b = Stepping-high c.args.size c.args.first c.args.count h.done h.low h.high c.before-high.result
+    c.args.order.now h.order h.place c.args.runs.now c.requires.laid h.invariant c.before-high.ensures in
+    let inverse = h.invariant.exchanging.inverse in
+    omega (arith, inverse.0, inverse.1 c.before-high.result.place b.1)
+
+pub bounds-place-x : goal.bounds-place-x
+bounds-place-x c =
+    let h = c.loop-done in
+    let b = Stepping-high c.args.size c.args.first c.args.count h.done h.low h.high c.before-high.result
+    c.args.order.now h.order h.place c.args.runs.now c.requires.laid h.invariant c.before-high.ensures in
+    let inverse = h.invariant.exchanging.inverse in
+    omega (
+      arith,
+      inverse.0,
+      inverse.1 h.low.place b.0,
+      length-set h.place (get_or h.order c.before-high.result.place 0 - 1) h.low.place,
+    )
 
 pub loop-done-preserved : goal.loop-done-preserved
 loop-done-preserved c =

@@ -57,6 +57,13 @@ returns-clause-shown c = λ order le.
     ∙ ap (λ u. begun_at (sum_by run_size (take c.args.k u)) (shown order u)) e
     ∙ ap (λ u. begun_at u (shown order xs)) (sym v)
 
+pub join_parts-requires-2-clause-laid : goal.join_parts-requires-2-clause-laid
+join_parts-requires-2-clause-laid c =
+    let xs = c.args.runs.now.items in
+    let new = c.begin_run.new.runs in
+    let w : take c.args.runs.now.len (new ++ drop (length new) xs) ≡ new = grind (arith, common_steps) in
+    subst (AreLaidOut c.args.size) (sym w) c.begin_run.ensures.laid
+
 pub returns-clause-names : goal.returns-clause-names
 returns-clause-names c = λ names.
     let xs = c.args.runs.now.items in

@@ -2,7 +2,7 @@ use Rattle.std.proofs.Common.{◌≡◌, ◌<◌, ◌≤◌, ◌-◌, ◌∙◌,
 use Rattle.std.specs.Prelude.{sum_by}
 use Rattle.std.proofs.lemmas.Bool.{cases_lt}
 use Rattle.std.proofs.lemmas.Grind.{common_steps}
-use Rattle.tk_segments.specs.Runs.{run_size, CanBeFound, SameBefore}
+use Rattle.tk_segments.specs.Runs.{run_size, AreLaidOut, CanBeFound, HaveNames, SameBefore}
 use Rattle.tk_segments.specs.declared.run.Run.{Run}
 use Rattle.tk_segments.proofs.SeenTours.Names.{SameBefore-trans}
 use Rattle.tk_segments.proofs.SeenTours.Searching.{sum_mono}
@@ -23,6 +23,45 @@ turn_runs-requires-clause-range c =
       in_order j.new.runs.items i.result j.result c.args.first c.args.last e j.ensures.begins c.requires.range.0,
       omega (arith, j.ensures.index, c.deref_mut.ensures.len),
     )
+
+pub turn_runs-requires-clause-first : goal.turn_runs-requires-clause-first
+turn_runs-requires-clause-first c =
+    let i = c.cut_runs-i in
+    let j = c.cut_runs-j in
+    rw c.deref_mut.ensures.value
+    (sym (j.ensures.before i.result i.ensures.index (omega (arith, i.ensures.begins, c.requires.range))
+    ∙ i.ensures.begins))
+
+pub returns-clause-shown : goal.returns-clause-shown
+returns-clause-shown c = λ order le.
+    let cut = c.cut_runs-j.new in
+    let new = c.turn_runs.new.runs in
+    let w : take cut.runs.len (new ++ drop (length new) cut.runs.items) ≡ new = grind (arith, common_steps) in
+    rw (
+      w,
+      c.turn_runs.ensures.shown order le,
+      c.deref_mut.ensures.value,
+      c.cut_runs-j.ensures.begins,
+      c.cut_runs-j.ensures.shown order,
+      c.cut_runs-i.ensures.shown order,
+    )
+
+pub returns-clause-laid : goal.returns-clause-laid
+returns-clause-laid c =
+    let cut = c.cut_runs-j.new in
+    let new = c.turn_runs.new.runs in
+    let w : take cut.runs.len (new ++ drop (length new) cut.runs.items) ≡ new = grind (arith, common_steps) in
+    subst (AreLaidOut c.args.size) (sym w) c.turn_runs.ensures.laid
+
+pub returns-clause-names : goal.returns-clause-names
+returns-clause-names c = λ names.
+    let cut = c.cut_runs-j.new in
+    let new = c.turn_runs.new.runs in
+    let w : take cut.runs.len (new ++ drop (length new) cut.runs.items) ≡ new = grind (arith, common_steps) in
+    subst HaveNames (sym w)
+    (c.turn_runs.ensures.names
+    (subst HaveNames (sym c.deref_mut.ensures.value)
+    (c.cut_runs-j.ensures.names (c.cut_runs-i.ensures.names names))))
 
 pub returns-clause-same : goal.returns-clause-same
 returns-clause-same c =

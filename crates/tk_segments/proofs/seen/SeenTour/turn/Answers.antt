@@ -2,6 +2,7 @@ use Rattle.std.proofs.Common.{◌≡◌, ◌<◌, ◌≤◌, ◌+◌, ◌-◌, �
 use Rattle.tk_tour.specs.Reversal.{begun_at, reversed_places}
 use Rattle.tk_segments.proofs.SeenTours.Facts.{facts, seen_of, reversed_tour, reversed_round_tour, reversed_list}
 use Rattle.tk_segments.proofs.SeenTours.Facts.{reversed_round_list}
+use Rattle.tk_segments.proofs.SeenTours.Joined.{some_runs}
 use Rattle.tk_segments.proofs.seen.SeenTour.turn.Goals as goal
 use Rattle.tk_segments.proofs.seen.SeenTour.turn.Goals.{then-before-self, else-before-self}
 
@@ -24,6 +25,11 @@ returns-then-count-n-clause-list c = λ k lk h.
     ∙ ap (λ u. reversed_places c.args.first u (seen_of s)) e) lk (omega (arith, f.list, c.requires.first))
     (omega (arith, f.list, c.requires.count)) h
 
+pub returns-then-count-n-clause-some : goal.returns-then-count-n-clause-some
+returns-then-count-n-clause-some c =
+    let runs = c.turn.new.self in
+    omega (arith, some_runs runs.size runs.runs.items runs.laid runs.limits.0, runs.runs.ok.0)
+
 pub overflow_sub-first : goal.overflow_sub-first
 overflow_sub-first c = omega (arith, (facts c.args.self.now).list, c.requires.first, c.requires.count)
 
@@ -40,6 +46,23 @@ invariant_of-self-2-clause-tour c =
     let before = c.args.first + c.args.count - s.runs.size in
     reversed_round_tour s _ before (c.args.first - before) (s.runs.size - (c.args.first - before))
     _ (c.begin_and_turn.ensures.shown s.order.items (omega (arith, f.order)))
+
+pub invariant_of-self-2-clause-begins : goal.invariant_of-self-2-clause-begins
+invariant_of-self-2-clause-begins c =
+    let s = c.args.self.now in
+    let r = c.requires in
+    let size = c.begin_and_turn.ensures.limits.0 in
+    let lt : c.args.first + c.args.count - s.runs.size < s.runs.size =
+    omega (arith, (facts s).list, r.first, r.count) in
+    elim c.if-before-self.branch [
+      | then-before-self w ↦ omega (arith, w.self-is, w.if-before-self.true, s.begins, size)
+      | else-before-self w ↦ omega (arith, w.self-is, w.if-before-self.false, lt, size)
+    ]
+
+pub returns-clause-some : goal.returns-clause-some
+returns-clause-some c =
+    let runs = c.begin_and_turn.new.self in
+    omega (arith, some_runs runs.size runs.runs.items runs.laid runs.limits.0, runs.runs.ok.0)
 
 pub returns-clause-list : goal.returns-clause-list
 returns-clause-list c = λ k lk h.
