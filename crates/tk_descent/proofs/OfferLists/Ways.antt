@@ -7,7 +7,7 @@ use Rattle.std.proofs.lemmas.Bool.{both_ways}
 use Rattle.std.proofs.lemmas.List.{reverse-reverse}
 use Rattle.tk_tour.proofs.Cycle.{IsRotation-refl}
 use Rattle.tk_tour.specs.Tour.{IsRotation, SameCycle, next_city, prev_city}
-use Rattle.tk_descent.proofs.MovesOnTours.Paths.{Spans, last_from}
+use Rattle.tk_descent.proofs.MovesOnTours.Paths.{Spans}
 use Rattle.tk_distance.specs.Holding.{IsDistinct, holds}
 use Rattle.tk_descent.proofs.Lists.{holds-append, or-comm}
 use Rattle.tk_descent.proofs.MovesOnTours.Length.{Spans-reverse, last_from-append}

@@ -95,6 +95,29 @@ fn margin_of<M: Metric>(
     piece.freed - across + beside
 }
 
+/// Tests the Or-offers of a segment beside y.
+#[inline(always)]
+fn try_piece<M: Metric>(
+    metric: &M,
+    count: &mut u64,
+    x: u32,
+    piece: &Piece,
+    y: &Beside,
+    across: i64,
+) -> Option<Found>
+    requires piece { IsPiece (M.size_of metric.now) (M.distance metric.now) x piece.now }
+    requires beside { IsBeside (M.size_of metric.now) (M.distance metric.now) y.now }
+    requires across { across ≡ pos (M.distance metric.now x y.now.city) }
+    ensures { Searched (M.distance metric.now) (piece_offers x y.now piece.now) result count.old count.new }
+{
+    let margin = margin_of(metric, x, y.city, piece, y.after, across, y.to_after);
+    if let Some(found) = try_or(metric, count, x, y.city, &piece.segment, y.after, margin) {
+        return Some(found);
+    }
+    let margin = margin_of(metric, x, y.city, piece, y.before, across, y.to_before);
+    try_or(metric, count, x, y.city, &piece.segment, y.before, margin)
+}
+
 /// Tests the Or-offers of segments beside y.
 #[inline(always)]
 fn try_segments<M: Metric>(
@@ -105,7 +128,6 @@ fn try_segments<M: Metric>(
     y: &Beside,
     across: i64,
 ) -> Option<Found>
-    requires city { IsCity (M.size_of metric.now) x }
     requires pieces { All (IsPiece (M.size_of metric.now) (M.distance metric.now) x) pieces.now }
     requires beside { IsBeside (M.size_of metric.now) (M.distance metric.now) y.now }
     requires across { across ≡ pos (M.distance metric.now x y.now.city) }
@@ -113,12 +135,7 @@ fn try_segments<M: Metric>(
 {
     let _counted = *count;
     for piece in pieces {
-        let margin = margin_of(metric, x, y.city, piece, y.after, across, y.to_after);
-        if let Some(found) = try_or(metric, count, x, y.city, &piece.segment, y.after, margin) {
-            return Some(found);
-        }
-        let margin = margin_of(metric, x, y.city, piece, y.before, across, y.to_before);
-        if let Some(found) = try_or(metric, count, x, y.city, &piece.segment, y.before, margin) {
+        if let Some(found) = try_piece(metric, count, x, piece, y, across) {
             return Some(found);
         }
     }

@@ -74,6 +74,26 @@ fn measure_piece<M: Metric>(metric: &M, x: u32, begin: i64, end: i64, segment: S
     }
 }
 
+/// A segment of several cities from x, whose first one is `begin` from the city before it.
+#[inline]
+fn measure_longer<M: Metric>(
+    metric: &M,
+    steps: &[Measured],
+    x: u32,
+    begin: i64,
+    segment: Segment,
+) -> Piece
+    requires city { IsCity (M.size_of metric.now) x }
+    requires segment { IsSegmentIn (M.size_of metric.now) segment }
+    requires begin { begin ≡ pos (M.distance metric.now segment.before x) }
+    requires known { AreMeasured (M.distance metric.now) steps.now }
+    ensures segment { result.segment ≡ segment }
+    ensures shared { IsPiece (M.size_of metric.now) (M.distance metric.now) x result }
+{
+    let end = step(metric, steps, segment.last, segment.after);
+    measure_piece(metric, x, begin, end, segment)
+}
+
 /// The segments that begin at x, each with what it frees.
 #[inline]
 pub(crate) fn pieces_of<S: TourStore, M: Metric>(
@@ -95,33 +115,9 @@ pub(crate) fn pieces_of<S: TourStore, M: Metric>(
     let [one, two, two_back, three, three_back] = segments_of(tour, city, x.after, x.before);
     [
         measure_piece(metric, city, x.to_before, x.to_after, one),
-        measure_piece(
-            metric,
-            city,
-            x.to_before,
-            step(metric, steps, two.last, two.after),
-            two,
-        ),
-        measure_piece(
-            metric,
-            city,
-            x.to_after,
-            step(metric, steps, two_back.last, two_back.after),
-            two_back,
-        ),
-        measure_piece(
-            metric,
-            city,
-            x.to_before,
-            step(metric, steps, three.last, three.after),
-            three,
-        ),
-        measure_piece(
-            metric,
-            city,
-            x.to_after,
-            step(metric, steps, three_back.last, three_back.after),
-            three_back,
-        ),
+        measure_longer(metric, steps, city, x.to_before, two),
+        measure_longer(metric, steps, city, x.to_after, two_back),
+        measure_longer(metric, steps, city, x.to_before, three),
+        measure_longer(metric, steps, city, x.to_after, three_back),
     ]
 }

@@ -1,4 +1,5 @@
 use Rattle.std.proofs.Common.{arith, rules, refl, sym, ◌∙◌, ap, subst, ◌≡◌, ◌≤◌, ◌+◌, ◌*◌, ◌/◌, length}
+use Rattle.std.proofs.lemmas.Int.{ints}
 use Rattle.tk_near.specs.Near.{near_of}
 use Rattle.tk_tour.specs.Counters.{saturated}
 use Rattle.tk_tour.specs.Tour.{tour_length, IsTour}
@@ -96,6 +97,37 @@ returns-then-pass-eq0-clause-looks g c =
     more_looks (length (g.S.TourStore.cities c.args.tour.now)) c.sweeping.passes c.sweeping.moves
     c.descend-pass.result.moves (length c.wake_all.new.self.queue) c.descend-pass.result.looks c.sweeping.looks
     _ i.looked e.looks (ap length front ∙ one_to-length _) c.saturating_add-looks.ensures
+
+pub overflow_add-moves : goal.overflow_add-moves
+overflow_add-moves g c =
+    let i = c.sweeping.invariant in
+    let C = g.S.TourStore.cities c.sweeping.tour in
+    let D = g.S.TourStore.cities c.descend-pass.new.tour in
+    let d = g.G.Gains.distance c.args.gains.now in
+    let less : c.descend-pass.result.moves + tour_length d D ≤ tour_length d C =
+    subst (λ z. c.descend-pass.result.moves + tour_length z D ≤ tour_length z C) i.table
+    c.descend-pass.ensures.moves in
+    omega (arith, ints, i.gained, less, c.requires.before)
+
+pub returns-then-pass-eq0-clause-moves : goal.returns-then-pass-eq0-clause-moves
+returns-then-pass-eq0-clause-moves g c =
+    let i = c.sweeping.invariant in
+    let C = g.S.TourStore.cities c.sweeping.tour in
+    let D = g.S.TourStore.cities c.descend-pass.new.tour in
+    let d = g.G.Gains.distance c.args.gains.now in
+    let less : c.descend-pass.result.moves + tour_length d D ≤ tour_length d C =
+    subst (λ z. c.descend-pass.result.moves + tour_length z D ≤ tour_length z C) i.table
+    c.descend-pass.ensures.moves in
+    omega (arith, i.gained, less)
+
+pub returns-then-pass-eq0-clause-flips_only : goal.returns-then-pass-eq0-clause-flips_only
+returns-then-pass-eq0-clause-flips_only g c =
+    g.met.S.TourStore.flips_more _ _ _ c.sweeping.invariant.kept c.descend-pass.ensures.flips_only
+
+pub sweeping-smaller : goal.sweeping-smaller
+sweeping-smaller g c =
+    let e = c.descend-pass.ensures in
+    rw e.kept.0 (omega (arith, e.moves, c.if-pass-eq0.false))
 
 pub sweeping-preserved : goal.sweeping-preserved
 sweeping-preserved g c =

@@ -1,4 +1,5 @@
 use Rattle.std.proofs.Common.{◌∙◌, length, ap, flat_map, arith, sym}
+use Rattle.std.proofs.lemmas.List.{take_all}
 use Rattle.tk_near.specs.Near.{near_of}
 use Rattle.tk_tour.specs.Tour.{next_city, prev_city}
 use Rattle.tk_descent.specs.Offers.{segments, offers_with, first_gain, offers}
@@ -71,3 +72,13 @@ returns-clause-bound g c =
     c.of-near_city-items.result.now c.args.or_segment c.args.city c.loop-near_city.near_city-index
     _ _ c.args.near.now.width _ c.requires.most.0
     (omega (arith, c.of-near_city-items.ensures.count)) c.loop-near_city.invariant.searched
+
+pub returns-clause-searched : goal.returns-clause-searched
+returns-clause-searched g c =
+    let C = g.S.TourStore.cities c.args.tour.now in
+    let ss = segments (next_city C) (prev_city C) (length C) c.args.or_segment c.args.city in
+    on_list (g.Self.Gains.distance c.args.self.now)
+    _ _ _ _ _ (ap (flat_map (offers_with (next_city C) (prev_city C) ss c.args.city))
+    (take_all c.loop-near_city.near_city-index c.of-near_city-items.result.now
+    (omega (arith, c.loop-near_city-test.false)) ∙ c.of-near_city-items.ensures.value))
+    c.loop-near_city.invariant.searched

@@ -1,7 +1,10 @@
 use Rattle.std.proofs.Common.{◌∙◌, length, ap, flat_map, arith, sym}
+use Rattle.std.proofs.lemmas.List.{take_all}
+use Rattle.std.proofs.lemmas.List.Elements.{All-take}
 use Rattle.tk_near.specs.Near.{near_of}
 use Rattle.tk_tour.specs.Tour.{next_city, prev_city}
 use Rattle.tk_descent.specs.Offers.{segments, offers_with, first_gain, offers, segment_count}
+use Rattle.tk_descent.specs.Sharing.{IsPiece}
 use Rattle.tk_descent.proofs.OfferLists.Searching.{Searched-more, Searched-early, Searched-none, with_city, on_list}
 use Rattle.tk_descent.proofs.OfferLists.Searching.{pieces_are}
 use Rattle.tk_descent.proofs.OfferLists.Count.{tested, tested_part}
@@ -72,3 +75,18 @@ returns-clause-bound g c =
     tested_part (g.M.Metric.distance c.args.metric.now) (g.S.TourStore.cities c.args.tour.now) c.of-y-items.result.now
     c.args.or_segment c.args.city c.loop-y.y-index _ _ c.args.near.now.width _ c.requires.most.0
     (omega (arith, c.of-y-items.ensures.count)) c.loop-y.invariant.searched
+
+pub try_city-requires-clause-pieces : goal.try_city-requires-clause-pieces
+try_city-requires-clause-pieces g c =
+    let m = c.args.metric.now in
+    All-take (IsPiece (g.M.Metric.size_of m) (g.M.Metric.distance m) c.look_beside-from.result.city)
+    c.segment_count.result c.pieces_of-all.result c.pieces_of-all.ensures.shared
+
+pub returns-clause-searched : goal.returns-clause-searched
+returns-clause-searched g c =
+    let C = g.S.TourStore.cities c.args.tour.now in
+    let ss = segments (next_city C) (prev_city C) (length C) c.args.or_segment c.args.city in
+    on_list (g.M.Metric.distance c.args.metric.now)
+    _ _ _ _ _ (ap (flat_map (offers_with (next_city C) (prev_city C) ss c.args.city))
+    (take_all c.loop-y.y-index c.of-y-items.result.now (omega (arith, c.loop-y-test.false))
+    ∙ c.of-y-items.ensures.value)) c.loop-y.invariant.searched
