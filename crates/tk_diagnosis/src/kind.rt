@@ -1,5 +1,5 @@
 //! What kind of file it is.
-use crate::lines::{first_token, split_word, value_behind};
+use crate::lines::{first_token, lines_of, split_word, value_behind};
 use tk_params::key_of;
 use tk_words::{Keyword, keyword_of, spelled};
 
@@ -42,7 +42,7 @@ static OTHER_KEYS: [&str; 24] = [
 
 /// Whether a word is a key of LKH that tourkit does not have.
 pub fn is_other_key(word: &[u8]) -> bool {
-    for key in OTHER_KEYS {
+    for key in OTHER_KEYS.as_slice() {
         if spelled(word, key.as_bytes()) {
             return true;
         }
@@ -52,12 +52,9 @@ pub fn is_other_key(word: &[u8]) -> bool {
 
 /// The kind that a file's lines show, or else its name.
 pub fn kind_of(text: &[u8], name: &str) -> Kind {
-    let text = match text {
-        [0xef, 0xbb, 0xbf, rest @ ..] => rest,
-        _ => text,
-    };
-    for line in text.split(|byte| *byte == b'\n') {
-        if let Some(kind) = kind_shown(line) {
+    let text = text.strip_prefix(b"\xef\xbb\xbf").unwrap_or(text);
+    for line in lines_of(text) {
+        if let Some(kind) = kind_shown(line.bytes) {
             return kind;
         }
     }
@@ -105,12 +102,19 @@ fn kind_named(name: &str) -> Kind {
 
 /// Whether the first line that is not blank and no comment begins with a key of parameter files.
 pub fn begins_with_key(text: &[u8]) -> bool {
-    for line in text.split(|byte| *byte == b'\n') {
-        let line = line.trim_ascii_start();
-        let word = split_word(line).0;
-        if !line.is_empty() && line[0] != b'#' && !spelled(word, b"COMMENT") {
-            return key_of(word).is_some();
+    for line in lines_of(text) {
+        let line = line.bytes.trim_ascii_start();
+        if !is_comment(line) {
+            return key_of(split_word(line).0).is_some();
         }
     }
     false
+}
+
+/// Whether a line is empty or a comment.
+fn is_comment(line: &[u8]) -> bool {
+    match line.first() {
+        None | Some(b'#') => true,
+        Some(_) => spelled(split_word(line).0, b"COMMENT"),
+    }
 }

@@ -1,5 +1,6 @@
 //! The lines of a text, and the words of a line.
-ghost use Rattle.std.specs.Prelude.{◌≡◌, ◌≤◌, ◌++◌, drop, length};
+ghost use Rattle.std.specs.Prelude.{◌≡◌, ◌≤◌, ◌++◌, drop, length, suc, if◌then◌else◌};
+ghost use Rattle.std.specs.Iterator.{at_most};
 ghost use Rattle.tk_words.specs.Texts.{line_behind};
 ghost use Rattle.tk_words.specs.Lex.{behind, is_blank, is_word_byte};
 ghost use Rattle.tk_diagnosis.specs.Lines.{after_front_word};
@@ -13,13 +14,63 @@ pub struct Found<'a> {
     pub bytes: &'a [u8],
 }
 
-/// The line of this number. After a final line feed, the last line is empty.
+/// The lines of a text, each with its number. After a final line feed, the last line is empty.
+#[derive(Drop)]
+pub struct Lines<'a> {
+    rest: &'a [u8],
+    /// How many lines came.
+    count: u64,
+    is_ended: bool,
+}
+
+/// The lines of a text.
+pub fn lines_of(text: &[u8]) -> Lines<'_> {
+    Lines {
+        rest: text,
+        count: 0,
+        is_ended: false,
+    }
+}
+
+impl<'a> Iterator for Lines<'a> {
+    type Item = Found<'a>;
+
+    ghost remaining = { λ s. at_most (if s.is_ended then 0 else suc (length s.rest.now)) };
+
+    fn next(&mut self) -> Option<Found<'a>> {
+        if self.is_ended {
+            return None;
+        }
+        self.count = self.count.saturating_add(1);
+        let (bytes, end) = self.rest.split_at(length_before(self.rest, b'\n'));
+        match end.split_first() {
+            Some((_, rest)) => self.rest = rest,
+            None => self.is_ended = true,
+        }
+        Some(Found {
+            line: self.count,
+            bytes,
+        })
+    }
+}
+
+/// How many bytes stand before the first that is this one.
+pub fn length_before(bytes: &[u8], sign: u8) -> usize
+    ensures { result ≤ length bytes.now }
+{
+    for i in 0..bytes.len() {
+        if bytes[i] == sign {
+            return i;
+        }
+    }
+    bytes.len()
+}
+
+/// The line of this number.
 pub fn line_at(text: &[u8], number: u64) -> Option<&[u8]> {
-    let mut count: u64 = 0;
-    for line in text.split(|byte| *byte == b'\n') {
-        count = count.saturating_add(1);
-        if count == number {
-            return Some(line);
+    for Found { line, bytes } in lines_of(text) {
+        if line == number {
+            return Some(bytes);
         }
     }
     None
@@ -38,17 +89,10 @@ pub fn last_line(text: &[u8]) -> u64
     line
 }
 
-/// The bytes up to a place, and those after it. All of them, and none, if the place is beyond their end.
-fn cut(bytes: &[u8], place: usize) -> (&[u8], &[u8]) {
-    match bytes.split_at_checked(place) {
-        Some(parts) => parts,
-        None => (bytes, b"".as_slice()),
-    }
-}
-
 /// The bytes from the first one that is no blank on.
 fn without_blanks(bytes: &[u8]) -> &[u8]
-    ensures { result.now ≡ behind is_blank bytes.now }
+    ensures rest { result.now ≡ behind is_blank bytes.now }
+    ensures within { length result.now ≤ length bytes.now }
 {
     for i in 0..bytes.len() {
         if !blank(bytes[i]) {
@@ -97,24 +141,53 @@ pub fn value_behind(line: &[u8], sign: u8) -> &[u8] {
     }
 }
 
-/// The bytes up to the first blank.
-pub fn first_token(bytes: &[u8]) -> &[u8] {
-    let bytes = without_blanks(bytes);
-    match bytes.iter().position(|byte| blank(*byte)) {
-        Some(place) => cut(bytes, place).0,
-        None => bytes,
+/// The tokens of bytes: what stands between blanks.
+#[derive(Drop)]
+pub struct Tokens<'a> {
+    rest: &'a [u8],
+}
+
+/// The tokens of bytes.
+pub fn tokens_of(bytes: &[u8]) -> Tokens<'_> {
+    Tokens { rest: bytes }
+}
+
+impl<'a> Iterator for Tokens<'a> {
+    type Item = &'a [u8];
+
+    ghost remaining = { λ s. at_most (length s.rest.now) };
+
+    fn next(&mut self) -> Option<&'a [u8]> {
+        let bytes = without_blanks(self.rest);
+        let (token, rest) = bytes.split_at(token_end(bytes));
+        self.rest = rest;
+        if token.is_empty() {
+            return None;
+        }
+        Some(token)
     }
+}
+
+/// How many bytes stand before the first blank.
+fn token_end(bytes: &[u8]) -> usize
+    ensures { result ≤ length bytes.now }
+{
+    for i in 0..bytes.len() {
+        if blank(bytes[i]) {
+            return i;
+        }
+    }
+    bytes.len()
+}
+
+/// The first token, which is empty if there is none.
+pub fn first_token(bytes: &[u8]) -> &[u8] {
+    tokens_of(bytes).next().unwrap_or(b"".as_slice())
 }
 
 /// How many tokens the bytes have.
 pub fn count_tokens(bytes: &[u8]) -> u64 {
-    let mut count: u64 = 0;
-    for token in bytes.split(|byte| blank(*byte)) {
-        if !token.is_empty() {
-            count = count.saturating_add(1);
-        }
-    }
-    count
+    tokens_of(bytes).count() as u64
 }
 
 /// The token after so many others, or how many are still to come after these bytes.
@@ -123,10 +196,7 @@ pub fn count_tokens(bytes: &[u8]) -> u64 {
 /// The number that is left, if there are not as many tokens.
 pub fn token_after(bytes: &[u8], others: u64) -> Result<&[u8], u64> {
     let mut left = others;
-    for token in bytes.split(|byte| blank(*byte)) {
-        if token.is_empty() {
-            continue;
-        }
+    for token in tokens_of(bytes) {
         if left == 0 {
             return Ok(token);
         }
@@ -137,19 +207,25 @@ pub fn token_after(bytes: &[u8], others: u64) -> Result<&[u8], u64> {
 
 /// The first line that begins with a keyword: its number, and its value.
 pub fn header(text: &[u8], word: Keyword) -> Option<Found<'_>> {
-    let mut count: u64 = 0;
-    for line in text.split(|byte| *byte == b'\n') {
-        count = count.saturating_add(1);
-        match keyword_at(line) {
+    for Found { line, bytes } in lines_of(text) {
+        match keyword_at(bytes) {
             Some(Keyword::Eof) => return None,
             Some(found) if found == word => {
                 return Some(Found {
-                    line: count,
-                    bytes: value_behind(line, b':'),
+                    line,
+                    bytes: value_behind(bytes, b':'),
                 });
             }
             _ => {}
         }
     }
     None
+}
+
+/// The number of the first line that begins with a keyword: 1 if there is none.
+pub fn header_line(text: &[u8], word: Keyword) -> u64 {
+    match header(text, word) {
+        Some(found) => found.line,
+        None => 1,
+    }
 }

@@ -16,10 +16,10 @@ pub fn nearest<'a>(
 ) -> Result<Option<&'a str>, AllocError> {
     let mut best = None;
     let mut least = (word.len() / 4).max(2).saturating_add(1);
-    let mut capitals = Vec::new(alloc);
-    for byte in word.iter().take(LENGTH) {
-        capitals.push(byte.to_ascii_uppercase())?;
-    }
+    let capitals = word
+        .get(..LENGTH)
+        .unwrap_or(word)
+        .to_ascii_uppercase(alloc)?;
     for name in names {
         let edits = generic_levenshtein(alloc, &capitals, name.as_bytes())?;
         if edits < least {

@@ -2,9 +2,10 @@
 ghost use Rattle.std.specs.Prelude.{◌≤◌};
 
 use crate::lines::{
-    Found, count_tokens, first_token, header, keyword_at, token_after, value_behind,
+    Found, count_tokens, first_token, header, keyword_at, lines_of, token_after, tokens_of,
+    value_behind,
 };
-use tk_words::{Keyword, Role, blank, integer, role};
+use tk_words::{Keyword, Role, integer, role};
 
 /// A section, and how many of its numbers stand before a line.
 #[derive(Clone, Copy)]
@@ -27,13 +28,11 @@ pub fn entry_width(section: Keyword) -> u64
 /// The section whose numbers may stand on a line, if one has begun before it and no other keyword has come since.
 pub fn place_of(text: &[u8], number: u64) -> Option<Place> {
     let mut place = None;
-    let mut count: u64 = 0;
-    for line in text.split(|byte| *byte == b'\n') {
-        count = count.saturating_add(1);
-        if count >= number {
+    for Found { line, bytes } in lines_of(text) {
+        if line >= number {
             return place;
         }
-        place = place_after(place, line);
+        place = place_after(place, bytes);
     }
     place
 }
@@ -59,8 +58,8 @@ fn place_after(place: Option<Place>, line: &[u8]) -> Option<Place> {
 /// How many numbers a section has, up to the next keyword.
 pub fn numbers_in(text: &[u8], section: Keyword) -> u64 {
     let mut place = None;
-    for line in text.split(|byte| *byte == b'\n') {
-        let next = place_after(place, line);
+    for line in lines_of(text) {
+        let next = place_after(place, line.bytes);
         if is_in(place, section) && !is_in(next, section) {
             return count_of(place);
         }
@@ -101,15 +100,13 @@ fn numbers_on(line: &[u8]) -> &[u8] {
 pub fn number_at(text: &[u8], section: Keyword, index: u64) -> Option<Found<'_>> {
     let mut place = None;
     let mut left = index;
-    let mut count: u64 = 0;
-    for line in text.split(|byte| *byte == b'\n') {
-        count = count.saturating_add(1);
-        place = place_after(place, line);
+    for Found { line, bytes } in lines_of(text) {
+        place = place_after(place, bytes);
         if !is_in(place, section) {
             continue;
         }
-        match token_after(numbers_on(line), left) {
-            Ok(bytes) => return Some(Found { line: count, bytes }),
+        match token_after(numbers_on(bytes), left) {
+            Ok(bytes) => return Some(Found { line, bytes }),
             Err(more) => left = more,
         }
     }
@@ -119,18 +116,17 @@ pub fn number_at(text: &[u8], section: Keyword, index: u64) -> Option<Found<'_>>
 /// How many numbers of a section stand before the first entry with this node: `None` if there is no such entry.
 pub fn node_index(text: &[u8], section: Keyword, node: i64) -> Option<u64> {
     let mut place = None;
-    for line in text.split(|byte| *byte == b'\n') {
-        let before = place;
-        place = place_after(place, line);
+    for line in lines_of(text) {
+        let begun = if keyword_at(line.bytes).is_some() {
+            0
+        } else {
+            count_of(place)
+        };
+        place = place_after(place, line.bytes);
         if !is_in(place, section) {
             continue;
         }
-        let begun = if keyword_at(line).is_some() {
-            0
-        } else {
-            count_of(before)
-        };
-        if let Some(index) = node_on(numbers_on(line), section, begun, node) {
+        if let Some(index) = node_on(numbers_on(line.bytes), section, begun, node) {
             return Some(index);
         }
     }
@@ -141,10 +137,7 @@ pub fn node_index(text: &[u8], section: Keyword, node: i64) -> Option<u64> {
 fn node_on(line: &[u8], section: Keyword, begun: u64, node: i64) -> Option<u64> {
     let mut index = begun;
     let width = entry_width(section);
-    for token in line.split(|byte| blank(*byte)) {
-        if token.is_empty() {
-            continue;
-        }
+    for token in tokens_of(line) {
         if index % width == 0 && integer(token) == Some(node) {
             return Some(index);
         }
@@ -155,24 +148,26 @@ fn node_on(line: &[u8], section: Keyword, begun: u64, node: i64) -> Option<u64> 
 
 /// The number that a header says, if it is there and says one.
 pub fn header_number(text: &[u8], word: Keyword) -> Option<u64> {
-    let found = header(text, word)?;
-    u64::try_from(integer(first_token(found.bytes))?).ok()
+    natural(first_token(header(text, word)?.bytes))
+}
+
+/// The number that bytes spell, if they spell one that is not negative.
+pub fn natural(bytes: &[u8]) -> Option<u64> {
+    u64::try_from(integer(bytes)?).ok()
 }
 
 /// The first line of a section, up to a line, on which an entry is not whole: its number, and how many numbers it has.
 pub fn uneven_line(text: &[u8], section: Keyword, last: u64) -> Option<(u64, u64)> {
     let mut place = None;
-    let mut number: u64 = 0;
     let width = entry_width(section);
-    for line in text.split(|byte| *byte == b'\n') {
-        number = number.saturating_add(1);
-        if number > last {
+    for Found { line, bytes } in lines_of(text) {
+        if line > last {
             return None;
         }
-        place = place_after(place, line);
-        let count = count_tokens(numbers_on(line));
+        place = place_after(place, bytes);
+        let count = count_tokens(numbers_on(bytes));
         if is_in(place, section) && count % width != 0 {
-            return Some((number, count));
+            return Some((line, count));
         }
     }
     None

@@ -1,8 +1,8 @@
 //! Nodes that a section names twice.
-use crate::lines::keyword_at;
-use crate::place::entry_width;
+use crate::lines::{Found, keyword_at, lines_of, tokens_of};
+use crate::place::{entry_width, natural};
 use std::alloc::{AllocError, Global};
-use tk_words::{Keyword, blank, integer};
+use tk_words::Keyword;
 
 /// A node that comes a second time, and the line that has it first.
 #[derive(Clone, Copy)]
@@ -21,14 +21,19 @@ struct Named {
 }
 
 impl Named {
-    /// Takes a number of the section, and says whether it is a node that was named before.
-    fn take(&mut self, bytes: &[u8], line: u64) -> Option<Repeat> {
+    /// Counts a number of the section, and says whether it begins an entry.
+    fn begins_entry(&mut self) -> bool {
         let begins = self.numbers.checked_rem(self.width) == Some(0);
         self.numbers = self.numbers.saturating_add(1);
-        if !begins {
+        begins
+    }
+
+    /// Takes a number of the section, and says whether it is a node that was named before.
+    fn take(&mut self, bytes: &[u8], line: u64) -> Option<Repeat> {
+        if !self.begins_entry() {
             return None;
         }
-        let node = u64::try_from(integer(bytes)?).ok()?;
+        let node = natural(bytes)?;
         let first = self.lines.get_mut(usize::try_from(node).ok()?)?;
         if *first != 0 {
             return Some(Repeat {
@@ -42,12 +47,24 @@ impl Named {
 
     /// Takes the numbers of a line, up to a node that was named before.
     fn take_line(&mut self, bytes: &[u8], line: u64) -> Option<Repeat> {
-        for token in bytes.split(|byte| blank(*byte)) {
-            if token.is_empty() {
-                continue;
-            }
+        for token in tokens_of(bytes) {
             if let Some(repeat) = self.take(token, line) {
                 return Some(repeat);
+            }
+        }
+        None
+    }
+
+    /// Takes the lines of a section, up to a node that was named before.
+    fn take_section(&mut self, text: &[u8], section: Keyword) -> Option<Repeat> {
+        let mut is_open = false;
+        for Found { line, bytes } in lines_of(text) {
+            if let Some(word) = keyword_at(bytes) {
+                is_open = word == section;
+            } else if is_open {
+                if let Some(repeat) = self.take_line(bytes, line) {
+                    return Some(repeat);
+                }
             }
         }
         None
@@ -69,17 +86,5 @@ pub fn first_repeat(
         numbers: 0,
         width: entry_width(section),
     };
-    let mut is_open = false;
-    let mut line: u64 = 0;
-    for bytes in text.split(|byte| *byte == b'\n') {
-        line = line.saturating_add(1);
-        if let Some(word) = keyword_at(bytes) {
-            is_open = word == section;
-        } else if is_open {
-            if let Some(repeat) = named.take_line(bytes, line) {
-                return Ok(Some(repeat));
-            }
-        }
-    }
-    Ok(None)
+    Ok(named.take_section(text, section))
 }

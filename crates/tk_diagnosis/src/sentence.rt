@@ -46,7 +46,12 @@ impl<'a> Sentence<'a> {
 
     /// A word of the file, of which nothing is said.
     pub fn of_word(bytes: &'a [u8]) -> Sentence<'a> {
-        Sentence::of("{}").word(bytes)
+        Sentence::about("{}", bytes)
+    }
+
+    /// A sentence whose first value is a word of the file.
+    pub fn about(form: &'static str, word: &'a [u8]) -> Sentence<'a> {
+        Sentence::of(form).word(word)
     }
 
     /// A sentence about a value of the file, or that there is none.
@@ -54,7 +59,7 @@ impl<'a> Sentence<'a> {
         if bytes.is_empty() {
             Sentence::of("no value")
         } else {
-            Sentence::of(form).word(bytes)
+            Sentence::about(form, bytes)
         }
     }
 
@@ -71,6 +76,15 @@ impl<'a> Sentence<'a> {
     /// With a number.
     pub fn number(self, number: u64) -> Sentence<'a> {
         self.with(Value::Number(number))
+    }
+
+    /// With the next numbers.
+    pub fn numbers<const N: usize>(self, numbers: [u64; N]) -> Sentence<'a> {
+        let mut sentence = self;
+        for number in numbers {
+            sentence = sentence.number(number);
+        }
+        sentence
     }
 
     /// With an integer, which may be negative.
@@ -121,14 +135,15 @@ impl<'a> Sentence<'a> {
 
 impl fmt::Display for Sentence<'_> {
     fn fmt<W: fmt::Write>(&self, f: &mut fmt::Formatter<W>) -> fmt::Result {
-        let Some((front, rest)) = self.form.split_once("{}") else {
-            return f.write_str(self.form);
-        };
-        f.write_str(front)?;
-        for (value, part) in self.values.iter().zip(rest.split("{}")) {
-            self.write_value(f, *value)?;
-            f.write_str(part)?;
+        let mut rest = self.form;
+        for value in self.values {
+            let Some((front, behind)) = rest.split_once("{}") else {
+                break;
+            };
+            f.write_str(front)?;
+            self.write_value(f, value)?;
+            rest = behind;
         }
-        Ok(())
+        f.write_str(rest)
     }
 }

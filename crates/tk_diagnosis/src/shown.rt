@@ -32,10 +32,11 @@ pub fn shown_word(word: &[u8]) -> Shown<'_> {
 
 impl fmt::Display for Shown<'_> {
     fn fmt<W: fmt::Write>(&self, f: &mut fmt::Formatter<W>) -> fmt::Result {
-        for byte in self.bytes.iter().take(self.width) {
+        let shown = self.bytes.get(..self.width).unwrap_or(self.bytes);
+        for byte in shown {
             write_byte(f, *byte)?;
         }
-        if self.bytes.len() > self.width {
+        if shown.len() < self.bytes.len() {
             f.write_str("..")?;
         }
         Ok(())

@@ -48,6 +48,16 @@ impl<'a> Here<'a> {
         }
     }
 
+    /// What was read, where what was wanted and what to do are the same for each such file.
+    pub fn advised(wanted: &'static str, read: Sentence<'a>, remedy: &'static str) -> Here<'a> {
+        Here {
+            wanted: Sentence::of(wanted),
+            read,
+            remedy: Some(Sentence::of(remedy)),
+            other: None,
+        }
+    }
+
     /// With what to do.
     pub fn with(self, remedy: Sentence<'a>) -> Here<'a> {
         Here {
@@ -59,13 +69,5 @@ impl<'a> Here<'a> {
     /// With what to do, in words that are the same for each such file.
     pub fn advice(self, remedy: &'static str) -> Here<'a> {
         self.with(Sentence::of(remedy))
-    }
-
-    /// With another line that has to do with it.
-    pub fn beside(self, line: u64) -> Here<'a> {
-        Here {
-            other: Some(line),
-            ..self
-        }
     }
 }

@@ -1,6 +1,6 @@
 //! What a line is taken for.
 use crate::kind::Kind;
-use crate::lines::{count_tokens, keyword_at, split_word, value_behind};
+use crate::lines::{Found, count_tokens, keyword_at, lines_of, split_word, value_behind};
 use crate::place::{Place, entry_width, place_of};
 use crate::sentence::Sentence;
 use crate::spot::Spot;
@@ -27,13 +27,11 @@ pub fn taken_for<'a>(spot: &Spot<'a>) -> Sentence<'a> {
 
 /// Whether `EOF` begins an earlier line.
 fn is_after_end(spot: &Spot<'_>) -> bool {
-    let mut count: u64 = 0;
-    for line in spot.text.split(|byte| *byte == b'\n') {
-        count = count.saturating_add(1);
-        if count >= spot.number {
+    for Found { line, bytes } in lines_of(spot.text) {
+        if line >= spot.number {
             return false;
         }
-        if keyword_at(line) == Some(Keyword::Eof) {
+        if keyword_at(bytes) == Some(Keyword::Eof) {
             return true;
         }
     }
@@ -75,9 +73,10 @@ fn numbers_of<'a>(line: &[u8], place: Place) -> Sentence<'a> {
             .number(entry)
             .keyword(section);
     }
+    let first = place.numbers.saturating_add(1);
+    let last = place.numbers.saturating_add(count);
     Sentence::of("numbers {} to {} of {}")
-        .number(place.numbers.saturating_add(1))
-        .number(place.numbers.saturating_add(count))
+        .numbers([first, last])
         .keyword(section)
 }
 

@@ -54,5 +54,5 @@ pub fn wrapped<'a>(wrapping: Wrapping) -> Here<'a> {
             "Give the text file. An archive has to be unpacked, and a text in UTF-16 saved as UTF-8.",
         ),
     };
-    Here::new(Sentence::of("a text in ASCII or UTF-8"), Sentence::of(read)).advice(remedy)
+    Here::advised("a text in ASCII or UTF-8", Sentence::of(read), remedy)
 }

@@ -1,9 +1,11 @@
 //! Sections that end too early, and what stands where nothing may.
-use crate::lines::{count_tokens, first_token, header, keyword_at, token_after};
+use crate::lines::{
+    count_tokens, first_token, header, header_line, keyword_at, token_after, tokens_of,
+};
 use crate::place::{Place, entry_width, header_number, numbers_in, place_of};
 use crate::sentence::Sentence;
 use crate::spot::{Here, Spot};
-use tk_words::{Keyword, blank, keyword_in, letter, spelled};
+use tk_words::{Keyword, keyword_in, letter, spelled};
 
 /// How many numbers a section has.
 #[derive(Clone, Copy)]
@@ -14,10 +16,20 @@ struct Size {
     numbers: u64,
 }
 
+impl Size {
+    /// A sentence about the entry of a section after so many others, and what DIMENSION says.
+    fn entry_after<'a>(&self, form: &'static str, section: Keyword, entries: u64) -> Sentence<'a> {
+        Sentence::of(form)
+            .number(entries.saturating_add(1))
+            .keyword(section)
+            .numbers([self.nodes, self.line])
+    }
+}
+
 /// How many numbers a section has by DIMENSION and, of weights, by their format.
 fn size_of(spot: &Spot<'_>, section: Keyword) -> Option<Size> {
     let nodes = header_number(spot.text, Keyword::Dimension)?;
-    let line = header(spot.text, Keyword::Dimension)?.line;
+    let line = header_line(spot.text, Keyword::Dimension);
     let numbers = match section {
         Keyword::EdgeWeightSection => weights_of(spot, nodes)?,
         Keyword::NodeCoordSection | Keyword::DemandSection | Keyword::DisplayDataSection => {
@@ -36,63 +48,52 @@ fn size_of(spot: &Spot<'_>, section: Keyword) -> Option<Size> {
 fn weights_of(spot: &Spot<'_>, nodes: u64) -> Option<u64> {
     let format = first_token(header(spot.text, Keyword::EdgeWeightFormat)?.bytes);
     let all = nodes.checked_mul(nodes)?;
-    let below = all.checked_sub(nodes)? / 2;
     if spelled(format, b"FULL_MATRIX") {
         return Some(all);
     }
-    for name in [
-        "UPPER_DIAG_ROW",
-        "LOWER_DIAG_ROW",
-        "UPPER_DIAG_COL",
-        "LOWER_DIAG_COL",
-    ] {
-        if spelled(format, name.as_bytes()) {
-            return below.checked_add(nodes);
-        }
+    let below = all.checked_sub(nodes)? / 2;
+    if has_diagonal(format) {
+        return below.checked_add(nodes);
     }
     Some(below)
 }
 
-/// How many tokens of a line stand before the first that is a keyword.
-fn numbers_before_word(line: &[u8]) -> u64 {
-    let mut count: u64 = 0;
-    for token in line.split(|byte| blank(*byte)) {
-        if keyword_in(token).is_some() {
-            return count;
-        }
-        if !token.is_empty() {
-            count = count.saturating_add(1);
-        }
-    }
-    count
+/// Whether half a matrix in a format has the weights from each node to itself.
+fn has_diagonal(format: &[u8]) -> bool {
+    spelled(format, b"UPPER_DIAG_ROW")
+        || spelled(format, b"LOWER_DIAG_ROW")
+        || spelled(format, b"UPPER_DIAG_COL")
+        || spelled(format, b"LOWER_DIAG_COL")
 }
 
-/// The word that ends a section on a line: `None` at the end of the file.
-fn end_on<'a>(spot: &Spot<'a>) -> Option<&'a [u8]> {
-    for token in spot.line.split(|byte| blank(*byte)) {
+/// The keyword that ends a section on a line, or `None` at the end of the file, and how many tokens stand before it.
+fn end_on(line: &[u8]) -> (Option<&[u8]>, u64) {
+    let mut count: u64 = 0;
+    for token in tokens_of(line) {
         if keyword_in(token).is_some() {
-            return Some(token);
+            return (Some(token), count);
         }
+        count = count.saturating_add(1);
     }
-    None
+    (None, count)
 }
 
 /// A sentence whose first value is what ends a section.
 fn of_end<'a>(text: &'static str, end: Option<&'a [u8]>) -> Sentence<'a> {
     match end {
-        Some(word) => Sentence::of(text).word(word),
+        Some(word) => Sentence::about(text, word),
         None => Sentence::of(text).text("the end of the file"),
     }
 }
 
 /// A section ends before its last number.
 pub fn truncated<'a>(spot: &Spot<'a>) -> Here<'a> {
-    let end = end_on(spot);
+    let (end, count) = end_on(spot.line);
     let Some(place) = place_of(spot.text, spot.number) else {
         return Here::new(Sentence::of("numbers"), of_end("{}", end));
     };
     let section = place.section;
-    let have = place.numbers.saturating_add(numbers_before_word(spot.line));
+    let have = place.numbers.saturating_add(count);
     match size_of(spot, section) {
         Some(size) if section == Keyword::EdgeWeightSection => few_weights(end, have, size),
         Some(size) => few_entries(end, section, have, size),
@@ -102,30 +103,33 @@ pub fn truncated<'a>(spot: &Spot<'a>) -> Here<'a> {
 
 /// A section with an entry for each node has too few.
 fn few_entries<'a>(end: Option<&'a [u8]>, section: Keyword, have: u64, size: Size) -> Here<'a> {
-    let Size { nodes, line, .. } = size;
     let width = entry_width(section);
     let entries = have / width;
-    let next = entries.saturating_add(1);
-    let wanted = Sentence::of("entry {} of {}, since DIMENSION is {} (line {})")
-        .number(next)
-        .keyword(section)
-        .number(nodes)
-        .number(line);
+    let wanted = size.entry_after(
+        "entry {} of {}, since DIMENSION is {} (line {})",
+        section,
+        entries,
+    );
     if have % width != 0 {
-        let read = of_end("{} in the middle of entry {}", end).number(next);
-        let remedy = Sentence::of("Complete the entry: each has {} numbers.").number(width);
-        return Here::new(wanted, read).with(remedy);
+        return in_entry(wanted, end, entries, width);
     }
-    let read = of_end("{}, after {} of {} entries", end)
-        .number(entries)
-        .number(nodes);
+    let Size { nodes, line, .. } = size;
+    let missing = nodes.saturating_sub(entries);
     let text = "Write DIMENSION : {} on line {}, or add what is missing: {} of {} entries.";
-    let remedy = Sentence::of(text)
-        .number(entries)
-        .number(line)
-        .number(nodes.saturating_sub(entries))
-        .number(nodes);
-    Here::new(wanted, read).with(remedy).beside(line)
+    Here {
+        wanted,
+        read: of_end("{}, after {} of {} entries", end).numbers([entries, nodes]),
+        remedy: Some(Sentence::of(text).numbers([entries, line, missing, nodes])),
+        other: Some(line),
+    }
+}
+
+/// A section ends in the middle of an entry, after so many whole ones.
+fn in_entry<'a>(wanted: Sentence<'a>, end: Option<&'a [u8]>, entries: u64, width: u64) -> Here<'a> {
+    let next = entries.saturating_add(1);
+    let read = of_end("{} in the middle of entry {}", end).number(next);
+    let remedy = Sentence::of("Complete the entry: each has {} numbers.").number(width);
+    Here::new(wanted, read).with(remedy)
 }
 
 /// There are too few weights.
@@ -135,26 +139,28 @@ fn few_weights<'a>(end: Option<&'a [u8]>, have: u64, size: Size) -> Here<'a> {
         line,
         numbers,
     } = size;
-    let wanted = Sentence::of("weight {} of {}, since DIMENSION is {} (line {})")
-        .number(have.saturating_add(1))
-        .number(numbers)
-        .number(nodes)
-        .number(line);
-    let read = of_end("{}, after {} weights", end).number(have);
-    Here::new(wanted, read)
-        .advice(
-            "Add the weights that are missing, or correct DIMENSION or EDGE_WEIGHT_FORMAT: \
-            both say how many there are.",
-        )
-        .beside(line)
+    let next = have.saturating_add(1);
+    let text = "Add the weights that are missing, or correct DIMENSION or EDGE_WEIGHT_FORMAT: \
+        both say how many there are.";
+    Here {
+        wanted: Sentence::of("weight {} of {}, since DIMENSION is {} (line {})").numbers([
+            next, numbers, nodes, line,
+        ]),
+        read: of_end("{}, after {} weights", end).number(have),
+        remedy: Some(Sentence::of(text)),
+        other: Some(line),
+    }
 }
 
 /// A list ends with a keyword.
 fn short_list<'a>(spot: &Spot<'a>, end: Option<&'a [u8]>, section: Keyword) -> Here<'a> {
-    let wanted = Sentence::of("another entry of {}, or the -1 that ends it").keyword(section);
     let text = "Move line {} before {}, or write a line -1 before it if the list is complete.";
-    let remedy = Sentence::of(text).number(spot.number).keyword(section);
-    Here::new(wanted, of_end("{}", end)).with(remedy)
+    Here {
+        wanted: Sentence::of("another entry of {}, or the -1 that ends it").keyword(section),
+        read: of_end("{}", end),
+        remedy: Some(Sentence::of(text).number(spot.number).keyword(section)),
+        other: None,
+    }
 }
 
 /// Something stands where nothing may.
@@ -177,21 +183,24 @@ fn no_word<'a>(spot: &Spot<'a>) -> Here<'a> {
         );
     }
     let bytes = first_token(spot.line);
-    let (read, remedy) = match bytes.first() {
-        Some(byte) if byte.is_ascii_digit() || *byte == b'-' => (
-            "{}, a number outside a section",
+    match bytes.first() {
+        Some(byte) if byte.is_ascii_digit() || *byte == b'-' => no_keyword(
+            Sentence::about("{}, a number outside a section", bytes),
             "Add the section's keyword before line {}, such as NODE_COORD_SECTION, or remove the numbers.",
+            spot.number,
         ),
-        _ => (
-            "{}, which does not begin with one",
+        _ => no_keyword(
+            Sentence::about("{}, which does not begin with one", bytes),
             "Remove line {}, or write COMMENT : before it if it is a comment: there are no other comments.",
+            spot.number,
         ),
-    };
-    Here::new(
-        Sentence::of("a keyword, which begins with a letter"),
-        Sentence::of(read).word(bytes),
-    )
-    .with(Sentence::of(remedy).number(spot.number))
+    }
+}
+
+/// A line begins with no keyword: what was read, and what to do about the line.
+fn no_keyword<'a>(read: Sentence<'a>, remedy: &'static str, line: u64) -> Here<'a> {
+    let wanted = Sentence::of("a keyword, which begins with a letter");
+    Here::new(wanted, read).with(Sentence::of(remedy).number(line))
 }
 
 /// A section with an entry for each node has more.
@@ -199,24 +208,31 @@ fn too_many<'a>(spot: &Spot<'a>, place: Place, size: Size) -> Here<'a> {
     let section = place.section;
     let left = size.numbers.saturating_sub(place.numbers);
     let bytes = token_after(spot.line, left).unwrap_or(first_token(spot.line));
-    let wanted = Sentence::of("a header, another section or EOF: {} has its {} numbers")
-        .keyword(section)
-        .number(size.numbers);
     if left > 0 {
-        let read = Sentence::of("{} after the last number of {}")
-            .word(bytes)
-            .keyword(section);
-        return Here::new(wanted, read).advice(
-            "Remove it. If it is a comment, write it on a line COMMENT : of its own, before the section.",
-        );
+        return behind_last(section, size.numbers, bytes);
     }
     if !begins_entry(spot.line) {
         return no_word(spot);
     }
     if section == Keyword::EdgeWeightSection {
-        return one_weight_more(wanted, bytes, size.line);
+        return one_weight_more(bytes, size);
     }
-    more_entries(spot, wanted, section, size)
+    more_entries(spot, section, size)
+}
+
+/// What may follow a section that has all of its numbers.
+fn after_section<'a>(section: Keyword, numbers: u64) -> Sentence<'a> {
+    Sentence::of("a header, another section or EOF: {} has its {} numbers")
+        .keyword(section)
+        .number(numbers)
+}
+
+/// Something follows the last number of a section on its line.
+fn behind_last(section: Keyword, numbers: u64, bytes: &[u8]) -> Here<'_> {
+    let read = Sentence::about("{} after the last number of {}", bytes).keyword(section);
+    Here::new(after_section(section, numbers), read).advice(
+        "Remove it. If it is a comment, write it on a line COMMENT : of its own, before the section.",
+    )
 }
 
 /// Whether a line begins like a number or with a letter.
@@ -228,34 +244,31 @@ fn begins_entry(line: &[u8]) -> bool {
 }
 
 /// A weight follows the last one.
-fn one_weight_more<'a>(wanted: Sentence<'a>, bytes: &'a [u8], line: u64) -> Here<'a> {
+fn one_weight_more(bytes: &[u8], size: Size) -> Here<'_> {
     let text =
         "Correct DIMENSION (line {}) or EDGE_WEIGHT_FORMAT: both say how many weights there are.";
-    let remedy = Sentence::of(text).number(line);
-    Here::new(wanted, Sentence::of("{}, one more weight").word(bytes))
-        .with(remedy)
-        .beside(line)
+    Here {
+        wanted: after_section(Keyword::EdgeWeightSection, size.numbers),
+        read: Sentence::about("{}, one more weight", bytes),
+        remedy: Some(Sentence::of(text).number(size.line)),
+        other: Some(size.line),
+    }
 }
 
 /// Lines follow the last one of a section.
-fn more_entries<'a>(
-    spot: &Spot<'a>,
-    wanted: Sentence<'a>,
-    section: Keyword,
-    size: Size,
-) -> Here<'a> {
-    let Size { nodes, line, .. } = size;
-    let read = Sentence::of("entry {} of {}, but DIMENSION is {} (line {})")
-        .number(nodes.saturating_add(1))
-        .keyword(section)
-        .number(nodes)
-        .number(line);
+fn more_entries<'a>(spot: &Spot<'a>, section: Keyword, size: Size) -> Here<'a> {
+    let entries = numbers_in(spot.text, section) / entry_width(section);
     let text = "Write DIMENSION : {} on line {}, or remove what is too much, from line {} on.";
-    let remedy = Sentence::of(text)
-        .number(numbers_in(spot.text, section) / entry_width(section))
-        .number(line)
-        .number(spot.number);
-    Here::new(wanted, read).with(remedy).beside(line)
+    Here {
+        wanted: after_section(section, size.numbers),
+        read: size.entry_after(
+            "entry {} of {}, but DIMENSION is {} (line {})",
+            section,
+            size.nodes,
+        ),
+        remedy: Some(Sentence::of(text).numbers([entries, size.line, spot.number])),
+        other: Some(size.line),
+    }
 }
 
 /// Something follows the `-1` that ends a list.

@@ -21,14 +21,15 @@ fn before<'a>(spot: &Spot<'a>, word: Keyword, section: Keyword) -> Here<'a> {
         .keyword(section);
     if let Some(later) = header(spot.text, word) {
         let line = later.line;
-        let read = Sentence::of("{}, and {} only on line {}")
-            .keyword(section)
-            .keyword(word)
-            .number(line);
-        let remedy = Sentence::of("Move line {} before line {}.")
-            .number(line)
-            .number(spot.number);
-        return Here::new(wanted, read).with(remedy).beside(line);
+        return Here {
+            wanted,
+            read: Sentence::of("{}, and {} only on line {}")
+                .keyword(section)
+                .keyword(word)
+                .number(line),
+            remedy: Some(Sentence::of("Move line {} before line {}.").numbers([line, spot.number])),
+            other: Some(line),
+        };
     }
     let read = Sentence::of("{}, and no {} before it")
         .keyword(section)
@@ -41,9 +42,9 @@ fn added_before<'a>(spot: &Spot<'_>, word: Keyword, section: Keyword) -> Sentenc
     let width = entry_width(section);
     let nodes = numbers_in(spot.text, section) / width;
     if word == Keyword::Dimension && width > 1 && nodes > 1 {
-        return Sentence::of("Add the line DIMENSION : {} before line {}, if all nodes are there.")
-            .number(nodes)
-            .number(spot.number);
+        return Sentence::of(
+            "Add the line DIMENSION : {} before line {}, if all nodes are there.",
+        ).numbers([nodes, spot.number]);
     }
     Sentence::of("Add {} before line {}.")
         .text(example_of(spot.kind, word))
@@ -62,9 +63,12 @@ fn at_end<'a>(spot: &Spot<'a>, word: Keyword) -> Here<'a> {
     } else {
         "Add {} before the first section."
     };
-    let wanted = Sentence::of("{}, which the file needs").keyword(word);
-    let remedy = Sentence::of(form).text(example_of(spot.kind, word));
-    Here::new(wanted, read).with(remedy)
+    Here {
+        wanted: Sentence::of("{}, which the file needs").keyword(word),
+        read,
+        remedy: Some(Sentence::of(form).text(example_of(spot.kind, word))),
+        other: None,
+    }
 }
 
 /// What can be added for a header or a section.

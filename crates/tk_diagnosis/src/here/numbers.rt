@@ -1,13 +1,13 @@
 //! Numbers that are none, or that a header or an entry may not have.
 use crate::kind::Kind;
-use crate::lines::{first_token, header, keyword_at, value_behind};
+use crate::lines::{first_token, header_line, keyword_at, tokens_of, value_behind};
 use crate::place::{Place, entry_width, header_number, place_of, uneven_line};
 use crate::repeats::{Repeat, first_repeat};
 use crate::sentence::Sentence;
 use crate::spot::{Here, Spot};
 use std::alloc::AllocError;
 use tk_problem::{CAPACITY_LIMIT, DISTANCE_LIMIT};
-use tk_words::{Keyword, Role, TextKind, blank, decimal, integer, role};
+use tk_words::{Keyword, Role, TextKind, decimal, integer, role};
 
 /// A number of a section that has a fault, with how many numbers of the section stand before it.
 #[derive(Clone, Copy)]
@@ -82,32 +82,33 @@ fn in_header<'a>(spot: &Spot<'a>, word: Keyword, kind: TextKind) -> Here<'a> {
         _ if spot.kind == Kind::Tour => "1 to 1,000,000",
         _ => "2 to 100,000",
     };
-    let value = first_token(value_behind(spot.line, b':'));
-    let text = if kind == TextKind::BadNumber {
+    let form = if kind == TextKind::BadNumber {
         "{}, which is no integer"
     } else {
         "{}"
     };
-    let read = Sentence::of_value(text, value);
-    let wanted = Sentence::of("{} : an integer from {}")
-        .keyword(word)
-        .text(limits);
     let text = "Write an integer from {}, with nothing between its digits.";
-    let remedy = Sentence::of(text).text(limits);
-    Here::new(wanted, read).with(remedy)
+    Here {
+        wanted: Sentence::of("{} : an integer from {}")
+            .keyword(word)
+            .text(limits),
+        read: Sentence::of_value(form, first_token(value_behind(spot.line, b':'))),
+        remedy: Some(Sentence::of(text).text(limits)),
+        other: None,
+    }
 }
 
 /// A section with a table has too many nodes.
 fn too_many_nodes<'a>(spot: &Spot<'a>, word: Keyword) -> Here<'a> {
     let nodes = header_number(spot.text, Keyword::Dimension).unwrap_or(0);
-    let line = header(spot.text, Keyword::Dimension).map_or(1, |found| found.line);
-    let wanted = Sentence::of("at most 5,000 nodes in a problem with {}").keyword(word);
-    let read = Sentence::of("DIMENSION {} (line {})")
-        .number(nodes)
-        .number(line);
-    Here::new(wanted, read)
-        .advice("Use a problem of at most 5,000 nodes, or a TSP with coordinates.")
-        .beside(line)
+    let line = header_line(spot.text, Keyword::Dimension);
+    let text = "Use a problem of at most 5,000 nodes, or a TSP with coordinates.";
+    Here {
+        wanted: Sentence::of("at most 5,000 nodes in a problem with {}").keyword(word),
+        read: Sentence::of("DIMENSION {} (line {})").numbers([nodes, line]),
+        remedy: Some(Sentence::of(text)),
+        other: Some(line),
+    }
 }
 
 /// A number of a section has a fault.
@@ -115,25 +116,22 @@ fn too_many_nodes<'a>(spot: &Spot<'a>, word: Keyword) -> Here<'a> {
 /// # Errors
 /// `AllocError` if memory runs out.
 fn in_section<'a>(spot: &Spot<'a>, place: Place, kind: TextKind) -> Result<Here<'a>, AllocError> {
-    let section = place.section;
     let size = header_number(spot.text, Keyword::Dimension).unwrap_or(0);
-    if let Some(faulty) = faulty_on(spot, place, size, kind) {
-        let index = faulty.index;
-        let entry = Entry {
-            section,
-            index,
-            size,
-        };
-        return Ok(of_entry(spot, entry, faulty.bytes, kind));
+    match faulty_on(spot.line, place, size, kind) {
+        Some(Faulty { index, bytes }) => {
+            let entry = Entry {
+                section: place.section,
+                index,
+                size,
+            };
+            Ok(of_entry(spot, entry, bytes, kind))
+        }
+        None if kind == TextKind::BadNode => named_before(spot, place.section, size),
+        None => Ok(Here::new(
+            Sentence::of("another number"),
+            Sentence::of_word(first_token(spot.line)),
+        )),
     }
-    if kind == TextKind::BadNode {
-        let repeat = first_repeat(spot.alloc, spot.text, section, size)?;
-        return Ok(repeated_node(spot, section, repeat));
-    }
-    Ok(Here::new(
-        Sentence::of("another number"),
-        Sentence::of_word(first_token(spot.line)),
-    ))
 }
 
 /// A number of an entry has a fault of this kind.
@@ -151,12 +149,9 @@ fn of_entry<'a>(spot: &Spot<'a>, entry: Entry, bytes: &'a [u8], kind: TextKind) 
 }
 
 /// The first number on a line with a fault of this kind, other than that of a node that comes again.
-fn faulty_on<'a>(spot: &Spot<'a>, place: Place, size: u64, kind: TextKind) -> Option<Faulty<'a>> {
+fn faulty_on(line: &[u8], place: Place, size: u64, kind: TextKind) -> Option<Faulty<'_>> {
     let mut index = place.numbers;
-    for bytes in spot.line.split(|byte| blank(*byte)) {
-        if bytes.is_empty() {
-            continue;
-        }
+    for bytes in tokens_of(line) {
         if fault_of(place.section, index, bytes, size) == Some(kind) {
             return Some(Faulty { index, bytes });
         }
@@ -209,30 +204,45 @@ fn fault_within(bytes: &[u8], low: u64, high: u64, outside: TextKind) -> Option<
 fn uneven<'a>(entry: Entry, bytes: &'a [u8], line: u64, count: u64) -> Here<'a> {
     let text = "Look at line {} first: it has {} numbers, and an entry of {} has {}.";
     let remedy = Sentence::of(text)
-        .number(line)
-        .number(count)
+        .numbers([line, count])
         .keyword(entry.section)
         .number(entry_width(entry.section));
-    Here::new(entry.wanted(), Sentence::of_word(bytes))
-        .with(remedy)
-        .beside(line)
+    Here {
+        wanted: entry.wanted(),
+        read: Sentence::of_word(bytes),
+        remedy: Some(remedy),
+        other: Some(line),
+    }
 }
 
 /// A node is none of the problem's.
 fn other_node<'a>(spot: &Spot<'a>, entry: Entry, bytes: &'a [u8]) -> Here<'a> {
-    if integer(bytes).is_some_and(|number| number < 1) {
-        let read = Sentence::of("{}, but node numbers start at 1").word(bytes);
-        return Here::new(entry.wanted(), read).advice(
-            "Number the nodes from 1 on, and alike in every section. If they start at 0, add 1 to each.",
-        );
+    match integer(bytes) {
+        Some(number) if number < 1 => below_one(entry, bytes),
+        _ => above_size(entry, bytes, header_line(spot.text, Keyword::Dimension)),
     }
-    let line = header(spot.text, Keyword::Dimension).map_or(1, |found| found.line);
-    let read = Sentence::of("{}, but DIMENSION is {} (line {})")
-        .word(bytes)
-        .number(entry.size)
-        .number(line);
-    let remedy = Sentence::of("Correct the number, or DIMENSION on line {}.").number(line);
-    Here::new(entry.wanted(), read).with(remedy).beside(line)
+}
+
+/// The number of a node is below 1.
+fn below_one<'a>(entry: Entry, bytes: &'a [u8]) -> Here<'a> {
+    Here::new(
+        entry.wanted(),
+        Sentence::about("{}, but node numbers start at 1", bytes),
+    )
+    .advice(
+        "Number the nodes from 1 on, and alike in every section. If they start at 0, add 1 to each.",
+    )
+}
+
+/// The number of a node is above DIMENSION, which a line says.
+fn above_size<'a>(entry: Entry, bytes: &'a [u8], line: u64) -> Here<'a> {
+    let text = "{}, but DIMENSION is {} (line {})";
+    Here {
+        wanted: entry.wanted(),
+        read: Sentence::about(text, bytes).numbers([entry.size, line]),
+        remedy: Some(Sentence::of("Correct the number, or DIMENSION on line {}.").number(line)),
+        other: Some(line),
+    }
 }
 
 /// A number is outside its limits.
@@ -251,14 +261,14 @@ fn outside(entry: Entry, bytes: &[u8]) -> Here<'_> {
 
 /// Something is no number.
 fn no_number(entry: Entry, bytes: &[u8]) -> Here<'_> {
-    let is_place = entry.section == Keyword::NodeCoordSection && entry.index % 3 != 0;
-    if is_place && !bytes.contains(&b',') {
+    let has_comma = bytes.contains(&b',');
+    if !has_comma && entry.section == Keyword::NodeCoordSection && entry.index % 3 != 0 {
         return Here::new(
             entry.wanted(),
-            Sentence::of("{}, which is no number").word(bytes),
+            Sentence::about("{}, which is no number", bytes),
         );
     }
-    let (read, remedy) = if bytes.contains(&b',') {
+    let (read, remedy) = if has_comma {
         (
             "{}, with a comma",
             "Write a decimal point in place of the comma, or a blank where it stands between two numbers.",
@@ -274,22 +284,32 @@ fn no_number(entry: Entry, bytes: &[u8]) -> Here<'_> {
             "Write an integer there, and blanks between the numbers.",
         )
     };
-    Here::new(entry.wanted(), Sentence::of(read).word(bytes)).advice(remedy)
+    Here::new(entry.wanted(), Sentence::about(read, bytes)).advice(remedy)
 }
 
-/// A node comes a second time.
-fn repeated_node<'a>(spot: &Spot<'a>, section: Keyword, repeat: Option<Repeat>) -> Here<'a> {
-    let Some(Repeat { node, first }) = repeat else {
-        return Here::new(
+/// A node of a section comes a second time.
+///
+/// # Errors
+/// `AllocError` if memory runs out.
+fn named_before<'a>(spot: &Spot<'a>, section: Keyword, size: u64) -> Result<Here<'a>, AllocError> {
+    match first_repeat(spot.alloc, spot.text, section, size)? {
+        Some(repeat) => Ok(repeated_node(section, repeat, spot.number)),
+        None => Ok(Here::new(
             Sentence::of("a node of the problem"),
             Sentence::of_word(spot.line),
-        );
-    };
-    let wanted = Sentence::of("each node of {} once").keyword(section);
-    let read = Sentence::of("node {} a second time; line {} has it first")
-        .number(node)
-        .number(first);
+        )),
+    }
+}
+
+/// A node comes a second time, on this line.
+fn repeated_node<'a>(section: Keyword, repeat: Repeat, line: u64) -> Here<'a> {
+    let Repeat { node, first } = repeat;
+    let read = Sentence::of("node {} a second time; line {} has it first").numbers([node, first]);
     let text = "Correct the node number on line {} or on line {}, or remove one of them.";
-    let remedy = Sentence::of(text).number(spot.number).number(first);
-    Here::new(wanted, read).with(remedy).beside(first)
+    Here {
+        wanted: Sentence::of("each node of {} once").keyword(section),
+        read,
+        remedy: Some(Sentence::of(text).numbers([line, first])),
+        other: Some(first),
+    }
 }

@@ -1,7 +1,7 @@
 //! The faults of parameter files.
+use super::words::{or_nearest, remove_either};
 use crate::kind::is_other_key;
-use crate::lines::{first_token, split_word, value_behind};
-use crate::nearest::nearest;
+use crate::lines::{Found, first_token, lines_of, split_word, value_behind};
 use crate::sentence::Sentence;
 use crate::spot::{Here, Spot};
 use std::alloc::AllocError;
@@ -39,16 +39,21 @@ pub fn parameter<'a>(spot: &Spot<'a>, kind: ParamKind) -> Result<Here<'a>, Alloc
         ParamKind::UnknownKey => unknown_key(spot),
         ParamKind::RepeatedKey => Ok(repeated_key(spot)),
         ParamKind::BadValue => Ok(bad_value(spot)),
-        ParamKind::MissingProblem => Ok(Here::new(
-            Sentence::of("PROBLEM_FILE, which the file needs"),
-            Sentence::of("the end of the file, and no PROBLEM_FILE before it"),
-        )),
+        ParamKind::MissingProblem => Ok(no_problem()),
         ParamKind::DollarInName => Ok(Here::new(
             Sentence::of("a file name without $"),
             Sentence::of_word(value_behind(spot.line, b'=')),
         )),
         _ => Ok(too_long(spot)),
     }
+}
+
+/// There is no problem.
+fn no_problem<'a>() -> Here<'a> {
+    Here::new(
+        Sentence::of("PROBLEM_FILE, which the file needs"),
+        Sentence::of("the end of the file, and no PROBLEM_FILE before it"),
+    )
 }
 
 /// A line, a key or the file is too long.
@@ -63,53 +68,51 @@ fn too_long<'a>(spot: &Spot<'a>) -> Here<'a> {
 fn unknown_key<'a>(spot: &Spot<'a>) -> Result<Here<'a>, AllocError> {
     let key = split_word(spot.line).0;
     if key.is_empty() {
-        return Ok(no_key(
-            first_token(spot.line),
-            "{}, which does not begin with a letter",
-        ));
+        let bytes = first_token(spot.line);
+        return Ok(no_key(bytes, "{}, which does not begin with a letter"));
     }
     if is_other_key(key) {
-        let here = no_key(key, "{}, a key of LKH that tourkit does not have");
-        return Ok(here.advice(
-            "Put # before the line, or let examples/lkh-to-tourkit translate the whole file.",
-        ));
+        return Ok(other_key(key));
     }
     let here = no_key(key, "{}, which is none of them");
-    match nearest(spot.alloc, key, NAMES.as_slice())? {
-        Some(name) => Ok(here.with(Sentence::of(MEANT).text(name))),
-        None => Ok(here),
-    }
+    or_nearest(here, spot.alloc, key, NAMES.as_slice(), MEANT)
 }
 
 /// A word that is no key, and what is said of it.
 fn no_key<'a>(bytes: &'a [u8], read: &'static str) -> Here<'a> {
-    Here::new(Sentence::of(KEYS), Sentence::of(read).word(bytes))
+    Here::new(Sentence::of(KEYS), Sentence::about(read, bytes))
+}
+
+/// A key of LKH.
+fn other_key(key: &[u8]) -> Here<'_> {
+    Here::advised(
+        KEYS,
+        Sentence::about("{}, a key of LKH that tourkit does not have", key),
+        "Put # before the line, or let examples/lkh-to-tourkit translate the whole file.",
+    )
 }
 
 /// A key comes a second time.
 fn repeated_key<'a>(spot: &Spot<'a>) -> Here<'a> {
     let word = split_word(spot.line).0;
     let first = first_with(spot.text, word);
-    let read = Sentence::of("{} a second time; line {} has it first")
-        .word(word)
-        .number(first);
-    let remedy = Sentence::of("Remove line {} or line {}, whichever is wrong.")
-        .number(spot.number)
-        .number(first);
-    Here::new(Sentence::of("each key once"), read)
-        .with(remedy)
-        .beside(first)
+    Here {
+        wanted: Sentence::of("each key once"),
+        read: Sentence::about("{} a second time; line {} has it first", word).number(first),
+        remedy: Some(remove_either(spot.number, first)),
+        other: Some(first),
+    }
 }
 
 /// The first line with a key.
 fn first_with(text: &[u8], word: &[u8]) -> u64 {
     let key = key_of(word);
-    let mut count: u64 = 0;
-    for line in text.split(|byte| *byte == b'\n') {
-        count = count.saturating_add(1);
-        if key_of(split_word(line).0) == key {
-            return count;
+    let mut count = 0;
+    for Found { line, bytes } in lines_of(text) {
+        if key_of(split_word(bytes).0) == key {
+            return line;
         }
+        count = line;
     }
     count
 }
@@ -132,25 +135,37 @@ fn values_of(key: Key) -> &'static str {
 
 /// A key has a value that it may not have.
 fn bad_value<'a>(spot: &Spot<'a>) -> Here<'a> {
-    let bytes = value_behind(spot.line, b'=');
-    let Some(key) = key_of(split_word(spot.line).0) else {
-        return Here::new(
+    match key_of(split_word(spot.line).0) {
+        Some(key) => value_of_key(key, value_behind(spot.line, b'=')),
+        None => Here::new(
             Sentence::of("a key and its value"),
             Sentence::of_word(spot.line),
-        );
-    };
+        ),
+    }
+}
+
+/// A value that a key may not have.
+fn value_of_key(key: Key, bytes: &[u8]) -> Here<'_> {
     let values = values_of(key);
-    let wanted = Sentence::of("{}, as the value of {}").text(values).key(key);
-    let here = Here::new(wanted, Sentence::of_value("{}", bytes));
+    Here {
+        wanted: Sentence::of("{}, as the value of {}").text(values).key(key),
+        read: Sentence::of_value("{}", bytes),
+        remedy: Some(other_value(bytes, values)),
+        other: None,
+    }
+}
+
+/// What to write in place of a value, where only these may stand.
+fn other_value<'a>(bytes: &[u8], values: &'static str) -> Sentence<'a> {
     if bytes.is_empty() {
-        here.advice("Write the value after the key, or put # before the line.")
+        Sentence::of("Write the value after the key, or put # before the line.")
     } else if bytes.contains(&b'#') {
-        here.advice(
+        Sentence::of(
             "Remove the comment after the value: a comment is a line of its own, which begins with #.",
         )
     } else if first_token(bytes).len() < bytes.len() {
-        here.advice("Write the value alone: nothing may follow it.")
+        Sentence::of("Write the value alone: nothing may follow it.")
     } else {
-        here.with(Sentence::of("Write {}.").text(values))
+        Sentence::of("Write {}.").text(values)
     }
 }

@@ -1,34 +1,36 @@
 //! Depots, demands, and matrices that are not symmetric.
-use crate::lines::{Found, first_token, header};
+use crate::lines::{Found, first_token, header, tokens_of};
 use crate::place::{header_number, node_index, number_at, place_of};
 use crate::sentence::Sentence;
 use crate::spot::{Here, Spot};
-use tk_words::{Keyword, blank, integer};
+use tk_words::{Keyword, integer};
 
 /// The depot section does not name one node, or the depot has a demand.
 pub fn bad_depot<'a>(spot: &Spot<'a>) -> Here<'a> {
     match place_of(spot.text, spot.number) {
-        Some(place) if place.section == Keyword::DepotSection => {
-            let size = header_number(spot.text, Keyword::Dimension).unwrap_or(0);
-            match bad_on(spot, place.numbers, size) {
-                Some((0, bytes)) => no_depot(bytes, size),
-                Some((_, bytes)) => second_depot(bytes),
-                None => depot_with_demand(spot),
-            }
-        }
+        Some(place) if place.section == Keyword::DepotSection => on_depot(spot, place.numbers),
         _ => depot_with_demand(spot),
     }
 }
 
+/// The same on a line of the depot section, before which so many numbers of the section stand.
+fn on_depot<'a>(spot: &Spot<'a>, begun: u64) -> Here<'a> {
+    let size = header_number(spot.text, Keyword::Dimension).unwrap_or(0);
+    match bad_on(spot.line, begun, size) {
+        Some((0, bytes)) => no_depot(bytes, size),
+        Some((_, bytes)) => second_depot(bytes),
+        None => depot_with_demand(spot),
+    }
+}
+
 /// The number on a line that is no depot, or a second one, with how many stand before it.
-fn bad_on<'a>(spot: &Spot<'a>, begun: u64, size: u64) -> Option<(u64, &'a [u8])> {
+fn bad_on(line: &[u8], begun: u64, size: u64) -> Option<(u64, &[u8])> {
     let mut index = begun;
-    for bytes in spot.line.split(|byte| blank(*byte)) {
+    for bytes in tokens_of(line) {
         let Some(number) = integer(bytes) else {
             continue;
         };
-        let is_node = u64::try_from(number).is_ok_and(|node| 1 <= node && node <= size);
-        if index > 0 && number != -1 || index == 0 && !is_node {
+        if is_bad(index, number, size) {
             return Some((index, bytes));
         }
         index = index.saturating_add(1);
@@ -36,13 +38,24 @@ fn bad_on<'a>(spot: &Spot<'a>, begun: u64, size: u64) -> Option<(u64, &'a [u8])>
     None
 }
 
+/// Whether a number of the depot section is no node where the depot stands, or not -1 after it.
+fn is_bad(index: u64, number: i64, size: u64) -> bool {
+    if index > 0 {
+        return number != -1;
+    }
+    match u64::try_from(number) {
+        Ok(node) => node < 1 || size < node,
+        Err(_) => true,
+    }
+}
+
 /// A number comes after the depot.
 fn second_depot(bytes: &[u8]) -> Here<'_> {
-    Here::new(
-        Sentence::of("-1, since DEPOT_SECTION has its node"),
-        Sentence::of("{}, a second node").word(bytes),
+    Here::advised(
+        "-1, since DEPOT_SECTION has its node",
+        Sentence::about("{}, a second node", bytes),
+        "Keep one depot. If these are coordinates, write the number of the node that has them.",
     )
-    .advice("Keep one depot. If these are coordinates, write the number of the node that has them.")
 }
 
 /// The number of the depot is no node.
@@ -66,13 +79,13 @@ fn depot_with_demand<'a>(spot: &Spot<'a>) -> Here<'a> {
         return Here::new(wanted, Sentence::of_word(spot.line));
     };
     let line = found.line;
-    let read = Sentence::of("the demand {} (line {})")
-        .word(found.bytes)
-        .number(line);
-    let remedy = Sentence::of("Write 0 as its demand on line {}, or name another node on line {}.")
-        .number(line)
-        .number(depot.line);
-    Here::new(wanted, read).with(remedy).beside(line)
+    let text = "Write 0 as its demand on line {}, or name another node on line {}.";
+    Here {
+        wanted,
+        read: Sentence::about("the demand {} (line {})", found.bytes).number(line),
+        remedy: Some(Sentence::of(text).numbers([line, depot.line])),
+        other: Some(line),
+    }
 }
 
 /// The demand of a node.
@@ -87,21 +100,22 @@ pub fn over_capacity<'a>(spot: &Spot<'a>, node: u32) -> Here<'a> {
         Some(found) => (found.line, first_token(found.bytes)),
         None => (1, b"".as_slice()),
     };
-    let wanted = Sentence::of("a demand of at most {}, the CAPACITY (line {})")
-        .word(capacity)
-        .number(line);
+    let text = "a demand of at most {}, the CAPACITY (line {})";
+    let wanted = Sentence::about(text, capacity).number(line);
     let number = u64::from(node);
     let Some(found) = demand_of(spot, node as i64) else {
         return Here::new(wanted, Sentence::of("more for node {}").number(number));
     };
-    let read = Sentence::of("the demand {} of node {} (line {})")
-        .word(found.bytes)
-        .number(number)
-        .number(found.line);
     let text =
         "Correct CAPACITY on line {} or the demand on line {}. No vehicle can serve a node in part.";
-    let remedy = Sentence::of(text).number(line).number(found.line);
-    Here::new(wanted, read).with(remedy).beside(found.line)
+    Here {
+        wanted,
+        read: Sentence::about("the demand {} of node {} (line {})", found.bytes).numbers([
+            number, found.line,
+        ]),
+        remedy: Some(Sentence::of(text).numbers([line, found.line])),
+        other: Some(found.line),
+    }
 }
 
 /// Two entries of a full matrix differ.
@@ -116,25 +130,20 @@ pub fn not_symmetric<'a>(spot: &Spot<'a>, row: u32, column: u32) -> Here<'a> {
             Sentence::of_word(spot.line),
         );
     };
-    let read = Sentence::of("{} (line {})")
-        .word(second.bytes)
-        .number(second.line);
-    Here::new(mirrored(first, u64::from(row), u64::from(column)), read)
-        .advice(
-            "Correct one of the two. If the distances depend on the direction, this is an ATSP, which cannot be used.",
-        )
-        .beside(first.line)
+    let text =
+        "Correct one of the two. If the distances depend on the direction, this is an ATSP, which cannot be used.";
+    Here {
+        wanted: mirrored(first, u64::from(row), u64::from(column)),
+        read: Sentence::about("{} (line {})", second.bytes).number(second.line),
+        remedy: Some(Sentence::of(text)),
+        other: Some(first.line),
+    }
 }
 
 /// The weight that is wanted in the other direction of one in a row and a column.
 fn mirrored<'a>(weight: Found<'a>, row: u64, column: u64) -> Sentence<'a> {
-    Sentence::of("{} in row {}, column {}, as in row {}, column {} (line {})")
-        .word(weight.bytes)
-        .number(column)
-        .number(row)
-        .number(row)
-        .number(column)
-        .number(weight.line)
+    let text = "{} in row {}, column {}, as in row {}, column {} (line {})";
+    Sentence::about(text, weight.bytes).numbers([column, row, row, column, weight.line])
 }
 
 /// An entry of a full matrix. Rows and columns count from 1.

@@ -1,8 +1,10 @@
 //! The faults of solution files.
-use crate::lines::{first_token, split_word, token_after, value_behind};
+use crate::lines::{
+    Found, first_token, length_before, lines_of, split_word, token_after, tokens_of, value_behind,
+};
 use crate::sentence::Sentence;
 use crate::spot::{Here, Spot};
-use tk_words::{TextKind, blank, integer, spelled};
+use tk_words::{TextKind, integer, spelled};
 
 /// How a route is written.
 const ROUTE: &str = "a line Route #K: CUSTOMERS, as in Route #1: 3 1 2";
@@ -27,11 +29,11 @@ pub fn solution<'a>(spot: &Spot<'a>, kind: TextKind) -> Here<'a> {
 
 /// There is no cost.
 fn no_cost<'a>() -> Here<'a> {
-    Here::new(
-        Sentence::of(COST),
+    Here::advised(
+        COST,
         Sentence::of("the end of the file, and no Cost before it"),
+        "Add a line Cost 0 at the end: tourkit checksol then says what the routes cost.",
     )
-    .advice("Add a line Cost 0 at the end: tourkit checksol then says what the routes cost.")
 }
 
 /// The cost is no number, or outside its limits.
@@ -41,54 +43,60 @@ fn bad_cost(value: &[u8]) -> Here<'_> {
     } else {
         Sentence::of_word(value)
     };
-    Here::new(
-        Sentence::of("Cost and an integer that is not negative"),
+    Here::advised(
+        "Cost and an integer that is not negative",
         read,
+        "Write an integer, such as Cost 0: tourkit checksol then says what the routes cost.",
     )
-    .advice("Write an integer, such as Cost 0: tourkit checksol then says what the routes cost.")
 }
 
 /// A line before the cost is neither a route nor the cost.
 fn other_line<'a>(spot: &Spot<'a>) -> Here<'a> {
     let bytes = first_token(spot.line);
-    Here::new(
-        Sentence::of("a line Route #K: CUSTOMERS, or the line Cost N"),
-        Sentence::of("{}, which begins neither").word(bytes),
-    )
-    .advice(if integer(bytes).is_some() {
+    let remedy = if integer(bytes).is_some() {
         "A route is one line: join this one to the line before, or write Route #K: in front of it."
     } else {
         "Remove the line, or move it after the line Cost N."
-    })
+    };
+    Here::advised(
+        "a line Route #K: CUSTOMERS, or the line Cost N",
+        Sentence::about("{}, which begins neither", bytes),
+        remedy,
+    )
 }
 
 /// Something follows the cost.
 fn after_cost<'a>(spot: &Spot<'a>, word: &'a [u8]) -> Here<'a> {
     let line = first_cost(spot.text).unwrap_or(1);
     if line == spot.number {
-        let rest = token_after(value_behind(spot.line, b':'), 1).unwrap_or(b"".as_slice());
-        return Here::new(
-            Sentence::of("nothing after the number of Cost"),
-            Sentence::of_word(rest),
-        )
-        .advice("Remove it, or move it to a line of its own after the cost.");
+        return behind_cost(spot.line);
     }
     let text = "no more routes and no other cost after the line Cost, which is line {}";
     let wanted = Sentence::of(text).number(line);
     let text = "Move line {} after the last route, and keep one such line.";
-    let remedy = Sentence::of(text).number(line);
-    Here::new(wanted, Sentence::of_word(word))
-        .with(remedy)
-        .beside(line)
+    Here {
+        wanted,
+        read: Sentence::of_word(word),
+        remedy: Some(Sentence::of(text).number(line)),
+        other: Some(line),
+    }
+}
+
+/// Something follows the cost on its line.
+fn behind_cost(line: &[u8]) -> Here<'_> {
+    let rest = token_after(value_behind(line, b':'), 1).unwrap_or(b"".as_slice());
+    Here::advised(
+        "nothing after the number of Cost",
+        Sentence::of_word(rest),
+        "Remove it, or move it to a line of its own after the cost.",
+    )
 }
 
 /// The line of the cost.
 fn first_cost(text: &[u8]) -> Option<u64> {
-    let mut count: u64 = 0;
-    for line in text.split(|byte| *byte == b'\n') {
-        count = count.saturating_add(1);
-        if spelled(split_word(line).0, b"COST") {
-            return Some(count);
+    for Found { line, bytes } in lines_of(text) {
+        if spelled(split_word(bytes).0, b"COST") {
+            return Some(line);
         }
     }
     None
@@ -96,14 +104,11 @@ fn first_cost(text: &[u8]) -> Option<u64> {
 
 /// A route has another form, or a customer is no number or outside its limits.
 fn in_route<'a>(spot: &Spot<'a>, kind: TextKind) -> Here<'a> {
-    let Some(place) = spot.line.iter().position(|byte| *byte == b':') else {
+    let (_, rest) = spot.line.split_at(length_before(spot.line, b':'));
+    if rest.is_empty() {
         return other_route("a route without a colon");
-    };
-    let customers = match spot.line.split_at_checked(place) {
-        Some((_, rest)) => value_behind(rest, b':'),
-        None => spot.line,
-    };
-    if let Some(bytes) = bad_customer(customers, kind) {
+    }
+    if let Some(bytes) = bad_customer(value_behind(rest, b':'), kind) {
         return other_customer(bytes);
     }
     if kind == TextKind::OutOfLimit {
@@ -117,37 +122,38 @@ fn in_route<'a>(spot: &Spot<'a>, kind: TextKind) -> Here<'a> {
 
 /// A customer is no number or outside its limits.
 fn other_customer(bytes: &[u8]) -> Here<'_> {
-    Here::new(
-        Sentence::of("a customer, an integer from 0 to 4,294,967,295"),
+    Here::advised(
+        "a customer, an integer from 0 to 4,294,967,295",
         Sentence::of_word(bytes),
-    )
-    .advice(
         "Correct the number. Customers are numbered from 1, without the depot, with blanks between them.",
     )
 }
 
 /// A route has another form.
 fn other_route<'a>(read: &'static str) -> Here<'a> {
-    Here::new(Sentence::of(ROUTE), Sentence::of(read)).advice(
+    Here::advised(
+        ROUTE,
+        Sentence::of(read),
         "Write Route #, a number, a colon, and then the customers.",
     )
 }
 
 /// The first customer that has a fault of this kind.
 fn bad_customer(customers: &[u8], kind: TextKind) -> Option<&[u8]> {
-    for token in customers.split(|byte| blank(*byte)) {
-        if token.is_empty() {
-            continue;
-        }
-        let found = match integer(token) {
-            _ if token.len() > 64 => TextKind::TooLong,
-            None => TextKind::BadNumber,
-            Some(number) if number < 0 || number > u32::MAX as i64 => TextKind::OutOfLimit,
-            Some(_) => continue,
-        };
-        if found == kind {
+    for token in tokens_of(customers) {
+        if fault_of(token) == Some(kind) {
             return Some(token);
         }
     }
     None
+}
+
+/// What is wrong with a customer.
+fn fault_of(token: &[u8]) -> Option<TextKind> {
+    match integer(token) {
+        _ if token.len() > 64 => Some(TextKind::TooLong),
+        None => Some(TextKind::BadNumber),
+        Some(number) if number < 0 || number > u32::MAX as i64 => Some(TextKind::OutOfLimit),
+        Some(_) => None,
+    }
 }

@@ -1,6 +1,6 @@
 //! What TSPLIB has and tourkit does not read.
 use crate::kind::Kind;
-use crate::lines::{first_token, header, keyword_at, value_behind};
+use crate::lines::{first_token, header, header_line, keyword_at, value_behind};
 use crate::sentence::Sentence;
 use crate::spot::{Here, Spot};
 use tk_words::{Keyword, spelled};
@@ -69,11 +69,11 @@ fn not_supported<'a>(word: Keyword) -> Here<'a> {
 fn other_type<'a>(spot: &Spot<'a>) -> Here<'a> {
     let value = first_token(value_behind(spot.line, b':'));
     if spelled(value, b"TOUR") {
-        return Here::new(
-            Sentence::of("a problem file, with TYPE : TSP or TYPE : CVRP"),
+        return Here::advised(
+            "a problem file, with TYPE : TSP or TYPE : CVRP",
             Sentence::of("TYPE : TOUR, so this is a tour file"),
-        )
-        .advice("Give the problem first and the tour second: tourkit check PROBLEM TOUR.");
+            "Give the problem first and the tour second: tourkit check PROBLEM TOUR.",
+        );
     }
     valued(
         spot,
@@ -85,11 +85,11 @@ fn other_type<'a>(spot: &Spot<'a>) -> Here<'a> {
 /// A header has a value that is not supported.
 fn valued<'a>(spot: &Spot<'a>, wanted: &'static str, remedy: &'static str) -> Here<'a> {
     let value = first_token(value_behind(spot.line, b':'));
-    Here::new(
-        Sentence::of(wanted),
+    Here::advised(
+        wanted,
         Sentence::of_value("{}, which is not supported", value),
+        remedy,
     )
-    .advice(remedy)
 }
 
 /// A word stands where other ones are read.
@@ -99,29 +99,28 @@ fn other_word<'a>(
     read: &'static str,
     remedy: &'static str,
 ) -> Here<'a> {
-    Here::new(Sentence::of(wanted), Sentence::of(read).keyword(word)).advice(remedy)
+    Here::advised(wanted, Sentence::of(read).keyword(word), remedy)
 }
 
 /// A section of a CVRP stands in a TSP.
 fn for_cvrp<'a>(spot: &Spot<'a>, word: Keyword) -> Here<'a> {
-    let line = header(spot.text, Keyword::Type).map_or(1, |found| found.line);
-    let read = Sentence::of("{}, which is for a CVRP, but TYPE is TSP (line {})")
-        .keyword(word)
-        .number(line);
+    let line = header_line(spot.text, Keyword::Type);
     let text = "Write TYPE : CVRP on line {}, or remove the section with its lines.";
-    let remedy = Sentence::of(text).number(line);
-    Here::new(Sentence::of("a section of a TSP"), read)
-        .with(remedy)
-        .beside(line)
+    Here {
+        wanted: Sentence::of("a section of a TSP"),
+        read: Sentence::of("{}, which is for a CVRP, but TYPE is TSP (line {})")
+            .keyword(word)
+            .number(line),
+        remedy: Some(Sentence::of(text).number(line)),
+        other: Some(line),
+    }
 }
 
 /// Weights stand in a problem that has none.
 fn without_weights<'a>(spot: &Spot<'a>) -> Here<'a> {
-    Here::new(
-        Sentence::of("no weights, which the headers do not announce"),
+    Here::advised(
+        "no weights, which the headers do not announce",
         weights_without_type(spot.text),
-    )
-    .advice(
         "Write EDGE_WEIGHT_TYPE : EXPLICIT and the format of the weights, or remove the section with its lines.",
     )
 }
@@ -131,9 +130,11 @@ fn weights_without_type(text: &[u8]) -> Sentence<'_> {
     if let Some(found) = header(text, Keyword::EdgeWeightType) {
         let value = first_token(found.bytes);
         if !spelled(value, b"EXPLICIT") {
-            return Sentence::of("EDGE_WEIGHT_SECTION, but EDGE_WEIGHT_TYPE is {} (line {})")
-                .word(value)
-                .number(found.line);
+            return Sentence::about(
+                "EDGE_WEIGHT_SECTION, but EDGE_WEIGHT_TYPE is {} (line {})",
+                value,
+            )
+            .number(found.line);
         }
     }
     Sentence::of("EDGE_WEIGHT_SECTION, but EDGE_WEIGHT_FORMAT is FUNCTION")

@@ -1,12 +1,12 @@
 //! Words that are none, come twice or are too long.
 use crate::kind::Kind;
-use crate::lines::{first_token, header, keyword_at, split_word, value_behind};
+use crate::lines::{header_line, keyword_at, split_word, tokens_of, value_behind};
 use crate::nearest::nearest;
 use crate::sentence::Sentence;
 use crate::spot::{Here, Spot};
-use std::alloc::AllocError;
+use std::alloc::{AllocError, Global};
 use tk_problem::TEXT_LIMIT;
-use tk_words::{Keyword, Role, blank, role};
+use tk_words::{Keyword, Role, role};
 
 /// The keywords for which another word may be meant.
 static KEYWORDS: [&str; 15] = [
@@ -48,34 +48,57 @@ pub fn unknown<'a>(spot: &Spot<'a>) -> Result<Here<'a>, AllocError> {
     let bytes = split_word(spot.line).0;
     let here = Here::new(
         Sentence::of(keywords(spot.kind)),
-        Sentence::of("{}, which is none of them").word(bytes),
+        Sentence::about("{}, which is none of them", bytes),
     );
-    match nearest(spot.alloc, bytes, KEYWORDS.as_slice())? {
-        Some(name) => Ok(here.with(Sentence::of(MEANT).text(name))),
+    or_nearest(here, spot.alloc, bytes, KEYWORDS.as_slice(), MEANT)
+}
+
+/// With what to do if one of the names is meant by a word: a remedy whose text is that name.
+///
+/// # Errors
+/// `AllocError` if memory runs out.
+pub fn or_nearest<'a>(
+    here: Here<'a>,
+    alloc: Global,
+    word: &[u8],
+    names: &[&'static str],
+    remedy: &'static str,
+) -> Result<Here<'a>, AllocError> {
+    match nearest(alloc, word, names)? {
+        Some(name) => Ok(here.with(Sentence::of(remedy).text(name))),
         None => Ok(here),
     }
 }
 
 /// A header or a section comes a second time.
 pub fn repeated<'a>(spot: &Spot<'a>) -> Here<'a> {
-    let line = spot.number;
     let word = keyword_at(spot.line).unwrap_or(Keyword::Name);
-    let first = header(spot.text, word).map_or(1, |found| found.line);
+    let first = header_line(spot.text, word);
     let read = Sentence::of("{} a second time; line {} has it first")
         .keyword(word)
         .number(first);
-    let remedy = if role(word) == Role::BeginsSection {
-        Sentence::of("Keep one of the sections that begin on lines {} and {}.")
-            .number(first)
-            .number(line)
+    Here {
+        wanted: Sentence::of("each header and each section once"),
+        read,
+        remedy: Some(one_of_two(word, first, spot.number)),
+        other: Some(first),
+    }
+}
+
+/// What to do about a header or a section that two lines have.
+fn one_of_two<'a>(word: Keyword, first: u64, second: u64) -> Sentence<'a> {
+    if role(word) == Role::BeginsSection {
+        Sentence::of("Keep one of the sections that begin on lines {} and {}.").numbers([
+            first, second,
+        ])
     } else {
-        Sentence::of("Remove line {} or line {}, whichever is wrong.")
-            .number(line)
-            .number(first)
-    };
-    Here::new(Sentence::of("each header and each section once"), read)
-        .with(remedy)
-        .beside(first)
+        remove_either(second, first)
+    }
+}
+
+/// What to do about a line that says what another one says.
+pub fn remove_either<'a>(line: u64, other: u64) -> Sentence<'a> {
+    Sentence::of("Remove line {} or line {}, whichever is wrong.").numbers([line, other])
 }
 
 /// The file, a line, a word or a number is too long.
@@ -118,8 +141,8 @@ fn long<'a>(wanted: &'static str, read: &'static str, length: usize) -> Here<'a>
 
 /// The length of the longest token.
 fn longest(line: &[u8]) -> usize {
-    let mut longest = first_token(line).len();
-    for token in line.split(|byte| blank(*byte)) {
+    let mut longest = 0;
+    for token in tokens_of(line) {
         longest = longest.max(token.len());
     }
     longest
