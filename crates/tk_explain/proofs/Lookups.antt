@@ -5,7 +5,7 @@ use Rattle.std.proofs.lemmas.List.{length-map}
 use Rattle.std.proofs.lemmas.Option.{slice_get-get_or, slice_get-map, slice_get_within}
 
 -- a place that has a name is within the table
-pub has_row : {X Y : Type 0} (name : X → Y) (rows : List X) (names : List Y) (i : ℕ) (y : Y) → map name rows ≡ names →
+has_row : {X Y : Type 0} (name : X → Y) (rows : List X) (names : List Y) (i : ℕ) (y : Y) → map name rows ≡ names →
     slice_get names i ≡ Some y → i < length rows
 has_row name rows names i y e is =
     subst (λ n. i < n) (ap length (sym e) ∙ length-map rows name) (slice_get_within names i y is)

@@ -34,10 +34,10 @@ fn is_fault(what: &str) -> bool
 /// Adds all faults with a number or a name, with a blank line between them.
 fn add_all(page: &mut Page, what: &str) -> Result<(), AllocError> {
     let mut is_first = true;
-    for fault in faults() {
+    for fault in faults().iter() {
         if is_named(fault, what) {
             if !is_first {
-                page.line(&"")?;
+                page.begin()?;
             }
             add(page, fault)?;
             is_first = false;
@@ -92,7 +92,7 @@ fn same_word(bytes: &[u8], text: &[u8]) -> bool
 /// Adds a fault.
 fn add(page: &mut Page, fault: &FaultText) -> Result<(), AllocError> {
     page.line(fault)?;
-    page.labelled(MEANING, &fault.when)?;
-    page.labelled(CAUSES, &fault.causes)?;
-    page.labelled(REMEDY, &fault.remedy)
+    page.labelled(MEANING, fault.when)?;
+    page.labelled(CAUSES, fault.causes)?;
+    page.labelled(REMEDY, fault.remedy)
 }

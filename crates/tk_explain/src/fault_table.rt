@@ -8,31 +8,23 @@ use tk_diagnosis::FileFault;
 use tk_params::ParamKind;
 use tk_words::TextKind;
 
-/// The files that have a fault.
-#[derive(Clone, Copy, PartialEq, Eq)]
-pub enum Files {
-    Texts,
-    Parameters,
-    InitialTours,
-}
+/// The files that have the faults of texts.
+const TEXTS: &str = "a problem, tour or solution file";
 
-impl fmt::Display for Files {
-    fn fmt<W: fmt::Write>(&self, f: &mut fmt::Formatter<W>) -> fmt::Result {
-        f.write_str(match self {
-            Files::Texts => "a problem, tour or solution file",
-            Files::Parameters => "a parameter file",
-            Files::InitialTours => "an initial tour",
-        })
-    }
-}
+/// Those that have the faults of parameters.
+const PARAMETERS: &str = "a parameter file";
+
+/// Those that have the faults of an initial tour.
+const INITIAL_TOURS: &str = "an initial tour";
 
 /// A fault, as the documents list it.
 #[derive(Clone, Copy)]
 pub struct FaultText {
-    pub files: Files,
+    /// The files that have it.
+    pub files: &'static str,
     pub number: &'static str,
     pub name: &'static str,
-    /// What follows the name, after a blank; empty for most.
+    /// What follows the name, with the blank before it; empty for most.
     pub values: &'static str,
     /// When a file has it.
     pub when: &'static str,
@@ -52,254 +44,302 @@ impl fmt::Display for FaultText {
             values,
             ..
         } = *self;
-        let blank = if values.is_empty() { "" } else { " " };
-        write!(f, "{number} {name}{blank}{values}, in {files}")
+        write!(f, "{number} {name}{values}, in {files}")
     }
 }
 
-/// The faults of problem, tour and solution files, then those of parameter files and those of an initial tour.
-const FAULTS: [FaultText; 26] = [
-    FaultText {
-        files: Files::Texts,
-        number: "1",
-        name: "UnknownKeyword",
-        values: "",
-        when: "a line starts with a word that is not a keyword of the format",
-        causes: "a misspelt keyword, a comment without COMMENT, or a file of another kind",
-        remedy: "Correct the word, put COMMENT : before it, or remove the line.",
-    },
-    FaultText {
-        files: Files::Texts,
-        number: "2",
-        name: "Repeated",
-        values: "",
-        when: "a header or section appears a second time (COMMENT may)",
-        causes: "two files in one, or a new line beside the old one",
-        remedy: "Keep the one that is right, and remove the other.",
-    },
-    FaultText {
-        files: Files::Texts,
-        number: "3",
-        name: "Missing",
-        values: "KEYWORD",
-        when: "a required header or section is missing",
-        causes: "a header that was left out, a section that stands before its headers, or a file that was cut off",
-        remedy: "Add the header or section. TYPE and DIMENSION stand before every section.",
-    },
-    FaultText {
-        files: Files::Texts,
-        number: "4",
-        name: "Unsupported",
-        values: "",
-        when: "a keyword or value of TSPLIB that tourkit does not support",
-        causes: "a tour in place of a problem, a problem of another type (ATSP), or other distances (GEO)",
-        remedy: "Give the files in the right order. Write other distances, if they are symmetric, as explicit weights.",
-    },
-    FaultText {
-        files: Files::Texts,
-        number: "5",
-        name: "BadNumber",
-        values: "",
-        when: "something that should be a number is not",
-        causes: "a decimal comma, a unit, a fraction where an integer is wanted, or a column too many or too few",
-        remedy: "Write an integer; coordinates may have a decimal point and an exponent, as in 12.5 or 1.25e1.",
-    },
-    FaultText {
-        files: Files::Texts,
-        number: "6",
-        name: "OutOfLimit",
-        values: "",
-        when: "a number, size or count is outside its limits",
-        causes: "a negative number where none may be, a problem that is too large, or too small a unit",
-        remedy: "Use a number within its limits, or a smaller problem.",
-    },
-    FaultText {
-        files: Files::Texts,
-        number: "7",
-        name: "BadNode",
-        values: "",
-        when: "a node number is not in 1 to DIMENSION, or appears a second time",
-        causes: "nodes that are numbered from 0, a DIMENSION that is too small, or a line that is there twice",
-        remedy: "Number the nodes from 1 to DIMENSION, each once.",
-    },
-    FaultText {
-        files: Files::Texts,
-        number: "8",
-        name: "NotSymmetric",
-        values: "i j",
-        when: "in a full matrix, the entry in row j and column i differs from the one in row i and column j",
-        causes: "an asymmetric problem (ATSP), or one wrong entry",
-        remedy: "Correct the entry that is wrong. An asymmetric problem cannot be used.",
-    },
-    FaultText {
-        files: Files::Texts,
-        number: "9",
-        name: "Truncated",
-        values: "",
-        when: "a section ends before its last number",
-        causes: "a DIMENSION that is too large, a number or a line that is missing, or a file that was cut off",
-        remedy: "Make DIMENSION the number of nodes, or add what is missing.",
-    },
-    FaultText {
-        files: Files::Texts,
-        number: "10",
-        name: "TrailingData",
-        values: "",
-        when: "there is something where nothing may follow",
-        causes: "a DIMENSION that is too small, a number too many, or a comment without COMMENT",
-        remedy: "Make DIMENSION the number of nodes, or remove what is too much.",
-    },
-    FaultText {
-        files: Files::Texts,
-        number: "11",
-        name: "BadDepot",
-        values: "",
-        when: "the depot section does not name exactly one node, or that node has a demand",
-        causes: "several depots, coordinates in place of a node number, or a depot with a demand",
-        remedy: "Name one node in DEPOT_SECTION, then -1, and give it the demand 0.",
-    },
-    FaultText {
-        files: Files::Texts,
-        number: "12",
-        name: "DemandOverCapacity",
-        values: "node",
-        when: "a node has a larger demand than a vehicle can carry",
-        causes: "a wrong CAPACITY, or demands in another unit",
-        remedy: "Correct CAPACITY or the demand, or divide the demand among several nodes.",
-    },
-    FaultText {
-        files: Files::Texts,
-        number: "13",
-        name: "TooLong",
-        values: "",
-        when: "a file, line, word, number or name exceeds its maximum length",
-        causes: "a missing line feed or blank, or a file that is not a text",
-        remedy: "Shorten it, or put a line feed or a blank where it is missing.",
-    },
-    FaultText {
-        files: Files::Texts,
-        number: "14",
-        name: "Read",
-        values: "",
-        when: "the file could not be read to its end",
-        causes: "a directory in place of a file, or a disk or network that failed",
-        remedy: "Name a file in place of a directory, or copy the file anew.",
-    },
-    FaultText {
-        files: Files::Texts,
-        number: "15",
-        name: "NoMemory",
-        values: "",
-        when: "out of memory",
-        causes: "a limit on memory, or a large problem on a small machine",
-        remedy: "Raise the limit, end other programs, or use a smaller problem.",
-    },
-    FaultText {
-        files: Files::Parameters,
-        number: "1",
-        name: "UnknownKey",
-        values: "",
-        when: "a line does not start with a key of tourkit",
-        causes: "a key of LKH that tourkit does not have, a misspelt key, or a file of another kind",
-        remedy: "Correct the key, or put # before the line. For a file of LKH, use examples/lkh-to-tourkit.",
-    },
-    FaultText {
-        files: Files::Parameters,
-        number: "2",
-        name: "RepeatedKey",
-        values: "",
-        when: "a key appears a second time (COMMENT may)",
-        causes: "a new line beside the old one",
-        remedy: "Keep the line that is right, and remove the other.",
-    },
-    FaultText {
-        files: Files::Parameters,
-        number: "3",
-        name: "BadValue",
-        values: "",
-        when: "a file name is empty or not UTF-8, or the key may not have the value",
-        causes: "a number outside its limits, a fraction, or a comment after the value",
-        remedy: "Write a value that the key may have, and nothing after it.",
-    },
-    FaultText {
-        files: Files::Parameters,
-        number: "4",
-        name: "MissingProblem",
-        values: "",
-        when: "there is no PROBLEM_FILE",
-        causes: "an empty file, or EOF before the key",
-        remedy: "Add a line PROBLEM_FILE = NAME, with the name of the problem's file.",
-    },
-    FaultText {
-        files: Files::Parameters,
-        number: "5",
-        name: "DollarInName",
-        values: "",
-        when: "there is a $ in a file name",
-        causes: "a file of LKH, which puts the length of the tour in place of $",
-        remedy: "Write the name without $. For a file of LKH, use examples/lkh-to-tourkit.",
-    },
-    FaultText {
-        files: Files::Parameters,
-        number: "6",
-        name: "TooLong",
-        values: "",
-        when: "a line of more than 4,096 bytes, a key of more than 64, or a file of more than 1,048,576",
-        causes: "a missing line feed, or a file of another kind",
-        remedy: "Shorten the line, or give the parameter file.",
-    },
-    FaultText {
-        files: Files::Parameters,
-        number: "7",
-        name: "Read",
-        values: "",
-        when: "the file could not be read to its end",
-        causes: "a directory in place of a file, or a disk or network that failed",
-        remedy: "Name a file in place of a directory, or copy the file anew.",
-    },
-    FaultText {
-        files: Files::Parameters,
-        number: "8",
-        name: "NoMemory",
-        values: "",
-        when: "out of memory",
-        causes: "a limit on memory",
-        remedy: "Raise the limit, or end other programs.",
-    },
-    FaultText {
-        files: Files::InitialTours,
-        number: "1",
-        name: "WrongCount",
-        values: "",
-        when: "the initial tour does not have as many cities as the problem",
-        causes: "the tour of another problem, or a city that is missing or there twice",
-        remedy: "Give a tour of this problem as INITIAL_TOUR_FILE, or leave the key out.",
-    },
-    FaultText {
-        files: Files::InitialTours,
-        number: "2",
-        name: "OutOfRange",
-        values: "place",
-        when: "the city at this place of the initial tour is not a city of the problem",
-        causes: "cities that are numbered from 0, or the tour of another problem",
-        remedy: "Number the cities from 1, as the problem does.",
-    },
-    FaultText {
-        files: Files::InitialTours,
-        number: "3",
-        name: "RepeatedCity",
-        values: "place",
-        when: "the city at this place of the initial tour has been in it before",
-        causes: "the first city written again at the end, or a line that is there twice",
-        remedy: "List each city once; the way back to the first one is not written.",
-    },
-];
+static UNKNOWN_KEYWORD: FaultText = FaultText {
+    files: TEXTS,
+    number: "1",
+    name: "UnknownKeyword",
+    values: "",
+    when: "a line starts with a word that is not a keyword of the format",
+    causes: "a misspelt keyword, a comment without COMMENT, or a file of another kind",
+    remedy: "Correct the word, put COMMENT : before it, or remove the line.",
+};
 
-/// The table, row by row.
-pub fn faults() -> &'static [FaultText]
-    ensures { map named result.now ≡ faults }
+static REPEATED: FaultText = FaultText {
+    files: TEXTS,
+    number: "2",
+    name: "Repeated",
+    values: "",
+    when: "a header or section appears a second time (COMMENT may)",
+    causes: "two files in one, or a new line beside the old one",
+    remedy: "Keep the one that is right, and remove the other.",
+};
+
+static MISSING: FaultText = FaultText {
+    files: TEXTS,
+    number: "3",
+    name: "Missing",
+    values: " KEYWORD",
+    when: "a required header or section is missing",
+    causes: "a header that was left out, a section that stands before its headers, or a file that was cut off",
+    remedy: "Add the header or section. TYPE and DIMENSION stand before every section.",
+};
+
+static UNSUPPORTED: FaultText = FaultText {
+    files: TEXTS,
+    number: "4",
+    name: "Unsupported",
+    values: "",
+    when: "a keyword or value of TSPLIB that tourkit does not support",
+    causes: "a tour in place of a problem, a problem of another type (ATSP), or other distances (GEO)",
+    remedy: "Give the files in the right order. Write other distances, if they are symmetric, as explicit weights.",
+};
+
+static BAD_NUMBER: FaultText = FaultText {
+    files: TEXTS,
+    number: "5",
+    name: "BadNumber",
+    values: "",
+    when: "something that should be a number is not",
+    causes: "a decimal comma, a unit, a fraction where an integer is wanted, or a column too many or too few",
+    remedy: "Write an integer; coordinates may have a decimal point and an exponent, as in 12.5 or 1.25e1.",
+};
+
+static OUT_OF_LIMIT: FaultText = FaultText {
+    files: TEXTS,
+    number: "6",
+    name: "OutOfLimit",
+    values: "",
+    when: "a number, size or count is outside its limits",
+    causes: "a negative number where none may be, a problem that is too large, or too small a unit",
+    remedy: "Use a number within its limits, or a smaller problem.",
+};
+
+static BAD_NODE: FaultText = FaultText {
+    files: TEXTS,
+    number: "7",
+    name: "BadNode",
+    values: "",
+    when: "a node number is not in 1 to DIMENSION, or appears a second time",
+    causes: "nodes that are numbered from 0, a DIMENSION that is too small, or a line that is there twice",
+    remedy: "Number the nodes from 1 to DIMENSION, each once.",
+};
+
+static NOT_SYMMETRIC: FaultText = FaultText {
+    files: TEXTS,
+    number: "8",
+    name: "NotSymmetric",
+    values: " i j",
+    when: "in a full matrix, the entry in row j and column i differs from the one in row i and column j",
+    causes: "an asymmetric problem (ATSP), or one wrong entry",
+    remedy: "Correct the entry that is wrong. An asymmetric problem cannot be used.",
+};
+
+static TRUNCATED: FaultText = FaultText {
+    files: TEXTS,
+    number: "9",
+    name: "Truncated",
+    values: "",
+    when: "a section ends before its last number",
+    causes: "a DIMENSION that is too large, a number or a line that is missing, or a file that was cut off",
+    remedy: "Make DIMENSION the number of nodes, or add what is missing.",
+};
+
+static TRAILING_DATA: FaultText = FaultText {
+    files: TEXTS,
+    number: "10",
+    name: "TrailingData",
+    values: "",
+    when: "there is something where nothing may follow",
+    causes: "a DIMENSION that is too small, a number too many, or a comment without COMMENT",
+    remedy: "Make DIMENSION the number of nodes, or remove what is too much.",
+};
+
+static BAD_DEPOT: FaultText = FaultText {
+    files: TEXTS,
+    number: "11",
+    name: "BadDepot",
+    values: "",
+    when: "the depot section does not name exactly one node, or that node has a demand",
+    causes: "several depots, coordinates in place of a node number, or a depot with a demand",
+    remedy: "Name one node in DEPOT_SECTION, then -1, and give it the demand 0.",
+};
+
+static DEMAND_OVER_CAPACITY: FaultText = FaultText {
+    files: TEXTS,
+    number: "12",
+    name: "DemandOverCapacity",
+    values: " node",
+    when: "a node has a larger demand than a vehicle can carry",
+    causes: "a wrong CAPACITY, or demands in another unit",
+    remedy: "Correct CAPACITY or the demand, or divide the demand among several nodes.",
+};
+
+static TOO_LONG: FaultText = FaultText {
+    files: TEXTS,
+    number: "13",
+    name: "TooLong",
+    values: "",
+    when: "a file, line, word, number or name exceeds its maximum length",
+    causes: "a missing line feed or blank, or a file that is not a text",
+    remedy: "Shorten it, or put a line feed or a blank where it is missing.",
+};
+
+static READ: FaultText = FaultText {
+    files: TEXTS,
+    number: "14",
+    name: "Read",
+    values: "",
+    when: "the file could not be read to its end",
+    causes: "a directory in place of a file, or a disk or network that failed",
+    remedy: "Name a file in place of a directory, or copy the file anew.",
+};
+
+static NO_MEMORY: FaultText = FaultText {
+    files: TEXTS,
+    number: "15",
+    name: "NoMemory",
+    values: "",
+    when: "out of memory",
+    causes: "a limit on memory, or a large problem on a small machine",
+    remedy: "Raise the limit, end other programs, or use a smaller problem.",
+};
+
+static UNKNOWN_KEY: FaultText = FaultText {
+    files: PARAMETERS,
+    number: "1",
+    name: "UnknownKey",
+    values: "",
+    when: "a line does not start with a key of tourkit",
+    causes: "a key of LKH that tourkit does not have, a misspelt key, or a file of another kind",
+    remedy: "Correct the key, or put # before the line. For a file of LKH, use examples/lkh-to-tourkit.",
+};
+
+static REPEATED_KEY: FaultText = FaultText {
+    files: PARAMETERS,
+    number: "2",
+    name: "RepeatedKey",
+    values: "",
+    when: "a key appears a second time (COMMENT may)",
+    causes: "a new line beside the old one",
+    remedy: "Keep the line that is right, and remove the other.",
+};
+
+static BAD_VALUE: FaultText = FaultText {
+    files: PARAMETERS,
+    number: "3",
+    name: "BadValue",
+    values: "",
+    when: "a file name is empty or not UTF-8, or the key may not have the value",
+    causes: "a number outside its limits, a fraction, or a comment after the value",
+    remedy: "Write a value that the key may have, and nothing after it.",
+};
+
+static MISSING_PROBLEM: FaultText = FaultText {
+    files: PARAMETERS,
+    number: "4",
+    name: "MissingProblem",
+    values: "",
+    when: "there is no PROBLEM_FILE",
+    causes: "an empty file, or EOF before the key",
+    remedy: "Add a line PROBLEM_FILE = NAME, with the name of the problem's file.",
+};
+
+static DOLLAR_IN_NAME: FaultText = FaultText {
+    files: PARAMETERS,
+    number: "5",
+    name: "DollarInName",
+    values: "",
+    when: "there is a $ in a file name",
+    causes: "a file of LKH, which puts the length of the tour in place of $",
+    remedy: "Write the name without $. For a file of LKH, use examples/lkh-to-tourkit.",
+};
+
+static PARAMETERS_TOO_LONG: FaultText = FaultText {
+    files: PARAMETERS,
+    number: "6",
+    name: "TooLong",
+    values: "",
+    when: "a line of more than 4,096 bytes, a key of more than 64, or a file of more than 1,048,576",
+    causes: "a missing line feed, or a file of another kind",
+    remedy: "Shorten the line, or give the parameter file.",
+};
+
+static PARAMETERS_READ: FaultText = FaultText {
+    files: PARAMETERS,
+    number: "7",
+    name: "Read",
+    values: "",
+    when: "the file could not be read to its end",
+    causes: "a directory in place of a file, or a disk or network that failed",
+    remedy: "Name a file in place of a directory, or copy the file anew.",
+};
+
+static PARAMETERS_NO_MEMORY: FaultText = FaultText {
+    files: PARAMETERS,
+    number: "8",
+    name: "NoMemory",
+    values: "",
+    when: "out of memory",
+    causes: "a limit on memory",
+    remedy: "Raise the limit, or end other programs.",
+};
+
+static WRONG_COUNT: FaultText = FaultText {
+    files: INITIAL_TOURS,
+    number: "1",
+    name: "WrongCount",
+    values: "",
+    when: "the initial tour does not have as many cities as the problem",
+    causes: "the tour of another problem, or a city that is missing or there twice",
+    remedy: "Give a tour of this problem as INITIAL_TOUR_FILE, or leave the key out.",
+};
+
+static OUT_OF_RANGE: FaultText = FaultText {
+    files: INITIAL_TOURS,
+    number: "2",
+    name: "OutOfRange",
+    values: " place",
+    when: "the city at this place of the initial tour is not a city of the problem",
+    causes: "cities that are numbered from 0, or the tour of another problem",
+    remedy: "Number the cities from 1, as the problem does.",
+};
+
+static REPEATED_CITY: FaultText = FaultText {
+    files: INITIAL_TOURS,
+    number: "3",
+    name: "RepeatedCity",
+    values: " place",
+    when: "the city at this place of the initial tour has been in it before",
+    causes: "the first city written again at the end, or a line that is there twice",
+    remedy: "List each city once; the way back to the first one is not written.",
+};
+
+/// The faults of problem, tour and solution files, then those of parameter files and those of an initial tour.
+pub fn faults() -> [&'static FaultText; 26]
+    ensures { map (λ fault. named fault.now) result ≡ faults }
 {
-    FAULTS.as_slice()
+    [
+        &UNKNOWN_KEYWORD,
+        &REPEATED,
+        &MISSING,
+        &UNSUPPORTED,
+        &BAD_NUMBER,
+        &OUT_OF_LIMIT,
+        &BAD_NODE,
+        &NOT_SYMMETRIC,
+        &TRUNCATED,
+        &TRAILING_DATA,
+        &BAD_DEPOT,
+        &DEMAND_OVER_CAPACITY,
+        &TOO_LONG,
+        &READ,
+        &NO_MEMORY,
+        &UNKNOWN_KEY,
+        &REPEATED_KEY,
+        &BAD_VALUE,
+        &MISSING_PROBLEM,
+        &DOLLAR_IN_NAME,
+        &PARAMETERS_TOO_LONG,
+        &PARAMETERS_READ,
+        &PARAMETERS_NO_MEMORY,
+        &WRONG_COUNT,
+        &OUT_OF_RANGE,
+        &REPEATED_CITY,
+    ]
 }
 
 /// What the table has on the fault of a file.
@@ -310,7 +350,7 @@ pub fn text_of(fault: &FileFault) -> &'static FaultText
         FileFault::Text(fault) => place_of_text_kind(fault.kind),
         FileFault::Parameters(fault) => place_of_parameter_kind(fault.kind),
     };
-    &faults()[place]
+    faults()[place]
 }
 
 /// Where the table has a fault of a problem, tour or solution file.

@@ -4,6 +4,7 @@
 mod answer;
 mod by_word;
 mod fault_table;
+mod file_pages;
 mod one_line;
 mod page;
 mod sound;
@@ -12,6 +13,5 @@ mod whole;
 mod whole_file;
 
 pub use by_word::{fault_page, is_number};
-pub use one_line::line_page;
+pub use file_pages::{FilePage, file_page, line_page};
 pub use unread::unread_fault;
-pub use whole_file::{FilePage, file_page};

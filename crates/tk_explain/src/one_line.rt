@@ -1,48 +1,15 @@
-//! The explanation of a line that is not the one of the first fault.
-ghost use Rattle.std.specs.Prelude.{◌≡◌, ◌<◌, IfOk};
-ghost use Rattle.std.specs.String.{string_len};
-ghost use Rattle.tk_explain.specs.Answers.{fault_of};
-
+//! What is said of a line: its fault if it has the first one, and else what it is taken for.
 use crate::answer::{Answer, answer_to};
 use crate::page::Page;
-use crate::whole_file::{File, FilePage, Numbered, add_answer, add_sound};
-use std::alloc::{AllocError, Global};
-use tk_diagnosis::{Kind, last_line, taken_for};
+use crate::whole_file::{File, Numbered, add_answer, add_sound};
+use std::alloc::AllocError;
+use tk_diagnosis::{FileFault, Kind, Spot, last_line, taken_for};
 
-/// The explanation of a line: of the first fault, if it is on this line, and else what the line is taken for.
+/// Adds what is said of a line.
 ///
 /// # Errors
 /// `AllocError` if memory runs out, as for all functions here.
-pub fn line_page(
-    alloc: Global,
-    name: &str,
-    text: &[u8],
-    number: u64,
-) -> Result<FilePage, AllocError>
-    ensures fault { IfOk result (λ page. page.fault ≡ fault_of page.kind text.now) }
-    ensures words { IfOk result (λ page. 0 < string_len page.text) }
-{
-    let file = File::new(alloc, name, text);
-    let answer = answer_to(alloc, file.kind, text)?;
-    let text = text_for_line(&file, &answer, number)?;
-    Ok(FilePage {
-        kind: file.kind,
-        fault: answer.fault(),
-        text,
-    })
-}
-
-/// What is said of a line.
-fn text_for_line(file: &File<'_>, answer: &Answer, number: u64) -> Result<String, AllocError>
-    ensures { IfOk result (λ text. 0 < string_len text) }
-{
-    let mut page = Page::new(file.alloc);
-    add_for_line(&mut page, file, answer, number)?;
-    page.finished()
-}
-
-/// Adds what is said of a line.
-fn add_for_line(
+pub fn add_for_line(
     page: &mut Page,
     file: &File<'_>,
     answer: &Answer,
@@ -77,17 +44,24 @@ fn add_whole(page: &mut Page, file: &File<'_>, answer: &Answer) -> Result<(), Al
 
 /// Adds a line, and what it is taken for.
 fn add_line(page: &mut Page, file: &File<'_>, number: u64) -> Result<(), AllocError> {
-    let name = file.name;
     let last = last_line(file.text);
     if number > last {
-        return page.line(&format_args!("{name} has no line {number}: its last one is {last}."));
+        return add_missing(page, file.name, number, last);
     }
-    let spot = file.spot(number);
-    let taken = taken_for(&spot);
-    page.line(&format_args!("{name}:{number}: {taken}"))?;
-    page.line(&"")?;
-    page.line(&Numbered::of(&spot))?;
-    page.line(&"")
+    add_taken(page, file.name, &file.spot(number))
+}
+
+/// Adds that the file of this name has no such line.
+fn add_missing(page: &mut Page, name: &str, number: u64, last: u64) -> Result<(), AllocError> {
+    page.line(&format_args!("{name} has no line {number}: its last one is {last}."))
+}
+
+/// Adds what a line of the file of this name is taken for, and the line.
+fn add_taken(page: &mut Page, name: &str, spot: &Spot<'_>) -> Result<(), AllocError> {
+    let number = spot.number;
+    let taken = taken_for(spot);
+    page.heading(&format_args!("{name}:{number}: {taken}"))?;
+    page.heading(&Numbered::of(spot))
 }
 
 /// Adds what a line is where another kind of file is wanted, if the first fault is on it there.
@@ -102,13 +76,19 @@ fn add_others(page: &mut Page, file: &File<'_>, number: u64) -> Result<(), Alloc
 
 /// The same for one of the other kinds.
 fn add_other(page: &mut Page, file: &File<'_>, kind: Kind, number: u64) -> Result<(), AllocError> {
-    let Answer::Faulty(fault) = answer_to(file.alloc, kind, file.text)? else {
-        return Ok(());
-    };
-    if fault.line() != number {
-        return Ok(());
+    match fault_as(file, kind)? {
+        Some(fault) if fault.line() == number => add_wanted(page, file.name, kind, &fault),
+        _ => Ok(()),
     }
-    let name = file.name;
+}
+
+/// Adds that the line has this fault where a file of another kind is wanted.
+fn add_wanted(
+    page: &mut Page,
+    name: &str,
+    kind: Kind,
+    fault: &FileFault,
+) -> Result<(), AllocError> {
     let wanted = match kind {
         Kind::Problem => "a problem",
         Kind::Tour => "a tour",
@@ -116,4 +96,9 @@ fn add_other(page: &mut Page, file: &File<'_>, kind: Kind, number: u64) -> Resul
         Kind::Parameters => "a parameter file",
     };
     page.line(&format_args!("Where {wanted} is wanted, this line is {name}:{fault}."))
+}
+
+/// The fault that a file has where one of this kind is wanted.
+fn fault_as(file: &File<'_>, kind: Kind) -> Result<Option<FileFault>, AllocError> {
+    Ok(answer_to(file.alloc, kind, file.text)?.fault())
 }

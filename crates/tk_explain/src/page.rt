@@ -11,6 +11,9 @@ const WIDTH: usize = 100;
 /// The columns of a label, without the blank after it.
 const INDENT: usize = 13;
 
+/// What stands before the first word of a further line: the end of the line before it, a label's columns, and a blank.
+const FURTHER: &str = "\n              ";
+
 /// What a fault means.
 pub const MEANING: &str = "Meaning:     ";
 
@@ -42,8 +45,8 @@ impl Page {
         }
     }
 
-    /// Ends the line before a new one.
-    fn begin(&mut self) -> Result<(), AllocError> {
+    /// Begins a line. It is blank if nothing is added to it.
+    pub fn begin(&mut self) -> Result<(), AllocError> {
         if self.text.is_empty() {
             return Ok(());
         }
@@ -59,24 +62,41 @@ impl Page {
         write!(self.text, "{line}")
     }
 
+    /// Adds a line, and a blank one below it.
+    pub fn heading<D: fmt::Display>(&mut self, line: &D) -> Result<(), AllocError> {
+        self.line(line)?;
+        self.begin()
+    }
+
     /// Adds a text after a label.
-    pub fn labelled<D: fmt::Display>(&mut self, label: &str, text: &D) -> Result<(), AllocError> {
-        let text = text.to_string(self.alloc)?;
+    pub fn labelled(&mut self, label: &str, text: &str) -> Result<(), AllocError> {
         self.begin()?;
         self.text.push_str(label)?;
-        self.wrap(&text)
+        self.wrap(text)
+    }
+
+    /// Adds what is displayed of a value after a label.
+    pub fn labelled_value<D: fmt::Display>(
+        &mut self,
+        label: &str,
+        value: &D,
+    ) -> Result<(), AllocError> {
+        let text = value.to_string(self.alloc)?;
+        self.labelled(label, &text)
     }
 
     /// Adds the words of a text. They go on on further lines, which are indented.
     fn wrap(&mut self, text: &str) -> Result<(), AllocError> {
         let mut column = INDENT;
         for word in text.split(' ') {
-            column = column.saturating_add(word.len()).saturating_add(1);
+            let width = word.len().saturating_add(1);
+            let mut gap = " ";
+            column = column.saturating_add(width);
             if column > WIDTH {
-                self.text.push_str("\n             ")?;
-                column = INDENT.saturating_add(word.len()).saturating_add(1);
+                gap = FURTHER;
+                column = INDENT.saturating_add(width);
             }
-            self.text.push(' ')?;
+            self.text.push_str(gap)?;
             self.text.push_str(word)?;
         }
         Ok(())

@@ -1,10 +1,8 @@
-//! The explanation of a file: its first fault, or what it is.
-ghost use Rattle.std.specs.Prelude.{◌≡◌, ◌<◌, IfOk};
-ghost use Rattle.std.specs.String.{string_len};
-ghost use Rattle.tk_explain.specs.Answers.{fault_of};
+//! What is said of a file: its first fault, or what it is.
+ghost use Rattle.std.specs.Prelude.{◌≡◌};
 
-use crate::answer::{Answer, answer_to};
-use crate::fault_table::text_of;
+use crate::answer::Answer;
+use crate::fault_table::{FaultText, text_of};
 use crate::page::{CAUSES, MEANING, Page, READ, REMEDY, WANTED};
 use crate::sound::Sound;
 use std::alloc::{AllocError, Global};
@@ -24,7 +22,9 @@ pub struct File<'a> {
 
 impl<'a> File<'a> {
     /// A file of the kind that its lines, or its name, show.
-    pub fn new(alloc: Global, name: &'a str, text: &'a [u8]) -> File<'a> {
+    pub fn new(alloc: Global, name: &'a str, text: &'a [u8]) -> File<'a>
+        ensures { result.text.now ≡ text.now }
+    {
         File {
             alloc,
             name,
@@ -37,33 +37,6 @@ impl<'a> File<'a> {
     pub fn spot(&self, number: u64) -> Spot<'a> {
         Spot::new(self.alloc, self.kind, self.text, number)
     }
-}
-
-/// The explanation of a file that was read as one of a kind.
-#[derive(Drop)]
-pub struct FilePage {
-    pub kind: Kind,
-    /// Its first fault, if it has one.
-    pub fault: Option<FileFault>,
-    pub text: String,
-}
-
-/// The explanation of a file.
-///
-/// # Errors
-/// `AllocError` if memory runs out.
-pub fn file_page(alloc: Global, name: &str, text: &[u8]) -> Result<FilePage, AllocError>
-    ensures fault { IfOk result (λ page. page.fault ≡ fault_of page.kind text.now) }
-    ensures words { IfOk result (λ page. 0 < string_len page.text) }
-{
-    let file = File::new(alloc, name, text);
-    let kind = file.kind;
-    let answer = answer_to(alloc, kind, text)?;
-    let mut page = Page::new(alloc);
-    add_answer(&mut page, &file, &answer)?;
-    let text = page.finished()?;
-    let fault = answer.fault();
-    Ok(FilePage { kind, fault, text })
 }
 
 /// Adds what is said of a whole file.
@@ -82,25 +55,38 @@ pub fn add_sound(page: &mut Page, file: &File<'_>, sound: &Sound) -> Result<(), 
     let name = file.name;
     let what = sound.sentence();
     page.line(&format_args!("{name} has no fault: it is {what}."))?;
-    page.line(&match file.kind {
+    page.line(&use_of(file.kind))
+}
+
+/// Where a file of a kind goes.
+fn use_of(kind: Kind) -> &'static str {
+    match kind {
         Kind::Problem =>
             "It comes first, as in tourkit check PROBLEM TOUR; a parameter file names it as PROBLEM_FILE.",
         Kind::Tour =>
             "It comes second, as in tourkit check PROBLEM TOUR; a parameter file names it as INITIAL_TOUR_FILE.",
         Kind::Solution => "It comes second, as in tourkit checksol PROBLEM SOLUTION.",
         Kind::Parameters => "It comes alone, as in tourkit solve PARAMETERS.",
-    })
+    }
 }
 
 /// Adds the fault of a file: its line, what it means, what stands there, and what to do.
 fn add_fault(page: &mut Page, file: &File<'_>, fault: &FileFault) -> Result<(), AllocError> {
     let name = file.name;
-    let spot = file.spot(fault.line());
-    page.line(&format_args!("{name}:{fault}"))?;
-    page.line(&"")?;
+    page.heading(&format_args!("{name}:{fault}"))?;
+    add_at(page, file, fault, &file.spot(fault.line()))
+}
+
+/// Adds what stands at the spot of a fault. Where the file is no text, the usual causes do not go with it.
+fn add_at(
+    page: &mut Page,
+    file: &File<'_>,
+    fault: &FileFault,
+    spot: &Spot<'_>,
+) -> Result<(), AllocError> {
     match wrapping_of(spot.text, spot.number, spot.line) {
         Some(wrapping) => add_here(page, file, fault, &wrapped(wrapping), false),
-        None => add_here(page, file, fault, &here_at(&spot, fault)?, true),
+        None => add_here(page, file, fault, &here_at(spot, fault)?, true),
     }
 }
 
@@ -113,21 +99,30 @@ fn add_here(
     has_causes: bool,
 ) -> Result<(), AllocError> {
     add_lines(page, file, fault.line(), here.other)?;
-    page.line(&"")?;
     let general = text_of(fault);
-    page.labelled(MEANING, &general.when)?;
-    page.labelled(WANTED, &here.wanted)?;
-    page.labelled(READ, &here.read)?;
+    page.labelled(MEANING, general.when)?;
+    add_read(page, here)?;
     if has_causes {
-        page.labelled(CAUSES, &general.causes)?;
+        page.labelled(CAUSES, general.causes)?;
     }
+    add_remedy(page, here, general)
+}
+
+/// Adds what was wanted at the line, and what was read.
+fn add_read(page: &mut Page, here: &Here<'_>) -> Result<(), AllocError> {
+    page.labelled_value(WANTED, &here.wanted)?;
+    page.labelled_value(READ, &here.read)
+}
+
+/// Adds what to do: what stands at the line may say it, and else the table of faults does.
+fn add_remedy(page: &mut Page, here: &Here<'_>, general: &FaultText) -> Result<(), AllocError> {
     match &here.remedy {
-        Some(remedy) => page.labelled(REMEDY, remedy),
-        None => page.labelled(REMEDY, &general.remedy),
+        Some(remedy) => page.labelled_value(REMEDY, remedy),
+        None => page.labelled(REMEDY, general.remedy),
     }
 }
 
-/// Adds a line and another one, in their order.
+/// Adds a line and another one, in their order, and a blank line.
 fn add_lines(
     page: &mut Page,
     file: &File<'_>,
@@ -135,11 +130,16 @@ fn add_lines(
     other: Option<u64>,
 ) -> Result<(), AllocError> {
     let other = other.unwrap_or(number);
-    page.line(&Numbered::of(&file.spot(number.min(other))))?;
+    add_numbered(page, file, number.min(other))?;
     if other != number {
-        page.line(&Numbered::of(&file.spot(number.max(other))))?;
+        add_numbered(page, file, number.max(other))?;
     }
-    Ok(())
+    page.begin()
+}
+
+/// Adds a line as it stands in the file.
+fn add_numbered(page: &mut Page, file: &File<'_>, number: u64) -> Result<(), AllocError> {
+    page.line(&Numbered::of(&file.spot(number)))
 }
 
 /// A line as it stands in the file, after its number.

@@ -1,0 +1,83 @@
+//! The explanation of a file, or of a line of it.
+ghost use Rattle.std.specs.Prelude.{◌≡◌, ◌<◌, IfOk};
+ghost use Rattle.std.specs.String.{string_len};
+ghost use Rattle.tk_explain.specs.Answers.{fault_in, fault_of};
+
+use crate::answer::{Answer, answer_to};
+use crate::one_line::add_for_line;
+use crate::page::Page;
+use crate::whole_file::{File, add_answer};
+use std::alloc::{AllocError, Global};
+use tk_diagnosis::{FileFault, Kind};
+
+/// The explanation of a file that was read as one of a kind.
+#[derive(Drop)]
+pub struct FilePage {
+    pub kind: Kind,
+    /// Its first fault, if it has one.
+    pub fault: Option<FileFault>,
+    pub text: String,
+}
+
+/// The explanation of a file.
+///
+/// # Errors
+/// `AllocError` if memory runs out, as for all functions here.
+pub fn file_page(alloc: Global, name: &str, text: &[u8]) -> Result<FilePage, AllocError>
+    ensures fault { IfOk result (λ page. page.fault ≡ fault_of page.kind text.now) }
+    ensures words { IfOk result (λ page. 0 < string_len page.text) }
+{
+    page_of(&File::new(alloc, name, text), None)
+}
+
+/// The explanation of a line: of the first fault, if it is on this line, and else what the line is taken for.
+pub fn line_page(
+    alloc: Global,
+    name: &str,
+    text: &[u8],
+    number: u64,
+) -> Result<FilePage, AllocError>
+    ensures fault { IfOk result (λ page. page.fault ≡ fault_of page.kind text.now) }
+    ensures words { IfOk result (λ page. 0 < string_len page.text) }
+{
+    page_of(&File::new(alloc, name, text), Some(number))
+}
+
+/// The explanation of a file, or of one of its lines.
+fn page_of(file: &File<'_>, line: Option<u64>) -> Result<FilePage, AllocError>
+    ensures fault { IfOk result (λ page. page.fault ≡ fault_of page.kind file.now.text.now) }
+    ensures words { IfOk result (λ page. 0 < string_len page.text) }
+{
+    let answer = answer_to(file.alloc, file.kind, file.text)?;
+    page_of_answer(file, &answer, line)
+}
+
+/// The same, from what the reader of the file's kind answers.
+fn page_of_answer(
+    file: &File<'_>,
+    answer: &Answer,
+    line: Option<u64>,
+) -> Result<FilePage, AllocError>
+    ensures kind { IfOk result (λ page. page.kind ≡ file.now.kind) }
+    ensures fault { IfOk result (λ page. page.fault ≡ fault_in answer.now) }
+    ensures words { IfOk result (λ page. 0 < string_len page.text) }
+{
+    let text = text_of(file, answer, line)?;
+    Ok(FilePage {
+        kind: file.kind,
+        fault: answer.fault(),
+        text,
+    })
+}
+
+/// What is said of a file, or of one of its lines.
+fn text_of(file: &File<'_>, answer: &Answer, line: Option<u64>) -> Result<String, AllocError>
+    ensures { IfOk result (λ text. 0 < string_len text) }
+{
+    let mut page = Page::new(file.alloc);
+    match line {
+        Some(number) => add_for_line(&mut page, file, answer, number)?,
+        None => add_answer(&mut page, file, answer)?,
+    }
+    page.finished()
+}
