@@ -4,5 +4,5 @@ mod fake_sink;
 mod padded;
 
 pub use drip::Drip;
-pub use fake_sink::FakeSink;
+pub use fake_sink::{FakeSink, ROOM};
 pub use padded::Padded;

@@ -18,6 +18,7 @@ fn expect_decimals(rt: &impl Abort, rows: &[(&[u8], Result<i64, TextKind>)]) {
     }
 }
 
+/// Whole numbers, and texts that are none.
 #[test]
 fn whole_numbers(rt: HostRuntime) {
     expect_integers(
@@ -31,15 +32,6 @@ fn whole_numbers(rt: HostRuntime) {
             (b"999999999999999999", Some(999999999999999999)),
             (b"-999999999999999999", Some(-999999999999999999)),
             (b"+000000000000000001", Some(1)),
-        ],
-    );
-}
-
-#[test]
-fn no_whole_numbers(rt: HostRuntime) {
-    expect_integers(
-        &rt,
-        &[
             (b"", None),
             (b"-", None),
             (b"+", None),
@@ -54,8 +46,9 @@ fn no_whole_numbers(rt: HostRuntime) {
     );
 }
 
+/// Whole ones and fractions, digits that are dropped, and exponents.
 #[test]
-fn plain_decimals(rt: HostRuntime) {
+fn decimals(rt: HostRuntime) {
     expect_decimals(
         &rt,
         &[
@@ -71,28 +64,10 @@ fn plain_decimals(rt: HostRuntime) {
             ),
             (b"1000000000", Ok(1_000_000_000_000_000_000)),
             (b"-1000000000.0000000009", Ok(-1_000_000_000_000_000_000)),
-        ],
-    );
-}
-
-#[test]
-fn dropped_decimals(rt: HostRuntime) {
-    expect_decimals(
-        &rt,
-        &[
             (b"0.0000000019", Ok(1)),
             (b"-0.0000000019", Ok(-1)),
             (b"-0.0000000001", Ok(0)),
             (b"1e-999", Ok(0)),
-        ],
-    );
-}
-
-#[test]
-fn exponents(rt: HostRuntime) {
-    expect_decimals(
-        &rt,
-        &[
             (b"1.0e+01", Ok(10_000_000_000)),
             (b"1.23456E4", Ok(12_345_600_000_000)),
             (b"12345e-3", Ok(12_345_000_000)),
@@ -107,8 +82,9 @@ fn exponents(rt: HostRuntime) {
     );
 }
 
+/// Decimals beyond the limit, and other texts.
 #[test]
-fn decimals_beyond_the_limit(rt: HostRuntime) {
+fn no_decimals(rt: HostRuntime) {
     expect_decimals(
         &rt,
         &[
@@ -119,15 +95,6 @@ fn decimals_beyond_the_limit(rt: HostRuntime) {
                 b"99999999999999999999999999999999",
                 Err(TextKind::OutOfLimit),
             ),
-        ],
-    );
-}
-
-#[test]
-fn no_decimals(rt: HostRuntime) {
-    expect_decimals(
-        &rt,
-        &[
             (b"", Err(TextKind::BadNumber)),
             (b".", Err(TextKind::BadNumber)),
             (b"-", Err(TextKind::BadNumber)),

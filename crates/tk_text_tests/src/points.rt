@@ -1,45 +1,50 @@
 //! Points that are kept as whole numbers until one has a fraction.
 
-use std::process::Abort;
-use std::test::Fail;
+use std::alloc::AllocError;
 use tk_text::{Places, Point, Points};
+
+/// Of a thousand million in magnitude, in units of 10^-9.
+const FAR: i64 = 1_000_000_000_000_000_000;
+
+const ORIGIN: Point = Point { x: 0, y: 0 };
+
+const WHOLE: Point = Point {
+    x: 7_000_000_000,
+    y: -FAR,
+};
+
+const FINE: Point = Point { x: 5, y: FAR };
+
+const FINE_LOW: Point = Point { x: -1, y: 0 };
 
 /// Whether the points are kept as whole numbers.
 fn are_whole(points: &Points) -> bool {
     matches!(points.places(), Places::Whole(..))
 }
 
-/// The point at this index, of three.
-fn expect_point(rt: &impl Abort, points: &Points, index: usize, want: Point) {
-    assert!(rt; points.len() == 3);
-    assert!(rt; index < 3);
-    assert!(rt; points.get(index) == want);
-}
-
-/// The same of the places of the points.
-fn expect_place(rt: &impl Abort, points: &Points, index: usize, want: Point) {
+/// Whether these are the points, each by itself and in the list of their places.
+fn are_three(points: &Points, wanted: &[Point; 3]) -> bool {
     let places = points.places();
-    assert!(rt; places.len() == 3);
-    assert!(rt; index < 3);
-    assert!(rt; places.get(index) == want);
+    if points.len() != 3 || places.len() != 3 {
+        return false;
+    }
+    for index in 0..3 {
+        if points.get(index) != wanted[index] || places.get(index) != wanted[index] {
+            return false;
+        }
+    }
+    true
 }
 
 #[test]
-fn whole_until_a_fraction(rt: HostRuntime) -> Result<(), Fail> {
-    let far = 1_000_000_000_000_000_000;
-    let whole = Point {
-        x: 7_000_000_000,
-        y: -far,
-    };
+fn whole_until_a_fraction(rt: HostRuntime) -> Result<(), AllocError> {
     let mut points = Points::at_origin(rt.alloc(), 3)?;
-    points.set(1, whole)?;
+    points.set(1, WHOLE)?;
     assert!(rt; are_whole(&points));
-    expect_point(&rt, &points, 1, whole);
-    points.set(2, Point { x: 5, y: far })?;
+    assert!(rt; are_three(&points, &[ORIGIN, WHOLE, ORIGIN]));
+    points.set(2, FINE)?;
     assert!(rt; !are_whole(&points));
-    points.set(0, Point { x: -1, y: 0 })?;
-    expect_point(&rt, &points, 0, Point { x: -1, y: 0 });
-    expect_point(&rt, &points, 1, whole);
-    expect_place(&rt, &points, 2, Point { x: 5, y: far });
+    points.set(0, FINE_LOW)?;
+    assert!(rt; are_three(&points, &[FINE_LOW, WHOLE, FINE]));
     Ok(())
 }

@@ -1,8 +1,9 @@
 //! Problem texts (`tk_problem_text` and below).
 
 mod headers;
-mod read_both_ways;
+pub mod read_both_ways;
 mod routing;
 mod sections;
 mod sources;
+pub mod told;
 mod whole;

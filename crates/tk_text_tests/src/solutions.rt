@@ -1,12 +1,15 @@
 //! Solution texts, read at once and byte by byte.
 
 use crate::fakes::Drip;
-use std::alloc::{AllocError, Global};
+use crate::texts::repeated;
+use std::alloc::Global;
 use std::process::Abort;
-use std::test::Fail;
-use tk_text::{
-    FromRead, Keyword, SolText, TextFault, TextKind, ToWrite, read_solution, write_solution,
-};
+use tk_text::{FromRead, Keyword, SolText, TextFault, TextKind, read_solution};
+
+fn read_whole(alloc: Global, text: &[u8]) -> Result<SolText, TextFault> {
+    let mut source = FromRead::new(text);
+    read_solution(alloc, &mut source)
+}
 
 fn read_dripping(alloc: Global, text: &[u8], fails: bool) -> Result<SolText, TextFault> {
     let mut source = Drip {
@@ -18,7 +21,8 @@ fn read_dripping(alloc: Global, text: &[u8], fails: bool) -> Result<SolText, Tex
     read_solution(alloc, &mut source)
 }
 
-fn is_solution(answer: Result<SolText, TextFault>, routes: &[&[u32]], cost: i64) -> bool {
+/// The answer has these routes and this cost.
+pub fn is_solution(answer: Result<SolText, TextFault>, routes: &[&[u32]], cost: i64) -> bool {
     match answer {
         Ok(solution) => solution.cost == cost && are_routes(solution.routes.as_slice(), routes),
         Err(_) => false,
@@ -37,28 +41,34 @@ fn are_routes(read: &[Vec<u32>], routes: &[&[u32]]) -> bool {
     true
 }
 
+fn is_fault(answer: Result<SolText, TextFault>, line: u64, kind: TextKind) -> bool {
+    match answer {
+        Ok(_) => false,
+        Err(fault) => fault == TextFault { line, kind },
+    }
+}
+
 /// Read at once and byte by byte, the text has these routes and this cost.
 fn tells(alloc: Global, text: &[u8], routes: &[&[u32]], cost: i64) -> bool {
-    let mut source = FromRead::new(text);
-    is_solution(read_solution(alloc, &mut source), routes, cost)
+    is_solution(read_whole(alloc, text), routes, cost)
         && is_solution(read_dripping(alloc, text, false), routes, cost)
 }
 
-/// Read at once and byte by byte, each text has the fault beside it.
-fn refuse<A: Abort>(rt: &A, alloc: Global, rows: &[(&[u8], u64, TextKind)]) {
+/// Read at once and byte by byte, the text has this fault.
+fn refuses(alloc: Global, text: &[u8], line: u64, kind: TextKind) -> bool {
+    is_fault(read_whole(alloc, text), line, kind)
+        && is_fault(read_dripping(alloc, text, false), line, kind)
+}
+
+/// Each text has the fault beside it.
+fn refuse(rt: &impl Abort, alloc: Global, rows: &[(&[u8], u64, TextKind)]) {
     for (text, line, kind) in rows {
-        let fault = Some(TextFault {
-            line: *line,
-            kind: *kind,
-        });
-        let mut source = FromRead::new(*text);
-        assert!(rt; read_solution(alloc, &mut source).err() == fault);
-        assert!(rt; read_dripping(alloc, text, false).err() == fault);
+        assert!(rt; refuses(alloc, text, *line, *kind));
     }
 }
 
 #[test]
-fn routes_and_cost(rt: HostRuntime) -> Result<(), Fail> {
+fn routes_and_cost(rt: HostRuntime) {
     let a = rt.alloc();
     assert!(rt;
         tells(
@@ -77,15 +87,13 @@ fn routes_and_cost(rt: HostRuntime) -> Result<(), Fail> {
         )
     );
     assert!(rt; tells(a, b"Cost 46\nVEHICLES #2: 1", &[], 46));
-    Ok(())
 }
 
 #[test]
-fn faults_of_solutions(rt: HostRuntime) -> Result<(), Fail> {
-    let a = rt.alloc();
+fn faults_of_solutions(rt: HostRuntime) {
     refuse(
         &rt,
-        a,
+        rt.alloc(),
         &[
             (
                 b" Route -3:\t5 1 2 3 4\n",
@@ -101,80 +109,58 @@ fn faults_of_solutions(rt: HostRuntime) -> Result<(), Fail> {
             (b"Cost : 46\nroute x\n", 2, TextKind::TrailingData),
         ],
     );
-    Ok(())
 }
 
 /// A source that fails is told where the text was not decided before.
 #[test]
-fn failing_sources_of_solutions(rt: HostRuntime) -> Result<(), Fail> {
-    let a = rt.alloc();
-    let read = TextFault {
-        line: 2,
-        kind: TextKind::Read,
-    };
-    assert!(rt; read_dripping(a, b"Route #1: 1\nCost 3", true).err() == Some(read));
-    assert!(rt; read_dripping(a, b"Cost 3\n", true).err() == Some(read));
-    let other = TextFault {
-        line: 1,
-        kind: TextKind::UnknownKeyword,
-    };
-    assert!(rt; read_dripping(a, b"Roux", true).err() == Some(other));
-    Ok(())
-}
-
-/// A line so often, and then the last lines.
-fn repeated(alloc: Global, line: &[u8], times: u64, last: &[u8]) -> Result<Vec<u8>, AllocError> {
-    let mut text = Vec::new(alloc);
-    for _ in 0..times {
-        text.extend_from_slice(line)?;
+fn failing_sources_of_solutions(rt: HostRuntime) {
+    let rows: &[(&[u8], u64, TextKind)] = &[
+        (b"Route #1: 1\nCost 3", 2, TextKind::Read),
+        (b"Cost 3\n", 2, TextKind::Read),
+        (b"Roux", 1, TextKind::UnknownKeyword),
+    ];
+    for (text, line, kind) in rows {
+        assert!(rt; is_fault(read_dripping(rt.alloc(), text, true), *line, *kind));
     }
-    text.extend_from_slice(last)?;
-    Ok(text)
 }
 
 /// How many routes a text has, or its fault.
 fn count_routes(alloc: Global, text: &[u8]) -> Result<usize, TextFault> {
-    let mut source = FromRead::new(text);
-    let solution = read_solution(alloc, &mut source)?;
+    let solution = read_whole(alloc, text)?;
     Ok(solution.routes.len())
 }
 
+/// A text of this line so often and of these last lines has so many routes, or this fault.
+fn expect_count(
+    rt: &impl Abort,
+    alloc: Global,
+    line: &[u8],
+    times: usize,
+    last: &[u8],
+    wanted: Result<usize, TextFault>,
+) {
+    let text = repeated(rt, alloc, b"", line, times, last);
+    assert!(rt; count_routes(alloc, &text) == wanted);
+}
+
 #[test]
-fn most_routes(rt: HostRuntime) -> Result<(), Fail> {
-    let a = rt.alloc();
-    let most = repeated(a, b"Route 1:\n", 100_000, b"Cost 0\n")?;
-    assert!(rt; count_routes(a, most.as_slice()) == Ok(100_000));
+fn most_routes(rt: HostRuntime) {
     let over = TextFault {
         line: 100_001,
         kind: TextKind::OutOfLimit,
     };
-    let more = repeated(a, b"Route 1:\n", 100_000, b"Route x")?;
-    assert!(rt; count_routes(a, more.as_slice()) == Err(over));
-    Ok(())
+    let line = b"Route 1:\n";
+    expect_count(&rt, rt.alloc(), line, 100_000, b"Cost 0\n", Ok(100_000));
+    expect_count(&rt, rt.alloc(), line, 100_000, b"Route x", Err(over));
 }
 
 #[test]
-fn most_customers(rt: HostRuntime) -> Result<(), Fail> {
-    let a = rt.alloc();
-    let line = b"Route 1: 7 7 7 7 7 7 7 7 7 7 7 7 7 7 7 7 7 7 7 7\n";
-    let most = repeated(a, line, 50_000, b"Cost 0\n")?;
-    assert!(rt; count_routes(a, most.as_slice()) == Ok(50_000));
+fn most_customers(rt: HostRuntime) {
     let over = TextFault {
         line: 50_001,
         kind: TextKind::OutOfLimit,
     };
-    let more = repeated(a, line, 50_000, b"Route 1: 7\n")?;
-    assert!(rt; count_routes(a, more.as_slice()) == Err(over));
-    Ok(())
-}
-
-/// What is written is read back.
-#[test]
-fn written_solutions(rt: HostRuntime) -> Result<(), Fail> {
-    let a = rt.alloc();
-    let routes = [vec![in a; 1, 2]?, vec![in a; 3, 4]?];
-    let mut sink = ToWrite::new(Vec::new(a));
-    assert!(rt; write_solution(&mut sink, &routes, 44) == Ok(()));
-    assert!(rt; tells(a, sink.inner.as_slice(), &[&[1, 2], &[3, 4]], 44));
-    Ok(())
+    let line = b"Route 1: 7 7 7 7 7 7 7 7 7 7 7 7 7 7 7 7 7 7 7 7\n";
+    expect_count(&rt, rt.alloc(), line, 50_000, b"Cost 0\n", Ok(50_000));
+    expect_count(&rt, rt.alloc(), line, 50_000, b"Route 1: 7\n", Err(over));
 }

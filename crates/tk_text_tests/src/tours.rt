@@ -1,8 +1,9 @@
 //! Tour texts, read at once, byte by byte and in small pieces.
 
 use crate::fakes::{Drip, Padded};
-use std::alloc::{AllocError, Global};
-use std::test::Fail;
+use crate::texts::repeated;
+use std::alloc::Global;
+use std::process::Abort;
 use tk_text::{FromRead, Keyword, TEXT_LIMIT, TextFault, TextKind, TourText, read_tour};
 
 fn read_whole(alloc: Global, text: &[u8]) -> Result<TourText, TextFault> {
@@ -29,7 +30,8 @@ fn read_dripping(alloc: Global, text: &[u8], fails: bool) -> Result<TourText, Te
     read_pieces(alloc, text, 1, fails)
 }
 
-fn is_list(answer: Result<TourText, TextFault>, cities: &[u32]) -> bool {
+/// The answer lists these cities.
+pub fn is_list(answer: Result<TourText, TextFault>, cities: &[u32]) -> bool {
     match answer {
         Ok(tour) => tour.cities.as_slice() == cities,
         Err(_) => false,
@@ -57,245 +59,199 @@ fn refuses(alloc: Global, text: &[u8], line: u64, kind: TextKind) -> bool {
         && is_fault(read_pieces(alloc, text, 7, false), line, kind)
 }
 
-#[test]
-fn lists_end(rt: HostRuntime) -> Result<(), Fail> {
-    let a = rt.alloc();
-    assert!(rt;
-        lists(
-            a,
-            b"TYPE : TOUR\nDIMENSION : 3\nTOUR_SECTION\n1 2 3\n-1\nEOF\n",
-            &[1, 2, 3]
-        )
-    );
-    assert!(rt;
-        lists(
-            a,
-            b"TYPE : TOUR\nTOUR_SECTION\n1 2 3 4\n-1\n-1\n",
-            &[1, 2, 3, 4]
-        )
-    );
-    assert!(rt; lists(a, b"TYPE : TOUR\nTOUR_SECTION\n1 2\n-1\n\n -01", &[1, 2]));
-    assert!(rt; lists(a, b"TYPE : TOUR\nTOUR_SECTION\n1 2 EOF\njunk\n", &[1, 2]));
-    assert!(rt; lists(a, b"TYPE : TOUR\nTOUR_SECTION\n1 2 eof: junk\n", &[1, 2]));
-    assert!(rt;
-        lists(
-            a,
-            b"TYPE : TOUR\nTOUR_SECTION\n4294967295 0",
-            &[4294967295, 0]
-        )
-    );
-    assert!(rt; lists(a, b"TYPE : TOUR\nTOUR_SECTION\n-1", &[]));
-    assert!(rt; lists(a, b"TYPE : TOUR\nTOUR_SECTION", &[]));
-    assert!(rt; lists(a, b"TOUR_SECTION :5\n-1\nTYPE: tour\r\nEOF-x", &[5]));
-    assert!(rt;
-        lists(
-            a,
-            b"TOUR_SECTION 5 -1\nCOMMENT a\nCOMMENT b\nTYPE TOUR no\nNAME\n",
-            &[5]
-        )
-    );
-    Ok(())
+/// Each text lists the cities beside it.
+fn accept(rt: &impl Abort, alloc: Global, rows: &[(&[u8], &[u32])]) {
+    for (text, cities) in rows {
+        assert!(rt; lists(alloc, text, cities));
+    }
+}
+
+/// Each text has the fault beside it.
+fn refuse(rt: &impl Abort, alloc: Global, rows: &[(&[u8], u64, TextKind)]) {
+    for (text, line, kind) in rows {
+        assert!(rt; refuses(alloc, text, *line, *kind));
+    }
+}
+
+/// Each text has the fault beside it, byte by byte from a source that fails after the last byte.
+fn refuse_failing(rt: &impl Abort, alloc: Global, rows: &[(&[u8], u64, TextKind)]) {
+    for (text, line, kind) in rows {
+        assert!(rt; is_fault(read_dripping(alloc, text, true), *line, *kind));
+    }
 }
 
 #[test]
-fn faults_of_lists(rt: HostRuntime) -> Result<(), Fail> {
-    let a = rt.alloc();
-    assert!(rt;
-        refuses(
-            a,
-            b"TYPE : TOUR\nTOUR_SECTION\n1 2 -1\n5\n",
-            4,
-            TextKind::TrailingData
-        )
+fn lists_end(rt: HostRuntime) {
+    accept(
+        &rt,
+        rt.alloc(),
+        &[
+            (
+                b"TYPE : TOUR\nDIMENSION : 3\nTOUR_SECTION\n1 2 3\n-1\nEOF\n",
+                &[1, 2, 3],
+            ),
+            (
+                b"TYPE : TOUR\nTOUR_SECTION\n1 2 3 4\n-1\n-1\n",
+                &[1, 2, 3, 4],
+            ),
+            (b"TYPE : TOUR\nTOUR_SECTION\n1 2\n-1\n\n -01", &[1, 2]),
+            (b"TYPE : TOUR\nTOUR_SECTION\n1 2 EOF\njunk\n", &[1, 2]),
+            (b"TYPE : TOUR\nTOUR_SECTION\n1 2 eof: junk\n", &[1, 2]),
+            (b"TYPE : TOUR\nTOUR_SECTION\n4294967295 0", &[4294967295, 0]),
+            (b"TYPE : TOUR\nTOUR_SECTION\n-1", &[]),
+            (b"TYPE : TOUR\nTOUR_SECTION", &[]),
+            (b"TOUR_SECTION :5\n-1\nTYPE: tour\r\nEOF-x", &[5]),
+            (
+                b"TOUR_SECTION 5 -1\nCOMMENT a\nCOMMENT b\nTYPE TOUR no\nNAME\n",
+                &[5],
+            ),
+        ],
     );
-    assert!(rt;
-        refuses(
-            a,
-            b"TYPE : TOUR\nTOUR_SECTION : 1 2 -1 -1 x\n",
-            2,
-            TextKind::TrailingData
-        )
+}
+
+#[test]
+fn faults_of_lists(rt: HostRuntime) {
+    refuse(
+        &rt,
+        rt.alloc(),
+        &[
+            (
+                b"TYPE : TOUR\nTOUR_SECTION\n1 2 -1\n5\n",
+                4,
+                TextKind::TrailingData,
+            ),
+            (
+                b"TYPE : TOUR\nTOUR_SECTION : 1 2 -1 -1 x\n",
+                2,
+                TextKind::TrailingData,
+            ),
+            (
+                b"TYPE : TOUR\nTOUR_SECTION\n1\n-1\n-1\n-1\n",
+                6,
+                TextKind::TrailingData,
+            ),
+            (
+                b"TYPE : TOUR\nTOUR_SECTION\n1 -1 NAME",
+                3,
+                TextKind::TrailingData,
+            ),
+            (
+                b"TYPE : TOUR\nTOUR_SECTION\n1 2\nNAME : x\n",
+                4,
+                TextKind::Truncated,
+            ),
+            (
+                b"TYPE : TOUR\nTOUR_SECTION\n1 2\nVehicles: x\n",
+                4,
+                TextKind::Truncated,
+            ),
+            (b"TYPE : TOUR\nTOUR_SECTION\n1 2x\n", 3, TextKind::BadNumber),
+            (
+                b"TYPE : TOUR\nTOUR_SECTION\n1 EOF-x\n",
+                3,
+                TextKind::BadNumber,
+            ),
+            (
+                b"TYPE : TOUR\nTOUR_SECTION\n1 -2\n",
+                3,
+                TextKind::OutOfLimit,
+            ),
+            (
+                b"TYPE : TOUR\nTOUR_SECTION\n4294967296\n",
+                3,
+                TextKind::OutOfLimit,
+            ),
+            (b"TOUR_SECTION\n-1\nTOUR_SECTION\n", 3, TextKind::Repeated),
+        ],
     );
-    assert!(rt;
-        refuses(
-            a,
-            b"TYPE : TOUR\nTOUR_SECTION\n1\n-1\n-1\n-1\n",
-            6,
-            TextKind::TrailingData
-        )
-    );
-    assert!(rt;
-        refuses(
-            a,
-            b"TYPE : TOUR\nTOUR_SECTION\n1 -1 NAME",
-            3,
-            TextKind::TrailingData
-        )
-    );
-    assert!(rt;
-        refuses(
-            a,
-            b"TYPE : TOUR\nTOUR_SECTION\n1 2\nNAME : x\n",
-            4,
-            TextKind::Truncated
-        )
-    );
-    assert!(rt;
-        refuses(
-            a,
-            b"TYPE : TOUR\nTOUR_SECTION\n1 2\nVehicles: x\n",
-            4,
-            TextKind::Truncated
-        )
-    );
-    assert!(rt;
-        refuses(
-            a,
-            b"TYPE : TOUR\nTOUR_SECTION\n1 2x\n",
-            3,
-            TextKind::BadNumber
-        )
-    );
-    assert!(rt;
-        refuses(
-            a,
-            b"TYPE : TOUR\nTOUR_SECTION\n1 EOF-x\n",
-            3,
-            TextKind::BadNumber
-        )
-    );
-    assert!(rt;
-        refuses(
-            a,
-            b"TYPE : TOUR\nTOUR_SECTION\n1 -2\n",
-            3,
-            TextKind::OutOfLimit
-        )
-    );
-    assert!(rt;
-        refuses(
-            a,
-            b"TYPE : TOUR\nTOUR_SECTION\n4294967296\n",
-            3,
-            TextKind::OutOfLimit
-        )
-    );
-    assert!(rt;
-        refuses(
-            a,
-            b"TOUR_SECTION\n-1\nTOUR_SECTION\n",
-            3,
-            TextKind::Repeated
-        )
-    );
-    Ok(())
 }
 
 /// Tokens and words of 64 bytes, and of one more.
 #[test]
-fn long_tokens(rt: HostRuntime) -> Result<(), Fail> {
-    let a = rt.alloc();
-    assert!(rt;
-        refuses(
-            a,
-            b"TOUR_SECTION 1111111111111111111111111111111111111111111111111111111111111111 ",
-            1,
-            TextKind::BadNumber
-        )
+fn long_tokens(rt: HostRuntime) {
+    refuse(
+        &rt,
+        rt.alloc(),
+        &[
+            (
+                b"TOUR_SECTION 1111111111111111111111111111111111111111111111111111111111111111 ",
+                1,
+                TextKind::BadNumber,
+            ),
+            (
+                b"TOUR_SECTION 11111111111111111111111111111111111111111111111111111111111111111",
+                1,
+                TextKind::TooLong,
+            ),
+            (
+                b"TOUR_SECTION -1\n11111111111111111111111111111111111111111111111111111111111111111",
+                2,
+                TextKind::TrailingData,
+            ),
+            (
+                b"aaaaaaaaaaaaaaaaaaaaaaaaaaaaaaaaaaaaaaaaaaaaaaaaaaaaaaaaaaaaaaaa",
+                1,
+                TextKind::UnknownKeyword,
+            ),
+            (
+                b"aaaaaaaaaaaaaaaaaaaaaaaaaaaaaaaaaaaaaaaaaaaaaaaaaaaaaaaaaaaaaaaaa",
+                1,
+                TextKind::TooLong,
+            ),
+        ],
     );
-    assert!(rt;
-        refuses(
-            a,
-            b"TOUR_SECTION 11111111111111111111111111111111111111111111111111111111111111111",
-            1,
-            TextKind::TooLong
-        )
-    );
-    assert!(rt;
-        refuses(
-            a,
-            b"TOUR_SECTION -1\n11111111111111111111111111111111111111111111111111111111111111111",
-            2,
-            TextKind::TrailingData
-        )
-    );
-    assert!(rt;
-        refuses(
-            a,
-            b"aaaaaaaaaaaaaaaaaaaaaaaaaaaaaaaaaaaaaaaaaaaaaaaaaaaaaaaaaaaaaaaa",
-            1,
-            TextKind::UnknownKeyword
-        )
-    );
-    assert!(rt;
-        refuses(
-            a,
-            b"aaaaaaaaaaaaaaaaaaaaaaaaaaaaaaaaaaaaaaaaaaaaaaaaaaaaaaaaaaaaaaaaa",
-            1,
-            TextKind::TooLong
-        )
-    );
-    Ok(())
 }
 
 #[test]
-fn faults_of_lines(rt: HostRuntime) -> Result<(), Fail> {
-    let a = rt.alloc();
-    assert!(rt;
-        refuses(
-            a,
-            b"TYPE : TOUR\nDIMENSION : 3\ndimension : 3\n",
-            3,
-            TextKind::Repeated
-        )
+fn faults_of_lines(rt: HostRuntime) {
+    refuse(
+        &rt,
+        rt.alloc(),
+        &[
+            (
+                b"TYPE : TOUR\nDIMENSION : 3\ndimension : 3\n",
+                3,
+                TextKind::Repeated,
+            ),
+            (b"", 1, TextKind::Missing(Keyword::Type)),
+            (
+                b"TYPE : TOUR\nEOF\n",
+                2,
+                TextKind::Missing(Keyword::TourSection),
+            ),
+            (b"\n TYPE : ATSP\n", 2, TextKind::Unsupported),
+            (b"CAPACITY : 5\n", 1, TextKind::Unsupported),
+            (b"NODE_COORD_SECTION\n", 1, TextKind::Unsupported),
+            (b"DIMENSION : 0\n", 1, TextKind::OutOfLimit),
+            (b"DIMENSION : 1000001", 1, TextKind::OutOfLimit),
+            (b"DIMENSION :\n", 1, TextKind::BadNumber),
+            (b"FOO : 1\n", 1, TextKind::UnknownKeyword),
+            (b"\n\n5\n", 3, TextKind::TrailingData),
+        ],
     );
-    assert!(rt; refuses(a, b"", 1, TextKind::Missing(Keyword::Type)));
-    assert!(rt;
-        refuses(
-            a,
-            b"TYPE : TOUR\nEOF\n",
-            2,
-            TextKind::Missing(Keyword::TourSection)
-        )
-    );
-    assert!(rt; refuses(a, b"\n TYPE : ATSP\n", 2, TextKind::Unsupported));
-    assert!(rt; refuses(a, b"CAPACITY : 5\n", 1, TextKind::Unsupported));
-    assert!(rt; refuses(a, b"NODE_COORD_SECTION\n", 1, TextKind::Unsupported));
-    assert!(rt; refuses(a, b"DIMENSION : 0\n", 1, TextKind::OutOfLimit));
-    assert!(rt; refuses(a, b"DIMENSION : 1000001", 1, TextKind::OutOfLimit));
-    assert!(rt; refuses(a, b"DIMENSION :\n", 1, TextKind::BadNumber));
-    assert!(rt; refuses(a, b"FOO : 1\n", 1, TextKind::UnknownKeyword));
-    assert!(rt; refuses(a, b"\n\n5\n", 3, TextKind::TrailingData));
-    Ok(())
 }
 
-/// A line of a word and a value of so many bytes.
-fn line_of(alloc: Global, word: &[u8], count: usize) -> Result<Vec<u8>, AllocError> {
-    let mut text = Vec::new(alloc);
-    text.extend_from_slice(word)?;
-    for _ in 0..count {
-        text.push(b'x')?;
-    }
-    text.push(b'\n')?;
-    Ok(text)
-}
-
-#[test]
-fn long_headers(rt: HostRuntime) -> Result<(), Fail> {
-    let a = rt.alloc();
-    let missing = TextKind::Missing(Keyword::Type);
-    let rows: [(&[u8], usize, u64, TextKind); 5] = [
-        (b"COMMENT ", 4095, 2, missing),
-        (b"COMMENT ", 4096, 1, TextKind::TooLong),
-        (b"CAPACITY ", 4096, 1, TextKind::TooLong),
-        (b"NAME : ", 1024, 2, missing),
-        (b"NAME : ", 1025, 1, TextKind::TooLong),
-    ];
+/// Each line of a word and a value of so many bytes has the fault beside it.
+fn refuse_lines(rt: &impl Abort, alloc: Global, rows: &[(&[u8], usize, u64, TextKind)]) {
     for (word, count, line, kind) in rows {
-        let text = line_of(a, word, count)?;
-        assert!(rt; refuses(a, &text, line, kind));
+        let text = repeated(rt, alloc, word, b"x", *count, b"\n");
+        assert!(rt; refuses(alloc, &text, *line, *kind));
     }
-    Ok(())
+}
+
+#[test]
+fn long_headers(rt: HostRuntime) {
+    refuse_lines(
+        &rt,
+        rt.alloc(),
+        &[
+            (b"COMMENT ", 4095, 2, TextKind::Missing(Keyword::Type)),
+            (b"COMMENT ", 4096, 1, TextKind::TooLong),
+            (b"CAPACITY ", 4096, 1, TextKind::TooLong),
+            (b"NAME : ", 1024, 2, TextKind::Missing(Keyword::Type)),
+            (b"NAME : ", 1025, 1, TextKind::TooLong),
+        ],
+    );
 }
 
 /// Reads a text of so many bytes that is blank after its list of one city.
@@ -323,7 +279,7 @@ fn a_text_of_one_byte_more(rt: HostRuntime) {
 
 /// A source is not read past the byte that decides.
 #[test]
-fn failing_sources(rt: HostRuntime) -> Result<(), Fail> {
+fn failing_sources(rt: HostRuntime) {
     let a = rt.alloc();
     assert!(rt;
         is_list(
@@ -332,69 +288,52 @@ fn failing_sources(rt: HostRuntime) -> Result<(), Fail> {
         )
     );
     assert!(rt;
-        is_fault(
-            read_dripping(a, b"TYPE : TOUR\nTOUR_SECTION 1 -1\nEOF", true),
-            3,
-            TextKind::Read
-        )
-    );
-    assert!(rt;
         is_list(
             read_dripping(a, b"TYPE : TOUR\nTOUR_SECTION 1 EOF ", true),
             &[1]
         )
     );
-    assert!(rt;
-        is_fault(
-            read_dripping(a, b"TYPE : TOUR\nFOO ", true),
-            2,
-            TextKind::UnknownKeyword
-        )
+    refuse_failing(
+        &rt,
+        a,
+        &[
+            (b"TYPE : TOUR\nTOUR_SECTION 1 -1\nEOF", 3, TextKind::Read),
+            (b"TYPE : TOUR\nFOO ", 2, TextKind::UnknownKeyword),
+            (b"TYPE : TOUR\nFOO", 2, TextKind::Read),
+        ],
     );
-    assert!(rt;
-        is_fault(
-            read_dripping(a, b"TYPE : TOUR\nFOO", true),
-            2,
-            TextKind::Read
-        )
-    );
-    Ok(())
 }
 
 /// After an ending `-1` a source is read on only while one `-1` more may stand there.
 #[test]
 fn one_ending_more(rt: HostRuntime) {
-    let a = rt.alloc();
-    let rows = [
-        (
-            b"TYPE : TOUR\nTOUR_SECTION 1 -1 -".as_slice(),
-            2,
-            TextKind::Read,
-        ),
-        (b"TYPE : TOUR\nTOUR_SECTION 1 -1 -0", 2, TextKind::Read),
-        (b"TYPE : TOUR\nTOUR_SECTION 1 -1\n -1", 3, TextKind::Read),
-        (
-            b"TYPE : TOUR\nTOUR_SECTION 1 -1 5",
-            2,
-            TextKind::TrailingData,
-        ),
-        (
-            b"TYPE : TOUR\nTOUR_SECTION 1 -1 -2",
-            2,
-            TextKind::TrailingData,
-        ),
-        (
-            b"TYPE : TOUR\nTOUR_SECTION 1 -1 -11",
-            2,
-            TextKind::TrailingData,
-        ),
-        (
-            b"TYPE : TOUR\nTOUR_SECTION 1 -1\n +",
-            3,
-            TextKind::TrailingData,
-        ),
-    ];
-    for (text, line, kind) in rows {
-        assert!(rt; is_fault(read_dripping(a, text, true), line, kind));
-    }
+    refuse_failing(
+        &rt,
+        rt.alloc(),
+        &[
+            (b"TYPE : TOUR\nTOUR_SECTION 1 -1 -", 2, TextKind::Read),
+            (b"TYPE : TOUR\nTOUR_SECTION 1 -1 -0", 2, TextKind::Read),
+            (b"TYPE : TOUR\nTOUR_SECTION 1 -1\n -1", 3, TextKind::Read),
+            (
+                b"TYPE : TOUR\nTOUR_SECTION 1 -1 5",
+                2,
+                TextKind::TrailingData,
+            ),
+            (
+                b"TYPE : TOUR\nTOUR_SECTION 1 -1 -2",
+                2,
+                TextKind::TrailingData,
+            ),
+            (
+                b"TYPE : TOUR\nTOUR_SECTION 1 -1 -11",
+                2,
+                TextKind::TrailingData,
+            ),
+            (
+                b"TYPE : TOUR\nTOUR_SECTION 1 -1\n +",
+                3,
+                TextKind::TrailingData,
+            ),
+        ],
+    );
 }

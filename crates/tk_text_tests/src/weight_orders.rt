@@ -1,127 +1,133 @@
 //! The places of weights in the order of each format.
-ghost use Rattle.std.specs.Prelude.{◌≡◌};
 
 use std::alloc::Global;
 use std::process::Abort;
-use std::test::Fail;
 use tk_text::{Format, LowerWeights, Place, WeightCursor};
-
-fn at(row: u32, column: u32) -> Place
-    ensures { result ≡ record { row = row; column = column } }
-{
-    Place { row, column }
-}
-
-#[test]
-fn diagonal(rt: HostRuntime) {
-    assert!(rt; at(2, 2).is_diagonal());
-    assert!(rt; !at(2, 3).is_diagonal());
-}
 
 #[test]
 fn indices(rt: HostRuntime) {
-    assert!(rt; at(1, 0).lower_index() == 0);
-    assert!(rt; at(2, 0).lower_index() == 1);
-    assert!(rt; at(1, 2).lower_index() == 2);
-    assert!(rt; at(4999, 4998).lower_index() == 12_497_499);
+    assert!(rt; Place { row: 2, column: 2 }.is_diagonal());
+    let rows: &[(u32, u32, usize)] = &[
+        (1, 0, 0),
+        (2, 0, 1),
+        (1, 2, 2),
+        (2, 3, 5),
+        (4999, 4998, 12_497_499),
+    ];
+    for (row, column, index) in rows {
+        let place = Place {
+            row: *row,
+            column: *column,
+        };
+        assert!(rt; !place.is_diagonal());
+        assert!(rt; place.lower_index() == *index);
+    }
 }
 
-fn walk(rt: &impl Abort, format: Format, places: &[(u32, u32)]) {
-    let mut cursor = WeightCursor::new(format, 3);
-    for place in places {
+/// The weights of so many cities stand at these places.
+fn walk(rt: &impl Abort, format: Format, cities: u16, places: &[(u32, u32)]) {
+    let mut cursor = WeightCursor::new(format, cities as u32);
+    for (row, column) in places {
         assert!(rt; !cursor.is_done());
         let here = cursor.place();
-        assert!(rt; (here.row, here.column) == *place);
+        assert!(rt; here.row == *row && here.column == *column);
         cursor.advance();
     }
     assert!(rt; cursor.is_done());
 }
 
 #[test]
-fn places_by_rows(rt: HostRuntime) {
-    let full = [
-        (0, 0),
-        (0, 1),
-        (0, 2),
-        (1, 0),
-        (1, 1),
-        (1, 2),
-        (2, 0),
-        (2, 1),
-        (2, 2),
+fn places_of_each_format(rt: HostRuntime) {
+    let rows: &[(Format, u16, &[(u32, u32)])] = &[
+        (
+            Format::FullMatrix,
+            3,
+            &[
+                (0, 0),
+                (0, 1),
+                (0, 2),
+                (1, 0),
+                (1, 1),
+                (1, 2),
+                (2, 0),
+                (2, 1),
+                (2, 2),
+            ],
+        ),
+        (Format::UpperRow, 3, &[(0, 1), (0, 2), (1, 2)]),
+        (Format::LowerRow, 3, &[(1, 0), (2, 0), (2, 1)]),
+        (
+            Format::UpperDiagRow,
+            3,
+            &[(0, 0), (0, 1), (0, 2), (1, 1), (1, 2), (2, 2)],
+        ),
+        (
+            Format::LowerDiagRow,
+            3,
+            &[(0, 0), (1, 0), (1, 1), (2, 0), (2, 1), (2, 2)],
+        ),
+        (Format::UpperCol, 3, &[(0, 1), (0, 2), (1, 2)]),
+        (Format::LowerCol, 3, &[(1, 0), (2, 0), (2, 1)]),
+        (
+            Format::UpperDiagCol,
+            3,
+            &[(0, 0), (0, 1), (1, 1), (0, 2), (1, 2), (2, 2)],
+        ),
+        (
+            Format::LowerDiagCol,
+            3,
+            &[(0, 0), (1, 0), (2, 0), (1, 1), (2, 1), (2, 2)],
+        ),
+        (Format::UpperRow, 1, &[]),
+        (Format::LowerCol, 0, &[]),
     ];
-    walk(&rt, Format::FullMatrix, &full);
-    walk(&rt, Format::UpperRow, &[(0, 1), (0, 2), (1, 2)]);
-    walk(&rt, Format::LowerRow, &[(1, 0), (2, 0), (2, 1)]);
-    walk(
-        &rt,
-        Format::UpperDiagRow,
-        &[(0, 0), (0, 1), (0, 2), (1, 1), (1, 2), (2, 2)],
-    );
-    walk(
-        &rt,
-        Format::LowerDiagRow,
-        &[(0, 0), (1, 0), (1, 1), (2, 0), (2, 1), (2, 2)],
-    );
+    for (format, cities, places) in rows {
+        walk(&rt, *format, *cities, places);
+    }
 }
 
-#[test]
-fn places_by_columns(rt: HostRuntime) {
-    walk(&rt, Format::UpperCol, &[(0, 1), (0, 2), (1, 2)]);
-    walk(&rt, Format::LowerCol, &[(1, 0), (2, 0), (2, 1)]);
-    walk(
-        &rt,
-        Format::UpperDiagCol,
-        &[(0, 0), (0, 1), (1, 1), (0, 2), (1, 2), (2, 2)],
-    );
-    walk(
-        &rt,
-        Format::LowerDiagCol,
-        &[(0, 0), (1, 0), (2, 0), (1, 1), (2, 1), (2, 2)],
-    );
+/// Takes the next weight, or passes it on the diagonal.
+fn take(rt: &impl Abort, weights: &mut LowerWeights, weight: u32) {
+    assert!(rt; !weights.is_done());
+    if weights.place().is_diagonal() {
+        weights.skip();
+        return;
+    }
+    assert!(rt; weight <= 9);
+    let before = weights.weight();
+    assert!(rt; before == 0 || before == weight);
+    weights.push(weight);
 }
 
-#[test]
-fn no_pair(rt: HostRuntime) {
-    assert!(&rt; WeightCursor::new(Format::UpperRow, 1).is_done());
-    assert!(&rt; WeightCursor::new(Format::LowerCol, 0).is_done());
+/// Takes these weights up to the last.
+fn take_all(rt: &impl Abort, weights: &mut LowerWeights, written: &[u32]) {
+    for weight in written {
+        take(rt, weights, *weight);
+    }
+    assert!(rt; weights.is_done());
 }
 
 /// Of three cities: 7 for the first two, 8 for the first and the last, 9 for the last two.
-fn read(rt: &impl Abort, alloc: Global, format: Format, written: &[u32]) -> Result<(), Fail> {
-    let mut weights = LowerWeights::new(alloc, format, 3)?;
-    for weight in written {
-        assert!(rt; !weights.is_done());
-        let place = weights.place();
-        if place.is_diagonal() {
-            weights.skip();
-        } else {
-            assert!(rt; *weight <= 9);
-            let before = weights.weight();
-            assert!(rt; before == 0 || before == *weight);
-            weights.push(*weight);
-        }
-    }
-    assert!(rt; weights.is_done());
+fn read(rt: &impl Abort, alloc: Global, format: Format, written: &[u32]) {
+    let mut weights = LowerWeights::new(alloc, format, 3).expect(rt, "memory for three weights");
+    take_all(rt, &mut weights, written);
     assert!(rt; weights.into_weights().as_slice() == [7, 8, 9].as_slice());
-    Ok(())
 }
 
 #[test]
-fn weights_by_rows(rt: HostRuntime) -> Result<(), Fail> {
-    let alloc = rt.alloc();
-    read(&rt, alloc, Format::FullMatrix, &[5, 7, 8, 7, 5, 9, 8, 9, 5])?;
-    read(&rt, alloc, Format::UpperRow, &[7, 8, 9])?;
-    read(&rt, alloc, Format::LowerRow, &[7, 8, 9])?;
-    read(&rt, alloc, Format::UpperDiagRow, &[5, 7, 8, 5, 9, 5])?;
-    read(&rt, alloc, Format::LowerDiagRow, &[5, 7, 5, 8, 9, 5])
-}
-
-#[test]
-fn weights_by_columns(rt: HostRuntime) -> Result<(), Fail> {
-    let alloc = rt.alloc();
-    read(&rt, alloc, Format::UpperCol, &[7, 8, 9])?;
-    read(&rt, alloc, Format::LowerCol, &[7, 8, 9])?;
-    read(&rt, alloc, Format::UpperDiagCol, &[5, 7, 5, 8, 9, 5])?;
-    read(&rt, alloc, Format::LowerDiagCol, &[5, 7, 8, 5, 9, 5])
+fn weights_of_each_format(rt: HostRuntime) {
+    let rows: &[(Format, &[u32])] = &[
+        (Format::FullMatrix, &[5, 7, 8, 7, 5, 9, 8, 9, 5]),
+        (Format::UpperRow, &[7, 8, 9]),
+        (Format::LowerRow, &[7, 8, 9]),
+        (Format::UpperDiagRow, &[5, 7, 8, 5, 9, 5]),
+        (Format::LowerDiagRow, &[5, 7, 5, 8, 9, 5]),
+        (Format::UpperCol, &[7, 8, 9]),
+        (Format::LowerCol, &[7, 8, 9]),
+        (Format::UpperDiagCol, &[5, 7, 5, 8, 9, 5]),
+        (Format::LowerDiagCol, &[5, 7, 8, 5, 9, 5]),
+    ];
+    for (format, written) in rows {
+        read(&rt, rt.alloc(), *format, written);
+    }
 }

@@ -1,4 +1,5 @@
 //! Texts that are written, and read back.
+mod limits;
 mod matrices;
 mod read_back;
 mod writers;

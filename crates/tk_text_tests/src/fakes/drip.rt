@@ -23,9 +23,7 @@ impl<'a> Source for Drip<'a> {
             self.failed = true;
             return Err(Failed);
         }
-        for i in 0..count {
-            buf[i] = self.bytes[i];
-        }
+        buf[..count].copy_from_slice(&self.bytes[..count]);
         self.bytes = &self.bytes[count..];
         Ok(count)
     }

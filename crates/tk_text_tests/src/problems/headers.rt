@@ -1,9 +1,9 @@
 //! Problem texts whose lines and headers are refused.
 
 use crate::problems::read_both_ways::refuse;
-use std::alloc::{AllocError, Global};
+use crate::texts::repeated;
+use std::alloc::Global;
 use std::process::Abort;
-use std::test::Fail;
 use tk_text::{Keyword, TextKind};
 
 #[test]
@@ -178,44 +178,26 @@ fn lines(rt: HostRuntime) {
     );
 }
 
-/// A line of a word and a value of so many bytes.
-fn line_of(alloc: Global, word: &[u8], count: usize) -> Result<Vec<u8>, AllocError> {
-    let mut text = Vec::new(alloc);
-    text.extend_from_slice(word)?;
-    for _ in 0..count {
-        text.push(b'x')?;
+/// Each line of a word and a value of so many bytes has the fault beside it.
+fn refuse_lines(rt: &impl Abort, alloc: Global, rows: &[(&[u8], usize, u64, TextKind)]) {
+    for (word, count, line, kind) in rows {
+        let text = repeated(rt, alloc, word, b"x", *count, b"\n");
+        refuse(rt, alloc, &[(&text, *line, *kind)]);
     }
-    text.push(b'\n')?;
-    Ok(text)
-}
-
-/// A line of a word and a value of so many bytes has the fault.
-fn refuse_line(
-    rt: &impl Abort,
-    alloc: Global,
-    word: &[u8],
-    count: usize,
-    line: u64,
-    kind: TextKind,
-) -> Result<(), AllocError> {
-    let text = line_of(alloc, word, count)?;
-    refuse(rt, alloc, &[(&text, line, kind)]);
-    Ok(())
 }
 
 #[test]
-fn long_headers(rt: HostRuntime) -> Result<(), Fail> {
-    let missing = TextKind::Missing(Keyword::Type);
-    let rows: [(&[u8], usize, u64, TextKind); 6] = [
-        (b"NAME : ", 1024, 2, missing),
-        (b"NAME : ", 1025, 1, TextKind::TooLong),
-        (b"COMMENT ", 4095, 2, missing),
-        (b"COMMENT ", 4096, 1, TextKind::TooLong),
-        (b"TYPE ", 4096, 1, TextKind::TooLong),
-        (b"CAPACITY ", 4095, 1, TextKind::BadNumber),
-    ];
-    for (word, count, line, kind) in rows {
-        refuse_line(&rt, rt.alloc(), word, count, line, kind)?;
-    }
-    Ok(())
+fn long_headers(rt: HostRuntime) {
+    refuse_lines(
+        &rt,
+        rt.alloc(),
+        &[
+            (b"NAME : ", 1024, 2, TextKind::Missing(Keyword::Type)),
+            (b"NAME : ", 1025, 1, TextKind::TooLong),
+            (b"COMMENT ", 4095, 2, TextKind::Missing(Keyword::Type)),
+            (b"COMMENT ", 4096, 1, TextKind::TooLong),
+            (b"TYPE ", 4096, 1, TextKind::TooLong),
+            (b"CAPACITY ", 4095, 1, TextKind::BadNumber),
+        ],
+    );
 }

@@ -4,8 +4,10 @@ ghost use Rattle.std.specs.Int.RustNames.{unsigned_abs};
 ghost use Rattle.tk_text.specs.ReadBack.{IsSolution, IsTourText};
 ghost use Rattle.tk_text.specs.declared.TextKind.TheVariants as kinds;
 
+use crate::solutions::is_solution;
+use crate::tours::is_list;
 use std::alloc::Global;
-use std::test::Fail;
+use std::process::Abort;
 use tk_text::{
     FromRead, SolText, TextFault, ToWrite, TourText, WriteFault, read_solution, read_tour,
     write_solution, write_tour,
@@ -50,17 +52,23 @@ fn solution_again(
 }
 
 #[test]
-fn a_tour_is_read_back(rt: HostRuntime) -> Result<(), Fail> {
-    let tour = tour_again(rt.alloc(), b"p", 40, &[1, 3, 2, 4])??;
-    assert!(rt; tour.cities.as_slice() == [1, 3, 2, 4].as_slice());
+fn a_tour_is_read_back(rt: HostRuntime) -> Result<(), WriteFault> {
+    let answer = tour_again(rt.alloc(), b"p", 40, &[1, 3, 2, 4])?;
+    assert!(rt; is_list(answer, &[1, 3, 2, 4]));
     Ok(())
 }
 
+/// The routes 1 2 and 3 4.
+pub fn two_routes(rt: &impl Abort, alloc: Global) -> Vec<Vec<u32>> {
+    let first = vec![in alloc; 1, 2].expect(rt, "memory for a route");
+    let second = vec![in alloc; 3, 4].expect(rt, "memory for a route");
+    vec![in alloc; first, second].expect(rt, "memory for two routes")
+}
+
 #[test]
-fn a_solution_is_read_back(rt: HostRuntime) -> Result<(), Fail> {
-    let routes = [vec![in rt.alloc(); 1, 2]?, vec![in rt.alloc(); 3, 4]?];
-    let solution = solution_again(rt.alloc(), &routes, 44)??;
-    assert!(rt; solution.routes.as_slice() == routes.as_slice());
-    assert!(rt; solution.cost == 44);
+fn a_solution_is_read_back(rt: HostRuntime) -> Result<(), WriteFault> {
+    let routes = two_routes(&rt, rt.alloc());
+    let answer = solution_again(rt.alloc(), &routes, 44)?;
+    assert!(rt; is_solution(answer, &[&[1, 2], &[3, 4]], 44));
     Ok(())
 }

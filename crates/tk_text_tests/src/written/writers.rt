@@ -1,48 +1,60 @@
 //! What is written of pieces, tours and routes, whole and to sinks that fail.
 
 use crate::fakes::FakeSink;
-use std::test::Fail;
+use crate::written::limits::expect_taken;
+use crate::written::read_back::two_routes;
+use std::process::Abort;
 use tk_text::{Pen, Sink, ToWrite, WriteFault, write_solution, write_tour};
 
-// `abcde0/18446744073709551615: 7 10`
+/// What a pen is given.
+enum Piece {
+    Bytes(&'static [u8]),
+    Number(u64),
+    Numbers(&'static [u32]),
+}
+
+const PIECES: &[Piece] = &[
+    Piece::Bytes(b"abc"),
+    Piece::Bytes(b""),
+    Piece::Bytes(b"de"),
+    Piece::Number(0),
+    Piece::Bytes(b"/"),
+    Piece::Number(u64::MAX),
+    Piece::Bytes(b": "),
+    Piece::Numbers(&[]),
+    Piece::Numbers(&[7, 10]),
+];
+
+const PIECES_TEXT: &[u8] = b"abcde0/18446744073709551615: 7 10";
+
+fn put<W: Sink>(pen: &mut Pen<'_, W>, piece: &Piece) {
+    match piece {
+        Piece::Bytes(bytes) => pen.put(bytes),
+        Piece::Number(number) => pen.put_number(*number),
+        Piece::Numbers(numbers) => pen.put_spaced(numbers),
+    }
+}
+
 fn write_pieces<W: Sink>(sink: &mut W) -> Result<(), WriteFault> {
     let mut pen = Pen::new(sink);
-    pen.put(b"abc");
-    pen.put(b"");
-    pen.put(b"de");
-    pen.put_number(0);
-    pen.put(b"/");
-    pen.put_number(u64::MAX);
-    pen.put(b": ");
-    pen.put_spaced(&[]);
-    pen.put_spaced(&[7, 10]);
+    for piece in PIECES {
+        put(&mut pen, piece);
+    }
     pen.end()
 }
 
 #[test]
-fn writes_all_pieces(rt: HostRuntime) -> Result<(), Fail> {
-    let mut sink = ToWrite::new(Vec::new(rt.alloc()));
-    assert!(rt; write_pieces(&mut sink) == Ok(()));
-    assert!(rt; !sink.failed());
-    assert!(rt; sink.inner.as_slice() == b"abcde0/18446744073709551615: 7 10".as_slice());
-    Ok(())
-}
-
-#[test]
-fn says_how_much_went_out(rt: HostRuntime) {
-    let text = b"abcde0/18446744073709551615: 7 10";
-    for limit in 0..text.len() {
+fn writes_pieces(rt: HostRuntime) {
+    for limit in 0..=PIECES_TEXT.len() {
         for errs in [false, true] {
             let mut sink = FakeSink::new(limit, errs);
-            let written = limit as u64;
-            assert!(rt; write_pieces(&mut sink) == Err(WriteFault { written }));
-            assert!(rt; sink.failed());
-            assert!(rt; sink.taken() == &text[..limit]);
+            let told = write_pieces(&mut sink);
+            expect_taken(&rt, &sink, told, PIECES_TEXT);
         }
     }
 }
 
-// 10,000 times `x`, and `y`
+/// Writes 10,000 times `x`, and `y`.
 fn write_long<W: Sink>(sink: &mut W) -> Result<(), WriteFault> {
     let piece = [b'x'; 5000];
     let mut pen = Pen::new(sink);
@@ -52,13 +64,19 @@ fn write_long<W: Sink>(sink: &mut W) -> Result<(), WriteFault> {
     pen.end()
 }
 
+/// The bytes are as many as those, and end as they do.
+fn expect_long(rt: &impl Abort, bytes: &[u8]) {
+    assert!(rt; bytes.len() == 10_001);
+    assert!(rt; bytes[10_000] == b'y');
+}
+
 #[test]
-fn writes_more_than_a_page(rt: HostRuntime) -> Result<(), Fail> {
+fn writes_more_than_a_page(rt: HostRuntime) {
     let mut sink = ToWrite::new(Vec::new(rt.alloc()));
-    assert!(rt; write_long(&mut sink) == Ok(()));
-    assert!(rt; sink.inner.len() == 10_001);
-    assert!(rt; sink.inner.last() == Some(&b'y'));
-    Ok(())
+    let told = write_long(&mut sink);
+    assert!(rt; told == Ok(()));
+    assert!(rt; !sink.failed());
+    expect_long(&rt, sink.inner.as_slice());
 }
 
 const TOUR_TEXT: &[u8] =
@@ -66,40 +84,21 @@ const TOUR_TEXT: &[u8] =
 
 #[test]
 fn writes_a_tour(rt: HostRuntime) {
-    let mut sink = ToWrite::new(Vec::new(rt.alloc()));
-    assert!(rt; write_tour(&mut sink, b"p", 40, &[1, 3, 2, 4]) == Ok(()));
-    assert!(rt; sink.inner.as_slice() == TOUR_TEXT);
-}
-
-#[test]
-fn says_how_much_of_a_tour_went_out(rt: HostRuntime) {
-    for limit in 0..TOUR_TEXT.len() {
+    for limit in 0..=TOUR_TEXT.len() {
         let mut sink = FakeSink::new(limit, limit % 2 == 0);
-        let written = limit as u64;
-        assert!(rt; write_tour(&mut sink, b"p", 40, &[1, 3, 2, 4]) == Err(WriteFault { written }));
-        assert!(rt; sink.taken() == &TOUR_TEXT[..limit]);
+        let told = write_tour(&mut sink, b"p", 40, &[1, 3, 2, 4]);
+        expect_taken(&rt, &sink, told, TOUR_TEXT);
     }
 }
 
 const SOLUTION_TEXT: &[u8] = b"Route #1: 1 2\nRoute #2: 3 4\nCost 44\n";
 
 #[test]
-fn writes_a_solution(rt: HostRuntime) -> Result<(), Fail> {
-    let routes = [vec![in rt.alloc(); 1, 2]?, vec![in rt.alloc(); 3, 4]?];
-    let mut sink = ToWrite::new(Vec::new(rt.alloc()));
-    assert!(rt; write_solution(&mut sink, &routes, 44) == Ok(()));
-    assert!(rt; sink.inner.as_slice() == SOLUTION_TEXT);
-    Ok(())
-}
-
-#[test]
-fn says_how_much_of_a_solution_went_out(rt: HostRuntime) -> Result<(), Fail> {
-    let routes = [vec![in rt.alloc(); 1, 2]?, vec![in rt.alloc(); 3, 4]?];
-    for limit in 0..SOLUTION_TEXT.len() {
+fn writes_a_solution(rt: HostRuntime) {
+    let routes = two_routes(&rt, rt.alloc());
+    for limit in 0..=SOLUTION_TEXT.len() {
         let mut sink = FakeSink::new(limit, limit % 2 == 0);
-        let written = limit as u64;
-        assert!(rt; write_solution(&mut sink, &routes, 44) == Err(WriteFault { written }));
-        assert!(rt; sink.taken() == &SOLUTION_TEXT[..limit]);
+        let told = write_solution(&mut sink, &routes, 44);
+        expect_taken(&rt, &sink, told, SOLUTION_TEXT);
     }
-    Ok(())
 }

@@ -1,0 +1,89 @@
+//! What problems say, and whether two say the same.
+
+use tk_text::{Places, PlaneKind, Problem, Routing, Weights};
+
+/// What a problem says.
+#[derive(Drop)]
+pub struct Told<'a> {
+    pub name: &'a [u8],
+    pub n: u32,
+    pub weights: ToldWeights<'a>,
+    /// A capacity, demands and a depot.
+    pub routing: Option<(u32, &'a [u32], u32)>,
+}
+
+/// Places of a kind of the plane, or the weights below the diagonal.
+#[derive(Drop)]
+pub enum ToldWeights<'a> {
+    Points(PlaneKind, Places<'a>),
+    Lower(&'a [u32]),
+}
+
+/// What this problem says.
+pub fn told_by(problem: &Problem) -> Told<'_> {
+    Told {
+        name: problem.name.as_slice(),
+        n: problem.n,
+        weights: told_weights(&problem.weights),
+        routing: told_routing(&problem.routing),
+    }
+}
+
+fn told_weights(weights: &Weights) -> ToldWeights<'_> {
+    match weights {
+        Weights::Points(kind, points) => ToldWeights::Points(*kind, points.places()),
+        Weights::Lower(lower) => ToldWeights::Lower(lower.as_slice()),
+    }
+}
+
+fn told_routing(routing: &Option<Routing>) -> Option<(u32, &[u32], u32)> {
+    match routing {
+        Some(routing) => Some((routing.capacity, routing.demand.as_slice(), routing.depot)),
+        None => None,
+    }
+}
+
+/// Whether both say the same problem.
+pub fn is_same_problem(left: &Told<'_>, right: &Told<'_>) -> bool {
+    left.name == right.name
+        && left.n == right.n
+        && is_same_routing(&left.routing, &right.routing)
+        && are_same_weights(&left.weights, &right.weights)
+}
+
+fn is_same_routing(left: &Option<(u32, &[u32], u32)>, right: &Option<(u32, &[u32], u32)>) -> bool {
+    match left {
+        None => right.is_none(),
+        Some((capacity, demand, depot)) => match right {
+            None => false,
+            Some(right) => right.0 == *capacity && right.1 == *demand && right.2 == *depot,
+        },
+    }
+}
+
+fn are_same_weights(left: &ToldWeights<'_>, right: &ToldWeights<'_>) -> bool {
+    match left {
+        ToldWeights::Points(left_kind, left) => match right {
+            ToldWeights::Points(right_kind, right) => {
+                left_kind == right_kind && are_same_places(*left, *right)
+            }
+            ToldWeights::Lower(_) => false,
+        },
+        ToldWeights::Lower(left) => match right {
+            ToldWeights::Points(_, _) => false,
+            ToldWeights::Lower(right) => *left == *right,
+        },
+    }
+}
+
+fn are_same_places(left: Places<'_>, right: Places<'_>) -> bool {
+    if left.len() != right.len() {
+        return false;
+    }
+    for index in 0..left.len() {
+        if left.get(index) != right.get(index) {
+            return false;
+        }
+    }
+    true
+}
