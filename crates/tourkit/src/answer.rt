@@ -4,6 +4,7 @@ use crate::json::object_of;
 use crate::report;
 use std::io::{self, Stdout, Write};
 use std::process::ExitCode;
+use tk_engines::Fault;
 
 /// Where the lines of an answer go.
 #[derive(Drop)]
@@ -45,6 +46,20 @@ impl Answer {
         match self.print(rt) {
             Ok(()) => status,
             Err(status) => status,
+        }
+    }
+
+    /// Tells why a check was stopped of what one file claims of the problem of another.
+    pub fn stopped(
+        &self,
+        rt: &HostRuntime,
+        problem_file: &str,
+        claim_file: &str,
+        fault: &Fault,
+    ) -> ExitCode {
+        match fault {
+            Fault::Write(_) => self.unwritten(rt),
+            fault => report::stopped_by_claim(rt, problem_file, claim_file, fault),
         }
     }
 

@@ -106,26 +106,32 @@ impl<'a> BestFile<'a> {
         self.ended_length = length;
     }
 
-    /// Saves the tour, or the one that is kept where that is shorter, in a new file that then takes the old one's
-    /// place.
+    /// Saves the tour, or the one that is kept where that is shorter.
     fn save(&mut self, length: i64, cities: &[u32]) {
-        let Some(name) = &self.name else {
-            return;
-        };
-        let Ok((part, file)) = make_part(self.rt, name) else {
-            return;
-        };
         let shortest = self.ended_length.min(length);
-        let filled = if self.ended_length < length {
-            fill(file, &self.problem, shortest, &self.ended)
+        let saved = if self.ended_length < length {
+            self.replace(shortest, &self.ended)
         } else {
-            fill(file, &self.problem, shortest, cities)
+            self.replace(shortest, cities)
         };
-        if !filled {
-            let _ = fs::remove_file(self.rt, &part);
-        } else if put_in_place(self.rt, &part, name).is_ok() {
+        if saved {
             self.saved = shortest;
         }
+    }
+
+    /// Writes the tour to a new file that then takes the old one's place. It says whether that was done.
+    fn replace(&self, length: i64, cities: &[u32]) -> bool {
+        let Some(name) = &self.name else {
+            return false;
+        };
+        let Ok((part, file)) = make_part(self.rt, name) else {
+            return false;
+        };
+        if !fill(file, &self.problem, length, cities) {
+            let _ = fs::remove_file(self.rt, &part);
+            return false;
+        }
+        put_in_place(self.rt, &part, name).is_ok()
     }
 
     /// Takes the file away, once the search has written its own, unless the search began from it.

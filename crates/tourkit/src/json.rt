@@ -1,6 +1,6 @@
 //! Answers as JSON: what the lines of a command say, as the members of one object.
 
-use crate::json_lines::{Becomes, Line, Member, take_apart};
+use crate::json_lines::{Array, Becomes, Line, Member, take_apart};
 use serde::{Described, Serialize, Serializer};
 use serde_json::to_string;
 use std::alloc::{AllocError, Global};
@@ -16,19 +16,21 @@ struct Object<'a> {
 /// # Errors
 /// `AllocError` if memory runs out.
 pub fn object_of(alloc: Global, lines: &[u8]) -> Result<String, AllocError> {
-    let mut object = Object {
-        lines: Vec::new(alloc),
+    let lines = lines_of(alloc, str::from_utf8(lines).unwrap_or("not UTF-8"))?;
+    let Ok(mut text) = to_string(alloc, &Object { lines }) else {
+        return Err(AllocError);
     };
-    for line in str::from_utf8(lines).unwrap_or("not UTF-8").lines() {
-        object.lines.push(take_apart(alloc, line)?)?;
+    text.push_str("\n")?;
+    Ok(text)
+}
+
+/// The lines of a text, taken apart.
+fn lines_of<'a>(alloc: Global, text: &'a str) -> Result<Vec<Line<'a>>, AllocError> {
+    let mut lines = Vec::new(alloc);
+    for line in text.lines() {
+        lines.push(take_apart(alloc, line)?)?;
     }
-    match to_string(alloc, &object) {
-        Ok(mut text) => {
-            text.push_str("\n")?;
-            Ok(text)
-        }
-        Err(_) => Err(AllocError),
-    }
+    Ok(lines)
 }
 
 impl Described for Object<'_> {}
@@ -36,91 +38,100 @@ impl Described for Object<'_> {}
 impl Serialize for Object<'_> {
     fn serialize<S: Serializer>(&self, out: &mut S) -> Result<(), S::Error> {
         out.begin_map(None)?;
-        put_ignored(out, &self.lines)?;
-        put_runs(out, &self.lines)?;
-        for line in self.lines.iter() {
-            put_members_of(out, line)?;
-        }
-        put_unknown(out, &self.lines)?;
+        put_lines(out, &self.lines)?;
         out.end_map()
     }
 }
 
-/// Puts the array of ignored keys. Each search has one, and what it prints ends with a line that becomes members.
-fn put_ignored<S: Serializer>(out: &mut S, lines: &[Line<'_>]) -> Result<(), S::Error> {
-    if !lines
-        .iter()
-        .any(|line| matches!(line.becomes, Becomes::Values))
-    {
+/// Puts what lines say: the ignored keys, the runs, the other members, and what is of no known form.
+fn put_lines<S: Serializer>(out: &mut S, lines: &[Line<'_>]) -> Result<(), S::Error> {
+    put_array(out, Array::Ignored, lines)?;
+    put_array(out, Array::Runs, lines)?;
+    for line in lines {
+        put_members_of(out, line)?;
+    }
+    put_array(out, Array::Unknown, lines)
+}
+
+/// Puts an array, if lines ask for it.
+fn put_array<S: Serializer>(out: &mut S, array: Array, lines: &[Line<'_>]) -> Result<(), S::Error> {
+    if !is_asked_for(array, lines) {
         return Ok(());
     }
-    out.key("ignored")?;
+    out.key(array.name())?;
     out.begin_seq(None)?;
-    for line in lines {
-        if let Becomes::Ignored = line.becomes {
-            for member in line.members.iter() {
-                put_value(out, member.value)?;
-            }
-        }
-    }
+    put_items(out, array, lines)?;
     out.end_seq()
 }
 
-/// Puts the array of runs, if there are any.
-fn put_runs<S: Serializer>(out: &mut S, lines: &[Line<'_>]) -> Result<(), S::Error> {
-    if !lines
-        .iter()
-        .any(|line| matches!(line.becomes, Becomes::Run))
-    {
-        return Ok(());
-    }
-    out.key("runs")?;
-    out.begin_seq(None)?;
+/// Whether lines ask for an array.
+fn is_asked_for(array: Array, lines: &[Line<'_>]) -> bool {
+    lines.iter().any(|line| line.asks_for(array))
+}
+
+/// Puts the items of an array.
+fn put_items<S: Serializer>(out: &mut S, array: Array, lines: &[Line<'_>]) -> Result<(), S::Error> {
     for line in lines {
-        if let Becomes::Run = line.becomes {
-            out.begin_map(None)?;
-            put_members(out, &line.members)?;
-            out.end_map()?;
+        if line.is_in(array) {
+            put_item(out, array, line)?;
         }
     }
-    out.end_seq()
+    Ok(())
+}
+
+/// Puts what a line becomes in an array.
+fn put_item<S: Serializer>(out: &mut S, array: Array, line: &Line<'_>) -> Result<(), S::Error> {
+    match array {
+        Array::Ignored => put_values(out, &line.members),
+        Array::Runs => put_run(out, &line.members),
+        Array::Unknown => out.str(line.text),
+    }
+}
+
+/// Puts an object with the values of a run.
+fn put_run<S: Serializer>(out: &mut S, members: &[Member<'_>]) -> Result<(), S::Error> {
+    out.begin_map(None)?;
+    put_members(out, members)?;
+    out.end_map()
 }
 
 /// Puts the members that a line becomes.
 fn put_members_of<S: Serializer>(out: &mut S, line: &Line<'_>) -> Result<(), S::Error> {
-    match line.becomes {
-        Becomes::Valid => {
-            out.key("valid")?;
-            out.bool(true)?;
-        }
-        Becomes::Fault(name) => {
-            out.key("valid")?;
-            out.bool(false)?;
-            out.key("fault")?;
-            out.str(name)?;
-        }
-        Becomes::Values => {}
-        Becomes::Ignored | Becomes::Run | Becomes::Unknown => return Ok(()),
+    if let Becomes::Item(_) = line.becomes {
+        return Ok(());
     }
+    put_verdict(out, line.becomes)?;
     put_members(out, &line.members)
 }
 
-/// Puts the array of lines of no known form, if there are any: then a form is missing, but nothing is lost.
-fn put_unknown<S: Serializer>(out: &mut S, lines: &[Line<'_>]) -> Result<(), S::Error> {
-    if !lines
-        .iter()
-        .any(|line| matches!(line.becomes, Becomes::Unknown))
-    {
-        return Ok(());
+/// Puts the members that say whether there is a fault, and name it, if a line tells that.
+fn put_verdict<S: Serializer>(out: &mut S, becomes: Becomes) -> Result<(), S::Error> {
+    match becomes {
+        Becomes::Valid => put_valid(out, true),
+        Becomes::Fault(name) => put_fault(out, name),
+        Becomes::Values | Becomes::Item(_) => Ok(()),
     }
-    out.key("unknown")?;
-    out.begin_seq(None)?;
-    for line in lines {
-        if let Becomes::Unknown = line.becomes {
-            out.str(line.text)?;
-        }
+}
+
+/// Puts the members that name a fault.
+fn put_fault<S: Serializer>(out: &mut S, name: &str) -> Result<(), S::Error> {
+    put_valid(out, false)?;
+    out.key("fault")?;
+    out.str(name)
+}
+
+/// Puts the member that says whether the tour or the routes have no fault.
+fn put_valid<S: Serializer>(out: &mut S, valid: bool) -> Result<(), S::Error> {
+    out.key("valid")?;
+    out.bool(valid)
+}
+
+/// Puts values without their names.
+fn put_values<S: Serializer>(out: &mut S, members: &[Member<'_>]) -> Result<(), S::Error> {
+    for member in members {
+        put_value(out, member.value)?;
     }
-    out.end_seq()
+    Ok(())
 }
 
 /// Puts values with their names.

@@ -9,14 +9,32 @@ pub enum Becomes {
     Valid,
     /// Members that name this fault, and the values.
     Fault(&'static str),
-    /// An item of the array of ignored keys.
-    Ignored,
-    /// An object with the values, in the array of runs.
-    Run,
     /// The values, as members.
     Values,
-    /// An item of the array of lines of no known form.
+    /// An item of this array.
+    Item(Array),
+}
+
+/// An array of the object.
+#[derive(Clone, Copy, PartialEq, Eq)]
+pub enum Array {
+    /// The ignored keys. Each search has this array.
+    Ignored,
+    /// The runs: objects with the values.
+    Runs,
+    /// The lines of no known form: where there are any, a form is missing, but nothing is lost.
     Unknown,
+}
+
+impl Array {
+    /// The name that it has in the object.
+    pub fn name(self) -> &'static str {
+        match self {
+            Array::Ignored => "ignored",
+            Array::Runs => "runs",
+            Array::Unknown => "unknown",
+        }
+    }
 }
 
 /// A form of lines: the text, in which a name in braces stands for a value, and what such a line becomes.
@@ -69,11 +87,11 @@ static FORMS: [Form; 15] = [
     },
     Form {
         text: "ignored {key}",
-        becomes: Becomes::Ignored,
+        becomes: Becomes::Item(Array::Ignored),
     },
     Form {
         text: "run {run}: start {start}, best {best}, trials {trials}, moves {moves}, tests {tests}, swaps {swaps}",
-        becomes: Becomes::Run,
+        becomes: Becomes::Item(Array::Runs),
     },
     Form {
         text: "savings {savings}, routes {routes}",
@@ -109,66 +127,97 @@ pub struct Line<'a> {
     pub members: Vec<Member<'a>>,
 }
 
+impl Line<'_> {
+    /// Whether it is an item of an array.
+    pub fn is_in(&self, array: Array) -> bool {
+        matches!(self.becomes, Becomes::Item(of) if of == array)
+    }
+
+    /// Whether the object has an array because of it: that of ignored keys is in the object of each search, which ends
+    /// with values, and the others are there for their items.
+    pub fn asks_for(&self, array: Array) -> bool {
+        match array {
+            Array::Ignored => matches!(self.becomes, Becomes::Values),
+            _ => self.is_in(array),
+        }
+    }
+}
+
 /// Takes a line apart.
 ///
 /// # Errors
 /// `AllocError` if memory runs out.
 pub fn take_apart<'a>(alloc: Global, text: &'a str) -> Result<Line<'a>, AllocError> {
-    for form in FORMS.iter() {
-        if let Some(members) = members_by(alloc, form.text, text)? {
-            return Ok(Line {
-                becomes: form.becomes,
-                text,
-                members,
-            });
-        }
-    }
+    let mut members = Vec::new(alloc);
+    let becomes = recognize(text, &mut members)?;
     Ok(Line {
-        becomes: Becomes::Unknown,
+        becomes,
         text,
-        members: Vec::new(alloc),
+        members,
     })
 }
 
-/// The values of a line of this form; `None` for a line of another form.
-fn members_by<'a>(
-    alloc: Global,
-    form: &'static str,
+/// What a line becomes. Its values become the members.
+fn recognize<'a>(line: &'a str, members: &mut Vec<Member<'a>>) -> Result<Becomes, AllocError> {
+    for form in FORMS.iter() {
+        if has_form(line, form.text, members)? {
+            return Ok(form.becomes);
+        }
+    }
+    members.clear();
+    Ok(Becomes::Item(Array::Unknown))
+}
+
+/// Whether a line has this form. Then its values become the members.
+fn has_form<'a>(
     line: &'a str,
-) -> Result<Option<Vec<Member<'a>>>, AllocError> {
-    let mut members = Vec::new(alloc);
-    let Some((front, pieces)) = form.split_once('{') else {
-        return Ok(None);
-    };
-    let Some(mut rest) = line.strip_prefix(front) else {
-        return Ok(None);
-    };
+    form: &'static str,
+    members: &mut Vec<Member<'a>>,
+) -> Result<bool, AllocError> {
+    members.clear();
+    match behind_front(line, form) {
+        Some((rest, pieces)) => take_values(rest, pieces, members),
+        None => Ok(false),
+    }
+}
+
+/// What a line and its form have behind the first brace of the form, if they are the same before it.
+fn behind_front<'a>(line: &'a str, form: &'static str) -> Option<(&'a str, &'static str)> {
+    let (front, pieces) = form.split_once('{')?;
+    let rest = line.strip_prefix(front)?;
+    Some((rest, pieces))
+}
+
+/// Takes the values from a line, and says whether that was all of it.
+fn take_values<'a>(
+    mut line: &'a str,
+    pieces: &'static str,
+    members: &mut Vec<Member<'a>>,
+) -> Result<bool, AllocError> {
     for piece in pieces.split('{') {
-        let Some((member, behind)) = next_member(piece, rest) else {
-            return Ok(None);
+        let Some((member, behind)) = next_member(piece, line) else {
+            return Ok(false);
         };
         members.push(member)?;
-        rest = behind;
+        line = behind;
     }
-    if rest.is_empty() {
-        return Ok(Some(members));
-    }
-    Ok(None)
+    Ok(line.is_empty())
 }
 
 /// The value at the front of a line, and the rest behind the text that follows it. The piece of a form has its name, a
 /// brace, and that text, which is empty at the end of a line.
 fn next_member<'a>(piece: &'static str, line: &'a str) -> Option<(Member<'a>, &'a str)> {
     let (name, text) = piece.split_once('}')?;
-    let (value, behind) = if text.is_empty() {
-        (line, "")
-    } else {
-        line.split_once(text)?
-    };
-    if !is_value(value) {
-        return None;
+    let (value, behind) = parted(line, text)?;
+    is_value(value).then_some((Member { name, value }, behind))
+}
+
+/// What a line has before a text and behind it. An empty text stands at its end.
+fn parted<'a>(line: &'a str, text: &str) -> Option<(&'a str, &'a str)> {
+    if text.is_empty() {
+        return Some((line, ""));
     }
-    Some((Member { name, value }, behind))
+    line.split_once(text)
 }
 
 /// Whether it is a number or the word of a key.

@@ -1,7 +1,7 @@
 //! The file that `solve` writes.
 use crate::report;
 use std::alloc::AllocError;
-use std::fs::{self, File, Permissions};
+use std::fs::{self, File, Metadata, Permissions};
 use std::io::{self, ErrorKind, Seek, SeekFrom, Write};
 use std::process::{self, ExitCode};
 
@@ -37,32 +37,49 @@ pub fn find_place(rt: &HostRuntime, name: &str) -> Result<(), ExitCode> {
 
 /// Whether a file that is there can be written. What is no plain file is not touched.
 fn find_old(rt: &HostRuntime, path: &str) -> Result<(), Unsaved> {
-    let found = match fs::metadata(rt, path) {
-        Ok(found) => found,
-        Err(error) => return Err(unopened(error.kind())),
-    };
+    let found = look_at(rt, path)?;
     if found.is_dir() {
         return Err(Unsaved::Unopened);
     }
-    if !found.is_file() {
-        return Ok(());
+    if found.is_file() {
+        open_old(rt, path)?;
     }
+    Ok(())
+}
+
+/// What is known of a file that is there.
+fn look_at(rt: &HostRuntime, path: &str) -> Result<Metadata, Unsaved> {
+    match fs::metadata(rt, path) {
+        Ok(found) => Ok(found),
+        Err(error) => Err(unopened(error.kind())),
+    }
+}
+
+/// Opens a file that is there, which keeps its bytes.
+fn open_old(rt: &HostRuntime, path: &str) -> Result<File, Unsaved> {
     match File::options().write(true).open(rt, path) {
-        Ok(_) => Ok(()),
+        Ok(file) => Ok(file),
         Err(error) => Err(unopened(error.kind())),
     }
 }
 
 /// Whether a file that is not there can be made.
 fn find_new(rt: &HostRuntime, name: &str) -> Result<(), Unsaved> {
-    match fs::symlink_metadata(rt, name) {
-        Ok(_) => return Ok(()),
-        Err(error) if error.kind() == ErrorKind::NotFound => {}
-        Err(error) => return Err(unopened(error.kind())),
+    if is_taken(rt, name)? {
+        return Ok(());
     }
     let (part, _) = make_part(rt, name)?;
     let _ = fs::remove_file(rt, &part);
     Ok(())
+}
+
+/// Whether a name stands for anything, if only for a link that leads nowhere.
+fn is_taken(rt: &HostRuntime, name: &str) -> Result<bool, Unsaved> {
+    match fs::symlink_metadata(rt, name) {
+        Ok(_) => Ok(true),
+        Err(error) if error.kind() == ErrorKind::NotFound => Ok(false),
+        Err(error) => Err(unopened(error.kind())),
+    }
 }
 
 /// Writes a text to a file. A plain file that is there is not touched until all new bytes are written beside it, or,
@@ -90,17 +107,11 @@ fn tell(rt: &HostRuntime, name: &str, unsaved: Unsaved) -> ExitCode {
 
 /// Writes the text to a file that is there.
 fn save_old(rt: &HostRuntime, path: &str, text: &[u8]) -> Result<(), Unsaved> {
-    let found = match fs::metadata(rt, path) {
-        Ok(found) => found,
-        Err(error) => return Err(unopened(error.kind())),
-    };
+    let found = look_at(rt, path)?;
     if !found.is_file() {
         return write_directly(rt, path, text);
     }
-    let file = match File::options().write(true).open(rt, path) {
-        Ok(file) => file,
-        Err(error) => return Err(unopened(error.kind())),
-    };
+    let file = open_old(rt, path)?;
     match replace(rt, path, text, Some(found.permissions())) {
         Err(Unsaved::NoOther) => write_over(file, found.len(), text),
         replaced => replaced,
@@ -109,10 +120,8 @@ fn save_old(rt: &HostRuntime, path: &str, text: &[u8]) -> Result<(), Unsaved> {
 
 /// Writes the text to a file that is not there, or to what a link stands for that has no path, as a pipe.
 fn save_new(rt: &HostRuntime, name: &str, text: &[u8]) -> Result<(), Unsaved> {
-    match fs::symlink_metadata(rt, name) {
-        Ok(_) => return write_directly(rt, name, text),
-        Err(error) if error.kind() == ErrorKind::NotFound => {}
-        Err(error) => return Err(unopened(error.kind())),
+    if is_taken(rt, name)? {
+        return write_directly(rt, name, text);
     }
     match replace(rt, name, text, None) {
         Err(Unsaved::NoOther) => write_directly(rt, name, text),

@@ -106,6 +106,19 @@ pub fn stopped(rt: &HostRuntime, file: &str, fault: &Fault) -> ExitCode {
     }
 }
 
+/// Tells the fault of an engine over the problem of one file and what another claims of it.
+pub fn stopped_by_claim(
+    rt: &HostRuntime,
+    problem_file: &str,
+    claim_file: &str,
+    fault: &Fault,
+) -> ExitCode {
+    match fault {
+        Fault::Tour(fault) | Fault::Solution(fault) => text_fault(rt, claim_file, fault),
+        fault => stopped(rt, problem_file, fault),
+    }
+}
+
 /// Tells the fault of a text.
 pub fn text_fault(rt: &HostRuntime, file: &str, fault: &TextFault) -> ExitCode {
     let _ = eprintln!(rt; "tourkit: {file}:{fault}");

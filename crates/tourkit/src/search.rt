@@ -1,8 +1,8 @@
 //! A search that is asked for: what it is to do, and its files.
 
-use crate::input::{Input, open, open_file};
+use crate::input::{Input, open, open_file, open_two};
 use std::process::ExitCode;
-use tk_command_line::{STANDARD, SearchOptions};
+use tk_command_line::SearchOptions;
 use tk_params::{Key, Params};
 
 /// A search, asked for by a parameter file or by options.
@@ -67,12 +67,17 @@ impl<'p, 'a> Search<'p, 'a> {
         let Some(initial) = self.initial else {
             return Ok((self.open_one(rt, self.problem)?, None));
         };
-        if self.by_options && initial == STANDARD {
-            let standard = open(rt, initial)?;
-            return Ok((open_file(rt, self.problem)?, Some(standard)));
+        let (problem, initial) = self.open_both(rt, initial)?;
+        Ok((problem, Some(initial)))
+    }
+
+    /// Opens the problem and the tour to begin with. On the command line only one of them is standard input.
+    fn open_both(&self, rt: &HostRuntime, initial: &str) -> Result<(Input, Input), ExitCode> {
+        if self.by_options {
+            return open_two(rt, self.problem, initial);
         }
-        let problem = self.open_one(rt, self.problem)?;
-        Ok((problem, Some(self.open_one(rt, initial)?)))
+        let problem = open_file(rt, self.problem)?;
+        Ok((problem, open_file(rt, initial)?))
     }
 
     /// Opens a file by its name.

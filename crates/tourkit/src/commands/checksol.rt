@@ -1,11 +1,11 @@
 //! The subcommand `checksol`.
 use crate::answer::Answer;
 use crate::input::open_two;
-use crate::report::{self, FOUND};
+use crate::report::FOUND;
 use std::process::ExitCode;
-use tk_engines::{Fault, route_check_engine};
+use tk_engines::route_check_engine;
 use tk_routes::RouteVerdict;
-use tk_words::FromRead;
+use tk_words::{FromRead, Source};
 use tk_writers::ToWrite;
 
 /// `checksol PROBLEM SOLUTION [--json]`. Both files are opened before either is read.
@@ -15,18 +15,39 @@ pub fn checksol_command(
     solution_file: &str,
     json: bool,
 ) -> ExitCode {
-    let (problem, solution) = match open_two(rt, problem_file, solution_file) {
-        Ok(opened) => opened,
-        Err(status) => return status,
-    };
-    let mut problem = FromRead::new(problem);
-    let mut solution = FromRead::new(solution);
+    match open_two(rt, problem_file, solution_file) {
+        Ok((problem, solution)) => judge(
+            rt,
+            &mut FromRead::new(problem),
+            problem_file,
+            &mut FromRead::new(solution),
+            solution_file,
+            json,
+        ),
+        Err(status) => status,
+    }
+}
+
+/// Checks a solution of a problem, and tells what came of it.
+fn judge<P: Source, C: Source>(
+    rt: &HostRuntime,
+    problem: &mut P,
+    problem_file: &str,
+    solution: &mut C,
+    solution_file: &str,
+    json: bool,
+) -> ExitCode {
     let mut out = ToWrite::new(Answer::new(rt, json));
-    match route_check_engine(rt.alloc(), &mut problem, &mut solution, &mut out) {
-        Ok(RouteVerdict::Valid { .. }) => out.inner.end(rt, ExitCode::SUCCESS),
-        Ok(_) => out.inner.end(rt, ExitCode::from(FOUND)),
-        Err(Fault::Write(_)) => out.inner.unwritten(rt),
-        Err(Fault::Solution(fault)) => report::text_fault(rt, solution_file, &fault),
-        Err(fault) => report::stopped(rt, problem_file, &fault),
+    match route_check_engine(rt.alloc(), problem, solution, &mut out) {
+        Ok(verdict) => out.inner.end(rt, status_of(verdict)),
+        Err(fault) => out.inner.stopped(rt, problem_file, solution_file, &fault),
+    }
+}
+
+/// The status: whether the routes have no fault.
+pub fn status_of(verdict: RouteVerdict) -> ExitCode {
+    match verdict {
+        RouteVerdict::Valid { .. } => ExitCode::SUCCESS,
+        _ => ExitCode::from(FOUND),
     }
 }

@@ -1,11 +1,10 @@
 //! The subcommand `plot`.
+use crate::commands::{check, checksol};
 use crate::embedded::page::{HEAD, SCRIPT, STYLE, TOOLS};
-use crate::input::{Input, open, open_two};
-use crate::report::{self, FOUND};
+use crate::input::{open, open_two};
+use crate::report;
 use std::process::ExitCode;
-use tk_engines::{Fault, Form, Parts, Plotted, plot_engine};
-use tk_routes::RouteVerdict;
-use tk_tour::Verdict;
+use tk_engines::{Form, Parts, Plotted, plot_engine};
 use tk_words::{FromRead, Source};
 use tk_writers::ToWrite;
 
@@ -23,7 +22,7 @@ pub fn plot_command(
     match open_two(rt, problem_file, claim_file) {
         Ok((problem, claim)) => draw(
             rt,
-            problem,
+            &mut FromRead::new(problem),
             problem_file,
             &mut FromRead::new(claim),
             Some(claim_file),
@@ -48,7 +47,7 @@ fn plot_alone(rt: &HostRuntime, problem_file: &str, form: Form<'_>) -> ExitCode 
     match open(rt, problem_file) {
         Ok(problem) => draw(
             rt,
-            problem,
+            &mut FromRead::new(problem),
             problem_file,
             &mut FromRead::new(b"".as_slice()),
             None,
@@ -59,20 +58,19 @@ fn plot_alone(rt: &HostRuntime, problem_file: &str, form: Form<'_>) -> ExitCode 
 }
 
 /// Draws a problem and what is claimed of it, and tells what came of it.
-fn draw<C: Source>(
+fn draw<P: Source, C: Source>(
     rt: &HostRuntime,
-    problem: Input,
+    problem: &mut P,
     problem_file: &str,
     claim: &mut C,
     claim_file: Option<&str>,
     form: Form<'_>,
 ) -> ExitCode {
-    let mut problem = FromRead::new(problem);
     let mut out = ToWrite::new(rt.stdout());
     let mut told = ToWrite::new(rt.stderr());
     match plot_engine(
         rt.alloc(),
-        &mut problem,
+        problem,
         claim,
         claim_file.is_some(),
         form,
@@ -80,21 +78,18 @@ fn draw<C: Source>(
         &mut told,
     ) {
         Ok(plotted) => status_of(plotted),
-        Err(fault @ (Fault::Tour(_) | Fault::Solution(_))) => report::stopped(
-            rt,
-            claim_file.unwrap_or(problem_file),
-            &fault,
-        ),
-        Err(fault) => report::stopped(rt, problem_file, &fault),
+        Err(fault) => {
+            let claim_file = claim_file.unwrap_or(problem_file);
+            report::stopped_by_claim(rt, problem_file, claim_file, &fault)
+        }
     }
 }
 
 /// The status: whether what was claimed has no fault.
 fn status_of(plotted: Plotted) -> ExitCode {
     match plotted {
-        Plotted::Cities
-        | Plotted::Tour(Verdict::Tour)
-        | Plotted::Routes(RouteVerdict::Valid { .. }) => ExitCode::SUCCESS,
-        _ => ExitCode::from(FOUND),
+        Plotted::Cities => ExitCode::SUCCESS,
+        Plotted::Tour(verdict) => check::status_of(verdict),
+        Plotted::Routes(verdict) => checksol::status_of(verdict),
     }
 }

@@ -1,7 +1,7 @@
 //! The subcommand `solve`.
 use crate::answer::Answer;
 use crate::commands::solve_options::{is_parameter_file, params_of};
-use crate::input::{Input, open};
+use crate::input::open;
 use crate::output::save;
 use crate::report;
 use crate::search::Search;
@@ -77,61 +77,89 @@ fn solve(
     if let Err(status) = check_written(rt, search, kept) {
         return status;
     }
-    let Ok(watch) = SearchWatch::new(rt, search.tour_file, kept, shown.progress) else {
-        return report::no_memory(rt);
-    };
-    let answer = Answer::new(rt, shown.json);
+    let mut problem = FromRead::new(problem);
     match initial {
-        Some(initial) => run(
+        Some(initial) => begin(
             rt,
             search,
-            watch,
             kept,
-            answer,
-            problem,
+            shown,
+            &mut problem,
             &mut FromRead::new(initial),
         ),
-        None => run(
+        None => begin(
             rt,
             search,
-            watch,
             kept,
-            answer,
-            problem,
+            shown,
+            &mut problem,
             &mut FromRead::new(b"".as_slice()),
         ),
     }
 }
 
-/// Searches, and tells what came of it. The text is kept in memory first, so a write to it fails only where there is no
-/// more memory.
-fn run<I: Source>(
+/// Begins the search with what becomes of what it shows and prints.
+fn begin<P: Source, I: Source>(
     rt: &HostRuntime,
     search: &Search<'_, '_>,
-    mut watch: SearchWatch<'_>,
     kept: Kept,
-    answer: Answer,
-    problem: Input,
+    shown: Shown,
+    problem: &mut P,
     initial: &mut I,
 ) -> ExitCode {
+    let Ok(mut watch) = SearchWatch::new(rt, search.tour_file, kept, shown.progress) else {
+        return report::no_memory(rt);
+    };
+    let mut out = ToWrite::new(Answer::new(rt, shown.json));
+    run(rt, search, kept, problem, initial, &mut out, &mut watch)
+}
+
+/// Searches, and tells what came of it. The text for the file is kept in memory first.
+fn run<P: Source, I: Source>(
+    rt: &HostRuntime,
+    search: &Search<'_, '_>,
+    kept: Kept,
+    problem: &mut P,
+    initial: &mut I,
+    out: &mut ToWrite<Answer>,
+    watch: &mut SearchWatch<'_>,
+) -> ExitCode {
     let mut file = ToWrite::new(Vec::new(rt.alloc()));
-    let mut out = ToWrite::new(answer);
     match solve_engine(
         rt.alloc(),
         search.params,
-        &mut FromRead::new(problem),
+        problem,
         initial,
         &mut file,
-        &mut out,
-        &mut watch,
+        out,
+        watch,
     ) {
-        Ok(()) => match out.inner.print(rt) {
-            Ok(()) => save_found(rt, search, &file.inner, &watch),
-            Err(status) => status,
-        },
-        Err(Fault::Write(_)) if file.failed() => report::no_memory(rt),
-        Err(Fault::Write(_)) => out.inner.unwritten(rt),
+        Ok(()) => print_found(rt, search, &out.inner, &file.inner, watch),
+        Err(Fault::Write(_)) => unwritten(rt, &file, &out.inner),
         Err(fault) => stopped(rt, search, kept, &fault),
+    }
+}
+
+/// Tells that the lines or the text for the file could not be written. The text is in memory, so a write to it fails
+/// only where there is no more memory.
+fn unwritten(rt: &HostRuntime, file: &ToWrite<Vec<u8>>, answer: &Answer) -> ExitCode {
+    if file.failed() {
+        return report::no_memory(rt);
+    }
+    answer.unwritten(rt)
+}
+
+/// Prints the answer, and writes the text to its file.
+fn print_found(
+    rt: &HostRuntime,
+    search: &Search<'_, '_>,
+    answer: &Answer,
+    text: &[u8],
+    watch: &SearchWatch<'_>,
+) -> ExitCode {
+    match answer.print(rt) {
+        Ok(()) => save_found(rt, search, text, watch),
+        Err(status) => status,
     }
 }
 

@@ -1,7 +1,6 @@
 //! A search that options ask for, without a parameter file.
 
 use crate::report;
-use std::alloc::Global;
 use std::fs::File;
 use std::io::Read;
 use std::process::ExitCode;
@@ -12,54 +11,77 @@ use tk_params::{Key, ParamKind, Params, ParamsBuilder};
 /// How much is looked at to see whether a file is a parameter file.
 const HEAD: usize = 4096;
 
+/// The options, or what else stands in the call, and the keys of parameter files that they stand for, in the order in
+/// which they are looked at.
+static SETTINGS: [(&str, Key); 9] = [
+    ("PROBLEM", Key::ProblemFile),
+    ("--initial-tour", Key::InitialTourFile),
+    ("--runs", Key::Runs),
+    ("--trials", Key::MaxTrials),
+    ("--seed", Key::Seed),
+    ("--candidates", Key::MaxCandidates),
+    ("--construction", Key::Construction),
+    ("--final-sweep", Key::FinalSweep),
+    ("--or-segment", Key::OrSegment),
+];
+
 /// The parameters that options ask for. Files are opened by the names that the options have, in which a `$` is nothing
 /// special; so the parameters do not have these names, but say whether there is a tour to begin with.
 ///
 /// # Errors
 /// The exit status, after a message.
 pub fn params_of(rt: &HostRuntime, options: &SearchOptions<'_>) -> Result<Params, ExitCode> {
-    match built(rt.alloc(), options) {
-        Ok(Some(params)) => Ok(params),
-        Err((option, kind)) if kind != ParamKind::NoMemory => {
-            Err(report::option_fault(rt, option, kind))
-        }
-        _ => Err(report::no_memory(rt)),
+    let mut builder = ParamsBuilder::new(rt.alloc());
+    set_keys(rt, &mut builder, options)?;
+    match builder.build() {
+        Some(params) => Ok(params),
+        None => Err(report::no_memory(rt)),
     }
 }
 
-/// The parameters with the keys that options stand for, or the option that has no such value.
-fn built(
-    alloc: Global,
+/// Sets the keys that options stand for.
+fn set_keys(
+    rt: &HostRuntime,
+    builder: &mut ParamsBuilder,
     options: &SearchOptions<'_>,
-) -> Result<Option<Params>, (&'static str, ParamKind)> {
-    let settings = [
-        ("PROBLEM", Key::ProblemFile, Some("PROBLEM")),
-        (
-            "--initial-tour",
-            Key::InitialTourFile,
-            options.initial_tour.map(|_| "TOUR"),
-        ),
-        ("--runs", Key::Runs, options.runs),
-        ("--trials", Key::MaxTrials, options.trials),
-        ("--seed", Key::Seed, options.seed),
-        ("--candidates", Key::MaxCandidates, options.candidates),
-        ("--construction", Key::Construction, options.construction),
-        (
-            "--final-sweep",
-            Key::FinalSweep,
-            options.final_sweep.then_some("YES"),
-        ),
-        ("--or-segment", Key::OrSegment, options.or_segment),
-    ];
-    let mut builder = ParamsBuilder::new(alloc);
-    for (option, key, value) in settings.iter() {
-        if let Some(value) = value {
-            if let Err(kind) = builder.set(*key, value.as_bytes()) {
-                return Err((*option, kind));
-            }
+) -> Result<(), ExitCode> {
+    for (option, key) in SETTINGS.iter() {
+        if let Some(value) = value_of(options, *key) {
+            set_key(rt, builder, option, *key, value)?;
         }
     }
-    Ok(builder.build())
+    Ok(())
+}
+
+/// The value that options give a key, if any.
+fn value_of<'a>(options: &SearchOptions<'a>, key: Key) -> Option<&'a str> {
+    match key {
+        Key::ProblemFile => Some("PROBLEM"),
+        Key::InitialTourFile => options.initial_tour.and(Some("TOUR")),
+        Key::Runs => options.runs,
+        Key::MaxTrials => options.trials,
+        Key::Seed => options.seed,
+        Key::MaxCandidates => options.candidates,
+        Key::Construction => options.construction,
+        Key::FinalSweep => options.final_sweep.then_some("YES"),
+        Key::OrSegment => options.or_segment,
+        _ => None,
+    }
+}
+
+/// Sets the key that an option stands for, or refuses the option's value.
+fn set_key(
+    rt: &HostRuntime,
+    builder: &mut ParamsBuilder,
+    option: &str,
+    key: Key,
+    value: &str,
+) -> Result<(), ExitCode> {
+    match builder.set(key, value.as_bytes()) {
+        Ok(()) => Ok(()),
+        Err(ParamKind::NoMemory) => Err(report::no_memory(rt)),
+        Err(kind) => Err(report::option_fault(rt, option, kind)),
+    }
 }
 
 /// Whether a plain file, which is opened once more for it, begins with a key of parameter files.
