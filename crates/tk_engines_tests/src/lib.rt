@@ -11,5 +11,3 @@ mod parameters;
 mod pictures;
 #[cfg(test)]
 mod routes;
-#[cfg(test)]
-mod surface;

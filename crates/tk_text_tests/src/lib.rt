@@ -16,6 +16,8 @@ mod problems;
 #[cfg(test)]
 mod solutions;
 #[cfg(test)]
+mod streams;
+#[cfg(test)]
 mod texts;
 #[cfg(test)]
 mod tours;

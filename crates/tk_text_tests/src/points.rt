@@ -3,7 +3,7 @@
 use std::alloc::AllocError;
 use tk_text::{Places, Point, Points};
 
-/// Of a thousand million in magnitude, in units of 10^-9.
+/// The greatest coordinate, 10^9, in units of 10^-9.
 const FAR: i64 = 1_000_000_000_000_000_000;
 
 const ORIGIN: Point = Point { x: 0, y: 0 };

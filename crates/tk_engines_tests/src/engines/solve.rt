@@ -34,35 +34,45 @@ fn solve<F: Sink, W: Sink>(
     )
 }
 
-/// For parameters, a problem and a tour to begin with the engine answers this. It writes one text to the file, and one
-/// after it.
-fn expect(
-    rt: &impl Abort,
-    alloc: Global,
-    given: [&[u8]; 3],
-    want: Result<(), Fault>,
-    texts: [&[u8]; 2],
-) {
-    let [params, problem, initial] = given;
+/// What the engine answers, what it writes to the file, and the lines that it writes after it.
+#[derive(Drop)]
+struct Solved {
+    answer: Result<(), Fault>,
+    file: Vec<u8>,
+    lines: Vec<u8>,
+}
+
+/// What the engine gives for parameters, a problem and a tour to begin with.
+fn answer_to(rt: &impl Abort, alloc: Global, [params, problem, initial]: [&[u8]; 3]) -> Solved {
     let params = params_of(rt, alloc, params);
     let mut file = ToWrite::new(Vec::new(alloc));
     let mut out = ToWrite::new(Vec::new(alloc));
     let answer = solve(alloc, &params, problem, initial, &mut file, &mut out);
-    assert!(rt; answer == want);
-    let [tour, lines] = texts;
-    assert!(rt; file.inner.as_slice() == tour);
-    assert!(rt; out.inner.as_slice() == lines);
+    Solved {
+        answer,
+        file: file.inner,
+        lines: out.inner,
+    }
+}
+
+/// The engine answers this, and writes these two texts.
+fn expect(rt: &impl Abort, solved: &Solved, want: Result<(), Fault>, [file, lines]: [&[u8]; 2]) {
+    assert!(rt; solved.answer == want);
+    assert!(rt; solved.file.as_slice() == file);
+    assert!(rt; solved.lines.as_slice() == lines);
 }
 
 const FROM_A_TOUR: &[u8] =
     b"PROBLEM_FILE = p\nINITIAL_TOUR_FILE = i\nMAX_CANDIDATES = 3\nRUNS = 1\nMOVE_TYPE = 5\n";
 
+/// A tour that has city 2 twice.
+const REPEATED: &[u8] = b"TYPE : TOUR\nTOUR_SECTION\n1 2 2 5 -1\n";
+
 #[test]
 fn writes_a_tour_and_its_runs(rt: HostRuntime) {
     expect(
         &rt,
-        rt.alloc(),
-        [FROM_A_TOUR, SQUARE, TOUR],
+        &answer_to(&rt, rt.alloc(), [FROM_A_TOUR, SQUARE, TOUR]),
         Ok(()),
         [
             b"NAME : p.40.tour\nCOMMENT : Length = 40\nTYPE : TOUR\nDIMENSION : 4\nTOUR_SECTION\n1\n3\n2\n4\n-1\nEOF\n",
@@ -75,8 +85,7 @@ fn writes_a_tour_and_its_runs(rt: HostRuntime) {
 fn writes_routes_and_their_costs(rt: HostRuntime) {
     expect(
         &rt,
-        rt.alloc(),
-        [b"PROBLEM_FILE = p\n", BAKERY, b""],
+        &answer_to(&rt, rt.alloc(), [b"PROBLEM_FILE = p\n", BAKERY, b""]),
         Ok(()),
         [
             b"Route #1: 3 2 1 4\nCost 53\n",
@@ -91,19 +100,13 @@ fn writes_nothing_on_a_fault(rt: HostRuntime) {
     let routes: &[u8] = b"PROBLEM_FILE = p\nINITIAL_TOUR_FILE = i\nSOLUTION_FILE = s\n";
     expect(
         &rt,
-        rt.alloc(),
-        [routes, SQUARE, UNSUPPORTED],
+        &answer_to(&rt, rt.alloc(), [routes, SQUARE, UNSUPPORTED]),
         Err(Fault::NotForType(Key::SolutionFile)),
         [b"", b""],
     );
     expect(
         &rt,
-        rt.alloc(),
-        [
-            FROM_A_TOUR,
-            SQUARE,
-            b"TYPE : TOUR\nTOUR_SECTION\n1 2 2 5 -1\n",
-        ],
+        &answer_to(&rt, rt.alloc(), [FROM_A_TOUR, SQUARE, REPEATED]),
         Err(Fault::Initial(TourFault::RepeatedCity(3))),
         [b"", b""],
     );

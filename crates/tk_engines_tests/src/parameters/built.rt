@@ -1,6 +1,7 @@
 //! Parameters that are given key by key.
 
 use std::alloc::Global;
+use std::process::Abort;
 use tk_engines::{Construction, Key, ParamKind, Params, ParamsBuilder, key_of};
 
 /// Parameters of these keys.
@@ -10,6 +11,24 @@ fn built(alloc: Global, settings: &[(Key, &[u8])]) -> Result<Option<Params>, Par
         builder.set(*key, *value)?;
     }
     Ok(builder.build())
+}
+
+/// The numbers of the search are these.
+pub fn expect_numbers<A: Abort>(rt: &A, params: &Params, numbers: [u32; 5]) {
+    let [runs, trials, seed, candidates, segment] = numbers;
+    assert!(rt; params.runs() == runs);
+    assert!(rt; params.max_trials() == Some(trials));
+    assert!(rt; params.seed() == seed);
+    assert!(rt; params.max_candidates() == candidates);
+    assert!(rt; params.or_segment() == segment);
+}
+
+/// The names of files are taken as they are, and a key that is ignored is told.
+fn expect_words<A: Abort>(rt: &A, params: &Params) {
+    assert!(rt; params.problem_file() == " a ");
+    assert!(rt; params.tour_file() == Some("b"));
+    assert!(rt; params.construction() == Construction::Savings);
+    assert!(rt; params.ignored() == [Key::TraceLevel].as_slice());
 }
 
 #[test]
@@ -24,18 +43,11 @@ fn takes_each_key(rt: HostRuntime) {
         (Key::Construction, b"savings"),
         (Key::TraceLevel, b"1"),
     ];
-    let params = built(rt.alloc(), settings.as_slice())
+    let params = built(rt.alloc(), &settings)
         .expect(&rt, "no fault")
         .expect(&rt, "a problem");
-    assert!(rt; params.problem_file() == " a ");
-    assert!(rt; params.tour_file() == Some("b"));
-    assert!(rt; params.seed() == 7);
-    assert!(rt; params.runs() == 10_000);
-    assert!(rt; params.max_trials() == Some(3));
-    assert!(rt; params.max_candidates() == 100);
-    assert!(rt; params.construction() == Construction::Savings);
-    assert!(rt; params.or_segment() == 3);
-    assert!(rt; params.ignored() == [Key::TraceLevel].as_slice());
+    expect_numbers(&rt, &params, [10_000, 3, 7, 100, 3]);
+    expect_words(&rt, &params);
 }
 
 #[test]

@@ -1,6 +1,7 @@
 //! Parameter files that are read where memory is ample: each key, the defaults, and a fault of each kind.
 ghost use Rattle.std.specs.Prelude.{None, false};
 
+use crate::parameters::built::expect_numbers;
 use std::alloc::{AllocError, Global};
 use std::process::Abort;
 use tk_engines::{
@@ -69,16 +70,6 @@ fn expect_files<A: Abort>(rt: &A, params: &Params, problem: &str, others: [&str;
     assert!(rt; params.tour_file() == Some(tour));
     assert!(rt; params.solution_file() == Some(solution));
     assert!(rt; params.initial_tour_file() == Some(initial));
-}
-
-/// The numbers of the search are these.
-fn expect_numbers<A: Abort>(rt: &A, params: &Params, numbers: [u32; 5]) {
-    let [runs, trials, seed, candidates, segment] = numbers;
-    assert!(rt; params.runs() == runs);
-    assert!(rt; params.max_trials() == Some(trials));
-    assert!(rt; params.seed() == seed);
-    assert!(rt; params.max_candidates() == candidates);
-    assert!(rt; params.or_segment() == segment);
 }
 
 #[test]

@@ -33,7 +33,17 @@ pub(crate) fn claim(alloc: Global, routes: &[&[u32]], cost: i64) -> Result<SolTe
     })
 }
 
-/// The verdict of routes of that cost: none of those of a TSP.
+/// The verdict of claimed routes of that cost.
+fn judge(
+    alloc: Global,
+    cvrp: &Cvrp<'_>,
+    routes: &[&[u32]],
+    cost: i64,
+) -> Result<RouteVerdict, AllocError> {
+    check_routes(alloc, cvrp, &claim(alloc, routes, cost)?)
+}
+
+/// The same for a problem's text: none for that of a TSP.
 fn verdict(
     alloc: Global,
     problem: &[u8],
@@ -44,11 +54,10 @@ fn verdict(
     let Some(cvrp) = Cvrp::of(&problem) else {
         return Ok(None);
     };
-    let text = claim(alloc, routes, cost)?;
-    Ok(Some(check_routes(alloc, &cvrp, &text)?))
+    Ok(Some(judge(alloc, &cvrp, routes, cost)?))
 }
 
-/// An empty route counts for nothing but the numbers of the routes after it.
+/// An empty route counts only where routes are numbered.
 #[test]
 fn two_routes(rt: HostRuntime) -> Result<(), Fail> {
     let valid = Some(RouteVerdict::Valid {

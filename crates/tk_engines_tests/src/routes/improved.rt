@@ -155,23 +155,3 @@ fn equal_savings(rt: HostRuntime) -> Result<(), Fail> {
     );
     Ok(())
 }
-
-/// Whether a call that finds no memory leaves the one route as it was, and a second call improves it.
-fn comes_through_a_refusal(alloc: Global, cvrp: &Cvrp<'_>) -> Result<bool, AllocError> {
-    let mut routes = start(alloc, cvrp)?;
-    if improve(alloc, cvrp, &mut routes, 5, 3).is_err() {
-        if !are(alloc, cvrp, &routes, &[&[3, 1, 2, 4]], 60)? {
-            return Ok(false);
-        }
-        improve(alloc, cvrp, &mut routes, 5, 3)?;
-    }
-    are(alloc, cvrp, &routes, &[&[3, 2, 1, 4]], 53)
-}
-
-#[test]
-fn called_again_where_memory_was_refused(rt: HostRuntime) -> Result<(), Fail> {
-    let problem = problem_of(rt.alloc(), LISTED)?;
-    let cvrp = Cvrp::of(&problem).ok_or("a TSP")?;
-    assert!(rt; comes_through_a_refusal(rt.alloc(), &cvrp)?);
-    Ok(())
-}

@@ -4,7 +4,9 @@ ghost use Rattle.std.specs.Prelude.{◌≡◌, ◌+◌, ◌-◌, ◌*◌, ◌≤
 use crate::fakes::{FakeSink, ROOM};
 use crate::problems::read_both_ways::accept;
 use crate::problems::told::{Told, ToldWeights};
+use crate::texts::joined;
 use crate::written::limits::expect_taken;
+use std::alloc::Global;
 use std::process::Abort;
 use tk_text::{Format, Sink, WriteFault, write_matrix};
 
@@ -65,12 +67,24 @@ fn a_matrix_is_read_back(rt: HostRuntime) {
     accept(&rt, rt.alloc(), THREE_TEXT, &wanted);
 }
 
-/// The table of four cities is written in each format as the text beside it.
-fn expect_four(rt: &impl Abort, rows: &[(Format, &[u8])]) {
-    for (format, text) in rows {
+/// The head of the text of a table of four cities, up to its format.
+const HEAD: &[u8] =
+    b"NAME : a b\nTYPE : TSP\nDIMENSION : 4\nEDGE_WEIGHT_TYPE : EXPLICIT\nEDGE_WEIGHT_FORMAT : ";
+
+/// A format, the word for it in a text, and the lines of the weights of four cities.
+type InFormat<'a> = (Format, &'a [u8], &'a [u8]);
+
+/// The table of four cities is written so in each format.
+fn expect_four(rt: &impl Abort, alloc: Global, rows: &[InFormat<'_>]) {
+    for (format, word, lines) in rows {
+        let text = joined(
+            rt,
+            alloc,
+            &[HEAD, word, b"\nEDGE_WEIGHT_SECTION\n", lines, b"EOF\n"],
+        );
         let mut sink = FakeSink::new(ROOM, false);
         let told = write_four(&mut sink, *format);
-        expect_taken(rt, &sink, told, text);
+        expect_taken(rt, &sink, told, &text);
     }
 }
 
@@ -78,51 +92,36 @@ fn expect_four(rt: &impl Abort, rows: &[(Format, &[u8])]) {
 fn writes_each_format(rt: HostRuntime) {
     expect_four(
         &rt,
+        rt.alloc(),
         &[
             (
                 Format::FullMatrix,
-                b"NAME : a b\nTYPE : TSP\nDIMENSION : 4\nEDGE_WEIGHT_TYPE : EXPLICIT\n\
-                EDGE_WEIGHT_FORMAT : FULL_MATRIX\nEDGE_WEIGHT_SECTION\n0 1 2 3\n1 0 4 5\n2 4 0 6\n3 5 6 0\nEOF\n",
+                b"FULL_MATRIX",
+                b"0 1 2 3\n1 0 4 5\n2 4 0 6\n3 5 6 0\n",
             ),
-            (
-                Format::UpperRow,
-                b"NAME : a b\nTYPE : TSP\nDIMENSION : 4\nEDGE_WEIGHT_TYPE : EXPLICIT\n\
-                EDGE_WEIGHT_FORMAT : UPPER_ROW\nEDGE_WEIGHT_SECTION\n1 2 3\n4 5\n6\nEOF\n",
-            ),
-            (
-                Format::LowerCol,
-                b"NAME : a b\nTYPE : TSP\nDIMENSION : 4\nEDGE_WEIGHT_TYPE : EXPLICIT\n\
-                EDGE_WEIGHT_FORMAT : LOWER_COL\nEDGE_WEIGHT_SECTION\n1 2 3\n4 5\n6\nEOF\n",
-            ),
-            (
-                Format::LowerRow,
-                b"NAME : a b\nTYPE : TSP\nDIMENSION : 4\nEDGE_WEIGHT_TYPE : EXPLICIT\n\
-                EDGE_WEIGHT_FORMAT : LOWER_ROW\nEDGE_WEIGHT_SECTION\n1\n2 4\n3 5 6\nEOF\n",
-            ),
-            (
-                Format::UpperCol,
-                b"NAME : a b\nTYPE : TSP\nDIMENSION : 4\nEDGE_WEIGHT_TYPE : EXPLICIT\n\
-                EDGE_WEIGHT_FORMAT : UPPER_COL\nEDGE_WEIGHT_SECTION\n1\n2 4\n3 5 6\nEOF\n",
-            ),
+            (Format::UpperRow, b"UPPER_ROW", b"1 2 3\n4 5\n6\n"),
+            (Format::LowerCol, b"LOWER_COL", b"1 2 3\n4 5\n6\n"),
+            (Format::LowerRow, b"LOWER_ROW", b"1\n2 4\n3 5 6\n"),
+            (Format::UpperCol, b"UPPER_COL", b"1\n2 4\n3 5 6\n"),
             (
                 Format::UpperDiagRow,
-                b"NAME : a b\nTYPE : TSP\nDIMENSION : 4\nEDGE_WEIGHT_TYPE : EXPLICIT\n\
-                EDGE_WEIGHT_FORMAT : UPPER_DIAG_ROW\nEDGE_WEIGHT_SECTION\n0 1 2 3\n0 4 5\n0 6\n0\nEOF\n",
+                b"UPPER_DIAG_ROW",
+                b"0 1 2 3\n0 4 5\n0 6\n0\n",
             ),
             (
                 Format::LowerDiagCol,
-                b"NAME : a b\nTYPE : TSP\nDIMENSION : 4\nEDGE_WEIGHT_TYPE : EXPLICIT\n\
-                EDGE_WEIGHT_FORMAT : LOWER_DIAG_COL\nEDGE_WEIGHT_SECTION\n0 1 2 3\n0 4 5\n0 6\n0\nEOF\n",
+                b"LOWER_DIAG_COL",
+                b"0 1 2 3\n0 4 5\n0 6\n0\n",
             ),
             (
                 Format::LowerDiagRow,
-                b"NAME : a b\nTYPE : TSP\nDIMENSION : 4\nEDGE_WEIGHT_TYPE : EXPLICIT\n\
-                EDGE_WEIGHT_FORMAT : LOWER_DIAG_ROW\nEDGE_WEIGHT_SECTION\n0\n1 0\n2 4 0\n3 5 6 0\nEOF\n",
+                b"LOWER_DIAG_ROW",
+                b"0\n1 0\n2 4 0\n3 5 6 0\n",
             ),
             (
                 Format::UpperDiagCol,
-                b"NAME : a b\nTYPE : TSP\nDIMENSION : 4\nEDGE_WEIGHT_TYPE : EXPLICIT\n\
-                EDGE_WEIGHT_FORMAT : UPPER_DIAG_COL\nEDGE_WEIGHT_SECTION\n0\n1 0\n2 4 0\n3 5 6 0\nEOF\n",
+                b"UPPER_DIAG_COL",
+                b"0\n1 0\n2 4 0\n3 5 6 0\n",
             ),
         ],
     );

@@ -64,7 +64,7 @@ fn write_long<W: Sink>(sink: &mut W) -> Result<(), WriteFault> {
     pen.end()
 }
 
-/// The bytes are as many as those, and end as they do.
+/// There are 10,001 bytes, and the last is `y`.
 fn expect_long(rt: &impl Abort, bytes: &[u8]) {
     assert!(rt; bytes.len() == 10_001);
     assert!(rt; bytes[10_000] == b'y');

@@ -206,13 +206,13 @@ fn expect_same_made(
     Ok(())
 }
 
-// The lists of a tree are those of a scan, as they have to be by the law that near lists agree.
+// The lists of a scan. Those of a tree are the same, as they have to be by the law that near lists agree.
 fn expect_tree_agrees<P: BothAxes>(
     rt: &impl Abort,
     alloc: Global,
     metric: &P,
     k: u32,
-) -> Result<(), Fail> {
+) -> Result<Near, Fail> {
     assert!(rt; 1 <= k && k <= 100 && k < metric.size());
     let scanned = near_scan(alloc, metric, k)?;
     let found = near_tree(alloc, metric, k)?;
@@ -220,14 +220,13 @@ fn expect_tree_agrees<P: BothAxes>(
         near_lists_agree(metric, c, k, found.of(c), scanned.of(c));
     }
     expect_same(rt, &found, &scanned);
-    Ok(())
+    Ok(scanned)
 }
 
 // A sweep, a tree and a table of 300 places in a box have the lists of a scan.
 fn expect_agreed(rt: &impl Abort, alloc: Global, metric: &Planes<'_>, k: u32) -> Result<(), Fail> {
-    expect_tree_agrees(rt, alloc, metric, k)?;
     assert!(rt; 1 <= k && k <= 100 && k < metric.size());
-    let scanned = near_scan(alloc, metric, k)?;
+    let scanned = expect_tree_agrees(rt, alloc, metric, k)?;
     expect_same_made(rt, near_sweep(alloc, metric, k), &scanned)?;
     expect_same_made(rt, near_lists(alloc, &Table::Planes(*metric), k), &scanned)
 }
