@@ -60,9 +60,8 @@ impl<'a> BestFile<'a> {
     fn name_beside(&mut self, tour_file: &str, kept: Kept) -> Result<(), AllocError> {
         let name = format!(in self.rt.alloc(); "{tour_file}.best")?;
         let found = id_of(fs::metadata(self.rt, &name));
-        let is_kept = found.is_some() && (found == kept.problem || found == kept.parameters);
-        if !is_kept && is_plain(self.rt, tour_file) && is_plain(self.rt, &name) {
-            self.stays = found.is_some() && found == kept.initial;
+        if !kept.has_to_stay(found) && is_plain(self.rt, tour_file) && is_plain(self.rt, &name) {
+            self.stays = kept.is_initial(found);
             self.name = Some(name);
         }
         Ok(())
@@ -85,15 +84,19 @@ impl<'a> BestFile<'a> {
         if ends && progress.best < self.ended_length {
             self.keep(progress.best, best);
         }
-        if self.saved <= self.ended_length.min(progress.best) {
-            return;
+        if self.saved > self.ended_length.min(progress.best) {
+            self.save_in_time(progress.best, best, ends);
         }
+    }
+
+    /// Saves a tour where the pause has passed, or, at the end of a run, where one is saved already.
+    fn save_in_time(&mut self, length: i64, cities: &[u32], ends: bool) {
         let Ok(now) = self.rt.monotonic() else {
             return;
         };
         if now >= self.next || ends && self.saved < i64::MAX {
             self.next = now.saturating_add(Duration::from_secs(PAUSE));
-            self.save(progress.best, best);
+            self.save(length, cities);
         }
     }
 

@@ -64,10 +64,15 @@ pub fn open_file(rt: &HostRuntime, name: &str) -> Result<Input, ExitCode> {
 /// # Errors
 /// The exit status, after a message that names the file that could not be opened.
 pub fn open_two(rt: &HostRuntime, first: &str, second: &str) -> Result<(Input, Input), ExitCode> {
-    if second == STANDARD {
-        let standard = open(rt, second)?;
-        return Ok((open(rt, first)?, standard));
+    if second != STANDARD {
+        return open_in_order(rt, first, second);
     }
+    let (second, first) = open_in_order(rt, second, first)?;
+    Ok((first, second))
+}
+
+/// Opens two input files, one after the other.
+fn open_in_order(rt: &HostRuntime, first: &str, second: &str) -> Result<(Input, Input), ExitCode> {
     let first = open(rt, first)?;
     Ok((first, open(rt, second)?))
 }

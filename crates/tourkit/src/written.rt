@@ -37,6 +37,18 @@ pub struct Kept {
     pub initial: Option<FileId>,
 }
 
+impl Kept {
+    /// Whether what was found is the problem's file or the parameter file.
+    pub fn has_to_stay(&self, found: Option<FileId>) -> bool {
+        found.is_some() && (found == self.problem || found == self.parameters)
+    }
+
+    /// Whether what was found is the initial tour's file.
+    pub fn is_initial(&self, found: Option<FileId>) -> bool {
+        found.is_some() && found == self.initial
+    }
+}
+
 /// Refuses a file to write that is the parameter file or the problem's, or that cannot be written.
 ///
 /// # Errors

@@ -25,12 +25,15 @@ pub fn explain_command(rt: &HostRuntime, what: &str, line: Option<u64>) -> ExitC
     }
     match fault_page(rt.alloc(), what) {
         Ok(Some(page)) => print_page(rt, &page),
-        Ok(None) if is_number(what) && fs::metadata(rt, what).is_err() => report::no_such_fault(
-            rt, what,
-        ),
+        Ok(None) if is_only_number(rt, what) => report::no_such_fault(rt, what),
         Ok(None) => explain_file(rt, what, None),
         Err(_) => report::no_memory(rt),
     }
+}
+
+/// Whether it is a number, and no file has it as its name.
+fn is_only_number(rt: &HostRuntime, what: &str) -> bool {
+    is_number(what) && fs::metadata(rt, what).is_err()
 }
 
 /// Explains a file, or one of its lines.
