@@ -1,4 +1,6 @@
 pub mod Awake
+pub mod Descents
+pub mod Looks
 pub mod Machine
 pub mod Offers
 pub mod ProbeSteps

@@ -1,7 +1,9 @@
 -- The descent: one way to run the wake machine.
 use Rattle.std.specs.Prelude.{◌≡◌, ℕ, ◌+◌, List, ◌∷◌, Some, None}
+use Rattle.tk_near.specs.Near.{NearLists, near_of}
 use Rattle.tk_descent.specs.Offers.{offers, first_gain, tests_to, Makes, ends}
 use Rattle.tk_descent.specs.Awake.{woken_each}
+use Rattle.tk_descent.specs.declared.descent.Report.{Report}
 use Rattle.tk_descent.specs.declared.offer.Offer.{Offer}
 
 -- the offer has a result on the cycle
@@ -19,3 +21,7 @@ pub data Run (dist : ℕ → ℕ → ℕ) (near : ℕ → List ℕ) (m : ℕ) (T
       first_gain dist (offers C m (near x) x) ≡ Some o → Makes m o C D →
       Run dist near m T W D (woken_each V (ends o)) (looks + 1) (moves + 1)
       (tests + tests_to dist (offers C m (near x) x))
+
+-- a run with the looks, moves and tests that are reported
+abbrev pub IsRun : (ℕ → ℕ → ℕ) → NearLists → ℕ → List ℕ → List ℕ → List ℕ → List ℕ → Report → Type 0
+IsRun dist near m T W C V report = Run dist (near_of near) m T W C V report.looks report.moves report.tests

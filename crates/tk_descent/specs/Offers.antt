@@ -6,9 +6,10 @@
 use Rattle.std.specs.Prelude.{◌≡◌, ℕ, suc, ℤ, pos, ◌-ℤ◌, ◌+◌, Bool, take, option_map, IfSome, ◌||◌, ◌&&◌, nat_lt}
 use Rattle.std.specs.Prelude.{nat_le, List, [], ◌∷◌, ◌++◌, ◌==◌, if◌then◌else◌, length, Option, Some, None, flat_map}
 use Rattle.tk_distance.specs.Cities.{IsCity}
+use Rattle.tk_near.specs.Near.{NearLists, near_of}
 use Rattle.tk_tour.specs.Counters.{saturated}
 use Rattle.tk_tour.specs.Moves.{TwoOptMove, OrMove}
-use Rattle.tk_tour.specs.Tour.{next_city, prev_city}
+use Rattle.tk_tour.specs.Tour.{next_city, prev_city, tour_length}
 use Rattle.tk_descent.specs.declared.offer.Offer.{Offer}
 use Rattle.tk_descent.specs.declared.offer.Segment.{Segment}
 use Rattle.tk_descent.specs.declared.offer.Found.{Found}
@@ -39,6 +40,10 @@ ends (Or a x e b y w) = x ∷ a ∷ e ∷ b ∷ y ∷ w ∷ []
 abbrev pub Makes : ℕ → Offer → List ℕ → List ℕ → Type 0
 Makes m (Two a b c d) old new = TwoOptMove old new a b c d
 Makes m (Or a x e b y w) old new = OrMove m old new a x e b y w
+
+-- by how much the cycle D is shorter than C
+abbrev pub shortening : (ℕ → ℕ → ℕ) → List ℕ → List ℕ → ℤ
+shortening dist C D = pos (tour_length dist C) -ℤ pos (tour_length dist D)
 
 -- A segment has at most three cities: x, where it begins, `middle` and `last`. Of a shorter one some are the same.
 abbrev pub covers : ℕ → Segment → ℕ → Bool
@@ -93,6 +98,10 @@ first_gain dist (o ∷ os) = if improves dist o then Some o else first_gain dist
 abbrev pub tests_to : (ℕ → ℕ → ℕ) → List Offer → ℕ
 tests_to dist [] = 0
 tests_to dist (o ∷ os) = if improves dist o then 1 else suc (tests_to dist os)
+
+-- the offers of x on a cycle, with the cities of its near list
+abbrev pub offers_at : List ℕ → ℕ → NearLists → ℕ → List Offer
+offers_at C m near x = offers C m (near_of near x) x
 
 -- a search of a list that ends at its first offer with positive gain; t and u are the tests before and after
 pub record Searched (dist : ℕ → ℕ → ℕ) (os : List Offer) (r : Option Found) (t u : ℕ) : Type 0 where

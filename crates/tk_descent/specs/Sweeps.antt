@@ -1,8 +1,10 @@
 -- Descents one after another, each with all cities awake, until one makes no move.
 use Rattle.std.specs.Prelude.{◌≡◌, ℕ, ◌+◌, ◌≤◌, List, [], length}
+use Rattle.tk_near.specs.Near.{NearLists, near_of}
 use Rattle.tk_tour.specs.Counters.{saturated}
 use Rattle.tk_descent.specs.Awake.{one_to}
 use Rattle.tk_descent.specs.Machine.{Run}
+use Rattle.tk_descent.specs.declared.sweep.SweptReport.{SweptReport}
 
 -- a descent from a tour with all cities awake, with its looks, moves and tests
 abbrev pub Pass : (ℕ → ℕ → ℕ) → (ℕ → List ℕ) → ℕ → List ℕ → List ℕ → ℕ → ℕ → ℕ → Type 0
@@ -29,3 +31,8 @@ pub record Sweeps (dist : ℕ → ℕ → ℕ) (near : ℕ → List ℕ) (m : �
   pub passes_are : passes ≡ moving + 1
   pub looks_are : looks ≡ saturated (looked + more)
   pub tests_are : tests ≡ saturated (tested + tried)
+
+-- passes with the looks, moves and tests that are reported
+abbrev pub AreSweeps : (ℕ → ℕ → ℕ) → NearLists → ℕ → List ℕ → List ℕ → SweptReport → Type 0
+AreSweeps dist near m T D report = Sweeps dist (near_of near) m T D report.passes report.descent.looks
+    report.descent.moves report.descent.tests

@@ -1,12 +1,9 @@
 //! The descent.
-ghost use Rattle.std.specs.Prelude.{◌≡◌, ℕ, pos, ◌+◌, ◌-◌, ◌*◌, ◌/◌, ◌≤◌, [], length};
-ghost use Rattle.tk_near.specs.Near.{near_of};
-ghost use Rattle.tk_tour.specs.Counters.{saturated};
-ghost use Rattle.tk_tour.specs.Tour.{tour_length, IsTour};
+ghost use Rattle.std.specs.Prelude.{◌≡◌, pos, ◌+◌, ◌*◌, ◌≤◌, length};
+ghost use Rattle.tk_tour.specs.Tour.{tour_length};
 ghost use Rattle.tk_descent.specs.Offers.{ends, EndsIn};
 ghost use Rattle.tk_descent.specs.Awake.{woken_each};
-ghost use Rattle.tk_descent.specs.Machine.{Run};
-ghost use Rattle.tk_descent.specs.WakeMachine.{Wakes};
+ghost use Rattle.tk_descent.specs.Descents.{IsDescent, AreOfSize, saved};
 
 use crate::gains::Gains;
 use crate::making::make;
@@ -69,39 +66,17 @@ pub fn descend<S: TourStore, G: Gains>(
     or_segment: u32,
     before: i64,
 ) -> Report
-    requires fits { (G.size_of gains.old ≡ length (S.cities tour.old)) × (near.now.size ≡ length (S.cities tour.old))
-        × (waking.old.size ≡ length (S.cities tour.old)) }
+    requires fits { AreOfSize (length (S.cities tour.old)) (G.size_of gains.old) near.now.size waking.old.size }
     requires most { (1 ≤ or_segment) × (or_segment ≤ 3) }
     requires before { before ≡ pos (tour_length (G.distance gains.old) (S.cities tour.old)) }
-    ensures run { (tests : ℕ) × Run (G.distance gains.old) (near_of near.now) or_segment
-        (S.cities tour.old) waking.old.queue (S.cities tour.new) [] result.looks result.moves tests
-        × (G.test_count gains.new ≡ saturated (G.test_count gains.old + tests)) }
-    ensures fresh { G.test_count gains.old ≡ 0
-        → Run (G.distance gains.old) (near_of near.now) or_segment (S.cities tour.old) waking.old.queue
-        (S.cities tour.new) [] result.looks result.moves result.tests }
-    ensures wakes { Wakes (G.distance gains.old) (near_of near.now) or_segment (S.cities tour.old) waking.old.queue
-        (S.cities tour.new) [] }
-    ensures asleep { waking.new.queue ≡ [] }
-    ensures stored { length near.now.entries ≡ length (S.cities tour.old) * near.now.width }
-    ensures tour { IsTour (length (S.cities tour.old)) (S.cities tour.new) }
-    ensures lengths { (result.before ≡ before)
-        × (result.after ≡ pos (tour_length (G.distance gains.old) (S.cities tour.new))) }
-    ensures moves { result.moves + tour_length (G.distance gains.old) (S.cities tour.new)
-        ≤ tour_length (G.distance gains.old) (S.cities tour.old) }
-    ensures looks { result.looks ≤ length waking.old.queue + 6 * result.moves }
-    ensures tests { result.tests ≤ 4 * or_segment * near.now.width * (length waking.old.queue + 6 * result.moves) }
-    ensures headline { result.tests ≤ 4 * or_segment * near.now.width * (length (S.cities tour.old)
-        + 6 * (tour_length (G.distance gains.old) (S.cities tour.old)
-        - tour_length (G.distance gains.old) (S.cities tour.new))) }
-    ensures tested { result.tests ≡ G.test_count gains.new - G.test_count gains.old }
-    ensures swaps { result.swaps ≤ 3 * (length (S.cities tour.old) / 4) * result.moves }
-    ensures swapped { result.swaps ≡ S.swap_count tour.new - S.swap_count tour.old }
-    ensures flips { S.flip_count tour.new ≤ S.flip_count tour.old + 3 * result.moves }
+    ensures descent { IsDescent S.TourStore G.Gains near.now or_segment
+        (tour.old, waking.old, gains.old) (tour.new, waking.new, gains.new) result }
+    ensures headline { result.tests
+        ≤ 4 * or_segment * near.now.width * (length (S.cities tour.old) + 6 * saved result) }
     ensures flips_only { S.FlipsOnly tour.old tour.new }
-    ensures rises { (G.test_count gains.old ≤ G.test_count gains.new)
-        × (S.swap_count tour.old ≤ S.swap_count tour.new) }
-    ensures kept { (G.distance gains.new ≡ G.distance gains.old) × (G.size_of gains.new ≡ G.size_of gains.old)
-        × (length (S.cities tour.new) ≡ length (S.cities tour.old)) × (waking.new.size ≡ waking.old.size) }
+    ensures stored { length near.now.entries ≡ length (S.cities tour.old) * near.now.width }
+    ensures table { (G.distance gains.new ≡ G.distance gains.old) × (G.size_of gains.new ≡ G.size_of gains.old) }
+    ensures sizes { (length (S.cities tour.new) ≡ length (S.cities tour.old)) × (waking.new.size ≡ waking.old.size) }
 {
     let (tests, swaps) = (gains.tests(), tour.swaps());
     let (_cities, _awake, _candidates) = (size(tour), waking.len(), near.width());

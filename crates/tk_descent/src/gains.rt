@@ -2,9 +2,8 @@
 ghost use Rattle.std.specs.Prelude.{◌≡◌, ℕ, ◌+◌, ◌-◌, ◌*◌, ◌^◌, ◌≤◌, All, IfSome, length};
 ghost use Rattle.tk_problem.specs.declared.limits.TheConstants.{DISTANCE_LIMIT};
 ghost use Rattle.tk_distance.specs.Cities.{IsCity};
-ghost use Rattle.tk_near.specs.Near.{near_of};
 ghost use Rattle.tk_tour.specs.Counters.{saturated};
-ghost use Rattle.tk_descent.specs.Offers.{gain, offers, Searched, EndsIn};
+ghost use Rattle.tk_descent.specs.Offers.{gain, offers_at, Searched, EndsIn};
 ghost use Rattle.tk_descent.specs.Machine.{IsOfferOn};
 ghost use Rattle.tk_descent.specs.declared.offer.Offer.TheVariants.{Two, Or};
 
@@ -86,8 +85,7 @@ pub trait Gains {
         requires fits { (size_of self.old ≡ length (S.cities tour.now)) × (near.now.size ≡ length (S.cities tour.now)) }
         requires city { IsCity (length (S.cities tour.now)) city }
         requires most { (1 ≤ or_segment) × (or_segment ≤ 3) }
-        ensures searched { Searched (distance self.old)
-            (offers (S.cities tour.now) or_segment (near_of near.now city) city)
+        ensures searched { Searched (distance self.old) (offers_at (S.cities tour.now) or_segment near.now city)
             result (test_count self.old) (test_count self.new) }
         ensures on_cycle { IfSome result (λ f. IsOfferOn or_segment f.offer (S.cities tour.now)
             × EndsIn (length (S.cities tour.now)) f.offer) }

@@ -1,11 +1,11 @@
 //! What the definitions of a descent say together. The functions do no work: each is a theorem, stated by its contract.
-ghost use Rattle.std.specs.Prelude.{◌≡◌, ◌+◌, ◌*◌, ◌-ℤ◌, ◌≤◌, length, pos};
+ghost use Rattle.std.specs.Prelude.{◌≡◌, ◌+◌, ◌*◌, ◌≤◌, length};
 ghost use Rattle.tk_near.specs.Near.{near_of};
-ghost use Rattle.tk_tour.specs.Tour.{tour_length, IsSizedTour};
+ghost use Rattle.tk_tour.specs.Tour.{IsSizedTour};
 ghost use Rattle.tk_distance.specs.Holding.{IsDistinct};
-ghost use Rattle.tk_descent.specs.Machine.{Run};
-ghost use Rattle.tk_descent.specs.Offers.{gain, Makes};
-ghost use Rattle.tk_descent.specs.Sweeps.{Sweeps};
+ghost use Rattle.tk_descent.specs.Machine.{IsRun};
+ghost use Rattle.tk_descent.specs.Offers.{gain, Makes, shortening};
+ghost use Rattle.tk_descent.specs.Sweeps.{AreSweeps};
 ghost use Rattle.tk_descent.specs.WakeMachine.{IsLocalOptimum, Wakes};
 
 use crate::descent::Report;
@@ -24,8 +24,7 @@ pub fn gain_is_the_difference<M: Metric>(
     after: &[u32],
 )
     requires { Makes or_segment offer.now before.now after.now }
-    ensures { gain (M.distance metric.now) offer.now
-        ≡ pos (tour_length (M.distance metric.now) before.now) -ℤ pos (tour_length (M.distance metric.now) after.now) }
+    ensures { gain (M.distance metric.now) offer.now ≡ shortening (M.distance metric.now) before.now after.now }
 {}
 
 /// A law: a descent's run, up to any of its steps, is a run of the machine that leaves the choices open. Each look
@@ -44,8 +43,8 @@ pub fn descents_are_wake_runs<M: Metric>(
     requires most { or_segment ≤ 3 }
     requires tour { IsSizedTour before.now }
     requires distinct { IsDistinct awake.now }
-    requires run { Run (M.distance metric.now) (near_of near.now) or_segment before.now awake.now after.now left.now
-        report.now.looks report.now.moves report.now.tests }
+    requires run { IsRun (M.distance metric.now) near.now or_segment
+        before.now awake.now after.now left.now report.now }
     ensures wakes { Wakes (M.distance metric.now) (near_of near.now) or_segment
         before.now awake.now after.now left.now }
     ensures looks { report.now.looks + length left.now ≤ length awake.now + 6 * report.now.moves }
@@ -62,7 +61,6 @@ pub fn sweeps_end_in_local_optima<M: Metric>(
 )
     requires most { or_segment ≤ 3 }
     requires tour { IsSizedTour before.now }
-    requires sweeps { Sweeps (M.distance metric.now) (near_of near.now) or_segment before.now after.now
-        report.now.passes report.now.descent.looks report.now.descent.moves report.now.descent.tests }
+    requires sweeps { AreSweeps (M.distance metric.now) near.now or_segment before.now after.now report.now }
     ensures { IsLocalOptimum (M.distance metric.now) (near_of near.now) or_segment after.now }
 {}

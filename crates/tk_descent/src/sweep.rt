@@ -1,10 +1,7 @@
 //! Descents until a tour is a local optimum.
-ghost use Rattle.std.specs.Prelude.{◌≡◌, ℕ, pos, ◌+◌, ◌-◌, ◌*◌, ◌/◌, ◌≤◌, [], length};
-ghost use Rattle.tk_near.specs.Near.{near_of};
-ghost use Rattle.tk_tour.specs.Counters.{saturated};
-ghost use Rattle.tk_tour.specs.Tour.{tour_length, IsTour};
-ghost use Rattle.tk_descent.specs.Sweeps.{Sweeps};
-ghost use Rattle.tk_descent.specs.WakeMachine.{IsLocalOptimum};
+ghost use Rattle.std.specs.Prelude.{◌≡◌, pos, ◌*◌, ◌≤◌, [], length};
+ghost use Rattle.tk_tour.specs.Tour.{tour_length};
+ghost use Rattle.tk_descent.specs.Descents.{IsSweeping, AreOfSize};
 
 use crate::descent::{Report, descend};
 use crate::gains::Gains;
@@ -39,37 +36,15 @@ pub fn descend_swept<S: TourStore, G: Gains>(
     or_segment: u32,
     before: i64,
 ) -> SweptReport
-    requires fits { (G.size_of gains.old ≡ length (S.cities tour.old)) × (near.now.size ≡ length (S.cities tour.old))
-        × (waking.old.size ≡ length (S.cities tour.old)) }
+    requires fits { AreOfSize (length (S.cities tour.old)) (G.size_of gains.old) near.now.size waking.old.size }
     requires most { (1 ≤ or_segment) × (or_segment ≤ 3) }
     requires before { before ≡ pos (tour_length (G.distance gains.old) (S.cities tour.old)) }
-    ensures sweeps { (tests : ℕ) × Sweeps (G.distance gains.old) (near_of near.now) or_segment (S.cities tour.old)
-        (S.cities tour.new) result.passes result.descent.looks result.descent.moves tests
-        × (G.test_count gains.new ≡ saturated (G.test_count gains.old + tests)) }
-    ensures fresh { G.test_count gains.old ≡ 0
-        → Sweeps (G.distance gains.old) (near_of near.now) or_segment (S.cities tour.old)
-        (S.cities tour.new) result.passes result.descent.looks result.descent.moves result.descent.tests }
-    ensures optimum { IsLocalOptimum (G.distance gains.old) (near_of near.now) or_segment (S.cities tour.new) }
-    ensures stored { length near.now.entries ≡ length (S.cities tour.old) * near.now.width }
-    ensures asleep { waking.new.queue ≡ [] }
-    ensures passes { result.passes ≤ result.descent.moves + 1 }
-    ensures tour { IsTour (length (S.cities tour.old)) (S.cities tour.new) }
-    ensures lengths { (result.descent.before ≡ before)
-        × (result.descent.after ≡ pos (tour_length (G.distance gains.old) (S.cities tour.new))) }
-    ensures moves { result.descent.moves + tour_length (G.distance gains.old) (S.cities tour.new)
-        ≤ tour_length (G.distance gains.old) (S.cities tour.old) }
-    ensures looks { result.descent.looks ≤ length (S.cities tour.old) * result.passes + 6 * result.descent.moves }
-    ensures tests { result.descent.tests ≤ 4 * or_segment * near.now.width *
-        (length (S.cities tour.old) * result.passes + 6 * result.descent.moves) }
-    ensures tested { result.descent.tests ≡ G.test_count gains.new - G.test_count gains.old }
-    ensures swaps { result.descent.swaps ≤ 3 * (length (S.cities tour.old) / 4) * result.descent.moves }
-    ensures swapped { result.descent.swaps ≡ S.swap_count tour.new - S.swap_count tour.old }
-    ensures flips { S.flip_count tour.new ≤ S.flip_count tour.old + 3 * result.descent.moves }
+    ensures sweeping { IsSweeping S.TourStore G.Gains near.now or_segment
+        (tour.old, waking.old, gains.old) (tour.new, waking.new, gains.new) result }
     ensures flips_only { S.FlipsOnly tour.old tour.new }
-    ensures rises { (G.test_count gains.old ≤ G.test_count gains.new)
-        × (S.swap_count tour.old ≤ S.swap_count tour.new) }
-    ensures kept { (G.distance gains.new ≡ G.distance gains.old) × (G.size_of gains.new ≡ G.size_of gains.old)
-        × (length (S.cities tour.new) ≡ length (S.cities tour.old)) × (waking.new.size ≡ waking.old.size) }
+    ensures stored { length near.now.entries ≡ length (S.cities tour.old) * near.now.width }
+    ensures table { (G.distance gains.new ≡ G.distance gains.old) × (G.size_of gains.new ≡ G.size_of gains.old) }
+    ensures sizes { (length (S.cities tour.new) ≡ length (S.cities tour.old)) × (waking.new.size ≡ waking.old.size) }
 {
     let (tests, swaps) = (gains.tests(), tour.swaps());
     let (_cities, _candidates) = (size(tour), near.width());

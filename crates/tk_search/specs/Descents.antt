@@ -1,5 +1,7 @@
 -- The descents of a search.
-use Rattle.std.specs.Prelude.{◌≡◌, ℕ, List, [], true, false}
+use Rattle.std.specs.Prelude.{◌≡◌, ℕ, ◌*◌, List, [], length, true, false, if◌then◌else◌}
+use Rattle.tk_near.specs.Near.{NearLists}
+use Rattle.tk_descent.specs.Descents.{Terms}
 use Rattle.tk_descent.specs.Machine.{Run}
 use Rattle.tk_descent.specs.Sweeps.{Sweeps}
 use Rattle.tk_search.specs.declared.trials.descending.SearchRules.{SearchRules}
@@ -10,3 +12,11 @@ pub record Descends (dist : ℕ → ℕ → ℕ) (near : ℕ → List ℕ) (rule
     (passes looks moves tests : ℕ) : Type 0 where
   pub swept : rules.sweep ≡ true → Sweeps dist near rules.or_segment T D passes looks moves tests
   pub once : rules.sweep ≡ false → Run dist near rules.or_segment T W D [] looks moves tests × (passes ≡ 1)
+
+-- what a search's descents go by
+abbrev pub terms : (ℕ → ℕ → ℕ) → NearLists → SearchRules → Terms
+terms dist near rules = record { distance = dist; near = near; or_segment = rules.or_segment }
+
+-- how many looks descents on n cities begin with: at each city in each pass, or at the cities that are awake
+abbrev pub looks_at_first : SearchRules → ℕ → List ℕ → ℕ → ℕ
+looks_at_first rules n awake passes = if rules.sweep then n * passes else length awake

@@ -2,6 +2,7 @@
 use Rattle.std.proofs.Common.{◌≡◌, ℕ, ◌+◌, ◌-◌, ◌*◌, ◌<◌, ◌≤◌, List, ◌∷◌, length, Option, Some, None, sym, ◌∙◌, ap}
 use Rattle.std.proofs.Common.{arith, subst, ℤ, pos, ◌-ℤ◌, FitsSigned, w64, to_z, of_z}
 use Rattle.std.proofs.Math.Nat.{mul-le-mul}
+use Rattle.std.specs.Int.RustNames.{unsigned_abs}
 use Rattle.std.proofs.lemmas.Int.{ints, to_z-of_z}
 use Rattle.tk_problem.specs.declared.limits.TheConstants.{CANDIDATE_LIMIT, CITY_LIMIT}
 use Rattle.tk_descent.proofs.MovesOnTours.Paths.{IsTable}
@@ -111,3 +112,10 @@ few_tests m k n moves tests L h j l f e b =
 pub fresh_count : (before after tests r : ℕ) → after ≡ saturated (before + tests) → r ≡ after - before → before ≡ 0 →
     r < 18446744073709551615 → tests ≡ r
 fresh_count before after tests r h j z few = omega arith
+
+-- by how much a tour became shorter, as the difference of its lengths
+pub saved_is : (b a : ℤ) (x y : ℕ) → b ≡ pos x → a ≡ pos y → y ≤ x → unsigned_abs (b -ℤ a) ≡ x - y
+saved_is b a x y eb ea le = ap (λ v. unsigned_abs (v -ℤ a)) eb ∙ ap (λ v. unsigned_abs (pos x -ℤ v)) ea ∙ apart
+  where
+    apart : unsigned_abs (pos x -ℤ pos y) ≡ x - y
+    apart = grind (arith, ints)

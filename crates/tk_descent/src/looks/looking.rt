@@ -1,9 +1,8 @@
 //! A look at a city goes through its offers in order.
 ghost use Rattle.std.specs.Prelude.{◌≡◌, ◌≤◌, ◌<◌, [], ◌∷◌, length, flat_map, All, IfSome, None, ◌+◌, ◌*◌, pos};
 ghost use Rattle.tk_near.specs.Near.{near_of};
-ghost use Rattle.tk_tour.specs.Counters.{saturated};
-ghost use Rattle.tk_descent.specs.Offers.{covers, Searched, or_offer, offers, EndsIn, segment_count, first_gain};
-ghost use Rattle.tk_descent.specs.Offers.{tests_to};
+ghost use Rattle.tk_descent.specs.Looks.{Looked};
+ghost use Rattle.tk_descent.specs.Offers.{covers, Searched, or_offer, offers_at, EndsIn, segment_count};
 ghost use Rattle.tk_descent.specs.Sharing.{IsBeside, IsPiece, piece_offers, two_margin, or_margin};
 ghost use Rattle.tk_descent.specs.Steps.{AreMeasured};
 ghost use Rattle.tk_distance.specs.Cities.{IsCity};
@@ -185,7 +184,7 @@ pub(crate) fn find_offer<S: TourStore, M: Metric>(
     requires most { (1 ≤ or_segment) × (or_segment ≤ 3) }
     requires known { AreMeasured (M.distance metric.now) steps.old }
     ensures searched { Searched (M.distance metric.now)
-        (offers (S.cities tour.now) or_segment (near_of near.now city) city) result count.old count.new }
+        (offers_at (S.cities tour.now) or_segment near.now city) result count.old count.new }
     ensures on_cycle { IfSome result (λ f. IsOfferOn or_segment f.offer (S.cities tour.now)
         × EndsIn (length (S.cities tour.now)) f.offer) }
     ensures bound { count.new ≤ count.old + 4 * or_segment * near.now.width }
@@ -215,11 +214,8 @@ pub fn look<S: TourStore, G: Gains>(
     requires fits { (G.size_of gains.old ≡ length (S.cities tour.now)) × (near.now.size ≡ length (S.cities tour.now)) }
     requires city { IsCity (length (S.cities tour.now)) city }
     requires most { (1 ≤ or_segment) × (or_segment ≤ 3) }
-    ensures first { result ≡ first_gain (G.distance gains.old)
-        (offers (S.cities tour.now) or_segment (near_of near.now city) city) }
-    ensures tests { G.test_count gains.new
-        ≡ saturated (G.test_count gains.old + tests_to (G.distance gains.old)
-        (offers (S.cities tour.now) or_segment (near_of near.now city) city)) }
+    ensures looked { Looked G.Gains (offers_at (S.cities tour.now) or_segment near.now city)
+        gains.old gains.new result }
     ensures on_cycle { IfSome result (λ o. IsOfferOn or_segment o (S.cities tour.now)
         × EndsIn (length (S.cities tour.now)) o) }
     ensures none { result ≡ None → HasNoOffer (G.distance gains.old) (near_of near.now) or_segment city

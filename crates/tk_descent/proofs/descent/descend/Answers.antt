@@ -1,17 +1,23 @@
-use Rattle.std.proofs.Common.{arith, [], ◌-◌, rules, refl, ◌+◌, ◌*◌, ◌/◌, ◌≤◌, ap, ◌∙◌, length, ◌≡◌, subst}
+use Rattle.std.proofs.Common.{arith, [], ◌-◌, rules, refl, ◌+◌, ◌*◌, ◌/◌, ◌≤◌, ap, ◌∙◌, length, ◌≡◌, subst, sym, ℕ}
+use Rattle.std.proofs.Common.{◌-ℤ◌, w64, to_z, of_z}
+use Rattle.std.proofs.lemmas.Int.{to_z-of_z}
+use Rattle.std.specs.Int.RustNames.{unsigned_abs}
+use Rattle.tk_problem.specs.declared.limits.TheConstants.{CITY_LIMIT}
 use Rattle.tk_near.specs.Near.{near_of}
 use Rattle.tk_descent.proofs.OfferLists.OnCycle.{more_on}
 use Rattle.tk_tour.specs.Tour.{tour_length, IsTour}
 use Rattle.tk_descent.specs.Machine.{Run}
 use Rattle.tk_descent.specs.Machine.Run.{start}
+use Rattle.tk_descent.proofs.MovesOnTours.Paths.{IsTable}
 use Rattle.tk_descent.proofs.MovesOnTours.Rounds.{round_of}
 use Rattle.tk_descent.proofs.WakeRuns.DescentSteps.{run_asleep, run_move, less_move, worth_move, queue_left}
 use Rattle.tk_descent.proofs.WakeRuns.DescentSteps.{fits_length, more_swaps, tests_rise, count_look, few_tests}
-use Rattle.tk_descent.proofs.WakeRuns.DescentSteps.{fresh_count}
+use Rattle.tk_descent.proofs.WakeRuns.DescentSteps.{fresh_count, saved_is}
 use Rattle.tk_descent.proofs.OfferLists.Count.{fewer}
 use Rattle.tk_descent.specs.WakeMachine.{Wakes}
 use Rattle.tk_descent.proofs.WakeRuns.Machines.{run_wakes}
 use Rattle.tk_descent.proofs.descent.descend.Goals as goal
+use mir.Val.{SFits}
 
 pub loop-x-init : goal.loop-x-init
 loop-x-init g c = record {
@@ -199,88 +205,91 @@ overflow_sub-result g c = omega (arith, c.loop-x.invariant.tests_rise, c.tests-t
 pub overflow_sub-result-2 : goal.overflow_sub-result-2
 overflow_sub-result-2 g c = omega (arith, c.loop-x.invariant.swaps_rise, c.swaps-swaps.ensures, c.swaps.ensures)
 
-pub returns-clause-tests : goal.returns-clause-tests
-returns-clause-tests g c =
+pub returns-clause-descent : goal.returns-clause-descent
+returns-clause-descent g c =
     let i = c.loop-x.invariant in
+    let d = g.G.Gains.distance c.args.gains.now in
+    let near = near_of c.args.near.now in
+    let T = g.S.TourStore.cities c.args.tour.now in
+    let W = c.args.waking.now.queue in
+    let D = g.S.TourStore.cities c.loop-x.tour in
+    let laws : IsTable d = (
+      g.met.G.Gains.symmetric c.args.gains.now,
+      g.met.G.Gains.diagonal c.args.gains.now,
+      g.met.G.Gains.distance_limit c.args.gains.now,
+    ) in
+    let asleep = c.in_default.ensures.taken.0 in
+    let few : length T ≤ CITY_LIMIT = omega (arith, c.size-cities.ensures.count, c.size-cities.ensures.limits.1) in
+    let most : c.tests.result - c.tests-tests.result
+        ≤ 4 * c.args.or_segment * c.args.near.now.width * (length W + 6 * c.loop-x.moves) =
     omega (
       arith,
       i.tests,
       c.tests-tests.ensures,
       c.tests.ensures,
-      fewer c.args.or_segment c.args.near.now.width c.loop-x.looks
-          (length c.args.waking.now.queue + 6 * c.loop-x.moves) (omega (arith, i.looked)),
-    )
-
-pub returns-clause-wakes : goal.returns-clause-wakes
-returns-clause-wakes g c =
-    subst (λ z. Wakes (g.G.Gains.distance c.args.gains.now) (near_of c.args.near.now) c.args.or_segment
-    (g.S.TourStore.cities c.args.tour.now) c.args.waking.now.queue (g.S.TourStore.cities c.loop-x.tour) z)
-    c.in_default.ensures.taken.0
-    (run_wakes (g.G.Gains.distance c.args.gains.now) (near_of c.args.near.now) c.args.or_segment
-    (g.S.TourStore.cities c.args.tour.now) c.args.waking.now.queue (
-      g.met.G.Gains.symmetric c.args.gains.now,
-      g.met.G.Gains.diagonal c.args.gains.now,
-      g.met.G.Gains.distance_limit c.args.gains.now,
-    ) c.requires.most.1
-    (round_of _ (g.met.S.TourStore.is_tour c.args.tour.now)).distinct c.len-awake.ensures.distinct
-    c.loop-x.invariant.run.1)
-
-pub returns-clause-stored : goal.returns-clause-stored
-returns-clause-stored g c = c.width-candidates.ensures.stored ∙ ap (λ z. z * c.args.near.now.width) c.requires.fits.1
+      fewer c.args.or_segment c.args.near.now.width c.loop-x.looks (length W + 6 * c.loop-x.moves)
+          (omega (arith, i.looked)),
+    ) in
+    let run : Run d near c.args.or_segment T W D [] c.loop-x.looks c.loop-x.moves i.run.0 =
+    subst (λ z. Run d near c.args.or_segment T W D z c.loop-x.looks c.loop-x.moves i.run.0) asleep i.run.1 in
+    record {
+      run = (i.run.0, run, i.run.2);
+      fresh = λ fresh.
+          subst (λ z. Run d near c.args.or_segment T W D [] c.loop-x.looks c.loop-x.moves z)
+          (fresh_count _ _ i.run.0 _ i.run.2 (omega (arith, c.tests-tests.ensures, c.tests.ensures)) fresh
+          (few_tests c.args.or_segment c.args.near.now.width (length W) c.loop-x.moves _ (tour_length d T)
+          c.requires.most.1 (omega (arith, c.width-candidates.ensures.value, c.width-candidates.ensures.limit))
+          (omega (
+            arith,
+            c.len-awake.ensures.value,
+            c.len-awake.ensures.limit,
+            c.requires.fits.2,
+            c.size-cities.ensures.count,
+            c.size-cities.ensures.limits.1,
+          )) (omega (arith, i.gained)) (fits_length d T laws few) most)) run;
+      wakes =
+          subst (λ z. Wakes d near c.args.or_segment T W D z) asleep
+          (run_wakes d near c.args.or_segment T W laws c.requires.most.1
+          (round_of _ (g.met.S.TourStore.is_tour c.args.tour.now)).distinct c.len-awake.ensures.distinct i.run.1);
+      asleep = search rules;
+      tour = subst (λ z. IsTour z D) i.size (g.met.S.TourStore.is_tour c.loop-x.tour).2;
+      reported = record {
+        before = search rules;
+        after = search rules;
+        moves = i.gained;
+        looks_most = omega (arith, i.looked);
+        tests_most = most;
+        tests = search rules;
+        swaps_most = search rules;
+        swaps = search rules;
+        flips_most = i.flips;
+        rises = (i.tests_rise, i.swaps_rise);
+      };
+    }
 
 pub returns-clause-headline : goal.returns-clause-headline
 returns-clause-headline g c =
     let i = c.loop-x.invariant in
     let d = g.G.Gains.distance c.args.gains.now in
     let n = length (g.S.TourStore.cities c.args.tour.now) in
-    let shorter =
-    tour_length d (g.S.TourStore.cities c.args.tour.now) - tour_length d (g.S.TourStore.cities c.loop-x.tour) in
-    let all : length c.args.waking.now.queue + 6 * c.loop-x.moves ≤ n + 6 * shorter =
-    omega (arith, i.gained, c.len-awake.ensures.value, c.len-awake.ensures.limit, c.requires.fits.2) in
+    let before = tour_length d (g.S.TourStore.cities c.args.tour.now) in
+    let after = tour_length d (g.S.TourStore.cities c.loop-x.tour) in
+    let fits : SFits w64 c.args.before = search rules in
+    let shorter : unsigned_abs (to_z w64 (of_z w64 c.args.before) -ℤ to_z w64 c.loop-x.after-bits) ≡ before - after =
+    saved_is _ _ before after (to_z-of_z w64 c.args.before fits ∙ c.requires.before) i.after
+    (omega (arith, i.gained)) in
+    let tests : ℕ = c.tests.result - c.tests-tests.result in
+    let most : ℕ → ℕ = λ v. 4 * c.args.or_segment * c.args.near.now.width * (n + 6 * v) in
+    let few : tests ≤ most (before - after) =
     omega (
       arith,
-      returns-clause-tests g c,
-      fewer c.args.or_segment c.args.near.now.width (length c.args.waking.now.queue + 6 * c.loop-x.moves)
-          (n + 6 * shorter) all,
-    )
+      i.tests,
+      c.tests-tests.ensures,
+      c.tests.ensures,
+      fewer c.args.or_segment c.args.near.now.width c.loop-x.looks (n + 6 * (before - after))
+          (omega (arith, i.looked, i.gained, c.len-awake.ensures.value, c.len-awake.ensures.limit, c.requires.fits.2)),
+    ) in
+    subst (λ v. tests ≤ most v) (sym shorter) few
 
-pub returns-clause-tour : goal.returns-clause-tour
-returns-clause-tour g c = subst (λ z. IsTour z (g.S.TourStore.cities c.loop-x.tour)) c.loop-x.invariant.size
-    (g.met.S.TourStore.is_tour c.loop-x.tour).2
-
-pub returns-clause-run : goal.returns-clause-run
-returns-clause-run g c =
-    let r = c.loop-x.invariant.run in (
-      r.0,
-      subst
-          (λ z. Run (g.G.Gains.distance c.args.gains.now) (near_of c.args.near.now) c.args.or_segment
-          (g.S.TourStore.cities c.args.tour.now) c.args.waking.now.queue (g.S.TourStore.cities c.loop-x.tour) z
-          c.loop-x.looks c.loop-x.moves r.0) c.in_default.ensures.taken.0 r.1,
-      r.2,
-    )
-
-pub returns-clause-fresh : goal.returns-clause-fresh
-returns-clause-fresh g c = λ fresh.
-    let i = c.loop-x.invariant in
-    let r = returns-clause-run g c in
-    let d = g.G.Gains.distance c.args.gains.now in
-    subst (λ z. Run d (near_of c.args.near.now) c.args.or_segment (g.S.TourStore.cities c.args.tour.now)
-    c.args.waking.now.queue (g.S.TourStore.cities c.loop-x.tour) [] c.loop-x.looks c.loop-x.moves z)
-    (fresh_count _ _ r.0 _ r.2 (omega (arith, c.tests-tests.ensures, c.tests.ensures)) fresh
-    (few_tests c.args.or_segment c.args.near.now.width (length c.args.waking.now.queue) c.loop-x.moves
-    _ (tour_length d (g.S.TourStore.cities c.args.tour.now)) c.requires.most.1
-    (omega (arith, c.width-candidates.ensures.value, c.width-candidates.ensures.limit))
-    (omega (
-      arith,
-      c.len-awake.ensures.value,
-      c.len-awake.ensures.limit,
-      c.requires.fits.2,
-      c.size-cities.ensures.count,
-      c.size-cities.ensures.limits.1,
-    )) (omega (arith, i.gained))
-    (fits_length d (g.S.TourStore.cities c.args.tour.now) (
-      g.met.G.Gains.symmetric c.args.gains.now,
-      g.met.G.Gains.diagonal c.args.gains.now,
-      g.met.G.Gains.distance_limit c.args.gains.now,
-    )
-    (omega (arith, c.size-cities.ensures.count, c.size-cities.ensures.limits.1))) (returns-clause-tests g c))) r.1
+pub returns-clause-stored : goal.returns-clause-stored
+returns-clause-stored g c = c.width-candidates.ensures.stored ∙ ap (λ z. z * c.args.near.now.width) c.requires.fits.1

@@ -40,7 +40,7 @@ returns-in-Some g c =
             g.met.M.Metric.distance_limit c.args.metric.now,
           )
           (subst (λ z. first_gain z (offers C c.args.or_segment (near c.loop-x.x) c.loop-x.x) ≡ Some o) i.table
-          (sym c.in-Some.ensures.first)) c.in-Some.ensures.on_cycle.0 in
+          (sym c.in-Some.ensures.looked.first)) c.in-Some.ensures.on_cycle.0 in
           absurd (opt c.loop-x.x
           ((tour.members c.loop-x.x).1
           (omega (arith, c.loop-x.auto.x), omega (arith, c.size-x-end.ensures.count, c.loop-x-test.true))) o w.0

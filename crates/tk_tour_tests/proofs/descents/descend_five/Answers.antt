@@ -5,4 +5,4 @@ use Rattle.tk_tour_tests.proofs.descents.descend_five.Goals as goal
 pub returns : goal.returns
 returns g c =
     let P : (ℕ → ℕ → ℕ) → Type 0 = λ distance. AreTrueOf distance c.into_steps.result in
-    subst P (c.descend-report.ensures.kept.0 ∙ c.with_steps-gains.ensures.table) c.into_steps.ensures.true_steps
+    subst P (c.descend-report.ensures.table.0 ∙ c.with_steps-gains.ensures.table) c.into_steps.ensures.true_steps

@@ -32,7 +32,7 @@ returns-clause-pass g c =
     (order_of c.descend-report.new.tour) c.in_ok-waking.waking.queue
     c.descend-report.result.looks c.descend-report.result.moves c.descend-report.result.tests
     c.new-gains.ensures.table start
-    (awake.queue ∙ ap one_to c.size-n.ensures) (c.descend-report.ensures.fresh c.new-gains.ensures.count)
+    (awake.queue ∙ ap one_to c.size-n.ensures) (c.descend-report.ensures.descent.fresh c.new-gains.ensures.count)
 
 pub returns-clause-tour : goal.returns-clause-tour
 returns-clause-tour g c =
@@ -40,7 +40,7 @@ returns-clause-tour g c =
     let start : order_of c.in-Ok.tour ≡ one_to n = c.in-Ok.ensures.order ∙ c.deref.ensures.value
     ∙ c.in_ok-places.ensures ∙ ap one_to c.size-n.ensures in
     subst (λ (v : ℕ). IsTour v (order_of c.descend-report.new.tour)) (ap length start ∙ one_to-length n)
-    c.descend-report.ensures.tour
+    c.descend-report.ensures.descent.tour
 
 pub returns-clause-tests : goal.returns-clause-tests
 returns-clause-tests g c =
@@ -49,7 +49,7 @@ returns-clause-tests g c =
     let queue : length c.in_ok-waking.waking.queue ≡ n =
     queue_length c.in_ok-waking.waking.queue n (awake.queue ∙ ap one_to c.size-n.ensures) in
     subst (λ (v : ℕ). c.descend-report.result.tests ≤ 4 * c.args.m * c.args.near.now.width *
-    (v + 6 * c.descend-report.result.moves)) queue c.descend-report.ensures.tests
+    (v + 6 * c.descend-report.result.moves)) queue c.descend-report.ensures.descent.reported.tests_most
 
 pub returns-clause-swaps : goal.returns-clause-swaps
 returns-clause-swaps g c =
@@ -57,7 +57,7 @@ returns-clause-swaps g c =
     let start : order_of c.in-Ok.tour ≡ one_to n = c.in-Ok.ensures.order ∙ c.deref.ensures.value
     ∙ c.in_ok-places.ensures ∙ ap one_to c.size-n.ensures in
     subst (λ (v : ℕ). c.descend-report.result.swaps ≤ 3 * (v / 4) * c.descend-report.result.moves) (ap length start
-    ∙ one_to-length n) c.descend-report.ensures.swaps
+    ∙ one_to-length n) c.descend-report.ensures.descent.reported.swaps_most
 
 pub returns-clause-flipped : goal.returns-clause-flipped
 returns-clause-flipped g c =
@@ -68,11 +68,11 @@ returns-clause-flipped g c =
     let size : length (order_of c.in-Ok.tour) ≡ n = ap length start ∙ one_to-length n in
     let moves : ℕ = c.descend-report.result.moves in
     let swaps : ℕ = c.descend-report.result.swaps in
-    let made = c.descend-report.ensures in
-    let most : swaps ≤ 3 * (n / 4) * moves = subst (λ (v : ℕ). swaps ≤ 3 * (v / 4) * moves) size made.swaps in
+    let made = c.descend-report.ensures.descent.reported in
+    let most : swaps ≤ 3 * (n / 4) * moves = subst (λ (v : ℕ). swaps ≤ 3 * (v / 4) * moves) size made.swaps_most in
     let small = few_moves d _ n moves (order_of c.in-Ok.tour) (order_of c.descend-report.new.tour)
     c.new-gains.ensures.table size c.requires.few
     (g.met.M.Metric.distance_limit c.args.metric.now) made.moves in
-    IsFlipped-counted n moves swaps c.in-Ok.tour c.descend-report.new.tour start made.flips_only
+    IsFlipped-counted n moves swaps c.in-Ok.tour c.descend-report.new.tour start c.descend-report.ensures.flips_only
     c.in-Ok.ensures.counts.2 c.in-Ok.ensures.counts.0
-    made.flips made.swapped most c.requires.few small
+    made.flips_most made.swaps most c.requires.few small

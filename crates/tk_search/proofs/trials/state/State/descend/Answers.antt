@@ -1,10 +1,12 @@
 use Rattle.std.proofs.Common.{rules, ◌≡◌, ◌≤◌, ◌+◌, ◌*◌, ◌/◌, ℕ, length, arith, ap, ◌∙◌, sym, subst}
 use Rattle.std.proofs.lemmas.Int.{to_z-of_z}
-use Rattle.std.specs.Prelude.{pos}
+use Rattle.std.specs.Prelude.{pos, true, false, if◌then◌else◌}
 use Rattle.tk_problem.specs.declared.limits.TheConstants.{CITY_LIMIT}
 use Rattle.tk_descent.proofs.WakeRuns.DescentSteps.{fits_length}
 use Rattle.tk_tour.specs.Tour.{tour_length}
 use Rattle.tk_tour.specs.JournalTours.{cities_of, slots_of, flips_since, KeepsSettled}
+use Rattle.tk_search.specs.Best.{best_of}
+use Rattle.tk_search.specs.Descents.{looks_at_first}
 use Rattle.tk_search.proofs.SearchTrials.TrialSteps.{same_size, less_of, gain_is, gain_bits, moves_gain}
 use Rattle.tk_search.proofs.trials.state.State.descend.Goals as goal
 use Rattle.tk_search.proofs.trials.state.State.descend.Goals.{then-better, else-better}
@@ -14,6 +16,7 @@ use mir.Val.{SFits}
 pub returns-clause-trial : goal.returns-clause-trial
 returns-clause-trial g c =
     let e = c.descend_by-passes.ensures in
+    let told = e.reported in
     let k = c.keep_better.ensures in
     let m = c.args.metric.now in
     let old = c.args.self.now.tour in
@@ -28,7 +31,7 @@ returns-clause-trial g c =
       g.met.M.Metric.distance_limit m,
     ) few in
     let exact : flips_since tour ≡ flips_since old + kept.flipped.flips =
-    omega (arith, kept.flips, e.flips, e.moves, bound, c.requires.flips) in
+    omega (arith, kept.flips, told.flips_most, told.moves, bound, c.requires.flips) in
     let fa : SFits w64 c.descend_by-passes.result.descent.after = search rules in
     let fb : SFits w64 c.args.self.now.shortest = search rules in
     let fp : SFits w64 c.args.before = search rules in (
@@ -37,11 +40,11 @@ returns-clause-trial g c =
         descends = e.descends;
         flips = kept.flipped.flips;
         swaps = kept.flipped.swaps;
-        few = omega (arith, exact, e.flips);
+        few = omega (arith, exact, told.flips_most);
         reversed = kept.flipped.reversed;
-        before = e.lengths.0 ∙ to_z-of_z w64 c.args.before fp ∙ c.requires.before;
-        after = e.lengths.1;
-        better = less_of _ _ _ _ fa fb e.lengths.1 c.requires.shortest;
+        before = told.before;
+        after = told.after;
+        better = less_of _ _ _ _ fa fb told.after c.requires.shortest;
         replaced = k.replaced;
         kept = k.kept;
       },
@@ -88,7 +91,7 @@ pub returns-clause-size : goal.returns-clause-size
 returns-clause-size g c =
     let kept : KeepsSettled c.args.self.now.tour c.descend_by-passes.new.store =
     c.descend_by-passes.ensures.flips_only in (
-      same_size _ _ _ _ c.keep_better.ensures.replaced c.keep_better.ensures.kept (c.descend_by-passes.ensures.kept.0
+      same_size _ _ _ _ c.keep_better.ensures.replaced c.keep_better.ensures.kept (c.descend_by-passes.ensures.sizes.0
           ∙ c.requires.size),
       c.keep_better.ensures.slots ∙ kept.slots,
     )
@@ -99,7 +102,7 @@ returns-clause-shortest g c =
     let fb : SFits w64 c.args.self.now.shortest = search rules in
     elim c.if-better.branch [
       | then-better w ↦ w.shortest-is ∙ to_z-of_z w64 c.descend_by-passes.result.descent.after fa
-          ∙ c.descend_by-passes.ensures.lengths.1
+          ∙ c.descend_by-passes.ensures.reported.after
           ∙ sym
           (ap (λ v. pos (tour_length (g.M.Metric.distance c.args.metric.now) v))
           (c.keep_better.ensures.replaced w.if-better.true))
@@ -111,31 +114,39 @@ returns-clause-shortest g c =
 
 pub returns-clause-adds : goal.returns-clause-adds
 returns-clause-adds g c =
-    let e = c.descend_by-passes.ensures in
+    let told = c.descend_by-passes.ensures.reported in
     let fp : SFits w64 c.args.before = search rules in
     let fa : SFits w64 c.descend_by-passes.result.descent.after = search rules in
-    gain_is _ _ _ _ _ (gain_bits _ _ _ _ _ _ fp fa c.requires.before e.lengths.1 e.lengths.0
+    let begins = told.before ∙ sym (to_z-of_z w64 c.args.before fp ∙ c.requires.before) in
+    gain_is _ _ _ _ _ (gain_bits _ _ _ _ _ _ fp fa c.requires.before told.after begins
     c.unsigned_abs-gained.ensures.value) c.with_trial-self.ensures.adds
 
 pub returns-clause-swapped : goal.returns-clause-swapped
-returns-clause-swapped g c = c.keep_better.ensures.swaps ∙ c.descend_by-passes.ensures.swapped
+returns-clause-swapped g c =
+    let told = c.descend_by-passes.ensures.reported in
+    c.keep_better.ensures.swaps ∙ omega (arith, told.swaps, told.rises.1)
 
 pub returns-clause-bounded : goal.returns-clause-bounded
 returns-clause-bounded g c =
-    let e = c.descend_by-passes.ensures in
+    let told = c.descend_by-passes.ensures.reported in
     let r = c.descend_by-passes.result in
-    let fp : SFits w64 c.args.before = search rules in
+    let old = length (cities_of c.args.self.now.tour) in
+    let awake = c.args.self.now.waking.queue in
+    let first = looks_at_first c.args.rules old awake r.passes in
     let Swaps : ℕ → Type 0 = λ v. r.descent.swaps ≤ 3 * (v / 4) * r.descent.moves in
-    let Looks : ℕ → Type 0 = λ v. r.descent.looks ≤ v * r.passes + 6 * r.descent.moves in
+    let Looks : ℕ → Type 0 = λ v. r.descent.looks ≤ v + 6 * r.descent.moves in
     let Tests : ℕ → Type 0 = λ v. r.descent.tests ≤ 4 * c.args.rules.or_segment * c.args.near.now.width *
-    (v * r.passes + 6 * r.descent.moves) in
+    (v + 6 * r.descent.moves) in
+    let once : c.args.rules.sweep ≡ false → first ≡ length awake =
+    λ no. ap (λ z. if z then old * r.passes else length awake) no in
+    let swept : c.args.rules.sweep ≡ true → first ≡ length (best_of c.args.self.now.best) * r.passes =
+    λ yes. ap (λ z. if z then old * r.passes else length awake) yes ∙ ap (λ v. v * r.passes) c.requires.size in
     record {
-      moves = moves_gain _ _ _ _ _ (e.lengths.0 ∙ to_z-of_z w64 c.args.before fp ∙ c.requires.before)
-          e.lengths.1 e.moves;
-      swaps = subst Swaps c.requires.size e.swaps;
-      passes = e.passes;
-      looks = e.looks_once;
-      tests = e.tests_once;
-      swept_looks = λ h. subst Looks c.requires.size (e.looks_swept h);
-      swept_tests = λ h. subst Tests c.requires.size (e.tests_swept h);
+      moves = moves_gain _ _ _ _ _ told.before told.after told.moves;
+      swaps = subst Swaps c.requires.size told.swaps_most;
+      passes = c.descend_by-passes.ensures.passes;
+      looks = λ no. subst Looks (once no) told.looks_most;
+      tests = λ no. subst Tests (once no) told.tests_most;
+      swept_looks = λ yes. subst Looks (swept yes) told.looks_most;
+      swept_tests = λ yes. subst Tests (swept yes) told.tests_most;
     }

@@ -1,0 +1,98 @@
+-- Descents, with all that is known of them.
+--     Terms, Stand      what a descent goes by, and where it stands
+--     Descent      a descent from one stand to another, with its report
+--     Sweeping      descents with all cities awake, until one makes no move, with their report
+--     IsDescent, IsSweeping      the same of a tour, its waking cities and gains
+--     AreOfSize      gains, near lists and waking cities that go with a tour
+use Rattle.std.specs.Prelude.{◌≡◌, ℕ, ◌+◌, ◌-◌, ◌*◌, ◌/◌, ◌≤◌, ◌-ℤ◌, List, [], length, pos}
+use Rattle.std.specs.Int.RustNames.{unsigned_abs}
+use Rattle.tk_near.specs.Near.{NearLists, near_of}
+use Rattle.tk_tour.specs.Counters.{saturated}
+use Rattle.tk_tour.specs.Tour.{tour_length, IsTour}
+use Rattle.tk_tour.specs.declared.store.TourStore as stores
+use Rattle.tk_descent.specs.Awake.{Awake}
+use Rattle.tk_descent.specs.Machine.{Run, IsRun}
+use Rattle.tk_descent.specs.Sweeps.{Sweeps, AreSweeps}
+use Rattle.tk_descent.specs.WakeMachine.{Wakes, IsLocalOptimum}
+use Rattle.tk_descent.specs.declared.descent.Report.{Report}
+use Rattle.tk_descent.specs.declared.gains.Gains as gains
+use Rattle.tk_descent.specs.declared.sweep.SweptReport.{SweptReport}
+
+-- what a descent goes by: distances, near lists, and the greatest number of cities that an Or-move moves
+pub record Terms : Type 0 where
+  pub distance : ℕ → ℕ → ℕ
+  pub near : NearLists
+  pub or_segment : ℕ
+
+-- where a descent stands: the tour, the cities that are awake, and how many tests, swaps and flips were counted
+pub record Stand : Type 0 where
+  pub tour : List ℕ
+  pub awake : List ℕ
+  pub tests : ℕ
+  pub swaps : ℕ
+  pub flips : ℕ
+
+-- what made the tour shorter by
+abbrev pub saved : Report → ℕ
+saved report = unsigned_abs (report.before -ℤ report.after)
+
+-- What a report says of descents that begin with so many looks, and then make at most six for each move.
+pub record IsReported (by : Terms) (from to : Stand) (looks : ℕ) (report : Report) : Type 0 where
+  pub before : report.before ≡ pos (tour_length by.distance from.tour)
+  pub after : report.after ≡ pos (tour_length by.distance to.tour)
+  pub moves : report.moves + tour_length by.distance to.tour ≤ tour_length by.distance from.tour
+  pub looks_most : report.looks ≤ looks + 6 * report.moves
+  pub tests_most : report.tests ≤ 4 * by.or_segment * by.near.width * (looks + 6 * report.moves)
+  pub tests : report.tests ≡ to.tests - from.tests
+  pub swaps_most : report.swaps ≤ 3 * (length from.tour / 4) * report.moves
+  pub swaps : report.swaps ≡ to.swaps - from.swaps
+  pub flips_most : to.flips ≤ from.flips + 3 * report.moves
+  pub rises : (from.tests ≤ to.tests) × (from.swaps ≤ to.swaps)
+
+-- A descent ends with a tour of the same cities, and with none awake. Counts of tests stand still at 2^64 - 1.
+pub record Descent (by : Terms) (from to : Stand) (report : Report) : Type 0 where
+  pub run : (tests : ℕ) × Run by.distance (near_of by.near) by.or_segment from.tour from.awake to.tour []
+      report.looks report.moves tests × (to.tests ≡ saturated (from.tests + tests))
+  pub fresh : from.tests ≡ 0 → IsRun by.distance by.near by.or_segment from.tour from.awake to.tour [] report
+  pub wakes : Wakes by.distance (near_of by.near) by.or_segment from.tour from.awake to.tour []
+  pub asleep : to.awake ≡ []
+  pub tour : IsTour (length from.tour) to.tour
+  pub reported : IsReported by from to (length from.awake) report
+
+-- Descents with all cities awake end with a local optimum, and with no city awake.
+pub record Sweeping (by : Terms) (from to : Stand) (report : SweptReport) : Type 0 where
+  pub sweeps : (tests : ℕ) × Sweeps by.distance (near_of by.near) by.or_segment from.tour to.tour report.passes
+      report.descent.looks report.descent.moves tests × (to.tests ≡ saturated (from.tests + tests))
+  pub fresh : from.tests ≡ 0 → AreSweeps by.distance by.near by.or_segment from.tour to.tour report
+  pub optimum : IsLocalOptimum by.distance (near_of by.near) by.or_segment to.tour
+  pub asleep : to.awake ≡ []
+  pub tour : IsTour (length from.tour) to.tour
+  pub passes : report.passes ≤ report.descent.moves + 1
+  pub reported : IsReported by from to (length from.tour * report.passes) report.descent
+
+-- where a descent stands with a tour and the cities that are awake, after so many tests
+abbrev pub stand : {S : Type 0} → stores.Ghosts S → S → Awake → ℕ → Stand
+stand store tour waking tests = record {
+  tour = store.cities tour;
+  awake = waking.queue;
+  tests = tests;
+  swaps = store.swap_count tour;
+  flips = store.flip_count tour;
+}
+
+-- a descent by gains and near lists, from a tour, its waking cities and gains to others
+abbrev pub IsDescent : {S G : Type 0} → stores.Ghosts S → gains.Ghosts G → NearLists → ℕ → S × Awake × G →
+    S × Awake × G → Report → Type 0
+IsDescent store gains near or_segment (tour, waking, made) (tour', waking', made') =
+    Descent (record { distance = gains.distance made; near = near; or_segment = or_segment })
+    (stand store tour waking (gains.test_count made)) (stand store tour' waking' (gains.test_count made'))
+
+abbrev pub IsSweeping : {S G : Type 0} → stores.Ghosts S → gains.Ghosts G → NearLists → ℕ → S × Awake × G →
+    S × Awake × G → SweptReport → Type 0
+IsSweeping store gains near or_segment (tour, waking, made) (tour', waking', made') =
+    Sweeping (record { distance = gains.distance made; near = near; or_segment = or_segment })
+    (stand store tour waking (gains.test_count made)) (stand store tour' waking' (gains.test_count made'))
+
+-- gains, near lists and waking cities for n cities
+abbrev pub AreOfSize : ℕ → ℕ → ℕ → ℕ → Type 0
+AreOfSize n gains near waking = (gains ≡ n) × (near ≡ n) × (waking ≡ n)
