@@ -1,6 +1,6 @@
 -- Distances of places in the plane, by exact arithmetic over coordinates in units of 10^-9.
 -- Source: G. Reinelt, "TSPLIB 95", section 2, "The distance functions".
-use Rattle.std.specs.Prelude.{ℕ, ℤ, ◌+◌, ◌-◌, ◌*◌, ◌≤◌, ◌-ℤ◌, max}
+use Rattle.std.specs.Prelude.{ℕ, ℤ, ◌+◌, ◌-◌, ◌*◌, ◌<◌, ◌≤◌, ◌↔◌, ◌-ℤ◌, max}
 use Rattle.std.specs.Int.RustNames.{unsigned_abs}
 use Rattle.tk_problem.specs.Places.{greatest_coordinate, scale}
 use Rattle.tk_problem.specs.declared.point.Point.{Point}
@@ -24,6 +24,11 @@ Reaches length d = (2 * d - 1) * scale ≤ 2 * length
 -- d - 1/2 is at most the root of a square
 abbrev pub RootReaches : ℕ → ℕ → Type 0
 RootReaches square d = (2 * d - 1) * (2 * d - 1) * (scale * scale) ≤ 4 * square
+
+-- squares in units of `step` are less than `parting` just where their roots, rounded to the nearest, are below a bound
+abbrev pub PartsRoots : ℕ → ℕ → ℕ → Type 0
+PartsRoots step bound parting = (square d : ℕ) → square ≤ 8000000000000000000 →
+    IsGreatest (RootReaches (square * (step * step))) d → ((square < parting) ↔ (d < bound))
 
 -- d is at least the root of a part of a square
 abbrev pub Covers : ℕ → ℕ → ℕ → Type 0

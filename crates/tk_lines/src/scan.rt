@@ -2,11 +2,10 @@
 ghost use Rattle.std.specs.Prelude.{◌≡◌, ◌≤◌, ◌<◌, ℕ, List, [], ◌∷◌, ◌++◌, length, Some, None, IfSome, IfOk, IfErr};
 ghost use Rattle.std.specs.Prelude.{◌^◌};
 ghost use Rattle.tk_lines.specs.Reader.Scan.{Scans};
-ghost use Rattle.tk_lines.specs.HeaderValue.{first_word};
+ghost use Rattle.tk_lines.specs.HeaderValue.{IsNumberFault, first_word};
 ghost use Rattle.tk_words.specs.Lex.{trim, after_word};
 ghost use Rattle.tk_words.specs.Words.{spells};
-ghost use Rattle.tk_lines.specs.Pieces.{first_at, Fault};
-ghost use Rattle.tk_words.specs.Entry.{number_tests, IsNumber};
+ghost use Rattle.tk_words.specs.Entry.{IsNumber};
 ghost use Rattle.tk_lines.specs.Reader.Forms.{IsToldWord};
 
 use tk_words::{Held, TextKind, blank, integer, limited, spelled};
@@ -136,8 +135,7 @@ impl Scan {
     pub fn number(&self, low: u32, high: u32) -> Result<u32, TextKind>
         ensures ok { (v : List ℕ) → Scans self.now v → IfOk result (λ n. IsNumber low high (first_word v) n) }
         ensures err { (v : List ℕ) (line : ℕ) → Scans self.now v
-            → IfErr result (IsToldWord (λ k. first_at line (number_tests low high (first_word v))
-            ≡ Some (Fault line k))) }
+            → IfErr result (IsToldWord (IsNumberFault low high line v)) }
     {
         let Some(number) = integer(self.first.as_slice()) else {
             return Err(TextKind::BadNumber);

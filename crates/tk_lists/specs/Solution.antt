@@ -1,8 +1,9 @@
 -- Solution texts (the CVRPLIB format).
 use Rattle.std.specs.Prelude.{ℕ, suc, ◌+◌, Bool, true, false, not, ◌&&◌, ◌||◌, ◌==◌, nat_lt, nat_le, List, [], ◌∷◌}
 use Rattle.std.specs.Prelude.{◌++◌, length, take, Option, Some, None, Result, Ok, Err, ℤ, pos, if◌then◌else◌, codes}
-use Rattle.std.specs.Prelude.{is_none}
+use Rattle.std.specs.Prelude.{Vec, is_none, map}
 use Rattle.std.specs.Char.{is_ascii_digit}
+use Rattle.std.specs.declared.alloc.Global.{Global}
 use Rattle.tk_problem.specs.declared.limits.TheConstants.{ENTRY_LIMIT, ROUTE_LIMIT, TEXT_LIMIT}
 use Rattle.tk_words.specs.declared.keyword.Keyword.TheVariants as words
 use Rattle.tk_words.specs.declared.fault.TextKind.{TextKind}
@@ -14,6 +15,7 @@ use Rattle.tk_words.specs.Texts.{Texts, texts_of}
 use Rattle.tk_words.specs.Words.{spells}
 use Rattle.tk_lines.specs.Pieces.{Stop, Open, Fault, first_at, checked, or_else, stopped}
 use Rattle.tk_words.specs.Entry.{in_range, numbers_of}
+use Rattle.tk_lists.specs.declared.texts.SolText.{SolText}
 
 -- ---- the head of a Route line
 
@@ -140,6 +142,13 @@ cost_of (l ∷ ls) = let rest = cost_of ls in if is_cost l then cost_on l else r
 -- routes, and their cost
 abbrev pub Solution : Type 0
 Solution = List (List ℕ) × ℤ
+
+-- the entries of each list
+abbrev pub lists_of : List (Vec ℕ Global) → List (List ℕ)
+lists_of lists = map (λ list. list.items) lists
+
+abbrev pub as_solution : SolText → Solution
+as_solution text = (lists_of text.routes.items, text.cost)
 
 abbrev pub solution_of : List SolutionLine → Solution
 solution_of ls = (routes_in ls, cost_of ls)

@@ -1,7 +1,7 @@
 //! Solution texts.
-ghost use Rattle.std.specs.Prelude.{◌≡◌, ◌^◌, ◌≤◌, ◌++◌, ◌∷◌, ℕ, List, [], map, refl, Ok, IfOk, IfErr};
+ghost use Rattle.std.specs.Prelude.{◌≡◌, ◌^◌, ◌≤◌, ◌++◌, ◌∷◌, ℕ, List, [], refl, Ok, IfOk, IfErr};
 ghost use Rattle.tk_words.specs.Texts.{IsAnswerWhereTold, IsFaultWhereTold, IsOfSomeText, IsFaultOfSomeText, IsIntact};
-ghost use Rattle.tk_lists.specs.Solution.{Solution, solution_texts};
+ghost use Rattle.tk_lists.specs.Solution.{Solution, as_solution, lists_of, solution_texts};
 ghost use Rattle.tk_lists.specs.Reader.SolutionReader.{FedLines, HasTakenByte, SolutionWaits};
 
 use crate::solution_reader::{LinePlace, SolutionReader};
@@ -53,13 +53,13 @@ impl TextReader for SolutionReader {
 
     ghost Value = { Solution };
 
-    ghost view = { λ s. (map (λ r. r.items) s.routes.items, s.cost) };
+    ghost view = { as_solution };
 
     ghost texts = { solution_texts };
 
     ghost fed = { SolutionWaits };
 
-    ghost held = { λ s. (map (λ r. r.items) s.form.routes.items, s.form.cost) };
+    ghost held = { λ s. (lists_of s.form.routes.items, s.form.cost) };
 
     ghost complete = { λ _. Unit {0} };
 
@@ -109,11 +109,10 @@ impl TextReader for SolutionReader {
 /// runs out.
 pub fn read_solution<R: Source>(alloc: Global, source: &mut R) -> Result<SolText, TextFault>
     ensures ok { IfOk result (λ solution. IsAnswerWhereTold solution_texts (R.left source.old) (R.left source.new)
-        (Ok (map (λ r. r.items) solution.routes.items, solution.cost))) }
+        (Ok (as_solution solution))) }
     ensures err { IfErr result
         (IsFaultWhereTold solution_texts (R.broken source.new) (R.left source.old) (R.left source.new)) }
-    ensures some_text { IfOk result (λ solution. IsOfSomeText solution_texts
-        (Ok (map (λ r. r.items) solution.routes.items, solution.cost))) }
+    ensures some_text { IfOk result (λ solution. IsOfSomeText solution_texts (Ok (as_solution solution))) }
     ensures some_fault { IfErr result (IsFaultOfSomeText solution_texts) }
     ensures intact { IsIntact solution_texts (R.broken source.old) (R.broken source.new) result }
 {

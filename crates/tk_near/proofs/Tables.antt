@@ -129,6 +129,13 @@ AreFilled-same dist n k Done Then xs h only = record {
 }
 
 -- the same, as `write_cities` says it
+-- lists that take the whole of a vector, over the front of which they are written
+pub AreFilled-front : (dist : ℕ → ℕ → ℕ) (n k kept len : ℕ) (Done : ℕ → Type 0) (new rest : List ℕ) →
+    length new ≡ len → kept ≡ k → AreFilled dist n kept Done new → AreFilled dist n k Done (take len (new ++ rest))
+AreFilled-front dist n k kept len Done new rest size width filled =
+    subst (λ lists. AreFilled dist n k Done lists) (sym (take_at new rest len size))
+    (subst (λ wide. AreFilled dist n wide Done new) width filled)
+
 pub AreFilled-write : (dist : ℕ → ℕ → ℕ) (n k c : ℕ) (Done Then : ℕ → Type 0) (xs new : List ℕ)
     (kept : List Candidate) → AreFilled dist n k Done xs → IsCity n c → length kept ≡ k →
     IsNear dist n k c (cities_kept kept) → ((a : ℕ) → Then a → Done a ⊎ (a ≡ c)) →

@@ -1,6 +1,8 @@
 -- Cities that are left: a row of them, out of which a city is taken.
-use Rattle.std.specs.Prelude.{◌≡◌, ◌≢◌, ℕ, ◌<◌, List, ◌∷◌, length, All, IsPermutation}
+use Rattle.std.specs.Prelude.{◌≡◌, ◌≢◌, ℕ, ◌<◌, List, ◌∷◌, length, All, IsPermutation, MatchOption, Option}
 use Rattle.tk_problem.specs.declared.point.Point.{Point}
+use Rattle.tk_near.specs.Near.{IsFirst}
+use Rattle.tk_near.specs.declared.plane.left.Found.{Found}
 use Rattle.tk_near.specs.declared.plane.placed.Placed.{Placed}
 use Rattle.tk_near.specs.Placed.{IsPlaced, placed_city}
 
@@ -17,6 +19,11 @@ IsNotIn p row = All (λ q. q ≢ p) row
 -- a city that stands in the row, but c
 abbrev pub IsOtherIn : List Placed → ℕ → ℕ → Type 0
 IsOtherIn row c b = (q : ℕ) × (q < length row) × (placed_city row q ≡ b) × (b ≢ c)
+
+-- it is the first of the cities of the row but c, seen from c; there is none where the row has no other city
+abbrev pub IsFirstLeft : (ℕ → ℕ → ℕ) → ℕ → List Placed → Option Found → Type 0
+IsFirstLeft dist c row found =
+    MatchOption found ((b : ℕ) → IsOtherIn row c b → ⊥) (λ found. IsFirst dist c (IsOtherIn row c) found.city)
 
 -- the city stands in the row
 abbrev pub Stands : List Placed → ℕ → Type 0

@@ -1,8 +1,8 @@
 -- Explicit weights as they are read.
-use Rattle.std.specs.Prelude.{◌≡◌, ◌≤◌, ℕ, List, drop, length}
+use Rattle.std.specs.Prelude.{◌≡◌, ◌≤◌, ℕ, IfSome, List, drop, length, slice_get}
 use Rattle.tk_problem.specs.declared.place.Place.{Place}
 use Rattle.tk_problem.specs.declared.weights.Format.{Format}
-use Rattle.tk_problem.specs.WeightOrder.{order, entries, lower_of}
+use Rattle.tk_problem.specs.WeightOrder.{order, entries, lower_of, weight_of}
 
 -- the places that are still to come, and the weights of all pairs
 pub record Filling : Type 0 where
@@ -14,3 +14,8 @@ pub record IsSoFar (s : Filling) (f : Format) (n : ℕ) (ws : List ℕ) : Type 0
   pub few : length ws ≤ length (order f n)
   pub places : s.places ≡ drop (length ws) (order f n)
   pub weights : s.weights ≡ lower_of n (entries f n ws)
+
+-- the weight that the pair of the next place has so far
+abbrev pub IsWeightSoFar : Filling → Format → ℕ → List ℕ → ℕ → Type 0
+IsWeightSoFar s f n ws weight =
+    IfSome (slice_get s.places 0) (λ p. weight ≡ weight_of p.row p.column (entries f n ws))

@@ -4,7 +4,7 @@ ghost use Rattle.std.specs.Prelude.{IfSome, Some, length, slice_get};
 ghost use Rattle.tk_problem.specs.declared.limits.TheConstants.{DISTANCE_LIMIT};
 ghost use Rattle.tk_problem.specs.declared.weights.Format.{Format};
 ghost use Rattle.tk_problem.specs.WeightOrder as Order;
-ghost use Rattle.tk_problem.specs.WeightsSoFar.{Filling, IsSoFar};
+ghost use Rattle.tk_problem.specs.WeightsSoFar.{Filling, IsSoFar, IsWeightSoFar};
 
 use crate::place::Place;
 use crate::weight_order::WeightCursor;
@@ -65,9 +65,7 @@ impl LowerWeights {
     pub fn weight(&self) -> u32
         requires more { 0 < length self.now.places }
         requires pair { IfSome (slice_get self.now.places 0) (λ p. p.row ≢ p.column) }
-        ensures { (f : Format) (n : ℕ) (ws : List ℕ) → IsSoFar self.now f n ws
-            → IfSome (slice_get self.now.places 0)
-            (λ p. result ≡ Order.weight_of p.row p.column (Order.entries f n ws)) }
+        ensures { (f : Format) (n : ℕ) (ws : List ℕ) → IsSoFar self.now f n ws → IsWeightSoFar self.now f n ws result }
     {
         self.weights[self.places.place().lower_index()]
     }

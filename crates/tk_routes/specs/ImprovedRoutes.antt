@@ -6,7 +6,9 @@
 --     AreImproved i k m olds news moves tests swaps      each route so improved
 --     IsImprovedPart i k m olds news      the routes before some place so improved
 --     most_tests k m places moves      the most gain tests of descents with so many moves in all
-use Rattle.std.specs.Prelude.{◌≡◌, ℕ, ◌+◌, ◌-◌, ◌*◌, ◌/◌, ◌≤◌, min, List, [], ◌∷◌, ◌++◌, length, map, slice_index}
+use Rattle.std.specs.Prelude.{◌≡◌, ℕ, ◌+◌, ◌-◌, ◌*◌, ◌/◌, ◌≤◌, ◌-ℤ◌, min, List, [], ◌∷◌, ◌++◌, length, map}
+use Rattle.std.specs.Prelude.{slice_index}
+use Rattle.std.specs.Int.RustNames.{unsigned_abs}
 use Rattle.tk_distance.specs.Cities.{IsCity, city_at}
 use Rattle.tk_near.specs.Near.{IsNear}
 use Rattle.tk_tour.specs.Reversal.{AreReversed}
@@ -15,6 +17,7 @@ use Rattle.tk_descent.specs.Awake.{one_to}
 use Rattle.tk_descent.specs.Sweeps.{Pass}
 use Rattle.tk_routes.specs.Instance.{Instance, customer_count}
 use Rattle.tk_routes.specs.Routes.{route_nodes, routes_cost}
+use Rattle.tk_routes.specs.declared.solving.route_report.RouteReport.{RouteReport}
 
 abbrev pub place_distance : (ℕ → ℕ → ℕ) → List ℕ → ℕ → ℕ → ℕ
 place_distance dist nodes a b = dist (city_at nodes a) (city_at nodes b)
@@ -62,13 +65,17 @@ pub data AreImproved (i : Instance) (k m : ℕ) : List (List ℕ) → List (List
       IsImproved i k m old new made tried taken →
       AreImproved i k m (olds ++ old ∷ []) (news ++ new ∷ []) (moves + made) (tests + tried) (swaps + taken)
 
+-- each route so improved, as it is reported
+abbrev pub AreImprovedBy : Instance → ℕ → ℕ → List (List ℕ) → List (List ℕ) → RouteReport → Type 0
+AreImprovedBy i k m olds news report = AreImproved i k m olds news report.moves report.tests report.swaps
+
+-- the fall of the cost
+abbrev pub fall_of : RouteReport → ℕ
+fall_of report = unsigned_abs (report.before -ℤ report.after)
+
 -- each move makes the cost less
 abbrev pub MovesSave : Instance → List (List ℕ) → List (List ℕ) → ℕ → Type 0
 MovesSave i olds news moves = moves + routes_cost i news ≤ routes_cost i olds
-
--- how much less the new routes cost
-abbrev pub saved_cost : Instance → List (List ℕ) → List (List ℕ) → ℕ
-saved_cost i olds news = routes_cost i olds - routes_cost i news
 
 -- the places of a descent over each route: those of its customers, and the depot's
 abbrev pub place_count : Instance → List (List ℕ) → ℕ

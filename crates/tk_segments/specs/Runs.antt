@@ -26,6 +26,14 @@ shown order runs = flat_map (shown_by order) runs
 abbrev pub run_size : Run → ℕ
 run_size run = run.high - run.low
 
+-- how many places the first i runs have
+abbrev pub size_before : ℕ → List Run → ℕ
+size_before i runs = sum_by run_size (take i runs)
+
+-- whatever an array of at least n entries holds, the new runs show what f makes of what the old ones show
+abbrev pub Shows : ℕ → (List ℕ → List ℕ) → List Run → List Run → Type 0
+Shows n f old new = (order : List ℕ) → n ≤ length order → shown order new ≡ f (shown order old)
+
 -- the place that a run shows d after its first one
 abbrev pub shown_place : Run → ℕ → ℕ
 shown_place run d = if run.back then run.high - 1 - d else run.low + d

@@ -1,7 +1,8 @@
 -- What is seen of a tour through runs of its array.
-use Rattle.std.specs.Prelude.{ℕ, ◌-◌, List, vec_len}
+use Rattle.std.specs.Prelude.{ℕ, ◌+◌, ◌-◌, List, length, vec_len}
 use Rattle.tk_tour.specs.Reversal.{begun_at}
 use Rattle.tk_segments.specs.Runs.{shown}
+use Rattle.tk_segments.specs.Writes.{ArePaid}
 use Rattle.tk_segments.specs.declared.seen.SeenTour.{SeenTour}
 
 -- what the runs show, begun where the list begins
@@ -19,3 +20,9 @@ room_of tour = tour.runs.most - 2
 -- the array
 abbrev pub array_of : SeenTour → List ℕ
 array_of tour = tour.order.items
+
+-- what has been written is still paid for by what has been swapped, when so much more has been written and swapped
+abbrev pub StaysPaid : SeenTour → SeenTour → ℕ → ℕ → Type 0
+StaysPaid old new written swapped = (writes swaps : ℕ) →
+    ArePaid (length (list_of old)) (room_of old) writes (run_count_of old) swaps →
+    ArePaid (length (list_of old)) (room_of old) (writes + written) (run_count_of new) (swaps + swapped)

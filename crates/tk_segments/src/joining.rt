@@ -5,7 +5,7 @@ ghost use Rattle.std.specs.Option.{IfSome};
 ghost use Rattle.std.specs.Vec.{vec_capacity};
 ghost use Rattle.tk_problem.specs.declared.limits.TheConstants.{CITY_LIMIT};
 ghost use Rattle.tk_tour.specs.Reversal.{begun_at};
-ghost use Rattle.tk_segments.specs.Runs.{AreLaidOut, CanBeFound, HaveNames, IsWithin, SameBefore, shown};
+ghost use Rattle.tk_segments.specs.Runs.{AreLaidOut, CanBeFound, HaveNames, IsWithin, SameBefore, Shows, shown};
 ghost use Rattle.tk_segments.specs.declared.run.Run.{Run};
 
 use crate::naming::note_run;
@@ -84,8 +84,7 @@ pub fn join_runs(runs: &mut Vec<Run>, table: &mut [u32], size: u32, k: usize) ->
     requires buckets { size ≤ 32 * length table.old }
     requires index { k < vec_len runs.old }
     ensures first { result.0 < size }
-    ensures shown { (order : List ℕ) → size ≤ length order → shown order runs.new.items
-        ≡ begun_at result.0 (shown order runs.old.items) }
+    ensures shown { Shows size (begun_at result.0) runs.old.items runs.new.items }
     ensures laid { AreLaidOut size runs.new.items }
     ensures fewer { (1 ≤ vec_len runs.new) × (vec_len runs.new ≤ vec_len runs.old) }
     ensures capacity { vec_capacity runs.new ≡ vec_capacity runs.old }

@@ -3,7 +3,7 @@ ghost use Rattle.std.specs.Prelude.{◌≡◌, ◌≤◌, ◌<◌, ◌+◌, ◌-
 ghost use Rattle.std.specs.Vec.{vec_capacity};
 ghost use Rattle.tk_problem.specs.declared.limits.TheConstants.{CITY_LIMIT};
 ghost use Rattle.tk_tour.specs.Reversal.{begun_at, reversed_places};
-ghost use Rattle.tk_segments.specs.Runs.{AreFound, AreLaidOut, AreNamed, IsAfterPlace, IsSpot, shown};
+ghost use Rattle.tk_segments.specs.Runs.{AreFound, AreLaidOut, AreNamed, IsAfterPlace, IsSpot, Shows, shown};
 
 use crate::joining::{join_runs, parted_at};
 use crate::naming::name_runs;
@@ -116,8 +116,8 @@ impl Runs {
     pub fn turn(&mut self, first: u32, last: u32)
         requires range { (first < last) × (last ≤ self.old.size) }
         requires room { vec_len self.old.runs + 2 ≤ self.old.most }
-        ensures shown { (order : List ℕ) → self.old.size ≤ length order → shown order self.new.runs.items
-            ≡ reversed_places first (last - first) (shown order self.old.runs.items) }
+        ensures shown { Shows self.old.size (reversed_places first (last - first))
+            self.old.runs.items self.new.runs.items }
         ensures more { vec_len self.new.runs ≤ vec_len self.old.runs + 2 }
         ensures limits { (self.new.size ≡ self.old.size) × (self.new.most ≡ self.old.most) }
     {
@@ -130,8 +130,8 @@ impl Runs {
         requires v_in { v < self.old.size }
         requires range { first < self.old.size }
         requires room { vec_len self.old.runs + 2 ≤ self.old.most }
-        ensures shown { (order : List ℕ) → self.old.size ≤ length order → shown order self.new.runs.items
-            ≡ reversed_places first (self.old.size - first) (begun_at v (shown order self.old.runs.items)) }
+        ensures shown { Shows self.old.size (λ xs. reversed_places first (self.old.size - first) (begun_at v xs))
+            self.old.runs.items self.new.runs.items }
         ensures more { vec_len self.new.runs ≤ vec_len self.old.runs + 2 }
         ensures limits { (self.new.size ≡ self.old.size) × (self.new.most ≡ self.old.most) }
     {
@@ -144,8 +144,7 @@ impl Runs {
     /// at the result is then seen first.
     pub fn join(&mut self) -> u32
         ensures first { result < self.old.size }
-        ensures shown { (order : List ℕ) → self.old.size ≤ length order → shown order self.new.runs.items
-            ≡ begun_at result (shown order self.old.runs.items) }
+        ensures shown { Shows self.old.size (begun_at result) self.old.runs.items self.new.runs.items }
         ensures fewer { (1 ≤ vec_len self.new.runs) × (vec_len self.new.runs ≤ vec_len self.old.runs) }
         ensures limits { (self.new.size ≡ self.old.size) × (self.new.most ≡ self.old.most) }
     {

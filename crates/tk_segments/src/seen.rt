@@ -32,7 +32,7 @@ pub struct SeenTour {
 }
 
 impl SeenTour {
-    ghost use Rattle.tk_segments.specs.SeenTours.{array_of, list_of, room_of, run_count_of};
+    ghost use Rattle.tk_segments.specs.SeenTours.{StaysPaid, array_of, list_of, room_of, run_count_of};
 
     /// The tour stands as the list does.
     pub fn new(
@@ -174,10 +174,7 @@ impl SeenTour {
         requires first { first < length (list_of self.old) }
         requires count { 2 * count ≤ length (list_of self.old) }
         ensures list { list_of self.new ≡ reversed_places first count (list_of self.old) }
-        ensures paid { (writes swaps : ℕ)
-            → ArePaid (length (list_of self.old)) (room_of self.old) writes (run_count_of self.old) swaps
-            → ArePaid (length (list_of self.old)) (room_of self.old) (writes + result) (run_count_of self.new)
-            (swaps + count / 2) }
+        ensures paid { StaysPaid self.old self.new result (count / 2) }
         ensures room { room_of self.new ≡ room_of self.old }
         ensures small { result ≤ length (list_of self.old) }
         ensures written { changed (array_of self.old) (array_of self.new) ≤ result }
@@ -198,10 +195,7 @@ impl SeenTour {
         requires first { first < length (list_of self.old) }
         requires count { 2 * count ≤ length (list_of self.old) }
         ensures list { list_of self.new ≡ reversed_places first count (list_of self.old) }
-        ensures paid { (writes swaps : ℕ)
-            → ArePaid (length (list_of self.old)) (room_of self.old) writes (run_count_of self.old) swaps
-            → ArePaid (length (list_of self.old)) (room_of self.old) (writes + result) (run_count_of self.new)
-            (swaps + count / 2) }
+        ensures paid { StaysPaid self.old self.new result (count / 2) }
         ensures room { room_of self.new ≡ room_of self.old }
         ensures small { result ≤ length (list_of self.old) }
         ensures written { changed (array_of self.old) (array_of self.new) ≤ result }

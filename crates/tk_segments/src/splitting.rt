@@ -1,11 +1,11 @@
 //! A run begins where something is seen.
-ghost use Rattle.std.specs.Prelude.{◌≡◌, ◌≤◌, ◌<◌, ◌+◌, ◌-◌, ◌*◌, ℕ, List, true, false, length, slice_index_or, sum_by};
-ghost use Rattle.std.specs.Prelude.{take, vec_len};
+ghost use Rattle.std.specs.Prelude.{◌≡◌, ◌≤◌, ◌<◌, ◌+◌, ◌-◌, ◌*◌, ℕ, List, true, false, length, slice_index_or};
+ghost use Rattle.std.specs.Prelude.{vec_len};
 ghost use Rattle.std.specs.List.{insert};
 ghost use Rattle.std.specs.Vec.{vec_capacity};
 ghost use Rattle.tk_problem.specs.declared.limits.TheConstants.{CITY_LIMIT};
 ghost use Rattle.tk_segments.specs.Runs.{AreLaidOut, CanBeFound, HaveNames, IsSplit, IsWithin, SameBefore};
-ghost use Rattle.tk_segments.specs.Runs.{run_size, shown};
+ghost use Rattle.tk_segments.specs.Runs.{run_size, shown, size_before};
 ghost use Rattle.tk_segments.specs.declared.run.Run.{Run};
 
 use crate::naming::note_run;
@@ -61,11 +61,11 @@ pub fn cut_runs(runs: &mut Vec<Run>, table: &mut [u32], size: u32, v: u32) -> us
     requires v_in { v ≤ size }
     requires room { vec_len runs.old < vec_capacity runs.old }
     ensures index { result ≤ vec_len runs.new }
-    ensures begins { sum_by run_size (take result runs.new.items) ≡ v }
+    ensures begins { size_before result runs.new.items ≡ v }
     ensures shown { (order : List ℕ) → shown order runs.new.items ≡ shown order runs.old.items }
     ensures laid { AreLaidOut size runs.new.items }
-    ensures before { (i : ℕ) → i ≤ vec_len runs.old → sum_by run_size (take i runs.old.items) ≤ v
-        → sum_by run_size (take i runs.new.items) ≡ sum_by run_size (take i runs.old.items) }
+    ensures before { (i : ℕ) → i ≤ vec_len runs.old → size_before i runs.old.items ≤ v
+        → size_before i runs.new.items ≡ size_before i runs.old.items }
     ensures more { (vec_len runs.old ≤ vec_len runs.new) × (vec_len runs.new ≤ vec_len runs.old + 1) }
     ensures capacity { vec_capacity runs.new ≡ vec_capacity runs.old }
     ensures names { HaveNames runs.old.items → HaveNames runs.new.items }

@@ -1,8 +1,7 @@
 //! Where something is seen: by which run, and at which place of the array.
-ghost use Rattle.std.specs.Prelude.{◌≡◌, ◌≤◌, ◌<◌, ◌+◌, ◌-◌, ◌*◌, ℕ, length, slice_index_or, sum_by};
-ghost use Rattle.std.specs.Prelude.{take};
+ghost use Rattle.std.specs.Prelude.{◌≡◌, ◌≤◌, ◌<◌, ◌+◌, ◌-◌, ◌*◌, ℕ, length, slice_index_or};
 ghost use Rattle.tk_problem.specs.declared.limits.TheConstants.{CITY_LIMIT};
-ghost use Rattle.tk_segments.specs.Runs.{AreLaidOut, AreNamed, CanBeFound, IsAfterPlace, IsSpot, run_size};
+ghost use Rattle.tk_segments.specs.Runs.{AreLaidOut, AreNamed, CanBeFound, IsAfterPlace, IsSpot, size_before};
 ghost use Rattle.tk_segments.specs.declared.run.Run.{Run};
 
 use crate::run::{Run, offset_in, place_in};
@@ -19,8 +18,8 @@ pub fn index_at(runs: &[Run], size: u32, v: u32) -> usize
     requires laid { AreLaidOut size runs.now }
     requires v_in { v < size }
     ensures index_in { result < length runs.now }
-    ensures from { sum_by run_size (take result runs.now) ≤ v }
-    ensures to { v < sum_by run_size (take (result + 1) runs.now) }
+    ensures from { size_before result runs.now ≤ v }
+    ensures to { v < size_before (result + 1) runs.now }
 {
     let mut low = 0;
     let mut high = runs.len();

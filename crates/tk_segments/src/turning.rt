@@ -1,11 +1,11 @@
 //! What runs show is turned round, or begun elsewhere.
-ghost use Rattle.std.specs.Prelude.{◌≡◌, ◌≤◌, ◌<◌, ◌+◌, ◌-◌, ◌*◌, ℕ, List, length, map, reverse, sum_by, take, vec_len};
+ghost use Rattle.std.specs.Prelude.{◌≡◌, ◌≤◌, ◌<◌, ◌+◌, ◌-◌, ◌*◌, ℕ, List, length, map, reverse, sum_by, vec_len};
 ghost use Rattle.std.specs.List.{All};
 ghost use Rattle.std.specs.Vec.{vec_capacity};
 ghost use Rattle.tk_problem.specs.declared.limits.TheConstants.{CITY_LIMIT};
 ghost use Rattle.tk_tour.specs.Reversal.{begun_at, reversed_places};
-ghost use Rattle.tk_segments.specs.Runs.{AreLaidOut, CanBeFound, HaveNames, SameBefore, placed, shown, run_size};
-ghost use Rattle.tk_segments.specs.Runs.{turned_run};
+ghost use Rattle.tk_segments.specs.Runs.{AreLaidOut, CanBeFound, HaveNames, SameBefore, Shows, placed, run_size};
+ghost use Rattle.tk_segments.specs.Runs.{size_before, turned_run};
 
 use crate::run::Run;
 use crate::splitting::cut_runs;
@@ -39,9 +39,8 @@ fn turn_runs(runs: &mut [Run], size: u32, i: usize, j: usize, first: u32)
     requires range { (i ≤ j) × (j ≤ length runs.old) }
     requires size { size ≤ CITY_LIMIT }
     requires laid { AreLaidOut size runs.old }
-    requires first { first ≡ sum_by run_size (take i runs.old) }
-    ensures shown { (order : List ℕ) → size ≤ length order → shown order runs.new
-        ≡ reversed_places first (sum_by run_size (take j runs.old) - first) (shown order runs.old) }
+    requires first { first ≡ size_before i runs.old }
+    ensures shown { Shows size (reversed_places first (size_before j runs.old - first)) runs.old runs.new }
     ensures laid { AreLaidOut size runs.new }
     ensures same_length { length runs.new ≡ length runs.old }
     ensures names { HaveNames runs.old → HaveNames runs.new }
@@ -61,8 +60,7 @@ pub fn turn_seen(runs: &mut Vec<Run>, table: &mut [u32], size: u32, first: u32, 
     requires buckets { size ≤ 32 * length table.old }
     requires range { (first < last) × (last ≤ size) }
     requires room { vec_len runs.old + 2 ≤ vec_capacity runs.old }
-    ensures shown { (order : List ℕ) → size ≤ length order → shown order runs.new.items
-        ≡ reversed_places first (last - first) (shown order runs.old.items) }
+    ensures shown { Shows size (reversed_places first (last - first)) runs.old.items runs.new.items }
     ensures laid { AreLaidOut size runs.new.items }
     ensures more { (vec_len runs.old ≤ vec_len runs.new) × (vec_len runs.new ≤ vec_len runs.old + 2) }
     ensures capacity { vec_capacity runs.new ≡ vec_capacity runs.old }
@@ -85,8 +83,7 @@ pub fn turn_rest(runs: &mut Vec<Run>, table: &mut [u32], size: u32, first: u32)
     requires buckets { size ≤ 32 * length table.old }
     requires first_in { first < size }
     requires room { vec_len runs.old < vec_capacity runs.old }
-    ensures shown { (order : List ℕ) → size ≤ length order → shown order runs.new.items
-        ≡ reversed_places first (size - first) (shown order runs.old.items) }
+    ensures shown { Shows size (reversed_places first (size - first)) runs.old.items runs.new.items }
     ensures laid { AreLaidOut size runs.new.items }
     ensures more { (vec_len runs.old ≤ vec_len runs.new) × (vec_len runs.new ≤ vec_len runs.old + 1) }
     ensures capacity { vec_capacity runs.new ≡ vec_capacity runs.old }
@@ -104,8 +101,7 @@ pub fn begin_run(runs: &mut [Run], size: u32, k: usize)
     requires index { k ≤ length runs.old }
     requires size { size ≤ CITY_LIMIT }
     requires laid { AreLaidOut size runs.old }
-    ensures shown { (order : List ℕ) → size ≤ length order → shown order runs.new
-        ≡ begun_at (sum_by run_size (take k runs.old)) (shown order runs.old) }
+    ensures shown { Shows size (begun_at (size_before k runs.old)) runs.old runs.new }
     ensures laid { AreLaidOut size runs.new }
     ensures same_length { length runs.new ≡ length runs.old }
     ensures names { HaveNames runs.old → HaveNames runs.new }
@@ -123,8 +119,7 @@ pub fn begin_seen(runs: &mut Vec<Run>, table: &mut [u32], size: u32, v: u32)
     requires buckets { size ≤ 32 * length table.old }
     requires v_in { v ≤ size }
     requires room { vec_len runs.old < vec_capacity runs.old }
-    ensures shown { (order : List ℕ) → size ≤ length order → shown order runs.new.items
-        ≡ begun_at v (shown order runs.old.items) }
+    ensures shown { Shows size (begun_at v) runs.old.items runs.new.items }
     ensures laid { AreLaidOut size runs.new.items }
     ensures more { (vec_len runs.old ≤ vec_len runs.new) × (vec_len runs.new ≤ vec_len runs.old + 1) }
     ensures capacity { vec_capacity runs.new ≡ vec_capacity runs.old }

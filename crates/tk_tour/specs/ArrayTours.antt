@@ -24,6 +24,11 @@ flips_of tour = tour.flips
 abbrev pub copied_of : ArrayTour → ℕ
 copied_of tour = tour.copied
 
+-- it has made no flip and no swap since
+abbrev pub SameFlips : ArrayTour → ArrayTour → Type 0
+SameFlips old new = (swaps_of new ≡ swaps_of old) × (flips_of new ≡ flips_of old)
+    × (undo_swaps_of new ≡ undo_swaps_of old)
+
 -- what flips alone do: the new order comes from the old one by reversals, which are counted with their swaps
 pub record FlipsAlone (old new : ArrayTour) : Type 0 where
   pub flips : ℕ

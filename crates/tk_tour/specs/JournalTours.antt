@@ -30,6 +30,12 @@ flips_of {S} {u} {s} journal = s.flip_count journal.tour
 abbrev pub copied_of : {S : Type 0} → {u : undo.Ghosts S} → {s : Ghosts S} → JournalTour S u s → ℕ
 copied_of {S} {u} {s} journal = u.copy_count journal.tour
 
+-- its tour has made no flip and no swap since
+abbrev pub SameFlips : {S : Type 0} → {u : undo.Ghosts S} → {s : Ghosts S} → JournalTour S u s → JournalTour S u s →
+    Type 0
+SameFlips old new = (swaps_of new ≡ swaps_of old) × (flips_of new ≡ flips_of old)
+    × (undo_swaps_of new ≡ undo_swaps_of old)
+
 -- how many flips there is room for
 abbrev pub slots_of : {S : Type 0} → {u : undo.Ghosts S} → {s : Ghosts S} → JournalTour S u s → ℕ
 slots_of journal = journal.slots

@@ -46,3 +46,7 @@ matrix_text name n table f =
 pub record GivesTable (pre : ℕ → ℕ → Type 0) (post : ℕ → ℕ → ℤ → Type 0) (n : ℕ) (table : ℕ → ℕ → ℕ) : Type 0 where
   pub calls : (a b : ℕ) → 1 ≤ a → a ≤ n → 1 ≤ b → b ≤ n → pre a b
   pub gives : (a b : ℕ) (r : ℤ) → 1 ≤ a → a ≤ n → 1 ≤ b → b ≤ n → post a b r → r ≡ pos (table a b)
+
+-- P of each table that calls give
+abbrev pub IfGives : (ℕ → ℕ → Type 0) → (ℕ → ℕ → ℤ → Type 0) → ℕ → ((ℕ → ℕ → ℕ) → Type 0) → Type 0
+IfGives pre post n P = (table : ℕ → ℕ → ℕ) → GivesTable pre post n table → P table

@@ -5,7 +5,7 @@ ghost use Rattle.std.specs.List.{range_with_len};
 ghost use Rattle.tk_problem.specs.declared.limits.TheConstants.{TABLE_LIMIT};
 ghost use Rattle.tk_problem.specs.declared.weights.Format.{Format};
 ghost use Rattle.tk_writers.specs.FormatLines.{has_column_lines, on_line, entry_place};
-ghost use Rattle.tk_writers.specs.MatrixText.{format_word, GivesTable, matrix_head, matrix_line, matrix_text};
+ghost use Rattle.tk_writers.specs.MatrixText.{format_word, GivesTable, IfGives, matrix_head, matrix_line, matrix_text};
 ghost use Rattle.tk_writers.specs.Pens.{Puts};
 ghost use Rattle.tk_writers.specs.Puts.{Writes};
 ghost use Rattle.tk_problem_text.specs.Names.{IsName};
@@ -83,8 +83,8 @@ fn entry<D: Fn(u32, u32) -> i64>(n: u32, d: &D, f: Format, k: u32, m: u32) -> u6
     requires k { (1 ≤ k) × (k ≤ n) }
     requires m { (1 ≤ m) × (m ≤ n) }
     requires table { (table : ℕ → ℕ → ℕ) × GivesTable (D.pre d.now) (D.post d.now) n table }
-    ensures { (table : ℕ → ℕ → ℕ) → GivesTable (D.pre d.now) (D.post d.now) n table
-        → result ≡ table (entry_place f k m).0 (entry_place f k m).1 }
+    ensures { IfGives (D.pre d.now) (D.post d.now) n
+        (λ table. result ≡ table (entry_place f k m).0 (entry_place f k m).1) }
 {
     let distance = if is_by_columns(f) { d(m, k) } else { d(k, m) };
     distance as u64
@@ -109,8 +109,8 @@ fn put_line<W: Sink, D: Fn(u32, u32) -> i64>(pen: &mut Pen<'_, W>, n: u32, d: &D
     requires k { (1 ≤ k) × (k ≤ n) }
     requires table { (table : ℕ → ℕ → ℕ) × GivesTable (D.pre d.now) (D.post d.now) n table }
     ensures same { pen.new.sink.ghost_name ≡ pen.old.sink.ghost_name }
-    ensures puts { (table : ℕ → ℕ → ℕ) → GivesTable (D.pre d.now) (D.post d.now) n table
-        → Puts W.taken W.broken pen.old pen.new (matrix_line n table f k) }
+    ensures puts { IfGives (D.pre d.now) (D.post d.now) n
+        (λ table. Puts W.taken W.broken pen.old pen.new (matrix_line n table f k)) }
 {
     let (first, end) = places_on_line(n, f, k);
     if first == end {
@@ -135,8 +135,8 @@ fn put_matrix<W: Sink, D: Fn(u32, u32) -> i64>(
     requires few { n ≤ TABLE_LIMIT }
     requires table { (table : ℕ → ℕ → ℕ) × GivesTable (D.pre d.now) (D.post d.now) n table }
     ensures same { pen.new.sink.ghost_name ≡ pen.old.sink.ghost_name }
-    ensures puts { (table : ℕ → ℕ → ℕ) → GivesTable (D.pre d.now) (D.post d.now) n table
-        → Puts W.taken W.broken pen.old pen.new (matrix_text name.now n table f) }
+    ensures puts { IfGives (D.pre d.now) (D.post d.now) n
+        (λ table. Puts W.taken W.broken pen.old pen.new (matrix_text name.now n table f)) }
 {
     put_head(pen, name, n, f);
     for k in 1..n + 1 {
@@ -159,11 +159,10 @@ pub fn write_matrix<W: Sink, D: Fn(u32, u32) -> i64>(
 ) -> Result<(), WriteFault>
     requires few { n ≤ TABLE_LIMIT }
     requires table { (table : ℕ → ℕ → ℕ) × GivesTable (D.pre d.now) (D.post d.now) n table }
-    ensures text { (table : ℕ → ℕ → ℕ) → GivesTable (D.pre d.now) (D.post d.now) n table
-        → Writes W.taken W.broken w.old w.new result (matrix_text name.now n table f) }
-    ensures read_back { (table : ℕ → ℕ → ℕ) → GivesTable (D.pre d.now) (D.post d.now) n table → IsName name.now
-        → IsTable n table → 2 ≤ n
-        → ReadsBack name.now n table f }
+    ensures text { IfGives (D.pre d.now) (D.post d.now) n
+        (λ table. Writes W.taken W.broken w.old w.new result (matrix_text name.now n table f)) }
+    ensures read_back { IfGives (D.pre d.now) (D.post d.now) n
+        (λ table. IsName name.now → IsTable n table → 2 ≤ n → ReadsBack name.now n table f) }
     ensures failed { length name.now ≤ 1024 → OnErr result (W.broken w.new ≡ true) }
 {
     let mut pen = Pen::new(w);

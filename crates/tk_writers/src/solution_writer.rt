@@ -1,8 +1,9 @@
 //! Writes the routes of a vehicle routing problem.
-ghost use Rattle.std.specs.Prelude.{◌≡◌, ◌≤◌, length, true, pos, ◌≤ℤ◌, map, OnErr};
+ghost use Rattle.std.specs.Prelude.{◌≡◌, ◌≤◌, length, true, pos, ◌≤ℤ◌, OnErr};
 ghost use Rattle.std.specs.List.{concat};
 ghost use Rattle.std.specs.Int.RustNames.{unsigned_abs};
 ghost use Rattle.tk_problem.specs.declared.limits.TheConstants.{ENTRY_LIMIT, ROUTE_LIMIT};
+ghost use Rattle.tk_lists.specs.Solution.{lists_of};
 ghost use Rattle.tk_writers.specs.Pens.{Puts};
 ghost use Rattle.tk_writers.specs.Puts.{Writes};
 ghost use Rattle.tk_writers.specs.ReadBack.{IsSolution, SolutionReadsBack};
@@ -24,7 +25,7 @@ fn put_route<W: Sink>(pen: &mut Pen<'_, W>, number: u64, customers: &[u32])
 
 /// Writes the lines of all routes.
 fn put_routes<W: Sink>(pen: &mut Pen<'_, W>, routes: &[Vec<u32>])
-    ensures { Puts W.taken W.broken pen.old pen.new (written_routes 1 (map (λ r. r.items) routes.now)) }
+    ensures { Puts W.taken W.broken pen.old pen.new (written_routes 1 (lists_of routes.now)) }
 {
     for (i, route) in routes.iter().enumerate() {
         put_route(pen, i as u64 + 1, route.as_slice());
@@ -33,7 +34,7 @@ fn put_routes<W: Sink>(pen: &mut Pen<'_, W>, routes: &[Vec<u32>])
 
 /// Writes the whole text.
 fn put_solution<W: Sink>(pen: &mut Pen<'_, W>, routes: &[Vec<u32>], cost: u64)
-    ensures { Puts W.taken W.broken pen.old pen.new (solution_text (map (λ r. r.items) routes.now) cost) }
+    ensures { Puts W.taken W.broken pen.old pen.new (solution_text (lists_of routes.now) cost) }
 {
     put_routes(pen, routes);
     pen.put(b"Cost ");
@@ -48,11 +49,11 @@ fn put_solution<W: Sink>(pen: &mut Pen<'_, W>, routes: &[Vec<u32>], cost: u64)
 /// That a write failed, and how many bytes of the text had gone out by then.
 pub fn write_solution<W: Sink>(w: &mut W, routes: &[Vec<u32>], cost: i64) -> Result<(), WriteFault>
     requires { pos 0 ≤ℤ cost }
-    ensures text { Writes W.taken W.broken w.old w.new result (solution_text (map
-        (λ r. r.items) routes.now) (unsigned_abs cost)) }
-    ensures read_back { IsSolution (map (λ r. r.items) routes.now) (unsigned_abs cost)
-        → SolutionReadsBack (map (λ r. r.items) routes.now) (unsigned_abs cost) }
-    ensures failed { length routes.now ≤ ROUTE_LIMIT → length (concat (map (λ r. r.items) routes.now)) ≤ ENTRY_LIMIT
+    ensures text { Writes W.taken W.broken w.old w.new result
+        (solution_text (lists_of routes.now) (unsigned_abs cost)) }
+    ensures read_back { IsSolution (lists_of routes.now) (unsigned_abs cost)
+        → SolutionReadsBack (lists_of routes.now) (unsigned_abs cost) }
+    ensures failed { length routes.now ≤ ROUTE_LIMIT → length (concat (lists_of routes.now)) ≤ ENTRY_LIMIT
         → OnErr result (W.broken w.new ≡ true) }
 {
     let mut pen = Pen::new(w);

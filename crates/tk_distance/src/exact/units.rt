@@ -1,6 +1,6 @@
 //! Lengths and squares of whole numbers of a unit, brought to ones.
-ghost use Rattle.std.specs.Prelude.{◌≡◌, ℕ, ◌-◌, ◌*◌, ◌<◌, ◌≤◌, ◌↔◌, min};
-ghost use Rattle.tk_distance.specs.Distance.{IsGreatest, Reaches, RootReaches, reach};
+ghost use Rattle.std.specs.Prelude.{◌≡◌, ℕ, ◌-◌, ◌*◌, ◌≤◌, ◌↔◌, min};
+ghost use Rattle.tk_distance.specs.Distance.{IsGreatest, PartsRoots, Reaches, RootReaches, reach};
 ghost use Rattle.tk_problem.specs.Places.{scale};
 ghost use Rattle.tk_problem.specs.Units.{step_of};
 
@@ -26,8 +26,7 @@ pub fn rounding_square(unit: Unit, square: u64) -> u64
 #[inline]
 pub fn square_at(unit: Unit, bound: u64) -> u64
     requires { bound ≤ 4000000001 }
-    ensures { (square d : ℕ) → square ≤ 8000000000000000000
-        → IsGreatest (RootReaches (square * (step_of unit * step_of unit))) d → ((square < result) ↔ (d < bound)) }
+    ensures { PartsRoots (step_of unit) bound result }
 {
     match unit {
         Unit::One => bound * bound - bound + bound.min(1),

@@ -1,10 +1,9 @@
 //! Cities that are left: they are taken out of a tree one by one, and the first of the others is found there.
-ghost use Rattle.std.specs.Prelude.{◌≡◌, ℕ, ◌<◌, ◌++◌, All, length, IfOk, MatchOption};
+ghost use Rattle.std.specs.Prelude.{◌≡◌, ◌<◌, ◌++◌, All, length, IfOk, MatchOption};
 ghost use Rattle.tk_near.specs.declared.plane.placed.Placed.{Placed};
-ghost use Rattle.tk_near.specs.Near.{IsFirst};
 ghost use Rattle.tk_near.specs.Placed.{IsPlaced, IsRow, placed_city};
 ghost use Rattle.tk_near.specs.Tree.{entries_of, IsFramed, IsHalf, IsInBox, with_cities};
-ghost use Rattle.tk_near.specs.Left.{ArePlacedApart, IsTakenOut, IsNotIn, IsOtherIn, Stands};
+ghost use Rattle.tk_near.specs.Left.{ArePlacedApart, IsTakenOut, IsFirstLeft, IsNotIn, Stands};
 
 use crate::candidates::OPEN;
 use crate::plane::keeper::{Keeper, One};
@@ -68,8 +67,7 @@ impl Left {
         requires apart { ArePlacedApart (P.size_of m.now) (P.place_of m.now) self.old }
         requires there { Stands self.old here.city }
         ensures taken { IsTakenOut here self.old self.new }
-        ensures first { MatchOption result ((b : ℕ) → IsOtherIn self.new here.city b → ⊥)
-            (λ found. IsFirst (P.distance m.now) here.city (IsOtherIn self.new here.city) found.city) }
+        ensures first { IsFirstLeft (P.distance m.now) here.city self.new result }
     {
         let mut one = One {
             best: OPEN,

@@ -1,12 +1,13 @@
 //! Each route made shorter by itself.
 ghost use Rattle.std.specs.Prelude.{◌≡◌, pos, ◌+◌, ◌≤◌, IfOk, IfErr, length};
 ghost use Rattle.tk_problem.specs.declared.limits.TheConstants.{CANDIDATE_LIMIT};
+ghost use Rattle.tk_lists.specs.Solution.{lists_of};
 ghost use Rattle.tk_routes.specs.Cvrps.{instance_of};
 ghost use Rattle.tk_routes.specs.Instance.{customer_count};
 ghost use Rattle.tk_routes.specs.Routes.{AreRoutes, routes_cost};
-ghost use Rattle.tk_routes.specs.RouteLists.{instance_of_routes, lists_of, routes_of};
-ghost use Rattle.tk_routes.specs.ImprovedRoutes.{AreImproved, IsImprovedPart, MovesSave};
-ghost use Rattle.tk_routes.specs.ImprovedRoutes.{most_tests, place_count, saved_cost};
+ghost use Rattle.tk_routes.specs.RouteLists.{instance_of_routes, routes_of};
+ghost use Rattle.tk_routes.specs.ImprovedRoutes.{AreImprovedBy, IsImprovedPart, MovesSave};
+ghost use Rattle.tk_routes.specs.ImprovedRoutes.{most_tests, place_count, fall_of};
 
 use crate::claims::check::cost_of;
 use crate::cvrp::Cvrp;
@@ -26,8 +27,8 @@ fn improve_each(
     requires routes { AreRoutes (instance_of cvrp.now) (lists_of lists.old) }
     requires candidates { (1 ≤ max_candidates) × (max_candidates ≤ CANDIDATE_LIMIT) }
     requires most { (1 ≤ m) × (m ≤ 3) }
-    ensures improved { IfOk result (λ r. AreImproved (instance_of cvrp.now) max_candidates m
-        (lists_of lists.old) (lists_of lists.new) r.moves r.tests r.swaps) }
+    ensures improved { IfOk result
+        (AreImprovedBy (instance_of cvrp.now) max_candidates m (lists_of lists.old) (lists_of lists.new)) }
     ensures before { IfOk result (λ r. r.before ≡ pos (routes_cost (instance_of cvrp.now) (lists_of lists.old))) }
     ensures after { IfOk result (λ r. r.after ≡ pos (routes_cost (instance_of cvrp.now) (lists_of lists.new))) }
     ensures moves { IfOk result
@@ -35,8 +36,7 @@ fn improve_each(
     ensures tests { IfOk result (λ r. r.tests
         ≤ most_tests max_candidates m (customer_count (instance_of cvrp.now) + length lists.old) r.moves) }
     ensures headline { IfOk result (λ r. r.tests
-        ≤ most_tests max_candidates m (customer_count (instance_of cvrp.now) + length lists.old)
-        (saved_cost (instance_of cvrp.now) (lists_of lists.old) (lists_of lists.new))) }
+        ≤ most_tests max_candidates m (customer_count (instance_of cvrp.now) + length lists.old) (fall_of r)) }
     ensures part { IfErr result (λ _.
         IsImprovedPart (instance_of cvrp.now) max_candidates m (lists_of lists.old) (lists_of lists.new)) }
     ensures routes { AreRoutes (instance_of cvrp.now) (lists_of lists.new) }
@@ -84,8 +84,8 @@ pub fn improve(
     requires same { instance_of_routes routes.old ≡ instance_of cvrp.now }
     requires candidates { (1 ≤ max_candidates) × (max_candidates ≤ CANDIDATE_LIMIT) }
     requires most { (1 ≤ m) × (m ≤ 3) }
-    ensures improved { IfOk result (λ r. AreImproved (instance_of cvrp.now) max_candidates m
-        (routes_of routes.old) (routes_of routes.new) r.moves r.tests r.swaps) }
+    ensures improved { IfOk result
+        (AreImprovedBy (instance_of cvrp.now) max_candidates m (routes_of routes.old) (routes_of routes.new)) }
     ensures before { IfOk result (λ r. r.before ≡ pos (routes_cost (instance_of cvrp.now) (routes_of routes.old))) }
     ensures after { IfOk result (λ r. r.after ≡ pos (routes_cost (instance_of cvrp.now) (routes_of routes.new))) }
     ensures moves { IfOk result
@@ -93,8 +93,7 @@ pub fn improve(
     ensures tests { IfOk result (λ r. r.tests
         ≤ most_tests max_candidates m (place_count (instance_of cvrp.now) (routes_of routes.old)) r.moves) }
     ensures headline { IfOk result (λ r. r.tests
-        ≤ most_tests max_candidates m (place_count (instance_of cvrp.now) (routes_of routes.old))
-        (saved_cost (instance_of cvrp.now) (routes_of routes.old) (routes_of routes.new))) }
+        ≤ most_tests max_candidates m (place_count (instance_of cvrp.now) (routes_of routes.old)) (fall_of r)) }
     ensures part { IfErr result (λ _.
         IsImprovedPart (instance_of cvrp.now) max_candidates m (routes_of routes.old) (routes_of routes.new)) }
     ensures routes { AreRoutes (instance_of cvrp.now) (routes_of routes.new) }

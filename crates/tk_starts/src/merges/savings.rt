@@ -1,11 +1,10 @@
 //! The savings merges.
-ghost use Rattle.std.specs.Prelude.{◌≡◌, ℕ, ◌+◌, ◌≤◌, IfOk, List, [], length, vec_len, map, replicate, ◌∷◌};
-ghost use Rattle.std.specs.List.{All, flat_map, sum_by};
+ghost use Rattle.std.specs.Prelude.{◌≡◌, ◌+◌, ◌≤◌, IfOk, [], length, vec_len, ◌∷◌};
+ghost use Rattle.std.specs.List.{All, flat_map};
 ghost use Rattle.tk_problem.specs.declared.limits.TheConstants.{CITY_LIMIT};
 ghost use Rattle.tk_distance.specs.Cities.{IsCity};
-ghost use Rattle.tk_near.specs.Near.{near_of};
 ghost use Rattle.tk_tour.specs.Tour.{IsTour};
-ghost use Rattle.tk_starts.specs.SavingsMerges.{AreSavingsLists, AreLight};
+ghost use Rattle.tk_starts.specs.SavingsMerges.{AreLight, AreMerged, AreWithin, IsMergedTour};
 ghost use Rattle.tk_starts.specs.PathEnds.{AreJoined, load_of, IsPairWithin};
 ghost use Rattle.tk_starts.specs.Joints.{joints};
 
@@ -58,12 +57,11 @@ pub fn savings_lists<M: Metric>(
     requires hub { IsCity (M.size_of metric.now) hub }
     requires size { near.now.size ≡ M.size_of metric.now }
     requires loads { length loads.now ≡ M.size_of metric.now }
-    ensures lists { IfOk result (λ v. AreSavingsLists (M.distance metric.now) (near_of near.now)
-        (M.size_of metric.now) hub (load_of loads.now) capacity (map (λ x. x.items) v.items)) }
+    ensures lists { IfOk result (λ v. AreMerged M.Metric metric.now near.now hub loads.now capacity v.items) }
     ensures once { IfOk result (λ v. IsTour (M.size_of metric.now) (hub ∷ flat_map (λ x. x.items) v.items)) }
     ensures filled { IfOk result (λ v. All (λ list. 1 ≤ length list.items) v.items) }
     ensures within { AreLight (M.size_of metric.now) hub (load_of loads.now) capacity
-        → IfOk result (λ v. All (λ list. sum_by (load_of loads.now) list.items ≤ capacity) v.items) }
+        → IfOk result (λ v. AreWithin loads.now capacity v.items) }
 {
     let pairs = candidate_pairs(alloc, metric, hub, near)?;
     let paths = joined_paths(alloc, loads, capacity, &pairs)?;
@@ -82,9 +80,7 @@ pub fn savings_tour<M: Metric>(
 ) -> Result<Vec<u32>, AllocError>
     requires some { 1 ≤ M.size_of metric.now }
     requires size { near.now.size ≡ M.size_of metric.now }
-    ensures lists { IfOk result (λ v. (lists : List (List ℕ))
-        × (AreSavingsLists (M.distance metric.now) (near_of near.now) (M.size_of metric.now) 1
-        (load_of (replicate (M.size_of metric.now) 0)) 0 lists × (v.items ≡ 1 ∷ flat_map (λ x. x) lists))) }
+    ensures lists { IfOk result (λ v. IsMergedTour M.Metric metric.now near.now v.items) }
     ensures tour { IfOk result (λ v. IsTour (M.size_of metric.now) v.items) }
 {
     let loads = vec![in alloc; 0; metric.size() as usize]?;

@@ -140,7 +140,7 @@ impl UndoStore for ArrayTour {
 
 impl ArrayTour {
     ghost use Rattle.std.specs.Prelude.{OnOk, IfOk, IfErr};
-    ghost use Rattle.tk_tour.specs.ArrayTours.{order_of, swaps_of, undo_swaps_of, flips_of, copied_of};
+    ghost use Rattle.tk_tour.specs.ArrayTours.{order_of, swaps_of, undo_swaps_of, flips_of, copied_of, SameFlips};
     ghost use Rattle.tk_tour.specs.Fault.{HasTourFault};
     ghost use Rattle.tk_tour.specs.Printed.{IsPrintedForm};
 
@@ -269,8 +269,7 @@ impl ArrayTour {
         requires { length (order_of self.old) ≡ length (order_of other.now) }
         ensures order { order_of self.new ≡ order_of other.now }
         ensures copied { copied_of self.new ≡ saturated (copied_of self.old + length (order_of self.old)) }
-        ensures others { (swaps_of self.new ≡ swaps_of self.old) × (flips_of self.new ≡ flips_of self.old)
-            × (undo_swaps_of self.new ≡ undo_swaps_of self.old) }
+        ensures others { SameFlips self.old self.new }
     {
         self.order.copy_from_slice(&other.order);
         self.place.copy_from_slice(&other.place);

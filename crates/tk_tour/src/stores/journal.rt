@@ -99,7 +99,8 @@ impl<S: UndoStore> TourStore for JournalTour<S> {
 impl<S: UndoStore> JournalTour<S> {
     ghost use Rattle.tk_tour.specs.ArrayTours.{order_of};
     ghost use Rattle.tk_tour.specs.JournalTours.{tour_of, cities_of, swaps_of, undo_swaps_of, flips_of, copied_of};
-    ghost use Rattle.tk_tour.specs.JournalTours.{slots_of, flips_since, IsLost, settled_order, swaps_to_rewind};
+    ghost use Rattle.tk_tour.specs.JournalTours.{SameFlips, slots_of, flips_since, IsLost, settled_order};
+    ghost use Rattle.tk_tour.specs.JournalTours.{swaps_to_rewind};
 
     /// A journal with room for `slots` flips; every count begins at 0, and the order is settled.
     ///
@@ -184,8 +185,7 @@ impl<S: UndoStore> JournalTour<S> {
         ensures swaps { swaps_to_rewind self.new ≡ 0 }
         ensures flips { flips_since self.new ≡ 0 }
         ensures copied { copied_of self.new ≡ saturated (copied_of self.old + length (order_of other.now)) }
-        ensures others { (swaps_of self.new ≡ swaps_of self.old) × (flips_of self.new ≡ flips_of self.old)
-            × (undo_swaps_of self.new ≡ undo_swaps_of self.old) }
+        ensures others { SameFlips self.old self.new }
         ensures slots { slots_of self.new ≡ slots_of self.old }
     {
         self.take_order(other.order());
@@ -200,8 +200,7 @@ impl<S: UndoStore> JournalTour<S> {
         ensures swaps { swaps_to_rewind self.new ≡ 0 }
         ensures flips { flips_since self.new ≡ 0 }
         ensures copied { copied_of self.new ≡ saturated (copied_of self.old + length cities.now) }
-        ensures others { (swaps_of self.new ≡ swaps_of self.old) × (flips_of self.new ≡ flips_of self.old)
-            × (undo_swaps_of self.new ≡ undo_swaps_of self.old) }
+        ensures others { SameFlips self.old self.new }
         ensures slots { slots_of self.new ≡ slots_of self.old }
     {
         self.tour.take_order(cities);

@@ -221,7 +221,7 @@ returns-clause-descent g c =
     let asleep = c.in_default.ensures.taken.0 in
     let few : length T ≤ CITY_LIMIT = omega (arith, c.size-cities.ensures.count, c.size-cities.ensures.limits.1) in
     let most : c.tests.result - c.tests-tests.result
-        ≤ 4 * c.args.or_segment * c.args.near.now.width * (length W + 6 * c.loop-x.moves) =
+    ≤ 4 * c.args.or_segment * c.args.near.now.width * (length W + 6 * c.loop-x.moves) =
     omega (
       arith,
       i.tests,

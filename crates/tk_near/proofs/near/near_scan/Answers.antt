@@ -1,16 +1,11 @@
-use Rattle.std.proofs.Common.{◌≡◌, arith, drop, length}
-use Rattle.std.proofs.lemmas.List.{take_at}
+use Rattle.std.proofs.Common.{arith}
+use Rattle.tk_near.proofs.Tables.{AreFilled-front}
 use Rattle.tk_near.proofs.near.near_scan.Goals as goal
 
 pub from_filled-requires-clause-filled : goal.from_filled-requires-clause-filled
 from_filled-requires-clause-filled g c =
-    let entries = c.fill_by_scan.new.entries in
-    let size : length entries ≡ c.in_ok-entries.entries.len =
-    omega (arith, c.deref_mut-2.ensures.len, c.fill_by_scan.auto.entries) in
-    let same = take_at entries (drop (length entries) c.in_ok-entries.entries.items) c.in_ok-entries.entries.len size in
-    let kept : length c.deref_mut.result.now ≡ c.args.k =
-    omega (arith, c.deref_mut.ensures.len, c.in_ok-kept.ensures.len) in
-    rw same (rw kept at c.fill_by_scan.ensures)
+    AreFilled-front _ _ _ _ _ _ _ _ (omega (arith, c.deref_mut-2.ensures.len, c.fill_by_scan.auto.entries))
+    (omega (arith, c.deref_mut.ensures.len, c.in_ok-kept.ensures.len)) c.fill_by_scan.ensures
 
 pub from_filled-requires-clause-limit : goal.from_filled-requires-clause-limit
 from_filled-requires-clause-limit g c = c.requires.limit

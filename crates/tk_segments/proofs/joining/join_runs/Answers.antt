@@ -1,11 +1,11 @@
-use Rattle.std.proofs.Common.{◌≡◌, ◌+◌, ◌<◌, ◌∙◌, ◌++◌, ℕ, List, length, take, drop, ap, sym, subst, arith, get_or}
+use Rattle.std.proofs.Common.{◌≡◌, ◌+◌, ◌<◌, ◌∙◌, ℕ, List, length, take, drop, ap, sym, subst, arith, get_or}
 use Rattle.std.proofs.Common.{false}
 use Rattle.std.specs.Prelude.{sum_by}
-use Rattle.std.proofs.lemmas.Grind.{common_steps}
-use Rattle.std.proofs.lemmas.List.{append-nil}
+use Rattle.std.proofs.lemmas.List.{append-nil, take_at}
 use Rattle.tk_tour.specs.Reversal.{begun_at}
 use Rattle.tk_segments.specs.Runs.{run_size, shown, AreLaidOut, HaveNames, CanBeFound}
 use Rattle.tk_segments.specs.declared.run.Run.{Run}
+use Rattle.tk_segments.proofs.Fronts.{at_front}
 use Rattle.tk_segments.proofs.SeenTours.Searching.{start_is, sum_all, sum_more, sum_mono}
 use Rattle.tk_segments.proofs.joining.join_runs.Goals as goal
 
@@ -49,38 +49,35 @@ returns-clause-shown c = λ order le.
     let lt : c.args.k < length xs = omega (arith, c.requires.index, c.args.runs.now.ok.0) in
     let e : c.deref_mut.result.now ≡ xs = c.deref_mut.ensures.value in
     let new = c.begin_run.new.runs in
-    let w : take c.args.runs.now.len (new ++ drop (length new) xs) ≡ new = grind (arith, common_steps) in
+    let size : length new ≡ c.args.runs.now.len =
+    omega (arith, c.args.runs.now.ok.0, c.deref_mut.ensures.len, c.begin_run.ensures.same_length) in
     let v = (begins_in c.args.size c.args.k xs c.index.result.now c.requires.laid lt c.index.ensures).1 in
     c.join_parts-2.ensures.shown order
-    ∙ ap (shown order) w
+    ∙ ap (shown order) (take_at new (drop (length new) xs) c.args.runs.now.len size)
     ∙ c.begin_run.ensures.shown order le
     ∙ ap (λ u. begun_at (sum_by run_size (take c.args.k u)) (shown order u)) e
     ∙ ap (λ u. begun_at u (shown order xs)) (sym v)
 
 pub join_parts-requires-2-clause-laid : goal.join_parts-requires-2-clause-laid
 join_parts-requires-2-clause-laid c =
-    let xs = c.args.runs.now.items in
-    let new = c.begin_run.new.runs in
-    let w : take c.args.runs.now.len (new ++ drop (length new) xs) ≡ new = grind (arith, common_steps) in
-    subst (AreLaidOut c.args.size) (sym w) c.begin_run.ensures.laid
+    at_front (AreLaidOut c.args.size) _ _ _
+    (omega (arith, c.args.runs.now.ok.0, c.deref_mut.ensures.len, c.begin_run.ensures.same_length))
+    c.begin_run.ensures.laid
 
 pub returns-clause-names : goal.returns-clause-names
 returns-clause-names c = λ names.
-    let xs = c.args.runs.now.items in
-    let new = c.begin_run.new.runs in
-    let w : take c.args.runs.now.len (new ++ drop (length new) xs) ≡ new = grind (arith, common_steps) in
-    let P : List Run → Type 0 = λ u. HaveNames u in
-    c.join_parts-2.ensures.names (subst P (sym w)
-    (c.begin_run.ensures.names (subst P (sym c.deref_mut.ensures.value) names)))
+    c.join_parts-2.ensures.names
+    (at_front HaveNames _ _ _
+    (omega (arith, c.args.runs.now.ok.0, c.deref_mut.ensures.len, c.begin_run.ensures.same_length))
+    (c.begin_run.ensures.names (subst HaveNames (sym c.deref_mut.ensures.value) names)))
 
 pub returns-clause-found : goal.returns-clause-found
 returns-clause-found c = λ names found.
-    let n = c.args.size in
-    let xs = c.args.runs.now.items in
-    let new = c.begin_run.new.runs in
-    let w : take c.args.runs.now.len (new ++ drop (length new) xs) ≡ new = grind (arith, common_steps) in
-    let P : List Run → Type 0 = λ u. HaveNames u in
-    let Q : List Run → Type 0 = λ u. CanBeFound n 32 u c.args.table.now in
+    let table = c.args.table.now in
+    let P : List Run → Type 0 = λ u. CanBeFound c.args.size 32 u table in
+    let size : length c.begin_run.new.runs ≡ c.args.runs.now.len =
+    omega (arith, c.args.runs.now.ok.0, c.deref_mut.ensures.len, c.begin_run.ensures.same_length) in
     c.join_parts-2.ensures.found
-    (subst P (sym w) (c.begin_run.ensures.names (subst P (sym c.deref_mut.ensures.value) names)))
-    (subst Q (sym w) (c.begin_run.ensures.found c.args.table.now (subst Q (sym c.deref_mut.ensures.value) found)))
+    (at_front HaveNames _ _ _ size
+    (c.begin_run.ensures.names (subst HaveNames (sym c.deref_mut.ensures.value) names)))
+    (at_front P _ _ _ size (c.begin_run.ensures.found table (subst P (sym c.deref_mut.ensures.value) found)))

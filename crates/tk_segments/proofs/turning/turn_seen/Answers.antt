@@ -1,9 +1,10 @@
 use Rattle.std.proofs.Common.{◌≡◌, ◌<◌, ◌≤◌, ◌-◌, ◌∙◌, sym, subst, ℕ, List, ◌++◌, length, take, drop, arith, ⊎_elim}
 use Rattle.std.specs.Prelude.{sum_by}
 use Rattle.std.proofs.lemmas.Bool.{cases_lt}
-use Rattle.std.proofs.lemmas.Grind.{common_steps}
+use Rattle.std.proofs.lemmas.List.{take_at}
 use Rattle.tk_segments.specs.Runs.{run_size, AreLaidOut, CanBeFound, HaveNames, SameBefore}
 use Rattle.tk_segments.specs.declared.run.Run.{Run}
+use Rattle.tk_segments.proofs.Fronts.{at_front}
 use Rattle.tk_segments.proofs.SeenTours.Names.{SameBefore-trans}
 use Rattle.tk_segments.proofs.SeenTours.Searching.{sum_mono}
 use Rattle.tk_segments.proofs.turning.turn_seen.Goals as goal
@@ -36,9 +37,10 @@ pub returns-clause-shown : goal.returns-clause-shown
 returns-clause-shown c = λ order le.
     let cut = c.cut_runs-j.new in
     let new = c.turn_runs.new.runs in
-    let w : take cut.runs.len (new ++ drop (length new) cut.runs.items) ≡ new = grind (arith, common_steps) in
+    let size : length new ≡ cut.runs.len =
+    omega (arith, cut.runs.ok.0, c.deref_mut.ensures.len, c.turn_runs.ensures.same_length) in
     rw (
-      w,
+      take_at new (drop (length new) cut.runs.items) cut.runs.len size,
       c.turn_runs.ensures.shown order le,
       c.deref_mut.ensures.value,
       c.cut_runs-j.ensures.begins,
@@ -48,20 +50,16 @@ returns-clause-shown c = λ order le.
 
 pub returns-clause-laid : goal.returns-clause-laid
 returns-clause-laid c =
-    let cut = c.cut_runs-j.new in
-    let new = c.turn_runs.new.runs in
-    let w : take cut.runs.len (new ++ drop (length new) cut.runs.items) ≡ new = grind (arith, common_steps) in
-    subst (AreLaidOut c.args.size) (sym w) c.turn_runs.ensures.laid
+    at_front (AreLaidOut c.args.size) _ _ _
+    (omega (arith, c.cut_runs-j.new.runs.ok.0, c.deref_mut.ensures.len, c.turn_runs.ensures.same_length))
+    c.turn_runs.ensures.laid
 
 pub returns-clause-names : goal.returns-clause-names
 returns-clause-names c = λ names.
-    let cut = c.cut_runs-j.new in
-    let new = c.turn_runs.new.runs in
-    let w : take cut.runs.len (new ++ drop (length new) cut.runs.items) ≡ new = grind (arith, common_steps) in
-    subst HaveNames (sym w)
+    at_front HaveNames _ _ _
+    (omega (arith, c.cut_runs-j.new.runs.ok.0, c.deref_mut.ensures.len, c.turn_runs.ensures.same_length))
     (c.turn_runs.ensures.names
-    (subst HaveNames (sym c.deref_mut.ensures.value)
-    (c.cut_runs-j.ensures.names (c.cut_runs-i.ensures.names names))))
+    (subst HaveNames (sym c.deref_mut.ensures.value) (c.cut_runs-j.ensures.names (c.cut_runs-i.ensures.names names))))
 
 pub returns-clause-same : goal.returns-clause-same
 returns-clause-same c =
@@ -75,22 +73,21 @@ returns-clause-same c =
     let first = SameBefore-trans (i.result - 1) (j.result - 1) old i.new.runs.items j.new.runs.items i.ensures.same
     j.ensures.same (omega (arith, le)) in
     let new = c.turn_runs.new.runs in
-    let w : take j.new.runs.len (new ++ drop (length new) j.new.runs.items) ≡ new = grind (arith, common_steps) in
     let P : List Run → Type 0 = λ u. SameBefore i.result u new in
     let Q : List Run → Type 0 = λ u. SameBefore (i.result - 1) old u in
     let e' : i.result - 1 ≡ c.saturating_sub.result = omega (arith, c.saturating_sub.ensures) in
     let R : ℕ → Type 0 = λ u. SameBefore u old (take j.new.runs.len (new ++ drop (length new) j.new.runs.items)) in
     subst R e'
-    (subst Q (sym w)
+    (at_front Q _ _ _
+    (omega (arith, j.new.runs.ok.0, c.deref_mut.ensures.len, c.turn_runs.ensures.same_length))
     (SameBefore-trans (i.result - 1) i.result old j.new.runs.items new first
     (subst P c.deref_mut.ensures.value c.turn_runs.ensures.same) (omega arith)))
 
 pub returns-clause-found : goal.returns-clause-found
 returns-clause-found c = λ found.
-    let cut = c.cut_runs-j.new in
-    let new = c.turn_runs.new.runs in
-    let w : take cut.runs.len (new ++ drop (length new) cut.runs.items) ≡ new = grind (arith, common_steps) in
-    let P : List Run → Type 0 = λ u. CanBeFound c.args.size 32 u cut.table in
-    subst P (sym w)
-    (c.turn_runs.ensures.found cut.table
+    let table = c.cut_runs-j.new.table in
+    let P : List Run → Type 0 = λ u. CanBeFound c.args.size 32 u table in
+    at_front P _ _ _
+    (omega (arith, c.cut_runs-j.new.runs.ok.0, c.deref_mut.ensures.len, c.turn_runs.ensures.same_length))
+    (c.turn_runs.ensures.found table
     (subst P (sym c.deref_mut.ensures.value) (c.cut_runs-j.ensures.found (c.cut_runs-i.ensures.found found))))

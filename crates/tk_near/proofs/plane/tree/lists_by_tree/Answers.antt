@@ -1,6 +1,7 @@
-use Rattle.std.proofs.Common.{◌≡◌, ◌∙◌, ap, arith, drop, length}
-use Rattle.std.proofs.lemmas.List.{length-replicate, take_at}
+use Rattle.std.proofs.Common.{◌∙◌, ap, arith, length}
+use Rattle.std.proofs.lemmas.List.{length-replicate}
 use Rattle.tk_near.specs.Keeping.{open_place}
+use Rattle.tk_near.proofs.Tables.{AreFilled-front}
 use Rattle.tk_near.proofs.plane.tree.lists_by_tree.Goals as goal
 
 pub new-requires : goal.new-requires
@@ -24,12 +25,8 @@ from_filled-requires-clause-limit g c = c.requires.limit
 
 pub from_filled-requires-clause-filled : goal.from_filled-requires-clause-filled
 from_filled-requires-clause-filled g c =
-    let entries = c.fill_from_tree.new.entries in
-    let size : length entries ≡ c.in_ok-entries.entries.len =
-    omega (arith, c.deref_mut.ensures.len, c.fill_from_tree.auto.entries) in
-    let same = take_at entries (drop (length entries) c.in_ok-entries.entries.items) c.in_ok-entries.entries.len size in
-    let kept = ap length c.in_ok-many.ensures ∙ length-replicate c.args.k open_place in
-    rw same (rw kept at c.fill_from_tree.ensures)
+    AreFilled-front _ _ _ _ _ _ _ _ (omega (arith, c.deref_mut.ensures.len, c.fill_from_tree.auto.entries))
+    (ap length c.in_ok-many.ensures ∙ length-replicate c.args.k open_place) c.fill_from_tree.ensures
 
 pub returns-clause-size : goal.returns-clause-size
 returns-clause-size g c = c.from_filled.ensures.size

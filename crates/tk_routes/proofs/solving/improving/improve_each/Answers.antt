@@ -4,7 +4,9 @@ use Rattle.std.specs.Prelude.{map}
 use Rattle.std.proofs.lemmas.Int.{ints}
 use Rattle.std.proofs.lemmas.List.{get_or-map, length-map, map-set}
 use Rattle.tk_distance.specs.Tables.{table_distance-same, table_distance-limit}
+use Rattle.tk_descent.proofs.WakeRuns.DescentSteps.{saved_is}
 use Rattle.tk_routes.specs.Cvrps.{instance_of}
+use Rattle.tk_routes.specs.ImprovedRoutes.{most_tests}
 use Rattle.tk_routes.specs.Instance.{Instance, customer_count}
 use Rattle.tk_routes.specs.Routes.{route_length, routes_cost}
 use Rattle.tk_routes.proofs.Costs.{route_length-limit}
@@ -211,5 +213,11 @@ returns-clause-headline c =
     (customer_count i + length c.args.lists.now + 6 * n.moves) =
     subst (λ (v : ℕ). n.tests ≤ 4 * c.args.m * c.args.max_candidates * (customer_count i + v + 6 * n.moves))
     (length-map c.args.lists.now items) tested in
+    let few =
     tests_by_cost (4 * c.args.m * c.args.max_candidates) (customer_count i + length c.args.lists.now) n.moves n.tests
-    (routes_cost i olds) (routes_cost i (map items n.lists)) n.invariant.improved.cost given
+    (routes_cost i olds) (routes_cost i (map items n.lists)) n.invariant.improved.cost given in
+    let most : ℕ → ℕ = most_tests c.args.max_candidates c.args.m (customer_count i + length c.args.lists.now) in
+    subst (λ v. n.tests ≤ most v)
+    (sym
+    (saved_is _ _ (routes_cost i olds) (routes_cost i (map items n.lists)) n.invariant.before n.invariant.after
+    (omega (arith, n.invariant.improved.cost)))) few
