@@ -1,14 +1,14 @@
 //! A call of the program: its word, and the run that it asks for.
+use crate::times::Times;
 use crate::{descent, distances, near, savings, search, segments, tour};
 use std::process::ExitCode;
 
 /// The exit status where the words of the call are refused.
 const USAGE: u8 = 2;
 
-/// What a call asks for: a small run of each benchmark, or the run of one.
+/// A benchmark.
 #[derive(Clone, Copy)]
-enum Asked {
-    Small,
+enum Benchmark {
     Descent,
     Distances,
     Near,
@@ -18,6 +18,24 @@ enum Asked {
     Tour,
 }
 
+/// Each benchmark, by its word.
+const BENCHMARKS: [(&str, Benchmark); 7] = [
+    ("descent", Benchmark::Descent),
+    ("distances", Benchmark::Distances),
+    ("near", Benchmark::Near),
+    ("savings", Benchmark::Savings),
+    ("search", Benchmark::Search),
+    ("segments", Benchmark::Segments),
+    ("tour", Benchmark::Tour),
+];
+
+/// What a call asks for: a small run of each benchmark, or the run of one.
+#[derive(Clone, Copy)]
+enum Asked {
+    Small,
+    One(Benchmark),
+}
+
 /// Reads the words of the call, and makes the run that they ask for.
 pub fn run_call(rt: &HostRuntime) -> ExitCode {
     let asked = match asked_of_call(rt) {
@@ -25,7 +43,7 @@ pub fn run_call(rt: &HostRuntime) -> ExitCode {
         Ok(None) => return refused(rt),
         Err(error) => return stopped(rt, &error),
     };
-    match run(rt, asked) {
+    match run_asked(rt, asked) {
         Ok(()) => ExitCode::SUCCESS,
         Err(error) => stopped(rt, &error),
     }
@@ -37,52 +55,55 @@ pub fn run_call(rt: &HostRuntime) -> ExitCode {
 /// A word is not UTF-8, or memory ran out.
 fn asked_of_call(rt: &HostRuntime) -> anyhow::Result<Option<Asked>> {
     let words = std::env::args(rt)?.collect::<Vec<String>>(rt.alloc())?;
-    if words.len() < 2 {
-        return Ok(Some(Asked::Small));
-    }
-    if words.len() > 2 {
-        return Ok(None);
-    }
-    Ok(asked_by(words[1].as_str()))
+    Ok(asked_by(&words))
 }
 
-/// The run of the benchmark of this name.
-fn asked_by(name: &str) -> Option<Asked> {
-    match name {
-        "descent" => Some(Asked::Descent),
-        "distances" => Some(Asked::Distances),
-        "near" => Some(Asked::Near),
-        "savings" => Some(Asked::Savings),
-        "search" => Some(Asked::Search),
-        "segments" => Some(Asked::Segments),
-        "tour" => Some(Asked::Tour),
+/// What these words ask for, the first of which is the program's.
+fn asked_by(words: &[String]) -> Option<Asked> {
+    match words {
+        [] | [_] => Some(Asked::Small),
+        [_, word] => Some(Asked::One(benchmark_of(word.as_str())?)),
         _ => None,
     }
 }
 
-/// Makes a run.
-fn run(rt: &HostRuntime, asked: Asked) -> anyhow::Result<()> {
+/// The benchmark of this name.
+fn benchmark_of(name: &str) -> Option<Benchmark> {
+    for (word, benchmark) in BENCHMARKS {
+        if word == name {
+            return Some(benchmark);
+        }
+    }
+    None
+}
+
+/// Makes the runs that are asked for.
+fn run_asked(rt: &HostRuntime, asked: Asked) -> anyhow::Result<()> {
     match asked {
         Asked::Small => run_small(rt),
-        Asked::Descent => descent::run(rt),
-        Asked::Distances => distances::run(rt),
-        Asked::Near => near::run(rt),
-        Asked::Savings => savings::run(rt),
-        Asked::Search => search::run(rt),
-        Asked::Segments => segments::run(rt),
-        Asked::Tour => tour::run(rt),
+        Asked::One(benchmark) => run(rt, Times::Told, benchmark),
     }
 }
 
-/// Makes a small run of each benchmark.
+/// Makes a small run of each benchmark, whose times are hidden.
 fn run_small(rt: &HostRuntime) -> anyhow::Result<()> {
-    descent::run_small(rt)?;
-    distances::run_small(rt)?;
-    near::run_small(rt)?;
-    savings::run_small(rt)?;
-    search::run_small(rt)?;
-    segments::run_small(rt)?;
-    tour::run_small(rt)
+    for (_, benchmark) in BENCHMARKS {
+        run(rt, Times::Hidden, benchmark)?;
+    }
+    Ok(())
+}
+
+/// Makes the run of a benchmark whose times are told, or the small one.
+fn run(rt: &HostRuntime, times: Times, benchmark: Benchmark) -> anyhow::Result<()> {
+    match benchmark {
+        Benchmark::Descent => descent::run(rt, times),
+        Benchmark::Distances => distances::run(rt, times),
+        Benchmark::Near => near::run(rt, times),
+        Benchmark::Savings => savings::run(rt, times),
+        Benchmark::Search => search::run(rt, times),
+        Benchmark::Segments => segments::run(rt, times),
+        Benchmark::Tour => tour::run(rt, times),
+    }
 }
 
 /// Tells which words there are.

@@ -2,8 +2,9 @@
 //!
 //! A line has the cities, the phase (1: the descent, 2: the looks), the gain tests, the nanoseconds, the moves, the
 //! looks and the length after them.
-ghost use Rattle.std.specs.Prelude.{◌≡◌, ◌<◌, ◌≤◌, length};
+ghost use Rattle.std.specs.Prelude.{◌≡◌, ◌<◌, ◌≤◌, length, pos};
 ghost use Rattle.tk_tour.specs.ArrayTours.{order_of};
+ghost use Rattle.tk_tour.specs.Tour.{tour_length};
 
 use crate::strips::along_strips;
 use crate::times::{Time, Times};
@@ -14,15 +15,15 @@ use tk_metric::{Metric, Near, Planes, near_tree};
 use tk_text::{CITY_LIMIT, PlaneKind};
 use tk_tour::{ArrayTour, TourStore, length};
 
-/// Makes the run.
-pub fn run(rt: &HostRuntime) -> anyhow::Result<()> {
-    measure(rt, Times::Told, 1_000, 52_632)?;
-    measure(rt, Times::Told, 100_000, 5_465)
-}
-
-/// Makes the small run.
-pub fn run_small(rt: &HostRuntime) -> anyhow::Result<()> {
-    measure(rt, Times::Hidden, 100, 166_667)
+/// Makes the run, or the small one if its times are hidden.
+pub fn run(rt: &HostRuntime, times: Times) -> anyhow::Result<()> {
+    match times {
+        Times::Told => {
+            measure(rt, times, 1_000, 52_632)?;
+            measure(rt, times, 100_000, 5_465)
+        }
+        Times::Hidden => measure(rt, times, 100, 166_667),
+    }
 }
 
 /// Both phases for so many cities, from the tour along strips of this width.
@@ -33,20 +34,73 @@ fn measure(rt: &HostRuntime, times: Times, n: u32, width: u32) -> anyhow::Result
     let (points, order) = along_strips(rt.alloc(), n, width)?;
     let metric = Planes::new(PlaneKind::Euc2d, &points);
     let near = near_tree(rt.alloc(), &metric, 5)?;
-    let mut tour = ArrayTour::from_list(rt.alloc(), &order)?;
-    let mut waking = Waking::new(rt.alloc(), n)?;
-    if tour.size() != n {
+    descend_from(rt, times, &metric, &near, &order)
+}
+
+/// Both phases, from the tour of this order.
+fn descend_from<M: Metric>(
+    rt: &HostRuntime,
+    times: Times,
+    metric: &M,
+    near: &Near,
+    order: &[u32],
+) -> anyhow::Result<()>
+    requires { near.now.size ≡ M.size_of metric.now }
+{
+    let mut tour = ArrayTour::from_list(rt.alloc(), order)?;
+    let mut waking = Waking::new(rt.alloc(), metric.size())?;
+    if tour.size() != metric.size() {
         return Ok(());
     }
-    let begin = Instant::now(rt)?;
-    let report = descent(&metric, &near, &mut tour, &mut waking);
-    let took = times.tell(begin.elapsed(rt)?.as_nanos());
-    tell(rt, n, 1, took, &report)?;
-    let begin = Instant::now(rt)?;
-    let report = descent(&metric, &near, &mut tour, &mut waking);
-    let took = times.tell(begin.elapsed(rt)?.as_nanos());
-    tell(rt, n, 2, took, &report)?;
+    time_phases(rt, times, metric, near, &mut tour, &mut waking)
+}
+
+/// Makes and times the descents of both phases.
+fn time_phases<M: Metric>(
+    rt: &HostRuntime,
+    times: Times,
+    metric: &M,
+    near: &Near,
+    tour: &mut ArrayTour,
+    waking: &mut Waking,
+) -> anyhow::Result<()>
+    requires metric { M.size_of metric.now ≡ length (order_of tour.old) }
+    requires near { near.now.size ≡ length (order_of tour.old) }
+    requires waking { waking.old.size ≡ length (order_of tour.old) }
+{
+    time_phase(rt, times, 1, metric, near, tour, waking)?;
+    time_phase(rt, times, 2, metric, near, tour, waking)?;
     Ok(())
+}
+
+/// Makes and times the descent of a phase.
+fn time_phase<M: Metric>(
+    rt: &HostRuntime,
+    times: Times,
+    phase: u32,
+    metric: &M,
+    near: &Near,
+    tour: &mut ArrayTour,
+    waking: &mut Waking,
+) -> io::Result<()>
+    requires metric { M.size_of metric.now ≡ length (order_of tour.old) }
+    requires near { near.now.size ≡ length (order_of tour.old) }
+    requires waking { waking.old.size ≡ length (order_of tour.old) }
+    ensures tour { length (order_of tour.new) ≡ length (order_of tour.old) }
+    ensures waking { waking.new.size ≡ waking.old.size }
+{
+    let begin = Instant::now(rt)?;
+    let report = descent(metric, near, tour, waking);
+    let took = times.nanos_since(rt, &begin)?;
+    tell(rt, tour.size(), phase, took, &report)
+}
+
+/// The length of a tour of all cities.
+fn length_of<M: Metric>(metric: &M, tour: &ArrayTour) -> i64
+    requires { M.size_of metric.now ≡ length (order_of tour.now) }
+    ensures { result ≡ pos (tour_length (M.distance metric.now) (order_of tour.now)) }
+{
+    length(metric, tour.order())
 }
 
 /// A descent with all cities awake.
@@ -57,7 +111,7 @@ fn descent<M: Metric>(metric: &M, near: &Near, tour: &mut ArrayTour, waking: &mu
     ensures tour { length (order_of tour.new) ≡ length (order_of tour.old) }
     ensures waking { waking.new.size ≡ waking.old.size }
 {
-    let before = length(metric, tour.order());
+    let before = length_of(metric, tour);
     let mut gains = Probe::new(metric);
     waking.wake_all();
     descend(tour, &mut gains, near, waking, 3, before)

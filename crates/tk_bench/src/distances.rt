@@ -3,7 +3,7 @@
 //! A line has the kind of distances and coordinates, the span of the coordinates, the sum of the distances, and the
 //! picoseconds of one distance.
 use crate::draws::advance;
-use crate::times::Times;
+use crate::times::{Time, Times};
 use std::alloc::{AllocError, Global};
 use std::io;
 use std::time::Instant;
@@ -31,43 +31,78 @@ struct Task<'a> {
     unit: i64,
 }
 
-/// Makes the run.
-pub fn run(rt: &HostRuntime) -> anyhow::Result<()> {
-    let sizes = Sizes {
-        places: 4_200,
-        steps: 200,
-    };
-    for span in [10, 1_000, 1_000_000, 100_000_000, 1_000_000_000] {
-        measure_all(rt, Times::Told, span, sizes)?;
-    }
-    Ok(())
-}
-
-/// Makes the small run.
-pub fn run_small(rt: &HostRuntime) -> anyhow::Result<()> {
-    let sizes = Sizes {
-        places: 60,
-        steps: 10,
-    };
-    for span in [10, 1_000_000, 1_000_000_000] {
-        measure_all(rt, Times::Hidden, span, sizes)?;
-    }
-    Ok(())
-}
-
 /// Each kind of distances, among whole coordinates and among decimal ones, which are nine decimals if not told.
+const TASKS: [Task<'static>; 8] = [
+    Task {
+        name: "EUC_2D/whole",
+        kind: PlaneKind::Euc2d,
+        unit: SCALE,
+    },
+    Task {
+        name: "EUC_2D/tenths",
+        kind: PlaneKind::Euc2d,
+        unit: SCALE / 10,
+    },
+    Task {
+        name: "EUC_2D/thousandths",
+        kind: PlaneKind::Euc2d,
+        unit: SCALE / 1_000,
+    },
+    Task {
+        name: "EUC_2D/decimals",
+        kind: PlaneKind::Euc2d,
+        unit: 1,
+    },
+    Task {
+        name: "CEIL_2D/whole",
+        kind: PlaneKind::Ceil2d,
+        unit: SCALE,
+    },
+    Task {
+        name: "CEIL_2D/decimals",
+        kind: PlaneKind::Ceil2d,
+        unit: 1,
+    },
+    Task {
+        name: "ATT/whole",
+        kind: PlaneKind::Att,
+        unit: SCALE,
+    },
+    Task {
+        name: "ATT/decimals",
+        kind: PlaneKind::Att,
+        unit: 1,
+    },
+];
+
+/// Makes the run, or the small one if its times are hidden.
+pub fn run(rt: &HostRuntime, times: Times) -> anyhow::Result<()> {
+    let (spans, sizes): (&[i64], Sizes) = match times {
+        Times::Told => (
+            &[10, 1_000, 1_000_000, 100_000_000, 1_000_000_000],
+            Sizes {
+                places: 4_200,
+                steps: 200,
+            },
+        ),
+        Times::Hidden => (
+            &[10, 1_000_000, 1_000_000_000],
+            Sizes {
+                places: 60,
+                steps: 10,
+            },
+        ),
+    };
+    for span in spans {
+        measure_all(rt, times, *span, sizes)?;
+    }
+    Ok(())
+}
+
+/// The sums of all tasks, at one span.
 fn measure_all(rt: &HostRuntime, times: Times, span: i64, sizes: Sizes) -> io::Result<()> {
-    for (name, kind, unit) in [
-        ("EUC_2D/whole", PlaneKind::Euc2d, SCALE),
-        ("EUC_2D/tenths", PlaneKind::Euc2d, SCALE / 10),
-        ("EUC_2D/thousandths", PlaneKind::Euc2d, SCALE / 1_000),
-        ("EUC_2D/decimals", PlaneKind::Euc2d, 1),
-        ("CEIL_2D/whole", PlaneKind::Ceil2d, SCALE),
-        ("CEIL_2D/decimals", PlaneKind::Ceil2d, 1),
-        ("ATT/whole", PlaneKind::Att, SCALE),
-        ("ATT/decimals", PlaneKind::Att, 1),
-    ] {
-        measure(rt, times, Task { name, kind, unit }, span, sizes)?;
+    for task in TASKS {
+        measure(rt, times, task, span, sizes)?;
     }
     Ok(())
 }
@@ -84,16 +119,45 @@ fn measure(
     if points.len() > CITY_LIMIT as usize {
         return Ok(());
     }
-    let planes = Planes::new(task.kind, &points);
+    time_task(
+        rt,
+        times,
+        task,
+        span,
+        sizes,
+        &Planes::new(task.kind, &points),
+    )
+}
+
+/// Makes and times the sum.
+fn time_task<M: Metric>(
+    rt: &HostRuntime,
+    times: Times,
+    task: Task<'_>,
+    span: i64,
+    sizes: Sizes,
+    metric: &M,
+) -> io::Result<()> {
+    let (sum, least) = time_sum(rt, metric, sizes.steps)?;
+    let took = times.tell(picoseconds_of_one(least, sizes));
+    tell(rt, task.name, span, sum, took)
+}
+
+/// Prints the line of a sum.
+fn tell(rt: &HostRuntime, name: &str, span: i64, sum: u64, took: Time) -> io::Result<()> {
+    println!(rt; "{name} {span} {sum} {took}")
+}
+
+/// The sum of the distances of places that are fewer than so many steps apart, and the least nanoseconds that it took.
+fn time_sum<M: Metric>(rt: &HostRuntime, metric: &M, steps: u32) -> io::Result<(u64, u128)> {
     let mut least: u128 = u128::MAX;
     let mut sum = 0;
     for _ in 0..ROUNDS {
         let begin = Instant::now(rt)?;
-        sum = sum_of(&planes, sizes.steps);
+        sum = sum_of(metric, steps);
         least = least.min(begin.elapsed(rt)?.as_nanos());
     }
-    let took = times.tell(picoseconds_of_one(least, sizes));
-    println!(rt; "{} {span} {sum} {took}", task.name)
+    Ok((sum, least))
 }
 
 /// The picoseconds of one distance, of the nanoseconds of all.

@@ -5,8 +5,8 @@
 #![tactic(auto)]
 
 mod call;
+mod cities;
 mod descent;
-mod digest;
 mod distances;
 mod draws;
 mod near;

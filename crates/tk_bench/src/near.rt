@@ -3,12 +3,12 @@
 //! A line has the input, what is made (`near-K` or `start`), the microseconds, and a number of the cities made.
 ghost use Rattle.std.specs.Prelude.{◌≤◌};
 
-use crate::digest::digest;
+use crate::cities::{digest, digest_after};
 use crate::places::{Input, sample};
-use crate::times::Times;
+use crate::times::{Time, Times};
 use std::time::Instant;
 use tk_build::nearest_tour;
-use tk_metric::{Metric, Planes, Table, near_lists};
+use tk_metric::{Metric, Near, Planes, Table, near_lists};
 use tk_text::{CANDIDATE_LIMIT, CITY_LIMIT, PlaneKind};
 
 /// How many cities there are, and the lengths of the shorter and of the longer lists.
@@ -19,24 +19,40 @@ struct Sizes {
     long: u32,
 }
 
-/// Makes the run.
-pub fn run(rt: &HostRuntime) -> anyhow::Result<()> {
-    let sizes = Sizes {
-        cities: 100_000,
-        short: 5,
-        long: 100,
-    };
-    measure_all(rt, Times::Told, sizes)
-}
+/// Each kind of input, and its name.
+const INPUTS: [(&str, Input); 8] = [
+    ("uniform", Input::Uniform),
+    ("one_place", Input::OnePlace),
+    ("lattice", Input::Lattice),
+    ("axes", Input::Axes),
+    ("columns", Input::Columns),
+    ("clusters", Input::Clusters),
+    ("diagonal", Input::Diagonal),
+    ("decimals", Input::Decimals),
+];
 
-/// Makes the small run.
-pub fn run_small(rt: &HostRuntime) -> anyhow::Result<()> {
-    let sizes = Sizes {
-        cities: 100,
-        short: 5,
-        long: 20,
-    };
-    measure_all(rt, Times::Hidden, sizes)
+/// Makes the run, or the small one if its times are hidden.
+pub fn run(rt: &HostRuntime, times: Times) -> anyhow::Result<()> {
+    match times {
+        Times::Told => measure_all(
+            rt,
+            times,
+            Sizes {
+                cities: 100_000,
+                short: 5,
+                long: 100,
+            },
+        ),
+        Times::Hidden => measure_all(
+            rt,
+            times,
+            Sizes {
+                cities: 100,
+                short: 5,
+                long: 20,
+            },
+        ),
+    }
 }
 
 /// Each kind of input.
@@ -45,14 +61,10 @@ fn measure_all(rt: &HostRuntime, times: Times, sizes: Sizes) -> anyhow::Result<(
     requires short { (1 ≤ sizes.short) × (sizes.short ≤ CANDIDATE_LIMIT) }
     requires long { (1 ≤ sizes.long) × (sizes.long ≤ CANDIDATE_LIMIT) }
 {
-    measure(rt, times, "uniform", Input::Uniform, sizes)?;
-    measure(rt, times, "one_place", Input::OnePlace, sizes)?;
-    measure(rt, times, "lattice", Input::Lattice, sizes)?;
-    measure(rt, times, "axes", Input::Axes, sizes)?;
-    measure(rt, times, "columns", Input::Columns, sizes)?;
-    measure(rt, times, "clusters", Input::Clusters, sizes)?;
-    measure(rt, times, "diagonal", Input::Diagonal, sizes)?;
-    measure(rt, times, "decimals", Input::Decimals, sizes)
+    for (name, input) in INPUTS {
+        measure(rt, times, name, input, sizes)?;
+    }
+    Ok(())
 }
 
 /// The lists of both lengths and the tour, on one kind of input.
@@ -69,9 +81,23 @@ fn measure(
 {
     let points = sample(rt.alloc(), sizes.cities, input)?;
     let table = Table::Planes(Planes::new(PlaneKind::Euc2d, &points));
-    time_lists(rt, times, name, &table, sizes.short)?;
-    time_lists(rt, times, name, &table, sizes.long)?;
-    time_tour(rt, times, name, &table)
+    time_each(rt, times, name, &table, sizes)
+}
+
+/// Makes and times the lists of both lengths and the tour.
+fn time_each(
+    rt: &HostRuntime,
+    times: Times,
+    name: &str,
+    table: &Table<'_>,
+    sizes: Sizes,
+) -> anyhow::Result<()>
+    requires short { (1 ≤ sizes.short) × (sizes.short ≤ CANDIDATE_LIMIT) }
+    requires long { (1 ≤ sizes.long) × (sizes.long ≤ CANDIDATE_LIMIT) }
+{
+    time_lists(rt, times, name, table, sizes.short)?;
+    time_lists(rt, times, name, table, sizes.long)?;
+    time_tour(rt, times, name, table)
 }
 
 /// Makes and times lists of length k.
@@ -89,14 +115,24 @@ fn time_lists(
     }
     let begin = Instant::now(rt)?;
     let near = near_lists(rt.alloc(), table, k)?;
-    let took = times.tell(begin.elapsed(rt)?.as_micros());
-    let mut entries = Vec::new(rt.alloc());
-    for city in 1..near.size() + 1 {
-        entries.extend_from_slice(near.of(city))?;
-    }
-    let digest = digest(&entries);
+    let took = times.micros_since(rt, &begin)?;
+    tell_lists(rt, name, took, &near)
+}
+
+/// Prints the line of lists.
+fn tell_lists(rt: &HostRuntime, name: &str, took: Time, near: &Near) -> anyhow::Result<()> {
+    let (k, digest) = (near.width(), digest_of_lists(near));
     println!(rt; "{name} near-{k} {took} {digest}")?;
     Ok(())
+}
+
+/// A number of the cities of all lists.
+fn digest_of_lists(near: &Near) -> u64 {
+    let mut digest = 0;
+    for k in 0..near.size() {
+        digest = digest_after(digest, near.of(k + 1));
+    }
+    digest
 }
 
 /// Makes and times the tour from city 1.
@@ -106,8 +142,13 @@ fn time_tour(rt: &HostRuntime, times: Times, name: &str, table: &Table<'_>) -> a
     }
     let begin = Instant::now(rt)?;
     let cities = nearest_tour(rt.alloc(), table, 1)?;
-    let took = times.tell(begin.elapsed(rt)?.as_micros());
-    let digest = digest(&cities);
+    let took = times.micros_since(rt, &begin)?;
+    tell_tour(rt, name, took, &cities)
+}
+
+/// Prints the line of the tour.
+fn tell_tour(rt: &HostRuntime, name: &str, took: Time, cities: &[u32]) -> anyhow::Result<()> {
+    let digest = digest(cities);
     println!(rt; "{name} start {took} {digest}")?;
     Ok(())
 }

@@ -2,27 +2,37 @@
 //!
 //! A line has the box, the cities and the length of their near lists, then the microseconds and a number of the cities
 //! made; that of the lists also says how many there are.
-ghost use Rattle.std.specs.Prelude.{◌<◌, ◌≤◌};
+ghost use Rattle.std.specs.Prelude.{◌≡◌, ◌<◌, ◌≤◌, length};
 
-use crate::digest::digest;
+use crate::cities::{digest, digest_after};
 use crate::places::{Input, sample};
-use crate::times::Times;
-use std::alloc::{AllocError, Global};
+use crate::times::{Time, Times};
 use std::time::Instant;
 use tk_build::{savings_lists, savings_tour};
 use tk_metric::{Metric, Near, Planes, near_tree};
 use tk_text::{CANDIDATE_LIMIT, CITY_LIMIT, PlaneKind};
 
-/// Makes the run.
-pub fn run(rt: &HostRuntime) -> anyhow::Result<()> {
-    measure_boxes(rt, Times::Told, 100_000, 5)?;
-    measure_boxes(rt, Times::Told, 100_000, 10)
+/// What is measured: so many cities in a box, with near lists of length k.
+#[derive(Clone, Copy)]
+struct Task<'a> {
+    name: &'a str,
+    input: Input,
+    count: u32,
+    k: u32,
 }
 
-/// Makes the small run.
-pub fn run_small(rt: &HostRuntime) -> anyhow::Result<()> {
-    measure_boxes(rt, Times::Hidden, 100, 5)?;
-    measure_boxes(rt, Times::Hidden, 100, 10)
+/// Makes the run, or the small one if its times are hidden.
+pub fn run(rt: &HostRuntime, times: Times) -> anyhow::Result<()> {
+    match times {
+        Times::Told => {
+            measure_boxes(rt, times, 100_000, 5)?;
+            measure_boxes(rt, times, 100_000, 10)
+        }
+        Times::Hidden => {
+            measure_boxes(rt, times, 100, 5)?;
+            measure_boxes(rt, times, 100, 10)
+        }
+    }
 }
 
 /// So many cities in the square and in the strip, with near lists of length k.
@@ -30,45 +40,107 @@ fn measure_boxes(rt: &HostRuntime, times: Times, count: u32, k: u32) -> anyhow::
     requires count { (1 ≤ count) × (count ≤ CITY_LIMIT) }
     requires k { (1 ≤ k) × (k ≤ CANDIDATE_LIMIT) × (k < count) }
 {
-    measure(rt, times, "square", Input::Uniform, count, k)?;
-    measure(rt, times, "strip", Input::Strip, count, k)
+    for (name, input) in [("square", Input::Uniform), ("strip", Input::Strip)] {
+        let task = Task {
+            name,
+            input,
+            count,
+            k,
+        };
+        measure(rt, times, &task)?;
+    }
+    Ok(())
 }
 
 /// The tour and the lists of cities in one box.
-fn measure(
+fn measure(rt: &HostRuntime, times: Times, task: &Task<'_>) -> anyhow::Result<()>
+    requires count { (1 ≤ task.now.count) × (task.now.count ≤ CITY_LIMIT) }
+    requires k { (1 ≤ task.now.k) × (task.now.k ≤ CANDIDATE_LIMIT) × (task.now.k < task.now.count) }
+{
+    let points = sample(rt.alloc(), task.count, task.input)?;
+    let planes = Planes::new(PlaneKind::Euc2d, &points);
+    let near = near_tree(rt.alloc(), &planes, task.k)?;
+    time_each(rt, times, task, &planes, &near)
+}
+
+/// Makes and times the tour and the lists.
+fn time_each<M: Metric>(
     rt: &HostRuntime,
     times: Times,
-    name: &str,
-    input: Input,
-    count: u32,
-    k: u32,
+    task: &Task<'_>,
+    metric: &M,
+    near: &Near,
 ) -> anyhow::Result<()>
-    requires count { (1 ≤ count) × (count ≤ CITY_LIMIT) }
-    requires k { (1 ≤ k) × (k ≤ CANDIDATE_LIMIT) × (k < count) }
+    requires some { 1 ≤ M.size_of metric.now }
+    requires size { near.now.size ≡ M.size_of metric.now }
 {
-    let points = sample(rt.alloc(), count, input)?;
-    let planes = Planes::new(PlaneKind::Euc2d, &points);
-    let near = near_tree(rt.alloc(), &planes, k)?;
+    time_tour(rt, times, task, metric, near)?;
+    let loads = vec![in rt.alloc(); 1u32; metric.size() as usize]?;
+    time_lists(rt, times, task, metric, near, &loads)
+}
+
+/// Makes and times the tour.
+fn time_tour<M: Metric>(
+    rt: &HostRuntime,
+    times: Times,
+    task: &Task<'_>,
+    metric: &M,
+    near: &Near,
+) -> anyhow::Result<()>
+    requires some { 1 ≤ M.size_of metric.now }
+    requires size { near.now.size ≡ M.size_of metric.now }
+{
     let begin = Instant::now(rt)?;
-    let tour = savings_tour(rt.alloc(), &planes, &near)?;
-    let took = times.tell(begin.elapsed(rt)?.as_micros());
-    let cities = digest(&tour);
+    let tour = savings_tour(rt.alloc(), metric, near)?;
+    let took = times.micros_since(rt, &begin)?;
+    tell_tour(rt, task, took, &tour)
+}
+
+/// Prints the line of the tour.
+fn tell_tour(rt: &HostRuntime, task: &Task<'_>, took: Time, tour: &[u32]) -> anyhow::Result<()> {
+    let Task { name, count, k, .. } = task;
+    let cities = digest(tour);
     println!(rt; "{name} {count} K {k} tour: {took} us, cities {cities}")?;
-    let loads = vec![in rt.alloc(); 1u32; count as usize]?;
+    Ok(())
+}
+
+/// Makes and times the lists, where each city has its load.
+fn time_lists<M: Metric>(
+    rt: &HostRuntime,
+    times: Times,
+    task: &Task<'_>,
+    metric: &M,
+    near: &Near,
+    loads: &[u32],
+) -> anyhow::Result<()>
+    requires some { 1 ≤ M.size_of metric.now }
+    requires size { near.now.size ≡ M.size_of metric.now }
+    requires loads { length loads.now ≡ M.size_of metric.now }
+{
     let begin = Instant::now(rt)?;
-    let lists = savings_lists(rt.alloc(), &planes, 1, &loads, 50, &near)?;
-    let took = times.tell(begin.elapsed(rt)?.as_micros());
-    let many = lists.len();
-    let cities = digest_of_lists(rt.alloc(), &lists)?;
+    let lists = savings_lists(rt.alloc(), metric, 1, loads, 50, near)?;
+    let took = times.micros_since(rt, &begin)?;
+    tell_lists(rt, task, took, &lists)
+}
+
+/// Prints the line of the lists.
+fn tell_lists(
+    rt: &HostRuntime,
+    task: &Task<'_>,
+    took: Time,
+    lists: &[Vec<u32>],
+) -> anyhow::Result<()> {
+    let Task { name, count, k, .. } = task;
+    let (many, cities) = (lists.len(), digest_of_lists(lists));
     println!(rt; "{name} {count} K {k} lists: {took} us, lists {many}, cities {cities}")?;
     Ok(())
 }
 
 /// A number of the cities of all lists.
-fn digest_of_lists(alloc: Global, lists: &[Vec<u32>]) -> Result<u64, AllocError> {
-    let mut cities = Vec::new(alloc);
+fn digest_of_lists(lists: &[Vec<u32>]) -> u64 {
+    let mut digest = 0;
     for list in lists {
-        cities.extend_from_slice(list)?;
+        digest = digest_after(digest, list);
     }
-    Ok(digest(&cities))
+    digest
 }

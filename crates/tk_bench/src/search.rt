@@ -3,7 +3,8 @@
 //! A line has the word `tourkit`, the cities, the phase (1: the first trial, 2: the later ones), the trials and the
 //! nanoseconds of the phase, and then what the search has counted: moves, gain tests, swaps, better tours, and what
 //! they gained.
-ghost use Rattle.std.specs.Prelude.{◌<◌, ◌≤◌};
+ghost use Rattle.std.specs.Prelude.{◌≡◌, ◌<◌, ◌≤◌, length};
+ghost use Rattle.tk_tour.specs.ArrayTours.{order_of};
 
 use crate::strips::along_strips;
 use crate::times::{Time, Times};
@@ -12,20 +13,20 @@ use rand_pcg::Pcg32;
 use std::io;
 use std::time::Instant;
 use tk_build::{Search, SearchRules, Totals};
-use tk_metric::{Metric, Planes, near_tree};
+use tk_metric::{Metric, Near, Planes, near_tree};
 use tk_text::{CITY_LIMIT, PlaneKind};
 use tk_tour::{ArrayTour, TourStore};
 
-/// Makes the run.
-pub fn run(rt: &HostRuntime) -> anyhow::Result<()> {
-    measure(rt, Times::Told, 1_000, 52_632, 30_000)?;
-    measure(rt, Times::Told, 10_000, 17_242, 10_000)?;
-    measure(rt, Times::Told, 100_000, 5_465, 1_000)
-}
-
-/// Makes the small run.
-pub fn run_small(rt: &HostRuntime) -> anyhow::Result<()> {
-    measure(rt, Times::Hidden, 100, 166_667, 100)
+/// Makes the run, or the small one if its times are hidden.
+pub fn run(rt: &HostRuntime, times: Times) -> anyhow::Result<()> {
+    match times {
+        Times::Told => {
+            measure(rt, times, 1_000, 52_632, 30_000)?;
+            measure(rt, times, 10_000, 17_242, 10_000)?;
+            measure(rt, times, 100_000, 5_465, 1_000)
+        }
+        Times::Hidden => measure(rt, times, 100, 166_667, 100),
+    }
 }
 
 /// Both phases for so many cities and later trials, from the tour along strips of this width.
@@ -33,20 +34,48 @@ fn measure(rt: &HostRuntime, times: Times, n: u32, width: u32, count: u32) -> an
     requires n { (6 ≤ n) × (n ≤ CITY_LIMIT) }
     requires width { 0 < width }
 {
+    let (points, order) = along_strips(rt.alloc(), n, width)?;
+    let metric = Planes::new(PlaneKind::Euc2d, &points);
+    let near = near_tree(rt.alloc(), &metric, 5)?;
+    search_from(rt, times, &metric, &near, &order, count)
+}
+
+/// Both phases, from the tour of this order.
+fn search_from<M: Metric>(
+    rt: &HostRuntime,
+    times: Times,
+    metric: &M,
+    near: &Near,
+    order: &[u32],
+    count: u32,
+) -> anyhow::Result<()>
+    requires { near.now.size ≡ M.size_of metric.now }
+{
+    let start = ArrayTour::from_list(rt.alloc(), order)?;
+    if start.size() != metric.size() {
+        return Ok(());
+    }
+    time_search(rt, times, metric, near, start, count)
+}
+
+/// Both phases, from a tour.
+fn time_search<M: Metric>(
+    rt: &HostRuntime,
+    times: Times,
+    metric: &M,
+    near: &Near,
+    start: ArrayTour,
+    count: u32,
+) -> anyhow::Result<()>
+    requires metric { M.size_of metric.now ≡ length (order_of start) }
+    requires near { near.now.size ≡ length (order_of start) }
+{
     let rules = SearchRules {
         sweep: false,
         or_segment: 3,
     };
-    let (points, order) = along_strips(rt.alloc(), n, width)?;
-    let metric = Planes::new(PlaneKind::Euc2d, &points);
-    let near = near_tree(rt.alloc(), &metric, 5)?;
-    let start = ArrayTour::from_list(rt.alloc(), &order)?;
-    if start.size() != n {
-        return Ok(());
-    }
-    let mut search = Search::new(rt.alloc(), &metric, &near, start, rules)?;
-    time_phases(rt, times, &mut search, n, count)?;
-    Ok(())
+    let mut search = Search::new(rt.alloc(), metric, near, start, rules)?;
+    time_phases(rt, times, &mut search, count)
 }
 
 /// Makes and times the trials of both phases.
@@ -54,18 +83,27 @@ fn time_phases<M: Metric>(
     rt: &HostRuntime,
     times: Times,
     search: &mut Search<M>,
-    n: u32,
     count: u32,
-) -> io::Result<()> {
+) -> anyhow::Result<()> {
     let mut rng = Pcg32::seed_from_u64(1);
+    time_phase(rt, times, 1, search, &mut rng, 1)?;
+    time_phase(rt, times, 2, search, &mut rng, count)?;
+    Ok(())
+}
+
+/// Makes and times the trials of a phase.
+fn time_phase<M: Metric>(
+    rt: &HostRuntime,
+    times: Times,
+    phase: u32,
+    search: &mut Search<M>,
+    rng: &mut Pcg32,
+    trials: u32,
+) -> io::Result<()> {
     let begin = Instant::now(rt)?;
-    make_trials(search, &mut rng, 1);
-    let took = times.tell(begin.elapsed(rt)?.as_nanos());
-    tell(rt, n, 1, 1, took, search.totals())?;
-    let begin = Instant::now(rt)?;
-    make_trials(search, &mut rng, count);
-    let took = times.tell(begin.elapsed(rt)?.as_nanos());
-    tell(rt, n, 2, count, took, search.totals())
+    make_trials(search, rng, trials);
+    let took = times.nanos_since(rt, &begin)?;
+    tell(rt, search, phase, trials, took)
 }
 
 /// Makes so many trials.
@@ -76,14 +114,14 @@ fn make_trials<M: Metric>(search: &mut Search<M>, rng: &mut Pcg32, count: u32) {
 }
 
 /// Prints the line of a phase of so many trials.
-fn tell(
+fn tell<M: Metric>(
     rt: &HostRuntime,
-    n: u32,
+    search: &Search<M>,
     phase: u32,
     trials: u32,
     took: Time,
-    totals: Totals,
 ) -> io::Result<()> {
+    let n = search.best().len();
     let Totals {
         moves,
         tests,
@@ -91,6 +129,6 @@ fn tell(
         better,
         gained,
         ..
-    } = totals;
+    } = search.totals();
     println!(rt; "tourkit {n} {phase} {trials} {took} {moves} {tests} {swaps} {better} {gained}")
 }

@@ -4,11 +4,12 @@
 //! one. A trial is a kick at random cuts and flips of nearby cities, as a descent makes them after it.
 ghost use Rattle.std.specs.Prelude.{◌≡◌, ◌<◌, ◌≤◌, length};
 
+use crate::cities::first_cities;
 use crate::draws::draw_below;
-use crate::times::Times;
+use crate::times::{Time, Times};
 use rand_core::SeedableRng;
 use rand_pcg::Pcg32;
-use std::alloc::{AllocError, Global};
+use std::io;
 use std::time::Instant;
 use tk_build::{Cuts, kick};
 use tk_segments::SegmentTour;
@@ -20,27 +21,46 @@ const FLIPS: u32 = 16;
 
 const REACH: u32 = 50;
 
-/// Makes the run.
-pub fn run(rt: &HostRuntime) -> anyhow::Result<()> {
-    measure(rt, Times::Told, 200, 30_000)?;
-    measure(rt, Times::Told, 1_000, 30_000)?;
-    measure(rt, Times::Told, 10_000, 10_000)?;
-    measure(rt, Times::Told, 100_000, 3_000)
-}
-
-/// Makes the small run.
-pub fn run_small(rt: &HostRuntime) -> anyhow::Result<()> {
-    measure(rt, Times::Hidden, 100, 100)
+/// Makes the run, or the small one if its times are hidden.
+pub fn run(rt: &HostRuntime, times: Times) -> anyhow::Result<()> {
+    match times {
+        Times::Told => {
+            measure(rt, times, 200, 30_000)?;
+            measure(rt, times, 1_000, 30_000)?;
+            measure(rt, times, 10_000, 10_000)?;
+            measure(rt, times, 100_000, 3_000)
+        }
+        Times::Hidden => measure(rt, times, 100, 100),
+    }
 }
 
 /// So many trials in each store, from the cities in their order.
 fn measure(rt: &HostRuntime, times: Times, n: u32, trials: u32) -> anyhow::Result<()> {
     let cities = first_cities(rt.alloc(), n)?;
-    let mut array = ArrayTour::from_list(rt.alloc(), &cities)?;
-    measure_store(rt, times, "array", &mut array, trials)?;
-    let mut segments = SegmentTour::from_list(rt.alloc(), &cities)?;
-    measure_store(rt, times, "segments", &mut segments, trials)?;
-    Ok(())
+    measure_array(rt, times, &cities, trials)?;
+    measure_segments(rt, times, &cities, trials)
+}
+
+/// So many trials in an array.
+fn measure_array(
+    rt: &HostRuntime,
+    times: Times,
+    cities: &[u32],
+    trials: u32,
+) -> anyhow::Result<()> {
+    let mut tour = ArrayTour::from_list(rt.alloc(), cities)?;
+    measure_store(rt, times, "array", &mut tour, trials)
+}
+
+/// So many trials in a tour that is seen through segments.
+fn measure_segments(
+    rt: &HostRuntime,
+    times: Times,
+    cities: &[u32],
+    trials: u32,
+) -> anyhow::Result<()> {
+    let mut tour = SegmentTour::from_list(rt.alloc(), cities)?;
+    measure_store(rt, times, "segments", &mut tour, trials)
 }
 
 /// So many trials in one store.
@@ -51,28 +71,28 @@ fn measure_store<S: TourStore>(
     tour: &mut S,
     trials: u32,
 ) -> anyhow::Result<()> {
-    let n = tour.size();
-    if n < 8 {
+    if tour.size() < 8 {
         return Ok(());
     }
     let begin = Instant::now(rt)?;
     make_trials(tour, trials);
-    let took = times.tell(begin.elapsed(rt)?.as_nanos());
-    println!(rt;
-        "{name} {n} {trials} {took} {} {}",
-        tour.swaps(),
-        tour.next(1)
-    )?;
+    let took = times.nanos_since(rt, &begin)?;
+    tell(rt, name, tour, trials, took)?;
     Ok(())
 }
 
-/// The cities from 1 to n.
-fn first_cities(alloc: Global, n: u32) -> Result<Vec<u32>, AllocError> {
-    let mut cities = Vec::new(alloc);
-    for city in 1..=n {
-        cities.push(city)?;
-    }
-    Ok(cities)
+/// Prints the line of a store, after its flips.
+fn tell<S: TourStore>(
+    rt: &HostRuntime,
+    name: &str,
+    tour: &S,
+    trials: u32,
+    took: Time,
+) -> io::Result<()>
+    requires { 1 ≤ length (S.cities tour.now) }
+{
+    let (n, swaps, after) = (tour.size(), tour.swaps(), tour.next(1));
+    println!(rt; "{name} {n} {trials} {took} {swaps} {after}")
 }
 
 /// Makes so many trials.

@@ -1,5 +1,5 @@
 //! Cities drawn at random in a square, and a tour that goes up and down along strips of it.
-ghost use Rattle.std.specs.Prelude.{◌≡◌, ◌<◌, IfOk, length};
+ghost use Rattle.std.specs.Prelude.{◌≡◌, ◌<◌, ◌≤◌, IfOk, OnOk, length};
 
 use crate::draws::draw_below;
 use crate::places::whole;
@@ -34,6 +34,25 @@ fn stop_at(x: u32, y: u32, width: u32, city: u32) -> Stop
     Stop { strip, along, city }
 }
 
+/// Draws where a city lies, and adds where it stands on the way.
+fn draw_city(
+    points: &mut Points,
+    stops: &mut Vec<Stop>,
+    state: &mut u64,
+    city: u32,
+    width: u32,
+) -> Result<(), AllocError>
+    requires city { (1 ≤ city) × (city ≤ length points.old) }
+    requires width { 0 < width }
+    ensures { OnOk result (length points.new ≡ length points.old) }
+{
+    let x = coordinate(state);
+    let y = coordinate(state);
+    points.set(city as usize - 1, whole(x, y))?;
+    stops.push(stop_at(x, y, width, city))?;
+    Ok(())
+}
+
 /// Cities drawn at random, and where each stands on the way.
 fn placed(alloc: Global, n: u32, width: u32) -> Result<(Points, Vec<Stop>), AllocError>
     requires { 0 < width }
@@ -43,12 +62,15 @@ fn placed(alloc: Global, n: u32, width: u32) -> Result<(Points, Vec<Stop>), Allo
     let mut stops = Vec::new(alloc);
     let mut state = 12345;
     for city in 0..n {
-        let x = coordinate(&mut state);
-        let y = coordinate(&mut state);
-        points.set(city as usize, whole(x, y))?;
-        stops.push(stop_at(x, y, width, city + 1))?;
+        draw_city(&mut points, &mut stops, &mut state, city + 1, width)?;
     }
     Ok((points, stops))
+}
+
+/// The cities of the stops, in the order of the way.
+fn order_along(alloc: Global, stops: &mut [Stop]) -> Result<Vec<u32>, AllocError> {
+    stops.sort_unstable_by_key(|s| (s.strip, s.along, s.city));
+    cities_of(alloc, stops)
 }
 
 /// The cities of the stops.
@@ -66,7 +88,6 @@ pub fn along_strips(alloc: Global, n: u32, width: u32) -> Result<(Points, Vec<u3
     ensures { IfOk result (λ r. length r.0 ≡ n) }
 {
     let (points, mut stops) = placed(alloc, n, width)?;
-    stops.sort_unstable_by_key(|s| (s.strip, s.along, s.city));
-    let cities = cities_of(alloc, &stops)?;
+    let cities = order_along(alloc, &mut stops)?;
     Ok((points, cities))
 }

@@ -1,5 +1,6 @@
 //! Times, and whether the lines of a run tell them.
-use std::fmt;
+use std::time::Instant;
+use std::{fmt, io};
 
 /// Whether the lines of a run tell its times. Those of a stored run cannot, since no two runs take the same time.
 #[derive(Clone, Copy)]
@@ -19,6 +20,16 @@ impl Times {
             Times::Told => Time(Some(time)),
             Times::Hidden => Time(None),
         }
+    }
+
+    /// The nanoseconds since an instant.
+    pub fn nanos_since(self, rt: &HostRuntime, begin: &Instant) -> io::Result<Time> {
+        Ok(self.tell(begin.elapsed(rt)?.as_nanos()))
+    }
+
+    /// The microseconds since an instant.
+    pub fn micros_since(self, rt: &HostRuntime, begin: &Instant) -> io::Result<Time> {
+        Ok(self.tell(begin.elapsed(rt)?.as_micros()))
     }
 }
 

@@ -3,41 +3,43 @@
 //! A line has the cities, the swaps, the nanoseconds of all flips, and the city after the first one.
 ghost use Rattle.std.specs.Prelude.{◌<◌, ◌≤◌};
 
+use crate::cities::first_cities;
 use crate::draws::draw_below;
 use crate::times::Times;
-use std::alloc::{AllocError, Global};
 use std::time::Instant;
 use tk_tour::{ArrayTour, TourStore};
 
-/// Makes the run.
-pub fn run(rt: &HostRuntime) -> anyhow::Result<()> {
-    measure(rt, Times::Told, 1_000, 400_000)?;
-    measure(rt, Times::Told, 100_000, 4_000)
-}
-
-/// Makes the small run.
-pub fn run_small(rt: &HostRuntime) -> anyhow::Result<()> {
-    measure(rt, Times::Hidden, 100, 1_000)
+/// Makes the run, or the small one if its times are hidden.
+pub fn run(rt: &HostRuntime, times: Times) -> anyhow::Result<()> {
+    match times {
+        Times::Told => {
+            measure(rt, times, 1_000, 400_000)?;
+            measure(rt, times, 100_000, 4_000)
+        }
+        Times::Hidden => measure(rt, times, 100, 1_000),
+    }
 }
 
 /// So many flips of a tour of so many cities.
 fn measure(rt: &HostRuntime, times: Times, n: u32, flips: u32) -> anyhow::Result<()> {
     let cities = first_cities(rt.alloc(), n)?;
     let mut tour = ArrayTour::from_list(rt.alloc(), &cities)?;
-    let begin = Instant::now(rt)?;
-    let after = flip_often(&mut tour, flips);
-    let took = times.tell(begin.elapsed(rt)?.as_nanos());
-    println!(rt; "{n} {} {took} {after}", tour.swaps())?;
-    Ok(())
+    time_flips(rt, times, &mut tour, flips)
 }
 
-/// The cities from 1 to n.
-fn first_cities(alloc: Global, n: u32) -> Result<Vec<u32>, AllocError> {
-    let mut cities = Vec::new(alloc);
-    for city in 1..=n {
-        cities.push(city)?;
-    }
-    Ok(cities)
+/// Makes and times so many flips.
+fn time_flips(
+    rt: &HostRuntime,
+    times: Times,
+    tour: &mut ArrayTour,
+    flips: u32,
+) -> anyhow::Result<()> {
+    let begin = Instant::now(rt)?;
+    let after = flip_often(tour, flips);
+    let took = times.nanos_since(rt, &begin)?;
+    let (n, swaps) = (tour.size(), tour.swaps());
+    println!(rt; "{n} {swaps} {took} {after}")?;
+    Ok(())
 }
 
 /// A city of n, drawn at random.

@@ -3,15 +3,16 @@ ghost use Rattle.std.specs.Prelude.{◌≡◌, IfOk};
 ghost use Rattle.tk_routes.specs.RouteLists.{instance_of_routes};
 ghost use Rattle.tk_routes.specs.Cvrps.{instance_of};
 
-use crate::again;
 use crate::instances::{ROUTING, TWO_GROUPS};
+use crate::lines::{tell, tell_kept};
 use crate::lists::near_of;
 use crate::readers::problem_of;
-use crate::refusals::{Refusal, Stopped};
+use crate::refusals::Stopped;
+use crate::{again, call};
 use std::alloc::{AllocError, Global};
 use tk_metric::Near;
 use tk_routes::{Cvrp, RouteReport, RouteVerdict, Routes, check_routes, improve, savings};
-use tk_text::{CANDIDATE_LIMIT, Problem, SolText};
+use tk_text::{Problem, SolText};
 
 /// The routes as they stand, claimed to have a cost.
 fn claim(alloc: Global, routes: &Routes<'_>, cost: i64) -> Result<SolText, AllocError> {
@@ -42,53 +43,37 @@ fn show_verdict(
     routes: &Routes<'_>,
     cost: i64,
 ) -> Result<(), Stopped> {
-    let verdict = again!(rt, "check_routes", judge(rt.alloc(), cvrp, routes, cost));
-    println!(rt; "check_routes: {verdict:?}")?;
-    Ok(())
+    let alloc = rt.alloc();
+    call!(rt, "check_routes", judge(alloc, cvrp, routes, cost))
 }
 
-/// Tells what an improvement has counted.
-fn show_report(rt: &HostRuntime, name: &str, report: &RouteReport) -> Result<(), Stopped> {
-    println!(rt; "{name}: {report:?}")?;
-    Ok(())
-}
-
-/// Tells routes.
-fn show(rt: &HostRuntime, name: &str, lists: &[Vec<u32>]) -> Result<(), Stopped> {
-    println!(rt; "{name}: {lists:?}")?;
-    Ok(())
-}
-
-/// Tells routes as a refused call left them.
-fn show_refused(rt: &HostRuntime, name: &str, lists: &[Vec<u32>]) -> Result<(), Stopped> {
-    println!(rt; "{name}: out of memory, {lists:?}")?;
-    Ok(())
-}
-
-/// Savings routes, which are told.
+/// Savings routes.
 fn saved<'a>(rt: &HostRuntime, cvrp: &Cvrp<'a>, near: &Near) -> Result<Routes<'a>, Stopped>
     requires size { near.now.size ≡ (instance_of cvrp.now).size }
     ensures instance { IfOk result (λ routes. instance_of_routes routes ≡ instance_of cvrp.now) }
 {
-    let routes = again!(rt, "savings", savings(rt.alloc(), cvrp, near));
-    show(rt, "savings", routes.lists())?;
-    Ok(routes)
+    let alloc = rt.alloc();
+    again!(rt, "savings", savings(alloc, cvrp, near))
 }
 
-/// Savings routes over near lists with an entry for each other node, as far as lists go.
-fn saved_by_all<'a>(rt: &HostRuntime, cvrp: &Cvrp<'a>) -> Result<Routes<'a>, Stopped>
+/// Savings routes over near lists of length k.
+fn saved_over<'a>(rt: &HostRuntime, cvrp: &Cvrp<'a>, k: u32) -> Result<Routes<'a>, Stopped>
     ensures instance { IfOk result (λ routes. instance_of_routes routes ≡ instance_of cvrp.now) }
 {
-    let near = near_of(rt, &cvrp.table(), cvrp.customers().min(CANDIDATE_LIMIT))?;
+    let near = near_of(rt, &cvrp.table(), k)?;
     saved(rt, cvrp, &near)
 }
 
-/// Savings routes over near lists of three.
-fn saved_by_three<'a>(rt: &HostRuntime, cvrp: &Cvrp<'a>) -> Result<Routes<'a>, Stopped>
-    ensures instance { IfOk result (λ routes. instance_of_routes routes ≡ instance_of cvrp.now) }
+/// Improves routes over five candidates of each node, by segments of at most three.
+fn shorten(
+    alloc: Global,
+    cvrp: &Cvrp<'_>,
+    routes: &mut Routes<'_>,
+) -> Result<RouteReport, AllocError>
+    requires instance { instance_of_routes routes.old ≡ instance_of cvrp.now }
+    ensures kept { instance_of_routes routes.new ≡ instance_of_routes routes.old }
 {
-    let near = near_of(rt, &cvrp.table(), 3)?;
-    saved(rt, cvrp, &near)
+    improve(alloc, cvrp, routes, 5, 3)
 }
 
 /// Improves the one savings route. Where that is refused, it has to be as before.
@@ -100,45 +85,41 @@ fn improve_saved(
     requires instance { instance_of_routes routes.old ≡ instance_of cvrp.now }
     ensures kept { instance_of_routes routes.new ≡ instance_of_routes routes.old }
 {
-    if let Ok(report) = improve(rt.alloc(), cvrp, routes, 5, 3) {
+    if let Ok(report) = shorten(rt.alloc(), cvrp, routes) {
         return Ok(report);
     }
-    let kept = judge(rt.alloc(), cvrp, routes, 60)?;
-    println!(rt; "improve: out of memory, {kept:?}")?;
-    Ok(improve(rt.alloc(), cvrp, routes, 5, 3)?)
+    let verdict = judge(rt.alloc(), cvrp, routes, 60)?;
+    tell_kept(rt, "improve", &verdict)?;
+    Ok(shorten(rt.alloc(), cvrp, routes)?)
 }
 
 /// Improves a route that no move makes shorter.
-fn improve_again(
-    rt: &HostRuntime,
-    cvrp: &Cvrp<'_>,
-    routes: &mut Routes<'_>,
-) -> Result<RouteReport, Stopped>
+fn improve_again(rt: &HostRuntime, cvrp: &Cvrp<'_>, routes: &mut Routes<'_>) -> Result<(), Stopped>
     requires instance { instance_of_routes routes.old ≡ instance_of cvrp.now }
 {
-    let report = again!(rt, "improve again", improve(rt.alloc(), cvrp, routes, 5, 3));
-    Ok(report)
+    let alloc = rt.alloc();
+    call!(rt, "improve again", shorten(alloc, cvrp, routes))
 }
 
-/// Improves a savings route, with its verdicts, and then again, with no move left.
+/// Tells a savings route and improves it, with its verdicts, and then again, with no move left.
 fn improve_twice(rt: &HostRuntime, cvrp: &Cvrp<'_>, routes: &mut Routes<'_>) -> Result<(), Stopped>
     requires instance { instance_of_routes routes.old ≡ instance_of cvrp.now }
 {
+    tell(rt, "savings", &routes.lists())?;
     show_verdict(rt, cvrp, routes, 60)?;
     let report = improve_saved(rt, cvrp, routes)?;
-    show_report(rt, "improve", &report)?;
-    show(rt, "improved", routes.lists())?;
+    tell(rt, "improve", &report)?;
+    tell(rt, "improved", &routes.lists())?;
     show_verdict(rt, cvrp, routes, 53)?;
-    let unmoved = improve_again(rt, cvrp, routes)?;
-    show_report(rt, "improve again", &unmoved)
+    improve_again(rt, cvrp, routes)
 }
 
-/// Makes a savings route of a problem, and improves it.
+/// Makes a savings route of a problem with four customers, and improves it.
 fn improve_one(rt: &HostRuntime, problem: &Problem) -> Result<(), Stopped> {
     let Some(cvrp) = Cvrp::of(problem) else {
-        return Err(Stopped);
+        return Err(Stopped::Otherwise);
     };
-    let mut routes = saved_by_all(rt, &cvrp)?;
+    let mut routes = saved_over(rt, &cvrp, 4)?;
     improve_twice(rt, &cvrp, &mut routes)
 }
 
@@ -150,22 +131,34 @@ fn improve_both(
 ) -> Result<RouteReport, Stopped>
     requires instance { instance_of_routes routes.old ≡ instance_of cvrp.now }
 {
-    if let Ok(report) = improve(rt.alloc(), cvrp, routes, 5, 3) {
+    if let Ok(report) = shorten(rt.alloc(), cvrp, routes) {
         return Ok(report);
     }
-    show_refused(rt, "improve two", routes.lists())?;
-    Ok(improve(rt.alloc(), cvrp, routes, 5, 3)?)
+    tell_kept(rt, "improve two", &routes.lists())?;
+    Ok(shorten(rt.alloc(), cvrp, routes)?)
+}
+
+/// Tells two savings routes and improves them, and then tells the cost and the routes.
+fn show_both_improved(
+    rt: &HostRuntime,
+    cvrp: &Cvrp<'_>,
+    routes: &mut Routes<'_>,
+) -> Result<(), Stopped>
+    requires instance { instance_of_routes routes.old ≡ instance_of cvrp.now }
+{
+    tell(rt, "savings", &routes.lists())?;
+    let report = improve_both(rt, cvrp, routes)?;
+    println!(rt; "improve two: cost {}", report.after)?;
+    tell(rt, "improved", &routes.lists())
 }
 
 /// Makes two savings routes of a problem, and improves them.
 fn improve_two(rt: &HostRuntime, problem: &Problem) -> Result<(), Stopped> {
     let Some(cvrp) = Cvrp::of(problem) else {
-        return Err(Stopped);
+        return Err(Stopped::Otherwise);
     };
-    let mut routes = saved_by_three(rt, &cvrp)?;
-    let report = improve_both(rt, &cvrp, &mut routes)?;
-    println!(rt; "improve two: cost {}", report.after)?;
-    show(rt, "improved", routes.lists())
+    let mut routes = saved_over(rt, &cvrp, 3)?;
+    show_both_improved(rt, &cvrp, &mut routes)
 }
 
 /// Makes the calls with one vehicle.

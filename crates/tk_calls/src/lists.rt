@@ -4,7 +4,7 @@ ghost use Rattle.std.specs.Prelude.{◌≡◌, ◌<◌, IfOk};
 use crate::again;
 use crate::instances::SQUARE;
 use crate::readers::problem_of;
-use crate::refusals::{Refusal, Stopped};
+use crate::refusals::Stopped;
 use tk_metric::{BothAxes, Metric, Near, Planar, Table, near_scan, near_sweep, near_tree};
 use tk_text::{CANDIDATE_LIMIT, Problem};
 
@@ -13,11 +13,23 @@ pub fn near_of<M: Metric>(rt: &HostRuntime, metric: &M, k: u32) -> Result<Near, 
     ensures size { IfOk result (λ near. near.size ≡ M.size_of metric.now) }
 {
     if k < 1 || k > CANDIDATE_LIMIT || k >= metric.size() {
-        return Err(Stopped);
+        return Err(Stopped::Otherwise);
     }
-    let near = again!(rt, "near_scan", near_scan(rt.alloc(), metric, k));
-    println!(rt; "near_scan: {} lists of {}", near.size(), near.width())?;
+    let alloc = rt.alloc();
+    let near = again!(rt, "near_scan", near_scan(alloc, metric, k))?;
+    show_sizes(rt, &near)?;
     Ok(near)
+}
+
+/// Tells the number and the length of lists by a scan.
+fn show_sizes(rt: &HostRuntime, near: &Near) -> Result<(), Stopped> {
+    println!(rt; "near_scan: {} lists of {}", near.size(), near.width())?;
+    Ok(())
+}
+
+/// Tells the lists that a call answers, if it has an answer.
+fn show_answer(rt: &HostRuntime, name: &str, answer: Result<Near, Stopped>) -> Result<(), Stopped> {
+    show(rt, name, &answer?)
 }
 
 /// Tells the lists.
@@ -34,33 +46,45 @@ fn show(rt: &HostRuntime, name: &str, near: &Near) -> Result<(), Stopped> {
 fn scan<P: Planar>(rt: &HostRuntime, places: &P) -> Result<(), Stopped>
     requires { 2 < P.size_of places.now }
 {
-    let near = again!(rt, "near_scan", near_scan(rt.alloc(), places, 2));
-    show(rt, "near_scan", &near)
+    let alloc = rt.alloc();
+    show_answer(
+        rt,
+        "near_scan",
+        again!(rt, "near_scan", near_scan(alloc, places, 2)),
+    )
 }
 
 /// Lists of two by a sweep.
 fn sweep<P: Planar>(rt: &HostRuntime, places: &P) -> Result<(), Stopped>
     requires { 2 < P.size_of places.now }
 {
-    let near = again!(rt, "near_sweep", near_sweep(rt.alloc(), places, 2));
-    show(rt, "near_sweep", &near)
+    let alloc = rt.alloc();
+    show_answer(
+        rt,
+        "near_sweep",
+        again!(rt, "near_sweep", near_sweep(alloc, places, 2)),
+    )
 }
 
 /// Lists of two by a tree.
 fn search_tree<P: BothAxes>(rt: &HostRuntime, places: &P) -> Result<(), Stopped>
     requires { 2 < P.size_of places.now }
 {
-    let near = again!(rt, "near_tree", near_tree(rt.alloc(), places, 2));
-    show(rt, "near_tree", &near)
+    let alloc = rt.alloc();
+    show_answer(
+        rt,
+        "near_tree",
+        again!(rt, "near_tree", near_tree(alloc, places, 2)),
+    )
 }
 
 /// Finds the near lists of a problem in the plane in each way.
 fn find_each(rt: &HostRuntime, problem: &Problem) -> Result<(), Stopped> {
     let Table::Planes(planes) = Table::of(problem) else {
-        return Err(Stopped);
+        return Err(Stopped::Otherwise);
     };
     if planes.size() <= 2 {
-        return Err(Stopped);
+        return Err(Stopped::Otherwise);
     }
     scan(rt, &planes)?;
     sweep(rt, &planes)?;

@@ -6,6 +6,7 @@
 
 mod improving;
 mod instances;
+mod lines;
 mod lists;
 mod readers;
 mod refusals;
@@ -21,7 +22,7 @@ use std::process::ExitCode;
 fn main(rt: HostRuntime) -> ExitCode {
     match make_calls(&rt) {
         Ok(()) => ExitCode::SUCCESS,
-        Err(Stopped) => ExitCode::FAILURE,
+        Err(_) => ExitCode::FAILURE,
     }
 }
 

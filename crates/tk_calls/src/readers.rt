@@ -1,10 +1,11 @@
 //! The readers of texts.
 use crate::again;
 use crate::instances::{PARAMETERS, SOLUTION, SQUARE, TOUR};
-use crate::refusals::{Refusal, Stopped};
+use crate::lines::{tell, tell_number};
+use crate::refusals::Stopped;
 use std::alloc::Global;
-use tk_engines::read_params;
-use tk_text::{FromRead, Problem, TextFault, read_problem, read_solution, read_tour};
+use tk_engines::{Params, read_params};
+use tk_text::{FromRead, Problem, SolText, TextFault, read_problem, read_solution, read_tour};
 
 /// Reads a problem.
 fn read(alloc: Global, text: &[u8]) -> Result<Problem, TextFault> {
@@ -13,16 +14,23 @@ fn read(alloc: Global, text: &[u8]) -> Result<Problem, TextFault> {
 
 /// A problem, whose size is told.
 pub fn problem_of(rt: &HostRuntime, text: &[u8]) -> Result<Problem, Stopped> {
-    let problem = again!(rt, "read_problem", read(rt.alloc(), text));
-    println!(rt; "read_problem: {} nodes", problem.n)?;
+    let alloc = rt.alloc();
+    let problem = again!(rt, "read_problem", read(alloc, text))?;
+    tell_number(rt, "read_problem", &problem.n, "nodes")?;
     Ok(problem)
 }
 
 /// Reads a tour.
 fn call_for_tour(rt: &HostRuntime) -> Result<(), Stopped> {
     let alloc = rt.alloc();
-    let tour = again!(rt, "read_tour", read_tour(alloc, &mut FromRead::new(TOUR)));
-    println!(rt; "read_tour: {:?}", tour.cities)?;
+    let tour = again!(rt, "read_tour", read_tour(alloc, &mut FromRead::new(TOUR)))?;
+    tell(rt, "read_tour", &tour.cities)
+}
+
+/// Tells what a solution says.
+fn show_solution(rt: &HostRuntime, solution: &SolText) -> Result<(), Stopped> {
+    let SolText { routes, cost } = solution;
+    println!(rt; "read_solution: {routes:?}, cost {cost}")?;
     Ok(())
 }
 
@@ -33,11 +41,14 @@ fn call_for_solution(rt: &HostRuntime) -> Result<(), Stopped> {
         rt,
         "read_solution",
         read_solution(alloc, &mut FromRead::new(SOLUTION))
-    );
-    println!(rt;
-        "read_solution: {:?}, cost {}",
-        solution.routes, solution.cost
     )?;
+    show_solution(rt, &solution)
+}
+
+/// Tells some values of parameters.
+fn show_params(rt: &HostRuntime, params: &Params) -> Result<(), Stopped> {
+    let (file, runs, ignored) = (params.problem_file(), params.runs(), params.ignored());
+    println!(rt; "read_params: {file}, {runs} runs, {ignored:?} ignored")?;
     Ok(())
 }
 
@@ -48,10 +59,8 @@ fn call_for_params(rt: &HostRuntime) -> Result<(), Stopped> {
         rt,
         "read_params",
         read_params(alloc, &mut FromRead::new(PARAMETERS))
-    );
-    let (file, runs, ignored) = (params.problem_file(), params.runs(), params.ignored());
-    println!(rt; "read_params: {file}, {runs} runs, {ignored:?} ignored")?;
-    Ok(())
+    )?;
+    show_params(rt, &params)
 }
 
 /// Reads a text of each form.

@@ -1,87 +1,103 @@
 //! Calls that are made again where memory was refused.
+ghost use Rattle.std.specs.Prelude.{◌≡◌, IfOk, Ok};
+
 use std::alloc::AllocError;
 use std::io;
 use tk_engines::{ParamFault, ParamKind};
 use tk_text::{TextFault, TextKind};
 use tk_tour::TourFault;
 
-/// A call had another answer than one of its own or a refusal, or a line could not be printed.
-#[derive(Drop)]
-pub struct Stopped;
-
-/// What a call answers in place of a value.
-pub trait Refusal {
-    /// Whether this says that memory was refused.
-    fn is_no_memory(&self) -> bool;
+/// Why a call has no value. One that was refused memory is made again.
+#[derive(Clone, Copy)]
+pub enum Stopped {
+    /// Memory was refused.
+    NoMemory,
+    /// The call has another fault, or a line could not be printed.
+    Otherwise,
 }
 
-impl Refusal for AllocError {
-    fn is_no_memory(&self) -> bool {
-        true
-    }
-}
-
-impl Refusal for TextFault {
-    fn is_no_memory(&self) -> bool {
-        self.kind == TextKind::NoMemory
-    }
-}
-
-impl Refusal for ParamFault {
-    fn is_no_memory(&self) -> bool {
-        self.kind == ParamKind::NoMemory
-    }
-}
-
-impl Refusal for TourFault {
-    fn is_no_memory(&self) -> bool {
-        *self == TourFault::NoMemory
+impl Stopped {
+    /// Of a call that says whether it was refused memory.
+    fn of_call(is_no_memory: bool) -> Stopped {
+        if is_no_memory {
+            Stopped::NoMemory
+        } else {
+            Stopped::Otherwise
+        }
     }
 }
 
 impl From<AllocError> for Stopped {
     fn from(_: AllocError) -> Stopped {
-        Stopped
+        Stopped::NoMemory
     }
 }
 
 impl From<TextFault> for Stopped {
-    fn from(_: TextFault) -> Stopped {
-        Stopped
+    fn from(fault: TextFault) -> Stopped {
+        Stopped::of_call(fault.kind == TextKind::NoMemory)
     }
 }
 
 impl From<ParamFault> for Stopped {
-    fn from(_: ParamFault) -> Stopped {
-        Stopped
+    fn from(fault: ParamFault) -> Stopped {
+        Stopped::of_call(fault.kind == ParamKind::NoMemory)
     }
 }
 
 impl From<TourFault> for Stopped {
-    fn from(_: TourFault) -> Stopped {
-        Stopped
+    fn from(fault: TourFault) -> Stopped {
+        Stopped::of_call(fault == TourFault::NoMemory)
     }
 }
 
 impl From<io::Error> for Stopped {
     fn from(_: io::Error) -> Stopped {
-        Stopped
+        Stopped::Otherwise
     }
 }
 
-/// The value of a call. If the call is refused memory, this is told under its name, and it is made again.
+/// Tells that the call of this name was refused memory. At any other fault the calls end.
+pub fn tell_refused<E: Into<Stopped>>(
+    rt: &HostRuntime,
+    name: &str,
+    fault: E,
+) -> Result<(), Stopped> {
+    match fault.into() {
+        Stopped::NoMemory => println!(rt; "{name}: out of memory")?,
+        Stopped::Otherwise => return Err(Stopped::Otherwise),
+    }
+    Ok(())
+}
+
+/// The value of a call, or why it has none.
+pub fn or_stopped<V, E: Into<Stopped>>(answer: Result<V, E>) -> Result<V, Stopped>
+    ensures { IfOk result (λ value. answer ≡ Ok value) }
+{
+    match answer {
+        Ok(value) => Ok(value),
+        Err(fault) => Err(fault.into()),
+    }
+}
+
+/// Makes a call. If it is refused memory, this is told under its name, and it is made again.
 #[macro_export]
 macro_rules! again {
     ($rt:expr, $name:literal, $call:expr) => {
         match $call {
-            Ok(value) => value,
-            Err(fault) => {
-                if !fault.is_no_memory() {
-                    return Err(Stopped);
-                }
-                println!($rt; "{}: out of memory", $name)?;
-                $call?
-            }
+            Ok(value) => Ok(value),
+            Err(fault) => match $crate::refusals::tell_refused($rt, $name, fault) {
+                Ok(()) => $crate::refusals::or_stopped($call),
+                Err(stopped) => Err(stopped),
+            },
         }
+    };
+}
+
+/// Makes a call as `again` does, and tells its value under its name.
+#[macro_export]
+macro_rules! call {
+    ($rt:expr, $name:literal, $call:expr) => {
+        $crate::lines::tell_answer($rt, $name, $crate::again!($rt, $name, $call))
     };
 }

@@ -1,14 +1,16 @@
 //! Searches. What is built before the first trial takes memory, and trials take none.
 use crate::again;
 use crate::instances::{FIVE, ROW, SQUARE};
+use crate::lines::mark;
 use crate::lists::near_of;
 use crate::readers::problem_of;
-use crate::refusals::{Refusal, Stopped};
+use crate::refusals::Stopped;
 use rand_core::SeedableRng;
 use rand_pcg::Pcg32;
 use std::alloc::Global;
-use tk_build::{Search, SearchRules, Totals};
+use tk_build::{Search, SearchRules};
 use tk_metric::{Metric, Near, Table};
+use tk_text::Problem;
 use tk_tour::{ArrayTour, TourFault, TourStore};
 
 /// A search of that many trials from a tour, over so many candidates.
@@ -19,6 +21,28 @@ struct Task<'a> {
     candidates: u32,
     trials: u32,
 }
+
+/// Searches on four, five and eight cities.
+const TASKS: [Task<'static>; 3] = [
+    Task {
+        problem: SQUARE,
+        start: &[1, 2, 3, 4],
+        candidates: 3,
+        trials: 1,
+    },
+    Task {
+        problem: FIVE,
+        start: &[1, 2, 3, 4, 5],
+        candidates: 1,
+        trials: 1,
+    },
+    Task {
+        problem: ROW,
+        start: &[1, 2, 3, 4, 5, 6, 7, 8],
+        candidates: 5,
+        trials: 50,
+    },
+];
 
 /// A search from a list of cities.
 fn begin<'a, M: Metric>(
@@ -42,61 +66,63 @@ fn begin<'a, M: Metric>(
 }
 
 /// Tells what a search has counted, and its best tour.
-fn show(rt: &HostRuntime, name: &str, totals: Totals, best: &[u32]) -> Result<(), Stopped> {
+fn show<M: Metric>(rt: &HostRuntime, name: &str, search: &Search<M>) -> Result<(), Stopped> {
+    let (totals, best) = (search.totals(), search.best());
     println!(rt; "{name}: {totals:?}, {best:?}")?;
     Ok(())
 }
 
+/// Makes so many trials.
+fn make_trials<M: Metric>(search: &mut Search<M>, count: u32) {
+    let mut rng = Pcg32::seed_from_u64(1);
+    for _ in 0..count {
+        let _ = search.trial(&mut rng);
+    }
+}
+
+/// Makes the trials of a search that is built.
+fn search<M: Metric>(rt: &HostRuntime, search: &mut Search<M>, trials: u32) -> Result<(), Stopped> {
+    show(rt, "Search::new", search)?;
+    mark(rt, "built")?;
+    make_trials(search, trials);
+    show(rt, "trial", search)?;
+    mark(rt, "done")
+}
+
+/// A search of a task.
+fn begun<'a, M: Metric>(
+    rt: &HostRuntime,
+    metric: &'a M,
+    near: &'a Near,
+    task: &Task<'_>,
+) -> Result<Search<'a, M>, Stopped> {
+    let alloc = rt.alloc();
+    again!(rt, "Search::new", begin(alloc, metric, near, task.start))
+}
+
 /// Makes a search, and then its trials.
-fn search<M: Metric>(
+fn search_from<M: Metric>(
     rt: &HostRuntime,
     metric: &M,
     near: &Near,
     task: &Task<'_>,
 ) -> Result<(), Stopped> {
-    let mut search = again!(
-        rt,
-        "Search::new",
-        begin(rt.alloc(), metric, near, task.start)
-    );
-    show(rt, "Search::new", search.totals(), search.best())?;
-    let mut rng = Pcg32::seed_from_u64(1);
-    println!(rt; "built")?;
-    for _ in 0..task.trials {
-        let _ = search.trial(&mut rng);
-    }
-    show(rt, "trial", search.totals(), search.best())?;
-    println!(rt; "done")?;
-    Ok(())
+    let mut begun = begun(rt, metric, near, task)?;
+    search(rt, &mut begun, task.trials)
 }
 
-/// Searches on four, five and eight cities.
+/// Searches among the cities of a task's problem.
+fn search_in(rt: &HostRuntime, problem: &Problem, task: &Task<'_>) -> Result<(), Stopped> {
+    let table = Table::of(problem);
+    let near = near_of(rt, &table, task.candidates)?;
+    search_from(rt, &table, &near, task)
+}
+
+/// Makes the searches.
 pub fn make_calls(rt: &HostRuntime) -> Result<(), Stopped> {
-    let tasks = [
-        Task {
-            problem: SQUARE,
-            start: &[1, 2, 3, 4],
-            candidates: 3,
-            trials: 1,
-        },
-        Task {
-            problem: FIVE,
-            start: &[1, 2, 3, 4, 5],
-            candidates: 1,
-            trials: 1,
-        },
-        Task {
-            problem: ROW,
-            start: &[1, 2, 3, 4, 5, 6, 7, 8],
-            candidates: 5,
-            trials: 50,
-        },
-    ];
-    for task in &tasks {
+    for task in &TASKS {
         let problem = problem_of(rt, task.problem)?;
-        let table = Table::of(&problem);
-        let near = near_of(rt, &table, task.candidates)?;
-        search(rt, &table, &near, task)?;
+        search_in(rt, &problem, task)?;
     }
     Ok(())
 }

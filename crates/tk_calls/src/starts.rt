@@ -1,33 +1,44 @@
 //! Tours to begin with.
 ghost use Rattle.std.specs.Prelude.{◌≡◌, ◌≤◌};
-ghost use Rattle.tk_metric.specs.Tables.{table_size};
 
-use crate::again;
+use crate::call;
 use crate::instances::{ROUTING, SQUARE};
 use crate::lists::near_of;
 use crate::readers::problem_of;
-use crate::refusals::{Refusal, Stopped};
+use crate::refusals::Stopped;
 use tk_build::{nearest, savings_lists, savings_tour};
 use tk_metric::{Metric, Near, Table};
 use tk_text::Problem;
 
 /// A nearest-neighbour tour.
-fn start_nearest(rt: &HostRuntime, table: &Table<'_>) -> Result<(), Stopped>
-    requires { 1 ≤ table_size table.now }
+fn start_nearest<M: Metric>(rt: &HostRuntime, metric: &M) -> Result<(), Stopped>
+    requires { 1 ≤ M.size_of metric.now }
 {
-    let tour = again!(rt, "nearest", nearest(rt.alloc(), table, 1));
-    println!(rt; "nearest: {tour:?}")?;
-    Ok(())
+    let alloc = rt.alloc();
+    call!(rt, "nearest", nearest(alloc, metric, 1))
 }
 
 /// A savings tour.
-fn start_by_savings(rt: &HostRuntime, table: &Table<'_>, near: &Near) -> Result<(), Stopped>
-    requires some { 1 ≤ table_size table.now }
-    requires size { near.now.size ≡ table_size table.now }
+fn start_by_savings<M: Metric>(rt: &HostRuntime, metric: &M, near: &Near) -> Result<(), Stopped>
+    requires some { 1 ≤ M.size_of metric.now }
+    requires size { near.now.size ≡ M.size_of metric.now }
 {
-    let tour = again!(rt, "savings_tour", savings_tour(rt.alloc(), table, near));
-    println!(rt; "savings_tour: {tour:?}")?;
-    Ok(())
+    let alloc = rt.alloc();
+    call!(rt, "savings_tour", savings_tour(alloc, metric, near))
+}
+
+/// Lists of the cities of a problem of five.
+fn join<M: Metric>(rt: &HostRuntime, metric: &M, near: &Near) -> Result<(), Stopped>
+    requires cities { M.size_of metric.now ≡ 5 }
+    requires size { near.now.size ≡ M.size_of metric.now }
+{
+    let alloc = rt.alloc();
+    let loads = [0, 1, 1, 1, 1];
+    call!(
+        rt,
+        "savings_lists",
+        savings_lists(alloc, metric, 1, &loads, 4, near)
+    )
 }
 
 /// A nearest-neighbour tour and a savings tour of a problem.
@@ -35,7 +46,7 @@ fn make_tours(rt: &HostRuntime, problem: &Problem) -> Result<(), Stopped> {
     let table = Table::of(problem);
     let near = near_of(rt, &table, 3)?;
     if table.size() < 1 {
-        return Err(Stopped);
+        return Err(Stopped::Otherwise);
     }
     start_nearest(rt, &table)?;
     start_by_savings(rt, &table, &near)
@@ -45,17 +56,10 @@ fn make_tours(rt: &HostRuntime, problem: &Problem) -> Result<(), Stopped> {
 fn make_lists(rt: &HostRuntime, problem: &Problem) -> Result<(), Stopped> {
     let table = Table::of(problem);
     let near = near_of(rt, &table, 4)?;
-    let loads = [0, 1, 1, 1, 1];
     if table.size() != 5 {
-        return Err(Stopped);
+        return Err(Stopped::Otherwise);
     }
-    let lists = again!(
-        rt,
-        "savings_lists",
-        savings_lists(rt.alloc(), &table, 1, &loads, 4, &near)
-    );
-    println!(rt; "savings_lists: {lists:?}")?;
-    Ok(())
+    join(rt, &table, &near)
 }
 
 /// Starts a tour in each way.

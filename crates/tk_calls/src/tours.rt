@@ -1,6 +1,9 @@
 //! Tours and the queue of cities that are awake.
-use crate::again;
-use crate::refusals::{Refusal, Stopped};
+ghost use Rattle.std.specs.Prelude.{◌≡◌, IfOk};
+
+use crate::lines::{tell, tell_number};
+use crate::refusals::Stopped;
+use crate::{again, call};
 use std::alloc::{AllocError, Global};
 use tk_descent::{Steps, Waking};
 use tk_segments::SegmentTour;
@@ -10,7 +13,7 @@ use tk_tour::{ArrayTour, Flip, JournalTour, TourStore, check};
 pub fn flip_after<S: TourStore>(tour: &mut S, a: u32, c: u32) -> Result<Flip, Stopped> {
     let n = tour.size();
     if a < 1 || a > n || c < 1 || c > n || a == c {
-        return Err(Stopped);
+        return Err(Stopped::Otherwise);
     }
     let (b, d) = (tour.next(a), tour.next(c));
     Ok(tour.flip(a, b, c, d))
@@ -26,41 +29,86 @@ fn journal(alloc: Global, slots: u32) -> Result<JournalTour<ArrayTour>, AllocErr
 
 /// A journal tour of eight cities, with room for so many flips.
 pub fn journal_of(rt: &HostRuntime, slots: u32) -> Result<JournalTour<ArrayTour>, Stopped> {
-    let tour = again!(rt, "JournalTour::new", journal(rt.alloc(), slots));
-    println!(rt; "JournalTour::new: {:?}", tour.tour().order())?;
+    let alloc = rt.alloc();
+    let tour = again!(rt, "JournalTour::new", journal(alloc, slots))?;
+    tell(rt, "JournalTour::new", &tour.tour().order())?;
     Ok(tour)
 }
 
 /// An array tour of a list.
 pub fn tour_of(rt: &HostRuntime, cities: &[u32]) -> Result<ArrayTour, Stopped> {
-    let tour = again!(rt, "from_list", ArrayTour::from_list(rt.alloc(), cities));
-    println!(rt; "from_list: {:?}", tour.order())?;
+    let alloc = rt.alloc();
+    let tour = again!(rt, "from_list", ArrayTour::from_list(alloc, cities))?;
+    tell(rt, "from_list", &tour.order())?;
     Ok(tour)
+}
+
+/// Tells a tour as it is printed.
+pub fn show_canonical(rt: &HostRuntime, tour: &ArrayTour) -> Result<(), Stopped> {
+    let alloc = rt.alloc();
+    call!(rt, "canonical", tour.canonical(alloc))
+}
+
+/// Checks a list of four cities.
+fn check_list(rt: &HostRuntime, cities: &[u32]) -> Result<(), Stopped> {
+    let alloc = rt.alloc();
+    call!(rt, "check", check(alloc, 4, cities))
+}
+
+/// Prints a tour of which a part is reversed.
+fn print_flipped(rt: &HostRuntime) -> Result<(), Stopped> {
+    let mut tour = tour_of(rt, &[1, 2, 3, 4])?;
+    let _ = flip_after(&mut tour, 1, 3)?;
+    show_canonical(rt, &tour)
+}
+
+/// Makes a tour that is seen through segments.
+fn make_segments(rt: &HostRuntime) -> Result<(), Stopped> {
+    let alloc = rt.alloc();
+    let tour = again!(
+        rt,
+        "SegmentTour::from_list",
+        SegmentTour::from_list(alloc, &[1, 2, 3, 4])
+    )?;
+    tell_number(rt, "SegmentTour::from_list", &tour.size(), "cities")
+}
+
+/// A queue for so many cities, all of which sleep.
+pub fn waking_of(rt: &HostRuntime, size: u32) -> Result<Waking, Stopped>
+    ensures { IfOk result (λ waking. waking.size ≡ size) }
+{
+    let alloc = rt.alloc();
+    again!(rt, "Waking::new", Waking::new(alloc, size))
+}
+
+/// Wakes three cities, and one of them again, and takes them from their queue, until it has no more.
+fn take_three(waking: &mut Waking) -> [Option<u32>; 4]
+    requires { waking.old.size ≡ 3 }
+{
+    waking.wake_all();
+    waking.wake(2);
+    [waking.take(), waking.take(), waking.take(), waking.take()]
+}
+
+/// Makes a queue for three cities, and takes each of them from it.
+fn wake_three(rt: &HostRuntime) -> Result<(), Stopped> {
+    let mut waking = waking_of(rt, 3)?;
+    tell(rt, "Waking::new", &take_three(&mut waking))
+}
+
+/// Makes room for the steps of three cities.
+fn make_steps(rt: &HostRuntime) -> Result<(), Stopped> {
+    let alloc = rt.alloc();
+    let _ = again!(rt, "Steps::new", Steps::new(alloc, 3))?;
+    tell_number(rt, "Steps::new", &3, "cities")
 }
 
 /// Checks a list and a tour, prints a tour, wakes three cities, and makes room for steps.
 pub fn make_calls(rt: &HostRuntime) -> Result<(), Stopped> {
-    let alloc = rt.alloc();
-    for cities in [[1, 2, 3, 4], [1, 2, 2, 4]] {
-        let verdict = again!(rt, "check", check(alloc, 4, &cities));
-        println!(rt; "check: {verdict:?}")?;
-    }
-    let mut tour = tour_of(rt, &[1, 2, 3, 4])?;
-    let _ = flip_after(&mut tour, 1, 3)?;
-    let printed = again!(rt, "canonical", tour.canonical(alloc));
-    println!(rt; "canonical: {printed:?}")?;
-    let seen = again!(
-        rt,
-        "SegmentTour::from_list",
-        SegmentTour::from_list(alloc, &[1, 2, 3, 4])
-    );
-    println!(rt; "SegmentTour::from_list: {} cities", seen.size())?;
-    let mut waking = again!(rt, "Waking::new", Waking::new(alloc, 3));
-    waking.wake_all();
-    waking.wake(2);
-    let awake = [waking.take(), waking.take(), waking.take(), waking.take()];
-    println!(rt; "Waking::new: {awake:?}")?;
-    let _ = again!(rt, "Steps::new", Steps::new(alloc, 3));
-    println!(rt; "Steps::new: 3 cities")?;
-    Ok(())
+    check_list(rt, &[1, 2, 3, 4])?;
+    check_list(rt, &[1, 2, 2, 4])?;
+    print_flipped(rt)?;
+    make_segments(rt)?;
+    wake_three(rt)?;
+    make_steps(rt)
 }

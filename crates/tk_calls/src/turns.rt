@@ -1,54 +1,72 @@
 //! Looks, moves, descents, kicks and flips. What is built before them takes memory, and they take none.
-ghost use Rattle.std.specs.Prelude.{◌≡◌, IfOk, pos, length};
-ghost use Rattle.tk_metric.specs.Tables.{table_size, table_distance};
+ghost use Rattle.std.specs.Prelude.{◌≡◌, ◌≤◌, length, pos};
 ghost use Rattle.tk_tour.specs.ArrayTours.{order_of};
 ghost use Rattle.tk_tour.specs.Tour.{tour_length};
 
-use crate::again;
 use crate::instances::SQUARE;
+use crate::lines::{mark, tell, tell_number, tell_tour};
 use crate::lists::near_of;
 use crate::readers::problem_of;
-use crate::refusals::{Refusal, Stopped};
-use crate::tours::{flip_after, journal_of, tour_of};
+use crate::refusals::Stopped;
+use crate::tours::{flip_after, journal_of, show_canonical, tour_of, waking_of};
 use tk_build::{Cuts, kick};
 use tk_descent::{Probe, Report, Waking, descend, look, make};
 use tk_metric::{Metric, Near, Table};
 use tk_text::Problem;
 use tk_tour::{ArrayTour, JournalTour, TourStore, length};
 
-/// The length of a tour of all cities of a table.
-fn length_of(table: &Table<'_>, tour: &ArrayTour) -> i64
-    requires { table_size table.now ≡ length (order_of tour.now) }
-    ensures { result ≡ pos (tour_length (table_distance table.now) (order_of tour.now)) }
+/// Makes the move that a look from city 1 offers.
+fn look_and_make<M: Metric>(
+    rt: &HostRuntime,
+    tour: &mut ArrayTour,
+    metric: &M,
+    near: &Near,
+) -> Result<(), Stopped>
+    requires some { 1 ≤ length (order_of tour.old) }
+    requires metric { M.size_of metric.now ≡ length (order_of tour.old) }
+    requires near { near.now.size ≡ length (order_of tour.old) }
 {
-    length(table, tour.order())
+    mark(rt, "built")?;
+    let offer = look(tour, &mut Probe::new(metric), near, 3, 1);
+    tell(rt, "look", &offer)?;
+    if let Some(offer) = offer {
+        make(tour, &offer);
+    }
+    tell(rt, "make", &tour.order())?;
+    mark(rt, "done")
 }
 
 /// Takes the crossing out of the square's tour, by one look and its move.
-fn look_and_make(rt: &HostRuntime, table: &Table<'_>, near: &Near) -> Result<(), Stopped> {
+fn look_at_square<M: Metric>(rt: &HostRuntime, metric: &M, near: &Near) -> Result<(), Stopped> {
     let mut tour = tour_of(rt, &[1, 2, 3, 4])?;
-    let mut gains = Probe::new(table);
-    if tour.size() != 4 || table.size() != 4 || near.size() != 4 {
-        return Err(Stopped);
+    if tour.size() != 4 || metric.size() != 4 || near.size() != 4 {
+        return Err(Stopped::Otherwise);
     }
-    println!(rt; "built")?;
-    let offer = look(&tour, &mut gains, near, 3, 1);
-    println!(rt; "look: {offer:?}")?;
-    if let Some(offer) = offer {
-        make(&mut tour, &offer);
-    }
-    println!(rt; "make: {:?}", tour.order())?;
-    println!(rt; "done")?;
-    Ok(())
+    look_and_make(rt, &mut tour, metric, near)
 }
 
-/// A queue for so many cities, all of which sleep.
-fn waking_of(rt: &HostRuntime, size: u32) -> Result<Waking, Stopped>
-    ensures { IfOk result (λ waking. waking.size ≡ size) }
+/// The length of a tour of all cities.
+fn length_of<M: Metric>(metric: &M, tour: &ArrayTour) -> i64
+    requires { M.size_of metric.now ≡ length (order_of tour.now) }
+    ensures { result ≡ pos (tour_length (M.distance metric.now) (order_of tour.now)) }
 {
-    let waking = again!(rt, "Waking::new", Waking::new(rt.alloc(), size));
-    println!(rt; "Waking::new: {} awake", waking.len())?;
-    Ok(waking)
+    length(metric, tour.order())
+}
+
+/// A descent with all cities awake.
+fn descend_awake<M: Metric>(
+    tour: &mut ArrayTour,
+    waking: &mut Waking,
+    metric: &M,
+    near: &Near,
+) -> Report
+    requires metric { M.size_of metric.now ≡ length (order_of tour.old) }
+    requires near { near.now.size ≡ length (order_of tour.old) }
+    requires waking { waking.old.size ≡ length (order_of tour.old) }
+{
+    waking.wake_all();
+    let before = length_of(metric, tour);
+    descend(tour, &mut Probe::new(metric), near, waking, 3, before)
 }
 
 /// Tells what a descent has done.
@@ -60,106 +78,142 @@ fn show(rt: &HostRuntime, report: &Report) -> Result<(), Stopped> {
     Ok(())
 }
 
-/// The same by a descent.
-fn descend_square(rt: &HostRuntime, table: &Table<'_>, near: &Near) -> Result<(), Stopped> {
+/// Makes and tells a descent of a tour, with a queue of cities that sleep.
+fn wake_and_descend<M: Metric>(
+    rt: &HostRuntime,
+    tour: &mut ArrayTour,
+    waking: &mut Waking,
+    metric: &M,
+    near: &Near,
+) -> Result<(), Stopped>
+    requires metric { M.size_of metric.now ≡ length (order_of tour.old) }
+    requires near { near.now.size ≡ length (order_of tour.old) }
+    requires waking { waking.old.size ≡ length (order_of tour.old) }
+{
+    tell_number(rt, "Waking::new", &waking.len(), "awake")?;
+    mark(rt, "built")?;
+    show(rt, &descend_awake(tour, waking, metric, near))?;
+    mark(rt, "done")
+}
+
+/// Takes the crossing out by a descent.
+fn descend_square<M: Metric>(rt: &HostRuntime, metric: &M, near: &Near) -> Result<(), Stopped> {
     let mut tour = tour_of(rt, &[1, 2, 3, 4])?;
-    let mut waking = waking_of(rt, table.size())?;
-    if tour.size() != table.size() || near.size() != table.size() {
-        return Err(Stopped);
+    let mut waking = waking_of(rt, metric.size())?;
+    if tour.size() != metric.size() || near.size() != metric.size() {
+        return Err(Stopped::Otherwise);
     }
-    println!(rt; "built")?;
-    waking.wake_all();
-    let mut gains = Probe::new(table);
-    let before = length_of(table, &tour);
-    let report = descend(&mut tour, &mut gains, near, &mut waking, 3, before);
-    show(rt, &report)?;
-    println!(rt; "done")?;
-    Ok(())
+    wake_and_descend(rt, &mut tour, &mut waking, metric, near)
 }
 
 /// Flips and undoes a flip.
 fn flip_and_undo(rt: &HostRuntime, tour: &mut ArrayTour) -> Result<(), Stopped> {
     let flip = flip_after(tour, 1, 3)?;
-    println!(rt; "flip: {:?}, {} swaps", tour.order(), tour.swaps())?;
+    tell_tour(rt, "flip", tour.order(), tour.swaps(), "swaps")?;
     if flip.first < 1 || flip.first > tour.size() || flip.count > tour.size() {
-        return Err(Stopped);
+        return Err(Stopped::Otherwise);
     }
     tour.undo(&flip);
-    println!(rt; "undo: {:?}, {} swaps", tour.order(), tour.undo_swaps())?;
-    Ok(())
+    tell_tour(rt, "undo", tour.order(), tour.undo_swaps(), "swaps")
 }
 
 /// Kicks eight cities.
 fn kick_eight(eight: &mut ArrayTour) -> Result<(), Stopped> {
     if eight.size() != 8 {
-        return Err(Stopped);
+        return Err(Stopped::Otherwise);
     }
     kick(eight, Cuts { p: 2, q: 4, r: 6 });
     Ok(())
 }
 
-/// Tells a tour as it is printed.
-fn show_canonical(rt: &HostRuntime, tour: &ArrayTour) -> Result<(), Stopped> {
-    let printed = again!(rt, "canonical", tour.canonical(rt.alloc()));
-    println!(rt; "canonical: {printed:?}")?;
+/// Flips and undoes a flip of four cities, kicks eight, and tells these as they are printed.
+fn flip_and_kick(
+    rt: &HostRuntime,
+    four: &mut ArrayTour,
+    eight: &mut ArrayTour,
+) -> Result<(), Stopped> {
+    mark(rt, "built")?;
+    flip_and_undo(rt, four)?;
+    kick_eight(eight)?;
+    mark(rt, "done")?;
+    show_canonical(rt, eight)
+}
+
+/// Makes the calls that turn parts of a tour.
+fn turn_parts(rt: &HostRuntime) -> Result<(), Stopped> {
+    let mut four = tour_of(rt, &[1, 2, 3, 4])?;
+    let mut eight = tour_of(rt, &[1, 2, 3, 4, 5, 6, 7, 8])?;
+    flip_and_kick(rt, &mut four, &mut eight)
+}
+
+/// Flips twice.
+fn flip_twice(rt: &HostRuntime, tour: &mut JournalTour<ArrayTour>) -> Result<(), Stopped> {
+    let _ = flip_after(tour, 1, 7)?;
+    let _ = flip_after(tour, 2, 4)?;
+    tell_tour(rt, "flip", tour.tour().order(), tour.flips(), "flips")
+}
+
+/// Goes back by the journal, as far as it has the flips.
+fn rewind(rt: &HostRuntime, tour: &mut JournalTour<ArrayTour>) -> Result<(), Stopped> {
+    let is_back = tour.rewind();
+    let array = tour.tour();
+    let (cities, swaps) = (array.order(), array.undo_swaps());
+    println!(rt; "rewind: {is_back}, {cities:?}, {swaps} swaps")?;
     Ok(())
 }
 
-/// Flips and undoes a flip, and kicks.
-fn flip_and_kick(rt: &HostRuntime) -> Result<(), Stopped> {
-    let mut tour = tour_of(rt, &[1, 2, 3, 4])?;
-    let mut eight = tour_of(rt, &[1, 2, 3, 4, 5, 6, 7, 8])?;
-    println!(rt; "built")?;
-    flip_and_undo(rt, &mut tour)?;
-    kick_eight(&mut eight)?;
-    println!(rt; "done")?;
-    show_canonical(rt, &eight)
-}
-
-/// Goes back by a journal, or by a copy of the start where a flip was lost.
-fn flip_and_rewind(
+/// Goes back by a copy of the start.
+fn restore(
     rt: &HostRuntime,
     tour: &mut JournalTour<ArrayTour>,
     start: &ArrayTour,
 ) -> Result<(), Stopped> {
-    let _ = flip_after(tour, 1, 7)?;
-    let _ = flip_after(tour, 2, 4)?;
-    println!(rt; "flip: {:?}, {} flips", tour.tour().order(), tour.flips())?;
-    let is_back = tour.rewind();
-    let (cities, swaps) = (tour.tour().order(), tour.tour().undo_swaps());
-    println!(rt; "rewind: {is_back}, {cities:?}, {swaps} swaps")?;
     if tour.size() != start.size() {
-        return Err(Stopped);
+        return Err(Stopped::Otherwise);
     }
     tour.restore(start);
-    let (cities, copied) = (tour.tour().order(), tour.tour().copied());
-    println!(rt; "restore: {cities:?}, {copied} copied")?;
-    Ok(())
+    let array = tour.tour();
+    tell_tour(rt, "restore", array.order(), array.copied(), "copied")
 }
 
-/// Goes back by a journal of so many flips, or by a copy where one of two flips was lost.
-fn rewind(rt: &HostRuntime, slots: u32) -> Result<(), Stopped> {
+/// Flips twice, and goes back in each way.
+fn flip_and_go_back(
+    rt: &HostRuntime,
+    tour: &mut JournalTour<ArrayTour>,
+    start: &ArrayTour,
+) -> Result<(), Stopped> {
+    mark(rt, "built")?;
+    flip_twice(rt, tour)?;
+    rewind(rt, tour)?;
+    restore(rt, tour, start)?;
+    mark(rt, "done")
+}
+
+/// Goes back by a journal of so many flips, which has lost one of two if it has room for one, and by a copy.
+fn go_back(rt: &HostRuntime, slots: u32) -> Result<(), Stopped> {
     let start = tour_of(rt, &[1, 2, 3, 4, 5, 6, 7, 8])?;
     let mut tour = journal_of(rt, slots)?;
-    println!(rt; "built")?;
-    flip_and_rewind(rt, &mut tour, &start)?;
-    println!(rt; "done")?;
-    Ok(())
+    flip_and_go_back(rt, &mut tour, &start)
 }
 
 /// Looks at the cities of a problem in the plane, and descends.
 fn descend_in(rt: &HostRuntime, problem: &Problem) -> Result<(), Stopped> {
     let table = Table::of(problem);
     let near = near_of(rt, &table, 3)?;
-    look_and_make(rt, &table, &near)?;
+    look_at_square(rt, &table, &near)?;
     descend_square(rt, &table, &near)
+}
+
+/// Looks and descends.
+fn call_for_descents(rt: &HostRuntime) -> Result<(), Stopped> {
+    let problem = problem_of(rt, SQUARE)?;
+    descend_in(rt, &problem)
 }
 
 /// Makes each of these calls after what it needs.
 pub fn make_calls(rt: &HostRuntime) -> Result<(), Stopped> {
-    let problem = problem_of(rt, SQUARE)?;
-    descend_in(rt, &problem)?;
-    flip_and_kick(rt)?;
-    rewind(rt, 2)?;
-    rewind(rt, 1)
+    call_for_descents(rt)?;
+    turn_parts(rt)?;
+    go_back(rt, 2)?;
+    go_back(rt, 1)
 }
