@@ -1,5 +1,9 @@
 mod ArrayLists
+mod HandingOut
 mod PlotTexts
 mod PointArrays
+mod Refusals
+mod SolveTexts
 mod Stops
 mod TextsSaid
+mod Written

@@ -28,7 +28,7 @@ claim_says given left broken old new text p (RoutesClaim s) e h =
     (h.0, h.1, says solution_texts left broken old new text s e h.2)
 
 -- what an empty buffer took
-appended : (old new : Option (List ℕ)) (bs items : List ℕ) → old ≡ Some [] → new ≡ Some items →
+pub appended : (old new : Option (List ℕ)) (bs items : List ℕ) → old ≡ Some [] → new ≡ Some items →
     Appends old new bs → items ≡ bs
 appended old new bs items e i h =
     subst (λ (n : Option (List ℕ)). Appends (Some []) n bs) i (subst (λ (o : Option (List ℕ)). Appends o new bs) e h)

@@ -1,5 +1,5 @@
 -- What an answer is, by what came of a call: each field, and 0 where there is nothing to tell.
-use Rattle.std.specs.Prelude.{◌+◌, ℕ}
+use Rattle.std.specs.Prelude.{◌≡◌, ◌≤◌, ◌+◌, ℕ}
 use Rattle.tk_tour.specs.declared.fault.TourFault.{TourFault}
 use Rattle.tk_tour.specs.declared.fault.TourFault.TheVariants as tours
 use Rattle.tk_tour.specs.declared.verdict.Verdict.{Verdict}
@@ -135,3 +135,10 @@ fault_answer problem (faults.Initial f) needed = clash_answer f needed
 fault_answer problem (faults.Write f) needed = with_status 3 needed
 fault_answer problem faults.NoMemory needed = with_status 3 needed
 fault_answer problem f needed = refused 0 0 (misfit_number f) needed
+
+-- a call that failed: a text or an argument was refused, or there was no memory, of which nothing more is told
+pub record IsFailure (needed : ℕ) (answer : Answer) : Type 0 where
+  pub failed : 2 ≤ answer.status
+  pub known : answer.status ≤ 3
+  pub memory : answer.status ≡ 3 → answer ≡ with_status 3 needed
+  pub size : answer.needed ≡ needed

@@ -65,9 +65,13 @@ pub record IsMatrixTextOf (format : Format) (problem text : List ℕ) : Type 0 w
   pub is_problem : TextSays problem_texts problem p
   pub is : IsMatrixText format p text
 
--- some text was handed out: how many bytes it has, and its first bytes in the buffer
+-- some text of this many bytes was handed out: its first bytes stand in the buffer
+abbrev pub WasHandedOut : List ℕ → List ℕ → ℕ → Type 0
+WasHandedOut old new needed = (text : List ℕ) × (needed ≡ length text) × (new ≡ handed_out text old)
+
+-- some text was handed out, and the answer tells how many bytes it has
 abbrev pub IsSomeText : List ℕ → List ℕ → Answer → Type 0
-IsSomeText old new answer = (text : List ℕ) × (answer.needed ≡ length text) × (new ≡ handed_out text old)
+IsSomeText old new answer = WasHandedOut old new answer.needed
 
 -- what was written: the status, how many bytes the text has, and its first bytes in the buffer
 pub record IsWritten (status : ℕ) (text old new : List ℕ) (answer : Answer) : Type 0 where

@@ -1,12 +1,13 @@
 //! What an export tells beside what it writes.
 ghost use Rattle.std.specs.Prelude.{◌≡◌, ◌≤◌};
-ghost use Rattle.tourkit_c.specs.Outcomes.{clash_answer, clashing, fault_answer, found, of_length, param_answer};
-ghost use Rattle.tourkit_c.specs.Outcomes.{param_number, refused, text_answer, text_number, with_status};
-ghost use Rattle.tourkit_c.specs.Outcomes.{with_status_twice};
-ghost use Rattle.tourkit_c.specs.Texts.{IsSomeText};
+ghost use Rattle.tourkit_c.specs.Outcomes.{IsFailure, clash_answer, clashing, fault_answer, found, of_length};
+ghost use Rattle.tourkit_c.specs.Outcomes.{param_answer, param_number, refused, text_answer, text_number};
+ghost use Rattle.tourkit_c.specs.Outcomes.{with_status, with_status_twice};
+ghost use Rattle.tourkit_c.specs.Texts.{IsSomeText, WasHandedOut};
 
 use crate::hand_out::hand_out;
 use std::alloc::Global;
+use std::fmt;
 use tk_engines::{Fault, ParamFault, ParamKind};
 use tk_text::{TextFault, TextKind};
 use tk_tour::TourFault;
@@ -142,7 +143,8 @@ impl Answer {
 
     /// The fault of a text, whose message has so many bytes.
     pub(crate) fn of_text(text: u32, fault: &TextFault, needed: usize) -> Answer
-        ensures { result ≡ text_answer text fault.now needed }
+        ensures is { result ≡ text_answer text fault.now needed }
+        ensures failure { IsFailure needed result }
     {
         match fault.kind {
             TextKind::NoMemory | TextKind::Read => Answer::ended(NO_MEMORY, needed),
@@ -152,7 +154,8 @@ impl Answer {
 
     /// The fault of parameters, whose message has so many bytes.
     fn of_params(fault: &ParamFault, needed: usize) -> Answer
-        ensures { result ≡ param_answer fault.now needed }
+        ensures is { result ≡ param_answer fault.now needed }
+        ensures failure { IsFailure needed result }
     {
         match fault.kind {
             ParamKind::NoMemory | ParamKind::Read => Answer::ended(NO_MEMORY, needed),
@@ -164,7 +167,8 @@ impl Answer {
     /// other text is the next.
     fn of(problem: u32, fault: &Fault, needed: usize) -> Answer
         requires { problem ≤ 2 }
-        ensures { result ≡ fault_answer problem fault.now needed }
+        ensures is { result ≡ fault_answer problem fault.now needed }
+        ensures failure { IsFailure needed result }
     {
         match fault {
             Fault::Problem(fault) => Answer::of_text(problem, fault, needed),
@@ -184,7 +188,8 @@ impl Answer {
 
     /// The fault of a tour to begin with, which is the third text.
     fn of_tour(fault: &TourFault, needed: usize) -> Answer
-        ensures { result ≡ clash_answer fault.now needed }
+        ensures is { result ≡ clash_answer fault.now needed }
+        ensures failure { IsFailure needed result }
     {
         match fault {
             TourFault::WrongCount => Answer::clashing(20, 0, needed),
@@ -205,28 +210,32 @@ impl Answer {
     }
 }
 
+/// Hands out the message of a fault as far as there is room and memory for it, and says how many bytes it has.
+fn hand_out_message<F: fmt::Display>(alloc: Global, fault: &F, out: &mut [u8]) -> usize
+    ensures { WasHandedOut out.old out.new result }
+{
+    match format!(in alloc; "{fault}") {
+        Ok(message) => hand_out(message.as_bytes(), out),
+        Err(_) => hand_out(b"", out),
+    }
+}
+
 /// What an engine's fault tells: the answer, and the message in `out` as far as there is room and memory for it. The
 /// problem is the text of that number, and the other text is the one after it.
 pub(crate) fn stopped(alloc: Global, problem: u32, fault: &Fault, out: &mut [u8]) -> Answer
     requires { problem ≤ 2 }
     ensures is { result ≡ fault_answer problem fault.now result.needed }
+    ensures failure { IsFailure result.needed result }
     ensures message { IsSomeText out.old out.new result }
 {
-    let needed = match format!(in alloc; "{fault}") {
-        Ok(message) => hand_out(message.as_bytes(), out),
-        Err(_) => hand_out(b"", out),
-    };
-    Answer::of(problem, fault, needed)
+    Answer::of(problem, fault, hand_out_message(alloc, fault, out))
 }
 
 /// What a fault of parameters tells: the answer, and the message in `out` as far as there is room and memory for it.
 pub(crate) fn params_stopped(alloc: Global, fault: &ParamFault, out: &mut [u8]) -> Answer
     ensures is { result ≡ param_answer fault.now result.needed }
+    ensures failure { IsFailure result.needed result }
     ensures message { IsSomeText out.old out.new result }
 {
-    let needed = match format!(in alloc; "{fault}") {
-        Ok(message) => hand_out(message.as_bytes(), out),
-        Err(_) => hand_out(b"", out),
-    };
-    Answer::of_params(fault, needed)
+    Answer::of_params(fault, hand_out_message(alloc, fault, out))
 }

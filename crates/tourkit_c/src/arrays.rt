@@ -8,22 +8,26 @@ ghost use Rattle.tk_engines.specs.ReadProblems.{read_distance};
 ghost use Rattle.tourkit_c.specs.Answers.{IsFaulty};
 ghost use Rattle.tourkit_c.specs.Arrays.{AreDistances, AreDistancesOf, AreNearIn, AreNearOf, HasVerdict, IsArrayStatus};
 ghost use Rattle.tourkit_c.specs.Arrays.{IsCountOf, IsTourCheckOf};
-ghost use Rattle.tourkit_c.specs.Outcomes.{with_status};
-ghost use Rattle.tourkit_c.specs.Texts.{HasFault, TextSays};
+ghost use Rattle.tourkit_c.specs.Outcomes.{IsFailure, with_status};
+ghost use Rattle.tourkit_c.specs.Texts.{TextSays};
 
 use crate::answer::{Answer, NO_ROOM, REFUSED};
 use crate::tables::{fill_distances, near_in, verdict_in};
 use std::alloc::Global;
 use tk_metric::Table;
 use tk_near::ListLength;
-use tk_text::{FromRead, Problem, TextFault, read_problem};
+use tk_text::{FromRead, Problem, read_problem};
 
-/// The problem of a text.
-fn problem_of(alloc: Global, text: &[u8]) -> Result<Problem, TextFault>
+/// The problem of a text, or what is told where it was refused.
+fn problem_of(alloc: Global, text: &[u8]) -> Result<Problem, Answer>
     ensures ok { IfOk result (λ p. TextSays problem_texts text.now (problem_is p)) }
-    ensures err { IfErr result (HasFault problem_texts text.now) }
+    ensures failure { IfErr result (IsFailure 0) }
+    ensures refused { IfErr result (λ answer. answer.status ≡ 2 → IsFaulty problem_texts 1 text.now answer) }
 {
-    read_problem(alloc, &mut FromRead::new(text))
+    match read_problem(alloc, &mut FromRead::new(text)) {
+        Ok(problem) => Ok(problem),
+        Err(fault) => Err(Answer::of_text(1, &fault, 0)),
+    }
 }
 
 /// The distances of a problem, by what its text says.
@@ -92,7 +96,7 @@ pub extern "C" fn tourkit_distances(
 {
     *answer = match problem_of(alloc, problem) {
         Ok(problem) => distances_of(&problem, out),
-        Err(fault) => Answer::of_text(1, &fault, 0),
+        Err(answer) => answer,
     };
 }
 
@@ -119,7 +123,7 @@ pub extern "C" fn tourkit_near_cities(
     };
     *answer = match problem_of(alloc, problem) {
         Ok(problem) => near_of(alloc, &problem, candidates, out),
-        Err(fault) => Answer::of_text(1, &fault, 0),
+        Err(answer) => answer,
     };
 }
 
@@ -140,6 +144,6 @@ pub extern "C" fn tourkit_check_cities(
 {
     *answer = match problem_of(alloc, problem) {
         Ok(problem) => verdict_of(alloc, &problem, cities),
-        Err(fault) => Answer::of_text(1, &fault, 0),
+        Err(answer) => answer,
     };
 }

@@ -1,0 +1,127 @@
+-- What a refusal tells of texts in memory, by the fault that an engine stopped at.
+use Rattle.std.proofs.Common.{◌≡◌, ℕ, ◌+◌, ◌≤◌, ◌⊎◌, ◌∙◌, inl, inr, List, Option, Err, ap, arith, refl, subst}
+use Rattle.tk_text.specs.Problem.{ProblemIs, problem_texts}
+use Rattle.tk_text.specs.Texts.{IsToldOf, OfText, Texts, answer_of, cause_of}
+use Rattle.tk_words.specs.declared.fault.TextFault.{TextFault}
+use Rattle.tk_words.specs.declared.fault.TextKind.{TextKind}
+use Rattle.tk_words.specs.declared.fault.TextKind.TheVariants as kinds
+use Rattle.tk_tour.specs.declared.fault.TourFault.{TourFault}
+use Rattle.tk_tour.specs.declared.fault.TourFault.TheVariants as tours
+use Rattle.tk_engines.specs.Params.{param_cause_of, params_answer}
+use Rattle.tk_params.specs.declared.fault.ParamFault.{ParamFault}
+use Rattle.tk_params.specs.declared.fault.ParamKind.{ParamKind}
+use Rattle.tk_params.specs.declared.fault.ParamKind.TheVariants as params
+use Rattle.tk_engines.specs.declared.fault.Fault.{Fault}
+use Rattle.tk_engines.specs.declared.fault.Fault.TheVariants as faults
+use Rattle.tourkit_c.specs.Answers.{IsFaulty, IsFitAnd, IsMisfitAnswer, IsRightRefusal, IsStop}
+use Rattle.tourkit_c.specs.Outcomes.{clash_answer, fault_answer, kind_answer, param_answer, param_kind_answer}
+use Rattle.tourkit_c.specs.Outcomes.{param_number, refused, text_answer, text_number}
+use Rattle.tourkit_c.specs.Solved.{AreParamsRefused, HasParamFault}
+use Rattle.tourkit_c.specs.Texts.{HasFault}
+use Rattle.tourkit_c.specs.declared.answer.Answer.{Answer}
+
+-- a refusal is of the text, and tells the line and the kind of its fault
+told_kind : (number line : ℕ) (kind : TextKind) (answer : Answer) → answer.status ≡ 2
+    → answer ≡ kind_answer kind number line answer.needed
+    → (answer ≡ refused number line (text_number kind) answer.needed) × (cause_of kind ≡ OfText)
+told_kind number line kinds.NoMemory answer two is = absurd (omega (arith, ap (λ (a : Answer). a.status) is))
+told_kind number line kinds.Read answer two is = absurd (omega (arith, ap (λ (a : Answer). a.status) is))
+told_kind number line kind answer two is = (is, refl)
+
+pub faulty : {V : Type 0} (texts : Texts V TextFault) (number : ℕ) (text : List ℕ) (f : TextFault) (answer : Answer)
+    → answer.status ≡ 2 → texts.cause f ≡ cause_of f.kind → answer ≡ text_answer number f answer.needed →
+    HasFault texts text f → IsFaulty texts number text answer
+faulty texts number text f answer two cause is h =
+    let told = told_kind number f.line f.kind answer two is in
+    record {
+      fault = f;
+      told = told.0;
+      is = subst (IsToldOf (Unit {0}) (λ e. answer_of texts text ≡ Err e) f) (cause ∙ told.1) h;
+    }
+
+-- the same of parameters, the first text
+told_params : (line : ℕ) (kind : ParamKind) (answer : Answer) → answer.status ≡ 2
+    → answer ≡ param_kind_answer kind line answer.needed
+    → (answer ≡ refused 1 line (param_number kind) answer.needed) × (param_cause_of kind ≡ OfText)
+told_params line params.NoMemory answer two is = absurd (omega (arith, ap (λ (a : Answer). a.status) is))
+told_params line params.Read answer two is = absurd (omega (arith, ap (λ (a : Answer). a.status) is))
+told_params line kind answer two is = (is, refl)
+
+pub params_refused : (parameters : List ℕ) (f : ParamFault) (answer : Answer) → answer.status ≡ 2
+    → answer ≡ param_answer f answer.needed → HasParamFault parameters f → AreParamsRefused parameters answer
+params_refused parameters f answer two is h =
+    let told = told_params f.line f.kind answer two is in
+    record {
+      fault = f;
+      told = told.0;
+      is = subst (IsToldOf (Unit {0}) (λ e. params_answer parameters ≡ Err e) f) told.1 h;
+    }
+
+-- a tour that clashes with the problem is the third text
+clash_text : (f : TourFault) (answer : Answer) → answer.status ≡ 2 → answer ≡ clash_answer f answer.needed →
+    answer.text ≡ 3
+clash_text tours.NoMemory answer two is = absurd (omega (arith, ap (λ (a : Answer). a.status) is))
+clash_text f answer two is = ap (λ (a : Answer). a.text) is
+
+module _ (misfit : ProblemIs → Option Fault) (Clash : TourFault → Type 0) (Second : ProblemIs → Answer → Type 0)
+    (first : ℕ) (some : 1 ≤ first) (problem : List ℕ) (answer : Answer) where
+  first_refused : IsFaulty problem_texts first problem answer → IsRightRefusal misfit Clash Second first problem answer
+  first_refused h =
+      let here : answer.text ≡ first = ap (λ (a : Answer). a.text) h.told in
+      record {
+        known = inr (inl here);
+        is_problem = λ _. h;
+        is_second = λ e. absurd (omega arith);
+        is_misfit = λ e. absurd (omega arith);
+      }
+
+  second_refused : answer.text ≡ first + 1
+      → IsFitAnd misfit problem (λ p. Second p answer)
+      ⊎ ((f : TourFault) × Clash f × (answer ≡ clash_answer f answer.needed)) →
+      IsRightRefusal misfit Clash Second first problem answer
+  second_refused here h = record {
+    known = inr (inr here);
+    is_problem = λ e. absurd (omega arith);
+    is_second = λ _. h;
+    is_misfit = λ e. absurd (omega arith);
+  }
+
+  misfit_refused : IsMisfitAnswer misfit problem answer → IsRightRefusal misfit Clash Second first problem answer
+  misfit_refused h =
+      let here : answer.text ≡ 0 = ap (λ (a : Answer). a.text) h.2 in
+      record {
+        known = inl here;
+        is_problem = λ e. absurd (omega arith);
+        is_second = λ e. absurd (omega arith);
+        is_misfit = λ _. h;
+      }
+
+  -- the refusal of an engine's fault is right
+  pub right_refusal : (Tour Solution : ProblemIs → TextFault → Type 0) → answer.status ≡ 2
+      → ((p : ProblemIs) (f : TextFault) → Tour p f → answer ≡ text_answer (first + 1) f answer.needed →
+      Second p answer)
+      → ((p : ProblemIs) (f : TextFault) → Solution p f → answer ≡ text_answer (first + 1) f answer.needed →
+      Second p answer)
+      → ((f : TourFault) → Clash f → first ≡ 2) → (v : Fault) → answer ≡ fault_answer first v answer.needed →
+      IsStop misfit Clash Tour Solution problem v → IsRightRefusal misfit Clash Second first problem answer
+  right_refusal Tour Solution two tour solution clash (faults.Problem f) is h =
+      first_refused (faulty problem_texts first problem f answer two refl is h)
+  right_refusal Tour Solution two tour solution clash (faults.Tour f) is h =
+      second_refused (ap (λ (a : Answer). a.text) (told_kind (first + 1) f.line f.kind answer two is).0)
+      (inl (record { p = h.p; is_problem = h.is_problem; fits = h.fits; fact = tour h.p f h.fact is }))
+  right_refusal Tour Solution two tour solution clash (faults.Solution f) is h =
+      second_refused (ap (λ (a : Answer). a.text) (told_kind (first + 1) f.line f.kind answer two is).0)
+      (inl (record { p = h.p; is_problem = h.is_problem; fits = h.fits; fact = solution h.p f h.fact is }))
+  right_refusal Tour Solution two tour solution clash (faults.Initial f) is h =
+      let here : answer.text ≡ first + 1 = omega (arith, clash_text f answer two is, clash f h) in
+      second_refused here (inr (f, h, is))
+  right_refusal Tour Solution two tour solution clash (faults.Write f) is h =
+      absurd (omega (arith, ap (λ (a : Answer). a.status) is))
+  right_refusal Tour Solution two tour solution clash faults.NoMemory is h =
+      absurd (omega (arith, ap (λ (a : Answer). a.status) is))
+  right_refusal Tour Solution two tour solution clash faults.WrongType is h =
+      misfit_refused (faults.WrongType, h, is)
+  right_refusal Tour Solution two tour solution clash (faults.NotForType key) is h =
+      misfit_refused (faults.NotForType key, h, is)
+  right_refusal Tour Solution two tour solution clash faults.TooLarge is h = misfit_refused (faults.TooLarge, h, is)
+  right_refusal Tour Solution two tour solution clash faults.NoPlaces is h = misfit_refused (faults.NoPlaces, h, is)

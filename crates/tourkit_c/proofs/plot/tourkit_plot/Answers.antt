@@ -1,0 +1,41 @@
+use Rattle.std.proofs.Common.{◌∙◌, arith, inl, inr, refl}
+use Rattle.tk_text.specs.Solution.{solution_texts}
+use Rattle.tk_text.specs.Tour.{tour_texts}
+use Rattle.tourkit_c.specs.Answers.{NeverClashes}
+use Rattle.tourkit_c.specs.Plotted.{IsClaimRefused, IsSolutionFault, IsTourFault, line_in, picture_in, plot_misfit}
+use Rattle.tourkit_c.specs.Plotted.{plot_status}
+use Rattle.tourkit_c.proofs.HandingOut.{both_written}
+use Rattle.tourkit_c.proofs.Refusals.{faulty, right_refusal}
+use Rattle.tourkit_c.proofs.plot.tourkit_plot.Goals as goal
+
+pub returns-in-Ok-clause-given : goal.returns-in-Ok-clause-given
+returns-in-Ok-clause-given c = λ _.
+    let given = c.in-Ok.ensures.ok in (
+      c.in-Ok.done,
+      given.0,
+      given.1,
+      both_written (plot_status c.in-Ok.done) c.status_of.result c.hand_out.result c.hand_out-in-Ok.result
+          c.deref.result.now (picture_in given.0) c.args.out.now c.hand_out.new.out c.deref-in-Ok.result.now
+          (line_in given.0) c.args.told.now c.hand_out-in-Ok.new.out c.ended_twice.result c.ended_twice.ensures
+          c.status_of.ensures c.hand_out.ensures.needed c.hand_out.ensures.bytes (c.deref.ensures.value ∙ given.2)
+          c.hand_out-in-Ok.ensures.needed c.hand_out-in-Ok.ensures.bytes (c.deref-in-Ok.ensures.value ∙ given.3),
+    )
+
+pub returns-in-Err : goal.returns-in-Err
+returns-in-Err c =
+    let given = c.args.has_claim in
+    let claim = c.args.claim.now in
+    let answer = c.stopped.result in
+    let failure = c.stopped.ensures.failure in
+    record {
+      given = λ low. absurd (omega (arith, failure.failed));
+      known = failure.known;
+      refused = λ two. right_refusal plot_misfit NeverClashes (IsClaimRefused given claim) 1 (omega arith)
+          c.args.problem.now answer (IsTourFault given claim) (IsSolutionFault given claim) two
+          (λ p f h is. (h.0, inl (h.1, faulty tour_texts 2 claim f answer two refl is h.2)))
+          (λ p f h is. (h.0, inr (h.1, faulty solution_texts 2 claim f answer two refl is h.2))) (λ f h. elim h [ ])
+          c.in-Err.fault c.stopped.ensures.is c.in-Err.ensures.err;
+      memory = failure.memory;
+      message = λ _. c.stopped.ensures.message;
+      kept = λ _. refl;
+    }
