@@ -3,6 +3,7 @@ pub mod NoMarkup
 pub mod PageLength
 pub mod Paths
 pub mod PictureLength
+pub mod PutLine
 pub mod PutNothing
 pub mod Shown
 pub mod Thin

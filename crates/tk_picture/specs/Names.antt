@@ -13,11 +13,15 @@ abbrev pub is_plain : ℕ → Bool
 is_plain c = (nat_lt 31 c && nat_lt c 127) || (nat_lt 159 c && nat_lt c 8234) || (nat_lt 8238 c && nat_lt c 8294)
     || (nat_lt 8297 c && nat_lt c 65534) || nat_lt 65535 c
 
+-- a character that is none of the four of markup
+abbrev pub shown_unmarked : ℕ → List ℕ
+shown_unmarked c = if is_plain c then encode_utf8 c else codes "?"
+
 abbrev pub shown_byte : ℕ → List ℕ
 shown_byte c =
     if c == 38 then codes "&amp;" else (if c == 60 then codes "&lt;"
     else (if c == 62 then codes "&gt;" else (if c == 34 then codes "&quot;"
-    else (if is_plain c then encode_utf8 c else codes "?"))))
+    else shown_unmarked c)))
 
 abbrev pub shown_name : List ℕ → List ℕ
 shown_name name = flat_map shown_byte (chars (utf8_lossy name))

@@ -28,6 +28,10 @@ spot f places city =
 abbrev pub is_small : ℕ → Bool
 is_small n = nat_lt n 2000
 
+-- the first of two texts below that, else the second
+abbrev pub by_size : ℕ → List ℕ → List ℕ → List ℕ
+by_size n few many = if is_small n then few else many
+
 -- ---- lines
 
 abbrev pub line_start : ℕ → List ℕ
@@ -51,7 +55,7 @@ dots spot style cities =
     line (codes "<path stroke=\"black\" " ++ style ++ codes " d=\"") ++ flat_map (dot spot) cities ++ line_end
 
 abbrev pub city_style : ℕ → List ℕ
-city_style n = if is_small n then codes "stroke-width=\"60\"" else codes "stroke-width=\"12\""
+city_style n = by_size n (codes "stroke-width=\"60\"") (codes "stroke-width=\"12\"")
 
 -- where there are many cities, there are points only if nothing else is drawn
 abbrev pub has_dots : Drawing → ℕ → Bool
@@ -80,7 +84,7 @@ abbrev pub number_mark : (ℕ → List ℕ) → Path → List ℕ
 number_mark spot path = mark path.number (spot (slice_index path.cities 1))
 
 abbrev pub number_size : ℕ → List ℕ
-number_size n = if is_small n then codes "140" else codes "60"
+number_size n = by_size n (codes "140") (codes "60")
 
 abbrev pub numbers_start : ℕ → List ℕ
 numbers_start n =
@@ -106,7 +110,7 @@ heading_line title =
     line (codes "<text x=\"20\" y=\"40\" font-family=\"sans-serif\" font-size=\"24\">" ++ title ++ codes "</text>")
 
 abbrev pub line_width : ℕ → List ℕ
-line_width n = if is_small n then codes "20" else codes "6"
+line_width n = by_size n (codes "20") (codes "6")
 
 abbrev pub group_line : Frame → ℕ → List ℕ
 group_line f n =

@@ -4,8 +4,10 @@ ghost use Rattle.tk_writers.specs.Pens.{Puts};
 ghost use Rattle.tk_picture.specs.Drawings.{caption_of};
 ghost use Rattle.tk_picture.specs.PictureText.{title};
 ghost use Rattle.tk_picture.specs.Pictures.{drawing_of};
+ghost use Rattle.tk_picture.specs.Views.{city_count};
 
 use crate::name::put_name;
+use crate::picture::Picture;
 use crate::subject::Subject;
 use tk_writers::{Pen, Sink};
 
@@ -37,11 +39,13 @@ fn put_routes<W: Sink>(pen: &mut Pen<'_, W>, count: u64, cost: u64)
     pen.put_number(cost);
 }
 
-/// Puts what a picture of this many cities shows.
-pub(crate) fn put_caption<W: Sink>(pen: &mut Pen<'_, W>, cities: u32, subject: Subject<'_>)
-    ensures { Puts W.taken W.broken pen.old pen.new (caption_of cities (drawing_of subject.entry)) }
+/// Puts what a picture shows.
+pub(crate) fn put_caption<W: Sink>(pen: &mut Pen<'_, W>, picture: &Picture<'_>)
+    ensures { Puts W.taken W.broken pen.old pen.new
+        (caption_of (city_count picture.now.view) (drawing_of picture.now.subject)) }
 {
-    match subject {
+    let cities = picture.view.size();
+    match picture.subject {
         Subject::Cities => put_cities(pen, cities),
         Subject::Tour { length, .. } => put_tour(pen, cities, length),
         Subject::Routes { count, cost, .. } => put_routes(pen, count, cost),
@@ -49,15 +53,11 @@ pub(crate) fn put_caption<W: Sink>(pen: &mut Pen<'_, W>, cities: u32, subject: S
 }
 
 /// Puts the title of a picture.
-pub(crate) fn put_title<W: Sink>(
-    pen: &mut Pen<'_, W>,
-    name: &[u8],
-    cities: u32,
-    subject: Subject<'_>,
-)
-    ensures { Puts W.taken W.broken pen.old pen.new (title name.now cities (drawing_of subject.entry)) }
+pub(crate) fn put_title<W: Sink>(pen: &mut Pen<'_, W>, picture: &Picture<'_>)
+    ensures { Puts W.taken W.broken pen.old pen.new
+        (title picture.now.name.now (city_count picture.now.view) (drawing_of picture.now.subject)) }
 {
-    put_name(pen, name);
+    put_name(pen, picture.name);
     pen.put(b": ");
-    put_caption(pen, cities, subject);
+    put_caption(pen, picture);
 }

@@ -22,8 +22,7 @@ fn put_line_start<W: Sink>(pen: &mut Pen<'_, W>, number: u64)
 {
     pen.put(b"<polygon stroke=\"");
     put_colour(pen, number);
-    pen.put(b"\" points=\"");
-    pen.put(b"\n");
+    pen.put(b"\" points=\"\n");
 }
 
 /// Puts the closed line through cities.

@@ -1,9 +1,10 @@
 //! Cities as points.
-ghost use Rattle.std.specs.Prelude.{◌≡◌, Some, IfSome};
+ghost use Rattle.std.specs.Prelude.{◌≡◌, ◌++◌, Some, IfSome, codes};
 ghost use Rattle.std.specs.List.{range_with_len};
 ghost use Rattle.tk_writers.specs.Pens.{Puts};
+ghost use Rattle.tk_writers.specs.Written.{line};
 ghost use Rattle.tk_distance.specs.Cities.{IsCity};
-ghost use Rattle.tk_picture.specs.PictureText.{city_dots, city_style, depot_mark, dot, dots, has_dots};
+ghost use Rattle.tk_picture.specs.PictureText.{by_size, city_dots, city_style, depot_mark, dot, dots, has_dots};
 ghost use Rattle.tk_picture.specs.Pictures.{drawing_of};
 ghost use Rattle.tk_picture.specs.Views.{city_count, spot_in};
 
@@ -12,7 +13,14 @@ use crate::view::View;
 use tk_writers::{Pen, Sink};
 
 /// From this many cities on, lines and points are thin.
-pub(crate) const MANY: u32 = 2_000;
+const MANY: u32 = 2_000;
+
+/// The first of two texts for a picture of fewer than `MANY` cities, else the second.
+pub(crate) fn by_size<'a>(cities: u32, few: &'a [u8], many: &'a [u8]) -> &'a [u8]
+    ensures { result.now ≡ by_size cities few.now many.now }
+{
+    if cities < MANY { few } else { many }
+}
 
 /// Puts a city as a point.
 fn put_dot<W: Sink>(pen: &mut Pen<'_, W>, view: &View<'_>, city: u32)
@@ -21,19 +29,17 @@ fn put_dot<W: Sink>(pen: &mut Pen<'_, W>, view: &View<'_>, city: u32)
 {
     pen.put(b"M");
     view.put_spot(pen, city);
-    pen.put(b"h0");
-    pen.put(b"\n");
+    pen.put(b"h0\n");
 }
 
-/// Puts how large the points of cities are.
-fn put_city_style<W: Sink>(pen: &mut Pen<'_, W>, cities: u32)
-    ensures { Puts W.taken W.broken pen.old pen.new (city_style cities) }
+/// Puts what comes before the points.
+fn put_dots_start<W: Sink>(pen: &mut Pen<'_, W>, cities: u32)
+    ensures { Puts W.taken W.broken pen.old pen.new
+        (line (codes "<path stroke=\"black\" " ++ city_style cities ++ codes " d=\"")) }
 {
-    if cities < MANY {
-        pen.put(b"stroke-width=\"60\"");
-    } else {
-        pen.put(b"stroke-width=\"12\"");
-    }
+    pen.put(b"<path stroke=\"black\" ");
+    pen.put(by_size(cities, b"stroke-width=\"60\"", b"stroke-width=\"12\""));
+    pen.put(b" d=\"\n");
 }
 
 /// Puts all cities as points.
@@ -41,10 +47,7 @@ fn put_all_dots<W: Sink>(pen: &mut Pen<'_, W>, view: &View<'_>)
     ensures { Puts W.taken W.broken pen.old pen.new
         (dots (spot_in view.now) (city_style (city_count view.now)) (range_with_len 1 (city_count view.now))) }
 {
-    pen.put(b"<path stroke=\"black\" ");
-    put_city_style(pen, view.size());
-    pen.put(b" d=\"");
-    pen.put(b"\n");
+    put_dots_start(pen, view.size());
     for city in 1..view.size() + 1 {
         put_dot(pen, view, city);
     }
@@ -78,8 +81,7 @@ fn put_square<W: Sink>(pen: &mut Pen<'_, W>, view: &View<'_>, depot: u32)
 {
     pen.put(b"<path fill=\"black\" d=\"M");
     view.put_spot(pen, depot);
-    pen.put(b"m-80,-80h160v160h-160z\"/>");
-    pen.put(b"\n");
+    pen.put(b"m-80,-80h160v160h-160z\"/>\n");
 }
 
 /// Puts the depot, where there is one.

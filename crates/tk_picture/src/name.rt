@@ -2,7 +2,7 @@
 ghost use Rattle.std.specs.Prelude.{◌≡◌, flat_map};
 ghost use Rattle.std.specs.Str.{chars};
 ghost use Rattle.tk_writers.specs.Pens.{Puts};
-ghost use Rattle.tk_picture.specs.Names.{is_plain, shown_byte, shown_name};
+ghost use Rattle.tk_picture.specs.Names.{is_plain, shown_byte, shown_name, shown_unmarked};
 
 use tk_writers::{Pen, Sink};
 
@@ -21,6 +21,17 @@ fn is_plain(c: char) -> bool
     )
 }
 
+/// Puts a character that is not of markup, or `?` if it is not plain.
+fn put_unmarked<W: Sink>(pen: &mut Pen<'_, W>, c: char)
+    ensures { Puts W.taken W.broken pen.old pen.new (shown_unmarked c) }
+{
+    if is_plain(c) {
+        pen.put(c.encode_utf8(&mut [0; 4]).as_bytes());
+    } else {
+        pen.put(b"?");
+    }
+}
+
 /// Puts a character of a name: the four of markup as references, and those that are not plain as `?`.
 fn put_char<W: Sink>(pen: &mut Pen<'_, W>, c: char)
     ensures { Puts W.taken W.broken pen.old pen.new (shown_byte c) }
@@ -30,8 +41,7 @@ fn put_char<W: Sink>(pen: &mut Pen<'_, W>, c: char)
         '<' => pen.put(b"&lt;"),
         '>' => pen.put(b"&gt;"),
         '"' => pen.put(b"&quot;"),
-        _ if is_plain(c) => pen.put(c.encode_utf8(&mut [0; 4]).as_bytes()),
-        _ => pen.put(b"?"),
+        _ => put_unmarked(pen, c),
     }
 }
 

@@ -1,5 +1,5 @@
 //! The numbers of routes.
-ghost use Rattle.std.specs.Prelude.{◌≡◌, ◌≤◌, [], ◌∷◌, All, flat_map, map};
+ghost use Rattle.std.specs.Prelude.{◌≡◌, ◌≤◌, [], ◌∷◌, ◌++◌, All, codes, flat_map, map};
 ghost use Rattle.std.specs.List.{concat};
 ghost use Rattle.tk_writers.specs.Pens.{Puts};
 ghost use Rattle.tk_distance.specs.Cities.{IsCity};
@@ -7,25 +7,14 @@ ghost use Rattle.tk_routes.specs.Cvrps.{instance_of};
 ghost use Rattle.tk_routes.specs.Instance.{customer_count};
 ghost use Rattle.tk_routes.specs.RouteVerdicts.{AreServedOnce};
 ghost use Rattle.tk_picture.specs.Drawings.{route_paths};
-ghost use Rattle.tk_picture.specs.PictureText.{mark, number_mark, number_size, numbers_start};
+ghost use Rattle.tk_picture.specs.PictureText.{mark, number_mark, numbers_start};
 ghost use Rattle.tk_picture.specs.Views.{city_count, spot_in};
 
 use crate::colour::put_colour;
-use crate::dots::MANY;
+use crate::dots::by_size;
 use crate::view::View;
 use tk_routes::Cvrp;
 use tk_writers::{Pen, Sink};
-
-/// Puts how large the numbers are.
-fn put_number_size<W: Sink>(pen: &mut Pen<'_, W>, cities: u32)
-    ensures { Puts W.taken W.broken pen.old pen.new (number_size cities) }
-{
-    if cities < MANY {
-        pen.put(b"140");
-    } else {
-        pen.put(b"60");
-    }
-}
 
 /// Puts what comes before the numbers.
 pub(crate) fn put_numbers_start<W: Sink>(pen: &mut Pen<'_, W>, cities: u32)
@@ -34,9 +23,19 @@ pub(crate) fn put_numbers_start<W: Sink>(pen: &mut Pen<'_, W>, cities: u32)
     pen.put(
         b"<g font-family=\"sans-serif\" font-weight=\"bold\" text-anchor=\"middle\" font-size=\"",
     );
-    put_number_size(pen, cities);
-    pen.put(b"\">");
-    pen.put(b"\n");
+    pen.put(by_size(cities, b"140", b"60"));
+    pen.put(b"\">\n");
+}
+
+/// Puts what comes before the colour of a number over a city.
+fn put_mark_start<W: Sink>(pen: &mut Pen<'_, W>, view: &View<'_>, city: u32)
+    requires { IsCity (city_count view.now) city }
+    ensures { Puts W.taken W.broken pen.old pen.new
+        (codes "<text transform=\"translate(" ++ spot_in view.now city ++ codes ")\" dy=\"-.4em\" fill=\"") }
+{
+    pen.put(b"<text transform=\"translate(");
+    view.put_spot(pen, city);
+    pen.put(b")\" dy=\"-.4em\" fill=\"");
 }
 
 /// Puts a number over a city.
@@ -45,14 +44,11 @@ fn put_mark<W: Sink>(pen: &mut Pen<'_, W>, view: &View<'_>, number: u64, city: u
     requires number { 1 ≤ number }
     ensures { Puts W.taken W.broken pen.old pen.new (mark number (spot_in view.now city)) }
 {
-    pen.put(b"<text transform=\"translate(");
-    view.put_spot(pen, city);
-    pen.put(b")\" dy=\"-.4em\" fill=\"");
+    put_mark_start(pen, view, city);
     put_colour(pen, number);
     pen.put(b"\">");
     pen.put_number(number);
-    pen.put(b"</text>");
-    pen.put(b"\n");
+    pen.put(b"</text>\n");
 }
 
 /// Puts the number of a route over its first customer, if it has one.

@@ -26,8 +26,7 @@ fn put_heading<W: Sink>(pen: &mut Pen<'_, W>, name: &[u8])
 {
     pen.put(b"<h1><bdi>");
     put_name(pen, name);
-    pen.put(b"</bdi></h1>");
-    pen.put(b"\n");
+    pen.put(b"</bdi></h1>\n");
 }
 
 /// Puts what the page shows, in the words of the checks.
@@ -36,9 +35,8 @@ fn put_verdict<W: Sink>(pen: &mut Pen<'_, W>, picture: &Picture<'_>)
         (verdict (city_count picture.now.view) (drawing_of picture.now.subject)) }
 {
     pen.put(b"<p id=\"verdict\">");
-    put_caption(pen, picture.view.size(), picture.subject);
-    pen.put(b"</p>");
-    pen.put(b"\n");
+    put_caption(pen, picture);
+    pen.put(b"</p>\n");
 }
 
 /// Puts what comes before the picture.

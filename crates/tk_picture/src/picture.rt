@@ -1,17 +1,18 @@
 //! A picture of a problem.
-ghost use Rattle.std.specs.Prelude.{◌≡◌, ◌≤◌, true, IfSome, OnErr, flat_map, length};
+ghost use Rattle.std.specs.Prelude.{◌≡◌, ◌≤◌, ◌++◌, true, IfSome, OnErr, codes, decimal, flat_map, length};
 ghost use Rattle.tk_writers.specs.Pens.{Puts};
 ghost use Rattle.tk_writers.specs.Puts.{Writes};
 ghost use Rattle.tk_distance.specs.Cities.{IsCity};
 ghost use Rattle.tk_picture.specs.Drawings.{paths_of};
-ghost use Rattle.tk_picture.specs.PictureText.{closed_line, group_line, head, heading_line, line_width};
+ghost use Rattle.tk_picture.specs.Frames.{drawn_from_left, drawn_from_top};
+ghost use Rattle.tk_picture.specs.PictureText.{closed_line, group_line, head, heading_line};
 ghost use Rattle.tk_picture.specs.PictureText.{route_numbers, title, title_line, view_line};
 ghost use Rattle.tk_picture.specs.Pictures.{Fits, drawing_of, text_in, text_of};
 ghost use Rattle.tk_picture.specs.Views.{city_count, spot_in};
 
 use crate::caption::put_title;
 use crate::closed_lines::{put_routes, put_tour};
-use crate::dots::{MANY, put_city_dots, put_depot};
+use crate::dots::{by_size, put_city_dots, put_depot};
 use crate::frame::Frame;
 use crate::numbers::{put_numbers, put_numbers_start};
 use crate::page::parts::Parts;
@@ -40,25 +41,13 @@ pub enum Form<'a> {
     Page(Parts<'a>),
 }
 
-/// Puts how wide the lines are.
-fn put_line_width<W: Sink>(pen: &mut Pen<'_, W>, cities: u32)
-    ensures { Puts W.taken W.broken pen.old pen.new (line_width cities) }
-{
-    if cities < MANY {
-        pen.put(b"20");
-    } else {
-        pen.put(b"6");
-    }
-}
-
 /// Puts the line with the size of the view.
 fn put_view_line<W: Sink>(pen: &mut Pen<'_, W>, height: u128)
     ensures { Puts W.taken W.broken pen.old pen.new (view_line height) }
 {
     pen.put(b"<svg xmlns=\"http://www.w3.org/2000/svg\" viewBox=\"0 0 1040 ");
     pen.put_wide(height);
-    pen.put(b"\">");
-    pen.put(b"\n");
+    pen.put(b"\">\n");
 }
 
 /// Puts the line with the title.
@@ -67,9 +56,8 @@ pub(crate) fn put_title_line<W: Sink>(pen: &mut Pen<'_, W>, picture: &Picture<'_
         (title picture.now.name.now (city_count picture.now.view) (drawing_of picture.now.subject))) }
 {
     pen.put(b"<title>");
-    put_title(pen, picture.name, picture.view.size(), picture.subject);
-    pen.put(b"</title>");
-    pen.put(b"\n");
+    put_title(pen, picture);
+    pen.put(b"</title>\n");
 }
 
 /// Puts the line with the title that is drawn.
@@ -78,25 +66,31 @@ fn put_heading_line<W: Sink>(pen: &mut Pen<'_, W>, picture: &Picture<'_>)
         (title picture.now.name.now (city_count picture.now.view) (drawing_of picture.now.subject))) }
 {
     pen.put(b"<text x=\"20\" y=\"40\" font-family=\"sans-serif\" font-size=\"24\">");
-    put_title(pen, picture.name, picture.view.size(), picture.subject);
-    pen.put(b"</text>");
-    pen.put(b"\n");
+    put_title(pen, picture);
+    pen.put(b"</text>\n");
+}
+
+/// Puts where in the view the drawing begins.
+fn put_group_start<W: Sink>(pen: &mut Pen<'_, W>, frame: &Frame)
+    ensures { Puts W.taken W.broken pen.old pen.new (codes "<g transform=\"translate("
+        ++ decimal (drawn_from_left frame.now) ++ codes " " ++ decimal (drawn_from_top frame.now)) }
+{
+    pen.put(b"<g transform=\"translate(");
+    pen.put_wide(frame.drawn_from_left());
+    pen.put(b" ");
+    pen.put_wide(frame.drawn_from_top());
 }
 
 /// Puts the line with which lines and points begin.
 fn put_group_line<W: Sink>(pen: &mut Pen<'_, W>, frame: &Frame, cities: u32)
     ensures { Puts W.taken W.broken pen.old pen.new (group_line frame.now cities) }
 {
-    pen.put(b"<g transform=\"translate(");
-    pen.put_wide(frame.drawn_from_left());
-    pen.put(b" ");
-    pen.put_wide(frame.drawn_from_top());
+    put_group_start(pen, frame);
     pen.put(
         b") scale(0.1)\" fill=\"none\" stroke-linecap=\"round\" stroke-linejoin=\"round\" stroke-width=\"",
     );
-    put_line_width(pen, cities);
-    pen.put(b"\">");
-    pen.put(b"\n");
+    pen.put(by_size(cities, b"20", b"6"));
+    pen.put(b"\">\n");
 }
 
 /// Puts what comes before the lines and the points.

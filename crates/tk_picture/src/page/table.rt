@@ -1,5 +1,5 @@
 //! The table of routes of a page.
-ghost use Rattle.std.specs.Prelude.{◌≡◌, ◌≤◌, [], ◌∷◌, All, flat_map, length, map};
+ghost use Rattle.std.specs.Prelude.{◌≡◌, ◌≤◌, [], ◌∷◌, ◌++◌, All, codes, decimal, flat_map, length, map};
 ghost use Rattle.std.specs.List.{concat};
 ghost use Rattle.tk_writers.specs.Pens.{Puts};
 ghost use Rattle.tk_distance.specs.Cities.{IsCity};
@@ -8,22 +8,12 @@ ghost use Rattle.tk_routes.specs.Cvrps.{instance_of};
 ghost use Rattle.tk_routes.specs.Instance.{customer_count};
 ghost use Rattle.tk_routes.specs.RouteVerdicts.{AreServedOnce};
 ghost use Rattle.tk_picture.specs.PageText.{row_line, route_row, rows, share};
-ghost use Rattle.tk_picture.specs.PageText.{table, table_caption, table_head, table_start};
+ghost use Rattle.tk_picture.specs.PageText.{table, table_head, table_start};
 ghost use Rattle.tk_picture.specs.Pictures.{Fits, drawing_of};
 
 use crate::subject::Subject;
 use tk_routes::Cvrp;
 use tk_writers::{Pen, Sink};
-
-/// Puts the caption of the table.
-fn put_table_caption<W: Sink>(pen: &mut Pen<'_, W>, capacity: u32)
-    ensures { Puts W.taken W.broken pen.old pen.new (table_caption capacity) }
-{
-    pen.put(b"<table><caption>Routes, capacity ");
-    pen.put_number(capacity as u64);
-    pen.put(b"</caption>");
-    pen.put(b"\n");
-}
 
 /// Puts the headings of the table's columns.
 fn put_table_head<W: Sink>(pen: &mut Pen<'_, W>)
@@ -38,8 +28,9 @@ fn put_table_head<W: Sink>(pen: &mut Pen<'_, W>)
 fn put_table_start<W: Sink>(pen: &mut Pen<'_, W>, capacity: u32)
     ensures { Puts W.taken W.broken pen.old pen.new (table_start capacity) }
 {
-    pen.put(b"<div id=\"routes\">\n");
-    put_table_caption(pen, capacity);
+    pen.put(b"<div id=\"routes\">\n<table><caption>Routes, capacity ");
+    pen.put_number(capacity as u64);
+    pen.put(b"</caption>\n");
     put_table_head(pen);
 }
 
@@ -53,6 +44,14 @@ fn share(load: u64, capacity: u32) -> u128
     load as u128 * 100 / capacity as u128
 }
 
+/// Puts a number in a cell of its own.
+fn put_cell<W: Sink>(pen: &mut Pen<'_, W>, number: u64)
+    ensures { Puts W.taken W.broken pen.old pen.new (codes "<td>" ++ decimal number) }
+{
+    pen.put(b"<td>");
+    pen.put_number(number);
+}
+
 /// Puts the row of a route that holds a customer.
 fn put_row<W: Sink>(pen: &mut Pen<'_, W>, number: u64, cvrp: &Cvrp<'_>, route: &[u32])
     requires known { All (IsCity (customer_count (instance_of cvrp.now))) route.now }
@@ -62,14 +61,11 @@ fn put_row<W: Sink>(pen: &mut Pen<'_, W>, number: u64, cvrp: &Cvrp<'_>, route: &
     let load = cvrp.load(route);
     pen.put(b"<tr><th scope=\"row\">");
     pen.put_number(number);
-    pen.put(b"<td>");
-    pen.put_number(route.len() as u64);
-    pen.put(b"<td>");
-    pen.put_number(load);
+    put_cell(pen, route.len() as u64);
+    put_cell(pen, load);
     pen.put(b"<td>");
     pen.put_wide(share(load, cvrp.capacity()));
-    pen.put(b"<td>");
-    pen.put_number(cvrp.length(route).unsigned_abs());
+    put_cell(pen, cvrp.length(route).unsigned_abs());
     pen.put(b"\n");
 }
 

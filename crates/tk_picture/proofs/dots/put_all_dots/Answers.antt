@@ -1,7 +1,8 @@
-use Rattle.std.proofs.Common.{subst, ap, ◌≡◌, ◌-◌, length, arith}
-use Rattle.std.specs.Prelude.{flat_map}
+use Rattle.std.proofs.Common.{subst, ap, ◌≡◌, ◌-◌, ◌++◌, length, arith}
+use Rattle.std.specs.Prelude.{codes, flat_map}
 use Rattle.std.specs.List.{range_with_len}
 use Rattle.tk_writers.specs.Pens.{Puts}
+use Rattle.tk_writers.specs.Written.{line}
 use Rattle.tk_problem.specs.PlacesOf.{places_of}
 use Rattle.tk_writers.proofs.MatrixLines.{lines_more}
 use Rattle.tk_writers.proofs.Pieces.Putting.{Puts-then}
@@ -19,14 +20,11 @@ returns g c =
     let view = c.args.view.now in
     let all : c.loop-city.city - 1 ≡ length (places_of view.places) =
     omega (arith, c.loop-city.auto.city-end, c.size-city-end.ensures.value) in
+    let start =
+    subst (Puts _ _ _ _) (ap (λ n. line (codes "<path stroke=\"black\" " ++ city_style n ++ codes " d=\""))
+    c.size.ensures.value) c.put_dots_start.ensures in
     Puts-then _ _ _ _ _ _ _
-    (Puts-then _ _ _ _ _ _ _
-    (Puts-then _ _ _ _ _ _ _
-    (Puts-then _ _ _ _ _ _ _
-    (Puts-then _ _ _ _ _ _ _ c.put.ensures
-    (subst (Puts _ _ _ _) (ap city_style c.size.ensures.value) c.put_city_style.ensures))
-    c.put-2.ensures)
-    c.put-3.ensures)
+    (Puts-then _ _ _ _ _ _ _ start
     (subst (Puts _ _ _ _) (ap (λ n. flat_map (dot (spot view.frame (places_of view.places))) (range_with_len 1 n)) all)
     c.loop-city.invariant))
-    c.put-4.ensures
+    c.put.ensures

@@ -1,11 +1,11 @@
 use Rattle.tk_writers.proofs.Pieces.Putting.{Puts-then}
+use Rattle.tk_picture.proofs.PutLine.{Puts-both}
 use Rattle.tk_picture.proofs.numbers.put_mark.Goals as goal
 
 pub returns : goal.returns
 returns g c =
-    Puts-then _ _ _ _ _ _ _ (Puts-then
-    _ _ _ _ _ _ _ (Puts-then
-    _ _ _ _ _ _ _ (Puts-then
-    _ _ _ _ _ _ _ (Puts-then
-    _ _ _ _ _ _ _ (Puts-then _ _ _ _ _ _ _ (Puts-then _ _ _ _ _ _ _ c.put.ensures c.put_spot.ensures)
-    c.put-2.ensures) c.put_colour.ensures) c.put-3.ensures) c.put_number.ensures) c.put-4.ensures) c.put-5.ensures
+    Puts-both _ _ _ _ _ _ _ _
+    (Puts-then _ _ _ _ _ _ _
+    (Puts-then _ _ _ _ _ _ _ (Puts-then _ _ _ _ _ _ _ c.put_mark_start.ensures c.put_colour.ensures) c.put.ensures)
+    c.put_number.ensures)
+    c.put-2.ensures

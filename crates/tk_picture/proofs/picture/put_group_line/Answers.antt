@@ -1,20 +1,12 @@
-use Rattle.std.proofs.Common.{ap, subst}
-use Rattle.std.specs.Prelude.{decimal}
+use Rattle.std.proofs.Common.{subst}
 use Rattle.tk_writers.specs.Pens.{Puts}
 use Rattle.tk_writers.proofs.Pieces.Putting.{Puts-then}
+use Rattle.tk_picture.proofs.PutLine.{Puts-both}
 use Rattle.tk_picture.proofs.picture.put_group_line.Goals as goal
 
 pub returns : goal.returns
 returns g c =
-    let across = subst (Puts _ _ _ _) (ap decimal c.drawn_from_left.ensures) c.put_wide.ensures in
-    let down = subst (Puts _ _ _ _) (ap decimal c.drawn_from_top.ensures) c.put_wide-2.ensures in
-    Puts-then _ _ _ _ _ _ _
-    (Puts-then _ _ _ _ _ _ _
-    (Puts-then _ _ _ _ _ _ _
-    (Puts-then _ _ _ _ _ _ _
-    (Puts-then _ _ _ _ _ _ _ (Puts-then _ _ _ _ _ _ _ (Puts-then _ _ _ _ _ _ _ c.put.ensures across) c.put-2.ensures)
-    down)
-    c.put-3.ensures)
-    c.put_line_width.ensures)
-    c.put-4.ensures)
-    c.put-5.ensures
+    Puts-both _ _ _ _ _ _ _ _
+    (Puts-then _ _ _ _ _ _ _ (Puts-then _ _ _ _ _ _ _ c.put_group_start.ensures c.put.ensures)
+    (subst (Puts _ _ _ _) c.by_size.ensures c.put-2.ensures))
+    c.put-3.ensures

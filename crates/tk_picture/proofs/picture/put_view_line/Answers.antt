@@ -1,7 +1,7 @@
 use Rattle.tk_writers.proofs.Pieces.Putting.{Puts-then}
+use Rattle.tk_picture.proofs.PutLine.{Puts-both}
 use Rattle.tk_picture.proofs.picture.put_view_line.Goals as goal
 
 pub returns : goal.returns
 returns g c =
-    Puts-then _ _ _ _ _ _ _ (Puts-then _ _ _ _ _ _ _ (Puts-then _ _ _ _ _ _ _ c.put.ensures c.put_wide.ensures)
-    c.put-2.ensures) c.put-3.ensures
+    Puts-both _ _ _ _ _ _ _ _ (Puts-then _ _ _ _ _ _ _ c.put.ensures c.put_wide.ensures) c.put-2.ensures

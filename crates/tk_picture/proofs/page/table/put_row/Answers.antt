@@ -1,5 +1,5 @@
-use Rattle.std.proofs.Common.{◌≡◌, ap, rules, subst, ◌∙◌}
-use Rattle.std.specs.Prelude.{decimal}
+use Rattle.std.proofs.Common.{◌≡◌, ℕ, List, ◌++◌, ap, rules, subst, ◌∙◌}
+use Rattle.std.specs.Prelude.{codes, decimal}
 use Rattle.std.specs.Int.RustNames.{unsigned_abs}
 use Rattle.std.proofs.lemmas.Int.{to_z-of_z}
 use mir.Syntax.{w64}
@@ -7,6 +7,7 @@ use Rattle.tk_writers.specs.Pens.{Puts}
 use Rattle.tk_writers.proofs.Pieces.Putting.{Puts-then}
 use Rattle.tk_routes.specs.Cvrps.{instance_of}
 use Rattle.tk_routes.specs.Routes.{route_length, route_load}
+use Rattle.tk_picture.proofs.PutLine.{Puts-both}
 use Rattle.tk_picture.specs.PageText.{share}
 use Rattle.tk_picture.proofs.page.table.put_row.Goals as goal
 
@@ -20,16 +21,18 @@ returns g c =
     ∙ ap (share (route_load i route)) c.capacity.ensures.value in
     let way : c.unsigned_abs.result ≡ route_length i route = c.unsigned_abs.ensures.value
     ∙ ap unsigned_abs (to_z-of_z w64 c.length.result (search rules) ∙ c.length.ensures) in
-    let puts_load = subst (Puts _ _ _ _) (ap decimal load) c.put_number-3.ensures in
+    let cell : ℕ → List ℕ = λ n. codes "<td>" ++ decimal n in
+    let puts_load = subst (Puts _ _ _ _) (ap cell load) c.put_cell-2.ensures in
     let puts_share = subst (Puts _ _ _ _) (ap decimal part) c.put_wide.ensures in
-    let puts_way = subst (Puts _ _ _ _) (ap decimal way) c.put_number-4.ensures in
-    Puts-then _ _ _ _ _ _ _ (Puts-then
-    _ _ _ _ _ _ _ (Puts-then
-    _ _ _ _ _ _ _ (Puts-then
-    _ _ _ _ _ _ _ (Puts-then
-    _ _ _ _ _ _ _ (Puts-then
-    _ _ _ _ _ _ _ (Puts-then
-    _ _ _ _ _ _ _ (Puts-then
-    _ _ _ _ _ _ _ (Puts-then _ _ _ _ _ _ _ (Puts-then _ _ _ _ _ _ _ c.put.ensures c.put_number.ensures)
-    c.put-2.ensures) c.put_number-2.ensures) c.put-3.ensures) puts_load) c.put-4.ensures) puts_share)
-    c.put-5.ensures) puts_way) c.put-6.ensures
+    let puts_way = subst (Puts _ _ _ _) (ap cell way) c.put_cell-3.ensures in
+    Puts-then _ _ _ _ _ _ _
+    (Puts-both _ _ _ _ _ _ _ _
+    (Puts-then _ _ _ _ _ _ _
+    (Puts-then _ _ _ _ _ _ _
+    (Puts-both _ _ _ _ _ _ _ _
+    (Puts-both _ _ _ _ _ _ _ _ (Puts-then _ _ _ _ _ _ _ c.put.ensures c.put_number.ensures) c.put_cell.ensures)
+    puts_load)
+    c.put-2.ensures)
+    puts_share)
+    puts_way)
+    c.put-3.ensures

@@ -1,6 +1,11 @@
+use Rattle.std.specs.Prelude.{codes}
 use Rattle.tk_writers.proofs.Pieces.Putting.{Puts-then}
+use Rattle.tk_picture.proofs.PutLine.{Puts-both}
 use Rattle.tk_picture.proofs.page.table.put_table_start.Goals as goal
 
 pub returns : goal.returns
 returns g c =
-    Puts-then _ _ _ _ _ _ _ (Puts-then _ _ _ _ _ _ _ c.put.ensures c.put_table_caption.ensures) c.put_table_head.ensures
+    Puts-then _ _ _ _ _ _ _
+    (Puts-both _ _ _ _ _ _ (codes "</caption>") _ (Puts-then _ _ _ _ _ _ _ c.put.ensures c.put_number.ensures)
+    c.put-2.ensures)
+    c.put_table_head.ensures

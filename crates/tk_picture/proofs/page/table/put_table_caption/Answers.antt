@@ -1,7 +1,0 @@
-use Rattle.tk_writers.proofs.Pieces.Putting.{Puts-then}
-use Rattle.tk_picture.proofs.page.table.put_table_caption.Goals as goal
-
-pub returns : goal.returns
-returns g c =
-    Puts-then _ _ _ _ _ _ _ (Puts-then _ _ _ _ _ _ _ (Puts-then _ _ _ _ _ _ _ c.put.ensures c.put_number.ensures)
-    c.put-2.ensures) c.put-3.ensures
