@@ -17,10 +17,9 @@ verdict_line_is : (n : ℕ) (w : Weights) (cities : List ℕ) (v : Verdict) →
 verdict_line_is n w cities v = ap (λ d. verdict_line n d cities v) (read_distance_is w)
 
 -- a verdict on a list, and its line, by what the texts say
-pub IsCheck-of : (p : Problem) (cities tried told : List ℕ) (v : Verdict) → tried ≡ cities → told ≡ cities
-    → IsVerdict p.n tried v
+pub IsCheck-of : (p : Problem) (cities told : List ℕ) (v : Verdict) → told ≡ cities → IsVerdict p.n told v
     → IsCheck (problem_is p) cities v (verdict_line p.n (problem_distance p.weights) told v)
-IsCheck-of p cities tried told v is_tried is_told right = record {
-  right = subst (λ l. IsVerdict p.n l v) is_tried right;
-  line = ap (λ l. verdict_line p.n (problem_distance p.weights) l v) is_told ∙ verdict_line_is p.n p.weights cities v;
+IsCheck-of p cities told v is right = record {
+  right = subst (λ l. IsVerdict p.n l v) is right;
+  line = ap (λ l. verdict_line p.n (problem_distance p.weights) l v) is ∙ verdict_line_is p.n p.weights cities v;
 }

@@ -1,5 +1,6 @@
+pub mod Ends
+pub mod FilesWritten
 pub mod Lengths
-pub mod PlotEnds
 pub mod PrintedLines
 pub mod ProblemTables
 pub mod ReadTables

@@ -1,3 +1,4 @@
+pub mod Labels
 pub mod LineLengths
 pub mod NearLines
 pub mod RouteLines

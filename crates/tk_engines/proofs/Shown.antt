@@ -1,9 +1,14 @@
 -- What is drawn or told, by what a problem's text gives.
-use Rattle.std.proofs.Common.{◌≡◌, ℕ, List, Option, Some, None, refl, sym, ap, ◌∙◌, subst, true}
+use Rattle.std.proofs.Common.{◌≡◌, ℕ, List, Option, Some, None, Result, Ok, Err, OnErr, inl, inr, Bool, true, refl}
+use Rattle.std.proofs.Common.{length, sym, ap, ◌∙◌, arith, subst}
+use Rattle.std.proofs.lemmas.Grind.{not_there}
 use Rattle.std.specs.Prelude.{ℤ, IsSomeAnd, MatchOption, option_map, is_some}
 use Rattle.std.specs.List.{concat}
 use Rattle.tk_problem.specs.declared.problem.Problem.{Problem}
+use Rattle.tk_problem.specs.declared.point.Point.{Point}
 use Rattle.tk_problem.specs.declared.routing.Routing.{Routing}
+use Rattle.tk_problem.specs.declared.weights.PlaneKind.{PlaneKind}
+use Rattle.tk_problem.specs.declared.weights.Weights.TheVariants.{Points}
 use Rattle.tk_problem_text.specs.ProblemOf.{problem_is, routing_is, weights_are}
 use Rattle.tk_problem.specs.PlacesOf.{places_of}
 use Rattle.tk_problem_text.specs.Problem.{RoutingIs}
@@ -31,7 +36,9 @@ use Rattle.tk_picture.specs.declared.subject.Subject.{Subject}
 use Rattle.tk_picture.specs.declared.view.View.{View}
 use Rattle.tk_picture.specs.Frames.{IsFrame}
 use Rattle.tk_picture.specs.Pictures.{drawing_of, form_text, text_in}
-use Rattle.tk_engines.specs.Plot.{Refused, IsPicture, IsRouteOutput, IsTourOutput, IsViewOf, demands_in, places_in}
+use Rattle.tk_writers.specs.declared.output.pen.WriteFault.{WriteFault}
+use Rattle.tk_engines.specs.Plot.{HasFailed, Refused, IsPicture, IsRouteOutput, IsTourOutput, IsViewOf, demands_in}
+use Rattle.tk_engines.specs.Plot.{places_in}
 
 depot_read : (o : Option Routing) → option_map (λ r. r.depot) (routing_is o) ≡ option_map (λ r. r.depot) o
 depot_read None = refl
@@ -112,3 +119,19 @@ routed_of None P some = elim some [ ]
 pub some_of : (o : Option RoutingIs) (P : RoutingIs → Type 0) → MatchOption o ⊥ P → IsSomeAnd o P
 some_of (Some r) P holds = holds
 some_of None P holds = elim holds [ ]
+
+-- a write failed, where the drawing failed or the telling
+pub drawing_failed : (out told : Bool) (r : Result (Unit {0}) WriteFault) → OnErr r (out ≡ true) →
+    OnErr r (HasFailed out told)
+drawing_failed out told (Ok tt) h = tt
+drawing_failed out told (Err f) h = inl h
+
+pub telling_failed : (out told : Bool) (r : Result (Unit {0}) WriteFault) → OnErr r (told ≡ true) →
+    OnErr r (HasFailed out told)
+telling_failed out told (Ok tt) h = tt
+telling_failed out told (Err f) h = inr h
+
+-- a problem with places has as many as it has cities
+pub points_size : (p : Problem) (kind : PlaneKind) (points : List Point) → p.weights ≡ Points kind points →
+    length points ≡ p.n
+points_size p kind points is = let fit = rw is at p.weights_fit in grind (arith, not_there fit)

@@ -1,5 +1,6 @@
 -- How a search ends, by how its parts end.
-use Rattle.std.proofs.Common.{◌≡◌, List, ℕ, Option, None, Result, Ok, Err, IfOk, refl, subst, sym}
+use Rattle.std.proofs.Common.{◌≡◌, List, ℕ, Option, None, Result, Ok, Err, IfOk, ap, refl, subst, sym}
+use Rattle.std.specs.Prelude.{IfErr, option_map}
 use Rattle.std.specs.Result.{IsErrAnd}
 use Rattle.tk_problem_text.specs.Problem.{ProblemIs}
 use Rattle.tk_params.specs.Asked.{ParamsAre}
@@ -7,17 +8,20 @@ use Rattle.tk_solve.specs.Events.{Event}
 use Rattle.tk_solve.specs.SolvedTours.{IsSolved}
 use Rattle.tk_solve.specs.Starts.{TourTask}
 use Rattle.tk_solve.specs.declared.tour.SolvedTour.{SolvedTour}
-use Rattle.tk_engines.specs.Engine.{AreRead, Ends, Reading, Writing}
-use Rattle.tk_engines.specs.Solve.{Files, GivesFiles, IsInitial, IsInitialRefused, solve_task}
+use Rattle.tk_engines.specs.Engine.{AreRead, AtWrite, Ends, HasRead, UnlessWrite, Writing}
+use Rattle.tk_engines.specs.Solve.{BeforeSearch, Files, GivesFiles, IsInitial, IsInitialRefused, solve_task, unfit_key}
 use Rattle.tk_engines.specs.declared.fault.Fault.{Fault}
 use Rattle.tk_engines.specs.declared.fault.Fault.TheVariants as faults
+use Rattle.tk_engines.specs.declared.fault.Fault.TheVariants.{NotForType}
 
-module _ (p : ParamsAre) (Watched : List Event → Type 0) (Problem : Reading ProblemIs)
-    (Second : Reading (Option (List ℕ))) (Writes : Writing Files) (problem : ProblemIs) (initial : Option (List ℕ))
-    (read : AreRead (solve_task p Watched) Problem Second problem initial) where
+module _ (p : ParamsAre) (Watched : List Event → Type 0) (Writes : Writing Files) (problem : ProblemIs)
+    (initial : Option (List ℕ)) (fits : unfit_key p problem ≡ None) where
+  read : AreRead (solve_task p Watched) (HasRead problem) (HasRead initial) problem initial
+  read = record { is_problem = refl; fits = ap (option_map NotForType) fits; is_second = refl }
+
   -- the tour to begin with was refused
   initial_stopped : (f : Fault) → IsInitialRefused problem initial f →
-      Ends (solve_task p Watched) Problem Second Writes (Err f)
+      Ends (solve_task p Watched) (HasRead problem) (HasRead initial) Writes (Err f)
   initial_stopped (faults.Initial f) h = (problem, initial, read, h)
   initial_stopped faults.NoMemory h = (problem, initial, read, refl)
   initial_stopped (faults.Problem f) h = elim h [ ]
@@ -31,16 +35,35 @@ module _ (p : ParamsAre) (Watched : List Event → Type 0) (Problem : Reading Pr
 
   -- and the fault was passed on
   pub initial_failed : (f : Fault) (r : Result (Unit {0}) Fault) → IsErrAnd r (λ e. e ≡ f) →
-      IsInitialRefused problem initial f → Ends (solve_task p Watched) Problem Second Writes r
-  initial_failed f (Err e) is h = subst (λ v. Ends (solve_task p Watched) Problem Second Writes (Err v)) (sym is)
+      IsInitialRefused problem initial f → Ends (solve_task p Watched) (HasRead problem) (HasRead initial) Writes r
+  initial_failed f (Err e) is h =
+      subst (λ v. Ends (solve_task p Watched) (HasRead problem) (HasRead initial) Writes (Err v)) (sym is)
       (initial_stopped f h)
   initial_failed f (Ok v) is h = elim is [ ]
+
+  -- it did not stop at a write
+  initial_unwritten : (P : Type 0) (f : Fault) → IsInitialRefused problem initial f → AtWrite P f
+  initial_unwritten P (faults.Initial f) h = tt
+  initial_unwritten P faults.NoMemory h = tt
+  initial_unwritten P (faults.Problem f) h = tt
+  initial_unwritten P (faults.Tour f) h = tt
+  initial_unwritten P (faults.Solution f) h = tt
+  initial_unwritten P faults.WrongType h = tt
+  initial_unwritten P (faults.NotForType key) h = tt
+  initial_unwritten P faults.TooLarge h = tt
+  initial_unwritten P faults.NoPlaces h = tt
+  initial_unwritten P (faults.Write f) h = elim h [ ]
+
+  pub initial_unfailed : (P : Type 0) (f : Fault) (r : Result (Unit {0}) Fault) → IsErrAnd r (λ e. e ≡ f) →
+      IsInitialRefused problem initial f → IfErr r (AtWrite P)
+  initial_unfailed P f (Err e) is h = subst (AtWrite P) (sym is) (initial_unwritten P f h)
+  initial_unfailed P f (Ok v) is h = tt
 
   -- the work was done
   pub given_ends : (Answer : Files → Type 0) (Quiet : Type 0) → IsInitial problem initial None →
       ((files : Files) → Answer files → (solve_task p Watched).Gives problem initial tt files) →
       (r : Result (Unit {0}) Fault) → GivesFiles Answer Writes Quiet r →
-      Ends (solve_task p Watched) Problem Second Writes r
+      Ends (solve_task p Watched) (HasRead problem) (HasRead initial) Writes r
   given_ends Answer Quiet together gives (Ok tt) h =
       record {
         problem = problem;
@@ -72,6 +95,63 @@ module _ (p : ParamsAre) (Watched : List Event → Type 0) (Problem : Reading Pr
   given_ends Answer Quiet together gives (Err (faults.NotForType key)) h = elim h [ ]
   given_ends Answer Quiet together gives (Err faults.TooLarge) h = elim h [ ]
   given_ends Answer Quiet together gives (Err faults.NoPlaces) h = elim h [ ]
+
+-- where there was no memory for files, nothing was written
+pub given_quiet : (Answer : Files → Type 0) (Writes : Writing Files) (Quiet : Type 0) (r : Result (Unit {0}) Fault) →
+    GivesFiles Answer Writes Quiet r → IfErr r (UnlessWrite Quiet)
+given_quiet Answer Writes Quiet (Ok tt) h = tt
+given_quiet Answer Writes Quiet (Err (faults.Write f)) h = tt
+given_quiet Answer Writes Quiet (Err faults.NoMemory) h = h
+given_quiet Answer Writes Quiet (Err (faults.Problem f)) h = elim h [ ]
+given_quiet Answer Writes Quiet (Err (faults.Tour f)) h = elim h [ ]
+given_quiet Answer Writes Quiet (Err (faults.Solution f)) h = elim h [ ]
+given_quiet Answer Writes Quiet (Err (faults.Initial f)) h = elim h [ ]
+given_quiet Answer Writes Quiet (Err faults.WrongType) h = elim h [ ]
+given_quiet Answer Writes Quiet (Err (faults.NotForType key)) h = elim h [ ]
+given_quiet Answer Writes Quiet (Err faults.TooLarge) h = elim h [ ]
+given_quiet Answer Writes Quiet (Err faults.NoPlaces) h = elim h [ ]
+
+-- it did not stop before the search
+pub given_searched : (Answer : Files → Type 0) (Writes : Writing Files) (Quiet P : Type 0)
+    (r : Result (Unit {0}) Fault) → GivesFiles Answer Writes Quiet r → IfErr r (BeforeSearch P)
+given_searched Answer Writes Quiet P (Ok tt) h = tt
+given_searched Answer Writes Quiet P (Err (faults.Write f)) h = tt
+given_searched Answer Writes Quiet P (Err faults.NoMemory) h = tt
+given_searched Answer Writes Quiet P (Err (faults.Problem f)) h = elim h [ ]
+given_searched Answer Writes Quiet P (Err (faults.Tour f)) h = elim h [ ]
+given_searched Answer Writes Quiet P (Err (faults.Solution f)) h = elim h [ ]
+given_searched Answer Writes Quiet P (Err (faults.Initial f)) h = elim h [ ]
+given_searched Answer Writes Quiet P (Err faults.WrongType) h = elim h [ ]
+given_searched Answer Writes Quiet P (Err (faults.NotForType key)) h = elim h [ ]
+given_searched Answer Writes Quiet P (Err faults.TooLarge) h = elim h [ ]
+given_searched Answer Writes Quiet P (Err faults.NoPlaces) h = elim h [ ]
+
+-- nothing was written, nor was a watcher shown anything
+pub IfErr-quiet : (P : Type 0) → P → (r : Result (Unit {0}) Fault) → IfErr r (UnlessWrite P)
+IfErr-quiet P h (Ok tt) = tt
+IfErr-quiet P h (Err (faults.Write f)) = tt
+IfErr-quiet P h (Err faults.NoMemory) = h
+IfErr-quiet P h (Err (faults.Problem f)) = h
+IfErr-quiet P h (Err (faults.Tour f)) = h
+IfErr-quiet P h (Err (faults.Solution f)) = h
+IfErr-quiet P h (Err (faults.Initial f)) = h
+IfErr-quiet P h (Err faults.WrongType) = h
+IfErr-quiet P h (Err (faults.NotForType key)) = h
+IfErr-quiet P h (Err faults.TooLarge) = h
+IfErr-quiet P h (Err faults.NoPlaces) = h
+
+pub IfErr-unwatched : (P : Type 0) → P → (r : Result (Unit {0}) Fault) → IfErr r (BeforeSearch P)
+IfErr-unwatched P h (Ok tt) = tt
+IfErr-unwatched P h (Err (faults.Write f)) = tt
+IfErr-unwatched P h (Err faults.NoMemory) = tt
+IfErr-unwatched P h (Err (faults.Problem f)) = h
+IfErr-unwatched P h (Err (faults.Tour f)) = h
+IfErr-unwatched P h (Err (faults.Solution f)) = h
+IfErr-unwatched P h (Err (faults.Initial f)) = h
+IfErr-unwatched P h (Err faults.WrongType) = h
+IfErr-unwatched P h (Err (faults.NotForType key)) = h
+IfErr-unwatched P h (Err faults.TooLarge) = h
+IfErr-unwatched P h (Err faults.NoPlaces) = h
 
 -- what was watched of a search, as a part of what was watched
 pub IfOk-watched : {E : Type 0} (r : Result SolvedTour E) (task : TourTask) (Watched All : List Event → Type 0) →

@@ -2,6 +2,7 @@
 -- there is a second text it is read, and must fit the problem; the work is done; and what it gives is written.
 --     Task      what an engine does, whatever its sources and sinks
 --     ReadsProblem, ReadsTour, ReadsSolution, NoText      what a source's text says
+--     HasRead value      the same, once it is read
 --     Ends task Problem Second Writes result      the stage that was reached, and what is known there
 --     EndsByProblem      the same, where it depends on the problem what is read as the second text
 --     BeforeSecond, UnlessWrite, AtWrite      a fact, at some of the stages
@@ -62,6 +63,11 @@ ReadsSolution = Reads solution_texts faults.Solution
 abbrev pub NoText : Reading (Unit {0})
 NoText (Ok _) = Unit {0}
 NoText (Err f) = ⊥
+
+-- this value was read
+abbrev pub HasRead : {V : Type 0} → V → Reading V
+HasRead v (Ok value) = value ≡ v
+HasRead v (Err f) = ⊥
 
 -- a source or a sink is as before
 abbrev pub IsUntouched : {S : Type 0} → (S → Option (List ℕ)) → (S → Bool) → S → S → Type 0

@@ -135,11 +135,6 @@ HasFailed out told = (out ≡ true) ⊎ (told ≡ true)
 
 -- ---- what is known once the problem is read
 
--- this problem was read
-abbrev pub HasRead : ProblemIs → Reading ProblemIs
-HasRead p (Ok problem) = problem ≡ p
-HasRead p (Err f) = ⊥
-
 -- an output that fits is written, or writing it breaks off
 abbrev pub WritesSome : {T : Type 0} → (T → Type 0) → (T → Type 0) → Type 0
 WritesSome {T} Fits Written = (output : T) × (Fits output × Written output)

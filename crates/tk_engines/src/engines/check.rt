@@ -1,18 +1,47 @@
 //! The check of a tour.
 ghost use Rattle.std.specs.Prelude.{◌≡◌, true, IfErr};
+ghost use Rattle.tk_problem_text.specs.ProblemOf.{problem_is};
 ghost use Rattle.tk_writers.specs.Puts.{Writes};
 ghost use Rattle.tk_engines.specs.Check.{check_task};
 ghost use Rattle.tk_engines.specs.Engine.{Ends, ReadsProblem, ReadsTour, IsUntouched, BeforeSecond, UnlessWrite};
-ghost use Rattle.tk_engines.specs.Engine.{AtWrite};
+ghost use Rattle.tk_engines.specs.Engine.{AtWrite, HasRead};
 
 use crate::fault::Fault;
 use crate::lines::tour_line::write_verdict;
 use std::alloc::Global;
 use tk_lists::read_tour;
+use tk_problem::Problem;
 use tk_problem_text::read_problem;
 use tk_tour::{Verdict, check};
 use tk_words::Source;
 use tk_writers::Sink;
+
+/// Reads a tour, checks it against a problem, and writes the line on it.
+fn check_tour<T: Source, W: Sink>(
+    alloc: Global,
+    problem: &Problem,
+    tour: &mut T,
+    out: &mut W,
+) -> Result<Verdict, Fault>
+    ensures ends { Ends check_task (HasRead (problem_is problem.now))
+        (ReadsTour T.left T.broken tour.old tour.new)
+        (Writes W.taken W.broken out.old out.new) result }
+    ensures quiet { IfErr result (UnlessWrite (IsUntouched W.taken W.broken out.old out.new)) }
+    ensures failed { IfErr result (AtWrite (W.broken out.new ≡ true)) }
+{
+    let tour = match read_tour(alloc, tour) {
+        Ok(tour) => tour,
+        Err(fault) => return Err(Fault::Tour(fault)),
+    };
+    let cities = tour.cities.as_slice();
+    let Ok(verdict) = check(alloc, problem.n, cities) else {
+        return Err(Fault::NoMemory);
+    };
+    match write_verdict(out, problem, cities, verdict) {
+        Ok(()) => Ok(verdict),
+        Err(fault) => Err(Fault::Write(fault)),
+    }
+}
 
 /// Checks the tour of one text against the problem of another, writes one line on it, and returns the verdict.
 ///
@@ -33,19 +62,8 @@ pub fn check_engine<P: Source, T: Source, W: Sink>(
     ensures failed { IfErr result (AtWrite (W.broken out.new ≡ true)) }
     ensures unread { IfErr result (BeforeSecond (IsUntouched T.left T.broken tour.old tour.new)) }
 {
-    let problem = match read_problem(alloc, problem) {
-        Ok(problem) => problem,
-        Err(fault) => return Err(Fault::Problem(fault)),
-    };
-    let tour = match read_tour(alloc, tour) {
-        Ok(tour) => tour,
-        Err(fault) => return Err(Fault::Tour(fault)),
-    };
-    let Ok(verdict) = check(alloc, problem.n, &tour.cities) else {
-        return Err(Fault::NoMemory);
-    };
-    match write_verdict(out, &problem, &tour.cities, verdict) {
-        Ok(()) => Ok(verdict),
-        Err(fault) => Err(Fault::Write(fault)),
+    match read_problem(alloc, problem) {
+        Ok(problem) => check_tour(alloc, &problem, tour, out),
+        Err(fault) => Err(Fault::Problem(fault)),
     }
 }

@@ -6,7 +6,7 @@ ghost use Rattle.tk_distance.specs.Tables.{table_size, table_distance};
 ghost use Rattle.tk_problem_text.specs.ProblemOf.{problem_is};
 ghost use Rattle.tk_writers.specs.Puts.{Writes};
 ghost use Rattle.tk_problem_text.specs.Names.{IsName};
-ghost use Rattle.tk_engines.specs.Engine.{Ends, ReadsProblem, NoText, IsUntouched, UnlessWrite, AtWrite};
+ghost use Rattle.tk_engines.specs.Engine.{Ends, HasRead, ReadsProblem, NoText, IsUntouched, UnlessWrite, AtWrite};
 ghost use Rattle.tk_engines.specs.MatrixOf.{by_distances, IsReadAs, matrix_of, matrix_task};
 
 use crate::fault::Fault;
@@ -34,6 +34,23 @@ fn write_problem<W: Sink>(out: &mut W, problem: &Problem, format: Format) -> Res
     write_matrix(out, &problem.name, problem.n, &distance, format)
 }
 
+/// Writes the matrix of a problem, unless it is too large for one.
+fn matrix_problem<W: Sink>(problem: &Problem, format: Format, out: &mut W) -> Result<(), Fault>
+    requires { IsName problem.now.name.items }
+    ensures ends { Ends (matrix_task format) (HasRead (problem_is problem.now)) NoText
+        (Writes W.taken W.broken out.old out.new) result }
+    ensures quiet { IfErr result (UnlessWrite (IsUntouched W.taken W.broken out.old out.new)) }
+    ensures failed { IfErr result (AtWrite (W.broken out.new ≡ true)) }
+{
+    if problem.n > TABLE_LIMIT {
+        return Err(Fault::TooLarge);
+    }
+    match write_problem(out, problem, format) {
+        Ok(()) => Ok(()),
+        Err(fault) => Err(Fault::Write(fault)),
+    }
+}
+
 /// Writes a problem as a TSP with explicit weights in this format: the distances of its cities.
 ///
 /// The whole text is read before a byte is written.
@@ -51,15 +68,8 @@ pub fn matrix_engine<R: Source, W: Sink>(
     ensures quiet { IfErr result (UnlessWrite (IsUntouched W.taken W.broken out.old out.new)) }
     ensures failed { IfErr result (AtWrite (W.broken out.new ≡ true)) }
 {
-    let problem = match read_problem(alloc, problem) {
-        Ok(problem) => problem,
-        Err(fault) => return Err(Fault::Problem(fault)),
-    };
-    if problem.n > TABLE_LIMIT {
-        return Err(Fault::TooLarge);
-    }
-    match write_problem(out, &problem, format) {
-        Ok(()) => Ok(()),
-        Err(fault) => Err(Fault::Write(fault)),
+    match read_problem(alloc, problem) {
+        Ok(problem) => matrix_problem(&problem, format, out),
+        Err(fault) => Err(Fault::Problem(fault)),
     }
 }

@@ -4,7 +4,7 @@ ghost use Rattle.tk_problem.specs.declared.limits.TheConstants.{CANDIDATE_LIMIT,
 ghost use Rattle.tk_problem_text.specs.ProblemOf.{problem_is};
 ghost use Rattle.tk_writers.specs.Pens.{Puts};
 ghost use Rattle.tk_writers.specs.Puts.{Writes};
-ghost use Rattle.tk_engines.specs.Engine.{Ends, ReadsProblem, NoText, IsUntouched, UnlessWrite, AtWrite};
+ghost use Rattle.tk_engines.specs.Engine.{Ends, HasRead, ReadsProblem, NoText, IsUntouched, UnlessWrite, AtWrite};
 ghost use Rattle.tk_engines.specs.NearText.{IsNearOf, near_task, near_text};
 
 use crate::fault::Fault;
@@ -49,6 +49,24 @@ fn write_lists<W: Sink>(out: &mut W, near: &Near) -> Result<(), WriteFault>
     pen.end()
 }
 
+/// Finds and writes the near lists of a problem.
+fn near_problem<W: Sink>(alloc: Global, problem: &Problem, k: u32, out: &mut W) -> Result<(), Fault>
+    requires low { 1 ≤ k }
+    requires limit { k ≤ CANDIDATE_LIMIT }
+    ensures ends { Ends (near_task k) (HasRead (problem_is problem.now)) NoText
+        (Writes W.taken W.broken out.old out.new) result }
+    ensures quiet { IfErr result (UnlessWrite (IsUntouched W.taken W.broken out.old out.new)) }
+    ensures failed { IfErr result (AtWrite (W.broken out.new ≡ true)) }
+{
+    let Ok(near) = lists_of(alloc, problem, k) else {
+        return Err(Fault::NoMemory);
+    };
+    match write_lists(out, &near) {
+        Ok(()) => Ok(()),
+        Err(fault) => Err(Fault::Write(fault)),
+    }
+}
+
 /// Writes the near list of each city of a problem: the k nearest others, 1 to 100, or all of them where there are
 /// fewer.
 ///
@@ -69,15 +87,8 @@ pub fn near_engine<R: Source, W: Sink>(
     ensures quiet { IfErr result (UnlessWrite (IsUntouched W.taken W.broken out.old out.new)) }
     ensures failed { IfErr result (AtWrite (W.broken out.new ≡ true)) }
 {
-    let problem = match read_problem(alloc, problem) {
-        Ok(problem) => problem,
-        Err(fault) => return Err(Fault::Problem(fault)),
-    };
-    let Ok(near) = lists_of(alloc, &problem, k) else {
-        return Err(Fault::NoMemory);
-    };
-    match write_lists(out, &near) {
-        Ok(()) => Ok(()),
-        Err(fault) => Err(Fault::Write(fault)),
+    match read_problem(alloc, problem) {
+        Ok(problem) => near_problem(alloc, &problem, k, out),
+        Err(fault) => Err(Fault::Problem(fault)),
     }
 }

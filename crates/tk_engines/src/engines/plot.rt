@@ -7,11 +7,12 @@ ghost use Rattle.tk_tour.specs.Verdict.{IsVerdict};
 ghost use Rattle.tk_routes.specs.Cvrps.{instance_of};
 ghost use Rattle.tk_routes.specs.Instance.{IsInstanceOf};
 ghost use Rattle.tk_routes.specs.RouteVerdicts.{IsRouteVerdict};
-ghost use Rattle.tk_engines.specs.Engine.{AtWrite, BeforeSecond, EndsByProblem, IsUntouched, ReadsProblem, UnlessWrite};
+ghost use Rattle.tk_engines.specs.Engine.{AtWrite, BeforeSecond, EndsByProblem, HasRead, IsUntouched, ReadsProblem};
+ghost use Rattle.tk_engines.specs.Engine.{UnlessWrite};
 ghost use Rattle.tk_picture.specs.Pictures.{Fits, drawing_of};
 ghost use Rattle.tk_engines.specs.declared.fault.Fault.TheVariants.{NoPlaces};
 ghost use Rattle.tk_engines.specs.Plot.{AreUntouched, HasFailed, WritesOutput, WritesSome, demands_in, without_places};
-ghost use Rattle.tk_engines.specs.Plot.{HasRead, IsPicture, IsRouteOutput, IsTourOutput, IsViewOf};
+ghost use Rattle.tk_engines.specs.Plot.{IsPicture, IsRouteOutput, IsTourOutput, IsViewOf};
 ghost use Rattle.tk_engines.specs.Plot.{ReadsClaim, plot_task};
 
 use crate::engines::plotted::Plotted;
@@ -170,7 +171,6 @@ fn plot_tour<C: Source, W: Sink, T: Sink>(
     ensures quiet { IfErr result (UnlessWrite
         (AreUntouched W.taken W.broken T.taken T.broken out.old out.new told.old told.new)) }
     ensures failed { IfErr result (AtWrite (HasFailed (W.broken out.new) (T.broken told.new))) }
-    ensures second { IfErr result (BeforeSecond ⊥) }
 {
     let tour = match read_tour(alloc, claim) {
         Ok(tour) => tour,
@@ -205,7 +205,6 @@ fn plot_routes<C: Source, W: Sink, T: Sink>(
     ensures quiet { IfErr result (UnlessWrite
         (AreUntouched W.taken W.broken T.taken T.broken out.old out.new told.old told.new)) }
     ensures failed { IfErr result (AtWrite (HasFailed (W.broken out.new) (T.broken told.new))) }
-    ensures second { IfErr result (BeforeSecond ⊥) }
 {
     let solution = match read_solution(alloc, claim) {
         Ok(solution) => solution,
@@ -217,6 +216,30 @@ fn plot_routes<C: Source, W: Sink, T: Sink>(
     match show_routes(out, told, problem, view, cvrp, &solution, verdict, form) {
         Ok(()) => Ok(Plotted::Routes(verdict)),
         Err(fault) => Err(Fault::Write(fault)),
+    }
+}
+
+/// Reads what is claimed of a problem, and draws it or tells its fault.
+fn plot_claim<C: Source, W: Sink, T: Sink>(
+    alloc: Global,
+    problem: &Problem,
+    view: View<'_>,
+    claim: &mut C,
+    form: Form<'_>,
+    out: &mut W,
+    told: &mut T,
+) -> Result<Plotted, Fault>
+    requires view { IsViewOf (problem_is problem.now) view }
+    ensures ends { EndsByProblem (plot_task form.entry true) (HasRead (problem_is problem.now))
+        (ReadsClaim true C.left C.broken claim.old claim.new)
+        (WritesOutput W.taken W.broken T.taken T.broken out.old out.new told.old told.new) result }
+    ensures quiet { IfErr result (UnlessWrite
+        (AreUntouched W.taken W.broken T.taken T.broken out.old out.new told.old told.new)) }
+    ensures failed { IfErr result (AtWrite (HasFailed (W.broken out.new) (T.broken told.new))) }
+{
+    match Cvrp::of(problem) {
+        Some(cvrp) => plot_routes(alloc, problem, view, &cvrp, claim, form, out, told),
+        None => plot_tour(alloc, problem, view, claim, form, out, told),
     }
 }
 
@@ -247,10 +270,7 @@ fn plot_problem<C: Source, W: Sink, T: Sink>(
         };
         return Err(Fault::Write(fault));
     }
-    match Cvrp::of(problem) {
-        Some(cvrp) => plot_routes(alloc, problem, view, &cvrp, claim, form, out, told),
-        None => plot_tour(alloc, problem, view, claim, form, out, told),
-    }
+    plot_claim(alloc, problem, view, claim, form, out, told)
 }
 
 /// Draws the cities of a problem, and if `has_claim` is true, the tour or the routes of another text. They are checked

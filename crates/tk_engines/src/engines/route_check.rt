@@ -1,18 +1,70 @@
 //! The check of routes.
 ghost use Rattle.std.specs.Prelude.{◌≡◌, true, IfErr};
+ghost use Rattle.tk_problem_text.specs.ProblemOf.{problem_is};
+ghost use Rattle.tk_routes.specs.Cvrps.{instance_of};
+ghost use Rattle.tk_routes.specs.Instance.{IsInstanceOf};
 ghost use Rattle.tk_writers.specs.Puts.{Writes};
 ghost use Rattle.tk_engines.specs.Engine.{Ends, ReadsProblem, ReadsSolution, IsUntouched, BeforeSecond, UnlessWrite};
-ghost use Rattle.tk_engines.specs.Engine.{AtWrite};
+ghost use Rattle.tk_engines.specs.Engine.{AtWrite, HasRead};
 ghost use Rattle.tk_engines.specs.RouteCheck.{route_check_task};
 
 use crate::fault::Fault;
 use crate::lines::route_line::write_route_verdict;
 use std::alloc::Global;
 use tk_lists::read_solution;
+use tk_problem::Problem;
 use tk_problem_text::read_problem;
 use tk_routes::{Cvrp, RouteVerdict, check_routes};
 use tk_words::Source;
 use tk_writers::Sink;
+
+/// Reads a solution, checks its routes, and writes the line on them.
+fn check_solution<S: Source, W: Sink>(
+    alloc: Global,
+    problem: &Problem,
+    cvrp: &Cvrp<'_>,
+    solution: &mut S,
+    out: &mut W,
+) -> Result<RouteVerdict, Fault>
+    requires { IsInstanceOf problem.now (instance_of cvrp.now) }
+    ensures ends { Ends route_check_task (HasRead (problem_is problem.now))
+        (ReadsSolution S.left S.broken solution.old solution.new)
+        (Writes W.taken W.broken out.old out.new) result }
+    ensures quiet { IfErr result (UnlessWrite (IsUntouched W.taken W.broken out.old out.new)) }
+    ensures failed { IfErr result (AtWrite (W.broken out.new ≡ true)) }
+{
+    let solution = match read_solution(alloc, solution) {
+        Ok(solution) => solution,
+        Err(fault) => return Err(Fault::Solution(fault)),
+    };
+    let Ok(verdict) = check_routes(alloc, cvrp, &solution) else {
+        return Err(Fault::NoMemory);
+    };
+    match write_route_verdict(out, verdict) {
+        Ok(()) => Ok(verdict),
+        Err(fault) => Err(Fault::Write(fault)),
+    }
+}
+
+/// Does the same for a problem, unless it has no routing.
+fn check_problem<S: Source, W: Sink>(
+    alloc: Global,
+    problem: &Problem,
+    solution: &mut S,
+    out: &mut W,
+) -> Result<RouteVerdict, Fault>
+    ensures ends { Ends route_check_task (HasRead (problem_is problem.now))
+        (ReadsSolution S.left S.broken solution.old solution.new)
+        (Writes W.taken W.broken out.old out.new) result }
+    ensures quiet { IfErr result (UnlessWrite (IsUntouched W.taken W.broken out.old out.new)) }
+    ensures failed { IfErr result (AtWrite (W.broken out.new ≡ true)) }
+    ensures unread { IfErr result (BeforeSecond (IsUntouched S.left S.broken solution.old solution.new)) }
+{
+    let Some(cvrp) = Cvrp::of(problem) else {
+        return Err(Fault::WrongType);
+    };
+    check_solution(alloc, problem, &cvrp, solution, out)
+}
 
 /// Checks the routes of one text against the problem of another, writes one line on them, and returns the verdict.
 ///
@@ -33,22 +85,8 @@ pub fn route_check_engine<P: Source, S: Source, W: Sink>(
     ensures failed { IfErr result (AtWrite (W.broken out.new ≡ true)) }
     ensures unread { IfErr result (BeforeSecond (IsUntouched S.left S.broken solution.old solution.new)) }
 {
-    let problem = match read_problem(alloc, problem) {
-        Ok(problem) => problem,
-        Err(fault) => return Err(Fault::Problem(fault)),
-    };
-    let Some(cvrp) = Cvrp::of(&problem) else {
-        return Err(Fault::WrongType);
-    };
-    let solution = match read_solution(alloc, solution) {
-        Ok(solution) => solution,
-        Err(fault) => return Err(Fault::Solution(fault)),
-    };
-    let Ok(verdict) = check_routes(alloc, &cvrp, &solution) else {
-        return Err(Fault::NoMemory);
-    };
-    match write_route_verdict(out, verdict) {
-        Ok(()) => Ok(verdict),
-        Err(fault) => Err(Fault::Write(fault)),
+    match read_problem(alloc, problem) {
+        Ok(problem) => check_problem(alloc, &problem, solution, out),
+        Err(fault) => Err(Fault::Problem(fault)),
     }
 }

@@ -1,5 +1,5 @@
 //! The search for a tour or for routes.
-ghost use Rattle.std.specs.Prelude.{◌≡◌, ◌≤◌, ◌≤ℤ◌, ◌∷◌, pos, IfOk, IfErr, OnErr, MatchOption, is_some, length};
+ghost use Rattle.std.specs.Prelude.{◌≡◌, ◌≤◌, ◌≤ℤ◌, ◌∷◌, pos, IfOk, IfErr, OnErr, MatchOption, None, is_some, length};
 ghost use Rattle.std.specs.List.{concat};
 ghost use Rattle.tk_problem.specs.declared.limits.TheConstants.{CITY_LIMIT, ENTRY_LIMIT, ROUTE_LIMIT};
 ghost use Rattle.tk_problem_text.specs.ProblemOf.{problem_is};
@@ -9,10 +9,10 @@ ghost use Rattle.tk_routes.specs.RouteLists.{routes_of};
 ghost use Rattle.tk_solve.specs.SolvedTours.{IsSolved, IsSound};
 ghost use Rattle.tk_solve.specs.Events.{Begun};
 ghost use Rattle.tk_solve.specs.Watching.{WereShown};
-ghost use Rattle.tk_engines.specs.Engine.{AtWrite, BeforeSecond, Ends, IsUntouched, ReadsProblem, UnlessWrite};
+ghost use Rattle.tk_engines.specs.Engine.{AtWrite, BeforeSecond, Ends, HasRead, IsUntouched, ReadsProblem, UnlessWrite};
 ghost use Rattle.tk_engines.specs.Solve.{AreRoutesOf, AreUntouched, BeforeSearch, GivesFiles, HasFailed, IsTourWritten};
 ghost use Rattle.tk_engines.specs.Solve.{ReadsInitial, WritesFiles, cities_in, route_files, solve_task, tour_files};
-ghost use Rattle.tk_engines.specs.Solve.{tour_task};
+ghost use Rattle.tk_engines.specs.Solve.{tour_task, unfit_key};
 
 use crate::engines::solve_given::{check_initial, options_of, read_initial, unfit};
 use crate::fault::Fault;
@@ -137,6 +137,59 @@ fn solve_cvrp<F: Sink, W: Sink>(
     }
 }
 
+/// Checks the tour to begin with, where there is one, and searches for a tour or for routes.
+fn solve_from<F: Sink, W: Sink, V: Watch>(
+    alloc: Global,
+    params: &Params,
+    problem: &Problem,
+    initial: &Option<TourText>,
+    file: &mut F,
+    out: &mut W,
+    watch: &mut V,
+) -> Result<(), Fault>
+    requires { unfit_key params.now (problem_is problem.now) ≡ None }
+    ensures ends { Ends (solve_task params.now (WereShown V.shows watch.old watch.new))
+        (HasRead (problem_is problem.now)) (HasRead (cities_in initial.now))
+        (WritesFiles F.taken F.broken W.taken W.broken file.old file.new out.old out.new) result }
+    ensures quiet { IfErr result
+        (UnlessWrite (AreUntouched F.taken F.broken W.taken W.broken file.old file.new out.old out.new)) }
+    ensures failed { IfErr result (AtWrite (HasFailed (F.broken file.new) (W.broken out.new))) }
+    ensures unwatched { IfErr result (BeforeSearch (watch.new ≡ watch.old)) }
+{
+    check_initial(alloc, problem, initial)?;
+    match Cvrp::of(problem) {
+        Some(cvrp) => solve_cvrp(alloc, params, &cvrp, file, out),
+        None => solve_tsp(alloc, params, problem, initial, file, out, watch),
+    }
+}
+
+/// Does what parameters ask for of a problem that their keys fit.
+fn solve_problem<I: Source, F: Sink, W: Sink, V: Watch>(
+    alloc: Global,
+    params: &Params,
+    problem: &Problem,
+    initial: &mut I,
+    file: &mut F,
+    out: &mut W,
+    watch: &mut V,
+) -> Result<(), Fault>
+    ensures ends { Ends (solve_task params.now (WereShown V.shows watch.old watch.new))
+        (HasRead (problem_is problem.now))
+        (ReadsInitial (is_some params.now.initial_tour_file) I.left I.broken initial.old initial.new)
+        (WritesFiles F.taken F.broken W.taken W.broken file.old file.new out.old out.new) result }
+    ensures quiet { IfErr result
+        (UnlessWrite (AreUntouched F.taken F.broken W.taken W.broken file.old file.new out.old out.new)) }
+    ensures failed { IfErr result (AtWrite (HasFailed (F.broken file.new) (W.broken out.new))) }
+    ensures unread { IfErr result (BeforeSecond (IsUntouched I.left I.broken initial.old initial.new)) }
+    ensures unwatched { IfErr result (BeforeSearch (watch.new ≡ watch.old)) }
+{
+    if let Some(key) = unfit(params, problem) {
+        return Err(Fault::NotForType(key));
+    }
+    let tour = read_initial(alloc, params, initial)?;
+    solve_from(alloc, params, problem, &tour, file, out, watch)
+}
+
 /// Does what parameters ask for: searches for a short tour of a TSP or for short routes of a CVRP. `file` gets the text
 /// of the tour or of the solution, and then `out` the keys that are not used, a line for each run or for the routes,
 /// and the best length.
@@ -168,17 +221,8 @@ pub fn solve_engine<P: Source, I: Source, F: Sink, W: Sink, V: Watch>(
     ensures unread { IfErr result (BeforeSecond (IsUntouched I.left I.broken initial.old initial.new)) }
     ensures unwatched { IfErr result (BeforeSearch (watch.new ≡ watch.old)) }
 {
-    let problem = match read_problem(alloc, problem) {
-        Ok(problem) => problem,
-        Err(fault) => return Err(Fault::Problem(fault)),
-    };
-    if let Some(key) = unfit(params, &problem) {
-        return Err(Fault::NotForType(key));
-    }
-    let tour = read_initial(alloc, params, initial)?;
-    check_initial(alloc, &problem, &tour)?;
-    match Cvrp::of(&problem) {
-        Some(cvrp) => solve_cvrp(alloc, params, &cvrp, file, out),
-        None => solve_tsp(alloc, params, &problem, &tour, file, out, watch),
+    match read_problem(alloc, problem) {
+        Ok(problem) => solve_problem(alloc, params, &problem, initial, file, out, watch),
+        Err(fault) => Err(Fault::Problem(fault)),
     }
 }

@@ -1,10 +1,11 @@
 //! The line that tells a verdict on routes.
-ghost use Rattle.std.specs.Prelude.{◌≡◌, ◌++◌, true, OnErr, codes, decimal};
+ghost use Rattle.std.specs.Prelude.{◌≡◌, ◌++◌, true, OnErr, decimal};
 ghost use Rattle.tk_writers.specs.Pens.{Puts};
 ghost use Rattle.tk_writers.specs.Puts.{Writes};
 ghost use Rattle.tk_writers.specs.Written.{line};
 ghost use Rattle.tk_engines.specs.Lines.RouteLine.{route_verdict_line, valid_line, wrong_cost_line};
 
+use crate::lines::labelled::{put_labelled, put_place_line};
 use tk_routes::RouteVerdict;
 use tk_writers::{Pen, Sink, WriteFault};
 
@@ -13,20 +14,7 @@ fn put_valid_line<W: Sink>(pen: &mut Pen<'_, W>, routes: u64, cost: u64)
     ensures { Puts W.taken W.broken pen.old pen.new (valid_line routes cost) }
 {
     pen.put_number(routes);
-    pen.put(b" routes, cost ");
-    pen.put_number(cost);
-    pen.put(b"\n");
-}
-
-/// Puts the line of a fault on a route.
-fn put_route_line<W: Sink>(pen: &mut Pen<'_, W>, fault: &[u8], route: u64, number: u64)
-    ensures { Puts W.taken W.broken pen.old pen.new
-        (line (fault.now ++ decimal route ++ codes ": " ++ decimal number)) }
-{
-    pen.put(fault);
-    pen.put_number(route);
-    pen.put(b": ");
-    pen.put_number(number);
+    put_labelled(pen, b" routes, cost ", cost);
     pen.put(b"\n");
 }
 
@@ -34,8 +22,7 @@ fn put_route_line<W: Sink>(pen: &mut Pen<'_, W>, fault: &[u8], route: u64, numbe
 fn put_customer_line<W: Sink>(pen: &mut Pen<'_, W>, fault: &[u8], customer: u32)
     ensures { Puts W.taken W.broken pen.old pen.new (line (fault.now ++ decimal customer)) }
 {
-    pen.put(fault);
-    pen.put_number(customer as u64);
+    put_labelled(pen, fault, customer as u64);
     pen.put(b"\n");
 }
 
@@ -43,10 +30,8 @@ fn put_customer_line<W: Sink>(pen: &mut Pen<'_, W>, fault: &[u8], customer: u32)
 fn put_cost_line<W: Sink>(pen: &mut Pen<'_, W>, read: u64, counted: u64)
     ensures { Puts W.taken W.broken pen.old pen.new (wrong_cost_line read counted) }
 {
-    pen.put(b"wrong cost: ");
-    pen.put_number(read);
-    pen.put(b" read, ");
-    pen.put_number(counted);
+    put_labelled(pen, b"wrong cost: ", read);
+    put_labelled(pen, b" read, ", counted);
     pen.put(b" counted");
     pen.put(b"\n");
 }
@@ -58,13 +43,13 @@ fn put_route_verdict<W: Sink>(pen: &mut Pen<'_, W>, verdict: RouteVerdict)
     match verdict {
         RouteVerdict::Valid { routes, cost } => put_valid_line(pen, routes, cost.unsigned_abs()),
         RouteVerdict::BadCustomer(route, number) => {
-            put_route_line(pen, b"bad customer in route ", route, number as u64);
+            put_place_line(pen, b"bad customer in route ", route, number as u64);
         }
         RouteVerdict::ServedTwice(customer) => {
             put_customer_line(pen, b"customer served twice: ", customer);
         }
         RouteVerdict::OverCapacity(route, load) => {
-            put_route_line(pen, b"over capacity in route ", route, load);
+            put_place_line(pen, b"over capacity in route ", route, load);
         }
         RouteVerdict::NotServed(customer) => {
             put_customer_line(pen, b"customer not served: ", customer);

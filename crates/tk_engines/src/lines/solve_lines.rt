@@ -7,6 +7,7 @@ ghost use Rattle.tk_params.specs.Keys.{all_keys};
 ghost use Rattle.tk_engines.specs.Lines.SolveLines.{best_line, ignored_line, improved_line, route_lines, run_line};
 ghost use Rattle.tk_engines.specs.Lines.SolveLines.{run_lines, savings_line, tour_lines, work_of};
 
+use crate::lines::labelled::put_labelled;
 use tk_params::Key;
 use tk_routes::RouteReport;
 use tk_solve::{RunReport, SolvedTour};
@@ -41,12 +42,9 @@ fn put_run<W: Sink>(pen: &mut Pen<'_, W>, number: u64, report: &RunReport)
     ensures { Puts W.taken W.broken pen.old pen.new (run_line number report.now) }
 {
     let totals = &report.totals;
-    pen.put(b"run ");
-    pen.put_number(number);
-    pen.put(b": start ");
-    pen.put_number(totals.start.unsigned_abs());
-    pen.put(b", best ");
-    pen.put_number(report.best.unsigned_abs());
+    put_labelled(pen, b"run ", number);
+    put_labelled(pen, b": start ", totals.start.unsigned_abs());
+    put_labelled(pen, b", best ", report.best.unsigned_abs());
     pen.put(b", trials ");
     pen.put_wide(totals.trials);
     put_work(pen, totals.moves, totals.tests, totals.swaps);
@@ -67,8 +65,7 @@ fn put_runs<W: Sink>(pen: &mut Pen<'_, W>, runs: &[RunReport])
 fn put_best<W: Sink>(pen: &mut Pen<'_, W>, length: u64)
     ensures { Puts W.taken W.broken pen.old pen.new (best_line length) }
 {
-    pen.put(b"best ");
-    pen.put_number(length);
+    put_labelled(pen, b"best ", length);
     pen.put(b"\n");
 }
 
@@ -85,10 +82,8 @@ fn put_tour_lines<W: Sink>(pen: &mut Pen<'_, W>, ignored: &[Key], solved: &Solve
 fn put_savings<W: Sink>(pen: &mut Pen<'_, W>, cost: u64, routes: u64)
     ensures { Puts W.taken W.broken pen.old pen.new (savings_line cost routes) }
 {
-    pen.put(b"savings ");
-    pen.put_number(cost);
-    pen.put(b", routes ");
-    pen.put_number(routes);
+    put_labelled(pen, b"savings ", cost);
+    put_labelled(pen, b", routes ", routes);
     pen.put(b"\n");
 }
 
@@ -97,8 +92,7 @@ fn put_improved<W: Sink>(pen: &mut Pen<'_, W>, cost: u64, report: &RouteReport)
     ensures { Puts W.taken W.broken pen.old pen.new
         (improved_line cost report.now.moves report.now.tests report.now.swaps) }
 {
-    pen.put(b"improved ");
-    pen.put_number(cost);
+    put_labelled(pen, b"improved ", cost);
     put_work(
         pen,
         report.moves as u128,

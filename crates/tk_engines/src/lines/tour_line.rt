@@ -1,5 +1,5 @@
 //! The line that tells a verdict.
-ghost use Rattle.std.specs.Prelude.{◌≡◌, ◌++◌, true, OnErr, codes, decimal};
+ghost use Rattle.std.specs.Prelude.{◌≡◌, ◌<◌, ◌≤◌, ◌-◌, ◌++◌, true, OnErr, codes, decimal, length, slice_index};
 ghost use Rattle.tk_distance.specs.Weights.{problem_distance};
 ghost use Rattle.tk_writers.specs.Pens.{Puts};
 ghost use Rattle.tk_writers.specs.Puts.{Writes};
@@ -8,6 +8,7 @@ ghost use Rattle.tk_tour.specs.Tour.{IsTour, tour_length};
 ghost use Rattle.tk_tour.specs.Verdict.{IsVerdict};
 ghost use Rattle.tk_engines.specs.Lines.TourLine.{verdict_line};
 
+use crate::lines::labelled::{put_labelled, put_place_line};
 use tk_distance::Table;
 use tk_problem::Problem;
 use tk_tour::{Verdict, length};
@@ -18,20 +19,15 @@ pub fn length_of(problem: &Problem, cities: &[u32]) -> u64
     requires tour { IsTour problem.now.n cities.now }
     ensures { result ≡ tour_length (problem_distance problem.now.weights) cities.now }
 {
-    match Table::of(problem) {
-        Table::Planes(planes) => length(&planes, cities).unsigned_abs(),
-        Table::Triangle(triangle) => length(&triangle, cities).unsigned_abs(),
-    }
+    length(&Table::of(problem), cities).unsigned_abs()
 }
 
 /// Puts the line of a tour.
 fn put_tour_line<W: Sink>(pen: &mut Pen<'_, W>, cities: u32, length: u64)
     ensures { Puts W.taken W.broken pen.old pen.new (tour_line cities length) }
 {
-    pen.put(b"tour of ");
-    pen.put_number(cities as u64);
-    pen.put(b" cities, length ");
-    pen.put_number(length);
+    put_labelled(pen, b"tour of ", cities as u64);
+    put_labelled(pen, b" cities, length ", length);
     pen.put(b"\n");
 }
 
@@ -39,23 +35,20 @@ fn put_tour_line<W: Sink>(pen: &mut Pen<'_, W>, cities: u32, length: u64)
 fn put_count_line<W: Sink>(pen: &mut Pen<'_, W>, wanted: u32, read: usize)
     ensures { Puts W.taken W.broken pen.old pen.new (wrong_count_line wanted read) }
 {
-    pen.put(b"wrong count: ");
-    pen.put_number(wanted as u64);
-    pen.put(b" wanted, ");
-    pen.put_number(read as u64);
+    put_labelled(pen, b"wrong count: ", wanted as u64);
+    put_labelled(pen, b" wanted, ", read as u64);
     pen.put(b" read");
     pen.put(b"\n");
 }
 
-/// Puts the line of a fault at a place, which counts from 1.
-fn put_place_line<W: Sink>(pen: &mut Pen<'_, W>, fault: &[u8], place: u32, city: u32)
-    ensures { Puts W.taken W.broken pen.old pen.new (line (fault.now ++ decimal place ++ codes ": " ++ decimal city)) }
+/// Puts the line of a fault of the city at a place, which counts from 1.
+fn put_city_line<W: Sink>(pen: &mut Pen<'_, W>, fault: &[u8], cities: &[u32], place: u32)
+    requires low { 0 < place }
+    requires high { place ≤ length cities.now }
+    ensures { Puts W.taken W.broken pen.old pen.new
+        (line (fault.now ++ decimal place ++ codes ": " ++ decimal (slice_index cities.now (place - 1)))) }
 {
-    pen.put(fault);
-    pen.put_number(place as u64);
-    pen.put(b": ");
-    pen.put_number(city as u64);
-    pen.put(b"\n");
+    put_place_line(pen, fault, place as u64, cities[place as usize - 1] as u64);
 }
 
 /// Puts the line that tells a verdict.
@@ -68,20 +61,10 @@ fn put_verdict<W: Sink>(pen: &mut Pen<'_, W>, problem: &Problem, cities: &[u32],
         Verdict::Tour => put_tour_line(pen, problem.n, length_of(problem, cities)),
         Verdict::WrongCount => put_count_line(pen, problem.n, cities.len()),
         Verdict::OutOfRange(place) => {
-            put_place_line(
-                pen,
-                b"out of range at place ",
-                place,
-                cities[place as usize - 1],
-            );
+            put_city_line(pen, b"out of range at place ", cities, place);
         }
         Verdict::RepeatedCity(place) => {
-            put_place_line(
-                pen,
-                b"repeated city at place ",
-                place,
-                cities[place as usize - 1],
-            );
+            put_city_line(pen, b"repeated city at place ", cities, place);
         }
     }
 }

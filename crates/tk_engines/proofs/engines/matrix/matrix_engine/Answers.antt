@@ -1,43 +1,21 @@
-use Rattle.std.proofs.Common.{refl}
 use Rattle.tk_problem_text.specs.ProblemOf.{problem_is}
-use Rattle.tk_engines.proofs.ProblemTables.{is_not_too_large}
+use Rattle.tk_writers.specs.Puts.{Writes}
+use Rattle.tk_engines.specs.Engine.{NoText, ReadsProblem}
+use Rattle.tk_engines.specs.MatrixOf.{matrix_task}
+use Rattle.tk_engines.proofs.Ends.{problem_read}
 use Rattle.tk_engines.proofs.engines.matrix.matrix_engine.Goals as goal
 
-pub returns-in-Ok-write_problem-clause-ends : goal.returns-in-Ok-write_problem-clause-ends
-returns-in-Ok-write_problem-clause-ends g c = record {
-  problem = problem_is c.in-Ok.problem;
-  second = tt;
-  text = _;
-  read = record {
-    is_problem =
-        record { answer = c.in-Ok.ensures.ok; some_text = c.in-Ok.ensures.some_text; intact = c.in-Ok.ensures.intact };
-    fits = is_not_too_large (problem_is c.in-Ok.problem) c.if-problem-gt-TABLE_LIMIT.false;
-    is_second = tt;
-  };
-  together = refl;
-  gives = record { is = refl; read_back = c.in-Ok-write_problem.ensures.read_back c.in-Ok.ensures.named };
-  written = c.in-Ok-write_problem.ensures.text;
-}
+pub returns-in-Ok-clause-ends : goal.returns-in-Ok-clause-ends
+returns-in-Ok-clause-ends g c =
+    problem_read (matrix_task c.args.format)
+    (ReadsProblem g.R.Source.left g.R.Source.broken c.args.problem.now c.read_problem.new.source) (λ _. NoText)
+    (Writes g.W.Sink.taken g.W.Sink.broken c.args.out.now c.matrix_problem.new.out)
+    (problem_is c.in-Ok.problem)
+    (record { answer = c.in-Ok.ensures.ok; some_text = c.in-Ok.ensures.some_text; intact = c.in-Ok.ensures.intact })
+    c.matrix_problem.result c.matrix_problem.ensures.ends
 
-pub returns-clause-ends : goal.returns-clause-ends
-returns-clause-ends g c = (
-  tt,
-  record {
-    problem = problem_is c.in-Ok.problem;
-    second = tt;
-    text = _;
-    read = record {
-      is_problem =
-          record {
-            answer = c.in-Ok.ensures.ok;
-            some_text = c.in-Ok.ensures.some_text;
-            intact = c.in-Ok.ensures.intact;
-          };
-      fits = is_not_too_large (problem_is c.in-Ok.problem) c.if-problem-gt-TABLE_LIMIT.false;
-      is_second = tt;
-    };
-    together = refl;
-    gives = record { is = refl; read_back = c.in-Err-write_problem.ensures.read_back c.in-Ok.ensures.named };
-    written = c.in-Err-write_problem.ensures.text;
-  },
-)
+pub returns-in-Ok-clause-quiet : goal.returns-in-Ok-clause-quiet
+returns-in-Ok-clause-quiet g c = c.matrix_problem.ensures.quiet
+
+pub returns-in-Ok-clause-failed : goal.returns-in-Ok-clause-failed
+returns-in-Ok-clause-failed g c = c.matrix_problem.ensures.failed

@@ -1,12 +1,12 @@
 use Rattle.tk_problem_text.specs.ProblemOf.{problem_is}
 use Rattle.tk_engines.specs.Engine.{ReadsProblem}
-use Rattle.tk_engines.specs.Plot.{ReadsClaim, WritesOutput}
-use Rattle.tk_engines.proofs.PlotEnds.{ends_from}
+use Rattle.tk_engines.specs.Plot.{ReadsClaim, WritesOutput, plot_task}
+use Rattle.tk_engines.proofs.Ends.{problem_read}
 use Rattle.tk_engines.proofs.engines.plot.plot_engine.Goals as goal
 
 pub returns-in-Ok-clause-ends : goal.returns-in-Ok-clause-ends
 returns-in-Ok-clause-ends g c =
-    ends_from c.args.form c.args.has_claim
+    problem_read (plot_task c.args.form c.args.has_claim)
     (ReadsProblem g.P.Source.left g.P.Source.broken c.args.problem.now c.read_problem.new.source)
     (ReadsClaim c.args.has_claim g.C.Source.left g.C.Source.broken c.args.claim.now c.plot_problem.new.claim)
     (WritesOutput g.W.Sink.taken g.W.Sink.broken g.T.Sink.taken g.T.Sink.broken c.args.out.now c.plot_problem.new.out
@@ -14,3 +14,12 @@ returns-in-Ok-clause-ends g c =
     (problem_is c.in-Ok.problem)
     (record { answer = c.in-Ok.ensures.ok; some_text = c.in-Ok.ensures.some_text; intact = c.in-Ok.ensures.intact })
     c.plot_problem.result c.plot_problem.ensures.ends
+
+pub returns-in-Ok-clause-quiet : goal.returns-in-Ok-clause-quiet
+returns-in-Ok-clause-quiet g c = c.plot_problem.ensures.quiet
+
+pub returns-in-Ok-clause-failed : goal.returns-in-Ok-clause-failed
+returns-in-Ok-clause-failed g c = c.plot_problem.ensures.failed
+
+pub returns-in-Ok-clause-unread : goal.returns-in-Ok-clause-unread
+returns-in-Ok-clause-unread g c = c.plot_problem.ensures.unread

@@ -1,9 +1,9 @@
-use Rattle.std.proofs.Common.{Bool, refl, subst, sym}
+use Rattle.std.proofs.Common.{Bool, refl, subst, sym, true}
 use Rattle.tk_problem_text.specs.ProblemOf.{problem_is}
-use Rattle.tk_engines.specs.Engine.{EndsByProblem, IsUntouched}
-use Rattle.tk_engines.specs.Plot.{Drawn, HasRead, Nothing, ReadsClaim, WritesOutput, plot_task}
+use Rattle.tk_engines.specs.Engine.{EndsByProblem, HasRead, IsUntouched}
+use Rattle.tk_engines.specs.Plot.{Drawn, Nothing, ReadsClaim, WritesOutput, plot_task}
 use Rattle.tk_engines.specs.declared.engines.plotted.Plotted.TheVariants as plotted
-use Rattle.tk_engines.proofs.PlotEnds.{before_none}
+use Rattle.tk_engines.proofs.Ends.{second_reached}
 use Rattle.tk_engines.proofs.engines.plot.plot_problem.Goals as goal
 
 pub returns-in_default-draw-clause-ends : goal.returns-in_default-draw-clause-ends
@@ -47,28 +47,25 @@ returns-then-not-has_claim-clause-ends g c = (
   },
 )
 
-pub returns-in-Some-of-clause-ends : goal.returns-in-Some-of-clause-ends
-returns-in-Some-of-clause-ends g c =
+pub returns-clause-ends : goal.returns-clause-ends
+returns-clause-ends g c =
     subst (λ (b : Bool). EndsByProblem (plot_task c.args.form b) (HasRead (problem_is c.args.problem.now))
-    (ReadsClaim b g.C.Source.left g.C.Source.broken c.args.claim.now c.plot_routes.new.claim)
-    (WritesOutput g.W.Sink.taken g.W.Sink.broken g.T.Sink.taken g.T.Sink.broken c.args.out.now c.plot_routes.new.out
-    c.args.told.now c.plot_routes.new.told) c.plot_routes.result)
-    (sym c.if-not-has_claim.false) c.plot_routes.ensures.ends
+    (ReadsClaim b g.C.Source.left g.C.Source.broken c.args.claim.now c.plot_claim.new.claim)
+    (WritesOutput g.W.Sink.taken g.W.Sink.broken g.T.Sink.taken g.T.Sink.broken c.args.out.now c.plot_claim.new.out
+    c.args.told.now c.plot_claim.new.told) c.plot_claim.result)
+    (sym c.if-not-has_claim.false) c.plot_claim.ensures.ends
 
-pub returns-in-Some-of-clause-unread : goal.returns-in-Some-of-clause-unread
-returns-in-Some-of-clause-unread g c =
-    before_none (IsUntouched g.C.Source.left g.C.Source.broken c.args.claim.now c.plot_routes.new.claim)
-    c.plot_routes.result c.plot_routes.ensures.second
+pub returns-clause-unread : goal.returns-clause-unread
+returns-clause-unread g c =
+    second_reached (IsUntouched g.C.Source.left g.C.Source.broken c.args.claim.now c.plot_claim.new.claim)
+    (plot_task c.args.form true)
+    (ReadsClaim true g.C.Source.left g.C.Source.broken c.args.claim.now c.plot_claim.new.claim)
+    (WritesOutput g.W.Sink.taken g.W.Sink.broken g.T.Sink.taken g.T.Sink.broken c.args.out.now c.plot_claim.new.out
+    c.args.told.now c.plot_claim.new.told)
+    (problem_is c.args.problem.now) c.in-Some.ensures.some.fits c.plot_claim.result c.plot_claim.ensures.ends
 
-pub returns-in-None-clause-ends : goal.returns-in-None-clause-ends
-returns-in-None-clause-ends g c =
-    subst (λ (b : Bool). EndsByProblem (plot_task c.args.form b) (HasRead (problem_is c.args.problem.now))
-    (ReadsClaim b g.C.Source.left g.C.Source.broken c.args.claim.now c.plot_tour.new.claim)
-    (WritesOutput g.W.Sink.taken g.W.Sink.broken g.T.Sink.taken g.T.Sink.broken c.args.out.now c.plot_tour.new.out
-    c.args.told.now c.plot_tour.new.told) c.plot_tour.result)
-    (sym c.if-not-has_claim.false) c.plot_tour.ensures.ends
+pub returns-clause-quiet : goal.returns-clause-quiet
+returns-clause-quiet g c = c.plot_claim.ensures.quiet
 
-pub returns-in-None-clause-unread : goal.returns-in-None-clause-unread
-returns-in-None-clause-unread g c =
-    before_none (IsUntouched g.C.Source.left g.C.Source.broken c.args.claim.now c.plot_tour.new.claim)
-    c.plot_tour.result c.plot_tour.ensures.second
+pub returns-clause-failed : goal.returns-clause-failed
+returns-clause-failed g c = c.plot_claim.ensures.failed

@@ -80,3 +80,12 @@ returns-clause-ends g c =
         written = shown.1.1;
       },
     )
+
+pub returns-in-Err-clause-quiet : goal.returns-in-Err-clause-quiet
+returns-in-Err-clause-quiet g c = ((refl, refl), (refl, refl))
+
+pub returns-in_default-clause-quiet : goal.returns-in_default-clause-quiet
+returns-in_default-clause-quiet g c = ((refl, refl), (refl, refl))
+
+pub returns-clause-failed : goal.returns-clause-failed
+returns-clause-failed g c = c.in-Err-show_tour.ensures.failed

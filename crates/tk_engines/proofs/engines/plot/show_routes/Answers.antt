@@ -5,8 +5,11 @@ use Rattle.tk_problem_text.specs.ProblemOf.{problem_is}
 use Rattle.tk_routes.specs.Cvrps.{instance_of}
 use Rattle.tk_picture.specs.Drawings.{SomeRoutes}
 use Rattle.tk_engines.specs.Plot.{Drawn, Refused, IsPicture}
-use Rattle.tk_engines.proofs.Shown.{routes_told, served_once}
+use Rattle.tk_engines.proofs.Shown.{drawing_failed, routes_told, served_once, telling_failed}
 use Rattle.tk_engines.proofs.engines.plot.show_routes.Goals as goal
+
+pub draw-requires-clause-view : goal.draw-requires-clause-view
+draw-requires-clause-view g c = c.requires.view
 
 pub draw-requires-clause-fits : goal.draw-requires-clause-fits
 draw-requires-clause-fits g c =
@@ -40,3 +43,13 @@ returns-in_default-clause-text g c = (
     ((refl, refl), c.write_route_verdict.ensures.text),
   ),
 )
+
+pub returns-in-Valid-clause-failed : goal.returns-in-Valid-clause-failed
+returns-in-Valid-clause-failed g c =
+    drawing_failed (g.W.Sink.broken c.draw.new.out) (g.T.Sink.broken c.args.told.now) c.draw.result
+    c.draw.ensures.failed
+
+pub returns-in_default-clause-failed : goal.returns-in_default-clause-failed
+returns-in_default-clause-failed g c =
+    telling_failed (g.W.Sink.broken c.args.out.now) (g.T.Sink.broken c.write_route_verdict.new.out)
+    c.write_route_verdict.result c.write_route_verdict.ensures.failed

@@ -1,4 +1,4 @@
-use Rattle.std.proofs.Common.{arith, refl}
+use Rattle.std.proofs.Common.{arith, refl, rules}
 use Rattle.tk_distance.specs.Tables.{table_size-limit}
 use Rattle.tk_engines.proofs.PrintedLines.LineLengths.{count_filled}
 use Rattle.tk_routes.specs.RouteLists.{routes_of}
@@ -21,6 +21,23 @@ returns-in-Ok-write_route_files-clause-gives g c = (
     c.in-Ok-write_route_files.ensures.text,
   ),
 )
+
+pub returns-clause-gives : goal.returns-clause-gives
+returns-clause-gives g c = (
+  route_files c.args.params.now (routes_of c.in-Ok.routes) c.in-Ok.report,
+  (
+    record {
+      routes = routes_of c.in-Ok.routes;
+      report = c.in-Ok.report;
+      are = search rules;
+      written = refl;
+    },
+    c.in-Err.ensures.text,
+  ),
+)
+
+pub returns-clause-failed : goal.returns-clause-failed
+returns-clause-failed g c = c.in-Err.ensures.failed
 
 pub write_route_files-requires-clause-routes : goal.write_route_files-requires-clause-routes
 write_route_files-requires-clause-routes g c =

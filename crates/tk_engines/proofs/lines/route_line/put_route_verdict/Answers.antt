@@ -3,13 +3,13 @@ use Rattle.std.specs.Int.RustNames.{unsigned_abs}
 use Rattle.tk_engines.proofs.lines.route_line.put_route_verdict.Goals as goal
 
 pub returns-in-BadCustomer : goal.returns-in-BadCustomer
-returns-in-BadCustomer g c = rw c.in-BadCustomer.is c.put_route_line.ensures
+returns-in-BadCustomer g c = rw c.in-BadCustomer.is c.put_place_line.ensures
 
 pub returns-in-ServedTwice : goal.returns-in-ServedTwice
 returns-in-ServedTwice g c = rw c.in-ServedTwice.is c.put_customer_line.ensures
 
 pub returns-in-OverCapacity : goal.returns-in-OverCapacity
-returns-in-OverCapacity g c = rw c.in-OverCapacity.is c.put_route_line-in-OverCapacity.ensures
+returns-in-OverCapacity g c = rw c.in-OverCapacity.is c.put_place_line-in-OverCapacity.ensures
 
 pub returns-in-NotServed : goal.returns-in-NotServed
 returns-in-NotServed g c = rw c.in-NotServed.is c.put_customer_line-in-NotServed.ensures

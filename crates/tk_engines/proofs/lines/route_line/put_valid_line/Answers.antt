@@ -1,10 +1,7 @@
 use Rattle.tk_writers.proofs.Pieces.Putting.{Puts-then}
+use Rattle.tk_engines.proofs.PrintedLines.Labels.{Puts-label}
 use Rattle.tk_engines.proofs.lines.route_line.put_valid_line.Goals as goal
 
 pub returns : goal.returns
 returns g c =
-    Puts-then _ _ _ _ _ _ _
-    (Puts-then _ _ _ _ _ _ _
-    (Puts-then _ _ _ _ _ _ _ c.put_number.ensures c.put.ensures)
-    c.put_number-2.ensures)
-    c.put-2.ensures
+    Puts-then _ _ _ _ _ _ _ (Puts-label _ _ _ _ _ _ _ _ c.put_number.ensures c.put_labelled.ensures) c.put.ensures

@@ -1,8 +1,9 @@
-use Rattle.std.proofs.Common.{◌≡◌, ap, rules, subst}
-use Rattle.std.specs.Prelude.{decimal}
+use Rattle.std.proofs.Common.{◌≡◌, ℕ, ap, rules, subst, ◌++◌}
+use Rattle.std.specs.Prelude.{codes, decimal}
 use Rattle.std.specs.Int.RustNames.{unsigned_abs}
 use Rattle.tk_writers.specs.Pens.{Puts}
 use Rattle.tk_writers.proofs.Pieces.Putting.{Puts-then}
+use Rattle.tk_engines.proofs.PrintedLines.Labels.{Puts-label}
 use Rattle.tk_engines.proofs.lines.solve_lines.put_run.Goals as goal
 
 pub returns : goal.returns
@@ -12,15 +13,11 @@ returns g c =
     Puts-then _ _ _ _ _ _ _ (Puts-then
     _ _ _ _ _ _ _ (Puts-then
     _ _ _ _ _ _ _ (Puts-then
-    _ _ _ _ _ _ _ (Puts-then
-    _ _ _ _ _ _ _ (Puts-then
-    _ _ _ _ _ _ _ (Puts-then _ _ _ _ _ _ _ (Puts-then _ _ _ _ _ _ _ (Puts-then _ _ _ _ _ _ _ c.put.ensures
-    c.put_number.ensures)
-    c.put-2.ensures)
-    (subst (Puts _ _ _ _) (ap decimal start) c.put_number-2.ensures))
-    c.put-3.ensures)
-    (subst (Puts _ _ _ _) (ap decimal best) c.put_number-3.ensures))
-    c.put-4.ensures)
+    _ _ _ _ _ _ _ (Puts-label
+    _ _ _ _ _ _ _ _ (Puts-label _ _ _ _ _ _ _ _ c.put_labelled.ensures
+    (subst (Puts _ _ _ _) (ap (λ (n : ℕ). codes ": start " ++ decimal n) start) c.put_labelled-2.ensures))
+    (subst (Puts _ _ _ _) (ap (λ (n : ℕ). codes ", best " ++ decimal n) best) c.put_labelled-3.ensures))
+    c.put.ensures)
     c.put_wide.ensures)
     c.put_work.ensures)
-    c.put-5.ensures
+    c.put-2.ensures

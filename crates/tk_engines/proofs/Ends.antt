@@ -1,0 +1,100 @@
+-- How an engine ends, by how it ends once its texts are read.
+use Rattle.std.proofs.Common.{◌≡◌, None, Result, Ok, Err, subst, sym}
+use Rattle.std.specs.Prelude.{IfErr}
+use Rattle.tk_problem_text.specs.Problem.{ProblemIs}
+use Rattle.tk_engines.specs.Engine.{AreRead, BeforeSecond, EndsByProblem, HasRead, IsGiven, Reading, Task, Writing}
+use Rattle.tk_engines.specs.declared.fault.Fault.{Fault}
+use Rattle.tk_engines.specs.declared.fault.Fault.TheVariants as faults
+
+-- what is known of a value that was read is known of what has read it
+known_of : {V : Type 0} (Known : Reading V) (v : V) → Known (Ok v) → (r : Result V Fault) → HasRead v r → Known r
+known_of {V} Known v is (Ok value) h = subst (λ (x : V). Known (Ok x)) (sym h) is
+known_of Known v is (Err f) h = elim h [ ]
+
+-- more is known of both texts
+module _ {B R T : Type 0} (task : Task B R T) (Problem ProblemMore : Reading ProblemIs)
+    (Second SecondMore : ProblemIs → Reading B) (Writes : Writing T)
+    (problem_more : (r : Result ProblemIs Fault) → Problem r → ProblemMore r)
+    (second_more : (p : ProblemIs) (r : Result B Fault) → Second p r → SecondMore p r) where
+  read_more : (p : ProblemIs) (second : B) → AreRead task Problem (Second p) p second →
+      AreRead task ProblemMore (SecondMore p) p second
+  read_more p second h =
+      record {
+        is_problem = problem_more (Ok p) h.is_problem;
+        fits = h.fits;
+        is_second = second_more p (Ok second) h.is_second;
+      }
+
+  given_more : (Written : T → Type 0) (answer : R) → IsGiven task Problem Second Written answer →
+      IsGiven task ProblemMore SecondMore Written answer
+  given_more Written answer h =
+      record {
+        problem = h.problem;
+        second = h.second;
+        text = h.text;
+        read = read_more h.problem h.second h.read;
+        together = h.together;
+        gives = h.gives;
+        written = h.written;
+      }
+
+  ends_more : (r : Result R Fault) → EndsByProblem task Problem Second Writes r →
+      EndsByProblem task ProblemMore SecondMore Writes r
+  ends_more (Ok answer) h = given_more (Writes (Ok tt)) answer h
+  ends_more (Err (faults.Problem f)) h = problem_more (Err (faults.Problem f)) h
+  ends_more (Err faults.WrongType) h =
+      record { problem = h.problem; is_problem = problem_more (Ok h.problem) h.is_problem; misfit = h.misfit }
+  ends_more (Err (faults.NotForType key)) h =
+      record { problem = h.problem; is_problem = problem_more (Ok h.problem) h.is_problem; misfit = h.misfit }
+  ends_more (Err faults.TooLarge) h =
+      record { problem = h.problem; is_problem = problem_more (Ok h.problem) h.is_problem; misfit = h.misfit }
+  ends_more (Err faults.NoPlaces) h =
+      record { problem = h.problem; is_problem = problem_more (Ok h.problem) h.is_problem; misfit = h.misfit }
+  ends_more (Err (faults.Tour f)) h =
+      record {
+        problem = h.problem;
+        is_problem = problem_more (Ok h.problem) h.is_problem;
+        fits = h.fits;
+        refused = second_more h.problem (Err (faults.Tour f)) h.refused;
+      }
+  ends_more (Err (faults.Solution f)) h =
+      record {
+        problem = h.problem;
+        is_problem = problem_more (Ok h.problem) h.is_problem;
+        fits = h.fits;
+        refused = second_more h.problem (Err (faults.Solution f)) h.refused;
+      }
+  ends_more (Err (faults.Initial f)) h = (h.0, h.1, read_more h.0 h.1 h.2, h.3)
+  ends_more (Err faults.NoMemory) h = (h.0, h.1, read_more h.0 h.1 h.2, h.3)
+  ends_more (Err (faults.Write f)) h = (h.0, given_more (Writes (Err f)) h.0 h.1)
+
+-- the problem is read as this
+pub problem_read : {B R T : Type 0} (task : Task B R T) (Problem : Reading ProblemIs) (Second : ProblemIs → Reading B)
+    (Writes : Writing T) (p : ProblemIs) → Problem (Ok p) → (r : Result R Fault)
+    → EndsByProblem task (HasRead p) Second Writes r → EndsByProblem task Problem Second Writes r
+problem_read task Problem Second Writes p is r h =
+    ends_more task (HasRead p) Problem Second Second Writes (known_of Problem p is) (λ q s known. known) r h
+
+-- the second text is read as this
+pub second_read : {B R T : Type 0} (task : Task B R T) (Problem : Reading ProblemIs) (Second : Reading B)
+    (Writes : Writing T) (second : B) → Second (Ok second) → (r : Result R Fault)
+    → EndsByProblem task Problem (λ _. HasRead second) Writes r → EndsByProblem task Problem (λ _. Second) Writes r
+second_read task Problem Second Writes second is r h =
+    ends_more task Problem Problem (λ _. HasRead second) (λ _. Second) Writes (λ s known. known)
+    (λ q. known_of Second second is) r h
+
+-- with a problem that fits it does not stop before the second text
+pub second_reached : {B R T : Type 0} (P : Type 0) (task : Task B R T) (Second : ProblemIs → Reading B)
+    (Writes : Writing T) (p : ProblemIs) → task.misfit p ≡ None → (r : Result R Fault)
+    → EndsByProblem task (HasRead p) Second Writes r → IfErr r (BeforeSecond P)
+second_reached P task Second Writes p fits (Ok answer) h = tt
+second_reached P task Second Writes p fits (Err (faults.Problem f)) h = elim h [ ]
+second_reached P task Second Writes p fits (Err faults.WrongType) h = cc (fits, h.is_problem, h.misfit)
+second_reached P task Second Writes p fits (Err (faults.NotForType key)) h = cc (fits, h.is_problem, h.misfit)
+second_reached P task Second Writes p fits (Err faults.TooLarge) h = cc (fits, h.is_problem, h.misfit)
+second_reached P task Second Writes p fits (Err faults.NoPlaces) h = cc (fits, h.is_problem, h.misfit)
+second_reached P task Second Writes p fits (Err (faults.Tour f)) h = tt
+second_reached P task Second Writes p fits (Err (faults.Solution f)) h = tt
+second_reached P task Second Writes p fits (Err (faults.Initial f)) h = tt
+second_reached P task Second Writes p fits (Err faults.NoMemory) h = tt
+second_reached P task Second Writes p fits (Err (faults.Write f)) h = tt

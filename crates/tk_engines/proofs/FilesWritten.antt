@@ -1,0 +1,33 @@
+-- How files are written, by how each of the two is.
+use Rattle.std.proofs.Common.{◌≡◌, ℕ, List, Option, Bool, true, Result, Ok, Err, OnErr, inl, inr, refl, subst, sym}
+use Rattle.std.specs.Result.{IsErrAnd}
+use Rattle.tk_writers.specs.Puts.{Writes}
+use Rattle.tk_writers.specs.declared.output.pen.WriteFault.{WriteFault}
+use Rattle.tk_engines.specs.Solve.{Files, HasFailed, WritesFiles}
+
+module _ {F W : Type 0} (file_taken : F → Option (List ℕ)) (file_broken : F → Bool) (out_taken : W → Option (List ℕ))
+    (out_broken : W → Bool) (file file' : F) (out out' : W) (files : Files) where
+  -- after the whole text, the lines are
+  pub lines_after : (r : Result (Unit {0}) WriteFault) → Writes file_taken file_broken file file' (Ok tt) files.file →
+      Writes out_taken out_broken out out' r files.out →
+      WritesFiles file_taken file_broken out_taken out_broken file file' out out' r files
+  lines_after (Ok tt) text lines = (text, lines)
+  lines_after (Err f) text lines = inr (text, lines)
+
+  -- the text broke off, and the fault was passed on
+  pub text_stopped : (f : WriteFault) (r : Result (Unit {0}) WriteFault) → IsErrAnd r (λ e. e ≡ f) →
+      Writes file_taken file_broken file file' (Err f) files.file →
+      WritesFiles file_taken file_broken out_taken out_broken file file' out out r files
+  text_stopped f (Err e) is text =
+      inl (subst (λ v. Writes file_taken file_broken file file' (Err v) files.file) (sym is) text, (refl, refl))
+  text_stopped f (Ok v) is text = elim is [ ]
+
+-- a write failed, of the text or of the lines
+pub text_failed : (file out : Bool) (r : Result (Unit {0}) WriteFault) → file ≡ true → OnErr r (HasFailed file out)
+text_failed file out (Ok tt) h = tt
+text_failed file out (Err f) h = inl h
+
+pub lines_failed : (file out : Bool) (r : Result (Unit {0}) WriteFault) → OnErr r (out ≡ true) →
+    OnErr r (HasFailed file out)
+lines_failed file out (Ok tt) h = tt
+lines_failed file out (Err f) h = inr h

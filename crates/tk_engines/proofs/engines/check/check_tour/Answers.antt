@@ -1,0 +1,53 @@
+use Rattle.std.proofs.Common.{refl}
+use Rattle.tk_problem_text.specs.ProblemOf.{problem_is}
+use Rattle.tk_engines.proofs.Lengths.{IsCheck-of}
+use Rattle.tk_engines.proofs.engines.check.check_tour.Goals as goal
+
+pub returns-in-Ok-write_verdict-clause-ends : goal.returns-in-Ok-write_verdict-clause-ends
+returns-in-Ok-write_verdict-clause-ends g c = record {
+  problem = problem_is c.args.problem.now;
+  second = c.in-Ok.tour.cities.items;
+  text = _;
+  read = record {
+    is_problem = refl;
+    fits = refl;
+    is_second =
+        record { answer = c.in-Ok.ensures.ok; some_text = c.in-Ok.ensures.some_text; intact = c.in-Ok.ensures.intact };
+  };
+  together = refl;
+  gives = IsCheck-of c.args.problem.now _ _ c.in-Ok-check.verdict c.as_slice-cities.ensures.value c.in-Ok-check.ensures;
+  written = c.in-Ok-write_verdict.ensures.text;
+}
+
+pub returns-clause-ends : goal.returns-clause-ends
+returns-clause-ends g c = (
+  c.in-Ok-check.verdict,
+  record {
+    problem = problem_is c.args.problem.now;
+    second = c.in-Ok.tour.cities.items;
+    text = _;
+    read = record {
+      is_problem = refl;
+      fits = refl;
+      is_second =
+          record {
+            answer = c.in-Ok.ensures.ok;
+            some_text = c.in-Ok.ensures.some_text;
+            intact = c.in-Ok.ensures.intact;
+          };
+    };
+    together = refl;
+    gives = IsCheck-of c.args.problem.now _ _ c.in-Ok-check.verdict c.as_slice-cities.ensures.value
+        c.in-Ok-check.ensures;
+    written = c.in-Err-write_verdict.ensures.text;
+  },
+)
+
+pub returns-in-Err-clause-quiet : goal.returns-in-Err-clause-quiet
+returns-in-Err-clause-quiet g c = (refl, refl)
+
+pub returns-in_default-clause-quiet : goal.returns-in_default-clause-quiet
+returns-in_default-clause-quiet g c = (refl, refl)
+
+pub returns-clause-failed : goal.returns-clause-failed
+returns-clause-failed g c = c.in-Err-write_verdict.ensures.failed
