@@ -5,7 +5,7 @@ use crate::lines::{
     Found, count_tokens, first_token, header, keyword_at, lines_of, token_after, tokens_of,
     value_behind,
 };
-use tk_words::{Keyword, Role, integer, role};
+use tk_words::{Keyword, Role, integer};
 
 /// A section, and how many of its numbers stand before a line.
 #[derive(Clone, Copy)]
@@ -40,7 +40,7 @@ pub fn place_of(text: &[u8], number: u64) -> Option<Place> {
 /// The place after a line.
 fn place_after(place: Option<Place>, line: &[u8]) -> Option<Place> {
     if let Some(word) = keyword_at(line) {
-        if role(word) != Role::BeginsSection {
+        if word.role() != Role::BeginsSection {
             return None;
         }
         return Some(Place {

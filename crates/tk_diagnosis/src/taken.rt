@@ -5,7 +5,7 @@ use crate::place::{Place, entry_width, place_of};
 use crate::sentence::Sentence;
 use crate::spot::Spot;
 use tk_params::key_of;
-use tk_words::{Keyword, Role, role, spelled};
+use tk_words::{Keyword, Role, spelled};
 
 /// What a line is taken for.
 pub fn taken_for<'a>(spot: &Spot<'a>) -> Sentence<'a> {
@@ -46,7 +46,7 @@ fn in_text<'a>(spot: &Spot<'a>) -> Sentence<'a> {
     if word == Keyword::Eof {
         return Sentence::of("EOF, the end of the file");
     }
-    if role(word) == Role::BeginsSection {
+    if word.role() == Role::BeginsSection {
         return Sentence::of("the beginning of {}").keyword(word);
     }
     Sentence::of("the header {} with the value {}")

@@ -1,25 +1,24 @@
 -- How files are written, by how each of the two is.
-use Rattle.std.proofs.Common.{◌≡◌, ℕ, List, Option, Bool, true, Result, Ok, Err, OnErr, inl, inr, refl, subst, sym}
+use Rattle.std.proofs.Common.{◌≡◌, Bool, true, Result, Ok, Err, OnErr, inl, inr, refl, subst, sym}
 use Rattle.std.specs.Result.{IsErrAnd}
 use Rattle.tk_writers.specs.Puts.{Writes}
 use Rattle.tk_writers.specs.declared.output.pen.WriteFault.{WriteFault}
+use Rattle.tk_writers.specs.declared.output.sink.Sink as sinks
 use Rattle.tk_engines.specs.Solve.{Files, HasFailed, WritesFiles}
 
-module _ {F W : Type 0} (file_taken : F → Option (List ℕ)) (file_broken : F → Bool) (out_taken : W → Option (List ℕ))
-    (out_broken : W → Bool) (file file' : F) (out out' : W) (files : Files) where
+module _ {F W : Type 0} (files : sinks.Ghosts F) (outs : sinks.Ghosts W) (file file' : F) (out out' : W)
+    (texts : Files) where
   -- after the whole text, the lines are
-  pub lines_after : (r : Result (Unit {0}) WriteFault) → Writes file_taken file_broken file file' (Ok tt) files.file →
-      Writes out_taken out_broken out out' r files.out →
-      WritesFiles file_taken file_broken out_taken out_broken file file' out out' r files
+  pub lines_after : (r : Result (Unit {0}) WriteFault) → Writes files file file' (Ok tt) texts.file →
+      Writes outs out out' r texts.out → WritesFiles files outs file file' out out' r texts
   lines_after (Ok tt) text lines = (text, lines)
   lines_after (Err f) text lines = inr (text, lines)
 
   -- the text broke off, and the fault was passed on
   pub text_stopped : (f : WriteFault) (r : Result (Unit {0}) WriteFault) → IsErrAnd r (λ e. e ≡ f) →
-      Writes file_taken file_broken file file' (Err f) files.file →
-      WritesFiles file_taken file_broken out_taken out_broken file file' out out r files
+      Writes files file file' (Err f) texts.file → WritesFiles files outs file file' out out r texts
   text_stopped f (Err e) is text =
-      inl (subst (λ v. Writes file_taken file_broken file file' (Err v) files.file) (sym is) text, (refl, refl))
+      inl (subst (λ v. Writes files file file' (Err v) texts.file) (sym is) text, (refl, refl))
   text_stopped f (Ok v) is text = elim is [ ]
 
 -- a write failed, of the text or of the lines

@@ -7,3 +7,4 @@ pub mod ReadTables
 pub mod RouteChecks
 pub mod Shown
 pub mod SolveEnds
+pub mod TextsRead

@@ -3,7 +3,7 @@ use Rattle.std.proofs.Common.{◌≡◌, ℕ, ◌-◌, ◌≤◌, min, Option, S
 use Rattle.std.proofs.lemmas.Bool.{le-ltb}
 use Rattle.std.specs.Prelude.{Bool, IfOk, if◌then◌else◌}
 use Rattle.tk_problem.specs.declared.limits.TheConstants.{TABLE_LIMIT}
-use Rattle.tk_near.specs.Near.{NearLists, AreNearest}
+use Rattle.tk_near.specs.Near.{NearLists, AreNearest, AreNearLists}
 use Rattle.tk_distance.specs.Tables.{table_size, table_distance, table_distance-swap, table_distance-limit}
 use Rattle.tk_distance.specs.Weights.{problem_distance}
 use Rattle.tk_distance.specs.declared.table.Table.{Table}
@@ -25,17 +25,16 @@ IsTable-table t n d same = record {
   diagonal = λ a _ _. omega (arith, same a a, table_distance-limit t a a);
 }
 
-pub IsNearOf-table : {E : Type 0} (t : Table) (p : Problem) (k : ℕ) (r : Result NearLists E) → table_size t ≡ p.n
-    → ((a b : ℕ) → table_distance t a b ≡ problem_distance p.weights a b)
-    → IfOk r (λ v. v.size ≡ table_size t) → IfOk r (λ v. v.width ≡ min k (p.n - 1))
-    → IfOk r (λ v. AreNearest (table_distance t) v)
+pub IsNearOf-table : {E : Type 0} (t : Table) (p : Problem) (k width : ℕ) (r : Result NearLists E) → table_size t ≡ p.n
+    → ((a b : ℕ) → table_distance t a b ≡ problem_distance p.weights a b) → width ≡ min k (p.n - 1)
+    → IfOk r (AreNearLists (table_distance t) (table_size t) width)
     → IfOk r (λ v. IsNearOf (problem_is p) k v)
-IsNearOf-table t p k (Ok v) same is size width near = record {
-  size = size ∙ same;
-  width = width;
-  near = subst (λ (d : ℕ → ℕ → ℕ). AreNearest d v) (distances_read (table_distance t) p.weights is) near;
+IsNearOf-table t p k width (Ok v) same is most lists = record {
+  size = lists.size ∙ same;
+  width = lists.width ∙ most;
+  near = subst (λ (d : ℕ → ℕ → ℕ). AreNearest d v) (distances_read (table_distance t) p.weights is) lists.near;
 }
-IsNearOf-table t p k (Err e) same is size width near = tt
+IsNearOf-table t p k width (Err e) same is most lists = tt
 
 abbrev large_by : Bool → Option Fault
 large_by b = if b then Some TooLarge else None

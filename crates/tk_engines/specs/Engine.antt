@@ -12,27 +12,27 @@ use Rattle.tk_problem_text.specs.Problem.{ProblemIs, problem_texts}
 use Rattle.tk_lists.specs.Solution.{Solution, solution_texts}
 use Rattle.tk_lists.specs.Tour.{tour_texts}
 use Rattle.tk_words.specs.declared.fault.TextFault.{TextFault}
+use Rattle.tk_words.specs.declared.sources.source.Source as sources
 use Rattle.tk_writers.specs.declared.output.pen.WriteFault.{WriteFault}
+use Rattle.tk_writers.specs.declared.output.sink.Sink as sinks
 use Rattle.tk_engines.specs.declared.fault.Fault.{Fault}
 use Rattle.tk_engines.specs.declared.fault.Fault.TheVariants as faults
 
 -- ---- sources and sinks
 
 -- the text of a source says this value, and no read failed
-pub record IsRead {V S : Type 0} (texts : Texts V TextFault) (left : S → Option (List ℕ)) (broken : S → Bool)
-    (old new : S)
-    (value : V) : Type 0 where
-  pub answer : IsAnswerWhereTold texts (left old) (left new) (Ok value)
+pub record IsRead {V S : Type 0} (texts : Texts V TextFault) (source : sources.Ghosts S) (old new : S) (value : V) :
+    Type 0 where
+  pub answer : IsAnswerWhereTold texts (source.left old) (source.left new) (Ok value)
   pub some_text : IsOfSomeText texts (Ok value)
-  pub intact : broken new ≡ broken old
+  pub intact : source.broken new ≡ source.broken old
 
 -- the text of a source has this fault, or reading it failed, or memory ran out
-pub record IsRefused {V S : Type 0} (texts : Texts V TextFault) (left : S → Option (List ℕ)) (broken : S → Bool)
-    (old new : S)
+pub record IsRefused {V S : Type 0} (texts : Texts V TextFault) (source : sources.Ghosts S) (old new : S)
     (f : TextFault) : Type 0 where
-  pub fault : IsFaultWhereTold texts (broken new) (left old) (left new) f
+  pub fault : IsFaultWhereTold texts (source.broken new) (source.left old) (source.left new) f
   pub some_fault : IsFaultOfSomeText texts f
-  pub intact : texts.cause f ≢ OfSource → broken new ≡ broken old
+  pub intact : texts.cause f ≢ OfSource → source.broken new ≡ source.broken old
 
 -- what is known where a text is read as a value, or is refused
 abbrev pub Reading : Type 0 → Type 1
@@ -43,20 +43,17 @@ abbrev pub Writing : Type 0 → Type 1
 Writing T = Result (Unit {0}) WriteFault → T → Type 0
 
 -- a source's text was read, or was refused with a fault that the engine wraps so
-abbrev pub Reads : {V S : Type 0} → Texts V TextFault → (TextFault → Fault) → (S → Option (List ℕ)) →
-    (S → Bool) → S → S →
-    Reading V
-Reads texts wrap left broken old new (Ok value) = IsRead texts left broken old new value
-Reads texts wrap left broken old new (Err fault) =
-    (f : TextFault) × (fault ≡ wrap f) × IsRefused texts left broken old new f
+abbrev pub Reads : {V S : Type 0} → Texts V TextFault → (TextFault → Fault) → sources.Ghosts S → S → S → Reading V
+Reads texts wrap source old new (Ok value) = IsRead texts source old new value
+Reads texts wrap source old new (Err fault) = (f : TextFault) × (fault ≡ wrap f) × IsRefused texts source old new f
 
-abbrev pub ReadsProblem : {S : Type 0} → (S → Option (List ℕ)) → (S → Bool) → S → S → Reading ProblemIs
+abbrev pub ReadsProblem : {S : Type 0} → sources.Ghosts S → S → S → Reading ProblemIs
 ReadsProblem = Reads problem_texts faults.Problem
 
-abbrev pub ReadsTour : {S : Type 0} → (S → Option (List ℕ)) → (S → Bool) → S → S → Reading (List ℕ)
+abbrev pub ReadsTour : {S : Type 0} → sources.Ghosts S → S → S → Reading (List ℕ)
 ReadsTour = Reads tour_texts faults.Tour
 
-abbrev pub ReadsSolution : {S : Type 0} → (S → Option (List ℕ)) → (S → Bool) → S → S → Reading Solution
+abbrev pub ReadsSolution : {S : Type 0} → sources.Ghosts S → S → S → Reading Solution
 ReadsSolution = Reads solution_texts faults.Solution
 
 -- there is no such text, so nothing is wrong with it
@@ -69,9 +66,13 @@ abbrev pub HasRead : {V : Type 0} → V → Reading V
 HasRead v (Ok value) = value ≡ v
 HasRead v (Err f) = ⊥
 
--- a source or a sink is as before
-abbrev pub IsUntouched : {S : Type 0} → (S → Option (List ℕ)) → (S → Bool) → S → S → Type 0
-IsUntouched bytes broken old new = (bytes new ≡ bytes old) × (broken new ≡ broken old)
+-- a source has what it had, and no read failed
+abbrev pub IsUnread : {S : Type 0} → sources.Ghosts S → S → S → Type 0
+IsUnread source old new = (source.left new ≡ source.left old) × (source.broken new ≡ source.broken old)
+
+-- a sink has what it had, and no write failed
+abbrev pub IsUnwritten : {W : Type 0} → sinks.Ghosts W → W → W → Type 0
+IsUnwritten sink old new = (sink.taken new ≡ sink.taken old) × (sink.broken new ≡ sink.broken old)
 
 -- ---- the stages
 

@@ -3,9 +3,11 @@
 --     ReadsClaim given      it is read as a tour where the problem has no routing, else as a solution
 --     WritesOutput      a picture goes to the one sink, or the line on a fault to the other
 use Rattle.std.specs.Prelude.{◌≡◌, ℕ, ◌⊎◌, Bool, true, false, List, [], Option, Some, None, Ok, Err, IsSomeAnd}
-use Rattle.std.specs.Prelude.{MatchOption, length, option_map, is_some}
+use Rattle.std.specs.Prelude.{MatchOption, Result, length, option_map, is_some}
 use Rattle.std.specs.Int.RustNames.{unsigned_abs}
 use Rattle.tk_problem.specs.declared.point.Point.{Point}
+use Rattle.tk_words.specs.declared.sources.source.Source as sources
+use Rattle.tk_writers.specs.declared.output.sink.Sink as sinks
 use Rattle.tk_problem_text.specs.Problem.{ProblemIs, RoutingIs, WeightsAre}
 use Rattle.tk_problem_text.specs.Problem as value
 use Rattle.tk_problem.specs.PlacesOf.{places_of}
@@ -21,7 +23,8 @@ use Rattle.tk_routes.specs.declared.claims.verdict.RouteVerdict.{RouteVerdict}
 use Rattle.tk_routes.specs.declared.claims.verdict.RouteVerdict.TheVariants as route_verdicts
 use Rattle.tk_engines.specs.Lines.TourLine.{verdict_line}
 use Rattle.tk_engines.specs.ReadProblems.{read_distance}
-use Rattle.tk_engines.specs.Engine.{IsUntouched, NoClash, Reading, ReadsSolution, ReadsTour, Task, Writing}
+use Rattle.tk_engines.specs.Engine.{EndsByProblem, IsUnread, IsUnwritten, NoClash, Reading, ReadsProblem}
+use Rattle.tk_engines.specs.Engine.{ReadsSolution, ReadsTour, Task, Writing}
 use Rattle.tk_engines.specs.Lines.RouteLine.{route_verdict_line}
 use Rattle.tk_engines.specs.ReadProblems.{instance_in}
 use Rattle.tk_engines.specs.declared.fault.Fault.{Fault}
@@ -45,15 +48,15 @@ pub data Claim : Type 0 where
 
 -- what is given is read as a tour where the problem has no routing, else as a solution; where nothing is given, the
 -- source is untouched
-abbrev pub ReadsClaim : {S : Type 0} → Bool → (S → Option (List ℕ)) → (S → Bool) → S → S → ProblemIs → Reading Claim
-ReadsClaim given left broken old new problem (Ok Nothing) = (given ≡ false) × IsUntouched left broken old new
-ReadsClaim given left broken old new problem (Ok (TourClaim cities)) =
-    (given ≡ true) × (problem.routing ≡ None) × ReadsTour left broken old new (Ok cities)
-ReadsClaim given left broken old new problem (Ok (RoutesClaim s)) =
-    (given ≡ true) × (is_some problem.routing ≡ true) × ReadsSolution left broken old new (Ok s)
-ReadsClaim given left broken old new problem (Err f) =
-    (given ≡ true) × MatchOption problem.routing (ReadsTour left broken old new (Err f))
-    (λ _. ReadsSolution left broken old new (Err f))
+abbrev pub ReadsClaim : {S : Type 0} → Bool → sources.Ghosts S → S → S → ProblemIs → Reading Claim
+ReadsClaim given source old new problem (Ok Nothing) = (given ≡ false) × IsUnread source old new
+ReadsClaim given source old new problem (Ok (TourClaim cities)) =
+    (given ≡ true) × (problem.routing ≡ None) × ReadsTour source old new (Ok cities)
+ReadsClaim given source old new problem (Ok (RoutesClaim s)) =
+    (given ≡ true) × (is_some problem.routing ≡ true) × ReadsSolution source old new (Ok s)
+ReadsClaim given source old new problem (Err f) =
+    (given ≡ true) × MatchOption problem.routing (ReadsTour source old new (Err f))
+    (λ _. ReadsSolution source old new (Err f))
 
 -- ---- what is written
 
@@ -114,20 +117,25 @@ abbrev pub plot_task : Form → Bool → Task Claim Plotted Output
 plot_task form given =
     record { misfit = λ p. without_places p.weights; IsClash = NoClash; takes_memory = given; Gives = IsPlot form }
 
--- two sinks: their types, and what each has taken and whether a write to it has failed
-module _ {W T : Type 0} (out_taken : W → Option (List ℕ)) (out_broken : W → Bool) (told_taken : T → Option (List ℕ))
-    (told_broken : T → Bool)
-    (out out' : W) (told told' : T) where
+-- two sinks
+module _ {W T : Type 0} (outs : sinks.Ghosts W) (tolds : sinks.Ghosts T) (out out' : W) (told told' : T) where
   -- a picture goes to the one, a line to the other
   abbrev pub WritesOutput : Writing Output
   WritesOutput r (Drawn picture) =
-      Writes out_taken out_broken out out' r picture × IsUntouched told_taken told_broken told told'
+      Writes outs out out' r picture × IsUnwritten tolds told told'
   WritesOutput r (Refused line) =
-      IsUntouched out_taken out_broken out out' × Writes told_taken told_broken told told' r line
+      IsUnwritten outs out out' × Writes tolds told told' r line
 
   -- neither has taken a byte
   abbrev pub AreUntouched : Type 0
-  AreUntouched = IsUntouched out_taken out_broken out out' × IsUntouched told_taken told_broken told told'
+  AreUntouched = IsUnwritten outs out out' × IsUnwritten tolds told told'
+
+-- how drawing ends: the two sources and the two sinks before it, and after it
+abbrev pub Plots : {P C W T : Type 0} → sources.Ghosts P → sources.Ghosts C → sinks.Ghosts W → sinks.Ghosts T →
+    Form → Bool → P × C × W × T → P × C × W × T → Result Plotted Fault → Type 0
+Plots problems claims outs tolds form given (problem, claim, out, told) (problem', claim', out', told') =
+    EndsByProblem (plot_task form given) (ReadsProblem problems problem problem')
+    (ReadsClaim given claims claim claim') (WritesOutput outs tolds out out' told told')
 
 -- a write to one of two sinks failed
 abbrev pub HasFailed : Bool → Bool → Type 0

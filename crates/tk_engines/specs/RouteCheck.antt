@@ -1,11 +1,14 @@
 -- What a check of routes tells.
-use Rattle.std.specs.Prelude.{◌≡◌, ℕ, true, List, Option, Some, None, IsSomeAnd, if◌then◌else◌, is_none}
+use Rattle.std.specs.Prelude.{◌≡◌, ℕ, true, List, Option, Some, None, IsSomeAnd, if◌then◌else◌, is_none, Result}
 use Rattle.tk_problem_text.specs.Problem.{ProblemIs}
 use Rattle.tk_lists.specs.Solution.{Solution}
+use Rattle.tk_words.specs.declared.sources.source.Source as sources
+use Rattle.tk_writers.specs.Puts.{Writes}
+use Rattle.tk_writers.specs.declared.output.sink.Sink as sinks
 use Rattle.tk_routes.specs.RouteVerdicts.{IsRouteVerdict}
 use Rattle.tk_routes.specs.declared.claims.verdict.RouteVerdict.{RouteVerdict}
 use Rattle.tk_engines.specs.Lines.RouteLine.{route_verdict_line}
-use Rattle.tk_engines.specs.Engine.{Task, NoClash}
+use Rattle.tk_engines.specs.Engine.{Ends, NoClash, ReadsProblem, ReadsSolution, Task}
 use Rattle.tk_engines.specs.ReadProblems.{instance_in}
 use Rattle.tk_engines.specs.declared.fault.Fault.{Fault}
 use Rattle.tk_engines.specs.declared.fault.Fault.TheVariants.{WrongType}
@@ -23,3 +26,10 @@ without_routing p = if is_none p.routing then Some WrongType else None
 -- routes are checked against a problem with a routing
 abbrev pub route_check_task : Task Solution RouteVerdict (List ℕ)
 route_check_task = record { misfit = without_routing; IsClash = NoClash; takes_memory = true; Gives = IsRouteCheck }
+
+-- how a check of routes ends: its two sources and its sink before it, and after it
+abbrev pub ChecksRoutes : {P S W : Type 0} → sources.Ghosts P → sources.Ghosts S → sinks.Ghosts W → P × S × W →
+    P × S × W → Result RouteVerdict Fault → Type 0
+ChecksRoutes problems solutions outs (problem, solution, out) (problem', solution', out') =
+    Ends route_check_task (ReadsProblem problems problem problem') (ReadsSolution solutions solution solution')
+    (Writes outs out out')

@@ -12,6 +12,8 @@ use Rattle.tk_writers.specs.Puts.{Writes}
 use Rattle.tk_writers.specs.SolutionWritten.{solution_text}
 use Rattle.tk_writers.specs.TourWritten.{tour_text}
 use Rattle.tk_lists.specs.declared.texts.TourText.{TourText}
+use Rattle.tk_words.specs.declared.sources.source.Source as sources
+use Rattle.tk_writers.specs.declared.output.sink.Sink as sinks
 use Rattle.tk_tour.specs.Verdict.{IsVerdict}
 use Rattle.tk_tour.specs.declared.fault.TourFault.TheVariants as tours
 use Rattle.tk_tour.specs.declared.verdict.Verdict.{Verdict}
@@ -26,10 +28,13 @@ use Rattle.tk_routes.specs.declared.solving.route_report.RouteReport.{RouteRepor
 use Rattle.tk_solve.specs.SolvedRoutes.{AreSolved}
 use Rattle.tk_solve.specs.SolvedTours.{IsSolved, IsSound}
 use Rattle.tk_solve.specs.Starts.{Begins, AtNearest, AtSavings, At, TourTask}
+use Rattle.tk_solve.specs.Watching.{WereShown}
 use Rattle.tk_solve.specs.declared.tour.SolvedTour.{SolvedTour}
+use Rattle.tk_solve.specs.declared.watch.Watch as watchers
 use Rattle.tk_solve.specs.Events.{Event, Begun}
 use Rattle.tk_engines.specs.ReadProblems.{read_distance}
-use Rattle.tk_engines.specs.Engine.{IsUntouched, Reading, ReadsTour, Task, Writing}
+use Rattle.tk_engines.specs.Engine.{Ends, IsUnread, IsUnwritten, Reading, ReadsProblem, ReadsTour, Task}
+use Rattle.tk_engines.specs.Engine.{Writing}
 use Rattle.tk_engines.specs.ReadProblems.{instance_in}
 use Rattle.tk_engines.specs.Lines.SolveLines.{route_lines, tour_lines}
 use Rattle.tk_engines.specs.declared.fault.Fault.{Fault}
@@ -49,10 +54,10 @@ abbrev pub cities_in : Option TourText → Option (List ℕ)
 cities_in tour = option_map (λ t. t.cities.items) tour
 
 -- the tour to begin with is read where the parameters name a file of one; else its source is untouched
-abbrev pub ReadsInitial : {S : Type 0} → Bool → (S → Option (List ℕ)) → (S → Bool) → S → S → Reading (Option (List ℕ))
-ReadsInitial given left broken old new (Ok None) = (given ≡ false) × IsUntouched left broken old new
-ReadsInitial given left broken old new (Ok (Some cities)) = (given ≡ true) × ReadsTour left broken old new (Ok cities)
-ReadsInitial given left broken old new (Err f) = (given ≡ true) × ReadsTour left broken old new (Err f)
+abbrev pub ReadsInitial : {S : Type 0} → Bool → sources.Ghosts S → S → S → Reading (Option (List ℕ))
+ReadsInitial given source old new (Ok None) = (given ≡ false) × IsUnread source old new
+ReadsInitial given source old new (Ok (Some cities)) = (given ≡ true) × ReadsTour source old new (Ok cities)
+ReadsInitial given source old new (Err f) = (given ≡ true) × ReadsTour source old new (Err f)
 
 -- the fault of a tour to begin with
 abbrev pub initial_fault : Verdict → Option Fault
@@ -148,22 +153,27 @@ solve_task p Watched =
           (λ r. AreRoutesOf p (instance_in problem r) files × Watched []);
     }
 
--- the two sinks of the files: their types, and what each has taken and whether a write to it has failed
-module _ {F W : Type 0} (file_taken : F → Option (List ℕ)) (file_broken : F → Bool) (out_taken : W → Option (List ℕ))
-    (out_broken : W → Bool)
-    (file file' : F) (out out' : W) where
+-- the two sinks of the files
+module _ {F W : Type 0} (files : sinks.Ghosts F) (outs : sinks.Ghosts W) (file file' : F) (out out' : W) where
   -- `file` is written before `out`: where `file` breaks off, `out` is untouched
   abbrev pub WritesFiles : Writing Files
-  WritesFiles (Ok _) files = Writes file_taken file_broken file file' (Ok tt) files.file
-      × Writes out_taken out_broken out out' (Ok tt) files.out
-  WritesFiles (Err f) files =
-      (Writes file_taken file_broken file file' (Err f) files.file × IsUntouched out_taken out_broken out out')
-      ⊎ (Writes file_taken file_broken file file' (Ok tt) files.file
-      × Writes out_taken out_broken out out' (Err f) files.out)
+  WritesFiles (Ok _) texts = Writes files file file' (Ok tt) texts.file × Writes outs out out' (Ok tt) texts.out
+  WritesFiles (Err f) texts =
+      (Writes files file file' (Err f) texts.file × IsUnwritten outs out out')
+      ⊎ (Writes files file file' (Ok tt) texts.file × Writes outs out out' (Err f) texts.out)
 
   -- neither has taken a byte
   abbrev pub AreUntouched : Type 0
-  AreUntouched = IsUntouched file_taken file_broken file file' × IsUntouched out_taken out_broken out out'
+  AreUntouched = IsUnwritten files file file' × IsUnwritten outs out out'
+
+-- how solving ends: the two sources, the two sinks and the watcher before it, and after it
+abbrev pub Solves : {P I F W V : Type 0} → sources.Ghosts P → sources.Ghosts I → sinks.Ghosts F → sinks.Ghosts W →
+    watchers.Ghosts V → ParamsAre → P × I × F × W × V → P × I × F × W × V → Result (Unit {0}) Fault → Type 0
+Solves problems initials files outs watchers params (problem, initial, file, out, watch)
+    (problem', initial', file', out', watch') =
+    Ends (solve_task params (WereShown watchers.shows watch watch')) (ReadsProblem problems problem problem')
+    (ReadsInitial (is_some params.initial_tour_file) initials initial initial')
+    (WritesFiles files outs file file' out out')
 
 -- a write to one of two sinks failed
 abbrev pub HasFailed : Bool → Bool → Type 0

@@ -2,7 +2,7 @@
 use tk_diagnosis::Sentence;
 use tk_lists::{SolText, TourText};
 use tk_params::Params;
-use tk_problem::{PlaneKind, Problem, Weights};
+use tk_problem::{Problem, Weights};
 
 /// What a file without a fault holds.
 #[derive(Drop)]
@@ -58,11 +58,7 @@ fn of_solution(solution: &SolText) -> Sentence<'_> {
 /// What its distances are.
 fn distances_of(weights: &Weights) -> &'static str {
     match weights {
-        Weights::Points(PlaneKind::Euc2d, _) => "EUC_2D",
-        Weights::Points(PlaneKind::Ceil2d, _) => "CEIL_2D",
-        Weights::Points(PlaneKind::Man2d, _) => "MAN_2D",
-        Weights::Points(PlaneKind::Max2d, _) => "MAX_2D",
-        Weights::Points(PlaneKind::Att, _) => "ATT",
+        Weights::Points(kind, _) => kind.word(),
         Weights::Lower(_) => "explicit",
     }
 }

@@ -9,7 +9,7 @@ use crate::form::{Form, Taken};
 use crate::place::{Flow, Place};
 use crate::reader::PieceReader;
 use std::mem;
-use tk_words::{Held, Keyword, Lexeme, Role, TextFault, TextKind, keyword_of, minus_one, role};
+use tk_words::{Held, Keyword, Lexeme, Role, TextFault, TextKind, keyword_of, minus_one};
 
 impl<F: Form> PieceReader<F> {
     ghost use Rattle.tk_words.specs.declared.keyword.Keyword.{Keyword};
@@ -28,7 +28,7 @@ impl<F: Form> PieceReader<F> {
             None => return Err(self.fault(TextKind::UnknownKeyword)),
             Some(word) => word,
         };
-        match role(word) {
+        match word.role() {
             Role::EndsText => match self.form.end() {
                 None => Ok(Flow::Whole),
                 Some(kind) => Err(self.fault(kind)),

@@ -11,6 +11,7 @@ use Rattle.tk_words.specs.Lex.{Token, after_word, trim, integer}
 use Rattle.tk_words.specs.Texts.{Texts, texts_of}
 use Rattle.tk_words.specs.Words.{spells}
 use Rattle.tk_lines.specs.HeaderValue.{first_word}
+use Rattle.tk_lists.specs.declared.texts.TourText.{TourText}
 use Rattle.tk_lines.specs.Pieces.{Piece, Extent, Stop, After, first_at, checked, or_else, has, tokens_in, Format}
 use Rattle.tk_lines.specs.Pieces.{decided_by}
 use Rattle.tk_words.specs.Entry.{in_range, is_keyword, number_tests, numbers_of}
@@ -71,3 +72,6 @@ tour_decided = decided_by tour_format
 -- tour texts
 abbrev pub tour_texts : Texts (List ℕ) TextFault
 tour_texts = texts_of tour_decided TEXT_LIMIT
+
+abbrev pub as_tour : TourText → List ℕ
+as_tour text = text.cities.items

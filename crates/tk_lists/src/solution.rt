@@ -1,6 +1,6 @@
 //! Solution texts.
-ghost use Rattle.std.specs.Prelude.{◌≡◌, ◌^◌, ◌≤◌, ◌++◌, ◌∷◌, ℕ, List, [], refl, Ok, IfOk, IfErr};
-ghost use Rattle.tk_words.specs.Texts.{IsAnswerWhereTold, IsFaultWhereTold, IsOfSomeText, IsFaultOfSomeText, IsIntact};
+ghost use Rattle.std.specs.Prelude.{◌≡◌, ◌^◌, ◌≤◌, ◌++◌, ◌∷◌, ℕ, List, [], refl, Ok};
+ghost use Rattle.tk_words.specs.Reading.{IsReading};
 ghost use Rattle.tk_lists.specs.Solution.{Solution, as_solution, lists_of, solution_texts};
 ghost use Rattle.tk_lists.specs.Reader.SolutionReader.{FedLines, HasTakenByte, SolutionWaits};
 
@@ -108,13 +108,7 @@ impl TextReader for SolutionReader {
 /// The first fault of the text, with its line; `Read` if the source fails before it is found, and `NoMemory` if memory
 /// runs out.
 pub fn read_solution<R: Source>(alloc: Global, source: &mut R) -> Result<SolText, TextFault>
-    ensures ok { IfOk result (λ solution. IsAnswerWhereTold solution_texts (R.left source.old) (R.left source.new)
-        (Ok (as_solution solution))) }
-    ensures err { IfErr result
-        (IsFaultWhereTold solution_texts (R.broken source.new) (R.left source.old) (R.left source.new)) }
-    ensures some_text { IfOk result (λ solution. IsOfSomeText solution_texts (Ok (as_solution solution))) }
-    ensures some_fault { IfErr result (IsFaultOfSomeText solution_texts) }
-    ensures intact { IsIntact solution_texts (R.broken source.old) (R.broken source.new) result }
+    ensures reads { IsReading R.Source solution_texts as_solution source.old source.new result }
 {
     read_text(source, SolutionReader::new(alloc))
 }

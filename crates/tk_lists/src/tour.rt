@@ -4,9 +4,9 @@ ghost use Rattle.tk_problem.specs.declared.limits.TheConstants.{ENTRY_LIMIT};
 ghost use Rattle.tk_words.specs.declared.fault.TextKind.TheVariants as kinds;
 ghost use Rattle.tk_lines.specs.declared.form.Taken.TheVariants as takens;
 ghost use Rattle.tk_words.specs.declared.keyword.Keyword.TheVariants as words;
-ghost use Rattle.tk_words.specs.Texts.{IsAnswerWhereTold, IsFaultWhereTold, IsOfSomeText, IsFaultOfSomeText, IsIntact};
+ghost use Rattle.tk_words.specs.Reading.{IsReading};
 ghost use Rattle.tk_lines.specs.Reader.Forms.{IsToldWord};
-ghost use Rattle.tk_lists.specs.Tour.{tour_header, tour_texts};
+ghost use Rattle.tk_lists.specs.Tour.{as_tour, tour_header, tour_texts};
 ghost use Rattle.tk_lists.specs.Reader.TourForm.{TourHolds, IsNext, IsOut, tour_promise};
 ghost use Rattle.tk_lines.specs.Reader.FormSteps.{RefusesHeader, TakesHeader};
 
@@ -179,13 +179,7 @@ impl Form for TourForm {
 /// The first fault of the text, with its line; `Read` if the source fails before it is found, and `NoMemory` if memory
 /// runs out.
 pub fn read_tour<R: Source>(alloc: Global, source: &mut R) -> Result<TourText, TextFault>
-    ensures ok { IfOk result (λ tour. IsAnswerWhereTold tour_texts (R.left source.old) (R.left source.new)
-        (Ok tour.cities.items)) }
-    ensures err { IfErr result
-        (IsFaultWhereTold tour_texts (R.broken source.new) (R.left source.old) (R.left source.new)) }
-    ensures some_text { IfOk result (λ tour. IsOfSomeText tour_texts (Ok tour.cities.items)) }
-    ensures some_fault { IfErr result (IsFaultOfSomeText tour_texts) }
-    ensures intact { IsIntact tour_texts (R.broken source.old) (R.broken source.new) result }
+    ensures reads { IsReading R.Source tour_texts as_tour source.old source.new result }
 {
     read_text(source, PieceReader::new(TourForm::new(alloc)))
 }

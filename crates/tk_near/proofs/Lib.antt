@@ -1,3 +1,4 @@
+pub mod Euclids
 pub mod InPlane
 pub mod Inserting
 pub mod Keeping

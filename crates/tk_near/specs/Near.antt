@@ -3,6 +3,7 @@
 --     IsFirst dist c P b      b is the first of the cities with P, seen from c
 --     IsNear dist n k c cities      the first k of the cities other than c
 --     AreNearest dist v      each list of v is that of its city
+--     AreNearLists dist n k v      v has just these lists of k of each of n cities
 use Rattle.std.specs.Prelude.{◌≡◌, ◌≢◌, ℕ, ◌-◌, ◌*◌, ◌<◌, ◌≤◌, ◌⊎◌, List, length, slice_index, take, drop, All}
 use Rattle.tk_problem.specs.declared.limits.TheConstants.{CANDIDATE_LIMIT, CITY_LIMIT}
 use Rattle.tk_distance.specs.Cities.{IsCity}
@@ -54,3 +55,9 @@ pub record HasOthers (v : NearLists) : Type 0 where
 pub record AreNearest (dist : ℕ → ℕ → ℕ) (v : NearLists) : Type 0 where
   pub count : length v.entries ≡ v.size * v.width
   pub each : (c : ℕ) → IsCity v.size c → IsNear dist v.size v.width c (near_of v c)
+
+-- the near lists of n cities, k others for each
+pub record AreNearLists (dist : ℕ → ℕ → ℕ) (n k : ℕ) (v : NearLists) : Type 0 where
+  pub size : v.size ≡ n
+  pub width : v.width ≡ k
+  pub near : AreNearest dist v

@@ -2,7 +2,7 @@
 ghost use Rattle.std.specs.Prelude.{◌≡◌, ◌*◌, ◌≤◌, ◌<◌, IfOk, All, length, ⊤};
 ghost use Rattle.tk_problem.specs.declared.limits.TheConstants.{CANDIDATE_LIMIT, CITY_LIMIT};
 ghost use Rattle.tk_distance.specs.Cities.{IsCity};
-ghost use Rattle.tk_near.specs.Near.{IsNear, IsOther, AreNearest, near_of};
+ghost use Rattle.tk_near.specs.Near.{IsNear, IsOther, AreNearLists, near_of};
 ghost use Rattle.tk_near.specs.Keeping.{AreFilled, cities_kept};
 
 use crate::candidates::{Candidate, OPEN, keep, measure, write_cities};
@@ -33,9 +33,7 @@ impl Near {
     pub fn from_filled<M: Metric>(m: &M, k: u32, entries: Vec<u32>) -> Near
         requires limit { k ≤ CANDIDATE_LIMIT }
         requires filled { AreFilled (M.distance m.now) (M.size_of m.now) k (λ _. ⊤) entries.items }
-        ensures size { result.size ≡ M.size_of m.now }
-        ensures width { result.width ≡ k }
-        ensures near { AreNearest (M.distance m.now) result }
+        ensures { AreNearLists (M.distance m.now) (M.size_of m.now) k result }
     {
         Near {
             size: m.size(),
@@ -131,9 +129,7 @@ pub fn near_scan<M: Metric>(alloc: Global, m: &M, k: u32) -> Result<Near, AllocE
     requires low { 1 ≤ k }
     requires limit { k ≤ CANDIDATE_LIMIT }
     requires high { k < M.size_of m.now }
-    ensures size { IfOk result (λ v. v.size ≡ M.size_of m.now) }
-    ensures width { IfOk result (λ v. v.width ≡ k) }
-    ensures near { IfOk result (λ v. AreNearest (M.distance m.now) v) }
+    ensures { IfOk result (AreNearLists (M.distance m.now) (M.size_of m.now) k) }
 {
     let mut kept = vec![in alloc; OPEN; k as usize]?;
     let mut entries = room_for(alloc, m, k)?;

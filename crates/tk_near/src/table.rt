@@ -1,8 +1,8 @@
 //! The near lists of a table: by a k-d tree in the plane, else by a scan.
-ghost use Rattle.std.specs.Prelude.{◌≡◌, ◌≤◌, ◌<◌, IfOk};
+ghost use Rattle.std.specs.Prelude.{◌≤◌, ◌<◌, IfOk};
 ghost use Rattle.tk_problem.specs.declared.limits.TheConstants.{CANDIDATE_LIMIT};
 ghost use Rattle.tk_distance.specs.Tables.{table_size, table_distance};
-ghost use Rattle.tk_near.specs.Near.{AreNearest};
+ghost use Rattle.tk_near.specs.Near.{AreNearLists};
 
 use crate::near::{Near, near_scan};
 use crate::plane::tree::near_tree;
@@ -17,9 +17,7 @@ pub fn near_lists(alloc: Global, table: &Table<'_>, k: u32) -> Result<Near, Allo
     requires low { 1 ≤ k }
     requires limit { k ≤ CANDIDATE_LIMIT }
     requires high { k < table_size table.now }
-    ensures size { IfOk result (λ v. v.size ≡ table_size table.now) }
-    ensures width { IfOk result (λ v. v.width ≡ k) }
-    ensures near { IfOk result (λ v. AreNearest (table_distance table.now) v) }
+    ensures { IfOk result (AreNearLists (table_distance table.now) (table_size table.now) k) }
 {
     match table {
         Table::Planes(planes) => match planes.euclid() {

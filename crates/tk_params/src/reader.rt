@@ -1,8 +1,8 @@
 //! Parameter files, read from a source.
-ghost use Rattle.std.specs.Prelude.{◌≡◌, ◌≢◌, ◌≤◌, ◌^◌, ◌++◌, ◌∷◌, ℕ, List, [], true, false, refl, Ok, IfOk};
-ghost use Rattle.std.specs.Prelude.{IfErr, OnOk};
+ghost use Rattle.std.specs.Prelude.{◌≡◌, ◌≢◌, ◌≤◌, ◌^◌, ◌++◌, ◌∷◌, ℕ, List, [], true, false, refl, Ok};
+ghost use Rattle.std.specs.Prelude.{OnOk};
 ghost use Rattle.tk_words.specs.Lex.{behind, is_blank, is_word_byte};
-ghost use Rattle.tk_words.specs.Texts.{IsAnswerWhereTold, IsFaultWhereTold, IsOfSomeText, IsFaultOfSomeText, IsIntact};
+ghost use Rattle.tk_words.specs.Reading.{IsReading};
 ghost use Rattle.tk_params.specs.Asked.{ParamsAre};
 ghost use Rattle.tk_params.specs.Reader.Places.{Feeds, HasReadByte, NamesProblem, TakesLine, ParamsWait, params_in};
 ghost use Rattle.tk_params.specs.Params.{answer_at_end, spells_eof, params_texts};
@@ -204,13 +204,7 @@ impl TextReader for ParamReader {
 /// # Errors
 /// The first fault of the text by line; `Read` where the source fails; `NoMemory` where a growth is refused.
 pub fn read_params<R: Source>(alloc: Global, source: &mut R) -> Result<Params, ParamFault>
-    ensures ok { IfOk result (λ params. IsAnswerWhereTold params_texts (R.left source.old) (R.left source.new)
-        (Ok params)) }
-    ensures err { IfErr result
-        (IsFaultWhereTold params_texts (R.broken source.new) (R.left source.old) (R.left source.new)) }
-    ensures some_text { IfOk result (λ params. IsOfSomeText params_texts (Ok params)) }
-    ensures some_fault { IfErr result (IsFaultOfSomeText params_texts) }
-    ensures intact { IsIntact params_texts (R.broken source.old) (R.broken source.new) result }
+    ensures reads { IsReading R.Source params_texts (λ params. params) source.old source.new result }
 {
     read_text(source, ParamReader::new(alloc))
 }

@@ -1,12 +1,13 @@
 -- A pen into which nothing is put.
-use Rattle.std.proofs.Common.{ℕ, Bool, List, [], Option, refl, subst, sym, append-nil}
+use Rattle.std.proofs.Common.{[], refl, subst, sym, append-nil}
 use Rattle.tk_writers.specs.declared.output.pen.Pen.{Pen}
+use Rattle.tk_writers.specs.declared.output.sink.Sink.{Ghosts}
 use Rattle.tk_writers.specs.Pens.{PenHolds, Puts}
 
-pub Puts-none : {W : Type 0} (taken : W → Option (List ℕ)) (broken : W → Bool) (p : Pen W) → Puts taken broken p p []
-Puts-none taken broken p =
+pub Puts-none : {W : Type 0} {sink : Ghosts W} {p : Pen W} → Puts sink p p []
+Puts-none {W} {sink} {p} =
     record {
       same = refl;
-      text = λ start failed text h. subst (λ l. PenHolds taken broken start failed l p) (sym
+      text = λ start failed text h. subst (λ l. PenHolds sink start failed l p) (sym
           (append-nil text)) h;
     }

@@ -13,7 +13,7 @@ use tk_writers::{Pen, Sink};
 
 /// Puts how many cities there are.
 fn put_cities<W: Sink>(pen: &mut Pen<'_, W>, cities: u32)
-    ensures { Puts W.taken W.broken pen.old pen.new (decimal cities ++ codes " cities") }
+    ensures { Puts W.Sink pen.old pen.new (decimal cities ++ codes " cities") }
 {
     pen.put_number(cities as u64);
     pen.put(b" cities");
@@ -21,7 +21,7 @@ fn put_cities<W: Sink>(pen: &mut Pen<'_, W>, cities: u32)
 
 /// Puts how long a tour is.
 fn put_tour<W: Sink>(pen: &mut Pen<'_, W>, cities: u32, length: u64)
-    ensures { Puts W.taken W.broken pen.old pen.new
+    ensures { Puts W.Sink pen.old pen.new
         (codes "tour of " ++ decimal cities ++ codes " cities, length " ++ decimal length) }
 {
     pen.put(b"tour of ");
@@ -32,7 +32,7 @@ fn put_tour<W: Sink>(pen: &mut Pen<'_, W>, cities: u32, length: u64)
 
 /// Puts what routes cost.
 fn put_routes<W: Sink>(pen: &mut Pen<'_, W>, count: u64, cost: u64)
-    ensures { Puts W.taken W.broken pen.old pen.new (decimal count ++ codes " routes, cost " ++ decimal cost) }
+    ensures { Puts W.Sink pen.old pen.new (decimal count ++ codes " routes, cost " ++ decimal cost) }
 {
     pen.put_number(count);
     pen.put(b" routes, cost ");
@@ -41,7 +41,7 @@ fn put_routes<W: Sink>(pen: &mut Pen<'_, W>, count: u64, cost: u64)
 
 /// Puts what a picture shows.
 pub(crate) fn put_caption<W: Sink>(pen: &mut Pen<'_, W>, picture: &Picture<'_>)
-    ensures { Puts W.taken W.broken pen.old pen.new
+    ensures { Puts W.Sink pen.old pen.new
         (caption_of (city_count picture.now.view) (drawing_of picture.now.subject)) }
 {
     let cities = picture.view.size();
@@ -54,7 +54,7 @@ pub(crate) fn put_caption<W: Sink>(pen: &mut Pen<'_, W>, picture: &Picture<'_>)
 
 /// Puts the title of a picture.
 pub(crate) fn put_title<W: Sink>(pen: &mut Pen<'_, W>, picture: &Picture<'_>)
-    ensures { Puts W.taken W.broken pen.old pen.new
+    ensures { Puts W.Sink pen.old pen.new
         (title picture.now.name.now (city_count picture.now.view) (drawing_of picture.now.subject)) }
 {
     put_name(pen, picture.name);

@@ -18,7 +18,7 @@ use tk_writers::{Pen, Sink};
 /// Puts the beginning of the closed line with a number, from 1.
 fn put_line_start<W: Sink>(pen: &mut Pen<'_, W>, number: u64)
     requires { 1 ≤ number }
-    ensures { Puts W.taken W.broken pen.old pen.new (line_start number) }
+    ensures { Puts W.Sink pen.old pen.new (line_start number) }
 {
     pen.put(b"<polygon stroke=\"");
     put_colour(pen, number);
@@ -28,7 +28,7 @@ fn put_line_start<W: Sink>(pen: &mut Pen<'_, W>, number: u64)
 /// Puts the closed line through cities.
 pub(crate) fn put_tour<W: Sink>(pen: &mut Pen<'_, W>, view: &View<'_>, cities: &[u32])
     requires { All (IsCity (city_count view.now)) cities.now }
-    ensures { Puts W.taken W.broken pen.old pen.new
+    ensures { Puts W.Sink pen.old pen.new
         (closed_line (spot_in view.now) (record { number = 1; cities = cities.now })) }
 {
     put_line_start(pen, 1);
@@ -47,7 +47,7 @@ fn put_route<W: Sink>(
     requires size { (instance_of cvrp.now).size ≡ city_count view.now }
     requires known { All (IsCity (customer_count (instance_of cvrp.now))) route.now }
     requires number { 1 ≤ number }
-    ensures { Puts W.taken W.broken pen.old pen.new
+    ensures { Puts W.Sink pen.old pen.new
         (flat_map (closed_line (spot_in view.now)) (route_paths (instance_of cvrp.now) number (route.now ∷ []))) }
 {
     if route.is_empty() {
@@ -67,7 +67,7 @@ pub(crate) fn put_routes<W: Sink>(
 )
     requires size { (instance_of cvrp.now).size ≡ city_count view.now }
     requires once { AreServedOnce (customer_count (instance_of cvrp.now)) (concat (map (λ r. r.items) routes.now)) }
-    ensures { Puts W.taken W.broken pen.old pen.new (flat_map (closed_line (spot_in view.now))
+    ensures { Puts W.Sink pen.old pen.new (flat_map (closed_line (spot_in view.now))
         (route_paths (instance_of cvrp.now) 1 (map (λ r. r.items) routes.now))) }
 {
     let mut number = 0;

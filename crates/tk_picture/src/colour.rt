@@ -53,7 +53,7 @@ fn walk(steps: u64) -> Colour
 
 /// Puts a colour by its parts.
 fn put_rgb<W: Sink>(pen: &mut Pen<'_, W>, colour: Colour)
-    ensures { Puts W.taken W.broken pen.old pen.new (rgb colour) }
+    ensures { Puts W.Sink pen.old pen.new (rgb colour) }
 {
     pen.put(b"rgb(");
     pen.put_number(colour.red);
@@ -67,7 +67,7 @@ fn put_rgb<W: Sink>(pen: &mut Pen<'_, W>, colour: Colour)
 /// Puts the colour of the line with a number, from 1.
 pub(crate) fn put_colour<W: Sink>(pen: &mut Pen<'_, W>, number: u64)
     requires { 1 ≤ number }
-    ensures { Puts W.taken W.broken pen.old pen.new (colour number) }
+    ensures { Puts W.Sink pen.old pen.new (colour number) }
 {
     match number {
         1 => pen.put(b"#0072B2"),

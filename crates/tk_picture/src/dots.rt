@@ -25,7 +25,7 @@ pub(crate) fn by_size<'a>(cities: u32, few: &'a [u8], many: &'a [u8]) -> &'a [u8
 /// Puts a city as a point.
 fn put_dot<W: Sink>(pen: &mut Pen<'_, W>, view: &View<'_>, city: u32)
     requires { IsCity (city_count view.now) city }
-    ensures { Puts W.taken W.broken pen.old pen.new (dot (spot_in view.now) city) }
+    ensures { Puts W.Sink pen.old pen.new (dot (spot_in view.now) city) }
 {
     pen.put(b"M");
     view.put_spot(pen, city);
@@ -34,7 +34,7 @@ fn put_dot<W: Sink>(pen: &mut Pen<'_, W>, view: &View<'_>, city: u32)
 
 /// Puts what comes before the points.
 fn put_dots_start<W: Sink>(pen: &mut Pen<'_, W>, cities: u32)
-    ensures { Puts W.taken W.broken pen.old pen.new
+    ensures { Puts W.Sink pen.old pen.new
         (line (codes "<path stroke=\"black\" " ++ city_style cities ++ codes " d=\"")) }
 {
     pen.put(b"<path stroke=\"black\" ");
@@ -44,7 +44,7 @@ fn put_dots_start<W: Sink>(pen: &mut Pen<'_, W>, cities: u32)
 
 /// Puts all cities as points.
 fn put_all_dots<W: Sink>(pen: &mut Pen<'_, W>, view: &View<'_>)
-    ensures { Puts W.taken W.broken pen.old pen.new
+    ensures { Puts W.Sink pen.old pen.new
         (dots (spot_in view.now) (city_style (city_count view.now)) (range_with_len 1 (city_count view.now))) }
 {
     put_dots_start(pen, view.size());
@@ -66,7 +66,7 @@ fn has_dots(cities: u32, subject: Subject<'_>) -> bool
 
 /// Puts the cities as points, where the picture has these.
 pub(crate) fn put_city_dots<W: Sink>(pen: &mut Pen<'_, W>, view: &View<'_>, subject: Subject<'_>)
-    ensures { Puts W.taken W.broken pen.old pen.new
+    ensures { Puts W.Sink pen.old pen.new
         (city_dots (spot_in view.now) (city_count view.now) (drawing_of subject.entry)) }
 {
     if has_dots(view.size(), subject) {
@@ -77,7 +77,7 @@ pub(crate) fn put_city_dots<W: Sink>(pen: &mut Pen<'_, W>, view: &View<'_>, subj
 /// Puts a depot as a square.
 fn put_square<W: Sink>(pen: &mut Pen<'_, W>, view: &View<'_>, depot: u32)
     requires { IsCity (city_count view.now) depot }
-    ensures { Puts W.taken W.broken pen.old pen.new (depot_mark (spot_in view.now) (Some depot)) }
+    ensures { Puts W.Sink pen.old pen.new (depot_mark (spot_in view.now) (Some depot)) }
 {
     pen.put(b"<path fill=\"black\" d=\"M");
     view.put_spot(pen, depot);
@@ -87,7 +87,7 @@ fn put_square<W: Sink>(pen: &mut Pen<'_, W>, view: &View<'_>, depot: u32)
 /// Puts the depot, where there is one.
 pub(crate) fn put_depot<W: Sink>(pen: &mut Pen<'_, W>, view: &View<'_>, depot: Option<u32>)
     requires { IfSome depot (IsCity (city_count view.now)) }
-    ensures { Puts W.taken W.broken pen.old pen.new (depot_mark (spot_in view.now) depot) }
+    ensures { Puts W.Sink pen.old pen.new (depot_mark (spot_in view.now) depot) }
 {
     match depot {
         Some(depot) => put_square(pen, view, depot),

@@ -23,7 +23,7 @@ fn is_plain(c: char) -> bool
 
 /// Puts a character that is not of markup, or `?` if it is not plain.
 fn put_unmarked<W: Sink>(pen: &mut Pen<'_, W>, c: char)
-    ensures { Puts W.taken W.broken pen.old pen.new (shown_unmarked c) }
+    ensures { Puts W.Sink pen.old pen.new (shown_unmarked c) }
 {
     if is_plain(c) {
         pen.put(c.encode_utf8(&mut [0; 4]).as_bytes());
@@ -34,7 +34,7 @@ fn put_unmarked<W: Sink>(pen: &mut Pen<'_, W>, c: char)
 
 /// Puts a character of a name: the four of markup as references, and those that are not plain as `?`.
 fn put_char<W: Sink>(pen: &mut Pen<'_, W>, c: char)
-    ensures { Puts W.taken W.broken pen.old pen.new (shown_byte c) }
+    ensures { Puts W.Sink pen.old pen.new (shown_byte c) }
 {
     match c {
         '&' => pen.put(b"&amp;"),
@@ -47,7 +47,7 @@ fn put_char<W: Sink>(pen: &mut Pen<'_, W>, c: char)
 
 /// Puts a text, character by character.
 fn put_text<W: Sink>(pen: &mut Pen<'_, W>, text: &str)
-    ensures { Puts W.taken W.broken pen.old pen.new (flat_map shown_byte (chars text.now)) }
+    ensures { Puts W.Sink pen.old pen.new (flat_map shown_byte (chars text.now)) }
 {
     for c in text.chars() {
         put_char(pen, c);
@@ -56,7 +56,7 @@ fn put_text<W: Sink>(pen: &mut Pen<'_, W>, text: &str)
 
 /// Puts a name. Each sequence of bytes that is no UTF-8 is put as U+FFFD.
 pub(crate) fn put_name<W: Sink>(pen: &mut Pen<'_, W>, name: &[u8])
-    ensures { Puts W.taken W.broken pen.old pen.new (shown_name name.now) }
+    ensures { Puts W.Sink pen.old pen.new (shown_name name.now) }
 {
     for chunk in name.utf8_chunks() {
         put_text(pen, chunk.valid());

@@ -18,7 +18,7 @@ use tk_writers::{Pen, Sink};
 
 /// Puts what comes before the numbers.
 pub(crate) fn put_numbers_start<W: Sink>(pen: &mut Pen<'_, W>, cities: u32)
-    ensures { Puts W.taken W.broken pen.old pen.new (numbers_start cities) }
+    ensures { Puts W.Sink pen.old pen.new (numbers_start cities) }
 {
     pen.put(
         b"<g font-family=\"sans-serif\" font-weight=\"bold\" text-anchor=\"middle\" font-size=\"",
@@ -30,7 +30,7 @@ pub(crate) fn put_numbers_start<W: Sink>(pen: &mut Pen<'_, W>, cities: u32)
 /// Puts what comes before the colour of a number over a city.
 fn put_mark_start<W: Sink>(pen: &mut Pen<'_, W>, view: &View<'_>, city: u32)
     requires { IsCity (city_count view.now) city }
-    ensures { Puts W.taken W.broken pen.old pen.new
+    ensures { Puts W.Sink pen.old pen.new
         (codes "<text transform=\"translate(" ++ spot_in view.now city ++ codes ")\" dy=\"-.4em\" fill=\"") }
 {
     pen.put(b"<text transform=\"translate(");
@@ -42,7 +42,7 @@ fn put_mark_start<W: Sink>(pen: &mut Pen<'_, W>, view: &View<'_>, city: u32)
 fn put_mark<W: Sink>(pen: &mut Pen<'_, W>, view: &View<'_>, number: u64, city: u32)
     requires known { IsCity (city_count view.now) city }
     requires number { 1 ≤ number }
-    ensures { Puts W.taken W.broken pen.old pen.new (mark number (spot_in view.now city)) }
+    ensures { Puts W.Sink pen.old pen.new (mark number (spot_in view.now city)) }
 {
     put_mark_start(pen, view, city);
     put_colour(pen, number);
@@ -62,7 +62,7 @@ fn put_number<W: Sink>(
     requires size { (instance_of cvrp.now).size ≡ city_count view.now }
     requires known { All (IsCity (customer_count (instance_of cvrp.now))) route.now }
     requires number { 1 ≤ number }
-    ensures { Puts W.taken W.broken pen.old pen.new
+    ensures { Puts W.Sink pen.old pen.new
         (flat_map (number_mark (spot_in view.now)) (route_paths (instance_of cvrp.now) number (route.now ∷ []))) }
 {
     if let Some(first) = route.first() {
@@ -79,7 +79,7 @@ pub(crate) fn put_numbers<W: Sink>(
 )
     requires size { (instance_of cvrp.now).size ≡ city_count view.now }
     requires once { AreServedOnce (customer_count (instance_of cvrp.now)) (concat (map (λ r. r.items) routes.now)) }
-    ensures { Puts W.taken W.broken pen.old pen.new (flat_map (number_mark (spot_in view.now))
+    ensures { Puts W.Sink pen.old pen.new (flat_map (number_mark (spot_in view.now))
         (route_paths (instance_of cvrp.now) 1 (map (λ r. r.items) routes.now))) }
 {
     let mut number = 0;

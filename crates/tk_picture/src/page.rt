@@ -22,7 +22,7 @@ use tk_writers::{Pen, Sink};
 
 /// Puts the name of a problem as the heading of a page.
 fn put_heading<W: Sink>(pen: &mut Pen<'_, W>, name: &[u8])
-    ensures { Puts W.taken W.broken pen.old pen.new (heading name.now) }
+    ensures { Puts W.Sink pen.old pen.new (heading name.now) }
 {
     pen.put(b"<h1><bdi>");
     put_name(pen, name);
@@ -31,7 +31,7 @@ fn put_heading<W: Sink>(pen: &mut Pen<'_, W>, name: &[u8])
 
 /// Puts what the page shows, in the words of the checks.
 fn put_verdict<W: Sink>(pen: &mut Pen<'_, W>, picture: &Picture<'_>)
-    ensures { Puts W.taken W.broken pen.old pen.new
+    ensures { Puts W.Sink pen.old pen.new
         (verdict (city_count picture.now.view) (drawing_of picture.now.subject)) }
 {
     pen.put(b"<p id=\"verdict\">");
@@ -41,7 +41,7 @@ fn put_verdict<W: Sink>(pen: &mut Pen<'_, W>, picture: &Picture<'_>)
 
 /// Puts what comes before the picture.
 fn put_opening<W: Sink>(pen: &mut Pen<'_, W>, picture: &Picture<'_>, parts: &Parts<'_>)
-    ensures { Puts W.taken W.broken pen.old pen.new (opening parts.now picture.now.name.now
+    ensures { Puts W.Sink pen.old pen.new (opening parts.now picture.now.name.now
         (city_count picture.now.view) (drawing_of picture.now.subject)) }
 {
     pen.put(parts.head);
@@ -56,7 +56,7 @@ fn put_opening<W: Sink>(pen: &mut Pen<'_, W>, picture: &Picture<'_>, parts: &Par
 
 /// Puts what comes after the data.
 fn put_ending<W: Sink>(pen: &mut Pen<'_, W>, parts: &Parts<'_>)
-    ensures { Puts W.taken W.broken pen.old pen.new (page_ending parts.now) }
+    ensures { Puts W.Sink pen.old pen.new (page_ending parts.now) }
 {
     pen.put(parts.tools);
     pen.put(b"<script>\n");
@@ -68,7 +68,7 @@ fn put_ending<W: Sink>(pen: &mut Pen<'_, W>, parts: &Parts<'_>)
 pub(crate) fn put_page<W: Sink>(pen: &mut Pen<'_, W>, picture: &Picture<'_>, parts: &Parts<'_>)
     requires fits { Fits (city_count picture.now.view) picture.now.subject }
     requires depot { IfSome picture.now.depot (IsCity (city_count picture.now.view)) }
-    ensures { Puts W.taken W.broken pen.old pen.new (page_of parts.now picture.now) }
+    ensures { Puts W.Sink pen.old pen.new (page_of parts.now picture.now) }
 {
     put_opening(pen, picture, parts);
     put_picture(pen, picture);

@@ -1,7 +1,8 @@
 //! A picture of a problem.
-ghost use Rattle.std.specs.Prelude.{◌≡◌, ◌≤◌, ◌++◌, true, IfSome, OnErr, codes, decimal, flat_map, length};
+ghost use Rattle.std.specs.Prelude.{◌≤◌, ◌++◌, IfSome, OnErr, codes, decimal, flat_map, length};
 ghost use Rattle.tk_writers.specs.Pens.{Puts};
 ghost use Rattle.tk_writers.specs.Puts.{Writes};
+ghost use Rattle.tk_writers.specs.Sinks.{IsBroken};
 ghost use Rattle.tk_distance.specs.Cities.{IsCity};
 ghost use Rattle.tk_picture.specs.Drawings.{paths_of};
 ghost use Rattle.tk_picture.specs.Frames.{drawn_from_left, drawn_from_top};
@@ -43,7 +44,7 @@ pub enum Form<'a> {
 
 /// Puts the line with the size of the view.
 fn put_view_line<W: Sink>(pen: &mut Pen<'_, W>, height: u128)
-    ensures { Puts W.taken W.broken pen.old pen.new (view_line height) }
+    ensures { Puts W.Sink pen.old pen.new (view_line height) }
 {
     pen.put(b"<svg xmlns=\"http://www.w3.org/2000/svg\" viewBox=\"0 0 1040 ");
     pen.put_wide(height);
@@ -52,7 +53,7 @@ fn put_view_line<W: Sink>(pen: &mut Pen<'_, W>, height: u128)
 
 /// Puts the line with the title.
 pub(crate) fn put_title_line<W: Sink>(pen: &mut Pen<'_, W>, picture: &Picture<'_>)
-    ensures { Puts W.taken W.broken pen.old pen.new (title_line
+    ensures { Puts W.Sink pen.old pen.new (title_line
         (title picture.now.name.now (city_count picture.now.view) (drawing_of picture.now.subject))) }
 {
     pen.put(b"<title>");
@@ -62,7 +63,7 @@ pub(crate) fn put_title_line<W: Sink>(pen: &mut Pen<'_, W>, picture: &Picture<'_
 
 /// Puts the line with the title that is drawn.
 fn put_heading_line<W: Sink>(pen: &mut Pen<'_, W>, picture: &Picture<'_>)
-    ensures { Puts W.taken W.broken pen.old pen.new (heading_line
+    ensures { Puts W.Sink pen.old pen.new (heading_line
         (title picture.now.name.now (city_count picture.now.view) (drawing_of picture.now.subject))) }
 {
     pen.put(b"<text x=\"20\" y=\"40\" font-family=\"sans-serif\" font-size=\"24\">");
@@ -72,7 +73,7 @@ fn put_heading_line<W: Sink>(pen: &mut Pen<'_, W>, picture: &Picture<'_>)
 
 /// Puts where in the view the drawing begins.
 fn put_group_start<W: Sink>(pen: &mut Pen<'_, W>, frame: &Frame)
-    ensures { Puts W.taken W.broken pen.old pen.new (codes "<g transform=\"translate("
+    ensures { Puts W.Sink pen.old pen.new (codes "<g transform=\"translate("
         ++ decimal (drawn_from_left frame.now) ++ codes " " ++ decimal (drawn_from_top frame.now)) }
 {
     pen.put(b"<g transform=\"translate(");
@@ -83,7 +84,7 @@ fn put_group_start<W: Sink>(pen: &mut Pen<'_, W>, frame: &Frame)
 
 /// Puts the line with which lines and points begin.
 fn put_group_line<W: Sink>(pen: &mut Pen<'_, W>, frame: &Frame, cities: u32)
-    ensures { Puts W.taken W.broken pen.old pen.new (group_line frame.now cities) }
+    ensures { Puts W.Sink pen.old pen.new (group_line frame.now cities) }
 {
     put_group_start(pen, frame);
     pen.put(
@@ -95,7 +96,7 @@ fn put_group_line<W: Sink>(pen: &mut Pen<'_, W>, frame: &Frame, cities: u32)
 
 /// Puts what comes before the lines and the points.
 fn put_head<W: Sink>(pen: &mut Pen<'_, W>, picture: &Picture<'_>)
-    ensures { Puts W.taken W.broken pen.old pen.new (head picture.now.view.frame
+    ensures { Puts W.Sink pen.old pen.new (head picture.now.view.frame
         (title picture.now.name.now (city_count picture.now.view) (drawing_of picture.now.subject))
         (city_count picture.now.view)) }
 {
@@ -109,7 +110,7 @@ fn put_head<W: Sink>(pen: &mut Pen<'_, W>, picture: &Picture<'_>)
 /// Puts the closed lines.
 fn put_lines<W: Sink>(pen: &mut Pen<'_, W>, view: &View<'_>, subject: Subject<'_>)
     requires { Fits (city_count view.now) subject }
-    ensures { Puts W.taken W.broken pen.old pen.new
+    ensures { Puts W.Sink pen.old pen.new
         (flat_map (closed_line (spot_in view.now)) (paths_of (drawing_of subject.entry))) }
 {
     match subject {
@@ -122,7 +123,7 @@ fn put_lines<W: Sink>(pen: &mut Pen<'_, W>, view: &View<'_>, subject: Subject<'_
 /// Puts the numbers of routes, where there are routes.
 fn put_route_numbers<W: Sink>(pen: &mut Pen<'_, W>, view: &View<'_>, subject: Subject<'_>)
     requires { Fits (city_count view.now) subject }
-    ensures { Puts W.taken W.broken pen.old pen.new
+    ensures { Puts W.Sink pen.old pen.new
         (route_numbers (spot_in view.now) (city_count view.now) (drawing_of subject.entry)) }
 {
     if let Subject::Routes { cvrp, routes, .. } = subject {
@@ -136,7 +137,7 @@ fn put_route_numbers<W: Sink>(pen: &mut Pen<'_, W>, view: &View<'_>, subject: Su
 pub(crate) fn put_picture<W: Sink>(pen: &mut Pen<'_, W>, picture: &Picture<'_>)
     requires fits { Fits (city_count picture.now.view) picture.now.subject }
     requires depot { IfSome picture.now.depot (IsCity (city_count picture.now.view)) }
-    ensures { Puts W.taken W.broken pen.old pen.new (text_of picture.now) }
+    ensures { Puts W.Sink pen.old pen.new (text_of picture.now) }
 {
     put_head(pen, picture);
     put_lines(pen, &picture.view, picture.subject);
@@ -150,7 +151,7 @@ pub(crate) fn put_picture<W: Sink>(pen: &mut Pen<'_, W>, picture: &Picture<'_>)
 fn put_form<W: Sink>(pen: &mut Pen<'_, W>, picture: &Picture<'_>, form: Form<'_>)
     requires fits { Fits (city_count picture.now.view) picture.now.subject }
     requires depot { IfSome picture.now.depot (IsCity (city_count picture.now.view)) }
-    ensures { Puts W.taken W.broken pen.old pen.new (text_in form.entry picture.now) }
+    ensures { Puts W.Sink pen.old pen.new (text_in form.entry picture.now) }
 {
     match form {
         Form::Svg => put_picture(pen, picture),
@@ -167,8 +168,8 @@ pub fn write_picture<W: Sink>(
     requires fits { Fits (city_count picture.now.view) picture.now.subject }
     requires depot { IfSome picture.now.depot (IsCity (city_count picture.now.view)) }
     requires name { length picture.now.name.now ≤ 1024 }
-    ensures text { Writes W.taken W.broken out.old out.new result (text_in form.entry picture.now) }
-    ensures failed { OnErr result (W.broken out.new ≡ true) }
+    ensures text { Writes W.Sink out.old out.new result (text_in form.entry picture.now) }
+    ensures failed { OnErr result (IsBroken W.Sink out.new) }
 {
     let mut pen = Pen::new(out);
     put_form(&mut pen, picture, form);

@@ -55,7 +55,7 @@ impl View<'_> {
     /// Puts where a city stands.
     pub(crate) fn put_spot<W: Sink>(&self, pen: &mut Pen<'_, W>, city: u32)
         requires { IsCity (city_count self.now) city }
-        ensures { Puts W.taken W.broken pen.old pen.new (spot_in self.now city) }
+        ensures { Puts W.Sink pen.old pen.new (spot_in self.now city) }
     {
         let place = self.places.get(city as usize - 1);
         pen.put_wide(self.frame.across(place));
@@ -66,7 +66,7 @@ impl View<'_> {
     /// Puts where a city stands, on a line.
     fn put_corner<W: Sink>(&self, pen: &mut Pen<'_, W>, city: u32)
         requires { IsCity (city_count self.now) city }
-        ensures { Puts W.taken W.broken pen.old pen.new (line (spot_in self.now city)) }
+        ensures { Puts W.Sink pen.old pen.new (line (spot_in self.now city)) }
     {
         self.put_spot(pen, city);
         pen.put(b"\n");
@@ -75,7 +75,7 @@ impl View<'_> {
     /// Puts where cities stand, each on a line.
     pub(crate) fn put_corners<W: Sink>(&self, pen: &mut Pen<'_, W>, cities: &[u32])
         requires { All (IsCity (city_count self.now)) cities.now }
-        ensures { Puts W.taken W.broken pen.old pen.new (flat_map (λ c. line (spot_in self.now c)) cities.now) }
+        ensures { Puts W.Sink pen.old pen.new (flat_map (λ c. line (spot_in self.now c)) cities.now) }
     {
         for city in cities {
             self.put_corner(pen, *city);
@@ -86,7 +86,7 @@ impl View<'_> {
     pub(crate) fn put_stops<W: Sink>(&self, pen: &mut Pen<'_, W>, cvrp: &Cvrp<'_>, route: &[u32])
         requires size { (instance_of cvrp.now).size ≡ city_count self.now }
         requires known { All (IsCity (customer_count (instance_of cvrp.now))) route.now }
-        ensures { Puts W.taken W.broken pen.old pen.new
+        ensures { Puts W.Sink pen.old pen.new
             (flat_map (λ c. line (spot_in self.now c)) (route_nodes (instance_of cvrp.now) route.now)) }
     {
         self.put_corner(pen, cvrp.depot());

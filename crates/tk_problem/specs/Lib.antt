@@ -6,4 +6,5 @@ pub mod Stored
 pub mod Units
 pub mod WeightLines
 pub mod WeightOrder
+pub mod WeightWords
 pub mod WeightsSoFar

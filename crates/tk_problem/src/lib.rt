@@ -24,4 +24,4 @@ pub use problem::Problem;
 pub use routing::Routing;
 pub use unit::Unit;
 pub use weight_order::WeightCursor;
-pub use weights::{Format, PlaneKind, Weights};
+pub use weights::{FORMATS, Format, PLANE_KINDS, PlaneKind, Weights};

@@ -1,4 +1,7 @@
-//! What distances are made of.
+//! What distances are made of, and TSPLIB's words for it.
+ghost use Rattle.std.specs.Prelude.{◌≡◌};
+ghost use Rattle.tk_problem.specs.WeightWords;
+
 use crate::points::Points;
 
 /// How distances come from coordinates, by TSPLIB's words.
@@ -9,6 +12,30 @@ pub enum PlaneKind {
     Man2d,
     Max2d,
     Att,
+}
+
+/// The kinds, in the order of the enum.
+pub const PLANE_KINDS: [PlaneKind; 5] = [
+    PlaneKind::Euc2d,
+    PlaneKind::Ceil2d,
+    PlaneKind::Man2d,
+    PlaneKind::Max2d,
+    PlaneKind::Att,
+];
+
+impl PlaneKind {
+    /// TSPLIB's word for the kind.
+    pub fn word(self) -> &'static str
+        ensures { result.now ≡ WeightWords.plane_word self }
+    {
+        match self {
+            PlaneKind::Euc2d => "EUC_2D",
+            PlaneKind::Ceil2d => "CEIL_2D",
+            PlaneKind::Man2d => "MAN_2D",
+            PlaneKind::Max2d => "MAX_2D",
+            PlaneKind::Att => "ATT",
+        }
+    }
 }
 
 /// The order in which explicit weights are written, by TSPLIB's words.
@@ -23,6 +50,38 @@ pub enum Format {
     LowerCol,
     UpperDiagCol,
     LowerDiagCol,
+}
+
+/// The formats, in the order of the enum.
+pub const FORMATS: [Format; 9] = [
+    Format::FullMatrix,
+    Format::UpperRow,
+    Format::LowerRow,
+    Format::UpperDiagRow,
+    Format::LowerDiagRow,
+    Format::UpperCol,
+    Format::LowerCol,
+    Format::UpperDiagCol,
+    Format::LowerDiagCol,
+];
+
+impl Format {
+    /// TSPLIB's word for the format.
+    pub fn word(self) -> &'static str
+        ensures { result.now ≡ WeightWords.format_word self }
+    {
+        match self {
+            Format::FullMatrix => "FULL_MATRIX",
+            Format::UpperRow => "UPPER_ROW",
+            Format::LowerRow => "LOWER_ROW",
+            Format::UpperDiagRow => "UPPER_DIAG_ROW",
+            Format::LowerDiagRow => "LOWER_DIAG_ROW",
+            Format::UpperCol => "UPPER_COL",
+            Format::LowerCol => "LOWER_COL",
+            Format::UpperDiagCol => "UPPER_DIAG_COL",
+            Format::LowerDiagCol => "LOWER_DIAG_COL",
+        }
+    }
 }
 
 /// Places in the plane, or explicit weights: the lower triangle row by row without its diagonal.

@@ -1,10 +1,9 @@
 -- What the values of a problem's headers say.
 use Rattle.std.specs.Prelude.{ℕ, Bool, nat_le, ◌&&◌, ◌||◌, List, Option, Some, None, ℤ, pos, if◌then◌else◌, codes}
-use Rattle.std.specs.Prelude.{option_map}
+use Rattle.std.specs.Prelude.{find, option_map}
 use Rattle.tk_problem.specs.declared.weights.PlaneKind.{PlaneKind}
-use Rattle.tk_problem.specs.declared.weights.PlaneKind.TheVariants as planes
 use Rattle.tk_problem.specs.declared.weights.Format.{Format}
-use Rattle.tk_problem.specs.declared.weights.Format.TheVariants as formats
+use Rattle.tk_problem.specs.WeightWords.{plane_word, all_planes, format_word, all_formats}
 use Rattle.tk_problem_text.specs.declared.header_values.ProblemType.{ProblemType}
 use Rattle.tk_problem_text.specs.declared.header_values.ProblemType.TheVariants as types
 use Rattle.tk_problem_text.specs.declared.header_values.WeightType.{WeightType}
@@ -25,28 +24,14 @@ problem_type_of bs =
     else (if says bs (codes "CVRP") then Some types.Cvrp else None)
 
 abbrev pub plane_of : List ℕ → Option PlaneKind
-plane_of bs =
-    if says bs (codes "EUC_2D") then Some planes.Euc2d
-    else (if says bs (codes "CEIL_2D") then Some planes.Ceil2d
-    else (if says bs (codes "MAN_2D") then Some planes.Man2d
-    else (if says bs (codes "MAX_2D") then Some planes.Max2d
-    else (if says bs (codes "ATT") then Some planes.Att else None))))
+plane_of bs = find (λ kind. says bs (plane_word kind)) all_planes
 
 abbrev pub weight_type_of : List ℕ → Option WeightType
 weight_type_of bs =
     if says bs (codes "EXPLICIT") then Some weight_types.Explicit else option_map weight_types.Plane (plane_of bs)
 
 abbrev pub format_of : List ℕ → Option Format
-format_of bs =
-    if says bs (codes "FULL_MATRIX") then Some formats.FullMatrix
-    else (if says bs (codes "UPPER_ROW") then Some formats.UpperRow
-    else (if says bs (codes "LOWER_ROW") then Some formats.LowerRow
-    else (if says bs (codes "UPPER_DIAG_ROW") then Some formats.UpperDiagRow
-    else (if says bs (codes "LOWER_DIAG_ROW") then Some formats.LowerDiagRow
-    else (if says bs (codes "UPPER_COL") then Some formats.UpperCol
-    else (if says bs (codes "LOWER_COL") then Some formats.LowerCol
-    else (if says bs (codes "UPPER_DIAG_COL") then Some formats.UpperDiagCol
-    else (if says bs (codes "LOWER_DIAG_COL") then Some formats.LowerDiagCol else None))))))))
+format_of bs = find (λ format. says bs (format_word format)) all_formats
 
 abbrev pub weight_format_of : List ℕ → Option WeightFormat
 weight_format_of bs = if says bs (codes "FUNCTION") then Some weight_formats.Function

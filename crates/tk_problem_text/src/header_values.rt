@@ -4,7 +4,7 @@ ghost use Rattle.tk_problem_text.specs.HeaderValues as Values;
 ghost use Rattle.tk_lines.specs.Reader.Scan.{Scans};
 
 use tk_lines::Scan;
-use tk_problem::{Format, PlaneKind};
+use tk_problem::{FORMATS, Format, PLANE_KINDS, PlaneKind};
 
 /// The problems that are read.
 #[derive(Clone, Copy, Debug, PartialEq, Eq)]
@@ -56,22 +56,10 @@ pub fn weight_type_of(value: &Scan) -> Option<WeightType>
 fn plane_of(value: &Scan) -> Option<PlaneKind>
     ensures { (v : List ℕ) → Scans value.now v → result ≡ Values.plane_of v }
 {
-    if value.is(b"EUC_2D") {
-        return Some(PlaneKind::Euc2d);
-    }
-    if value.is(b"CEIL_2D") {
-        return Some(PlaneKind::Ceil2d);
-    }
-    if value.is(b"MAN_2D") {
-        return Some(PlaneKind::Man2d);
-    }
-    if value.is(b"MAX_2D") {
-        return Some(PlaneKind::Max2d);
-    }
-    if value.is(b"ATT") {
-        return Some(PlaneKind::Att);
-    }
-    None
+    PLANE_KINDS
+        .iter()
+        .copied()
+        .find(|kind| value.is(kind.word().as_bytes()))
 }
 
 /// The value of EDGE_WEIGHT_FORMAT.
@@ -90,34 +78,10 @@ pub fn weight_format_of(value: &Scan) -> Option<WeightFormat>
 fn format_of(value: &Scan) -> Option<Format>
     ensures { (v : List ℕ) → Scans value.now v → result ≡ Values.format_of v }
 {
-    if value.is(b"FULL_MATRIX") {
-        return Some(Format::FullMatrix);
-    }
-    if value.is(b"UPPER_ROW") {
-        return Some(Format::UpperRow);
-    }
-    if value.is(b"LOWER_ROW") {
-        return Some(Format::LowerRow);
-    }
-    if value.is(b"UPPER_DIAG_ROW") {
-        return Some(Format::UpperDiagRow);
-    }
-    if value.is(b"LOWER_DIAG_ROW") {
-        return Some(Format::LowerDiagRow);
-    }
-    if value.is(b"UPPER_COL") {
-        return Some(Format::UpperCol);
-    }
-    if value.is(b"LOWER_COL") {
-        return Some(Format::LowerCol);
-    }
-    if value.is(b"UPPER_DIAG_COL") {
-        return Some(Format::UpperDiagCol);
-    }
-    if value.is(b"LOWER_DIAG_COL") {
-        return Some(Format::LowerDiagCol);
-    }
-    None
+    FORMATS
+        .iter()
+        .copied()
+        .find(|format| value.is(format.word().as_bytes()))
 }
 
 /// Whether a value of NODE_COORD_TYPE is one that is read.

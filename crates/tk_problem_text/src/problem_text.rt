@@ -1,6 +1,6 @@
 //! Problem texts.
-ghost use Rattle.std.specs.Prelude.{Ok, IfOk, IfErr};
-ghost use Rattle.tk_words.specs.Texts.{IsAnswerWhereTold, IsFaultWhereTold, IsOfSomeText, IsFaultOfSomeText, IsIntact};
+ghost use Rattle.std.specs.Prelude.{Ok, IfOk};
+ghost use Rattle.tk_words.specs.Reading.{IsReading};
 ghost use Rattle.tk_problem_text.specs.ProblemOf.{problem_is};
 ghost use Rattle.tk_problem_text.specs.Problem.{problem_texts};
 ghost use Rattle.tk_problem_text.specs.Names.{IsName};
@@ -18,14 +18,8 @@ use tk_words::{Source, TextFault, TextKind, read_text};
 /// The first fault of the text, with its line; `Read` if the source fails before it is found, and `NoMemory` if memory
 /// runs out.
 pub fn read_problem<R: Source>(alloc: Global, source: &mut R) -> Result<Problem, TextFault>
-    ensures ok { IfOk result (λ problem. IsAnswerWhereTold problem_texts (R.left source.old)
-        (R.left source.new) (Ok (problem_is problem))) }
+    ensures reads { IsReading R.Source problem_texts problem_is source.old source.new result }
     ensures named { IfOk result (λ problem. IsName (problem_is problem).name) }
-    ensures err { IfErr result
-        (IsFaultWhereTold problem_texts (R.broken source.new) (R.left source.old) (R.left source.new)) }
-    ensures some_text { IfOk result (λ problem. IsOfSomeText problem_texts (Ok (problem_is problem))) }
-    ensures some_fault { IfErr result (IsFaultOfSomeText problem_texts) }
-    ensures intact { IsIntact problem_texts (R.broken source.old) (R.broken source.new) result }
 {
     match ProblemForm::new(alloc) {
         Ok(form) => read_text(source, PieceReader::new(form)),

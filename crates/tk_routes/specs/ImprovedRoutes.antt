@@ -4,10 +4,11 @@
 --     IsFlipped old new moves swaps      flips of moves lead from one order to another, by so many swaps
 --     IsImproved i k m route new moves tests swaps      a descent from the depot and the route, read off from the depot
 --     AreImproved i k m olds news moves tests swaps      each route so improved
+--     IsImprovement, AreImprovements      the same, with what is reported
 --     IsImprovedPart i k m olds news      the routes before some place so improved
 --     most_tests k m places moves      the most gain tests of descents with so many moves in all
 use Rattle.std.specs.Prelude.{◌≡◌, ℕ, ◌+◌, ◌-◌, ◌*◌, ◌/◌, ◌≤◌, ◌-ℤ◌, min, List, [], ◌∷◌, ◌++◌, length, map}
-use Rattle.std.specs.Prelude.{slice_index}
+use Rattle.std.specs.Prelude.{IsPermutation, pos, slice_index}
 use Rattle.std.specs.Int.RustNames.{unsigned_abs}
 use Rattle.tk_distance.specs.Cities.{IsCity, city_at}
 use Rattle.tk_near.specs.Near.{IsNear}
@@ -15,8 +16,9 @@ use Rattle.tk_tour.specs.Reversal.{AreReversed}
 use Rattle.tk_tour.specs.Tour.{SameCycle}
 use Rattle.tk_descent.specs.Awake.{one_to}
 use Rattle.tk_descent.specs.Sweeps.{Pass}
+use Rattle.tk_descent.specs.declared.descent.Report.{Report}
 use Rattle.tk_routes.specs.Instance.{Instance, customer_count}
-use Rattle.tk_routes.specs.Routes.{route_nodes, routes_cost}
+use Rattle.tk_routes.specs.Routes.{route_length, route_nodes, routes_cost}
 use Rattle.tk_routes.specs.declared.solving.route_report.RouteReport.{RouteReport}
 
 abbrev pub place_distance : (ℕ → ℕ → ℕ) → List ℕ → ℕ → ℕ → ℕ
@@ -65,10 +67,6 @@ pub data AreImproved (i : Instance) (k m : ℕ) : List (List ℕ) → List (List
       IsImproved i k m old new made tried taken →
       AreImproved i k m (olds ++ old ∷ []) (news ++ new ∷ []) (moves + made) (tests + tried) (swaps + taken)
 
--- each route so improved, as it is reported
-abbrev pub AreImprovedBy : Instance → ℕ → ℕ → List (List ℕ) → List (List ℕ) → RouteReport → Type 0
-AreImprovedBy i k m olds news report = AreImproved i k m olds news report.moves report.tests report.swaps
-
 -- the fall of the cost
 abbrev pub fall_of : RouteReport → ℕ
 fall_of report = unsigned_abs (report.before -ℤ report.after)
@@ -84,6 +82,24 @@ place_count i routes = customer_count i + length routes
 -- each place is looked at, and six more for each move; a look tries k candidates, each with 4 m offers
 abbrev pub most_tests : ℕ → ℕ → ℕ → ℕ → ℕ
 most_tests k m places moves = 4 * m * k * (places + 6 * moves)
+
+-- a route improved by a descent, with what the descent reports
+pub record IsImprovement (i : Instance) (k m : ℕ) (route new : List ℕ) (report : Report) : Type 0 where
+  pub improved : IsImproved i k m route new report.moves report.tests report.swaps
+  pub same : IsPermutation route new
+  pub before : report.before ≡ pos (route_length i route)
+  pub after : report.after ≡ pos (route_length i new)
+  pub moves : report.moves + route_length i new ≤ route_length i route
+  pub tests : report.tests ≤ most_tests k m (length route + 1) report.moves
+  pub swaps : report.swaps ≤ 3 * ((length route + 1) / 4) * report.moves
+
+-- each route improved by a descent of its own, with what is reported of all
+pub record AreImprovements (i : Instance) (k m : ℕ) (olds news : List (List ℕ)) (report : RouteReport) : Type 0 where
+  pub improved : AreImproved i k m olds news report.moves report.tests report.swaps
+  pub before : report.before ≡ pos (routes_cost i olds)
+  pub after : report.after ≡ pos (routes_cost i news)
+  pub moves : MovesSave i olds news report.moves
+  pub tests : report.tests ≤ most_tests k m (place_count i olds) report.moves
 
 -- the routes before some place so improved, and the others as they were
 pub record IsImprovedPart (i : Instance) (k m : ℕ) (olds news : List (List ℕ)) : Type 0 where

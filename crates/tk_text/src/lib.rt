@@ -9,8 +9,8 @@ pub use tk_lists::{
 };
 pub use tk_problem::{
     CANDIDATE_LIMIT, CAPACITY_LIMIT, CITY_LIMIT, COORDINATE_LIMIT, DISTANCE_LIMIT, ENTRY_LIMIT,
-    Format, LowerWeights, Place, Places, PlaneKind, Point, Points, Problem, ROUTE_LIMIT, Routing,
-    SCALE, TABLE_LIMIT, TEXT_LIMIT, Unit, WeightCursor, Weights, WholePoint,
+    FORMATS, Format, LowerWeights, PLANE_KINDS, Place, Places, PlaneKind, Point, Points, Problem,
+    ROUTE_LIMIT, Routing, SCALE, TABLE_LIMIT, TEXT_LIMIT, Unit, WeightCursor, Weights, WholePoint,
 };
 pub use tk_problem_text::{decided_problems_stay, each_problem_text_has_an_answer, read_problem};
 pub use tk_words::{

@@ -5,7 +5,7 @@ use Rattle.std.specs.Prelude.{codes}
 use Rattle.std.specs.Char.{to_ascii_uppercase, is_ascii_digit}
 use Rattle.std.proofs.lemmas.Bool.{eqb-true, ne_eqb, le-leb, leb-true, ltb-true, ltb-false, lt-leb}
 use Rattle.tk_words.specs.Lex.{is_letter, natural, integer}
-use Rattle.tk_words.specs.Words.{same_bytes, spells, begins_word, keyword_of, section_word, rest_word}
+use Rattle.tk_words.specs.Words.{same_bytes, spells, begins_word, keyword_of}
 use Rattle.tk_words.proofs.Bools.{and_false, or_true}
 use Rattle.tk_words.specs.Entry.{without_colon}
 
@@ -13,7 +13,7 @@ use Rattle.tk_words.specs.Entry.{without_colon}
 pub keyword_of-none : (bs : List ℕ) →
     ((text : List ℕ) → (begins_word text && leb (length text) 20) ≡ true → spells bs text ≡ false) →
     keyword_of bs ≡ None
-unfolding keyword_of section_word rest_word
+unfolding keyword_of
 keyword_of-none bs h = rw (
   h (codes "NAME") refl,
   h (codes "COMMENT") refl,
@@ -24,18 +24,18 @@ keyword_of-none bs h = rw (
   h (codes "EDGE_WEIGHT_FORMAT") refl,
   h (codes "NODE_COORD_TYPE") refl,
   h (codes "DISPLAY_DATA_TYPE") refl,
+  h (codes "DISTANCE") refl,
+  h (codes "SERVICE_TIME") refl,
+  h (codes "VEHICLES") refl,
   h (codes "NODE_COORD_SECTION") refl,
   h (codes "EDGE_WEIGHT_SECTION") refl,
   h (codes "DEMAND_SECTION") refl,
   h (codes "DEPOT_SECTION") refl,
   h (codes "DISPLAY_DATA_SECTION") refl,
-  h (codes "TOUR_SECTION") refl,
-  h (codes "EOF") refl,
-  h (codes "DISTANCE") refl,
-  h (codes "SERVICE_TIME") refl,
-  h (codes "VEHICLES") refl,
   h (codes "EDGE_DATA_SECTION") refl,
   h (codes "FIXED_EDGES_SECTION") refl,
+  h (codes "TOUR_SECTION") refl,
+  h (codes "EOF") refl,
 ) refl
 
 letter_low : (b : ℕ) → 97 ≤ b → b ≤ 122 → is_letter b ≡ true
@@ -113,7 +113,7 @@ without_colon-empty (b ∷ bs) h = absurd (omega (arith, eqb-true _ _ h))
 -- ---- an integer is no word
 
 headed : (b : ℕ) (bs : List ℕ) → is_letter b ≡ false → keyword_of (without_colon (b ∷ bs)) ≡ None
-unfolding keyword_of section_word rest_word
+unfolding keyword_of
 headed b [] h = by_colon (eqb b 58)
   where
     by_colon : (t : Bool) → keyword_of (cond t [] (b ∷ [])) ≡ None
@@ -148,13 +148,13 @@ no_integer b bs h = by_sign (eqb b 45) refl (eqb b 43) refl
 
 -- a word begins with a letter
 pub other-no_word : (bs : List ℕ) → begins_word bs ≡ false → keyword_of (without_colon bs) ≡ None
-unfolding keyword_of section_word rest_word
+unfolding keyword_of
 other-no_word [] h = refl
 other-no_word (b ∷ bs) h = headed b bs h
 
 -- and no integer does
 pub integer-no_word : (bs : List ℕ) (z : ℤ) → integer bs ≡ Some z → keyword_of (without_colon bs) ≡ None
-unfolding keyword_of section_word rest_word
+unfolding keyword_of
 integer-no_word [] z h = refl
 integer-no_word (b ∷ bs) z h = by_letter (is_letter b) refl
   where

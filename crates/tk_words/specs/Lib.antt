@@ -3,6 +3,7 @@ pub mod Entry
 pub mod FirstToken
 pub mod Lex
 pub mod MinusOne
+pub mod Reading
 pub mod Sources
 pub mod Taking
 pub mod TextLaws

@@ -1,5 +1,5 @@
 -- The words of the formats.
-use Rattle.std.specs.Prelude.{ℕ, Bool, true, false, ◌&&◌, ◌==◌, List, [], ◌∷◌, map, Option, Some, None, if◌then◌else◌}
+use Rattle.std.specs.Prelude.{ℕ, Bool, true, false, ◌&&◌, ◌==◌, List, [], ◌∷◌, map, Option, find}
 use Rattle.std.specs.Prelude.{codes}
 use Rattle.std.specs.Char.{to_ascii_uppercase}
 use Rattle.tk_words.specs.Lex.{is_letter}
@@ -21,40 +21,6 @@ spells bs text = same_bytes (map to_ascii_uppercase bs) text
 abbrev pub begins_word : List ℕ → Bool
 begins_word [] = false
 begins_word (b ∷ bs) = is_letter b
-
--- the word that the bytes spell
-unfoldable pub rest_word : List ℕ → Option Keyword
-rest_word bs =
-    if spells bs (codes "DISTANCE") then Some words.Distance
-    else (if spells bs (codes "SERVICE_TIME") then Some words.ServiceTime
-    else (if spells bs (codes "VEHICLES") then Some words.Vehicles
-    else (if spells bs (codes "EDGE_DATA_SECTION") then Some words.EdgeDataSection
-    else (if spells bs (codes "FIXED_EDGES_SECTION") then Some words.FixedEdgesSection
-    else None))))
-
-unfoldable pub section_word : List ℕ → Option Keyword
-section_word bs =
-    if spells bs (codes "NODE_COORD_SECTION") then Some words.NodeCoordSection
-    else (if spells bs (codes "EDGE_WEIGHT_SECTION") then Some words.EdgeWeightSection
-    else (if spells bs (codes "DEMAND_SECTION") then Some words.DemandSection
-    else (if spells bs (codes "DEPOT_SECTION") then Some words.DepotSection
-    else (if spells bs (codes "DISPLAY_DATA_SECTION") then Some words.DisplayDataSection
-    else (if spells bs (codes "TOUR_SECTION") then Some words.TourSection
-    else (if spells bs (codes "EOF") then Some words.Eof
-    else rest_word bs))))))
-
-unfoldable pub keyword_of : List ℕ → Option Keyword
-keyword_of bs =
-    if spells bs (codes "NAME") then Some words.Name
-    else (if spells bs (codes "COMMENT") then Some words.Comment
-    else (if spells bs (codes "TYPE") then Some words.Type
-    else (if spells bs (codes "DIMENSION") then Some words.Dimension
-    else (if spells bs (codes "CAPACITY") then Some words.Capacity
-    else (if spells bs (codes "EDGE_WEIGHT_TYPE") then Some words.EdgeWeightType
-    else (if spells bs (codes "EDGE_WEIGHT_FORMAT") then Some words.EdgeWeightFormat
-    else (if spells bs (codes "NODE_COORD_TYPE") then Some words.NodeCoordType
-    else (if spells bs (codes "DISPLAY_DATA_TYPE") then Some words.DisplayDataType
-    else section_word bs))))))))
 
 -- the word as the formats write it
 abbrev pub word : Keyword → List ℕ
@@ -80,6 +46,36 @@ word words.FixedEdgesSection = codes "FIXED_EDGES_SECTION"
 word words.TourSection = codes "TOUR_SECTION"
 word words.Eof = codes "EOF"
 word words.Cost = codes "Cost"
+
+-- the words that begin a line of a problem or a tour; `Cost` begins one of solutions alone
+abbrev pub all_keywords : List Keyword
+all_keywords =
+    words.Name
+    ∷ words.Comment
+    ∷ words.Type
+    ∷ words.Dimension
+    ∷ words.Capacity
+    ∷ words.EdgeWeightType
+    ∷ words.EdgeWeightFormat
+    ∷ words.NodeCoordType
+    ∷ words.DisplayDataType
+    ∷ words.Distance
+    ∷ words.ServiceTime
+    ∷ words.Vehicles
+    ∷ words.NodeCoordSection
+    ∷ words.EdgeWeightSection
+    ∷ words.DemandSection
+    ∷ words.DepotSection
+    ∷ words.DisplayDataSection
+    ∷ words.EdgeDataSection
+    ∷ words.FixedEdgesSection
+    ∷ words.TourSection
+    ∷ words.Eof
+    ∷ []
+
+-- the keyword whose word the bytes spell, without regard to case
+unfoldable pub keyword_of : List ℕ → Option Keyword
+keyword_of bs = find (λ keyword. spells bs (word keyword)) all_keywords
 
 -- a place for each word
 abbrev pub code : Keyword → ℕ

@@ -7,11 +7,10 @@ mod keyword;
 mod lexeme;
 mod numbers;
 mod sources;
-mod words;
 
 pub use fault::{TextFault, TextKind};
 pub use held::{Held, blank, blank_or_end, letter, spelled, word_byte};
-pub use keyword::{Keyword, Role, each_word_spells_its_keyword};
+pub use keyword::{Keyword, Role, each_word_spells_its_keyword, keyword_of};
 pub use lexeme::Lexeme;
 pub use numbers::decimals::decimal;
 pub use numbers::entries::{Entry, begins_minus_one, entry_of, keyword_in, limited, minus_one};
@@ -19,4 +18,3 @@ pub use numbers::integers::integer;
 pub use sources::reading::{BUFFER_SIZE, feed_piece, read_text};
 pub use sources::source::{Failed, FromRead, Source};
 pub use sources::text_reader::{Step, TextReader};
-pub use words::{keyword_of, role};

@@ -8,7 +8,8 @@ use Rattle.std.proofs.lemmas.List.FromFn.{map-range_with_len_more}
 use Rattle.std.proofs.lemmas.Grind.{flat_map-append}
 use Rattle.std.specs.List.{range_with_len}
 use Rattle.tk_writers.specs.FormatLines.{has_entry, entry_place, on_line}
-use Rattle.tk_writers.specs.MatrixText.{format_word, matrix_head, matrix_line}
+use Rattle.tk_problem.specs.WeightWords.{format_word}
+use Rattle.tk_writers.specs.MatrixText.{matrix_head, matrix_line}
 use Rattle.tk_problem.specs.declared.weights.Format.{Format}
 
 filter_none : (p : ℕ → Bool) (a n : ℕ) → ((m : ℕ) → a ≤ m → p m ≡ false) → filter p (range_with_len a n) ≡ []

@@ -11,7 +11,8 @@ use Rattle.tk_problem.specs.declared.weights.Format.{Format}
 use Rattle.tk_problem.specs.declared.weights.Format.TheVariants as formats
 use Rattle.tk_problem_text.specs.Sections.FixedSections.{tokens_stop, fixed_extent}
 use Rattle.tk_words.specs.Lex.{Line, Token, is_blank, behind, lines, tokens, tokens_of}
-use Rattle.tk_writers.specs.MatrixText.{format_word, matrix_text, number_line}
+use Rattle.tk_problem.specs.WeightWords.{format_word}
+use Rattle.tk_writers.specs.MatrixText.{matrix_text, number_line}
 use Rattle.tk_lines.specs.Pieces.{Piece, Section, Clean, end_piece, end_token, last_line, pieces_at, section_at, stop}
 use Rattle.tk_lines.specs.Pieces.{or_else, first_at}
 use Rattle.tk_problem_text.specs.Problem.{ProblemIs, Lower, problem_decided, problem_format, problem_texts}
@@ -22,7 +23,7 @@ use Rattle.tk_problem_text.specs.Names.{IsName}
 use Rattle.tk_writers.specs.ReadBack.{IsTable, ReadsBack, lower_triangle}
 use Rattle.tk_problem.specs.WeightOrder.{order}
 use Rattle.tk_problem_text.specs.Sections.WeightSection.{weight_count, weight_tests, lower_weights}
-use Rattle.tk_words.specs.Words.{keyword_of, section_word, rest_word}
+use Rattle.tk_words.specs.Words.{keyword_of}
 use Rattle.tk_writers.specs.Written.{line}
 use Rattle.tk_lines.proofs.Sections.SectionEnds.{take_whole}
 use Rattle.tk_writers.proofs.Lengths.ShortMatrix.{length_short_matrix}
@@ -116,7 +117,7 @@ section_piece : (before : List Piece) (ls : List Line)
     (behind is_blank (codes "EDGE_WEIGHT_SECTION"))
     ≡ section_at problem_format.extent before words.EdgeWeightSection 6 (tokens ls)
     (end_token (whole_line 6 (codes "EDGE_WEIGHT_SECTION")) ls)
-unfolding keyword_of section_word rest_word tokens_of
+unfolding keyword_of tokens_of
 section_piece before ls = refl
 
 abbrev answer : List ℕ → ℕ → List ℕ → ProblemIs

@@ -12,7 +12,7 @@ use Rattle.tk_words.specs.Texts.{Texts}
 use Rattle.tk_words.specs.Lex.{LF, Line, Token, is_blank, behind, lines}
 use Rattle.tk_lines.specs.Pieces.{Piece, Header, Section, Clean, Format, cut, decided_by, end_piece, judge, last_line}
 use Rattle.tk_lines.specs.Pieces.{pieces_at, stop, after_tokens}
-use Rattle.tk_words.specs.Words.{keyword_of, section_word, rest_word}
+use Rattle.tk_words.specs.Words.{keyword_of}
 use Rattle.tk_writers.specs.Written.{line}
 use Rattle.tk_writers.specs.ReadBack.{IsReadBackAs}
 use Rattle.tk_words.proofs.Driving.{answer_ended}
@@ -112,7 +112,7 @@ module _ {V : Type 0} (f : Format V) where
 
   pub says-eof : (before : List Piece) (upto e : ℕ) (ls : List Line) (end : List Piece) → upto < e →
       f.at_end before ≡ None → says f before upto (whole_line e (codes "EOF") ∷ ls) end ≡ Some (Ok (f.value before))
-  unfolding says cut judge keyword_of section_word rest_word
+  unfolding says cut judge keyword_of
   says-eof before upto e ls end lt none =
       let later : leb e upto ≡ false = lt-leb _ _ lt in
       rw (later, none) refl

@@ -16,7 +16,7 @@ use Rattle.tk_lines.specs.Lists.{list_entries, list_extent, AreEntries}
 use Rattle.tk_lists.specs.Tour.{entries_stop, entry_stop, tour_decided, tour_format, tour_texts}
 use Rattle.tk_words.specs.Entry.{is_eof, is_eof_word, is_keyword, is_some_word, natural_or_zero, numbers_of}
 use Rattle.tk_writers.specs.TourWritten.{tour_head, tour_text}
-use Rattle.tk_words.specs.Words.{keyword_of, section_word, rest_word}
+use Rattle.tk_words.specs.Words.{keyword_of}
 use Rattle.tk_writers.specs.Written.{line}
 use Rattle.tk_lines.proofs.Sections.SectionEnds.{take_whole, last_line-append}
 use Rattle.tk_lists.proofs.Lists.{entries_ended, list_ended}
@@ -129,26 +129,26 @@ name_bytes name size = codes "NAME : " ++ name ++ codes "." ++ decimal size ++ c
 name_piece : (before : List Piece) (name : List ℕ) (size : ℕ) (ls : List Line)
     → pieces_at tour_format.extent before (whole_line 1 (name_bytes name size)) ls
     (behind is_blank (name_bytes name size)) ≡ headed words.Name (name_value name size) 1 ∷ []
-unfolding keyword_of section_word rest_word
+unfolding keyword_of
 name_piece before name size ls = refl
 
 length_piece : (before : List Piece) (size : ℕ) (ls : List Line)
     → pieces_at tour_format.extent before (whole_line 2 (codes "COMMENT : Length = " ++ decimal size)) ls
     (behind is_blank (codes "COMMENT : Length = " ++ decimal size)) ≡ headed words.Comment
     (length_value size) 2 ∷ []
-unfolding keyword_of section_word rest_word
+unfolding keyword_of
 length_piece before size ls = refl
 
 type_piece : (before : List Piece) (ls : List Line)
     → pieces_at tour_format.extent before (whole_line 3 (codes "TYPE : TOUR")) ls
     (behind is_blank (codes "TYPE : TOUR")) ≡ headed words.Type (codes " : TOUR") 3 ∷ []
-unfolding keyword_of section_word rest_word
+unfolding keyword_of
 type_piece before ls = refl
 
 size_piece : (before : List Piece) (n : ℕ) (ls : List Line)
     → pieces_at tour_format.extent before (whole_line 4 (codes "DIMENSION : " ++ decimal n)) ls
     (behind is_blank (codes "DIMENSION : " ++ decimal n)) ≡ headed words.Dimension (size_value n) 4 ∷ []
-unfolding keyword_of section_word rest_word
+unfolding keyword_of
 size_piece before n ls = refl
 
 section_piece : (before : List Piece) (ls : List Line)
@@ -156,7 +156,7 @@ section_piece : (before : List Piece) (ls : List Line)
     (behind is_blank (codes "TOUR_SECTION"))
     ≡ section_at tour_format.extent before words.TourSection 5 (tokens ls)
     (end_token (whole_line 5 (codes "TOUR_SECTION")) ls)
-unfolding keyword_of section_word rest_word tokens_of
+unfolding keyword_of tokens_of
 section_piece before ls = refl
 
 -- the tests of the headers

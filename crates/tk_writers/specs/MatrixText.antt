@@ -4,19 +4,7 @@ use Rattle.std.specs.List.{range_with_len}
 use Rattle.tk_writers.specs.FormatLines.{line_places}
 use Rattle.tk_writers.specs.Written.{line, spaced_numbers}
 use Rattle.tk_problem.specs.declared.weights.Format.{Format}
-use Rattle.tk_problem.specs.declared.weights.Format.TheVariants as formats
-
--- the word of a format
-abbrev pub format_word : Format → List ℕ
-format_word formats.FullMatrix = codes "FULL_MATRIX"
-format_word formats.UpperRow = codes "UPPER_ROW"
-format_word formats.LowerRow = codes "LOWER_ROW"
-format_word formats.UpperDiagRow = codes "UPPER_DIAG_ROW"
-format_word formats.LowerDiagRow = codes "LOWER_DIAG_ROW"
-format_word formats.UpperCol = codes "UPPER_COL"
-format_word formats.LowerCol = codes "LOWER_COL"
-format_word formats.UpperDiagCol = codes "UPPER_DIAG_COL"
-format_word formats.LowerDiagCol = codes "LOWER_DIAG_COL"
+use Rattle.tk_problem.specs.WeightWords.{format_word}
 
 -- a line of numbers, single spaces between them, and no line where there are none
 abbrev pub number_line : List ℕ → List ℕ

@@ -3,23 +3,24 @@ use Rattle.std.specs.Prelude.{◌≡◌, ℕ, Bool, List, ◌++◌, Option, Resu
 use Rattle.std.specs.Io.KnownBytes.{Appends}
 use Rattle.tk_writers.specs.declared.output.pen.Pen.{Pen}
 use Rattle.tk_writers.specs.declared.output.pen.WriteFault.{WriteFault}
+use Rattle.tk_writers.specs.declared.output.sink.Sink.{Ghosts}
 use Rattle.tk_writers.specs.Puts.{IsPut, Stops}
 
 -- a text was put into a pen
-abbrev pub PenHolds : {W : Type 0} → (W → Option (List ℕ)) → (W → Bool) → Option (List ℕ) → Bool → List ℕ →
+abbrev pub PenHolds : {W : Type 0} → Ghosts W → Option (List ℕ) → Bool → List ℕ →
     Pen W → Type 0
-PenHolds taken broken start failed text p = IsPut taken broken start failed text p.sink.now p.written p.stopped p.page
+PenHolds sink start failed text p = IsPut sink start failed text p.sink.now p.written p.stopped p.page
 
 -- bytes are put after all that was put before
-pub record Puts {W : Type 0} (taken : W → Option (List ℕ)) (broken : W → Bool) (p q : Pen W)
+pub record Puts {W : Type 0} (sink : Ghosts W) (p q : Pen W)
     (bytes : List ℕ) : Type 0 where
   pub same : q.sink.ghost_name ≡ p.sink.ghost_name
-  pub text : (start : Option (List ℕ)) (failed : Bool) (text : List ℕ) → PenHolds taken broken start failed text p →
-      PenHolds taken broken start failed (text ++ bytes) q
+  pub text : (start : Option (List ℕ)) (failed : Bool) (text : List ℕ) → PenHolds sink start failed text p →
+      PenHolds sink start failed (text ++ bytes) q
 
 -- a pen that ends leaves all that was put in its sink, or just the first bytes of it
-abbrev pub PenEnds : {W : Type 0} → (W → Option (List ℕ)) → (W → Bool) → Pen W → W →
+abbrev pub PenEnds : {W : Type 0} → Ghosts W → Pen W → W →
     Result (Unit {0}) WriteFault → Type 0
-PenEnds taken broken p w r =
-    (start : Option (List ℕ)) (failed : Bool) (text : List ℕ) → PenHolds taken broken start failed text p →
-    MatchResult r (λ _. Appends start (taken w) text × (broken w ≡ failed)) (λ f. Stops taken broken start text w f)
+PenEnds sink p w r =
+    (start : Option (List ℕ)) (failed : Bool) (text : List ℕ) → PenHolds sink start failed text p →
+    MatchResult r (λ _. Appends start (sink.taken w) text × (sink.broken w ≡ failed)) (λ f. Stops sink start text w f)

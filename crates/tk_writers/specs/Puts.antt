@@ -3,27 +3,28 @@ use Rattle.std.specs.Prelude.{◌≡◌, ℕ, ◌≤◌, ◌<◌, ◌^◌, ◌�
 use Rattle.std.specs.Prelude.{MatchResult}
 use Rattle.std.specs.Io.KnownBytes.{Appends}
 use Rattle.tk_writers.specs.declared.output.pen.WriteFault.{WriteFault}
+use Rattle.tk_writers.specs.declared.output.sink.Sink.{Ghosts}
 
 -- a text was put: its first bytes are in a sink w after `start`, and the others wait on a page, or it has stopped
 -- it stops where a write fails (or where a page would go out after 2^63 bytes); `failed` is whether one had failed
 -- before
-pub record IsPut {W : Type 0} (taken : W → Option (List ℕ)) (broken : W → Bool) (start : Option (List ℕ))
+pub record IsPut {W : Type 0} (sink : Ghosts W) (start : Option (List ℕ))
     (failed : Bool) (text : List ℕ) (w : W) (written : ℕ) (stopped : Bool) (page : List ℕ) : Type 0 where
   pub fits : written ≤ length text
-  pub sent : Appends start (taken w) (take written text)
-  pub waits : stopped ≡ false → (drop written text ≡ page) × (broken w ≡ failed)
-  pub stops : stopped ≡ true → (written < length text) × ((broken w ≡ true) ⊎ (2 ^ 63 < length text))
+  pub sent : Appends start (sink.taken w) (take written text)
+  pub waits : stopped ≡ false → (drop written text ≡ page) × (sink.broken w ≡ failed)
+  pub stops : stopped ≡ true → (written < length text) × ((sink.broken w ≡ true) ⊎ (2 ^ 63 < length text))
 
 -- of a text that did not go out whole, just the first bytes did, since a write failed (or the text is over 2^63 bytes)
-pub record Stops {W : Type 0} (taken : W → Option (List ℕ)) (broken : W → Bool) (start : Option (List ℕ))
+pub record Stops {W : Type 0} (sink : Ghosts W) (start : Option (List ℕ))
     (text : List ℕ) (w : W) (fault : WriteFault) : Type 0 where
   pub part : fault.written < length text
-  pub sent : Appends start (taken w) (take fault.written text)
-  pub cause : (broken w ≡ true) ⊎ (2 ^ 63 < length text)
+  pub sent : Appends start (sink.taken w) (take fault.written text)
+  pub cause : (sink.broken w ≡ true) ⊎ (2 ^ 63 < length text)
 
 -- a sink v took a whole text and is w then, or took just the first bytes of it
-abbrev pub Writes : {W : Type 0} → (W → Option (List ℕ)) → (W → Bool) → W → W → Result (Unit {0}) WriteFault → List ℕ →
+abbrev pub Writes : {W : Type 0} → Ghosts W → W → W → Result (Unit {0}) WriteFault → List ℕ →
     Type 0
-Writes taken broken v w r text =
-    MatchResult r (λ _. Appends (taken v) (taken w) text × (broken w ≡ broken v))
-    (λ f. Stops taken broken (taken v) text w f)
+Writes sink v w r text =
+    MatchResult r (λ _. Appends (sink.taken v) (sink.taken w) text × (sink.broken w ≡ sink.broken v))
+    (λ f. Stops sink (sink.taken v) text w f)

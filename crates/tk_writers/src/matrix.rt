@@ -1,54 +1,28 @@
 //! Writes a table of distances as explicit weights.
-ghost use Rattle.std.specs.Prelude.{◌≡◌, ◌≢◌, IfSome, ℕ, ◌+◌, ◌-◌, ◌≤◌, ◌<◌, true, length};
+ghost use Rattle.std.specs.Prelude.{◌≡◌, ◌≢◌, IfSome, ℕ, ◌+◌, ◌-◌, ◌≤◌, ◌<◌, length};
 ghost use Rattle.std.specs.Prelude.{OnErr};
 ghost use Rattle.std.specs.List.{range_with_len};
 ghost use Rattle.tk_problem.specs.declared.limits.TheConstants.{TABLE_LIMIT};
 ghost use Rattle.tk_problem.specs.declared.weights.Format.{Format};
 ghost use Rattle.tk_writers.specs.FormatLines.{has_column_lines, on_line, entry_place};
-ghost use Rattle.tk_writers.specs.MatrixText.{format_word, GivesTable, IfGives, matrix_head, matrix_line, matrix_text};
+ghost use Rattle.tk_writers.specs.MatrixText.{GivesTable, IfGives, matrix_head, matrix_line, matrix_text};
+ghost use Rattle.tk_problem.specs.WeightWords.{format_word};
 ghost use Rattle.tk_writers.specs.Pens.{Puts};
 ghost use Rattle.tk_writers.specs.Puts.{Writes};
 ghost use Rattle.tk_problem_text.specs.Names.{IsName};
 ghost use Rattle.tk_writers.specs.ReadBack.{IsTable, ReadsBack};
+ghost use Rattle.tk_writers.specs.Sinks.{IsBroken};
 
 use crate::output::pen::{Pen, WriteFault};
 use crate::output::sink::Sink;
-use tk_problem::Format;
-
-/// The word of a format.
-fn format_word(f: Format) -> &'static [u8]
-    ensures { result.now ≡ format_word f }
-{
-    match f {
-        Format::FullMatrix => b"FULL_MATRIX",
-        Format::UpperRow => b"UPPER_ROW",
-        Format::LowerRow => b"LOWER_ROW",
-        Format::UpperDiagRow => b"UPPER_DIAG_ROW",
-        Format::LowerDiagRow => b"LOWER_DIAG_ROW",
-        Format::UpperCol => b"UPPER_COL",
-        Format::LowerCol => b"LOWER_COL",
-        Format::UpperDiagCol => b"UPPER_DIAG_COL",
-        Format::LowerDiagCol => b"LOWER_DIAG_COL",
-    }
-}
+use tk_problem::{FORMATS, Format};
 
 /// The format of a word, if it is one.
 pub fn format_of(word: &str) -> Option<Format>
     ensures some { IfSome result (λ f. word.now ≡ format_word f) }
     ensures none { result ≡ None → (f : Format) → word.now ≢ format_word f }
 {
-    match word {
-        "FULL_MATRIX" => Some(Format::FullMatrix),
-        "UPPER_ROW" => Some(Format::UpperRow),
-        "LOWER_ROW" => Some(Format::LowerRow),
-        "UPPER_DIAG_ROW" => Some(Format::UpperDiagRow),
-        "LOWER_DIAG_ROW" => Some(Format::LowerDiagRow),
-        "UPPER_COL" => Some(Format::UpperCol),
-        "LOWER_COL" => Some(Format::LowerCol),
-        "UPPER_DIAG_COL" => Some(Format::UpperDiagCol),
-        "LOWER_DIAG_COL" => Some(Format::LowerDiagCol),
-        _ => None,
-    }
+    FORMATS.iter().copied().find(|format| format.word() == word)
 }
 
 /// Whether the lines of a format are columns.
@@ -92,14 +66,14 @@ fn entry<D: Fn(u32, u32) -> i64>(n: u32, d: &D, f: Format, k: u32, m: u32) -> u6
 
 /// Writes the lines before the entries.
 fn put_head<W: Sink>(pen: &mut Pen<'_, W>, name: &[u8], n: u32, f: Format)
-    ensures { Puts W.taken W.broken pen.old pen.new (matrix_head name.now n f) }
+    ensures { Puts W.Sink pen.old pen.new (matrix_head name.now n f) }
 {
     pen.put(b"NAME : ");
     pen.put(name);
     pen.put(b"\nTYPE : TSP\nDIMENSION : ");
     pen.put_number(n as u64);
     pen.put(b"\nEDGE_WEIGHT_TYPE : EXPLICIT\nEDGE_WEIGHT_FORMAT : ");
-    pen.put(format_word(f));
+    pen.put(f.word().as_bytes());
     pen.put(b"\nEDGE_WEIGHT_SECTION\n");
 }
 
@@ -110,7 +84,7 @@ fn put_line<W: Sink, D: Fn(u32, u32) -> i64>(pen: &mut Pen<'_, W>, n: u32, d: &D
     requires table { (table : ℕ → ℕ → ℕ) × GivesTable (D.pre d.now) (D.post d.now) n table }
     ensures same { pen.new.sink.ghost_name ≡ pen.old.sink.ghost_name }
     ensures puts { IfGives (D.pre d.now) (D.post d.now) n
-        (λ table. Puts W.taken W.broken pen.old pen.new (matrix_line n table f k)) }
+        (λ table. Puts W.Sink pen.old pen.new (matrix_line n table f k)) }
 {
     let (first, end) = places_on_line(n, f, k);
     if first == end {
@@ -136,7 +110,7 @@ fn put_matrix<W: Sink, D: Fn(u32, u32) -> i64>(
     requires table { (table : ℕ → ℕ → ℕ) × GivesTable (D.pre d.now) (D.post d.now) n table }
     ensures same { pen.new.sink.ghost_name ≡ pen.old.sink.ghost_name }
     ensures puts { IfGives (D.pre d.now) (D.post d.now) n
-        (λ table. Puts W.taken W.broken pen.old pen.new (matrix_text name.now n table f)) }
+        (λ table. Puts W.Sink pen.old pen.new (matrix_text name.now n table f)) }
 {
     put_head(pen, name, n, f);
     for k in 1..n + 1 {
@@ -160,10 +134,10 @@ pub fn write_matrix<W: Sink, D: Fn(u32, u32) -> i64>(
     requires few { n ≤ TABLE_LIMIT }
     requires table { (table : ℕ → ℕ → ℕ) × GivesTable (D.pre d.now) (D.post d.now) n table }
     ensures text { IfGives (D.pre d.now) (D.post d.now) n
-        (λ table. Writes W.taken W.broken w.old w.new result (matrix_text name.now n table f)) }
+        (λ table. Writes W.Sink w.old w.new result (matrix_text name.now n table f)) }
     ensures read_back { IfGives (D.pre d.now) (D.post d.now) n
         (λ table. IsName name.now → IsTable n table → 2 ≤ n → ReadsBack name.now n table f) }
-    ensures failed { length name.now ≤ 1024 → OnErr result (W.broken w.new ≡ true) }
+    ensures failed { length name.now ≤ 1024 → OnErr result (IsBroken W.Sink w.new) }
 {
     let mut pen = Pen::new(w);
     put_matrix(&mut pen, name, n, d, f);

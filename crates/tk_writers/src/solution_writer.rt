@@ -1,5 +1,5 @@
 //! Writes the routes of a vehicle routing problem.
-ghost use Rattle.std.specs.Prelude.{◌≡◌, ◌≤◌, length, true, pos, ◌≤ℤ◌, OnErr};
+ghost use Rattle.std.specs.Prelude.{◌≤◌, length, pos, ◌≤ℤ◌, OnErr};
 ghost use Rattle.std.specs.List.{concat};
 ghost use Rattle.std.specs.Int.RustNames.{unsigned_abs};
 ghost use Rattle.tk_problem.specs.declared.limits.TheConstants.{ENTRY_LIMIT, ROUTE_LIMIT};
@@ -8,13 +8,14 @@ ghost use Rattle.tk_writers.specs.Pens.{Puts};
 ghost use Rattle.tk_writers.specs.Puts.{Writes};
 ghost use Rattle.tk_writers.specs.ReadBack.{IsSolution, SolutionReadsBack};
 ghost use Rattle.tk_writers.specs.SolutionWritten.{written_route, written_routes, solution_text};
+ghost use Rattle.tk_writers.specs.Sinks.{IsBroken};
 
 use crate::output::pen::{Pen, WriteFault};
 use crate::output::sink::Sink;
 
 /// Writes a route's line.
 fn put_route<W: Sink>(pen: &mut Pen<'_, W>, number: u64, customers: &[u32])
-    ensures { Puts W.taken W.broken pen.old pen.new (written_route number customers.now) }
+    ensures { Puts W.Sink pen.old pen.new (written_route number customers.now) }
 {
     pen.put(b"Route #");
     pen.put_number(number);
@@ -25,7 +26,7 @@ fn put_route<W: Sink>(pen: &mut Pen<'_, W>, number: u64, customers: &[u32])
 
 /// Writes the lines of all routes.
 fn put_routes<W: Sink>(pen: &mut Pen<'_, W>, routes: &[Vec<u32>])
-    ensures { Puts W.taken W.broken pen.old pen.new (written_routes 1 (lists_of routes.now)) }
+    ensures { Puts W.Sink pen.old pen.new (written_routes 1 (lists_of routes.now)) }
 {
     for (i, route) in routes.iter().enumerate() {
         put_route(pen, i as u64 + 1, route.as_slice());
@@ -34,7 +35,7 @@ fn put_routes<W: Sink>(pen: &mut Pen<'_, W>, routes: &[Vec<u32>])
 
 /// Writes the whole text.
 fn put_solution<W: Sink>(pen: &mut Pen<'_, W>, routes: &[Vec<u32>], cost: u64)
-    ensures { Puts W.taken W.broken pen.old pen.new (solution_text (lists_of routes.now) cost) }
+    ensures { Puts W.Sink pen.old pen.new (solution_text (lists_of routes.now) cost) }
 {
     put_routes(pen, routes);
     pen.put(b"Cost ");
@@ -49,12 +50,12 @@ fn put_solution<W: Sink>(pen: &mut Pen<'_, W>, routes: &[Vec<u32>], cost: u64)
 /// That a write failed, and how many bytes of the text had gone out by then.
 pub fn write_solution<W: Sink>(w: &mut W, routes: &[Vec<u32>], cost: i64) -> Result<(), WriteFault>
     requires { pos 0 ≤ℤ cost }
-    ensures text { Writes W.taken W.broken w.old w.new result
+    ensures text { Writes W.Sink w.old w.new result
         (solution_text (lists_of routes.now) (unsigned_abs cost)) }
     ensures read_back { IsSolution (lists_of routes.now) (unsigned_abs cost)
         → SolutionReadsBack (lists_of routes.now) (unsigned_abs cost) }
     ensures failed { length routes.now ≤ ROUTE_LIMIT → length (concat (lists_of routes.now)) ≤ ENTRY_LIMIT
-        → OnErr result (W.broken w.new ≡ true) }
+        → OnErr result (IsBroken W.Sink w.new) }
 {
     let mut pen = Pen::new(w);
     put_solution(&mut pen, routes, cost.unsigned_abs());

@@ -1,5 +1,6 @@
 mod ArrayLists
 mod HandingOut
+mod InMemory
 mod PlotTexts
 mod PointArrays
 mod Refusals

@@ -6,6 +6,8 @@ use Rattle.tk_text.specs.Problem.{ProblemIs, RoutingIs, problem_texts}
 use Rattle.tk_text.specs.Solution.{solution_texts}
 use Rattle.tk_text.specs.Tour.{tour_texts}
 use Rattle.tk_engines.specs.Engine.{IsGiven, ReadsProblem, ReadsSolution, ReadsTour}
+use Rattle.tk_words.specs.declared.sources.source.Source as sources
+use Rattle.tk_writers.specs.declared.output.sink.Sink as sinks
 use Rattle.tk_engines.specs.declared.fault.Fault.{Fault}
 use Rattle.tk_picture.specs.declared.picture.Form.TheVariants as forms
 use Rattle.tk_engines.specs.Plot.{Claim, Drawn, Nothing, Output, ReadsClaim, Refused, RoutesClaim, TourClaim}
@@ -18,14 +20,13 @@ use Rattle.tourkit_c.specs.Plotted.{ClaimSays, IsPlotOf, IsSolutionFault, IsTour
 use Rattle.tourkit_c.specs.Texts.{TextSays}
 
 -- what is claimed, its text says
-pub claim_says : {S : Type 0} (given : Bool) (left : S → Option (List ℕ)) (broken : S → Bool) (old new : S)
-    (text : List ℕ) (p : ProblemIs) (c : Claim) → left old ≡ Some text → ReadsClaim given left broken old new p (Ok c) →
-    ClaimSays given text p c
-claim_says given left broken old new text p Nothing e h = h.0
-claim_says given left broken old new text p (TourClaim cities) e h =
-    (h.0, h.1, says tour_texts left broken old new text cities e h.2)
-claim_says given left broken old new text p (RoutesClaim s) e h =
-    (h.0, h.1, says solution_texts left broken old new text s e h.2)
+pub claim_says : {S : Type 0} (given : Bool) (source : sources.Ghosts S) (old new : S) (text : List ℕ) (p : ProblemIs)
+    (c : Claim) → source.left old ≡ Some text → ReadsClaim given source old new p (Ok c) → ClaimSays given text p c
+claim_says given source old new text p Nothing e h = h.0
+claim_says given source old new text p (TourClaim cities) e h =
+    (h.0, h.1, says tour_texts source old new text cities e h.2)
+claim_says given source old new text p (RoutesClaim s) e h =
+    (h.0, h.1, says solution_texts source old new text s e h.2)
 
 -- what an empty buffer took
 pub appended : (old new : Option (List ℕ)) (bs items : List ℕ) → old ≡ Some [] → new ≡ Some items →
@@ -36,43 +37,42 @@ appended old new bs items e i h =
 untouched : (old new : Option (List ℕ)) (items : List ℕ) → old ≡ Some [] → new ≡ Some items → new ≡ old → items ≡ []
 untouched old new items e i h = ap (λ (o : Option (List ℕ)). unwrap_or o []) (sym i ∙ h ∙ e)
 
-pub written_of : {W T : Type 0} (out_taken : W → Option (List ℕ)) (out_broken : W → Bool)
-    (told_taken : T → Option (List ℕ)) (told_broken : T → Bool) (out out' : W) (told told' : T) (items lines : List ℕ)
-    (output : Output)
-    → out_taken out ≡ Some [] → out_taken out' ≡ Some items → told_taken told ≡ Some [] → told_taken told' ≡ Some lines
-    → WritesOutput out_taken out_broken told_taken told_broken out out' told told' (Ok tt) output →
+pub written_of : {W T : Type 0} (outs : sinks.Ghosts W) (tolds : sinks.Ghosts T) (out out' : W) (told told' : T)
+    (items lines : List ℕ) (output : Output)
+    → outs.taken out ≡ Some [] → outs.taken out' ≡ Some items
+    → tolds.taken told ≡ Some [] → tolds.taken told' ≡ Some lines
+    → WritesOutput outs tolds out out' told told' (Ok tt) output →
     (items ≡ picture_in output) × (lines ≡ line_in output)
-written_of out_taken out_broken told_taken told_broken out out' told told' items lines (Drawn picture) e i f j h = (
-  appended (out_taken out) (out_taken out') picture items e i h.0.0,
-  untouched (told_taken told) (told_taken told') lines f j h.1.0,
+written_of outs tolds out out' told told' items lines (Drawn picture) e i f j h = (
+  appended (outs.taken out) (outs.taken out') picture items e i h.0.0,
+  untouched (tolds.taken told) (tolds.taken told') lines f j h.1.0,
 )
-written_of out_taken out_broken told_taken told_broken out out' told told' items lines (Refused line) e i f j h = (
-  untouched (out_taken out) (out_taken out') items e i h.0.0,
-  appended (told_taken told) (told_taken told') line lines f j h.1.0,
+written_of outs tolds out out' told told' items lines (Refused line) e i f j h = (
+  untouched (outs.taken out) (outs.taken out') items e i h.0.0,
+  appended (tolds.taken told) (tolds.taken told') line lines f j h.1.0,
 )
 
 -- what the engine gave, by what the texts say
-pub plot_said : {S C W T : Type 0} (left : S → Option (List ℕ)) (broken : S → Bool) (old new : S)
-    (claim_left : C → Option (List ℕ)) (claim_broken : C → Bool) (claim_old claim_new : C)
-    (taken : W → Option (List ℕ)) (out_broken : W → Bool) (out out' : W) (told_taken : T → Option (List ℕ))
-    (told_broken : T → Bool) (told told' : T) (given : Bool) (answer : Plotted) (problem claim items lines : List ℕ)
-    → IsGiven (plot_task forms.Svg given) (ReadsProblem left broken old new)
-    (ReadsClaim given claim_left claim_broken claim_old claim_new)
-    (WritesOutput taken out_broken told_taken told_broken out out' told told' (Ok tt)) answer
-    → left old ≡ Some problem → claim_left claim_old ≡ Some claim → taken out ≡ Some [] → taken out' ≡ Some items
-    → told_taken told ≡ Some [] → told_taken told' ≡ Some lines
+pub plot_said : {S C W T : Type 0} (source : sources.Ghosts S) (old new : S) (claims : sources.Ghosts C)
+    (claim_old claim_new : C) (outs : sinks.Ghosts W) (out out' : W) (tolds : sinks.Ghosts T) (told told' : T)
+    (given : Bool) (answer : Plotted) (problem claim items lines : List ℕ)
+    → IsGiven (plot_task forms.Svg given) (ReadsProblem source old new) (ReadsClaim given claims claim_old claim_new)
+    (WritesOutput outs tolds out out' told told' (Ok tt)) answer
+    → source.left old ≡ Some problem → claims.left claim_old ≡ Some claim
+    → outs.taken out ≡ Some [] → outs.taken out' ≡ Some items
+    → tolds.taken told ≡ Some [] → tolds.taken told' ≡ Some lines
     → (output : Output) × IsPlotOf given problem claim answer output × (items ≡ picture_in output)
     × (lines ≡ line_in output)
-plot_said left broken old new claim_left claim_broken claim_old claim_new taken out_broken out out' told_taken
-    told_broken told told' given answer problem claim items lines h e f g i j k =
-    let w = written_of taken out_broken told_taken told_broken out out' told told' items lines h.text g i j k
+plot_said source old new claims claim_old claim_new outs out out' tolds told told' given answer problem claim items
+    lines h e f g i j k =
+    let w = written_of outs tolds out out' told told' items lines h.text g i j k
     h.written in (
       h.text,
       record {
         p = h.problem;
         c = h.second;
-        is_problem = says problem_texts left broken old new problem h.problem e h.read.is_problem;
-        is_claim = claim_says given claim_left claim_broken claim_old claim_new claim h.problem h.second f
+        is_problem = says problem_texts source old new problem h.problem e h.read.is_problem;
+        is_claim = claim_says given claims claim_old claim_new claim h.problem h.second f
             h.read.is_second;
         is = h.gives;
       },
@@ -80,23 +80,22 @@ plot_said left broken old new claim_left claim_broken claim_old claim_new taken 
       w.1,
     )
 
-claim_stop_of : {C : Type 0} (given : Bool) (left : C → Option (List ℕ)) (broken : C → Bool) (old new : C)
-    (problem claim : List ℕ) (e : left old ≡ Some claim) (p : ProblemIs) (said : TextSays problem_texts problem p)
+claim_stop_of : {C : Type 0} (given : Bool) (source : sources.Ghosts C) (old new : C) (problem claim : List ℕ)
+    (e : source.left old ≡ Some claim) (p : ProblemIs) (said : TextSays problem_texts problem p)
     (fits : plot_misfit p ≡ None) (v : Fault) → given ≡ true → (o : Option RoutingIs) → p.routing ≡ o
-    → MatchOption o (ReadsTour left broken old new (Err v)) (λ _. ReadsSolution left broken old new (Err v)) →
+    → MatchOption o (ReadsTour source old new (Err v)) (λ _. ReadsSolution source old new (Err v)) →
     IsStop plot_misfit NeverClashes (IsTourFault given claim) (IsSolutionFault given claim) problem v
-claim_stop_of given left broken old new problem claim e p said fits v is None r h =
-    tour_stop plot_misfit NeverClashes (IsTourFault given claim) (IsSolutionFault given claim) problem p said fits left
-    broken old new claim e v (λ f has. (is, r, has)) h
-claim_stop_of given left broken old new problem claim e p said fits v is (Some routing) r h =
-    solution_stop plot_misfit NeverClashes (IsTourFault given claim) (IsSolutionFault given claim) problem p
-    said fits left
-    broken old new claim e v (λ f has. (is, ap is_some r, has)) h
+claim_stop_of given source old new problem claim e p said fits v is None r h =
+    tour_stop plot_misfit NeverClashes (IsTourFault given claim) (IsSolutionFault given claim) problem p said fits
+    source old new claim e v (λ f has. (is, r, has)) h
+claim_stop_of given source old new problem claim e p said fits v is (Some routing) r h =
+    solution_stop plot_misfit NeverClashes (IsTourFault given claim) (IsSolutionFault given claim) problem p said fits
+    source old new claim e v (λ f has. (is, ap is_some r, has)) h
 
 -- what is claimed was refused
-pub claim_stop : {C : Type 0} (left : C → Option (List ℕ)) (broken : C → Bool) (old new : C) (problem claim : List ℕ)
-    (e : left old ≡ Some claim) (given : Bool) (p : ProblemIs) (v : Fault)
-    → TextSays problem_texts problem p → plot_misfit p ≡ None → ReadsClaim given left broken old new p (Err v) →
+pub claim_stop : {C : Type 0} (source : sources.Ghosts C) (old new : C) (problem claim : List ℕ)
+    (e : source.left old ≡ Some claim) (given : Bool) (p : ProblemIs) (v : Fault)
+    → TextSays problem_texts problem p → plot_misfit p ≡ None → ReadsClaim given source old new p (Err v) →
     IsStop plot_misfit NeverClashes (IsTourFault given claim) (IsSolutionFault given claim) problem v
-claim_stop left broken old new problem claim e given p v said fits h =
-    claim_stop_of given left broken old new problem claim e p said fits v h.0 p.routing refl h.1
+claim_stop source old new problem claim e given p v said fits h =
+    claim_stop_of given source old new problem claim e p said fits v h.0 p.routing refl h.1

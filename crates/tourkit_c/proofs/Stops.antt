@@ -1,9 +1,10 @@
 -- Where an engine over texts in memory stopped.
-use Rattle.std.proofs.Common.{◌≡◌, ℕ, Bool, List, Option, None, Some, Ok, Err, sym, subst}
+use Rattle.std.proofs.Common.{◌≡◌, ℕ, List, Option, None, Some, Ok, Err, sym, subst}
 use Rattle.tk_text.specs.Problem.{ProblemIs, problem_texts}
 use Rattle.tk_text.specs.Solution.{solution_texts}
 use Rattle.tk_text.specs.Tour.{tour_texts}
 use Rattle.tk_words.specs.declared.fault.TextFault.{TextFault}
+use Rattle.tk_words.specs.declared.sources.source.Source as sources
 use Rattle.tk_tour.specs.declared.fault.TourFault.{TourFault}
 use Rattle.tk_engines.specs.Engine.{EndsByProblem, IsMisfit, Reading, ReadsProblem, ReadsSolution, ReadsTour, Task}
 use Rattle.tk_engines.specs.Engine.{Writing}
@@ -16,9 +17,9 @@ use Rattle.tourkit_c.specs.Texts.{HasFault, TextSays}
 -- the text of a tour, or of a solution, was refused, of a problem that fits
 module _ {S : Type 0} (misfit : ProblemIs → Option Fault) (Clash : TourFault → Type 0)
     (Tour Solution : ProblemIs → TextFault → Type 0) (problem : List ℕ) (p : ProblemIs)
-    (said : TextSays problem_texts problem p) (fits : misfit p ≡ None) (left : S → Option (List ℕ)) (broken : S → Bool)
-    (old new : S) (text : List ℕ) (e : left old ≡ Some text) (v : Fault) where
-  pub tour_stop : ((f : TextFault) → HasFault tour_texts text f → Tour p f) → ReadsTour left broken old new (Err v) →
+    (said : TextSays problem_texts problem p) (fits : misfit p ≡ None) (source : sources.Ghosts S)
+    (old new : S) (text : List ℕ) (e : source.left old ≡ Some text) (v : Fault) where
+  pub tour_stop : ((f : TextFault) → HasFault tour_texts text f → Tour p f) → ReadsTour source old new (Err v) →
       IsStop misfit Clash Tour Solution problem v
   tour_stop wrap h =
       subst (IsStop misfit Clash Tour Solution problem) (sym h.1)
@@ -26,50 +27,50 @@ module _ {S : Type 0} (misfit : ProblemIs → Option Fault) (Clash : TourFault �
         p = p;
         is_problem = said;
         fits = fits;
-        fact = wrap h.0 (has_fault tour_texts text left broken old new h.0 e h.2);
+        fact = wrap h.0 (has_fault tour_texts text source old new h.0 e h.2);
       })
 
   pub solution_stop : ((f : TextFault) → HasFault solution_texts text f → Solution p f) →
-      ReadsSolution left broken old new (Err v) → IsStop misfit Clash Tour Solution problem v
+      ReadsSolution source old new (Err v) → IsStop misfit Clash Tour Solution problem v
   solution_stop wrap h =
       subst (IsStop misfit Clash Tour Solution problem) (sym h.1)
       (record {
         p = p;
         is_problem = said;
         fits = fits;
-        fact = wrap h.0 (has_fault solution_texts text left broken old new h.0 e h.2);
+        fact = wrap h.0 (has_fault solution_texts text source old new h.0 e h.2);
       })
 
 module _ {S B R T : Type 0} (task : Task B R T) (Clash : TourFault → Type 0)
-    (Tour Solution : ProblemIs → TextFault → Type 0) (left : S → Option (List ℕ)) (broken : S → Bool) (old new : S)
-    (problem : List ℕ) (e : left old ≡ Some problem)
+    (Tour Solution : ProblemIs → TextFault → Type 0) (source : sources.Ghosts S) (old new : S)
+    (problem : List ℕ) (e : source.left old ≡ Some problem)
     (Second : ProblemIs → Reading B) (Writes : Writing T)
     (seconds : (p : ProblemIs) (v : Fault) → TextSays problem_texts problem p → task.misfit p ≡ None →
     Second p (Err v) →
     IsStop task.misfit Clash Tour Solution problem v)
     (clashes : (p : ProblemIs) (b : B) (f : TourFault) → TextSays problem_texts problem p → Second p (Ok b) →
     task.IsClash p b (Some (faults.Initial f)) → Clash f) where
-  misfit_stop : (v : Fault) → IsMisfit task (ReadsProblem left broken old new) v → IsMisfitOf task.misfit problem v
+  misfit_stop : (v : Fault) → IsMisfit task (ReadsProblem source old new) v → IsMisfitOf task.misfit problem v
   misfit_stop v h =
       record {
         p = h.problem;
-        is_problem = says problem_texts left broken old new problem h.problem e h.is_problem;
+        is_problem = says problem_texts source old new problem h.problem e h.is_problem;
         misfit_is = h.misfit;
       }
 
-  pub stop_of : (v : Fault) → EndsByProblem task (ReadsProblem left broken old new) Second Writes (Err v) →
+  pub stop_of : (v : Fault) → EndsByProblem task (ReadsProblem source old new) Second Writes (Err v) →
       IsStop task.misfit Clash Tour Solution problem v
   stop_of (faults.Problem g) h =
       subst (IsStop task.misfit Clash Tour Solution problem) (sym h.1)
-      (has_fault problem_texts problem left broken old new h.0 e h.2)
+      (has_fault problem_texts problem source old new h.0 e h.2)
   stop_of (faults.Tour g) h =
-      seconds h.problem (faults.Tour g) (says problem_texts left broken old new problem h.problem e h.is_problem)
+      seconds h.problem (faults.Tour g) (says problem_texts source old new problem h.problem e h.is_problem)
       h.fits h.refused
   stop_of (faults.Solution g) h =
-      seconds h.problem (faults.Solution g) (says problem_texts left broken old new problem h.problem e h.is_problem)
+      seconds h.problem (faults.Solution g) (says problem_texts source old new problem h.problem e h.is_problem)
       h.fits h.refused
   stop_of (faults.Initial g) h =
-      clashes h.0 h.1 g (says problem_texts left broken old new problem h.0 e h.2.is_problem) h.2.is_second h.3
+      clashes h.0 h.1 g (says problem_texts source old new problem h.0 e h.2.is_problem) h.2.is_second h.3
   stop_of (faults.Write g) h = tt
   stop_of faults.NoMemory h = tt
   stop_of faults.WrongType h = misfit_stop faults.WrongType h

@@ -3,14 +3,15 @@ use Rattle.std.proofs.Common.{◌≡◌, ℕ, Bool, List, Option, Some, Ok, Err,
 use Rattle.std.specs.Prelude.{IfSome}
 use Rattle.tk_words.specs.declared.fault.TextFault.{TextFault}
 use Rattle.tk_text.specs.Texts.{Cause, OfText, OfSource, OfMemory, Texts, IsAnswer, IsFaultOf, IsToldOf, answer_of}
+use Rattle.tk_words.specs.declared.sources.source.Source as sources
 use Rattle.tk_engines.specs.Engine.{IsRead, IsRefused}
 use Rattle.tourkit_c.specs.Texts.{HasFault, TextSays}
 
 -- what a source was read as, its text says
-pub says : {V S : Type 0} (texts : Texts V TextFault) (left : S → Option (List ℕ)) (broken : S → Bool) (old new : S)
-    (text : List ℕ) (v : V) → left old ≡ Some text → IsRead texts left broken old new v → TextSays texts text v
-says {V} texts left broken old new text v e h =
-    (subst (λ (o : Option (List ℕ)). IfSome o (λ t. (rest : List ℕ) × (left new ≡ Some rest)
+pub says : {V S : Type 0} (texts : Texts V TextFault) (source : sources.Ghosts S) (old new : S)
+    (text : List ℕ) (v : V) → source.left old ≡ Some text → IsRead texts source old new v → TextSays texts text v
+says {V} texts source old new text v e h =
+    (subst (λ (o : Option (List ℕ)). IfSome o (λ t. (rest : List ℕ) × (source.left new ≡ Some rest)
     × IsAnswer texts t rest (Ok v))) e h.answer).2.answer
 
 -- the fault of a source whose bytes are told is that of its text
@@ -22,9 +23,10 @@ has_cause texts text broken new f OfSource h = tt
 has_cause texts text broken new f OfMemory h = tt
 
 -- the fault that a source was refused with is that of its text
-pub has_fault : {V S : Type 0} (texts : Texts V TextFault) (text : List ℕ) (left : S → Option (List ℕ))
-    (broken : S → Bool) (old new : S) (f : TextFault) → left old ≡ Some text →
-    IsRefused texts left broken old new f → HasFault texts text f
-has_fault texts text left broken old new f e h =
-    has_cause texts text (broken new) (left new) f (texts.cause f)
-    (subst (λ (o : Option (List ℕ)). IsFaultOf texts (broken new) o (left new) f (texts.cause f)) e h.fault)
+pub has_fault : {V S : Type 0} (texts : Texts V TextFault) (text : List ℕ) (source : sources.Ghosts S) (old new : S)
+    (f : TextFault) → source.left old ≡ Some text →
+    IsRefused texts source old new f → HasFault texts text f
+has_fault texts text source old new f e h =
+    has_cause texts text (source.broken new) (source.left new) f (texts.cause f)
+    (subst (λ (o : Option (List ℕ)). IsFaultOf texts (source.broken new) o (source.left new) f (texts.cause f)) e
+    h.fault)

@@ -5,6 +5,7 @@ use crate::lines::{
 use crate::place::{Place, entry_width, header_number, numbers_in, place_of};
 use crate::sentence::Sentence;
 use crate::spot::{Here, Spot};
+use tk_problem::{FORMATS, Format};
 use tk_words::{Keyword, keyword_in, letter, spelled};
 
 /// How many numbers a section has.
@@ -46,24 +47,23 @@ fn size_of(spot: &Spot<'_>, section: Keyword) -> Option<Size> {
 
 /// How many weights the format has.
 fn weights_of(spot: &Spot<'_>, nodes: u64) -> Option<u64> {
-    let format = first_token(header(spot.text, Keyword::EdgeWeightFormat)?.bytes);
+    let word = first_token(header(spot.text, Keyword::EdgeWeightFormat)?.bytes);
+    let format = FORMATS
+        .iter()
+        .copied()
+        .find(|format| spelled(word, format.word().as_bytes()));
     let all = nodes.checked_mul(nodes)?;
-    if spelled(format, b"FULL_MATRIX") {
-        return Some(all);
-    }
     let below = all.checked_sub(nodes)? / 2;
-    if has_diagonal(format) {
-        return below.checked_add(nodes);
+    match format {
+        Some(Format::FullMatrix) => Some(all),
+        Some(
+            Format::UpperDiagRow
+            | Format::LowerDiagRow
+            | Format::UpperDiagCol
+            | Format::LowerDiagCol,
+        ) => below.checked_add(nodes),
+        _ => Some(below),
     }
-    Some(below)
-}
-
-/// Whether half a matrix in a format has the weights from each node to itself.
-fn has_diagonal(format: &[u8]) -> bool {
-    spelled(format, b"UPPER_DIAG_ROW")
-        || spelled(format, b"LOWER_DIAG_ROW")
-        || spelled(format, b"UPPER_DIAG_COL")
-        || spelled(format, b"LOWER_DIAG_COL")
 }
 
 /// The keyword that ends a section on a line, or `None` at the end of the file, and how many tokens stand before it.

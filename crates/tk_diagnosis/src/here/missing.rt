@@ -4,12 +4,12 @@ use crate::lines::{header, keyword_at};
 use crate::place::{entry_width, numbers_in};
 use crate::sentence::Sentence;
 use crate::spot::{Here, Spot};
-use tk_words::{Keyword, Role, role};
+use tk_words::{Keyword, Role};
 
 /// A header or a section is missing: before a section, or at the end of the file.
 pub fn missing<'a>(spot: &Spot<'a>, word: Keyword) -> Here<'a> {
     match keyword_at(spot.line) {
-        Some(section) if role(section) == Role::BeginsSection => before(spot, word, section),
+        Some(section) if section.role() == Role::BeginsSection => before(spot, word, section),
         _ => at_end(spot, word),
     }
 }
@@ -58,7 +58,7 @@ fn at_end<'a>(spot: &Spot<'a>, word: Keyword) -> Here<'a> {
     } else {
         Sentence::of("the end of the file, and no {} before it").keyword(word)
     };
-    let form = if role(word) == Role::BeginsSection {
+    let form = if word.role() == Role::BeginsSection {
         "Add {} at the end, before EOF."
     } else {
         "Add {} before the first section."

@@ -7,7 +7,7 @@ use crate::sentence::Sentence;
 use crate::spot::{Here, Spot};
 use std::alloc::AllocError;
 use tk_problem::{CAPACITY_LIMIT, DISTANCE_LIMIT};
-use tk_words::{Keyword, Role, TextKind, decimal, integer, role};
+use tk_words::{Keyword, Role, TextKind, decimal, integer};
 
 /// A number of a section that has a fault, with how many numbers of the section stand before it.
 #[derive(Clone, Copy)]
@@ -66,7 +66,7 @@ fn text_of_field(section: Keyword, field: u64) -> &'static str {
 /// `AllocError` if memory runs out.
 pub fn number<'a>(spot: &Spot<'a>, kind: TextKind) -> Result<Here<'a>, AllocError> {
     match keyword_at(spot.line) {
-        Some(word) if role(word) == Role::BeginsHeader => Ok(in_header(spot, word, kind)),
+        Some(word) if word.role() == Role::BeginsHeader => Ok(in_header(spot, word, kind)),
         Some(word) if kind == TextKind::OutOfLimit => Ok(too_many_nodes(spot, word)),
         _ => match place_of(spot.text, spot.number) {
             Some(place) => in_section(spot, place, kind),

@@ -6,7 +6,7 @@ use crate::sentence::Sentence;
 use crate::spot::{Here, Spot};
 use std::alloc::{AllocError, Global};
 use tk_problem::TEXT_LIMIT;
-use tk_words::{Keyword, Role, role};
+use tk_words::{Keyword, Role};
 
 /// The keywords for which another word may be meant.
 static KEYWORDS: [&str; 15] = [
@@ -87,7 +87,7 @@ pub fn repeated<'a>(spot: &Spot<'a>) -> Here<'a> {
 
 /// What to do about a header or a section that two lines have.
 fn one_of_two<'a>(word: Keyword, first: u64, second: u64) -> Sentence<'a> {
-    if role(word) == Role::BeginsSection {
+    if word.role() == Role::BeginsSection {
         Sentence::of("Keep one of the sections that begin on lines {} and {}.").numbers([
             first, second,
         ])
@@ -120,7 +120,7 @@ pub fn too_long<'a>(spot: &Spot<'a>) -> Here<'a> {
     let value = value_behind(spot.line, b':').len();
     match keyword_at(spot.line) {
         Some(Keyword::Name) => long("a NAME of at most 1,024 bytes", "{} bytes", value),
-        Some(word) if role(word) == Role::BeginsHeader => {
+        Some(word) if word.role() == Role::BeginsHeader => {
             long("at most 4,096 bytes after the keyword", "{} bytes", value)
         }
         _ => long(

@@ -1,9 +1,10 @@
 //! The check of a tour.
-ghost use Rattle.std.specs.Prelude.{◌≡◌, true, IfErr};
+ghost use Rattle.std.specs.Prelude.{IfErr};
 ghost use Rattle.tk_problem_text.specs.ProblemOf.{problem_is};
 ghost use Rattle.tk_writers.specs.Puts.{Writes};
-ghost use Rattle.tk_engines.specs.Check.{check_task};
-ghost use Rattle.tk_engines.specs.Engine.{Ends, ReadsProblem, ReadsTour, IsUntouched, BeforeSecond, UnlessWrite};
+ghost use Rattle.tk_writers.specs.Sinks.{IsBroken};
+ghost use Rattle.tk_engines.specs.Check.{check_task, ChecksTour};
+ghost use Rattle.tk_engines.specs.Engine.{Ends, ReadsTour, IsUnread, IsUnwritten, BeforeSecond, UnlessWrite};
 ghost use Rattle.tk_engines.specs.Engine.{AtWrite, HasRead};
 
 use crate::fault::Fault;
@@ -23,11 +24,10 @@ fn check_tour<T: Source, W: Sink>(
     tour: &mut T,
     out: &mut W,
 ) -> Result<Verdict, Fault>
-    ensures ends { Ends check_task (HasRead (problem_is problem.now))
-        (ReadsTour T.left T.broken tour.old tour.new)
-        (Writes W.taken W.broken out.old out.new) result }
-    ensures quiet { IfErr result (UnlessWrite (IsUntouched W.taken W.broken out.old out.new)) }
-    ensures failed { IfErr result (AtWrite (W.broken out.new ≡ true)) }
+    ensures ends { Ends check_task (HasRead (problem_is problem.now)) (ReadsTour T.Source tour.old tour.new)
+        (Writes W.Sink out.old out.new) result }
+    ensures quiet { IfErr result (UnlessWrite (IsUnwritten W.Sink out.old out.new)) }
+    ensures failed { IfErr result (AtWrite (IsBroken W.Sink out.new)) }
 {
     let tour = match read_tour(alloc, tour) {
         Ok(tour) => tour,
@@ -55,12 +55,11 @@ pub fn check_engine<P: Source, T: Source, W: Sink>(
     tour: &mut T,
     out: &mut W,
 ) -> Result<Verdict, Fault>
-    ensures ends { Ends check_task (ReadsProblem P.left P.broken problem.old problem.new)
-        (ReadsTour T.left T.broken tour.old tour.new)
-        (Writes W.taken W.broken out.old out.new) result }
-    ensures quiet { IfErr result (UnlessWrite (IsUntouched W.taken W.broken out.old out.new)) }
-    ensures failed { IfErr result (AtWrite (W.broken out.new ≡ true)) }
-    ensures unread { IfErr result (BeforeSecond (IsUntouched T.left T.broken tour.old tour.new)) }
+    ensures ends { ChecksTour P.Source T.Source W.Sink (problem.old, tour.old, out.old)
+        (problem.new, tour.new, out.new) result }
+    ensures quiet { IfErr result (UnlessWrite (IsUnwritten W.Sink out.old out.new)) }
+    ensures failed { IfErr result (AtWrite (IsBroken W.Sink out.new)) }
+    ensures unread { IfErr result (BeforeSecond (IsUnread T.Source tour.old tour.new)) }
 {
     match read_problem(alloc, problem) {
         Ok(problem) => check_tour(alloc, &problem, tour, out),

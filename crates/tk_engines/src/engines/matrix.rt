@@ -1,12 +1,13 @@
 //! The matrix of a problem.
-ghost use Rattle.std.specs.Prelude.{◌≡◌, ◌≤◌, true, pos, OnErr, IfErr};
+ghost use Rattle.std.specs.Prelude.{◌≡◌, ◌≤◌, pos, OnErr, IfErr};
 ghost use Rattle.tk_problem.specs.declared.limits.TheConstants.{TABLE_LIMIT};
 ghost use Rattle.tk_distance.specs.Cities.{IsCity};
 ghost use Rattle.tk_distance.specs.Tables.{table_size, table_distance};
 ghost use Rattle.tk_problem_text.specs.ProblemOf.{problem_is};
 ghost use Rattle.tk_writers.specs.Puts.{Writes};
+ghost use Rattle.tk_writers.specs.Sinks.{IsBroken};
 ghost use Rattle.tk_problem_text.specs.Names.{IsName};
-ghost use Rattle.tk_engines.specs.Engine.{Ends, HasRead, ReadsProblem, NoText, IsUntouched, UnlessWrite, AtWrite};
+ghost use Rattle.tk_engines.specs.Engine.{Ends, HasRead, ReadsProblem, NoText, IsUnwritten, UnlessWrite, AtWrite};
 ghost use Rattle.tk_engines.specs.MatrixOf.{by_distances, IsReadAs, matrix_of, matrix_task};
 
 use crate::fault::Fault;
@@ -20,10 +21,10 @@ use tk_writers::{Sink, WriteFault, write_matrix};
 /// Writes the matrix of a problem.
 fn write_problem<W: Sink>(out: &mut W, problem: &Problem, format: Format) -> Result<(), WriteFault>
     requires few { problem.now.n ≤ TABLE_LIMIT }
-    ensures text { Writes W.taken W.broken out.old out.new result (matrix_of (problem_is problem.now) format) }
+    ensures text { Writes W.Sink out.old out.new result (matrix_of (problem_is problem.now) format) }
     ensures read_back { IsName problem.now.name.items
         → IsReadAs (matrix_of (problem_is problem.now) format) (by_distances (problem_is problem.now)) }
-    ensures failed { OnErr result (W.broken out.new ≡ true) }
+    ensures failed { OnErr result (IsBroken W.Sink out.new) }
 {
     let table = Table::of(problem);
     let distance = |a: u32, b: u32| -> i64
@@ -38,9 +39,9 @@ fn write_problem<W: Sink>(out: &mut W, problem: &Problem, format: Format) -> Res
 fn matrix_problem<W: Sink>(problem: &Problem, format: Format, out: &mut W) -> Result<(), Fault>
     requires { IsName problem.now.name.items }
     ensures ends { Ends (matrix_task format) (HasRead (problem_is problem.now)) NoText
-        (Writes W.taken W.broken out.old out.new) result }
-    ensures quiet { IfErr result (UnlessWrite (IsUntouched W.taken W.broken out.old out.new)) }
-    ensures failed { IfErr result (AtWrite (W.broken out.new ≡ true)) }
+        (Writes W.Sink out.old out.new) result }
+    ensures quiet { IfErr result (UnlessWrite (IsUnwritten W.Sink out.old out.new)) }
+    ensures failed { IfErr result (AtWrite (IsBroken W.Sink out.new)) }
 {
     if problem.n > TABLE_LIMIT {
         return Err(Fault::TooLarge);
@@ -63,10 +64,10 @@ pub fn matrix_engine<R: Source, W: Sink>(
     format: Format,
     out: &mut W,
 ) -> Result<(), Fault>
-    ensures ends { Ends (matrix_task format) (ReadsProblem R.left R.broken problem.old problem.new) NoText
-        (Writes W.taken W.broken out.old out.new) result }
-    ensures quiet { IfErr result (UnlessWrite (IsUntouched W.taken W.broken out.old out.new)) }
-    ensures failed { IfErr result (AtWrite (W.broken out.new ≡ true)) }
+    ensures ends { Ends (matrix_task format) (ReadsProblem R.Source problem.old problem.new) NoText
+        (Writes W.Sink out.old out.new) result }
+    ensures quiet { IfErr result (UnlessWrite (IsUnwritten W.Sink out.old out.new)) }
+    ensures failed { IfErr result (AtWrite (IsBroken W.Sink out.new)) }
 {
     match read_problem(alloc, problem) {
         Ok(problem) => matrix_problem(&problem, format, out),

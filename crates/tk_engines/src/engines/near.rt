@@ -1,10 +1,11 @@
 //! The near lists of a problem.
-ghost use Rattle.std.specs.Prelude.{◌≡◌, ◌≤◌, true, OnErr, IfOk, IfErr};
+ghost use Rattle.std.specs.Prelude.{◌≤◌, OnErr, IfOk, IfErr};
 ghost use Rattle.tk_problem.specs.declared.limits.TheConstants.{CANDIDATE_LIMIT, CITY_LIMIT};
 ghost use Rattle.tk_problem_text.specs.ProblemOf.{problem_is};
 ghost use Rattle.tk_writers.specs.Pens.{Puts};
 ghost use Rattle.tk_writers.specs.Puts.{Writes};
-ghost use Rattle.tk_engines.specs.Engine.{Ends, HasRead, ReadsProblem, NoText, IsUntouched, UnlessWrite, AtWrite};
+ghost use Rattle.tk_writers.specs.Sinks.{IsBroken};
+ghost use Rattle.tk_engines.specs.Engine.{Ends, HasRead, ReadsProblem, NoText, IsUnwritten, UnlessWrite, AtWrite};
 ghost use Rattle.tk_engines.specs.NearText.{IsNearOf, near_task, near_text};
 
 use crate::fault::Fault;
@@ -27,7 +28,7 @@ fn lists_of(alloc: Global, problem: &Problem, k: u32) -> Result<Near, AllocError
 
 /// Writes the list of each city on a line.
 fn put_lists<W: Sink>(pen: &mut Pen<'_, W>, near: &Near)
-    ensures { Puts W.taken W.broken pen.old pen.new (near_text near.now) }
+    ensures { Puts W.Sink pen.old pen.new (near_text near.now) }
 {
     for city in 1..near.size() + 1 {
         pen.put_number(city as u64);
@@ -41,8 +42,8 @@ fn put_lists<W: Sink>(pen: &mut Pen<'_, W>, near: &Near)
 fn write_lists<W: Sink>(out: &mut W, near: &Near) -> Result<(), WriteFault>
     requires few { near.now.size ≤ CITY_LIMIT }
     requires narrow { near.now.width ≤ CANDIDATE_LIMIT }
-    ensures text { Writes W.taken W.broken out.old out.new result (near_text near.now) }
-    ensures failed { OnErr result (W.broken out.new ≡ true) }
+    ensures text { Writes W.Sink out.old out.new result (near_text near.now) }
+    ensures failed { OnErr result (IsBroken W.Sink out.new) }
 {
     let mut pen = Pen::new(out);
     put_lists(&mut pen, near);
@@ -54,9 +55,9 @@ fn near_problem<W: Sink>(alloc: Global, problem: &Problem, k: u32, out: &mut W) 
     requires low { 1 ≤ k }
     requires limit { k ≤ CANDIDATE_LIMIT }
     ensures ends { Ends (near_task k) (HasRead (problem_is problem.now)) NoText
-        (Writes W.taken W.broken out.old out.new) result }
-    ensures quiet { IfErr result (UnlessWrite (IsUntouched W.taken W.broken out.old out.new)) }
-    ensures failed { IfErr result (AtWrite (W.broken out.new ≡ true)) }
+        (Writes W.Sink out.old out.new) result }
+    ensures quiet { IfErr result (UnlessWrite (IsUnwritten W.Sink out.old out.new)) }
+    ensures failed { IfErr result (AtWrite (IsBroken W.Sink out.new)) }
 {
     let Ok(near) = lists_of(alloc, problem, k) else {
         return Err(Fault::NoMemory);
@@ -82,10 +83,10 @@ pub fn near_engine<R: Source, W: Sink>(
 ) -> Result<(), Fault>
     requires low { 1 ≤ k }
     requires limit { k ≤ CANDIDATE_LIMIT }
-    ensures ends { Ends (near_task k) (ReadsProblem R.left R.broken problem.old problem.new) NoText
-        (Writes W.taken W.broken out.old out.new) result }
-    ensures quiet { IfErr result (UnlessWrite (IsUntouched W.taken W.broken out.old out.new)) }
-    ensures failed { IfErr result (AtWrite (W.broken out.new ≡ true)) }
+    ensures ends { Ends (near_task k) (ReadsProblem R.Source problem.old problem.new) NoText
+        (Writes W.Sink out.old out.new) result }
+    ensures quiet { IfErr result (UnlessWrite (IsUnwritten W.Sink out.old out.new)) }
+    ensures failed { IfErr result (AtWrite (IsBroken W.Sink out.new)) }
 {
     match read_problem(alloc, problem) {
         Ok(problem) => near_problem(alloc, &problem, k, out),

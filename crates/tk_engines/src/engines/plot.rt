@@ -1,17 +1,19 @@
 //! The picture of a problem, and of a tour or of routes that fit it.
-ghost use Rattle.std.specs.Prelude.{◌≡◌, true, IfErr, IfNone, IfSome, OnErr, None, Some, map, option_map};
+ghost use Rattle.std.specs.Prelude.{◌≡◌, ◌⊎◌, true, IfErr, IfNone, IfSome, OnErr, None, Some, map, option_map};
 ghost use Rattle.tk_problem_text.specs.ProblemOf.{problem_is};
 ghost use Rattle.tk_writers.specs.Puts.{Writes};
+ghost use Rattle.tk_writers.specs.Sinks.{IsBroken};
 ghost use Rattle.tk_distance.specs.Cities.{IsCity};
 ghost use Rattle.tk_tour.specs.Verdict.{IsVerdict};
 ghost use Rattle.tk_routes.specs.Cvrps.{instance_of};
 ghost use Rattle.tk_routes.specs.Instance.{IsInstanceOf};
 ghost use Rattle.tk_routes.specs.RouteVerdicts.{IsRouteVerdict};
-ghost use Rattle.tk_engines.specs.Engine.{AtWrite, BeforeSecond, EndsByProblem, HasRead, IsUntouched, ReadsProblem};
+ghost use Rattle.tk_engines.specs.Engine.{AtWrite, BeforeSecond, EndsByProblem, HasRead, IsUnread};
 ghost use Rattle.tk_engines.specs.Engine.{UnlessWrite};
 ghost use Rattle.tk_picture.specs.Pictures.{Fits, drawing_of};
 ghost use Rattle.tk_engines.specs.declared.fault.Fault.TheVariants.{NoPlaces};
-ghost use Rattle.tk_engines.specs.Plot.{AreUntouched, HasFailed, WritesOutput, WritesSome, demands_in, without_places};
+ghost use Rattle.tk_engines.specs.Plot.{AreUntouched, WritesOutput, WritesSome, demands_in, without_places};
+ghost use Rattle.tk_engines.specs.Plot.{Plots};
 ghost use Rattle.tk_engines.specs.Plot.{IsPicture, IsRouteOutput, IsTourOutput, IsViewOf};
 ghost use Rattle.tk_engines.specs.Plot.{ReadsClaim, plot_task};
 
@@ -88,8 +90,8 @@ fn draw<W: Sink>(
     requires view { IsViewOf (problem_is problem.now) view }
     requires fits { Fits problem.now.n subject }
     ensures text { WritesSome (IsPicture form.entry (problem_is problem.now) (drawing_of subject.entry))
-        (Writes W.taken W.broken out.old out.new result) }
-    ensures failed { OnErr result (W.broken out.new ≡ true) }
+        (Writes W.Sink out.old out.new result) }
+    ensures failed { OnErr result (IsBroken W.Sink out.new) }
 {
     write_picture(out, &picture_of(problem, view, subject), form)
 }
@@ -107,8 +109,8 @@ fn show_tour<W: Sink, T: Sink>(
     requires view { IsViewOf (problem_is problem.now) view }
     requires verdict { IsVerdict problem.now.n cities.now verdict }
     ensures text { WritesSome (IsTourOutput form.entry (problem_is problem.now) cities.now verdict)
-        (WritesOutput W.taken W.broken T.taken T.broken out.old out.new told.old told.new result) }
-    ensures failed { OnErr result (HasFailed (W.broken out.new) (T.broken told.new)) }
+        (WritesOutput W.Sink T.Sink out.old out.new told.old told.new result) }
+    ensures failed { OnErr result (IsBroken W.Sink out.new ⊎ IsBroken T.Sink told.new) }
 {
     match verdict {
         Verdict::Tour => {
@@ -136,8 +138,8 @@ fn show_routes<W: Sink, T: Sink>(
         solution.now.cost verdict }
     ensures text { WritesSome (IsRouteOutput form.entry (problem_is problem.now) (instance_of cvrp.now)
         (map (λ r. r.items) solution.now.routes.items) verdict)
-        (WritesOutput W.taken W.broken T.taken T.broken out.old out.new told.old told.new result) }
-    ensures failed { OnErr result (HasFailed (W.broken out.new) (T.broken told.new)) }
+        (WritesOutput W.Sink T.Sink out.old out.new told.old told.new result) }
+    ensures failed { OnErr result (IsBroken W.Sink out.new ⊎ IsBroken T.Sink told.new) }
 {
     match verdict {
         RouteVerdict::Valid { routes, cost } => {
@@ -166,11 +168,10 @@ fn plot_tour<C: Source, W: Sink, T: Sink>(
     requires view { IsViewOf (problem_is problem.now) view }
     requires tsp { problem.now.routing ≡ None }
     ensures ends { EndsByProblem (plot_task form.entry true) (HasRead (problem_is problem.now))
-        (ReadsClaim true C.left C.broken claim.old claim.new)
-        (WritesOutput W.taken W.broken T.taken T.broken out.old out.new told.old told.new) result }
-    ensures quiet { IfErr result (UnlessWrite
-        (AreUntouched W.taken W.broken T.taken T.broken out.old out.new told.old told.new)) }
-    ensures failed { IfErr result (AtWrite (HasFailed (W.broken out.new) (T.broken told.new))) }
+        (ReadsClaim true C.Source claim.old claim.new)
+        (WritesOutput W.Sink T.Sink out.old out.new told.old told.new) result }
+    ensures quiet { IfErr result (UnlessWrite (AreUntouched W.Sink T.Sink out.old out.new told.old told.new)) }
+    ensures failed { IfErr result (AtWrite (IsBroken W.Sink out.new ⊎ IsBroken T.Sink told.new)) }
 {
     let tour = match read_tour(alloc, claim) {
         Ok(tour) => tour,
@@ -200,11 +201,10 @@ fn plot_routes<C: Source, W: Sink, T: Sink>(
     requires view { IsViewOf (problem_is problem.now) view }
     requires instance { IsInstanceOf problem.now (instance_of cvrp.now) }
     ensures ends { EndsByProblem (plot_task form.entry true) (HasRead (problem_is problem.now))
-        (ReadsClaim true C.left C.broken claim.old claim.new)
-        (WritesOutput W.taken W.broken T.taken T.broken out.old out.new told.old told.new) result }
-    ensures quiet { IfErr result (UnlessWrite
-        (AreUntouched W.taken W.broken T.taken T.broken out.old out.new told.old told.new)) }
-    ensures failed { IfErr result (AtWrite (HasFailed (W.broken out.new) (T.broken told.new))) }
+        (ReadsClaim true C.Source claim.old claim.new)
+        (WritesOutput W.Sink T.Sink out.old out.new told.old told.new) result }
+    ensures quiet { IfErr result (UnlessWrite (AreUntouched W.Sink T.Sink out.old out.new told.old told.new)) }
+    ensures failed { IfErr result (AtWrite (IsBroken W.Sink out.new ⊎ IsBroken T.Sink told.new)) }
 {
     let solution = match read_solution(alloc, claim) {
         Ok(solution) => solution,
@@ -231,11 +231,10 @@ fn plot_claim<C: Source, W: Sink, T: Sink>(
 ) -> Result<Plotted, Fault>
     requires view { IsViewOf (problem_is problem.now) view }
     ensures ends { EndsByProblem (plot_task form.entry true) (HasRead (problem_is problem.now))
-        (ReadsClaim true C.left C.broken claim.old claim.new)
-        (WritesOutput W.taken W.broken T.taken T.broken out.old out.new told.old told.new) result }
-    ensures quiet { IfErr result (UnlessWrite
-        (AreUntouched W.taken W.broken T.taken T.broken out.old out.new told.old told.new)) }
-    ensures failed { IfErr result (AtWrite (HasFailed (W.broken out.new) (T.broken told.new))) }
+        (ReadsClaim true C.Source claim.old claim.new)
+        (WritesOutput W.Sink T.Sink out.old out.new told.old told.new) result }
+    ensures quiet { IfErr result (UnlessWrite (AreUntouched W.Sink T.Sink out.old out.new told.old told.new)) }
+    ensures failed { IfErr result (AtWrite (IsBroken W.Sink out.new ⊎ IsBroken T.Sink told.new)) }
 {
     match Cvrp::of(problem) {
         Some(cvrp) => plot_routes(alloc, problem, view, &cvrp, claim, form, out, told),
@@ -254,12 +253,11 @@ fn plot_problem<C: Source, W: Sink, T: Sink>(
     told: &mut T,
 ) -> Result<Plotted, Fault>
     ensures ends { EndsByProblem (plot_task form.entry has_claim) (HasRead (problem_is problem.now))
-        (ReadsClaim has_claim C.left C.broken claim.old claim.new)
-        (WritesOutput W.taken W.broken T.taken T.broken out.old out.new told.old told.new) result }
-    ensures quiet { IfErr result (UnlessWrite
-        (AreUntouched W.taken W.broken T.taken T.broken out.old out.new told.old told.new)) }
-    ensures failed { IfErr result (AtWrite (HasFailed (W.broken out.new) (T.broken told.new))) }
-    ensures unread { IfErr result (BeforeSecond (IsUntouched C.left C.broken claim.old claim.new)) }
+        (ReadsClaim has_claim C.Source claim.old claim.new)
+        (WritesOutput W.Sink T.Sink out.old out.new told.old told.new) result }
+    ensures quiet { IfErr result (UnlessWrite (AreUntouched W.Sink T.Sink out.old out.new told.old told.new)) }
+    ensures failed { IfErr result (AtWrite (IsBroken W.Sink out.new ⊎ IsBroken T.Sink told.new)) }
+    ensures unread { IfErr result (BeforeSecond (IsUnread C.Source claim.old claim.new)) }
 {
     let Some(view) = view_of(problem) else {
         return Err(Fault::NoPlaces);
@@ -290,13 +288,11 @@ pub fn plot_engine<P: Source, C: Source, W: Sink, T: Sink>(
     out: &mut W,
     told: &mut T,
 ) -> Result<Plotted, Fault>
-    ensures ends { EndsByProblem (plot_task form.entry has_claim) (ReadsProblem P.left P.broken problem.old problem.new)
-        (ReadsClaim has_claim C.left C.broken claim.old claim.new)
-        (WritesOutput W.taken W.broken T.taken T.broken out.old out.new told.old told.new) result }
-    ensures quiet { IfErr result (UnlessWrite
-        (AreUntouched W.taken W.broken T.taken T.broken out.old out.new told.old told.new)) }
-    ensures failed { IfErr result (AtWrite (HasFailed (W.broken out.new) (T.broken told.new))) }
-    ensures unread { IfErr result (BeforeSecond (IsUntouched C.left C.broken claim.old claim.new)) }
+    ensures ends { Plots P.Source C.Source W.Sink T.Sink form.entry has_claim
+        (problem.old, claim.old, out.old, told.old) (problem.new, claim.new, out.new, told.new) result }
+    ensures quiet { IfErr result (UnlessWrite (AreUntouched W.Sink T.Sink out.old out.new told.old told.new)) }
+    ensures failed { IfErr result (AtWrite (IsBroken W.Sink out.new ⊎ IsBroken T.Sink told.new)) }
+    ensures unread { IfErr result (BeforeSecond (IsUnread C.Source claim.old claim.new)) }
 {
     match read_problem(alloc, problem) {
         Ok(problem) => plot_problem(alloc, &problem, claim, has_claim, form, out, told),

@@ -1,12 +1,13 @@
 //! The check of routes.
-ghost use Rattle.std.specs.Prelude.{◌≡◌, true, IfErr};
+ghost use Rattle.std.specs.Prelude.{IfErr};
 ghost use Rattle.tk_problem_text.specs.ProblemOf.{problem_is};
 ghost use Rattle.tk_routes.specs.Cvrps.{instance_of};
 ghost use Rattle.tk_routes.specs.Instance.{IsInstanceOf};
 ghost use Rattle.tk_writers.specs.Puts.{Writes};
-ghost use Rattle.tk_engines.specs.Engine.{Ends, ReadsProblem, ReadsSolution, IsUntouched, BeforeSecond, UnlessWrite};
+ghost use Rattle.tk_writers.specs.Sinks.{IsBroken};
+ghost use Rattle.tk_engines.specs.Engine.{Ends, ReadsSolution, IsUnread, IsUnwritten, BeforeSecond, UnlessWrite};
 ghost use Rattle.tk_engines.specs.Engine.{AtWrite, HasRead};
-ghost use Rattle.tk_engines.specs.RouteCheck.{route_check_task};
+ghost use Rattle.tk_engines.specs.RouteCheck.{route_check_task, ChecksRoutes};
 
 use crate::fault::Fault;
 use crate::lines::route_line::write_route_verdict;
@@ -28,10 +29,9 @@ fn check_solution<S: Source, W: Sink>(
 ) -> Result<RouteVerdict, Fault>
     requires { IsInstanceOf problem.now (instance_of cvrp.now) }
     ensures ends { Ends route_check_task (HasRead (problem_is problem.now))
-        (ReadsSolution S.left S.broken solution.old solution.new)
-        (Writes W.taken W.broken out.old out.new) result }
-    ensures quiet { IfErr result (UnlessWrite (IsUntouched W.taken W.broken out.old out.new)) }
-    ensures failed { IfErr result (AtWrite (W.broken out.new ≡ true)) }
+        (ReadsSolution S.Source solution.old solution.new) (Writes W.Sink out.old out.new) result }
+    ensures quiet { IfErr result (UnlessWrite (IsUnwritten W.Sink out.old out.new)) }
+    ensures failed { IfErr result (AtWrite (IsBroken W.Sink out.new)) }
 {
     let solution = match read_solution(alloc, solution) {
         Ok(solution) => solution,
@@ -54,11 +54,10 @@ fn check_problem<S: Source, W: Sink>(
     out: &mut W,
 ) -> Result<RouteVerdict, Fault>
     ensures ends { Ends route_check_task (HasRead (problem_is problem.now))
-        (ReadsSolution S.left S.broken solution.old solution.new)
-        (Writes W.taken W.broken out.old out.new) result }
-    ensures quiet { IfErr result (UnlessWrite (IsUntouched W.taken W.broken out.old out.new)) }
-    ensures failed { IfErr result (AtWrite (W.broken out.new ≡ true)) }
-    ensures unread { IfErr result (BeforeSecond (IsUntouched S.left S.broken solution.old solution.new)) }
+        (ReadsSolution S.Source solution.old solution.new) (Writes W.Sink out.old out.new) result }
+    ensures quiet { IfErr result (UnlessWrite (IsUnwritten W.Sink out.old out.new)) }
+    ensures failed { IfErr result (AtWrite (IsBroken W.Sink out.new)) }
+    ensures unread { IfErr result (BeforeSecond (IsUnread S.Source solution.old solution.new)) }
 {
     let Some(cvrp) = Cvrp::of(problem) else {
         return Err(Fault::WrongType);
@@ -78,12 +77,11 @@ pub fn route_check_engine<P: Source, S: Source, W: Sink>(
     solution: &mut S,
     out: &mut W,
 ) -> Result<RouteVerdict, Fault>
-    ensures ends { Ends route_check_task (ReadsProblem P.left P.broken problem.old problem.new)
-        (ReadsSolution S.left S.broken solution.old solution.new)
-        (Writes W.taken W.broken out.old out.new) result }
-    ensures quiet { IfErr result (UnlessWrite (IsUntouched W.taken W.broken out.old out.new)) }
-    ensures failed { IfErr result (AtWrite (W.broken out.new ≡ true)) }
-    ensures unread { IfErr result (BeforeSecond (IsUntouched S.left S.broken solution.old solution.new)) }
+    ensures ends { ChecksRoutes P.Source S.Source W.Sink (problem.old, solution.old, out.old)
+        (problem.new, solution.new, out.new) result }
+    ensures quiet { IfErr result (UnlessWrite (IsUnwritten W.Sink out.old out.new)) }
+    ensures failed { IfErr result (AtWrite (IsBroken W.Sink out.new)) }
+    ensures unread { IfErr result (BeforeSecond (IsUnread S.Source solution.old solution.new)) }
 {
     match read_problem(alloc, problem) {
         Ok(problem) => check_problem(alloc, &problem, solution, out),

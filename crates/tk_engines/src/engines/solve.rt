@@ -1,5 +1,6 @@
 //! The search for a tour or for routes.
-ghost use Rattle.std.specs.Prelude.{◌≡◌, ◌≤◌, ◌≤ℤ◌, ◌∷◌, pos, IfOk, IfErr, OnErr, MatchOption, None, is_some, length};
+ghost use Rattle.std.specs.Prelude.{◌≡◌, ◌⊎◌, ◌≤◌, ◌≤ℤ◌, ◌∷◌, pos, IfOk, IfErr, OnErr, MatchOption, None};
+ghost use Rattle.std.specs.Prelude.{is_some, length};
 ghost use Rattle.std.specs.List.{concat};
 ghost use Rattle.tk_problem.specs.declared.limits.TheConstants.{CITY_LIMIT, ENTRY_LIMIT, ROUTE_LIMIT};
 ghost use Rattle.tk_problem_text.specs.ProblemOf.{problem_is};
@@ -9,10 +10,12 @@ ghost use Rattle.tk_routes.specs.RouteLists.{routes_of};
 ghost use Rattle.tk_solve.specs.SolvedTours.{IsSolved, IsSound};
 ghost use Rattle.tk_solve.specs.Events.{Begun};
 ghost use Rattle.tk_solve.specs.Watching.{WereShown};
-ghost use Rattle.tk_engines.specs.Engine.{AtWrite, BeforeSecond, Ends, HasRead, IsUntouched, ReadsProblem, UnlessWrite};
-ghost use Rattle.tk_engines.specs.Solve.{AreRoutesOf, AreUntouched, BeforeSearch, GivesFiles, HasFailed, IsTourWritten};
+ghost use Rattle.tk_engines.specs.Engine.{AtWrite, BeforeSecond, Ends, HasRead, IsUnread, UnlessWrite};
+ghost use Rattle.tk_engines.specs.Solve.{AreRoutesOf, AreUntouched, BeforeSearch, GivesFiles, IsTourWritten};
+ghost use Rattle.tk_engines.specs.Solve.{Solves};
 ghost use Rattle.tk_engines.specs.Solve.{ReadsInitial, WritesFiles, cities_in, route_files, solve_task, tour_files};
 ghost use Rattle.tk_engines.specs.Solve.{tour_task, unfit_key};
+ghost use Rattle.tk_writers.specs.Sinks.{IsBroken};
 
 use crate::engines::solve_given::{check_initial, options_of, read_initial, unfit};
 use crate::fault::Fault;
@@ -58,9 +61,9 @@ fn write_tour_files<F: Sink, W: Sink>(
     requires length { pos 0 ≤ℤ solved.now.length }
     requires cities { length solved.now.cities.items ≤ CITY_LIMIT }
     requires runs { length solved.now.runs.items ≤ 10000 }
-    ensures text { WritesFiles F.taken F.broken W.taken W.broken file.old file.new out.old out.new
+    ensures text { WritesFiles F.Sink W.Sink file.old file.new out.old out.new
         result (tour_files params.now (problem_is problem.now).name solved.now) }
-    ensures failed { OnErr result (HasFailed (F.broken file.new) (W.broken out.new)) }
+    ensures failed { OnErr result (IsBroken F.Sink file.new ⊎ IsBroken W.Sink out.new) }
 {
     write_tour(file, &problem.name, solved.length, &solved.cities)?;
     write_tour_lines(out, params.ignored(), solved)
@@ -77,9 +80,9 @@ fn write_route_files<F: Sink, W: Sink>(
     requires cost { pos 0 ≤ℤ report.now.after }
     requires routes { length (routes_of routes.now) ≤ ROUTE_LIMIT }
     requires customers { length (concat (routes_of routes.now)) ≤ ENTRY_LIMIT }
-    ensures text { WritesFiles F.taken F.broken W.taken W.broken file.old file.new out.old out.new
+    ensures text { WritesFiles F.Sink W.Sink file.old file.new out.old out.new
         result (route_files params.now (routes_of routes.now) report.now) }
-    ensures failed { OnErr result (HasFailed (F.broken file.new) (W.broken out.new)) }
+    ensures failed { OnErr result (IsBroken F.Sink file.new ⊎ IsBroken W.Sink out.new) }
 {
     write_solution(file, routes.lists(), report.after)?;
     write_route_lines(out, params.ignored(), routes.lists().len() as u64, report)
@@ -98,9 +101,9 @@ fn solve_tsp<F: Sink, W: Sink, V: Watch>(
     requires { MatchOption (cities_in initial.now) (Unit {0}) (IsTour problem.now.n) }
     ensures gives { GivesFiles (IsTourWritten params.now
         (WereShown V.shows watch.old watch.new) (problem_is problem.now) (cities_in initial.now))
-        (WritesFiles F.taken F.broken W.taken W.broken file.old file.new out.old out.new)
-        (AreUntouched F.taken F.broken W.taken W.broken file.old file.new out.old out.new) result }
-    ensures failed { IfErr result (AtWrite (HasFailed (F.broken file.new) (W.broken out.new))) }
+        (WritesFiles F.Sink W.Sink file.old file.new out.old out.new)
+        (AreUntouched F.Sink W.Sink file.old file.new out.old out.new) result }
+    ensures failed { IfErr result (AtWrite (IsBroken F.Sink file.new ⊎ IsBroken W.Sink out.new)) }
 {
     let Ok(solved) = search_tour(alloc, params, problem, initial, watch) else {
         return Err(Fault::NoMemory);
@@ -120,9 +123,9 @@ fn solve_cvrp<F: Sink, W: Sink>(
     out: &mut W,
 ) -> Result<(), Fault>
     ensures gives { GivesFiles (AreRoutesOf params.now (instance_of cvrp.now))
-        (WritesFiles F.taken F.broken W.taken W.broken file.old file.new out.old out.new)
-        (AreUntouched F.taken F.broken W.taken W.broken file.old file.new out.old out.new) result }
-    ensures failed { IfErr result (AtWrite (HasFailed (F.broken file.new) (W.broken out.new))) }
+        (WritesFiles F.Sink W.Sink file.old file.new out.old out.new)
+        (AreUntouched F.Sink W.Sink file.old file.new out.old out.new) result }
+    ensures failed { IfErr result (AtWrite (IsBroken F.Sink file.new ⊎ IsBroken W.Sink out.new)) }
 {
     let options = RouteOptions {
         candidates: params.max_candidates(),
@@ -150,10 +153,9 @@ fn solve_from<F: Sink, W: Sink, V: Watch>(
     requires { unfit_key params.now (problem_is problem.now) ≡ None }
     ensures ends { Ends (solve_task params.now (WereShown V.shows watch.old watch.new))
         (HasRead (problem_is problem.now)) (HasRead (cities_in initial.now))
-        (WritesFiles F.taken F.broken W.taken W.broken file.old file.new out.old out.new) result }
-    ensures quiet { IfErr result
-        (UnlessWrite (AreUntouched F.taken F.broken W.taken W.broken file.old file.new out.old out.new)) }
-    ensures failed { IfErr result (AtWrite (HasFailed (F.broken file.new) (W.broken out.new))) }
+        (WritesFiles F.Sink W.Sink file.old file.new out.old out.new) result }
+    ensures quiet { IfErr result (UnlessWrite (AreUntouched F.Sink W.Sink file.old file.new out.old out.new)) }
+    ensures failed { IfErr result (AtWrite (IsBroken F.Sink file.new ⊎ IsBroken W.Sink out.new)) }
     ensures unwatched { IfErr result (BeforeSearch (watch.new ≡ watch.old)) }
 {
     check_initial(alloc, problem, initial)?;
@@ -175,12 +177,11 @@ fn solve_problem<I: Source, F: Sink, W: Sink, V: Watch>(
 ) -> Result<(), Fault>
     ensures ends { Ends (solve_task params.now (WereShown V.shows watch.old watch.new))
         (HasRead (problem_is problem.now))
-        (ReadsInitial (is_some params.now.initial_tour_file) I.left I.broken initial.old initial.new)
-        (WritesFiles F.taken F.broken W.taken W.broken file.old file.new out.old out.new) result }
-    ensures quiet { IfErr result
-        (UnlessWrite (AreUntouched F.taken F.broken W.taken W.broken file.old file.new out.old out.new)) }
-    ensures failed { IfErr result (AtWrite (HasFailed (F.broken file.new) (W.broken out.new))) }
-    ensures unread { IfErr result (BeforeSecond (IsUntouched I.left I.broken initial.old initial.new)) }
+        (ReadsInitial (is_some params.now.initial_tour_file) I.Source initial.old initial.new)
+        (WritesFiles F.Sink W.Sink file.old file.new out.old out.new) result }
+    ensures quiet { IfErr result (UnlessWrite (AreUntouched F.Sink W.Sink file.old file.new out.old out.new)) }
+    ensures failed { IfErr result (AtWrite (IsBroken F.Sink file.new ⊎ IsBroken W.Sink out.new)) }
+    ensures unread { IfErr result (BeforeSecond (IsUnread I.Source initial.old initial.new)) }
     ensures unwatched { IfErr result (BeforeSearch (watch.new ≡ watch.old)) }
 {
     if let Some(key) = unfit(params, problem) {
@@ -211,14 +212,12 @@ pub fn solve_engine<P: Source, I: Source, F: Sink, W: Sink, V: Watch>(
     out: &mut W,
     watch: &mut V,
 ) -> Result<(), Fault>
-    ensures ends { Ends (solve_task params.now (WereShown V.shows watch.old watch.new))
-        (ReadsProblem P.left P.broken problem.old problem.new)
-        (ReadsInitial (is_some params.now.initial_tour_file) I.left I.broken initial.old initial.new)
-        (WritesFiles F.taken F.broken W.taken W.broken file.old file.new out.old out.new) result }
-    ensures quiet { IfErr result
-        (UnlessWrite (AreUntouched F.taken F.broken W.taken W.broken file.old file.new out.old out.new)) }
-    ensures failed { IfErr result (AtWrite (HasFailed (F.broken file.new) (W.broken out.new))) }
-    ensures unread { IfErr result (BeforeSecond (IsUntouched I.left I.broken initial.old initial.new)) }
+    ensures ends { Solves P.Source I.Source F.Sink W.Sink V.Watch params.now
+        (problem.old, initial.old, file.old, out.old, watch.old)
+        (problem.new, initial.new, file.new, out.new, watch.new) result }
+    ensures quiet { IfErr result (UnlessWrite (AreUntouched F.Sink W.Sink file.old file.new out.old out.new)) }
+    ensures failed { IfErr result (AtWrite (IsBroken F.Sink file.new ⊎ IsBroken W.Sink out.new)) }
+    ensures unread { IfErr result (BeforeSecond (IsUnread I.Source initial.old initial.new)) }
     ensures unwatched { IfErr result (BeforeSearch (watch.new ≡ watch.old)) }
 {
     match read_problem(alloc, problem) {

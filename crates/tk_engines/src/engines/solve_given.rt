@@ -43,9 +43,9 @@ pub(crate) fn read_initial<I: Source>(
     initial: &mut I,
 ) -> Result<Option<TourText>, Fault>
     ensures ok { IfOk result (λ tour. ReadsInitial
-        (is_some params.now.initial_tour_file) I.left I.broken initial.old initial.new (Ok (cities_in tour))) }
+        (is_some params.now.initial_tour_file) I.Source initial.old initial.new (Ok (cities_in tour))) }
     ensures err { IfErr result
-        (λ f. ReadsInitial (is_some params.now.initial_tour_file) I.left I.broken initial.old initial.new (Err f)) }
+        (λ f. ReadsInitial (is_some params.now.initial_tour_file) I.Source initial.old initial.new (Err f)) }
 {
     if params.initial_tour_file().is_none() {
         return Ok(None);

@@ -7,7 +7,7 @@ use tk_writers::{Pen, Sink};
 
 /// Puts a label and its number.
 pub(crate) fn put_labelled<W: Sink>(pen: &mut Pen<'_, W>, label: &[u8], number: u64)
-    ensures { Puts W.taken W.broken pen.old pen.new (label.now ++ decimal number) }
+    ensures { Puts W.Sink pen.old pen.new (label.now ++ decimal number) }
 {
     pen.put(label);
     pen.put_number(number);
@@ -15,7 +15,7 @@ pub(crate) fn put_labelled<W: Sink>(pen: &mut Pen<'_, W>, label: &[u8], number: 
 
 /// Puts the line of a fault at a place of a list, and the number that it is about.
 pub(crate) fn put_place_line<W: Sink>(pen: &mut Pen<'_, W>, fault: &[u8], place: u64, number: u64)
-    ensures { Puts W.taken W.broken pen.old pen.new
+    ensures { Puts W.Sink pen.old pen.new
         (line (fault.now ++ decimal place ++ codes ": " ++ decimal number)) }
 {
     put_labelled(pen, fault, place);

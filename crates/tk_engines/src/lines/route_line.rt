@@ -1,8 +1,9 @@
 //! The line that tells a verdict on routes.
-ghost use Rattle.std.specs.Prelude.{◌≡◌, ◌++◌, true, OnErr, decimal};
+ghost use Rattle.std.specs.Prelude.{◌++◌, OnErr, decimal};
 ghost use Rattle.tk_writers.specs.Pens.{Puts};
 ghost use Rattle.tk_writers.specs.Puts.{Writes};
 ghost use Rattle.tk_writers.specs.Written.{line};
+ghost use Rattle.tk_writers.specs.Sinks.{IsBroken};
 ghost use Rattle.tk_engines.specs.Lines.RouteLine.{route_verdict_line, valid_line, wrong_cost_line};
 
 use crate::lines::labelled::{put_labelled, put_place_line};
@@ -11,7 +12,7 @@ use tk_writers::{Pen, Sink, WriteFault};
 
 /// Puts the line of routes without a fault.
 fn put_valid_line<W: Sink>(pen: &mut Pen<'_, W>, routes: u64, cost: u64)
-    ensures { Puts W.taken W.broken pen.old pen.new (valid_line routes cost) }
+    ensures { Puts W.Sink pen.old pen.new (valid_line routes cost) }
 {
     pen.put_number(routes);
     put_labelled(pen, b" routes, cost ", cost);
@@ -20,7 +21,7 @@ fn put_valid_line<W: Sink>(pen: &mut Pen<'_, W>, routes: u64, cost: u64)
 
 /// Puts the line of a fault of a customer.
 fn put_customer_line<W: Sink>(pen: &mut Pen<'_, W>, fault: &[u8], customer: u32)
-    ensures { Puts W.taken W.broken pen.old pen.new (line (fault.now ++ decimal customer)) }
+    ensures { Puts W.Sink pen.old pen.new (line (fault.now ++ decimal customer)) }
 {
     put_labelled(pen, fault, customer as u64);
     pen.put(b"\n");
@@ -28,7 +29,7 @@ fn put_customer_line<W: Sink>(pen: &mut Pen<'_, W>, fault: &[u8], customer: u32)
 
 /// Puts the line of a cost that is not that of the routes.
 fn put_cost_line<W: Sink>(pen: &mut Pen<'_, W>, read: u64, counted: u64)
-    ensures { Puts W.taken W.broken pen.old pen.new (wrong_cost_line read counted) }
+    ensures { Puts W.Sink pen.old pen.new (wrong_cost_line read counted) }
 {
     put_labelled(pen, b"wrong cost: ", read);
     put_labelled(pen, b" read, ", counted);
@@ -38,7 +39,7 @@ fn put_cost_line<W: Sink>(pen: &mut Pen<'_, W>, read: u64, counted: u64)
 
 /// Puts the line that tells a verdict on routes.
 fn put_route_verdict<W: Sink>(pen: &mut Pen<'_, W>, verdict: RouteVerdict)
-    ensures { Puts W.taken W.broken pen.old pen.new (route_verdict_line verdict) }
+    ensures { Puts W.Sink pen.old pen.new (route_verdict_line verdict) }
 {
     match verdict {
         RouteVerdict::Valid { routes, cost } => put_valid_line(pen, routes, cost.unsigned_abs()),
@@ -65,8 +66,8 @@ fn put_route_verdict<W: Sink>(pen: &mut Pen<'_, W>, verdict: RouteVerdict)
 /// # Errors
 /// That a write failed, and how many bytes of the line had gone out by then.
 pub fn write_route_verdict<W: Sink>(out: &mut W, verdict: RouteVerdict) -> Result<(), WriteFault>
-    ensures text { Writes W.taken W.broken out.old out.new result (route_verdict_line verdict) }
-    ensures failed { OnErr result (W.broken out.new ≡ true) }
+    ensures text { Writes W.Sink out.old out.new result (route_verdict_line verdict) }
+    ensures failed { OnErr result (IsBroken W.Sink out.new) }
 {
     let mut pen = Pen::new(out);
     put_route_verdict(&mut pen, verdict);

@@ -1,8 +1,9 @@
 //! The lines that `solve` prints.
-ghost use Rattle.std.specs.Prelude.{◌≡◌, ◌≤◌, OnErr, flat_map, length, true};
+ghost use Rattle.std.specs.Prelude.{◌≤◌, OnErr, flat_map, length};
 ghost use Rattle.std.specs.Int.RustNames.{unsigned_abs};
 ghost use Rattle.tk_writers.specs.Pens.{Puts};
 ghost use Rattle.tk_writers.specs.Puts.{Writes};
+ghost use Rattle.tk_writers.specs.Sinks.{IsBroken};
 ghost use Rattle.tk_params.specs.Keys.{all_keys};
 ghost use Rattle.tk_engines.specs.Lines.SolveLines.{best_line, ignored_line, improved_line, route_lines, run_line};
 ghost use Rattle.tk_engines.specs.Lines.SolveLines.{run_lines, savings_line, tour_lines, work_of};
@@ -15,7 +16,7 @@ use tk_writers::{Pen, Sink, WriteFault};
 
 /// Puts a line for each key that is read and not used.
 fn put_ignored<W: Sink>(pen: &mut Pen<'_, W>, ignored: &[Key])
-    ensures { Puts W.taken W.broken pen.old pen.new (flat_map ignored_line ignored.now) }
+    ensures { Puts W.Sink pen.old pen.new (flat_map ignored_line ignored.now) }
 {
     for i in 0..ignored.len() {
         let key = ignored[i];
@@ -27,7 +28,7 @@ fn put_ignored<W: Sink>(pen: &mut Pen<'_, W>, ignored: &[Key])
 
 /// Puts what descents did.
 fn put_work<W: Sink>(pen: &mut Pen<'_, W>, moves: u128, tests: u128, swaps: u128)
-    ensures { Puts W.taken W.broken pen.old pen.new (work_of moves tests swaps) }
+    ensures { Puts W.Sink pen.old pen.new (work_of moves tests swaps) }
 {
     pen.put(b", moves ");
     pen.put_wide(moves);
@@ -39,7 +40,7 @@ fn put_work<W: Sink>(pen: &mut Pen<'_, W>, moves: u128, tests: u128, swaps: u128
 
 /// Puts the line of a run, numbered from 1.
 fn put_run<W: Sink>(pen: &mut Pen<'_, W>, number: u64, report: &RunReport)
-    ensures { Puts W.taken W.broken pen.old pen.new (run_line number report.now) }
+    ensures { Puts W.Sink pen.old pen.new (run_line number report.now) }
 {
     let totals = &report.totals;
     put_labelled(pen, b"run ", number);
@@ -53,7 +54,7 @@ fn put_run<W: Sink>(pen: &mut Pen<'_, W>, number: u64, report: &RunReport)
 
 /// Puts the lines of all runs.
 fn put_runs<W: Sink>(pen: &mut Pen<'_, W>, runs: &[RunReport])
-    ensures { Puts W.taken W.broken pen.old pen.new (run_lines 1 runs.now) }
+    ensures { Puts W.Sink pen.old pen.new (run_lines 1 runs.now) }
 {
     for i in 0..runs.len() {
         let report = runs[i];
@@ -63,7 +64,7 @@ fn put_runs<W: Sink>(pen: &mut Pen<'_, W>, runs: &[RunReport])
 
 /// Puts the line of the best length.
 fn put_best<W: Sink>(pen: &mut Pen<'_, W>, length: u64)
-    ensures { Puts W.taken W.broken pen.old pen.new (best_line length) }
+    ensures { Puts W.Sink pen.old pen.new (best_line length) }
 {
     put_labelled(pen, b"best ", length);
     pen.put(b"\n");
@@ -71,7 +72,7 @@ fn put_best<W: Sink>(pen: &mut Pen<'_, W>, length: u64)
 
 /// Puts all lines on the runs of a TSP.
 fn put_tour_lines<W: Sink>(pen: &mut Pen<'_, W>, ignored: &[Key], solved: &SolvedTour)
-    ensures { Puts W.taken W.broken pen.old pen.new (tour_lines ignored.now solved.now) }
+    ensures { Puts W.Sink pen.old pen.new (tour_lines ignored.now solved.now) }
 {
     put_ignored(pen, ignored);
     put_runs(pen, &solved.runs);
@@ -80,7 +81,7 @@ fn put_tour_lines<W: Sink>(pen: &mut Pen<'_, W>, ignored: &[Key], solved: &Solve
 
 /// Puts the line of the routes by savings.
 fn put_savings<W: Sink>(pen: &mut Pen<'_, W>, cost: u64, routes: u64)
-    ensures { Puts W.taken W.broken pen.old pen.new (savings_line cost routes) }
+    ensures { Puts W.Sink pen.old pen.new (savings_line cost routes) }
 {
     put_labelled(pen, b"savings ", cost);
     put_labelled(pen, b", routes ", routes);
@@ -89,7 +90,7 @@ fn put_savings<W: Sink>(pen: &mut Pen<'_, W>, cost: u64, routes: u64)
 
 /// Puts the line of the improved routes.
 fn put_improved<W: Sink>(pen: &mut Pen<'_, W>, cost: u64, report: &RouteReport)
-    ensures { Puts W.taken W.broken pen.old pen.new
+    ensures { Puts W.Sink pen.old pen.new
         (improved_line cost report.now.moves report.now.tests report.now.swaps) }
 {
     put_labelled(pen, b"improved ", cost);
@@ -109,7 +110,7 @@ fn put_route_lines<W: Sink>(
     routes: u64,
     report: &RouteReport,
 )
-    ensures { Puts W.taken W.broken pen.old pen.new (route_lines ignored.now routes report.now) }
+    ensures { Puts W.Sink pen.old pen.new (route_lines ignored.now routes report.now) }
 {
     put_ignored(pen, ignored);
     put_savings(pen, report.before.unsigned_abs(), routes);
@@ -126,8 +127,8 @@ pub fn write_run_line<W: Sink>(
     number: u64,
     report: &RunReport,
 ) -> Result<(), WriteFault>
-    ensures text { Writes W.taken W.broken out.old out.new result (run_line number report.now) }
-    ensures failed { OnErr result (W.broken out.new ≡ true) }
+    ensures text { Writes W.Sink out.old out.new result (run_line number report.now) }
+    ensures failed { OnErr result (IsBroken W.Sink out.new) }
 {
     let mut pen = Pen::new(out);
     put_run(&mut pen, number, report);
@@ -142,8 +143,8 @@ pub(crate) fn write_tour_lines<W: Sink>(
 ) -> Result<(), WriteFault>
     requires ignored { length ignored.now ≤ length all_keys }
     requires runs { length solved.now.runs.items ≤ 10000 }
-    ensures text { Writes W.taken W.broken out.old out.new result (tour_lines ignored.now solved.now) }
-    ensures failed { OnErr result (W.broken out.new ≡ true) }
+    ensures text { Writes W.Sink out.old out.new result (tour_lines ignored.now solved.now) }
+    ensures failed { OnErr result (IsBroken W.Sink out.new) }
 {
     let mut pen = Pen::new(out);
     put_tour_lines(&mut pen, ignored, solved);
@@ -158,8 +159,8 @@ pub(crate) fn write_route_lines<W: Sink>(
     report: &RouteReport,
 ) -> Result<(), WriteFault>
     requires ignored { length ignored.now ≤ length all_keys }
-    ensures text { Writes W.taken W.broken out.old out.new result (route_lines ignored.now routes report.now) }
-    ensures failed { OnErr result (W.broken out.new ≡ true) }
+    ensures text { Writes W.Sink out.old out.new result (route_lines ignored.now routes report.now) }
+    ensures failed { OnErr result (IsBroken W.Sink out.new) }
 {
     let mut pen = Pen::new(out);
     put_route_lines(&mut pen, ignored, routes, report);

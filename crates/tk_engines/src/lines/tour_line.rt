@@ -1,9 +1,10 @@
 //! The line that tells a verdict.
-ghost use Rattle.std.specs.Prelude.{◌≡◌, ◌<◌, ◌≤◌, ◌-◌, ◌++◌, true, OnErr, codes, decimal, length, slice_index};
+ghost use Rattle.std.specs.Prelude.{◌≡◌, ◌<◌, ◌≤◌, ◌-◌, ◌++◌, OnErr, codes, decimal, length, slice_index};
 ghost use Rattle.tk_distance.specs.Weights.{problem_distance};
 ghost use Rattle.tk_writers.specs.Pens.{Puts};
 ghost use Rattle.tk_writers.specs.Puts.{Writes};
 ghost use Rattle.tk_writers.specs.Written.{line, tour_line, wrong_count_line};
+ghost use Rattle.tk_writers.specs.Sinks.{IsBroken};
 ghost use Rattle.tk_tour.specs.Tour.{IsTour, tour_length};
 ghost use Rattle.tk_tour.specs.Verdict.{IsVerdict};
 ghost use Rattle.tk_engines.specs.Lines.TourLine.{verdict_line};
@@ -24,7 +25,7 @@ pub fn length_of(problem: &Problem, cities: &[u32]) -> u64
 
 /// Puts the line of a tour.
 fn put_tour_line<W: Sink>(pen: &mut Pen<'_, W>, cities: u32, length: u64)
-    ensures { Puts W.taken W.broken pen.old pen.new (tour_line cities length) }
+    ensures { Puts W.Sink pen.old pen.new (tour_line cities length) }
 {
     put_labelled(pen, b"tour of ", cities as u64);
     put_labelled(pen, b" cities, length ", length);
@@ -33,7 +34,7 @@ fn put_tour_line<W: Sink>(pen: &mut Pen<'_, W>, cities: u32, length: u64)
 
 /// Puts the line of a list with a wrong count of cities.
 fn put_count_line<W: Sink>(pen: &mut Pen<'_, W>, wanted: u32, read: usize)
-    ensures { Puts W.taken W.broken pen.old pen.new (wrong_count_line wanted read) }
+    ensures { Puts W.Sink pen.old pen.new (wrong_count_line wanted read) }
 {
     put_labelled(pen, b"wrong count: ", wanted as u64);
     put_labelled(pen, b" wanted, ", read as u64);
@@ -45,7 +46,7 @@ fn put_count_line<W: Sink>(pen: &mut Pen<'_, W>, wanted: u32, read: usize)
 fn put_city_line<W: Sink>(pen: &mut Pen<'_, W>, fault: &[u8], cities: &[u32], place: u32)
     requires low { 0 < place }
     requires high { place ≤ length cities.now }
-    ensures { Puts W.taken W.broken pen.old pen.new
+    ensures { Puts W.Sink pen.old pen.new
         (line (fault.now ++ decimal place ++ codes ": " ++ decimal (slice_index cities.now (place - 1)))) }
 {
     put_place_line(pen, fault, place as u64, cities[place as usize - 1] as u64);
@@ -54,7 +55,7 @@ fn put_city_line<W: Sink>(pen: &mut Pen<'_, W>, fault: &[u8], cities: &[u32], pl
 /// Puts the line that tells a verdict.
 fn put_verdict<W: Sink>(pen: &mut Pen<'_, W>, problem: &Problem, cities: &[u32], verdict: Verdict)
     requires { IsVerdict problem.now.n cities.now verdict }
-    ensures { Puts W.taken W.broken pen.old pen.new
+    ensures { Puts W.Sink pen.old pen.new
         (verdict_line problem.now.n (problem_distance problem.now.weights) cities.now verdict) }
 {
     match verdict {
@@ -80,9 +81,9 @@ pub fn write_verdict<W: Sink>(
     verdict: Verdict,
 ) -> Result<(), WriteFault>
     requires { IsVerdict problem.now.n cities.now verdict }
-    ensures text { Writes W.taken W.broken out.old out.new result
+    ensures text { Writes W.Sink out.old out.new result
         (verdict_line problem.now.n (problem_distance problem.now.weights) cities.now verdict) }
-    ensures failed { OnErr result (W.broken out.new ≡ true) }
+    ensures failed { OnErr result (IsBroken W.Sink out.new) }
 {
     let mut pen = Pen::new(out);
     put_verdict(&mut pen, problem, cities, verdict);

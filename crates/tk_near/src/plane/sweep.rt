@@ -2,7 +2,7 @@
 ghost use Rattle.std.specs.Prelude.{◌≡◌, ◌*◌, ◌≤◌, ◌<◌, ◌↔◌, IfOk, length, IsTrue, MatchBool, ⊤};
 ghost use Rattle.tk_problem.specs.declared.limits.TheConstants.{CANDIDATE_LIMIT};
 ghost use Rattle.tk_distance.specs.Distance.{reach};
-ghost use Rattle.tk_near.specs.Near.{IsNear, AreNearest};
+ghost use Rattle.tk_near.specs.Near.{IsNear, AreNearLists};
 ghost use Rattle.tk_near.specs.Keeping.{AreFilled, rank, Climbing, with_candidate, candidate, cities_kept};
 ghost use Rattle.tk_near.specs.Placed.{IsPlaced, placed_city, x_gap};
 ghost use Rattle.tk_near.specs.Sweep.{IsXOrder, IsSwept, IsBelow};
@@ -149,9 +149,7 @@ pub fn near_sweep<P: Planar>(alloc: Global, m: &P, k: u32) -> Result<Near, Alloc
     requires low { 1 ≤ k }
     requires limit { k ≤ CANDIDATE_LIMIT }
     requires high { k < P.size_of m.now }
-    ensures size { IfOk result (λ v. v.size ≡ P.size_of m.now) }
-    ensures width { IfOk result (λ v. v.width ≡ k) }
-    ensures near { IfOk result (λ v. AreNearest (P.distance m.now) v) }
+    ensures { IfOk result (AreNearLists (P.distance m.now) (P.size_of m.now) k) }
 {
     let row = order_by_x(alloc, m)?;
     let mut kept = vec![in alloc; OPEN; k as usize]?;

@@ -5,7 +5,7 @@ ghost use Rattle.std.specs.Int.RustNames.{unsigned_abs};
 ghost use Rattle.tk_problem.specs.declared.limits.TheConstants.{CANDIDATE_LIMIT};
 ghost use Rattle.tk_distance.specs.Distance.{reach};
 ghost use Rattle.tk_near.specs.declared.plane.placed.Placed.{Placed};
-ghost use Rattle.tk_near.specs.Near.{IsNear, AreNearest};
+ghost use Rattle.tk_near.specs.Near.{IsNear, AreNearLists};
 ghost use Rattle.tk_near.specs.Keeping.{AreFilled, cities_kept, rank};
 ghost use Rattle.tk_near.specs.Placed.{IsPlaced, IsRow};
 ghost use Rattle.tk_near.specs.Tree.{entries_of, IsInBox, IsFramed, IsHalf, IsBeyond, IsFrom, with_city, with_cities};
@@ -422,9 +422,7 @@ fn lists_by_tree<P: BothAxes>(
     requires low { 1 ≤ k }
     requires limit { k ≤ CANDIDATE_LIMIT }
     requires high { k < P.size_of m.now }
-    ensures size { IfOk result (λ v. v.size ≡ P.size_of m.now) }
-    ensures width { IfOk result (λ v. v.width ≡ k) }
-    ensures near { IfOk result (λ v. AreNearest (P.distance m.now) v) }
+    ensures { IfOk result (AreNearLists (P.distance m.now) (P.size_of m.now) k) }
 {
     let mut many = Many::new(alloc, k as usize)?;
     let mut entries = room_for(alloc, m, k)?;
@@ -440,9 +438,7 @@ pub fn near_tree<P: BothAxes>(alloc: Global, m: &P, k: u32) -> Result<Near, Allo
     requires low { 1 ≤ k }
     requires limit { k ≤ CANDIDATE_LIMIT }
     requires high { k < P.size_of m.now }
-    ensures size { IfOk result (λ v. v.size ≡ P.size_of m.now) }
-    ensures width { IfOk result (λ v. v.width ≡ k) }
-    ensures near { IfOk result (λ v. AreNearest (P.distance m.now) v) }
+    ensures { IfOk result (AreNearLists (P.distance m.now) (P.size_of m.now) k) }
 {
     let (row, tree) = planted(alloc, m)?;
     lists_by_tree(alloc, m, &row, &tree, k)

@@ -14,7 +14,7 @@ use tk_writers::{Pen, Sink};
 
 /// Puts a whole number.
 fn put_signed<W: Sink>(pen: &mut Pen<'_, W>, number: i64)
-    ensures { Puts W.taken W.broken pen.old pen.new (signed_decimal number) }
+    ensures { Puts W.Sink pen.old pen.new (signed_decimal number) }
 {
     if number < 0 {
         pen.put(b"-");
@@ -27,7 +27,7 @@ fn put_signed<W: Sink>(pen: &mut Pen<'_, W>, number: i64)
 /// Puts the coordinates of a city, in units of 10^-9.
 fn put_coordinates<W: Sink>(pen: &mut Pen<'_, W>, view: &View<'_>, city: u32)
     requires { IsCity (city_count view.now) city }
-    ensures { Puts W.taken W.broken pen.old pen.new (coordinates (places_of view.now.places) city) }
+    ensures { Puts W.Sink pen.old pen.new (coordinates (places_of view.now.places) city) }
 {
     let place = view.places.get(city as usize - 1);
     put_signed(pen, place.x);
@@ -37,7 +37,7 @@ fn put_coordinates<W: Sink>(pen: &mut Pen<'_, W>, view: &View<'_>, city: u32)
 
 /// Puts the demand of a city, where there are demands.
 fn put_demand<W: Sink>(pen: &mut Pen<'_, W>, demand: Option<&u32>)
-    ensures { Puts W.taken W.broken pen.old pen.new (demand_word (option_copied demand.entry)) }
+    ensures { Puts W.Sink pen.old pen.new (demand_word (option_copied demand.entry)) }
 {
     if let Some(demand) = demand {
         pen.put(b" ");
@@ -47,7 +47,7 @@ fn put_demand<W: Sink>(pen: &mut Pen<'_, W>, demand: Option<&u32>)
 
 /// Puts whether a city is the depot.
 fn put_depot_word<W: Sink>(pen: &mut Pen<'_, W>, depot: Option<u32>, city: u32)
-    ensures { Puts W.taken W.broken pen.old pen.new (depot_word depot city) }
+    ensures { Puts W.Sink pen.old pen.new (depot_word depot city) }
 {
     if depot == Some(city) {
         pen.put(b" depot");
@@ -57,7 +57,7 @@ fn put_depot_word<W: Sink>(pen: &mut Pen<'_, W>, depot: Option<u32>, city: u32)
 /// Puts the line of a city.
 fn put_city<W: Sink>(pen: &mut Pen<'_, W>, picture: &Picture<'_>, city: u32)
     requires { IsCity (city_count picture.now.view) city }
-    ensures { Puts W.taken W.broken pen.old pen.new (city_line picture.now.view.frame
+    ensures { Puts W.Sink pen.old pen.new (city_line picture.now.view.frame
         (places_of picture.now.view.places) picture.now.demands.now picture.now.depot city) }
 {
     picture.view.put_spot(pen, city);
@@ -70,7 +70,7 @@ fn put_city<W: Sink>(pen: &mut Pen<'_, W>, picture: &Picture<'_>, city: u32)
 
 /// Puts the lines of all cities.
 pub(crate) fn put_cities<W: Sink>(pen: &mut Pen<'_, W>, picture: &Picture<'_>)
-    ensures { Puts W.taken W.broken pen.old pen.new (data_block (codes "cities")
+    ensures { Puts W.Sink pen.old pen.new (data_block (codes "cities")
         (flat_map (city_line picture.now.view.frame (places_of picture.now.view.places) picture.now.demands.now
         picture.now.depot) (range_with_len 1 (city_count picture.now.view)))) }
 {

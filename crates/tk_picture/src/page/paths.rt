@@ -16,7 +16,7 @@ use tk_writers::{Pen, Sink};
 
 /// Puts the cities of a tour, on a line.
 fn put_tour<W: Sink>(pen: &mut Pen<'_, W>, cities: &[u32])
-    ensures { Puts W.taken W.broken pen.old pen.new (path_line (record { number = 1; cities = cities.now })) }
+    ensures { Puts W.Sink pen.old pen.new (path_line (record { number = 1; cities = cities.now })) }
 {
     pen.put_spaced(cities);
     pen.put(b"\n");
@@ -25,7 +25,7 @@ fn put_tour<W: Sink>(pen: &mut Pen<'_, W>, cities: &[u32])
 /// Puts the depot and the nodes of a route's customers, on a line, if it holds one.
 fn put_route<W: Sink>(pen: &mut Pen<'_, W>, number: u64, cvrp: &Cvrp<'_>, route: &[u32])
     requires { All (IsCity (customer_count (instance_of cvrp.now))) route.now }
-    ensures { Puts W.taken W.broken pen.old pen.new
+    ensures { Puts W.Sink pen.old pen.new
         (flat_map path_line (route_paths (instance_of cvrp.now) number (route.now ∷ []))) }
 {
     if route.is_empty() {
@@ -42,7 +42,7 @@ fn put_route<W: Sink>(pen: &mut Pen<'_, W>, number: u64, cvrp: &Cvrp<'_>, route:
 /// Puts the lines of the routes that hold a customer.
 fn put_routes<W: Sink>(pen: &mut Pen<'_, W>, cvrp: &Cvrp<'_>, routes: &[Vec<u32>])
     requires once { AreServedOnce (customer_count (instance_of cvrp.now)) (concat (map (λ r. r.items) routes.now)) }
-    ensures { Puts W.taken W.broken pen.old pen.new
+    ensures { Puts W.Sink pen.old pen.new
         (flat_map path_line (route_paths (instance_of cvrp.now) 1 (map (λ r. r.items) routes.now))) }
 {
     let mut number = 0;
@@ -55,7 +55,7 @@ fn put_routes<W: Sink>(pen: &mut Pen<'_, W>, cvrp: &Cvrp<'_>, routes: &[Vec<u32>
 /// Puts the lines of a tour or of routes.
 fn put_path_lines<W: Sink>(pen: &mut Pen<'_, W>, size: u32, subject: Subject<'_>)
     requires { Fits size subject }
-    ensures { Puts W.taken W.broken pen.old pen.new (flat_map path_line (paths_of (drawing_of subject.entry))) }
+    ensures { Puts W.Sink pen.old pen.new (flat_map path_line (paths_of (drawing_of subject.entry))) }
 {
     match subject {
         Subject::Cities => {}
@@ -67,7 +67,7 @@ fn put_path_lines<W: Sink>(pen: &mut Pen<'_, W>, size: u32, subject: Subject<'_>
 /// Puts the closed lines.
 pub(crate) fn put_paths<W: Sink>(pen: &mut Pen<'_, W>, size: u32, subject: Subject<'_>)
     requires { Fits size subject }
-    ensures { Puts W.taken W.broken pen.old pen.new
+    ensures { Puts W.Sink pen.old pen.new
         (data_block (codes "paths") (flat_map path_line (paths_of (drawing_of subject.entry)))) }
 {
     pen.put(b"<script type=\"text/plain\" id=\"paths\">\n");

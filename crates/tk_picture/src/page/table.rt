@@ -17,7 +17,7 @@ use tk_writers::{Pen, Sink};
 
 /// Puts the headings of the table's columns.
 fn put_table_head<W: Sink>(pen: &mut Pen<'_, W>)
-    ensures { Puts W.taken W.broken pen.old pen.new table_head }
+    ensures { Puts W.Sink pen.old pen.new table_head }
 {
     pen.put(b"<thead><tr><th scope=\"col\">Route<th scope=\"col\">Customers<th scope=\"col\">Load");
     pen.put(b"<th scope=\"col\">% of capacity<th scope=\"col\">Length\n");
@@ -26,7 +26,7 @@ fn put_table_head<W: Sink>(pen: &mut Pen<'_, W>)
 
 /// Puts what comes before the rows.
 fn put_table_start<W: Sink>(pen: &mut Pen<'_, W>, capacity: u32)
-    ensures { Puts W.taken W.broken pen.old pen.new (table_start capacity) }
+    ensures { Puts W.Sink pen.old pen.new (table_start capacity) }
 {
     pen.put(b"<div id=\"routes\">\n<table><caption>Routes, capacity ");
     pen.put_number(capacity as u64);
@@ -46,7 +46,7 @@ fn share(load: u64, capacity: u32) -> u128
 
 /// Puts a number in a cell of its own.
 fn put_cell<W: Sink>(pen: &mut Pen<'_, W>, number: u64)
-    ensures { Puts W.taken W.broken pen.old pen.new (codes "<td>" ++ decimal number) }
+    ensures { Puts W.Sink pen.old pen.new (codes "<td>" ++ decimal number) }
 {
     pen.put(b"<td>");
     pen.put_number(number);
@@ -56,7 +56,7 @@ fn put_cell<W: Sink>(pen: &mut Pen<'_, W>, number: u64)
 fn put_row<W: Sink>(pen: &mut Pen<'_, W>, number: u64, cvrp: &Cvrp<'_>, route: &[u32])
     requires known { All (IsCity (customer_count (instance_of cvrp.now))) route.now }
     requires few { length route.now ≤ CITY_LIMIT }
-    ensures { Puts W.taken W.broken pen.old pen.new (row_line (route_row (instance_of cvrp.now) number route.now)) }
+    ensures { Puts W.Sink pen.old pen.new (row_line (route_row (instance_of cvrp.now) number route.now)) }
 {
     let load = cvrp.load(route);
     pen.put(b"<tr><th scope=\"row\">");
@@ -73,7 +73,7 @@ fn put_row<W: Sink>(pen: &mut Pen<'_, W>, number: u64, cvrp: &Cvrp<'_>, route: &
 fn put_filled<W: Sink>(pen: &mut Pen<'_, W>, number: u64, cvrp: &Cvrp<'_>, route: &[u32])
     requires known { All (IsCity (customer_count (instance_of cvrp.now))) route.now }
     requires few { length route.now ≤ CITY_LIMIT }
-    ensures { Puts W.taken W.broken pen.old pen.new
+    ensures { Puts W.Sink pen.old pen.new
         (flat_map row_line (rows (instance_of cvrp.now) number (route.now ∷ []))) }
 {
     if !route.is_empty() {
@@ -84,7 +84,7 @@ fn put_filled<W: Sink>(pen: &mut Pen<'_, W>, number: u64, cvrp: &Cvrp<'_>, route
 /// Puts the rows of the routes that hold a customer.
 fn put_rows<W: Sink>(pen: &mut Pen<'_, W>, cvrp: &Cvrp<'_>, routes: &[Vec<u32>])
     requires once { AreServedOnce (customer_count (instance_of cvrp.now)) (concat (map (λ r. r.items) routes.now)) }
-    ensures { Puts W.taken W.broken pen.old pen.new
+    ensures { Puts W.Sink pen.old pen.new
         (flat_map row_line (rows (instance_of cvrp.now) 1 (map (λ r. r.items) routes.now))) }
 {
     let mut number = 0;
@@ -97,7 +97,7 @@ fn put_rows<W: Sink>(pen: &mut Pen<'_, W>, cvrp: &Cvrp<'_>, routes: &[Vec<u32>])
 /// Puts the table of routes, where there are routes.
 pub(crate) fn put_table<W: Sink>(pen: &mut Pen<'_, W>, size: u32, subject: Subject<'_>)
     requires { Fits size subject }
-    ensures { Puts W.taken W.broken pen.old pen.new (table (drawing_of subject.entry)) }
+    ensures { Puts W.Sink pen.old pen.new (table (drawing_of subject.entry)) }
 {
     if let Subject::Routes { cvrp, routes, .. } = subject {
         put_table_start(pen, cvrp.capacity());

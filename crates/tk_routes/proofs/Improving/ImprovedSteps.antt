@@ -2,15 +2,15 @@
 use Rattle.std.proofs.Common.{◌≡◌, ℕ, ◌+◌, ◌-◌, ◌*◌, ◌/◌, ◌<◌, ◌≤◌, List, [], ◌∷◌, ◌++◌, length, get_or, set, refl, sym}
 use Rattle.std.proofs.Common.{ap, ◌∙◌, subst, arith, length-append, append_assoc, append-nil}
 use Rattle.std.specs.List.{All, concat}
-use Rattle.std.specs.List.Sorted.{IsPermutation}
 use Rattle.std.proofs.Math.Nat.{mul-le-mul_left, mul-le-mul_right}
 use Rattle.std.proofs.lemmas.List.{get_or_at, set_at}
 use Rattle.std.proofs.lemmas.List.Folds.{concat-append}
 use Rattle.tk_problem.specs.declared.limits.TheConstants.{CANDIDATE_LIMIT, DISTANCE_LIMIT, TABLE_LIMIT}
 use Rattle.tk_distance.specs.Cities.{IsCity}
+use Rattle.tk_descent.specs.declared.descent.Report.{Report}
 use Rattle.tk_routes.specs.Instance.{Instance, customer_count}
 use Rattle.tk_routes.specs.Routes.{AreRoutes, route_length, routes_cost}
-use Rattle.tk_routes.specs.ImprovedRoutes.{IsImproved, AreImproved, IsImprovedPart}
+use Rattle.tk_routes.specs.ImprovedRoutes.{IsImprovement, AreImproved, IsImprovedPart}
 use Rattle.tk_routes.specs.ImprovedRoutes.AreImproved.{none, more}
 use Rattle.tk_routes.proofs.Costs.{routes_cost-limit}
 use Rattle.tk_routes.proofs.CutLists.{All-front}
@@ -82,12 +82,9 @@ more_tests b l f moves q made t u h g = omega arith
 
 pub IsImprovedTo-more : (i : Instance) (k m : ℕ) (olds now : List (List ℕ)) (j moves swaps tests : ℕ) →
     IsImprovedTo i k m olds now j moves swaps tests → i.size ≤ TABLE_LIMIT →
-    (old new : List ℕ) (made s t : ℕ) → j < length now → old ≡ get_or now j [] → IsImproved i k m old new made t s →
-    IsPermutation old new →
-    made + route_length i new ≤ route_length i old → t ≤ 4 * m * k * (length old + 1 + 6 * made) →
-    s ≤ 3 * ((length old + 1) / 4) * made →
-    IsImprovedTo i k m olds (set now j new) (j + 1) (moves + made) (swaps + s) (tests + t)
-IsImprovedTo-more i k m olds now j moves swaps tests h few old new made s t lt at improved same goes tested swapped =
+    (old new : List ℕ) (report : Report) → j < length now → old ≡ get_or now j [] → IsImprovement i k m old new report →
+    IsImprovedTo i k m olds (set now j new) (j + 1) (moves + report.moves) (swaps + report.swaps) (tests + report.tests)
+IsImprovedTo-more i k m olds now j moves swaps tests h few old new report lt at made =
     let place = route_at i k m olds now j moves swaps tests h old lt at in
     let front : List (List ℕ) = h.part.front in
     let done : List (List ℕ) = h.part.done in
@@ -98,13 +95,13 @@ IsImprovedTo-more i k m olds now j moves swaps tests h few old new made s t lt a
     let routes : AreRoutes i (done ++ old ∷ rest) = subst (λ (v : List (List ℕ)). AreRoutes i v) now_is h.routes in
     let short : length old ≤ customer_count i = route_short i done rest old routes in
     let q : 3 * ((length old + 1) / 4) ≤ 3750 = omega (arith, short, few) in
-    let each : 3 * ((length old + 1) / 4) * made ≤ 3750 * made = mul-le-mul_right made q in
+    let each : 3 * ((length old + 1) / 4) * report.moves ≤ 3750 * report.moves = mul-le-mul_right report.moves q in
     let lengths : length (concat (front ++ old ∷ [])) ≡ length (concat front) + length old =
     ap length (concat-append front (old ∷ []) ∙ ap (λ v. concat front ++ v) (append-nil old))
     ∙ length-append (concat front) old in
     let counts : length (front ++ old ∷ []) ≡ length front + 1 = length-append front (old ∷ []) ∙ omega arith in
-    let whole : length (concat front) + length old + (length front + 1) + 6 * (moves + made) ≡ length
-    (concat (front ++ old ∷ [])) + length (front ++ old ∷ []) + 6 * (moves + made) =
+    let whole : length (concat front) + length old + (length front + 1) + 6 * (moves + report.moves) ≡ length
+    (concat (front ++ old ∷ [])) + length (front ++ old ∷ []) + 6 * (moves + report.moves) =
     omega (arith, lengths, counts) in
     let cost_now = routes_cost-at i done rest old in
     let cost_new = routes_cost-at i done rest new in
@@ -115,27 +112,28 @@ IsImprovedTo-more i k m olds now j moves swaps tests h few old new made s t lt a
         front = front ++ old ∷ [];
         done = done ++ new ∷ [];
         back = rest;
-        moves = h.part.moves + made;
-        tests = h.part.tests + t;
-        swaps = h.part.swaps + s;
+        moves = h.part.moves + report.moves;
+        tests = h.part.tests + report.tests;
+        swaps = h.part.swaps + report.swaps;
         before = h.part.before ∙ ap (λ v. front ++ v) place.is ∙ sym (append_assoc front (old ∷ []) rest);
         after = new_is ∙ sym (append_assoc done (new ∷ []) rest);
-        improved = more h.part.improved improved;
+        improved = more h.part.improved made.improved;
       };
       count = length-append done (new ∷ []) ∙ omega (arith, h.count);
-      moves_are = ap (λ v. v + made) h.moves_are;
-      tests_are = ap (λ v. v + t) h.tests_are;
+      moves_are = ap (λ v. v + report.moves) h.moves_are;
+      tests_are = ap (λ v. v + report.tests) h.tests_are;
       olds_are = h.olds_are;
       routes =
           subst (λ (v : List (List ℕ)). AreRoutes i v) (sym new_is)
-          (AreRoutes-exchanged i done rest old new routes same);
-      cost = omega (arith, h.cost, goes, cost_now, cost_new, old_cost, new_cost);
-      swaps_are = ap (λ v. v + s) h.swaps_are;
-      most = omega (arith, h.most, each, swapped);
+          (AreRoutes-exchanged i done rest old new routes made.same);
+      cost = omega (arith, h.cost, made.moves, cost_now, cost_new, old_cost, new_cost);
+      swaps_are = ap (λ v. v + report.swaps) h.swaps_are;
+      most = omega (arith, h.most, each, made.swaps);
       tested =
-          subst (λ (v : ℕ). tests + t ≤ 4 * m * k * v) whole
-          (more_tests (4 * m * k) (length (concat front)) (length front) moves (length old) made tests t
-          h.tested tested);
+          subst (λ (v : ℕ). tests + report.tests ≤ 4 * m * k * v) whole
+          (more_tests (4 * m * k) (length (concat front)) (length front) moves (length old) report.moves tests
+          report.tests
+          h.tested made.tests);
       even = length-append front (old ∷ []) ∙ omega (arith, h.even, length-append done (new ∷ []));
     }
 

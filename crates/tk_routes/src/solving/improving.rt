@@ -1,13 +1,12 @@
 //! Each route made shorter by itself.
-ghost use Rattle.std.specs.Prelude.{◌≡◌, pos, ◌+◌, ◌≤◌, IfOk, IfErr, length};
+ghost use Rattle.std.specs.Prelude.{◌≡◌, ◌+◌, ◌≤◌, IfOk, IfErr};
 ghost use Rattle.tk_problem.specs.declared.limits.TheConstants.{CANDIDATE_LIMIT};
 ghost use Rattle.tk_lists.specs.Solution.{lists_of};
 ghost use Rattle.tk_routes.specs.Cvrps.{instance_of};
-ghost use Rattle.tk_routes.specs.Instance.{customer_count};
 ghost use Rattle.tk_routes.specs.Routes.{AreRoutes, routes_cost};
 ghost use Rattle.tk_routes.specs.RouteLists.{instance_of_routes, routes_of};
-ghost use Rattle.tk_routes.specs.ImprovedRoutes.{AreImprovedBy, IsImprovedPart, MovesSave};
-ghost use Rattle.tk_routes.specs.ImprovedRoutes.{most_tests, place_count, fall_of};
+ghost use Rattle.tk_routes.specs.ImprovedRoutes.{AreImprovements, IsImprovedPart, fall_of, most_tests};
+ghost use Rattle.tk_routes.specs.ImprovedRoutes.{place_count};
 
 use crate::claims::check::cost_of;
 use crate::cvrp::Cvrp;
@@ -28,15 +27,9 @@ fn improve_each(
     requires candidates { (1 ≤ max_candidates) × (max_candidates ≤ CANDIDATE_LIMIT) }
     requires most { (1 ≤ m) × (m ≤ 3) }
     ensures improved { IfOk result
-        (AreImprovedBy (instance_of cvrp.now) max_candidates m (lists_of lists.old) (lists_of lists.new)) }
-    ensures before { IfOk result (λ r. r.before ≡ pos (routes_cost (instance_of cvrp.now) (lists_of lists.old))) }
-    ensures after { IfOk result (λ r. r.after ≡ pos (routes_cost (instance_of cvrp.now) (lists_of lists.new))) }
-    ensures moves { IfOk result
-        (λ r. MovesSave (instance_of cvrp.now) (lists_of lists.old) (lists_of lists.new) r.moves) }
-    ensures tests { IfOk result (λ r. r.tests
-        ≤ most_tests max_candidates m (customer_count (instance_of cvrp.now) + length lists.old) r.moves) }
+        (AreImprovements (instance_of cvrp.now) max_candidates m (lists_of lists.old) (lists_of lists.new)) }
     ensures headline { IfOk result (λ r. r.tests
-        ≤ most_tests max_candidates m (customer_count (instance_of cvrp.now) + length lists.old) (fall_of r)) }
+        ≤ most_tests max_candidates m (place_count (instance_of cvrp.now) (lists_of lists.old)) (fall_of r)) }
     ensures part { IfErr result (λ _.
         IsImprovedPart (instance_of cvrp.now) max_candidates m (lists_of lists.old) (lists_of lists.new)) }
     ensures routes { AreRoutes (instance_of cvrp.now) (lists_of lists.new) }
@@ -85,13 +78,7 @@ pub fn improve(
     requires candidates { (1 ≤ max_candidates) × (max_candidates ≤ CANDIDATE_LIMIT) }
     requires most { (1 ≤ m) × (m ≤ 3) }
     ensures improved { IfOk result
-        (AreImprovedBy (instance_of cvrp.now) max_candidates m (routes_of routes.old) (routes_of routes.new)) }
-    ensures before { IfOk result (λ r. r.before ≡ pos (routes_cost (instance_of cvrp.now) (routes_of routes.old))) }
-    ensures after { IfOk result (λ r. r.after ≡ pos (routes_cost (instance_of cvrp.now) (routes_of routes.new))) }
-    ensures moves { IfOk result
-        (λ r. MovesSave (instance_of cvrp.now) (routes_of routes.old) (routes_of routes.new) r.moves) }
-    ensures tests { IfOk result (λ r. r.tests
-        ≤ most_tests max_candidates m (place_count (instance_of cvrp.now) (routes_of routes.old)) r.moves) }
+        (AreImprovements (instance_of cvrp.now) max_candidates m (routes_of routes.old) (routes_of routes.new)) }
     ensures headline { IfOk result (λ r. r.tests
         ≤ most_tests max_candidates m (place_count (instance_of cvrp.now) (routes_of routes.old)) (fall_of r)) }
     ensures part { IfErr result (λ _.

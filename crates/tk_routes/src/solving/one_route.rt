@@ -1,6 +1,5 @@
 //! One route by itself, made shorter by a descent.
 ghost use Rattle.std.specs.Prelude.{◌≡◌, pos, ◌+◌, ◌*◌, ◌/◌, ◌<◌, ◌≤◌, IfOk, All, length, slice_index};
-ghost use Rattle.std.specs.List.Sorted.{IsPermutation};
 ghost use Rattle.tk_problem.specs.declared.limits.TheConstants.{CANDIDATE_LIMIT, TABLE_LIMIT};
 ghost use Rattle.tk_distance.specs.Cities.{IsCity};
 ghost use Rattle.tk_near.specs.Near.{near_of};
@@ -10,8 +9,8 @@ ghost use Rattle.tk_descent.specs.Awake.{one_to};
 ghost use Rattle.tk_descent.specs.Sweeps.{Pass};
 ghost use Rattle.tk_routes.specs.Cvrps.{instance_of};
 ghost use Rattle.tk_routes.specs.Instance.{customer_count};
-ghost use Rattle.tk_routes.specs.Routes.{route_nodes, route_length};
-ghost use Rattle.tk_routes.specs.ImprovedRoutes.{IsFlipped, IsImproved, IsReadOff, place_distance};
+ghost use Rattle.tk_routes.specs.Routes.{route_nodes};
+ghost use Rattle.tk_routes.specs.ImprovedRoutes.{IsFlipped, IsImprovement, IsReadOff, place_distance};
 
 use crate::cvrp::Cvrp;
 use crate::solving::measured::Measured;
@@ -129,15 +128,8 @@ fn improve_over<M: Metric>(
     requires few { length route.now < TABLE_LIMIT }
     requires candidates { (1 ≤ max_candidates) × (max_candidates ≤ CANDIDATE_LIMIT) }
     requires most { (1 ≤ m) × (m ≤ 3) }
-    ensures improved { IfOk result (λ r. IsImproved
-        (instance_of cvrp.now) max_candidates m route.now r.0.items r.1.moves r.1.tests r.1.swaps) }
-    ensures same { IfOk result (λ r. IsPermutation route.now r.0.items) }
-    ensures before { IfOk result (λ r. r.1.before ≡ pos (route_length (instance_of cvrp.now) route.now)) }
-    ensures after { IfOk result (λ r. r.1.after ≡ pos (route_length (instance_of cvrp.now) r.0.items)) }
-    ensures moves { IfOk result (λ r. r.1.moves + route_length (instance_of cvrp.now) r.0.items
-        ≤ route_length (instance_of cvrp.now) route.now) }
-    ensures tests { IfOk result (λ r. r.1.tests ≤ 4 * m * max_candidates * (length route.now + 1 + 6 * r.1.moves)) }
-    ensures swaps { IfOk result (λ r. r.1.swaps ≤ 3 * ((length route.now + 1) / 4) * r.1.moves) }
+    ensures { IfOk result
+        (λ r. IsImprovement (instance_of cvrp.now) max_candidates m route.now r.0.items r.1) }
 {
     let near = near_scan(alloc, metric, max_candidates.min(route.len() as u32))?;
     let (tour, report) = descend_awake(alloc, metric, &near, m)?;
@@ -161,15 +153,8 @@ pub(crate) fn improve_route(
     requires few { length route.now < TABLE_LIMIT }
     requires candidates { (1 ≤ max_candidates) × (max_candidates ≤ CANDIDATE_LIMIT) }
     requires most { (1 ≤ m) × (m ≤ 3) }
-    ensures improved { IfOk result (λ r. IsImproved
-        (instance_of cvrp.now) max_candidates m route.now r.0.items r.1.moves r.1.tests r.1.swaps) }
-    ensures same { IfOk result (λ r. IsPermutation route.now r.0.items) }
-    ensures before { IfOk result (λ r. r.1.before ≡ pos (route_length (instance_of cvrp.now) route.now)) }
-    ensures after { IfOk result (λ r. r.1.after ≡ pos (route_length (instance_of cvrp.now) r.0.items)) }
-    ensures moves { IfOk result (λ r. r.1.moves + route_length (instance_of cvrp.now) r.0.items
-        ≤ route_length (instance_of cvrp.now) route.now) }
-    ensures tests { IfOk result (λ r. r.1.tests ≤ 4 * m * max_candidates * (length route.now + 1 + 6 * r.1.moves)) }
-    ensures swaps { IfOk result (λ r. r.1.swaps ≤ 3 * ((length route.now + 1) / 4) * r.1.moves) }
+    ensures { IfOk result
+        (λ r. IsImprovement (instance_of cvrp.now) max_candidates m route.now r.0.items r.1) }
 {
     let nodes = list_nodes(alloc, cvrp, route)?;
     let metric = Sub::new(&cvrp.table, &nodes);

@@ -7,9 +7,8 @@ ghost use Rattle.tk_words.specs.Entry as Tokens;
 ghost use Rattle.tk_words.specs.Entry.{IsEntry};
 
 use crate::held::{Held, letter};
-use crate::keyword::Keyword;
+use crate::keyword::{Keyword, keyword_of};
 use crate::numbers::integers::integer;
-use crate::words::keyword_of;
 
 /// What a token is where a number is wanted.
 #[derive(Clone, Copy, PartialEq, Eq)]

@@ -1,7 +1,6 @@
 //! Bytes of a source, a buffer at a time, to what reads a text.
-ghost use Rattle.std.specs.Prelude.{◌≡◌, ℕ, ◌+◌, ◌<◌, ◌≤◌, ◌^◌, false, List, [], ◌++◌, length, Ok, IfOk, IfErr};
-ghost use Rattle.tk_words.specs.Texts.{IsAnswerWhereTold, IsFaultWhereTold, IsOfSomeText, IsFaultOfSomeText, IsIntact};
-ghost use Rattle.tk_words.specs.Taking.{HasTakenAll};
+ghost use Rattle.std.specs.Prelude.{◌≡◌, ℕ, ◌+◌, ◌<◌, ◌≤◌, ◌^◌, false, List, [], length, Ok};
+ghost use Rattle.tk_words.specs.Reading.{HasTakenPiece, IsReading};
 
 use crate::sources::source::Source;
 use crate::sources::text_reader::{Step, TextReader};
@@ -23,9 +22,7 @@ pub fn feed_piece<P: TextReader>(
     requires limit { (limit ≡ P.texts.limit) × (limit < 2 ^ 63) }
     requires within { count ≤ limit }
     requires known { (before : List ℕ) × P.fed reader.old before × (length before ≡ count) }
-    ensures taken { (before : List ℕ) → P.fed reader.old before → length before ≡ count
-        → HasTakenAll P.texts (P.fed reader.new) (P.held reader.new) (P.complete reader.new) (before ++ piece.now)
-        result }
+    ensures taken { HasTakenPiece P.TextReader reader.old reader.new count piece.now result }
     ensures room { result ≡ Ok false → count + length piece.now ≤ limit }
 {
     let end = piece.len().min((limit - count) as usize);
@@ -54,13 +51,7 @@ pub fn feed_piece<P: TextReader>(
 /// fails.
 pub fn read_text<R: Source, P: TextReader>(source: &mut R, reader: P) -> Result<P::Out, P::Fault>
     requires { P.fed reader [] }
-    ensures ok { IfOk result (λ v.
-        IsAnswerWhereTold P.texts (R.left source.old) (R.left source.new) (Ok (P.view v))) }
-    ensures err { IfErr result
-        (IsFaultWhereTold P.texts (R.broken source.new) (R.left source.old) (R.left source.new)) }
-    ensures some_text { IfOk result (λ v. IsOfSomeText P.texts (Ok (P.view v))) }
-    ensures some_fault { IfErr result (IsFaultOfSomeText P.texts) }
-    ensures intact { IsIntact P.texts (R.broken source.old) (R.broken source.new) result }
+    ensures reads { IsReading R.Source P.texts P.view source.old source.new result }
 {
     let mut reader = reader;
     let limit = reader.limit();

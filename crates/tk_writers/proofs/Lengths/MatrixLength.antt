@@ -8,7 +8,8 @@ use Rattle.std.proofs.lemmas.List.Sums.{length-filter, count_by-le-length}
 use Rattle.tk_problem.specs.declared.limits.TheConstants.{TABLE_LIMIT}
 use Rattle.tk_writers.proofs.Pieces.NumberLengths.{length_decimal, length_flat_map}
 use Rattle.tk_writers.specs.FormatLines.{on_line, entry_place, has_entry}
-use Rattle.tk_writers.specs.MatrixText.{number_line, format_word, matrix_line, matrix_head, matrix_text}
+use Rattle.tk_problem.specs.WeightWords.{format_word}
+use Rattle.tk_writers.specs.MatrixText.{number_line, matrix_line, matrix_head, matrix_text}
 use Rattle.tk_problem.specs.declared.weights.Format.{Format}
 use Rattle.tk_problem.specs.declared.weights.Format.TheVariants as formats
 

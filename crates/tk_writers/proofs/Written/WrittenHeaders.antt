@@ -11,12 +11,12 @@ use Rattle.tk_problem.specs.declared.weights.Format as Layout
 use Rattle.tk_problem.specs.declared.weights.Format.TheVariants as formats
 use Rattle.tk_problem_text.specs.HeaderValues.{weight_format_of, header_number, name_of}
 use Rattle.tk_words.specs.Lex.{Line, Token, is_blank, behind, front, integer, trim, IsUnbroken}
-use Rattle.tk_writers.specs.MatrixText.{format_word}
+use Rattle.tk_problem.specs.WeightWords.{format_word}
 use Rattle.tk_lines.specs.Pieces.{Piece, Header, Section, Clean, pieces_at, stop}
 use Rattle.tk_problem_text.specs.Problem.{problem_format}
 use Rattle.tk_problem_text.specs.Names.{IsName}
 use Rattle.tk_lines.specs.HeaderValue.{first_word, not_blank}
-use Rattle.tk_words.specs.Words.{keyword_of, section_word, rest_word}
+use Rattle.tk_words.specs.Words.{keyword_of}
 use Rattle.tk_lines.proofs.Sections.MiddleOfSection.{token, run_head}
 use Rattle.tk_writers.proofs.Written.WrittenLines.{whole_line}
 use Rattle.tk_writers.proofs.Written.WrittenNumbers.{decimal_run, integer_decimal, short_decimal}
@@ -57,33 +57,33 @@ after_6 name n f toks = after_5 name n f ++ Section words.EdgeWeightSection 6 to
 pub name_piece : (before : List Piece) (name : List ℕ) (ls : List Line)
     → pieces_at problem_format.extent before (whole_line 1 (codes "NAME : " ++ name)) ls
     (behind is_blank (codes "NAME : " ++ name)) ≡ headed words.Name (name_value name) 1 ∷ []
-unfolding keyword_of section_word rest_word
+unfolding keyword_of
 name_piece before name ls = refl
 
 pub type_piece : (before : List Piece) (ls : List Line)
     → pieces_at problem_format.extent before (whole_line 2 (codes "TYPE : TSP")) ls
     (behind is_blank (codes "TYPE : TSP")) ≡ headed words.Type (codes " : TSP") 2 ∷ []
-unfolding keyword_of section_word rest_word
+unfolding keyword_of
 type_piece before ls = refl
 
 pub size_piece : (before : List Piece) (n : ℕ) (ls : List Line)
     → pieces_at problem_format.extent before (whole_line 3 (codes "DIMENSION : " ++ decimal n)) ls
     (behind is_blank (codes "DIMENSION : " ++ decimal n)) ≡ headed words.Dimension (size_value n) 3 ∷ []
-unfolding keyword_of section_word rest_word
+unfolding keyword_of
 size_piece before n ls = refl
 
 pub weight_type_piece : (before : List Piece) (ls : List Line)
     → pieces_at problem_format.extent before (whole_line 4 (codes "EDGE_WEIGHT_TYPE : EXPLICIT")) ls
     (behind is_blank (codes "EDGE_WEIGHT_TYPE : EXPLICIT")) ≡ headed words.EdgeWeightType
     (codes " : EXPLICIT") 4 ∷ []
-unfolding keyword_of section_word rest_word
+unfolding keyword_of
 weight_type_piece before ls = refl
 
 pub format_piece : (before : List Piece) (f : Layout.Format) (ls : List Line)
     → pieces_at problem_format.extent before (whole_line 5 (codes "EDGE_WEIGHT_FORMAT : " ++ format_word f)) ls
     (behind is_blank (codes "EDGE_WEIGHT_FORMAT : " ++ format_word f)) ≡ headed words.EdgeWeightFormat
     (format_value f) 5 ∷ []
-unfolding keyword_of section_word rest_word
+unfolding keyword_of
 format_piece before f ls = refl
 
 -- the tests of the headers

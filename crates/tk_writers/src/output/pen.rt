@@ -3,6 +3,7 @@ ghost use Rattle.std.specs.Prelude.{◌≡◌, ◌+◌, ◌≤◌, ◌<◌, ◌^
 ghost use Rattle.std.specs.Prelude.{MatchResult};
 ghost use Rattle.std.specs.Io.KnownBytes.{Appends};
 ghost use Rattle.tk_writers.specs.Puts.{IsPut, Stops};
+ghost use Rattle.tk_writers.specs.Sinks.{IsBroken};
 
 use crate::output::page::Page;
 use crate::output::sink::Sink;
@@ -39,7 +40,7 @@ fn write_whole<W: Sink>(sink: &mut W, bytes: &[u8]) -> usize
     ensures bound { result ≤ length bytes.now }
     ensures sent { Appends (W.taken sink.old) (W.taken sink.new) (take result bytes.now) }
     ensures whole { result ≡ length bytes.now → W.broken sink.new ≡ W.broken sink.old }
-    ensures part { result < length bytes.now → W.broken sink.new ≡ true }
+    ensures part { result < length bytes.now → IsBroken W.Sink sink.new }
 {
     let mut taken = 0;
     while taken < bytes.len() {
@@ -57,8 +58,8 @@ fn send<W: Sink>(sink: &mut W, written: u64, stopped: bool, page: &[u8]) -> (u64
     requires page { length page.now ≤ 8192 }
     ensures count { result.0 ≤ 2 ^ 63 + 8192 }
     ensures put { (start : Option (List ℕ)) (failed : Bool) (text : List ℕ)
-        → IsPut W.taken W.broken start failed text sink.old written stopped page.now
-        → IsPut W.taken W.broken start failed text sink.new result.0 result.1 [] }
+        → IsPut W.Sink start failed text sink.old written stopped page.now
+        → IsPut W.Sink start failed text sink.new result.0 result.1 [] }
 {
     if stopped || page.is_empty() {
         return (written, stopped);
@@ -80,9 +81,9 @@ fn send_last<W: Sink>(
     requires count { written ≤ 2 ^ 63 + 8192 }
     requires page { length page.now ≤ 8192 }
     ensures { (start : Option (List ℕ)) (failed : Bool) (text : List ℕ)
-        → IsPut W.taken W.broken start failed text sink.old written stopped page.now
+        → IsPut W.Sink start failed text sink.old written stopped page.now
         → MatchResult result (λ _. Appends start (W.taken sink.new) text
-        × (W.broken sink.new ≡ failed)) (λ f. Stops W.taken W.broken start text sink.new f) }
+        × (W.broken sink.new ≡ failed)) (λ f. Stops W.Sink start text sink.new f) }
 {
     let (written, stopped) = send(sink, written, stopped, page);
     if stopped {
@@ -99,7 +100,7 @@ impl<'a, W: Sink> Pen<'a, W> {
     /// A pen that has written nothing.
     pub fn new(sink: &'a mut W) -> Pen<'a, W>
         ensures same { result.sink.ghost_name ≡ sink.entry.ghost_name }
-        ensures empty { PenHolds W.taken W.broken (W.taken sink.old) (W.broken sink.old) [] result }
+        ensures empty { PenHolds W.Sink (W.taken sink.old) (W.broken sink.old) [] result }
     {
         Pen {
             sink,
@@ -112,7 +113,7 @@ impl<'a, W: Sink> Pen<'a, W> {
     /// Writes bytes after all that was put before.
     #[inline(always)]
     pub fn put(&mut self, bytes: &[u8])
-        ensures { Puts W.taken W.broken self.old self.new bytes.now }
+        ensures { Puts W.Sink self.old self.new bytes.now }
     {
         if bytes.len() <= self.page.room() {
             self.page.push(bytes);
@@ -124,7 +125,7 @@ impl<'a, W: Sink> Pen<'a, W> {
     #[cold]
     #[inline(never)]
     fn put_past_page(&mut self, bytes: &[u8])
-        ensures { Puts W.taken W.broken self.old self.new bytes.now }
+        ensures { Puts W.Sink self.old self.new bytes.now }
     {
         let mut rest = bytes;
         while rest.len() > self.page.room() {
@@ -138,7 +139,7 @@ impl<'a, W: Sink> Pen<'a, W> {
 
     /// Sends what waits.
     fn send_page(&mut self)
-        ensures puts { Puts W.taken W.broken self.old self.new [] }
+        ensures puts { Puts W.Sink self.old self.new [] }
         ensures empty { self.new.page ≡ [] }
     {
         let (written, stopped) = send(self.sink, self.written, self.stopped, self.page.as_slice());
@@ -149,7 +150,7 @@ impl<'a, W: Sink> Pen<'a, W> {
 
     /// Writes a number's decimal digits after all that was put before.
     pub fn put_number(&mut self, number: u64)
-        ensures { Puts W.taken W.broken self.old self.new (decimal number) }
+        ensures { Puts W.Sink self.old self.new (decimal number) }
     {
         let mut buffer = Buffer::new();
         self.put(buffer.format(number).as_bytes());
@@ -157,7 +158,7 @@ impl<'a, W: Sink> Pen<'a, W> {
 
     /// The same for a number of up to 128 bits.
     pub fn put_wide(&mut self, number: u128)
-        ensures { Puts W.taken W.broken self.old self.new (decimal number) }
+        ensures { Puts W.Sink self.old self.new (decimal number) }
     {
         let mut buffer = Buffer::new();
         let digits = buffer.format(number);
@@ -166,7 +167,7 @@ impl<'a, W: Sink> Pen<'a, W> {
 
     /// Writes numbers, single spaces between them, after all that was put before.
     pub fn put_spaced(&mut self, numbers: &[u32])
-        ensures { Puts W.taken W.broken self.old self.new (spaced_numbers numbers.now) }
+        ensures { Puts W.Sink self.old self.new (spaced_numbers numbers.now) }
     {
         let Some((first, rest)) = numbers.split_first() else {
             return;
@@ -183,7 +184,7 @@ impl<'a, W: Sink> Pen<'a, W> {
     /// # Errors
     /// That a write failed, and how many bytes had gone out by then.
     pub fn end(self) -> Result<(), WriteFault>
-        ensures { PenEnds W.taken W.broken self.entry self.exit.0.now result }
+        ensures { PenEnds W.Sink self.entry self.exit.0.now result }
     {
         let Pen {
             sink,

@@ -10,11 +10,5 @@ from_filled-requires-clause-filled g c =
 pub from_filled-requires-clause-limit : goal.from_filled-requires-clause-limit
 from_filled-requires-clause-limit g c = c.requires.limit
 
-pub returns-clause-size : goal.returns-clause-size
-returns-clause-size g c = c.from_filled.ensures.size
-
-pub returns-clause-width : goal.returns-clause-width
-returns-clause-width g c = c.from_filled.ensures.width
-
-pub returns-clause-near : goal.returns-clause-near
-returns-clause-near g c = c.from_filled.ensures.near
+pub returns : goal.returns
+returns g c = c.from_filled.ensures

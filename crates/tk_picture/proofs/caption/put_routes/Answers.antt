@@ -3,4 +3,4 @@ use Rattle.tk_picture.proofs.caption.put_routes.Goals as goal
 
 pub returns : goal.returns
 returns g c =
-    Puts-then _ _ _ _ _ _ _ (Puts-then _ _ _ _ _ _ _ c.put_number.ensures c.put.ensures) c.put_number-2.ensures
+    Puts-then (Puts-then c.put_number.ensures c.put.ensures) c.put_number-2.ensures

@@ -3,4 +3,4 @@ use Rattle.tk_picture.proofs.caption.put_title.Goals as goal
 
 pub returns : goal.returns
 returns g c =
-    Puts-then _ _ _ _ _ _ _ (Puts-then _ _ _ _ _ _ _ c.put_name.ensures c.put.ensures) c.put_caption.ensures
+    Puts-then (Puts-then c.put_name.ensures c.put.ensures) c.put_caption.ensures

@@ -3,5 +3,5 @@ use Rattle.tk_picture.proofs.caption.put_tour.Goals as goal
 
 pub returns : goal.returns
 returns g c =
-    Puts-then _ _ _ _ _ _ _ (Puts-then _ _ _ _ _ _ _ (Puts-then _ _ _ _ _ _ _ c.put.ensures c.put_number.ensures)
+    Puts-then (Puts-then (Puts-then c.put.ensures c.put_number.ensures)
     c.put-2.ensures) c.put_number-2.ensures

@@ -14,12 +14,12 @@ returns-then-is_empty g c =
     let put = closed_line (spot c.args.view.now.frame (places_of c.args.view.now.places)) in
     let none = filled_none (route_path (instance_of c.args.cvrp.now)) put c.args.number c.args.route.now
     (sym c.is_empty.ensures ∙ c.if-is_empty.true) in
-    subst (Puts _ _ _ _) (sym none) (Puts-none _ _ _)
+    subst (Puts _ _ _) (sym none) Puts-none
 
 pub returns : goal.returns
 returns g c =
     let put = closed_line (spot c.args.view.now.frame (places_of c.args.view.now.places)) in
     let some = filled_some (route_path (instance_of c.args.cvrp.now)) put c.args.number c.args.route.now
     (sym c.is_empty.ensures ∙ c.if-is_empty.false) in
-    subst (Puts _ _ _ _) (sym some)
-    (Puts-then _ _ _ _ _ _ _ (Puts-then _ _ _ _ _ _ _ c.put_line_start.ensures c.put_stops.ensures) c.put.ensures)
+    subst (Puts _ _ _) (sym some)
+    (Puts-then (Puts-then c.put_line_start.ensures c.put_stops.ensures) c.put.ensures)

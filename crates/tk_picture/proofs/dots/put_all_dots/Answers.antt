@@ -13,7 +13,7 @@ pub loop-city-preserved : goal.loop-city-preserved
 loop-city-preserved g c =
     let view = c.args.view.now in
     rw (lines_more (dot (spot view.frame (places_of view.places))) c.loop-city.city c.loop-city.auto.city)
-    (Puts-then _ _ _ _ _ _ _ c.loop-city.invariant c.put_dot.ensures)
+    (Puts-then c.loop-city.invariant c.put_dot.ensures)
 
 pub returns : goal.returns
 returns g c =
@@ -21,10 +21,10 @@ returns g c =
     let all : c.loop-city.city - 1 ≡ length (places_of view.places) =
     omega (arith, c.loop-city.auto.city-end, c.size-city-end.ensures.value) in
     let start =
-    subst (Puts _ _ _ _) (ap (λ n. line (codes "<path stroke=\"black\" " ++ city_style n ++ codes " d=\""))
+    subst (Puts _ _ _) (ap (λ n. line (codes "<path stroke=\"black\" " ++ city_style n ++ codes " d=\""))
     c.size.ensures.value) c.put_dots_start.ensures in
-    Puts-then _ _ _ _ _ _ _
-    (Puts-then _ _ _ _ _ _ _ start
-    (subst (Puts _ _ _ _) (ap (λ n. flat_map (dot (spot view.frame (places_of view.places))) (range_with_len 1 n)) all)
+    Puts-then
+    (Puts-then start
+    (subst (Puts _ _ _) (ap (λ n. flat_map (dot (spot view.frame (places_of view.places))) (range_with_len 1 n)) all)
     c.loop-city.invariant))
     c.put.ensures

@@ -9,5 +9,5 @@ use Rattle.tk_picture.proofs.dots.put_all_dots.Given as goal
 
 abbrev pub invariant-loop-city : goal.invariant-loop-city
 invariant-loop-city g l =
-    Puts g.W.Sink.taken g.W.Sink.broken l.initial.pen l.pen
+    Puts g.W.Sink l.initial.pen l.pen
     (flat_map (dot (spot l.view.frame (places_of l.view.places))) (range_with_len 1 (l.city - 1)))

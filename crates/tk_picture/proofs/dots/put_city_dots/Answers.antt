@@ -15,7 +15,7 @@ returns-then-has_dots g c =
     let drawn : has_dots (drawing_of c.args.subject) n ≡ true =
     sym (c.has_dots.ensures ∙ ap (has_dots (drawing_of c.args.subject)) c.size.ensures.value)
     ∙ c.if-has_dots.true in
-    subst (Puts _ _ _ _)
+    subst (Puts _ _ _)
     (sym (ap
     (λ (b : Bool). if b then dots (spot view.frame (places_of view.places)) (city_style n) (range_with_len 1 n)
     else []) drawn)) c.put_all_dots.ensures
@@ -27,7 +27,7 @@ returns-else-has_dots g c =
     let none : has_dots (drawing_of c.args.subject) n ≡ false =
     sym (c.has_dots.ensures ∙ ap (has_dots (drawing_of c.args.subject)) c.size.ensures.value)
     ∙ c.if-has_dots.false in
-    subst (Puts _ _ _ _)
+    subst (Puts _ _ _)
     (sym (ap
     (λ (b : Bool). if b then dots (spot view.frame (places_of view.places)) (city_style n) (range_with_len 1 n)
-    else []) none)) (Puts-none _ _ _)
+    else []) none)) Puts-none

@@ -18,7 +18,7 @@ loop-chunk-preserved-then-not-is_empty g c =
     let text = shown_chunk _ _ _ _ steps.0 steps.3.0 steps.3.1 some utf8 in
     record {
       done = (before.done ++ flat_map shown_byte (chars valid)) ++ (0xEF ∷ 0xBF ∷ 0xBD ∷ []);
-      puts = Puts-then _ _ _ _ _ _ _ (Puts-then _ _ _ _ _ _ _ before.puts (rw c.valid.ensures at c.put_text.ensures))
+      puts = Puts-then (Puts-then before.puts (rw c.valid.ensures at c.put_text.ensures))
           (rw c.as_bytes.ensures.value at c.put.ensures);
       rest = simp append_assoc (rw text at before.rest);
     }
@@ -33,13 +33,13 @@ loop-chunk-preserved g c =
     let text = shown_last _ _ _ _ steps.0 steps.3.0 none (steps.2 none) utf8 in
     record {
       done = before.done ++ flat_map shown_byte (chars valid);
-      puts = Puts-then _ _ _ _ _ _ _ before.puts (rw c.valid.ensures at c.put_text.ensures);
+      puts = Puts-then before.puts (rw c.valid.ensures at c.put_text.ensures);
       rest = rw append_assoc (rw text at before.rest);
     }
 
 pub returns : goal.returns
 returns g c =
     let none = shown_empty (utf8_chunks_rest c.loop-chunk.chunk-iterator) c.in-None.ensures.steps.0 in
-    subst (Puts _ _ _ _) (sym (append-nil c.loop-chunk.invariant.done)
+    subst (Puts _ _ _) (sym (append-nil c.loop-chunk.invariant.done)
     ∙ ap (λ l. c.loop-chunk.invariant.done ++ l) (sym none) ∙ c.loop-chunk.invariant.rest)
     c.loop-chunk.invariant.puts

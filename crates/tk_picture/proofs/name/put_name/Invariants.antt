@@ -8,6 +8,6 @@ use Rattle.tk_picture.proofs.name.put_name.Given as goal
 abbrev pub invariant-loop-chunk : goal.invariant-loop-chunk
 invariant-loop-chunk g l = record {
   done : List ℕ;
-  puts : Puts g.W.Sink.taken g.W.Sink.broken l.initial.pen l.pen done;
+  puts : Puts g.W.Sink l.initial.pen l.pen done;
   rest : done ++ shown_name (utf8_chunks_rest l.chunk-iterator) ≡ shown_name l.fn.name;
 }

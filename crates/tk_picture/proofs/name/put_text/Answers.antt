@@ -12,10 +12,10 @@ pub loop-c-preserved : goal.loop-c-preserved
 loop-c-preserved g c =
     let more = flat_map-append shown_byte c.loop-c.yielded (c.in-Some.c ∷ [])
     ∙ ap (λ l. flat_map shown_byte c.loop-c.yielded ++ l) (append-nil (shown_byte c.in-Some.c)) in
-    subst (Puts _ _ _ _) (sym more) (Puts-then _ _ _ _ _ _ _ c.loop-c.invariant c.put_char.ensures)
+    subst (Puts _ _ _) (sym more) (Puts-then c.loop-c.invariant c.put_char.ensures)
 
 pub returns : goal.returns
 returns g c =
     let end = YieldsList-end (YieldsList-from_chars c.args.text.now c.utf8.text cc) c.loop-c.yielded
     _ c.loop-c.yielded_by _ _ c.in-None.is c.next.ensures.steps in
-    subst (Puts _ _ _ _) (ap (flat_map shown_byte) (sym (map-id c.loop-c.yielded) ∙ end.0)) c.loop-c.invariant
+    subst (Puts _ _ _) (ap (flat_map shown_byte) (sym (map-id c.loop-c.yielded) ∙ end.0)) c.loop-c.invariant

@@ -5,4 +5,4 @@ use Rattle.tk_picture.specs.Names.{shown_byte}
 use Rattle.tk_picture.proofs.name.put_text.Given as goal
 
 abbrev pub invariant-loop-c : goal.invariant-loop-c
-invariant-loop-c g l = Puts g.W.Sink.taken g.W.Sink.broken l.initial.pen l.pen (flat_map shown_byte l.yielded)
+invariant-loop-c g l = Puts g.W.Sink l.initial.pen l.pen (flat_map shown_byte l.yielded)

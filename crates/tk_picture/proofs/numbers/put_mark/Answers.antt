@@ -4,8 +4,8 @@ use Rattle.tk_picture.proofs.numbers.put_mark.Goals as goal
 
 pub returns : goal.returns
 returns g c =
-    Puts-both _ _ _ _ _ _ _ _
-    (Puts-then _ _ _ _ _ _ _
-    (Puts-then _ _ _ _ _ _ _ (Puts-then _ _ _ _ _ _ _ c.put_mark_start.ensures c.put_colour.ensures) c.put.ensures)
+    Puts-both _ _
+    (Puts-then
+    (Puts-then (Puts-then c.put_mark_start.ensures c.put_colour.ensures) c.put.ensures)
     c.put_number.ensures)
     c.put-2.ensures

@@ -3,4 +3,4 @@ use Rattle.tk_picture.proofs.numbers.put_mark_start.Goals as goal
 
 pub returns : goal.returns
 returns g c =
-    Puts-then _ _ _ _ _ _ _ (Puts-then _ _ _ _ _ _ _ c.put.ensures c.put_spot.ensures) c.put-2.ensures
+    Puts-then (Puts-then c.put.ensures c.put_spot.ensures) c.put-2.ensures

@@ -12,6 +12,6 @@ returns-in-Some g c =
     let at = spot c.args.view.now.frame (places_of c.args.view.now.places) in
     let first : slice_get c.args.route.now 0 ≡ Some c.in-Some.first.now = sym c.first.ensures.value
     ∙ ap option_copied c.in-Some.is in
-    subst (Puts _ _ _ _)
+    subst (Puts _ _ _)
     (sym (marked at (instance_of c.args.cvrp.now) c.args.number c.args.route.now c.in-Some.first.now first))
-    (subst (Puts _ _ _ _) (ap (λ n. mark c.args.number (at n)) c.node.ensures.value) c.put_mark.ensures)
+    (subst (Puts _ _ _) (ap (λ n. mark c.args.number (at n)) c.node.ensures.value) c.put_mark.ensures)

@@ -11,7 +11,7 @@ use Rattle.tk_picture.proofs.numbers.put_numbers.Given as goal
 abbrev pub invariant-loop-route : goal.invariant-loop-route
 invariant-loop-route g l = record {
   count : l.number ≡ l.route-index;
-  text : Puts g.W.Sink.taken g.W.Sink.broken l.initial.pen l.pen
+  text : Puts g.W.Sink l.initial.pen l.pen
       (flat_map (number_mark (spot l.view.frame (places_of l.view.places)))
       (route_paths (instance_of l.cvrp) 1 (map (λ r. r.items) (take l.route-index l.routes))));
 }

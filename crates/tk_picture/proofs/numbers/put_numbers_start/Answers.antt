@@ -6,6 +6,6 @@ use Rattle.tk_picture.proofs.numbers.put_numbers_start.Goals as goal
 
 pub returns : goal.returns
 returns g c =
-    Puts-both _ _ _ _ _ _ _ _
-    (Puts-then _ _ _ _ _ _ _ c.put.ensures (subst (Puts _ _ _ _) c.by_size.ensures c.put-2.ensures))
+    Puts-both _ _
+    (Puts-then c.put.ensures (subst (Puts _ _ _) c.by_size.ensures c.put-2.ensures))
     c.put-3.ensures

@@ -3,5 +3,5 @@ use Rattle.tk_picture.proofs.page.put_ending.Goals as goal
 
 pub returns : goal.returns
 returns g c =
-    Puts-then _ _ _ _ _ _ _ (Puts-then _ _ _ _ _ _ _ (Puts-then _ _ _ _ _ _ _ c.put.ensures c.put-2.ensures)
+    Puts-then (Puts-then (Puts-then c.put.ensures c.put-2.ensures)
     c.put-3.ensures) c.put-4.ensures

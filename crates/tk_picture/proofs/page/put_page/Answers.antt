@@ -3,8 +3,5 @@ use Rattle.tk_picture.proofs.page.put_page.Goals as goal
 
 pub returns : goal.returns
 returns g c =
-    Puts-then _ _ _ _ _ _ _ (Puts-then
-    _ _ _ _ _ _ _ (Puts-then
-    _ _ _ _ _ _ _ (Puts-then
-    _ _ _ _ _ _ _ (Puts-then _ _ _ _ _ _ _ (Puts-then _ _ _ _ _ _ _ c.put_opening.ensures c.put_picture.ensures)
+    Puts-then (Puts-then (Puts-then (Puts-then (Puts-then (Puts-then c.put_opening.ensures c.put_picture.ensures)
     c.put.ensures) c.put_table.ensures) c.put_cities.ensures) c.put_paths.ensures) c.put_ending.ensures

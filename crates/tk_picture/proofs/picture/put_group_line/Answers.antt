@@ -6,7 +6,7 @@ use Rattle.tk_picture.proofs.picture.put_group_line.Goals as goal
 
 pub returns : goal.returns
 returns g c =
-    Puts-both _ _ _ _ _ _ _ _
-    (Puts-then _ _ _ _ _ _ _ (Puts-then _ _ _ _ _ _ _ c.put_group_start.ensures c.put.ensures)
-    (subst (Puts _ _ _ _) c.by_size.ensures c.put-2.ensures))
+    Puts-both _ _
+    (Puts-then (Puts-then c.put_group_start.ensures c.put.ensures)
+    (subst (Puts _ _ _) c.by_size.ensures c.put-2.ensures))
     c.put-3.ensures

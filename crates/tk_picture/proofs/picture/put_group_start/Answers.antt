@@ -6,7 +6,7 @@ use Rattle.tk_picture.proofs.picture.put_group_start.Goals as goal
 
 pub returns : goal.returns
 returns g c =
-    let across = subst (Puts _ _ _ _) (ap decimal c.drawn_from_left.ensures) c.put_wide.ensures in
-    let down = subst (Puts _ _ _ _) (ap decimal c.drawn_from_top.ensures) c.put_wide-2.ensures in
-    Puts-then _ _ _ _ _ _ _ (Puts-then _ _ _ _ _ _ _ (Puts-then _ _ _ _ _ _ _ c.put.ensures across) c.put-2.ensures)
+    let across = subst (Puts _ _ _) (ap decimal c.drawn_from_left.ensures) c.put_wide.ensures in
+    let down = subst (Puts _ _ _) (ap decimal c.drawn_from_top.ensures) c.put_wide-2.ensures in
+    Puts-then (Puts-then (Puts-then c.put.ensures across) c.put-2.ensures)
     down

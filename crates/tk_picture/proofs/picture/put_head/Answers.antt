@@ -6,11 +6,11 @@ use Rattle.tk_picture.proofs.picture.put_head.Goals as goal
 
 pub returns : goal.returns
 returns g c =
-    Puts-then _ _ _ _ _ _ _
-    (Puts-then _ _ _ _ _ _ _
-    (Puts-then _ _ _ _ _ _ _
-    (Puts-then _ _ _ _ _ _ _ (subst (Puts _ _ _ _) (ap view_line c.view_height.ensures) c.put_view_line.ensures)
+    Puts-then
+    (Puts-then
+    (Puts-then
+    (Puts-then (subst (Puts _ _ _) (ap view_line c.view_height.ensures) c.put_view_line.ensures)
     c.put_title_line.ensures)
     c.put.ensures)
     c.put_heading_line.ensures)
-    (subst (Puts _ _ _ _) (ap (group_line c.args.picture.now.view.frame) c.size.ensures.value) c.put_group_line.ensures)
+    (subst (Puts _ _ _) (ap (group_line c.args.picture.now.view.frame) c.size.ensures.value) c.put_group_line.ensures)

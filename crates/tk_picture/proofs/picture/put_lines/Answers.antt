@@ -11,4 +11,4 @@ put_tour-requires g c =
     cities_of_tour n n c.in-Tour.cities.now refl (subst (Fits n) c.in-Tour.is c.requires)
 
 pub returns-in-Tour : goal.returns-in-Tour
-returns-in-Tour g c = rw c.in-Tour.is (subst (Puts _ _ _ _) (sym (append-nil _)) c.put_tour.ensures)
+returns-in-Tour g c = rw c.in-Tour.is (subst (Puts _ _ _) (sym (append-nil _)) c.put_tour.ensures)

@@ -3,7 +3,5 @@ use Rattle.tk_picture.proofs.picture.put_picture.Goals as goal
 
 pub returns : goal.returns
 returns g c =
-    Puts-then _ _ _ _ _ _ _ (Puts-then
-    _ _ _ _ _ _ _ (Puts-then
-    _ _ _ _ _ _ _ (Puts-then _ _ _ _ _ _ _ (Puts-then _ _ _ _ _ _ _ c.put_head.ensures c.put_lines.ensures)
+    Puts-then (Puts-then (Puts-then (Puts-then (Puts-then c.put_head.ensures c.put_lines.ensures)
     c.put_city_dots.ensures) c.put_depot.ensures) c.put_route_numbers.ensures) c.put.ensures

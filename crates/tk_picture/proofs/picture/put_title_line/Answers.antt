@@ -4,4 +4,4 @@ use Rattle.tk_picture.proofs.picture.put_title_line.Goals as goal
 
 pub returns : goal.returns
 returns g c =
-    Puts-both _ _ _ _ _ _ _ _ (Puts-then _ _ _ _ _ _ _ c.put.ensures c.put_title.ensures) c.put-2.ensures
+    Puts-both _ _ (Puts-then c.put.ensures c.put_title.ensures) c.put-2.ensures

@@ -6,13 +6,13 @@ use Rattle.tk_picture.proofs.picture.write_picture.Goals as goal
 
 pub returns-clause-text : goal.returns-clause-text
 returns-clause-text g c =
-    Writes-end g.W.Sink.taken g.W.Sink.broken c.args.out.now _ _ _ _ _ (text_in c.args.form c.args.picture.now)
+    Writes-end g.W.Sink c.args.out.now _ _ _ _ _ (text_in c.args.form c.args.picture.now)
     c.new-pen.ensures.empty c.put_form.ensures c.end.ensures (search rules)
 
 pub returns-clause-failed : goal.returns-clause-failed
 returns-clause-failed g c =
     let text = text_in c.args.form c.args.picture.now in
-    broken_at_err g.W.Sink.taken g.W.Sink.broken c.args.out.now _ _ text
+    broken_at_err g.W.Sink c.args.out.now _ _ text
     (length_form c.args.form c.args.picture.now c.requires.name c.requires.fits)
-    (Writes-end g.W.Sink.taken g.W.Sink.broken c.args.out.now _ _ _ _ _ text c.new-pen.ensures.empty c.put_form.ensures
+    (Writes-end g.W.Sink c.args.out.now _ _ _ _ _ text c.new-pen.ensures.empty c.put_form.ensures
     c.end.ensures (search rules))

@@ -1,51 +1,14 @@
-use Rattle.std.proofs.Common.{refl, sym, ◌∙◌}
+use Rattle.std.proofs.Common.{◌∙◌, sym, rules}
+use Rattle.std.proofs.lemmas.Iterator.{YieldsList-from_slice}
+use Rattle.std.proofs.lemmas.Iterator.Adapters.{option_map_id}
+use Rattle.std.proofs.lemmas.Iterator.Consumers.{YieldsList-from_copied}
+use Rattle.std.proofs.lemmas.Iterator.Search.{find_from_yields_List}
+use Rattle.tk_problem.specs.WeightWords.{all_planes, plane_word}
+use Rattle.tk_problem_text.specs.HeaderValues.{says}
 use Rattle.tk_problem_text.proofs.header_values.plane_of.Goals as goal
 
-pub returns-then-is : goal.returns-then-is
-returns-then-is c = λ v h. rw (sym (c.is.ensures v h) ∙ c.if-is.true) refl
-
-pub returns-then-is-2 : goal.returns-then-is-2
-returns-then-is-2 c = λ v h. rw (sym (c.is.ensures v h) ∙ c.if-is.false, sym (c.is-2.ensures v h) ∙ c.if-is-2.true) refl
-
-pub returns-then-is-3 : goal.returns-then-is-3
-returns-then-is-3 c =
-    λ v h. rw (
-      sym (c.is.ensures v h) ∙ c.if-is.false,
-      sym (c.is-2.ensures v h)
-          ∙ c.if-is-2.false,
-      sym (c.is-3.ensures v h) ∙ c.if-is-3.true,
-    ) refl
-
-pub returns-then-is-4 : goal.returns-then-is-4
-returns-then-is-4 c =
-    λ v h. rw (
-      sym (c.is.ensures v h) ∙ c.if-is.false,
-      sym (c.is-2.ensures v h)
-          ∙ c.if-is-2.false,
-      sym (c.is-3.ensures v h) ∙ c.if-is-3.false,
-      sym (c.is-4.ensures v h) ∙ c.if-is-4.true,
-    ) refl
-
-pub returns-then-is-5 : goal.returns-then-is-5
-returns-then-is-5 c =
-    λ v h. rw (
-      sym (c.is.ensures v h) ∙ c.if-is.false,
-      sym (c.is-2.ensures v h)
-          ∙ c.if-is-2.false,
-      sym (c.is-3.ensures v h) ∙ c.if-is-3.false,
-      sym (c.is-4.ensures v h)
-          ∙ c.if-is-4.false,
-      sym (c.is-5.ensures v h) ∙ c.if-is-5.true,
-    ) refl
-
 pub returns : goal.returns
-returns c =
-    λ v h. rw (
-      sym (c.is.ensures v h) ∙ c.if-is.false,
-      sym (c.is-2.ensures v h)
-          ∙ c.if-is-2.false,
-      sym (c.is-3.ensures v h) ∙ c.if-is-3.false,
-      sym (c.is-4.ensures v h)
-          ∙ c.if-is-4.false,
-      sym (c.is-5.ensures v h) ∙ c.if-is-5.false,
-    ) refl
+returns c = λ v h.
+    sym (option_map_id c.find.result)
+    ∙ find_from_yields_List (λ kind. says v (plane_word kind)) _ _ c.find.result c.find.ensures.ran
+    (YieldsList-from_copied (YieldsList-from_slice all_planes cc)) (λ x b q k. search (rules, h, k))

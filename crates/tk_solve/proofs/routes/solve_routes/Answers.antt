@@ -18,9 +18,5 @@ returns c =
       merged = _;
       savings = c.in_ok-routes.ensures.merged;
       improved = improved.improved;
-      before = improved.before;
-      after = improved.after;
       valid = improved.routes;
-      moves = improved.moves;
-      tests = improved.tests;
     }

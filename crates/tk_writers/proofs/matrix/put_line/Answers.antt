@@ -10,9 +10,9 @@ loop-m-preserved g c = record {
   puts = λ table gives.
       let first = c.places_on_line-first.result.0 in
       rw (spaced_more table c.args.f c.args.k (first + 1) c.loop-m.m c.loop-m.auto.m)
-      (Puts-then _ _ _ _ _ _ _ (c.loop-m.invariant.puts table gives)
-      (Puts-then _ _ _ _ _ _ _ c.put.ensures
-      (subst (Puts _ _ _ _) (ap decimal (c.entry-in-loop-m.ensures table gives)) c.put_number-in-loop-m.ensures)));
+      (Puts-then (c.loop-m.invariant.puts table gives)
+      (Puts-then c.put.ensures
+      (subst (Puts _ _ _) (ap decimal (c.entry-in-loop-m.ensures table gives)) c.put_number-in-loop-m.ensures)));
 }
 
 pub returns-clause-puts : goal.returns-clause-puts
@@ -21,7 +21,7 @@ returns-clause-puts g c = λ table gives.
     let end = c.places_on_line-first.result.1 in
     let some : first < end = omega (arith, c.places_on_line-first.ensures.order) in
     let all : c.loop-m.m ≡ end = omega (arith, c.loop-m.auto.m-end) in
-    subst (Puts _ _ _ _)
+    subst (Puts _ _ _)
     (matrix_line-parts table c.args.f c.args.n c.args.k first end c.places_on_line-first.ensures.places some)
-    (Puts-then _ _ _ _ _ _ _ (subst (Puts _ _ _ _) (ap decimal (c.entry.ensures table gives)) c.put_number.ensures)
-    (Puts-then _ _ _ _ _ _ _ (rw (← all) (c.loop-m.invariant.puts table gives)) c.put-2.ensures))
+    (Puts-then (subst (Puts _ _ _) (ap decimal (c.entry.ensures table gives)) c.put_number.ensures)
+    (Puts-then (rw (← all) (c.loop-m.invariant.puts table gives)) c.put-2.ensures))

@@ -7,16 +7,16 @@ use Rattle.tk_writers.proofs.matrix.write_matrix.Goals as goal
 
 pub returns-clause-text : goal.returns-clause-text
 returns-clause-text g c = λ table gives.
-    Writes-end g.W.Sink.taken g.W.Sink.broken c.args.w.now
+    Writes-end g.W.Sink c.args.w.now
     _ _ _ _ _ (matrix_text c.args.name.now c.args.n table c.args.f)
     c.new-pen.ensures.empty (c.put_matrix.ensures.puts table gives) c.end.ensures (search rules)
 
 pub returns-clause-failed : goal.returns-clause-failed
 returns-clause-failed g c = λ short.
     let table = c.requires.table.0 in
-    broken_at_err g.W.Sink.taken g.W.Sink.broken c.args.w.now _ _ (matrix_text c.args.name.now c.args.n table c.args.f)
+    broken_at_err g.W.Sink c.args.w.now _ _ (matrix_text c.args.name.now c.args.n table c.args.f)
     (length_matrix_text c.args.name.now c.args.n table c.args.f short c.requires.few)
-    (Writes-end g.W.Sink.taken g.W.Sink.broken c.args.w.now
+    (Writes-end g.W.Sink c.args.w.now
     _ _ _ _ _ (matrix_text c.args.name.now c.args.n table c.args.f)
     c.new-pen.ensures.empty (c.put_matrix.ensures.puts table c.requires.table.1) c.end.ensures (search rules))
 

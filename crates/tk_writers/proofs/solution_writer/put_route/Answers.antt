@@ -6,8 +6,8 @@ use Rattle.tk_writers.proofs.solution_writer.put_route.Goals as goal
 
 pub returns : goal.returns
 returns g c =
-    subst (Puts _ _ _ _) (route_line-pieces c.args.number c.args.customers.now)
-    (Puts-then _ _ _ _ _ _ _ c.put.ensures
-    (Puts-then _ _ _ _ _ _ _ c.put_number.ensures
-    (Puts-then _ _ _ _ _ _ _ c.put-2.ensures
-    (Puts-then _ _ _ _ _ _ _ c.put_spaced.ensures c.put-3.ensures))))
+    subst (Puts _ _ _) (route_line-pieces c.args.number c.args.customers.now)
+    (Puts-then c.put.ensures
+    (Puts-then c.put_number.ensures
+    (Puts-then c.put-2.ensures
+    (Puts-then c.put_spaced.ensures c.put-3.ensures))))

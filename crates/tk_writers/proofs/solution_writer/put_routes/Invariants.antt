@@ -7,4 +7,4 @@ use Rattle.tk_writers.proofs.solution_writer.put_routes.Given as goal
 
 abbrev pub invariant-loop-i : goal.invariant-loop-i
 invariant-loop-i g l =
-    Puts g.W.Sink.taken g.W.Sink.broken l.initial.pen l.pen (written_routes 1 (map (λ r. r.items) (take l.i l.routes)))
+    Puts g.W.Sink l.initial.pen l.pen (written_routes 1 (map (λ r. r.items) (take l.i l.routes)))

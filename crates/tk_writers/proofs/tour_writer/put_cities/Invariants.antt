@@ -7,5 +7,5 @@ use Rattle.tk_writers.proofs.tour_writer.put_cities.Given as goal
 
 abbrev pub invariant-loop-city : goal.invariant-loop-city
 invariant-loop-city g l =
-    Puts g.W.Sink.taken g.W.Sink.broken l.initial.pen l.pen
+    Puts g.W.Sink l.initial.pen l.pen
     (flat_map (λ c. line (decimal c)) (take l.city-index l.cities))

@@ -6,12 +6,12 @@ use Rattle.tk_writers.proofs.tour_writer.put_tour_head.Goals as goal
 
 pub returns : goal.returns
 returns g c =
-    subst (Puts _ _ _ _) (tour_head-pieces c.args.name.now c.args.size c.args.cities)
-    (Puts-then _ _ _ _ _ _ _ c.put.ensures
-    (Puts-then _ _ _ _ _ _ _ c.put-2.ensures
-    (Puts-then _ _ _ _ _ _ _ c.put-3.ensures
-    (Puts-then _ _ _ _ _ _ _ c.put_number.ensures
-    (Puts-then _ _ _ _ _ _ _ c.put-4.ensures
-    (Puts-then _ _ _ _ _ _ _ c.put_number-2.ensures
-    (Puts-then _ _ _ _ _ _ _ c.put-5.ensures
-    (Puts-then _ _ _ _ _ _ _ c.put_number-3.ensures c.put-6.ensures))))))))
+    subst (Puts _ _ _) (tour_head-pieces c.args.name.now c.args.size c.args.cities)
+    (Puts-then c.put.ensures
+    (Puts-then c.put-2.ensures
+    (Puts-then c.put-3.ensures
+    (Puts-then c.put_number.ensures
+    (Puts-then c.put-4.ensures
+    (Puts-then c.put_number-2.ensures
+    (Puts-then c.put-5.ensures
+    (Puts-then c.put_number-3.ensures c.put-6.ensures))))))))

@@ -14,7 +14,7 @@ returns-in-Err c =
     let broken = sources.has_failed {R = Bor (List ℕ)} c.read_problem.new.source in
     let left = Some c.read_problem.new.source.inner.now in
     let told = subst (λ (o : Option (List ℕ)). IsFaultWhereTold problem_texts broken o left fault)
-    (ap (λ v. Some v.now) c.new.ensures.inner) c.in-Err.ensures.err in
+    (ap (λ v. Some v.now) c.new.ensures.inner) c.in-Err.ensures.reads.err in
     let is = subst (λ n. c.of_text.result ≡ text_answer 1 fault n) (sym c.of_text.ensures.failure.size)
     c.of_text.ensures.is in
     record {

@@ -1,13 +1,9 @@
-use Rattle.std.proofs.Common.{ap, Some, Bor, List, ℕ}
-use Rattle.std.specs.Global.{Vec}
+use Rattle.std.proofs.Common.{ap, Some}
 use Rattle.tk_problem.specs.declared.weights.Format.TheVariants.{FullMatrix}
 use Rattle.tk_writers.specs.Puts.{Writes}
-use Rattle.tk_writers.specs.Sinks as sinks
-use Rattle.tk_writers.specs.declared.output.sink.ToWrite.{ToWrite}
-use Rattle.tk_words.specs.Sources as sources
-use Rattle.tk_words.specs.declared.sources.source.FromRead.{FromRead}
 use Rattle.tk_engines.specs.Engine.{NoText}
 use Rattle.tk_engines.specs.MatrixOf.{matrix_task}
+use Rattle.tourkit_c.proofs.InMemory.{from_memory, to_memory}
 use Rattle.tourkit_c.proofs.Stops.{stop_of}
 use Rattle.tourkit_c.proofs.lists.matrix_text.Goals as goal
 use Rattle.tourkit_c.specs.Answers.{NeverClashes, NoFault}
@@ -15,10 +11,10 @@ use Rattle.tourkit_c.specs.Answers.{NeverClashes, NoFault}
 pub returns-in-Err : goal.returns-in-Err
 returns-in-Err c = record {
   ok = tt;
-  err = stop_of {S = FromRead (Bor (List ℕ))} (matrix_task FullMatrix) NeverClashes NoFault NoFault
-      (λ s. Some s.inner.now) sources.has_failed c.new-problem.result c.matrix_engine.new.problem
+  err = stop_of (matrix_task FullMatrix) NeverClashes NoFault NoFault
+      from_memory c.new-problem.result c.matrix_engine.new.problem
       c.args.problem.now (ap (λ v. Some v.now) c.new-problem.ensures.inner) (λ _. NoText)
-      (Writes {W = ToWrite (Vec ℕ)} (λ s. Some s.inner.items) sinks.has_write_failed c.new-text.result
+      (Writes to_memory c.new-text.result
       c.matrix_engine.new.out)
       (λ p v said fits h. elim h [ ]) (λ p b f said read clash. absurd cc) c.in-Err.fault c.in-Err.ensures.ends;
 }

@@ -1,11 +1,7 @@
-use Rattle.std.proofs.Common.{◌∙◌, ap, refl, Some, Bor, List, ℕ}
-use Rattle.std.specs.Global.{Vec}
+use Rattle.std.proofs.Common.{◌∙◌, ap, refl, Some}
 use Rattle.std.specs.Prelude.{is_some}
-use Rattle.tk_writers.specs.Sinks as sinks
-use Rattle.tk_writers.specs.declared.output.sink.ToWrite.{ToWrite}
-use Rattle.tk_words.specs.Sources as sources
-use Rattle.tk_words.specs.declared.sources.source.FromRead.{FromRead}
 use Rattle.tk_engines.specs.Solve.{ReadsInitial, WritesFiles, solve_task}
+use Rattle.tourkit_c.proofs.InMemory.{from_memory, to_memory}
 use Rattle.tourkit_c.proofs.SolveTexts.{initial_clash, initial_stop, solve_said}
 use Rattle.tourkit_c.proofs.Stops.{stop_of}
 use Rattle.tourkit_c.proofs.solve.solved.Goals as goal
@@ -14,13 +10,12 @@ use Rattle.tourkit_c.specs.Solved.{IsClashOf, IsInitialFault}
 
 pub returns-in-Ok : goal.returns-in-Ok
 returns-in-Ok c = record {
-  ok = solve_said {S = FromRead (Bor (List ℕ))} {I = FromRead (Bor (List ℕ))} {F = ToWrite (Vec ℕ)}
-      {W = ToWrite (Vec ℕ)} (λ s. Some s.inner.now) sources.has_failed c.new-problem.result c.solve_engine.new.problem
-      (λ s. Some s.inner.now)
-      sources.has_failed c.new-initial.result c.solve_engine.new.initial (λ s. Some s.inner.items)
-      sinks.has_write_failed c.new-file.result c.solve_engine.new.file (λ s. Some s.inner.items)
-      sinks.has_write_failed c.new-out.result c.solve_engine.new.out c.args.params.now _ _ c.args.problem.now
-      c.args.initial.now c.solve_engine.new.file.inner.items c.solve_engine.new.out.inner.items c.in-Ok.ensures.ends
+  ok = solve_said from_memory c.new-problem.result c.solve_engine.new.problem
+      from_memory c.new-initial.result c.solve_engine.new.initial
+      to_memory c.new-file.result c.solve_engine.new.file
+      to_memory c.new-out.result c.solve_engine.new.out
+      c.args.params.now _ _ c.args.problem.now c.args.initial.now c.solve_engine.new.file.inner.items
+      c.solve_engine.new.out.inner.items c.in-Ok.ensures.ends
       (ap (λ v. Some v.now) c.new-problem.ensures.inner) (ap (λ v. Some v.now) c.new-initial.ensures.inner)
       (ap (λ v. Some v.items) c.new-file.ensures.inner ∙ ap Some c.new.ensures.items) refl
       (ap (λ v. Some v.items) c.new-out.ensures.inner ∙ ap Some c.new-2.ensures.items) refl;
@@ -32,20 +27,18 @@ returns-in-Err c =
     let given = is_some c.args.params.now.initial_tour_file in
     record {
       ok = tt;
-      err = stop_of {S = FromRead (Bor (List ℕ))} (solve_task c.args.params.now _)
+      err = stop_of (solve_task c.args.params.now _)
           (IsClashOf given c.args.problem.now c.args.initial.now) (IsInitialFault given c.args.initial.now) NoFault
-          (λ s. Some s.inner.now) sources.has_failed c.new-problem.result c.solve_engine.new.problem
-          c.args.problem.now (ap (λ v. Some v.now) c.new-problem.ensures.inner)
-          (λ _. ReadsInitial {S = FromRead (Bor (List ℕ))} given (λ s. Some s.inner.now) sources.has_failed
-          c.new-initial.result c.solve_engine.new.initial)
-          (WritesFiles {F = ToWrite (Vec ℕ)} {W = ToWrite (Vec ℕ)} (λ s. Some s.inner.items) sinks.has_write_failed
-          (λ s. Some s.inner.items) sinks.has_write_failed c.new-file.result c.solve_engine.new.file c.new-out.result
+          from_memory c.new-problem.result c.solve_engine.new.problem c.args.problem.now
+          (ap (λ v. Some v.now) c.new-problem.ensures.inner)
+          (λ _. ReadsInitial given from_memory c.new-initial.result c.solve_engine.new.initial)
+          (WritesFiles to_memory to_memory c.new-file.result c.solve_engine.new.file c.new-out.result
           c.solve_engine.new.out)
-          (λ p v said fits h. initial_stop {S = FromRead (Bor (List ℕ))} (λ s. Some s.inner.now) sources.has_failed
-          c.new-initial.result c.solve_engine.new.initial c.args.params.now c.args.problem.now c.args.initial.now
+          (λ p v said fits h. initial_stop from_memory c.new-initial.result c.solve_engine.new.initial
+          c.args.params.now c.args.problem.now c.args.initial.now
           (ap (λ v. Some v.now) c.new-initial.ensures.inner) p v said fits h)
-          (λ p b f said read clash. initial_clash {S = FromRead (Bor (List ℕ))} (λ s. Some s.inner.now)
-          sources.has_failed c.new-initial.result c.solve_engine.new.initial c.args.params.now c.args.problem.now
-          c.args.initial.now (ap (λ v. Some v.now) c.new-initial.ensures.inner) p b f said read clash)
+          (λ p b f said read clash. initial_clash from_memory c.new-initial.result c.solve_engine.new.initial
+          c.args.params.now c.args.problem.now c.args.initial.now
+          (ap (λ v. Some v.now) c.new-initial.ensures.inner) p b f said read clash)
           c.in-Err.fault c.in-Err.ensures.ends;
     }

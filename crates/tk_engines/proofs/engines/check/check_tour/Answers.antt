@@ -1,6 +1,7 @@
 use Rattle.std.proofs.Common.{refl}
 use Rattle.tk_problem_text.specs.ProblemOf.{problem_is}
 use Rattle.tk_engines.proofs.Lengths.{IsCheck-of}
+use Rattle.tk_engines.proofs.TextsRead.{is_read}
 use Rattle.tk_engines.proofs.engines.check.check_tour.Goals as goal
 
 pub returns-in-Ok-write_verdict-clause-ends : goal.returns-in-Ok-write_verdict-clause-ends
@@ -12,7 +13,7 @@ returns-in-Ok-write_verdict-clause-ends g c = record {
     is_problem = refl;
     fits = refl;
     is_second =
-        record { answer = c.in-Ok.ensures.ok; some_text = c.in-Ok.ensures.some_text; intact = c.in-Ok.ensures.intact };
+        is_read c.in-Ok.ensures.reads;
   };
   together = refl;
   gives = IsCheck-of c.args.problem.now _ _ c.in-Ok-check.verdict c.as_slice-cities.ensures.value c.in-Ok-check.ensures;
@@ -30,11 +31,7 @@ returns-clause-ends g c = (
       is_problem = refl;
       fits = refl;
       is_second =
-          record {
-            answer = c.in-Ok.ensures.ok;
-            some_text = c.in-Ok.ensures.some_text;
-            intact = c.in-Ok.ensures.intact;
-          };
+          is_read c.in-Ok.ensures.reads;
     };
     together = refl;
     gives = IsCheck-of c.args.problem.now _ _ c.in-Ok-check.verdict c.as_slice-cities.ensures.value

@@ -26,7 +26,7 @@ pub returns-clause-text : goal.returns-clause-text
 returns-clause-text g c =
     let weights = c.args.problem.now.weights in
     let size = c.of-table.ensures.size in
-    subst (λ (given : List ℕ). Writes g.W.Sink.taken g.W.Sink.broken c.args.out.now c.write_matrix.new.w
+    subst (λ (given : List ℕ). Writes g.W.Sink c.args.out.now c.write_matrix.new.w
     c.write_matrix.result (matrix_text given c.args.problem.now.n (read_distance (weights_are weights)) c.args.format))
     c.deref.ensures.value
     (c.write_matrix.ensures.text (read_distance (weights_are weights)) (record {

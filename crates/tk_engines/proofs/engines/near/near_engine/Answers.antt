@@ -3,15 +3,16 @@ use Rattle.tk_writers.specs.Puts.{Writes}
 use Rattle.tk_engines.specs.Engine.{NoText, ReadsProblem}
 use Rattle.tk_engines.specs.NearText.{near_task}
 use Rattle.tk_engines.proofs.Ends.{problem_read}
+use Rattle.tk_engines.proofs.TextsRead.{is_read}
 use Rattle.tk_engines.proofs.engines.near.near_engine.Goals as goal
 
 pub returns-in-Ok-clause-ends : goal.returns-in-Ok-clause-ends
 returns-in-Ok-clause-ends g c =
     problem_read (near_task c.args.k)
-    (ReadsProblem g.R.Source.left g.R.Source.broken c.args.problem.now c.read_problem.new.source) (λ _. NoText)
-    (Writes g.W.Sink.taken g.W.Sink.broken c.args.out.now c.near_problem.new.out)
+    (ReadsProblem g.R.Source c.args.problem.now c.read_problem.new.source) (λ _. NoText)
+    (Writes g.W.Sink c.args.out.now c.near_problem.new.out)
     (problem_is c.in-Ok.problem)
-    (record { answer = c.in-Ok.ensures.ok; some_text = c.in-Ok.ensures.some_text; intact = c.in-Ok.ensures.intact })
+    (is_read c.in-Ok.ensures.reads)
     c.near_problem.result c.near_problem.ensures.ends
 
 pub returns-in-Ok-clause-quiet : goal.returns-in-Ok-clause-quiet

@@ -12,14 +12,14 @@ pub loop-city-preserved : goal.loop-city-preserved
 loop-city-preserved g c =
     let near = c.args.near.now in
     rw (lines_more (λ x. near_line x (near_of near x)) c.loop-city.city c.loop-city.auto.city)
-    (Puts-then _ _ _ _ _ _ _ c.loop-city.invariant
-    (Puts-then _ _ _ _ _ _ _ (Puts-then _ _ _ _ _ _ _ (Puts-then _ _ _ _ _ _ _ c.put_number.ensures c.put.ensures)
-    (subst (Puts _ _ _ _) (ap spaced_numbers c.of.ensures.value) c.put_spaced.ensures)) c.put-in-loop-city.ensures))
+    (Puts-then c.loop-city.invariant
+    (Puts-then (Puts-then (Puts-then c.put_number.ensures c.put.ensures)
+    (subst (Puts _ _ _) (ap spaced_numbers c.of.ensures.value) c.put_spaced.ensures)) c.put-in-loop-city.ensures))
 
 pub returns : goal.returns
 returns g c =
     let near = c.args.near.now in
     let all : c.loop-city.city - 1 ≡ near.size =
     omega (arith, c.loop-city.auto.city-end, c.size-city-end.ensures.value) in
-    subst (Puts _ _ _ _) (ap (λ count. flat_map (λ x. near_line x (near_of near x)) (range_with_len 1 count)) all)
+    subst (Puts _ _ _) (ap (λ count. flat_map (λ x. near_line x (near_of near x)) (range_with_len 1 count)) all)
     c.loop-city.invariant

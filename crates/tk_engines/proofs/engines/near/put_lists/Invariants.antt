@@ -9,5 +9,5 @@ use Rattle.tk_engines.proofs.engines.near.put_lists.Given as goal
 
 abbrev pub invariant-loop-city : goal.invariant-loop-city
 invariant-loop-city g l =
-    Puts g.W.Sink.taken g.W.Sink.broken l.initial.pen l.pen
+    Puts g.W.Sink l.initial.pen l.pen
     (flat_map (λ c. near_line c (near_of l.near c)) (range_with_len 1 (l.city - 1)))

@@ -1,6 +1,6 @@
 use Rattle.std.proofs.Common.{Bool, refl, subst, sym, true}
 use Rattle.tk_problem_text.specs.ProblemOf.{problem_is}
-use Rattle.tk_engines.specs.Engine.{EndsByProblem, HasRead, IsUntouched}
+use Rattle.tk_engines.specs.Engine.{EndsByProblem, HasRead, IsUnread}
 use Rattle.tk_engines.specs.Plot.{Drawn, Nothing, ReadsClaim, WritesOutput, plot_task}
 use Rattle.tk_engines.specs.declared.engines.plotted.Plotted.TheVariants as plotted
 use Rattle.tk_engines.proofs.Ends.{second_reached}
@@ -50,17 +50,17 @@ returns-then-not-has_claim-clause-ends g c = (
 pub returns-clause-ends : goal.returns-clause-ends
 returns-clause-ends g c =
     subst (λ (b : Bool). EndsByProblem (plot_task c.args.form b) (HasRead (problem_is c.args.problem.now))
-    (ReadsClaim b g.C.Source.left g.C.Source.broken c.args.claim.now c.plot_claim.new.claim)
-    (WritesOutput g.W.Sink.taken g.W.Sink.broken g.T.Sink.taken g.T.Sink.broken c.args.out.now c.plot_claim.new.out
+    (ReadsClaim b g.C.Source c.args.claim.now c.plot_claim.new.claim)
+    (WritesOutput g.W.Sink g.T.Sink c.args.out.now c.plot_claim.new.out
     c.args.told.now c.plot_claim.new.told) c.plot_claim.result)
     (sym c.if-not-has_claim.false) c.plot_claim.ensures.ends
 
 pub returns-clause-unread : goal.returns-clause-unread
 returns-clause-unread g c =
-    second_reached (IsUntouched g.C.Source.left g.C.Source.broken c.args.claim.now c.plot_claim.new.claim)
+    second_reached (IsUnread g.C.Source c.args.claim.now c.plot_claim.new.claim)
     (plot_task c.args.form true)
-    (ReadsClaim true g.C.Source.left g.C.Source.broken c.args.claim.now c.plot_claim.new.claim)
-    (WritesOutput g.W.Sink.taken g.W.Sink.broken g.T.Sink.taken g.T.Sink.broken c.args.out.now c.plot_claim.new.out
+    (ReadsClaim true g.C.Source c.args.claim.now c.plot_claim.new.claim)
+    (WritesOutput g.W.Sink g.T.Sink c.args.out.now c.plot_claim.new.out
     c.args.told.now c.plot_claim.new.told)
     (problem_is c.args.problem.now) c.in-Some.ensures.some.fits c.plot_claim.result c.plot_claim.ensures.ends
 

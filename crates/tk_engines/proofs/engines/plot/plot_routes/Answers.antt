@@ -7,6 +7,7 @@ use Rattle.tk_engines.proofs.ReadTables.{instance_read}
 use Rattle.tk_engines.specs.declared.engines.plotted.Plotted.TheVariants as plotted
 use Rattle.tk_engines.specs.Plot.{RoutesClaim, IsRouteOutput}
 use Rattle.tk_engines.proofs.Shown.{routed_of, some_of}
+use Rattle.tk_engines.proofs.TextsRead.{is_read}
 use Rattle.tk_engines.proofs.engines.plot.plot_routes.Goals as goal
 
 pub returns-in_default-clause-ends : goal.returns-in_default-clause-ends
@@ -20,11 +21,7 @@ returns-in_default-clause-ends g c =
         is_second = (
           refl,
           routed_of p.routing _ c.requires.instance.routing,
-          record {
-            answer = c.in-Ok.ensures.ok;
-            some_text = c.in-Ok.ensures.some_text;
-            intact = c.in-Ok.ensures.intact;
-          },
+          is_read c.in-Ok.ensures.reads,
         );
       },
       refl,
@@ -48,11 +45,7 @@ returns-in-Ok-show_routes-clause-ends g c =
             is_second = (
               refl,
               routed_of p.routing _ c.requires.instance.routing,
-              record {
-                answer = c.in-Ok.ensures.ok;
-                some_text = c.in-Ok.ensures.some_text;
-                intact = c.in-Ok.ensures.intact;
-              },
+              is_read c.in-Ok.ensures.reads,
             );
           };
       together = refl;
@@ -83,11 +76,7 @@ returns-clause-ends g c =
               is_second = (
                 refl,
                 routed_of p.routing _ c.requires.instance.routing,
-                record {
-                  answer = c.in-Ok.ensures.ok;
-                  some_text = c.in-Ok.ensures.some_text;
-                  intact = c.in-Ok.ensures.intact;
-                },
+                is_read c.in-Ok.ensures.reads,
               );
             };
         together = refl;

@@ -2,6 +2,7 @@ use Rattle.std.proofs.Common.{ap, refl}
 use Rattle.tk_problem_text.specs.ProblemOf.{problem_is, routing_is}
 use Rattle.tk_engines.specs.declared.engines.plotted.Plotted.TheVariants as plotted
 use Rattle.tk_engines.specs.Plot.{TourClaim}
+use Rattle.tk_engines.proofs.TextsRead.{is_read}
 use Rattle.tk_engines.proofs.engines.plot.plot_tour.Goals as goal
 
 pub returns-in_default-clause-ends : goal.returns-in_default-clause-ends
@@ -15,11 +16,7 @@ returns-in_default-clause-ends g c =
         is_second = (
           refl,
           ap routing_is c.requires.tsp,
-          record {
-            answer = c.in-Ok.ensures.ok;
-            some_text = c.in-Ok.ensures.some_text;
-            intact = c.in-Ok.ensures.intact;
-          },
+          is_read c.in-Ok.ensures.reads,
         );
       },
       refl,
@@ -40,11 +37,7 @@ returns-in-Ok-show_tour-clause-ends g c =
             is_second = (
               refl,
               ap routing_is c.requires.tsp,
-              record {
-                answer = c.in-Ok.ensures.ok;
-                some_text = c.in-Ok.ensures.some_text;
-                intact = c.in-Ok.ensures.intact;
-              },
+              is_read c.in-Ok.ensures.reads,
             );
           };
       together = refl;
@@ -68,11 +61,7 @@ returns-clause-ends g c =
               is_second = (
                 refl,
                 ap routing_is c.requires.tsp,
-                record {
-                  answer = c.in-Ok.ensures.ok;
-                  some_text = c.in-Ok.ensures.some_text;
-                  intact = c.in-Ok.ensures.intact;
-                },
+                is_read c.in-Ok.ensures.reads,
               );
             };
         together = refl;

@@ -2,6 +2,7 @@ use Rattle.std.proofs.Common.{refl}
 use Rattle.std.specs.Prelude.{map}
 use Rattle.tk_problem_text.specs.ProblemOf.{problem_is}
 use Rattle.tk_engines.proofs.RouteChecks.{verdict_read, routing_fits}
+use Rattle.tk_engines.proofs.TextsRead.{is_read, is_refused}
 use Rattle.tk_engines.proofs.engines.route_check.check_solution.Goals as goal
 
 pub returns-in-Err-clause-ends : goal.returns-in-Err-clause-ends
@@ -12,11 +13,7 @@ returns-in-Err-clause-ends g c = record {
   refused = (
     c.in-Err.fault,
     refl,
-    record {
-      fault = c.in-Err.ensures.err;
-      some_fault = c.in-Err.ensures.some_fault;
-      intact = c.in-Err.ensures.intact;
-    },
+    is_refused c.in-Err.ensures.reads,
   );
 }
 
@@ -29,7 +26,7 @@ returns-in-Ok-write_route_verdict-clause-ends g c = record {
     is_problem = refl;
     fits = routing_fits c.args.problem.now _ c.requires;
     is_second =
-        record { answer = c.in-Ok.ensures.ok; some_text = c.in-Ok.ensures.some_text; intact = c.in-Ok.ensures.intact };
+        is_read c.in-Ok.ensures.reads;
   };
   together = refl;
   gives =
@@ -52,11 +49,7 @@ returns-clause-ends g c = (
       is_problem = refl;
       fits = routing_fits c.args.problem.now _ c.requires;
       is_second =
-          record {
-            answer = c.in-Ok.ensures.ok;
-            some_text = c.in-Ok.ensures.some_text;
-            intact = c.in-Ok.ensures.intact;
-          };
+          is_read c.in-Ok.ensures.reads;
     };
     together = refl;
     gives =

@@ -3,16 +3,17 @@ use Rattle.tk_writers.specs.Puts.{Writes}
 use Rattle.tk_engines.specs.Engine.{ReadsProblem, ReadsSolution}
 use Rattle.tk_engines.specs.RouteCheck.{route_check_task}
 use Rattle.tk_engines.proofs.Ends.{problem_read}
+use Rattle.tk_engines.proofs.TextsRead.{is_read}
 use Rattle.tk_engines.proofs.engines.route_check.route_check_engine.Goals as goal
 
 pub returns-in-Ok-clause-ends : goal.returns-in-Ok-clause-ends
 returns-in-Ok-clause-ends g c =
     problem_read route_check_task
-    (ReadsProblem g.P.Source.left g.P.Source.broken c.args.problem.now c.read_problem.new.source)
-    (λ _. ReadsSolution g.S.Source.left g.S.Source.broken c.args.solution.now c.check_problem.new.solution)
-    (Writes g.W.Sink.taken g.W.Sink.broken c.args.out.now c.check_problem.new.out)
+    (ReadsProblem g.P.Source c.args.problem.now c.read_problem.new.source)
+    (λ _. ReadsSolution g.S.Source c.args.solution.now c.check_problem.new.solution)
+    (Writes g.W.Sink c.args.out.now c.check_problem.new.out)
     (problem_is c.in-Ok.problem)
-    (record { answer = c.in-Ok.ensures.ok; some_text = c.in-Ok.ensures.some_text; intact = c.in-Ok.ensures.intact })
+    (is_read c.in-Ok.ensures.reads)
     c.check_problem.result c.check_problem.ensures.ends
 
 pub returns-in-Ok-clause-quiet : goal.returns-in-Ok-clause-quiet

@@ -13,7 +13,7 @@ use Rattle.tk_engines.proofs.engines.solve.solve_from.Goals as goal
 pub returns-in_err-check_initial-clause-ends : goal.returns-in_err-check_initial-clause-ends
 returns-in_err-check_initial-clause-ends g c =
     initial_failed c.args.params.now (WereShown g.V.Watch.shows c.args.watch.now c.args.watch.now)
-    (WritesFiles g.F.Sink.taken g.F.Sink.broken g.W.Sink.taken g.W.Sink.broken c.args.file.now c.args.file.now
+    (WritesFiles g.F.Sink g.W.Sink c.args.file.now c.args.file.now
     c.args.out.now c.args.out.now)
     (problem_is c.args.problem.now) (cities_in c.args.initial.now) c.requires c.in_err-check_initial.field-0.0
     c.from_residual.result
@@ -21,13 +21,13 @@ returns-in_err-check_initial-clause-ends g c =
 
 pub returns-in_err-check_initial-clause-quiet : goal.returns-in_err-check_initial-clause-quiet
 returns-in_err-check_initial-clause-quiet g c =
-    IfErr-quiet (AreUntouched g.F.Sink.taken g.F.Sink.broken g.W.Sink.taken g.W.Sink.broken c.args.file.now
+    IfErr-quiet (AreUntouched g.F.Sink g.W.Sink c.args.file.now
     c.args.file.now c.args.out.now c.args.out.now) ((refl, refl), (refl, refl)) c.from_residual.result
 
 pub returns-in_err-check_initial-clause-failed : goal.returns-in_err-check_initial-clause-failed
 returns-in_err-check_initial-clause-failed g c =
     initial_unfailed c.args.params.now (WereShown g.V.Watch.shows c.args.watch.now c.args.watch.now)
-    (WritesFiles g.F.Sink.taken g.F.Sink.broken g.W.Sink.taken g.W.Sink.broken c.args.file.now c.args.file.now
+    (WritesFiles g.F.Sink g.W.Sink c.args.file.now c.args.file.now
     c.args.out.now c.args.out.now)
     (problem_is c.args.problem.now) (cities_in c.args.initial.now) c.requires
     (HasFailed (g.F.Sink.broken c.args.file.now) (g.W.Sink.broken c.args.out.now)) c.in_err-check_initial.field-0.0
@@ -44,7 +44,7 @@ returns-in-Some-clause-ends g c =
     let initial : Option (List ℕ) = cities_in c.args.initial.now in
     let i = instance_of c.in-Some.cvrp in
     let Writes : Writing Files =
-    WritesFiles g.F.Sink.taken g.F.Sink.broken g.W.Sink.taken g.W.Sink.broken c.args.file.now c.solve_cvrp.new.file
+    WritesFiles g.F.Sink g.W.Sink c.args.file.now c.solve_cvrp.new.file
     c.args.out.now c.solve_cvrp.new.out in
     let Watched : List Event → Type 0 = WereShown g.V.Watch.shows c.args.watch.now c.args.watch.now in
     given_ends p Watched Writes problem initial c.requires (AreRoutesOf p i) _ c.in_ok-check_initial.ensures.is
@@ -55,9 +55,9 @@ returns-in-Some-clause-ends g c =
 pub returns-in-Some-clause-quiet : goal.returns-in-Some-clause-quiet
 returns-in-Some-clause-quiet g c =
     given_quiet (AreRoutesOf c.args.params.now (instance_of c.in-Some.cvrp))
-    (WritesFiles g.F.Sink.taken g.F.Sink.broken g.W.Sink.taken g.W.Sink.broken c.args.file.now c.solve_cvrp.new.file
+    (WritesFiles g.F.Sink g.W.Sink c.args.file.now c.solve_cvrp.new.file
     c.args.out.now c.solve_cvrp.new.out)
-    (AreUntouched g.F.Sink.taken g.F.Sink.broken g.W.Sink.taken g.W.Sink.broken c.args.file.now
+    (AreUntouched g.F.Sink g.W.Sink c.args.file.now
     c.solve_cvrp.new.file c.args.out.now c.solve_cvrp.new.out) c.solve_cvrp.result c.solve_cvrp.ensures.gives
 
 pub returns-in-Some-clause-unwatched : goal.returns-in-Some-clause-unwatched
@@ -68,18 +68,18 @@ pub returns-in-None-clause-quiet : goal.returns-in-None-clause-quiet
 returns-in-None-clause-quiet g c =
     given_quiet (IsTourWritten c.args.params.now (WereShown g.V.Watch.shows c.args.watch.now c.solve_tsp.new.watch)
     (problem_is c.args.problem.now) (cities_in c.args.initial.now))
-    (WritesFiles g.F.Sink.taken g.F.Sink.broken g.W.Sink.taken g.W.Sink.broken c.args.file.now c.solve_tsp.new.file
+    (WritesFiles g.F.Sink g.W.Sink c.args.file.now c.solve_tsp.new.file
     c.args.out.now c.solve_tsp.new.out)
-    (AreUntouched g.F.Sink.taken g.F.Sink.broken g.W.Sink.taken g.W.Sink.broken c.args.file.now
+    (AreUntouched g.F.Sink g.W.Sink c.args.file.now
     c.solve_tsp.new.file c.args.out.now c.solve_tsp.new.out) c.solve_tsp.result c.solve_tsp.ensures.gives
 
 pub returns-in-None-clause-unwatched : goal.returns-in-None-clause-unwatched
 returns-in-None-clause-unwatched g c =
     given_searched (IsTourWritten c.args.params.now (WereShown g.V.Watch.shows c.args.watch.now c.solve_tsp.new.watch)
     (problem_is c.args.problem.now) (cities_in c.args.initial.now))
-    (WritesFiles g.F.Sink.taken g.F.Sink.broken g.W.Sink.taken g.W.Sink.broken c.args.file.now c.solve_tsp.new.file
+    (WritesFiles g.F.Sink g.W.Sink c.args.file.now c.solve_tsp.new.file
     c.args.out.now c.solve_tsp.new.out)
-    (AreUntouched g.F.Sink.taken g.F.Sink.broken g.W.Sink.taken g.W.Sink.broken c.args.file.now
+    (AreUntouched g.F.Sink g.W.Sink c.args.file.now
     c.solve_tsp.new.file c.args.out.now c.solve_tsp.new.out)
     (c.solve_tsp.new.watch ≡ c.args.watch.now) c.solve_tsp.result c.solve_tsp.ensures.gives
 
@@ -89,7 +89,7 @@ returns-in-None-clause-ends g c =
     let problem = problem_is c.args.problem.now in
     let initial : Option (List ℕ) = cities_in c.args.initial.now in
     let Writes : Writing Files =
-    WritesFiles g.F.Sink.taken g.F.Sink.broken g.W.Sink.taken g.W.Sink.broken c.args.file.now c.solve_tsp.new.file
+    WritesFiles g.F.Sink g.W.Sink c.args.file.now c.solve_tsp.new.file
     c.args.out.now c.solve_tsp.new.out in
     let Watched : List Event → Type 0 = WereShown g.V.Watch.shows c.args.watch.now c.solve_tsp.new.watch in
     given_ends p Watched Writes problem initial c.requires (IsTourWritten p Watched problem initial) _

@@ -2,7 +2,7 @@ use Rattle.std.proofs.Common.{◌≡◌, None, ap, rules}
 use Rattle.std.specs.Prelude.{is_some, option_map}
 use Rattle.tk_problem_text.specs.ProblemOf.{problem_is}
 use Rattle.tk_solve.specs.Watching.{WereShown}
-use Rattle.tk_engines.specs.Engine.{HasRead, IsUntouched}
+use Rattle.tk_engines.specs.Engine.{HasRead, IsUnread}
 use Rattle.tk_engines.specs.Solve.{ReadsInitial, WritesFiles, cities_in, solve_task, unfit_key}
 use Rattle.tk_engines.specs.declared.fault.Fault.TheVariants.{NotForType}
 use Rattle.tk_engines.proofs.Ends.{second_reached, second_read}
@@ -13,19 +13,19 @@ returns-clause-ends g c =
     second_read
     (solve_task c.args.params.now (WereShown g.V.Watch.shows c.args.watch.now c.solve_from.new.watch))
     (HasRead (problem_is c.args.problem.now))
-    (ReadsInitial (is_some c.args.params.now.initial_tour_file) g.I.Source.left g.I.Source.broken
+    (ReadsInitial (is_some c.args.params.now.initial_tour_file) g.I.Source
     c.args.initial.now c.read_initial.new.initial)
-    (WritesFiles g.F.Sink.taken g.F.Sink.broken g.W.Sink.taken g.W.Sink.broken c.args.file.now c.solve_from.new.file
+    (WritesFiles g.F.Sink g.W.Sink c.args.file.now c.solve_from.new.file
     c.args.out.now c.solve_from.new.out)
     (cities_in c.in_ok-tour.tour) c.in_ok-tour.ensures.ok c.solve_from.result c.solve_from.ensures.ends
 
 pub returns-clause-unread : goal.returns-clause-unread
 returns-clause-unread g c =
     let none : unfit_key c.args.params.now (problem_is c.args.problem.now) ≡ None = search rules in
-    second_reached (IsUntouched g.I.Source.left g.I.Source.broken c.args.initial.now c.read_initial.new.initial)
+    second_reached (IsUnread g.I.Source c.args.initial.now c.read_initial.new.initial)
     (solve_task c.args.params.now (WereShown g.V.Watch.shows c.args.watch.now c.solve_from.new.watch))
     (λ _. HasRead (cities_in c.in_ok-tour.tour))
-    (WritesFiles g.F.Sink.taken g.F.Sink.broken g.W.Sink.taken g.W.Sink.broken c.args.file.now c.solve_from.new.file
+    (WritesFiles g.F.Sink g.W.Sink c.args.file.now c.solve_from.new.file
     c.args.out.now c.solve_from.new.out)
     (problem_is c.args.problem.now) (ap (option_map NotForType) none) c.solve_from.result c.solve_from.ensures.ends
 

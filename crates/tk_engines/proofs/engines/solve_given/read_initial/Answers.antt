@@ -1,5 +1,6 @@
 use Rattle.std.proofs.Common.{◌≡◌, refl, rules}
 use Rattle.std.specs.Prelude.{is_some, true, false}
+use Rattle.tk_engines.proofs.TextsRead.{is_read, is_refused}
 use Rattle.tk_engines.proofs.engines.solve_given.read_initial.Goals as goal
 
 pub returns-then-is_none-clause-ok : goal.returns-then-is_none-clause-ok
@@ -11,11 +12,7 @@ pub returns-in-Ok-clause-ok : goal.returns-in-Ok-clause-ok
 returns-in-Ok-clause-ok g c =
     let given : is_some c.args.params.now.initial_tour_file ≡ true = search rules in (
       given,
-      record {
-        answer = c.in-Ok.ensures.ok;
-        some_text = c.in-Ok.ensures.some_text;
-        intact = c.in-Ok.ensures.intact;
-      },
+      is_read c.in-Ok.ensures.reads,
     )
 
 pub returns-in-Err-clause-err : goal.returns-in-Err-clause-err
@@ -25,10 +22,6 @@ returns-in-Err-clause-err g c =
       (
         c.in-Err.fault,
         refl,
-        record {
-          fault = c.in-Err.ensures.err;
-          some_fault = c.in-Err.ensures.some_fault;
-          intact = c.in-Err.ensures.intact;
-        },
+        is_refused c.in-Err.ensures.reads,
       ),
     )

@@ -3,4 +3,4 @@ use Rattle.tk_engines.proofs.lines.labelled.put_labelled.Goals as goal
 
 pub returns : goal.returns
 returns g c =
-    Puts-then _ _ _ _ _ _ _ c.put.ensures c.put_number.ensures
+    Puts-then c.put.ensures c.put_number.ensures

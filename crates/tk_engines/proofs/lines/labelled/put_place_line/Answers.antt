@@ -4,4 +4,4 @@ use Rattle.tk_engines.proofs.lines.labelled.put_place_line.Goals as goal
 
 pub returns : goal.returns
 returns g c =
-    Puts-then _ _ _ _ _ _ _ (Puts-label _ _ _ _ _ _ _ _ c.put_labelled.ensures c.put_labelled-2.ensures) c.put.ensures
+    Puts-then (Puts-label _ _ c.put_labelled.ensures c.put_labelled-2.ensures) c.put.ensures

@@ -4,5 +4,5 @@ use Rattle.tk_engines.proofs.lines.route_line.put_cost_line.Goals as goal
 
 pub returns : goal.returns
 returns g c =
-    Puts-then _ _ _ _ _ _ _ (Puts-then _ _ _ _ _ _ _
-    (Puts-label _ _ _ _ _ _ _ _ c.put_labelled.ensures c.put_labelled-2.ensures) c.put.ensures) c.put-2.ensures
+    Puts-then (Puts-then
+    (Puts-label _ _ c.put_labelled.ensures c.put_labelled-2.ensures) c.put.ensures) c.put-2.ensures

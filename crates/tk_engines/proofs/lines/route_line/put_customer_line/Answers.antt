@@ -3,4 +3,4 @@ use Rattle.tk_engines.proofs.lines.route_line.put_customer_line.Goals as goal
 
 pub returns : goal.returns
 returns g c =
-    Puts-then _ _ _ _ _ _ _ c.put_labelled.ensures c.put.ensures
+    Puts-then c.put_labelled.ensures c.put.ensures

@@ -5,11 +5,11 @@ use Rattle.tk_engines.proofs.lines.route_line.write_route_verdict.Goals as goal
 
 pub returns-clause-text : goal.returns-clause-text
 returns-clause-text g c =
-    Writes-end g.W.Sink.taken g.W.Sink.broken c.args.out.now _ _ _ _ _ _ c.new-pen.ensures.empty
+    Writes-end g.W.Sink c.args.out.now _ _ _ _ _ _ c.new-pen.ensures.empty
     c.put_route_verdict.ensures c.end.ensures (search rules)
 
 pub returns-clause-failed : goal.returns-clause-failed
 returns-clause-failed g c =
-    broken_at_err g.W.Sink.taken g.W.Sink.broken c.args.out.now _ _ _ (route_line_short c.args.verdict)
-    (Writes-end g.W.Sink.taken g.W.Sink.broken c.args.out.now _ _ _ _ _ _ c.new-pen.ensures.empty
+    broken_at_err g.W.Sink c.args.out.now _ _ _ (route_line_short c.args.verdict)
+    (Writes-end g.W.Sink c.args.out.now _ _ _ _ _ _ c.new-pen.ensures.empty
     c.put_route_verdict.ensures c.end.ensures (search rules))

@@ -6,8 +6,8 @@ use Rattle.tk_engines.proofs.lines.solve_lines.put_ignored.Goals as goal
 
 pub loop-i-preserved : goal.loop-i-preserved
 loop-i-preserved g c =
-    subst (Puts _ _ _ _) (sym (ignored_take c.args.ignored.now c.loop-i.i _ c.loop-i-test.true))
-    (Puts-then _ _ _ _ _ _ _ c.loop-i.invariant
-    (Puts-then _ _ _ _ _ _ _ (Puts-then _ _ _ _ _ _ _ c.put.ensures
-    (subst (Puts _ _ _ _) (c.as_bytes.ensures.value ∙ c.word.ensures) c.put-in-loop-i.ensures))
+    subst (Puts _ _ _) (sym (ignored_take c.args.ignored.now c.loop-i.i _ c.loop-i-test.true))
+    (Puts-then c.loop-i.invariant
+    (Puts-then (Puts-then c.put.ensures
+    (subst (Puts _ _ _) (c.as_bytes.ensures.value ∙ c.word.ensures) c.put-in-loop-i.ensures))
     c.put-in-loop-i-2.ensures))

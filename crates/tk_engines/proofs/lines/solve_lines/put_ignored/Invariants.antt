@@ -7,4 +7,4 @@ use Rattle.tk_engines.proofs.lines.solve_lines.put_ignored.Given as goal
 
 abbrev pub invariant-loop-i : goal.invariant-loop-i
 invariant-loop-i g l =
-    Puts g.W.Sink.taken g.W.Sink.broken l.initial.pen l.pen (flat_map ignored_line (take l.i l.ignored))
+    Puts g.W.Sink l.initial.pen l.pen (flat_map ignored_line (take l.i l.ignored))

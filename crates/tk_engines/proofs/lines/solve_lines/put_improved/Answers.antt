@@ -3,4 +3,4 @@ use Rattle.tk_engines.proofs.lines.solve_lines.put_improved.Goals as goal
 
 pub returns : goal.returns
 returns g c =
-    Puts-then _ _ _ _ _ _ _ (Puts-then _ _ _ _ _ _ _ c.put_labelled.ensures c.put_work.ensures) c.put.ensures
+    Puts-then (Puts-then c.put_labelled.ensures c.put_work.ensures) c.put.ensures

@@ -11,8 +11,8 @@ returns g c =
     let before : c.unsigned_abs.result ≡ unsigned_abs report.before = search rules in
     let after : c.unsigned_abs-2.result ≡ unsigned_abs report.after = search rules in
     let best : c.unsigned_abs-3.result ≡ unsigned_abs report.after = search rules in
-    Puts-then _ _ _ _ _ _ _ (Puts-then _ _ _ _ _ _ _ (Puts-then _ _ _ _ _ _ _ c.put_ignored.ensures
-    (subst (Puts _ _ _ _) (ap (λ (cost : ℕ). savings_line cost c.args.routes) before) c.put_savings.ensures))
-    (subst (Puts _ _ _ _) (ap (λ (cost : ℕ). improved_line cost report.moves report.tests report.swaps) after)
+    Puts-then (Puts-then (Puts-then c.put_ignored.ensures
+    (subst (Puts _ _ _) (ap (λ (cost : ℕ). savings_line cost c.args.routes) before) c.put_savings.ensures))
+    (subst (Puts _ _ _) (ap (λ (cost : ℕ). improved_line cost report.moves report.tests report.swaps) after)
     c.put_improved.ensures))
-    (subst (Puts _ _ _ _) (ap best_line best) c.put_best.ensures)
+    (subst (Puts _ _ _) (ap best_line best) c.put_best.ensures)

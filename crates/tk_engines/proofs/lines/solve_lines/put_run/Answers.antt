@@ -10,13 +10,9 @@ pub returns : goal.returns
 returns g c =
     let start : c.unsigned_abs.result ≡ unsigned_abs c.args.report.now.totals.start = search rules in
     let best : c.unsigned_abs-2.result ≡ unsigned_abs c.args.report.now.best = search rules in
-    Puts-then _ _ _ _ _ _ _ (Puts-then
-    _ _ _ _ _ _ _ (Puts-then
-    _ _ _ _ _ _ _ (Puts-then
-    _ _ _ _ _ _ _ (Puts-label
-    _ _ _ _ _ _ _ _ (Puts-label _ _ _ _ _ _ _ _ c.put_labelled.ensures
-    (subst (Puts _ _ _ _) (ap (λ (n : ℕ). codes ": start " ++ decimal n) start) c.put_labelled-2.ensures))
-    (subst (Puts _ _ _ _) (ap (λ (n : ℕ). codes ", best " ++ decimal n) best) c.put_labelled-3.ensures))
+    Puts-then (Puts-then (Puts-then (Puts-then (Puts-label _ _ (Puts-label _ _ c.put_labelled.ensures
+    (subst (Puts _ _ _) (ap (λ (n : ℕ). codes ": start " ++ decimal n) start) c.put_labelled-2.ensures))
+    (subst (Puts _ _ _) (ap (λ (n : ℕ). codes ", best " ++ decimal n) best) c.put_labelled-3.ensures))
     c.put.ensures)
     c.put_wide.ensures)
     c.put_work.ensures)

@@ -6,5 +6,5 @@ use Rattle.tk_engines.proofs.lines.solve_lines.put_runs.Goals as goal
 
 pub loop-i-preserved : goal.loop-i-preserved
 loop-i-preserved g c =
-    subst (Puts _ _ _ _) (sym (run_lines_take c.args.runs.now c.loop-i.i _ c.loop-i-test.true))
-    (Puts-then _ _ _ _ _ _ _ c.loop-i.invariant c.put_run.ensures)
+    subst (Puts _ _ _) (sym (run_lines_take c.args.runs.now c.loop-i.i _ c.loop-i-test.true))
+    (Puts-then c.loop-i.invariant c.put_run.ensures)

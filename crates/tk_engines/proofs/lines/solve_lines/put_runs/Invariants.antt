@@ -5,4 +5,4 @@ use Rattle.tk_engines.specs.Lines.SolveLines.{run_lines}
 use Rattle.tk_engines.proofs.lines.solve_lines.put_runs.Given as goal
 
 abbrev pub invariant-loop-i : goal.invariant-loop-i
-invariant-loop-i g l = Puts g.W.Sink.taken g.W.Sink.broken l.initial.pen l.pen (run_lines 1 (take l.i l.runs))
+invariant-loop-i g l = Puts g.W.Sink l.initial.pen l.pen (run_lines 1 (take l.i l.runs))

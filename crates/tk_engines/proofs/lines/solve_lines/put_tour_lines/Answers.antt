@@ -8,6 +8,6 @@ use Rattle.tk_engines.proofs.lines.solve_lines.put_tour_lines.Goals as goal
 pub returns : goal.returns
 returns g c =
     let size : c.unsigned_abs.result ≡ unsigned_abs c.args.solved.now.length = search rules in
-    Puts-then _ _ _ _ _ _ _ (Puts-then _ _ _ _ _ _ _ c.put_ignored.ensures
-    (subst (Puts _ _ _ _) (ap (run_lines 1) c.deref.ensures.value) c.put_runs.ensures))
-    (subst (Puts _ _ _ _) (ap best_line size) c.put_best.ensures)
+    Puts-then (Puts-then c.put_ignored.ensures
+    (subst (Puts _ _ _) (ap (run_lines 1) c.deref.ensures.value) c.put_runs.ensures))
+    (subst (Puts _ _ _) (ap best_line size) c.put_best.ensures)

@@ -5,13 +5,13 @@ use Rattle.tk_engines.proofs.PrintedLines.LineLengths.{route_lines_short}
 use Rattle.tk_engines.proofs.lines.solve_lines.write_route_lines.Goals as goal
 
 pub returns-clause-text : goal.returns-clause-text
-returns-clause-text g c = Writes-end g.W.Sink.taken g.W.Sink.broken c.args.out.now _ _ _ _ _ _ c.new-pen.ensures.empty
+returns-clause-text g c = Writes-end g.W.Sink c.args.out.now _ _ _ _ _ _ c.new-pen.ensures.empty
     c.put_route_lines.ensures c.end.ensures (search rules)
 
 pub returns-clause-failed : goal.returns-clause-failed
 returns-clause-failed g c =
-    broken_at_err g.W.Sink.taken g.W.Sink.broken c.args.out.now
+    broken_at_err g.W.Sink c.args.out.now
     _ _ (route_lines c.args.ignored.now c.args.routes c.args.report.now)
     (route_lines_short c.args.ignored.now c.args.routes c.args.report.now c.requires.ignored)
-    (Writes-end g.W.Sink.taken g.W.Sink.broken c.args.out.now _ _ _ _ _ _ c.new-pen.ensures.empty
+    (Writes-end g.W.Sink c.args.out.now _ _ _ _ _ _ c.new-pen.ensures.empty
     c.put_route_lines.ensures c.end.ensures (search rules))

@@ -5,12 +5,12 @@ use Rattle.tk_engines.proofs.PrintedLines.LineLengths.{tour_lines_short}
 use Rattle.tk_engines.proofs.lines.solve_lines.write_tour_lines.Goals as goal
 
 pub returns-clause-text : goal.returns-clause-text
-returns-clause-text g c = Writes-end g.W.Sink.taken g.W.Sink.broken c.args.out.now _ _ _ _ _ _ c.new-pen.ensures.empty
+returns-clause-text g c = Writes-end g.W.Sink c.args.out.now _ _ _ _ _ _ c.new-pen.ensures.empty
     c.put_tour_lines.ensures c.end.ensures (search rules)
 
 pub returns-clause-failed : goal.returns-clause-failed
 returns-clause-failed g c =
-    broken_at_err g.W.Sink.taken g.W.Sink.broken c.args.out.now _ _ (tour_lines c.args.ignored.now c.args.solved.now)
+    broken_at_err g.W.Sink c.args.out.now _ _ (tour_lines c.args.ignored.now c.args.solved.now)
     (tour_lines_short c.args.ignored.now c.args.solved.now c.requires.ignored c.requires.runs)
-    (Writes-end g.W.Sink.taken g.W.Sink.broken c.args.out.now _ _ _ _ _ _ c.new-pen.ensures.empty
+    (Writes-end g.W.Sink c.args.out.now _ _ _ _ _ _ c.new-pen.ensures.empty
     c.put_tour_lines.ensures c.end.ensures (search rules))

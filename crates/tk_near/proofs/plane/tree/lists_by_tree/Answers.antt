@@ -28,11 +28,5 @@ from_filled-requires-clause-filled g c =
     AreFilled-front _ _ _ _ _ _ _ _ (omega (arith, c.deref_mut.ensures.len, c.fill_from_tree.auto.entries))
     (ap length c.in_ok-many.ensures ∙ length-replicate c.args.k open_place) c.fill_from_tree.ensures
 
-pub returns-clause-size : goal.returns-clause-size
-returns-clause-size g c = c.from_filled.ensures.size
-
-pub returns-clause-width : goal.returns-clause-width
-returns-clause-width g c = c.from_filled.ensures.width
-
-pub returns-clause-near : goal.returns-clause-near
-returns-clause-near g c = c.from_filled.ensures.near
+pub returns : goal.returns
+returns g c = c.from_filled.ensures

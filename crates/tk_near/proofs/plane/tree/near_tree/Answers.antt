@@ -12,11 +12,5 @@ lists_by_tree-requires-clause-framed g c = c.in_ok-row.ensures.framed
 pub lists_by_tree-requires-clause-limit : goal.lists_by_tree-requires-clause-limit
 lists_by_tree-requires-clause-limit g c = c.requires.limit
 
-pub returns-clause-size : goal.returns-clause-size
-returns-clause-size g c = c.lists_by_tree.ensures.size
-
-pub returns-clause-width : goal.returns-clause-width
-returns-clause-width g c = c.lists_by_tree.ensures.width
-
-pub returns-clause-near : goal.returns-clause-near
-returns-clause-near g c = c.lists_by_tree.ensures.near
+pub returns : goal.returns
+returns g c = c.lists_by_tree.ensures

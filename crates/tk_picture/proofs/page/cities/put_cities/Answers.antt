@@ -13,16 +13,16 @@ loop-city-preserved g c =
     let p = c.args.picture.now in
     rw (lines_more (city_line p.view.frame (places_of p.view.places) p.demands.now p.depot) c.loop-city.city
     c.loop-city.auto.city)
-    (Puts-then _ _ _ _ _ _ _ c.loop-city.invariant c.put_city.ensures)
+    (Puts-then c.loop-city.invariant c.put_city.ensures)
 
 pub returns : goal.returns
 returns g c =
     let p = c.args.picture.now in
     let all : c.loop-city.city - 1 ≡ length (places_of p.view.places) =
     omega (arith, c.loop-city.auto.city-end, c.size-city-end.ensures.value) in
-    Puts-then _ _ _ _ _ _ _
-    (Puts-then _ _ _ _ _ _ _ c.put.ensures
-    (subst (Puts _ _ _ _)
+    Puts-then
+    (Puts-then c.put.ensures
+    (subst (Puts _ _ _)
     (ap (λ n. flat_map (city_line p.view.frame (places_of p.view.places) p.demands.now p.depot)
     (range_with_len 1 n)) all) c.loop-city.invariant))
     c.put-2.ensures

@@ -9,10 +9,10 @@ pub returns : goal.returns
 returns g c =
     let found = got c.get.result c.args.picture.now.demands.now (c.args.city - 1) _ c.get.ensures.lookup.1
     c.get.ensures.lookup.3 in
-    let demand = subst (Puts _ _ _ _) (ap demand_word found) c.put_demand.ensures in
-    Puts-then _ _ _ _ _ _ _
-    (Puts-then _ _ _ _ _ _ _
-    (Puts-then _ _ _ _ _ _ _ (Puts-then _ _ _ _ _ _ _ (Puts-then _ _ _ _ _ _ _ c.put_spot.ensures c.put.ensures)
+    let demand = subst (Puts _ _ _) (ap demand_word found) c.put_demand.ensures in
+    Puts-then
+    (Puts-then
+    (Puts-then (Puts-then (Puts-then c.put_spot.ensures c.put.ensures)
     c.put_coordinates.ensures) demand)
     c.put_depot_word.ensures)
     c.put-2.ensures

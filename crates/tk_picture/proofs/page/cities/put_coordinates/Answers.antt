@@ -17,6 +17,6 @@ returns g c =
     ∙ ap (λ p. p.x) c.get-place.ensures in
     let y : to_z w64 (of_z w64 place.y) ≡ at.y = to_z-of_z w64 place.y (search rules)
     ∙ ap (λ p. p.y) c.get-place.ensures in
-    Puts-then _ _ _ _ _ _ _
-    (Puts-then _ _ _ _ _ _ _ (subst (Puts _ _ _ _) (ap signed_decimal x) c.put_signed.ensures) c.put.ensures)
-    (subst (Puts _ _ _ _) (ap signed_decimal y) c.put_signed-2.ensures)
+    Puts-then
+    (Puts-then (subst (Puts _ _ _) (ap signed_decimal x) c.put_signed.ensures) c.put.ensures)
+    (subst (Puts _ _ _) (ap signed_decimal y) c.put_signed-2.ensures)

@@ -14,5 +14,5 @@ returns-then-number-lt0 g c =
     let kept : to_z w64 (of_z w64 c.args.number) ≡ c.args.number = to_z-of_z w64 c.args.number (search rules) in
     let below = subst (λ (z : ℤ). int_lt z (pos 0) ≡ true) kept c.if-number-lt0.true in
     let digits = c.unsigned_abs.ensures.value ∙ ap unsigned_abs kept in
-    subst (Puts _ _ _ _) (ap (λ n. codes "-" ++ decimal n) digits ∙ signed_below c.args.number below)
-    (Puts-then _ _ _ _ _ _ _ c.put.ensures c.put_number.ensures)
+    subst (Puts _ _ _) (ap (λ n. codes "-" ++ decimal n) digits ∙ signed_below c.args.number below)
+    (Puts-then c.put.ensures c.put_number.ensures)

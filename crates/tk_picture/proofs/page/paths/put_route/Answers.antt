@@ -17,9 +17,9 @@ loop-customer-preserved g c =
     let depot = (instance_of c.args.cvrp.now).depot in
     rw (flat_map_take (λ k. stop (node_of depot k)) c.args.route.now c.loop-customer.customer-index
     c.loop-customer-test.true)
-    (Puts-then _ _ _ _ _ _ _ c.loop-customer.invariant
-    (subst (Puts _ _ _ _) (ap stop c.node.ensures.value)
-    (Puts-then _ _ _ _ _ _ _ c.put.ensures c.put_number-in-loop-customer.ensures)))
+    (Puts-then c.loop-customer.invariant
+    (subst (Puts _ _ _) (ap stop c.node.ensures.value)
+    (Puts-then c.put.ensures c.put_number-in-loop-customer.ensures)))
 
 pub returns : goal.returns
 returns g c =
@@ -31,8 +31,8 @@ returns g c =
     ∙ sym (flat_map-map stop (node_of i.depot) route) in
     let some =
     filled_some (route_path i) path_line c.args.number route (sym c.is_empty.ensures ∙ c.if-is_empty.false) in
-    subst (Puts _ _ _ _) (sym some)
-    (Puts-then _ _ _ _ _ _ _
-    (Puts-then _ _ _ _ _ _ _ (subst (Puts _ _ _ _) (ap decimal c.depot.ensures.value) c.put_number.ensures)
-    (subst (Puts _ _ _ _) rest c.loop-customer.invariant))
+    subst (Puts _ _ _) (sym some)
+    (Puts-then
+    (Puts-then (subst (Puts _ _ _) (ap decimal c.depot.ensures.value) c.put_number.ensures)
+    (subst (Puts _ _ _) rest c.loop-customer.invariant))
     c.put-2.ensures)

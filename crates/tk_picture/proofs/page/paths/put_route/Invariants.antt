@@ -8,5 +8,5 @@ use Rattle.tk_picture.proofs.page.paths.put_route.Given as goal
 
 abbrev pub invariant-loop-customer : goal.invariant-loop-customer
 invariant-loop-customer g l =
-    Puts g.W.Sink.taken g.W.Sink.broken l.initial.pen l.pen
+    Puts g.W.Sink l.initial.pen l.pen
     (flat_map (λ k. codes " " ++ decimal (node_of (instance_of l.cvrp).depot k)) (take l.customer-index l.route))

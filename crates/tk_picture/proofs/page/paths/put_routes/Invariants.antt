@@ -10,6 +10,6 @@ use Rattle.tk_picture.proofs.page.paths.put_routes.Given as goal
 abbrev pub invariant-loop-route : goal.invariant-loop-route
 invariant-loop-route g l = record {
   count : l.number ≡ l.route-index;
-  text : Puts g.W.Sink.taken g.W.Sink.broken l.initial.pen l.pen
+  text : Puts g.W.Sink l.initial.pen l.pen
       (flat_map path_line (route_paths (instance_of l.cvrp) 1 (map (λ r. r.items) (take l.route-index l.routes))));
 }

@@ -3,4 +3,4 @@ use Rattle.tk_picture.proofs.page.table.put_cell.Goals as goal
 
 pub returns : goal.returns
 returns g c =
-    Puts-then _ _ _ _ _ _ _ c.put.ensures c.put_number.ensures
+    Puts-then c.put.ensures c.put_number.ensures

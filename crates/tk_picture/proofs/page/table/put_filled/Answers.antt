@@ -9,4 +9,4 @@ pub returns-then-not-is_empty : goal.returns-then-not-is_empty
 returns-then-not-is_empty g c =
     let some = filled_some (route_row (instance_of c.args.cvrp.now)) row_line c.args.number c.args.route.now
     (sym c.is_empty.ensures ∙ c.if-not-is_empty.true) in
-    subst (Puts _ _ _ _) (sym some) c.put_row.ensures
+    subst (Puts _ _ _) (sym some) c.put_row.ensures

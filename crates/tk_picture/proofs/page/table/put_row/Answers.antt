@@ -22,15 +22,15 @@ returns g c =
     let way : c.unsigned_abs.result ≡ route_length i route = c.unsigned_abs.ensures.value
     ∙ ap unsigned_abs (to_z-of_z w64 c.length.result (search rules) ∙ c.length.ensures) in
     let cell : ℕ → List ℕ = λ n. codes "<td>" ++ decimal n in
-    let puts_load = subst (Puts _ _ _ _) (ap cell load) c.put_cell-2.ensures in
-    let puts_share = subst (Puts _ _ _ _) (ap decimal part) c.put_wide.ensures in
-    let puts_way = subst (Puts _ _ _ _) (ap cell way) c.put_cell-3.ensures in
-    Puts-then _ _ _ _ _ _ _
-    (Puts-both _ _ _ _ _ _ _ _
-    (Puts-then _ _ _ _ _ _ _
-    (Puts-then _ _ _ _ _ _ _
-    (Puts-both _ _ _ _ _ _ _ _
-    (Puts-both _ _ _ _ _ _ _ _ (Puts-then _ _ _ _ _ _ _ c.put.ensures c.put_number.ensures) c.put_cell.ensures)
+    let puts_load = subst (Puts _ _ _) (ap cell load) c.put_cell-2.ensures in
+    let puts_share = subst (Puts _ _ _) (ap decimal part) c.put_wide.ensures in
+    let puts_way = subst (Puts _ _ _) (ap cell way) c.put_cell-3.ensures in
+    Puts-then
+    (Puts-both _ _
+    (Puts-then
+    (Puts-then
+    (Puts-both _ _
+    (Puts-both _ _ (Puts-then c.put.ensures c.put_number.ensures) c.put_cell.ensures)
     puts_load)
     c.put-2.ensures)
     puts_share)

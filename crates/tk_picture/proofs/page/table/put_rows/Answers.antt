@@ -28,9 +28,9 @@ loop-route-preserved g c =
     record {
       count = omega (arith, n.invariant.count);
       text =
-          subst (Puts _ _ _ _)
+          subst (Puts _ _ _)
           (sym (filled_more (route_row (instance_of c.args.cvrp.now)) row_line (λ r. r.items) c.args.routes.now
           n.route-index (n.number + 1) c.route-item.result c.deref.result.now
           c.loop-route-test.true c.route-item.is c.deref.ensures.value (omega (arith, n.invariant.count))))
-          (Puts-then _ _ _ _ _ _ _ n.invariant.text c.put_filled.ensures);
+          (Puts-then n.invariant.text c.put_filled.ensures);
     }

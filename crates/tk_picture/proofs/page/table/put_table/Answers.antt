@@ -6,5 +6,5 @@ use Rattle.tk_picture.proofs.page.table.put_table.Goals as goal
 
 pub returns-in-Routes : goal.returns-in-Routes
 returns-in-Routes g c =
-    let start = subst (Puts _ _ _ _) (ap table_start c.capacity.ensures.value) c.put_table_start.ensures in
-    rw c.in-Routes.is (Puts-then _ _ _ _ _ _ _ (Puts-then _ _ _ _ _ _ _ start c.put_rows.ensures) c.put.ensures)
+    let start = subst (Puts _ _ _) (ap table_start c.capacity.ensures.value) c.put_table_start.ensures in
+    rw c.in-Routes.is (Puts-then (Puts-then start c.put_rows.ensures) c.put.ensures)

@@ -3,4 +3,4 @@ use Rattle.tk_picture.proofs.page.table.put_table_head.Goals as goal
 
 pub returns : goal.returns
 returns g c =
-    Puts-then _ _ _ _ _ _ _ (Puts-then _ _ _ _ _ _ _ c.put.ensures c.put-2.ensures) c.put-3.ensures
+    Puts-then (Puts-then c.put.ensures c.put-2.ensures) c.put-3.ensures

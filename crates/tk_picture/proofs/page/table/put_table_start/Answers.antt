@@ -5,7 +5,7 @@ use Rattle.tk_picture.proofs.page.table.put_table_start.Goals as goal
 
 pub returns : goal.returns
 returns g c =
-    Puts-then _ _ _ _ _ _ _
-    (Puts-both _ _ _ _ _ _ (codes "</caption>") _ (Puts-then _ _ _ _ _ _ _ c.put.ensures c.put_number.ensures)
+    Puts-then
+    (Puts-both (codes "</caption>") _ (Puts-then c.put.ensures c.put_number.ensures)
     c.put-2.ensures)
     c.put_table_head.ensures

@@ -3,4 +3,4 @@ use Rattle.tk_picture.proofs.view.View.put_corner.Goals as goal
 
 pub returns : goal.returns
 returns g c =
-    Puts-then _ _ _ _ _ _ _ c.put_spot.ensures c.put.ensures
+    Puts-then c.put_spot.ensures c.put.ensures

@@ -12,12 +12,12 @@ loop-city-preserved g c =
     let view = c.args.self.now in
     rw (flat_map_take (λ x. line (spot view.frame (places_of view.places) x)) c.args.cities.now c.loop-city.city-index
     c.loop-city-test.true)
-    (Puts-then _ _ _ _ _ _ _ c.loop-city.invariant c.put_corner.ensures)
+    (Puts-then c.loop-city.invariant c.put_corner.ensures)
 
 pub returns : goal.returns
 returns g c =
     let view = c.args.self.now in
     let all : c.loop-city.city-index ≡ length c.args.cities.now = omega (arith, c.loop-city.auto.city-index-end) in
-    subst (Puts _ _ _ _)
+    subst (Puts _ _ _)
     (flat_map_all (λ x. line (spot view.frame (places_of view.places) x)) c.args.cities.now c.loop-city.city-index
     all) c.loop-city.invariant

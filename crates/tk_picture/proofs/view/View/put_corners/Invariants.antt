@@ -9,5 +9,5 @@ use Rattle.tk_picture.proofs.view.View.put_corners.Given as goal
 
 abbrev pub invariant-loop-city : goal.invariant-loop-city
 invariant-loop-city g l =
-    Puts g.W.Sink.taken g.W.Sink.broken l.initial.pen l.pen
+    Puts g.W.Sink l.initial.pen l.pen
     (flat_map (λ c. line (spot l.self.frame (places_of l.self.places) c)) (take l.city-index l.cities))

@@ -18,5 +18,5 @@ returns g c =
     ++ decimal c.down.result ≡ spot frame (places_of c.args.self.now.places) c.args.city =
     ap (λ a. decimal a ++ codes "," ++ decimal c.down.result) right
     ∙ ap (λ d. decimal (across frame place) ++ codes "," ++ decimal d) below in
-    subst (Puts _ _ _ _) text
-    (Puts-then _ _ _ _ _ _ _ (Puts-then _ _ _ _ _ _ _ c.put_wide.ensures c.put.ensures) c.put_wide-2.ensures)
+    subst (Puts _ _ _) text
+    (Puts-then (Puts-then c.put_wide.ensures c.put.ensures) c.put_wide-2.ensures)

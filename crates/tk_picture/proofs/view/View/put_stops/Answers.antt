@@ -17,8 +17,8 @@ loop-customer-preserved g c =
     let depot = (instance_of c.args.cvrp.now).depot in
     rw (flat_map_take (λ k. stop (node_of depot k)) c.args.route.now c.loop-customer.customer-index
     c.loop-customer-test.true)
-    (Puts-then _ _ _ _ _ _ _ c.loop-customer.invariant
-    (subst (Puts _ _ _ _) (ap stop c.node.ensures.value) c.put_corner-in-loop-customer.ensures))
+    (Puts-then c.loop-customer.invariant
+    (subst (Puts _ _ _) (ap stop c.node.ensures.value) c.put_corner-in-loop-customer.ensures))
 
 pub returns : goal.returns
 returns g c =
@@ -29,5 +29,5 @@ returns g c =
     let all : c.loop-customer.customer-index ≡ length route = omega (arith, c.loop-customer.auto.customer-index-end) in
     let rest = flat_map_all (λ k. stop (node_of depot k)) route c.loop-customer.customer-index all
     ∙ sym (flat_map-map stop (node_of depot) route) in
-    Puts-then _ _ _ _ _ _ _ (subst (Puts _ _ _ _) (ap stop c.depot.ensures.value) c.put_corner.ensures)
-    (subst (Puts _ _ _ _) rest c.loop-customer.invariant)
+    Puts-then (subst (Puts _ _ _) (ap stop c.depot.ensures.value) c.put_corner.ensures)
+    (subst (Puts _ _ _) rest c.loop-customer.invariant)

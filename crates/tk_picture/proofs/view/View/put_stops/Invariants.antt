@@ -11,6 +11,6 @@ use Rattle.tk_picture.proofs.view.View.put_stops.Given as goal
 
 abbrev pub invariant-loop-customer : goal.invariant-loop-customer
 invariant-loop-customer g l =
-    Puts g.W.Sink.taken g.W.Sink.broken l.initial.pen l.pen
+    Puts g.W.Sink l.initial.pen l.pen
     (flat_map (λ k. line (spot l.self.frame (places_of l.self.places) (node_of (instance_of l.cvrp).depot k)))
     (take l.customer-index l.route))

@@ -1,19 +1,53 @@
 use Rattle.std.proofs.Common.{◌≡◌, ◌+◌, ◌*◌, ◌<◌, ◌≤◌, ◌∙◌, ℕ, List, [], Vec, Global, length, get_or, set, sym, ap}
-use Rattle.std.proofs.Common.{subst, arith, pos}
+use Rattle.std.proofs.Common.{subst, arith, pos, rules}
 use Rattle.std.specs.Prelude.{map}
 use Rattle.std.proofs.lemmas.Int.{ints}
 use Rattle.std.proofs.lemmas.List.{get_or-map, length-map, map-set}
+use Rattle.tk_problem.specs.declared.limits.TheConstants.{CANDIDATE_LIMIT}
 use Rattle.tk_distance.specs.Tables.{table_distance-same, table_distance-limit}
+use Rattle.tk_descent.specs.declared.descent.Report.{Report}
 use Rattle.tk_descent.proofs.WakeRuns.DescentSteps.{saved_is}
+use Rattle.tk_lists.specs.Solution.{lists_of}
 use Rattle.tk_routes.specs.Cvrps.{instance_of}
-use Rattle.tk_routes.specs.ImprovedRoutes.{most_tests}
-use Rattle.tk_routes.specs.Instance.{Instance, customer_count}
+use Rattle.tk_routes.specs.declared.cvrp.Cvrp.{Cvrp}
+use Rattle.tk_routes.specs.ImprovedRoutes.{IsImprovement, most_tests, place_count}
+use Rattle.tk_routes.specs.Instance.{Instance}
 use Rattle.tk_routes.specs.Routes.{route_length, routes_cost}
 use Rattle.tk_routes.proofs.Costs.{route_length-limit}
 use Rattle.tk_routes.proofs.Improving.Exchanged.{AreServedOnce-routes}
 use Rattle.tk_routes.proofs.Improving.ImprovedSteps.{IsImprovedTo, IsImprovedTo-none, IsImprovedTo-more, next_known}
 use Rattle.tk_routes.proofs.Improving.ImprovedSteps.{small_counts, cost_step, improved_all, tested_all, tests_by_cost}
 use Rattle.tk_routes.proofs.solving.improving.improve_each.Goals as goal
+
+-- the list at a place, among the lists of cities
+at_place : (lists : List (Vec ℕ Global)) (k : ℕ) (list : Vec ℕ Global) (route : List ℕ) → k < length lists →
+    route ≡ (get_or lists k list).items → (k < length (lists_of lists)) × (route ≡ get_or (lists_of lists) k [])
+at_place lists k list route lt is =
+    let items = λ (r : Vec ℕ Global). r.items in
+    (omega (arith, lt, length-map lists items), is ∙ sym (get_or-map items lists k list [] lt))
+
+-- one list more is improved, and the counts stay small
+stepped : (cvrp : Cvrp) (k m : ℕ) (olds : List (List ℕ)) (lists : List (Vec ℕ Global)) (j moves swaps tests : ℕ) →
+    k ≤ CANDIDATE_LIMIT → m ≤ 3 → IsImprovedTo (instance_of cvrp) k m olds (lists_of lists) j moves swaps tests →
+    (list customers : Vec ℕ Global) (route : List ℕ) (report : Report) → j < length lists →
+    route ≡ (get_or lists j list).items → IsImprovement (instance_of cvrp) k m route customers.items report →
+    IsImprovedTo (instance_of cvrp) k m olds (lists_of (set lists j customers)) (j + 1) (moves + report.moves)
+    (swaps + report.swaps) (tests + report.tests)
+    × (swaps + report.swaps ≤ 150000000000000000) × (tests + report.tests ≤ 300000000000000000)
+stepped cvrp k m olds lists j moves swaps tests hk hm improved list customers route report lt is made =
+    let i : Instance = instance_of cvrp in
+    let at = at_place lists j list route lt is in
+    let next : IsImprovedTo i k m olds (set (lists_of lists) j customers.items) (j + 1) (moves + report.moves)
+    (swaps + report.swaps) (tests + report.tests) =
+    IsImprovedTo-more i k m olds (lists_of lists) j moves swaps tests improved cvrp.few route customers.items report
+    at.0 at.1 made in
+    let small = small_counts i k m olds _ _ _ _ _ next cvrp.few hk hm (table_distance-same cvrp.table)
+    (table_distance-limit cvrp.table) in (
+      subst (λ (v : List (List ℕ)). IsImprovedTo i k m olds v (j + 1) (moves + report.moves) (swaps + report.swaps)
+          (tests + report.tests)) (sym (map-set (λ (r : Vec ℕ Global). r.items) lists j customers)) next,
+      small.2,
+      small.3,
+    )
 
 pub cost_of-before-requires : goal.cost_of-before-requires
 cost_of-before-requires c =
@@ -37,187 +71,107 @@ loop-k-init c =
       improved = IsImprovedTo-none i c.args.max_candidates c.args.m olds c.requires.routes;
     }
 
-pub improve_route-requires-clause-known : goal.improve_route-requires-clause-known
-improve_route-requires-clause-known c =
-    let cvrp = c.args.cvrp.now in
-    let i : Instance = instance_of cvrp in
-    let items = λ (r : Vec ℕ Global). r.items in
-    let olds : List (List ℕ) = map items c.args.lists.now in
+pub improve_route-requires : goal.improve_route-requires
+improve_route-requires c =
+    let i : Instance = instance_of c.args.cvrp.now in
     let n = c.loop-k in
-    let now : List (List ℕ) = map items n.lists in
-    let lt : n.k < length n.lists = omega (arith, c.loop-k-test.true, n.auto.lists) in
-    let within : n.k < length now = omega (arith, lt, length-map n.lists items) in
-    let at : c.deref.result.now ≡ get_or now n.k [] = c.deref.ensures.value
-    ∙ sym (get_or-map items n.lists n.k c.index-lists-k.result [] lt) in
-    let known = next_known i c.args.max_candidates c.args.m olds now n.k n.moves n.swaps n.tests n.invariant.improved
-    c.deref.result.now within at in
-    known.0
-
-pub improve_route-requires-clause-some : goal.improve_route-requires-clause-some
-improve_route-requires-clause-some c =
-    let cvrp = c.args.cvrp.now in
-    let i : Instance = instance_of cvrp in
-    let items = λ (r : Vec ℕ Global). r.items in
-    let olds : List (List ℕ) = map items c.args.lists.now in
-    let n = c.loop-k in
-    let now : List (List ℕ) = map items n.lists in
-    let lt : n.k < length n.lists = omega (arith, c.loop-k-test.true, n.auto.lists) in
-    let within : n.k < length now = omega (arith, lt, length-map n.lists items) in
-    let at : c.deref.result.now ≡ get_or now n.k [] = c.deref.ensures.value
-    ∙ sym (get_or-map items n.lists n.k c.index-lists-k.result [] lt) in
-    let known = next_known i c.args.max_candidates c.args.m olds now n.k n.moves n.swaps n.tests n.invariant.improved
-    c.deref.result.now within at in
-    known.1
-
-pub improve_route-requires-clause-few : goal.improve_route-requires-clause-few
-improve_route-requires-clause-few c =
-    let cvrp = c.args.cvrp.now in
-    let i : Instance = instance_of cvrp in
-    let items = λ (r : Vec ℕ Global). r.items in
-    let olds : List (List ℕ) = map items c.args.lists.now in
-    let n = c.loop-k in
-    let now : List (List ℕ) = map items n.lists in
-    let lt : n.k < length n.lists = omega (arith, c.loop-k-test.true, n.auto.lists) in
-    let within : n.k < length now = omega (arith, lt, length-map n.lists items) in
-    let at : c.deref.result.now ≡ get_or now n.k [] = c.deref.ensures.value
-    ∙ sym (get_or-map items n.lists n.k c.index-lists-k.result [] lt) in
-    let known = next_known i c.args.max_candidates c.args.m olds now n.k n.moves n.swaps n.tests n.invariant.improved
-    c.deref.result.now within at in
-    omega (arith, known.2, cvrp.few)
+    let at = at_place n.lists n.k c.index-lists-k.result c.deref.result.now
+    (omega (arith, c.loop-k-test.true, n.auto.lists)) c.deref.ensures.value in
+    let known = next_known i c.args.max_candidates c.args.m (lists_of c.args.lists.now) (lists_of n.lists) n.k n.moves
+    n.swaps n.tests n.invariant.improved c.deref.result.now at.0 at.1 in
+    record {
+      known = known.0;
+      some = known.1;
+      few = omega (arith, known.2, c.args.cvrp.now.few);
+      candidates = c.requires.candidates;
+      most = c.requires.most;
+    }
 
 pub overflow_add-tests : goal.overflow_add-tests
 overflow_add-tests c =
-    let cvrp = c.args.cvrp.now in
-    let i : Instance = instance_of cvrp in
-    let items = λ (r : Vec ℕ Global). r.items in
-    let olds : List (List ℕ) = map items c.args.lists.now in
     let n = c.loop-k in
-    let now : List (List ℕ) = map items n.lists in
-    let lt : n.k < length n.lists = omega (arith, c.loop-k-test.true, n.auto.lists) in
-    let within : n.k < length now = omega (arith, lt, length-map n.lists items) in
-    let at : c.deref.result.now ≡ get_or now n.k [] = c.deref.ensures.value
-    ∙ sym (get_or-map items n.lists n.k c.index-lists-k.result [] lt) in
-    let r = c.in_ok-customers in
-    let next : IsImprovedTo i c.args.max_candidates c.args.m olds (set now n.k r.customers.items) (n.k + 1)
-    (n.moves + r.report.moves) (n.swaps + r.report.swaps) (n.tests + r.report.tests) =
-    IsImprovedTo-more i c.args.max_candidates c.args.m olds now n.k n.moves n.swaps n.tests n.invariant.improved
-    cvrp.few c.deref.result.now r.customers.items r.report.moves r.report.swaps r.report.tests within at
-    r.ensures.improved r.ensures.same r.ensures.moves r.ensures.tests r.ensures.swaps in
-    let small = small_counts i c.args.max_candidates c.args.m olds _ _ _ _ _ next cvrp.few c.requires.candidates.1
-    c.requires.most.1 (table_distance-same cvrp.table) (table_distance-limit cvrp.table) in
-    omega (arith, small.3)
+    omega (
+      arith,
+      (stepped c.args.cvrp.now c.args.max_candidates c.args.m (lists_of c.args.lists.now) n.lists n.k
+          n.moves n.swaps n.tests c.requires.candidates.1 c.requires.most.1 n.invariant.improved c.index-lists-k.result
+          c.in_ok-customers.customers c.deref.result.now c.in_ok-customers.report
+          (omega (arith, c.loop-k-test.true, n.auto.lists)) c.deref.ensures.value c.in_ok-customers.ensures).2,
+    )
 
 pub overflow_add-swaps : goal.overflow_add-swaps
 overflow_add-swaps c =
-    let cvrp = c.args.cvrp.now in
-    let i : Instance = instance_of cvrp in
-    let items = λ (r : Vec ℕ Global). r.items in
-    let olds : List (List ℕ) = map items c.args.lists.now in
     let n = c.loop-k in
-    let now : List (List ℕ) = map items n.lists in
-    let lt : n.k < length n.lists = omega (arith, c.loop-k-test.true, n.auto.lists) in
-    let within : n.k < length now = omega (arith, lt, length-map n.lists items) in
-    let at : c.deref.result.now ≡ get_or now n.k [] = c.deref.ensures.value
-    ∙ sym (get_or-map items n.lists n.k c.index-lists-k.result [] lt) in
-    let r = c.in_ok-customers in
-    let next : IsImprovedTo i c.args.max_candidates c.args.m olds (set now n.k r.customers.items) (n.k + 1)
-    (n.moves + r.report.moves) (n.swaps + r.report.swaps) (n.tests + r.report.tests) =
-    IsImprovedTo-more i c.args.max_candidates c.args.m olds now n.k n.moves n.swaps n.tests n.invariant.improved
-    cvrp.few c.deref.result.now r.customers.items r.report.moves r.report.swaps r.report.tests within at
-    r.ensures.improved r.ensures.same r.ensures.moves r.ensures.tests r.ensures.swaps in
-    let small = small_counts i c.args.max_candidates c.args.m olds _ _ _ _ _ next cvrp.few c.requires.candidates.1
-    c.requires.most.1 (table_distance-same cvrp.table) (table_distance-limit cvrp.table) in
-    omega (arith, small.2)
+    omega (
+      arith,
+      (stepped c.args.cvrp.now c.args.max_candidates c.args.m (lists_of c.args.lists.now) n.lists n.k
+          n.moves n.swaps n.tests c.requires.candidates.1 c.requires.most.1 n.invariant.improved c.index-lists-k.result
+          c.in_ok-customers.customers c.deref.result.now c.in_ok-customers.report
+          (omega (arith, c.loop-k-test.true, n.auto.lists)) c.deref.ensures.value c.in_ok-customers.ensures).1,
+    )
 
 pub loop-k-preserved : goal.loop-k-preserved
 loop-k-preserved c =
     let cvrp = c.args.cvrp.now in
     let i : Instance = instance_of cvrp in
-    let items = λ (r : Vec ℕ Global). r.items in
-    let olds : List (List ℕ) = map items c.args.lists.now in
+    let k = c.args.max_candidates in
+    let m = c.args.m in
+    let olds = lists_of c.args.lists.now in
     let n = c.loop-k in
-    let now : List (List ℕ) = map items n.lists in
-    let lt : n.k < length n.lists = omega (arith, c.loop-k-test.true, n.auto.lists) in
-    let within : n.k < length now = omega (arith, lt, length-map n.lists items) in
-    let at : c.deref.result.now ≡ get_or now n.k [] = c.deref.ensures.value
-    ∙ sym (get_or-map items n.lists n.k c.index-lists-k.result [] lt) in
+    let route = c.deref.result.now in
     let r = c.in_ok-customers in
-    let next : IsImprovedTo i c.args.max_candidates c.args.m olds (set now n.k r.customers.items) (n.k + 1)
-    (n.moves + r.report.moves) (n.swaps + r.report.swaps) (n.tests + r.report.tests) =
-    IsImprovedTo-more i c.args.max_candidates c.args.m olds now n.k n.moves n.swaps n.tests n.invariant.improved
-    cvrp.few c.deref.result.now r.customers.items r.report.moves r.report.swaps r.report.tests within at
-    r.ensures.improved r.ensures.same r.ensures.moves r.ensures.tests r.ensures.swaps in
-    let small = small_counts i c.args.max_candidates c.args.m olds _ _ _ _ _ next cvrp.few c.requires.candidates.1
-    c.requires.most.1 (table_distance-same cvrp.table) (table_distance-limit cvrp.table) in
-    let moved : map items (set n.lists n.k r.customers) ≡ set now n.k r.customers.items =
-    map-set items n.lists n.k r.customers in
-    let cost = cost_step i c.args.max_candidates c.args.m olds now n.k n.moves n.swaps n.tests n.invariant.improved
-    c.deref.result.now r.customers.items within at in
-    let known = next_known i c.args.max_candidates c.args.m olds now n.k n.moves n.swaps n.tests n.invariant.improved
-    c.deref.result.now within at in
-    let long =
-    route_length-limit i c.deref.result.now (table_distance-same cvrp.table) (table_distance-limit cvrp.table) in
-    let old : route_length i c.deref.result.now ≤ 40000000000000 = omega (arith, long, known.2, cvrp.few) in
-    let gain : route_length i r.customers.items ≤ route_length i c.deref.result.now = omega (arith, r.ensures.moves) in
-    let most : routes_cost i now ≤ 40000000000000 = omega (arith, n.invariant.improved.cost, small.0) in
+    let lt : n.k < length n.lists = omega (arith, c.loop-k-test.true, n.auto.lists) in
+    let at = at_place n.lists n.k c.index-lists-k.result route lt c.deref.ensures.value in
+    let moved : lists_of (set n.lists n.k r.customers) ≡ set (lists_of n.lists) n.k r.customers.items =
+    map-set (λ (list : Vec ℕ Global). list.items) n.lists n.k r.customers in
+    let cost = cost_step i k m olds (lists_of n.lists) n.k n.moves n.swaps n.tests n.invariant.improved route
+    r.customers.items at.0 at.1 in
+    let known = next_known i k m olds (lists_of n.lists) n.k n.moves n.swaps n.tests n.invariant.improved route at.0
+    at.1 in
+    let long = route_length-limit i route (table_distance-same cvrp.table) (table_distance-limit cvrp.table) in
+    let old : route_length i route ≤ 40000000000000 = omega (arith, long, known.2, cvrp.few) in
+    let gain : route_length i r.customers.items ≤ route_length i route = omega (arith, r.ensures.moves) in
+    let small = small_counts i k m olds (lists_of n.lists) n.k n.moves n.swaps n.tests n.invariant.improved cvrp.few
+    c.requires.candidates.1 c.requires.most.1 (table_distance-same cvrp.table) (table_distance-limit cvrp.table) in
+    let most : routes_cost i (lists_of n.lists) ≤ 40000000000000 = omega (arith, n.invariant.improved.cost, small.0) in
     record {
       before = n.invariant.before;
       after =
           omega (arith, ints, n.invariant.after, n.after-is, r.ensures.before, r.ensures.after, old, gain, most, cost)
           ∙ ap (λ (v : List (List ℕ)). pos (routes_cost i v)) (sym moved);
-      improved =
-          subst (λ (v : List (List ℕ)). IsImprovedTo i c.args.max_candidates c.args.m olds v (n.k + 1)
-          (n.moves + r.report.moves) (n.swaps + r.report.swaps) (n.tests + r.report.tests)) (sym moved) next;
+      improved = (stepped cvrp k m olds n.lists n.k n.moves n.swaps n.tests c.requires.candidates.1 c.requires.most.1
+          n.invariant.improved c.index-lists-k.result r.customers route r.report lt c.deref.ensures.value r.ensures).0;
     }
 
 pub returns-clause-improved : goal.returns-clause-improved
 returns-clause-improved c =
-    let cvrp = c.args.cvrp.now in
-    let i : Instance = instance_of cvrp in
-    let items = λ (r : Vec ℕ Global). r.items in
-    let olds : List (List ℕ) = map items c.args.lists.now in
     let n = c.loop-k in
-    let past : length (map items n.lists) ≤ n.k =
-    omega (arith, c.loop-k-test.false, n.auto.lists, length-map n.lists items) in
-    improved_all i c.args.max_candidates c.args.m olds (map items n.lists) n.k n.moves n.swaps n.tests
-    n.invariant.improved past
-
-pub returns-clause-tests : goal.returns-clause-tests
-returns-clause-tests c =
-    let cvrp = c.args.cvrp.now in
-    let i : Instance = instance_of cvrp in
-    let items = λ (r : Vec ℕ Global). r.items in
-    let olds : List (List ℕ) = map items c.args.lists.now in
-    let n = c.loop-k in
-    let past : length (map items n.lists) ≤ n.k =
-    omega (arith, c.loop-k-test.false, n.auto.lists, length-map n.lists items) in
-    let tested : n.tests ≤ 4 * c.args.m * c.args.max_candidates * (customer_count i + length olds + 6 * n.moves) =
-    tested_all i c.args.max_candidates c.args.m olds (map items n.lists) n.k n.moves n.swaps n.tests
-    n.invariant.improved past in
-    subst (λ (v : ℕ). n.tests ≤ 4 * c.args.m * c.args.max_candidates * (customer_count i + v + 6 * n.moves))
-    (length-map c.args.lists.now items) tested
+    let k = c.args.max_candidates in
+    let i : Instance = instance_of c.args.cvrp.now in
+    let olds = lists_of c.args.lists.now in
+    let news = lists_of n.lists in
+    let past : length news ≤ n.k =
+    omega (arith, c.loop-k-test.false, n.auto.lists, length-map n.lists (λ (list : Vec ℕ Global). list.items)) in
+    record {
+      improved = improved_all i k c.args.m olds news n.k n.moves n.swaps n.tests n.invariant.improved past;
+      before = search rules;
+      after = search rules;
+      moves = n.invariant.improved.cost;
+      tests = tested_all i k c.args.m olds news n.k n.moves n.swaps n.tests n.invariant.improved past;
+    }
 
 pub returns-clause-headline : goal.returns-clause-headline
 returns-clause-headline c =
-    let cvrp = c.args.cvrp.now in
-    let i : Instance = instance_of cvrp in
-    let items = λ (r : Vec ℕ Global). r.items in
-    let olds : List (List ℕ) = map items c.args.lists.now in
     let n = c.loop-k in
-    let past : length (map items n.lists) ≤ n.k =
-    omega (arith, c.loop-k-test.false, n.auto.lists, length-map n.lists items) in
-    let tested : n.tests ≤ 4 * c.args.m * c.args.max_candidates * (customer_count i + length olds + 6 * n.moves) =
-    tested_all i c.args.max_candidates c.args.m olds (map items n.lists) n.k n.moves n.swaps n.tests
-    n.invariant.improved past in
-    let given : n.tests ≤ 4 * c.args.m * c.args.max_candidates *
-    (customer_count i + length c.args.lists.now + 6 * n.moves) =
-    subst (λ (v : ℕ). n.tests ≤ 4 * c.args.m * c.args.max_candidates * (customer_count i + v + 6 * n.moves))
-    (length-map c.args.lists.now items) tested in
-    let few =
-    tests_by_cost (4 * c.args.m * c.args.max_candidates) (customer_count i + length c.args.lists.now) n.moves n.tests
-    (routes_cost i olds) (routes_cost i (map items n.lists)) n.invariant.improved.cost given in
-    let most : ℕ → ℕ = most_tests c.args.max_candidates c.args.m (customer_count i + length c.args.lists.now) in
-    subst (λ v. n.tests ≤ most v)
+    let k = c.args.max_candidates in
+    let i : Instance = instance_of c.args.cvrp.now in
+    let olds = lists_of c.args.lists.now in
+    let news = lists_of n.lists in
+    let past : length news ≤ n.k =
+    omega (arith, c.loop-k-test.false, n.auto.lists, length-map n.lists (λ (list : Vec ℕ Global). list.items)) in
+    let few = tests_by_cost (4 * c.args.m * k) (place_count i olds) n.moves n.tests (routes_cost i olds)
+    (routes_cost i news) n.invariant.improved.cost
+    (tested_all i k c.args.m olds news n.k n.moves n.swaps n.tests n.invariant.improved past) in
+    subst (λ v. n.tests ≤ most_tests k c.args.m (place_count i olds) v)
     (sym
-    (saved_is _ _ (routes_cost i olds) (routes_cost i (map items n.lists)) n.invariant.before n.invariant.after
+    (saved_is _ _ (routes_cost i olds) (routes_cost i news) n.invariant.before n.invariant.after
     (omega (arith, n.invariant.improved.cost)))) few

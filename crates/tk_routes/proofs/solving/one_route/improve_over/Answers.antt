@@ -1,4 +1,4 @@
-use Rattle.std.proofs.Common.{◌≡◌, ◌+◌, ◌≤◌, ◌∙◌, length, sym, ap, subst, arith, List, ℕ, pos, inl}
+use Rattle.std.proofs.Common.{◌≡◌, ◌+◌, ◌*◌, ◌/◌, ◌≤◌, ◌∙◌, length, sym, ap, subst, arith, List, ℕ, pos, inl}
 use Rattle.std.specs.Prelude.{min}
 use Rattle.tk_distance.specs.Tables.{table_distance-swap}
 use Rattle.tk_tour.proofs.Cycle.{IsRotation-refl}
@@ -25,108 +25,42 @@ read_off-requires-clause-tour g c =
     (IsTour-cycle (length c.args.route.now + 1) (order_of c.in_ok-tour.tour) c.in_ok-cycle.cycle.items tour
     printed.cycle)
 
-pub returns-clause-improved : goal.returns-clause-improved
-returns-clause-improved g c =
+pub returns : goal.returns
+returns g c =
     let i : Instance = instance_of c.args.cvrp.now in
     let route : List ℕ = c.args.route.now in
     let new : List ℕ = c.in_ok-read_off.field-0.items in
     let T : List ℕ = order_of c.in_ok-tour.tour in
+    let report = c.in_ok-tour.report in
+    let made = c.in_ok-tour.ensures in
     let size = c.requires.size in
-    let tour : IsTour (length route + 1) T = subst (λ (v : ℕ). IsTour v T) size c.in_ok-tour.ensures.tour in
+    let tour : IsTour (length route + 1) T = subst (λ (v : ℕ). IsTour v T) size made.tour in
     let printed = c.in_ok-cycle.ensures.printed in
     let off : IsReadOff route c.in_ok-cycle.cycle.items new =
     subst (λ (v : List ℕ). IsReadOff route v new) c.deref.ensures.value c.in_ok-read_off.ensures in
     let read : IsReadOff route T new = IsReadOff-cycle route T c.in_ok-cycle.cycle.items new printed.cycle off in
     let given : ℕ → ℕ → ℕ = g.M.Metric.distance c.args.metric.now in
     let distances : given ≡ place_distance i.distance (route_nodes i route) = c.requires.distances in
+    let before : route_length i route ≡ tour_length given (one_to (g.M.Metric.size_of c.args.metric.now)) =
+    route_length-places i route ∙ ap (λ (d : ℕ → ℕ → ℕ). tour_length d (one_to (length route + 1))) (sym distances)
+    ∙ ap (λ (n : ℕ). tour_length given (one_to n)) (sym size) in
+    let after : route_length i new ≡ tour_length given T =
+    route_length-read i route T new (table_distance-swap c.args.cvrp.now.table) read tour
+    ∙ ap (λ (d : ℕ → ℕ → ℕ). tour_length d T) (sym distances) in
     let width : c.in_ok-near.near.width ≡ min c.args.max_candidates (length route) = c.in_ok-near.ensures.width
     ∙ c.min.ensures in
-    IsImproved-read i c.args.max_candidates c.args.m route new T T given (g.M.Metric.size_of c.args.metric.now)
-    c.in_ok-near.near c.in_ok-tour.report.looks c.in_ok-tour.report.moves c.in_ok-tour.report.tests
-    c.in_ok-tour.report.swaps
-    distances size c.in_ok-near.ensures.size width c.in_ok-near.ensures.near c.in_ok-tour.ensures.pass
-    c.in_ok-tour.ensures.flipped c.in_ok-tour.ensures.swaps
-    (inl (IsRotation-refl T)) read
-
-pub returns-clause-same : goal.returns-clause-same
-returns-clause-same g c =
-    let i : Instance = instance_of c.args.cvrp.now in
-    let route : List ℕ = c.args.route.now in
-    let new : List ℕ = c.in_ok-read_off.field-0.items in
-    let T : List ℕ = order_of c.in_ok-tour.tour in
-    let size = c.requires.size in
-    let tour : IsTour (length route + 1) T = subst (λ (v : ℕ). IsTour v T) size c.in_ok-tour.ensures.tour in
-    let printed = c.in_ok-cycle.ensures.printed in
-    let off : IsReadOff route c.in_ok-cycle.cycle.items new =
-    subst (λ (v : List ℕ). IsReadOff route v new) c.deref.ensures.value c.in_ok-read_off.ensures in
-    let read : IsReadOff route T new = IsReadOff-cycle route T c.in_ok-cycle.cycle.items new printed.cycle off in
-    IsPermutation-read route T new read tour
-
-pub returns-clause-before : goal.returns-clause-before
-returns-clause-before g c =
-    let i : Instance = instance_of c.args.cvrp.now in
-    let route : List ℕ = c.args.route.now in
-    let new : List ℕ = c.in_ok-read_off.field-0.items in
-    let T : List ℕ = order_of c.in_ok-tour.tour in
-    let size = c.requires.size in
-    let given : ℕ → ℕ → ℕ = g.M.Metric.distance c.args.metric.now in
-    let distances : given ≡ place_distance i.distance (route_nodes i route) = c.requires.distances in
-    let before : route_length i route ≡ tour_length given (one_to (g.M.Metric.size_of c.args.metric.now)) =
-    route_length-places i route ∙ ap (λ (d : ℕ → ℕ → ℕ). tour_length d (one_to (length route + 1))) (sym distances)
-    ∙ ap (λ (n : ℕ). tour_length given (one_to n)) (sym size) in
-    c.in_ok-tour.ensures.before ∙ ap pos (sym before)
-
-pub returns-clause-after : goal.returns-clause-after
-returns-clause-after g c =
-    let i : Instance = instance_of c.args.cvrp.now in
-    let route : List ℕ = c.args.route.now in
-    let new : List ℕ = c.in_ok-read_off.field-0.items in
-    let T : List ℕ = order_of c.in_ok-tour.tour in
-    let size = c.requires.size in
-    let tour : IsTour (length route + 1) T = subst (λ (v : ℕ). IsTour v T) size c.in_ok-tour.ensures.tour in
-    let printed = c.in_ok-cycle.ensures.printed in
-    let off : IsReadOff route c.in_ok-cycle.cycle.items new =
-    subst (λ (v : List ℕ). IsReadOff route v new) c.deref.ensures.value c.in_ok-read_off.ensures in
-    let read : IsReadOff route T new = IsReadOff-cycle route T c.in_ok-cycle.cycle.items new printed.cycle off in
-    let given : ℕ → ℕ → ℕ = g.M.Metric.distance c.args.metric.now in
-    let distances : given ≡ place_distance i.distance (route_nodes i route) = c.requires.distances in
-    let after : route_length i new ≡ tour_length given T =
-    route_length-read i route T new (table_distance-swap c.args.cvrp.now.table) read tour
-    ∙ ap (λ (d : ℕ → ℕ → ℕ). tour_length d T) (sym distances) in
-    c.in_ok-tour.ensures.after ∙ ap pos (sym after)
-
-pub returns-clause-moves : goal.returns-clause-moves
-returns-clause-moves g c =
-    let i : Instance = instance_of c.args.cvrp.now in
-    let route : List ℕ = c.args.route.now in
-    let new : List ℕ = c.in_ok-read_off.field-0.items in
-    let T : List ℕ = order_of c.in_ok-tour.tour in
-    let size = c.requires.size in
-    let tour : IsTour (length route + 1) T = subst (λ (v : ℕ). IsTour v T) size c.in_ok-tour.ensures.tour in
-    let printed = c.in_ok-cycle.ensures.printed in
-    let off : IsReadOff route c.in_ok-cycle.cycle.items new =
-    subst (λ (v : List ℕ). IsReadOff route v new) c.deref.ensures.value c.in_ok-read_off.ensures in
-    let read : IsReadOff route T new = IsReadOff-cycle route T c.in_ok-cycle.cycle.items new printed.cycle off in
-    let given : ℕ → ℕ → ℕ = g.M.Metric.distance c.args.metric.now in
-    let distances : given ≡ place_distance i.distance (route_nodes i route) = c.requires.distances in
-    let after : route_length i new ≡ tour_length given T =
-    route_length-read i route T new (table_distance-swap c.args.cvrp.now.table) read tour
-    ∙ ap (λ (d : ℕ → ℕ → ℕ). tour_length d T) (sym distances) in
-    let before : route_length i route ≡ tour_length given (one_to (g.M.Metric.size_of c.args.metric.now)) =
-    route_length-places i route ∙ ap (λ (d : ℕ → ℕ → ℕ). tour_length d (one_to (length route + 1))) (sym distances)
-    ∙ ap (λ (n : ℕ). tour_length given (one_to n)) (sym size) in
-    let made : c.in_ok-tour.report.moves + tour_length given T ≤ tour_length given
-    (one_to (g.M.Metric.size_of c.args.metric.now)) = c.in_ok-tour.ensures.moves in
-    let goes : c.in_ok-tour.report.moves + route_length i new ≤ route_length i route =
-    omega (arith, made, after, before) in
-    goes
-
-pub returns-clause-tests : goal.returns-clause-tests
-returns-clause-tests g c =
-    let i : Instance = instance_of c.args.cvrp.now in
-    let route : List ℕ = c.args.route.now in
-    let size = c.requires.size in
-    let width : c.in_ok-near.near.width ≤ c.args.max_candidates =
-    omega (arith, c.in_ok-near.ensures.width, c.min.ensures) in
-    tests_within c.args.m c.in_ok-near.near.width c.args.max_candidates (g.M.Metric.size_of c.args.metric.now)
-    (length route + 1) c.in_ok-tour.report.moves c.in_ok-tour.report.tests width size c.in_ok-tour.ensures.tests
+    record {
+      improved = IsImproved-read i c.args.max_candidates c.args.m route new T T given
+          (g.M.Metric.size_of c.args.metric.now)
+          c.in_ok-near.near report.looks report.moves report.tests report.swaps distances size
+          c.in_ok-near.ensures.size width c.in_ok-near.ensures.near made.pass made.flipped made.swaps
+          (inl (IsRotation-refl T)) read;
+      same = IsPermutation-read route T new read tour;
+      before = made.before ∙ ap pos (sym before);
+      after = made.after ∙ ap pos (sym after);
+      moves = omega (arith, made.moves, after, before);
+      tests = tests_within c.args.m c.in_ok-near.near.width c.args.max_candidates
+          (g.M.Metric.size_of c.args.metric.now) (length route + 1) report.moves report.tests (omega (arith, width))
+          size made.tests;
+      swaps = subst (λ (v : ℕ). report.swaps ≤ 3 * (v / 4) * report.moves) size made.swaps;
+    }

@@ -9,5 +9,5 @@ returns-then-stopped g c = λ start failed text h.
 
 pub returns : goal.returns
 returns g c = λ start failed text h.
-    IsPut-whole g.W.Sink.taken g.W.Sink.broken start failed text _ _ _ (c.send-written.ensures.put start failed text h)
+    IsPut-whole g.W.Sink start failed text _ _ _ (c.send-written.ensures.put start failed text h)
     c.if-stopped.false

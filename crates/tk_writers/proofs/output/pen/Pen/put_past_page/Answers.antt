@@ -11,11 +11,11 @@ loop-rest-preserved g c =
     rw (c.split_at.ensures.front, c.split_at.ensures.back) (take-append-drop _ _) in (
       done ++ (piece ++ []),
       rw append-nil (append_assoc done piece rest ∙ ap (λ l. done ++ l) parts ∙ c.loop-rest.invariant.1),
-      Puts-then _ _ _ _ _ _ _ c.loop-rest.invariant.2
-          (Puts-then _ _ _ _ _ _ _ (Puts-added _ _ _ _ _ refl refl refl refl c.push.ensures) c.send_page.ensures.puts),
+      Puts-then c.loop-rest.invariant.2
+          (Puts-then (Puts-added _ _ _ _ refl refl refl refl c.push.ensures) c.send_page.ensures.puts),
     )
 
 pub returns : goal.returns
 returns g c =
     rw (sym c.loop-rest.invariant.1)
-    (Puts-then _ _ _ _ _ _ _ c.loop-rest.invariant.2 (Puts-added _ _ _ _ _ refl refl refl refl c.push-2.ensures))
+    (Puts-then c.loop-rest.invariant.2 (Puts-added _ _ _ _ refl refl refl refl c.push-2.ensures))

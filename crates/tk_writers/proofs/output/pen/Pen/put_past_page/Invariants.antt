@@ -5,7 +5,7 @@ use Rattle.tk_writers.proofs.output.pen.Pen.put_past_page.Given as goal
 
 abbrev pub invariant-loop-rest : goal.invariant-loop-rest
 invariant-loop-rest g l = (done : List ℕ) × (done ++ l.rest ≡ l.bytes)
-    × Puts g.W.Sink.taken g.W.Sink.broken l.initial.self l.self done
+    × Puts g.W.Sink l.initial.self l.self done
 
 abbrev pub decreases-loop-rest : goal.decreases-loop-rest
 decreases-loop-rest g l = length l.rest + length l.self.page

@@ -9,8 +9,8 @@ pub loop-number-preserved : goal.loop-number-preserved
 loop-number-preserved g c =
     rw (flat_map_take (λ y. codes " " ++ decimal y) c.in-Some.rest.now c.loop-number.number-index
     c.loop-number-test.true)
-    (Puts-then _ _ _ _ _ _ _ c.loop-number.invariant
-    (Puts-then _ _ _ _ _ _ _ c.put.ensures c.put_number-in-loop-number.ensures))
+    (Puts-then c.loop-number.invariant
+    (Puts-then c.put.ensures c.put_number-in-loop-number.ensures))
 
 pub returns : goal.returns
 returns g c =
@@ -18,5 +18,5 @@ returns g c =
     let i = c.loop-number.number-index in
     let all : i ≡ length rest = omega (arith, c.loop-number.auto.number-index-end) in
     rw c.in-Some.ensures.cases.0
-    (Puts-then _ _ _ _ _ _ _ c.put_number.ensures
-    (subst (Puts _ _ _ _) (flat_map_all (λ y. codes " " ++ decimal y) rest i all) c.loop-number.invariant))
+    (Puts-then c.put_number.ensures
+    (subst (Puts _ _ _) (flat_map_all (λ y. codes " " ++ decimal y) rest i all) c.loop-number.invariant))

@@ -6,5 +6,5 @@ use Rattle.tk_writers.proofs.output.pen.Pen.put_spaced.Given as goal
 
 abbrev pub invariant-loop-number : goal.invariant-loop-number
 invariant-loop-number g l =
-    Puts g.W.Sink.taken g.W.Sink.broken l.initial.self l.self
+    Puts g.W.Sink l.initial.self l.self
     (flat_map (λ y. codes " " ++ decimal y) (take l.number-index l.rest))
