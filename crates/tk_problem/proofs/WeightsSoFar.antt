@@ -55,15 +55,28 @@ places_push : (s : Filling) (f : Format) (n : ℕ) (ws : List ℕ) (w : ℕ) →
 places_push s f n ws w h = ap (drop 1) h.places ∙ drop-drop 1 (length ws) (order f n)
     ∙ ap (λ k. drop k (order f n)) (sym (length_push ws w))
 
-pub so_far_push : (s : Filling) (f : Format) (n : ℕ) (ws : List ℕ) (w : ℕ) (p : Place) → IsSoFar s f n ws
-    → IsNext f n ws p → p.row ≢ p.column
+-- the next place is of a pair
+pub record IsNextPair (s : Filling) (f : Format) (n : ℕ) (ws : List ℕ) (p : Place) : Type 0 where
+  pub so_far : IsSoFar s f n ws
+  pub next : IsNext f n ws p
+  pub apart : p.row ≢ p.column
+
+pub next_pair : (s : Filling) (f : Format) (n : ℕ) (ws : List ℕ) (p : Place) → IsSoFar s f n ws →
+    slice_get s.places 0 ≡ Some p → IfSome (slice_get s.places 0) (λ q. q.row ≢ q.column) → IsNextPair s f n ws p
+next_pair s f n ws p h first pair = record {
+  so_far = h;
+  next = next_place s f n ws p h first;
+  apart = subst (λ o. IfSome o (λ q. q.row ≢ q.column)) first pair;
+}
+
+pub so_far_push : (s : Filling) (f : Format) (n : ℕ) (ws : List ℕ) (w : ℕ) (p : Place) → IsNextPair s f n ws p
     → IsSoFar (record { places = drop 1 s.places; weights = set s.weights (lower_index p) w }) f n (ws ++ w ∷ [])
-so_far_push s f n ws w p h next apart = record {
-  few = omega (arith, length_push ws w, next.inside);
-  places = places_push s f n ws w h;
-  weights = ap (λ vs. set vs (lower_index p) w) h.weights
-      ∙ sym (ap (lower_of n) (entries-push f n ws w p next)
-      ∙ lower_of-push n (entries f n ws) p w next.row next.column apart);
+so_far_push s f n ws w p h = record {
+  few = omega (arith, length_push ws w, h.next.inside);
+  places = places_push s f n ws w h.so_far;
+  weights = ap (λ vs. set vs (lower_index p) w) h.so_far.weights
+      ∙ sym (ap (lower_of n) (entries-push f n ws w p h.next)
+      ∙ lower_of-push n (entries f n ws) p w h.next.row h.next.column h.apart);
 }
 
 so_far_on : (s : Filling) (f : Format) (n : ℕ) (ws : List ℕ) (w : ℕ) (p : Place) → IsSoFar s f n ws → IsNext f n ws p
@@ -84,24 +97,22 @@ so_far_skip s f n ws w h some on =
     let first : slice_get s.places 0 ≡ Some p = slice_get-get_or s.places 0 origin some in
     so_far_on s f n ws w p h (next_place s f n ws p h first) (subst (λ o. IfSome o (λ q. q.row ≡ q.column)) first on)
 
-pub weight_so_far : (s : Filling) (f : Format) (n : ℕ) (ws : List ℕ) (p : Place) → IsSoFar s f n ws → IsNext f n ws p
-    → p.row ≢ p.column
+weight_so_far : (s : Filling) (f : Format) (n : ℕ) (ws : List ℕ) (p : Place) → IsNextPair s f n ws p
     → get_or s.weights (lower_index p) 0 ≡ weight_of p.row p.column (entries f n ws)
-weight_so_far s f n ws p h next apart = ap (λ vs. get_or vs (lower_index p) 0) h.weights
-    ∙ weight_at n (entries f n ws) p next.row next.column apart
+weight_so_far s f n ws p h = ap (λ vs. get_or vs (lower_index p) 0) h.so_far.weights
+    ∙ weight_at n (entries f n ws) p h.next.row h.next.column h.apart
 
-pub weight_read : (s : Filling) (f : Format) (n : ℕ) (ws : List ℕ) (p : Place) (w : ℕ) → IsSoFar s f n ws
-    → IsNext f n ws p → p.row ≢ p.column → w ≡ get_or s.weights (lower_index p) w
-    → w ≡ weight_of p.row p.column (entries f n ws)
-weight_read s f n ws p w h next apart read =
+pub weight_read : (s : Filling) (f : Format) (n : ℕ) (ws : List ℕ) (p : Place) (w : ℕ) → IsNextPair s f n ws p
+    → w ≡ get_or s.weights (lower_index p) w → w ≡ weight_of p.row p.column (entries f n ws)
+weight_read s f n ws p w h read =
     let short : lower_index p < length s.weights =
     omega (
       arith,
-      ap length h.weights,
+      ap length h.so_far.weights,
       length-lower_of n (entries f n ws),
-      lower_index-lt n p next.row next.column apart,
+      lower_index-lt n p h.next.row h.next.column h.apart,
     ) in
-    get_or_read s.weights (lower_index p) w short read 0 ∙ weight_so_far s f n ws p h next apart
+    get_or_read s.weights (lower_index p) w short read 0 ∙ weight_so_far s f n ws p h
 
 -- ---- no weight yet
 
