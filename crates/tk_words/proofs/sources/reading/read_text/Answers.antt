@@ -7,18 +7,25 @@ use Rattle.tk_words.specs.declared.sources.reading.TheConstants.{BUFFER_SIZE}
 use Rattle.tk_words.proofs.Told.{told_of, fault_of}
 use Rattle.tk_words.proofs.Driving.{answer_ended, ended_fault, ended_value, where_read, where_decided}
 use Rattle.tk_words.proofs.Driving.{where_ended, where_cut_off}
+use Rattle.tk_words.proofs.sources.reading.read_text.Given.{Over}
 use Rattle.tk_words.proofs.sources.reading.read_text.Goals as goal
+use Rattle.tk_words.proofs.sources.reading.read_text.Goals.{After-read}
+
+-- what the bytes before a read decide, wants more
+wants : (g : Over) (c : After-read g) → WantMore g.P.TextReader.texts c.loop-n.invariant.fed.0
+wants g c =
+    let i = c.loop-n.invariant.fed in
+    record {
+      undecided = g.met.P.TextReader.waits _ _ i.1;
+      within = omega (arith, i.2, c.limit-limit.ensures.0, c.loop-n.invariant.room);
+    }
 
 pub returns-in-Err : goal.returns-in-Err
 returns-in-Err g c =
     let i = c.loop-n.invariant.fed in
     let texts = g.P.TextReader.texts in
     let left = g.R.Source.left in
-    let want : WantMore texts i.0 =
-    record {
-      undecided = g.met.P.TextReader.waits _ _ i.1;
-      within = omega (arith, i.2, c.limit-limit.ensures.0, c.loop-n.invariant.room);
-    } in
+    let want = wants g (goal.at.returns-in-Err g c).After-read in
     record {
       reads = record {
         ok = tt;
@@ -39,8 +46,7 @@ returns-then-n-eq0 g c =
     let texts = g.P.TextReader.texts in
     let left = g.R.Source.left in
     let view = g.P.TextReader.view in
-    let within : length i.0 ≤ texts.limit = omega (arith, i.2, c.limit-limit.ensures.0, c.loop-n.invariant.room) in
-    let want : WantMore texts i.0 = record { undecided = g.met.P.TextReader.waits _ _ i.1; within = within } in
+    let want = wants g (goal.at.returns-then-n-eq0 g c).After-read in
     let none : Consumes (left c.loop-n.source) (left c.read.new.self) [] =
     rw c.if-n-eq0.true at c.in-Ok.ensures.bytes.0 in
     let at_end : IsAtEnd (left c.read.new.self) = c.in-Ok.ensures.bytes.1 c.if-n-eq0.true (omega arith) in
@@ -57,10 +63,10 @@ returns-then-n-eq0 g c =
             (λ e. where_ended texts i.0 want (Err f) (left c.args.source.now) (left c.loop-n.source)
             (left c.read.new.self) e i.3 none at_end) h);
         some_text = ended_value texts view i.0 c.finish.result _ ended
-            (λ v h. (i.0, answer_ended texts i.0 (Ok (view v)) within h));
+            (λ v h. (i.0, answer_ended texts i.0 (Ok (view v)) want.within h));
         some_fault = ended_fault texts view i.0 c.finish.result _ ended
             (λ f h. told_of (Unit {0}) (λ e. DecidesEnded texts i.0 (Err e)) (λ e. IsOfSomeText texts (Err e)) f
-            (texts.cause f) (λ e. (i.0, answer_ended texts i.0 (Err f) within e)) h);
+            (texts.cause f) (λ e. (i.0, answer_ended texts i.0 (Err f) want.within e)) h);
         intact = search rules;
       };
     }
@@ -71,11 +77,7 @@ returns-in_err-feed_piece g c =
     let texts = g.P.TextReader.texts in
     let left = g.R.Source.left in
     let piece = take c.in-Ok.n c.read.new.buf in
-    let want : WantMore texts i.0 =
-    record {
-      undecided = g.met.P.TextReader.waits _ _ i.1;
-      within = omega (arith, i.2, c.limit-limit.ensures.0, c.loop-n.invariant.room);
-    } in
+    let want = wants g (goal.at.returns-in_err-feed_piece g c).After-read in
     let few : length piece ≤ BUFFER_SIZE = omega (arith, length-take c.in-Ok.n c.read.new.buf) in
     let far = where_read texts i.0 want (left c.args.source.now) (left c.loop-n.source) (left c.read.new.self)
     piece few i.3 c.in-Ok.ensures.bytes.0 in
@@ -102,11 +104,7 @@ returns-then-branch g c =
     let texts = g.P.TextReader.texts in
     let left = g.R.Source.left in
     let piece = take c.in-Ok.n c.read.new.buf in
-    let want : WantMore texts i.0 =
-    record {
-      undecided = g.met.P.TextReader.waits _ _ i.1;
-      within = omega (arith, i.2, c.limit-limit.ensures.0, c.loop-n.invariant.room);
-    } in
+    let want = wants g (goal.at.returns-then-branch g c).After-read in
     let few : length piece ≤ BUFFER_SIZE = omega (arith, length-take c.in-Ok.n c.read.new.buf) in
     let told = rw c.if-branch.true at (c.in_ok-feed_piece.ensures.taken i.0 i.1 i.2) in
     record {
