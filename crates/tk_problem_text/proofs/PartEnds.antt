@@ -43,35 +43,41 @@ first_kind-stops (x ∷ xs) ys k h = by_test x.0 refl h (first_kind-stops xs ys 
     by_test true e h before = rw e h
     by_test false e h before = rw e (before h)
 
--- a CVRP whose depot has no demand: what is left is that no node has too much
-module _ (p : Parts) (ps : List Piece) (k : HasParts p ps) (capacity : ℕ) (demand : Vec ℕ Global) (depot : ℕ)
-    (type_is : p.headers.problem_type ≡ Some types.Cvrp) (capacity_is : p.headers.capacity ≡ Some capacity)
-    (demand_is : p.demand ≡ Some demand) (depot_is : p.depot ≡ Some depot) where
+-- a CVRP with a capacity, demands and a depot
+pub record IsRouting (p : Parts) (capacity : ℕ) (demand : Vec ℕ Global) (depot : ℕ) : Type 0 where
+  pub type_is : p.headers.problem_type ≡ Some types.Cvrp
+  pub capacity_is : p.headers.capacity ≡ Some capacity
+  pub demand_is : p.demand ≡ Some demand
+  pub depot_is : p.depot ≡ Some depot
+
+module _ {p : Parts} {ps : List Piece} {capacity : ℕ} {demand : Vec ℕ Global} {depot : ℕ} (k : HasParts p ps)
+    (r : IsRouting p capacity demand depot) where
   same_demands : demands_of ps ≡ demand.items
-  same_demands = sym (subst (λ o. IfSome o (λ v. v.items ≡ demands_of ps)) demand_is k.demand.is)
+  same_demands = sym (subst (λ o. IfSome o (λ v. v.items ≡ demands_of ps)) r.demand_is k.demand.is)
 
   same_depot : depot_of ps ≡ depot
-  same_depot = sym (subst (λ o. IfSome o (λ d. d ≡ depot_of ps)) depot_is k.depot.is)
+  same_depot = sym (subst (λ o. IfSome o (λ d. d ≡ depot_of ps)) r.depot_is k.depot.is)
 
   pub first_node : 1 ≤ depot
-  first_node = (subst (λ o. IfSome o (λ d. (1 ≤ d) × (d ≤ size_of ps))) depot_is k.depot_in).0
+  first_node = (subst (λ o. IfSome o (λ d. (1 ≤ d) × (d ≤ size_of ps))) r.depot_is k.depot_in).0
 
   pub few : length demand.items < 2 ^ 32
   few =
       let n : length (demands_of ps) ≡ size_of ps =
       length-map-range_with_len (row_of 0 (demand_rows (tokens_in words.DemandSection ps))) 1 (size_of ps) in
-      let small = subst (λ o. IfSome o (λ _. size_of ps ≤ TABLE_LIMIT)) demand_is k.demand_small in
+      let small = subst (λ o. IfSome o (λ _. size_of ps ≤ TABLE_LIMIT)) r.demand_is k.demand_small in
       omega (arith, n, small, ap length same_demands)
 
+  -- where the depot has no demand, what is left is that no node has too much
   pub rest_of_routing : get_or demand.items (depot - 1) 0 ≡ 0 →
       first_kind (routing_ends_of ps) ≡ first_kind (over_capacity capacity 1 demand.items)
   rest_of_routing rests =
-      let has_capacity : has words.Capacity ps ≡ true = k.headers.capacity.came ∙ ap is_some capacity_is in
-      let has_demand : has words.DemandSection ps ≡ true = k.demand.came ∙ ap is_some demand_is in
-      let has_depot : has words.DepotSection ps ≡ true = k.depot.came ∙ ap is_some depot_is in
-      let type_so : problem_type ps ≡ Some types.Cvrp = k.headers.problem_type.says ∙ type_is in
+      let has_capacity : has words.Capacity ps ≡ true = k.headers.capacity.came ∙ ap is_some r.capacity_is in
+      let has_demand : has words.DemandSection ps ≡ true = k.demand.came ∙ ap is_some r.demand_is in
+      let has_depot : has words.DepotSection ps ≡ true = k.depot.came ∙ ap is_some r.depot_is in
+      let type_so : problem_type ps ≡ Some types.Cvrp = k.headers.problem_type.says ∙ r.type_is in
       let capacity_so : capacity_of ps ≡ capacity =
-      ap (λ (o : Option ℕ). unwrap_or o 0) (k.headers.capacity.says ∙ capacity_is) in
+      ap (λ (o : Option ℕ). unwrap_or o 0) (k.headers.capacity.says ∙ r.capacity_is) in
       rw (type_so, has_capacity, has_demand, has_depot, same_depot, same_demands, rests)
       (ap (λ (c : ℕ). first_kind (over_capacity c 1 demand.items)) capacity_so)
 

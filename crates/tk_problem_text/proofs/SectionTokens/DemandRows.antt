@@ -16,7 +16,7 @@ use Rattle.tk_problem_text.specs.Reader.Nodes.{Named, HasNamed, HasNext}
 use Rattle.tk_problem_text.specs.Reader.Demands.{Loading, HasDemands}
 use Rattle.tk_problem_text.specs.Sections.Rows.{number_in, nodes_in, demand_rows, demands_of, node_tests, demand_tests}
 use Rattle.tk_problem_text.proofs.SectionTokens.Rows.{by_node-push, node_tests-told, number_tests-told}
-use Rattle.tk_problem_text.proofs.SectionTokens.FixedSections.{fixed_taken-last, fixed_taken-more}
+use Rattle.tk_problem_text.proofs.SectionTokens.FixedSections.{EndsRow, fixed_taken-last, fixed_taken-more}
 
 -- ---- the rows
 
@@ -115,13 +115,13 @@ module _ (n : ℕ) (loads : List ℕ) (nodes : Named) (toks : List Token) where
           length-map (demand_rows has.rows) (λ r. r.0),
         )
 
-    pub load_last : nodes.left ≡ 0 → takens.Last ≡ fixed_taken (2 * n) toks
+    load_last : nodes.left ≡ 0 → takens.Last ≡ fixed_taken (2 * n) toks
     load_last none = fixed_taken-last (2 * n) toks (omega (arith, none, length-load, named-count))
 
-    pub load_more : nodes.left ≢ 0 → takens.More ≡ fixed_taken (2 * n) toks
+    load_more : nodes.left ≢ 0 → takens.More ≡ fixed_taken (2 * n) toks
     load_more some = fixed_taken-more (2 * n) toks (λ e. some (omega (arith, e, length-load, named-count)))
 
-    pub load_taken : (t : Token) (load : ℕ) → integer t.bytes ≡ Some (pos load) →
+    load_taken : (t : Token) (load : ℕ) → integer t.bytes ≡ Some (pos load) →
         HasDemands n (record { loads = set loads index load; nodes = nodes; node = None }) (toks ++ t ∷ [])
     load_taken t load is =
         let a = has.begun.0 in
@@ -147,3 +147,14 @@ module _ (n : ℕ) (loads : List ℕ) (nodes : Named) (toks : List Token) where
               ∙ rw more (by_node-push 0 n index (demand_rows has.rows) load next.within next.new);
           begun = (refl, rw (more, map_push) next.named);
         }
+
+    pub load_ends_row : (t : Token) (load : ℕ) → first_at t.line (number_tests 0 CAPACITY_LIMIT t.bytes) ≡ None
+        → integer t.bytes ≡ Some (pos load)
+        → EndsRow (HasDemands n) (demand_tests n) (2 * n) nodes.left
+        (record { loads = set loads index load; nodes = nodes; node = None }) toks t
+    load_ends_row t load fine is = record {
+      fine = ap (first_at t.line) (demand_tests-load t) ∙ fine;
+      kept = load_taken t load is;
+      last = load_last;
+      more = load_more;
+    }

@@ -244,4 +244,12 @@ pub fixed_taken-more : (count : ℕ) (toks : List Token) → suc (length toks) �
     takens.More ≡ fixed_taken count toks
 fixed_taken-more count toks fewer = rw (ne_eqb (suc (length toks)) count fewer) refl
 
+-- a token ends a row: it is taken, and it is the last of its section where no row is left
+pub record EndsRow {S : Type 0} (has : S → List Token → Type 0) (tests : TokenTests) (count left : ℕ) (new : S)
+    (toks : List Token) (t : Token) : Type 0 where
+  pub fine : first_at t.line (tests toks t) ≡ None
+  pub kept : has new (toks ++ t ∷ [])
+  pub last : left ≡ 0 → takens.Last ≡ fixed_taken count toks
+  pub more : left ≢ 0 → takens.More ≡ fixed_taken count toks
+
 -- ---- the sections of a problem

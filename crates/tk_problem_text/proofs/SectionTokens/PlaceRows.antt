@@ -26,7 +26,7 @@ use Rattle.tk_problem_text.specs.Sections.Rows.{node_tests, coordinate_tests, pl
 use Rattle.tk_lines.specs.Reader.Forms.{IsToldWord}
 use Rattle.tk_problem_text.proofs.SectionTokens.Rows.{by_node-push}
 use Rattle.tk_lines.proofs.Pieces.ToldFaults.{told_first}
-use Rattle.tk_problem_text.proofs.SectionTokens.FixedSections.{fixed_taken-last, fixed_taken-more}
+use Rattle.tk_problem_text.proofs.SectionTokens.FixedSections.{EndsRow, fixed_taken-last, fixed_taken-more}
 
 -- ---- the rows
 
@@ -191,13 +191,13 @@ module _ (n : ℕ) (places : List Point) (nodes : Named) (toks : List Token) whe
           length-map (place_rows has.rows) (λ r. r.0),
         )
 
-    pub y_last : nodes.left ≡ 0 → takens.Last ≡ fixed_taken (3 * n) toks
+    y_last : nodes.left ≡ 0 → takens.Last ≡ fixed_taken (3 * n) toks
     y_last none = fixed_taken-last (3 * n) toks (omega (arith, none, length-y, named-count))
 
-    pub y_more : nodes.left ≢ 0 → takens.More ≡ fixed_taken (3 * n) toks
+    y_more : nodes.left ≢ 0 → takens.More ≡ fixed_taken (3 * n) toks
     y_more some = fixed_taken-more (3 * n) toks (λ e. some (omega (arith, e, length-y, named-count)))
 
-    pub y_taken : (t : Token) (y : ℤ) → decimal_of t.bytes ≡ Some y
+    y_taken : (t : Token) (y : ℤ) → decimal_of t.bytes ≡ Some y
         → HasPlaces n
         (record { places = set places index (record { x = x; y = y }); nodes = nodes; wanted = wants.Node })
         (toks ++ t ∷ [])
@@ -228,3 +228,13 @@ module _ (n : ℕ) (places : List Point) (nodes : Named) (toks : List Token) whe
               (by_node-push origin n index (place_rows has.rows) (record { x = x; y = y }) next.within next.new);
           begun = (refl, rw (more, map_push) next.named);
         }
+
+    pub y_ends_row : (t : Token) (y : ℤ) → Ok y ≡ limited (decimal_of t.bytes)
+        → EndsRow (HasPlaces n) (place_tests n) (3 * n) nodes.left
+        (record { places = set places index (record { x = x; y = y }); nodes = nodes; wanted = wants.Node }) toks t
+    y_ends_row t y value = record {
+      fine = ap (first_at t.line) (place_tests-y t) ∙ coordinate_tests-ok t t.line y value;
+      kept = y_taken t y (limited-ok (decimal_of t.bytes) y value).0;
+      last = y_last;
+      more = y_more;
+    }

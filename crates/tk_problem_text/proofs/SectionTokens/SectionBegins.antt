@@ -111,43 +111,51 @@ module _ (before : List Piece) (word : Keyword) (n : ℕ) (none : first_at n (wo
   open_at (sections.Display left) u =
       (u.0, some_tokens words.DisplayDataSection u.0 refl (omega (arith, low)), omega (arith, u.1))
 
-module _ (p : Parts) (before : List Piece) (word : Keyword) (n : ℕ) (has_parts : HasParts p before)
-    (fresh : Begun.came before word ≡ Some false)
-    (kind : ProblemType) (typed : p.headers.problem_type ≡ Some kind) (size : ℕ)
-    (sized : p.headers.dimension ≡ Some size) where
+-- the section of a word is a new one, and the problem's type and its size are known
+pub record MayBegin (p : Parts) (before : List Piece) (word : Keyword) (kind : ProblemType) (size : ℕ) : Type 0 where
+  pub has_parts : HasParts p before
+  pub fresh : Begun.came before word ≡ Some false
+  pub typed : p.headers.problem_type ≡ Some kind
+  pub sized : p.headers.dimension ≡ Some size
+
+module _ {p : Parts} {before : List Piece} {word : Keyword} {kind : ProblemType} {size : ℕ}
+    (may : MayBegin p before word kind size) where
   pub size_is : size_of before ≡ size
-  size_is = ap (λ (o : Option ℕ). unwrap_or o 0) (has_parts.headers.dimension.says ∙ sized)
+  size_is = ap (λ (o : Option ℕ). unwrap_or o 0) (may.has_parts.headers.dimension.says ∙ may.sized)
 
   pub size_within : (2 ≤ size) × (size ≤ CITY_LIMIT)
   size_within =
-      number_in_limits 2 CITY_LIMIT size (value_of words.Dimension before) (has_parts.headers.dimension.says ∙ sized)
+      number_in_limits 2 CITY_LIMIT size (value_of words.Dimension before) (may.has_parts.headers.dimension.says
+      ∙ may.sized)
+
+  known_and_new : (is_known_section word ≡ true) × (has word before ≡ false)
+  known_and_new = of_came (is_known_section word) (has word before) may.fresh
 
   pub known : is_known_section word ≡ true
-  known = (of_came (is_known_section word) (has word before) fresh).0
+  known = known_and_new.0
 
   typed_before : has words.Type before ≡ true
-  typed_before = has_parts.headers.problem_type.came ∙ ap is_some typed
+  typed_before = may.has_parts.headers.problem_type.came ∙ ap is_some may.typed
 
   sized_before : has words.Dimension before ≡ true
-  sized_before = has_parts.headers.dimension.came ∙ ap is_some sized
+  sized_before = may.has_parts.headers.dimension.came ∙ ap is_some may.sized
 
-  pub word_passes : first_at n (word_tests before word) ≡ first_at n (section_tests before word)
-  word_passes =
-      let two = of_came (is_known_section word) (has word before) fresh in
-      rw (two.0, two.1, typed_before, sized_before) refl
+  word_passes : (n : ℕ) → first_at n (word_tests before word) ≡ first_at n (section_tests before word)
+  word_passes n = rw (known_and_new.0, known_and_new.1, typed_before, sized_before) refl
 
-  pub begun : (s : OpenSection) → IsReady before word s → IsBegunSection before word n s
-  begun s ready =
-      let none : first_at n (word_tests before word) ≡ None = word_passes ∙ ready.tests n in
+  pub begun : (n : ℕ) (s : OpenSection) → IsReady before word s → IsBegunSection before word n s
+  begun n s ready =
+      let none : first_at n (word_tests before word) ≡ None = word_passes n ∙ ready.tests n in
       record {
         sized = sized_before;
-        fresh = (of_came (is_known_section word) (has word before) fresh).1;
+        fresh = known_and_new.1;
         none = none;
         begun = open_at before word n none (omega (arith, size_is, size_within.0)) s ready.untouched;
       }
 
-  pub told_word : (k : TextKind) → IsToldWord (λ k. first_at n (section_tests before word) ≡ Some (Fault n k)) k →
+  pub told_word : (n : ℕ) (k : TextKind) →
+      IsToldWord (λ k. first_at n (section_tests before word) ≡ Some (Fault n k)) k →
       IsToldWord (λ k. first_at n (word_tests before word) ≡ Some (Fault n k)) k
-  told_word k =
+  told_word n k =
       told_map (λ k. first_at n (section_tests before word) ≡ Some (Fault n k))
-      (λ k. first_at n (word_tests before word) ≡ Some (Fault n k)) k (λ h. word_passes ∙ h)
+      (λ k. first_at n (word_tests before word) ≡ Some (Fault n k)) k (λ h. word_passes n ∙ h)
