@@ -9,6 +9,7 @@ pub mod MiddleOfLine
 pub mod NarrowPlaces
 pub mod Pieces
 pub mod Runs
+pub mod SamePlaces
 pub mod Sections
 pub mod Staying
 pub mod Steady

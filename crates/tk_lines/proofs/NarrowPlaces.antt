@@ -9,19 +9,11 @@ use Rattle.tk_lines.specs.Pieces.{Piece, Format}
 use Rattle.tk_lines.specs.Reader.Forms.{Promise}
 use Rattle.tk_lines.specs.Reader.Places.{Next, anything, AtLine, AtTail, AtToken, AtAfter, AtPlace, Fed}
 use Rattle.tk_lines.specs.declared.reader.PieceReader.{PieceReader}
+use Rattle.tk_lines.proofs.SamePlaces.{token_told, close_told, after_told}
 
 pub token_narrow : {V S : Type 0} (f : Format V) (W : S → List Piece → Keyword → ℕ → List Token → Type 0) (next : Next)
     (form : S) (line : ℕ) (bs pre : List ℕ) → AtToken f W anything form line pre bs → AtToken f W next form line pre bs
-token_narrow f W next form line bs pre a =
-    record {
-      before = a.before;
-      word = a.word;
-      first = a.first;
-      toks = a.toks;
-      wants = a.wants;
-      goes = a.goes;
-      same = λ e more n. a.same e more refl;
-    }
+token_narrow f W next form line bs pre a = token_told a (λ e more n. a.same e more refl)
 
 module _ {V S : Type 0} (f : Format V) (H : S → List Piece → Type 0)
     (W : S → List Piece → Keyword → ℕ → List Token → Type 0) (next : Next) (form : S) (line : ℕ) (held : List ℕ)
@@ -44,17 +36,7 @@ module _ {V S : Type 0} (f : Format V) (H : S → List Piece → Type 0)
 
   after_narrow : (o : Bool) (pre : List ℕ) → AtAfter f H anything form line o pre bs →
       AtAfter f H next form line o pre bs
-  after_narrow o pre a =
-      record {
-        before = a.before;
-        word = a.word;
-        first = a.first;
-        toks = a.toks;
-        holds = a.holds;
-        ends = a.ends;
-        last = a.last;
-        same = λ e more n. a.same e more refl;
-      }
+  after_narrow o pre a = after_told a a.last (λ e more n. a.same e more refl)
 
   pub place_narrow : (p : Place) → AtPlace f H W anything form line held scan bs p →
       AtPlace f H W next form line held scan bs p
@@ -83,17 +65,7 @@ module _ {V S : Type 0} (f : Format V) (H : S → List Piece → Type 0)
       }
   place_narrow places.Gap a = token_narrow f W next form line bs [] a
   place_narrow places.Token a = (a.0, token_narrow f W next form line bs held a.1)
-  place_narrow places.Close a =
-      record {
-        before = a.before;
-        word = a.word;
-        first = a.first;
-        toks = a.toks;
-        holds = a.holds;
-        closed = a.closed;
-        last = a.last;
-        same = λ e more n. a.same e more refl;
-      }
+  place_narrow places.Close a = close_told a (λ e more n. a.same e more refl)
   place_narrow (places.After o) a = after_narrow o [] a
   place_narrow (places.MinusOne o) a = (a.0, after_narrow o held a.1)
 

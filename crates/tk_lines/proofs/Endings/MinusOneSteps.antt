@@ -16,6 +16,7 @@ use Rattle.tk_lines.proofs.Sections.MiddleOfSection.{in_section-byte, in_section
 use Rattle.tk_lines.proofs.Sections.SectionEnds.{in_section-closed, first_line}
 use Rattle.tk_lines.proofs.Sections.SectionBytes.{in_section-drop, in_section-trailing, first_token}
 use Rattle.tk_lines.proofs.LineSteps.{says_byte}
+use Rattle.tk_lines.proofs.SamePlaces.{after_told}
 use Rattle.tk_lines.proofs.Lines.{blank_letter}
 use Rattle.tk_lines.proofs.Sections.SectionSteps.{same_now, last_is}
 use Rattle.tk_words.proofs.NumberLaws.MinusOne.{other_integer}
@@ -40,48 +41,25 @@ module _ {V S : Type 0} (f : Format V) (H : S → List Piece → Type 0) (form :
 
   pub after_LF : (o : Bool) → AtAfter f H (this LF) form line o [] bs →
       AtAfter f H anything form (line + 1) false [] (bs ++ LF ∷ [])
-  after_LF o a = record {
-    before = a.before;
-    word = a.word;
-    first = a.first;
-    toks = a.toks;
-    holds = a.holds;
-    ends = a.ends;
-    last = earlier o (last_line a.first a.toks) a.last;
-    same = says_byte f LF bs _ _ a.same (λ e more. in_section-next f a.before a.word a.first a.toks e line more
-        ∙ ap (λ (n : ℕ). in_section f a.before a.word a.first a.toks [] e n more) (omega arith));
-  }
+  after_LF o a =
+      after_told a (earlier o (last_line a.first a.toks) a.last)
+      (says_byte f LF bs _ _ a.same (λ e more. in_section-next f a.before a.word a.first a.toks e line more
+      ∙ ap (λ (n : ℕ). in_section f a.before a.word a.first a.toks [] e n more) (omega arith)))
 
   pub after_blank : (o : Bool) → eqb b LF ≡ false → is_blank b ≡ true → AtAfter f H (this b) form line o [] bs →
       AtAfter f H anything form line o [] (bs ++ b ∷ [])
-  after_blank o other blank a = record {
-    before = a.before;
-    word = a.word;
-    first = a.first;
-    toks = a.toks;
-    holds = a.holds;
-    ends = a.ends;
-    last = a.last;
-    same =
-        says_byte f b bs _ _ a.same (λ e more. in_section-byte f a.before a.word a.first a.toks [] e line b more other
-        ∙ in_section-drop f a.before a.word a.first a.toks e line more b blank);
-  }
+  after_blank o other blank a =
+      after_told a a.last
+      (says_byte f b bs _ _ a.same (λ e more. in_section-byte f a.before a.word a.first a.toks [] e line b more other
+      ∙ in_section-drop f a.before a.word a.first a.toks e line more b blank))
 
   -- a byte of what may be one -1 more
   pub after_byte : (o : Bool) (pre : List ℕ) → eqb b LF ≡ false → AtAfter f H (this b) form line o pre bs →
       AtAfter f H anything form line o (pre ++ b ∷ []) (bs ++ b ∷ [])
-  after_byte o pre other a = record {
-    before = a.before;
-    word = a.word;
-    first = a.first;
-    toks = a.toks;
-    holds = a.holds;
-    ends = a.ends;
-    last = a.last;
-    same =
-        says_byte f b bs _ _ a.same
-        (λ e more. in_section-byte f a.before a.word a.first a.toks pre e line b more other);
-  }
+  after_byte o pre other a =
+      after_told a a.last
+      (says_byte f b bs _ _ a.same
+      (λ e more. in_section-byte f a.before a.word a.first a.toks pre e line b more other))
 
   clean_none : (a : AtAfter f H (this b) form line false [] bs) → f.section a.before a.word a.first a.toks Clean ≡ None
   clean_none a = subst (λ (ts : List Token). f.section a.before a.word a.first ts Clean ≡ None) (append-nil a.toks)

@@ -23,10 +23,11 @@ use Rattle.tk_words.proofs.Told.{told_of}
 use Rattle.tk_lines.proofs.MiddleOfLine.{prepend-nil}
 use Rattle.tk_lines.proofs.Lines.{word_ends_behind, from_line-last}
 use Rattle.tk_lines.proofs.Sections.SectionEnds.{First}
-use Rattle.tk_lines.proofs.Sections.SectionBytes.{from_line-inside, from_line-tokens, first_same, plain_after, plain}
+use Rattle.tk_lines.proofs.Sections.SectionBytes.{from_line-tokens, first_same, plain_after, plain}
 use Rattle.tk_lines.proofs.Endings.TextEnds.{at_none, from_line-end, in_section-end, in_section-shut, open_start}
 use Rattle.tk_lines.proofs.Endings.TextEnds.{open_word, open_value_law, open_gap, open_token, open_close, open_after}
 use Rattle.tk_lines.proofs.Endings.AfterMinusOne.{open_minus_one}
+use Rattle.tk_lines.proofs.Sections.SectionSteps.{begin_plain}
 
 -- ---- the end of the bytes ends a word, a token and a line
 
@@ -123,17 +124,7 @@ module _ {V S : Type 0} (f : Format V) (H : S → List Piece → Type 0)
 
   -- after a section's word, its tokens begin
   pub end_begin : (held : List ℕ) → AtBegin f W at_end form line held bs → AtToken f W at_end form line [] bs
-  end_begin held a = record {
-    before = a.before;
-    word = a.word;
-    first = line;
-    toks = [];
-    wants = a.wants;
-    goes = a.goes;
-    same = λ e more n. a.at.same e more n
-        ∙ from_line-inside f a.before a.at.upto held a.tail e line more a.at.lt a.at.is_word (a.at.settled e more n)
-        a.word a.at.word_is a.section a.blank (end_in_plain e more n);
-  }
+  end_begin held = begin_plain end_in_plain
 
   section_ended : (a : AtToken f W at_end form line [] bs) →
       decided_by f true bs ≡ stopped (f.section a.before a.word a.first a.toks (Early line true))

@@ -2,6 +2,7 @@
 use Rattle.std.proofs.Common.{◌≡◌, ℕ, zero, suc, ◌+◌, ◌<◌, ◌≤◌, ◌&&◌, Bool, true, false, eqb, List, [], ◌∷◌, ◌++◌}
 use Rattle.std.proofs.Common.{length, take, min, refl, sym, ap, ◌∙◌, arith}
 use Rattle.std.proofs.lemmas.List.{length-append, length-take, append-nil}
+use Rattle.tk_lines.specs.declared.scan.Phase.{Phase}
 use Rattle.tk_lines.specs.declared.scan.Phase.TheVariants as phases
 use Rattle.tk_lines.specs.declared.scan.Scan.{Scan}
 use Rattle.tk_words.specs.Lex.{is_blank, is_empty, front, behind, after_word, trim, trim_end}
@@ -32,14 +33,12 @@ module _ (s : Scan) (v : List ℕ) (b : ℕ) (h : Scans s v) where
   nothing_yet : InPhase phases.Before v → body v ≡ []
   nothing_yet p = rw p refl
 
-  pub before_blank : s.phase ≡ phases.Before → is_blank b ≡ true →
-      Scans (record s { count = s.count + 1 }) (v ++ b ∷ [])
-  before_blank e blank =
-      let p = rw e at h.phase in
-      let now : behind is_blank (v ++ b ∷ []) ≡ [] = behind-all is_blank v (b ∷ []) p ∙ rw blank refl in
-      let same : body (v ++ b ∷ []) ≡ body v = rw (now, p) refl in
+  -- a byte before the value
+  still : (phase : Phase) → InPhase phase (v ++ b ∷ []) → body (v ++ b ∷ []) ≡ body v →
+      Scans (record s { count = s.count + 1; phase = phase }) (v ++ b ∷ [])
+  still phase is same =
       record {
-        phase = rw e now;
+        phase = is;
         count = length_more v b s.count h.count;
         first = rw same h.first;
         text = rw same h.text;
@@ -48,22 +47,19 @@ module _ (s : Scan) (v : List ℕ) (b : ℕ) (h : Scans s v) where
         trimmed = rw same h.trimmed;
       }
 
+  pub before_blank : s.phase ≡ phases.Before → is_blank b ≡ true →
+      Scans (record s { count = s.count + 1 }) (v ++ b ∷ [])
+  before_blank e blank =
+      let p = rw e at h.phase in
+      let now : behind is_blank (v ++ b ∷ []) ≡ [] = behind-all is_blank v (b ∷ []) p ∙ rw blank refl in
+      still s.phase (rw e now) (rw (now, p) refl)
+
   pub before_colon : s.phase ≡ phases.Before → b ≡ 58 →
       Scans (record s { count = s.count + 1; phase = phases.Behind }) (v ++ b ∷ [])
   before_colon e colon =
       let p = rw e at h.phase in
-      let none : body (v ++ 58 ∷ []) ≡ [] = ap (behind is_blank) (after_colon v [] p) in
-      let same : body (v ++ 58 ∷ []) ≡ body v = none ∙ sym (nothing_yet p) in
-      rw colon
-      (record {
-        phase = (settled_colon v p, none);
-        count = length_more v 58 s.count h.count;
-        first = rw same h.first;
-        text = rw same h.text;
-        small = omega (arith, h.small);
-        seen = rw same h.seen;
-        trimmed = rw same h.trimmed;
-      })
+      let none : body (v ++ b ∷ []) ≡ [] = rw colon (ap (behind is_blank) (after_colon v [] p)) in
+      still phases.Behind (rw colon (settled_colon v p), none) (none ∙ sym (nothing_yet p))
 
   begun : Settled (v ++ b ∷ []) → is_blank b ≡ false → body (v ++ b ∷ []) ≡ b ∷ [] →
       Scans (record s
@@ -92,16 +88,7 @@ module _ (s : Scan) (v : List ℕ) (b : ℕ) (h : Scans s v) where
       let p = rw e at h.phase in
       let now : body (v ++ b ∷ []) ≡ [] = ap (behind is_blank) (p.0 (b ∷ []))
       ∙ behind-all is_blank (after_word v) (b ∷ []) p.1 ∙ rw blank refl in
-      let same : body (v ++ b ∷ []) ≡ body v = now ∙ sym p.1 in
-      record {
-        phase = rw e (settled_more v (b ∷ []) p.0, now);
-        count = length_more v b s.count h.count;
-        first = rw same h.first;
-        text = rw same h.text;
-        small = omega (arith, h.small);
-        seen = rw same h.seen;
-        trimmed = rw same h.trimmed;
-      }
+      still s.phase (rw e (settled_more v (b ∷ []) p.0, now)) (now ∙ sym p.1)
 
   pub behind_first : s.phase ≡ phases.Behind → is_blank b ≡ false →
       Scans (record s

@@ -1,5 +1,5 @@
 -- What a byte does in a section.
-use Rattle.std.proofs.Common.{◌≡◌, ℕ, suc, ◌+◌, ◌≤◌, Bool, true, false, eqb, List, [], ◌∷◌, ◌++◌, length, Option, Some}
+use Rattle.std.proofs.Common.{◌≡◌, ℕ, suc, ◌+◌, ◌≤◌, true, false, eqb, List, [], ◌∷◌, ◌++◌, length, Option, Some}
 use Rattle.std.proofs.Common.{None, Ok, Err, refl, ap, ◌∙◌, arith}
 use Rattle.std.proofs.lemmas.List.{length-append}
 use Rattle.std.proofs.lemmas.Bool.{eqb-true}
@@ -19,53 +19,43 @@ use Rattle.tk_lines.proofs.Sections.SectionBytes.{in_section-drop, in_section-to
 use Rattle.tk_lines.proofs.Sections.SectionBytes.{in_section-trailing, in_section-long, from_line-inside}
 use Rattle.tk_lines.proofs.Sections.SectionBytes.{from_line-colon, plain}
 use Rattle.tk_lines.proofs.LineSteps.{says_byte, tail_byte}
+use Rattle.tk_lines.proofs.SamePlaces.{begin_told, token_told, close_told}
 
 pub run_more : (held : List ℕ) (b : ℕ) → IsUnbroken held → is_blank b ≡ false → IsUnbroken (held ++ b ∷ [])
 run_more [] b h solid = absurd h
 run_more (c ∷ []) b h solid = (h, solid)
 run_more (c ∷ d ∷ held) b h solid = (h.0, run_more (d ∷ held) b h.1 solid)
 
+-- neither a blank nor a colon comes after a section's word: its tokens begin
+module _ {V S : Type 0} {f : Format V} {W : S → List Piece → Keyword → ℕ → List Token → Type 0} {next : Next} {form : S}
+    {line : ℕ} {held bs : List ℕ} where
+  pub begin_plain : Within next plain → AtBegin f W next form line held bs → AtToken f W next form line [] bs
+  begin_plain within a =
+      begin_told a (λ e more n. a.at.same e more n
+      ∙ from_line-inside f a.before a.at.upto held a.tail e line more a.at.lt a.at.is_word (a.at.settled e more n)
+      a.word a.at.word_is a.section a.blank (within e more n))
+
 module _ {V S : Type 0} (f : Format V) (W : S → List Piece → Keyword → ℕ → List Token → Type 0) (form : S) (line b : ℕ)
     (bs : List ℕ) where
   pub gap_LF : AtToken f W (this LF) form line [] bs → AtToken f W anything form (line + 1) [] (bs ++ LF ∷ [])
-  gap_LF a = record {
-    before = a.before;
-    word = a.word;
-    first = a.first;
-    toks = a.toks;
-    wants = a.wants;
-    goes = a.goes;
-    same = says_byte f LF bs _ _ a.same (λ e more. in_section-next f a.before a.word a.first a.toks e line more
-        ∙ ap (λ (n : ℕ). in_section f a.before a.word a.first a.toks [] e n more) (omega arith));
-  }
+  gap_LF a =
+      token_told a
+      (says_byte f LF bs _ _ a.same (λ e more. in_section-next f a.before a.word a.first a.toks e line more
+      ∙ ap (λ (n : ℕ). in_section f a.before a.word a.first a.toks [] e n more) (omega arith)))
 
   pub token_byte : (pre : List ℕ) → eqb b LF ≡ false → AtToken f W (this b) form line pre bs →
       AtToken f W anything form line (pre ++ b ∷ []) (bs ++ b ∷ [])
-  token_byte pre other a = record {
-    before = a.before;
-    word = a.word;
-    first = a.first;
-    toks = a.toks;
-    wants = a.wants;
-    goes = a.goes;
-    same =
-        says_byte f b bs _ _ a.same
-        (λ e more. in_section-byte f a.before a.word a.first a.toks pre e line b more other);
-  }
+  token_byte pre other a =
+      token_told a
+      (says_byte f b bs _ _ a.same
+      (λ e more. in_section-byte f a.before a.word a.first a.toks pre e line b more other))
 
   pub gap_blank : eqb b LF ≡ false → is_blank b ≡ true → AtToken f W (this b) form line [] bs →
       AtToken f W anything form line [] (bs ++ b ∷ [])
-  gap_blank other blank a = record {
-    before = a.before;
-    word = a.word;
-    first = a.first;
-    toks = a.toks;
-    wants = a.wants;
-    goes = a.goes;
-    same =
-        says_byte f b bs _ _ a.same (λ e more. in_section-byte f a.before a.word a.first a.toks [] e line b more other
-        ∙ in_section-drop f a.before a.word a.first a.toks e line more b blank);
-  }
+  gap_blank other blank a =
+      token_told a
+      (says_byte f b bs _ _ a.same (λ e more. in_section-byte f a.before a.word a.first a.toks [] e line b more other
+      ∙ in_section-drop f a.before a.word a.first a.toks e line more b blank))
 
   pub begin_blank : (held : List ℕ) → eqb b LF ≡ false → is_blank b ≡ true → AtBegin f W (this b) form line held bs →
       AtBegin f W anything form line held (bs ++ b ∷ [])
@@ -82,34 +72,17 @@ module _ {V S : Type 0} (f : Format V) (W : S → List Piece → Keyword → ℕ
 
   pub begin_colon : (held : List ℕ) → AtBegin f W (this 58) form line held bs →
       AtToken f W anything form line [] (bs ++ 58 ∷ [])
-  begin_colon held a = record {
-    before = a.before;
-    word = a.word;
-    first = line;
-    toks = [];
-    wants = a.wants;
-    goes = a.goes;
-    same =
-        says_byte f 58 bs _ _ a.at.same
-        (λ e more. from_line-colon f a.before a.at.upto held a.tail e line more a.at.lt a.at.is_word
-        (a.at.settled e (58 ∷ more) refl) a.word a.at.word_is a.section a.blank);
-  }
+  begin_colon held a =
+      begin_told a
+      (says_byte f 58 bs _ _ a.at.same
+      (λ e more. from_line-colon f a.before a.at.upto held a.tail e line more a.at.lt a.at.is_word
+      (a.at.settled e (58 ∷ more) refl) a.word a.at.word_is a.section a.blank))
 
   pub begin_other : (held : List ℕ) → is_blank b ≡ false → eqb b 58 ≡ false → AtBegin f W (this b) form line held bs →
       AtToken f W (this b) form line [] bs
-  begin_other held solid other a = record {
-    before = a.before;
-    word = a.word;
-    first = line;
-    toks = [];
-    wants = a.wants;
-    goes = a.goes;
-    same = λ e more n. a.at.same e more n
-        ∙ from_line-inside f a.before a.at.upto held a.tail e line more a.at.lt a.at.is_word (a.at.settled e more n)
-        a.word a.at.word_is a.section a.blank (plain_this e more n);
-  }
+  begin_other held solid other = begin_plain plain_this
     where
-      plain_this : (e : Bool) (more : List ℕ) → this b e more ≡ true → plain e more ≡ true
+      plain_this : Within (this b) plain
       plain_this e [] n = absurd cc
       plain_this e (c ∷ more) n = let is : c ≡ b = eqb-true c b n in rw (is, solid, other) refl
 
@@ -208,18 +181,10 @@ module _ {V S : Type 0} (f : Format V) (H : S → List Piece → Type 0) (form :
 
   pub close_blank : eqb b LF ≡ false → is_blank b ≡ true → AtClose f H (this b) form line bs →
       AtClose f H anything form line (bs ++ b ∷ [])
-  close_blank other blank a = record {
-    before = a.before;
-    word = a.word;
-    first = a.first;
-    toks = a.toks;
-    holds = a.holds;
-    closed = a.closed;
-    last = a.last;
-    same =
-        says_byte f b bs _ _ a.same (λ e more. in_section-byte f a.before a.word a.first a.toks [] e line b more other
-        ∙ in_section-drop f a.before a.word a.first a.toks e line more b blank);
-  }
+  close_blank other blank a =
+      close_told a
+      (says_byte f b bs _ _ a.same (λ e more. in_section-byte f a.before a.word a.first a.toks [] e line b more other
+      ∙ in_section-drop f a.before a.word a.first a.toks e line more b blank))
 
   pub close_trailing : eqb b LF ≡ false → is_blank b ≡ false → AtClose f H (this b) form line bs →
       DecidesIf f anything (bs ++ b ∷ []) (Err (record { line = line; kind = kinds.TrailingData }))
