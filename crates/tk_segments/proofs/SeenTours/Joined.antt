@@ -84,7 +84,7 @@ put_list old k run lt =
 pub join_split : (old new : List Run) (k id : ℕ) (run one two : Run) → k + 1 < length old → one ≡ get_or old k one →
     two ≡ get_or old (k + 1) two → id + 1 ≡ length old →
     AreSeenParts (run_size one) id run one two → new ≡ take k old ++ run ∷ drop (k + 2) old →
-    (s : IsSplit new old k (run_size one)) × (s.run ≡ run) × (id ≡ length new) × (k < length new)
+    (s : IsSplit new old k (run_size one)) × (s.run ≡ run) × (k < length new)
 join_split old new k id run one two lt e f ids parts joined =
     let A : List Run = take k old in
     let C : List Run = drop (k + 2) old in
@@ -106,19 +106,8 @@ join_split old new k id run one two lt e f ids parts joined =
             ∙ ap (λ u. take k new ++ (one ∷ two ∷ u)) (sym beyond);
       },
       refl,
-      size,
       omega (arith, size, ids, lt),
     )
-
--- the joined run is one of the array
-pub join_bounds : (n k id : ℕ) (xs : List Run) (run one two : Run) → AreLaidOut n xs → k + 1 < length xs →
-    one ≡ get_or xs k one → two ≡ get_or xs (k + 1) two →
-    AreSeenParts (run_size one) id run one two → (run.low < run.high) × (run.high ≤ n)
-join_bounds n k id xs run one two laid lt e f parts =
-    let P : Run → Type 0 = λ r. IsWithin n r in
-    let w = join_within n (run_size one) id run one two parts (subst P (sym e) (laid.within k one (omega (arith, lt))))
-    (subst P (sym f) (laid.within (k + 1) two lt)) in
-    (w.0, w.1.1)
 
 -- runs that are laid out begin one after another, in both parts of them
 laid_parts : (n : ℕ) (us ts xs : List Run) → AreLaidOut n xs → xs ≡ us ++ ts →
