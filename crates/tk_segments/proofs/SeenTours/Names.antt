@@ -1,12 +1,13 @@
 -- The names of runs: after a split, and where the runs stand in another order.
 use Rattle.std.proofs.Common.{◌≡◌, ◌≢◌, ℕ, true, false, ◌+◌, ◌-◌, ◌<◌, ◌≤◌, ⊎_elim, List, length, set, sym, ap, ◌∙◌}
-use Rattle.std.proofs.Common.{subst, arith, get_or}
+use Rattle.std.proofs.Common.{◌++◌, take, subst, arith, get_or}
 use Rattle.std.proofs.lemmas.Bool.{cases_lt}
 use Rattle.std.proofs.lemmas.List.{get_or_default, get_or-set_same, get_or-set_other}
 use Rattle.tk_segments.specs.Runs.{IsSplit, HaveNames, AreNamed, AreNamedTo, SameBefore, Names, Holds}
 use Rattle.tk_segments.specs.Runs.{CanBeFound, StandsAs}
 use Rattle.tk_segments.specs.Runs.{HoldsAs, AreFound}
 use Rattle.tk_segments.specs.declared.run.Run.{Run}
+use Rattle.tk_segments.proofs.Fronts.{at_front}
 use Rattle.tk_segments.proofs.SeenTours.Splitting.{cases_bool}
 use Rattle.tk_segments.proofs.SeenTours.Naming.{split_at, split_entry_before, split_entry_beyond}
 
@@ -301,6 +302,15 @@ found_by_home n bucket runs home table named h = record {
   next = λ k d lk lt. stands_as runs home _ _ named (h.next k d lk lt);
   early = λ b lb lt. holds_as runs home _ _ named (h.early b lb lt);
 }
+
+-- the same, where both lists are written over the fronts of vectors
+pub found_at_fronts : (n bucket h t : ℕ) (runs : List Run) (home table rest more : List ℕ) → length home ≡ h →
+    length table ≡ t → AreFound n bucket runs home table →
+    AreFound n bucket runs (take h (home ++ rest)) (take t (table ++ more))
+found_at_fronts n bucket h t runs home table rest more lh lt found =
+    let P : List ℕ → Type 0 = λ u. AreFound n bucket runs u (take t (table ++ more)) in
+    let Q : List ℕ → Type 0 = λ u. AreFound n bucket runs home u in
+    at_front P h home rest lh (at_front Q t table more lt found)
 
 -- one more run that stands where its name says
 pub named_more : (runs : List Run) (home : List ℕ) (k : ℕ) (none : Run) → HaveNames runs → k < length runs →

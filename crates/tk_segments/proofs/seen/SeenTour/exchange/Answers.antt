@@ -6,6 +6,23 @@ use Rattle.std.proofs.Common.{◌++◌, take, drop}
 use Rattle.std.proofs.lemmas.Grind.{common_steps}
 use Rattle.tk_segments.proofs.SeenTours.Facts.{facts, seen_of, reversed_tour, reversed_list}
 use Rattle.tk_segments.proofs.seen.SeenTour.exchange.Goals as goal
+use Rattle.tk_segments.proofs.seen.SeenTour.exchange.Goals.{After-exchange_seen}
+
+-- the whole array is written
+written : (c : After-exchange_seen) →
+    take c.args.self.now.order.len (c.exchange_seen.new.order
+    ++ drop (length c.exchange_seen.new.order) c.args.self.now.order.items) ≡ c.exchange_seen.new.order
+written c = grind (arith, common_steps)
+
+-- and shows the places in reverse order
+reversed : (c : After-exchange_seen) →
+    shown c.exchange_seen.new.order c.args.self.now.runs.runs.items
+    ≡ reversed_places c.args.first c.args.count (seen_of c.args.self.now)
+reversed c =
+    let s = c.args.self.now in
+    ap (shown c.exchange_seen.new.order) (sym c.deref.ensures.value) ∙ c.exchange_seen.ensures.shown
+    ∙ ap (λ u. reversed_places c.args.first c.args.count (shown u c.deref.result.now)) c.deref_mut.ensures.value
+    ∙ ap (λ u. reversed_places c.args.first c.args.count (shown s.order.items u)) c.deref.ensures.value
 
 pub exchange_seen-requires-clause-tour : goal.exchange_seen-requires-clause-tour
 exchange_seen-requires-clause-tour c =
@@ -21,43 +38,31 @@ exchange_seen-requires-clause-count_in c = omega (arith, (facts c.args.self.now)
 pub invariant_of-self-2-clause-tour : goal.invariant_of-self-2-clause-tour
 invariant_of-self-2-clause-tour c =
     let s = c.args.self.now in
-    let now = c.exchange_seen.new.order in
-    let w : take s.order.len (now ++ drop (length now) s.order.items) ≡ now = grind (arith, common_steps) in
-    let e : shown now s.runs.runs.items ≡ reversed_places c.args.first c.args.count (seen_of s) =
-    ap (shown now) (sym c.deref.ensures.value) ∙ c.exchange_seen.ensures.shown
-    ∙ ap (λ u. reversed_places c.args.first c.args.count (shown u c.deref.result.now)) c.deref_mut.ensures.value
-    ∙ ap (λ u. reversed_places c.args.first c.args.count (shown s.order.items u)) c.deref.ensures.value in
+    let before = (goal.at.invariant_of-self-2-clause-tour c).After-exchange_seen in
     let P : List ℕ → Type 0 = λ u. IsSizedTour (begun_at s.begin (shown u s.runs.runs.items)) in
-    subst P (sym w) (reversed_tour s s.begin c.args.first c.args.count (shown now s.runs.runs.items) e)
+    subst P (sym (written before)) (reversed_tour s s.begin c.args.first c.args.count _ (reversed before))
 
 pub returns-clause-list : goal.returns-clause-list
 returns-clause-list c = λ k lk h.
     let s = c.args.self.now in
     let f = facts s in
-    let now = c.exchange_seen.new.order in
-    let w : take s.order.len (now ++ drop (length now) s.order.items) ≡ now = grind (arith, common_steps) in
-    let e : shown now s.runs.runs.items ≡ reversed_places c.args.first c.args.count (seen_of s) =
-    ap (shown now) (sym c.deref.ensures.value) ∙ c.exchange_seen.ensures.shown
-    ∙ ap (λ u. reversed_places c.args.first c.args.count (shown u c.deref.result.now)) c.deref_mut.ensures.value
-    ∙ ap (λ u. reversed_places c.args.first c.args.count (shown s.order.items u)) c.deref.ensures.value in
-    ap (λ u. begun_at s.begin (shown u s.runs.runs.items)) w ∙
-    reversed_list s k c.args.first c.args.count (shown now s.runs.runs.items) e lk
+    let before = (goal.at.returns-clause-list c).After-exchange_seen in
+    ap (λ u. begun_at s.begin (shown u s.runs.runs.items)) (written before) ∙
+    reversed_list s k c.args.first c.args.count _ (reversed before) lk
     (omega (arith, f.list, c.requires.first)) (omega (arith, f.list, c.requires.count)) h
 
 pub invariant_of-self-2-clause-inverse : goal.invariant_of-self-2-clause-inverse
 invariant_of-self-2-clause-inverse c =
     let s = c.args.self.now in
-    let now = c.exchange_seen.new.order in
     let place = c.exchange_seen.new.place in
-    let w : take s.order.len (now ++ drop (length now) s.order.items) ≡ now = grind (arith, common_steps) in
+    let w = written (goal.at.invariant_of-self-2-clause-inverse c).After-exchange_seen in
     let e : take s.place.len (place ++ drop (length place) s.place.items) ≡ place = grind (arith, common_steps) in
-    let P : List ℕ → Type 0 = λ u. IsInverse now u in
+    let P : List ℕ → Type 0 = λ u. IsInverse c.exchange_seen.new.order u in
     let Q : List ℕ → Type 0 = λ u. IsInverse u (take s.place.len (place ++ drop (length place) s.place.items)) in
     subst Q (sym w) (subst P (sym e) c.exchange_seen.ensures.places)
 
 pub invariant_of-self-2-clause-sizes : goal.invariant_of-self-2-clause-sizes
 invariant_of-self-2-clause-sizes c =
     let s = c.args.self.now in
-    let now = c.exchange_seen.new.order in
-    let w : take s.order.len (now ++ drop (length now) s.order.items) ≡ now = grind (arith, common_steps) in
+    let w = written (goal.at.invariant_of-self-2-clause-sizes c).After-exchange_seen in
     (ap length w ∙ c.exchange_seen.auto.order ∙ ap length c.deref_mut.ensures.value ∙ s.sizes.0, s.sizes.1)

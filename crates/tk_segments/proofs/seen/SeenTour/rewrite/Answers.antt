@@ -8,18 +8,24 @@ use Rattle.std.proofs.lemmas.List.{append-nil}
 use Rattle.tk_tour.specs.Reversal.{IsInverse}
 use Rattle.tk_segments.proofs.SeenTours.Facts.{facts, seen_of}
 use Rattle.tk_segments.proofs.seen.SeenTour.rewrite.Goals as goal
+use Rattle.tk_segments.proofs.seen.SeenTour.rewrite.Goals.{After-swap}
+
+-- the array is what was seen
+written : (c : After-swap) → c.swap.new.x.items ≡ seen_of c.args.self.now
+written c =
+    let s = c.args.self.now in
+    let list = c.write_seen.new.list in
+    let w : take s.spare.len (list ++ drop (length list) s.spare.items) ≡ list = grind (arith, common_steps) in
+    ap (λ v. v.items) c.swap.ensures.x_after ∙ w ∙ c.write_seen.ensures
+    ∙ append-nil (shown c.deref.result.now c.deref-2.result.now)
+    ∙ ap (λ u. shown u c.deref-2.result.now) c.deref.ensures.value
+    ∙ ap (shown s.order.items) c.deref-2.ensures.value
 
 pub place_each-requires-clause-tour : goal.place_each-requires-clause-tour
 place_each-requires-clause-tour c =
     let s = c.args.self.now in
     let f = facts s in
-    let list = c.write_seen.new.list in
-    let w : take s.spare.len (list ++ drop (length list) s.spare.items) ≡ list = grind (arith, common_steps) in
-    let seen : c.swap.new.x.items ≡ seen_of s =
-    ap (λ v. v.items) c.swap.ensures.x_after ∙ w ∙ c.write_seen.ensures
-    ∙ append-nil (shown c.deref.result.now c.deref-2.result.now)
-    ∙ ap (λ u. shown u c.deref-2.result.now) c.deref.ensures.value
-    ∙ ap (shown s.order.items) c.deref-2.ensures.value in
+    let seen = written (goal.at.place_each-requires-clause-tour c).After-swap in
     let P : List ℕ → Type 0 = λ u. IsTour (length u) u in
     let Q : ℕ → Type 0 = λ u. IsTour u (seen_of s) in
     subst P (sym (c.deref-3.ensures.value ∙ seen)) (subst Q (sym f.seen) f.tour)
@@ -27,16 +33,9 @@ place_each-requires-clause-tour c =
 pub invariant_of-self-2-clause-tour : goal.invariant_of-self-2-clause-tour
 invariant_of-self-2-clause-tour c =
     let s = c.args.self.now in
-    let f = facts s in
-    let list = c.write_seen.new.list in
-    let w : take s.spare.len (list ++ drop (length list) s.spare.items) ≡ list = grind (arith, common_steps) in
-    let seen : c.swap.new.x.items ≡ seen_of s =
-    ap (λ v. v.items) c.swap.ensures.x_after ∙ w ∙ c.write_seen.ensures
-    ∙ append-nil (shown c.deref.result.now c.deref-2.result.now)
-    ∙ ap (λ u. shown u c.deref-2.result.now) c.deref.ensures.value
-    ∙ ap (shown s.order.items) c.deref-2.ensures.value in
+    let seen = written (goal.at.invariant_of-self-2-clause-tour c).After-swap in
     let P : List ℕ → Type 0 = λ u. IsSizedTour (begun_at s.begin u) in
-    subst P (sym (c.reset.ensures.shown c.swap.new.x.items (ap length seen ∙ f.seen) ∙ seen)) s.tour
+    subst P (sym (c.reset.ensures.shown c.swap.new.x.items (ap length seen ∙ (facts s).seen) ∙ seen)) s.tour
 
 pub invariant_of-self-2-clause-inverse : goal.invariant_of-self-2-clause-inverse
 invariant_of-self-2-clause-inverse c =
@@ -49,16 +48,8 @@ invariant_of-self-2-clause-inverse c =
 
 pub invariant_of-self-2-clause-sizes : goal.invariant_of-self-2-clause-sizes
 invariant_of-self-2-clause-sizes c =
-    let s = c.args.self.now in
-    let f = facts s in
-    let list = c.write_seen.new.list in
-    let w : take s.spare.len (list ++ drop (length list) s.spare.items) ≡ list = grind (arith, common_steps) in
-    let seen : c.swap.new.x.items ≡ seen_of s =
-    ap (λ v. v.items) c.swap.ensures.x_after ∙ w ∙ c.write_seen.ensures
-    ∙ append-nil (shown c.deref.result.now c.deref-2.result.now)
-    ∙ ap (λ u. shown u c.deref-2.result.now) c.deref.ensures.value
-    ∙ ap (shown s.order.items) c.deref-2.ensures.value in (
-      ap length seen ∙ f.seen ∙ sym c.reset.ensures.limits.0,
-      ap (λ v. length v.items) c.swap.ensures.y_after ∙ f.order
-          ∙ sym c.reset.ensures.limits.0,
+    let f = facts c.args.self.now in
+    let size = sym c.reset.ensures.limits.0 in (
+      ap length (written (goal.at.invariant_of-self-2-clause-sizes c).After-swap) ∙ f.seen ∙ size,
+      ap (λ v. length v.items) c.swap.ensures.y_after ∙ f.order ∙ size,
     )
