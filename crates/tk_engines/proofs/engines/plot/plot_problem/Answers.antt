@@ -1,51 +1,40 @@
 use Rattle.std.proofs.Common.{Bool, refl, subst, sym, true}
 use Rattle.tk_problem_text.specs.ProblemOf.{problem_is}
-use Rattle.tk_engines.specs.Engine.{EndsByProblem, HasRead, IsUnread}
+use Rattle.tk_engines.specs.Engine.{EndsByProblem, HasRead, IsGiven, IsUnread}
 use Rattle.tk_engines.specs.Plot.{Drawn, Nothing, ReadsClaim, WritesOutput, plot_task}
 use Rattle.tk_engines.specs.declared.engines.plotted.Plotted.TheVariants as plotted
 use Rattle.tk_engines.proofs.Ends.{second_reached}
+use Rattle.tk_engines.proofs.engines.plot.plot_problem.Given.{Over}
 use Rattle.tk_engines.proofs.engines.plot.plot_problem.Goals as goal
+use Rattle.tk_engines.proofs.engines.plot.plot_problem.Goals.{After-draw}
 
-pub returns-in_default-draw-clause-ends : goal.returns-in_default-draw-clause-ends
-returns-in_default-draw-clause-ends g c = record {
+-- where nothing is claimed, the cities are drawn
+drawn : (g : Over) (c : After-draw g) →
+    IsGiven (plot_task c.args.form c.args.has_claim) (HasRead (problem_is c.args.problem.now))
+    (ReadsClaim c.args.has_claim g.C.Source c.args.claim.now c.args.claim.now)
+    (WritesOutput g.W.Sink g.T.Sink c.args.out.now c.draw.new.out c.args.told.now c.args.told.now c.draw.result)
+    plotted.Cities
+drawn g c = record {
   problem = problem_is c.args.problem.now;
   second = Nothing;
-  text = Drawn c.in_default-draw.ensures.text.0;
-  read =
-      record {
-        is_problem = refl;
-        fits = c.in-Some.ensures.some.fits;
-        is_second = (
-          c.if-not-has_claim.true,
-          (refl, refl),
-        );
-      };
+  text = Drawn c.draw.ensures.text.0;
+  read = record {
+    is_problem = refl;
+    fits = c.in-Some.ensures.some.fits;
+    is_second = (c.if-not-has_claim.true, (refl, refl));
+  };
   together = refl;
-  gives = c.in_default-draw.ensures.text.1.0;
-  written = (c.in_default-draw.ensures.text.1.1, (refl, refl));
+  gives = c.draw.ensures.text.1.0;
+  written = (c.draw.ensures.text.1.1, (refl, refl));
 }
 
+pub returns-in_default-draw-clause-ends : goal.returns-in_default-draw-clause-ends
+returns-in_default-draw-clause-ends g c =
+    rw c.in_default-draw.is at (drawn g (goal.at.returns-in_default-draw-clause-ends g c).After-draw)
+
 pub returns-then-not-has_claim-clause-ends : goal.returns-then-not-has_claim-clause-ends
-returns-then-not-has_claim-clause-ends g c = (
-  plotted.Cities,
-  record {
-    problem = problem_is c.args.problem.now;
-    second = Nothing;
-    text = Drawn c.in-Err.ensures.text.0;
-    read =
-        record {
-          is_problem = refl;
-          fits = c.in-Some.ensures.some.fits;
-          is_second = (
-            c.if-not-has_claim.true,
-            (refl, refl),
-          );
-        };
-    together = refl;
-    gives = c.in-Err.ensures.text.1.0;
-    written = (c.in-Err.ensures.text.1.1, (refl, refl));
-  },
-)
+returns-then-not-has_claim-clause-ends g c =
+    (plotted.Cities, rw c.in-Err.is at (drawn g (goal.at.returns-then-not-has_claim-clause-ends g c).After-draw))
 
 pub returns-clause-ends : goal.returns-clause-ends
 returns-clause-ends g c =

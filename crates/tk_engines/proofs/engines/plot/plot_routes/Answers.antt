@@ -1,93 +1,72 @@
-use Rattle.std.proofs.Common.{refl}
+use Rattle.std.proofs.Common.{refl, true}
 use Rattle.std.specs.Prelude.{map}
+use Rattle.tk_lists.specs.Solution.{as_solution}
 use Rattle.tk_problem_text.specs.ProblemOf.{problem_is, routing_is}
 use Rattle.tk_routes.specs.Cvrps.{instance_of}
 use Rattle.tk_routes.specs.RouteVerdicts.{IsRouteVerdict}
 use Rattle.tk_engines.proofs.ReadTables.{instance_read}
 use Rattle.tk_engines.specs.declared.engines.plotted.Plotted.TheVariants as plotted
-use Rattle.tk_engines.specs.Plot.{RoutesClaim, IsRouteOutput}
+use Rattle.tk_engines.specs.Engine.{AreRead, HasRead, IsGiven}
+use Rattle.tk_engines.specs.Plot.{IsRouteOutput, ReadsClaim, RoutesClaim, WritesOutput, plot_task}
 use Rattle.tk_engines.proofs.Shown.{routed_of, some_of}
 use Rattle.tk_engines.proofs.TextsRead.{is_read}
+use Rattle.tk_engines.proofs.engines.plot.plot_routes.Given.{Over}
 use Rattle.tk_engines.proofs.engines.plot.plot_routes.Goals as goal
+use Rattle.tk_engines.proofs.engines.plot.plot_routes.Goals.{In-Ok, After-show_routes}
 
-pub returns-in_default-clause-ends : goal.returns-in_default-clause-ends
-returns-in_default-clause-ends g c =
-    let p = c.args.problem.now in (
-      problem_is p,
-      RoutesClaim (map (λ r. r.items) c.in-Ok.solution.routes.items, c.in-Ok.solution.cost),
-      record {
-        is_problem = refl;
-        fits = c.requires.view.fits;
-        is_second = (
-          refl,
-          routed_of p.routing _ c.requires.instance.routing,
-          is_read c.in-Ok.ensures.reads,
-        );
-      },
-      refl,
-    )
+-- the problem fits, and the routes that were read are claimed of it
+claimed : (g : Over) (c : In-Ok g) →
+    AreRead (plot_task c.args.form true) (HasRead (problem_is c.args.problem.now))
+    (ReadsClaim true g.C.Source c.args.claim.now c.read_solution.new.source (problem_is c.args.problem.now))
+    (problem_is c.args.problem.now) (RoutesClaim (as_solution c.in-Ok.solution))
+claimed g c = record {
+  is_problem = refl;
+  fits = c.requires.view.fits;
+  is_second = (refl, routed_of c.args.problem.now.routing _ c.requires.instance.routing, is_read c.in-Ok.ensures.reads);
+}
 
-pub returns-in-Ok-show_routes-clause-ends : goal.returns-in-Ok-show_routes-clause-ends
-returns-in-Ok-show_routes-clause-ends g c =
+-- the verdict on them is given, and what goes with it is written
+given : (g : Over) (c : After-show_routes g) →
+    IsGiven (plot_task c.args.form true) (HasRead (problem_is c.args.problem.now))
+    (ReadsClaim true g.C.Source c.args.claim.now c.read_solution.new.source)
+    (WritesOutput g.W.Sink g.T.Sink c.args.out.now c.show_routes.new.out c.args.told.now c.show_routes.new.told
+    c.show_routes.result) (plotted.Routes c.in-Ok-check_routes.verdict)
+given g c =
     let p = c.args.problem.now in
     let routes = map (λ r. r.items) c.in-Ok.solution.routes.items in
-    let cost = c.in-Ok.solution.cost in
     let verdict = c.in-Ok-check_routes.verdict in
-    let shown = c.in-Ok-show_routes.ensures.text in
+    let shown = c.show_routes.ensures.text in
     record {
       problem = problem_is p;
-      second = RoutesClaim (routes, cost);
+      second = RoutesClaim (as_solution c.in-Ok.solution);
       text = shown.0;
-      read =
-          record {
-            is_problem = refl;
-            fits = c.requires.view.fits;
-            is_second = (
-              refl,
-              routed_of p.routing _ c.requires.instance.routing,
-              is_read c.in-Ok.ensures.reads,
-            );
-          };
+      read = claimed g (goal.at.After-show_routes g c).In-Ok;
       together = refl;
       gives = some_of (routing_is p.routing) _
           (instance_read p (instance_of c.args.cvrp.now) ⊥
-          (λ i. IsRouteVerdict i routes cost verdict × IsRouteOutput c.args.form (problem_is p) i routes verdict
-          shown.0) c.requires.instance
+          (λ i. IsRouteVerdict i routes c.in-Ok.solution.cost verdict
+          × IsRouteOutput c.args.form (problem_is p) i routes verdict shown.0) c.requires.instance
           (c.in-Ok-check_routes.ensures, shown.1.0));
       written = shown.1.1;
     }
 
+pub returns-in_default-clause-ends : goal.returns-in_default-clause-ends
+returns-in_default-clause-ends g c = (
+  problem_is c.args.problem.now,
+  RoutesClaim (as_solution c.in-Ok.solution),
+  claimed g (goal.at.returns-in_default-clause-ends g c).In-Ok,
+  refl,
+)
+
+pub returns-in-Ok-show_routes-clause-ends : goal.returns-in-Ok-show_routes-clause-ends
+returns-in-Ok-show_routes-clause-ends g c =
+    rw c.in-Ok-show_routes.is at (given g (goal.at.returns-in-Ok-show_routes-clause-ends g c).After-show_routes)
+
 pub returns-clause-ends : goal.returns-clause-ends
-returns-clause-ends g c =
-    let p = c.args.problem.now in
-    let routes = map (λ r. r.items) c.in-Ok.solution.routes.items in
-    let cost = c.in-Ok.solution.cost in
-    let verdict = c.in-Ok-check_routes.verdict in
-    let shown = c.in-Err-show_routes.ensures.text in (
-      plotted.Routes verdict,
-      record {
-        problem = problem_is p;
-        second = RoutesClaim (routes, cost);
-        text = shown.0;
-        read =
-            record {
-              is_problem = refl;
-              fits = c.requires.view.fits;
-              is_second = (
-                refl,
-                routed_of p.routing _ c.requires.instance.routing,
-                is_read c.in-Ok.ensures.reads,
-              );
-            };
-        together = refl;
-        gives = some_of (routing_is p.routing) _
-            (instance_read p (instance_of c.args.cvrp.now) ⊥
-            (λ i. IsRouteVerdict i routes cost verdict × IsRouteOutput c.args.form (problem_is p) i routes verdict
-            shown.0) c.requires.instance
-            (c.in-Ok-check_routes.ensures, shown.1.0));
-        written = shown.1.1;
-      },
-    )
+returns-clause-ends g c = (
+  plotted.Routes c.in-Ok-check_routes.verdict,
+  rw c.in-Err-show_routes.is at (given g (goal.at.returns-clause-ends g c).After-show_routes),
+)
 
 pub returns-in-Err-clause-quiet : goal.returns-in-Err-clause-quiet
 returns-in-Err-clause-quiet g c = ((refl, refl), (refl, refl))

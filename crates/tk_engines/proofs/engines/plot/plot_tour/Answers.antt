@@ -1,74 +1,59 @@
-use Rattle.std.proofs.Common.{ap, refl}
+use Rattle.std.proofs.Common.{ap, refl, true}
 use Rattle.tk_problem_text.specs.ProblemOf.{problem_is, routing_is}
 use Rattle.tk_engines.specs.declared.engines.plotted.Plotted.TheVariants as plotted
-use Rattle.tk_engines.specs.Plot.{TourClaim}
+use Rattle.tk_engines.specs.Engine.{AreRead, HasRead, IsGiven}
+use Rattle.tk_engines.specs.Plot.{ReadsClaim, TourClaim, WritesOutput, plot_task}
 use Rattle.tk_engines.proofs.TextsRead.{is_read}
+use Rattle.tk_engines.proofs.engines.plot.plot_tour.Given.{Over}
 use Rattle.tk_engines.proofs.engines.plot.plot_tour.Goals as goal
+use Rattle.tk_engines.proofs.engines.plot.plot_tour.Goals.{In-Ok, After-show_tour}
 
-pub returns-in_default-clause-ends : goal.returns-in_default-clause-ends
-returns-in_default-clause-ends g c =
-    let p = c.args.problem.now in (
-      problem_is p,
-      TourClaim c.in-Ok.tour.cities.items,
-      record {
-        is_problem = refl;
-        fits = c.requires.view.fits;
-        is_second = (
-          refl,
-          ap routing_is c.requires.tsp,
-          is_read c.in-Ok.ensures.reads,
-        );
-      },
-      refl,
-    )
+-- the problem fits, and the tour that was read is claimed of it
+claimed : (g : Over) (c : In-Ok g) →
+    AreRead (plot_task c.args.form true) (HasRead (problem_is c.args.problem.now))
+    (ReadsClaim true g.C.Source c.args.claim.now c.read_tour.new.source (problem_is c.args.problem.now))
+    (problem_is c.args.problem.now) (TourClaim c.in-Ok.tour.cities.items)
+claimed g c = record {
+  is_problem = refl;
+  fits = c.requires.view.fits;
+  is_second = (refl, ap routing_is c.requires.tsp, is_read c.in-Ok.ensures.reads);
+}
 
-pub returns-in-Ok-show_tour-clause-ends : goal.returns-in-Ok-show_tour-clause-ends
-returns-in-Ok-show_tour-clause-ends g c =
-    let p = c.args.problem.now in
-    let shown = rw c.as_slice-cities.ensures.value at c.in-Ok-show_tour.ensures.text in
+-- the verdict on it is given, and what goes with it is written
+given : (g : Over) (c : After-show_tour g) →
+    IsGiven (plot_task c.args.form true) (HasRead (problem_is c.args.problem.now))
+    (ReadsClaim true g.C.Source c.args.claim.now c.read_tour.new.source)
+    (WritesOutput g.W.Sink g.T.Sink c.args.out.now c.show_tour.new.out c.args.told.now c.show_tour.new.told
+    c.show_tour.result) (plotted.Tour c.in-Ok-check.verdict)
+given g c =
+    let shown = rw c.as_slice-cities.ensures.value at c.show_tour.ensures.text in
     record {
-      problem = problem_is p;
+      problem = problem_is c.args.problem.now;
       second = TourClaim c.in-Ok.tour.cities.items;
       text = shown.0;
-      read =
-          record {
-            is_problem = refl;
-            fits = c.requires.view.fits;
-            is_second = (
-              refl,
-              ap routing_is c.requires.tsp,
-              is_read c.in-Ok.ensures.reads,
-            );
-          };
+      read = claimed g (goal.at.After-show_tour g c).In-Ok;
       together = refl;
       gives = (rw c.as_slice-cities.ensures.value at c.in-Ok-check.ensures, shown.1.0);
       written = shown.1.1;
     }
 
+pub returns-in_default-clause-ends : goal.returns-in_default-clause-ends
+returns-in_default-clause-ends g c = (
+  problem_is c.args.problem.now,
+  TourClaim c.in-Ok.tour.cities.items,
+  claimed g (goal.at.returns-in_default-clause-ends g c).In-Ok,
+  refl,
+)
+
+pub returns-in-Ok-show_tour-clause-ends : goal.returns-in-Ok-show_tour-clause-ends
+returns-in-Ok-show_tour-clause-ends g c =
+    rw c.in-Ok-show_tour.is at (given g (goal.at.returns-in-Ok-show_tour-clause-ends g c).After-show_tour)
+
 pub returns-clause-ends : goal.returns-clause-ends
-returns-clause-ends g c =
-    let p = c.args.problem.now in
-    let shown = rw c.as_slice-cities.ensures.value at c.in-Err-show_tour.ensures.text in (
-      plotted.Tour c.in-Ok-check.verdict,
-      record {
-        problem = problem_is p;
-        second = TourClaim c.in-Ok.tour.cities.items;
-        text = shown.0;
-        read =
-            record {
-              is_problem = refl;
-              fits = c.requires.view.fits;
-              is_second = (
-                refl,
-                ap routing_is c.requires.tsp,
-                is_read c.in-Ok.ensures.reads,
-              );
-            };
-        together = refl;
-        gives = (rw c.as_slice-cities.ensures.value at c.in-Ok-check.ensures, shown.1.0);
-        written = shown.1.1;
-      },
-    )
+returns-clause-ends g c = (
+  plotted.Tour c.in-Ok-check.verdict,
+  rw c.in-Err-show_tour.is at (given g (goal.at.returns-clause-ends g c).After-show_tour),
+)
 
 pub returns-in-Err-clause-quiet : goal.returns-in-Err-clause-quiet
 returns-in-Err-clause-quiet g c = ((refl, refl), (refl, refl))
