@@ -3,7 +3,7 @@ use Rattle.std.proofs.Common.{◌≡◌, ℕ, zero, suc, ◌≤◌, ⊎_elim, Bo
 use Rattle.std.proofs.Common.{[], ◌∷◌, ◌++◌, length, take, get_or, Option, Some, None, Result, refl, sym, ap, subst}
 use Rattle.std.proofs.Common.{◌∙◌, arith}
 use Rattle.std.proofs.lemmas.List.{append-nil}
-use Rattle.std.proofs.lemmas.Bool.{eqb-true}
+use Rattle.std.proofs.lemmas.Bool.{eqb-true, ltb-true, lt-ltb}
 use Rattle.tk_words.specs.declared.keyword.Keyword.{Keyword}
 use Rattle.tk_words.specs.declared.keyword.Role.{Role}
 use Rattle.tk_words.specs.declared.keyword.Role.TheVariants.{BeginsHeader, BeginsSection, EndsText}
@@ -20,7 +20,7 @@ use Rattle.tk_lines.specs.Pieces.{judge, decided_by}
 use Rattle.tk_lines.proofs.Growing.{a_line, AreLong, IsLonger, Lasts, TokensGrow, lines_grow, lines_nothing}
 use Rattle.tk_lines.proofs.Growing.{tokens_after, tokens_before, tokens_behind, line_tokens_grow, open_or_long}
 use Rattle.tk_lines.proofs.Growing.{stopped_kept, stopped_stays}
-use Rattle.tk_lines.proofs.Headers.ByteRuns.{front_longer}
+use Rattle.tk_lines.proofs.Headers.ByteRuns.{front_grows}
 use Rattle.tk_lines.proofs.MiddleOfLine.{behind-more, front-more, lines-byte, lines-LF}
 use Rattle.tk_lines.proofs.Sections.MiddleOfSection.{cut-blank, cut-covered, tokens_of-gap}
 use Rattle.tk_lines.proofs.Sections.SectionBytes.{first_token}
@@ -418,7 +418,8 @@ module _ {V : Type 0} (f : Format V) (steady : IsSteady f) (a : Result V TextFau
           by_tail [] e =
               long_or_open (ltb 64 (length (front is_word_byte (b ∷ bs))))
               (ltb 64 (length (front is_word_byte ((b ∷ bs) ++ more))))
-              (is_empty (behind is_word_byte (b ∷ bs))) _ _ (front_longer is_word_byte (b ∷ bs) more 64 e)
+              (is_empty (behind is_word_byte (b ∷ bs))) _ _
+              (λ t. lt-ltb _ _ (omega (arith, ltb-true _ _ t, front_grows is_word_byte (b ∷ bs) more e)))
               (ap is_empty e)
           by_tail (d ∷ ds) e =
               moves_word d ds (front is_word_byte (b ∷ bs)) (front is_word_byte ((b ∷ bs) ++ more))

@@ -1,7 +1,6 @@
 -- Runs of bytes, and one byte more.
-use Rattle.std.proofs.Common.{◌≡◌, ℕ, zero, suc, ◌<◌, Bool, true, false, cond, eqb, ltb, ◌&&◌, List, [], ◌∷◌, ◌++◌}
+use Rattle.std.proofs.Common.{◌≡◌, ℕ, zero, suc, ◌<◌, ◌≤◌, Bool, true, false, cond, eqb, ◌&&◌, List, [], ◌∷◌, ◌++◌}
 use Rattle.std.proofs.Common.{length, take, refl, sym, ap, ◌∙◌, append_assoc, arith}
-use Rattle.std.proofs.lemmas.Bool.{lt-ltb, ltb-true}
 use Rattle.std.proofs.lemmas.List.{append-nil, length-append}
 use Rattle.tk_words.specs.Lex.{is_blank, is_empty, front, behind, after_word, without_colon_before, trim_end}
 use Rattle.tk_lines.specs.Reader.Scan.{IsEmpty, Settled}
@@ -29,13 +28,9 @@ front-all p (x ∷ xs) ys h = front-all_step p x xs ys (p x) (front-all p xs ys)
 pub front-whole : (p : ℕ → Bool) (xs : List ℕ) → behind p xs ≡ [] → front p xs ≡ xs
 front-whole p xs h = ap (front p) (sym (append-nil xs)) ∙ front-all p xs [] h ∙ append-nil xs
 
--- a run that is long stays so
-pub front_longer : (p : ℕ → Bool) (xs ys : List ℕ) (n : ℕ) → behind p xs ≡ [] → ltb n (length (front p xs)) ≡ true →
-    ltb n (length (front p (xs ++ ys))) ≡ true
-front_longer p xs ys n h long =
-    let all : front p xs ≡ xs = front-whole p xs h in
-    let more : front p (xs ++ ys) ≡ xs ++ front p ys = front-all p xs ys h in
-    lt-ltb _ _ (omega (arith, ltb-true _ _ long, ap length all, ap length more, length-append xs (front p ys)))
+pub front_grows : (p : ℕ → Bool) (xs ys : List ℕ) → behind p xs ≡ [] → length (front p xs) ≤ length (front p (xs ++ ys))
+front_grows p xs ys h =
+    omega (arith, ap length (front-whole p xs h), ap length (front-all p xs ys h), length-append xs (front p ys))
 
 behind-on_step : (p : ℕ → Bool) (x : ℕ) (xs ys : List ℕ) (t : Bool) →
     ((IsEmpty (behind p xs) → ⊥) → behind p (xs ++ ys) ≡ behind p xs ++ ys) →
