@@ -5,7 +5,6 @@ use Rattle.std.specs.Prelude.{codes, is_none}
 use Rattle.std.specs.Char.{is_ascii_digit}
 use Rattle.std.specs.Option.{IsSome}
 use Rattle.std.proofs.lemmas.Bool.{ne_eqb, ltb-true, lt-ltb}
-use Rattle.std.proofs.lemmas.List.{length-append}
 use Rattle.tk_problem.specs.declared.limits.TheConstants.{ENTRY_LIMIT}
 use Rattle.tk_words.specs.declared.fault.TextKind.{TextKind}
 use Rattle.tk_words.specs.declared.fault.TextKind.TheVariants as kinds
@@ -21,7 +20,7 @@ use Rattle.tk_lines.proofs.Answered.{AreWhole, NotOpen, WholeTokens, not_open_ch
 use Rattle.tk_lines.proofs.Answered.{some_stopped, whole_lines, whole_tokens_of}
 use Rattle.tk_lines.proofs.Growing.{a_line, Lasts, checked_grown, lines_grow, or_else_kept, stopped_kept, stopped_stays}
 use Rattle.tk_lines.proofs.Growing.{tokens_after, tokens_grow}
-use Rattle.tk_lines.proofs.Headers.ByteRuns.{front-all, front-whole}
+use Rattle.tk_lines.proofs.Headers.ByteRuns.{front-whole, front_grows}
 use Rattle.tk_lines.proofs.MiddleOfLine.{behind-more, front-more}
 use Rattle.tk_lines.proofs.Steady.{stops, stops_grown}
 use Rattle.tk_lists.specs.Solution.{Head, Short, Bad, Behind, Solution, SolutionLine, Unsure, Other, Cost, colon_head}
@@ -157,21 +156,13 @@ digits_stay (b ∷ bs) x = by_rest (behind is_ascii_digit (b ∷ bs)) refl
         HeadStays (digits_head 0 (b ∷ bs)) (digits_head 0 ((b ∷ bs) ++ x)) x
     by_rest [] e =
         let all : front is_ascii_digit (b ∷ bs) ≡ b ∷ bs = front-whole is_ascii_digit (b ∷ bs) e in
-        let all' : front is_ascii_digit ((b ∷ bs) ++ x) ≡ (b ∷ bs) ++ front is_ascii_digit x =
-        front-all is_ascii_digit (b ∷ bs) x e in
         let some : eqb (0 + length (front is_ascii_digit (b ∷ bs))) 0 ≡ false =
         ne_eqb _ _ (λ z. omega (arith, z, ap length all)) in
         both (0 + length (front is_ascii_digit (b ∷ bs))) (0 + length (front is_ascii_digit ((b ∷ bs) ++ x)))
         (colon_head (behind is_blank (behind is_ascii_digit (b ∷ bs))))
         (colon_head (behind is_blank (behind is_ascii_digit ((b ∷ bs) ++ x))))
-        (λ t. lt-ltb
-        _ _ (omega (
-          arith,
-          ltb-true _ _ t,
-          ap length all,
-          ap length all',
-          length-append (b ∷ bs) (front is_ascii_digit x),
-        ))) (λ t. rw (some, e) tt)
+        (λ t. lt-ltb _ _ (omega (arith, ltb-true _ _ t, front_grows is_ascii_digit (b ∷ bs) x e)))
+        (λ t. rw (some, e) tt)
     by_rest (c ∷ cs) e =
         let same : front is_ascii_digit ((b ∷ bs) ++ x) ≡ front is_ascii_digit (b ∷ bs) =
         front-more is_ascii_digit (b ∷ bs) x c cs e in

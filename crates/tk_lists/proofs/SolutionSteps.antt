@@ -1,32 +1,43 @@
 -- What a byte does on a line of a solution text.
-use Rattle.std.proofs.Common.{◌≡◌, ℕ, ◌+◌, ◌<◌, Bool, true, false, ltb, List, [], ◌∷◌, ◌++◌, length, Some, refl, sym}
-use Rattle.std.proofs.Common.{ap, ◌∙◌, append_assoc, arith}
+use Rattle.std.proofs.Common.{◌≡◌, ℕ, ◌+◌, ◌<◌, Bool, true, false, ltb, List, [], ◌∷◌, ◌++◌, length, Some, Result}
+use Rattle.std.proofs.Common.{IfOk, IfErr, refl, sym, ap, ◌∙◌, append_assoc, arith}
 use Rattle.std.proofs.lemmas.Bool.{lt-ltb}
 use Rattle.std.proofs.lemmas.List.{length-append}
+use Rattle.std.proofs.lemmas.Result.{IfOk-weaker, IfErr-weaker}
 use Rattle.tk_words.specs.declared.fault.TextKind.{TextKind}
 use Rattle.tk_words.specs.declared.fault.TextKind.TheVariants as kinds
 use Rattle.tk_lists.specs.declared.solution_reader.LinePlace.TheVariants as places
 use Rattle.tk_lists.specs.declared.solution_reader.SolutionReader.{SolutionReader}
 use Rattle.tk_words.specs.Lex.{Token, tokens_of, is_blank}
 use Rattle.tk_lines.specs.Pieces.{Fault}
-use Rattle.tk_lines.specs.Reader.Forms.{whole}
+use Rattle.tk_lines.specs.Reader.Forms.{IsToldWord, whole}
 use Rattle.tk_lines.specs.Reader.Places.{IsToken}
 use Rattle.tk_lists.specs.Solution.{SolutionLine, Route, Cost, has_cost, count_of, customer_stop, cost_stop}
 use Rattle.tk_lists.specs.Reader.SolutionReader.{IsRoute, line_from, Went, LineStopsAt}
+use Rattle.tk_lines.proofs.Pieces.ToldFaults.{told_word}
 use Rattle.tk_lines.proofs.Sections.SectionSteps.{run_more}
 use Rattle.tk_lines.proofs.Sections.SectionBytes.{front_token}
 use Rattle.tk_lines.proofs.Sections.MiddleOfSection.{tokens_of-run}
 use Rattle.tk_lists.proofs.SolutionLines.{customers_at}
 
 -- the same line, told in two ways
-pub went_same : (before : List SolutionLine) (b : ℕ) (g h : List ℕ → Bool → SolutionLine) (s : SolutionReader) →
-    ((bs : List ℕ) (w : Bool) → h (b ∷ bs) w ≡ g (b ∷ bs) w) → Went before b g s → Went before b h s
-went_same before b g h s same went =
-    record { toks = went.toks; stands = went.stands; same = λ bs w. same bs w ∙ went.same bs w }
+module _ (before : List SolutionLine) (n b : ℕ) (g h : List ℕ → Bool → SolutionLine)
+    (same : (bs : List ℕ) (w : Bool) → h (b ∷ bs) w ≡ g (b ∷ bs) w) where
+  pub went_same : (s : SolutionReader) → Went before b g s → Went before b h s
+  went_same s went =
+      record { toks = went.toks; stands = went.stands; same = λ bs w. same bs w ∙ went.same bs w }
 
-pub stops_same : (before : List SolutionLine) (n b : ℕ) (g h : List ℕ → Bool → SolutionLine) (k : TextKind) →
-    ((bs : List ℕ) (w : Bool) → h (b ∷ bs) w ≡ g (b ∷ bs) w) → LineStopsAt before n b g k → LineStopsAt before n b h k
-stops_same before n b g h k same stops bs w = rw (same bs w) (stops bs w)
+  stops_same : (k : TextKind) → LineStopsAt before n b g k → LineStopsAt before n b h k
+  stops_same k stops bs w = rw (same bs w) (stops bs w)
+
+  pub ok_same : {T : Type 0} (r : Result T TextKind) (s : SolutionReader) →
+      IfOk r (λ _. Went before b g s) → IfOk r (λ _. Went before b h s)
+  ok_same r s = IfOk-weaker r _ _ (λ _. went_same s)
+
+  pub err_same : {T : Type 0} (r : Result T TextKind) →
+      IfErr r (IsToldWord (LineStopsAt before n b g)) → IfErr r (IsToldWord (LineStopsAt before n b h))
+  err_same r =
+      IfErr-weaker r _ _ (λ k. told_word (LineStopsAt before n b g) (LineStopsAt before n b h) k (stops_same k))
 
 module _ (before : List SolutionLine) (n b : ℕ) (held : List ℕ) (toks : List Token) where
   -- a blank after a token

@@ -13,22 +13,21 @@ pub returns-in_err-take_customer-clause-err : goal.returns-in_err-take_customer-
 returns-in_err-take_customer-clause-err c = λ before toks at.
     let n = c.args.self.now.line in
     let held = c.args.self.now.held in
-    let blank = sym c.blank.ensures ∙ c.if-blank.true in
     let p = err_from_is_err_and c.from_residual.result c.from_residual.ensures.1 in
     rw (p.1, p.2) (told_word (λ k. customer_stop (count_of before + length toks) (whole held n) ≡ Some (Fault n k))
     (LineStopsAt before n c.args.byte (line_from n held toks places.Customer)) c.in_err-take_customer.field-0.0
-    (customer_stops before n c.args.byte held toks blank at.2 at.1 c.in_err-take_customer.field-0.0)
+    (customer_stops before n c.args.byte held toks (sym c.blank.ensures ∙ c.if-blank.true) at.2 at.1
+    c.in_err-take_customer.field-0.0)
     (rw c.as_slice.ensures at (c.in_err-take_customer.ensures.err before toks n at.0 at.1)))
 
 pub returns-then-blank-clause-ok : goal.returns-then-blank-clause-ok
 returns-then-blank-clause-ok c = λ before toks at.
     let n = c.args.self.now.line in
     let held = c.args.self.now.held in
-    let blank = sym c.blank.ensures ∙ c.if-blank.true in
     record {
       toks = toks ++ whole held n ∷ [];
       stands = rw c.as_slice.ensures at (c.in_ok-take_customer.ensures.ok before toks n at.0 at.1);
-      same = customer_same before n c.args.byte held toks blank at.2;
+      same = customer_same before n c.args.byte held toks (sym c.blank.ensures ∙ c.if-blank.true) at.2;
     }
 
 pub returns-then-is_full-clause-err : goal.returns-then-is_full-clause-err

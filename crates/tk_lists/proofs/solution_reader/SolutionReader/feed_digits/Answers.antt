@@ -14,24 +14,22 @@ pub returns-in_err-take_cost-clause-err : goal.returns-in_err-take_cost-clause-e
 returns-in_err-take_cost-clause-err c = λ before toks at.
     let n = c.args.self.now.line in
     let held = c.args.self.now.held in
-    let blank = sym c.blank.ensures ∙ c.if-blank.true in
     let k = c.in_err-take_cost.field-0.0 in
     let p = err_from_is_err_and c.from_residual.result c.from_residual.ensures.1 in
     rw (p.1, p.2)
     (told_word (λ k. (ended : Bool) (ts : List Token) → cost_stop n ended (whole held n ∷ ts) ≡ Some (Fault n k))
     (LineStopsAt before n c.args.byte (line_from n held toks places.Digits)) k
-    (cost_stops before n c.args.byte held blank at.3 at.2 k)
+    (cost_stops before n c.args.byte held (sym c.blank.ensures ∙ c.if-blank.true) at.3 at.2 k)
     (rw c.as_slice.ensures at (c.in_err-take_cost.ensures.err before n at.1 at.2)))
 
 pub returns-then-blank-clause-ok : goal.returns-then-blank-clause-ok
 returns-then-blank-clause-ok c = λ before toks at.
     let n = c.args.self.now.line in
     let held = c.args.self.now.held in
-    let blank = sym c.blank.ensures ∙ c.if-blank.true in
     record {
       toks = whole held n ∷ [];
       stands = rw c.as_slice.ensures at (c.in_ok-take_cost.ensures.ok before n at.1 at.2);
-      same = cost_same before n c.args.byte held blank at.3;
+      same = cost_same before n c.args.byte held (sym c.blank.ensures ∙ c.if-blank.true) at.3;
     }
 
 pub returns-then-is_full-clause-err : goal.returns-then-is_full-clause-err

@@ -1,26 +1,21 @@
 use Rattle.std.proofs.Common.{◌++◌, [], List, refl, sym, ap, ◌∙◌, arith}
-use Rattle.std.proofs.lemmas.Result.{IfErr-weaker}
 use Rattle.tk_words.specs.Lex.{Token}
 use Rattle.tk_lists.specs.Solution.{Route, Cost}
-use Rattle.tk_lists.specs.Reader.SolutionReader.{LineStopsAt, line_from, rest_of}
+use Rattle.tk_lists.specs.Reader.SolutionReader.{line_from, rest_of}
 use Rattle.tk_lists.specs.declared.solution_reader.LinePlace.TheVariants as places
-use Rattle.tk_lines.proofs.Pieces.ToldFaults.{told_word}
 use Rattle.tk_lines.proofs.Sections.MiddleOfSection.{tokens_of-gap}
 use Rattle.tk_lists.proofs.SolutionEnds.{close_stops}
-use Rattle.tk_lists.proofs.SolutionSteps.{stops_same}
+use Rattle.tk_lists.proofs.SolutionSteps.{err_same}
 use Rattle.tk_lists.proofs.solution_reader.SolutionReader.feed_line.Goals as goal
 
 pub returns-else-blank-clause-err : goal.returns-else-blank-clause-err
 returns-else-blank-clause-err c = λ before toks stands.
     let n = c.args.self.now.line in
-    let b = c.args.byte in
     let solid = sym c.blank.ensures ∙ c.if-blank.false in
     let g = line_from n c.clear.new.self [] places.Word in
     let h = rest_of c.args.self.now toks in
     let at = rw c.in-Start.is at stands in
-    IfErr-weaker c.feed_word.result
-    _ _ (λ k told. told_word (LineStopsAt before n b g) (LineStopsAt before n b h) k
-    (stops_same before n b g h k (λ bs w. rw (c.in-Start.is, c.clear.ensures, solid) refl)) told)
+    err_same before n c.args.byte g h (λ bs w. rw (c.in-Start.is, c.clear.ensures, solid) refl) c.feed_word.result
     (c.feed_word.ensures.err before at.1)
 
 pub returns-then-not-blank-clause-ok : goal.returns-then-not-blank-clause-ok
