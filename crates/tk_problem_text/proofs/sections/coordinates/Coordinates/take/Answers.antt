@@ -25,11 +25,11 @@ wants_node c n toks has =
     at_node n inside.places inside.nodes toks
     (opened n inside.places inside.nodes inside.wanted wants.Node c.args.self.now toks c.self.view_is c.in-Node.is has)
 
-ends_row : (c : After-are_all) (n : ℕ) (toks : List Token) (line : ℕ) → HasPlaces n c.args.self.now toks →
+row_placed : (c : After-are_all) (n : ℕ) (toks : List Token) (line : ℕ) → HasPlaces n c.args.self.now toks →
     EndsRow (HasPlaces n) (place_tests n) (3 * n) c.self.inside.nodes.left
     (record { places = c.set.new.self; nodes = c.self.inside.nodes; wanted = wants.Node }) toks
     (whole c.args.token.now line)
-ends_row c n toks line has =
+row_placed c n toks line has =
     let inside = c.self.inside in
     let x = c.in-Y.x in
     let y = c.in_ok-y-in-Y.y in
@@ -110,10 +110,10 @@ returns-in_ok-x-in-X-clause-ok c = λ n toks line has fewer.
 
 pub returns-then-are_all-clause-ok : goal.returns-then-are_all-clause-ok
 returns-then-are_all-clause-ok c = λ n toks line has fewer.
-    let row = ends_row (goal.at.returns-then-are_all-clause-ok c).After-are_all n toks line has in
+    let row = row_placed (goal.at.returns-then-are_all-clause-ok c).After-are_all n toks line has in
     (row.fine, row.kept, row.last (eqb-true _ 0 (sym c.are_all.ensures ∙ c.if-are_all.true)))
 
 pub returns-else-are_all-clause-ok : goal.returns-else-are_all-clause-ok
 returns-else-are_all-clause-ok c = λ n toks line has fewer.
-    let row = ends_row (goal.at.returns-else-are_all-clause-ok c).After-are_all n toks line has in
+    let row = row_placed (goal.at.returns-else-are_all-clause-ok c).After-are_all n toks line has in
     (row.fine, row.kept, row.more (eqb-false _ 0 (sym c.are_all.ensures ∙ c.if-are_all.false)))

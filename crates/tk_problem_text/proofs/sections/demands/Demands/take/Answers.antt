@@ -19,12 +19,12 @@ wants_node c n toks has =
     at_node n inside.loads.items inside.nodes toks
     (opened n inside.loads.items inside.nodes inside.node None c.args.self.now toks c.self.view_is c.in-None.is has)
 
-ends_row : (c : After-are_all) (n : ℕ) (toks : List Token) (line : ℕ) → HasDemands n c.args.self.now toks →
+row_loaded : (c : After-are_all) (n : ℕ) (toks : List Token) (line : ℕ) → HasDemands n c.args.self.now toks →
     let inside = c.self.inside in
     let loads : List ℕ = set inside.loads.items c.in-Some.index c.in_ok-load-in-Some.load in
     EndsRow (HasDemands n) (demand_tests n) (2 * n) inside.nodes.left
     (record { loads = loads; nodes = inside.nodes; node = None }) toks (whole c.args.token.now line)
-ends_row c n toks line has =
+row_loaded c n toks line has =
     let inside = c.self.inside in
     let here = opened n inside.loads.items inside.nodes inside.node (Some c.in-Some.index) c.args.self.now toks
     c.self.view_is c.in-Some.is has in
@@ -64,10 +64,10 @@ returns-in_ok-index-in-None-clause-ok c = λ n toks line has fewer.
 
 pub returns-then-are_all-clause-ok : goal.returns-then-are_all-clause-ok
 returns-then-are_all-clause-ok c = λ n toks line has fewer.
-    let row = ends_row (goal.at.returns-then-are_all-clause-ok c).After-are_all n toks line has in
+    let row = row_loaded (goal.at.returns-then-are_all-clause-ok c).After-are_all n toks line has in
     (row.fine, row.kept, row.last (eqb-true _ 0 (sym c.are_all.ensures ∙ c.if-are_all.true)))
 
 pub returns-else-are_all-clause-ok : goal.returns-else-are_all-clause-ok
 returns-else-are_all-clause-ok c = λ n toks line has fewer.
-    let row = ends_row (goal.at.returns-else-are_all-clause-ok c).After-are_all n toks line has in
+    let row = row_loaded (goal.at.returns-else-are_all-clause-ok c).After-are_all n toks line has in
     (row.fine, row.kept, row.more (eqb-false _ 0 (sym c.are_all.ensures ∙ c.if-are_all.false)))
