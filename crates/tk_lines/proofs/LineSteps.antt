@@ -26,6 +26,7 @@ use Rattle.tk_lines.proofs.Sections.SectionEnds.{first_line}
 use Rattle.tk_lines.proofs.Headers.ByteRuns.{behind-all, front-all}
 use Rattle.tk_lines.proofs.Lines.{from_line-unknown, from_line-eof, from_line-section, from_line-long, from_line-header}
 use Rattle.tk_lines.proofs.Lines.{from_line-last, blank_letter}
+use Rattle.tk_lines.proofs.SamePlaces.{line_told}
 
 -- ---- lines of bytes
 
@@ -113,35 +114,23 @@ stop_header f before word tail n short = rw (le-ltb _ _ short) refl
 
 module _ {V S : Type 0} (f : Format V) (H : S → List Piece → Type 0) (form : S) (line b : ℕ) (bs : List ℕ) where
   pub line_LF : AtLine f H (this LF) form line [] bs → AtLine f H anything form (line + 1) [] (bs ++ LF ∷ [])
-  line_LF a = record {
-    before = a.before;
-    upto = a.upto;
-    holds = a.holds;
-    lt = omega (arith, a.lt);
-    same = says_byte f LF bs _ _ a.same (λ e more. from_line-blank f a.before a.upto [] e line more a.lt refl
-        ∙ ap (λ (n : ℕ). from_line f a.before a.upto [] e n more) (omega arith));
-  }
+  line_LF a =
+      line_told a (omega (arith, a.lt))
+      (says_byte f LF bs _ _ a.same (λ e more. from_line-blank f a.before a.upto [] e line more a.lt refl
+      ∙ ap (λ (n : ℕ). from_line f a.before a.upto [] e n more) (omega arith)))
 
   pub line_byte : (pre : List ℕ) → eqb b LF ≡ false → AtLine f H (this b) form line pre bs →
       AtLine f H anything form line (pre ++ b ∷ []) (bs ++ b ∷ [])
-  line_byte pre other a = record {
-    before = a.before;
-    upto = a.upto;
-    holds = a.holds;
-    lt = a.lt;
-    same = says_byte f b bs _ _ a.same (λ e more. from_line-byte f a.before a.upto pre e line b more other);
-  }
+  line_byte pre other a =
+      line_told a a.lt
+      (says_byte f b bs _ _ a.same (λ e more. from_line-byte f a.before a.upto pre e line b more other))
 
   pub line_blank : eqb b LF ≡ false → is_blank b ≡ true → AtLine f H (this b) form line [] bs →
       AtLine f H anything form line [] (bs ++ b ∷ [])
-  line_blank other blank a = record {
-    before = a.before;
-    upto = a.upto;
-    holds = a.holds;
-    lt = a.lt;
-    same = says_byte f b bs _ _ a.same (λ e more. from_line-byte f a.before a.upto [] e line b more other
-        ∙ from_line-drop f a.before a.upto e line more b blank);
-  }
+  line_blank other blank a =
+      line_told a a.lt
+      (says_byte f b bs _ _ a.same (λ e more. from_line-byte f a.before a.upto [] e line b more other
+      ∙ from_line-drop f a.before a.upto e line more b blank))
 
   pub line_stray : eqb b LF ≡ false → is_blank b ≡ false → is_letter b ≡ false → AtLine f H (this b) form line [] bs →
       DecidesIf f anything (bs ++ b ∷ []) (Err (record { line = line; kind = kinds.TrailingData }))

@@ -9,7 +9,7 @@ use Rattle.tk_lines.specs.Pieces.{Piece, Format}
 use Rattle.tk_lines.specs.Reader.Forms.{Promise}
 use Rattle.tk_lines.specs.Reader.Places.{Next, anything, AtLine, AtTail, AtToken, AtAfter, AtPlace, Fed}
 use Rattle.tk_lines.specs.declared.reader.PieceReader.{PieceReader}
-use Rattle.tk_lines.proofs.SamePlaces.{token_told, close_told, after_told}
+use Rattle.tk_lines.proofs.SamePlaces.{line_told, token_told, close_told, after_told}
 
 pub token_narrow : {V S : Type 0} (f : Format V) (W : S → List Piece → Keyword → ℕ → List Token → Type 0) (next : Next)
     (form : S) (line : ℕ) (bs pre : List ℕ) → AtToken f W anything form line pre bs → AtToken f W next form line pre bs
@@ -19,8 +19,7 @@ module _ {V S : Type 0} (f : Format V) (H : S → List Piece → Type 0)
     (W : S → List Piece → Keyword → ℕ → List Token → Type 0) (next : Next) (form : S) (line : ℕ) (held : List ℕ)
     (scan : Scan) (bs : List ℕ) where
   line_narrow : (pre : List ℕ) → AtLine f H anything form line pre bs → AtLine f H next form line pre bs
-  line_narrow pre a =
-      record { before = a.before; upto = a.upto; holds = a.holds; lt = a.lt; same = λ e more n. a.same e more refl }
+  line_narrow pre a = line_told a a.lt (λ e more n. a.same e more refl)
 
   tail_narrow : (word : Keyword) (before : List Piece) (tail : List ℕ) →
       AtTail f anything line held word before tail bs → AtTail f next line held word before tail bs

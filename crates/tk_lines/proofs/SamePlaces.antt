@@ -1,12 +1,17 @@
 -- The same place, of bytes and of what follows that are told otherwise.
-use Rattle.std.proofs.Common.{ℕ, Bool, List, []}
+use Rattle.std.proofs.Common.{ℕ, ◌<◌, Bool, List, []}
 use Rattle.tk_words.specs.declared.keyword.Keyword.{Keyword}
 use Rattle.tk_words.specs.Lex.{Token}
 use Rattle.tk_lines.specs.Pieces.{Piece, Format, last_line}
-use Rattle.tk_lines.specs.Reader.FromMiddle.{in_section}
-use Rattle.tk_lines.specs.Reader.Places.{Next, Says, AtBegin, AtToken, AtClose, AtAfter, IsLastLine}
+use Rattle.tk_lines.specs.Reader.FromMiddle.{from_line, in_section}
+use Rattle.tk_lines.specs.Reader.Places.{Next, Says, AtLine, AtBegin, AtToken, AtClose, AtAfter, IsLastLine}
 
 module _ {V S : Type 0} {f : Format V} {next next' : Next} {form : S} {line : ℕ} {bs bs' : List ℕ} where
+  pub line_told : {H : S → List Piece → Type 0} {pre pre' : List ℕ} {line' : ℕ} (a : AtLine f H next form line pre bs)
+      → a.upto < line' → Says f next' bs' (λ e more. from_line f a.before a.upto pre' e line' more)
+      → AtLine f H next' form line' pre' bs'
+  line_told a lt same = record { before = a.before; upto = a.upto; holds = a.holds; lt = lt; same = same }
+
   -- the tokens of a section begin
   pub begin_told : {W : S → List Piece → Keyword → ℕ → List Token → Type 0} {held : List ℕ}
       (a : AtBegin f W next form line held bs)
