@@ -26,24 +26,32 @@ spans_of X b a h = spans_cut X b a h.0.0 h.0.1 h.1.0 h.1.1
     spans_cut X b a us h [] k = subst (λ z. Spans z b a) (sym k) (let e : a ≡ b = cc in (e, refl))
     spans_cut X b a us h (v ∷ vs) k = subst (λ z. Spans z b a) (sym k) (let e : v ≡ b = cc in (e, last_push v vs a))
 
+-- the two ways in which a segment is put between the parts that it leaves, by what says that a part has two ends
+abbrev pub IsPut : (List ℕ → ℕ → ℕ → Type 0) → (S P Q D : List ℕ) (a b y w : ℕ) → Type 0
+IsPut HasEnds S P Q D a b y w =
+    (HasEnds P b y × HasEnds Q w a × SameCycle D (P ++ S ++ Q))
+    ⊎ (HasEnds P b w × HasEnds Q y a × SameCycle D (P ++ reverse S ++ Q))
+
 abbrev pub Made : ℕ → Offer → List ℕ → List ℕ → Type 0
 Made m (Two a b c d) old new =
     (A : List ℕ)
     × ((B : List ℕ) × (SameCycle old (A ++ B) × Spans A d a × Spans B b c × SameCycle new (A ++ reverse B)))
 Made m (Or a x e b y w) old new =
     (S : List ℕ) × ((P : List ℕ) × ((Q : List ℕ) × (SameCycle old (S ++ P ++ Q) × (length S ≤ m) × Spans S x e ×
-    ((Spans P b y × Spans Q w a × SameCycle new (P ++ S ++ Q))
-    ⊎ (Spans P b w × Spans Q y a × SameCycle new (P ++ reverse S ++ Q))))))
+    IsPut Spans S P Q new a b y w)))
 
 abbrev pub IsMadeOn : ℕ → Offer → List ℕ → Type 0
 IsMadeOn m o C = (D : List ℕ) × Made m o C D
 
-or_of : (S P Q D : List ℕ) (a b y w : ℕ) → (IsPath b P y × IsPath w Q a × SameCycle D (P ++ S ++ Q))
-    ⊎ (IsPath b P w × IsPath y Q a × SameCycle D (P ++ reverse S ++ Q)) →
-    (Spans P b y × Spans Q w a × SameCycle D (P ++ S ++ Q))
-    ⊎ (Spans P b w × Spans Q y a × SameCycle D (P ++ reverse S ++ Q))
-or_of S P Q D a b y w (inl (hP, hQ, k)) = inl (spans_of P b y hP, spans_of Q w a hQ, k)
-or_of S P Q D a b y w (inr (hP, hQ, k)) = inr (spans_of P b w hP, spans_of Q y a hQ, k)
+put_spans : (S P Q D : List ℕ) (a b y w : ℕ) → IsPut (λ X b a. IsPath b X a) S P Q D a b y w →
+    IsPut Spans S P Q D a b y w
+put_spans S P Q D a b y w (inl (hP, hQ, k)) = inl (spans_of P b y hP, spans_of Q w a hQ, k)
+put_spans S P Q D a b y w (inr (hP, hQ, k)) = inr (spans_of P b w hP, spans_of Q y a hQ, k)
+
+put_paths : (S P Q D : List ℕ) (a b y w : ℕ) → IsPut Spans S P Q D a b y w →
+    IsPut (λ X b a. IsPath b X a) S P Q D a b y w
+put_paths S P Q D a b y w (inl (hP, hQ, k)) = inl (path_of P b y hP, path_of Q w a hQ, k)
+put_paths S P Q D a b y w (inr (hP, hQ, k)) = inr (path_of P b w hP, path_of Q y a hQ, k)
 
 pub made_of : (m : ℕ) (o : Offer) (C D : List ℕ) → Makes m o C D → Made m o C D
 made_of m (Two a b c d) C D h =
@@ -58,7 +66,7 @@ made_of m (Or a x e b y w) C D h = (
         h.before,
         h.short,
         spans_of h.segment x e h.is_segment,
-        or_of h.segment h.ahead h.rest D a b y w h.after,
+        put_spans h.segment h.ahead h.rest D a b y w h.after,
       ),
     ),
   ),
@@ -67,7 +75,7 @@ made_of m (Or a x e b y w) C D h = (
 pub makes_of : (m : ℕ) (o : Offer) (C D : List ℕ) → Made m o C D → Makes m o C D
 makes_of m (Two a b c d) C D (A, (B, (h, hA, hB, k))) =
     record { kept = A; turned = B; is_kept = path_of A d a hA; is_turned = path_of B b c hB; before = h; after = k }
-makes_of m (Or a x e b y w) C D (S, (P, (Q, (h, short, hS, inl (hP, hQ, k))))) =
+makes_of m (Or a x e b y w) C D (S, (P, (Q, (h, short, hS, k)))) =
     record {
       segment = S;
       ahead = P;
@@ -75,17 +83,7 @@ makes_of m (Or a x e b y w) C D (S, (P, (Q, (h, short, hS, inl (hP, hQ, k))))) =
       short = short;
       is_segment = path_of S x e hS;
       before = h;
-      after = inl (path_of P b y hP, path_of Q w a hQ, k);
-    }
-makes_of m (Or a x e b y w) C D (S, (P, (Q, (h, short, hS, inr (hP, hQ, k))))) =
-    record {
-      segment = S;
-      ahead = P;
-      rest = Q;
-      short = short;
-      is_segment = path_of S x e hS;
-      before = h;
-      after = inr (path_of P b w hP, path_of Q y a hQ, k);
+      after = put_paths S P Q D a b y w k;
     }
 
 pub made_on : (m : ℕ) (o : Offer) (C : List ℕ) → IsOfferOn m o C → IsMadeOn m o C

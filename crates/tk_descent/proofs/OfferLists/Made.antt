@@ -7,7 +7,7 @@ use Rattle.tk_descent.specs.Machine.{IsOfferOn}
 use Rattle.tk_descent.specs.Offers.{Makes}
 use Rattle.tk_tour.specs.Moves.{CutInThree, MovesStraight, MovesReversed}
 use Rattle.tk_tour.specs.Tour.{IsRotation, SameCycle, next_city}
-use Rattle.tk_descent.proofs.MovesOnTours.Views.{Made, IsMadeOn, path_of, made_of, makes_of, made_on}
+use Rattle.tk_descent.proofs.MovesOnTours.Views.{IsPut, Made, IsMadeOn, path_of, made_of, makes_of, made_on}
 use Rattle.tk_descent.proofs.MovesOnTours.Paths.{Spans}
 use Rattle.tk_distance.specs.Holding.{IsDistinct, holds}
 use Rattle.tk_descent.specs.declared.offer.Offer.TheVariants.{Two, Or}
@@ -203,28 +203,24 @@ mirror_cycle C S P Q h =
     (cycle-same C (reverse (S ++ P ++ Q)) ((reverse Q ++ reverse P) ++ reverse S) (reverse_three S P Q)
     (cycle-reverse C (S ++ P ++ Q) h)))
 
-pub mirrored : (m : ℕ) (C D : List ℕ) (a x e b y w : ℕ) → Made m (Or a x e b y w) C D → Made m (Or b e x a w y) C D
-mirrored m C D a x e b y w (S, (P, (Q, (cyc, short, hS, inl k)))) = (
-  reverse S,
-  (
-    reverse Q,
-    (
-      reverse P,
-      (
-        mirror_cycle C S P Q cyc,
-        omega (arith, length-reverse S),
-        Spans-reverse S x e hS,
-        inl (
-          Spans-reverse Q w a k.1,
-          Spans-reverse P b y k.0,
-          cycle-same D (reverse (P ++ S ++ Q)) (reverse Q ++ reverse S ++ reverse P) (reverse_three P S Q)
-              (cycle-reverse D (P ++ S ++ Q) k.2),
-        ),
-      ),
-    ),
-  ),
+-- the parts that a segment leaves, seen from the other end
+mirrored_parts : (S P Q D : List ℕ) (a b y w : ℕ) → IsPut Spans S P Q D a b y w →
+    IsPut Spans (reverse S) (reverse Q) (reverse P) D b a w y
+mirrored_parts S P Q D a b y w (inl k) = inl (
+  Spans-reverse Q w a k.1,
+  Spans-reverse P b y k.0,
+  cycle-same D (reverse (P ++ S ++ Q)) (reverse Q ++ reverse S ++ reverse P) (reverse_three P S Q)
+      (cycle-reverse D (P ++ S ++ Q) k.2),
 )
-mirrored m C D a x e b y w (S, (P, (Q, (cyc, short, hS, inr k)))) = (
+mirrored_parts S P Q D a b y w (inr k) = inr (
+  Spans-reverse Q y a k.1,
+  Spans-reverse P b w k.0,
+  cycle-same D (reverse (P ++ reverse S ++ Q)) (reverse Q ++ reverse (reverse S) ++ reverse P)
+      (reverse_three P (reverse S) Q) (cycle-reverse D (P ++ reverse S ++ Q) k.2),
+)
+
+pub mirrored : (m : ℕ) (C D : List ℕ) (a x e b y w : ℕ) → Made m (Or a x e b y w) C D → Made m (Or b e x a w y) C D
+mirrored m C D a x e b y w (S, (P, (Q, (cyc, short, hS, k)))) = (
   reverse S,
   (
     reverse Q,
@@ -234,12 +230,7 @@ mirrored m C D a x e b y w (S, (P, (Q, (cyc, short, hS, inr k)))) = (
         mirror_cycle C S P Q cyc,
         omega (arith, length-reverse S),
         Spans-reverse S x e hS,
-        inr (
-          Spans-reverse Q y a k.1,
-          Spans-reverse P b w k.0,
-          cycle-same D (reverse (P ++ reverse S ++ Q)) (reverse Q ++ reverse (reverse S) ++ reverse P)
-              (reverse_three P (reverse S) Q) (cycle-reverse D (P ++ reverse S ++ Q) k.2),
-        ),
+        mirrored_parts S P Q D a b y w k,
       ),
     ),
   ),

@@ -29,6 +29,32 @@ length-cycle xs ys (inr h) = omega (arith, length-rotation xs (reverse ys) h, le
 abbrev HasSameCities : List ℕ → List ℕ → Type 0
 HasSameCities C D = (length D ≡ length C) × ((c : ℕ) → occurrences c D ≡ occurrences c C)
 
+-- so it is where a segment, or its reverse, stands elsewhere
+moved_cities : (C D S T P Q : List ℕ) → length T ≡ length S → ((c : ℕ) → occurrences c T ≡ occurrences c S) →
+    SameCycle C (S ++ P ++ Q) → SameCycle D (P ++ T ++ Q) → HasSameCities C D
+moved_cities C D S T P Q long same h k = (
+  omega (
+    arith,
+    long,
+    length-cycle C (S ++ P ++ Q) h,
+    length-cycle D (P ++ T ++ Q) k,
+    length-append (S ++ P) Q,
+    length-append S P,
+    length-append (P ++ T) Q,
+    length-append P T,
+  ),
+  λ z. omega (
+    arith,
+    same z,
+    occurrences-cycle z h,
+    occurrences-cycle z k,
+    occurrences-append z (S ++ P) Q,
+    occurrences-append z S P,
+    occurrences-append z (P ++ T) Q,
+    occurrences-append z P T,
+  ),
+)
+
 made_cities : (m : ℕ) (o : Offer) (C D : List ℕ) → Made m o C D → HasSameCities C D
 made_cities m (Two a b c d) C D (A, (B, (h, hA, hB, k))) = (
   omega (
@@ -48,48 +74,10 @@ made_cities m (Two a b c d) C D (A, (B, (h, hA, hB, k))) = (
     occurrences-reverse z B,
   ),
 )
-made_cities m (Or a x e b y w) C D (S, (P, (Q, (h, short, hS, inl (hP, hQ, k))))) = (
-  omega (
-    arith,
-    length-cycle C (S ++ P ++ Q) h,
-    length-cycle D (P ++ S ++ Q) k,
-    length-append (S ++ P) Q,
-    length-append S P,
-    length-append (P ++ S) Q,
-    length-append P S,
-  ),
-  λ z. omega (
-    arith,
-    occurrences-cycle z h,
-    occurrences-cycle z k,
-    occurrences-append z (S ++ P) Q,
-    occurrences-append z S P,
-    occurrences-append z (P ++ S) Q,
-    occurrences-append z P S,
-  ),
-)
-made_cities m (Or a x e b y w) C D (S, (P, (Q, (h, short, hS, inr (hP, hQ, k))))) = (
-  omega (
-    arith,
-    length-cycle C (S ++ P ++ Q) h,
-    length-cycle D (P ++ reverse S ++ Q) k,
-    length-append (S ++ P) Q,
-    length-append S P,
-    length-append (P ++ reverse S) Q,
-    length-append P (reverse S),
-    length-reverse S,
-  ),
-  λ z. omega (
-    arith,
-    occurrences-cycle z h,
-    occurrences-cycle z k,
-    occurrences-append z (S ++ P) Q,
-    occurrences-append z S P,
-    occurrences-append z (P ++ reverse S) Q,
-    occurrences-append z P (reverse S),
-    occurrences-reverse z S,
-  ),
-)
+made_cities m (Or a x e b y w) C D (S, (P, (Q, (h, short, hS, inl (hP, hQ, k))))) =
+    moved_cities C D S S P Q refl (λ c. refl) h k
+made_cities m (Or a x e b y w) C D (S, (P, (Q, (h, short, hS, inr (hP, hQ, k))))) =
+    moved_cities C D S (reverse S) P Q (length-reverse S) (λ c. occurrences-reverse c S) h k
 
 made_tour : (C D : List ℕ) → HasSameCities C D → IsSizedTour C → IsSizedTour D
 made_tour C D same t = (

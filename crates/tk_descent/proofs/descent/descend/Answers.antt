@@ -16,8 +16,13 @@ use Rattle.tk_descent.proofs.WakeRuns.DescentSteps.{fresh_count, saved_is}
 use Rattle.tk_descent.proofs.OfferLists.Count.{fewer}
 use Rattle.tk_descent.specs.WakeMachine.{Wakes}
 use Rattle.tk_descent.proofs.WakeRuns.Machines.{run_wakes}
+use Rattle.tk_descent.proofs.descent.descend.Given.{Over}
 use Rattle.tk_descent.proofs.descent.descend.Goals as goal
 use mir.Val.{SFits}
+
+-- the laws of the distances
+laws : (g : Over) (gains : g.row.G.Denot) → IsTable (g.G.Gains.distance gains)
+laws g gains = (g.met.G.Gains.symmetric gains, g.met.G.Gains.diagonal gains, g.met.G.Gains.distance_limit gains)
 
 pub loop-x-init : goal.loop-x-init
 loop-x-init g c = record {
@@ -49,11 +54,7 @@ overflow_add-looks g c =
       c.requires.fits.2,
       c.size-cities.ensures.count,
       c.size-cities.ensures.limits.1,
-      fits_length (g.G.Gains.distance c.args.gains.now) (g.S.TourStore.cities c.args.tour.now) (
-        g.met.G.Gains.symmetric c.args.gains.now,
-        g.met.G.Gains.diagonal c.args.gains.now,
-        g.met.G.Gains.distance_limit c.args.gains.now,
-      )
+      fits_length (g.G.Gains.distance c.args.gains.now) (g.S.TourStore.cities c.args.tour.now) (laws g c.args.gains.now)
           (omega (arith, c.size-cities.ensures.count, c.size-cities.ensures.limits.1)),
     )
 
@@ -67,18 +68,10 @@ overflow_sub-after g c =
     let i = c.loop-x.invariant in
     let d = g.G.Gains.distance c.args.gains.now in
     (worth_move d _ _ c.in-Some-find_offer.found _ _ c.args.or_segment (g.S.TourStore.cities c.loop-x.tour)
-    (g.S.TourStore.cities c.make.new.tour) _ (
-      g.met.G.Gains.symmetric c.args.gains.now,
-      g.met.G.Gains.diagonal c.args.gains.now,
-      g.met.G.Gains.distance_limit c.args.gains.now,
-    ) i.table
+    (g.S.TourStore.cities c.make.new.tour) _ (laws g c.args.gains.now) i.table
     c.in-Some-find_offer.ensures.searched
     (c.make.ensures.made c.args.or_segment c.in-Some-find_offer.ensures.on_cycle.0) i.after
-    (fits_length d (g.S.TourStore.cities c.make.new.tour) (
-      g.met.G.Gains.symmetric c.args.gains.now,
-      g.met.G.Gains.diagonal c.args.gains.now,
-      g.met.G.Gains.distance_limit c.args.gains.now,
-    )
+    (fits_length d (g.S.TourStore.cities c.make.new.tour) (laws g c.args.gains.now)
     (omega (arith, c.make.ensures.size, i.size, c.size-cities.ensures.count, c.size-cities.ensures.limits.1)))).0
 
 pub loop-x-smaller-in-Some-find_offer : goal.loop-x-smaller-in-Some-find_offer
@@ -90,11 +83,7 @@ loop-x-smaller-in-Some-find_offer g c =
     let f = c.in-Some-find_offer.found in
     let made = c.make.ensures.made c.args.or_segment c.in-Some-find_offer.ensures.on_cycle.0 in
     let less : tour_length d D + 1 ≤ tour_length d C =
-    less_move d _ _ f _ _ c.args.or_segment C D (
-      g.met.G.Gains.symmetric c.args.gains.now,
-      g.met.G.Gains.diagonal c.args.gains.now,
-      g.met.G.Gains.distance_limit c.args.gains.now,
-    ) i.table
+    less_move d _ _ f _ _ c.args.or_segment C D (laws g c.args.gains.now) i.table
     c.in-Some-find_offer.ensures.searched made in
     let left : length c.wake_ends.new.waking.queue + 1 ≤ length c.loop-x.waking.queue + 6 =
     queue_left c.loop-x.waking.queue c.take.new.self.queue c.wake_ends.new.waking.queue _ f.offer
@@ -112,11 +101,7 @@ loop-x-preserved-in-Some-find_offer g c =
     let f = c.in-Some-find_offer.found in
     let made = c.make.ensures.made c.args.or_segment c.in-Some-find_offer.ensures.on_cycle.0 in
     let less = less_move d _ _ f _ _ c.args.or_segment (g.S.TourStore.cities c.loop-x.tour)
-    (g.S.TourStore.cities c.make.new.tour) (
-      g.met.G.Gains.symmetric c.args.gains.now,
-      g.met.G.Gains.diagonal c.args.gains.now,
-      g.met.G.Gains.distance_limit c.args.gains.now,
-    ) i.table
+    (g.S.TourStore.cities c.make.new.tour) (laws g c.args.gains.now) i.table
     c.in-Some-find_offer.ensures.searched made in
     record {
       run = (
@@ -131,17 +116,9 @@ loop-x-preserved-in-Some-find_offer g c =
       awake = c.wake_ends.ensures.size ∙ c.take.ensures.size ∙ i.awake;
       after =
           (worth_move d _ _ f _ _ c.args.or_segment (g.S.TourStore.cities c.loop-x.tour)
-          (g.S.TourStore.cities c.make.new.tour) _ (
-            g.met.G.Gains.symmetric c.args.gains.now,
-            g.met.G.Gains.diagonal c.args.gains.now,
-            g.met.G.Gains.distance_limit c.args.gains.now,
-          ) i.table
+          (g.S.TourStore.cities c.make.new.tour) _ (laws g c.args.gains.now) i.table
           c.in-Some-find_offer.ensures.searched made i.after
-          (fits_length d (g.S.TourStore.cities c.make.new.tour) (
-            g.met.G.Gains.symmetric c.args.gains.now,
-            g.met.G.Gains.diagonal c.args.gains.now,
-            g.met.G.Gains.distance_limit c.args.gains.now,
-          )
+          (fits_length d (g.S.TourStore.cities c.make.new.tour) (laws g c.args.gains.now)
           (omega (
             arith,
             c.make.ensures.size,
@@ -213,11 +190,6 @@ returns-clause-descent g c =
     let T = g.S.TourStore.cities c.args.tour.now in
     let W = c.args.waking.now.queue in
     let D = g.S.TourStore.cities c.loop-x.tour in
-    let laws : IsTable d = (
-      g.met.G.Gains.symmetric c.args.gains.now,
-      g.met.G.Gains.diagonal c.args.gains.now,
-      g.met.G.Gains.distance_limit c.args.gains.now,
-    ) in
     let asleep = c.in_default.ensures.taken.0 in
     let few : length T ≤ CITY_LIMIT = omega (arith, c.size-cities.ensures.count, c.size-cities.ensures.limits.1) in
     let most : c.tests.result - c.tests-tests.result
@@ -246,10 +218,10 @@ returns-clause-descent g c =
             c.requires.fits.2,
             c.size-cities.ensures.count,
             c.size-cities.ensures.limits.1,
-          )) (omega (arith, i.gained)) (fits_length d T laws few) most)) run;
+          )) (omega (arith, i.gained)) (fits_length d T (laws g c.args.gains.now) few) most)) run;
       wakes =
           subst (λ z. Wakes d near c.args.or_segment T W D z) asleep
-          (run_wakes d near c.args.or_segment T W laws c.requires.most.1
+          (run_wakes d near c.args.or_segment T W (laws g c.args.gains.now) c.requires.most.1
           (round_of _ (g.met.S.TourStore.is_tour c.args.tour.now)).distinct c.len-awake.ensures.distinct i.run.1);
       asleep = search rules;
       tour = subst (λ z. IsTour z D) i.size (g.met.S.TourStore.is_tour c.loop-x.tour).2;

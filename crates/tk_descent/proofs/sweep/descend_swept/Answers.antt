@@ -6,11 +6,17 @@ use Rattle.tk_tour.specs.Tour.{tour_length, IsTour}
 use Rattle.tk_descent.specs.Awake.{one_to}
 use Rattle.tk_descent.specs.Sweeps.{Moving, Pass}
 use Rattle.tk_descent.specs.Sweeps.Moving.{start, pass}
+use Rattle.tk_descent.proofs.MovesOnTours.Paths.{IsTable}
 use Rattle.tk_descent.proofs.MovesOnTours.Rounds.{round_of}
 use Rattle.tk_descent.proofs.WakeRuns.Woken.{one_to-length}
 use Rattle.tk_descent.proofs.WakeRuns.Passes.{all_awake, pass_of, pass_optimum, after_bits, more_looks, more_tests}
 use Rattle.tk_descent.proofs.WakeRuns.Passes.{more_swaps, swept, count_pass, fresh_sweep}
+use Rattle.tk_descent.proofs.sweep.descend_swept.Given.{Over}
 use Rattle.tk_descent.proofs.sweep.descend_swept.Goals as goal
+
+-- the laws of the distances
+laws : (g : Over) (gains : g.row.G.Denot) → IsTable (g.G.Gains.distance gains)
+laws g gains = (g.met.G.Gains.symmetric gains, g.met.G.Gains.diagonal gains, g.met.G.Gains.distance_limit gains)
 
 pub sweeping-init : goal.sweeping-init
 sweeping-init g c = record {
@@ -81,11 +87,8 @@ sweeping-preserved g c =
       size = e.sizes.0 ∙ i.size;
       awake = e.sizes.1 ∙ c.wake_all.ensures.size ∙ i.awake;
       none = e.descent.asleep;
-      after = after_bits d (g.G.Gains.distance c.sweeping.gains) D c.descend-pass.result.after (
-        g.met.G.Gains.symmetric c.args.gains.now,
-        g.met.G.Gains.diagonal c.args.gains.now,
-        g.met.G.Gains.distance_limit c.args.gains.now,
-      ) i.table
+      after = after_bits d (g.G.Gains.distance c.sweeping.gains) D c.descend-pass.result.after
+          (laws g c.args.gains.now) i.table
           (omega (arith, e.sizes.0, i.size, c.size-cities.ensures.count, c.size-cities.ensures.limits.1)) told.after;
       passed = omega (arith, i.passed, c.if-pass-eq0.false);
       gained = omega (arith, i.gained, less);
@@ -155,11 +158,8 @@ returns-then-pass-eq0-clause-sweeping g c =
       fresh = λ fresh. fresh_sweep d near m T D _ _ _ _ (g.G.Gains.test_count c.args.gains.now)
           (g.G.Gains.test_count c.descend-pass.new.gains) _ sweeps counted
           (omega (arith, c.tests-tests.ensures, c.tests.ensures)) fresh;
-      optimum = pass_optimum d near m C D pass.looks pass.moves _ (
-        g.met.G.Gains.symmetric c.args.gains.now,
-        g.met.G.Gains.diagonal c.args.gains.now,
-        g.met.G.Gains.distance_limit c.args.gains.now,
-      ) c.requires.most.1 (round_of _ (g.met.S.TourStore.is_tour c.sweeping.tour)) last c.if-pass-eq0.true;
+      optimum = pass_optimum d near m C D pass.looks pass.moves _ (laws g c.args.gains.now) c.requires.most.1
+          (round_of _ (g.met.S.TourStore.is_tour c.sweeping.tour)) last c.if-pass-eq0.true;
       asleep = search rules;
       tour = subst (λ z. IsTour z D) (e.sizes.0 ∙ i.size) (g.met.S.TourStore.is_tour c.descend-pass.new.tour).2;
       passes = search rules;
