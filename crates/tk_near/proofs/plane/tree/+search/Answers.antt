@@ -1,21 +1,31 @@
-use Rattle.std.proofs.Common.{◌≡◌, ◌++◌, ◌∙◌, ap, inl, inr}
+use Rattle.std.proofs.Common.{◌≡◌, ℕ, ◌++◌, ◌∙◌, ap, inl, inr}
 use Rattle.std.specs.Prelude.{All}
 use Rattle.tk_near.proofs.Inserting.{before_false}
 use Rattle.tk_near.specs.Placed.{IsPlaced}
 use Rattle.tk_near.specs.Tree.{entries_of, parts_of, with_cities}
 use Rattle.tk_near.proofs.InPlane.Parting.{IsSmall, kept_without_part, all_front, all_back, part_from, part_smaller}
 use Rattle.tk_near.proofs.InPlane.Parting.{seen_both, seen_both_back, placed_small}
+use Rattle.tk_near.proofs.plane.tree.+search.Given.{Over}
 use Rattle.tk_near.proofs.plane.tree.+search.Goals as goal
-use Rattle.tk_near.proofs.plane.tree.+search.Goals.{then-may_enter, else-may_enter, then-may_enter-3, else-may_enter-3}
+use Rattle.tk_near.proofs.plane.tree.+search.Goals.{In-Cut, then-may_enter, else-may_enter, then-may_enter-3, else-may_enter-3}
+
+-- what is known of the cities of both halves
+halves : (g : Over) (t : ℕ) (c : In-Cut g t) →
+    All (IsPlaced (g.P.Metric.size_of c.args.m.now) (g.P.Planar.place_of c.args.m.now)) (entries_of c.in-Cut.lower.value)
+    × All (IsPlaced (g.P.Metric.size_of c.args.m.now) (g.P.Planar.place_of c.args.m.now))
+    (entries_of c.in-Cut.upper.value)
+halves g t c =
+    let Placed = IsPlaced (g.P.Metric.size_of c.args.m.now) (g.P.Planar.place_of c.args.m.now) in
+    let placed = rw c.in-Cut.is at c.requires.placed in (
+      all_front Placed (entries_of c.in-Cut.lower.value) (entries_of c.in-Cut.upper.value) placed,
+      all_back Placed (entries_of c.in-Cut.lower.value) (entries_of c.in-Cut.upper.value) placed,
+    )
 
 pub search-requires : goal.search-requires
 search-requires g t c κs within =
-    let m = c.args.m.now in
-    let framed = rw c.in-Cut.is at c.requires.framed in
-    let placed = rw c.in-Cut.is at c.requires.placed in
     let e = c.deref-then-may_enter.ensures in
-    let mine = all_front (IsPlaced (g.P.Metric.size_of m) (g.P.Planar.place_of m)) (entries_of c.in-Cut.lower.value)
-    (entries_of c.in-Cut.upper.value) placed in (
+    let framed = rw c.in-Cut.is at c.requires.framed in
+    let mine = (halves g t (goal.at.search-requires g t c).In-Cut).0 in (
       part_smaller c.args.tree.now c.in-Cut.lower.value c.in-Cut.upper.value _ t c.decreases (ap parts_of c.in-Cut.is)
           (inl e),
       (within.0, (within.1, (c.requires.here, (rw e mine, rw e framed.2)))),
@@ -23,12 +33,9 @@ search-requires g t c κs within =
 
 pub search-requires-then-may_enter-2 : goal.search-requires-then-may_enter-2
 search-requires-then-may_enter-2 g t c κs within =
-    let m = c.args.m.now in
-    let framed = rw c.in-Cut.is at c.requires.framed in
-    let placed = rw c.in-Cut.is at c.requires.placed in
     let e = c.deref-then-may_enter-2.ensures in
-    let mine = all_back (IsPlaced (g.P.Metric.size_of m) (g.P.Planar.place_of m)) (entries_of c.in-Cut.lower.value)
-    (entries_of c.in-Cut.upper.value) placed in (
+    let framed = rw c.in-Cut.is at c.requires.framed in
+    let mine = (halves g t (goal.at.search-requires-then-may_enter-2 g t c).In-Cut).1 in (
       part_smaller c.args.tree.now c.in-Cut.lower.value c.in-Cut.upper.value _ t c.decreases (ap parts_of c.in-Cut.is)
           (inr e),
       (within.0, (within.1, (c.requires.here, (rw e mine, rw e framed.3)))),
@@ -36,12 +43,9 @@ search-requires-then-may_enter-2 g t c κs within =
 
 pub search-requires-then-may_enter-3 : goal.search-requires-then-may_enter-3
 search-requires-then-may_enter-3 g t c κs within =
-    let m = c.args.m.now in
-    let framed = rw c.in-Cut.is at c.requires.framed in
-    let placed = rw c.in-Cut.is at c.requires.placed in
     let e = c.deref-then-may_enter-3.ensures in
-    let mine = all_back (IsPlaced (g.P.Metric.size_of m) (g.P.Planar.place_of m)) (entries_of c.in-Cut.lower.value)
-    (entries_of c.in-Cut.upper.value) placed in (
+    let framed = rw c.in-Cut.is at c.requires.framed in
+    let mine = (halves g t (goal.at.search-requires-then-may_enter-3 g t c).In-Cut).1 in (
       part_smaller c.args.tree.now c.in-Cut.lower.value c.in-Cut.upper.value _ t c.decreases (ap parts_of c.in-Cut.is)
           (inr e),
       (within.0, (within.1, (c.requires.here, (rw e mine, rw e framed.3)))),
@@ -49,12 +53,9 @@ search-requires-then-may_enter-3 g t c κs within =
 
 pub search-requires-then-may_enter-4 : goal.search-requires-then-may_enter-4
 search-requires-then-may_enter-4 g t c κs within =
-    let m = c.args.m.now in
-    let framed = rw c.in-Cut.is at c.requires.framed in
-    let placed = rw c.in-Cut.is at c.requires.placed in
     let e = c.deref-then-may_enter-4.ensures in
-    let mine = all_front (IsPlaced (g.P.Metric.size_of m) (g.P.Planar.place_of m)) (entries_of c.in-Cut.lower.value)
-    (entries_of c.in-Cut.upper.value) placed in (
+    let framed = rw c.in-Cut.is at c.requires.framed in
+    let mine = (halves g t (goal.at.search-requires-then-may_enter-4 g t c).In-Cut).0 in (
       part_smaller c.args.tree.now c.in-Cut.lower.value c.in-Cut.upper.value _ t c.decreases (ap parts_of c.in-Cut.is)
           (inl e),
       (within.0, (within.1, (c.requires.here, (rw e mine, rw e framed.2)))),
