@@ -1,4 +1,5 @@
 pub mod Bounds
+pub mod EachRoute
 pub mod NoMarkup
 pub mod PageLength
 pub mod Paths

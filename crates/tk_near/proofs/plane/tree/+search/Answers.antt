@@ -7,11 +7,13 @@ use Rattle.tk_near.proofs.InPlane.Parting.{IsSmall, kept_without_part, all_front
 use Rattle.tk_near.proofs.InPlane.Parting.{seen_both, seen_both_back, placed_small}
 use Rattle.tk_near.proofs.plane.tree.+search.Given.{Over}
 use Rattle.tk_near.proofs.plane.tree.+search.Goals as goal
-use Rattle.tk_near.proofs.plane.tree.+search.Goals.{In-Cut, then-may_enter, else-may_enter, then-may_enter-3, else-may_enter-3}
+use Rattle.tk_near.proofs.plane.tree.+search.Goals.{In-Cut, then-may_enter, else-may_enter}
+use Rattle.tk_near.proofs.plane.tree.+search.Goals.{then-may_enter-3, else-may_enter-3}
 
 -- what is known of the cities of both halves
 halves : (g : Over) (t : ℕ) (c : In-Cut g t) →
-    All (IsPlaced (g.P.Metric.size_of c.args.m.now) (g.P.Planar.place_of c.args.m.now)) (entries_of c.in-Cut.lower.value)
+    All (IsPlaced (g.P.Metric.size_of c.args.m.now) (g.P.Planar.place_of c.args.m.now))
+    (entries_of c.in-Cut.lower.value)
     × All (IsPlaced (g.P.Metric.size_of c.args.m.now) (g.P.Planar.place_of c.args.m.now))
     (entries_of c.in-Cut.upper.value)
 halves g t c =

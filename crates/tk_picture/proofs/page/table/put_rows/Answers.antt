@@ -1,12 +1,10 @@
-use Rattle.std.proofs.Common.{◌+◌, arith, subst, sym}
-use Rattle.tk_writers.specs.Pens.{Puts}
-use Rattle.tk_writers.proofs.Pieces.Putting.{Puts-then}
+use Rattle.std.proofs.Common.{◌+◌, arith}
 use Rattle.tk_routes.specs.Cvrps.{instance_of}
 use Rattle.tk_routes.specs.Instance.{customer_count}
 use Rattle.tk_routes.proofs.RouteSteps.{route_served}
 use Rattle.tk_routes.proofs.Served.{AreServedOnce-short}
 use Rattle.tk_picture.specs.PageText.{row_line, route_row}
-use Rattle.tk_picture.proofs.Paths.{filled_more}
+use Rattle.tk_picture.proofs.EachRoute.{put_one_more}
 use Rattle.tk_picture.proofs.page.table.put_rows.Goals as goal
 
 pub put_filled-requires-clause-known : goal.put_filled-requires-clause-known
@@ -27,10 +25,8 @@ loop-route-preserved g c =
     let n = c.loop-route in
     record {
       count = omega (arith, n.invariant.count);
-      text =
-          subst (Puts _ _ _)
-          (sym (filled_more (route_row (instance_of c.args.cvrp.now)) row_line (λ r. r.items) c.args.routes.now
-          n.route-index (n.number + 1) c.route-item.result c.deref.result.now
-          c.loop-route-test.true c.route-item.is c.deref.ensures.value (omega (arith, n.invariant.count))))
-          (Puts-then n.invariant.text c.put_filled.ensures);
+      text = put_one_more (route_row (instance_of c.args.cvrp.now))
+          row_line c.args.routes.now n.route-index (n.number + 1)
+          c.route-item.result c.deref.result.now c.loop-route-test.true c.route-item.is c.deref.ensures.value
+          (omega (arith, n.invariant.count)) n.invariant.text c.put_filled.ensures;
     }
