@@ -76,21 +76,30 @@ M10000,0h0
 </svg>
 ";
 
+/// The engine answers this, draws this, and tells this of a fault.
+fn expect(
+    rt: &impl Abort,
+    given: &Given,
+    answer: Result<Plotted, Fault>,
+    drawn: &[u8],
+    told: &[u8],
+) {
+    assert!(rt; given.answer == answer);
+    assert!(rt; given.drawn.as_slice() == drawn);
+    assert!(rt; given.told.as_slice() == told);
+}
+
 #[test]
 fn draws_cities(rt: HostRuntime) {
     let given = plotted(rt.alloc(), RECTANGLE, None);
-    assert!(rt; given.answer == Ok(Plotted::Cities));
-    assert!(rt; given.drawn.as_slice() == CITIES);
-    assert!(rt; given.told.is_empty());
+    expect(&rt, &given, Ok(Plotted::Cities), CITIES, b"");
 }
 
 #[test]
 fn draws_a_tour(rt: HostRuntime) {
     let tour = b"TYPE : TOUR\nTOUR_SECTION\n1 3 2 4 -1\n";
     let given = plotted(rt.alloc(), RECTANGLE, Some(tour));
-    assert!(rt; given.answer == Ok(Plotted::Tour(Verdict::Tour)));
-    assert!(rt; given.drawn.as_slice() == TOUR);
-    assert!(rt; given.told.is_empty());
+    expect(&rt, &given, Ok(Plotted::Tour(Verdict::Tour)), TOUR, b"");
 }
 
 /// The route without a customer is not drawn, and the route after it keeps its number.
@@ -99,27 +108,29 @@ fn draws_routes(rt: HostRuntime) {
     let solution = b"Route #1: 2\nRoute #2:\nRoute #3: 1\nCost 6\n";
     let given = plotted(rt.alloc(), SHOP, Some(solution));
     let valid = RouteVerdict::Valid { routes: 2, cost: 6 };
-    assert!(rt; given.answer == Ok(Plotted::Routes(valid)));
-    assert!(rt; given.drawn.as_slice() == ROUTES);
-    assert!(rt; given.told.is_empty());
+    expect(&rt, &given, Ok(Plotted::Routes(valid)), ROUTES, b"");
 }
 
 #[test]
 fn tells_the_fault_of_a_tour(rt: HostRuntime) {
     let tour = b"TYPE : TOUR\nTOUR_SECTION\n1 2 2 4 -1\n";
     let given = plotted(rt.alloc(), RECTANGLE, Some(tour));
-    assert!(rt; given.answer == Ok(Plotted::Tour(Verdict::RepeatedCity(3))));
-    assert!(rt; given.drawn.is_empty());
-    assert!(rt; given.told.as_slice() == b"repeated city at place 3: 2\n".as_slice());
+    let repeated = Plotted::Tour(Verdict::RepeatedCity(3));
+    expect(
+        &rt,
+        &given,
+        Ok(repeated),
+        b"",
+        b"repeated city at place 3: 2\n",
+    );
 }
 
 #[test]
 fn tells_the_fault_of_routes(rt: HostRuntime) {
     let solution = b"Route #1: 1 2\nCost 6\n";
     let given = plotted(rt.alloc(), SHOP, Some(solution));
-    assert!(rt; given.answer == Ok(Plotted::Routes(RouteVerdict::OverCapacity(1, 3))));
-    assert!(rt; given.drawn.is_empty());
-    assert!(rt; given.told.as_slice() == b"over capacity in route 1: 3\n".as_slice());
+    let over = Plotted::Routes(RouteVerdict::OverCapacity(1, 3));
+    expect(&rt, &given, Ok(over), b"", b"over capacity in route 1: 3\n");
 }
 
 /// A problem without places is told before the tour is read.
@@ -144,7 +155,5 @@ fn writes_nothing_on_a_faulty_text(rt: HostRuntime) {
 
 /// The engine answers this fault, and writes nothing.
 fn expect_fault(rt: &impl Abort, given: Given, fault: Fault) {
-    assert!(rt; given.answer == Err(fault));
-    assert!(rt; given.drawn.is_empty());
-    assert!(rt; given.told.is_empty());
+    expect(rt, &given, Err(fault), b"", b"");
 }
