@@ -6,6 +6,7 @@ pub mod Listing
 pub mod Names
 pub mod Naming
 pub mod Placing
+pub mod Renaming
 pub mod Reordering
 pub mod RoundTheEnd
 pub mod Searching

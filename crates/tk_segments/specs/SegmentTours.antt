@@ -2,9 +2,7 @@
 use Rattle.std.specs.Prelude.{◌≡◌, ℕ, ◌+◌, ◌^◌, ◌<◌, ◌≤◌, List, length, refl}
 use Rattle.std.proofs.Common.{◌∙◌, arith}
 use Rattle.tk_tour.specs.Counters.{saturated}
-use Rattle.tk_tour.specs.Reversal.{AreReversed}
-use Rattle.tk_tour.specs.Reversal.AreReversed.{none}
-use Rattle.tk_tour.specs.ReversalLaws.{AreReversed-append}
+use Rattle.tk_tour.specs.Tally.{Tally, OnlyFlips, OnlyFlips-refl, OnlyFlips-trans}
 use Rattle.tk_segments.specs.SeenTours.{array_of, list_of, run_count_of, room_of}
 use Rattle.tk_segments.specs.Writes.{changed}
 use Rattle.tk_segments.specs.WriteLaws.{changed-refl, changed-trans}
@@ -42,29 +40,25 @@ segments_of tour = run_count_of tour.seen
 abbrev pub most_of : SegmentTour → ℕ
 most_of tour = room_of tour.seen + 2
 
--- what flips alone do: the new order comes from the old one by reversals, which are counted with their swaps, and each
--- place of the array that has changed is counted
+abbrev pub seen_tally : SegmentTour → Tally
+seen_tally tour = record {
+  cities = seen_order tour;
+  swaps = seen_swaps tour;
+  undo_swaps = seen_undo_swaps tour;
+  flips = seen_flips tour;
+  copied = seen_copied tour;
+}
+
+-- what flips alone do: each place of the array that has changed is counted, too
 pub record SeenFlips (old new : SegmentTour) : Type 0 where
-  pub flips : ℕ
-  pub swaps : ℕ
-  pub reversed : AreReversed (seen_order old) (seen_order new) flips swaps
-  pub flips_are : seen_flips new ≡ saturated (seen_flips old + flips)
-  pub swaps_are : seen_swaps new ≡ saturated (seen_swaps old + swaps)
-  pub undo_swaps : seen_undo_swaps new ≡ seen_undo_swaps old
-  pub copied : seen_copied new ≡ seen_copied old
+  pub flipped : OnlyFlips (seen_tally old) (seen_tally new)
   pub most : most_of new ≡ most_of old
   pub size : length (seen_array new) ≡ length (seen_array old)
   pub writes : saturated (writes_of old + changed (seen_array old) (seen_array new)) ≤ writes_of new
 
 pub SeenFlips-refl : (tour : SegmentTour) → SeenFlips tour tour
 SeenFlips-refl tour = record {
-  flips = 0;
-  swaps = 0;
-  reversed = none;
-  flips_are = omega (arith, tour.fits.2);
-  swaps_are = omega (arith, tour.fits.0);
-  undo_swaps = refl;
-  copied = refl;
+  flipped = OnlyFlips-refl (seen_tally tour) tour.fits.2 tour.fits.0;
   most = refl;
   size = refl;
   writes = omega (arith, tour.writes_fit, changed-refl (seen_array tour));
@@ -72,13 +66,7 @@ SeenFlips-refl tour = record {
 
 pub SeenFlips-trans : (r s t : SegmentTour) → SeenFlips r s → SeenFlips s t → SeenFlips r t
 SeenFlips-trans r s t h k = record {
-  flips = h.flips + k.flips;
-  swaps = h.swaps + k.swaps;
-  reversed = AreReversed-append _ _ _ _ _ _ _ h.reversed k.reversed;
-  flips_are = omega (arith, h.flips_are, k.flips_are);
-  swaps_are = omega (arith, h.swaps_are, k.swaps_are);
-  undo_swaps = k.undo_swaps ∙ h.undo_swaps;
-  copied = k.copied ∙ h.copied;
+  flipped = OnlyFlips-trans (seen_tally r) (seen_tally s) (seen_tally t) h.flipped k.flipped;
   most = k.most ∙ h.most;
   size = k.size ∙ h.size;
   writes = omega (
@@ -92,7 +80,7 @@ SeenFlips-trans r s t h k = record {
 -- and nothing else is counted
 pub SeenFlips-kept : (old new : SegmentTour) → SeenFlips old new →
     (seen_undo_swaps new ≡ seen_undo_swaps old) × (seen_copied new ≡ seen_copied old)
-SeenFlips-kept old new h = (h.undo_swaps, h.copied)
+SeenFlips-kept old new h = (h.flipped.undo_swaps, h.flipped.copied)
 
 pub SegmentTour-fits : (tour : SegmentTour) →
     (seen_swaps tour < 2 ^ 64) × (seen_flips tour < 2 ^ 64) × (seen_undo_swaps tour < 2 ^ 64)

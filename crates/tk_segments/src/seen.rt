@@ -1,7 +1,6 @@
 //! A tour as an array that is seen through runs.
-ghost use Rattle.std.specs.Prelude.{◌≡◌, ◌≢◌, ◌≤◌, ◌<◌, ◌+◌, ◌-◌, ◌*◌, ◌/◌, ℕ, length, slice_index, vec_len};
+ghost use Rattle.std.specs.Prelude.{◌≡◌, ◌≤◌, ◌<◌, ◌+◌, ◌-◌, ◌*◌, ◌/◌, ℕ, length, slice_index, vec_len};
 ghost use Rattle.tk_distance.specs.Cities.{IsCity};
-ghost use Rattle.tk_tour.specs.Moves.{IsShorterSide, ReplacesSteps};
 ghost use Rattle.tk_tour.specs.Places.{IsPlaceFrom};
 ghost use Rattle.tk_tour.specs.Reversal.{IsInverse, begun_at, reversed_places};
 ghost use Rattle.tk_segments.specs.Runs.{shown};
@@ -11,7 +10,7 @@ ghost use Rattle.tk_segments.specs.Writes.{ArePaid, changed};
 use crate::exchanging::exchange_seen;
 use crate::runs::Runs;
 use crate::writing::write_seen;
-use tk_tour::place_each;
+use tk_tour::{Placed, place_each};
 
 /// The cities of a tour as an array that is seen through runs, begun at `begin`. A reversal of at most `short` places
 /// exchanges cities, a longer one turns runs round.
@@ -29,6 +28,31 @@ pub struct SeenTour {
     ghost begins: { begin < runs.size },
     ghost enough: { runs.size ≤ (runs.most - 2) * ((short + 1) / 2) },
     ghost some: { 3 ≤ runs.most },
+}
+
+impl Placed for SeenTour {
+    ghost use Rattle.tk_segments.specs.SeenTours.{list_of};
+
+    ghost cities = { list_of };
+
+    fn city_count(&self) -> u32 {
+        self.size()
+    }
+
+    fn city_after(&self, c: u32) -> u32 {
+        self.next(c)
+    }
+
+    fn place_of(&self, c: u32) -> u32 {
+        let (_, v) = self.runs.spot_of(self.place[c as usize - 1]);
+        if v < self.begin {
+            v + self.size() - self.begin
+        } else {
+            v - self.begin
+        }
+    }
+
+    ghost is_tour = { λ s. s.tour };
 }
 
 impl SeenTour {
@@ -125,48 +149,6 @@ impl SeenTour {
         ensures { result ≡ slice_index (list_of self.now) k }
     {
         self.order[self.runs.spot_at(self.seen_from(k)).place as usize]
-    }
-
-    // Where the city stands in the list, from 0.
-    fn place_of(&self, c: u32) -> u32
-        requires { IsCity (length (list_of self.now)) c }
-        ensures within { result < length (list_of self.now) }
-        ensures city { slice_index (list_of self.now) result ≡ c }
-    {
-        let (_, v) = self.runs.spot_of(self.place[c as usize - 1]);
-        if v < self.begin {
-            v + self.size() - self.begin
-        } else {
-            v - self.begin
-        }
-    }
-
-    /// Where b comes after a and d after c: the places from b to c, or those from d to a where there are fewer of them,
-    /// as the first from 0 and their number.
-    pub fn shorter_side(&self, a: u32, b: u32, c: u32, d: u32) -> (u32, u32)
-        requires a_in { IsCity (length (list_of self.now)) a }
-        requires c_in { IsCity (length (list_of self.now)) c }
-        requires apart { a ≢ c }
-        requires b_after { b ≡ next_city (list_of self.now) a }
-        requires d_after { d ≡ next_city (list_of self.now) c }
-        ensures steps { ReplacesSteps (list_of self.now)
-            (reversed_places result.0 result.1 (list_of self.now)) a b c d }
-        ensures within { result.0 < length (list_of self.now) }
-        ensures side { IsShorterSide (list_of self.now) result.1 a b c d }
-        ensures shorter { 2 * result.1 ≤ length (list_of self.now) }
-    {
-        let n = self.size();
-        let start = self.place_of(b);
-        let end = self.place_of(c);
-        let inner = if start <= end {
-            end - start + 1
-        } else {
-            end + n - start + 1
-        };
-        if inner <= n - inner {
-            return (start, inner);
-        }
-        (self.place_of(d), n - inner)
     }
 
     /// Reverses `count` places of the list from `first` on, from 0: how many places it writes.

@@ -12,7 +12,7 @@ use crate::runs::Runs;
 use crate::seen::SeenTour;
 use std::alloc::Global;
 use tk_problem::CITY_LIMIT;
-use tk_tour::{Flip, TourFault, TourStore, UndoStore, Verdict, place_cities};
+use tk_tour::{Flip, TourFault, TourStore, UndoStore, Verdict, place_cities, shorter_side};
 
 /// So many segments at most.
 pub const MOST: u32 = 250;
@@ -98,7 +98,7 @@ impl TourStore for SegmentTour {
     }
 
     fn flip(&mut self, a: u32, b: u32, c: u32, d: u32) -> Flip {
-        let (first, count) = self.shorter_side(a, b, c, d);
+        let (first, count) = shorter_side(&self.seen, a, b, c, d);
         self.reverse(first, count);
         self.flips = self.flips.saturating_add(1);
         Flip {
@@ -161,7 +161,6 @@ impl UndoStore for SegmentTour {
 impl SegmentTour {
     ghost use Rattle.tk_segments.specs.SegmentTours.{seen_order, seen_swaps, seen_undo_swaps, seen_flips, seen_copied};
     ghost use Rattle.tk_segments.specs.SegmentTours.{writes_of, seen_array, segments_of, most_of};
-    ghost use Rattle.tk_tour.specs.Moves.{CanFlip, IsShorterSide, ReplacesSteps};
     ghost use Rattle.tk_tour.specs.Reversal.{reversed_places};
     ghost use Rattle.tk_tour.specs.Counters.{saturated};
     ghost use Rattle.tk_segments.specs.Writes.{changed};
@@ -229,22 +228,6 @@ impl SegmentTour {
             copied: 0,
             writes: 0,
         })
-    }
-
-    // The places that a flip reverses, as the first from 0 and their number.
-    fn shorter_side(&self, a: u32, b: u32, c: u32, d: u32) -> (u32, u32)
-        requires { CanFlip (seen_order self.now) a b c d }
-        ensures steps { ReplacesSteps (seen_order self.now)
-            (reversed_places result.0 result.1 (seen_order self.now)) a b c d }
-        ensures within { result.0 < length (seen_order self.now) }
-        ensures side { IsShorterSide (seen_order self.now) result.1 a b c d }
-        ensures shorter { 2 * result.1 ≤ length (seen_order self.now) }
-    {
-        if self.next(a) == b && self.next(c) == d {
-            self.seen.shorter_side(a, b, c, d)
-        } else {
-            self.seen.shorter_side(d, c, b, a)
-        }
     }
 
     // Reverses `count` places of the list from `first` on, from 0, and counts its swaps and writes.

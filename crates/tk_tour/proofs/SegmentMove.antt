@@ -1,9 +1,9 @@
 -- The two or three flips of a segment's move. With s, p and q as the three parts of the cycle,
 -- s ++ p ++ q becomes p ++ reverse s ++ q by two of them, and p ++ s ++ q by a third.
-use Rattle.std.proofs.Common.{◌≡◌, ℕ, List, ◌++◌, sym, ap, ◌∙◌, subst, inl, inr, length, arith}
+use Rattle.std.proofs.Common.{◌≡◌, ◌⊎◌, ℕ, List, ◌++◌, sym, ap, ◌∙◌, subst, inl, inr, length, arith}
 use Rattle.std.specs.Prelude.{reverse}
 use Rattle.std.proofs.lemmas.List.{append_assoc, reverse-append, reverse-reverse}
-use Rattle.tk_tour.specs.Tour.{SameCycle, IsSizedTour}
+use Rattle.tk_tour.specs.Tour.{SameCycle, IsPath, IsSizedTour}
 use Rattle.tk_tour.specs.Moves.{ReplacesSteps, CanFlip, CutInThree, OrMove, TwoOptMove}
 use Rattle.tk_tour.proofs.Cycle.{IsRotation-refl, SameCycle-trans, SameCycle-append, IsPath-append, IsPath-reverse}
 use Rattle.tk_tour.proofs.Steps.{CanFlip-from_cut}
@@ -74,10 +74,12 @@ third_flip t0 t2 t3 a x e b c d k h f =
     ap (λ v. (k.rest ++ k.ahead) ++ v) (reverse-reverse k.segment) ∙ append_assoc k.rest k.ahead k.segment in
     turn t3 k.rest (k.ahead ++ k.segment) (same t3 _ _ eq h')
 
--- a segment that stands between c and d has moved
-pub OrMove-reversed : (old new : List ℕ) (a x e b c d : ℕ) (k : CutInThree old a x e b c d) →
-    SameCycle new (k.ahead ++ reverse k.segment ++ k.rest) → OrMove (length k.segment) old new a x e b d c
-OrMove-reversed old new a x e b c d k h =
+-- a segment that stands between y and w has moved
+OrMove-from_cut : (old new : List ℕ) (a x e b c d y w : ℕ) (k : CutInThree old a x e b c d) →
+    (IsPath b k.ahead y × IsPath w k.rest a × SameCycle new (k.ahead ++ k.segment ++ k.rest))
+    ⊎ (IsPath b k.ahead w × IsPath y k.rest a × SameCycle new (k.ahead ++ reverse k.segment ++ k.rest)) →
+    OrMove (length k.segment) old new a x e b y w
+OrMove-from_cut old new a x e b c d y w k moved =
     record {
       segment = k.segment;
       ahead = k.ahead;
@@ -85,21 +87,16 @@ OrMove-reversed old new a x e b c d k h =
       short = omega arith;
       is_segment = k.is_segment;
       before = k.cycle;
-      after = inr (k.is_ahead, k.is_rest, h);
+      after = moved;
     }
+
+pub OrMove-reversed : (old new : List ℕ) (a x e b c d : ℕ) (k : CutInThree old a x e b c d) →
+    SameCycle new (k.ahead ++ reverse k.segment ++ k.rest) → OrMove (length k.segment) old new a x e b d c
+OrMove-reversed old new a x e b c d k h = OrMove-from_cut old new a x e b c d d c k (inr (k.is_ahead, k.is_rest, h))
 
 pub OrMove-straight : (old new : List ℕ) (a x e b c d : ℕ) (k : CutInThree old a x e b c d) →
     SameCycle new (k.ahead ++ k.segment ++ k.rest) → OrMove (length k.segment) old new a x e b c d
-OrMove-straight old new a x e b c d k h =
-    record {
-      segment = k.segment;
-      ahead = k.ahead;
-      rest = k.rest;
-      short = omega arith;
-      is_segment = k.is_segment;
-      before = k.cycle;
-      after = inl (k.is_ahead, k.is_rest, h);
-    }
+OrMove-straight old new a x e b c d k h = OrMove-from_cut old new a x e b c d c d k (inl (k.is_ahead, k.is_rest, h))
 
 -- the same steps as 2-opt moves of lists
 

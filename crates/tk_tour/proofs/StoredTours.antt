@@ -5,5 +5,6 @@ pub mod Places
 pub mod PrintedForm
 pub mod Renumbering
 pub mod Reversing
+pub mod Sides
 pub mod TurnedWithin
 pub mod Undoing

@@ -3,9 +3,8 @@ use Rattle.std.specs.Prelude.{◌≡◌, ℕ, ◌+◌, ◌^◌, ◌<◌, ◌≤�
 use Rattle.std.proofs.Common.{◌∙◌, arith}
 use Rattle.tk_tour.specs.Counters.{saturated}
 use Rattle.tk_tour.specs.Journal.{undone, swaps_to_undo}
-use Rattle.tk_tour.specs.Reversal.{AreReversed}
-use Rattle.tk_tour.specs.Reversal.AreReversed.{none}
-use Rattle.tk_tour.specs.ReversalLaws.{AreReversed-append}
+use Rattle.tk_tour.specs.Tally.{Tally, OnlyFlips, OnlyFlips-refl, OnlyFlips-refl-counts, OnlyFlips-trans}
+use Rattle.tk_tour.specs.Tally.{OnlyFlips-trans-counts}
 use Rattle.tk_tour.specs.declared.store.TourStore.{Ghosts}
 use Rattle.tk_tour.specs.declared.stores.journal.JournalTour.{JournalTour}
 use Rattle.tk_tour.specs.declared.undo.UndoStore as undo
@@ -56,20 +55,19 @@ settled_order journal = undone journal.journal.items (cities_of journal)
 abbrev pub swaps_to_rewind : {S : Type 0} → {u : undo.Ghosts S} → {s : Ghosts S} → JournalTour S u s → ℕ
 swaps_to_rewind journal = swaps_to_undo journal.journal.items
 
--- the new order comes from the old one by reversals, which are counted with their swaps, and nothing else is counted
-pub record AreFlipped {S : Type 0} (u : undo.Ghosts S) (s : Ghosts S) (old new : S) : Type 0 where
-  pub flips : ℕ
-  pub swaps : ℕ
-  pub reversed : AreReversed (s.cities old) (s.cities new) flips swaps
-  pub flips_are : s.flip_count new ≡ saturated (s.flip_count old + flips)
-  pub swaps_are : s.swap_count new ≡ saturated (s.swap_count old + swaps)
-  pub undo_swaps : u.undo_count new ≡ u.undo_count old
-  pub copied : u.copy_count new ≡ u.copy_count old
+abbrev pub tally_of : {S : Type 0} → undo.Ghosts S → Ghosts S → S → Tally
+tally_of u s tour = record {
+  cities = s.cities tour;
+  swaps = s.swap_count tour;
+  undo_swaps = u.undo_count tour;
+  flips = s.flip_count tour;
+  copied = u.copy_count tour;
+}
 
 -- what flips alone do: they are counted, and as long as none is lost, a rewind goes back as far, and takes their swaps
 pub record KeepsSettled {S : Type 0} {u : undo.Ghosts S} {s : Ghosts S} (old new : JournalTour S u s) : Type 0 where
   pub slots : slots_of new ≡ slots_of old
-  pub flipped : AreFlipped u s (tour_of old) (tour_of new)
+  pub flipped : OnlyFlips (tally_of u s (tour_of old)) (tally_of u s (tour_of new))
   pub flips : flips_since new ≡ saturated (flips_since old + flipped.flips)
   pub settled : flips_since new ≤ slots_of new → settled_order new ≡ settled_order old
   pub swaps : flips_since new ≤ slots_of new → swaps_to_rewind new ≡ swaps_to_rewind old + flipped.swaps
@@ -77,50 +75,27 @@ pub record KeepsSettled {S : Type 0} {u : undo.Ghosts S} {s : Ghosts S} (old new
 pub KeepsSettled-refl : {S : Type 0} → {u : undo.Ghosts S} → {s : Ghosts S} →
     ((t : S) → (s.swap_count t < 2 ^ 64) × (s.flip_count t < 2 ^ 64) × (u.undo_count t < 2 ^ 64)) →
     (tour : JournalTour S u s) → KeepsSettled tour tour
-KeepsSettled-refl fit tour = record {
-  slots = refl;
-  flipped = record {
-    flips = 0;
-    swaps = 0;
-    reversed = none;
-    flips_are = omega (arith, fit (tour_of tour));
-    swaps_are = omega (arith, fit (tour_of tour));
-    undo_swaps = refl;
-    copied = refl;
-  };
-  flips = omega (arith, tour.fits);
-  settled = λ _. refl;
-  swaps = λ _. omega arith;
-}
-
-pub AreFlipped-trans : {S : Type 0} → {u : undo.Ghosts S} → {s : Ghosts S} → (x y z : S) →
-    AreFlipped u s x y → AreFlipped u s y z → AreFlipped u s x z
-AreFlipped-trans x y z h k = record {
-  flips = h.flips + k.flips;
-  swaps = h.swaps + k.swaps;
-  reversed = AreReversed-append _ _ _ _ _ _ _ h.reversed k.reversed;
-  flips_are = omega (arith, h.flips_are, k.flips_are);
-  swaps_are = omega (arith, h.swaps_are, k.swaps_are);
-  undo_swaps = k.undo_swaps ∙ h.undo_swaps;
-  copied = k.copied ∙ h.copied;
-}
-
--- the flips of both, and the swaps of both
-pub AreFlipped-trans-counts : {S : Type 0} → {u : undo.Ghosts S} → {s : Ghosts S} → (x y z : S) →
-    (h : AreFlipped u s x y) → (k : AreFlipped u s y z) →
-    ((AreFlipped-trans x y z h k).flips ≡ h.flips + k.flips) × ((AreFlipped-trans x y z h k).swaps ≡ h.swaps + k.swaps)
-unfolding AreFlipped-trans
-AreFlipped-trans-counts x y z h k = (refl, refl)
+KeepsSettled-refl {S} {u} {s} fit tour =
+    let here = tally_of u s (tour_of tour) in
+    let f = fit (tour_of tour) in
+    let none = OnlyFlips-refl-counts here f.1 f.0 in
+    record {
+      slots = refl;
+      flipped = OnlyFlips-refl here f.1 f.0;
+      flips = omega (arith, tour.fits, none.0);
+      settled = λ _. refl;
+      swaps = λ _. omega (arith, none.1);
+    }
 
 pub KeepsSettled-trans : {S : Type 0} → {u : undo.Ghosts S} → {s : Ghosts S} → (x y z : JournalTour S u s) →
     KeepsSettled x y → KeepsSettled y z → KeepsSettled x z
-KeepsSettled-trans x y z h k =
-    let both = AreFlipped-trans-counts (tour_of x) (tour_of y) (tour_of z) h.flipped k.flipped in
+KeepsSettled-trans {S} {u} {s} x y z h k =
+    let both = OnlyFlips-trans-counts _ _ (tally_of u s (tour_of z)) h.flipped k.flipped in
     let room : flips_since z ≤ slots_of z → flips_since y ≤ slots_of y = λ le.
     omega (arith, h.flips, k.flips, k.slots, le) in
     record {
       slots = k.slots ∙ h.slots;
-      flipped = AreFlipped-trans (tour_of x) (tour_of y) (tour_of z) h.flipped k.flipped;
+      flipped = OnlyFlips-trans _ _ (tally_of u s (tour_of z)) h.flipped k.flipped;
       flips = omega (arith, h.flips, k.flips, both.0);
       settled = λ le. k.settled le ∙ h.settled (room le);
       swaps = λ le. omega (arith, h.swaps (room le), k.swaps le, both.1);

@@ -9,5 +9,6 @@ pub mod Places
 pub mod Printed
 pub mod Reversal
 pub mod ReversalLaws
+pub mod Tally
 pub mod Tour
 pub mod Verdict

@@ -4,8 +4,9 @@
 --     IsBridged old new a1 an b1 bn c1 cn d1 dn      the double bridge (O. Martin, S. W. Otto and E. W. Felten, 1991)
 --     ReplacesSteps old new a b c d      what a flip promises: the 2-opt move at every cut of the cycle at those steps
 --     CanFlip cities a b c d      where a flip may be made
-use Rattle.std.specs.Prelude.{◌≡◌, ◌≢◌, ℕ, ◌≤◌, ◌⊎◌, List, ◌++◌, length, min, reverse}
+use Rattle.std.specs.Prelude.{◌≡◌, ◌≢◌, ℕ, ◌*◌, ◌<◌, ◌≤◌, ◌⊎◌, List, ◌++◌, length, min, reverse}
 use Rattle.tk_distance.specs.Cities.{IsCity}
+use Rattle.tk_tour.specs.Reversal.{reversed_places}
 use Rattle.tk_tour.specs.Tour.{SameCycle, IsPath, next_city, prev_city}
 
 -- a and c are two cities, and b and d come right after them, or right before them
@@ -15,6 +16,14 @@ pub record CanFlip (cities : List ℕ) (a b c d : ℕ) : Type 0 where
   pub apart : a ≢ c
   pub steps : ((b ≡ next_city cities a) × (d ≡ next_city cities c))
       ⊎ ((b ≡ prev_city cities a) × (d ≡ prev_city cities c))
+
+-- a and c are two cities, and b and d come right after them
+pub record AreForward (cities : List ℕ) (a b c d : ℕ) : Type 0 where
+  pub a_in : IsCity (length cities) a
+  pub c_in : IsCity (length cities) c
+  pub apart : a ≢ c
+  pub b_after : b ≡ next_city cities a
+  pub d_after : d ≡ next_city cities c
 
 -- The 2-opt move of G. A. Croes (1958). The cycle is a path from d to a and one from b to c, so it has the steps a-b
 -- and c-d. The second path is turned round, so a-c and b-d come in their place.
@@ -37,6 +46,13 @@ abbrev pub IsShorterSide : List ℕ → ℕ → ℕ → ℕ → ℕ → ℕ → 
 IsShorterSide cities count a b c d =
     (front back : List ℕ) → IsPath d front a → IsPath b back c → SameCycle cities (front ++ back) →
     count ≡ min (length front) (length back)
+
+-- the reversal of `count` places from the first on, from 0, is that of the shorter side
+pub record TurnsShorterSide (cities : List ℕ) (first count a b c d : ℕ) : Type 0 where
+  pub steps : ReplacesSteps cities (reversed_places first count cities) a b c d
+  pub within : first < length cities
+  pub side : IsShorterSide cities count a b c d
+  pub shorter : 2 * count ≤ length cities
 
 -- The Or-move of I. Or (1976). A segment of at most m cities runs from x to e, with a before it and b after it. It
 -- moves, as it runs or turned round, to between y and w: a-b, x-y and e-w come in place of the steps a-x, e-b and y-w.

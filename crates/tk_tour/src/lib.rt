@@ -5,6 +5,7 @@
 mod fault;
 pub mod laws;
 mod measure;
+mod sides;
 mod store;
 mod stores;
 mod undo;
@@ -12,6 +13,7 @@ mod verdict;
 
 pub use fault::TourFault;
 pub use measure::length;
+pub use sides::{Placed, shorter_side};
 pub use store::{Flip, TourStore};
 pub use stores::array::ArrayTour;
 pub use stores::journal::JournalTour;

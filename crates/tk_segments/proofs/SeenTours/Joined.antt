@@ -4,13 +4,12 @@ use Rattle.std.proofs.Common.{refl, sym, ap, ◌∙◌, subst, arith, get_or}
 use Rattle.std.specs.Prelude.{sum_by}
 use Rattle.std.proofs.lemmas.List.{append_assoc, length-append, length-drop, set_at, get_or_at, get_or_default, take_at}
 use Rattle.std.proofs.lemmas.List.{drop_at, length-take-le, drop_more}
-use Rattle.std.proofs.lemmas.List.Sums.{sum_by-cons, sum_by-append}
 use Rattle.tk_segments.specs.Runs.{run_size, placed, IsWithin, AreLaidOut, AreSeenParts, IsSplit}
 use Rattle.tk_segments.specs.declared.run.Run.{Run}
 use Rattle.tk_segments.proofs.SeenTours.SeenPlaces.{AreWithin}
 use Rattle.tk_segments.proofs.SeenTours.Placing.{placed-append, length-placed}
 use Rattle.tk_segments.proofs.SeenTours.Searching.{start_is, sum_more}
-use Rattle.tk_segments.proofs.SeenTours.Splitting.{cases_bool, part_facts, old_is, head_of}
+use Rattle.tk_segments.proofs.SeenTours.Splitting.{cases_bool, part_facts, parted_size, old_is, head_of}
 use Rattle.tk_segments.proofs.SeenTours.Turning.{within_of, all_within, within-append, within_left, within_right}
 
 -- there is a run where there is a place
@@ -158,16 +157,5 @@ join_laid n old new k d lt h s =
           (AreWithin.more w.1 (within_right n (s.one ∷ s.two ∷ []) ws tail)));
       starts = sym (placed-append 0 us (run ∷ ws) ∙ ap (λ u. u ++ placed (0 + v) (run ∷ ws)) (sym both.0)
           ∙ ap (λ u. us ++ placed u (run ∷ ws)) z ∙ ap (λ u. us ++ u) (sym new_tail));
-      whole =
-          omega (
-            arith,
-            h.whole,
-            ap (sum_by run_size) s.list,
-            sum_by-append run_size us (run ∷ ws),
-            sum_by-append run_size us (s.one ∷ s.two ∷ ws),
-            sum_by-cons run_size run ws,
-            sum_by-cons run_size s.one (s.two ∷ ws),
-            sum_by-cons run_size s.two ws,
-            p.sizes,
-          );
+      whole = sym (parted_size us ws run s.one s.two p.sizes.1) ∙ sym (ap (sum_by run_size) s.list) ∙ h.whole;
     })

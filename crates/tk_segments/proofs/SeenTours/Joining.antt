@@ -126,26 +126,15 @@ parted old new k m lt s =
     })
     (cases_bool s.run.back)
 
-shifted_same : (k i j a b : ℕ) → IsShifted k a i → IsShifted k b j → a ≡ b → i ≡ j
-shifted_same k i j a b x y e =
+shifted_alike : (k i j a b : ℕ) → IsShifted k a i → IsShifted k b j → (a ≡ b → i ≡ j) × (i ≡ j → a ≡ b)
+shifted_alike k i j a b x y =
     ⊎_elim
     (λ (u : (a < k) × (i ≡ a)).
-    ⊎_elim (λ (v : (b < k) × (j ≡ b)). omega (arith, u, v, e))
-    (λ (v : (k < b) × (j ≡ b + 1)). omega (arith, u, v, e)) y)
+    ⊎_elim (λ (v : (b < k) × (j ≡ b)). ((λ e. omega (arith, u, v, e)), (λ e. omega (arith, u, v, e))))
+    (λ (v : (k < b) × (j ≡ b + 1)). ((λ e. omega (arith, u, v, e)), (λ e. omega (arith, u, v, e)))) y)
     (λ (u : (k < a) × (i ≡ a + 1)).
-    ⊎_elim (λ (v : (b < k) × (j ≡ b)). omega (arith, u, v, e))
-    (λ (v : (k < b) × (j ≡ b + 1)). omega (arith, u, v, e)) y)
-    x
-
-shifted_back : (k i j a b : ℕ) → IsShifted k a i → IsShifted k b j → i ≡ j → a ≡ b
-shifted_back k i j a b x y e =
-    ⊎_elim
-    (λ (u : (a < k) × (i ≡ a)).
-    ⊎_elim (λ (v : (b < k) × (j ≡ b)). omega (arith, u, v, e))
-    (λ (v : (k < b) × (j ≡ b + 1)). omega (arith, u, v, e)) y)
-    (λ (u : (k < a) × (i ≡ a + 1)).
-    ⊎_elim (λ (v : (b < k) × (j ≡ b)). omega (arith, u, v, e))
-    (λ (v : (k < b) × (j ≡ b + 1)). omega (arith, u, v, e)) y)
+    ⊎_elim (λ (v : (b < k) × (j ≡ b)). ((λ e. omega (arith, u, v, e)), (λ e. omega (arith, u, v, e))))
+    (λ (v : (k < b) × (j ≡ b + 1)). ((λ e. omega (arith, u, v, e)), (λ e. omega (arith, u, v, e)))) y)
     x
 
 shifted_other : (k i j : ℕ) → IsShifted k j i → j ≢ k
@@ -192,7 +181,7 @@ split_apart old new k run p apart = λ i j place d li lj u v.
     (λ (jh : j ≢ p.higher).
     let a = p.came i li il ih in
     let b = p.came j lj jl jh in
-    shifted_same k i j a.0 b.0 a.3 b.3
+    (shifted_alike k i j a.0 b.0 a.3 b.3).0
     (apart a.0 b.0 place d a.1 b.1 (subst P (sym (a.2 d)) u) (subst P (sym (b.2 d)) v)))
     (cases_eq j p.higher))
     (cases_eq j p.lower))
@@ -226,7 +215,7 @@ join_apart old new k run p apart = λ i j place d li lj u v.
     (λ (jk : j ≢ k).
     let w = p.went i li ik in
     let x = p.went j lj jk in
-    shifted_back k w.0 x.0 i j w.5 x.5
+    (shifted_alike k w.0 x.0 i j w.5 x.5).1
     (apart w.0 x.0 place d w.1 x.1 (subst P (sym (w.4 d)) u) (subst P (sym (x.4 d)) v)))
     (cases_eq j k))
     (cases_eq i k)

@@ -1,62 +1,15 @@
 -- The list of a tour that is seen through runs: where its cities stand, and what stands beside them.
-use Rattle.std.proofs.Common.{◌≡◌, ◌≢◌, ℕ, ◌+◌, ◌-◌, ◌<◌, ◌≤◌, ◌⊎◌, inl, inr, ⊎_elim, suc, zero, List, [], ◌∷◌, ◌++◌}
-use Rattle.std.proofs.Common.{length, refl, sym, ap, ◌∙◌, subst, arith, get_or}
+use Rattle.std.proofs.Common.{◌≡◌, ℕ, ◌+◌, ◌-◌, ◌<◌, ◌≤◌, ◌⊎◌, inl, inr, ⊎_elim, List, length, sym, ap, ◌∙◌, subst}
+use Rattle.std.proofs.Common.{arith, get_or}
 use Rattle.std.proofs.lemmas.Bool.{cases_lt}
-use Rattle.std.proofs.lemmas.List.{length-append, get_or_append_left, get_or_at}
-use Rattle.tk_distance.specs.Cities.{IsCity}
-use Rattle.tk_tour.specs.Moves.{ReplacesSteps}
 use Rattle.tk_tour.specs.Places.{IsPlaceFrom}
-use Rattle.tk_tour.specs.Reversal.{begun_at, reversed_places, IsInverse}
+use Rattle.tk_tour.specs.Reversal.{begun_at}
 use Rattle.tk_segments.specs.Runs.{IsAfterPlace}
-use Rattle.tk_tour.specs.Tour.{IsTour, next_city, prev_city, place_of}
+use Rattle.tk_tour.specs.Tour.{IsTour, next_city, prev_city}
 use Rattle.tk_tour.proofs.Once.{occurrences-rotation}
-use Rattle.tk_tour.proofs.Tours.{HoldsOnce-tour, city_in_range, place_of-get_or}
-use Rattle.tk_tour.proofs.StoredTours.Places.{AtPlace, length-begun_at, get_or-begun_at, IsRotation-begun_at, SidesAre}
+use Rattle.tk_tour.proofs.StoredTours.Places.{AtPlace, length-begun_at, get_or-begun_at, IsRotation-begun_at}
 use Rattle.tk_tour.proofs.StoredTours.Reversing.{at_place, at_next}
-use Rattle.tk_tour.proofs.StoredTours.Flips.{PathLength, flip_inner, flip_outer, next_city_stored, prev_city_stored}
-use Rattle.tk_tour.proofs.StoredTours.Flips.{place_is}
-
--- the places of the cities 1 to m
-places_to : ℕ → List ℕ → List ℕ
-places_to zero xs = []
-places_to (suc m) xs = places_to m xs ++ place_of (suc m) xs ∷ []
-
-length-places_to : (m : ℕ) (xs : List ℕ) → length (places_to m xs) ≡ m
-unfolding places_to
-length-places_to zero xs = refl
-length-places_to (suc m) xs =
-    omega (arith, length-append (places_to m xs) (place_of (suc m) xs ∷ []), length-places_to m xs)
-
-get_or-places_to : (m k : ℕ) (xs : List ℕ) → k < m → get_or (places_to m xs) k 0 ≡ place_of (suc k) xs
-unfolding places_to
-get_or-places_to zero k xs lt = absurd (omega arith)
-get_or-places_to (suc m) k xs lt =
-    ⊎_elim
-    (λ (a : k < m). get_or_append_left (places_to m xs) (place_of (suc m) xs ∷ []) 0 k
-    (omega (arith, a, length-places_to m xs)) ∙ get_or-places_to m k xs a)
-    (λ (a : m ≤ k).
-    let e : k ≡ m = omega (arith, a, lt) in
-    get_or_at (places_to m xs) (place_of (suc m) xs) [] 0 k (length-places_to m xs ∙ sym e)
-    ∙ ap (λ u. place_of (suc u) xs) (sym e))
-    (cases_lt k m)
-
--- a tour has a place array
-pub places_exist : (xs : List ℕ) → IsTour (length xs) xs → (place : List ℕ) × IsInverse xs place
-places_exist xs tour = (
-  places_to (length xs) xs,
-  (
-    length-places_to (length xs) xs,
-    λ k lt.
-        let r = city_in_range (length xs) xs k tour lt in
-        let c : ℕ = get_or xs k 0 in
-        let e : suc (c - 1) ≡ c = omega (arith, r) in (
-          r.0,
-          r.1,
-          get_or-places_to (length xs) (c - 1) xs (omega (arith, r)) ∙ ap (λ u. place_of u xs) e
-              ∙ place_of-get_or xs k (HoldsOnce-tour (length xs) xs tour) lt,
-        ),
-  ),
-)
+use Rattle.tk_tour.proofs.StoredTours.Flips.{next_city_stored, prev_city_stored}
 
 -- what is seen is a tour, wherever the list begins
 pub tour_seen : (n b : ℕ) (seen : List ℕ) → IsTour n (begun_at b seen) → IsTour n seen
@@ -195,25 +148,3 @@ pub stands_there : (n b k v c : ℕ) (seen : List ℕ) → length seen ≡ n →
 stands_there n b k v c seen ls lb lk h e =
     let P : ℕ → Type 0 = λ u. AtPlace u b k v in
     get_or-begun_at seen b k v 0 (omega (arith, ls, lb)) (omega (arith, ls, lk)) (subst P (sym ls) h) ∙ e
-
--- what reversing one side or the other does
-pub side_inner : (list : List ℕ) (a b c d m pb pc : ℕ) → IsTour (length list) list → IsCity (length list) a →
-    IsCity (length list) c → a ≢ c → b ≡ next_city list a → d ≡ next_city list c →
-    pb < length list → get_or list pb 0 ≡ b → pc < length list → get_or list pc 0 ≡ c →
-    PathLength (length list) m pb pc →
-    (0 < m) × (m < length list) × ReplacesSteps list (reversed_places pb m list) a b c d
-    × SidesAre list (length list - m) m a b c d
-side_inner list a b c d m pb pc tour ca cc' ne eb ed lb atb lc atc em =
-    let p = places_exist list tour in
-    flip_inner list p.0 a b c d m pb pc tour p.1 ca cc' ne eb ed (sym (place_is list p.0 pb b p.1 lb (sym atb)))
-    (sym (place_is list p.0 pc c p.1 lc (sym atc))) em
-
-pub side_outer : (list : List ℕ) (a b c d m pb pc pd : ℕ) → IsTour (length list) list → IsCity (length list) a →
-    IsCity (length list) c → a ≢ c → b ≡ next_city list a → d ≡ next_city list c →
-    pb < length list → get_or list pb 0 ≡ b → pc < length list → get_or list pc 0 ≡ c → pd < length list →
-    get_or list pd 0 ≡ d → PathLength (length list) m pb pc →
-    ReplacesSteps list (reversed_places pd (length list - m) list) a b c d
-side_outer list a b c d m pb pc pd tour ca cc' ne eb ed lb atb lc atc ld atd em =
-    let p = places_exist list tour in
-    flip_outer list p.0 a b c d m pb pc pd tour p.1 ca cc' ne eb ed (sym (place_is list p.0 pb b p.1 lb (sym atb)))
-    (sym (place_is list p.0 pc c p.1 lc (sym atc))) (sym (place_is list p.0 pd d p.1 ld (sym atd))) em

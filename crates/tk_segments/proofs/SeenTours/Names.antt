@@ -1,13 +1,13 @@
 -- The names of runs: after a split, and where the runs stand in another order.
 use Rattle.std.proofs.Common.{◌≡◌, ◌≢◌, ℕ, true, false, ◌+◌, ◌-◌, ◌<◌, ◌≤◌, ⊎_elim, List, length, set, sym, ap, ◌∙◌}
-use Rattle.std.proofs.Common.{◌++◌, take, subst, arith, get_or}
+use Rattle.std.proofs.Common.{subst, arith, get_or}
 use Rattle.std.proofs.lemmas.Bool.{cases_lt}
 use Rattle.std.proofs.lemmas.List.{get_or_default, get_or-set_same, get_or-set_other}
 use Rattle.tk_segments.specs.Runs.{IsSplit, HaveNames, AreNamed, AreNamedTo, SameBefore, Names, Holds}
 use Rattle.tk_segments.specs.Runs.{CanBeFound, StandsAs}
 use Rattle.tk_segments.specs.Runs.{HoldsAs, AreFound}
 use Rattle.tk_segments.specs.declared.run.Run.{Run}
-use Rattle.tk_segments.proofs.Fronts.{at_front}
+use Rattle.tk_segments.proofs.NoRun.{no_run}
 use Rattle.tk_segments.proofs.SeenTours.Splitting.{cases_bool}
 use Rattle.tk_segments.proofs.SeenTours.Naming.{split_at, split_entry_before, split_entry_beyond}
 
@@ -278,8 +278,7 @@ found_by_names n bucket runs home table h = record {
 stands_as : (runs : List Run) (home : List ℕ) (id low : ℕ) → AreNamed runs home → Names runs id low →
     StandsAs runs home id low
 stands_as runs home id low named h =
-    let none : Run = record { low = 0; high = 0; start = 0; id = 0; next = 0; back = false } in
-    let e : get_or home id 0 ≡ h.0 = ap (λ u. get_or home u 0) (sym (h.2 none).0) ∙ (named h.0 none h.1).1 in
+    let e : get_or home id 0 ≡ h.0 = ap (λ u. get_or home u 0) (sym (h.2 no_run).0) ∙ (named h.0 no_run h.1).1 in
     let P : ℕ → Type 0 =
     λ u. (u < length runs) × ((d : Run) → ((get_or runs u d).id ≡ id) × ((get_or runs u d).low ≡ low)) in
     subst P (sym e) (h.1, h.2)
@@ -287,8 +286,7 @@ stands_as runs home id low named h =
 holds_as : (runs : List Run) (home : List ℕ) (id place : ℕ) → AreNamed runs home → Holds runs id place →
     HoldsAs runs home id place
 holds_as runs home id place named h =
-    let none : Run = record { low = 0; high = 0; start = 0; id = 0; next = 0; back = false } in
-    let e : get_or home id 0 ≡ h.0 = ap (λ u. get_or home u 0) (sym (h.2 none).0) ∙ (named h.0 none h.1).1 in
+    let e : get_or home id 0 ≡ h.0 = ap (λ u. get_or home u 0) (sym (h.2 no_run).0) ∙ (named h.0 no_run h.1).1 in
     let P : ℕ → Type 0 =
     λ u. (u < length runs)
     × ((d : Run) → ((get_or runs u d).id ≡ id) × ((get_or runs u d).low ≤ place)
@@ -302,15 +300,6 @@ found_by_home n bucket runs home table named h = record {
   next = λ k d lk lt. stands_as runs home _ _ named (h.next k d lk lt);
   early = λ b lb lt. holds_as runs home _ _ named (h.early b lb lt);
 }
-
--- the same, where both lists are written over the fronts of vectors
-pub found_at_fronts : (n bucket h t : ℕ) (runs : List Run) (home table rest more : List ℕ) → length home ≡ h →
-    length table ≡ t → AreFound n bucket runs home table →
-    AreFound n bucket runs (take h (home ++ rest)) (take t (table ++ more))
-found_at_fronts n bucket h t runs home table rest more lh lt found =
-    let P : List ℕ → Type 0 = λ u. AreFound n bucket runs u (take t (table ++ more)) in
-    let Q : List ℕ → Type 0 = λ u. AreFound n bucket runs home u in
-    at_front P h home rest lh (at_front Q t table more lt found)
 
 -- one more run that stands where its name says
 pub named_more : (runs : List Run) (home : List ℕ) (k : ℕ) (none : Run) → HaveNames runs → k < length runs →

@@ -61,6 +61,20 @@ part_facts n d id run one two h w ld =
     })
     (cases_bool run.back)
 
+-- the parts have as many places as the run
+pub parted_size : (us ws : List Run) (run one two : Run) → run_size one + run_size two ≡ run_size run →
+    sum_by run_size (us ++ (one ∷ two ∷ ws)) ≡ sum_by run_size (us ++ run ∷ ws)
+parted_size us ws run one two e =
+    omega (
+      arith,
+      e,
+      sum_by-append run_size us (run ∷ ws),
+      sum_by-append run_size us (one ∷ two ∷ ws),
+      sum_by-cons run_size run ws,
+      sum_by-cons run_size one (two ∷ ws),
+      sum_by-cons run_size two ws,
+    )
+
 pub old_is : (old : List Run) (k : ℕ) (run : Run) → k < length old → run ≡ get_or old k run →
     old ≡ take k old ++ run ∷ drop (k + 1) old
 old_is old k run lt e = sym (take-append-drop k old)
@@ -117,16 +131,5 @@ split_laid n old new k d lt h s ld =
           ∙ ap (λ u. u ++ placed (0 + v) (s.one ∷ s.two ∷ ws))
           (sym (ap (take k) h.starts ∙ take-placed 0 k old (omega arith)))
           ∙ ap (λ u. us ++ placed u (s.one ∷ s.two ∷ ws)) (omega arith) ∙ ap (λ u. us ++ u) (sym new_tail));
-      whole =
-          omega (
-            arith,
-            h.whole,
-            ap (sum_by run_size) e,
-            sum_by-append run_size us (run ∷ ws),
-            sum_by-append run_size us (s.one ∷ s.two ∷ ws),
-            sum_by-cons run_size run ws,
-            sum_by-cons run_size s.one (s.two ∷ ws),
-            sum_by-cons run_size s.two ws,
-            p.sizes,
-          );
+      whole = parted_size us ws run s.one s.two p.sizes.1 ∙ sym (ap (sum_by run_size) e) ∙ h.whole;
     })

@@ -1,5 +1,5 @@
 -- A reversal by exchanges of cities that are seen from both ends on, spot by spot.
-use Rattle.std.proofs.Common.{◌≡◌, ℕ, false, ◌+◌, ◌-◌, ◌<◌, ◌≤◌, ◌/◌, ⊎_elim, inl, inr, List, length, set, refl, arith}
+use Rattle.std.proofs.Common.{◌≡◌, ℕ, ◌+◌, ◌-◌, ◌<◌, ◌≤◌, ◌/◌, ⊎_elim, inl, inr, List, length, set, refl, arith}
 use Rattle.std.proofs.Common.{get_or}
 use Rattle.std.proofs.lemmas.Bool.{cases_lt}
 use Rattle.tk_segments.specs.Runs.{AreLaidOut, IsSpot, IsAfterPlace}
@@ -7,18 +7,16 @@ use Rattle.tk_segments.specs.Writes.{changed}
 use Rattle.tk_segments.specs.WriteLaws.{changed-set}
 use Rattle.tk_segments.specs.declared.run.Run.{Run}
 use Rattle.tk_segments.specs.declared.spots.Spot.{Spot}
+use Rattle.tk_segments.proofs.NoRun.{no_run}
 use Rattle.tk_segments.proofs.SeenTours.Spots.{spot_facts, spot_held, spot_shows}
 use Rattle.tk_segments.proofs.SeenTours.SeenReversing.{SeenAt, Exchanging, Exchanging-more}
-
-abbrev none : Run
-none = record { low = 0; high = 0; start = 0; id = 0; next = 0; back = false }
 
 pub spot_seen : (n v : ℕ) (runs : List Run) (spot : Spot) → AreLaidOut n runs → IsSpot runs v spot →
     SeenAt n runs v spot.place
 spot_seen n v runs spot laid h = (
-  (spot_held n _ v runs spot (get_or runs spot.index none)
-      (spot_facts n v runs spot (get_or runs spot.index none) none laid refl h)).2,
-  λ order le. spot_shows n v runs spot order none laid le h,
+  (spot_held n _ v runs spot (get_or runs spot.index no_run)
+      (spot_facts n v runs spot (get_or runs spot.index no_run) no_run laid refl h)).2,
+  λ order le. spot_shows n v runs spot order no_run laid le h,
 )
 
 -- after t exchanges the next two cities are shown by `low` and before `high`

@@ -4,7 +4,8 @@ use Rattle.std.proofs.Common.{refl, sym, ap, ◌∙◌, subst, arith, get_or}
 use Rattle.std.proofs.lemmas.Bool.{cases_lt}
 use Rattle.tk_tour.specs.Reversal.{begun_at, reversed_front, reversed_places, IsInverse}
 use Rattle.tk_tour.specs.Tour.{IsTour, IsSizedTour, SameCycle, next_city, prev_city}
-use Rattle.tk_tour.specs.Moves.{IsShorterSide, CanFlip, ReplacesSteps}
+use Rattle.tk_tour.specs.Moves.{AreForward, IsShorterSide, CanFlip, ReplacesSteps}
+use Rattle.tk_tour.specs.Places.{PathLength}
 use Rattle.tk_distance.specs.Cities.{IsCity}
 use Rattle.std.specs.Prelude.{reverse}
 use Rattle.std.proofs.lemmas.List.{take-append-drop}
@@ -17,7 +18,7 @@ use Rattle.tk_tour.proofs.Once.{ReplacesSteps-mirror}
 use Rattle.tk_tour.proofs.Tours.{HoldsOnce-tour, city_at_place, next_city-inside, next_city-end, prev_city-inside}
 use Rattle.tk_tour.proofs.Tours.{prev_city-start, city_in_range}
 use Rattle.tk_tour.proofs.StoredTours.Places.{IsRotation-begun_at, length-reversed_places, AtPlace, get_or-begun_at}
-use Rattle.tk_tour.proofs.StoredTours.Places.{ReplacesSteps-path, SidesAre, sides_of_path}
+use Rattle.tk_tour.proofs.StoredTours.Places.{SidesAre, path_reversed}
 use Rattle.tk_tour.proofs.StoredTours.Reversing.{at_place}
 
 -- q comes right after p, modulo n
@@ -65,62 +66,40 @@ PathPlaces n m pa pb pc pd = (0 < m) × (m < n) × AtPlace n pb 0 pb × AtPlace 
 
 -- the m places from pb to pc, where pb comes after pa and pd after pc
 path_places : (n m pa pb pc pd : ℕ) → pa < n → pb < n → pc < n → pd < n → pa ≢ pc → IsAfter n pa pb → IsAfter n pc pd →
-    ((pb ≤ pc) × (m + pb ≡ pc + 1)) ⊎ ((pc < pb) × (m + pb ≡ pc + n + 1)) → PathPlaces n m pa pb pc pd
+    PathLength n m pb pc → PathPlaces n m pa pb pc pd
 path_places n m pa pb pc pd la lb lc ld ne ab cd e =
+    let some : 0 < m =
+    ⊎_elim (λ (z : (pb ≤ pc) × (m + pb ≡ pc + 1)). omega (arith, z))
+    (λ (z : (pc < pb) × (m + pb ≡ pc + n + 1)). omega (arith, z)) e in
+    let fewer : m < n =
     ⊎_elim
-    (λ (x : (pa + 1 < n) × (pb ≡ pa + 1)). ⊎_elim
+    (λ (x : (pa + 1 < n) × (pb ≡ pa + 1)). ⊎_elim (λ (z : (pb ≤ pc) × (m + pb ≡ pc + 1)). omega (arith, x, z))
+    (λ (z : (pc < pb) × (m + pb ≡ pc + n + 1)). omega (arith, ne, x, z)) e)
+    (λ (x : (pa + 1 ≡ n) × (pb ≡ 0)). ⊎_elim (λ (z : (pb ≤ pc) × (m + pb ≡ pc + 1)). omega (arith, ne, x, z))
+    (λ (z : (pc < pb) × (m + pb ≡ pc + n + 1)). absurd (omega (arith, x, z))) e)
+    ab in
+    let at_c : AtPlace n pb (m - 1) pc =
+    ⊎_elim (λ (z : (pb ≤ pc) × (m + pb ≡ pc + 1)). at_place n pb (m - 1) pc (inl (omega (arith, z), omega (arith, z))))
+    (λ (z : (pc < pb) × (m + pb ≡ pc + n + 1)). at_place n pb (m - 1) pc (inr (omega (arith, z), omega (arith, z))))
+    e in
+    let at_d : AtPlace n pb m pd =
+    ⊎_elim
     (λ (y : (pc + 1 < n) × (pd ≡ pc + 1)). ⊎_elim
-    (λ (z : (pb ≤ pc) × (m + pb ≡ pc + 1)). (
-      omega (arith, z),
-      omega (arith, x, y, z),
-      at_place n pb 0 pb (inl (omega arith, omega arith)),
-      at_place n pb (m - 1) pc (inl (omega (arith, x, y, z), omega (arith, x, y, z))),
-      at_place n pb m pd (inl (omega (arith, x, y, z), omega (arith, x, y, z))),
-      at_place n pb (n - 1) pa (inr (omega (arith, x, y, z), omega (arith, x, y, z))),
-    ))
-    (λ (z : (pc < pb) × (m + pb ≡ pc + n + 1)). (
-      omega (arith, z),
-      omega (arith, ne, x, y, z),
-      at_place n pb 0 pb (inl (omega arith, omega arith)),
-      at_place n pb (m - 1) pc (inr (omega (arith, x, y, z), omega (arith, x, y, z))),
-      at_place n pb m pd (inr (omega (arith, x, y, z), omega (arith, x, y, z))),
-      at_place n pb (n - 1) pa (inr (omega (arith, x, y, z), omega (arith, x, y, z))),
-    ))
-    e)
+    (λ (z : (pb ≤ pc) × (m + pb ≡ pc + 1)). at_place n pb m pd (inl (omega (arith, y, z), omega (arith, y, z))))
+    (λ (z : (pc < pb) × (m + pb ≡ pc + n + 1)). at_place n pb m pd (inr (omega (arith, y, z), omega (arith, y, z)))) e)
     (λ (y : (pc + 1 ≡ n) × (pd ≡ 0)). ⊎_elim
-    (λ (z : (pb ≤ pc) × (m + pb ≡ pc + 1)). (
-      omega (arith, z),
-      omega (arith, x, y, z),
-      at_place n pb 0 pb (inl (omega arith, omega arith)),
-      at_place n pb (m - 1) pc (inl (omega (arith, x, y, z), omega (arith, x, y, z))),
-      at_place n pb m pd (inr (omega (arith, x, y, z), omega (arith, x, y, z))),
-      at_place n pb (n - 1) pa (inr (omega (arith, x, y, z), omega (arith, x, y, z))),
-    ))
-    (λ (z : (pc < pb) × (m + pb ≡ pc + n + 1)). absurd (omega (arith, x, y, z)))
-    e)
-    cd)
-    (λ (x : (pa + 1 ≡ n) × (pb ≡ 0)). ⊎_elim
-    (λ (y : (pc + 1 < n) × (pd ≡ pc + 1)). ⊎_elim
-    (λ (z : (pb ≤ pc) × (m + pb ≡ pc + 1)). (
-      omega (arith, z),
-      omega (arith, x, y, z),
-      at_place n pb 0 pb (inl (omega arith, omega arith)),
-      at_place n pb (m - 1) pc (inl (omega (arith, x, y, z), omega (arith, x, y, z))),
-      at_place n pb m pd (inl (omega (arith, x, y, z), omega (arith, x, y, z))),
-      at_place n pb (n - 1) pa (inl (omega (arith, x, y, z), omega (arith, x, y, z))),
-    ))
-    (λ (z : (pc < pb) × (m + pb ≡ pc + n + 1)). absurd (omega (arith, x, y, z)))
-    e)
-    (λ (y : (pc + 1 ≡ n) × (pd ≡ 0)). absurd (ne (omega (arith, x, y))))
-    cd)
-    ab
+    (λ (z : (pb ≤ pc) × (m + pb ≡ pc + 1)). at_place n pb m pd (inr (omega (arith, y, z), omega (arith, y, z))))
+    (λ (z : (pc < pb) × (m + pb ≡ pc + n + 1)). absurd (omega (arith, y, z))) e)
+    cd in
+    let at_a : AtPlace n pb (n - 1) pa =
+    ⊎_elim (λ (x : (pa + 1 < n) × (pb ≡ pa + 1)). at_place n pb (n - 1) pa (inr (omega (arith, x), omega (arith, x))))
+    (λ (x : (pa + 1 ≡ n) × (pb ≡ 0)). at_place n pb (n - 1) pa (inl (omega (arith, x), omega (arith, x)))) ab in
+    (some, fewer, at_place n pb 0 pb (inl (omega arith, omega arith)), at_c, at_d, at_a)
 
 -- what reversing the path from b to c does, where it stands at m places
 pub flip_path : (order place : List ℕ) (a b c d m : ℕ) → IsTour (length order) order → IsInverse order place →
     IsCity (length order) a → IsCity (length order) c → a ≢ c → b ≡ next_city order a → d ≡ next_city order c →
-    ((get_or place (b - 1) 0 ≤ get_or place (c - 1) 0) × (m + get_or place (b - 1) 0 ≡ get_or place (c - 1) 0 + 1))
-    ⊎ ((get_or place (c - 1) 0 < get_or place (b - 1) 0)
-    × (m + get_or place (b - 1) 0 ≡ get_or place (c - 1) 0 + length order + 1)) →
+    PathLength (length order) m (get_or place (b - 1) 0) (get_or place (c - 1) 0) →
     (0 < m) × (m < length order) × (get_or place (b - 1) 0 < length order)
     × ReplacesSteps order (reversed_places (get_or place (b - 1) 0) m order) a b c d
     × SidesAre order (length order - m) m a b c d
@@ -140,21 +119,14 @@ flip_path order place a b c d m tour inverse ca cc' ne eb ed em =
     let apart : pa ≢ pc = λ e. ne (sym at_a.1 ∙ ap (λ v. get_or order v 0) e ∙ at_c.1) in
     let k =
     path_places n m pa pb pc pd at_a.0 at_b.0 at_c.0 at_d.0 apart (place_after order place a b tour inverse ca eb)
-    (place_after order place c d tour inverse cc' ed) em in (
-      k.0,
-      k.1,
-      at_b.0,
-      ReplacesSteps-path order pb m a b c d (HoldsOnce-tour n order tour) (omega (arith, at_b.0)) k.0 k.1
-          (get_or-begun_at order pb 0 pb 0 (omega (arith, at_b.0)) (omega (arith, at_b.0)) k.2 ∙ at_b.1)
-          (get_or-begun_at order pb (m - 1) pc 0 (omega (arith, at_b.0)) (omega (arith, k.1)) k.3 ∙ at_c.1)
-          (get_or-begun_at order pb m pd 0 (omega (arith, at_b.0)) k.1 k.4 ∙ at_d.1)
-          (get_or-begun_at order pb (n - 1) pa 0 (omega (arith, at_b.0)) (omega (arith, at_b.0)) k.5 ∙ at_a.1),
-      sides_of_path order pb m a b c d (HoldsOnce-tour n order tour) (omega (arith, at_b.0)) k.0 k.1
-          (get_or-begun_at order pb 0 pb 0 (omega (arith, at_b.0)) (omega (arith, at_b.0)) k.2 ∙ at_b.1)
-          (get_or-begun_at order pb (m - 1) pc 0 (omega (arith, at_b.0)) (omega (arith, k.1)) k.3 ∙ at_c.1)
-          (get_or-begun_at order pb m pd 0 (omega (arith, at_b.0)) k.1 k.4 ∙ at_d.1)
-          (get_or-begun_at order pb (n - 1) pa 0 (omega (arith, at_b.0)) (omega (arith, at_b.0)) k.5 ∙ at_a.1),
-    )
+    (place_after order place c d tour inverse cc' ed) em in
+    let both =
+    path_reversed order pb m a b c d (HoldsOnce-tour n order tour) k.0 k.1
+    (get_or-begun_at order pb 0 pb 0 (omega (arith, at_b.0)) (omega (arith, at_b.0)) k.2 ∙ at_b.1)
+    (get_or-begun_at order pb (m - 1) pc 0 (omega (arith, at_b.0)) (omega (arith, k.1)) k.3 ∙ at_c.1)
+    (get_or-begun_at order pb m pd 0 (omega (arith, at_b.0)) k.1 k.4 ∙ at_d.1)
+    (get_or-begun_at order pb (n - 1) pa 0 (omega (arith, at_b.0)) (omega (arith, at_b.0)) k.5 ∙ at_a.1) in
+    (k.0, k.1, at_b.0, both.0, both.1)
 
 prev_city-at : (order place : List ℕ) (a : ℕ) → IsTour (length order) order → IsInverse order place →
     IsCity (length order) a →
@@ -197,13 +169,6 @@ next_city-prev_city order place a tour inverse ca =
     let h = prev_city-at order place a tour inverse ca in ap (next_city order) h.2 ∙ h.3
 
 -- steps that run backward are steps that run forward with their ends exchanged
-pub record AreForward (order : List ℕ) (a b c d : ℕ) : Type 0 where
-  pub a_in : IsCity (length order) a
-  pub c_in : IsCity (length order) c
-  pub apart : a ≢ c
-  pub b_after : b ≡ next_city order a
-  pub d_after : d ≡ next_city order c
-
 pub backward : (order place : List ℕ) (a b c d : ℕ) → IsTour (length order) order → IsInverse order place →
     IsCity (length order) a → IsCity (length order) c → a ≢ c →
     b ≡ prev_city order a → d ≡ prev_city order c → AreForward order d c b a
@@ -250,9 +215,6 @@ IsSizedTour-reversed_places k m xs h =
     let l : length (reversed_places k m xs) ≡ length xs = length-reversed_places k m xs in
     let P : ℕ → Type 0 = λ v. IsTour v (reversed_places k m xs) in
     (omega (arith, l, h.0), omega (arith, l, h.1), subst P (sym l) (IsTour-reversed_places (length xs) k m xs h.2))
-
-abbrev pub PathLength : ℕ → ℕ → ℕ → ℕ → Type 0
-PathLength n m pb pc = ((pb ≤ pc) × (m + pb ≡ pc + 1)) ⊎ ((pc < pb) × (m + pb ≡ pc + n + 1))
 
 -- the same, for places under names
 pub flip_inner : (order place : List ℕ) (a b c d m pb pc : ℕ) → IsTour (length order) order → IsInverse order place →

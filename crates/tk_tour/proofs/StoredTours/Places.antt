@@ -191,12 +191,17 @@ IsPath-from_ends from to (x ∷ xs) lt e f =
     let whole : take (n - 1 + 1) (x ∷ xs) ≡ x ∷ xs = take_all (n - 1 + 1) (x ∷ xs) (omega arith) in
     ((xs, ap (λ v. v ∷ xs) e), (take (n - 1) (x ∷ xs), sym whole ∙ last ∙ ap (λ v. take (n - 1) (x ∷ xs) ++ v ∷ []) f))
 
--- the reversal of the path from b to c, which stands at m places from i on
-pub ReplacesSteps-path : (xs : List ℕ) (i m a b c d : ℕ) → HoldsOnce xs → i ≤ length xs → 0 < m → m < length xs →
+abbrev pub SidesAre : List ℕ → ℕ → ℕ → ℕ → ℕ → ℕ → ℕ → Type 0
+SidesAre xs f m a b c d =
+    (front back : List ℕ) → IsPath d front a → IsPath b back c → SameCycle xs (front ++ back) →
+    (length front ≡ f) × (length back ≡ m)
+
+-- the reversal of the path from b to c, which stands at m places from i on, and how many cities the two sides have
+pub path_reversed : (xs : List ℕ) (i m a b c d : ℕ) → HoldsOnce xs → 0 < m → m < length xs →
     get_or (begun_at i xs) 0 0 ≡ b → get_or (begun_at i xs) (m - 1) 0 ≡ c → get_or (begun_at i xs) m 0 ≡ d →
     get_or (begun_at i xs) (length xs - 1) 0 ≡ a →
-    ReplacesSteps xs (reversed_places i m xs) a b c d
-ReplacesSteps-path xs i m a b c d once li lo hi eb ec ed ea =
+    ReplacesSteps xs (reversed_places i m xs) a b c d × SidesAre xs (length xs - m) m a b c d
+path_reversed xs i m a b c d once lo hi eb ec ed ea =
     let r : List ℕ = begun_at i xs in
     let lr : length r ≡ length xs = length-begun_at i xs in
     let lb : length (take m r) ≡ m = length-take-le m r (omega (arith, lr)) in
@@ -215,36 +220,10 @@ ReplacesSteps-path xs i m a b c d once li lo hi eb ec ed ea =
     let turned : IsRotation (reversed_front m r) (reversed_places i m xs) =
     IsRotation-begun_at (length xs - i) (reversed_front m r) in
     let new : SameCycle (reversed_places i m xs) (drop m r ++ reverse (take m r)) =
-    inl (IsRotation-trans (IsRotation-sym turned) (IsRotation-append (reverse (take m r)) (drop m r))) in
-    ReplacesSteps-from_cut a b c d xs (reversed_places i m xs) (drop m r) (take m r) once front back old new
-
-abbrev pub SidesAre : List ℕ → ℕ → ℕ → ℕ → ℕ → ℕ → ℕ → Type 0
-SidesAre xs f m a b c d =
-    (front back : List ℕ) → IsPath d front a → IsPath b back c → SameCycle xs (front ++ back) →
-    (length front ≡ f) × (length back ≡ m)
-
--- how many cities the two sides have
-pub sides_of_path : (xs : List ℕ) (i m a b c d : ℕ) → HoldsOnce xs → i ≤ length xs → 0 < m → m < length xs →
-    get_or (begun_at i xs) 0 0 ≡ b → get_or (begun_at i xs) (m - 1) 0 ≡ c → get_or (begun_at i xs) m 0 ≡ d →
-    get_or (begun_at i xs) (length xs - 1) 0 ≡ a →
-    SidesAre xs (length xs - m) m a b c d
-sides_of_path xs i m a b c d once li lo hi eb ec ed ea =
-    let r : List ℕ = begun_at i xs in
-    let lr : length r ≡ length xs = length-begun_at i xs in
-    let lb : length (take m r) ≡ m = length-take-le m r (omega (arith, lr)) in
-    let lf : length (drop m r) ≡ length xs - m = length-drop m r ∙ ap (λ v. v - m) lr in
-    let back : IsPath b (take m r) c =
-    IsPath-from_ends b c (take m r) (omega (arith, lb)) (get_or-take m r 0 0 lo ∙ eb)
-    (ap (λ v. get_or (take m r) (v - 1) 0) lb ∙ get_or-take m r (m - 1) 0 (omega arith) ∙ ec) in
-    let e0 : m + 0 ≡ m = omega arith in
-    let e1 : m + (length xs - m - 1) ≡ length xs - 1 = omega arith in
-    let front : IsPath d (drop m r) a =
-    IsPath-from_ends d a (drop m r) (omega (arith, lf)) (get_or-drop m r 0 0 ∙ ap (λ v. get_or r v 0) e0 ∙ ed)
-    (ap (λ v. get_or (drop m r) (v - 1) 0) lf ∙ get_or-drop m r (length xs - m - 1) 0
-    ∙ ap (λ v. get_or r v 0) e1 ∙ ea) in
-    let old : SameCycle xs (drop m r ++ take m r) =
-    inl (IsRotation-trans (IsRotation-begun_at i xs) (IsRotation-begun_at m r)) in
-    λ us vs pu pv g.
-    let s = same_pieces a b c d (drop m r) (take m r) us vs (HoldsOnce-cycle once old) front back pu pv
-    (SameCycle-trans (SameCycle-sym old) g) in
-    (ap length s.0 ∙ lf, ap length s.1 ∙ lb)
+    inl (IsRotation-trans (IsRotation-sym turned) (IsRotation-append (reverse (take m r)) (drop m r))) in (
+      ReplacesSteps-from_cut a b c d xs (reversed_places i m xs) (drop m r) (take m r) once front back old new,
+      λ us vs pu pv g.
+          let s = same_pieces a b c d (drop m r) (take m r) us vs (HoldsOnce-cycle once old) front back pu pv
+          (SameCycle-trans (SameCycle-sym old) g) in
+          (ap length s.0 ∙ lf, ap length s.1 ∙ lb),
+    )

@@ -63,12 +63,17 @@ IsInverse-exchange order place i j x y h li lj ne ex ey =
     (lp ∙ sym lo, λ k lk. all k (omega (arith, lo)))
 
 -- after t exchanges of the reversal of `count` places from `first` on
-pub record Reversing (n first count t low high : ℕ) (start order place : List ℕ) : Type 0 where
+pub record Mirroring (n first count t low high : ℕ) (start order : List ℕ) : Type 0 where
   pub lengths : (length start ≡ n) × (length order ≡ n)
   pub low_at : (low < n) × AtPlace n first t low
   pub high_at : (high < n) × AtPlace n first (count - t) high
   pub mirrored : MirroredTo t count (begun_at first start) (begun_at first order)
-  pub inverse : IsInverse order place
+
+-- which two places are exchanged next
+pub record NextTwo (n low high : ℕ) : Type 0 where
+  pub low_in : low < n
+  pub high_in : high < n
+  pub apart : low ≢ high
 
 abbrev pub PlaceCases : ℕ → ℕ → ℕ → ℕ → Type 0
 PlaceCases n f i p = ((f + i < n) × (p ≡ f + i)) ⊎ ((n ≤ f + i) × (p + n ≡ f + i))
@@ -134,14 +139,13 @@ at_previous n f i j p q e lf li h cases =
     (cases_lt (f + i) n))
     cases
 
-pub Reversing-more : (n first count t low high low' high' x y : ℕ) (start order place : List ℕ) →
-    Reversing n first count t low high start order place → first < n → count ≤ n → t < count / 2 →
+pub Mirroring-more : (n first count t low high low' high' x y : ℕ) (start order : List ℕ) →
+    Mirroring n first count t low high start order → first < n → count ≤ n → t < count / 2 →
     ((high ≡ 0 → high' + 1 ≡ n) × (0 < high → high' + 1 ≡ high)) →
     ((low + 1 ≡ n → low' ≡ 0) × (low + 1 < n → low' ≡ low + 1)) →
     x ≡ get_or order low 0 → y ≡ get_or order high' 0 →
-    Reversing n first count (t + 1) low' high' start (set (set order low y) high' x)
-    (set (set place (y - 1) low) (x - 1) high')
-Reversing-more n first count t low high low' high' x y start order place h lf lc lt eh el ex ey =
+    NextTwo n low high' × Mirroring n first count (t + 1) low' high' start (set (set order low y) high' x)
+Mirroring-more n first count t low high low' high' x y start order h lf lc lt eh el ex ey =
     let j : ℕ = count - 1 - t in
     let two : t + t + 1 < count = omega arith in
     let e0 : length order ≡ n = h.lengths.1 in
@@ -177,21 +181,42 @@ Reversing-more n first count t low high low' high' x y start order place h lf lc
     (begun_at-set order first t low y (omega arith) (omega arith) (subst Q (sym e0) at_low)) in
     let more : MirroredTo (t + 1) count (begun_at first start) (set (set ys t y) j x) =
     MirroredTo-more t count (begun_at first start) ys j x y h.mirrored two (omega (arith, length-begun_at first start))
-    refl ex' ey' in
-    record {
-      lengths = (e1, length-set (set order low y) high' x ∙ e2);
-      low_at = (low_in, at_next n first t low low' lf (omega arith) at_low ups);
-      high_at = (high_in, let S : ℕ → Type 0 = λ v. AtPlace n first v high' in subst S (omega arith) at_high);
-      mirrored = let S : List ℕ → Type 0 = λ v. MirroredTo (t + 1) count (begun_at first start) v in
-          subst S (sym moved) more;
-      inverse = IsInverse-exchange order place low high' x y h.inverse (omega (arith, h.low_at.0))
-          (omega arith) apart ex ey;
-    }
+    refl ex' ey' in (
+      record { low_in = h.low_at.0; high_in = high_in; apart = apart },
+      record {
+        lengths = (e1, length-set (set order low y) high' x ∙ e2);
+        low_at = (low_in, at_next n first t low low' lf (omega arith) at_low ups);
+        high_at = (high_in, let S : ℕ → Type 0 = λ v. AtPlace n first v high' in subst S (omega arith) at_high);
+        mirrored = let S : List ℕ → Type 0 = λ v. MirroredTo (t + 1) count (begun_at first start) v in
+            subst S (sym moved) more;
+      },
+    )
 
-pub Reversing-all : (n first count t low high : ℕ) (start order place : List ℕ) →
-    Reversing n first count t low high start order place → first < n → count ≤ n → t ≡ count / 2 →
+pub Mirroring-all : (n first count t low high : ℕ) (start order : List ℕ) →
+    Mirroring n first count t low high start order → first < n → count ≤ n → t ≡ count / 2 →
     order ≡ reversed_places first count start
-Reversing-all n first count t low high start order place h lf lc e =
+Mirroring-all n first count t low high start order h lf lc e =
     reversed_places-from first count start order (omega (arith, h.lengths.0)) (h.lengths.1 ∙ sym h.lengths.0)
     (MirroredTo-all t count (begun_at first start) (begun_at first order) h.mirrored (omega arith) (omega arith)
     (omega (arith, length-begun_at first start, h.lengths.0)))
+
+-- the same, where the place array still tells where each city of the order stands
+pub record Reversing (n first count t low high : ℕ) (start order place : List ℕ) : Type 0 where
+  pub mirroring : Mirroring n first count t low high start order
+  pub inverse : IsInverse order place
+
+pub Reversing-more : (n first count t low high low' high' x y : ℕ) (start order place : List ℕ) →
+    Reversing n first count t low high start order place → first < n → count ≤ n → t < count / 2 →
+    ((high ≡ 0 → high' + 1 ≡ n) × (0 < high → high' + 1 ≡ high)) →
+    ((low + 1 ≡ n → low' ≡ 0) × (low + 1 < n → low' ≡ low + 1)) →
+    x ≡ get_or order low 0 → y ≡ get_or order high' 0 →
+    Reversing n first count (t + 1) low' high' start (set (set order low y) high' x)
+    (set (set place (y - 1) low) (x - 1) high')
+Reversing-more n first count t low high low' high' x y start order place h lf lc lt eh el ex ey =
+    let m = h.mirroring in
+    let step = Mirroring-more n first count t low high low' high' x y start order m lf lc lt eh el ex ey in
+    record {
+      mirroring = step.1;
+      inverse = IsInverse-exchange order place low high' x y h.inverse (omega (arith, step.0.low_in, m.lengths))
+          (omega (arith, step.0.high_in, m.lengths)) step.0.apart ex ey;
+    }

@@ -1,12 +1,12 @@
 //! A tour as an array: the order of its cities and the place of each.
-ghost use Rattle.std.specs.Prelude.{◌≡◌, ◌≢◌, ◌≤◌, ◌<◌, ◌+◌, ◌-◌, ◌*◌, ◌/◌, ◌^◌, ℕ, List, length, slice_index};
+ghost use Rattle.std.specs.Prelude.{◌≡◌, ◌≤◌, ◌<◌, ◌+◌, ◌-◌, ◌/◌, ◌^◌, ℕ, List, length};
 ghost use Rattle.tk_distance.specs.Cities.{IsCity};
-ghost use Rattle.tk_tour.specs.Tour.{IsSizedTour, next_city};
-ghost use Rattle.tk_tour.specs.Moves.{IsShorterSide, ReplacesSteps};
+ghost use Rattle.tk_tour.specs.Tour.{IsSizedTour};
 ghost use Rattle.tk_tour.specs.Reversal.{IsInverse, reversed_places};
 ghost use Rattle.tk_tour.specs.Counters.{saturated};
 
 use crate::fault::TourFault;
+use crate::sides::{Placed, shorter_side};
 use crate::store::{Flip, TourStore};
 use crate::stores::placing::place_each;
 use crate::stores::reversal::reverse_places;
@@ -29,6 +29,31 @@ pub struct ArrayTour {
     ghost fits: { (swaps < 2 ^ 64) × (undo_swaps < 2 ^ 64) × (flips < 2 ^ 64) },
 }
 
+impl Placed for ArrayTour {
+    ghost use Rattle.tk_tour.specs.ArrayTours.{order_of};
+
+    ghost cities = { order_of };
+
+    fn city_count(&self) -> u32 {
+        self.order.len() as u32
+    }
+
+    fn city_after(&self, c: u32) -> u32 {
+        let k = self.place_of(c) as usize;
+        if k + 1 == self.order.len() {
+            self.order[0]
+        } else {
+            self.order[k + 1]
+        }
+    }
+
+    fn place_of(&self, c: u32) -> u32 {
+        self.place[c as usize - 1]
+    }
+
+    ghost is_tour = { λ s. s.tour };
+}
+
 impl TourStore for ArrayTour {
     ghost use Rattle.tk_tour.specs.ArrayTours.{order_of, swaps_of, flips_of, FlipsAlone, FlipsAlone-refl};
     ghost use Rattle.tk_tour.specs.ArrayTours.{FlipsAlone-trans};
@@ -42,20 +67,15 @@ impl TourStore for ArrayTour {
     ghost FlipsOnly = { FlipsAlone };
 
     fn size(&self) -> u32 {
-        self.order.len() as u32
+        self.city_count()
     }
 
     fn next(&self, c: u32) -> u32 {
-        let k = self.place_of(c);
-        if k + 1 == self.order.len() {
-            self.order[0]
-        } else {
-            self.order[k + 1]
-        }
+        self.city_after(c)
     }
 
     fn prev(&self, c: u32) -> u32 {
-        let k = self.place_of(c);
+        let k = self.place_of(c) as usize;
         if k == 0 {
             self.order[self.order.len() - 1]
         } else {
@@ -76,17 +96,13 @@ impl TourStore for ArrayTour {
     }
 
     fn flip(&mut self, a: u32, b: u32, c: u32, d: u32) -> Flip {
-        let (first, count) = if self.next(a) == b && self.next(c) == d {
-            self.shorter_side(a, b, c, d)
-        } else {
-            self.shorter_side(d, c, b, a)
-        };
-        self.reverse(first, count);
+        let (first, count) = shorter_side(self, a, b, c, d);
+        self.reverse(first as usize, count as usize);
         self.swaps = self.swaps.saturating_add(count as u64 / 2);
         self.flips = self.flips.saturating_add(1);
         Flip {
-            first: first as u32 + 1,
-            count: count as u32,
+            first: first + 1,
+            count,
         }
     }
 
@@ -181,44 +197,6 @@ impl ArrayTour {
         }
     }
 
-    // Where the city stands, from 0.
-    fn place_of(&self, c: u32) -> usize
-        requires { IsCity (length self.now.order.items) c }
-        ensures place { result ≡ slice_index self.now.place.items (c - 1) }
-        ensures within { result < length self.now.order.items }
-        ensures city { slice_index self.now.order.items result ≡ c }
-    {
-        self.place[c as usize - 1] as usize
-    }
-
-    // Where b comes after a and d after c: the places from b to c, or those from d to a where
-    // there are fewer of them, as the first from 0 and their number.
-    fn shorter_side(&self, a: u32, b: u32, c: u32, d: u32) -> (usize, usize)
-        requires a_in { IsCity (length self.now.order.items) a }
-        requires c_in { IsCity (length self.now.order.items) c }
-        requires apart { a ≢ c }
-        requires b_after { b ≡ next_city self.now.order.items a }
-        requires d_after { d ≡ next_city self.now.order.items c }
-        ensures steps { ReplacesSteps self.now.order.items
-            (reversed_places result.0 result.1 self.now.order.items) a b c d }
-        ensures within { result.0 < length self.now.order.items }
-        ensures side { IsShorterSide self.now.order.items result.1 a b c d }
-        ensures shorter { 2 * result.1 ≤ length self.now.order.items }
-    {
-        let n = self.order.len();
-        let start = self.place_of(b);
-        let end = self.place_of(c);
-        let inner = if start <= end {
-            end - start + 1
-        } else {
-            end + n - start + 1
-        };
-        if inner <= n - inner {
-            return (start, inner);
-        }
-        (self.place_of(d), n - inner)
-    }
-
     // Reverses `count` places from `first` on, from 0.
     fn reverse(&mut self, first: usize, count: usize)
         requires first { first < length self.old.order.items }
@@ -286,7 +264,7 @@ impl ArrayTour {
             → list ≡ cities.items) }
     {
         let mut cities = Vec::from_slice(alloc, &self.order)?;
-        let mut first = self.place_of(1);
+        let mut first = self.place_of(1) as usize;
         if self.prev(1) < self.next(1) {
             cities.reverse();
             first = cities.len() - 1 - first;

@@ -3,7 +3,8 @@ ghost use Rattle.std.specs.Prelude.{◌≡◌, ◌≤◌, ◌<◌, ◌-◌, leng
 ghost use Rattle.tk_problem.specs.declared.limits.TheConstants.{CITY_LIMIT};
 ghost use Rattle.tk_tour.specs.Reversal.{IsInverse, reversed_places};
 
-// Reverses `count` places from `first` on, modulo the length, by `count / 2` exchanges of two cities.
+// Reverses `count` places from `first` on, modulo the length: those that go on from the end to the beginning by
+// `count / 2` exchanges of two cities.
 pub(crate) fn reverse_places(order: &mut [u32], place: &mut [u32], first: usize, count: usize)
     requires first_in { first < length order.old }
     requires count_in { count ≤ length order.old }
@@ -12,10 +13,22 @@ pub(crate) fn reverse_places(order: &mut [u32], place: &mut [u32], first: usize,
     ensures reversed { order.new ≡ reversed_places first count order.old }
     ensures places { IsInverse order.new place.new }
 {
-    if count <= order.len() - first {
+    let n = order.len();
+    if count <= n - first {
         reverse_within(order, place, first, first + count);
-    } else {
-        reverse_round(order, place, first, count);
+        return;
+    }
+    let mut low = first;
+    let mut high = first + count - n;
+    for done in 0..count / 2 {
+        high = if high == 0 { n - 1 } else { high - 1 };
+        let x = order[low];
+        let y = order[high];
+        order[low] = y;
+        order[high] = x;
+        place[y as usize - 1] = low as u32;
+        place[x as usize - 1] = high as u32;
+        low = if low + 1 == n { 0 } else { low + 1 };
     }
 }
 
@@ -31,33 +44,5 @@ fn reverse_within(order: &mut [u32], place: &mut [u32], first: usize, last: usiz
     order[first..last].reverse();
     for k in first..last {
         place[order[k] as usize - 1] = k as u32;
-    }
-}
-
-// The same where the places go on from the end to the beginning.
-fn reverse_round(order: &mut [u32], place: &mut [u32], first: usize, count: usize)
-    requires first_in { first < length order.old }
-    requires count_in { count ≤ length order.old }
-    requires size { length order.old ≤ CITY_LIMIT }
-    requires places { IsInverse order.old place.old }
-    ensures reversed { order.new ≡ reversed_places first count order.old }
-    ensures places { IsInverse order.new place.new }
-{
-    let n = order.len();
-    let mut low = first;
-    let mut high = if count < n - first {
-        first + count
-    } else {
-        first + count - n
-    };
-    for done in 0..count / 2 {
-        high = if high == 0 { n - 1 } else { high - 1 };
-        let x = order[low];
-        let y = order[high];
-        order[low] = y;
-        order[high] = x;
-        place[y as usize - 1] = low as u32;
-        place[x as usize - 1] = high as u32;
-        low = if low + 1 == n { 0 } else { low + 1 };
     }
 }

@@ -1,11 +1,11 @@
 use Rattle.std.proofs.Common.{◌≡◌, ◌+◌, ◌<◌, ◌∙◌, ℕ, List, length, take, drop, ap, sym, subst, arith, get_or}
-use Rattle.std.proofs.Common.{false}
 use Rattle.std.specs.Prelude.{sum_by}
 use Rattle.std.proofs.lemmas.List.{append-nil, take_at}
 use Rattle.tk_tour.specs.Reversal.{begun_at}
 use Rattle.tk_segments.specs.Runs.{run_size, shown, AreLaidOut, HaveNames, CanBeFound}
 use Rattle.tk_segments.specs.declared.run.Run.{Run}
 use Rattle.tk_segments.proofs.Fronts.{at_front}
+use Rattle.tk_segments.proofs.NoRun.{no_run}
 use Rattle.tk_segments.proofs.SeenTours.Searching.{start_is, sum_all, sum_more, sum_mono}
 use Rattle.tk_segments.proofs.joining.join_runs.Goals as goal
 
@@ -23,11 +23,10 @@ pub returns-then-k-len-clause-first : goal.returns-then-k-len-clause-first
 returns-then-k-len-clause-first c =
     let xs = c.args.runs.now.items in
     let lt : c.args.k < length xs = omega (arith, c.requires.index, c.args.runs.now.ok.0) in
-    let none : Run = record { low = 0; high = 0; start = 0; id = 0; next = 0; back = false } in
-    let w = c.requires.laid.within c.args.k none lt in
+    let w = c.requires.laid.within c.args.k no_run lt in
     omega (
       arith,
-      sum_more c.args.k xs none lt,
+      sum_more c.args.k xs no_run lt,
       w,
       sum_mono (c.args.k + 1) (length xs) xs (omega (arith, lt)),
       sum_all c.args.size xs c.requires.laid,

@@ -1,17 +1,14 @@
-use Rattle.std.proofs.Common.{◌∙◌, arith, false}
+use Rattle.std.proofs.Common.{◌∙◌, arith}
 use Rattle.std.proofs.lemmas.List.{length-set}
-use Rattle.tk_segments.specs.declared.run.Run.{Run}
+use Rattle.tk_segments.proofs.NoRun.{no_run}
 use Rattle.tk_segments.proofs.SeenTours.Names.{named_more}
 use Rattle.tk_segments.proofs.naming.name_runs.Goals as goal
-
-abbrev none : Run
-none = record { low = 0; high = 0; start = 0; id = 0; next = 0; back = false }
 
 pub loop-index-preserved : goal.loop-index-preserved
 loop-index-preserved c =
     let h = c.loop-index in
     record {
       same_length = length-set h.home _ h.index ∙ h.invariant.same_length;
-      named = named_more c.args.runs.now h.home h.index none c.requires.names c.loop-index-test.true
+      named = named_more c.args.runs.now h.home h.index no_run c.requires.names c.loop-index-test.true
           (omega (arith, h.invariant.same_length, c.requires.many)) h.invariant.named;
     }

@@ -1,17 +1,14 @@
-use Rattle.std.proofs.Common.{◌<◌, ◌+◌, ◌-◌, ◌/◌, ℕ, arith, false}
-use Rattle.tk_segments.specs.declared.run.Run.{Run}
+use Rattle.std.proofs.Common.{◌<◌, ◌+◌, ◌-◌, ◌/◌, ℕ, arith}
+use Rattle.tk_segments.proofs.NoRun.{no_run}
 use Rattle.tk_segments.proofs.SeenTours.Searching.{start_is}
 use Rattle.tk_segments.proofs.spots.index_at.Goals as goal
-
-abbrev none : Run
-none = record { low = 0; high = 0; start = 0; id = 0; next = 0; back = false }
 
 pub loop-high-preserved-then-runs-middle : goal.loop-high-preserved-then-runs-middle
 loop-high-preserved-then-runs-middle c =
     let h = c.loop-high in
     let middle : ℕ = h.low + (h.high - h.low) / 2 in
     let lt : middle < h.high = omega (arith, c.loop-high-test.true) in
-    let s = start_is c.args.size middle c.args.runs.now none c.requires.laid (omega (arith, lt, h.invariant.high_in)) in
+    let s = start_is _ middle _ no_run c.requires.laid (omega (arith, lt, h.invariant.high_in)) in
     record {
       order = lt;
       high_in = h.invariant.high_in;
@@ -24,7 +21,7 @@ loop-high-preserved c =
     let h = c.loop-high in
     let middle : ℕ = h.low + (h.high - h.low) / 2 in
     let lt : middle < h.high = omega (arith, c.loop-high-test.true) in
-    let s = start_is c.args.size middle c.args.runs.now none c.requires.laid (omega (arith, lt, h.invariant.high_in)) in
+    let s = start_is _ middle _ no_run c.requires.laid (omega (arith, lt, h.invariant.high_in)) in
     record {
       order = omega (arith, c.loop-high-test.true);
       high_in = omega (arith, lt, h.invariant.high_in);

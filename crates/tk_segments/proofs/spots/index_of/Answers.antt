@@ -1,34 +1,32 @@
-use Rattle.std.proofs.Common.{◌<◌, ◌≤◌, ◌-◌, ◌*◌, ◌/◌, ℕ, List, length, arith, get_or, false}
+use Rattle.std.proofs.Common.{◌<◌, ◌≤◌, ◌-◌, ◌*◌, ◌/◌, ℕ, List, length, arith, get_or}
 use Rattle.tk_segments.specs.Runs.{AreLaidOut, AreNamed, CanBeFound}
 use Rattle.tk_segments.specs.declared.run.Run.{Run}
+use Rattle.tk_segments.proofs.NoRun.{no_run}
 use Rattle.tk_segments.proofs.SeenTours.Naming.{held_home, named_home, named_less}
 use Rattle.tk_segments.proofs.spots.index_of.Goals as goal
-
-abbrev none : Run
-none = record { low = 0; high = 0; start = 0; id = 0; next = 0; back = false }
 
 first_one : (n p : ℕ) (runs : List Run) (home table : List ℕ) → AreNamed runs home → CanBeFound n 32 runs table →
     n ≤ 32 * length table → p < n →
     (p / 32 < length table) × (get_or table (p / 32) 0 < length runs)
     × (get_or home (get_or table (p / 32) 0) 0 < length runs)
-    × ((get_or runs (get_or home (get_or table (p / 32) 0) 0) none).low ≤ p)
+    × ((get_or runs (get_or home (get_or table (p / 32) 0) 0) no_run).low ≤ p)
 first_one n p runs home table named found le lt =
     let b : ℕ = p / 32 in
     let lb : b < length table = omega (arith, le, lt) in
-    let h = held_home runs home (get_or table b 0) (b * 32) none named (found.early b lb (omega (arith, lt))) in
+    let h = held_home runs home (get_or table b 0) (b * 32) no_run named (found.early b lb (omega (arith, lt))) in
     (lb, h.0, h.1, omega (arith, h.2))
 
 next_one : (n p k : ℕ) (runs : List Run) (home table : List ℕ) → AreLaidOut n runs → AreNamed runs home →
-    CanBeFound n 32 runs table → k < length runs → (get_or runs k none).high ≤ p → p < n →
-    ((get_or runs k none).next < length runs) × (get_or home (get_or runs k none).next 0 < length runs)
-    × ((get_or runs (get_or home (get_or runs k none).next 0) none).low ≤ p)
-    × (n - (get_or runs (get_or home (get_or runs k none).next 0) none).low < n - (get_or runs k none).low)
+    CanBeFound n 32 runs table → k < length runs → (get_or runs k no_run).high ≤ p → p < n →
+    ((get_or runs k no_run).next < length runs) × (get_or home (get_or runs k no_run).next 0 < length runs)
+    × ((get_or runs (get_or home (get_or runs k no_run).next 0) no_run).low ≤ p)
+    × (n - (get_or runs (get_or home (get_or runs k no_run).next 0) no_run).low < n - (get_or runs k no_run).low)
 next_one n p k runs home table laid named found lk le lt =
-    let r : Run = get_or runs k none in
-    let w = laid.within k none lk in
-    let e = found.next k none lk (omega arith) in
-    let h = named_home runs home r.next r.high none named e in
-    (named_less runs home r.next r.high none named e, h.0, omega (arith, h.1, le), omega (arith, h.1, w))
+    let r : Run = get_or runs k no_run in
+    let w = laid.within k no_run lk in
+    let e = found.next k no_run lk (omega arith) in
+    let h = named_home runs home r.next r.high no_run named e in
+    (named_less runs home r.next r.high no_run named e, h.0, omega (arith, h.1, le), omega (arith, h.1, w))
 
 pub bounds-home-table : goal.bounds-home-table
 bounds-home-table c =

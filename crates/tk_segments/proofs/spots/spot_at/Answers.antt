@@ -1,41 +1,42 @@
-use Rattle.std.proofs.Common.{◌-◌, ◌∙◌, ap, arith, get_or, false}
+use Rattle.std.proofs.Common.{◌-◌, ◌∙◌, ap, arith, get_or}
 use Rattle.std.proofs.lemmas.List.{get_or_default}
 use Rattle.tk_segments.specs.Runs.{shown_place}
-use Rattle.tk_segments.specs.declared.run.Run.{Run}
+use Rattle.tk_segments.proofs.NoRun.{no_run}
 use Rattle.tk_segments.proofs.SeenTours.Searching.{start_is, sum_more}
 use Rattle.tk_segments.proofs.spots.spot_at.Goals as goal
-
-abbrev none : Run
-none = record { low = 0; high = 0; start = 0; id = 0; next = 0; back = false }
 
 pub overflow_sub-v : goal.overflow_sub-v
 overflow_sub-v c =
     let h = c.index_at-index in
-    omega (arith, start_is c.args.size h.result c.args.runs.now none c.requires.laid h.ensures.index_in, h.ensures.from)
+    omega (
+      arith,
+      start_is c.args.size h.result c.args.runs.now no_run c.requires.laid h.ensures.index_in,
+      h.ensures.from,
+    )
 
 pub place_in-requires-clause-inside : goal.place_in-requires-clause-inside
 place_in-requires-clause-inside c =
     let h = c.index_at-index in
     omega (
       arith,
-      start_is c.args.size h.result c.args.runs.now none c.requires.laid h.ensures.index_in,
+      start_is c.args.size h.result c.args.runs.now no_run c.requires.laid h.ensures.index_in,
       h.ensures.from,
       h.ensures.to,
-      sum_more h.result c.args.runs.now none h.ensures.index_in,
+      sum_more h.result c.args.runs.now no_run h.ensures.index_in,
     )
 
 pub returns : goal.returns
 returns c =
     let h = c.index_at-index in
     let r = c.args.runs.now in
-    let run = get_or r h.result none in
-    let s = start_is c.args.size h.result r none c.requires.laid h.ensures.index_in in
+    let run = get_or r h.result no_run in
+    let s = start_is c.args.size h.result r no_run c.requires.laid h.ensures.index_in in
     record {
       index_in = h.ensures.index_in;
       from = h.ensures.from;
       to = h.ensures.to;
       place_is = λ d. c.place_in.ensures.place
-          ∙ ap (λ u. shown_place u (c.args.v - u.start)) (get_or_default r h.result none d h.ensures.index_in)
+          ∙ ap (λ u. shown_place u (c.args.v - u.start)) (get_or_default r h.result no_run d h.ensures.index_in)
           ∙ ap (λ u. shown_place (get_or r h.result d) (c.args.v - u))
           (start_is c.args.size h.result r d c.requires.laid h.ensures.index_in);
     }

@@ -1,10 +1,7 @@
-use Rattle.std.proofs.Common.{refl, arith, get_or, false}
-use Rattle.tk_segments.specs.declared.run.Run.{Run}
+use Rattle.std.proofs.Common.{refl, arith, get_or}
+use Rattle.tk_segments.proofs.NoRun.{no_run}
 use Rattle.tk_segments.proofs.SeenTours.Spots.{spot_of_place}
 use Rattle.tk_segments.proofs.spots.spot_of.Goals as goal
-
-abbrev none : Run
-none = record { low = 0; high = 0; start = 0; id = 0; next = 0; back = false }
 
 pub overflow_add-result : goal.overflow_add-result
 overflow_add-result c =
@@ -12,7 +9,7 @@ overflow_add-result c =
     let o = c.offset_in in
     let h =
     spot_of_place c.args.size o.result c.args.place c.args.runs.now
-    (record { index = k.result; place = c.args.place }) (get_or c.args.runs.now k.result none) none c.requires.laid
+    (record { index = k.result; place = c.args.place }) (get_or c.args.runs.now k.result no_run) no_run c.requires.laid
     refl k.ensures.index o.ensures.inside o.ensures.place refl in
     omega (arith, h.1, c.requires.size)
 
@@ -21,7 +18,7 @@ returns-clause-spot c =
     let k = c.index_of-index in
     let o = c.offset_in in
     (spot_of_place c.args.size o.result c.args.place c.args.runs.now (record { index = k.result; place = c.args.place })
-    (get_or c.args.runs.now k.result none) none c.requires.laid refl k.ensures.index o.ensures.inside
+    (get_or c.args.runs.now k.result no_run) no_run c.requires.laid refl k.ensures.index o.ensures.inside
     o.ensures.place refl).0
 
 pub returns-clause-inside : goal.returns-clause-inside
@@ -29,5 +26,5 @@ returns-clause-inside c =
     let k = c.index_of-index in
     let o = c.offset_in in
     (spot_of_place c.args.size o.result c.args.place c.args.runs.now (record { index = k.result; place = c.args.place })
-    (get_or c.args.runs.now k.result none) none c.requires.laid refl k.ensures.index o.ensures.inside
+    (get_or c.args.runs.now k.result no_run) no_run c.requires.laid refl k.ensures.index o.ensures.inside
     o.ensures.place refl).1

@@ -1,17 +1,14 @@
-use Rattle.std.proofs.Common.{◌-◌, ◌∙◌, refl, sym, ap, arith, get_or, false}
+use Rattle.std.proofs.Common.{◌-◌, ◌∙◌, refl, sym, ap, arith, get_or}
 use Rattle.tk_tour.specs.Reversal.{begun_at}
-use Rattle.tk_segments.specs.declared.run.Run.{Run}
 use Rattle.tk_tour.proofs.StoredTours.Places.{length-begun_at, begun_at-back}
+use Rattle.tk_segments.proofs.NoRun.{no_run}
 use Rattle.tk_segments.proofs.SeenTours.Writing.{written_at, written_more, written_all, length-written}
 use Rattle.tk_segments.proofs.writing.write_seen.Goals as goal
-
-abbrev none : Run
-none = record { low = 0; high = 0; start = 0; id = 0; next = 0; back = false }
 
 pub write_run_begun-requires-clause-fits : goal.write_run_begun-requires-clause-fits
 write_run_begun-requires-clause-fits c =
     let h = c.loop-k in
-    let w = written_at c.args.size h.k c.args.runs.now (get_or c.args.runs.now h.k none) none c.requires.laid
+    let w = written_at c.args.size h.k c.args.runs.now (get_or c.args.runs.now h.k no_run) no_run c.requires.laid
     c.loop-k-test.true refl in
     omega (arith, w.fits)
 
@@ -20,14 +17,14 @@ loop-k-preserved c =
     let h = c.loop-k in
     let n = c.args.size in
     let m = n - c.args.begin in
-    let run = get_or c.args.runs.now h.k none in
+    let run = get_or c.args.runs.now h.k no_run in
     let new = c.write_run_begun.new.list in
     let size = length-begun_at m h.list ∙ h.invariant.size in
     record {
       size = sym (length-begun_at m new)
-          ∙ length-written n h.k c.args.runs.now run none c.args.order.now (begun_at m h.list) (begun_at m new)
+          ∙ length-written n h.k c.args.runs.now run no_run c.args.order.now (begun_at m h.list) (begun_at m new)
           c.requires.laid c.loop-k-test.true refl (omega (arith, c.requires.length)) size c.write_run_begun.ensures;
-      written = written_more n h.k c.args.runs.now run none c.args.order.now (begun_at m h.list) (begun_at m new)
+      written = written_more n h.k c.args.runs.now run no_run c.args.order.now (begun_at m h.list) (begun_at m new)
           c.requires.laid c.loop-k-test.true refl (omega (arith, c.requires.length)) size h.invariant.written
           c.write_run_begun.ensures;
     }

@@ -1,24 +1,25 @@
-use Rattle.std.proofs.Common.{◌≡◌, ◌≤◌, ◌*◌, ◌∙◌, ap, ℕ, List, length, subst, arith}
-use Rattle.tk_segments.specs.Runs.{AreNamed, CanBeFound}
-use Rattle.tk_segments.specs.declared.run.Run.{Run}
-use Rattle.tk_segments.proofs.Fronts.{at_front}
-use Rattle.tk_segments.proofs.SeenTours.Names.{named_names, found_by_names, found_by_home, found_at_fronts}
+use Rattle.std.proofs.Common.{◌++◌, ◌∙◌, ap, length, take, drop}
+use Rattle.tk_segments.specs.Runs.{CanBeFound}
+use Rattle.tk_segments.proofs.SeenTours.Names.{named_names, found_by_names}
+use Rattle.tk_segments.proofs.SeenTours.Renaming.{AreRenamed, renamed}
 use Rattle.tk_segments.proofs.runs.Runs.turn.Goals as goal
 use Rattle.tk_segments.proofs.runs.Runs.turn.Goals.{After-name_runs}
 
--- the runs that are turned stand where their names say
-named : (c : After-name_runs) → AreNamed c.turn_seen-k.new.runs.items c.name_runs.new.home
-named c =
-    let P : List Run → Type 0 = λ u. AreNamed u c.name_runs.new.home in
-    subst P c.deref.ensures.value c.name_runs.ensures.named
-
--- the two lists that are written have the lengths of their vectors
-home_size : (c : After-name_runs) → length c.name_runs.new.home ≡ c.args.self.now.home.len
-home_size c =
-    omega (arith, c.name_runs.ensures.same_length, c.deref_mut-2.ensures.len, c.args.self.now.home.ok.0)
-
-table_size : (c : After-name_runs) → length c.turn_seen-k.new.table ≡ c.args.self.now.table.len
-table_size c = omega (arith, c.turn_seen-k.ensures.table, c.deref_mut.ensures.len, c.args.self.now.table.ok.0)
+-- the runs that are turned are named again
+turned : (c : After-name_runs) →
+    AreRenamed c.args.self.now c.turn_seen-k.new.runs.items
+    (take c.args.self.now.home.len (c.name_runs.new.home
+    ++ drop (length c.name_runs.new.home) c.args.self.now.home.items))
+    (take c.args.self.now.table.len (c.turn_seen-k.new.table
+    ++ drop (length c.turn_seen-k.new.table) c.args.self.now.table.items))
+turned c =
+    let s = c.args.self.now in
+    let k = c.turn_seen-k in
+    let found : CanBeFound s.size 32 s.runs.items c.deref_mut.result.now =
+    rw c.deref_mut.ensures.value (found_by_names s.size 32 s.runs.items s.home.items s.table.items s.found) in
+    renamed s k.new.runs.items c.deref.result.now c.name_runs.new.home k.new.table _ _ c.deref.ensures.value
+    (c.name_runs.ensures.same_length ∙ ap length c.deref_mut-2.ensures.value)
+    (k.ensures.table ∙ ap length c.deref_mut.ensures.value) c.name_runs.ensures.named (k.ensures.found found)
 
 pub name_runs-requires-clause-names : goal.name_runs-requires-clause-names
 name_runs-requires-clause-names c =
@@ -26,30 +27,13 @@ name_runs-requires-clause-names c =
     rw c.deref.ensures.value (c.turn_seen-k.ensures.names (named_names s.runs.items s.home.items s.named))
 
 pub invariant_of-self-clause-named : goal.invariant_of-self-clause-named
-invariant_of-self-clause-named c =
-    let before = (goal.at.invariant_of-self-clause-named c).After-name_runs in
-    let P : List ℕ → Type 0 = λ u. AreNamed c.turn_seen-k.new.runs.items u in
-    at_front P _ _ _ (home_size before) (named before)
+invariant_of-self-clause-named c = (turned (goal.at.invariant_of-self-clause-named c).After-name_runs).named
 
 pub invariant_of-self-clause-found : goal.invariant_of-self-clause-found
-invariant_of-self-clause-found c =
-    let s = c.args.self.now in
-    let before = (goal.at.invariant_of-self-clause-found c).After-name_runs in
-    let found : CanBeFound s.size 32 s.runs.items c.deref_mut.result.now =
-    rw c.deref_mut.ensures.value (found_by_names s.size 32 s.runs.items s.home.items s.table.items s.found) in
-    found_at_fronts s.size 32 _ _ _ _ _ _ _ (home_size before) (table_size before)
-    (found_by_home s.size 32 _ _ _ (named before) (c.turn_seen-k.ensures.found found))
+invariant_of-self-clause-found c = (turned (goal.at.invariant_of-self-clause-found c).After-name_runs).found
 
 pub invariant_of-self-clause-homes : goal.invariant_of-self-clause-homes
-invariant_of-self-clause-homes c =
-    let s = c.args.self.now in
-    let P : List ℕ → Type 0 = λ u. length u ≡ s.most in
-    at_front P _ _ _ (home_size (goal.at.invariant_of-self-clause-homes c).After-name_runs)
-    (c.name_runs.ensures.same_length ∙ ap length c.deref_mut-2.ensures.value ∙ s.homes)
+invariant_of-self-clause-homes c = (turned (goal.at.invariant_of-self-clause-homes c).After-name_runs).homes
 
 pub invariant_of-self-clause-buckets : goal.invariant_of-self-clause-buckets
-invariant_of-self-clause-buckets c =
-    let s = c.args.self.now in
-    let P : List ℕ → Type 0 = λ u. s.size ≤ 32 * length u in
-    at_front P _ _ _ (table_size (goal.at.invariant_of-self-clause-buckets c).After-name_runs)
-    (omega (arith, c.turn_seen-k.ensures.table, ap length c.deref_mut.ensures.value, s.buckets))
+invariant_of-self-clause-buckets c = (turned (goal.at.invariant_of-self-clause-buckets c).After-name_runs).buckets

@@ -1,107 +1,39 @@
-use Rattle.std.proofs.Common.{◌<◌, ◌≤◌, ◌+◌, ◌-◌, ◌*◌, ◌/◌, length, arith, rules}
-use Rattle.tk_tour.proofs.StoredTours.Places.{reversed_places-undone}
-use Rattle.std.proofs.Common.{◌≡◌, sym, ap, ◌∙◌, subst, ℕ, List}
-use Rattle.tk_tour.specs.Moves.{IsShorterSide, ReplacesSteps}
-use Rattle.tk_tour.specs.Tour.{next_city}
-use Rattle.tk_tour.specs.Reversal.{reversed_places}
-use Rattle.tk_tour.specs.ReversalLaws.{AreReversed-one}
-use Rattle.tk_tour.proofs.StoredTours.Cuts.{TwoOptMove-from_steps}
-use Rattle.tk_tour.proofs.StoredTours.Flips.{backward, only_backward, ReplacesSteps-backward, IsShorterSide-backward}
+use Rattle.std.proofs.Common.{◌/◌, rules}
+use Rattle.tk_tour.proofs.StoredTours.Sides.{IsFlipped, flipped}
 use Rattle.tk_tour.proofs.stores.array.ArrayTourTourStore.flip.Goals as goal
-use Rattle.tk_tour.proofs.stores.array.ArrayTourTourStore.flip.Goals.{then-next-b+then-next-d, else-next-b}
-use Rattle.tk_tour.proofs.stores.array.ArrayTourTourStore.flip.Goals.{else-next-b-via-then-next-b+else-next-d}
-use Rattle.tk_tour.proofs.stores.array.ArrayTourTourStore.flip.Goals.{else-next-b-via-else-next-b}
+use Rattle.tk_tour.proofs.stores.array.ArrayTourTourStore.flip.Goals.{After-reverse}
 
-pub shorter_side-requires-else-next-b : goal.shorter_side-requires-else-next-b
-shorter_side-requires-else-next-b c =
-    let s = c.args.self.now in
-    let r = c.requires in
-    let not_ahead : c.args.b ≡ next_city s.order.items c.args.a →
-    c.args.d ≡ next_city s.order.items c.args.c → ⊥ = λ e f.
-    elim c.else-next-b.branch [
-      | else-next-b-via-then-next-b+else-next-d w ↦ w.if-next-d.false
-          (w.next-then-next-b.ensures ∙ sym f)
-      | else-next-b-via-else-next-b w ↦ w.if-next-b.false (c.next.ensures
-          ∙ sym e)
-    ] in
-    let k = only_backward s.order.items c.args.a c.args.b c.args.c c.args.d r not_ahead in
-    let f = backward s.order.items s.place.items c.args.a c.args.b c.args.c c.args.d s.tour.2 s.inverse r.a_in r.c_in
-    r.apart k.0 k.1 in
-    record { a_in = f.a_in; c_in = f.c_in; apart = f.apart; b_after = f.b_after; d_after = f.d_after }
+-- the order is flipped
+order_flipped : (c : After-reverse) →
+    IsFlipped c.args.self.now.order.items c.reverse.new.self.order.items c.shorter_side-first.result.0
+    c.shorter_side-first.result.1 c.args.a c.args.b c.args.c c.args.d
+order_flipped c =
+    flipped _ _ _ _ _ _ _ _ c.args.self.now.tour c.requires c.shorter_side-first.ensures c.reverse.ensures.order
 
 pub returns-clause-steps : goal.returns-clause-steps
-returns-clause-steps c =
-    let xs = c.args.self.now.order.items in
-    let P : List ℕ → Type 0 = λ v. ReplacesSteps xs v c.args.a c.args.b c.args.c c.args.d in
-    elim c.if-next-b.branch [
-      | then-next-b+then-next-d w ↦
-          subst P (sym (c.reverse.ensures.order ∙ ap (λ v. reversed_places v.0 v.1 xs) w.first-is))
-          w.shorter_side.ensures.steps
-      | else-next-b w ↦
-          subst P (sym (c.reverse.ensures.order ∙ ap (λ v. reversed_places v.0 v.1 xs) w.first-is))
-          (ReplacesSteps-backward xs
-          (reversed_places w.shorter_side-else-next-b.result.0 w.shorter_side-else-next-b.result.1 xs) c.args.a
-          c.args.b c.args.c c.args.d w.shorter_side-else-next-b.ensures.steps)
-    ]
-
-pub returns-clause-side : goal.returns-clause-side
-returns-clause-side c =
-    let xs = c.args.self.now.order.items in
-    let P : ℕ → Type 0 = λ v. IsShorterSide xs v c.args.a c.args.b c.args.c c.args.d in
-    elim c.if-next-b.branch [
-      | then-next-b+then-next-d w ↦ subst P (sym (ap (λ v. v.1) w.first-is)) w.shorter_side.ensures.side
-      | else-next-b w ↦
-          subst P (sym (ap (λ v. v.1) w.first-is))
-          (IsShorterSide-backward xs w.shorter_side-else-next-b.result.1 c.args.a c.args.b c.args.c c.args.d
-          w.shorter_side-else-next-b.ensures.side)
-    ]
+returns-clause-steps c = (order_flipped (goal.at.returns-clause-steps c).After-reverse).steps
 
 pub returns-clause-made : goal.returns-clause-made
-returns-clause-made c =
-    TwoOptMove-from_steps _ _ _ _ _ _ c.args.self.now.tour c.requires (returns-clause-steps c)
-
-pub returns-clause-undone : goal.returns-clause-undone
-returns-clause-undone c =
-    let xs = c.args.self.now.order.items in
-    let ys = c.reverse.new.self.order.items in
-    let first = c.if-next-b.first.0 in
-    let count = c.if-next-b.first.1 in
-    let e : first + 1 - 1 ≡ first = omega arith in
-    let bounds : (first < length xs) × (2 * count ≤ length xs) =
-    elim c.if-next-b.branch [
-      | then-next-b+then-next-d w ↦ let k = w.shorter_side.ensures in
-          (omega (arith, ap (λ v. v.0) w.first-is, k.within), omega (arith, ap (λ v. v.1) w.first-is, k.shorter))
-      | else-next-b w ↦ let k = w.shorter_side-else-next-b.ensures in
-          (omega (arith, ap (λ v. v.0) w.first-is, k.within), omega (arith, ap (λ v. v.1) w.first-is, k.shorter))
-    ] in
-    ap (λ v. reversed_places v count ys) e
-    ∙ reversed_places-undone first count xs ys c.reverse.ensures.order (omega arith) (omega arith)
+returns-clause-made c = (order_flipped (goal.at.returns-clause-made c).After-reverse).made
 
 pub returns-clause-places : goal.returns-clause-places
-returns-clause-places c =
-    let xs = c.args.self.now.order.items in
-    let first = c.if-next-b.first.0 in
-    let count = c.if-next-b.first.1 in
-    let e : first + 1 - 1 ≡ first = omega arith in
-    c.reverse.ensures.order ∙ ap (λ v. reversed_places v count xs) (sym e)
+returns-clause-places c = (order_flipped (goal.at.returns-clause-places c).After-reverse).places
+
+pub returns-clause-undone : goal.returns-clause-undone
+returns-clause-undone c = (order_flipped (goal.at.returns-clause-undone c).After-reverse).undone
+
+pub returns-clause-side : goal.returns-clause-side
+returns-clause-side c = c.shorter_side-first.ensures.side
+
+pub returns-clause-size : goal.returns-clause-size
+returns-clause-size c = (order_flipped (goal.at.returns-clause-size c).After-reverse).size
 
 pub returns-clause-kept : goal.returns-clause-kept
 returns-clause-kept c =
-    let xs = c.args.self.now.order.items in
-    let ys = c.reverse.new.self.order.items in
-    let first = c.if-next-b.first.0 in
-    let count = c.if-next-b.first.1 in
-    let bounds : (first < length xs) × (2 * count ≤ length xs) =
-    elim c.if-next-b.branch [
-      | then-next-b+then-next-d w ↦ let k = w.shorter_side.ensures in
-          (omega (arith, ap (λ v. v.0) w.first-is, k.within), omega (arith, ap (λ v. v.1) w.first-is, k.shorter))
-      | else-next-b w ↦ let k = w.shorter_side-else-next-b.ensures in
-          (omega (arith, ap (λ v. v.0) w.first-is, k.within), omega (arith, ap (λ v. v.1) w.first-is, k.shorter))
-    ] in
     record {
       flips = 1;
-      swaps = count / 2;
-      reversed = AreReversed-one xs ys first count c.reverse.ensures.order bounds.0 bounds.1;
+      swaps = c.shorter_side-first.result.1 / 2;
+      reversed = (order_flipped (goal.at.returns-clause-kept c).After-reverse).reversed;
       flips_are = search rules;
       swaps_are = search rules;
       undo_swaps = c.reverse.ensures.counts.1;

@@ -1,7 +1,7 @@
 use Rattle.std.proofs.Common.{inl, inr, arith}
 use Rattle.std.proofs.lemmas.List.{get_or_read}
 use Rattle.tk_tour.proofs.StoredTours.Flips.{next_city_stored}
-use Rattle.tk_tour.proofs.stores.array.ArrayTourTourStore.next.Goals as goal
+use Rattle.tk_tour.proofs.stores.array.ArrayTourPlaced.city_after.Goals as goal
 
 pub returns-then-k-len : goal.returns-then-k-len
 returns-then-k-len c =

@@ -1,6 +1,6 @@
 use Rattle.std.proofs.Common.{length}
 use Rattle.tk_tour.proofs.StoredTours.Reversing.{Reversing}
-use Rattle.tk_tour.proofs.stores.reversal.reverse_round.Given as goal
+use Rattle.tk_tour.proofs.stores.reversal.reverse_places.Given as goal
 
 abbrev pub invariant-loop-done : goal.invariant-loop-done
 invariant-loop-done l =

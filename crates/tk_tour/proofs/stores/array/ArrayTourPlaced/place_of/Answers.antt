@@ -1,7 +1,7 @@
 use Rattle.std.proofs.Common.{◌≡◌, ◌-◌, ◌∙◌, ap, arith, get_or}
 use Rattle.std.proofs.lemmas.List.{get_or_read}
 use Rattle.tk_tour.proofs.Tours.{city_at_place}
-use Rattle.tk_tour.proofs.stores.array.ArrayTour.place_of.Goals as goal
+use Rattle.tk_tour.proofs.stores.array.ArrayTourPlaced.place_of.Goals as goal
 
 pub returns-clause-within : goal.returns-clause-within
 returns-clause-within c =

@@ -2,8 +2,8 @@ use Rattle.std.proofs.Common.{◌≡◌, ◌-◌, inl, inr, arith, get_or}
 use Rattle.std.proofs.lemmas.List.{get_or_read}
 use Rattle.tk_tour.proofs.StoredTours.Reversing.{at_place}
 use Rattle.tk_segments.proofs.SeenTours.Facts.{facts, seen_of, city_stands, city_of_spot, list_at}
-use Rattle.tk_segments.proofs.seen.SeenTour.place_of.Goals as goal
-use Rattle.tk_segments.proofs.seen.SeenTour.place_of.Goals.{After-spot_of-v}
+use Rattle.tk_segments.proofs.seen.SeenTourPlaced.place_of.Goals as goal
+use Rattle.tk_segments.proofs.seen.SeenTourPlaced.place_of.Goals.{After-spot_of-v}
 
 -- the city is what the spot shows
 seen_there : (c : After-spot_of-v) → get_or (seen_of c.args.self.now) c.spot_of-v.result.1 0 ≡ c.args.c

@@ -1,7 +1,7 @@
 use Rattle.std.proofs.Common.{◌≡◌, ◌<◌, ◌+◌, length, refl, arith}
-use Rattle.tk_tour.proofs.StoredTours.Reversing.{Reversing-more, Reversing-all}
-use Rattle.tk_tour.proofs.stores.reversal.reverse_round.Goals as goal
-use Rattle.tk_tour.proofs.stores.reversal.reverse_round.Goals.{then-high-eq0, else-high-eq0, then-low-n, else-low-n}
+use Rattle.tk_tour.proofs.StoredTours.Reversing.{Mirroring-all, Reversing-more}
+use Rattle.tk_tour.proofs.stores.reversal.reverse_places.Goals as goal
+use Rattle.tk_tour.proofs.stores.reversal.reverse_places.Goals.{then-high-eq0, else-high-eq0, then-low-n, else-low-n}
 
 pub loop-done-preserved : goal.loop-done-preserved
 loop-done-preserved c =
@@ -24,5 +24,5 @@ loop-done-preserved c =
 pub returns-clause-reversed : goal.returns-clause-reversed
 returns-clause-reversed c =
     let h = c.loop-done in
-    Reversing-all _ _ _ h.done h.low h.high _ _ h.place h.invariant c.requires.first_in c.requires.count_in
+    Mirroring-all _ _ _ h.done h.low h.high _ _ h.invariant.mirroring c.requires.first_in c.requires.count_in
     (omega arith)

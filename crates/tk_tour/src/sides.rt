@@ -1,0 +1,72 @@
+//! The two sides of a cut at two steps, of which a flip reverses the shorter one.
+ghost use Rattle.std.specs.Prelude.{◌≡◌, ◌≤◌, ◌<◌, ℕ, List, length, slice_index};
+ghost use Rattle.tk_problem.specs.declared.limits.TheConstants.{CITY_LIMIT};
+ghost use Rattle.tk_distance.specs.Cities.{IsCity};
+ghost use Rattle.tk_tour.specs.Moves.{AreForward, CanFlip, TurnsShorterSide};
+ghost use Rattle.tk_tour.specs.Places.{PathLength};
+ghost use Rattle.tk_tour.specs.Tour.{IsSizedTour, next_city};
+
+/// A tour that tells where its cities stand, seen as the list of its cities.
+pub trait Placed {
+    /// The cities in their order.
+    ghost cities: { Self → List ℕ };
+
+    /// How many cities there are.
+    fn city_count(&self) -> u32
+        ensures { result ≡ length (cities self.now) };
+
+    /// The city after c.
+    fn city_after(&self, c: u32) -> u32
+        requires { IsCity (length (cities self.now)) c }
+        ensures { result ≡ next_city (cities self.now) c };
+
+    /// Where the city stands, from 0.
+    fn place_of(&self, c: u32) -> u32
+        requires { IsCity (length (cities self.now)) c }
+        ensures within { result < length (cities self.now) }
+        ensures city { slice_index (cities self.now) result ≡ c };
+
+    ghost is_tour: { (s : Self) → IsSizedTour (cities s) };
+}
+
+// How many of n places on a cycle there are from one up to another.
+fn path_length(n: u32, from: u32, to: u32) -> u32
+    requires size { n ≤ CITY_LIMIT }
+    requires from_in { from < n }
+    requires to_in { to < n }
+    ensures length { PathLength n result from to }
+    ensures fits { result ≤ n }
+{
+    if from <= to {
+        to - from + 1
+    } else {
+        to + n - from + 1
+    }
+}
+
+// Where b comes after a and d after c: the places from b to c, or those from d to a where there are fewer of them, as
+// the first from 0 and their number.
+fn side_ahead<S: Placed>(tour: &S, a: u32, b: u32, c: u32, d: u32) -> (u32, u32)
+    requires { AreForward (S.cities tour.now) a b c d }
+    ensures { TurnsShorterSide (S.cities tour.now) result.0 result.1 a b c d }
+{
+    let n = tour.city_count();
+    let start = tour.place_of(b);
+    let inner = path_length(n, start, tour.place_of(c));
+    if inner <= n - inner {
+        return (start, inner);
+    }
+    (tour.place_of(d), n - inner)
+}
+
+/// The places that a flip of the steps a-b and c-d reverses, as the first from 0 and their number.
+pub fn shorter_side<S: Placed>(tour: &S, a: u32, b: u32, c: u32, d: u32) -> (u32, u32)
+    requires { CanFlip (S.cities tour.now) a b c d }
+    ensures { TurnsShorterSide (S.cities tour.now) result.0 result.1 a b c d }
+{
+    if tour.city_after(a) == b && tour.city_after(c) == d {
+        side_ahead(tour, a, b, c, d)
+    } else {
+        side_ahead(tour, d, c, b, a)
+    }
+}
