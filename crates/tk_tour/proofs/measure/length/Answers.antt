@@ -33,13 +33,13 @@ loop-city-preserved g c =
     let m = c.args.metric.now in
     let d = g.M.Metric.distance m in
     let h = c.loop-city in
-    let limit = tour_length-limit d DISTANCE_LIMIT c.args.cities.now (g.met.M.Metric.distance_limit m) in
+    let fits = overflow_add-total g c in
     let step = way_back-step d h.from c.in-Some.field-0-0.now h.city-index c.in-Some.others.now c.loop-city-test.true in
     record {
       from_in = city_in (g.M.Metric.size_of m) c.in-Some.field-0-0.now h.city-index c.args.cities.now
           c.in-Some.others.now c.in-Some.ensures.cases.0 c.requires.cities c.loop-city-test.true;
-      low = omega (arith, ints, limit, step, h.invariant.low, h.invariant.left, c.dist-total.ensures);
-      left = omega (arith, ints, limit, step, h.invariant.low, h.invariant.left, c.dist-total.ensures);
+      low = omega (arith, ints, fits, step, h.invariant.low, h.invariant.left, c.dist-total.ensures);
+      left = omega (arith, ints, fits, step, h.invariant.low, h.invariant.left, c.dist-total.ensures);
     }
 
 pub overflow_add-result : goal.overflow_add-result
@@ -56,6 +56,6 @@ returns g c =
     let m = c.args.metric.now in
     let d = g.M.Metric.distance m in
     let h = c.loop-city in
-    let limit = tour_length-limit d DISTANCE_LIMIT c.args.cities.now (g.met.M.Metric.distance_limit m) in
+    let fits = overflow_add-result g c in
     let end = way_back-end d h.from c.in-Some.field-0-0.now h.city-index c.in-Some.others.now c.loop-city-test.false in
-    omega (arith, ints, limit, end, h.invariant.low, h.invariant.left, c.dist.ensures)
+    omega (arith, ints, fits, end, h.invariant.low, h.invariant.left, c.dist.ensures)
