@@ -1,5 +1,5 @@
 //! Where something is seen: by which run, and at which place of the array.
-ghost use Rattle.std.specs.Prelude.{◌≡◌, ◌≤◌, ◌<◌, ◌+◌, ◌-◌, ◌*◌, ℕ, length, slice_index_or};
+ghost use Rattle.std.specs.Prelude.{◌≡◌, ◌≤◌, ◌<◌, ◌+◌, ◌-◌, ◌*◌, ◌^◌, ℕ, length, slice_index_or};
 ghost use Rattle.tk_problem.specs.declared.limits.TheConstants.{CITY_LIMIT};
 ghost use Rattle.tk_segments.specs.Runs.{AreLaidOut, AreNamed, CanBeFound, IsAfterPlace, IsSpot, size_before};
 ghost use Rattle.tk_segments.specs.declared.run.Run.{Run};
@@ -11,6 +11,30 @@ use crate::run::{Run, offset_in, place_in};
 pub struct Spot {
     pub index: usize,
     pub place: u32,
+}
+
+impl Spot {
+    // The place before it in the array.
+    fn lower(self) -> Spot
+        requires { 0 < self.place }
+        ensures { result ≡ record self { place = self.place - 1 } }
+    {
+        Spot {
+            place: self.place - 1,
+            ..self
+        }
+    }
+
+    // The place after it in the array.
+    fn upper(self) -> Spot
+        requires { self.place + 1 < 2 ^ 32 }
+        ensures { result ≡ record self { place = self.place + 1 } }
+    {
+        Spot {
+            place: self.place + 1,
+            ..self
+        }
+    }
 }
 
 /// The index of the run that shows what is seen at v.
@@ -95,16 +119,10 @@ pub fn after(runs: &[Run], size: u32, spot: Spot) -> Spot
     let run = runs[spot.index];
     if run.back {
         if spot.place > run.low {
-            return Spot {
-                place: spot.place - 1,
-                ..spot
-            };
+            return spot.lower();
         }
     } else if spot.place + 1 < run.high {
-        return Spot {
-            place: spot.place + 1,
-            ..spot
-        };
+        return spot.upper();
     }
     let index = if spot.index + 1 == runs.len() {
         0
@@ -127,16 +145,10 @@ pub fn before(runs: &[Run], size: u32, spot: Spot) -> Spot
     let run = runs[spot.index];
     if run.back {
         if spot.place + 1 < run.high {
-            return Spot {
-                place: spot.place + 1,
-                ..spot
-            };
+            return spot.upper();
         }
     } else if spot.place > run.low {
-        return Spot {
-            place: spot.place - 1,
-            ..spot
-        };
+        return spot.lower();
     }
     let index = if spot.index == 0 {
         runs.len() - 1
@@ -160,14 +172,7 @@ pub fn beside(runs: &[Run], size: u32, spot: Spot) -> (Spot, Spot)
 {
     let run = runs[spot.index];
     if run.low < spot.place && spot.place + 1 < run.high {
-        let lower = Spot {
-            place: spot.place - 1,
-            ..spot
-        };
-        let upper = Spot {
-            place: spot.place + 1,
-            ..spot
-        };
+        let (lower, upper) = (spot.lower(), spot.upper());
         return if run.back {
             (lower, upper)
         } else {
