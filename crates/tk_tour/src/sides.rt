@@ -30,6 +30,7 @@ pub trait Placed {
 }
 
 // How many of n places on a cycle there are from one up to another.
+#[inline]
 fn path_length(n: u32, from: u32, to: u32) -> u32
     requires size { n ≤ CITY_LIMIT }
     requires from_in { from < n }
