@@ -123,6 +123,13 @@ pub record CanBeFound (n bucket : ℕ) (runs : List Run) (table : List ℕ) : Ty
       Names runs (slice_index_or runs k d).next (slice_index_or runs k d).high
   pub early : (b : ℕ) → b < length table → b * bucket < n → Holds runs (slice_index table b) (b * bucket)
 
+-- runs that have changed: they are laid out, and have names and are found as before
+pub record StayFound (n bucket : ℕ) (old new : List Run) (old_table table : List ℕ) : Type 0 where
+  pub laid : AreLaidOut n new
+  pub names : HaveNames old → HaveNames new
+  pub found : CanBeFound n bucket old old_table → CanBeFound n bucket new table
+  pub table_size : length table ≡ length old_table
+
 -- the same, where home tells where the run of a name stands
 abbrev pub StandsAs : List Run → List ℕ → ℕ → ℕ → Type 0
 StandsAs runs home id low =

@@ -4,7 +4,7 @@ ghost use Rattle.std.specs.Prelude.{vec_len};
 ghost use Rattle.std.specs.List.{insert};
 ghost use Rattle.std.specs.Vec.{vec_capacity};
 ghost use Rattle.tk_problem.specs.declared.limits.TheConstants.{CITY_LIMIT};
-ghost use Rattle.tk_segments.specs.Runs.{AreLaidOut, CanBeFound, HaveNames, IsSplit, IsWithin, SameBefore};
+ghost use Rattle.tk_segments.specs.Runs.{AreLaidOut, IsSplit, IsWithin, SameBefore, StayFound};
 ghost use Rattle.tk_segments.specs.Runs.{run_size, shown, size_before};
 ghost use Rattle.tk_segments.specs.declared.run.Run.{Run};
 
@@ -63,15 +63,12 @@ pub fn cut_runs(runs: &mut Vec<Run>, table: &mut [u32], size: u32, v: u32) -> us
     ensures index { result ≤ vec_len runs.new }
     ensures begins { size_before result runs.new.items ≡ v }
     ensures shown { (order : List ℕ) → shown order runs.new.items ≡ shown order runs.old.items }
-    ensures laid { AreLaidOut size runs.new.items }
+    ensures kept { StayFound size 32 runs.old.items runs.new.items table.old table.new }
     ensures before { (i : ℕ) → i ≤ vec_len runs.old → size_before i runs.old.items ≤ v
         → size_before i runs.new.items ≡ size_before i runs.old.items }
     ensures more { (vec_len runs.old ≤ vec_len runs.new) × (vec_len runs.new ≤ vec_len runs.old + 1) }
     ensures capacity { vec_capacity runs.new ≡ vec_capacity runs.old }
-    ensures names { HaveNames runs.old.items → HaveNames runs.new.items }
     ensures same { SameBefore (result - 1) runs.old.items runs.new.items }
-    ensures found { CanBeFound size 32 runs.old.items table.old → CanBeFound size 32 runs.new.items table.new }
-    ensures table { length table.new ≡ length table.old }
 {
     if v == size {
         return runs.len();

@@ -4,8 +4,8 @@ ghost use Rattle.std.specs.List.{All};
 ghost use Rattle.std.specs.Vec.{vec_capacity};
 ghost use Rattle.tk_problem.specs.declared.limits.TheConstants.{CITY_LIMIT};
 ghost use Rattle.tk_tour.specs.Reversal.{begun_at, reversed_places};
-ghost use Rattle.tk_segments.specs.Runs.{AreLaidOut, CanBeFound, HaveNames, SameBefore, Shows, placed, run_size};
-ghost use Rattle.tk_segments.specs.Runs.{size_before, turned_run};
+ghost use Rattle.tk_segments.specs.Runs.{AreLaidOut, CanBeFound, HaveNames, SameBefore, Shows, StayFound, placed};
+ghost use Rattle.tk_segments.specs.Runs.{run_size, size_before, turned_run};
 
 use crate::run::Run;
 use crate::splitting::cut_runs;
@@ -61,13 +61,10 @@ pub fn turn_seen(runs: &mut Vec<Run>, table: &mut [u32], size: u32, first: u32, 
     requires range { (first < last) × (last ≤ size) }
     requires room { vec_len runs.old + 2 ≤ vec_capacity runs.old }
     ensures shown { Shows size (reversed_places first (last - first)) runs.old.items runs.new.items }
-    ensures laid { AreLaidOut size runs.new.items }
+    ensures kept { StayFound size 32 runs.old.items runs.new.items table.old table.new }
     ensures more { (vec_len runs.old ≤ vec_len runs.new) × (vec_len runs.new ≤ vec_len runs.old + 2) }
     ensures capacity { vec_capacity runs.new ≡ vec_capacity runs.old }
-    ensures names { HaveNames runs.old.items → HaveNames runs.new.items }
     ensures same { SameBefore result runs.old.items runs.new.items }
-    ensures found { CanBeFound size 32 runs.old.items table.old → CanBeFound size 32 runs.new.items table.new }
-    ensures table { length table.new ≡ length table.old }
 {
     let i = cut_runs(runs, table, size, first);
     let j = cut_runs(runs, table, size, last);
@@ -84,12 +81,9 @@ pub fn turn_rest(runs: &mut Vec<Run>, table: &mut [u32], size: u32, first: u32)
     requires first_in { first < size }
     requires room { vec_len runs.old < vec_capacity runs.old }
     ensures shown { Shows size (reversed_places first (size - first)) runs.old.items runs.new.items }
-    ensures laid { AreLaidOut size runs.new.items }
+    ensures kept { StayFound size 32 runs.old.items runs.new.items table.old table.new }
     ensures more { (vec_len runs.old ≤ vec_len runs.new) × (vec_len runs.new ≤ vec_len runs.old + 1) }
     ensures capacity { vec_capacity runs.new ≡ vec_capacity runs.old }
-    ensures names { HaveNames runs.old.items → HaveNames runs.new.items }
-    ensures found { CanBeFound size 32 runs.old.items table.old → CanBeFound size 32 runs.new.items table.new }
-    ensures table { length table.new ≡ length table.old }
 {
     let i = cut_runs(runs, table, size, first);
     let j = runs.len();
@@ -120,12 +114,9 @@ pub fn begin_seen(runs: &mut Vec<Run>, table: &mut [u32], size: u32, v: u32)
     requires v_in { v ≤ size }
     requires room { vec_len runs.old < vec_capacity runs.old }
     ensures shown { Shows size (begun_at v) runs.old.items runs.new.items }
-    ensures laid { AreLaidOut size runs.new.items }
+    ensures kept { StayFound size 32 runs.old.items runs.new.items table.old table.new }
     ensures more { (vec_len runs.old ≤ vec_len runs.new) × (vec_len runs.new ≤ vec_len runs.old + 1) }
     ensures capacity { vec_capacity runs.new ≡ vec_capacity runs.old }
-    ensures names { HaveNames runs.old.items → HaveNames runs.new.items }
-    ensures found { CanBeFound size 32 runs.old.items table.old → CanBeFound size 32 runs.new.items table.new }
-    ensures table { length table.new ≡ length table.old }
 {
     let k = cut_runs(runs, table, size, v);
     begin_run(runs, size, k);

@@ -1,12 +1,12 @@
 -- The names of runs: after a split, and where the runs stand in another order.
 use Rattle.std.proofs.Common.{◌≡◌, ◌≢◌, ℕ, true, false, ◌+◌, ◌-◌, ◌<◌, ◌≤◌, ⊎_elim, List, length, set, sym, ap, ◌∙◌}
-use Rattle.std.proofs.Common.{subst, arith, get_or}
+use Rattle.std.proofs.Common.{◌++◌, take, subst, arith, get_or}
 use Rattle.std.proofs.lemmas.Bool.{cases_lt}
 use Rattle.std.proofs.lemmas.List.{get_or_default, get_or-set_same, get_or-set_other}
 use Rattle.tk_segments.specs.Runs.{IsSplit, HaveNames, AreNamed, AreNamedTo, SameBefore, Names, Holds}
-use Rattle.tk_segments.specs.Runs.{CanBeFound, StandsAs}
-use Rattle.tk_segments.specs.Runs.{HoldsAs, AreFound}
+use Rattle.tk_segments.specs.Runs.{AreLaidOut, CanBeFound, StandsAs, HoldsAs, AreFound, StayFound}
 use Rattle.tk_segments.specs.declared.run.Run.{Run}
+use Rattle.tk_segments.proofs.Fronts.{at_front}
 use Rattle.tk_segments.proofs.NoRun.{no_run}
 use Rattle.tk_segments.proofs.SeenTours.Splitting.{cases_bool}
 use Rattle.tk_segments.proofs.SeenTours.Naming.{split_at, split_entry_before, split_entry_beyond}
@@ -300,6 +300,32 @@ found_by_home n bucket runs home table named h = record {
   next = λ k d lk lt. stands_as runs home _ _ named (h.next k d lk lt);
   early = λ b lb lt. holds_as runs home _ _ named (h.early b lb lt);
 }
+
+-- runs that change twice
+pub StayFound-trans : (n bucket : ℕ) (xs ys zs : List Run) (r s t : List ℕ) → StayFound n bucket xs ys r s →
+    StayFound n bucket ys zs s t → StayFound n bucket xs zs r t
+StayFound-trans n bucket xs ys zs r s t h k = record {
+  laid = k.laid;
+  names = λ names. k.names (h.names names);
+  found = λ found. k.found (h.found found);
+  table_size = k.table_size ∙ h.table_size;
+}
+
+-- runs that are turned round after a cut, over the front of their vector
+pub StayFound-front : (n bucket size : ℕ) (old cut told new rest : List Run) (before table : List ℕ) → told ≡ cut →
+    length new ≡ size → StayFound n bucket old cut before table → AreLaidOut n new → (HaveNames told → HaveNames new) →
+    ((t : List ℕ) → CanBeFound n bucket told t → CanBeFound n bucket new t) →
+    StayFound n bucket old (take size (new ++ rest)) before table
+StayFound-front n bucket size old cut told new rest before table e l h laid names found =
+    let P : List Run → Type 0 = λ u. StayFound n bucket old u before table in
+    let Q : List Run → Type 0 = λ u. CanBeFound n bucket u table in
+    at_front P size new rest l
+    (record {
+      laid = laid;
+      names = λ k. names (subst HaveNames (sym e) (h.names k));
+      found = λ k. found table (subst Q (sym e) (h.found k));
+      table_size = h.table_size;
+    })
 
 -- one more run that stands where its name says
 pub named_more : (runs : List Run) (home : List ℕ) (k : ℕ) (none : Run) → HaveNames runs → k < length runs →

@@ -1,5 +1,5 @@
 use Rattle.std.proofs.Common.{◌≡◌, true, false, ◌<◌, ◌≤◌, ◌+◌, ◌-◌, ◌∙◌, ap, sym, subst, ℕ, List, length, take, arith}
-use Rattle.std.proofs.Common.{get_or}
+use Rattle.std.proofs.Common.{refl, get_or}
 use Rattle.std.specs.Prelude.{sum_by}
 use Rattle.std.proofs.lemmas.List.{get_or_default}
 use Rattle.tk_segments.specs.Runs.{run_size, AreLaidOut, IsSplit, SameBefore}
@@ -75,11 +75,6 @@ returns-clause-shown c = λ order.
     let h = shows_at (goal.at.returns-clause-shown c).After-index in
     split_shows order _ _ _ _ h.index_in c.split_run.ensures.split
 
-pub returns-clause-laid : goal.returns-clause-laid
-returns-clause-laid c =
-    let h = shows_at (goal.at.returns-clause-laid c).After-index in
-    laid c.args.size _ c.args.v _ _ _ c.requires.laid h c.split_run.ensures.split
-
 pub returns-clause-begins : goal.returns-clause-begins
 returns-clause-begins c =
     let h = shows_at (goal.at.returns-clause-begins c).After-index in
@@ -105,11 +100,6 @@ new_part-requires-clause-index c =
     let s = c.split_run.ensures.split in
     omega (arith, (split_at _ _ _ _ s.run h.index_in s).0, h.index_in)
 
-pub returns-clause-names : goal.returns-clause-names
-returns-clause-names c = λ names.
-    let h = shows_at (goal.at.returns-clause-names c).After-index in
-    split_names _ _ _ _ h.index_in c.split_run.ensures.split names
-
 pub returns-clause-same : goal.returns-clause-same
 returns-clause-same c =
     let h = shows_at (goal.at.returns-clause-same c).After-index in
@@ -117,13 +107,27 @@ returns-clause-same c =
     let P : ℕ → Type 0 = λ u. SameBefore u c.args.runs.now.items c.split_run.new.runs.items in
     subst P e (split_same _ _ _ _ h.index_in c.split_run.ensures.split)
 
-pub returns-clause-found : goal.returns-clause-found
-returns-clause-found c = λ found.
-    let h = shows_at (goal.at.returns-clause-found c).After-index in
+pub returns-then-v-size-clause-kept : goal.returns-then-v-size-clause-kept
+returns-then-v-size-clause-kept c =
+    record { laid = c.requires.laid; names = λ names. names; found = λ found. found; table_size = refl }
+
+pub returns-then-start-v-clause-kept : goal.returns-then-start-v-clause-kept
+returns-then-start-v-clause-kept c =
+    record { laid = c.requires.laid; names = λ names. names; found = λ found. found; table_size = refl }
+
+pub returns-clause-kept : goal.returns-clause-kept
+returns-clause-kept c =
+    let h = shows_at (goal.at.returns-clause-kept c).After-index in
     let k = c.index_at-k.result in
+    let s = c.split_run.ensures.split in
     let P : List Run → Type 0 =
     λ u. ((d : Run) → (get_or u k d).back ≡ true → c.new_part.result ≡ get_or u k d)
     × ((d : Run) → (get_or u k d).back ≡ false → c.new_part.result ≡ get_or u (k + 1) d) in
     let is = subst P c.deref-2.ensures.value (c.new_part.ensures.behind, c.new_part.ensures.ahead) in
-    split_found c.args.size 32 _ _ c.args.table.now c.note_run.new.table _ _ c.new_part.result h.index_in
-    c.split_run.ensures.split is.0 is.1 c.note_run.ensures found
+    record {
+      laid = laid c.args.size _ c.args.v _ _ _ c.requires.laid h s;
+      names = split_names _ _ _ _ h.index_in s;
+      found = split_found c.args.size 32 _ _ c.args.table.now c.note_run.new.table _ _ c.new_part.result h.index_in s
+          is.0 is.1 c.note_run.ensures;
+      table_size = c.note_run.ensures.size;
+    }

@@ -2,10 +2,10 @@ use Rattle.std.proofs.Common.{◌≡◌, ◌<◌, ◌≤◌, ◌-◌, ◌∙◌,
 use Rattle.std.specs.Prelude.{sum_by}
 use Rattle.std.proofs.lemmas.Bool.{cases_lt}
 use Rattle.std.proofs.lemmas.List.{take_at}
-use Rattle.tk_segments.specs.Runs.{run_size, AreLaidOut, CanBeFound, HaveNames, SameBefore}
+use Rattle.tk_segments.specs.Runs.{run_size, SameBefore}
 use Rattle.tk_segments.specs.declared.run.Run.{Run}
 use Rattle.tk_segments.proofs.Fronts.{at_front}
-use Rattle.tk_segments.proofs.SeenTours.Names.{SameBefore-trans}
+use Rattle.tk_segments.proofs.SeenTours.Names.{SameBefore-trans, StayFound-front, StayFound-trans}
 use Rattle.tk_segments.proofs.SeenTours.Searching.{sum_mono}
 use Rattle.tk_segments.proofs.turning.turn_seen.Goals as goal
 
@@ -48,18 +48,13 @@ returns-clause-shown c = λ order le.
       c.cut_runs-i.ensures.shown order,
     )
 
-pub returns-clause-laid : goal.returns-clause-laid
-returns-clause-laid c =
-    at_front (AreLaidOut c.args.size) _ _ _
-    (omega (arith, c.cut_runs-j.new.runs.ok.0, c.deref_mut.ensures.len, c.turn_runs.ensures.same_length))
-    c.turn_runs.ensures.laid
-
-pub returns-clause-names : goal.returns-clause-names
-returns-clause-names c = λ names.
-    at_front HaveNames _ _ _
-    (omega (arith, c.cut_runs-j.new.runs.ok.0, c.deref_mut.ensures.len, c.turn_runs.ensures.same_length))
-    (c.turn_runs.ensures.names
-    (subst HaveNames (sym c.deref_mut.ensures.value) (c.cut_runs-j.ensures.names (c.cut_runs-i.ensures.names names))))
+pub returns-clause-kept : goal.returns-clause-kept
+returns-clause-kept c =
+    let turned = c.turn_runs.ensures in
+    StayFound-front c.args.size 32 _ _ _ c.deref_mut.result.now c.turn_runs.new.runs _ _ _ c.deref_mut.ensures.value
+    (omega (arith, c.cut_runs-j.new.runs.ok.0, c.deref_mut.ensures.len, turned.same_length))
+    (StayFound-trans c.args.size 32 _ _ _ _ _ _ c.cut_runs-i.ensures.kept c.cut_runs-j.ensures.kept)
+    turned.laid turned.names turned.found
 
 pub returns-clause-same : goal.returns-clause-same
 returns-clause-same c =
@@ -82,12 +77,3 @@ returns-clause-same c =
     (omega (arith, j.new.runs.ok.0, c.deref_mut.ensures.len, c.turn_runs.ensures.same_length))
     (SameBefore-trans (i.result - 1) i.result old j.new.runs.items new first
     (subst P c.deref_mut.ensures.value c.turn_runs.ensures.same) (omega arith)))
-
-pub returns-clause-found : goal.returns-clause-found
-returns-clause-found c = λ found.
-    let table = c.cut_runs-j.new.table in
-    let P : List Run → Type 0 = λ u. CanBeFound c.args.size 32 u table in
-    at_front P _ _ _
-    (omega (arith, c.cut_runs-j.new.runs.ok.0, c.deref_mut.ensures.len, c.turn_runs.ensures.same_length))
-    (c.turn_runs.ensures.found table
-    (subst P (sym c.deref_mut.ensures.value) (c.cut_runs-j.ensures.found (c.cut_runs-i.ensures.found found))))

@@ -13,7 +13,7 @@ begun_table c =
     let table = c.begin_seen.new.table in
     let P : List ℕ → Type 0 = λ u. u ≡ table in
     c.deref_mut-2.ensures.value
-    ∙ at_front P _ _ _ (omega (arith, c.begin_seen.ensures.table, c.deref_mut.ensures.len, s.table.ok.0)) refl
+    ∙ at_front P _ _ _ (omega (arith, c.begin_seen.ensures.kept.table_size, c.deref_mut.ensures.len, s.table.ok.0)) refl
 
 -- the runs that are begun and turned are named again
 begun : (c : After-name_runs) →
@@ -26,20 +26,21 @@ begun : (c : After-name_runs) →
     ++ drop (length c.begin_seen.new.table) c.args.self.now.table.items))))
 begun c =
     let s = c.args.self.now in
-    let k = c.turn_rest in
+    let first = c.begin_seen.ensures.kept in
+    let then = c.turn_rest.ensures.kept in
     let found : CanBeFound s.size 32 s.runs.items c.deref_mut.result.now =
     rw c.deref_mut.ensures.value (found_by_names s.size 32 s.runs.items s.home.items s.table.items s.found) in
     let P : List ℕ → Type 0 = λ u. CanBeFound s.size 32 c.begin_seen.new.runs.items u in
-    renamed s k.new.runs.items c.deref.result.now c.name_runs.new.home k.new.table _ _ c.deref.ensures.value
-    (c.name_runs.ensures.same_length ∙ ap length c.deref_mut-3.ensures.value)
-    (k.ensures.table ∙ ap length (begun_table c) ∙ c.begin_seen.ensures.table ∙ ap length c.deref_mut.ensures.value)
-    c.name_runs.ensures.named (k.ensures.found (subst P (sym (begun_table c)) (c.begin_seen.ensures.found found)))
+    renamed s c.turn_rest.new.runs.items c.deref.result.now c.name_runs.new.home c.turn_rest.new.table _ _
+    c.deref.ensures.value (c.name_runs.ensures.same_length ∙ ap length c.deref_mut-3.ensures.value)
+    (then.table_size ∙ ap length (begun_table c) ∙ first.table_size ∙ ap length c.deref_mut.ensures.value)
+    c.name_runs.ensures.named (then.found (subst P (sym (begun_table c)) (first.found found)))
 
 pub name_runs-requires-clause-names : goal.name_runs-requires-clause-names
 name_runs-requires-clause-names c =
     let s = c.args.self.now in
     let names = named_names s.runs.items s.home.items s.named in
-    rw c.deref.ensures.value (c.turn_rest.ensures.names (c.begin_seen.ensures.names names))
+    rw c.deref.ensures.value (c.turn_rest.ensures.kept.names (c.begin_seen.ensures.kept.names names))
 
 pub invariant_of-self-clause-named : goal.invariant_of-self-clause-named
 invariant_of-self-clause-named c = (begun (goal.at.invariant_of-self-clause-named c).After-name_runs).named

@@ -14,17 +14,17 @@ turned : (c : After-name_runs) →
     ++ drop (length c.turn_seen-k.new.table) c.args.self.now.table.items))
 turned c =
     let s = c.args.self.now in
-    let k = c.turn_seen-k in
+    let kept = c.turn_seen-k.ensures.kept in
     let found : CanBeFound s.size 32 s.runs.items c.deref_mut.result.now =
     rw c.deref_mut.ensures.value (found_by_names s.size 32 s.runs.items s.home.items s.table.items s.found) in
-    renamed s k.new.runs.items c.deref.result.now c.name_runs.new.home k.new.table _ _ c.deref.ensures.value
-    (c.name_runs.ensures.same_length ∙ ap length c.deref_mut-2.ensures.value)
-    (k.ensures.table ∙ ap length c.deref_mut.ensures.value) c.name_runs.ensures.named (k.ensures.found found)
+    renamed s c.turn_seen-k.new.runs.items c.deref.result.now c.name_runs.new.home c.turn_seen-k.new.table _ _
+    c.deref.ensures.value (c.name_runs.ensures.same_length ∙ ap length c.deref_mut-2.ensures.value)
+    (kept.table_size ∙ ap length c.deref_mut.ensures.value) c.name_runs.ensures.named (kept.found found)
 
 pub name_runs-requires-clause-names : goal.name_runs-requires-clause-names
 name_runs-requires-clause-names c =
     let s = c.args.self.now in
-    rw c.deref.ensures.value (c.turn_seen-k.ensures.names (named_names s.runs.items s.home.items s.named))
+    rw c.deref.ensures.value (c.turn_seen-k.ensures.kept.names (named_names s.runs.items s.home.items s.named))
 
 pub invariant_of-self-clause-named : goal.invariant_of-self-clause-named
 invariant_of-self-clause-named c = (turned (goal.at.invariant_of-self-clause-named c).After-name_runs).named
