@@ -1,8 +1,8 @@
 -- What is seen of a tour through runs of its array.
-use Rattle.std.specs.Prelude.{ℕ, ◌+◌, ◌-◌, List, length, vec_len}
-use Rattle.tk_tour.specs.Reversal.{begun_at}
+use Rattle.std.specs.Prelude.{◌≡◌, ℕ, ◌+◌, ◌-◌, ◌/◌, ◌≤◌, List, length, vec_len}
+use Rattle.tk_tour.specs.Reversal.{begun_at, reversed_places}
 use Rattle.tk_segments.specs.Runs.{shown}
-use Rattle.tk_segments.specs.Writes.{ArePaid}
+use Rattle.tk_segments.specs.Writes.{ArePaid, changed}
 use Rattle.tk_segments.specs.declared.seen.SeenTour.{SeenTour}
 
 -- what the runs show, begun where the list begins
@@ -26,3 +26,12 @@ abbrev pub StaysPaid : SeenTour → SeenTour → ℕ → ℕ → Type 0
 StaysPaid old new written swapped = (writes swaps : ℕ) →
     ArePaid (length (list_of old)) (room_of old) writes (run_count_of old) swaps →
     ArePaid (length (list_of old)) (room_of old) (writes + written) (run_count_of new) (swaps + swapped)
+
+-- `count` places of the list from the first on, from 0, are reversed; so many places of the array are written for it
+pub record IsReversed (old new : SeenTour) (first count cost : ℕ) : Type 0 where
+  pub list : list_of new ≡ reversed_places first count (list_of old)
+  pub paid : StaysPaid old new cost (count / 2)
+  pub room : room_of new ≡ room_of old
+  pub small : cost ≤ length (list_of old)
+  pub written : changed (array_of old) (array_of new) ≤ cost
+  pub size : length (array_of new) ≡ length (array_of old)

@@ -56,7 +56,7 @@ impl Placed for SeenTour {
 }
 
 impl SeenTour {
-    ghost use Rattle.tk_segments.specs.SeenTours.{StaysPaid, array_of, list_of, room_of, run_count_of};
+    ghost use Rattle.tk_segments.specs.SeenTours.{IsReversed, array_of, list_of, room_of, run_count_of};
 
     /// The tour stands as the list does.
     pub fn new(
@@ -155,12 +155,7 @@ impl SeenTour {
     pub fn reverse(&mut self, first: u32, count: u32) -> u64
         requires first { first < length (list_of self.old) }
         requires count { 2 * count ≤ length (list_of self.old) }
-        ensures list { list_of self.new ≡ reversed_places first count (list_of self.old) }
-        ensures paid { StaysPaid self.old self.new result (count / 2) }
-        ensures room { room_of self.new ≡ room_of self.old }
-        ensures small { result ≤ length (list_of self.old) }
-        ensures written { changed (array_of self.old) (array_of self.new) ≤ result }
-        ensures size { length (array_of self.new) ≡ length (array_of self.old) }
+        ensures { IsReversed self.old self.new first count result }
     {
         let v = self.seen_from(first);
         if count <= self.short {
@@ -176,12 +171,7 @@ impl SeenTour {
     pub fn undo(&mut self, first: u32, count: u32) -> u64
         requires first { first < length (list_of self.old) }
         requires count { 2 * count ≤ length (list_of self.old) }
-        ensures list { list_of self.new ≡ reversed_places first count (list_of self.old) }
-        ensures paid { StaysPaid self.old self.new result (count / 2) }
-        ensures room { room_of self.new ≡ room_of self.old }
-        ensures small { result ≤ length (list_of self.old) }
-        ensures written { changed (array_of self.old) (array_of self.new) ≤ result }
-        ensures size { length (array_of self.new) ≡ length (array_of self.old) }
+        ensures { IsReversed self.old self.new first count result }
     {
         let written = self.reverse(first, count);
         if count <= self.short {
