@@ -64,10 +64,14 @@ tally_of u s tour = record {
   copied = u.copy_count tour;
 }
 
+-- what flips alone do to its tour
+abbrev pub AreFlipped : {S : Type 0} → undo.Ghosts S → Ghosts S → S → S → Type 0
+AreFlipped u s old new = OnlyFlips (tally_of u s old) (tally_of u s new)
+
 -- what flips alone do: they are counted, and as long as none is lost, a rewind goes back as far, and takes their swaps
 pub record KeepsSettled {S : Type 0} {u : undo.Ghosts S} {s : Ghosts S} (old new : JournalTour S u s) : Type 0 where
   pub slots : slots_of new ≡ slots_of old
-  pub flipped : OnlyFlips (tally_of u s (tour_of old)) (tally_of u s (tour_of new))
+  pub flipped : AreFlipped u s (tour_of old) (tour_of new)
   pub flips : flips_since new ≡ saturated (flips_since old + flipped.flips)
   pub settled : flips_since new ≤ slots_of new → settled_order new ≡ settled_order old
   pub swaps : flips_since new ≤ slots_of new → swaps_to_rewind new ≡ swaps_to_rewind old + flipped.swaps
