@@ -5,6 +5,8 @@
 #[cfg(test)]
 mod descents;
 #[cfg(test)]
+mod given;
+#[cfg(test)]
 mod metric;
 #[cfg(test)]
 mod places;

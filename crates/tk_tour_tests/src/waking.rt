@@ -2,7 +2,6 @@
 ghost use Rattle.std.specs.Prelude.{◌≡◌};
 
 use std::process::Abort;
-use std::test::Fail;
 use tk_descent::Waking;
 
 /// This city is the next to be taken, or none is.
@@ -13,8 +12,8 @@ fn expect_next(rt: &impl Abort, waking: &mut Waking, want: Option<u32>)
 }
 
 #[test]
-fn wakes_in_order(rt: HostRuntime) -> Result<(), Fail> {
-    let mut waking = Waking::new(rt.alloc(), 3)?;
+fn wakes_in_order(rt: HostRuntime) {
+    let mut waking = Waking::new(rt.alloc(), 3).expect(&rt, "memory for the cities awake");
     waking.wake_all();
     waking.wake(2);
     expect_next(&rt, &mut waking, Some(1));
@@ -25,5 +24,4 @@ fn wakes_in_order(rt: HostRuntime) -> Result<(), Fail> {
     expect_next(&rt, &mut waking, Some(3));
     expect_next(&rt, &mut waking, Some(1));
     expect_next(&rt, &mut waking, None);
-    Ok(())
 }

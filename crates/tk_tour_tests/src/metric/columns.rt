@@ -2,9 +2,9 @@
 ghost use Rattle.std.specs.Prelude.{◌≤◌};
 ghost use Rattle.tk_problem.specs.declared.limits.TheConstants.{CITY_LIMIT};
 
-use crate::metric::lists::expect;
-use std::test::Fail;
-use tk_metric::{Metric, Planar, near_scan, near_sweep};
+use crate::given::near_of;
+use crate::metric::lists::{expect, near_by_sweep};
+use tk_metric::{Metric, Planar};
 use tk_text::Point;
 
 /// Cities in ten columns, where the columns alone tell how far two cities are apart.
@@ -64,12 +64,11 @@ impl Planar for Columns {
 }
 
 #[test]
-fn sweeps_a_metric_in_which_y_tells_nothing(rt: HostRuntime) -> Result<(), Fail> {
+fn sweeps_a_metric_in_which_y_tells_nothing(rt: HostRuntime) {
     let columns = Columns { cities: 12 };
     let want = [
         11, 2, 12, 1, 2, 4, 3, 5, 4, 6, 5, 7, 6, 8, 7, 9, 8, 7, 1, 11, 1, 2, 2, 1,
     ];
-    expect(&rt, &near_scan(rt.alloc(), &columns, 2)?, &want);
-    expect(&rt, &near_sweep(rt.alloc(), &columns, 2)?, &want);
-    Ok(())
+    expect(&rt, &near_of(&rt, rt.alloc(), &columns, 2), &want);
+    expect(&rt, &near_by_sweep(&rt, rt.alloc(), &columns, 2), &want);
 }

@@ -1,20 +1,23 @@
 //! Distances of coordinates with up to three decimals, which are kept as whole numbers of a unit: each is also computed
 //! from coordinates that are kept in units of 10^-9.
-use std::alloc::{AllocError, Global};
+use crate::places::{ORIGIN, planes_of, points_of, unit_of};
+use std::alloc::Global;
 use std::process::Abort;
-use std::test::Fail;
-use tk_metric::{Metric, Planes};
-use tk_text::{Places, PlaneKind, Point, Points, Unit};
-
-const FAR: u64 = 1_000_000_000_000_000_000;
+use tk_metric::Metric;
+use tk_text::{PlaneKind, Point, Points, Unit};
 
 /// A place that is a whole number of no unit.
 const SPECK: Point = Point { x: 1, y: 0 };
 
-const ORIGIN: Point = Point { x: 0, y: 0 };
+const KINDS: [PlaneKind; 5] = [
+    PlaneKind::Euc2d,
+    PlaneKind::Ceil2d,
+    PlaneKind::Man2d,
+    PlaneKind::Max2d,
+    PlaneKind::Att,
+];
 
-/// Two places in thousandths, the unit that both are kept in, and their distance by EUC_2D, CEIL_2D, MAN_2D, MAX_2D
-/// and ATT.
+/// Two places in thousandths, the unit that both are kept in, and their distance by each kind.
 #[derive(Clone, Copy)]
 struct Row {
     unit: Option<Unit>,
@@ -30,76 +33,48 @@ fn place_of((x, y): (i64, i64)) -> Point {
     }
 }
 
-/// Writes a place, if it is not too far away.
-fn put(points: &mut Points, index: usize, place: Point) -> Result<(), AllocError> {
-    let near = place.x.unsigned_abs() <= FAR && place.y.unsigned_abs() <= FAR;
-    if near && index < points.len() {
-        points.set(index, place)?;
-    }
-    Ok(())
-}
-
-fn list_of(alloc: Global, places: [Point; 3]) -> Result<Points, AllocError> {
-    let mut points = Points::at_origin(alloc, 3)?;
-    put(&mut points, 0, places[0])?;
-    put(&mut points, 1, places[1])?;
-    put(&mut points, 2, places[2])?;
-    Ok(points)
-}
-
-/// The unit that a list keeps its places in.
-fn unit_of(points: &Points) -> Option<Unit> {
-    match points.places() {
-        Places::Whole(unit, _) => Some(unit),
-        Places::Fine(_) => None,
-    }
-}
-
-/// The distance of the first two places by a metric, both by `dist` and by `is_nearer`.
+/// The distance of the first two of three places by a metric, both by `dist` and by `is_nearer`.
 fn expect_distance<M: Metric>(rt: &impl Abort, metric: &M, want: i64) {
     assert!(rt; metric.size() == 3);
-    assert!(rt; metric.dist(1, 2) == want);
-    assert!(rt; metric.dist(2, 1) == want);
-    assert!(rt; metric.is_nearer(1, 2, want.wrapping_add(1)));
-    assert!(rt; !metric.is_nearer(1, 2, want));
+    assert!(rt; metric.dist(1, 2) == want && metric.dist(2, 1) == want && metric.dist(2, 2) == 0);
+    assert!(rt; metric.is_nearer(1, 2, want.wrapping_add(1)) && !metric.is_nearer(1, 2, want));
 }
 
-/// The distances of the first two places of a list.
-fn expect_distances(rt: &impl Abort, points: &Points, distances: [i64; 5]) {
-    let [euclidean, rounded_up, manhattan, maximum, pseudo_euclidean] = distances;
-    for (kind, want) in [
-        (PlaneKind::Euc2d, euclidean),
-        (PlaneKind::Ceil2d, rounded_up),
-        (PlaneKind::Man2d, manhattan),
-        (PlaneKind::Max2d, maximum),
-        (PlaneKind::Att, pseudo_euclidean),
-    ] {
-        assert!(rt; points.len() == 3);
-        let planes = Planes::new(kind, points);
-        expect_distance(rt, &planes, want);
-        if let Some(euclid) = planes.euclid() {
+/// The same by a kind of the plane. Places in a unit have a metric of their own for EUC_2D.
+fn expect_kind(rt: &impl Abort, points: &Points, unit: Option<Unit>, kind: PlaneKind, want: i64) {
+    let planes = planes_of(rt, kind, points);
+    expect_distance(rt, &planes, want);
+    let own = kind == PlaneKind::Euc2d && unit.is_some();
+    match planes.euclid() {
+        Some(euclid) => {
+            assert!(rt; own);
             expect_distance(rt, &euclid, want);
         }
+        None => assert!(rt; !own),
+    }
+}
+
+/// The unit of three places, and the distances of the first two.
+fn expect_distances(rt: &impl Abort, points: &Points, unit: Option<Unit>, distances: &[i64; 5]) {
+    assert!(rt; unit_of(points) == unit);
+    for k in 0..5 {
+        expect_kind(rt, points, unit, KINDS[k], distances[k]);
     }
 }
 
 /// The distances of a row, in its unit and in units of 10^-9.
-fn expect_row(rt: &impl Abort, alloc: Global, row: &Row) -> Result<(), Fail> {
+fn expect_row(rt: &impl Abort, alloc: Global, row: &Row) {
     let (from, to) = (place_of(row.from), place_of(row.to));
-    let points = list_of(alloc, [from, to, ORIGIN])?;
-    assert!(rt; unit_of(&points) == row.unit);
-    expect_distances(rt, &points, row.distances);
-    let fine = list_of(alloc, [from, to, SPECK])?;
-    assert!(rt; unit_of(&fine).is_none());
-    expect_distances(rt, &fine, row.distances);
-    Ok(())
+    let points = points_of(rt, alloc, &[from, to, ORIGIN]);
+    expect_distances(rt, &points, row.unit, &row.distances);
+    let fine = points_of(rt, alloc, &[from, to, SPECK]);
+    expect_distances(rt, &fine, None, &row.distances);
 }
 
-fn expect_rows(rt: &impl Abort, alloc: Global, rows: &[Row]) -> Result<(), Fail> {
+fn expect_rows(rt: &impl Abort, alloc: Global, rows: &[Row]) {
     for row in rows {
-        expect_row(rt, alloc, row)?;
+        expect_row(rt, alloc, row);
     }
-    Ok(())
 }
 
 fn between(unit: Option<Unit>, from: (i64, i64), to: (i64, i64), distances: [i64; 5]) -> Row {
@@ -112,9 +87,17 @@ fn between(unit: Option<Unit>, from: (i64, i64), to: (i64, i64), distances: [i64
 }
 
 #[test]
-fn whole_numbers(rt: HostRuntime) -> Result<(), Fail> {
+fn whole_numbers(rt: HostRuntime) {
     let rows = [
         between(Some(Unit::One), (0, 0), (3_000, 4_000), [5, 5, 7, 4, 2]),
+        between(Some(Unit::One), (0, 0), (1_000, 1_000), [1, 2, 2, 1, 1]),
+        between(Some(Unit::One), (0, 0), (1_000, 3_000), [3, 4, 4, 3, 1]),
+        between(
+            Some(Unit::One),
+            (0, 0),
+            (10_000, 10_000),
+            [14, 15, 20, 10, 5],
+        ),
         between(
             Some(Unit::One),
             (-1_000_000_000_000, -1_000_000_000_000),
@@ -128,13 +111,16 @@ fn whole_numbers(rt: HostRuntime) -> Result<(), Fail> {
             ],
         ),
     ];
-    expect_rows(&rt, rt.alloc(), &rows)
+    expect_rows(&rt, rt.alloc(), &rows);
 }
 
 #[test]
-fn tenths(rt: HostRuntime) -> Result<(), Fail> {
+fn tenths(rt: HostRuntime) {
     let rows = [
         between(Some(Unit::Tenth), (0, 0), (1_500, 2_000), [3, 3, 4, 2, 1]),
+        between(Some(Unit::Tenth), (0, 0), (0, 500), [1, 1, 1, 1, 1]),
+        between(Some(Unit::Tenth), (0, 0), (1_200, 1_300), [2, 2, 3, 1, 1]),
+        between(Some(Unit::Tenth), (0, 0), (2_400, 2_500), [3, 4, 5, 3, 2]),
         between(Some(Unit::Tenth), (0, 0), (300, 400), [1, 1, 1, 0, 1]),
         between(Some(Unit::Tenth), (0, 0), (200, 400), [0, 1, 1, 0, 1]),
         between(
@@ -156,11 +142,11 @@ fn tenths(rt: HostRuntime) -> Result<(), Fail> {
             ],
         ),
     ];
-    expect_rows(&rt, rt.alloc(), &rows)
+    expect_rows(&rt, rt.alloc(), &rows);
 }
 
 #[test]
-fn hundredths(rt: HostRuntime) -> Result<(), Fail> {
+fn hundredths(rt: HostRuntime) {
     let rows = [
         between(
             Some(Unit::Hundredth),
@@ -193,11 +179,11 @@ fn hundredths(rt: HostRuntime) -> Result<(), Fail> {
             [28_284_271, 28_284_272, 40_000_000, 20_000_000, 8_944_272],
         ),
     ];
-    expect_rows(&rt, rt.alloc(), &rows)
+    expect_rows(&rt, rt.alloc(), &rows);
 }
 
 #[test]
-fn thousandths(rt: HostRuntime) -> Result<(), Fail> {
+fn thousandths(rt: HostRuntime) {
     let rows = [
         between(
             Some(Unit::Thousandth),
@@ -231,11 +217,11 @@ fn thousandths(rt: HostRuntime) -> Result<(), Fail> {
             [2_828_427, 2_828_428, 4_000_000, 2_000_000, 894_428],
         ),
     ];
-    expect_rows(&rt, rt.alloc(), &rows)
+    expect_rows(&rt, rt.alloc(), &rows);
 }
 
 #[test]
-fn too_far_for_their_unit(rt: HostRuntime) -> Result<(), Fail> {
+fn too_far_for_their_unit(rt: HostRuntime) {
     let rows = [
         between(
             None,
@@ -268,5 +254,15 @@ fn too_far_for_their_unit(rt: HostRuntime) -> Result<(), Fail> {
             ],
         ),
     ];
-    expect_rows(&rt, rt.alloc(), &rows)
+    expect_rows(&rt, rt.alloc(), &rows);
+}
+
+#[test]
+fn just_less_than_a_half(rt: HostRuntime) {
+    let half = Point {
+        x: 0,
+        y: 499_999_999,
+    };
+    let points = points_of(&rt, rt.alloc(), &[ORIGIN, half, ORIGIN]);
+    expect_distances(&rt, &points, None, &[0, 1, 0, 0, 1]);
 }

@@ -1,10 +1,12 @@
 //! Cuts and kicks by example.
 
+use crate::given::{EIGHT, expect_printed, tour_of};
 use rand_core::{Rng, SeedableRng};
 use rand_pcg::Pcg32;
-use std::test::Fail;
+use std::alloc::Global;
+use std::process::Abort;
 use tk_build::{Cuts, kick};
-use tk_tour::{ArrayTour, TourStore};
+use tk_tour::TourStore;
 
 #[test]
 fn draws_cuts_by_the_words(rt: HostRuntime) {
@@ -20,26 +22,32 @@ fn draws_cuts_by_the_words(rt: HostRuntime) {
     }
 }
 
+/// The cuts of eight cities in their order have these ends, and a kick leads to this tour.
+fn expect_kick(rt: &impl Abort, alloc: Global, cuts: Cuts, ends: [u32; 8], want: &[u32]) {
+    let mut tour = tour_of(rt, alloc, &EIGHT);
+    assert!(rt; tour.size() == 8);
+    assert!(rt; 1 <= cuts.p && cuts.p < cuts.q && cuts.q < cuts.r && cuts.r < 8);
+    assert!(rt; cuts.ends(&tour) == ends);
+    kick(&mut tour, cuts);
+    expect_printed(rt, alloc, &tour, want);
+}
+
 #[test]
-fn kicks_parts_of_two_cities_and_of_one(rt: HostRuntime) -> Result<(), Fail> {
-    let rows = [
-        (
-            Cuts { p: 2, q: 4, r: 6 },
-            [1, 2, 3, 4, 5, 6, 7, 8],
-            [1, 2, 7, 8, 5, 6, 3, 4],
-        ),
-        (
-            Cuts { p: 1, q: 2, r: 3 },
-            [1, 1, 2, 2, 3, 3, 4, 8],
-            [1, 2, 3, 8, 7, 6, 5, 4],
-        ),
-    ];
-    for (cuts, ends, want) in rows {
-        let mut tour = ArrayTour::from_list(rt.alloc(), &[1, 2, 3, 4, 5, 6, 7, 8])?;
-        assert!(rt; cuts.ends(&tour) == ends);
-        kick(&mut tour, cuts);
-        let printed = tour.canonical(rt.alloc())?;
-        assert!(rt; printed.as_slice() == want.as_slice());
-    }
-    Ok(())
+fn kicks_parts_of_two_cities_and_of_one(rt: HostRuntime) {
+    let two = Cuts { p: 2, q: 4, r: 6 };
+    expect_kick(
+        &rt,
+        rt.alloc(),
+        two,
+        [1, 2, 3, 4, 5, 6, 7, 8],
+        &[1, 2, 7, 8, 5, 6, 3, 4],
+    );
+    let one = Cuts { p: 1, q: 2, r: 3 };
+    expect_kick(
+        &rt,
+        rt.alloc(),
+        one,
+        [1, 1, 2, 2, 3, 3, 4, 8],
+        &[1, 2, 3, 8, 7, 6, 5, 4],
+    );
 }

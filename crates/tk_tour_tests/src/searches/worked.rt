@@ -1,16 +1,16 @@
 //! Searches by example. The numbers are those of another program, which was written from the rules of the search.
-ghost use Rattle.std.specs.Prelude.{◌≡◌, ◌<◌};
+ghost use Rattle.std.specs.Prelude.{◌≡◌};
 
-use crate::places::places;
+use crate::given::{expect_report, near_of, tour_of};
+use crate::places::{WHOLE, places, planes_of};
 use rand_core::SeedableRng;
 use rand_pcg::Pcg32;
 use std::alloc::Global;
 use std::process::Abort;
-use std::test::Fail;
 use tk_build::{Search, SearchRules, Totals, TrialReport};
-use tk_metric::{Metric, Near, Planes, Triangle, near_scan};
+use tk_metric::{Metric, Near, Triangle};
 use tk_text::PlaneKind;
-use tk_tour::{ArrayTour, TourStore};
+use tk_tour::TourStore;
 
 // A search from a list.
 fn begin<'a, M: Metric>(
@@ -20,28 +20,20 @@ fn begin<'a, M: Metric>(
     near: &'a Near,
     start: &[u32],
     rules: SearchRules,
-) -> Result<Search<'a, M>, Fail>
+) -> Search<'a, M>
     requires { near.now.size ≡ M.size_of metric.now }
 {
-    let start = ArrayTour::from_list(alloc, start)?;
+    let start = tour_of(rt, alloc, start);
     assert!(rt; start.size() == metric.size());
     assert!(rt; 1 <= rules.or_segment && rules.or_segment <= 3);
-    Ok(Search::new(alloc, metric, near, start, rules)?)
+    Search::new(alloc, metric, near, start, rules).expect(rt, "memory for a search")
 }
 
 // What a trial did: the lengths before and after; the moves, looks, tests, swaps and passes.
-fn expect_report(rt: &impl Abort, report: &TrialReport, lengths: [i64; 2], counts: [u64; 5]) {
-    let descent = &report.descent;
-    assert!(rt; [descent.before, descent.after] == lengths);
-    assert!(rt;
-        [
-            descent.moves,
-            descent.looks,
-            descent.tests,
-            descent.swaps,
-            report.passes
-        ] == counts
-    );
+fn expect_trial(rt: &impl Abort, report: &TrialReport, lengths: [i64; 2], counts: [u64; 5]) {
+    let [moves, looks, tests, swaps, passes] = counts;
+    expect_report(rt, &report.descent, lengths, [moves, looks, tests, swaps]);
+    assert!(rt; report.passes == passes);
 }
 
 // A search on fewer than 8 cities: a trial, and then none. The counts are those of segments of at most 1, 2 and 3
@@ -60,8 +52,8 @@ struct Few<'a> {
 fn expect_trials<M: Metric>(rt: &impl Abort, search: &mut Search<M>, few: &Few, counts: [u64; 5]) {
     let mut rng = Pcg32::seed_from_u64(1);
     let [_, after] = few.lengths;
-    expect_report(rt, &search.trial(&mut rng), few.lengths, counts);
-    expect_report(rt, &search.trial(&mut rng), [after, after], [0; 5]);
+    expect_trial(rt, &search.trial(&mut rng), few.lengths, counts);
+    expect_trial(rt, &search.trial(&mut rng), [after, after], [0; 5]);
     assert!(rt; search.totals().trials == 1);
     assert!(rt; search.best() == few.best);
 }
@@ -71,31 +63,28 @@ fn expect_trial_and_none(
     alloc: Global,
     near: &Near,
     few: &Few,
-    k: usize,
-) -> Result<(), Fail>
-    requires size { near.now.size ≡ few.now.metric.n }
-    requires row { k < 6 }
+    rules: SearchRules,
+    counts: [u64; 5],
+)
+    requires { near.now.size ≡ few.now.metric.n }
 {
-    let rules = SearchRules {
-        sweep: 3 <= k,
-        or_segment: k as u32 % 3 + 1,
-    };
-    let mut search = begin(rt, alloc, &few.metric, near, few.start, rules)?;
-    expect_trials(rt, &mut search, few, few.counts[k]);
-    Ok(())
+    let mut search = begin(rt, alloc, &few.metric, near, few.start, rules);
+    expect_trials(rt, &mut search, few, counts);
 }
 
-fn expect_few(rt: &impl Abort, alloc: Global, few: &Few) -> Result<(), Fail> {
-    assert!(rt; 1 <= few.width && few.width < few.metric.size() && few.width <= 100);
-    let near = near_scan(alloc, &few.metric, few.width)?;
+fn expect_few(rt: &impl Abort, alloc: Global, few: &Few) {
+    let near = near_of(rt, alloc, &few.metric, few.width);
     for k in 0..6 {
-        expect_trial_and_none(rt, alloc, &near, few, k)?;
+        let rules = SearchRules {
+            sweep: 3 <= k,
+            or_segment: k as u32 % 3 + 1,
+        };
+        expect_trial_and_none(rt, alloc, &near, few, rules, few.counts[k]);
     }
-    Ok(())
 }
 
 #[test]
-fn one_trial_on_few_cities(rt: HostRuntime) -> Result<(), Fail> {
+fn one_trial_on_few_cities(rt: HostRuntime) {
     let rows = [
         Few {
             metric: Triangle {
@@ -157,9 +146,8 @@ fn one_trial_on_few_cities(rt: HostRuntime) -> Result<(), Fail> {
         },
     ];
     for few in &rows {
-        expect_few(&rt, rt.alloc(), few)?;
+        expect_few(&rt, rt.alloc(), few);
     }
-    Ok(())
 }
 
 // A search in the plane, with the totals after some of its trials: trials, better, moves, gained, tests, swaps,
@@ -236,35 +224,26 @@ fn expect_all_totals<M: Metric>(rt: &impl Abort, search: &mut Search<M>, many: &
     assert!(rt; search.best() == many.best);
 }
 
-fn expect_totals<M: Metric>(
-    rt: &impl Abort,
-    alloc: Global,
-    metric: &M,
-    near: &Near,
-    many: &Many,
-) -> Result<(), Fail>
+fn expect_totals<M: Metric>(rt: &impl Abort, alloc: Global, metric: &M, near: &Near, many: &Many)
     requires { near.now.size ≡ M.size_of metric.now }
 {
     let rules = SearchRules {
         sweep: many.sweep,
         or_segment: 3,
     };
-    let mut search = begin(rt, alloc, metric, near, many.start, rules)?;
+    let mut search = begin(rt, alloc, metric, near, many.start, rules);
     expect_all_totals(rt, &mut search, many);
-    Ok(())
 }
 
-fn expect_many(rt: &impl Abort, alloc: Global, many: &Many) -> Result<(), Fail> {
-    assert!(rt; many.corners.len() <= 16);
-    let points = places(alloc, many.corners)?;
-    let metric = Planes::new(PlaneKind::Man2d, &points);
-    assert!(rt; 1 <= many.width && many.width < metric.size());
-    let near = near_scan(alloc, &metric, many.width)?;
-    expect_totals(rt, alloc, &metric, &near, many)
+fn expect_many(rt: &impl Abort, alloc: Global, many: &Many) {
+    let points = places(rt, alloc, many.corners, WHOLE);
+    let metric = planes_of(rt, PlaneKind::Man2d, &points);
+    let near = near_of(rt, alloc, &metric, many.width);
+    expect_totals(rt, alloc, &metric, &near, many);
 }
 
 #[test]
-fn later_trials_look_at_few_cities(rt: HostRuntime) -> Result<(), Fail> {
+fn later_trials_look_at_few_cities(rt: HostRuntime) {
     let many = Many {
         corners: &[
             (0, 0),
@@ -292,7 +271,7 @@ fn later_trials_look_at_few_cities(rt: HostRuntime) -> Result<(), Fail> {
         totals: &[[50, 0, 104, 462, 18535, 456, 456, 0, 50]],
         best: &[1, 2, 3, 4, 5, 6, 7, 8, 9, 10, 11, 12, 13, 14, 15, 16],
     };
-    expect_many(&rt, rt.alloc(), &many)
+    expect_many(&rt, rt.alloc(), &many);
 }
 
 // Nine places; the shortest tour among all has the length 34.
@@ -309,7 +288,7 @@ const NINE: [(u16, u16); 9] = [
 ];
 
 #[test]
-fn later_trials_are_taken_undone_or_copied_back(rt: HostRuntime) -> Result<(), Fail> {
+fn later_trials_are_taken_undone_or_copied_back(rt: HostRuntime) {
     let plain = Many {
         corners: &NINE,
         width: 4,
@@ -330,12 +309,12 @@ fn later_trials_are_taken_undone_or_copied_back(rt: HostRuntime) -> Result<(), F
         ],
         best: &[9, 4, 1, 8, 3, 7, 6, 2, 5],
     };
-    expect_many(&rt, rt.alloc(), &plain)?;
+    expect_many(&rt, rt.alloc(), &plain);
     let swept = Many {
         sweep: true,
         totals: &[[12, 2, 36, 102, 7022, 88, 25, 63, 23]],
         best: &[7, 8, 4, 1, 3, 9, 5, 2, 6],
         ..plain
     };
-    expect_many(&rt, rt.alloc(), &swept)
+    expect_many(&rt, rt.alloc(), &swept);
 }

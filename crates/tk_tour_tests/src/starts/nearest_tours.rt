@@ -1,71 +1,66 @@
 //! Known nearest-neighbour tours.
 
-use crate::places::places;
+use crate::places::{SQUARE, WHOLE, places, planes_of};
 use std::alloc::Global;
 use std::process::Abort;
-use std::test::Fail;
 use tk_build::{nearest, nearest_tour, nearest_tours_agree, nearest_tree};
 use tk_metric::{BothAxes, Metric, Planes, Table, Triangle};
-use tk_text::{PlaneKind, Points};
+use tk_text::PlaneKind;
 
-// A tour that begins there is this one.
+/// A tour that begins there is this one.
 fn expect_cities(rt: &impl Abort, found: &[u32], start: u32, want: &[u32]) {
     assert!(rt; found == want, "from {start}: {found:?}");
 }
 
-// The tours of a scan and of a tree are this one.
+/// The tours of a scan and of a tree are this one, as they have to be the same by the law that nearest-neighbour tours
+/// agree.
 fn expect_in_plane<P: BothAxes>(
     rt: &impl Abort,
     alloc: Global,
     metric: &P,
     start: u32,
     want: &[u32],
-) -> Result<(), Fail> {
+) {
     assert!(rt; 1 <= start && start <= metric.size());
-    let tour = nearest(alloc, metric, start)?;
-    let found = nearest_tree(alloc, metric, start)?;
+    let tour = nearest(alloc, metric, start).expect(rt, "memory for a tour");
+    let found = nearest_tree(alloc, metric, start).expect(rt, "memory for a tour");
     nearest_tours_agree(metric, start, &tour, &found);
     expect_cities(rt, &tour, start, want);
     expect_cities(rt, &found, start, want);
-    Ok(())
 }
 
-// The tours of a scan, of a tree and of a table are this one.
-fn expect_tour(
-    rt: &impl Abort,
-    alloc: Global,
-    points: &Points,
-    start: u32,
-    want: &[u32],
-) -> Result<(), Fail> {
-    assert!(rt; points.len() <= 5);
-    let metric = Planes::new(PlaneKind::Euc2d, points);
-    expect_in_plane(rt, alloc, &metric, start, want)?;
-    assert!(rt; 1 <= start && start <= metric.size());
-    let of_table = nearest_tour(alloc, &Table::Planes(metric), start)?;
-    expect_cities(rt, &of_table, start, want);
-    Ok(())
+/// The tour of a table is this one.
+fn expect_of_table(rt: &impl Abort, alloc: Global, planes: Planes<'_>, start: u32, want: &[u32]) {
+    assert!(rt; 1 <= start && start <= planes.size());
+    let table = Table::Planes(planes);
+    let found = nearest_tour(alloc, &table, start).expect(rt, "memory for a tour");
+    expect_cities(rt, &found, start, want);
+}
+
+/// The tours of a scan, of a tree and of a table are this one.
+fn expect_tour(rt: &impl Abort, alloc: Global, corners: &[(u16, u16)], start: u32, want: &[u32]) {
+    let points = places(rt, alloc, corners, WHOLE);
+    let planes = planes_of(rt, PlaneKind::Euc2d, &points);
+    expect_in_plane(rt, alloc, &planes, start, want);
+    expect_of_table(rt, alloc, planes, start, want);
 }
 
 #[test]
-fn in_the_plane(rt: HostRuntime) -> Result<(), Fail> {
-    let square = [(0, 0), (10, 10), (10, 0), (0, 10)];
+fn in_the_plane(rt: HostRuntime) {
     let line = [(0, 0), (1, 0), (2, 0), (3, 0), (4, 0)];
     let rows: [(&[(u16, u16)], u32, &[u32]); 4] = [
-        (&square, 1, &[1, 3, 2, 4]),
-        (&square[..2], 2, &[2, 1]),
+        (&SQUARE, 1, &[1, 3, 2, 4]),
+        (&SQUARE[..2], 2, &[2, 1]),
         (&line, 1, &[1, 2, 3, 4, 5]),
         (&line, 3, &[3, 2, 1, 4, 5]),
     ];
     for (corners, start, want) in rows {
-        let points = places(rt.alloc(), corners)?;
-        expect_tour(&rt, rt.alloc(), &points, start, want)?;
+        expect_tour(&rt, rt.alloc(), corners, start, want);
     }
-    Ok(())
 }
 
 #[test]
-fn by_explicit_weights(rt: HostRuntime) -> Result<(), Fail> {
+fn by_explicit_weights(rt: HostRuntime) {
     // 1 and 4 are at distance 2 of 3, 2 at 7; of 4, 1 and 2 are at 9
     let metric = Triangle {
         n: 4,
@@ -73,8 +68,7 @@ fn by_explicit_weights(rt: HostRuntime) -> Result<(), Fail> {
     };
     let tours = [[1, 3, 4, 2], [2, 1, 3, 4], [3, 1, 2, 4], [4, 3, 1, 2]];
     for k in 0..4 {
-        let tour = nearest(rt.alloc(), &metric, k as u32 + 1)?;
+        let tour = nearest(rt.alloc(), &metric, k as u32 + 1).expect(&rt, "memory for a tour");
         assert!(rt; tour.as_slice() == tours[k].as_slice());
     }
-    Ok(())
 }

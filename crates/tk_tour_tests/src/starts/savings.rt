@@ -1,79 +1,97 @@
 //! Worked examples of the savings merges.
 
+use crate::given::near_of;
 use std::alloc::Global;
 use std::process::Abort;
-use std::test::Fail;
 use tk_build::{savings_lists, savings_tour};
-use tk_metric::{Metric, Triangle, near_scan};
+use tk_metric::{Metric, Triangle};
 
 /// The lists over the near lists of all other cities.
-fn lists_of(
+fn lists_of<M: Metric>(
     rt: &impl Abort,
     alloc: Global,
-    metric: &Triangle,
+    metric: &M,
     hub: u32,
     loads: &[u32],
     capacity: u64,
-) -> Result<Vec<Vec<u32>>, Fail> {
+) -> Vec<Vec<u32>> {
     let n = metric.size();
-    assert!(rt; 2 <= n && n <= 5 && 1 <= hub && hub <= n && loads.len() == n as usize);
-    let near = near_scan(alloc, metric, n - 1)?;
-    Ok(savings_lists(alloc, metric, hub, loads, capacity, &near)?)
+    assert!(rt; 2 <= n && 1 <= hub && hub <= n && loads.len() == n as usize);
+    let near = near_of(rt, alloc, metric, n - 1);
+    savings_lists(alloc, metric, hub, loads, capacity, &near).expect(rt, "memory for lists")
 }
 
-/// Whether the lists are these.
-fn are(lists: &[Vec<u32>], want: &[&[u32]]) -> bool {
-    lists.len() == want.len()
-        && lists
-            .iter()
-            .zip(want.iter())
-            .all(|(list, cities)| list.as_slice() == *cities)
+/// The lists are these.
+fn expect_each(rt: &impl Abort, lists: &[Vec<u32>], want: &[&[u32]]) {
+    assert!(rt; lists.len() == want.len());
+    for k in 0..want.len() {
+        assert!(rt; lists[k].as_slice() == want[k]);
+    }
+}
+
+/// For each of these capacities the lists round a hub, of cities with these loads, are those beside it.
+fn expect_lists<M: Metric>(
+    rt: &impl Abort,
+    alloc: Global,
+    metric: &M,
+    hub: u32,
+    loads: &[u32],
+    rows: &[(u64, &[&[u32]])],
+) {
+    for (capacity, want) in rows {
+        let lists = lists_of(rt, alloc, metric, hub, loads, *capacity);
+        expect_each(rt, &lists, *want);
+    }
+}
+
+/// The tour of the savings merges is this one.
+fn expect_tour<M: Metric>(rt: &impl Abort, alloc: Global, metric: &M, want: &[u32]) {
+    let n = metric.size();
+    assert!(rt; 2 <= n);
+    let near = near_of(rt, alloc, metric, n - 1);
+    let tour = savings_tour(alloc, metric, &near).expect(rt, "memory for a tour");
+    assert!(rt; tour.as_slice() == want);
 }
 
 /// (0,0) (10,10) (10,0) (0,10), EUC_2D
 #[test]
-fn tour_of_a_square(rt: HostRuntime) -> Result<(), Fail> {
+fn tour_of_a_square(rt: HostRuntime) {
     let square = Triangle {
         n: 4,
         weights: &[14, 10, 10, 10, 10, 14],
     };
-    let near = near_scan(rt.alloc(), &square, 3)?;
-    let tour = savings_tour(rt.alloc(), &square, &near)?;
-    assert!(rt; tour.as_slice() == [1, 3, 2, 4].as_slice());
-    Ok(())
+    expect_tour(&rt, rt.alloc(), &square, &[1, 3, 2, 4]);
 }
 
 /// (0,0) (10,0) (11,0) (-10,0) (-11,0), EUC_2D: savings 20 for 2-3 and 4-5, and 0 for all others
 #[test]
-fn two_sides_of_the_hub(rt: HostRuntime) -> Result<(), Fail> {
+fn two_sides_of_the_hub(rt: HostRuntime) {
     let line = Triangle {
         n: 5,
         weights: &[10, 11, 1, 10, 20, 21, 11, 21, 22, 1],
     };
-    for capacity in [2, 4] {
-        let lists = lists_of(&rt, rt.alloc(), &line, 1, &[0, 1, 1, 1, 1], capacity)?;
-        assert!(rt; are(&lists, &[&[2, 3], &[4, 5]]), "capacity {capacity}");
-    }
-    let lists = lists_of(&rt, rt.alloc(), &line, 1, &[0, 1, 1, 1, 1], 1)?;
-    assert!(rt; are(&lists, &[&[2], &[3], &[4], &[5]]));
-    Ok(())
+    let rows: &[(u64, &[&[u32]])] = &[
+        (2, &[&[2, 3], &[4, 5]]),
+        (4, &[&[2, 3], &[4, 5]]),
+        (1, &[&[2], &[3], &[4], &[5]]),
+    ];
+    expect_lists(&rt, rt.alloc(), &line, 1, &[0, 1, 1, 1, 1], rows);
 }
 
 /// UPPER_ROW 10 10 10 10 / 10 11 11 / 12 19 / 20
 #[test]
-fn one_list_of_four(rt: HostRuntime) -> Result<(), Fail> {
+fn one_list_of_four(rt: HostRuntime) {
     let weights = Triangle {
         n: 5,
         weights: &[10, 10, 10, 10, 11, 12, 10, 11, 19, 20],
     };
-    let lists = lists_of(&rt, rt.alloc(), &weights, 1, &[0, 1, 1, 1, 1], 4)?;
-    assert!(rt; are(&lists, &[&[4, 2, 3, 5]]));
-    Ok(())
+    let rows: &[(u64, &[&[u32]])] = &[(4, &[&[4, 2, 3, 5]])];
+    expect_lists(&rt, rt.alloc(), &weights, 1, &[0, 1, 1, 1, 1], rows);
 }
 
 /// The same weights times 150,000,000: savings too great for keys
 #[test]
-fn one_list_of_four_far_apart(rt: HostRuntime) -> Result<(), Fail> {
+fn one_list_of_four_far_apart(rt: HostRuntime) {
     let weights = Triangle {
         n: 5,
         weights: &[
@@ -89,19 +107,16 @@ fn one_list_of_four_far_apart(rt: HostRuntime) -> Result<(), Fail> {
             3_000_000_000,
         ],
     };
-    let lists = lists_of(&rt, rt.alloc(), &weights, 1, &[0, 1, 1, 1, 1], 4)?;
-    assert!(rt; are(&lists, &[&[4, 2, 3, 5]]));
-    Ok(())
+    let rows: &[(u64, &[&[u32]])] = &[(4, &[&[4, 2, 3, 5]])];
+    expect_lists(&rt, rt.alloc(), &weights, 1, &[0, 1, 1, 1, 1], rows);
 }
 
 /// (10,0) (0,0) (11,0), EUC_2D
 #[test]
-fn hub_that_is_not_the_first(rt: HostRuntime) -> Result<(), Fail> {
+fn hub_that_is_not_the_first(rt: HostRuntime) {
     let line = Triangle {
         n: 3,
         weights: &[10, 1, 11],
     };
-    let lists = lists_of(&rt, rt.alloc(), &line, 2, &[1, 0, 1], 2)?;
-    assert!(rt; are(&lists, &[&[1, 3]]));
-    Ok(())
+    expect_lists(&rt, rt.alloc(), &line, 2, &[1, 0, 1], &[(2, &[&[1, 3]])]);
 }

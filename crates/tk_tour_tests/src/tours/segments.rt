@@ -1,13 +1,14 @@
 //! A tour that is seen through segments is the one in an array, flip by flip.
-ghost use Rattle.std.specs.Prelude.{◌<◌, ◌≤◌};
+ghost use Rattle.std.specs.Prelude.{◌<◌};
 
+use crate::given::{first_cities, journal_of, tour_of};
+use crate::tours::worked::flip_after;
 use std::alloc::Global;
 use std::process::Abort;
-use std::test::Fail;
 use tk_segments::SegmentTour;
 use tk_tour::{ArrayTour, Flip, JournalTour, TourStore, UndoStore};
 
-// The next of the pseudorandom numbers below a limit.
+/// The next of the pseudorandom numbers below a limit.
 fn draw_below(state: &mut u64, limit: u32) -> u32
     requires { 0 < limit }
     ensures { result < limit }
@@ -18,51 +19,63 @@ fn draw_below(state: &mut u64, limit: u32) -> u32
     (*state >> 33) as u32 % limit
 }
 
-// A list of the cities, shuffled.
-fn shuffled(alloc: Global, n: u32, state: &mut u64) -> Result<Vec<u32>, Fail>
-    requires { n ≤ 100000 }
-{
-    let mut cities = Vec::new(alloc);
-    for k in 0..n {
-        cities.push(k + 1)?;
-    }
+/// A list of so many cities, shuffled.
+fn shuffled(rt: &impl Abort, alloc: Global, n: u32, state: &mut u64) -> Vec<u32> {
+    let mut cities = first_cities(rt, alloc, n);
     for k in 0..cities.len() {
         let j = draw_below(state, cities.len().min(100_000) as u32);
         cities.swap(k, j as usize);
     }
-    Ok(cities)
+    cities
 }
 
-// Flips the tour between a and c, and the cities after or before them.
-fn flip_at<S: TourStore>(rt: &impl Abort, tour: &mut S, a: u32, c: u32, ahead: bool) -> Flip {
+/// Flips the tour between a and c, and the cities before them.
+fn flip_before<S: TourStore>(rt: &impl Abort, tour: &mut S, a: u32, c: u32) -> Flip {
     let n = tour.size();
     assert!(rt; 1 <= a);
     assert!(rt; a <= n);
     assert!(rt; 1 <= c);
     assert!(rt; c <= n);
     assert!(rt; a != c);
-    if ahead {
-        let (b, d) = (tour.next(a), tour.next(c));
-        return tour.flip(a, b, c, d);
-    }
     let (b, d) = (tour.prev(a), tour.prev(c));
     tour.flip(a, b, c, d)
 }
 
-// The same cities in the same order, with the same counts.
-fn expect_same(rt: &impl Abort, array: &ArrayTour, segments: &SegmentTour) {
-    let n = array.size();
-    assert!(rt; segments.size() == n);
-    for k in 1..=n {
-        assert!(rt; array.at(k) == segments.at(k));
-        assert!(rt; array.next(k) == segments.next(k));
-        assert!(rt; array.prev(k) == segments.prev(k));
+/// Flips the tour between a and c, and the cities after or before them.
+fn flip_at<S: TourStore>(rt: &impl Abort, tour: &mut S, a: u32, c: u32, ahead: bool) -> Flip {
+    if ahead {
+        return flip_after(rt, tour, a, c);
     }
-    assert!(rt; array.swaps() == segments.swaps() && array.flips() == segments.flips());
-    assert!(rt; segments.writes() / 2 <= segments.swaps());
+    flip_before(rt, tour, a, c)
 }
 
-// Two cities, of which the second stands near the first as often as not.
+/// The same cities in the same order.
+fn expect_same_order<S: TourStore, T: TourStore>(rt: &impl Abort, one: &S, other: &T) {
+    let n = one.size();
+    assert!(rt; other.size() == n);
+    for k in 1..=n {
+        assert!(rt; one.at(k) == other.at(k));
+        assert!(rt; one.next(k) == other.next(k));
+        assert!(rt; one.prev(k) == other.prev(k));
+    }
+}
+
+/// The same flips, and as many swaps that made and undid them.
+fn expect_same_counts<S: UndoStore, T: UndoStore>(rt: &impl Abort, one: &S, other: &T) {
+    assert!(rt; one.flips() == other.flips());
+    assert!(rt; one.swaps() == other.swaps());
+    assert!(rt; one.undo_swaps() == other.undo_swaps());
+}
+
+/// The same cities in the same order, with the same counts; the places that were written are paid by swaps.
+pub fn expect_alike(rt: &impl Abort, array: &ArrayTour, segments: &SegmentTour) {
+    expect_same_order(rt, array, segments);
+    expect_same_counts(rt, array, segments);
+    let paid = segments.swaps().saturating_add(segments.undo_swaps());
+    assert!(rt; segments.writes() / 2 <= paid);
+}
+
+/// Two cities, of which the second stands near the first as often as not.
 fn draw_cities(rt: &impl Abort, tour: &ArrayTour, state: &mut u64) -> (u32, u32) {
     let n = tour.size();
     let k = draw_below(state, n);
@@ -77,7 +90,7 @@ fn draw_cities(rt: &impl Abort, tour: &ArrayTour, state: &mut u64) -> (u32, u32)
     (a, c)
 }
 
-// Makes flips in both, and answers how often the array was written as it is seen.
+/// Makes flips in both, and answers how often the array was written as it is seen.
 fn flip_both(
     rt: &impl Abort,
     array: &mut ArrayTour,
@@ -93,7 +106,7 @@ fn flip_both(
             let ahead = draw_below(state, 2) == 0;
             let flip = flip_at(rt, array, a, c, ahead);
             assert!(rt; flip == flip_at(rt, segments, a, c, ahead));
-            expect_same(rt, array, segments);
+            expect_alike(rt, array, segments);
             if segments.segments() < count {
                 written = written.saturating_add(1);
             }
@@ -103,120 +116,121 @@ fn flip_both(
     written
 }
 
-// The same with as few segments as the limit for exchanges allows.
-fn with_limits(
-    rt: &impl Abort,
-    alloc: Global,
-    n: u32,
-    short: u32,
-    flips: u32,
-) -> Result<u32, Fail> {
-    assert!(rt; n <= 3000 && short <= 3000);
-    let mut state = n as u64 + 3000 * short as u64;
-    let cities = shuffled(alloc, n, &mut state)?;
+/// The list, seen through as few segments as the limit for exchanges allows.
+pub fn segments_of(rt: &impl Abort, alloc: Global, cities: &[u32], short: u32) -> SegmentTour {
+    assert!(rt; 1 <= short && short <= 3000);
     let least = (short as usize + 1) / 2;
-    assert!(rt; least > 0);
     let most = cities.len() / least + 3;
-    assert!(rt; most <= 3003 && cities.len() <= (most - 2) * least);
-    let mut array = ArrayTour::from_list(alloc, &cities)?;
-    let mut segments = SegmentTour::with_limits(alloc, &cities, short, most as u32)?;
-    Ok(flip_both(rt, &mut array, &mut segments, flips, &mut state))
+    assert!(rt; cities.len() <= 3000 && most <= 3003 && cities.len() <= (most - 2) * least);
+    SegmentTour::with_limits(alloc, cities, short, most as u32).expect(rt, "a tour")
+}
+
+/// The same with these limits for exchanges.
+fn flips_by_limits(rt: &impl Abort, alloc: Global, n: u32, limits: &[u32], flips: u32) -> u32 {
+    let mut written = 0u32;
+    for short in limits {
+        let mut state = n as u64 + 3000 * *short as u64;
+        let cities = shuffled(rt, alloc, n, &mut state);
+        let mut array = tour_of(rt, alloc, &cities);
+        let mut segments = segments_of(rt, alloc, &cities, *short);
+        let more = flip_both(rt, &mut array, &mut segments, flips, &mut state);
+        written = written.saturating_add(more);
+    }
+    written
 }
 
 #[test]
-fn as_in_an_array(rt: HostRuntime) -> Result<(), Fail> {
+fn as_in_an_array(rt: HostRuntime) {
     let mut written = 0u32;
     for n in 2..40 {
-        for short in 1..6 {
-            written = written.saturating_add(with_limits(&rt, rt.alloc(), n, short, 60)?);
-        }
+        let more = flips_by_limits(&rt, rt.alloc(), n, &[1, 2, 3, 4, 5], 60);
+        written = written.saturating_add(more);
     }
     for n in [100, 117, 144, 171, 198] {
-        for short in [1, 3, 20] {
-            written = written.saturating_add(with_limits(&rt, rt.alloc(), n, short, 300)?);
-        }
+        let more = flips_by_limits(&rt, rt.alloc(), n, &[1, 3, 20], 300);
+        written = written.saturating_add(more);
     }
     assert!(rt; written > 100);
-    Ok(())
+}
+
+/// Flips of so many cities, with the limits that a tour has where none are given.
+fn flip_by_usual_limits(rt: &impl Abort, alloc: Global, n: u32) {
+    let mut state = n as u64;
+    let cities = shuffled(rt, alloc, n, &mut state);
+    let mut array = tour_of(rt, alloc, &cities);
+    let mut segments = SegmentTour::from_list(alloc, &cities).expect(rt, "a tour");
+    let _ = flip_both(rt, &mut array, &mut segments, 200, &mut state);
 }
 
 #[test]
-fn as_in_an_array_with_usual_limits(rt: HostRuntime) -> Result<(), Fail> {
+fn as_in_an_array_with_usual_limits(rt: HostRuntime) {
     for n in [2, 3, 151, 400, 3000] {
-        let mut state = n as u64;
-        let cities = shuffled(rt.alloc(), n, &mut state)?;
-        let mut array = ArrayTour::from_list(rt.alloc(), &cities)?;
-        let mut segments = SegmentTour::from_list(rt.alloc(), &cities)?;
-        let _ = flip_both(&rt, &mut array, &mut segments, 200, &mut state);
+        flip_by_usual_limits(&rt, rt.alloc(), n);
     }
-    Ok(())
 }
 
-// The cities of a tour in their order.
-fn cities_of<S: UndoStore>(alloc: Global, tour: &S) -> Result<Vec<u32>, Fail> {
-    let mut cities = vec![in alloc; 0u32; tour.size() as usize]?;
+/// The cities of a tour in their order.
+fn cities_of<S: UndoStore>(rt: &impl Abort, alloc: Global, tour: &S) -> Vec<u32> {
+    let mut cities = vec![in alloc; 0u32; tour.size() as usize].expect(rt, "memory for a list");
     tour.write_order(&mut cities);
-    Ok(cities)
+    cities
 }
 
-// The cities of a tour are these, in this order.
-fn expect_order<S: UndoStore>(
-    rt: &impl Abort,
-    alloc: Global,
-    tour: &S,
-    want: &[u32],
-) -> Result<(), Fail> {
-    let cities = cities_of(alloc, tour)?;
-    assert!(rt; cities.as_slice() == want);
-    Ok(())
+/// The cities of a tour are these, in this order.
+fn expect_order<S: UndoStore>(rt: &impl Abort, alloc: Global, tour: &S, want: &[u32]) {
+    assert!(rt; cities_of(rt, alloc, tour).as_slice() == want);
 }
 
-// A list, seen through at most ten segments, with a journal that has lost flips.
-fn with_lost_flips(
+/// A list that is seen through at most so many segments, with a journal. Each flip turns segments round.
+fn journal_of_segments(
     rt: &impl Abort,
     alloc: Global,
-    start: &[u32; 8],
-) -> Result<JournalTour<SegmentTour>, Fail> {
-    let segments = SegmentTour::with_limits(alloc, start, 1, 10)?;
-    let mut tour = JournalTour::new(alloc, segments, 2)?;
+    cities: &[u32],
+    most: u32,
+    slots: u32,
+) -> JournalTour<SegmentTour> {
+    assert!(rt; 3 <= most && most <= 160 && cities.len() <= most as usize - 2);
+    let segments = SegmentTour::with_limits(alloc, cities, 1, most).expect(rt, "a tour");
+    journal_of(rt, alloc, segments, slots)
+}
+
+/// Makes three flips, of which a journal of two loses one.
+fn lose_flips(rt: &impl Abort, tour: &mut JournalTour<SegmentTour>) {
     for (a, c) in [(6, 4), (3, 2), (8, 5)] {
-        let _ = flip_at(rt, &mut tour, a, c, true);
+        let _ = flip_after(rt, tour, a, c);
     }
     assert!(rt; tour.lost() && !tour.rewind());
     assert!(rt; tour.tour().segments() > 1);
-    Ok(tour)
 }
 
-// Takes the order of a list where flips were lost, and undoes one more flip.
-fn expect_restored(
-    rt: &impl Abort,
-    alloc: Global,
-    tour: &mut JournalTour<SegmentTour>,
-    start: &[u32],
-) -> Result<(), Fail> {
-    let other = ArrayTour::from_list(alloc, start)?;
-    assert!(rt; tour.size() == other.size());
-    tour.restore(&other);
-    expect_order(rt, alloc, tour.tour(), start)?;
+/// Takes the order of a list where flips were lost.
+fn restore(rt: &impl Abort, tour: &mut JournalTour<SegmentTour>, start: &ArrayTour) {
+    assert!(rt; tour.size() == start.size());
+    tour.restore(start);
     assert!(rt; tour.tour().copied() == 8 && tour.tour().segments() == 1);
+}
+
+/// Makes and undoes one more flip.
+fn undo_one(rt: &impl Abort, tour: &mut JournalTour<SegmentTour>) {
     let swaps = tour.swaps();
-    let _ = flip_at(rt, tour, 6, 4, true);
+    let _ = flip_after(rt, tour, 6, 4);
     assert!(rt; tour.rewind());
-    expect_order(rt, alloc, tour.tour(), start)?;
     assert!(rt; tour.swaps().checked_sub(swaps) == Some(tour.tour().undo_swaps()));
-    Ok(())
 }
 
 #[test]
-fn takes_an_order_where_flips_were_lost(rt: HostRuntime) -> Result<(), Fail> {
+fn takes_an_order_where_flips_were_lost(rt: HostRuntime) {
     let start = [6, 2, 8, 4, 1, 7, 3, 5];
-    let mut tour = with_lost_flips(&rt, rt.alloc(), &start)?;
-    let flipped = cities_of(rt.alloc(), tour.tour())?;
-    assert!(rt; flipped.as_slice() != start.as_slice());
-    expect_restored(&rt, rt.alloc(), &mut tour, &start)
+    let mut tour = journal_of_segments(&rt, rt.alloc(), &start, 10, 2);
+    lose_flips(&rt, &mut tour);
+    assert!(rt; cities_of(&rt, rt.alloc(), tour.tour()).as_slice() != start.as_slice());
+    restore(&rt, &mut tour, &tour_of(&rt, rt.alloc(), &start));
+    expect_order(&rt, rt.alloc(), tour.tour(), &start);
+    undo_one(&rt, &mut tour);
+    expect_order(&rt, rt.alloc(), tour.tour(), &start);
 }
 
-// Makes some flips between random cities.
+/// Makes some flips between random cities.
 fn flip_some<S: TourStore>(rt: &impl Abort, tour: &mut S, flips: u32, state: &mut u64) {
     let n = tour.size();
     assert!(rt; 1 <= n && n <= 100_000);
@@ -229,48 +243,38 @@ fn flip_some<S: TourStore>(rt: &impl Abort, tour: &mut S, flips: u32, state: &mu
     }
 }
 
-// A rewind leaves no more segments than there were, and the cities in their order.
+/// A rewind leaves no more segments than there were, and the cities in their order.
 fn expect_undone(
     rt: &impl Abort,
     alloc: Global,
     tour: &mut JournalTour<SegmentTour>,
     state: &mut u64,
-) -> Result<(), Fail> {
+) {
     let count = tour.tour().segments();
-    let before = cities_of(alloc, tour.tour())?;
+    let before = cities_of(rt, alloc, tour.tour());
     for flips in 0..30 {
         flip_some(rt, tour, flips % 7, state);
         assert!(rt; tour.rewind());
         assert!(rt; tour.tour().segments() <= count);
-        expect_order(rt, alloc, tour.tour(), &before)?;
+        expect_order(rt, alloc, tour.tour(), &before);
     }
-    Ok(())
 }
 
-// Cities in a random order, seen through at most 160 segments.
-fn journal_of(
-    rt: &impl Abort,
-    alloc: Global,
-    n: u32,
-    state: &mut u64,
-) -> Result<JournalTour<SegmentTour>, Fail> {
-    assert!(rt; n <= 150);
-    let cities = shuffled(alloc, n, state)?;
-    assert!(rt; cities.len() <= 150);
-    let segments = SegmentTour::with_limits(alloc, &cities, 1, 160)?;
-    Ok(JournalTour::new(alloc, segments, 100)?)
+/// The same after flips that are kept, of so many cities in a random order.
+fn expect_undone_after(rt: &impl Abort, alloc: Global, n: u32) {
+    let mut state = n as u64;
+    let cities = shuffled(rt, alloc, n, &mut state);
+    let mut tour = journal_of_segments(rt, alloc, &cities, 160, 100);
+    for kept in [0, 1, 3] {
+        flip_some(rt, &mut tour, kept, &mut state);
+        tour.settle();
+        expect_undone(rt, alloc, &mut tour, &mut state);
+    }
 }
 
 #[test]
-fn undone_flips_leave_no_more_segments(rt: HostRuntime) -> Result<(), Fail> {
+fn undone_flips_leave_no_more_segments(rt: HostRuntime) {
     for n in [9, 40, 150] {
-        let mut state = n as u64;
-        let mut tour = journal_of(&rt, rt.alloc(), n, &mut state)?;
-        for kept in [0, 1, 3] {
-            flip_some(&rt, &mut tour, kept, &mut state);
-            tour.settle();
-            expect_undone(&rt, rt.alloc(), &mut tour, &mut state)?;
-        }
+        expect_undone_after(&rt, rt.alloc(), n);
     }
-    Ok(())
 }

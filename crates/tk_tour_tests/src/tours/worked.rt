@@ -1,14 +1,12 @@
 //! Worked examples of tours, and each call once at a concrete type.
+use crate::given::{EIGHT, expect_printed, journal_of, tour_of};
 use std::alloc::Global;
 use std::process::Abort;
-use std::test::Fail;
 use tk_metric::Triangle;
 use tk_tour::{ArrayTour, Flip, JournalTour, TourFault, TourStore, Verdict, check, laws, length};
 
-const EIGHT: [u32; 8] = [1, 2, 3, 4, 5, 6, 7, 8];
-
-// Reverses the cities from after a to c, or those from after c to a.
-fn flip_after<S: TourStore>(rt: &impl Abort, tour: &mut S, a: u32, c: u32) -> Flip {
+/// Reverses the cities from after a to c, or those from after c to a.
+pub fn flip_after<S: TourStore>(rt: &impl Abort, tour: &mut S, a: u32, c: u32) -> Flip {
     let n = tour.size();
     assert!(rt; 1 <= a);
     assert!(rt; a <= n);
@@ -19,41 +17,33 @@ fn flip_after<S: TourStore>(rt: &impl Abort, tour: &mut S, a: u32, c: u32) -> Fl
     tour.flip(a, b, c, d)
 }
 
-// This flip is made, which takes one swap and leads to this order.
-fn expect_flipped(
-    rt: &impl Abort,
-    tour: &mut ArrayTour,
-    (a, c): (u32, u32),
-    want: Flip,
-    order: &[u32],
-) {
-    let flip = flip_after(rt, tour, a, c);
-    assert!(rt; flip == want && tour.order() == order);
-    assert!(rt; tour.swaps() == 1 && tour.flips() == 1);
+/// This flip was made, with one swap, and led to this order; undone, it leads back.
+fn expect_undone(rt: &impl Abort, tour: &mut ArrayTour, flip: Flip, order: &[u32], cities: &[u32]) {
+    assert!(rt; tour.order() == order && tour.swaps() == 1 && tour.flips() == 1);
+    let n = tour.size();
+    assert!(rt; 1 <= flip.first && flip.first <= n && flip.count <= n);
+    tour.undo(&flip);
+    assert!(rt; tour.order() == cities && tour.swaps() == 1 && tour.undo_swaps() == 1);
 }
 
-// This flip is made, which takes one swap and leads to this order; undone, it leads back.
+/// This flip is made after a and c, which takes one swap and leads to this order; undone, it leads back.
 fn expect_flip(
     rt: &impl Abort,
     alloc: Global,
     cities: &[u32],
-    ends: (u32, u32),
+    (a, c): (u32, u32),
     want: Flip,
     order: &[u32],
-) -> Result<(), Fail> {
-    let mut tour = ArrayTour::from_list(alloc, cities)?;
-    expect_flipped(rt, &mut tour, ends, want, order);
-    let n = tour.size();
-    assert!(rt; 1 <= want.first && want.first <= n && want.count <= n);
-    tour.undo(&want);
-    assert!(rt; tour.order() == cities && tour.swaps() == 1 && tour.undo_swaps() == 1);
-    Ok(())
+) {
+    let mut tour = tour_of(rt, alloc, cities);
+    assert!(rt; flip_after(rt, &mut tour, a, c) == want);
+    expect_undone(rt, &mut tour, want, order, cities);
 }
 
 #[test]
-fn flips_the_shorter_side(rt: HostRuntime) -> Result<(), Fail> {
+fn flips_the_shorter_side(rt: HostRuntime) {
     let inner = Flip { first: 2, count: 2 };
-    expect_flip(&rt, rt.alloc(), &[1, 2, 3, 4], (1, 3), inner, &[1, 3, 2, 4])?;
+    expect_flip(&rt, rt.alloc(), &[1, 2, 3, 4], (1, 3), inner, &[1, 3, 2, 4]);
     let outer = Flip { first: 8, count: 2 };
     expect_flip(
         &rt,
@@ -62,27 +52,19 @@ fn flips_the_shorter_side(rt: HostRuntime) -> Result<(), Fail> {
         (1, 7),
         outer,
         &[8, 2, 3, 4, 5, 6, 7, 1],
-    )
-}
-
-// Whether the tour is printed as this list.
-fn is_printed(alloc: Global, tour: &ArrayTour, want: &[u32]) -> Result<bool, Fail> {
-    let printed = tour.canonical(alloc)?;
-    Ok(printed.as_slice() == want)
+    );
 }
 
 #[test]
-fn prints_towards_the_smaller_neighbour(rt: HostRuntime) -> Result<(), Fail> {
+fn prints_towards_the_smaller_neighbour(rt: HostRuntime) {
     let rows = [
         ([3, 1, 4, 2], [1, 3, 2, 4]),
         ([2, 4, 1, 3], [1, 3, 2, 4]),
         ([4, 3, 2, 1], [1, 2, 3, 4]),
     ];
     for (list, want) in rows {
-        let tour = ArrayTour::from_list(rt.alloc(), &list)?;
-        assert!(rt; is_printed(rt.alloc(), &tour, &want)?);
+        expect_printed(&rt, rt.alloc(), &tour_of(&rt, rt.alloc(), &list), &want);
     }
-    Ok(())
 }
 
 #[test]
@@ -101,7 +83,7 @@ fn refuses_lists(rt: HostRuntime) {
 }
 
 #[test]
-fn shows_faults(rt: HostRuntime) -> Result<(), Fail> {
+fn shows_faults(rt: HostRuntime) {
     let rows = [
         (
             TourFault::WrongCount,
@@ -112,67 +94,77 @@ fn shows_faults(rt: HostRuntime) -> Result<(), Fail> {
         (TourFault::NoMemory, "out of memory"),
     ];
     for (fault, want) in rows {
-        let shown = format!(in rt.alloc(); "{fault}")?;
+        let shown = format!(in rt.alloc(); "{fault}").expect(&rt, "memory for a line");
         assert!(rt; shown.as_str() == want);
     }
-    Ok(())
+}
+
+/// A tour of four cities takes the order of another.
+fn expect_copied(rt: &impl Abort, tour: &mut ArrayTour, other: &ArrayTour) {
+    assert!(rt; tour.size() == 4);
+    assert!(rt; other.size() == 4);
+    tour.copy_from(other);
+    assert!(rt; tour.order() == other.order() && tour.copied() == 4);
+    assert!(rt; tour.at(2) == 2 && tour.next(4) == 2 && tour.prev(4) == 3);
 }
 
 #[test]
-fn copies(rt: HostRuntime) -> Result<(), Fail> {
-    let mut tour = ArrayTour::from_list(rt.alloc(), &[1, 2, 3, 4])?;
-    let other = ArrayTour::from_list(rt.alloc(), &[4, 2, 1, 3])?;
-    let (n, m) = (tour.size(), other.size());
-    assert!(rt; n == 4 && m == 4);
-    tour.copy_from(&other);
-    assert!(rt; tour.order() == [4, 2, 1, 3].as_slice() && tour.copied() == 4);
-    assert!(rt; tour.at(2) == 2 && tour.next(4) == 2 && tour.prev(4) == 3);
-    Ok(())
+fn copies(rt: HostRuntime) {
+    let mut tour = tour_of(&rt, rt.alloc(), &[1, 2, 3, 4]);
+    let other = tour_of(&rt, rt.alloc(), &[4, 2, 1, 3]);
+    expect_copied(&rt, &mut tour, &other);
+    assert!(rt; tour.order() == [4, 2, 1, 3].as_slice());
 }
 
-// Eight cities in their own order, with a journal of so many flips.
-fn journal_of_eight(alloc: Global, slots: u32) -> Result<JournalTour<ArrayTour>, Fail> {
-    let tour = ArrayTour::from_list(alloc, &EIGHT)?;
-    Ok(JournalTour::new(alloc, tour, slots)?)
-}
-
-// Whether the cities stand in this order.
+/// Whether the cities stand in this order.
 fn stands(tour: &JournalTour<ArrayTour>, want: &[u32]) -> bool {
     tour.tour().order() == want
 }
 
+/// Two flips of eight cities in their own order, from after 1 to 7 and from after 2 to 4.
+fn flip_twice(rt: &impl Abort, tour: &mut JournalTour<ArrayTour>) {
+    let _ = flip_after(rt, tour, 1, 7);
+    let _ = flip_after(rt, tour, 2, 4);
+    assert!(rt; stands(tour, &[8, 2, 4, 3, 5, 6, 7, 1]) && tour.flips() == 2);
+}
+
+/// A rewind undoes both flips.
+fn expect_rewound(rt: &impl Abort, tour: &mut JournalTour<ArrayTour>) {
+    flip_twice(rt, tour);
+    assert!(rt; tour.rewind() && tour.flips() == 0 && stands(tour, &EIGHT));
+    assert!(rt; tour.tour().undo_swaps() == 2 && tour.swaps() == 2);
+}
+
 #[test]
-fn rewinds(rt: HostRuntime) -> Result<(), Fail> {
-    let mut tour = journal_of_eight(rt.alloc(), 2)?;
-    let _ = flip_after(&rt, &mut tour, 1, 7);
-    let _ = flip_after(&rt, &mut tour, 2, 4);
-    assert!(rt; stands(&tour, &[8, 2, 4, 3, 5, 6, 7, 1]) && tour.flips() == 2);
-    assert!(rt; tour.rewind() && tour.flips() == 0);
-    assert!(rt; stands(&tour, &EIGHT) && tour.tour().undo_swaps() == 2 && tour.swaps() == 2);
+fn rewinds(rt: HostRuntime) {
+    let mut tour = journal_of(&rt, rt.alloc(), tour_of(&rt, rt.alloc(), &EIGHT), 2);
+    expect_rewound(&rt, &mut tour);
     let _ = flip_after(&rt, &mut tour, 1, 7);
     tour.settle();
     let _ = flip_after(&rt, &mut tour, 2, 4);
     assert!(rt; tour.rewind() && stands(&tour, &[8, 2, 3, 4, 5, 6, 7, 1]));
-    Ok(())
 }
 
-#[test]
-fn restores_where_flips_were_lost(rt: HostRuntime) -> Result<(), Fail> {
-    let start = ArrayTour::from_list(rt.alloc(), &EIGHT)?;
-    let mut tour = journal_of_eight(rt.alloc(), 1)?;
-    let _ = flip_after(&rt, &mut tour, 1, 7);
-    let _ = flip_after(&rt, &mut tour, 2, 4);
-    assert!(rt; tour.lost() && !tour.rewind() && stands(&tour, &[8, 2, 4, 3, 5, 6, 7, 1]));
-    let (n, m) = (tour.size(), start.size());
-    assert!(rt; n == m);
-    tour.restore(&start);
-    assert!(rt; n == 8 && stands(&tour, &EIGHT) && tour.tour().copied() == 8 && !tour.lost());
+/// A tour whose journal lost a flip is not rewound, but takes the order where it began.
+fn expect_restored(rt: &impl Abort, tour: &mut JournalTour<ArrayTour>, start: &ArrayTour) {
+    assert!(rt; tour.size() == 8);
+    assert!(rt; start.size() == 8);
+    tour.restore(start);
+    assert!(rt; stands(tour, &EIGHT) && tour.tour().copied() == 8 && !tour.lost());
     assert!(rt; tour.at(3) == 3 && tour.next(8) == 1 && tour.prev(8) == 7);
-    Ok(())
 }
 
 #[test]
-fn checks_lists(rt: HostRuntime) -> Result<(), Fail> {
+fn restores_where_flips_were_lost(rt: HostRuntime) {
+    let start = tour_of(&rt, rt.alloc(), &EIGHT);
+    let mut tour = journal_of(&rt, rt.alloc(), tour_of(&rt, rt.alloc(), &EIGHT), 1);
+    flip_twice(&rt, &mut tour);
+    assert!(rt; tour.lost() && !tour.rewind() && stands(&tour, &[8, 2, 4, 3, 5, 6, 7, 1]));
+    expect_restored(&rt, &mut tour, &start);
+}
+
+#[test]
+fn checks_lists(rt: HostRuntime) {
     let rows: [(&[u32], Verdict); 5] = [
         (&[3, 1, 4, 2], Verdict::Tour),
         (&[1, 2, 2, 4], Verdict::RepeatedCity(3)),
@@ -181,33 +173,29 @@ fn checks_lists(rt: HostRuntime) -> Result<(), Fail> {
         (&[], Verdict::WrongCount),
     ];
     for (list, want) in rows {
-        assert!(rt; check(rt.alloc(), 4, list)? == want);
+        assert!(rt; check(rt.alloc(), 4, list) == Ok(want));
     }
-    Ok(())
 }
 
 #[test]
-fn moves_a_segment_turned_round(rt: HostRuntime) -> Result<(), Fail> {
-    let mut tour = ArrayTour::from_list(rt.alloc(), &EIGHT)?;
+fn moves_a_segment_turned_round(rt: HostRuntime) {
+    let mut tour = tour_of(&rt, rt.alloc(), &EIGHT);
     laws::move_reversed(&mut tour, 1, 2, 3, 4, 5, 6);
-    assert!(rt; is_printed(rt.alloc(), &tour, &[1, 4, 5, 3, 2, 6, 7, 8])?);
-    Ok(())
+    expect_printed(&rt, rt.alloc(), &tour, &[1, 4, 5, 3, 2, 6, 7, 8]);
 }
 
 #[test]
-fn moves_a_segment_as_it_runs(rt: HostRuntime) -> Result<(), Fail> {
-    let mut tour = ArrayTour::from_list(rt.alloc(), &EIGHT)?;
+fn moves_a_segment_as_it_runs(rt: HostRuntime) {
+    let mut tour = tour_of(&rt, rt.alloc(), &EIGHT);
     laws::move_straight(&mut tour, 1, 2, 3, 4, 5, 6);
-    assert!(rt; is_printed(rt.alloc(), &tour, &[1, 4, 5, 2, 3, 6, 7, 8])?);
-    Ok(())
+    expect_printed(&rt, rt.alloc(), &tour, &[1, 4, 5, 2, 3, 6, 7, 8]);
 }
 
 #[test]
-fn bridges_doubly(rt: HostRuntime) -> Result<(), Fail> {
-    let mut tour = ArrayTour::from_list(rt.alloc(), &EIGHT)?;
+fn bridges_doubly(rt: HostRuntime) {
+    let mut tour = tour_of(&rt, rt.alloc(), &EIGHT);
     laws::double_bridge(&mut tour, 1, 2, 3, 4, 5, 6, 7, 8);
-    assert!(rt; is_printed(rt.alloc(), &tour, &[1, 2, 7, 8, 5, 6, 3, 4])?);
-    Ok(())
+    expect_printed(&rt, rt.alloc(), &tour, &[1, 2, 7, 8, 5, 6, 3, 4]);
 }
 
 #[test]

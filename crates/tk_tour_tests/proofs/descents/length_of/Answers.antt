@@ -6,8 +6,8 @@ use Rattle.tk_tour.proofs.Tours.{city_in_range}
 use Rattle.tk_tour_tests.proofs.descents.length_of.Goals as goal
 
 pub length-requires-clause-cities : goal.length-requires-clause-cities
-length-requires-clause-cities c =
-    let n = c.args.metric.now.n in
+length-requires-clause-cities g c =
+    let n = g.M.Metric.size_of c.args.metric.now in
     let cities = c.order.result.now in
     let sized = subst (λ k. IsTour k c.args.tour.now.order.items) (sym c.requires) c.args.tour.now.tour.2 in
     let tour = subst (IsTour n) (sym c.order.ensures) sized in
@@ -15,4 +15,4 @@ length-requires-clause-cities c =
     (omega (arith, r.0), omega (arith, r.1)))
 
 pub length-requires-clause-count : goal.length-requires-clause-count
-length-requires-clause-count c = omega (arith, ap length c.order.ensures, c.args.tour.now.tour.1)
+length-requires-clause-count g c = omega (arith, ap length c.order.ensures, c.args.tour.now.tour.1)

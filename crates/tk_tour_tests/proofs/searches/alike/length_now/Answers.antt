@@ -25,3 +25,19 @@ length-requires-clause-cities g c =
     ∙ ap (λ t. g.S.TourStore.cities t) c.tour.ensures.tour in
     subst P (sym e)
     (cities_of_tour (length order) size order c.requires (g.met.S.TourStore.is_tour (tour_of c.args.tour.now)).2)
+
+pub length-requires-clause-count : goal.length-requires-clause-count
+length-requires-clause-count g c =
+    let vec = c.in_ok-cities.cities in
+    let new = c.write_order.new.cities in
+    let same : length new ≡ length (cities_of c.args.tour.now) =
+    ap length c.write_order.ensures.order ∙ ap (λ t. length (g.S.TourStore.cities t)) c.tour.ensures.tour in
+    let whole : length new ≡ vec.len = omega (arith, same, c.size.ensures, c.in_ok-cities.ensures.len) in
+    let written : take vec.len (new ++ drop (length new) vec.items) ≡ new = grind (arith, common_steps) in
+    omega (
+      arith,
+      ap length c.deref.ensures.value,
+      ap length written,
+      same,
+      (g.met.S.TourStore.is_tour (tour_of c.args.tour.now)).1,
+    )

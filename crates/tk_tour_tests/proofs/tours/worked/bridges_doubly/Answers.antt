@@ -13,5 +13,5 @@ double_bridge-requires g c = record {
   is_d = ((8 ∷ [], refl), (7 ∷ [], refl));
   cycle =
       inl (record
-      { front = []; back = 1 ∷ 2 ∷ 3 ∷ 4 ∷ 5 ∷ 6 ∷ 7 ∷ 8 ∷ []; before = c.in_ok-tour.ensures.order; after = refl });
+      { front = []; back = 1 ∷ 2 ∷ 3 ∷ 4 ∷ 5 ∷ 6 ∷ 7 ∷ 8 ∷ []; before = c.tour_of-tour.ensures; after = refl });
 }

@@ -11,5 +11,5 @@ move_straight-requires g c = record {
   is_rest = ((7 ∷ 8 ∷ 1 ∷ [], refl), (6 ∷ 7 ∷ 8 ∷ [], refl));
   cycle =
       inl (record
-      { front = 1 ∷ []; back = 2 ∷ 3 ∷ 4 ∷ 5 ∷ 6 ∷ 7 ∷ 8 ∷ []; before = c.in_ok-tour.ensures.order; after = refl });
+      { front = 1 ∷ []; back = 2 ∷ 3 ∷ 4 ∷ 5 ∷ 6 ∷ 7 ∷ 8 ∷ []; before = c.tour_of-tour.ensures; after = refl });
 }
