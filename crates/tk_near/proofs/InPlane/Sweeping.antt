@@ -5,7 +5,7 @@ use Rattle.std.specs.Prelude.{ℤ, ◌-ℤ◌, ◌≤ℤ◌}
 use Rattle.std.specs.Int.RustNames.{unsigned_abs}
 use Rattle.std.proofs.lemmas.Int.{ints}
 use Rattle.std.proofs.lemmas.Bool.{cases_lt, cases_eq}
-use Rattle.tk_problem.specs.declared.limits.TheConstants.{DISTANCE_LIMIT}
+use Rattle.tk_problem.specs.declared.limits.TheConstants.{CITY_LIMIT, DISTANCE_LIMIT}
 use Rattle.tk_problem.specs.declared.point.Point.{Point}
 use Rattle.tk_near.specs.declared.candidates.Candidate.{Candidate}
 use Rattle.tk_near.specs.declared.plane.placed.Placed.{Placed}
@@ -39,8 +39,8 @@ kept_without k bound kept x up full one h l =
 abbrev Window : ℕ → ℕ → ℕ → ℕ → Type 0
 Window low high p q = (low ≤ q) × (q < high) × (q ≢ p)
 
-module _ (dist : ℕ → ℕ → ℕ) (limit : (a b : ℕ) → dist a b ≤ DISTANCE_LIMIT) (n : ℕ) (place_of : ℕ → Point)
-    (row : List Placed) (o : IsXOrder n place_of row) (small : n < 4294967296) where
+module _ {dist : ℕ → ℕ → ℕ} (limit : (a b : ℕ) → dist a b ≤ DISTANCE_LIMIT) {n : ℕ} {place_of : ℕ → Point}
+    {row : List Placed} (o : IsXOrder n place_of row) (few : n ≤ CITY_LIMIT) where
   city_small : (W : ℕ → Type 0) (b : ℕ) → IsAt row W b → b < 4294967296
   city_small W b s = let e = o.each s.0 s.1 in let same = s.3 in omega (arith, e.0.1)
 
@@ -136,7 +136,7 @@ module _ (dist : ℕ → ℕ → ℕ) (limit : (a b : ℕ) → dist a b ≤ DIST
             (λ b s. let w = s.2 in let low : p ≤ s.0 = w.0 in let high : s.0 < p + 1 = w.1 in w.2 (omega arith)));
       }
 
-  module _ (p low high k : ℕ) (kept : List Candidate) (h : IsSwept dist row p low high k kept) where
+  module _ {p low high k : ℕ} {kept : List Candidate} (h : IsSwept dist row p low high k kept) where
     pub swept_climbing : Climbing rank kept
     swept_climbing = climbing (placed_city row p) k _ _ kept h.keeps
 
@@ -214,12 +214,12 @@ module _ (dist : ℕ → ℕ → ℕ) (limit : (a b : ℕ) → dist a b ≤ DIST
               h.keeps;
         }
 
-  pub IsNear-from_swept : (p k : ℕ) (kept : List Candidate) → k < n → IsSwept dist row p 0 (length row) k kept →
+  pub IsNear-from_swept : {p k : ℕ} {kept : List Candidate} → k < n → IsSwept dist row p 0 (length row) k kept →
       IsNear dist n k (placed_city row p) (cities_kept kept)
-  IsNear-from_swept p k kept kn h =
+  IsNear-from_swept {p} {k} {kept} kn h =
       let enough : k ≤ length row - 0 - 1 = omega (arith, o.count) in
       IsNear-from_kept dist n (placed_city row p) k (length row - 0 - 1) (IsAt row (Window 0 (length row) p)) kept
-      h.keeps small enough
+      h.keeps (omega arith) enough
       (λ b city ne. let w = o.whole b city in
       (w.0, w.1, (omega arith, w.1, λ e. ne (sym w.2 ∙ ap (placed_city row) e)), w.2))
       (λ b s.

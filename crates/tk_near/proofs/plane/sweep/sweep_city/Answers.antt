@@ -8,8 +8,7 @@ loop-low-init g c =
     let m = c.args.m.now in
     let k : ℕ = length c.args.kept.now in
     let clear : c.fill.new.self ≡ replicate k open_place = c.fill.ensures.after (λ y e. e) in
-    rw clear (IsSwept-none (g.P.Metric.distance m) (g.met.P.Metric.distance_limit m) (g.P.Metric.size_of m)
-    (g.P.Planar.place_of m) c.args.row.now c.requires.order (omega (arith, g.met.P.Metric.size_limit m)) c.args.p k
+    rw clear (IsSwept-none (g.met.P.Metric.distance_limit m) c.requires.order (g.met.P.Metric.size_limit m) c.args.p k
     c.requires.place)
 
 pub returns-clause-near : goal.returns-clause-near
@@ -17,6 +16,5 @@ returns-clause-near g c =
     let m = c.args.m.now in
     let l : c.loop-low.low ≡ 0 = omega arith in
     let h : c.loop-low.high ≡ length c.args.row.now = omega (arith, c.loop-low.invariant.within) in
-    IsNear-from_swept (g.P.Metric.distance m) (g.met.P.Metric.distance_limit m) (g.P.Metric.size_of m)
-    (g.P.Planar.place_of m) c.args.row.now c.requires.order (omega (arith, g.met.P.Metric.size_limit m)) c.args.p
-    (length c.args.kept.now) c.loop-low.kept c.requires.high (rw (l, h) at c.loop-low.invariant)
+    IsNear-from_swept (g.met.P.Metric.distance_limit m) c.requires.order (g.met.P.Metric.size_limit m) c.requires.high
+    (rw (l, h) at c.loop-low.invariant)

@@ -1,33 +1,25 @@
-use Rattle.std.proofs.Common.{arith}
-use Rattle.tk_near.specs.Sweep.{IsFloor}
 use Rattle.tk_near.proofs.InPlane.Sweeping.{swept_climbing, swept_up_near, swept_up_far}
 use Rattle.tk_near.proofs.plane.sweep.sweep_up.Goals as goal
-
-pub meet-requires-clause-climbing : goal.meet-requires-clause-climbing
-meet-requires-clause-climbing g c =
-    let m = c.args.m.now in
-    swept_climbing (g.P.Metric.distance m) (g.met.P.Metric.distance_limit m) (g.P.Metric.size_of m)
-    (g.P.Planar.place_of m) c.args.row.now c.requires.order (omega (arith, g.met.P.Metric.size_limit m)) c.args.p
-    c.args.low c.args.high _ _ c.requires.swept
 
 pub returns-then-meet-clause-swept : goal.returns-then-meet-clause-swept
 returns-then-meet-clause-swept g c =
     let m = c.args.m.now in
     let kept = rw c.if-meet.true at c.meet.ensures in
-    rw kept (swept_up_near (g.P.Metric.distance m) (g.met.P.Metric.distance_limit m) (g.P.Metric.size_of m)
-    (g.P.Planar.place_of m) c.args.row.now c.requires.order (omega (arith, g.met.P.Metric.size_limit m)) c.args.p
-    c.args.low c.args.high _ _ c.requires.swept c.requires.right)
+    rw kept (swept_up_near (g.met.P.Metric.distance_limit m) c.requires.order (g.met.P.Metric.size_limit m)
+    c.requires.swept c.requires.right)
 
 pub returns-else-meet-clause-swept : goal.returns-else-meet-clause-swept
 returns-else-meet-clause-swept g c =
     let m = c.args.m.now in
-    let laws : IsFloor (g.P.Metric.distance m) (g.P.Planar.place_of m) (g.P.Planar.floor m) =
-    record {
+    let far = rw c.if-meet.false at c.meet.ensures in
+    rw far.0 (swept_up_far (g.met.P.Metric.distance_limit m) c.requires.order (g.met.P.Metric.size_limit m)
+    c.requires.swept (g.P.Planar.floor m) record {
       wide = g.met.P.Planar.wide m;
       rises = g.met.P.Planar.floor_rises m;
       bounds = g.met.P.Planar.floor_bounds m;
-    } in
-    let far = rw c.if-meet.false at c.meet.ensures in
-    rw far.0 (swept_up_far (g.P.Metric.distance m) (g.met.P.Metric.distance_limit m) (g.P.Metric.size_of m)
-    (g.P.Planar.place_of m) c.args.row.now c.requires.order (omega (arith, g.met.P.Metric.size_limit m)) c.args.p
-    c.args.low c.args.high _ _ c.requires.swept (g.P.Planar.floor m) laws c.requires.right c.requires.room far.1)
+    } c.requires.right c.requires.room far.1)
+
+pub meet-requires-clause-climbing : goal.meet-requires-clause-climbing
+meet-requires-clause-climbing g c =
+    let m = c.args.m.now in
+    swept_climbing (g.met.P.Metric.distance_limit m) c.requires.order (g.met.P.Metric.size_limit m) c.requires.swept
