@@ -2,7 +2,7 @@
 use Rattle.std.proofs.Common.{◌≡◌, ◌≢◌, ℕ, zero, suc, ◌+◌, ◌*◌, ◌-◌, ◌<◌, ◌≤◌, ◌⊎◌, ⊎_elim, inl, inr, List, [], ◌∷◌}
 use Rattle.std.proofs.Common.{◌++◌, length, take, replicate, refl, sym, ap, ◌∙◌, arith, cond, true, false, get_or}
 use Rattle.std.proofs.Common.{subst, max}
-use Rattle.std.specs.Prelude.{All, ◌==◌, nat_lt, ◌-ℤ◌}
+use Rattle.std.specs.Prelude.{All, Bool, IsTrue, ◌==◌, nat_lt, ◌-ℤ◌, ◌↔◌}
 use Rattle.std.specs.Int.RustNames.{unsigned_abs}
 use Rattle.std.proofs.lemmas.Bool.Decides.{nat_tests}
 use Rattle.std.proofs.lemmas.Bool.{cases_lt, cases_eq}
@@ -25,7 +25,7 @@ use Rattle.tk_near.specs.declared.plane.tree.Frame.{Frame}
 use Rattle.tk_near.specs.declared.plane.tree.Tree.{Tree}
 use Rattle.tk_near.specs.Tree.{IsFrom, IsInBox, IsBeyond, entries_of, parts_of, with_city, with_cities}
 use Rattle.tk_near.proofs.Inserting.{take-insert_by, length-insert_by, IsPermutation-insert_by, Climbing-take}
-use Rattle.tk_near.proofs.Inserting.{insert_by-full}
+use Rattle.tk_near.proofs.Inserting.{before_false, insert_by-full}
 use Rattle.tk_near.proofs.Keeping.{KeepsFirst-none, KeepsFirst-more, KeepsFirst-same, KeepsFirst-count}
 use Rattle.tk_near.proofs.Keeping.{IsNear-from_kept, kept_length, same_twice}
 
@@ -249,12 +249,16 @@ module _ (dist : ℕ → ℕ → ℕ) (n : ℕ) (place_of : ℕ → Point) (floo
       omega (arith, rises, f.bounds_y here.city p.city))
       beyond
 
--- a part of which no city comes before the last of the kept changes nothing
-pub kept_without_part : (dist : ℕ → ℕ → ℕ) (c : ℕ) (first : Candidate) (ps : List Placed) (kept : List Candidate)
-    → All (IsFrom dist c first) ps → Climbing rank kept → 1 ≤ length kept
-    → rank (last_of kept) ≤ rank first → kept ≡ with_cities dist c ps kept
-kept_without_part dist c first ps kept from up room out =
-    sym (with_cities-out dist c ps kept up room (λ k d l. let one = from k d l in omega (arith, one, out)))
+-- a part is left out where no city of its box comes before the last of the kept: it changes nothing
+pub kept_without_part : (dist : ℕ → ℕ → ℕ) (n : ℕ) (place_of : ℕ → Point) (c : ℕ) {frame : Frame} (first : Candidate)
+    (ps : List Placed) (kept : List Candidate) {last : Candidate} {enter : Bool}
+    → ((p : Placed) → IsPlaced n place_of p → IsInBox frame p → IsFrom dist c first p) → All (IsPlaced n place_of) ps
+    → All (IsInBox frame) ps → Climbing rank kept → 1 ≤ length kept → last ≡ last_of kept
+    → IsTrue enter ↔ (rank first < rank last) → enter ≡ false → kept ≡ with_cities dist c ps kept
+kept_without_part dist n place_of c {frame} first ps kept {last} {enter} from placed within up room is test off =
+    let out = rw is at (before_false test off) in
+    sym (with_cities-out dist c ps kept up room
+    (λ k d l. let one = from (get_or ps k d) (placed k d l) (within k d l) in omega (arith, one, out)))
 
 -- ---- all cities of a row
 
@@ -362,14 +366,6 @@ all_front P (x ∷ xs) ys h = All-cons P x xs (All-head P x (xs ++ ys) h) (all_f
 pub all_back : {X : Type 0} (P : X → Type 0) (xs ys : List X) → All P (xs ++ ys) → All P ys
 all_back P [] ys h = h
 all_back P (x ∷ xs) ys h = all_back P xs ys (All-tail P x (xs ++ ys) h)
-
--- the cities of a part do not come before what none of its box comes before
-pub part_from : (dist : ℕ → ℕ → ℕ) (n : ℕ) (place_of : ℕ → Point) (c : ℕ) (frame : Frame) (first : Candidate)
-    (ps : List Placed)
-    → ((p : Placed) → IsPlaced n place_of p → IsInBox frame p → IsFrom dist c first p) → All (IsPlaced n place_of) ps →
-    All (IsInBox frame) ps → All (IsFrom dist c first) ps
-part_from dist n place_of c frame first ps from placed within =
-    λ k d l. from (get_or ps k d) (placed k d l) (within k d l)
 
 -- what stands in either of two boxes stands in a box round both
 pub joined_within : (lower upper whole : Frame) (xs ys : List Placed)

@@ -1,201 +1,140 @@
-use Rattle.std.proofs.Common.{◌≡◌, ℕ, ◌++◌, ◌∙◌, ap, inl, inr}
+use Rattle.std.proofs.Common.{◌≡◌, ◌<◌, ◌⊎◌, ℕ, ap, inl, inr}
 use Rattle.std.specs.Prelude.{All}
-use Rattle.tk_near.proofs.Inserting.{before_false}
+use Rattle.tk_near.specs.declared.plane.placed.Placed.{Placed}
+use Rattle.tk_near.specs.declared.plane.tree.Tree.{Tree}
 use Rattle.tk_near.specs.Placed.{IsPlaced}
-use Rattle.tk_near.specs.Tree.{entries_of, parts_of, with_cities}
-use Rattle.tk_near.proofs.InPlane.Parting.{IsSmall, kept_without_part, all_front, all_back, part_from, part_smaller}
+use Rattle.tk_near.specs.Tree.{entries_of, parts_of, IsFramed, with_cities}
+use Rattle.tk_near.proofs.InPlane.Parting.{IsSmall, kept_without_part, all_front, all_back, part_smaller}
 use Rattle.tk_near.proofs.InPlane.Parting.{seen_both, seen_both_back, placed_small}
 use Rattle.tk_near.proofs.plane.tree.+search.Given.{Over}
 use Rattle.tk_near.proofs.plane.tree.+search.Goals as goal
-use Rattle.tk_near.proofs.plane.tree.+search.Goals.{In-Cut, then-may_enter, else-may_enter}
+use Rattle.tk_near.proofs.plane.tree.+search.Goals.{In-Cut, After-last-then-is_before, After-last-else-is_before-2}
+use Rattle.tk_near.proofs.plane.tree.+search.Goals.{then-may_enter, else-may_enter}
 use Rattle.tk_near.proofs.plane.tree.+search.Goals.{then-may_enter-3, else-may_enter-3}
 
--- what is known of the cities of both halves
-halves : (g : Over) (t : ℕ) (c : In-Cut g t) →
-    All (IsPlaced (g.P.Metric.size_of c.args.m.now) (g.P.Planar.place_of c.args.m.now))
-    (entries_of c.in-Cut.lower.value)
-    × All (IsPlaced (g.P.Metric.size_of c.args.m.now) (g.P.Planar.place_of c.args.m.now))
-    (entries_of c.in-Cut.upper.value)
-halves g t c =
-    let Placed = IsPlaced (g.P.Metric.size_of c.args.m.now) (g.P.Planar.place_of c.args.m.now) in
-    let placed = rw c.in-Cut.is at c.requires.placed in (
-      all_front Placed (entries_of c.in-Cut.lower.value) (entries_of c.in-Cut.upper.value) placed,
-      all_back Placed (entries_of c.in-Cut.lower.value) (entries_of c.in-Cut.upper.value) placed,
+-- a city of the metric, with its place
+abbrev IsOfMetric : (g : Over) → g.row.P.Denot → Placed → Type 0
+IsOfMetric g m = IsPlaced (g.P.Metric.size_of m) (g.P.Planar.place_of m)
+
+-- a half is smaller, and can be searched
+half_fits : (g : Over) (t : ℕ) (c : In-Cut g t) (half : Tree) →
+    (half ≡ c.in-Cut.lower.value) ⊎ (half ≡ c.in-Cut.upper.value) →
+    (parts_of half < t) × (All (IsOfMetric g c.args.m.now) (entries_of half) × IsFramed half)
+half_fits g t c half is =
+    let Here = IsOfMetric g c.args.m.now in
+    let placed = rw c.in-Cut.is at c.requires.placed in
+    let framed = rw c.in-Cut.is at c.requires.framed in (
+      part_smaller c.args.tree.now _ _ half t c.decreases (ap parts_of c.in-Cut.is) is,
+      elim is [
+        | inl e ↦ rw e (all_front Here _ _ placed, framed.2)
+        | inr e ↦ rw e (all_back Here _ _ placed, framed.3)
+      ],
     )
+
+-- the cities of a tree were seen from here
+abbrev Saw : (g : Over) → g.row.P.Denot → Placed → Tree → g.row.K.Denot → g.row.K.Denot → Type 0
+Saw g m here tree before now =
+    g.K.Keeper.kept_of now ≡ with_cities (g.P.Metric.distance m) here.city (entries_of tree) (g.K.Keeper.kept_of before)
+
+-- the lower half is seen or left out, and then the upper one is seen
+lower_then_upper : (g : Over) (t : ℕ) (c : After-last-then-is_before g t) (now : g.row.K.Denot) →
+    Saw g c.args.m.now c.args.here.now c.in-Cut.upper.value c.if-may_enter.keeper now →
+    Saw g c.args.m.now c.args.here.now c.args.tree.now c.args.keeper.now now
+lower_then_upper g t c now upper =
+    let m = c.args.m.now in
+    let placed = rw c.in-Cut.is at c.requires.placed in
+    let framed = rw c.in-Cut.is at c.requires.framed in
+    let lower : Saw g m c.args.here.now c.in-Cut.lower.value c.args.keeper.now c.if-may_enter.keeper =
+    elim c.if-may_enter.branch [
+      | then-may_enter w ↦ rw w.keeper-is (rw w.deref-then-may_enter.ensures at w.search.ensures)
+      | else-may_enter w ↦
+          rw w.keeper-is
+          (kept_without_part (g.P.Metric.distance m) (g.P.Metric.size_of m) (g.P.Planar.place_of m)
+          c.args.here.now.city c.first-lower_first.result _ _ c.first-lower_first.ensures
+          (all_front (IsOfMetric g m) _ _ placed) framed.0 (g.met.K.Keeper.climbing c.args.keeper.now)
+          (g.met.K.Keeper.room c.args.keeper.now) c.last.ensures c.may_enter.ensures w.if-may_enter.false)
+    ] in
+    seen_both (g.P.Metric.distance m) c.args.here.now.city c.in-Cut.lower.value c.in-Cut.upper.value c.args.tree.now
+    _ _ _ (ap entries_of c.in-Cut.is) lower upper
+
+-- the upper half is seen or left out, and then the lower one is seen
+upper_then_lower : (g : Over) (t : ℕ) (c : After-last-else-is_before-2 g t) (now : g.row.K.Denot) →
+    Saw g c.args.m.now c.args.here.now c.in-Cut.lower.value c.if-may_enter-3.keeper now →
+    Saw g c.args.m.now c.args.here.now c.args.tree.now c.args.keeper.now now
+upper_then_lower g t c now lower =
+    let m = c.args.m.now in
+    let placed = rw c.in-Cut.is at c.requires.placed in
+    let framed = rw c.in-Cut.is at c.requires.framed in
+    let upper : Saw g m c.args.here.now c.in-Cut.upper.value c.args.keeper.now c.if-may_enter-3.keeper =
+    elim c.if-may_enter-3.branch [
+      | then-may_enter-3 w ↦ rw w.keeper-is (rw w.deref-then-may_enter-3.ensures at w.search-then-may_enter-3.ensures)
+      | else-may_enter-3 w ↦
+          rw w.keeper-is
+          (kept_without_part (g.P.Metric.distance m) (g.P.Metric.size_of m) (g.P.Planar.place_of m)
+          c.args.here.now.city c.first-upper_first.result _ _ c.first-upper_first.ensures
+          (all_back (IsOfMetric g m) _ _ placed) framed.1 (g.met.K.Keeper.climbing c.args.keeper.now)
+          (g.met.K.Keeper.room c.args.keeper.now) c.last-else-is_before.ensures c.may_enter-else-is_before.ensures
+          w.if-may_enter-3.false)
+    ] in
+    let small = placed_small (g.P.Metric.size_of m) (g.P.Planar.place_of m) _ (g.met.P.Metric.size_limit m) placed in
+    seen_both_back (g.P.Metric.distance m) c.args.here.now.city c.in-Cut.lower.value c.in-Cut.upper.value
+    c.args.tree.now _ _ _ (all_front IsSmall _ _ small) (all_back IsSmall _ _ small) (ap entries_of c.in-Cut.is) upper
+    lower
 
 pub search-requires : goal.search-requires
 search-requires g t c κs within =
-    let e = c.deref-then-may_enter.ensures in
-    let framed = rw c.in-Cut.is at c.requires.framed in
-    let mine = (halves g t (goal.at.search-requires g t c).In-Cut).0 in (
-      part_smaller c.args.tree.now c.in-Cut.lower.value c.in-Cut.upper.value _ t c.decreases (ap parts_of c.in-Cut.is)
-          (inl e),
-      (within.0, (within.1, (c.requires.here, (rw e mine, rw e framed.2)))),
-    )
+    let at = goal.at.search-requires g t c in
+    let half = half_fits g t at.In-Cut _ (inl c.deref-then-may_enter.ensures) in
+    (half.0, (within.0, (within.1, (c.requires.here, half.1))))
 
 pub search-requires-then-may_enter-2 : goal.search-requires-then-may_enter-2
 search-requires-then-may_enter-2 g t c κs within =
-    let e = c.deref-then-may_enter-2.ensures in
-    let framed = rw c.in-Cut.is at c.requires.framed in
-    let mine = (halves g t (goal.at.search-requires-then-may_enter-2 g t c).In-Cut).1 in (
-      part_smaller c.args.tree.now c.in-Cut.lower.value c.in-Cut.upper.value _ t c.decreases (ap parts_of c.in-Cut.is)
-          (inr e),
-      (within.0, (within.1, (c.requires.here, (rw e mine, rw e framed.3)))),
-    )
+    let at = goal.at.search-requires-then-may_enter-2 g t c in
+    let half = half_fits g t at.In-Cut _ (inr c.deref-then-may_enter-2.ensures) in
+    (half.0, (within.0, (within.1, (c.requires.here, half.1))))
 
 pub search-requires-then-may_enter-3 : goal.search-requires-then-may_enter-3
 search-requires-then-may_enter-3 g t c κs within =
-    let e = c.deref-then-may_enter-3.ensures in
-    let framed = rw c.in-Cut.is at c.requires.framed in
-    let mine = (halves g t (goal.at.search-requires-then-may_enter-3 g t c).In-Cut).1 in (
-      part_smaller c.args.tree.now c.in-Cut.lower.value c.in-Cut.upper.value _ t c.decreases (ap parts_of c.in-Cut.is)
-          (inr e),
-      (within.0, (within.1, (c.requires.here, (rw e mine, rw e framed.3)))),
-    )
+    let at = goal.at.search-requires-then-may_enter-3 g t c in
+    let half = half_fits g t at.In-Cut _ (inr c.deref-then-may_enter-3.ensures) in
+    (half.0, (within.0, (within.1, (c.requires.here, half.1))))
 
 pub search-requires-then-may_enter-4 : goal.search-requires-then-may_enter-4
 search-requires-then-may_enter-4 g t c κs within =
-    let e = c.deref-then-may_enter-4.ensures in
-    let framed = rw c.in-Cut.is at c.requires.framed in
-    let mine = (halves g t (goal.at.search-requires-then-may_enter-4 g t c).In-Cut).0 in (
-      part_smaller c.args.tree.now c.in-Cut.lower.value c.in-Cut.upper.value _ t c.decreases (ap parts_of c.in-Cut.is)
-          (inl e),
-      (within.0, (within.1, (c.requires.here, (rw e mine, rw e framed.2)))),
-    )
+    let at = goal.at.search-requires-then-may_enter-4 g t c in
+    let half = half_fits g t at.In-Cut _ (inl c.deref-then-may_enter-4.ensures) in
+    (half.0, (within.0, (within.1, (c.requires.here, half.1))))
 
 pub returns-then-may_enter-2 : goal.returns-then-may_enter-2
 returns-then-may_enter-2 g t c =
-    let m = c.args.m.now in
-    let dist = g.P.Metric.distance m in
-    let here = c.args.here.now.city in
-    let lower = c.in-Cut.lower.value in
-    let upper = c.in-Cut.upper.value in
-    let framed = rw c.in-Cut.is at c.requires.framed in
-    let placed = rw c.in-Cut.is at c.requires.placed in
-    let kept = g.K.Keeper.kept_of c.args.keeper.now in
-    let middle = g.K.Keeper.kept_of c.if-may_enter.keeper in
-    let first : middle ≡ with_cities dist here (entries_of lower) kept = elim c.if-may_enter.branch [
-      | then-may_enter w ↦ rw w.keeper-is (w.search.ensures
-          ∙ ap (λ tree. with_cities dist here (entries_of tree) kept) w.deref-then-may_enter.ensures)
-      | else-may_enter w ↦
-          let mine = all_front (IsPlaced (g.P.Metric.size_of m) (g.P.Planar.place_of m)) (entries_of lower)
-          (entries_of upper) placed in
-          let from = part_from dist (g.P.Metric.size_of m) (g.P.Planar.place_of m) here c.in-Cut.lower_frame
-          c.first-lower_first.result (entries_of lower) c.first-lower_first.ensures mine framed.0 in
-          let out = rw c.last.ensures at (before_false c.may_enter.ensures w.if-may_enter.false) in
-          rw w.keeper-is
-          (kept_without_part dist here c.first-lower_first.result (entries_of lower) kept from
-          (g.met.K.Keeper.climbing c.args.keeper.now) (g.met.K.Keeper.room c.args.keeper.now) out)
-    ] in
-    let second = c.search-then-may_enter-2.ensures
-    ∙ ap (λ tree. with_cities dist here (entries_of tree) middle) c.deref-then-may_enter-2.ensures in
-    seen_both dist here lower upper c.args.tree.now kept middle _ (ap entries_of c.in-Cut.is) first second
+    lower_then_upper g t (goal.at.returns-then-may_enter-2 g t c).After-last-then-is_before _
+    (rw c.deref-then-may_enter-2.ensures at c.search-then-may_enter-2.ensures)
 
 pub returns-else-may_enter-2 : goal.returns-else-may_enter-2
 returns-else-may_enter-2 g t c =
     let m = c.args.m.now in
-    let dist = g.P.Metric.distance m in
-    let here = c.args.here.now.city in
-    let lower = c.in-Cut.lower.value in
-    let upper = c.in-Cut.upper.value in
-    let framed = rw c.in-Cut.is at c.requires.framed in
+    let keeper = c.if-may_enter.keeper in
     let placed = rw c.in-Cut.is at c.requires.placed in
-    let kept = g.K.Keeper.kept_of c.args.keeper.now in
-    let middle = g.K.Keeper.kept_of c.if-may_enter.keeper in
-    let first : middle ≡ with_cities dist here (entries_of lower) kept = elim c.if-may_enter.branch [
-      | then-may_enter w ↦ rw w.keeper-is (w.search.ensures
-          ∙ ap (λ tree. with_cities dist here (entries_of tree) kept) w.deref-then-may_enter.ensures)
-      | else-may_enter w ↦
-          let mine = all_front (IsPlaced (g.P.Metric.size_of m) (g.P.Planar.place_of m)) (entries_of lower)
-          (entries_of upper) placed in
-          let from = part_from dist (g.P.Metric.size_of m) (g.P.Planar.place_of m) here c.in-Cut.lower_frame
-          c.first-lower_first.result (entries_of lower) c.first-lower_first.ensures mine framed.0 in
-          let out = rw c.last.ensures at (before_false c.may_enter.ensures w.if-may_enter.false) in
-          rw w.keeper-is
-          (kept_without_part dist here c.first-lower_first.result (entries_of lower) kept from
-          (g.met.K.Keeper.climbing c.args.keeper.now) (g.met.K.Keeper.room c.args.keeper.now) out)
-    ] in
-    let mine = all_back (IsPlaced (g.P.Metric.size_of m) (g.P.Planar.place_of m)) (entries_of lower)
-    (entries_of upper) placed in
-    let from = part_from dist (g.P.Metric.size_of m) (g.P.Planar.place_of m) here c.in-Cut.upper_frame
-    c.first-upper_first.result (entries_of upper) c.first-upper_first.ensures mine framed.1 in
-    let out =
-    rw c.last-then-is_before.ensures at (before_false c.may_enter-then-is_before.ensures c.if-may_enter-2.false) in
-    let second = kept_without_part dist here c.first-upper_first.result (entries_of upper) middle from
-    (g.met.K.Keeper.climbing c.if-may_enter.keeper) (g.met.K.Keeper.room c.if-may_enter.keeper) out in
-    seen_both dist here lower upper c.args.tree.now kept middle _ (ap entries_of c.in-Cut.is) first second
+    let framed = rw c.in-Cut.is at c.requires.framed in
+    lower_then_upper g t (goal.at.returns-else-may_enter-2 g t c).After-last-then-is_before keeper
+    (kept_without_part (g.P.Metric.distance m) (g.P.Metric.size_of m) (g.P.Planar.place_of m) c.args.here.now.city
+    c.first-upper_first.result _ _ c.first-upper_first.ensures (all_back (IsOfMetric g m) _ _ placed) framed.1
+    (g.met.K.Keeper.climbing keeper) (g.met.K.Keeper.room keeper) c.last-then-is_before.ensures
+    c.may_enter-then-is_before.ensures c.if-may_enter-2.false)
 
 pub returns-then-may_enter-4 : goal.returns-then-may_enter-4
 returns-then-may_enter-4 g t c =
-    let m = c.args.m.now in
-    let dist = g.P.Metric.distance m in
-    let here = c.args.here.now.city in
-    let lower = c.in-Cut.lower.value in
-    let upper = c.in-Cut.upper.value in
-    let framed = rw c.in-Cut.is at c.requires.framed in
-    let placed = rw c.in-Cut.is at c.requires.placed in
-    let kept = g.K.Keeper.kept_of c.args.keeper.now in
-    let middle = g.K.Keeper.kept_of c.if-may_enter-3.keeper in
-    let first : middle ≡ with_cities dist here (entries_of upper) kept = elim c.if-may_enter-3.branch [
-      | then-may_enter-3 w ↦ rw w.keeper-is (w.search-then-may_enter-3.ensures
-          ∙ ap (λ tree. with_cities dist here (entries_of tree) kept) w.deref-then-may_enter-3.ensures)
-      | else-may_enter-3 w ↦
-          let mine = all_back (IsPlaced (g.P.Metric.size_of m) (g.P.Planar.place_of m)) (entries_of lower)
-          (entries_of upper) placed in
-          let from = part_from dist (g.P.Metric.size_of m) (g.P.Planar.place_of m) here c.in-Cut.upper_frame
-          c.first-upper_first.result (entries_of upper) c.first-upper_first.ensures mine framed.1 in
-          let out =
-          rw c.last-else-is_before.ensures at
-          (before_false c.may_enter-else-is_before.ensures w.if-may_enter-3.false) in
-          rw w.keeper-is
-          (kept_without_part dist here c.first-upper_first.result (entries_of upper) kept from
-          (g.met.K.Keeper.climbing c.args.keeper.now) (g.met.K.Keeper.room c.args.keeper.now) out)
-    ] in
-    let second = c.search-then-may_enter-4.ensures
-    ∙ ap (λ tree. with_cities dist here (entries_of tree) middle) c.deref-then-may_enter-4.ensures in
-    let small : All IsSmall (entries_of lower ++ entries_of upper) =
-    placed_small (g.P.Metric.size_of m) (g.P.Planar.place_of m) (entries_of lower ++ entries_of upper)
-    (g.met.P.Metric.size_limit m) placed in
-    seen_both_back dist here lower upper c.args.tree.now kept middle _ (all_front IsSmall _ _ small)
-    (all_back IsSmall _ _ small) (ap entries_of c.in-Cut.is) first second
+    upper_then_lower g t (goal.at.returns-then-may_enter-4 g t c).After-last-else-is_before-2 _
+    (rw c.deref-then-may_enter-4.ensures at c.search-then-may_enter-4.ensures)
 
 pub returns-else-may_enter-4 : goal.returns-else-may_enter-4
 returns-else-may_enter-4 g t c =
     let m = c.args.m.now in
-    let dist = g.P.Metric.distance m in
-    let here = c.args.here.now.city in
-    let lower = c.in-Cut.lower.value in
-    let upper = c.in-Cut.upper.value in
-    let framed = rw c.in-Cut.is at c.requires.framed in
+    let keeper = c.if-may_enter-3.keeper in
     let placed = rw c.in-Cut.is at c.requires.placed in
-    let kept = g.K.Keeper.kept_of c.args.keeper.now in
-    let middle = g.K.Keeper.kept_of c.if-may_enter-3.keeper in
-    let first : middle ≡ with_cities dist here (entries_of upper) kept = elim c.if-may_enter-3.branch [
-      | then-may_enter-3 w ↦ rw w.keeper-is (w.search-then-may_enter-3.ensures
-          ∙ ap (λ tree. with_cities dist here (entries_of tree) kept) w.deref-then-may_enter-3.ensures)
-      | else-may_enter-3 w ↦
-          let mine = all_back (IsPlaced (g.P.Metric.size_of m) (g.P.Planar.place_of m)) (entries_of lower)
-          (entries_of upper) placed in
-          let from = part_from dist (g.P.Metric.size_of m) (g.P.Planar.place_of m) here c.in-Cut.upper_frame
-          c.first-upper_first.result (entries_of upper) c.first-upper_first.ensures mine framed.1 in
-          let out =
-          rw c.last-else-is_before.ensures at
-          (before_false c.may_enter-else-is_before.ensures w.if-may_enter-3.false) in
-          rw w.keeper-is
-          (kept_without_part dist here c.first-upper_first.result (entries_of upper) kept from
-          (g.met.K.Keeper.climbing c.args.keeper.now) (g.met.K.Keeper.room c.args.keeper.now) out)
-    ] in
-    let mine = all_front (IsPlaced (g.P.Metric.size_of m) (g.P.Planar.place_of m)) (entries_of lower)
-    (entries_of upper) placed in
-    let from = part_from dist (g.P.Metric.size_of m) (g.P.Planar.place_of m) here c.in-Cut.lower_frame
-    c.first-lower_first.result (entries_of lower) c.first-lower_first.ensures mine framed.0 in
-    let out =
-    rw c.last-else-is_before-2.ensures at
-    (before_false c.may_enter-else-is_before-2.ensures c.if-may_enter-4.false) in
-    let second = kept_without_part dist here c.first-lower_first.result (entries_of lower) middle from
-    (g.met.K.Keeper.climbing c.if-may_enter-3.keeper) (g.met.K.Keeper.room c.if-may_enter-3.keeper) out in
-    let small : All IsSmall (entries_of lower ++ entries_of upper) =
-    placed_small (g.P.Metric.size_of m) (g.P.Planar.place_of m) (entries_of lower ++ entries_of upper)
-    (g.met.P.Metric.size_limit m) placed in
-    seen_both_back dist here lower upper c.args.tree.now kept middle _ (all_front IsSmall _ _ small)
-    (all_back IsSmall _ _ small) (ap entries_of c.in-Cut.is) first second
+    let framed = rw c.in-Cut.is at c.requires.framed in
+    upper_then_lower g t (goal.at.returns-else-may_enter-4 g t c).After-last-else-is_before-2 keeper
+    (kept_without_part (g.P.Metric.distance m) (g.P.Metric.size_of m) (g.P.Planar.place_of m) c.args.here.now.city
+    c.first-lower_first.result _ _ c.first-lower_first.ensures (all_front (IsOfMetric g m) _ _ placed) framed.0
+    (g.met.K.Keeper.climbing keeper) (g.met.K.Keeper.room keeper) c.last-else-is_before-2.ensures
+    c.may_enter-else-is_before-2.ensures c.if-may_enter-4.false)
