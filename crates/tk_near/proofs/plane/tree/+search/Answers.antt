@@ -31,12 +31,12 @@ half_fits g t c half is =
       ],
     )
 
--- the cities of a tree were seen from here
+-- what is kept is as if the cities of a tree were seen from here
 abbrev Saw : (g : Over) → g.row.P.Denot → Placed → Tree → g.row.K.Denot → g.row.K.Denot → Type 0
 Saw g m here tree before now =
     g.K.Keeper.kept_of now ≡ with_cities (g.P.Metric.distance m) here.city (entries_of tree) (g.K.Keeper.kept_of before)
 
--- the lower half is seen or left out, and then the upper one is seen
+-- the lower half first, and then the upper one
 lower_then_upper : (g : Over) (t : ℕ) (c : After-last-then-is_before g t) (now : g.row.K.Denot) →
     Saw g c.args.m.now c.args.here.now c.in-Cut.upper.value c.if-may_enter.keeper now →
     Saw g c.args.m.now c.args.here.now c.args.tree.now c.args.keeper.now now
@@ -57,7 +57,7 @@ lower_then_upper g t c now upper =
     seen_both (g.P.Metric.distance m) c.args.here.now.city c.in-Cut.lower.value c.in-Cut.upper.value c.args.tree.now
     _ _ _ (ap entries_of c.in-Cut.is) lower upper
 
--- the upper half is seen or left out, and then the lower one is seen
+-- the upper half first, and then the lower one
 upper_then_lower : (g : Over) (t : ℕ) (c : After-last-else-is_before-2 g t) (now : g.row.K.Denot) →
     Saw g c.args.m.now c.args.here.now c.in-Cut.lower.value c.if-may_enter-3.keeper now →
     Saw g c.args.m.now c.args.here.now c.args.tree.now c.args.keeper.now now
