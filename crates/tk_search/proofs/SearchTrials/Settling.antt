@@ -1,5 +1,5 @@
 -- What a trial undoes or copies, by its totals.
-use Rattle.std.proofs.Common.{◌≡◌, ℕ, ◌+◌, ◌-◌, ◌^◌, ◌<◌, ◌≤◌, length, ◌∙◌, sym, arith}
+use Rattle.std.proofs.Common.{◌≡◌, ℕ, ◌+◌, ◌-◌, ◌^◌, ◌<◌, ◌≤◌, length, arith}
 use Rattle.tk_tour.specs.Counters.{saturated}
 use Rattle.tk_tour.specs.JournalTours.{swaps_of, undo_swaps_of, slots_of, flips_since, swaps_to_rewind}
 use Rattle.tk_tour.specs.declared.store.TourStore.{Ghosts}
@@ -29,15 +29,7 @@ pub settles : {S : Type 0} {u : undo.Ghosts S} {w : Ghosts S} (n flips swaps kic
 settles n flips swaps kick made taken old s t report h counts size slots all_flips all_swaps kicked rewind undo copied
     small = record {
       counted = omega (arith, counts.swaps, h.swaps_are, kicked, all_swaps);
-      taken = λ e. let k = h.taken e in (
-        counts.undo_swaps ∙ k.0
-            ∙ sym undo,
-        record {
-          most = omega (arith, counts.copied, k.1.most, copied, size);
-          exact = λ few. let x = k.1.exact (omega (arith, counts.copied, few)) in
-              omega (arith, counts.copied, x, copied, size);
-        },
-      );
+      taken = λ e. rw (counts.undo_swaps, counts.copied, undo, copied, ← size) (h.taken e);
       undone = λ e room.
           let k = h.undone e (omega (arith, room, slots, all_flips)) in (
             λ few.
@@ -47,14 +39,7 @@ settles n flips swaps kick made taken old s t report h counts size slots all_fli
                 omega (arith, x, counts.undo_swaps, undo),
             omega (arith, counts.copied, k.1, copied),
           );
-      restored = λ e many. let k = h.restored e (omega (arith, many, slots, all_flips)) in (
-        counts.undo_swaps ∙ k.0
-            ∙ sym undo,
-        record {
-          most = omega (arith, counts.copied, k.1.most, copied, size);
-          exact = λ few. let x = k.1.exact (omega (arith, counts.copied, few)) in
-              omega (arith, counts.copied, x, copied, size);
-        },
-      );
+      restored = λ e many. rw (counts.undo_swaps, counts.copied, undo, copied, ← size)
+          (h.restored e (omega (arith, many, slots, all_flips)));
       limits = (small.0, counts.undone, small.1);
     }
