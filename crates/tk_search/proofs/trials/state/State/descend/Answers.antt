@@ -1,17 +1,24 @@
-use Rattle.std.proofs.Common.{rules, ◌≡◌, ◌≤◌, ◌+◌, ◌*◌, ◌/◌, ℕ, length, arith, ap, ◌∙◌, sym, subst}
+use Rattle.std.proofs.Common.{rules, ◌≡◌, ◌≤◌, ◌+◌, ◌*◌, ◌/◌, ℕ, length, arith, ap, ◌∙◌, refl, sym, subst}
 use Rattle.std.proofs.lemmas.Int.{to_z-of_z}
 use Rattle.std.specs.Prelude.{pos, true, false, if◌then◌else◌}
 use Rattle.tk_problem.specs.declared.limits.TheConstants.{CITY_LIMIT}
 use Rattle.tk_descent.proofs.WakeRuns.DescentSteps.{fits_length}
+use Rattle.tk_tour.specs.Counters.{saturated}
 use Rattle.tk_tour.specs.Tour.{tour_length}
 use Rattle.tk_tour.specs.JournalTours.{cities_of, slots_of, flips_since, KeepsSettled}
 use Rattle.tk_search.specs.Best.{best_of}
 use Rattle.tk_search.specs.Descents.{looks_at_first}
+use Rattle.tk_search.specs.Totals.{RisesBy}
 use Rattle.tk_search.proofs.SearchTrials.TrialSteps.{same_size, less_of, gain_is, gain_bits, moves_gain}
 use Rattle.tk_search.proofs.trials.state.State.descend.Goals as goal
 use Rattle.tk_search.proofs.trials.state.State.descend.Goals.{then-better, else-better}
 use mir.Syntax.{w64}
 use mir.Val.{SFits}
+
+-- one of two counts has risen by so much, in a counter of 64 bits: so has their sum
+risen : (more x y x' y' old new : ℕ) → x' ≡ saturated (x + more) → y' ≡ y → old ≡ x + y → new ≡ x' + y' →
+    RisesBy more old new
+risen more x y x' y' old new by same before after = record { most = omega arith; exact = λ low. omega arith }
 
 pub returns-clause-trial : goal.returns-clause-trial
 returns-clause-trial g c =
@@ -51,19 +58,9 @@ returns-clause-trial g c =
       record {
         flips_are = k.flips ∙ kept.flipped.flips_are;
         swaps_are = k.swaps ∙ kept.flipped.swaps_are;
-        taken = λ h. let u = k.taken h in (
-          u.0 ∙ kept.flipped.undo_swaps,
-          record {
-            most = omega (arith, u.1, u.2, kept.flipped.copied);
-            exact = λ low. omega (
-              arith,
-              u.1,
-              u.2,
-              kept.flipped.copied,
-              low,
-            );
-          },
-        );
+        taken = λ h.
+            let u = rw (kept.flipped.undo_swaps, kept.flipped.copied) at (k.taken h) in
+            (u.0, risen _ _ _ _ _ _ _ u.1 u.2 (omega arith) (omega arith));
         undone = λ h room.
             let fits : flips_since tour ≤ slots_of tour = omega (arith, room, exact, kept.slots) in
             let u = k.rewound h fits in (
@@ -71,19 +68,9 @@ returns-clause-trial g c =
               omega (arith, u.1, u.2, kept.flipped.copied),
             );
         restored = λ h many.
-            let u = k.restored h (omega (arith, many, exact, kept.slots)) in (
-              u.0 ∙ kept.flipped.undo_swaps,
-              record {
-                most = omega (arith, u.1, u.2, kept.flipped.copied);
-                exact = λ low. omega (
-                  arith,
-                  u.1,
-                  u.2,
-                  kept.flipped.copied,
-                  low,
-                );
-              },
-            );
+            let u = rw (kept.flipped.undo_swaps, kept.flipped.copied)
+            at (k.restored h (omega (arith, many, exact, kept.slots))) in
+            (u.0, risen _ _ _ _ _ _ _ u.2 u.1 refl refl);
       },
     )
 
