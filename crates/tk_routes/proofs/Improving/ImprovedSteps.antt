@@ -8,9 +8,12 @@ use Rattle.std.proofs.lemmas.List.Folds.{concat-append}
 use Rattle.tk_problem.specs.declared.limits.TheConstants.{CANDIDATE_LIMIT, DISTANCE_LIMIT, TABLE_LIMIT}
 use Rattle.tk_distance.specs.Cities.{IsCity}
 use Rattle.tk_descent.specs.declared.descent.Report.{Report}
+use Rattle.tk_descent.proofs.WakeRuns.DescentSteps.{saved_is}
 use Rattle.tk_routes.specs.Instance.{Instance, customer_count}
 use Rattle.tk_routes.specs.Routes.{AreRoutes, route_length, routes_cost}
-use Rattle.tk_routes.specs.ImprovedRoutes.{IsImprovement, AreImproved, IsImprovedPart}
+use Rattle.tk_routes.specs.ImprovedRoutes.{IsImprovement, AreImproved, AreImprovements, IsImprovedPart}
+use Rattle.tk_routes.specs.ImprovedRoutes.{fall_of, most_tests, place_count}
+use Rattle.tk_routes.specs.declared.solving.route_report.RouteReport.{RouteReport}
 use Rattle.tk_routes.specs.ImprovedRoutes.AreImproved.{none, more}
 use Rattle.tk_routes.proofs.Costs.{routes_cost-limit}
 use Rattle.tk_routes.proofs.CutLists.{All-front}
@@ -244,9 +247,12 @@ tested_all i k m olds now j moves swaps tests h le =
     subst (λ (v : ℕ). tests ≤ 4 * m * k * (v + length olds + 6 * moves)) whole
     (subst (λ (v : ℕ). tests ≤ 4 * m * k * (length (concat h.part.front) + v + 6 * moves)) (ap length before) h.tested)
 
--- by what the moves gain at least
-pub tests_by_cost : (b n moves tests before after : ℕ) → moves + after ≤ before → tests ≤ b * (n + 6 * moves) →
-    tests ≤ b * (n + 6 * (before - after))
-tests_by_cost b n moves tests before after gain h =
-    let wide : b * (n + 6 * moves) ≤ b * (n + 6 * (before - after)) = mul-le-mul_left b (omega (arith, gain)) in
-    omega (arith, h, wide)
+-- by what the cost falls: at least one for each move
+pub tests_by_fall : {i : Instance} {k m : ℕ} {olds news : List (List ℕ)} {report : RouteReport} →
+    AreImprovements i k m olds news report → report.tests ≤ most_tests k m (place_count i olds) (fall_of report)
+tests_by_fall {i} {k} {m} {olds} {news} {report} h =
+    let fall : fall_of report ≡ routes_cost i olds - routes_cost i news =
+    saved_is _ _ _ _ h.before h.after (omega (arith, h.moves)) in
+    let wide : most_tests k m (place_count i olds) report.moves ≤ most_tests k m (place_count i olds) (fall_of report) =
+    mul-le-mul_left (4 * m * k) (omega (arith, h.moves, fall)) in
+    omega (arith, h.tests, wide)

@@ -1,23 +1,19 @@
-use Rattle.std.proofs.Common.{◌≡◌, ◌+◌, ◌*◌, ◌<◌, ◌≤◌, ◌∙◌, ℕ, List, [], Vec, Global, length, get_or, set, sym, ap}
+use Rattle.std.proofs.Common.{◌≡◌, ◌+◌, ◌<◌, ◌≤◌, ◌∙◌, ℕ, List, [], Vec, Global, length, get_or, set, sym, ap}
 use Rattle.std.proofs.Common.{subst, arith, pos, rules}
 use Rattle.std.specs.Prelude.{map}
 use Rattle.std.proofs.lemmas.Int.{ints}
 use Rattle.std.proofs.lemmas.List.{get_or-map, length-map, map-set}
-use Rattle.tk_problem.specs.declared.limits.TheConstants.{CANDIDATE_LIMIT}
 use Rattle.tk_distance.specs.Tables.{table_distance-same, table_distance-limit}
-use Rattle.tk_descent.specs.declared.descent.Report.{Report}
-use Rattle.tk_descent.proofs.WakeRuns.DescentSteps.{saved_is}
 use Rattle.tk_lists.specs.Solution.{lists_of}
 use Rattle.tk_routes.specs.Cvrps.{instance_of}
-use Rattle.tk_routes.specs.declared.cvrp.Cvrp.{Cvrp}
-use Rattle.tk_routes.specs.ImprovedRoutes.{IsImprovement, most_tests, place_count}
 use Rattle.tk_routes.specs.Instance.{Instance}
 use Rattle.tk_routes.specs.Routes.{route_length, routes_cost}
 use Rattle.tk_routes.proofs.Costs.{route_length-limit}
 use Rattle.tk_routes.proofs.Improving.Exchanged.{AreServedOnce-routes}
 use Rattle.tk_routes.proofs.Improving.ImprovedSteps.{IsImprovedTo, IsImprovedTo-none, IsImprovedTo-more, next_known}
-use Rattle.tk_routes.proofs.Improving.ImprovedSteps.{small_counts, cost_step, improved_all, tested_all, tests_by_cost}
+use Rattle.tk_routes.proofs.Improving.ImprovedSteps.{small_counts, cost_step, improved_all, tested_all, tests_by_fall}
 use Rattle.tk_routes.proofs.solving.improving.improve_each.Goals as goal
+use Rattle.tk_routes.proofs.solving.improving.improve_each.Goals.{In_ok-customers}
 
 -- the list at a place, among the lists of cities
 at_place : (lists : List (Vec ℕ Global)) (k : ℕ) (list : Vec ℕ Global) (route : List ℕ) → k < length lists →
@@ -27,24 +23,32 @@ at_place lists k list route lt is =
     (omega (arith, lt, length-map lists items), is ∙ sym (get_or-map items lists k list [] lt))
 
 -- one list more is improved, and the counts stay small
-stepped : (cvrp : Cvrp) (k m : ℕ) (olds : List (List ℕ)) (lists : List (Vec ℕ Global)) (j moves swaps tests : ℕ) →
-    k ≤ CANDIDATE_LIMIT → m ≤ 3 → IsImprovedTo (instance_of cvrp) k m olds (lists_of lists) j moves swaps tests →
-    (list customers : Vec ℕ Global) (route : List ℕ) (report : Report) → j < length lists →
-    route ≡ (get_or lists j list).items → IsImprovement (instance_of cvrp) k m route customers.items report →
-    IsImprovedTo (instance_of cvrp) k m olds (lists_of (set lists j customers)) (j + 1) (moves + report.moves)
-    (swaps + report.swaps) (tests + report.tests)
-    × (swaps + report.swaps ≤ 150000000000000000) × (tests + report.tests ≤ 300000000000000000)
-stepped cvrp k m olds lists j moves swaps tests hk hm improved list customers route report lt is made =
+stepped : (c : In_ok-customers) →
+    IsImprovedTo (instance_of c.args.cvrp.now) c.args.max_candidates c.args.m (lists_of c.args.lists.now)
+    (lists_of (set c.loop-k.lists c.loop-k.k c.in_ok-customers.customers)) (c.loop-k.k + 1)
+    (c.loop-k.moves + c.in_ok-customers.report.moves) (c.loop-k.swaps + c.in_ok-customers.report.swaps)
+    (c.loop-k.tests + c.in_ok-customers.report.tests)
+    × (c.loop-k.swaps + c.in_ok-customers.report.swaps ≤ 150000000000000000)
+    × (c.loop-k.tests + c.in_ok-customers.report.tests ≤ 300000000000000000)
+stepped c =
+    let cvrp = c.args.cvrp.now in
     let i : Instance = instance_of cvrp in
-    let at = at_place lists j list route lt is in
-    let next : IsImprovedTo i k m olds (set (lists_of lists) j customers.items) (j + 1) (moves + report.moves)
-    (swaps + report.swaps) (tests + report.tests) =
-    IsImprovedTo-more i k m olds (lists_of lists) j moves swaps tests improved cvrp.few route customers.items report
-    at.0 at.1 made in
-    let small = small_counts i k m olds _ _ _ _ _ next cvrp.few hk hm (table_distance-same cvrp.table)
-    (table_distance-limit cvrp.table) in (
-      subst (λ (v : List (List ℕ)). IsImprovedTo i k m olds v (j + 1) (moves + report.moves) (swaps + report.swaps)
-          (tests + report.tests)) (sym (map-set (λ (r : Vec ℕ Global). r.items) lists j customers)) next,
+    let k = c.args.max_candidates in
+    let m = c.args.m in
+    let olds = lists_of c.args.lists.now in
+    let n = c.loop-k in
+    let r = c.in_ok-customers in
+    let at = at_place n.lists n.k c.index-lists-k.result c.deref.result.now
+    (omega (arith, c.loop-k-test.true, n.auto.lists)) c.deref.ensures.value in
+    let next : IsImprovedTo i k m olds (set (lists_of n.lists) n.k r.customers.items) (n.k + 1)
+    (n.moves + r.report.moves) (n.swaps + r.report.swaps) (n.tests + r.report.tests) =
+    IsImprovedTo-more i k m olds (lists_of n.lists) n.k n.moves n.swaps n.tests n.invariant.improved cvrp.few
+    c.deref.result.now r.customers.items r.report at.0 at.1 r.ensures in
+    let small = small_counts i k m olds _ _ _ _ _ next cvrp.few c.requires.candidates.1 c.requires.most.1
+    (table_distance-same cvrp.table) (table_distance-limit cvrp.table) in (
+      subst (λ (v : List (List ℕ)). IsImprovedTo i k m olds v (n.k + 1) (n.moves + r.report.moves)
+          (n.swaps + r.report.swaps) (n.tests + r.report.tests))
+          (sym (map-set (λ (list : Vec ℕ Global). list.items) n.lists n.k r.customers)) next,
       small.2,
       small.3,
     )
@@ -88,26 +92,10 @@ improve_route-requires c =
     }
 
 pub overflow_add-tests : goal.overflow_add-tests
-overflow_add-tests c =
-    let n = c.loop-k in
-    omega (
-      arith,
-      (stepped c.args.cvrp.now c.args.max_candidates c.args.m (lists_of c.args.lists.now) n.lists n.k
-          n.moves n.swaps n.tests c.requires.candidates.1 c.requires.most.1 n.invariant.improved c.index-lists-k.result
-          c.in_ok-customers.customers c.deref.result.now c.in_ok-customers.report
-          (omega (arith, c.loop-k-test.true, n.auto.lists)) c.deref.ensures.value c.in_ok-customers.ensures).2,
-    )
+overflow_add-tests c = omega (arith, (stepped (goal.at.overflow_add-tests c).In_ok-customers).2)
 
 pub overflow_add-swaps : goal.overflow_add-swaps
-overflow_add-swaps c =
-    let n = c.loop-k in
-    omega (
-      arith,
-      (stepped c.args.cvrp.now c.args.max_candidates c.args.m (lists_of c.args.lists.now) n.lists n.k
-          n.moves n.swaps n.tests c.requires.candidates.1 c.requires.most.1 n.invariant.improved c.index-lists-k.result
-          c.in_ok-customers.customers c.deref.result.now c.in_ok-customers.report
-          (omega (arith, c.loop-k-test.true, n.auto.lists)) c.deref.ensures.value c.in_ok-customers.ensures).1,
-    )
+overflow_add-swaps c = omega (arith, (stepped (goal.at.overflow_add-swaps c).In_ok-customers).1)
 
 pub loop-k-preserved : goal.loop-k-preserved
 loop-k-preserved c =
@@ -138,8 +126,7 @@ loop-k-preserved c =
       after =
           omega (arith, ints, n.invariant.after, n.after-is, r.ensures.before, r.ensures.after, old, gain, most, cost)
           ∙ ap (λ (v : List (List ℕ)). pos (routes_cost i v)) (sym moved);
-      improved = (stepped cvrp k m olds n.lists n.k n.moves n.swaps n.tests c.requires.candidates.1 c.requires.most.1
-          n.invariant.improved c.index-lists-k.result r.customers route r.report lt c.deref.ensures.value r.ensures).0;
+      improved = (stepped (goal.at.loop-k-preserved c).In_ok-customers).0;
     }
 
 pub returns-clause-improved : goal.returns-clause-improved
@@ -160,18 +147,4 @@ returns-clause-improved c =
     }
 
 pub returns-clause-headline : goal.returns-clause-headline
-returns-clause-headline c =
-    let n = c.loop-k in
-    let k = c.args.max_candidates in
-    let i : Instance = instance_of c.args.cvrp.now in
-    let olds = lists_of c.args.lists.now in
-    let news = lists_of n.lists in
-    let past : length news ≤ n.k =
-    omega (arith, c.loop-k-test.false, n.auto.lists, length-map n.lists (λ (list : Vec ℕ Global). list.items)) in
-    let few = tests_by_cost (4 * c.args.m * k) (place_count i olds) n.moves n.tests (routes_cost i olds)
-    (routes_cost i news) n.invariant.improved.cost
-    (tested_all i k c.args.m olds news n.k n.moves n.swaps n.tests n.invariant.improved past) in
-    subst (λ v. n.tests ≤ most_tests k c.args.m (place_count i olds) v)
-    (sym
-    (saved_is _ _ (routes_cost i olds) (routes_cost i news) n.invariant.before n.invariant.after
-    (omega (arith, n.invariant.improved.cost)))) few
+returns-clause-headline c = tests_by_fall (returns-clause-improved c)
