@@ -128,8 +128,7 @@ fn improve_over<M: Metric>(
     requires few { length route.now < TABLE_LIMIT }
     requires candidates { (1 ≤ max_candidates) × (max_candidates ≤ CANDIDATE_LIMIT) }
     requires most { (1 ≤ m) × (m ≤ 3) }
-    ensures { IfOk result
-        (λ r. IsImprovement (instance_of cvrp.now) max_candidates m route.now r.0.items r.1) }
+    ensures { IfOk result (λ r. IsImprovement (instance_of cvrp.now) max_candidates m route.now r.0.items r.1) }
 {
     let near = near_scan(alloc, metric, max_candidates.min(route.len() as u32))?;
     let (tour, report) = descend_awake(alloc, metric, &near, m)?;
@@ -153,8 +152,7 @@ pub(crate) fn improve_route(
     requires few { length route.now < TABLE_LIMIT }
     requires candidates { (1 ≤ max_candidates) × (max_candidates ≤ CANDIDATE_LIMIT) }
     requires most { (1 ≤ m) × (m ≤ 3) }
-    ensures { IfOk result
-        (λ r. IsImprovement (instance_of cvrp.now) max_candidates m route.now r.0.items r.1) }
+    ensures { IfOk result (λ r. IsImprovement (instance_of cvrp.now) max_candidates m route.now r.0.items r.1) }
 {
     let nodes = list_nodes(alloc, cvrp, route)?;
     let metric = Sub::new(&cvrp.table, &nodes);
