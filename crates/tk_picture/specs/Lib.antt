@@ -1,5 +1,6 @@
 pub mod Colours
 pub mod Drawings
+pub mod DrawnRoutes
 pub mod Frames
 pub mod Names
 pub mod PageText

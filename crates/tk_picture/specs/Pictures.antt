@@ -1,13 +1,11 @@
 -- What a picture shows, and its text.
-use Rattle.std.specs.Prelude.{◌≡◌, ℕ, List, Option, map}
-use Rattle.std.specs.List.{concat}
+use Rattle.std.specs.Prelude.{ℕ, List, Option, map}
 use Rattle.tk_problem.specs.declared.point.Point.{Point}
 use Rattle.tk_problem.specs.PlacesOf.{places_of}
 use Rattle.tk_tour.specs.Tour.{IsTour}
 use Rattle.tk_routes.specs.Cvrps.{instance_of}
-use Rattle.tk_routes.specs.Instance.{customer_count}
-use Rattle.tk_routes.specs.RouteVerdicts.{AreServedOnce}
 use Rattle.tk_picture.specs.Drawings.{ATour, Cities, Drawing, SomeRoutes}
+use Rattle.tk_picture.specs.DrawnRoutes.{RoutesFit}
 use Rattle.tk_picture.specs.PictureText.{picture_text}
 use Rattle.tk_picture.specs.PageText.{page_text}
 use Rattle.tk_picture.specs.declared.frame.Frame.{Frame}
@@ -28,9 +26,7 @@ drawing_of (subjects.Routes cvrp routes count cost) =
 abbrev pub Fits : ℕ → Subject → Type 0
 Fits n subjects.Cities = Unit {0}
 Fits n (subjects.Tour cities length) = IsTour n cities.now
-Fits n (subjects.Routes cvrp routes count cost) =
-    ((instance_of cvrp).size ≡ n) × AreServedOnce (customer_count (instance_of cvrp))
-    (concat (map (λ r. r.items) routes.now))
+Fits n (subjects.Routes cvrp routes count cost) = RoutesFit n cvrp routes.now
 
 -- the text of what is drawn, in a form
 abbrev pub form_text : Form → Frame → List Point → List ℕ → Drawing → Option ℕ → List ℕ → List ℕ

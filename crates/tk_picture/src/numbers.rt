@@ -1,12 +1,10 @@
 //! The numbers of routes.
-ghost use Rattle.std.specs.Prelude.{◌≡◌, ◌≤◌, [], ◌∷◌, ◌++◌, All, codes, flat_map, map};
-ghost use Rattle.std.specs.List.{concat};
+ghost use Rattle.std.specs.Prelude.{◌≡◌, ◌≤◌, [], ◌∷◌, ◌++◌, codes, flat_map, map};
 ghost use Rattle.tk_writers.specs.Pens.{Puts};
 ghost use Rattle.tk_distance.specs.Cities.{IsCity};
 ghost use Rattle.tk_routes.specs.Cvrps.{instance_of};
-ghost use Rattle.tk_routes.specs.Instance.{customer_count};
-ghost use Rattle.tk_routes.specs.RouteVerdicts.{AreServedOnce};
 ghost use Rattle.tk_picture.specs.Drawings.{route_paths};
+ghost use Rattle.tk_picture.specs.DrawnRoutes.{AreCustomers, RoutesFit};
 ghost use Rattle.tk_picture.specs.PictureText.{mark, number_mark, numbers_start};
 ghost use Rattle.tk_picture.specs.Views.{city_count, spot_in};
 
@@ -60,7 +58,7 @@ fn put_number<W: Sink>(
     route: &[u32],
 )
     requires size { (instance_of cvrp.now).size ≡ city_count view.now }
-    requires known { All (IsCity (customer_count (instance_of cvrp.now))) route.now }
+    requires known { AreCustomers cvrp.now route.now }
     requires number { 1 ≤ number }
     ensures { Puts W.Sink pen.old pen.new
         (flat_map (number_mark (spot_in view.now)) (route_paths (instance_of cvrp.now) number (route.now ∷ []))) }
@@ -77,8 +75,7 @@ pub(crate) fn put_numbers<W: Sink>(
     cvrp: &Cvrp<'_>,
     routes: &[Vec<u32>],
 )
-    requires size { (instance_of cvrp.now).size ≡ city_count view.now }
-    requires once { AreServedOnce (customer_count (instance_of cvrp.now)) (concat (map (λ r. r.items) routes.now)) }
+    requires { RoutesFit (city_count view.now) cvrp.now routes.now }
     ensures { Puts W.Sink pen.old pen.new (flat_map (number_mark (spot_in view.now))
         (route_paths (instance_of cvrp.now) 1 (map (λ r. r.items) routes.now))) }
 {

@@ -40,8 +40,8 @@ impl View<'_> {
     ghost use Rattle.tk_writers.specs.Written.{line};
     ghost use Rattle.tk_distance.specs.Cities.{IsCity};
     ghost use Rattle.tk_routes.specs.Cvrps.{instance_of};
-    ghost use Rattle.tk_routes.specs.Instance.{customer_count};
     ghost use Rattle.tk_routes.specs.Routes.{route_nodes};
+    ghost use Rattle.tk_picture.specs.DrawnRoutes.{AreCustomers};
     ghost use Rattle.tk_picture.specs.Views.{city_count, spot_in};
 
     /// How many cities there are.
@@ -85,7 +85,7 @@ impl View<'_> {
     /// Puts where the depot and the customers of a route stand, each on a line.
     pub(crate) fn put_stops<W: Sink>(&self, pen: &mut Pen<'_, W>, cvrp: &Cvrp<'_>, route: &[u32])
         requires size { (instance_of cvrp.now).size ≡ city_count self.now }
-        requires known { All (IsCity (customer_count (instance_of cvrp.now))) route.now }
+        requires known { AreCustomers cvrp.now route.now }
         ensures { Puts W.Sink pen.old pen.new
             (flat_map (λ c. line (spot_in self.now c)) (route_nodes (instance_of cvrp.now) route.now)) }
     {

@@ -1,12 +1,9 @@
 //! The closed lines of a page, as lines of cities for its script.
-ghost use Rattle.std.specs.Prelude.{[], ◌∷◌, All, codes, flat_map, map};
-ghost use Rattle.std.specs.List.{concat};
+ghost use Rattle.std.specs.Prelude.{[], ◌∷◌, codes, flat_map, map};
 ghost use Rattle.tk_writers.specs.Pens.{Puts};
-ghost use Rattle.tk_distance.specs.Cities.{IsCity};
 ghost use Rattle.tk_routes.specs.Cvrps.{instance_of};
-ghost use Rattle.tk_routes.specs.Instance.{customer_count};
-ghost use Rattle.tk_routes.specs.RouteVerdicts.{AreServedOnce};
 ghost use Rattle.tk_picture.specs.Drawings.{paths_of, route_paths};
+ghost use Rattle.tk_picture.specs.DrawnRoutes.{AreCustomers, ServeOnce};
 ghost use Rattle.tk_picture.specs.PageText.{data_block, path_line};
 ghost use Rattle.tk_picture.specs.Pictures.{Fits, drawing_of};
 
@@ -24,7 +21,7 @@ fn put_tour<W: Sink>(pen: &mut Pen<'_, W>, cities: &[u32])
 
 /// Puts the depot and the nodes of a route's customers, on a line, if it holds one.
 fn put_route<W: Sink>(pen: &mut Pen<'_, W>, number: u64, cvrp: &Cvrp<'_>, route: &[u32])
-    requires { All (IsCity (customer_count (instance_of cvrp.now))) route.now }
+    requires { AreCustomers cvrp.now route.now }
     ensures { Puts W.Sink pen.old pen.new
         (flat_map path_line (route_paths (instance_of cvrp.now) number (route.now ∷ []))) }
 {
@@ -41,7 +38,7 @@ fn put_route<W: Sink>(pen: &mut Pen<'_, W>, number: u64, cvrp: &Cvrp<'_>, route:
 
 /// Puts the lines of the routes that hold a customer.
 fn put_routes<W: Sink>(pen: &mut Pen<'_, W>, cvrp: &Cvrp<'_>, routes: &[Vec<u32>])
-    requires once { AreServedOnce (customer_count (instance_of cvrp.now)) (concat (map (λ r. r.items) routes.now)) }
+    requires once { ServeOnce cvrp.now routes.now }
     ensures { Puts W.Sink pen.old pen.new
         (flat_map path_line (route_paths (instance_of cvrp.now) 1 (map (λ r. r.items) routes.now))) }
 {

@@ -1,12 +1,9 @@
 //! The table of routes of a page.
-ghost use Rattle.std.specs.Prelude.{◌≡◌, ◌≤◌, [], ◌∷◌, ◌++◌, All, codes, decimal, flat_map, length, map};
-ghost use Rattle.std.specs.List.{concat};
+ghost use Rattle.std.specs.Prelude.{◌≡◌, ◌≤◌, [], ◌∷◌, ◌++◌, codes, decimal, flat_map, length, map};
 ghost use Rattle.tk_writers.specs.Pens.{Puts};
-ghost use Rattle.tk_distance.specs.Cities.{IsCity};
 ghost use Rattle.tk_problem.specs.declared.limits.TheConstants.{CITY_LIMIT};
 ghost use Rattle.tk_routes.specs.Cvrps.{instance_of};
-ghost use Rattle.tk_routes.specs.Instance.{customer_count};
-ghost use Rattle.tk_routes.specs.RouteVerdicts.{AreServedOnce};
+ghost use Rattle.tk_picture.specs.DrawnRoutes.{AreCustomers, ServeOnce};
 ghost use Rattle.tk_picture.specs.PageText.{row_line, route_row, rows, share};
 ghost use Rattle.tk_picture.specs.PageText.{table, table_head, table_start};
 ghost use Rattle.tk_picture.specs.Pictures.{Fits, drawing_of};
@@ -54,7 +51,7 @@ fn put_cell<W: Sink>(pen: &mut Pen<'_, W>, number: u64)
 
 /// Puts the row of a route that holds a customer.
 fn put_row<W: Sink>(pen: &mut Pen<'_, W>, number: u64, cvrp: &Cvrp<'_>, route: &[u32])
-    requires known { All (IsCity (customer_count (instance_of cvrp.now))) route.now }
+    requires known { AreCustomers cvrp.now route.now }
     requires few { length route.now ≤ CITY_LIMIT }
     ensures { Puts W.Sink pen.old pen.new (row_line (route_row (instance_of cvrp.now) number route.now)) }
 {
@@ -71,7 +68,7 @@ fn put_row<W: Sink>(pen: &mut Pen<'_, W>, number: u64, cvrp: &Cvrp<'_>, route: &
 
 /// Puts the row of a route, if it holds a customer.
 fn put_filled<W: Sink>(pen: &mut Pen<'_, W>, number: u64, cvrp: &Cvrp<'_>, route: &[u32])
-    requires known { All (IsCity (customer_count (instance_of cvrp.now))) route.now }
+    requires known { AreCustomers cvrp.now route.now }
     requires few { length route.now ≤ CITY_LIMIT }
     ensures { Puts W.Sink pen.old pen.new
         (flat_map row_line (rows (instance_of cvrp.now) number (route.now ∷ []))) }
@@ -83,7 +80,7 @@ fn put_filled<W: Sink>(pen: &mut Pen<'_, W>, number: u64, cvrp: &Cvrp<'_>, route
 
 /// Puts the rows of the routes that hold a customer.
 fn put_rows<W: Sink>(pen: &mut Pen<'_, W>, cvrp: &Cvrp<'_>, routes: &[Vec<u32>])
-    requires once { AreServedOnce (customer_count (instance_of cvrp.now)) (concat (map (λ r. r.items) routes.now)) }
+    requires once { ServeOnce cvrp.now routes.now }
     ensures { Puts W.Sink pen.old pen.new
         (flat_map row_line (rows (instance_of cvrp.now) 1 (map (λ r. r.items) routes.now))) }
 {

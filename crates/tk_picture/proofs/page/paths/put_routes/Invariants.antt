@@ -1,15 +1,11 @@
 -- the routes before this one are put
-use Rattle.std.proofs.Common.{◌≡◌, take}
-use Rattle.std.specs.Prelude.{flat_map, map}
-use Rattle.tk_writers.specs.Pens.{Puts}
 use Rattle.tk_routes.specs.Cvrps.{instance_of}
-use Rattle.tk_picture.specs.Drawings.{route_paths}
+use Rattle.tk_picture.specs.Drawings.{route_path}
 use Rattle.tk_picture.specs.PageText.{path_line}
+use Rattle.tk_picture.proofs.EachRoute.{ArePut}
 use Rattle.tk_picture.proofs.page.paths.put_routes.Given as goal
 
 abbrev pub invariant-loop-route : goal.invariant-loop-route
-invariant-loop-route g l = record {
-  count : l.number ≡ l.route-index;
-  text : Puts g.W.Sink l.initial.pen l.pen
-      (flat_map path_line (route_paths (instance_of l.cvrp) 1 (map (λ r. r.items) (take l.route-index l.routes))));
-}
+invariant-loop-route g l =
+    ArePut g.W.Sink l.initial.pen l.pen (route_path (instance_of l.cvrp)) path_line l.routes l.route-index
+    l.number
