@@ -2,7 +2,8 @@
 use Rattle.std.proofs.Common.{◌≡◌, None, Result, Ok, Err, subst, sym}
 use Rattle.std.specs.Prelude.{IfErr}
 use Rattle.tk_problem_text.specs.Problem.{ProblemIs}
-use Rattle.tk_engines.specs.Engine.{AreRead, BeforeSecond, EndsByProblem, HasRead, IsGiven, Reading, Task, Writing}
+use Rattle.tk_engines.specs.Engine.{AreRead, BeforeSecond, EndsByProblem, HasRead, IsGiven, IsMisfit, IsSecondRefused}
+use Rattle.tk_engines.specs.Engine.{Reading, Task, Writing}
 use Rattle.tk_engines.specs.declared.fault.Fault.{Fault}
 use Rattle.tk_engines.specs.declared.fault.Fault.TheVariants as faults
 
@@ -38,35 +39,29 @@ module _ {B R T : Type 0} (task : Task B R T) (Problem ProblemMore : Reading Pro
         written = h.written;
       }
 
+  misfit_more : {f : Fault} → IsMisfit task Problem f → IsMisfit task ProblemMore f
+  misfit_more h =
+      record { problem = h.problem; is_problem = problem_more (Ok h.problem) h.is_problem; misfit = h.misfit }
+
+  refused_more : {f : Fault} → IsSecondRefused task Problem Second f → IsSecondRefused task ProblemMore SecondMore f
+  refused_more {f} h =
+      record {
+        problem = h.problem;
+        is_problem = problem_more (Ok h.problem) h.is_problem;
+        fits = h.fits;
+        refused = second_more h.problem (Err f) h.refused;
+      }
+
   ends_more : (r : Result R Fault) → EndsByProblem task Problem Second Writes r →
       EndsByProblem task ProblemMore SecondMore Writes r
   ends_more (Ok answer) h = given_more (Writes (Ok tt)) answer h
   ends_more (Err (faults.Problem f)) h = problem_more (Err (faults.Problem f)) h
-  ends_more (Err faults.WrongType) h =
-      record { problem = h.problem; is_problem = problem_more (Ok h.problem) h.is_problem; misfit = h.misfit }
-  ends_more (Err (faults.NotForType key)) h =
-      record { problem = h.problem; is_problem = problem_more (Ok h.problem) h.is_problem; misfit = h.misfit }
-  ends_more (Err faults.TooLarge) h =
-      record { problem = h.problem; is_problem = problem_more (Ok h.problem) h.is_problem; misfit = h.misfit }
-  ends_more (Err faults.NoPlaces) h =
-      record { problem = h.problem; is_problem = problem_more (Ok h.problem) h.is_problem; misfit = h.misfit }
-  ends_more (Err (faults.Tour f)) h =
-      record {
-        problem = h.problem;
-        is_problem = problem_more (Ok h.problem) h.is_problem;
-        fits = h.fits;
-        refused = second_more h.problem (Err (faults.Tour f)) h.refused;
-      }
-  ends_more (Err (faults.Solution f)) h =
-      record {
-        problem = h.problem;
-        is_problem = problem_more (Ok h.problem) h.is_problem;
-        fits = h.fits;
-        refused = second_more h.problem (Err (faults.Solution f)) h.refused;
-      }
+  ends_more (Err (faults.Tour f)) h = refused_more h
+  ends_more (Err (faults.Solution f)) h = refused_more h
   ends_more (Err (faults.Initial f)) h = (h.0, h.1, read_more h.0 h.1 h.2, h.3)
   ends_more (Err faults.NoMemory) h = (h.0, h.1, read_more h.0 h.1 h.2, h.3)
   ends_more (Err (faults.Write f)) h = (h.0, given_more (Writes (Err f)) h.0 h.1)
+  ends_more (Err _) h = misfit_more h
 
 -- the problem is read as this
 pub problem_read : {B R T : Type 0} (task : Task B R T) (Problem : Reading ProblemIs) (Second : ProblemIs → Reading B)
@@ -87,14 +82,9 @@ second_read task Problem Second Writes second is r h =
 pub second_reached : {B R T : Type 0} (P : Type 0) (task : Task B R T) (Second : ProblemIs → Reading B)
     (Writes : Writing T) (p : ProblemIs) → task.misfit p ≡ None → (r : Result R Fault)
     → EndsByProblem task (HasRead p) Second Writes r → IfErr r (BeforeSecond P)
-second_reached P task Second Writes p fits (Ok answer) h = tt
 second_reached P task Second Writes p fits (Err (faults.Problem f)) h = elim h [ ]
 second_reached P task Second Writes p fits (Err faults.WrongType) h = cc (fits, h.is_problem, h.misfit)
 second_reached P task Second Writes p fits (Err (faults.NotForType key)) h = cc (fits, h.is_problem, h.misfit)
 second_reached P task Second Writes p fits (Err faults.TooLarge) h = cc (fits, h.is_problem, h.misfit)
 second_reached P task Second Writes p fits (Err faults.NoPlaces) h = cc (fits, h.is_problem, h.misfit)
-second_reached P task Second Writes p fits (Err (faults.Tour f)) h = tt
-second_reached P task Second Writes p fits (Err (faults.Solution f)) h = tt
-second_reached P task Second Writes p fits (Err (faults.Initial f)) h = tt
-second_reached P task Second Writes p fits (Err faults.NoMemory) h = tt
-second_reached P task Second Writes p fits (Err (faults.Write f)) h = tt
+second_reached P task Second Writes p fits _ h = tt

@@ -8,7 +8,7 @@ use Rattle.tk_solve.specs.Events.{Event}
 use Rattle.tk_solve.specs.SolvedTours.{IsSolved}
 use Rattle.tk_solve.specs.Starts.{TourTask}
 use Rattle.tk_solve.specs.declared.tour.SolvedTour.{SolvedTour}
-use Rattle.tk_engines.specs.Engine.{AreRead, AtWrite, Ends, HasRead, UnlessWrite, Writing}
+use Rattle.tk_engines.specs.Engine.{AreRead, AtWrite, Ends, HasRead, IsGiven, UnlessWrite, Writing}
 use Rattle.tk_engines.specs.Solve.{BeforeSearch, Files, GivesFiles, IsInitial, IsInitialRefused, solve_task, unfit_key}
 use Rattle.tk_engines.specs.declared.fault.Fault.{Fault}
 use Rattle.tk_engines.specs.declared.fault.Fault.TheVariants as faults
@@ -24,14 +24,7 @@ module _ (p : ParamsAre) (Watched : List Event → Type 0) (Writes : Writing Fil
       Ends (solve_task p Watched) (HasRead problem) (HasRead initial) Writes (Err f)
   initial_stopped (faults.Initial f) h = (problem, initial, read, h)
   initial_stopped faults.NoMemory h = (problem, initial, read, refl)
-  initial_stopped (faults.Problem f) h = elim h [ ]
-  initial_stopped (faults.Tour f) h = elim h [ ]
-  initial_stopped (faults.Solution f) h = elim h [ ]
-  initial_stopped faults.WrongType h = elim h [ ]
-  initial_stopped (faults.NotForType key) h = elim h [ ]
-  initial_stopped faults.TooLarge h = elim h [ ]
-  initial_stopped faults.NoPlaces h = elim h [ ]
-  initial_stopped (faults.Write f) h = elim h [ ]
+  initial_stopped _ h = elim h [ ]
 
   -- and the fault was passed on
   pub initial_failed : (f : Fault) (r : Result (Unit {0}) Fault) → IsErrAnd r (λ e. e ≡ f) →
@@ -43,16 +36,8 @@ module _ (p : ParamsAre) (Watched : List Event → Type 0) (Writes : Writing Fil
 
   -- it did not stop at a write
   initial_unwritten : (P : Type 0) (f : Fault) → IsInitialRefused problem initial f → AtWrite P f
-  initial_unwritten P (faults.Initial f) h = tt
-  initial_unwritten P faults.NoMemory h = tt
-  initial_unwritten P (faults.Problem f) h = tt
-  initial_unwritten P (faults.Tour f) h = tt
-  initial_unwritten P (faults.Solution f) h = tt
-  initial_unwritten P faults.WrongType h = tt
-  initial_unwritten P (faults.NotForType key) h = tt
-  initial_unwritten P faults.TooLarge h = tt
-  initial_unwritten P faults.NoPlaces h = tt
   initial_unwritten P (faults.Write f) h = elim h [ ]
+  initial_unwritten P _ h = tt
 
   pub initial_unfailed : (P : Type 0) (f : Fault) (r : Result (Unit {0}) Fault) → IsErrAnd r (λ e. e ≡ f) →
       IsInitialRefused problem initial f → IfErr r (AtWrite P)
@@ -60,11 +45,11 @@ module _ (p : ParamsAre) (Watched : List Event → Type 0) (Writes : Writing Fil
   initial_unfailed P f (Ok v) is h = tt
 
   -- the work was done
-  pub given_ends : (Answer : Files → Type 0) (Quiet : Type 0) → IsInitial problem initial None →
+  given : (Answer Written : Files → Type 0) → IsInitial problem initial None →
       ((files : Files) → Answer files → (solve_task p Watched).Gives problem initial tt files) →
-      (r : Result (Unit {0}) Fault) → GivesFiles Answer Writes Quiet r →
-      Ends (solve_task p Watched) (HasRead problem) (HasRead initial) Writes r
-  given_ends Answer Quiet together gives (Ok tt) h =
+      (files : Files) × (Answer files × Written files) →
+      IsGiven (solve_task p Watched) (HasRead problem) (λ _. HasRead initial) Written tt
+  given Answer Written together gives h =
       record {
         problem = problem;
         second = initial;
@@ -74,27 +59,18 @@ module _ (p : ParamsAre) (Watched : List Event → Type 0) (Writes : Writing Fil
         gives = gives h.0 h.1.0;
         written = h.1.1;
       }
+
+  pub given_ends : (Answer : Files → Type 0) (Quiet : Type 0) → IsInitial problem initial None →
+      ((files : Files) → Answer files → (solve_task p Watched).Gives problem initial tt files) →
+      (r : Result (Unit {0}) Fault) → GivesFiles Answer Writes Quiet r →
+      Ends (solve_task p Watched) (HasRead problem) (HasRead initial) Writes r
+  given_ends Answer Quiet together gives (Ok tt) h = given Answer (Writes (Ok tt)) together gives h
   given_ends Answer Quiet together gives (Err (faults.Write f)) h = (
     tt,
-    record {
-      problem = problem;
-      second = initial;
-      text = h.0;
-      read = read;
-      together = together;
-      gives = gives h.0 h.1.0;
-      written = h.1.1;
-    },
+    given Answer (Writes (Err f)) together gives h,
   )
   given_ends Answer Quiet together gives (Err faults.NoMemory) h = (problem, initial, read, refl)
-  given_ends Answer Quiet together gives (Err (faults.Problem f)) h = elim h [ ]
-  given_ends Answer Quiet together gives (Err (faults.Tour f)) h = elim h [ ]
-  given_ends Answer Quiet together gives (Err (faults.Solution f)) h = elim h [ ]
-  given_ends Answer Quiet together gives (Err (faults.Initial f)) h = elim h [ ]
-  given_ends Answer Quiet together gives (Err faults.WrongType) h = elim h [ ]
-  given_ends Answer Quiet together gives (Err (faults.NotForType key)) h = elim h [ ]
-  given_ends Answer Quiet together gives (Err faults.TooLarge) h = elim h [ ]
-  given_ends Answer Quiet together gives (Err faults.NoPlaces) h = elim h [ ]
+  given_ends Answer Quiet together gives (Err _) h = elim h [ ]
 
 -- where there was no memory for files, nothing was written
 pub given_quiet : (Answer : Files → Type 0) (Writes : Writing Files) (Quiet : Type 0) (r : Result (Unit {0}) Fault) →
@@ -102,14 +78,7 @@ pub given_quiet : (Answer : Files → Type 0) (Writes : Writing Files) (Quiet : 
 given_quiet Answer Writes Quiet (Ok tt) h = tt
 given_quiet Answer Writes Quiet (Err (faults.Write f)) h = tt
 given_quiet Answer Writes Quiet (Err faults.NoMemory) h = h
-given_quiet Answer Writes Quiet (Err (faults.Problem f)) h = elim h [ ]
-given_quiet Answer Writes Quiet (Err (faults.Tour f)) h = elim h [ ]
-given_quiet Answer Writes Quiet (Err (faults.Solution f)) h = elim h [ ]
-given_quiet Answer Writes Quiet (Err (faults.Initial f)) h = elim h [ ]
-given_quiet Answer Writes Quiet (Err faults.WrongType) h = elim h [ ]
-given_quiet Answer Writes Quiet (Err (faults.NotForType key)) h = elim h [ ]
-given_quiet Answer Writes Quiet (Err faults.TooLarge) h = elim h [ ]
-given_quiet Answer Writes Quiet (Err faults.NoPlaces) h = elim h [ ]
+given_quiet Answer Writes Quiet (Err _) h = elim h [ ]
 
 -- it did not stop before the search
 pub given_searched : (Answer : Files → Type 0) (Writes : Writing Files) (Quiet P : Type 0)
@@ -117,41 +86,19 @@ pub given_searched : (Answer : Files → Type 0) (Writes : Writing Files) (Quiet
 given_searched Answer Writes Quiet P (Ok tt) h = tt
 given_searched Answer Writes Quiet P (Err (faults.Write f)) h = tt
 given_searched Answer Writes Quiet P (Err faults.NoMemory) h = tt
-given_searched Answer Writes Quiet P (Err (faults.Problem f)) h = elim h [ ]
-given_searched Answer Writes Quiet P (Err (faults.Tour f)) h = elim h [ ]
-given_searched Answer Writes Quiet P (Err (faults.Solution f)) h = elim h [ ]
-given_searched Answer Writes Quiet P (Err (faults.Initial f)) h = elim h [ ]
-given_searched Answer Writes Quiet P (Err faults.WrongType) h = elim h [ ]
-given_searched Answer Writes Quiet P (Err (faults.NotForType key)) h = elim h [ ]
-given_searched Answer Writes Quiet P (Err faults.TooLarge) h = elim h [ ]
-given_searched Answer Writes Quiet P (Err faults.NoPlaces) h = elim h [ ]
+given_searched Answer Writes Quiet P (Err _) h = elim h [ ]
 
 -- nothing was written, nor was a watcher shown anything
 pub IfErr-quiet : (P : Type 0) → P → (r : Result (Unit {0}) Fault) → IfErr r (UnlessWrite P)
 IfErr-quiet P h (Ok tt) = tt
 IfErr-quiet P h (Err (faults.Write f)) = tt
-IfErr-quiet P h (Err faults.NoMemory) = h
-IfErr-quiet P h (Err (faults.Problem f)) = h
-IfErr-quiet P h (Err (faults.Tour f)) = h
-IfErr-quiet P h (Err (faults.Solution f)) = h
-IfErr-quiet P h (Err (faults.Initial f)) = h
-IfErr-quiet P h (Err faults.WrongType) = h
-IfErr-quiet P h (Err (faults.NotForType key)) = h
-IfErr-quiet P h (Err faults.TooLarge) = h
-IfErr-quiet P h (Err faults.NoPlaces) = h
+IfErr-quiet P h (Err _) = h
 
 pub IfErr-unwatched : (P : Type 0) → P → (r : Result (Unit {0}) Fault) → IfErr r (BeforeSearch P)
 IfErr-unwatched P h (Ok tt) = tt
 IfErr-unwatched P h (Err (faults.Write f)) = tt
 IfErr-unwatched P h (Err faults.NoMemory) = tt
-IfErr-unwatched P h (Err (faults.Problem f)) = h
-IfErr-unwatched P h (Err (faults.Tour f)) = h
-IfErr-unwatched P h (Err (faults.Solution f)) = h
-IfErr-unwatched P h (Err (faults.Initial f)) = h
-IfErr-unwatched P h (Err faults.WrongType) = h
-IfErr-unwatched P h (Err (faults.NotForType key)) = h
-IfErr-unwatched P h (Err faults.TooLarge) = h
-IfErr-unwatched P h (Err faults.NoPlaces) = h
+IfErr-unwatched P h (Err _) = h
 
 -- what was watched of a search, as a part of what was watched
 pub IfOk-watched : {E : Type 0} (r : Result SolvedTour E) (task : TourTask) (Watched All : List Event → Type 0) →
