@@ -3,7 +3,7 @@
 --     ReadsClaim given      it is read as a tour where the problem has no routing, else as a solution
 --     WritesOutput      a picture goes to the one sink, or the line on a fault to the other
 use Rattle.std.specs.Prelude.{◌≡◌, ℕ, ◌⊎◌, Bool, true, false, List, [], Option, Some, None, Ok, Err, IsSomeAnd}
-use Rattle.std.specs.Prelude.{MatchOption, Result, length, option_map, is_some}
+use Rattle.std.specs.Prelude.{IfErr, MatchOption, Result, length, option_map, is_some}
 use Rattle.std.specs.Int.RustNames.{unsigned_abs}
 use Rattle.tk_problem.specs.declared.point.Point.{Point}
 use Rattle.tk_words.specs.declared.sources.source.Source as sources
@@ -12,6 +12,7 @@ use Rattle.tk_problem_text.specs.Problem.{ProblemIs, RoutingIs, WeightsAre}
 use Rattle.tk_problem_text.specs.Problem as value
 use Rattle.tk_problem.specs.PlacesOf.{places_of}
 use Rattle.tk_writers.specs.Puts.{Writes}
+use Rattle.tk_writers.specs.Sinks.{IsBroken}
 use Rattle.tk_lists.specs.Solution.{Solution}
 use Rattle.tk_tour.specs.Tour.{tour_length}
 use Rattle.tk_tour.specs.Verdict.{IsVerdict}
@@ -23,8 +24,8 @@ use Rattle.tk_routes.specs.declared.claims.verdict.RouteVerdict.{RouteVerdict}
 use Rattle.tk_routes.specs.declared.claims.verdict.RouteVerdict.TheVariants as route_verdicts
 use Rattle.tk_engines.specs.Lines.TourLine.{verdict_line}
 use Rattle.tk_engines.specs.ReadProblems.{read_distance}
-use Rattle.tk_engines.specs.Engine.{EndsByProblem, IsUnread, IsUnwritten, NoClash, Reading, ReadsProblem}
-use Rattle.tk_engines.specs.Engine.{ReadsSolution, ReadsTour, Task, Writing}
+use Rattle.tk_engines.specs.Engine.{AtWrite, EndsByProblem, HasRead, IsUnread, IsUnwritten, NoClash, Reading}
+use Rattle.tk_engines.specs.Engine.{ReadsProblem, ReadsSolution, ReadsTour, Task, UnlessWrite, Writing}
 use Rattle.tk_engines.specs.Lines.RouteLine.{route_verdict_line}
 use Rattle.tk_engines.specs.ReadProblems.{instance_in}
 use Rattle.tk_engines.specs.declared.fault.Fault.{Fault}
@@ -142,6 +143,14 @@ abbrev pub HasFailed : Bool → Bool → Type 0
 HasFailed out told = (out ≡ true) ⊎ (told ≡ true)
 
 -- ---- what is known once the problem is read
+
+-- how drawing what is claimed of it ends: the claim's source and the two sinks before it, and after it
+pub record PlotsClaim {C W T : Type 0} (claims : sources.Ghosts C) (outs : sinks.Ghosts W) (tolds : sinks.Ghosts T)
+    (form : Form) (problem : ProblemIs) (old new : C × W × T) (result : Result Plotted Fault) : Type 0 where
+  pub ends : EndsByProblem (plot_task form true) (HasRead problem) (ReadsClaim true claims old.0 new.0)
+      (WritesOutput outs tolds old.1 new.1 old.2 new.2) result
+  pub quiet : IfErr result (UnlessWrite (AreUntouched outs tolds old.1 new.1 old.2 new.2))
+  pub failed : IfErr result (AtWrite (IsBroken outs new.1 ⊎ IsBroken tolds new.2))
 
 -- an output that fits is written, or writing it breaks off
 abbrev pub WritesSome : {T : Type 0} → (T → Type 0) → (T → Type 0) → Type 0

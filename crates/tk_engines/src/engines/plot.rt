@@ -13,9 +13,8 @@ ghost use Rattle.tk_engines.specs.Engine.{UnlessWrite};
 ghost use Rattle.tk_picture.specs.Pictures.{Fits, drawing_of};
 ghost use Rattle.tk_engines.specs.declared.fault.Fault.TheVariants.{NoPlaces};
 ghost use Rattle.tk_engines.specs.Plot.{AreUntouched, WritesOutput, WritesSome, demands_in, without_places};
-ghost use Rattle.tk_engines.specs.Plot.{Plots};
 ghost use Rattle.tk_engines.specs.Plot.{IsPicture, IsRouteOutput, IsTourOutput, IsViewOf};
-ghost use Rattle.tk_engines.specs.Plot.{ReadsClaim, plot_task};
+ghost use Rattle.tk_engines.specs.Plot.{Plots, PlotsClaim, ReadsClaim, plot_task};
 
 use crate::engines::plotted::Plotted;
 use crate::fault::Fault;
@@ -167,11 +166,8 @@ fn plot_tour<C: Source, W: Sink, T: Sink>(
 ) -> Result<Plotted, Fault>
     requires view { IsViewOf (problem_is problem.now) view }
     requires tsp { problem.now.routing ≡ None }
-    ensures ends { EndsByProblem (plot_task form.entry true) (HasRead (problem_is problem.now))
-        (ReadsClaim true C.Source claim.old claim.new)
-        (WritesOutput W.Sink T.Sink out.old out.new told.old told.new) result }
-    ensures quiet { IfErr result (UnlessWrite (AreUntouched W.Sink T.Sink out.old out.new told.old told.new)) }
-    ensures failed { IfErr result (AtWrite (IsBroken W.Sink out.new ⊎ IsBroken T.Sink told.new)) }
+    ensures { PlotsClaim C.Source W.Sink T.Sink form.entry (problem_is problem.now)
+        (claim.old, out.old, told.old) (claim.new, out.new, told.new) result }
 {
     let tour = match read_tour(alloc, claim) {
         Ok(tour) => tour,
@@ -200,11 +196,8 @@ fn plot_routes<C: Source, W: Sink, T: Sink>(
 ) -> Result<Plotted, Fault>
     requires view { IsViewOf (problem_is problem.now) view }
     requires instance { IsInstanceOf problem.now (instance_of cvrp.now) }
-    ensures ends { EndsByProblem (plot_task form.entry true) (HasRead (problem_is problem.now))
-        (ReadsClaim true C.Source claim.old claim.new)
-        (WritesOutput W.Sink T.Sink out.old out.new told.old told.new) result }
-    ensures quiet { IfErr result (UnlessWrite (AreUntouched W.Sink T.Sink out.old out.new told.old told.new)) }
-    ensures failed { IfErr result (AtWrite (IsBroken W.Sink out.new ⊎ IsBroken T.Sink told.new)) }
+    ensures { PlotsClaim C.Source W.Sink T.Sink form.entry (problem_is problem.now)
+        (claim.old, out.old, told.old) (claim.new, out.new, told.new) result }
 {
     let solution = match read_solution(alloc, claim) {
         Ok(solution) => solution,
@@ -230,11 +223,8 @@ fn plot_claim<C: Source, W: Sink, T: Sink>(
     told: &mut T,
 ) -> Result<Plotted, Fault>
     requires view { IsViewOf (problem_is problem.now) view }
-    ensures ends { EndsByProblem (plot_task form.entry true) (HasRead (problem_is problem.now))
-        (ReadsClaim true C.Source claim.old claim.new)
-        (WritesOutput W.Sink T.Sink out.old out.new told.old told.new) result }
-    ensures quiet { IfErr result (UnlessWrite (AreUntouched W.Sink T.Sink out.old out.new told.old told.new)) }
-    ensures failed { IfErr result (AtWrite (IsBroken W.Sink out.new ⊎ IsBroken T.Sink told.new)) }
+    ensures { PlotsClaim C.Source W.Sink T.Sink form.entry (problem_is problem.now)
+        (claim.old, out.old, told.old) (claim.new, out.new, told.new) result }
 {
     match Cvrp::of(problem) {
         Some(cvrp) => plot_routes(alloc, problem, view, &cvrp, claim, form, out, told),

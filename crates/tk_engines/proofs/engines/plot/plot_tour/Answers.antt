@@ -1,4 +1,4 @@
-use Rattle.std.proofs.Common.{ap, refl, true}
+use Rattle.std.proofs.Common.{ap, refl, rules, true}
 use Rattle.tk_problem_text.specs.ProblemOf.{problem_is, routing_is}
 use Rattle.tk_engines.specs.declared.engines.plotted.Plotted.TheVariants as plotted
 use Rattle.tk_engines.specs.Engine.{AreRead, HasRead, IsGiven}
@@ -37,29 +37,34 @@ given g c =
       written = shown.1.1;
     }
 
-pub returns-in_default-clause-ends : goal.returns-in_default-clause-ends
-returns-in_default-clause-ends g c = (
-  problem_is c.args.problem.now,
-  TourClaim c.in-Ok.tour.cities.items,
-  claimed g (goal.at.returns-in_default-clause-ends g c).In-Ok,
-  refl,
-)
+pub returns-in-Err : goal.returns-in-Err
+returns-in-Err g c = record { ends = search rules; quiet = ((refl, refl), (refl, refl)); failed = tt }
 
-pub returns-in-Ok-show_tour-clause-ends : goal.returns-in-Ok-show_tour-clause-ends
-returns-in-Ok-show_tour-clause-ends g c =
-    rw c.in-Ok-show_tour.is at (given g (goal.at.returns-in-Ok-show_tour-clause-ends g c).After-show_tour)
+pub returns-in_default : goal.returns-in_default
+returns-in_default g c = record {
+  ends = (
+    problem_is c.args.problem.now,
+    TourClaim c.in-Ok.tour.cities.items,
+    claimed g (goal.at.returns-in_default g c).In-Ok,
+    refl,
+  );
+  quiet = ((refl, refl), (refl, refl));
+  failed = tt;
+}
 
-pub returns-clause-ends : goal.returns-clause-ends
-returns-clause-ends g c = (
-  plotted.Tour c.in-Ok-check.verdict,
-  rw c.in-Err-show_tour.is at (given g (goal.at.returns-clause-ends g c).After-show_tour),
-)
+pub returns-in-Ok-show_tour : goal.returns-in-Ok-show_tour
+returns-in-Ok-show_tour g c = record {
+  ends = rw c.in-Ok-show_tour.is at (given g (goal.at.returns-in-Ok-show_tour g c).After-show_tour);
+  quiet = tt;
+  failed = tt;
+}
 
-pub returns-in-Err-clause-quiet : goal.returns-in-Err-clause-quiet
-returns-in-Err-clause-quiet g c = ((refl, refl), (refl, refl))
-
-pub returns-in_default-clause-quiet : goal.returns-in_default-clause-quiet
-returns-in_default-clause-quiet g c = ((refl, refl), (refl, refl))
-
-pub returns-clause-failed : goal.returns-clause-failed
-returns-clause-failed g c = c.in-Err-show_tour.ensures.failed
+pub returns : goal.returns
+returns g c = record {
+  ends = (
+    plotted.Tour c.in-Ok-check.verdict,
+    rw c.in-Err-show_tour.is at (given g (goal.at.returns g c).After-show_tour),
+  );
+  quiet = tt;
+  failed = c.in-Err-show_tour.ensures.failed;
+}
