@@ -1,3 +1,4 @@
+pub mod ClaimsPlotted
 pub mod Ends
 pub mod FilesWritten
 pub mod Lengths

@@ -9,6 +9,8 @@ use Rattle.tk_engines.specs.declared.engines.plotted.Plotted.TheVariants as plot
 use Rattle.tk_engines.specs.Engine.{AreRead, HasRead, IsGiven}
 use Rattle.tk_engines.specs.Plot.{IsRouteOutput, ReadsClaim, RoutesClaim, WritesOutput, plot_task}
 use Rattle.tk_engines.proofs.Shown.{routed_of, some_of}
+use Rattle.tk_engines.specs.declared.fault.Fault.TheVariants as faults
+use Rattle.tk_engines.proofs.ClaimsPlotted.{unwritten}
 use Rattle.tk_engines.proofs.TextsRead.{is_read}
 use Rattle.tk_engines.proofs.engines.plot.plot_routes.Given.{Over}
 use Rattle.tk_engines.proofs.engines.plot.plot_routes.Goals as goal
@@ -51,19 +53,16 @@ given g c =
     }
 
 pub returns-in-Err : goal.returns-in-Err
-returns-in-Err g c = record { ends = search rules; quiet = ((refl, refl), (refl, refl)); failed = tt }
+returns-in-Err g c = unwritten (faults.Solution c.in-Err.fault) tt (search rules)
 
 pub returns-in_default : goal.returns-in_default
-returns-in_default g c = record {
-  ends = (
-    problem_is c.args.problem.now,
-    RoutesClaim (as_solution c.in-Ok.solution),
-    claimed g (goal.at.returns-in_default g c).In-Ok,
-    refl,
-  );
-  quiet = ((refl, refl), (refl, refl));
-  failed = tt;
-}
+returns-in_default g c =
+    unwritten faults.NoMemory tt (
+      problem_is c.args.problem.now,
+      RoutesClaim (as_solution c.in-Ok.solution),
+      claimed g (goal.at.returns-in_default g c).In-Ok,
+      refl,
+    )
 
 pub returns-in-Ok-show_routes : goal.returns-in-Ok-show_routes
 returns-in-Ok-show_routes g c = record {

@@ -3,6 +3,8 @@ use Rattle.tk_problem_text.specs.ProblemOf.{problem_is, routing_is}
 use Rattle.tk_engines.specs.declared.engines.plotted.Plotted.TheVariants as plotted
 use Rattle.tk_engines.specs.Engine.{AreRead, HasRead, IsGiven}
 use Rattle.tk_engines.specs.Plot.{ReadsClaim, TourClaim, WritesOutput, plot_task}
+use Rattle.tk_engines.specs.declared.fault.Fault.TheVariants as faults
+use Rattle.tk_engines.proofs.ClaimsPlotted.{unwritten}
 use Rattle.tk_engines.proofs.TextsRead.{is_read}
 use Rattle.tk_engines.proofs.engines.plot.plot_tour.Given.{Over}
 use Rattle.tk_engines.proofs.engines.plot.plot_tour.Goals as goal
@@ -38,19 +40,16 @@ given g c =
     }
 
 pub returns-in-Err : goal.returns-in-Err
-returns-in-Err g c = record { ends = search rules; quiet = ((refl, refl), (refl, refl)); failed = tt }
+returns-in-Err g c = unwritten (faults.Tour c.in-Err.fault) tt (search rules)
 
 pub returns-in_default : goal.returns-in_default
-returns-in_default g c = record {
-  ends = (
-    problem_is c.args.problem.now,
-    TourClaim c.in-Ok.tour.cities.items,
-    claimed g (goal.at.returns-in_default g c).In-Ok,
-    refl,
-  );
-  quiet = ((refl, refl), (refl, refl));
-  failed = tt;
-}
+returns-in_default g c =
+    unwritten faults.NoMemory tt (
+      problem_is c.args.problem.now,
+      TourClaim c.in-Ok.tour.cities.items,
+      claimed g (goal.at.returns-in_default g c).In-Ok,
+      refl,
+    )
 
 pub returns-in-Ok-show_tour : goal.returns-in-Ok-show_tour
 returns-in-Ok-show_tour g c = record {
