@@ -14,6 +14,17 @@ use Rattle.tk_engines.specs.declared.fault.Fault.{Fault}
 use Rattle.tk_engines.specs.declared.fault.Fault.TheVariants as faults
 use Rattle.tk_engines.specs.declared.fault.Fault.TheVariants.{NotForType}
 
+-- where the tour to begin with was refused, nothing was written yet
+module _ (problem : ProblemIs) (initial : Option (List ℕ)) (P : Type 0) where
+  initial_unwritten : (f : Fault) → IsInitialRefused problem initial f → AtWrite P f
+  initial_unwritten (faults.Write f) h = elim h [ ]
+  initial_unwritten _ h = tt
+
+  pub initial_unfailed : (f : Fault) (r : Result (Unit {0}) Fault) → IsErrAnd r (λ e. e ≡ f) →
+      IsInitialRefused problem initial f → IfErr r (AtWrite P)
+  initial_unfailed f (Err e) is h = subst (AtWrite P) (sym is) (initial_unwritten f h)
+  initial_unfailed f (Ok v) is h = tt
+
 module _ (p : ParamsAre) (Watched : List Event → Type 0) (Writes : Writing Files) (problem : ProblemIs)
     (initial : Option (List ℕ)) (fits : unfit_key p problem ≡ None) where
   read : AreRead (solve_task p Watched) (HasRead problem) (HasRead initial) problem initial
@@ -33,16 +44,6 @@ module _ (p : ParamsAre) (Watched : List Event → Type 0) (Writes : Writing Fil
       subst (λ v. Ends (solve_task p Watched) (HasRead problem) (HasRead initial) Writes (Err v)) (sym is)
       (initial_stopped f h)
   initial_failed f (Ok v) is h = elim is [ ]
-
-  -- it did not stop at a write
-  initial_unwritten : (P : Type 0) (f : Fault) → IsInitialRefused problem initial f → AtWrite P f
-  initial_unwritten P (faults.Write f) h = elim h [ ]
-  initial_unwritten P _ h = tt
-
-  pub initial_unfailed : (P : Type 0) (f : Fault) (r : Result (Unit {0}) Fault) → IsErrAnd r (λ e. e ≡ f) →
-      IsInitialRefused problem initial f → IfErr r (AtWrite P)
-  initial_unfailed P f (Err e) is h = subst (AtWrite P) (sym is) (initial_unwritten P f h)
-  initial_unfailed P f (Ok v) is h = tt
 
   -- the work was done
   given : (Answer Written : Files → Type 0) → IsInitial problem initial None →

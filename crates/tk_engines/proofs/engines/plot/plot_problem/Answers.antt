@@ -1,6 +1,6 @@
-use Rattle.std.proofs.Common.{Bool, refl, subst, sym, true}
+use Rattle.std.proofs.Common.{refl}
 use Rattle.tk_problem_text.specs.ProblemOf.{problem_is}
-use Rattle.tk_engines.specs.Engine.{EndsByProblem, HasRead, IsGiven, IsUnread}
+use Rattle.tk_engines.specs.Engine.{HasRead, IsGiven}
 use Rattle.tk_engines.specs.Plot.{Drawn, Nothing, ReadsClaim, WritesOutput, plot_task}
 use Rattle.tk_engines.specs.declared.engines.plotted.Plotted.TheVariants as plotted
 use Rattle.tk_engines.proofs.Ends.{second_reached}
@@ -36,25 +36,13 @@ pub returns-then-not-has_claim-clause-ends : goal.returns-then-not-has_claim-cla
 returns-then-not-has_claim-clause-ends g c =
     (plotted.Cities, rw c.in-Err.is at (drawn g (goal.at.returns-then-not-has_claim-clause-ends g c).After-draw))
 
-pub returns-clause-ends : goal.returns-clause-ends
-returns-clause-ends g c =
-    subst (λ (b : Bool). EndsByProblem (plot_task c.args.form b) (HasRead (problem_is c.args.problem.now))
-    (ReadsClaim b g.C.Source c.args.claim.now c.plot_claim.new.claim)
-    (WritesOutput g.W.Sink g.T.Sink c.args.out.now c.plot_claim.new.out
-    c.args.told.now c.plot_claim.new.told) c.plot_claim.result)
-    (sym c.if-not-has_claim.false) c.plot_claim.ensures.ends
-
-pub returns-clause-unread : goal.returns-clause-unread
-returns-clause-unread g c =
-    second_reached (IsUnread g.C.Source c.args.claim.now c.plot_claim.new.claim)
-    (plot_task c.args.form true)
-    (ReadsClaim true g.C.Source c.args.claim.now c.plot_claim.new.claim)
-    (WritesOutput g.W.Sink g.T.Sink c.args.out.now c.plot_claim.new.out
-    c.args.told.now c.plot_claim.new.told)
-    (problem_is c.args.problem.now) c.in-Some.ensures.some.fits c.plot_claim.result c.plot_claim.ensures.ends
-
-pub returns-clause-quiet : goal.returns-clause-quiet
-returns-clause-quiet g c = c.plot_claim.ensures.quiet
-
-pub returns-clause-failed : goal.returns-clause-failed
-returns-clause-failed g c = c.plot_claim.ensures.failed
+pub returns : goal.returns
+returns g c =
+    let told = c.plot_claim.ensures in
+    record {
+      ends = rw (← c.if-not-has_claim.false) at told.ends;
+      quiet = told.quiet;
+      failed = told.failed;
+      unread = second_reached _ _ _ (WritesOutput g.W.Sink g.T.Sink c.args.out.now c.plot_claim.new.out c.args.told.now
+          c.plot_claim.new.told) _ c.in-Some.ensures.some.fits c.plot_claim.result told.ends;
+    }
