@@ -1,9 +1,6 @@
-use Rattle.std.proofs.Common.{subst, ap, ◌≡◌, ◌-◌, arith}
-use Rattle.std.specs.Prelude.{flat_map}
-use Rattle.std.specs.List.{range_with_len}
+use Rattle.std.proofs.Common.{◌≡◌, ◌-◌, arith}
 use Rattle.tk_near.specs.Near.{near_of}
-use Rattle.tk_writers.specs.Pens.{Puts}
-use Rattle.tk_writers.specs.Written.{near_line, spaced_numbers}
+use Rattle.tk_writers.specs.Written.{near_line}
 use Rattle.tk_writers.proofs.MatrixLines.{lines_more}
 use Rattle.tk_writers.proofs.Pieces.Putting.{Puts-then}
 use Rattle.tk_engines.proofs.engines.near.put_lists.Goals as goal
@@ -14,12 +11,11 @@ loop-city-preserved g c =
     rw (lines_more (λ x. near_line x (near_of near x)) c.loop-city.city c.loop-city.auto.city)
     (Puts-then c.loop-city.invariant
     (Puts-then (Puts-then (Puts-then c.put_number.ensures c.put.ensures)
-    (subst (Puts _ _ _) (ap spaced_numbers c.of.ensures.value) c.put_spaced.ensures)) c.put-in-loop-city.ensures))
+    (rw c.of.ensures.value at c.put_spaced.ensures)) c.put-in-loop-city.ensures))
 
 pub returns : goal.returns
 returns g c =
     let near = c.args.near.now in
     let all : c.loop-city.city - 1 ≡ near.size =
     omega (arith, c.loop-city.auto.city-end, c.size-city-end.ensures.value) in
-    subst (Puts _ _ _) (ap (λ count. flat_map (λ x. near_line x (near_of near x)) (range_with_len 1 count)) all)
-    c.loop-city.invariant
+    rw all at c.loop-city.invariant

@@ -11,7 +11,5 @@ returns-clause-text g c =
 
 pub returns-clause-failed : goal.returns-clause-failed
 returns-clause-failed g c =
-    broken_at_err g.W.Sink c.args.out.now _ _ (near_text c.args.near.now)
-    (length_near_text c.args.near.now c.requires.few c.requires.narrow)
-    (Writes-end g.W.Sink c.args.out.now _ _ _ _ _ (near_text c.args.near.now)
-    c.new-pen.ensures.empty c.put_lists.ensures c.end.ensures (search rules))
+    broken_at_err g.W.Sink c.args.out.now _ _ _ (length_near_text c.args.near.now c.requires.few c.requires.narrow)
+    (returns-clause-text g c)

@@ -14,20 +14,11 @@ returns-in-Tour-clause-text g c =
     let cities = c.args.cities.now in
     let size = c.length_of-length.ensures ∙ length_read p cities in
     let told = c.draw.ensures.text in
-    rw c.in-Tour.is (
-      Drawn told.0,
-      (
-        subst (λ (n : ℕ). IsPicture c.args.form (problem_is p) (ATour cities n) told.0) size told.1.0,
-        (told.1.1, (refl, refl)),
-      ),
-    )
+    let drawn = subst (λ (n : ℕ). IsPicture c.args.form (problem_is p) (ATour cities n) told.0) size told.1.0 in
+    rw c.in-Tour.is (Drawn told.0, (drawn, (told.1.1, (refl, refl))))
 
 pub returns-in_default-clause-text : goal.returns-in_default-clause-text
-returns-in_default-clause-text g c = (
-  Refused _,
-  (
-    tour_told c.args.form c.args.problem.now c.args.cities.now c.args.verdict c.in_default.not-Tour
-        c.requires.verdict,
-    ((refl, refl), c.write_verdict.ensures.text),
-  ),
-)
+returns-in_default-clause-text g c =
+    let told = tour_told c.args.form c.args.problem.now c.args.cities.now c.args.verdict c.in_default.not-Tour
+    c.requires.verdict in
+    (Refused _, (told, ((refl, refl), c.write_verdict.ensures.text)))

@@ -10,18 +10,10 @@ returns-then-is_none-clause-ok g c =
 
 pub returns-in-Ok-clause-ok : goal.returns-in-Ok-clause-ok
 returns-in-Ok-clause-ok g c =
-    let given : is_some c.args.params.now.initial_tour_file ≡ true = search rules in (
-      given,
-      is_read c.in-Ok.ensures.reads,
-    )
+    let given : is_some c.args.params.now.initial_tour_file ≡ true = search rules in
+    (given, is_read c.in-Ok.ensures.reads)
 
 pub returns-in-Err-clause-err : goal.returns-in-Err-clause-err
 returns-in-Err-clause-err g c =
-    let given : is_some c.args.params.now.initial_tour_file ≡ true = search rules in (
-      given,
-      (
-        c.in-Err.fault,
-        refl,
-        is_refused c.in-Err.ensures.reads,
-      ),
-    )
+    let given : is_some c.args.params.now.initial_tour_file ≡ true = search rules in
+    (given, (c.in-Err.fault, refl, is_refused c.in-Err.ensures.reads))

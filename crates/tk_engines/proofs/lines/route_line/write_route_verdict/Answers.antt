@@ -11,5 +11,4 @@ returns-clause-text g c =
 pub returns-clause-failed : goal.returns-clause-failed
 returns-clause-failed g c =
     broken_at_err g.W.Sink c.args.out.now _ _ _ (route_line_short c.args.verdict)
-    (Writes-end g.W.Sink c.args.out.now _ _ _ _ _ _ c.new-pen.ensures.empty
-    c.put_route_verdict.ensures c.end.ensures (search rules))
+    (returns-clause-text g c)

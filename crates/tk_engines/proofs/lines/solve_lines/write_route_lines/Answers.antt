@@ -1,6 +1,5 @@
 use Rattle.std.proofs.Common.{rules}
 use Rattle.tk_writers.proofs.Pieces.Putting.{Writes-end, broken_at_err}
-use Rattle.tk_engines.specs.Lines.SolveLines.{route_lines}
 use Rattle.tk_engines.proofs.PrintedLines.LineLengths.{route_lines_short}
 use Rattle.tk_engines.proofs.lines.solve_lines.write_route_lines.Goals as goal
 
@@ -10,8 +9,6 @@ returns-clause-text g c = Writes-end g.W.Sink c.args.out.now _ _ _ _ _ _ c.new-p
 
 pub returns-clause-failed : goal.returns-clause-failed
 returns-clause-failed g c =
-    broken_at_err g.W.Sink c.args.out.now
-    _ _ (route_lines c.args.ignored.now c.args.routes c.args.report.now)
+    broken_at_err g.W.Sink c.args.out.now _ _ _
     (route_lines_short c.args.ignored.now c.args.routes c.args.report.now c.requires.ignored)
-    (Writes-end g.W.Sink c.args.out.now _ _ _ _ _ _ c.new-pen.ensures.empty
-    c.put_route_lines.ensures c.end.ensures (search rules))
+    (returns-clause-text g c)

@@ -12,6 +12,4 @@ pub returns-clause-failed : goal.returns-clause-failed
 returns-clause-failed g c =
     let short : length (run_line c.args.number c.args.report.now) ≤ 2 ^ 63 =
     omega (arith, run_short c.args.number c.args.report.now) in
-    broken_at_err g.W.Sink c.args.out.now _ _ (run_line c.args.number c.args.report.now) short
-    (Writes-end g.W.Sink c.args.out.now _ _ _ _ _ _ c.new-pen.ensures.empty c.put_run.ensures
-    c.end.ensures (search rules))
+    broken_at_err g.W.Sink c.args.out.now _ _ _ short (returns-clause-text g c)

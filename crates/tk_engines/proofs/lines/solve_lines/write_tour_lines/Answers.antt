@@ -1,6 +1,5 @@
 use Rattle.std.proofs.Common.{rules}
 use Rattle.tk_writers.proofs.Pieces.Putting.{Writes-end, broken_at_err}
-use Rattle.tk_engines.specs.Lines.SolveLines.{tour_lines}
 use Rattle.tk_engines.proofs.PrintedLines.LineLengths.{tour_lines_short}
 use Rattle.tk_engines.proofs.lines.solve_lines.write_tour_lines.Goals as goal
 
@@ -10,7 +9,6 @@ returns-clause-text g c = Writes-end g.W.Sink c.args.out.now _ _ _ _ _ _ c.new-p
 
 pub returns-clause-failed : goal.returns-clause-failed
 returns-clause-failed g c =
-    broken_at_err g.W.Sink c.args.out.now _ _ (tour_lines c.args.ignored.now c.args.solved.now)
+    broken_at_err g.W.Sink c.args.out.now _ _ _
     (tour_lines_short c.args.ignored.now c.args.solved.now c.requires.ignored c.requires.runs)
-    (Writes-end g.W.Sink c.args.out.now _ _ _ _ _ _ c.new-pen.ensures.empty
-    c.put_tour_lines.ensures c.end.ensures (search rules))
+    (returns-clause-text g c)

@@ -1,4 +1,3 @@
--- write_verdict
 use Rattle.std.proofs.Common.{rules}
 use Rattle.tk_writers.proofs.Pieces.Putting.{Writes-end, broken_at_err}
 use Rattle.tk_distance.specs.Weights.{problem_distance}
@@ -15,5 +14,4 @@ returns-clause-failed g c =
     broken_at_err g.W.Sink c.args.out.now _ _ _
     (verdict_line_short c.args.problem.now.n (problem_distance c.args.problem.now.weights) c.args.cities.now
     c.args.verdict)
-    (Writes-end g.W.Sink c.args.out.now _ _ _ _ _ _ c.new-pen.ensures.empty c.put_verdict.ensures
-    c.end.ensures (search rules))
+    (returns-clause-text g c)
