@@ -21,12 +21,7 @@ module _ {F W : Type 0} (files : sinks.Ghosts F) (outs : sinks.Ghosts W) (file f
       inl (subst (λ v. Writes files file file' (Err v) texts.file) (sym is) text, (refl, refl))
   text_stopped f (Ok v) is text = elim is [ ]
 
--- a write failed, of the text or of the lines
+-- a write of the text failed
 pub text_failed : (file out : Bool) (r : Result (Unit {0}) WriteFault) → file ≡ true → OnErr r (HasFailed file out)
 text_failed file out (Ok tt) h = tt
 text_failed file out (Err f) h = inl h
-
-pub lines_failed : (file out : Bool) (r : Result (Unit {0}) WriteFault) → OnErr r (out ≡ true) →
-    OnErr r (HasFailed file out)
-lines_failed file out (Ok tt) h = tt
-lines_failed file out (Err f) h = inr h

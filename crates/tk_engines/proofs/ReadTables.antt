@@ -12,36 +12,26 @@ use Rattle.tk_problem_text.specs.Problem.{RoutingIs}
 use Rattle.tk_routes.specs.Instance.{Instance, IsInstanceOf}
 use Rattle.tk_engines.specs.ReadProblems.{instance_in, read_distance}
 
-pub read_distance-weights : (w : Weights) (a b : ℕ) → problem_distance w a b ≡ read_distance (weights_are w) a b
-read_distance-weights (Points kind places) a b = refl
-read_distance-weights (Lower weights) a b = refl
-
-pub distances_read : (d : ℕ → ℕ → ℕ) (w : Weights) → ((a b : ℕ) → d a b ≡ problem_distance w a b) →
-    d ≡ read_distance (weights_are w)
-distances_read d w is = fun_ext (λ a. fun_ext (λ b. is a b ∙ read_distance-weights w a b))
-
 pub read_distance_is : (w : Weights) → problem_distance w ≡ read_distance (weights_are w)
 read_distance_is (Points kind places) = refl
 read_distance_is (Lower weights) = refl
 
+pub distances_read : (d : ℕ → ℕ → ℕ) (w : Weights) → ((a b : ℕ) → d a b ≡ problem_distance w a b) →
+    d ≡ read_distance (weights_are w)
+distances_read d w is = fun_ext (λ a. fun_ext (is a)) ∙ read_distance_is w
+
+abbrev instance : ℕ → (ℕ → ℕ → ℕ) → List ℕ → ℕ → ℕ → Instance
+instance n d demands q depot = record { size = n; distance = d; demands = demands; capacity = q; depot = depot }
+
 -- instances that are the same part by part
-pub instance_same : (i j : Instance) → i.size ≡ j.size → i.distance ≡ j.distance → i.demands ≡ j.demands →
+instance_same : (i j : Instance) → i.size ≡ j.size → i.distance ≡ j.distance → i.demands ≡ j.demands →
     i.capacity ≡ j.capacity → i.depot ≡ j.depot → i ≡ j
 instance_same i j size distance demands capacity depot =
-    ap (λ (x : ℕ).
-    record { size = x; distance = i.distance; demands = i.demands; capacity = i.capacity; depot = i.depot }) size
-    ∙ ap
-    (λ (x : ℕ → ℕ → ℕ).
-    record { size = j.size; distance = x; demands = i.demands; capacity = i.capacity; depot = i.depot }) distance
-    ∙ ap
-    (λ (x : List ℕ).
-    record { size = j.size; distance = j.distance; demands = x; capacity = i.capacity; depot = i.depot }) demands
-    ∙ ap
-    (λ (x : ℕ). record { size = j.size; distance = j.distance; demands = j.demands; capacity = x; depot = i.depot })
-    capacity
-    ∙ ap
-    (λ (x : ℕ).
-    record { size = j.size; distance = j.distance; demands = j.demands; capacity = j.capacity; depot = x }) depot
+    ap (λ n. instance n i.distance i.demands i.capacity i.depot) size
+    ∙ ap (λ d. instance j.size d i.demands i.capacity i.depot) distance
+    ∙ ap (λ l. instance j.size j.distance l i.capacity i.depot) demands
+    ∙ ap (λ q. instance j.size j.distance j.demands q i.depot) capacity
+    ∙ ap (instance j.size j.distance j.demands j.capacity) depot
 
 -- what holds of an instance of a problem holds of the one that its text gives
 instance_read_of : (p : Problem) (o : Option Routing) (i : Instance) (N : Type 0) (P : Instance → Type 0)
@@ -56,6 +46,15 @@ pub instance_read : (p : Problem) (i : Instance) (N : Type 0) (P : Instance → 
     → MatchOption (routing_is p.routing) N (λ r. P (instance_in (problem_is p) r))
 instance_read p i N P is holds =
     instance_read_of p p.routing i N P is.size (distances_read i.distance p.weights is.distance) is.routing holds
+
+-- the same, where the problem has a routing
+some_of : (o : Option RoutingIs) (P : RoutingIs → Type 0) → MatchOption o ⊥ P → IsSomeAnd o P
+some_of (Some r) P holds = holds
+some_of None P holds = elim holds [ ]
+
+pub some_instance_read : (p : Problem) (i : Instance) (P : Instance → Type 0) → IsInstanceOf p i → P i
+    → IsSomeAnd (routing_is p.routing) (λ r. P (instance_in (problem_is p) r))
+some_instance_read p i P is holds = some_of (routing_is p.routing) _ (instance_read p i ⊥ P is holds)
 
 -- a problem without a routing
 pub unrouted : (o : Option Routing) (N : Type 0) (P : RoutingIs → Type 0) → o ≡ None → N →

@@ -1,8 +1,8 @@
 -- What is drawn or told, by what a problem's text gives.
-use Rattle.std.proofs.Common.{◌≡◌, ℕ, List, Option, Some, None, Result, Ok, Err, OnErr, inl, inr, Bool, true, refl}
-use Rattle.std.proofs.Common.{length, sym, ap, ◌∙◌, arith, subst}
+use Rattle.std.proofs.Common.{◌≡◌, ℕ, List, Option, Some, None, true, refl}
+use Rattle.std.proofs.Common.{length, ap, arith, subst}
 use Rattle.std.proofs.lemmas.Grind.{not_there}
-use Rattle.std.specs.Prelude.{ℤ, IsSomeAnd, MatchOption, option_map, is_some}
+use Rattle.std.specs.Prelude.{ℤ, IsSomeAnd, option_map, is_some}
 use Rattle.std.specs.List.{concat}
 use Rattle.tk_problem.specs.declared.problem.Problem.{Problem}
 use Rattle.tk_problem.specs.declared.point.Point.{Point}
@@ -10,8 +10,6 @@ use Rattle.tk_problem.specs.declared.routing.Routing.{Routing}
 use Rattle.tk_problem.specs.declared.weights.PlaneKind.{PlaneKind}
 use Rattle.tk_problem.specs.declared.weights.Weights.TheVariants.{Points}
 use Rattle.tk_problem_text.specs.ProblemOf.{problem_is, routing_is, weights_are}
-use Rattle.tk_problem.specs.PlacesOf.{places_of}
-use Rattle.tk_problem_text.specs.Problem.{RoutingIs}
 use Rattle.tk_distance.specs.Weights.{problem_distance}
 use Rattle.tk_tour.specs.Tour.{IsTour, tour_length}
 use Rattle.tk_tour.specs.Verdict.{IsVerdict}
@@ -28,17 +26,13 @@ use Rattle.tk_engines.specs.Lines.TourLine.{verdict_line}
 use Rattle.tk_engines.specs.ReadProblems.{read_distance}
 use Rattle.tk_engines.specs.Lines.RouteLine.{route_verdict_line}
 use Rattle.tk_tour.proofs.CitiesOfTours.{cities_of_tour}
-use Rattle.tk_engines.proofs.PrintedLines.TourLines.{tour_length_same}
-use Rattle.tk_engines.proofs.ReadTables.{read_distance-weights, read_distance_is}
+use Rattle.tk_engines.proofs.ReadTables.{read_distance_is}
 use Rattle.tk_picture.specs.declared.picture.Form.{Form}
 use Rattle.tk_picture.specs.declared.picture.Picture.{Picture}
 use Rattle.tk_picture.specs.declared.subject.Subject.{Subject}
 use Rattle.tk_picture.specs.declared.view.View.{View}
-use Rattle.tk_picture.specs.Frames.{IsFrame}
-use Rattle.tk_picture.specs.Pictures.{drawing_of, form_text, text_in}
-use Rattle.tk_writers.specs.declared.output.pen.WriteFault.{WriteFault}
-use Rattle.tk_engines.specs.Plot.{HasFailed, Refused, IsPicture, IsRouteOutput, IsTourOutput, IsViewOf, demands_in}
-use Rattle.tk_engines.specs.Plot.{places_in}
+use Rattle.tk_picture.specs.Pictures.{drawing_of, text_in}
+use Rattle.tk_engines.specs.Plot.{Refused, IsPicture, IsRouteOutput, IsTourOutput, IsViewOf, demands_in}
 
 depot_read : (o : Option Routing) → option_map (λ r. r.depot) (routing_is o) ≡ option_map (λ r. r.depot) o
 depot_read None = refl
@@ -51,38 +45,23 @@ pub picture_drawn : (form : Form) (p : Problem) (picture : Picture) (v : View) (
     → picture.demands.now ≡ demands_in (routing_is p.routing)
     → IsPicture form (problem_is p) (drawing_of subject) (text_in form picture)
 picture_drawn form p picture v subject is name view drawn depot demands =
-    let places = places_in (weights_are p.weights) in
-    let marked = option_map (λ r. r.depot) (routing_is p.routing) in
     record {
       frame = v.frame;
-      is_frame = subst (λ places. IsFrame places v.frame) is.places is.frame;
-      is =
-          ap (λ x. form_text form x.frame (places_of x.places) picture.name.now (drawing_of picture.subject)
-          picture.depot picture.demands.now) view
-          ∙ ap
-          (λ x. form_text form v.frame x picture.name.now (drawing_of picture.subject) picture.depot
-          picture.demands.now) is.places
-          ∙ ap (λ x. form_text form v.frame places x (drawing_of picture.subject) picture.depot picture.demands.now)
-          name
-          ∙ ap (λ x. form_text form v.frame places p.name.items (drawing_of x) picture.depot picture.demands.now) drawn
-          ∙ ap (λ x. form_text form v.frame places p.name.items (drawing_of subject) x picture.demands.now)
-          (depot ∙ sym (depot_read p.routing))
-          ∙ ap (λ x. form_text form v.frame places p.name.items (drawing_of subject) marked x) demands;
+      is_frame = rw is.places at is.frame;
+      is = rw (view, is.places, name, drawn, depot, depot_read p.routing, demands);
     }
 
 -- the length by a problem is that by its text
 pub length_read : (p : Problem) (cities : List ℕ) →
     tour_length (problem_distance p.weights) cities ≡ tour_length (read_distance (weights_are p.weights)) cities
-length_read p cities = tour_length_same _ _ (read_distance-weights p.weights) cities
+length_read p cities = ap (λ d. tour_length d cities) (read_distance_is p.weights)
 
 -- a verdict that is no tour is told
 told_for : (form : Form) (p : Problem) (cities line : List ℕ) (v : Verdict) → (v ≡ verdicts.Tour → ⊥)
     → line ≡ verdict_line p.n (read_distance (weights_are p.weights)) cities v
     → IsTourOutput form (problem_is p) cities v (Refused line)
 told_for form p cities line verdicts.Tour fault is = fault refl
-told_for form p cities line verdicts.WrongCount fault is = is
-told_for form p cities line (verdicts.OutOfRange place) fault is = is
-told_for form p cities line (verdicts.RepeatedCity place) fault is = is
+told_for form p cities line _ fault is = is
 
 pub tour_told : (form : Form) (p : Problem) (cities : List ℕ) (v : Verdict) → (v ≡ verdicts.Tour → ⊥)
     → IsVerdict p.n cities v
@@ -94,11 +73,7 @@ pub routes_told : (form : Form) (p : Problem) (i : Instance) (routes : List (Lis
     → ((count : ℕ) (cost : ℤ) → v ≡ route_verdicts.Valid count cost → ⊥)
     → IsRouteOutput form (problem_is p) i routes v (Refused (route_verdict_line v))
 routes_told form p i routes (route_verdicts.Valid count cost) fault = fault count cost refl
-routes_told form p i routes (route_verdicts.BadCustomer route number) fault = refl
-routes_told form p i routes (route_verdicts.ServedTwice customer) fault = refl
-routes_told form p i routes (route_verdicts.OverCapacity route load) fault = refl
-routes_told form p i routes (route_verdicts.NotServed customer) fault = refl
-routes_told form p i routes (route_verdicts.WrongCost read counted) fault = refl
+routes_told form p i routes _ fault = refl
 
 -- no customer stands twice on valid routes
 pub served_once : (i : Instance) (routes : List (List ℕ)) → AreRoutes i (filled_of routes) →
@@ -115,21 +90,6 @@ served_once i routes are =
 pub routed_of : (o : Option Routing) (P : Routing → Type 0) → IsSomeAnd o P → is_some (routing_is o) ≡ true
 routed_of (Some r) P some = refl
 routed_of None P some = elim some [ ]
-
-pub some_of : (o : Option RoutingIs) (P : RoutingIs → Type 0) → MatchOption o ⊥ P → IsSomeAnd o P
-some_of (Some r) P holds = holds
-some_of None P holds = elim holds [ ]
-
--- a write failed, where the drawing failed or the telling
-pub drawing_failed : (out told : Bool) (r : Result (Unit {0}) WriteFault) → OnErr r (out ≡ true) →
-    OnErr r (HasFailed out told)
-drawing_failed out told (Ok tt) h = tt
-drawing_failed out told (Err f) h = inl h
-
-pub telling_failed : (out told : Bool) (r : Result (Unit {0}) WriteFault) → OnErr r (told ≡ true) →
-    OnErr r (HasFailed out told)
-telling_failed out told (Ok tt) h = tt
-telling_failed out told (Err f) h = inr h
 
 -- a problem with places has as many as it has cities
 pub points_size : (p : Problem) (kind : PlaneKind) (points : List Point) → p.weights ≡ Points kind points →

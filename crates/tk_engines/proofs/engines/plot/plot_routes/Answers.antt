@@ -1,14 +1,14 @@
 use Rattle.std.proofs.Common.{refl, rules, true}
 use Rattle.std.specs.Prelude.{map}
 use Rattle.tk_lists.specs.Solution.{as_solution}
-use Rattle.tk_problem_text.specs.ProblemOf.{problem_is, routing_is}
+use Rattle.tk_problem_text.specs.ProblemOf.{problem_is}
 use Rattle.tk_routes.specs.Cvrps.{instance_of}
 use Rattle.tk_routes.specs.RouteVerdicts.{IsRouteVerdict}
-use Rattle.tk_engines.proofs.ReadTables.{instance_read}
+use Rattle.tk_engines.proofs.ReadTables.{some_instance_read}
 use Rattle.tk_engines.specs.declared.engines.plotted.Plotted.TheVariants as plotted
 use Rattle.tk_engines.specs.Engine.{AreRead, HasRead, IsGiven}
 use Rattle.tk_engines.specs.Plot.{IsRouteOutput, ReadsClaim, RoutesClaim, WritesOutput, plot_task}
-use Rattle.tk_engines.proofs.Shown.{routed_of, some_of}
+use Rattle.tk_engines.proofs.Shown.{routed_of}
 use Rattle.tk_engines.specs.declared.fault.Fault.TheVariants as faults
 use Rattle.tk_engines.proofs.ClaimsPlotted.{unwritten}
 use Rattle.tk_engines.proofs.TextsRead.{is_read}
@@ -44,11 +44,10 @@ given g c =
       text = shown.0;
       read = claimed g (goal.at.After-show_routes g c).In-Ok;
       together = refl;
-      gives = some_of (routing_is p.routing) _
-          (instance_read p (instance_of c.args.cvrp.now) ⊥
+      gives = some_instance_read p (instance_of c.args.cvrp.now)
           (λ i. IsRouteVerdict i routes c.in-Ok.solution.cost verdict
           × IsRouteOutput c.args.form (problem_is p) i routes verdict shown.0) c.requires.instance
-          (c.in-Ok-check_routes.ensures, shown.1.0));
+          (c.in-Ok-check_routes.ensures, shown.1.0);
       written = shown.1.1;
     }
 

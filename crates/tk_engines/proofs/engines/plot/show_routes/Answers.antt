@@ -1,11 +1,12 @@
-use Rattle.std.proofs.Common.{◌≡◌, ℕ, refl, rules, subst}
+use Rattle.std.proofs.Common.{◌≡◌, ℕ, inl, inr, refl, rules, subst}
+use Rattle.std.proofs.lemmas.Result.{on_err_weaker}
 use Rattle.std.specs.Prelude.{map}
 use Rattle.std.specs.Int.RustNames.{unsigned_abs}
 use Rattle.tk_problem_text.specs.ProblemOf.{problem_is}
 use Rattle.tk_routes.specs.Cvrps.{instance_of}
 use Rattle.tk_picture.specs.Drawings.{SomeRoutes}
 use Rattle.tk_engines.specs.Plot.{Drawn, Refused, IsPicture}
-use Rattle.tk_engines.proofs.Shown.{drawing_failed, routes_told, served_once, telling_failed}
+use Rattle.tk_engines.proofs.Shown.{routes_told, served_once}
 use Rattle.tk_engines.proofs.engines.plot.show_routes.Goals as goal
 
 pub draw-requires-clause-view : goal.draw-requires-clause-view
@@ -25,31 +26,20 @@ returns-in-Valid-clause-text g c =
     let count = c.in-Valid.routes in
     let cost : c.unsigned_abs.result ≡ unsigned_abs c.in-Valid.cost = search rules in
     let told = rw c.deref.ensures.value at c.draw.ensures.text in
-    rw c.in-Valid.is (
-      Drawn told.0,
-      (
-        subst (λ (n : ℕ). IsPicture c.args.form (problem_is p)
-            (SomeRoutes i (map (λ r. r.items) c.args.solution.now.routes.items) count n) told.0) cost told.1.0,
-        (told.1.1, (refl, refl)),
-      ),
-    )
+    let drawn = subst (λ (n : ℕ). IsPicture c.args.form (problem_is p)
+    (SomeRoutes i (map (λ r. r.items) c.args.solution.now.routes.items) count n) told.0) cost told.1.0 in
+    rw c.in-Valid.is (Drawn told.0, (drawn, (told.1.1, (refl, refl))))
 
 pub returns-in_default-clause-text : goal.returns-in_default-clause-text
-returns-in_default-clause-text g c = (
-  Refused _,
-  (
-    routes_told c.args.form c.args.problem.now (instance_of c.args.cvrp.now)
-        (map (λ r. r.items) c.args.solution.now.routes.items) c.args.verdict c.in_default.not-Valid,
-    ((refl, refl), c.write_route_verdict.ensures.text),
-  ),
-)
+returns-in_default-clause-text g c =
+    let told = routes_told c.args.form c.args.problem.now (instance_of c.args.cvrp.now)
+    (map (λ r. r.items) c.args.solution.now.routes.items) c.args.verdict c.in_default.not-Valid in
+    (Refused _, (told, ((refl, refl), c.write_route_verdict.ensures.text)))
 
 pub returns-in-Valid-clause-failed : goal.returns-in-Valid-clause-failed
 returns-in-Valid-clause-failed g c =
-    drawing_failed (g.W.Sink.broken c.draw.new.out) (g.T.Sink.broken c.args.told.now) c.draw.result
-    c.draw.ensures.failed
+    on_err_weaker c.draw.result inl c.draw.ensures.failed
 
 pub returns-in_default-clause-failed : goal.returns-in_default-clause-failed
 returns-in_default-clause-failed g c =
-    telling_failed (g.W.Sink.broken c.args.out.now) (g.T.Sink.broken c.write_route_verdict.new.out)
-    c.write_route_verdict.result c.write_route_verdict.ensures.failed
+    on_err_weaker c.write_route_verdict.result inr c.write_route_verdict.ensures.failed

@@ -5,7 +5,9 @@ use Rattle.tk_problem_text.specs.ProblemOf.{problem_is}
 use Rattle.tk_writers.specs.Puts.{Writes}
 use Rattle.tk_engines.specs.Engine.{HasRead, IsGiven, ReadsSolution}
 use Rattle.tk_engines.specs.RouteCheck.{route_check_task}
-use Rattle.tk_engines.proofs.RouteChecks.{verdict_read, routing_fits}
+use Rattle.tk_routes.specs.RouteVerdicts.{IsRouteVerdict}
+use Rattle.tk_engines.proofs.ReadTables.{some_instance_read}
+use Rattle.tk_engines.proofs.RouteChecks.{routing_fits}
 use Rattle.tk_engines.proofs.TextsRead.{is_read, is_refused}
 use Rattle.tk_engines.proofs.engines.route_check.check_solution.Given.{Over}
 use Rattle.tk_engines.proofs.engines.route_check.check_solution.Goals as goal
@@ -28,8 +30,9 @@ given g c = record {
   };
   together = refl;
   gives = record {
-    right = verdict_read c.args.problem.now _ (map (λ r. r.items) c.in-Ok.solution.routes.items)
-        c.in-Ok.solution.cost c.in-Ok-check_routes.verdict c.requires c.in-Ok-check_routes.ensures;
+    right = some_instance_read c.args.problem.now _ (λ i. IsRouteVerdict i (map (λ r. r.items)
+        c.in-Ok.solution.routes.items) c.in-Ok.solution.cost c.in-Ok-check_routes.verdict) c.requires
+        c.in-Ok-check_routes.ensures;
     line = refl;
   };
   written = c.write_route_verdict.ensures.text;
@@ -40,11 +43,7 @@ returns-in-Err-clause-ends g c = record {
   problem = problem_is c.args.problem.now;
   is_problem = refl;
   fits = routing_fits c.args.problem.now _ c.requires;
-  refused = (
-    c.in-Err.fault,
-    refl,
-    is_refused c.in-Err.ensures.reads,
-  );
+  refused = (c.in-Err.fault, refl, is_refused c.in-Err.ensures.reads);
 }
 
 pub returns-in-Ok-write_route_verdict-clause-ends : goal.returns-in-Ok-write_route_verdict-clause-ends

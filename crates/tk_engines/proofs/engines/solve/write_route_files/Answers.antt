@@ -1,15 +1,12 @@
-use Rattle.std.proofs.Common.{◌≡◌, ◌≤◌, ℕ, List, Ok, Err, ap, arith, length, map, rules, subst, sym, ◌∙◌}
+use Rattle.std.proofs.Common.{◌≡◌, Ok, Err, ap, arith, inr, length, map, rules, sym, ◌∙◌}
 use Rattle.std.specs.Int.RustNames.{unsigned_abs}
-use Rattle.std.specs.List.{concat}
 use Rattle.std.proofs.lemmas.List.{length-map}
-use Rattle.tk_problem.specs.declared.limits.TheConstants.{ENTRY_LIMIT}
+use Rattle.std.proofs.lemmas.Result.{on_err_weaker}
 use Rattle.tk_routes.specs.RouteLists.{routes_of}
-use Rattle.tk_params.specs.declared.key.Key.{Key}
 use Rattle.tk_writers.specs.Puts.{Writes}
 use Rattle.tk_writers.specs.SolutionWritten.{solution_text}
-use Rattle.tk_engines.specs.Lines.SolveLines.{route_lines}
 use Rattle.tk_engines.specs.Solve.{route_files}
-use Rattle.tk_engines.proofs.FilesWritten.{lines_after, lines_failed, text_failed, text_stopped}
+use Rattle.tk_engines.proofs.FilesWritten.{lines_after, text_failed, text_stopped}
 use Rattle.tk_engines.proofs.engines.solve.write_route_files.Goals as goal
 
 pub returns-in_err-write_solution-clause-text : goal.returns-in_err-write_solution-clause-text
@@ -19,9 +16,7 @@ returns-in_err-write_solution-clause-text g c =
     (solution_text (map (λ r. r.items) c.lists.result.now) (unsigned_abs c.args.report.now.after)) = search rules in
     text_stopped g.F.Sink g.W.Sink c.args.file.now c.write_solution.new.w
     c.args.out.now c.args.out.now (route_files c.args.params.now (routes_of c.args.routes.now) c.args.report.now)
-    fault c.from_residual.result c.from_residual.ensures.1
-    (subst (λ (routes : List (List ℕ)). Writes g.F.Sink c.args.file.now c.write_solution.new.w
-    (Err fault) (solution_text routes (unsigned_abs c.args.report.now.after))) c.lists.ensures text)
+    fault c.from_residual.result c.from_residual.ensures.1 (rw c.lists.ensures at text)
 
 pub returns-in_err-write_solution-clause-failed : goal.returns-in_err-write_solution-clause-failed
 returns-in_err-write_solution-clause-failed g c =
@@ -29,8 +24,7 @@ returns-in_err-write_solution-clause-failed g c =
     let routes = ap length c.lists.ensures in
     text_failed (g.F.Sink.broken c.write_solution.new.w) (g.W.Sink.broken c.args.out.now) c.from_residual.result
     (c.in_err-write_solution.ensures.failed (omega (arith, count, routes, c.requires.routes))
-    (subst (λ (routes : List (List ℕ)). length (concat routes) ≤ ENTRY_LIMIT) (sym c.lists.ensures)
-    c.requires.customers))
+    (rw c.lists.ensures c.requires.customers))
 
 pub returns-clause-text : goal.returns-clause-text
 returns-clause-text g c =
@@ -42,15 +36,8 @@ returns-clause-text g c =
     lines_after g.F.Sink g.W.Sink c.args.file.now c.write_solution.new.w
     c.args.out.now c.write_route_lines.new.out
     (route_files c.args.params.now (routes_of c.args.routes.now) report) c.write_route_lines.result
-    (subst (λ (routes : List (List ℕ)). Writes g.F.Sink c.args.file.now c.write_solution.new.w
-    (Ok tt) (solution_text routes (unsigned_abs report.after))) c.lists.ensures text)
-    (subst (λ (lines : List ℕ). Writes g.W.Sink c.args.out.now c.write_route_lines.new.out
-    c.write_route_lines.result lines)
-    (ap (λ (ignored : List Key). route_lines ignored (length c.lists-2.result.now) report) c.ignored.ensures.value
-    ∙ ap (λ (routes : ℕ). route_lines c.args.params.now.ignored routes report) count)
-    c.write_route_lines.ensures.text)
+    (rw c.lists.ensures at text) (rw (c.ignored.ensures.value, count) at c.write_route_lines.ensures.text)
 
 pub returns-clause-failed : goal.returns-clause-failed
 returns-clause-failed g c =
-    lines_failed (g.F.Sink.broken c.write_solution.new.w) (g.W.Sink.broken c.write_route_lines.new.out)
-    c.write_route_lines.result c.write_route_lines.ensures.failed
+    on_err_weaker c.write_route_lines.result inr c.write_route_lines.ensures.failed
