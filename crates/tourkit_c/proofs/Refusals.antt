@@ -13,7 +13,8 @@ use Rattle.tk_params.specs.declared.fault.ParamKind.{ParamKind}
 use Rattle.tk_params.specs.declared.fault.ParamKind.TheVariants as params
 use Rattle.tk_engines.specs.declared.fault.Fault.{Fault}
 use Rattle.tk_engines.specs.declared.fault.Fault.TheVariants as faults
-use Rattle.tourkit_c.specs.Answers.{IsFaulty, IsFitAnd, IsMisfitAnswer, IsRightRefusal, IsStop}
+use Rattle.tourkit_c.specs.Answers.{IsFaulty, IsFitAnd, IsMisfitAnswer, IsRightRefusal, IsStop, NeverClashes}
+use Rattle.tourkit_c.specs.Answers.{NoFault, NoRefusal}
 use Rattle.tourkit_c.specs.Outcomes.{clash_answer, fault_answer, kind_answer, param_answer, param_kind_answer}
 use Rattle.tourkit_c.specs.Outcomes.{param_number, refused, text_answer, text_number}
 use Rattle.tourkit_c.specs.Solved.{AreParamsRefused, HasParamFault}
@@ -119,9 +120,12 @@ module _ (misfit : ProblemIs → Option Fault) (Clash : TourFault → Type 0) (S
       absurd (omega (arith, ap (λ (a : Answer). a.status) is))
   right_refusal Tour Solution two tour solution clash faults.NoMemory is h =
       absurd (omega (arith, ap (λ (a : Answer). a.status) is))
-  right_refusal Tour Solution two tour solution clash faults.WrongType is h =
-      misfit_refused (faults.WrongType, h, is)
-  right_refusal Tour Solution two tour solution clash (faults.NotForType key) is h =
-      misfit_refused (faults.NotForType key, h, is)
-  right_refusal Tour Solution two tour solution clash faults.TooLarge is h = misfit_refused (faults.TooLarge, h, is)
-  right_refusal Tour Solution two tour solution clash faults.NoPlaces is h = misfit_refused (faults.NoPlaces, h, is)
+  right_refusal Tour Solution two tour solution clash v is h = misfit_refused (v, h, is)
+
+-- the same where the problem is the only text
+pub problem_refusal : (misfit : ProblemIs → Option Fault) (problem : List ℕ) (answer : Answer) → answer.status ≡ 2 →
+    (v : Fault) → answer ≡ fault_answer 1 v answer.needed → IsStop misfit NeverClashes NoFault NoFault problem v →
+    IsRightRefusal misfit NeverClashes NoRefusal 1 problem answer
+problem_refusal misfit problem answer two =
+    right_refusal misfit NeverClashes NoRefusal 1 (omega arith) problem answer NoFault NoFault two
+    (λ p f h is. elim h [ ]) (λ p f h is. elim h [ ]) (λ f h. elim h [ ])

@@ -6,12 +6,12 @@ use Rattle.tk_text.specs.Tour.{tour_texts}
 use Rattle.tk_words.specs.declared.fault.TextFault.{TextFault}
 use Rattle.tk_words.specs.declared.sources.source.Source as sources
 use Rattle.tk_tour.specs.declared.fault.TourFault.{TourFault}
-use Rattle.tk_engines.specs.Engine.{EndsByProblem, IsMisfit, Reading, ReadsProblem, ReadsSolution, ReadsTour, Task}
+use Rattle.tk_engines.specs.Engine.{EndsByProblem, Reading, ReadsProblem, ReadsSolution, ReadsTour, Task}
 use Rattle.tk_engines.specs.Engine.{Writing}
 use Rattle.tk_engines.specs.declared.fault.Fault.{Fault}
 use Rattle.tk_engines.specs.declared.fault.Fault.TheVariants as faults
 use Rattle.tourkit_c.proofs.TextsSaid.{has_fault, says}
-use Rattle.tourkit_c.specs.Answers.{IsMisfitOf, IsStop}
+use Rattle.tourkit_c.specs.Answers.{IsStop}
 use Rattle.tourkit_c.specs.Texts.{HasFault, TextSays}
 
 -- the text of a tour, or of a solution, was refused, of a problem that fits
@@ -50,30 +50,23 @@ module _ {S B R T : Type 0} (task : Task B R T) (Clash : TourFault → Type 0)
     IsStop task.misfit Clash Tour Solution problem v)
     (clashes : (p : ProblemIs) (b : B) (f : TourFault) → TextSays problem_texts problem p → Second p (Ok b) →
     task.IsClash p b (Some (faults.Initial f)) → Clash f) where
-  misfit_stop : (v : Fault) → IsMisfit task (ReadsProblem source old new) v → IsMisfitOf task.misfit problem v
-  misfit_stop v h =
-      record {
-        p = h.problem;
-        is_problem = says problem_texts source old new problem h.problem e h.is_problem;
-        misfit_is = h.misfit;
-      }
-
   pub stop_of : (v : Fault) → EndsByProblem task (ReadsProblem source old new) Second Writes (Err v) →
       IsStop task.misfit Clash Tour Solution problem v
   stop_of (faults.Problem g) h =
       subst (IsStop task.misfit Clash Tour Solution problem) (sym h.1)
       (has_fault problem_texts problem source old new h.0 e h.2)
+  stop_of (faults.Initial g) h =
+      clashes h.0 h.1 g (says problem_texts source old new problem h.0 e h.2.is_problem) h.2.is_second h.3
+  stop_of (faults.Write g) h = tt
+  stop_of faults.NoMemory h = tt
   stop_of (faults.Tour g) h =
       seconds h.problem (faults.Tour g) (says problem_texts source old new problem h.problem e h.is_problem)
       h.fits h.refused
   stop_of (faults.Solution g) h =
       seconds h.problem (faults.Solution g) (says problem_texts source old new problem h.problem e h.is_problem)
       h.fits h.refused
-  stop_of (faults.Initial g) h =
-      clashes h.0 h.1 g (says problem_texts source old new problem h.0 e h.2.is_problem) h.2.is_second h.3
-  stop_of (faults.Write g) h = tt
-  stop_of faults.NoMemory h = tt
-  stop_of faults.WrongType h = misfit_stop faults.WrongType h
-  stop_of (faults.NotForType key) h = misfit_stop (faults.NotForType key) h
-  stop_of faults.TooLarge h = misfit_stop faults.TooLarge h
-  stop_of faults.NoPlaces h = misfit_stop faults.NoPlaces h
+  stop_of v h = record {
+    p = h.problem;
+    is_problem = says problem_texts source old new problem h.problem e h.is_problem;
+    misfit_is = h.misfit;
+  }
