@@ -6,19 +6,11 @@ use Rattle.tourkit_c.specs.Texts.{HasFault}
 use Rattle.tourkit_c.proofs.Refusals.{faulty, right_refusal}
 use Rattle.tourkit_c.proofs.check.tourkit_checksol.Goals as goal
 
-pub returns-in-Err : goal.returns-in-Err
-returns-in-Err c =
+pub returns-in-Err-clause-refused : goal.returns-in-Err-clause-refused
+returns-in-Err-clause-refused c = λ two.
     let solution = c.args.solution.now in
     let answer = c.stopped.result in
-    let failure = c.stopped.ensures.failure in
-    record {
-      given = λ low. absurd (omega (arith, failure.failed));
-      known = failure.known;
-      refused = λ two. right_refusal without_routing NeverClashes (λ _. IsFaulty solution_texts 2 solution) 1
-          (omega arith) c.args.problem.now answer NoFault (λ _. HasFault solution_texts solution) two
-          (λ p f h is. elim h [ ]) (λ p f h is. faulty solution_texts 2 solution f answer two refl is h)
-          (λ f h. elim h [ ])
-          c.in-Err.fault c.stopped.ensures.is c.in-Err.ensures.err;
-      memory = failure.memory;
-      message = λ _. c.stopped.ensures.message;
-    }
+    right_refusal without_routing NeverClashes (λ _. IsFaulty solution_texts 2 solution) 1 (omega arith)
+    c.args.problem.now answer NoFault (λ _. HasFault solution_texts solution) two (λ p f h is. elim h [ ])
+    (λ p f h is. faulty solution_texts 2 solution f answer two refl is h) (λ f h. elim h [ ])
+    c.in-Err.fault c.stopped.ensures.is c.in-Err.ensures.err

@@ -1,8 +1,8 @@
-use Rattle.std.proofs.Common.{refl, arith, subst}
+use Rattle.std.proofs.Common.{refl, subst}
 use Rattle.tk_near.specs.ListLengths.{IsListLength}
-use Rattle.tourkit_c.specs.Answers.{NeverClashes, NoFault, NoRefusal, fits_any}
+use Rattle.tourkit_c.specs.Answers.{fits_any}
 use Rattle.tourkit_c.proofs.HandingOut.{written}
-use Rattle.tourkit_c.proofs.Refusals.{right_refusal}
+use Rattle.tourkit_c.proofs.Refusals.{problem_refusal}
 use Rattle.tourkit_c.proofs.lists.tourkit_near.Goals as goal
 use Rattle.tourkit_c.specs.Texts.{IsNearTextOf}
 
@@ -15,17 +15,11 @@ returns-in-Ok-clause-given c = λ _. (
       c.deref.ensures.value,
 )
 
-pub returns-in-Err : goal.returns-in-Err
-returns-in-Err c =
-    let failure = c.stopped.ensures.failure in
-    record {
-      given = λ low. absurd (omega (arith, failure.failed));
-      known = failure.known;
-      refused = λ two _. right_refusal fits_any NeverClashes NoRefusal 1 (omega arith) c.args.problem.now
-          c.stopped.result NoFault NoFault two
-          (λ p f h is. elim h [ ]) (λ p f h is. elim h [ ]) (λ f h. elim h [ ])
-          c.in-Err.fault c.stopped.ensures.is c.in-Err.ensures.err;
-      outside = λ none. absurd (none (subst IsListLength c.in-Some.ensures.some c.in-Some.candidates.within));
-      memory = failure.memory;
-      message = λ _. c.stopped.ensures.message;
-    }
+pub returns-in-Err-clause-refused : goal.returns-in-Err-clause-refused
+returns-in-Err-clause-refused c = λ two _.
+    problem_refusal fits_any c.args.problem.now c.stopped.result two c.in-Err.fault c.stopped.ensures.is
+    c.in-Err.ensures.err
+
+pub returns-in-Err-clause-outside : goal.returns-in-Err-clause-outside
+returns-in-Err-clause-outside c = λ none.
+    absurd (none (subst IsListLength c.in-Some.ensures.some c.in-Some.candidates.within))

@@ -21,21 +21,13 @@ returns-in-Ok-clause-given c = λ _.
           c.hand_out-in-Ok.ensures.needed c.hand_out-in-Ok.ensures.bytes (c.deref-in-Ok.ensures.value ∙ given.3),
     )
 
-pub returns-in-Err : goal.returns-in-Err
-returns-in-Err c =
+pub returns-in-Err-clause-refused : goal.returns-in-Err-clause-refused
+returns-in-Err-clause-refused c = λ two.
     let given = c.args.has_claim in
     let claim = c.args.claim.now in
     let answer = c.stopped.result in
-    let failure = c.stopped.ensures.failure in
-    record {
-      given = λ low. absurd (omega (arith, failure.failed));
-      known = failure.known;
-      refused = λ two. right_refusal plot_misfit NeverClashes (IsClaimRefused given claim) 1 (omega arith)
-          c.args.problem.now answer (IsTourFault given claim) (IsSolutionFault given claim) two
-          (λ p f h is. (h.0, inl (h.1, faulty tour_texts 2 claim f answer two refl is h.2)))
-          (λ p f h is. (h.0, inr (h.1, faulty solution_texts 2 claim f answer two refl is h.2))) (λ f h. elim h [ ])
-          c.in-Err.fault c.stopped.ensures.is c.in-Err.ensures.err;
-      memory = failure.memory;
-      message = λ _. c.stopped.ensures.message;
-      kept = λ _. refl;
-    }
+    right_refusal plot_misfit NeverClashes (IsClaimRefused given claim) 1 (omega arith) c.args.problem.now answer
+    (IsTourFault given claim) (IsSolutionFault given claim) two
+    (λ p f h is. (h.0, inl (h.1, faulty tour_texts 2 claim f answer two refl is h.2)))
+    (λ p f h is. (h.0, inr (h.1, faulty solution_texts 2 claim f answer two refl is h.2))) (λ f h. elim h [ ])
+    c.in-Err.fault c.stopped.ensures.is c.in-Err.ensures.err
