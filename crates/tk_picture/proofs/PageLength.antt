@@ -30,8 +30,8 @@ use Rattle.tk_picture.specs.PageText.{table_head, table_start, verdict}
 use Rattle.tk_picture.specs.PictureText.{picture_text, spot, title, title_line}
 use Rattle.tk_picture.specs.Pictures.{Fits, drawing_of, text_in}
 use Rattle.tk_picture.proofs.PictureLength.{corners_of, each_short, either_short, filled_few, length_caption}
-use Rattle.tk_picture.proofs.PictureLength.{length_name, length_picture, length_spot, length_title, length_title_line}
-use Rattle.tk_picture.proofs.PictureLength.{paths_few}
+use Rattle.tk_picture.proofs.PictureLength.{length_joined, length_name, length_picture, length_spot, length_title}
+use Rattle.tk_picture.proofs.PictureLength.{length_title_line, paths_few}
 
 -- ---- before the picture
 
@@ -60,19 +60,8 @@ length_verdict n d =
 length_opening : (parts : Parts) (name : List ℕ) (n : ℕ) (d : Drawing) → length name ≤ 1024 →
     length (opening parts name n d) ≤ 30000000
 length_opening parts name n d named =
-    let style = parts.head.now ++ parts.style.now in
-    let one = style ++ line (codes "</style>") in
-    let two = one ++ title_line (title name n d) in
-    let three = two ++ line (codes "<body>") in
-    let four = three ++ heading name in
-    let five = four ++ verdict n d in
-    let a = length-append parts.head.now parts.style.now in
-    let b = length-append style (line (codes "</style>")) in
-    let c = length-append one (title_line (title name n d)) in
-    let e = length-append two (line (codes "<body>")) in
-    let f = length-append three (heading name) in
-    let g = length-append four (verdict n d) in
-    let h = length-append five (line (codes "<div id=\"stage\">")) in
+    let all = length_joined parts.head.now (parts.style.now ∷ line (codes "</style>") ∷ title_line (title name n d)
+    ∷ line (codes "<body>") ∷ heading name ∷ verdict n d ∷ line (codes "<div id=\"stage\">") ∷ []) in
     omega (
       arith,
       parts.head_short,
@@ -104,8 +93,7 @@ length_table_start : (capacity : ℕ) → length (table_start capacity) ≤ 500
 length_table_start capacity =
     let div = line (codes "<div id=\"routes\">") in
     let short_head : length table_head ≤ 200 = omega arith in
-    let a = length-append div (table_caption capacity) in
-    let b = length-append (div ++ table_caption capacity) table_head in
+    let all = length_joined div (table_caption capacity ∷ table_head ∷ []) in
     omega (arith, length_caption_line capacity)
 
 length_table : (n : ℕ) (s : Subject) → n ≤ CITY_LIMIT → Fits n s → length (table (drawing_of s)) ≤ 50000000
@@ -116,8 +104,7 @@ length_table n (subjects.Routes cvrp routes count cost) few fits =
     let all = map (λ r. r.items) routes.now in
     let lines = flat_map row_line (rows i 1 all) in
     let end : length table_end ≤ 20 = omega arith in
-    let a = length-append (table_start i.capacity) lines in
-    let b = length-append (table_start i.capacity ++ lines) table_end in
+    let whole = length_joined (table_start i.capacity) (lines ∷ table_end ∷ []) in
     omega (
       arith,
       length_table_start i.capacity,
@@ -177,11 +164,8 @@ length_block name lines short = simp length-append (omega arith)
 
 length_ending : (parts : Parts) → length (page_ending parts) ≤ 2000020
 length_ending parts =
-    let one = parts.tools.now ++ line (codes "<script>") in
-    let two = one ++ parts.script.now in
-    let a = length-append parts.tools.now (line (codes "<script>")) in
-    let b = length-append one parts.script.now in
-    let c = length-append two (line (codes "</script>")) in
+    let all = length_joined parts.tools.now
+    (line (codes "<script>") ∷ parts.script.now ∷ line (codes "</script>") ∷ []) in
     omega (arith, parts.tools_short, parts.script_short)
 
 length_page : (parts : Parts) (f : Frame) (places : List Point) (name : List ℕ) (s : Subject) (depot : Option ℕ)
@@ -194,18 +178,8 @@ length_page parts f places name s depot demands named few fits lines corners =
     let city = city_line f places demands depot in
     let cities = flat_map city (range_with_len 1 n) in
     let paths = flat_map path_line (paths_of d) in
-    let one = opening parts name n d in
-    let two = one ++ picture_text f places name d depot in
-    let three = two ++ line (codes "</div>") in
-    let four = three ++ table d in
-    let five = four ++ data_block (codes "cities") cities in
-    let six = five ++ data_block (codes "paths") paths in
-    let a = length-append one (picture_text f places name d depot) in
-    let b = length-append two (line (codes "</div>")) in
-    let c = length-append three (table d) in
-    let e = length-append four (data_block (codes "cities") cities) in
-    let g = length-append five (data_block (codes "paths") paths) in
-    let h = length-append six (page_ending parts) in
+    let all = length_joined (opening parts name n d) (picture_text f places name d depot ∷ line (codes "</div>")
+    ∷ table d ∷ data_block (codes "cities") cities ∷ data_block (codes "paths") paths ∷ page_ending parts ∷ []) in
     let p = length_opening parts name n d named in
     let q = length_picture f places name d depot named few lines corners in
     let r = length_table n s few fits in

@@ -24,13 +24,28 @@ use Rattle.tk_picture.specs.declared.subject.Subject.{Subject}
 use Rattle.tk_picture.specs.declared.subject.Subject.TheVariants as subjects
 use Rattle.tk_picture.specs.Frames.{across, down, drawn_from_left, drawn_from_top, view_height}
 use Rattle.tk_picture.specs.Names.{is_plain, shown_byte, shown_name}
-use Rattle.tk_picture.specs.PictureText.{title, spot, line_start, closed_line, dot, dots, line_width, city_style}
-use Rattle.tk_picture.specs.PictureText.{city_dots, depot_mark, has_dots, mark, number_mark, number_size, numbers_start}
-use Rattle.tk_picture.specs.PictureText.{route_numbers, view_line, title_line, heading_line, group_line, head}
-use Rattle.tk_picture.specs.PictureText.{picture_text}
+use Rattle.tk_picture.specs.PictureText.{title, spot, line_end, line_start, closed_line, dot, dots, line_width}
+use Rattle.tk_picture.specs.PictureText.{city_style, city_dots, depot_mark, has_dots, mark, number_mark, number_size}
+use Rattle.tk_picture.specs.PictureText.{numbers_start, route_numbers, view_line, title_line, heading_line, group_line}
+use Rattle.tk_picture.specs.PictureText.{head, picture_text, tail}
 use Rattle.tk_picture.specs.Pictures.{Fits, drawing_of}
 use Rattle.tk_distance.specs.PlaneOf.{city_place}
 use Rattle.tk_problem.specs.declared.point.Point.{Point}
+
+-- a text, and pieces after it
+abbrev pub joined : List ℕ → List (List ℕ) → List ℕ
+joined text [] = text
+joined text (piece ∷ pieces) = joined (text ++ piece) pieces
+
+abbrev pub length_of_all : List (List ℕ) → ℕ
+length_of_all [] = 0
+length_of_all (piece ∷ pieces) = length piece + length_of_all pieces
+
+pub length_joined : (text : List ℕ) (pieces : List (List ℕ)) →
+    length (joined text pieces) ≡ length text + length_of_all pieces
+length_joined text [] = omega arith
+length_joined text (piece ∷ pieces) =
+    omega (arith, length_joined (text ++ piece) pieces, length-append text piece)
 
 -- a choice of two texts is no longer than a bound on both
 pub either_short : (b : Bool) (s t : List ℕ) (most : ℕ) → length s ≤ most → length t ≤ most →
@@ -109,8 +124,7 @@ length_title name n d short =
       arith,
       length_name name short,
       length_caption n d,
-      length-append (shown_name name) (codes ": "),
-      length-append (shown_name name ++ codes ": ") (caption_of n d),
+      length_joined (shown_name name) (codes ": " ∷ caption_of n d ∷ []),
     )
 
 -- ---- lines
@@ -153,13 +167,13 @@ each_short put short (p ∷ paths) =
 
 pub length_spot : (f : Frame) (places : List Point) (city : ℕ) → length (spot f places city) ≤ 129
 length_spot f places city =
-    let right = length_decimal (across f (city_place places city)) in
-    let below = length_decimal (down f (city_place places city)) in
+    let right = across f (city_place places city) in
+    let below = down f (city_place places city) in
     omega (
       arith,
-      length-append (decimal (across f (city_place places city)) ++ codes ",")
-          (decimal (down f (city_place places city))),
-      length-append (decimal (across f (city_place places city))) (codes ","),
+      length_decimal right,
+      length_decimal below,
+      length_joined (decimal right) (codes "," ∷ decimal below ∷ []),
     )
 
 mark_parts : (at fill digits : List ℕ) → length at ≤ 129 → length fill ≤ 200 → length digits ≤ 64
@@ -182,8 +196,7 @@ module _ (spot : ℕ → List ℕ) (short : (c : ℕ) → length (spot c) ≤ 12
         arith,
         length_line_start path.number,
         length_flat_map (λ c. line (spot c)) 130 corner path.cities,
-        length-append (line_start path.number) corners,
-        length-append (line_start path.number ++ corners) (codes "\"/>" ++ 10 ∷ []),
+        length_joined (line_start path.number) (corners ∷ line_end ∷ []),
       )
 
   length_closed_lines : (paths : List Path) →
@@ -191,17 +204,12 @@ module _ (spot : ℕ → List ℕ) (short : (c : ℕ) → length (spot c) ≤ 12
   length_closed_lines paths = each_short (closed_line spot) (λ p. omega (arith, length_closed_line p)) paths
 
   length_dot : (c : ℕ) → length (dot spot c) ≤ 133
-  length_dot c = let s = short c in let a = length-append (codes "M" ++ spot c ++ codes "h0") (10 ∷ []) in
-      let b = length-append (codes "M" ++ spot c) (codes "h0") in omega arith
+  length_dot c = omega (arith, short c, length_joined (codes "M") (spot c ∷ codes "h0" ∷ (10 ∷ []) ∷ []))
 
   length_dots : (style cities : List ℕ) → length (dots spot style cities) ≤ 100 + length style + length cities * 133
   length_dots style cities =
-      let start = codes "<path stroke=\"black\" " ++ style ++ codes " d=\"" in
-      let points = flat_map (dot spot) cities in
-      let a = length-append start (10 ∷ []) in
-      let b = length-append (codes "<path stroke=\"black\" " ++ style) (codes " d=\"") in
-      let c = length-append (line start ++ points) (codes "\"/>" ++ 10 ∷ []) in
-      let d = length-append (line start) points in
+      let all = length_joined (codes "<path stroke=\"black\" ")
+      (style ∷ codes " d=\"" ∷ (10 ∷ []) ∷ flat_map (dot spot) cities ∷ line_end ∷ []) in
       omega (arith, length_flat_map (dot spot) 133 length_dot cities)
 
   length_city_dots : (n : ℕ) (d : Drawing) → length (city_dots spot n d) ≤ 200 + n * 133
@@ -245,8 +253,7 @@ module _ (spot : ℕ → List ℕ) (short : (c : ℕ) → length (spot c) ≤ 12
         arith,
         length_numbers_start n,
         length_number_marks (route_paths i 1 routes),
-        length-append (numbers_start n) marks,
-        length-append (numbers_start n ++ marks) (codes "</g>" ++ 10 ∷ []),
+        length_joined (numbers_start n) (marks ∷ line (codes "</g>") ∷ []),
       )
 
 -- ---- the whole
@@ -278,11 +285,7 @@ length_head : (f : Frame) (t : List ℕ) (n : ℕ) → length (head f t n) ≤ 9
 length_head f t n =
     let height = view_height f in
     let rect = line (codes "<rect width=\"100%\" height=\"100%\" fill=\"white\"/>") in
-    let one = view_line height ++ title_line t in
-    let a = length-append (view_line height) (title_line t) in
-    let b = length-append one rect in
-    let c = length-append (one ++ rect) (heading_line t) in
-    let d = length-append (one ++ rect ++ heading_line t) (group_line f n) in
+    let all = length_joined (view_line height) (title_line t ∷ rect ∷ heading_line t ∷ group_line f n ∷ []) in
     omega (arith, length_view_line height, length_title_line t, length_heading_line t, length_group_line f n)
 
 -- there are no more routes that hold a customer than customers
@@ -319,18 +322,9 @@ length_picture f places name d depot named few lines corners =
     let at = spot f places in
     let short = length_spot f places in
     let n = length places in
-    let start = head f (title name n d) n in
-    let drawn = flat_map (closed_line at) (paths_of d) in
-    let cities = city_dots at n d in
-    let mark = depot_mark at depot in
-    let numbers = route_numbers at n d in
-    let end : length (codes "</g>" ++ 10 ∷ codes "</svg>" ++ 10 ∷ []) ≤ 20 = omega arith in
-    let a = length-append start drawn in
-    let b = length-append (start ++ drawn) cities in
-    let c = length-append (start ++ drawn ++ cities) mark in
-    let e = length-append (start ++ drawn ++ cities ++ mark) numbers in
-    let g =
-    length-append (start ++ drawn ++ cities ++ mark ++ numbers) (codes "</g>" ++ 10 ∷ codes "</svg>" ++ 10 ∷ []) in
+    let end : length tail ≤ 20 = omega arith in
+    let all = length_joined (head f (title name n d) n) (flat_map (closed_line at) (paths_of d) ∷ city_dots at n d
+    ∷ depot_mark at depot ∷ route_numbers at n d ∷ tail ∷ []) in
     let h = length_head f (title name n d) n in
     let t = length_title name n d named in
     let l = length_closed_lines at short (paths_of d) in
