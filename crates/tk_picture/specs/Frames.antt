@@ -9,15 +9,18 @@ use Rattle.tk_problem.specs.declared.point.Point.{Point}
 use Rattle.tk_picture.specs.declared.frame.Frame.{Frame}
 use Rattle.tk_distance.specs.Distance.{gap}
 
--- one of the numbers, and none is lower
-pub record IsLowest (least : ℤ) (zs : List ℤ) : Type 0 where
-  pub one : Contains zs least
-  pub lowest : All (λ z. least ≤ℤ z) zs
+-- one of the numbers, which bounds all of them
+pub record IsBound (Bounds : ℤ → ℤ → Type 0) (bound : ℤ) (zs : List ℤ) : Type 0 where
+  pub one : Contains zs bound
+  pub all : All (Bounds bound) zs
 
--- one of the numbers, and none is higher
-pub record IsHighest (greatest : ℤ) (zs : List ℤ) : Type 0 where
-  pub one : Contains zs greatest
-  pub highest : All (λ z. z ≤ℤ greatest) zs
+-- none is lower
+abbrev pub IsLowest : ℤ → List ℤ → Type 0
+IsLowest = IsBound (λ least z. least ≤ℤ z)
+
+-- none is higher
+abbrev pub IsHighest : ℤ → List ℤ → Type 0
+IsHighest = IsBound (λ greatest z. z ≤ℤ greatest)
 
 -- the least rectangle that holds all places
 pub record IsFrame (places : List Point) (f : Frame) : Type 0 where

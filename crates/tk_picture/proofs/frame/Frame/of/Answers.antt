@@ -4,8 +4,7 @@ use mir.Syntax.{w64}
 use mir.Val.{SFits}
 use Rattle.tk_problem.specs.declared.point.Point.{Point}
 use Rattle.tk_problem.specs.PlacesOf.{places_of}
-use Rattle.tk_picture.proofs.Bounds.{coordinates_more, least_next, greatest_next, least_whole, greatest_whole}
-use Rattle.tk_picture.proofs.Bounds.{side_kept}
+use Rattle.tk_picture.proofs.Bounds.{bound_whole, coordinates_more, least_next, greatest_next, side_kept}
 use Rattle.tk_picture.proofs.frame.Frame.of.Goals as goal
 
 pub loop-i-preserved : goal.loop-i-preserved
@@ -43,8 +42,8 @@ returns c =
     let n = c.loop-i in
     let all : length places ≤ n.i = omega (arith, c.len-i-end.ensures, c.loop-i-test.false) in
     record {
-      left = least_whole (λ p. p.x) places n.i n.low.x (search rules) all n.invariant.left;
-      right = greatest_whole (λ p. p.x) places n.i n.high.x (search rules) all n.invariant.right;
-      bottom = least_whole (λ p. p.y) places n.i n.low.y (search rules) all n.invariant.bottom;
-      top = greatest_whole (λ p. p.y) places n.i n.high.y (search rules) all n.invariant.top;
+      left = bound_whole _ (λ p. p.x) places n.i n.low.x (search rules) all n.invariant.left;
+      right = bound_whole _ (λ p. p.x) places n.i n.high.x (search rules) all n.invariant.right;
+      bottom = bound_whole _ (λ p. p.y) places n.i n.low.y (search rules) all n.invariant.bottom;
+      top = bound_whole _ (λ p. p.y) places n.i n.high.y (search rules) all n.invariant.top;
     }
