@@ -7,5 +7,4 @@ pub mod PictureLength
 pub mod PutLine
 pub mod PutNothing
 pub mod Shown
-pub mod Thin
 pub mod Words

@@ -1,5 +1,4 @@
-use Rattle.std.proofs.Common.{◌∙◌, subst, sym}
-use Rattle.tk_writers.specs.Pens.{Puts}
+use Rattle.std.proofs.Common.{◌∙◌, sym}
 use Rattle.tk_writers.proofs.Pieces.Putting.{Puts-then}
 use Rattle.tk_problem.specs.PlacesOf.{places_of}
 use Rattle.tk_routes.specs.Cvrps.{instance_of}
@@ -12,14 +11,12 @@ use Rattle.tk_picture.proofs.closed_lines.put_route.Goals as goal
 pub returns-then-is_empty : goal.returns-then-is_empty
 returns-then-is_empty g c =
     let put = closed_line (spot c.args.view.now.frame (places_of c.args.view.now.places)) in
-    let none = filled_none (route_path (instance_of c.args.cvrp.now)) put c.args.number c.args.route.now
-    (sym c.is_empty.ensures ∙ c.if-is_empty.true) in
-    subst (Puts _ _ _) (sym none) Puts-none
+    rw (filled_none (route_path (instance_of c.args.cvrp.now)) put c.args.number c.args.route.now
+    (sym c.is_empty.ensures ∙ c.if-is_empty.true)) Puts-none
 
 pub returns : goal.returns
 returns g c =
     let put = closed_line (spot c.args.view.now.frame (places_of c.args.view.now.places)) in
-    let some = filled_some (route_path (instance_of c.args.cvrp.now)) put c.args.number c.args.route.now
-    (sym c.is_empty.ensures ∙ c.if-is_empty.false) in
-    subst (Puts _ _ _) (sym some)
+    rw (filled_some (route_path (instance_of c.args.cvrp.now)) put c.args.number c.args.route.now
+    (sym c.is_empty.ensures ∙ c.if-is_empty.false))
     (Puts-then (Puts-then c.put_line_start.ensures c.put_stops.ensures) c.put.ensures)

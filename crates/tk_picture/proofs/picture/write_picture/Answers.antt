@@ -11,8 +11,6 @@ returns-clause-text g c =
 
 pub returns-clause-failed : goal.returns-clause-failed
 returns-clause-failed g c =
-    let text = text_in c.args.form c.args.picture.now in
-    broken_at_err g.W.Sink c.args.out.now _ _ text
+    broken_at_err g.W.Sink c.args.out.now _ _ _
     (length_form c.args.form c.args.picture.now c.requires.name c.requires.fits)
-    (Writes-end g.W.Sink c.args.out.now _ _ _ _ _ text c.new-pen.ensures.empty c.put_form.ensures
-    c.end.ensures (search rules))
+    (returns-clause-text g c)

@@ -1,5 +1,4 @@
-use Rattle.std.proofs.Common.{◌∙◌, subst, sym}
-use Rattle.tk_writers.specs.Pens.{Puts}
+use Rattle.std.proofs.Common.{◌∙◌, sym}
 use Rattle.tk_routes.specs.Cvrps.{instance_of}
 use Rattle.tk_picture.specs.PageText.{row_line, route_row}
 use Rattle.tk_picture.proofs.Paths.{filled_some}
@@ -7,6 +6,5 @@ use Rattle.tk_picture.proofs.page.table.put_filled.Goals as goal
 
 pub returns-then-not-is_empty : goal.returns-then-not-is_empty
 returns-then-not-is_empty g c =
-    let some = filled_some (route_row (instance_of c.args.cvrp.now)) row_line c.args.number c.args.route.now
-    (sym c.is_empty.ensures ∙ c.if-not-is_empty.true) in
-    subst (Puts _ _ _) (sym some) c.put_row.ensures
+    rw (filled_some (route_row (instance_of c.args.cvrp.now)) row_line c.args.number c.args.route.now
+    (sym c.is_empty.ensures ∙ c.if-not-is_empty.true)) c.put_row.ensures
