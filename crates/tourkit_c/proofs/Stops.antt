@@ -2,11 +2,12 @@
 use Rattle.std.proofs.Common.{◌≡◌, ℕ, List, Option, None, Some, Ok, Err, sym, subst}
 use Rattle.tk_text.specs.Problem.{ProblemIs, problem_texts}
 use Rattle.tk_text.specs.Solution.{solution_texts}
+use Rattle.tk_text.specs.Texts.{Texts}
 use Rattle.tk_text.specs.Tour.{tour_texts}
 use Rattle.tk_words.specs.declared.fault.TextFault.{TextFault}
 use Rattle.tk_words.specs.declared.sources.source.Source as sources
 use Rattle.tk_tour.specs.declared.fault.TourFault.{TourFault}
-use Rattle.tk_engines.specs.Engine.{EndsByProblem, Reading, ReadsProblem, ReadsSolution, ReadsTour, Task}
+use Rattle.tk_engines.specs.Engine.{EndsByProblem, Reading, Reads, ReadsProblem, ReadsSolution, ReadsTour, Task}
 use Rattle.tk_engines.specs.Engine.{Writing}
 use Rattle.tk_engines.specs.declared.fault.Fault.{Fault}
 use Rattle.tk_engines.specs.declared.fault.Fault.TheVariants as faults
@@ -19,27 +20,22 @@ module _ {S : Type 0} (misfit : ProblemIs → Option Fault) (Clash : TourFault �
     (Tour Solution : ProblemIs → TextFault → Type 0) (problem : List ℕ) (p : ProblemIs)
     (said : TextSays problem_texts problem p) (fits : misfit p ≡ None) (source : sources.Ghosts S)
     (old new : S) (text : List ℕ) (e : source.left old ≡ Some text) (v : Fault) where
+  second_stop : {V : Type 0} (texts : Texts V TextFault) (wrap : TextFault → Fault)
+      → ((f : TextFault) → HasFault texts text f → IsStop misfit Clash Tour Solution problem (wrap f))
+      → Reads texts wrap source old new (Err v) → IsStop misfit Clash Tour Solution problem v
+  second_stop texts wrap stop h =
+      subst (IsStop misfit Clash Tour Solution problem) (sym h.1)
+      (stop h.0 (has_fault texts text source old new h.0 e h.2))
+
   pub tour_stop : ((f : TextFault) → HasFault tour_texts text f → Tour p f) → ReadsTour source old new (Err v) →
       IsStop misfit Clash Tour Solution problem v
-  tour_stop wrap h =
-      subst (IsStop misfit Clash Tour Solution problem) (sym h.1)
-      (record {
-        p = p;
-        is_problem = said;
-        fits = fits;
-        fact = wrap h.0 (has_fault tour_texts text source old new h.0 e h.2);
-      })
+  tour_stop wrap = second_stop tour_texts faults.Tour
+      (λ f has. record { p = p; is_problem = said; fits = fits; fact = wrap f has })
 
   pub solution_stop : ((f : TextFault) → HasFault solution_texts text f → Solution p f) →
       ReadsSolution source old new (Err v) → IsStop misfit Clash Tour Solution problem v
-  solution_stop wrap h =
-      subst (IsStop misfit Clash Tour Solution problem) (sym h.1)
-      (record {
-        p = p;
-        is_problem = said;
-        fits = fits;
-        fact = wrap h.0 (has_fault solution_texts text source old new h.0 e h.2);
-      })
+  solution_stop wrap = second_stop solution_texts faults.Solution
+      (λ f has. record { p = p; is_problem = said; fits = fits; fact = wrap f has })
 
 module _ {S B R T : Type 0} (task : Task B R T) (Clash : TourFault → Type 0)
     (Tour Solution : ProblemIs → TextFault → Type 0) (source : sources.Ghosts S) (old new : S)

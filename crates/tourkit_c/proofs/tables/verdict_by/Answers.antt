@@ -14,41 +14,30 @@ length-requires-clause-cities g c =
     (subst (IsVerdict c.size.result c.args.cities.now) c.in-Ok-Tour.field-0-is c.in-Ok-Tour.ensures)
 
 pub returns-in-Ok-Tour-clause-given : goal.returns-in-Ok-Tour-clause-given
-returns-in-Ok-Tour-clause-given g c = λ _.
-    record {
-      verdict = verdicts.Tour;
-      is = subst (λ n. IsVerdict n c.args.cities.now verdicts.Tour) c.size.ensures
-          (subst (IsVerdict c.size.result c.args.cities.now) c.in-Ok-Tour.field-0-is c.in-Ok-Tour.ensures);
-      answer_is = c.of_length.ensures ∙ ap of_length (c.unsigned_abs.ensures.value
-          ∙ ap unsigned_abs (to_z-of_z w64 c.length.result (search rules) ∙ c.length.ensures));
-    }
+returns-in-Ok-Tour-clause-given g c = λ _. record {
+  verdict = verdicts.Tour;
+  is = rw (c.in-Ok-Tour.field-0-is, c.size.ensures) at c.in-Ok-Tour.ensures;
+  answer_is = c.of_length.ensures ∙ ap of_length (c.unsigned_abs.ensures.value
+      ∙ ap unsigned_abs (to_z-of_z w64 c.length.result (search rules) ∙ c.length.ensures));
+}
 
 pub returns-in-Ok-WrongCount-clause-given : goal.returns-in-Ok-WrongCount-clause-given
-returns-in-Ok-WrongCount-clause-given g c = λ _.
-    record {
-      verdict = verdicts.WrongCount;
-      is = subst (λ n. IsVerdict n c.args.cities.now verdicts.WrongCount) c.size.ensures
-          (subst (IsVerdict c.size.result c.args.cities.now) c.in-Ok-WrongCount.field-0-is c.in-Ok-WrongCount.ensures);
-      answer_is = c.found.ensures;
-    }
+returns-in-Ok-WrongCount-clause-given g c = λ _. record {
+  verdict = verdicts.WrongCount;
+  is = rw (c.in-Ok-WrongCount.field-0-is, c.size.ensures) at c.in-Ok-WrongCount.ensures;
+  answer_is = c.found.ensures;
+}
 
 pub returns-in-Ok-OutOfRange-clause-given : goal.returns-in-Ok-OutOfRange-clause-given
-returns-in-Ok-OutOfRange-clause-given g c = λ _.
-    let verdict = verdicts.OutOfRange c.in-Ok-OutOfRange.place in
-    record {
-      verdict = verdict;
-      is = subst (λ n. IsVerdict n c.args.cities.now verdict) c.size.ensures
-          (subst (IsVerdict c.size.result c.args.cities.now) c.in-Ok-OutOfRange.field-0-is c.in-Ok-OutOfRange.ensures);
-      answer_is = c.found-in-Ok-OutOfRange.ensures;
-    }
+returns-in-Ok-OutOfRange-clause-given g c = λ _. record {
+  verdict = verdicts.OutOfRange c.in-Ok-OutOfRange.place;
+  is = rw (c.in-Ok-OutOfRange.field-0-is, c.size.ensures) at c.in-Ok-OutOfRange.ensures;
+  answer_is = c.found-in-Ok-OutOfRange.ensures;
+}
 
 pub returns-in-Ok-RepeatedCity-clause-given : goal.returns-in-Ok-RepeatedCity-clause-given
-returns-in-Ok-RepeatedCity-clause-given g c = λ _.
-    let verdict = verdicts.RepeatedCity c.in-Ok-RepeatedCity.place in
-    record {
-      verdict = verdict;
-      is = subst (λ n. IsVerdict n c.args.cities.now verdict) c.size.ensures
-          (subst (IsVerdict c.size.result c.args.cities.now) c.in-Ok-RepeatedCity.field-0-is
-          c.in-Ok-RepeatedCity.ensures);
-      answer_is = c.found-in-Ok-RepeatedCity.ensures;
-    }
+returns-in-Ok-RepeatedCity-clause-given g c = λ _. record {
+  verdict = verdicts.RepeatedCity c.in-Ok-RepeatedCity.place;
+  is = rw (c.in-Ok-RepeatedCity.field-0-is, c.size.ensures) at c.in-Ok-RepeatedCity.ensures;
+  answer_is = c.found-in-Ok-RepeatedCity.ensures;
+}
