@@ -12,10 +12,3 @@ near_same distance n k v out size width entries near =
     ∙ ap (λ (w : ℕ). record { size = n; width = w; entries = v.entries }) width
     ∙ ap (λ (l : List ℕ). record { size = n; width = min k (n - 1); entries = l }) (sym entries) in
     subst (AreNearest distance) same near
-
--- near lists by another word for the size, the distances and the width
-pub near_by : (distance by : ℕ → ℕ → ℕ) (n m k l : ℕ) (out : List ℕ) → n ≡ m → distance ≡ by → k ≡ l →
-    AreNearIn n distance k out → AreNearIn m by l out
-near_by distance by n m k l out size same few near =
-    subst (λ i. AreNearIn i by l out) size
-    (subst (λ (d : ℕ → ℕ → ℕ). AreNearIn n d l out) same (subst (λ i. AreNearIn n distance i out) few near))

@@ -1,37 +1,24 @@
-use Rattle.std.proofs.Common.{◌≡◌, ℕ, ◌∙◌, arith, subst, sym}
-use Rattle.std.specs.Prelude.{IfSome}
-use Rattle.tk_metric.specs.PlaneOf.{city_distance}
-use Rattle.tk_metric.specs.Tables.{table_size}
+use Rattle.std.proofs.Common.{◌≡◌, ◌∙◌, ap, arith, sym}
 use Rattle.tourkit_c.proofs.points.tourkit_check_points.Goals as goal
-use Rattle.tourkit_c.specs.Arrays.{HasVerdict}
 use Rattle.tourkit_c.specs.Outcomes.{with_status}
-use Rattle.tourkit_c.specs.Points.{ArePlaces, CanBePlaces}
 
-pub returns-in-Ok-Some : goal.returns-in-Ok-Some
-returns-in-Ok-Some c =
-    let xs = c.args.xs.now in
-    let ys = c.args.ys.now in
-    let kind = c.in-Some.kind in
-    let places = c.in-Ok-Some.places in
-    let cities = c.args.cities.now in
-    let answer = c.verdict_in.result in
-    let told = c.verdict_in.ensures in
-    let are = subst (λ o. IfSome o (ArePlaces xs ys)) c.in-Ok-Some.field-0-is c.in-Ok-Some.ensures.places in
+pub returns-in-Ok-Some-clause-given : goal.returns-in-Ok-Some-clause-given
+returns-in-Ok-Some-clause-given c = λ done.
+    let are = rw c.in-Ok-Some.field-0-is at c.in-Ok-Some.ensures.places in
+    let table = c.table_of.ensures in
     record {
-      given = λ done. record {
-        type = kind;
-        places = places;
-        type_is = c.in-Some.ensures.some;
-        are = are;
-        verdict = subst (λ n. HasVerdict n (city_distance kind places) cities answer)
-            (c.table_of.ensures.size ∙ are.count)
-            (subst (λ (d : ℕ → ℕ → ℕ). HasVerdict (table_size c.table_of.result) d cities answer)
-            c.table_of.ensures.distances (told.given done));
-      };
-      known = told.known;
-      refused = λ high. let three : answer.status ≡ 3 = omega (arith, told.known, told.unrefused, high) in
-          subst (λ s. answer ≡ with_status s 0) (sym three) (told.memory three);
-      justified = λ two _ _. told.unrefused two;
-      kinds = λ _. c.in-Some.ensures.limit;
-      places = λ _ _. subst (λ o. IfSome o (λ _. CanBePlaces xs ys)) c.in-Ok-Some.field-0-is c.in-Ok-Some.ensures.some;
+      type = c.in-Some.kind;
+      places = c.in-Ok-Some.places;
+      type_is = c.in-Some.ensures.some;
+      are = are;
+      verdict = rw (table.size, are.count, table.distances) at (c.verdict_in.ensures.given done);
     }
+
+pub returns-in-Ok-Some-clause-refused : goal.returns-in-Ok-Some-clause-refused
+returns-in-Ok-Some-clause-refused c = λ high.
+    let told = c.verdict_in.ensures in
+    let three : c.verdict_in.result.status ≡ 3 = omega (arith, told.known, told.unrefused, high) in
+    told.memory three ∙ ap (λ s. with_status s 0) (sym three)
+
+pub returns-in-Ok-Some-clause-places : goal.returns-in-Ok-Some-clause-places
+returns-in-Ok-Some-clause-places c = λ _ _. rw c.in-Ok-Some.field-0-is at c.in-Ok-Some.ensures.some
