@@ -72,9 +72,7 @@ module _ {S : Type 0} (source : sources.Ghosts S) (old new : S) (params : Params
       IsStop (misfit_of params) (IsClashOf (is_some params.initial_tour_file) problem initial)
       (IsInitialFault (is_some params.initial_tour_file) initial) NoFault problem v
   initial_stop v said fits h =
-      tour_stop (misfit_of params) (IsClashOf (is_some params.initial_tour_file) problem initial)
-      (IsInitialFault (is_some params.initial_tour_file) initial) NoFault problem p said fits source old new
-      initial e v (λ f has. (h.0, has)) h.1
+      tour_stop _ _ _ _ _ p said fits _ _ _ _ e v (λ f has. (h.0, has)) h.1
 
   -- it clashes with the problem
   pub initial_clash : (tour : Option (List ℕ)) (f : TourFault) → TextSays problem_texts problem p

@@ -1,8 +1,5 @@
 use Rattle.std.proofs.Common.{◌∙◌, arith, inl, inr, refl}
-use Rattle.tk_text.specs.Solution.{solution_texts}
-use Rattle.tk_text.specs.Tour.{tour_texts}
-use Rattle.tourkit_c.specs.Answers.{NeverClashes}
-use Rattle.tourkit_c.specs.Plotted.{IsClaimRefused, IsSolutionFault, IsTourFault, line_in, picture_in, plot_misfit}
+use Rattle.tourkit_c.specs.Plotted.{IsSolutionFault, IsTourFault, line_in, picture_in}
 use Rattle.tourkit_c.specs.Plotted.{plot_status}
 use Rattle.tourkit_c.proofs.HandingOut.{both_written}
 use Rattle.tourkit_c.proofs.Refusals.{faulty, right_refusal}
@@ -25,9 +22,7 @@ pub returns-in-Err-clause-refused : goal.returns-in-Err-clause-refused
 returns-in-Err-clause-refused c = λ two.
     let given = c.args.has_claim in
     let claim = c.args.claim.now in
-    let answer = c.stopped.result in
-    right_refusal plot_misfit NeverClashes (IsClaimRefused given claim) 1 (omega arith) c.args.problem.now answer
-    (IsTourFault given claim) (IsSolutionFault given claim) two
-    (λ p f h is. (h.0, inl (h.1, faulty tour_texts 2 claim f answer two refl is h.2)))
-    (λ p f h is. (h.0, inr (h.1, faulty solution_texts 2 claim f answer two refl is h.2))) (λ f h. elim h [ ])
+    right_refusal _ _ _ _ (omega arith) _ _ (IsTourFault given claim) (IsSolutionFault given claim) two
+    (λ p f h is. (h.0, inl (h.1, faulty _ _ _ f _ two refl is h.2)))
+    (λ p f h is. (h.0, inr (h.1, faulty _ _ _ f _ two refl is h.2))) (λ f h. elim h [ ])
     c.in-Err.fault c.stopped.ensures.is c.in-Err.ensures.err
