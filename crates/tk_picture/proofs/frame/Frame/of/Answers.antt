@@ -1,5 +1,4 @@
-use Rattle.std.proofs.Common.{◌<◌, ◌≤◌, List, length, arith, rules, take}
-use Rattle.std.specs.Prelude.{map}
+use Rattle.std.proofs.Common.{◌<◌, ◌≤◌, List, length, arith, rules}
 use mir.Syntax.{w64}
 use mir.Val.{SFits}
 use Rattle.tk_problem.specs.declared.point.Point.{Point}
@@ -18,22 +17,22 @@ loop-i-preserved c =
     let x_fits : SFits w64 place.x = search rules in
     let y_fits : SFits w64 place.y = search rules in
     record {
-      left = least_next n.low.x place.x c.min.result (map (λ p. p.x) (take n.i places)) _ (search rules) x_fits
-          (search rules) c.min.ensures.value across n.invariant.left;
-      right = greatest_next n.high.x place.x c.max.result (map (λ p. p.x) (take n.i places)) _ (search rules) x_fits
-          (search rules) c.max.ensures.value across n.invariant.right;
-      bottom = least_next n.low.y place.y c.min-in-loop-i.result (map (λ p. p.y) (take n.i places)) _ (search rules)
-          y_fits (search rules) c.min-in-loop-i.ensures.value up n.invariant.bottom;
-      top = greatest_next n.high.y place.y c.max-in-loop-i.result (map (λ p. p.y) (take n.i places)) _ (search rules)
-          y_fits (search rules) c.max-in-loop-i.ensures.value up n.invariant.top;
+      left = least_next n.low.x _ c.min.result _ _ (search rules) x_fits (search rules) c.min.ensures.value across
+          n.invariant.left;
+      right = greatest_next n.high.x _ c.max.result _ _ (search rules) x_fits (search rules) c.max.ensures.value across
+          n.invariant.right;
+      bottom = least_next n.low.y _ c.min-in-loop-i.result _ _ (search rules) y_fits (search rules)
+          c.min-in-loop-i.ensures.value up n.invariant.bottom;
+      top = greatest_next n.high.y _ c.max-in-loop-i.result _ _ (search rules) y_fits (search rules)
+          c.max-in-loop-i.ensures.value up n.invariant.top;
     }
 
 pub invariant_of-result : goal.invariant_of-result
 invariant_of-result c =
     let n = c.loop-i in
     record {
-      is_side = side_kept n.low.x n.high.x n.low.y n.high.y c.side_of.result (search rules) (search
-          rules) (search rules) (search rules) c.side_of.ensures;
+      is_side = side_kept n.low.x n.high.x n.low.y n.high.y c.side_of.result (search rules) (search rules)
+          (search rules) (search rules) c.side_of.ensures;
     }
 
 pub returns : goal.returns

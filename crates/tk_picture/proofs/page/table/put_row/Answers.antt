@@ -23,8 +23,6 @@ returns g c =
     ∙ ap unsigned_abs (to_z-of_z w64 c.length.result (search rules) ∙ c.length.ensures) in
     let cell : ℕ → List ℕ = λ n. codes "<td>" ++ decimal n in
     let puts_load = subst (Puts _ _ _) (ap cell load) c.put_cell-2.ensures in
-    let puts_share = subst (Puts _ _ _) (ap decimal part) c.put_wide.ensures in
-    let puts_way = subst (Puts _ _ _) (ap cell way) c.put_cell-3.ensures in
     Puts-then
     (Puts-both _ _
     (Puts-then
@@ -33,6 +31,6 @@ returns g c =
     (Puts-both _ _ (Puts-then c.put.ensures c.put_number.ensures) c.put_cell.ensures)
     puts_load)
     c.put-2.ensures)
-    puts_share)
-    puts_way)
+    (rw part at c.put_wide.ensures))
+    (rw way at c.put_cell-3.ensures))
     c.put-3.ensures

@@ -3,16 +3,14 @@ use Rattle.tk_routes.proofs.Served.{AreServedOnce-short}
 use Rattle.tk_picture.proofs.EachRoute.{put_one_more, served_at}
 use Rattle.tk_picture.proofs.page.table.put_rows.Goals as goal
 
-pub put_filled-requires-clause-known : goal.put_filled-requires-clause-known
-put_filled-requires-clause-known g c =
-    (served_at c.args.routes.now c.loop-route.route-index c.loop-route-test.true c.route-item.is
-    c.deref.ensures.value c.requires.once).known
-
-pub put_filled-requires-clause-few : goal.put_filled-requires-clause-few
-put_filled-requires-clause-few g c =
+pub put_filled-requires : goal.put_filled-requires
+put_filled-requires g c =
     let one = served_at c.args.routes.now c.loop-route.route-index c.loop-route-test.true c.route-item.is
     c.deref.ensures.value c.requires.once in
-    omega (arith, AreServedOnce-short _ c.deref.result.now one, c.args.cvrp.now.few)
+    record {
+      known = one.known;
+      few = omega (arith, AreServedOnce-short _ c.deref.result.now one, c.args.cvrp.now.few);
+    }
 
 pub loop-route-preserved : goal.loop-route-preserved
 loop-route-preserved g c =
