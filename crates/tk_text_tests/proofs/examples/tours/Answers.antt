@@ -2,22 +2,6 @@ use Rattle.std.proofs.Common.{refl}
 use Rattle.tk_text_tests.proofs.OnLiterals.{on_literals}
 use Rattle.tk_text_tests.proofs.examples.tours.Goals as goal
 
-pub returns-clause-accepted : goal.returns-clause-accepted
+pub returns : goal.returns
 unfolding on_literals
-returns-clause-accepted c = refl
-
-pub returns-clause-refused : goal.returns-clause-refused
-unfolding on_literals
-returns-clause-refused c = refl
-
-pub returns-clause-begun : goal.returns-clause-begun
-unfolding on_literals
-returns-clause-begun c = refl
-
-pub returns-clause-within : goal.returns-clause-within
-unfolding on_literals
-returns-clause-within c = refl
-
-pub returns-clause-entries : goal.returns-clause-entries
-unfolding on_literals
-returns-clause-entries c = refl
+returns c = record { accepted = refl; refused = refl; begun = refl; within = refl; entries = refl }

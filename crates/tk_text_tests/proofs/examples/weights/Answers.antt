@@ -2,10 +2,6 @@ use Rattle.std.proofs.Common.{refl}
 use Rattle.tk_text_tests.proofs.OnLiterals.{on_literals}
 use Rattle.tk_text_tests.proofs.examples.weights.Goals as goal
 
-pub returns-clause-orders : goal.returns-clause-orders
+pub returns : goal.returns
 unfolding on_literals
-returns-clause-orders c = refl
-
-pub returns-clause-lists : goal.returns-clause-lists
-unfolding on_literals
-returns-clause-lists c = refl
+returns c = record { orders = refl; lists = refl }
