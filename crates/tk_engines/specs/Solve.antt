@@ -113,8 +113,7 @@ pub record Files : Type 0 where
 abbrev pub tour_files : ParamsAre → List ℕ → SolvedTour → Files
 tour_files p name solved = record {
   file = tour_text name (unsigned_abs solved.length) solved.cities.items;
-  out =
-      tour_lines p.ignored solved;
+  out = tour_lines p.ignored solved;
 }
 
 -- for a TSP: the best tour of the runs, with its length, and a line for each run; and the watcher was shown the name of
@@ -128,12 +127,10 @@ pub record IsTourWritten (p : ParamsAre) (Watched : List Event → Type 0) (prob
 
 -- the text of routes, and the lines on them
 abbrev pub route_files : ParamsAre → List (List ℕ) → RouteReport → Files
-route_files p routes report =
-    record {
-      file = solution_text routes (unsigned_abs report.after);
-      out =
-          route_lines p.ignored (length routes) report;
-    }
+route_files p routes report = record {
+  file = solution_text routes (unsigned_abs report.after);
+  out = route_lines p.ignored (length routes) report;
+}
 
 -- for a CVRP: the improved routes, with their cost, and what improving them did
 pub record AreRoutesOf (p : ParamsAre) (i : Instance) (files : Files) : Type 0 where

@@ -1,21 +1,10 @@
--- Lengths of tours, and of the lines that tell verdicts on them.
-use Rattle.std.proofs.Common.{◌≡◌, ℕ, ◌-◌, ◌^◌, ◌≤◌, List, [], ◌∷◌, ◌++◌, length, length-append, slice_index, arith}
-use Rattle.std.proofs.Common.{refl}
+-- Lengths of the lines that tell verdicts on tours.
+use Rattle.std.proofs.Common.{ℕ, ◌-◌, ◌^◌, ◌≤◌, List, length, length-append, slice_index, arith}
 use Rattle.tk_writers.proofs.Pieces.NumberLengths.{length_decimal}
-use Rattle.tk_tour.specs.Tour.{walk, tour_length}
+use Rattle.tk_tour.specs.Tour.{tour_length}
 use Rattle.tk_tour.specs.declared.verdict.Verdict.{Verdict}
 use Rattle.tk_tour.specs.declared.verdict.Verdict.TheVariants.{Tour, WrongCount, OutOfRange, RepeatedCity}
 use Rattle.tk_engines.specs.Lines.TourLine.{verdict_line}
-
-walk_same : (f g : ℕ → ℕ → ℕ) → ((a b : ℕ) → f a b ≡ g a b) → (from : ℕ) (cities : List ℕ) →
-    walk f from cities ≡ walk g from cities
-walk_same f g same from [] = refl
-walk_same f g same from (city ∷ cities) = omega (arith, same from city, walk_same f g same city cities)
-
-pub tour_length_same : (f g : ℕ → ℕ → ℕ) → ((a b : ℕ) → f a b ≡ g a b) → (cities : List ℕ) →
-    tour_length f cities ≡ tour_length g cities
-tour_length_same f g same [] = refl
-tour_length_same f g same (first ∷ cities) = walk_same f g same first (cities ++ first ∷ [])
 
 -- a line is short
 pub verdict_line_short : (n : ℕ) (distance : ℕ → ℕ → ℕ) (cities : List ℕ) (v : Verdict) →

@@ -5,15 +5,14 @@ use Rattle.tk_engines.specs.Plot.{places_in, without_places}
 use Rattle.tk_engines.proofs.Shown.{points_size}
 use Rattle.tk_engines.proofs.engines.plot.view_of.Goals as goal
 
-pub over-requires-clause-some : goal.over-requires-clause-some
-over-requires-clause-some c =
+pub over-requires : goal.over-requires
+over-requires c =
     let size = points_size c.args.problem.now c.in-Points.field-0 c.in-Points.points c.in-Points.is in
-    omega (arith, size, ap length c.places.ensures.places, c.args.problem.now.low)
-
-pub over-requires-clause-few : goal.over-requires-clause-few
-over-requires-clause-few c =
-    let size = points_size c.args.problem.now c.in-Points.field-0 c.in-Points.points c.in-Points.is in
-    omega (arith, size, ap length c.places.ensures.places, c.args.problem.now.high)
+    let places = ap length c.places.ensures.places in
+    record {
+      some = omega (arith, size, places, c.args.problem.now.low);
+      few = omega (arith, size, places, c.args.problem.now.high);
+    }
 
 pub returns-clause-some : goal.returns-clause-some
 returns-clause-some c =
