@@ -3,13 +3,7 @@ use Rattle.tk_engines.proofs.Ends.{problem_read}
 use Rattle.tk_engines.proofs.TextsRead.{is_read}
 use Rattle.tk_engines.proofs.engines.plot.plot_engine.Goals as goal
 
-pub returns-in-Ok : goal.returns-in-Ok
-returns-in-Ok g c =
-    let told = c.plot_problem.ensures in
-    record {
-      ends = problem_read _ _ _ (WritesOutput g.W.Sink g.T.Sink c.args.out.now c.plot_problem.new.out c.args.told.now
-          c.plot_problem.new.told) _ (is_read c.in-Ok.ensures.reads) c.plot_problem.result told.ends;
-      quiet = told.quiet;
-      failed = told.failed;
-      unread = told.unread;
-    }
+pub returns-in-Ok-clause-ends : goal.returns-in-Ok-clause-ends
+returns-in-Ok-clause-ends g c =
+    problem_read _ _ _ (WritesOutput g.W.Sink g.T.Sink c.args.out.now c.plot_problem.new.out c.args.told.now
+    c.plot_problem.new.told) _ (is_read c.in-Ok.ensures.reads) c.plot_problem.result c.plot_problem.ensures.ends

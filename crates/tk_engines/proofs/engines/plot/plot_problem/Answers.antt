@@ -36,13 +36,10 @@ pub returns-then-not-has_claim-clause-ends : goal.returns-then-not-has_claim-cla
 returns-then-not-has_claim-clause-ends g c =
     (plotted.Cities, rw c.in-Err.is at (drawn g (goal.at.returns-then-not-has_claim-clause-ends g c).After-draw))
 
-pub returns : goal.returns
-returns g c =
-    let told = c.plot_claim.ensures in
-    record {
-      ends = rw (← c.if-not-has_claim.false) at told.ends;
-      quiet = told.quiet;
-      failed = told.failed;
-      unread = second_reached _ _ _ (WritesOutput g.W.Sink g.T.Sink c.args.out.now c.plot_claim.new.out c.args.told.now
-          c.plot_claim.new.told) _ c.in-Some.ensures.some.fits c.plot_claim.result told.ends;
-    }
+pub returns-clause-ends : goal.returns-clause-ends
+returns-clause-ends g c = rw (← c.if-not-has_claim.false) at c.plot_claim.ensures.ends
+
+pub returns-clause-unread : goal.returns-clause-unread
+returns-clause-unread g c =
+    second_reached _ _ _ (WritesOutput g.W.Sink g.T.Sink c.args.out.now c.plot_claim.new.out c.args.told.now
+    c.plot_claim.new.told) _ c.in-Some.ensures.some.fits c.plot_claim.result c.plot_claim.ensures.ends

@@ -9,9 +9,6 @@ use Rattle.tk_engines.specs.Plot.{Drawn, Refused, IsPicture}
 use Rattle.tk_engines.proofs.Shown.{routes_told, served_once}
 use Rattle.tk_engines.proofs.engines.plot.show_routes.Goals as goal
 
-pub draw-requires-clause-view : goal.draw-requires-clause-view
-draw-requires-clause-view g c = c.requires.view
-
 pub draw-requires-clause-fits : goal.draw-requires-clause-fits
 draw-requires-clause-fits g c =
     let i = instance_of c.args.cvrp.now in

@@ -56,12 +56,3 @@ returns-clause-ends g c = (
   c.in-Ok-check_routes.verdict,
   rw c.in-Err-write_route_verdict.is at (given g (goal.at.returns-clause-ends g c).After-write_route_verdict),
 )
-
-pub returns-in-Err-clause-quiet : goal.returns-in-Err-clause-quiet
-returns-in-Err-clause-quiet g c = (refl, refl)
-
-pub returns-in_default-clause-quiet : goal.returns-in_default-clause-quiet
-returns-in_default-clause-quiet g c = (refl, refl)
-
-pub returns-clause-failed : goal.returns-clause-failed
-returns-clause-failed g c = c.in-Err-write_route_verdict.ensures.failed

@@ -3,13 +3,7 @@ use Rattle.tk_engines.proofs.Ends.{problem_read}
 use Rattle.tk_engines.proofs.TextsRead.{is_read}
 use Rattle.tk_engines.proofs.engines.route_check.route_check_engine.Goals as goal
 
-pub returns-in-Ok : goal.returns-in-Ok
-returns-in-Ok g c =
-    let told = c.check_problem.ensures in
-    record {
-      ends = problem_read _ _ _ (Writes g.W.Sink c.args.out.now c.check_problem.new.out) _
-          (is_read c.in-Ok.ensures.reads) c.check_problem.result told.ends;
-      quiet = told.quiet;
-      failed = told.failed;
-      unread = told.unread;
-    }
+pub returns-in-Ok-clause-ends : goal.returns-in-Ok-clause-ends
+returns-in-Ok-clause-ends g c =
+    problem_read _ _ _ (Writes g.W.Sink c.args.out.now c.check_problem.new.out) _ (is_read c.in-Ok.ensures.reads)
+    c.check_problem.result c.check_problem.ensures.ends

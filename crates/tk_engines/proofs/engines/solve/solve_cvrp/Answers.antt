@@ -33,9 +33,6 @@ returns-clause-gives g c = (
   (found g (goal.at.returns-clause-gives g c).After-write_route_files, c.in-Err.ensures.text),
 )
 
-pub returns-clause-failed : goal.returns-clause-failed
-returns-clause-failed g c = c.in-Err.ensures.failed
-
 pub write_route_files-requires-clause-routes : goal.write_route_files-requires-clause-routes
 write_route_files-requires-clause-routes g c =
     let count = count_filled (routes_of c.in-Ok.routes) c.in-Ok.ensures.valid.filled in

@@ -4,7 +4,7 @@ use Rattle.tk_routes.specs.Cvrps.{instance_of}
 use Rattle.tk_solve.specs.Events.{Event}
 use Rattle.tk_solve.specs.Watching.{WereShown, nothing}
 use Rattle.tk_engines.specs.Engine.{Writing}
-use Rattle.tk_engines.specs.Solve.{AreRoutesOf, AreUntouched, Files, IsTourWritten, WritesFiles, cities_in}
+use Rattle.tk_engines.specs.Solve.{AreRoutesOf, Files, IsTourWritten, WritesFiles, cities_in}
 use Rattle.tk_engines.proofs.ReadTables.{instance_read, unrouted}
 use Rattle.tk_engines.proofs.SolveEnds.{IfErr-quiet, IfErr-unwatched, given_ends, given_quiet, given_searched}
 use Rattle.tk_engines.proofs.SolveEnds.{initial_failed, initial_unfailed}
@@ -16,13 +16,11 @@ returns-in_err-check_initial g c =
     let fault = c.in_err-check_initial.field-0.0 in
     record {
       ends = initial_failed _ _ (WritesFiles g.F.Sink g.W.Sink c.args.file.now c.args.file.now c.args.out.now
-          c.args.out.now) (problem_is c.args.problem.now) (cities_in c.args.initial.now) c.requires fault result
-          c.from_residual.ensures.1 c.in_err-check_initial.ensures.err;
-      quiet = IfErr-quiet (AreUntouched g.F.Sink g.W.Sink c.args.file.now c.args.file.now c.args.out.now c.args.out.now)
-          ((refl, refl), (refl, refl)) result;
-      failed = initial_unfailed (problem_is c.args.problem.now) (cities_in c.args.initial.now) _ fault result
-          c.from_residual.ensures.1 c.in_err-check_initial.ensures.err;
-      unwatched = IfErr-unwatched (c.args.watch.now ≡ c.args.watch.now) refl result;
+          c.args.out.now) _ _ c.requires fault result c.from_residual.ensures.1 c.in_err-check_initial.ensures.err;
+      quiet = IfErr-quiet _ ((refl, refl), (refl, refl)) result;
+      failed = initial_unfailed (problem_is c.args.problem.now) _ _ fault result c.from_residual.ensures.1
+          c.in_err-check_initial.ensures.err;
+      unwatched = IfErr-unwatched _ refl result;
     }
 
 pub returns-in-Some : goal.returns-in-Some
