@@ -141,18 +141,11 @@ length_city f places demands depot c =
     (length_spot f places c) (length_signed (city_place places c).x) (length_signed (city_place places c).y)
     (length_demand (slice_get demands (c - 1))) (length_depot_word depot c)
 
-spaced_number : (x : ℕ) → length (codes " " ++ decimal x) ≤ 65
-spaced_number x = omega (arith, length_decimal x, length-append (codes " ") (decimal x))
-
 length_spaced : (xs : List ℕ) → length (spaced_numbers xs) ≤ length xs * 65
 length_spaced [] = omega arith
 length_spaced (x ∷ xs) =
-    omega (
-      arith,
-      length_decimal x,
-      length_flat_map (λ y. codes " " ++ decimal y) 65 spaced_number xs,
-      length-append (decimal x) (flat_map (λ y. codes " " ++ decimal y) xs),
-    )
+    let rest = length_flat_map (λ y. codes " " ++ decimal y) 65 (λ y. omega (arith, length_decimal y)) xs in
+    omega (arith, length_decimal x, length-append (decimal x) (flat_map (λ y. codes " " ++ decimal y) xs))
 
 length_path : (p : Path) → length (path_line p) ≤ 500 + length p.cities * 130
 length_path p = omega (arith, length_spaced p.cities, length-append (spaced_numbers p.cities) (10 ∷ []))
