@@ -6,21 +6,21 @@ use Rattle.tourkit_c.specs.Texts.{AreWritten, IsWritten}
 use Rattle.tourkit_c.specs.declared.answer.Answer.{Answer}
 
 -- a text, which the code lent as these bytes
-pub written : (status s n : ℕ) (bytes text old new : List ℕ) (answer : Answer) → answer ≡ with_status s n → s ≡ status
+pub written : {status s n : ℕ} {bytes text old new : List ℕ} {answer : Answer} → answer ≡ with_status s n → s ≡ status
     → n ≡ length bytes → new ≡ handed_out bytes old → bytes ≡ text → IsWritten status text old new answer
-written status s n bytes text old new answer is same size put all = record {
+written {status} {s} {n} {bytes} {text} {old} is same size put all = record {
   answer_is = is ∙ ap (λ k. with_status k n) same ∙ ap (with_status status) (size ∙ ap length all);
   bytes = put ∙ ap (λ l. handed_out l old) all;
 }
 
 -- two texts
-pub both_written : (status s n m : ℕ) (bytes text old new bytes' text' old' new' : List ℕ) (answer : Answer)
+pub both_written : {status s n m : ℕ} {bytes text old new bytes' text' old' new' : List ℕ} {answer : Answer}
     → answer ≡ with_status_twice s n m → s ≡ status
     → n ≡ length bytes → new ≡ handed_out bytes old → bytes ≡ text
     → m ≡ length bytes' → new' ≡ handed_out bytes' old' → bytes' ≡ text' →
     AreWritten status text old new text' old' new' answer
-both_written status s n m bytes text old new bytes' text' old' new' answer is same size put all size' put' all' =
-    record {
+both_written {status} {s} {n} {m} {bytes} {text} {old} {new} {bytes'} {text'} {old'} is same size put all size' put'
+    all' = record {
       answer_is = is ∙ ap (λ k. with_status_twice k n m) same
           ∙ ap (λ k. with_status_twice status k m) (size ∙ ap length all)
           ∙ ap (with_status_twice status (length text)) (size' ∙ ap length all');

@@ -8,8 +8,7 @@ pub returns-in-Ok-clause-given : goal.returns-in-Ok-clause-given
 returns-in-Ok-clause-given c = λ _. (
   c.in-Ok.text.items,
   c.in-Ok.ensures.ok,
-  written 0 0 c.hand_out.result c.deref.result.now c.in-Ok.text.items c.args.out.now c.hand_out.new.out c.ended.result
-      c.ended.ensures refl c.hand_out.ensures.needed c.hand_out.ensures.bytes c.deref.ensures.value,
+  written c.ended.ensures refl c.hand_out.ensures.needed c.hand_out.ensures.bytes c.deref.ensures.value,
 )
 
 pub returns-in-Err-clause-refused : goal.returns-in-Err-clause-refused

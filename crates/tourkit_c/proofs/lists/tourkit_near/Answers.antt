@@ -10,8 +10,7 @@ pub returns-in-Ok-clause-given : goal.returns-in-Ok-clause-given
 returns-in-Ok-clause-given c = λ _. (
   c.in-Ok.text.items,
   subst (λ k. IsNearTextOf k c.args.problem.now c.in-Ok.text.items) c.in-Some.ensures.some c.in-Ok.ensures.ok,
-  written 0 0 c.hand_out-in-Ok.result c.deref.result.now c.in-Ok.text.items c.args.out.now c.hand_out-in-Ok.new.out
-      c.ended-in-Ok.result c.ended-in-Ok.ensures refl c.hand_out-in-Ok.ensures.needed c.hand_out-in-Ok.ensures.bytes
+  written c.ended-in-Ok.ensures refl c.hand_out-in-Ok.ensures.needed c.hand_out-in-Ok.ensures.bytes
       c.deref.ensures.value,
 )
 

@@ -1,6 +1,5 @@
 use Rattle.std.proofs.Common.{◌∙◌, arith, inl, inr, refl}
-use Rattle.tourkit_c.specs.Plotted.{IsSolutionFault, IsTourFault, line_in, picture_in}
-use Rattle.tourkit_c.specs.Plotted.{plot_status}
+use Rattle.tourkit_c.specs.Plotted.{IsSolutionFault, IsTourFault}
 use Rattle.tourkit_c.proofs.HandingOut.{both_written}
 use Rattle.tourkit_c.proofs.Refusals.{faulty, right_refusal}
 use Rattle.tourkit_c.proofs.plot.tourkit_plot.Goals as goal
@@ -11,11 +10,9 @@ returns-in-Ok-clause-given c = λ _.
       c.in-Ok.done,
       given.0,
       given.1,
-      both_written (plot_status c.in-Ok.done) c.status_of.result c.hand_out.result c.hand_out-in-Ok.result
-          c.deref.result.now (picture_in given.0) c.args.out.now c.hand_out.new.out c.deref-in-Ok.result.now
-          (line_in given.0) c.args.told.now c.hand_out-in-Ok.new.out c.ended_twice.result c.ended_twice.ensures
-          c.status_of.ensures c.hand_out.ensures.needed c.hand_out.ensures.bytes (c.deref.ensures.value ∙ given.2)
-          c.hand_out-in-Ok.ensures.needed c.hand_out-in-Ok.ensures.bytes (c.deref-in-Ok.ensures.value ∙ given.3),
+      both_written c.ended_twice.ensures c.status_of.ensures c.hand_out.ensures.needed c.hand_out.ensures.bytes
+          (c.deref.ensures.value ∙ given.2) c.hand_out-in-Ok.ensures.needed c.hand_out-in-Ok.ensures.bytes
+          (c.deref-in-Ok.ensures.value ∙ given.3),
     )
 
 pub returns-in-Err-clause-refused : goal.returns-in-Err-clause-refused

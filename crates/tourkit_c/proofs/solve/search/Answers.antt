@@ -9,10 +9,8 @@ pub returns-in-Ok-clause-given : goal.returns-in-Ok-clause-given
 returns-in-Ok-clause-given c = λ _. (
   record { file = c.in-Ok.text.items; out = c.in-Ok.lines.items },
   c.in-Ok.ensures.ok,
-  both_written 0 0 c.hand_out.result c.hand_out-in-Ok.result c.deref.result.now c.in-Ok.lines.items c.args.out.now
-      c.hand_out.new.out c.deref-in-Ok.result.now c.in-Ok.text.items c.args.file.now c.hand_out-in-Ok.new.out
-      c.ended_twice.result c.ended_twice.ensures refl c.hand_out.ensures.needed c.hand_out.ensures.bytes
-      c.deref.ensures.value c.hand_out-in-Ok.ensures.needed c.hand_out-in-Ok.ensures.bytes c.deref-in-Ok.ensures.value,
+  both_written c.ended_twice.ensures refl c.hand_out.ensures.needed c.hand_out.ensures.bytes c.deref.ensures.value
+      c.hand_out-in-Ok.ensures.needed c.hand_out-in-Ok.ensures.bytes c.deref-in-Ok.ensures.value,
 )
 
 pub returns-in-Err-clause-refused : goal.returns-in-Err-clause-refused
