@@ -12,7 +12,6 @@ use Rattle.tk_problem.specs.declared.weights.Weights.TheVariants.{Points}
 use Rattle.tk_problem_text.specs.ProblemOf.{problem_is, routing_is, weights_are}
 use Rattle.tk_distance.specs.Weights.{problem_distance}
 use Rattle.tk_tour.specs.Tour.{IsTour, tour_length}
-use Rattle.tk_tour.specs.Verdict.{IsVerdict}
 use Rattle.tk_tour.specs.declared.verdict.Verdict.{Verdict}
 use Rattle.tk_tour.specs.declared.verdict.Verdict.TheVariants as verdicts
 use Rattle.tk_tour.proofs.Tours.{HoldsOnce-tour}
@@ -57,17 +56,10 @@ pub length_read : (p : Problem) (cities : List ℕ) →
 length_read p cities = ap (λ d. tour_length d cities) (read_distance_is p.weights)
 
 -- a verdict that is no tour is told
-told_for : (form : Form) (p : Problem) (cities line : List ℕ) (v : Verdict) → (v ≡ verdicts.Tour → ⊥)
-    → line ≡ verdict_line p.n (read_distance (weights_are p.weights)) cities v
-    → IsTourOutput form (problem_is p) cities v (Refused line)
-told_for form p cities line verdicts.Tour fault is = fault refl
-told_for form p cities line _ fault is = is
-
 pub tour_told : (form : Form) (p : Problem) (cities : List ℕ) (v : Verdict) → (v ≡ verdicts.Tour → ⊥)
-    → IsVerdict p.n cities v
     → IsTourOutput form (problem_is p) cities v (Refused (verdict_line p.n (problem_distance p.weights) cities v))
-tour_told form p cities v fault right =
-    told_for form p cities _ v fault (ap (λ d. verdict_line p.n d cities v) (read_distance_is p.weights))
+tour_told form p cities verdicts.Tour fault = fault refl
+tour_told form p cities v fault = ap (λ d. verdict_line p.n d cities v) (read_distance_is p.weights)
 
 pub routes_told : (form : Form) (p : Problem) (i : Instance) (routes : List (List ℕ)) (v : RouteVerdict)
     → ((count : ℕ) (cost : ℤ) → v ≡ route_verdicts.Valid count cost → ⊥)

@@ -37,11 +37,9 @@ either_of false s t first second = second refl
 no_markup_step : (b : ℕ) (bs : List ℕ) (x y z : Bool) → (b == 60) ≡ x → (b == 62) ≡ y → (b == 34) ≡ z
     → (if x then false else (if y then false else (if z then false else no_markup_test bs))) ≡ true
     → (no_markup_test bs ≡ true → All IsNoMarkup bs) → All IsNoMarkup (b ∷ bs)
-no_markup_step b bs true y z e f g p rest = absurd cc
-no_markup_step b bs false true z e f g p rest = absurd cc
-no_markup_step b bs false false true e f g p rest = absurd cc
 no_markup_step b bs false false false e f g p rest =
     All-cons IsNoMarkup b bs (eqb-false b 60 e, eqb-false b 62 f, eqb-false b 34 g) (rest p)
+no_markup_step b bs _ _ _ e f g p rest = absurd cc
 
 no_markup_text : (bs : List ℕ) → no_markup_test bs ≡ true → All IsNoMarkup bs
 no_markup_text [] passes = All-nil IsNoMarkup
