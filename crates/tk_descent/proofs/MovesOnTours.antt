@@ -1,3 +1,4 @@
+pub mod Cities
 pub mod GainLaw
 pub mod Length
 pub mod Paths

@@ -1,19 +1,19 @@
 -- The city after a city, in the parts of a cycle.
 use Rattle.std.proofs.Common.{◌≡◌, ℕ, ◌+◌, ◌<◌, ◌≤◌, ◌≢◌, ◌⊎◌, true, false, ◌||◌, eqb, List, [], ◌∷◌, ◌++◌, length}
 use Rattle.std.proofs.Common.{reverse, refl, sym, ◌∙◌, ap, arith, inl, inr, subst, append-nil}
-use Rattle.std.proofs.lemmas.List.{reverse-reverse, length-append}
+use Rattle.std.proofs.lemmas.List.{reverse-reverse, length-append, length-reverse}
 use Rattle.std.specs.Prelude.{slice_index, ◌%◌, ◌-◌}
-use Rattle.std.proofs.lemmas.Bool.{or_parts, or_cases, or_from, or_left, or_right, eqb-true, eq-eqb, cases_eq, cases_lt}
-use Rattle.std.proofs.lemmas.Bool.{false_from_ne_true, both_ways}
+use Rattle.std.proofs.lemmas.Bool.{or_parts, or_cases, or_left, or_right, eqb-true, eq-eqb, cases_eq, cases_lt}
+use Rattle.std.proofs.lemmas.Bool.{false_from_ne_true, both_ways, ne_eqb}
 use Rattle.tk_tour.specs.Tour.{IsRotation, SameCycle, next_city, prev_city, occurrences, place_of}
 use Rattle.tk_tour.proofs.Cycle.{IsRotation-append, IsRotation-trans, IsRotation-reverse, SameCycle-trans}
 use Rattle.tk_tour.proofs.Cycle.{SameCycle-append}
-use Rattle.tk_tour.proofs.Once.{HoldsOnce}
+use Rattle.tk_tour.proofs.Once.{HoldsOnce, occurrences-rotation, occurrences-reverse}
 use Rattle.tk_tour.proofs.Tours.{occurrences-other, occurrences-same, occurrences-nil}
 use Rattle.tk_tour.proofs.Steps.{Neighbours-rotation}
 use Rattle.tk_descent.proofs.MovesOnTours.Paths.{last_from, Spans}
 use Rattle.tk_distance.specs.Holding.{holds, IsDistinct}
-use Rattle.tk_descent.proofs.Lists.{holds-append, or-comm, holds-push, holds-push_same, distinct-push}
+use Rattle.tk_descent.proofs.Lists.{holds-append, or-comm, holds-push, holds-push_same}
 use Rattle.tk_descent.proofs.MovesOnTours.Length.{reverse-cons, Spans-reverse, Spans-append}
 
 -- rotations and cycles
@@ -55,50 +55,12 @@ distinct-parts (b ∷ xs) ys h =
     or_parts (holds xs b) (holds ys b) (sym (holds-append xs ys b) ∙ h.0) in
     ((p.0, r.0), r.1, λ c e. apart_cons b xs ys p.1 r.2 c (or_cases (eqb b c) (holds xs c) e))
 
-pub distinct-join : (xs ys : List ℕ) → IsDistinct xs → IsDistinct ys → Apart xs ys → IsDistinct (xs ++ ys)
-distinct-join [] ys h k a = k
-distinct-join (b ∷ xs) ys h k a = (
-  holds-append xs ys b
-      ∙ or_from (holds xs b) (holds ys b) h.0 (a b (or_left (eqb b b) (holds xs b) (eq-eqb b b refl))),
-  distinct-join xs ys h.1 k (λ c e. a c (or_right (eqb b c) (holds xs c) e)),
-)
-
-pub apart-sym : (xs ys : List ℕ) → Apart xs ys → Apart ys xs
-apart-sym xs ys a c e = false_from_ne_true (holds xs c) (λ f. both_ways (holds ys c) (a c f) e)
-
-pub distinct-turn : (xs ys : List ℕ) → IsDistinct (xs ++ ys) → IsDistinct (ys ++ xs)
-distinct-turn xs ys h = let r = distinct-parts xs ys h in distinct-join ys xs r.1 r.0 (apart-sym xs ys r.2)
-
-pub distinct-rotation : (X Y : List ℕ) → IsRotation X Y → IsDistinct X → IsDistinct Y
-distinct-rotation X Y h e = subst IsDistinct (sym h.after) (distinct-turn h.front h.back (subst IsDistinct h.before e))
-
 pub holds-reverse : (xs : List ℕ) (c : ℕ) → holds (reverse xs) c ≡ holds xs c
 holds-reverse [] c = refl
 holds-reverse (b ∷ xs) c = ap (λ z. holds z c) (reverse-cons b xs) ∙ holds-push (reverse xs) b c
     ∙ or-comm (holds (reverse xs) c) (eqb b c) ∙ ap (λ z. eqb b c || z) (holds-reverse xs c)
 
-pub distinct-reverse : (xs : List ℕ) → IsDistinct xs → IsDistinct (reverse xs)
-distinct-reverse [] h = tt
-distinct-reverse (b ∷ xs) h =
-    subst IsDistinct (sym (reverse-cons b xs))
-    (distinct-push (reverse xs) b (distinct-reverse xs h.1) (holds-reverse xs b ∙ h.0))
-
-pub distinct-cycle : (C X : List ℕ) → SameCycle C X → IsDistinct C → IsDistinct X
-distinct-cycle C X (inl h) e = distinct-rotation C X h e
-distinct-cycle C X (inr h) e =
-    subst IsDistinct (reverse-reverse X) (distinct-reverse (reverse X) (distinct-rotation C (reverse X) h e))
-
--- the last city of a path
-
-before_last : (b : ℕ) (xs : List ℕ) → (us : List ℕ) × (b ∷ xs ≡ us ++ last_from b xs ∷ [])
-before_last b [] = ([], refl)
-before_last b (c ∷ xs) = let r = before_last c xs in (b ∷ r.0, ap (λ z. b ∷ z) r.1)
-
-pub split_last : (X : List ℕ) (b a : ℕ) → Spans X b a → (us : List ℕ) × (X ≡ us ++ a ∷ [])
-split_last [] b a h = absurd h
-split_last (c ∷ xs) b a h = let r = before_last c xs in (r.0, r.1 ∙ ap (λ z. r.0 ++ z ∷ []) h.1)
-
--- a city stands once where none is in the list twice
+-- a list is distinct where each city stands once in it
 
 pub held : (xs : List ℕ) (c : ℕ) → 1 ≤ occurrences c xs → holds xs c ≡ true
 held [] c h = absurd (omega (arith, h, occurrences-nil c))
@@ -108,7 +70,17 @@ held (b ∷ xs) c h =
       | inr ne ↦ or_right (eqb b c) (holds xs c) (held xs c (omega (arith, h, occurrences-other c b xs ne)))
     ]
 
-pub once_of : (xs : List ℕ) → IsDistinct xs → HoldsOnce xs
+pub counted : (xs : List ℕ) (c : ℕ) → holds xs c ≡ true → 1 ≤ occurrences c xs
+counted [] c h = absurd (both_ways false refl h)
+counted (b ∷ xs) c h =
+    elim (cases_eq c b) [
+      | inl e ↦ omega (arith, occurrences-same c b xs e)
+      | inr ne ↦
+          let k : holds xs c ≡ true = ap (λ z. z || holds xs c) (sym (ne_eqb b c (λ e. ne (sym e)))) ∙ h in
+          omega (arith, occurrences-other c b xs ne, counted xs c k)
+    ]
+
+once_of : (xs : List ℕ) → IsDistinct xs → HoldsOnce xs
 once_of [] h c = omega (arith, occurrences-nil c)
 once_of (b ∷ xs) h c =
     elim (cases_eq c b) [
@@ -119,6 +91,56 @@ once_of (b ∷ xs) h c =
     once_at : (0 < occurrences c xs) ⊎ (occurrences c xs ≤ 0) → c ≡ b → occurrences c (b ∷ xs) ≤ 1
     once_at (inl k) e = absurd (both_ways (holds xs b) h.0 (subst (λ z. holds xs z ≡ true) e (held xs c (omega arith))))
     once_at (inr k) e = omega (arith, occurrences-same c b xs e)
+
+fewer_in : (b c : ℕ) (xs : List ℕ) → occurrences c (b ∷ xs) ≤ 1 → (c ≡ b) ⊎ (c ≡ b → ⊥) → occurrences c xs ≤ 1
+fewer_in b c xs h (inl e) = omega (arith, h, occurrences-same c b xs e)
+fewer_in b c xs h (inr ne) = omega (arith, h, occurrences-other c b xs ne)
+
+pub distinct_of : (xs : List ℕ) → HoldsOnce xs → IsDistinct xs
+distinct_of [] h = tt
+distinct_of (b ∷ xs) h = (
+  false_from_ne_true (holds xs b)
+      (λ e. let k : 1 ≤ occurrences b xs = counted xs b e in
+      absurd (omega (arith, k, h b, occurrences-same b b xs refl))),
+  distinct_of xs (λ c. fewer_in b c xs (h c) (cases_eq c b)),
+)
+
+-- D has as many cities as C, and each as often
+abbrev pub HasSameCities : List ℕ → List ℕ → Type 0
+HasSameCities C D = (length D ≡ length C) × ((c : ℕ) → occurrences c D ≡ occurrences c C)
+
+pub distinct_same : (C D : List ℕ) → HasSameCities C D → IsDistinct C → IsDistinct D
+distinct_same C D same h = distinct_of D (λ c. omega (arith, same.1 c, once_of C h c))
+
+pub length-rotation : (X Y : List ℕ) → IsRotation X Y → length Y ≡ length X
+length-rotation X Y h =
+    omega (arith, ap length h.before, ap length h.after, length-append h.front h.back, length-append h.back h.front)
+
+pub cities-cycle : (C X : List ℕ) → SameCycle C X → HasSameCities C X
+cities-cycle C X (inl h) = (length-rotation C X h, λ c. occurrences-rotation c h)
+cities-cycle C X (inr h) = (
+  omega (arith, length-rotation C (reverse X) h, length-reverse X),
+  λ c. omega (arith, occurrences-rotation c h, occurrences-reverse c X),
+)
+
+pub distinct-cycle : (C X : List ℕ) → SameCycle C X → IsDistinct C → IsDistinct X
+distinct-cycle C X h e = distinct_same C X (cities-cycle C X h) e
+
+pub distinct-rotation : (X Y : List ℕ) → IsRotation X Y → IsDistinct X → IsDistinct Y
+distinct-rotation X Y h e = distinct-cycle X Y (inl h) e
+
+pub distinct-reverse : (X : List ℕ) → IsDistinct X → IsDistinct (reverse X)
+distinct-reverse X h = distinct_same X (reverse X) (length-reverse X, λ c. occurrences-reverse c X) h
+
+-- the last city of a path
+
+before_last : (b : ℕ) (xs : List ℕ) → (us : List ℕ) × (b ∷ xs ≡ us ++ last_from b xs ∷ [])
+before_last b [] = ([], refl)
+before_last b (c ∷ xs) = let r = before_last c xs in (b ∷ r.0, ap (λ z. b ∷ z) r.1)
+
+pub split_last : (X : List ℕ) (b a : ℕ) → Spans X b a → (us : List ℕ) × (X ≡ us ++ a ∷ [])
+split_last [] b a h = absurd h
+split_last (c ∷ xs) b a h = let r = before_last c xs in (r.0, r.1 ∙ ap (λ z. r.0 ++ z ∷ []) h.1)
 
 -- neighbours
 

@@ -1,5 +1,6 @@
 -- Moves by paths whose ends compute.
 use Rattle.std.proofs.Common.{◌≡◌, ℕ, ◌≤◌, ◌⊎◌, List, [], ◌∷◌, ◌++◌, length, reverse, refl, ap, inl, inr, subst, sym}
+use Rattle.tk_tour.specs.Moves.{OrMove}
 use Rattle.tk_tour.specs.Tour.{SameCycle, IsPath}
 use Rattle.tk_descent.specs.Offers.{Makes}
 use Rattle.tk_descent.specs.Machine.{IsOfferOn}
@@ -26,65 +27,88 @@ spans_of X b a h = spans_cut X b a h.0.0 h.0.1 h.1.0 h.1.1
     spans_cut X b a us h [] k = subst (λ z. Spans z b a) (sym k) (let e : a ≡ b = cc in (e, refl))
     spans_cut X b a us h (v ∷ vs) k = subst (λ z. Spans z b a) (sym k) (let e : v ≡ b = cc in (e, last_push v vs a))
 
--- the two ways in which a segment is put between the parts that it leaves, by what says that a part has two ends
-abbrev pub IsPut : (List ℕ → ℕ → ℕ → Type 0) → (S P Q D : List ℕ) (a b y w : ℕ) → Type 0
-IsPut HasEnds S P Q D a b y w =
-    (HasEnds P b y × HasEnds Q w a × SameCycle D (P ++ S ++ Q))
-    ⊎ (HasEnds P b w × HasEnds Q y a × SameCycle D (P ++ reverse S ++ Q))
+-- the cycle is a path from d to a and one from b to c
+pub record Halves (C : List ℕ) (a b c d : ℕ) : Type 0 where
+  pub kept : List ℕ
+  pub turned : List ℕ
+  pub cycle : SameCycle C (kept ++ turned)
+  pub is_kept : Spans kept d a
+  pub is_turned : Spans turned b c
+
+-- the cycle is a segment of at most m cities from x to e, a path from b to c and one from d to a
+pub record Parts (m : ℕ) (C : List ℕ) (a x e b c d : ℕ) : Type 0 where
+  pub segment : List ℕ
+  pub ahead : List ℕ
+  pub rest : List ℕ
+  pub cycle : SameCycle C (segment ++ ahead ++ rest)
+  pub short : length segment ≤ m
+  pub is_segment : Spans segment x e
+  pub is_ahead : Spans ahead b c
+  pub is_rest : Spans rest d a
 
 abbrev pub Made : ℕ → Offer → List ℕ → List ℕ → Type 0
-Made m (Two a b c d) old new =
-    (A : List ℕ)
-    × ((B : List ℕ) × (SameCycle old (A ++ B) × Spans A d a × Spans B b c × SameCycle new (A ++ reverse B)))
+Made m (Two a b c d) old new = (h : Halves old a b c d) × SameCycle new (h.kept ++ reverse h.turned)
 Made m (Or a x e b y w) old new =
-    (S : List ℕ) × ((P : List ℕ) × ((Q : List ℕ) × (SameCycle old (S ++ P ++ Q) × (length S ≤ m) × Spans S x e ×
-    IsPut Spans S P Q new a b y w)))
+    ((p : Parts m old a x e b y w) × SameCycle new (p.ahead ++ p.segment ++ p.rest))
+    ⊎ ((p : Parts m old a x e b w y) × SameCycle new (p.ahead ++ reverse p.segment ++ p.rest))
 
 abbrev pub IsMadeOn : ℕ → Offer → List ℕ → Type 0
 IsMadeOn m o C = (D : List ℕ) × Made m o C D
 
-put_spans : (S P Q D : List ℕ) (a b y w : ℕ) → IsPut (λ X b a. IsPath b X a) S P Q D a b y w →
-    IsPut Spans S P Q D a b y w
-put_spans S P Q D a b y w (inl (hP, hQ, k)) = inl (spans_of P b y hP, spans_of Q w a hQ, k)
-put_spans S P Q D a b y w (inr (hP, hQ, k)) = inr (spans_of P b w hP, spans_of Q y a hQ, k)
-
-put_paths : (S P Q D : List ℕ) (a b y w : ℕ) → IsPut Spans S P Q D a b y w →
-    IsPut (λ X b a. IsPath b X a) S P Q D a b y w
-put_paths S P Q D a b y w (inl (hP, hQ, k)) = inl (path_of P b y hP, path_of Q w a hQ, k)
-put_paths S P Q D a b y w (inr (hP, hQ, k)) = inr (path_of P b w hP, path_of Q y a hQ, k)
+abbrev parts_of : {m : ℕ} {C D : List ℕ} {a x e b y w c d : ℕ} (h : OrMove m C D a x e b y w) → IsPath b h.ahead c →
+    IsPath d h.rest a → Parts m C a x e b c d
+parts_of {a = a} {x = x} {e = e} {b = b} {c = c} {d = d} h ahead rest = record {
+  segment = h.segment;
+  ahead = h.ahead;
+  rest = h.rest;
+  cycle = h.before;
+  short = h.short;
+  is_segment = spans_of h.segment x e h.is_segment;
+  is_ahead = spans_of h.ahead b c ahead;
+  is_rest = spans_of h.rest d a rest;
+}
 
 pub made_of : (m : ℕ) (o : Offer) (C D : List ℕ) → Makes m o C D → Made m o C D
-made_of m (Two a b c d) C D h =
-    (h.kept, (h.turned, (h.before, spans_of h.kept d a h.is_kept, spans_of h.turned b c h.is_turned, h.after)))
-made_of m (Or a x e b y w) C D h = (
-  h.segment,
-  (
-    h.ahead,
-    (
-      h.rest,
-      (
-        h.before,
-        h.short,
-        spans_of h.segment x e h.is_segment,
-        put_spans h.segment h.ahead h.rest D a b y w h.after,
-      ),
-    ),
-  ),
+made_of m (Two a b c d) C D h = (
+  record {
+    kept = h.kept;
+    turned = h.turned;
+    cycle = h.before;
+    is_kept = spans_of h.kept d a h.is_kept;
+    is_turned = spans_of h.turned b c h.is_turned;
+  },
+  h.after,
 )
+made_of m (Or a x e b y w) C D h =
+    elim (h.after) [ inl k ↦ inl (parts_of h k.0 k.1, k.2) | inr k ↦ inr (parts_of h k.0 k.1, k.2) ]
+
+put : {m : ℕ} {C D : List ℕ} {a x e b y w c d : ℕ} (p : Parts m C a x e b c d) →
+    ((IsPath b p.ahead y × IsPath w p.rest a × SameCycle D (p.ahead ++ p.segment ++ p.rest))
+    ⊎ (IsPath b p.ahead w × IsPath y p.rest a × SameCycle D (p.ahead ++ reverse p.segment ++ p.rest))) →
+    OrMove m C D a x e b y w
+put {x = x} {e = e} p after = record {
+  segment = p.segment;
+  ahead = p.ahead;
+  rest = p.rest;
+  short = p.short;
+  is_segment = path_of p.segment x e p.is_segment;
+  before = p.cycle;
+  after = after;
+}
 
 pub makes_of : (m : ℕ) (o : Offer) (C D : List ℕ) → Made m o C D → Makes m o C D
-makes_of m (Two a b c d) C D (A, (B, (h, hA, hB, k))) =
-    record { kept = A; turned = B; is_kept = path_of A d a hA; is_turned = path_of B b c hB; before = h; after = k }
-makes_of m (Or a x e b y w) C D (S, (P, (Q, (h, short, hS, k)))) =
-    record {
-      segment = S;
-      ahead = P;
-      rest = Q;
-      short = short;
-      is_segment = path_of S x e hS;
-      before = h;
-      after = put_paths S P Q D a b y w k;
-    }
+makes_of m (Two a b c d) C D (h, k) = record {
+  kept = h.kept;
+  turned = h.turned;
+  is_kept = path_of h.kept d a h.is_kept;
+  is_turned = path_of h.turned b c h.is_turned;
+  before = h.cycle;
+  after = k;
+}
+makes_of m (Or a x e b y w) C D (inl (p, k)) =
+    put p (inl (path_of p.ahead b y p.is_ahead, path_of p.rest w a p.is_rest, k))
+makes_of m (Or a x e b y w) C D (inr (p, k)) =
+    put p (inr (path_of p.ahead b w p.is_ahead, path_of p.rest y a p.is_rest, k))
 
 pub made_on : (m : ℕ) (o : Offer) (C : List ℕ) → IsOfferOn m o C → IsMadeOn m o C
 made_on m o C (D, h) = (D, made_of m o C D h)

@@ -1,15 +1,15 @@
 -- Each move of a city has an offer of the same steps in the city's list.
-use Rattle.std.proofs.Common.{◌≡◌, ℕ, zero, suc, ◌+◌, ◌≤◌, ◌≢◌, ◌⊎◌, Bool, true, false, cond, ◌||◌, ◌&&◌, eqb, leb}
+use Rattle.std.proofs.Common.{◌≡◌, ℕ, zero, suc, ◌+◌, ◌<◌, ◌≤◌, ◌≢◌, ◌⊎◌, Bool, true, false, cond, ◌||◌, ◌&&◌, eqb, leb}
 use Rattle.std.proofs.Common.{List, [], ◌∷◌, ◌++◌, length, reverse, refl, sym, ◌∙◌, ap, arith, inl, inr, subst, take}
-use Rattle.std.proofs.Common.{flat_map, append_assoc, length-append}
-use Rattle.std.proofs.lemmas.List.{reverse-append}
+use Rattle.std.proofs.Common.{flat_map, append_assoc, length-append, get_or}
+use Rattle.std.proofs.lemmas.List.{reverse-append, length-reverse}
 use Rattle.std.proofs.lemmas.Bool.{or_cases, or_from, or_left, or_right, le-leb, and_from, eqb-true, ne_eqb, both_ways}
 use Rattle.std.proofs.lemmas.Bool.{cond-true}
 use Rattle.tk_tour.specs.Tour.{IsRotation, SameCycle, next_city, prev_city}
-use Rattle.tk_descent.proofs.MovesOnTours.Views.{Made, made_of}
-use Rattle.tk_descent.proofs.MovesOnTours.Paths.{Spans, last_from}
+use Rattle.tk_descent.proofs.MovesOnTours.Views.{Made, Parts, made_of}
+use Rattle.tk_descent.proofs.MovesOnTours.Paths.{Spans}
 use Rattle.tk_distance.specs.Holding.{IsDistinct, holds}
-use Rattle.tk_descent.specs.Offers.{covers, segment_of_one, segment_of_two, segment_of_three, segment_count, segments}
+use Rattle.tk_descent.specs.Offers.{covers, segment_of_one, all_segments, segment_count, segments}
 use Rattle.tk_descent.specs.Offers.{or_offer, or_offers, offers_with, offers, removed, added}
 use Rattle.tk_descent.specs.WakeMachine.{IsOfferOf}
 use Rattle.tk_descent.proofs.OfferLists.Listed.{IsListed, HasSameSteps, IsComplete}
@@ -18,11 +18,11 @@ use Rattle.tk_descent.specs.declared.offer.Offer.{Offer}
 use Rattle.tk_descent.specs.declared.offer.Offer.TheVariants.{Two, Or}
 use Rattle.tk_descent.proofs.Lists.{holds-append}
 use Rattle.tk_descent.proofs.MovesOnTours.Length.{Spans-append, Spans-reverse}
-use Rattle.tk_descent.proofs.OfferLists.Made.{mirrored, two_steps, length-reverse}
-use Rattle.tk_descent.proofs.OfferLists.Ways.{Ways, ways_on, ways_back}
+use Rattle.tk_descent.proofs.OfferLists.Made.{mirrored, two_steps}
+use Rattle.tk_descent.proofs.OfferLists.Ways.{Ways, ways_on, ways_back, step_in}
 use Rattle.tk_descent.proofs.MovesOnTours.Steps.{Apart, turned, rotation-trans, turned_back, distinct-rotation}
 use Rattle.tk_descent.proofs.MovesOnTours.Steps.{distinct-parts, apart-ne, holds-first, holds-last, cycle-turn}
-use Rattle.tk_descent.proofs.MovesOnTours.Steps.{cycle-same, cycle-reverse, steps_of, Steps}
+use Rattle.tk_descent.proofs.MovesOnTours.Steps.{cycle-same, cycle-reverse, steps_of, Steps, length-rotation}
 
 -- members of a list of offers
 
@@ -73,40 +73,13 @@ count-three : (n m : ℕ) → 5 ≤ n → 3 ≤ m → segment_count n m ≡ 5
 count-three n m h k = cond-true (leb 5 n && leb 3 m) 5 (cond (leb 4 n && leb 2 m) 3 (cond (leb 3 n) 1 0))
     (and_from (leb 5 n) (leb 3 m) (le-leb 5 n h) (le-leb 3 m k))
 
-module _ (f : Segment → List Offer) (o : Offer) (s1 s2 s3 s4 s5 : Segment) where
-  at_1 : (k : ℕ) → 1 ≤ k → IsListed (f s1) o → IsListed (flat_map f (take k (s1 ∷ s2 ∷ s3 ∷ s4 ∷ s5 ∷ []))) o
-  at_1 zero h l = absurd (omega arith)
-  at_1 (suc k) h l = listed-left (f s1) (flat_map f (take k (s2 ∷ s3 ∷ s4 ∷ s5 ∷ []))) o l
-
-  at_2 : (k : ℕ) → 3 ≤ k → IsListed (f s2) o → IsListed (flat_map f (take k (s1 ∷ s2 ∷ s3 ∷ s4 ∷ s5 ∷ []))) o
-  at_2 zero h l = absurd (omega arith)
-  at_2 (suc zero) h l = absurd (omega arith)
-  at_2 (suc (suc k)) h l =
-      listed-right (f s1) (f s2 ++ flat_map f (take k (s3 ∷ s4 ∷ s5 ∷ []))) o
-      (listed-left (f s2) (flat_map f (take k (s3 ∷ s4 ∷ s5 ∷ []))) o l)
-
-  at_3 : (k : ℕ) → 3 ≤ k → IsListed (f s3) o → IsListed (flat_map f (take k (s1 ∷ s2 ∷ s3 ∷ s4 ∷ s5 ∷ []))) o
-  at_3 zero h l = absurd (omega arith)
-  at_3 (suc zero) h l = absurd (omega arith)
-  at_3 (suc (suc zero)) h l = absurd (omega arith)
-  at_3 (suc (suc (suc k))) h l =
-      listed-right (f s1) (f s2 ++ (f s3 ++ flat_map f (take k (s4 ∷ s5 ∷ [])))) o
-      (listed-right (f s2) (f s3 ++ flat_map f (take k (s4 ∷ s5 ∷ []))) o
-      (listed-left (f s3) (flat_map f (take k (s4 ∷ s5 ∷ []))) o l))
-
-  at_4 : (k : ℕ) → k ≡ 5 → IsListed (f s4) o → IsListed (flat_map f (take k (s1 ∷ s2 ∷ s3 ∷ s4 ∷ s5 ∷ []))) o
-  at_4 k h l =
-      subst (λ z. IsListed (flat_map f (take z (s1 ∷ s2 ∷ s3 ∷ s4 ∷ s5 ∷ []))) o) (sym h)
-      (listed-right (f s1) (f s2 ++ (f s3 ++ (f s4 ++ (f s5 ++ [])))) o
-      (listed-right (f s2) (f s3 ++ (f s4 ++ (f s5 ++ []))) o
-      (listed-right (f s3) (f s4 ++ (f s5 ++ [])) o (listed-left (f s4) (f s5 ++ []) o l))))
-
-  at_5 : (k : ℕ) → k ≡ 5 → IsListed (f s5) o → IsListed (flat_map f (take k (s1 ∷ s2 ∷ s3 ∷ s4 ∷ s5 ∷ []))) o
-  at_5 k h l =
-      subst (λ z. IsListed (flat_map f (take z (s1 ∷ s2 ∷ s3 ∷ s4 ∷ s5 ∷ []))) o) (sym h)
-      (listed-right (f s1) (f s2 ++ (f s3 ++ (f s4 ++ (f s5 ++ [])))) o
-      (listed-right (f s2) (f s3 ++ (f s4 ++ (f s5 ++ []))) o
-      (listed-right (f s3) (f s4 ++ (f s5 ++ [])) o (listed-right (f s4) (f s5 ++ []) o (listed-left (f s5) [] o l)))))
+listed_at : (f : Segment → List Offer) (o : Offer) (k i : ℕ) (ss : List Segment) (s : Segment) → i < k → i < length ss →
+    IsListed (f (get_or ss i s)) o → IsListed (flat_map f (take k ss)) o
+listed_at f o zero i ss s h l j = absurd (omega arith)
+listed_at f o (suc k) i [] s h l j = absurd (omega arith)
+listed_at f o (suc k) zero (t ∷ ss) s h l j = listed-left (f t) (flat_map f (take k ss)) o j
+listed_at f o (suc k) (suc i) (t ∷ ss) s h l j =
+    listed-right (f t) (flat_map f (take k ss)) o (listed_at f o k i ss s (omega arith) (omega arith) j)
 
 -- the 2-opt offers
 
@@ -162,41 +135,18 @@ uncover x u v z h j k =
 
 or_listed : (x y w ay by a e b : ℕ) (s : Segment) → s.before ≡ a → s.last ≡ e → s.after ≡ b → covers x s y ≡ false →
     covers x s w ≡ false → (w ≡ ay) ⊎ (w ≡ by) → IsListed (or_offers x y ay by s) (Or a x e b y w)
-or_listed x y w ay by a e b s ha he hb cy cw (inl i) =
+or_listed x y w ay by a e b s ha he hb cy cw n =
     let same : Or s.before x s.last s.after y w ≡ Or a x e b y w = cc in
-    listed-left (or_offer x y s ay) (or_offer x y s by) (Or a x e b y w)
-    (subst (λ z. IsListed (or_offer x y s z) (Or a x e b y w)) i
-    (subst (λ z. IsListed (or_offer x y s w) z) same
+    let here : IsListed (or_offer x y s w) (Or a x e b y w) =
+    subst (λ z. IsListed (or_offer x y s w) z) same
     (listed_cond (covers x s y || covers x s w) (Or s.before x s.last s.after y w)
-    (or_from (covers x s y) (covers x s w) cy cw))))
-or_listed x y w ay by a e b s ha he hb cy cw (inr i) =
-    let same : Or s.before x s.last s.after y w ≡ Or a x e b y w = cc in
-    listed-right (or_offer x y s ay) (or_offer x y s by) (Or a x e b y w)
-    (subst (λ z. IsListed (or_offer x y s z) (Or a x e b y w)) i
-    (subst (λ z. IsListed (or_offer x y s w) z) same
-    (listed_cond (covers x s y || covers x s w) (Or s.before x s.last s.after y w)
-    (or_from (covers x s y) (covers x s w) cy cw))))
-
-pub push : (us : List ℕ) (a : ℕ) → (f : ℕ) × Spans (us ++ a ∷ []) f a
-push [] a = (a, (refl, refl))
-push (u ∷ us) a = (u, (refl, last_push u us a))
-  where
-    last_push : (u : ℕ) (us : List ℕ) (a : ℕ) → last_from u (us ++ a ∷ []) ≡ a
-    last_push u [] a = refl
-    last_push u (v ∷ us) a = last_push v us a
-
--- the next city, from a rotation that shows it
-step_in : (K us vs : List ℕ) (nx pv : ℕ → ℕ) (x c : ℕ) → Ways K nx pv → IsRotation K (us ++ x ∷ c ∷ vs) → nx x ≡ c
-step_in K us vs nx pv x c ways r =
-    let f = push us x in
-    ways.next ((c ∷ vs) ++ (us ++ x ∷ [])) c x
-    (rotation-trans K ((us ++ x ∷ []) ++ (c ∷ vs)) ((c ∷ vs) ++ (us ++ x ∷ []))
-    (subst (λ z. IsRotation K z) (sym (append_assoc us (x ∷ []) (c ∷ vs))) r) (turned (us ++ x ∷ []) (c ∷ vs)))
-    (Spans-append (c ∷ vs) (us ++ x ∷ []) c (last_from c vs) f.0 x (refl, refl) f.1)
-
-length-rotation : (X Y : List ℕ) → IsRotation X Y → length X ≡ length Y
-length-rotation X Y h =
-    omega (arith, ap length h.before, ap length h.after, length-append h.front h.back, length-append h.back h.front)
+    (or_from (covers x s y) (covers x s w) cy cw)) in
+    let at : (z : ℕ) → w ≡ z → IsListed (or_offer x y s z) (Or a x e b y w) = λ z i.
+    subst (λ v. IsListed (or_offer x y s v) (Or a x e b y w)) i here in
+    elim n [
+      | inl i ↦ listed-left (or_offer x y s ay) (or_offer x y s by) (Or a x e b y w) (at ay i)
+      | inr i ↦ listed-right (or_offer x y s ay) (or_offer x y s by) (Or a x e b y w) (at by i)
+    ]
 
 positive : (X : List ℕ) (p q : ℕ) → Spans X p q → 1 ≤ length X
 positive [] p q s = absurd s
@@ -212,63 +162,77 @@ IsTwo nx K m x e b = (nx x ≡ e) × (nx (nx x) ≡ b) × (4 ≤ length K) × (2
 abbrev IsThree : (ℕ → ℕ) → List ℕ → ℕ → List ℕ → ℕ → ℕ → ℕ → Type 0
 IsThree nx K m S x e b = (holds S (nx x) ≡ true) × (nx (nx x) ≡ e) × (nx (nx (nx x)) ≡ b) × (5 ≤ length K) × (3 ≤ m)
 
-module _ (K : List ℕ) (nx pv : ℕ → ℕ) (ways : Ways K nx pv) (m : ℕ) (small : m ≤ 3) (S P Q : List ℕ) (a x e b c d : ℕ)
-    (rot : IsRotation K (S ++ P ++ Q)) (hS : Spans S x e) (hP : Spans P b c) (hQ : Spans Q d a)
-    (short : length S ≤ m) where
+-- y and w are neighbours on the cycle, in what a segment leaves of it
+abbrev AreBeside : (C rest : List ℕ) (y w : ℕ) → Type 0
+AreBeside C rest y w =
+    (holds rest y ≡ true) × (holds rest w ≡ true) × ((w ≡ next_city C y) ⊎ (w ≡ prev_city C y))
+
+module _ {K : List ℕ} {nx pv : ℕ → ℕ} (ways : Ways K nx pv) {m : ℕ} (small : m ≤ 3) {C : List ℕ} {a x e b c d : ℕ}
+    (p : Parts m C a x e b c d) (rot : IsRotation K (p.segment ++ p.ahead ++ p.rest)) where
+  abbrev S : List ℕ
+  S = p.segment
+
+  abbrev others : List ℕ
+  others = p.ahead ++ p.rest
+
+  front : Spans (S ++ p.ahead) x c
+  front = Spans-append S p.ahead x e b c p.is_segment p.is_ahead
+
   before_x : pv x ≡ a
-  before_x = ways.prev (S ++ P ++ Q) x a rot (Spans-append (S ++ P) Q x c d a (Spans-append S P x e b c hS hP) hQ)
+  before_x = ways.prev (S ++ p.ahead ++ p.rest) x a rot (Spans-append (S ++ p.ahead) p.rest x c d a front p.is_rest)
 
-  split : IsRotation K (S ++ (P ++ Q))
-  split = subst (λ z. IsRotation K z) (append_assoc S P Q) rot
-
-  rest : Spans (P ++ Q) b a
-  rest = Spans-append P Q b c d a hP hQ
+  split : IsRotation K (S ++ others)
+  split = subst (λ z. IsRotation K z) (append_assoc S p.ahead p.rest) rot
 
   after_e : nx e ≡ b
-  after_e = ways.next ((P ++ Q) ++ S) b e (rotation-trans K (S ++ (P ++ Q)) ((P ++ Q) ++ S) split (turned S (P ++ Q)))
-      (Spans-append (P ++ Q) S b a x e rest hS)
+  after_e = ways.next (others ++ S) b e (rotation-trans K (S ++ others) (others ++ S) split (turned S others))
+      (Spans-append others S b a x e (Spans-append p.ahead p.rest b c d a p.is_ahead p.is_rest) p.is_segment)
 
-  round : IsRotation K (Q ++ (S ++ P))
-  round = rotation-trans K (S ++ P ++ Q) (Q ++ (S ++ P)) rot (turned (S ++ P) Q)
+  round : IsRotation K (p.rest ++ (S ++ p.ahead))
+  round = rotation-trans K (S ++ p.ahead ++ p.rest) (p.rest ++ (S ++ p.ahead)) rot (turned (S ++ p.ahead) p.rest)
 
-  round_ends : Spans (Q ++ (S ++ P)) d c
-  round_ends = Spans-append Q (S ++ P) d a x c hQ (Spans-append S P x e b c hS hP)
+  round_ends : Spans (p.rest ++ (S ++ p.ahead)) d c
+  round_ends = Spans-append p.rest (S ++ p.ahead) d a x c p.is_rest front
 
-  pub after_c : d ≡ nx c
-  after_c = sym (ways.next (Q ++ (S ++ P)) d c round round_ends)
+  in_c : holds others c ≡ true
+  in_c = holds-append p.ahead p.rest c ∙ or_left (holds p.ahead c) (holds p.rest c) (holds-last p.ahead b c p.is_ahead)
 
-  pub before_d : c ≡ pv d
-  before_d = sym (ways.prev (Q ++ (S ++ P)) d c round round_ends)
+  in_d : holds others d ≡ true
+  in_d = holds-append p.ahead p.rest d ∙ or_right (holds p.ahead d) (holds p.rest d) (holds-first p.rest d a p.is_rest)
 
-  apart : Apart S (P ++ Q)
-  apart = (distinct-parts S (P ++ Q) (distinct-rotation K (S ++ (P ++ Q)) split ways.distinct)).2
+  -- the two neighbours where what is left is cut
+  along : (holds others c ≡ true) × (holds others d ≡ true) × (d ≡ nx c)
+  along = (in_c, in_d, sym (ways.next (p.rest ++ (S ++ p.ahead)) d c round round_ends))
 
-  pub in_c : holds (P ++ Q) c ≡ true
-  in_c = holds-append P Q c ∙ or_left (holds P c) (holds Q c) (holds-last P b c hP)
+  against : (holds others d ≡ true) × (holds others c ≡ true) × (c ≡ pv d)
+  against = (in_d, in_c, sym (ways.prev (p.rest ++ (S ++ p.ahead)) d c round round_ends))
 
-  pub in_d : holds (P ++ Q) d ≡ true
-  in_d = holds-append P Q d ∙ or_right (holds P d) (holds Q d) (holds-first Q d a hQ)
+  apart : Apart S others
+  apart = (distinct-parts S others (distinct-rotation K (S ++ others) split ways.distinct)).2
 
-  size : length K ≡ length S + length P + length Q
-  size = omega (arith, length-rotation K (S ++ P ++ Q) rot, length-append (S ++ P) Q, length-append S P)
+  size : length S + 2 ≤ length K
+  size =
+      omega (
+        arith,
+        length-rotation K (S ++ p.ahead ++ p.rest) rot,
+        length-append (S ++ p.ahead) p.rest,
+        length-append S p.ahead,
+        positive p.ahead b c p.is_ahead,
+        positive p.rest d a p.is_rest,
+      )
 
   steps_inside : (us : List ℕ) (u v : ℕ) (vs : List ℕ) → S ≡ us ++ u ∷ v ∷ vs → nx u ≡ v
   steps_inside us u v vs h =
-      step_in K us (vs ++ (P ++ Q)) nx pv u v ways
-      (subst (λ z. IsRotation K z) (ap (λ z. z ++ (P ++ Q)) h ∙ append_assoc us (u ∷ v ∷ vs) (P ++ Q)) split)
+      step_in ways us (vs ++ others) u v
+      (subst (λ z. IsRotation K z) (ap (λ z. z ++ others) h ∙ append_assoc us (u ∷ v ∷ vs) others) split)
 
   shape : (T : List ℕ) → S ≡ T → Spans T x e → IsOne nx K x e b ⊎ (IsTwo nx K m x e b ⊎ IsThree nx K m S x e b)
   shape [] h s = absurd s
   shape (x1 ∷ []) h s = let k : e ≡ x = sym s.1 ∙ s.0 in
-      inl (k, ap nx (sym k) ∙ after_e, omega (arith, size, ap length h, positive P b c hP, positive Q d a hQ))
+      inl (k, ap nx (sym k) ∙ after_e, omega (arith, size, ap length h))
   shape (x1 ∷ u ∷ []) h s =
       let k : nx x ≡ e = ap nx (sym s.0) ∙ steps_inside [] x1 u [] h ∙ s.1 in
-      inr (inl (
-        k,
-        ap nx k ∙ after_e,
-        omega (arith, size, ap length h, positive P b c hP, positive Q d a hQ),
-        omega (arith, short, ap length h),
-      ))
+      inr (inl (k, ap nx k ∙ after_e, omega (arith, size, ap length h), omega (arith, p.short, ap length h)))
   shape (x1 ∷ u ∷ v ∷ []) h s =
       let j : nx x ≡ u = ap nx (sym s.0) ∙ steps_inside [] x1 u (v ∷ []) h in
       let k : nx (nx x) ≡ e = ap nx j ∙ steps_inside (x1 ∷ []) u v [] h ∙ s.1 in
@@ -276,148 +240,109 @@ module _ (K : List ℕ) (nx pv : ℕ → ℕ) (ways : Ways K nx pv) (m : ℕ) (s
         ap (holds S) j ∙ ap (λ z. holds z u) h
             ∙ or_right (eqb x1 u) (holds (u ∷ v ∷ []) u) (holds-first (u ∷ v ∷ []) u v (refl, refl)),
         k,
-        ap nx k
-            ∙ after_e,
-        omega (arith, size, ap length h, positive P b c hP, positive Q d a hQ),
-        omega (arith, short, ap length h),
+        ap nx k ∙ after_e,
+        omega (arith, size, ap length h),
+        omega (arith, p.short, ap length h),
       ))
-  shape (x1 ∷ u ∷ v ∷ w ∷ T) h s = absurd (omega (arith, short, small, ap length h))
+  shape (x1 ∷ u ∷ v ∷ w ∷ T) h s = absurd (omega (arith, p.short, small, ap length h))
 
-  uncovered : (s : Segment) (z : ℕ) → holds S s.middle ≡ true → s.last ≡ e → holds (P ++ Q) z ≡ true →
+  uncovered : (s : Segment) (z : ℕ) → holds S s.middle ≡ true → s.last ≡ e → holds others z ≡ true →
       covers x s z ≡ false
   uncovered s z h k i =
-      uncover x s.middle s.last z (apart-ne S (P ++ Q) x z apart (holds-first S x e hS) i)
-      (apart-ne S (P ++ Q) s.middle z apart h i)
-      (apart-ne S (P ++ Q) s.last z apart (ap (holds S) k ∙ holds-last S x e hS) i)
+      uncover x s.middle s.last z (apart-ne S others x z apart (holds-first S x e p.is_segment) i)
+      (apart-ne S others s.middle z apart h i)
+      (apart-ne S others s.last z apart (ap (holds S) k ∙ holds-last S x e p.is_segment) i)
 
-  pub listed : (y w ay by a2 b2 : ℕ) (s : Segment) → holds (P ++ Q) y ≡ true → holds (P ++ Q) w ≡ true → (w ≡ ay)
-      ⊎ (w ≡ by) → s.before ≡ a2 → holds S s.middle ≡ true → s.last ≡ e → s.after ≡ b2 →
-      IsListed (or_offers x y ay by s) (Or a2 x e b2 y w)
-  listed y w ay by a2 b2 s hy hw n ha hm he hb =
-      or_listed x y w ay by a2 e b2 s ha he hb (uncovered s y hm he hy) (uncovered s w hm he hw) n
+  abbrev at : ℕ → Segment
+  at i = get_or (all_segments (next_city C) (prev_city C) x) i (segment_of_one (next_city C) (prev_city C) x)
 
-with_or : (C near : List ℕ) (m x y : ℕ) (o : Offer) → holds near y ≡ true →
-    IsListed (flat_map (or_offers x y (next_city C y) (prev_city C y))
-    (segments (next_city C) (prev_city C) (length C) m x)) o → IsListed (offers C m near x) o
-with_or C near m x y o h k =
-    listed-near (offers_with (next_city C) (prev_city C) (segments (next_city C) (prev_city C) (length C) m x) x) near y
-    o h (inr (inr k))
-
-module _ (C : List ℕ) (dis : IsDistinct C) (near : List ℕ) (m : ℕ) (small : m ≤ 3) (S P Q : List ℕ) (a x e b c d : ℕ)
-    (hS : Spans S x e) (hP : Spans P b c) (hQ : Spans Q d a) (short : length S ≤ m) (y w : ℕ)
-    (hy : holds (P ++ Q) y ≡ true) (hw : holds (P ++ Q) w ≡ true) (hn : holds near y ≡ true) where
-  abbrev Answer : Type 0
-  Answer = (p : Offer) × IsListed (offers C m near x) p × HasSameSteps p (Or a x e b y w)
-
-  abbrev o1 : Segment
-  o1 = segment_of_one (next_city C) (prev_city C) x
-
-  abbrev o2 : Segment
-  o2 = segment_of_two (next_city C) (prev_city C) x
-
-  abbrev o3 : Segment
-  o3 = segment_of_two (prev_city C) (next_city C) x
-
-  abbrev o4 : Segment
-  o4 = segment_of_three (next_city C) (prev_city C) x
-
-  abbrev o5 : Segment
-  o5 = segment_of_three (prev_city C) (next_city C) x
-
-  abbrev fy : Segment → List Offer
-  fy s = or_offers x y (next_city C y) (prev_city C y) s
-
-  abbrev count : ℕ
-  count = segment_count (length C) m
-
-  ahead : IsRotation C (S ++ P ++ Q) → (w ≡ next_city C y) ⊎ (w ≡ prev_city C y) → Answer
-  ahead rot n =
-      let o = Or a x e b y w in
-      let bx = before_x C (next_city C) (prev_city C) (ways_on C dis) m small S P Q a x e b c d rot hS hP hQ short in
-      let put = listed C (next_city C) (prev_city C) (ways_on C dis) m small S P Q a x e b c d rot hS hP hQ short y w
-      (next_city C y) (prev_city C y) a b in (
-        o,
-        with_or C near m x y o hn
-            (elim (shape C (next_city C) (prev_city C) (ways_on C dis) m small S P Q a x e b c d rot hS hP hQ
-            short S refl hS) [
-              | inl h ↦ at_1 fy o o1 o2 o3 o4 o5 count (count-one (length C) m h.2)
-                  (put o1 hy hw n bx (holds-first S x e hS) (sym h.0) h.1)
-              | inr (inl h) ↦ at_2 fy o o1 o2 o3 o4 o5 count (count-two (length C) m h.2 h.3)
-                  (put o2 hy hw n bx (holds-first S x e hS) h.0 h.1)
-              | inr (inr h) ↦ at_4 fy o o1 o2 o3 o4 o5 count (count-three (length C) m h.3 h.4)
-                  (put o4 hy hw n bx h.0 h.1 h.2)
-            ]),
-        λ f k. (refl, refl),
-      )
-
-  back : IsRotation (reverse C) (S ++ P ++ Q) → (w ≡ next_city C y) ⊎ (w ≡ prev_city C y) → Answer
-  back rot n =
-      let o = Or a x e b y w in
-      let turn = Or b x e a y w in
-      let bx = before_x (reverse C) (prev_city C) (next_city C) (ways_back C dis) m small S P Q a x e b c d rot hS
-      hP hQ short in
-      let put = listed (reverse C) (prev_city C) (next_city C) (ways_back C dis) m small S P Q a x e b c d rot hS hP hQ
-      short y w (next_city C y) (prev_city C y) in
-      elim (shape (reverse C) (prev_city C) (next_city C) (ways_back C dis) m small S P Q a x e b c d rot hS hP hQ
-      short S refl hS) [
-        | inl h ↦ (
-          turn,
-          with_or C near m x y turn hn
-              (at_1 fy turn o1 o2 o3 o4 o5 count (count-one (length C) m (omega (arith, h.2, length-reverse C)))
-              (put b a o1 hy hw n h.1 (holds-first S x e hS) (sym h.0) bx)),
-          λ f k. turn_alone f k h.0,
-        )
-        | inr (inl h) ↦ (
-          o,
-          with_or C near m x y o hn
-              (at_3 fy o o1 o2 o3 o4 o5 count (count-two (length C) m (omega (arith, h.2, length-reverse C)) h.3)
-              (put a b o3 hy hw n bx (holds-first S x e hS) h.0 h.1)),
-          λ f k. (refl, refl),
-        )
-        | inr (inr h) ↦ (
-          o,
-          with_or C near m x y o hn
-              (at_5 fy o o1 o2 o3 o4 o5 count (count-three (length C) m (omega (arith, h.3, length-reverse C)) h.4)
-              (put a b o5 hy hw n bx h.0 h.1 h.2)),
-          λ f k. (refl, refl),
-        )
-      ]
-    where
-      turn_alone : (f : ℕ → ℕ → ℕ) → ((u v : ℕ) → f u v ≡ f v u) → e ≡ x →
-          (removed f (Or b x e a y w) ≡ removed f (Or a x e b y w))
-          × (added f (Or b x e a y w) ≡ added f (Or a x e b y w))
-      turn_alone f k h = (omega (arith, ap (λ z. f z a) h, ap (λ z. f z b) h, k a x, k b x), omega (arith, k a b))
+  module _ (near : List ℕ) (y w : ℕ) (hn : holds near y ≡ true) (beside : AreBeside C others y w) where
+    offered : (i : ℕ) → i < segment_count (length C) m → i < 5 → (a2 b2 : ℕ) → (at i).before ≡ a2 →
+        holds S (at i).middle ≡ true → (at i).last ≡ e → (at i).after ≡ b2 →
+        IsListed (offers C m near x) (Or a2 x e b2 y w)
+    offered i many low a2 b2 ha hm he hb =
+        let o = Or a2 x e b2 y w in
+        let ss = all_segments (next_city C) (prev_city C) x in
+        listed-near (offers_with (next_city C) (prev_city C) (segments (next_city C) (prev_city C) (length C) m x) x)
+        near y o hn (inr (inr (listed_at (or_offers x y (next_city C y) (prev_city C y)) o
+        (segment_count (length C) m) i ss (at 0) many low
+        (or_listed x y w (next_city C y) (prev_city C y) a2 e b2 (at i) ha he hb (uncovered (at i) y hm he beside.0)
+        (uncovered (at i) w hm he beside.1) beside.2))))
 
 module _ (C : List ℕ) (dis : IsDistinct C) (near : List ℕ) (m : ℕ) (small : m ≤ 3) (a x e b y w : ℕ)
     (hn : holds near y ≡ true) where
-  or_first : (D : List ℕ) → Made m (Or a x e b y w) C D → (p : Offer) × IsListed (offers C m near x) p
-      × HasSameSteps p (Or a x e b y w)
-  or_first D (S, (P, (Q, (inl rot, short, hS, inl (hP, hQ, k))))) =
-      ahead C dis near m small S P Q a x e b y w hS hP hQ short y w
-      (in_c C (next_city C) (prev_city C) (ways_on C dis) m small S P Q a x e b y w rot hS hP hQ short)
-      (in_d C (next_city C) (prev_city C) (ways_on C dis) m small S P Q a x e b y w rot hS hP hQ short) hn rot
-      (inl (after_c C (next_city C) (prev_city C) (ways_on C dis) m small S P Q a x e b y w rot hS hP hQ short))
-  or_first D (S, (P, (Q, (inl rot, short, hS, inr (hP, hQ, k))))) =
-      ahead C dis near m small S P Q a x e b w y hS hP hQ short y w
-      (in_d C (next_city C) (prev_city C) (ways_on C dis) m small S P Q a x e b w y rot hS hP hQ short)
-      (in_c C (next_city C) (prev_city C) (ways_on C dis) m small S P Q a x e b w y rot hS hP hQ short) hn rot
-      (inr (before_d C (next_city C) (prev_city C) (ways_on C dis) m small S P Q a x e b w y rot hS hP hQ short))
-  or_first D (S, (P, (Q, (inr rot0, short, hS, inl (hP, hQ, k))))) =
-      let rot = turned_back C (S ++ P ++ Q) rot0 in
-      back C dis near m small S P Q a x e b y w hS hP hQ short y w
-      (in_c (reverse C) (prev_city C) (next_city C) (ways_back C dis) m small S P Q a x e b y w rot hS hP hQ short)
-      (in_d (reverse C) (prev_city C) (next_city C) (ways_back C dis) m small S P Q a x e b y w rot hS hP hQ short)
-      hn rot
-      (inr (after_c (reverse C) (prev_city C) (next_city C) (ways_back C dis) m small S P Q a x e b y w rot hS
-      hP hQ short))
-  or_first D (S, (P, (Q, (inr rot0, short, hS, inr (hP, hQ, k))))) =
-      let rot = turned_back C (S ++ P ++ Q) rot0 in
-      back C dis near m small S P Q a x e b w y hS hP hQ short y w
-      (in_d (reverse C) (prev_city C) (next_city C) (ways_back C dis) m small S P Q a x e b w y rot hS hP hQ short)
-      (in_c (reverse C) (prev_city C) (next_city C) (ways_back C dis) m small S P Q a x e b w y rot hS hP hQ short)
-      hn rot
-      (inl (before_d (reverse C) (prev_city C) (next_city C) (ways_back C dis) m small S P Q a x e b w y rot hS
-      hP hQ short))
+  abbrev Answer : Type 0
+  Answer = (o : Offer) × IsListed (offers C m near x) o × HasSameSteps o (Or a x e b y w)
+
+  module _ {c d : ℕ} (p : Parts m C a x e b c d) (beside : AreBeside C (p.ahead ++ p.rest) y w) where
+    first : holds p.segment x ≡ true
+    first = holds-first p.segment x e p.is_segment
+
+    ahead : IsRotation C (p.segment ++ p.ahead ++ p.rest) → Answer
+    ahead rot =
+        let ways = ways_on C dis in
+        let before = before_x ways small p rot in
+        let put = offered ways small p rot near y w hn beside in (
+          Or a x e b y w,
+          elim (shape ways small p rot p.segment refl p.is_segment) [
+            | inl h ↦ put 0 (count-one (length C) m h.2) (omega arith) a b before first (sym h.0) h.1
+            | inr (inl h) ↦
+                put 1 (omega (arith, count-two (length C) m h.2 h.3)) (omega arith) a b before first h.0 h.1
+            | inr (inr h) ↦
+                put 3 (omega (arith, count-three (length C) m h.3 h.4)) (omega arith) a b before h.0 h.1 h.2
+          ],
+          λ f k. (refl, refl),
+        )
+
+    back : IsRotation (reverse C) (p.segment ++ p.ahead ++ p.rest) → Answer
+    back rot =
+        let ways = ways_back C dis in
+        let before = before_x ways small p rot in
+        let put = offered ways small p rot near y w hn beside in
+        let same : length (reverse C) ≡ length C = length-reverse C in
+        elim (shape ways small p rot p.segment refl p.is_segment) [
+          | inl h ↦ (
+            Or b x e a y w,
+            put 0 (count-one (length C) m (omega (arith, h.2, same))) (omega arith) b a h.1 first (sym h.0) before,
+            λ f k. turn_alone f k h.0,
+          )
+          | inr (inl h) ↦ (
+            Or a x e b y w,
+            put 2 (omega (arith, count-two (length C) m (omega (arith, h.2, same)) h.3)) (omega arith) a b before first
+                h.0 h.1,
+            λ f k. (refl, refl),
+          )
+          | inr (inr h) ↦ (
+            Or a x e b y w,
+            put 4 (omega (arith, count-three (length C) m (omega (arith, h.3, same)) h.4)) (omega arith) a b before h.0
+                h.1 h.2,
+            λ f k. (refl, refl),
+          )
+        ]
+      where
+        turn_alone : (f : ℕ → ℕ → ℕ) → ((u v : ℕ) → f u v ≡ f v u) → e ≡ x →
+            (removed f (Or b x e a y w) ≡ removed f (Or a x e b y w))
+            × (added f (Or b x e a y w) ≡ added f (Or a x e b y w))
+        turn_alone f k h =
+            (omega (arith, ap (λ z. f z a) h, ap (λ z. f z b) h, k a x, k b x), omega (arith, k a b))
+
+  or_first : (D : List ℕ) → Made m (Or a x e b y w) C D → Answer
+  or_first D (inl (p, k)) =
+      elim (p.cycle) [
+        | inl rot ↦ let s = along (ways_on C dis) small p rot in ahead p (s.0, s.1, inl s.2) rot
+        | inr r ↦
+            let rot = turned_back C (p.segment ++ p.ahead ++ p.rest) r in
+            let s = along (ways_back C dis) small p rot in
+            back p (s.0, s.1, inr s.2) rot
+      ]
+  or_first D (inr (p, k)) =
+      elim (p.cycle) [
+        | inl rot ↦ let s = against (ways_on C dis) small p rot in ahead p (s.0, s.1, inr s.2) rot
+        | inr r ↦
+            let rot = turned_back C (p.segment ++ p.ahead ++ p.rest) r in
+            let s = against (ways_back C dis) small p rot in
+            back p (s.0, s.1, inl s.2) rot
+      ]
 
 or_mirror : (a s e b y w : ℕ) (p : Offer) → HasSameSteps p (Or b e s a w y) → HasSameSteps p (Or a s e b y w)
 or_mirror a s e b y w p h =
@@ -442,5 +367,5 @@ complete C near m x dis small o D of makes = complete_made o D of (made_of m o C
         (p : Offer) × IsListed (offers C m (near x) x) p × HasSameSteps p o
     complete_made (Two a b c d) D of made =
         two_complete C m near x a b c d of (two_steps m C a b c d dis (D, made)).0
-        (steps_back C made.0 made.1.0 a b c d made.1.1.0 dis made.1.1.1 made.1.1.2)
+        (steps_back C made.0.kept made.0.turned a b c d made.0.cycle dis made.0.is_kept made.0.is_turned)
     complete_made (Or a s e b y w) D of made = or_complete C dis near m small x a s e b y w D of made

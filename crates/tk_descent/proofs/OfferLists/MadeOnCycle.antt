@@ -1,12 +1,13 @@
 -- Moves made on a cycle: two of its steps exchanged, and a segment put between two neighbours.
-use Rattle.std.proofs.Common.{◌≡◌, ℕ, ◌≤◌, ◌≢◌, true, List, [], ◌∷◌, ◌++◌}
-use Rattle.std.proofs.Common.{length, reverse, refl, sym, ◌∙◌, ap, inl, inr, subst}
-use Rattle.std.proofs.Common.{append_assoc}
+use Rattle.std.proofs.Common.{◌≡◌, ℕ, ◌≤◌, ◌≢◌, true, false, List, [], ◌∷◌, ◌++◌, length, reverse, refl, sym, ◌∙◌, ap}
+use Rattle.std.proofs.Common.{inl, inr, subst, append_assoc}
 use Rattle.tk_tour.specs.Tour.{IsRotation}
-use Rattle.tk_descent.proofs.MovesOnTours.Views.{IsMadeOn}
+use Rattle.tk_descent.proofs.MovesOnTours.Views.{IsMadeOn, Parts}
 use Rattle.tk_descent.proofs.MovesOnTours.Paths.{Spans, last_from}
 use Rattle.tk_distance.specs.Holding.{holds}
+use Rattle.tk_descent.specs.Offers.{covers}
 use Rattle.tk_descent.specs.declared.offer.Offer.TheVariants.{Two, Or}
+use Rattle.tk_descent.specs.declared.offer.Segment.{Segment}
 use Rattle.tk_descent.proofs.Lists.{holds-push_other}
 use Rattle.tk_descent.proofs.MovesOnTours.Length.{Spans-append}
 use Rattle.tk_descent.proofs.MovesOnTours.Steps.{Apart, turned, rotation-trans}
@@ -15,7 +16,17 @@ use Rattle.tk_descent.proofs.MovesOnTours.Steps.{holds-first, holds-last}
 use Rattle.tk_descent.proofs.OfferLists.Ways.{same_cycle, member_split, spans_push, holds-rotation, rotated_to}
 use Rattle.tk_descent.proofs.OfferLists.Ways.{spans_two, last_same, Ways}
 
-module _ (C : List ℕ) (nx pv : ℕ → ℕ) (ways : Ways C nx pv) where
+-- a segment from x, of at most m cities, stands on the cycle, and covers its own cities
+pub record Stands (C : List ℕ) (m x : ℕ) (s : Segment) : Type 0 where
+  pub cities : List ℕ
+  pub rest : List ℕ
+  pub cycle : IsRotation C (cities ++ rest)
+  pub short : length cities ≤ m
+  pub is_segment : Spans cities x s.last
+  pub is_rest : Spans rest s.after s.before
+  pub own : (c : ℕ) → covers x s c ≡ false → holds cities c ≡ false
+
+module _ {C : List ℕ} {nx pv : ℕ → ℕ} (ways : Ways C nx pv) where
   two_of : (m x y : ℕ) (us vs : List ℕ) → IsRotation C ((us ++ y ∷ vs) ++ x ∷ []) → IsMadeOn m (Two x (nx x) y (nx y)) C
   two_of m x y us vs h =
       let A = vs ++ x ∷ [] in
@@ -32,11 +43,14 @@ module _ (C : List ℕ) (nx pv : ℕ → ℕ) (ways : Ways C nx pv) where
       let n2 : p.0 ≡ nx y = sym (ways.next (A ++ B) p.0 y r (Spans-append A B p.0 x q.0 y p.1 q.1)) in (
         A ++ reverse B,
         (
-          A,
-          (
-            B,
-            (inl r, subst (λ z. Spans A z x) n2 p.1, subst (λ z. Spans B z y) n1 q.1, same_cycle (A ++ reverse B)),
-          ),
+          record {
+            kept = A;
+            turned = B;
+            cycle = inl r;
+            is_kept = subst (λ z. Spans A z x) n2 p.1;
+            is_turned = subst (λ z. Spans B z y) n1 q.1;
+          },
+          same_cycle (A ++ reverse B),
         ),
       )
 
@@ -48,79 +62,73 @@ module _ (C : List ℕ) (nx pv : ℕ → ℕ) (ways : Ways C nx pv) where
       let t = member_split E y (sym (holds-push_other E x y ne) ∙ sym (holds-rotation C (E ++ x ∷ []) y r) ∙ hy) in
       two_of m x y t.0 t.1.0 (subst (λ z. IsRotation C (z ++ x ∷ [])) t.1.1 r)
 
-  -- a segment S with the rest R of the cycle, and y with its neighbour w in the rest
-  module _ (m : ℕ) (S R : List ℕ) (x e b a y w : ℕ) (rot : IsRotation C (S ++ R)) (hS : Spans S x e) (hR : Spans R b a)
-      (short : length S ≤ m) (wR : holds R w ≡ true) where
-    apartSR : Apart S R
-    apartSR = (distinct-parts S R (distinct-rotation C (S ++ R) rot ways.distinct)).2
+  -- y with its neighbour w in the rest that a segment leaves
+  module _ {m x : ℕ} {s : Segment} (t : Stands C m x s) (y w : ℕ) (wR : holds t.rest w ≡ true) where
+    abbrev S : List ℕ
+    S = t.cities
 
-    pub or_next : (us vs : List ℕ) → R ≡ us ++ y ∷ vs → w ≡ nx y → IsMadeOn m (Or a x e b y w) C
+    apart : Apart S t.rest
+    apart = (distinct-parts S t.rest (distinct-rotation C (S ++ t.rest) t.cycle ways.distinct)).2
+
+    abbrev parts : (P Q : List ℕ) {c : ℕ} (d : ℕ) → IsRotation C (S ++ P ++ Q) → Spans P s.after c →
+        Spans Q d s.before → Parts m C s.before x s.last s.after c d
+    parts P Q d whole hP hQ = record {
+      segment = S;
+      ahead = P;
+      rest = Q;
+      cycle = inl whole;
+      short = t.short;
+      is_segment = t.is_segment;
+      is_ahead = hP;
+      is_rest = hQ;
+    }
+
+    pub or_next : (us vs : List ℕ) → t.rest ≡ us ++ y ∷ vs → w ≡ nx y →
+        IsMadeOn m (Or s.before x s.last s.after y w) C
     or_next us [] k n =
-        let last : a ≡ y = last_same us y b a (subst (λ z. Spans z b a) k hR) in
-        absurd (apart-ne S R x w apartSR (holds-first S x e hS) wR
-        (sym (n ∙ ap nx (sym last) ∙ ways.next (S ++ R) x a rot (Spans-append S R x e b a hS hR))))
+        let last : s.before ≡ y = last_same us y s.after s.before (subst (λ z. Spans z s.after s.before) k t.is_rest) in
+        absurd (apart-ne S t.rest x w apart (holds-first S x s.last t.is_segment) wR
+        (sym (n ∙ ap nx (sym last) ∙ ways.next (S ++ t.rest) x s.before t.cycle
+        (Spans-append S t.rest x s.last s.after s.before t.is_segment t.is_rest))))
     or_next us (r ∷ vs) k n =
         let P = us ++ y ∷ [] in
         let Q = r ∷ vs in
-        let cut : R ≡ P ++ Q = k ∙ sym (append_assoc us (y ∷ []) Q) in
+        let cut : t.rest ≡ P ++ Q = k ∙ sym (append_assoc us (y ∷ []) Q) in
         let p = spans_push us y in
-        let ends = spans_two P Q p.0 y r (last_from r vs) b a p.1 (refl, refl) (subst (λ z. Spans z b a) cut hR) in
+        let ends = spans_two P Q p.0 y r (last_from r vs) s.after s.before p.1 (refl, refl)
+        (subst (λ z. Spans z s.after s.before) cut t.is_rest) in
         let whole : IsRotation C (S ++ P ++ Q) =
-        subst (λ z. IsRotation C z) (ap (λ z. S ++ z) cut ∙ sym (append_assoc S P Q)) rot in
+        subst (λ z. IsRotation C z) (ap (λ z. S ++ z) cut ∙ sym (append_assoc S P Q)) t.cycle in
         let next : nx y ≡ r =
         ways.next (Q ++ (S ++ P)) r y (rotation-trans C (S ++ P ++ Q) (Q ++ (S ++ P)) whole (turned (S ++ P) Q))
-        (Spans-append Q (S ++ P) r (last_from r vs) x y (refl, refl) (Spans-append S P x e p.0 y hS p.1)) in (
+        (Spans-append Q (S ++ P) r (last_from r vs) x y (refl, refl)
+        (Spans-append S P x s.last p.0 y t.is_segment p.1)) in (
           P ++ S ++ Q,
-          (
-            S,
-            (
-              P,
-              (
-                Q,
-                (
-                  inl whole,
-                  short,
-                  hS,
-                  inl (subst (λ z. Spans P z y) ends.0 p.1, (sym (n ∙ next), ends.1), same_cycle (P ++ S ++ Q)),
-                ),
-              ),
-            ),
-          ),
+          inl (parts P Q w whole (subst (λ z. Spans P z y) ends.0 p.1) (sym (n ∙ next), ends.1),
+              same_cycle (P ++ S ++ Q)),
         )
 
-    pub or_prev : (us vs : List ℕ) → R ≡ us ++ y ∷ vs → w ≡ pv y → IsMadeOn m (Or a x e b y w) C
+    pub or_prev : (us vs : List ℕ) → t.rest ≡ us ++ y ∷ vs → w ≡ pv y →
+        IsMadeOn m (Or s.before x s.last s.after y w) C
     or_prev [] vs k n =
-        let first : b ≡ y = sym (subst (λ z. Spans z b a) k hR).0 in
-        absurd (apart-ne S R e w apartSR (holds-last S x e hS) wR
+        let first : s.after ≡ y = sym (subst (λ z. Spans z s.after s.before) k t.is_rest).0 in
+        absurd (apart-ne S t.rest s.last w apart (holds-last S x s.last t.is_segment) wR
         (sym (n ∙ ap pv (sym first)
-        ∙ ways.prev (R ++ S) b e (rotation-trans C (S ++ R) (R ++ S) rot (turned S R))
-        (Spans-append R S b a x e hR hS))))
+        ∙ ways.prev (t.rest ++ S) s.after s.last
+        (rotation-trans C (S ++ t.rest) (t.rest ++ S) t.cycle (turned S t.rest))
+        (Spans-append t.rest S s.after s.before x s.last t.is_rest t.is_segment))))
     or_prev (u ∷ us) vs k n =
         let P = u ∷ us in
         let Q = y ∷ vs in
-        let ends = spans_two P Q u (last_from u us) y (last_from y vs) b a (refl, refl) (refl, refl)
-        (subst (λ z. Spans z b a) k hR) in
+        let ends = spans_two P Q u (last_from u us) y (last_from y vs) s.after s.before (refl, refl) (refl, refl)
+        (subst (λ z. Spans z s.after s.before) k t.is_rest) in
         let whole : IsRotation C (S ++ P ++ Q) =
-        subst (λ z. IsRotation C z) (ap (λ z. S ++ z) k ∙ sym (append_assoc S P Q)) rot in
+        subst (λ z. IsRotation C z) (ap (λ z. S ++ z) k ∙ sym (append_assoc S P Q)) t.cycle in
         let prev : pv y ≡ last_from u us =
         ways.prev (Q ++ (S ++ P)) y (last_from u us)
         (rotation-trans C (S ++ P ++ Q) (Q ++ (S ++ P)) whole (turned (S ++ P) Q))
         (Spans-append Q (S ++ P) y (last_from y vs) x (last_from u us) (refl, refl)
-        (Spans-append S P x e u (last_from u us) hS (refl, refl))) in (
+        (Spans-append S P x s.last u (last_from u us) t.is_segment (refl, refl))) in (
           P ++ reverse S ++ Q,
-          (
-            S,
-            (
-              P,
-              (
-                Q,
-                (
-                  inl whole,
-                  short,
-                  hS,
-                  inr ((ends.0, sym (n ∙ prev)), (refl, ends.1), same_cycle (P ++ reverse S ++ Q)),
-                ),
-              ),
-            ),
-          ),
+          inr (parts P Q y whole (ends.0, sym (n ∙ prev)) (refl, ends.1), same_cycle (P ++ reverse S ++ Q)),
         )

@@ -1,31 +1,31 @@
 -- Each offer of the list is one on the cycle.
 use Rattle.std.proofs.Common.{◌≡◌, ℕ, suc, ◌<◌, ◌≤◌, ◌≢◌, ◌⊎◌, Bool, true, false, cond, ◌||◌, eqb, List, [], ◌∷◌, ◌++◌}
 use Rattle.std.proofs.Common.{length, reverse, Option, Some, refl, sym, ◌∙◌, ap, arith, inl, inr, subst, ◌&&◌, leb}
-use Rattle.std.proofs.Common.{take, flat_map, slice_index, length-append}
-use Rattle.std.proofs.lemmas.Bool.{or_parts, or_from, and_parts, leb-true, eqb-false, ne_eqb}
-use Rattle.std.proofs.lemmas.List.{reverse-reverse}
+use Rattle.std.proofs.Common.{take, flat_map, slice_index}
+use Rattle.std.proofs.lemmas.Bool.{or_parts, and_parts, leb-true, eqb-false, ne_eqb}
+use Rattle.std.proofs.lemmas.List.{reverse-reverse, length-reverse}
 use Rattle.std.specs.List.{All}
 use Rattle.std.proofs.lemmas.List.Elements.{All-cons, All-nil}
 use Rattle.tk_near.specs.Near.{IsOther}
 use Rattle.tk_descent.specs.Machine.{IsOfferOn}
 use Rattle.tk_tour.specs.Tour.{IsRotation, SameCycle, next_city, prev_city}
-use Rattle.tk_descent.proofs.MovesOnTours.Views.{IsMadeOn, offer_on}
+use Rattle.tk_descent.proofs.MovesOnTours.Views.{IsMadeOn, Parts, offer_on}
 use Rattle.tk_descent.proofs.MovesOnTours.Paths.{Spans, last_from, IsRound}
 use Rattle.tk_distance.specs.Holding.{IsDistinct, holds}
 use Rattle.tk_descent.specs.Offers.{first_gain, improves, covers, segment_of_one, segment_of_two, segment_of_three}
 use Rattle.tk_descent.specs.Offers.{all_segments, segments, or_offer, or_offers, offers_with, offers, EndsIn}
+use Rattle.tk_descent.specs.Offers.{IsSegmentIn}
 use Rattle.tk_distance.specs.Cities.{IsCity}
 use Rattle.tk_descent.specs.declared.offer.Segment.{Segment}
 use Rattle.tk_descent.specs.declared.offer.Offer.{Offer}
 use Rattle.tk_descent.specs.declared.offer.Offer.TheVariants.{Two, Or}
 use Rattle.tk_descent.proofs.Lists.{holds-append}
 use Rattle.tk_descent.proofs.MovesOnTours.Length.{Spans-append}
-use Rattle.tk_descent.proofs.OfferLists.Made.{length-reverse}
 use Rattle.tk_descent.proofs.MovesOnTours.Steps.{turned, rotation-trans, rotation-reverse, turned_back}
-use Rattle.tk_descent.proofs.MovesOnTours.Steps.{holds-first, holds-reverse}
-use Rattle.tk_descent.proofs.OfferLists.MadeOnCycle.{two_on, or_next, or_prev}
+use Rattle.tk_descent.proofs.MovesOnTours.Steps.{holds-first, holds-reverse, length-rotation}
+use Rattle.tk_descent.proofs.OfferLists.MadeOnCycle.{Stands, two_on, or_next, or_prev}
 use Rattle.tk_descent.proofs.OfferLists.Ways.{member_split, spans_push, holds-rotation, rotated_to}
-use Rattle.tk_descent.proofs.OfferLists.Ways.{Ways, ways_on, ways_back}
+use Rattle.tk_descent.proofs.OfferLists.Ways.{Ways, ways_on, ways_back, starts, step_in}
 
 -- from the cycle the other way round
 back_cycle : (C X : List ℕ) → SameCycle (reverse C) X → SameCycle C X
@@ -33,12 +33,46 @@ back_cycle C X (inl h) =
     inr (subst (λ z. IsRotation z (reverse X)) (reverse-reverse C) (rotation-reverse (reverse C) X h))
 back_cycle C X (inr h) = inl (subst (λ z. IsRotation z X) (reverse-reverse C) (turned_back (reverse C) X h))
 
-back_on : (m : ℕ) (o : Offer) (C : List ℕ) → IsMadeOn m o (reverse C) → IsMadeOn m o C
-back_on m (Two a b c d) C (D, (A, (B, (h, hA, hB, k)))) = (D, (A, (B, (back_cycle C (A ++ B) h, hA, hB, k))))
-back_on m (Or a x e b y w) C (D, (S, (P, (Q, (h, short, hS, rest))))) =
-    (D, (S, (P, (Q, (back_cycle C (S ++ P ++ Q) h, short, hS, rest)))))
+abbrev back_parts : {m : ℕ} {C : List ℕ} {a x e b c d : ℕ} → Parts m (reverse C) a x e b c d → Parts m C a x e b c d
+back_parts {C = C} p = record {
+  segment = p.segment;
+  ahead = p.ahead;
+  rest = p.rest;
+  cycle = back_cycle C (p.segment ++ p.ahead ++ p.rest) p.cycle;
+  short = p.short;
+  is_segment = p.is_segment;
+  is_ahead = p.is_ahead;
+  is_rest = p.is_rest;
+}
 
-module _ (C : List ℕ) (nx pv : ℕ → ℕ) (ways : Ways C nx pv) where
+back_on : (m : ℕ) (o : Offer) (C : List ℕ) → IsMadeOn m o (reverse C) → IsMadeOn m o C
+back_on m (Two a b c d) C (D, (h, k)) = (
+  D,
+  (
+    record {
+      kept = h.kept;
+      turned = h.turned;
+      cycle = back_cycle C (h.kept ++ h.turned) h.cycle;
+      is_kept = h.is_kept;
+      is_turned = h.is_turned;
+    },
+    k,
+  ),
+)
+back_on m (Or a x e b y w) C (D, inl (p, k)) = (D, inl (back_parts p, k))
+back_on m (Or a x e b y w) C (D, inr (p, k)) = (D, inr (back_parts p, k))
+
+eqb-swap : (a b : ℕ) → eqb a b ≡ false → eqb b a ≡ false
+eqb-swap a b h = ne_eqb b a (λ e. eqb-false a b h (sym e))
+
+uncovered : (x u v c : ℕ) → ((eqb c x || eqb c u) || eqb c v) ≡ false → (eqb x c ≡ false) × (eqb u c ≡ false)
+    × (eqb v c ≡ false)
+uncovered x u v c h =
+    let p : ((eqb c x || eqb c u) ≡ false) × (eqb c v ≡ false) = or_parts (eqb c x || eqb c u) (eqb c v) h in
+    let q : (eqb c x ≡ false) × (eqb c u ≡ false) = or_parts (eqb c x) (eqb c u) p.0 in
+    (eqb-swap c x q.0, eqb-swap c u q.1, eqb-swap c v p.1)
+
+module _ {C : List ℕ} {nx pv : ℕ → ℕ} (ways : Ways C nx pv) where
   pub next_member : (y : ℕ) → holds C y ≡ true → holds C (nx y) ≡ true
   next_member y h =
       let s = member_split C y h in
@@ -47,82 +81,64 @@ module _ (C : List ℕ) (nx pv : ℕ → ℕ) (ways : Ways C nx pv) where
       subst (λ z. holds C z ≡ true) (sym (ways.next ((s.1.0 ++ s.0) ++ y ∷ []) p.0 y r p.1))
       (holds-rotation C ((s.1.0 ++ s.0) ++ y ∷ []) p.0 r ∙ holds-first ((s.1.0 ++ s.0) ++ y ∷ []) p.0 y p.1)
 
-  starts : (x : ℕ) → holds C x ≡ true → (E : List ℕ) × IsRotation C (x ∷ E)
-  starts x h = let s = member_split C x h in
-      (s.1.0 ++ s.0, record { front = s.0; back = x ∷ s.1.0; before = s.1.1; after = refl })
+  -- an Or-offer of a segment, with the cities beside it
+  or_dir : {m x : ℕ} {s : Segment} → Stands C m x s → (y w : ℕ) → holds C y ≡ true → holds C w ≡ true →
+      (w ≡ nx y) ⊎ (w ≡ pv y) → covers x s y ≡ false → covers x s w ≡ false →
+      IsMadeOn m (Or s.before x s.last s.after y w) C
+  or_dir t y w hy hw n cy cw =
+      let rest : (c : ℕ) → holds C c ≡ true → holds t.cities c ≡ false → holds t.rest c ≡ true = λ c h no.
+      ap (λ z. z || holds t.rest c) (sym no) ∙ sym (holds-append t.cities t.rest c)
+      ∙ sym (holds-rotation C (t.cities ++ t.rest) c t.cycle) ∙ h in
+      let at = rest w hw (t.own w cw) in
+      let v = member_split t.rest y (rest y hy (t.own y cy)) in
+      elim n [
+        | inl f ↦ or_next ways t y w at v.0 v.1.0 v.1.1 f
+        | inr f ↦ or_prev ways t y w at v.0 v.1.0 v.1.1 f
+      ]
 
-  -- an Or-offer of a segment S, with the cities beside it
-  or_dir : (m : ℕ) (S R : List ℕ) (x e b a y w : ℕ) → IsRotation C (S ++ R) → Spans S x e → Spans R b a → length S ≤ m →
-      holds R y ≡ true → holds R w ≡ true →
-      (w ≡ nx y) ⊎ (w ≡ pv y) → IsMadeOn m (Or (pv x) x e (nx e) y w) C
-  or_dir m S R x e b a y w rot hS hR short yR wR n =
-      let bb : nx e ≡ b = ways.next (R ++ S) b e (rotation-trans C (S ++ R) (R ++ S) rot (turned S R))
-      (Spans-append R S b a x e hR hS) in
-      let aa : pv x ≡ a = ways.prev (S ++ R) x a rot (Spans-append S R x e b a hS hR) in
-      let s = member_split R y yR in
-      subst (λ z. IsMadeOn m (Or z x e (nx e) y w) C) (sym aa) (subst (λ z. IsMadeOn m (Or a x e z y w) C) (sym bb)
-      (elim n [
-        | inl f ↦ or_next C nx pv ways m S R x e b a y w rot hS hR short wR s.0 s.1.0 s.1.1 f
-        | inr f ↦ or_prev C
-            nx pv ways m S R x e b a y w rot hS hR short wR s.0 s.1.0 s.1.1 f
-      ]))
+  stand : (m x middle last : ℕ) (S : List ℕ) (b : ℕ) (E : List ℕ) → IsRotation C (S ++ b ∷ E) → Spans S x last →
+      length S ≤ m → ((c : ℕ) → (eqb x c ≡ false) × (eqb middle c ≡ false) × (eqb last c ≡ false) → holds S c ≡ false) →
+      Stands C m x (record { before = pv x; middle = middle; last = last; after = nx last })
+  stand m x middle last S b E r hS short own =
+      let R = b ∷ E in
+      let a = last_from b E in
+      record {
+        cities = S;
+        rest = R;
+        cycle = r;
+        short = short;
+        is_segment = hS;
+        is_rest = (
+          sym (ways.next (R ++ S) b last (rotation-trans C (S ++ R) (R ++ S) r (turned S R))
+              (Spans-append R S b a x last (refl, refl) hS)),
+          sym (ways.prev (S ++ R) x a r (Spans-append S R x last b a hS (refl, refl))),
+        );
+        own = λ c h. own c (uncovered x middle last c h);
+      }
 
-  in_rest : (S R : List ℕ) (y : ℕ) → IsRotation C (S ++ R) → holds C y ≡ true → holds S y ≡ false → holds R y ≡ true
-  in_rest S R y rot h no' = ap (λ z. z || holds R y) (sym no') ∙ sym (holds-append S R y)
-      ∙ sym (holds-rotation C (S ++ R) y rot) ∙ h
+  -- the segments of one, two and three cities from x on
+  module _ (m x : ℕ) where
+    one_at : (E : List ℕ) × IsRotation C (x ∷ E) → 1 ≤ m → 3 ≤ length C → Stands C m x (segment_of_one nx pv x)
+    one_at (b ∷ E, r) low big = stand m x x x (x ∷ []) b E r (refl, refl) (omega arith) (λ c h. rw h.0)
+    one_at (E, r) low big = absurd (omega (arith, length-rotation C (x ∷ E) r))
 
-  length-rotation : (X : List ℕ) → IsRotation C X → length X ≡ length C
-  length-rotation X h =
-      omega (arith, ap length h.before, ap length h.after, length-append h.front h.back, length-append h.back h.front)
+    two_at : (E : List ℕ) × IsRotation C (x ∷ E) → 2 ≤ m → 4 ≤ length C → Stands C m x (segment_of_two nx pv x)
+    two_at (b ∷ c ∷ E, r) low big =
+        let k = step_in ways [] (c ∷ E) x b r in
+        stand m x x (nx x) (x ∷ nx x ∷ []) c E (subst (λ z. IsRotation C (x ∷ z ∷ c ∷ E)) (sym k) r) (refl, refl)
+        (omega arith) (λ c h. rw (h.0, h.2))
+    two_at (E, r) low big = absurd (omega (arith, length-rotation C (x ∷ E) r))
 
-  -- what a segment of one, two or three cities needs
-  module _ (m x y w : ℕ) (hy : holds C y ≡ true) (hw : holds C w ≡ true) (n : (w ≡ nx y) ⊎ (w ≡ pv y)) where
-    one_at : (E : List ℕ) → IsRotation C (x ∷ E) → 1 ≤ m → 3 ≤ length C → holds (x ∷ []) y ≡ false →
-        holds (x ∷ []) w ≡ false → IsMadeOn m (Or (pv x) x x (nx x) y w) C
-    one_at [] r low big ny nw = absurd (omega (arith, length-rotation (x ∷ []) r))
-    one_at (b ∷ E) r low big ny nw = or_dir m (x ∷ []) (b ∷ E) x x b (last_from b E) y w r (refl, refl) (refl, refl)
-        (omega arith) (in_rest (x ∷ []) (b ∷ E) y r hy ny) (in_rest (x ∷ []) (b ∷ E) w r hw nw) n
-
-    -- the second city of a rotation is the next
-    second : (b : ℕ) (E : List ℕ) → IsRotation C (x ∷ b ∷ E) → nx x ≡ b
-    second b E r =
-        ways.next ((b ∷ E) ++ x ∷ []) b x (rotation-trans C (x ∷ b ∷ E) ((b ∷ E) ++ x ∷ []) r (turned (x ∷ []) (b ∷ E)))
-        (Spans-append (b ∷ E) (x ∷ []) b (last_from b E) x x (refl, refl) (refl, refl))
-
-    two_at : (E : List ℕ) → IsRotation C (x ∷ E) → 2 ≤ m → 4 ≤ length C → holds (x ∷ nx x ∷ []) y ≡ false →
-        holds (x ∷ nx x ∷ []) w ≡ false → IsMadeOn m (Or (pv x) x (nx x) (nx (nx x)) y w) C
-    two_at [] r low big ny nw = absurd (omega (arith, length-rotation (x ∷ []) r))
-    two_at (b ∷ []) r low big ny nw = absurd (omega (arith, length-rotation (x ∷ b ∷ []) r))
-    two_at (b ∷ c ∷ E) r low big ny nw =
-        let k = second b (c ∷ E) r in
-        let ny2 : holds (x ∷ b ∷ []) y ≡ false = subst (λ z. holds (x ∷ z ∷ []) y ≡ false) k ny in
-        let nw2 : holds (x ∷ b ∷ []) w ≡ false = subst (λ z. holds (x ∷ z ∷ []) w ≡ false) k nw in
-        subst (λ z. IsMadeOn m (Or (pv x) x z (nx z) y w) C) (sym k)
-        (or_dir m (x ∷ b ∷ []) (c ∷ E) x b c (last_from c E) y w r (refl, refl) (refl, refl) (omega arith)
-        (in_rest (x ∷ b ∷ []) (c ∷ E) y r hy ny2) (in_rest (x ∷ b ∷ []) (c ∷ E) w r hw nw2) n)
-
-    third : (b c : ℕ) (E : List ℕ) → IsRotation C (x ∷ b ∷ c ∷ E) → nx b ≡ c
-    third b c E r =
-        ways.next ((c ∷ E) ++ x ∷ b ∷ []) c b
-        (rotation-trans C (x ∷ b ∷ c ∷ E) ((c ∷ E) ++ x ∷ b ∷ []) r (turned (x ∷ b ∷ []) (c ∷ E)))
-        (Spans-append (c ∷ E) (x ∷ b ∷ []) c (last_from c E) x b (refl, refl) (refl, refl))
-
-    three_at : (E : List ℕ) → IsRotation C (x ∷ E) → 3 ≤ m → 5 ≤ length C → (x1 x2 : ℕ) → x1 ≡ nx x → x2 ≡ nx x1 →
-        holds (x ∷ x1 ∷ x2 ∷ []) y ≡ false → holds (x ∷ x1 ∷ x2 ∷ []) w ≡ false →
-        IsMadeOn m (Or (pv x) x x2 (nx x2) y w) C
-    three_at [] r low big x1 x2 h1 h2 ny nw = absurd (omega (arith, length-rotation (x ∷ []) r))
-    three_at (b ∷ []) r low big x1 x2 h1 h2 ny nw = absurd (omega (arith, length-rotation (x ∷ b ∷ []) r))
-    three_at (b ∷ c ∷ []) r low big x1 x2 h1 h2 ny nw = absurd (omega (arith, length-rotation (x ∷ b ∷ c ∷ []) r))
-    three_at (b ∷ c ∷ f ∷ E) r low big x1 x2 h1 h2 ny nw =
-        let k1 : x1 ≡ b = h1 ∙ second b (c ∷ f ∷ E) r in
-        let k2 : x2 ≡ c = h2 ∙ ap nx k1 ∙ third b c (f ∷ E) r in
-        let ny2 : holds (x ∷ b ∷ c ∷ []) y ≡ false =
-        subst (λ z. holds (x ∷ z ∷ c ∷ []) y ≡ false) k1 (subst (λ z. holds (x ∷ x1 ∷ z ∷ []) y ≡ false) k2 ny) in
-        let nw2 : holds (x ∷ b ∷ c ∷ []) w ≡ false =
-        subst (λ z. holds (x ∷ z ∷ c ∷ []) w ≡ false) k1 (subst (λ z. holds (x ∷ x1 ∷ z ∷ []) w ≡ false) k2 nw) in
-        subst (λ z. IsMadeOn m (Or (pv x) x z (nx z) y w) C) (sym k2)
-        (or_dir m (x ∷ b ∷ c ∷ []) (f ∷ E) x c f (last_from f E) y w r (refl, refl) (refl, refl) (omega arith)
-        (in_rest (x ∷ b ∷ c ∷ []) (f ∷ E) y r hy ny2) (in_rest (x ∷ b ∷ c ∷ []) (f ∷ E) w r hw nw2) n)
+    three_at : (E : List ℕ) × IsRotation C (x ∷ E) → 3 ≤ m → 5 ≤ length C →
+        Stands C m x (segment_of_three nx pv x)
+    three_at (b ∷ c ∷ f ∷ E, r) low big =
+        let k = step_in ways [] (c ∷ f ∷ E) x b r in
+        let l = step_in ways (x ∷ []) (f ∷ E) b c r in
+        stand m x (nx x) (nx (nx x)) (x ∷ nx x ∷ nx (nx x) ∷ []) f E
+        (subst (λ z. IsRotation C (x ∷ z ∷ nx z ∷ f ∷ E)) (sym k)
+        (subst (λ z. IsRotation C (x ∷ b ∷ z ∷ f ∷ E)) (sym l) r)) (refl, refl) (omega arith)
+        (λ c h. rw (h.0, h.1, h.2))
+    three_at (E, r) low big = absurd (omega (arith, length-rotation C (x ∷ E) r))
 
 abbrev pub Each : (Offer → Type 0) → List Offer → Type 0
 Each F [] = Unit {0}
@@ -158,51 +174,6 @@ each_or F x y s w h = each_cond F (covers x s y || covers x s w) (Or s.before x 
     (λ e. let p : (covers x s y ≡ false) × (covers x s w ≡ false) = or_parts (covers x s y) (covers x s
     w) e in h p.0 p.1)
 
-eqb-swap : (a b : ℕ) → eqb a b ≡ false → eqb b a ≡ false
-eqb-swap a b h = ne_eqb b a (λ e. eqb-false a b h (sym e))
-
-uncovered : (x u v c : ℕ) → ((eqb c x || eqb c u) || eqb c v) ≡ false → (eqb x c ≡ false) × (eqb u c ≡ false)
-    × (eqb v c ≡ false)
-uncovered x u v c h =
-    let p : ((eqb c x || eqb c u) ≡ false) × (eqb c v ≡ false) = or_parts (eqb c x || eqb c u) (eqb c v) h in
-    let q : (eqb c x ≡ false) × (eqb c u ≡ false) = or_parts (eqb c x) (eqb c u) p.0 in
-    (eqb-swap c x q.0, eqb-swap c u q.1, eqb-swap c v p.1)
-
-module _ (K : List ℕ) (nx pv : ℕ → ℕ) (ways : Ways K nx pv) (m x y w : ℕ) (hx : holds K x ≡ true)
-    (hy : holds K y ≡ true) (hw : holds K w ≡ true) (n : (w ≡ nx y) ⊎ (w ≡ pv y)) where
-  one_seg : 1 ≤ m → 3 ≤ length K → covers x (segment_of_one nx pv x) y ≡ false →
-      covers x (segment_of_one nx pv x) w ≡ false → IsMadeOn m (Or (pv x) x x (nx x) y w) K
-  one_seg low big cy cw =
-      let s = starts K nx pv ways x hx in
-      one_at K nx pv ways m x y w hy hw n s.0 s.1 low big (or_from (eqb x y) false (uncovered x x x y cy).0 refl)
-      (or_from (eqb x w) false (uncovered x x x w cw).0 refl)
-
-  two_seg : 2 ≤ m → 4 ≤ length K → covers x (segment_of_two nx pv x) y ≡ false →
-      covers x (segment_of_two nx pv x) w ≡ false → IsMadeOn m (Or (pv x) x (nx x) (nx (nx x)) y w) K
-  two_seg low big cy cw =
-      let s = starts K nx pv ways x hx in
-      let v = nx x in
-      let uy = uncovered x x v y cy in
-      let uw = uncovered x x v w cw in
-      two_at K nx pv ways m x y w hy hw n s.0 s.1 low big
-      (or_from (eqb x y) (eqb v y || false) uy.0 (or_from (eqb v y) false uy.2 refl))
-      (or_from (eqb x w) (eqb v w || false) uw.0 (or_from (eqb v w) false uw.2 refl))
-
-  three_seg : 3 ≤ m → 5 ≤ length K → covers x (segment_of_three nx pv x) y ≡ false →
-      covers x (segment_of_three nx pv x) w ≡ false →
-      IsMadeOn m (Or (pv x) x (nx (nx x)) (nx (nx (nx x))) y w) K
-  three_seg low big cy cw =
-      let s = starts K nx pv ways x hx in
-      let u = nx x in
-      let v = nx u in
-      let uy = uncovered x u v y cy in
-      let uw = uncovered x u v w cw in
-      three_at K nx pv ways m x y w hy hw n s.0 s.1 low big u v refl refl
-      (or_from (eqb x y) (eqb u y || (eqb v y || false)) uy.0
-      (or_from (eqb u y) (eqb v y || false) uy.1 (or_from (eqb v y) false uy.2 refl)))
-      (or_from (eqb x w) (eqb u w || (eqb v w || false)) uw.0
-      (or_from (eqb u w) (eqb v w || false) uw.1 (or_from (eqb v w) false uw.2 refl)))
-
 abbrev OnCycle : List ℕ → ℕ → Offer → Type 0
 OnCycle C m o = IsMadeOn m o C × EndsIn (length C) o
 
@@ -212,180 +183,137 @@ module _ (C : List ℕ) (m x y : ℕ) (tour : IsRound C) (low : 1 ≤ m) (hx : h
   dis : IsDistinct C
   dis = tour.distinct
 
+  abbrev nx : ℕ → ℕ
+  nx = next_city C
+
+  abbrev pv : ℕ → ℕ
+  pv = prev_city C
+
   in_range : (c : ℕ) → holds C c ≡ true → IsCity (length C) c
   in_range c h = (tour.members c).0 h
 
-  nm : (c : ℕ) → holds C c ≡ true → holds C (next_city C c) ≡ true
-  nm c h = next_member C (next_city C) (prev_city C) (ways_on C dis) c h
+  nm : (c : ℕ) → holds C c ≡ true → holds C (nx c) ≡ true
+  nm c h = next_member (ways_on C dis) c h
 
-  pm : (c : ℕ) → holds C c ≡ true → holds C (prev_city C c) ≡ true
-  pm c h = sym (holds-reverse C (prev_city C c))
-      ∙ next_member (reverse C) (prev_city C) (next_city C) (ways_back C dis) c (holds-reverse C c ∙ h)
+  pm : (c : ℕ) → holds C c ≡ true → holds C (pv c) ≡ true
+  pm c h = sym (holds-reverse C (pv c)) ∙ next_member (ways_back C dis) c (holds-reverse C c ∙ h)
 
-  Nx : IsCity (length C) (next_city C x)
-  Nx = in_range (next_city C x) (nm x hx)
-
-  Px : IsCity (length C) (prev_city C x)
-  Px = in_range (prev_city C x) (pm x hx)
-
-  NNx : IsCity (length C) (next_city C (next_city C x))
-  NNx = in_range (next_city C (next_city C x)) (nm (next_city C x) (nm x hx))
-
-  PPx : IsCity (length C) (prev_city C (prev_city C x))
-  PPx = in_range (prev_city C (prev_city C x)) (pm (prev_city C x) (pm x hx))
-
-  NNNx : IsCity (length C) (next_city C (next_city C (next_city C x)))
-  NNNx =
-      in_range (next_city C (next_city C (next_city C x)))
-      (nm (next_city C (next_city C x)) (nm (next_city C x) (nm x hx)))
-
-  PPPx : IsCity (length C) (prev_city C (prev_city C (prev_city C x)))
-  PPPx =
-      in_range (prev_city C (prev_city C (prev_city C x)))
-      (pm (prev_city C (prev_city C x)) (pm (prev_city C x) (pm x hx)))
-
-  two_next : OnCycle C m (Two x (next_city C x) y (next_city C y))
+  two_next : OnCycle C m (Two x (nx x) y (nx y))
   two_next = (
-    two_on C (next_city C) (prev_city C) (ways_on C dis) m x y hx hy ne,
-    (in_range x hx, Nx, in_range y hy, in_range (next_city C y) (nm y hy)),
+    two_on (ways_on C dis) m x y hx hy ne,
+    (in_range x hx, in_range (nx x) (nm x hx), in_range y hy, in_range (nx y) (nm y hy)),
   )
 
-  two_prev : OnCycle C m (Two x (prev_city C x) y (prev_city C y))
+  two_prev : OnCycle C m (Two x (pv x) y (pv y))
   two_prev = (
-    back_on m (Two x (prev_city C x) y (prev_city C y)) C
-        (two_on (reverse C) (prev_city C) (next_city C) (ways_back C dis) m x y (holds-reverse C x ∙ hx)
-        (holds-reverse C y ∙ hy) ne),
-    (in_range x hx, Px, in_range y hy, in_range (prev_city C y) (pm y hy)),
+    back_on m (Two x (pv x) y (pv y)) C
+        (two_on (ways_back C dis) m x y (holds-reverse C x ∙ hx) (holds-reverse C y ∙ hy) ne),
+    (in_range x hx, in_range (pv x) (pm x hx), in_range y hy, in_range (pv y) (pm y hy)),
   )
 
-  module _ (w : ℕ) (hw : holds C w ≡ true) (n : (w ≡ next_city C y) ⊎ (w ≡ prev_city C y)) where
-    Rw : IsCity (length C) w
-    Rw = in_range w hw
+  -- the Or-offers of a segment between cities
+  module _ (s : Segment) (in' : IsSegmentIn (length C) s) where
+    both : ((w : ℕ) → holds C w ≡ true → (w ≡ nx y) ⊎ (w ≡ pv y) → covers x s y ≡ false → covers x s w ≡ false →
+        IsMadeOn m (Or s.before x s.last s.after y w) C) → Each (OnCycle C m) (or_offers x y (nx y) (pv y) s)
+    both made =
+        let put : (w : ℕ) → holds C w ≡ true → (w ≡ nx y) ⊎ (w ≡ pv y) → Each (OnCycle C m) (or_offer x y s w) =
+        λ w hw n. each_or (OnCycle C m) x y s w (λ cy cw. (
+          made w hw n cy cw,
+          (in'.0, in_range x hx, in'.1, in'.2, in_range y hy, in_range w hw),
+        )) in
+        each-append (OnCycle C m) (or_offer x y s (nx y)) (or_offer x y s (pv y)) (put (nx y) (nm y hy) (inl refl))
+        (put (pv y) (pm y hy) (inr refl))
 
-    n-back : (w ≡ next_city C y) ⊎ (w ≡ prev_city C y) → (w ≡ prev_city C y) ⊎ (w ≡ next_city C y)
-    n-back (inl e) = inr e
-    n-back (inr e) = inl e
+    ahead : Stands C m x s → Each (OnCycle C m) (or_offers x y (nx y) (pv y) s)
+    ahead t = both (λ w hw n cy cw. or_dir (ways_on C dis) t y w hy hw n cy cw)
 
-    seg1 : 3 ≤ length C → Each (OnCycle C m) (or_offer x y (segment_of_one (next_city C) (prev_city C) x) w)
-    seg1 big =
-        each_or (OnCycle C m) x y (segment_of_one (next_city C) (prev_city C) x) w
-        (λ cy cw. (
-          one_seg C (next_city C) (prev_city C) (ways_on C dis) m x y w hx hy hw n low big cy cw,
-          (Px, in_range x hx, in_range x hx, Nx, in_range y hy, Rw),
-        ))
-
-    seg2 : 2 ≤ m → 4 ≤ length C → Each (OnCycle C m) (or_offer x y (segment_of_two (next_city C) (prev_city C) x) w)
-    seg2 two big =
-        each_or (OnCycle C m) x y (segment_of_two (next_city C) (prev_city C) x) w
-        (λ cy cw. (
-          two_seg C (next_city C) (prev_city C) (ways_on C dis) m x y w hx hy hw n two big cy cw,
-          (Px, in_range x hx, Nx, NNx, in_range y hy, Rw),
-        ))
-
-    seg4 : 3 ≤ m → 5 ≤ length C → Each (OnCycle C m) (or_offer x y (segment_of_three (next_city C) (prev_city C) x) w)
-    seg4 three big = each_or (OnCycle C m) x y (segment_of_three (next_city C) (prev_city C) x) w
-        (λ cy cw. (
-          three_seg C (next_city C) (prev_city C) (ways_on C dis) m x y w hx hy hw n three big cy cw,
-          (Px, in_range x hx, NNx, NNNx, in_range y hy, Rw),
-        ))
-
-    seg3 : 2 ≤ m → 4 ≤ length C → Each (OnCycle C m) (or_offer x y (segment_of_two (prev_city C) (next_city C) x) w)
-    seg3 two big = each_or (OnCycle C m) x y (segment_of_two (prev_city C) (next_city C) x) w (λ cy cw. (
-      back_on m (Or (next_city C x) x (prev_city C x) (prev_city C (prev_city C x)) y w) C
-          (two_seg (reverse C) (prev_city C) (next_city C) (ways_back C dis) m x y w (holds-reverse C x ∙ hx)
-          (holds-reverse C y ∙ hy) (holds-reverse C w ∙ hw) (n-back n) two (omega (arith, length-reverse C)) cy cw),
-      (Nx, in_range x hx, Px, PPx, in_range y hy, Rw),
-    ))
-
-    seg5 : 3 ≤ m → 5 ≤ length C → Each (OnCycle C m) (or_offer x y (segment_of_three (prev_city C) (next_city C) x) w)
-    seg5 three big = each_or (OnCycle C m) x y (segment_of_three (prev_city C) (next_city C) x) w (λ cy cw. (
-      back_on m (Or (next_city C x) x (prev_city C (prev_city C x)) (prev_city C (prev_city C (prev_city C x))) y w) C
-          (three_seg (reverse C) (prev_city C) (next_city C) (ways_back C dis) m x y w (holds-reverse C x ∙ hx)
-          (holds-reverse C y ∙ hy) (holds-reverse C w ∙ hw) (n-back n) three
-          (omega (arith, length-reverse C)) cy cw),
-      (Nx, in_range x hx, PPx, PPPx, in_range y hy, Rw),
-    ))
-
-  abbrev Ny : ℕ
-  Ny = next_city C y
-
-  abbrev Py : ℕ
-  Py = prev_city C y
-
-  both : (s : Segment) → Each (OnCycle C m) (or_offer x y s Ny) → Each (OnCycle C m) (or_offer x y s Py) →
-      Each (OnCycle C m) (or_offers x y Ny Py s)
-  both s h k = each-append (OnCycle C m) (or_offer x y s Ny) (or_offer x y s Py) h k
-
-  s1 : 3 ≤ length C → Each (OnCycle C m) (or_offers x y Ny Py (segment_of_one (next_city C) (prev_city C) x))
-  s1 big = both (segment_of_one (next_city C) (prev_city C) x) (seg1 Ny (nm y hy) (inl refl) big)
-      (seg1 Py (pm y hy) (inr refl) big)
-
-  s2 : 2 ≤ m → 4 ≤ length C → Each (OnCycle C m) (or_offers x y Ny Py (segment_of_two (next_city C) (prev_city C) x))
-  s2 two big = both (segment_of_two (next_city C) (prev_city C) x) (seg2 Ny (nm y hy) (inl refl) two big)
-      (seg2 Py (pm y hy) (inr refl) two big)
-
-  s3 : 2 ≤ m → 4 ≤ length C → Each (OnCycle C m) (or_offers x y Ny Py (segment_of_two (prev_city C) (next_city C) x))
-  s3 two big = both (segment_of_two (prev_city C) (next_city C) x) (seg3 Ny (nm y hy) (inl refl) two big)
-      (seg3 Py (pm y hy) (inr refl) two big)
-
-  s4 : 3 ≤ m → 5 ≤ length C → Each (OnCycle C m) (or_offers x y Ny Py (segment_of_three (next_city C) (prev_city C) x))
-  s4 three big = both (segment_of_three (next_city C) (prev_city C) x) (seg4 Ny (nm y hy) (inl refl) three big)
-      (seg4 Py (pm y hy) (inr refl) three big)
-
-  s5 : 3 ≤ m → 5 ≤ length C → Each (OnCycle C m) (or_offers x y Ny Py (segment_of_three (prev_city C) (next_city C) x))
-  s5 three big = both (segment_of_three (prev_city C) (next_city C) x) (seg5 Ny (nm y hy) (inl refl) three big)
-      (seg5 Py (pm y hy) (inr refl) three big)
+    back : Stands (reverse C) m x s → Each (OnCycle C m) (or_offers x y (nx y) (pv y) s)
+    back t = both (λ w hw n cy cw.
+        back_on m (Or s.before x s.last s.after y w) C
+        (or_dir (ways_back C dis) t y w (holds-reverse C y ∙ hy) (holds-reverse C w ∙ hw)
+        (elim n [ inl e ↦ inr e | inr e ↦ inl e ]) cy cw))
 
   abbrev f : Segment → List Offer
-  f s = or_offers x y Ny Py s
+  f s = or_offers x y (nx y) (pv y) s
+
+  abbrev e1 : Segment
+  e1 = segment_of_one nx pv x
+
+  abbrev e2 : Segment
+  e2 = segment_of_two nx pv x
+
+  abbrev e3 : Segment
+  e3 = segment_of_two pv nx x
+
+  abbrev e4 : Segment
+  e4 = segment_of_three nx pv x
+
+  abbrev e5 : Segment
+  e5 = segment_of_three pv nx x
+
+  -- the first and the second neighbours, as cities
+  n1 : IsCity (length C) (nx x)
+  n1 = in_range (nx x) (nm x hx)
+
+  p1 : IsCity (length C) (pv x)
+  p1 = in_range (pv x) (pm x hx)
+
+  n2 : IsCity (length C) (nx (nx x))
+  n2 = in_range (nx (nx x)) (nm (nx x) (nm x hx))
+
+  p2 : IsCity (length C) (pv (pv x))
+  p2 = in_range (pv (pv x)) (pm (pv x) (pm x hx))
+
+  s1 : 3 ≤ length C → Each (OnCycle C m) (f e1)
+  s1 big = ahead e1 (p1, in_range x hx, n1) (one_at (ways_on C dis) m x (starts C x hx) low big)
+
+  s2 : 2 ≤ m → 4 ≤ length C → Each (OnCycle C m) (f e2)
+  s2 two big = ahead e2 (p1, n1, n2) (two_at (ways_on C dis) m x (starts C x hx) two big)
+
+  -- the cycle the other way round, from x
+  turned_starts : (E : List ℕ) × IsRotation (reverse C) (x ∷ E)
+  turned_starts = starts (reverse C) x (holds-reverse C x ∙ hx)
+
+  s3 : 2 ≤ m → 4 ≤ length C → Each (OnCycle C m) (f e3)
+  s3 two big = back e3 (n1, p1, p2) (two_at (ways_back C dis) m x turned_starts two (omega (arith, length-reverse C)))
+
+  s4 : 3 ≤ m → 5 ≤ length C → Each (OnCycle C m) (f e4)
+  s4 three big =
+      ahead e4 (p1, n2, in_range (nx (nx (nx x))) (nm (nx (nx x)) (nm (nx x) (nm x hx))))
+      (three_at (ways_on C dis) m x (starts C x hx) three big)
+
+  s5 : 3 ≤ m → 5 ≤ length C → Each (OnCycle C m) (f e5)
+  s5 three big =
+      back e5 (n1, p2, in_range (pv (pv (pv x))) (pm (pv (pv x)) (pm (pv x) (pm x hx))))
+      (three_at (ways_back C dis) m x turned_starts three (omega (arith, length-reverse C)))
 
   by_count : (a b c : Bool) → (a ≡ true → (5 ≤ length C) × (3 ≤ m)) → (b ≡ true → (4 ≤ length C) × (2 ≤ m)) →
       (c ≡ true → 3 ≤ length C) →
-      Each (OnCycle C m)
-      (flat_map f (take (cond a 5 (cond b 3 (cond c 1 0))) (all_segments (next_city C) (prev_city C) x)))
+      Each (OnCycle C m) (flat_map f (take (cond a 5 (cond b 3 (cond c 1 0))) (all_segments nx pv x)))
   by_count true b c ha hb hc =
       let p = ha refl in
-      let l1 : 3 ≤ length C = omega (arith, p.0) in
-      let l2 : 4 ≤ length C = omega (arith, p.0) in
-      let l3 : 2 ≤ m = omega (arith, p.1) in
-      let e2 = segment_of_two (next_city C) (prev_city C) x in
-      let e3 = segment_of_two (prev_city C) (next_city C) x in
-      let e4 = segment_of_three (next_city C) (prev_city C) x in
-      let e5 = segment_of_three (prev_city C) (next_city C) x in
-      each-append (OnCycle C m) (f (segment_of_one (next_city C) (prev_city C) x))
-      (f e2 ++ (f e3 ++ (f e4 ++ (f e5 ++ [])))) (s1 l1)
-      (each-append (OnCycle C m) (f e2) (f e3 ++ (f e4 ++ (f e5 ++ []))) (s2 l3 l2)
-      (each-append (OnCycle C m) (f e3) (f e4 ++ (f e5 ++ [])) (s3 l3 l2)
+      each-append (OnCycle C m) (f e1) (f e2 ++ (f e3 ++ (f e4 ++ (f e5 ++ [])))) (s1 (omega (arith, p.0)))
+      (each-append (OnCycle C m) (f e2) (f e3 ++ (f e4 ++ (f e5 ++ []))) (s2 (omega (arith, p.1)) (omega (arith, p.0)))
+      (each-append (OnCycle C m) (f e3) (f e4 ++ (f e5 ++ [])) (s3 (omega (arith, p.1)) (omega (arith, p.0)))
       (each-append (OnCycle C m) (f e4) (f e5 ++ []) (s4 p.1 p.0)
       (each-append (OnCycle C m) (f e5) [] (s5 p.1 p.0) tt))))
   by_count false true c ha hb hc =
       let p = hb refl in
-      let l1 : 3 ≤ length C = omega (arith, p.0) in
-      let e2 = segment_of_two (next_city C) (prev_city C) x in
-      let e3 = segment_of_two (prev_city C) (next_city C) x in
-      each-append (OnCycle C m) (f (segment_of_one (next_city C) (prev_city C) x)) (f e2 ++ (f e3 ++ [])) (s1 l1)
+      each-append (OnCycle C m) (f e1) (f e2 ++ (f e3 ++ [])) (s1 (omega (arith, p.0)))
       (each-append (OnCycle C m) (f e2) (f e3 ++ []) (s2 p.1 p.0) (each-append (OnCycle C m) (f e3) [] (s3 p.1 p.0) tt))
-  by_count false false true ha hb hc = each-append (OnCycle C m) (f (segment_of_one (next_city C) (prev_city C) x)) []
-      (s1 (hc refl)) tt
+  by_count false false true ha hb hc = each-append (OnCycle C m) (f e1) [] (s1 (hc refl)) tt
   by_count false false false ha hb hc = tt
 
-  pub with_on : Each (OnCycle C m)
-      (offers_with (next_city C) (prev_city C) (segments (next_city C) (prev_city C) (length C) m x) x y)
+  pub with_on : Each (OnCycle C m) (offers_with nx pv (segments nx pv (length C) m x) x y)
   with_on =
-      let n = length C in (
+      let n = length C in
+      let parts : (k l : ℕ) → (leb k n && leb l m) ≡ true → (k ≤ n) × (l ≤ m) = λ k l e.
+      let p : (leb k n ≡ true) × (leb l m ≡ true) = and_parts (leb k n) (leb l m) e in
+      (leb-true k n p.0, leb-true l m p.1) in (
         two_next,
         (
           two_prev,
-          by_count (leb 5 n && leb 3 m) (leb 4 n && leb 2 m) (leb 3 n)
-              (λ e. let p : (leb 5 n ≡ true) × (leb 3 m ≡ true) = and_parts (leb 5 n) (leb 3 m) e in (
-                leb-true 5 n p.0,
-                leb-true 3 m p.1,
-              ))
-              (λ e. let p : (leb 4 n ≡ true) × (leb 2 m ≡ true) = and_parts (leb 4 n) (leb 2 m) e in (
-                leb-true 4 n p.0,
-                leb-true 2 m p.1,
-              ))
-              (λ e. leb-true 3 n e),
+          by_count (leb 5 n && leb 3 m) (leb 4 n && leb 2 m) (leb 3 n) (parts 5 3) (parts 4 2) (leb-true 3 n),
         ),
       )
 

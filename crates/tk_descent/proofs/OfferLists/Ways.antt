@@ -2,17 +2,16 @@
 use Rattle.std.proofs.Common.{◌≡◌, ℕ, ◌⊎◌, true, false, eqb, List, [], ◌∷◌, ◌++◌}
 use Rattle.std.proofs.Common.{reverse, refl, sym, ◌∙◌, ap, inl, inr, subst}
 use Rattle.std.proofs.Common.{append_assoc}
-use Rattle.std.proofs.lemmas.Bool.{or_cases, eqb-true}
-use Rattle.std.proofs.lemmas.Bool.{both_ways}
+use Rattle.std.proofs.lemmas.Bool.{or_cases, eqb-true, both_ways}
 use Rattle.std.proofs.lemmas.List.{reverse-reverse}
 use Rattle.tk_tour.proofs.Cycle.{IsRotation-refl}
 use Rattle.tk_tour.specs.Tour.{IsRotation, SameCycle, next_city, prev_city}
-use Rattle.tk_descent.proofs.MovesOnTours.Paths.{Spans}
+use Rattle.tk_descent.proofs.MovesOnTours.Paths.{Spans, last_from}
 use Rattle.tk_distance.specs.Holding.{IsDistinct, holds}
 use Rattle.tk_descent.proofs.Lists.{holds-append, or-comm}
-use Rattle.tk_descent.proofs.MovesOnTours.Length.{Spans-reverse, last_from-append}
-use Rattle.tk_descent.proofs.MovesOnTours.Steps.{rotation-reverse, next_of}
-use Rattle.tk_descent.proofs.MovesOnTours.Steps.{prev_of, distinct-reverse}
+use Rattle.tk_descent.proofs.MovesOnTours.Length.{Spans-reverse, Spans-append, last_from-append}
+use Rattle.tk_descent.proofs.MovesOnTours.Steps.{rotation-reverse, rotation-trans, turned, next_of, prev_of}
+use Rattle.tk_descent.proofs.MovesOnTours.Steps.{distinct-reverse}
 
 pub same_cycle : (D : List ℕ) → SameCycle D D
 same_cycle D = inl (IsRotation-refl D)
@@ -27,6 +26,11 @@ pub member_split : (C : List ℕ) (y : ℕ) → holds C y ≡ true → (us : Lis
 member_split [] y h = absurd (both_ways false refl h)
 member_split (b ∷ xs) y h =
     split_cons b xs y (elim (or_cases (eqb b y) (holds xs y) h) [ inl e ↦ inl e | inr e ↦ inr (member_split xs y e) ])
+
+-- the rotation that begins with x
+pub starts : (C : List ℕ) (x : ℕ) → holds C x ≡ true → (E : List ℕ) × IsRotation C (x ∷ E)
+starts C x h = let s = member_split C x h in
+    (s.1.0 ++ s.0, record { front = s.0; back = x ∷ s.1.0; before = s.1.1; after = refl })
 
 pub spans_push : (us : List ℕ) (a : ℕ) → (f : ℕ) × Spans (us ++ a ∷ []) f a
 spans_push [] a = (a, (refl, refl))
@@ -62,6 +66,17 @@ pub record Ways (K : List ℕ) (nx pv : ℕ → ℕ) : Type 0 where
   pub distinct : IsDistinct K
   pub next : (D : List ℕ) (b a : ℕ) → IsRotation K D → Spans D b a → nx a ≡ b
   pub prev : (D : List ℕ) (b a : ℕ) → IsRotation K D → Spans D b a → pv b ≡ a
+
+-- the next city, from a rotation that shows it
+pub step_in : {K : List ℕ} {nx pv : ℕ → ℕ} → Ways K nx pv → (us vs : List ℕ) (x c : ℕ) →
+    IsRotation K (us ++ x ∷ c ∷ vs) → nx x ≡ c
+step_in {K} ways us vs x c r =
+    let front = us ++ x ∷ [] in
+    let f = spans_push us x in
+    ways.next ((c ∷ vs) ++ front) c x
+    (rotation-trans K (front ++ (c ∷ vs)) ((c ∷ vs) ++ front)
+    (subst (λ z. IsRotation K z) (sym (append_assoc us (x ∷ []) (c ∷ vs))) r) (turned front (c ∷ vs)))
+    (Spans-append (c ∷ vs) front c (last_from c vs) f.0 x (refl, refl) f.1)
 
 pub ways_on : (C : List ℕ) → IsDistinct C → Ways C (next_city C) (prev_city C)
 ways_on C dis = record {

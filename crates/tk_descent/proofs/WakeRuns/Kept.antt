@@ -1,10 +1,6 @@
 -- What runs keep: a tour stays a tour, and looks are paid by the queue and by moves.
-use Rattle.std.proofs.Common.{◌≡◌, ℕ, ◌+◌, ◌*◌, ◌≤◌, List, ◌∷◌, ◌++◌, length, reverse, refl, ◌∙◌, ap, arith, inl, inr}
-use Rattle.std.proofs.Common.{length-append}
-use Rattle.tk_tour.specs.Tour.{IsRotation, SameCycle, IsSizedTour, occurrences}
-use Rattle.tk_tour.proofs.Once.{occurrences-append, occurrences-reverse, occurrences-cycle}
-use Rattle.tk_descent.specs.declared.offer.Offer.{Offer}
-use Rattle.tk_descent.specs.declared.offer.Offer.TheVariants.{Two, Or}
+use Rattle.std.proofs.Common.{ℕ, ◌+◌, ◌*◌, ◌≤◌, List, ◌∷◌, length, refl, ◌∙◌, arith}
+use Rattle.tk_tour.specs.Tour.{IsSizedTour}
 use Rattle.tk_descent.specs.Machine.{Run}
 use Rattle.tk_descent.specs.Machine.Run.{start, asleep, move}
 use Rattle.tk_descent.specs.Sweeps.{Moving, Sweeps}
@@ -12,72 +8,10 @@ use Rattle.tk_descent.specs.Sweeps.Moving.{start as begin, pass}
 use Rattle.tk_descent.specs.WakeMachine.{IsLocalOptimum}
 use Rattle.tk_descent.proofs.MovesOnTours.Paths.{IsTable}
 use Rattle.tk_descent.proofs.MovesOnTours.Rounds.{round_of}
-use Rattle.tk_descent.proofs.MovesOnTours.Views.{Made, made_of}
-use Rattle.tk_descent.proofs.OfferLists.Made.{length-reverse}
+use Rattle.tk_descent.proofs.MovesOnTours.Cities.{made_cities}
+use Rattle.tk_descent.proofs.MovesOnTours.Steps.{HasSameCities}
 use Rattle.tk_descent.proofs.WakeRuns.DescentSteps.{queue_left}
 use Rattle.tk_descent.proofs.WakeRuns.Passes.{pass_optimum}
-
-length-rotation : (xs ys : List ℕ) → IsRotation xs ys → length ys ≡ length xs
-length-rotation xs ys h =
-    omega (arith, ap length h.before, ap length h.after, length-append h.front h.back, length-append h.back h.front)
-
-length-cycle : (xs ys : List ℕ) → SameCycle xs ys → length ys ≡ length xs
-length-cycle xs ys (inl h) = length-rotation xs ys h
-length-cycle xs ys (inr h) = omega (arith, length-rotation xs (reverse ys) h, length-reverse ys)
-
--- D has as many cities as C, and each as often
-abbrev HasSameCities : List ℕ → List ℕ → Type 0
-HasSameCities C D = (length D ≡ length C) × ((c : ℕ) → occurrences c D ≡ occurrences c C)
-
--- so it is where a segment, or its reverse, stands elsewhere
-moved_cities : (C D S T P Q : List ℕ) → length T ≡ length S → ((c : ℕ) → occurrences c T ≡ occurrences c S) →
-    SameCycle C (S ++ P ++ Q) → SameCycle D (P ++ T ++ Q) → HasSameCities C D
-moved_cities C D S T P Q long same h k = (
-  omega (
-    arith,
-    long,
-    length-cycle C (S ++ P ++ Q) h,
-    length-cycle D (P ++ T ++ Q) k,
-    length-append (S ++ P) Q,
-    length-append S P,
-    length-append (P ++ T) Q,
-    length-append P T,
-  ),
-  λ z. omega (
-    arith,
-    same z,
-    occurrences-cycle z h,
-    occurrences-cycle z k,
-    occurrences-append z (S ++ P) Q,
-    occurrences-append z S P,
-    occurrences-append z (P ++ T) Q,
-    occurrences-append z P T,
-  ),
-)
-
-made_cities : (m : ℕ) (o : Offer) (C D : List ℕ) → Made m o C D → HasSameCities C D
-made_cities m (Two a b c d) C D (A, (B, (h, hA, hB, k))) = (
-  omega (
-    arith,
-    length-cycle C (A ++ B) h,
-    length-cycle D (A ++ reverse B) k,
-    length-append A B,
-    length-append A (reverse B),
-    length-reverse B,
-  ),
-  λ z. omega (
-    arith,
-    occurrences-cycle z h,
-    occurrences-cycle z k,
-    occurrences-append z A B,
-    occurrences-append z A (reverse B),
-    occurrences-reverse z B,
-  ),
-)
-made_cities m (Or a x e b y w) C D (S, (P, (Q, (h, short, hS, inl (hP, hQ, k))))) =
-    moved_cities C D S S P Q refl (λ c. refl) h k
-made_cities m (Or a x e b y w) C D (S, (P, (Q, (h, short, hS, inr (hP, hQ, k))))) =
-    moved_cities C D S (reverse S) P Q (length-reverse S) (λ c. occurrences-reverse c S) h k
 
 made_tour : (C D : List ℕ) → HasSameCities C D → IsSizedTour C → IsSizedTour D
 made_tour C D same t = (
@@ -93,7 +27,7 @@ module _ (d : ℕ → ℕ → ℕ) (near : ℕ → List ℕ) (m : ℕ) (T : List
   run_tour start t = t
   run_tour (asleep r e) t = run_tour r t
   run_tour (move {C = C} {D = D} {o = o} r e made) t =
-      made_tour C D (made_cities m o C D (made_of m o C D made)) (run_tour r t)
+      made_tour C D (made_cities m o C D made) (run_tour r t)
 
   -- each look takes a city from the queue, and a move wakes at most six
   pub run_looks : {W C V : List ℕ} {looks moves tests : ℕ} → Run d near m T W C V looks moves tests →

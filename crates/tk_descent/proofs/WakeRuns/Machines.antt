@@ -1,12 +1,12 @@
 -- A descent's run is a run of the wake machine.
 use Rattle.std.proofs.Common.{◌≡◌, ℕ, ◌<◌, ◌≤◌, ◌≢◌, ◌⊎◌, Bool, true, false, cond, ◌||◌, eqb, List, [], ◌∷◌, ◌++◌}
-use Rattle.std.proofs.Common.{length, reverse, Option, Some, None, refl, sym, ◌∙◌, ap, arith, inl, inr, subst, flat_map}
+use Rattle.std.proofs.Common.{length, Option, Some, None, refl, sym, ◌∙◌, ap, arith, inl, inr, subst, flat_map}
 use Rattle.std.proofs.lemmas.Bool.{or_cases, or_left, or_right, eqb-true, eq-eqb, ne_eqb, both_ways, ltb-false}
 use Rattle.std.proofs.lemmas.Bool.{cases_eq}
-use Rattle.tk_tour.specs.Tour.{SameCycle, next_city, prev_city}
-use Rattle.tk_descent.proofs.MovesOnTours.Views.{Made, made_of}
+use Rattle.tk_tour.specs.Tour.{next_city, prev_city}
+use Rattle.tk_descent.proofs.MovesOnTours.Cities.{distinct_made}
 use Rattle.tk_descent.proofs.MovesOnTours.Paths.{IsTable}
-use Rattle.tk_descent.specs.Offers.{first_gain, improves, or_offer, or_offers, offers_with, offers, segments, Makes}
+use Rattle.tk_descent.specs.Offers.{first_gain, improves, or_offer, or_offers, offers_with, offers, segments}
 use Rattle.tk_descent.specs.Offers.{removed, added, ends}
 use Rattle.tk_descent.specs.Awake.{woken, woken_each}
 use Rattle.tk_distance.specs.Holding.{IsDistinct, holds}
@@ -17,16 +17,11 @@ use Rattle.tk_descent.specs.WakeMachine.Wakes.{start as begin, asleep as fall_as
 use Rattle.tk_descent.proofs.OfferLists.Listed.{IsListed}
 use Rattle.tk_descent.specs.declared.offer.Segment.{Segment}
 use Rattle.tk_descent.specs.declared.offer.Offer.{Offer}
-use Rattle.tk_descent.specs.declared.offer.Offer.TheVariants.{Two, Or}
-use Rattle.tk_tour.proofs.Cycle.{SameCycle-sym}
 use Rattle.tk_descent.proofs.Lists.{holds-push, distinct-push}
 use Rattle.tk_descent.proofs.MovesOnTours.GainLaw.{gain_law}
 use Rattle.tk_descent.proofs.OfferLists.Count.{found_improves}
 use Rattle.tk_descent.proofs.OfferLists.Complete.{complete}
 use Rattle.tk_descent.proofs.OfferLists.OnCycle.{Each, each-append, found_has, each_or}
-use Rattle.tk_descent.proofs.OfferLists.Ways.{holds-turn}
-use Rattle.tk_descent.proofs.MovesOnTours.Steps.{distinct-parts, distinct-join, distinct-turn, distinct-reverse}
-use Rattle.tk_descent.proofs.MovesOnTours.Steps.{distinct-cycle, holds-reverse}
 
 -- asleep
 
@@ -104,50 +99,6 @@ found_from d near m x C o e =
             (segments (next_city C) (prev_city C) (length C) m x) (from_or near x y (next_city C y) (prev_city C y) h),
       ),
     ))) e
-
--- distinct cities after a move
-
-cycle-sym : (X Y : List ℕ) → SameCycle X Y → SameCycle Y X
-cycle-sym X Y h = SameCycle-sym h
-
-distinct_front : (X Y Q : List ℕ) → IsDistinct (X ++ Q) → IsDistinct Y → ((c : ℕ) → holds Y c ≡ holds X c) →
-    IsDistinct (Y ++ Q)
-distinct_front X Y Q h k same = let p = distinct-parts X Q h in
-    distinct-join Y Q k p.1 (λ c e. p.2 c (sym (same c) ∙ e))
-
-distinct_two : (A B : List ℕ) → IsDistinct (A ++ B) → IsDistinct (A ++ reverse B)
-distinct_two A B h =
-    distinct-turn (reverse B) A
-    (distinct_front B (reverse B) A (distinct-turn A B h) (distinct-reverse B (distinct-parts A B h).1)
-    (holds-reverse B))
-
-distinct_straight : (S P Q : List ℕ) → IsDistinct (S ++ P ++ Q) → IsDistinct (P ++ S ++ Q)
-distinct_straight S P Q h = distinct_front (S ++ P) (P ++ S) Q h (distinct-turn S P (distinct-parts (S ++ P) Q h).0)
-    (holds-turn P S)
-
-distinct_turned : (S P Q : List ℕ) → IsDistinct (S ++ P ++ Q) → IsDistinct (P ++ reverse S ++ Q)
-distinct_turned S P Q h =
-    let k = distinct_straight S P Q h in
-    distinct_front (P ++ S) (P ++ reverse S) Q k (distinct_two P S (distinct-parts (P ++ S) Q k).0)
-    (λ c. holds_two P S c)
-  where
-    holds_two : (P S : List ℕ) (c : ℕ) → holds (P ++ reverse S) c ≡ holds (P ++ S) c
-    holds_two [] S c = holds-reverse S c
-    holds_two (b ∷ P) S c = ap (λ z. eqb b c || z) (holds_two P S c)
-
-made_distinct : (m : ℕ) (o : Offer) (C D : List ℕ) → Made m o C D → IsDistinct C → IsDistinct D
-made_distinct m (Two a b c d) C D (A, (B, (h, hA, hB, k))) dis =
-    distinct-cycle (A ++ reverse B) D (cycle-sym D (A ++ reverse B) k)
-    (distinct_two A B (distinct-cycle C (A ++ B) h dis))
-made_distinct m (Or a x e b y w) C D (S, (P, (Q, (h, short, hS, inl (hP, hQ, k))))) dis =
-    distinct-cycle (P ++ S ++ Q) D (cycle-sym D (P ++ S ++ Q) k)
-    (distinct_straight S P Q (distinct-cycle C (S ++ P ++ Q) h dis))
-made_distinct m (Or a x e b y w) C D (S, (P, (Q, (h, short, hS, inr (hP, hQ, k))))) dis =
-    distinct-cycle (P ++ reverse S ++ Q) D (cycle-sym D (P ++ reverse S ++ Q) k)
-    (distinct_turned S P Q (distinct-cycle C (S ++ P ++ Q) h dis))
-
-pub distinct_made : (m : ℕ) (o : Offer) (C D : List ℕ) → Makes m o C D → IsDistinct C → IsDistinct D
-distinct_made m o C D makes dis = made_distinct m o C D (made_of m o C D makes) dis
 
 -- the queue
 
