@@ -1,25 +1,16 @@
 -- Members of lists, and distinct lists.
-use Rattle.std.proofs.Common.{◌≡◌, ℕ, ◌≢◌, Bool, true, false, ◌||◌, eqb, List, [], ◌∷◌, ◌++◌, refl, sym, ◌∙◌, ap}
-use Rattle.std.proofs.lemmas.Bool.{or_parts, or_right, eqb-false, eq-eqb, ne_eqb}
+use Rattle.std.proofs.Common.{◌≡◌, ℕ, ◌≢◌, true, false, ◌||◌, eqb, List, [], ◌∷◌, ◌++◌, refl, sym, ◌∙◌, ap}
+use Rattle.std.proofs.Math.Bool.{or_assoc, or-false}
+use Rattle.std.proofs.lemmas.Bool.{or_parts, or_left, or_right, eqb-false, eq-eqb, ne_eqb}
 use Rattle.tk_distance.specs.Holding.{holds, IsDistinct}
 
-or_joins : (p q r s : Bool) → s ≡ (q || r) → (p || s) ≡ ((p || q) || r)
-or_joins true q r s h = refl
-or_joins false q r s h = h
+pub holds-here : (c : ℕ) (xs : List ℕ) → holds (c ∷ xs) c ≡ true
+holds-here c xs = or_left (eqb c c) (holds xs c) (eq-eqb c c refl)
 
 pub holds-append : (xs ys : List ℕ) (c : ℕ) → holds (xs ++ ys) c ≡ (holds xs c || holds ys c)
 holds-append [] ys c = refl
-holds-append (b ∷ xs) ys c = or_joins (eqb b c) (holds xs c) (holds ys c) (holds (xs ++ ys) c) (holds-append xs ys c)
-
-pub or-false : (p : Bool) → (p || false) ≡ p
-or-false true = refl
-or-false false = refl
-
-pub or-comm : (p q : Bool) → (p || q) ≡ (q || p)
-or-comm true true = refl
-or-comm true false = refl
-or-comm false true = refl
-or-comm false false = refl
+holds-append (b ∷ xs) ys c = ap (λ z. eqb b c || z) (holds-append xs ys c)
+    ∙ sym (or_assoc (eqb b c) (holds xs c) (holds ys c))
 
 pub holds-push : (xs : List ℕ) (b c : ℕ) → holds (xs ++ b ∷ []) c ≡ (holds xs c || eqb b c)
 holds-push xs b c = holds-append xs (b ∷ []) c ∙ ap (λ z. holds xs c || z) (or-false (eqb b c))

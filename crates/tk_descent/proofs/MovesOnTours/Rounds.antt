@@ -1,12 +1,11 @@
 -- Tours by their members, and their steps.
-use Rattle.std.proofs.Common.{◌≡◌, ℕ, ◌<◌, ◌≤◌, ◌≢◌, ◌⊎◌, true, List, length, sym, ◌∙◌, arith, inl, inr}
+use Rattle.std.proofs.Common.{◌≡◌, ℕ, ◌<◌, ◌≤◌, ◌⊎◌, true, List, length, sym, ap, ◌∙◌, arith, inl, inr}
 use Rattle.tk_distance.specs.Cities.{IsCity}
-use Rattle.tk_tour.specs.Moves.{CanFlip}
 use Rattle.tk_tour.specs.Tour.{IsTour, next_city, prev_city, IsSizedTour}
 use Rattle.tk_tour.proofs.Tours.{HoldsOnce-tour, occurrences-outside, inside_or_not}
 use Rattle.tk_distance.specs.Holding.{holds}
 use Rattle.tk_descent.proofs.MovesOnTours.Paths.{IsRound}
-use Rattle.tk_descent.proofs.MovesOnTours.Steps.{Steps, held, counted, distinct_of, holds-reverse}
+use Rattle.tk_descent.proofs.MovesOnTours.Steps.{held, counted, distinct_of, holds-reverse}
 use Rattle.tk_descent.proofs.OfferLists.OnCycle.{next_member}
 use Rattle.tk_descent.proofs.OfferLists.Ways.{ways_on, ways_back}
 
@@ -25,20 +24,13 @@ round_of C h = record {
 }
 
 -- the neighbours of a city of a tour are cities of it
-pub next_range : (C : List ℕ) (c : ℕ) → IsSizedTour C → IsCity (length C) c → IsCity (length C) (next_city C c)
-next_range C c h in' =
+pub next_range : (C : List ℕ) (c x : ℕ) → IsSizedTour C → IsCity (length C) c → x ≡ next_city C c → IsCity (length C) x
+next_range C c x h in' is =
     let t = round_of C h in
-    (t.members (next_city C c)).0
-    (next_member (ways_on C t.distinct) c ((t.members c).1 in'))
+    (t.members x).0 (ap (holds C) is ∙ next_member (ways_on C t.distinct) c ((t.members c).1 in'))
 
-pub prev_range : (C : List ℕ) (c : ℕ) → IsSizedTour C → IsCity (length C) c → IsCity (length C) (prev_city C c)
-prev_range C c h in' =
+pub prev_range : (C : List ℕ) (c x : ℕ) → IsSizedTour C → IsCity (length C) c → x ≡ prev_city C c → IsCity (length C) x
+prev_range C c x h in' is =
     let t = round_of C h in
-    (t.members (prev_city C c)).0 (sym (holds-reverse C (prev_city C c))
-    ∙ next_member (ways_back C t.distinct) c (holds-reverse C c
-    ∙ (t.members c).1 in'))
-
--- a flip may be made
-pub can_flip : (C : List ℕ) (a b c d : ℕ) → IsCity (length C) a → IsCity (length C) c → (a ≢ c) → Steps C a b c d →
-    CanFlip C a b c d
-can_flip C a b c d ia ic ne steps = record { a_in = ia; c_in = ic; apart = ne; steps = steps }
+    (t.members x).0 (ap (holds C) is ∙ sym (holds-reverse C (prev_city C c))
+    ∙ next_member (ways_back C t.distinct) c (holds-reverse C c ∙ (t.members c).1 in'))

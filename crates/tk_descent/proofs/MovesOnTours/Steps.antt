@@ -3,6 +3,7 @@ use Rattle.std.proofs.Common.{◌≡◌, ℕ, ◌+◌, ◌<◌, ◌≤◌, ◌�
 use Rattle.std.proofs.Common.{reverse, refl, sym, ◌∙◌, ap, arith, inl, inr, subst, append-nil}
 use Rattle.std.proofs.lemmas.List.{reverse-reverse, length-append, length-reverse}
 use Rattle.std.specs.Prelude.{slice_index, ◌%◌, ◌-◌}
+use Rattle.std.proofs.Math.Bool.{or_comm}
 use Rattle.std.proofs.lemmas.Bool.{or_parts, or_cases, or_left, or_right, eqb-true, eq-eqb, cases_eq, cases_lt}
 use Rattle.std.proofs.lemmas.Bool.{false_from_ne_true, both_ways, ne_eqb}
 use Rattle.tk_tour.specs.Tour.{IsRotation, SameCycle, next_city, prev_city, occurrences, place_of}
@@ -13,7 +14,7 @@ use Rattle.tk_tour.proofs.Tours.{occurrences-other, occurrences-same, occurrence
 use Rattle.tk_tour.proofs.Steps.{Neighbours-rotation}
 use Rattle.tk_descent.proofs.MovesOnTours.Paths.{last_from, Spans}
 use Rattle.tk_distance.specs.Holding.{holds, IsDistinct}
-use Rattle.tk_descent.proofs.Lists.{holds-append, or-comm, holds-push, holds-push_same}
+use Rattle.tk_descent.proofs.Lists.{holds-append, holds-push, holds-push_same}
 use Rattle.tk_descent.proofs.MovesOnTours.Length.{reverse-cons, Spans-reverse, Spans-append}
 
 -- rotations and cycles
@@ -58,7 +59,7 @@ distinct-parts (b ∷ xs) ys h =
 pub holds-reverse : (xs : List ℕ) (c : ℕ) → holds (reverse xs) c ≡ holds xs c
 holds-reverse [] c = refl
 holds-reverse (b ∷ xs) c = ap (λ z. holds z c) (reverse-cons b xs) ∙ holds-push (reverse xs) b c
-    ∙ or-comm (holds (reverse xs) c) (eqb b c) ∙ ap (λ z. eqb b c || z) (holds-reverse xs c)
+    ∙ or_comm (holds (reverse xs) c) (eqb b c) ∙ ap (λ z. eqb b c || z) (holds-reverse xs c)
 
 -- a list is distinct where each city stands once in it
 

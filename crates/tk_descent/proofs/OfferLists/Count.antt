@@ -16,7 +16,7 @@ use Rattle.tk_problem.specs.declared.limits.TheConstants.{DISTANCE_LIMIT}
 use Rattle.tk_descent.specs.declared.offer.Segment.{Segment}
 use Rattle.tk_descent.specs.declared.offer.Found.{Found}
 
-step_improves : (b : Bool) (o p : Offer) (r : Option Offer) (P : Offer → Type 0) → (b ≡ true → P o) →
+pub step_improves : (b : Bool) (o p : Offer) (r : Option Offer) (P : Offer → Type 0) → (b ≡ true → P o) →
     (r ≡ Some p → P p) → cond b (Some o) r ≡ Some p → P p
 step_improves true o p r P h k e = let same : o ≡ p = cc in subst P same (h refl)
 step_improves false o p r P h k e = k e

@@ -1,11 +1,11 @@
 -- Each offer of the list is one on the cycle.
-use Rattle.std.proofs.Common.{◌≡◌, ℕ, suc, ◌<◌, ◌≤◌, ◌≢◌, ◌⊎◌, Bool, true, false, cond, ◌||◌, eqb, List, [], ◌∷◌, ◌++◌}
-use Rattle.std.proofs.Common.{length, reverse, Option, Some, refl, sym, ◌∙◌, ap, arith, inl, inr, subst, ◌&&◌, leb}
+use Rattle.std.proofs.Common.{◌≡◌, ℕ, ◌<◌, ◌≤◌, ◌≢◌, ◌⊎◌, Bool, true, false, cond, ◌||◌, eqb, List, [], ◌∷◌, ◌++◌}
+use Rattle.std.proofs.Common.{length, reverse, Some, refl, sym, ◌∙◌, ap, arith, inl, inr, subst, ◌&&◌, leb}
 use Rattle.std.proofs.Common.{take, flat_map, slice_index}
 use Rattle.std.proofs.lemmas.Bool.{or_parts, and_parts, leb-true, eqb-false, ne_eqb}
 use Rattle.std.proofs.lemmas.List.{reverse-reverse, length-reverse}
 use Rattle.std.specs.List.{All}
-use Rattle.std.proofs.lemmas.List.Elements.{All-cons, All-nil}
+use Rattle.std.proofs.lemmas.List.Elements.{All-cons, All-head, All-nil, All-tail}
 use Rattle.tk_near.specs.Near.{IsOther}
 use Rattle.tk_descent.specs.Machine.{IsOfferOn}
 use Rattle.tk_tour.specs.Tour.{IsRotation, SameCycle, next_city, prev_city}
@@ -23,6 +23,7 @@ use Rattle.tk_descent.proofs.Lists.{holds-append}
 use Rattle.tk_descent.proofs.MovesOnTours.Length.{Spans-append}
 use Rattle.tk_descent.proofs.MovesOnTours.Steps.{turned, rotation-trans, rotation-reverse, turned_back}
 use Rattle.tk_descent.proofs.MovesOnTours.Steps.{holds-first, holds-reverse, length-rotation}
+use Rattle.tk_descent.proofs.OfferLists.Count.{step_improves}
 use Rattle.tk_descent.proofs.OfferLists.MadeOnCycle.{Stands, two_on, or_next, or_prev}
 use Rattle.tk_descent.proofs.OfferLists.Ways.{member_split, spans_push, holds-rotation, rotated_to}
 use Rattle.tk_descent.proofs.OfferLists.Ways.{Ways, ways_on, ways_back, starts, step_in}
@@ -148,21 +149,18 @@ pub each-append : (F : Offer → Type 0) (xs ys : List Offer) → Each F xs → 
 each-append F [] ys h k = k
 each-append F (o ∷ xs) ys h k = (h.0, each-append F xs ys h.1 k)
 
-each-near : (F : Offer → Type 0) (f : ℕ → List Offer) (xs : List ℕ) →
-    ((k : ℕ) → k < length xs → Each F (f (slice_index xs k))) → Each F (flat_map f xs)
-each-near F f [] h = tt
-each-near F f (y ∷ xs) h =
-    each-append F (f y) (flat_map f xs) (h 0 (omega arith)) (each-near F f xs (λ k l. h (suc k) (omega arith)))
-
-step_has : (F : Offer → Type 0) (b : Bool) (o p : Offer) (r : Option Offer) → F o → (r ≡ Some p → F p) →
-    cond b (Some o) r ≡ Some p → F p
-step_has F true o p r h k e = let same : o ≡ p = cc in subst F same h
-step_has F false o p r h k e = k e
+pub each_flat : {X : Type 0} (F : Offer → Type 0) (f : X → List Offer) (xs : List X) → All (λ x. Each F (f x)) xs →
+    Each F (flat_map f xs)
+each_flat F f [] h = tt
+each_flat F f (x ∷ xs) h =
+    each-append F (f x) (flat_map f xs) (All-head (λ v. Each F (f v)) x xs h)
+    (each_flat F f xs (All-tail (λ v. Each F (f v)) x xs h))
 
 pub found_has : (F : Offer → Type 0) (d : ℕ → ℕ → ℕ) (os : List Offer) (p : Offer) → Each F os →
     first_gain d os ≡ Some p → F p
 found_has F d [] p h e = cc
-found_has F d (o ∷ os) p h e = step_has F (improves d o) o p (first_gain d os) h.0 (found_has F d os p h.1) e
+found_has F d (o ∷ os) p h e =
+    step_improves (improves d o) o p (first_gain d os) F (λ b. h.0) (found_has F d os p h.1) e
 
 each_cond : (F : Offer → Type 0) (b : Bool) (o : Offer) → (b ≡ false → F o) → Each F (cond b [] (o ∷ []))
 each_cond F true o h = tt
@@ -317,16 +315,20 @@ module _ (C : List ℕ) (m x y : ℕ) (tour : IsRound C) (low : 1 ≤ m) (hx : h
         ),
       )
 
+with_other : (C : List ℕ) (m x n y : ℕ) → IsRound C → 1 ≤ m → n ≡ length C → IsCity (length C) x → IsOther n x y →
+    Each (OnCycle C m)
+    (offers_with (next_city C) (prev_city C) (segments (next_city C) (prev_city C) (length C) m x) x y)
+with_other C m x n y tour low size in' q =
+    with_on C m x y tour low ((tour.members x).1 in') ((tour.members y).1 (q.0.0, omega (arith, size, q.0.1))) q.1
+
 pub offers_on : (d : ℕ → ℕ → ℕ) (C near : List ℕ) (m x n : ℕ) (o : Offer) → IsRound C → n ≡ length C → 1 ≤ m →
     IsCity (length C) x → All (IsOther n x) near →
     first_gain d (offers C m near x) ≡ Some o → IsOfferOn m o C × EndsIn (length C) o
 offers_on d C near m x n o tour size low in' others e =
     let r = found_has (OnCycle C m) d (offers C m near x) o
-    (each-near (OnCycle C m)
+    (each_flat (OnCycle C m)
     (offers_with (next_city C) (prev_city C) (segments (next_city C) (prev_city C) (length C) m x) x) near
-    (λ k l. let q = others k 0 l in
-    with_on C m x (slice_index near k) tour low ((tour.members x).1 in')
-    ((tour.members (slice_index near k)).1 (q.0.0, omega (arith, size, q.0.1))) q.1)) e in
+    (λ k y l. with_other C m x n _ tour low size in' (others k y l))) e in
     (offer_on m o C r.0, r.1)
 
 each_ends : (C : List ℕ) (m : ℕ) (os : List Offer) → Each (OnCycle C m) os → All (EndsIn (length C)) os
@@ -339,10 +341,7 @@ pub with_ends : (C near : List ℕ) (m x n k i : ℕ) (os : List Offer) → IsRo
     os ≡ offers_with (next_city C) (prev_city C) (segments (next_city C) (prev_city C) (length C) m x) x
     (slice_index near i) → All (EndsIn k) os
 with_ends C near m x n k i os tour size many low in' others at same =
-    let q = others i 0 at in
-    let h =
-    with_on C m x (slice_index near i) tour low ((tour.members x).1 in')
-    ((tour.members (slice_index near i)).1 (q.0.0, omega (arith, size, q.0.1))) q.1 in
+    let h = with_other C m x n (slice_index near i) tour low size in' (others i 0 at) in
     subst (λ z. All (EndsIn z) os) (sym many) (each_ends C m os (subst (λ z. Each (OnCycle C m) z) (sym same) h))
 
 pub more_on : (m : ℕ) (o : Offer) (C : List ℕ) → m ≤ 3 → IsOfferOn m o C → IsOfferOn 3 o C

@@ -19,79 +19,52 @@ use Rattle.tk_descent.specs.declared.offer.Segment.{Segment}
 use Rattle.tk_descent.specs.declared.offer.Offer.{Offer}
 use Rattle.tk_descent.specs.declared.offer.Found.{Found}
 
-step_none : (b : Bool) (o : Offer) (r r2 s : Option Offer) → cond b (Some o) r ≡ None → (r ≡ None → r2 ≡ s) →
-    cond b (Some o) r2 ≡ s
-step_none true o r r2 s h k = cc
-step_none false o r r2 s h k = k h
+step_after : (b : Bool) (o : Offer) (r r2 s : Option Offer) (k l n : ℕ) → cond b (Some o) r ≡ None →
+    (r ≡ None → (r2 ≡ s) × (k ≡ l + n)) → (cond b (Some o) r2 ≡ s) × (cond b 1 (suc k) ≡ cond b 1 (suc l) + n)
+step_after true o r r2 s k l n h f = (cc, cc)
+step_after false o r r2 s k l n h f = let p = f h in (p.0, omega (arith, p.1))
 
-step_some : (b : Bool) (o p : Offer) (r r2 : Option Offer) → cond b (Some o) r ≡ Some p → (r ≡ Some p → r2 ≡ Some p) →
-    cond b (Some o) r2 ≡ Some p
-step_some true o p r r2 h k = h
-step_some false o p r r2 h k = k h
+step_found : (b : Bool) (o p : Offer) (r r2 : Option Offer) (k l : ℕ) → cond b (Some o) r ≡ Some p →
+    (r ≡ Some p → (r2 ≡ Some p) × (k ≡ l)) → (cond b (Some o) r2 ≡ Some p) × (cond b 1 (suc k) ≡ cond b 1 (suc l))
+step_found true o p r r2 k l h f = (h, refl)
+step_found false o p r r2 k l h f = let q = f h in (q.0, ap suc q.1)
 
-step_none_tests : (b : Bool) (o : Offer) (r : Option Offer) (k l n : ℕ) → cond b (Some o) r ≡ None →
-    (r ≡ None → k ≡ l + n) → cond b 1 (suc k) ≡ cond b 1 (suc l) + n
-step_none_tests true o r k l n h f = cc
-step_none_tests false o r k l n h f = omega (arith, f h)
+-- after a list without an offer of positive gain the next is searched
+search_after : (d : ℕ → ℕ → ℕ) (xs ys : List Offer) → first_gain d xs ≡ None →
+    (first_gain d (xs ++ ys) ≡ first_gain d ys) × (tests_to d (xs ++ ys) ≡ tests_to d xs + tests_to d ys)
+search_after d [] ys h = (refl, omega arith)
+search_after d (o ∷ xs) ys h = step_after (improves d o) o (first_gain d xs) (first_gain d (xs ++ ys)) (first_gain d ys)
+    (tests_to d (xs ++ ys)) (tests_to d xs) (tests_to d ys) h (search_after d xs ys)
 
-step_some_tests : (b : Bool) (o p : Offer) (r : Option Offer) (k l : ℕ) → cond b (Some o) r ≡ Some p →
-    (r ≡ Some p → k ≡ l) → cond b 1 (suc k) ≡ cond b 1 (suc l)
-step_some_tests true o p r k l h f = refl
-step_some_tests false o p r k l h f = ap suc (f h)
+-- one with such an offer is searched up to it
+search_found : (d : ℕ → ℕ → ℕ) (xs ys : List Offer) (p : Offer) → first_gain d xs ≡ Some p →
+    (first_gain d (xs ++ ys) ≡ Some p) × (tests_to d (xs ++ ys) ≡ tests_to d xs)
+search_found d [] ys p h = cc
+search_found d (o ∷ xs) ys p h = step_found (improves d o) o p (first_gain d xs) (first_gain d (xs ++ ys))
+    (tests_to d (xs ++ ys)) (tests_to d xs) h (search_found d xs ys p)
 
-pub first_gain-after : (d : ℕ → ℕ → ℕ) (xs ys : List Offer) → first_gain d xs ≡ None →
-    first_gain d (xs ++ ys) ≡ first_gain d ys
-first_gain-after d [] ys h = refl
-first_gain-after d (o ∷ xs) ys h =
-    step_none (improves d o) o (first_gain d xs) (first_gain d (xs ++ ys)) (first_gain d ys) h
-    (first_gain-after d xs ys)
-
-pub first_gain-found : (d : ℕ → ℕ → ℕ) (xs ys : List Offer) (p : Offer) → first_gain d xs ≡ Some p →
-    first_gain d (xs ++ ys) ≡ Some p
-first_gain-found d [] ys p h = cc
-first_gain-found d (o ∷ xs) ys p h =
-    step_some (improves d o) o p (first_gain d xs) (first_gain d (xs ++ ys)) h (first_gain-found d xs ys p)
-
-pub tests_to-after : (d : ℕ → ℕ → ℕ) (xs ys : List Offer) → first_gain d xs ≡ None →
-    tests_to d (xs ++ ys) ≡ tests_to d xs + tests_to d ys
-tests_to-after d [] ys h = omega arith
-tests_to-after d (o ∷ xs) ys h =
-    step_none_tests (improves d o) o (first_gain d xs) (tests_to d (xs ++ ys)) (tests_to d xs) (tests_to d ys) h
-    (tests_to-after d xs ys)
-
-pub tests_to-found : (d : ℕ → ℕ → ℕ) (xs ys : List Offer) (p : Offer) → first_gain d xs ≡ Some p →
-    tests_to d (xs ++ ys) ≡ tests_to d xs
-tests_to-found d [] ys p h = cc
-tests_to-found d (o ∷ xs) ys p h = step_some_tests (improves d o) o p (first_gain d xs) (tests_to d (xs ++ ys))
-    (tests_to d xs) h (tests_to-found d xs ys p)
-
-pub saturated-saturated : (t j k : ℕ) → saturated (saturated (t + j) + k) ≡ saturated (t + (j + k))
+saturated-saturated : (t j k : ℕ) → saturated (saturated (t + j) + k) ≡ saturated (t + (j + k))
 saturated-saturated t j k = omega arith
 
 -- a search that found nothing goes on with another list
 pub Searched-on : (d : ℕ → ℕ → ℕ) (xs ys : List Offer) (r : Option Found) (t u v : ℕ) → Searched d xs None t u →
     Searched d ys r u v → Searched d (xs ++ ys) r t v
 Searched-on d xs ys r t u v h k =
-    let e : first_gain d xs ≡ None = sym h.found in
+    let e = search_after d xs ys (sym h.found) in
     record {
-      found = k.found ∙ sym (first_gain-after d xs ys e);
+      found = k.found ∙ sym e.0;
       worth = k.worth;
       tests = k.tests
           ∙ ap (λ z. saturated (z + tests_to d ys)) h.tests ∙ saturated-saturated t (tests_to d xs) (tests_to d ys)
-          ∙ ap (λ z. saturated (t + z)) (sym (tests_to-after d xs ys e));
+          ∙ ap (λ z. saturated (t + z)) (sym e.1);
     }
 
 -- a search that found an offer leaves the rest
 pub Searched-stop : (d : ℕ → ℕ → ℕ) (xs ys : List Offer) (f : Found) (t u : ℕ) → Searched d xs (Some f) t u →
     Searched d (xs ++ ys) (Some f) t u
 Searched-stop d xs ys f t u h =
-    let e : first_gain d xs ≡ Some f.offer = sym h.found in
-    record {
-      found = sym (first_gain-found d xs ys f.offer e);
-      worth = h.worth;
-      tests = h.tests
-          ∙ ap (λ z. saturated (t + z)) (sym (tests_to-found d xs ys f.offer e));
-    }
+    let e = search_found d xs ys f.offer (sym h.found) in
+    record { found = sym e.0; worth = h.worth; tests = h.tests ∙ ap (λ z. saturated (t + z)) (sym e.1) }
 
 module _ {X : Type 0} (d : ℕ → ℕ → ℕ) (f : X → List Offer) (xs : List X) (i : ℕ) (x : X) (at : i < length xs)
     (t u v : ℕ) where

@@ -2,13 +2,14 @@
 use Rattle.std.proofs.Common.{◌≡◌, ℕ, ◌⊎◌, true, false, eqb, List, [], ◌∷◌, ◌++◌}
 use Rattle.std.proofs.Common.{reverse, refl, sym, ◌∙◌, ap, inl, inr, subst}
 use Rattle.std.proofs.Common.{append_assoc}
+use Rattle.std.proofs.Math.Bool.{or_comm}
 use Rattle.std.proofs.lemmas.Bool.{or_cases, eqb-true, both_ways}
 use Rattle.std.proofs.lemmas.List.{reverse-reverse}
 use Rattle.tk_tour.proofs.Cycle.{IsRotation-refl}
 use Rattle.tk_tour.specs.Tour.{IsRotation, SameCycle, next_city, prev_city}
 use Rattle.tk_descent.proofs.MovesOnTours.Paths.{Spans, last_from}
 use Rattle.tk_distance.specs.Holding.{IsDistinct, holds}
-use Rattle.tk_descent.proofs.Lists.{holds-append, or-comm}
+use Rattle.tk_descent.proofs.Lists.{holds-append}
 use Rattle.tk_descent.proofs.MovesOnTours.Length.{Spans-reverse, Spans-append, last_from-append}
 use Rattle.tk_descent.proofs.MovesOnTours.Steps.{rotation-reverse, rotation-trans, turned, next_of, prev_of}
 use Rattle.tk_descent.proofs.MovesOnTours.Steps.{distinct-reverse}
@@ -37,7 +38,7 @@ spans_push [] a = (a, (refl, refl))
 spans_push (u ∷ us) a = (u, (refl, last_from-append u us (a ∷ [])))
 
 pub holds-turn : (A B : List ℕ) (c : ℕ) → holds (A ++ B) c ≡ holds (B ++ A) c
-holds-turn A B c = holds-append A B c ∙ or-comm (holds A c) (holds B c) ∙ sym (holds-append B A c)
+holds-turn A B c = holds-append A B c ∙ or_comm (holds A c) (holds B c) ∙ sym (holds-append B A c)
 
 pub holds-rotation : (X Y : List ℕ) (c : ℕ) → IsRotation X Y → holds X c ≡ holds Y c
 holds-rotation X Y c h = ap (λ z. holds z c) h.before ∙ holds-turn h.front h.back c ∙ sym (ap (λ z. holds z c) h.after)

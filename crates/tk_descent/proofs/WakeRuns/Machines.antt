@@ -1,6 +1,7 @@
 -- A descent's run is a run of the wake machine.
 use Rattle.std.proofs.Common.{◌≡◌, ℕ, ◌<◌, ◌≤◌, ◌≢◌, ◌⊎◌, Bool, true, false, cond, ◌||◌, eqb, List, [], ◌∷◌, ◌++◌}
 use Rattle.std.proofs.Common.{length, Option, Some, None, refl, sym, ◌∙◌, ap, arith, inl, inr, subst, flat_map}
+use Rattle.std.proofs.Math.Bool.{or_assoc, or-false}
 use Rattle.std.proofs.lemmas.Bool.{or_cases, or_left, or_right, eqb-true, eq-eqb, ne_eqb, both_ways, ltb-false}
 use Rattle.std.proofs.lemmas.Bool.{cases_eq}
 use Rattle.tk_tour.specs.Tour.{next_city, prev_city}
@@ -17,11 +18,11 @@ use Rattle.tk_descent.specs.WakeMachine.Wakes.{start as begin, asleep as fall_as
 use Rattle.tk_descent.proofs.OfferLists.Listed.{IsListed}
 use Rattle.tk_descent.specs.declared.offer.Segment.{Segment}
 use Rattle.tk_descent.specs.declared.offer.Offer.{Offer}
-use Rattle.tk_descent.proofs.Lists.{holds-push, distinct-push}
+use Rattle.tk_descent.proofs.Lists.{holds-here, holds-push, distinct-push}
 use Rattle.tk_descent.proofs.MovesOnTours.GainLaw.{gain_law}
 use Rattle.tk_descent.proofs.OfferLists.Count.{found_improves}
 use Rattle.tk_descent.proofs.OfferLists.Complete.{complete}
-use Rattle.tk_descent.proofs.OfferLists.OnCycle.{Each, each-append, found_has, each_or}
+use Rattle.tk_descent.proofs.OfferLists.OnCycle.{Each, each-append, each_flat, found_has, each_or}
 
 -- asleep
 
@@ -51,13 +52,8 @@ none_improves d near m x C is dis small e =
 each_held : (F : Offer → Type 0) (f : ℕ → List Offer) (xs : List ℕ) → ((y : ℕ) → holds xs y ≡ true → Each F (f y)) →
     Each F (flat_map f xs)
 each_held F f [] h = tt
-each_held F f (y ∷ xs) h = each-append F (f y) (flat_map f xs) (h y (or_left (eqb y y) (holds xs y) (eq-eqb y y refl)))
+each_held F f (y ∷ xs) h = each-append F (f y) (flat_map f xs) (h y (holds-here y xs))
     (each_held F f xs (λ z e. h z (or_right (eqb y z) (holds xs z) e)))
-
-each_seg : (F : Offer → Type 0) (f : Segment → List Offer) (ss : List Segment) → ((s : Segment) → Each F (f s)) →
-    Each F (flat_map f ss)
-each_seg F f [] h = tt
-each_seg F f (s ∷ ss) h = each-append F (f s) (flat_map f ss) (h s) (each_seg F f ss h)
 
 abbrev IsFrom : (ℕ → List ℕ) → ℕ → Offer → Type 0
 IsFrom near x o = IsOfferOf near x o × (holds (ends o) x ≡ true)
@@ -65,17 +61,9 @@ IsFrom near x o = IsOfferOf near x o × (holds (ends o) x ≡ true)
 from_or : (near : ℕ → List ℕ) (x y ay by : ℕ) → holds (near x) y ≡ true → (s : Segment) →
     Each (IsFrom near x) (or_offers x y ay by s)
 from_or near x y ay by h s =
-    let here : (eqb x x || (eqb s.before x || (eqb s.last x || (eqb s.after x || (eqb y x || (eqb ay x || false))))))
-    ≡ true =
-    or_left (eqb x x) (eqb s.before x || (eqb s.last x || (eqb s.after x || (eqb y x || (eqb ay x || false)))))
-    (eq-eqb x x refl) in
-    let here2 : (eqb x x || (eqb s.before x || (eqb s.last x || (eqb s.after x || (eqb y x || (eqb by x || false))))))
-    ≡ true =
-    or_left (eqb x x) (eqb s.before x || (eqb s.last x || (eqb s.after x || (eqb y x || (eqb by x || false)))))
-    (eq-eqb x x refl) in
-    each-append (IsFrom near x) (or_offer x y s ay) (or_offer x y s by)
-    (each_or (IsFrom near x) x y s ay (λ u v. (inl (refl, h), here)))
-    (each_or (IsFrom near x) x y s by (λ u v. (inl (refl, h), here2)))
+    let put : (w : ℕ) → Each (IsFrom near x) (or_offer x y s w) = λ w. each_or (IsFrom near x) x y s w
+    (λ u v. (inl (refl, h), holds-here x (s.before ∷ s.last ∷ s.after ∷ y ∷ w ∷ []))) in
+    each-append (IsFrom near x) (or_offer x y s ay) (or_offer x y s by) (put ay) (put by)
 
 pub found_from : (d : ℕ → ℕ → ℕ) (near : ℕ → List ℕ) (m x : ℕ) (C : List ℕ) (o : Offer) →
     first_gain d (offers C m (near x) x) ≡ Some o → IsOfferOf near x o × (holds (ends o) x ≡ true)
@@ -84,46 +72,27 @@ found_from d near m x C o e =
     (each_held (IsFrom near x)
     (offers_with (next_city C) (prev_city C) (segments (next_city C) (prev_city C) (length C) m x) x)
     (near x) (λ y h. (
+      (inl (refl, h), holds-here x (next_city C x ∷ y ∷ next_city C y ∷ [])),
       (
-        inl (refl, h),
-        or_left (eqb x x) (eqb (next_city C x) x || (eqb y x || (eqb (next_city C y) x || false)))
-            (eq-eqb x x refl),
-      ),
-      (
-        (
-          inl (refl, h),
-          or_left (eqb x x) (eqb (prev_city C x) x || (eqb y x || (eqb (prev_city C y) x || false)))
-              (eq-eqb x x refl),
-        ),
-        each_seg (IsFrom near x) (or_offers x y (next_city C y) (prev_city C y))
-            (segments (next_city C) (prev_city C) (length C) m x) (from_or near x y (next_city C y) (prev_city C y) h),
+        (inl (refl, h), holds-here x (prev_city C x ∷ y ∷ prev_city C y ∷ [])),
+        each_flat (IsFrom near x) (or_offers x y (next_city C y) (prev_city C y))
+            (segments (next_city C) (prev_city C) (length C) m x)
+            (λ k s l. from_or near x y (next_city C y) (prev_city C y) h _),
       ),
     ))) e
 
 -- the queue
-
-or_assoc : (p q r : Bool) → ((p || q) || r) ≡ (p || (q || r))
-or_assoc true q r = refl
-or_assoc false q r = refl
 
 held_by : (b : Bool) (W : List ℕ) (c k : ℕ) → holds W c ≡ b → holds (cond b W (W ++ c ∷ [])) k ≡ (holds W k || eqb c k)
 held_by true W c k h = both (cases_eq c k)
   where
     both : (c ≡ k) ⊎ (c ≡ k → ⊥) → holds W k ≡ (holds W k || eqb c k)
     both (inl e) = subst (λ z. holds W z ≡ true) e h ∙ sym (or_right (holds W k) (eqb c k) (eq-eqb c k e))
-    both (inr ne) = sym (ap (λ z. holds W k || z) (ne_eqb c k ne) ∙ or-none (holds W k))
-      where
-        or-none : (p : Bool) → (p || false) ≡ p
-        or-none true = refl
-        or-none false = refl
+    both (inr ne) = sym (ap (λ z. holds W k || z) (ne_eqb c k ne) ∙ or-false (holds W k))
 held_by false W c k h = holds-push W c k
 
 pub holds-woken_each : (cs W : List ℕ) (k : ℕ) → holds (woken_each W cs) k ≡ (holds W k || holds cs k)
-holds-woken_each [] W k = or-none (holds W k)
-  where
-    or-none : (p : Bool) → p ≡ (p || false)
-    or-none true = refl
-    or-none false = refl
+holds-woken_each [] W k = sym (or-false (holds W k))
 holds-woken_each (c ∷ cs) W k = holds-woken_each cs (woken W c) k
     ∙ ap (λ z. z || holds cs k) (held_by (holds W c) W c k refl) ∙ or_assoc (holds W k) (eqb c k) (holds cs k)
 
@@ -169,7 +138,7 @@ module _ (d : ℕ → ℕ → ℕ) (near : ℕ → List ℕ) (m : ℕ) (T W : Li
   run_wakes_all start = (begin, tour, once)
   run_wakes_all (asleep {C = C} {V = V} {x = x} r e) =
       let i = run_wakes_all r in (
-        fall_asleep x i.0 (or_left (eqb x x) (holds V x) (eq-eqb x x refl)) (none_improves d near m x C is i.1 small e)
+        fall_asleep x i.0 (holds-here x V) (none_improves d near m x C is i.1 small e)
             (λ c. (stays V x i.2 c, stays_back V x i.2 c)),
         i.1,
         i.2.1,
@@ -177,7 +146,7 @@ module _ (d : ℕ → ℕ → ℕ) (near : ℕ → List ℕ) (m : ℕ) (T W : Li
   run_wakes_all (move {C = C} {V = V} {D = D} {x = x} {o = o} r e made) =
       let i = run_wakes_all r in
       let f = found_from d near m x C o e in (
-        go_on x o i.0 (or_left (eqb x x) (holds V x) (eq-eqb x x refl))
+        go_on x o i.0 (holds-here x V)
             (f.0, made, omega (arith, gain_law d is.0 C D m o made, found_improves d (offers C m (near x) x) o e))
             (λ c. (joins V x i.2 (ends o) f.1 c, joins_back V x i.2 (ends o) f.1 c)),
         distinct_made m o C D made i.1,

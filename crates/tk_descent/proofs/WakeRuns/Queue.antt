@@ -1,17 +1,17 @@
 -- The flags and the queue after a city was woken or taken.
 use Rattle.std.proofs.Common.{◌≡◌, ℕ, Some, drop, ◌-◌, ◌+◌, ◌<◌, ◌≤◌, ◌⊎◌, Bool, true, false, cond, ◌||◌, eqb, List, []}
-use Rattle.std.proofs.Common.{◌∷◌, ◌++◌, length, get_or, set, refl, sym, ◌∙◌, ap, arith, get_or-set_other}
+use Rattle.std.proofs.Common.{◌∷◌, ◌++◌, length, get_or, set, sym, ◌∙◌, ap, arith, get_or-set_other}
 use Rattle.std.proofs.Common.{get_or-set_same, inl, inr, subst, length-set}
 use Rattle.std.specs.List.{count_by}
 use Rattle.std.proofs.lemmas.List.Sums.{sum_by-set, sum_by-cons, count_by-le-length}
 use Rattle.std.proofs.lemmas.List.{length_push, get_or_read}
-use Rattle.std.proofs.lemmas.Bool.{or_cases, or_left, or_right, eqb-true, eq-eqb, ne_eqb, cases_eq, cond-false}
+use Rattle.std.proofs.lemmas.Bool.{or_cases, or_right, eqb-true, ne_eqb, cases_eq, cond-false}
 use Rattle.std.proofs.lemmas.Bool.{false_from_ne_true}
 use Rattle.std.specs.Prelude.{slice_get}
 use Rattle.tk_descent.specs.Awake.{IsWaking, woken}
 use Rattle.tk_distance.specs.Holding.{holds}
 use Rattle.circular_buffer.specs.Buffer.{Buffer}
-use Rattle.tk_descent.proofs.Lists.{holds-push, holds-push_other, holds-push_same, distinct-push}
+use Rattle.tk_descent.proofs.Lists.{holds-here, holds-push, holds-push_other, holds-push_same, distinct-push}
 
 count-set : (flags : List Bool) (c : ℕ) (v w : Bool) → c < length flags → get_or flags c false ≡ w →
     count_by (λ b. b) (set flags c v) + cond w 1 0 ≡ count_by (λ b. b) flags + cond v 1 0
@@ -64,8 +64,8 @@ flag_taken x items flags h in' k in_k (inr ne) = get_or-set_other flags x k fals
 pub IsWaking-take : (x : ℕ) (items : List ℕ) (flags : List Bool) → IsWaking (x ∷ items) flags →
     IsWaking items (set flags x false)
 IsWaking-take x items flags h =
-    let in' : x < length flags = (h.range x (or_left (eqb x x) (holds items x) (eq-eqb x x refl))).1 in
-    let was : get_or flags x false ≡ true = h.flag x in' ∙ or_left (eqb x x) (holds items x) (eq-eqb x x refl) in
+    let in' : x < length flags = (h.range x (holds-here x items)).1 in
+    let was : get_or flags x false ≡ true = h.flag x in' ∙ holds-here x items in
     record {
       count = omega (arith, count-set flags x false true in' was, h.count);
       flag = λ k in_k. flag_taken x items flags h in' k (omega (arith, length-set flags x false)) (cases_eq k x);
@@ -83,7 +83,7 @@ pub taken : (items : List ℕ) (flags : List Bool) (x : ℕ) → IsWaking items 
     ((1 ≤ x) × (x < length flags)) × IsWaking (drop 1 items) (set flags x false)
 taken items flags x h e =
     let k : IsWaking (x ∷ drop 1 items) flags = subst (λ z. IsWaking z flags) (front_is items x e) h in
-    (k.range x (or_left (eqb x x) (holds (drop 1 items) x) (eq-eqb x x refl)), IsWaking-take x (drop 1 items) flags k)
+    (k.range x (holds-here x (drop 1 items)), IsWaking-take x (drop 1 items) flags k)
 
 pub keep_last_all : (n : ℕ) (xs : List ℕ) → length xs ≤ n → drop (length xs - n) xs ≡ xs
 keep_last_all n xs h = let e : length xs - n ≡ 0 = omega arith in ap (λ z. drop z xs) e

@@ -2,7 +2,7 @@ use Rattle.std.proofs.Common.{sym, ◌∙◌, subst}
 use Rattle.tk_descent.specs.Machine.{IsOfferOn}
 use Rattle.tk_descent.specs.Offers.{Makes, EndsIn}
 use Rattle.tk_descent.proofs.OfferLists.Made.{two_steps, mirrored_move, forward_back}
-use Rattle.tk_descent.proofs.MovesOnTours.Rounds.{round_of, can_flip}
+use Rattle.tk_descent.proofs.MovesOnTours.Rounds.{round_of}
 use Rattle.tk_descent.proofs.MovesOnTours.Views.{made_on}
 use Rattle.std.proofs.Common.{length}
 use Rattle.tk_descent.specs.declared.offer.Offer.TheVariants.{Two}
@@ -17,7 +17,7 @@ flip-requires g c =
     (made_on 3 (Two c.in-Two.a c.in-Two.b c.in-Two.c c.in-Two.d) C
     (subst (λ z. IsOfferOn 3 z C) c.in-Two.is c.requires.offer)) in
     let i = subst (λ z. EndsIn (length C) z) c.in-Two.is c.requires.cities in
-    can_flip C _ _ _ _ i.0 i.2 t.1 t.0
+    record { a_in = i.0; c_in = i.2; apart = t.1; steps = t.0 }
 
 pub move_forward-requires-clause-offer : goal.move_forward-requires-clause-offer
 move_forward-requires-clause-offer g c = subst (λ z. IsOfferOn 3 z (g.S.TourStore.cities c.args.tour.now)) c.in-Or.is

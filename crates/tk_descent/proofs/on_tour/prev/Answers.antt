@@ -1,10 +1,5 @@
-use Rattle.std.proofs.Common.{subst, sym, length}
-use Rattle.tk_distance.specs.Cities.{IsCity}
 use Rattle.tk_descent.proofs.MovesOnTours.Rounds.{prev_range}
 use Rattle.tk_descent.proofs.on_tour.prev.Goals as goal
 
 pub returns-clause-city : goal.returns-clause-city
-returns-clause-city g c =
-    let C = g.S.TourStore.cities c.args.tour.now in
-    subst (λ z. IsCity (length C) z) (sym c.prev.ensures)
-    (prev_range C c.args.c (g.met.S.TourStore.is_tour c.args.tour.now) c.requires.city)
+returns-clause-city g c = prev_range _ _ _ (g.met.S.TourStore.is_tour c.args.tour.now) c.requires.city c.prev.ensures
