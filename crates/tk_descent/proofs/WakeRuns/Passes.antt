@@ -1,12 +1,15 @@
 -- Several passes.
-use Rattle.std.proofs.Common.{◌≡◌, ℕ, ◌+◌, ◌-◌, ◌*◌, ◌≤◌, List, [], length, refl, sym, ◌∙◌, ap, arith, subst, ℤ, pos}
+use Rattle.std.proofs.Common.{◌≡◌, ℕ, ◌+◌, ◌-◌, ◌*◌, ◌/◌, ◌≤◌, List, [], length, refl, sym, ◌∙◌, ap, arith, subst, ℤ, pos}
 use Rattle.std.proofs.Common.{FitsSigned, w64, to_z, of_z}
 use Rattle.std.proofs.lemmas.Int.{to_z-of_z}
 use Rattle.tk_problem.specs.declared.limits.TheConstants.{CITY_LIMIT}
+use Rattle.tk_near.specs.Near.{NearLists}
 use Rattle.tk_tour.specs.Counters.{saturated}
 use Rattle.tk_tour.specs.Tour.{tour_length}
 use Rattle.tk_descent.proofs.MovesOnTours.Paths.{IsRound, IsTable}
 use Rattle.tk_descent.specs.Awake.{woken_each, one_to}
+use Rattle.tk_descent.specs.Descents.{IsReported, Stand, Terms}
+use Rattle.tk_descent.specs.declared.descent.Report.{Report}
 use Rattle.tk_descent.specs.Machine.{Run}
 use Rattle.tk_descent.specs.Sweeps.{Pass, Moving, Sweeps}
 use Rattle.tk_descent.specs.WakeMachine.{IsLocalOptimum}
@@ -35,19 +38,51 @@ after_bits d e C z is same few h =
     let k : z ≡ pos (tour_length d C) = h ∙ ap (λ y. pos (tour_length y C)) same in
     to_z-of_z w64 z (subst (λ y. FitsSigned w64 y) (sym k) (length_fits (tour_length d C) (fits_length d C is few))) ∙ k
 
-pub more_tests : (B n p k k2 q r t0 t1 t2 : ℕ) → t1 ≤ t0 + B * (n * p + 6 * k) → r ≡ t2 - t1 → t1 ≤ t2 →
-    r ≤ B * (q + 6 * k2) → q ≡ n → t2 ≤ t0 + B * (n * (p + 1) + 6 * (k + k2))
-more_tests B n p k k2 q r t0 t1 t2 h j l f e =
-    let f2 : r ≤ B * (n + 6 * k2) = subst (λ z. r ≤ B * (z + 6 * k2)) e f in
-    omega arith
+more_tests : (b l q k made t u : ℕ) → t ≤ b * (l + 6 * k) → u ≤ b * (q + 6 * made) →
+    t + u ≤ b * (l + q + 6 * (k + made))
+more_tests b l q k made t u h j = omega arith
 
-pub more_looks : (n p k k2 q more looks all : ℕ) → looks ≤ n * p + 6 * k → more ≤ q + 6 * k2 → q ≡ n →
-    all ≡ saturated (looks + more) → all ≤ n * (p + 1) + 6 * (k + k2)
-more_looks n p k k2 q more looks all h j e s = omega arith
+more_swaps : (q k made r s : ℕ) → r ≤ 3 * q * k → s ≤ 3 * q * made → r + s ≤ 3 * q * (k + made)
+more_swaps q k made r s h j = omega arith
 
-pub more_swaps : (q k k2 r s0 s1 s2 : ℕ) → s1 ≤ s0 + 3 * q * k → r ≡ s2 - s1 → s1 ≤ s2 → r ≤ 3 * q * k2 →
-    s2 ≤ s0 + 3 * q * (k + k2)
-more_swaps q k k2 r s0 s1 s2 h j l f = omega arith
+-- what is reported by other names of the distances and of the looks
+pub IsReported-by : {d e : ℕ → ℕ → ℕ} {near : NearLists} {m looks n : ℕ} {from to : Stand} {report : Report} → e ≡ d →
+    looks ≡ n → IsReported (record { distance = e; near = near; or_segment = m }) from to looks report →
+    IsReported (record { distance = d; near = near; or_segment = m }) from to n report
+IsReported-by {d} {e} {near} {m} {looks = looks} {from = from} {to = to} {report = report} same size h =
+    subst (λ z. IsReported (record { distance = d; near = near; or_segment = m }) from to z report) size
+    (subst (λ z. IsReported (record { distance = z; near = near; or_segment = m }) from to looks report) same h)
+
+-- what is reported of two descents, the one after the other
+pub IsReported-more : {by : Terms} {from to : Stand} {tour asleep woken : List ℕ} {tests swaps flips looks more every : ℕ}
+    {one two all : Report} →
+    IsReported by from (record { tour = tour; awake = asleep; tests = tests; swaps = swaps; flips = flips }) looks one →
+    IsReported by (record { tour = tour; awake = woken; tests = tests; swaps = swaps; flips = flips }) to more two →
+    length tour ≡ length from.tour → every ≡ looks + more →
+    all.before ≡ pos (tour_length by.distance from.tour) → all.after ≡ pos (tour_length by.distance to.tour) →
+    all.moves ≡ one.moves + two.moves → all.looks ≤ one.looks + two.looks → all.tests ≡ to.tests - from.tests →
+    all.swaps ≡ to.swaps - from.swaps → IsReported by from to every all
+IsReported-more {by} {from} {looks = looks} {more = more} {every = every} {one = one} {two = two} {all = all} h k size
+    most before after moves looked tests swaps =
+    let wide = more_tests (4 * by.or_segment * by.near.width) looks more one.moves two.moves one.tests two.tests
+    h.tests_most k.tests_most in
+    let same : looks + more + 6 * (one.moves + two.moves) ≡ every + 6 * all.moves = omega (arith, most, moves) in
+    let taken = more_swaps (length from.tour / 4) one.moves two.moves one.swaps two.swaps h.swaps_most
+    (subst (λ z. two.swaps ≤ 3 * (z / 4) * two.moves) size k.swaps_most) in
+    record {
+      before = before;
+      after = after;
+      moves = omega (arith, h.moves, k.moves, moves);
+      looks_most = omega (arith, h.looks_most, k.looks_most, most, moves, looked);
+      tests_most = subst (λ z. all.tests ≤ 4 * by.or_segment * by.near.width * z) same
+          (omega (arith, wide, h.tests, k.tests, h.rises.0, k.rises.0, tests));
+      tests = tests;
+      swaps_most = subst (λ z. all.swaps ≤ 3 * (length from.tour / 4) * z) (sym moves)
+          (omega (arith, taken, h.swaps, k.swaps, h.rises.1, k.rises.1, swaps));
+      swaps = swaps;
+      flips_most = omega (arith, h.flips_most, k.flips_most, moves);
+      rises = (omega (arith, h.rises.0, k.rises.0), omega (arith, h.rises.1, k.rises.1));
+    }
 
 pub swept : (d : ℕ → ℕ → ℕ) (near : ℕ → List ℕ) (m : ℕ) (T C D : List ℕ)
     (passes looks moves tests more made tried all every : ℕ) → Moving d near m T C passes looks moves tests →

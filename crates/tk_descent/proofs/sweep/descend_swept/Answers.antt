@@ -1,4 +1,4 @@
-use Rattle.std.proofs.Common.{arith, rules, refl, sym, ◌∙◌, ap, subst, ◌≡◌, ◌≤◌, ◌+◌, ◌*◌, ◌/◌, length}
+use Rattle.std.proofs.Common.{arith, rules, refl, sym, ◌∙◌, ap, subst, ◌≡◌, ◌≤◌, ◌+◌, ◌*◌, length}
 use Rattle.std.proofs.lemmas.Int.{ints}
 use Rattle.tk_near.specs.Near.{near_of}
 use Rattle.tk_tour.specs.Counters.{saturated}
@@ -9,8 +9,8 @@ use Rattle.tk_descent.specs.Sweeps.Moving.{start, pass}
 use Rattle.tk_descent.proofs.MovesOnTours.Paths.{IsTable}
 use Rattle.tk_descent.proofs.MovesOnTours.Rounds.{round_of}
 use Rattle.tk_descent.proofs.WakeRuns.Woken.{one_to-length}
-use Rattle.tk_descent.proofs.WakeRuns.Passes.{all_awake, pass_of, pass_optimum, after_bits, more_looks, more_tests}
-use Rattle.tk_descent.proofs.WakeRuns.Passes.{more_swaps, swept, count_pass, fresh_sweep}
+use Rattle.tk_descent.proofs.WakeRuns.Passes.{all_awake, pass_of, pass_optimum, after_bits, swept}
+use Rattle.tk_descent.proofs.WakeRuns.Passes.{count_pass, fresh_sweep, IsReported-more, IsReported-by}
 use Rattle.tk_descent.proofs.sweep.descend_swept.Given.{Over}
 use Rattle.tk_descent.proofs.sweep.descend_swept.Goals as goal
 
@@ -26,15 +26,19 @@ sweeping-init g c = record {
   size = refl;
   awake = c.put_to_sleep.ensures.size ∙ c.requires.fits.2;
   none = c.put_to_sleep.ensures.queue;
-  after = search rules;
   passed = omega arith;
-  looked = omega arith;
-  gained = omega arith;
-  tests = omega arith;
-  tests_rise = omega arith;
-  swaps_rise = omega arith;
-  swaps = omega arith;
-  flips = omega arith;
+  reported = record {
+    before = search rules;
+    after = search rules;
+    moves = omega arith;
+    looks_most = omega arith;
+    tests_most = omega arith;
+    tests = refl;
+    swaps_most = omega arith;
+    swaps = refl;
+    flips_most = omega arith;
+    rises = (omega arith, omega arith);
+  };
   kept = g.met.S.TourStore.flips_none _;
 }
 
@@ -47,7 +51,7 @@ overflow_add-moves g c =
     let less : c.descend-pass.result.moves + tour_length d D ≤ tour_length d C =
     subst (λ z. c.descend-pass.result.moves + tour_length z D ≤ tour_length z C) i.table
     c.descend-pass.ensures.descent.reported.moves in
-    omega (arith, ints, i.gained, less, c.requires.before)
+    omega (arith, ints, i.reported.moves, less, c.requires.before)
 
 pub returns-then-pass-eq0-clause-flips_only : goal.returns-then-pass-eq0-clause-flips_only
 returns-then-pass-eq0-clause-flips_only g c =
@@ -63,14 +67,10 @@ sweeping-preserved g c =
     let i = c.sweeping.invariant in
     let e = c.descend-pass.ensures in
     let run = e.descent.run in
-    let told = e.descent.reported in
     let d = g.G.Gains.distance c.args.gains.now in
-    let C = g.S.TourStore.cities c.sweeping.tour in
     let D = g.S.TourStore.cities c.descend-pass.new.tour in
     let front : c.wake_all.new.self.queue ≡ one_to (length (g.S.TourStore.cities c.args.tour.now)) =
     all_awake _ c.sweeping.waking.queue c.sweeping.waking.size _ c.wake_all.ensures.queue i.none i.awake in
-    let less : c.descend-pass.result.moves + tour_length d D ≤ tour_length d C =
-    subst (λ z. c.descend-pass.result.moves + tour_length z D ≤ tour_length z C) i.table told.moves in
     record {
       chain = (
         saturated (i.chain.0 + run.0),
@@ -87,28 +87,14 @@ sweeping-preserved g c =
       size = e.sizes.0 ∙ i.size;
       awake = e.sizes.1 ∙ c.wake_all.ensures.size ∙ i.awake;
       none = e.descent.asleep;
-      after = after_bits d (g.G.Gains.distance c.sweeping.gains) D c.descend-pass.result.after
-          (laws g c.args.gains.now) i.table
-          (omega (arith, e.sizes.0, i.size, c.size-cities.ensures.count, c.size-cities.ensures.limits.1)) told.after;
       passed = omega (arith, i.passed, c.if-pass-eq0.false);
-      gained = omega (arith, i.gained, less);
-      looked = more_looks (length (g.S.TourStore.cities c.args.tour.now)) c.sweeping.passes c.sweeping.moves
-          c.descend-pass.result.moves (length c.wake_all.new.self.queue) c.descend-pass.result.looks c.sweeping.looks
-          _ i.looked told.looks_most (ap length front ∙ one_to-length _) c.saturating_add-looks.ensures;
-      tests = more_tests (4 * c.args.or_segment * c.args.near.now.width) (length (g.S.TourStore.cities c.args.tour.now))
-          c.sweeping.passes c.sweeping.moves c.descend-pass.result.moves (length c.wake_all.new.self.queue)
-          c.descend-pass.result.tests
-          (g.G.Gains.test_count c.args.gains.now) (g.G.Gains.test_count c.sweeping.gains)
-          (g.G.Gains.test_count c.descend-pass.new.gains) i.tests told.tests told.rises.0 told.tests_most
-          (ap length front ∙ one_to-length _);
-      tests_rise = omega (arith, i.tests_rise, told.rises.0);
-      swaps_rise = omega (arith, i.swaps_rise, told.rises.1);
-      swaps = more_swaps (length (g.S.TourStore.cities c.args.tour.now) / 4) c.sweeping.moves
-          c.descend-pass.result.moves c.descend-pass.result.swaps (g.S.TourStore.swap_count c.args.tour.now)
-          (g.S.TourStore.swap_count c.sweeping.tour) (g.S.TourStore.swap_count c.descend-pass.new.tour) i.swaps
-          told.swaps told.rises.1
-          (subst (λ z. c.descend-pass.result.swaps ≤ 3 * (z / 4) * c.descend-pass.result.moves) i.size told.swaps_most);
-      flips = omega (arith, i.flips, told.flips_most);
+      reported = IsReported-more {more = length (g.S.TourStore.cities c.args.tour.now)} i.reported
+          (IsReported-by i.table (ap length front ∙ one_to-length _) e.descent.reported) i.size (omega arith)
+          i.reported.before
+          (after_bits d (g.G.Gains.distance c.sweeping.gains) D c.descend-pass.result.after
+          (laws g c.args.gains.now) i.table
+          (omega (arith, e.sizes.0, i.size, c.size-cities.ensures.count, c.size-cities.ensures.limits.1))
+          e.descent.reported.after) refl (omega (arith, c.saturating_add-looks.ensures)) refl refl;
       kept = g.met.S.TourStore.flips_more _ _ _ i.kept e.flips_only;
     }
 
@@ -134,7 +120,6 @@ returns-then-pass-eq0-clause-sweeping g c =
     let e = c.descend-pass.ensures in
     let pass = c.descend-pass.result in
     let run = e.descent.run in
-    let told = e.descent.reported in
     let d = g.G.Gains.distance c.args.gains.now in
     let near = near_of c.args.near.now in
     let m = c.args.or_segment in
@@ -151,8 +136,6 @@ returns-then-pass-eq0-clause-sweeping g c =
     let sweeps = swept d near m T C D c.sweeping.passes c.sweeping.looks c.sweeping.moves _ _ _ _ _ _ i.chain.1
     last c.if-pass-eq0.true c.saturating_add-looks.ensures refl in
     let counted = count_pass _ _ _ i.chain.0 run.0 i.chain.2 run.2 in
-    let less : pass.moves + tour_length d D ≤ tour_length d C =
-    subst (λ z. pass.moves + tour_length z D ≤ tour_length z C) i.table told.moves in
     record {
       sweeps = (_, sweeps, counted);
       fresh = λ fresh. fresh_sweep d near m T D _ _ _ _ (g.G.Gains.test_count c.args.gains.now)
@@ -163,35 +146,7 @@ returns-then-pass-eq0-clause-sweeping g c =
       asleep = search rules;
       tour = subst (λ z. IsTour z D) (e.sizes.0 ∙ i.size) (g.met.S.TourStore.is_tour c.descend-pass.new.tour).2;
       passes = search rules;
-      reported = record {
-        before = search rules;
-        after = search rules;
-        moves = omega (arith, i.gained, less);
-        looks_most = more_looks n c.sweeping.passes c.sweeping.moves pass.moves (length c.wake_all.new.self.queue)
-            pass.looks c.sweeping.looks _ i.looked told.looks_most front c.saturating_add-looks.ensures;
-        tests_most =
-            omega (
-              arith,
-              c.tests.ensures,
-              c.tests-tests.ensures,
-              more_tests (4 * m * c.args.near.now.width) n c.sweeping.passes c.sweeping.moves pass.moves
-                  (length c.wake_all.new.self.queue) pass.tests (g.G.Gains.test_count c.args.gains.now)
-                  (g.G.Gains.test_count c.sweeping.gains) (g.G.Gains.test_count c.descend-pass.new.gains) i.tests
-                  told.tests told.rises.0 told.tests_most front,
-            );
-        tests = search rules;
-        swaps_most =
-            omega (
-              arith,
-              c.swaps.ensures,
-              c.swaps-swaps.ensures,
-              more_swaps (n / 4) c.sweeping.moves pass.moves pass.swaps (g.S.TourStore.swap_count c.args.tour.now)
-                  (g.S.TourStore.swap_count c.sweeping.tour) (g.S.TourStore.swap_count c.descend-pass.new.tour) i.swaps
-                  told.swaps told.rises.1
-                  (subst (λ z. pass.swaps ≤ 3 * (z / 4) * pass.moves) i.size told.swaps_most),
-            );
-        swaps = search rules;
-        flips_most = omega (arith, i.flips, told.flips_most);
-        rises = (omega (arith, i.tests_rise, told.rises.0), omega (arith, i.swaps_rise, told.rises.1));
-      };
+      reported = IsReported-more i.reported (IsReported-by i.table front e.descent.reported) i.size (omega arith)
+          (search rules) (search rules) refl (omega (arith, c.saturating_add-looks.ensures)) (search rules)
+          (search rules);
     }

@@ -1,7 +1,8 @@
-use Rattle.std.proofs.Common.{◌≡◌, ℕ, ◌+◌, ◌*◌, ◌/◌, ◌≤◌, [], pos, length}
+use Rattle.std.proofs.Common.{◌≡◌, ℕ, ◌+◌, ◌-◌, ◌*◌, ◌≤◌, [], length}
 use Rattle.tk_near.specs.Near.{near_of}
 use Rattle.tk_tour.specs.Counters.{saturated}
 use Rattle.tk_tour.specs.Tour.{tour_length}
+use Rattle.tk_descent.specs.Descents.{IsReported, stand}
 use Rattle.tk_descent.specs.Sweeps.{Moving}
 use Rattle.tk_descent.proofs.sweep.descend_swept.Given as goal
 
@@ -18,16 +19,17 @@ invariant-sweeping g l =
       size : length C ≡ length T;
       awake : l.waking.size ≡ length T;
       none : l.waking.queue ≡ [];
-      after : l.after ≡ pos (tour_length dist C);
       passed : l.passes ≤ l.moves;
-      gained : l.moves + tour_length dist C ≤ tour_length dist T;
-      looked : l.looks ≤ length T * l.passes + 6 * l.moves;
-      tests : g.G.Gains.test_count l.gains ≤ g.G.Gains.test_count l.fn.gains + 4 * l.or_segment * l.near.width *
-          (length T * l.passes + 6 * l.moves);
-      tests_rise : g.G.Gains.test_count l.fn.gains ≤ g.G.Gains.test_count l.gains;
-      swaps_rise : g.S.TourStore.swap_count l.fn.tour ≤ g.S.TourStore.swap_count l.tour;
-      swaps : g.S.TourStore.swap_count l.tour ≤ g.S.TourStore.swap_count l.fn.tour + 3 * (length T / 4) * l.moves;
-      flips : g.S.TourStore.flip_count l.tour ≤ g.S.TourStore.flip_count l.fn.tour + 3 * l.moves;
+      reported : IsReported (record { distance = dist; near = l.near; or_segment = l.or_segment })
+          (stand g.S.TourStore l.fn.tour l.fn.waking (g.G.Gains.test_count l.fn.gains))
+          (stand g.S.TourStore l.tour l.waking (g.G.Gains.test_count l.gains)) (length T * l.passes) (record {
+            before = l.before;
+            after = l.after;
+            moves = l.moves;
+            looks = l.looks;
+            tests = g.G.Gains.test_count l.gains - g.G.Gains.test_count l.fn.gains;
+            swaps = g.S.TourStore.swap_count l.tour - g.S.TourStore.swap_count l.fn.tour;
+          });
       kept : g.S.TourStore.FlipsOnly l.fn.tour l.tour;
     }
 
