@@ -85,10 +85,14 @@ abbrev pub offers_with : (ℕ → ℕ) → (ℕ → ℕ) → List Segment → �
 offers_with next prev ss x y =
     Two x (next x) y (next y) ∷ Two x (prev x) y (prev y) ∷ flat_map (or_offers x y (next y) (prev y)) ss
 
+-- the offers of x with y on a cycle
+abbrev pub offers_between : List ℕ → ℕ → ℕ → ℕ → List Offer
+offers_between C m x =
+    offers_with (next_city C) (prev_city C) (segments (next_city C) (prev_city C) (length C) m x) x
+
 -- the offers of x on a cycle, with its near cities
 abbrev pub offers : List ℕ → ℕ → List ℕ → ℕ → List Offer
-offers C m near x =
-    flat_map (offers_with (next_city C) (prev_city C) (segments (next_city C) (prev_city C) (length C) m x) x) near
+offers C m near x = flat_map (offers_between C m x) near
 
 abbrev pub first_gain : (ℕ → ℕ → ℕ) → List Offer → Option Offer
 first_gain dist [] = None

@@ -9,8 +9,8 @@ use Rattle.tk_tour.specs.Tour.{IsRotation, SameCycle, next_city, prev_city}
 use Rattle.tk_descent.proofs.MovesOnTours.Views.{Made, Parts, made_of}
 use Rattle.tk_descent.proofs.MovesOnTours.Paths.{Spans}
 use Rattle.tk_distance.specs.Holding.{IsDistinct, holds}
-use Rattle.tk_descent.specs.Offers.{covers, segment_of_one, all_segments, segment_count, segments}
-use Rattle.tk_descent.specs.Offers.{or_offer, or_offers, offers_with, offers, removed, added}
+use Rattle.tk_descent.specs.Offers.{offers_between, covers, segment_of_one, all_segments, segment_count}
+use Rattle.tk_descent.specs.Offers.{or_offer, or_offers, offers, removed, added}
 use Rattle.tk_descent.specs.WakeMachine.{IsOfferOf}
 use Rattle.tk_descent.proofs.OfferLists.Listed.{IsListed, HasSameSteps, IsComplete}
 use Rattle.tk_descent.specs.declared.offer.Segment.{Segment}
@@ -86,11 +86,9 @@ listed_at f o (suc k) (suc i) (t ∷ ss) s h l j =
 two_listed : (C near : List ℕ) (m x a b c d : ℕ) → a ≡ x → holds near c ≡ true → Steps C a b c d →
     IsListed (offers C m near x) (Two a b c d)
 two_listed C near m x a b c d e h (inl (p, q)) =
-    listed-near (offers_with (next_city C) (prev_city C) (segments (next_city C) (prev_city C) (length C) m x) x) near c
-    (Two a b c d) h (inl cc)
+    listed-near (offers_between C m x) near c (Two a b c d) h (inl cc)
 two_listed C near m x a b c d e h (inr (p, q)) =
-    listed-near (offers_with (next_city C) (prev_city C) (segments (next_city C) (prev_city C) (length C) m x) x) near c
-    (Two a b c d) h (inr (inl cc))
+    listed-near (offers_between C m x) near c (Two a b c d) h (inr (inl cc))
 
 steps-swap : (C : List ℕ) (a b c d : ℕ) → Steps C a b c d → Steps C c d a b
 steps-swap C a b c d (inl (p, q)) = inl (q, p)
@@ -263,8 +261,8 @@ module _ {K : List ℕ} {nx pv : ℕ → ℕ} (ways : Ways K nx pv) {m : ℕ} (s
     offered i many low a2 b2 ha hm he hb =
         let o = Or a2 x e b2 y w in
         let ss = all_segments (next_city C) (prev_city C) x in
-        listed-near (offers_with (next_city C) (prev_city C) (segments (next_city C) (prev_city C) (length C) m x) x)
-        near y o hn (inr (inr (listed_at (or_offers x y (next_city C y) (prev_city C y)) o
+        listed-near (offers_between C m x) near y o hn
+        (inr (inr (listed_at (or_offers x y (next_city C y) (prev_city C y)) o
         (segment_count (length C) m) i ss (at 0) many low
         (or_listed x y w (next_city C y) (prev_city C y) a2 e b2 (at i) ha he hb (uncovered (at i) y hm he beside.0)
         (uncovered (at i) w hm he beside.1) beside.2))))

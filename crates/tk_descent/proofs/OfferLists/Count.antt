@@ -5,6 +5,7 @@ use Rattle.std.proofs.Common.{length-take}
 use Rattle.std.proofs.lemmas.Bool.{ltb-true, leb-true}
 use Rattle.std.proofs.lemmas.Int.{ints}
 use Rattle.tk_tour.specs.Tour.{next_city, prev_city, tour_length, walk}
+use Rattle.tk_descent.specs.Offers.{offers_between}
 use Rattle.tk_descent.specs.Offers.{first_gain, tests_to, Searched, improves, removed, added, covers, or_offer}
 use Rattle.tk_descent.specs.Offers.{or_offers, offers_with, offers, segments, all_segments, segment_count, ends}
 use Rattle.tk_descent.specs.Awake.{woken, woken_each}
@@ -83,8 +84,8 @@ offers_with-le next prev n m x y l =
 
 pub offers-le : (C near : List ℕ) (m x : ℕ) → 1 ≤ m → length (offers C m near x) ≤ 4 * m * length near
 offers-le C near m x l =
-    length-flat_map-le (offers_with (next_city C) (prev_city C) (segments (next_city C) (prev_city C) (length C) m x) x)
-    (4 * m) (λ y. offers_with-le (next_city C) (prev_city C) (length C) m x y l) near
+    length-flat_map-le (offers_between C m x) (4 * m)
+    (λ y. offers_with-le (next_city C) (prev_city C) (length C) m x y l) near
 
 -- at most 4 * m tests for each near city
 pub tested : (d : ℕ → ℕ → ℕ) (C near : List ℕ) (m x t u k : ℕ) (r : Option Found) → 1 ≤ m → length near ≤ k →
@@ -94,9 +95,7 @@ tested d C near m x t u k r l e h =
     omega (arith, h.tests, tests_to-le d (offers C m near x), p, offers-le C near m x l)
 
 pub tested_part : (d : ℕ → ℕ → ℕ) (C near : List ℕ) (m x i t u k : ℕ) (r : Option Found) → 1 ≤ m → length near ≤ k →
-    Searched d
-    (flat_map (offers_with (next_city C) (prev_city C) (segments (next_city C) (prev_city C) (length C) m x) x)
-    (take i near)) r t u → u ≤ t + 4 * m * k
+    Searched d (flat_map (offers_between C m x) (take i near)) r t u → u ≤ t + 4 * m * k
 tested_part d C near m x i t u k r l e h = tested d C (take i near) m x t u k r l (omega (arith, length-take i near)) h
 
 -- the numbers of a move

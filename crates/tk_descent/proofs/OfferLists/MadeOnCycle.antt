@@ -10,9 +10,8 @@ use Rattle.tk_descent.specs.declared.offer.Offer.TheVariants.{Two, Or}
 use Rattle.tk_descent.specs.declared.offer.Segment.{Segment}
 use Rattle.tk_descent.proofs.Lists.{holds-push_other}
 use Rattle.tk_descent.proofs.MovesOnTours.Length.{Spans-append}
-use Rattle.tk_descent.proofs.MovesOnTours.Steps.{Apart, turned, rotation-trans}
-use Rattle.tk_descent.proofs.MovesOnTours.Steps.{distinct-rotation, distinct-parts, apart-ne}
-use Rattle.tk_descent.proofs.MovesOnTours.Steps.{holds-first, holds-last}
+use Rattle.tk_descent.proofs.MovesOnTours.Steps.{Apart, turned, rotation-trans, distinct-rotation, distinct-parts}
+use Rattle.tk_descent.proofs.MovesOnTours.Steps.{apart-ne, holds-first, holds-last}
 use Rattle.tk_descent.proofs.OfferLists.Ways.{same_cycle, member_split, spans_push, holds-rotation, rotated_to}
 use Rattle.tk_descent.proofs.OfferLists.Ways.{spans_two, last_same, Ways}
 

@@ -12,9 +12,9 @@ use Rattle.tk_tour.specs.Tour.{IsRotation, SameCycle, next_city, prev_city}
 use Rattle.tk_descent.proofs.MovesOnTours.Views.{IsMadeOn, Parts, offer_on}
 use Rattle.tk_descent.proofs.MovesOnTours.Paths.{Spans, last_from, IsRound}
 use Rattle.tk_distance.specs.Holding.{IsDistinct, holds}
-use Rattle.tk_descent.specs.Offers.{first_gain, improves, covers, segment_of_one, segment_of_two, segment_of_three}
-use Rattle.tk_descent.specs.Offers.{all_segments, segments, or_offer, or_offers, offers_with, offers, EndsIn}
-use Rattle.tk_descent.specs.Offers.{IsSegmentIn}
+use Rattle.tk_descent.specs.Offers.{offers_between, first_gain, improves, covers, segment_of_one, segment_of_two}
+use Rattle.tk_descent.specs.Offers.{segment_of_three, all_segments, segments, or_offer, or_offers, offers_with, offers}
+use Rattle.tk_descent.specs.Offers.{EndsIn, IsSegmentIn}
 use Rattle.tk_distance.specs.Cities.{IsCity}
 use Rattle.tk_descent.specs.declared.offer.Segment.{Segment}
 use Rattle.tk_descent.specs.declared.offer.Offer.{Offer}
@@ -316,8 +316,7 @@ module _ (C : List ℕ) (m x y : ℕ) (tour : IsRound C) (low : 1 ≤ m) (hx : h
       )
 
 with_other : (C : List ℕ) (m x n y : ℕ) → IsRound C → 1 ≤ m → n ≡ length C → IsCity (length C) x → IsOther n x y →
-    Each (OnCycle C m)
-    (offers_with (next_city C) (prev_city C) (segments (next_city C) (prev_city C) (length C) m x) x y)
+    Each (OnCycle C m) (offers_between C m x y)
 with_other C m x n y tour low size in' q =
     with_on C m x y tour low ((tour.members x).1 in') ((tour.members y).1 (q.0.0, omega (arith, size, q.0.1))) q.1
 
@@ -326,8 +325,7 @@ pub offers_on : (d : ℕ → ℕ → ℕ) (C near : List ℕ) (m x n : ℕ) (o :
     first_gain d (offers C m near x) ≡ Some o → IsOfferOn m o C × EndsIn (length C) o
 offers_on d C near m x n o tour size low in' others e =
     let r = found_has (OnCycle C m) d (offers C m near x) o
-    (each_flat (OnCycle C m)
-    (offers_with (next_city C) (prev_city C) (segments (next_city C) (prev_city C) (length C) m x) x) near
+    (each_flat (OnCycle C m) (offers_between C m x) near
     (λ k y l. with_other C m x n _ tour low size in' (others k y l))) e in
     (offer_on m o C r.0, r.1)
 
@@ -338,8 +336,7 @@ each_ends C m (o ∷ os) h = All-cons (EndsIn (length C)) o os h.0.1 (each_ends 
 -- the ends of the offers of x with a near city are cities
 pub with_ends : (C near : List ℕ) (m x n k i : ℕ) (os : List Offer) → IsRound C → n ≡ length C → k ≡ length C → 1 ≤ m →
     IsCity (length C) x → All (IsOther n x) near → i < length near →
-    os ≡ offers_with (next_city C) (prev_city C) (segments (next_city C) (prev_city C) (length C) m x) x
-    (slice_index near i) → All (EndsIn k) os
+    os ≡ offers_between C m x (slice_index near i) → All (EndsIn k) os
 with_ends C near m x n k i os tour size many low in' others at same =
     let h = with_other C m x n (slice_index near i) tour low size in' (others i 0 at) in
     subst (λ z. All (EndsIn z) os) (sym many) (each_ends C m os (subst (λ z. Each (OnCycle C m) z) (sym same) h))

@@ -9,7 +9,8 @@ use Rattle.std.proofs.lemmas.List.Concat.{flat_map-append}
 use Rattle.std.specs.List.{All}
 use Rattle.std.proofs.lemmas.List.Elements.{All-cons, All-nil}
 use Rattle.tk_tour.specs.Counters.{saturated}
-use Rattle.tk_descent.specs.Offers.{first_gain, tests_to, Searched, improves, or_offers, offers_with, segments}
+use Rattle.tk_tour.specs.Tour.{next_city, prev_city}
+use Rattle.tk_descent.specs.Offers.{offers_between, first_gain, tests_to, Searched, improves, or_offers, segments}
 use Rattle.tk_descent.specs.Offers.{segment_count, all_segments}
 use Rattle.tk_descent.specs.Sharing.{segment_of, piece_offers}
 use Rattle.tk_descent.specs.declared.looks.sharing.Beside.{Beside}
@@ -105,23 +106,23 @@ pub on_list : (d : ℕ → ℕ → ℕ) (os qs : List Offer) (r : Option Found) 
     Searched d qs r t u
 on_list d os qs r t u same h = subst (λ z. Searched d z r t u) same h
 
-pub pieces_are : (next prev : ℕ → ℕ) (n m k x z : ℕ) (all : List Piece) → k ≡ segment_count n m → z ≡ x →
-    map segment_of all ≡ all_segments next prev z → map segment_of (take k all) ≡ segments next prev n m x
-pieces_are next prev n m k x z all h1 h2 h3 =
-    sym (take-map segment_of k all) ∙ ap (take k) h3 ∙ ap (λ i. take i (all_segments next prev z)) h1
-    ∙ ap (λ i. take (segment_count n m) (all_segments next prev i)) h2
-
 -- what a search with the cities beside x and y in hand says of the offers of x with y
-pub with_city : (next prev : ℕ → ℕ) (ss : List Segment) (ps : List Piece) (a b : Beside) (x y : ℕ) (d : ℕ → ℕ → ℕ)
-    (r : Option Found) (t u : ℕ) →
-    a.city ≡ x → a.after ≡ next x → a.before ≡ prev x → b.city ≡ y → b.after ≡ next y → b.before ≡ prev y →
-    map segment_of ps ≡ ss →
+pub with_city : (C : List ℕ) (m n k : ℕ) (all : List Piece) (a b : Beside) (x y : ℕ) (d : ℕ → ℕ → ℕ) (r : Option Found)
+    (t u : ℕ) → k ≡ segment_count n m → n ≡ length C →
+    map segment_of all ≡ all_segments (next_city C) (prev_city C) a.city →
+    a.city ≡ x → a.after ≡ next_city C x → a.before ≡ prev_city C x →
+    b.city ≡ y → b.after ≡ next_city C y → b.before ≡ prev_city C y →
     Searched d (Two a.city a.after b.city b.after ∷ Two a.city a.before b.city b.before
-    ∷ flat_map (piece_offers a.city b) ps) r t u → Searched d (offers_with next prev ss x y) r t u
-with_city next prev ss ps a b x y d r t u h1 h2 h3 h4 h5 h6 h7 h =
-    let rest : flat_map (piece_offers a.city b) ps ≡ flat_map (or_offers a.city b.city b.after b.before) ss =
-    sym (flat_map-map (or_offers a.city b.city b.after b.before) segment_of ps)
-    ∙ ap (flat_map (or_offers a.city b.city b.after b.before)) h7 in
+    ∷ flat_map (piece_offers a.city b) (take k all)) r t u → Searched d (offers_between C m x y) r t u
+with_city C m n k all a b x y d r t u count size are h1 h2 h3 h4 h5 h6 h =
+    let F : List Segment → List Offer = flat_map (or_offers a.city b.city b.after b.before) in
+    let ss : map segment_of (take k all) ≡ segments (next_city C) (prev_city C) (length C) m x =
+    sym (take-map segment_of k all) ∙ ap (take k) are
+    ∙ ap (λ i. take i (all_segments (next_city C) (prev_city C) a.city)) (count ∙ ap (λ z. segment_count z m) size)
+    ∙ ap (λ i. take (segment_count (length C) m) (all_segments (next_city C) (prev_city C) i)) h1 in
+    let rest : flat_map (piece_offers a.city b) (take k all)
+    ≡ F (segments (next_city C) (prev_city C) (length C) m x) =
+    sym (flat_map-map (or_offers a.city b.city b.after b.before) segment_of (take k all)) ∙ ap F ss in
     let same : (Two a.city a.after b.city b.after ∷ Two a.city a.before b.city b.before
-    ∷ flat_map (piece_offers a.city b) ps) ≡ offers_with next prev ss x y = cc in
+    ∷ flat_map (piece_offers a.city b) (take k all)) ≡ offers_between C m x y = cc in
     on_list d _ _ r t u same h

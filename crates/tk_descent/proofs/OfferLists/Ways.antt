@@ -1,7 +1,6 @@
 -- The neighbours of the cities of a cycle, in each rotation of it.
-use Rattle.std.proofs.Common.{◌≡◌, ℕ, ◌⊎◌, true, false, eqb, List, [], ◌∷◌, ◌++◌}
-use Rattle.std.proofs.Common.{reverse, refl, sym, ◌∙◌, ap, inl, inr, subst}
-use Rattle.std.proofs.Common.{append_assoc}
+use Rattle.std.proofs.Common.{◌≡◌, ℕ, ◌⊎◌, true, false, eqb, List, [], ◌∷◌, ◌++◌, reverse, refl, sym, ◌∙◌, ap, inl, inr}
+use Rattle.std.proofs.Common.{subst, append_assoc}
 use Rattle.std.proofs.Math.Bool.{or_comm}
 use Rattle.std.proofs.lemmas.Bool.{or_cases, eqb-true, both_ways}
 use Rattle.std.proofs.lemmas.List.{reverse-reverse}

@@ -7,7 +7,7 @@ use Rattle.std.proofs.lemmas.Bool.{cases_eq}
 use Rattle.tk_tour.specs.Tour.{next_city, prev_city}
 use Rattle.tk_descent.proofs.MovesOnTours.Cities.{distinct_made}
 use Rattle.tk_descent.proofs.MovesOnTours.Paths.{IsTable}
-use Rattle.tk_descent.specs.Offers.{first_gain, improves, or_offer, or_offers, offers_with, offers, segments}
+use Rattle.tk_descent.specs.Offers.{offers_between, first_gain, improves, or_offer, or_offers, offers, segments}
 use Rattle.tk_descent.specs.Offers.{removed, added, ends}
 use Rattle.tk_descent.specs.Awake.{woken, woken_each}
 use Rattle.tk_distance.specs.Holding.{IsDistinct, holds}
@@ -69,9 +69,7 @@ pub found_from : (d : ℕ → ℕ → ℕ) (near : ℕ → List ℕ) (m x : ℕ)
     first_gain d (offers C m (near x) x) ≡ Some o → IsOfferOf near x o × (holds (ends o) x ≡ true)
 found_from d near m x C o e =
     found_has (IsFrom near x) d (offers C m (near x) x) o
-    (each_held (IsFrom near x)
-    (offers_with (next_city C) (prev_city C) (segments (next_city C) (prev_city C) (length C) m x) x)
-    (near x) (λ y h. (
+    (each_held (IsFrom near x) (offers_between C m x) (near x) (λ y h. (
       (inl (refl, h), holds-here x (next_city C x ∷ y ∷ next_city C y ∷ [])),
       (
         (inl (refl, h), holds-here x (prev_city C x ∷ y ∷ prev_city C y ∷ [])),

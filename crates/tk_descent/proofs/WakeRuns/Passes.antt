@@ -1,6 +1,6 @@
 -- Several passes.
-use Rattle.std.proofs.Common.{◌≡◌, ℕ, ◌+◌, ◌-◌, ◌*◌, ◌/◌, ◌≤◌, List, [], length, refl, sym, ◌∙◌, ap, arith, subst, ℤ, pos}
-use Rattle.std.proofs.Common.{FitsSigned, w64, to_z, of_z}
+use Rattle.std.proofs.Common.{◌≡◌, ℕ, ◌+◌, ◌-◌, ◌*◌, ◌/◌, ◌≤◌, List, [], length, refl, sym, ◌∙◌, ap, arith, subst, ℤ}
+use Rattle.std.proofs.Common.{pos, FitsSigned, w64, to_z, of_z}
 use Rattle.std.proofs.lemmas.Int.{to_z-of_z}
 use Rattle.tk_problem.specs.declared.limits.TheConstants.{CITY_LIMIT}
 use Rattle.tk_near.specs.Near.{NearLists}
@@ -54,8 +54,8 @@ IsReported-by {d} {e} {near} {m} {looks = looks} {from = from} {to = to} {report
     (subst (λ z. IsReported (record { distance = z; near = near; or_segment = m }) from to looks report) same h)
 
 -- what is reported of two descents, the one after the other
-pub IsReported-more : {by : Terms} {from to : Stand} {tour asleep woken : List ℕ} {tests swaps flips looks more every : ℕ}
-    {one two all : Report} →
+pub IsReported-more : {by : Terms} {from to : Stand} {tour asleep woken : List ℕ}
+    {tests swaps flips looks more every : ℕ} {one two all : Report} →
     IsReported by from (record { tour = tour; awake = asleep; tests = tests; swaps = swaps; flips = flips }) looks one →
     IsReported by (record { tour = tour; awake = woken; tests = tests; swaps = swaps; flips = flips }) to more two →
     length tour ≡ length from.tour → every ≡ looks + more →

@@ -1,8 +1,7 @@
 use Rattle.std.proofs.Common.{◌∙◌, length, ap, flat_map, arith, sym}
 use Rattle.std.proofs.lemmas.List.{take_all}
 use Rattle.tk_near.specs.Near.{near_of}
-use Rattle.tk_tour.specs.Tour.{next_city, prev_city}
-use Rattle.tk_descent.specs.Offers.{segments, offers_with, first_gain, offers}
+use Rattle.tk_descent.specs.Offers.{offers_between, first_gain, offers}
 use Rattle.tk_descent.proofs.OfferLists.Searching.{Searched-more, Searched-early, at_table, on_list}
 use Rattle.tk_descent.proofs.OfferLists.Count.{tested, tested_part}
 use Rattle.tk_descent.proofs.OfferLists.OnCycle.{offers_on, with_ends}
@@ -23,11 +22,10 @@ pub returns-in-Some-clause-searched : goal.returns-in-Some-clause-searched
 returns-in-Some-clause-searched g c =
     let d = g.Self.Gains.distance c.args.self.now in
     let C = g.S.TourStore.cities c.args.tour.now in
-    let ss = segments (next_city C) (prev_city C) (length C) c.args.or_segment c.args.city in
     on_list d
-    _ _ _ _ _ (ap (flat_map (offers_with (next_city C) (prev_city C) ss c.args.city))
+    _ _ _ _ _ (ap (flat_map (offers_between C c.args.or_segment c.args.city))
     c.of-near_city-items.ensures.value)
-    (Searched-early d (offers_with (next_city C) (prev_city C) ss c.args.city) c.of-near_city-items.result.now
+    (Searched-early d (offers_between C c.args.or_segment c.args.city) c.of-near_city-items.result.now
     c.loop-near_city.near_city-index 0 c.loop-near_city-test.true _ _ _ _ c.loop-near_city.invariant.searched
     (at_table d _ _ _ _ _ c.loop-near_city.invariant.table
     (on_list _ _ _ _ _ _ (c.as_slice.ensures ∙ c.offers_with-offers.ensures) c.in-Some.ensures.searched)))
@@ -37,10 +35,9 @@ loop-near_city-preserved g c =
     let i = c.loop-near_city.invariant in
     let d = g.Self.Gains.distance c.args.self.now in
     let C = g.S.TourStore.cities c.args.tour.now in
-    let ss = segments (next_city C) (prev_city C) (length C) c.args.or_segment c.args.city in
     record {
       searched =
-          Searched-more d (offers_with (next_city C) (prev_city C) ss c.args.city) c.of-near_city-items.result.now
+          Searched-more d (offers_between C c.args.or_segment c.args.city) c.of-near_city-items.result.now
           c.loop-near_city.near_city-index 0 c.loop-near_city-test.true _ _ _ i.searched
           (at_table d _ _ _ _ _ i.table
           (on_list _ _ _ _ _ _ (c.as_slice.ensures ∙ c.offers_with-offers.ensures) c.in_default.ensures.searched));
@@ -76,9 +73,8 @@ returns-clause-bound g c =
 pub returns-clause-searched : goal.returns-clause-searched
 returns-clause-searched g c =
     let C = g.S.TourStore.cities c.args.tour.now in
-    let ss = segments (next_city C) (prev_city C) (length C) c.args.or_segment c.args.city in
     on_list (g.Self.Gains.distance c.args.self.now)
-    _ _ _ _ _ (ap (flat_map (offers_with (next_city C) (prev_city C) ss c.args.city))
+    _ _ _ _ _ (ap (flat_map (offers_between C c.args.or_segment c.args.city))
     (take_all c.loop-near_city.near_city-index c.of-near_city-items.result.now
     (omega (arith, c.loop-near_city-test.false)) ∙ c.of-near_city-items.ensures.value))
     c.loop-near_city.invariant.searched

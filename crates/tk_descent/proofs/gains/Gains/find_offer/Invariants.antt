@@ -1,6 +1,5 @@
-use Rattle.std.proofs.Common.{◌≡◌, take, flat_map, None, length}
-use Rattle.tk_tour.specs.Tour.{next_city, prev_city}
-use Rattle.tk_descent.specs.Offers.{Searched, offers_with, segments}
+use Rattle.std.proofs.Common.{◌≡◌, take, flat_map, None}
+use Rattle.tk_descent.specs.Offers.{Searched, offers_between}
 use Rattle.tk_descent.proofs.gains.Gains.find_offer.Given as goal
 
 abbrev pub invariant-loop-near_city : goal.invariant-loop-near_city
@@ -8,10 +7,8 @@ invariant-loop-near_city g l =
     let C = g.S.TourStore.cities l.tour in
     record {
       searched : Searched (g.Self.Gains.distance l.fn.self)
-          (flat_map (offers_with (next_city C) (prev_city C)
-          (segments (next_city C) (prev_city C) (length C) l.or_segment l.city) l.city)
-          (take l.near_city-index l.near_city-items)) None (g.Self.Gains.test_count l.fn.self)
-          (g.Self.Gains.test_count l.self);
+          (flat_map (offers_between C l.or_segment l.city) (take l.near_city-index l.near_city-items)) None
+          (g.Self.Gains.test_count l.fn.self) (g.Self.Gains.test_count l.self);
       table : g.Self.Gains.distance l.self ≡ g.Self.Gains.distance l.fn.self;
       range : g.Self.Gains.size_of l.self ≡ g.Self.Gains.size_of l.fn.self;
     }

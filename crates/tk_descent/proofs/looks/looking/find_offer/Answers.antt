@@ -2,11 +2,9 @@ use Rattle.std.proofs.Common.{◌∙◌, length, ap, flat_map, arith, sym}
 use Rattle.std.proofs.lemmas.List.{take_all}
 use Rattle.std.proofs.lemmas.List.Elements.{All-take}
 use Rattle.tk_near.specs.Near.{near_of}
-use Rattle.tk_tour.specs.Tour.{next_city, prev_city}
-use Rattle.tk_descent.specs.Offers.{segments, offers_with, first_gain, offers, segment_count}
+use Rattle.tk_descent.specs.Offers.{offers_between, first_gain, offers}
 use Rattle.tk_descent.specs.Sharing.{IsPiece}
 use Rattle.tk_descent.proofs.OfferLists.Searching.{Searched-more, Searched-early, Searched-none, with_city, on_list}
-use Rattle.tk_descent.proofs.OfferLists.Searching.{pieces_are}
 use Rattle.tk_descent.proofs.OfferLists.Count.{tested, tested_part}
 use Rattle.tk_descent.proofs.OfferLists.OnCycle.{offers_on}
 use Rattle.tk_descent.proofs.MovesOnTours.Rounds.{round_of}
@@ -23,32 +21,28 @@ pub returns-in-Some-clause-searched : goal.returns-in-Some-clause-searched
 returns-in-Some-clause-searched g c =
     let d = g.M.Metric.distance c.args.metric.now in
     let C = g.S.TourStore.cities c.args.tour.now in
-    let ss = segments (next_city C) (prev_city C) (length C) c.args.or_segment c.args.city in
     on_list d
-    _ _ _ _ _ (ap (flat_map (offers_with (next_city C) (prev_city C) ss c.args.city)) c.of-y-items.ensures.value)
-    (Searched-early d (offers_with (next_city C) (prev_city C) ss c.args.city) c.of-y-items.result.now c.loop-y.y-index
+    _ _ _ _ _ (ap (flat_map (offers_between C c.args.or_segment c.args.city)) c.of-y-items.ensures.value)
+    (Searched-early d (offers_between C c.args.or_segment c.args.city) c.of-y-items.result.now c.loop-y.y-index
     0 c.loop-y-test.true _ _ _ _ c.loop-y.invariant.searched
-    (with_city (next_city C) (prev_city C) ss _ c.look_beside-from.result c.look_beside-y.result _ _ d
-    _ _ _ c.look_beside-from.ensures.city c.look_beside-from.ensures.after c.look_beside-from.ensures.before
+    (with_city C c.args.or_segment _ _ _ c.look_beside-from.result c.look_beside-y.result _ _ d _ _ _
+    c.segment_count.ensures.value c.size.ensures.count c.pieces_of-all.ensures.value
+    c.look_beside-from.ensures.city c.look_beside-from.ensures.after c.look_beside-from.ensures.before
     c.look_beside-y.ensures.city c.look_beside-y.ensures.after c.look_beside-y.ensures.before
-    (pieces_are (next_city C) (prev_city C) (length C) c.args.or_segment _ c.args.city
-    _ _ (c.segment_count.ensures.value ∙ ap (λ z. segment_count z c.args.or_segment) c.size.ensures.count)
-    c.look_beside-from.ensures.city c.pieces_of-all.ensures.value) c.in-Some.ensures))
+    c.in-Some.ensures))
 
 pub loop-y-preserved : goal.loop-y-preserved
 loop-y-preserved g c =
     let d = g.M.Metric.distance c.args.metric.now in
     let C = g.S.TourStore.cities c.args.tour.now in
-    let ss = segments (next_city C) (prev_city C) (length C) c.args.or_segment c.args.city in
     record {
-      searched = Searched-more d (offers_with (next_city C) (prev_city C) ss c.args.city) c.of-y-items.result.now
+      searched = Searched-more d (offers_between C c.args.or_segment c.args.city) c.of-y-items.result.now
           c.loop-y.y-index 0 c.loop-y-test.true _ _ _ c.loop-y.invariant.searched
-          (with_city (next_city C) (prev_city C) ss _ c.look_beside-from.result c.look_beside-y.result _ _ d
-          _ _ _ c.look_beside-from.ensures.city c.look_beside-from.ensures.after c.look_beside-from.ensures.before
+          (with_city C c.args.or_segment _ _ _ c.look_beside-from.result c.look_beside-y.result _ _ d _ _ _
+          c.segment_count.ensures.value c.size.ensures.count c.pieces_of-all.ensures.value
+          c.look_beside-from.ensures.city c.look_beside-from.ensures.after c.look_beside-from.ensures.before
           c.look_beside-y.ensures.city c.look_beside-y.ensures.after c.look_beside-y.ensures.before
-          (pieces_are (next_city C) (prev_city C) (length C) c.args.or_segment _ c.args.city
-          _ _ (c.segment_count.ensures.value ∙ ap (λ z. segment_count z c.args.or_segment) c.size.ensures.count)
-          c.look_beside-from.ensures.city c.pieces_of-all.ensures.value) c.in_default.ensures);
+          c.in_default.ensures);
       known = c.look_beside-y.ensures.known;
     }
 
@@ -85,8 +79,7 @@ try_city-requires-clause-pieces g c =
 pub returns-clause-searched : goal.returns-clause-searched
 returns-clause-searched g c =
     let C = g.S.TourStore.cities c.args.tour.now in
-    let ss = segments (next_city C) (prev_city C) (length C) c.args.or_segment c.args.city in
     on_list (g.M.Metric.distance c.args.metric.now)
-    _ _ _ _ _ (ap (flat_map (offers_with (next_city C) (prev_city C) ss c.args.city))
+    _ _ _ _ _ (ap (flat_map (offers_between C c.args.or_segment c.args.city))
     (take_all c.loop-y.y-index c.of-y-items.result.now (omega (arith, c.loop-y-test.false))
     ∙ c.of-y-items.ensures.value)) c.loop-y.invariant.searched

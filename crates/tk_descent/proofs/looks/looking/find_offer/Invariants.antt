@@ -1,6 +1,5 @@
-use Rattle.std.proofs.Common.{take, flat_map, None, length}
-use Rattle.tk_tour.specs.Tour.{next_city, prev_city}
-use Rattle.tk_descent.specs.Offers.{Searched, offers_with, segments}
+use Rattle.std.proofs.Common.{take, flat_map, None}
+use Rattle.tk_descent.specs.Offers.{Searched, offers_between}
 use Rattle.tk_descent.specs.Steps.{AreMeasured}
 use Rattle.tk_descent.proofs.looks.looking.find_offer.Given as goal
 
@@ -9,8 +8,6 @@ invariant-loop-y g l =
     let C = g.S.TourStore.cities l.tour in
     record {
       searched : Searched (g.M.Metric.distance l.metric)
-          (flat_map (offers_with (next_city C) (prev_city C)
-          (segments (next_city C) (prev_city C) (length C) l.or_segment l.city) l.city) (take l.y-index l.y-items)) None
-          l.fn.count l.count;
+          (flat_map (offers_between C l.or_segment l.city) (take l.y-index l.y-items)) None l.fn.count l.count;
       known : AreMeasured (g.M.Metric.distance l.metric) l.steps;
     }
