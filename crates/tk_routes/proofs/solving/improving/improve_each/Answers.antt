@@ -11,7 +11,8 @@ use Rattle.tk_routes.specs.Routes.{route_length, routes_cost}
 use Rattle.tk_routes.proofs.Costs.{route_length-limit}
 use Rattle.tk_routes.proofs.Improving.Exchanged.{AreServedOnce-routes}
 use Rattle.tk_routes.proofs.Improving.ImprovedSteps.{IsImprovedTo, IsImprovedTo-none, IsImprovedTo-more, next_known}
-use Rattle.tk_routes.proofs.Improving.ImprovedSteps.{small_counts, cost_step, improved_all, tested_all, tests_by_fall}
+use Rattle.tk_routes.proofs.Improving.ImprovedSteps.{small_counts, cost_step, improved_all, improved_part}
+use Rattle.tk_routes.proofs.Improving.ImprovedSteps.{tested_all, tests_by_fall}
 use Rattle.tk_routes.proofs.solving.improving.improve_each.Goals as goal
 use Rattle.tk_routes.proofs.solving.improving.improve_each.Goals.{In_ok-customers}
 
@@ -40,12 +41,9 @@ stepped c =
     let r = c.in_ok-customers in
     let at = at_place n.lists n.k c.index-lists-k.result c.deref.result.now
     (omega (arith, c.loop-k-test.true, n.auto.lists)) c.deref.ensures.value in
-    let next : IsImprovedTo i k m olds (set (lists_of n.lists) n.k r.customers.items) (n.k + 1)
-    (n.moves + r.report.moves) (n.swaps + r.report.swaps) (n.tests + r.report.tests) =
-    IsImprovedTo-more i k m olds (lists_of n.lists) n.k n.moves n.swaps n.tests n.invariant.improved cvrp.few
-    c.deref.result.now r.customers.items r.report at.0 at.1 r.ensures in
-    let small = small_counts i k m olds _ _ _ _ _ next cvrp.few c.requires.candidates.1 c.requires.most.1
-    (table_distance-same cvrp.table) (table_distance-limit cvrp.table) in (
+    let next = IsImprovedTo-more n.invariant.improved at.0 at.1 cvrp.few r.ensures in
+    let small = small_counts next cvrp.few c.requires.candidates.1 c.requires.most.1 (table_distance-same cvrp.table)
+    (table_distance-limit cvrp.table) in (
       subst (λ (v : List (List ℕ)). IsImprovedTo i k m olds v (n.k + 1) (n.moves + r.report.moves)
           (n.swaps + r.report.swaps) (n.tests + r.report.tests))
           (sym (map-set (λ (list : Vec ℕ Global). list.items) n.lists n.k r.customers)) next,
@@ -61,28 +59,21 @@ cost_of-before-requires c =
 pub loop-k-init : goal.loop-k-init
 loop-k-init c =
     let cvrp = c.args.cvrp.now in
-    let i : Instance = instance_of cvrp in
-    let items = λ (r : Vec ℕ Global). r.items in
-    let olds : List (List ℕ) = map items c.args.lists.now in
     let small =
-    small_counts i c.args.max_candidates c.args.m olds olds 0 0 0 0
-    (IsImprovedTo-none i c.args.max_candidates c.args.m olds c.requires.routes) cvrp.few c.requires.candidates.1
-    c.requires.most.1
-    (table_distance-same cvrp.table) (table_distance-limit cvrp.table) in
+    small_counts (IsImprovedTo-none {k = c.args.max_candidates} {m = c.args.m} c.requires.routes) cvrp.few
+    c.requires.candidates.1 c.requires.most.1 (table_distance-same cvrp.table) (table_distance-limit cvrp.table) in
     record {
       before = omega (arith, ints, c.cost_of-before.ensures, small.0);
       after = omega (arith, ints, c.cost_of-before.ensures, small.0);
-      improved = IsImprovedTo-none i c.args.max_candidates c.args.m olds c.requires.routes;
+      improved = IsImprovedTo-none c.requires.routes;
     }
 
 pub improve_route-requires : goal.improve_route-requires
 improve_route-requires c =
-    let i : Instance = instance_of c.args.cvrp.now in
     let n = c.loop-k in
     let at = at_place n.lists n.k c.index-lists-k.result c.deref.result.now
     (omega (arith, c.loop-k-test.true, n.auto.lists)) c.deref.ensures.value in
-    let known = next_known i c.args.max_candidates c.args.m (lists_of c.args.lists.now) (lists_of n.lists) n.k n.moves
-    n.swaps n.tests n.invariant.improved c.deref.result.now at.0 at.1 in
+    let known = next_known n.invariant.improved at.0 at.1 in
     record {
       known = known.0;
       some = known.1;
@@ -101,9 +92,6 @@ pub loop-k-preserved : goal.loop-k-preserved
 loop-k-preserved c =
     let cvrp = c.args.cvrp.now in
     let i : Instance = instance_of cvrp in
-    let k = c.args.max_candidates in
-    let m = c.args.m in
-    let olds = lists_of c.args.lists.now in
     let n = c.loop-k in
     let route = c.deref.result.now in
     let r = c.in_ok-customers in
@@ -111,15 +99,13 @@ loop-k-preserved c =
     let at = at_place n.lists n.k c.index-lists-k.result route lt c.deref.ensures.value in
     let moved : lists_of (set n.lists n.k r.customers) ≡ set (lists_of n.lists) n.k r.customers.items =
     map-set (λ (list : Vec ℕ Global). list.items) n.lists n.k r.customers in
-    let cost = cost_step i k m olds (lists_of n.lists) n.k n.moves n.swaps n.tests n.invariant.improved route
-    r.customers.items at.0 at.1 in
-    let known = next_known i k m olds (lists_of n.lists) n.k n.moves n.swaps n.tests n.invariant.improved route at.0
-    at.1 in
+    let cost = cost_step n.invariant.improved at.0 at.1 r.customers.items in
+    let known = next_known n.invariant.improved at.0 at.1 in
     let long = route_length-limit i route (table_distance-same cvrp.table) (table_distance-limit cvrp.table) in
     let old : route_length i route ≤ 40000000000000 = omega (arith, long, known.2, cvrp.few) in
     let gain : route_length i r.customers.items ≤ route_length i route = omega (arith, r.ensures.moves) in
-    let small = small_counts i k m olds (lists_of n.lists) n.k n.moves n.swaps n.tests n.invariant.improved cvrp.few
-    c.requires.candidates.1 c.requires.most.1 (table_distance-same cvrp.table) (table_distance-limit cvrp.table) in
+    let small = small_counts n.invariant.improved cvrp.few c.requires.candidates.1 c.requires.most.1
+    (table_distance-same cvrp.table) (table_distance-limit cvrp.table) in
     let most : routes_cost i (lists_of n.lists) ≤ 40000000000000 = omega (arith, n.invariant.improved.cost, small.0) in
     record {
       before = n.invariant.before;
@@ -129,21 +115,20 @@ loop-k-preserved c =
       improved = (stepped (goal.at.loop-k-preserved c).In_ok-customers).0;
     }
 
+pub returns-in_err-customers-clause-part : goal.returns-in_err-customers-clause-part
+returns-in_err-customers-clause-part c = let part = improved_part c.loop-k.invariant.improved in search rules
+
 pub returns-clause-improved : goal.returns-clause-improved
 returns-clause-improved c =
     let n = c.loop-k in
-    let k = c.args.max_candidates in
-    let i : Instance = instance_of c.args.cvrp.now in
-    let olds = lists_of c.args.lists.now in
-    let news = lists_of n.lists in
-    let past : length news ≤ n.k =
+    let past : length (lists_of n.lists) ≤ n.k =
     omega (arith, c.loop-k-test.false, n.auto.lists, length-map n.lists (λ (list : Vec ℕ Global). list.items)) in
     record {
-      improved = improved_all i k c.args.m olds news n.k n.moves n.swaps n.tests n.invariant.improved past;
+      improved = improved_all n.invariant.improved past;
       before = search rules;
       after = search rules;
       moves = n.invariant.improved.cost;
-      tests = tested_all i k c.args.m olds news n.k n.moves n.swaps n.tests n.invariant.improved past;
+      tests = tested_all n.invariant.improved past;
     }
 
 pub returns-clause-headline : goal.returns-clause-headline
