@@ -5,7 +5,7 @@ use Rattle.std.specs.Prelude.{map}
 use Rattle.std.specs.List.{All, concat}
 use Rattle.std.proofs.lemmas.List.{take-append-drop, take_all, take_more, drop_more, map-append, length-map}
 use Rattle.std.proofs.lemmas.List.{length-take, length-take-le, get_or_at, set_at}
-use Rattle.std.proofs.lemmas.List.Elements.{All-cons, All-head, All-tail}
+use Rattle.std.proofs.lemmas.List.Elements.{All-cons, All-head, All-nil, All-tail}
 use Rattle.std.proofs.lemmas.List.Folds.{concat-append}
 
 -- a list is what stands before a place, its element and what stands after it
@@ -32,11 +32,8 @@ concat-take_more f xs k x lt is =
     ∙ ap (λ v. concat (map f (take k xs)) ++ v) (append-nil (f x))
 
 -- what holds of each element of two lists holds of each of the one, and of the other
-pub All-none : {X : Type 0} (P : X → Type 0) → All P []
-All-none P k d lt = absurd (omega arith)
-
 pub All-front : {X : Type 0} (P : X → Type 0) (xs ys : List X) → All P (xs ++ ys) → All P xs
-All-front P [] ys h = All-none P
+All-front P [] ys h = All-nil P
 All-front P (x ∷ xs) ys h = All-cons P x xs (All-head P x (xs ++ ys) h) (All-front P xs ys (All-tail P x (xs ++ ys) h))
 
 pub All-back : {X : Type 0} (P : X → Type 0) (xs ys : List X) → All P (xs ++ ys) → All P ys

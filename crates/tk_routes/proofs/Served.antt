@@ -5,7 +5,7 @@ use Rattle.std.proofs.Common.{get_or-set_same}
 use Rattle.std.specs.List.{All, concat}
 use Rattle.std.proofs.lemmas.Bool.{ltb-true, ltb-false, lt-ltb, cases_eq}
 use Rattle.std.proofs.lemmas.List.{get_or-replicate, length-replicate, length-set}
-use Rattle.std.proofs.lemmas.List.Elements.{All-push, All-get_or}
+use Rattle.std.proofs.lemmas.List.Elements.{All-nil, All-push, All-get_or}
 use Rattle.std.proofs.lemmas.List.Folds.{concat-append}
 use Rattle.tk_distance.specs.Cities.{IsCity}
 use Rattle.tk_tour.specs.Tour.{IsTour, occurrences}
@@ -13,13 +13,13 @@ use Rattle.tk_tour.proofs.Once.{occurrences-append}
 use Rattle.tk_tour.proofs.Tours.{occurrences-nil, occurrences-same, occurrences-other, length-distinct, length-whole}
 use Rattle.tk_routes.specs.RouteVerdicts.{AreServedOnce}
 use Rattle.tk_routes.specs.Serving.{AreServed}
-use Rattle.tk_routes.proofs.CutLists.{All-none, All-front, All-back}
+use Rattle.tk_routes.proofs.CutLists.{All-front, All-back}
 
 -- no customer is served at first
 pub AreServed-none : (n : ℕ) → AreServed (replicate n false) []
 AreServed-none n = record {
   once =
-      record { known = All-none (IsCity (length (replicate n false))); once = λ c. omega (arith, occurrences-nil c) };
+      record { known = All-nil (IsCity (length (replicate n false))); once = λ c. omega (arith, occurrences-nil c) };
   marks = λ c h.
       let lt : c - 1 < n = omega (arith, h.0, h.1, length-replicate n false) in
       get_or-replicate n (c - 1) false false lt ∙ ap (λ k. ltb 0 k) (sym (occurrences-nil c));

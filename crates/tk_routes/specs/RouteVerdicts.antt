@@ -37,10 +37,7 @@ IsCustomerFault m routes (BadCustomer r x) =
 IsCustomerFault m routes (ServedTwice x) =
     (r : ℕ)
     × ((earlier : List ℕ) × (StandsAt routes r x earlier × AreServedOnce m earlier × (1 ≤ occurrences x earlier)))
-IsCustomerFault m routes (Valid k cost) = ⊥
-IsCustomerFault m routes (OverCapacity r load) = ⊥
-IsCustomerFault m routes (NotServed x) = ⊥
-IsCustomerFault m routes (WrongCost read counted) = ⊥
+IsCustomerFault m routes _ = ⊥
 
 -- the r-th route, from 1, is the first whose load is over the capacity
 pub record IsFirstOver (i : Instance) (routes : List (List ℕ)) (r load : ℕ) : Type 0 where
@@ -56,11 +53,7 @@ pub record IsFirstOver (i : Instance) (routes : List (List ℕ)) (r load : ℕ) 
 -- the verdict tells the first such route
 abbrev pub IsFirstOverIn : Instance → List (List ℕ) → RouteVerdict → Type 0
 IsFirstOverIn i routes (OverCapacity r load) = IsFirstOver i routes r load
-IsFirstOverIn i routes (Valid k cost) = ⊥
-IsFirstOverIn i routes (BadCustomer r x) = ⊥
-IsFirstOverIn i routes (ServedTwice x) = ⊥
-IsFirstOverIn i routes (NotServed x) = ⊥
-IsFirstOverIn i routes (WrongCost read counted) = ⊥
+IsFirstOverIn i routes _ = ⊥
 
 -- x is the lowest of 1 to m that does not stand in the list
 pub record IsFirstMissing (m : ℕ) (xs : List ℕ) (x : ℕ) : Type 0 where

@@ -11,30 +11,23 @@ use Rattle.tk_tour.proofs.Cycle.{SameCycle-trans}
 use Rattle.tk_tour.proofs.Lengths.{tour_length-limit}
 use Rattle.tk_tour.specs.ArrayTours.{FlipsAlone, order_of, flips_of, swaps_of}
 use Rattle.tk_tour.specs.declared.stores.array.ArrayTour.{ArrayTour}
-use Rattle.tk_descent.specs.Awake.{one_to, woken_each}
+use Rattle.tk_descent.specs.Awake.{one_to}
 use Rattle.tk_descent.specs.Machine.{Run}
 use Rattle.tk_descent.specs.Sweeps.{Pass}
-use Rattle.tk_descent.proofs.WakeRuns.Woken.{one_to-length, woken_all}
+use Rattle.tk_descent.proofs.WakeRuns.Passes.{pass_of}
+use Rattle.tk_descent.proofs.WakeRuns.Woken.{one_to-length}
 use Rattle.tk_routes.specs.Instance.{Instance}
 use Rattle.tk_routes.specs.Routes.{route_nodes}
 use Rattle.tk_routes.specs.ImprovedRoutes.{IsImproved, IsFlipped, IsReadOff, place_distance}
-
--- the queue after all were woken
-pub queue_is : (Q V : List ℕ) (k n : ℕ) → Q ≡ woken_each V (one_to k) → V ≡ [] → k ≡ n → Q ≡ one_to n
-queue_is Q V k n h e same = h ∙ ap (λ z. woken_each z (one_to k)) e ∙ woken_all k ∙ ap one_to same
-
-pub queue_length : (Q : List ℕ) (n : ℕ) → Q ≡ one_to n → length Q ≡ n
-queue_length Q n e = ap length e ∙ one_to-length n
 
 -- a descent from 1 to n with all cities awake
 pub Pass-from : (d e : ℕ → ℕ → ℕ) (near : ℕ → List ℕ) (m n : ℕ) (C T Q : List ℕ) (looks moves tests : ℕ) → e ≡ d →
     C ≡ one_to n → Q ≡ one_to n → Run e near m C Q T [] looks moves tests →
     Pass d near m (one_to n) T looks moves tests
 Pass-from d e near m n C T Q looks moves tests table start queue run =
-    let all : Q ≡ one_to (length (one_to n)) = queue ∙ ap one_to (sym (one_to-length n)) in
-    subst (λ (v : List ℕ). Run d near m (one_to n) v T [] looks moves tests) all
-    (subst (λ (v : List ℕ). Run d near m v Q T [] looks moves tests) start
-    (subst (λ (v : ℕ → ℕ → ℕ). Run v near m C Q T [] looks moves tests) table run))
+    let all : Q ≡ one_to (length C) = queue ∙ ap one_to (sym (ap length start ∙ one_to-length n)) in
+    subst (λ (v : List ℕ). Pass d near m v T looks moves tests) start
+    (pass_of d e near m C T Q looks moves tests table all run)
 
 -- a move makes the tour shorter, so there are not many
 pub few_moves : (d e : ℕ → ℕ → ℕ) (n moves : ℕ) (C T : List ℕ) → e ≡ d → length C ≡ n → n ≤ TABLE_LIMIT →

@@ -59,12 +59,6 @@ inside n p front back tour =
     )))
     (inside_or_not n p)
 
-pub place_inside : (n k : ℕ) (ps : List ℕ) → IsTour n (1 ∷ ps) → k < length ps →
-    (2 ≤ get_or ps k 0) × (get_or ps k 0 ≤ n)
-place_inside n k ps tour lt =
-    inside n (get_or ps k 0) (take k ps) (drop (k + 1) ps)
-    (subst (λ (v : List ℕ). IsTour n (1 ∷ v)) (cut_at ps k 0 lt) tour)
-
 one_more : (n p : ℕ) (front back : List ℕ) → IsTour n (1 ∷ (front ++ p ∷ back)) →
     IsTour n (1 ∷ ((front ++ p ∷ []) ++ back))
 one_more n p front back tour = subst (λ (v : List ℕ). IsTour n (1 ∷ v)) (sym (append_assoc front (p ∷ []) back)) tour
@@ -143,6 +137,17 @@ pub behind_first : (cycle : List ℕ) → 1 ≤ length cycle → get_or cycle 0 
 behind_first [] some e = absurd (omega arith)
 behind_first (x ∷ xs) some e = ap (λ v. v ∷ xs) e
     ∙ ap (λ v. 1 ∷ v) (sym (take_all (length (x ∷ xs) - 1) xs (omega arith)))
+
+-- a later place is that of a customer
+pub place_inside : (n : ℕ) (cycle : List ℕ) (k : ℕ) → IsTour n cycle → 1 ≤ n → get_or cycle 0 0 ≡ 1 →
+    k < length (take (length cycle - 1) (drop 1 cycle)) →
+    (2 ≤ get_or (take (length cycle - 1) (drop 1 cycle)) k 0)
+    × (get_or (take (length cycle - 1) (drop 1 cycle)) k 0 ≤ n)
+place_inside n cycle k tour some e lt =
+    let ps = take (length cycle - 1) (drop 1 cycle) in
+    inside n (get_or ps k 0) (take k ps) (drop (k + 1) ps)
+    (subst (λ (v : List ℕ). IsTour n v)
+    (behind_first cycle (omega (arith, tour.0)) e ∙ ap (λ v. 1 ∷ v) (cut_at ps k 0 lt)) tour)
 
 pub IsReadOff-ahead : (route cycle places xs : List ℕ) → cycle ≡ 1 ∷ places → xs ≡ map (customer_at route) places →
     IsTurned xs → IsReadOff route cycle xs

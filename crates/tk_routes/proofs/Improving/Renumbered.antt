@@ -5,6 +5,7 @@ use Rattle.std.specs.Prelude.{map, All}
 use Rattle.std.specs.List.Sorted.{IsPermutation}
 use Rattle.std.proofs.lemmas.Bool.{cases_eq}
 use Rattle.std.proofs.lemmas.List.{map-append, take_more, take_all, length-take-le, length-drop, get_or_default}
+use Rattle.std.proofs.lemmas.List.{nil_from_length}
 use Rattle.std.proofs.lemmas.List.Sorted.{IsPermutation-refl, IsPermutation-sym, IsPermutation-map}
 use Rattle.std.proofs.lemmas.List.Sorted.{IsPermutation-middle, IsPermutation-push_more}
 use Rattle.tk_distance.specs.Cities.{IsCity, city_at}
@@ -98,12 +99,9 @@ without_last n j xs tour lt at =
           ),
     )
 
-nil_of : (xs : List ℕ) → length xs ≡ 0 → [] ≡ xs
-nil_of [] e = refl
-nil_of (x ∷ xs) e = absurd (omega arith)
-
 pub IsPermutation-tour : (n : ℕ) (xs : List ℕ) → IsTour n xs → IsPermutation (one_to n) xs
-IsPermutation-tour zero xs tour = subst (λ (v : List ℕ). IsPermutation [] v) (nil_of xs tour.0) (IsPermutation-refl [])
+IsPermutation-tour zero xs tour =
+    subst (λ (v : List ℕ). IsPermutation [] v) (sym (nil_from_length xs tour.0)) (IsPermutation-refl [])
 IsPermutation-tour (suc n) xs tour =
     let found = place_found (suc n) xs (omega (arith, tour.1 (suc n) (omega arith) (omega arith))) in
     let j : ℕ = found.0 in

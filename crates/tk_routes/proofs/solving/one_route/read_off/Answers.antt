@@ -1,8 +1,7 @@
-use Rattle.std.proofs.Common.{◌≡◌, ◌+◌, ◌-◌, ◌∷◌, ◌∙◌, length, take, drop, get_or, ap, subst, arith, List, ℕ, ◌≤◌, sym}
+use Rattle.std.proofs.Common.{◌≡◌, ◌+◌, ◌-◌, ◌∙◌, length, take, drop, get_or, ap, subst, arith, List, ℕ, ◌≤◌, sym}
 use Rattle.std.proofs.Common.{Vec, Global}
 use Rattle.std.specs.Prelude.{map}
 use Rattle.std.proofs.lemmas.List.{length-map, take_all, get_or_default}
-use Rattle.tk_tour.specs.Tour.{IsTour}
 use Rattle.tk_routes.specs.ImprovedRoutes.{IsTurned, customer_at}
 use Rattle.tk_routes.proofs.Improving.ReadOffs.{behind_first, place_inside, IsReadOff-ahead, IsReadOff-back}
 use Rattle.tk_routes.proofs.solving.one_route.read_off.Goals as goal
@@ -10,22 +9,13 @@ use Rattle.tk_routes.proofs.solving.one_route.read_off.Goals.{then-index, else-i
 
 pub overflow_sub-place : goal.overflow_sub-place
 overflow_sub-place c =
-    let cycle = c.args.cycle.now in
-    let places = take (length cycle - 1) (drop 1 cycle) in
-    let begins = behind_first cycle (omega (arith, c.requires.tour.0)) c.requires.depot in
-    let whole : IsTour (length c.args.route.now + 1) (1 ∷ places) =
-    subst (λ (v : List ℕ). IsTour (length c.args.route.now + 1) v) begins c.requires.tour in
-    (place_inside (length c.args.route.now + 1) c.loop-place.place-index places whole c.loop-place-test.true).0
+    (place_inside (length c.args.route.now + 1) c.args.cycle.now c.loop-place.place-index c.requires.tour (omega arith)
+    c.requires.depot c.loop-place-test.true).0
 
 pub bounds-route-place : goal.bounds-route-place
 bounds-route-place c =
-    let cycle = c.args.cycle.now in
-    let places = take (length cycle - 1) (drop 1 cycle) in
-    let begins = behind_first cycle (omega (arith, c.requires.tour.0)) c.requires.depot in
-    let whole : IsTour (length c.args.route.now + 1) (1 ∷ places) =
-    subst (λ (v : List ℕ). IsTour (length c.args.route.now + 1) v) begins c.requires.tour in
-    let within = place_inside (length c.args.route.now + 1) c.loop-place.place-index places whole
-    c.loop-place-test.true in
+    let within = place_inside (length c.args.route.now + 1) c.args.cycle.now c.loop-place.place-index c.requires.tour
+    (omega arith) c.requires.depot c.loop-place-test.true in
     omega (arith, within.0, within.1, c.requires.some)
 
 pub returns : goal.returns
