@@ -5,10 +5,10 @@ use Rattle.std.specs.List.{All, concat}
 use Rattle.std.proofs.lemmas.Bool.{ltb-true, lt-ltb}
 use Rattle.std.proofs.lemmas.List.Elements.{All-filter, All-weaker, filter_passes}
 use Rattle.std.proofs.lemmas.List.Sums.{sum_by-cons}
-use Rattle.tk_tour.specs.Tour.{IsTour, occurrences}
+use Rattle.tk_tour.specs.Tour.{IsTour}
 use Rattle.tk_routes.specs.Instance.{Instance, customer_count}
 use Rattle.tk_routes.specs.Routes.{AreRoutes, IsLight, route_length, routes_cost}
-use Rattle.tk_routes.specs.RouteVerdicts.{AreServedOnce, filled_of}
+use Rattle.tk_routes.specs.RouteVerdicts.{filled_of}
 use Rattle.tk_routes.specs.Serving.{AreServed, AreMarked}
 use Rattle.tk_routes.proofs.Costs.{route_length-nil}
 use Rattle.tk_routes.proofs.Served.{IsTour-served, served_before}
@@ -49,24 +49,15 @@ filled_all : (routes : List (List ℕ)) → All (λ (route : List ℕ). 1 ≤ le
 filled_all routes = All-weaker _ _ (λ (route : List ℕ) passes. ltb-true 0 (length route) passes) (filled_of routes)
     (filter_passes (λ (route : List ℕ). ltb 0 (length route)) routes)
 
--- claimed routes without a fault, but for those that hold no customer
-pub AreRoutes-filled : (i : Instance) (routes : List (List ℕ)) → AreServedOnce (customer_count i) (concat routes) →
-    All (IsLight i) routes →
-    ((c : ℕ) → 1 ≤ c → c ≤ customer_count i → 1 ≤ occurrences c (concat routes)) → AreRoutes i (filled_of routes)
-AreRoutes-filled i routes served light all = record {
-  filled = filled_all routes;
-  once = subst (λ (v : List ℕ). IsTour (customer_count i) v) (sym (concat-filled routes))
-      (IsTour-served (customer_count i) (concat routes) served all);
-  light = All-filter _ (IsLight i) routes light;
-}
-
 -- where all customers are marked, nothing but the cost can be wrong
 pub AreRoutes-marked : (i : Instance) (served : List Bool) (routes : List (List ℕ)) → length served ≡ customer_count i →
     AreServed served (concat routes) → All (IsLight i) routes →
     AreMarked served (length served) → AreRoutes i (filled_of routes)
-AreRoutes-marked i served routes size h light marked =
-    AreRoutes-filled i routes (subst (λ (m : ℕ). AreServedOnce m (concat routes)) size h.once) light
-    (λ c low high.
-    let inside : c ≤ length served = omega arith in
-    let below : c - 1 < length served = omega arith in
-    served_before served (concat routes) c h (low, inside) (marked (c - 1) below))
+AreRoutes-marked i served routes size h light marked = record {
+  filled = filled_all routes;
+  once = subst (λ (v : List ℕ). IsTour (customer_count i) v) (sym (concat-filled routes))
+      (subst (λ (m : ℕ). IsTour m (concat routes)) size
+      (IsTour-served (length served) (concat routes) h.once
+      (λ c low high. served_before served (concat routes) c h (low, high) (marked (c - 1) (omega arith)))));
+  light = All-filter _ (IsLight i) routes light;
+}

@@ -2,10 +2,10 @@
 use Rattle.std.proofs.Common.{◌≡◌, ◌≢◌, ℕ, ◌+◌, ◌-◌, ◌<◌, ◌≤◌, ⊎_elim, Bool, true, false, List, [], ◌∷◌, ◌++◌, length}
 use Rattle.std.proofs.Common.{get_or, replicate, set, sym, ap, ◌∙◌, subst, arith, ltb, get_or-set_other}
 use Rattle.std.proofs.Common.{get_or-set_same}
-use Rattle.std.specs.List.{All, concat}
+use Rattle.std.specs.List.{concat}
 use Rattle.std.proofs.lemmas.Bool.{ltb-true, ltb-false, lt-ltb, cases_eq}
 use Rattle.std.proofs.lemmas.List.{get_or-replicate, length-replicate, length-set}
-use Rattle.std.proofs.lemmas.List.Elements.{All-nil, All-push, All-get_or}
+use Rattle.std.proofs.lemmas.List.Elements.{All-nil, All-push, All-get_or, All-same}
 use Rattle.std.proofs.lemmas.List.Folds.{concat-append}
 use Rattle.tk_distance.specs.Cities.{IsCity}
 use Rattle.tk_tour.specs.Tour.{IsTour, occurrences}
@@ -25,11 +25,11 @@ AreServed-none n = record {
       get_or-replicate n (c - 1) false false lt ∙ ap (λ k. ltb 0 k) (sym (occurrences-nil c));
 }
 
-occurrences-push : (c x : ℕ) (xs : List ℕ) → c ≡ x → occurrences c (xs ++ x ∷ []) ≡ occurrences c xs + 1
+pub occurrences-push : (c x : ℕ) (xs : List ℕ) → c ≡ x → occurrences c (xs ++ x ∷ []) ≡ occurrences c xs + 1
 occurrences-push c x xs e =
     omega (arith, occurrences-append c xs (x ∷ []), occurrences-same c x [] e, occurrences-nil c)
 
-occurrences-pass : (c x : ℕ) (xs : List ℕ) → c ≢ x → occurrences c (xs ++ x ∷ []) ≡ occurrences c xs
+pub occurrences-pass : (c x : ℕ) (xs : List ℕ) → c ≢ x → occurrences c (xs ++ x ∷ []) ≡ occurrences c xs
 occurrences-pass c x xs ne =
     omega (arith, occurrences-append c xs (x ∷ []), occurrences-other c x [] ne, occurrences-nil c)
 
@@ -55,10 +55,7 @@ AreServed-more served xs x h city e =
         known = All-push (IsCity (length served)) xs x h.once.known city;
         once =
             λ c. ⊎_elim
-            (λ is. let zero_x : occurrences c xs ≡ 0 = ap (λ v. occurrences v xs) is ∙ none in omega (
-              arith,
-              occurrences-push c x xs is,
-            ))
+            (λ is. omega (arith, ap (λ v. occurrences v xs) is ∙ none, occurrences-push c x xs is))
             (λ ne. omega (arith, occurrences-pass c x xs ne, h.once.once c)) (cases_eq c x);
       });
       marks = λ c known.
@@ -67,11 +64,7 @@ AreServed-more served xs x h city e =
           (λ is.
           let at_x : get_or (set served (x - 1) true) (c - 1) false ≡ true =
           ap (λ v. get_or (set served (x - 1) true) (v - 1) false) is
-          ∙ (let lt : x - 1 < length served = omega (
-            arith,
-            city.0,
-            city.1,
-          ) in get_or-set_same served (x - 1) true false lt) in
+          ∙ get_or-set_same served (x - 1) true false (omega (arith, city.0, city.1)) in
           let some : 0 < occurrences c (xs ++ x ∷ []) = omega (arith, occurrences-push c x xs is) in
           at_x ∙ sym (lt-ltb 0 (occurrences c (xs ++ x ∷ [])) some))
           (λ ne.
@@ -87,21 +80,17 @@ pub AreServedOnce-part : (m : ℕ) (before : List (List ℕ)) (route : List ℕ)
 AreServedOnce-part m before route after h =
     let e : concat (before ++ route ∷ after) ≡ concat before ++ (route ++ concat after) =
     concat-append before (route ∷ after) in
-    let known : All (IsCity m) (concat before ++ (route ++ concat after)) =
-    subst (λ (v : List ℕ). All (IsCity m) v) e h.known in
     record {
       known =
-          All-front (IsCity m) route (concat after) (All-back (IsCity m) (concat before) (route ++ concat after) known);
-      once = λ c.
-          let count : occurrences c (concat (before ++ route ∷ after)) ≡ occurrences c
-          (concat before ++ (route ++ concat after)) = ap (occurrences c) e in
-          omega (
-            arith,
-            count,
-            h.once c,
-            occurrences-append c (concat before) (route ++ concat after),
-            occurrences-append c route (concat after),
-          );
+          All-front (IsCity m) route (concat after)
+          (All-back (IsCity m) (concat before) (route ++ concat after) (All-same (IsCity m) _ _ (sym e) h.known));
+      once = λ c. omega (
+        arith,
+        ap (occurrences c) e,
+        h.once c,
+        occurrences-append c (concat before) (route ++ concat after),
+        occurrences-append c route (concat after),
+      );
     }
 
 -- there are at most m of them

@@ -60,15 +60,13 @@ IsReadOff-cycle route T cycle new same read =
     record { places = read.places; same = SameCycle-trans same read.same; read = read.read; turned = read.turned }
 
 -- the route of such a descent over its places
-pub IsImproved-read : (i : Instance) (k m : ℕ) (route new T cycle : List ℕ) (d : ℕ → ℕ → ℕ) (n : ℕ) (v : NearLists)
+pub IsImproved-read : (i : Instance) (k m : ℕ) (route new T : List ℕ) (d : ℕ → ℕ → ℕ) (n : ℕ) (v : NearLists)
     (looks moves tests swaps : ℕ) →
     d ≡ place_distance i.distance (route_nodes i route) → n ≡ length route + 1 → v.size ≡ n →
     v.width ≡ min k (length route) → AreNearest d v →
     Pass d (near_of v) m (one_to n) T looks moves tests → IsFlipped (one_to n) T moves swaps →
-    swaps ≤ 3 * (n / 4) * moves →
-    SameCycle T cycle → IsReadOff route cycle new → IsImproved i k m route new moves tests swaps
-IsImproved-read i k m route new T cycle d n v looks moves tests swaps table size lists width nearest pass flipped
-    most same read =
+    swaps ≤ 3 * (n / 4) * moves → IsReadOff route T new → IsImproved i k m route new moves tests swaps
+IsImproved-read i k m route new T d n v looks moves tests swaps table size lists width nearest pass flipped most read =
     let e : ℕ → ℕ → ℕ = place_distance i.distance (route_nodes i route) in
     let whole : v.size ≡ length route + 1 = lists ∙ size in
     let near : (c : ℕ) → IsCity (length route + 1) c →
@@ -87,15 +85,13 @@ IsImproved-read i k m route new T cycle d n v looks moves tests swaps table size
           (subst (λ (u : ℕ → ℕ → ℕ). Pass u (near_of v) m (one_to n) T looks moves tests) table pass);
       flipped = subst (λ (u : ℕ). IsFlipped (one_to u) T moves swaps) size flipped;
       most = subst (λ (u : ℕ). swaps ≤ 3 * (u / 4) * moves) size most;
-      read = IsReadOff-cycle route T cycle new same read;
+      read = read;
     }
 
 -- fewer candidates take fewer tests
 pub tests_within : (m w k n l moves tests : ℕ) → w ≤ k → n ≡ l → tests ≤ 4 * m * w * (n + 6 * moves) →
     tests ≤ 4 * m * k * (l + 6 * moves)
 tests_within m w k n l moves tests le same h =
-    let size : n + 6 * moves ≡ l + 6 * moves = omega arith in
-    let wide : 4 * m * w * (l + 6 * moves) ≤ 4 * m * k * (l + 6 * moves) =
-    mul-le-mul_right (l + 6 * moves) (mul-le-mul_left (4 * m) le) in
-    let h' : tests ≤ 4 * m * w * (l + 6 * moves) = subst (λ (v : ℕ). tests ≤ 4 * m * w * v) size h in
-    omega (arith, h', wide)
+    let wide : 4 * m * w * (n + 6 * moves) ≤ 4 * m * k * (n + 6 * moves) =
+    mul-le-mul_right (n + 6 * moves) (mul-le-mul_left (4 * m) le) in
+    subst (λ (v : ℕ). tests ≤ 4 * m * k * (v + 6 * moves)) same (omega (arith, h, wide))

@@ -1,5 +1,5 @@
 -- Routes of which one gives way to a permutation of it.
-use Rattle.std.proofs.Common.{◌≡◌, ℕ, ◌+◌, ◌≤◌, List, [], ◌∷◌, ◌++◌, length, sym, ◌∙◌, subst, arith, length-append, eqb}
+use Rattle.std.proofs.Common.{◌≡◌, ℕ, ◌+◌, ◌≤◌, List, [], ◌∷◌, ◌++◌, length, ◌∙◌, arith, length-append, eqb}
 use Rattle.std.proofs.Common.{cond}
 use Rattle.std.specs.List.{All, concat}
 use Rattle.std.specs.List.Sorted.{IsPermutation}
@@ -38,23 +38,17 @@ AreServedOnce-routes i routes h =
     (omega (arith, within.0, at), omega (arith, within.1, at)) in
     record { known = known; once = HoldsOnce-tour m xs h.once }
 
--- one of the routes
+-- what is known of one of the routes
 pub route_known : (i : Instance) (front back : List (List ℕ)) (route : List ℕ) → AreRoutes i (front ++ route ∷ back) →
-    All (IsCity (customer_count i)) route
+    All (IsCity (customer_count i)) route × (1 ≤ length route) × (length route ≤ customer_count i)
 route_known i front back route h =
-    (AreServedOnce-part (customer_count i) front route back (AreServedOnce-routes i (front ++ route ∷ back) h)).known
-
-pub route_short : (i : Instance) (front back : List (List ℕ)) (route : List ℕ) → AreRoutes i (front ++ route ∷ back) →
-    length route ≤ customer_count i
-route_short i front back route h =
-    AreServedOnce-short (customer_count i) route
-    (AreServedOnce-part (customer_count i) front route back (AreServedOnce-routes i (front ++ route ∷ back) h))
-
-pub route_filled : (i : Instance) (front back : List (List ℕ)) (route : List ℕ) → AreRoutes i (front ++ route ∷ back) →
-    1 ≤ length route
-route_filled i front back route h =
-    All-head (λ (v : List ℕ). 1 ≤ length v) route back
-    (All-back (λ (v : List ℕ). 1 ≤ length v) front (route ∷ back) h.filled)
+    let served = AreServedOnce-part (customer_count i) front route back
+    (AreServedOnce-routes i (front ++ route ∷ back) h) in (
+      served.known,
+      All-head (λ (v : List ℕ). 1 ≤ length v) route back
+          (All-back (λ (v : List ℕ). 1 ≤ length v) front (route ∷ back) h.filled),
+      AreServedOnce-short (customer_count i) route served,
+    )
 
 -- a permutation of a route in its place
 exchanged_all : (P : List ℕ → Type 0) (front back : List (List ℕ)) (old new : List ℕ) → All P (front ++ old ∷ back) →
@@ -70,11 +64,9 @@ AreRoutes-exchanged i front back old new h same =
     let size = length_permutation old new same in
     let load : route_load i new ≡ route_load i old = sum_by-IsPermutation (demand_of i) old new same in
     let all : IsPermutation (concat (front ++ old ∷ back)) (concat (front ++ new ∷ back)) =
-    subst (λ (v : List ℕ). IsPermutation v (concat (front ++ new ∷ back))) (sym (concat-append front (old ∷ back)))
-    (subst (λ (v : List ℕ). IsPermutation (concat front ++ (old ++ concat back)) v)
-    (sym (concat-append front (new ∷ back)))
+    rw (concat-append front (old ∷ back), concat-append front (new ∷ back))
     (IsPermutation-append_right (concat front) (old ++ concat back) (new ++ concat back)
-    (IsPermutation-append_left (concat back) old new same))) in
+    (IsPermutation-append_left (concat back) old new same)) in
     record {
       filled =
           exchanged_all (λ (v : List ℕ). 1 ≤ length v) front back old new h.filled (λ some. omega (arith, some, size));

@@ -17,8 +17,7 @@ use Rattle.tk_routes.specs.declared.solving.route_report.RouteReport.{RouteRepor
 use Rattle.tk_routes.specs.ImprovedRoutes.AreImproved.{none, more}
 use Rattle.tk_routes.proofs.Costs.{routes_cost-limit}
 use Rattle.tk_routes.proofs.CutLists.{All-front}
-use Rattle.tk_routes.proofs.Improving.Exchanged.{AreRoutes-exchanged, routes_cost-at, route_known, route_short}
-use Rattle.tk_routes.proofs.Improving.Exchanged.{route_filled, few_routes}
+use Rattle.tk_routes.proofs.Improving.Exchanged.{AreRoutes-exchanged, routes_cost-at, route_known, few_routes}
 
 -- the first j of the routes are improved, and the others are as before
 pub record IsImprovedTo (i : Instance) (k m : ℕ) (olds now : List (List ℕ)) (j moves swaps tests : ℕ) : Type 0 where
@@ -119,11 +118,7 @@ module _ {i : Instance} {k m : ℕ} {olds now : List (List ℕ)} {j moves swaps 
         )
 
     pub next_known : All (IsCity (customer_count i)) old × (1 ≤ length old) × (length old ≤ customer_count i)
-    next_known = (
-      route_known i h.done place.rest old routes,
-      route_filled i h.done place.rest old routes,
-      route_short i h.done place.rest old routes,
-    )
+    next_known = route_known i h.done place.rest old routes
 
     pub IsImprovedTo-more : i.size ≤ TABLE_LIMIT → {new : List ℕ} {report : Report} →
         IsImprovement i k m old new report →
@@ -179,8 +174,7 @@ module _ {i : Instance} {k m : ℕ} {olds now : List (List ℕ)} {j moves swaps 
       let cost : routes_cost i olds ≤ 40000000000000 =
       omega (arith, routes_cost-limit i olds diagonal limit, h.olds_are.once.0, few) in
       let moved : moves ≤ 40000000000000 = omega (arith, cost, h.cost) in
-      let wide : 4 * m * k * y ≤ 1200 * y = scaled m k y hm hk in
-      (
+      let wide : 4 * m * k * y ≤ 1200 * y = scaled m k y hm hk in (
         cost,
         moved,
         omega (arith, moved, h.most),

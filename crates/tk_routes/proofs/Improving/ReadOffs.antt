@@ -21,18 +21,13 @@ use Rattle.tk_routes.proofs.CutLists.{cut_at}
 use Rattle.tk_routes.proofs.Improving.Nodes.{IsTour-customers}
 use Rattle.tk_routes.proofs.Improving.Renumbered.{IsPermutation-places, map-city_at, tour_length-map}
 
-cycle_length : (xs ys : List ℕ) → SameCycle xs ys → length ys ≡ length xs
-cycle_length xs ys (inl h) =
+rotated_length : (xs ys : List ℕ) → IsRotation xs ys → length ys ≡ length xs
+rotated_length xs ys h =
     omega (arith, ap length h.before, ap length h.after, length-append h.front h.back, length-append h.back h.front)
-cycle_length xs ys (inr h) =
-    omega (
-      arith,
-      ap length h.before,
-      ap length h.after,
-      length-append h.front h.back,
-      length-append h.back h.front,
-      length-reverse ys,
-    )
+
+cycle_length : (xs ys : List ℕ) → SameCycle xs ys → length ys ≡ length xs
+cycle_length xs ys (inl h) = rotated_length xs ys h
+cycle_length xs ys (inr h) = sym (length-reverse ys) ∙ rotated_length xs (reverse ys) h
 
 pub IsTour-cycle : (n : ℕ) (xs ys : List ℕ) → IsTour n xs → SameCycle xs ys → IsTour n ys
 IsTour-cycle n xs ys tour same =

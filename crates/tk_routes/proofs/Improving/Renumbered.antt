@@ -11,41 +11,25 @@ use Rattle.std.proofs.lemmas.List.Sorted.{IsPermutation-middle, IsPermutation-pu
 use Rattle.tk_distance.specs.Cities.{IsCity, city_at}
 use Rattle.tk_tour.specs.Tour.{IsTour, occurrences, walk, tour_length}
 use Rattle.tk_tour.proofs.Once.{occurrences-append}
-use Rattle.tk_tour.proofs.Tours.{occurrences-nil, occurrences-same, occurrences-other, place_found, city_in_range}
+use Rattle.tk_tour.proofs.Tours.{occurrences-nil, occurrences-other, place_found, city_in_range}
 use Rattle.tk_descent.specs.Awake.{one_to}
 use Rattle.tk_descent.proofs.WakeRuns.Woken.{one_to-length}
 use Rattle.tk_routes.proofs.CutLists.{cut_at}
+use Rattle.tk_routes.proofs.Served.{occurrences-pass, occurrences-push}
 
 -- 1 to n as a tour
 one_to-above : (n c : ℕ) → n < c → occurrences c (one_to n) ≡ 0
 one_to-above zero c lt = occurrences-nil c
 one_to-above (suc n) c lt =
-    omega (
-      arith,
-      occurrences-append c (one_to n) (suc n ∷ []),
-      one_to-above n c (omega arith),
-      occurrences-other c (suc n) [] (λ e. absurd (omega arith)),
-      occurrences-nil c,
-    )
+    occurrences-pass c (suc n) (one_to n) (λ e. absurd (omega arith)) ∙ one_to-above n c (omega arith)
 
 one_to-each : (n c : ℕ) → 0 < c → c ≤ n → occurrences c (one_to n) ≡ 1
 one_to-each zero c low high = absurd (omega arith)
 one_to-each (suc n) c low high =
     ⊎_elim
-    (λ (e : c ≡ suc n). omega (
-      arith,
-      occurrences-append c (one_to n) (suc n ∷ []),
-      occurrences-same c (suc n) [] e,
-      occurrences-nil c,
-      one_to-above n c (omega arith),
-    ))
-    (λ (ne : c ≢ suc n). omega (
-      arith,
-      occurrences-append c (one_to n) (suc n ∷ []),
-      occurrences-other c (suc n) [] ne,
-      occurrences-nil c,
-      one_to-each n c low (omega (arith, ne)),
-    ))
+    (λ (e : c ≡ suc n). omega (arith, occurrences-push c (suc n) (one_to n) e, one_to-above n c (omega arith)))
+    (λ (ne : c ≢ suc n).
+    occurrences-pass c (suc n) (one_to n) ne ∙ one_to-each n c low (omega (arith, ne)))
     (cases_eq c (suc n))
 
 pub IsTour-one_to : (n : ℕ) → IsTour n (one_to n)

@@ -25,22 +25,16 @@ one_more cvrp routes k item route lt at is served =
     (table_distance-limit cvrp.table) served in
     (routes_cost-more (λ r. r.items) i routes k item route lt at is, omega (arith, bound, cvrp.few))
 
-pub length-cost-requires-clause-known : goal.length-cost-requires-clause-known
-length-cost-requires-clause-known c =
-    (route_served (λ r. r.items) (customer_count (instance_of c.args.cvrp.now)) c.args.routes.now
-    c.loop-route.route-index c.route-item.result c.deref.result.now c.loop-route-test.true c.route-item.is
-    c.deref.ensures.value c.requires).known
-
-pub length-cost-requires-clause-few : goal.length-cost-requires-clause-few
-length-cost-requires-clause-few c =
-    let served = route_served (λ r. r.items) (customer_count (instance_of c.args.cvrp.now)) c.args.routes.now
-    c.loop-route.route-index c.route-item.result c.deref.result.now c.loop-route-test.true c.route-item.is
+pub length-cost-requires : goal.length-cost-requires
+length-cost-requires c =
+    let m = customer_count (instance_of c.args.cvrp.now) in
+    let served = route_served (λ r. r.items) m c.args.routes.now c.loop-route.route-index
+    c.route-item.result c.deref.result.now c.loop-route-test.true c.route-item.is
     c.deref.ensures.value c.requires in
-    omega (
-      arith,
-      AreServedOnce-short (customer_count (instance_of c.args.cvrp.now)) c.deref.result.now served,
-      c.args.cvrp.now.few,
-    )
+    record {
+      known = served.known;
+      few = omega (arith, AreServedOnce-short m c.deref.result.now served, c.args.cvrp.now.few);
+    }
 
 pub overflow_add-cost : goal.overflow_add-cost
 overflow_add-cost c =

@@ -8,22 +8,16 @@ use Rattle.tk_routes.proofs.RouteSteps.{route_served, light_more, first_over_at}
 use Rattle.tk_routes.proofs.Served.{AreServedOnce-short}
 use Rattle.tk_routes.proofs.claims.check.first_over.Goals as goal
 
-pub load-load-requires-clause-known : goal.load-load-requires-clause-known
-load-load-requires-clause-known c =
-    (route_served (λ r. r.items) (customer_count (instance_of c.args.cvrp.now)) c.args.routes.now c.loop-k.k
-    c.index-routes-k.result c.deref.result.now c.loop-k-test.true c.index-routes-k.is c.deref.ensures.value
-    c.requires).known
-
-pub load-load-requires-clause-few : goal.load-load-requires-clause-few
-load-load-requires-clause-few c =
-    let served = route_served (λ r. r.items) (customer_count (instance_of c.args.cvrp.now)) c.args.routes.now c.loop-k.k
-    c.index-routes-k.result c.deref.result.now c.loop-k-test.true c.index-routes-k.is c.deref.ensures.value
-    c.requires in
-    omega (
-      arith,
-      AreServedOnce-short (customer_count (instance_of c.args.cvrp.now)) c.deref.result.now served,
-      c.args.cvrp.now.few,
-    )
+pub load-load-requires : goal.load-load-requires
+load-load-requires c =
+    let m = customer_count (instance_of c.args.cvrp.now) in
+    let served = route_served (λ r. r.items) m c.args.routes.now c.loop-k.k
+    c.index-routes-k.result c.deref.result.now c.loop-k-test.true c.index-routes-k.is
+    c.deref.ensures.value c.requires in
+    record {
+      known = served.known;
+      few = omega (arith, AreServedOnce-short m c.deref.result.now served, c.args.cvrp.now.few);
+    }
 
 pub returns-then-load-capacity : goal.returns-then-load-capacity
 returns-then-load-capacity c =

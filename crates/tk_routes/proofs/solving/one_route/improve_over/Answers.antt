@@ -1,7 +1,6 @@
-use Rattle.std.proofs.Common.{◌≡◌, ◌+◌, ◌*◌, ◌/◌, ◌≤◌, ◌∙◌, length, sym, ap, subst, arith, List, ℕ, pos, inl}
+use Rattle.std.proofs.Common.{◌≡◌, ◌+◌, ◌*◌, ◌/◌, ◌≤◌, ◌∙◌, length, sym, ap, subst, arith, List, ℕ, pos}
 use Rattle.std.specs.Prelude.{min}
 use Rattle.tk_distance.specs.Tables.{table_distance-swap}
-use Rattle.tk_tour.proofs.Cycle.{IsRotation-refl}
 use Rattle.tk_tour.specs.ArrayTours.{order_of}
 use Rattle.tk_tour.specs.Tour.{IsTour, tour_length}
 use Rattle.tk_descent.specs.Awake.{one_to}
@@ -50,11 +49,11 @@ returns g c =
     let width : c.in_ok-near.near.width ≡ min c.args.max_candidates (length route) = c.in_ok-near.ensures.width
     ∙ c.min.ensures in
     record {
-      improved = IsImproved-read i c.args.max_candidates c.args.m route new T T given
+      improved = IsImproved-read i c.args.max_candidates c.args.m route new T given
           (g.M.Metric.size_of c.args.metric.now)
           c.in_ok-near.near report.looks report.moves report.tests report.swaps distances size
           c.in_ok-near.ensures.size width c.in_ok-near.ensures.near made.pass made.flipped made.swaps
-          (inl (IsRotation-refl T)) read;
+          read;
       same = IsPermutation-read route T new read tour;
       before = made.before ∙ ap pos (sym before);
       after = made.after ∙ ap pos (sym after);
