@@ -13,46 +13,36 @@ use Rattle.tk_routes.proofs.CutLists.{cut_at, cut_map, concat-take_more}
 use Rattle.tk_routes.proofs.Served.{AreServed-more, served_before}
 
 -- the k-th customer of a route comes after those of the routes before and the first k of its own
-stands_at : (before after : List (List ℕ)) (number : ℕ) (route : List ℕ) (k : ℕ) → number ≡ length before + 1 →
-    k < length route →
-    StandsAt (before ++ route ∷ after) number (get_or route k 0) (concat before ++ take k route)
-stands_at before after number route k is lt = record {
-  before = before;
-  front = take k route;
-  back = drop (k + 1) route;
-  after = after;
-  text = ap (λ v. before ++ v ∷ after) (cut_at route k 0 lt);
-  number = is;
-  earlier_is = refl;
-}
+module _ (m : ℕ) (served : List Bool) (before after : List (List ℕ)) (number : ℕ) (route : List ℕ) (k : ℕ)
+    (is : number ≡ length before + 1) (lt : k < length route) (size : length served ≡ m)
+    (h : AreServed served (concat before ++ take k route)) where
+  stands_at : StandsAt (before ++ route ∷ after) number (get_or route k 0) (concat before ++ take k route)
+  stands_at = record {
+    before = before;
+    front = take k route;
+    back = drop (k + 1) route;
+    after = after;
+    text = ap (λ v. before ++ v ∷ after) (cut_at route k 0 lt);
+    number = is;
+    earlier_is = refl;
+  }
 
-served_so_far : (m : ℕ) (served : List Bool) (xs : List ℕ) → length served ≡ m → AreServed served xs →
-    AreServedOnce m xs
-served_so_far m served xs size h = subst (λ (n : ℕ). AreServedOnce n xs) size h.once
+  served_so_far : AreServedOnce m (concat before ++ take k route)
+  served_so_far = subst (λ (n : ℕ). AreServedOnce n (concat before ++ take k route)) size h.once
 
-pub bad_customer : (m : ℕ) (served : List Bool) (before after : List (List ℕ)) (number : ℕ) (route : List ℕ) (k : ℕ) →
-    number ≡ length before + 1 → k < length route →
-    length served ≡ m → AreServed served (concat before ++ take k route) → (IsCity m (get_or route k 0) → ⊥) →
-    IsCustomerFault m (before ++ route ∷ after) (BadCustomer number (get_or route k 0))
-bad_customer m served before after number route k is lt size h bad =
-    (concat before ++ take k route, (stands_at before after number route k is lt, served_so_far m served _ size h, bad))
+  pub bad_customer : (IsCity m (get_or route k 0) → ⊥) →
+      IsCustomerFault m (before ++ route ∷ after) (BadCustomer number (get_or route k 0))
+  bad_customer bad = (concat before ++ take k route, (stands_at, served_so_far, bad))
 
-pub twice_served : (m : ℕ) (served : List Bool) (before after : List (List ℕ)) (number : ℕ) (route : List ℕ) (k : ℕ) →
-    number ≡ length before + 1 → k < length route →
-    length served ≡ m → AreServed served (concat before ++ take k route) → IsCity (length served) (get_or route k 0) →
-    get_or served (get_or route k 0 - 1) false ≡ true →
-    IsCustomerFault m (before ++ route ∷ after) (ServedTwice (get_or route k 0))
-twice_served m served before after number route k is lt size h city e = (
-  number,
-  (
-    concat before ++ take k route,
+  pub twice_served : IsCity (length served) (get_or route k 0) → get_or served (get_or route k 0 - 1) false ≡ true →
+      IsCustomerFault m (before ++ route ∷ after) (ServedTwice (get_or route k 0))
+  twice_served city e = (
+    number,
     (
-      stands_at before after number route k is lt,
-      served_so_far m served _ size h,
-      served_before served _ (get_or route k 0) h city e,
+      concat before ++ take k route,
+      (stands_at, served_so_far, served_before served _ (get_or route k 0) h city e),
     ),
-  ),
-)
+  )
 
 -- one more customer of a route is served
 pub served_on : (served : List Bool) (earlier route : List ℕ) (k : ℕ) → k < length route →
@@ -71,19 +61,19 @@ pub served_whole : (served : List Bool) (earlier route : List ℕ) (k : ℕ) →
 served_whole served earlier route k le h =
     subst (λ (v : List ℕ). AreServed served (earlier ++ v)) (take_all k route le) h
 
--- a fault on the k-th of the routes
-pub fault_in : {X : Type 0} (f : X → List ℕ) (xs : List X) (k : ℕ) (x : X) (route : List ℕ) (m n : ℕ)
-    (v : RouteVerdict) → k < length xs → x ≡ get_or xs k x → route ≡ f x → n ≡ m →
-    IsCustomerFault n (map f (take k xs) ++ route ∷ map f (drop (k + 1) xs)) v → IsCustomerFault m (map f xs) v
-fault_in f xs k x route m n v lt at is size h =
-    let whole : map f (take k xs) ++ route ∷ map f (drop (k + 1) xs) ≡ map f xs =
-    ap (λ (r : List ℕ). map f (take k xs) ++ r ∷ map f (drop (k + 1) xs)) is ∙ sym (cut_map f xs k x lt at) in
-    subst (λ (j : ℕ). IsCustomerFault j (map f xs) v) size
-    (subst (λ (routes : List (List ℕ)). IsCustomerFault n routes v) whole h)
+-- the k-th of the routes: a fault on it, and the marks after it
+module _ {X : Type 0} (f : X → List ℕ) (xs : List X) (k : ℕ) (x : X) (route : List ℕ) (lt : k < length xs)
+    (at : x ≡ get_or xs k x) (is : route ≡ f x) where
+  pub fault_in : (m n : ℕ) (v : RouteVerdict) → n ≡ m →
+      IsCustomerFault n (map f (take k xs) ++ route ∷ map f (drop (k + 1) xs)) v → IsCustomerFault m (map f xs) v
+  fault_in m n v size h =
+      let whole : map f (take k xs) ++ route ∷ map f (drop (k + 1) xs) ≡ map f xs =
+      ap (λ (r : List ℕ). map f (take k xs) ++ r ∷ map f (drop (k + 1) xs)) is ∙ sym (cut_map f xs k x lt at) in
+      subst (λ (j : ℕ). IsCustomerFault j (map f xs) v) size
+      (subst (λ (routes : List (List ℕ)). IsCustomerFault n routes v) whole h)
 
-pub served_route : {X : Type 0} (f : X → List ℕ) (xs : List X) (k : ℕ) (x : X) (route : List ℕ) (served : List Bool) →
-    k < length xs → x ≡ get_or xs k x → route ≡ f x →
-    AreServed served (concat (map f (take k xs)) ++ route) → AreServed served (concat (map f (take (k + 1) xs)))
-served_route f xs k x route served lt at is h =
-    subst (λ (v : List ℕ). AreServed served v) (ap (λ v. concat (map f (take k xs)) ++ v) is
-    ∙ sym (concat-take_more f xs k x lt at)) h
+  pub served_route : (served : List Bool) → AreServed served (concat (map f (take k xs)) ++ route) →
+      AreServed served (concat (map f (take (k + 1) xs)))
+  served_route served h =
+      subst (λ (v : List ℕ). AreServed served v) (ap (λ v. concat (map f (take k xs)) ++ v) is
+      ∙ sym (concat-take_more f xs k x lt at)) h

@@ -37,14 +37,6 @@ route_served f m xs k x route lt at is h =
     subst (λ (v : List ℕ). AreServedOnce m v) (sym is)
     (AreServedOnce-part m (map f (take k xs)) (f x) (map f (drop (k + 1) xs)) parts)
 
--- the cost of the first routes, by that of one fewer
-pub routes_cost-more : {X : Type 0} (f : X → List ℕ) (i : Instance) (xs : List X) (k : ℕ) (x : X) (route : List ℕ) →
-    k < length xs → x ≡ get_or xs k x → route ≡ f x →
-    routes_cost i (map f (take (k + 1) xs)) ≡ routes_cost i (map f (take k xs)) + route_length i route
-routes_cost-more f i xs k x route lt at is =
-    ap (routes_cost i) (map-take_more f xs k x lt at) ∙ sum_by_push (route_length i) (map f (take k xs)) (f x)
-    ∙ ap (λ v. routes_cost i (map f (take k xs)) + route_length i v) (sym is)
-
 pub routes_cost-bound : {X : Type 0} (f : X → List ℕ) (i : Instance) (m : ℕ) (xs : List X) (k : ℕ) →
     ((a : ℕ) → i.distance a a ≡ 0) → ((a b : ℕ) → i.distance a b ≤ DISTANCE_LIMIT) →
     AreServedOnce m (concat (map f xs)) → routes_cost i (map f (take k xs)) ≤ 8000000000 * m
@@ -57,24 +49,30 @@ routes_cost-bound f i m xs k diagonal limit h =
       AreServedOnce-short m (concat (map f xs)) h,
     )
 
-pub light_more : {X : Type 0} (f : X → List ℕ) (i : Instance) (xs : List X) (k : ℕ) (x : X) (route : List ℕ) →
-    k < length xs → x ≡ get_or xs k x → route ≡ f x →
-    All (IsLight i) (map f (take k xs)) → route_load i route ≤ i.capacity → All (IsLight i) (map f (take (k + 1) xs))
-light_more f i xs k x route lt at is light one =
-    subst (λ (v : List (List ℕ)). All (IsLight i) v) (sym (map-take_more f xs k x lt at))
-    (All-push (IsLight i) (map f (take k xs)) (f x) light (subst (λ (v : List ℕ). IsLight i v) is one))
+-- one more of the routes: their cost, and whether their loads are within the capacity
+module _ {X : Type 0} (f : X → List ℕ) (i : Instance) (xs : List X) (k : ℕ) (x : X) (route : List ℕ)
+    (lt : k < length xs) (at : x ≡ get_or xs k x) (is : route ≡ f x) where
+  pub routes_cost-more :
+      routes_cost i (map f (take (k + 1) xs)) ≡ routes_cost i (map f (take k xs)) + route_length i route
+  routes_cost-more =
+      ap (routes_cost i) (map-take_more f xs k x lt at) ∙ sum_by_push (route_length i) (map f (take k xs)) (f x)
+      ∙ ap (λ v. routes_cost i (map f (take k xs)) + route_length i v) (sym is)
 
-pub first_over_at : {X : Type 0} (f : X → List ℕ) (i : Instance) (xs : List X) (k : ℕ) (x : X) (route : List ℕ)
-    (load : ℕ) → k < length xs → x ≡ get_or xs k x → route ≡ f x →
-    All (IsLight i) (map f (take k xs)) → load ≡ route_load i route → i.capacity < load →
-    IsFirstOver i (map f xs) (k + 1) load
-first_over_at f i xs k x route load lt at is light load_is over = record {
-  before = map f (take k xs);
-  route = f x;
-  after = map f (drop (k + 1) xs);
-  text = cut_map f xs k x lt at;
-  number = length-before f xs k lt;
-  light = light;
-  load_is = load_is ∙ ap (route_load i) is;
-  over = over;
-}
+  pub light_more : All (IsLight i) (map f (take k xs)) → route_load i route ≤ i.capacity →
+      All (IsLight i) (map f (take (k + 1) xs))
+  light_more light one =
+      subst (λ (v : List (List ℕ)). All (IsLight i) v) (sym (map-take_more f xs k x lt at))
+      (All-push (IsLight i) (map f (take k xs)) (f x) light (subst (λ (v : List ℕ). IsLight i v) is one))
+
+  pub first_over_at : (load : ℕ) → All (IsLight i) (map f (take k xs)) → load ≡ route_load i route →
+      i.capacity < load → IsFirstOver i (map f xs) (k + 1) load
+  first_over_at load light load_is over = record {
+    before = map f (take k xs);
+    route = f x;
+    after = map f (drop (k + 1) xs);
+    text = cut_map f xs k x lt at;
+    number = length-before f xs k lt;
+    light = light;
+    load_is = load_is ∙ ap (route_load i) is;
+    over = over;
+  }

@@ -22,7 +22,7 @@ load-load-requires c =
 pub returns-then-load-capacity : goal.returns-then-load-capacity
 returns-then-load-capacity c =
     first_over_at (λ r. r.items) (instance_of c.args.cvrp.now) c.args.routes.now c.loop-k.k c.index-routes-k.result
-    c.deref.result.now c.load-load.result c.loop-k-test.true c.index-routes-k.is c.deref.ensures.value
+    c.deref.result.now c.loop-k-test.true c.index-routes-k.is c.deref.ensures.value c.load-load.result
     c.loop-k.invariant c.load-load.ensures (omega (arith, c.if-load-capacity.true, c.capacity.ensures.value))
 
 pub loop-k-preserved : goal.loop-k-preserved
