@@ -10,7 +10,6 @@ use Rattle.tk_search.specs.Searching.{SearchRun, begin, trial}
 use Rattle.tk_search.specs.Totals.{IsBounded, capped}
 use Rattle.tk_search.specs.declared.trials.descending.SearchRules.{SearchRules}
 use Rattle.tk_search.specs.declared.trials.totals.TrialReport.{TrialReport}
-use Rattle.tk_search.specs.Cuts.{kick_swaps}
 use Rattle.tk_search.proofs.DoubleBridge.KickSwaps.{kick_few}
 use Rattle.tk_search.proofs.SearchTrials.Bounds.{bounded_more, tests_first, tests_kicked}
 use Rattle.tk_search.proofs.SearchTrials.Cities.{cities_after, cities_next}
@@ -33,14 +32,12 @@ bounded_given : (old new : Searching) → SameGiven old new → length new.best 
     IsBounded (length old.best) old.near.width old.rules (tour_length old.distance new.best) new.totals →
     IsBoundedSearch new
 bounded_given old new g size h =
-    let N : ℕ → Type 0 = λ v. IsBounded v old.near.width old.rules (tour_length old.distance new.best) new.totals in
-    let W : NearLists → Type 0 = λ v. IsBounded (length new.best) v.width old.rules (tour_length old.distance new.best)
-    new.totals in
-    let R : SearchRules → Type 0 = λ v. IsBounded (length new.best) new.near.width v (tour_length old.distance new.best)
-    new.totals in
-    let D : (ℕ → ℕ → ℕ) → Type 0 = λ v. IsBounded (length new.best) new.near.width new.rules (tour_length v new.best)
-    new.totals in
-    subst D (sym g.distance) (subst R (sym g.rules) (subst W (sym g.near) (subst N (sym size) h)))
+    let B : ℕ → NearLists → SearchRules → (ℕ → ℕ → ℕ) → Type 0 = λ n lists rules dist.
+    IsBounded n lists.width rules (tour_length dist new.best) new.totals in
+    subst (B (length new.best) new.near new.rules) (sym g.distance)
+    (subst (λ v. B (length new.best) new.near v old.distance) (sym g.rules)
+    (subst (λ v. B (length new.best) v old.rules old.distance) (sym g.near)
+    (subst (λ v. B v old.near old.rules old.distance) (sym size) h)))
 
 -- the work so far is bounded, and before the first trial there was none
 record IsWithin (search : Searching) : Type 0 where
@@ -49,32 +46,20 @@ record IsWithin (search : Searching) : Type 0 where
 
 within_next : {old new : Searching} {words rest : Stream} {report : TrialReport} → NextTrial old words new rest report →
     IsWithin old → IsWithin new
-within_next {old = old} {new = new} {report = report} (first untried h same) w =
-    let n : ℕ = length old.best in
-    let was : ℕ = tour_length old.distance old.best in
-    let now : ℕ = tour_length old.distance new.best in
-    let b = bounded_more n old.near.width was now h.trial.flips h.trial.swaps old.rules old.totals new.totals report
-    h.adds w.bounds h.settles (omega (arith, h.trial.few)) (omega (arith, h.swaps)) h.bounded
-    (shorter_best _ _ _ _ _ _ _ _ h.trial) (same_best _ _ _ _ _ _ _ _ h.trial)
-    (λ o. tests_first n old.near.width was now h.trial.flips h.trial.swaps old.rules old.totals new.totals report h.adds
-    w.bounds (w.untried untried) (h.bounded.tests o)) in
+within_next {old = old} {new = new} (first untried h same) w =
+    let b = bounded_more h.adds w.bounds h.settles (omega (arith, h.trial.few)) (omega (arith, h.swaps)) h.bounded
+    (shorter_best h.trial) (same_best h.trial)
+    (λ o. tests_first h.adds w.bounds (w.untried untried) (h.bounded.tests o)) in
     record {
-      bounds = bounded_given old new h.given (cities_next (first untried h same)).count b;
+      bounds = bounded_given old new h.given (cities_next (first untried h same)).0 b;
       untried = λ e. absurd (omega (arith, e, h.adds.trials));
     }
-within_next {old = old} {new = new} {report = report} (kicked tried many h) w =
-    let n : ℕ = length old.best in
-    let was : ℕ = tour_length old.distance old.best in
-    let now : ℕ = tour_length old.distance new.best in
-    let flips : ℕ = 4 + h.trial.flips in
-    let swaps : ℕ = kick_swaps n h.kick.cuts + h.trial.swaps in
-    let b = bounded_more n old.near.width was now flips swaps old.rules old.totals new.totals report h.adds w.bounds
-    h.settles (omega (arith, h.trial.few)) (omega (arith, h.swaps, kick_few n h.kick.cuts)) h.bounded
-    (shorter_best _ _ _ _ _ _ _ _ h.trial) (same_best _ _ _ _ _ _ _ _ h.trial)
-    (λ o. tests_kicked n old.near.width was now flips swaps old.rules old.totals new.totals report h.adds w.bounds tried
-    (w.bounds.tests o) (h.bounded.tests o)) in
+within_next {old = old} {new = new} (kicked tried many h) w =
+    let b = bounded_more h.adds w.bounds h.settles (omega (arith, h.trial.few))
+    (omega (arith, h.swaps, kick_few (length old.best) h.kick.cuts)) h.bounded (shorter_best h.trial)
+    (same_best h.trial) (λ o. tests_kicked h.adds w.bounds tried (w.bounds.tests o) (h.bounded.tests o)) in
     record {
-      bounds = bounded_given old new h.given (cities_next (kicked tried many h)).count b;
+      bounds = bounded_given old new h.given (cities_next (kicked tried many h)).0 b;
       untried = λ e. absurd (omega (arith, e, h.adds.trials));
     }
 within_next (none tried few h stays same) w = subst IsWithin (sym stays) w
@@ -103,7 +88,7 @@ pub counted_run : {begun : Searching} {words : Stream} {t : ℕ} {search : Searc
     begun.totals.trials ≡ 0 → 8 ≤ length begun.best → search.totals.trials ≡ capped t
 counted_run begin untried many = omega (arith, untried)
 counted_run (trial {t = t} run next) untried many =
-    counted_next t next (counted_run run untried many) (omega (arith, many, (cities_after run).count))
+    counted_next t next (counted_run run untried many) (omega (arith, many, (cities_after run).0))
 
 -- On fewer than 8 cities: no trial yet, or one.
 record AreNone (begun : Searching) (words : Stream) (t : ℕ) (after : Searching) (rest : Stream) : Type 0 where
@@ -146,7 +131,7 @@ few_run {begun = begun} {words = words}
     let P : Searching → Type 0 = λ v. NextTrial v left new rest report in
     let Q : Stream → Type 0 = λ v. NextTrial begun v new rest report in
     inr (first_one (subst Q no.words_are (subst P no.search_is next)) untried))
-    (λ (one : AreOne begun words old left). inr (still_one next one (omega (arith, few, (cities_after run).count))))
+    (λ (one : AreOne begun words old left). inr (still_one next one (omega (arith, few, (cities_after run).0))))
     (few_run run untried few)
 
 pub one_trial : {begun : Searching} {words : Stream} {t : ℕ} {search : Searching} {rest : Stream} →

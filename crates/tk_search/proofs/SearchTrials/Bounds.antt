@@ -35,8 +35,12 @@ more c A B C X x h k le =
     let last : c * capped (A + B) ≤ c * C = mul-le-mul_left c le in
     omega arith
 
-module _ (n width shortest shorter flips swaps : ℕ) (rules : SearchRules) (old new : Totals) (report : TrialReport)
+module _ {n width shortest : ℕ} {rules : SearchRules} {old new : Totals} {report : TrialReport}
     (adds : AddsTrial old new report (gain_of report)) (bound : IsBounded n width rules shortest old) where
+  -- what the count of better results becomes
+  better_is : (b : Bool) → report.better ≡ b → new.better ≡ capped (old.better + (if b then 1 else 0))
+  better_is b e = adds.better ∙ ap (λ v. capped (old.better + (if v then 1 else 0))) e
+
   pub tests_first : old.tests ≡ 0 →
       report.descent.tests ≤ 4 * rules.or_segment * width * (n + 6 * report.descent.moves) →
       new.tests ≤ 4 * rules.or_segment * width * (n + 8 * (new.trials - 1) + 6 * new.moves)
@@ -66,7 +70,7 @@ module _ (n width shortest shorter flips swaps : ℕ) (rules : SearchRules) (old
             report.descent.tests b h le,
       )
 
-  pub tests_swept : old.tests ≤ 4 * rules.or_segment * width * (n * old.passes + 6 * old.moves) →
+  tests_swept : old.tests ≤ 4 * rules.or_segment * width * (n * old.passes + 6 * old.moves) →
       report.descent.tests ≤ 4 * rules.or_segment * width * (n * report.passes + 6 * report.descent.moves) →
       new.tests ≤ 4 * rules.or_segment * width * (n * new.passes + 6 * new.moves)
   tests_swept b h =
@@ -81,7 +85,7 @@ module _ (n width shortest shorter flips swaps : ℕ) (rules : SearchRules) (old
             report.descent.tests b h le,
       )
 
-  pub swaps_more : new.swaps < 2 ^ 64 → report.descent.swaps ≤ 3 * (n / 4) * report.descent.moves →
+  swaps_more : new.swaps < 2 ^ 64 → report.descent.swaps ≤ 3 * (n / 4) * report.descent.moves →
       new.swaps ≤ old.swaps + n + report.descent.swaps →
       new.swaps ≤ 3 * (n / 4) * new.moves + n * new.trials
   swaps_more small h k =
@@ -96,9 +100,9 @@ module _ (n width shortest shorter flips swaps : ℕ) (rules : SearchRules) (old
       let s : report.descent.swaps ≤ q * report.descent.moves = h in
       omega arith
 
-  pub copied_more : SettlesTrial n flips swaps old new report → flips ≤ 4 + 3 * report.descent.moves →
+  copied_more : {flips swaps : ℕ} → SettlesTrial n flips swaps old new report → flips ≤ 4 + 3 * report.descent.moves →
       new.copied ≤ n * new.better + 3 * (new.moves + new.trials)
-  copied_more k few = by report.better refl
+  copied_more {flips} k few = by report.better refl
     where
       small : new.copied < 2 ^ 65
       small = k.limits.2
@@ -116,42 +120,31 @@ module _ (n width shortest shorter flips swaps : ℕ) (rules : SearchRules) (old
       by : (b : Bool) → report.better ≡ b → new.copied ≤ n * new.better + 3 * (new.moves + new.trials)
       by true e =
           let to : new.copied ≤ old.copied + n = (k.taken e).1.most in
-          let one : new.better ≡ capped (old.better + 1) = adds.better
-          ∙ ap (λ v. capped (old.better + (if v then 1 else 0))) e in
-          let eb : n * new.better ≡ n * capped (old.better + 1) = ap (λ v. n * v) one in
+          let eb : n * new.better ≡ n * capped (old.better + 1) = ap (λ v. n * v) (better_is true e) in
           let cb = capped_mul n (old.better + 1) in
           let d : n * (old.better + 1) ≡ n * old.better + n = omega arith in
           omega (arith, small, b, to, eb, cb, d, adds.moves, adds.trials)
       by false e =
-          let none : new.better ≡ capped (old.better + 0) = adds.better
-          ∙ ap (λ v. capped (old.better + (if v then 1 else 0))) e in
-          let eb : n * new.better ≡ n * capped (old.better + 0) = ap (λ v. n * v) none in
+          let eb : n * new.better ≡ n * capped (old.better + 0) = ap (λ v. n * v) (better_is false e) in
           let cb = capped_mul n (old.better + 0) in
           let d : n * (old.better + 0) ≡ n * old.better = omega arith in
           omega (arith, small, b, back e, eb, cb, d, adds.moves, adds.trials)
 
-  pub moves_more : report.descent.moves ≤ gain_of report → new.moves ≤ new.gained
+  moves_more : report.descent.moves ≤ gain_of report → new.moves ≤ new.gained
   moves_more h = omega (arith, adds.moves, adds.gained, bound.moves)
 
-  pub better_more : (report.better ≡ true → shorter < shortest) → (report.better ≡ false → shorter ≡ shortest) →
-      pos (shorter + new.better) ≤ℤ new.start
-  better_more less same = by report.better refl
+  better_more : {shorter : ℕ} → (report.better ≡ true → shorter < shortest) →
+      (report.better ≡ false → shorter ≡ shortest) → pos (shorter + new.better) ≤ℤ new.start
+  better_more {shorter} less same = by report.better refl
     where
       by : (b : Bool) → report.better ≡ b → pos (shorter + new.better) ≤ℤ new.start
-      by true e =
-          let k = less e in
-          let one : new.better ≡ capped (old.better + 1) = adds.better
-          ∙ ap (λ v. capped (old.better + (if v then 1 else 0))) e in
-          omega (arith, ints, bound.better, adds.start)
-      by false e =
-          let k = same e in
-          let none : new.better ≡ capped (old.better + 0) = adds.better
-          ∙ ap (λ v. capped (old.better + (if v then 1 else 0))) e in
-          omega (arith, ints, bound.better, adds.start)
+      by true e = omega (arith, ints, bound.better, adds.start, less e, better_is true e)
+      by false e = omega (arith, ints, bound.better, adds.start, same e, better_is false e)
 
   -- all bounds after one more trial
-  pub bounded_more : {awake : ℕ} → SettlesTrial n flips swaps old new report → flips ≤ 4 + 3 * report.descent.moves →
-      new.swaps ≤ old.swaps + n + report.descent.swaps → IsBoundedTrial n width awake rules report →
+  pub bounded_more : {awake shorter flips swaps : ℕ} → SettlesTrial n flips swaps old new report →
+      flips ≤ 4 + 3 * report.descent.moves → new.swaps ≤ old.swaps + n + report.descent.swaps →
+      IsBoundedTrial n width awake rules report →
       (report.better ≡ true → shorter < shortest) → (report.better ≡ false → shorter ≡ shortest) →
       (rules.sweep ≡ false → new.tests ≤ 4 * rules.or_segment * width * (n + 8 * (new.trials - 1) + 6 * new.moves)) →
       IsBounded n width rules shorter new

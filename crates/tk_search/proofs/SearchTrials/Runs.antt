@@ -30,9 +30,8 @@ given_run (trial run next) =
     record { distance = k.distance ∙ i.distance; near = k.near ∙ i.near; rules = k.rules ∙ i.rules }
 
 -- a trial keeps the first of the shortest
-module _ (dist : ℕ → ℕ → ℕ) (near : ℕ → List ℕ) (rules : SearchRules) (from awake old new : List ℕ)
-    (report : TrialReport)
-    (h : IsTrial dist near rules from awake old new report) (tours : List (List ℕ))
+module _ {dist : ℕ → ℕ → ℕ} {near : ℕ → List ℕ} {rules : SearchRules} {from awake old new : List ℕ}
+    {report : TrialReport} (h : IsTrial dist near rules from awake old new report) (tours : List (List ℕ))
     (f : IsFirstShortest dist tours old) where
   replaced_first : report.better ≡ true → IsFirstShortest dist (tours ++ h.found ∷ []) new
   replaced_first e =
@@ -43,9 +42,7 @@ module _ (dist : ℕ → ℕ → ℕ) (near : ℕ → List ℕ) (rules : SearchR
       let back : All Longer f.behind = λ k d lt. omega (arith, less, f.least k d lt) in
       let all : All Longer (f.before ++ old ∷ f.behind) =
       All-append Longer f.before (old ∷ f.behind) front (All-cons Longer old f.behind less back) in
-      let P : List ℕ → Type 0 = λ v. IsFirstShortest dist (tours ++ h.found ∷ []) v in
-      subst P (sym (h.replaced e))
-      (record {
+      subst (IsFirstShortest dist (tours ++ h.found ∷ [])) (sym (h.replaced e)) (record {
         before = tours;
         behind = [];
         stands = refl;
@@ -60,8 +57,7 @@ module _ (dist : ℕ → ℕ → ℕ) (near : ℕ → List ℕ) (rules : SearchR
       (λ (le : tour_length dist old ≤ tour_length dist h.found). le)
       (cases_lt (tour_length dist h.found) (tour_length dist old)) in
       let Least : List ℕ → Type 0 = λ tour. tour_length dist old ≤ tour_length dist tour in
-      let P : List ℕ → Type 0 = λ v. IsFirstShortest dist (tours ++ h.found ∷ []) v in
-      subst P (sym (h.kept e)) (record {
+      subst (IsFirstShortest dist (tours ++ h.found ∷ [])) (sym (h.kept e)) (record {
         before = f.before;
         behind = f.behind ++ h.found ∷ [];
         stands = ap (λ v. v ++ h.found ∷ []) f.stands ∙ append_assoc f.before (old ∷ f.behind) (h.found ∷ []);
@@ -76,14 +72,11 @@ module _ (dist : ℕ → ℕ → ℕ) (near : ℕ → List ℕ) (rules : SearchR
 first_next : {old new : Searching} {words rest : Stream} {report : TrialReport}
     (next : NextTrial old words new rest report) (tours : List (List ℕ)) →
     IsFirstShortest old.distance tours old.best → IsFirstShortest old.distance (tours ++ found_by next) new.best
-first_next {report = report} (first untried h same) tours f =
-    trial_first _ _ _ _ _ _ _ report h.trial tours f report.better refl
-first_next {report = report} (kicked tried many h) tours f =
-    trial_first _ _ _ _ _ _ _ report h.trial tours f report.better refl
+first_next {report = report} (first untried h same) tours f = trial_first h.trial tours f report.better refl
+first_next {report = report} (kicked tried many h) tours f = trial_first h.trial tours f report.better refl
 first_next {old = old} {new = new} (none tried few h stays same) tours f =
-    let P : List ℕ → Type 0 = λ v. IsFirstShortest old.distance (tours ++ []) v in
-    let Q : List (List ℕ) → Type 0 = λ v. IsFirstShortest old.distance v old.best in
-    subst P (sym (ap (λ s. s.best) stays)) (subst Q (sym (append-nil tours)) f)
+    subst (IsFirstShortest old.distance (tours ++ [])) (sym (ap (λ s. s.best) stays))
+    (subst (λ (v : List (List ℕ)). IsFirstShortest old.distance v old.best) (sym (append-nil tours)) f)
 
 pub first_run : {begun : Searching} {words : Stream} {t : ℕ} {search : Searching} {rest : Stream}
     (run : SearchRun begun words t search rest) → IsFirstShortest begun.distance (begun.best ∷ found_in run) search.best

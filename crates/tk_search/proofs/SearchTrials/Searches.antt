@@ -26,42 +26,33 @@ use Rattle.tk_search.specs.declared.trials.totals.TrialReport.{TrialReport}
 use Rattle.tk_search.proofs.SearchTrials.Bounds.{tests_first, tests_kicked, bounded_more}
 
 -- the same trial in other words, with the same flips
-pub trial_at : (dist : ℕ → ℕ → ℕ) (near : ℕ → List ℕ) (rules : SearchRules)
-    (from from' awake awake' best best' new : List ℕ) (report : TrialReport) → from ≡ from' → awake ≡ awake' →
-    best ≡ best' →
-    (h : IsTrial dist near rules from awake best new report) →
+pub trial_at : {dist : ℕ → ℕ → ℕ} {near : ℕ → List ℕ} {rules : SearchRules}
+    {from from' awake awake' best best' new : List ℕ} {report : TrialReport} → from ≡ from' → awake ≡ awake' →
+    best ≡ best' → (h : IsTrial dist near rules from awake best new report) →
     (t : IsTrial dist near rules from' awake' best' new report) × (t.flips ≡ h.flips) × (t.swaps ≡ h.swaps)
-trial_at dist near rules from from' awake awake' best best' new report ef ea eb h =
-    let P : List ℕ → Type 0 = λ v. (t : IsTrial dist near rules v awake best new report) × (t.flips ≡ h.flips)
-    × (t.swaps ≡ h.swaps) in
-    let Q : List ℕ → Type 0 = λ v. (t : IsTrial dist near rules from' v best new report) × (t.flips ≡ h.flips)
-    × (t.swaps ≡ h.swaps) in
-    let R : List ℕ → Type 0 = λ v. (t : IsTrial dist near rules from' awake' v new report) × (t.flips ≡ h.flips)
-    × (t.swaps ≡ h.swaps) in
-    subst R eb (subst Q ea (subst P ef (h, refl, refl)))
+trial_at {dist} {near} {rules} {from} {from'} {awake} {awake'} {best} {best'} {new} {report} ef ea eb h =
+    let P : List ℕ → List ℕ → List ℕ → Type 0 = λ f a b. (t : IsTrial dist near rules f a b new report)
+    × (t.flips ≡ h.flips) × (t.swaps ≡ h.swaps) in
+    subst (P from' awake') eb (subst (λ v. P from' v best) ea (subst (λ v. P v awake best) ef (h, refl, refl)))
 
 -- the same kick in other words, at the same cuts
-pub kick_at : (best best' asleep asleep' tour awake : List ℕ) (words rest : Stream) (sweep : Bool) → best ≡ best' →
+pub kick_at : {best best' asleep asleep' tour awake : List ℕ} {words rest : Stream} {sweep : Bool} → best ≡ best' →
     asleep ≡ asleep' → (k : IsKick best words sweep asleep tour rest awake) →
     (k' : IsKick best' words sweep asleep' tour rest awake) × (k'.cuts ≡ k.cuts)
-kick_at best best' asleep asleep' tour awake words rest sweep eb ea k =
-    let P : List ℕ → Type 0 = λ v. (k' : IsKick v words sweep asleep tour rest awake) × (k'.cuts ≡ k.cuts) in
-    let Q : List ℕ → Type 0 = λ v. (k' : IsKick best' words sweep v tour rest awake) × (k'.cuts ≡ k.cuts) in
-    subst Q ea (subst P eb (k, refl))
+kick_at {best} {best'} {asleep} {asleep'} {tour} {awake} {words} {rest} {sweep} eb ea k =
+    let P : List ℕ → List ℕ → Type 0 = λ b a. (k' : IsKick b words sweep a tour rest awake) × (k'.cuts ≡ k.cuts) in
+    subst (P best') ea (subst (λ v. P v asleep) eb (k, refl))
 
 -- the best tour after a trial is shorter, or the same
-pub shorter_best : (dist : ℕ → ℕ → ℕ) (near : ℕ → List ℕ) (rules : SearchRules) (from awake best new : List ℕ)
-    (report : TrialReport) → IsTrial dist near rules from awake best new report →
-    report.better ≡ true → tour_length dist new < tour_length dist best
-shorter_best dist near rules from awake best new report h e =
-    let P : List ℕ → Type 0 = λ v. tour_length dist v < tour_length dist best in
-    let is : IsTrue report.better = grind (arith, e) in
-    subst P (sym (h.replaced e)) (h.better.0 is)
+module _ {dist : ℕ → ℕ → ℕ} {near : ℕ → List ℕ} {rules : SearchRules} {from awake best new : List ℕ}
+    {report : TrialReport} (h : IsTrial dist near rules from awake best new report) where
+  pub shorter_best : report.better ≡ true → tour_length dist new < tour_length dist best
+  shorter_best e =
+      let is : IsTrue report.better = grind (arith, e) in
+      subst (λ (v : List ℕ). tour_length dist v < tour_length dist best) (sym (h.replaced e)) (h.better.0 is)
 
-pub same_best : (dist : ℕ → ℕ → ℕ) (near : ℕ → List ℕ) (rules : SearchRules) (from awake best new : List ℕ)
-    (report : TrialReport) → IsTrial dist near rules from awake best new report →
-    report.better ≡ false → tour_length dist new ≡ tour_length dist best
-same_best dist near rules from awake best new report h e = ap (tour_length dist) (h.kept e)
+  pub same_best : report.better ≡ false → tour_length dist new ≡ tour_length dist best
+  same_best e = ap (tour_length dist) (h.kept e)
 
 -- a kick wakes at most eight cities
 pub few_ends : (asleep awake xs : List ℕ) (n : ℕ) (cuts : Cuts) → asleep ≡ [] →
@@ -111,49 +102,40 @@ pub record Leaves {S : Type 0} {u : undo.Ghosts S} {w : Ghosts S} (near : NearLi
   pub less : report.better ≡ true → tour_length dist (best_of t.best) < tour_length dist (best_of s.best)
   pub same : report.better ≡ false → tour_length dist (best_of t.best) ≡ tour_length dist (best_of s.best)
 
-module _ {S : Type 0} {u : undo.Ghosts S} {w : Ghosts S} (size : ℕ) (dist : ℕ → ℕ → ℕ) (near : NearLists)
-    (rules : SearchRules) (s t : State S u w) (awake flips swaps : ℕ) (report : TrialReport)
+module _ {S : Type 0} {u : undo.Ghosts S} {w : Ghosts S} {size : ℕ} {dist : ℕ → ℕ → ℕ} {near : NearLists}
+    {rules : SearchRules} {s t : State S u w} {awake flips swaps : ℕ} {report : TrialReport}
     (h : IsSearching size dist near rules s) (k : Leaves near dist rules s t awake flips swaps report) where
-  bounded : (rules.sweep ≡ false →
-      t.totals.tests ≤ 4 * rules.or_segment * near.width *
-      (length (best_of s.best) + 8 * (t.totals.trials - 1) + 6 * t.totals.moves)) →
-      IsBounded (length (best_of s.best)) near.width rules (tour_length dist (best_of t.best)) t.totals
-  bounded tests =
-      bounded_more (length (best_of s.best)) near.width (tour_length dist (best_of s.best))
-      (tour_length dist (best_of t.best)) flips swaps rules s.totals t.totals report k.adds h.bounds
-      k.settles k.few k.swapped k.bounded k.less k.same tests
-
   searches : (rules.sweep ≡ false →
       t.totals.tests ≤ 4 * rules.or_segment * near.width *
       (length (best_of s.best) + 8 * (t.totals.trials - 1) + 6 * t.totals.moves)) →
       IsSearching size dist near rules t
-  searches tests =
-      let P : ℕ → Type 0 = λ v. IsBounded v near.width rules (tour_length dist (best_of t.best)) t.totals in
-      record {
-        cities = h.cities ∙ sym k.size;
-        lists = h.lists ∙ sym k.size;
-        queue = k.waking ∙ h.queue ∙ sym k.size;
-        asleep = k.asleep;
-        steps = k.steps;
-        segment = h.segment;
-        at_best = k.at_best;
-        slots = k.slots ∙ h.slots ∙ sym k.size;
-        shortest = k.shortest;
-        counts = k.counts;
-        untried = λ e. absurd (omega (arith, e, k.adds.trials));
-        bounds = subst P (sym k.size) (bounded tests);
-      }
+  searches tests = record {
+    cities = h.cities ∙ sym k.size;
+    lists = h.lists ∙ sym k.size;
+    queue = k.waking ∙ h.queue ∙ sym k.size;
+    asleep = k.asleep;
+    steps = k.steps;
+    segment = h.segment;
+    at_best = k.at_best;
+    slots = k.slots ∙ h.slots ∙ sym k.size;
+    shortest = k.shortest;
+    counts = k.counts;
+    untried = λ e. absurd (omega (arith, e, k.adds.trials));
+    bounds =
+        subst (λ (v : ℕ). IsBounded v near.width rules (tour_length dist (best_of t.best)) t.totals) (sym k.size)
+        (bounded_more k.adds h.bounds k.settles k.few k.swapped k.bounded k.less k.same tests);
+  }
+
+  -- the tests of the trial, with so many cities awake
+  tests_of : (n : ℕ) → awake ≡ n → rules.sweep ≡ false →
+      report.descent.tests ≤ 4 * rules.or_segment * near.width * (n + 6 * report.descent.moves)
+  tests_of n e once =
+      subst (λ (v : ℕ). report.descent.tests ≤ 4 * rules.or_segment * near.width * (v + 6 * report.descent.moves)) e
+      (k.bounded.tests once)
 
   pub searches_first : s.totals.trials ≡ 0 → awake ≡ length (best_of s.best) → IsSearching size dist near rules t
-  searches_first none all =
-      let P : ℕ → Type 0 =
-      λ v. report.descent.tests ≤ 4 * rules.or_segment * near.width * (v + 6 * report.descent.moves) in
-      searches (λ o. tests_first (length (best_of s.best)) near.width (tour_length dist (best_of s.best)) 0 flips swaps
-      rules s.totals t.totals report k.adds h.bounds (h.untried none) (subst P all (k.bounded.tests o)))
+  searches_first none all = searches (λ o. tests_first k.adds h.bounds (h.untried none) (tests_of _ all o))
 
   pub searches_kicked : 1 ≤ s.totals.trials → awake ≡ 8 → IsSearching size dist near rules t
   searches_kicked begun ends =
-      let P : ℕ → Type 0 =
-      λ v. report.descent.tests ≤ 4 * rules.or_segment * near.width * (v + 6 * report.descent.moves) in
-      searches (λ o. tests_kicked (length (best_of s.best)) near.width (tour_length dist (best_of s.best)) 0 flips swaps
-      rules s.totals t.totals report k.adds h.bounds begun (h.bounds.tests o) (subst P ends (k.bounded.tests o)))
+      searches (λ o. tests_kicked k.adds h.bounds begun (h.bounds.tests o) (tests_of 8 ends o))

@@ -1,9 +1,10 @@
 -- One trial of a search.
-use Rattle.std.proofs.Common.{◌≡◌, ℕ, ◌+◌, ◌-◌, ◌<◌, ◌≤◌, Bool, true, false, List, length, refl, sym, ap, ◌∙◌, subst}
+use Rattle.std.proofs.Common.{◌≡◌, ℕ, ◌+◌, ◌<◌, ◌≤◌, Bool, true, false, List, length, refl, sym, ap, ◌∙◌, subst}
 use Rattle.std.proofs.Common.{arith}
 use Rattle.std.specs.Prelude.{ℤ, pos, ◌-ℤ◌, ◌↔◌, IsTrue}
 use Rattle.std.specs.Int.RustNames.{unsigned_abs}
 use Rattle.std.proofs.lemmas.Int.{to_z-of_z, ints}
+use Rattle.tk_descent.proofs.WakeRuns.DescentSteps.{saved_is}
 use Rattle.tk_search.specs.Totals.{AddsTrial}
 use Rattle.tk_search.specs.declared.trials.totals.Totals.{Totals}
 use Rattle.tk_search.specs.declared.trials.totals.TrialReport.{TrialReport}
@@ -45,10 +46,4 @@ gain_bits p a b x y r fp fa ep ea eb h =
 
 -- a move gains at least one
 pub moves_gain : (b a : ℤ) (x y moves : ℕ) → b ≡ pos x → a ≡ pos y → moves + y ≤ x → moves ≤ unsigned_abs (b -ℤ a)
-moves_gain b a x y moves eb ea h =
-    let e : unsigned_abs (b -ℤ a) ≡ x - y = ap (λ v. unsigned_abs (v -ℤ a)) eb
-    ∙ ap (λ v. unsigned_abs (pos x -ℤ v)) ea ∙ apart in
-    omega arith
-  where
-    apart : unsigned_abs (pos x -ℤ pos y) ≡ x - y
-    apart = grind (arith, ints)
+moves_gain b a x y moves eb ea h = omega (arith, h, saved_is b a x y eb ea (omega arith))

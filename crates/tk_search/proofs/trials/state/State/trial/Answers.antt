@@ -9,8 +9,6 @@ use Rattle.tk_descent.proofs.WakeRuns.Passes.{all_awake}
 use Rattle.tk_descent.proofs.WakeRuns.Woken.{one_to-length}
 use Rattle.tk_search.specs.Totals.{AddsTrial}
 use Rattle.tk_search.specs.Trials.{gain_of, IsBoundedTrial}
-use Rattle.tk_near.specs.Near.{near_of}
-use Rattle.rand_core.specs.Stream.{Stream}
 use Rattle.tk_search.specs.declared.trials.totals.Totals.{Totals}
 use Rattle.tk_search.proofs.SearchTrials.Searches.{Leaves, few_ends, kick_at, more_awake, same_best}
 use Rattle.tk_search.proofs.SearchTrials.Searches.{searches_first, searches_kicked, shorter_best, trial_at}
@@ -56,8 +54,8 @@ leaves_first g c =
           (omega (arith, h.counts.swaps, h.at_best.swaps, g.met.S.UndoStore.counts_fit s.tour.tour)) h.counts.undo_swaps
           h.counts.copied d.small;
       few = omega (arith, d.trial.0.few);
-      less = shorter_best _ _ _ _ _ _ _ _ d.trial.0;
-      same = same_best _ _ _ _ _ _ _ _ d.trial.0;
+      less = shorter_best d.trial.0;
+      same = same_best d.trial.0;
     }
 
 -- the swaps so far after a kick, and after the descent from it
@@ -124,8 +122,8 @@ leaves_kicked g c =
           (h.counts.undo_swaps ∙ sym k.kept.flipped.undo_swaps)
           (omega (arith, h.counts.copied, k.kept.flipped.copied, ap copied_to k.others.0)) d.small;
       few = omega (arith, d.trial.0.few);
-      less = λ e. subst Less k.others.0 (shorter_best _ _ _ _ _ _ _ _ d.trial.0 e);
-      same = λ e. same_best _ _ _ _ _ _ _ _ d.trial.0 e ∙ ap (λ v. tour_length dist (best_of v)) k.others.0;
+      less = λ e. subst Less k.others.0 (shorter_best d.trial.0 e);
+      same = λ e. same_best d.trial.0 e ∙ ap (λ v. tour_length dist (best_of v)) k.others.0;
     }
 
 pub descend-requires-2-clause-size : goal.descend-requires-2-clause-size
@@ -140,8 +138,7 @@ returns-then-self-eq0-clause-next g c =
     let best : List ℕ = best_of s.best in
     let here = (goal.at.returns-then-self-eq0-clause-next g c).After-descend in
     let leaves = leaves_first g here in
-    let t = trial_at _ _ _ (cities_of s.tour) best c.wake_all.new.self.queue (one_to (length best)) best best
-    (best_of c.descend.new.self.best) c.descend.result c.requires.at_best.order (all_woken g here) refl d.trial.0 in
+    let t = trial_at c.requires.at_best.order (all_woken g here) refl d.trial.0 in
     first (omega arith)
     (record {
       given = record { distance = refl; near = refl; rules = refl };
@@ -157,12 +154,12 @@ returns-then-self-eq0-clause-next g c =
 
 pub returns-then-self-eq0-clause-holds : goal.returns-then-self-eq0-clause-holds
 returns-then-self-eq0-clause-holds g c =
-    searches_first _ _ _ _ c.args.self.now _ _ _ _ _ c.requires
+    searches_first c.requires
     (leaves_first g (goal.at.returns-then-self-eq0-clause-holds g c).After-descend) (omega arith) refl
 
 pub returns-clause-holds : goal.returns-clause-holds
 returns-clause-holds g c =
-    searches_kicked _ _ _ _ c.args.self.now _ _ _ _ _ c.requires
+    searches_kicked c.requires
     (leaves_kicked g (goal.at.returns-clause-holds g c).After-descend-2) (omega arith) refl
 
 pub returns-clause-next : goal.returns-clause-next
@@ -172,15 +169,10 @@ returns-clause-next g c =
     let d = c.descend-2.ensures in
     let tour : List ℕ = cities_of c.kick-before.new.self.tour in
     let awake : List ℕ = c.kick-before.new.self.waking.queue in
-    let words : Stream = g.R.Rng.stream c.args.rng.now in
-    let rest : Stream = g.R.Rng.stream c.kick-before.new.rng in
     let here = (goal.at.returns-clause-next g c).After-descend-2 in
     let leaves = leaves_kicked g here in
-    let kick = kick_at _ _ _ _ tour awake words rest c.args.rules.sweep h.at_best.order h.asleep k.kicked.0 in
-    let t =
-    trial_at (g.M.Metric.distance c.args.metric.now) (near_of c.args.near.now) c.args.rules tour tour awake awake
-    (best_of c.kick-before.new.self.best) (best_of c.args.self.now.best) (best_of c.descend-2.new.self.best)
-    c.descend-2.result refl refl (ap best_of k.others.0) d.trial.0 in
+    let kick = kick_at h.at_best.order h.asleep k.kicked.0 in
+    let t = trial_at refl refl (ap best_of k.others.0) d.trial.0 in
     let four : k.kept.flipped.flips ≡ 4 = omega (arith, k.kept.flips, k.flips, h.at_best.flips) in
     kicked (omega arith) (omega (arith, ap length h.at_best.order))
     (record {
