@@ -2,7 +2,6 @@
 use Rattle.std.proofs.Common.{◌≡◌, ℕ, ℤ, ◌+◌, ◌≤◌, ◌+ℤ◌, ◌-ℤ◌, ◌≤ℤ◌, FitsSigned, List, ◌++◌, of_z, pos, to_z, w64, ap}
 use Rattle.std.proofs.Common.{arith, subst, sym, ◌∙◌}
 use Rattle.std.proofs.lemmas.Int.{ints, to_z-of_z}
-use Rattle.std.specs.Prelude.{slice_index}
 use Rattle.tk_problem.specs.declared.limits.TheConstants.{DISTANCE_LIMIT}
 use Rattle.tk_tour.specs.Moves.{CutInFour}
 use Rattle.tk_tour.specs.Tour.{SameCycle, tour_length}
@@ -89,21 +88,7 @@ module _ (before o p : ℤ) (a b : ℕ) (low : pos 0 ≤ℤ before) (high : befo
 
 module _ (d : ℕ → ℕ → ℕ) (ends : List ℕ) (limit : (a b : ℕ) → d a b ≤ DISTANCE_LIMIT) where
   pub few_out : steps_out d ends ≤ 16000000000
-  few_out =
-      omega (
-        arith,
-        limit (slice_index ends 1) (slice_index ends 2),
-        limit (slice_index ends 3) (slice_index ends 4),
-        limit (slice_index ends 5) (slice_index ends 6),
-        limit (slice_index ends 7) (slice_index ends 0),
-      )
+  few_out = omega (arith, limit)
 
   pub few_in : steps_in d ends ≤ 16000000000
-  few_in =
-      omega (
-        arith,
-        limit (slice_index ends 1) (slice_index ends 6),
-        limit (slice_index ends 7) (slice_index ends 4),
-        limit (slice_index ends 5) (slice_index ends 2),
-        limit (slice_index ends 3) (slice_index ends 0),
-      )
+  few_in = omega (arith, limit)

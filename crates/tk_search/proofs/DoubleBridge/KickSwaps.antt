@@ -10,7 +10,7 @@ use Rattle.tk_descent.proofs.MovesOnTours.Steps.{cycle-same}
 use Rattle.tk_search.specs.Cuts.{AreCuts, kick_swaps, turn_swaps}
 use Rattle.tk_search.specs.declared.double_bridges.cuts.Cuts.{Cuts}
 
-module _ (u : List ℕ) (a1 an b1 bn c1 cn d1 dn : ℕ) (k : CutInFour u a1 an b1 bn c1 cn d1 dn) where
+module _ {u : List ℕ} {a1 an b1 bn c1 cn d1 dn : ℕ} (k : CutInFour u a1 an b1 bn c1 cn d1 dn) where
   -- all parts but the first
   pub first_side : (count : ℕ) → IsShorterSide u count an b1 dn a1 →
       count ≡ min (length k.a) (length k.b + (length k.c + length k.d))
@@ -90,20 +90,11 @@ four_turns n cuts la lb lc ld m1 m2 m3 m4 s0 s1 s2 s3 s4 are ea eb ec ed e1 e2 e
     ∙ ap (λ v. saturated (v + (m3 / 2 + m4 / 2))) f2 ∙ saturated_twice s1 (m2 / 2) (m3 / 2 + m4 / 2) ∙
     ap (λ v. saturated (v + (m2 / 2 + (m3 / 2 + m4 / 2)))) f1
     ∙ saturated_twice s0 (m1 / 2) (m2 / 2 + (m3 / 2 + m4 / 2)) in
-    all ∙ ap saturated (ap (λ v. s0 + v) (turned m1 m2 m3 m4 t1 t2 t3 t4))
+    all ∙ ap (λ v. saturated (s0 + v)) (rw (t1, t2, t3, t4) (sums (turn_swaps n cuts.p) (turn_swaps n (n - cuts.r))
+    (turn_swaps n (cuts.r - cuts.q)) (turn_swaps n (cuts.q - cuts.p))))
   where
-    turned : (w x y z : ℕ) → w / 2 ≡ turn_swaps n cuts.p → x / 2 ≡ turn_swaps n (n - cuts.r) →
-        y / 2 ≡ turn_swaps n (cuts.r - cuts.q) → z / 2 ≡ turn_swaps n (cuts.q - cuts.p) →
-        w / 2 + (x / 2 + (y / 2 + z / 2)) ≡ kick_swaps n cuts
-    turned w x y z a b c d = ap (λ v. v + (x / 2 + (y / 2 + z / 2))) a
-        ∙ ap (λ v. turn_swaps n cuts.p + (v + (y / 2 + z / 2))) b
-        ∙ ap (λ v. turn_swaps n cuts.p + (turn_swaps n (n - cuts.r) + (v + z / 2))) c ∙
-        ap (λ v. turn_swaps n cuts.p + (turn_swaps n (n - cuts.r) + (turn_swaps n (cuts.r - cuts.q) + v))) d
-        ∙ sums (turn_swaps n cuts.p) (turn_swaps n (n - cuts.r)) (turn_swaps n (cuts.r - cuts.q))
-        (turn_swaps n (cuts.q - cuts.p))
-      where
-        sums : (a b c d : ℕ) → a + (b + (c + d)) ≡ a + d + c + b
-        sums a b c d = omega arith
+    sums : (a b c d : ℕ) → a + (b + (c + d)) ≡ a + d + c + b
+    sums a b c d = omega arith
 
 turn_few : (n k : ℕ) → turn_swaps n k ≤ n / 4
 turn_few n k = omega arith

@@ -37,71 +37,61 @@ parts_join xs cuts are =
     ap (λ v. v ++ part_d cuts xs) (joined xs cuts.q cuts.r (omega (arith, are.third))) ∙
     take-append-drop cuts.r xs
 
--- the list is cut in four at the ends of its parts
-cut : (xs : List ℕ) (cuts : Cuts) → AreCuts (length xs) cuts →
-    CutInFour xs (get_or xs 0 0) (get_or xs (cuts.p - 1) 0) (get_or xs (cuts.p + 1 - 1) 0) (get_or xs (cuts.q - 1) 0)
-    (get_or xs (cuts.q + 1 - 1) 0) (get_or xs (cuts.r - 1) 0) (get_or xs (cuts.r + 1 - 1) 0)
-    (get_or xs (length xs - 1) 0)
-cut xs cuts are =
-    let n : ℕ = length xs in
-    let next : (k : ℕ) → get_or xs k 0 ≡ get_or xs (k + 1 - 1) 0 = λ k. ap (λ v. get_or xs v 0) (omega arith) in
-    let P : List ℕ → Type 0 = λ v. IsPath (get_or xs (cuts.r + 1 - 1) 0) (drop cuts.r v) (get_or xs (n - 1) 0) in
-    record {
-      a = part_a cuts xs;
-      b = part_b cuts xs;
-      c = part_c cuts xs;
-      d = part_d cuts xs;
-      is_a = path xs 0 cuts.p _ _ (omega (arith, are.first)) (omega (arith, are.second, are.third, are.last)) refl refl;
-      is_b = path xs cuts.p cuts.q _ _ are.second (omega (arith, are.third, are.last)) (next cuts.p) refl;
-      is_c = path xs cuts.q cuts.r _ _ are.third (omega (arith, are.last)) (next cuts.q) refl;
-      is_d = subst P (take-length xs) (path xs cuts.r n _ _ are.last (omega arith) (next cuts.r) refl);
-      cycle = inl (record { front = xs; back = []; before = sym (append-nil xs); after = parts_join xs cuts are });
-    }
-
--- such a cut, with as many cities in each part as the cuts leave there
-pub record SizedCut (xs : List ℕ) (a1 an b1 bn c1 cn d1 dn : ℕ) (cuts : Cuts) : Type 0 where
-  pub cut : CutInFour xs a1 an b1 bn c1 cn d1 dn
+-- a cut at eight ends, with as many cities in each part as the cuts leave there
+pub record SizedCut (xs e : List ℕ) (cuts : Cuts) : Type 0 where
+  pub cut : CutInFour xs (get_or e 0 0) (get_or e 1 0) (get_or e 2 0) (get_or e 3 0) (get_or e 4 0) (get_or e 5 0)
+      (get_or e 6 0) (get_or e 7 0)
   pub a : length cut.a ≡ cuts.p
   pub b : length cut.b ≡ cuts.q - cuts.p
   pub c : length cut.c ≡ cuts.r - cuts.q
   pub d : length cut.d ≡ length xs - cuts.r
 
+-- the list is cut in four at the ends of its parts
 sized : (xs : List ℕ) (cuts : Cuts) → AreCuts (length xs) cuts →
-    SizedCut xs (get_or xs 0 0) (get_or xs (cuts.p - 1) 0) (get_or xs (cuts.p + 1 - 1) 0) (get_or xs (cuts.q - 1) 0)
-    (get_or xs (cuts.q + 1 - 1) 0) (get_or xs (cuts.r - 1) 0) (get_or xs (cuts.r + 1 - 1) 0)
-    (get_or xs (length xs - 1) 0) cuts
-unfolding cut
-sized xs cuts are = record {
-  cut = cut xs cuts are;
-  a = length-take-le cuts.p xs (omega (arith, are.second, are.third, are.last));
-  b = length-drop cuts.p (take cuts.q xs)
-      ∙ ap (λ v. v - cuts.p) (length-take-le cuts.q xs (omega (arith, are.third, are.last)));
-  c = length-drop cuts.q (take cuts.r xs) ∙ ap (λ v. v - cuts.q) (length-take-le cuts.r xs (omega (arith, are.last)));
-  d = length-drop cuts.r xs;
-}
+    SizedCut xs (map (city_at xs) (end_places (length xs) cuts)) cuts
+sized xs cuts are =
+    let n : ℕ = length xs in
+    let next : (k : ℕ) → get_or xs k 0 ≡ get_or xs (k + 1 - 1) 0 = λ k. ap (λ v. get_or xs v 0) (omega arith) in
+    let P : List ℕ → Type 0 = λ v. IsPath (get_or xs (cuts.r + 1 - 1) 0) (drop cuts.r v) (get_or xs (n - 1) 0) in
+    let p : cuts.p ≤ n = omega (arith, are.second, are.third, are.last) in
+    let q : cuts.q ≤ n = omega (arith, are.third, are.last) in
+    let r : cuts.r ≤ n = omega (arith, are.last) in
+    record {
+      cut = record {
+        a = part_a cuts xs;
+        b = part_b cuts xs;
+        c = part_c cuts xs;
+        d = part_d cuts xs;
+        is_a = path xs 0 cuts.p _ _ (omega (arith, are.first)) p refl refl;
+        is_b = path xs cuts.p cuts.q _ _ are.second q (next cuts.p) refl;
+        is_c = path xs cuts.q cuts.r _ _ are.third r (next cuts.q) refl;
+        is_d = subst P (take-length xs) (path xs cuts.r n _ _ are.last (omega arith) (next cuts.r) refl);
+        cycle = inl (record { front = xs; back = []; before = sym (append-nil xs); after = parts_join xs cuts are });
+      };
+      a = length-take-le cuts.p xs p;
+      b = length-drop cuts.p (take cuts.q xs) ∙ ap (λ v. v - cuts.p) (length-take-le cuts.q xs q);
+      c = length-drop cuts.q (take cuts.r xs) ∙ ap (λ v. v - cuts.q) (length-take-le cuts.r xs r);
+      d = length-drop cuts.r xs;
+    }
 
 module _ (xs e : List ℕ) (cuts : Cuts) (are : AreCuts (length xs) cuts)
     (ends : e ≡ map (city_at xs) (end_places (length xs) cuts)) where
-  pub cut_at_ends : SizedCut xs (get_or e 0 0) (get_or e 1 0) (get_or e 2 0) (get_or e 3 0) (get_or e 4 0)
-      (get_or e 5 0) (get_or e 6 0) (get_or e 7 0) cuts
-  cut_at_ends =
-      let P : List ℕ → Type 0 = λ v. SizedCut xs (get_or v 0 0) (get_or v 1 0) (get_or v 2 0) (get_or v 3 0)
-      (get_or v 4 0) (get_or v 5 0) (get_or v 6 0) (get_or v 7 0) cuts in
-      subst P (sym ends) (sized xs cuts are)
+  pub cut_at_ends : SizedCut xs e cuts
+  cut_at_ends = subst (λ (v : List ℕ). SizedCut xs v cuts) (sym ends) (sized xs cuts are)
 
   pub bridged_at_ends : (ys : List ℕ) →
       IsBridged xs ys (get_or e 0 0) (get_or e 1 0) (get_or e 2 0) (get_or e 3 0) (get_or e 4 0) (get_or e 5 0)
       (get_or e 6 0) (get_or e 7 0) → SameCycle ys (bridged cuts xs)
-  unfolding cut
+  unfolding sized
   bridged_at_ends ys h =
       let P : List ℕ → Type 0 = λ v. IsBridged xs ys (get_or v 0 0) (get_or v 1 0) (get_or v 2 0) (get_or v 3 0)
       (get_or v 4 0) (get_or v 5 0) (get_or v 6 0) (get_or v 7 0) in
-      subst P ends h (cut xs cuts are)
+      subst P ends h (sized xs cuts are).cut
 
   -- the lengths before and after, by the steps at the ends of the parts
   pub length_at_ends : (d : ℕ → ℕ → ℕ) → ((a b : ℕ) → d a b ≡ d b a) → (ys : List ℕ) → SameCycle ys (bridged cuts xs) →
       tour_length d ys + steps_out d e ≡ tour_length d xs + steps_in d e
-  unfolding cut
+  unfolding sized
   length_at_ends d s ys h =
       let P : List ℕ → Type 0 = λ v. tour_length d ys + steps_out d v ≡ tour_length d xs + steps_in d v in
-      subst P (sym ends) (exchanged d s xs ys _ _ _ _ _ _ _ _ (cut xs cuts are) h)
+      subst P (sym ends) (exchanged d s xs ys _ _ _ _ _ _ _ _ (sized xs cuts are).cut h)

@@ -54,10 +54,10 @@ returns-clause-swaps g c =
     let h2 = after2 _ _ _ _ _ _ _ _ _ _ _ k h1 c.flip-2.ensures.steps in
     let h3 = after3 _ _ _ _ _ _ _ _ _ _ _ k h2 c.flip-3.ensures.steps in
     four_turns _ c.args.cuts _ _ _ _ _ _ _ _ _ _ _ _ _ c.requires s.a s.b s.c s.d
-    (first_side _ _ _ _ _ _ _ _ _ k _ c.flip.ensures.side)
-    (second_side _ _ _ _ _ _ _ _ _ k _ _ h1 c.flip-2.ensures.side)
-    (third_side _ _ _ _ _ _ _ _ _ k _ _ h2 c.flip-3.ensures.side)
-    (fourth_side _ _ _ _ _ _ _ _ _ k _ _ h3 c.flip-4.ensures.side)
+    (first_side k _ c.flip.ensures.side)
+    (second_side k _ _ h1 c.flip-2.ensures.side)
+    (third_side k _ _ h2 c.flip-3.ensures.side)
+    (fourth_side k _ _ h3 c.flip-4.ensures.side)
     c.flip.ensures.swaps c.flip-2.ensures.swaps c.flip-3.ensures.swaps c.flip-4.ensures.swaps
 
 pub returns-clause-few : goal.returns-clause-few
