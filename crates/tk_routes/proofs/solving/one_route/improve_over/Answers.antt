@@ -15,14 +15,11 @@ use Rattle.tk_routes.proofs.solving.one_route.improve_over.Goals as goal
 
 pub read_off-requires-clause-tour : goal.read_off-requires-clause-tour
 read_off-requires-clause-tour g c =
-    let i : Instance = instance_of c.args.cvrp.now in
-    let size = c.requires.size in
     let tour : IsTour (length c.args.route.now + 1) (order_of c.in_ok-tour.tour) =
-    subst (λ (v : ℕ). IsTour v (order_of c.in_ok-tour.tour)) size c.in_ok-tour.ensures.tour in
-    let printed = c.in_ok-cycle.ensures.printed in
+    subst (λ (v : ℕ). IsTour v (order_of c.in_ok-tour.tour)) c.requires.size c.in_ok-tour.ensures.tour in
     subst (λ (v : List ℕ). IsTour (length c.args.route.now + 1) v) (sym c.deref.ensures.value)
     (IsTour-cycle (length c.args.route.now + 1) (order_of c.in_ok-tour.tour) c.in_ok-cycle.cycle.items tour
-    printed.cycle)
+    c.in_ok-cycle.ensures.printed.cycle)
 
 pub returns : goal.returns
 returns g c =
