@@ -19,6 +19,6 @@ pub record IsRound (C : List ℕ) : Type 0 where
   pub members : (c : ℕ) → (holds C c ≡ true) ↔ IsCity (length C) c
   pub distinct : IsDistinct C
 
--- distances: symmetric, with a zero diagonal, at most 4,000,000,000
+-- distances: symmetric, at most 4,000,000,000
 abbrev pub IsTable : (ℕ → ℕ → ℕ) → Type 0
-IsTable dist = ((a b : ℕ) → dist a b ≡ dist b a) × ((a : ℕ) → dist a a ≡ 0) × ((a b : ℕ) → dist a b ≤ DISTANCE_LIMIT)
+IsTable dist = ((a b : ℕ) → dist a b ≡ dist b a) × ((a b : ℕ) → dist a b ≤ DISTANCE_LIMIT)

@@ -49,12 +49,12 @@ pub queue_left : (U V Z : List ℕ) (x : ℕ) (o : Offer) → U ≡ x ∷ V → 
 queue_left U V Z x o front woken = omega (arith, ap length front, ap length woken, woken_each-le (ends o) V, ends-le o)
 
 pub fits_length : (d : ℕ → ℕ → ℕ) (C : List ℕ) → IsTable d → length C ≤ CITY_LIMIT → tour_length d C ≤ 400000000000000
-fits_length d C is few = omega (arith, tour_length-le d is.2 C)
+fits_length d C is few = omega (arith, tour_length-le d is.1 C)
 
 removed-le : (d : ℕ → ℕ → ℕ) (o : Offer) → IsTable d → (removed d o ≤ 12000000000) × (added d o ≤ 12000000000)
-removed-le d (Two a b c e) is = (omega (arith, is.2 a b, is.2 c e), omega (arith, is.2 a c, is.2 b e))
+removed-le d (Two a b c e) is = (omega (arith, is.1 a b, is.1 c e), omega (arith, is.1 a c, is.1 b e))
 removed-le d (Or a x e b y w) is =
-    (omega (arith, is.2 a x, is.2 e b, is.2 y w), omega (arith, is.2 a b, is.2 x y, is.2 e w))
+    (omega (arith, is.1 a x, is.1 e b, is.1 y w), omega (arith, is.1 a b, is.1 x y, is.1 e w))
 
 small_fits : (a b : ℕ) → a ≤ 12000000000 → b ≤ 12000000000 → FitsSigned w64 (pos a -ℤ pos b)
 small_fits a b h k = omega (arith, ints)

@@ -1,6 +1,6 @@
 -- Routes read off from a cycle of places.
 use Rattle.std.proofs.Common.{◌≡◌, ◌≢◌, ℕ, suc, ◌+◌, ◌-◌, ◌<◌, ◌≤◌, ⊎_elim, List, [], ◌∷◌, ◌++◌, length, take, drop}
-use Rattle.std.proofs.Common.{get_or, refl, sym, ap, ◌∙◌, subst, arith, inl, inr, length-append, append_assoc}
+use Rattle.std.proofs.Common.{get_or, refl, sym, ap, ◌∙◌, subst, arith, inl, inr, append_assoc}
 use Rattle.std.specs.Prelude.{map, reverse}
 use Rattle.std.specs.List.Sorted.{IsPermutation}
 use Rattle.std.proofs.lemmas.Bool.{cases_eq}
@@ -10,10 +10,11 @@ use Rattle.std.proofs.lemmas.List.{reverse-reverse, take_all}
 use Rattle.tk_distance.specs.Cities.{city_at}
 use Rattle.tk_tour.specs.Tour.{IsTour, IsRotation, SameCycle, tour_length}
 use Rattle.tk_tour.proofs.Cycle.{IsRotation-refl}
-use Rattle.tk_tour.proofs.Once.{occurrences-append, occurrences-cycle}
+use Rattle.tk_tour.proofs.Once.{occurrences-append}
 use Rattle.tk_tour.proofs.Tours.{occurrences-same, occurrences-outside, inside_or_not}
 use Rattle.tk_descent.specs.Awake.{one_to}
 use Rattle.tk_descent.proofs.MovesOnTours.Length.{length-cycle}
+use Rattle.tk_descent.proofs.MovesOnTours.Steps.{cities-cycle}
 use Rattle.tk_routes.specs.Instance.{Instance, node_of, customer_of}
 use Rattle.tk_routes.specs.Routes.{route_nodes, route_length}
 use Rattle.tk_routes.specs.ImprovedRoutes.{IsReadOff, IsTurned, customer_at, place_distance}
@@ -21,17 +22,10 @@ use Rattle.tk_routes.proofs.CutLists.{cut_at}
 use Rattle.tk_routes.proofs.Improving.Nodes.{IsTour-customers}
 use Rattle.tk_routes.proofs.Improving.Renumbered.{IsPermutation-places, map-city_at, tour_length-map}
 
-rotated_length : (xs ys : List ℕ) → IsRotation xs ys → length ys ≡ length xs
-rotated_length xs ys h =
-    omega (arith, ap length h.before, ap length h.after, length-append h.front h.back, length-append h.back h.front)
-
-cycle_length : (xs ys : List ℕ) → SameCycle xs ys → length ys ≡ length xs
-cycle_length xs ys (inl h) = rotated_length xs ys h
-cycle_length xs ys (inr h) = sym (length-reverse ys) ∙ rotated_length xs (reverse ys) h
-
 pub IsTour-cycle : (n : ℕ) (xs ys : List ℕ) → IsTour n xs → SameCycle xs ys → IsTour n ys
 IsTour-cycle n xs ys tour same =
-    (cycle_length xs ys same ∙ tour.0, λ c low high. occurrences-cycle c same ∙ tour.1 c low high)
+    let s = cities-cycle xs ys same in
+    (s.0 ∙ tour.0, λ c low high. s.1 c ∙ tour.1 c low high)
 
 -- the places after the depot's are those of the customers
 inside : (n p : ℕ) (front back : List ℕ) → IsTour n (1 ∷ (front ++ p ∷ back)) → (2 ≤ p) × (p ≤ n)

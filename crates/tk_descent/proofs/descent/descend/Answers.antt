@@ -22,7 +22,7 @@ use mir.Val.{SFits}
 
 -- the laws of the distances
 laws : (g : Over) (gains : g.row.G.Denot) → IsTable (g.G.Gains.distance gains)
-laws g gains = (g.met.G.Gains.symmetric gains, g.met.G.Gains.diagonal gains, g.met.G.Gains.distance_limit gains)
+laws g gains = (g.met.G.Gains.symmetric gains, g.met.G.Gains.distance_limit gains)
 
 pub loop-x-init : goal.loop-x-init
 loop-x-init g c = record {

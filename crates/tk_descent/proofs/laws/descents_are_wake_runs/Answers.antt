@@ -8,12 +8,8 @@ pub returns-clause-wakes : goal.returns-clause-wakes
 returns-clause-wakes g c =
     let metric = c.args.metric.now in
     run_wakes (g.M.Metric.distance metric) (near_of c.args.near.now) c.args.or_segment c.args.before.now
-    c.args.awake.now (
-      g.met.M.Metric.symmetric metric,
-      g.met.M.Metric.diagonal metric,
-      g.met.M.Metric.distance_limit metric,
-    ) c.requires.most (round_of _ c.requires.tour).distinct c.requires.distinct
-    c.requires.run
+    c.args.awake.now (g.met.M.Metric.symmetric metric, g.met.M.Metric.distance_limit metric) c.requires.most
+    (round_of _ c.requires.tour).distinct c.requires.distinct c.requires.run
 
 pub returns-clause-looks : goal.returns-clause-looks
 returns-clause-looks g c = run_looks (g.M.Metric.distance c.args.metric.now) (near_of c.args.near.now) c.args.or_segment

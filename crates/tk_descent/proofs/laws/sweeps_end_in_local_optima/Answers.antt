@@ -6,8 +6,5 @@ pub returns : goal.returns
 returns g c =
     let metric = c.args.metric.now in
     sweeps_optimum (g.M.Metric.distance metric) (near_of c.args.near.now) c.args.or_segment c.args.before.now
-    c.requires.tour (
-      g.met.M.Metric.symmetric metric,
-      g.met.M.Metric.diagonal metric,
-      g.met.M.Metric.distance_limit metric,
-    ) c.requires.most c.requires.sweeps
+    c.requires.tour (g.met.M.Metric.symmetric metric, g.met.M.Metric.distance_limit metric) c.requires.most
+    c.requires.sweeps

@@ -34,11 +34,8 @@ returns-in-Some g c =
       λ t. absurd (both_ways false refl t),
       λ opt.
           let w =
-          some_improves d near c.args.or_segment c.loop-x.x C o (
-            g.met.M.Metric.symmetric c.args.metric.now,
-            g.met.M.Metric.diagonal c.args.metric.now,
-            g.met.M.Metric.distance_limit c.args.metric.now,
-          )
+          some_improves d near c.args.or_segment c.loop-x.x C o
+          (g.met.M.Metric.symmetric c.args.metric.now, g.met.M.Metric.distance_limit c.args.metric.now)
           (subst (λ z. first_gain z (offers C c.args.or_segment (near c.loop-x.x) c.loop-x.x) ≡ Some o) i.table
           (sym c.in-Some.ensures.looked.first)) c.in-Some.ensures.on_cycle.0 in
           absurd (opt c.loop-x.x

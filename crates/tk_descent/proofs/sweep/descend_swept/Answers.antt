@@ -16,7 +16,7 @@ use Rattle.tk_descent.proofs.sweep.descend_swept.Goals as goal
 
 -- the laws of the distances
 laws : (g : Over) (gains : g.row.G.Denot) → IsTable (g.G.Gains.distance gains)
-laws g gains = (g.met.G.Gains.symmetric gains, g.met.G.Gains.diagonal gains, g.met.G.Gains.distance_limit gains)
+laws g gains = (g.met.G.Gains.symmetric gains, g.met.G.Gains.distance_limit gains)
 
 pub sweeping-init : goal.sweeping-init
 sweeping-init g c = record {

@@ -7,10 +7,7 @@ use Rattle.tk_descent.proofs.looks.looking.look.Goals as goal
 pub returns-in-None-clause-none : goal.returns-in-None-clause-none
 returns-in-None-clause-none g c =
     λ e. none_improves (g.G.Gains.distance c.args.gains.now) (near_of c.args.near.now) c.args.or_segment c.args.city
-    (g.S.TourStore.cities c.args.tour.now) (
-      g.met.G.Gains.symmetric c.args.gains.now,
-      g.met.G.Gains.diagonal c.args.gains.now,
-      g.met.G.Gains.distance_limit c.args.gains.now,
-    )
+    (g.S.TourStore.cities c.args.tour.now)
+    (g.met.G.Gains.symmetric c.args.gains.now, g.met.G.Gains.distance_limit c.args.gains.now)
     (round_of _ (g.met.S.TourStore.is_tour c.args.tour.now)).distinct c.requires.most.1
     (sym c.in-None.ensures.searched.found)

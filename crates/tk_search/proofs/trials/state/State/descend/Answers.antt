@@ -31,17 +31,12 @@ returns-clause-trial g c =
     let kept : KeepsSettled old tour = e.flips_only in
     let few : length (cities_of old) ≤ CITY_LIMIT =
     omega (arith, c.requires.size, c.requires.fits.0, g.met.M.Metric.size_limit m) in
-    let bound =
-    fits_length (g.M.Metric.distance m) (cities_of old) (
-      g.met.M.Metric.symmetric m,
-      g.met.M.Metric.diagonal m,
-      g.met.M.Metric.distance_limit m,
-    ) few in
+    let bound = fits_length (g.M.Metric.distance m) (cities_of old)
+    (g.met.M.Metric.symmetric m, g.met.M.Metric.distance_limit m) few in
     let exact : flips_since tour ≡ flips_since old + kept.flipped.flips =
     omega (arith, kept.flips, told.flips_most, told.moves, bound, c.requires.flips) in
     let fa : SFits w64 c.descend_by-passes.result.descent.after = search rules in
-    let fb : SFits w64 c.args.self.now.shortest = search rules in
-    let fp : SFits w64 c.args.before = search rules in (
+    let fb : SFits w64 c.args.self.now.shortest = search rules in (
       record {
         found = cities_of tour;
         descends = e.descends;

@@ -39,8 +39,7 @@ bridged_length-requires-clause-before g c =
     let d = g.M.Metric.distance m in
     let C : List ℕ = cities_of c.args.self.now.tour in
     let few : length C ≤ CITY_LIMIT = omega (arith, c.requires.fits.0, g.met.M.Metric.size_limit m) in
-    let bound =
-    fits_length d C (g.met.M.Metric.symmetric m, g.met.M.Metric.diagonal m, g.met.M.Metric.distance_limit m) few in
+    let bound = fits_length d C (g.met.M.Metric.symmetric m, g.met.M.Metric.distance_limit m) few in
     (omega (arith, ints, c.requires.shortest, bound), omega (arith, ints, c.requires.shortest, bound))
 
 pub returns-clause-length : goal.returns-clause-length
@@ -51,8 +50,7 @@ returns-clause-length g c =
     let D : List ℕ = cities_of c.kick.new.store in
     let few : length D ≤ CITY_LIMIT =
     omega (arith, c.kick.ensures.size, c.requires.fits.0, g.met.M.Metric.size_limit m) in
-    let bound =
-    fits_length d D (g.met.M.Metric.symmetric m, g.met.M.Metric.diagonal m, g.met.M.Metric.distance_limit m) few in
+    let bound = fits_length d D (g.met.M.Metric.symmetric m, g.met.M.Metric.distance_limit m) few in
     let Are : ℕ → Type 0 = λ v. AreCuts v c.draw-cuts.result in
     let law = length_at_ends C _ c.draw-cuts.result (subst Are c.size.ensures c.draw-cuts.ensures.cuts)
     c.ends-ends.ensures d (g.met.M.Metric.symmetric m) D c.kick.ensures.bridged in

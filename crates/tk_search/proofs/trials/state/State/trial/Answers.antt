@@ -135,7 +135,6 @@ pub returns-then-self-eq0-clause-next : goal.returns-then-self-eq0-clause-next
 returns-then-self-eq0-clause-next g c =
     let s = c.args.self.now in
     let d = c.descend.ensures in
-    let best : List ℕ = best_of s.best in
     let here = (goal.at.returns-then-self-eq0-clause-next g c).After-descend in
     let leaves = leaves_first g here in
     let t = trial_at c.requires.at_best.order (all_woken g here) refl d.trial.0 in
