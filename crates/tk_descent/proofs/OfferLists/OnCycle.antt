@@ -3,13 +3,13 @@ use Rattle.std.proofs.Common.{◌≡◌, ℕ, ◌<◌, ◌≤◌, ◌≢◌, ◌
 use Rattle.std.proofs.Common.{length, reverse, Some, refl, sym, ◌∙◌, ap, arith, inl, inr, subst, ◌&&◌, leb}
 use Rattle.std.proofs.Common.{take, flat_map, slice_index}
 use Rattle.std.proofs.lemmas.Bool.{or_parts, and_parts, leb-true, eqb-false, ne_eqb}
-use Rattle.std.proofs.lemmas.List.{reverse-reverse, length-reverse}
+use Rattle.std.proofs.lemmas.List.{length-reverse}
 use Rattle.std.specs.List.{All}
 use Rattle.std.proofs.lemmas.List.Elements.{All-cons, All-head, All-nil, All-tail}
 use Rattle.tk_near.specs.Near.{IsOther}
 use Rattle.tk_descent.specs.Machine.{IsOfferOn}
 use Rattle.tk_tour.specs.Tour.{IsRotation, SameCycle, next_city, prev_city}
-use Rattle.tk_descent.proofs.MovesOnTours.Views.{IsMadeOn, Parts, offer_on}
+use Rattle.tk_descent.proofs.MovesOnTours.Views.{IsMadeOn, offer_on}
 use Rattle.tk_descent.proofs.MovesOnTours.Paths.{Spans, last_from, IsRound}
 use Rattle.tk_distance.specs.Holding.{IsDistinct, holds}
 use Rattle.tk_descent.specs.Offers.{offers_between, first_gain, improves, covers, segment_of_one, segment_of_two}
@@ -21,47 +21,13 @@ use Rattle.tk_descent.specs.declared.offer.Offer.{Offer}
 use Rattle.tk_descent.specs.declared.offer.Offer.TheVariants.{Two, Or}
 use Rattle.tk_descent.proofs.Lists.{holds-append}
 use Rattle.tk_descent.proofs.MovesOnTours.Length.{Spans-append}
-use Rattle.tk_descent.proofs.MovesOnTours.Steps.{turned, rotation-trans, rotation-reverse, turned_back}
+use Rattle.tk_descent.proofs.MovesOnTours.Steps.{turned, rotation-trans}
 use Rattle.tk_descent.proofs.MovesOnTours.Steps.{holds-first, holds-reverse, length-rotation}
 use Rattle.tk_descent.proofs.OfferLists.Count.{step_improves}
+use Rattle.tk_descent.proofs.OfferLists.Searching.{all_of_five}
 use Rattle.tk_descent.proofs.OfferLists.MadeOnCycle.{Stands, two_on, or_next, or_prev}
 use Rattle.tk_descent.proofs.OfferLists.Ways.{member_split, spans_push, holds-rotation, rotated_to}
-use Rattle.tk_descent.proofs.OfferLists.Ways.{Ways, ways_on, ways_back, starts, step_in}
-
--- from the cycle the other way round
-back_cycle : (C X : List ℕ) → SameCycle (reverse C) X → SameCycle C X
-back_cycle C X (inl h) =
-    inr (subst (λ z. IsRotation z (reverse X)) (reverse-reverse C) (rotation-reverse (reverse C) X h))
-back_cycle C X (inr h) = inl (subst (λ z. IsRotation z X) (reverse-reverse C) (turned_back (reverse C) X h))
-
-abbrev back_parts : {m : ℕ} {C : List ℕ} {a x e b c d : ℕ} → Parts m (reverse C) a x e b c d → Parts m C a x e b c d
-back_parts {C = C} p = record {
-  segment = p.segment;
-  ahead = p.ahead;
-  rest = p.rest;
-  cycle = back_cycle C (p.segment ++ p.ahead ++ p.rest) p.cycle;
-  short = p.short;
-  is_segment = p.is_segment;
-  is_ahead = p.is_ahead;
-  is_rest = p.is_rest;
-}
-
-back_on : (m : ℕ) (o : Offer) (C : List ℕ) → IsMadeOn m o (reverse C) → IsMadeOn m o C
-back_on m (Two a b c d) C (D, (h, k)) = (
-  D,
-  (
-    record {
-      kept = h.kept;
-      turned = h.turned;
-      cycle = back_cycle C (h.kept ++ h.turned) h.cycle;
-      is_kept = h.is_kept;
-      is_turned = h.is_turned;
-    },
-    k,
-  ),
-)
-back_on m (Or a x e b y w) C (D, inl (p, k)) = (D, inl (back_parts p, k))
-back_on m (Or a x e b y w) C (D, inr (p, k)) = (D, inr (back_parts p, k))
+use Rattle.tk_descent.proofs.OfferLists.Ways.{Ways, ways_on, ways_back, starts, step_in, rotated, rotated_back}
 
 eqb-swap : (a b : ℕ) → eqb a b ≡ false → eqb b a ≡ false
 eqb-swap a b h = ne_eqb b a (λ e. eqb-false a b h (sym e))
@@ -83,18 +49,18 @@ module _ {C : List ℕ} {nx pv : ℕ → ℕ} (ways : Ways C nx pv) where
       (holds-rotation C ((s.1.0 ++ s.0) ++ y ∷ []) p.0 r ∙ holds-first ((s.1.0 ++ s.0) ++ y ∷ []) p.0 y p.1)
 
   -- an Or-offer of a segment, with the cities beside it
-  or_dir : {m x : ℕ} {s : Segment} → Stands C m x s → (y w : ℕ) → holds C y ≡ true → holds C w ≡ true →
-      (w ≡ nx y) ⊎ (w ≡ pv y) → covers x s y ≡ false → covers x s w ≡ false →
-      IsMadeOn m (Or s.before x s.last s.after y w) C
-  or_dir t y w hy hw n cy cw =
+  or_dir : {D : List ℕ} → ((X : List ℕ) → IsRotation C X → SameCycle D X) → {m x : ℕ} {s : Segment} →
+      Stands C m x s → (y w : ℕ) → holds C y ≡ true → holds C w ≡ true → (w ≡ nx y) ⊎ (w ≡ pv y) →
+      covers x s y ≡ false → covers x s w ≡ false → IsMadeOn m (Or s.before x s.last s.after y w) D
+  or_dir same t y w hy hw n cy cw =
       let rest : (c : ℕ) → holds C c ≡ true → holds t.cities c ≡ false → holds t.rest c ≡ true = λ c h no.
       ap (λ z. z || holds t.rest c) (sym no) ∙ sym (holds-append t.cities t.rest c)
       ∙ sym (holds-rotation C (t.cities ++ t.rest) c t.cycle) ∙ h in
       let at = rest w hw (t.own w cw) in
       let v = member_split t.rest y (rest y hy (t.own y cy)) in
       elim n [
-        | inl f ↦ or_next ways t y w at v.0 v.1.0 v.1.1 f
-        | inr f ↦ or_prev ways t y w at v.0 v.1.0 v.1.1 f
+        | inl f ↦ or_next ways same t y w at v.0 v.1.0 v.1.1 f
+        | inr f ↦ or_prev ways same t y w at v.0 v.1.0 v.1.1 f
       ]
 
   stand : (m x middle last : ℕ) (S : List ℕ) (b : ℕ) (E : List ℕ) → IsRotation C (S ++ b ∷ E) → Spans S x last →
@@ -198,14 +164,13 @@ module _ (C : List ℕ) (m x y : ℕ) (tour : IsRound C) (low : 1 ≤ m) (hx : h
 
   two_next : OnCycle C m (Two x (nx x) y (nx y))
   two_next = (
-    two_on (ways_on C dis) m x y hx hy ne,
+    two_on (ways_on C dis) (rotated C) m x y hx hy ne,
     (in_range x hx, in_range (nx x) (nm x hx), in_range y hy, in_range (nx y) (nm y hy)),
   )
 
   two_prev : OnCycle C m (Two x (pv x) y (pv y))
   two_prev = (
-    back_on m (Two x (pv x) y (pv y)) C
-        (two_on (ways_back C dis) m x y (holds-reverse C x ∙ hx) (holds-reverse C y ∙ hy) ne),
+    two_on (ways_back C dis) (rotated_back C) m x y (holds-reverse C x ∙ hx) (holds-reverse C y ∙ hy) ne,
     (in_range x hx, in_range (pv x) (pm x hx), in_range y hy, in_range (pv y) (pm y hy)),
   )
 
@@ -223,13 +188,12 @@ module _ (C : List ℕ) (m x y : ℕ) (tour : IsRound C) (low : 1 ≤ m) (hx : h
         (put (pv y) (pm y hy) (inr refl))
 
     ahead : Stands C m x s → Each (OnCycle C m) (or_offers x y (nx y) (pv y) s)
-    ahead t = both (λ w hw n cy cw. or_dir (ways_on C dis) t y w hy hw n cy cw)
+    ahead t = both (λ w hw n cy cw. or_dir (ways_on C dis) (rotated C) t y w hy hw n cy cw)
 
     back : Stands (reverse C) m x s → Each (OnCycle C m) (or_offers x y (nx y) (pv y) s)
     back t = both (λ w hw n cy cw.
-        back_on m (Or s.before x s.last s.after y w) C
-        (or_dir (ways_back C dis) t y w (holds-reverse C y ∙ hy) (holds-reverse C w ∙ hw)
-        (elim n [ inl e ↦ inr e | inr e ↦ inl e ]) cy cw))
+        or_dir (ways_back C dis) (rotated_back C) t y w (holds-reverse C y ∙ hy) (holds-reverse C w ∙ hw)
+        (elim n [ inl e ↦ inr e | inr e ↦ inl e ]) cy cw)
 
   abbrev f : Segment → List Offer
   f s = or_offers x y (nx y) (pv y) s
@@ -290,11 +254,9 @@ module _ (C : List ℕ) (m x y : ℕ) (tour : IsRound C) (low : 1 ≤ m) (hx : h
       Each (OnCycle C m) (flat_map f (take (cond a 5 (cond b 3 (cond c 1 0))) (all_segments nx pv x)))
   by_count true b c ha hb hc =
       let p = ha refl in
-      each-append (OnCycle C m) (f e1) (f e2 ++ (f e3 ++ (f e4 ++ (f e5 ++ [])))) (s1 (omega (arith, p.0)))
-      (each-append (OnCycle C m) (f e2) (f e3 ++ (f e4 ++ (f e5 ++ []))) (s2 (omega (arith, p.1)) (omega (arith, p.0)))
-      (each-append (OnCycle C m) (f e3) (f e4 ++ (f e5 ++ [])) (s3 (omega (arith, p.1)) (omega (arith, p.0)))
-      (each-append (OnCycle C m) (f e4) (f e5 ++ []) (s4 p.1 p.0)
-      (each-append (OnCycle C m) (f e5) [] (s5 p.1 p.0) tt))))
+      each_flat (OnCycle C m) f (all_segments nx pv x) (all_of_five (λ s. Each (OnCycle C m) (f s)) e1 e2 e3 e4 e5
+      (s1 (omega (arith, p.0))) (s2 (omega (arith, p.1)) (omega (arith, p.0)))
+      (s3 (omega (arith, p.1)) (omega (arith, p.0))) (s4 p.1 p.0) (s5 p.1 p.0))
   by_count false true c ha hb hc =
       let p = hb refl in
       each-append (OnCycle C m) (f e1) (f e2 ++ (f e3 ++ [])) (s1 (omega (arith, p.0)))

@@ -94,3 +94,10 @@ ways_back C dis = record {
   next = λ D b a r s. prev_of C (reverse D) a b (back_rotation C D r) (Spans-reverse D b a s) dis;
   prev = λ D b a r s. next_of C (reverse D) a b (back_rotation C D r) (Spans-reverse D b a s) dis;
 }
+
+-- a rotation of the cycle, or of the cycle the other way round, is the same cycle
+pub rotated : (C X : List ℕ) → IsRotation C X → SameCycle C X
+rotated C X r = inl r
+
+pub rotated_back : (C X : List ℕ) → IsRotation (reverse C) X → SameCycle C X
+rotated_back C X r = inr (back_rotation C X r)
