@@ -51,15 +51,12 @@ listed_cond false o h = inl refl
 -- the five segments, where the cycle and m are long enough for them
 
 count_of : (a b c : Bool) → c ≡ true → 1 ≤ cond a 5 (cond b 3 (cond c 1 0))
-count_of true b c h = omega arith
-count_of false true c h = omega arith
-count_of false false true h = omega arith
 count_of false false false h = cc
+count_of _ b c h = omega arith
 
 count_of_two : (a b c : Bool) → b ≡ true → 3 ≤ cond a 5 (cond b 3 (cond c 1 0))
-count_of_two true b c h = omega arith
-count_of_two false true c h = omega arith
 count_of_two false false c h = cc
+count_of_two _ b c h = omega arith
 
 count-one : (n m : ℕ) → 3 ≤ n → 1 ≤ segment_count n m
 count-one n m h = count_of (leb 5 n && leb 3 m) (leb 4 n && leb 2 m) (leb 3 n) (le-leb 3 n h)

@@ -52,9 +52,8 @@ pub fits_length : (d : ℕ → ℕ → ℕ) (C : List ℕ) → IsTable d → len
 fits_length d C is few = omega (arith, tour_length-le d is.1 C)
 
 removed-le : (d : ℕ → ℕ → ℕ) (o : Offer) → IsTable d → (removed d o ≤ 12000000000) × (added d o ≤ 12000000000)
-removed-le d (Two a b c e) is = (omega (arith, is.1 a b, is.1 c e), omega (arith, is.1 a c, is.1 b e))
-removed-le d (Or a x e b y w) is =
-    (omega (arith, is.1 a x, is.1 e b, is.1 y w), omega (arith, is.1 a b, is.1 x y, is.1 e w))
+removed-le d (Two a b c e) is = (omega (arith, is.1), omega (arith, is.1))
+removed-le d (Or a x e b y w) is = (omega (arith, is.1), omega (arith, is.1))
 
 small_fits : (a b : ℕ) → a ≤ 12000000000 → b ≤ 12000000000 → FitsSigned w64 (pos a -ℤ pos b)
 small_fits a b h k = omega (arith, ints)
