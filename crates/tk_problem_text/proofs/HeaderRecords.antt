@@ -2,7 +2,8 @@
 use Rattle.std.proofs.lemmas.Bool.{eqb-true}
 use Rattle.std.proofs.Common.{◌≡◌, ◌≤◌, ℕ, Bool, true, false, eqb, length, arith, List, [], ◌∷◌, ◌++◌, Option, refl}
 use Rattle.std.proofs.Common.{sym, ap, ◌∙◌}
-use Rattle.std.specs.Prelude.{unwrap_or}
+use Rattle.std.specs.Prelude.{Vec, unwrap_or}
+use Rattle.std.specs.declared.alloc.Global.{Global}
 use Rattle.tk_problem.specs.declared.limits.TheConstants.{CAPACITY_LIMIT, CITY_LIMIT}
 use Rattle.tk_words.specs.declared.keyword.Keyword.{Keyword}
 use Rattle.tk_words.specs.declared.keyword.Keyword.TheVariants as words
@@ -14,230 +15,123 @@ use Rattle.tk_words.specs.Lex.{Token, trim, after_word, is_empty}
 use Rattle.tk_words.specs.Words.{same_word}
 use Rattle.tk_problem_text.specs.HeaderValues.{problem_type_of, weight_type_of, weight_format_of, header_number}
 use Rattle.tk_problem_text.specs.HeaderValues.{name_of}
-use Rattle.tk_lines.specs.Pieces.{Piece, After, has}
+use Rattle.tk_lines.specs.Pieces.{Piece, After, has, value_of}
 use Rattle.tk_lines.specs.Reader.Forms.{a_header, a_section}
 use Rattle.tk_problem_text.specs.Reader.Kept.{KeepsHeader}
 use Rattle.tk_problem_text.specs.Reader.Headers.{HasHeaders}
-use Rattle.tk_lines.proofs.Pieces.PieceValues.{value_of-other, value_of-section, value_of-new, value_of-none}
-use Rattle.tk_problem_text.proofs.KeptHeaders.{has_other, has_past, keeps_other, keeps_section, noted}
+use Rattle.tk_lines.proofs.Pieces.PieceValues.{value_of-new, value_of-none}
+use Rattle.tk_problem_text.proofs.KeptHeaders.{OneMore, Next, stays, comes, one_header, one_section, next_is}
+use Rattle.tk_problem_text.proofs.KeptHeaders.{keeps_next, notes_next, noted}
+
+-- what is kept of each word's header, in the order of `HasHeaders`, makes the headers with one piece more
+abbrev NextHeader : {A : Type 0} → Keyword → Keyword → (List ℕ → Option A) → Option A → Option A → List Piece → Type 0
+NextHeader w word f old new qs = Next w word (λ x. KeepsHeader word f x qs) old new
+
+abbrev NextFlag : Keyword → Keyword → Bool → Bool → List Piece → Type 0
+NextFlag w word old new qs = Next w word (λ x. x ≡ has word qs) old new
+
+abbrev IsNamed : List Piece → Vec ℕ Global → Type 0
+IsNamed qs name = (name.items ≡ name_of (unwrap_or (value_of words.Name qs) [])) × (length name.items ≤ 1024)
+
+next_headers : {w : Keyword} {ps qs : List Piece} {h h' : Headers} → OneMore w ps qs → HasHeaders h ps
+    → NextFlag w words.Name h.has_name h'.has_name qs → Next w words.Name (IsNamed qs) h.name h'.name
+    → NextHeader w words.Type problem_type_of h.problem_type h'.problem_type qs
+    → NextHeader w words.Dimension (header_number 2 CITY_LIMIT) h.dimension h'.dimension qs
+    → NextHeader w words.Capacity (header_number 1 CAPACITY_LIMIT) h.capacity h'.capacity qs
+    → NextHeader w words.EdgeWeightType weight_type_of h.weight_type h'.weight_type qs
+    → NextHeader w words.EdgeWeightFormat weight_format_of h.weight_format h'.weight_format qs
+    → NextFlag w words.NodeCoordType h.has_coordinate_type h'.has_coordinate_type qs
+    → NextFlag w words.DisplayDataType h.has_display_type h'.has_display_type qs
+    → HasHeaders h' qs
+next_headers more k named name problem_type dimension capacity weight_type weight_format coordinate_type display_type =
+    let is_named = next_is name
+    (λ other. (k.name ∙ ap (λ o. name_of (unwrap_or o [])) (sym (more.value_same words.Name other)), k.short)) in
+    record {
+      named = notes_next words.Name more k.named named;
+      name = is_named.0;
+      short = is_named.1;
+      problem_type = keeps_next more k.problem_type problem_type;
+      dimension = keeps_next more k.dimension dimension;
+      capacity = keeps_next more k.capacity capacity;
+      weight_type = keeps_next more k.weight_type weight_type;
+      weight_format = keeps_next more k.weight_format weight_format;
+      coordinate_type = notes_next words.NodeCoordType more k.coordinate_type coordinate_type;
+      display_type = notes_next words.DisplayDataType more k.display_type display_type;
+    }
 
 module _ (h : Headers) (ps : List Piece) (v : List ℕ) (n : ℕ) (k : HasHeaders h ps) where
-  pub with_problem_type : (x : Option ProblemType) →
-      KeepsHeader words.Type problem_type_of x (ps ++ a_header words.Type v n) →
-      HasHeaders (record h { problem_type = x }) (ps ++ a_header words.Type v n)
-  with_problem_type x new = record {
-    named = k.named ∙ sym (has_other words.Name words.Type ps v n refl);
-    name = k.name
-        ∙ ap (λ (o : Option (List ℕ)). name_of (unwrap_or o []))
-        (sym (value_of-other words.Name words.Type ps v n refl));
-    short = k.short;
-    problem_type = new;
-    dimension = keeps_other words.Dimension words.Type (header_number 2 CITY_LIMIT) h.dimension ps v n refl k.dimension;
-    capacity = keeps_other words.Capacity words.Type (header_number 1 CAPACITY_LIMIT) h.capacity ps v n refl k.capacity;
-    weight_type = keeps_other words.EdgeWeightType words.Type weight_type_of h.weight_type ps v n refl k.weight_type;
-    weight_format = keeps_other words.EdgeWeightFormat words.Type weight_format_of h.weight_format ps v n refl
-        k.weight_format;
-    coordinate_type = k.coordinate_type ∙ sym (has_other words.NodeCoordType words.Type ps v n refl);
-    display_type = k.display_type ∙ sym (has_other words.DisplayDataType words.Type ps v n refl);
-  }
+  abbrev now : Keyword → List Piece
+  now w = ps ++ a_header w v n
 
-  pub with_dimension : (x : Option ℕ) →
-      KeepsHeader words.Dimension (header_number 2 CITY_LIMIT) x (ps ++ a_header words.Dimension v n) →
-      HasHeaders (record h { dimension = x }) (ps ++ a_header words.Dimension v n)
-  with_dimension x new = record {
-    named = k.named ∙ sym (has_other words.Name words.Dimension ps v n refl);
-    name = k.name
-        ∙ ap (λ (o : Option (List ℕ)). name_of (unwrap_or o []))
-        (sym (value_of-other words.Name words.Dimension ps v n refl));
-    short = k.short;
-    problem_type = keeps_other words.Type words.Dimension problem_type_of h.problem_type ps v n refl k.problem_type;
-    dimension = new;
-    capacity = keeps_other words.Capacity words.Dimension (header_number 1 CAPACITY_LIMIT) h.capacity ps v n
-        refl k.capacity;
-    weight_type = keeps_other words.EdgeWeightType words.Dimension weight_type_of h.weight_type ps v n refl
-        k.weight_type;
-    weight_format = keeps_other words.EdgeWeightFormat words.Dimension weight_format_of h.weight_format ps v n refl
-        k.weight_format;
-    coordinate_type = k.coordinate_type ∙ sym (has_other words.NodeCoordType words.Dimension ps v n refl);
-    display_type = k.display_type ∙ sym (has_other words.DisplayDataType words.Dimension ps v n refl);
-  }
+  one : (w : Keyword) → OneMore w ps (now w)
+  one w = one_header w ps v n
 
-  pub with_capacity : (x : Option ℕ) →
-      KeepsHeader words.Capacity (header_number 1 CAPACITY_LIMIT) x (ps ++ a_header words.Capacity v n) →
-      HasHeaders (record h { capacity = x }) (ps ++ a_header words.Capacity v n)
-  with_capacity x new = record {
-    named = k.named ∙ sym (has_other words.Name words.Capacity ps v n refl);
-    name = k.name
-        ∙ ap (λ (o : Option (List ℕ)). name_of (unwrap_or o []))
-        (sym (value_of-other words.Name words.Capacity ps v n refl));
-    short = k.short;
-    problem_type = keeps_other words.Type words.Capacity problem_type_of h.problem_type ps v n refl k.problem_type;
-    dimension = keeps_other words.Dimension words.Capacity (header_number 2 CITY_LIMIT) h.dimension ps v n
-        refl k.dimension;
-    capacity = new;
-    weight_type = keeps_other words.EdgeWeightType words.Capacity weight_type_of h.weight_type ps v n refl
-        k.weight_type;
-    weight_format = keeps_other words.EdgeWeightFormat words.Capacity weight_format_of h.weight_format ps v n refl
-        k.weight_format;
-    coordinate_type = k.coordinate_type ∙ sym (has_other words.NodeCoordType words.Capacity ps v n refl);
-    display_type = k.display_type ∙ sym (has_other words.DisplayDataType words.Capacity ps v n refl);
-  }
+  pub with_problem_type : (x : Option ProblemType) → KeepsHeader words.Type problem_type_of x (now words.Type) →
+      HasHeaders (record h { problem_type = x }) (now words.Type)
+  with_problem_type x new = next_headers (one words.Type) k (stays refl) (stays refl) (comes new) (stays refl)
+      (stays refl) (stays refl) (stays refl) (stays refl) (stays refl)
 
-  pub with_weight_type : (x : Option WeightType) →
-      KeepsHeader words.EdgeWeightType weight_type_of x (ps ++ a_header words.EdgeWeightType v n) →
-      HasHeaders (record h { weight_type = x }) (ps ++ a_header words.EdgeWeightType v n)
-  with_weight_type x new = record {
-    named = k.named ∙ sym (has_other words.Name words.EdgeWeightType ps v n refl);
-    name = k.name
-        ∙ ap (λ (o : Option (List ℕ)). name_of (unwrap_or o []))
-        (sym (value_of-other words.Name words.EdgeWeightType ps v n refl));
-    short = k.short;
-    problem_type = keeps_other words.Type words.EdgeWeightType problem_type_of h.problem_type ps v n refl
-        k.problem_type;
-    dimension = keeps_other words.Dimension words.EdgeWeightType (header_number 2 CITY_LIMIT) h.dimension ps v n
-        refl k.dimension;
-    capacity = keeps_other words.Capacity words.EdgeWeightType (header_number 1 CAPACITY_LIMIT) h.capacity ps v n
-        refl k.capacity;
-    weight_type = new;
-    weight_format = keeps_other words.EdgeWeightFormat words.EdgeWeightType weight_format_of h.weight_format ps v n refl
-        k.weight_format;
-    coordinate_type = k.coordinate_type ∙ sym (has_other words.NodeCoordType words.EdgeWeightType ps v n refl);
-    display_type = k.display_type ∙ sym (has_other words.DisplayDataType words.EdgeWeightType ps v n refl);
-  }
+  pub with_dimension : (x : Option ℕ) → KeepsHeader words.Dimension (header_number 2 CITY_LIMIT) x (now words.Dimension)
+      → HasHeaders (record h { dimension = x }) (now words.Dimension)
+  with_dimension x new = next_headers (one words.Dimension) k (stays refl) (stays refl) (stays refl) (comes new)
+      (stays refl) (stays refl) (stays refl) (stays refl) (stays refl)
 
-  pub with_weight_format : (x : Option WeightFormat) →
-      KeepsHeader words.EdgeWeightFormat weight_format_of x (ps ++ a_header words.EdgeWeightFormat v n) →
-      HasHeaders (record h { weight_format = x }) (ps ++ a_header words.EdgeWeightFormat v n)
-  with_weight_format x new = record {
-    named = k.named ∙ sym (has_other words.Name words.EdgeWeightFormat ps v n refl);
-    name = k.name
-        ∙ ap (λ (o : Option (List ℕ)). name_of (unwrap_or o []))
-        (sym (value_of-other words.Name words.EdgeWeightFormat ps v n refl));
-    short = k.short;
-    problem_type = keeps_other words.Type words.EdgeWeightFormat problem_type_of h.problem_type ps v n refl
-        k.problem_type;
-    dimension = keeps_other words.Dimension words.EdgeWeightFormat (header_number 2 CITY_LIMIT) h.dimension ps v n
-        refl k.dimension;
-    capacity = keeps_other words.Capacity words.EdgeWeightFormat (header_number 1 CAPACITY_LIMIT) h.capacity ps v n
-        refl k.capacity;
-    weight_type = keeps_other words.EdgeWeightType words.EdgeWeightFormat weight_type_of h.weight_type ps v n refl
-        k.weight_type;
-    weight_format = new;
-    coordinate_type = k.coordinate_type ∙ sym (has_other words.NodeCoordType words.EdgeWeightFormat ps v n refl);
-    display_type = k.display_type ∙ sym (has_other words.DisplayDataType words.EdgeWeightFormat ps v n refl);
-  }
+  pub with_capacity : (x : Option ℕ)
+      → KeepsHeader words.Capacity (header_number 1 CAPACITY_LIMIT) x (now words.Capacity)
+      → HasHeaders (record h { capacity = x }) (now words.Capacity)
+  with_capacity x new = next_headers (one words.Capacity) k (stays refl) (stays refl) (stays refl) (stays refl)
+      (comes new) (stays refl) (stays refl) (stays refl) (stays refl)
 
-  pub with_coordinate_type : (x : Bool) → x ≡ has words.NodeCoordType (ps ++ a_header words.NodeCoordType v n) →
-      HasHeaders (record h { has_coordinate_type = x }) (ps ++ a_header words.NodeCoordType v n)
-  with_coordinate_type x new = record {
-    named = k.named ∙ sym (has_other words.Name words.NodeCoordType ps v n refl);
-    name = k.name
-        ∙ ap (λ (o : Option (List ℕ)). name_of (unwrap_or o []))
-        (sym (value_of-other words.Name words.NodeCoordType ps v n refl));
-    short = k.short;
-    problem_type = keeps_other words.Type words.NodeCoordType problem_type_of h.problem_type ps v n refl k.problem_type;
-    dimension = keeps_other words.Dimension words.NodeCoordType (header_number 2 CITY_LIMIT) h.dimension ps v n
-        refl k.dimension;
-    capacity = keeps_other words.Capacity words.NodeCoordType (header_number 1 CAPACITY_LIMIT) h.capacity ps v n
-        refl k.capacity;
-    weight_type = keeps_other words.EdgeWeightType words.NodeCoordType weight_type_of h.weight_type ps v n refl
-        k.weight_type;
-    weight_format = keeps_other words.EdgeWeightFormat words.NodeCoordType weight_format_of h.weight_format ps v n refl
-        k.weight_format;
-    coordinate_type = new;
-    display_type = k.display_type ∙ sym (has_other words.DisplayDataType words.NodeCoordType ps v n refl);
-  }
+  pub with_weight_type : (x : Option WeightType)
+      → KeepsHeader words.EdgeWeightType weight_type_of x (now words.EdgeWeightType)
+      → HasHeaders (record h { weight_type = x }) (now words.EdgeWeightType)
+  with_weight_type x new = next_headers (one words.EdgeWeightType) k (stays refl) (stays refl) (stays refl) (stays refl)
+      (stays refl) (comes new) (stays refl) (stays refl) (stays refl)
 
-  pub with_display_type : (x : Bool) → x ≡ has words.DisplayDataType (ps ++ a_header words.DisplayDataType v n) →
-      HasHeaders (record h { has_display_type = x }) (ps ++ a_header words.DisplayDataType v n)
-  with_display_type x new = record {
-    named = k.named ∙ sym (has_other words.Name words.DisplayDataType ps v n refl);
-    name = k.name
-        ∙ ap (λ (o : Option (List ℕ)). name_of (unwrap_or o []))
-        (sym (value_of-other words.Name words.DisplayDataType ps v n refl));
-    short = k.short;
-    problem_type = keeps_other words.Type words.DisplayDataType problem_type_of h.problem_type ps v n refl
-        k.problem_type;
-    dimension = keeps_other words.Dimension words.DisplayDataType (header_number 2 CITY_LIMIT) h.dimension ps v n
-        refl k.dimension;
-    capacity = keeps_other words.Capacity words.DisplayDataType (header_number 1 CAPACITY_LIMIT) h.capacity ps v n
-        refl k.capacity;
-    weight_type = keeps_other words.EdgeWeightType words.DisplayDataType weight_type_of h.weight_type ps v n refl
-        k.weight_type;
-    weight_format = keeps_other words.EdgeWeightFormat words.DisplayDataType weight_format_of h.weight_format ps v n
-        refl k.weight_format;
-    coordinate_type = k.coordinate_type ∙ sym (has_other words.NodeCoordType words.DisplayDataType ps v n refl);
-    display_type = new;
-  }
+  pub with_weight_format : (x : Option WeightFormat)
+      → KeepsHeader words.EdgeWeightFormat weight_format_of x (now words.EdgeWeightFormat)
+      → HasHeaders (record h { weight_format = x }) (now words.EdgeWeightFormat)
+  with_weight_format x new = next_headers (one words.EdgeWeightFormat) k (stays refl) (stays refl) (stays refl)
+      (stays refl) (stays refl) (stays refl) (comes new) (stays refl) (stays refl)
 
-  pub with_comment : HasHeaders h (ps ++ a_header words.Comment v n)
-  with_comment = record {
-    named = k.named ∙ sym (has_other words.Name words.Comment ps v n refl);
-    name = k.name
-        ∙ ap (λ (o : Option (List ℕ)). name_of (unwrap_or o []))
-        (sym (value_of-other words.Name words.Comment ps v n refl));
-    short = k.short;
-    problem_type = keeps_other words.Type words.Comment problem_type_of h.problem_type ps v n refl k.problem_type;
-    dimension = keeps_other words.Dimension words.Comment (header_number 2 CITY_LIMIT) h.dimension ps v n
-        refl k.dimension;
-    capacity = keeps_other words.Capacity words.Comment (header_number 1 CAPACITY_LIMIT) h.capacity ps v n
-        refl k.capacity;
-    weight_type = keeps_other words.EdgeWeightType words.Comment weight_type_of h.weight_type ps v n refl k.weight_type;
-    weight_format = keeps_other words.EdgeWeightFormat words.Comment weight_format_of h.weight_format ps v n refl
-        k.weight_format;
-    coordinate_type = k.coordinate_type ∙ sym (has_other words.NodeCoordType words.Comment ps v n refl);
-    display_type = k.display_type ∙ sym (has_other words.DisplayDataType words.Comment ps v n refl);
-  }
+  pub with_coordinate_type : (x : Bool) → x ≡ has words.NodeCoordType (now words.NodeCoordType) →
+      HasHeaders (record h { has_coordinate_type = x }) (now words.NodeCoordType)
+  with_coordinate_type x new = next_headers (one words.NodeCoordType) k (stays refl) (stays refl) (stays refl)
+      (stays refl) (stays refl) (stays refl) (stays refl) (comes new) (stays refl)
+
+  pub with_display_type : (x : Bool) → x ≡ has words.DisplayDataType (now words.DisplayDataType) →
+      HasHeaders (record h { has_display_type = x }) (now words.DisplayDataType)
+  with_display_type x new = next_headers (one words.DisplayDataType) k (stays refl) (stays refl) (stays refl)
+      (stays refl) (stays refl) (stays refl) (stays refl) (stays refl) (comes new)
+
+  pub with_comment : HasHeaders h (now words.Comment)
+  with_comment = next_headers (one words.Comment) k (stays refl) (stays refl) (stays refl) (stays refl) (stays refl)
+      (stays refl) (stays refl) (stays refl) (stays refl)
 
   -- the name comes, and the bytes are those that it gives
-  pub with_name : (named : Headers) → named ≡ record h { has_name = true; name = named.name }
-      → named.name.items ≡ name_of v → length named.name.items ≤ 1024 → has words.Name ps ≡ false
-      → HasHeaders named (ps ++ a_header words.Name v n)
-  with_name named same is small fresh = rw same (record {
-    named = noted words.Name ps v n refl;
-    name = is
-        ∙ ap (λ (o : Option (List ℕ)). name_of (unwrap_or o []))
-        (sym (value_of-new words.Name words.Name ps v n refl fresh));
-    short = small;
-    problem_type = keeps_other words.Type words.Name problem_type_of h.problem_type ps v n refl k.problem_type;
-    dimension = keeps_other words.Dimension words.Name (header_number 2 CITY_LIMIT) h.dimension ps v n refl k.dimension;
-    capacity = keeps_other words.Capacity words.Name (header_number 1 CAPACITY_LIMIT) h.capacity ps v n refl k.capacity;
-    weight_type = keeps_other words.EdgeWeightType words.Name weight_type_of h.weight_type ps v n refl k.weight_type;
-    weight_format = keeps_other words.EdgeWeightFormat words.Name weight_format_of h.weight_format ps v n refl
-        k.weight_format;
-    coordinate_type = k.coordinate_type ∙ sym (has_other words.NodeCoordType words.Name ps v n refl);
-    display_type = k.display_type ∙ sym (has_other words.DisplayDataType words.Name ps v n refl);
-  })
+  pub with_name : (name : Vec ℕ Global) → name.items ≡ name_of v → length name.items ≤ 1024 → has words.Name ps ≡ false
+      → HasHeaders (record h { has_name = true; name = name }) (now words.Name)
+  with_name name is small fresh =
+      let value = value_of-new words.Name words.Name ps v n refl fresh in
+      let says : name_of v ≡ name_of (unwrap_or (value_of words.Name (now words.Name)) []) =
+      ap (λ (o : Option (List ℕ)). name_of (unwrap_or o [])) (sym value) in
+      next_headers (one words.Name) k (comes (noted words.Name ps v n refl)) (comes (is ∙ says, small)) (stays refl)
+      (stays refl) (stays refl) (stays refl) (stays refl) (stays refl) (stays refl)
 
   -- without a name or with an empty one, it is Unnamed
   pub stays_unnamed : has words.Name ps ≡ false → trim (after_word v) ≡ [] → h.name.items ≡ name_of v
   stays_unnamed fresh empty = k.name ∙ rw (value_of-none words.Name ps fresh, empty) refl
 
-module _ (h : Headers) (word : Keyword) (ps : List Piece) (n : ℕ) (toks : List Token) (after : After)
-    (k : HasHeaders h ps) where
-  -- a section of a word that is no header changes nothing
-  pub past_section : same_word word words.Name ≡ false → same_word word words.Type ≡ false
-      → same_word word words.Dimension ≡ false → same_word word words.Capacity ≡ false
-      → same_word word words.EdgeWeightType ≡ false
-      → same_word word words.EdgeWeightFormat ≡ false → same_word word words.NodeCoordType ≡ false →
-      same_word word words.DisplayDataType ≡ false → HasHeaders h (ps ++ a_section word n toks after)
-  past_section o1 o2 o3 o4 o5 o6 o7 o8 = record {
-    named = k.named ∙ sym (has_past words.Name word ps n toks after o1);
-    name = k.name
-        ∙ ap (λ (o : Option (List ℕ)). name_of (unwrap_or o []))
-        (sym (value_of-section words.Name word ps n toks after));
-    short = k.short;
-    problem_type = keeps_section words.Type word problem_type_of h.problem_type ps n toks after o2 k.problem_type;
-    dimension = keeps_section words.Dimension word (header_number 2 CITY_LIMIT) h.dimension ps n toks after
-        o3 k.dimension;
-    capacity = keeps_section words.Capacity word (header_number 1 CAPACITY_LIMIT) h.capacity ps n toks after
-        o4 k.capacity;
-    weight_type = keeps_section words.EdgeWeightType word weight_type_of h.weight_type ps n toks after o5 k.weight_type;
-    weight_format = keeps_section words.EdgeWeightFormat word weight_format_of h.weight_format ps n toks after o6
-        k.weight_format;
-    coordinate_type = k.coordinate_type ∙ sym (has_past words.NodeCoordType word ps n toks after o7);
-    display_type = k.display_type ∙ sym (has_past words.DisplayDataType word ps n toks after o8);
-  }
+-- a section of a word that is no header changes nothing
+pub past_section : (h : Headers) (w : Keyword) (ps : List Piece) (n : ℕ) (toks : List Token) (after : After)
+    → HasHeaders h ps → same_word w words.Name ≡ false → same_word w words.Type ≡ false
+    → same_word w words.Dimension ≡ false → same_word w words.Capacity ≡ false
+    → same_word w words.EdgeWeightType ≡ false → same_word w words.EdgeWeightFormat ≡ false
+    → same_word w words.NodeCoordType ≡ false → same_word w words.DisplayDataType ≡ false
+    → HasHeaders h (ps ++ a_section w n toks after)
+past_section h w ps n toks after k o1 o2 o3 o4 o5 o6 o7 o8 =
+    next_headers (one_section w ps n toks after) k (stays o1) (stays o1) (stays o2) (stays o3) (stays o4) (stays o5)
+    (stays o6) (stays o7) (stays o8)
 
 -- ---- empty names
 

@@ -3,6 +3,7 @@ pub mod KeptHeaders
 pub mod PartEnds
 pub mod PartHeaders
 pub mod PartSections
+pub mod PartsKept
 pub mod PartsWhole
 pub mod ProblemForms
 pub mod ProblemLaws

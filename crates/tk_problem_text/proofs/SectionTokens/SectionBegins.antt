@@ -34,7 +34,7 @@ use Rattle.tk_problem_text.proofs.SectionTokens.FixedSections.{begins}
 use Rattle.tk_problem_text.proofs.SectionTokens.OpenSections.{problem_fixed}
 use Rattle.tk_problem.proofs.WeightCounts.{pair-order}
 use Rattle.tk_problem_text.proofs.PartsWhole.{number_in_limits}
-use Rattle.tk_problem_text.proofs.KeptHeaders.{told_map}
+use Rattle.tk_lines.proofs.Pieces.ToldFaults as Told
 
 -- ---- explicit weights
 
@@ -64,8 +64,7 @@ module _ (p : Parts) (before : List Piece) (has_parts : HasParts p before) (size
 
 of_came : (known came : Bool) → cond known (Some came) None ≡ Some false → (known ≡ true) × (came ≡ false)
 of_came true false h = (refl, refl)
-of_came true true h = absurd cc
-of_came false came h = absurd cc
+of_came _ _ h = absurd cc
 
 some_places : (q : Place → Bool) (xs : List Place) → count_by q xs ≢ 0 → 0 < length xs
 some_places q [] h = absurd (h refl)
@@ -73,14 +72,7 @@ some_places q (x ∷ xs) h = omega arith
 
 written : (f : Format) → 0 < times_written f
 written formats.FullMatrix = omega arith
-written formats.UpperRow = omega arith
-written formats.LowerRow = omega arith
-written formats.UpperDiagRow = omega arith
-written formats.LowerDiagRow = omega arith
-written formats.UpperCol = omega arith
-written formats.LowerCol = omega arith
-written formats.UpperDiagCol = omega arith
-written formats.LowerDiagCol = omega arith
+written _ = omega arith
 
 some_weights : (f : Format) (n : ℕ) → 2 ≤ n → 0 < length (order f n)
 some_weights f n low =
@@ -157,5 +149,5 @@ module _ {p : Parts} {before : List Piece} {word : Keyword} {kind : ProblemType}
       IsToldWord (λ k. first_at n (section_tests before word) ≡ Some (Fault n k)) k →
       IsToldWord (λ k. first_at n (word_tests before word) ≡ Some (Fault n k)) k
   told_word n k =
-      told_map (λ k. first_at n (section_tests before word) ≡ Some (Fault n k))
+      Told.told_word (λ k. first_at n (section_tests before word) ≡ Some (Fault n k))
       (λ k. first_at n (word_tests before word) ≡ Some (Fault n k)) k (λ h. word_passes n ∙ h)

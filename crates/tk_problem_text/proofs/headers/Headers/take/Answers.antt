@@ -1,13 +1,9 @@
-use Rattle.std.proofs.Common.{◌≡◌, false, ◌++◌, [], ◌∷◌, refl, sym, subst, ◌∙◌}
-use Rattle.std.specs.Prelude.{IfOk, is_none}
+use Rattle.std.proofs.Common.{◌≡◌, false, ◌++◌, refl, sym, subst, ◌∙◌}
+use Rattle.std.specs.Prelude.{IfOk}
 use Rattle.tk_words.specs.declared.keyword.Keyword.TheVariants as words
-use Rattle.tk_words.specs.declared.fault.TextKind.TheVariants as kinds
-use Rattle.tk_lines.specs.HeaderValue.{first_word}
-use Rattle.tk_words.specs.Entry.{number_tests}
 use Rattle.tk_problem_text.specs.HeaderValues.{problem_type_of, weight_type_of, weight_format_of, header_number}
 use Rattle.tk_lines.specs.Pieces.{has}
 use Rattle.tk_lines.specs.Reader.Forms.{a_header}
-use Rattle.tk_problem_text.specs.Reader.Kept.{ValueSays}
 use Rattle.std.proofs.lemmas.Result.{IfOk-weaker}
 use Rattle.tk_problem.specs.declared.limits.TheConstants.{CAPACITY_LIMIT, CITY_LIMIT}
 use Rattle.tk_problem_text.proofs.KeptHeaders.{says_known, says_number}
@@ -27,103 +23,62 @@ returns-in-Comment-clause-ok c = λ ps v n h _. rw c.in-Comment.is (with_comment
 
 pub returns-in-Type-clause-ok : goal.returns-in-Type-clause-ok
 returns-in-Type-clause-ok c = λ ps v n h s. rw c.in-Type.is (
-    let said : ValueSays problem_type_of ((is_none (problem_type_of v), kinds.Unsupported) ∷ []) v c.ok_or.result =
-    subst (ValueSays problem_type_of ((is_none (problem_type_of v), kinds.Unsupported) ∷ []) v)
-    (sym c.ok_or.ensures.value)
-    (says_known problem_type_of v c.problem_type_of.result (c.problem_type_of.ensures v s)) in
-    IfOk-weaker c.keep.result _ _ (λ _ p. (with_problem_type c.args.self.now ps v n h c.keep.new.kept p.0, p.1))
-    (c.keep.ensures.ok words.Type problem_type_of ((is_none (problem_type_of v), kinds.Unsupported) ∷ []) ps v n
-    refl h.problem_type said))
+    IfOk-weaker c.keep.result _ _ (λ _ p. (with_problem_type c.args.self.now ps v n h _ p.0, p.1))
+    (c.keep.ensures.ok words.Type problem_type_of _ ps v n refl h.problem_type
+    (says_known problem_type_of v _ _ (c.problem_type_of.ensures v s) c.ok_or.ensures.value)))
 
 pub returns-in-Type-clause-err : goal.returns-in-Type-clause-err
 returns-in-Type-clause-err c = λ ps v n h s. rw c.in-Type.is (
-    let said : ValueSays problem_type_of ((is_none (problem_type_of v), kinds.Unsupported) ∷ []) v c.ok_or.result =
-    subst (ValueSays problem_type_of ((is_none (problem_type_of v), kinds.Unsupported) ∷ []) v)
-    (sym c.ok_or.ensures.value)
-    (says_known problem_type_of v c.problem_type_of.result (c.problem_type_of.ensures v s)) in
-    c.keep.ensures.err words.Type problem_type_of ((is_none (problem_type_of v), kinds.Unsupported) ∷ []) ps v n
-    h.problem_type said)
+    c.keep.ensures.err words.Type problem_type_of _ ps v n h.problem_type
+    (says_known problem_type_of v _ _ (c.problem_type_of.ensures v s) c.ok_or.ensures.value))
 
 pub returns-in-EdgeWeightType-clause-ok : goal.returns-in-EdgeWeightType-clause-ok
 returns-in-EdgeWeightType-clause-ok c = λ ps v n h s. rw c.in-EdgeWeightType.is (
-    let said : ValueSays weight_type_of ((is_none (weight_type_of v), kinds.Unsupported) ∷ []) v
-    c.ok_or-in-EdgeWeightType.result =
-    subst (ValueSays weight_type_of ((is_none (weight_type_of v), kinds.Unsupported) ∷ []) v)
-    (sym c.ok_or-in-EdgeWeightType.ensures.value)
-    (says_known weight_type_of v c.weight_type_of.result (c.weight_type_of.ensures v s)) in
-    IfOk-weaker c.keep-in-EdgeWeightType.result
-    _ _ (λ _ p. (with_weight_type c.args.self.now ps v n h c.keep-in-EdgeWeightType.new.kept p.0, p.1))
-    (c.keep-in-EdgeWeightType.ensures.ok words.EdgeWeightType weight_type_of
-    ((is_none (weight_type_of v), kinds.Unsupported) ∷ []) ps v n refl h.weight_type said))
+    IfOk-weaker c.keep-in-EdgeWeightType.result _ _ (λ _ p. (with_weight_type c.args.self.now ps v n h _ p.0, p.1))
+    (c.keep-in-EdgeWeightType.ensures.ok words.EdgeWeightType weight_type_of _ ps v n refl h.weight_type
+    (says_known weight_type_of v _ _ (c.weight_type_of.ensures v s) c.ok_or-in-EdgeWeightType.ensures.value)))
 
 pub returns-in-EdgeWeightType-clause-err : goal.returns-in-EdgeWeightType-clause-err
 returns-in-EdgeWeightType-clause-err c = λ ps v n h s. rw c.in-EdgeWeightType.is (
-    let said : ValueSays weight_type_of ((is_none (weight_type_of v), kinds.Unsupported) ∷ []) v
-    c.ok_or-in-EdgeWeightType.result =
-    subst (ValueSays weight_type_of ((is_none (weight_type_of v), kinds.Unsupported) ∷ []) v)
-    (sym c.ok_or-in-EdgeWeightType.ensures.value)
-    (says_known weight_type_of v c.weight_type_of.result (c.weight_type_of.ensures v s)) in
-    c.keep-in-EdgeWeightType.ensures.err words.EdgeWeightType weight_type_of
-    ((is_none (weight_type_of v), kinds.Unsupported) ∷ []) ps v n h.weight_type said)
+    c.keep-in-EdgeWeightType.ensures.err words.EdgeWeightType weight_type_of _ ps v n h.weight_type
+    (says_known weight_type_of v _ _ (c.weight_type_of.ensures v s) c.ok_or-in-EdgeWeightType.ensures.value))
 
 pub returns-in-EdgeWeightFormat-clause-ok : goal.returns-in-EdgeWeightFormat-clause-ok
 returns-in-EdgeWeightFormat-clause-ok c = λ ps v n h s. rw c.in-EdgeWeightFormat.is (
-    let said : ValueSays weight_format_of ((is_none (weight_format_of v), kinds.Unsupported) ∷ []) v
-    c.ok_or-in-EdgeWeightFormat.result =
-    subst (ValueSays weight_format_of ((is_none (weight_format_of v), kinds.Unsupported) ∷ []) v)
-    (sym c.ok_or-in-EdgeWeightFormat.ensures.value)
-    (says_known weight_format_of v c.weight_format_of.result (c.weight_format_of.ensures v s)) in
-    IfOk-weaker c.keep-in-EdgeWeightFormat.result
-    _ _ (λ _ p. (with_weight_format c.args.self.now ps v n h c.keep-in-EdgeWeightFormat.new.kept p.0, p.1))
-    (c.keep-in-EdgeWeightFormat.ensures.ok words.EdgeWeightFormat weight_format_of
-    ((is_none (weight_format_of v), kinds.Unsupported) ∷ []) ps v n refl h.weight_format said))
+    IfOk-weaker c.keep-in-EdgeWeightFormat.result _ _ (λ _ p. (with_weight_format c.args.self.now ps v n h _ p.0, p.1))
+    (c.keep-in-EdgeWeightFormat.ensures.ok words.EdgeWeightFormat weight_format_of _ ps v n refl h.weight_format
+    (says_known weight_format_of v _ _ (c.weight_format_of.ensures v s) c.ok_or-in-EdgeWeightFormat.ensures.value)))
 
 pub returns-in-EdgeWeightFormat-clause-err : goal.returns-in-EdgeWeightFormat-clause-err
 returns-in-EdgeWeightFormat-clause-err c = λ ps v n h s. rw c.in-EdgeWeightFormat.is (
-    let said : ValueSays weight_format_of ((is_none (weight_format_of v), kinds.Unsupported) ∷ []) v
-    c.ok_or-in-EdgeWeightFormat.result =
-    subst (ValueSays weight_format_of ((is_none (weight_format_of v), kinds.Unsupported) ∷ []) v)
-    (sym c.ok_or-in-EdgeWeightFormat.ensures.value)
-    (says_known weight_format_of v c.weight_format_of.result (c.weight_format_of.ensures v s)) in
-    c.keep-in-EdgeWeightFormat.ensures.err words.EdgeWeightFormat weight_format_of
-    ((is_none (weight_format_of v), kinds.Unsupported) ∷ []) ps v n h.weight_format said)
+    c.keep-in-EdgeWeightFormat.ensures.err words.EdgeWeightFormat weight_format_of _ ps v n h.weight_format
+    (says_known weight_format_of v _ _ (c.weight_format_of.ensures v s) c.ok_or-in-EdgeWeightFormat.ensures.value))
 
 pub returns-in-Dimension-clause-ok : goal.returns-in-Dimension-clause-ok
 returns-in-Dimension-clause-ok c = λ ps v n h s. rw c.in-Dimension.is (
-    let said : ValueSays (header_number 2 CITY_LIMIT) (number_tests 2 CITY_LIMIT (first_word v)) v c.number.result =
-    says_number 2 CITY_LIMIT v c.number.result (c.number.ensures.ok v s) (λ m. c.number.ensures.err v m s) in
-    IfOk-weaker c.keep-in-Dimension.result
-    _ _ (λ _ p. (with_dimension c.args.self.now ps v n h c.keep-in-Dimension.new.kept p.0, p.1))
-    (c.keep-in-Dimension.ensures.ok words.Dimension (header_number 2 CITY_LIMIT)
-    (number_tests 2 CITY_LIMIT (first_word v)) ps v n refl h.dimension said))
+    IfOk-weaker c.keep-in-Dimension.result _ _ (λ _ p. (with_dimension c.args.self.now ps v n h _ p.0, p.1))
+    (c.keep-in-Dimension.ensures.ok words.Dimension (header_number 2 CITY_LIMIT) _ ps v n refl h.dimension
+    (says_number 2 CITY_LIMIT v c.number.result (c.number.ensures.ok v s)
+    (λ m. c.number.ensures.err v m s))))
 
 pub returns-in-Dimension-clause-err : goal.returns-in-Dimension-clause-err
 returns-in-Dimension-clause-err c = λ ps v n h s. rw c.in-Dimension.is (
-    let said : ValueSays (header_number 2 CITY_LIMIT) (number_tests 2 CITY_LIMIT (first_word v)) v c.number.result =
-    says_number 2 CITY_LIMIT v c.number.result (c.number.ensures.ok v s) (λ m. c.number.ensures.err v m s) in
-    c.keep-in-Dimension.ensures.err words.Dimension (header_number 2 CITY_LIMIT)
-    (number_tests 2 CITY_LIMIT (first_word v))
-    ps v n h.dimension said)
+    c.keep-in-Dimension.ensures.err words.Dimension (header_number 2 CITY_LIMIT) _ ps v n h.dimension
+    (says_number 2 CITY_LIMIT v c.number.result (c.number.ensures.ok v s)
+    (λ m. c.number.ensures.err v m s)))
 
 pub returns-in-Capacity-clause-ok : goal.returns-in-Capacity-clause-ok
 returns-in-Capacity-clause-ok c = λ ps v n h s. rw c.in-Capacity.is (
-    let said : ValueSays (header_number 1 CAPACITY_LIMIT) (number_tests 1 CAPACITY_LIMIT (first_word v)) v
-    c.number-in-Capacity.result =
-    says_number 1 CAPACITY_LIMIT v c.number-in-Capacity.result (c.number-in-Capacity.ensures.ok v s)
-    (λ m. c.number-in-Capacity.ensures.err v m s) in
-    IfOk-weaker c.keep-in-Capacity.result
-    _ _ (λ _ p. (with_capacity c.args.self.now ps v n h c.keep-in-Capacity.new.kept p.0, p.1))
-    (c.keep-in-Capacity.ensures.ok words.Capacity (header_number 1 CAPACITY_LIMIT)
-    (number_tests 1 CAPACITY_LIMIT (first_word v)) ps v n refl h.capacity said))
+    IfOk-weaker c.keep-in-Capacity.result _ _ (λ _ p. (with_capacity c.args.self.now ps v n h _ p.0, p.1))
+    (c.keep-in-Capacity.ensures.ok words.Capacity (header_number 1 CAPACITY_LIMIT) _ ps v n refl h.capacity
+    (says_number 1 CAPACITY_LIMIT v c.number-in-Capacity.result (c.number-in-Capacity.ensures.ok v s)
+    (λ m. c.number-in-Capacity.ensures.err v m s))))
 
 pub returns-in-Capacity-clause-err : goal.returns-in-Capacity-clause-err
 returns-in-Capacity-clause-err c = λ ps v n h s. rw c.in-Capacity.is (
-    let said : ValueSays (header_number 1 CAPACITY_LIMIT) (number_tests 1 CAPACITY_LIMIT (first_word v)) v
-    c.number-in-Capacity.result =
-    says_number 1 CAPACITY_LIMIT v c.number-in-Capacity.result (c.number-in-Capacity.ensures.ok v s)
-    (λ m. c.number-in-Capacity.ensures.err v m s) in
-    c.keep-in-Capacity.ensures.err words.Capacity (header_number 1 CAPACITY_LIMIT)
-    (number_tests 1 CAPACITY_LIMIT (first_word v)) ps v n h.capacity said)
+    c.keep-in-Capacity.ensures.err words.Capacity (header_number 1 CAPACITY_LIMIT) _ ps v n h.capacity
+    (says_number 1 CAPACITY_LIMIT v c.number-in-Capacity.result (c.number-in-Capacity.ensures.ok v s)
+    (λ m. c.number-in-Capacity.ensures.err v m s)))
 
 pub returns-then-is_coordinate_type-clause-ok : goal.returns-then-is_coordinate_type-clause-ok
 returns-then-is_coordinate_type-clause-ok c = λ ps v n h s. rw c.in-NodeCoordType.is (

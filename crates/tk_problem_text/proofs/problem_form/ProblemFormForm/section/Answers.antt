@@ -4,7 +4,7 @@ use Rattle.tk_lines.specs.Pieces.{Fault, first_at, After}
 use Rattle.tk_problem_text.specs.Problem.{problem_format, word_tests}
 use Rattle.tk_words.specs.Lex.{Token}
 use Rattle.tk_problem_text.proofs.SectionTokens.OpenSections.{problem_refused}
-use Rattle.tk_problem_text.proofs.KeptHeaders.{told_map}
+use Rattle.tk_lines.proofs.Pieces.ToldFaults.{told_word}
 use Rattle.tk_problem_text.proofs.ProblemForms.{goes_open}
 use Rattle.tk_problem_text.proofs.problem_form.ProblemFormForm.section.Goals as goal
 
@@ -14,7 +14,7 @@ returns-in_err-self-clause-err c = λ before n parts.
     let k = c.in_err-self.field-0.0 in
     let p = err_from_is_err_and c.from_residual.result c.from_residual.ensures.1 in
     rw (p.1, p.2)
-    (told_map (λ k. first_at n (word_tests before word) ≡ Some (Fault n k))
+    (told_word (λ k. first_at n (word_tests before word) ≡ Some (Fault n k))
     (λ k. (toks : List Token) (after : After) → problem_format.section before word n toks after ≡ Some (Fault n k))
     k (λ fault toks after. problem_refused before word n k fault toks after)
     (c.in_err-self.ensures.err before n parts))
