@@ -1,13 +1,13 @@
 -- Parts with no fault at the end make the problem that the pieces say.
 use Rattle.std.proofs.Common.{◌≡◌, ◌≤◌, ◌-◌, ℕ, suc, Bool, true, false, cond, not, eqb, ltb, leb, ◌&&◌, List, [], ◌∷◌}
-use Rattle.std.proofs.Common.{◌++◌, length, get_or, Option, Some, None, is_some, All, ℤ, pos, negsuc, refl, sym, ap}
+use Rattle.std.proofs.Common.{◌++◌, length, get_or, Option, Some, None, is_some, All, ℤ, pos, refl, sym, ap}
 use Rattle.std.proofs.Common.{subst, ◌∙◌, arith}
 use Rattle.std.specs.Prelude.{IfSome, Vec, unwrap_or, option_and_then}
 use Rattle.std.specs.declared.alloc.Global.{Global}
 use Rattle.std.proofs.lemmas.List.FromFn.{length-map-range_with_len}
 use Rattle.std.proofs.lemmas.List.Elements.{All-nil, All-cons}
 use Rattle.tk_words.specs.declared.fault.TextKind.TheVariants as faults
-use Rattle.std.proofs.lemmas.Bool.{leb-true, eqb-true, ltb-false}
+use Rattle.std.proofs.lemmas.Bool.{leb-true, eqb-true, ltb-false, and_parts}
 use Rattle.tk_problem.specs.declared.limits.TheConstants.{CAPACITY_LIMIT, CITY_LIMIT, TABLE_LIMIT}
 use Rattle.tk_words.specs.declared.fault.TextKind.{TextKind}
 use Rattle.tk_words.specs.declared.keyword.Keyword.TheVariants as words
@@ -46,17 +46,13 @@ no_test false kind rest h = (refl, h)
 
 two_tests : (s t : Bool) (a b : TextKind) → first_kind ((not s, a) ∷ (not t, b) ∷ []) ≡ None → (s ≡ true) × (t ≡ true)
 two_tests true true a b h = (refl, refl)
-two_tests true false a b h = absurd cc
-two_tests false t a b h = absurd cc
+two_tests _ _ a b h = absurd cc
 
 four_tests : (s t u v : Bool) (a b c d : TextKind) (rest : List (Bool × TextKind)) →
     first_kind ((not s, a) ∷ (not t, b) ∷ (not u, c) ∷ (not v, d) ∷ rest) ≡ None → (s ≡ true) × (t ≡ true) × (u ≡ true)
     × (v ≡ true) × (first_kind rest ≡ None)
 four_tests true true true true a b c d rest h = (refl, refl, refl, refl, h)
-four_tests true true true false a b c d rest h = absurd cc
-four_tests true true false v a b c d rest h = absurd cc
-four_tests true false u v a b c d rest h = absurd cc
-four_tests false t u v a b c d rest h = absurd cc
+four_tests _ _ _ _ a b c d rest h = absurd cc
 
 none_before : (xs ys : List (Bool × TextKind)) → first_kind (xs ++ ys) ≡ None →
     (first_kind xs ≡ None) × (first_kind ys ≡ None)
@@ -69,21 +65,16 @@ none_before (x ∷ xs) ys h = by_test x.0 refl h (none_before xs ys)
     by_test true e h before = absurd cc
     by_test false e h before = (rw e (before h).0, (before h).1)
 
-both : (s t : Bool) → (s && t) ≡ true → (s ≡ true) × (t ≡ true)
-both true t h = (refl, h)
-both false t h = absurd cc
-
 in_between : (low high n : ℕ) (z : Option ℤ) → between low high z ≡ Some n → (low ≤ n) × (n ≤ high)
-in_between low high n None h = absurd cc
-in_between low high n (Some (negsuc m)) h = absurd cc
 in_between low high n (Some (pos m)) h = by_test (leb low m && leb m high) refl h
   where
     by_test : (t : Bool) → (leb low m && leb m high) ≡ t → cond t (Some m) None ≡ Some n → (low ≤ n) × (n ≤ high)
     by_test false e h = absurd cc
     by_test true e h =
-        let b = both (leb low m) (leb m high) e in
+        let b = and_parts (leb low m) (leb m high) e in
         let same : m ≡ n = ap (λ (o : Option ℕ). unwrap_or o 0) h in
         (omega (arith, leb-true _ _ b.0, same), omega (arith, leb-true _ _ b.1, same))
+in_between low high n _ h = absurd cc
 
 pub number_in_limits : (low high n : ℕ) (v : Option (List ℕ)) → option_and_then (header_number low high) v ≡ Some n →
     (low ≤ n) × (n ≤ high)

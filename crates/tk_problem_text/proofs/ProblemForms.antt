@@ -8,8 +8,8 @@ use Rattle.tk_lines.specs.declared.form.Taken.{Taken}
 use Rattle.tk_lines.specs.declared.form.Taken.TheVariants.{More, Last, Ending, Eof}
 use Rattle.tk_problem_text.specs.declared.sections.depot.Depot.{Depot}
 use Rattle.tk_problem_text.specs.declared.sections.open_section.OpenSection.{OpenSection}
-use Rattle.tk_problem_text.specs.declared.sections.open_section.OpenSection.TheVariants.{Nothing, Places, Explicit}
-use Rattle.tk_problem_text.specs.declared.sections.open_section.OpenSection.TheVariants.{Loads, Home, Display}
+use Rattle.tk_problem_text.specs.declared.sections.open_section.OpenSection.TheVariants.{Nothing, Places}
+use Rattle.tk_problem_text.specs.declared.sections.open_section.OpenSection.TheVariants.{Loads, Home}
 use Rattle.tk_words.specs.Lex.{Token, is_empty}
 use Rattle.tk_lines.specs.Pieces.{Piece, After, Early, Fault, Format, has}
 use Rattle.tk_lines.specs.Reader.Forms.{a_section, Goes, HasTakenToken}
@@ -53,11 +53,8 @@ module _ (before : List Piece) (word : Keyword) (n : ℕ) (ps : List Piece) (P :
 pub goes_open : (before : List Piece) (word : Keyword) (n : ℕ) (toks : List Token) (s : OpenSection) →
     IsOpen before word n toks s → Goes problem_format before word n toks
 goes_open before word n toks Nothing is = absurd is
-goes_open before word n toks (Places s) is = Fixed.goes is.1
-goes_open before word n toks (Explicit s) is = Fixed.goes is.1
-goes_open before word n toks (Loads s) is = Fixed.goes is.1
 goes_open before word n toks (Home s) is = subst (λ w. Goes problem_format before w n toks) (sym is.0) (Home.goes is.1)
-goes_open before word n toks (Display left) is = Fixed.goes is.1
+goes_open before word n toks _ is = Fixed.goes is.1
 
 -- but after a depot
 abbrev pub is_home : OpenSection → Bool
@@ -65,21 +62,13 @@ is_home (Home s) = is_some s.node
 is_home _ = false
 
 pub not_home : (s : OpenSection) → ((d : Depot) → s ≢ Home d) → is_home s ≡ false
-not_home Nothing h = refl
-not_home (Places s) h = refl
-not_home (Explicit s) h = refl
-not_home (Loads s) h = refl
 not_home (Home s) h = absurd (h s refl)
-not_home (Display left) h = refl
+not_home _ h = refl
 
 pub early_stop : (before : List Piece) (word : Keyword) (n : ℕ) (toks : List Token) (s : OpenSection) (line : ℕ) →
     IsOpen before word n toks s → is_home s ≡ false →
     problem_format.section before word n toks (Early line true) ≡ Some (Fault line kinds.Truncated)
 early_stop before word n toks Nothing line is none = absurd is
-early_stop before word n toks (Places s) line is none = Fixed.ends_early is.1 line
-early_stop before word n toks (Explicit s) line is none = Fixed.ends_early is.1 line
-early_stop before word n toks (Loads s) line is none = Fixed.ends_early is.1 line
-early_stop before word n toks (Display left) line is none = Fixed.ends_early is.1 line
 early_stop before word n toks (Home s) line is none = by_node s.node refl
   where
     by_node : (d : Option ℕ) → s.node ≡ d →
@@ -88,6 +77,7 @@ early_stop before word n toks (Home s) line is none = by_node s.node refl
     by_node None e =
         let no_token : toks ≡ [] = subst (λ d. IsDepot (size_of before) d toks) e is.2.node in
         rw is.0 (Home.ends_early is.1 (ap is_empty no_token) line)
+early_stop before word n toks _ line is none = Fixed.ends_early is.1 line
 
 module _ (before : List Piece) (word : Keyword) (n : ℕ) (toks : List Token) (s : Depot) (line : ℕ)
     (is : IsOpen before word n toks (Home s)) (some : is_some s.node ≡ true) where
@@ -109,9 +99,7 @@ module _ {V : Type 0} (f : Format V) (P Q : List Piece → Type 0) (W X : List P
   pub taken_more : (taken : Taken) → taken ≡ More → ((ts : List Token) → W before word n ts → X before word n ts) →
       HasTakenToken f P W before word n toks t taken → HasTakenToken f Q X before word n toks t taken
   taken_more More is each h = (each (toks ++ t ∷ []) h.0, h.1)
-  taken_more Last is each h = absurd cc
-  taken_more Ending is each h = absurd cc
-  taken_more Eof is each h = absurd cc
+  taken_more _ is each h = absurd cc
 
   pub taken_end : (taken : Taken) → taken ≢ More → ((ps : List Piece) → P ps → Q ps) →
       HasTakenToken f P W before word n toks t taken → HasTakenToken f Q X before word n toks t taken

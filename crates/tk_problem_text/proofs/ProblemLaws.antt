@@ -31,10 +31,8 @@ tokens_known tests before (t ∷ ts) h =
     (not_open_checked 64 t (all_tests tests before t) h.0) (tokens_known tests (before ++ t ∷ []) ts h.1)
 
 fixed_known : (after : After) → NotOpen (fixed_end after)
-fixed_known Clean = tt
-fixed_known (Trailing line) = tt
 fixed_known (Early line true) = tt
-fixed_known (Early line false) = tt
+fixed_known _ = tt
 
 end_known : (word : Keyword) (toks : List Token) (after : After) → NotOpen (section_end word toks after)
 end_known words.DepotSection [] after = fixed_known after

@@ -19,7 +19,7 @@ use Rattle.tk_words.specs.Texts.{answer_of}
 use Rattle.tk_problem_text.specs.HeaderValues.{name_of}
 use Rattle.tk_words.specs.Lex.{LF, Line, Token, onto_line, lines, tokens, tokens_of, is_blank, is_letter, is_word_byte}
 use Rattle.tk_words.specs.Lex.{is_empty, front, behind, after_word, without_colon_before, trim, trim_end}
-use Rattle.tk_lines.specs.Pieces.{Piece, Stray, LongWord, OpenWord, Unknown, Header, Section, End, Stop, Open, Fault}
+use Rattle.tk_lines.specs.Pieces.{Piece, Stray, LongWord, OpenWord, Header, Section, End, Stop, Open, Fault}
 use Rattle.tk_lines.specs.Pieces.{Extents, pieces_at, piece_of, piece_by, section_at, covered, cut, end_piece}
 use Rattle.tk_lines.specs.Pieces.{end_token, has, pieces, value_of, stop, stopped, ended, judge, decided_by}
 use Rattle.tk_problem_text.specs.Problem.{ProblemIs, problem_decided, problem_format, problem_texts, problem_value}
@@ -185,10 +185,8 @@ line_headers extent before l ls (b ∷ bs) h =
     by_tests : (r s t : Bool) (ps : List Piece) → HeadersOnLines ps →
         HeadersOnLines (cond r (Stray l.number ∷ [])
         (cond s (LongWord l.number ∷ []) (cond t (OpenWord l.number ∷ []) ps)))
-    by_tests true s t ps k = (tt, tt)
-    by_tests false true t ps k = (tt, tt)
-    by_tests false false true ps k = (tt, tt)
     by_tests false false false ps k = k
+    by_tests _ _ _ ps k = (tt, tt)
 
 cut_headers : (extent : Extents) (before : List Piece) (upto : ℕ) (ls : List Line) → AllByRecursion IsOnLine ls →
     HeadersOnLines (cut extent before upto ls)
@@ -223,11 +221,8 @@ named (Some v) h = h
 
 two_fail : (long part a b : Bool) (s t u w : Stop) →
     cond long (Some s) (cond part (Some t) (cond a (Some u) (cond b (Some w) None))) ≡ None → (a ≡ false) × (b ≡ false)
-two_fail true part a b s t u w h = absurd cc
-two_fail false true a b s t u w h = absurd cc
-two_fail false false true b s t u w h = absurd cc
-two_fail false false false true s t u w h = absurd cc
 two_fail false false false false s t u w h = (refl, refl)
+two_fail _ _ _ _ s t u w h = absurd cc
 
 same_name : (before qs : List Piece) → value_of words.Name qs ≡ None → NameGiven (value_of words.Name before) →
     NameGiven (value_of words.Name (before ++ qs))
@@ -262,12 +257,7 @@ at_end before v line true None h e =
 judged : (ps before : List Piece) (v : ProblemIs) → NameGiven (value_of words.Name before) → HeadersOnLines ps →
     judge problem_format before ps ≡ Some (Ok v) → IsName v.name
 unfolding judge
-judged [] before v h hs e = absurd cc
 judged (End line w ∷ ps) before v h hs e = at_end before v line w (problem_format.at_end before) h e
-judged (Stray line ∷ ps) before v h hs e = absurd cc
-judged (LongWord line ∷ ps) before v h hs e = absurd cc
-judged (OpenWord line ∷ ps) before v h hs e = absurd cc
-judged (Unknown line ∷ ps) before v h hs e = absurd cc
 judged (Header word value ∷ ps) before v h hs e =
     let goes =
     passed v (stop problem_format before (Header word value))
@@ -279,6 +269,7 @@ judged (Section word n toks after ∷ ps) before v h hs e =
     (judge problem_format (before ++ Section word n toks after ∷ []) ps) e in
     judged ps (before ++ Section word n toks after ∷ []) v
     (same_name before (Section word n toks after ∷ []) refl h) hs.1 goes.1
+judged _ before v h hs e = absurd cc
 
 decided_name : (e : Bool) (bs : List ℕ) (v : ProblemIs) → problem_decided e bs ≡ Some (Ok v) → IsName v.name
 unfolding decided_by

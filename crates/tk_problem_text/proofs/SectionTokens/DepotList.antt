@@ -7,8 +7,9 @@
 -- of an
 --   `Err`, and `has_taken` what is promised of an `Ok`;
 -- * `end_section`: `ends_early` without a node, `ends_behind` with one.
-use Rattle.std.proofs.Common.{◌≡◌, ◌≤◌, ℕ, Bool, true, false, not, ◌&&◌, ◌||◌, List, [], ◌∷◌, ◌++◌, length, take}
+use Rattle.std.proofs.Common.{◌≡◌, ◌≤◌, ℕ, true, false, not, ◌&&◌, List, [], ◌∷◌, ◌++◌, length, take}
 use Rattle.std.proofs.Common.{Option, Some, None, refl, ap, ◌∙◌, arith}
+use Rattle.std.proofs.lemmas.Bool.{or_parts}
 use Rattle.tk_problem_text.specs.declared.sections.depot.Depot.{Depot}
 use Rattle.tk_words.specs.declared.keyword.Keyword.{Keyword}
 use Rattle.tk_words.specs.declared.keyword.Keyword.TheVariants as words
@@ -32,10 +33,6 @@ use Rattle.tk_problem_text.proofs.SectionTokens.FixedSections.{IsReady, stop_at,
 use Rattle.tk_problem_text.proofs.SectionTokens.DepotTaken.{has_none}
 use Rattle.tk_lines.proofs.Sections.ListTokens.{long_goes, open_goes}
 use Rattle.tk_lines.proofs.Pieces.ToldFaults.{told_word}
-
-neither : (a b : Bool) → (a || b) ≡ false → (a ≡ false) × (b ≡ false)
-neither true b h = absurd cc
-neither false b h = (refl, h)
 
 passes : (toks : List Token) (t : Token) → (is_ending t ≡ false) × ((t.whole && is_eof t.bytes) ≡ false) →
     (not (is_empty toks) && is_list_end t) ≡ false
@@ -65,7 +62,7 @@ behind : (toks more : List Token) (t : Token) → length toks ≤ 1 → (not (is
 unfolding list_extent list_entries
 behind [] more t few goes = (list_entries (take (list_extent more).count more), refl)
 behind (x ∷ []) more t few goes =
-    let no = neither (is_ending t) (t.whole && is_eof t.bytes) goes in
+    let no = or_parts (is_ending t) (t.whole && is_eof t.bytes) goes in
     (list_entries (take (list_extent more).count more), rw (no.0, no.1, no.0) refl)
 behind (x ∷ y ∷ ts) more t few goes = absurd (omega (arith, few))
 

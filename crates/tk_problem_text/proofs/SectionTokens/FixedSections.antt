@@ -23,8 +23,8 @@ use Rattle.tk_lines.specs.Pieces.{Format}
 use Rattle.tk_words.specs.Entry.{is_keyword}
 use Rattle.tk_lines.specs.Reader.Forms.{IsToldWord, whole, a_section, taken, Goes, Closed, StopsAt, HasTakenToken}
 use Rattle.tk_problem_text.specs.Sections.FixedSections.{TokenTests, all_tests, tokens_stop}
-use Rattle.tk_problem_text.specs.Reader.FixedTokens.{fixed_taken, IsFixed}
-use Rattle.tk_problem_text.specs.Reader.FixedTokens.{HasTokens}
+use Rattle.tk_problem_text.specs.Reader.FixedTokens.{fixed_taken, IsFixed, HasTokens}
+use Rattle.tk_lines.proofs.Pieces.ToldFaults.{told_word}
 
 -- ---- one token
 
@@ -76,37 +76,30 @@ module _ (tests : TokenTests) where
   tokens_stop-more toks more t s good h = tokens_stop-append [] toks (t ∷ more) good ∙ at_once toks more t s h
 
   module _ (toks : List Token) (t : Token) (good : tokens_stop tests [] toks ≡ None) where
-    -- one more token without a fault
-    pub no_stop : IsReady t → is_keyword t.bytes ≡ false → first_at t.line (tests toks t) ≡ None →
-        tokens_stop tests [] (toks ++ t ∷ []) ≡ None
-    no_stop ready number none =
-        tokens_stop-more toks [] t None good (checked-ready t (all_tests tests toks t) ready ∙ rw number none)
-        ∙ tokens_stop-none (toks ++ t ∷ [])
-
-    -- the first token with one, whatever follows it
-    pub stop_at_fault : IsReady t → is_keyword t.bytes ≡ false → (k : TextKind) →
-        first_at t.line (tests toks t) ≡ Some (Fault t.line k) → (more : List Token) →
-        tokens_stop tests [] (toks ++ t ∷ more) ≡ Some (Fault t.line k)
-    stop_at_fault ready number k fault more =
-        tokens_stop-more toks more t (Some (Fault t.line k)) good (checked-ready t (all_tests tests toks t) ready
-        ∙ rw number fault)
-
-    -- by the first of all its tests that holds
+    -- one more token without a fault, by the first of all its tests that holds
     pub no_stop_at : IsReady t → first_at t.line (all_tests tests toks t) ≡ None →
         tokens_stop tests [] (toks ++ t ∷ []) ≡ None
     no_stop_at ready none = tokens_stop-more toks [] t None good (checked-ready t (all_tests tests toks t) ready ∙ none)
         ∙ tokens_stop-none (toks ++ t ∷ [])
 
+    no_stop : IsReady t → is_keyword t.bytes ≡ false → first_at t.line (tests toks t) ≡ None →
+        tokens_stop tests [] (toks ++ t ∷ []) ≡ None
+    no_stop ready number none = no_stop_at ready (rw number none)
+
+    -- the first token with one, whatever follows it
     pub stop_at : IsReady t → (s : Stop) → first_at t.line (all_tests tests toks t) ≡ Some s → (more : List Token) →
         tokens_stop tests [] (toks ++ t ∷ more) ≡ Some s
     stop_at ready s fault more =
         tokens_stop-more toks more t (Some s) good (checked-ready t (all_tests tests toks t) ready ∙ fault)
 
-    pub stop_at_keyword : IsReady t → is_keyword t.bytes ≡ true → (more : List Token) →
+    stop_at_fault : IsReady t → is_keyword t.bytes ≡ false → (k : TextKind) →
+        first_at t.line (tests toks t) ≡ Some (Fault t.line k) → (more : List Token) →
+        tokens_stop tests [] (toks ++ t ∷ more) ≡ Some (Fault t.line k)
+    stop_at_fault ready number k fault = stop_at ready (Fault t.line k) (rw number fault)
+
+    stop_at_keyword : IsReady t → is_keyword t.bytes ≡ true → (more : List Token) →
         tokens_stop tests [] (toks ++ t ∷ more) ≡ Some (Fault t.line kinds.Truncated)
-    stop_at_keyword ready word more =
-        tokens_stop-more toks more t (Some (Fault t.line kinds.Truncated)) good
-        (checked-ready t (all_tests tests toks t) ready ∙ rw word refl)
+    stop_at_keyword ready word = stop_at ready (Fault t.line kinds.Truncated) (rw word refl)
 
     pub stop_at_long : 64 < length t.bytes → (more : List Token) →
         tokens_stop tests [] (toks ++ t ∷ more) ≡ Some (Fault t.line kinds.TooLong)
@@ -120,13 +113,6 @@ module _ (tests : TokenTests) where
         tokens_stop-more toks more t (Some Open) good (checked-open t (all_tests tests toks t) partial short)
 
 -- ---- a section
-
--- by the kind of a fault
-IsToldWord-weaker : (P Q : TextKind → Type 0) → ((k : TextKind) → P k → Q k) → (k : TextKind) → IsToldWord P k →
-    IsToldWord Q k
-IsToldWord-weaker P Q each kinds.NoMemory h = h
-IsToldWord-weaker P Q each kinds.Read h = h
-IsToldWord-weaker P Q each k h = each k h
 
 -- a section takes a token after fewer than its count
 take_fewer : (count : ℕ) (toks more : List Token) (t : Token) → length toks < count →
@@ -191,8 +177,8 @@ module _ {V : Type 0} {f : Format V} {before : List Piece} {word : Keyword} {n :
       -- a fault that is told of a token is one of its section
       pub told : (k : TextKind) → IsToldWord (λ k. first_at t.line (tests toks t) ≡ Some (Fault t.line k)) k →
           IsToldWord (StopsAt f before word n toks t) k
-      told = IsToldWord-weaker (λ k. first_at t.line (tests toks t) ≡ Some (Fault t.line k))
-          (StopsAt f before word n toks t) stops_at
+      told k = told_word (λ k. first_at t.line (tests toks t) ≡ Some (Fault t.line k))
+          (StopsAt f before word n toks t) k (stops_at k)
 
       module _ (none : first_at t.line (tests toks t) ≡ None) where
         -- one more token, and not yet the last one
@@ -251,5 +237,3 @@ pub record EndsRow {S : Type 0} (has : S → List Token → Type 0) (tests : Tok
   pub kept : has new (toks ++ t ∷ [])
   pub last : left ≡ 0 → takens.Last ≡ fixed_taken count toks
   pub more : left ≢ 0 → takens.More ≡ fixed_taken count toks
-
--- ---- the sections of a problem

@@ -13,8 +13,8 @@ use Rattle.tk_lines.specs.declared.form.Taken.{Taken}
 use Rattle.tk_lines.specs.declared.form.Taken.TheVariants as takens
 use Rattle.tk_problem_text.specs.declared.sections.depot.Depot.{Depot}
 use Rattle.tk_problem_text.specs.declared.sections.open_section.OpenSection.{OpenSection}
-use Rattle.tk_problem_text.specs.declared.sections.open_section.OpenSection.TheVariants.{Nothing, Places, Explicit}
-use Rattle.tk_problem_text.specs.declared.sections.open_section.OpenSection.TheVariants.{Loads, Home, Display}
+use Rattle.tk_problem_text.specs.declared.sections.open_section.OpenSection.TheVariants.{Nothing}
+use Rattle.tk_problem_text.specs.declared.sections.open_section.OpenSection.TheVariants.{Home, Display}
 use Rattle.tk_words.specs.Lex.{Token, is_empty}
 use Rattle.tk_lines.specs.Pieces.{Piece, Clean, Early, Fault, first_at, Stop, or_else, After}
 use Rattle.tk_words.specs.Entry.{is_keyword, is_some_word}
@@ -35,11 +35,8 @@ use Rattle.tk_words.specs.Words.{same_word}
 has_some : (before : List Piece) (word : Keyword) (n : ℕ) (toks : List Token) (s : OpenSection) → IsCounted s →
     IsOpen before word n toks s → HasSome before word n toks
 has_some before word n toks Nothing counted is_open = absurd is_open
-has_some before word n toks (Places s) counted is_open = is_open.1
-has_some before word n toks (Explicit s) counted is_open = is_open.1
-has_some before word n toks (Loads s) counted is_open = is_open.1
 has_some before word n toks (Home s) counted is_open = absurd counted
-has_some before word n toks (Display left) counted is_open = is_open.1
+has_some before word n toks _ counted is_open = is_open.1
 
 -- a section that is none of a depot has a fixed count
 pub not_home : (before : List Piece) (word : Keyword) (n : ℕ) (toks : List Token) (s : OpenSection) →

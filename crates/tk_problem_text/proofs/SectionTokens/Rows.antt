@@ -3,6 +3,7 @@ use Rattle.std.proofs.Common.{◌≡◌, ◌≢◌, ℕ, zero, suc, ◌+◌, ◌
 use Rattle.std.proofs.Common.{◌++◌, length, get_or, set, map, replicate, Some, None, pos, refl, sym, ap, ◌∙◌, nat_eq}
 use Rattle.std.proofs.Common.{arith, ⊎_elim, length-set, get_or-set_same, get_or-set_other}
 use Rattle.std.specs.List.{range_with_len}
+use Rattle.std.proofs.Math.Bool.{or-false}
 use Rattle.std.proofs.lemmas.Bool.{cases_eq, eq-eqb, ne_eqb, le-leb, or_parts}
 use Rattle.std.proofs.lemmas.List.{same_lists, length_push}
 use Rattle.std.proofs.lemmas.List.FromFn.{length-map-range_with_len, get_or-map-range_with_len}
@@ -10,6 +11,7 @@ use Rattle.std.proofs.lemmas.List.Folds.{list_any-append}
 use Rattle.tk_words.specs.declared.fault.TextKind.{TextKind}
 use Rattle.tk_words.specs.declared.fault.TextKind.TheVariants as kinds
 use Rattle.tk_words.specs.Lex.{Token, integer}
+use Rattle.tk_words.proofs.Bools.{or_true}
 use Rattle.tk_lines.specs.Pieces.{Fault, first_at}
 use Rattle.tk_words.specs.Entry.{number_tests}
 use Rattle.tk_lines.specs.Reader.Forms.{IsToldWord}
@@ -53,19 +55,11 @@ table-replicate f x same a (suc n) = rw (same a, table-replicate f x same (a + 1
 pub is_among-push : (c x : ℕ) (nodes : List ℕ) → is_among c (nodes ++ x ∷ []) ≡ (is_among c nodes || (eqb c x || false))
 is_among-push c x nodes = list_any-append (nat_eq c) nodes (x ∷ [])
 
-or_false : (b : Bool) → (b || false) ≡ b
-or_false true = refl
-or_false false = refl
-
-or_true : (b : Bool) → (b || true) ≡ true
-or_true true = refl
-or_true false = refl
-
 among_same : (c : ℕ) (nodes : List ℕ) → is_among c (nodes ++ c ∷ []) ≡ true
 among_same c nodes = is_among-push c c nodes ∙ rw (eq-eqb c c refl) (or_true (is_among c nodes))
 
 among_other : (c x : ℕ) (nodes : List ℕ) → c ≢ x → is_among c (nodes ++ x ∷ []) ≡ is_among c nodes
-among_other c x nodes ne = is_among-push c x nodes ∙ rw (ne_eqb c x ne) (or_false (is_among c nodes))
+among_other c x nodes ne = is_among-push c x nodes ∙ rw (ne_eqb c x ne) (or-false (is_among c nodes))
 
 module _ (n : ℕ) (s : Named) (nodes : List ℕ) (has : HasNamed n s nodes) where
   pub flag_at : (index : ℕ) (d : Bool) → index < n → get_or s.flags index d ≡ is_among (suc index) nodes
