@@ -1,5 +1,5 @@
 -- A reader's place, where it is known.
-use Rattle.std.proofs.Common.{◌≡◌, ◌||◌, refl, false, ℕ, Bool, true, List, [], ◌∷◌, ◌++◌, Result, Err, sym, subst}
+use Rattle.std.proofs.Common.{◌≡◌, ℕ, Bool, true, List, [], ◌∷◌, ◌++◌, Result, Err, sym, subst}
 use Rattle.std.proofs.lemmas.Bool.{eqb-true}
 use Rattle.tk_words.specs.declared.fault.TextKind.{TextKind}
 use Rattle.tk_words.specs.declared.fault.TextKind.TheVariants as kinds
@@ -42,10 +42,6 @@ pub told_byte : {V : Type 0} (f : Format V) (b : ℕ) (bs : List ℕ) (r : TextF
 told_byte f b bs r h =
     told_of ⊥ (λ e. DecidesIf f (this b) bs (Err e)) (λ e. DecidesIf f anything (bs ++ b ∷ []) (Err e)) r
     (cause_of r.kind) (decides_byte f b bs (Err r)) h
-
-pub or_false : (s t : Bool) → (s || t) ≡ false → (s ≡ false) × (t ≡ false)
-or_false true t h = absurd (cc)
-or_false false t h = (refl, h)
 
 -- a byte that ends what is open at a place
 pub this_ends : (b : ℕ) (place : Place) → ends_at b place ≡ true → EndsPlace (this b) place

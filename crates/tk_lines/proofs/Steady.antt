@@ -91,9 +91,8 @@ settled_same extent before word n ts us end end' s =
 pub front_taken : (c : ℕ) (front last rest : List Token) → Lasts last rest → c < length (front ++ last) →
     take c (front ++ rest) ≡ take c (front ++ last)
 front_taken zero front last rest h lt = refl
-front_taken (suc c) [] [] rest h lt = absurd (omega (arith, lt))
-front_taken (suc c) [] (t ∷ []) rest h lt = absurd (omega (arith, lt))
 front_taken (suc c) [] (t ∷ s ∷ last) rest h lt = absurd h
+front_taken (suc c) [] _ rest h lt = absurd (omega (arith, lt))
 front_taken (suc c) (x ∷ front) last rest h lt =
     ap (λ (ts : List Token). x ∷ ts) (front_taken c front last rest h (omega (arith, lt)))
 
@@ -116,9 +115,8 @@ next_taken (suc c) (x ∷ front) last rest end end' h lt = next_taken c front la
 
 pub lasts_length : (last rest : List Token) → Lasts last rest → length last ≤ length rest
 lasts_length [] rest h = omega arith
-lasts_length (t ∷ []) [] h = absurd h
 lasts_length (t ∷ []) (u ∷ rest) h = omega arith
-lasts_length (t ∷ s ∷ last) rest h = absurd h
+lasts_length _ rest h = absurd h
 
 -- ---- sections of no tokens
 
@@ -126,10 +124,9 @@ pub nothing_extends : (front last rest : List Token) (end end' : Token) → Last
     → Extends (record { count = 0; closed = true; at_eof = false })
     (record { count = 0; closed = true; at_eof = false }) (front ++ last) (front ++ rest) end end'
 nothing_extends [] [] rest end end' h = inr (record { all = omega arith; goes = refl })
-nothing_extends [] (t ∷ []) [] end end' h = absurd h
 nothing_extends [] (t ∷ []) (u ∷ rest) end end' h =
     inl (record { extent = refl; taken = refl; next = longer_next t u h })
-nothing_extends [] (t ∷ s ∷ last) rest end end' h = absurd h
+nothing_extends [] _ rest end end' h = absurd h
 nothing_extends (x ∷ front) last rest end end' h = inl (record { extent = refl; taken = refl; next = (refl, refl) })
 
 -- ---- lists
@@ -182,7 +179,6 @@ ended_extends : (x : Token) (front last rest : List Token) (end end' : Token) �
     → Extends (ended_list (one_more (front ++ last))) (ended_list (one_more (front ++ rest))) (x ∷ front ++ last)
     (x ∷ front ++ rest) end end'
 ended_extends x [] [] rest end end' h = inr (record { all = omega arith; goes = refl })
-ended_extends x [] (t ∷ []) [] end end' h = absurd h
 ended_extends x [] (t ∷ []) (u ∷ rest) end end' h = by_more (is_ending t || may_be_ending t) refl
   where
     by_more : (b : Bool) → (is_ending t || may_be_ending t) ≡ b →
@@ -192,7 +188,7 @@ ended_extends x [] (t ∷ []) (u ∷ rest) end end' h = by_more (is_ending t || 
     by_more false e =
         let old : one_more (t ∷ []) ≡ 0 = rw e refl in
         rw (old, one_more_longer t u rest h e) (inl (record { extent = refl; taken = refl; next = longer_next t u h }))
-ended_extends x [] (t ∷ s ∷ last) rest end end' h = absurd h
+ended_extends x [] _ rest end end' h = absurd h
 ended_extends x (y ∷ front) last rest end end' h = by_more (is_ending y || may_be_ending y) front last rest h
   where
     by_more : (b : Bool) (front last rest : List Token) → Lasts last rest →
@@ -200,9 +196,8 @@ ended_extends x (y ∷ front) last rest end end' h = by_more (is_ending y || may
         (x ∷ y ∷ front ++ rest) end end'
     by_more false front last rest h = inl (record { extent = refl; taken = refl; next = (refl, refl) })
     by_more true [] [] rest h = inr (record { all = omega arith; goes = refl })
-    by_more true [] (t ∷ []) [] h = absurd h
     by_more true [] (t ∷ []) (u ∷ rest) h = inl (record { extent = refl; taken = refl; next = longer_next t u h })
-    by_more true [] (t ∷ s ∷ last) rest h = absurd h
+    by_more true [] _ rest h = absurd h
     by_more true (z ∷ front) last rest h = inl (record { extent = refl; taken = refl; next = (refl, refl) })
 
 -- a token more at the front
@@ -221,7 +216,6 @@ pub list_extends : (front last rest : List Token) (end end' : Token) → Lasts l
     Extends (list_extent (front ++ last)) (list_extent (front ++ rest)) (front ++ last) (front ++ rest) end end'
 list_extends [] [] rest end end' h =
     inr (record { all = omega arith; goes = ap (λ (e : Extent). e.at_eof) list_nothing })
-list_extends [] (t ∷ []) [] end end' h = absurd h
 list_extends [] (t ∷ []) (u ∷ rest) end end' h =
     let g = open_goes t h.partial in
     let is = list_goes t [] g.0 g.1 in
@@ -231,7 +225,7 @@ list_extends [] (t ∷ []) (u ∷ rest) end end' h =
       goes = ap (λ (e : Extent). e.at_eof) is
           ∙ ap (λ (e : Extent). e.at_eof) list_nothing;
     })
-list_extends [] (t ∷ s ∷ last) rest end end' h = absurd h
+list_extends [] _ rest end end' h = absurd h
 list_extends (x ∷ front) last rest end end' h =
     by_kind (is_ending x) refl (x.whole && is_eof x.bytes) refl (list_extends front last rest end end' h)
   where
@@ -258,10 +252,9 @@ stops tests next s (t ∷ ts) = let rest = stops tests next (next s t) ts in or_
 
 lasts_taken : (c : ℕ) (last rest : List Token) → Lasts last rest → length last ≤ c → Lasts last (take c rest)
 lasts_taken c [] rest h le = tt
-lasts_taken c (t ∷ []) [] h le = absurd h
 lasts_taken zero (t ∷ []) (u ∷ rest) h le = absurd (omega (arith, le))
 lasts_taken (suc c) (t ∷ []) (u ∷ rest) h le = h
-lasts_taken c (t ∷ s ∷ last) rest h le = absurd h
+lasts_taken c _ rest h le = absurd h
 
 entries_goes : (t : Token) (ts : List Token) → is_ending t ≡ false → list_entries (t ∷ ts) ≡ t ∷ list_entries ts
 unfolding list_entries
@@ -283,10 +276,9 @@ module _ {S : Type 0} (tests : S → Token → List (Bool × TextKind)) (next : 
   pub stops_grown : (s : S) (front last rest : List Token) → Lasts last rest → Faults s (front ++ last) →
       Faults s (front ++ rest)
   stops_grown s [] [] rest h f = absurd cc
-  stops_grown s [] (t ∷ []) [] h f = absurd h
   stops_grown s [] (t ∷ []) (u ∷ rest) h f =
       checked_grown 64 t u (tests s t) (tests s u) None (stops tests next (next s u) rest) line k h f
-  stops_grown s [] (t ∷ r ∷ last) rest h f = absurd h
+  stops_grown s [] _ rest h f = absurd h
   stops_grown s (x ∷ front) last rest h f =
       or_else_kept (checked 64 x (tests s x)) (stops tests next (next s x) (front ++ last))
       (stops tests next (next s x) (front ++ rest)) (Fault line k) (stops_grown (next s x) front last rest h) f
@@ -305,7 +297,6 @@ module _ {S : Type 0} (tests : S → Token → List (Bool × TextKind)) (next : 
       → Faults s (list_entries (front ++ last)) →
       Faults s (list_entries (take (list_extent (front ++ rest)).count (front ++ rest)))
   list_stops s [] [] rest h le f = absurd (let j = sym (ap (stops tests next s) entries_nothing) ∙ f in cc)
-  list_stops s [] (t ∷ []) [] h le f = absurd h
   list_stops s [] (t ∷ []) (u ∷ rest) h le f = ⊎_elim opens longs (open_or_long 64 t u (tests s t) (tests s u) h)
     where
       first : or_else (checked 64 t (tests s t)) (stops tests next (next s t) []) ≡ Some (Fault line k)
@@ -315,8 +306,7 @@ module _ {S : Type 0} (tests : S → Token → List (Bool × TextKind)) (next : 
 
       opens : checked 64 t (tests s t) ≡ Some Open →
           Faults s (list_entries (take (list_extent (u ∷ rest)).count (u ∷ rest)))
-      opens o = absurd (let j = sym (ap (λ (x : Option Stop). or_else x (stops tests next (next s t) [])) o)
-          ∙ first in cc)
+      opens o = absurd (let j = rw o at first in cc)
 
       longs : AreLong 64 t u (tests s t) (tests s u) →
           Faults s (list_entries (take (list_extent (u ∷ rest)).count (u ∷ rest)))
@@ -327,7 +317,7 @@ module _ {S : Type 0} (tests : S → Token → List (Bool × TextKind)) (next : 
           ∙ ap (stops tests next s) (entries_goes u more g.0)
           ∙ checked_grown 64 t u (tests s t) (tests s u) (stops tests next (next s t) [])
           (stops tests next (next s u) (list_entries more)) line k h first
-  list_stops s [] (t ∷ r ∷ last) rest h le f = absurd h
+  list_stops s [] _ rest h le f = absurd h
   list_stops s (x ∷ front) last rest h le f =
       by_kind (is_ending x) refl (x.whole && is_eof x.bytes) refl (list_stops (next s x) front last rest h)
     where

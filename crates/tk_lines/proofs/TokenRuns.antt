@@ -14,7 +14,8 @@ use Rattle.tk_lines.specs.Pieces.{Piece, Format}
 use Rattle.tk_lines.specs.Reader.Places.{anything, this, IsInSection, Fed, AtToken}
 use Rattle.tk_lines.specs.declared.reader.PieceReader.{PieceReader}
 use Rattle.tk_lines.specs.declared.place.Place.TheVariants as places
-use Rattle.tk_lines.proofs.KnownPlaces.{at_place, or_false}
+use Rattle.std.proofs.lemmas.Bool.{or_parts}
+use Rattle.tk_lines.proofs.KnownPlaces.{at_place}
 use Rattle.tk_lines.proofs.Sections.SectionSteps.{token_byte}
 use Rattle.tk_lines.proofs.NarrowPlaces.{token_narrow}
 use Rattle.tk_lines.proofs.LineSteps.{line_behind-byte}
@@ -23,7 +24,7 @@ abbrev pub IsSolid : List ℕ → Type 0
 IsSolid bs = All (λ b. (is_blank b || b == 10) ≡ false) bs
 
 solid_head : (b : ℕ) (bs : List ℕ) → IsSolid (b ∷ bs) → (is_blank b ≡ false) × (eqb b LF ≡ false)
-solid_head b bs all = or_false _ _ (All-head (λ b. (is_blank b || b == 10) ≡ false) b bs all)
+solid_head b bs all = or_parts _ _ (All-head (λ b. (is_blank b || b == 10) ≡ false) b bs all)
 
 solid_tail : (b : ℕ) (bs : List ℕ) → IsSolid (b ∷ bs) → IsSolid bs
 solid_tail b bs all = All-tail (λ b. (is_blank b || b == 10) ≡ false) b bs all

@@ -3,7 +3,8 @@ use Rattle.std.proofs.lemmas.List.{length-append}
 use Rattle.tk_words.specs.MinusOne.{begins_minus_one}
 use Rattle.tk_words.proofs.NumberLaws.MinusOne.{begins_short}
 use Rattle.tk_lines.specs.declared.place.Place.TheVariants as places
-use Rattle.tk_lines.proofs.KnownPlaces.{at_place, or_false}
+use Rattle.std.proofs.lemmas.Bool.{or_parts}
+use Rattle.tk_lines.proofs.KnownPlaces.{at_place}
 use Rattle.tk_lines.proofs.Sections.SectionSteps.{run_more}
 use Rattle.tk_lines.proofs.Endings.MinusOneSteps.{after_byte}
 use Rattle.tk_lines.proofs.Endings.AfterMinusOne.{shown_later}
@@ -28,7 +29,7 @@ begins_minus_one-requires g c =
 pub returns-then-begins_minus_one : goal.returns-then-begins_minus_one
 returns-then-begins_minus_one g c = λ before fed.
     let at = at_place (places.MinusOne c.args.on_line) c.requires.place fed in
-    let solid = or_false _ _ c.requires.solid in
+    let solid = or_parts _ _ c.requires.solid in
     let begun = sym (c.begins_minus_one.ensures ∙ ap begins_minus_one c.push.ensures) ∙ c.if-begins_minus_one.true in
     rw (c.requires.place, c.push.ensures) (record {
       line = fed.line ∙ sym (line_behind-byte before c.args.byte solid.1);
@@ -41,7 +42,7 @@ returns-then-begins_minus_one g c = λ before fed.
 pub returns : goal.returns
 returns g c = λ before fed.
     let at = at_place (places.MinusOne c.args.on_line) c.requires.place fed in
-    let solid = or_false _ _ c.requires.solid in
+    let solid = or_parts _ _ c.requires.solid in
     let none = sym (c.begins_minus_one.ensures ∙ ap begins_minus_one c.push.ensures) ∙ c.if-begins_minus_one.false in
     rw c.fault.ensures
     (shown_later _ _ _ _ _ _ _ c.args.on_line at.0.0 at.0.1 solid.0 solid.1 none at.1)
