@@ -32,17 +32,21 @@ pub record LinesGrow (ls ms : List Line) : Type 0 where
   pub old : ls ≡ front ++ a_line number bytes false ∷ []
   pub new : ms ≡ front ++ a_line number (bytes ++ more) whole ∷ rest
 
-grow_front : (l : Line) (ls ms : List Line) → LinesGrow ls ms → LinesGrow (l ∷ ls) (l ∷ ms)
-grow_front l ls ms g = record {
-  front = l ∷ g.front;
-  number = g.number;
-  bytes = g.bytes;
-  more = g.more;
-  whole = g.whole;
-  rest = g.rest;
-  old = ap (λ (xs : List Line). l ∷ xs) g.old;
-  new = ap (λ (xs : List Line). l ∷ xs) g.new;
+grown : (front : List Line) (n : ℕ) (bs more : List ℕ) (w : Bool) (rest : List Line) →
+    LinesGrow (front ++ a_line n bs false ∷ []) (front ++ a_line n (bs ++ more) w ∷ rest)
+grown front n bs more w rest = record {
+  front = front;
+  number = n;
+  bytes = bs;
+  more = more;
+  whole = w;
+  rest = rest;
+  old = refl;
+  new = refl;
 }
+
+grow_front : (l : Line) (ls ms : List Line) → LinesGrow ls ms → LinesGrow (l ∷ ls) (l ∷ ms)
+grow_front l ls ms g = rw (g.old, g.new) (grown (l ∷ g.front) g.number g.bytes g.more g.whole g.rest)
 
 grow_onto : (b : ℕ) (ls ms : List Line) → LinesGrow ls ms → LinesGrow (onto_line b ls) (onto_line b ms)
 grow_onto b ls ms g = rw (g.old, g.new) (by_front g.front)
@@ -50,45 +54,18 @@ grow_onto b ls ms g = rw (g.old, g.new) (by_front g.front)
     by_front : (front : List Line) →
         LinesGrow (onto_line b (front ++ a_line g.number g.bytes false ∷ []))
         (onto_line b (front ++ a_line g.number (g.bytes ++ g.more) g.whole ∷ g.rest))
-    by_front [] =
-        record {
-          front = [];
-          number = g.number;
-          bytes = b ∷ g.bytes;
-          more = g.more;
-          whole = g.whole;
-          rest = g.rest;
-          old = refl;
-          new = refl;
-        }
+    by_front [] = grown [] g.number (b ∷ g.bytes) g.more g.whole g.rest
     by_front (l ∷ front) =
-        record {
-          front = record l { bytes = b ∷ l.bytes } ∷ front;
-          number = g.number;
-          bytes = g.bytes;
-          more = g.more;
-          whole = g.whole;
-          rest = g.rest;
-          old = refl;
-          new = refl;
-        }
+        grown (record l { bytes = b ∷ l.bytes } ∷ front) g.number g.bytes g.more g.whole g.rest
 
 pub lines_nothing : (e : Bool) (n : ℕ) → lines e n [] ≡ a_line n [] e ∷ []
 unfolding lines
 lines_nothing e n = refl
 
 pub lines_grow : (e : Bool) (bs more : List ℕ) (n : ℕ) → LinesGrow (lines false n bs) (lines e n (bs ++ more))
-lines_grow e [] more n = let k = first_line e n more in
-    record {
-      front = [];
-      number = n;
-      bytes = [];
-      more = k.bytes;
-      whole = k.whole;
-      rest = k.rest;
-      old = lines_nothing false n;
-      new = k.is;
-    }
+lines_grow e [] more n =
+    let k = first_line e n more in
+    rw (lines_nothing false n, k.is) (grown [] n [] k.bytes k.whole k.rest)
 lines_grow e (b ∷ bs) more n = by_lf (eqb b LF) refl (λ m. lines_grow e bs more m)
   where
     by_lf : (t : Bool) → eqb b LF ≡ t → ((m : ℕ) → LinesGrow (lines false m bs) (lines e m (bs ++ more))) →
@@ -130,97 +107,55 @@ pub record TokensGrow (ts us : List Token) : Type 0 where
 
 lasts_more : (ts us more : List Token) → Lasts ts us → Lasts ts (us ++ more)
 lasts_more [] us more h = tt
-lasts_more (t ∷ []) [] more h = absurd h
 lasts_more (t ∷ []) (u ∷ us) more h = h
-lasts_more (t ∷ s ∷ ts) us more h = absurd h
+lasts_more _ us more h = absurd h
+
+tokens_grown : (front last rest : List Token) → Lasts last rest → TokensGrow (front ++ last) (front ++ rest)
+tokens_grown front last rest h =
+    record { front = front; last = last; rest = rest; old = refl; new = refl; lasts = h }
 
 tokens_front : (t : Token) (ts us : List Token) → TokensGrow ts us → TokensGrow (t ∷ ts) (t ∷ us)
-tokens_front t ts us g =
-    record {
-      front = t ∷ g.front;
-      last = g.last;
-      rest = g.rest;
-      old = ap (λ (xs : List Token). t ∷ xs) g.old;
-      new = ap (λ (xs : List Token). t ∷ xs) g.new;
-      lasts = g.lasts;
-    }
+tokens_front t ts us g = rw (g.old, g.new) (tokens_grown (t ∷ g.front) g.last g.rest g.lasts)
 
 pub tokens_before : (xs ts us : List Token) → TokensGrow ts us → TokensGrow (xs ++ ts) (xs ++ us)
 tokens_before [] ts us g = g
 tokens_before (x ∷ xs) ts us g = tokens_front x (xs ++ ts) (xs ++ us) (tokens_before xs ts us g)
 
 pub tokens_behind : (ts us more : List Token) → TokensGrow ts us → TokensGrow ts (us ++ more)
-tokens_behind ts us more g = record {
-  front = g.front;
-  last = g.last;
-  rest = g.rest ++ more;
-  old = g.old;
-  new = ap (λ (xs : List Token). xs ++ more) g.new ∙ append_assoc g.front g.rest more;
-  lasts = lasts_more g.last g.rest more g.lasts;
-}
+tokens_behind ts us more g =
+    rw (g.old, g.new, append_assoc g.front g.rest more)
+    (tokens_grown g.front g.last (g.rest ++ more) (lasts_more g.last g.rest more g.lasts))
 
 tokens_onto : (b : ℕ) (ts us : List Token) → TokensGrow ts us → TokensGrow (onto_token b ts) (onto_token b us)
 tokens_onto b ts us g = rw (g.old, g.new) (by_front g.front g.last g.rest g.lasts)
   where
     by_front : (front last rest : List Token) → Lasts last rest →
         TokensGrow (onto_token b (front ++ last)) (onto_token b (front ++ rest))
-    by_front [] [] rest h =
-        record { front = []; last = []; rest = onto_token b rest; old = refl; new = refl; lasts = tt }
-    by_front [] (t ∷ []) [] h = absurd h
-    by_front [] (t ∷ []) (u ∷ rest) h = record {
-      front = [];
-      last = record t { bytes = b ∷ t.bytes } ∷ [];
-      rest = record u { bytes = b ∷ u.bytes } ∷ rest;
-      old = refl;
-      new = refl;
-      lasts =
-          record {
-            partial = h.partial;
-            some = refl;
-            line = h.line;
-            more = h.more;
-            bytes = ap (λ (xs : List ℕ). b
-                ∷ xs) h.bytes;
-          };
-    }
-    by_front [] (t ∷ s ∷ last) rest h = absurd h
-    by_front (x ∷ front) last rest h =
-        record {
-          front = record x { bytes = b ∷ x.bytes } ∷ front;
-          last = last;
-          rest = rest;
-          old = refl;
-          new = refl;
-          lasts = h;
-        }
+    by_front [] [] rest h = tokens_grown [] [] (onto_token b rest) tt
+    by_front [] (t ∷ []) (u ∷ rest) h =
+        tokens_grown [] (record t { bytes = b ∷ t.bytes } ∷ []) (record u { bytes = b ∷ u.bytes } ∷ rest) (record {
+          partial = h.partial;
+          some = refl;
+          line = h.line;
+          more = h.more;
+          bytes = ap (λ (xs : List ℕ). b ∷ xs) h.bytes;
+        })
+    by_front [] _ rest h = absurd h
+    by_front (x ∷ front) last rest h = tokens_grown (record x { bytes = b ∷ x.bytes } ∷ front) last rest h
 
 pub tokens_grow : (w : Bool) (n : ℕ) (bs x : List ℕ) → TokensGrow (tokens_of false n bs) (tokens_of w n (bs ++ x))
-tokens_grow w n [] x =
-    record { front = []; last = []; rest = tokens_of w n x; old = tokens_of-none false n; new = refl; lasts = tt }
+tokens_grow w n [] x = rw (tokens_of-none false n) (tokens_grown [] [] (tokens_of w n x) tt)
 tokens_grow w n (b ∷ []) x = by_blank (is_blank b) refl
   where
     by_blank : (t : Bool) → is_blank b ≡ t → TokensGrow (tokens_of false n (b ∷ [])) (tokens_of w n (b ∷ x))
     by_blank true h =
-        record {
-          front = [];
-          last = [];
-          rest = tokens_of w n (b ∷ x);
-          old = tokens_of-gap false n b [] h
-              ∙ tokens_of-none false n;
-          new = refl;
-          lasts = tt;
-        }
+        rw (tokens_of-gap false n b [] h, tokens_of-none false n) (tokens_grown [] [] (tokens_of w n (b ∷ x)) tt)
     by_blank false h =
         let t : Token = record { bytes = b ∷ []; line = n; whole = false } in
         let u = first_token w n b x h in
-        record {
-          front = [];
-          last = t ∷ [];
-          rest = record { bytes = b ∷ u.bytes; line = n; whole = u.whole } ∷ u.rest;
-          old = tokens_of-end false n b [] h refl ∙ ap (λ (ts : List Token). t ∷ ts) (tokens_of-none false n);
-          new = u.is;
-          lasts = record { partial = refl; some = refl; line = refl; more = u.bytes; bytes = refl };
-        }
+        rw (tokens_of-end false n b [] h refl, tokens_of-none false n, u.is)
+        (tokens_grown [] (t ∷ []) (record { bytes = b ∷ u.bytes; line = n; whole = u.whole } ∷ u.rest)
+        (record { partial = refl; some = refl; line = refl; more = u.bytes; bytes = refl }))
 tokens_grow w n (b ∷ c ∷ bs) x = by_blanks (is_blank b) refl (is_blank c) refl (tokens_grow w n (c ∷ bs) x)
   where
     by_blanks : (s : Bool) → is_blank b ≡ s → (t : Bool) → is_blank c ≡ t →
@@ -254,14 +189,7 @@ tokens_after w n tail x = by_rest (behind is_blank tail) refl
     by_rest [] e =
         let none : tokens_of false n (after_word tail) ≡ [] =
         ap (λ (y : List ℕ). tokens_of false n (without_colon_before y)) e ∙ tokens_of-none false n in
-        record {
-          front = [];
-          last = [];
-          rest = tokens_of w n (after_word (tail ++ x));
-          old = none;
-          new = refl;
-          lasts = tt;
-        }
+        rw none (tokens_grown [] [] (tokens_of w n (after_word (tail ++ x))) tt)
     by_rest (c ∷ cs) e = rw (after_more tail x c cs e) (tokens_grow w n (after_word tail) x)
 
 -- the tokens of lines
@@ -308,10 +236,10 @@ pub checked_grown : (limit : ℕ) (t u : Token) (tests tests' : List (Bool × Te
 checked_grown limit t u tests tests' y y' line k g h = ⊎_elim opens longs (open_or_long limit t u tests tests' g)
   where
     opens : checked limit t tests ≡ Some Open → or_else (checked limit u tests') y' ≡ Some (Fault line k)
-    opens o = absurd (let j = sym (ap (λ (x : Option Stop). or_else x y) o) ∙ h in cc)
+    opens o = absurd (let j = rw o at h in cc)
 
     longs : AreLong limit t u tests tests' → or_else (checked limit u tests') y' ≡ Some (Fault line k)
-    longs b = ap (λ (x : Option Stop). or_else x y') b.new ∙ sym (ap (λ (x : Option Stop). or_else x y) b.old) ∙ h
+    longs b = rw b.new (rw b.old at h)
 
 -- what is said of a stop, or of what comes after it
 pub stopped_kept : {V : Type 0} (s : Option Stop) (x x' : Option (Result V TextFault)) (a : Result V TextFault) →
