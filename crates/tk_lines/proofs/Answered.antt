@@ -15,20 +15,35 @@ use Rattle.tk_words.specs.MinusOne.{is_ending}
 use Rattle.tk_words.specs.TextLaws.{HasAnswers}
 use Rattle.tk_words.specs.Words.{keyword_of, role}
 use Rattle.tk_lines.specs.Lists.{list_entries, trailing_stop}
-use Rattle.tk_lines.specs.Pieces.{After, Clean, Trailing, Early, Piece, Stray, LongWord, OpenWord, Unknown, Header}
+use Rattle.tk_lines.specs.Pieces.{After, Clean, Piece, Stray, LongWord, OpenWord, Header}
 use Rattle.tk_lines.specs.Pieces.{Section, End, Extents, Stop, Open, Fault, Format, section_at, piece_by, piece_of}
 use Rattle.tk_lines.specs.Pieces.{pieces_at, covered, cut, end_token, first_at, checked, or_else, ended, stopped, judge}
 use Rattle.tk_lines.specs.Pieces.{decided_by}
 use Rattle.tk_lines.specs.Reader.FromMiddle.{ending}
 use Rattle.tk_lines.proofs.MiddleOfLine.{lines_cons}
 
+-- ---- what holds of all
+
+pub all_append : {X : Type 0} (P : X → Type 0) (xs ys : List X) → AllByRecursion P xs → AllByRecursion P ys →
+    AllByRecursion P (xs ++ ys)
+all_append P [] ys h k = k
+all_append P (x ∷ xs) ys h k = (h.0, all_append P xs ys h.1 k)
+
+pub all_taken : {X : Type 0} (P : X → Type 0) (k : ℕ) (xs : List X) → AllByRecursion P xs → AllByRecursion P (take k xs)
+all_taken P zero xs h = tt
+all_taken P (suc k) [] h = tt
+all_taken P (suc k) (x ∷ xs) h = (h.0, all_taken P k xs h.1)
+
 -- ---- lines and tokens that have ended
 
 abbrev pub AreWhole : List Line → Type 0
 AreWhole ls = AllByRecursion (λ (l : Line). l.whole ≡ true) ls
 
+abbrev IsWhole : Token → Type 0
+IsWhole t = t.whole ≡ true
+
 abbrev pub WholeTokens : List Token → Type 0
-WholeTokens ts = AllByRecursion (λ (t : Token). t.whole ≡ true) ts
+WholeTokens ts = AllByRecursion IsWhole ts
 
 onto_whole : (b : ℕ) (ls : List Line) → AreWhole ls → AreWhole (onto_line b ls)
 onto_whole b [] h = tt
@@ -62,10 +77,6 @@ whole_tokens_of n (b ∷ bs) = by_tests (is_blank b) (goes_on bs) (whole_tokens_
     by_tests false true h = onto_whole_token b (tokens_of true n bs) h
     by_tests false false h = (refl, h)
 
-whole_append : (xs ys : List Token) → WholeTokens xs → WholeTokens ys → WholeTokens (xs ++ ys)
-whole_append [] ys h k = k
-whole_append (x ∷ xs) ys h k = (h.0, whole_append xs ys h.1 k)
-
 whole_line_tokens : (w : Bool) (n : ℕ) (bs : List ℕ) → w ≡ true → WholeTokens (tokens_of w n bs)
 whole_line_tokens true n bs h = whole_tokens_of n bs
 whole_line_tokens false n bs h = absurd cc
@@ -73,13 +84,8 @@ whole_line_tokens false n bs h = absurd cc
 whole_tokens : (ls : List Line) → AreWhole ls → WholeTokens (tokens ls)
 whole_tokens [] h = tt
 whole_tokens (l ∷ ls) h =
-    whole_append (tokens_of l.whole l.number l.bytes) (tokens ls) (whole_line_tokens l.whole l.number l.bytes h.0)
-    (whole_tokens ls h.1)
-
-whole_taken : (k : ℕ) (ts : List Token) → WholeTokens ts → WholeTokens (take k ts)
-whole_taken zero ts h = tt
-whole_taken (suc k) [] h = tt
-whole_taken (suc k) (t ∷ ts) h = (h.0, whole_taken k ts h.1)
+    all_append IsWhole (tokens_of l.whole l.number l.bytes) (tokens ls)
+    (whole_line_tokens l.whole l.number l.bytes h.0) (whole_tokens ls h.1)
 
 pub whole_entries : (ts : List Token) → WholeTokens ts → WholeTokens (list_entries ts)
 unfolding list_entries
@@ -125,8 +131,7 @@ not_open_checked limit t tests h = by_tests (ltb limit (length t.bytes)) (not t.
 
 pub not_open_trailing : (after : After) → NotOpen (trailing_stop after)
 not_open_trailing Clean = tt
-not_open_trailing (Trailing line) = tt
-not_open_trailing (Early line whole) = tt
+not_open_trailing _ = tt
 
 pub some_stopped : {V : Type 0} (s : Option Stop) (x : Option (Result V TextFault)) → NotOpen s → IsSome x →
     IsSome (stopped s x)
@@ -146,17 +151,12 @@ IsClosed _ = Unit {0}
 abbrev AreClosed : List Piece → Type 0
 AreClosed ps = AllByRecursion IsClosed ps
 
-pub all_append : {X : Type 0} (P : X → Type 0) (xs ys : List X) → AllByRecursion P xs → AllByRecursion P ys →
-    AllByRecursion P (xs ++ ys)
-all_append P [] ys h k = k
-all_append P (x ∷ xs) ys h k = (h.0, all_append P xs ys h.1 k)
-
 module _ (extent : Extents) (before : List Piece) (l : Line) (ls : List Line) (whole : l.whole ≡ true)
     (rest : AreWhole ls) where
   closed_section : (word : Keyword) (toks : List Token) → WholeTokens toks →
       AreClosed (section_at extent before word l.number toks (end_token l ls))
   closed_section word toks h =
-      (whole_taken (extent before word toks).count toks h, by_eof (extent before word toks).at_eof)
+      (all_taken IsWhole (extent before word toks).count toks h, by_eof (extent before word toks).at_eof)
     where
       by_eof : (b : Bool) →
           AreClosed (cond b (End (get_or toks (extent before word toks).count (end_token l ls)).line true ∷ []) [])
@@ -167,7 +167,7 @@ module _ (extent : Extents) (before : List Piece) (l : Line) (ls : List Line) (w
   closed_by tail word BeginsHeader = (whole, tt)
   closed_by tail word BeginsSection =
       closed_section word (tokens_of l.whole l.number (after_word tail) ++ tokens ls)
-      (whole_append (tokens_of l.whole l.number (after_word tail)) (tokens ls)
+      (all_append IsWhole (tokens_of l.whole l.number (after_word tail)) (tokens ls)
       (whole_line_tokens l.whole l.number (after_word tail) whole) (whole_tokens ls rest))
   closed_by tail word EndsText = (refl, tt)
 
@@ -187,10 +187,9 @@ module _ (extent : Extents) (before : List Piece) (l : Line) (ls : List Line) (w
           (cond long (LongWord l.number ∷ [])
           (cond wait (OpenWord l.number ∷ [])
           (piece_of extent before l ls (behind is_word_byte (b ∷ bs)) (keyword_of (front is_word_byte (b ∷ bs)))))))
-      by_tests true long wait e = (tt, tt)
-      by_tests false true wait e = (tt, tt)
       by_tests false false true e = absurd cc
       by_tests false false false e = closed_of (behind is_word_byte (b ∷ bs)) (keyword_of (front is_word_byte (b ∷ bs)))
+      by_tests _ _ wait e = (tt, tt)
 
 closed_cut : (extent : Extents) (before : List Piece) (upto : ℕ) (ls : List Line) → AreWhole ls →
     AreClosed (cut extent before upto ls)
@@ -223,10 +222,7 @@ module _ {V : Type 0} (f : Format V) (answers : AnswersSections f) where
       IsSome (judge f before (ps ++ ending e))
   unfolding judge
   some_judged before [] e h k = some_end before e.line e.whole (f.at_end before) h
-  some_judged before (Stray line ∷ ps) e h k = refl
-  some_judged before (LongWord line ∷ ps) e h k = refl
   some_judged before (OpenWord line ∷ ps) e h k = absurd k.0
-  some_judged before (Unknown line ∷ ps) e h k = refl
   some_judged before (Header word value ∷ ps) e h k =
       some_stopped (checked 4096 value (f.header before word value.bytes))
       (judge f (before ++ Header word value ∷ []) (ps ++ ending e))
@@ -238,6 +234,7 @@ module _ {V : Type 0} (f : Format V) (answers : AnswersSections f) where
       (answers before word line toks after k.0)
       (some_judged (before ++ Section word line toks after ∷ []) ps e h k.1)
   some_judged before (End line whole ∷ ps) e h k = some_end before line whole (f.at_end before) k.0
+  some_judged before (_ ∷ ps) e h k = refl
 
   pub some_decided : HasAnswers (decided_by f)
   unfolding decided_by

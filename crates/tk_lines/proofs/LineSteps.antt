@@ -13,8 +13,8 @@ use Rattle.tk_words.specs.declared.fault.TextKind.TheVariants as kinds
 use Rattle.tk_words.specs.declared.fault.TextFault.{TextFault}
 use Rattle.tk_words.specs.Lex.{LF, Line, Token, is_blank, is_letter, is_word_byte, front, behind}
 use Rattle.tk_words.specs.Words.{keyword_of, role}
-use Rattle.tk_lines.specs.Pieces.{Piece, Extents, After, Stop, Fault, Header, first_at, pieces_at, piece_of, piece_by}
-use Rattle.tk_lines.specs.Pieces.{cut, Format, stop, judge, stopped, ended, decided_by}
+use Rattle.tk_lines.specs.Pieces.{Piece, Extents, After, Fault, Header, first_at, pieces_at, piece_of, piece_by}
+use Rattle.tk_lines.specs.Pieces.{cut, Format, stop, judge, ended, decided_by}
 use Rattle.tk_lines.specs.Reader.FromMiddle.{from_line}
 use Rattle.tk_words.specs.Texts.{line_behind}
 use Rattle.tk_lines.specs.Reader.Forms.{whole, a_header}
@@ -25,7 +25,7 @@ use Rattle.tk_lines.proofs.MiddleOfLine.{with_bytes, from_line-byte, from_line-b
 use Rattle.tk_lines.proofs.Sections.SectionEnds.{first_line}
 use Rattle.tk_lines.proofs.Headers.ByteRuns.{behind-all, front-all}
 use Rattle.tk_lines.proofs.Lines.{from_line-unknown, from_line-eof, from_line-section, from_line-long, from_line-header}
-use Rattle.tk_lines.proofs.Lines.{from_line-last, blank_letter}
+use Rattle.tk_lines.proofs.Lines.{from_line-last, blank_letter, differs}
 use Rattle.tk_lines.proofs.SamePlaces.{line_told}
 
 -- ---- lines of bytes
@@ -44,10 +44,8 @@ line_behind-LF bs = ap suc (sum_by-append is_lf bs (LF ∷ [])) ∙ omega arith
 piece_by-line : (extent : Extents) (before : List Piece) (l : Line) (x : List ℕ) (ls : List Line) (tail : List ℕ)
     (word : Keyword) (r : Role) →
     piece_by extent before (with_bytes l x) ls tail word r ≡ piece_by extent before l ls tail word r
-piece_by-line extent before l x ls tail word BeginsHeader = refl
 piece_by-line extent before l x [] tail word BeginsSection = refl
-piece_by-line extent before l x (k ∷ ls) tail word BeginsSection = refl
-piece_by-line extent before l x ls tail word EndsText = refl
+piece_by-line extent before l x _ tail word _ = refl
 
 piece_of-line : (extent : Extents) (before : List Piece) (l : Line) (x : List ℕ) (ls : List Line) (tail : List ℕ)
     (word : Option Keyword) →
@@ -253,22 +251,12 @@ module _ {V S : Type 0} (f : Format V) (H : S → List Piece → Type 0) (form :
         says_byte f LF bs _ _ a.at.same
         (λ e more. from_line-header f a.before a.at.upto held a.tail line a.at.lt a.at.is_word word a.at.word_is
         a.header e more (a.at.settled e (LF ∷ more) refl)
-        ∙ ap
-        (λ (x : Option Stop). stopped x
-        (from_line f (a.before ++ a_header word a.tail line) a.at.upto [] e (suc line) more)) a.none
-        ∙ ap (λ (n : ℕ). from_line f (a.before ++ a_header word a.tail line) a.at.upto [] e n more) (omega arith));
+        ∙ rw a.none (ap (λ (n : ℕ). from_line f (a.before ++ a_header word a.tail line) a.at.upto [] e n more)
+        (omega arith)));
   }
 
 pub not_LF : (b : ℕ) → is_word_byte b ≡ true → eqb b LF ≡ false
-not_LF b h = by_test (eqb b LF) refl
-  where
-    by_test : (t : Bool) → eqb b LF ≡ t → t ≡ false
-    by_test true is = let lf = eqb-true b LF is in absurd (let k = rw lf at h in cc)
-    by_test false is = refl
+not_LF b h = differs is_word_byte b LF h refl
 
 pub blank_not_LF : (b : ℕ) → is_blank b ≡ true → eqb b LF ≡ false
-blank_not_LF b h = by_test (eqb b LF) refl
-  where
-    by_test : (t : Bool) → eqb b LF ≡ t → t ≡ false
-    by_test true is = let lf = eqb-true b LF is in absurd (let k = rw lf at h in cc)
-    by_test false is = refl
+blank_not_LF b h = differs is_blank b LF h refl

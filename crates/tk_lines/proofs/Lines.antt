@@ -1,9 +1,9 @@
 -- What a line says whose word is known.
-use Rattle.std.proofs.Common.{◌≡◌, ℕ, suc, ◌<◌, Bool, true, false, cond, eqb, leb, ltb, not, ◌&&◌, ◌||◌, List, [], ◌∷◌}
+use Rattle.std.proofs.Common.{◌≡◌, ℕ, suc, ◌<◌, Bool, true, false, cond, eqb, leb, ltb, not, ◌&&◌, List, [], ◌∷◌}
 use Rattle.std.proofs.Common.{◌++◌, length, Option, Some, None, Result, Err, refl, sym, ap, subst, ◌∙◌, append_assoc}
 use Rattle.std.proofs.Common.{arith}
 use Rattle.std.proofs.lemmas.List.{append-nil, length-append}
-use Rattle.std.proofs.lemmas.Bool.{eqb-true, lt-leb, le-ltb, lt-ltb}
+use Rattle.std.proofs.lemmas.Bool.{eqb-true, lt-leb, le-ltb, lt-ltb, ne_eqb, true≢false}
 use Rattle.tk_words.specs.declared.keyword.Keyword.{Keyword}
 use Rattle.tk_words.specs.declared.keyword.Role.TheVariants.{BeginsHeader, BeginsSection, EndsText}
 use Rattle.tk_words.specs.declared.fault.TextKind.{TextKind}
@@ -90,14 +90,13 @@ word_ends_behind [] e n (b ∷ bs) h = by_lf (eqb b LF) refl
     by_lf false is = let k = first-byte e n b bs is in
         record { first = k; ends = record { begins = h; known = and_false (not k.whole) } }
 
+-- a byte with a property is none without it
+pub differs : (p : ℕ → Bool) (b c : ℕ) → p b ≡ true → p c ≡ false → eqb b c ≡ false
+differs p b c has lacks = ne_eqb b c (λ is. true≢false (sym has ∙ ap p is ∙ lacks))
+
 pub blank_letter : (b : ℕ) → is_letter b ≡ true → is_blank b ≡ false
-blank_letter b h = by_tests (eqb b 32) refl (eqb b 9) refl (eqb b 13) refl
-  where
-    by_tests : (s : Bool) → eqb b 32 ≡ s → (t : Bool) → eqb b 9 ≡ t → (c : Bool) → eqb b 13 ≡ c → (s || t || c) ≡ false
-    by_tests true p t q c r = let i : b ≡ 32 = eqb-true _ _ p in absurd (let k = rw i at h in cc)
-    by_tests false p true q c r = let i : b ≡ 9 = eqb-true _ _ q in absurd (let k = rw i at h in cc)
-    by_tests false p false q true r = let i : b ≡ 13 = eqb-true _ _ r in absurd (let k = rw i at h in cc)
-    by_tests false p false q false r = refl
+blank_letter b h =
+    rw (differs is_letter b 32 h refl, differs is_letter b 9 h refl, differs is_letter b 13 h refl) refl
 
 -- the pieces of a line whose word has ended
 pieces_at-word : (extent : Extents) (before : List Piece) (l : Line) (held y : List ℕ) (ls : List Line) → IsWord held

@@ -14,7 +14,7 @@ use Rattle.tk_words.specs.TextLaws.{StaysDecided}
 use Rattle.tk_words.specs.Words.{keyword_of, role}
 use Rattle.tk_words.proofs.Bools.{and_false}
 use Rattle.tk_lines.specs.Pieces.{After, Clean, Trailing, Piece, Stray, LongWord, OpenWord, Unknown, Header, Section}
-use Rattle.tk_lines.specs.Pieces.{End, Extent, Extents, Stop, Open, Format, after_tokens, section_at, last_line}
+use Rattle.tk_lines.specs.Pieces.{End, Extent, Extents, Open, Format, after_tokens, section_at, last_line}
 use Rattle.tk_lines.specs.Pieces.{piece_by, piece_of, pieces_at, covered, cut, end_token, end_piece, checked, stopped}
 use Rattle.tk_lines.specs.Pieces.{judge, decided_by}
 use Rattle.tk_lines.proofs.Growing.{a_line, AreLong, IsLonger, Lasts, TokensGrow, lines_grow, lines_nothing}
@@ -24,7 +24,9 @@ use Rattle.tk_lines.proofs.Headers.ByteRuns.{front_grows}
 use Rattle.tk_lines.proofs.MiddleOfLine.{behind-more, front-more, lines-byte, lines-LF}
 use Rattle.tk_lines.proofs.Sections.MiddleOfSection.{cut-blank, cut-covered, tokens_of-gap}
 use Rattle.tk_lines.proofs.Sections.SectionBytes.{first_token}
-use Rattle.tk_lines.proofs.Sections.SectionEnds.{From, from_append, last_line-append, tokens_of_from}
+use Rattle.tk_lines.proofs.Answered.{all_append}
+use Rattle.tk_lines.proofs.Sections.SectionEnds.{StandsFrom, From, from_weaker, last_line-append, last_line_from}
+use Rattle.tk_lines.proofs.Sections.SectionEnds.{tokens_of_from}
 use Rattle.tk_lines.proofs.Steady.{EndsOpen, IsSettled, IsSteady, TakesAll, settled_same}
 
 -- ---- the lines after a section's last token
@@ -54,20 +56,12 @@ rising_lines e (b ∷ bs) n = by_lf (eqb b LF) refl (λ m. rising_lines e bs m)
         (omega arith, rising_weaker n (suc n) (lines e (suc n) bs) (omega arith) (ih (suc n))))
     by_lf false is ih = rw (lines-byte e n b bs is) (rising_onto n b (lines e n bs) (ih n))
 
-from_weaker : (m n : ℕ) (ts : List Token) → m ≤ n → From n ts → From m ts
-from_weaker m n [] le h = tt
-from_weaker m n (t ∷ ts) le h = (omega (arith, le, h.0), from_weaker m n ts le h.1)
-
 rising_tokens : (n : ℕ) (ls : List Line) → Rising n ls → From n (tokens ls)
 rising_tokens n [] h = tt
 rising_tokens n (l ∷ ls) h =
     from_weaker n l.number (tokens (l ∷ ls)) h.0
-    (from_append l.number (tokens_of l.whole l.number l.bytes) (tokens ls) (tokens_of_from l.whole l.number l.bytes)
-    (rising_tokens l.number ls h.1))
-
-last_from : (n m : ℕ) (ts : List Token) → n ≤ m → From n ts → n ≤ last_line m ts
-last_from n m [] le h = le
-last_from n m (t ∷ ts) le h = last_from n t.line ts h.0 h.1
+    (all_append (StandsFrom l.number) (tokens_of l.whole l.number l.bytes) (tokens ls)
+    (tokens_of_from l.whole l.number l.bytes) (rising_tokens l.number ls h.1))
 
 -- the tokens of a line that is not blank reach it
 reached : (w : Bool) (n : ℕ) (bs : List ℕ) (m c : ℕ) (cs : List ℕ) → behind is_blank bs ≡ c ∷ cs →
@@ -82,7 +76,7 @@ reached w n (b ∷ bs) m c cs h = by_blank (is_blank b) refl (reached w n bs m c
         let u = first_token w n b bs k in
         let come : From n (record { bytes = b ∷ u.bytes; line = n; whole = u.whole } ∷ u.rest) =
         rw u.is at (tokens_of_from w n (b ∷ bs)) in
-        rw u.is (last_from n n u.rest (omega arith) come.1)
+        rw u.is (last_line_from n n u.rest (omega arith) come.1)
 
 cut_nothing : (extent : Extents) (before : List Piece) (upto : ℕ) → cut extent before upto [] ≡ []
 unfolding cut
@@ -104,7 +98,7 @@ cut_taken extent (l ∷ ls) k m before h =
     by_blank [] e rest = cut-blank extent before (last_line m (tokens (l ∷ ls))) l ls e ∙ rest
     by_blank (c ∷ cs) e rest =
         let le : l.number ≤ last_line (last_line m (tokens_of l.whole l.number l.bytes)) (tokens ls) =
-        last_from l.number (last_line m (tokens_of l.whole l.number l.bytes)) (tokens ls)
+        last_line_from l.number (last_line m (tokens_of l.whole l.number l.bytes)) (tokens ls)
         (reached l.whole l.number l.bytes m c cs e) (rising_tokens l.number ls h.1) in
         cut-covered extent before (last_line m (tokens (l ∷ ls))) l ls (omega (arith, le, last)) ∙ rest
 
@@ -212,25 +206,13 @@ module _ {V : Type 0} (f : Format V) (steady : IsSteady f) (a : Result V TextFau
             stopped (checked 4096 u (f.header before word u.bytes))
             (judge f (before ++ Header word u ∷ []) (cut f.extent (before ++ Header word u ∷ []) upto ms
             ++ others)) ≡ Some a
-        opens o = absurd (
-            let j =
-            sym (ap
-            (λ (x : Option Stop). stopped x
-            (judge f (before ++ Header word v ∷ []) (cut f.extent (before ++ Header word v ∷ []) upto ls
-            ++ End n false ∷ []))) o) ∙ h in cc)
+        opens o = absurd (let j = rw o at h in cc)
 
         longs : AreLong 4096 v u (f.header before word v.bytes) (f.header before word u.bytes)
             → stopped (checked 4096 u (f.header before word u.bytes))
             (judge f (before ++ Header word u ∷ []) (cut f.extent (before ++ Header word u ∷ []) upto ms
             ++ others)) ≡ Some a
-        longs b =
-            ap (λ (x : Option Stop). stopped x
-            (judge f (before ++ Header word u ∷ []) (cut f.extent (before ++ Header word u ∷ []) upto ms
-            ++ others))) b.new
-            ∙ sym
-            (ap (λ (x : Option Stop). stopped x
-            (judge f (before ++ Header word v ∷ []) (cut f.extent (before ++ Header word v ∷ []) upto ls
-            ++ End n false ∷ []))) b.old) ∙ h
+        longs b = rw b.new (rw b.old at h)
 
     -- a section that stays
     moves_same : (word : Keyword) (first : ℕ) (ts : List Token) (after : After) (line : ℕ) (t : Bool)

@@ -1,12 +1,12 @@
 -- Where a token after the -1 ends.
 use Rattle.std.proofs.Common.{◌≡◌, ℕ, ◌+◌, ◌<◌, Bool, true, false, cond, eqb, leb, not, ◌&&◌, ◌||◌, List, [], ◌∷◌, ◌++◌}
-use Rattle.std.proofs.Common.{length, Option, Some, None, Err, refl, ap, subst, ◌∙◌, append_assoc, arith}
+use Rattle.std.proofs.Common.{length, Some, None, Err, refl, ap, ◌∙◌, append_assoc, arith}
 use Rattle.std.proofs.lemmas.List.{append-nil, length-append}
-use Rattle.std.proofs.lemmas.Bool.{eq-eqb, lt-leb, le-leb}
+use Rattle.std.proofs.lemmas.Bool.{lt-leb, le-leb}
 use Rattle.tk_words.specs.declared.keyword.Keyword.{Keyword}
 use Rattle.tk_words.specs.declared.fault.TextKind.TheVariants as kinds
-use Rattle.tk_words.specs.Lex.{Token, integer, tokens, lines, is_empty, is_blank, is_letter, LF, IsUnbroken}
-use Rattle.tk_lines.specs.Pieces.{Piece, Clean, Trailing, Stop, Fault, Extent, Format, last_line, cut, judge, stopped}
+use Rattle.tk_words.specs.Lex.{Token, integer, tokens, lines, is_blank, is_letter, LF, IsUnbroken}
+use Rattle.tk_lines.specs.Pieces.{Piece, Clean, Format, last_line, cut, judge}
 use Rattle.tk_lines.specs.Pieces.{decided_by}
 use Rattle.tk_lines.specs.Reader.FromMiddle.{prepend, from_line, in_section, goes, new_pieces}
 use Rattle.tk_words.specs.MinusOne.{is_minus_one, one_more, begins_minus_one}
@@ -14,8 +14,9 @@ use Rattle.tk_lines.specs.Reader.Forms.{whole, Closed, EndsWithMinusOne, a_secti
 use Rattle.tk_lines.specs.Reader.Places.{Next, Within, anything, this, a_gap, DecidesIf, AtClose, AtAfter}
 use Rattle.tk_words.proofs.Bools.{and_false}
 use Rattle.tk_lines.proofs.Sections.MiddleOfSection.{run_head}
-use Rattle.tk_lines.proofs.Sections.SectionEnds.{first_line, take_whole, in_section-closed}
-use Rattle.tk_lines.proofs.Sections.SectionBytes.{in_section-token, front_token, get_behind, split_at}
+use Rattle.tk_lines.proofs.Sections.SectionEnds.{first_line, in_section-closed, last_line-append, alone_clean}
+use Rattle.tk_lines.proofs.Sections.SectionEnds.{alone_trailing, alone_extent}
+use Rattle.tk_lines.proofs.Sections.SectionBytes.{in_section-token, in_section-another, front_token, split_at}
 use Rattle.tk_lines.proofs.Endings.TextEnds.{at_none, tokens_of-open, get_end, take_all}
 use Rattle.tk_words.proofs.NumberLaws.MinusOne.{begins_minus, no_more, no_more_with_one, other_begins}
 use Rattle.tk_lines.proofs.Endings.MinusOneSteps.{after_byte}
@@ -37,10 +38,6 @@ module _ {V S : Type 0} (f : Format V) (H : S → List Piece → Type 0) (next :
     trailing = a.ends.trailing (whole held line ∷ []);
   }
 
-  last_of : (xs : List Token) (m : ℕ) (t : Token) → last_line m (xs ++ t ∷ []) ≡ t.line
-  last_of [] m t = refl
-  last_of (x ∷ xs) m t = last_of xs x.line t
-
   pub one_ends : is_minus_one (integer held) ≡ true → AtClose f H next form line bs
   one_ends minus = let closed = one_closed minus in record {
     before = a.before;
@@ -49,46 +46,11 @@ module _ {V S : Type 0} (f : Format V) (H : S → List Piece → Type 0) (next :
     toks = a.toks ++ whole held line ∷ [];
     holds = a.holds (whole held line ∷ []);
     closed = closed;
-    last = last_of a.toks a.first (whole held line);
+    last = last_line-append a.first a.toks (whole held line ∷ []);
     same = λ e more n. a.same e more n
         ∙ in_section-token f a.before a.word a.first a.toks held e line more run (within e more n)
         (λ rest. rw (closed.extent rest) (omega arith));
   }
-
-module _ {V : Type 0} (f : Format V) (before : List Piece) (word : Keyword) (n0 : ℕ) (toks : List Token) (held : List ℕ)
-    (e : Bool) (n : ℕ) (bs : List ℕ) (run : IsUnbroken held) where
-  -- a token on the line of the section's last one
-  in_section-another : last_line n0 toks ≡ n
-      → ((line : ℕ) → f.section before word n0 toks (Trailing line) ≡ Some (Fault line kinds.TrailingData))
-      → f.extent before word
-      (toks ++ tokens (prepend held (lines e n bs))) ≡ record { count = length toks; closed = true; at_eof = false }
-      → in_section f before word n0 toks held e n bs ≡ Some (Err (record { line = n; kind = kinds.TrailingData }))
-  unfolding in_section goes new_pieces judge
-  in_section-another last trailing extent =
-      let k = first_line e n bs in
-      let u = front_token k.whole n held k.bytes run in
-      let t : Token = record { bytes = held ++ u.bytes; line = n; whole = u.whole } in
-      let is : tokens (prepend held (lines e n bs)) ≡ t ∷ (u.rest ++ tokens k.rest) = rw (k.is, u.is) refl in
-      let ext : f.extent before word
-      (toks ++ t ∷ (u.rest ++ tokens k.rest)) ≡ record { count = length toks; closed = true; at_eof = false } =
-      rw is at extent in
-      let one : eqb n n ≡ true = eq-eqb n n refl in
-      let full : is_empty (held ++ u.bytes) ≡ false = run_full held u.bytes run in
-      rw (
-        k.is,
-        u.is,
-        ext,
-        take_whole toks (t ∷ (u.rest ++ tokens k.rest)),
-        get_behind toks,
-        last,
-        one,
-        full,
-        trailing,
-      ) refl
-    where
-      run_full : (xs ys : List ℕ) → IsUnbroken xs → is_empty (xs ++ ys) ≡ false
-      run_full [] ys h = absurd h
-      run_full (x ∷ xs) ys h = refl
 
 -- a line of its own that begins with no letter
 module _ {V : Type 0} (f : Format V) (before : List Piece) (upto : ℕ) (e : Bool) (n : ℕ) (bs : List ℕ)
@@ -107,30 +69,15 @@ module _ {V S : Type 0} (f : Format V) (H : S → List Piece → Type 0) (next :
     (held bs : List ℕ) (run : IsUnbroken held) (other : begins_word held ≡ false)
     (none : (e : Bool) (more : List ℕ) → next e more ≡ true → one_more (tokens (prepend held (lines e line more))) ≡ 0)
   where
-    as_before : (a_toks : List Token) (k : ℕ) → k ≡ 0 →
-        ◌≡◌ {A = Extent} (record { count = length a_toks + k; closed = true; at_eof = false })
-        (record { count = length a_toks; closed = true; at_eof = false })
-    as_before a_toks k h = ap (λ (j : ℕ). record { count = j; closed = true; at_eof = false }) (omega (arith, h))
-
     pub one_other : (o : Bool) → AtAfter f H next form line o held bs →
         DecidesIf f next bs (Err (record { line = line; kind = kinds.TrailingData }))
     one_other true a e more n =
         a.same e more n ∙ in_section-another f a.before a.word a.first a.toks held e line more run a.last
-        (λ l. subst
-        (λ (ts : List Token). f.section a.before a.word a.first ts (Trailing l) ≡ Some (Fault l kinds.TrailingData))
-        (append-nil a.toks) (a.ends.trailing [] l))
-        (a.ends.extent (tokens (prepend held (lines e line more))) ∙ as_before a.toks _ (none e more n))
+        (alone_trailing a.ends) (alone_extent a.ends _ (none e more n))
     one_other false a e more n =
-        let clean : f.section a.before a.word a.first a.toks Clean ≡ None =
-        subst (λ (ts : List Token). f.section a.before a.word a.first ts Clean ≡ None) (append-nil a.toks)
-        (a.ends.clean []) in
         a.same e more n
         ∙ in_section-closed f a.before a.word a.first a.toks held e line more a.last
-        (a.ends.extent (tokens (prepend held (lines e line more))) ∙ as_before a.toks _ (none e more n))
-        ∙ ap
-        (λ (x : Option Stop). stopped x
-        (from_line f (a.before ++ a_section a.word a.first a.toks Clean) (last_line a.first a.toks) held e line more))
-        clean
+        (alone_extent a.ends _ (none e more n)) (alone_clean a.ends)
         ∙ from_line-run f (a.before ++ a_section a.word a.first a.toks Clean) (last_line a.first a.toks) e line more
         a.last held run other
 
@@ -197,7 +144,7 @@ module _ {V S : Type 0} (f : Format V) (H : S → List Piece → Type 0) (form :
       ∙ rw begun
       (ap (λ (k : ℕ). record { count = k; closed = true; at_eof = false })
       (omega (arith, length-append toks (t ∷ [])))) in
-      let last : last_line n0 (toks ++ t ∷ []) ≡ line = last_is_line toks n0 t in
+      let last : last_line n0 (toks ++ t ∷ []) ≡ line = last_line-append n0 toks (t ∷ []) in
       let clean : f.section before word n0 (toks ++ t ∷ []) Clean ≡ None = ends.clean (t ∷ []) in
       rw (
         append-nil held,
@@ -211,10 +158,6 @@ module _ {V S : Type 0} (f : Format V) (H : S → List Piece → Type 0) (form :
         eq-leb line,
       ) refl
     where
-      last_is_line : (xs : List Token) (m : ℕ) (t : Token) → last_line m (xs ++ t ∷ []) ≡ t.line
-      last_is_line [] m t = refl
-      last_is_line (x ∷ xs) m t = last_is_line xs x.line t
-
       eq-leb : (n : ℕ) → leb n n ≡ true
       eq-leb n = le-leb _ _ (omega arith)
 

@@ -1,35 +1,31 @@
 -- What a byte does after the -1 that ends a section.
 use Rattle.std.proofs.Common.{◌≡◌, ℕ, ◌+◌, ◌<◌, Bool, true, false, cond, eqb, not, ◌&&◌, ◌||◌, List, [], ◌∷◌, ◌++◌}
-use Rattle.std.proofs.Common.{length, Option, Some, None, Err, refl, ap, subst, ◌∙◌, arith}
+use Rattle.std.proofs.Common.{Err, refl, ap, subst, ◌∙◌, arith}
 use Rattle.std.proofs.lemmas.List.{append-nil}
-use Rattle.std.proofs.lemmas.Bool.{eqb-true}
 use Rattle.tk_words.specs.declared.keyword.Keyword.{Keyword}
 use Rattle.tk_words.specs.declared.fault.TextKind.TheVariants as kinds
 use Rattle.tk_words.specs.Lex.{LF, Token, tokens, lines, is_blank, is_letter, IsUnbroken}
-use Rattle.tk_lines.specs.Pieces.{Piece, Clean, Trailing, Stop, Fault, Format, last_line, stopped}
-use Rattle.tk_lines.specs.Reader.FromMiddle.{prepend, from_line, in_section}
+use Rattle.tk_lines.specs.Pieces.{Piece, Clean, Format, last_line}
+use Rattle.tk_lines.specs.Reader.FromMiddle.{prepend, in_section}
 use Rattle.tk_words.specs.MinusOne.{one_more}
 use Rattle.tk_lines.specs.Reader.Forms.{whole, EndsWithMinusOne, a_section}
 use Rattle.tk_lines.specs.Reader.Places.{Next, Within, anything, this, a_gap, DecidesIf, AtLine, AtToken, AtAfter}
 use Rattle.tk_lines.specs.Reader.Places.{IsLastLine}
 use Rattle.tk_lines.proofs.Sections.MiddleOfSection.{in_section-byte, in_section-next}
-use Rattle.tk_lines.proofs.Sections.SectionEnds.{in_section-closed, first_line}
-use Rattle.tk_lines.proofs.Sections.SectionBytes.{in_section-drop, in_section-trailing, first_token}
+use Rattle.tk_lines.proofs.Sections.SectionEnds.{in_section-closed, first_line, last_line-append, alone_clean}
+use Rattle.tk_lines.proofs.Sections.SectionEnds.{alone_trailing, alone_extent}
+use Rattle.tk_lines.proofs.Sections.SectionBytes.{in_section-drop, in_section-another, first_token}
 use Rattle.tk_lines.proofs.LineSteps.{says_byte}
 use Rattle.tk_lines.proofs.SamePlaces.{after_told}
-use Rattle.tk_lines.proofs.Lines.{blank_letter}
-use Rattle.tk_lines.proofs.Sections.SectionSteps.{same_now, last_is}
+use Rattle.tk_lines.proofs.Lines.{blank_letter, differs}
+use Rattle.tk_lines.proofs.Sections.SectionSteps.{same_now}
 use Rattle.tk_words.proofs.NumberLaws.MinusOne.{other_integer}
 
 letter_more : (b n : ℕ) (y : List ℕ) (w : Bool) (more : List Token) → is_letter b ≡ true →
     one_more (record { bytes = b ∷ y; line = n; whole = w } ∷ more) ≡ 0
-letter_more b n y w more h = let other = no_minus (eqb b 45) refl in
+letter_more b n y w more h = let other = differs is_letter b 45 h refl in
     rw (other_integer b y other, other_integer b (y ++ 49 ∷ []) other) (by_whole w)
   where
-    no_minus : (t : Bool) → eqb b 45 ≡ t → eqb b 45 ≡ false
-    no_minus true is = let minus = eqb-true b 45 is in absurd (let k = rw minus at h in cc)
-    no_minus false is = is
-
     by_whole : (w : Bool) → ◌≡◌ {A = ℕ} (cond ((w && false) || (not w && (false || false))) 1 0) 0
     by_whole true = refl
     by_whole false = refl
@@ -61,22 +57,19 @@ module _ {V S : Type 0} (f : Format V) (H : S → List Piece → Type 0) (form :
       (says_byte f b bs _ _ a.same
       (λ e more. in_section-byte f a.before a.word a.first a.toks pre e line b more other))
 
-  clean_none : (a : AtAfter f H (this b) form line false [] bs) → f.section a.before a.word a.first a.toks Clean ≡ None
-  clean_none a = subst (λ (ts : List Token). f.section a.before a.word a.first ts Clean ≡ None) (append-nil a.toks)
-      (a.ends.clean [])
+  letter_none : is_letter b ≡ true → (e : Bool) (more : List ℕ) →
+      one_more (tokens (prepend (b ∷ []) (lines e line more))) ≡ 0
+  letter_none letter e more =
+      let k = first_line e line more in
+      let u = first_token k.whole line b k.bytes (blank_letter b letter) in
+      rw (k.is, u.is) (letter_more b line u.bytes u.whole (u.rest ++ tokens k.rest) letter)
 
   pub after_trailing : eqb b LF ≡ false → is_letter b ≡ true → AtAfter f H (this b) form line true [] bs →
       DecidesIf f anything (bs ++ b ∷ []) (Err (record { line = line; kind = kinds.TrailingData }))
   after_trailing other letter a =
       says_byte f b bs _ _ a.same (λ e more. in_section-byte f a.before a.word a.first a.toks [] e line b more other ∙
-      in_section-trailing f a.before a.word a.first a.toks e line more b [] (blank_letter b letter) a.last
-      (λ l. subst
-      (λ (ts : List Token). f.section a.before a.word a.first ts (Trailing l) ≡ Some (Fault l kinds.TrailingData))
-      (append-nil a.toks) (a.ends.trailing [] l))
-      (λ w y rest. a.ends.extent (record { bytes = b ∷ y; line = line; whole = w } ∷ rest)
-      ∙ ap (λ (k : ℕ). record { count = length a.toks + k; closed = true; at_eof = false })
-      (letter_more b line y w rest letter)
-      ∙ ap (λ (k : ℕ). record { count = k; closed = true; at_eof = false }) (omega arith)))
+      in_section-another f a.before a.word a.first a.toks (b ∷ []) e line more (blank_letter b letter) a.last
+      (alone_trailing a.ends) (alone_extent a.ends _ (letter_none letter e more)))
 
   -- a letter on a later line
   pub after_word : eqb b LF ≡ false → is_letter b ≡ true → AtAfter f H (this b) form line false [] bs →
@@ -89,28 +82,9 @@ module _ {V S : Type 0} (f : Format V) (H : S → List Piece → Type 0) (form :
         (a.holds []);
     same =
         says_byte f b bs _ _ a.same (λ e more. in_section-byte f a.before a.word a.first a.toks [] e line b more other ∙
-        in_section-closed f a.before a.word a.first a.toks (b ∷ []) e line more a.last (extent e more)
-        ∙ ap
-        (λ (x : Option Stop). stopped x
-        (from_line f (a.before ++ a_section a.word a.first a.toks Clean) (last_line a.first a.toks) (b ∷ []) e line
-        more)) (clean_none a));
+        in_section-closed f a.before a.word a.first a.toks (b ∷ []) e line more a.last
+        (alone_extent a.ends _ (letter_none letter e more)) (alone_clean a.ends));
   }
-    where
-      extent : (e : Bool) (more : List ℕ) →
-          f.extent a.before a.word
-          (a.toks ++ tokens (prepend (b ∷ []) (lines e line more))) ≡ record {
-            count = length a.toks;
-            closed = true;
-            at_eof = false;
-          }
-      extent e more =
-          let k = first_line e line more in
-          let u = first_token k.whole line b k.bytes (blank_letter b letter) in
-          let none : one_more (tokens (prepend (b ∷ []) (lines e line more))) ≡ 0 =
-          rw (k.is, u.is) (letter_more b line u.bytes u.whole (u.rest ++ tokens k.rest) letter) in
-          a.ends.extent (tokens (prepend (b ∷ []) (lines e line more)))
-          ∙ ap (λ (k : ℕ). record { count = length a.toks + k; closed = true; at_eof = false }) none
-          ∙ ap (λ (k : ℕ). record { count = k; closed = true; at_eof = false }) (omega arith)
 
 -- a token that ends a list
 module _ {V S : Type 0} (f : Format V) (W : S → List Piece → Keyword → ℕ → List Token → Type 0) (next : Next) (form : S)
@@ -128,6 +102,6 @@ module _ {V S : Type 0} (f : Format V) (W : S → List Piece → Keyword → ℕ
     toks = a.toks ++ whole held line ∷ [];
     holds = holds;
     ends = ends;
-    last = last_is f W next form line held bs within run a a.toks a.first (whole held line);
+    last = last_line-append a.first a.toks (whole held line ∷ []);
     same = same_now f W next form line held bs within run a (λ more. rw (ends.extent more) (omega arith));
   }

@@ -10,19 +10,19 @@ use Rattle.tk_lines.specs.declared.reader.PieceReader.{PieceReader}
 use Rattle.tk_lines.specs.declared.place.Place.{Place}
 use Rattle.tk_lines.specs.declared.place.Place.TheVariants as places
 use Rattle.tk_words.specs.Lex.{Line, Token, lines, is_word_byte}
-use Rattle.tk_lines.specs.Pieces.{Piece, Clean, Early, Fault, Stop, Format, cut, judge, end_piece, stopped, ended}
+use Rattle.tk_lines.specs.Pieces.{Piece, Clean, Early, Fault, Format, cut, judge, end_piece, stopped, ended}
 use Rattle.tk_lines.specs.Pieces.{decided_by}
 use Rattle.tk_lines.specs.Reader.FromMiddle.{from_line}
 use Rattle.tk_words.specs.Texts.{cause_of}
 use Rattle.tk_lines.specs.Reader.Forms.{Promise, a_header, a_section}
-use Rattle.tk_lines.specs.Reader.Places.{Within, anything, no_word, a_gap, a_line_end, at_end, DecidesIf, AtLine}
+use Rattle.tk_lines.specs.Reader.Places.{Next, Within, anything, no_word, a_gap, a_line_end, at_end, DecidesIf, AtLine}
 use Rattle.tk_lines.specs.Reader.Places.{AtTail}
 use Rattle.tk_lines.specs.Reader.Places.{AtValue, AtBegin, AtToken, AtClose, AtAfter, AtPlace, HeaderTaken, AtEnd, Fed}
 use Rattle.tk_lines.specs.Reader.Steps.{EndsPlace, IsSettled, IsAnswered, IsFaultWith, Waits}
 use Rattle.tk_words.proofs.Told.{told_of}
 use Rattle.tk_lines.proofs.MiddleOfLine.{prepend-nil}
 use Rattle.tk_lines.proofs.Lines.{word_ends_behind, from_line-last}
-use Rattle.tk_lines.proofs.Sections.SectionEnds.{First}
+use Rattle.tk_lines.proofs.Sections.SectionEnds.{First, alone_clean, alone_extent}
 use Rattle.tk_lines.proofs.Sections.SectionBytes.{from_line-tokens, first_same, plain_after, plain}
 use Rattle.tk_lines.proofs.Endings.TextEnds.{at_none, from_line-end, in_section-end, in_section-shut, open_start}
 use Rattle.tk_lines.proofs.Endings.TextEnds.{open_word, open_value_law, open_gap, open_token, open_close, open_after}
@@ -31,24 +31,18 @@ use Rattle.tk_lines.proofs.Sections.SectionSteps.{begin_plain}
 
 -- ---- the end of the bytes ends a word, a token and a line
 
-at_end_absurd : (e : Bool) (b : ℕ) (more : List ℕ) (x : Bool) → at_end e (b ∷ more) ≡ true → x ≡ true
-at_end_absurd e b more x n = absurd cc
+end_within : (other : Next) → ((e : Bool) → e ≡ true → other e [] ≡ true) → Within at_end other
+end_within other h e [] n = h e n
+end_within other h e (b ∷ more) n = absurd cc
 
 pub end_in_gap : Within at_end a_gap
-end_in_gap e [] n = n
-end_in_gap e (b ∷ more) n = at_end_absurd e b more _ n
+end_in_gap = end_within a_gap (λ e n. n)
 
 pub end_in_no_word : Within at_end no_word
-end_in_no_word e [] n = n
-end_in_no_word e (b ∷ more) n = at_end_absurd e b more _ n
+end_in_no_word = end_within no_word (λ e n. n)
 
 pub end_in_line_end : Within at_end a_line_end
-end_in_line_end e [] n = n
-end_in_line_end e (b ∷ more) n = at_end_absurd e b more _ n
-
-end_in_plain : Within at_end plain
-end_in_plain e [] n = n
-end_in_plain e (b ∷ more) n = at_end_absurd e b more _ n
+end_in_line_end = end_within a_line_end (λ e n. n)
 
 -- the end of the bytes ends what is open at a place
 pub end_closes : (place : Place) → EndsPlace at_end place
@@ -89,10 +83,7 @@ module _ {V S : Type 0} (f : Format V) (H : S → List Piece → Type 0)
     before = a.before ++ a_section a.word a.first a.toks Clean;
     holds = a.holds;
     same = ended_by f bs _ (a.same true [] refl)
-        ∙ in_section-shut f a.before true line a.word a.first a.toks
-        (subst (λ (ts : List Token). f.extent a.before a.word
-        ts ≡ record { count = length a.toks; closed = true; at_eof = false }) (append-nil a.toks) (a.closed.extent []))
-        a.closed.clean;
+        ∙ in_section-shut f a.before true line a.word a.first a.toks (a.closed.extent []) a.closed.clean;
   }
 
   pub end_after : (o : Bool) → AtAfter f H at_end form line o [] bs → AtEnd f H form line bs
@@ -101,11 +92,7 @@ module _ {V S : Type 0} (f : Format V) (H : S → List Piece → Type 0)
     holds = subst (λ (ts : List Token). H form (a.before ++ a_section a.word a.first ts Clean)) (append-nil a.toks)
         (a.holds []);
     same = ended_by f bs _ (a.same true [] refl) ∙ in_section-shut f a.before true line a.word a.first a.toks
-        (subst (λ (ts : List Token). f.extent a.before a.word
-        ts ≡ record { count = length a.toks; closed = true; at_eof = false }) (append-nil a.toks) (a.ends.extent []
-        ∙ ap (λ (k : ℕ). record { count = k; closed = true; at_eof = false }) (omega arith)))
-        (subst (λ (ts : List Token). f.section a.before a.word a.first ts Clean ≡ None) (append-nil a.toks)
-        (a.ends.clean []));
+        (alone_extent a.ends [] refl) (alone_clean a.ends);
   }
 
   pub end_header : (held : List ℕ) (word : Keyword) → HeaderTaken f H at_end form line held word bs →
@@ -116,15 +103,12 @@ module _ {V S : Type 0} (f : Format V) (H : S → List Piece → Type 0)
     same = ended_by f bs _ (a.at.same true [] refl)
         ∙ from_line-last f a.before a.at.upto held a.tail line a.at.lt a.at.is_word word a.at.word_is a.header
         (subst (λ (x : List ℕ). no_word true x ≡ true) (append-nil a.tail) (a.at.settled true [] refl))
-        ∙ ap
-        (λ (x : Option Stop). stopped x
-        (ended f (a.before ++ a_header word a.tail line) line true
-        (f.at_end (a.before ++ a_header word a.tail line)))) a.none;
+        ∙ rw a.none refl;
   }
 
   -- after a section's word, its tokens begin
   pub end_begin : (held : List ℕ) → AtBegin f W at_end form line held bs → AtToken f W at_end form line [] bs
-  end_begin held = begin_plain end_in_plain
+  end_begin held = begin_plain (end_within plain (λ e n. n))
 
   section_ended : (a : AtToken f W at_end form line [] bs) →
       decided_by f true bs ≡ stopped (f.section a.before a.word a.first a.toks (Early line true))
@@ -139,21 +123,13 @@ module _ {V S : Type 0} (f : Format V) (H : S → List Piece → Type 0)
   end_section form' a holds none = record {
     before = a.before ++ a_section a.word a.first a.toks (Early line true);
     holds = holds;
-    same = section_ended a
-        ∙ ap
-        (λ (x : Option Stop). stopped x
-        (ended f (a.before ++ a_section a.word a.first a.toks (Early line true)) line true
-        (f.at_end (a.before ++ a_section a.word a.first a.toks (Early line true))))) none;
+    same = section_ended a ∙ rw none refl;
   }
 
   pub end_section_err : (k : TextKind) (a : AtToken f W at_end form line [] bs) →
       f.section a.before a.word a.first a.toks (Early line true) ≡ Some (Fault line k) →
       IsAnswered f bs (Err (record { line = line; kind = k }))
-  end_section_err k a stops = section_ended a
-      ∙ ap
-      (λ (x : Option Stop). stopped x
-      (ended f (a.before ++ a_section a.word a.first a.toks (Early line true)) line true
-      (f.at_end (a.before ++ a_section a.word a.first a.toks (Early line true))))) stops
+  end_section_err k a stops = section_ended a ∙ rw stops refl
 
 -- no value, no section and nothing else is open
 pub nothing_open : {V S : Type 0} (f : Format V) (H : S → List Piece → Type 0)
@@ -162,14 +138,12 @@ pub nothing_open : {V S : Type 0} (f : Format V) (H : S → List Piece → Type 
     (place ≡ places.Begin → ⊥) → (place ≡ places.Gap → ⊥) → AtPlace f H W at_end form line held scan bs place →
     AtEnd f H form line bs
 nothing_open f H W form line held scan bs places.Start settled v b g at = end_line f H W form line bs at
-nothing_open f H W form line held scan bs places.Word settled v b g at = absurd settled
 nothing_open f H W form line held scan bs (places.Value word) settled v b g at = absurd (v word refl)
 nothing_open f H W form line held scan bs places.Begin settled v b g at = absurd (b refl)
 nothing_open f H W form line held scan bs places.Gap settled v b g at = absurd (g refl)
-nothing_open f H W form line held scan bs places.Token settled v b g at = absurd settled
 nothing_open f H W form line held scan bs places.Close settled v b g at = end_close f H W form line bs at
 nothing_open f H W form line held scan bs (places.After o) settled v b g at = end_after f H W form line bs o at
-nothing_open f H W form line held scan bs (places.MinusOne o) settled v b g at = absurd settled
+nothing_open f H W form line held scan bs _ settled v b g at = absurd settled
 
 -- ---- where more may follow, nothing is decided
 
@@ -207,11 +181,7 @@ module _ {V S : Type 0} (f : Format V) (H : S → List Piece → Type 0)
       at_none f form line bs _ (a.at.same false [] refl)
       (from_line-tokens f a.before a.at.upto held a.tail false line [] a.at.lt a.at.is_word ends a.word a.at.word_is
       a.section [] k refl refl (plain_after a.tail k.bytes a.blank (rw none tt))
-      ∙ in_section-end f a.before false line a.word line [] a.goes.ends
-      ∙ ap
-      (λ (x : Option Stop). stopped x
-      (ended f (a.before ++ a_section a.word line [] (Early line false)) line false
-      (f.at_end (a.before ++ a_section a.word line [] (Early line false))))) (a.goes.early line))
+      ∙ in_section-end f a.before false line a.word line [] a.goes.ends ∙ rw (a.goes.early line) refl)
 
   pub open_place : (p : Place) → AtPlace f H W anything form line held scan bs p → decided_by f false bs ≡ None
   open_place places.Start a = open_start f form line bs H a

@@ -1,6 +1,6 @@
 -- What a text says where its bytes end.
 use Rattle.std.proofs.Common.{◌≡◌, ℕ, ◌<◌, ◌≤◌, Bool, true, false, cond, leb, ltb, not, List, [], ◌∷◌, ◌++◌, length}
-use Rattle.std.proofs.Common.{take, get_or, Option, Some, None, Result, refl, sym, ap, subst, ◌∙◌, arith}
+use Rattle.std.proofs.Common.{take, get_or, Option, Some, None, Result, refl, sym, ap, ◌∙◌, arith}
 use Rattle.std.proofs.lemmas.List.{append-nil, length-append}
 use Rattle.std.proofs.lemmas.Bool.{lt-leb, le-ltb}
 use Rattle.tk_words.specs.declared.keyword.Keyword.{Keyword}
@@ -8,13 +8,13 @@ use Rattle.tk_words.specs.declared.keyword.Role.TheVariants.{BeginsHeader}
 use Rattle.tk_words.specs.declared.fault.TextFault.{TextFault}
 use Rattle.tk_words.specs.Lex.{Token, lines, tokens_of, onto_token, is_word_byte, IsUnbroken}
 use Rattle.tk_words.specs.Words.{keyword_of, role}
-use Rattle.tk_lines.specs.Pieces.{Piece, End, Clean, Early, Format, last_line, cut, judge, stopped, ended, decided_by}
+use Rattle.tk_lines.specs.Pieces.{Piece, Clean, Early, Format, last_line, cut, judge, stopped, ended, decided_by}
 use Rattle.tk_lines.specs.Reader.FromMiddle.{from_line, in_section, goes, new_pieces}
 use Rattle.tk_lines.specs.Reader.Forms.{Goes, a_section}
 use Rattle.tk_lines.specs.Reader.Places.{anything, IsWord, AtLine, AtToken, AtClose, AtAfter}
 use Rattle.tk_words.proofs.Bools.{and_false}
 use Rattle.tk_lines.proofs.Sections.MiddleOfSection.{tokens_of-none, tokens_of-more, tokens_of-end, run_head}
-use Rattle.tk_lines.proofs.Sections.SectionEnds.{First, take_whole}
+use Rattle.tk_lines.proofs.Sections.SectionEnds.{First, take_whole, alone_clean, alone_extent}
 use Rattle.tk_lines.proofs.Headers.ByteRuns.{front-whole}
 use Rattle.tk_lines.proofs.Lines.{from_line-word, word_ends_behind, after_line, new_at, blank_letter}
 use Rattle.tk_lines.proofs.Sections.SectionBytes.{first_same, first_same_whole}
@@ -25,6 +25,10 @@ get_end (x ∷ xs) d = get_end xs d
 
 pub take_all : (xs : List Token) → take (length xs) xs ≡ xs
 take_all xs = ap (take (length xs)) (sym (append-nil xs)) ∙ take_whole xs []
+
+no_pieces : (t : Bool) → ◌≡◌ {A = List Piece} (cond t [] []) []
+no_pieces true = refl
+no_pieces false = refl
 
 module _ {V : Type 0} (f : Format V) (before : List Piece) (e : Bool) (n : ℕ) where
   -- between lines
@@ -40,41 +44,33 @@ module _ {V : Type 0} (f : Format V) (before : List Piece) (e : Bool) (n : ℕ) 
       (f.at_end (before ++ a_section word n0 toks (Early n e))))
   unfolding in_section goes new_pieces cut judge lines
   in_section-end word n0 toks extent =
-      rw (tokens_of-none e n, append-nil toks, extent, take_all toks, get_end toks) (by_cut _)
-    where
-      by_cut : (m : ℕ) →
-          stopped (f.section before word n0 toks (Early n e))
-          (judge f (before ++ a_section word n0 toks (Early n e)) ((cond (leb n m) [] [] ++ []) ++ End n e ∷ []))
-          ≡ stopped (f.section before word n0 toks (Early n e))
-          (ended f (before ++ a_section word n0 toks (Early n e)) n e
-          (f.at_end (before ++ a_section word n0 toks (Early n e))))
-      by_cut m = by_test (leb n m)
-        where
-          by_test : (t : Bool) →
-              stopped (f.section before word n0 toks (Early n e))
-              (judge f (before ++ a_section word n0 toks (Early n e)) ((cond t [] [] ++ []) ++ End n e ∷ [])) ≡ stopped
-              (f.section before word n0 toks (Early n e))
-              (ended f (before ++ a_section word n0 toks (Early n e)) n e
-              (f.at_end (before ++ a_section word n0 toks (Early n e))))
-          by_test true = refl
-          by_test false = refl
+      rw (
+        tokens_of-none e n,
+        append-nil toks,
+        extent,
+        take_all toks,
+        get_end toks,
+        no_pieces (leb n (last_line n0 toks)),
+      ) refl
 
   -- after a section
   pub in_section-shut : (word : Keyword) (n0 : ℕ) (toks : List Token)
-      → f.extent before word toks ≡ record { count = length toks; closed = true; at_eof = false }
+      → f.extent before word (toks ++ []) ≡ record { count = length toks; closed = true; at_eof = false }
       → f.section before word n0 toks Clean ≡ None
       → in_section f before word n0 toks [] e n [] ≡ ended f (before ++ a_section word n0 toks Clean) n e
       (f.at_end (before ++ a_section word n0 toks Clean))
   unfolding in_section goes new_pieces cut judge lines
   in_section-shut word n0 toks extent clean =
-      rw (tokens_of-none e n, append-nil toks, extent, take_all toks, get_end toks, and_false, clean)
-      (by_test (leb n (last_line n0 toks)))
-    where
-      by_test : (t : Bool) →
-          judge f (before ++ a_section word n0 toks Clean) ((cond t [] [] ++ []) ++ End n e ∷ []) ≡ ended f
-          (before ++ a_section word n0 toks Clean) n e (f.at_end (before ++ a_section word n0 toks Clean))
-      by_test true = refl
-      by_test false = refl
+      rw (
+        tokens_of-none e n,
+        extent,
+        append-nil toks,
+        take_all toks,
+        get_end toks,
+        and_false,
+        clean,
+        no_pieces (leb n (last_line n0 toks)),
+      ) refl
 
 -- ---- where more may follow, nothing is decided
 
@@ -129,19 +125,12 @@ module _ {V S : Type 0} (f : Format V) (form : S) (line : ℕ) (bs : List ℕ) w
   pub open_close : (H : S → List Piece → Type 0) → AtClose f H anything form line bs → decided_by f false bs ≡ None
   open_close H a =
       at_none _ (a.same false [] refl)
-      (in_section-shut f a.before false line a.word a.first a.toks
-      (subst (λ (ts : List Token). f.extent a.before a.word
-      ts ≡ record { count = length a.toks; closed = true; at_eof = false }) (append-nil a.toks) (a.closed.extent []))
-      a.closed.clean)
+      (in_section-shut f a.before false line a.word a.first a.toks (a.closed.extent []) a.closed.clean)
 
   pub open_after : (H : S → List Piece → Type 0) (o : Bool) → AtAfter f H anything form line o [] bs →
       decided_by f false bs ≡ None
   open_after H o a = at_none _ (a.same false [] refl) (in_section-shut f a.before false line a.word a.first a.toks
-      (subst (λ (ts : List Token). f.extent a.before a.word
-      ts ≡ record { count = length a.toks; closed = true; at_eof = false }) (append-nil a.toks) (a.ends.extent []
-      ∙ ap (λ (k : ℕ). record { count = k; closed = true; at_eof = false }) (omega arith)))
-      (subst (λ (ts : List Token). f.section a.before a.word a.first ts Clean ≡ None) (append-nil a.toks)
-      (a.ends.clean [])))
+      (alone_extent a.ends [] refl) (alone_clean a.ends))
 
   -- in a header's value
   pub open_value_law : (before : List Piece) (upto : ℕ) (held : List ℕ) (d : ℕ) (ds : List ℕ) (word : Keyword)

@@ -8,11 +8,11 @@ use Rattle.tk_words.specs.declared.keyword.Role.TheVariants.{BeginsSection}
 use Rattle.tk_words.specs.declared.fault.TextKind.{TextKind}
 use Rattle.tk_words.specs.declared.fault.TextKind.TheVariants as kinds
 use Rattle.tk_words.specs.Lex.{LF, Line, Token, lines, tokens, tokens_of, onto_token, is_blank, behind, after_word}
-use Rattle.tk_words.specs.Lex.{without_colon_before, IsUnbroken}
+use Rattle.tk_words.specs.Lex.{without_colon_before, is_empty, IsUnbroken}
 use Rattle.tk_words.specs.Words.{keyword_of, role}
 use Rattle.tk_lines.specs.Pieces.{Piece, After, Trailing, Early, End, Fault, section_at, last_line, covered, cut}
 use Rattle.tk_lines.specs.Pieces.{end_token, Format, judge, ended}
-use Rattle.tk_lines.specs.Reader.FromMiddle.{ending, from_line, in_section, goes, new_pieces}
+use Rattle.tk_lines.specs.Reader.FromMiddle.{ending, prepend, from_line, in_section, goes, new_pieces}
 use Rattle.tk_lines.specs.Reader.Forms.{whole, taken, StopsAt, EndsAtEof, a_section}
 use Rattle.tk_lines.specs.Reader.Places.{IsWord, a_gap, no_word}
 use Rattle.tk_lines.proofs.MiddleOfLine.{with_bytes, end_token-bytes}
@@ -318,27 +318,37 @@ pub get_behind : (xs ys : List Token) (d : Token) → get_or (xs ++ ys) (length 
 get_behind [] ys d = refl
 get_behind (x ∷ xs) ys d = get_behind xs ys d
 
-module _ {V : Type 0} (f : Format V) (before : List Piece) (word : Keyword) (n0 : ℕ) (toks : List Token) (e : Bool)
-    (n : ℕ) (bs : List ℕ) (b : ℕ) (t : List ℕ) (solid : is_blank b ≡ false) where
+module _ {V : Type 0} (f : Format V) (before : List Piece) (word : Keyword) (n0 : ℕ) (toks : List Token) (held : List ℕ)
+    (e : Bool) (n : ℕ) (bs : List ℕ) (run : IsUnbroken held) where
   -- a token on the line of the section's last one
-  pub in_section-trailing : last_line n0 toks ≡ n
+  pub in_section-another : last_line n0 toks ≡ n
       → ((line : ℕ) → f.section before word n0 toks (Trailing line) ≡ Some (Fault line kinds.TrailingData))
-      → ((w : Bool) (y : List ℕ) (more : List Token)
-      → f.extent before word (toks ++ record { bytes = b ∷ y; line = n; whole = w }
-      ∷ more) ≡ record { count = length toks; closed = true; at_eof = false })
-      → in_section f before word n0 toks (b ∷ t) e n bs ≡ Some (Err (record { line = n; kind = kinds.TrailingData }))
+      → f.extent before word
+      (toks ++ tokens (prepend held (lines e n bs))) ≡ record { count = length toks; closed = true; at_eof = false }
+      → in_section f before word n0 toks held e n bs ≡ Some (Err (record { line = n; kind = kinds.TrailingData }))
   unfolding in_section goes new_pieces judge
-  in_section-trailing last trailing extent =
+  in_section-another last trailing extent =
       let k = first_line e n bs in
-      let u = first_token k.whole n b (t ++ k.bytes) solid in
+      let u = front_token k.whole n held k.bytes run in
+      let t : Token = record { bytes = held ++ u.bytes; line = n; whole = u.whole } in
+      let is : tokens (prepend held (lines e n bs)) ≡ t ∷ (u.rest ++ tokens k.rest) = rw (k.is, u.is) refl in
+      let ext : f.extent before word
+      (toks ++ t ∷ (u.rest ++ tokens k.rest)) ≡ record { count = length toks; closed = true; at_eof = false } =
+      rw is at extent in
       let one : eqb n n ≡ true = eq-eqb n n refl in
+      let full : is_empty (held ++ u.bytes) ≡ false = run_full held u.bytes run in
       rw (
         k.is,
         u.is,
-        extent u.whole u.bytes (u.rest ++ tokens k.rest),
-        take_whole toks (record { bytes = b ∷ u.bytes; line = n; whole = u.whole } ∷ u.rest ++ tokens k.rest),
+        ext,
+        take_whole toks (t ∷ (u.rest ++ tokens k.rest)),
         get_behind toks,
         last,
         one,
+        full,
         trailing,
       ) refl
+    where
+      run_full : (xs ys : List ℕ) → IsUnbroken xs → is_empty (xs ++ ys) ≡ false
+      run_full [] ys h = absurd h
+      run_full (x ∷ xs) ys h = refl

@@ -1,13 +1,18 @@
 -- How a section ends.
 use Rattle.std.proofs.Common.{◌≡◌, ℕ, zero, suc, ◌-◌, ◌<◌, ◌≤◌, Bool, true, false, cond, eqb, not, ◌||◌, List, [], ◌∷◌}
-use Rattle.std.proofs.Common.{◌++◌, length, take, get_or, refl, ap, ◌∙◌, arith}
+use Rattle.std.proofs.Common.{◌++◌, length, take, get_or, Some, None, refl, ap, subst, ◌∙◌, arith}
+use Rattle.std.proofs.lemmas.List.{append-nil}
 use Rattle.std.specs.List.{AllByRecursion}
 use Rattle.std.proofs.lemmas.Bool.{ne_eqb}
 use Rattle.tk_words.specs.declared.keyword.Keyword.{Keyword}
 use Rattle.tk_words.specs.Lex.{LF, Line, Token, onto_line, onto_token, goes_on, lines, tokens, tokens_of, is_blank}
 use Rattle.tk_words.specs.Lex.{is_empty}
-use Rattle.tk_lines.specs.Pieces.{Piece, Section, End, Extents, Clean, section_at, after_tokens, last_line, covered}
-use Rattle.tk_lines.specs.Pieces.{end_token, end_piece, Format, stop, judge, stopped}
+use Rattle.tk_lines.specs.Pieces.{Piece, Section, End, Extents, Clean, Trailing, Fault, section_at, after_tokens}
+use Rattle.tk_lines.specs.Pieces.{last_line, covered, end_token, end_piece, Format, judge}
+use Rattle.tk_words.specs.declared.fault.TextKind.TheVariants as kinds
+use Rattle.tk_words.specs.MinusOne.{one_more}
+use Rattle.tk_lines.specs.Reader.Forms.{EndsWithMinusOne}
+use Rattle.tk_lines.proofs.Answered.{all_append, all_taken}
 use Rattle.tk_lines.specs.Reader.FromMiddle.{end_of, ending, new_pieces, goes, in_section, prepend, from_line}
 use Rattle.tk_lines.proofs.MiddleOfLine.{lines-byte, lines_cons}
 use Rattle.tk_words.proofs.Bools.{and_false}
@@ -39,11 +44,7 @@ unfolding tokens_of
 tokens_of_from w n [] = tt
 tokens_of_from w n (b ∷ bs) = by_tests w n b bs (tokens_of w n bs) (is_blank b) (goes_on bs) (tokens_of_from w n bs)
 
-pub from_append : (n : ℕ) (xs ys : List Token) → From n xs → From n ys → From n (xs ++ ys)
-from_append n [] ys h k = k
-from_append n (x ∷ xs) ys h k = (h.0, from_append n xs ys h.1 k)
-
-from_weaker : (m n : ℕ) (ts : List Token) → m ≤ n → From n ts → From m ts
+pub from_weaker : (m n : ℕ) (ts : List Token) → m ≤ n → From n ts → From m ts
 from_weaker m n [] le h = tt
 from_weaker m n (t ∷ ts) le h = (omega (arith, h.0), from_weaker m n ts le h.1)
 
@@ -51,7 +52,7 @@ from_weaker m n (t ∷ ts) le h = (omega (arith, h.0), from_weaker m n ts le h.1
 tokens_from : (n : ℕ) (ls : List Line) → AllByRecursion (LineFrom n) ls → From n (tokens ls)
 tokens_from n [] h = tt
 tokens_from n (l ∷ ls) h =
-    from_append n (tokens_of l.whole l.number l.bytes) (tokens ls)
+    all_append (StandsFrom n) (tokens_of l.whole l.number l.bytes) (tokens ls)
     (from_weaker n l.number _ h.0 (tokens_of_from l.whole l.number l.bytes)) (tokens_from n ls h.1)
 
 onto_line_from : (n b : ℕ) (ls : List Line) → AllByRecursion (LineFrom n) ls →
@@ -79,16 +80,11 @@ prepend_from n pre (l ∷ ls) h = h
 pub to_come : (pre : List ℕ) (e : Bool) (n : ℕ) (bs : List ℕ) → From n (tokens (prepend pre (lines e n bs)))
 to_come pre e n bs = tokens_from n _ (prepend_from n pre (lines e n bs) (lines_from e n bs n (omega arith)))
 
-take_from : (n k : ℕ) (ts : List Token) → From n ts → From n (take k ts)
-take_from n zero ts h = tt
-take_from n (suc k) [] h = tt
-take_from n (suc k) (t ∷ ts) h = (h.0, take_from n k ts h.1)
-
 pub last_line-append : (m : ℕ) (xs ys : List Token) → last_line m (xs ++ ys) ≡ last_line (last_line m xs) ys
 last_line-append m [] ys = refl
 last_line-append m (x ∷ xs) ys = last_line-append x.line xs ys
 
-last_line_from : (n m : ℕ) (ts : List Token) → n ≤ m → From n ts → n ≤ last_line m ts
+pub last_line_from : (n m : ℕ) (ts : List Token) → n ≤ m → From n ts → n ≤ last_line m ts
 last_line_from n m [] le h = le
 last_line_from n m (t ∷ ts) le h = last_line_from n t.line ts h.0 h.1
 
@@ -110,7 +106,7 @@ last_taken n0 n k toks more t at later le =
     let here : n ≤ last_line n0 (toks ++ t ∷ []) = rw last_line-append (omega (arith, at)) in
     rw (take_past k (toks ++ t ∷ []) more le, last_line-append)
     (last_line_from n _ (take (k - length (toks ++ t ∷ [])) more) here
-    (take_from n (k - length (toks ++ t ∷ [])) more later))
+    (all_taken (StandsFrom n) (k - length (toks ++ t ∷ [])) more later))
 
 -- what comes after tokens whose last line is before n
 pub clean_after : (last n : ℕ) (toks more : List Token) (end : Token) → last < n → From n more → end.bytes ≡ [] →
@@ -134,13 +130,31 @@ module _ {V : Type 0} (f : Format V) (before : List Piece) (word : Keyword) (n0 
   pub in_section-closed : (toks : List Token) (pre : List ℕ) (e : Bool) (n : ℕ) (bs : List ℕ) → last_line n0 toks < n
       → f.extent before word
       (toks ++ tokens (prepend pre (lines e n bs))) ≡ record { count = length toks; closed = true; at_eof = false }
-      → in_section f before word n0 toks pre e n bs ≡ stopped (stop f before (Section word n0 toks Clean))
-      (from_line f (before ++ Section word n0 toks Clean ∷ []) (last_line n0 toks) pre e n bs)
+      → f.section before word n0 toks Clean ≡ None
+      → in_section f before word n0 toks pre e n bs ≡ from_line f (before ++ Section word n0 toks Clean ∷ [])
+      (last_line n0 toks) pre e n bs
   unfolding in_section goes new_pieces from_line judge
-  in_section-closed toks pre e n bs lt extent =
+  in_section-closed toks pre e n bs lt extent none =
       let clean = clean_after (last_line n0 toks) n toks (tokens (prepend pre (lines e n bs))) (end_of (lines e n bs))
       lt (to_come pre e n bs) (end_token-bytes_none e n bs) in
-      rw (extent, take_whole toks (tokens (prepend pre (lines e n bs))), clean, ending-is e n bs) refl
+      rw (extent, take_whole toks (tokens (prepend pre (lines e n bs))), clean, ending-is e n bs, none) refl
+
+-- a section that a -1 has ended ends with these tokens, where no -1 more comes
+module _ {V : Type 0} {f : Format V} {before : List Piece} {word : Keyword} {n : ℕ} {toks : List Token}
+    (ends : EndsWithMinusOne f before word n toks) where
+  pub alone_clean : f.section before word n toks Clean ≡ None
+  alone_clean = subst (λ (ts : List Token). f.section before word n ts Clean ≡ None) (append-nil toks) (ends.clean [])
+
+  pub alone_trailing : (line : ℕ) →
+      f.section before word n toks (Trailing line) ≡ Some (Fault line kinds.TrailingData)
+  alone_trailing line =
+      subst (λ (ts : List Token). f.section before word n ts (Trailing line) ≡ Some (Fault line kinds.TrailingData))
+      (append-nil toks) (ends.trailing [] line)
+
+  pub alone_extent : (more : List Token) → one_more more ≡ 0 →
+      f.extent before word (toks ++ more) ≡ record { count = length toks; closed = true; at_eof = false }
+  alone_extent more none = ends.extent more
+      ∙ ap (λ (k : ℕ). record { count = k; closed = true; at_eof = false }) (omega (arith, none))
 
 -- the pieces of a section reach to its word's line
 pub reaches : (extent : Extents) (before : List Piece) (word : Keyword) (n : ℕ) (toks : List Token) (end : Token) →
@@ -148,7 +162,7 @@ pub reaches : (extent : Extents) (before : List Piece) (word : Keyword) (n : ℕ
 reaches extent before word n toks end h = by_eof (extent before word toks).at_eof
   where
     reach : n ≤ last_line n (take (extent before word toks).count toks)
-    reach = last_line_from n n _ (omega arith) (take_from n (extent before word toks).count toks h)
+    reach = last_line_from n n _ (omega arith) (all_taken (StandsFrom n) (extent before word toks).count toks h)
 
     by_eof : (b : Bool) →
         n ≤ covered (last_line n (take (extent before word toks).count toks))

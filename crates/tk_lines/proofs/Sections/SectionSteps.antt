@@ -1,5 +1,5 @@
 -- What a byte does in a section.
-use Rattle.std.proofs.Common.{◌≡◌, ℕ, suc, ◌+◌, ◌≤◌, true, false, eqb, List, [], ◌∷◌, ◌++◌, length, Option, Some}
+use Rattle.std.proofs.Common.{◌≡◌, ℕ, suc, ◌+◌, ◌≤◌, true, false, eqb, List, [], ◌∷◌, ◌++◌, length, Some}
 use Rattle.std.proofs.Common.{None, Ok, Err, refl, ap, ◌∙◌, arith}
 use Rattle.std.proofs.lemmas.List.{length-append}
 use Rattle.std.proofs.lemmas.Bool.{eqb-true}
@@ -7,16 +7,16 @@ use Rattle.tk_words.specs.declared.keyword.Keyword.{Keyword}
 use Rattle.tk_words.specs.declared.fault.TextKind.{TextKind}
 use Rattle.tk_words.specs.declared.fault.TextKind.TheVariants as kinds
 use Rattle.tk_words.specs.Lex.{LF, Token, is_blank, IsUnbroken}
-use Rattle.tk_lines.specs.Pieces.{Piece, Clean, Early, Stop, Format, last_line, stopped, ended}
+use Rattle.tk_lines.specs.Pieces.{Piece, Clean, Early, Format, last_line, ended}
 use Rattle.tk_lines.specs.Reader.FromMiddle.{from_line, in_section}
 use Rattle.tk_lines.specs.Reader.Forms.{whole, Goes, Closed, EndsAtEof, StopsAt, a_section}
 use Rattle.tk_lines.specs.Reader.Places.{Next, Within, anything, this, a_gap, Says, DecidesIf, AtLine, AtBegin, AtToken}
 use Rattle.tk_lines.specs.Reader.Places.{AtClose}
 use Rattle.tk_lines.proofs.Sections.MiddleOfSection.{in_section-byte, in_section-next}
-use Rattle.tk_lines.proofs.Sections.SectionEnds.{in_section-closed}
+use Rattle.tk_lines.proofs.Sections.SectionEnds.{in_section-closed, last_line-append}
 use Rattle.tk_lines.proofs.Headers.ByteRuns.{behind-all}
 use Rattle.tk_lines.proofs.Sections.SectionBytes.{in_section-drop, in_section-token, in_section-stops, in_section-eof}
-use Rattle.tk_lines.proofs.Sections.SectionBytes.{in_section-trailing, in_section-long, from_line-inside}
+use Rattle.tk_lines.proofs.Sections.SectionBytes.{in_section-another, in_section-long, from_line-inside}
 use Rattle.tk_lines.proofs.Sections.SectionBytes.{from_line-colon, plain}
 use Rattle.tk_lines.proofs.LineSteps.{says_byte, tail_byte}
 use Rattle.tk_lines.proofs.SamePlaces.{begin_told, token_told, close_told}
@@ -142,10 +142,6 @@ module _ {V S : Type 0} (f : Format V) (W : S → List Piece → Keyword → ℕ
       DecidesIf f next bs (Err (record { line = line; kind = k }))
   token_eof_err eof k some e more n = token_eof eof e more n ∙ rw some refl
 
-  pub last_is : (xs : List Token) (m : ℕ) (t : Token) → last_line m (xs ++ t ∷ []) ≡ t.line
-  last_is [] m t = refl
-  last_is (x ∷ xs) m t = last_is xs x.line t
-
   pub token_last : (H : S → List Piece → Type 0) (form' : S) →
       H form' (a.before ++ a_section a.word a.first (a.toks ++ whole held line ∷ []) Clean) →
       Closed f a.before a.word a.first (a.toks ++ whole held line ∷ []) → AtClose f H next form' line bs
@@ -156,7 +152,7 @@ module _ {V S : Type 0} (f : Format V) (W : S → List Piece → Keyword → ℕ
     toks = a.toks ++ whole held line ∷ [];
     holds = holds;
     closed = closed;
-    last = last_is a.toks a.first (whole held line);
+    last = last_line-append a.first a.toks (whole held line ∷ []);
     same = same_now (λ more. rw (closed.extent more) (omega arith));
   }
 
@@ -170,11 +166,7 @@ module _ {V S : Type 0} (f : Format V) (H : S → List Piece → Type 0) (form :
     lt = omega (arith, a.last);
     same = says_byte f LF bs _ _ a.same (λ e more. in_section-next f a.before a.word a.first a.toks e line more
         ∙ in_section-closed f a.before a.word a.first a.toks [] e (suc line) more (omega (arith, a.last))
-        (a.closed.extent _)
-        ∙ ap
-        (λ (x : Option Stop). stopped x
-        (from_line f (a.before ++ a_section a.word a.first a.toks Clean) (last_line a.first a.toks) [] e (suc line)
-        more)) a.closed.clean
+        (a.closed.extent _) a.closed.clean
         ∙ ap (λ (n : ℕ). from_line f (a.before ++ a_section a.word a.first a.toks Clean) (last_line a.first a.toks)
         [] e n more) (omega arith));
   }
@@ -190,5 +182,5 @@ module _ {V S : Type 0} (f : Format V) (H : S → List Piece → Type 0) (form :
       DecidesIf f anything (bs ++ b ∷ []) (Err (record { line = line; kind = kinds.TrailingData }))
   close_trailing other solid a =
       says_byte f b bs _ _ a.same (λ e more. in_section-byte f a.before a.word a.first a.toks [] e line b more other ∙
-      in_section-trailing f a.before a.word a.first a.toks e line more b [] solid a.last a.closed.trailing
-      (λ w y rest. a.closed.extent _))
+      in_section-another f a.before a.word a.first a.toks (b ∷ []) e line more solid a.last a.closed.trailing
+      (a.closed.extent _))
