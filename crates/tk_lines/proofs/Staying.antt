@@ -1,8 +1,8 @@
 -- What is decided of a text's pieces stays.
-use Rattle.std.proofs.Common.{◌≡◌, ℕ, zero, suc, ◌≤◌, ⊎_elim, Bool, true, false, cond, eqb, leb, ltb, not, ◌&&◌, List}
+use Rattle.std.proofs.Common.{◌≡◌, ℕ, suc, ◌≤◌, ⊎_elim, Bool, true, false, cond, eqb, leb, ltb, not, ◌&&◌, List}
 use Rattle.std.proofs.Common.{[], ◌∷◌, ◌++◌, length, take, get_or, Option, Some, None, Result, refl, sym, ap, subst}
 use Rattle.std.proofs.Common.{◌∙◌, arith}
-use Rattle.std.proofs.lemmas.List.{append-nil}
+use Rattle.std.proofs.lemmas.List.{append-nil, get_or_past, take_all}
 use Rattle.std.proofs.lemmas.Bool.{eqb-true, ltb-true, lt-ltb}
 use Rattle.tk_words.specs.declared.keyword.Keyword.{Keyword}
 use Rattle.tk_words.specs.declared.keyword.Role.{Role}
@@ -114,17 +114,6 @@ end_piece_last : (front : List Line) (n : ℕ) (bs : List ℕ) →
 end_piece_last [] n bs = refl
 end_piece_last (l ∷ front) n bs = rw (end_last l front n bs) refl
 
-take_over : (c : ℕ) (ts : List Token) → length ts ≤ c → take c ts ≡ ts
-take_over zero [] le = refl
-take_over zero (t ∷ ts) le = absurd (omega (arith, le))
-take_over (suc c) [] le = refl
-take_over (suc c) (t ∷ ts) le = ap (λ (xs : List Token). t ∷ xs) (take_over c ts (omega (arith, le)))
-
-get_over : (c : ℕ) (ts : List Token) (d : Token) → length ts ≤ c → get_or ts c d ≡ d
-get_over c [] d le = refl
-get_over zero (t ∷ ts) d le = absurd (omega (arith, le))
-get_over (suc c) (t ∷ ts) d le = get_over c ts d (omega (arith, le))
-
 abbrev open_end : ℕ → Token
 open_end n = record { bytes = []; line = n; whole = false }
 
@@ -143,7 +132,7 @@ taken_all : (extent : Extents) (before : List Piece) (word : Keyword) (first : �
     (after_tokens (last_line first ts) (extent before word ts).closed (open_end n)) ∷ []
 taken_all extent before word first ts n h =
     let e = extent before word ts in
-    rw (take_over e.count ts h.all, get_over e.count ts (open_end n) h.all, h.goes) refl
+    rw (take_all e.count ts h.all, get_or_past ts e.count (open_end n) h.all, h.goes) refl
 
 -- ---- from the pieces before some lines on
 
@@ -352,14 +341,14 @@ module _ {V : Type 0} (f : Format V) (steady : IsSteady f) (a : Result V TextFau
       long_or_open false t' u x x' g e =
           rw e (moves_open before upto [] rest nothing_stays n (cond t' (LongWord n ∷ []) x'))
 
-      moves_word : (d : ℕ) (ds word word' y y' : List ℕ) → word' ≡ word → y ≡ d ∷ ds → y' ≡ (d ∷ ds) ++ more
-          → Moves before upto [] rest
-          (cond (ltb 64 (length word)) (LongWord n ∷ [])
-          (cond (is_empty y) (OpenWord n ∷ []) (piece_of f.extent before old [] y (keyword_of word))))
-          (cond (ltb 64 (length word')) (LongWord n ∷ [])
-          (cond (not whole && is_empty y') (OpenWord n ∷ [])
-          (piece_of f.extent before new rest y' (keyword_of word'))))
-      moves_word d ds word word' y y' i j k =
+      -- what a line that begins with a letter makes of its word, and of what comes after it
+      abbrev worded : Line → List Line → List ℕ → List ℕ → List Piece
+      worded l ls word y = cond (ltb 64 (length word)) (LongWord n ∷ [])
+          (cond (not l.whole && is_empty y) (OpenWord n ∷ []) (piece_of f.extent before l ls y (keyword_of word)))
+
+      moves_word : (d : ℕ) (ds word : List ℕ) →
+          Moves before upto [] rest (worded old [] word (d ∷ ds)) (worded new rest word ((d ∷ ds) ++ more))
+      moves_word d ds word =
           let u : Token = record { bytes = d ∷ ds; line = n; whole = false } in
           let v : Token = record { bytes = (d ∷ ds) ++ more; line = n; whole = whole } in
           let longer : IsLonger u v = record { partial = refl; some = refl; line = refl; more = more; bytes = refl } in
@@ -367,7 +356,7 @@ module _ {V : Type 0} (f : Format V) (steady : IsSteady f) (a : Result V TextFau
           let first' : List Token = tokens_of whole n (after_word ((d ∷ ds) ++ more)) in
           let grown : TokensGrow (first ++ []) (first' ++ tokens rest) =
           rw (append-nil first) (tokens_behind first first' (tokens rest) (tokens_after whole n (d ∷ ds) more)) in
-          rw (i, j, k, and_false (not whole)) (
+          rw (and_false (not whole)) (
           moves_cond before upto [] rest nothing_stays (ltb 64 (length word))
           _ _ _ _ (moves_long before upto [] rest nothing_stays n) (
           moves_of before upto [] rest nothing_stays old (bytes ++ more) whole (d ∷ ds) ((d ∷ ds) ++ more)
@@ -383,20 +372,9 @@ module _ {V : Type 0} (f : Format V) (steady : IsSteady f) (a : Result V TextFau
           moves_cond before upto [] rest nothing_stays (not (is_letter b))
           _ _ _ _ (moves_stray before upto [] rest nothing_stays n) (by_tail (behind is_word_byte (b ∷ bs)) refl)
         where
-          by_tail : (y : List ℕ) → behind is_word_byte (b ∷ bs) ≡ y
-              → Moves before upto [] rest (
-              cond (ltb 64 (length (front is_word_byte (b ∷ bs)))) (LongWord n ∷ []) (
-              cond (is_empty (behind is_word_byte (b ∷ bs))) (OpenWord n ∷ [])
-              (piece_of f.extent before old [] (behind is_word_byte (b ∷ bs))
-              (keyword_of (front is_word_byte (b ∷ bs))))
-              )
-              ) (
-              cond (ltb 64 (length (front is_word_byte ((b ∷ bs) ++ more)))) (LongWord n ∷ []) (
-              cond (not whole && is_empty (behind is_word_byte ((b ∷ bs) ++ more))) (OpenWord n ∷ [])
-              (piece_of f.extent before new rest (behind is_word_byte ((b ∷ bs) ++ more))
-              (keyword_of (front is_word_byte ((b ∷ bs) ++ more))))
-              )
-              )
+          by_tail : (y : List ℕ) → behind is_word_byte (b ∷ bs) ≡ y → Moves before upto [] rest
+              (worded old [] (front is_word_byte (b ∷ bs)) (behind is_word_byte (b ∷ bs)))
+              (worded new rest (front is_word_byte ((b ∷ bs) ++ more)) (behind is_word_byte ((b ∷ bs) ++ more)))
           by_tail [] e =
               long_or_open (ltb 64 (length (front is_word_byte (b ∷ bs))))
               (ltb 64 (length (front is_word_byte ((b ∷ bs) ++ more))))
@@ -404,9 +382,8 @@ module _ {V : Type 0} (f : Format V) (steady : IsSteady f) (a : Result V TextFau
               (λ t. lt-ltb _ _ (omega (arith, ltb-true _ _ t, front_grows is_word_byte (b ∷ bs) more e)))
               (ap is_empty e)
           by_tail (d ∷ ds) e =
-              moves_word d ds (front is_word_byte (b ∷ bs)) (front is_word_byte ((b ∷ bs) ++ more))
-              (behind is_word_byte (b ∷ bs)) (behind is_word_byte ((b ∷ bs) ++ more))
-              (front-more is_word_byte (b ∷ bs) more d ds e) e (behind-more is_word_byte (b ∷ bs) more d ds e)
+              rw (front-more is_word_byte (b ∷ bs) more d ds e, e, behind-more is_word_byte (b ∷ bs) more d ds e)
+              (moves_word d ds (front is_word_byte (b ∷ bs)))
 
       moves_last : Moves before upto [] rest (pieces_at f.extent before old [] (behind is_blank bytes))
           (pieces_at f.extent before new rest (behind is_blank (bytes ++ more)))
