@@ -1,9 +1,9 @@
 -- What a line says whose word is known.
-use Rattle.std.proofs.Common.{◌≡◌, ℕ, suc, ◌<◌, Bool, true, false, cond, eqb, leb, ltb, not, ◌&&◌, List, [], ◌∷◌}
+use Rattle.std.proofs.Common.{◌≡◌, ℕ, suc, ◌<◌, Bool, true, false, eqb, leb, ltb, not, ◌&&◌, List, [], ◌∷◌}
 use Rattle.std.proofs.Common.{◌++◌, length, Option, Some, None, Result, Err, refl, sym, ap, subst, ◌∙◌, append_assoc}
 use Rattle.std.proofs.Common.{arith}
 use Rattle.std.proofs.lemmas.List.{append-nil, length-append}
-use Rattle.std.proofs.lemmas.Bool.{eqb-true, lt-leb, le-ltb, lt-ltb, ne_eqb, true≢false}
+use Rattle.std.proofs.lemmas.Bool.{eqb-true, lt-leb, le-ltb, lt-ltb, ne_eqb, not-true, true≢false}
 use Rattle.tk_words.specs.declared.keyword.Keyword.{Keyword}
 use Rattle.tk_words.specs.declared.keyword.Role.TheVariants.{BeginsHeader, BeginsSection, EndsText}
 use Rattle.tk_words.specs.declared.fault.TextKind.{TextKind}
@@ -34,19 +34,11 @@ begins_no p (b ∷ bs) = not (p b)
 
 front_none : (p : ℕ → Bool) (xs : List ℕ) → begins_no p xs ≡ true → front p xs ≡ []
 front_none p [] h = refl
-front_none p (b ∷ bs) h = by_test (p b) h
-  where
-    by_test : (t : Bool) → not t ≡ true → cond t (b ∷ front p bs) [] ≡ []
-    by_test true k = absurd cc
-    by_test false k = refl
+front_none p (b ∷ bs) h = rw (not-true (p b) h) refl
 
 pub behind_none : (p : ℕ → Bool) (xs : List ℕ) → begins_no p xs ≡ true → behind p xs ≡ xs
 behind_none p [] h = refl
-behind_none p (b ∷ bs) h = by_test (p b) h
-  where
-    by_test : (t : Bool) → not t ≡ true → cond t (behind p bs) (b ∷ bs) ≡ b ∷ bs
-    by_test true k = absurd cc
-    by_test false k = refl
+behind_none p (b ∷ bs) h = rw (not-true (p b) h) refl
 
 -- what comes after a word on its line, where the word has ended
 pub record WordEnds (tail x : List ℕ) (w : Bool) : Type 0 where

@@ -1,11 +1,12 @@
 -- What a text says from the middle of a line on.
-use Rattle.std.proofs.Common.{◌≡◌, ℕ, suc, ◌<◌, Bool, true, false, cond, eqb, leb, List, [], ◌∷◌, ◌++◌, refl, sym, ap}
+use Rattle.std.proofs.Common.{◌≡◌, ℕ, suc, ◌<◌, Bool, true, false, eqb, leb, List, [], ◌∷◌, ◌++◌, refl, sym, ap}
 use Rattle.std.proofs.Common.{subst, ◌∙◌, append_assoc}
 use Rattle.std.proofs.lemmas.List.{append-nil}
 use Rattle.std.proofs.lemmas.Bool.{lt-leb}
 use Rattle.tk_words.specs.Lex.{LF, Line, onto_line, lines, is_blank, front, behind}
 use Rattle.tk_lines.specs.Pieces.{Piece, pieces_at, covered, cut, end_token, end_piece, Format, judge}
 use Rattle.tk_lines.specs.Reader.FromMiddle.{ending, prepend, from_line}
+use Rattle.tk_lines.proofs.Headers.ByteRuns.{behind-on, front-on}
 
 abbrev pub with_bytes : Line → List ℕ → Line
 with_bytes l x = record { number = l.number; bytes = x; whole = l.whole }
@@ -77,29 +78,14 @@ end_piece-LF e n bs =
 
 -- ---- runs of bytes
 
-behind_step : (p : ℕ → Bool) (x : ℕ) (xs more : List ℕ) (c : ℕ) (cs : List ℕ) (t : Bool) → p x ≡ t →
-    (behind p xs ≡ c ∷ cs → behind p (xs ++ more) ≡ (c ∷ cs) ++ more) → cond t (behind p xs) (x ∷ xs) ≡ c ∷ cs →
-    cond t (behind p (xs ++ more)) (x ∷ (xs ++ more)) ≡ (c ∷ cs) ++ more
-behind_step p x xs more c cs true e ih k = ih k
-behind_step p x xs more c cs false e ih k = ap (λ (ys : List ℕ). ys ++ more) k
-
--- where something comes after a run, more bytes come after that
+-- where something comes after a run, more bytes come after that, and the run stays
 pub behind-more : (p : ℕ → Bool) (xs more : List ℕ) (c : ℕ) (cs : List ℕ) → behind p xs ≡ c ∷ cs →
     behind p (xs ++ more) ≡ (c ∷ cs) ++ more
-behind-more p [] more c cs h = absurd cc
-behind-more p (x ∷ xs) more c cs h = behind_step p x xs more c cs (p x) refl (behind-more p xs more c cs) h
+behind-more p xs more c cs h = behind-on p xs more (rw h (λ x. x)) ∙ ap (λ (ys : List ℕ). ys ++ more) h
 
-front_step : (p : ℕ → Bool) (x : ℕ) (xs more : List ℕ) (c : ℕ) (cs : List ℕ) (t : Bool) → p x ≡ t →
-    (behind p xs ≡ c ∷ cs → front p (xs ++ more) ≡ front p xs) → cond t (behind p xs) (x ∷ xs) ≡ c ∷ cs →
-    cond t (x ∷ front p (xs ++ more)) [] ≡ cond t (x ∷ front p xs) []
-front_step p x xs more c cs true e ih k = ap (λ (ys : List ℕ). x ∷ ys) (ih k)
-front_step p x xs more c cs false e ih k = refl
-
--- and the run stays
 pub front-more : (p : ℕ → Bool) (xs more : List ℕ) (c : ℕ) (cs : List ℕ) → behind p xs ≡ c ∷ cs →
     front p (xs ++ more) ≡ front p xs
-front-more p [] more c cs h = absurd cc
-front-more p (x ∷ xs) more c cs h = front_step p x xs more c cs (p x) refl (front-more p xs more c cs) h
+front-more p xs more c cs h = front-on p xs more (rw h (λ x. x))
 
 module _ {V : Type 0} (f : Format V) where
   pub from_line-byte : (before : List Piece) (upto : ℕ) (pre : List ℕ) (e : Bool) (n b : ℕ) (bs : List ℕ) →

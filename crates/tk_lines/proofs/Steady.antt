@@ -14,7 +14,7 @@ use Rattle.tk_lines.specs.Pieces.{After, Clean, Trailing, Early, Piece, Section,
 use Rattle.tk_lines.specs.Pieces.{Fault, Format, after_tokens, section_at, last_line, checked, or_else}
 use Rattle.tk_lines.proofs.Growing.{AreLong, IsLonger, Lasts, or_else_kept, open_or_long, checked_grown}
 use Rattle.tk_lines.proofs.Sections.SectionEnds.{take_past}
-use Rattle.tk_lines.proofs.Sections.ListTokens.{long_goes, open_goes}
+use Rattle.tk_lines.proofs.Sections.ListTokens.{long_goes, open_goes, no_minus_one}
 
 -- ---- what more tokens leave
 
@@ -158,18 +158,26 @@ one_more_longer t u us g none = by_bytes t.bytes refl
     begins : begins_minus_one t.bytes ≡ false
     begins = rw g.partial at none
 
-    by_tests : (w m o : Bool) → m ≡ false → o ≡ false → ◌≡◌ {A = ℕ} (cond ((w && m) || (not w && (m || o))) 1 0) 0
-    by_tests true m o p q = rw p refl
-    by_tests false m o p q = rw (p, q) refl
-
     by_bytes : (bs : List ℕ) → t.bytes ≡ bs → one_more (u ∷ us) ≡ 0
     by_bytes [] e = absurd (let j = sym (ap is_empty e) ∙ g.some in cc)
     by_bytes (b ∷ bs) e =
         let is : u.bytes ≡ (b ∷ bs) ++ g.more = g.bytes ∙ ap (λ (x : List ℕ). x ++ g.more) e in
         let none_begins : begins_minus_one (b ∷ bs) ≡ false = ap begins_minus_one (sym e) ∙ begins in
-        by_tests u.whole (is_minus_one (integer u.bytes)) (is_minus_one (integer (u.bytes ++ 49 ∷ [])))
+        no_minus_one u.whole (is_minus_one (integer u.bytes)) (is_minus_one (integer (u.bytes ++ 49 ∷ [])))
         (ap (λ (x : List ℕ). is_minus_one (integer x)) is ∙ no_more b bs g.more none_begins)
         (ap (λ (x : List ℕ). is_minus_one (integer (x ++ 49 ∷ []))) is ∙ no_more_with_one b bs g.more none_begins)
+
+-- a token more at the front
+pub one_extends : (x : Token) (e e' : Extent) (ts us : List Token) (end end' : Token) → Extends e e' ts us end end' →
+    Extends (with_one e) (with_one e') (x ∷ ts) (x ∷ us) end end'
+one_extends x e e' ts us end end' h = ⊎_elim settled all h
+  where
+    settled : IsSettled e e' ts us end end' → Extends (with_one e) (with_one e') (x ∷ ts) (x ∷ us) end end'
+    settled s =
+        inl (record { extent = ap with_one s.extent; taken = ap (λ (xs : List Token). x ∷ xs) s.taken; next = s.next })
+
+    all : TakesAll e ts → Extends (with_one e) (with_one e') (x ∷ ts) (x ∷ us) end end'
+    all a = inr (record { all = omega (arith, a.all); goes = a.goes })
 
 abbrev ended_list : ℕ → Extent
 ended_list more = record { count = suc more; closed = true; at_eof = false }
@@ -195,22 +203,9 @@ ended_extends x (y ∷ front) last rest end end' h = by_more (is_ending y || may
         Extends (ended_list (cond b 1 0)) (ended_list (cond b 1 0)) (x ∷ y ∷ front ++ last)
         (x ∷ y ∷ front ++ rest) end end'
     by_more false front last rest h = inl (record { extent = refl; taken = refl; next = (refl, refl) })
-    by_more true [] [] rest h = inr (record { all = omega arith; goes = refl })
-    by_more true [] (t ∷ []) (u ∷ rest) h = inl (record { extent = refl; taken = refl; next = longer_next t u h })
-    by_more true [] _ rest h = absurd h
-    by_more true (z ∷ front) last rest h = inl (record { extent = refl; taken = refl; next = (refl, refl) })
-
--- a token more at the front
-pub one_extends : (x : Token) (e e' : Extent) (ts us : List Token) (end end' : Token) → Extends e e' ts us end end' →
-    Extends (with_one e) (with_one e') (x ∷ ts) (x ∷ us) end end'
-one_extends x e e' ts us end end' h = ⊎_elim settled all h
-  where
-    settled : IsSettled e e' ts us end end' → Extends (with_one e) (with_one e') (x ∷ ts) (x ∷ us) end end'
-    settled s =
-        inl (record { extent = ap with_one s.extent; taken = ap (λ (xs : List Token). x ∷ xs) s.taken; next = s.next })
-
-    all : TakesAll e ts → Extends (with_one e) (with_one e') (x ∷ ts) (x ∷ us) end end'
-    all a = inr (record { all = omega (arith, a.all); goes = a.goes })
+    by_more true front last rest h =
+        one_extends x _ _ _ _ end end'
+        (one_extends y _ _ _ _ end end' (nothing_extends front last rest end end' h))
 
 pub list_extends : (front last rest : List Token) (end end' : Token) → Lasts last rest →
     Extends (list_extent (front ++ last)) (list_extent (front ++ rest)) (front ++ last) (front ++ rest) end end'

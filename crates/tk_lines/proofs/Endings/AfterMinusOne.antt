@@ -1,7 +1,8 @@
 -- Where a token after the -1 ends.
-use Rattle.std.proofs.Common.{◌≡◌, ℕ, ◌+◌, ◌<◌, Bool, true, false, cond, eqb, leb, not, ◌&&◌, ◌||◌, List, [], ◌∷◌, ◌++◌}
+use Rattle.std.proofs.Common.{◌≡◌, ℕ, ◌+◌, ◌<◌, Bool, true, false, eqb, leb, List, [], ◌∷◌, ◌++◌}
 use Rattle.std.proofs.Common.{length, Some, None, Err, refl, ap, ◌∙◌, append_assoc, arith}
 use Rattle.std.proofs.lemmas.List.{append-nil, length-append}
+use Rattle.std.proofs.Math.Seq.{take-length}
 use Rattle.std.proofs.lemmas.Bool.{lt-leb, le-leb}
 use Rattle.tk_words.specs.declared.keyword.Keyword.{Keyword}
 use Rattle.tk_words.specs.declared.fault.TextKind.TheVariants as kinds
@@ -17,9 +18,10 @@ use Rattle.tk_lines.proofs.Sections.MiddleOfSection.{run_head}
 use Rattle.tk_lines.proofs.Sections.SectionEnds.{first_line, in_section-closed, last_line-append, alone_clean}
 use Rattle.tk_lines.proofs.Sections.SectionEnds.{alone_trailing, alone_extent}
 use Rattle.tk_lines.proofs.Sections.SectionBytes.{in_section-token, in_section-another, front_token, split_at}
-use Rattle.tk_lines.proofs.Endings.TextEnds.{at_none, tokens_of-open, get_end, take_all}
+use Rattle.tk_lines.proofs.Endings.TextEnds.{at_none, tokens_of-open, get_end}
 use Rattle.tk_words.proofs.NumberLaws.MinusOne.{begins_minus, no_more, no_more_with_one, other_begins}
 use Rattle.tk_lines.proofs.Endings.MinusOneSteps.{after_byte}
+use Rattle.tk_lines.proofs.Sections.ListTokens.{no_minus_one}
 use Rattle.tk_lines.proofs.Sections.SectionSteps.{run_more}
 use Rattle.tk_words.specs.Words.{begins_word}
 
@@ -95,11 +97,8 @@ pub none_shown : (b : ℕ) (t : List ℕ) (line : ℕ) → IsUnbroken (b ∷ t) 
 none_shown b t line run other e more =
     let k = first_line e line more in
     let u = front_token k.whole line (b ∷ t) k.bytes run in
-    rw (k.is, u.is, no_more b t u.bytes other, no_more_with_one b t u.bytes other) (by_whole u.whole)
-  where
-    by_whole : (w : Bool) → ◌≡◌ {A = ℕ} (cond ((w && false) || (not w && (false || false))) 1 0) 0
-    by_whole true = refl
-    by_whole false = refl
+    rw (k.is, u.is, no_more b t u.bytes other, no_more_with_one b t u.bytes other)
+    (no_minus_one u.whole false false refl refl)
 
 -- what may be -1 begins with no letter
 pub minus_first : (held : List ℕ) → IsUnbroken held → begins_minus_one held ≡ true → begins_word held ≡ false
@@ -150,7 +149,7 @@ module _ {V S : Type 0} (f : Format V) (H : S → List Piece → Type 0) (form :
         append-nil held,
         tokens_of-open line held run,
         extent,
-        take_all (toks ++ t ∷ []),
+        take-length (toks ++ t ∷ []),
         get_end (toks ++ t ∷ []),
         and_false,
         clean,

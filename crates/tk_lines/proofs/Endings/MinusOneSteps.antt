@@ -1,5 +1,5 @@
 -- What a byte does after the -1 that ends a section.
-use Rattle.std.proofs.Common.{◌≡◌, ℕ, ◌+◌, ◌<◌, Bool, true, false, cond, eqb, not, ◌&&◌, ◌||◌, List, [], ◌∷◌, ◌++◌}
+use Rattle.std.proofs.Common.{◌≡◌, ℕ, ◌+◌, ◌<◌, Bool, true, false, eqb, List, [], ◌∷◌, ◌++◌}
 use Rattle.std.proofs.Common.{Err, refl, ap, subst, ◌∙◌, arith}
 use Rattle.std.proofs.lemmas.List.{append-nil}
 use Rattle.tk_words.specs.declared.keyword.Keyword.{Keyword}
@@ -16,6 +16,7 @@ use Rattle.tk_lines.proofs.Sections.SectionEnds.{in_section-closed, first_line, 
 use Rattle.tk_lines.proofs.Sections.SectionEnds.{alone_trailing, alone_extent}
 use Rattle.tk_lines.proofs.Sections.SectionBytes.{in_section-drop, in_section-another, first_token}
 use Rattle.tk_lines.proofs.LineSteps.{says_byte}
+use Rattle.tk_lines.proofs.Sections.ListTokens.{no_minus_one}
 use Rattle.tk_lines.proofs.SamePlaces.{after_told}
 use Rattle.tk_lines.proofs.Lines.{blank_letter, differs}
 use Rattle.tk_lines.proofs.Sections.SectionSteps.{same_now}
@@ -24,11 +25,7 @@ use Rattle.tk_words.proofs.NumberLaws.MinusOne.{other_integer}
 letter_more : (b n : ℕ) (y : List ℕ) (w : Bool) (more : List Token) → is_letter b ≡ true →
     one_more (record { bytes = b ∷ y; line = n; whole = w } ∷ more) ≡ 0
 letter_more b n y w more h = let other = differs is_letter b 45 h refl in
-    rw (other_integer b y other, other_integer b (y ++ 49 ∷ []) other) (by_whole w)
-  where
-    by_whole : (w : Bool) → ◌≡◌ {A = ℕ} (cond ((w && false) || (not w && (false || false))) 1 0) 0
-    by_whole true = refl
-    by_whole false = refl
+    rw (other_integer b y other, other_integer b (y ++ 49 ∷ []) other) (no_minus_one w false false refl refl)
 
 module _ {V S : Type 0} (f : Format V) (H : S → List Piece → Type 0) (form : S) (line b : ℕ) (bs : List ℕ) where
   earlier : (o : Bool) (last : ℕ) → IsLastLine o last line → last < line + 1

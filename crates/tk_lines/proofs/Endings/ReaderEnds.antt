@@ -1,6 +1,7 @@
 -- What a text says where its bytes end, wherever a reader stands.
-use Rattle.std.proofs.Common.{◌≡◌, ℕ, ◌≤◌, Bool, true, false, not, List, [], ◌∷◌, ◌++◌, length, Option, Some, None}
+use Rattle.std.proofs.Common.{◌≡◌, ℕ, ◌≤◌, Bool, true, false, List, [], ◌∷◌, ◌++◌, length, Option, Some, None}
 use Rattle.std.proofs.Common.{Result, Err, refl, sym, ap, subst, ◌∙◌, arith}
+use Rattle.std.proofs.lemmas.Bool.{not-true}
 use Rattle.std.proofs.lemmas.List.{append-nil}
 use Rattle.tk_words.specs.declared.keyword.Keyword.{Keyword}
 use Rattle.tk_words.specs.declared.fault.TextKind.{TextKind}
@@ -150,23 +151,16 @@ nothing_open f H W form line held scan bs _ settled v b g at = absurd settled
 module _ {V S : Type 0} (f : Format V) (H : S → List Piece → Type 0)
     (W : S → List Piece → Keyword → ℕ → List Token → Type 0) (form : S) (line : ℕ) (held : List ℕ) (scan : Scan)
     (bs : List ℕ) where
-  not_settled : (x : Type 0) → no_word false [] ≡ true → x
-  not_settled x h = absurd (let k = h in cc)
-
-  solid_first : (t : Bool) → not t ≡ true → t ≡ false
-  solid_first true h = absurd cc
-  solid_first false h = refl
-
   open_value : (word : Keyword) → AtValue f H anything form line held word scan bs → decided_by f false bs ≡ None
   open_value word a = by_tail a.tail a.at a.short
     where
       by_tail : (tail : List ℕ) → AtTail f anything line held word a.before tail bs → length tail ≤ 4096 →
           decided_by f false bs ≡ None
-      by_tail [] at short = not_settled _ (at.settled false [] refl)
+      by_tail [] at short = absurd (let k = at.settled false [] refl in cc)
       by_tail (d ∷ ds) at short =
           at_none f form line bs _ (at.same false [] refl)
           (open_value_law f form line bs a.before at.upto held d ds word at.lt at.is_word
-          (solid_first (is_word_byte d) (at.settled false [] refl)) at.word_is a.header short)
+          (not-true (is_word_byte d) (at.settled false [] refl)) at.word_is a.header short)
 
   no_first : First false line []
   unfolding lines
@@ -177,7 +171,7 @@ module _ {V S : Type 0} (f : Format V) (H : S → List Piece → Type 0)
   open_begin a =
       let ends : no_word false (a.tail ++ []) ≡ true = a.at.settled false [] refl in
       let k = (word_ends_behind a.tail false line [] ends).first in
-      let none : k.bytes ≡ [] = first_same false line [] k no_first in
+      let none : k.bytes ≡ [] = (first_same false line [] k no_first).0 in
       at_none f form line bs _ (a.at.same false [] refl)
       (from_line-tokens f a.before a.at.upto held a.tail false line [] a.at.lt a.at.is_word ends a.word a.at.word_is
       a.section [] k refl refl (plain_after a.tail k.bytes a.blank (rw none tt))

@@ -1,7 +1,8 @@
 -- What a text says where its bytes end.
 use Rattle.std.proofs.Common.{◌≡◌, ℕ, ◌<◌, ◌≤◌, Bool, true, false, cond, leb, ltb, not, List, [], ◌∷◌, ◌++◌, length}
-use Rattle.std.proofs.Common.{take, get_or, Option, Some, None, Result, refl, sym, ap, ◌∙◌, arith}
-use Rattle.std.proofs.lemmas.List.{append-nil, length-append}
+use Rattle.std.proofs.Common.{get_or, Option, Some, None, Result, refl, sym, ap, ◌∙◌, arith}
+use Rattle.std.proofs.lemmas.List.{append-nil, get_or_past, length-append}
+use Rattle.std.proofs.Math.Seq.{take-length}
 use Rattle.std.proofs.lemmas.Bool.{lt-leb, le-ltb}
 use Rattle.tk_words.specs.declared.keyword.Keyword.{Keyword}
 use Rattle.tk_words.specs.declared.keyword.Role.TheVariants.{BeginsHeader}
@@ -14,17 +15,13 @@ use Rattle.tk_lines.specs.Reader.Forms.{Goes, a_section}
 use Rattle.tk_lines.specs.Reader.Places.{anything, IsWord, AtLine, AtToken, AtClose, AtAfter}
 use Rattle.tk_words.proofs.Bools.{and_false}
 use Rattle.tk_lines.proofs.Sections.MiddleOfSection.{tokens_of-none, tokens_of-more, tokens_of-end, run_head}
-use Rattle.tk_lines.proofs.Sections.SectionEnds.{First, take_whole, alone_clean, alone_extent}
+use Rattle.tk_lines.proofs.Sections.SectionEnds.{First, alone_clean, alone_extent}
 use Rattle.tk_lines.proofs.Headers.ByteRuns.{front-whole}
 use Rattle.tk_lines.proofs.Lines.{from_line-word, word_ends_behind, after_line, new_at, blank_letter}
-use Rattle.tk_lines.proofs.Sections.SectionBytes.{first_same, first_same_whole}
+use Rattle.tk_lines.proofs.Sections.SectionBytes.{first_same}
 
 pub get_end : (xs : List Token) (d : Token) → get_or xs (length xs) d ≡ d
-get_end [] d = refl
-get_end (x ∷ xs) d = get_end xs d
-
-pub take_all : (xs : List Token) → take (length xs) xs ≡ xs
-take_all xs = ap (take (length xs)) (sym (append-nil xs)) ∙ take_whole xs []
+get_end xs d = get_or_past xs (length xs) d (omega arith)
 
 no_pieces : (t : Bool) → ◌≡◌ {A = List Piece} (cond t [] []) []
 no_pieces true = refl
@@ -48,7 +45,7 @@ module _ {V : Type 0} (f : Format V) (before : List Piece) (e : Bool) (n : ℕ) 
         tokens_of-none e n,
         append-nil toks,
         extent,
-        take_all toks,
+        take-length toks,
         get_end toks,
         no_pieces (leb n (last_line n0 toks)),
       ) refl
@@ -65,7 +62,7 @@ module _ {V : Type 0} (f : Format V) (before : List Piece) (e : Bool) (n : ℕ) 
         tokens_of-none e n,
         extent,
         append-nil toks,
-        take_all toks,
+        take-length toks,
         get_end toks,
         and_false,
         clean,
@@ -142,7 +139,8 @@ module _ {V S : Type 0} (f : Format V) (form : S) (line : ℕ) (bs : List ℕ) w
       let ends : not (is_word_byte d) ≡ true = ap not other in
       let k = (word_ends_behind (d ∷ ds) false line [] ends).first in
       let j : First false line [] = record { bytes = []; whole = false; rest = []; is = refl } in
+      let same = first_same false line [] k j in
       let test : ltb 4096 (length ((d ∷ ds) ++ [])) ≡ false =
       le-ltb _ _ (omega (arith, short, length-append (d ∷ ds) [])) in
       from_line-word f before upto held (d ∷ ds) false line [] lt h ends
-      ∙ rw (is, header, first_same false line [] k j, first_same_whole false line [] k j, test) refl
+      ∙ rw (is, header, same.0, same.1, test) refl

@@ -2,6 +2,8 @@
 use Rattle.std.proofs.Common.{◌≡◌, ℕ, zero, suc, ◌<◌, ◌≤◌, Bool, true, false, cond, eqb, ◌&&◌, List, [], ◌∷◌, ◌++◌}
 use Rattle.std.proofs.Common.{length, take, refl, sym, ap, ◌∙◌, append_assoc, arith}
 use Rattle.std.proofs.lemmas.List.{append-nil, length-append}
+use Rattle.std.proofs.Math.Seq.{take-nil}
+use Rattle.tk_words.proofs.Bools.{and_false}
 use Rattle.tk_words.specs.Lex.{is_blank, is_empty, front, behind, after_word, without_colon_before, trim_end}
 use Rattle.tk_lines.specs.Reader.Scan.{IsEmpty, Settled}
 
@@ -59,28 +61,16 @@ trim_end-blank (x ∷ xs) b h = ap (λ (r : List ℕ). cond (is_blank x && is_em
 
 not_empty : (x y : ℕ) (xs ys : List ℕ) → cond (is_blank x && is_empty (xs ++ y ∷ ys)) [] (x ∷ (xs ++ y ∷ ys)) ≡ x
     ∷ (xs ++ y ∷ ys)
-not_empty x y [] ys = by_test (is_blank x)
-  where
-    by_test : (t : Bool) → cond (t && false) [] (x ∷ y ∷ ys) ≡ x ∷ y ∷ ys
-    by_test true = refl
-    by_test false = refl
-not_empty x y (z ∷ xs) ys = by_test (is_blank x)
-  where
-    by_test : (t : Bool) → cond (t && false) [] (x ∷ z ∷ (xs ++ y ∷ ys)) ≡ x ∷ z ∷ (xs ++ y ∷ ys)
-    by_test true = refl
-    by_test false = refl
+not_empty x y [] ys = rw (and_false (is_blank x)) refl
+not_empty x y (z ∷ xs) ys = rw (and_false (is_blank x)) refl
 
 pub trim_end-solid : (xs : List ℕ) (b : ℕ) → is_blank b ≡ false → trim_end (xs ++ b ∷ []) ≡ xs ++ b ∷ []
 trim_end-solid [] b h = rw h refl
 trim_end-solid (x ∷ xs) b h = rw (trim_end-solid xs b h) (not_empty x b xs [])
 
-take-none : (j : ℕ) → take {A = ℕ} j [] ≡ []
-take-none zero = refl
-take-none (suc j) = refl
-
 pub take-room : (k : ℕ) (w : List ℕ) (b : ℕ) → length (take k w) < k → take k (w ++ b ∷ []) ≡ take k w ++ b ∷ []
 take-room zero w b h = absurd (omega arith)
-take-room (suc k) [] b h = ap (λ (x : List ℕ). b ∷ x) (take-none k)
+take-room (suc k) [] b h = ap (λ (x : List ℕ). b ∷ x) (take-nil k)
 take-room (suc k) (x ∷ w) b h = ap (λ (zs : List ℕ). x ∷ zs) (take-room k w b (omega arith))
 
 pub take-full : (k : ℕ) (w ys : List ℕ) → length (take k w) ≡ k → take k (w ++ ys) ≡ take k w

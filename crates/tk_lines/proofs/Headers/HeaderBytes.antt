@@ -1,7 +1,7 @@
 -- A header's value, byte by byte.
 use Rattle.std.proofs.Common.{◌≡◌, ℕ, zero, suc, ◌+◌, ◌<◌, ◌≤◌, ◌&&◌, Bool, true, false, eqb, List, [], ◌∷◌, ◌++◌}
 use Rattle.std.proofs.Common.{length, take, min, refl, sym, ap, ◌∙◌, arith}
-use Rattle.std.proofs.lemmas.List.{length-append, length-take, append-nil}
+use Rattle.std.proofs.lemmas.List.{length-append, length-take, append-nil, take-take}
 use Rattle.tk_lines.specs.declared.scan.Phase.{Phase}
 use Rattle.tk_lines.specs.declared.scan.Phase.TheVariants as phases
 use Rattle.tk_lines.specs.declared.scan.Scan.{Scan}
@@ -20,15 +20,12 @@ take-twice zero xs ys = refl
 take-twice (suc n) [] ys = refl
 take-twice (suc n) (x ∷ xs) ys = ap (λ (r : List ℕ). x ∷ r) (take-twice n xs ys)
 
-take-kept : (xs ys : List ℕ) → take 1024 (take 1024 xs ++ ys) ≡ take 1024 (xs ++ ys)
-take-kept xs ys = take-twice 1024 xs ys
-
 module _ (s : Scan) (v : List ℕ) (b : ℕ) (h : Scans s v) where
   abbrev pub kept : List ℕ
   kept = take 1024 (s.text ++ b ∷ [])
 
   keeps : kept ≡ take 1024 (body v ++ b ∷ [])
-  keeps = ap (λ (t : List ℕ). take 1024 (t ++ b ∷ [])) h.text ∙ take-kept (body v) (b ∷ [])
+  keeps = ap (λ (t : List ℕ). take 1024 (t ++ b ∷ [])) h.text ∙ take-twice 1024 (body v) (b ∷ [])
 
   nothing_yet : InPhase phases.Before v → body v ≡ []
   nothing_yet p = rw p refl
@@ -122,6 +119,10 @@ module _ (s : Scan) (v : List ℕ) (b : ℕ) (h : Scans s v) where
         trimmed = rw (is, trim_end-blank (body v) b blank) h.trimmed;
       }
 
+  ends_on : (xs : List ℕ) → IsEmpty (xs ++ b ∷ []) → ⊥
+  ends_on [] x = x
+  ends_on (y ∷ xs) x = x
+
   firsts : s.phase ≡ phases.First → is_blank b ≡ false → (fi : List ℕ) → fi ≡ take 64 (first_word v ++ b ∷ []) →
       Scans (record s { count = s.count + 1; first = fi; text = kept; seen = s.seen + 1; trimmed = s.seen + 1 })
       (v ++ b ∷ [])
@@ -134,7 +135,7 @@ module _ (s : Scan) (v : List ℕ) (b : ℕ) (h : Scans s v) where
       ∙ rw solid (ap (λ (x : List ℕ). x ++ b ∷ []) (sym (front-whole not_blank (body v) p.1))) in
       let n : s.seen + 1 ≡ length (body v ++ b ∷ []) = length_more (body v) b s.seen h.seen in
       record {
-        phase = rw e (settled_more v (b ∷ []) p.0, rw (is, rest) refl, rw is (solid_end (body v)));
+        phase = rw e (settled_more v (b ∷ []) p.0, rw (is, rest) refl, rw is (ends_on (body v)));
         count = length_more v b s.count h.count;
         first = rw (is, word) fits;
         text = rw is keeps;
@@ -142,10 +143,6 @@ module _ (s : Scan) (v : List ℕ) (b : ℕ) (h : Scans s v) where
         seen = rw is n;
         trimmed = rw (is, trim_end-solid (body v) b solid) n;
       }
-    where
-      solid_end : (xs : List ℕ) → IsEmpty (xs ++ b ∷ []) → ⊥
-      solid_end [] x = x
-      solid_end (y ∷ xs) x = x
 
   pub first_more : s.phase ≡ phases.First → is_blank b ≡ false → length s.first < 64 →
       Scans (record s
@@ -163,10 +160,6 @@ module _ (s : Scan) (v : List ℕ) (b : ℕ) (h : Scans s v) where
   past : (xs : List ℕ) → (IsEmpty (behind not_blank xs) → ⊥) → IsEmpty xs → ⊥
   past [] k x = k tt
   past (y ∷ xs) k x = x
-
-  ends_on : (xs : List ℕ) → IsEmpty (xs ++ b ∷ []) → ⊥
-  ends_on [] x = x
-  ends_on (y ∷ xs) x = x
 
   rests : s.phase ≡ phases.Rest → (tr : ℕ) → tr ≡ length (trim_end (body v ++ b ∷ [])) →
       Scans (record s { count = s.count + 1; text = kept; seen = s.seen + 1; trimmed = tr }) (v ++ b ∷ [])
@@ -215,18 +208,12 @@ trimmed_short (x ∷ xs) = by_end (is_blank x && is_empty (trim_end xs)) refl (t
     by_end true e before = rw e (omega arith)
     by_end false e before = rw e (omega (arith, before))
 
-take-short : (k m : ℕ) (xs : List ℕ) → k ≤ length (take m xs) → take k (take m xs) ≡ take k xs
-take-short zero m xs h = refl
-take-short (suc k) zero xs h = absurd (omega arith)
-take-short (suc k) (suc m) [] h = refl
-take-short (suc k) (suc m) (x ∷ xs) h = ap (λ (r : List ℕ). x ∷ r) (take-short k m xs (omega arith))
-
 -- the kept bytes of a value hold all of it that is not too long
 pub name_kept : (s : Scan) (v : List ℕ) → Scans s v → s.trimmed ≤ length s.text →
     take s.trimmed s.text ≡ trim (after_word v)
 name_kept s v h fits =
-    let within : s.trimmed ≤ length (take 1024 (body v)) = omega (arith, fits, ap length h.text) in
-    ap (λ (t : List ℕ). take s.trimmed t) h.text ∙ take-short s.trimmed 1024 (body v) within
+    let within : s.trimmed ≤ 1024 = omega (arith, fits, ap length h.text, length-take 1024 (body v)) in
+    ap (λ (t : List ℕ). take s.trimmed t) h.text ∙ take-take s.trimmed 1024 (body v) within
     ∙ ap (λ (k : ℕ). take k (body v)) h.trimmed ∙ take_trimmed (body v)
 
 pub name_long : (s : Scan) (v : List ℕ) → Scans s v → length s.text < s.trimmed → 1024 < length (trim (after_word v))

@@ -2,7 +2,8 @@
 use Rattle.std.proofs.Common.{◌≡◌, ℕ, ◌<◌, ◌≤◌, Bool, true, false, cond, eqb, not, ◌&&◌, ◌||◌, List, [], ◌∷◌, ◌++◌}
 use Rattle.std.proofs.Common.{length, get_or, Some, Err, refl, sym, ap, subst, ◌∙◌, append_assoc, arith}
 use Rattle.std.proofs.lemmas.List.{append-nil, length-append}
-use Rattle.std.proofs.lemmas.Bool.{eqb-true, eq-eqb}
+use Rattle.std.proofs.lemmas.Bool.{eqb-true, eq-eqb, and_parts, not-true}
+use Rattle.std.proofs.Math.Bool.{or-false}
 use Rattle.tk_words.specs.declared.keyword.Keyword.{Keyword}
 use Rattle.tk_words.specs.declared.keyword.Role.TheVariants.{BeginsSection}
 use Rattle.tk_words.specs.declared.fault.TextKind.{TextKind}
@@ -72,16 +73,12 @@ split_at held e n (b ∷ bs) run h = by_lf (eqb b LF) refl
         })
     by_lf false is =
         let k = first_line e n bs in
-        let blank : is_blank b ≡ true = by_blank (is_blank b) (rw is at h) in
+        let blank : is_blank b ≡ true = sym (or-false (is_blank b)) ∙ (rw is at h) in
         record {
           first = first-byte e n b bs is;
           split = tokens_of-run k.whole n held b k.bytes run blank
               ∙ ap (λ (ts : List Token). token held n ∷ ts) (sym (tokens_of-gap k.whole n b k.bytes blank));
         }
-      where
-        by_blank : (t : Bool) → (t || false) ≡ true → t ≡ true
-        by_blank true h = refl
-        by_blank false h = absurd cc
 
 module _ {V : Type 0} (f : Format V) (before : List Piece) (word : Keyword) (n0 : ℕ) (toks : List Token) (held : List ℕ)
     (e : Bool) (n : ℕ) (bs : List ℕ) (run : IsUnbroken held) (gap : a_gap e bs ≡ true) where
@@ -157,41 +154,34 @@ pub plain_after : (tail x : List ℕ) → behind is_blank tail ≡ [] → Starts
 plain_after tail [] h p = ap without_colon_before (behind-all is_blank tail [] h)
 plain_after tail (b ∷ x) h p = after_other tail b x h p.0 p.1
 
-pub first_same : (e : Bool) (n : ℕ) (bs : List ℕ) (k j : First e n bs) → k.bytes ≡ j.bytes
-first_same e n bs k j = let is = sym k.is ∙ j.is in
+pub first_same : (e : Bool) (n : ℕ) (bs : List ℕ) (k j : First e n bs) →
+    (k.bytes ≡ j.bytes) × (k.whole ≡ j.whole) × (k.rest ≡ j.rest)
+first_same e n bs k j =
+    let is = sym k.is ∙ j.is in
     let heads : with_bytes (record { number = n; bytes = k.bytes; whole = k.whole })
-    k.bytes ≡ record { number = n; bytes = j.bytes; whole = j.whole } = cc in ap (λ (l : Line). l.bytes) heads
-
-pub first_same_whole : (e : Bool) (n : ℕ) (bs : List ℕ) (k j : First e n bs) → k.whole ≡ j.whole
-first_same_whole e n bs k j = let is = sym k.is ∙ j.is in
-    let heads : with_bytes (record { number = n; bytes = k.bytes; whole = k.whole })
-    k.bytes ≡ record { number = n; bytes = j.bytes; whole = j.whole } = cc in ap (λ (l : Line). l.whole) heads
-
-first_same_rest : (e : Bool) (n : ℕ) (bs : List ℕ) (k j : First e n bs) → k.rest ≡ j.rest
-first_same_rest e n bs k j = let is = sym k.is ∙ j.is in cc
+    k.bytes ≡ record { number = n; bytes = j.bytes; whole = j.whole } = cc in
+    (ap (λ (l : Line). l.bytes) heads, ap (λ (l : Line). l.whole) heads, cc)
 
 at_lf : (e : Bool) (n c : ℕ) (bs : List ℕ) → c ≡ LF → (k : First e n (c ∷ bs)) → k.bytes ≡ []
 unfolding first-LF
 at_lf e n c bs lf =
     subst (λ (d : ℕ). (k : First e n (d ∷ bs)) → k.bytes ≡ []) (sym lf)
-    (λ k. first_same e n (LF ∷ bs) k (first-LF e n bs))
+    (λ k. (first_same e n (LF ∷ bs) k (first-LF e n bs)).0)
 
 both_false : (s t : Bool) → (not s && not t) ≡ true → (s ≡ false) × (t ≡ false)
-both_false true t h = absurd cc
-both_false false true h = absurd cc
-both_false false false h = (refl, refl)
+both_false s t h = let both = and_parts (not s) (not t) h in (not-true s both.0, not-true t both.1)
 
 starts_by : (e : Bool) (n b : ℕ) (bs : List ℕ) (k : First e n (b ∷ bs)) (t : Bool) → eqb b LF ≡ t →
     plain e (b ∷ bs) ≡ true → StartsPlain k.bytes
 unfolding first-byte
 starts_by e n b bs k true is h = let none : k.bytes ≡ [] = at_lf e n b bs (eqb-true b LF is) k in rw none tt
 starts_by e n b bs k false is h =
-    rw (first_same e n (b ∷ bs) k (first-byte e n b bs is)) (both_false (is_blank b) (eqb b 58) h)
+    rw (first_same e n (b ∷ bs) k (first-byte e n b bs is)).0 (both_false (is_blank b) (eqb b 58) h)
 
 starts_plain : (e : Bool) (n : ℕ) (bs : List ℕ) (k : First e n bs) → plain e bs ≡ true → StartsPlain k.bytes
 unfolding lines
 starts_plain e n [] k h = let j : First e n [] = record { bytes = []; whole = e; rest = []; is = refl } in
-    rw (first_same e n [] k j) tt
+    rw (first_same e n [] k j).0 tt
 starts_plain e n (b ∷ bs) k h = starts_by e n b bs k (eqb b LF) refl h
 
 module _ {V : Type 0} (f : Format V) (before : List Piece) (upto : ℕ) (held tail : List ℕ) (e : Bool) (n : ℕ)
@@ -236,10 +226,9 @@ module _ {V : Type 0} (f : Format V) (before : List Piece) (upto : ℕ) (held ta
   from_line-colon blank =
       let k = (word_ends_behind tail e n (58 ∷ bs) ends).first in
       let j = first_line e n bs in
-      let c = first-byte e n 58 bs refl in
-      from_line-tokens f before upto held tail e n (58 ∷ bs) lt is_word ends word is begins bs j
-      (first_same_whole e n (58 ∷ bs) k c) (first_same_rest e n (58 ∷ bs) k c)
-      (ap (λ (x : List ℕ). after_word (tail ++ x)) (first_same e n (58 ∷ bs) k c) ∙ after_colon tail j.bytes blank)
+      let same = first_same e n (58 ∷ bs) k (first-byte e n 58 bs refl) in
+      from_line-tokens f before upto held tail e n (58 ∷ bs) lt is_word ends word is begins bs j same.1 same.2
+      (ap (λ (x : List ℕ). after_word (tail ++ x)) same.0 ∙ after_colon tail j.bytes blank)
 
 -- ---- after a section's last token
 
