@@ -5,6 +5,7 @@ use Rattle.std.proofs.Common.{◌∙◌, append_assoc, arith}
 use Rattle.std.specs.Prelude.{codes}
 use Rattle.std.proofs.lemmas.Bool.{eqb-true, le-leb, lt-leb, le-ltb}
 use Rattle.std.proofs.lemmas.Int.{to_z-of_z}
+use Rattle.std.proofs.Math.Bool.{or-false}
 use Rattle.tk_problem.specs.declared.limits.TheConstants.{ENTRY_LIMIT}
 use Rattle.tk_words.specs.declared.keyword.Keyword.{Keyword}
 use Rattle.tk_words.specs.declared.keyword.Keyword.TheVariants as words
@@ -22,7 +23,8 @@ use Rattle.tk_words.specs.Entry.{is_keyword, is_eof, in_range, number_tests, num
 use Rattle.tk_lines.specs.Lists.{list_entries, trailing_stop, AreEntries}
 use Rattle.tk_lists.specs.Tour.{entry_stop, entries_stop, tour_header, tour_section, tour_format}
 use Rattle.tk_lists.specs.Reader.TourForm.{IsSeen, TourHolds, TourWants, IsNext, IsOut}
-use Rattle.tk_lines.proofs.Pieces.PieceLookups.{has-kept, has-new, tokens_in-new, tokens_in-header, tokens_in-none}
+use Rattle.tk_lines.proofs.Pieces.PieceLookups.{has-append, has-kept, has-new, tokens_in-new, tokens_in-header}
+use Rattle.tk_lines.proofs.Pieces.PieceLookups.{tokens_in-none}
 use Rattle.tk_lists.proofs.Lists.{are_more, entries_all, entries_ended, fine_more, fine_none, numbers_more}
 use Rattle.tk_lists.proofs.Lists.{length-numbers, list_stops, list_ended, list_eof, list_open, list_covers, entry_long}
 use Rattle.tk_lists.proofs.Lists.{entry_open}
@@ -30,54 +32,30 @@ use Rattle.tk_lines.proofs.Sections.ListTokens.{long_goes, open_goes}
 
 -- ---- headers
 
+seen_more : (w w' : TourWords) (before ps : List Piece) → IsSeen w before → (w.name || has words.Name ps) ≡ w'.name
+    → (w.kind || has words.Type ps) ≡ w'.kind → (w.dimension || has words.Dimension ps) ≡ w'.dimension
+    → IsSeen w' (before ++ ps)
+seen_more w w' before ps h name kind dimension = record {
+  name = has-append words.Name before ps ∙ rw h.name name;
+  kind = has-append words.Type before ps ∙ rw h.kind kind;
+  dimension = has-append words.Dimension before ps ∙ rw h.dimension dimension;
+}
+
 module _ (s s' : TourForm) (before : List Piece) (word : Keyword) (v : List ℕ) (n : ℕ) (h : TourHolds s before)
     (cities : s'.cities.items ≡ s.cities.items) where
   -- a header that is no section, with the words that it leaves
-  pub holds_header : IsSeen s'.seen (before ++ a_header word v n) → s'.seen.section ≡ s.seen.section →
-      has words.TourSection (a_header word v n) ≡ false → TourHolds s' (before ++ a_header word v n)
-  holds_header seen section other = record {
-    seen = seen;
+  holds_header : (s.seen.name || has words.Name (a_header word v n)) ≡ s'.seen.name
+      → (s.seen.kind || has words.Type (a_header word v n)) ≡ s'.seen.kind
+      → (s.seen.dimension || has words.Dimension (a_header word v n)) ≡ s'.seen.dimension
+      → s'.seen.section ≡ s.seen.section → has words.TourSection (a_header word v n) ≡ false
+      → TourHolds s' (before ++ a_header word v n)
+  holds_header name kind dimension section other = record {
+    seen = seen_more s.seen s'.seen before (a_header word v n) h.seen name kind dimension;
     section = has-kept words.TourSection before (a_header word v n) other ∙ h.section ∙ sym section;
     cities = cities ∙ h.cities
         ∙ ap (λ (ts : List Token). numbers_of (list_entries ts))
         (sym (tokens_in-header words.TourSection before word v n));
   }
-
-module _ (before : List Piece) (v : List ℕ) (n : ℕ) (w w' : TourWords) (h : IsSeen w before) where
-  pub seen_name : w' ≡ record w { name = true } → IsSeen w' (before ++ a_header words.Name v n)
-  seen_name e =
-      rw e
-      (record {
-        name = has-new words.Name before _ refl;
-        kind = has-kept words.Type before _ refl ∙ h.kind;
-        dimension = has-kept words.Dimension before _ refl ∙ h.dimension;
-      })
-
-  pub seen_kind : w' ≡ record w { kind = true } → IsSeen w' (before ++ a_header words.Type v n)
-  seen_kind e =
-      rw e
-      (record {
-        name = has-kept words.Name before _ refl ∙ h.name;
-        kind = has-new words.Type before _ refl;
-        dimension = has-kept words.Dimension before _ refl ∙ h.dimension;
-      })
-
-  pub seen_dimension : w' ≡ record w { dimension = true } → IsSeen w' (before ++ a_header words.Dimension v n)
-  seen_dimension e =
-      rw e
-      (record {
-        name = has-kept words.Name before _ refl ∙ h.name;
-        kind = has-kept words.Type before _ refl ∙ h.kind;
-        dimension = has-new words.Dimension before _ refl;
-      })
-
-  pub seen_comment : IsSeen w (before ++ a_header words.Comment v n)
-  seen_comment =
-      record {
-        name = has-kept words.Name before _ refl ∙ h.name;
-        kind = has-kept words.Type before _ refl ∙ h.kind;
-        dimension = has-kept words.Dimension before _ refl ∙ h.dimension;
-      }
 
 -- a header is taken
 module _ (s : TourForm) (b : Bool) (before : List Piece) (v : List ℕ) (n : ℕ) (h : TourHolds s before)
@@ -86,11 +64,10 @@ module _ (s : TourForm) (b : Bool) (before : List Piece) (v : List ℕ) (n : ℕ
       TourHolds (record s { seen = record s.seen { name = b } }) (before ++ a_header words.Name v n)
       × (first_at n (tour_header before words.Name v) ≡ None)
   name_ok old short =
-      let s' : TourForm = record s { seen = record s.seen { name = b } } in
       let test : ltb 1024 (length (trim (after_word v))) ≡ false = le-ltb _ _ short in
       let none : has words.Name before ≡ false = h.seen.name ∙ old in (
-        holds_header s s' before words.Name v n h refl
-            (seen_name before v n s.seen s'.seen h.seen (ap (λ (t : Bool). record s.seen { name = t }) new)) refl refl,
+        holds_header s (record s { seen = record s.seen { name = b } }) before words.Name v n h refl (rw old (sym new))
+            (or-false s.seen.kind) (or-false s.seen.dimension) refl refl,
         rw (test, none) refl,
       )
 
@@ -98,10 +75,9 @@ module _ (s : TourForm) (b : Bool) (before : List Piece) (v : List ℕ) (n : ℕ
       TourHolds (record s { seen = record s.seen { kind = b } }) (before ++ a_header words.Type v n)
       × (first_at n (tour_header before words.Type v) ≡ None)
   kind_ok old tour =
-      let s' : TourForm = record s { seen = record s.seen { kind = b } } in
       let none : has words.Type before ≡ false = h.seen.kind ∙ old in (
-        holds_header s s' before words.Type v n h refl
-            (seen_kind before v n s.seen s'.seen h.seen (ap (λ (t : Bool). record s.seen { kind = t }) new)) refl refl,
+        holds_header s (record s { seen = record s.seen { kind = b } }) before words.Type v n h refl
+            (or-false s.seen.name) (rw old (sym new)) (or-false s.seen.dimension) refl refl,
         rw (none, tour) refl,
       )
 
@@ -109,18 +85,17 @@ module _ (s : TourForm) (b : Bool) (before : List Piece) (v : List ℕ) (n : ℕ
       TourHolds (record s { seen = record s.seen { dimension = b } }) (before ++ a_header words.Dimension v n)
       × (first_at n (tour_header before words.Dimension v) ≡ None)
   dimension_ok old fine =
-      let s' : TourForm = record s { seen = record s.seen { dimension = b } } in
       let none : has words.Dimension before ≡ false = h.seen.dimension ∙ old in (
-        holds_header s s' before words.Dimension v n h refl
-            (seen_dimension before v n s.seen s'.seen h.seen (ap (λ (t : Bool). record s.seen { dimension = t }) new))
-            refl refl,
+        holds_header s (record s { seen = record s.seen { dimension = b } }) before words.Dimension v n h refl
+            (or-false s.seen.name) (or-false s.seen.kind) (rw old (sym new)) refl refl,
         rw none fine,
       )
 
 pub comment_ok : (s : TourForm) (before : List Piece) (v : List ℕ) (n : ℕ) → TourHolds s before →
     TourHolds s (before ++ a_header words.Comment v n)
 comment_ok s before v n h =
-    holds_header s s before words.Comment v n h refl (seen_comment before v n s.seen s.seen h.seen) refl refl
+    holds_header s s before words.Comment v n h refl (or-false s.seen.name) (or-false s.seen.kind)
+    (or-false s.seen.dimension) refl refl
 
 pub dimension_err : (s : TourForm) (before : List Piece) (v : List ℕ) (n : ℕ) (k : TextKind) → TourHolds s before →
     s.seen.dimension ≡ false → first_at n (number_tests 1 ENTRY_LIMIT (first_word v)) ≡ Some (Fault n k) →
@@ -135,10 +110,6 @@ module _ (before : List Piece) (n : ℕ) (fresh : has words.TourSection before �
       tour_section before words.TourSection n toks after ≡ or_else s (trailing_stop after)
   section_by toks after s h = rw (fresh, h) refl
 
-  section_at_stop : (toks : List Token) (after : After) (s : Stop) → entries_stop 0 (list_entries toks) ≡ Some s →
-      tour_section before words.TourSection n toks after ≡ Some s
-  section_at_stop toks after s h = section_by toks after (Some s) h
-
   module _ (toks : List Token) (are : AreEntries toks) (fine : entries_stop 0 toks ≡ None) where
     all_fine : entries_stop 0 (list_entries toks) ≡ None
     all_fine = ap (entries_stop 0) (entries_all toks are) ∙ fine
@@ -147,7 +118,7 @@ module _ (before : List Piece) (n : ℕ) (fresh : has words.TourSection before �
         → entry_stop (length toks) t ≡ Some s → (more : List Token) (after : After)
         → tour_section before words.TourSection n (taken tour_format before words.TourSection (toks ++ t ∷ more))
         after ≡ Some s
-    stops_at t s a b stop more after = section_at_stop _ after s (list_stops toks are fine t more s a b stop)
+    stops_at t s a b stop more after = section_by _ after (Some s) (list_stops toks are fine t more s a b stop)
 
     tour_goes : Goes tour_format before words.TourSection n toks
     tour_goes = record {
@@ -205,26 +176,15 @@ module _ (s : TourForm) (before : List Piece) (n : ℕ) where
 
 module _ (s s' : TourForm) (before : List Piece) (word : Keyword) (n : ℕ) (toks : List Token)
     (w : TourWants s before word n toks) (seen : s'.seen ≡ s.seen) where
-  at_word : (P : Keyword → Type 0) → P words.TourSection → P word
-  at_word P p = subst P (sym w.word_is) p
-
   still_seen : IsSeen s'.seen before
   still_seen = subst (λ (x : TourWords). IsSeen x before) (sym seen) w.seen
-
-  section_seen : (ps : List Piece) → IsSeen s'.seen before → has words.Name ps ≡ false → has words.Type ps ≡ false →
-      has words.Dimension ps ≡ false → IsSeen s'.seen (before ++ ps)
-  section_seen ps h a b c =
-      record {
-        name = has-kept words.Name before ps a ∙ h.name;
-        kind = has-kept words.Type before ps b ∙ h.kind;
-        dimension = has-kept words.Dimension before ps c ∙ h.dimension;
-      }
 
   -- after the section
   holds_section : (ts : List Token) (after : After) → s'.cities.items ≡ numbers_of (list_entries ts) →
       TourHolds s' (before ++ a_section words.TourSection n ts after)
   holds_section ts after cities = record {
-    seen = section_seen (a_section words.TourSection n ts after) still_seen refl refl refl;
+    seen = seen_more s'.seen s'.seen before _ still_seen (or-false s'.seen.name) (or-false s'.seen.kind)
+        (or-false s'.seen.dimension);
     section = has-new words.TourSection before (a_section words.TourSection n ts after) refl
         ∙ sym (ap (λ (x : TourWords). x.section) seen ∙ w.section);
     cities = cities
@@ -235,12 +195,10 @@ module _ (s s' : TourForm) (before : List Piece) (word : Keyword) (n : ℕ) (tok
   pub early_ended : s'.cities.items ≡ s.cities.items → (line : ℕ) →
       TourHolds s' (before ++ a_section word n toks (Early line true))
       × (tour_section before word n toks (Early line true) ≡ None)
-  early_ended cities line =
-      at_word (λ (x : Keyword). TourHolds s' (before ++ a_section x n toks (Early line true))
-      × (tour_section before x n toks (Early line true) ≡ None)) (
-        holds_section toks (Early line true) (cities ∙ w.cities ∙ ap numbers_of (sym (entries_all toks w.are))),
-        section_by before n w.fresh toks (Early line true) None (all_fine before n w.fresh toks w.are w.fine),
-      )
+  early_ended cities line = rw w.word_is (
+    holds_section toks (Early line true) (cities ∙ w.cities ∙ ap numbers_of (sym (entries_all toks w.are))),
+    section_by before n w.fresh toks (Early line true) None (all_fine before n w.fresh toks w.are w.fine),
+  )
 
   module _ (bytes : List ℕ) (line : ℕ) (short : length bytes ≤ 64) where
     not_long : ltb 64 (length bytes) ≡ false
@@ -253,31 +211,27 @@ module _ (s s' : TourForm) (before : List Piece) (word : Keyword) (n : ℕ) (tok
         → ((ones : List Token) →
         TourHolds s' (before ++ a_section word n ((toks ++ whole bytes line ∷ []) ++ ones) Clean))
         × EndsWithMinusOne tour_format before word n (toks ++ whole bytes line ∷ [])
-    token_ending cities minus =
-        at_word (λ (x : Keyword). ((ones : List Token) →
-        TourHolds s' (before ++ a_section x n ((toks ++ whole bytes line ∷ []) ++ ones) Clean))
-        × EndsWithMinusOne tour_format before x n (toks ++ whole bytes line ∷ [])) (
-          λ ones. holds_section ((toks ++ whole bytes line ∷ []) ++ ones) Clean (cities ∙ w.cities
-              ∙ ap numbers_of
-              (sym (ap list_entries (append_assoc toks (whole bytes line ∷ []) ones)
-              ∙ entries_ended toks ones (whole bytes line) w.are minus))),
-          tour_ends before n w.fresh toks w.are w.fine (whole bytes line) minus,
-        )
+    token_ending cities minus = rw w.word_is (
+      λ ones. holds_section ((toks ++ whole bytes line ∷ []) ++ ones) Clean (cities ∙ w.cities
+          ∙ ap numbers_of
+          (sym (ap list_entries (append_assoc toks (whole bytes line ∷ []) ones)
+          ∙ entries_ended toks ones (whole bytes line) w.are minus))),
+      tour_ends before n w.fresh toks w.are w.fine (whole bytes line) minus,
+    )
 
     pub token_eof : s'.cities.items ≡ s.cities.items → integer bytes ≡ None → is_eof bytes ≡ true
         → TourHolds s' (before ++ a_section word n toks (Early line true))
         × EndsAtEof tour_format before word n toks (whole bytes line)
     token_eof cities none eof = (
       (early_ended cities line).0,
-      at_word (λ (x : Keyword). EndsAtEof tour_format before x n toks (whole bytes line))
-          (tour_eof before n w.fresh toks w.are w.fine (whole bytes line) (ap is_minus_one none) eof),
+      rw w.word_is (tour_eof before n w.fresh toks w.are w.fine (whole bytes line) (ap is_minus_one none) eof),
     )
 
     pub token_stops : (k : TextKind) → is_minus_one (integer bytes) ≡ false → is_eof bytes ≡ false →
         entry_stop (length toks) (whole bytes line) ≡ Some (Fault line k) →
         StopsAt tour_format before word n toks (whole bytes line) k
-    token_stops k minus eof stop = at_word (λ (x : Keyword). StopsAt tour_format before x n toks (whole bytes line) k)
-        (stops_at before n w.fresh toks w.are w.fine (whole bytes line) (Fault line k) minus eof stop)
+    token_stops k minus eof stop =
+        rw w.word_is (stops_at before n w.fresh toks w.are w.fine (whole bytes line) (Fault line k) minus eof stop)
 
     pub word_stops : integer bytes ≡ None → is_keyword bytes ≡ true → is_eof bytes ≡ false →
         StopsAt tour_format before word n toks (whole bytes line) kinds.Truncated
@@ -329,8 +283,7 @@ module _ (s s' : TourForm) (before : List Piece) (word : Keyword) (n : ℕ) (tok
               fine = fine;
               cities = cities;
             },
-            at_word (λ (x : Keyword). Goes tour_format before x n (toks ++ whole bytes line ∷ []))
-                (tour_goes before n w.fresh (toks ++ whole bytes line ∷ []) are fine),
+            rw w.word_is (tour_goes before n w.fresh (toks ++ whole bytes line ∷ []) are fine),
           )
 
 -- ---- whether a number is -1, as the code tests it
