@@ -2,6 +2,7 @@
 use Rattle.std.proofs.Common.{◌≡◌, ℕ, suc, ◌+◌, ◌-◌, ◌<◌, ◌≤◌, true, false, ltb, ◌&&◌, List, [], ◌∷◌, ◌++◌, length}
 use Rattle.std.proofs.Common.{take, Option, Some, None, refl, sym, ap, ◌∙◌, append_assoc, arith}
 use Rattle.std.proofs.lemmas.List.{append-nil, length-append}
+use Rattle.std.proofs.Math.Seq.{take-append-add}
 use Rattle.std.proofs.lemmas.Bool.{lt-ltb, le-ltb}
 use Rattle.tk_words.specs.declared.fault.TextKind.TheVariants as kinds
 use Rattle.tk_words.specs.Lex.{Token, integer}
@@ -10,7 +11,6 @@ use Rattle.tk_words.specs.MinusOne.{is_ending, one_more}
 use Rattle.tk_words.specs.Entry.{is_eof, numbers_of, natural_or_zero}
 use Rattle.tk_lines.specs.Lists.{list_extent, list_entries, AreEntries}
 use Rattle.tk_lists.specs.Tour.{entry_stop, entries_stop}
-use Rattle.tk_lines.proofs.Sections.SectionEnds.{take_past}
 
 pub list_extent-entries : (ts more : List Token) → AreEntries ts →
     list_extent (ts ++ more) ≡ record {
@@ -27,7 +27,7 @@ list_extent-entries (t ∷ ts) more h =
     (ap (λ (k : ℕ). record { count = k; closed = (list_extent more).closed; at_eof = (list_extent more).at_eof })
     (omega arith))
 
-nothing_before : (x y : Option Stop) → or_else x y ≡ None → (x ≡ None) × (y ≡ None)
+pub nothing_before : (x y : Option Stop) → or_else x y ≡ None → (x ≡ None) × (y ≡ None)
 nothing_before None y h = (refl, h)
 nothing_before (Some s) y h = absurd cc
 
@@ -82,12 +82,6 @@ pub length-numbers : (ts : List Token) → length (numbers_of ts) ≡ length ts
 length-numbers [] = refl
 length-numbers (t ∷ ts) = ap suc (length-numbers ts)
 
-take_at_least : (j : ℕ) (ts more : List Token) (t : Token) → take (length ts + suc j) (ts ++ t ∷ more) ≡ ts ++ t
-    ∷ take j more
-take_at_least j ts more t =
-    let past : length ts + suc j - length ts ≡ suc j = omega arith in
-    take_past (length ts + suc j) ts (t ∷ more) (omega arith) ∙ ap (λ (k : ℕ). ts ++ take k (t ∷ more)) past
-
 module _ (ts : List Token) (are : AreEntries ts) (fine : entries_stop 0 ts ≡ None) where
   count_past : (t : Token) (more : List Token) → is_ending t ≡ false → (t.whole && is_eof t.bytes) ≡ false →
       (list_extent (ts ++ t ∷ more)).count ≡ length ts + suc (list_extent more).count
@@ -99,7 +93,7 @@ module _ (ts : List Token) (are : AreEntries ts) (fine : entries_stop 0 ts ≡ N
       → (t.whole && is_eof t.bytes) ≡ false → entry_stop (length ts) t ≡ Some s
       → entries_stop 0 (list_entries (take (list_extent (ts ++ t ∷ more)).count (ts ++ t ∷ more))) ≡ Some s
   list_stops t more s a b stop =
-      rw (count_past t more a b, take_at_least (list_extent more).count ts more t)
+      rw (count_past t more a b, take-append-add ts (t ∷ more) (suc (list_extent more).count))
       (entries_stop-at 0 ts (take (list_extent more).count more) t s are fine a
       (ap (λ (j : ℕ). entry_stop j t) (omega arith) ∙ stop))
 

@@ -24,7 +24,8 @@ use Rattle.tk_lines.proofs.Headers.ByteRuns.{front-whole, front_grows}
 use Rattle.tk_lines.proofs.MiddleOfLine.{behind-more, front-more}
 use Rattle.tk_lines.proofs.Steady.{stops, stops_grown}
 use Rattle.tk_lists.specs.Solution.{Head, Short, Bad, Behind, Solution, SolutionLine, Unsure, Other, Cost, colon_head}
-use Rattle.tk_lists.specs.Solution.{digits_head, number_head, route_head, is_sign, is_hash, route_line, may_be_word}
+use Rattle.tk_lists.specs.Solution.{digits_head, without_first, number_head, route_head, is_sign, is_hash, route_line}
+use Rattle.tk_lists.specs.Solution.{may_be_word}
 use Rattle.tk_lists.specs.Solution.{by_word, solid_line, line_of, has_cost, count_of, is_natural, customer_stop}
 use Rattle.tk_lists.specs.Solution.{customers_stop, line_trailing_stop, cut_short, cost_stop, route_tests, cost_tests}
 use Rattle.tk_lists.specs.Solution.{other_tests, line_stop, solution_at_end, judge_lines, solution_decided}
@@ -141,28 +142,20 @@ digits_stay : (bs x : List ℕ) → HeadStays (digits_head 0 bs) (digits_head 0 
 digits_stay [] x = tt
 digits_stay (b ∷ bs) x = by_rest (behind is_ascii_digit (b ∷ bs)) refl
   where
-    -- by the tests of both heads
-    both : (m m' : ℕ) (h h' : Head) → (ltb 18 m ≡ true → ltb 18 m' ≡ true)
-        → (ltb 18 m ≡ false → HeadStays (cond (eqb m 0) Bad h) (cond (ltb 18 m') Bad (cond (eqb m' 0) Bad h')) x)
-        → HeadStays (cond (ltb 18 m) Bad (cond (eqb m 0) Bad h)) (cond (ltb 18 m') Bad (cond (eqb m' 0) Bad h')) x
-    both m m' h h' g k = by_long (ltb 18 m) refl
-      where
-        by_long : (t : Bool) → ltb 18 m ≡ t →
-            HeadStays (cond (ltb 18 m) Bad (cond (eqb m 0) Bad h)) (cond (ltb 18 m') Bad (cond (eqb m' 0) Bad h')) x
-        by_long true e = rw (e, g e) refl
-        by_long false e = rw e (k e)
-
     by_rest : (r : List ℕ) → behind is_ascii_digit (b ∷ bs) ≡ r →
         HeadStays (digits_head 0 (b ∷ bs)) (digits_head 0 ((b ∷ bs) ++ x)) x
     by_rest [] e =
         let all : front is_ascii_digit (b ∷ bs) ≡ b ∷ bs = front-whole is_ascii_digit (b ∷ bs) e in
         let some : eqb (0 + length (front is_ascii_digit (b ∷ bs))) 0 ≡ false =
         ne_eqb _ _ (λ z. omega (arith, z, ap length all)) in
-        both (0 + length (front is_ascii_digit (b ∷ bs))) (0 + length (front is_ascii_digit ((b ∷ bs) ++ x)))
-        (colon_head (behind is_blank (behind is_ascii_digit (b ∷ bs))))
-        (colon_head (behind is_blank (behind is_ascii_digit ((b ∷ bs) ++ x))))
-        (λ t. lt-ltb _ _ (omega (arith, ltb-true _ _ t, front_grows is_ascii_digit (b ∷ bs) x e)))
-        (λ t. rw (some, e) tt)
+        rw (some, e) (by_long (ltb 18 (0 + length (front is_ascii_digit (b ∷ bs)))) refl)
+      where
+        by_long : (t : Bool) → ltb 18 (0 + length (front is_ascii_digit (b ∷ bs))) ≡ t →
+            HeadStays (cond t Bad Short) (digits_head 0 ((b ∷ bs) ++ x)) x
+        by_long true t =
+            rw (lt-ltb 18 (0 + length (front is_ascii_digit ((b ∷ bs) ++ x)))
+            (omega (arith, ltb-true _ _ t, front_grows is_ascii_digit (b ∷ bs) x e))) refl
+        by_long false t = tt
     by_rest (c ∷ cs) e =
         let same : front is_ascii_digit ((b ∷ bs) ++ x) ≡ front is_ascii_digit (b ∷ bs) =
         front-more is_ascii_digit (b ∷ bs) x c cs e in
@@ -176,33 +169,30 @@ digits_stay (b ∷ bs) x = by_rest (behind is_ascii_digit (b ∷ bs)) refl
             → HeadStays (colon_head (behind is_blank (c ∷ cs))) (colon_head (behind is_blank ((c ∷ cs) ++ x))) x
             → HeadStays (cond s Bad (cond t Bad (colon_head (behind is_blank (c ∷ cs)))))
             (cond s Bad (cond t Bad (colon_head (behind is_blank ((c ∷ cs) ++ x))))) x
-        by_tests true t h = refl
-        by_tests false true h = refl
         by_tests false false h = h
+        by_tests _ _ h = refl
+
+-- behind blanks, and a first byte that may pass
+first_stays : (p : ℕ → Bool) (f : List ℕ → Head) → f [] ≡ Short → ((bs x : List ℕ) → HeadStays (f bs) (f (bs ++ x)) x)
+    → (bs x : List ℕ)
+    → HeadStays (f (without_first p (behind is_blank bs))) (f (without_first p (behind is_blank (bs ++ x)))) x
+first_stays p f short stay bs x = by_rest (behind is_blank bs) refl
+  where
+    by_first : (t : Bool) (c : ℕ) (cs : List ℕ) →
+        HeadStays (f (cond t cs (c ∷ cs))) (f (cond t (cs ++ x) (c ∷ cs ++ x))) x
+    by_first true c cs = stay cs x
+    by_first false c cs = stay (c ∷ cs) x
+
+    by_rest : (r : List ℕ) → behind is_blank bs ≡ r →
+        HeadStays (f (without_first p (behind is_blank bs))) (f (without_first p (behind is_blank (bs ++ x)))) x
+    by_rest [] e = rw (e, short) tt
+    by_rest (c ∷ cs) e = rw (e, behind-more is_blank bs x c cs e) (by_first (p c) c cs)
 
 number_stays : (bs x : List ℕ) → HeadStays (number_head bs) (number_head (bs ++ x)) x
-number_stays bs x = by_rest (behind is_blank bs) refl
-  where
-    by_sign : (t : Bool) (c : ℕ) (cs : List ℕ) →
-        HeadStays (digits_head 0 (cond t cs (c ∷ cs))) (digits_head 0 (cond t (cs ++ x) (c ∷ cs ++ x))) x
-    by_sign true c cs = digits_stay cs x
-    by_sign false c cs = digits_stay (c ∷ cs) x
-
-    by_rest : (r : List ℕ) → behind is_blank bs ≡ r → HeadStays (number_head bs) (number_head (bs ++ x)) x
-    by_rest [] e = rw e tt
-    by_rest (c ∷ cs) e = rw (e, behind-more is_blank bs x c cs e) (by_sign (is_sign c) c cs)
+number_stays = first_stays is_sign (digits_head 0) refl digits_stay
 
 head_stays : (bs x : List ℕ) → HeadStays (route_head bs) (route_head (bs ++ x)) x
-head_stays bs x = by_rest (behind is_blank bs) refl
-  where
-    by_hash : (t : Bool) (c : ℕ) (cs : List ℕ) →
-        HeadStays (number_head (cond t cs (c ∷ cs))) (number_head (cond t (cs ++ x) (c ∷ cs ++ x))) x
-    by_hash true c cs = number_stays cs x
-    by_hash false c cs = number_stays (c ∷ cs) x
-
-    by_rest : (r : List ℕ) → behind is_blank bs ≡ r → HeadStays (route_head bs) (route_head (bs ++ x)) x
-    by_rest [] e = rw e tt
-    by_rest (c ∷ cs) e = rw (e, behind-more is_blank bs x c cs e) (by_hash (is_hash c) c cs)
+head_stays = first_stays is_hash number_head refl number_stays
 
 -- ---- the last line, which may go on
 
@@ -224,18 +214,16 @@ module _ (before : List SolutionLine) (n : ℕ) (w : Bool) (x : List ℕ) (line 
       line_trailing_stop n (front ++ last) ≡ Some (Fault line k) →
       line_trailing_stop n (front ++ rest) ≡ Some (Fault line k)
   trailing_stays [] [] rest g h = absurd cc
-  trailing_stays [] (t ∷ []) [] g h = absurd g
   trailing_stays [] (t ∷ []) (u ∷ rest) g h = h
-  trailing_stays [] (t ∷ s ∷ last) rest g h = absurd g
+  trailing_stays [] _ rest g h = absurd g
   trailing_stays (y ∷ front) last rest g h = h
 
   cost_grown : (front last rest : List Token) → Lasts last rest →
       cost_stop n false (front ++ last) ≡ Some (Fault line k) → cost_stop n w (front ++ rest) ≡ Some (Fault line k)
   cost_grown [] [] rest g h = absurd (let j : Some Open ≡ Some (Fault line k) = h in cc)
-  cost_grown [] (t ∷ []) [] g h = absurd g
   cost_grown [] (t ∷ []) (u ∷ rest) g h =
       checked_grown 64 t u (cost_number_tests t) (cost_number_tests u) None (line_trailing_stop n rest) line k g h
-  cost_grown [] (t ∷ s ∷ last) rest g h = absurd g
+  cost_grown [] _ rest g h = absurd g
   cost_grown (y ∷ front) last rest g h =
       or_else_kept (checked 64 y (cost_number_tests y)) (line_trailing_stop n (front ++ last))
       (line_trailing_stop n (front ++ rest)) (Fault line k) (trailing_stays front last rest g) h
@@ -252,12 +240,8 @@ module _ (before : List SolutionLine) (n : ℕ) (w : Bool) (x : List ℕ) (line 
     where
       by_first : (o : Option Stop) → first_at n (route_tests before) ≡ o →
           line_stop before n w (route_line n w h') ≡ Some (Fault line k)
-      by_first None e =
-          absurd (let j : Some Open ≡ Some (Fault line k) = sym (ap (λ (o : Option Stop). or_else o (cut_short n false))
-          e) ∙ f in cc)
-      by_first (Some z) e =
-          route_stops before n w (Fault line k) h'
-          (e ∙ sym (ap (λ (o : Option Stop). or_else o (cut_short n false)) e) ∙ f)
+      by_first None e = absurd (let j = rw e at f in cc)
+      by_first (Some z) e = route_stops before n w (Fault line k) h' (e ∙ (rw e at f))
   route_stays Bad h' s f = subst (λ (h : Head). line_stop before n w (route_line n w h) ≡ Some (Fault line k)) (sym s) f
   route_stays (Behind bs) h' s f =
       subst (λ (h : Head). line_stop before n w (route_line n w h) ≡ Some (Fault line k)) (sym s)
@@ -285,19 +269,14 @@ module _ (before : List SolutionLine) (n : ℕ) (w : Bool) (x : List ℕ) (line 
       line_stop before n w (solid_line n w ((b ∷ bs) ++ x)) ≡ Some (Fault line k)
   solid_stays b bs f = by_tail (behind is_word_byte (b ∷ bs)) refl
     where
-      to_line : (old new : SolutionLine) → solid_line n false (b ∷ bs) ≡ old → solid_line n w ((b ∷ bs) ++ x) ≡ new
-          → (line_stop before n false old ≡ Some (Fault line k) → line_stop before n w new ≡ Some (Fault line k))
-          → line_stop before n w (solid_line n w ((b ∷ bs) ++ x)) ≡ Some (Fault line k)
-      to_line old new p q g = ap (line_stop before n w) q ∙ g (sym (ap (line_stop before n false) p) ∙ f)
-
       by_may : (t : Bool) → may_be_word (b ∷ bs) ≡ t → behind is_word_byte (b ∷ bs) ≡ [] →
           line_stop before n w (solid_line n w ((b ∷ bs) ++ x)) ≡ Some (Fault line k)
       by_may true m e =
           let is : solid_line n false (b ∷ bs) ≡ Unsure = rw (front-whole is_word_byte (b ∷ bs) e, e, m) refl in
-          absurd (let j : Some Open ≡ Some (Fault line k) = sym (ap (line_stop before n false) is) ∙ f in cc)
+          absurd (let j = rw is at f in cc)
       by_may false m e =
           let is : solid_line n false (b ∷ bs) ≡ Other = rw (front-whole is_word_byte (b ∷ bs) e, e, m) refl in
-          to_line Other Other is (solid_other n (b ∷ bs) (omega arith) e m x w) (λ g. g)
+          rw (solid_other n (b ∷ bs) (omega arith) e m x w) (rw is at f)
 
       by_tail : (y : List ℕ) → behind is_word_byte (b ∷ bs) ≡ y →
           line_stop before n w (solid_line n w ((b ∷ bs) ++ x)) ≡ Some (Fault line k)
@@ -311,7 +290,7 @@ module _ (before : List SolutionLine) (n : ℕ) (w : Bool) (x : List ℕ) (line 
             behind-more is_word_byte (b ∷ bs) x d ds e,
             and_false (not w),
           ) refl in
-          to_line (by_word n false word (d ∷ ds)) (by_word n w word ((d ∷ ds) ++ x)) old new (word_stays word (d ∷ ds))
+          rw new (word_stays word (d ∷ ds) (rw old at f))
 
   line_stays : (bs : List ℕ) → line_stop before n false (line_of n false bs) ≡ Some (Fault line k) →
       line_stop before n w (line_of n w (bs ++ x)) ≡ Some (Fault line k)
@@ -319,12 +298,8 @@ module _ (before : List SolutionLine) (n : ℕ) (w : Bool) (x : List ℕ) (line 
     where
       by_held : (held : List ℕ) → behind is_blank bs ≡ held →
           line_stop before n w (solid_line n w (behind is_blank (bs ++ x))) ≡ Some (Fault line k)
-      by_held [] e =
-          absurd (let j : Some Open ≡ Some (Fault line k) =
-          sym (ap (λ (y : List ℕ). line_stop before n false (solid_line n false y)) e) ∙ f in cc)
-      by_held (b ∷ held) e =
-          ap (λ (y : List ℕ). line_stop before n w (solid_line n w y)) (behind-more is_blank bs x b held e)
-          ∙ solid_stays b held (sym (ap (λ (y : List ℕ). line_stop before n false (solid_line n false y)) e) ∙ f)
+      by_held [] e = absurd (let j = rw e at f in cc)
+      by_held (b ∷ held) e = rw (behind-more is_blank bs x b held e) (solid_stays b held (rw e at f))
 
 -- ---- what is decided stays
 

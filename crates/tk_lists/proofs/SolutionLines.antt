@@ -3,6 +3,7 @@ use Rattle.std.proofs.Common.{◌≡◌, ℕ, suc, ◌+◌, ◌<◌, ◌≤◌, 
 use Rattle.std.proofs.Common.{◌||◌, List, [], ◌∷◌, ◌++◌, length, map, ℤ, pos, negsuc, refl, sym, ap, ◌∙◌, append_assoc}
 use Rattle.std.proofs.Common.{arith}
 use Rattle.std.proofs.lemmas.Bool.{le-leb, lt-leb, le-ltb}
+use Rattle.std.proofs.Math.Bool.{or_assoc, or-false}
 use Rattle.std.proofs.lemmas.List.{append-nil, length-append}
 use Rattle.tk_lists.specs.declared.solution_form.SolutionForm.{SolutionForm}
 use Rattle.tk_words.specs.Lex.{Token, integer}
@@ -16,7 +17,7 @@ use Rattle.tk_lines.specs.Pieces.{Stop, Open, Fault, or_else}
 use Rattle.std.specs.Int.Signed.{lt_z}
 use Rattle.std.specs.Prelude.{is_none}
 use Rattle.tk_problem.specs.declared.limits.TheConstants.{ENTRY_LIMIT}
-use Rattle.tk_lists.proofs.Lists.{numbers_more}
+use Rattle.tk_lists.proofs.Lists.{nothing_before, numbers_more}
 
 pub routes_of-append : (xs ys : List SolutionLine) → routes_in (xs ++ ys) ≡ routes_in xs ++ routes_in ys
 routes_of-append [] ys = refl
@@ -29,12 +30,8 @@ count_of-append (x ∷ xs) ys = omega (arith, count_of-append xs ys)
 
 pub has_cost-append : (xs ys : List SolutionLine) → has_cost (xs ++ ys) ≡ (has_cost xs || has_cost ys)
 has_cost-append [] ys = refl
-has_cost-append (x ∷ xs) ys = by_test (is_cost x) (has_cost-append xs ys)
-  where
-    by_test : (t : Bool) → has_cost (xs ++ ys) ≡ (has_cost xs || has_cost ys) →
-        (t || has_cost (xs ++ ys)) ≡ ((t || has_cost xs) || has_cost ys)
-    by_test true h = refl
-    by_test false h = h
+has_cost-append (x ∷ xs) ys = ap (λ (t : Bool). is_cost x || t) (has_cost-append xs ys)
+    ∙ sym (or_assoc (is_cost x) (has_cost xs) (has_cost ys))
 
 -- the cost that a first line tells is the one that counts
 pub cost_of-append : (xs ys : List SolutionLine) → cost_of (xs ++ ys) ≡ cond (has_cost xs) (cost_of xs) (cost_of ys)
@@ -62,14 +59,10 @@ keeps_line s before l no_route no_customer plain k = record {
   routes = k.routes ∙ sym (routes_of-append before (l ∷ []) ∙ rw no_route (append-nil (routes_in before)));
   route = k.route;
   customers = omega (arith, k.customers, count_of-append before (l ∷ []), no_customer);
-  priced = k.priced ∙ sym (has_cost-append before (l ∷ []) ∙ rw plain (or_false (has_cost before)));
+  priced = k.priced ∙ sym (has_cost-append before (l ∷ []) ∙ rw plain (or-false (has_cost before)));
   cost = k.cost ∙ sym (cost_of-append before (l ∷ []) ∙ rw plain (same (has_cost before) before refl));
 }
   where
-    or_false : (t : Bool) → (t || false) ≡ t
-    or_false true = refl
-    or_false false = refl
-
     same : (t : Bool) (xs : List SolutionLine) → has_cost xs ≡ t → cond t (cost_of xs) (pos 0) ≡ cost_of xs
     same true xs h = refl
     same false xs h = sym (no_cost xs h)
@@ -89,27 +82,25 @@ keeps_route s t before toks k unpriced routes route customers priced cost = reco
 
 -- ---- customers
 
-nothing_before : (x y : Option Stop) → or_else x y ≡ None → (x ≡ None) × (y ≡ None)
-nothing_before None y h = (refl, h)
-nothing_before (Some s) y h = absurd cc
+-- after customers at which nothing stops, the next one may stop
+customers_on : (k : ℕ) (ts more : List Token) (t : Token) → customers_stop k ts ≡ None →
+    customers_stop k (ts ++ t ∷ more) ≡ or_else (customer_stop (k + length ts) t)
+    (customers_stop (suc (k + length ts)) more)
+customers_on k [] more t fine =
+    ap (λ (j : ℕ). or_else (customer_stop j t) (customers_stop (suc j) more)) (omega arith)
+customers_on k (x ∷ ts) more t fine =
+    let n = nothing_before (customer_stop k x) (customers_stop (suc k) ts) fine in
+    rw n.0 (customers_on (suc k) ts more t n.1
+    ∙ ap (λ (j : ℕ). or_else (customer_stop j t) (customers_stop (suc j) more)) (omega arith))
 
 pub customers_more : (k : ℕ) (ts : List Token) (t : Token) → customers_stop k ts ≡ None →
     customer_stop (k + length ts) t ≡ None → customers_stop k (ts ++ t ∷ []) ≡ None
-customers_more k [] t fine here = let h : customer_stop k t ≡ None = ap (λ (j : ℕ). customer_stop j t) (omega arith)
-    ∙ here in rw h refl
-customers_more k (x ∷ ts) t fine here =
-    let n = nothing_before (customer_stop k x) (customers_stop (suc k) ts) fine in
-    rw n.0 (customers_more (suc k) ts t n.1 (ap (λ (j : ℕ). customer_stop j t) (omega arith) ∙ here))
+customers_more k ts t fine here = customers_on k ts [] t fine ∙ rw here refl
 
 -- the first customer at which something stops, stops the line
 pub customers_at : (k : ℕ) (ts more : List Token) (t : Token) (s : Stop) → customers_stop k ts ≡ None →
     customer_stop (k + length ts) t ≡ Some s → customers_stop k (ts ++ t ∷ more) ≡ Some s
-customers_at k [] more t s fine stop =
-    let here : customer_stop k t ≡ Some s = ap (λ (j : ℕ). customer_stop j t) (omega arith) ∙ stop in
-    rw here refl
-customers_at k (x ∷ ts) more t s fine stop =
-    let n = nothing_before (customer_stop k x) (customers_stop (suc k) ts) fine in
-    rw n.0 (customers_at (suc k) ts more t s n.1 (ap (λ (j : ℕ). customer_stop j t) (omega arith) ∙ stop))
+customers_at k ts more t s fine stop = customers_on k ts more t fine ∙ rw stop refl
 
 customer_fine : (k n m : ℕ) (bs : List ℕ) → length bs ≤ 64 → integer bs ≡ Some (pos m) → m ≤ 4294967295 →
     k < ENTRY_LIMIT → customer_stop k (whole bs n) ≡ None

@@ -16,7 +16,7 @@ use Rattle.tk_lists.specs.Solution.{SolutionLine, Route, Cost, has_cost, count_o
 use Rattle.tk_lists.specs.Reader.SolutionReader.{IsRoute, line_from, Went, LineStopsAt}
 use Rattle.tk_lines.proofs.Pieces.ToldFaults.{told_word}
 use Rattle.tk_lines.proofs.Sections.SectionSteps.{run_more}
-use Rattle.tk_lines.proofs.Sections.SectionBytes.{front_token}
+use Rattle.tk_lines.proofs.Sections.SectionBytes.{Front, front_token}
 use Rattle.tk_lines.proofs.Sections.MiddleOfSection.{tokens_of-run}
 use Rattle.tk_lists.proofs.SolutionLines.{customers_at}
 
@@ -38,6 +38,21 @@ module _ (before : List SolutionLine) (n b : ℕ) (g h : List ℕ → Bool → S
       IfErr r (IsToldWord (LineStopsAt before n b g)) → IfErr r (IsToldWord (LineStopsAt before n b h))
   err_same r =
       IfErr-weaker r _ _ (λ k. told_word (LineStopsAt before n b g) (LineStopsAt before n b h) k (stops_same k))
+
+-- a token that was full, and one byte more
+record IsLong (n b : ℕ) (held bs : List ℕ) (w : Bool) : Type 0 where
+  token : Front (held ++ b ∷ []) n (tokens_of w n ((held ++ b ∷ []) ++ bs))
+  long : ltb 64 (length ((held ++ b ∷ []) ++ token.bytes)) ≡ true
+
+long_token : (n b : ℕ) (held : List ℕ) → is_blank b ≡ false → IsToken held → length held ≡ 64 → (bs : List ℕ)
+    (w : Bool) → IsLong n b held bs w
+long_token n b held solid token full bs w =
+    let u = front_token w n (held ++ b ∷ []) bs (run_more held b token.0 solid) in
+    record {
+      token = u;
+      long =
+          lt-ltb _ _ (omega (arith, full, length-append (held ++ b ∷ []) u.bytes, length-append held (b ∷ [])));
+    }
 
 module _ (before : List SolutionLine) (n b : ℕ) (held : List ℕ) (toks : List Token) where
   -- a blank after a token
@@ -64,11 +79,10 @@ module _ (before : List SolutionLine) (n b : ℕ) (held : List ℕ) (toks : List
   pub customer_long : is_blank b ≡ false → IsToken held → IsRoute before toks → length held ≡ 64 →
       LineStopsAt before n b (line_from n held toks places.Customer) kinds.TooLong
   customer_long solid token may full bs w =
-      let u = front_token w n (held ++ b ∷ []) bs (run_more held b token.0 solid) in
+      let l = long_token n b held solid token full bs w in
+      let u = l.token in
       let t : Token = record { bytes = (held ++ b ∷ []) ++ u.bytes; line = n; whole = u.whole } in
-      let long : ltb 64 (length t.bytes) ≡ true =
-      lt-ltb _ _ (omega (arith, full, length-append (held ++ b ∷ []) u.bytes, length-append held (b ∷ []))) in
-      let stop : customer_stop (count_of before + length toks) t ≡ Some (Fault n kinds.TooLong) = rw long refl in
+      let stop : customer_stop (count_of before + length toks) t ≡ Some (Fault n kinds.TooLong) = rw l.long refl in
       rw (← append_assoc held (b ∷ []) bs, u.is, may.may n)
       (customers_at (count_of before) toks u.rest t (Fault n kinds.TooLong) may.fine stop)
 
@@ -93,7 +107,5 @@ module _ (before : List SolutionLine) (n b : ℕ) (held : List ℕ) where
   pub cost_long : is_blank b ≡ false → IsToken held → has_cost before ≡ false → length held ≡ 64 →
       LineStopsAt before n b (line_from n held [] places.Digits) kinds.TooLong
   cost_long solid token unpriced full bs w =
-      let u = front_token w n (held ++ b ∷ []) bs (run_more held b token.0 solid) in
-      let long : ltb 64 (length ((held ++ b ∷ []) ++ u.bytes)) ≡ true =
-      lt-ltb _ _ (omega (arith, full, length-append (held ++ b ∷ []) u.bytes, length-append held (b ∷ []))) in
-      rw (← append_assoc held (b ∷ []) bs, u.is, unpriced, long) refl
+      let l = long_token n b held solid token full bs w in
+      rw (← append_assoc held (b ∷ []) bs, l.token.is, unpriced, l.long) refl

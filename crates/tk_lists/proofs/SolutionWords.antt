@@ -4,10 +4,12 @@ use Rattle.std.proofs.Common.{length, take, Some, refl, sym, ap, ◌∙◌, appe
 use Rattle.std.specs.Prelude.{codes}
 use Rattle.std.specs.Char.{to_ascii_uppercase}
 use Rattle.std.proofs.lemmas.List.{append-nil, length-append, length-take}
+use Rattle.std.proofs.lemmas.Bool.{and_parts, or_parts}
+use Rattle.tk_words.proofs.Bools.{and_false}
 use Rattle.tk_lines.specs.Pieces.{Stop, first_at}
 use Rattle.tk_words.specs.Lex.{tokens_of, after_word, is_word_byte, is_empty, front, behind}
 use Rattle.tk_words.specs.Words.{spells}
-use Rattle.tk_lists.specs.Solution.{Head, Short, Bad, Behind, route_head, route_line, route_tests, line_stop, Cost}
+use Rattle.tk_lists.specs.Solution.{Head, Short, route_head, route_line, route_tests, line_stop, Cost}
 use Rattle.tk_lists.specs.Solution.{SolutionLine, Unsure, Other, begins, may_be_word, by_word, solid_line}
 use Rattle.tk_lists.specs.Reader.SolutionReader.{IsLineWord}
 use Rattle.tk_lines.proofs.Sections.MiddleOfSection.{tokens_of-none}
@@ -15,14 +17,9 @@ use Rattle.tk_lines.proofs.Headers.ByteRuns.{behind-all, front-all, front-whole}
 
 spells_length : (xs ys : List ℕ) → spells xs ys ≡ true → length xs ≡ length ys
 spells_length [] [] h = refl
-spells_length [] (y ∷ ys) h = absurd cc
-spells_length (x ∷ xs) [] h = absurd cc
 spells_length (x ∷ xs) (y ∷ ys) h =
-    ap suc (spells_length xs ys (second (eqb (to_ascii_uppercase x) y) (spells xs ys) h))
-  where
-    second : (s t : Bool) → (s && t) ≡ true → t ≡ true
-    second true t h = h
-    second false t h = absurd cc
+    ap suc (spells_length xs ys (and_parts (eqb (to_ascii_uppercase x) y) (spells xs ys) h).1)
+spells_length _ _ h = absurd cc
 
 -- what begins with other bytes spells nothing else
 begins_longer : (xs zs text : List ℕ) → begins xs text ≡ false → begins (xs ++ zs) text ≡ false
@@ -45,10 +42,6 @@ spells_begins (x ∷ xs) (y ∷ text) h = by_test (eqb (to_ascii_uppercase x) y)
     by_test true rest h = rest h
     by_test false rest h = refl
 
-or_none : (s t : Bool) → (s || t) ≡ false → (s ≡ false) × (t ≡ false)
-or_none true t h = absurd cc
-or_none false t h = (refl, h)
-
 -- bytes that may become a word are few
 pub front_short : (held : List ℕ) → may_be_word held ≡ true → length held < 64
 front_short held h = by_test (begins held (codes "ROUTE")) (begins held (codes "COST")) refl refl h
@@ -63,10 +56,6 @@ front_short held h = by_test (begins held (codes "ROUTE")) (begins held (codes "
     by_test false true p q h = at_most (codes "COST") (omega arith) q
     by_test false false p q h = absurd cc
 
-and_no : (t : Bool) → (t && false) ≡ false
-and_no true = refl
-and_no false = refl
-
 same_other : (t s : Bool) (l : SolutionLine) → s ≡ false → l ≡ Other → cond t (cond s Unsure Other) l ≡ Other
 same_other true s l h is = rw h refl
 same_other false s l h is = is
@@ -80,14 +69,13 @@ pub solid_other : (n : ℕ) (held : List ℕ) → 0 < length held → behind is_
     (bs : List ℕ) (w : Bool) → solid_line n w (held ++ bs) ≡ Other
 solid_other n [] some word none bs w = absurd (omega (arith, some))
 solid_other n (b ∷ held) some word none bs w =
-    let no_route = (or_none _ _ none).0 in
-    let no_cost = (or_none _ _ none).1 in
+    let no = or_parts _ _ none in
     let z : List ℕ = front is_word_byte bs in
     let word_is : front is_word_byte ((b ∷ held) ++ bs) ≡ (b ∷ held) ++ z = front-all is_word_byte (b ∷ held) bs word in
     let tail_is : behind is_word_byte ((b ∷ held) ++ bs) ≡ behind is_word_byte bs =
     behind-all is_word_byte (b ∷ held) bs word in
-    let r = begins_longer (b ∷ held) z (codes "ROUTE") no_route in
-    let c = begins_longer (b ∷ held) z (codes "COST") no_cost in
+    let r = begins_longer (b ∷ held) z (codes "ROUTE") no.0 in
+    let c = begins_longer (b ∷ held) z (codes "COST") no.1 in
     rw (word_is, tail_is)
     (same_other (not w && is_empty (behind is_word_byte bs)) (may_be_word ((b ∷ held) ++ z)) _ (rw (r, c) refl)
     (by_word-other n w ((b ∷ held) ++ z) (behind is_word_byte bs) (spells_begins ((b ∷ held) ++ z) (codes "ROUTE") r)
@@ -96,14 +84,14 @@ solid_other n (b ∷ held) some word none bs w =
 -- a line whose word has ended before a byte
 pub solid_ended : (n : ℕ) (held : List ℕ) (b : ℕ) → behind is_word_byte held ≡ [] → is_word_byte b ≡ false →
     (bs : List ℕ) (w : Bool) → solid_line n w (held ++ b ∷ bs) ≡ by_word n w held (b ∷ bs)
-solid_ended n [] b word ends bs w = rw (ends, and_no (not w)) refl
+solid_ended n [] b word ends bs w = rw (ends, and_false (not w)) refl
 solid_ended n (c ∷ held) b word ends bs w =
     let none : front is_word_byte (b ∷ bs) ≡ [] = rw ends refl in
     let word_is : front is_word_byte ((c ∷ held) ++ b ∷ bs) ≡ c ∷ held = front-all is_word_byte (c ∷ held) (b ∷ bs) word
     ∙ rw none (append-nil (c ∷ held)) in
     let tail_is : behind is_word_byte ((c ∷ held) ++ b ∷ bs) ≡ b ∷ bs = behind-all is_word_byte (c ∷ held) (b ∷ bs) word
     ∙ rw ends refl in
-    rw (word_is, tail_is, and_no (not w)) refl
+    rw (word_is, tail_is, and_false (not w)) refl
 
 -- a line whose word ends it
 pub solid_whole : (n : ℕ) (held : List ℕ) → IsLineWord held → solid_line n true held ≡ by_word n true held []
@@ -140,8 +128,7 @@ module _ (n : ℕ) (held : List ℕ) (b : ℕ) (word : behind is_word_byte held 
 pub route_stops : (before : List SolutionLine) (n : ℕ) (w : Bool) (s : Stop) (h : Head) →
     first_at n (route_tests before) ≡ Some s → line_stop before n w (route_line n w h) ≡ Some s
 route_stops before n w s Short stop = rw stop refl
-route_stops before n w s Bad stop = rw stop refl
-route_stops before n w s (Behind bs) stop = rw stop refl
+route_stops before n w s _ stop = rw stop refl
 
 module _ (n : ℕ) (held : List ℕ) (word : IsLineWord held) where
   pub whole_route : spells held (codes "ROUTE") ≡ true → solid_line n true held ≡ route_line n true (route_head [])
