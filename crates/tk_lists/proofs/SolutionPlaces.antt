@@ -12,8 +12,7 @@ use Rattle.tk_lists.specs.declared.solution_reader.LinePlace.TheVariants as plac
 use Rattle.tk_words.specs.Lex.{LF, Token, lines, is_word_byte}
 use Rattle.tk_lines.specs.Pieces.{Open, Fault, stopped}
 use Rattle.tk_lists.specs.Solution.{Solution, Short, SolutionLine, Unsure, solid_line, line_stop, solution_at_end}
-use Rattle.tk_lists.specs.Solution.{judge_lines}
-use Rattle.tk_lists.specs.Solution.{count_of, customer_stop}
+use Rattle.tk_lists.specs.Solution.{judge_lines, count_of, customer_stop}
 use Rattle.tk_lists.specs.Reader.SolutionReader.{head_from, IsHead, line_from, IsLineWord, IsAtPlace, from}
 use Rattle.tk_lines.proofs.MiddleOfLine.{lines-byte, lines-LF}
 use Rattle.tk_lines.proofs.Sections.SectionEnds.{first_line}
@@ -76,8 +75,6 @@ abbrev Waits : List SolutionLine → ℕ → SolutionLine → Type 0
 Waits before n l = stopped {V = Solution} (line_stop before n false l) None ≡ None
 
 pub short_head : (p : HeadPlace) → IsHead p → head_from p [] ≡ Short
-short_head heads.Word h = refl
-short_head heads.Number h = refl
 short_head (heads.Digits k) h =
     let few : ltb 18 (k + 0) ≡ false = le-ltb _ _ (omega (arith, h)) in
     rw few (same (eqb (k + 0) 0))
@@ -85,7 +82,7 @@ short_head (heads.Digits k) h =
     same : (t : Bool) → cond t Short Short ≡ Short
     same true = refl
     same false = refl
-short_head heads.Colon h = refl
+short_head _ h = refl
 
 solid_open : (n : ℕ) (held : List ℕ) → IsLineWord held → solid_line n false held ≡ Unsure
 solid_open n [] word = absurd (omega (arith, word.0))

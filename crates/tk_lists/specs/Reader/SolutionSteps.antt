@@ -10,8 +10,7 @@ use Rattle.tk_lists.specs.declared.solution_reader.SolutionReader.{SolutionReade
 use Rattle.tk_lists.specs.Solution.{Route, SolutionLine, cost_stop, cost_tests, count_of, customer_stop, has_cost}
 use Rattle.tk_lists.specs.Solution.{line_stop, other_tests, route_tests}
 use Rattle.tk_lists.specs.Reader.SolutionReader.{HasEndedLine, IsPriced, IsRoute, Keeps, LineStopsAt, StandsOnLine}
-use Rattle.tk_lists.specs.Reader.SolutionReader.{Went}
-use Rattle.tk_lists.specs.Reader.SolutionReader.{rest_of}
+use Rattle.tk_lists.specs.Reader.SolutionReader.{Went, rest_of}
 
 -- no route may stand here
 abbrev pub RefusesRoute : SolutionForm → Result (Unit {0}) TextKind → Type 0

@@ -1,17 +1,10 @@
 use Rattle.std.proofs.Common.{◌++◌, ℕ, List, subst, sym, arith}
 use Rattle.std.proofs.lemmas.Result.{err_from_is_err_and}
-use Rattle.tk_words.proofs.FirstBytes.{first_byte, first_told, line_short}
+use Rattle.tk_words.proofs.FirstBytes.{first_byte, first_told}
 use Rattle.tk_lists.specs.Solution.{solution_texts}
 use Rattle.tk_lists.specs.Reader.SolutionReader.{FedLines}
 use Rattle.tk_lists.proofs.SolutionTexts.{fed_waits}
 use Rattle.tk_lists.proofs.solution.SolutionReaderTextReader.feed.Goals as goal
-
-pub feed_byte-requires-clause-room : goal.feed_byte-requires-clause-room
-feed_byte-requires-clause-room c =
-    omega (arith, c.requires.room.1.fed.line, line_short c.requires.room.0, c.requires.some, c.requires.room.2)
-
-pub feed_byte-requires-clause-known : goal.feed_byte-requires-clause-known
-feed_byte-requires-clause-known c = (c.requires.room.0, c.requires.room.1.fed)
 
 pub returns-in_err-feed_byte : goal.returns-in_err-feed_byte
 returns-in_err-feed_byte c = λ before waits.

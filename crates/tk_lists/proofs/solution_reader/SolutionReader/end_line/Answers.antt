@@ -8,7 +8,7 @@ use Rattle.tk_lists.specs.Reader.SolutionReader.{line_from}
 use Rattle.tk_lists.specs.declared.solution_reader.LinePlace.TheVariants as places
 use Rattle.tk_lines.proofs.Pieces.ToldFaults.{told_word}
 use Rattle.tk_lists.proofs.SolutionEnds.{end_start, end_skip, end_other, end_close, end_gap, end_customer}
-use Rattle.tk_lists.proofs.SolutionEnds.{end_customer_stops, end_digits, end_digits_stops, end_head_stops}
+use Rattle.tk_lists.proofs.SolutionEnds.{end_customer_stops, end_digits, end_digits_stops}
 use Rattle.tk_lists.proofs.SolutionEnds.{end_colon_stops}
 use Rattle.tk_lists.proofs.solution_reader.SolutionReader.end_line.Goals as goal
 
@@ -37,12 +37,6 @@ returns-in-Word-clause-ok c = λ before toks stands.
     (IfOk-weaker c.end_word.result
     _ _ (λ _ h. end_other c.args.self.now.form before c.args.self.now.held c.args.self.now.line toks at.1 h.0 h.1)
     (c.end_word.ensures.ok before at.1))
-
-pub returns-in-Head-clause-err : goal.returns-in-Head-clause-err
-returns-in-Head-clause-err c = λ before toks stands.
-    rw c.in-Head.is
-    (end_head_stops c.args.self.now.form before c.args.self.now.held c.args.self.now.line toks
-    _ (rw c.in-Head.is at stands))
 
 pub returns-in-Colon-clause-err : goal.returns-in-Colon-clause-err
 returns-in-Colon-clause-err c = λ before toks stands.

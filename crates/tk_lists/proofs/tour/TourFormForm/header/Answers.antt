@@ -6,21 +6,11 @@ pub returns-in-Comment-clause-ok : goal.returns-in-Comment-clause-ok
 returns-in-Comment-clause-ok c =
     λ before v n h scans. rw c.in-Comment.is (comment_ok c.args.self.now before v n h, refl)
 
-pub returns-in-Name-clause-ok : goal.returns-in-Name-clause-ok
-returns-in-Name-clause-ok c = λ before v n h scans. rw c.in-Name.is (c.name.ensures.ok before v n h scans)
-
 pub returns-in-Name-clause-err : goal.returns-in-Name-clause-err
 returns-in-Name-clause-err c = λ before v n h scans. rw c.in-Name.is (c.name.ensures.err before v n h scans)
 
-pub returns-in-Type-clause-ok : goal.returns-in-Type-clause-ok
-returns-in-Type-clause-ok c = λ before v n h scans. rw c.in-Type.is (c.kind.ensures.ok before v n h scans)
-
 pub returns-in-Type-clause-err : goal.returns-in-Type-clause-err
 returns-in-Type-clause-err c = λ before v n h scans. rw c.in-Type.is (c.kind.ensures.err before v n h scans)
-
-pub returns-in-Dimension-clause-ok : goal.returns-in-Dimension-clause-ok
-returns-in-Dimension-clause-ok c =
-    λ before v n h scans. rw c.in-Dimension.is (c.dimension.ensures.ok before v n h scans)
 
 pub returns-in-Dimension-clause-err : goal.returns-in-Dimension-clause-err
 returns-in-Dimension-clause-err c =
