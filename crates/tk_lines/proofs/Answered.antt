@@ -15,10 +15,9 @@ use Rattle.tk_words.specs.MinusOne.{is_ending}
 use Rattle.tk_words.specs.TextLaws.{HasAnswers}
 use Rattle.tk_words.specs.Words.{keyword_of, role}
 use Rattle.tk_lines.specs.Lists.{list_entries, trailing_stop}
-use Rattle.tk_lines.specs.Pieces.{After, Clean, Piece, Stray, LongWord, OpenWord, Header}
-use Rattle.tk_lines.specs.Pieces.{Section, End, Extents, Stop, Open, Fault, Format, section_at, piece_by, piece_of}
-use Rattle.tk_lines.specs.Pieces.{pieces_at, covered, cut, end_token, first_at, checked, or_else, ended, stopped, judge}
-use Rattle.tk_lines.specs.Pieces.{decided_by}
+use Rattle.tk_lines.specs.Pieces.{After, Clean, Piece, Stray, LongWord, OpenWord, Header, Section, End, Extents, Stop}
+use Rattle.tk_lines.specs.Pieces.{Open, Fault, Format, section_at, piece_by, piece_of, pieces_at, covered, cut}
+use Rattle.tk_lines.specs.Pieces.{end_token, first_at, checked, or_else, ended, stopped, judge, decided_by}
 use Rattle.tk_lines.specs.Reader.FromMiddle.{ending}
 use Rattle.tk_lines.proofs.MiddleOfLine.{lines_cons}
 

@@ -19,8 +19,7 @@ use Rattle.tk_lines.specs.Reader.FromMiddle.{from_line}
 use Rattle.tk_words.specs.Texts.{line_behind}
 use Rattle.tk_lines.specs.Reader.Forms.{whole, a_header}
 use Rattle.tk_lines.specs.Reader.Places.{Next, Within, anything, this, no_word, a_line_end, Says, DecidesIf, IsWord}
-use Rattle.tk_lines.specs.Reader.Places.{AtLine}
-use Rattle.tk_lines.specs.Reader.Places.{AtTail, HeaderTaken}
+use Rattle.tk_lines.specs.Reader.Places.{AtLine, AtTail, HeaderTaken}
 use Rattle.tk_lines.proofs.MiddleOfLine.{with_bytes, from_line-byte, from_line-blank}
 use Rattle.tk_lines.proofs.Sections.SectionEnds.{first_line}
 use Rattle.tk_lines.proofs.Headers.ByteRuns.{behind-all, front-all}

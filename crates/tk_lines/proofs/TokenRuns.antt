@@ -1,7 +1,7 @@
 -- A token that stands whole in some bytes.
-use Rattle.std.proofs.Common.{◌≤◌, subst, ◌+◌, ◌-◌, get_or, take, take-add, drop, ◌≡◌, ℕ, ◌<◌, ◌||◌, ◌==◌, true, false}
+use Rattle.std.proofs.Common.{◌≤◌, ◌+◌, ◌-◌, get_or, take, take-add, drop, ◌≡◌, ℕ, ◌<◌, ◌||◌, ◌==◌, false}
 use Rattle.std.proofs.Common.{eqb, List, [], ◌∷◌, ◌++◌, All, length, sym, ap, ◌∙◌, arith}
-use Rattle.std.proofs.lemmas.List.{append_assoc, append-nil, get_or-drop, take_more, take_rest, length-append}
+use Rattle.std.proofs.lemmas.List.{append_assoc, append-nil, take_more, take_rest, length-append}
 use Rattle.std.proofs.lemmas.List.{length-drop, length-take}
 use Rattle.std.proofs.lemmas.List.Elements.{All-head, All-tail}
 use Rattle.tk_words.specs.declared.keyword.Keyword.{Keyword}
@@ -64,14 +64,6 @@ module _ (bytes : List ℕ) (s : ℕ) (le : s ≤ length bytes) (token : List �
 
   pub token_run : IsUnbroken token
   token_run = run_of token (omega (arith, first.some)) first.solid
-
-  -- the byte after it ends it
-  pub token_ended : (is_blank (get_or bytes (s + n) 0) || get_or bytes (s + n) 0 == 10) ≡ true
-  token_ended =
-      let same : get_or (take (length bytes - s) (drop s bytes)) (length token) 0 ≡ get_or bytes (s + n) 0 =
-      ap (λ l. get_or l (length token) 0) (take_rest bytes s) ∙ get_or-drop s bytes (length token) 0
-      ∙ ap (λ k. get_or bytes (s + k) 0) (sym is) in
-      subst (λ b. (is_blank b || b == 10) ≡ true) same first.ended
 
   pub token_taken : (bs : List ℕ) → ((bs ++ take s bytes) ++ token) ++ get_or bytes (s + n) 0 ∷ []
       ≡ bs ++ take (s + n + 1) bytes

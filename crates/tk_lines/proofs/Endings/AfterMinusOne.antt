@@ -1,5 +1,5 @@
 -- Where a token after the -1 ends.
-use Rattle.std.proofs.Common.{◌≡◌, ℕ, ◌+◌, ◌<◌, Bool, true, false, eqb, leb, List, [], ◌∷◌, ◌++◌}
+use Rattle.std.proofs.Common.{◌≡◌, ℕ, ◌<◌, Bool, true, false, eqb, leb, List, [], ◌∷◌, ◌++◌}
 use Rattle.std.proofs.Common.{length, Some, None, Err, refl, ap, ◌∙◌, append_assoc, arith}
 use Rattle.std.proofs.lemmas.List.{append-nil, length-append}
 use Rattle.std.proofs.Math.Seq.{take-length}
@@ -7,8 +7,7 @@ use Rattle.std.proofs.lemmas.Bool.{lt-leb, le-leb}
 use Rattle.tk_words.specs.declared.keyword.Keyword.{Keyword}
 use Rattle.tk_words.specs.declared.fault.TextKind.TheVariants as kinds
 use Rattle.tk_words.specs.Lex.{Token, integer, tokens, lines, is_blank, is_letter, LF, IsUnbroken}
-use Rattle.tk_lines.specs.Pieces.{Piece, Clean, Format, last_line, cut, judge}
-use Rattle.tk_lines.specs.Pieces.{decided_by}
+use Rattle.tk_lines.specs.Pieces.{Piece, Clean, Format, last_line, cut, judge, decided_by}
 use Rattle.tk_lines.specs.Reader.FromMiddle.{prepend, from_line, in_section, goes, new_pieces}
 use Rattle.tk_words.specs.MinusOne.{is_minus_one, one_more, begins_minus_one}
 use Rattle.tk_lines.specs.Reader.Forms.{whole, Closed, EndsWithMinusOne, a_section}

@@ -11,8 +11,7 @@ use Rattle.tk_lines.specs.declared.reader.PieceReader.{PieceReader}
 use Rattle.tk_lines.specs.declared.place.Place.{Place}
 use Rattle.tk_lines.specs.declared.place.Place.TheVariants as places
 use Rattle.tk_words.specs.Lex.{Line, Token, lines, is_word_byte}
-use Rattle.tk_lines.specs.Pieces.{Piece, Clean, Early, Fault, Format, cut, judge, end_piece, stopped, ended}
-use Rattle.tk_lines.specs.Pieces.{decided_by}
+use Rattle.tk_lines.specs.Pieces.{Piece, Clean, Early, Fault, Format, cut, judge, end_piece, stopped, ended, decided_by}
 use Rattle.tk_lines.specs.Reader.FromMiddle.{from_line}
 use Rattle.tk_words.specs.Texts.{cause_of}
 use Rattle.tk_lines.specs.Reader.Forms.{Promise, a_header, a_section}

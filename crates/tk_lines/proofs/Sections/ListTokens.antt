@@ -1,7 +1,6 @@
 -- Tokens that end no list.
 use Rattle.std.proofs.Common.{◌≡◌, ℕ, suc, ◌<◌, ◌≤◌, Bool, true, false, cond, eqb, not, ◌&&◌, ◌||◌, List, [], ◌∷◌}
-use Rattle.std.proofs.Common.{length, None}
-use Rattle.std.proofs.Common.{refl, arith}
+use Rattle.std.proofs.Common.{length, None, refl, arith}
 use Rattle.tk_words.specs.Lex.{Token, integer}
 use Rattle.tk_words.specs.Words.{keyword_of}
 use Rattle.tk_words.specs.MinusOne.{is_ending}

@@ -6,8 +6,7 @@
 -- token
 --     Finishes p old new result      the end of the text
 use Rattle.std.specs.Prelude.{◌≡◌, ℕ, ◌≤◌, Bool, true, false, not, ◌||◌, ◌==◌, List, [], ◌∷◌, ◌++◌, length, take, Some}
-use Rattle.std.specs.Prelude.{None}
-use Rattle.std.specs.Prelude.{Result, Ok, Err}
+use Rattle.std.specs.Prelude.{None, Result, Ok, Err}
 use Rattle.tk_words.specs.declared.fault.TextFault.{TextFault}
 use Rattle.tk_words.specs.declared.keyword.Keyword.{Keyword}
 use Rattle.tk_words.specs.declared.sources.text_reader.Step.{Step}
@@ -22,8 +21,7 @@ use Rattle.tk_lines.specs.declared.reader.PieceReader.{PieceReader}
 use Rattle.tk_lines.specs.Reader.Forms.{Promise}
 use Rattle.tk_lines.specs.Pieces.{Format, decided_by}
 use Rattle.tk_lines.specs.Reader.Places.{Next, Within, Fed, IsInSection, HeaderTaken, DecidesIf, this, anything, at_end}
-use Rattle.tk_lines.specs.Reader.Places.{a_gap}
-use Rattle.tk_lines.specs.Reader.Places.{a_line_end, no_word}
+use Rattle.tk_lines.specs.Reader.Places.{a_gap, a_line_end, no_word}
 
 -- a fault other than of memory is an answer with P
 abbrev pub IsFaultWith : {V : Type 0} → (Result V TextFault → Type 0) → TextFault → Type 0

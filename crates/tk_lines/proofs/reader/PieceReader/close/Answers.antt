@@ -1,13 +1,6 @@
 use Rattle.std.proofs.Common.{subst}
-use Rattle.tk_lines.specs.declared.place.Place.TheVariants as places
 use Rattle.tk_lines.specs.Reader.Steps.{EndsPlace}
-use Rattle.tk_lines.proofs.KnownPlaces.{at_place}
 use Rattle.tk_lines.proofs.reader.PieceReader.close.Goals as goal
-
-pub end_token-requires-clause-short : goal.end_token-requires-clause-short
-end_token-requires-clause-short g c =
-    let fed = c.requires.1.1 in
-    (at_place places.Token c.in-Token.is fed).0.1
 
 pub returns-in-Word-clause-closed : goal.returns-in-Word-clause-closed
 returns-in-Word-clause-closed g c = λ next before ends fed.

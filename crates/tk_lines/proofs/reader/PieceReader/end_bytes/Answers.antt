@@ -6,9 +6,6 @@ use Rattle.tk_lines.proofs.KnownPlaces.{at_place}
 use Rattle.tk_lines.proofs.Endings.ReaderEnds.{end_begin, end_closes, nothing_open, told_ended, decides_ended}
 use Rattle.tk_lines.proofs.reader.PieceReader.end_bytes.Goals as goal
 
-pub close-requires : goal.close-requires
-close-requires g c = (at_end, c.requires)
-
 pub returns-in_err-close : goal.returns-in_err-close
 returns-in_err-close g c = λ before fed.
     let p = err_from_is_err_and c.from_residual.result c.from_residual.ensures.1 in

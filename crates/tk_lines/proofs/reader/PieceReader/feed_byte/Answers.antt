@@ -12,9 +12,6 @@ feed_settled-requires-clause-known g c = (c.requires.known.0, narrow (this c.arg
 pub returns-then-not-ends_with : goal.returns-then-not-ends_with
 returns-then-not-ends_with g c = λ before fed. c.feed_settled.ensures before (narrow (this c.args.byte) fed)
 
-pub close-requires : goal.close-requires
-close-requires g c = (this c.args.byte, (c.requires.known.0, narrow (this c.args.byte) c.requires.known.1))
-
 pub returns-in_err-close : goal.returns-in_err-close
 returns-in_err-close g c = λ before fed.
     let p = err_from_is_err_and c.from_residual.result c.from_residual.ensures.1 in

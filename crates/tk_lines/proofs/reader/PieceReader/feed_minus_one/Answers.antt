@@ -11,11 +11,6 @@ use Rattle.tk_lines.proofs.Endings.AfterMinusOne.{shown_later}
 use Rattle.tk_lines.proofs.LineSteps.{line_behind-byte}
 use Rattle.tk_lines.proofs.reader.PieceReader.feed_minus_one.Goals as goal
 
-pub push-requires : goal.push-requires
-push-requires g c =
-    let at = at_place (places.MinusOne c.args.on_line) c.requires.place c.requires.known.1 in
-    omega (arith, begins_short c.args.self.now.held at.0.1)
-
 pub begins_minus_one-requires : goal.begins_minus_one-requires
 begins_minus_one-requires g c =
     let at = at_place (places.MinusOne c.args.on_line) c.requires.place c.requires.known.1 in

@@ -3,7 +3,7 @@ use Rattle.std.proofs.lemmas.Result.{err_from_is_err_and}
 use Rattle.tk_lines.specs.declared.place.Flow.TheVariants.{Whole}
 use Rattle.tk_lines.specs.Reader.Places.{Fed, anything}
 use Rattle.tk_lines.specs.Reader.Steps.{HasCome}
-use Rattle.tk_lines.proofs.TokenRuns.{token_ended, token_run, token_taken, token_stands, token_within, line_within}
+use Rattle.tk_lines.proofs.TokenRuns.{token_run, token_taken, token_stands, token_within, line_within}
 use Rattle.tk_lines.proofs.reader.PieceReader.feed_tokens.Goals as goal
 
 pub feed_whole-requires-clause-run : goal.feed_whole-requires-clause-run
@@ -13,11 +13,6 @@ feed_whole-requires-clause-run g c =
       token_run c.args.bytes.now s c.loop-self.invariant.within token c.in-Some.ensures _ c.len.ensures,
       c.in-Some.ensures.short,
     )
-
-pub feed_whole-requires-clause-gap : goal.feed_whole-requires-clause-gap
-feed_whole-requires-clause-gap g c =
-    (token_ended c.args.bytes.now c.loop-self.start c.loop-self.invariant.within c.in-Some.token c.in-Some.ensures
-    _ c.len.ensures)
 
 pub feed_whole-requires-clause-room : goal.feed_whole-requires-clause-room
 feed_whole-requires-clause-room g c =

@@ -26,16 +26,6 @@ returns-then-byte-eq10 g c = λ before fed.
       at = header_LF _ _ _ _ _ _ _ taken;
     })
 
-pub push-requires-clause-room : goal.push-requires-clause-room
-push-requires-clause-room g c =
-    let at = at_place (places.Value c.args.word) c.requires.place c.requires.known.1 in
-    (omega (arith, at.scans.count, at.short), omega (arith, at.scans.count, at.short, at.scans.small))
-
-pub push-requires-clause-known : goal.push-requires-clause-known
-push-requires-clause-known g c =
-    let at = at_place (places.Value c.args.word) c.requires.place c.requires.known.1 in
-    (at.tail, at.scans)
-
 pub returns-then-self-gt-HEADER_LIMIT : goal.returns-then-self-gt-HEADER_LIMIT
 returns-then-self-gt-HEADER_LIMIT g c = λ before fed.
     let at = at_place (places.Value c.args.word) c.requires.place fed in
