@@ -3,7 +3,6 @@ use Rattle.std.proofs.Common.{◌≡◌, ℕ, ◌+◌, Bool, true, false, List, 
 use Rattle.std.proofs.lemmas.List.{append-nil}
 use Rattle.tk_words.specs.declared.fault.TextKind.{TextKind}
 use Rattle.tk_words.specs.declared.fault.TextKind.TheVariants as kinds
-use Rattle.tk_lists.specs.declared.route_head.HeadPlace.{HeadPlace}
 use Rattle.tk_lists.specs.declared.solution_form.SolutionForm.{SolutionForm}
 use Rattle.tk_lists.specs.declared.solution_reader.LinePlace.TheVariants as places
 use Rattle.tk_words.specs.Lex.{Token, is_blank}
@@ -17,7 +16,6 @@ use Rattle.tk_lists.specs.Reader.SolutionReader.{line_from}
 use Rattle.tk_lines.proofs.Sections.SectionBytes.{first_token}
 use Rattle.tk_lines.proofs.Sections.MiddleOfSection.{tokens_of-none, tokens_of-last}
 use Rattle.tk_lists.proofs.SolutionLines.{keeps_line, customers_at}
-use Rattle.tk_lists.proofs.SolutionPlaces.{short_head}
 
 module _ (s : SolutionForm) (before : List SolutionLine) (held : List ℕ) (n : ℕ) (toks : List Token) where
   pub end_start : IsAtPlace s before held n toks places.Start →
@@ -69,10 +67,6 @@ module _ (s : SolutionForm) (before : List SolutionLine) (held : List ℕ) (n : 
       ((ended : Bool) (ts : List Token) → cost_stop n ended (whole held n ∷ ts) ≡ Some (Fault n k)) →
       line_stop before n true (line_from n held toks places.Digits [] true) ≡ Some (Fault n k)
   end_digits_stops token unpriced k stop = rw (append-nil held, tokens_of-last n held token.0, unpriced) (stop true [])
-
-  pub end_head_stops : (p : HeadPlace) → IsAtPlace s before held n toks (places.Head p) →
-      line_stop before n true (line_from n held toks (places.Head p) [] true) ≡ Some (Fault n kinds.BadNumber)
-  end_head_stops p at = rw (short_head p at.3, at.2.may n) refl
 
   pub end_colon_stops : has_cost before ≡ false →
       line_stop before n true (line_from n held toks places.Colon [] true) ≡ Some (Fault n kinds.BadNumber)

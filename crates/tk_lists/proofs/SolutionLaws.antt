@@ -1,17 +1,14 @@
 -- Each solution text has an answer, and what is decided of it stays.
-use Rattle.std.proofs.Common.{◌≡◌, ℕ, suc, ◌+◌, Bool, true, false, cond, eqb, leb, ltb, not, ◌||◌, List, [], ◌∷◌, ◌++◌}
+use Rattle.std.proofs.Common.{◌≡◌, ℕ, suc, ◌+◌, Bool, true, false, cond, eqb, ltb, not, List, [], ◌∷◌, ◌++◌}
 use Rattle.std.proofs.Common.{length, Option, Some, None, Result, refl, sym, ap, subst, ◌∙◌, arith}
-use Rattle.std.specs.Prelude.{codes, is_none}
+use Rattle.std.specs.Prelude.{codes}
 use Rattle.std.specs.Char.{is_ascii_digit}
 use Rattle.std.specs.Option.{IsSome}
 use Rattle.std.proofs.lemmas.Bool.{ne_eqb, ltb-true, lt-ltb}
-use Rattle.tk_problem.specs.declared.limits.TheConstants.{ENTRY_LIMIT}
 use Rattle.tk_words.specs.declared.fault.TextKind.{TextKind}
 use Rattle.tk_words.specs.declared.fault.TextKind.TheVariants as kinds
 use Rattle.tk_words.specs.declared.fault.TextFault.{TextFault}
-use Rattle.tk_words.specs.Entry.{in_range}
 use Rattle.tk_words.specs.Lex.{Line, Token, lines, tokens_of, is_blank, is_word_byte, front, behind, after_word}
-use Rattle.tk_words.specs.Lex.{integer}
 use Rattle.tk_words.specs.TextLaws.{HasAnswers, StaysDecided}
 use Rattle.tk_words.specs.Words.{spells}
 use Rattle.tk_words.proofs.Bools.{and_false}
@@ -25,22 +22,13 @@ use Rattle.tk_lines.proofs.MiddleOfLine.{behind-more, front-more}
 use Rattle.tk_lines.proofs.Steady.{stops, stops_grown}
 use Rattle.tk_lists.specs.Solution.{Head, Short, Bad, Behind, Solution, SolutionLine, Unsure, Other, Cost, colon_head}
 use Rattle.tk_lists.specs.Solution.{digits_head, without_first, number_head, route_head, is_sign, is_hash, route_line}
-use Rattle.tk_lists.specs.Solution.{may_be_word}
-use Rattle.tk_lists.specs.Solution.{by_word, solid_line, line_of, has_cost, count_of, is_natural, customer_stop}
-use Rattle.tk_lists.specs.Solution.{customers_stop, line_trailing_stop, cut_short, cost_stop, route_tests, cost_tests}
-use Rattle.tk_lists.specs.Solution.{other_tests, line_stop, solution_at_end, judge_lines, solution_decided}
+use Rattle.tk_lists.specs.Solution.{may_be_word, by_word, solid_line, line_of, has_cost, count_of, customer_tests}
+use Rattle.tk_lists.specs.Solution.{customer_stop, customers_stop, line_trailing_stop, cut_short, cost_stop}
+use Rattle.tk_lists.specs.Solution.{route_tests, cost_tests, cost_number_tests, other_tests, line_stop, solution_at_end}
+use Rattle.tk_lists.specs.Solution.{judge_lines, solution_decided}
 use Rattle.tk_lists.proofs.SolutionWords.{route_stops, solid_other}
 
 -- ---- each text has an answer
-
-abbrev customer_tests : ℕ → Token → List (Bool × TextKind)
-customer_tests k t =
-    (is_none (integer t.bytes), kinds.BadNumber)
-    ∷ (not (in_range 0 4294967295 (integer t.bytes)) || leb ENTRY_LIMIT k, kinds.OutOfLimit) ∷ []
-
-abbrev cost_number_tests : Token → List (Bool × TextKind)
-cost_number_tests t = (is_none (integer t.bytes), kinds.BadNumber)
-    ∷ (not (is_natural (integer t.bytes)), kinds.OutOfLimit) ∷ []
 
 customers_known : (k : ℕ) (ts : List Token) → WholeTokens ts → NotOpen (customers_stop k ts)
 customers_known k [] h = tt

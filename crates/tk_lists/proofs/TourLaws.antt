@@ -1,14 +1,10 @@
 -- Each tour text has an answer, and what is decided of it stays.
-use Rattle.std.proofs.Common.{◌≡◌, ℕ, suc, ◌≤◌, Bool, leb, not, ◌||◌, List, [], ◌∷◌, ◌++◌, length, take, Option, Some}
-use Rattle.std.proofs.Common.{refl, sym, ap, ◌∙◌}
-use Rattle.std.specs.Prelude.{is_none}
-use Rattle.tk_problem.specs.declared.limits.TheConstants.{ENTRY_LIMIT}
+use Rattle.std.proofs.Common.{◌≡◌, ℕ, suc, ◌≤◌, List, [], ◌∷◌, ◌++◌, length, take, Option, Some, refl, sym, ap, ◌∙◌}
 use Rattle.tk_words.specs.declared.keyword.Keyword.{Keyword}
 use Rattle.tk_words.specs.declared.keyword.Keyword.TheVariants as words
 use Rattle.tk_words.specs.declared.fault.TextKind.{TextKind}
 use Rattle.tk_words.specs.declared.fault.TextKind.TheVariants as kinds
-use Rattle.tk_words.specs.Entry.{in_range, is_keyword}
-use Rattle.tk_words.specs.Lex.{Token, integer}
+use Rattle.tk_words.specs.Lex.{Token}
 use Rattle.tk_words.specs.TextLaws.{HasAnswers, StaysDecided}
 use Rattle.tk_lines.specs.Lists.{list_entries, list_extent, trailing_stop}
 use Rattle.tk_lines.specs.Pieces.{After, Piece, Stop, Fault, first_at, checked, or_else, has}
@@ -18,11 +14,8 @@ use Rattle.tk_lines.proofs.Growing.{Lasts}
 use Rattle.tk_lines.proofs.Staying.{decided_stays}
 use Rattle.tk_lines.proofs.Steady.{EndsOpen, Extends, list_extends, list_stops, nothing_extends, open_trailing}
 use Rattle.tk_lines.proofs.Steady.{section_kept, stops}
-use Rattle.tk_lists.specs.Tour.{entry_stop, entries_stop, tour_decided, tour_extent, tour_format, tour_section}
-
-abbrev entry_tests : ℕ → Token → List (Bool × TextKind)
-entry_tests k t = (is_keyword t.bytes, kinds.Truncated) ∷ (is_none (integer t.bytes), kinds.BadNumber)
-    ∷ (not (in_range 0 4294967295 (integer t.bytes)) || leb ENTRY_LIMIT k, kinds.OutOfLimit) ∷ []
+use Rattle.tk_lists.specs.Tour.{entry_tests, entry_stop, entries_stop, tour_decided, tour_extent, tour_format}
+use Rattle.tk_lists.specs.Tour.{tour_section}
 
 -- ---- each text has an answer
 

@@ -63,33 +63,29 @@ module _ (s : TourForm) (b : Bool) (before : List Piece) (v : List ℕ) (n : ℕ
   pub name_ok : s.seen.name ≡ false → length (trim (after_word v)) ≤ 1024 →
       TourHolds (record s { seen = record s.seen { name = b } }) (before ++ a_header words.Name v n)
       × (first_at n (tour_header before words.Name v) ≡ None)
-  name_ok old short =
-      let test : ltb 1024 (length (trim (after_word v))) ≡ false = le-ltb _ _ short in
-      let none : has words.Name before ≡ false = h.seen.name ∙ old in (
-        holds_header s (record s { seen = record s.seen { name = b } }) before words.Name v n h refl (rw old (sym new))
-            (or-false s.seen.kind) (or-false s.seen.dimension) refl refl,
-        rw (test, none) refl,
-      )
+  name_ok old short = (
+    holds_header s (record s { seen = record s.seen { name = b } }) before words.Name v n h refl (rw old (sym new))
+        (or-false s.seen.kind) (or-false s.seen.dimension) refl refl,
+    rw (le-ltb _ _ short, h.seen.name ∙ old) refl,
+  )
 
   pub kind_ok : s.seen.kind ≡ false → spells (first_word v) (codes "TOUR") ≡ true →
       TourHolds (record s { seen = record s.seen { kind = b } }) (before ++ a_header words.Type v n)
       × (first_at n (tour_header before words.Type v) ≡ None)
-  kind_ok old tour =
-      let none : has words.Type before ≡ false = h.seen.kind ∙ old in (
-        holds_header s (record s { seen = record s.seen { kind = b } }) before words.Type v n h refl
-            (or-false s.seen.name) (rw old (sym new)) (or-false s.seen.dimension) refl refl,
-        rw (none, tour) refl,
-      )
+  kind_ok old tour = (
+    holds_header s (record s { seen = record s.seen { kind = b } }) before words.Type v n h refl (or-false s.seen.name)
+        (rw old (sym new)) (or-false s.seen.dimension) refl refl,
+    rw (h.seen.kind ∙ old, tour) refl,
+  )
 
   pub dimension_ok : s.seen.dimension ≡ false → first_at n (number_tests 1 ENTRY_LIMIT (first_word v)) ≡ None →
       TourHolds (record s { seen = record s.seen { dimension = b } }) (before ++ a_header words.Dimension v n)
       × (first_at n (tour_header before words.Dimension v) ≡ None)
-  dimension_ok old fine =
-      let none : has words.Dimension before ≡ false = h.seen.dimension ∙ old in (
-        holds_header s (record s { seen = record s.seen { dimension = b } }) before words.Dimension v n h refl
-            (or-false s.seen.name) (or-false s.seen.kind) (rw old (sym new)) refl refl,
-        rw none fine,
-      )
+  dimension_ok old fine = (
+    holds_header s (record s { seen = record s.seen { dimension = b } }) before words.Dimension v n h refl
+        (or-false s.seen.name) (or-false s.seen.kind) (rw old (sym new)) refl refl,
+    rw (h.seen.dimension ∙ old) fine,
+  )
 
 pub comment_ok : (s : TourForm) (before : List Piece) (v : List ℕ) (n : ℕ) → TourHolds s before →
     TourHolds s (before ++ a_header words.Comment v n)
@@ -100,8 +96,7 @@ comment_ok s before v n h =
 pub dimension_err : (s : TourForm) (before : List Piece) (v : List ℕ) (n : ℕ) (k : TextKind) → TourHolds s before →
     s.seen.dimension ≡ false → first_at n (number_tests 1 ENTRY_LIMIT (first_word v)) ≡ Some (Fault n k) →
     first_at n (tour_header before words.Dimension v) ≡ Some (Fault n k)
-dimension_err s before v n k h old stop = let none : has words.Dimension before ≡ false = h.seen.dimension
-    ∙ old in rw none stop
+dimension_err s before v n k h old stop = rw (h.seen.dimension ∙ old) stop
 
 -- ---- sections
 

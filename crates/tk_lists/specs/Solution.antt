@@ -156,10 +156,12 @@ solution_of ls = (routes_in ls, cost_of ls)
 -- ---- the first fault
 
 -- what stops at a customer, of which k stand before it
+abbrev pub customer_tests : ℕ → Token → List (Bool × TextKind)
+customer_tests k t = (is_none (integer t.bytes), kinds.BadNumber)
+    ∷ (not (in_range 0 4294967295 (integer t.bytes)) || nat_le ENTRY_LIMIT k, kinds.OutOfLimit) ∷ []
+
 abbrev pub customer_stop : ℕ → Token → Option Stop
-customer_stop k t =
-    checked 64 t ((is_none (integer t.bytes), kinds.BadNumber)
-    ∷ (not (in_range 0 4294967295 (integer t.bytes)) || nat_le ENTRY_LIMIT k, kinds.OutOfLimit) ∷ [])
+customer_stop k t = checked 64 t (customer_tests k t)
 
 abbrev pub customers_stop : ℕ → List Token → Option Stop
 customers_stop k [] = None
@@ -177,11 +179,13 @@ line_trailing_stop n (t ∷ ts) = Some (Fault n kinds.TrailingData)
 abbrev pub cut_short : ℕ → Bool → Option Stop
 cut_short n whole = if whole then Some (Fault n kinds.BadNumber) else Some Open
 
+abbrev pub cost_number_tests : Token → List (Bool × TextKind)
+cost_number_tests t = (is_none (integer t.bytes), kinds.BadNumber)
+    ∷ (not (is_natural (integer t.bytes)), kinds.OutOfLimit) ∷ []
+
 abbrev pub cost_stop : ℕ → Bool → List Token → Option Stop
 cost_stop n whole [] = cut_short n whole
-cost_stop n whole (t ∷ ts) =
-    or_else (checked 64 t ((is_none (integer t.bytes), kinds.BadNumber)
-    ∷ (not (is_natural (integer t.bytes)), kinds.OutOfLimit) ∷ [])) (line_trailing_stop n ts)
+cost_stop n whole (t ∷ ts) = or_else (checked 64 t (cost_number_tests t)) (line_trailing_stop n ts)
 
 -- the tests of a Route line's word, and of Cost
 abbrev pub route_tests : List SolutionLine → List (Bool × TextKind)

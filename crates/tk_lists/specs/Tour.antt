@@ -22,10 +22,12 @@ tour_extent before words.TourSection toks = list_extent toks
 tour_extent before _ toks = record { count = 0; closed = true; at_eof = false }
 
 -- what stops at an entry, of which k stand before it
+abbrev pub entry_tests : ℕ → Token → List (Bool × TextKind)
+entry_tests k t = (is_keyword t.bytes, kinds.Truncated) ∷ (is_none (integer t.bytes), kinds.BadNumber)
+    ∷ (not (in_range 0 4294967295 (integer t.bytes)) || nat_le ENTRY_LIMIT k, kinds.OutOfLimit) ∷ []
+
 unfoldable pub entry_stop : ℕ → Token → Option Stop
-entry_stop k t =
-    checked 64 t ((is_keyword t.bytes, kinds.Truncated) ∷ (is_none (integer t.bytes), kinds.BadNumber)
-    ∷ (not (in_range 0 4294967295 (integer t.bytes)) || nat_le ENTRY_LIMIT k, kinds.OutOfLimit) ∷ [])
+entry_stop k t = checked 64 t (entry_tests k t)
 
 -- the first stop among the entries
 unfoldable pub entries_stop : ℕ → List Token → Option Stop

@@ -61,8 +61,8 @@ returns-in_ok-begin_route-in-Route-clause-err c = λ before keeps.
 
 pub returns-in_ok-begin_cost-in-Cost-clause-err : goal.returns-in_ok-begin_cost-in-Cost-clause-err
 returns-in_ok-begin_cost-in-Cost-clause-err c = λ before keeps.
-    let n = c.args.self.now.line in
     let is = rw c.as_slice.ensures at c.in-Cost.ensures in
-    let same = whole_cost n c.args.self.now.held c.requires is.0 is.1 in
-    let unpriced = c.in_ok-begin_cost-in-Cost.ensures.ok before keeps in
-    rw (same, unpriced) refl
+    rw (
+      whole_cost c.args.self.now.line c.args.self.now.held c.requires is.0 is.1,
+      c.in_ok-begin_cost-in-Cost.ensures.ok before keeps,
+    ) refl

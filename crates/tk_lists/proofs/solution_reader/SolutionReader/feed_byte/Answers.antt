@@ -45,7 +45,6 @@ returns c = λ before fed.
       held = c.end_line.new.self.held;
       form = c.end_line.new.self.form;
     } in
-    let ended = c.in-Ok-end_line.ensures.ok fed.before fed.toks fed.stands in
-    let next = ap (λ (n : ℕ). n + 1) c.end_line.ensures.line in
     subst (λ (x : ℕ). FedLines t (before ++ x ∷ [])) (sym c.if-byte-ne10.false)
-    (fed_LF c.args.self.now t before fed next refl ended)
+    (fed_LF c.args.self.now t before fed (ap (λ (n : ℕ). n + 1) c.end_line.ensures.line) refl
+    (c.in-Ok-end_line.ensures.ok fed.before fed.toks fed.stands))

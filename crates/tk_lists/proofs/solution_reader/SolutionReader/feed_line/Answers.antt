@@ -12,15 +12,12 @@ pub returns-else-blank-clause-err : goal.returns-else-blank-clause-err
 returns-else-blank-clause-err c = λ before toks stands.
     let n = c.args.self.now.line in
     let solid = sym c.blank.ensures ∙ c.if-blank.false in
-    let g = line_from n c.clear.new.self [] places.Word in
-    let h = rest_of c.args.self.now toks in
-    let at = rw c.in-Start.is at stands in
-    err_same before n c.args.byte g h (λ bs w. rw (c.in-Start.is, c.clear.ensures, solid) refl) c.feed_word.result
-    (c.feed_word.ensures.err before at.1)
+    err_same before n c.args.byte (line_from n c.clear.new.self [] places.Word) (rest_of c.args.self.now toks)
+    (λ bs w. rw (c.in-Start.is, c.clear.ensures, solid) refl) c.feed_word.result
+    (c.feed_word.ensures.err before (rw c.in-Start.is at stands).1)
 
 pub returns-then-not-blank-clause-ok : goal.returns-then-not-blank-clause-ok
 returns-then-not-blank-clause-ok c = λ before toks stands.
-    let solid = sym c.blank-in-Gap.ensures ∙ c.if-not-blank.true in
     let at = rw c.in-Gap.is at stands in
     record {
       toks = toks;
@@ -29,7 +26,7 @@ returns-then-not-blank-clause-ok c = λ before toks stands.
         c.begin_token.ensures.kept.0,
         c.begin_token.ensures.begun.0,
         c.begin_token.ensures.begun.1,
-      ) (at.0, at.1, (solid, omega arith));
+      ) (at.0, at.1, ((sym c.blank-in-Gap.ensures ∙ c.if-not-blank.true), omega arith));
       same =
           rw (c.in-Gap.is, c.begin_token.ensures.kept.0, c.begin_token.ensures.begun.0, c.begin_token.ensures.begun.1)
           (λ bs w. refl);

@@ -76,16 +76,15 @@ returns-then-may_become_word-clause-ok c = λ before k.
 
 pub returns-then-word_byte-clause-ok : goal.returns-then-word_byte-clause-ok
 returns-then-word_byte-clause-ok c = λ before k.
-    let n = c.args.self.now.line in
-    let same = grown (goal.at.returns-then-word_byte-clause-ok c).After-may_become_word c.if-may_become_word.false in
-    ok_same before n c.args.byte (λ bs w. Other) (line_from n c.args.self.now.held [] places.Word) same c.skip.result
+    ok_same before c.args.self.now.line c.args.byte _ _
+    (grown (goal.at.returns-then-word_byte-clause-ok c).After-may_become_word c.if-may_become_word.false) c.skip.result
     c.skip.new.self (c.skip.ensures.ok before k)
 
 pub returns-then-word_byte-clause-err : goal.returns-then-word_byte-clause-err
 returns-then-word_byte-clause-err c = λ before k.
     let n = c.args.self.now.line in
-    let same = grown (goal.at.returns-then-word_byte-clause-err c).After-may_become_word c.if-may_become_word.false in
-    err_same before n c.args.byte (λ bs w. Other) (line_from n c.args.self.now.held [] places.Word) same c.skip.result
+    err_same before n c.args.byte (λ bs w. Other) (line_from n c.args.self.now.held [] places.Word)
+    (grown (goal.at.returns-then-word_byte-clause-err c).After-may_become_word c.if-may_become_word.false) c.skip.result
     (c.skip.ensures.err before k)
 
 pub returns-in_err-begin_route-in-Route-clause-err : goal.returns-in_err-begin_route-in-Route-clause-err
@@ -116,9 +115,7 @@ returns-in_err-begin_cost-in-Cost-clause-err c = λ before keeps.
 
 pub returns-in_ok-begin_route-in-Route-clause-ok : goal.returns-in_ok-begin_route-in-Route-clause-ok
 returns-in_ok-begin_route-in-Route-clause-ok c = λ before k.
-    let n = c.args.self.now.line in
-    ok_same before n c.args.byte (line_from n [] [] (places.Head heads.Word))
-    (line_from n c.args.self.now.held [] places.Word)
+    ok_same before c.args.self.now.line c.args.byte _ _
     (is_route (goal.at.returns-in_ok-begin_route-in-Route-clause-ok c).In-Route) c.feed_head.result c.feed_head.new.self
     (c.feed_head.ensures.ok before k (c.in_ok-begin_route-in-Route.ensures.ok before k))
 
@@ -132,15 +129,13 @@ returns-in_ok-begin_route-in-Route-clause-err c = λ before k.
 
 pub returns-in_ok-begin_cost-in-Cost-clause-ok : goal.returns-in_ok-begin_cost-in-Cost-clause-ok
 returns-in_ok-begin_cost-in-Cost-clause-ok c = λ before k.
-    let n = c.args.self.now.line in
-    went_same before n c.args.byte (line_from n [] [] places.Colon) (line_from n c.args.self.now.held [] places.Word)
+    went_same before c.args.self.now.line c.args.byte _ _
     (is_cost (goal.at.returns-in_ok-begin_cost-in-Cost-clause-ok c).In-Cost) c.feed_colon.new.self
     (c.feed_colon.ensures.went before k (c.in_ok-begin_cost-in-Cost.ensures.ok before k))
 
 pub returns-in-Other-clause-ok : goal.returns-in-Other-clause-ok
 returns-in-Other-clause-ok c = λ before k.
-    let n = c.args.self.now.line in
-    ok_same before n c.args.byte (λ bs w. Other) (line_from n c.args.self.now.held [] places.Word)
+    ok_same before c.args.self.now.line c.args.byte _ _
     (is_other (goal.at.returns-in-Other-clause-ok c).In-Other) c.skip-in-Other.result c.skip-in-Other.new.self
     (c.skip-in-Other.ensures.ok before k)
 
