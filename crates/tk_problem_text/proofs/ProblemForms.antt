@@ -8,8 +8,7 @@ use Rattle.tk_lines.specs.declared.form.Taken.{Taken}
 use Rattle.tk_lines.specs.declared.form.Taken.TheVariants.{More, Last, Ending, Eof}
 use Rattle.tk_problem_text.specs.declared.sections.depot.Depot.{Depot}
 use Rattle.tk_problem_text.specs.declared.sections.open_section.OpenSection.{OpenSection}
-use Rattle.tk_problem_text.specs.declared.sections.open_section.OpenSection.TheVariants.{Nothing, Places}
-use Rattle.tk_problem_text.specs.declared.sections.open_section.OpenSection.TheVariants.{Loads, Home}
+use Rattle.tk_problem_text.specs.declared.sections.open_section.OpenSection.TheVariants.{Nothing, Places, Loads, Home}
 use Rattle.tk_words.specs.Lex.{Token, is_empty}
 use Rattle.tk_lines.specs.Pieces.{Piece, After, Early, Fault, Format, has}
 use Rattle.tk_lines.specs.Reader.Forms.{a_section, Goes, HasTakenToken}

@@ -13,9 +13,8 @@ use Rattle.tk_words.specs.declared.keyword.Role.TheVariants.{BeginsHeader, Begin
 use Rattle.tk_words.specs.declared.fault.TextFault.{TextFault}
 use Rattle.tk_words.specs.declared.fault.TextKind.{TextKind}
 use Rattle.tk_words.specs.declared.fault.TextKind.TheVariants as kinds
-use Rattle.tk_words.specs.Texts.{line_behind}
+use Rattle.tk_words.specs.Texts.{line_behind, answer_of}
 use Rattle.tk_problem.specs.declared.limits.TheConstants.{TEXT_LIMIT}
-use Rattle.tk_words.specs.Texts.{answer_of}
 use Rattle.tk_problem_text.specs.HeaderValues.{name_of}
 use Rattle.tk_words.specs.Lex.{LF, Line, Token, onto_line, lines, tokens, tokens_of, is_blank, is_letter, is_word_byte}
 use Rattle.tk_words.specs.Lex.{is_empty, front, behind, after_word, without_colon_before, trim, trim_end}

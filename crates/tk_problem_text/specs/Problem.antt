@@ -15,8 +15,7 @@ use Rattle.tk_problem.specs.declared.weights.Format as Layout
 use Rattle.tk_problem.specs.declared.weights.Format.TheVariants as formats
 use Rattle.tk_words.specs.Lex.{Token, after_word, trim}
 use Rattle.tk_problem_text.specs.HeaderValues.{problem_type_of, weight_type_of, weight_format_of, header_number}
-use Rattle.tk_problem_text.specs.HeaderValues.{name_of}
-use Rattle.tk_problem_text.specs.HeaderValues.{is_coordinate_type}
+use Rattle.tk_problem_text.specs.HeaderValues.{name_of, is_coordinate_type}
 use Rattle.tk_problem_text.specs.declared.header_values.ProblemType.{ProblemType}
 use Rattle.tk_problem_text.specs.declared.header_values.ProblemType.TheVariants as types
 use Rattle.tk_problem_text.specs.declared.header_values.WeightType.{WeightType}

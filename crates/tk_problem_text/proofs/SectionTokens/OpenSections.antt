@@ -13,8 +13,7 @@ use Rattle.tk_lines.specs.declared.form.Taken.{Taken}
 use Rattle.tk_lines.specs.declared.form.Taken.TheVariants as takens
 use Rattle.tk_problem_text.specs.declared.sections.depot.Depot.{Depot}
 use Rattle.tk_problem_text.specs.declared.sections.open_section.OpenSection.{OpenSection}
-use Rattle.tk_problem_text.specs.declared.sections.open_section.OpenSection.TheVariants.{Nothing}
-use Rattle.tk_problem_text.specs.declared.sections.open_section.OpenSection.TheVariants.{Home, Display}
+use Rattle.tk_problem_text.specs.declared.sections.open_section.OpenSection.TheVariants.{Nothing, Home, Display}
 use Rattle.tk_words.specs.Lex.{Token, is_empty}
 use Rattle.tk_lines.specs.Pieces.{Piece, Clean, Early, Fault, first_at, Stop, or_else, After}
 use Rattle.tk_words.specs.Entry.{is_keyword, is_some_word}

@@ -2,7 +2,7 @@
 use Rattle.std.specs.Prelude.{IfErr, Result}
 use Rattle.tk_words.specs.declared.fault.TextKind.{TextKind}
 use Rattle.tk_problem_text.specs.declared.parts.Parts.{Parts}
-use Rattle.tk_lines.specs.Pieces.{Fault}
+use Rattle.tk_lines.specs.Pieces.{Fault, Piece, first_at, has}
 use Rattle.tk_lines.specs.Reader.Forms.{IsToldWord}
 use Rattle.tk_problem_text.specs.Reader.Parts.{HasParts}
 use Rattle.std.specs.Prelude.{◌≡◌, ◌≤◌, ◌*◌, ℕ, Bool, true, false, List, [], Option, Some, None, if◌then◌else◌}
@@ -12,7 +12,6 @@ use Rattle.tk_words.specs.declared.keyword.Keyword.TheVariants as words
 use Rattle.tk_problem_text.specs.declared.sections.open_section.OpenSection.{OpenSection}
 use Rattle.tk_problem_text.specs.declared.sections.open_section.OpenSection.TheVariants.{Nothing, Places, Explicit}
 use Rattle.tk_problem_text.specs.declared.sections.open_section.OpenSection.TheVariants.{Loads, Home, Display}
-use Rattle.tk_lines.specs.Pieces.{Piece, first_at, has}
 use Rattle.tk_problem_text.specs.Problem.{size_of, format_in, is_known_section, section_tests, word_tests}
 use Rattle.tk_problem_text.specs.Reader.OpenSections.{IsListed, IsOpen}
 use Rattle.tk_problem_text.specs.Reader.Coordinates.{HasPlaces}

@@ -1,14 +1,12 @@
 -- What the reader of demands has taken.
-use Rattle.std.specs.Prelude.{IfErr, Result}
+use Rattle.std.specs.Prelude.{IfErr, Result, ◌≡◌, ◌<◌, ◌*◌, ℕ, List, [], ◌∷◌, ◌++◌, length, Option, Some, None}
 use Rattle.tk_words.specs.declared.fault.TextKind.{TextKind}
 use Rattle.tk_lines.specs.declared.form.Taken.{Taken}
 use Rattle.tk_lines.specs.Pieces.{Fault, first_at}
 use Rattle.tk_lines.specs.Reader.Forms.{whole}
-use Rattle.tk_problem_text.specs.Sections.Rows.{demand_tests}
-use Rattle.std.specs.Prelude.{◌≡◌, ◌<◌, ◌*◌, ℕ, List, [], ◌∷◌, ◌++◌, length, Option, Some, None}
+use Rattle.tk_problem_text.specs.Sections.Rows.{demand_tests, demand_rows, nodes_in, demands_of}
 use Rattle.tk_words.specs.Lex.{Token}
 use Rattle.tk_problem_text.specs.Reader.Nodes.{Named, HasNamed, HasNext}
-use Rattle.tk_problem_text.specs.Sections.Rows.{demand_rows, nodes_in, demands_of}
 
 -- the demands by node, the nodes that were named, and the one whose demand is wanted next
 pub record Loading : Type 0 where

@@ -3,11 +3,10 @@ use Rattle.std.specs.Prelude.{IfErr, IfOk, None, Result, Some}
 use Rattle.tk_words.specs.declared.fault.TextKind.{TextKind}
 use Rattle.tk_lines.specs.Pieces.{Fault, first_at}
 use Rattle.tk_lines.specs.Reader.Forms.{whole}
-use Rattle.tk_problem_text.specs.Sections.Rows.{node_tests}
+use Rattle.tk_problem_text.specs.Sections.Rows.{node_tests, number_in, is_among}
 use Rattle.std.specs.Prelude.{◌≡◌, ◌<◌, ◌+◌, ℕ, suc, Bool, false, List, [], ◌∷◌, ◌++◌, length, map}
 use Rattle.std.specs.List.{range_with_len}
 use Rattle.tk_words.specs.Lex.{Token}
-use Rattle.tk_problem_text.specs.Sections.Rows.{number_in, is_among}
 
 -- of each node whether it was named, and how many were not
 pub record Named : Type 0 where

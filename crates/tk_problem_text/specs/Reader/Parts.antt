@@ -1,12 +1,13 @@
 -- What is kept of the pieces of a problem.
 use Rattle.std.specs.Prelude.{◌++◌, map, slice_index, true}
 use Rattle.tk_words.specs.Lex.{Token}
-use Rattle.tk_lines.specs.Pieces.{After}
+use Rattle.tk_lines.specs.Pieces.{After, Piece, has}
 use Rattle.tk_lines.specs.Reader.Forms.{a_section}
 use Rattle.tk_problem_text.specs.Sections.Rows as Rows
 use Rattle.tk_problem_text.specs.Sections.Rows.{number_in, row_places}
 use Rattle.tk_problem_text.specs.Sections.WeightSection.{lower_weights}
-use Rattle.tk_problem_text.specs.Problem.{format_in}
+use Rattle.tk_problem_text.specs.Problem.{format_in, WeightsAre, RoutingIs, ProblemIs, size_of, points_of, lower_in}
+use Rattle.tk_problem_text.specs.Problem.{demands_of, depot_of}
 use Rattle.std.specs.Prelude.{◌≡◌, ◌≤◌, ℕ, false, List, [], length, Option, Some, None, IfSome, is_some, unwrap_or, Vec}
 use Rattle.std.specs.declared.alloc.Global.{Global}
 use Rattle.tk_problem.specs.declared.limits.TheConstants.{CITY_LIMIT, TABLE_LIMIT}
@@ -20,10 +21,7 @@ use Rattle.tk_words.specs.declared.keyword.Keyword.TheVariants as words
 use Rattle.tk_problem_text.specs.declared.parts.Parts.{Parts}
 use Rattle.tk_problem.specs.declared.weights.Weights.TheVariants.{Points, Lower}
 use Rattle.tk_problem.specs.Shape.{WeightsFit, IsRouting}
-use Rattle.tk_lines.specs.Pieces.{Piece, has}
 use Rattle.tk_problem_text.specs.Reader.Headers.{HasHeaders}
-use Rattle.tk_problem_text.specs.Problem.{WeightsAre, RoutingIs, ProblemIs, size_of, points_of, lower_in, demands_of}
-use Rattle.tk_problem_text.specs.Problem.{depot_of}
 use Rattle.tk_problem_text.specs.Problem as value
 
 -- what a section gives is kept, once it came

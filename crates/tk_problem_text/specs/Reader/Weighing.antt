@@ -1,16 +1,14 @@
 -- What the reader of explicit weights has taken.
-use Rattle.std.specs.Prelude.{Vec}
+use Rattle.std.specs.Prelude.{Vec, ◌≡◌, ◌≤◌, ℕ, List}
 use Rattle.std.specs.declared.alloc.Global.{Global}
 use Rattle.tk_problem.specs.declared.weights.Weights.TheVariants as weights
 use Rattle.tk_problem.specs.Shape.{WeightsFit}
-use Rattle.tk_problem_text.specs.Sections.WeightSection.{lower_weights}
-use Rattle.std.specs.Prelude.{◌≡◌, ◌≤◌, ℕ, List}
+use Rattle.tk_problem_text.specs.Sections.WeightSection.{lower_weights, weights_in}
 use Rattle.tk_problem.specs.declared.limits.TheConstants.{TABLE_LIMIT}
 use Rattle.tk_problem_text.specs.declared.sections.explicit_weights.ExplicitWeights.{ExplicitWeights}
 use Rattle.tk_problem.specs.declared.weights.Format.{Format}
 use Rattle.tk_words.specs.Lex.{Token}
 use Rattle.tk_problem.specs.WeightsSoFar.{IsSoFar}
-use Rattle.tk_problem_text.specs.Sections.WeightSection.{weights_in}
 
 -- these tokens of a format for n cities, of which there may be 5,000, were taken
 pub record HasWeights (n : ℕ) (f : Format) (s : ExplicitWeights) (toks : List Token) : Type 0 where

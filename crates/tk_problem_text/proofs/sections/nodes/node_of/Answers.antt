@@ -1,6 +1,5 @@
 use Rattle.std.proofs.Common.{rules, arith, ap, sym, ◌∙◌, refl, ◌≡◌, ◌<◌, ◌-◌, ◌≤◌, ℕ, suc, ℤ, pos, negsuc, Some, true}
-use Rattle.std.proofs.Common.{false}
-use Rattle.std.proofs.Common.{w64, SFits, to_z, of_z}
+use Rattle.std.proofs.Common.{false, w64, SFits, to_z, of_z}
 use Rattle.std.proofs.lemmas.Bool.{ltb-true, ltb-false, lt-leb, and_left, and_right}
 use Rattle.std.proofs.lemmas.Int.{to_z-of_z}
 use lib.Signed.{lt_z}
