@@ -12,7 +12,7 @@ use Rattle.tk_words.specs.Lex.{Line, Token, lines, tokens_of, is_blank, is_word_
 use Rattle.tk_words.specs.TextLaws.{HasAnswers, StaysDecided}
 use Rattle.tk_words.specs.Words.{spells}
 use Rattle.tk_words.proofs.Bools.{and_false}
-use Rattle.tk_lines.specs.Pieces.{Stop, Open, Fault, first_at, checked, or_else, stopped}
+use Rattle.tk_lines.specs.Pieces.{Stop, Open, Fault, first_at, checked, or_else}
 use Rattle.tk_lines.proofs.Answered.{AreWhole, NotOpen, WholeTokens, not_open_checked, not_open_first, not_open_or}
 use Rattle.tk_lines.proofs.Answered.{some_stopped, whole_lines, whole_tokens_of}
 use Rattle.tk_lines.proofs.Growing.{a_line, Lasts, checked_grown, lines_grow, or_else_kept, stopped_kept, stopped_stays}
@@ -20,13 +20,27 @@ use Rattle.tk_lines.proofs.Growing.{tokens_after, tokens_grow}
 use Rattle.tk_lines.proofs.Headers.ByteRuns.{front-whole, front_grows}
 use Rattle.tk_lines.proofs.MiddleOfLine.{behind-more, front-more}
 use Rattle.tk_lines.proofs.Steady.{stops, stops_grown}
-use Rattle.tk_lists.specs.Solution.{Head, Short, Bad, Behind, Solution, SolutionLine, Unsure, Other, Cost, colon_head}
+use Rattle.tk_lists.specs.Solution.{Head, Short, Bad, Behind, Solution, SolutionLine, Other, Cost, colon_head}
 use Rattle.tk_lists.specs.Solution.{digits_head, without_first, number_head, route_head, is_sign, is_hash, route_line}
 use Rattle.tk_lists.specs.Solution.{may_be_word, by_word, solid_line, line_of, has_cost, count_of, customer_tests}
 use Rattle.tk_lists.specs.Solution.{customer_stop, customers_stop, line_trailing_stop, cut_short, cost_stop}
 use Rattle.tk_lists.specs.Solution.{route_tests, cost_tests, cost_number_tests, other_tests, line_stop, solution_at_end}
 use Rattle.tk_lists.specs.Solution.{judge_lines, solution_decided}
 use Rattle.tk_lists.proofs.SolutionWords.{route_stops, solid_other}
+
+-- lines with the same word, whose tails may differ
+by_words : (R : SolutionLine → SolutionLine → Type 0) (n : ℕ) (w w' : Bool) (word tail tail' : List ℕ)
+    → R (route_line n w (route_head tail)) (route_line n w' (route_head tail'))
+    → R (Cost (tokens_of w n (after_word tail))) (Cost (tokens_of w' n (after_word tail'))) → R Other Other
+    → R (by_word n w word tail) (by_word n w' word tail')
+by_words R n w w' word tail tail' route cost other =
+    by_tests (spells word (codes "ROUTE")) (spells word (codes "COST")) _ _ _ _ route cost
+  where
+    by_tests : (r c : Bool) (x x' y y' : SolutionLine) → R x x' → R y y' →
+        R (cond r x (cond c y Other)) (cond r x' (cond c y' Other))
+    by_tests true c x x' y y' route cost = route
+    by_tests false true x x' y y' route cost = cost
+    by_tests false false x x' y y' route cost = other
 
 -- ---- each text has an answer
 
@@ -58,18 +72,12 @@ module _ (before : List SolutionLine) (n : ℕ) where
       (customers_known (count_of before) (tokens_of true n bs) (whole_tokens_of n bs))
 
   word_known : (word tail : List ℕ) → NotOpen (line_stop before n true (by_word n true word tail))
-  word_known word tail = by_tests (spells word (codes "ROUTE")) (spells word (codes "COST"))
-    where
-      by_tests : (route cost : Bool) →
-          NotOpen (line_stop before n true
-          (cond route (route_line n true (route_head tail))
-          (cond cost (Cost (tokens_of true n (after_word tail))) Other)))
-      by_tests true cost = route_known (route_head tail)
-      by_tests false true =
-          not_open_or (first_at n (cost_tests before)) (cost_stop n true (tokens_of true n (after_word tail)))
-          (not_open_first n (cost_tests before))
-          (cost_known n (tokens_of true n (after_word tail)) (whole_tokens_of n (after_word tail)))
-      by_tests false false = not_open_first n (other_tests before)
+  word_known word tail =
+      by_words (λ l _. NotOpen (line_stop before n true l)) n true true word tail tail (route_known (route_head tail))
+      (not_open_or (first_at n (cost_tests before)) (cost_stop n true (tokens_of true n (after_word tail)))
+      (not_open_first n (cost_tests before))
+      (cost_known n (tokens_of true n (after_word tail)) (whole_tokens_of n (after_word tail))))
+      (not_open_first n (other_tests before))
 
   solid_known : (bs : List ℕ) → NotOpen (line_stop before n true (solid_line n true bs))
   solid_known [] = tt
@@ -86,17 +94,10 @@ some_judged : (before : List SolutionLine) (n : ℕ) (ls : List Line) → AreWho
     IsSome (judge_lines before n true ls)
 unfolding judge_lines
 some_judged before n [] h = some_end before n
-some_judged before n (l ∷ ls) h = by_whole l.whole h.0 (λ here. some_judged here l.number ls h.1)
-  where
-    by_whole : (w : Bool) → w ≡ true → ((here : List SolutionLine) → IsSome (judge_lines here l.number true ls))
-        → IsSome
-        (stopped (line_stop before l.number w (line_of l.number w l.bytes))
-        (judge_lines (before ++ line_of l.number w l.bytes ∷ []) l.number w ls))
-    by_whole true e rest =
-        let here : SolutionLine = line_of l.number true l.bytes in
-        some_stopped (line_stop before l.number true here) (judge_lines (before ++ here ∷ []) l.number true ls)
-        (solid_known before l.number (behind is_blank l.bytes)) (rest (before ++ here ∷ []))
-    by_whole false e rest = absurd cc
+some_judged before n (l ∷ ls) h =
+    let here : SolutionLine = line_of l.number true l.bytes in
+    rw h.0 (some_stopped (line_stop before l.number true here) (judge_lines (before ++ here ∷ []) l.number true ls)
+    (solid_known before l.number (behind is_blank l.bytes)) (some_judged (before ++ here ∷ []) l.number ls h.1))
 
 pub some_decided : HasAnswers solution_decided
 unfolding solution_decided
@@ -238,20 +239,12 @@ module _ (before : List SolutionLine) (n : ℕ) (w : Bool) (x : List ℕ) (line 
 
   word_stays : (word tail : List ℕ) → line_stop before n false (by_word n false word tail) ≡ Some (Fault line k) →
       line_stop before n w (by_word n w word (tail ++ x)) ≡ Some (Fault line k)
-  word_stays word tail f = by_tests (spells word (codes "ROUTE")) (spells word (codes "COST")) f
-    where
-      by_tests : (route cost : Bool)
-          → line_stop before n false
-          (cond route (route_line n false (route_head tail))
-          (cond cost (Cost (tokens_of false n (after_word tail))) Other)) ≡ Some (Fault line k)
-          → line_stop before n w
-          (cond route (route_line n w (route_head (tail ++ x)))
-          (cond cost (Cost (tokens_of w n (after_word (tail ++ x)))) Other)) ≡ Some (Fault line k)
-      by_tests true cost f = route_stays (route_head tail) (route_head (tail ++ x)) (head_stays tail x) f
-      by_tests false true f =
-          or_else_kept (first_at n (cost_tests before)) (cost_stop n false (tokens_of false n (after_word tail)))
-          (cost_stop n w (tokens_of w n (after_word (tail ++ x)))) (Fault line k) (cost_stays tail) f
-      by_tests false false f = f
+  word_stays word tail =
+      by_words
+      (λ l l'. line_stop before n false l ≡ Some (Fault line k) → line_stop before n w l' ≡ Some (Fault line k))
+      n false w word tail (tail ++ x) (route_stays (route_head tail) (route_head (tail ++ x)) (head_stays tail x))
+      (or_else_kept (first_at n (cost_tests before)) (cost_stop n false (tokens_of false n (after_word tail)))
+      (cost_stop n w (tokens_of w n (after_word (tail ++ x)))) (Fault line k) (cost_stays tail)) (λ f. f)
 
   solid_stays : (b : ℕ) (bs : List ℕ) → line_stop before n false (solid_line n false (b ∷ bs)) ≡ Some (Fault line k) →
       line_stop before n w (solid_line n w ((b ∷ bs) ++ x)) ≡ Some (Fault line k)
@@ -260,25 +253,19 @@ module _ (before : List SolutionLine) (n : ℕ) (w : Bool) (x : List ℕ) (line 
       by_may : (t : Bool) → may_be_word (b ∷ bs) ≡ t → behind is_word_byte (b ∷ bs) ≡ [] →
           line_stop before n w (solid_line n w ((b ∷ bs) ++ x)) ≡ Some (Fault line k)
       by_may true m e =
-          let is : solid_line n false (b ∷ bs) ≡ Unsure = rw (front-whole is_word_byte (b ∷ bs) e, e, m) refl in
-          absurd (let j = rw is at f in cc)
+          absurd (let j = rw (front-whole is_word_byte (b ∷ bs) e, e, m) at f in cc)
       by_may false m e =
-          let is : solid_line n false (b ∷ bs) ≡ Other = rw (front-whole is_word_byte (b ∷ bs) e, e, m) refl in
-          rw (solid_other n (b ∷ bs) (omega arith) e m x w) (rw is at f)
+          rw (solid_other n (b ∷ bs) (omega arith) e m x w) (rw (front-whole is_word_byte (b ∷ bs) e, e, m) at f)
 
       by_tail : (y : List ℕ) → behind is_word_byte (b ∷ bs) ≡ y →
           line_stop before n w (solid_line n w ((b ∷ bs) ++ x)) ≡ Some (Fault line k)
       by_tail [] e = by_may (may_be_word (b ∷ bs)) refl e
       by_tail (d ∷ ds) e =
-          let word : List ℕ = front is_word_byte (b ∷ bs) in
-          let old : solid_line n false (b ∷ bs) ≡ by_word n false word (d ∷ ds) = rw e refl in
-          let new : solid_line n w ((b ∷ bs) ++ x) ≡ by_word n w word ((d ∷ ds) ++ x) =
           rw (
             front-more is_word_byte (b ∷ bs) x d ds e,
             behind-more is_word_byte (b ∷ bs) x d ds e,
             and_false (not w),
-          ) refl in
-          rw new (word_stays word (d ∷ ds) (rw old at f))
+          ) (word_stays (front is_word_byte (b ∷ bs)) (d ∷ ds) (rw e at f))
 
   line_stays : (bs : List ℕ) → line_stop before n false (line_of n false bs) ≡ Some (Fault line k) →
       line_stop before n w (line_of n w (bs ++ x)) ≡ Some (Fault line k)

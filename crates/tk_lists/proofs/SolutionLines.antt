@@ -1,21 +1,19 @@
 -- Look-ups in the lines of a solution text.
-use Rattle.std.proofs.Common.{◌≡◌, ℕ, suc, ◌+◌, ◌<◌, ◌≤◌, leb, ltb, Option, Some, None, Bool, true, false, cond, not}
+use Rattle.std.proofs.Common.{◌≡◌, ℕ, suc, ◌+◌, ◌<◌, ◌≤◌, leb, ltb, Some, None, Bool, true, false, cond}
 use Rattle.std.proofs.Common.{◌||◌, List, [], ◌∷◌, ◌++◌, length, map, ℤ, pos, negsuc, refl, sym, ap, ◌∙◌, append_assoc}
 use Rattle.std.proofs.Common.{arith}
-use Rattle.std.proofs.lemmas.Bool.{le-leb, lt-leb, le-ltb}
+use Rattle.std.proofs.lemmas.Bool.{le-leb, lt-leb, le-ltb, or_parts}
 use Rattle.std.proofs.Math.Bool.{or_assoc, or-false}
 use Rattle.std.proofs.lemmas.List.{append-nil, length-append}
 use Rattle.tk_lists.specs.declared.solution_form.SolutionForm.{SolutionForm}
 use Rattle.tk_words.specs.Lex.{Token, integer}
-use Rattle.tk_lists.specs.Solution.{SolutionLine, Route, Cost, is_natural, cost_stop, line_trailing_stop, customer_stop}
+use Rattle.tk_lists.specs.Solution.{SolutionLine, Route, Cost, cost_stop, line_trailing_stop, customer_stop}
 use Rattle.tk_lists.specs.Solution.{customers_stop, routes_on, routes_in, count_on, count_of, is_cost, has_cost}
 use Rattle.tk_lists.specs.Solution.{cost_on, cost_of}
 use Rattle.tk_lists.specs.Reader.SolutionReader.{Keeps, IsRoute, IsPriced}
 use Rattle.tk_lines.specs.Reader.Forms.{whole}
-use Rattle.tk_words.specs.declared.fault.TextKind.TheVariants as kinds
-use Rattle.tk_lines.specs.Pieces.{Stop, Open, Fault, or_else}
+use Rattle.tk_lines.specs.Pieces.{Stop, or_else}
 use Rattle.std.specs.Int.Signed.{lt_z}
-use Rattle.std.specs.Prelude.{is_none}
 use Rattle.tk_problem.specs.declared.limits.TheConstants.{ENTRY_LIMIT}
 use Rattle.tk_lists.proofs.Lists.{nothing_before, numbers_more}
 
@@ -45,12 +43,9 @@ cost_of-append (x ∷ xs) ys = by_test (is_cost x) (cost_of-append xs ys)
 
 pub no_cost : (xs : List SolutionLine) → has_cost xs ≡ false → cost_of xs ≡ pos 0
 no_cost [] h = refl
-no_cost (x ∷ xs) h = by_test (is_cost x) (no_cost xs) h
-  where
-    by_test : (t : Bool) → (has_cost xs ≡ false → cost_of xs ≡ pos 0) → (t || has_cost xs) ≡ false →
-        cond t (cost_on x) (cost_of xs) ≡ pos 0
-    by_test true rest h = absurd cc
-    by_test false rest h = rest h
+no_cost (x ∷ xs) h =
+    let none = or_parts (is_cost x) (has_cost xs) h in
+    rw none.0 (no_cost xs none.1)
 
 -- a line of which nothing is kept
 pub keeps_line : (s : SolutionForm) (before : List SolutionLine) (l : SolutionLine) → routes_on l ≡ [] →
@@ -137,19 +132,9 @@ keeps_customer s t before toks n m bs short is low few routes route customers pr
 
 -- ---- the cost
 
-natural_line : (t : Token) (ts : List Token) (n : ℕ) (ended : Bool) → ltb 64 (length t.bytes) ≡ false → t.whole ≡ true →
-    is_natural (integer t.bytes) ≡ true → cost_stop n ended (t ∷ ts) ≡ line_trailing_stop n ts
-natural_line t ts n ended short all is = by_value (integer t.bytes) is
-  where
-    by_value : (z : Option ℤ) → is_natural z ≡ true
-        → or_else
-        (cond (ltb 64 (length t.bytes)) (Some (Fault t.line kinds.TooLong))
-        (cond (not t.whole) (Some Open)
-        (cond (is_none z) (Some (Fault t.line kinds.BadNumber))
-        (cond (not (is_natural z)) (Some (Fault t.line kinds.OutOfLimit)) None))))
-        (line_trailing_stop n ts) ≡ line_trailing_stop n ts
-    by_value None h = absurd cc
-    by_value (Some z) h = rw (short, all, h) refl
+natural_line : (t : Token) (ts : List Token) (n m : ℕ) (ended : Bool) → length t.bytes ≤ 64 → t.whole ≡ true →
+    integer t.bytes ≡ Some (pos m) → cost_stop n ended (t ∷ ts) ≡ line_trailing_stop n ts
+natural_line t ts n m ended short all is = rw (le-ltb _ _ short, all, is) refl
 
 pub keeps_cost : (s t : SolutionForm) (before : List SolutionLine) (n : ℕ) (bs : List ℕ) (z : ℤ) → length bs ≤ 64
     → integer bs ≡ Some z → lt_z z (pos 0) ≡ false
@@ -157,13 +142,13 @@ pub keeps_cost : (s t : SolutionForm) (before : List SolutionLine) (n : ℕ) (bs
     → Keeps s before [] → has_cost before ≡ false → IsPriced t before n (whole bs n ∷ [])
 keeps_cost s t before n bs z short is low routes route customers priced cost k unpriced =
     let here : SolutionLine = Cost (whole bs n ∷ []) in
-    let fits : ltb 64 (length bs) ≡ false = le-ltb _ _ short in
-    let nat : is_natural (integer bs) ≡ true = rw is (natural_from z low) in
+    let nat = natural_from z low in
+    let number : integer bs ≡ Some (pos nat.0) = is ∙ ap (λ (z : ℤ). Some z) nat.1 in
     record {
       price = whole bs n;
       is = refl;
-      fine = λ ended. natural_line (whole bs n) [] n ended fits refl nat;
-      trailing = λ ended t ts. natural_line (whole bs n) (t ∷ ts) n ended fits refl nat;
+      fine = λ ended. natural_line (whole bs n) [] n nat.0 ended short refl number;
+      trailing = λ ended t ts. natural_line (whole bs n) (t ∷ ts) n nat.0 ended short refl number;
       priced = unpriced;
       keeps = record {
         routes = rw routes (k.routes ∙ sym (routes_of-append before (here ∷ []) ∙ append-nil (routes_in before)));
@@ -174,6 +159,6 @@ keeps_cost s t before n bs z short is low routes route customers priced cost k u
       };
     }
   where
-    natural_from : (z : ℤ) → lt_z z (pos 0) ≡ false → is_natural (Some z) ≡ true
-    natural_from (pos m) h = refl
+    natural_from : (z : ℤ) → lt_z z (pos 0) ≡ false → (m : ℕ) × (z ≡ pos m)
+    natural_from (pos m) h = (m, refl)
     natural_from (negsuc m) h = absurd cc

@@ -1,9 +1,9 @@
 -- What a tour's form keeps, piece by piece and entry by entry.
-use Rattle.std.proofs.Common.{◌≡◌, ℕ, ◌<◌, ◌≤◌, Bool, true, false, not, ◌&&◌, ◌||◌, eqb, leb, ltb, List, [], ◌∷◌, ◌++◌}
+use Rattle.std.proofs.Common.{◌≡◌, ℕ, ◌<◌, ◌≤◌, Bool, true, false, not, ◌&&◌, ◌||◌, leb, ltb, List, [], ◌∷◌, ◌++◌}
 use Rattle.std.proofs.Common.{length, Option, Some, None, ℤ, pos, negsuc, SFits, w64, to_z, of_z, refl, sym, ap, subst}
 use Rattle.std.proofs.Common.{◌∙◌, append_assoc, arith}
 use Rattle.std.specs.Prelude.{codes}
-use Rattle.std.proofs.lemmas.Bool.{eqb-true, le-leb, lt-leb, le-ltb}
+use Rattle.std.proofs.lemmas.Bool.{le-leb, lt-leb, le-ltb, ne_eqb}
 use Rattle.std.proofs.lemmas.Int.{to_z-of_z}
 use Rattle.std.proofs.Math.Bool.{or-false}
 use Rattle.tk_problem.specs.declared.limits.TheConstants.{ENTRY_LIMIT}
@@ -288,8 +288,4 @@ minus_is z f h = let e : z ≡ negsuc 0 = sym (to_z-of_z w64 z f) ∙ ap (to_z w
 
 pub minus_not : (z : ℤ) → (of_z w64 z ≡ 18446744073709551615 → ⊥) → is_minus_one (Some z) ≡ false
 minus_not (pos n) h = refl
-minus_not (negsuc n) h = by_zero (eqb n 0) refl
-  where
-    by_zero : (t : Bool) → eqb n 0 ≡ t → t ≡ false
-    by_zero true e = absurd (h (ap (λ (k : ℕ). of_z w64 (negsuc k)) (eqb-true n 0 e)))
-    by_zero false e = refl
+minus_not (negsuc n) h = ne_eqb n 0 (λ e. h (ap (λ (k : ℕ). of_z w64 (negsuc k)) e))
