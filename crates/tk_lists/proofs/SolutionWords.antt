@@ -1,10 +1,10 @@
 -- The word of a line of a solution text.
-use Rattle.std.proofs.Common.{◌≡◌, ℕ, suc, ◌<◌, ◌≤◌, Bool, true, false, cond, eqb, not, ◌&&◌, ◌||◌, List, [], ◌∷◌, ◌++◌}
-use Rattle.std.proofs.Common.{length, take, Some, refl, sym, ap, ◌∙◌, append_assoc, arith}
+use Rattle.std.proofs.Common.{◌≡◌, ℕ, suc, ◌<◌, ◌≤◌, Bool, true, false, cond, eqb, not, ◌&&◌, List, [], ◌∷◌, ◌++◌}
+use Rattle.std.proofs.Common.{length, take, ⊎_elim, Some, refl, sym, ap, ◌∙◌, append_assoc, arith}
 use Rattle.std.specs.Prelude.{codes}
 use Rattle.std.specs.Char.{to_ascii_uppercase}
 use Rattle.std.proofs.lemmas.List.{append-nil, length-append, length-take}
-use Rattle.std.proofs.lemmas.Bool.{and_parts, or_parts}
+use Rattle.std.proofs.lemmas.Bool.{and_parts, or_cases, or_parts}
 use Rattle.tk_words.proofs.Bools.{and_false}
 use Rattle.tk_lines.specs.Pieces.{Stop, first_at}
 use Rattle.tk_words.specs.Lex.{tokens_of, after_word, is_word_byte, is_empty, front, behind}
@@ -21,40 +21,29 @@ spells_length (x ∷ xs) (y ∷ ys) h =
     ap suc (spells_length xs ys (and_parts (eqb (to_ascii_uppercase x) y) (spells xs ys) h).1)
 spells_length _ _ h = absurd cc
 
+and_lesser : (t a b : Bool) → (a ≡ false → b ≡ false) → (t && a) ≡ false → (t && b) ≡ false
+and_lesser true a b g h = g h
+and_lesser false a b g h = refl
+
 -- what begins with other bytes spells nothing else
 begins_longer : (xs zs text : List ℕ) → begins xs text ≡ false → begins (xs ++ zs) text ≡ false
 begins_longer [] zs text h = absurd cc
 begins_longer (x ∷ xs) zs [] h = refl
-begins_longer (x ∷ xs) zs (y ∷ text) h = by_test (eqb (to_ascii_uppercase x) y) (begins_longer xs zs text) h
-  where
-    by_test : (t : Bool) → (begins xs text ≡ false → begins (xs ++ zs) text ≡ false) → (t && begins xs text) ≡ false →
-        (t && begins (xs ++ zs) text) ≡ false
-    by_test true rest h = rest h
-    by_test false rest h = refl
+begins_longer (x ∷ xs) zs (y ∷ text) h = and_lesser (eqb (to_ascii_uppercase x) y) _ _ (begins_longer xs zs text) h
 
 spells_begins : (xs text : List ℕ) → begins xs text ≡ false → spells xs text ≡ false
 spells_begins [] text h = absurd cc
 spells_begins (x ∷ xs) [] h = refl
-spells_begins (x ∷ xs) (y ∷ text) h = by_test (eqb (to_ascii_uppercase x) y) (spells_begins xs text) h
-  where
-    by_test : (t : Bool) → (begins xs text ≡ false → spells xs text ≡ false) → (t && begins xs text) ≡ false →
-        (t && spells xs text) ≡ false
-    by_test true rest h = rest h
-    by_test false rest h = refl
+spells_begins (x ∷ xs) (y ∷ text) h = and_lesser (eqb (to_ascii_uppercase x) y) _ _ (spells_begins xs text) h
 
 -- bytes that may become a word are few
 pub front_short : (held : List ℕ) → may_be_word held ≡ true → length held < 64
-front_short held h = by_test (begins held (codes "ROUTE")) (begins held (codes "COST")) refl refl h
+front_short held h =
+    ⊎_elim (at_most (codes "ROUTE") (omega arith)) (at_most (codes "COST") (omega arith)) (or_cases _ _ h)
   where
     at_most : (text : List ℕ) → length text ≤ 5 → begins held text ≡ true → length held < 64
     at_most text few is =
         omega (arith, few, spells_length held (take (length held) text) is, length-take (length held) text)
-
-    by_test : (s t : Bool) → begins held (codes "ROUTE") ≡ s → begins held (codes "COST") ≡ t → (s || t) ≡ true →
-        length held < 64
-    by_test true t p q h = at_most (codes "ROUTE") (omega arith) p
-    by_test false true p q h = at_most (codes "COST") (omega arith) q
-    by_test false false p q h = absurd cc
 
 same_other : (t s : Bool) (l : SolutionLine) → s ≡ false → l ≡ Other → cond t (cond s Unsure Other) l ≡ Other
 same_other true s l h is = rw h refl
