@@ -15,7 +15,8 @@ use Rattle.tk_words.specs.Entry.{number_tests}
 use Rattle.tk_problem_text.specs.Reader.Nodes.{Named, HasNamed, HasNext}
 use Rattle.tk_problem_text.specs.Reader.Demands.{Loading, HasDemands}
 use Rattle.tk_problem_text.specs.Sections.Rows.{number_in, nodes_in, demand_rows, demands_of, node_tests, demand_tests}
-use Rattle.tk_problem_text.proofs.SectionTokens.Rows.{by_node-push, node_tests-told, number_tests-told}
+use Rattle.tk_problem_text.proofs.SectionTokens.Rows.{by_node-push, rows_named, whole_rows, node_tests-told}
+use Rattle.tk_problem_text.proofs.SectionTokens.Rows.{number_tests-told}
 use Rattle.tk_problem_text.proofs.SectionTokens.FixedSections.{EndsRow, fixed_taken-last, fixed_taken-more}
 
 -- ---- the rows
@@ -75,15 +76,9 @@ pub record AtNode (n : ℕ) (loads : List ℕ) (nodes : Named) (toks : List Toke
   pub named : HasNamed n nodes (nodes_in (demand_rows toks))
 
 module _ (n : ℕ) (loads : List ℕ) (nodes : Named) (toks : List Token) where
-  AtNode-from : (rows part : List Token) → part ≡ [] → toks ≡ rows ++ part → AtNode n loads nodes rows →
-      AtNode n loads nodes toks
-  AtNode-from rows part none are at =
-      let same : rows ≡ toks = sym (are ∙ ap (λ p. rows ++ p) none ∙ append-nil rows) in
-      subst (AtNode n loads nodes) same at
-
   pub at_node : HasDemands n (record { loads = loads; nodes = nodes; node = None }) toks → AtNode n loads nodes toks
   at_node has =
-      AtNode-from has.rows has.part has.begun.0 has.are
+      whole_rows (AtNode n loads nodes) toks has.rows has.part has.begun.0 has.are
       (record { whole = has.whole; are = has.loads; named = has.begun.1 })
 
   pub node_taken : AtNode n loads nodes toks → (s : Named) (t : Token) (index : ℕ)
@@ -107,13 +102,7 @@ module _ (n : ℕ) (loads : List ℕ) (nodes : Named) (toks : List Token) where
     demand_tests-load t = rw (ne_eqb (length toks % 2) 0 (λ e. omega (arith, length-load, e))) refl
 
     named-count : nodes.left + suc (length (demand_rows has.rows)) ≡ n
-    named-count =
-        omega (
-          arith,
-          has.begun.2.named.left,
-          length_push (nodes_in (demand_rows has.rows)) (suc index),
-          length-map (demand_rows has.rows) (λ r. r.0),
-        )
+    named-count = rows_named n index nodes (demand_rows has.rows) has.begun.2.named
 
     load_last : nodes.left ≡ 0 → takens.Last ≡ fixed_taken (2 * n) toks
     load_last none = fixed_taken-last (2 * n) toks (omega (arith, none, length-load, named-count))

@@ -24,7 +24,7 @@ use Rattle.tk_problem_text.specs.Reader.Coordinates.{Placing, IsWantedWithin, Ha
 use Rattle.tk_problem_text.specs.Sections.Rows.{number_in, coordinate_in, is_near, nodes_in, place_rows, row_places}
 use Rattle.tk_problem_text.specs.Sections.Rows.{node_tests, coordinate_tests, place_tests}
 use Rattle.tk_lines.specs.Reader.Forms.{IsToldWord}
-use Rattle.tk_problem_text.proofs.SectionTokens.Rows.{by_node-push}
+use Rattle.tk_problem_text.proofs.SectionTokens.Rows.{by_node-push, rows_named, whole_rows}
 use Rattle.tk_lines.proofs.Pieces.ToldFaults.{told_first}
 use Rattle.tk_problem_text.proofs.SectionTokens.FixedSections.{EndsRow, fixed_taken-last, fixed_taken-more}
 
@@ -125,16 +125,10 @@ on_ok (Ok x) e h = h
 on_ok (Err x) e h = absurd (true≢false e)
 
 module _ (n : ℕ) (places : List Point) (nodes : Named) (toks : List Token) where
-  AtNode-from : (rows part : List Token) → part ≡ [] → toks ≡ rows ++ part → AtNode n places nodes rows →
-      AtNode n places nodes toks
-  AtNode-from rows part none are at =
-      let same : rows ≡ toks = sym (are ∙ ap (λ p. rows ++ p) none ∙ append-nil rows) in
-      subst (AtNode n places nodes) same at
-
   pub at_node : HasPlaces n (record { places = places; nodes = nodes; wanted = wants.Node }) toks →
       AtNode n places nodes toks
   at_node has =
-      AtNode-from has.rows has.part has.begun.0 has.are
+      whole_rows (AtNode n places nodes) toks has.rows has.part has.begun.0 has.are
       (record { whole = has.whole; are = has.places; named = has.begun.1 })
 
   pub node_taken : AtNode n places nodes toks → (s : Named) (t : Token) (index : ℕ)
@@ -183,13 +177,7 @@ module _ (n : ℕ) (places : List Point) (nodes : Named) (toks : List Token) whe
     place_tests-y t = place_tests-coordinate n (length (place_rows has.rows)) 1 toks t length-y (omega arith)
 
     named-count : nodes.left + suc (length (place_rows has.rows)) ≡ n
-    named-count =
-        omega (
-          arith,
-          has.begun.3.named.left,
-          length_push (nodes_in (place_rows has.rows)) (suc index),
-          length-map (place_rows has.rows) (λ r. r.0),
-        )
+    named-count = rows_named n index nodes (place_rows has.rows) has.begun.3.named
 
     y_last : nodes.left ≡ 0 → takens.Last ≡ fixed_taken (3 * n) toks
     y_last none = fixed_taken-last (3 * n) toks (omega (arith, none, length-y, named-count))

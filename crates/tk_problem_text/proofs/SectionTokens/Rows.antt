@@ -1,11 +1,11 @@
 -- Rows of a node and what belongs to it.
 use Rattle.std.proofs.Common.{◌≡◌, ◌≢◌, ℕ, zero, suc, ◌+◌, ◌-◌, ◌<◌, Bool, true, false, cond, eqb, ◌||◌, List, [], ◌∷◌}
 use Rattle.std.proofs.Common.{◌++◌, length, get_or, set, map, replicate, Some, None, pos, refl, sym, ap, ◌∙◌, nat_eq}
-use Rattle.std.proofs.Common.{arith, ⊎_elim, length-set, get_or-set_same, get_or-set_other}
+use Rattle.std.proofs.Common.{arith, subst, ⊎_elim, length-set, get_or-set_same, get_or-set_other}
 use Rattle.std.specs.List.{range_with_len}
 use Rattle.std.proofs.Math.Bool.{or-false}
 use Rattle.std.proofs.lemmas.Bool.{cases_eq, eq-eqb, ne_eqb, le-leb, or_parts}
-use Rattle.std.proofs.lemmas.List.{same_lists, length_push}
+use Rattle.std.proofs.lemmas.List.{append-nil, length-map, same_lists, length_push}
 use Rattle.std.proofs.lemmas.List.FromFn.{length-map-range_with_len, get_or-map-range_with_len}
 use Rattle.std.proofs.lemmas.List.Folds.{list_any-append}
 use Rattle.tk_words.specs.declared.fault.TextKind.{TextKind}
@@ -78,6 +78,18 @@ module _ (n : ℕ) (s : Named) (nodes : List ℕ) (has : HasNamed n s nodes) whe
         (sym (among_same (suc index) nodes)) (λ c ne. sym (among_other c (suc index) nodes ne));
     left = omega (arith, has.left, length_push nodes (suc index));
   }
+
+-- each row names a node, and so does the row that has begun
+pub rows_named : {A : Type 0} (n index : ℕ) (s : Named) (rows : List (ℕ × A)) →
+    HasNamed n s (nodes_in rows ++ suc index ∷ []) → s.left + suc (length rows) ≡ n
+rows_named n index s rows has =
+    omega (arith, has.left, length_push (nodes_in rows) (suc index), length-map rows (λ r. r.0))
+
+-- what holds of whole rows holds of the tokens, where no row has begun
+pub whole_rows : (P : List Token → Type 0) (toks rows part : List Token) → part ≡ [] → toks ≡ rows ++ part → P rows →
+    P toks
+whole_rows P toks rows part none are holds =
+    subst P (sym (are ∙ ap (λ p. rows ++ p) none ∙ append-nil rows)) holds
 
 row_of-other : {A : Type 0} (without : A) (rows : List (ℕ × A)) (c x : ℕ) (v : A) → c ≢ x →
     row_of without rows c ≡ row_of without (rows ++ (x, v) ∷ []) c
