@@ -12,9 +12,6 @@ use Rattle.tk_problem_text.proofs.HeaderRecords.{with_weight_type, with_weight_f
 use Rattle.tk_problem_text.proofs.HeaderRecords.{with_display_type}
 use Rattle.tk_problem_text.proofs.headers.Headers.take.Goals as goal
 
-pub returns-in-Name-clause-ok : goal.returns-in-Name-clause-ok
-returns-in-Name-clause-ok c = rw c.in-Name.is c.take_name.ensures.ok
-
 pub returns-in-Name-clause-err : goal.returns-in-Name-clause-err
 returns-in-Name-clause-err c = rw c.in-Name.is c.take_name.ensures.err
 

@@ -1,5 +1,5 @@
 use Rattle.std.proofs.lemmas.Int.{to_z-of_z}
-use Rattle.std.proofs.Common.{ap, subst, sym, ◌∙◌, ◌≡◌, ◌≢◌, ◌≤◌, ◌&&◌, ℕ, ltb, false, pos, w64, to_z, of_z}
+use Rattle.std.proofs.Common.{ap, subst, sym, ◌∙◌, ◌≡◌, ◌≢◌, ◌&&◌, ℕ, ltb, false, w64, to_z, of_z}
 use Rattle.std.proofs.Common.{Some, None, Ok, Err, Result, IfOk}
 use Rattle.std.proofs.lemmas.Bool.{ltb-true, and_parts}
 use Rattle.std.proofs.lemmas.Result.{IfOk-weaker, IfErr-weaker}
@@ -40,13 +40,6 @@ returns-then-repeats-clause-ok c = λ n f toks t has is.
     IfOk-weaker c.again.result (λ _. weight ≡ kept) (λ _. first_at t.line (weight_tests n f toks t) ≡ None)
     (λ _. weight_same n f toks t place here apart weight is_weight c.in-Some.ensures.some.2)
     (both_weights c.again.result weight kept c.again.ensures.same (c.again.ensures.ok n f toks has))
-
-pub returns-then-repeats-clause-is : goal.returns-then-repeats-clause-is
-returns-then-repeats-clause-is c =
-    let is_weight = sym (to_z-of_z w64 c.args.number c.ranges.number) ∙ c.in-Some.ensures.some.0 in
-    let small = c.in-Some.ensures.some.2 in
-    IfOk-weaker c.again.result (λ w. w ≡ c.in-Some.weight) (λ w. (c.args.number ≡ pos w) × (w ≤ DISTANCE_LIMIT))
-    (λ w same. rw same (is_weight, small)) c.again.ensures.same
 
 pub returns-then-repeats-clause-err : goal.returns-then-repeats-clause-err
 returns-then-repeats-clause-err c = λ n f toks t has is.

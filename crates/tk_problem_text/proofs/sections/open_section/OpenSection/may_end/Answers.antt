@@ -1,9 +1,9 @@
-use Rattle.std.proofs.Common.{subst, sym, ◌∙◌, ap, true, ◌++◌}
+use Rattle.std.proofs.Common.{subst, sym, ◌∙◌, true, ◌++◌}
 use Rattle.std.proofs.lemmas.Bool.{false≢true}
 use Rattle.tk_problem_text.specs.Reader.OpenSections.{IsOpen, IsPast}
 use Rattle.tk_lines.specs.Reader.Forms.{a_section}
 use Rattle.tk_lines.specs.Pieces.{Early}
-use Rattle.tk_problem_text.proofs.ProblemForms.{home_past, early_stop, is_home, not_home}
+use Rattle.tk_problem_text.proofs.ProblemForms.{home_past, early_stop, not_home}
 use Rattle.tk_problem_text.proofs.sections.open_section.OpenSection.may_end.Goals as goal
 
 pub returns-in-Home-clause-yes : goal.returns-in-Home-clause-yes
@@ -15,10 +15,6 @@ returns-in-Home-clause-yes c = λ some before word n toks line is.
           past.0,
       past.1,
     )
-
-pub returns-in-Home-clause-no : goal.returns-in-Home-clause-no
-returns-in-Home-clause-no c = λ none before word n toks line is.
-    early_stop before word n toks c.args.self.now line is (ap is_home c.in-Home.is ∙ sym c.is_some.ensures ∙ none)
 
 pub returns-in_default : goal.returns-in_default
 returns-in_default c = record {
