@@ -47,14 +47,7 @@ use Rattle.tk_writers.proofs.Written.WrittenWeights.{weights_accepted, lower_rea
 
 word_line : (f : Format) → OnOneLine (format_word f)
 word_line formats.FullMatrix = one_line (codes "FULL_MATRIX") refl
-word_line formats.UpperRow = one_line (codes "UPPER_ROW") refl
-word_line formats.LowerRow = one_line (codes "LOWER_ROW") refl
-word_line formats.UpperDiagRow = one_line (codes "UPPER_DIAG_ROW") refl
-word_line formats.LowerDiagRow = one_line (codes "LOWER_DIAG_ROW") refl
-word_line formats.UpperCol = one_line (codes "UPPER_COL") refl
-word_line formats.LowerCol = one_line (codes "LOWER_COL") refl
-word_line formats.UpperDiagCol = one_line (codes "UPPER_DIAG_COL") refl
-word_line formats.LowerDiagCol = one_line (codes "LOWER_DIAG_COL") refl
+word_line f = one_line (format_word f) refl
 
 -- the last lines
 abbrev ends : ℕ → List Line

@@ -18,15 +18,11 @@ has_entry formats.LowerDiagCol i j = nat_le j i
 
 -- whether its lines are the columns and not the rows
 abbrev pub has_column_lines : Format → Bool
-has_column_lines formats.FullMatrix = false
-has_column_lines formats.UpperRow = false
-has_column_lines formats.LowerRow = false
-has_column_lines formats.UpperDiagRow = false
-has_column_lines formats.LowerDiagRow = false
 has_column_lines formats.UpperCol = true
 has_column_lines formats.LowerCol = true
 has_column_lines formats.UpperDiagCol = true
 has_column_lines formats.LowerDiagCol = true
+has_column_lines _ = false
 
 -- the row and the column of place m of line k
 abbrev pub entry_place : Format → ℕ → ℕ → ℕ × ℕ

@@ -35,14 +35,7 @@ length_matrix_line n table f k =
 
 length_format_word : (f : Format) → length (format_word f) ≤ 14
 length_format_word formats.FullMatrix = omega arith
-length_format_word formats.UpperRow = omega arith
-length_format_word formats.LowerRow = omega arith
-length_format_word formats.UpperDiagRow = omega arith
-length_format_word formats.LowerDiagRow = omega arith
-length_format_word formats.UpperCol = omega arith
-length_format_word formats.LowerCol = omega arith
-length_format_word formats.UpperDiagCol = omega arith
-length_format_word formats.LowerDiagCol = omega arith
+length_format_word _ = omega arith
 
 pub length_matrix_head : (name : List ℕ) (n : ℕ) (f : Format) → length (matrix_head name n f) ≤ length name + 200
 length_matrix_head name n f =

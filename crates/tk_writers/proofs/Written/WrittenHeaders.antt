@@ -137,25 +137,11 @@ module _ (n : ℕ) (low : 2 ≤ n) (high : n ≤ TABLE_LIMIT) where
   pub format_passes : (name : List ℕ) (f : Layout.Format) →
       stop problem_format (after_4 name n) (headed words.EdgeWeightFormat (format_value f) 5) ≡ None
   format_passes name formats.FullMatrix = refl
-  format_passes name formats.UpperRow = refl
-  format_passes name formats.LowerRow = refl
-  format_passes name formats.UpperDiagRow = refl
-  format_passes name formats.LowerDiagRow = refl
-  format_passes name formats.UpperCol = refl
-  format_passes name formats.LowerCol = refl
-  format_passes name formats.UpperDiagCol = refl
-  format_passes name formats.LowerDiagCol = refl
+  format_passes name _ = refl
 
 pub format_read : (f : Layout.Format) → weight_format_of (format_value f) ≡ Some (weight_formats.Listed f)
 format_read formats.FullMatrix = refl
-format_read formats.UpperRow = refl
-format_read formats.LowerRow = refl
-format_read formats.UpperDiagRow = refl
-format_read formats.LowerDiagRow = refl
-format_read formats.UpperCol = refl
-format_read formats.LowerCol = refl
-format_read formats.UpperDiagCol = refl
-format_read formats.LowerDiagCol = refl
+format_read _ = refl
 
 pub name_read : (name : List ℕ) → IsName name → name_of (name_value name) ≡ name
 name_read name is = let trimmed = is.trimmed in let some = is.some in rw (trimmed, some) refl

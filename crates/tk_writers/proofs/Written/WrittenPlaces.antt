@@ -54,14 +54,7 @@ value-same : (f : Format) (table : ℕ → ℕ → ℕ) (k m : ℕ) →
     table (Written.entry_place f (suc k) (suc m)).0 (Written.entry_place f (suc k) (suc m)).1 ≡ at_place table
     (place_on f k m)
 value-same formats.FullMatrix table k m = refl
-value-same formats.UpperRow table k m = refl
-value-same formats.LowerRow table k m = refl
-value-same formats.UpperDiagRow table k m = refl
-value-same formats.LowerDiagRow table k m = refl
-value-same formats.UpperCol table k m = refl
-value-same formats.LowerCol table k m = refl
-value-same formats.UpperDiagCol table k m = refl
-value-same formats.LowerDiagCol table k m = refl
+value-same _ table k m = refl
 
 values-from : (f : Format) (table : ℕ → ℕ → ℕ) (k a c : ℕ)
     → map (λ p. table p.0 p.1) (map (Written.entry_place f (suc k)) (range_with_len (suc a) c)) ≡ map (at_place table)
@@ -153,14 +146,7 @@ triangle-order n table = triangle-from n table 0 n (omega arith) ∙ rows-order 
 
 end_item-le : (f : Format) (n k : ℕ) → k < n → end_item f n k ≤ n
 end_item-le formats.FullMatrix n k h = omega arith
-end_item-le formats.UpperRow n k h = omega arith
-end_item-le formats.LowerRow n k h = omega arith
-end_item-le formats.UpperDiagRow n k h = omega arith
-end_item-le formats.LowerDiagRow n k h = omega arith
-end_item-le formats.UpperCol n k h = omega arith
-end_item-le formats.LowerCol n k h = omega arith
-end_item-le formats.UpperDiagCol n k h = omega arith
-end_item-le formats.LowerDiagCol n k h = omega arith
+end_item-le _ n k h = omega arith
 
 row-narrow : (n : ℕ) (table : ℕ → ℕ → ℕ) (f : Format) (k : ℕ) → k < n → length (row_values n table f k) ≤ n
 row-narrow n table f k h =
@@ -191,15 +177,11 @@ count_rows n table f = length-map (range_with_len 0 n) (row_values n table f) �
 
 module _ (n : ℕ) (table : ℕ → ℕ → ℕ) (short : (a b : ℕ) → 1 ≤ a → a ≤ n → 1 ≤ b → b ≤ n → IsShort (table a b)) where
   value-short : (f : Format) (k m : ℕ) → k < n → m < n → IsShort (at_place table (place_on f k m))
-  value-short formats.FullMatrix k m h l = short (suc k) (suc m) (omega arith) h (omega arith) l
-  value-short formats.UpperRow k m h l = short (suc k) (suc m) (omega arith) h (omega arith) l
-  value-short formats.LowerRow k m h l = short (suc k) (suc m) (omega arith) h (omega arith) l
-  value-short formats.UpperDiagRow k m h l = short (suc k) (suc m) (omega arith) h (omega arith) l
-  value-short formats.LowerDiagRow k m h l = short (suc k) (suc m) (omega arith) h (omega arith) l
   value-short formats.UpperCol k m h l = short (suc m) (suc k) (omega arith) l (omega arith) h
   value-short formats.LowerCol k m h l = short (suc m) (suc k) (omega arith) l (omega arith) h
   value-short formats.UpperDiagCol k m h l = short (suc m) (suc k) (omega arith) l (omega arith) h
   value-short formats.LowerDiagCol k m h l = short (suc m) (suc k) (omega arith) l (omega arith) h
+  value-short _ k m h l = short (suc k) (suc m) (omega arith) h (omega arith) l
 
   row-short : (f : Format) (k a c : ℕ) → k < n → a + c ≤ n →
       AllShort (map (at_place table) (map (place_on f k) (range_with_len a c)))

@@ -74,14 +74,7 @@ any_counted p (x ∷ xs) h = by_test (p x) (any_counted p xs) (omega (arith, h, 
 
 some_times : (f : Format) → 0 < times_written f
 some_times formats.FullMatrix = omega arith
-some_times formats.UpperRow = omega arith
-some_times formats.LowerRow = omega arith
-some_times formats.UpperDiagRow = omega arith
-some_times formats.LowerDiagRow = omega arith
-some_times formats.UpperCol = omega arith
-some_times formats.LowerCol = omega arith
-some_times formats.UpperDiagCol = omega arith
-some_times formats.LowerDiagCol = omega arith
+some_times _ = omega arith
 
 -- ---- the weight of a pair
 
@@ -208,14 +201,7 @@ seen_rows n i (suc c) h =
 
 seen_order : (f : Format) (n : ℕ) → AllSeen f [] (order f n)
 seen_order formats.FullMatrix n = seen_rows n 0 n (omega arith)
-seen_order formats.UpperRow n = not_full formats.UpperRow refl [] (order formats.UpperRow n)
-seen_order formats.LowerRow n = not_full formats.LowerRow refl [] (order formats.LowerRow n)
-seen_order formats.UpperDiagRow n = not_full formats.UpperDiagRow refl [] (order formats.UpperDiagRow n)
-seen_order formats.LowerDiagRow n = not_full formats.LowerDiagRow refl [] (order formats.LowerDiagRow n)
-seen_order formats.UpperCol n = not_full formats.UpperCol refl [] (order formats.UpperCol n)
-seen_order formats.LowerCol n = not_full formats.LowerCol refl [] (order formats.LowerCol n)
-seen_order formats.UpperDiagCol n = not_full formats.UpperDiagCol refl [] (order formats.UpperDiagCol n)
-seen_order formats.LowerDiagCol n = not_full formats.LowerDiagCol refl [] (order formats.LowerDiagCol n)
+seen_order f n = not_full f refl [] (order f n)
 
 -- ---- the tests of the tokens
 
