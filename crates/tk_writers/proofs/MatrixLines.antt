@@ -7,7 +7,7 @@ use Rattle.std.proofs.lemmas.List.{map-append}
 use Rattle.std.proofs.lemmas.List.FromFn.{map-range_with_len_more}
 use Rattle.std.proofs.lemmas.Grind.{flat_map-append}
 use Rattle.std.specs.List.{range_with_len}
-use Rattle.tk_writers.specs.FormatLines.{has_entry, entry_place, on_line}
+use Rattle.tk_writers.specs.FormatLines.{has_place, entry_place, on_line}
 use Rattle.tk_problem.specs.WeightWords.{format_word}
 use Rattle.tk_writers.specs.MatrixText.{matrix_head, matrix_line}
 use Rattle.tk_problem.specs.declared.weights.Format.{Format}
@@ -49,45 +49,39 @@ filter_back p a (suc n) (suc skip) count fits fails passes =
     (λ m h. passes m (omega arith)))
 
 -- the places of each line stand in a row
-pub on_line-from_k : (n k : ℕ) (f : Format) →
-    ((m : ℕ) → has_entry f (entry_place f k m).0 (entry_place f k m).1 ≡ nat_le k m) →
+pub on_line-from_k : (n k : ℕ) (f : Format) → ((m : ℕ) → has_place f k m ≡ nat_le k m) →
     1 ≤ k → k ≤ n → on_line n f k ≡ range_with_len k (n + 1 - k)
 on_line-from_k n k f is low high =
     let e : 1 + (k - 1) ≡ k = omega arith in
-    let back = filter_back (λ m. has_entry f (entry_place f k m).0 (entry_place f k m).1) 1 n (k - 1) (n + 1 - k)
-    (omega arith)
+    let back = filter_back (has_place f k) 1 n (k - 1) (n + 1 - k) (omega arith)
     (λ m h l. is m ∙ lt-leb k m (omega arith)) (λ m h. is m ∙ le-leb k m (omega arith)) in
     back ∙ ap (λ a. range_with_len a (n + 1 - k)) e
 
-pub on_line-behind_k : (n k : ℕ) (f : Format) →
-    ((m : ℕ) → has_entry f (entry_place f k m).0 (entry_place f k m).1 ≡ nat_lt k m) →
+pub on_line-behind_k : (n k : ℕ) (f : Format) → ((m : ℕ) → has_place f k m ≡ nat_lt k m) →
     1 ≤ k → k ≤ n → on_line n f k ≡ range_with_len (k + 1) (n + 1 - (k + 1))
 on_line-behind_k n k f is low high =
     let e : 1 + k ≡ k + 1 = omega arith in
-    let back = filter_back (λ m. has_entry f (entry_place f k m).0 (entry_place f k m).1) 1 n k (n + 1 - (k + 1))
-    (omega arith)
+    let back = filter_back (has_place f k) 1 n k (n + 1 - (k + 1)) (omega arith)
     (λ m h l. is m ∙ le-ltb k m (omega arith)) (λ m h. is m ∙ lt-ltb k m (omega arith)) in
     back ∙ ap (λ a. range_with_len a (n + 1 - (k + 1))) e
 
-pub on_line-to_k : (n k : ℕ) (f : Format) →
-    ((m : ℕ) → has_entry f (entry_place f k m).0 (entry_place f k m).1 ≡ nat_le m k) →
+pub on_line-to_k : (n k : ℕ) (f : Format) → ((m : ℕ) → has_place f k m ≡ nat_le m k) →
     1 ≤ k → k ≤ n → on_line n f k ≡ range_with_len 1 (k + 1 - 1)
 on_line-to_k n k f is low high =
-    filter_front (λ m. has_entry f (entry_place f k m).0 (entry_place f k m).1) 1 n (k + 1 - 1) (omega arith)
+    filter_front (has_place f k) 1 n (k + 1 - 1) (omega arith)
     (λ m h l. is m ∙ le-leb m k (omega arith)) (λ m h. is m ∙ lt-leb m k (omega arith))
 
-pub on_line-before_k : (n k : ℕ) (f : Format) →
-    ((m : ℕ) → has_entry f (entry_place f k m).0 (entry_place f k m).1 ≡ nat_lt m k) →
+pub on_line-before_k : (n k : ℕ) (f : Format) → ((m : ℕ) → has_place f k m ≡ nat_lt m k) →
     1 ≤ k → k ≤ n → on_line n f k ≡ range_with_len 1 (k - 1)
 on_line-before_k n k f is low high =
-    filter_front (λ m. has_entry f (entry_place f k m).0 (entry_place f k m).1) 1 n (k - 1) (omega arith)
+    filter_front (has_place f k) 1 n (k - 1) (omega arith)
     (λ m h l. is m ∙ lt-ltb m k (omega arith)) (λ m h. is m ∙ le-ltb m k (omega arith))
 
-pub on_line-all : (n k : ℕ) (f : Format) → ((m : ℕ) → has_entry f (entry_place f k m).0 (entry_place f k m).1 ≡ true) →
+pub on_line-all : (n k : ℕ) (f : Format) → ((m : ℕ) → has_place f k m ≡ true) →
     on_line n f k ≡ range_with_len 1 (n + 1 - 1)
 on_line-all n k f is =
     let e : n + 1 - 1 ≡ n = omega arith in
-    rw e (filter_all (λ m. has_entry f (entry_place f k m).0 (entry_place f k m).1) 1 n (λ m h. is m))
+    rw e (filter_all (has_place f k) 1 n (λ m h. is m))
 
 -- the numbers at places of line k
 abbrev pub numbers_at : (ℕ → ℕ → ℕ) → Format → ℕ → List ℕ → List ℕ

@@ -29,8 +29,11 @@ abbrev pub entry_place : Format → ℕ → ℕ → ℕ × ℕ
 entry_place f k m = if has_column_lines f then (m, k) else (k, m)
 
 -- the places of line k that the format has
+abbrev pub has_place : Format → ℕ → ℕ → Bool
+has_place f k m = has_entry f (entry_place f k m).0 (entry_place f k m).1
+
 abbrev pub on_line : ℕ → Format → ℕ → List ℕ
-on_line n f k = filter (λ m. has_entry f (entry_place f k m).0 (entry_place f k m).1) (range_with_len 1 n)
+on_line n f k = filter (has_place f k) (range_with_len 1 n)
 
 -- the rows and columns of all entries, in their order
 abbrev pub line_places : ℕ → Format → ℕ → List (ℕ × ℕ)

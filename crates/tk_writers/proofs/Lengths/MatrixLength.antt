@@ -1,5 +1,5 @@
 -- How long a matrix text is at most.
-use Rattle.std.proofs.Common.{ℕ, ◌+◌, ◌*◌, ◌^◌, ◌≤◌, Bool, List, [], ◌∷◌, ◌++◌, length, subst, arith, length-append}
+use Rattle.std.proofs.Common.{ℕ, ◌+◌, ◌*◌, ◌^◌, ◌≤◌, List, [], ◌∷◌, ◌++◌, length, subst, arith, length-append}
 use Rattle.std.proofs.lemmas.List.{length-map}
 use Rattle.std.specs.Prelude.{map, flat_map, codes, decimal}
 use Rattle.std.specs.List.{range_with_len, join_by}
@@ -7,7 +7,7 @@ use Rattle.std.proofs.lemmas.List.FromFn.{length-range_with_len}
 use Rattle.std.proofs.lemmas.List.Sums.{length-filter, count_by-le-length}
 use Rattle.tk_problem.specs.declared.limits.TheConstants.{TABLE_LIMIT}
 use Rattle.tk_writers.proofs.Pieces.NumberLengths.{length_decimal, length_flat_map}
-use Rattle.tk_writers.specs.FormatLines.{on_line, entry_place, has_entry}
+use Rattle.tk_writers.specs.FormatLines.{on_line, entry_place, has_place}
 use Rattle.tk_problem.specs.WeightWords.{format_word}
 use Rattle.tk_writers.specs.MatrixText.{number_line, matrix_line, matrix_head, matrix_text}
 use Rattle.tk_problem.specs.declared.weights.Format.{Format}
@@ -24,12 +24,12 @@ length_number_line (x ∷ xs) =
 
 length_matrix_line : (n : ℕ) (table : ℕ → ℕ → ℕ) (f : Format) (k : ℕ) → length (matrix_line n table f k) ≤ n * 65
 length_matrix_line n table f k =
-    let test : ℕ → Bool = λ m. has_entry f (entry_place f k m).0 (entry_place f k m).1 in
-    let few = count_by-le-length test (range_with_len 1 n) in
+    let few = count_by-le-length (has_place f k) (range_with_len 1 n) in
     let numbers : ℕ × ℕ → ℕ = λ p. table p.0 p.1 in
     let places = map (entry_place f k) (on_line n f k) in
     let count : length (map numbers places) ≤ n =
-    simp length-map (omega (arith, few, length-filter test (range_with_len 1 n), length-range_with_len 1 n)) in
+    simp length-map
+    (omega (arith, few, length-filter (has_place f k) (range_with_len 1 n), length-range_with_len 1 n)) in
     let lines = length_number_line (map numbers places) in
     omega arith
 

@@ -9,40 +9,20 @@ returns-in-FullMatrix-clause-places c =
 
 pub returns-in-UpperRow-clause-places : goal.returns-in-UpperRow-clause-places
 returns-in-UpperRow-clause-places c =
-    let city = c.requires.city in
-    elim c.in-UpperRow.is [
-      | inl e ↦ rw e
-          (on_line-behind_k c.args.n c.args.k formats.UpperRow (λ m. refl) city.0 city.1)
-      | inr e ↦ rw e
-          (on_line-behind_k c.args.n c.args.k formats.LowerCol (λ m. refl) city.0 city.1)
-    ]
+    on_line-behind_k c.args.n c.args.k c.args.f (λ m. elim c.in-UpperRow.is [ inl e ↦ rw e refl | inr e ↦ rw e refl ])
+    c.requires.city.0 c.requires.city.1
 
 pub returns-in-LowerRow-clause-places : goal.returns-in-LowerRow-clause-places
 returns-in-LowerRow-clause-places c =
-    let city = c.requires.city in
-    elim c.in-LowerRow.is [
-      | inl e ↦ rw e
-          (on_line-before_k c.args.n c.args.k formats.LowerRow (λ m. refl) city.0 city.1)
-      | inr e ↦ rw e
-          (on_line-before_k c.args.n c.args.k formats.UpperCol (λ m. refl) city.0 city.1)
-    ]
+    on_line-before_k c.args.n c.args.k c.args.f (λ m. elim c.in-LowerRow.is [ inl e ↦ rw e refl | inr e ↦ rw e refl ])
+    c.requires.city.0 c.requires.city.1
 
 pub returns-in-UpperDiagRow-clause-places : goal.returns-in-UpperDiagRow-clause-places
 returns-in-UpperDiagRow-clause-places c =
-    let city = c.requires.city in
-    elim c.in-UpperDiagRow.is [
-      | inl e ↦ rw e
-          (on_line-from_k c.args.n c.args.k formats.UpperDiagRow (λ m. refl) city.0 city.1)
-      | inr e ↦ rw e
-          (on_line-from_k c.args.n c.args.k formats.LowerDiagCol (λ m. refl) city.0 city.1)
-    ]
+    on_line-from_k c.args.n c.args.k c.args.f (λ m. elim c.in-UpperDiagRow.is [ inl e ↦ rw e refl | inr e ↦ rw e refl ])
+    c.requires.city.0 c.requires.city.1
 
 pub returns-in-LowerDiagRow-clause-places : goal.returns-in-LowerDiagRow-clause-places
 returns-in-LowerDiagRow-clause-places c =
-    let city = c.requires.city in
-    elim c.in-LowerDiagRow.is [
-      | inl e ↦ rw e
-          (on_line-to_k c.args.n c.args.k formats.LowerDiagRow (λ m. refl) city.0 city.1)
-      | inr e ↦ rw e
-          (on_line-to_k c.args.n c.args.k formats.UpperDiagCol (λ m. refl) city.0 city.1)
-    ]
+    on_line-to_k c.args.n c.args.k c.args.f (λ m. elim c.in-LowerDiagRow.is [ inl e ↦ rw e refl | inr e ↦ rw e refl ])
+    c.requires.city.0 c.requires.city.1
