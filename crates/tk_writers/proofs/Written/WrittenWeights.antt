@@ -1,11 +1,13 @@
 -- A section of the weights of a table: no token of it has a fault, and its weights are the table's.
-use Rattle.std.proofs.Common.{◌≡◌, ◌≢◌, ℕ, zero, suc, ◌+◌, ◌<◌, ◌≤◌, Bool, true, false, cond, eqb, ltb, ◌&&◌, ◌||◌}
+use Rattle.std.proofs.Common.{◌≡◌, ◌≢◌, ℕ, zero, suc, ◌+◌, ◌-◌, ◌<◌, ◌≤◌, Bool, true, false, cond, eqb, ltb, ◌&&◌, ◌||◌}
 use Rattle.std.proofs.Common.{List, [], ◌∷◌, ◌++◌, length, get_or, map, fold, None, pos, refl, sym, ap, ◌∙◌, arith}
 use Rattle.std.proofs.Common.{append_assoc, inl, inr}
 use Rattle.std.specs.List.{range_with_len, flat_map, list_any, count_by, zip, All}
 use Rattle.std.proofs.lemmas.Bool.{eqb-true, eqb-false, ltb-true, cases_eq}
 use Rattle.std.proofs.lemmas.List.{append-nil, length-map, map_push}
 use Rattle.std.proofs.lemmas.List.Elements.{All-head, All-tail}
+use Rattle.std.proofs.lemmas.List.Folds.{list_any-append, list_any_at}
+use Rattle.std.proofs.lemmas.List.FromFn.{length-map-range_with_len, get_or-map-range_with_len}
 use Rattle.std.proofs.lemmas.List.Sums.{sum_by-cons}
 use Rattle.tk_problem.specs.declared.limits.TheConstants.{DISTANCE_LIMIT}
 use Rattle.tk_problem.specs.declared.place.Place.{Place}
@@ -32,26 +34,16 @@ use Rattle.tk_writers.proofs.Written.WrittenPlaces.{at_place, triangle-order}
 -- ---- a pair among places
 
 any_front : (p : Place → Bool) (xs ys : List Place) → list_any p xs ≡ true → list_any p (xs ++ ys) ≡ true
-any_front p [] ys h = absurd cc
-any_front p (x ∷ xs) ys h = by_test (p x) (any_front p xs ys) h
-  where
-    by_test : (t : Bool) → (list_any p xs ≡ true → list_any p (xs ++ ys) ≡ true) → (t || list_any p xs) ≡ true →
-        (t || list_any p (xs ++ ys)) ≡ true
-    by_test true ih k = refl
-    by_test false ih k = ih k
+any_front p xs ys h = rw (list_any-append p xs ys, h) refl
 
 any_behind : (p : Place → Bool) (xs ys : List Place) → list_any p ys ≡ true → list_any p (xs ++ ys) ≡ true
-any_behind p [] ys h = h
-any_behind p (x ∷ xs) ys h = rw (any_behind p xs ys h) (or_true (p x))
+any_behind p xs ys h = rw (list_any-append p xs ys, h) (or_true (list_any p xs))
 
 any_on_line : (p : Place → Bool) (h : ℕ → Place) (s c m : ℕ) → s ≤ m → m < s + c → p (h m) ≡ true →
     list_any p (map h (range_with_len s c)) ≡ true
-any_on_line p h s zero m low high hit = absurd (omega arith)
-any_on_line p h s (suc c) m low high hit =
-    elim (cases_eq s m) as (λ _. list_any p (map h (range_with_len s (suc c))) ≡ true) [
-      | inl same ↦ let here : p (h s) ≡ true = ap (λ k. p (h k)) same ∙ hit in rw here refl
-      | inr apart ↦ rw (any_on_line p h (s + 1) c m (omega arith) (omega arith) hit) (or_true (p (h s)))
-    ]
+any_on_line p h s c m low high hit =
+    list_any_at p (map h (range_with_len s c)) (m - s) origin (omega (arith, length-map-range_with_len h s c))
+    (ap p (get_or-map-range_with_len h s c (m - s) m origin (omega arith) (omega arith)) ∙ hit)
 
 any_of_lines : (p : Place → Bool) (g : ℕ → List Place) (s c k : ℕ) → s ≤ k → k < s + c → list_any p (g k) ≡ true →
     list_any p (flat_map g (range_with_len s c)) ≡ true
