@@ -2,6 +2,8 @@
 use Rattle.std.proofs.Common.{◌≡◌, ℕ, zero, suc, ◌+◌, ◌-◌, ◌<◌, ◌≤◌, List, [], ◌∷◌, ◌++◌, length, map, refl, sym, ap}
 use Rattle.std.proofs.Common.{◌∙◌, arith}
 use Rattle.std.proofs.lemmas.List.{length-map, map-append}
+use Rattle.std.proofs.lemmas.Simd.{map-map}
+use Rattle.std.proofs.lemmas.List.Folds.{flat_map-map}
 use Rattle.std.proofs.lemmas.List.FromFn.{length-range_with_len}
 use Rattle.std.specs.Prelude.{flat_map}
 use Rattle.std.specs.List.{AllByRecursion, range_with_len}
@@ -12,7 +14,7 @@ use Rattle.tk_writers.specs.FormatLines.{line_places, on_line}
 use Rattle.tk_writers.specs.FormatLines as Written
 use Rattle.tk_writers.specs.MatrixText.{matrix_line, number_line}
 use Rattle.tk_writers.specs.ReadBack.{lower_triangle}
-use Rattle.tk_problem.specs.WeightOrder.{order}
+use Rattle.tk_problem.specs.WeightOrder.{order, place}
 use Rattle.tk_problem.specs.WeightLines.{first_item, end_item, place_on, items}
 use Rattle.tk_writers.proofs.MatrixLines.{on_line-all, on_line-from_k, on_line-behind_k, on_line-to_k, on_line-before_k}
 use Rattle.tk_problem.proofs.WeightLines.{order-lines}
@@ -56,18 +58,20 @@ value-same : (f : Format) (table : ℕ → ℕ → ℕ) (k m : ℕ) →
 value-same formats.FullMatrix table k m = refl
 value-same _ table k m = refl
 
-values-from : (f : Format) (table : ℕ → ℕ → ℕ) (k a c : ℕ)
-    → map (λ p. table p.0 p.1) (map (Written.entry_place f (suc k)) (range_with_len (suc a) c)) ≡ map (at_place table)
-    (map (place_on f k) (range_with_len a c))
-values-from f table k a zero = refl
-values-from f table k a (suc c) =
-    let next : suc a + 1 ≡ suc (a + 1) = omega arith in
-    ap (λ v. v ∷ map (λ p. table p.0 p.1) (map (Written.entry_place f (suc k)) (range_with_len (suc a + 1) c)))
-    (value-same f table k a)
-    ∙ ap
-    (λ b. at_place table (place_on f k a)
-    ∷ map (λ p. table p.0 p.1) (map (Written.entry_place f (suc k)) (range_with_len b c))) next
-    ∙ ap (λ vs. at_place table (place_on f k a) ∷ vs) (values-from f table k (a + 1) c)
+-- items of two ranges that agree one by one, and lines of such
+same_items : {X : Type 0} (g h : ℕ → X) (s c : ℕ) → ((k : ℕ) → g (suc k) ≡ h k) →
+    map g (range_with_len (suc s) c) ≡ map h (range_with_len s c)
+same_items g h s zero same = refl
+same_items g h s (suc c) same =
+    let next : suc s + 1 ≡ suc (s + 1) = omega arith in
+    rw (same s, next) (ap (λ xs. h s ∷ xs) (same_items g h (s + 1) c same))
+
+same_lines : (g h : ℕ → List ℕ) (n s c : ℕ) → s + c ≤ n → ((k : ℕ) → k < n → g (suc k) ≡ h k) →
+    flat_map g (range_with_len (suc s) c) ≡ flat_map h (range_with_len s c)
+same_lines g h n s zero within same = refl
+same_lines g h n s (suc c) within same =
+    let next : suc s + 1 ≡ suc (s + 1) = omega arith in
+    rw (same s (omega arith), next) (ap (λ ls. h s ++ ls) (same_lines g h n (s + 1) c (omega arith) same))
 
 -- the numbers of a line, and of all lines
 abbrev row_values : ℕ → (ℕ → ℕ → ℕ) → Format → ℕ → List ℕ
@@ -79,24 +83,19 @@ rows_of n table f = map (row_values n table f) (range_with_len 0 n)
 line_values : (f : Format) (n : ℕ) (table : ℕ → ℕ → ℕ) (k : ℕ) → k < n →
     map (λ p. table p.0 p.1) (line_places n f (suc k)) ≡ row_values n table f k
 line_values f n table k h =
-    ap (λ ms. map (λ p. table p.0 p.1) (map (Written.entry_place f (suc k)) ms)) (on_line-items f n k h)
-    ∙ values-from f table k (first_item f k) (end_item f n k - first_item f k)
-
--- the lines are those of the rows, from the first of both on
-lines-from : (n : ℕ) (table : ℕ → ℕ → ℕ) (f : Format) (s c : ℕ) → s + c ≤ n
-    → flat_map (matrix_line n table f) (range_with_len (suc s) c) ≡ flat_map number_line
-    (map (row_values n table f) (range_with_len s c))
-lines-from n table f s zero h = refl
-lines-from n table f s (suc c) h =
-    let next : suc s + 1 ≡ suc (s + 1) = omega arith in
-    ap (λ vs. number_line vs ++ flat_map (matrix_line n table f) (range_with_len (suc s + 1) c))
-    (line_values f n table s (omega arith))
-    ∙ ap (λ b. number_line (row_values n table f s) ++ flat_map (matrix_line n table f) (range_with_len b c)) next
-    ∙ ap (λ ls. number_line (row_values n table f s) ++ ls) (lines-from n table f (s + 1) c (omega arith))
+    map-map (λ p. table p.0 p.1) (Written.entry_place f (suc k)) (on_line n f (suc k))
+    ∙ ap (map (λ m. table (Written.entry_place f (suc k) m).0 (Written.entry_place f (suc k) m).1))
+    (on_line-items f n k h)
+    ∙ same_items _ (λ m. at_place table (place_on f k m)) (first_item f k) (end_item f n k - first_item f k)
+    (value-same f table k)
+    ∙ sym (map-map (at_place table) (place_on f k) (range_with_len (first_item f k) (end_item f n k - first_item f k)))
 
 pub matrix_lines : (n : ℕ) (table : ℕ → ℕ → ℕ) (f : Format) →
     flat_map (matrix_line n table f) (range_with_len 1 n) ≡ flat_map number_line (rows_of n table f)
-matrix_lines n table f = lines-from n table f 0 n (omega arith)
+matrix_lines n table f =
+    same_lines (matrix_line n table f) (λ k. number_line (row_values n table f k)) n 0 n (omega arith)
+    (λ k h. ap number_line (line_values f n table k h))
+    ∙ sym (flat_map-map number_line (row_values n table f) (range_with_len 0 n))
 
 in_rows-map : (n : ℕ) (table : ℕ → ℕ → ℕ) (f : Format) (ks : List ℕ)
     → in_rows (map (row_values n table f) ks) ≡ map (at_place table)
@@ -114,33 +113,15 @@ pub rows-order : (n : ℕ) (table : ℕ → ℕ → ℕ) (f : Format) →
 rows-order n table f = in_rows-map n table f (range_with_len 0 n) ∙ ap (map (at_place table)) (sym (order-lines f n))
 
 -- the triangle below the diagonal is what LOWER_ROW lists
-triangle-from : (n : ℕ) (table : ℕ → ℕ → ℕ) (s c : ℕ) → s + c ≤ n
-    → flat_map (λ a. map (table a) (range_with_len 1 (a - 1))) (range_with_len (suc s) c) ≡ in_rows
-    (map (row_values n table formats.LowerRow) (range_with_len s c))
-triangle-from n table s zero h = refl
-triangle-from n table s (suc c) h =
-    let next : suc s + 1 ≡ suc (s + 1) = omega arith in
-    let count : suc s - 1 ≡ s - 0 = omega arith in
-    ap (λ l. map (table (suc s)) (range_with_len 1 l) ++ flat_map (λ a. map (table a) (range_with_len 1 (a - 1)))
-    (range_with_len (suc s + 1) c)) count
-    ∙ ap (λ vs. vs ++ flat_map (λ a. map (table a) (range_with_len 1 (a - 1))) (range_with_len (suc s + 1) c))
-    (row_below s 0 (s - 0))
-    ∙ ap (λ b. row_values n table formats.LowerRow s ++ flat_map (λ a. map (table a) (range_with_len 1 (a - 1)))
-    (range_with_len b c)) next
-    ∙ ap (λ ls. row_values n table formats.LowerRow s ++ ls) (triangle-from n table (s + 1) c (omega arith))
-  where
-    row_below : (k a l : ℕ) →
-        map (table (suc k)) (range_with_len (suc a) l) ≡ map (at_place table)
-        (map (place_on formats.LowerRow k) (range_with_len a l))
-    row_below k a zero = refl
-    row_below k a (suc l) =
-        let after : suc a + 1 ≡ suc (a + 1) = omega arith in
-        ap (λ b. table (suc k) (suc a) ∷ map (table (suc k)) (range_with_len b l)) after
-        ∙ ap (λ vs. table (suc k) (suc a) ∷ vs) (row_below k (a + 1) l)
-
 pub triangle-order : (n : ℕ) (table : ℕ → ℕ → ℕ) →
     lower_triangle n table ≡ map (at_place table) (order formats.LowerRow n)
-triangle-order n table = triangle-from n table 0 n (omega arith) ∙ rows-order n table formats.LowerRow
+triangle-order n table =
+    same_lines (λ a. map (table a) (range_with_len 1 (a - 1))) (row_values n table formats.LowerRow) n 0 n (omega arith)
+    (λ k h. ap (λ c. map (table (suc k)) (range_with_len 1 c)) (omega arith)
+    ∙ same_items (table (suc k)) (λ m. at_place table (place k m)) 0 (k - 0) (λ m. refl)
+    ∙ sym (map-map (at_place table) (place k) (range_with_len 0 (k - 0))))
+    ∙ sym (flat_map-map (λ xs. xs) (row_values n table formats.LowerRow) (range_with_len 0 n))
+    ∙ rows-order n table formats.LowerRow
 
 -- ---- how many numbers
 
@@ -160,15 +141,17 @@ row-narrow n table f k h =
       length-range_with_len from count,
     )
 
-rows-narrow-from : (n : ℕ) (table : ℕ → ℕ → ℕ) (f : Format) (most s c : ℕ) → n ≤ most → s + c ≤ n →
-    AllByRecursion (λ row. length row ≤ most) (map (row_values n table f) (range_with_len s c))
-rows-narrow-from n table f most s zero few h = tt
-rows-narrow-from n table f most s (suc c) few h =
-    (omega (arith, row-narrow n table f s (omega arith)), rows-narrow-from n table f most (s + 1) c few (omega arith))
+-- what holds of each row
+all_rows : (P : List ℕ → Type 0) (n : ℕ) (table : ℕ → ℕ → ℕ) (f : Format) (s c : ℕ) → s + c ≤ n →
+    ((k : ℕ) → k < n → P (row_values n table f k)) → AllByRecursion P (map (row_values n table f) (range_with_len s c))
+all_rows P n table f s zero within each = tt
+all_rows P n table f s (suc c) within each =
+    (each s (omega arith), all_rows P n table f (s + 1) c (omega arith) each)
 
 pub rows-narrow : (n : ℕ) (table : ℕ → ℕ → ℕ) (f : Format) (most : ℕ) → n ≤ most →
     AllByRecursion (λ row. length row ≤ most) (rows_of n table f)
-rows-narrow n table f most few = rows-narrow-from n table f most 0 n few (omega arith)
+rows-narrow n table f most few =
+    all_rows _ n table f 0 n (omega arith) (λ k h. omega (arith, row-narrow n table f k h))
 
 pub count_rows : (n : ℕ) (table : ℕ → ℕ → ℕ) (f : Format) → length (rows_of n table f) ≡ n
 count_rows n table f = length-map (range_with_len 0 n) (row_values n table f) ∙ length-range_with_len 0 n
@@ -197,9 +180,5 @@ module _ (n : ℕ) (table : ℕ → ℕ → ℕ) (short : (a b : ℕ) → 1 ≤ 
       by_count zero e = tt
       by_count (suc c) e = row-short f k (first_item f k) (suc c) h (omega (arith, e, end_item-le f n k h))
 
-  rows-short-from : (f : Format) (s c : ℕ) → s + c ≤ n → ShortRows (map (row_values n table f) (range_with_len s c))
-  rows-short-from f s zero h = tt
-  rows-short-from f s (suc c) h = (items-short f s (omega arith), rows-short-from f (s + 1) c (omega arith))
-
   pub rows-short : (f : Format) → ShortRows (rows_of n table f)
-  rows-short f = rows-short-from f 0 n (omega arith)
+  rows-short f = all_rows AllShort n table f 0 n (omega arith) (items-short f)
