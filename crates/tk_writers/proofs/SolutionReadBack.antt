@@ -5,7 +5,7 @@ use Rattle.std.specs.Prelude.{codes, decimal}
 use Rattle.std.specs.Char.{is_ascii_digit}
 use Rattle.std.specs.List.{AllByRecursion, concat}
 use Rattle.std.proofs.lemmas.Bool.{lt-leb, le-leb, le-ltb, ne_eqb}
-use Rattle.std.proofs.lemmas.List.{append-nil, length-append}
+use Rattle.std.proofs.lemmas.List.{append-nil, length-append, length-map}
 use Rattle.tk_problem.specs.declared.limits.TheConstants.{ENTRY_LIMIT, ROUTE_LIMIT}
 use Rattle.tk_words.specs.Lex.{Line, Token, lines, tokens_of, after_word, is_empty, front, behind}
 use Rattle.tk_words.specs.Entry.{numbers_of}
@@ -19,11 +19,12 @@ use Rattle.tk_lines.proofs.Headers.ByteRuns.{front-all, behind-all}
 use Rattle.tk_lines.proofs.Sections.MiddleOfSection.{tokens_of-gap, tokens_of-none, tokens_of-last}
 use Rattle.tk_lists.proofs.SolutionLines.{routes_of-append, count_of-append, has_cost-append, cost_of-append}
 use Rattle.tk_writers.proofs.Lengths.ListLength.{length_solution_text}
-use Rattle.tk_writers.proofs.Saying.{read_within}
-use Rattle.tk_writers.proofs.Written.WrittenLines.{whole_line, lines-written}
-use Rattle.tk_writers.proofs.Written.WrittenNumbers.{IsDigit, is_digit, digit_solid, spelled, IsShort, short_decimal}
-use Rattle.tk_writers.proofs.Written.WrittenNumbers.{integer_decimal, decimal_run, decimal_line, one_line_append}
-use Rattle.tk_writers.proofs.Written.WrittenNumbers.{AllShort, numbers_line, numbers_tokens, number_token}
+use Rattle.tk_writers.proofs.Saying.{one_line, read_within}
+use Rattle.tk_writers.proofs.Written.WrittenLines.{whole_line, lines-written, row_written, numbers_are}
+use Rattle.tk_writers.proofs.Written.WrittenNumbers.{IsDigit, is_digit, digit_apart, digit_solid, spelled, IsShort}
+use Rattle.tk_writers.proofs.Written.WrittenNumbers.{short_decimal, integer_decimal, decimal_run, decimal_line}
+use Rattle.tk_writers.proofs.Written.WrittenNumbers.{one_line_append, AllShort, numbers_line, numbers_tokens}
+use Rattle.tk_writers.proofs.Written.WrittenNumbers.{number_token}
 use Rattle.tk_lines.proofs.Lines.{OnOneLine}
 
 -- ---- the lines
@@ -44,20 +45,16 @@ number_ends : (ds tail : List ℕ) → AllByRecursion IsDigit ds → is_empty ds
     number_head (ds ++ 58 ∷ tail) ≡ Behind tail
 number_ends [] tail all some few = absurd cc
 number_ends (d ∷ ds) tail all some few =
-    let b : eqb d 32 ≡ false = ne_eqb d 32 (λ e. omega (arith, e, all.0.0)) in
-    let t : eqb d 9 ≡ false = ne_eqb d 9 (λ e. omega (arith, e, all.0.0)) in
-    let c : eqb d 13 ≡ false = ne_eqb d 13 (λ e. omega (arith, e, all.0.0)) in
-    let p : eqb d 43 ≡ false = ne_eqb d 43 (λ e. omega (arith, e, all.0.0)) in
-    let m : eqb d 45 ≡ false = ne_eqb d 45 (λ e. omega (arith, e, all.0.0)) in
+    let apart : (k : ℕ) → k < 48 → eqb d k ≡ false = λ k low. digit_apart d k all.0 low in
     let run = all_digits (d ∷ ds) all in
     let f : front is_ascii_digit ((d ∷ ds) ++ 58 ∷ tail) ≡ d ∷ ds = front-all is_ascii_digit (d ∷ ds) (58 ∷ tail) run
     ∙ append-nil (d ∷ ds) in
     let r : behind is_ascii_digit ((d ∷ ds) ++ 58 ∷ tail) ≡ 58 ∷ tail =
     behind-all is_ascii_digit (d ∷ ds) (58 ∷ tail) run in
-    let short : ltb 18 (0 + length (d ∷ ds)) ≡ false =
-    (let few' : 0 + length (d ∷ ds) ≤ 18 = omega (arith, few) in le-ltb _ _ few') in
+    let short : ltb 18 (0 + length (d ∷ ds)) ≡ false = le-ltb _ _ (omega (arith, few)) in
     let count : eqb (0 + length (d ∷ ds)) 0 ≡ false = ne_eqb (0 + length (d ∷ ds)) 0 (λ e. omega (arith, e)) in
-    rw (b, t, c, p, m, f, r, short, count) refl
+    rw (apart 32 (omega arith), apart 9 (omega arith), apart 13 (omega arith)) (
+    rw (apart 43 (omega arith), apart 45 (omega arith), f, r, short, count) refl)
 
 abbrev route_bytes : ℕ → List ℕ → List ℕ
 route_bytes k r = codes "Route #" ++ decimal k ++ codes ": " ++ spaced_numbers r
@@ -93,32 +90,15 @@ last_line : (n c : ℕ) → IsShort c →
 unfolding lines
 last_line n c low =
     ap (lines true n) (sym (append-nil (line (codes "Cost " ++ decimal c))))
-    ∙ lines-written n (codes "Cost " ++ decimal c) [] (refl, (refl, (refl, (refl, (refl, decimal_line c low)))))
+    ∙ lines-written n (codes "Cost " ++ decimal c) []
+    (one_line_append (codes "Cost ") (decimal c) (one_line (codes "Cost ") refl) (decimal_line c low))
 
 route_one_line : (k : ℕ) (r : List ℕ) → IsShort k → Small r → OnOneLine (route_bytes k r)
-route_one_line k r low small = (
-  refl,
-  (
-    refl,
-    (
-      refl,
-      (
-        refl,
-        (
-          refl,
-          (
-            refl,
-            (
-              refl,
-              one_line_append (decimal k ++ codes ": ") (spaced_numbers r)
-                  (one_line_append (decimal k) (codes ": ") (decimal_line k low) (refl, (refl, tt))) (numbers r small),
-            ),
-          ),
-        ),
-      ),
-    ),
-  ),
-)
+route_one_line k r low small =
+    one_line_append (codes "Route #" ++ decimal k ++ codes ": ") (spaced_numbers r)
+    (one_line_append (codes "Route #" ++ decimal k) (codes ": ")
+    (one_line_append (codes "Route #") (decimal k) (one_line (codes "Route #") refl) (decimal_line k low))
+    (one_line (codes ": ") refl)) (numbers r small)
   where
     numbers : (r : List ℕ) → Small r → OnOneLine (spaced_numbers r)
     numbers [] small = tt
@@ -127,12 +107,7 @@ route_one_line k r low small = (
 -- ---- nothing stops
 
 numbers_read : (n : ℕ) (r : List ℕ) → Small r → numbers_of (tokens_on n r) ≡ r
-numbers_read n [] small = refl
-numbers_read n (x ∷ xs) small = rw (integer_decimal x (omega (arith, small.0)), numbers_read n xs small.1) refl
-
-length_on : (n : ℕ) (r : List ℕ) → length (tokens_on n r) ≡ length r
-length_on n [] = refl
-length_on n (x ∷ xs) = ap suc (length_on n xs)
+numbers_read n r small = numbers_are (tokens_on n r) r (row_written n r (short_all r small))
 
 customers_fine : (k n : ℕ) (r : List ℕ) → Small r → k + length r ≤ ENTRY_LIMIT → customers_stop k (tokens_on n r) ≡ None
 customers_fine k n [] small few = refl
@@ -194,7 +169,7 @@ module _ (c : ℕ) (cheap : IsShort c) where
       let more : routes_in next ≡ routes_in before ++ r ∷ [] = routes_of-append before (here ∷ [])
       ∙ rw (numbers_read n r small.0) refl in
       let counted : count_of next ≡ count_of before + length r =
-      omega (arith, count_of-append before (here ∷ []), length_on n r) in
+      omega (arith, count_of-append before (here ∷ []), length-map r (number_token n)) in
       let still : has_cost next ≡ false = has_cost-append before (here ∷ []) ∙ rw unpriced refl in
       let rest =
       reads next n (suc n) (k + 1) true rs still

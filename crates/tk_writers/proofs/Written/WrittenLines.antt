@@ -2,12 +2,12 @@
 use Rattle.std.proofs.Common.{◌≡◌, ℕ, suc, ◌≤◌, true, List, [], ◌∷◌, ◌++◌, length, map, Some, pos, refl, sym, ap, ◌∙◌}
 use Rattle.std.proofs.Common.{append_assoc, arith}
 use Rattle.std.specs.Prelude.{flat_map}
-use Rattle.std.specs.List.{AllByRecursion}
+use Rattle.std.specs.List.{AllByRecursion, AllZip}
 use Rattle.tk_words.specs.Lex.{LF, Line, Token, onto_line, lines, tokens, integer}
 use Rattle.tk_lines.specs.Pieces.{Piece, Extents, cut, last_line}
 use Rattle.tk_writers.specs.MatrixText.{number_line}
 use Rattle.tk_problem_text.specs.Sections.Rows.{number_in}
-use Rattle.tk_words.specs.Entry.{natural_or_zero}
+use Rattle.tk_words.specs.Entry.{natural_or_zero, numbers_of}
 use Rattle.tk_writers.specs.Written.{line, spaced_numbers}
 use Rattle.tk_lines.proofs.MiddleOfLine.{lines-byte, lines-LF}
 use Rattle.tk_lines.proofs.Sections.MiddleOfSection.{cut-covered}
@@ -107,19 +107,15 @@ pub record IsWritten (t : Token) (x : ℕ) : Type 0 where
   pub is : integer t.bytes ≡ Some (pos x)
 
 abbrev pub AreWritten : List Token → List ℕ → Type 0
-AreWritten [] [] = Unit {0}
-AreWritten [] (x ∷ xs) = ⊥
-AreWritten (t ∷ ts) [] = ⊥
-AreWritten (t ∷ ts) (x ∷ xs) = IsWritten t x × AreWritten ts xs
+AreWritten ts xs = AllZip IsWritten ts xs
 
 are_append : (ts : List Token) (xs : List ℕ) (us : List Token) (ys : List ℕ) → AreWritten ts xs → AreWritten us ys →
     AreWritten (ts ++ us) (xs ++ ys)
 are_append [] [] us ys h k = k
-are_append [] (x ∷ xs) us ys h k = absurd h
-are_append (t ∷ ts) [] us ys h k = absurd h
 are_append (t ∷ ts) (x ∷ xs) us ys h k = (h.0, are_append ts xs us ys h.1 k)
+are_append _ _ us ys h k = absurd h
 
-row_written : (n : ℕ) (xs : List ℕ) → AllShort xs → AreWritten (map (number_token n) xs) xs
+pub row_written : (n : ℕ) (xs : List ℕ) → AllShort xs → AreWritten (map (number_token n) xs) xs
 row_written n [] small = tt
 row_written n (x ∷ xs) small = (
   record { whole = refl; short = omega (arith, short_decimal x small.0); is = integer_decimal x small.0 },
@@ -132,10 +128,16 @@ rows_written n ([] ∷ rows) small = rows_written n rows small.1
 rows_written n ((x ∷ xs) ∷ rows) small = are_append (map (number_token n) (x ∷ xs)) (x ∷ xs) (row_tokens (suc n) rows)
     (in_rows rows) (row_written n (x ∷ xs) small.0) (rows_written (suc n) rows small.1)
 
+pub numbers_are : (ts : List Token) (xs : List ℕ) → AreWritten ts xs → numbers_of ts ≡ xs
+numbers_are [] [] h = refl
+numbers_are (t ∷ ts) (x ∷ xs) h =
+    let first : natural_or_zero (integer t.bytes) ≡ x = ap natural_or_zero h.0.is in
+    ap (λ k. k ∷ numbers_of ts) first ∙ ap (λ (ks : List ℕ). x ∷ ks) (numbers_are ts xs h.1)
+numbers_are _ _ h = absurd h
+
 pub numbers_written : (ts : List Token) (xs : List ℕ) → AreWritten ts xs → map number_in ts ≡ xs
-numbers_written [] [] h = refl
-numbers_written [] (x ∷ xs) h = absurd h
-numbers_written (t ∷ ts) [] h = absurd h
-numbers_written (t ∷ ts) (x ∷ xs) h =
-    let first : number_in t ≡ x = ap natural_or_zero h.0.is in
-    ap (λ k. k ∷ map number_in ts) first ∙ ap (λ (ks : List ℕ). x ∷ ks) (numbers_written ts xs h.1)
+numbers_written ts xs h = each ts ∙ numbers_are ts xs h
+  where
+    each : (ts : List Token) → map number_in ts ≡ numbers_of ts
+    each [] = refl
+    each (t ∷ ts) = ap (λ ks. number_in t ∷ ks) (each ts)

@@ -21,12 +21,13 @@ pub is_digit : (b : ℕ) → IsDigit b → is_ascii_digit b ≡ true
 is_digit b h = let low : leb 48 b ≡ true = le-leb _ _ h.0 in let high : leb b 57 ≡ true = le-leb _ _ h.1 in
     rw (low, high) refl
 
+-- a digit is no byte before the digits
+pub digit_apart : (b k : ℕ) → IsDigit b → k < 48 → eqb b k ≡ false
+digit_apart b k h low = ne_eqb b k (λ e. omega (arith, h.0))
+
 pub digit_solid : (b : ℕ) → IsDigit b → is_blank b ≡ false
 digit_solid b h =
-    let s : eqb b 32 ≡ false = ne_eqb b 32 (λ e. omega (arith, h.0)) in
-    let t : eqb b 9 ≡ false = ne_eqb b 9 (λ e. omega (arith, h.0)) in
-    let c : eqb b 13 ≡ false = ne_eqb b 13 (λ e. omega (arith, h.0)) in
-    rw (s, t, c) refl
+    rw (digit_apart b 32 h (omega arith), digit_apart b 9 h (omega arith), digit_apart b 13 h (omega arith)) refl
 
 -- digits that spell a number, and are a run
 pub record Spelled (n : ℕ) (ds : List ℕ) : Type 0 where
@@ -78,8 +79,8 @@ short_decimal n small = length-decimal-le 18 n (omega arith) small (omega arith)
 integer_spelled : (n : ℕ) (ds : List ℕ) → Spelled n ds → length ds ≤ 18 → integer ds ≡ Some (pos n)
 integer_spelled n [] s short = absurd (let k = s.some in cc)
 integer_spelled n (b ∷ bs) s short =
-    let minus : eqb b 45 ≡ false = ne_eqb b 45 (λ e. omega (arith, s.all.0.0)) in
-    let plus : eqb b 43 ≡ false = ne_eqb b 43 (λ e. omega (arith, s.all.0.0)) in
+    let minus = digit_apart b 45 s.all.0 (omega arith) in
+    let plus = digit_apart b 43 s.all.0 (omega arith) in
     let few : ltb 18 (length (b ∷ bs)) ≡ false = le-ltb _ _ short in
     let is = s.is in
     rw (minus, plus, few, is) refl
@@ -103,7 +104,7 @@ one_line_append (x ∷ xs) ys h k = (h.0, one_line_append xs ys h.1 k)
 
 digits_line : (ds : List ℕ) → AllByRecursion IsDigit ds → OnOneLine ds
 digits_line [] all = tt
-digits_line (b ∷ ds) all = (ne_eqb b 10 (λ e. omega (arith, all.0.0)), digits_line ds all.1)
+digits_line (b ∷ ds) all = (digit_apart b 10 all.0 (omega arith), digits_line ds all.1)
 
 pub decimal_line : (n : ℕ) → IsShort n → OnOneLine (decimal n)
 decimal_line n small = digits_line (decimal n) (spelled n small).all
