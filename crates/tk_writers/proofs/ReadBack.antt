@@ -1,8 +1,7 @@
 -- A matrix text is read as the problem that it was written of.
 use Rattle.std.proofs.Common.{◌≡◌, ℕ, suc, ◌<◌, ◌≤◌, true, false, leb, ltb, List, [], ◌∷◌, ◌++◌, length, map, min, Some}
 use Rattle.std.proofs.Common.{None, Ok, refl, sym, ap, ◌∙◌, arith, append_assoc, inl, inr}
-use Rattle.std.specs.Prelude.{codes, decimal, flat_map, unwrap_or, option_map}
-use Rattle.std.specs.List.{AllByRecursion}
+use Rattle.std.specs.Prelude.{codes, flat_map, unwrap_or, option_map}
 use Rattle.std.proofs.lemmas.Bool.{le-leb, le-ltb, cases_eq}
 use Rattle.std.proofs.lemmas.List.{length-map, length-append}
 use Rattle.tk_problem.specs.declared.limits.TheConstants.{TABLE_LIMIT}
@@ -11,7 +10,6 @@ use Rattle.tk_problem.specs.declared.weights.Format.{Format}
 use Rattle.tk_problem.specs.declared.weights.Format.TheVariants as formats
 use Rattle.tk_problem_text.specs.Sections.FixedSections.{tokens_stop, fixed_extent}
 use Rattle.tk_words.specs.Lex.{Line, Token, is_blank, behind, lines, tokens, tokens_of}
-use Rattle.tk_problem.specs.WeightWords.{format_word}
 use Rattle.tk_writers.specs.MatrixText.{matrix_text, number_line}
 use Rattle.tk_lines.specs.Pieces.{Piece, Section, Clean, end_piece, end_token, last_line, pieces_at, section_at, stop}
 use Rattle.tk_lines.specs.Pieces.{or_else, first_at}
@@ -27,27 +25,20 @@ use Rattle.tk_words.specs.Words.{keyword_of}
 use Rattle.tk_writers.specs.Written.{line}
 use Rattle.tk_lines.proofs.Sections.SectionEnds.{take_whole}
 use Rattle.tk_writers.proofs.Lengths.ShortMatrix.{length_short_matrix}
-use Rattle.tk_writers.proofs.Saying.{one_line, name_line, whole_lines, lines-listed, lines-none, clean, says}
-use Rattle.tk_writers.proofs.Saying.{says-header, says-section, says-rows, says-eof, decided-says, read_within}
+use Rattle.tk_writers.proofs.Saying.{one_line, whole_lines, lines-listed, lines-none, clean, says, says-heads}
+use Rattle.tk_writers.proofs.Saying.{says-section, says-rows, says-eof, decided-says, read_within, AreHeads, head_line}
+use Rattle.tk_writers.proofs.Saying.{heads_whole}
 use Rattle.tk_lines.proofs.Sections.MiddleOfSection.{token}
-use Rattle.tk_writers.proofs.Written.WrittenHeaders.{after_1, after_2, after_3, after_4, after_5, after_6, name_value}
-use Rattle.tk_writers.proofs.Written.WrittenHeaders.{size_value, format_value, name_piece, type_piece, size_piece}
-use Rattle.tk_writers.proofs.Written.WrittenHeaders.{weight_type_piece, format_piece, name_passes, type_passes}
-use Rattle.tk_writers.proofs.Written.WrittenHeaders.{size_passes, size_read, weight_type_passes, format_passes}
+use Rattle.tk_writers.proofs.Written.WrittenHeaders.{heads, headed, after_section, are_heads, size_read}
 use Rattle.tk_writers.proofs.Written.WrittenHeaders.{format_read, name_read}
 use Rattle.tk_writers.proofs.Written.WrittenLines.{whole_line, lines-written, lines-rows, row_lines, row_tokens}
 use Rattle.tk_writers.proofs.Written.WrittenLines.{next_line, tokens-rows, last_of_rows, rows_written, numbers_written}
 use Rattle.tk_writers.proofs.Written.WrittenLines.{AreWritten, ShortRows}
-use Rattle.tk_writers.proofs.Written.WrittenNumbers.{IsShort, one_line_append, decimal_line}
-use Rattle.tk_lines.proofs.Lines.{OnOneLine}
+use Rattle.tk_writers.proofs.Written.WrittenNumbers.{IsShort}
 use Rattle.tk_writers.proofs.Written.WrittenPlaces.{at_place, rows_of, matrix_lines, rows-order, rows-short}
 use Rattle.tk_writers.proofs.Written.WrittenWeights.{weights_accepted, lower_read}
 
 -- ---- the lines of the text
-
-word_line : (f : Format) → OnOneLine (format_word f)
-word_line formats.FullMatrix = one_line (codes "FULL_MATRIX") refl
-word_line f = one_line (format_word f) refl
 
 -- the last lines
 abbrev ends : ℕ → List Line
@@ -58,46 +49,7 @@ abbrev section_lines : List (List ℕ) → List Line
 section_lines rows = row_lines 7 rows ++ ends (next_line 7 rows)
 
 abbrev head_lines : List ℕ → ℕ → Format → List (List ℕ)
-head_lines name n f =
-    (codes "NAME : " ++ name) ∷ codes "TYPE : TSP" ∷ (codes "DIMENSION : " ++ decimal n)
-    ∷ codes "EDGE_WEIGHT_TYPE : EXPLICIT"
-    ∷ (codes "EDGE_WEIGHT_FORMAT : " ++ format_word f) ∷ codes "EDGE_WEIGHT_SECTION" ∷ []
-
-module _ (name : List ℕ) (n : ℕ) (f : Format) (is_name : IsName name) (high : n ≤ TABLE_LIMIT) (rows : List (List ℕ))
-    (small : ShortRows rows) where
-  head_whole : AllByRecursion OnOneLine (head_lines name n f)
-  head_whole =
-      let name_whole =
-      one_line_append (codes "NAME : ") name (one_line (codes "NAME : ") refl) (name_line name is_name.one_line) in
-      let size_whole = one_line_append (codes "DIMENSION : ") (decimal n) (one_line (codes "DIMENSION : ") refl)
-      (decimal_line n (omega arith)) in
-      let format_whole =
-      one_line_append (codes "EDGE_WEIGHT_FORMAT : ") (format_word f)
-      (one_line (codes "EDGE_WEIGHT_FORMAT : ") refl) (word_line f) in (
-        name_whole,
-        (
-          one_line (codes "TYPE : TSP") refl,
-          (
-            size_whole,
-            (
-              one_line (codes "EDGE_WEIGHT_TYPE : EXPLICIT") refl,
-              (format_whole, (one_line (codes "EDGE_WEIGHT_SECTION") refl, tt)),
-            ),
-          ),
-        ),
-      )
-
-  lines_of_text : lines true 1
-      (flat_map line (head_lines name n f) ++ (flat_map number_line rows ++ line (codes "EOF"))) ≡ whole_lines 1
-      (head_lines name n f) ++ section_lines rows
-  lines_of_text =
-      lines-listed 1 (head_lines name n f) (flat_map number_line rows ++ line (codes "EOF")) head_whole
-      ∙ ap (λ (ls : List Line). whole_lines 1 (head_lines name n f) ++ ls) (
-      lines-rows 7 rows (line (codes "EOF")) small
-      ∙ ap (λ (ls : List Line). row_lines 7 rows ++ ls) (
-      lines-written (next_line 7 rows) (codes "EOF") [] (one_line (codes "EOF") refl)
-      ∙ ap (λ (ls : List Line). whole_line (next_line 7 rows) (codes "EOF") ∷ ls)
-      (lines-none (suc (next_line 7 rows)))))
+head_lines name n f = map head_line (heads name n f) ++ codes "EDGE_WEIGHT_SECTION" ∷ []
 
 -- ---- the section
 
@@ -117,90 +69,57 @@ abbrev answer : List ℕ → ℕ → List ℕ → ProblemIs
 answer name n weights = record { name = name; n = n; weights = Lower weights; routing = None }
 
 module _ (name : List ℕ) (n : ℕ) (f : Format) (low : 2 ≤ n) (high : n ≤ TABLE_LIMIT) where
-  size_is : size_of (after_5 name n f) ≡ n
+  size_is : size_of (headed name n f) ≡ n
   size_is = ap (λ o. unwrap_or o 0) (size_read n low high)
 
-  format_is : format_in (after_5 name n f) ≡ f
+  format_is : format_in (headed name n f) ≡ f
   format_is = ap (λ o. unwrap_or (listed_format o) formats.FullMatrix) (format_read f)
 
-  wanted_is : wanted (after_5 name n f) words.EdgeWeightSection ≡ weight_count n f
-  wanted_is = ap (λ o. unwrap_or (option_map (weight_count (size_of (after_5 name n f))) (listed_format o)) 0)
+  wanted_is : wanted (headed name n f) words.EdgeWeightSection ≡ weight_count n f
+  wanted_is = ap (λ o. unwrap_or (option_map (weight_count (size_of (headed name n f))) (listed_format o)) 0)
       (format_read f) ∙ ap (λ m. weight_count m f) size_is
 
-  word_passes : first_at 6 (word_tests (after_5 name n f) words.EdgeWeightSection) ≡ None
+  word_passes : first_at 6 (word_tests (headed name n f) words.EdgeWeightSection) ≡ None
   word_passes =
       let few : ltb TABLE_LIMIT n ≡ false = le-ltb _ _ high in
       let size = size_read n low high in
       rw (format_read f, size, few) refl
 
   section_made : (toks : List Token) (eof end : Token) → length toks ≡ weight_count n f → last_line 6 toks < eof.line
-      → section_at problem_format.extent (after_5 name n f) words.EdgeWeightSection 6 (toks ++ eof ∷ []) end ≡ Section
+      → section_at problem_format.extent (headed name n f) words.EdgeWeightSection 6 (toks ++ eof ∷ []) end ≡ Section
       words.EdgeWeightSection 6 toks Clean ∷ []
   section_made toks eof end count lt =
       let most : length toks ≤ length (toks ++ eof ∷ []) = omega (arith, length-append toks (eof ∷ [])) in
       let some : min (length toks) (length (toks ++ eof ∷ [])) ≡ length toks = omega (arith, most) in
       let closed : leb (length toks) (length (toks ++ eof ∷ [])) ≡ true = le-leb _ _ most in
-      ap (λ w. section_at (λ before word ts. fixed_extent w ts) (after_5 name n f) words.EdgeWeightSection 6
+      ap (λ w. section_at (λ before word ts. fixed_extent w ts) (headed name n f) words.EdgeWeightSection 6
       (toks ++ eof ∷ []) end) (wanted_is ∙ sym count)
       ∙ rw (some, closed, take_whole toks (eof ∷ []), clean (last_line 6 toks) toks eof end lt) refl
 
-  at_end_passes : (toks : List Token) → problem_format.at_end (after_6 name n f toks) ≡ None
+  at_end_passes : (toks : List Token) → problem_format.at_end (after_section name n f toks) ≡ None
   at_end_passes toks = refl
 
   module _ (table : ℕ → ℕ → ℕ) (is_table : IsTable n table) (toks : List Token)
       (written : AreWritten toks (map (at_place table) (order f n))) where
-    section_passes : stop problem_format (after_5 name n f) (Section words.EdgeWeightSection 6 toks Clean) ≡ None
+    section_passes : stop problem_format (headed name n f) (Section words.EdgeWeightSection 6 toks Clean) ≡ None
     section_passes =
         ap (λ s. or_else s
-        (or_else (tokens_stop (token_tests (after_5 name n f) words.EdgeWeightSection) [] toks) None)) word_passes
-        ∙ ap (λ m. or_else (tokens_stop (weight_tests m (format_in (after_5 name n f))) [] toks) None) size_is
+        (or_else (tokens_stop (token_tests (headed name n f) words.EdgeWeightSection) [] toks) None)) word_passes
+        ∙ ap (λ m. or_else (tokens_stop (weight_tests m (format_in (headed name n f))) [] toks) None) size_is
         ∙ ap (λ g. or_else (tokens_stop (weight_tests n g) [] toks) None) format_is
         ∙ ap (λ s. or_else s None) (weights_accepted n table is_table f toks written)
 
-    value_is : IsName name → problem_value (after_6 name n f toks) ≡ answer name n (lower_triangle n table)
+    value_is : IsName name → problem_value (after_section name n f toks) ≡ answer name n (lower_triangle n table)
     value_is is_name =
-        ap (λ given. answer given (size_of (after_6 name n f toks))
-        (lower_weights (size_of (after_6 name n f toks)) (format_in (after_6 name n f toks)) toks))
+        ap (λ given. answer given (size_of (after_section name n f toks))
+        (lower_weights (size_of (after_section name n f toks)) (format_in (after_section name n f toks)) toks))
         (name_read name is_name)
-        ∙ ap (λ m. answer name m (lower_weights m (format_in (after_6 name n f toks)) toks)) size_is
+        ∙ ap (λ m. answer name m (lower_weights m (format_in (after_section name n f toks)) toks)) size_is
         ∙ ap (λ g. answer name n (lower_weights n g toks)) format_is
         ∙ ap (answer name n)
         (lower_read n table is_table f toks (numbers_written toks (map (at_place table) (order f n)) written))
 
 -- ---- the text
-
-module _ (name : List ℕ) (n : ℕ) (f : Format) (is_name : IsName name) (low : 2 ≤ n) (high : n ≤ TABLE_LIMIT)
-    (ls : List Line) (end : List Piece) where
-  abbrev line_6 : List Line
-  line_6 = whole_line 6 (codes "EDGE_WEIGHT_SECTION") ∷ ls
-
-  abbrev line_5 : List Line
-  line_5 = whole_line 5 (codes "EDGE_WEIGHT_FORMAT : " ++ format_word f) ∷ line_6
-
-  abbrev line_4 : List Line
-  line_4 = whole_line 4 (codes "EDGE_WEIGHT_TYPE : EXPLICIT") ∷ line_5
-
-  abbrev line_3 : List Line
-  line_3 = whole_line 3 (codes "DIMENSION : " ++ decimal n) ∷ line_4
-
-  abbrev line_2 : List Line
-  line_2 = whole_line 2 (codes "TYPE : TSP") ∷ line_3
-
-  says-head : says problem_format [] 0 (whole_line 1 (codes "NAME : " ++ name) ∷ line_2) end ≡ says problem_format
-      (after_5 name n f) 0 line_6 end
-  says-head =
-      says-header problem_format [] 0 (codes "NAME : " ++ name) line_2 end words.Name (name_value name)
-      (name_piece [] name line_2) (name_passes name is_name)
-      ∙ says-header problem_format (after_1 name) 1 (codes "TYPE : TSP") line_3 end words.Type (codes " : TSP")
-      (type_piece (after_1 name) line_3) (type_passes name)
-      ∙ says-header problem_format (after_2 name) 2 (codes "DIMENSION : " ++ decimal n) line_4 end words.Dimension
-      (size_value n) (size_piece (after_2 name) n line_4) (size_passes n low high name)
-      ∙ says-header problem_format (after_3 name n) 3 (codes "EDGE_WEIGHT_TYPE : EXPLICIT") line_5 end
-      words.EdgeWeightType (codes " : EXPLICIT") (weight_type_piece (after_3 name n) line_5)
-      (weight_type_passes n low high name)
-      ∙ says-header problem_format (after_4 name n) 4 (codes "EDGE_WEIGHT_FORMAT : " ++ format_word f) line_6 end
-      words.EdgeWeightFormat (format_value f) (format_piece (after_4 name n) f line_6)
-      (format_passes n low high name f)
 
 module _ (name : List ℕ) (n : ℕ) (table : ℕ → ℕ → ℕ) (f : Format) (is_name : IsName name) (is_table : IsTable n table)
     (low : 2 ≤ n) (high : n ≤ TABLE_LIMIT) where
@@ -235,26 +154,29 @@ module _ (name : List ℕ) (n : ℕ) (table : ℕ → ℕ → ℕ) (f : Format) 
   before_last : suc (last_line 6 toks) ≡ last
   before_last = last_of_rows 6 rows
 
-  piece : pieces_at problem_format.extent (after_5 name n f) (whole_line 6 (codes "EDGE_WEIGHT_SECTION"))
+  piece : pieces_at problem_format.extent (headed name n f) (whole_line 6 (codes "EDGE_WEIGHT_SECTION"))
       (section_lines rows) (behind is_blank (codes "EDGE_WEIGHT_SECTION")) ≡ Section words.EdgeWeightSection 6
       toks Clean ∷ []
   piece =
       let end : Token = end_token (whole_line 6 (codes "EDGE_WEIGHT_SECTION")) (section_lines rows) in
-      section_piece (after_5 name n f) (section_lines rows)
-      ∙ ap (λ ts. section_at problem_format.extent (after_5 name n f) words.EdgeWeightSection 6 ts end) tokens_are
+      section_piece (headed name n f) (section_lines rows)
+      ∙ ap (λ ts. section_at problem_format.extent (headed name n f) words.EdgeWeightSection 6 ts end) tokens_are
       ∙ section_made name n f low high toks (token (codes "EOF") last) end count (omega (arith, before_last))
 
   says-body : (end : List Piece) →
-      says problem_format (after_5 name n f) 0 (whole_line 6 (codes "EDGE_WEIGHT_SECTION") ∷ section_lines rows)
+      says problem_format (headed name n f) 0 (whole_line 6 (codes "EDGE_WEIGHT_SECTION") ∷ section_lines rows)
       end ≡ Some (Ok (answer name n (lower_triangle n table)))
   says-body end =
-      says-section problem_format (after_5 name n f) 5 (codes "EDGE_WEIGHT_SECTION") (section_lines rows) end
+      says-section problem_format (headed name n f) 5 (codes "EDGE_WEIGHT_SECTION") (section_lines rows) end
       words.EdgeWeightSection toks piece (section_passes name n f low high table is_table toks written)
-      ∙ says-rows problem_format (after_6 name n f toks) (last_line 6 toks) 7 rows (ends last) end
+      ∙ says-rows problem_format (after_section name n f toks) (last_line 6 toks) 7 rows (ends last) end
       (omega (arith, before_last))
-      ∙ says-eof problem_format (after_6 name n f toks) (last_line 6 toks) last (whole_line (suc last) [] ∷ []) end
-      (omega (arith, before_last)) (at_end_passes name n f low high toks)
+      ∙ says-eof problem_format (after_section name n f toks) (last_line 6 toks) last (whole_line (suc last) [] ∷ [])
+      end (omega (arith, before_last)) (at_end_passes name n f low high toks)
       ∙ ap (λ v. Some (Ok v)) (value_is name n f low high table is_table toks written is_name)
+
+  heads_are : AreHeads problem_format [] 1 (heads name n f)
+  heads_are = are_heads n low high name f is_name
 
   text_lines : lines true 1 (matrix_text name n table f) ≡ whole_lines 1 (head_lines name n f) ++ section_lines rows
   text_lines =
@@ -262,14 +184,22 @@ module _ (name : List ℕ) (n : ℕ) (table : ℕ → ℕ → ℕ) (f : Format) 
       (matrix_lines n table f)
       ∙ ap (lines true 1)
       (append_assoc (flat_map line (head_lines name n f)) (flat_map number_line rows) (line (codes "EOF")))
-      ∙ lines_of_text name n f is_name high rows small
+      ∙ lines-listed 1 (head_lines name n f) (flat_map number_line rows ++ line (codes "EOF"))
+      (heads_whole problem_format [] 1 (heads name n f) (codes "EDGE_WEIGHT_SECTION") heads_are
+      (one_line (codes "EDGE_WEIGHT_SECTION") refl))
+      ∙ ap (λ (ls : List Line). whole_lines 1 (head_lines name n f) ++ ls) (
+      lines-rows 7 rows (line (codes "EOF")) small
+      ∙ ap (λ (ls : List Line). row_lines 7 rows ++ ls) (
+      lines-written last (codes "EOF") [] (one_line (codes "EOF") refl)
+      ∙ ap (λ (ls : List Line). whole_line last (codes "EOF") ∷ ls) (lines-none (suc last))))
 
   said : problem_decided true (matrix_text name n table f) ≡ Some (Ok (answer name n (lower_triangle n table)))
   said =
       let all : List Line = whole_lines 1 (head_lines name n f) ++ section_lines rows in
       decided-says problem_format (matrix_text name n table f)
       ∙ ap (λ (ls : List Line). says problem_format [] 0 ls (end_piece ls)) text_lines
-      ∙ says-head name n f is_name low high (section_lines rows) (end_piece all)
+      ∙ says-heads problem_format [] 0 (heads name n f)
+      (whole_line 6 (codes "EDGE_WEIGHT_SECTION") ∷ section_lines rows) (end_piece all) heads_are
       ∙ says-body (end_piece all)
 
   pub reads_back : ReadsBack name n table f

@@ -1,23 +1,25 @@
 -- What the lines of a text that is written say, one after the other.
 use Rattle.std.proofs.Common.{◌≡◌, ◌≢◌, ℕ, suc, ◌<◌, ◌≤◌, Bool, true, false, eqb, leb, ◌||◌, List, [], ◌∷◌, ◌++◌}
-use Rattle.std.proofs.Common.{length, get_or, All, Option, Some, None, Ok, Result, refl, ap, ◌∙◌, arith, append_assoc}
+use Rattle.std.proofs.Common.{length, get_or, map, All, Option, Some, None, Ok, Result, refl, sym, ap, ◌∙◌, arith}
+use Rattle.std.proofs.Common.{append_assoc, append-nil}
 use Rattle.std.specs.Prelude.{codes, flat_map}
 use Rattle.std.specs.List.{AllByRecursion, list_any}
 use Rattle.std.proofs.lemmas.Bool.{lt-leb, ne_eqb}
 use Rattle.std.proofs.lemmas.List.Elements.{All-head, All-tail}
-use Rattle.tk_words.specs.declared.fault.TextFault.{TextFault}
 use Rattle.tk_words.specs.declared.keyword.Keyword.{Keyword}
 use Rattle.tk_words.specs.declared.fault.TextFault.{TextFault}
 use Rattle.tk_words.specs.Texts.{Texts}
 use Rattle.tk_words.specs.Lex.{LF, Line, Token, is_blank, behind, lines}
 use Rattle.tk_lines.specs.Pieces.{Piece, Header, Section, Clean, Format, cut, decided_by, end_piece, judge, last_line}
 use Rattle.tk_lines.specs.Pieces.{pieces_at, stop, after_tokens}
-use Rattle.tk_words.specs.Words.{keyword_of}
+use Rattle.tk_words.specs.Words.{keyword_of, word}
+use Rattle.tk_words.specs.declared.keyword.Keyword.TheVariants as words
 use Rattle.tk_writers.specs.Written.{line}
 use Rattle.tk_writers.specs.ReadBack.{IsReadBackAs}
 use Rattle.tk_words.proofs.Driving.{answer_ended}
 use Rattle.tk_lines.proofs.Sections.MiddleOfSection.{cut-covered, token}
 use Rattle.tk_writers.proofs.Written.WrittenLines.{whole_line, lines-written, row_lines, next_line, cut-rows}
+use Rattle.tk_writers.proofs.Written.WrittenNumbers.{one_line_append}
 use Rattle.tk_lines.proofs.Lines.{OnOneLine}
 
 -- ---- the lines of a text
@@ -56,6 +58,48 @@ pub lines-none : (n : ℕ) → lines true n [] ≡ whole_line n [] ∷ []
 unfolding lines
 lines-none n = refl
 
+-- ---- headers: the word of each, and what it says
+
+abbrev pub Head : Type 0
+Head = Keyword × List ℕ
+
+abbrev pub head_value : Head → List ℕ
+head_value h = codes " : " ++ h.1
+
+abbrev pub head_line : Head → List ℕ
+head_line h = word h.0 ++ head_value h
+
+abbrev pub head_piece : ℕ → Head → Piece
+head_piece n h = Header h.0 (token (head_value h) n)
+
+abbrev pub head_pieces : ℕ → List Head → List Piece
+head_pieces n [] = []
+head_pieces n (h ∷ hs) = head_piece n h ∷ head_pieces (suc n) hs
+
+word_line : (w : Keyword) → OnOneLine (word w)
+word_line words.Name = one_line (word words.Name) refl
+word_line w = one_line (word w) refl
+
+-- a header on line n, after pieces: it is read as one, and nothing stops at it
+pub record IsHead {V : Type 0} (f : Format V) (before : List Piece) (n : ℕ) (h : Head) : Type 0 where
+  pub whole : OnOneLine h.1
+  pub piece : (ls : List Line) →
+      pieces_at f.extent before (whole_line n (head_line h)) ls (behind is_blank (head_line h)) ≡ head_piece n h ∷ []
+  pub passes : stop f before (head_piece n h) ≡ None
+
+abbrev pub AreHeads : {V : Type 0} → Format V → List Piece → ℕ → List Head → Type 0
+AreHeads f before n [] = Unit {0}
+AreHeads f before n (h ∷ hs) = IsHead f before n h × AreHeads f (before ++ head_piece n h ∷ []) (suc n) hs
+
+-- the headers' lines and the line after them
+pub heads_whole : {V : Type 0} (f : Format V) (before : List Piece) (n : ℕ) (hs : List Head) (last : List ℕ) →
+    AreHeads f before n hs → OnOneLine last → AllByRecursion OnOneLine (map head_line hs ++ last ∷ [])
+heads_whole f before n [] last are whole = (whole, tt)
+heads_whole f before n (h ∷ hs) last are whole = (
+  one_line_append (word h.0) (head_value h) (word_line h.0) (refl, (refl, (refl, are.0.whole))),
+  heads_whole f (before ++ head_piece n h ∷ []) (suc n) hs last are.1 whole,
+)
+
 -- ---- what comes after a section
 
 pub clean : (last : ℕ) (toks : List Token) (eof end : Token) → last < eof.line →
@@ -74,17 +118,27 @@ module _ {V : Type 0} (f : Format V) where
   unfolding decided_by says
   decided-says bs = refl
 
-  pub says-header : (before : List Piece) (n : ℕ) (bs : List ℕ) (ls : List Line) (end : List Piece) (word : Keyword)
-      (value : List ℕ)
-      → pieces_at f.extent before (whole_line (suc n) bs) ls (behind is_blank bs) ≡ Header word
-      (token value (suc n)) ∷ []
-      → stop f before (Header word (token value (suc n))) ≡ None
-      → says f before 0 (whole_line (suc n) bs ∷ ls) end ≡ says f (before ++ Header word (token value (suc n))
-      ∷ []) 0 ls end
+  says-header : (before : List Piece) (n : ℕ) (h : Head) (ls : List Line) (end : List Piece)
+      → IsHead f before (suc n) h
+      → says f before 0 (whole_line (suc n) (head_line h) ∷ ls) end
+      ≡ says f (before ++ head_piece (suc n) h ∷ []) 0 ls end
   unfolding says cut judge
-  says-header before n bs ls end word value piece none =
+  says-header before n h ls end is =
       let later : leb (suc n) 0 ≡ false = lt-leb _ _ (omega arith) in
+      let piece = is.piece ls in
+      let none = is.passes in
       rw (later, piece, none) refl
+
+  pub says-heads : (before : List Piece) (n : ℕ) (hs : List Head) (ls : List Line) (end : List Piece)
+      → AreHeads f before (suc n) hs
+      → says f before 0 (whole_lines (suc n) (map head_line hs) ++ ls) end
+      ≡ says f (before ++ head_pieces (suc n) hs) 0 ls end
+  says-heads before n [] ls end are = ap (λ (ps : List Piece). says f ps 0 ls end) (sym (append-nil before))
+  says-heads before n (h ∷ hs) ls end are =
+      says-header before n h (whole_lines (suc (suc n)) (map head_line hs) ++ ls) end are.0
+      ∙ says-heads (before ++ head_piece (suc n) h ∷ []) (suc n) hs ls end are.1
+      ∙ ap (λ (ps : List Piece). says f ps 0 ls end)
+      (append_assoc before (head_piece (suc n) h ∷ []) (head_pieces (suc (suc n)) hs))
 
   pub says-section : (before : List Piece) (n : ℕ) (bs : List ℕ) (ls : List Line) (end : List Piece) (word : Keyword)
       (toks : List Token)

@@ -7,14 +7,13 @@ use Rattle.std.proofs.lemmas.Bool.{lt-leb, le-leb, le-ltb}
 use Rattle.std.proofs.lemmas.List.{append-nil, length-append}
 use Rattle.tk_problem.specs.declared.limits.TheConstants.{ENTRY_LIMIT}
 use Rattle.tk_words.specs.declared.keyword.Keyword.TheVariants as words
-use Rattle.tk_words.specs.Lex.{Line, Token, is_blank, behind, integer, lines, tokens, tokens_of, trim}
+use Rattle.tk_words.specs.Lex.{Line, Token, is_blank, behind, lines, tokens, tokens_of, trim}
 use Rattle.tk_writers.specs.MatrixText.{number_line}
 use Rattle.tk_lines.specs.Pieces.{Piece, Section, Clean, end_piece, end_token, last_line, pieces_at, section_at, stop}
 use Rattle.tk_writers.specs.ReadBack.{IsTourText, TourReadsBack}
-use Rattle.tk_lines.specs.HeaderValue.{first_word}
 use Rattle.tk_lines.specs.Lists.{list_entries, list_extent, AreEntries}
 use Rattle.tk_lists.specs.Tour.{entries_stop, entry_stop, tour_decided, tour_format, tour_texts}
-use Rattle.tk_words.specs.Entry.{is_eof, is_eof_word, is_keyword, is_some_word, natural_or_zero, numbers_of}
+use Rattle.tk_words.specs.Entry.{is_eof, is_eof_word, is_keyword, is_some_word, numbers_of}
 use Rattle.tk_writers.specs.TourWritten.{tour_head, tour_text}
 use Rattle.tk_words.specs.Words.{keyword_of}
 use Rattle.tk_writers.specs.Written.{line}
@@ -22,16 +21,16 @@ use Rattle.tk_lines.proofs.Sections.SectionEnds.{take_whole, last_line-append}
 use Rattle.tk_lists.proofs.Lists.{entries_ended, list_ended}
 use Rattle.tk_words.proofs.NoWord.{integer-no_word}
 use Rattle.tk_writers.proofs.Saying.{one_line, name_line, whole_lines, lines-listed, lines-none, clean, says}
-use Rattle.tk_writers.proofs.Saying.{says-header, says-section, says-rows, says-covered, says-eof, decided-says}
-use Rattle.tk_writers.proofs.Saying.{read_within}
+use Rattle.tk_writers.proofs.Saying.{says-section, says-rows, says-covered, says-eof, decided-says, read_within}
+use Rattle.tk_writers.proofs.Saying.{Head, head_piece, head_pieces, AreHeads, heads_whole, says-heads}
 use Rattle.tk_writers.proofs.Lengths.ListLength.{length_tour_text}
 use Rattle.tk_lines.proofs.Headers.HeaderBytes.{trimmed_short}
 use Rattle.tk_lines.proofs.Sections.MiddleOfSection.{token}
-use Rattle.tk_writers.proofs.Written.WrittenHeaders.{headed, size_value, first_word_run}
+use Rattle.tk_writers.proofs.Written.WrittenHeaders.{size_number}
 use Rattle.tk_writers.proofs.Written.WrittenLines.{whole_line, lines-rows, row_lines, row_tokens, next_line}
 use Rattle.tk_writers.proofs.Written.WrittenLines.{tokens-rows, rows_written, in_rows, AreWritten, IsWritten, ShortRows}
-use Rattle.tk_writers.proofs.Written.WrittenNumbers.{IsShort, one_line_append, decimal_line, decimal_run}
-use Rattle.tk_writers.proofs.Written.WrittenNumbers.{integer_decimal, short_decimal}
+use Rattle.tk_writers.proofs.Written.WrittenLines.{numbers_are}
+use Rattle.tk_writers.proofs.Written.WrittenNumbers.{IsShort, one_line_append, decimal_line, short_decimal}
 use Rattle.tk_lines.proofs.Lines.{OnOneLine}
 
 -- ---- the cities, each on a line of its own
@@ -88,68 +87,20 @@ entries_fine k (t ∷ ts) (x ∷ xs) h small few =
     let here = entry_fine k x t h.0 small.0 (omega (arith, few)) in
     rw here (entries_fine (suc k) ts xs h.1 small.1 (omega (arith, few)))
 
-numbers_are : (ts : List Token) (xs : List ℕ) → AreWritten ts xs → numbers_of ts ≡ xs
-numbers_are [] [] h = refl
-numbers_are [] (x ∷ xs) h = absurd h
-numbers_are (t ∷ ts) [] h = absurd h
-numbers_are (t ∷ ts) (x ∷ xs) h =
-    let first : natural_or_zero (integer t.bytes) ≡ x = ap natural_or_zero h.0.is in
-    ap (λ k. k ∷ numbers_of ts) first ∙ ap (λ (ks : List ℕ). x ∷ ks) (numbers_are ts xs h.1)
-
 -- ---- the headers
 
 abbrev labelled : List ℕ → ℕ → List ℕ
 labelled name size = name ++ codes "." ++ decimal size ++ codes ".tour"
 
-abbrev name_value : List ℕ → ℕ → List ℕ
-name_value name size = codes " : " ++ labelled name size
+abbrev heads : List ℕ → ℕ → ℕ → List Head
+heads name size n = (words.Name, labelled name size) ∷ (words.Comment, codes "Length = " ++ decimal size)
+    ∷ (words.Type, codes "TOUR") ∷ (words.Dimension, decimal n) ∷ []
 
-abbrev length_value : ℕ → List ℕ
-length_value size = codes " : Length = " ++ decimal size
+abbrev headed : List ℕ → ℕ → ℕ → List Piece
+headed name size n = head_pieces 1 (heads name size n)
 
-abbrev after_1 : List ℕ → ℕ → List Piece
-after_1 name size = headed words.Name (name_value name size) 1 ∷ []
-
-abbrev after_2 : List ℕ → ℕ → List Piece
-after_2 name size = after_1 name size ++ headed words.Comment (length_value size) 2 ∷ []
-
-abbrev after_3 : List ℕ → ℕ → List Piece
-after_3 name size = after_2 name size ++ headed words.Type (codes " : TOUR") 3 ∷ []
-
-abbrev after_4 : List ℕ → ℕ → ℕ → List Piece
-after_4 name size n = after_3 name size ++ headed words.Dimension (size_value n) 4 ∷ []
-
-abbrev after_5 : List ℕ → ℕ → ℕ → List Token → List Piece
-after_5 name size n toks = after_4 name size n ++ Section words.TourSection 5 toks Clean ∷ []
-
-abbrev name_bytes : List ℕ → ℕ → List ℕ
-name_bytes name size = codes "NAME : " ++ name ++ codes "." ++ decimal size ++ codes ".tour"
-
--- the pieces of the lines
-name_piece : (before : List Piece) (name : List ℕ) (size : ℕ) (ls : List Line)
-    → pieces_at tour_format.extent before (whole_line 1 (name_bytes name size)) ls
-    (behind is_blank (name_bytes name size)) ≡ headed words.Name (name_value name size) 1 ∷ []
-unfolding keyword_of
-name_piece before name size ls = refl
-
-length_piece : (before : List Piece) (size : ℕ) (ls : List Line)
-    → pieces_at tour_format.extent before (whole_line 2 (codes "COMMENT : Length = " ++ decimal size)) ls
-    (behind is_blank (codes "COMMENT : Length = " ++ decimal size)) ≡ headed words.Comment
-    (length_value size) 2 ∷ []
-unfolding keyword_of
-length_piece before size ls = refl
-
-type_piece : (before : List Piece) (ls : List Line)
-    → pieces_at tour_format.extent before (whole_line 3 (codes "TYPE : TOUR")) ls
-    (behind is_blank (codes "TYPE : TOUR")) ≡ headed words.Type (codes " : TOUR") 3 ∷ []
-unfolding keyword_of
-type_piece before ls = refl
-
-size_piece : (before : List Piece) (n : ℕ) (ls : List Line)
-    → pieces_at tour_format.extent before (whole_line 4 (codes "DIMENSION : " ++ decimal n)) ls
-    (behind is_blank (codes "DIMENSION : " ++ decimal n)) ≡ headed words.Dimension (size_value n) 4 ∷ []
-unfolding keyword_of
-size_piece before n ls = refl
+abbrev after_section : List ℕ → ℕ → ℕ → List Token → List Piece
+after_section name size n toks = headed name size n ++ Section words.TourSection 5 toks Clean ∷ []
 
 section_piece : (before : List Piece) (ls : List Line)
     → pieces_at tour_format.extent before (whole_line 5 (codes "TOUR_SECTION")) ls
@@ -182,34 +133,29 @@ labelled_short name size room cheap =
     )
 
 name_passes : (name : List ℕ) (size : ℕ) → length name ≤ 1000 → IsShort size →
-    stop tour_format [] (headed words.Name (name_value name size) 1) ≡ None
+    stop tour_format [] (head_piece 1 (words.Name, labelled name size)) ≡ None
 name_passes name size room cheap =
     let short = labelled_short name size room cheap in
-    let all : ltb 4096 (length (name_value name size)) ≡ false = le-ltb _ _ (omega (arith, short)) in
+    let all : ltb 4096 (length (codes " : " ++ labelled name size)) ≡ false = le-ltb _ _ (omega (arith, short)) in
     let kept : length (trim (labelled name size)) ≤ 1024 =
     omega (arith, short, behind_short (labelled name size), trimmed_short (behind is_blank (labelled name size))) in
     let some : ltb 1024 (length (trim (labelled name size))) ≡ false = le-ltb _ _ kept in
     rw (all, some) refl
 
-length_passes : (name : List ℕ) (size : ℕ) → IsShort size →
-    stop tour_format (after_1 name size) (headed words.Comment (length_value size) 2) ≡ None
-length_passes name size cheap =
-    let short : ltb 4096 (length (length_value size)) ≡ false = le-ltb _ _ (omega (arith, short_decimal size cheap)) in
+length_passes : (size : ℕ) → IsShort size →
+    stop tour_format [] (head_piece 2 (words.Comment, codes "Length = " ++ decimal size)) ≡ None
+length_passes size cheap =
+    let short : ltb 4096 (length (codes " : Length = " ++ decimal size)) ≡ false =
+    le-ltb _ _ (omega (arith, short_decimal size cheap)) in
     rw short refl
 
-type_passes : (name : List ℕ) (size : ℕ) →
-    stop tour_format (after_2 name size) (headed words.Type (codes " : TOUR") 3) ≡ None
-type_passes name size = refl
-
-size_passes : (name : List ℕ) (size n : ℕ) → 1 ≤ n → n ≤ ENTRY_LIMIT →
-    stop tour_format (after_3 name size) (headed words.Dimension (size_value n) 4) ≡ None
-size_passes name size n low high =
-    let short : ltb 4096 (length (size_value n)) ≡ false = le-ltb _ _ (omega (arith, short_decimal n (omega arith))) in
-    let number : integer (first_word (size_value n)) ≡ Some (pos n) =
-    ap integer (first_word_run (decimal n) (decimal_run n (omega arith))) ∙ integer_decimal n (omega arith) in
+size_passes : (n : ℕ) → 1 ≤ n → n ≤ ENTRY_LIMIT → stop tour_format [] (head_piece 4 (words.Dimension, decimal n)) ≡ None
+size_passes n low high =
+    let short : ltb 4096 (length (codes " : " ++ decimal n)) ≡ false =
+    le-ltb _ _ (omega (arith, short_decimal n (omega arith))) in
     let above : leb 1 n ≡ true = le-leb _ _ low in
     let below : leb n ENTRY_LIMIT ≡ true = le-leb _ _ high in
-    rw (short, number, above, below) refl
+    rw (short, size_number n (omega arith), above, below) refl
 
 -- ---- the section and the text's end
 
@@ -296,27 +242,37 @@ module _ (name : List ℕ) (size : ℕ) (cities : List ℕ) (h : IsTourText name
   written : AreWritten toks cities
   written = subst (AreWritten (row_tokens 6 rows)) (rows-values cities) (rows_written 6 rows small)
 
-  name_whole : OnOneLine (name_bytes name size)
+  name_whole : OnOneLine (labelled name size)
   name_whole =
-      one_line_append (codes "NAME : " ++ name ++ codes "." ++ decimal size) (codes ".tour") (
-      one_line_append (codes "NAME : " ++ name ++ codes ".") (decimal size) (
-      one_line_append (codes "NAME : " ++ name) (codes ".") (
-      one_line_append (codes "NAME : ") name (one_line (codes "NAME : ") refl) (name_line name h.named.one_line))
-      (one_line (codes ".") refl)) (decimal_line size cheap)) (one_line (codes ".tour") refl)
+      one_line_append (name ++ codes "." ++ decimal size) (codes ".tour") (
+      one_line_append (name ++ codes ".") (decimal size) (
+      one_line_append name (codes ".") (name_line name h.named.one_line) (one_line (codes ".") refl))
+      (decimal_line size cheap)) (one_line (codes ".tour") refl)
+
+  length_whole : OnOneLine (codes "Length = " ++ decimal size)
+  length_whole =
+      one_line_append (codes "Length = ") (decimal size) (one_line (codes "Length = ") refl) (decimal_line size cheap)
+
+  are_heads : AreHeads tour_format [] 1 (heads name size n)
+  unfolding keyword_of
+  are_heads = (
+    record { whole = name_whole; piece = λ ls. refl; passes = name_passes name size h.room cheap },
+    (
+      record { whole = length_whole; piece = λ ls. refl; passes = length_passes size cheap },
+      (
+        record { whole = one_line (codes "TOUR") refl; piece = λ ls. refl; passes = refl },
+        (
+          record { whole = decimal_line n short; piece = λ ls. refl; passes = size_passes n h.some h.few },
+          tt,
+        ),
+      ),
+    ),
+  )
 
   head_whole : AllByRecursion OnOneLine (tour_head name size n)
   head_whole =
-      let length_whole =
-      one_line_append (codes "COMMENT : Length = ") (decimal size) (one_line (codes "COMMENT : Length = ") refl)
-      (decimal_line size cheap) in
-      let size_whole = one_line_append (codes "DIMENSION : ") (decimal n) (one_line (codes "DIMENSION : ") refl)
-      (decimal_line n short) in (
-        name_whole,
-        (
-          length_whole,
-          (one_line (codes "TYPE : TOUR") refl, (size_whole, (one_line (codes "TOUR_SECTION") refl, tt))),
-        ),
-      )
+      heads_whole tour_format [] 1 (heads name size n) (codes "TOUR_SECTION") are_heads
+      (one_line (codes "TOUR_SECTION") refl)
 
   text_lines : lines true 1 (tour_text name size cities) ≡ whole_lines 1 (tour_head name size n) ++ section_lines
   text_lines =
@@ -330,58 +286,35 @@ module _ (name : List ℕ) (size : ℕ) (cities : List ℕ) (h : IsTourText name
   abbrev line_5 : List Line
   line_5 = whole_line 5 (codes "TOUR_SECTION") ∷ section_lines
 
-  abbrev line_4 : List Line
-  line_4 = whole_line 4 (codes "DIMENSION : " ++ decimal n) ∷ line_5
-
-  abbrev line_3 : List Line
-  line_3 = whole_line 3 (codes "TYPE : TOUR") ∷ line_4
-
-  abbrev line_2 : List Line
-  line_2 = whole_line 2 (codes "COMMENT : Length = " ++ decimal size) ∷ line_3
-
-  says-head : (end : List Piece) →
-      says tour_format [] 0 (whole_line 1 (name_bytes name size) ∷ line_2) end ≡ says tour_format
-      (after_4 name size n) 0 line_5 end
-  says-head end =
-      says-header tour_format [] 0 (name_bytes name size) line_2 end words.Name (name_value name size)
-      (name_piece [] name size line_2) (name_passes name size h.room cheap)
-      ∙ says-header tour_format (after_1 name size) 1 (codes "COMMENT : Length = " ++ decimal size) line_3 end
-      words.Comment (length_value size) (length_piece (after_1 name size) size line_3)
-      (length_passes name size cheap)
-      ∙ says-header tour_format (after_2 name size) 2 (codes "TYPE : TOUR") line_4 end words.Type (codes " : TOUR")
-      (type_piece (after_2 name size) line_4) (type_passes name size)
-      ∙ says-header tour_format (after_3 name size) 3 (codes "DIMENSION : " ++ decimal n) line_5 end words.Dimension
-      (size_value n) (size_piece (after_3 name size) n line_5) (size_passes name size n h.some h.few)
-
   tokens_are : tokens section_lines ≡ toks ++ minus e ∷ token (codes "EOF") (suc e) ∷ []
   tokens_are = tokens-rows 6 rows (ends e) small ∙ ap (λ (ts : List Token). toks ++ ts) (tokens-ends e)
 
-  piece : pieces_at tour_format.extent (after_4 name size n) (whole_line 5 (codes "TOUR_SECTION")) section_lines
+  piece : pieces_at tour_format.extent (headed name size n) (whole_line 5 (codes "TOUR_SECTION")) section_lines
       (behind is_blank (codes "TOUR_SECTION")) ≡ Section words.TourSection 5 taken Clean ∷ []
   piece =
       let end : Token = end_token (whole_line 5 (codes "TOUR_SECTION")) section_lines in
-      section_piece (after_4 name size n) section_lines
-      ∙ ap (λ (ts : List Token). section_at tour_format.extent (after_4 name size n) words.TourSection 5 ts end)
+      section_piece (headed name size n) section_lines
+      ∙ ap (λ (ts : List Token). section_at tour_format.extent (headed name size n) words.TourSection 5 ts end)
       tokens_are
-      ∙ section_made toks cities written h.small h.few e (after_4 name size n) end
+      ∙ section_made toks cities written h.small h.few e (headed name size n) end
 
-  section_passes : stop tour_format (after_4 name size n) (Section words.TourSection 5 taken Clean) ≡ None
+  section_passes : stop tour_format (headed name size n) (Section words.TourSection 5 taken Clean) ≡ None
   section_passes = rw (all_fine toks cities written h.small h.few e) refl
 
-  at_end_passes : tour_format.at_end (after_5 name size n taken) ≡ None
+  at_end_passes : tour_format.at_end (after_section name size n taken) ≡ None
   at_end_passes = refl
 
-  says-body : (end : List Piece) → says tour_format (after_4 name size n) 0 line_5 end ≡ Some (Ok cities)
+  says-body : (end : List Piece) → says tour_format (headed name size n) 0 line_5 end ≡ Some (Ok cities)
   says-body end =
-      says-section tour_format (after_4 name size n) 4 (codes "TOUR_SECTION") section_lines end words.TourSection taken
+      says-section tour_format (headed name size n) 4 (codes "TOUR_SECTION") section_lines end words.TourSection taken
       piece section_passes
-      ∙ ap (λ (m : ℕ). says tour_format (after_5 name size n taken) m section_lines end)
+      ∙ ap (λ (m : ℕ). says tour_format (after_section name size n taken) m section_lines end)
       (last_is toks cities written h.small h.few e)
-      ∙ says-rows tour_format (after_5 name size n taken) e 6 rows (ends e) end (omega arith)
-      ∙ says-covered tour_format (after_5 name size n taken) e (whole_line e (codes "-1"))
+      ∙ says-rows tour_format (after_section name size n taken) e 6 rows (ends e) end (omega arith)
+      ∙ says-covered tour_format (after_section name size n taken) e (whole_line e (codes "-1"))
       (whole_line (suc e) (codes "EOF") ∷ whole_line (suc (suc e)) [] ∷ []) end (omega arith)
-      ∙ says-eof tour_format (after_5 name size n taken) e (suc e) (whole_line (suc (suc e)) [] ∷ []) end (omega arith)
-      at_end_passes
+      ∙ says-eof tour_format (after_section name size n taken) e (suc e) (whole_line (suc (suc e)) [] ∷ []) end
+      (omega arith) at_end_passes
       ∙ ap (λ (cs : List ℕ). Some (Ok cs)) (numbers_read toks cities written h.small h.few e)
 
   said : tour_decided true (tour_text name size cities) ≡ Some (Ok cities)
@@ -389,7 +322,7 @@ module _ (name : List ℕ) (size : ℕ) (cities : List ℕ) (h : IsTourText name
       let all : List Line = whole_lines 1 (tour_head name size n) ++ section_lines in
       decided-says tour_format (tour_text name size cities)
       ∙ ap (λ (ls : List Line). says tour_format [] 0 ls (end_piece ls)) text_lines
-      ∙ says-head (end_piece all)
+      ∙ says-heads tour_format [] 0 (heads name size n) line_5 (end_piece all) are_heads
       ∙ says-body (end_piece all)
 
 pub tour_read_back : (name : List ℕ) (size : ℕ) (cities : List ℕ) → IsTourText name size cities →

@@ -4,98 +4,42 @@ use Rattle.std.proofs.Common.{ap, ◌∙◌, arith}
 use Rattle.std.specs.Prelude.{codes, decimal}
 use Rattle.std.proofs.lemmas.Bool.{le-leb, le-ltb}
 use Rattle.tk_problem.specs.declared.limits.TheConstants.{CITY_LIMIT, TABLE_LIMIT}
-use Rattle.tk_words.specs.declared.keyword.Keyword.{Keyword}
 use Rattle.tk_words.specs.declared.keyword.Keyword.TheVariants as words
 use Rattle.tk_problem_text.specs.declared.header_values.WeightFormat.TheVariants as weight_formats
 use Rattle.tk_problem.specs.declared.weights.Format as Layout
 use Rattle.tk_problem.specs.declared.weights.Format.TheVariants as formats
 use Rattle.tk_problem_text.specs.HeaderValues.{weight_format_of, header_number, name_of}
-use Rattle.tk_words.specs.Lex.{Line, Token, is_blank, behind, front, integer, trim, IsUnbroken}
+use Rattle.tk_words.specs.Lex.{Token, is_blank, behind, front, integer, trim, IsUnbroken}
 use Rattle.tk_problem.specs.WeightWords.{format_word}
-use Rattle.tk_lines.specs.Pieces.{Piece, Header, Section, Clean, pieces_at, stop}
+use Rattle.tk_lines.specs.Pieces.{Piece, Section, Clean, stop}
 use Rattle.tk_problem_text.specs.Problem.{problem_format}
 use Rattle.tk_problem_text.specs.Names.{IsName}
 use Rattle.tk_lines.specs.HeaderValue.{first_word, not_blank}
 use Rattle.tk_words.specs.Words.{keyword_of}
-use Rattle.tk_lines.proofs.Sections.MiddleOfSection.{token, run_head}
-use Rattle.tk_writers.proofs.Written.WrittenLines.{whole_line}
-use Rattle.tk_writers.proofs.Written.WrittenNumbers.{decimal_run, integer_decimal, short_decimal}
+use Rattle.tk_lines.proofs.Sections.MiddleOfSection.{run_head}
+use Rattle.tk_lines.proofs.Lines.{OnOneLine}
+use Rattle.tk_writers.proofs.Saying.{Head, head_value, head_piece, head_pieces, AreHeads, one_line, name_line}
+use Rattle.tk_writers.proofs.Written.WrittenNumbers.{IsShort, decimal_line, decimal_run, integer_decimal, short_decimal}
 
 -- ---- the headers
 
-abbrev pub name_value : List ℕ → List ℕ
-name_value name = codes " : " ++ name
+abbrev pub heads : List ℕ → ℕ → Layout.Format → List Head
+heads name n f = (words.Name, name) ∷ (words.Type, codes "TSP") ∷ (words.Dimension, decimal n)
+    ∷ (words.EdgeWeightType, codes "EXPLICIT") ∷ (words.EdgeWeightFormat, format_word f) ∷ []
 
-abbrev pub size_value : ℕ → List ℕ
-size_value n = codes " : " ++ decimal n
+abbrev pub headed : List ℕ → ℕ → Layout.Format → List Piece
+headed name n f = head_pieces 1 (heads name n f)
 
-abbrev pub format_value : Layout.Format → List ℕ
-format_value f = codes " : " ++ format_word f
-
-abbrev pub headed : Keyword → List ℕ → ℕ → Piece
-headed word value n = Header word (token value n)
-
-abbrev pub after_1 : List ℕ → List Piece
-after_1 name = headed words.Name (name_value name) 1 ∷ []
-
-abbrev pub after_2 : List ℕ → List Piece
-after_2 name = after_1 name ++ headed words.Type (codes " : TSP") 2 ∷ []
-
-abbrev pub after_3 : List ℕ → ℕ → List Piece
-after_3 name n = after_2 name ++ headed words.Dimension (size_value n) 3 ∷ []
-
-abbrev pub after_4 : List ℕ → ℕ → List Piece
-after_4 name n = after_3 name n ++ headed words.EdgeWeightType (codes " : EXPLICIT") 4 ∷ []
-
-abbrev pub after_5 : List ℕ → ℕ → Layout.Format → List Piece
-after_5 name n f = after_4 name n ++ headed words.EdgeWeightFormat (format_value f) 5 ∷ []
-
-abbrev pub after_6 : List ℕ → ℕ → Layout.Format → List Token → List Piece
-after_6 name n f toks = after_5 name n f ++ Section words.EdgeWeightSection 6 toks Clean ∷ []
-
--- the pieces of the lines
-pub name_piece : (before : List Piece) (name : List ℕ) (ls : List Line)
-    → pieces_at problem_format.extent before (whole_line 1 (codes "NAME : " ++ name)) ls
-    (behind is_blank (codes "NAME : " ++ name)) ≡ headed words.Name (name_value name) 1 ∷ []
-unfolding keyword_of
-name_piece before name ls = refl
-
-pub type_piece : (before : List Piece) (ls : List Line)
-    → pieces_at problem_format.extent before (whole_line 2 (codes "TYPE : TSP")) ls
-    (behind is_blank (codes "TYPE : TSP")) ≡ headed words.Type (codes " : TSP") 2 ∷ []
-unfolding keyword_of
-type_piece before ls = refl
-
-pub size_piece : (before : List Piece) (n : ℕ) (ls : List Line)
-    → pieces_at problem_format.extent before (whole_line 3 (codes "DIMENSION : " ++ decimal n)) ls
-    (behind is_blank (codes "DIMENSION : " ++ decimal n)) ≡ headed words.Dimension (size_value n) 3 ∷ []
-unfolding keyword_of
-size_piece before n ls = refl
-
-pub weight_type_piece : (before : List Piece) (ls : List Line)
-    → pieces_at problem_format.extent before (whole_line 4 (codes "EDGE_WEIGHT_TYPE : EXPLICIT")) ls
-    (behind is_blank (codes "EDGE_WEIGHT_TYPE : EXPLICIT")) ≡ headed words.EdgeWeightType
-    (codes " : EXPLICIT") 4 ∷ []
-unfolding keyword_of
-weight_type_piece before ls = refl
-
-pub format_piece : (before : List Piece) (f : Layout.Format) (ls : List Line)
-    → pieces_at problem_format.extent before (whole_line 5 (codes "EDGE_WEIGHT_FORMAT : " ++ format_word f)) ls
-    (behind is_blank (codes "EDGE_WEIGHT_FORMAT : " ++ format_word f)) ≡ headed words.EdgeWeightFormat
-    (format_value f) 5 ∷ []
-unfolding keyword_of
-format_piece before f ls = refl
+abbrev pub after_section : List ℕ → ℕ → Layout.Format → List Token → List Piece
+after_section name n f toks = headed name n f ++ Section words.EdgeWeightSection 6 toks Clean ∷ []
 
 -- the tests of the headers
-pub name_passes : (name : List ℕ) → IsName name → stop problem_format [] (headed words.Name (name_value name) 1) ≡ None
+name_passes : (name : List ℕ) → IsName name → stop problem_format [] (head_piece 1 (words.Name, name)) ≡ None
 name_passes name is =
     let short = is.short in
-    let all : ltb 4096 (length (name_value name)) ≡ false = le-ltb _ _ (omega (arith, short)) in
+    let all : ltb 4096 (length (head_value (words.Name, name))) ≡ false = le-ltb _ _ (omega (arith, short)) in
     let some : ltb 1024 (length (trim name)) ≡ false = le-ltb _ _ (omega (arith, short, ap length is.trimmed)) in
     rw (all, some) refl
-
-pub type_passes : (name : List ℕ) → stop problem_format (after_1 name) (headed words.Type (codes " : TSP") 2) ≡ None
-type_passes name = refl
 
 behind_run : (ds : List ℕ) → IsUnbroken ds → behind is_blank ds ≡ ds
 behind_run [] run = absurd run
@@ -109,39 +53,56 @@ front_run (b ∷ c ∷ ds) run = let first = run.0 in rw first (ap (λ (bs : Lis
 pub first_word_run : (ds : List ℕ) → IsUnbroken ds → first_word (codes " : " ++ ds) ≡ ds
 first_word_run ds run = ap (front not_blank) (behind_run ds run) ∙ front_run ds run
 
+pub size_number : (n : ℕ) → IsShort n → integer (first_word (codes " : " ++ decimal n)) ≡ Some (pos n)
+size_number n short = ap integer (first_word_run (decimal n) (decimal_run n short)) ∙ integer_decimal n short
+
+format_line : (f : Layout.Format) → OnOneLine (format_word f)
+format_line formats.FullMatrix = one_line (codes "FULL_MATRIX") refl
+format_line f = one_line (format_word f) refl
+
+format_passes : (f : Layout.Format) →
+    stop problem_format [] (head_piece 5 (words.EdgeWeightFormat, format_word f)) ≡ None
+format_passes formats.FullMatrix = refl
+format_passes _ = refl
+
 module _ (n : ℕ) (low : 2 ≤ n) (high : n ≤ TABLE_LIMIT) where
-  size_number : integer (first_word (size_value n)) ≡ Some (pos n)
-  size_number = ap integer (first_word_run (decimal n) (decimal_run n (omega arith))) ∙ integer_decimal n (omega arith)
+  above : leb 2 n ≡ true
+  above = le-leb _ _ low
 
-  pub size_passes : (name : List ℕ) →
-      stop problem_format (after_2 name) (headed words.Dimension (size_value n) 3) ≡ None
-  size_passes name =
-      let short : ltb 4096 (length (size_value n)) ≡ false =
+  below : leb n CITY_LIMIT ≡ true
+  below = le-leb _ _ (omega arith)
+
+  size_passes : stop problem_format [] (head_piece 3 (words.Dimension, decimal n)) ≡ None
+  size_passes =
+      let short : ltb 4096 (length (codes " : " ++ decimal n)) ≡ false =
       le-ltb _ _ (omega (arith, short_decimal n (omega arith))) in
-      let above : leb 2 n ≡ true = le-leb _ _ low in
-      let below : leb n CITY_LIMIT ≡ true = le-leb _ _ (omega arith) in
-      let number = size_number in
-      rw (short, number, above, below) refl
+      rw (short, size_number n (omega arith), above, below) refl
 
-  pub size_read : header_number 2 CITY_LIMIT (size_value n) ≡ Some n
-  size_read =
-      let above : leb 2 n ≡ true = le-leb _ _ low in
-      let below : leb n CITY_LIMIT ≡ true = le-leb _ _ (omega arith) in
-      let number = size_number in
-      rw (number, above, below) refl
+  pub size_read : header_number 2 CITY_LIMIT (codes " : " ++ decimal n) ≡ Some n
+  size_read = rw (size_number n (omega arith), above, below) refl
 
-  pub weight_type_passes : (name : List ℕ) →
-      stop problem_format (after_3 name n) (headed words.EdgeWeightType (codes " : EXPLICIT") 4) ≡ None
-  weight_type_passes name = refl
+  pub are_heads : (name : List ℕ) (f : Layout.Format) → IsName name → AreHeads problem_format [] 1 (heads name n f)
+  unfolding keyword_of
+  are_heads name f is = (
+    record { whole = name_line name is.one_line; piece = λ ls. refl; passes = name_passes name is },
+    (
+      record { whole = one_line (codes "TSP") refl; piece = λ ls. refl; passes = refl },
+      (
+        record { whole = decimal_line n (omega arith); piece = λ ls. refl; passes = size_passes },
+        (
+          record { whole = one_line (codes "EXPLICIT") refl; piece = λ ls. refl; passes = refl },
+          (
+            record { whole = format_line f; piece = λ ls. refl; passes = format_passes f },
+            tt,
+          ),
+        ),
+      ),
+    ),
+  )
 
-  pub format_passes : (name : List ℕ) (f : Layout.Format) →
-      stop problem_format (after_4 name n) (headed words.EdgeWeightFormat (format_value f) 5) ≡ None
-  format_passes name formats.FullMatrix = refl
-  format_passes name _ = refl
-
-pub format_read : (f : Layout.Format) → weight_format_of (format_value f) ≡ Some (weight_formats.Listed f)
+pub format_read : (f : Layout.Format) → weight_format_of (codes " : " ++ format_word f) ≡ Some (weight_formats.Listed f)
 format_read formats.FullMatrix = refl
 format_read _ = refl
 
-pub name_read : (name : List ℕ) → IsName name → name_of (name_value name) ≡ name
+pub name_read : (name : List ℕ) → IsName name → name_of (codes " : " ++ name) ≡ name
 name_read name is = let trimmed = is.trimmed in let some = is.some in rw (trimmed, some) refl
