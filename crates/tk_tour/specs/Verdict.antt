@@ -25,6 +25,4 @@ IsVerdict n cities (RepeatedCity p) =
 -- the fact, where the verdict is a tour
 abbrev pub IsPlacedWhere : Verdict → Type 0 → Type 0
 IsPlacedWhere Tour P = P
-IsPlacedWhere WrongCount P = Unit {0}
-IsPlacedWhere (OutOfRange p) P = Unit {0}
-IsPlacedWhere (RepeatedCity p) P = Unit {0}
+IsPlacedWhere _ P = Unit {0}
