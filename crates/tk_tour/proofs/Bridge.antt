@@ -1,18 +1,11 @@
 -- The four flips of a double bridge.
-use Rattle.std.proofs.Common.{◌≡◌, ℕ, List, ◌++◌, ap, subst}
+use Rattle.std.proofs.Common.{◌≡◌, ℕ, List, ◌++◌, ap}
 use Rattle.std.specs.Prelude.{reverse}
 use Rattle.std.proofs.lemmas.List.{append_assoc, reverse-append, reverse-reverse}
 use Rattle.tk_tour.specs.Tour.{SameCycle, IsSizedTour}
 use Rattle.tk_tour.specs.Moves.{ReplacesSteps, CanFlip, CutInFour}
-use Rattle.tk_tour.proofs.Cycle.{SameCycle-trans, SameCycle-append, IsPath-append, IsPath-reverse}
+use Rattle.tk_tour.proofs.Cycle.{turn, same, IsPath-append, IsPath-reverse}
 use Rattle.tk_tour.proofs.Steps.{CanFlip-from_cut}
-
--- the same cycle from its second part on
-turn : (t xs ys : List ℕ) → SameCycle t (xs ++ ys) → SameCycle t (ys ++ xs)
-turn t xs ys h = SameCycle-trans h (SameCycle-append xs ys)
-
-same : (t xs ys : List ℕ) → xs ≡ ys → SameCycle t xs → SameCycle t ys
-same t xs ys e h = let P : List ℕ → Type 0 = λ v. SameCycle t v in subst P e h
 
 ahead : (u : List ℕ) (a1 an b1 bn c1 cn d1 dn : ℕ) (k : CutInFour u a1 an b1 bn c1 cn d1 dn) →
     SameCycle u (k.a ++ (k.b ++ (k.c ++ k.d)))

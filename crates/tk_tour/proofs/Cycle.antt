@@ -1,5 +1,5 @@
 -- Laws of rotations and cycles.
-use Rattle.std.proofs.Common.{◌≡◌, ℕ, ◌⊎◌, ⊎_elim, inl, inr, List, [], ◌∷◌, ◌++◌, refl, sym, ap, ◌∙◌}
+use Rattle.std.proofs.Common.{◌≡◌, ℕ, ◌⊎◌, ⊎_elim, inl, inr, List, [], ◌∷◌, ◌++◌, refl, sym, ap, ◌∙◌, subst}
 use Rattle.std.specs.Prelude.{reverse}
 use Rattle.std.proofs.lemmas.List.{append-nil, append_assoc, reverse-append, reverse-reverse}
 use Rattle.tk_tour.specs.Tour.{IsRotation, SameCycle, IsPath}
@@ -78,6 +78,13 @@ SameCycle-either_side xs ys =
 
 pub SameCycle-append : (xs ys : List ℕ) → SameCycle (xs ++ ys) (ys ++ xs)
 SameCycle-append xs ys = inl (IsRotation-append xs ys)
+
+-- the same cycle from its second part on, and by an equal list
+pub turn : (t xs ys : List ℕ) → SameCycle t (xs ++ ys) → SameCycle t (ys ++ xs)
+turn t xs ys h = SameCycle-trans h (SameCycle-append xs ys)
+
+pub same : (t xs ys : List ℕ) → xs ≡ ys → SameCycle t xs → SameCycle t ys
+same t xs ys e h = let P : List ℕ → Type 0 = λ v. SameCycle t v in subst P e h
 
 -- paths
 pub IsPath-append : {d x y a : ℕ} {front back : List ℕ} → IsPath d front x → IsPath y back a →

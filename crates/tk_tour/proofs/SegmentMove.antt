@@ -1,18 +1,12 @@
 -- The two or three flips of a segment's move. With s, p and q as the three parts of the cycle,
 -- s ++ p ++ q becomes p ++ reverse s ++ q by two of them, and p ++ s ++ q by a third.
-use Rattle.std.proofs.Common.{◌≡◌, ◌⊎◌, ℕ, List, ◌++◌, sym, ap, ◌∙◌, subst, inl, inr, length, arith}
+use Rattle.std.proofs.Common.{◌≡◌, ◌⊎◌, ℕ, List, ◌++◌, sym, ap, ◌∙◌, inl, inr, length, arith}
 use Rattle.std.specs.Prelude.{reverse}
 use Rattle.std.proofs.lemmas.List.{append_assoc, reverse-append, reverse-reverse}
 use Rattle.tk_tour.specs.Tour.{SameCycle, IsPath, IsSizedTour}
 use Rattle.tk_tour.specs.Moves.{ReplacesSteps, CanFlip, CutInThree, OrMove, TwoOptMove}
-use Rattle.tk_tour.proofs.Cycle.{IsRotation-refl, SameCycle-trans, SameCycle-append, IsPath-append, IsPath-reverse}
+use Rattle.tk_tour.proofs.Cycle.{IsRotation-refl, turn, same, IsPath-append, IsPath-reverse}
 use Rattle.tk_tour.proofs.Steps.{CanFlip-from_cut}
-
-turn : (t xs ys : List ℕ) → SameCycle t (xs ++ ys) → SameCycle t (ys ++ xs)
-turn t xs ys h = SameCycle-trans h (SameCycle-append xs ys)
-
-same : (t xs ys : List ℕ) → xs ≡ ys → SameCycle t xs → SameCycle t ys
-same t xs ys e h = let P : List ℕ → Type 0 = λ v. SameCycle t v in subst P e h
 
 -- first the segment and what is ahead of it turn round as one
 begun : (t : List ℕ) (a x e b c d : ℕ) (k : CutInThree t a x e b c d) → SameCycle t (k.rest ++ (k.segment ++ k.ahead))
@@ -23,16 +17,21 @@ first_cut t a x e b c d k tour =
     CanFlip-from_cut t k.rest (k.segment ++ k.ahead) a x c d tour.2 k.is_rest (IsPath-append k.is_segment k.is_ahead)
     (begun t a x e b c d k)
 
-pub first_flip : (t0 t1 : List ℕ) (a x e b c d : ℕ) (k : CutInThree t0 a x e b c d) → ReplacesSteps t0 t1 a x c d →
-    SameCycle t1 ((reverse k.segment ++ k.rest) ++ reverse k.ahead)
-first_flip t0 t1 a x e b c d k f =
-    let h = f k.rest (k.segment ++ k.ahead) k.is_rest (IsPath-append k.is_segment k.is_ahead)
-    (begun t0 a x e b c d k) in
+first_after : (t0 t : List ℕ) (a x e b c d : ℕ) (k : CutInThree t0 a x e b c d) →
+    SameCycle t (k.rest ++ reverse (k.segment ++ k.ahead)) →
+    SameCycle t ((reverse k.segment ++ k.rest) ++ reverse k.ahead)
+first_after t0 t a x e b c d k h =
     let eq : k.rest ++ reverse (k.segment ++ k.ahead) ≡ (k.rest ++ reverse k.ahead) ++ reverse k.segment =
     ap (λ v. k.rest ++ v) (reverse-append k.segment k.ahead)
     ∙ sym (append_assoc k.rest (reverse k.ahead) (reverse k.segment)) in
-    same t1 _ _ (sym (append_assoc (reverse k.segment) k.rest (reverse k.ahead)))
-    (turn t1 (k.rest ++ reverse k.ahead) (reverse k.segment) (same t1 _ _ eq h))
+    same t _ _ (sym (append_assoc (reverse k.segment) k.rest (reverse k.ahead)))
+    (turn t (k.rest ++ reverse k.ahead) (reverse k.segment) (same t _ _ eq h))
+
+pub first_flip : (t0 t1 : List ℕ) (a x e b c d : ℕ) (k : CutInThree t0 a x e b c d) → ReplacesSteps t0 t1 a x c d →
+    SameCycle t1 ((reverse k.segment ++ k.rest) ++ reverse k.ahead)
+first_flip t0 t1 a x e b c d k f =
+    first_after t0 t1 a x e b c d k (f k.rest (k.segment ++ k.ahead) k.is_rest (IsPath-append k.is_segment k.is_ahead)
+    (begun t0 a x e b c d k))
 
 -- then what was ahead of the segment turns back
 pub second_cut : (t0 t : List ℕ) (a x e b c d : ℕ) (k : CutInThree t0 a x e b c d) → IsSizedTour t →
@@ -114,16 +113,6 @@ module _ (cities : List ℕ) (a x e b c d : ℕ) (k : CutInThree cities a x e b 
     after = itself (k.rest ++ reverse (k.segment ++ k.ahead));
   }
 
-  turns_path_back_before : SameCycle (k.rest ++ reverse (k.segment ++ k.ahead))
-      ((reverse k.segment ++ k.rest) ++ reverse k.ahead)
-  turns_path_back_before =
-      let both : List ℕ = k.rest ++ reverse (k.segment ++ k.ahead) in
-      let eq : k.rest ++ reverse (k.segment ++ k.ahead) ≡ (k.rest ++ reverse k.ahead) ++ reverse k.segment =
-      ap (λ v. k.rest ++ v) (reverse-append k.segment k.ahead)
-      ∙ sym (append_assoc k.rest (reverse k.ahead) (reverse k.segment)) in
-      same both _ _ (sym (append_assoc (reverse k.segment) k.rest (reverse k.ahead)))
-      (turn both (k.rest ++ reverse k.ahead) (reverse k.segment) (same both _ _ eq (itself both)))
-
   pub turns_path_back : TwoOptMove (k.rest ++ reverse (k.segment ++ k.ahead))
       (k.ahead ++ reverse k.segment ++ k.rest) a c b e
   turns_path_back =
@@ -133,7 +122,7 @@ module _ (cities : List ℕ) (a x e b c d : ℕ) (k : CutInThree cities a x e b 
         turned = reverse k.ahead;
         is_kept = IsPath-append (IsPath-reverse k.is_segment) k.is_rest;
         is_turned = IsPath-reverse k.is_ahead;
-        before = turns_path_back_before;
+        before = first_after cities _ a x e b c d k (itself (k.rest ++ reverse (k.segment ++ k.ahead)));
         after = same new _ _ (ap (λ v. (reverse k.segment ++ k.rest) ++ v) (sym (reverse-reverse k.ahead)))
             (turn new k.ahead (reverse k.segment ++ k.rest)
             (same new _ _ (append_assoc k.ahead (reverse k.segment) k.rest) (itself new)));
