@@ -1,6 +1,6 @@
 -- The two sides of a cut, by the places of their ends; what a flip does that reverses the shorter one.
 use Rattle.std.proofs.Common.{◌≡◌, ℕ, ◌+◌, ◌-◌, ◌/◌, ◌<◌, ◌≤◌, ⊎_elim, suc, zero, List, [], ◌∷◌, ◌++◌, length}
-use Rattle.std.proofs.Common.{refl, sym, ap, ◌∙◌, subst, arith, get_or}
+use Rattle.std.proofs.Common.{refl, sym, ap, ◌∙◌, arith, get_or}
 use Rattle.std.proofs.lemmas.Bool.{cases_lt}
 use Rattle.std.proofs.lemmas.List.{length-append, get_or_append_left, get_or_at}
 use Rattle.tk_distance.specs.Cities.{IsCity}
@@ -13,7 +13,7 @@ use Rattle.tk_tour.proofs.Tours.{HoldsOnce-tour, city_in_range, place_of-get_or}
 use Rattle.tk_tour.proofs.StoredTours.Cuts.{TwoOptMove-from_steps}
 use Rattle.tk_tour.proofs.StoredTours.Flips.{IsShorterSide-backward, ReplacesSteps-backward, backward, only_backward}
 use Rattle.tk_tour.proofs.StoredTours.Flips.{flip_inner, flip_outer, next_city-in, place_is}
-use Rattle.tk_tour.proofs.StoredTours.Places.{length-reversed_places, reversed_places-undone}
+use Rattle.tk_tour.proofs.StoredTours.Places.{SidesAre, length-reversed_places, reversed_places-undone}
 
 -- the places of the cities 1 to m
 places_to : ℕ → List ℕ → List ℕ
@@ -62,48 +62,48 @@ pub cities_after : (cities : List ℕ) (a b c d : ℕ) → IsTour (length cities
     IsCity (length cities) b × IsCity (length cities) d
 cities_after cities a b c d tour f =
     let p = places_exist cities tour in
-    let P : ℕ → Type 0 = λ v. IsCity (length cities) v in (
-      subst P (sym f.b_after) (next_city-in cities p.0 a tour p.1 f.a_in),
-      subst P (sym f.d_after) (next_city-in cities p.0 c tour p.1 f.c_in),
-    )
+    (rw f.b_after (next_city-in cities p.0 a tour p.1 f.a_in), rw f.d_after (next_city-in cities p.0 c tour p.1 f.c_in))
 
 -- the places from b to c, where there are no more of them than others, and those from d to a, where there are fewer
 module _ (cities : List ℕ) (n a b c d m pb pc : ℕ) (tour : IsTour (length cities) cities) (is_n : n ≡ length cities)
     (f : AreForward cities a b c d) (lb : pb < length cities) (atb : get_or cities pb 0 ≡ b) (lc : pc < length cities)
     (atc : get_or cities pc 0 ≡ c) (path : PathLength n m pb pc) where
+  inverse : (place : List ℕ) × IsInverse cities place
+  inverse = places_exist cities tour
+
+  long : PathLength (length cities) m pb pc
+  long = rw (← is_n) path
+
+  eb : pb ≡ get_or inverse.0 (b - 1) 0
+  eb = sym (place_is cities inverse.0 pb b inverse.1 lb (sym atb))
+
+  ec : pc ≡ get_or inverse.0 (c - 1) 0
+  ec = sym (place_is cities inverse.0 pc c inverse.1 lc (sym atc))
+
+  inner : (0 < m) × (m < length cities) × ReplacesSteps cities (reversed_places pb m cities) a b c d
+      × SidesAre cities (length cities - m) m a b c d
+  inner =
+      flip_inner cities inverse.0 a b c d m pb pc tour inverse.1 f.a_in f.c_in f.apart f.b_after f.d_after eb ec long
+
   pub inner_side : m ≤ n - m → TurnsShorterSide cities pb m a b c d
-  inner_side le =
-      let p = places_exist cities tour in
-      let P : ℕ → Type 0 = λ v. PathLength v m pb pc in
-      let h = flip_inner cities p.0 a b c d m pb pc tour p.1 f.a_in f.c_in f.apart f.b_after f.d_after
-      (sym (place_is cities p.0 pb b p.1 lb (sym atb))) (sym (place_is cities p.0 pc c p.1 lc (sym atc)))
-      (subst P is_n path) in
-      record {
-        steps = h.2;
-        within = lb;
-        side = λ front back pf pk q. omega (arith, is_n, le, h.3 front back pf pk q);
-        shorter = omega (arith, is_n, le, h.1);
-      }
+  inner_side le = record {
+    steps = inner.2;
+    within = lb;
+    side = λ front back pf pk q. omega (arith, is_n, le, inner.3 front back pf pk q);
+    shorter = omega (arith, is_n, le, inner.1);
+  }
 
   pub outer_side : (pd : ℕ) → pd < length cities → get_or cities pd 0 ≡ d → n - m < m →
       TurnsShorterSide cities pd (n - m) a b c d
-  outer_side pd ld atd lt =
-      let p = places_exist cities tour in
-      let P : ℕ → Type 0 = λ v. PathLength v m pb pc in
-      let Q : ℕ → Type 0 = λ v. ReplacesSteps cities (reversed_places pd (v - m) cities) a b c d in
-      let eb = sym (place_is cities p.0 pb b p.1 lb (sym atb)) in
-      let ec = sym (place_is cities p.0 pc c p.1 lc (sym atc)) in
-      let h = flip_inner cities p.0 a b c d m pb pc tour p.1 f.a_in f.c_in f.apart f.b_after f.d_after eb ec
-      (subst P is_n path) in
-      record {
-        steps =
-            subst Q (sym is_n)
-            (flip_outer cities p.0 a b c d m pb pc pd tour p.1 f.a_in f.c_in f.apart f.b_after f.d_after eb ec
-            (sym (place_is cities p.0 pd d p.1 ld (sym atd))) (subst P is_n path));
-        within = ld;
-        side = λ front back pf pk q. omega (arith, is_n, lt, h.3 front back pf pk q);
-        shorter = omega (arith, is_n, lt, h.1);
-      }
+  outer_side pd ld atd lt = record {
+    steps =
+        rw is_n
+        (flip_outer cities inverse.0 a b c d m pb pc pd tour inverse.1 f.a_in f.c_in f.apart f.b_after f.d_after eb ec
+        (sym (place_is cities inverse.0 pd d inverse.1 ld (sym atd))) long);
+    within = ld;
+    side = λ front back pf pk q. omega (arith, is_n, lt, inner.3 front back pf pk q);
+    shorter = omega (arith, is_n, lt, inner.1);
+  }
 
 -- which way the steps run, where they do not run ahead
 pub AreForward-backward : (cities : List ℕ) (a b c d : ℕ) → IsTour (length cities) cities → CanFlip cities a b c d →
@@ -136,8 +136,7 @@ pub flipped : (old new : List ℕ) (first count a b c d : ℕ) → IsSizedTour o
     TurnsShorterSide old first count a b c d → new ≡ reversed_places first count old →
     IsFlipped old new first count a b c d
 flipped old new first count a b c d tour can side e =
-    let P : List ℕ → Type 0 = λ v. ReplacesSteps old v a b c d in
-    let steps : ReplacesSteps old new a b c d = subst P (sym e) side.steps in
+    let steps : ReplacesSteps old new a b c d = rw e side.steps in
     let z : first + 1 - 1 ≡ first = omega arith in
     record {
       steps = steps;
