@@ -1,6 +1,6 @@
 -- What stands side by side on a cycle: `next_city` and `prev_city` of any list of it.
 use Rattle.std.proofs.Common.{◌≡◌, ◌≢◌, ℕ, ◌+◌, ◌<◌, ◌≤◌, ◌⊎◌, ⊎_elim, inl, inr, List, [], ◌∷◌, ◌++◌, length, refl, sym}
-use Rattle.std.proofs.Common.{ap, ◌∙◌, subst, arith, get_or}
+use Rattle.std.proofs.Common.{ap, ◌∙◌, arith, get_or}
 use Rattle.std.specs.Prelude.{reverse}
 use Rattle.std.proofs.lemmas.List.{append_assoc, reverse-append, length-append, get_or_at}
 use Rattle.tk_tour.specs.Tour.{occurrences, IsTour, IsRotation, SameCycle, IsPath, next_city, prev_city}
@@ -72,8 +72,7 @@ pub Neighbours-paths : (xs front back : List ℕ) (a b c d : ℕ) → HoldsOnce 
 Neighbours-paths xs front back a b c d once pf pb h =
     let e : front ++ back ≡ pf.1.0 ++ (a ∷ (b ∷ pb.0.0)) =
     ap (λ v. v ++ back) pf.1.1 ∙ append_assoc pf.1.0 (a ∷ []) back ∙ ap (λ v. pf.1.0 ++ (a ∷ v)) pb.0.1 in
-    let P : List ℕ → Type 0 = λ v. IsRotation xs v in
-    Neighbours-rotation xs pf.1.0 pb.0.0 a b once (subst P e h)
+    Neighbours-rotation xs pf.1.0 pb.0.0 a b once (rw e at h)
 
 city_on_cycle : (n c : ℕ) (xs : List ℕ) → IsTour n xs → 1 ≤ occurrences c xs → (0 < c) × (c ≤ n)
 city_on_cycle n c xs tour h =
@@ -106,8 +105,7 @@ CanFlip-from_cut xs front back a b c d tour pf pb h =
     let behind : IsRotation xs (reverse (front ++ back)) → AreSteps xs a b c d = λ g.
     let qf = IsPath-reverse pf in
     let qb = IsPath-reverse pb in
-    let P : List ℕ → Type 0 = λ v. IsRotation xs v in
-    let g' : IsRotation xs (reverse back ++ reverse front) = subst P (reverse-append front back) g in
+    let g' : IsRotation xs (reverse back ++ reverse front) = rw (reverse-append front back) at g in
     let ba = Neighbours-paths xs (reverse back) (reverse front) b a d c once qb qf g' in
     let dc =
     Neighbours-paths xs (reverse front) (reverse back) d c b a once qf qb

@@ -1,6 +1,6 @@
 -- Where a flip may be made, the cycle can be cut at its two steps.
 use Rattle.std.proofs.Common.{◌≡◌, ◌≢◌, ℕ, ◌+◌, ◌-◌, ◌<◌, ◌≤◌, ⊎_elim, inl, inr, List, [], ◌∷◌, ◌++◌, length, refl, sym}
-use Rattle.std.proofs.Common.{ap, ◌∙◌, subst, arith, get_or}
+use Rattle.std.proofs.Common.{ap, ◌∙◌, arith, get_or}
 use Rattle.std.specs.Prelude.{reverse}
 use Rattle.std.proofs.lemmas.Bool.{cases_lt, cases_eq}
 use Rattle.std.proofs.lemmas.List.{append_assoc, length-reverse, reverse-reverse, get_or-reverse}
@@ -73,14 +73,12 @@ record Cut (xs : List ℕ) (a c : ℕ) : Type 0 where
 
 cut_after : (a c : ℕ) (xs us vs : List ℕ) → xs ≡ us ++ a ∷ vs → Split c vs → Cut xs a c
 cut_after a c xs us vs e k =
-    let ps : List ℕ = k.before in
-    let qs : List ℕ = k.after in
     record {
-      front = qs ++ us;
-      back = ps;
+      front = k.after ++ us;
+      back = k.before;
       round = record {
-        front = (us ++ a ∷ []) ++ (ps ++ c ∷ []);
-        back = qs;
+        front = (us ++ a ∷ []) ++ (k.before ++ c ∷ []);
+        back = k.after;
         before = e ∙ ap (λ v. us ++ a ∷ v) k.whole ∙ simp append_assoc;
         after = simp append_assoc;
       };
@@ -88,14 +86,12 @@ cut_after a c xs us vs e k =
 
 cut_before : (a c : ℕ) (xs us vs : List ℕ) → xs ≡ us ++ a ∷ vs → Split c us → Cut xs a c
 cut_before a c xs us vs e k =
-    let ps : List ℕ = k.before in
-    let qs : List ℕ = k.after in
     record {
-      front = qs;
-      back = vs ++ ps;
+      front = k.after;
+      back = vs ++ k.before;
       round = record {
-        front = ps ++ c ∷ [];
-        back = (qs ++ a ∷ []) ++ vs;
+        front = k.before ++ c ∷ [];
+        back = (k.after ++ a ∷ []) ++ vs;
         before = e ∙ ap (λ v. v ++ a ∷ vs) k.whole ∙ simp append_assoc;
         after = simp append_assoc;
       };
@@ -132,13 +128,11 @@ cut_ahead a c xs once ne ha hc =
     let ab = Neighbours-paths xs front back a g.0 c f.0 once f.1 g.1 k.round in
     let turned : IsRotation xs (back ++ front) = IsRotation-trans k.round (IsRotation-append front back) in
     let cd = Neighbours-paths xs back front c f.0 a g.0 once g.1 f.1 turned in
-    let P : ℕ → Type 0 = λ v. IsPath v front a in
-    let Q : ℕ → Type 0 = λ v. IsPath v back c in
     record {
       front = front;
       back = back;
-      is_front = subst P (sym cd.0) f.1;
-      is_back = subst Q (sym ab.0) g.1;
+      is_front = rw cd.0 f.1;
+      is_back = rw ab.0 g.1;
       round = k.round;
     }
 
@@ -164,19 +158,13 @@ TwoOptMove-from_steps old new a b c d sized can steps =
       before = h;
       after = steps front back pf pb h;
     } in
-    let P : List ℕ → ℕ → ℕ → Type 0 = λ xs x y. IsPath x xs y in
     ⊎_elim
     (λ (k : (b ≡ next_city old a) × (d ≡ next_city old c)).
     let cut = cut_ahead a c old (HoldsOnce-tour n old tour) can.apart ha hc in
-    made cut.front cut.back (subst (λ v. P cut.front v a) (sym k.1) cut.is_front)
-    (subst (λ v. P cut.back v c) (sym k.0) cut.is_back) (inl cut.round))
+    made cut.front cut.back (rw k.1 cut.is_front) (rw k.0 cut.is_back) (inl cut.round))
     (λ (k : (b ≡ prev_city old a) × (d ≡ prev_city old c)).
     let cut = cut_ahead a c back' (HoldsOnce-tour n back' tour') can.apart ha' hc' in
-    let turned : IsRotation old (reverse (cut.front ++ cut.back)) =
-    let Q : List ℕ → Type 0 = λ v. IsRotation v (reverse (cut.front ++ cut.back)) in
-    subst Q (reverse-reverse old) (IsRotation-reverse {xs = back'} {ys = cut.front ++ cut.back} cut.round) in
-    made cut.front cut.back
-    (subst (λ v. P cut.front v a) (next_city-reverse n c old tour can.c_in ∙ sym k.1) cut.is_front)
-    (subst (λ v. P cut.back v c) (next_city-reverse n a old tour can.a_in ∙ sym k.0) cut.is_back)
-    (inr turned))
+    made cut.front cut.back (rw (k.1 ∙ sym (next_city-reverse n c old tour can.c_in)) cut.is_front)
+    (rw (k.0 ∙ sym (next_city-reverse n a old tour can.a_in)) cut.is_back)
+    (inr (rw (reverse-reverse old) at (IsRotation-reverse {xs = back'} {ys = cut.front ++ cut.back} cut.round))))
     can.steps

@@ -1,5 +1,5 @@
 -- A tour has one printed form.
-use Rattle.std.proofs.Common.{◌≡◌, ℕ, ◌<◌, ◌≤◌, ⊎_elim, List, [], ◌∷◌, ◌++◌, length, refl, sym, ap, ◌∙◌, subst, arith}
+use Rattle.std.proofs.Common.{◌≡◌, ℕ, ◌<◌, ◌≤◌, ⊎_elim, List, [], ◌∷◌, ◌++◌, length, refl, sym, ap, ◌∙◌, arith}
 use Rattle.std.proofs.Common.{get_or}
 use Rattle.std.specs.Prelude.{reverse}
 use Rattle.std.proofs.lemmas.List.{append_assoc, length-append, length-reverse, reverse-append, get_or_append_left}
@@ -32,8 +32,7 @@ ends_alike a b r (x ∷ t) once e =
     let back : List ℕ = reverse (x ∷ t) in
     let some : 0 < length back = omega (arith, length-reverse (x ∷ t)) in
     let f : get_or back 0 0 ≡ b = sym (get_or_append_left back (b ∷ []) 0 0 some) ∙ sym (ap (λ v. get_or v 1 0) e) in
-    let P : ℕ → Type 0 = λ v. 1 ≤ occurrences v back in
-    let one : 1 ≤ occurrences b back = subst P f (occurrences-index back 0 some) in
+    let one : 1 ≤ occurrences b back = rw f at (occurrences-index back 0 some) in
     absurd (omega (arith, once b, one, occurrences-at b back [], occurrences-append b (a ∷ []) (back ++ b ∷ [])))
 
 way_back : (a b : ℕ) (xs r t : List ℕ) → HoldsOnce xs → xs ≡ a ∷ (b ∷ r) → IsRotation xs (reverse (a ∷ (b ∷ t))) →
@@ -47,8 +46,7 @@ way_back a b xs r t once e h =
       after = refl;
     } in
     let same : xs ≡ ws = one_rotation a xs ws (b ∷ r) (reverse t ++ b ∷ []) once (IsRotation-trans h turned) e refl in
-    let P : List ℕ → Type 0 = λ v. HoldsOnce v in
-    ends_alike a b r t (subst P same once) (sym e ∙ same)
+    ends_alike a b r t (rw (← same) once) (sym e ∙ same)
 
 pub one_printed_form : (xs ys zs : List ℕ) → IsSizedTour xs → IsPrintedForm xs ys → IsPrintedForm xs zs → ys ≡ zs
 one_printed_form xs ys zs sized p q =
@@ -61,6 +59,5 @@ one_printed_form xs ys zs sized p q =
     ⊎_elim
     (λ (h : IsRotation ys zs). one_rotation 1 ys zs (get_or ys 1 0 ∷ k.0) (get_or ys 1 0 ∷ l.0) once h k.1 l.1)
     (λ (h : IsRotation ys (reverse zs)).
-    let P : List ℕ → Type 0 = λ v. IsRotation ys (reverse v) in
-    k.1 ∙ way_back 1 (get_or ys 1 0) ys k.0 l.0 once k.1 (subst P l.1 h) ∙ sym l.1)
+    k.1 ∙ way_back 1 (get_or ys 1 0) ys k.0 l.0 once k.1 (rw (← l.1) h) ∙ sym l.1)
     both

@@ -1,4 +1,4 @@
-use Rattle.std.proofs.Common.{◌≡◌, ◌<◌, ◌∷◌, ℕ, suc, List, length, get_or, subst, arith}
+use Rattle.std.proofs.Common.{◌≡◌, ◌<◌, ◌∷◌, ℕ, suc, List, length, get_or, arith}
 use Rattle.std.specs.Prelude.{All}
 use Rattle.std.proofs.lemmas.Int.{ints}
 use Rattle.std.proofs.lemmas.List.Elements.{All-get_or}
@@ -11,8 +11,7 @@ use Rattle.tk_tour.proofs.measure.length.Goals as goal
 city_in : (n first k : ℕ) (cities others : List ℕ) → cities ≡ first ∷ others → All (IsCity n) cities →
     k < length others → IsCity n (get_or others k 0)
 city_in n first k cities others e h lt =
-    let P : List ℕ → Type 0 = λ v. All (IsCity n) v in
-    All-get_or (IsCity n) (first ∷ others) (suc k) 0 (omega arith) (subst P e h)
+    All-get_or (IsCity n) (first ∷ others) (suc k) 0 (omega arith) (rw e at h)
 
 pub dist-total-requires-clause-b : goal.dist-total-requires-clause-b
 dist-total-requires-clause-b g c =

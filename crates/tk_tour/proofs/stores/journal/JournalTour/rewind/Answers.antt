@@ -1,5 +1,5 @@
-use Rattle.std.proofs.Common.{◌≡◌, ◌-◌, ◌++◌, ◌∷◌, [], ℕ, ap, ◌∙◌, sym, subst, length, arith}
-use Rattle.tk_tour.specs.Journal.{undone, AreFlipsOf}
+use Rattle.std.proofs.Common.{◌≡◌, ◌-◌, ◌++◌, ◌∷◌, [], ap, ◌∙◌, sym, length, arith}
+use Rattle.tk_tour.specs.Journal.{undone}
 use Rattle.tk_tour.proofs.StoredTours.Places.{length-reversed_places}
 use Rattle.tk_tour.proofs.StoredTours.Undoing.{undone_push, swaps_to_undo-push, AreFlipsOf-fewer}
 use Rattle.tk_tour.proofs.stores.journal.JournalTour.rewind.Goals as goal
@@ -46,5 +46,4 @@ invariant_of-self-clause-in_range g c =
     let e : h.self.journal.items ≡ rest ++ f ∷ [] = cc in
     let n : length (g.S.TourStore.cities c.undo.new.self) ≡ length order = ap length c.undo.ensures.places
     ∙ length-reversed_places (f.first - 1) f.count order in
-    let P : ℕ → Type 0 = λ v. AreFlipsOf v rest in
-    subst P (sym n) (AreFlipsOf-fewer (length order) rest h.self.journal.items f e h.self.in_range)
+    rw n (AreFlipsOf-fewer (length order) rest h.self.journal.items f e h.self.in_range)

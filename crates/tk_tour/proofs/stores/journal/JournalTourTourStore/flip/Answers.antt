@@ -1,5 +1,5 @@
-use Rattle.std.proofs.Common.{◌≡◌, ◌<◌, ◌-◌, ◌/◌, ap, ◌∙◌, refl, arith, length, sym, subst, ℕ}
-use Rattle.tk_tour.specs.Journal.{undone, AreFlipsOf}
+use Rattle.std.proofs.Common.{◌<◌, ◌-◌, ◌/◌, ap, ◌∙◌, refl, arith, length}
+use Rattle.tk_tour.specs.Journal.{undone}
 use Rattle.tk_tour.specs.ReversalLaws.{AreReversed-one}
 use Rattle.tk_tour.proofs.StoredTours.Undoing.{undone_flip, swaps_to_undo-push, swaps_to_undo-remembered}
 use Rattle.tk_tour.proofs.StoredTours.Undoing.{AreFlipsOf-remembered}
@@ -43,14 +43,12 @@ invariant_of-self g c =
     let f = c.flip-flip in
     let r = c.remember in
     let old = g.S.TourStore.cities s.tour in
-    let n : length old ≡ length (g.S.TourStore.cities f.new.self) = sym f.ensures.size in
-    let P : ℕ → Type 0 = λ v. AreFlipsOf v r.new.journal.items in
     record {
       room = r.ensures.room;
       within = r.ensures.within;
       complete = λ le. omega (arith, r.ensures.complete (omega arith));
       in_range =
-          subst P n
+          rw f.ensures.size
           (AreFlipsOf-remembered (length old) s.flips s.slots s.journal.items r.new.journal.items f.result s.in_range
           (f.ensures.first.0, f.ensures.first.1, f.ensures.shorter) r.ensures.recorded r.ensures.full);
       undoes_its_own =
