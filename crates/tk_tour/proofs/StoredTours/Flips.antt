@@ -11,7 +11,6 @@ use Rattle.std.specs.Prelude.{reverse}
 use Rattle.std.proofs.lemmas.List.{take-append-drop}
 use Rattle.tk_tour.specs.Tour.{occurrences}
 use Rattle.std.proofs.lemmas.List.{reverse-append, reverse-reverse, length-reverse}
-use Rattle.tk_tour.specs.Tour.{IsRotation}
 use Rattle.tk_tour.proofs.Cycle.{SameCycle-trans, IsRotation-append, IsPath-reverse}
 use Rattle.tk_tour.proofs.Once.{occurrences-rotation, occurrences-append, occurrences-reverse, ReplacesSteps-turn}
 use Rattle.tk_tour.proofs.Once.{ReplacesSteps-mirror}
@@ -19,7 +18,6 @@ use Rattle.tk_tour.proofs.Tours.{HoldsOnce-tour, city_at_place, next_city-inside
 use Rattle.tk_tour.proofs.Tours.{prev_city-start, city_in_range}
 use Rattle.tk_tour.proofs.StoredTours.Places.{IsRotation-begun_at, length-reversed_places, AtPlace, get_or-begun_at}
 use Rattle.tk_tour.proofs.StoredTours.Places.{SidesAre, path_reversed}
-use Rattle.tk_tour.proofs.StoredTours.Reversing.{at_place}
 
 -- q comes right after p, modulo n
 abbrev pub IsAfter : ℕ → ℕ → ℕ → Type 0
@@ -51,12 +49,11 @@ next_city-in order place a tour inverse ca =
     let at_a = city_at_place order place a tour inverse ca.0 ca.1 in
     let p : ℕ = get_or place (a - 1) 0 in
     let once = HoldsOnce-tour (length order) order tour in
-    let P : ℕ → Type 0 = λ v. IsCity (length order) v in
     let e0 : next_city order (get_or order p 0) ≡ next_city order a = ap (next_city order) at_a.1 in
     ⊎_elim
-    (λ (lt : p + 1 < length order). subst P (sym (next_city-inside order p once lt) ∙ e0)
+    (λ (lt : p + 1 < length order). rw (← e0, next_city-inside order p once lt)
     (city_in_range (length order) order (p + 1) tour lt))
-    (λ (le : length order ≤ p + 1). subst P (sym (next_city-end order p once (omega (arith, at_a.0))) ∙ e0)
+    (λ (le : length order ≤ p + 1). rw (← e0, next_city-end order p once (omega (arith, at_a.0)))
     (city_in_range (length order) order 0 tour (omega arith)))
     (cases_lt (p + 1) (length order))
 
@@ -67,34 +64,7 @@ PathPlaces n m pa pb pc pd = (0 < m) × (m < n) × AtPlace n pb 0 pb × AtPlace 
 -- the m places from pb to pc, where pb comes after pa and pd after pc
 path_places : (n m pa pb pc pd : ℕ) → pa < n → pb < n → pc < n → pd < n → pa ≢ pc → IsAfter n pa pb → IsAfter n pc pd →
     PathLength n m pb pc → PathPlaces n m pa pb pc pd
-path_places n m pa pb pc pd la lb lc ld ne ab cd e =
-    let some : 0 < m =
-    ⊎_elim (λ (z : (pb ≤ pc) × (m + pb ≡ pc + 1)). omega (arith, z))
-    (λ (z : (pc < pb) × (m + pb ≡ pc + n + 1)). omega (arith, z)) e in
-    let fewer : m < n =
-    ⊎_elim
-    (λ (x : (pa + 1 < n) × (pb ≡ pa + 1)). ⊎_elim (λ (z : (pb ≤ pc) × (m + pb ≡ pc + 1)). omega (arith, x, z))
-    (λ (z : (pc < pb) × (m + pb ≡ pc + n + 1)). omega (arith, ne, x, z)) e)
-    (λ (x : (pa + 1 ≡ n) × (pb ≡ 0)). ⊎_elim (λ (z : (pb ≤ pc) × (m + pb ≡ pc + 1)). omega (arith, ne, x, z))
-    (λ (z : (pc < pb) × (m + pb ≡ pc + n + 1)). absurd (omega (arith, x, z))) e)
-    ab in
-    let at_c : AtPlace n pb (m - 1) pc =
-    ⊎_elim (λ (z : (pb ≤ pc) × (m + pb ≡ pc + 1)). at_place n pb (m - 1) pc (inl (omega (arith, z), omega (arith, z))))
-    (λ (z : (pc < pb) × (m + pb ≡ pc + n + 1)). at_place n pb (m - 1) pc (inr (omega (arith, z), omega (arith, z))))
-    e in
-    let at_d : AtPlace n pb m pd =
-    ⊎_elim
-    (λ (y : (pc + 1 < n) × (pd ≡ pc + 1)). ⊎_elim
-    (λ (z : (pb ≤ pc) × (m + pb ≡ pc + 1)). at_place n pb m pd (inl (omega (arith, y, z), omega (arith, y, z))))
-    (λ (z : (pc < pb) × (m + pb ≡ pc + n + 1)). at_place n pb m pd (inr (omega (arith, y, z), omega (arith, y, z)))) e)
-    (λ (y : (pc + 1 ≡ n) × (pd ≡ 0)). ⊎_elim
-    (λ (z : (pb ≤ pc) × (m + pb ≡ pc + 1)). at_place n pb m pd (inr (omega (arith, y, z), omega (arith, y, z))))
-    (λ (z : (pc < pb) × (m + pb ≡ pc + n + 1)). absurd (omega (arith, y, z))) e)
-    cd in
-    let at_a : AtPlace n pb (n - 1) pa =
-    ⊎_elim (λ (x : (pa + 1 < n) × (pb ≡ pa + 1)). at_place n pb (n - 1) pa (inr (omega (arith, x), omega (arith, x))))
-    (λ (x : (pa + 1 ≡ n) × (pb ≡ 0)). at_place n pb (n - 1) pa (inl (omega (arith, x), omega (arith, x)))) ab in
-    (some, fewer, at_place n pb 0 pb (inl (omega arith, omega arith)), at_c, at_d, at_a)
+path_places n m pa pb pc pd la lb lc ld ne ab cd e = omega arith
 
 -- what reversing the path from b to c does, where it stands at m places
 pub flip_path : (order place : List ℕ) (a b c d m : ℕ) → IsTour (length order) order → IsInverse order place →
@@ -105,9 +75,8 @@ pub flip_path : (order place : List ℕ) (a b c d m : ℕ) → IsTour (length or
     × SidesAre order (length order - m) m a b c d
 flip_path order place a b c d m tour inverse ca cc' ne eb ed em =
     let n : ℕ = length order in
-    let P : ℕ → Type 0 = λ v. IsCity (length order) v in
-    let cb : IsCity (length order) b = subst P (sym eb) (next_city-in order place a tour inverse ca) in
-    let cd : IsCity (length order) d = subst P (sym ed) (next_city-in order place c tour inverse cc') in
+    let cb : IsCity (length order) b = rw eb (next_city-in order place a tour inverse ca) in
+    let cd : IsCity (length order) d = rw ed (next_city-in order place c tour inverse cc') in
     let at_a = city_at_place order place a tour inverse ca.0 ca.1 in
     let at_b = city_at_place order place b tour inverse cb.0 cb.1 in
     let at_c = city_at_place order place c tour inverse cc'.0 cc'.1 in
@@ -160,8 +129,7 @@ pub prev_city-in : (order place : List ℕ) (a : ℕ) → IsTour (length order) 
     IsCity (length order) a → IsCity (length order) (prev_city order a)
 prev_city-in order place a tour inverse ca =
     let h = prev_city-at order place a tour inverse ca in
-    let P : ℕ → Type 0 = λ v. IsCity (length order) v in
-    subst P (sym h.2) (city_in_range (length order) order h.0 tour h.1)
+    rw h.2 (city_in_range (length order) order h.0 tour h.1)
 
 pub next_city-prev_city : (order place : List ℕ) (a : ℕ) → IsTour (length order) order → IsInverse order place →
     IsCity (length order) a → next_city order (prev_city order a) ≡ a
@@ -173,12 +141,11 @@ pub backward : (order place : List ℕ) (a b c d : ℕ) → IsTour (length order
     IsCity (length order) a → IsCity (length order) c → a ≢ c →
     b ≡ prev_city order a → d ≡ prev_city order c → AreForward order d c b a
 backward order place a b c d tour inverse ca cc' ne eb ed =
-    let P : ℕ → Type 0 = λ v. IsCity (length order) v in
     let na : next_city order b ≡ a = ap (next_city order) eb ∙ next_city-prev_city order place a tour inverse ca in
     let nc : next_city order d ≡ c = ap (next_city order) ed ∙ next_city-prev_city order place c tour inverse cc' in
     record {
-      a_in = subst P (sym ed) (prev_city-in order place c tour inverse cc');
-      c_in = subst P (sym eb) (prev_city-in order place a tour inverse ca);
+      a_in = rw ed (prev_city-in order place c tour inverse cc');
+      c_in = rw eb (prev_city-in order place a tour inverse ca);
       apart = λ e. ne (sym na ∙ ap (next_city order) (sym e) ∙ nc);
       b_after = sym nc;
       d_after = sym na;
@@ -213,8 +180,11 @@ IsTour-reversed_places n k m xs h =
 pub IsSizedTour-reversed_places : (k m : ℕ) (xs : List ℕ) → IsSizedTour xs → IsSizedTour (reversed_places k m xs)
 IsSizedTour-reversed_places k m xs h =
     let l : length (reversed_places k m xs) ≡ length xs = length-reversed_places k m xs in
-    let P : ℕ → Type 0 = λ v. IsTour v (reversed_places k m xs) in
-    (omega (arith, l, h.0), omega (arith, l, h.1), subst P (sym l) (IsTour-reversed_places (length xs) k m xs h.2))
+    (
+      omega (arith, l, h.0),
+      omega (arith, l, h.1),
+      subst (λ v. IsTour v (reversed_places k m xs)) (sym l) (IsTour-reversed_places (length xs) k m xs h.2),
+    )
 
 -- the same, for places under names
 pub flip_inner : (order place : List ℕ) (a b c d m pb pc : ℕ) → IsTour (length order) order → IsInverse order place →
@@ -223,40 +193,15 @@ pub flip_inner : (order place : List ℕ) (a b c d m pb pc : ℕ) → IsTour (le
     (0 < m) × (m < length order) × ReplacesSteps order (reversed_places pb m order) a b c d
     × SidesAre order (length order - m) m a b c d
 flip_inner order place a b c d m pb pc tour inverse ca cc' ne eb ed epb epc em =
-    let qb : ℕ = get_or place (b - 1) 0 in
-    let qc : ℕ = get_or place (c - 1) 0 in
-    let em' : PathLength (length order) m qb qc =
-    ⊎_elim
-    (λ (z : (pb ≤ pc) × (m + pb ≡ pc + 1)). inl (omega (arith, z, epb, epc), omega (arith, z, epb, epc)))
-    (λ (z : (pc < pb) × (m + pb ≡ pc + length order + 1)). inr (omega (arith, z, epb, epc), omega (arith, z, epb, epc)))
-    em in
+    let em' : PathLength (length order) m (get_or place (b - 1) 0) (get_or place (c - 1) 0) = rw (← epb, ← epc) em in
     let h = flip_path order place a b c d m tour inverse ca cc' ne eb ed em' in
-    let P : ℕ → Type 0 = λ v. ReplacesSteps order (reversed_places v m order) a b c d in
-    (h.0, h.1, subst P (sym epb) h.3, h.4)
+    (h.0, h.1, rw epb h.3, h.4)
 
 -- the length of the other side
 other_side : (n m pa pb pc pd : ℕ) → pa < n → pc < n → pa ≢ pc → IsAfter n pa pb → IsAfter n pc pd →
     PathLength n m pb pc → PathLength n (n - m) pd pa
 other_side n m pa pb pc pd la lc ne ab cd e =
-    ⊎_elim
-    (λ (x : (pa + 1 < n) × (pb ≡ pa + 1)). ⊎_elim
-    (λ (y : (pc + 1 < n) × (pd ≡ pc + 1)). ⊎_elim
-    (λ (z : (pb ≤ pc) × (m + pb ≡ pc + 1)). inr (omega (arith, x, y, z), omega (arith, x, y, z)))
-    (λ (z : (pc < pb) × (m + pb ≡ pc + n + 1)). inl (omega (arith, ne, x, y, z), omega (arith, ne, x, y, z)))
-    e)
-    (λ (y : (pc + 1 ≡ n) × (pd ≡ 0)). ⊎_elim
-    (λ (z : (pb ≤ pc) × (m + pb ≡ pc + 1)). inl (omega (arith, x, y, z), omega (arith, x, y, z)))
-    (λ (z : (pc < pb) × (m + pb ≡ pc + n + 1)). absurd (omega (arith, x, y, z)))
-    e)
-    cd)
-    (λ (x : (pa + 1 ≡ n) × (pb ≡ 0)). ⊎_elim
-    (λ (y : (pc + 1 < n) × (pd ≡ pc + 1)). ⊎_elim
-    (λ (z : (pb ≤ pc) × (m + pb ≡ pc + 1)). inl (omega (arith, ne, x, y, z), omega (arith, x, y, z)))
-    (λ (z : (pc < pb) × (m + pb ≡ pc + n + 1)). absurd (omega (arith, x, y, z)))
-    e)
-    (λ (y : (pc + 1 ≡ n) × (pd ≡ 0)). absurd (ne (omega (arith, x, y))))
-    cd)
-    ab
+    ⊎_elim (λ (less : pa < pd). inr (omega arith)) (λ (le : pd ≤ pa). inl (omega arith)) (cases_lt pa pd)
 
 -- the other side: the path from d to a has the places that are left
 pub flip_outer : (order place : List ℕ) (a b c d m pb pc pd : ℕ) → IsTour (length order) order → IsInverse order place →
@@ -274,10 +219,7 @@ flip_outer order place a b c d m pb pc pd tour inverse ca cc' ne eb ed epb epc e
     let outer : PathLength n (n - m) pd pa =
     other_side n m pa pb pc pd at_a.0 (omega (arith, epc, at_c.0))
     (λ e. ne (sym at_a.1 ∙ ap (λ v. get_or order v 0) (e ∙ epc) ∙ at_c.1))
-    (let P : ℕ → Type 0 = λ v. IsAfter n pa v in subst P (sym epb) ab)
-    (let P : ℕ → Type 0 = λ v. IsAfter n v pd in
-    subst P (sym epc) (let Q : ℕ → Type 0 = λ v. IsAfter n (get_or place (c - 1) 0) v in subst Q (sym epd) cd))
-    em in
+    (rw epb ab) (rw (epc, epd) cd) em in
     let h = flip_inner order place c d a b (n - m) pd pa tour inverse cc' ca (λ e. ne (sym e)) ed eb epd refl outer in
     ReplacesSteps-turn a b c d order (reversed_places pd (n - m) order) h.2
 
@@ -314,9 +256,8 @@ prev_city_stored order k x c tour lt e h =
 -- the same sides, read backward
 pub IsShorterSide-backward : (xs : List ℕ) (n a b c d : ℕ) → IsShorterSide xs n d c b a → IsShorterSide xs n a b c d
 IsShorterSide-backward xs n a b c d h = λ front back pf pb g.
-    let P : List ℕ → Type 0 = λ v. IsRotation (front ++ back) v in
     let e : reverse (reverse front ++ reverse back) ≡ back ++ front = simp (reverse-append, reverse-reverse) in
     let g2 : SameCycle (front ++ back) (reverse front ++ reverse back) =
-    inr (subst P (sym e) (IsRotation-append front back)) in
+    inr (rw e (IsRotation-append front back)) in
     let k = h (reverse front) (reverse back) (IsPath-reverse pf) (IsPath-reverse pb) (SameCycle-trans g g2) in
     omega (arith, k, length-reverse front, length-reverse back)

@@ -27,9 +27,7 @@ Renumbering-none xs place tour l =
           (λ (a : j ≤ i). ⊎_elim (λ (b : j < i). absurd (places_differ xs j i once b li (sym e)))
           (λ (b : i ≤ j). omega (arith, a, b)) (cases_lt j i))
           (cases_lt i j);
-      told =
-          λ i li side. absurd
-          (⊎_elim (λ (a : i < 0). omega (arith, a)) (λ (a : length xs ≤ i). omega (arith, a, li)) side);
+      told = λ i li side. absurd (omega arith);
     }
 
 pub Renumbering-more : (order place : List ℕ) (k last : ℕ) → Renumbering order place k last → k < length order →

@@ -1,6 +1,6 @@
 -- One exchange of a reversal, on the order and the place array.
 use Rattle.std.proofs.Common.{◌≡◌, ◌≢◌, ℕ, ◌+◌, ◌-◌, ◌<◌, ◌≤◌, ◌/◌, ◌⊎◌, ⊎_elim, inl, inr, List, length, set, refl, sym}
-use Rattle.std.proofs.Common.{ap, ◌∙◌, subst, arith, get_or}
+use Rattle.std.proofs.Common.{ap, ◌∙◌, arith, get_or}
 use Rattle.std.proofs.lemmas.List.{length-set, get_or-set_same, get_or-set_other}
 use Rattle.std.proofs.lemmas.Bool.{cases_lt, cases_eq}
 use Rattle.tk_tour.specs.Reversal.{begun_at, reversed_places, IsInverse}
@@ -37,12 +37,10 @@ IsInverse-exchange order place i j x y h li lj ne ex ey =
     get_or-set_same (set order i y) j x 0 (omega (arith, length-set order i y)) in
     let all : (k : ℕ) → k < n → P k (get_or (set (set order i y) j x) k 0) = λ k lk.
     ⊎_elim
-    (λ (e : k ≡ j). let Q : ℕ → Type 0 = λ v. P v (get_or (set (set order i y) j x) v 0) in
-    subst Q (sym e) (let R : ℕ → Type 0 = λ v. P j v in subst R (sym value_j) here_j))
+    (λ (e : k ≡ j). rw (e, value_j) here_j)
     (λ (nj : k ≢ j).
     ⊎_elim
-    (λ (e : k ≡ i). let Q : ℕ → Type 0 = λ v. P v (get_or (set (set order i y) j x) v 0) in
-    subst Q (sym e) (let R : ℕ → Type 0 = λ v. P i v in subst R (sym value_i) here_i))
+    (λ (e : k ≡ i). rw (e, value_i) here_i)
     (λ (ni : k ≢ i).
     let z : ℕ = get_or order k 0 in
     let at_k = h.1 k lk in
@@ -50,14 +48,12 @@ IsInverse-exchange order place i j x y h li lj ne ex ey =
     ∙ get_or-set_other order i k y 0 ni in
     let zx : z - 1 ≢ x - 1 = λ e. ni (sym at_k.2 ∙ ap (λ v. get_or place v 0) e ∙ px) in
     let zy : z - 1 ≢ y - 1 = λ e. nj (sym at_k.2 ∙ ap (λ v. get_or place v 0) e ∙ py) in
-    let here : P k z = (
+    rw value_k (
       at_k.0,
       omega (arith, at_k.1),
       get_or-set_other (set place (y - 1) i) (x - 1) (z - 1) j 0 zx
           ∙ get_or-set_other place (y - 1) (z - 1) i 0 zy ∙ at_k.2,
-    ) in
-    let R : ℕ → Type 0 = λ v. P k v in
-    subst R (sym value_k) here)
+    ))
     (cases_eq k i))
     (cases_eq k j) in
     (lp ∙ sym lo, λ k lk. all k (omega (arith, lo)))
@@ -83,61 +79,21 @@ place_cases n f i p h =
     ⊎_elim (λ (low : f + i < n). inl (low, h.0 low)) (λ (high : n ≤ f + i). inr (high, h.1 high)) (cases_lt (f + i) n)
 
 pub at_place : (n f i p : ℕ) → PlaceCases n f i p → AtPlace n f i p
-at_place n f i p h =
-    ⊎_elim
-    (λ (c : (f + i < n) × (p ≡ f + i)). ((λ (a : f + i < n). c.1), (λ (a : n ≤ f + i). absurd (omega (arith, c)))))
-    (λ (c : (n ≤ f + i) × (p + n ≡ f + i)). ((λ (a : f + i < n). absurd (omega (arith, c))), (λ (a : n ≤ f + i). c.1)))
-    h
+at_place n f i p h = omega arith
 
 -- two places modulo n are equal only for the same entry
 pub places_apart : (n f i j p q : ℕ) → i < n → j < n → AtPlace n f i p → AtPlace n f j q → i ≢ j → p ≢ q
-places_apart n f i j p q li lj h k ne e =
-    ⊎_elim
-    (λ (a : (f + i < n) × (p ≡ f + i)). ⊎_elim
-    (λ (b : (f + j < n) × (q ≡ f + j)). ne (omega (arith, a, b)))
-    (λ (b : (n ≤ f + j) × (q + n ≡ f + j)). ne (omega (arith, a, b)))
-    (place_cases n f j q k))
-    (λ (a : (n ≤ f + i) × (p + n ≡ f + i)). ⊎_elim
-    (λ (b : (f + j < n) × (q ≡ f + j)). ne (omega (arith, a, b)))
-    (λ (b : (n ≤ f + j) × (q + n ≡ f + j)). ne (omega (arith, a, b)))
-    (place_cases n f j q k))
-    (place_cases n f i p h)
+places_apart n f i j p q li lj h k ne = omega (arith, place_cases n f i p h, place_cases n f j q k)
 
 -- the place after, modulo n
 pub at_next : (n f i p q : ℕ) → f < n → i < n → AtPlace n f i p → ((p + 1 ≡ n) × (q ≡ 0))
     ⊎ ((p + 1 < n) × (q ≡ p + 1)) → AtPlace n f (i + 1) q
-at_next n f i p q lf li h cases =
-    at_place n f (i + 1) q
-    (⊎_elim
-    (λ (a : (f + i < n) × (p ≡ f + i)). ⊎_elim
-    (λ (b : (p + 1 ≡ n) × (q ≡ 0)). inr (omega (arith, a, b), omega (arith, a, b)))
-    (λ (b : (p + 1 < n) × (q ≡ p + 1)). inl (omega (arith, a, b), omega (arith, a, b)))
-    cases)
-    (λ (a : (n ≤ f + i) × (p + n ≡ f + i)). ⊎_elim
-    (λ (b : (p + 1 ≡ n) × (q ≡ 0)). absurd (omega (arith, a, b)))
-    (λ (b : (p + 1 < n) × (q ≡ p + 1)). inr (omega (arith, a, b), omega (arith, a, b)))
-    cases)
-    (place_cases n f i p h))
+at_next n f i p q lf li h cases = omega (arith, place_cases n f i p h)
 
 -- the place before, modulo n
 pub at_previous : (n f i j p q : ℕ) → i ≡ j + 1 → f < n → i ≤ n → AtPlace n f i p → ((p ≡ 0) × (q + 1 ≡ n))
     ⊎ ((0 < p) × (q + 1 ≡ p)) → AtPlace n f j q
-at_previous n f i j p q e lf li h cases =
-    ⊎_elim
-    (λ (c : (p ≡ 0) × (q + 1 ≡ n)).
-    ⊎_elim
-    (λ (low : f + i < n). let k = h.0 low in absurd (omega (arith, k, c.0)))
-    (λ (high : n ≤ f + i). let k = h.1 high in
-    ((λ (a : f + j < n). omega (arith, k, c)), (λ (a : n ≤ f + j). omega (arith, k, c))))
-    (cases_lt (f + i) n))
-    (λ (c : (0 < p) × (q + 1 ≡ p)).
-    ⊎_elim
-    (λ (low : f + i < n). let k = h.0 low in
-    ((λ (a : f + j < n). omega (arith, k, c)), (λ (a : n ≤ f + j). omega (arith, k, c))))
-    (λ (high : n ≤ f + i). let k = h.1 high in
-    ((λ (a : f + j < n). omega (arith, k, c)), (λ (a : n ≤ f + j). omega (arith, k, c))))
-    (cases_lt (f + i) n))
-    cases
+at_previous n f i j p q e lf li h cases = omega (arith, place_cases n f i p h)
 
 pub Mirroring-more : (n first count t low high low' high' x y : ℕ) (start order : List ℕ) →
     Mirroring n first count t low high start order → first < n → count ≤ n → t < count / 2 →
@@ -153,9 +109,7 @@ Mirroring-more n first count t low high low' high' x y start order h lf lc lt eh
     let cases : ((high ≡ 0) × (high' + 1 ≡ n)) ⊎ ((0 < high) × (high' + 1 ≡ high)) =
     ⊎_elim (λ (p : 0 < high). inr (p, eh.1 p)) (λ (p : high ≤ 0). let z : high ≡ 0 = omega arith in inl (z, eh.0 z))
     (cases_lt 0 high) in
-    let high_in : high' < n =
-    ⊎_elim (λ (p : (high ≡ 0) × (high' + 1 ≡ n)). omega (arith, p))
-    (λ (p : (0 < high) × (high' + 1 ≡ high)). omega (arith, p, h.high_at.0)) cases in
+    let high_in : high' < n = omega (arith, cases, h.high_at.0) in
     let at_low : AtPlace n first t low = h.low_at.1 in
     let at_high : AtPlace n first j high' = at_previous n first (count - t) j high high' (omega arith) lf (omega arith)
     h.high_at.1 cases in
@@ -164,21 +118,17 @@ Mirroring-more n first count t low high low' high' x y start order h lf lc lt eh
     let ups : ((low + 1 ≡ n) × (low' ≡ 0)) ⊎ ((low + 1 < n) × (low' ≡ low + 1)) =
     ⊎_elim (λ (p : low + 1 < n). inr (p, el.1 p)) (λ (p : n ≤ low + 1). let z : low + 1 ≡ n =
     omega (arith, h.low_at.0) in inl (z, el.0 z)) (cases_lt (low + 1) n) in
-    let low_in : low' < n =
-    ⊎_elim (λ (p : (low + 1 ≡ n) × (low' ≡ 0)). omega (arith, p))
-    (λ (p : (low + 1 < n) × (low' ≡ low + 1)). omega (arith, p)) ups in
+    let low_in : low' < n = omega (arith, ups, h.low_at.0) in
     let ys : List ℕ = begun_at first order in
-    let Q : ℕ → Type 0 = λ v. AtPlace v first t low in
-    let R : ℕ → Type 0 = λ v. AtPlace v first j high' in
     let ex' : x ≡ get_or ys t 0 = ex
-    ∙ sym (get_or-begun_at order first t low 0 (omega arith) (omega arith) (subst Q (sym e0) at_low)) in
+    ∙ sym (get_or-begun_at order first t low 0 (omega arith) (omega arith) (rw e0 at_low)) in
     let ey' : y ≡ get_or ys j 0 = ey
-    ∙ sym (get_or-begun_at order first j high' 0 (omega arith) (omega arith) (subst R (sym e0) at_high)) in
+    ∙ sym (get_or-begun_at order first j high' 0 (omega arith) (omega arith) (rw e0 at_high)) in
     let e2 : length (set order low y) ≡ n = length-set order low y ∙ e0 in
     let moved : begun_at first (set (set order low y) high' x) ≡ set (set ys t y) j x =
-    begun_at-set (set order low y) first j high' x (omega arith) (omega arith) (subst R (sym e2) at_high)
+    begun_at-set (set order low y) first j high' x (omega arith) (omega arith) (rw e2 at_high)
     ∙ ap (λ v. set v j x)
-    (begun_at-set order first t low y (omega arith) (omega arith) (subst Q (sym e0) at_low)) in
+    (begun_at-set order first t low y (omega arith) (omega arith) (rw e0 at_low)) in
     let more : MirroredTo (t + 1) count (begun_at first start) (set (set ys t y) j x) =
     MirroredTo-more t count (begun_at first start) ys j x y h.mirrored two (omega (arith, length-begun_at first start))
     refl ex' ey' in (
@@ -186,9 +136,8 @@ Mirroring-more n first count t low high low' high' x y start order h lf lc lt eh
       record {
         lengths = (e1, length-set (set order low y) high' x ∙ e2);
         low_at = (low_in, at_next n first t low low' lf (omega arith) at_low ups);
-        high_at = (high_in, let S : ℕ → Type 0 = λ v. AtPlace n first v high' in subst S (omega arith) at_high);
-        mirrored = let S : List ℕ → Type 0 = λ v. MirroredTo (t + 1) count (begun_at first start) v in
-            subst S (sym moved) more;
+        high_at = (high_in, omega arith);
+        mirrored = rw moved more;
       },
     )
 

@@ -1,6 +1,6 @@
 -- The places of a list from `first` on, up to `last`, in reverse order.
-use Rattle.std.proofs.Common.{◌≡◌, ℕ, ◌+◌, ◌-◌, ◌<◌, ◌≤◌, ◌⊎◌, ⊎_elim, inl, inr, List, ◌++◌, length, take, drop, sym}
-use Rattle.std.proofs.Common.{ap, ◌∙◌, arith, get_or}
+use Rattle.std.proofs.Common.{◌≡◌, ℕ, ◌+◌, ◌-◌, ◌<◌, ◌≤◌, ◌⊎◌, ⊎_elim, inl, inr, List, ◌++◌, length, take, drop, refl}
+use Rattle.std.proofs.Common.{sym, ap, ◌∙◌, arith, get_or}
 use Rattle.std.specs.Prelude.{reverse}
 use Rattle.std.proofs.lemmas.List.{append_assoc, length-append, length-take, length-take-le, length-drop}
 use Rattle.std.proofs.lemmas.List.{length-reverse, take_at, drop_at, take-append-le, drop-append-le, get_or-take}
@@ -77,8 +77,8 @@ record StoodAt (first count : ℕ) (xs : List ℕ) (i : ℕ) : Type 0 where
   pub place : ℕ
   pub within : place < length xs
   pub same : get_or (turned_within first count xs) i 0 ≡ get_or xs place 0
-  pub inside : first ≤ i → i < first + count → place + i + 1 ≡ first + first + count
-  pub outside : (i < first) ⊎ (first + count ≤ i) → place ≡ i
+  pub stands : (((i < first) ⊎ (first + count ≤ i)) × (place ≡ i))
+      ⊎ ((first ≤ i) × (i < first + count) × (place + i + 1 ≡ first + first + count))
 
 stood_at : (first count : ℕ) (xs : List ℕ) (i : ℕ) → first + count ≤ length xs → i < length xs →
     StoodAt first count xs i
@@ -87,22 +87,16 @@ stood_at first count xs i le lt =
       place = i;
       within = lt;
       same = kept_at first count xs i le side;
-      inside =
-          λ from to. ⊎_elim (λ (a : i < first). absurd (omega (arith, a, from)))
-          (λ (b : first + count ≤ i). absurd (omega (arith, b, to))) side;
-      outside = λ _. omega arith;
+      stands = inl (side, refl);
     } in
     ⊎_elim
     (λ (below : i < first). kept (inl below))
     (λ (from : first ≤ i). ⊎_elim
     (λ (to : i < first + count). record {
       place = first + (first + count - 1 - i);
-      within = omega (arith, le, from, to);
+      within = omega arith;
       same = turned_at first count xs i le from to;
-      inside = λ _ _. omega (arith, from, to);
-      outside =
-          λ side. ⊎_elim (λ (a : i < first). absurd (omega (arith, a, from)))
-          (λ (b : first + count ≤ i). absurd (omega (arith, b, to))) side;
+      stands = inr (from, to, omega arith);
     })
     (λ (above : first + count ≤ i). kept (inr above))
     (cases_lt i (first + count)))
@@ -127,32 +121,8 @@ Renumbering-begin first count xs place le inverse =
           let t = at j lj in
           let one : s.place ≡ t.place = sym (inverse.1 s.place s.within).2
           ∙ ap (λ v. get_or place (v - 1) 0) (sym s.same ∙ same ∙ t.same) ∙ (inverse.1 t.place t.within).2 in
-          ⊎_elim
-          (λ (a : i < first). ⊎_elim
-          (λ (b : j < first). sym (s.outside (inl a)) ∙ one ∙ t.outside (inl b))
-          (λ (b : first ≤ j). ⊎_elim
-          (λ (c : j < first + count). absurd (omega (arith, one, s.outside (inl a), t.inside b c, a, b, c)))
-          (λ (c : first + count ≤ j). sym (s.outside (inl a)) ∙ one ∙ t.outside (inr c))
-          (cases_lt j (first + count)))
-          (cases_lt j first))
-          (λ (a : first ≤ i). ⊎_elim
-          (λ (d : i < first + count). ⊎_elim
-          (λ (b : j < first). absurd (omega (arith, one, s.inside a d, t.outside (inl b), a, b, d)))
-          (λ (b : first ≤ j). ⊎_elim
-          (λ (c : j < first + count). omega (arith, one, s.inside a d, t.inside b c))
-          (λ (c : first + count ≤ j). absurd (omega (arith, one, s.inside a d, t.outside (inr c), a, c, d)))
-          (cases_lt j (first + count)))
-          (cases_lt j first))
-          (λ (d : first + count ≤ i). ⊎_elim
-          (λ (b : j < first). sym (s.outside (inr d)) ∙ one ∙ t.outside (inl b))
-          (λ (b : first ≤ j). ⊎_elim
-          (λ (c : j < first + count). absurd (omega (arith, one, s.outside (inr d), t.inside b c, b, c, d)))
-          (λ (c : first + count ≤ j). sym (s.outside (inr d)) ∙ one ∙ t.outside (inr c))
-          (cases_lt j (first + count)))
-          (cases_lt j first))
-          (cases_lt i (first + count)))
-          (cases_lt i first);
+          omega (arith, one, s.stands, t.stands);
       told = λ i li side.
           let s = at i li in
-          ap (λ v. get_or place (v - 1) 0) s.same ∙ (inverse.1 s.place s.within).2 ∙ s.outside side;
+          ap (λ v. get_or place (v - 1) 0) s.same ∙ (inverse.1 s.place s.within).2 ∙ omega (arith, s.stands, side);
     }

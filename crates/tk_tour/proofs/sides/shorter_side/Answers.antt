@@ -6,14 +6,7 @@ use Rattle.tk_tour.proofs.sides.shorter_side.Goals.{else-city_after-b-via-then-c
 use Rattle.tk_tour.proofs.sides.shorter_side.Goals.{else-city_after-b-via-else-city_after-b}
 
 pub side_ahead-requires : goal.side_ahead-requires
-side_ahead-requires g c =
-    record {
-      a_in = c.requires.a_in;
-      c_in = c.requires.c_in;
-      apart = c.requires.apart;
-      b_after = omega arith;
-      d_after = omega arith;
-    }
+side_ahead-requires g c = omega arith
 
 pub side_ahead-requires-else-city_after-b : goal.side_ahead-requires-else-city_after-b
 side_ahead-requires-else-city_after-b g c =

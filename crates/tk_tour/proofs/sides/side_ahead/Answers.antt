@@ -8,11 +8,12 @@ place_of-start-requires g c =
 
 pub path_length-inner-requires : goal.path_length-inner-requires
 path_length-inner-requires g c =
-    record {
-      size = omega (arith, c.city_count-n.ensures, g.met.S.Placed.is_tour c.args.tour.now);
-      from_in = omega (arith, c.city_count-n.ensures, c.place_of-start.ensures.within);
-      to_in = omega (arith, c.city_count-n.ensures, c.place_of.ensures.within);
-    }
+    omega (
+      arith,
+      g.met.S.Placed.is_tour c.args.tour.now,
+      c.place_of-start.ensures.within,
+      c.place_of.ensures.within,
+    )
 
 pub returns-then-inner-n : goal.returns-then-inner-n
 returns-then-inner-n g c =
