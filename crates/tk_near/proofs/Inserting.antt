@@ -11,6 +11,18 @@ use native.Mathlib.Numerals.{unary_clauses}
 use Rattle.std.proofs.lemmas.Bool.Decides.{nat_tests}
 use Rattle.tk_near.specs.Keeping.{Rising, Climbing, insert_by}
 
+-- x and the first of a list
+pub insert_before : {X : Type 0} (f : X → ℕ) (x z : X) (zs : List X) → f x < f z → insert_by f x (z ∷ zs) ≡ x ∷ z ∷ zs
+insert_before f x z zs l =
+    let e : nat_lt (f x) (f z) ≡ true = grind (arith, nat_tests) in
+    ap (λ v. cond v (x ∷ z ∷ zs) (z ∷ insert_by f x zs)) e
+
+pub insert_after : {X : Type 0} (f : X → ℕ) (x z : X) (zs : List X) → f z ≤ f x →
+    insert_by f x (z ∷ zs) ≡ z ∷ insert_by f x zs
+insert_after f x z zs l =
+    let e : nat_lt (f x) (f z) ≡ false = grind (arith, nat_tests) in
+    ap (λ v. cond v (x ∷ z ∷ zs) (z ∷ insert_by f x zs)) e
+
 -- the first k need no more than the first k
 pub take-insert_by : {X : Type 0} (f : X → ℕ) (x : X) (k : ℕ) (xs : List X) →
     take k (insert_by f x (take k xs)) ≡ take k (insert_by f x xs)
@@ -57,14 +69,11 @@ Rising-insert_by f x (y ∷ ys) h a =
 pub insert_by-below : {X : Type 0} (f : X → ℕ) (x : X) (i : ℕ) (xs : List X) (d : X) → Climbing f xs → i < length xs →
     f (get_or xs i d) ≤ f x → insert_by f x xs ≡ take (suc i) xs ++ insert_by f x (drop (suc i) xs)
 insert_by-below f x i [] d h l b = absurd (omega arith)
-insert_by-below f x zero (y ∷ ys) d h l b =
-    let e : nat_lt (f x) (f y) ≡ false = grind (arith, nat_tests) in
-    ap (λ v. cond v (x ∷ y ∷ ys) (y ∷ insert_by f x ys)) e
+insert_by-below f x zero (y ∷ ys) d h l b = insert_after f x y ys b
 insert_by-below f x (suc i) (y ∷ ys) d h l b =
     let l' : i < length ys = omega arith in
     let n : f y ≤ f (get_or ys i d) = h.0 i d l' in
-    let e : nat_lt (f x) (f y) ≡ false = grind (arith, nat_tests) in
-    ap (λ v. cond v (x ∷ y ∷ ys) (y ∷ insert_by f x ys)) e ∙ ap (λ v. y ∷ v) (insert_by-below f x i ys d h.1 l' b)
+    insert_after f x y ys (omega arith) ∙ ap (λ v. y ∷ v) (insert_by-below f x i ys d h.1 l' b)
 
 pub Climbing-take : {X : Type 0} (f : X → ℕ) (k : ℕ) (xs : List X) → Climbing f xs → Climbing f (take k xs)
 Climbing-take f zero xs h = tt
@@ -77,8 +86,7 @@ length-insert_by f x xs = length_permutation (x ∷ xs) (insert_by f x xs) (IsPe
 -- before the last
 pub insert_by-front : {X : Type 0} (f : X → ℕ) (x z : X) (xs : List X) → f x < f z →
     insert_by f x (xs ++ z ∷ []) ≡ insert_by f x xs ++ z ∷ []
-insert_by-front f x z [] l =
-    let e : nat_lt (f x) (f z) ≡ true = grind (arith, nat_tests) in ap (λ v. cond v (x ∷ z ∷ []) (z ∷ x ∷ [])) e
+insert_by-front f x z [] l = insert_before f x z [] l
 insert_by-front f x z (y ∷ ys) l =
     elim (nat_lt (f x) (f y)) as (λ b. cond b (x ∷ y ∷ (ys ++ z ∷ [])) (y ∷ insert_by f x (ys ++ z ∷ [])) ≡ cond b
     (x ∷ y ∷ ys) (y ∷ insert_by f x ys) ++ z ∷ []) [
@@ -113,10 +121,7 @@ insert_by-pop f x (suc k) xs d e l b =
 pub insert_by-append : {X : Type 0} (f : X → ℕ) (x : X) (xs zs : List X) → All (λ z. f x < f z) zs →
     insert_by f x (xs ++ zs) ≡ insert_by f x xs ++ zs
 insert_by-append f x [] [] l = refl
-insert_by-append f x [] (z ∷ zs) l =
-    let b : f x < f z = All-head (λ z. f x < f z) z zs l in
-    let e : nat_lt (f x) (f z) ≡ true = grind (arith, nat_tests) in
-    ap (λ v. cond v (x ∷ z ∷ zs) (z ∷ insert_by f x zs)) e
+insert_by-append f x [] (z ∷ zs) l = insert_before f x z zs (All-head (λ z. f x < f z) z zs l)
 insert_by-append f x (y ∷ ys) zs l =
     elim (nat_lt (f x) (f y)) as (λ b. cond b (x ∷ y ∷ (ys ++ zs)) (y ∷ insert_by f x (ys ++ zs)) ≡ cond b (x ∷ y ∷ ys)
     (y ∷ insert_by f x ys) ++ zs) [

@@ -1,14 +1,13 @@
 -- A candidate goes to its place in a list that keeps its length.
 use Rattle.std.proofs.Common.{◌≡◌, ℕ, zero, suc, ◌+◌, ◌-◌, ◌<◌, ◌≤◌, ◌⊎◌, ⊎_elim, inl, inr, List, [], ◌∷◌, ◌++◌, length}
-use Rattle.std.proofs.Common.{take, drop, set, refl, sym, ap, ◌∙◌, arith, true, cond, get_or}
-use Rattle.std.specs.Prelude.{nat_lt, insert}
+use Rattle.std.proofs.Common.{take, drop, set, refl, sym, ap, ◌∙◌, arith, get_or}
+use Rattle.std.specs.Prelude.{insert}
 use Rattle.std.proofs.lemmas.List.Edits.{get_or-insert_above, get_or-insert_below}
 use Rattle.std.proofs.lemmas.List.{get_or-take, length-take-le}
-use Rattle.std.proofs.lemmas.Bool.Decides.{nat_tests}
 use native.Mathlib.Numerals.{unary_clauses}
 use Rattle.tk_near.specs.declared.candidates.Candidate.{Candidate}
 use Rattle.tk_near.specs.Keeping.{AreOpenFrom, Climbing, insert_by, rank}
-use Rattle.tk_near.proofs.Inserting.{Climbing-take, insert_by-below, insert_by-pop}
+use Rattle.tk_near.proofs.Inserting.{Climbing-take, insert_before, insert_by-below, insert_by-pop}
 
 pub drop-take_same : {X : Type 0} (n : ℕ) (xs : List X) → drop n (take n xs) ≡ []
 drop-take_same zero xs = refl
@@ -32,9 +31,7 @@ set_below (suc j) (z ∷ zs) y d l = ap (λ v. z ∷ v) (set_below j zs y d (ome
 pub insert_by-drop : {X : Type 0} (f : X → ℕ) (x : X) (j : ℕ) (xs : List X) (d : X) → j < length xs →
     f x < f (get_or xs j d) → insert_by f x (drop j xs) ≡ x ∷ drop j xs
 insert_by-drop f x j [] d l b = absurd (omega arith)
-insert_by-drop f x zero (y ∷ ys) d l b =
-    let e : nat_lt (f x) (f y) ≡ true = grind (arith, nat_tests) in
-    ap (λ v. cond v (x ∷ y ∷ ys) (y ∷ insert_by f x ys)) e
+insert_by-drop f x zero (y ∷ ys) d l b = insert_before f x y ys b
 insert_by-drop f x (suc j) (y ∷ ys) d l b = insert_by-drop f x j ys d (omega arith) b
 
 -- what the loop keeps: some y stands at i among the others, and x goes before those from i on
@@ -134,11 +131,11 @@ pub still_open : (x y : Candidate) (n i end filled : ℕ) (xs kept new : List Ca
 still_open x y n i end filled xs kept new l ends opens low is written size = λ j d a b.
     let m : length (take n xs) ≡ n = length-take-le n xs (omega arith) in
     let now : new ≡ insert (take n xs) i x = written ∙ ap (λ v. set v i x) is
-    ∙ set_inserted i (take n xs) y x (⊎_elim (λ e. omega arith) (λ e. omega arith) ends) in
+    ∙ set_inserted i (take n xs) y x (omega arith) in
     let next : j - 1 + 1 ≡ j = omega arith in
     let behind : get_or new (j - 1 + 1) d ≡ get_or xs (j - 1) d =
     ap (λ v. get_or v (j - 1 + 1) d) now
-    ∙ get_or-insert_above (take n xs) i x d (j - 1) (omega arith)
-    (⊎_elim (λ e. omega arith) (λ e. omega arith) ends) ∙ get_or-take n xs (j - 1) d (omega arith) in
+    ∙ get_or-insert_above (take n xs) i x d (j - 1) (omega arith) (omega arith)
+    ∙ get_or-take n xs (j - 1) d (omega arith) in
     ap (λ v. get_or new v d) (sym next) ∙ behind
     ∙ ⊎_elim (λ e. opens (j - 1) d (omega arith) (omega arith)) (λ e. absurd (omega arith)) ends
