@@ -1,15 +1,14 @@
 -- Cities that are left, once one of them was taken out.
-use Rattle.std.proofs.Common.{◌≡◌, ◌≢◌, ℕ, zero, suc, ◌<◌, ⊎_elim, List, ◌∷◌, length, refl, sym, ap, ◌∙◌, arith, get_or}
+use Rattle.std.proofs.Common.{◌≡◌, ◌≢◌, ℕ, zero, suc, ◌<◌, List, ◌∷◌, length, refl, sym, ap, ◌∙◌, arith, get_or}
 use Rattle.std.specs.Prelude.{All, MatchOption, Option, Some, None}
-use Rattle.std.proofs.lemmas.Bool.{cases_lt}
 use Rattle.std.proofs.lemmas.List.{get_or_default}
 use Rattle.std.proofs.lemmas.List.Elements.{All-tail}
-use Rattle.std.proofs.lemmas.List.Sorted.{All-permutation, Contains-permutation, IsPermutation-keeps, IsPermutation-sym}
+use Rattle.std.proofs.lemmas.List.Sorted.{All-permutation, Contains-permutation, IsPermutation-sym}
 use Rattle.tk_problem.specs.declared.point.Point.{Point}
 use Rattle.tk_near.specs.declared.plane.placed.Placed.{Placed}
 use Rattle.tk_near.specs.Placed.{IsPlaced, placed_city, nowhere}
 use Rattle.tk_near.specs.Left.{ArePlacedApart, IsNotIn, IsTakenOut, Stands}
-use Rattle.tk_near.proofs.InPlane.OneEach.{OneEach, OneEach-swap}
+use Rattle.tk_near.proofs.InPlane.OneEach.{OneEach, OneEach-moved}
 
 module _ (n : ℕ) (place_of : ℕ → Point) where
   module _ (p : Placed) (old new : List Placed) (h : ArePlacedApart n place_of old) (t : IsTakenOut p old new) where
@@ -17,12 +16,7 @@ module _ (n : ℕ) (place_of : ℕ → Point) where
     all = All-permutation (IsPlaced n place_of) old (t.taken ∷ new) t.others h.each
 
     once : OneEach (λ (v : Placed). v.city) nowhere (t.taken ∷ new)
-    once =
-        let start : OneEach (λ (v : Placed). v.city) nowhere old = λ i j li lj e.
-        ⊎_elim (λ l. absurd (h.apart i j l lj e))
-        (λ g. ⊎_elim (λ l. absurd (h.apart j i l li (sym e))) (λ k. omega arith) (cases_lt j i)) (cases_lt i j) in
-        IsPermutation-keeps old (OneEach (λ (v : Placed). v.city) nowhere) start
-        (λ l a b. OneEach-swap (λ (v : Placed). v.city) nowhere l a b) (t.taken ∷ new) t.others
+    once = OneEach-moved (λ (v : Placed). v.city) nowhere old (t.taken ∷ new) h.apart t.others
 
     -- those that are left are apart still
     pub AreApart-taken : ArePlacedApart n place_of new

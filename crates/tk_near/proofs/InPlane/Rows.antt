@@ -1,11 +1,10 @@
 -- Each city once, in any order.
-use Rattle.std.proofs.Common.{◌≡◌, ℕ, ◌+◌, ◌-◌, ◌<◌, ⊎_elim, List, length, sym, ap, ◌∙◌, arith, get_or}
+use Rattle.std.proofs.Common.{◌≡◌, ℕ, ◌+◌, ◌-◌, ◌<◌, List, length, sym, ap, ◌∙◌, arith, get_or}
 use Rattle.std.specs.List.Sorted.{IsPermutation}
-use Rattle.std.proofs.lemmas.Bool.{cases_lt}
 use Rattle.std.proofs.lemmas.List.{get_or_default}
-use Rattle.std.proofs.lemmas.List.Sorted.{All-permutation, Contains-permutation, IsPermutation-keeps}
+use Rattle.std.proofs.lemmas.List.Sorted.{All-permutation, Contains-permutation}
 use Rattle.std.proofs.lemmas.List.Sorted.{length_permutation}
-use Rattle.tk_near.proofs.InPlane.OneEach.{OneEach, OneEach-swap}
+use Rattle.tk_near.proofs.InPlane.OneEach.{OneEach-moved}
 use Rattle.tk_near.specs.declared.plane.placed.Placed.{Placed}
 use Rattle.tk_problem.specs.declared.point.Point.{Point}
 use Rattle.tk_near.specs.Placed.{as_placed, nowhere, placed_city, IsPlaced, IsRow}
@@ -30,12 +29,7 @@ IsRow-by_number n place_of row count entries =
 pub IsRow-moved : (n : ℕ) (place_of : ℕ → Point) (first row : List Placed) → IsRow n place_of first →
     IsPermutation first row → IsRow n place_of row
 IsRow-moved n place_of first row o moved =
-    let start : OneEach (λ (v : Placed). v.city) nowhere first = λ i j li lj e.
-    ⊎_elim (λ l. absurd (o.apart i j l lj e))
-    (λ g. ⊎_elim (λ l. absurd (o.apart j i l li (sym e))) (λ h. omega arith) (cases_lt j i)) (cases_lt i j) in
-    let once : OneEach (λ (v : Placed). v.city) nowhere row =
-    IsPermutation-keeps first (OneEach (λ (v : Placed). v.city) nowhere) start
-    (λ l a b. OneEach-swap (λ (v : Placed). v.city) nowhere l a b) row moved in
+    let once = OneEach-moved (λ (v : Placed). v.city) nowhere first row o.apart moved in
     record {
       count = length_permutation first row moved ∙ o.count;
       each = All-permutation (IsPlaced n place_of) first row moved o.each;
