@@ -1,6 +1,7 @@
 pub mod FirstLeft
 pub mod Leaving
 pub mod LeftLaws
+pub mod OfRows
 pub mod OneEach
 pub mod Parting
 pub mod Rows

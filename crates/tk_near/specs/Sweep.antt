@@ -1,24 +1,20 @@
 -- The cities in x order, and a sweep from one of them to both sides.
-use Rattle.std.specs.Prelude.{◌≡◌, ◌≢◌, ℕ, ◌-ℤ◌, ◌≤ℤ◌, ◌-◌, ◌*◌, ◌<◌, ◌≤◌, List, length, slice_index_or}
+use Rattle.std.specs.Prelude.{◌≢◌, ℕ, ◌-ℤ◌, ◌≤ℤ◌, ◌-◌, ◌*◌, ◌<◌, ◌≤◌, List, length, slice_index_or}
 use Rattle.std.specs.Int.RustNames.{unsigned_abs}
 use Rattle.tk_distance.specs.Distance.{reach}
 use Rattle.tk_problem.specs.declared.point.Point.{Point}
 use Rattle.tk_near.specs.declared.candidates.Candidate.{Candidate}
 use Rattle.tk_near.specs.declared.plane.placed.Placed.{Placed}
-use Rattle.tk_distance.specs.Cities.{IsCity}
 use Rattle.tk_near.specs.Keeping.{KeepsFirst, open_place, rank}
-use Rattle.tk_near.specs.Placed.{IsAt, IsPlaced, placed_city, nowhere}
+use Rattle.tk_near.specs.Placed.{IsAt, IsRow, placed_city, nowhere}
 
 abbrev pub point_at : List Placed → ℕ → Point
 point_at row q = (slice_index_or row q nowhere).place
 
 -- each city once with its place, in x order
 pub record IsXOrder (n : ℕ) (place_of : ℕ → Point) (row : List Placed) : Type 0 where
-  pub count : length row ≡ n
-  pub each : (q : ℕ) → q < length row → IsPlaced n place_of (slice_index_or row q nowhere)
+  pub cities : IsRow n place_of row
   pub rising : (i j : ℕ) → i ≤ j → j < length row → (point_at row i).x ≤ℤ (point_at row j).x
-  pub apart : (i j : ℕ) → i < j → j < length row → placed_city row i ≢ placed_city row j
-  pub whole : (b : ℕ) → IsCity n b → (q : ℕ) × (q < length row) × (placed_city row q ≡ b)
 
 -- the laws of the floor that a sweep in x order needs
 pub record IsFloor (dist : ℕ → ℕ → ℕ) (place_of : ℕ → Point) (floor : ℕ → ℕ) : Type 0 where

@@ -25,22 +25,11 @@ use Rattle.tk_near.specs.declared.plane.tree.Frame.{Frame}
 use Rattle.tk_near.specs.declared.plane.tree.Tree.{Tree}
 use Rattle.tk_near.specs.Tree.{IsFrom, IsInBox, IsBeyond, entries_of, parts_of, with_city, with_cities}
 use Rattle.tk_near.proofs.Inserting.{take-insert_by, length-insert_by, IsPermutation-insert_by, Climbing-take}
-use Rattle.tk_near.proofs.Inserting.{before_false, insert_by-full}
-use Rattle.tk_near.proofs.Keeping.{KeepsFirst-none, KeepsFirst-more, KeepsFirst-same, KeepsFirst-count}
-use Rattle.tk_near.proofs.Keeping.{IsNear-from_kept, kept_length, same_twice}
+use Rattle.tk_near.proofs.Inserting.{before_false, insert_by-full, insert_before, insert_after}
+use Rattle.tk_near.proofs.InPlane.OfRows.{gap_is, near_place, one_place, with_place}
+use Rattle.tk_near.proofs.Keeping.{KeepsFirst-none, KeepsFirst-same, KeepsFirst-count, kept_length, same_twice}
 
 -- ---- the order of two candidates
-
-insert_before : {X : Type 0} (f : X → ℕ) (x z : X) (zs : List X) → f x < f z → insert_by f x (z ∷ zs) ≡ x ∷ z ∷ zs
-insert_before f x z zs l =
-    let e : nat_lt (f x) (f z) ≡ true = grind (arith, nat_tests) in
-    ap (λ v. cond v (x ∷ z ∷ zs) (z ∷ insert_by f x zs)) e
-
-insert_after : {X : Type 0} (f : X → ℕ) (x z : X) (zs : List X) → f z ≤ f x →
-    insert_by f x (z ∷ zs) ≡ z ∷ insert_by f x zs
-insert_after f x z zs l =
-    let e : nat_lt (f x) (f z) ≡ false = grind (arith, nat_tests) in
-    ap (λ v. cond v (x ∷ z ∷ zs) (z ∷ insert_by f x zs)) e
 
 insert_both : {X : Type 0} (f : X → ℕ) (x y : X) (l : List X) → f x < f y →
     insert_by f x (insert_by f y l) ≡ insert_by f y (insert_by f x l)
@@ -236,16 +225,10 @@ module _ (dist : ℕ → ℕ → ℕ) (n : ℕ) (place_of : ℕ → Point) (floo
   floor_below here p gap h t beyond =
       ⊎_elim
       (λ l.
-      let e : unsigned_abs (here.place.x -ℤ p.place.x) ≡ unsigned_abs ((place_of here.city).x -ℤ (place_of p.city).x) =
-      ap (λ (v : Point). unsigned_abs (v.x -ℤ p.place.x)) h.1
-      ∙ ap (λ (v : Point). unsigned_abs ((place_of here.city).x -ℤ v.x)) t.1 in
-      let rises = f.rises gap _ (rw e at l) (f.wide here.city p.city) in
+      let rises = f.rises gap _ (rw (gap_is n place_of (λ v. v.x) here p h t) at l) (f.wide here.city p.city) in
       omega (arith, rises, f.bounds here.city p.city))
       (λ l.
-      let e : unsigned_abs (here.place.y -ℤ p.place.y) ≡ unsigned_abs ((place_of here.city).y -ℤ (place_of p.city).y) =
-      ap (λ (v : Point). unsigned_abs (v.y -ℤ p.place.y)) h.1
-      ∙ ap (λ (v : Point). unsigned_abs ((place_of here.city).y -ℤ v.y)) t.1 in
-      let rises = f.rises gap _ (rw e at l) (f.tall here.city p.city) in
+      let rises = f.rises gap _ (rw (gap_is n place_of (λ v. v.y) here p h t) at l) (f.tall here.city p.city) in
       omega (arith, rises, f.bounds_y here.city p.city))
       beyond
 
@@ -273,14 +256,6 @@ count_whole p n l = grind (arith, nat_tests)
 
 module _ (dist : ℕ → ℕ → ℕ) (limit : (a b : ℕ) → dist a b ≤ DISTANCE_LIMIT) (n : ℕ) (place_of : ℕ → Point)
     (row : List Placed) (o : IsRow n place_of row) (few : n ≤ CITY_LIMIT) where
-  city_small : (W : ℕ → Type 0) (b : ℕ) → IsAt row W b → b < 4294967296
-  city_small W b s = let e = o.each s.0 nowhere s.1 in let same = s.3 in omega (arith, e.0.1)
-
-  one_place : (r q : ℕ) → r < length row → q < length row → placed_city row r ≡ placed_city row q → r ≡ q
-  one_place r q lr lq e =
-      ⊎_elim (λ l. absurd (o.apart r q l lq e))
-      (λ g. ⊎_elim (λ l. absurd (o.apart q r l lr (sym e))) (λ h. omega arith) (cases_lt q r)) (cases_lt r q)
-
   abbrev Before : ℕ → ℕ → ℕ → Type 0
   Before p j q = (q < j) × (q ≢ p)
 
@@ -297,7 +272,6 @@ module _ (dist : ℕ → ℕ → ℕ) (limit : (a b : ℕ) → dist a b ≤ DIST
       let h = keeps_first p k i lp (omega arith) in
       let li : i < length row = omega arith in
       let more = with_cities-more dist c row i nowhere (replicate k open_place) li in
-      let city = o.each i nowhere li in
       subst (KeepsFirst dist c k _ (IsAt row (Before p (suc i)))) (sym more)
       (⊎_elim
       (λ e.
@@ -308,7 +282,7 @@ module _ (dist : ℕ → ℕ → ℕ) (limit : (a b : ℕ) → dist a b ≤ DIST
       (λ a s. (s.0, s.1, (omega (arith, s.2), s.2.1), s.3))
       (λ a s. (s.0, s.1, (omega (arith, s.2, s.2.1), s.2.1), s.3)))))
       (λ ne.
-      let other : placed_city row i ≢ c = λ e. ne (one_place i p li lp e) in
+      let other : placed_city row i ≢ c = λ e. ne (one_place o i p li lp e) in
       let size = kept_length h in
       let there : with_city dist c (get_or row i nowhere) kept ≡ take k
       (insert_by rank (candidate dist c (placed_city row i)) kept) =
@@ -316,15 +290,9 @@ module _ (dist : ℕ → ℕ → ℕ) (limit : (a b : ℕ) → dist a b ≤ DIST
       ∙ ap (λ v. take v (insert_by rank (candidate dist c (placed_city row i)) kept)) size in
       subst (KeepsFirst dist c k _ (IsAt row (Before p (suc i)))) (sym there)
       (KeepsFirst-count dist c k _ _ _ _ (count_more p i ne)
-      (KeepsFirst-more dist c k _ (IsAt row (Before p i)) (IsAt row (Before p (suc i))) kept (placed_city row i) h
-      (λ s. let same : s.0 ≡ i = one_place s.0 i s.1 li s.3 in let w = s.2 in omega arith)
-      (omega (arith, city.0.1))
-      (omega (arith, limit c (placed_city row i)))
-      (city_small (Before p i))
-      (λ a s. (s.0, s.1, (omega (arith, s.2), s.2.1), s.3))
-      (i, li, (omega arith, ne), refl)
-      (λ a s. ⊎_elim (λ e. inr (sym s.3 ∙ ap (placed_city row) e))
-      (λ w. inl (s.0, s.1, (omega (arith, s.2, w), s.2.1), s.3)) (cases_eq s.0 i)))))
+      (with_place o limit few c k _ i (Before p i) (Before p (suc i)) kept h li (λ w. omega (arith, w.0))
+      (λ r w. (omega (arith, w.0), w.1)) (omega arith, ne)
+      (λ r w. ⊎_elim (λ e. inr e) (λ m. inl (omega (arith, w.0, m), w.1)) (cases_eq r i)))))
       (cases_eq i p))
 
   near_at : (p k : ℕ) → p < length row → k < n →
@@ -333,17 +301,12 @@ module _ (dist : ℕ → ℕ → ℕ) (limit : (a b : ℕ) → dist a b ≤ DIST
   near_at p k lp kn =
       let m : ℕ = cond (nat_lt p (length row)) (length row - 1) (length row) in
       let count = count_whole p (length row) lp in
-      let enough : k ≤ m = omega (arith, o.count) in
       let all = take_all (length row) row (omega arith) in
-      IsNear-from_kept dist n (placed_city row p) k m (IsAt row (Before p (length row))) _
+      near_place o dist p k m (Before p (length row)) _ few lp
       (subst (λ v. KeepsFirst dist (placed_city row p) k m (IsAt row (Before p (length row)))
       (with_cities dist (placed_city row p) v (replicate k open_place))) all
       (keeps_first p k (length row) lp (omega arith)))
-      (omega arith) enough
-      (λ b city ne. let w = o.whole b city in (w.0, w.1, (w.1, λ e. ne (sym w.2 ∙ ap (placed_city row) e)), w.2))
-      (λ b s.
-      let e = o.each s.0 nowhere s.1 in
-      (subst (IsCity n) s.3 e.0, λ same. s.2.1 (one_place s.0 p s.1 lp (s.3 ∙ same))))
+      (omega (arith, o.count)) (λ q l ne. (l, ne)) (λ q w. w.1)
 
   -- the list of a city
   pub IsNear-from_row : (c k : ℕ) → IsCity n c → k < n →

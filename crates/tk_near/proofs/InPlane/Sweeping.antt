@@ -1,22 +1,21 @@
 -- A sweep in x order, one place at a time.
 use Rattle.std.proofs.Common.{◌≡◌, ◌≢◌, ℕ, zero, suc, ◌+◌, ◌*◌, ◌-◌, ◌<◌, ◌≤◌, ◌⊎◌, ⊎_elim, inl, inr, List, length}
-use Rattle.std.proofs.Common.{take, replicate, refl, sym, ap, ◌∙◌, arith, get_or, subst}
+use Rattle.std.proofs.Common.{take, replicate, sym, arith, get_or, subst}
 use Rattle.std.specs.Prelude.{ℤ, ◌-ℤ◌, ◌≤ℤ◌}
 use Rattle.std.specs.Int.RustNames.{unsigned_abs}
 use Rattle.std.proofs.lemmas.Int.{ints}
-use Rattle.std.proofs.lemmas.Bool.{cases_lt, cases_eq}
+use Rattle.std.proofs.lemmas.Bool.{cases_eq}
 use Rattle.tk_problem.specs.declared.limits.TheConstants.{CITY_LIMIT, DISTANCE_LIMIT}
 use Rattle.tk_problem.specs.declared.point.Point.{Point}
 use Rattle.tk_near.specs.declared.candidates.Candidate.{Candidate}
 use Rattle.tk_near.specs.declared.plane.placed.Placed.{Placed}
-use Rattle.tk_distance.specs.Cities.{IsCity}
 use Rattle.tk_near.specs.Near.{IsNear}
 use Rattle.tk_near.specs.Keeping.{Climbing, insert_by, rank, candidate, open_place, cities_kept, KeepsFirst}
-use Rattle.tk_near.specs.Placed.{IsAt, placed_city}
+use Rattle.tk_near.specs.Placed.{IsAt, nowhere, placed_city}
 use Rattle.tk_near.specs.Sweep.{IsXOrder, IsFloor, IsSwept, IsBelow, point_at}
 use Rattle.tk_near.proofs.Inserting.{insert_by-full}
-use Rattle.tk_near.proofs.Keeping.{KeepsFirst-none, KeepsFirst-more, KeepsFirst-count, IsNear-from_kept, kept_climbing}
-use Rattle.tk_near.proofs.Keeping.{kept_length}
+use Rattle.tk_near.proofs.InPlane.OfRows.{city_small, gap_is, near_place, with_place}
+use Rattle.tk_near.proofs.Keeping.{KeepsFirst-none, KeepsFirst-count, kept_climbing, kept_length}
 
 wider_down : (a b c : ℤ) → a ≤ℤ b → b ≤ℤ c → unsigned_abs (c -ℤ b) ≤ unsigned_abs (c -ℤ a)
 wider_down a b c p q = omega (arith, ints)
@@ -41,32 +40,9 @@ Window low high p q = (low ≤ q) × (q < high) × (q ≢ p)
 
 module _ {dist : ℕ → ℕ → ℕ} (limit : (a b : ℕ) → dist a b ≤ DISTANCE_LIMIT) {n : ℕ} {place_of : ℕ → Point}
     {row : List Placed} (o : IsXOrder n place_of row) (few : n ≤ CITY_LIMIT) where
-  city_small : (W : ℕ → Type 0) (b : ℕ) → IsAt row W b → b < 4294967296
-  city_small W b s = let e = o.each s.0 s.1 in let same = s.3 in omega (arith, e.0.1)
-
-  one_place : (r q : ℕ) → r < length row → q < length row → placed_city row r ≡ placed_city row q → r ≡ q
-  one_place r q lr lq e =
-      ⊎_elim (λ l. absurd (o.apart r q l lq e))
-      (λ g. ⊎_elim (λ l. absurd (o.apart q r l lr (sym e))) (λ h. omega arith) (cases_lt q r)) (cases_lt r q)
-
-  -- one more place
-  with_place : (c k m q : ℕ) (W V : ℕ → Type 0) (kept : List Candidate) → KeepsFirst dist c k m (IsAt row W) kept →
-      q < length row → (W q → ⊥) → ((r : ℕ) → W r → V r) → V q → ((r : ℕ) → V r → W r ⊎ (r ≡ q)) →
-      KeepsFirst dist c k (m + 1) (IsAt row V) (take k (insert_by rank (candidate dist c (placed_city row q)) kept))
-  with_place c k m q W V kept h lq fresh keeps now only =
-      let city = o.each q lq in
-      KeepsFirst-more dist c k m (IsAt row W) (IsAt row V) kept (placed_city row q) h
-      (λ s. fresh (subst W (one_place s.0 q s.1 lq s.3) s.2))
-      (omega (arith, city.0.1))
-      (omega (arith, limit c (placed_city row q)))
-      (city_small W)
-      (λ a s. (s.0, s.1, keeps s.0 s.2, s.3))
-      (q, lq, now, refl)
-      (λ a s. ⊎_elim (λ w. inl (s.0, s.1, w, s.3)) (λ e. inr (sym s.3 ∙ ap (placed_city row) e)) (only s.0 s.2))
-
   climbing : (c k m : ℕ) (W : ℕ → Type 0) (kept : List Candidate) → KeepsFirst dist c k m (IsAt row W) kept →
       Climbing rank kept
-  climbing c k m W kept h = kept_climbing (λ b. omega (arith, limit c b)) (city_small W) h
+  climbing c k m W kept h = kept_climbing (λ b. omega (arith, limit c b)) (city_small o.cities few W) h
 
   -- one more place that is too far
   with_far_place : (c k m q : ℕ) (W V : ℕ → Type 0) (kept : List Candidate) → KeepsFirst dist c k m (IsAt row W) kept →
@@ -77,7 +53,7 @@ module _ {dist : ℕ → ℕ → ℕ} (limit : (a b : ℕ) → dist a b ≤ DIST
       subst (KeepsFirst dist c k (m + 1) (IsAt row V))
       (sym (kept_without k (dist c (placed_city row q)) kept x (climbing c k m W kept h) (kept_length h) one far
       (omega arith)))
-      (with_place c k m q W V kept h lq fresh keeps now only)
+      (with_place o.cities limit few c k m q W V kept h lq fresh keeps now only)
 
   far_below : (c k p high low : ℕ) (kept : List Candidate) → high ≤ length row → low ≤ p → p < high → 1 ≤ k →
       ((q : ℕ) → q < low → IsBelow (dist c (placed_city row q)) kept) →
@@ -114,12 +90,7 @@ module _ {dist : ℕ → ℕ → ℕ} (limit : (a b : ℕ) → dist a b ≤ DIST
       q < length row → s ≤ unsigned_abs ((point_at row p).x -ℤ (point_at row q).x) → IsBelow (floor s) kept →
       IsBelow (dist (placed_city row p) (placed_city row q)) kept
   far_place floor f p q s kept lp lq wider below =
-      let here = o.each p lp in
-      let there = o.each q lq in
-      let e : unsigned_abs ((point_at row p).x -ℤ (point_at row q).x) ≡ unsigned_abs
-      ((place_of (placed_city row p)).x -ℤ (place_of (placed_city row q)).x) =
-      ap (λ (v : Point). unsigned_abs (v.x -ℤ (point_at row q).x)) here.1
-      ∙ ap (λ (v : Point). unsigned_abs ((place_of (placed_city row p)).x -ℤ v.x)) there.1 in
+      let e = gap_is n place_of (λ v. v.x) _ _ (o.cities.each p nowhere lp) (o.cities.each q nowhere lq) in
       let rises = f.rises _ _ (rw e at wider) (f.wide (placed_city row p) (placed_city row q)) in
       below_weaker _ _ kept (omega (arith, rises, f.bounds (placed_city row p) (placed_city row q))) below
 
@@ -152,8 +123,8 @@ module _ {dist : ℕ → ℕ → ℕ} (limit : (a b : ℕ) → dist a b ≤ DIST
           within = h.within;
           keeps =
               KeepsFirst-count dist (placed_city row p) k _ _ _ _ count
-              (with_place (placed_city row p) k (high - low - 1) (low - 1) (Window low high p) (Window (low - 1) high p)
-              kept h.keeps in'
+              (with_place o.cities limit few (placed_city row p) k (high - low - 1) (low - 1) (Window low high p)
+              (Window (low - 1) high p) kept h.keeps in'
               (λ w. omega (arith, w.0)) (λ r w. (omega (arith, w.0), w.1, w.2))
               (omega arith, omega (arith, h.low_end, h.high_end), omega (arith, h.low_end))
               (λ r w. ⊎_elim (λ e. inr e) (λ ne. inl (omega (arith, w.0, ne), w.1, w.2)) (cases_eq r (low - 1))));
@@ -170,8 +141,8 @@ module _ {dist : ℕ → ℕ → ℕ} (limit : (a b : ℕ) → dist a b ≤ DIST
           within = omega arith;
           keeps =
               KeepsFirst-count dist (placed_city row p) k _ _ _ _ count
-              (with_place (placed_city row p) k (high - low - 1) high (Window low high p) (Window low (high + 1) p)
-              kept h.keeps l
+              (with_place o.cities limit few (placed_city row p) k (high - low - 1) high (Window low high p)
+              (Window low (high + 1) p) kept h.keeps l
               (λ w. omega (arith, w.1)) (λ r w. (w.0, omega (arith, w.1), w.2)) (
                 omega (arith, h.low_end, h.high_end),
                 omega arith,
@@ -217,11 +188,5 @@ module _ {dist : ℕ → ℕ → ℕ} (limit : (a b : ℕ) → dist a b ≤ DIST
   pub IsNear-from_swept : {p k : ℕ} {kept : List Candidate} → k < n → IsSwept dist row p 0 (length row) k kept →
       IsNear dist n k (placed_city row p) (cities_kept kept)
   IsNear-from_swept {p} {k} {kept} kn h =
-      let enough : k ≤ length row - 0 - 1 = omega (arith, o.count) in
-      IsNear-from_kept dist n (placed_city row p) k (length row - 0 - 1) (IsAt row (Window 0 (length row) p)) kept
-      h.keeps (omega arith) enough
-      (λ b city ne. let w = o.whole b city in
-      (w.0, w.1, (omega arith, w.1, λ e. ne (sym w.2 ∙ ap (placed_city row) e)), w.2))
-      (λ b s.
-      let e = o.each s.0 s.1 in
-      (subst (IsCity n) s.3 e.0, λ same. s.2.2 (one_place s.0 p s.1 (omega (arith, h.high_end)) (s.3 ∙ same))))
+      near_place o.cities dist p k (length row - 0 - 1) (Window 0 (length row) p) kept few
+      (omega (arith, h.high_end)) h.keeps (omega (arith, o.cities.count)) (λ q l ne. (omega arith, l, ne)) (λ q w. w.2)

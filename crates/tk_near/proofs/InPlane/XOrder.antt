@@ -36,14 +36,10 @@ pub IsXOrder-from_sort : (n : ℕ) (place_of : ℕ → Point) (first row : List 
     is_lt (ordering_then (int_cmp (get_or row (k + 1) d).place.x (get_or row k d).place.x)
     (nat_cmp (get_or row (k + 1) d).city (get_or row k d).city)) ≡ false) → IsXOrder n place_of row
 IsXOrder-from_sort n place_of first row o moved sorted =
-    let all = IsRow-moved n place_of first row o moved in
     let adjacent : (k : ℕ) → k + 1 < length row → (point_at row k).x ≤ℤ (point_at row (k + 1)).x = λ k l.
     not_less ((point_at row (k + 1)).x) ((point_at row k).x) _ (sorted k nowhere (omega arith) l) in
     record {
-      count = all.count;
-      each = λ q l. all.each q nowhere l;
+      cities = IsRow-moved n place_of first row o moved;
       rising = λ i j l m. let e : i + (j - i) ≡ j = omega arith in
           subst (λ v. (point_at row i).x ≤ℤ (point_at row v).x) e (climbs row adjacent i (j - i) (omega arith));
-      apart = all.apart;
-      whole = all.whole;
     }

@@ -1,6 +1,6 @@
 use Rattle.std.proofs.Common.{arith, ◌≡◌, ◌+◌, ◌<◌, ◌∙◌, ap, inl, inr, ⊎_elim, length, sym}
 use Rattle.std.proofs.lemmas.Bool.{cases_eq}
-use Rattle.tk_near.specs.Placed.{IsAt, placed_city}
+use Rattle.tk_near.specs.Placed.{IsAt, nowhere, placed_city}
 use Rattle.tk_near.proofs.Tables.{AreFilled-write, AreFilled-none, AreFilled-same}
 use Rattle.tk_near.proofs.plane.sweep.fill_lists.Goals as goal
 
@@ -20,7 +20,8 @@ loop-p-preserved g c =
       AreFilled-write (g.P.Metric.distance c.args.m.now) (g.P.Metric.size_of c.args.m.now) (length c.args.kept.now)
           (placed_city row p) (IsAt row (λ q. q < p)) (IsAt row (λ q. q < p + 1)) c.loop-p.entries
           c.write_cities.new.entries c.sweep_city.new.kept c.loop-p.invariant.0
-          (c.requires.order.each p c.loop-p-test.true).0 size (rw c.loop-p.invariant.1 at c.sweep_city.ensures.near)
+          (c.requires.order.cities.each p nowhere c.loop-p-test.true).0 size
+          (rw c.loop-p.invariant.1 at c.sweep_city.ensures.near)
           (λ a s. ⊎_elim (λ e. inr (sym s.3 ∙ ap (placed_city row) e))
           (λ ne. inl (s.0, s.1, omega (arith, s.2, ne), s.3))
           (cases_eq s.0 p)) c.write_cities.ensures,
@@ -29,5 +30,5 @@ loop-p-preserved g c =
 
 pub returns : goal.returns
 returns g c =
-    AreFilled-same _ _ _ _ _ _ c.loop-p.invariant.0 (λ a city d. let w = c.requires.order.whole a city in
+    AreFilled-same _ _ _ _ _ _ c.loop-p.invariant.0 (λ a city d. let w = c.requires.order.cities.whole a city in
     (w.0, w.1, omega (arith, w.1), w.2))
