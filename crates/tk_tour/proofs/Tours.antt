@@ -3,7 +3,7 @@ use Rattle.std.proofs.Common.{◌≡◌, ◌≢◌, ℕ, ◌+◌, ◌-◌, ◌<�
 use Rattle.std.proofs.Common.{◌∷◌, ◌++◌, length, take, drop, refl, sym, ap, ◌∙◌, arith, eqb, cond, get_or, zero-add}
 use Rattle.std.proofs.lemmas.List.{take-append-drop, length-take, get_or-take, drop_more}
 use Rattle.std.proofs.lemmas.List.Sums.{sum_by-cons, position_or_len_is}
-use Rattle.std.proofs.lemmas.Bool.{eq-eqb, cases_lt}
+use Rattle.std.proofs.lemmas.Bool.{eq-eqb, cases_eq, cases_lt}
 use Rattle.std.proofs.lemmas.Bool.Decides.{eqb_tells}
 use Rattle.std.proofs.Math.Nat.{mod-eq_of_lt, mod_self, add-mul-mod_self_left}
 use Rattle.tk_tour.specs.Reversal.{IsInverse}
@@ -22,9 +22,6 @@ occurrences-nil c = refl
 
 pub occurrences-same : (c x : ℕ) (xs : List ℕ) → c ≡ x → occurrences c (x ∷ xs) ≡ 1 + occurrences c xs
 occurrences-same c x xs e = ap (λ v. occurrences c (v ∷ xs)) (sym e) ∙ occurrences-cons c xs
-
-same_or_not : (a b : ℕ) → (a ≡ b) ⊎ (a ≢ b)
-same_or_not a b = ⊎_elim (λ h. inl h.1) (λ h. inr h.1) (eqb_tells a b)
 
 -- how many entries are among 1 to m
 entries_to : ℕ → List ℕ → ℕ
@@ -55,7 +52,7 @@ entries_to-inside (suc m) x xs low high =
     let k = occurrences-same (suc m) x xs e in
     omega (arith, k, entries_to-outside m x xs (λ h. omega arith)))
     (λ ne. omega (arith, occurrences-other (suc m) x xs ne, entries_to-inside m x xs low (omega (arith, ne))))
-    (same_or_not (suc m) x)
+    (cases_eq (suc m) x)
 
 pub inside_or_not : (m x : ℕ) → ((0 < x) × (x ≤ m)) ⊎ (0 < x → m < x)
 inside_or_not m x =
@@ -76,7 +73,7 @@ entries_and_one_more m c out (x ∷ xs) =
     let k = occurrences-other c x xs ne in
     ⊎_elim (λ h. omega (arith, k, ih, entries_to-inside m x xs h.0 h.1))
     (λ h. omega (arith, k, ih, entries_to-outside m x xs h)) (inside_or_not m x))
-    (same_or_not c x)
+    (cases_eq c x)
 
 entries_to-tour : (n m : ℕ) (xs : List ℕ) → IsTour n xs → m ≤ n → entries_to m xs ≡ m
 unfolding entries_to
@@ -137,7 +134,7 @@ place_found c (x ∷ xs) h =
     (λ (ne : c ≢ x).
     let k = place_found c xs (omega (arith, h, occurrences-other c x xs ne)) in
     (suc k.0, omega (arith, k.1), k.2))
-    (same_or_not c x)
+    (cases_eq c x)
 
 -- each city stands at its place
 pub city_at_place : (order place : List ℕ) (c : ℕ) → IsTour (length order) order → IsInverse order place → 0 < c →
@@ -194,7 +191,7 @@ HoldsOnce-from_distinct (x ∷ xs) h = λ c.
     (λ (none : occurrences c xs ≤ 0). omega (arith, none, occurrences-same c x xs e))
     (cases_lt 0 (occurrences c xs)))
     (λ (ne : c ≢ x). omega (arith, ih, occurrences-other c x xs ne))
-    (same_or_not c x)
+    (cases_eq c x)
 
 entries_to-all : (n : ℕ) (xs : List ℕ) → ((k : ℕ) → k < length xs → (0 < get_or xs k 0) × (get_or xs k 0 ≤ n)) →
     entries_to n xs ≡ length xs
@@ -220,7 +217,7 @@ entries_to-full (suc m) c xs once e low high =
     ⊎_elim
     (λ (same : c ≡ suc m). ap (λ v. occurrences v xs) same ∙ k)
     (λ (ne : c ≢ suc m). entries_to-full m c xs once f low (omega (arith, ne)))
-    (same_or_not c (suc m))
+    (cases_eq c (suc m))
 
 pub IsTour-from_distinct : (xs : List ℕ) →
     ((k : ℕ) → k < length xs → (0 < get_or xs k 0) × (get_or xs k 0 ≤ length xs)) →

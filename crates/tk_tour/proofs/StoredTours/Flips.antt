@@ -66,14 +66,13 @@ path_places : (n m pa pb pc pd : ℕ) → pa < n → pb < n → pc < n → pd < 
     PathLength n m pb pc → PathPlaces n m pa pb pc pd
 path_places n m pa pb pc pd la lb lc ld ne ab cd e = omega arith
 
--- what reversing the path from b to c does, where it stands at m places
-pub flip_path : (order place : List ℕ) (a b c d m : ℕ) → IsTour (length order) order → IsInverse order place →
+-- what reversing the path from b to c does, where it stands at m places from pb on, up to pc
+pub flip_inner : (order place : List ℕ) (a b c d m pb pc : ℕ) → IsTour (length order) order → IsInverse order place →
     IsCity (length order) a → IsCity (length order) c → a ≢ c → b ≡ next_city order a → d ≡ next_city order c →
-    PathLength (length order) m (get_or place (b - 1) 0) (get_or place (c - 1) 0) →
-    (0 < m) × (m < length order) × (get_or place (b - 1) 0 < length order)
-    × ReplacesSteps order (reversed_places (get_or place (b - 1) 0) m order) a b c d
+    pb ≡ get_or place (b - 1) 0 → pc ≡ get_or place (c - 1) 0 → PathLength (length order) m pb pc →
+    (0 < m) × (m < length order) × ReplacesSteps order (reversed_places pb m order) a b c d
     × SidesAre order (length order - m) m a b c d
-flip_path order place a b c d m tour inverse ca cc' ne eb ed em =
+flip_inner order place a b c d m pb pc tour inverse ca cc' ne eb ed epb epc em =
     let n : ℕ = length order in
     let cb : IsCity (length order) b = rw eb (next_city-in order place a tour inverse ca) in
     let cd : IsCity (length order) d = rw ed (next_city-in order place c tour inverse cc') in
@@ -82,20 +81,20 @@ flip_path order place a b c d m tour inverse ca cc' ne eb ed em =
     let at_c = city_at_place order place c tour inverse cc'.0 cc'.1 in
     let at_d = city_at_place order place d tour inverse cd.0 cd.1 in
     let pa : ℕ = get_or place (a - 1) 0 in
-    let pb : ℕ = get_or place (b - 1) 0 in
-    let pc : ℕ = get_or place (c - 1) 0 in
+    let qb : ℕ = get_or place (b - 1) 0 in
+    let qc : ℕ = get_or place (c - 1) 0 in
     let pd : ℕ = get_or place (d - 1) 0 in
-    let apart : pa ≢ pc = λ e. ne (sym at_a.1 ∙ ap (λ v. get_or order v 0) e ∙ at_c.1) in
+    let apart : pa ≢ qc = λ e. ne (sym at_a.1 ∙ ap (λ v. get_or order v 0) e ∙ at_c.1) in
     let k =
-    path_places n m pa pb pc pd at_a.0 at_b.0 at_c.0 at_d.0 apart (place_after order place a b tour inverse ca eb)
-    (place_after order place c d tour inverse cc' ed) em in
+    path_places n m pa qb qc pd at_a.0 at_b.0 at_c.0 at_d.0 apart (place_after order place a b tour inverse ca eb)
+    (place_after order place c d tour inverse cc' ed) (rw (← epb, ← epc) em) in
     let both =
-    path_reversed order pb m a b c d (HoldsOnce-tour n order tour) k.0 k.1
-    (get_or-begun_at order pb 0 pb 0 (omega (arith, at_b.0)) (omega (arith, at_b.0)) k.2 ∙ at_b.1)
-    (get_or-begun_at order pb (m - 1) pc 0 (omega (arith, at_b.0)) (omega (arith, k.1)) k.3 ∙ at_c.1)
-    (get_or-begun_at order pb m pd 0 (omega (arith, at_b.0)) k.1 k.4 ∙ at_d.1)
-    (get_or-begun_at order pb (n - 1) pa 0 (omega (arith, at_b.0)) (omega (arith, at_b.0)) k.5 ∙ at_a.1) in
-    (k.0, k.1, at_b.0, both.0, both.1)
+    path_reversed order qb m a b c d (HoldsOnce-tour n order tour) k.0 k.1
+    (get_or-begun_at order qb 0 qb 0 (omega (arith, at_b.0)) (omega (arith, at_b.0)) k.2 ∙ at_b.1)
+    (get_or-begun_at order qb (m - 1) qc 0 (omega (arith, at_b.0)) (omega (arith, k.1)) k.3 ∙ at_c.1)
+    (get_or-begun_at order qb m pd 0 (omega (arith, at_b.0)) k.1 k.4 ∙ at_d.1)
+    (get_or-begun_at order qb (n - 1) pa 0 (omega (arith, at_b.0)) (omega (arith, at_b.0)) k.5 ∙ at_a.1) in
+    (k.0, k.1, rw epb both.0, both.1)
 
 prev_city-at : (order place : List ℕ) (a : ℕ) → IsTour (length order) order → IsInverse order place →
     IsCity (length order) a →
@@ -179,23 +178,11 @@ IsTour-reversed_places n k m xs h =
 
 pub IsSizedTour-reversed_places : (k m : ℕ) (xs : List ℕ) → IsSizedTour xs → IsSizedTour (reversed_places k m xs)
 IsSizedTour-reversed_places k m xs h =
-    let l : length (reversed_places k m xs) ≡ length xs = length-reversed_places k m xs in
-    (
+    let l : length (reversed_places k m xs) ≡ length xs = length-reversed_places k m xs in (
       omega (arith, l, h.0),
       omega (arith, l, h.1),
       subst (λ v. IsTour v (reversed_places k m xs)) (sym l) (IsTour-reversed_places (length xs) k m xs h.2),
     )
-
--- the same, for places under names
-pub flip_inner : (order place : List ℕ) (a b c d m pb pc : ℕ) → IsTour (length order) order → IsInverse order place →
-    IsCity (length order) a → IsCity (length order) c → a ≢ c → b ≡ next_city order a → d ≡ next_city order c →
-    pb ≡ get_or place (b - 1) 0 → pc ≡ get_or place (c - 1) 0 → PathLength (length order) m pb pc →
-    (0 < m) × (m < length order) × ReplacesSteps order (reversed_places pb m order) a b c d
-    × SidesAre order (length order - m) m a b c d
-flip_inner order place a b c d m pb pc tour inverse ca cc' ne eb ed epb epc em =
-    let em' : PathLength (length order) m (get_or place (b - 1) 0) (get_or place (c - 1) 0) = rw (← epb, ← epc) em in
-    let h = flip_path order place a b c d m tour inverse ca cc' ne eb ed em' in
-    (h.0, h.1, rw epb h.3, h.4)
 
 -- the length of the other side
 other_side : (n m pa pb pc pd : ℕ) → pa < n → pc < n → pa ≢ pc → IsAfter n pa pb → IsAfter n pc pd →

@@ -121,10 +121,10 @@ pub record MirroredTo (t m : ℕ) (xs ys : List ℕ) : Type 0 where
   pub middle : (k : ℕ) → t ≤ k → k + t < m → get_or ys k 0 ≡ get_or xs k 0
   pub beyond : (k : ℕ) → m ≤ k → get_or ys k 0 ≡ get_or xs k 0
 
-exchanged_at : (ys : List ℕ) (i j x y k : ℕ) → i < length ys → j < length ys → i ≢ j →
+exchanged_at : (ys : List ℕ) (i j x y : ℕ) → i < length ys → j < length ys → i ≢ j → (k : ℕ) →
     ((k ≡ i → get_or (set (set ys i y) j x) k 0 ≡ y) × (k ≡ j → get_or (set (set ys i y) j x) k 0 ≡ x)
     × (k ≢ i → k ≢ j → get_or (set (set ys i y) j x) k 0 ≡ get_or ys k 0))
-exchanged_at ys i j x y k li lj ne = (
+exchanged_at ys i j x y li lj ne k = (
   (λ e. ap (λ v. get_or (set (set ys i y) j x) v 0) e ∙ get_or-set_other (set ys i y) j i x 0 ne
       ∙ get_or-set_same ys i y 0 li),
   (λ e. ap (λ v. get_or (set (set ys i y) j x) v 0) e ∙ get_or-set_same (set ys i y) j x 0 (rw (length-set ys i y) lj)),
@@ -138,10 +138,7 @@ MirroredTo-more t m xs ys j x y h lt le ej ex ey =
     let li : t < length ys = omega (arith, h.same_length) in
     let lj : j < length ys = omega (arith, h.same_length) in
     let ne : t ≢ j = omega arith in
-    let at : (k : ℕ) →
-    ((k ≡ t → get_or (set (set ys t y) j x) k 0 ≡ y) × (k ≡ j → get_or (set (set ys t y) j x) k 0 ≡ x)
-    × (k ≢ t → k ≢ j → get_or (set (set ys t y) j x) k 0 ≡ get_or ys k 0)) =
-    λ k. exchanged_at ys t j x y k li lj ne in
+    let at = exchanged_at ys t j x y li lj ne in
     let ex' : x ≡ get_or xs t 0 = ex ∙ h.middle t (omega arith) (omega arith) in
     let ey' : y ≡ get_or xs j 0 = ey ∙ h.middle j (omega arith) (omega arith) in
     record {

@@ -20,13 +20,11 @@ IsInverse-exchange order place i j x y h li lj ne ex ey =
     let lo : length (set (set order i y) j x) ≡ n = length-set (set order i y) j x ∙ length-set order i y in
     let lp1 : length (set place (y - 1) i) ≡ n = length-set place (y - 1) i ∙ h.0 in
     let lp : length (set (set place (y - 1) i) (x - 1) j) ≡ n = length-set (set place (y - 1) i) (x - 1) j ∙ lp1 in
-    let bx : (0 < x) × (x ≤ n) = (omega arith, omega arith) in
-    let by' : (0 < y) × (y ≤ n) = (omega arith, omega arith) in
     let P : ℕ → ℕ → Type 0 = λ k z. (0 < z) × (z ≤ length (set (set order i y) j x))
     × (get_or (set (set place (y - 1) i) (x - 1) j) (z - 1) 0 ≡ k) in
-    let here_j : P j x = (bx.0, omega arith, get_or-set_same (set place (y - 1) i) (x - 1) j 0 (omega arith)) in
+    let here_j : P j x = (omega arith, omega arith, get_or-set_same (set place (y - 1) i) (x - 1) j 0 (omega arith)) in
     let here_i : P i y = (
-      by'.0,
+      omega arith,
       omega arith,
       get_or-set_other (set place (y - 1) i) (x - 1) (y - 1) j 0 apart
           ∙ get_or-set_same place (y - 1) i 0 (omega (arith, h.0)),

@@ -1,4 +1,4 @@
-use Rattle.std.proofs.Common.{◌≡◌, ◌+◌, ◌-◌, ◌++◌, take, drop, ap, sym, ◌∙◌, subst, arith}
+use Rattle.std.proofs.Common.{◌≡◌, ◌+◌, ◌-◌, ◌++◌, take, drop, ap, ◌∙◌, subst, arith}
 use Rattle.tk_tour.proofs.StoredTours.Renumbering.{Renumbering, Renumbering-more, Renumbering-all}
 use Rattle.tk_tour.proofs.StoredTours.TurnedWithin.{turned_within, turned_within-is, Renumbering-begin}
 use Rattle.tk_tour.proofs.stores.reversal.reverse_within.Goals as goal
@@ -9,11 +9,9 @@ loop-k-init c =
     let count = c.args.last - first in
     let xs = c.args.order.now in
     let to : first + count ≡ c.args.last = omega arith in
-    let begun : Renumbering (turned_within first count xs) c.args.place.now first c.args.last =
-    subst (λ l. Renumbering (turned_within first count xs) c.args.place.now first l) to
-    (Renumbering-begin first count xs c.args.place.now (omega arith) c.requires.places) in
-    subst (λ v. Renumbering (take first xs ++ (v ++ drop count (drop first xs))) c.args.place.now first c.args.last)
-    (sym c.reverse.ensures.after) begun
+    rw (c.reverse.ensures.after)
+    (subst (λ l. Renumbering (turned_within first count xs) c.args.place.now first l) to
+    (Renumbering-begin first count xs c.args.place.now (omega arith) c.requires.places))
 
 pub loop-k-preserved : goal.loop-k-preserved
 loop-k-preserved c = Renumbering-more _ c.loop-k.place c.loop-k.k c.args.last c.loop-k.invariant (omega arith)

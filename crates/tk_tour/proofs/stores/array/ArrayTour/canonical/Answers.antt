@@ -1,7 +1,5 @@
-use Rattle.std.proofs.Common.{◌≡◌, ◌-◌, ◌∙◌, ap, sym, subst, arith, length, List, ℕ}
+use Rattle.std.proofs.Common.{◌≡◌, ◌-◌, ◌∙◌, ap, arith, length}
 use Rattle.std.specs.Prelude.{reverse}
-use Rattle.tk_tour.specs.Printed.{IsPrintedForm}
-use Rattle.tk_tour.specs.Reversal.{begun_at}
 use Rattle.tk_tour.proofs.StoredTours.Canonical.{IsPrintedForm-ahead, IsPrintedForm-back}
 use Rattle.tk_tour.proofs.StoredTours.PrintedForm.{one_printed_form}
 use Rattle.tk_tour.proofs.stores.array.ArrayTour.canonical.Goals as goal
@@ -13,7 +11,6 @@ returns-clause-printed c =
     let xs = s.order.items in
     let p = c.place_of-first in
     let first = c.if-prev-next.first in
-    let P : List ℕ → Type 0 = λ v. IsPrintedForm xs v in
     let copied : c.in_ok-cities.cities.items ≡ xs = c.in_ok-cities.ensures.items ∙ c.deref.ensures.value in
     elim c.if-prev-next.branch [
       | then-prev-next w ↦
@@ -22,14 +19,13 @@ returns-clause-printed c =
           let n : w.len.result ≡ length xs = w.len.ensures ∙ w.reverse.ensures.len ∙ c.in_ok-cities.ensures.len
           ∙ ap length c.deref.ensures.value in
           let f : first ≡ length xs - 1 - p.result = omega (arith, w.first-is, n) in
-          subst P (ap (λ v. begun_at v (reverse xs)) (sym f) ∙ ap (begun_at first) (sym e)
-          ∙ sym c.rotate_left.ensures.items)
+          rw (c.rotate_left.ensures.items, e, f)
           (IsPrintedForm-back xs p.result s.tour p.ensures.within p.ensures.city
           (omega (arith, c.prev.ensures, c.next.ensures, w.if-prev-next.true)))
       | else-prev-next w ↦
           let e : c.if-prev-next.cities.items ≡ xs = ap (λ v. v.items) w.cities-is ∙ copied in
           let f : first ≡ p.result = w.first-is in
-          subst P (ap (λ v. begun_at v xs) (sym f) ∙ ap (begun_at first) (sym e) ∙ sym c.rotate_left.ensures.items)
+          rw (c.rotate_left.ensures.items, e, f)
           (IsPrintedForm-ahead xs p.result s.tour p.ensures.within p.ensures.city
           (omega (arith, c.prev.ensures, c.next.ensures, w.if-prev-next.false)))
     ]
