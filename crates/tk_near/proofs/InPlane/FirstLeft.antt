@@ -1,25 +1,20 @@
 -- The first of the cities of a row, by one place that keeps it.
 use Rattle.std.proofs.Common.{◌≡◌, ◌≢◌, ℕ, zero, suc, ◌+◌, ◌*◌, ◌<◌, ◌≤◌, ◌⊎◌, ⊎_elim, inl, inr, List, [], ◌∷◌, length}
-use Rattle.std.proofs.Common.{take, refl, sym, ap, ◌∙◌, arith, cond, true, false, get_or}
-use Rattle.std.specs.Prelude.{All, nat_lt}
+use Rattle.std.proofs.Common.{take, refl, sym, ap, ◌∙◌, arith, get_or}
+use Rattle.std.specs.Prelude.{All}
 use Rattle.tk_problem.specs.declared.point.Point.{Point}
-use Rattle.std.proofs.lemmas.Bool.Decides.{nat_tests}
-use Rattle.std.proofs.lemmas.Bool.{cases_eq}
+use Rattle.std.proofs.lemmas.Bool.{cases_eq, cases_lt}
 use Rattle.tk_problem.specs.declared.limits.TheConstants.{CITY_LIMIT, DISTANCE_LIMIT}
 use Rattle.tk_near.specs.declared.candidates.Candidate.{Candidate}
 use Rattle.tk_near.specs.declared.plane.placed.Placed.{Placed}
 use Rattle.tk_near.specs.Near.{IsFirst}
-use Rattle.tk_near.specs.Keeping.{rank, candidate, open_place, with_candidate}
+use Rattle.tk_near.specs.Keeping.{rank, candidate, open_place}
+use Rattle.tk_near.proofs.Inserting.{insert_before, insert_after}
 use Rattle.tk_near.proofs.Keeping.{closer_from_rank}
 use Rattle.tk_near.specs.Placed.{IsPlaced, placed_city, nowhere}
 use Rattle.tk_near.specs.Tree.{with_city, with_cities}
 use Rattle.tk_near.specs.Left.{IsOtherIn}
 use Rattle.tk_near.proofs.InPlane.Parting.{with_city-same, with_city-other}
-
-one_candidate : (x y : Candidate) → with_candidate x (y ∷ []) ≡ cond (nat_lt (rank x) (rank y)) x y ∷ []
-one_candidate x y =
-    elim (nat_lt (rank x) (rank y)) as (λ b. take 1 (cond b (x ∷ y ∷ []) (y ∷ x ∷ [])) ≡ cond b x y
-    ∷ []) [ true ↦ refl | false ↦ refl ]
 
 -- y is the first of x and the cities of the row but c
 pub record IsLeastOf (dist : ℕ → ℕ → ℕ) (c : ℕ) (row : List Placed) (x y : Candidate) : Type 0 where
@@ -53,34 +48,24 @@ module _ (dist : ℕ → ℕ → ℕ) (c : ℕ) where
   least_of [] x = (x, record { kept = refl; below = omega arith; one = inl refl; least = λ q l. absurd (omega arith) })
   least_of (p ∷ row) x =
       let k : Candidate = candidate dist c p.city in
-      let z : Candidate = cond (nat_lt (rank k) (rank x)) k x in
       ⊎_elim
-      (λ same. let r = least_of row x in (
-        r.0,
-        least_more p row x x r.0 (with_city-same dist c p (x ∷ []) same) (omega arith) (λ ne. absurd (ne same))
-            (inl refl) r.1,
-      ))
+      (λ same.
+      let r = least_of row x in
+      let step = with_city-same dist c p (x ∷ []) same in
+      (r.0, least_more p row x x r.0 step (omega arith) (λ ne. absurd (ne same)) (inl refl) r.1))
       (λ other.
-      let r = least_of row z in
-      let step : with_city dist c p (x ∷ []) ≡ z ∷ [] = with_city-other dist c p (x ∷ []) other ∙ one_candidate k x in
-      (r.0, least_more p row x z r.0 step (lesser k x) (λ ne. lesser_first k x) (choice k x other) r.1))
+      let step = with_city-other dist c p (x ∷ []) other in
+      ⊎_elim
+      (λ first.
+      let r = least_of row k in
+      let one = step ∙ ap (take 1) (insert_before rank k x [] first) in
+      (r.0, least_more p row x k r.0 one (omega arith) (λ ne. omega arith) (inr (other, refl)) r.1))
+      (λ behind.
+      let r = least_of row x in
+      let one = step ∙ ap (take 1) (insert_after rank k x [] behind) in
+      (r.0, least_more p row x x r.0 one (omega arith) (λ ne. behind) (inl refl) r.1))
+      (cases_lt (rank k) (rank x)))
       (cases_eq p.city c)
-    where
-      lesser : (k x : Candidate) → rank (cond (nat_lt (rank k) (rank x)) k x) ≤ rank x
-      lesser k x =
-          (elim (nat_lt (rank k) (rank x)) as (λ b. nat_lt (rank k) (rank x) ≡ b →
-          rank (cond b k x) ≤ rank x) [ true ↦ λ e. grind (arith, nat_tests) | false ↦ λ e. omega arith ]) refl
-
-      lesser_first : (k x : Candidate) → rank (cond (nat_lt (rank k) (rank x)) k x) ≤ rank k
-      lesser_first k x =
-          (elim (nat_lt (rank k) (rank x)) as (λ b. nat_lt (rank k) (rank x) ≡ b →
-          rank (cond b k x) ≤ rank k) [ true ↦ λ e. omega arith | false ↦ λ e. grind (arith, nat_tests) ]) refl
-
-      choice : (k x : Candidate) → p.city ≢ c → (cond (nat_lt (rank k) (rank x)) k x ≡ x)
-          ⊎ ((p.city ≢ c) × (cond (nat_lt (rank k) (rank x)) k x ≡ k))
-      choice k x ne =
-          elim (nat_lt (rank k) (rank x)) as (λ b. (cond b k x ≡ x)
-          ⊎ ((p.city ≢ c) × (cond b k x ≡ k))) [ true ↦ inr (ne, refl) | false ↦ inl refl ]
 
 module _ (dist : ℕ → ℕ → ℕ) (c : ℕ) (limit : (a b : ℕ) → dist a b ≤ DISTANCE_LIMIT) (row : List Placed)
     (small : (q : ℕ) → q < length row → placed_city row q ≤ CITY_LIMIT) (y : Candidate)
