@@ -6,9 +6,3 @@ pub from_filled-requires-clause-filled : goal.from_filled-requires-clause-filled
 from_filled-requires-clause-filled g c =
     AreFilled-front _ _ _ _ _ _ _ _ (omega (arith, c.deref_mut-2.ensures.len, c.fill_by_scan.auto.entries))
     (omega (arith, c.deref_mut.ensures.len, c.in_ok-kept.ensures.len)) c.fill_by_scan.ensures
-
-pub from_filled-requires-clause-limit : goal.from_filled-requires-clause-limit
-from_filled-requires-clause-limit g c = c.requires.limit
-
-pub returns : goal.returns
-returns g c = c.from_filled.ensures

@@ -79,11 +79,6 @@ take_from-take_from_halves-requires-else-goes_up g t c κs within =
       ),
     )
 
-pub take_from-returns-else-goes_up-clause-framed : goal.take_from-returns-else-goes_up-clause-framed
-take_from-returns-else-goes_up-clause-framed g t c =
-    let halves = c.take_from_halves-else-goes_up.ensures in
-    (halves.first.0, halves.second.0, halves.first.1, halves.second.1)
-
 pub take_from-returns-else-goes_up-clause-taken : goal.take_from-returns-else-goes_up-clause-taken
 take_from-returns-else-goes_up-clause-taken g t c =
     let lower = c.deref_mut-else-goes_up.ensures.value in
@@ -92,9 +87,6 @@ take_from-returns-else-goes_up-clause-taken g t c =
     taken_lower_first c.args.here.now (entries_of c.in-Cut.lower.value) (entries_of c.in-Cut.upper.value)
     (entries_of c.take_from_halves-else-goes_up.new.first) (entries_of c.take_from_halves-else-goes_up.new.second)
     (entries_of c.args.tree.now) c.take_from_halves-else-goes_up.result (ap entries_of c.in-Cut.is) taken
-
-pub take_from-returns-else-goes_up-clause-shown : goal.take_from-returns-else-goes_up-clause-shown
-take_from-returns-else-goes_up-clause-shown g t c = c.take_from_halves-else-goes_up.ensures.shown
 
 pub take_from-returns-then-goes_up-clause-taken : goal.take_from-returns-then-goes_up-clause-taken
 take_from-returns-then-goes_up-clause-taken g t c =

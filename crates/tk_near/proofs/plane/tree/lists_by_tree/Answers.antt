@@ -4,29 +4,11 @@ use Rattle.tk_near.specs.Keeping.{open_place}
 use Rattle.tk_near.proofs.Tables.{AreFilled-front}
 use Rattle.tk_near.proofs.plane.tree.lists_by_tree.Goals as goal
 
-pub new-requires : goal.new-requires
-new-requires g c = c.requires.low
-
-pub fill_from_tree-requires-clause-row : goal.fill_from_tree-requires-clause-row
-fill_from_tree-requires-clause-row g c = c.requires.row
-
-pub fill_from_tree-requires-clause-tree : goal.fill_from_tree-requires-clause-tree
-fill_from_tree-requires-clause-tree g c = c.requires.tree
-
-pub fill_from_tree-requires-clause-framed : goal.fill_from_tree-requires-clause-framed
-fill_from_tree-requires-clause-framed g c = c.requires.framed
-
 pub fill_from_tree-requires-clause-high : goal.fill_from_tree-requires-clause-high
 fill_from_tree-requires-clause-high g c =
     rw (ap length c.in_ok-many.ensures ∙ length-replicate c.args.k open_place) c.requires.high
-
-pub from_filled-requires-clause-limit : goal.from_filled-requires-clause-limit
-from_filled-requires-clause-limit g c = c.requires.limit
 
 pub from_filled-requires-clause-filled : goal.from_filled-requires-clause-filled
 from_filled-requires-clause-filled g c =
     AreFilled-front _ _ _ _ _ _ _ _ (omega (arith, c.deref_mut.ensures.len, c.fill_from_tree.auto.entries))
     (ap length c.in_ok-many.ensures ∙ length-replicate c.args.k open_place) c.fill_from_tree.ensures
-
-pub returns : goal.returns
-returns g c = c.from_filled.ensures
