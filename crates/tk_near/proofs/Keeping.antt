@@ -4,7 +4,7 @@ use Rattle.std.proofs.Common.{◌++◌, length, take, replicate, refl, sym, ap, 
 use Rattle.std.proofs.Common.{subst}
 use Rattle.std.specs.Prelude.{All, Contains, nat_lt}
 use Rattle.std.proofs.lemmas.Bool.Decides.{nat_tests}
-use Rattle.std.proofs.lemmas.Bool.{cases_lt}
+use Rattle.std.proofs.lemmas.Bool.{cases_eq, cases_lt}
 use Rattle.std.proofs.lemmas.List.{get_or-map, get_or-take, get_or_default, take_all, take-append-le, length-map}
 use Rattle.std.proofs.lemmas.List.{length-take-le, length-replicate, length-append}
 use Rattle.std.proofs.lemmas.List.Elements.{All-cons, All-nil, All-weaker, All-append, All-head, All-tail}
@@ -48,7 +48,8 @@ KeepsFirst-none dist c k Seen none = record {
 -- a city that was not seen
 pub KeepsFirst-more : (dist : ℕ → ℕ → ℕ) (c k m : ℕ) (Seen Then : ℕ → Type 0) (kept : List Candidate) (b : ℕ) →
     KeepsFirst dist c k m Seen kept → (Seen b → ⊥) → b < 4294967296 → dist c b < 4294967295 →
-    ((a : ℕ) → Seen a → a < 4294967296) → ((a : ℕ) → Seen a → Then a) → Then b → ((a : ℕ) → Then a → Seen a ⊎ (a ≡ b)) →
+    ((a : ℕ) → Seen a → a < 4294967296) → ((a : ℕ) → Seen a → Then a) → Then b →
+    ((a : ℕ) → Then a → a ≢ b → Seen a) →
     KeepsFirst dist c k (m + 1) Then (take k (insert_by rank (candidate dist c b) kept))
 KeepsFirst-more dist c k m Seen Then kept b h fresh small near bounded keeps now only =
     let x : Candidate = candidate dist c b in
@@ -67,8 +68,8 @@ KeepsFirst-more dist c k m Seen Then kept b h fresh small near bounded keeps now
           (All-weaker (λ x. (x.distance ≡ dist c x.city) × Seen x.city)
           (λ x. (x.distance ≡ dist c x.city) × Then x.city) (λ y p. (p.0, keeps _ p.1)) h.whole h.each));
       holds = λ a s. Contains-permutation (x ∷ h.whole) _ (candidate dist c a) perm
-          (⊎_elim (λ p. Contains-behind x (candidate dist c a) h.whole (h.holds a p))
-          (λ e. (0, omega arith, ap (candidate dist c) (sym e))) (only a s));
+          (⊎_elim (λ e. (0, omega arith, ap (candidate dist c) (sym e)))
+          (λ ne. Contains-behind x (candidate dist c a) h.whole (h.holds a (only a s ne))) (cases_eq a b));
       first = ap (λ v. take k (insert_by rank x v)) h.first
           ∙ take-insert_by rank x k (h.whole ++ replicate k open_place)
           ∙ ap (take k)

@@ -1,5 +1,5 @@
 -- The flat list of near lists, filled one city at a time.
-use Rattle.std.proofs.Common.{◌≡◌, ◌≢◌, ℕ, zero, suc, ◌+◌, ◌*◌, ◌-◌, ◌<◌, ◌≤◌, ◌⊎◌, ⊎_elim, List, [], ◌∷◌, ◌++◌, length}
+use Rattle.std.proofs.Common.{◌≡◌, ◌≢◌, ℕ, zero, suc, ◌+◌, ◌*◌, ◌-◌, ◌<◌, ◌≤◌, ⊎_elim, List, [], ◌∷◌, ◌++◌, length}
 use Rattle.std.proofs.Common.{take, drop, set, get_or, sym, ap, ◌∙◌, arith, subst}
 use Rattle.std.proofs.lemmas.Bool.{cases_eq, cases_lt}
 use Rattle.std.proofs.lemmas.List.{take-append-drop, take-append-le, drop-append-le, take_at, drop_at, drop-drop}
@@ -93,7 +93,7 @@ block_other k c b xs row one two ne l e =
 
 -- the list of one more city is written
 pub AreFilled-more : (dist : ℕ → ℕ → ℕ) (n k c : ℕ) (Done Then : ℕ → Type 0) (xs row : List ℕ) →
-    AreFilled dist n k Done xs → IsCity n c → IsNear dist n k c row → ((a : ℕ) → Then a → Done a ⊎ (a ≡ c)) →
+    AreFilled dist n k Done xs → IsCity n c → IsNear dist n k c row → ((a : ℕ) → Then a → a ≢ c → Done a) →
     AreFilled dist n k Then (overwritten ((c - 1) * k) row xs)
 AreFilled-more dist n k c Done Then xs row h city near only =
     let fits : c * k ≤ length xs = omega (arith, mul-le-mul_right k city.1, h.count) in
@@ -106,11 +106,8 @@ AreFilled-more dist n k c Done Then xs row h city near only =
       each = λ a there done. ⊎_elim
           (λ same. subst (λ v. IsNear dist n k v (block k (overwritten ((c - 1) * k) row xs) v)) (sym same)
           (subst (IsNear dist n k c) (sym (block_here k c xs row city.0 fits near.count)) near))
-          (λ apart. ⊎_elim
-          (λ before. subst (IsNear dist n k a) (sym (block_other k c a xs row city.0 there.0 apart fits near.count))
-          (h.each a there before))
-          (λ same. absurd (apart same))
-          (only a done))
+          (λ apart. subst (IsNear dist n k a) (sym (block_other k c a xs row city.0 there.0 apart fits near.count))
+          (h.each a there (only a done apart)))
           (cases_eq a c);
     }
 
@@ -138,7 +135,7 @@ AreFilled-front dist n k kept len Done new rest size width filled =
 
 pub AreFilled-write : (dist : ℕ → ℕ → ℕ) (n k c : ℕ) (Done Then : ℕ → Type 0) (xs new : List ℕ)
     (kept : List Candidate) → AreFilled dist n k Done xs → IsCity n c → length kept ≡ k →
-    IsNear dist n k c (cities_kept kept) → ((a : ℕ) → Then a → Done a ⊎ (a ≡ c)) →
+    IsNear dist n k c (cities_kept kept) → ((a : ℕ) → Then a → a ≢ c → Done a) →
     new ≡ overwritten ((c - 1) * length kept) (cities_kept kept) xs → AreFilled dist n k Then new
 AreFilled-write dist n k c Done Then xs new kept h city size near only e =
     subst (AreFilled dist n k Then) (sym (e ∙ ap (λ v. overwritten ((c - 1) * v) (cities_kept kept) xs) size))

@@ -1,5 +1,5 @@
 -- What is kept of the cities of a row, one more place at a time.
-use Rattle.std.proofs.Common.{◌≡◌, ◌≢◌, ℕ, ◌+◌, ◌<◌, ◌≤◌, ◌⊎◌, ⊎_elim, inl, inr, List, length, take, refl, sym, ap}
+use Rattle.std.proofs.Common.{◌≡◌, ◌≢◌, ℕ, ◌+◌, ◌<◌, ◌≤◌, List, length, take, refl, sym, ap}
 use Rattle.std.proofs.Common.{◌∙◌, arith, subst}
 use Rattle.std.specs.Prelude.{◌-ℤ◌, ℤ}
 use Rattle.std.specs.Int.RustNames.{unsigned_abs}
@@ -12,7 +12,7 @@ use Rattle.tk_near.specs.Near.{IsNear}
 use Rattle.tk_near.specs.Keeping.{insert_by, rank, candidate, cities_kept, KeepsFirst}
 use Rattle.tk_near.specs.Placed.{IsAt, IsPlaced, IsRow, placed_city, nowhere}
 use Rattle.tk_near.proofs.InPlane.OneEach.{OneEach-from_apart}
-use Rattle.tk_near.proofs.Keeping.{KeepsFirst-more, IsNear-from_kept}
+use Rattle.tk_near.proofs.Keeping.{KeepsFirst-more, KeepsFirst-count, IsNear-from_kept}
 
 -- a difference of two cities, by their places
 pub gap_is : (n : ℕ) (place_of : ℕ → Point) (axis : Point → ℤ) (here there : Placed) → IsPlaced n place_of here →
@@ -23,6 +23,12 @@ gap_is n place_of axis here there h t =
     ap (λ (v : Point). unsigned_abs (axis v -ℤ axis there.place)) h.1
     ∙ ap (λ (v : Point). unsigned_abs (axis (place_of here.city) -ℤ axis v)) t.1
 
+-- a city that stands up to place p, but not there, stands before it
+pub IsAt-before : (row : List Placed) (p a : ℕ) → IsAt row (λ q. q < p + 1) a → a ≢ placed_city row p →
+    IsAt row (λ q. q < p) a
+IsAt-before row p a s ne =
+    let apart : s.0 ≢ p = λ e. ne (sym s.3 ∙ ap (placed_city row) e) in (s.0, s.1, omega (arith, s.2), s.3)
+
 module _ {n : ℕ} {place_of : ℕ → Point} {row : List Placed} (o : IsRow n place_of row) where
   pub city_small : n ≤ CITY_LIMIT → (W : ℕ → Type 0) (b : ℕ) → IsAt row W b → b < 4294967296
   city_small few W b s = let e = o.each s.0 nowhere s.1 in let same = s.3 in omega (arith, e.0.1)
@@ -32,19 +38,20 @@ module _ {n : ℕ} {place_of : ℕ → Point} {row : List Placed} (o : IsRow n p
 
   -- one more place
   pub with_place : {dist : ℕ → ℕ → ℕ} → ((a b : ℕ) → dist a b ≤ DISTANCE_LIMIT) → n ≤ CITY_LIMIT →
-      (c k m q : ℕ) (W V : ℕ → Type 0) (kept : List Candidate) → KeepsFirst dist c k m (IsAt row W) kept →
-      q < length row → (W q → ⊥) → ((r : ℕ) → W r → V r) → V q → ((r : ℕ) → V r → W r ⊎ (r ≡ q)) →
-      KeepsFirst dist c k (m + 1) (IsAt row V) (take k (insert_by rank (candidate dist c (placed_city row q)) kept))
-  with_place {dist} limit few c k m q W V kept h lq fresh keeps now only =
+      (c k m then q : ℕ) (W V : ℕ → Type 0) (kept : List Candidate) → KeepsFirst dist c k m (IsAt row W) kept →
+      m + 1 ≡ then → q < length row → (W q → ⊥) → ((r : ℕ) → W r → V r) → V q → ((r : ℕ) → V r → r ≢ q → W r) →
+      KeepsFirst dist c k then (IsAt row V) (take k (insert_by rank (candidate dist c (placed_city row q)) kept))
+  with_place {dist} limit few c k m then q W V kept h count lq fresh keeps now only =
       let city = o.each q nowhere lq in
-      KeepsFirst-more dist c k m (IsAt row W) (IsAt row V) kept (placed_city row q) h
+      KeepsFirst-count dist c k _ _ _ _ count
+      (KeepsFirst-more dist c k m (IsAt row W) (IsAt row V) kept (placed_city row q) h
       (λ s. fresh (subst W (one_place s.0 q s.1 lq s.3) s.2))
       (omega (arith, city.0.1))
       (omega (arith, limit c (placed_city row q)))
       (city_small few W)
       (λ a s. (s.0, s.1, keeps s.0 s.2, s.3))
       (q, lq, now, refl)
-      (λ a s. ⊎_elim (λ w. inl (s.0, s.1, w, s.3)) (λ e. inr (sym s.3 ∙ ap (placed_city row) e)) (only s.0 s.2))
+      (λ a s ne. (s.0, s.1, only s.0 s.2 (λ e. ne (sym s.3 ∙ ap (placed_city row) e)), s.3)))
 
   -- once all other places were seen
   pub near_place : (dist : ℕ → ℕ → ℕ) (p k m : ℕ) (W : ℕ → Type 0) (kept : List Candidate) → n ≤ CITY_LIMIT →
@@ -55,5 +62,7 @@ module _ {n : ℕ} {place_of : ℕ → Point} {row : List Placed} (o : IsRow n p
       IsNear-from_kept dist n (placed_city row p) k m (IsAt row W) kept h (omega arith) enough
       (λ b city ne. let w = o.whole b city in
       (w.0, w.1, all w.0 w.1 (λ e. ne (sym w.2 ∙ ap (placed_city row) e)), w.2))
-      (λ b s. (subst (IsCity n) s.3 (o.each s.0 nowhere s.1).0,
-      λ same. only s.0 s.2 (one_place s.0 p s.1 lp (s.3 ∙ same))))
+      (λ b s. (
+        subst (IsCity n) s.3 (o.each s.0 nowhere s.1).0,
+        λ same. only s.0 s.2 (one_place s.0 p s.1 lp (s.3 ∙ same)),
+      ))

@@ -279,8 +279,7 @@ module _ (dist : ℕ → ℕ → ℕ) (limit : (a b : ℕ) → dist a b ≤ DIST
       (sym (with_city-same dist c (get_or row i nowhere) kept (ap (placed_city row) e)))
       (KeepsFirst-count dist c k _ _ _ kept (count_same p i e)
       (KeepsFirst-same dist c k _ (IsAt row (Before p i)) (IsAt row (Before p (suc i))) kept h
-      (λ a s. (s.0, s.1, (omega (arith, s.2), s.2.1), s.3))
-      (λ a s. (s.0, s.1, (omega (arith, s.2, s.2.1), s.2.1), s.3)))))
+      (λ a s. (s.0, s.1, omega (arith, s.2), s.3)) (λ a s. (s.0, s.1, omega (arith, s.2), s.3)))))
       (λ ne.
       let other : placed_city row i ≢ c = λ e. ne (one_place o i p li lp e) in
       let size = kept_length h in
@@ -289,10 +288,8 @@ module _ (dist : ℕ → ℕ → ℕ) (limit : (a b : ℕ) → dist a b ≤ DIST
       with_city-other dist c (get_or row i nowhere) kept other
       ∙ ap (λ v. take v (insert_by rank (candidate dist c (placed_city row i)) kept)) size in
       subst (KeepsFirst dist c k _ (IsAt row (Before p (suc i)))) (sym there)
-      (KeepsFirst-count dist c k _ _ _ _ (count_more p i ne)
-      (with_place o limit few c k _ i (Before p i) (Before p (suc i)) kept h li (λ w. omega (arith, w.0))
-      (λ r w. (omega (arith, w.0), w.1)) (omega arith, ne)
-      (λ r w. ⊎_elim (λ e. inr e) (λ m. inl (omega (arith, w.0, m), w.1)) (cases_eq r i)))))
+      (with_place o limit few c k _ _ i (Before p i) (Before p (suc i)) kept h (count_more p i ne) li (omega arith)
+      (omega arith) (omega arith) (omega arith)))
       (cases_eq i p))
 
   near_at : (p k : ℕ) → p < length row → k < n →

@@ -1,10 +1,9 @@
 -- A sweep in x order, one place at a time.
-use Rattle.std.proofs.Common.{◌≡◌, ◌≢◌, ℕ, zero, suc, ◌+◌, ◌*◌, ◌-◌, ◌<◌, ◌≤◌, ◌⊎◌, ⊎_elim, inl, inr, List, length}
+use Rattle.std.proofs.Common.{◌≡◌, ◌≢◌, ℕ, zero, suc, ◌+◌, ◌*◌, ◌-◌, ◌<◌, ◌≤◌, List, length}
 use Rattle.std.proofs.Common.{take, replicate, sym, arith, get_or, subst}
 use Rattle.std.specs.Prelude.{ℤ, ◌-ℤ◌, ◌≤ℤ◌}
 use Rattle.std.specs.Int.RustNames.{unsigned_abs}
 use Rattle.std.proofs.lemmas.Int.{ints}
-use Rattle.std.proofs.lemmas.Bool.{cases_eq}
 use Rattle.tk_problem.specs.declared.limits.TheConstants.{CITY_LIMIT, DISTANCE_LIMIT}
 use Rattle.tk_problem.specs.declared.point.Point.{Point}
 use Rattle.tk_near.specs.declared.candidates.Candidate.{Candidate}
@@ -45,15 +44,16 @@ module _ {dist : ℕ → ℕ → ℕ} (limit : (a b : ℕ) → dist a b ≤ DIST
   climbing c k m W kept h = kept_climbing (λ b. omega (arith, limit c b)) (city_small o.cities few W) h
 
   -- one more place that is too far
-  with_far_place : (c k m q : ℕ) (W V : ℕ → Type 0) (kept : List Candidate) → KeepsFirst dist c k m (IsAt row W) kept →
-      q < length row → (W q → ⊥) → ((r : ℕ) → W r → V r) → V q → ((r : ℕ) → V r → W r ⊎ (r ≡ q)) → 1 ≤ k →
-      IsBelow (dist c (placed_city row q)) kept → KeepsFirst dist c k (m + 1) (IsAt row V) kept
-  with_far_place c k m q W V kept h lq fresh keeps now only one far =
+  with_far_place : (c k m then q : ℕ) (W V : ℕ → Type 0) (kept : List Candidate)
+      → KeepsFirst dist c k m (IsAt row W) kept → m + 1 ≡ then → q < length row → (W q → ⊥)
+      → ((r : ℕ) → W r → V r) → V q → ((r : ℕ) → V r → r ≢ q → W r) → 1 ≤ k
+      → IsBelow (dist c (placed_city row q)) kept → KeepsFirst dist c k then (IsAt row V) kept
+  with_far_place c k m then q W V kept h count lq fresh keeps now only one far =
       let x : Candidate = candidate dist c (placed_city row q) in
-      subst (KeepsFirst dist c k (m + 1) (IsAt row V))
+      subst (KeepsFirst dist c k then (IsAt row V))
       (sym (kept_without k (dist c (placed_city row q)) kept x (climbing c k m W kept h) (kept_length h) one far
       (omega arith)))
-      (with_place o.cities limit few c k m q W V kept h lq fresh keeps now only)
+      (with_place o.cities limit few c k m then q W V kept h count lq fresh keeps now only)
 
   far_below : (c k p high low : ℕ) (kept : List Candidate) → high ≤ length row → low ≤ p → p < high → 1 ≤ k →
       ((q : ℕ) → q < low → IsBelow (dist c (placed_city row q)) kept) →
@@ -61,13 +61,9 @@ module _ {dist : ℕ → ℕ → ℕ} (limit : (a b : ℕ) → dist a b ≤ DIST
       KeepsFirst dist c k (high - 0 - 1) (IsAt row (Window 0 high p)) kept
   far_below c k p high zero kept in' lp ph one far h = h
   far_below c k p high (suc l) kept in' lp ph one far h =
-      let count : high - suc l - 1 + 1 ≡ high - l - 1 = omega arith in
       far_below c k p high l kept in' (omega arith) ph one (λ q lt. far q (omega arith))
-      (KeepsFirst-count dist c k _ _ _ kept count
-      (with_far_place c k (high - suc l - 1) l (Window (suc l) high p) (Window l high p) kept h (omega arith)
-      (λ w. omega (arith, w.0)) (λ r w. (omega (arith, w.0), w.1, w.2)) (omega arith, omega arith, omega arith)
-      (λ r w. ⊎_elim (λ e. inr e) (λ ne. inl (omega (arith, w.0, ne), w.1, w.2)) (cases_eq r l)) one
-      (far l (omega arith))))
+      (with_far_place c k (high - suc l - 1) (high - l - 1) l (Window (suc l) high p) (Window l high p) kept h
+      (omega arith) (omega arith) (omega arith) (omega arith) (omega arith) (omega arith) one (far l (omega arith)))
 
   far_above : (c k p low t high : ℕ) (kept : List Candidate) → high + t ≡ length row → low ≤ p → p < high → 1 ≤ k →
       ((q : ℕ) → high ≤ q → q < length row → IsBelow (dist c (placed_city row q)) kept) →
@@ -77,13 +73,10 @@ module _ {dist : ℕ → ℕ → ℕ} (limit : (a b : ℕ) → dist a b ≤ DIST
       let same : high ≡ length row = omega arith in
       subst (λ v. KeepsFirst dist c k (v - low - 1) (IsAt row (Window low v p)) kept) same h
   far_above c k p low (suc t) high kept e lp ph one far h =
-      let count : high - low - 1 + 1 ≡ suc high - low - 1 = omega arith in
       far_above c k p low t (suc high) kept (omega arith) lp (omega arith) one (λ q a b. far q (omega arith) b)
-      (KeepsFirst-count dist c k _ _ _ kept count
-      (with_far_place c k (high - low - 1) high (Window low high p) (Window low (suc high) p) kept h (omega arith)
-      (λ w. omega (arith, w.1)) (λ r w. (w.0, omega (arith, w.1), w.2)) (omega arith, omega arith, omega arith)
-      (λ r w. ⊎_elim (λ e. inr e) (λ ne. inl (w.0, omega (arith, w.1, ne), w.2)) (cases_eq r high)) one
-      (far high (omega arith) (omega arith))))
+      (with_far_place c k (high - low - 1) (suc high - low - 1) high (Window low high p) (Window low (suc high) p) kept
+      h (omega arith) (omega arith) (omega arith) (omega arith) (omega arith) (omega arith) one
+      (far high (omega arith) (omega arith)))
 
   -- a place at least as far in x as the bound tells is too far
   far_place : (floor : ℕ → ℕ) → IsFloor dist place_of floor → (p q s : ℕ) (kept : List Candidate) → p < length row →
@@ -115,40 +108,29 @@ module _ {dist : ℕ → ℕ → ℕ} (limit : (a b : ℕ) → dist a b ≤ DIST
         IsSwept dist row p (low - 1) high k
         (take k (insert_by rank (candidate dist (placed_city row p) (placed_city row (low - 1))) kept))
     swept_down_near l =
-        let in' : low - 1 < length row = omega (arith, h.within, h.low_end, h.high_end) in
-        let count : high - low - 1 + 1 ≡ high - (low - 1) - 1 = omega (arith, h.low_end, h.high_end) in
         record {
           low_end = omega (arith, h.low_end);
           high_end = h.high_end;
           within = h.within;
           keeps =
-              KeepsFirst-count dist (placed_city row p) k _ _ _ _ count
-              (with_place o.cities limit few (placed_city row p) k (high - low - 1) (low - 1) (Window low high p)
-              (Window (low - 1) high p) kept h.keeps in'
-              (λ w. omega (arith, w.0)) (λ r w. (omega (arith, w.0), w.1, w.2))
-              (omega arith, omega (arith, h.low_end, h.high_end), omega (arith, h.low_end))
-              (λ r w. ⊎_elim (λ e. inr e) (λ ne. inl (omega (arith, w.0, ne), w.1, w.2)) (cases_eq r (low - 1))));
+              with_place o.cities limit few (placed_city row p) k (high - low - 1) (high - (low - 1) - 1) (low - 1)
+              (Window low high p) (Window (low - 1) high p) kept h.keeps (omega (arith, h.low_end, h.high_end))
+              (omega (arith, h.low_end, h.high_end, h.within)) (omega arith) (omega arith)
+              (omega (arith, h.low_end, h.high_end)) (omega arith);
         }
 
     pub swept_up_near : high < length row →
         IsSwept dist row p low (high + 1) k
         (take k (insert_by rank (candidate dist (placed_city row p) (placed_city row high)) kept))
     swept_up_near l =
-        let count : high - low - 1 + 1 ≡ high + 1 - low - 1 = omega (arith, h.low_end, h.high_end) in
         record {
           low_end = h.low_end;
           high_end = omega (arith, h.high_end);
           within = omega arith;
           keeps =
-              KeepsFirst-count dist (placed_city row p) k _ _ _ _ count
-              (with_place o.cities limit few (placed_city row p) k (high - low - 1) high (Window low high p)
-              (Window low (high + 1) p) kept h.keeps l
-              (λ w. omega (arith, w.1)) (λ r w. (w.0, omega (arith, w.1), w.2)) (
-                omega (arith, h.low_end, h.high_end),
-                omega arith,
-                omega (arith, h.high_end),
-              )
-              (λ r w. ⊎_elim (λ e. inr e) (λ ne. inl (w.0, omega (arith, w.1, ne), w.2)) (cases_eq r high)));
+              with_place o.cities limit few (placed_city row p) k (high - low - 1) (high + 1 - low - 1) high
+              (Window low high p) (Window low (high + 1) p) kept h.keeps (omega (arith, h.low_end, h.high_end)) l
+              (omega arith) (omega arith) (omega (arith, h.low_end, h.high_end)) (omega arith);
         }
 
     pub swept_down_far : (floor : ℕ → ℕ) → IsFloor dist place_of floor → 0 < low → 1 ≤ k →

@@ -1,5 +1,4 @@
-use Rattle.std.proofs.Common.{arith, ◌≡◌, ◌+◌, ◌<◌, ◌∙◌, inl, inr, ⊎_elim, length, refl}
-use Rattle.std.proofs.lemmas.Bool.{cases_eq}
+use Rattle.std.proofs.Common.{arith, ◌≡◌, ◌+◌, ◌<◌, ◌∙◌, length, refl}
 use Rattle.tk_distance.specs.Cities.{IsCity}
 use Rattle.tk_near.proofs.Tables.{AreFilled-write, AreFilled-none, AreFilled-same}
 use Rattle.tk_near.proofs.near.fill_by_scan.Goals as goal
@@ -19,7 +18,7 @@ loop-c-preserved g c =
       AreFilled-write (g.M.Metric.distance c.args.m.now) (g.M.Metric.size_of c.args.m.now) (length c.args.kept.now)
           c.loop-c.c (λ a. a < c.loop-c.c) (λ a. a < c.loop-c.c + 1) c.loop-c.entries c.write_cities.new.entries
           c.scan_city.new.kept c.loop-c.invariant.0 city size (rw c.loop-c.invariant.1 at c.scan_city.ensures.near)
-          (λ a l. ⊎_elim (λ e. inr e) (λ ne. inl (omega arith)) (cases_eq a c.loop-c.c)) c.write_cities.ensures,
+          (omega arith) c.write_cities.ensures,
       size,
     )
 

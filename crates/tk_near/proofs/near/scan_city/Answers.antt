@@ -1,6 +1,5 @@
-use Rattle.std.proofs.Common.{arith, ◌≡◌, ◌≢◌, ℕ, ◌+◌, ◌-◌, ◌≤◌, ◌<◌, inl, inr, ⊎_elim, cond, ap, ◌∙◌, length}
+use Rattle.std.proofs.Common.{arith, ◌≡◌, ◌≢◌, ℕ, ◌+◌, ◌-◌, ◌≤◌, ◌<◌, cond, ap, ◌∙◌, length}
 use Rattle.std.specs.Prelude.{nat_lt, replicate}
-use Rattle.std.proofs.lemmas.Bool.{cases_eq}
 use Rattle.tk_near.specs.Keeping.{open_place}
 use Rattle.tk_near.proofs.Keeping.{KeepsFirst-none, KeepsFirst-more, KeepsFirst-same, KeepsFirst-count}
 use Rattle.tk_near.proofs.Keeping.{IsNear-from_kept, kept_climbing, kept_length, same_twice, count_others, count_self}
@@ -32,8 +31,7 @@ loop-b-preserved g c =
           let size : length c.loop-b.kept ≡ k = kept_length c.loop-b.invariant in
           let more = KeepsFirst-more dist c.args.c k _ _ (λ a. (1 ≤ a) × (a < b + 1) × (a ≢ c.args.c)) c.loop-b.kept b
           c.loop-b.invariant (λ s. omega arith) (omega arith) (omega (arith, near)) (λ a s. omega (arith, s.1))
-          (λ a s. (s.0, omega (arith, s.1), s.2)) (c.loop-b.auto.b, omega arith, w.if-b-c.true)
-          (λ a s. ⊎_elim (λ e. inr e) (λ ne. inl (s.0, omega (arith, s.1, ne), s.2)) (cases_eq a b)) in
+          (omega arith) (c.loop-b.auto.b, omega arith, w.if-b-c.true) (omega arith) in
           let count = count_others c.args.c b c.requires.city.0 c.loop-b.auto.b w.if-b-c.true in
           rw (w.kept-is, w.keep.ensures, w.measure.ensures, size) (KeepsFirst-count dist c.args.c k _ _ _ _ count more)
       | else-b-c w ↦
@@ -43,7 +41,7 @@ loop-b-preserved g c =
           rw w.kept-is
           (KeepsFirst-count dist c.args.c k _ _ _ _ (count_self c.args.c b c.requires.city.0 w.if-b-c.false)
           (KeepsFirst-same dist c.args.c k _ _ (λ a. (1 ≤ a) × (a < b + 1) × (a ≢ c.args.c)) _ c.loop-b.invariant
-          (λ a s. (s.0, omega (arith, s.1), s.2)) (λ a s. (s.0, omega (arith, s.1, s.2), s.2))))
+          (omega arith) (λ a s. (s.0, omega (arith, s.1, s.2), s.2))))
     ]
 
 pub returns-clause-near : goal.returns-clause-near

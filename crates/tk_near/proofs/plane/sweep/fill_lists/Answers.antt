@@ -1,6 +1,6 @@
-use Rattle.std.proofs.Common.{arith, ◌≡◌, ◌+◌, ◌<◌, ◌∙◌, ap, inl, inr, ⊎_elim, length, sym}
-use Rattle.std.proofs.lemmas.Bool.{cases_eq}
+use Rattle.std.proofs.Common.{arith, ◌≡◌, ◌+◌, ◌<◌, ◌∙◌, length}
 use Rattle.tk_near.specs.Placed.{IsAt, nowhere, placed_city}
+use Rattle.tk_near.proofs.InPlane.OfRows.{IsAt-before}
 use Rattle.tk_near.proofs.Tables.{AreFilled-write, AreFilled-none, AreFilled-same}
 use Rattle.tk_near.proofs.plane.sweep.fill_lists.Goals as goal
 
@@ -22,9 +22,7 @@ loop-p-preserved g c =
           c.write_cities.new.entries c.sweep_city.new.kept c.loop-p.invariant.0
           (c.requires.order.cities.each p nowhere c.loop-p-test.true).0 size
           (rw c.loop-p.invariant.1 at c.sweep_city.ensures.near)
-          (λ a s. ⊎_elim (λ e. inr (sym s.3 ∙ ap (placed_city row) e))
-          (λ ne. inl (s.0, s.1, omega (arith, s.2, ne), s.3))
-          (cases_eq s.0 p)) c.write_cities.ensures,
+          (IsAt-before row p) c.write_cities.ensures,
       size,
     )
 

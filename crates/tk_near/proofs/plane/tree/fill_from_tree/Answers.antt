@@ -1,6 +1,6 @@
-use Rattle.std.proofs.Common.{arith, ◌≡◌, ◌+◌, ◌<◌, ◌∙◌, ap, inl, inr, ⊎_elim, length, sym}
-use Rattle.std.proofs.lemmas.Bool.{cases_eq}
+use Rattle.std.proofs.Common.{arith, ◌≡◌, ◌+◌, ◌<◌, ◌∙◌, length}
 use Rattle.tk_near.specs.Placed.{IsAt, placed_city, nowhere}
+use Rattle.tk_near.proofs.InPlane.OfRows.{IsAt-before}
 use Rattle.tk_near.proofs.Tables.{AreFilled-write, AreFilled-none, AreFilled-same}
 use Rattle.tk_near.proofs.plane.tree.fill_from_tree.Goals as goal
 
@@ -23,9 +23,7 @@ loop-here-preserved g c =
       AreFilled-write (g.P.Metric.distance c.args.m.now) (g.P.Metric.size_of c.args.m.now) k (placed_city row p)
           (IsAt row (λ q. q < p)) (IsAt row (λ q. q < p + 1)) c.loop-here.entries c.write_cities.new.entries
           c.search_city.new.many.kept.items c.loop-here.invariant.0 city.0 size near
-          (λ a s. ⊎_elim (λ e. inr (sym s.3 ∙ ap (placed_city row) e))
-          (λ ne. inl (s.0, s.1, omega (arith, s.2, ne), s.3))
-          (cases_eq s.0 p)) (rw c.kept.ensures at c.write_cities.ensures),
+          (IsAt-before row p) (rw c.kept.ensures at c.write_cities.ensures),
       size,
     )
 
