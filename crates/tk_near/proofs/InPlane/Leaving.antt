@@ -13,13 +13,6 @@ pub halves_smaller : (whole lower upper first second t : ℕ) → 2 * whole ≡ 
     first + second ≡ lower + upper → 2 * (first + second) + 1 < t
 halves_smaller whole lower upper first second t is cut both = omega arith
 
--- and each of two halves has no more parts than both
-pub first_smaller : (first second t : ℕ) → 2 * (first + second) + 1 ≡ t → 2 * first < t
-first_smaller first second t is = omega arith
-
-pub second_smaller : (first second t : ℕ) → 2 * (first + second) + 1 ≡ t → 2 * second < t
-second_smaller first second t is = omega arith
-
 module _ (dist : ℕ → ℕ → ℕ) (c : ℕ) (front back : List Placed) (first middle last : List Candidate) where
   pub shown_front_first : middle ≡ with_cities dist c front first → last ≡ with_cities dist c back middle →
       last ≡ with_cities dist c (front ++ back) first

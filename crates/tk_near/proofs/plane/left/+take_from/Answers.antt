@@ -1,14 +1,17 @@
-use Rattle.std.proofs.Common.{◌≢◌, ◌++◌, ◌∙◌, ap, arith}
+use Rattle.std.proofs.Common.{◌≡◌, ◌≢◌, ℕ, ◌+◌, ◌*◌, ◌<◌, ◌⊎◌, ◌++◌, ◌∙◌, ap, arith, inl, inr}
 use Rattle.std.specs.Prelude.{All}
 use Rattle.std.proofs.lemmas.List.Elements.{All-append}
+use Rattle.tk_near.specs.declared.plane.tree.Tree.{Tree}
 use Rattle.tk_near.specs.Placed.{IsPlaced}
 use Rattle.tk_near.specs.Tree.{entries_of, IsInBox, parts_of, with_cities}
-use Rattle.tk_near.proofs.InPlane.Leaving.{first_smaller, halves_smaller, second_smaller, shown_back_first}
+use Rattle.tk_near.proofs.InPlane.Leaving.{halves_smaller, shown_back_first}
 use Rattle.tk_near.proofs.InPlane.Leaving.{shown_front_first, shown_upper_first}
 use Rattle.tk_near.proofs.InPlane.Leaving.{taken_lower_first, taken_upper_first}
 use Rattle.tk_near.proofs.InPlane.Parting.{all_back, all_front, IsSmall, placed_small}
 use Rattle.tk_near.proofs.InPlane.Taking.{All-swapped, All-taken, taken_before, taken_behind}
+use Rattle.tk_near.proofs.plane.left.+take_from.Given.{Over}
 use Rattle.tk_near.proofs.plane.left.+take_from.Goals as goal
+use Rattle.tk_near.proofs.plane.left.+take_from.Goals.{take_from-In-Cut}
 
 pub take_from-search_leaf-requires-clause-placed : goal.take_from-search_leaf-requires-clause-placed
 take_from-search_leaf-requires-clause-placed g t c =
@@ -18,19 +21,36 @@ take_from-search_leaf-requires-clause-placed g t c =
     (All-taken (IsPlaced (g.P.Metric.size_of m) (g.P.Planar.place_of m)) c.args.here.now c.in-Leaf.row.items
     c.take_from_leaf.new.row.items c.in_ok-rest-in-Leaf.ensures placed)
 
+-- two halves, in either order: they have fewer parts than the tree, and the cities of its metric
+halves_fit : (g : Over) (t : ℕ) (c : take_from-In-Cut g t) (first second : Tree) →
+    ((first ≡ c.in-Cut.upper.value) × (second ≡ c.in-Cut.lower.value))
+    ⊎ ((first ≡ c.in-Cut.lower.value) × (second ≡ c.in-Cut.upper.value)) →
+    (2 * (parts_of first + parts_of second) + 1 < t)
+    × All (IsPlaced (g.P.Metric.size_of c.args.m.now) (g.P.Planar.place_of c.args.m.now))
+    (entries_of first ++ entries_of second)
+halves_fit g t c first second are =
+    let m = c.args.m.now in
+    let Here = IsPlaced (g.P.Metric.size_of m) (g.P.Planar.place_of m) in
+    let placed = rw c.in-Cut.is at c.requires.placed in
+    let smaller : parts_of first + parts_of second ≡ parts_of c.in-Cut.lower.value + parts_of c.in-Cut.upper.value →
+    2 * (parts_of first + parts_of second) + 1 < t =
+    halves_smaller (parts_of c.args.tree.now) _ _ _ _ t c.decreases (ap parts_of c.in-Cut.is) in
+    elim are [
+      | inl e ↦ (
+        smaller (omega (arith, ap parts_of e.0, ap parts_of e.1)),
+        rw (e.0, e.1) (All-swapped Here (entries_of c.in-Cut.lower.value) (entries_of c.in-Cut.upper.value) placed),
+      )
+      | inr e ↦ (smaller (omega (arith, ap parts_of e.0, ap parts_of e.1)), rw (e.0, e.1) placed)
+    ]
+
 pub take_from-take_from_halves-requires : goal.take_from-take_from_halves-requires
 take_from-take_from_halves-requires g t c κs within =
-    let m = c.args.m.now in
+    let at = goal.at.take_from-take_from_halves-requires g t c in
     let framed = rw c.in-Cut.is at c.requires.framed in
-    let placed = rw c.in-Cut.is at c.requires.placed in
-    let swapped = All-swapped (IsPlaced (g.P.Metric.size_of m) (g.P.Planar.place_of m))
-    (entries_of c.in-Cut.lower.value) (entries_of c.in-Cut.upper.value) placed in
     let first = c.deref_mut.ensures.value in
     let second = c.deref_mut-then-goes_up.ensures.value in
-    let parts = halves_smaller (parts_of c.args.tree.now) (parts_of c.in-Cut.lower.value)
-    (parts_of c.in-Cut.upper.value) (parts_of c.deref_mut.result.now) (parts_of c.deref_mut-then-goes_up.result.now) t
-    c.decreases (ap parts_of c.in-Cut.is) (omega (arith, ap parts_of first, ap parts_of second)) in (
-      parts,
+    let fits = halves_fit g t at.In-Cut _ _ (inl (first, second)) in (
+      fits.0,
       (
         within.0,
         (
@@ -38,11 +58,8 @@ take_from-take_from_halves-requires g t c κs within =
           (
             c.requires.here,
             (
-              rw (first, second) swapped,
-              (
-                (rw first framed.1, rw first framed.3),
-                (rw second framed.0, rw second framed.2),
-              ),
+              fits.1,
+              ((rw first framed.1, rw first framed.3), (rw second framed.0, rw second framed.2)),
             ),
           ),
         ),
@@ -51,16 +68,12 @@ take_from-take_from_halves-requires g t c κs within =
 
 pub take_from-take_from_halves-requires-else-goes_up : goal.take_from-take_from_halves-requires-else-goes_up
 take_from-take_from_halves-requires-else-goes_up g t c κs within =
-    let m = c.args.m.now in
+    let at = goal.at.take_from-take_from_halves-requires-else-goes_up g t c in
     let framed = rw c.in-Cut.is at c.requires.framed in
-    let placed = rw c.in-Cut.is at c.requires.placed in
     let first = c.deref_mut-else-goes_up.ensures.value in
     let second = c.deref_mut-else-goes_up-2.ensures.value in
-    let parts = halves_smaller (parts_of c.args.tree.now) (parts_of c.in-Cut.lower.value)
-    (parts_of c.in-Cut.upper.value) (parts_of c.deref_mut-else-goes_up.result.now)
-    (parts_of c.deref_mut-else-goes_up-2.result.now) t c.decreases (ap parts_of c.in-Cut.is)
-    (omega (arith, ap parts_of first, ap parts_of second)) in (
-      parts,
+    let fits = halves_fit g t at.In-Cut _ _ (inr (first, second)) in (
+      fits.0,
       (
         within.0,
         (
@@ -68,11 +81,8 @@ take_from-take_from_halves-requires-else-goes_up g t c κs within =
           (
             c.requires.here,
             (
-              rw (first, second) placed,
-              (
-                (rw first framed.0, rw first framed.2),
-                (rw second framed.1, rw second framed.3),
-              ),
+              fits.1,
+              ((rw first framed.0, rw first framed.2), (rw second framed.1, rw second framed.3)),
             ),
           ),
         ),
@@ -118,7 +128,7 @@ take_from_halves-take_from-requires g t c κs within =
     let m = c.args.m.now in
     let mine = all_front (IsPlaced (g.P.Metric.size_of m) (g.P.Planar.place_of m)) (entries_of c.args.first.now)
     (entries_of c.args.second.now) c.requires.placed in (
-      first_smaller (parts_of c.args.first.now) (parts_of c.args.second.now) t c.decreases,
+      omega (arith, c.decreases),
       (within.0, (within.1, (c.requires.here, (mine, c.requires.first.1)))),
     )
 
@@ -150,7 +160,7 @@ take_from_halves-take_from-requires-2 g t c κs within =
     let m = c.args.m.now in
     let mine = all_back (IsPlaced (g.P.Metric.size_of m) (g.P.Planar.place_of m)) (entries_of c.args.first.now)
     (entries_of c.args.second.now) c.requires.placed in (
-      second_smaller (parts_of c.args.first.now) (parts_of c.args.second.now) t c.decreases,
+      omega (arith, c.decreases),
       (within.0, (within.1, (c.requires.here, (mine, c.requires.second.1)))),
     )
 
@@ -192,20 +202,8 @@ take_from_halves-returns-clause-shown g t c =
     c.in_default.ensures.shown)
     c.search_half-2.ensures
 
-pub take_from_halves-returns-in_err-rest-clause-first : goal.take_from_halves-returns-in_err-rest-clause-first
-take_from_halves-returns-in_err-rest-clause-first g t c =
-    (rw c.in_default.ensures.taken.0 c.requires.first.0, c.in_default.ensures.framed)
-
-pub take_from_halves-returns-in_err-rest-clause-second : goal.take_from_halves-returns-in_err-rest-clause-second
-take_from_halves-returns-in_err-rest-clause-second g t c =
-    (rw c.in_err-rest.ensures.taken.0 c.requires.second.0, c.in_err-rest.ensures.framed)
-
 pub take_from_halves-returns-in_err-rest-clause-taken : goal.take_from_halves-returns-in_err-rest-clause-taken
 take_from_halves-returns-in_err-rest-clause-taken g t c =
     let none = All-append (λ q. q ≢ c.args.here.now) (entries_of c.args.first.now) (entries_of c.args.second.now)
     c.in_default.ensures.taken.1 c.in_err-rest.ensures.taken.1 in
     rw c.from_residual.ensures (c.in_default.ensures.taken.0, c.in_err-rest.ensures.taken.0, none)
-
-pub take_from_halves-returns-in_err-rest-clause-shown : goal.take_from_halves-returns-in_err-rest-clause-shown
-take_from_halves-returns-in_err-rest-clause-shown g t c =
-    rw c.from_residual.ensures (c.in_err-rest.ensures.shown ∙ c.in_default.ensures.shown)
