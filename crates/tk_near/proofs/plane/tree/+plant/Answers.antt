@@ -12,7 +12,3 @@ returns-clause-moved t c =
     (IsPermutation-trans _ _ _ c.halve.ensures
     (rw c.split_at_mut-lower_row.ensures.value
     (IsPermutation-append _ _ _ _ c.in_ok-lower.ensures.moved c.in_ok-upper.ensures.moved)))
-
-pub returns-clause-entries : goal.returns-clause-entries
-returns-clause-entries t c =
-    rw (c.in_ok-lower.ensures.entries, c.in_ok-upper.ensures.entries) at c.cut_into.ensures.entries
