@@ -2,13 +2,13 @@
 use Rattle.std.proofs.Common.{◌≡◌, ◌≢◌, ℕ, zero, suc, ◌+◌, ◌*◌, ◌-◌, ◌<◌, ◌≤◌, ◌⊎◌, ⊎_elim, inl, inr, List, [], ◌∷◌}
 use Rattle.std.proofs.Common.{◌++◌, length, take, replicate, refl, sym, ap, ◌∙◌, arith, cond, true, false, Bool, get_or}
 use Rattle.std.proofs.Common.{subst}
-use Rattle.std.specs.Prelude.{All, Contains, nat_lt}
+use Rattle.std.specs.Prelude.{All, nat_lt}
 use Rattle.std.proofs.lemmas.Bool.Decides.{nat_tests}
 use Rattle.std.proofs.lemmas.Bool.{cases_eq, cases_lt}
 use Rattle.std.proofs.lemmas.List.{get_or-map, get_or-take, get_or_default, take_all, take-append-le, length-map}
 use Rattle.std.proofs.lemmas.List.{length-take-le, length-replicate, length-append}
 use Rattle.std.proofs.lemmas.List.Elements.{All-cons, All-nil, All-weaker, All-append, All-head, All-tail}
-use Rattle.std.proofs.lemmas.List.Elements.{All-replicate}
+use Rattle.std.proofs.lemmas.List.Elements.{All-replicate, Contains-append_right}
 use Rattle.std.proofs.lemmas.List.Sorted.{All-permutation, Contains-permutation}
 use Rattle.tk_near.specs.declared.candidates.Candidate.{Candidate}
 use Rattle.tk_distance.specs.Cities.{IsCity}
@@ -29,9 +29,6 @@ Rising-at f [] i j d h l m = absurd (omega arith)
 Rising-at f (x ∷ xs) i zero d h l m = absurd (omega arith)
 Rising-at f (x ∷ xs) zero (suc j) d h l m = h.0 j d (omega arith)
 Rising-at f (x ∷ xs) (suc i) (suc j) d h l m = Rising-at f xs i j d h.1 (omega arith) (omega arith)
-
-Contains-behind : {X : Type 0} (x y : X) (xs : List X) → Contains xs y → Contains (x ∷ xs) y
-Contains-behind x y xs h = (suc h.0, omega (arith, h.1), h.2)
 
 -- at first all places are open
 pub KeepsFirst-none : (dist : ℕ → ℕ → ℕ) (c k : ℕ) (Seen : ℕ → Type 0) → ((b : ℕ) → Seen b → ⊥) →
@@ -69,7 +66,7 @@ KeepsFirst-more dist c k m Seen Then kept b h fresh small near bounded keeps now
           (λ x. (x.distance ≡ dist c x.city) × Then x.city) (λ y p. (p.0, keeps _ p.1)) h.whole h.each));
       holds = λ a s. Contains-permutation (x ∷ h.whole) _ (candidate dist c a) perm
           (⊎_elim (λ e. (0, omega arith, ap (candidate dist c) (sym e)))
-          (λ ne. Contains-behind x (candidate dist c a) h.whole (h.holds a (only a s ne))) (cases_eq a b));
+          (λ ne. Contains-append_right (x ∷ []) h.whole (candidate dist c a) (h.holds a (only a s ne))) (cases_eq a b));
       first = ap (λ v. take k (insert_by rank x v)) h.first
           ∙ take-insert_by rank x k (h.whole ++ replicate k open_place)
           ∙ ap (take k)

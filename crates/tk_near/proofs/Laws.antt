@@ -1,20 +1,16 @@
 -- What the definitions determine.
-use Rattle.std.proofs.Common.{◌≡◌, ℕ, zero, suc, ◌<◌, ◌≤◌, ◌⊎◌, ⊎_elim, List, length, sym, ◌∙◌, arith, subst}
+use Rattle.std.proofs.Common.{◌≡◌, ℕ, zero, suc, ◌<◌, ◌≤◌, ⊎_elim, List, length, sym, ◌∙◌, arith, subst}
 use Rattle.std.specs.Prelude.{slice_index}
 use Rattle.std.proofs.lemmas.Bool.{cases_eq}
 use Rattle.std.proofs.lemmas.List.{ext_get_or}
 use Rattle.tk_near.specs.Near.{IsFirst, IsNear}
-
-closer_one_way : (p q a b : ℕ) → (p < q) ⊎ ((p ≡ q) × (a < b)) → (q < p) ⊎ ((q ≡ p) × (b < a)) → ⊥
-closer_one_way p q a b h k =
-    ⊎_elim (λ x. ⊎_elim (λ y. omega arith) (λ y. omega arith) k) (λ x. ⊎_elim (λ y. omega arith) (λ y. omega arith) k) h
 
 -- there is one first city
 pub IsFirst-unique : (dist : ℕ → ℕ → ℕ) (c a b : ℕ) (P Q : ℕ → Type 0) → IsFirst dist c P a → IsFirst dist c Q b →
     P b → Q a → a ≡ b
 IsFirst-unique dist c a b P Q f g pb qa =
     ⊎_elim (λ e. e)
-    (λ ne. absurd (closer_one_way (dist c a) (dist c b) a b (f.before b pb (λ e. ne (sym e))) (g.before a qa ne)))
+    (λ ne. absurd (omega (arith, f.before b pb (λ e. ne (sym e)), g.before a qa ne)))
     (cases_eq a b)
 
 near_agree : (dist : ℕ → ℕ → ℕ) (n k c : ℕ) (xs ys : List ℕ) → IsNear dist n k c xs → IsNear dist n k c ys → (j : ℕ) →

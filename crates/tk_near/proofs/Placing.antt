@@ -3,16 +3,11 @@ use Rattle.std.proofs.Common.{◌≡◌, ℕ, zero, suc, ◌+◌, ◌-◌, ◌<�
 use Rattle.std.proofs.Common.{take, drop, set, refl, sym, ap, ◌∙◌, arith, get_or}
 use Rattle.std.specs.Prelude.{insert}
 use Rattle.std.proofs.lemmas.List.Edits.{get_or-insert_above, get_or-insert_below}
-use Rattle.std.proofs.lemmas.List.{get_or-take, length-take-le}
+use Rattle.std.proofs.lemmas.List.{drop_all, get_or-take, length-take, length-take-le}
 use native.Mathlib.Numerals.{unary_clauses}
 use Rattle.tk_near.specs.declared.candidates.Candidate.{Candidate}
 use Rattle.tk_near.specs.Keeping.{AreOpenFrom, Climbing, insert_by, rank}
 use Rattle.tk_near.proofs.Inserting.{Climbing-take, insert_before, insert_by-below, insert_by-pop}
-
-pub drop-take_same : {X : Type 0} (n : ℕ) (xs : List X) → drop n (take n xs) ≡ []
-drop-take_same zero xs = refl
-drop-take_same (suc n) [] = refl
-drop-take_same (suc n) (y ∷ ys) = drop-take_same n ys
 
 -- a write where an element went in
 set_inserted : {X : Type 0} (i : ℕ) (xs : List X) (y x : X) → i ≤ length xs → set (insert xs i y) i x ≡ insert xs i x
@@ -118,7 +113,7 @@ keep_start x n end filled xs d l ends opens first = elim ends [
         insert_by-drop rank x end (take n xs) d (omega arith) (rw front first),
       )
   | inr e ↦
-      let none : drop end (take n xs) ≡ [] = ap (λ v. drop v (take n xs)) e ∙ drop-take_same n xs in (
+      let none : drop end (take n xs) ≡ [] = drop_all end (take n xs) (omega (arith, e, length-take n xs)) in (
         same_inserted end n xs d l (omega arith) (λ j a b. absurd (omega arith)),
         ap (insert_by rank x) none ∙ ap (λ v. x ∷ v) (sym none),
       )

@@ -1,5 +1,5 @@
 -- What is kept of the cities of a tree, whatever the order.
-use Rattle.std.proofs.Common.{◌≡◌, ◌≢◌, ℕ, zero, suc, ◌+◌, ◌*◌, ◌-◌, ◌<◌, ◌≤◌, ◌⊎◌, ⊎_elim, inl, inr, List, [], ◌∷◌}
+use Rattle.std.proofs.Common.{◌≡◌, ◌≢◌, ℕ, zero, suc, ◌+◌, ◌-◌, ◌<◌, ◌≤◌, ◌⊎◌, ⊎_elim, inl, inr, List, [], ◌∷◌}
 use Rattle.std.proofs.Common.{◌++◌, length, take, replicate, refl, sym, ap, ◌∙◌, arith, cond, true, false, get_or}
 use Rattle.std.proofs.Common.{subst, max}
 use Rattle.std.specs.Prelude.{All, Bool, IsTrue, ◌==◌, nat_lt, ◌-ℤ◌, ◌↔◌}
@@ -76,9 +76,6 @@ with_candidate-swap : (x y : Candidate) (kept : List Candidate) → (rank x ≡ 
 with_candidate-swap x y kept one = with_two x y kept ∙ ap (take (length kept)) (insert_by-swap rank x y kept one)
     ∙ sym (with_two y x kept)
 
-one_number : (p q a b : ℕ) → a < 4294967296 → b < 4294967296 → p * 4294967296 + a ≡ q * 4294967296 + b → a ≡ b
-one_number p q a b la lb e = omega arith
-
 pub with_candidate-length : (x : Candidate) (kept : List Candidate) → length (with_candidate x kept) ≡ length kept
 with_candidate-length x kept =
     length-take-le (length kept) (insert_by rank x kept) (omega (arith, length-insert_by rank x kept))
@@ -107,7 +104,7 @@ module _ (dist : ℕ → ℕ → ℕ) (c : ℕ) where
             (with_candidate x kept) (with_candidate y (with_candidate x kept))) [
               | true ↦ refl
               | false ↦ with_candidate-swap x y kept
-                  (λ e. ap (candidate dist c) (one_number (dist c p.city) (dist c q.city) p.city q.city sp sq e))
+                  (λ e. ap (candidate dist c) (omega (arith, sp, sq, e)))
             ]
       ]
 

@@ -1,7 +1,7 @@
 -- A sweep in x order, one place at a time.
 use Rattle.std.proofs.Common.{◌≡◌, ◌≢◌, ℕ, zero, suc, ◌+◌, ◌*◌, ◌-◌, ◌<◌, ◌≤◌, List, length}
 use Rattle.std.proofs.Common.{take, replicate, sym, arith, get_or, subst}
-use Rattle.std.specs.Prelude.{ℤ, ◌-ℤ◌, ◌≤ℤ◌}
+use Rattle.std.specs.Prelude.{◌-ℤ◌}
 use Rattle.std.specs.Int.RustNames.{unsigned_abs}
 use Rattle.std.proofs.lemmas.Int.{ints}
 use Rattle.tk_problem.specs.declared.limits.TheConstants.{CITY_LIMIT, DISTANCE_LIMIT}
@@ -15,16 +15,6 @@ use Rattle.tk_near.specs.Sweep.{IsXOrder, IsFloor, IsSwept, IsBelow, point_at}
 use Rattle.tk_near.proofs.Inserting.{insert_by-full}
 use Rattle.tk_near.proofs.InPlane.OfRows.{city_small, gap_is, near_place, with_place}
 use Rattle.tk_near.proofs.Keeping.{KeepsFirst-none, KeepsFirst-count, kept_climbing, kept_length}
-
-wider_down : (a b c : ℤ) → a ≤ℤ b → b ≤ℤ c → unsigned_abs (c -ℤ b) ≤ unsigned_abs (c -ℤ a)
-wider_down a b c p q = omega (arith, ints)
-
-wider_up : (a b c : ℤ) → c ≤ℤ b → b ≤ℤ a → unsigned_abs (c -ℤ b) ≤ unsigned_abs (c -ℤ a)
-wider_up a b c p q = omega (arith, ints)
-
--- what the floor says of a place beyond another
-below_weaker : (s t : ℕ) (kept : List Candidate) → s ≤ t → IsBelow s kept → IsBelow t kept
-below_weaker s t kept l h = omega (arith, h)
 
 -- a candidate that is too far changes nothing
 kept_without : (k bound : ℕ) (kept : List Candidate) (x : Candidate) → Climbing rank kept → length kept ≡ k → 1 ≤ k →
@@ -85,7 +75,7 @@ module _ {dist : ℕ → ℕ → ℕ} (limit : (a b : ℕ) → dist a b ≤ DIST
   far_place floor f p q s kept lp lq wider below =
       let e = gap_is n place_of (λ v. v.x) _ _ (o.cities.each p nowhere lp) (o.cities.each q nowhere lq) in
       let rises = f.rises _ _ (rw e at wider) (f.wide (placed_city row p) (placed_city row q)) in
-      below_weaker _ _ kept (omega (arith, rises, f.bounds (placed_city row p) (placed_city row q))) below
+      omega (arith, below, rises, f.bounds (placed_city row p) (placed_city row q))
 
   pub IsSwept-none : (p k : ℕ) → p < length row → IsSwept dist row p p (p + 1) k (replicate k open_place)
   IsSwept-none p k l =
@@ -144,9 +134,12 @@ module _ {dist : ℕ → ℕ → ℕ} (limit : (a b : ℕ) → dist a b ≤ DIST
           within = h.within;
           keeps = far_below (placed_city row p) k p high low kept h.within h.low_end h.high_end one
               (λ q lq. far_place floor f p q _ kept lp (omega (arith, h.low_end))
-              (wider_down (point_at row q).x (point_at row (low - 1)).x (point_at row p).x
-              (o.rising q (low - 1) (omega arith) (omega (arith, h.low_end)))
-              (o.rising (low - 1) p (omega (arith, h.low_end)) lp)) far)
+              (omega (
+                arith,
+                ints,
+                o.rising q (low - 1) (omega arith) (omega (arith, h.low_end)),
+                o.rising (low - 1) p (omega (arith, h.low_end)) lp,
+              )) far)
               h.keeps;
         }
 
@@ -162,8 +155,7 @@ module _ {dist : ℕ → ℕ → ℕ} (limit : (a b : ℕ) → dist a b ≤ DIST
           within = omega arith;
           keeps = far_above (placed_city row p) k p low (length row - high) high kept rest h.low_end h.high_end one
               (λ q hq in'. far_place floor f p q _ kept lp in'
-              (wider_up (point_at row q).x (point_at row high).x (point_at row p).x
-              (o.rising p high (omega (arith, h.high_end)) l) (o.rising high q hq in')) far)
+              (omega (arith, ints, o.rising p high (omega (arith, h.high_end)) l, o.rising high q hq in')) far)
               h.keeps;
         }
 
