@@ -105,8 +105,8 @@ IsTaken-from n load E one two other weight s p ri rj ne capacity h =
     let f = and_parts _ _ d.0 in
     let hi = is_end-from _ _ f.0 in
     let hj = is_end-from _ _ f.1 in
-    let oi = other_end n load E one two other weight s p.i ri hi in
-    let oj = other_end n load E one two other weight s p.j rj hj in
+    let oi = other_end s p.i ri hi in
+    let oj = other_end s p.j rj hj in
     let ap' : part E p.i ≢ part E p.j =
     λ k. both_ways _ (not-true _ (sym (apart_test n load E one two other weight s p.i p.j ri rj ne hi hj) ∙ d.1))
     (eq-eqb _ _ k) in

@@ -1,6 +1,6 @@
 -- The arrays after one more joint.
 use Rattle.std.proofs.Common.{◌≡◌, ◌≢◌, ℕ, ◌+◌, ◌<◌, Bool, true, false, cond, ◌||◌, eqb, List, [], ◌∷◌, ◌++◌}
-use Rattle.std.proofs.Common.{refl, sym, ap, ◌∙◌, ◌⊎◌, ◌↔◌, inl, inr, arith, ⊎_elim, subst, ◌-◌}
+use Rattle.std.proofs.Common.{refl, sym, ap, ◌∙◌, ◌⊎◌, ◌↔◌, inl, inr, arith, ⊎_elim, subst}
 use Rattle.std.proofs.lemmas.Bool.{eq-eqb, ne_eqb, or_left, or_right, or_from, and_from}
 use Rattle.std.proofs.lemmas.Bool.{false_from_ne_true, both_ways, cases_eq, cond-true, cond-false}
 use Rattle.tk_distance.specs.Holding.{holds, IsDistinct}
@@ -50,9 +50,7 @@ pub IsLinked-flip : (i j : ℕ) (one two one' two' : ℕ → ℕ) → IsLinked i
 IsLinked-flip i j one two one' two' l = record { first = l.second; second = l.first; rest = λ c p q. l.rest c q p }
 
 both_above : (p q x y : ℕ) → AreBoth p q x y → 0 < x → 0 < y → (p ≡ 0) ⊎ (q ≡ 0) → ⊥
-both_above p q x y h a b k =
-    ⊎_elim (λ m. ⊎_elim (λ w. omega (arith, m.0, m.1, w)) (λ w. omega (arith, m.0, m.1, w)) k)
-    (λ m. ⊎_elim (λ w. omega (arith, m.0, m.1, w)) (λ w. omega (arith, m.0, m.1, w)) k) h
+both_above p q x y h a b k = omega arith
 
 -- an end that got a neighbour is an end still only where it was a path of its own
 still_end : (one two one' two' : ℕ → ℕ) (i j z : ℕ) (xs : List ℕ) → IsLinked i j one two one' two' → 0 < j →
@@ -89,69 +87,34 @@ linked_count one two one' two' i j l pos h =
     omega (arith, both_count _ _ _ _ a, both_count _ _ _ _ (l.first (one i) a), one_if-above j pos))
     h
 
--- the other end of a path
-pub other_end : (n : ℕ) (load : ℕ → ℕ) (E : List Pair) (one two other weight : ℕ → ℕ) →
-    AreEnds n load E one two other weight → (c : ℕ) → IsCity n c → IsEnd one two c →
-    IsCity n (other c) × (part E (other c) ≡ part E c)
-other_end n load E one two other weight s c r h =
-    let p = s.paths c r h in
-    let k : holds (c ∷ p.0) (other c) ≡ true =
-    subst (λ (w : ℕ). holds (c ∷ p.0) w ≡ true) p.1.last (holds-last c p.0) in
-    (p.1.inside (other c) k, (p.1.whole (other c)).0 k)
+module _ {n : ℕ} {load : ℕ → ℕ} {E : List Pair} {one two other weight : ℕ → ℕ}
+    (s : AreEnds n load E one two other weight) where
+  -- the other end of a path
+  pub other_end : (c : ℕ) → IsCity n c → IsEnd one two c → IsCity n (other c) × (part E (other c) ≡ part E c)
+  other_end c r h =
+      let p = s.paths c r h in
+      let k : holds (c ∷ p.0) (other c) ≡ true =
+      subst (λ (w : ℕ). holds (c ∷ p.0) w ≡ true) p.1.last (holds-last c p.0) in
+      (p.1.inside (other c) k, (p.1.whole (other c)).0 k)
 
--- the cities that end a path after the joint
-pub after : (n : ℕ) (load : ℕ → ℕ) (E : List Pair) (e : Pair) (one two other weight one' two' other' weight' : ℕ → ℕ) →
-    IsJoin n load E e one two other weight one' two' other' weight' →
-    (c : ℕ) → IsCity n c → IsEnd one' two' c →
-    (c ≡ other e.i) ⊎ ((c ≡ other e.j) ⊎ ((c ≢ other e.i) × (c ≢ other e.j) × (c ≢ e.i) × (c ≢ e.j) × IsEnd one two c))
-after n load E e one two other weight one' two' other' weight' m c r h =
-    let s = m.ends in
-    let pi = s.paths e.i m.first.0 m.first.1 in
-    let pj = s.paths e.j m.second.0 m.second.1 in
-    ⊎_elim
-    (λ (k : c ≡ e.i). inl
-    (k ∙ still_end one two one' two' e.i e.j (other e.i) pi.0 m.linked m.second.0.0 pi.1.last pi.1.follows
-    (subst (λ (w : ℕ). IsEnd one' two' w) k h)))
-    (λ (ni : c ≢ e.i).
-    ⊎_elim
-    (λ (k : c ≡ e.j). inr
-    (inl (k ∙ still_end one two one' two' e.j e.i (other e.j) pj.0 (IsLinked-flip _ _ _ _ _ _ m.linked) m.first.0.0
-    pj.1.last pj.1.follows (subst (λ (w : ℕ). IsEnd one' two' w) k h))))
-    (λ (nj : c ≢ e.j).
-    ⊎_elim
-    (λ (k : c ≡ other e.i). inl k)
-    (λ (na : c ≢ other e.i).
-    ⊎_elim
-    (λ (k : c ≡ other e.j). inr (inl k))
-    (λ (nb : c ≢ other e.j).
-    let l = m.linked.rest c ni nj in
-    inr (inr (na, nb, ni, nj, ⊎_elim (λ w. inl (sym l.0 ∙ w)) (λ w. inr (sym l.1 ∙ w)) h)))
-    (cases_eq c (other e.j)))
-    (cases_eq c (other e.i)))
-    (cases_eq c e.j))
-    (cases_eq c e.i)
+  -- an end of another path is in neither part
+  elsewhere : (i c : ℕ) → IsCity n i → IsEnd one two i → IsCity n c → IsEnd one two c → c ≢ i → c ≢ other i →
+      part E c ≢ part E i
+  elsewhere i c ri hi rc hc p q k = ⊎_elim p q (s.only i c ri rc hi hc k)
 
--- an end of another path is in neither part
-elsewhere : (n : ℕ) (load : ℕ → ℕ) (E : List Pair) (one two other weight : ℕ → ℕ) →
-    AreEnds n load E one two other weight → (i c : ℕ) → IsCity n i → IsEnd one two i → IsCity n c → IsEnd one two c →
-    c ≢ i → c ≢ other i → part E c ≢ part E i
-elsewhere n load E one two other weight s i c ri hi rc hc p q k = ⊎_elim p q (s.only i c ri rc hi hc k)
-
--- the first city's other end stays an end
-far_end : (n : ℕ) (load : ℕ → ℕ) (E : List Pair) (one two other weight one' two' : ℕ → ℕ) →
-    AreEnds n load E one two other weight → (i j : ℕ) → IsCity n i → IsEnd one two i → IsCity n j →
-    part E i ≢ part E j → IsLinked i j one two one' two' →
-    IsEnd one' two' (other i)
-far_end n load E one two other weight one' two' s i j ri hi rj apart l =
-    let p = s.paths i ri hi in
-    let o = other_end n load E one two other weight s i ri hi in
-    ⊎_elim
-    (λ (k : i ≡ other i). subst (λ (w : ℕ). IsEnd one' two' w) k
-    (single_end one two one' two' i j (other i) p.0 l p.1.last p.1.follows p.1.distinct k))
-    (λ (ne : i ≢ other i).
-    let z = l.rest (other i) (λ k. ne (sym k)) (λ k. apart (sym o.1 ∙ ap (part E) k)) in
-    ⊎_elim (λ w. inl (z.0 ∙ w)) (λ w. inr (z.1 ∙ w)) (s.back i ri hi).0)
-    (cases_eq i (other i))
+  -- the first city's other end stays an end
+  far_end : (one' two' : ℕ → ℕ) (i j : ℕ) → IsCity n i → IsEnd one two i → part E i ≢ part E j →
+      IsLinked i j one two one' two' → IsEnd one' two' (other i)
+  far_end one' two' i j ri hi apart l =
+      let p = s.paths i ri hi in
+      let o = other_end i ri hi in
+      ⊎_elim
+      (λ (k : i ≡ other i). subst (λ (w : ℕ). IsEnd one' two' w) k
+      (single_end one two one' two' i j (other i) p.0 l p.1.last p.1.follows p.1.distinct k))
+      (λ (ne : i ≢ other i).
+      let z = l.rest (other i) (λ k. ne (sym k)) (λ k. apart (sym o.1 ∙ ap (part E) k)) in
+      ⊎_elim (λ w. inl (z.0 ∙ w)) (λ w. inr (z.1 ∙ w)) (s.back i ri hi).0)
+      (cases_eq i (other i))
 
 -- a path elsewhere stays
 path_stays : (n : ℕ) (E : List Pair) (e : Pair) (one two one' two' : ℕ → ℕ) (c z : ℕ) (xs : List ℕ) →
@@ -210,209 +173,209 @@ joints_at-no E e c p q =
     or_from _ _ (ne_eqb _ _ (λ (k : e.i ≡ c). p (sym k))) (ne_eqb _ _ (λ (k : e.j ≡ c). q (sym k))) in
     none_added _ _ t
 
-degree-after : (n : ℕ) (load : ℕ → ℕ) (E : List Pair) (e : Pair)
-    (one two other weight one' two' other' weight' : ℕ → ℕ) →
-    IsJoin n load E e one two other weight one' two' other' weight' →
-    (c : ℕ) → IsCity n c → joints_at (e ∷ E) c ≡ one_if (one' c) + one_if (two' c)
-degree-after n load E e one two other weight one' two' other' weight' m c r =
-    let d = m.ends.degree c r in
-    ⊎_elim
-    (λ (k : c ≡ e.i).
-    let x = joints_at-yes E e c (inl (sym k)) in
-    let y = subst (λ (w : ℕ). one_if (one' w) + one_if (two' w) ≡ 1 + (one_if (one w) + one_if (two w))) (sym k)
-    (linked_count one two one' two' e.i e.j m.linked m.second.0.0 m.first.1) in
-    omega (arith, d, x, y))
-    (λ (ni : c ≢ e.i).
-    ⊎_elim
-    (λ (k : c ≡ e.j).
-    let x = joints_at-yes E e c (inr (sym k)) in
-    let y = subst (λ (w : ℕ). one_if (one' w) + one_if (two' w) ≡ 1 + (one_if (one w) + one_if (two w))) (sym k)
-    (linked_count one two one' two' e.j e.i (IsLinked-flip _ _ _ _ _ _ m.linked) m.first.0.0 m.second.1) in
-    omega (arith, d, x, y))
-    (λ (nj : c ≢ e.j).
-    let l = m.linked.rest c ni nj in
-    rw (l.0, l.1) (joints_at-no E e c ni nj ∙ d))
-    (cases_eq c e.j))
-    (cases_eq c e.i)
+module _ {n : ℕ} {load : ℕ → ℕ} {E : List Pair} {e : Pair} {one two other weight one' two' other' weight' : ℕ → ℕ}
+    (m : IsJoin n load E e one two other weight one' two' other' weight') where
+  flipped : IsLinked e.j e.i one two one' two'
+  flipped = IsLinked-flip _ _ _ _ _ _ m.linked
 
-paths-after : (n : ℕ) (load : ℕ → ℕ) (E : List Pair) (e : Pair)
-    (one two other weight one' two' other' weight' : ℕ → ℕ) →
-    IsJoin n load E e one two other weight one' two' other' weight' →
-    (c : ℕ) → IsCity n c → IsEnd one' two' c → (xs : List ℕ) × IsPathOf n (e ∷ E) one' two' c (other' c) xs
-paths-after n load E e one two other weight one' two' other' weight' m c r h =
-    let s = m.ends in
-    let pi = s.paths e.i m.first.0 m.first.1 in
-    let pj = s.paths e.j m.second.0 m.second.1 in
-    let oi = other_end n load E one two other weight s e.i m.first.0 m.first.1 in
-    let oj = other_end n load E one two other weight s e.j m.second.0 m.second.1 in
-    let bi = s.back e.i m.first.0 m.first.1 in
-    let bj = s.back e.j m.second.0 m.second.1 in
-    let qi = s.paths (other e.i) oi.0 bi.0 in
-    let qj = s.paths (other e.j) oj.0 bj.0 in
-    ⊎_elim
-    (λ (k : c ≡ other e.i).
-    let P = subst (λ (w : ℕ). IsPathOf n E one two (other e.i) w qi.0) bi.1 qi.1 in
-    let N = new_path n E e one two one' two' e.i e.j (other e.i) (other e.j) qi.0 pj.0 P pj.1 m.apart oi.1
-    (joined-first E e) (λ b. members E e (other e.i) b m.apart (inl oi.1)) m.linked in
-    subst (λ (w : ℕ). (xs : List ℕ) × IsPathOf n (e ∷ E) one' two' w (other' w) xs) (sym k) (
-      qi.0 ++ e.j ∷ pj.0,
-      subst (λ (w : ℕ). IsPathOf n (e ∷ E) one' two' (other e.i) w (qi.0 ++ e.j ∷ pj.0))
-          (sym m.far.first) N,
-    ))
-    (λ g. ⊎_elim
-    (λ (k : c ≡ other e.j).
-    let P = subst (λ (w : ℕ). IsPathOf n E one two (other e.j) w qj.0) bj.1 qj.1 in
-    let N = new_path n E e one two one' two' e.j e.i (other e.j) (other e.i) qj.0 pi.0 P pi.1 (λ w. m.apart (sym w))
-    oj.1 (joined-second E e) (λ b. turned (members E e (other e.j) b m.apart (inr oj.1)))
-    (IsLinked-flip _ _ _ _ _ _ m.linked) in
-    subst (λ (w : ℕ). (xs : List ℕ) × IsPathOf n (e ∷ E) one' two' w (other' w) xs) (sym k) (
-      qj.0 ++ e.i ∷ pi.0,
-      subst (λ (w : ℕ). IsPathOf n (e ∷ E) one' two' (other e.j) w (qj.0 ++ e.i ∷ pi.0))
-          (sym m.far.second) N,
-    ))
-    (λ k.
-    let p = s.paths c r k.4 in
-    let N = path_stays n E e one two one' two' c (other c) p.0 m.linked
-    (elsewhere n load E one two other weight s e.i c m.first.0 m.first.1 r k.4 k.2 k.0)
-    (elsewhere n load E one two other weight s e.j c m.second.0 m.second.1 r k.4 k.3 k.1) p.1 in
-    (p.0, subst (λ (w : ℕ). IsPathOf n (e ∷ E) one' two' c w p.0) (sym (m.far.rest c k.0 k.1)) N))
-    g)
-    (after n load E e one two other weight one' two' other' weight' m c r h)
+  -- the other ends of the two paths that are joined
+  first_far : IsCity n (other e.i) × (part E (other e.i) ≡ part E e.i)
+  first_far = other_end m.ends e.i m.first.0 m.first.1
 
-back-after : (n : ℕ) (load : ℕ → ℕ) (E : List Pair) (e : Pair) (one two other weight one' two' other' weight' : ℕ → ℕ) →
-    IsJoin n load E e one two other weight one' two' other' weight' →
-    (c : ℕ) → IsCity n c → IsEnd one' two' c → IsEnd one' two' (other' c) × (other' (other' c) ≡ c)
-back-after n load E e one two other weight one' two' other' weight' m c r h =
-    let s = m.ends in
-    let oi = other_end n load E one two other weight s e.i m.first.0 m.first.1 in
-    let oj = other_end n load E one two other weight s e.j m.second.0 m.second.1 in
-    let bi = s.back e.i m.first.0 m.first.1 in
-    let bj = s.back e.j m.second.0 m.second.1 in
-    let fi = far_end n load E one two other weight one' two' s e.i e.j m.first.0 m.first.1 m.second.0
-    m.apart m.linked in
-    let fj = far_end n load E one two other weight one' two' s e.j e.i m.second.0 m.second.1 m.first.0
-    (λ w. m.apart (sym w)) (IsLinked-flip _ _ _ _ _ _ m.linked) in
-    ⊎_elim
-    (λ (k : c ≡ other e.i).
-    subst (λ (w : ℕ). IsEnd one' two' (other' w) × (other' (other' w) ≡ w)) (sym k)
-    (subst (λ (w : ℕ). IsEnd one' two' w) (sym m.far.first) fj, ap other' m.far.first ∙ m.far.second))
-    (λ g. ⊎_elim
-    (λ (k : c ≡ other e.j).
-    subst (λ (w : ℕ). IsEnd one' two' (other' w) × (other' (other' w) ≡ w)) (sym k)
-    (subst (λ (w : ℕ). IsEnd one' two' w) (sym m.far.second) fi, ap other' m.far.second ∙ m.far.first))
-    (λ k.
-    let b = s.back c r k.4 in
-    let same = m.far.rest c k.0 k.1 in
-    let ni : other c ≢ e.i = λ w. k.0 (sym b.1 ∙ ap other w) in
-    let nj : other c ≢ e.j = λ w. k.1 (sym b.1 ∙ ap other w) in
-    let na : other c ≢ other e.i = λ w. k.2 (sym b.1 ∙ (ap other w ∙ bi.1)) in
-    let nb : other c ≢ other e.j = λ w. k.3 (sym b.1 ∙ (ap other w ∙ bj.1)) in
-    let l = m.linked.rest (other c) ni nj in
-    let x : IsEnd one' two' (other c) = ⊎_elim (λ w. inl (l.0 ∙ w)) (λ w. inr (l.1 ∙ w)) b.0 in
-    (subst (λ (w : ℕ). IsEnd one' two' w) (sym same) x, ap other' same ∙ (m.far.rest (other c) na nb ∙ b.1)))
-    g)
-    (after n load E e one two other weight one' two' other' weight' m c r h)
+  second_far : IsCity n (other e.j) × (part E (other e.j) ≡ part E e.j)
+  second_far = other_end m.ends e.j m.second.0 m.second.1
 
-only-after : (n : ℕ) (load : ℕ → ℕ) (E : List Pair) (e : Pair) (one two other weight one' two' other' weight' : ℕ → ℕ) →
-    IsJoin n load E e one two other weight one' two' other' weight' →
-    (c d : ℕ) → IsCity n c → IsCity n d → IsEnd one' two' c → IsEnd one' two' d → part (e ∷ E) d ≡ part (e ∷ E) c →
-    (d ≡ c) ⊎ (d ≡ other' c)
-only-after n load E e one two other weight one' two' other' weight' m c d rc rd hc hd same =
-    let s = m.ends in
-    let oi = other_end n load E one two other weight s e.i m.first.0 m.first.1 in
-    let oj = other_end n load E one two other weight s e.j m.second.0 m.second.1 in
-    let ta : part (e ∷ E) (other e.i) ≡ part E e.i = part-first E e (other e.i) m.apart oi.1 in
-    let tb : part (e ∷ E) (other e.j) ≡ part E e.i = part-second E e (other e.j) oj.1 in
-    let away : (x : ℕ) → IsCity n x → (x ≢ other e.i) × (x ≢ other e.j) × (x ≢ e.i) × (x ≢ e.j) × IsEnd one two x →
-    part (e ∷ E) x ≢ part E e.i =
-    λ x rx k w. ⊎_elim
-    (elsewhere n load E one two other weight s e.i x m.first.0 m.first.1 rx k.4 k.2 k.0)
-    (elsewhere n load E one two other weight s e.j x m.second.0 m.second.1 rx k.4 k.3 k.1)
-    (part-joined E e x m.apart w) in
-    ⊎_elim
-    (λ (p : c ≡ other e.i). ⊎_elim
-    (λ (q : d ≡ other e.i). inl (q ∙ sym p))
-    (λ g. ⊎_elim
-    (λ (q : d ≡ other e.j). inr (q ∙ (sym m.far.first ∙ ap other' (sym p))))
-    (λ k. absurd (away d rd k (same ∙ (ap (part (e ∷ E)) p ∙ ta))))
-    g)
-    (after n load E e one two other weight one' two' other' weight' m d rd hd))
-    (λ f. ⊎_elim
-    (λ (p : c ≡ other e.j). ⊎_elim
-    (λ (q : d ≡ other e.i). inr (q ∙ (sym m.far.second ∙ ap other' (sym p))))
-    (λ g. ⊎_elim
-    (λ (q : d ≡ other e.j). inl (q ∙ sym p))
-    (λ k. absurd (away d rd k (same ∙ (ap (part (e ∷ E)) p ∙ tb))))
-    g)
-    (after n load E e one two other weight one' two' other' weight' m d rd hd))
-    (λ k. ⊎_elim
-    (λ (q : d ≡ other e.i). absurd (away c rc k (sym same ∙ (ap (part (e ∷ E)) q ∙ ta))))
-    (λ g. ⊎_elim
-    (λ (q : d ≡ other e.j). absurd (away c rc k (sym same ∙ (ap (part (e ∷ E)) q ∙ tb))))
-    (λ w.
-    let t = (part-stays E e c d
-    (elsewhere n load E one two other weight s e.i c m.first.0 m.first.1 rc k.4 k.2 k.0)
-    (elsewhere n load E one two other weight s e.j c m.second.0 m.second.1 rc k.4 k.3 k.1)).0 same in
-    ⊎_elim (λ x. inl x) (λ x. inr (x ∙ sym (m.far.rest c k.0 k.1))) (s.only c d rc rd k.4 w.4 t))
-    g)
-    (after n load E e one two other weight one' two' other' weight' m d rd hd))
-    f)
-    (after n load E e one two other weight one' two' other' weight' m c rc hc)
+  first_back : IsEnd one two (other e.i) × (other (other e.i) ≡ e.i)
+  first_back = m.ends.back e.i m.first.0 m.first.1
 
-total-after : (n : ℕ) (load : ℕ → ℕ) (E : List Pair) (e : Pair)
-    (one two other weight one' two' other' weight' : ℕ → ℕ) →
-    IsJoin n load E e one two other weight one' two' other' weight' →
-    (c : ℕ) → IsCity n c → IsEnd one' two' c → weight' c ≡ part_load load (e ∷ E) n (part (e ∷ E) c)
-total-after n load E e one two other weight one' two' other' weight' m c r h =
-    let s = m.ends in
-    let oi = other_end n load E one two other weight s e.i m.first.0 m.first.1 in
-    let oj = other_end n load E one two other weight s e.j m.second.0 m.second.1 in
-    let ta : part (e ∷ E) (other e.i) ≡ part E e.i = part-first E e (other e.i) m.apart oi.1 in
-    let tb : part (e ∷ E) (other e.j) ≡ part E e.i = part-second E e (other e.j) oj.1 in
-    let sum : weight e.i + weight e.j ≡ part_load load (e ∷ E) n (part E e.i) =
-    omega (
-      arith,
-      part_load-joined load E e n m.apart,
-      s.total e.i m.first.0 m.first.1,
-      s.total e.j m.second.0 m.second.1,
-    ) in
-    ⊎_elim
-    (λ (k : c ≡ other e.i).
-    subst (λ (w : ℕ). weight' w ≡ part_load load (e ∷ E) n (part (e ∷ E) w)) (sym k) (m.heavy.first
-    ∙ (sum ∙ ap (part_load load (e ∷ E) n) (sym ta))))
-    (λ g. ⊎_elim
-    (λ (k : c ≡ other e.j).
-    subst (λ (w : ℕ). weight' w ≡ part_load load (e ∷ E) n (part (e ∷ E) w)) (sym k) (m.heavy.second
-    ∙ (sum ∙ ap (part_load load (e ∷ E) n) (sym tb))))
-    (λ k.
-    let p = elsewhere n load E one two other weight s e.i c m.first.0 m.first.1 r k.4 k.2 k.0 in
-    let q = elsewhere n load E one two other weight s e.j c m.second.0 m.second.1 r k.4 k.3 k.1 in
-    m.heavy.rest c k.0 k.1
-    ∙ (s.total c r k.4
-    ∙ (sym (part_load-stays load E e n (part E c) p q) ∙ ap (part_load load (e ∷ E) n) (sym (part-other E e c q)))))
-    g)
-    (after n load E e one two other weight one' two' other' weight' m c r h)
+  second_back : IsEnd one two (other e.j) × (other (other e.j) ≡ e.j)
+  second_back = m.ends.back e.j m.second.0 m.second.1
 
-covered-after : (n : ℕ) (load : ℕ → ℕ) (E : List Pair) (e : Pair)
-    (one two other weight one' two' other' weight' : ℕ → ℕ) →
-    IsJoin n load E e one two other weight one' two' other' weight' →
-    (c : ℕ) → IsCity n c → (d : ℕ) × (IsCity n d × IsEnd one' two' d × (part (e ∷ E) d ≡ part (e ∷ E) c))
-covered-after n load E e one two other weight one' two' other' weight' m c r =
-    let s = m.ends in
-    let oi = other_end n load E one two other weight s e.i m.first.0 m.first.1 in
-    let ta : part (e ∷ E) (other e.i) ≡ part E e.i = part-first E e (other e.i) m.apart oi.1 in
-    let fi = far_end n load E one two other weight one' two' s e.i e.j m.first.0 m.first.1 m.second.0
-    m.apart m.linked in
-    ⊎_elim
-    (λ (k : part E c ≡ part E e.i). (other e.i, (oi.0, fi, ta ∙ sym (part-first E e c m.apart k))))
-    (λ (ni : part E c ≢ part E e.i). ⊎_elim
-    (λ (k : part E c ≡ part E e.j). (other e.i, (oi.0, fi, ta ∙ sym (part-second E e c k))))
-    (λ (nj : part E c ≢ part E e.j).
-    let v = s.covered c r in
-    let l = m.linked.rest v.0 (λ k. ni (sym v.1.2 ∙ ap (part E) k)) (λ k. nj (sym v.1.2 ∙ ap (part E) k)) in
-    (v.0, (v.1.0, ⊎_elim (λ w. inl (l.0 ∙ w)) (λ w. inr (l.1 ∙ w)) v.1.1, (part-stays E e c v.0 ni nj).1 v.1.2)))
-    (cases_eq (part E c) (part E e.j)))
-    (cases_eq (part E c) (part E e.i))
+  -- the cities that end a path after the joint: those two, and the ends of other paths
+  abbrev IsNewEnd : ℕ → Type 0
+  IsNewEnd c = (c ≡ other e.i) ⊎ (c ≡ other e.j)
+
+  abbrev IsAway : ℕ → Type 0
+  IsAway c = (c ≢ other e.i) × (c ≢ other e.j) × (c ≢ e.i) × (c ≢ e.j) × IsEnd one two c
+
+  after : (c : ℕ) → IsEnd one' two' c → IsNewEnd c ⊎ IsAway c
+  after c h =
+      let pi = m.ends.paths e.i m.first.0 m.first.1 in
+      let pj = m.ends.paths e.j m.second.0 m.second.1 in
+      ⊎_elim
+      (λ (k : c ≡ e.i). inl (inl
+      (k ∙ still_end one two one' two' e.i e.j (other e.i) pi.0 m.linked m.second.0.0 pi.1.last pi.1.follows
+      (subst (λ (w : ℕ). IsEnd one' two' w) k h))))
+      (λ (ni : c ≢ e.i). ⊎_elim
+      (λ (k : c ≡ e.j). inl (inr
+      (k ∙ still_end one two one' two' e.j e.i (other e.j) pj.0 flipped m.first.0.0 pj.1.last pj.1.follows
+      (subst (λ (w : ℕ). IsEnd one' two' w) k h))))
+      (λ (nj : c ≢ e.j). ⊎_elim
+      (λ (k : c ≡ other e.i). inl (inl k))
+      (λ (na : c ≢ other e.i). ⊎_elim
+      (λ (k : c ≡ other e.j). inl (inr k))
+      (λ (nb : c ≢ other e.j).
+      let l = m.linked.rest c ni nj in
+      inr (na, nb, ni, nj, ⊎_elim (λ w. inl (sym l.0 ∙ w)) (λ w. inr (sym l.1 ∙ w)) h))
+      (cases_eq c (other e.j)))
+      (cases_eq c (other e.i)))
+      (cases_eq c e.j))
+      (cases_eq c e.i)
+
+  away : (c : ℕ) → IsCity n c → IsAway c → (part E c ≢ part E e.i) × (part E c ≢ part E e.j)
+  away c r k = (
+    elsewhere m.ends e.i c m.first.0 m.first.1 r k.4 k.2 k.0,
+    elsewhere m.ends e.j c m.second.0 m.second.1 r k.4 k.3 k.1,
+  )
+
+  new_part : (c : ℕ) → IsNewEnd c → part (e ∷ E) c ≡ part E e.i
+  new_part c k =
+      ⊎_elim (λ w. ap (part (e ∷ E)) w ∙ part-first E e (other e.i) m.apart first_far.1)
+      (λ w. ap (part (e ∷ E)) w ∙ part-second E e (other e.j) second_far.1) k
+
+  new_end : (c : ℕ) → IsNewEnd c → IsEnd one' two' c
+  new_end c k =
+      ⊎_elim
+      (λ w. subst (λ (x : ℕ). IsEnd one' two' x) (sym w)
+      (far_end m.ends one' two' e.i e.j m.first.0 m.first.1 m.apart m.linked))
+      (λ w. subst (λ (x : ℕ). IsEnd one' two' x) (sym w)
+      (far_end m.ends one' two' e.j e.i m.second.0 m.second.1 (λ v. m.apart (sym v)) flipped)) k
+
+  degree-after : (c : ℕ) → IsCity n c → joints_at (e ∷ E) c ≡ one_if (one' c) + one_if (two' c)
+  degree-after c r =
+      let d = m.ends.degree c r in
+      ⊎_elim
+      (λ (k : c ≡ e.i).
+      let x = joints_at-yes E e c (inl (sym k)) in
+      let y = subst (λ (w : ℕ). one_if (one' w) + one_if (two' w) ≡ 1 + (one_if (one w) + one_if (two w))) (sym k)
+      (linked_count one two one' two' e.i e.j m.linked m.second.0.0 m.first.1) in
+      omega (arith, d, x, y))
+      (λ (ni : c ≢ e.i). ⊎_elim
+      (λ (k : c ≡ e.j).
+      let x = joints_at-yes E e c (inr (sym k)) in
+      let y = subst (λ (w : ℕ). one_if (one' w) + one_if (two' w) ≡ 1 + (one_if (one w) + one_if (two w))) (sym k)
+      (linked_count one two one' two' e.j e.i flipped m.first.0.0 m.second.1) in
+      omega (arith, d, x, y))
+      (λ (nj : c ≢ e.j). let l = m.linked.rest c ni nj in rw (l.0, l.1) (joints_at-no E e c ni nj ∙ d))
+      (cases_eq c e.j))
+      (cases_eq c e.i)
+
+  paths-after : (c : ℕ) → IsCity n c → IsEnd one' two' c →
+      (xs : List ℕ) × IsPathOf n (e ∷ E) one' two' c (other' c) xs
+  paths-after c r h =
+      let pi = m.ends.paths e.i m.first.0 m.first.1 in
+      let pj = m.ends.paths e.j m.second.0 m.second.1 in
+      let qi = m.ends.paths (other e.i) first_far.0 first_back.0 in
+      let qj = m.ends.paths (other e.j) second_far.0 second_back.0 in
+      ⊎_elim
+      (λ f. ⊎_elim
+      (λ (k : c ≡ other e.i).
+      let P = subst (λ (w : ℕ). IsPathOf n E one two (other e.i) w qi.0) first_back.1 qi.1 in
+      let N = new_path n E e one two one' two' e.i e.j (other e.i) (other e.j) qi.0 pj.0 P pj.1 m.apart first_far.1
+      (joined-first E e) (λ b. members E e (other e.i) b m.apart (inl first_far.1)) m.linked in
+      subst (λ (w : ℕ). (xs : List ℕ) × IsPathOf n (e ∷ E) one' two' w (other' w) xs) (sym k) (
+        qi.0 ++ e.j ∷ pj.0,
+        subst (λ (w : ℕ). IsPathOf n (e ∷ E) one' two' (other e.i) w (qi.0 ++ e.j ∷ pj.0)) (sym m.far.first) N,
+      ))
+      (λ (k : c ≡ other e.j).
+      let P = subst (λ (w : ℕ). IsPathOf n E one two (other e.j) w qj.0) second_back.1 qj.1 in
+      let N = new_path n E e one two one' two' e.j e.i (other e.j) (other e.i) qj.0 pi.0 P pi.1
+      (λ w. m.apart (sym w)) second_far.1 (joined-second E e)
+      (λ b. turned (members E e (other e.j) b m.apart (inr second_far.1))) flipped in
+      subst (λ (w : ℕ). (xs : List ℕ) × IsPathOf n (e ∷ E) one' two' w (other' w) xs) (sym k) (
+        qj.0 ++ e.i ∷ pi.0,
+        subst (λ (w : ℕ). IsPathOf n (e ∷ E) one' two' (other e.j) w (qj.0 ++ e.i ∷ pi.0)) (sym m.far.second) N,
+      ))
+      f)
+      (λ k.
+      let p = m.ends.paths c r k.4 in
+      let apart = away c r k in
+      let N = path_stays n E e one two one' two' c (other c) p.0 m.linked apart.0 apart.1 p.1 in
+      (p.0, subst (λ (w : ℕ). IsPathOf n (e ∷ E) one' two' c w p.0) (sym (m.far.rest c k.0 k.1)) N))
+      (after c h)
+
+  back-after : (c : ℕ) → IsCity n c → IsEnd one' two' c → IsEnd one' two' (other' c) × (other' (other' c) ≡ c)
+  back-after c r h =
+      ⊎_elim
+      (λ f. ⊎_elim
+      (λ (k : c ≡ other e.i).
+      let far : other' c ≡ other e.j = ap other' k ∙ m.far.first in
+      (new_end (other' c) (inr far), ap other' far ∙ (m.far.second ∙ sym k)))
+      (λ (k : c ≡ other e.j).
+      let far : other' c ≡ other e.i = ap other' k ∙ m.far.second in
+      (new_end (other' c) (inl far), ap other' far ∙ (m.far.first ∙ sym k)))
+      f)
+      (λ k.
+      let b = m.ends.back c r k.4 in
+      let same = m.far.rest c k.0 k.1 in
+      let ni : other c ≢ e.i = λ w. k.0 (sym b.1 ∙ ap other w) in
+      let nj : other c ≢ e.j = λ w. k.1 (sym b.1 ∙ ap other w) in
+      let na : other c ≢ other e.i = λ w. k.2 (sym b.1 ∙ (ap other w ∙ first_back.1)) in
+      let nb : other c ≢ other e.j = λ w. k.3 (sym b.1 ∙ (ap other w ∙ second_back.1)) in
+      let l = m.linked.rest (other c) ni nj in
+      let x : IsEnd one' two' (other c) = ⊎_elim (λ w. inl (l.0 ∙ w)) (λ w. inr (l.1 ∙ w)) b.0 in
+      (subst (λ (w : ℕ). IsEnd one' two' w) (sym same) x, ap other' same ∙ (m.far.rest (other c) na nb ∙ b.1)))
+      (after c h)
+
+  only-after : (c d : ℕ) → IsCity n c → IsCity n d → IsEnd one' two' c → IsEnd one' two' d →
+      part (e ∷ E) d ≡ part (e ∷ E) c → (d ≡ c) ⊎ (d ≡ other' c)
+  only-after c d rc rd hc hd same =
+      let gone : (x : ℕ) → IsCity n x → IsAway x → part (e ∷ E) x ≢ part E e.i =
+      λ x rx k w. let apart = away x rx k in ⊎_elim apart.0 apart.1 (part-joined E e x m.apart w) in
+      ⊎_elim
+      (λ (p : IsNewEnd c). ⊎_elim
+      (λ (q : IsNewEnd d). ⊎_elim
+      (λ u. ⊎_elim (λ v. inl (v ∙ sym u)) (λ v. inr (v ∙ (sym m.far.first ∙ ap other' (sym u)))) q)
+      (λ u. ⊎_elim (λ v. inr (v ∙ (sym m.far.second ∙ ap other' (sym u)))) (λ v. inl (v ∙ sym u)) q)
+      p)
+      (λ (k : IsAway d). absurd (gone d rd k (same ∙ new_part c p)))
+      (after d hd))
+      (λ (k : IsAway c). ⊎_elim
+      (λ (q : IsNewEnd d). absurd (gone c rc k (sym same ∙ new_part d q)))
+      (λ (w : IsAway d).
+      let apart = away c rc k in
+      ⊎_elim (λ x. inl x) (λ x. inr (x ∙ sym (m.far.rest c k.0 k.1)))
+      (m.ends.only c d rc rd k.4 w.4 ((part-stays E e c d apart.0 apart.1).0 same)))
+      (after d hd))
+      (after c hc)
+
+  total-after : (c : ℕ) → IsCity n c → IsEnd one' two' c → weight' c ≡ part_load load (e ∷ E) n (part (e ∷ E) c)
+  total-after c r h =
+      let sum : weight e.i + weight e.j ≡ part_load load (e ∷ E) n (part E e.i) =
+      omega (
+        arith,
+        part_load-joined load E e n m.apart,
+        m.ends.total e.i m.first.0 m.first.1,
+        m.ends.total e.j m.second.0 m.second.1,
+      ) in
+      ⊎_elim
+      (λ k.
+      ⊎_elim (λ w. ap weight' w ∙ m.heavy.first) (λ w. ap weight' w ∙ m.heavy.second) k
+      ∙ (sum ∙ ap (part_load load (e ∷ E) n) (sym (new_part c k))))
+      (λ k.
+      let apart = away c r k in
+      m.heavy.rest c k.0 k.1
+      ∙ (m.ends.total c r k.4
+      ∙ (sym (part_load-stays load E e n (part E c) apart.0 apart.1)
+      ∙ ap (part_load load (e ∷ E) n) (sym (part-other E e c apart.1)))))
+      (after c h)
+
+  covered-after : (c : ℕ) → IsCity n c →
+      (d : ℕ) × (IsCity n d × IsEnd one' two' d × (part (e ∷ E) d ≡ part (e ∷ E) c))
+  covered-after c r =
+      let far : IsNewEnd (other e.i) = inl refl in
+      let end = new_end (other e.i) far in
+      let t = new_part (other e.i) far in
+      ⊎_elim
+      (λ (k : part E c ≡ part E e.i). (other e.i, (first_far.0, end, t ∙ sym (part-first E e c m.apart k))))
+      (λ (ni : part E c ≢ part E e.i). ⊎_elim
+      (λ (k : part E c ≡ part E e.j). (other e.i, (first_far.0, end, t ∙ sym (part-second E e c k))))
+      (λ (nj : part E c ≢ part E e.j).
+      let v = m.ends.covered c r in
+      let l = m.linked.rest v.0 (λ k. ni (sym v.1.2 ∙ ap (part E) k)) (λ k. nj (sym v.1.2 ∙ ap (part E) k)) in
+      (v.0, (v.1.0, ⊎_elim (λ w. inl (l.0 ∙ w)) (λ w. inr (l.1 ∙ w)) v.1.1, (part-stays E e c v.0 ni nj).1 v.1.2)))
+      (cases_eq (part E c) (part E e.j)))
+      (cases_eq (part E c) (part E e.i))
 
 pub AreEnds-joined : (n : ℕ) (load : ℕ → ℕ) (E : List Pair) (e : Pair)
     (one two other weight one' two' other' weight' : ℕ → ℕ) →
@@ -420,10 +383,10 @@ pub AreEnds-joined : (n : ℕ) (load : ℕ → ℕ) (E : List Pair) (e : Pair)
     AreEnds n load (e ∷ E) one' two' other' weight'
 AreEnds-joined n load E e one two other weight one' two' other' weight' m =
     record {
-      degree = degree-after n load E e one two other weight one' two' other' weight' m;
-      paths = paths-after n load E e one two other weight one' two' other' weight' m;
-      back = back-after n load E e one two other weight one' two' other' weight' m;
-      only = only-after n load E e one two other weight one' two' other' weight' m;
-      total = total-after n load E e one two other weight one' two' other' weight' m;
-      covered = covered-after n load E e one two other weight one' two' other' weight' m;
+      degree = degree-after m;
+      paths = paths-after m;
+      back = back-after m;
+      only = only-after m;
+      total = total-after m;
+      covered = covered-after m;
     }

@@ -1,5 +1,5 @@
 -- What the code tests before a joint is what the rule asks.
-use Rattle.std.proofs.Common.{◌≡◌, ◌≢◌, ℕ, ◌+◌, ◌≤◌, ◌<◌, Bool, true, false, cond, ◌||◌, ◌&&◌, eqb, List}
+use Rattle.std.proofs.Common.{◌≡◌, ◌≢◌, ℕ, ◌+◌, ◌≤◌, ◌<◌, Bool, true, false, ◌||◌, ◌&&◌, eqb, List}
 use Rattle.std.proofs.Common.{refl, sym, ap, ◌∙◌, ◌⊎◌, inl, inr, arith, ⊎_elim, leb, not, ◌-◌}
 use Rattle.std.proofs.lemmas.Bool.{eqb-true, eq-eqb, ne_eqb, or_cases, or_left, or_right, or_from, and_from}
 use Rattle.std.proofs.lemmas.Bool.{cases_eq, cond-true, cond-false, le-leb, lt-leb}
@@ -37,7 +37,7 @@ pub apart_test : (n : ℕ) (load : ℕ → ℕ) (E : List Pair) (one two other w
 apart_test n load E one two other weight s i j ri rj ne hi hj =
     ⊎_elim
     (λ (h : other i ≡ j). ap not (eq-eqb _ _ h
-    ∙ sym (eq-eqb _ _ (sym (other_end n load E one two other weight s i ri hi).1 ∙ ap (part E) h))))
+    ∙ sym (eq-eqb _ _ (sym (other_end s i ri hi).1 ∙ ap (part E) h))))
     (λ (h : other i ≢ j). ap not (ne_eqb _ _ h
     ∙ sym
     (ne_eqb _ _ (λ (k : part E i ≡ part E j). ⊎_elim (λ w. ne (sym w)) (λ w. h (sym w))

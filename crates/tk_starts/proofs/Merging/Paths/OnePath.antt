@@ -56,7 +56,7 @@ begins_at_end : (n : ℕ) (load : ℕ → ℕ) (E : List Pair) (k : HasArrays n 
 begins_at_end n load E k a xs chain distinct whole r =
     let v = k.ends.covered a r in
     let d = v.0 in
-    let o = other_end n load E k.one k.two k.other k.weight k.ends d v.1.0 v.1.1 in
+    let o = other_end k.ends d v.1.0 v.1.1 in
     let back = k.ends.back d v.1.0 v.1.1 in
     let P = k.ends.paths d v.1.0 v.1.1 in
     ⊎_elim

@@ -223,7 +223,7 @@ AreRead-end n hub load E one two other weight c lists a j l s = record {
     λ h. s.sound h.0 b h.1.0 h.1.1,
     λ h.
         let v = a.covered b h.0 in
-        let o = other_end n load E one two other weight a v.0 v.1.0 v.1.1 in
+        let o = other_end a v.0 v.1.0 v.1.1 in
         let w = a.back v.0 v.1.0 v.1.1 in
         let away : (x : ℕ) → part E x ≡ part E b → x ≢ hub = λ x e m. h.1 (alone E hub b j (sym e ∙ ap (part E) m)) in
         ⊎_elim
