@@ -9,7 +9,7 @@ use Rattle.std.proofs.lemmas.List.Sorted.{IsPermutation-middle, All-permutation,
 use Rattle.std.specs.List.Sorted.{IsPermutation}
 use native.Mathlib.Numerals.{unary_clauses}
 use Rattle.std.proofs.lemmas.Bool.Decides.{nat_tests}
-use Rattle.tk_near.specs.Keeping.{Rising, Climbing, insert_by}
+use Rattle.tk_near.specs.Keeping.{Ordered, Rising, Climbing, insert_by}
 
 -- x and the first of a list
 pub insert_before : {X : Type 0} (f : X → ℕ) (x z : X) (zs : List X) → f x < f z → insert_by f x (z ∷ zs) ≡ x ∷ z ∷ zs
@@ -44,26 +44,35 @@ IsPermutation-insert_by f x (y ∷ ys) =
           (IsPermutation-cons y (x ∷ ys) _ (IsPermutation-insert_by f x ys))
     ]
 
+-- x goes in before what it stands in R to, and after what stands in R to it
+Ordered-insert_by : {X : Type 0} (R : X → X → Type 0) (f : X → ℕ) (x : X) (xs : List X) →
+    ((y : X) → f x < f y → R x y) → ((y z : X) → f x < f y → R y z → R x z) → All (λ y. f y ≤ f x → R y x) xs →
+    Ordered R xs → Ordered R (insert_by f x xs)
+Ordered-insert_by R f x [] first onward behind h = (All-nil (R x), tt)
+Ordered-insert_by R f x (y ∷ ys) first onward behind h =
+    (elim (nat_lt (f x) (f y)) as (λ b. nat_lt (f x) (f y) ≡ b →
+    Ordered R (cond b (x ∷ y ∷ ys) (y ∷ insert_by f x ys))) [
+      | true ↦ λ e.
+          let l : f x < f y = grind (arith, nat_tests) in
+          (All-cons (R x) y ys (first y l) (All-weaker (R y) (R x) (λ z m. onward y z l m) ys h.0), h)
+      | false ↦ λ e.
+          let l : f y ≤ f x = grind (arith, nat_tests) in (
+            All-permutation (R y) (x ∷ ys) (insert_by f x ys) (IsPermutation-insert_by f x ys)
+                (All-cons (R y) x ys (All-head (λ z. f z ≤ f x → R z x) y ys behind l) h.0),
+            Ordered-insert_by R f x ys first onward (All-tail (λ z. f z ≤ f x → R z x) y ys behind) h.1,
+          )
+    ]) refl
+
 -- where x is apart from all
 pub Rising-insert_by : {X : Type 0} (f : X → ℕ) (x : X) (xs : List X) → Rising f xs → All (λ y. f y ≢ f x) xs →
     Rising f (insert_by f x xs)
-Rising-insert_by f x [] h a = (All-nil (λ y. f x < f y), tt)
-Rising-insert_by f x (y ∷ ys) h a =
-    let apart : f y ≢ f x = All-head (λ z. f z ≢ f x) y ys a in
-    (elim (nat_lt (f x) (f y)) as (λ b. nat_lt (f x) (f y) ≡ b →
-    Rising f (cond b (x ∷ y ∷ ys) (y ∷ insert_by f x ys))) [
-      | true ↦ λ e.
-          let l : f x < f y = grind (arith, nat_tests) in (
-            All-cons (λ z. f x < f z) y ys l (All-weaker (λ z. f y < f z) (λ z. f x < f z) (λ z m. omega arith) ys h.0),
-            h,
-          )
-      | false ↦ λ e.
-          let l : f y < f x = grind (arith, nat_tests) in (
-            All-permutation (λ z. f y < f z) (x ∷ ys) (insert_by f x ys) (IsPermutation-insert_by f x ys)
-                (All-cons (λ z. f y < f z) x ys l h.0),
-            Rising-insert_by f x ys h.1 (All-tail (λ z. f z ≢ f x) y ys a),
-          )
-    ]) refl
+Rising-insert_by f x xs h a =
+    Ordered-insert_by (λ y z. f y < f z) f x xs (λ y l. l) (λ y z l m. omega arith)
+    (All-weaker (λ y. f y ≢ f x) (λ y. f y ≤ f x → f y < f x) (λ y ne le. omega arith) xs a) h
+
+pub Climbing-insert_by : {X : Type 0} (f : X → ℕ) (x : X) (xs : List X) → Climbing f xs → Climbing f (insert_by f x xs)
+Climbing-insert_by f x xs h =
+    Ordered-insert_by (λ y z. f y ≤ f z) f x xs (λ y l. omega arith) (λ y z l m. omega arith) (λ k d l le. le) h
 
 -- x goes after an element that is not greater
 pub insert_by-below : {X : Type 0} (f : X → ℕ) (x : X) (i : ℕ) (xs : List X) (d : X) → Climbing f xs → i < length xs →

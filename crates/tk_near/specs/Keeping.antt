@@ -23,15 +23,17 @@ AreOpenFrom i kept = (j : ℕ) (d : Candidate) → i ≤ j → j < length kept �
 abbrev pub cities_kept : List Candidate → List ℕ
 cities_kept = map (λ x. x.city)
 
--- strictly rising in f
-abbrev pub Rising : {X : Type 0} → (X → ℕ) → List X → Type 0
-Rising f [] = ⊤
-Rising f (x ∷ xs) = All (λ y. f x < f y) xs × Rising f xs
+-- each stands in R to all after it
+abbrev pub Ordered : {X : Type 0} → (X → X → Type 0) → List X → Type 0
+Ordered R [] = ⊤
+Ordered R (x ∷ xs) = All (R x) xs × Ordered R xs
 
--- not falling in f
+-- strictly rising in f, and not falling in f
+abbrev pub Rising : {X : Type 0} → (X → ℕ) → List X → Type 0
+Rising f xs = Ordered (λ x y. f x < f y) xs
+
 abbrev pub Climbing : {X : Type 0} → (X → ℕ) → List X → Type 0
-Climbing f [] = ⊤
-Climbing f (x ∷ xs) = All (λ y. f x ≤ f y) xs × Climbing f xs
+Climbing f xs = Ordered (λ x y. f x ≤ f y) xs
 
 -- x goes before the first with a greater f
 abbrev pub insert_by : {X : Type 0} → (X → ℕ) → X → List X → List X

@@ -5,11 +5,10 @@ use Rattle.std.proofs.Common.{subst, max}
 use Rattle.std.specs.Prelude.{All, Bool, IsTrue, ◌==◌, nat_lt, ◌-ℤ◌, ◌↔◌}
 use Rattle.std.specs.Int.RustNames.{unsigned_abs}
 use Rattle.std.proofs.lemmas.Bool.Decides.{nat_tests}
-use Rattle.std.proofs.lemmas.Bool.{cases_lt, cases_eq}
+use Rattle.std.proofs.lemmas.Bool.{cases_lt, cases_eq, cond_both}
 use Rattle.std.proofs.lemmas.List.{length-take-le, take_all, take_more}
 use Rattle.std.proofs.Math.Seq.{take-suc}
 use Rattle.std.proofs.lemmas.List.Elements.{All-append, All-cons, All-nil, All-weaker, All-head, All-tail}
-use Rattle.std.proofs.lemmas.List.Sorted.{All-permutation}
 use Rattle.tk_distance.specs.Distance.{reach}
 use Rattle.tk_problem.specs.declared.limits.TheConstants.{CITY_LIMIT, DISTANCE_LIMIT}
 use Rattle.tk_problem.specs.declared.point.Point.{Point}
@@ -24,8 +23,8 @@ use Rattle.tk_near.specs.Placed.{IsPlaced, IsRow, IsAt, placed_city, nowhere}
 use Rattle.tk_near.specs.declared.plane.tree.Frame.{Frame}
 use Rattle.tk_near.specs.declared.plane.tree.Tree.{Tree}
 use Rattle.tk_near.specs.Tree.{IsFrom, IsInBox, IsBeyond, entries_of, parts_of, with_city, with_cities}
-use Rattle.tk_near.proofs.Inserting.{take-insert_by, length-insert_by, IsPermutation-insert_by, Climbing-take}
-use Rattle.tk_near.proofs.Inserting.{before_false, insert_by-full, insert_before, insert_after}
+use Rattle.tk_near.proofs.Inserting.{take-insert_by, length-insert_by, Climbing-take}
+use Rattle.tk_near.proofs.Inserting.{before_false, insert_by-full, insert_before, insert_after, Climbing-insert_by}
 use Rattle.tk_near.proofs.InPlane.OfRows.{gap_is, near_place, one_place, with_place}
 use Rattle.tk_near.proofs.Keeping.{KeepsFirst-none, KeepsFirst-same, KeepsFirst-count, kept_length, same_twice}
 
@@ -159,8 +158,8 @@ module _ (dist : ℕ → ℕ → ℕ) (c : ℕ) where
   with_cities-length [] kept = refl
   with_cities-length (p ∷ ps) kept =
       let here : length (with_city dist c p kept) ≡ length kept =
-      elim (p.city == c) as (λ b. length (cond b kept (with_candidate (candidate dist c p.city) kept)) ≡ length
-      kept) [ true ↦ refl | false ↦ with_candidate-length (candidate dist c p.city) kept ] in
+      cond_both (p.city == c) kept (with_candidate (candidate dist c p.city) kept) (λ v. length v ≡ length kept)
+      (λ _. refl) (λ _. with_candidate-length (candidate dist c p.city) kept) in
       with_cities-length ps (with_city dist c p kept) ∙ here
 
   -- cities that do not come before the last of the kept change nothing
@@ -169,37 +168,14 @@ module _ (dist : ℕ → ℕ → ℕ) (c : ℕ) where
   with_cities-out [] kept up room all = refl
   with_cities-out (p ∷ ps) kept up room all =
       let last = All-head (λ p. rank (last_of kept) ≤ rank (candidate dist c p.city)) p ps all in
-      let one : with_candidate (candidate dist c p.city) kept ≡ kept =
-      with_candidate-out (candidate dist c p.city) kept up room last in
       let here : with_city dist c p kept ≡ kept =
-      elim (p.city == c) as (λ b. cond b kept (with_candidate (candidate dist c p.city) kept) ≡ kept) [
-        | true ↦
-            refl
-        | false ↦ one
-      ] in
+      cond_both (p.city == c) kept (with_candidate (candidate dist c p.city) kept) (λ v. v ≡ kept) (λ _. refl)
+      (λ _. with_candidate-out (candidate dist c p.city) kept up room last) in
       ap (with_cities dist c ps) here
       ∙ with_cities-out ps kept up room
       (All-tail (λ p. rank (last_of kept) ≤ rank (candidate dist c p.city)) p ps all)
 
 -- ---- the kept stay in order
-
-Climbing-insert_by : {X : Type 0} (f : X → ℕ) (x : X) (xs : List X) → Climbing f xs → Climbing f (insert_by f x xs)
-Climbing-insert_by f x [] h = (All-nil (λ y. f x ≤ f y), tt)
-Climbing-insert_by f x (y ∷ ys) h =
-    (elim (nat_lt (f x) (f y)) as (λ b. nat_lt (f x) (f y) ≡ b →
-    Climbing f (cond b (x ∷ y ∷ ys) (y ∷ insert_by f x ys))) [
-      | true ↦ λ e.
-          let l : f x ≤ f y = grind (arith, nat_tests) in (
-            All-cons (λ z. f x ≤ f z) y ys l (All-weaker (λ z. f y ≤ f z) (λ z. f x ≤ f z) (λ z m. omega arith) ys h.0),
-            h,
-          )
-      | false ↦ λ e.
-          let l : f y ≤ f x = grind (arith, nat_tests) in (
-            All-permutation (λ z. f y ≤ f z) (x ∷ ys) (insert_by f x ys) (IsPermutation-insert_by f x ys)
-                (All-cons (λ z. f y ≤ f z) x ys l h.0),
-            Climbing-insert_by f x ys h.1,
-          )
-    ]) refl
 
 pub with_candidate_climbing : (x : Candidate) (kept : List Candidate) → Climbing rank kept →
     Climbing rank (with_candidate x kept)
