@@ -1,22 +1,16 @@
-use Rattle.std.proofs.Common.{◌≡◌, ℕ, ◌+◌, ◌-◌, ◌≤◌, ◌<◌, [], get_or, List, length, subst, refl, sym, ◌∙◌, arith, Fits}
+use Rattle.std.proofs.Common.{ℕ, ◌+◌, ◌≤◌, ◌<◌, [], length, subst, refl, sym, ◌∙◌, arith, Fits}
 use Rattle.std.proofs.Common.{w64}
-use Rattle.std.specs.List.{All}
 use Rattle.tk_starts.specs.PathEnds.{at, IsPairWithin}
 use Rattle.tk_starts.specs.declared.merges.pairs.Pair.{Pair}
 use Rattle.tk_starts.proofs.Merging.Pairs.PairsMerged.{AreEnds-single, IsTaken-from, taken_step, left_step, going_ends}
 use Rattle.tk_starts.proofs.merges.savings.joined_paths.Goals as goal
-use Rattle.tk_starts.proofs.merges.savings.joined_paths.Goals.{then-may_join, else-may_join}
+use Rattle.tk_starts.proofs.merges.savings.joined_paths.Goals.{After-at-pair, then-may_join, else-may_join}
 
--- what holds of all pairs holds of the one at k
-within_at : (n : ℕ) (pairs : List Pair) (k : ℕ) (p : Pair) → All (IsPairWithin n) pairs → k < length pairs →
-    p ≡ get_or pairs k p → IsPairWithin n p
-within_at n pairs k p all l is = subst (λ (x : Pair). IsPairWithin n x) (sym is) (all k p l)
-
-below_size : (n size x : ℕ) → size ≡ n + 1 → x ≤ n → x < size
-below_size n size x is near = omega arith
-
-last_place : (n size x : ℕ) → size ≡ n + 1 → x ≤ n → x ≤ size - 1
-last_place n size x is near = omega arith
+-- the pair at k is one of two cities
+pair_within : (c : After-at-pair) → IsPairWithin (length c.args.loads.now) c.at-pair.result
+pair_within c =
+    subst (λ (p : Pair). IsPairWithin (length c.args.loads.now) p) (sym c.at-pair.ensures)
+    (c.requires.within c.loop-k.k c.at-pair.result (omega (arith, c.loop-k-test.true, c.len-k-end.ensures)))
 
 fits_sum : (x y capacity : ℕ) → x + y ≤ capacity → Fits w64 capacity → x + y < 18446744073709551616
 fits_sum x y capacity near fits = omega arith
@@ -41,11 +35,9 @@ may_join-requires-clause-sizes c =
 
 pub may_join-requires-clause-within : goal.may_join-requires-clause-within
 may_join-requires-clause-within c =
-    let w =
-    within_at _ c.args.pairs.now c.loop-k.k c.at-pair.result c.requires.within
-    (omega (arith, c.loop-k-test.true, c.len-k-end.ensures)) c.at-pair.ensures in
+    let w = pair_within (goal.at.may_join-requires-clause-within c).After-at-pair in
     let z = c.loop-k.invariant.sizes.0 in
-    ((w.0.0, last_place _ _ _ z w.0.1), (w.1.0, last_place _ _ _ z w.1.1), w.2)
+    ((w.0.0, omega (arith, z, w.0.1)), (w.1.0, omega (arith, z, w.1.1)), w.2)
 
 pub join-requires-clause-sizes : goal.join-requires-clause-sizes
 join-requires-clause-sizes c =
@@ -54,18 +46,14 @@ join-requires-clause-sizes c =
 
 pub join-requires-clause-cities : goal.join-requires-clause-cities
 join-requires-clause-cities c =
-    let w =
-    within_at _ c.args.pairs.now c.loop-k.k c.at-pair.result c.requires.within
-    (omega (arith, c.loop-k-test.true, c.len-k-end.ensures)) c.at-pair.ensures in
+    let w = pair_within (goal.at.join-requires-clause-cities c).After-at-pair in
     let z = c.loop-k.invariant.sizes.0 in
-    (below_size _ _ _ z w.0.1, below_size _ _ _ z w.1.1, w.2)
+    (omega (arith, z, w.0.1), omega (arith, z, w.1.1), w.2)
 
 pub join-requires-clause-load : goal.join-requires-clause-load
 join-requires-clause-load c =
     let p = c.loop-k.paths in
-    let w =
-    within_at _ c.args.pairs.now c.loop-k.k c.at-pair.result c.requires.within
-    (omega (arith, c.loop-k-test.true, c.len-k-end.ensures)) c.at-pair.ensures in
+    let w = pair_within (goal.at.join-requires-clause-load c).After-at-pair in
     let t = IsTaken-from _ _ _ (at p.one.items) (at p.two.items) (at p.other.items) (at p.load.items)
     c.loop-k.invariant.joined.2 c.at-pair.result w.0 w.1 w.2
     c.args.capacity (sym c.if-may_join.ensures) in
@@ -74,20 +62,16 @@ join-requires-clause-load c =
 pub join-requires-clause-ends : goal.join-requires-clause-ends
 join-requires-clause-ends c =
     let p = c.loop-k.paths in
-    let w =
-    within_at _ c.args.pairs.now c.loop-k.k c.at-pair.result c.requires.within
-    (omega (arith, c.loop-k-test.true, c.len-k-end.ensures)) c.at-pair.ensures in
+    let w = pair_within (goal.at.join-requires-clause-ends c).After-at-pair in
     let t = IsTaken-from _ _ _ (at p.one.items) (at p.two.items) (at p.other.items) (at p.load.items)
     c.loop-k.invariant.joined.2 c.at-pair.result w.0 w.1 w.2 c.args.capacity (sym c.if-may_join.ensures) in
     let z = c.loop-k.invariant.sizes.0 in
-    (below_size _ _ _ z t.far.0.1, below_size _ _ _ z t.far.1.1, t.far.2)
+    (omega (arith, z, t.far.0.1), omega (arith, z, t.far.1.1), t.far.2)
 
 pub loop-k-preserved : goal.loop-k-preserved
 loop-k-preserved c =
     let p = c.loop-k.paths in
-    let w =
-    within_at _ c.args.pairs.now c.loop-k.k c.at-pair.result c.requires.within
-    (omega (arith, c.loop-k-test.true, c.len-k-end.ensures)) c.at-pair.ensures in
+    let w = pair_within (goal.at.loop-k-preserved c).After-at-pair in
     let z = c.loop-k.invariant.sizes in
     elim c.if-may_join.branch [
       | then-may_join b ↦
@@ -96,8 +80,7 @@ loop-k-preserved c =
             sizes = (
               b.join.ensures.sizes.0 ∙ z.0,
               b.join.ensures.sizes.1 ∙ z.0,
-              b.join.ensures.sizes.2
-                  ∙ z.0,
+              b.join.ensures.sizes.2 ∙ z.0,
               b.join.ensures.sizes.3 ∙ z.0,
             );
             joined = taken_step _ _ c.args.capacity c.args.pairs.now c.loop-k.k c.at-pair.result (at p.one.items)
@@ -121,6 +104,3 @@ returns-clause-joined c =
     let p = c.loop-k.paths in
     going_ends _ _ c.args.capacity c.args.pairs.now c.loop-k.k (at p.one.items) (at p.two.items) (at p.other.items)
     (at p.load.items) (omega (arith, c.loop-k-test.false, c.len-k-end.ensures)) c.loop-k.invariant.joined
-
-pub returns-clause-sizes : goal.returns-clause-sizes
-returns-clause-sizes c = c.loop-k.invariant.sizes
