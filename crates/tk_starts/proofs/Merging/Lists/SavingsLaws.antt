@@ -5,7 +5,7 @@ use Rattle.std.proofs.lemmas.List.{get_or-map, length-map}
 use Rattle.tk_distance.specs.Cities.{IsCity}
 use Rattle.tk_tour.specs.Tour.{IsTour}
 use Rattle.tk_starts.specs.SavingsMerges.{AreSavingsLists, AreLight}
-use Rattle.tk_starts.proofs.Merging.Parts.HubApart.{flat_map-map}
+use Rattle.std.proofs.lemmas.List.Folds.{flat_map-map}
 use Rattle.tk_starts.proofs.Merging.Lists.ListsHeld.{IsTour-from_parts, load-of_list, path-filled}
 use Rattle.tk_starts.proofs.Merging.Parts.PartLoads.{parts_within}
 
@@ -14,7 +14,8 @@ pub tour_of_lists : {X : Type 0} (dist : ℕ → ℕ → ℕ) (near : ℕ → Li
     (f : X → List ℕ) (xs : List X) → IsCity n hub →
     AreSavingsLists dist near n hub load capacity (map f xs) → IsTour n (hub ∷ flat_map f xs)
 tour_of_lists dist near n hub load capacity f xs r s =
-    subst (λ (x : List ℕ). IsTour n (hub ∷ x)) (flat_map-map f xs) (IsTour-from_parts n hub _ (map f xs) r s.1.1)
+    subst (λ (x : List ℕ). IsTour n (hub ∷ x)) (flat_map-map (λ (x : List ℕ). x) f xs)
+    (IsTour-from_parts n hub _ (map f xs) r s.1.1)
 
 -- where each city is within the capacity by itself, each list is
 pub light_lists : {X : Type 0} (dist : ℕ → ℕ → ℕ) (near : ℕ → List ℕ) (n hub : ℕ) (load : ℕ → ℕ) (capacity : ℕ)

@@ -1,5 +1,5 @@
 -- No joint touches the hub.
-use Rattle.std.proofs.Common.{take, map, ◌++◌, ◌≡◌, ◌≢◌, ℕ, suc, ◌≤◌, List, [], ◌∷◌, length, get_or, refl, sym, ap, ◌∙◌}
+use Rattle.std.proofs.Common.{take, map, ◌≡◌, ◌≢◌, ℕ, suc, ◌≤◌, List, [], ◌∷◌, length, get_or, refl, sym, ap, ◌∙◌}
 use Rattle.std.proofs.Common.{arith, subst}
 use Rattle.std.specs.List.{All, Contains, flat_map}
 use Rattle.std.proofs.lemmas.Bool.{cond_both}
@@ -9,6 +9,7 @@ use Rattle.tk_starts.specs.SavingPairs.{AreSavingPairs}
 use Rattle.tk_starts.specs.Joints.{joints_at, may_join, joints, ArePartPaths}
 use Rattle.tk_starts.specs.PathEnds.{IsPairWithin, AreJoined, load_of}
 use Rattle.std.proofs.lemmas.List.{take_all}
+use Rattle.std.proofs.lemmas.List.Folds.{flat_map-map}
 use Rattle.tk_starts.specs.SavingsMerges.{AreSavingsLists}
 use Rattle.tk_starts.specs.declared.merges.pairs.Pair.{Pair}
 use Rattle.tk_starts.proofs.Merging.Paths.EndsJoined.{joints_at-no}
@@ -43,10 +44,6 @@ all_within dist near n hub m pairs e a k d l =
       λ w. omega (arith, w, h.rising),
     )
 
-pub flat_map-map : {X : Type 0} (f : X → List ℕ) (xs : List X) → flat_map (λ (x : List ℕ). x) (map f xs) ≡ flat_map f xs
-flat_map-map f [] = refl
-flat_map-map f (x ∷ xs) = ap (λ (z : List ℕ). f x ++ z) (flat_map-map f xs)
-
 pub finished : (dist : ℕ → ℕ → ℕ) (near : ℕ → List ℕ) (n hub m k : ℕ) (pairs xs : List Pair) (load : ℕ → ℕ)
     (capacity : ℕ) (a b c d : List ℕ) (lists : List (List ℕ)) → m ≡ n → k ≡ n → xs ≡ pairs →
     AreSavingPairs dist near n hub pairs → AreJoined m load (joints load m capacity [] xs) a b c d →
@@ -55,24 +52,17 @@ pub finished : (dist : ℕ → ℕ → ℕ) (near : ℕ → List ℕ) (n hub m k
 finished dist near n hub m k pairs xs load capacity a b c d lists e f g h j r =
     let s = subst (λ (x : List Pair). AreJoined m load (joints load m capacity [] x) a b c d) g j in
     let t = subst (λ (x : ℕ). AreJoined x load (joints load x capacity [] pairs) a b c d) e s in
-    let u = subst (λ (x : ℕ). AreJoined x load (joints load n capacity [] pairs) a b c d) (sym f) t in (
-      pairs,
-      (
-        h,
-        subst (λ (x : ℕ). ArePartPaths x hub (joints load n capacity [] pairs) lists) f
-            (r load _ u (hub_apart dist near n hub pairs load capacity h)),
-      ),
-    )
+    let u = subst (λ (x : ℕ). AreJoined x load (joints load n capacity [] pairs) a b c d) (sym f) t in
+    let v = subst (λ (x : ℕ). ArePartPaths x hub (joints load n capacity [] pairs) lists) f
+    (r load _ u (hub_apart dist near n hub pairs load capacity h)) in
+    (pairs, (h, v))
 
 pub tour_made : {X : Type 0} (dist : ℕ → ℕ → ℕ) (near : ℕ → List ℕ) (n : ℕ) (loads none : List ℕ) (tour : List ℕ)
     (f : X → List ℕ) (items xs : List X) (k : ℕ) → loads ≡ none → items ≡ xs → length items ≤ k →
     AreSavingsLists dist near n 1 (load_of loads) 0 (map f xs) → tour ≡ 1 ∷ flat_map f (take k items) →
     (lists : List (List ℕ))
     × (AreSavingsLists dist near n 1 (load_of none) 0 lists × (tour ≡ 1 ∷ flat_map (λ (x : List ℕ). x) lists))
-tour_made dist near n loads none tour f items xs k e g l h t = (
-  map f xs,
-  (
-    subst (λ (x : List ℕ). AreSavingsLists dist near n 1 (load_of x) 0 (map f xs)) e h,
-    t ∙ ap (λ (x : List ℕ). 1 ∷ x) (ap (flat_map f) (take_all k items l ∙ g) ∙ sym (flat_map-map f xs)),
-  ),
-)
+tour_made dist near n loads none tour f items xs k e g l h t =
+    let same = subst (λ (x : List ℕ). AreSavingsLists dist near n 1 (load_of x) 0 (map f xs)) e h in
+    let flat = ap (flat_map f) (take_all k items l ∙ g) ∙ sym (flat_map-map (λ (x : List ℕ). x) f xs) in
+    (map f xs, (same, t ∙ ap (λ (x : List ℕ). 1 ∷ x) flat))
