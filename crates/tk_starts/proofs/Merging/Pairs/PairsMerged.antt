@@ -1,6 +1,6 @@
 -- The loop over the pairs: how it begins, and its step.
 use Rattle.std.proofs.Common.{drop, get_or, length, ◌≡◌, ◌≢◌, ℕ, suc, zero, ◌+◌, ◌-◌, ◌≤◌, ◌<◌, Bool, true, false, ◌||◌}
-use Rattle.std.proofs.Common.{◌&&◌, not, eqb, leb, List, [], ◌∷◌, refl, sym, ap, ◌∙◌, ◌⊎◌, inl, inr, arith, ⊎_elim}
+use Rattle.std.proofs.Common.{◌&&◌, not, eqb, leb, List, [], ◌∷◌, refl, sym, ap, ◌∙◌, inl, arith, ⊎_elim}
 use Rattle.std.proofs.Common.{subst}
 use Rattle.std.proofs.lemmas.Bool.{eqb-true, eq-eqb, ne_eqb, or_cases, or_left, both_ways, cases_eq, cond-true}
 use Rattle.std.proofs.lemmas.Bool.{cond-false, leb-true, and_parts, not-true}
@@ -10,7 +10,7 @@ use Rattle.tk_starts.specs.PathEnds.{Follows, IsLinked, IsEnd, AreEnds, IsSetAt,
 use Rattle.std.proofs.lemmas.List.{drop_more, drop_all}
 use Rattle.tk_starts.specs.declared.merges.pairs.Pair.{Pair}
 use Rattle.tk_starts.proofs.Merging.Paths.EndsJoined.{AreEnds-joined, other_end}
-use Rattle.tk_starts.proofs.Merging.Paths.JoinTest.{apart_test, may_join-test}
+use Rattle.tk_starts.proofs.Merging.Paths.JoinTest.{apart_test, is_end-from, may_join-test}
 
 part_load-none : (load : ℕ → ℕ) (n c : ℕ) → n < c → part_load load [] n c ≡ 0
 unfolding part_load part
@@ -89,9 +89,6 @@ pub record IsTaken (n : ℕ) (E : List Pair) (one two other weight : ℕ → ℕ
   pub apart : part E p.i ≢ part E p.j
   pub far : IsCity n (other p.i) × IsCity n (other p.j) × (other p.i ≢ other p.j)
   pub fits : weight p.i + weight p.j ≤ capacity
-
-is_end-from : (p q : ℕ) → (eqb p 0 || eqb q 0) ≡ true → (p ≡ 0) ⊎ (q ≡ 0)
-is_end-from p q h = ⊎_elim (λ k. inl (eqb-true p 0 k)) (λ k. inr (eqb-true q 0 k)) (or_cases _ _ h)
 
 pub IsTaken-from : (n : ℕ) (load : ℕ → ℕ) (E : List Pair) (one two other weight : ℕ → ℕ) →
     AreEnds n load E one two other weight → (p : Pair) → IsCity n p.i → IsCity n p.j → p.i ≢ p.j → (capacity : ℕ) →
