@@ -103,38 +103,30 @@ unfolding put
 put-other f a x c ne = cond-false _ x (f c) (ne_eqb c a ne)
 
 -- c gets the neighbour d
-one_link : (one two : ℕ → ℕ) (c d : ℕ) → (one' : ℕ → ℕ) × ((two' : ℕ → ℕ) ×
-    (((x : ℕ) → AreBoth (one c) (two c) x 0 → AreBoth (one' c) (two' c) x d)
-    × ((b : ℕ) → b ≢ c → (one' b ≡ one b) × (two' b ≡ two b))))
+one_link : (one two : ℕ → ℕ) (c d : ℕ) → (one' : ℕ → ℕ) × (two' : ℕ → ℕ)
+    × ((x : ℕ) → AreBoth (one c) (two c) x 0 → AreBoth (one' c) (two' c) x d)
+    × ((b : ℕ) → b ≢ c → (one' b ≡ one b) × (two' b ≡ two b))
 one_link one two c d =
     ⊎_elim
     (λ (z : one c ≡ 0). (
       put one c d,
-      (
-        two,
-        (
-          λ x h. inr (put-here one c d, ⊎_elim (λ k. k.1 ∙ (sym z ∙ k.0)) (λ k. k.1) h),
-          λ b ne. (put-other one c d b ne, refl),
-        ),
-      ),
+      two,
+      λ x h. inr (put-here one c d, ⊎_elim (λ k. k.1 ∙ (sym z ∙ k.0)) (λ k. k.1) h),
+      λ b ne. (put-other one c d b ne, refl),
     ))
     (λ (z : one c ≢ 0). (
       one,
-      (
-        put two c d,
-        (
-          λ x h. inl (⊎_elim (λ k. k.0) (λ k. absurd (z k.0)) h, put-here two c d),
-          λ b ne. (refl, put-other two c d b ne),
-        ),
-      ),
+      put two c d,
+      λ x h. inl (⊎_elim (λ k. k.0) (λ k. absurd (z k.0)) h, put-here two c d),
+      λ b ne. (refl, put-other two c d b ne),
     ))
     (cases_eq (one c) 0)
 
-both_linked : (one two : ℕ → ℕ) (i j : ℕ) → i ≢ j → (one' : ℕ → ℕ) × ((two' : ℕ → ℕ) × IsLinked i j one two one' two')
+both_linked : (one two : ℕ → ℕ) (i j : ℕ) → i ≢ j → (one' : ℕ → ℕ) × (two' : ℕ → ℕ) × IsLinked i j one two one' two'
 both_linked one two i j ne =
     let a = one_link one two i j in
-    let b = one_link a.0 a.1.0 j i in
-    (b.0, (b.1.0, IsLinked-from_links i j one two a.0 a.1.0 b.0 b.1.0 ne a.1.1.0 a.1.1.1 b.1.1.0 b.1.1.1))
+    let b = one_link a.0 a.1 j i in
+    (b.0, b.1, IsLinked-from_links i j one two a.0 a.1 b.0 b.1 ne a.2 a.3 b.2 b.3)
 
 both_set : (f : ℕ → ℕ) (a x b y : ℕ) → a ≢ b → (f' : ℕ → ℕ) × IsSetAt a x b y f f'
 both_set f a x b y ne = (
@@ -170,20 +162,20 @@ HasArrays-joined n load capacity E p w h k =
     (k.weight p.i + k.weight p.j) v.far.2 in
     record {
       one = a.0;
-      two = a.1.0;
+      two = a.1;
       other = b.0;
       weight = c.0;
-      ends = AreEnds-joined n load E p k.one k.two k.other k.weight a.0 a.1.0 b.0 c.0
+      ends = AreEnds-joined n load E p k.one k.two k.other k.weight a.0 a.1 b.0 c.0
           (record {
             ends = k.ends;
             first = (w.0, v.first);
             second = (w.1, v.second);
             apart = v.apart;
-            linked = a.1.1;
+            linked = a.2;
             far = b.1;
             heavy = c.1;
           });
-      beside = AreBeside-joined E p k.one k.two a.0 a.1.0 a.1.1 v.first v.second w.0.0 w.1.0 k.beside;
+      beside = AreBeside-joined E p k.one k.two a.0 a.1 a.2 v.first v.second w.0.0 w.1.0 k.beside;
     }
 
 HasArrays-more : (n : ℕ) (load : ℕ → ℕ) (capacity : ℕ) (pairs E : List Pair) → All (IsPairWithin n) pairs →
