@@ -59,7 +59,7 @@ last_from a (b ∷ xs) = last_from b xs
 
 -- a path of joints leads from a to b
 abbrev pub IsConnected : List Pair → ℕ → ℕ → Type 0
-IsConnected E a b = (xs : List ℕ) × (IsChain E a xs × (last_from a xs ≡ b))
+IsConnected E a b = (xs : List ℕ) × IsChain E a xs × (last_from a xs ≡ b)
 
 -- the part of the first city as the path of its joints, not ending lower than it begins
 unfoldable pub IsPartPath : List Pair → List ℕ → Type 0
@@ -75,7 +75,7 @@ first_of (a ∷ xs) = a
 pub record ArePartPaths (n hub : ℕ) (E : List Pair) (lists : List (List ℕ)) : Type 0 where
   pub paths : All (IsPartPath E) lists
   pub cities : (c : ℕ) →
-      ((k : ℕ) × ((k < length lists) × (holds (slice_index_or lists k []) c ≡ true))) ↔ (IsCity n c × (c ≢ hub))
+      ((k : ℕ) × (k < length lists) × (holds (slice_index_or lists k []) c ≡ true)) ↔ (IsCity n c × (c ≢ hub))
   pub once : (c k l : ℕ) → k < length lists → l < length lists → holds (slice_index_or lists k []) c ≡ true →
       holds (slice_index_or lists l []) c ≡ true → k ≡ l
   pub order : (k : ℕ) → k + 1 < length lists →

@@ -136,11 +136,11 @@ flat : List (List ℕ) → List ℕ
 flat lists = flat_map (λ (x : List ℕ). x) lists
 
 flat-holds : (lists : List (List ℕ)) (b : ℕ) → holds (flat lists) b ≡ true →
-    (k : ℕ) × ((k < length lists) × (holds (get_or lists k []) b ≡ true))
+    (k : ℕ) × (k < length lists) × (holds (get_or lists k []) b ≡ true)
 unfolding flat
 flat-holds [] b h = absurd (both_ways _ refl h)
 flat-holds (xs ∷ lists) b h =
-    ⊎_elim (λ k. (0, (omega arith, k))) (λ k. let f = flat-holds lists b k in (suc f.0, (omega (arith, f.1.0), f.1.1)))
+    ⊎_elim (λ k. (0, omega arith, k)) (λ k. let f = flat-holds lists b k in (suc f.0, omega (arith, f.1), f.2))
     (holds-append xs (flat lists) b h)
 
 holds-flat : (lists : List (List ℕ)) (k b : ℕ) → k < length lists → holds (get_or lists k []) b ≡ true →
@@ -163,7 +163,7 @@ flat-distinct (xs ∷ lists) each once =
     (flat-distinct lists (λ k l. each (suc k) (omega (arith, l)))
     (λ b k l hk hl mk ml. let e = once b (suc k) (suc l) (omega (arith, hk)) (omega (arith, hl)) mk ml in
     omega (arith, e)))
-    (λ b p q. let f = flat-holds lists b q in let e = once b 0 (suc f.0) (omega arith) (omega (arith, f.1.0)) p f.1.1 in
+    (λ b p q. let f = flat-holds lists b q in let e = once b 0 (suc f.0) (omega arith) (omega (arith, f.1)) p f.2 in
     omega (arith, e))
 
 path-distinct : (E : List Pair) (xs : List ℕ) → IsPartPath E xs → IsDistinct xs
@@ -198,7 +198,7 @@ IsTour-from_parts n hub E lists r p =
       λ q. ⊎_elim
           (λ (e : hub ≡ b). or_left _ _ (eq-eqb hub b e))
           (λ (ne : hub ≢ b). let f = (p.cities b).1 (q, λ e. ne (sym e)) in
-          holds-later hub b (flat lists) (holds-flat lists f.0 b f.1.0 f.1.1))
+          holds-later hub b (flat lists) (holds-flat lists f.0 b f.1 f.2))
           (cases_eq hub b),
     ))
 
@@ -207,6 +207,6 @@ pub load-of_list : (load : ℕ → ℕ) (n hub : ℕ) (E : List Pair) (lists : L
     (k : ℕ) → k < length lists →
     (a : ℕ) × (IsCity n a × (a ≢ hub) × (sum_by load (get_or lists k []) ≡ part_load load E n (part E a)))
 load-of_list load n hub E lists p k l =
-    let s = path-sum load E n (get_or lists k []) (p.paths k [] l) (λ b h. ((p.cities b).0 (k, (l, h))).0) in
-    let c = (p.cities s.0).0 (k, (l, s.1.0)) in
+    let s = path-sum load E n (get_or lists k []) (p.paths k [] l) (λ b h. ((p.cities b).0 (k, l, h)).0) in
+    let c = (p.cities s.0).0 (k, l, s.1.0) in
     (s.0, (c.0, c.1, s.1.1))

@@ -1,5 +1,5 @@
 -- What the distances and the near lists determine of the savings merges.
-use Rattle.std.proofs.Common.{◌≡◌, ℕ, ◌+◌, ◌<◌, true, List, [], ◌∷◌, length, map, get_or, refl, sym, ◌∙◌, arith, ⊎_elim}
+use Rattle.std.proofs.Common.{◌≡◌, ℕ, ◌+◌, ◌<◌, true, List, [], ◌∷◌, length, map, get_or, refl, sym, ◌∙◌, arith}
 use Rattle.std.proofs.Common.{subst}
 use Rattle.std.specs.List.{AllPairs, Contains}
 use Rattle.tk_distance.specs.Holding.{holds}
@@ -16,17 +16,7 @@ use Rattle.tk_starts.proofs.Merging.Lists.OrderedLists.{same_ordered}
 use Rattle.tk_starts.proofs.Merging.Paths.PathLists.{holds-here}
 
 Before-one_way : (p q : Pair) → Before p q → Before q p → ⊥
-Before-one_way p q h k =
-    ⊎_elim
-    (λ a. ⊎_elim (λ b. omega (arith, a, b)) (λ b. omega (arith, a, b.0)) k)
-    (λ a. ⊎_elim
-    (λ b. omega (arith, a.0, b))
-    (λ b. ⊎_elim
-    (λ u. ⊎_elim (λ v. omega (arith, u, v)) (λ v. omega (arith, u, v.0)) b.1)
-    (λ u. ⊎_elim (λ v. omega (arith, u.0, v)) (λ v. omega (arith, u.1, v.1)) b.1)
-    a.1)
-    k)
-    h
+Before-one_way p q h k = omega arith
 
 pub pairs_agree : PairsAgree
 pairs_agree dist near n hub xs ys f g =
@@ -67,11 +57,11 @@ held_too n hub load E arrays lists others a b xs (k, l, e) =
     let p = a.paths k [] l in
     let c = first_of (get_or lists k []) in
     let h = holds-first E (get_or lists k []) p in
-    let (i, t) = (b.cities c).1 ((a.cities c).0 (k, (l, h))) in
+    let (i, t, u) = (b.cities c).1 ((a.cities c).0 (k, l, h)) in
     let same : get_or lists k [] ≡ get_or others i [] =
-    one_path n load E arrays _ _ p (b.paths i [] t.0) c h t.1 (λ d w. ((a.cities d).0 (k, (l, w))).0)
-    (λ d w. ((b.cities d).0 (i, (t.0, w))).0) in
-    (i, t.0, get_or_default others i xs [] t.0 ∙ (sym same ∙ (get_or_default lists k [] xs l ∙ e)))
+    one_path n load E arrays _ _ p (b.paths i [] t) c h u (λ d w. ((a.cities d).0 (k, l, w)).0)
+    (λ d w. ((b.cities d).0 (i, t, w)).0) in
+    (i, t, get_or_default others i xs [] t ∙ (sym same ∙ (get_or_default lists k [] xs l ∙ e)))
 
 pub lists_agree : ListsAgree
 lists_agree dist near n hub load capacity lists others s t =

@@ -1,11 +1,10 @@
 -- Two cities are in the same part where a path of joints leads from the one to the other.
 use Rattle.std.proofs.Common.{◌≡◌, ◌≢◌, ℕ, true, cond, eqb, List, [], ◌∷◌, ◌++◌, refl, sym, ap, ◌∙◌, ⊎_elim, subst}
-use Rattle.std.proofs.lemmas.Bool.{eqb-true, eq-eqb, or_cases, or_left, or_right, both_ways, cases_eq, and_parts}
-use Rattle.std.proofs.lemmas.Bool.{and_from}
+use Rattle.std.proofs.lemmas.Bool.{eqb-true, or_cases, both_ways, cases_eq, and_parts}
 use Rattle.tk_starts.specs.Joints.{part, joined, IsChain, IsConnected, last_from}
 use Rattle.tk_starts.specs.declared.merges.pairs.Pair.{Pair}
 use Rattle.tk_starts.proofs.Merging.Parts.PartsJoined.{part-second, part-other}
-use Rattle.tk_starts.proofs.Merging.Paths.PathLists.{IsChain-more}
+use Rattle.tk_starts.proofs.Merging.Paths.PathLists.{joined-first, joined-second, IsChain-more}
 
 chain_on : (E : List Pair) (a : ℕ) (xs ys : List ℕ) → IsChain E a xs → IsChain E (last_from a xs) ys →
     IsChain E a (xs ++ ys)
@@ -18,44 +17,33 @@ last_on a [] ys = refl
 last_on a (b ∷ xs) ys = last_on b xs ys
 
 IsConnected-trans : (E : List Pair) (a b c : ℕ) → IsConnected E a b → IsConnected E b c → IsConnected E a c
-IsConnected-trans E a b c (xs, (h, e)) (ys, (k, f)) = (
+IsConnected-trans E a b c (xs, h, e) (ys, k, f) = (
   xs ++ ys,
-  (
-    chain_on E a xs ys h (subst (λ (z : ℕ). IsChain E z ys) (sym e) k),
-    last_on a xs ys
-        ∙ (ap (λ (z : ℕ). last_from z ys) e ∙ f),
-  ),
+  chain_on E a xs ys h (subst (λ (z : ℕ). IsChain E z ys) (sym e) k),
+  last_on a xs ys ∙ (ap (λ (z : ℕ). last_from z ys) e ∙ f),
 )
 
 IsConnected-more : (E : List Pair) (e : Pair) (a b : ℕ) → IsConnected E a b → IsConnected (e ∷ E) a b
-IsConnected-more E e a b (xs, (h, k)) = (xs, (IsChain-more E e a xs h, k))
+IsConnected-more E e a b (xs, h, k) = (xs, IsChain-more E e a xs h, k)
 
 IsConnected-same : (E : List Pair) (a b : ℕ) → a ≡ b → IsConnected E a b
 unfolding IsChain
-IsConnected-same E a b e = ([], (tt, e))
+IsConnected-same E a b e = ([], tt, e)
 
 IsConnected-joint : (E : List Pair) (a b : ℕ) → joined E a b ≡ true → IsConnected E a b
 unfolding IsChain
-IsConnected-joint E a b h = (b ∷ [], ((h, tt), refl))
-
-joint_forth : (E : List Pair) (e : Pair) → joined (e ∷ E) e.i e.j ≡ true
-unfolding joined
-joint_forth E e = or_left _ _ (or_left _ _ (and_from _ _ (eq-eqb e.i e.i refl) (eq-eqb e.j e.j refl)))
-
-joint_back : (E : List Pair) (e : Pair) → joined (e ∷ E) e.j e.i ≡ true
-unfolding joined
-joint_back E e = or_left _ _ (or_right _ _ (and_from _ _ (eq-eqb e.i e.i refl) (eq-eqb e.j e.j refl)))
+IsConnected-joint E a b h = (b ∷ [], (h, tt), refl)
 
 -- a new joint leads from its first part to its second
 across : (E : List Pair) (e : Pair) (a b : ℕ) → IsConnected E a e.i → IsConnected E e.j b → IsConnected (e ∷ E) a b
 across E e a b h k =
-    let t = IsConnected-trans (e ∷ E) e.i e.j b (IsConnected-joint (e ∷ E) e.i e.j (joint_forth E e))
+    let t = IsConnected-trans (e ∷ E) e.i e.j b (IsConnected-joint (e ∷ E) e.i e.j (joined-first E e))
     (IsConnected-more E e e.j b k) in
     IsConnected-trans (e ∷ E) a e.i b (IsConnected-more E e a e.i h) t
 
 back_across : (E : List Pair) (e : Pair) (a b : ℕ) → IsConnected E a e.j → IsConnected E e.i b → IsConnected (e ∷ E) a b
 back_across E e a b h k =
-    let t = IsConnected-trans (e ∷ E) e.j e.i b (IsConnected-joint (e ∷ E) e.j e.i (joint_back E e))
+    let t = IsConnected-trans (e ∷ E) e.j e.i b (IsConnected-joint (e ∷ E) e.j e.i (joined-second E e))
     (IsConnected-more E e e.i b k) in
     IsConnected-trans (e ∷ E) a e.j b (IsConnected-more E e a e.j h) t
 
@@ -112,4 +100,4 @@ along E a [] h = refl
 along E a (b ∷ xs) h = part-from_joined E a b h.0 ∙ along E b xs h.1
 
 pub part-from_connected : (E : List Pair) (a b : ℕ) → IsConnected E a b → part E a ≡ part E b
-part-from_connected E a b (xs, (h, e)) = along E a xs h ∙ ap (part E) e
+part-from_connected E a b (xs, h, e) = along E a xs h ∙ ap (part E) e

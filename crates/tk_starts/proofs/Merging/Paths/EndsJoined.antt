@@ -1,7 +1,7 @@
 -- The arrays after one more joint.
 use Rattle.std.proofs.Common.{◌≡◌, ◌≢◌, ℕ, ◌+◌, ◌<◌, Bool, true, false, cond, ◌||◌, eqb, List, [], ◌∷◌, ◌++◌}
 use Rattle.std.proofs.Common.{refl, sym, ap, ◌∙◌, ◌⊎◌, ◌↔◌, inl, inr, arith, ⊎_elim, subst}
-use Rattle.std.proofs.lemmas.Bool.{eq-eqb, ne_eqb, or_left, or_right, or_from, and_from}
+use Rattle.std.proofs.lemmas.Bool.{eq-eqb, ne_eqb, or_left, or_right, or_from}
 use Rattle.std.proofs.lemmas.Bool.{false_from_ne_true, both_ways, cases_eq, cond-true, cond-false}
 use Rattle.tk_distance.specs.Holding.{holds, IsDistinct}
 use Rattle.tk_distance.specs.Cities.{IsCity}
@@ -13,6 +13,7 @@ use Rattle.tk_starts.proofs.Merging.Parts.PartsJoined.{part_load-joined, part_lo
 use Rattle.tk_starts.proofs.Merging.Paths.PathLists.{holds-here, holds-last, holds-left, holds-right, holds-append}
 use Rattle.tk_starts.proofs.Merging.Paths.PathLists.{last_from-append, IsDistinct-append, IsChain-more, IsChain-append}
 use Rattle.tk_starts.proofs.Merging.Paths.PathLists.{AreBoth-flip, Follows-stays, Follows-after, Follows-append}
+use Rattle.tk_starts.proofs.Merging.Paths.PathLists.{joined-first, joined-second}
 
 -- the path from a to i, and on from j to z
 pub new_path : (n : ℕ) (E : List Pair) (e : Pair) (one two one' two' : ℕ → ℕ) (i j a z : ℕ) (xs ys : List ℕ) →
@@ -132,14 +133,6 @@ path_stays n E e one two one' two' c z xs l p q P =
           (λ b h. l.rest b (λ k. p (sym ((P.whole b).0 h) ∙ ap (part E) k))
           (λ k. q (sym ((P.whole b).0 h) ∙ ap (part E) k))) P.follows;
     }
-
-joined-first : (E : List Pair) (e : Pair) → joined (e ∷ E) e.i e.j ≡ true
-unfolding joined
-joined-first E e = or_left _ _ (or_left _ _ (and_from _ _ (eq-eqb e.i e.i refl) (eq-eqb e.j e.j refl)))
-
-joined-second : (E : List Pair) (e : Pair) → joined (e ∷ E) e.j e.i ≡ true
-unfolding joined
-joined-second E e = or_left _ _ (or_right _ _ (and_from _ _ (eq-eqb e.i e.i refl) (eq-eqb e.j e.j refl)))
 
 -- who is in the new part, seen from a city of it
 members : (E : List Pair) (e : Pair) (a c : ℕ) → part E e.i ≢ part E e.j → (part E a ≡ part E e.i)

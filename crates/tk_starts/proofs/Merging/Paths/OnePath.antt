@@ -74,11 +74,7 @@ begins_at_end n load E k a xs chain distinct whole r =
 -- ---- the way from an end
 
 other_of_both : (p q before d x : ℕ) → AreBoth p q before d → (p ≡ x) ⊎ (q ≡ x) → x ≢ before → x ≡ d
-other_of_both p q before d x h k ne =
-    ⊎_elim
-    (λ w. ⊎_elim (λ u. absurd (ne (sym u ∙ w.0))) (λ u. sym u ∙ w.1) k)
-    (λ w. ⊎_elim (λ u. sym u ∙ w.0) (λ u. absurd (ne (sym u ∙ w.1))) k)
-    h
+other_of_both p q before d x h k ne = omega arith
 
 abbrev HoldSame : List ℕ → List ℕ → Type 0
 HoldSame xs ys = (b : ℕ) → (holds xs b ≡ true) ↔ (holds ys b ≡ true)

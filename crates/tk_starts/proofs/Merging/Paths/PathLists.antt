@@ -2,7 +2,7 @@
 use Rattle.std.proofs.Common.{◌≡◌, ◌≢◌, ℕ, ◌<◌, true, false, List, [], ◌∷◌, ◌++◌, refl, sym, ◌∙◌, ◌⊎◌, inl, inr, arith}
 use Rattle.std.proofs.Common.{⊎_elim, subst}
 use Rattle.std.proofs.lemmas.Bool.{eqb-true, eq-eqb, or_cases, or_left, or_right, or_parts, false_from_ne_true}
-use Rattle.std.proofs.lemmas.Bool.{both_ways}
+use Rattle.std.proofs.lemmas.Bool.{both_ways, and_from}
 use Rattle.tk_distance.specs.Holding.{holds, IsDistinct}
 use Rattle.tk_starts.specs.Joints.{joined, IsChain, last_from}
 use Rattle.tk_starts.specs.PathEnds.{AreBoth, Follows, IsLinked}
@@ -51,6 +51,15 @@ IsDistinct-append (x ∷ xs) ys h k apart = (
 pub joined-more : (E : List Pair) (e : Pair) (a b : ℕ) → joined E a b ≡ true → joined (e ∷ E) a b ≡ true
 unfolding joined
 joined-more E e a b h = or_right _ _ h
+
+-- a new joint joins its two cities
+pub joined-first : (E : List Pair) (e : Pair) → joined (e ∷ E) e.i e.j ≡ true
+unfolding joined
+joined-first E e = or_left _ _ (or_left _ _ (and_from _ _ (eq-eqb e.i e.i refl) (eq-eqb e.j e.j refl)))
+
+pub joined-second : (E : List Pair) (e : Pair) → joined (e ∷ E) e.j e.i ≡ true
+unfolding joined
+joined-second E e = or_left _ _ (or_right _ _ (and_from _ _ (eq-eqb e.i e.i refl) (eq-eqb e.j e.j refl)))
 
 pub IsChain-more : (E : List Pair) (e : Pair) (a : ℕ) (xs : List ℕ) → IsChain E a xs → IsChain (e ∷ E) a xs
 unfolding IsChain
@@ -115,9 +124,7 @@ Follows-append one two one' two' i j before a (d ∷ xs) ys l e pos h k f g =
     )
 
 pub both_last : (p q x y z : ℕ) → AreBoth p q x y → AreBoth p q x z → y ≡ z
-both_last p q x y z h k =
-    ⊎_elim (λ a. ⊎_elim (λ b. sym a.1 ∙ b.1) (λ b. sym a.1 ∙ (b.1 ∙ (sym a.0 ∙ b.0))) k)
-    (λ a. ⊎_elim (λ b. sym a.0 ∙ (b.0 ∙ (sym a.1 ∙ b.1))) (λ b. sym a.0 ∙ b.0) k) h
+both_last p q x y z h k = omega arith
 
 -- the neighbours lead along one list alone
 pub Follows-one : (one two : ℕ → ℕ) (before c : ℕ) (xs ys : List ℕ) → Follows one two before c xs →

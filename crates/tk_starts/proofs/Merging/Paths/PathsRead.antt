@@ -94,7 +94,7 @@ pub record AreRead (n hub : ℕ) (E : List Pair) (one two other : ℕ → ℕ) (
   pub paths : All (IsPartPath E) lists
   pub sound : (k b : ℕ) → k < length lists → holds (get_or lists k []) b ≡ true → IsCity n b × (b ≢ hub)
   pub found : (e b : ℕ) → IsCity n e → e < c → IsEnd one two e → e ≢ hub → e ≤ other e → part E b ≡ part E e →
-      (k : ℕ) × ((k < length lists) × (holds (get_or lists k []) b ≡ true))
+      (k : ℕ) × (k < length lists) × (holds (get_or lists k []) b ≡ true)
   pub order : (k : ℕ) → k + 1 < length lists → first_of (get_or lists k []) < first_of (get_or lists (k + 1) [])
   pub below : (k : ℕ) → k < length lists → first_of (get_or lists k []) < c
   pub begun : (k : ℕ) → k < length lists → IsBegun n E one two other c (get_or lists k [])
@@ -155,19 +155,15 @@ AreRead-push n hub load E one two other weight c lists xs a j r hc ne le p s =
       found = λ e b re l' h ne' le' k. ⊎_elim
           (λ w. let f = s.found e b re w h ne' le' k in (
             f.0,
-            (
-              omega (arith, f.1.0, len),
-              subst (λ (x : List ℕ). holds x b ≡ true) (sym (at_left lists l f.0 f.1.0)) f.1.1,
-            ),
+            omega (arith, f.1, len),
+            subst (λ (x : List ℕ). holds x b ≡ true) (sym (at_left lists l f.0 f.1)) f.2,
           ))
           (λ w.
           let t : e ≡ c = omega (arith, l', w) in (
             length lists,
-            (
-              omega (arith, len),
-              subst (λ (x : List ℕ). holds x b ≡ true) (sym (at_last lists l (length lists) refl))
-                  ((p.whole b).1 (k ∙ ap (part E) t)),
-            ),
+            omega (arith, len),
+            subst (λ (x : List ℕ). holds x b ≡ true) (sym (at_last lists l (length lists) refl))
+                ((p.whole b).1 (k ∙ ap (part E) t)),
           ))
           (cases_lt e c);
       order = λ k h. ⊎_elim
@@ -220,7 +216,7 @@ pub AreRead-end : (n hub : ℕ) (load : ℕ → ℕ) (E : List Pair) (one two ot
 AreRead-end n hub load E one two other weight c lists a j l s = record {
   paths = s.paths;
   cities = λ b. (
-    λ h. s.sound h.0 b h.1.0 h.1.1,
+    λ h. s.sound h.0 b h.1 h.2,
     λ h.
         let v = a.covered b h.0 in
         let o = other_end a v.0 v.1.0 v.1.1 in
