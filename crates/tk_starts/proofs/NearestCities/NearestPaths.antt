@@ -94,18 +94,16 @@ pub record IsUnderWay (dist : ℕ → ℕ → ℕ) (n start here : ℕ) (left : 
   pub marked : AreVisited n left (length cities - 1) cities
   pub last : slice_index cities (length cities - 1) ≡ here
 
-module _ (dist : ℕ → ℕ → ℕ) (n start here : ℕ) (left : List Placed) (cities : List ℕ) (city : IsCity n start)
+module _ {dist : ℕ → ℕ → ℕ} {n start here : ℕ} {left : List Placed} {cities : List ℕ} (city : IsCity n start)
     (h : IsUnderWay dist n start here left cities) where
   pub here_city : IsCity n here
   here_city =
-      subst (IsCity n) h.last
-      (path_city dist n start cities city h.path (length cities - 1) (omega (arith, h.path.some)))
+      subst (IsCity n) h.last (path_city h.path city (length cities - 1) (omega (arith, h.path.some)))
 
   pub here_left : Stands left here
   here_left =
       (h.marked here here_city).1
-      (λ i li e. path_apart dist n start cities h.path i (length cities - 1) li (omega (arith, h.path.some))
-      (e ∙ sym h.last))
+      (λ i li e. path_apart h.path i (length cities - 1) li (omega (arith, h.path.some)) (e ∙ sym h.last))
 
   all_visited : (place_of : ℕ → Point) (p : Placed) (now : List Placed) → p.city ≡ here →
       ArePlacedApart n place_of left →
@@ -132,12 +130,12 @@ module _ (dist : ℕ → ℕ → ℕ) (n start here : ℕ) (left : List Placed) 
       }
 
   in_range : (k : ℕ) → k < length cities → (0 < slice_index cities k) × (slice_index cities k ≤ n)
-  in_range k lk = let m = path_city dist n start cities city h.path k lk in (omega (arith, m.0), m.1)
+  in_range k lk = let m = path_city h.path city k lk in (omega (arith, m.0), m.1)
 
   pub length_limit : length cities ≤ n
   length_limit =
       length-distinct n cities in_range
-      (HoldsOnce-from_distinct cities (λ i j lt lj. path_apart dist n start cities h.path i j lt lj))
+      (HoldsOnce-from_distinct cities (λ i j lt lj. path_apart h.path i j lt lj))
 
   -- once no city is left, the list is whole
   pub IsNearestTour-whole : (place_of : ℕ → Point) (p : Placed) (now : List Placed) → p.city ≡ here →

@@ -119,39 +119,37 @@ IsNearestTo-start dist n start xs city size entries =
       each = λ i li. absurd (omega arith);
     }
 
--- what the definition says of each city of such a list: it is one of 1 to n, and new
-pub path_city : (dist : ℕ → ℕ → ℕ) (n start : ℕ) (xs : List ℕ) → IsCity n start → IsNearestPath dist n start xs →
-    (k : ℕ) → k < length xs → IsCity n (slice_index xs k)
-path_city dist n start xs city h k lk = ⊎_elim
-    (λ (e : k ≡ 0). let here : slice_index xs k ≡ start = ap (slice_index xs) e ∙ h.first in rw here city)
-    (λ ne.
-    let e : k - 1 + 1 ≡ k = omega arith in
-    let m = (h.each (k - 1) (omega arith)).member.0 in
-    rw e at m)
-    (cases_eq k 0)
+module _ {dist : ℕ → ℕ → ℕ} {n start : ℕ} {xs : List ℕ} (h : IsNearestPath dist n start xs) where
+  -- what the definition says of each city of such a list: it is one of 1 to n, and new
+  pub path_city : IsCity n start → (k : ℕ) → k < length xs → IsCity n (slice_index xs k)
+  path_city city k lk = ⊎_elim
+      (λ (e : k ≡ 0). let here : slice_index xs k ≡ start = ap (slice_index xs) e ∙ h.first in rw here city)
+      (λ ne.
+      let e : k - 1 + 1 ≡ k = omega arith in
+      let m = (h.each (k - 1) (omega arith)).member.0 in
+      rw e at m)
+      (cases_eq k 0)
 
-pub path_apart : (dist : ℕ → ℕ → ℕ) (n start : ℕ) (xs : List ℕ) → IsNearestPath dist n start xs → (i j : ℕ) → i < j →
-    j < length xs → slice_index xs i ≢ slice_index xs j
-path_apart dist n start xs h i j lt lj =
-    let e : j - 1 + 1 ≡ j = omega arith in
-    let m = (h.each (j - 1) (omega arith)).member.1 i (omega arith) in
-    rw e at m
+  pub path_apart : (i j : ℕ) → i < j → j < length xs → slice_index xs i ≢ slice_index xs j
+  path_apart i j lt lj =
+      let e : j - 1 + 1 ≡ j = omega arith in
+      let m = (h.each (j - 1) (omega arith)).member.1 i (omega arith) in
+      rw e at m
 
 pub IsNearestTour-from : (dist : ℕ → ℕ → ℕ) (n start : ℕ) (xs : List ℕ) → IsNearestTo dist n start n xs →
     IsNearestTour dist n start xs
 IsNearestTour-from dist n start xs h = record { count = h.count; first = h.first; each = h.each }
 
 -- so it is a tour
-pub IsTour-nearest : (dist : ℕ → ℕ → ℕ) (n start : ℕ) (xs : List ℕ) → IsCity n start →
-    IsNearestTour dist n start xs → IsTour n xs
-IsTour-nearest dist n start xs city h =
+pub IsTour-nearest : {dist : ℕ → ℕ → ℕ} {n start : ℕ} {xs : List ℕ} → IsCity n start → IsNearestTour dist n start xs →
+    IsTour n xs
+IsTour-nearest {dist} {n} {start} {xs} city h =
     let path : IsNearestPath dist n start xs =
     record {
       some = omega (arith, h.count, city.0, city.1);
       first = h.first;
       each = λ j l. h.each j (omega (arith, h.count));
     } in
-    let in_range : (k : ℕ) → k < length xs → (0 < slice_index xs k) × (slice_index xs k ≤ length xs) = λ k lk. let m =
-    path_city dist n start xs city path k lk in (omega (arith, m.0), omega (arith, m.1, h.count)) in
-    subst (λ v. IsTour v xs) h.count
-    (IsTour-from_distinct xs in_range (λ i j lt lj. path_apart dist n start xs path i j lt lj))
+    let in_range : (k : ℕ) → k < length xs → (0 < slice_index xs k) × (slice_index xs k ≤ length xs) =
+    λ k lk. let m = path_city path city k lk in (omega (arith, m.0), omega (arith, m.1, h.count)) in
+    subst (λ v. IsTour v xs) h.count (IsTour-from_distinct xs in_range (λ i j lt lj. path_apart path i j lt lj))

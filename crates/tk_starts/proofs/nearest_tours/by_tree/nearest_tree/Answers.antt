@@ -15,34 +15,24 @@ under_way g c =
     let m = c.args.metric.now in
     let at = c.loop-found in
     let first = rw (c.in-Some.is, c.placed.ensures.city) at c.visit.ensures.first in
-    IsUnderWay-more (g.P.Metric.distance m) (g.P.Metric.size_of m) c.args.start at.at.city at.left at.cities.items
-    c.requires at.invariant.way (g.P.Planar.place_of m) c.placed.result c.visit.new.left c.in-Some.found.city
-    c.placed.ensures.city at.invariant.apart c.visit.ensures.taken first
+    IsUnderWay-more c.requires at.invariant.way (g.P.Planar.place_of m) c.placed.result c.visit.new.left
+    c.in-Some.found.city c.placed.ensures.city at.invariant.apart c.visit.ensures.taken first
 
 pub placed-requires : goal.placed-requires
-placed-requires g c =
-    let m = c.args.metric.now in
-    let at = c.loop-found in
-    here_city (g.P.Metric.distance m) (g.P.Metric.size_of m) c.args.start at.at.city at.left at.cities.items c.requires
-    at.invariant.way
+placed-requires g c = here_city c.requires c.loop-found.invariant.way
 
 pub visit-requires-clause-left : goal.visit-requires-clause-left
 visit-requires-clause-left g c =
-    let m = c.args.metric.now in
-    let at = c.loop-found in
     let here = c.placed.ensures.city in
-    rw here (here_left (g.P.Metric.distance m) (g.P.Metric.size_of m) c.args.start at.at.city at.left at.cities.items
-    c.requires at.invariant.way)
+    rw here (here_left c.requires c.loop-found.invariant.way)
 
 pub loop-found-smaller : goal.loop-found-smaller
 loop-found-smaller g c =
-    let m = c.args.metric.now in
     let cities = c.loop-found.cities.items in
     let found = c.in-Some.found.city in
     let longer : length c.push-in-Some.new.self.items ≡ length cities + 1 =
     rw c.in_ok-push-2.ensures.items (length-append cities (found ∷ [])) in
-    let limit = length_limit (g.P.Metric.distance m) (g.P.Metric.size_of m) c.args.start found c.visit.new.left
-    (cities ++ found ∷ []) c.requires (under_way g (goal.at.loop-found-smaller g c).In-Some) in
+    let limit = length_limit c.requires (under_way g (goal.at.loop-found-smaller g c).In-Some) in
     omega (arith, longer, limit, length-append cities (found ∷ []))
 
 pub loop-found-preserved : goal.loop-found-preserved
@@ -55,12 +45,8 @@ pub returns-clause-nearest : goal.returns-clause-nearest
 returns-clause-nearest g c =
     let m = c.args.metric.now in
     let at = c.loop-found in
-    IsNearestTour-whole (g.P.Metric.distance m) (g.P.Metric.size_of m) c.args.start at.at.city at.left at.cities.items
-    c.requires at.invariant.way (g.P.Planar.place_of m) c.placed.result c.visit.new.left c.placed.ensures.city
-    at.invariant.apart c.visit.ensures.taken (rw c.in_default.is at c.visit.ensures.first)
+    IsNearestTour-whole c.requires at.invariant.way (g.P.Planar.place_of m) c.placed.result c.visit.new.left
+    c.placed.ensures.city at.invariant.apart c.visit.ensures.taken (rw c.in_default.is at c.visit.ensures.first)
 
 pub returns-clause-tour : goal.returns-clause-tour
-returns-clause-tour g c =
-    let m = c.args.metric.now in
-    IsTour-nearest (g.P.Metric.distance m) (g.P.Metric.size_of m) c.args.start c.loop-found.cities.items c.requires
-    (returns-clause-nearest g c)
+returns-clause-tour g c = IsTour-nearest c.requires (returns-clause-nearest g c)

@@ -43,6 +43,4 @@ returns-clause-nearest g c =
     IsNearestTour-from _ _ _ _ (rw s.first at c.place_nearest.ensures)
 
 pub returns-clause-tour : goal.returns-clause-tour
-returns-clause-tour g c =
-    IsTour-nearest (g.M.Metric.distance c.args.metric.now) (g.M.Metric.size_of c.args.metric.now) c.args.start
-    _ c.requires (returns-clause-nearest g c)
+returns-clause-tour g c = IsTour-nearest c.requires (returns-clause-nearest g c)
