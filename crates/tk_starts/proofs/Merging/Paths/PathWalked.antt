@@ -69,26 +69,24 @@ more n one two a cities before c next xs (d ∷ rest) w e h i ne k =
       inside = λ b m. i b (holds-later d b rest m);
     }
 
-pub OnWay-more : (n : ℕ) (one two : ℕ → ℕ) (a : ℕ) (cities : List ℕ) (before c next : ℕ) →
-    OnWay n one two a cities before c → c ≢ 0 → next ≡ cond (eqb (one c) before) (two c) (one c) →
-    OnWay n one two a (cities ++ c ∷ []) c next
-OnWay-more n one two a cities before c next o ne k =
-    more n one two a cities before c next o.xs o.rest o.way o.whole o.ahead o.inside ne k
-
--- a city is still to come
-pub OnWay-city : (n : ℕ) (one two : ℕ → ℕ) (a : ℕ) (cities : List ℕ) (before c : ℕ) →
-    OnWay n one two a cities before c → c ≢ 0 → IsCity n c × (length cities < n + 1)
-OnWay-city n one two a cities before c o ne =
-    let h = ahead_city n one two before c o.rest ne o.ahead o.inside in
-    (h.0, omega (arith, h.1, o.way.short, length-append cities o.rest, ap length o.whole))
-
 ended : (one two : ℕ → ℕ) (before c : ℕ) (rest : List ℕ) → c ≡ 0 → Ahead one two before c rest → rest ≡ []
 ended one two before c [] e h = refl
 ended one two before c (d ∷ rest) e h = absurd (omega (arith, e, h.1))
 
-pub OnWay-end : (n : ℕ) (one two : ℕ → ℕ) (a : ℕ) (cities : List ℕ) (before c : ℕ) → OnWay n one two a cities before c →
-    c ≡ 0 → (ys : List ℕ) → Follows one two 0 a ys → cities ≡ a ∷ ys
-OnWay-end n one two a cities before c o e ys f =
-    sym (append-nil cities)
-    ∙ (ap (λ (x : List ℕ). cities ++ x) (sym (ended one two before c o.rest e o.ahead))
-    ∙ (o.whole ∙ ap (λ (x : List ℕ). a ∷ x) (Follows-one one two 0 a o.xs ys o.way.follows f)))
+module _ {n : ℕ} {one two : ℕ → ℕ} {a : ℕ} {cities : List ℕ} {before c : ℕ}
+    (o : OnWay n one two a cities before c) where
+  pub OnWay-more : (next : ℕ) → c ≢ 0 → next ≡ cond (eqb (one c) before) (two c) (one c) →
+      OnWay n one two a (cities ++ c ∷ []) c next
+  OnWay-more next ne k = more n one two a cities before c next o.xs o.rest o.way o.whole o.ahead o.inside ne k
+
+  -- a city is still to come
+  pub OnWay-city : c ≢ 0 → IsCity n c × (length cities < n + 1)
+  OnWay-city ne =
+      let h = ahead_city n one two before c o.rest ne o.ahead o.inside in
+      (h.0, omega (arith, h.1, o.way.short, length-append cities o.rest, ap length o.whole))
+
+  pub OnWay-end : c ≡ 0 → (ys : List ℕ) → Follows one two 0 a ys → cities ≡ a ∷ ys
+  OnWay-end e ys f =
+      sym (append-nil cities)
+      ∙ (ap (λ (x : List ℕ). cities ++ x) (sym (ended one two before c o.rest e o.ahead))
+      ∙ (o.whole ∙ ap (λ (x : List ℕ). a ∷ x) (Follows-one one two 0 a o.xs ys o.way.follows f)))
