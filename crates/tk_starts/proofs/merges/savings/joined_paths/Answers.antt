@@ -1,4 +1,4 @@
-use Rattle.std.proofs.Common.{ℕ, ◌+◌, ◌≤◌, ◌<◌, [], length, subst, refl, sym, ◌∙◌, arith, Fits}
+use Rattle.std.proofs.Common.{ℕ, ◌+◌, ◌≤◌, ◌<◌, [], length, subst, refl, sym, arith, Fits}
 use Rattle.std.proofs.Common.{w64}
 use Rattle.tk_starts.specs.PathEnds.{at, IsPairWithin}
 use Rattle.tk_starts.specs.declared.merges.pairs.Pair.{Pair}
@@ -28,21 +28,11 @@ loop-k-init c =
       );
     }
 
-pub may_join-requires-clause-sizes : goal.may_join-requires-clause-sizes
-may_join-requires-clause-sizes c =
-    let z = c.loop-k.invariant.sizes in
-    (z.1 ∙ sym z.0, z.2 ∙ sym z.0, z.3 ∙ sym z.0)
-
 pub may_join-requires-clause-within : goal.may_join-requires-clause-within
 may_join-requires-clause-within c =
     let w = pair_within (goal.at.may_join-requires-clause-within c).After-at-pair in
     let z = c.loop-k.invariant.sizes.0 in
     ((w.0.0, omega (arith, z, w.0.1)), (w.1.0, omega (arith, z, w.1.1)), w.2)
-
-pub join-requires-clause-sizes : goal.join-requires-clause-sizes
-join-requires-clause-sizes c =
-    let z = c.loop-k.invariant.sizes in
-    (z.1 ∙ sym z.0, z.2 ∙ sym z.0, z.3 ∙ sym z.0)
 
 pub join-requires-clause-cities : goal.join-requires-clause-cities
 join-requires-clause-cities c =
@@ -77,12 +67,7 @@ loop-k-preserved c =
       | then-may_join b ↦
           let q = b.join.new.self in
           rw b.paths-is (record {
-            sizes = (
-              b.join.ensures.sizes.0 ∙ z.0,
-              b.join.ensures.sizes.1 ∙ z.0,
-              b.join.ensures.sizes.2 ∙ z.0,
-              b.join.ensures.sizes.3 ∙ z.0,
-            );
+            sizes = omega (arith, b.join.ensures.sizes, z);
             joined = taken_step _ _ c.args.capacity c.args.pairs.now c.loop-k.k c.at-pair.result (at p.one.items)
                 (at p.two.items) (at p.other.items) (at p.load.items) (at q.one.items) (at q.two.items)
                 (at q.other.items) (at q.load.items)

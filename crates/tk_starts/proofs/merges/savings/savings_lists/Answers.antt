@@ -12,17 +12,11 @@ joined_paths-requires-clause-within g c =
 pub lists-requires-clause-some : goal.lists-requires-clause-some
 lists-requires-clause-some g c =
     let p = c.in_ok-paths.paths in
-    let e : length c.args.loads.now ≡ vec_len p.one - 1 = omega (arith, c.in_ok-paths.ensures.sizes.0) in (
-      load_of c.args.loads.now,
-      (
-        _,
-        subst
-            (λ (n : ℕ). AreJoined n (load_of c.args.loads.now)
-            (joints (load_of c.args.loads.now) (length c.args.loads.now) c.args.capacity [] c.in_ok-pairs.pairs)
-            p.one.items
-            p.two.items p.other.items p.load.items) e c.in_ok-paths.ensures.joined,
-      ),
-    )
+    let e : length c.args.loads.now ≡ vec_len p.one - 1 = omega (arith, c.in_ok-paths.ensures.sizes.0) in
+    let joined = subst (λ (n : ℕ). AreJoined n (load_of c.args.loads.now)
+    (joints (load_of c.args.loads.now) (length c.args.loads.now) c.args.capacity [] c.in_ok-pairs.pairs)
+    p.one.items p.two.items p.other.items p.load.items) e c.in_ok-paths.ensures.joined in
+    (load_of c.args.loads.now, (_, joined))
 
 pub returns-clause-lists : goal.returns-clause-lists
 returns-clause-lists g c =
