@@ -2,6 +2,7 @@
 use Rattle.std.proofs.Common.{◌≡◌, suc, zero, List, [], ◌∷◌, refl, sym, ap, ◌∙◌, ◌⊎◌, inl, inr, ◌↔◌, arith, ⊎_elim}
 use Rattle.std.proofs.Common.{subst}
 use Rattle.std.specs.List.{AllPairs, Contains}
+use Rattle.std.proofs.lemmas.List.Elements.{Contains-append_right}
 
 module _ {A : Type 0} where
   none_held : (x : A) → Contains [] x → ⊥
@@ -9,9 +10,6 @@ module _ {A : Type 0} where
 
   first_held : (x : A) (xs : List A) → Contains (x ∷ xs) x
   first_held x xs = (0, omega arith, refl)
-
-  later_held : (x y : A) (xs : List A) → Contains xs y → Contains (x ∷ xs) y
-  later_held x y xs (k, l, e) = (suc k, omega (arith, l), e)
 
   held_cases : (x y : A) (xs : List A) → Contains (x ∷ xs) y → (x ≡ y) ⊎ Contains xs y
   held_cases x y xs (zero, l, e) = inl e
@@ -44,8 +42,8 @@ module _ {A : Type 0} (R : A → A → Type 0) (one_way : (x y : A) → R x y �
       (held_cases x y xs ((m y).1 (first_held y ys))) in
       let rest : xs ≡ ys = same_ordered xs ys (later_order x xs a) (later_order y ys b) (λ p. (
         λ k. ⊎_elim (λ w. absurd (not_itself x p (e ∙ w) (before_later x p xs a k))) (λ w. w)
-            (held_cases y p ys ((m p).0 (later_held x p xs k))),
+            (held_cases y p ys ((m p).0 (Contains-append_right (x ∷ []) xs p k))),
         λ k. ⊎_elim (λ w. absurd (not_itself y p (sym e ∙ w) (before_later y p ys b k))) (λ w. w)
-            (held_cases x p xs ((m p).1 (later_held y p ys k))),
+            (held_cases x p xs ((m p).1 (Contains-append_right (y ∷ []) ys p k))),
       )) in
       ap (λ (z : A). z ∷ xs) e ∙ ap (λ (z : List A). y ∷ z) rest

@@ -51,11 +51,7 @@ pub near_one : (dist : ℕ → ℕ → ℕ) (near : ℕ → List ℕ) (n hub c d
     holds (near c) d ≡ true → IsCandidate dist near n hub p
 near_one dist near n hub c d p h o m = (
   h,
-  ⊎_elim (λ k. inl
-      (subst (λ (x : ℕ). holds (near x) p.j ≡ true) (sym k.0) (subst (λ (x : ℕ). holds (near c) x ≡ true) (sym k.1) m)))
-      (λ k. inr
-      (subst (λ (x : ℕ). holds (near x) p.i ≡ true) (sym k.1)
-      (subst (λ (x : ℕ). holds (near c) x ≡ true) (sym k.0) m))) o,
+  ⊎_elim (λ k. inl (rw (k.0, k.1) m)) (λ k. inr (rw (k.1, k.0) m)) o,
 )
 
 pub last_one : {X : Type 0} (xs : List X) (q p : X) → q ≡ p → Contains (xs ++ q ∷ []) p
@@ -110,11 +106,8 @@ pub here_same : (dist : ℕ → ℕ → ℕ) (n hub c : ℕ) (items : List ℕ) 
 here_same dist n hub c items m pairs s never p h k l o =
     ⊎_elim
     (λ w. s p h k w o)
-    (λ w. let t : k ≡ m = omega (
-      arith,
-      l,
-      w,
-    ) in absurd (never p h (subst (λ (x : ℕ). IsPairOf c (get_or items x 0) p) t o)))
+    (λ w. let t : k ≡ m = omega (arith, l, w) in
+    absurd (never p h (subst (λ (x : ℕ). IsPairOf c (get_or items x 0) p) t o)))
     (cases_lt k m)
 
 -- the pair of c and an earlier city that has c near it was found there
