@@ -1,12 +1,9 @@
-use Rattle.std.proofs.Common.{◌≡◌, ◌∙◌, sym, arith}
+use Rattle.std.proofs.Common.{◌≡◌, ◌∙◌, sym}
 use Rattle.tk_tour.specs.Tour.{next_city}
 use Rattle.tk_tour.proofs.StoredTours.Sides.{AreForward-backward, TurnsShorterSide-backward}
 use Rattle.tk_tour.proofs.sides.shorter_side.Goals as goal
 use Rattle.tk_tour.proofs.sides.shorter_side.Goals.{else-city_after-b-via-then-city_after-b+else-city_after-d}
 use Rattle.tk_tour.proofs.sides.shorter_side.Goals.{else-city_after-b-via-else-city_after-b}
-
-pub side_ahead-requires : goal.side_ahead-requires
-side_ahead-requires g c = omega arith
 
 pub side_ahead-requires-else-city_after-b : goal.side_ahead-requires-else-city_after-b
 side_ahead-requires-else-city_after-b g c =

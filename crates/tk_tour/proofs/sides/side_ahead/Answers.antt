@@ -1,19 +1,9 @@
-use Rattle.std.proofs.Common.{arith}
 use Rattle.tk_tour.proofs.StoredTours.Sides.{cities_after, inner_side, outer_side}
 use Rattle.tk_tour.proofs.sides.side_ahead.Goals as goal
 
 pub place_of-start-requires : goal.place_of-start-requires
 place_of-start-requires g c =
     (cities_after _ _ _ _ _ (g.met.S.Placed.is_tour c.args.tour.now).2 c.requires).0
-
-pub path_length-inner-requires : goal.path_length-inner-requires
-path_length-inner-requires g c =
-    omega (
-      arith,
-      g.met.S.Placed.is_tour c.args.tour.now,
-      c.place_of-start.ensures.within,
-      c.place_of.ensures.within,
-    )
 
 pub returns-then-inner-n : goal.returns-then-inner-n
 returns-then-inner-n g c =

@@ -22,9 +22,6 @@ returns-clause-places c = (order_flipped (goal.at.returns-clause-places c).After
 pub returns-clause-undone : goal.returns-clause-undone
 returns-clause-undone c = (order_flipped (goal.at.returns-clause-undone c).After-reverse).undone
 
-pub returns-clause-side : goal.returns-clause-side
-returns-clause-side c = c.shorter_side-first.ensures.side
-
 pub returns-clause-size : goal.returns-clause-size
 returns-clause-size c = (order_flipped (goal.at.returns-clause-size c).After-reverse).size
 
