@@ -4,10 +4,6 @@ use Rattle.tk_near.specs.Keeping.{open_place}
 use Rattle.tk_near.proofs.Tables.{AreFilled-front}
 use Rattle.tk_near.proofs.plane.tree.lists_by_tree.Goals as goal
 
-pub fill_from_tree-requires-clause-high : goal.fill_from_tree-requires-clause-high
-fill_from_tree-requires-clause-high g c =
-    rw (ap length c.in_ok-many.ensures ∙ length-replicate c.args.k open_place) c.requires.high
-
 pub from_filled-requires-clause-filled : goal.from_filled-requires-clause-filled
 from_filled-requires-clause-filled g c =
     AreFilled-front _ _ _ _ _ _ _ _ (omega (arith, c.deref_mut.ensures.len, c.fill_from_tree.auto.entries))
