@@ -1,6 +1,6 @@
 -- The paths read off.
 use Rattle.std.proofs.Common.{leb, not, ◌&&◌, ◌≡◌, ◌≢◌, ℕ, ◌+◌, ◌≤◌, ◌<◌, Bool, true, false, cond, ◌||◌, eqb, List, []}
-use Rattle.std.proofs.Common.{◌∷◌, ◌++◌, length, get_or, refl, sym, ap, ◌∙◌, ◌⊎◌, arith, ⊎_elim, subst}
+use Rattle.std.proofs.Common.{◌∷◌, ◌++◌, length, get_or, refl, sym, ap, ◌∙◌, ◌⊎◌, inl, inr, arith, ⊎_elim, subst}
 use Rattle.std.specs.List.{All, IsDistinct as IsDistinctBy, AllByRecursion, list_any}
 use Rattle.std.proofs.lemmas.Bool.{eqb-true, eqb-false, eq-eqb, ne_eqb, or_cases, or_left, or_right, or_parts}
 use Rattle.std.proofs.lemmas.Bool.{false_from_ne_true, both_ways, cases_lt, and_parts, and_from, not-true}
@@ -127,6 +127,15 @@ at_last lists l k h = get_or_at lists l [] [] k (sym h)
 pushed : (lists : List (List ℕ)) (l : List ℕ) → length (lists ++ l ∷ []) ≡ length lists + 1
 pushed lists l = omega (arith, length-append lists (l ∷ []))
 
+-- one of the lists before, or the last
+pushed_cases : (lists : List (List ℕ)) (l : List ℕ) (k : ℕ) → k < length (lists ++ l ∷ []) →
+    ((k < length lists) × (get_or (lists ++ l ∷ []) k [] ≡ get_or lists k []))
+    ⊎ ((k ≡ length lists) × (get_or (lists ++ l ∷ []) k [] ≡ l))
+pushed_cases lists l k h =
+    ⊎_elim (λ w. inl (w, at_left lists l k w))
+    (λ w. let last : k ≡ length lists = omega (arith, h, w, pushed lists l) in inr (last, at_last lists l k last))
+    (cases_lt k (length lists))
+
 path_made : (n : ℕ) (E : List Pair) (one two : ℕ → ℕ) (c z : ℕ) (xs : List ℕ) → IsPathOf n E one two c z xs → c ≤ z →
     IsPartPath E (c ∷ xs)
 unfolding IsPartPath
@@ -144,70 +153,57 @@ AreRead-push n hub load E one two other weight c lists xs a j r hc ne le p s =
     let l : List ℕ = c ∷ xs in
     let len = pushed lists l in
     let fc = first-cons c xs in
+    let which = pushed_cases lists l in
     record {
       paths = All-push (IsPartPath E) lists l s.paths (path_made n E one two c (other c) xs p le);
       sound = λ k b h m. ⊎_elim
-          (λ w. s.sound k b w (subst (λ (x : List ℕ). holds x b ≡ true) (at_left lists l k w) m))
+          (λ w. s.sound k b w.0 (rw w.1 at m))
           (λ w.
-          let q = subst (λ (x : List ℕ). holds x b ≡ true) (at_last lists l k (omega (arith, h, len, w))) m in
+          let q = rw w.1 at m in
           (p.inside b q, λ e. ne (alone E hub c j (sym ((p.whole b).0 q) ∙ ap (part E) e))))
-          (cases_lt k (length lists));
+          (which k h);
       found = λ e b re l' h ne' le' k. ⊎_elim
-          (λ w. let f = s.found e b re w h ne' le' k in (
-            f.0,
-            omega (arith, f.1, len),
-            subst (λ (x : List ℕ). holds x b ≡ true) (sym (at_left lists l f.0 f.1)) f.2,
-          ))
           (λ w.
-          let t : e ≡ c = omega (arith, l', w) in (
+          let f = s.found e b re w h ne' le' k in
+          (f.0, omega (arith, f.1, len), rw (at_left lists l f.0 f.1) f.2))
+          (λ w.
+          let t : e ≡ c = omega (arith, l', w) in
+          (
             length lists,
             omega (arith, len),
-            subst (λ (x : List ℕ). holds x b ≡ true) (sym (at_last lists l (length lists) refl))
-                ((p.whole b).1 (k ∙ ap (part E) t)),
+            rw (at_last lists l (length lists) refl) ((p.whole b).1 (k ∙ ap (part E) t)),
           ))
           (cases_lt e c);
-      order = λ k h. ⊎_elim
-          (λ w.
-          let a = ap first_of (at_left lists l k (omega (arith, w))) in
-          let b = ap first_of (at_left lists l (k + 1) w) in
-          let d = s.order k w in omega (arith, a, b, d))
-          (λ w.
+      order = λ k h.
           let lt : k < length lists = omega (arith, h, len) in
           let a = ap first_of (at_left lists l k lt) in
-          let b = ap first_of (at_last lists l (k + 1) (omega (arith, h, len, w))) in
-          let d = s.below k lt in omega (arith, a, b, d, fc))
-          (cases_lt (k + 1) (length lists));
-      below = λ k h. ⊎_elim
-          (λ w. let a = ap first_of (at_left lists l k w) in let d = s.below k w in omega (arith, a, d))
-          (λ w. let b = ap first_of (at_last lists l k (omega (arith, h, len, w))) in omega (arith, b, fc))
-          (cases_lt k (length lists));
-      begun = λ k h. ⊎_elim
-          (λ w. subst (λ (x : List ℕ). IsBegun n E one two other (c + 1) x) (sym (at_left lists l k w))
-          (IsBegun-later n E one two other c _ (s.begun k w)))
-          (λ w. subst (λ (x : List ℕ). IsBegun n E one two other (c + 1) x)
-          (sym (at_last lists l k (omega (arith, h, len, w))))
-          (record { end = c; city = r; below = omega arith; ends = hc; smaller = le; inside = λ b m. (p.whole b).0 m }))
-          (cases_lt k (length lists));
-      once = λ b k m hk hm mk mm.
-          let old : (i : ℕ) → i < length lists → holds (get_or (lists ++ l ∷ []) i []) b ≡ true →
-          holds (get_or lists i []) b ≡ true =
-          λ i w q. subst (λ (x : List ℕ). holds x b ≡ true) (at_left lists l i w) q in
-          let new : (i : ℕ) → i ≡ length lists → holds (get_or (lists ++ l ∷ []) i []) b ≡ true →
-          part E b ≡ part E c =
-          λ i w q. (p.whole b).0 (subst (λ (x : List ℕ). holds x b ≡ true) (at_last lists l i w) q) in
-          let no : (i : ℕ) → i < length lists → holds (get_or lists i []) b ≡ true → part E b ≡ part E c →
-          ⊥ = λ i w q e. no_clash n load E one two other weight c b (get_or lists i []) a r hc le
-          (s.begun i w) q e in
           ⊎_elim
-          (λ (wk : k < length lists). ⊎_elim
-          (λ (wm : m < length lists). s.once b k m wk wm (old k wk mk) (old m wm mm))
-          (λ (wm : length lists ≤ m). absurd (no k wk (old k wk mk) (new m (omega (arith, hm, len, wm)) mm)))
-          (cases_lt m (length lists)))
-          (λ (wk : length lists ≤ k). ⊎_elim
-          (λ (wm : m < length lists). absurd (no m wm (old m wm mm) (new k (omega (arith, hk, len, wk)) mk)))
-          (λ (wm : length lists ≤ m). omega (arith, hk, hm, len, wk, wm))
-          (cases_lt m (length lists)))
-          (cases_lt k (length lists));
+          (λ w. omega (arith, a, ap first_of w.1, s.order k w.0))
+          (λ w. omega (arith, a, ap first_of w.1, s.below k lt, fc))
+          (which (k + 1) h);
+      below = λ k h. ⊎_elim
+          (λ w. omega (arith, ap first_of w.1, s.below k w.0))
+          (λ w. omega (arith, ap first_of w.1, fc))
+          (which k h);
+      begun = λ k h. ⊎_elim
+          (λ w. rw w.1 (IsBegun-later n E one two other c _ (s.begun k w.0)))
+          (λ w. rw w.1
+          (record { end = c; city = r; below = omega arith; ends = hc; smaller = le; inside = λ b m. (p.whole b).0 m }))
+          (which k h);
+      once = λ b k m hk hm mk mm.
+          let no : (i : ℕ) → i < length lists → holds (get_or lists i []) b ≡ true → holds l b ≡ true → ⊥ =
+          λ i w q e. no_clash n load E one two other weight c b (get_or lists i []) a r hc le (s.begun i w) q
+          ((p.whole b).0 e) in
+          ⊎_elim
+          (λ w. ⊎_elim
+          (λ v. s.once b k m w.0 v.0 (rw w.1 at mk) (rw v.1 at mm))
+          (λ v. absurd (no k w.0 (rw w.1 at mk) (rw v.1 at mm)))
+          (which m hm))
+          (λ w. ⊎_elim
+          (λ v. absurd (no m v.0 (rw v.1 at mm) (rw w.1 at mk)))
+          (λ v. w.0 ∙ sym v.0)
+          (which m hm))
+          (which k hk);
     }
 
 pub AreRead-end : (n hub : ℕ) (load : ℕ → ℕ) (E : List Pair) (one two other weight : ℕ → ℕ) (c : ℕ)
