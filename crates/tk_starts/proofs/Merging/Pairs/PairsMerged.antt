@@ -90,12 +90,12 @@ pub record IsTaken (n : ℕ) (E : List Pair) (one two other weight : ℕ → ℕ
   pub far : IsCity n (other p.i) × IsCity n (other p.j) × (other p.i ≢ other p.j)
   pub fits : weight p.i + weight p.j ≤ capacity
 
-pub IsTaken-from : (n : ℕ) (load : ℕ → ℕ) (E : List Pair) (one two other weight : ℕ → ℕ) →
+pub IsTaken-from : {n : ℕ} {load : ℕ → ℕ} {E : List Pair} {one two other weight : ℕ → ℕ} →
     AreEnds n load E one two other weight → (p : Pair) → IsCity n p.i → IsCity n p.j → p.i ≢ p.j → (capacity : ℕ) →
     ((eqb (one p.i) 0 || eqb (two p.i) 0) && (eqb (one p.j) 0 || eqb (two p.j) 0) && not (eqb (other p.i) p.j)
     && leb (weight p.j) capacity && leb (weight p.i) (capacity - weight p.j)) ≡ true →
     IsTaken n E one two other weight capacity p
-IsTaken-from n load E one two other weight s p ri rj ne capacity h =
+IsTaken-from {n} {load} {E} {one} {two} {other} {weight} s p ri rj ne capacity h =
     let a = and_parts _ _ h in
     let b = and_parts _ _ a.0 in
     let d = and_parts _ _ b.0 in
@@ -105,7 +105,7 @@ IsTaken-from n load E one two other weight s p ri rj ne capacity h =
     let oi = other_end s p.i ri hi in
     let oj = other_end s p.j rj hj in
     let ap' : part E p.i ≢ part E p.j =
-    λ k. both_ways _ (not-true _ (sym (apart_test n load E one two other weight s p.i p.j ri rj ne hi hj) ∙ d.1))
+    λ k. both_ways _ (not-true _ (sym (apart_test s p.i p.j ri rj ne hi hj) ∙ d.1))
     (eq-eqb _ _ k) in
     record {
       first = hi;
@@ -141,8 +141,8 @@ pub taken_step : (n : ℕ) (load : ℕ → ℕ) (capacity : ℕ) (pairs : List P
     Going n load capacity pairs k one two other weight → Going n load capacity pairs (k + 1) one' two' other' weight'
 taken_step n load capacity pairs k p one two other weight one' two' other' weight' l is w t a b c g =
     let s = g.2 in
-    let u = may_join-test n load g.0 one two other weight s p w.0 w.1 w.2 capacity in
-    let v = IsTaken-from n load g.0 one two other weight s p w.0 w.1 w.2 capacity (sym t) in
+    let u = may_join-test s p w.0 w.1 w.2 capacity in
+    let v = IsTaken-from s p w.0 w.1 w.2 capacity (sym t) in
     let e = joints-taken load n capacity g.0 p (drop (k + 1) pairs) (sym u ∙ sym t) in (
       p ∷ g.0,
       sym e ∙ (ap (joints load n capacity g.0) (sym (at_next pairs k p l is)) ∙ g.1),
@@ -163,7 +163,7 @@ pub left_step : (n : ℕ) (load : ℕ → ℕ) (capacity : ℕ) (pairs : List Pa
     IsPairWithin n p → false ≡ test_at one two other weight capacity p →
     Going n load capacity pairs k one two other weight → Going n load capacity pairs (k + 1) one two other weight
 left_step n load capacity pairs k p one two other weight l is w t g =
-    let u = may_join-test n load g.0 one two other weight g.2 p w.0 w.1 w.2 capacity in
+    let u = may_join-test g.2 p w.0 w.1 w.2 capacity in
     let e = joints-left load n capacity g.0 p (drop (k + 1) pairs) (sym u ∙ sym t) in
     (g.0, sym e ∙ (ap (joints load n capacity g.0) (sym (at_next pairs k p l is)) ∙ g.1), g.2)
 

@@ -16,12 +16,12 @@ use Rattle.tk_starts.proofs.Merging.Paths.PathLists.{AreBoth-flip, Follows-stays
 use Rattle.tk_starts.proofs.Merging.Paths.PathLists.{joined-first, joined-second}
 
 -- the path from a to i, and on from j to z
-pub new_path : (n : ℕ) (E : List Pair) (e : Pair) (one two one' two' : ℕ → ℕ) (i j a z : ℕ) (xs ys : List ℕ) →
+new_path : {n : ℕ} {E : List Pair} (e : Pair) {one two one' two' : ℕ → ℕ} {i j a z : ℕ} {xs ys : List ℕ} →
     IsPathOf n E one two a i xs → IsPathOf n E one two j z ys → part E i ≢ part E j → part E a ≡ part E i →
     joined (e ∷ E) i j ≡ true →
     ((c : ℕ) → (part (e ∷ E) c ≡ part (e ∷ E) a) ↔ ((part E c ≡ part E i) ⊎ (part E c ≡ part E j))) →
     IsLinked i j one two one' two' → IsPathOf n (e ∷ E) one' two' a z (xs ++ j ∷ ys)
-new_path n E e one two one' two' i j a z xs ys P Q apart pa jn whole l =
+new_path {n} {E} e {one} {two} {one'} {two'} {i} {j} {a} {z} {xs} {ys} P Q apart pa jn whole l =
     let no : (b : ℕ) → holds (a ∷ xs) b ≡ true → holds (j ∷ ys) b ≡ true →
     ⊥ = λ b p q. apart (sym pa ∙ (sym ((P.whole b).0 p) ∙ (Q.whole b).0 q)) in
     let hi : holds (a ∷ xs) i ≡ true = subst (λ (w : ℕ). holds (a ∷ xs) w ≡ true) P.last (holds-last a xs) in
@@ -54,11 +54,11 @@ both_above : (p q x y : ℕ) → AreBoth p q x y → 0 < x → 0 < y → (p ≡ 
 both_above p q x y h a b k = omega arith
 
 -- an end that got a neighbour is an end still only where it was a path of its own
-still_end : (one two one' two' : ℕ → ℕ) (i j z : ℕ) (xs : List ℕ) → IsLinked i j one two one' two' → 0 < j →
+still_end : {one two one' two' : ℕ → ℕ} {i j : ℕ} (z : ℕ) (xs : List ℕ) → IsLinked i j one two one' two' → 0 < j →
     last_from i xs ≡ z → Follows one two 0 i xs → IsEnd one' two' i → i ≡ z
 unfolding Follows
-still_end one two one' two' i j z [] l pos e f h = e
-still_end one two one' two' i j z (d ∷ xs) l pos e f h =
+still_end z [] l pos e f h = e
+still_end {j = j} z (d ∷ xs) l pos e f h =
     absurd (both_above _ _ d j (l.first d (AreBoth-flip _ _ 0 d f.0)) f.1 pos h)
 
 single_end : (one two one' two' : ℕ → ℕ) (i j z : ℕ) (xs : List ℕ) → IsLinked i j one two one' two' →
@@ -197,12 +197,10 @@ module _ {n : ℕ} {load : ℕ → ℕ} {E : List Pair} {e : Pair} {one two othe
       let pj = m.ends.paths e.j m.second.0 m.second.1 in
       ⊎_elim
       (λ (k : c ≡ e.i). inl (inl
-      (k ∙ still_end one two one' two' e.i e.j (other e.i) pi.0 m.linked m.second.0.0 pi.1.last pi.1.follows
-      (subst (λ (w : ℕ). IsEnd one' two' w) k h))))
+      (k ∙ still_end (other e.i) pi.0 m.linked m.second.0.0 pi.1.last pi.1.follows (rw k at h))))
       (λ (ni : c ≢ e.i). ⊎_elim
       (λ (k : c ≡ e.j). inl (inr
-      (k ∙ still_end one two one' two' e.j e.i (other e.j) pj.0 flipped m.first.0.0 pj.1.last pj.1.follows
-      (subst (λ (w : ℕ). IsEnd one' two' w) k h))))
+      (k ∙ still_end (other e.j) pj.0 flipped m.first.0.0 pj.1.last pj.1.follows (rw k at h))))
       (λ (nj : c ≢ e.j). ⊎_elim
       (λ (k : c ≡ other e.i). inl (inl k))
       (λ (na : c ≢ other e.i). ⊎_elim
@@ -264,16 +262,15 @@ module _ {n : ℕ} {load : ℕ → ℕ} {E : List Pair} {e : Pair} {one two othe
       (λ f. ⊎_elim
       (λ (k : c ≡ other e.i).
       let P = subst (λ (w : ℕ). IsPathOf n E one two (other e.i) w qi.0) first_back.1 qi.1 in
-      let N = new_path n E e one two one' two' e.i e.j (other e.i) (other e.j) qi.0 pj.0 P pj.1 m.apart first_far.1
-      (joined-first E e) (λ b. members E e (other e.i) b m.apart (inl first_far.1)) m.linked in
+      let N = new_path e P pj.1 m.apart first_far.1 (joined-first E e)
+      (λ b. members E e (other e.i) b m.apart (inl first_far.1)) m.linked in
       subst (λ (w : ℕ). (xs : List ℕ) × IsPathOf n (e ∷ E) one' two' w (other' w) xs) (sym k) (
         qi.0 ++ e.j ∷ pj.0,
         subst (λ (w : ℕ). IsPathOf n (e ∷ E) one' two' (other e.i) w (qi.0 ++ e.j ∷ pj.0)) (sym m.far.first) N,
       ))
       (λ (k : c ≡ other e.j).
       let P = subst (λ (w : ℕ). IsPathOf n E one two (other e.j) w qj.0) second_back.1 qj.1 in
-      let N = new_path n E e one two one' two' e.j e.i (other e.j) (other e.i) qj.0 pi.0 P pi.1
-      (λ w. m.apart (sym w)) second_far.1 (joined-second E e)
+      let N = new_path e P pi.1 (λ w. m.apart (sym w)) second_far.1 (joined-second E e)
       (λ b. turned (members E e (other e.j) b m.apart (inr second_far.1))) flipped in
       subst (λ (w : ℕ). (xs : List ℕ) × IsPathOf n (e ∷ E) one' two' w (other' w) xs) (sym k) (
         qj.0 ++ e.i ∷ pi.0,

@@ -30,11 +30,10 @@ pub is_end-from : (p q : ℕ) → (eqb p 0 || eqb q 0) ≡ true → (p ≡ 0) �
 is_end-from p q h = ⊎_elim (λ k. inl (eqb-true p 0 k)) (λ k. inr (eqb-true q 0 k)) (or_cases _ _ h)
 
 -- of two ends, the one is the other's other end where they are in one part
-pub apart_test : (n : ℕ) (load : ℕ → ℕ) (E : List Pair) (one two other weight : ℕ → ℕ) →
+pub apart_test : {n : ℕ} {load : ℕ → ℕ} {E : List Pair} {one two other weight : ℕ → ℕ} →
     AreEnds n load E one two other weight → (i j : ℕ) → IsCity n i → IsCity n j → i ≢ j → IsEnd one two i →
-    IsEnd one two j →
-    not (eqb (other i) j) ≡ not (eqb (part E i) (part E j))
-apart_test n load E one two other weight s i j ri rj ne hi hj =
+    IsEnd one two j → not (eqb (other i) j) ≡ not (eqb (part E i) (part E j))
+apart_test {E = E} {other = other} s i j ri rj ne hi hj =
     ⊎_elim
     (λ (h : other i ≡ j). ap not (eq-eqb _ _ h
     ∙ sym (eq-eqb _ _ (sym (other_end s i ri hi).1 ∙ ap (part E) h))))
@@ -74,16 +73,16 @@ by_ends : (a a' b b' c c' d e f : Bool) → a ≡ a' → b ≡ b' → (a ≡ tru
 by_ends a a' b b' c c' d e f p q r s = rw (← p, ← q) (by_ends_at a b c c' d e f r s)
 
 -- the test of the code is that of the rule
-pub may_join-test : (n : ℕ) (load : ℕ → ℕ) (E : List Pair) (one two other weight : ℕ → ℕ) →
+pub may_join-test : {n : ℕ} {load : ℕ → ℕ} {E : List Pair} {one two other weight : ℕ → ℕ} →
     AreEnds n load E one two other weight → (p : Pair) → IsCity n p.i → IsCity n p.j → p.i ≢ p.j → (capacity : ℕ) →
     ((eqb (one p.i) 0 || eqb (two p.i) 0) && (eqb (one p.j) 0 || eqb (two p.j) 0) && not (eqb (other p.i) p.j)
     && leb (weight p.j) capacity && leb (weight p.i) (capacity - weight p.j)) ≡ may_join load n capacity E p
 unfolding may_join
-may_join-test n load E one two other weight s p ri rj ne capacity =
+may_join-test {n} {load} {E} {one} {two} {other} {weight} s p ri rj ne capacity =
     let ti = end_test (one p.i) (two p.i) _ (s.degree p.i ri) in
     let tj = end_test (one p.j) (two p.j) _ (s.degree p.j rj) in
     by_ends _ _ _ _ _ _ _ _ _ ti tj
-    (λ a b. apart_test n load E one two other weight s p.i p.j ri rj ne (is_end-from _ _ a) (is_end-from _ _ b))
+    (λ a b. apart_test s p.i p.j ri rj ne (is_end-from _ _ a) (is_end-from _ _ b))
     (λ a b. load_test (weight p.i) (weight p.j) capacity
     ∙ ap (λ (x : ℕ). leb x capacity)
     (omega (arith, s.total p.i ri (is_end-from _ _ a), s.total p.j rj (is_end-from _ _ b))))

@@ -154,8 +154,8 @@ HasArrays-none n load = record {
 HasArrays-joined : (n : ℕ) (load : ℕ → ℕ) (capacity : ℕ) (E : List Pair) (p : Pair) → IsPairWithin n p →
     may_join load n capacity E p ≡ true → HasArrays n load E → HasArrays n load (p ∷ E)
 HasArrays-joined n load capacity E p w h k =
-    let t = may_join-test n load E k.one k.two k.other k.weight k.ends p w.0 w.1 w.2 capacity ∙ h in
-    let v = IsTaken-from n load E k.one k.two k.other k.weight k.ends p w.0 w.1 w.2 capacity t in
+    let t = may_join-test k.ends p w.0 w.1 w.2 capacity ∙ h in
+    let v = IsTaken-from k.ends p w.0 w.1 w.2 capacity t in
     let a = both_linked k.one k.two p.i p.j w.2 in
     let b = both_set k.other (k.other p.i) (k.other p.j) (k.other p.j) (k.other p.i) v.far.2 in
     let c = both_set k.weight (k.other p.i) (k.weight p.i + k.weight p.j) (k.other p.j)

@@ -102,10 +102,10 @@ pub record AreRead (n hub : ℕ) (E : List Pair) (one two other : ℕ → ℕ) (
       holds (get_or lists l []) b ≡ true → k ≡ l
 
 -- c is not the smaller end of a path, or it is the hub
-pub AreRead-skip : (n hub : ℕ) (E : List Pair) (one two other : ℕ → ℕ) (c : ℕ) (lists : List (List ℕ)) →
+pub AreRead-skip : {n hub : ℕ} {E : List Pair} {one two other : ℕ → ℕ} {c : ℕ} {lists : List (List ℕ)} →
     (IsEnd one two c → c ≢ hub → c ≤ other c → ⊥) → AreRead n hub E one two other c lists →
     AreRead n hub E one two other (c + 1) lists
-AreRead-skip n hub E one two other c lists never s = record {
+AreRead-skip {n} {hub} {E} {one} {two} {other} {c} never s = record {
   paths = s.paths;
   sound = s.sound;
   found = λ e b r l h ne le k. ⊎_elim (λ w. s.found e b r w h ne le k)
@@ -145,11 +145,11 @@ first-cons : (c : ℕ) (xs : List ℕ) → first_of (c ∷ xs) ≡ c
 unfolding first_of
 first-cons c xs = refl
 
-pub AreRead-push : (n hub : ℕ) (load : ℕ → ℕ) (E : List Pair) (one two other weight : ℕ → ℕ) (c : ℕ)
-    (lists : List (List ℕ)) (xs : List ℕ) → AreEnds n load E one two other weight → joints_at E hub ≡ 0 → IsCity n c →
+pub AreRead-push : {n hub : ℕ} {load : ℕ → ℕ} {E : List Pair} {one two other weight : ℕ → ℕ} {c : ℕ}
+    {lists : List (List ℕ)} (xs : List ℕ) → AreEnds n load E one two other weight → joints_at E hub ≡ 0 → IsCity n c →
     IsEnd one two c → c ≢ hub → c ≤ other c → IsPathOf n E one two c (other c) xs →
     AreRead n hub E one two other c lists → AreRead n hub E one two other (c + 1) (lists ++ (c ∷ xs) ∷ [])
-AreRead-push n hub load E one two other weight c lists xs a j r hc ne le p s =
+AreRead-push {n} {hub} {load} {E} {one} {two} {other} {weight} {c} {lists} xs a j r hc ne le p s =
     let l : List ℕ = c ∷ xs in
     let len = pushed lists l in
     let fc = first-cons c xs in
@@ -167,8 +167,7 @@ AreRead-push n hub load E one two other weight c lists xs a j r hc ne le p s =
           let f = s.found e b re w h ne' le' k in
           (f.0, omega (arith, f.1, len), rw (at_left lists l f.0 f.1) f.2))
           (λ w.
-          let t : e ≡ c = omega (arith, l', w) in
-          (
+          let t : e ≡ c = omega (arith, l', w) in (
             length lists,
             omega (arith, len),
             rw (at_last lists l (length lists) refl) ((p.whole b).1 (k ∙ ap (part E) t)),
@@ -206,10 +205,10 @@ AreRead-push n hub load E one two other weight c lists xs a j r hc ne le p s =
           (which k hk);
     }
 
-pub AreRead-end : (n hub : ℕ) (load : ℕ → ℕ) (E : List Pair) (one two other weight : ℕ → ℕ) (c : ℕ)
-    (lists : List (List ℕ)) → AreEnds n load E one two other weight → joints_at E hub ≡ 0 → n < c →
+pub AreRead-end : {n hub : ℕ} {load : ℕ → ℕ} {E : List Pair} {one two other weight : ℕ → ℕ} {c : ℕ}
+    {lists : List (List ℕ)} → AreEnds n load E one two other weight → joints_at E hub ≡ 0 → n < c →
     AreRead n hub E one two other c lists → ArePartPaths n hub E lists
-AreRead-end n hub load E one two other weight c lists a j l s = record {
+AreRead-end {hub = hub} {E = E} {other = other} a j l s = record {
   paths = s.paths;
   cities = λ b. (
     λ h. s.sound h.0 b h.1 h.2,

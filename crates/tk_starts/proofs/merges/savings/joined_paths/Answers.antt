@@ -42,19 +42,16 @@ join-requires-clause-cities c =
 
 pub join-requires-clause-load : goal.join-requires-clause-load
 join-requires-clause-load c =
-    let p = c.loop-k.paths in
     let w = pair_within (goal.at.join-requires-clause-load c).After-at-pair in
-    let t = IsTaken-from _ _ _ (at p.one.items) (at p.two.items) (at p.other.items) (at p.load.items)
-    c.loop-k.invariant.joined.2 c.at-pair.result w.0 w.1 w.2
-    c.args.capacity (sym c.if-may_join.ensures) in
+    let t = IsTaken-from c.loop-k.invariant.joined.2 c.at-pair.result w.0 w.1 w.2 c.args.capacity
+    (sym c.if-may_join.ensures) in
     fits_sum _ _ _ t.fits c.ranges.capacity
 
 pub join-requires-clause-ends : goal.join-requires-clause-ends
 join-requires-clause-ends c =
-    let p = c.loop-k.paths in
     let w = pair_within (goal.at.join-requires-clause-ends c).After-at-pair in
-    let t = IsTaken-from _ _ _ (at p.one.items) (at p.two.items) (at p.other.items) (at p.load.items)
-    c.loop-k.invariant.joined.2 c.at-pair.result w.0 w.1 w.2 c.args.capacity (sym c.if-may_join.ensures) in
+    let t = IsTaken-from c.loop-k.invariant.joined.2 c.at-pair.result w.0 w.1 w.2 c.args.capacity
+    (sym c.if-may_join.ensures) in
     let z = c.loop-k.invariant.sizes.0 in
     (omega (arith, z, t.far.0.1), omega (arith, z, t.far.1.1), t.far.2)
 

@@ -26,18 +26,14 @@ loop-c-preserved c load E s j =
           let p = s.paths c.loop-c.c r b.1 in
           let e = w.in_ok-list.ensures p.0 p.1.follows in
           rw (w.lists-is, w.in_ok-push.ensures.items, map-append, e)
-          (AreRead-push _ c.args.hub load E (at c.args.self.now.one.items) (at c.args.self.now.two.items)
-          (at c.args.self.now.other.items) (at c.args.self.now.load.items) c.loop-c.c _ p.0 s j r b.1 b.0 b.2 p.1
-          (c.loop-c.invariant load E s j))
+          (AreRead-push p.0 s j r b.1 b.0 b.2 p.1 (c.loop-c.invariant load E s j))
       | else-begins_list w ↦
           rw w.lists-is
-          (AreRead-skip _ c.args.hub E (at c.args.self.now.one.items) (at c.args.self.now.two.items)
-          (at c.args.self.now.other.items) c.loop-c.c _
-          (begins_not c.loop-c.c c.args.hub _ _ _ w.if-begins_list.ensures) (c.loop-c.invariant load E s j))
+          (AreRead-skip (begins_not c.loop-c.c c.args.hub _ _ _ w.if-begins_list.ensures)
+          (c.loop-c.invariant load E s j))
     ]
 
 pub returns : goal.returns
 returns c load E s j =
-    AreRead-end _ c.args.hub load E (at c.args.self.now.one.items) (at c.args.self.now.two.items)
-    (at c.args.self.now.other.items) (at c.args.self.now.load.items) c.loop-c.c _ s j
-    (omega (arith, c.loop-c-test.false, c.len-c-end.ensures, c.requires.limit.0)) (c.loop-c.invariant load E s j)
+    AreRead-end s j (omega (arith, c.loop-c-test.false, c.len-c-end.ensures, c.requires.limit.0))
+    (c.loop-c.invariant load E s j)
