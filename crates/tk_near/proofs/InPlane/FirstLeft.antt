@@ -1,5 +1,5 @@
 -- The first of the cities of a row, by one place that keeps it.
-use Rattle.std.proofs.Common.{◌≡◌, ◌≢◌, ℕ, zero, suc, ◌+◌, ◌*◌, ◌<◌, ◌≤◌, ◌⊎◌, ⊎_elim, inl, inr, List, [], ◌∷◌, length}
+use Rattle.std.proofs.Common.{◌≡◌, ◌≢◌, ℕ, zero, suc, ◌<◌, ◌≤◌, ◌⊎◌, ⊎_elim, inl, inr, List, [], ◌∷◌, length}
 use Rattle.std.proofs.Common.{take, refl, sym, ap, ◌∙◌, arith, get_or}
 use Rattle.std.specs.Prelude.{All}
 use Rattle.tk_problem.specs.declared.point.Point.{Point}
@@ -83,14 +83,6 @@ module _ (dist : ℕ → ℕ → ℕ) (c : ℕ) (limit : (a b : ℕ) → dist a 
   first_left there =
       ⊎_elim (λ same. absurd (there (ap (λ (v : Candidate). v.distance) same))) (λ w. found w.0 w.1 w.2 w.3) h.one
     where
-      rank_less : (q r a : ℕ) → placed_city row r ≡ a → rank y ≤ rank (candidate dist c (placed_city row r)) →
-          y.city ≡ placed_city row q → y.distance ≡ dist c (placed_city row q) → a ≢ placed_city row q →
-          placed_city row q ≤ CITY_LIMIT → a ≤ CITY_LIMIT →
-          dist c (placed_city row q) * 4294967296 + placed_city row q < dist c a * 4294967296 + a
-      rank_less q r a same least city far other mine theirs =
-          let least' : rank y ≤ rank (candidate dist c a) = rw same at least in
-          omega (arith, least', city, far, other, mine, theirs)
-
       found : (q : ℕ) → q < length row → placed_city row q ≢ c → y ≡ candidate dist c (placed_city row q) →
           IsFirst dist c (IsOtherIn row c) y.city
       found q l ne is =
@@ -99,13 +91,14 @@ module _ (dist : ℕ → ℕ → ℕ) (c : ℕ) (limit : (a b : ℕ) → dist a 
           rw city record {
             member = (q, l, refl, ne);
             before = λ a s other.
-                let least = h.least s.0 s.1 (λ e. s.3 (sym s.2 ∙ e)) in
                 let mine = small q l in
                 let theirs = small s.0 s.1 in
                 let same : placed_city row s.0 ≡ a = s.2 in
+                let least : rank y ≤ rank (candidate dist c a) =
+                rw same at (h.least s.0 s.1 (λ e. s.3 (sym s.2 ∙ e))) in
                 closer_from_rank (dist c (placed_city row q)) (dist c a) (placed_city row q) a (omega (arith, mine))
                 (omega (arith, theirs, same))
-                (rank_less q s.0 a same least city far other mine (omega (arith, theirs, same)));
+                (omega (arith, least, city, far, other, mine, theirs, same));
           }
 
 -- what one place keeps of a row
