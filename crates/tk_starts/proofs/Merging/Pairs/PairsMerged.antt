@@ -122,55 +122,61 @@ test_at one two other weight capacity p =
     && leb (weight p.j) capacity && leb (weight p.i) (capacity - weight p.j)
 
 -- the joints of what is left of the pairs, and the arrays of those made
-abbrev pub Going : ℕ → (ℕ → ℕ) → ℕ → List Pair → ℕ → (one two other weight : ℕ → ℕ) → Type 0
-Going n load capacity pairs k one two other weight =
-    (E : List Pair) × (joints load n capacity E (drop k pairs) ≡ joints load n capacity [] pairs)
-    × AreEnds n load E one two other weight
+pub record Going (n : ℕ) (load : ℕ → ℕ) (capacity : ℕ) (pairs : List Pair) (k : ℕ) (one two other weight : ℕ → ℕ) :
+    Type 0 where
+  pub made : List Pair
+  pub rest : joints load n capacity made (drop k pairs) ≡ joints load n capacity [] pairs
+  pub ends : AreEnds n load made one two other weight
 
 -- what is left, from the pair at k on
 at_next : (pairs : List Pair) (k : ℕ) (p : Pair) → k < length pairs → p ≡ get_or pairs k p →
     drop k pairs ≡ p ∷ drop (k + 1) pairs
 at_next pairs k p l is = drop_more pairs k p l ∙ ap (λ (x : Pair). x ∷ drop (k + 1) pairs) (sym is)
 
-pub taken_step : (n : ℕ) (load : ℕ → ℕ) (capacity : ℕ) (pairs : List Pair) (k : ℕ) (p : Pair)
-    (one two other weight one' two' other' weight' : ℕ → ℕ) → k < length pairs → p ≡ get_or pairs k p →
+pub taken_step : {n : ℕ} {load : ℕ → ℕ} {capacity : ℕ} {pairs : List Pair} {k : ℕ} {p : Pair}
+    {one two other weight one' two' other' weight' : ℕ → ℕ} → k < length pairs → p ≡ get_or pairs k p →
     IsPairWithin n p → true ≡ test_at one two other weight capacity p →
     IsLinked p.i p.j one two one' two' →
     IsSetAt (other p.i) (other p.j) (other p.j) (other p.i) other other' →
     IsSetAt (other p.i) (weight p.i + weight p.j) (other p.j) (weight p.i + weight p.j) weight weight' →
     Going n load capacity pairs k one two other weight → Going n load capacity pairs (k + 1) one' two' other' weight'
-taken_step n load capacity pairs k p one two other weight one' two' other' weight' l is w t a b c g =
-    let s = g.2 in
-    let u = may_join-test s p w.0 w.1 w.2 capacity in
-    let v = IsTaken-from s p w.0 w.1 w.2 capacity (sym t) in
-    let e = joints-taken load n capacity g.0 p (drop (k + 1) pairs) (sym u ∙ sym t) in (
-      p ∷ g.0,
-      sym e ∙ (ap (joints load n capacity g.0) (sym (at_next pairs k p l is)) ∙ g.1),
-      AreEnds-joined n load g.0 p one two other weight one' two' other' weight'
+taken_step {n} {load} {capacity} {pairs} {k} {p} {one} {two} {other} {weight} {one'} {two'} {other'} {weight'}
+    l is w t a b c g =
+    let u = may_join-test g.ends p w.0 w.1 w.2 capacity in
+    let v = IsTaken-from g.ends p w.0 w.1 w.2 capacity (sym t) in
+    let e = joints-taken load n capacity g.made p (drop (k + 1) pairs) (sym u ∙ sym t) in
+    record {
+      made = p ∷ g.made;
+      rest = sym e ∙ (ap (joints load n capacity g.made) (sym (at_next pairs k p l is)) ∙ g.rest);
+      ends = AreEnds-joined n load g.made p one two other weight one' two' other' weight'
           (record {
-            ends = s;
+            ends = g.ends;
             first = (w.0, v.first);
             second = (w.1, v.second);
             apart = v.apart;
             linked = a;
             far = b;
             heavy = c;
-          }),
-    )
+          });
+    }
 
-pub left_step : (n : ℕ) (load : ℕ → ℕ) (capacity : ℕ) (pairs : List Pair) (k : ℕ) (p : Pair)
-    (one two other weight : ℕ → ℕ) → k < length pairs → p ≡ get_or pairs k p →
+pub left_step : {n : ℕ} {load : ℕ → ℕ} {capacity : ℕ} {pairs : List Pair} {k : ℕ} {p : Pair}
+    {one two other weight : ℕ → ℕ} → k < length pairs → p ≡ get_or pairs k p →
     IsPairWithin n p → false ≡ test_at one two other weight capacity p →
     Going n load capacity pairs k one two other weight → Going n load capacity pairs (k + 1) one two other weight
-left_step n load capacity pairs k p one two other weight l is w t g =
-    let u = may_join-test g.2 p w.0 w.1 w.2 capacity in
-    let e = joints-left load n capacity g.0 p (drop (k + 1) pairs) (sym u ∙ sym t) in
-    (g.0, sym e ∙ (ap (joints load n capacity g.0) (sym (at_next pairs k p l is)) ∙ g.1), g.2)
+left_step {n} {load} {capacity} {pairs} {k} {p} l is w t g =
+    let u = may_join-test g.ends p w.0 w.1 w.2 capacity in
+    let e = joints-left load n capacity g.made p (drop (k + 1) pairs) (sym u ∙ sym t) in
+    record {
+      made = g.made;
+      rest = sym e ∙ (ap (joints load n capacity g.made) (sym (at_next pairs k p l is)) ∙ g.rest);
+      ends = g.ends;
+    }
 
-pub going_ends : (n : ℕ) (load : ℕ → ℕ) (capacity : ℕ) (pairs : List Pair) (k : ℕ) (one two other weight : ℕ → ℕ) →
+pub going_ends : {n : ℕ} {load : ℕ → ℕ} {capacity : ℕ} {pairs : List Pair} {k : ℕ} {one two other weight : ℕ → ℕ} →
     length pairs ≤ k → Going n load capacity pairs k one two other weight →
     AreEnds n load (joints load n capacity [] pairs) one two other weight
-going_ends n load capacity pairs k one two other weight l g =
+going_ends {n} {load} {capacity} {pairs} {k} {one} {two} {other} {weight} l g =
     let e : drop k pairs ≡ [] = drop_all k pairs l in
-    subst (λ (E : List Pair). AreEnds n load E one two other weight) (sym (joints-none load n capacity g.0)
-    ∙ (ap (joints load n capacity g.0) (sym e) ∙ g.1)) g.2
+    subst (λ (E : List Pair). AreEnds n load E one two other weight) (sym (joints-none load n capacity g.made)
+    ∙ (ap (joints load n capacity g.made) (sym e) ∙ g.rest)) g.ends

@@ -1,6 +1,6 @@
 use Rattle.std.proofs.Common.{ℕ, ◌+◌, ◌≤◌, ◌<◌, [], length, subst, refl, sym, arith, Fits}
 use Rattle.std.proofs.Common.{w64}
-use Rattle.tk_starts.specs.PathEnds.{at, IsPairWithin}
+use Rattle.tk_starts.specs.PathEnds.{IsPairWithin}
 use Rattle.tk_starts.specs.declared.merges.pairs.Pair.{Pair}
 use Rattle.tk_starts.proofs.Merging.Pairs.PairsMerged.{AreEnds-single, IsTaken-from, taken_step, left_step, going_ends}
 use Rattle.tk_starts.proofs.merges.savings.joined_paths.Goals as goal
@@ -17,15 +17,9 @@ fits_sum x y capacity near fits = omega arith
 
 pub loop-k-init : goal.loop-k-init
 loop-k-init c =
-    let p = c.in_ok-paths.paths in
     record {
       sizes = c.in_ok-paths.ensures.sizes;
-      joined = (
-        [],
-        refl,
-        AreEnds-single _ _ (at p.one.items) (at p.two.items) (at p.other.items) (at p.load.items)
-            c.in_ok-paths.ensures.single,
-      );
+      joined = record { made = []; rest = refl; ends = AreEnds-single _ _ _ _ _ _ c.in_ok-paths.ensures.single };
     }
 
 pub may_join-requires-clause-within : goal.may_join-requires-clause-within
@@ -43,46 +37,37 @@ join-requires-clause-cities c =
 pub join-requires-clause-load : goal.join-requires-clause-load
 join-requires-clause-load c =
     let w = pair_within (goal.at.join-requires-clause-load c).After-at-pair in
-    let t = IsTaken-from c.loop-k.invariant.joined.2 c.at-pair.result w.0 w.1 w.2 c.args.capacity
+    let t = IsTaken-from c.loop-k.invariant.joined.ends c.at-pair.result w.0 w.1 w.2 c.args.capacity
     (sym c.if-may_join.ensures) in
     fits_sum _ _ _ t.fits c.ranges.capacity
 
 pub join-requires-clause-ends : goal.join-requires-clause-ends
 join-requires-clause-ends c =
     let w = pair_within (goal.at.join-requires-clause-ends c).After-at-pair in
-    let t = IsTaken-from c.loop-k.invariant.joined.2 c.at-pair.result w.0 w.1 w.2 c.args.capacity
+    let t = IsTaken-from c.loop-k.invariant.joined.ends c.at-pair.result w.0 w.1 w.2 c.args.capacity
     (sym c.if-may_join.ensures) in
     let z = c.loop-k.invariant.sizes.0 in
     (omega (arith, z, t.far.0.1), omega (arith, z, t.far.1.1), t.far.2)
 
 pub loop-k-preserved : goal.loop-k-preserved
 loop-k-preserved c =
-    let p = c.loop-k.paths in
     let w = pair_within (goal.at.loop-k-preserved c).After-at-pair in
     let z = c.loop-k.invariant.sizes in
+    let within : c.loop-k.k < length c.args.pairs.now = omega (arith, c.loop-k-test.true, c.len-k-end.ensures) in
     elim c.if-may_join.branch [
       | then-may_join b ↦
-          let q = b.join.new.self in
           rw b.paths-is (record {
             sizes = omega (arith, b.join.ensures.sizes, z);
-            joined = taken_step _ _ c.args.capacity c.args.pairs.now c.loop-k.k c.at-pair.result (at p.one.items)
-                (at p.two.items) (at p.other.items) (at p.load.items) (at q.one.items) (at q.two.items)
-                (at q.other.items) (at q.load.items)
-                (omega (arith, c.loop-k-test.true, c.len-k-end.ensures)) c.at-pair.ensures w b.if-may_join.ensures
-                b.join.ensures.linked b.join.ensures.far b.join.ensures.heavy c.loop-k.invariant.joined;
+            joined = taken_step within c.at-pair.ensures w b.if-may_join.ensures b.join.ensures.linked
+                b.join.ensures.far b.join.ensures.heavy c.loop-k.invariant.joined;
           })
       | else-may_join b ↦
           rw b.paths-is (record {
             sizes = z;
-            joined = left_step _ _ c.args.capacity c.args.pairs.now c.loop-k.k c.at-pair.result (at p.one.items)
-                (at p.two.items) (at p.other.items) (at p.load.items)
-                (omega (arith, c.loop-k-test.true, c.len-k-end.ensures)) c.at-pair.ensures w b.if-may_join.ensures
-                c.loop-k.invariant.joined;
+            joined = left_step within c.at-pair.ensures w b.if-may_join.ensures c.loop-k.invariant.joined;
           })
     ]
 
 pub returns-clause-joined : goal.returns-clause-joined
 returns-clause-joined c =
-    let p = c.loop-k.paths in
-    going_ends _ _ c.args.capacity c.args.pairs.now c.loop-k.k (at p.one.items) (at p.two.items) (at p.other.items)
-    (at p.load.items) (omega (arith, c.loop-k-test.false, c.len-k-end.ensures)) c.loop-k.invariant.joined
+    going_ends (omega (arith, c.loop-k-test.false, c.len-k-end.ensures)) c.loop-k.invariant.joined

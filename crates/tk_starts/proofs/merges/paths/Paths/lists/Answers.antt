@@ -1,7 +1,6 @@
 use Rattle.std.proofs.Common.{◌-◌, vec_len, arith}
 use Rattle.std.proofs.lemmas.List.{map-append}
 use Rattle.tk_distance.specs.Cities.{IsCity}
-use Rattle.tk_starts.specs.PathEnds.{at}
 use Rattle.tk_starts.proofs.Merging.Paths.PathsRead.{AreRead-skip, AreRead-push, AreRead-end, begins, begins_not}
 use Rattle.tk_starts.proofs.Merging.Paths.PathsRead.{IsWay-from_path}
 use Rattle.tk_starts.proofs.merges.paths.Paths.lists.Goals as goal
