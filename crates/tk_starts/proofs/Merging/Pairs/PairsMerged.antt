@@ -3,7 +3,8 @@ use Rattle.std.proofs.Common.{drop, get_or, length, ◌≡◌, ◌≢◌, ℕ, s
 use Rattle.std.proofs.Common.{◌&&◌, not, eqb, leb, List, [], ◌∷◌, refl, sym, ap, ◌∙◌, inl, arith, ⊎_elim}
 use Rattle.std.proofs.Common.{subst}
 use Rattle.std.proofs.lemmas.Bool.{eqb-true, eq-eqb, ne_eqb, or_cases, or_left, both_ways, cases_eq, cond-true}
-use Rattle.std.proofs.lemmas.Bool.{cond-false, leb-true, and_parts, not-true}
+use Rattle.std.proofs.lemmas.Bool.{cond-false, cond_both, leb-true, and_parts, not-true}
+use Rattle.std.specs.List.{Contains}
 use Rattle.tk_distance.specs.Cities.{IsCity}
 use Rattle.tk_starts.specs.Joints.{part, part_load, joints_at, may_join, joints, IsChain}
 use Rattle.tk_starts.specs.PathEnds.{Follows, IsLinked, IsEnd, AreEnds, IsSetAt, IsPairWithin}
@@ -81,6 +82,16 @@ joints-left load n capacity E p pairs h =
 pub joints-none : (load : ℕ → ℕ) (n capacity : ℕ) (E : List Pair) → joints load n capacity E [] ≡ E
 unfolding joints
 joints-none load n capacity E = refl
+
+-- what holds at first and after each joint that the rule takes holds of all joints
+pub joints_keep : (Q : List Pair → Type 0) (load : ℕ → ℕ) (n capacity : ℕ) (pairs E : List Pair) →
+    ((p : Pair) (E : List Pair) → Contains pairs p → may_join load n capacity E p ≡ true → Q E → Q (p ∷ E)) → Q E →
+    Q (joints load n capacity E pairs)
+unfolding joints
+joints_keep Q load n capacity [] E keeps q = q
+joints_keep Q load n capacity (p ∷ pairs) E keeps q =
+    joints_keep Q load n capacity pairs _ (λ r F c. keeps r F (suc c.0, omega (arith, c.1), c.2))
+    (cond_both (may_join load n capacity E p) (p ∷ E) E Q (λ h. keeps p E (0, omega arith, refl) h q) (λ _. q))
 
 -- what the test says of the two cities
 pub record IsTaken (n : ℕ) (E : List Pair) (one two other weight : ℕ → ℕ) (capacity : ℕ) (p : Pair) : Type 0 where

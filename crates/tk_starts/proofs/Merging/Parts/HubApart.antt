@@ -12,18 +12,8 @@ use Rattle.std.proofs.lemmas.List.{take_all}
 use Rattle.std.proofs.lemmas.List.Folds.{flat_map-map}
 use Rattle.tk_starts.specs.SavingsMerges.{AreSavingsLists}
 use Rattle.tk_starts.specs.declared.merges.pairs.Pair.{Pair}
+use Rattle.tk_starts.proofs.Merging.Pairs.PairsMerged.{joints_keep}
 use Rattle.tk_starts.proofs.Merging.Paths.EndsJoined.{joints_at-no}
-
-joints_apart : (load : ℕ → ℕ) (n capacity hub : ℕ) (pairs E : List Pair) → joints_at E hub ≡ 0 →
-    ((p : Pair) → Contains pairs p → (hub ≢ p.i) × (hub ≢ p.j)) → joints_at (joints load n capacity E pairs) hub ≡ 0
-unfolding joints
-joints_apart load n capacity hub [] E h k = h
-joints_apart load n capacity hub (p ∷ pairs) E h k =
-    let a = k p (0, omega arith, refl) in
-    joints_apart load n capacity hub pairs _
-    (cond_both (may_join load n capacity E p) (p ∷ E) E (λ (x : List Pair). joints_at x hub ≡ 0)
-    (λ _. joints_at-no E p hub a.0 a.1 ∙ h) (λ _. h))
-    (λ q c. k q (suc c.0, omega (arith, c.1), c.2))
 
 joints_at-none : (c : ℕ) → joints_at [] c ≡ 0
 unfolding joints_at
@@ -32,8 +22,10 @@ joints_at-none c = refl
 pub hub_apart : (dist : ℕ → ℕ → ℕ) (near : ℕ → List ℕ) (n hub : ℕ) (pairs : List Pair) (load : ℕ → ℕ) (capacity : ℕ) →
     AreSavingPairs dist near n hub pairs → joints_at (joints load n capacity [] pairs) hub ≡ 0
 hub_apart dist near n hub pairs load capacity a =
-    joints_apart load n capacity hub pairs [] (joints_at-none hub) (λ p c. let h = ((a.all p).0 c).0 in
-    (λ e. h.first.1 (sym e), λ e. h.second.1 (sym e)))
+    joints_keep (λ E. joints_at E hub ≡ 0) load n capacity pairs []
+    (λ p E c _ k. let h = ((a.all p).0 c).0 in
+    joints_at-no E p hub (λ e. h.first.1 (sym e)) (λ e. h.second.1 (sym e)) ∙ k)
+    (joints_at-none hub)
 
 pub all_within : (dist : ℕ → ℕ → ℕ) (near : ℕ → List ℕ) (n hub m : ℕ) (pairs : List Pair) → m ≡ n →
     AreSavingPairs dist near n hub pairs → All (IsPairWithin m) pairs

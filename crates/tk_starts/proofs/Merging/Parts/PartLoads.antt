@@ -6,7 +6,7 @@ use Rattle.tk_starts.specs.Joints.{part, part_load, may_join, joints}
 use Rattle.tk_starts.specs.declared.merges.pairs.Pair.{Pair}
 use Rattle.tk_starts.proofs.Merging.Parts.PartsJoined.{part-second, part-other, part-first, part_load-joined}
 use Rattle.tk_starts.proofs.Merging.Parts.PartsJoined.{part_load-stays}
-use Rattle.tk_starts.proofs.Merging.Pairs.PairsMerged.{part_load-single, part-none}
+use Rattle.tk_starts.proofs.Merging.Pairs.PairsMerged.{joints_keep, part_load-single, part-none}
 
 -- the parts of the cities but the hub are within the capacity
 abbrev pub AreWithin : (ℕ → ℕ) → ℕ → ℕ → ℕ → List Pair → Type 0
@@ -36,18 +36,10 @@ within_joined load n hub capacity E p h w c r ne =
     (cases_eq (part E c) (part E p.i)))
     (cases_eq (part E c) (part E p.j))
 
-within_all : (load : ℕ → ℕ) (n hub capacity : ℕ) (pairs E : List Pair) → AreWithin load n hub capacity E →
-    AreWithin load n hub capacity (joints load n capacity E pairs)
-unfolding joints
-within_all load n hub capacity [] E w = w
-within_all load n hub capacity (p ∷ pairs) E w =
-    within_all load n hub capacity pairs _
-    (cond_both (may_join load n capacity E p) (p ∷ E) E (λ (x : List Pair). AreWithin load n hub capacity x)
-    (λ h. within_joined load n hub capacity E p h w) (λ _. w))
-
 pub parts_within : (load : ℕ → ℕ) (n hub capacity : ℕ) (pairs : List Pair) →
     ((c : ℕ) → IsCity n c → c ≢ hub → load c ≤ capacity) →
     AreWithin load n hub capacity (joints load n capacity [] pairs)
 parts_within load n hub capacity pairs h =
-    within_all load n hub capacity pairs []
+    joints_keep (AreWithin load n hub capacity) load n capacity pairs []
+    (λ p E _ h w. within_joined load n hub capacity E p h w)
     (λ c r ne. omega (arith, h c r ne, ap (part_load load [] n) (part-none c), part_load-single load n c r.0 r.1))

@@ -34,18 +34,12 @@ IsConnected-joint : (E : List Pair) (a b : ℕ) → joined E a b ≡ true → Is
 unfolding IsChain
 IsConnected-joint E a b h = (b ∷ [], (h, tt), refl)
 
--- a new joint leads from its first part to its second
-across : (E : List Pair) (e : Pair) (a b : ℕ) → IsConnected E a e.i → IsConnected E e.j b → IsConnected (e ∷ E) a b
-across E e a b h k =
-    let t = IsConnected-trans (e ∷ E) e.i e.j b (IsConnected-joint (e ∷ E) e.i e.j (joined-first E e))
-    (IsConnected-more E e e.j b k) in
-    IsConnected-trans (e ∷ E) a e.i b (IsConnected-more E e a e.i h) t
-
-back_across : (E : List Pair) (e : Pair) (a b : ℕ) → IsConnected E a e.j → IsConnected E e.i b → IsConnected (e ∷ E) a b
-back_across E e a b h k =
-    let t = IsConnected-trans (e ∷ E) e.j e.i b (IsConnected-joint (e ∷ E) e.j e.i (joined-second E e))
-    (IsConnected-more E e e.i b k) in
-    IsConnected-trans (e ∷ E) a e.j b (IsConnected-more E e a e.j h) t
+-- a new joint leads from the one of its cities to the other
+across : (E : List Pair) (e : Pair) (i j a b : ℕ) → joined (e ∷ E) i j ≡ true → IsConnected E a i → IsConnected E j b →
+    IsConnected (e ∷ E) a b
+across E e i j a b joint h k =
+    let t = IsConnected-trans (e ∷ E) i j b (IsConnected-joint (e ∷ E) i j joint) (IsConnected-more E e j b k) in
+    IsConnected-trans (e ∷ E) a i b (IsConnected-more E e a i h) t
 
 pub IsConnected-from_part : (E : List Pair) (a b : ℕ) → part E a ≡ part E b → IsConnected E a b
 unfolding part
@@ -56,12 +50,13 @@ IsConnected-from_part (e ∷ E) a b h =
     (λ (jb : part E b ≡ part E e.j). IsConnected-more E e a b (IsConnected-from_part E a b (ja ∙ sym jb)))
     (λ (nb : part E b ≢ part E e.j).
     let i : part E e.i ≡ part E b = sym (part-second E e a ja) ∙ (h ∙ part-other E e b nb) in
-    back_across E e a b (IsConnected-from_part E a e.j ja) (IsConnected-from_part E e.i b i))
+    across E e e.j e.i a b (joined-second E e) (IsConnected-from_part E a e.j ja) (IsConnected-from_part E e.i b i))
     (cases_eq (part E b) (part E e.j)))
     (λ (na : part E a ≢ part E e.j). ⊎_elim
     (λ (jb : part E b ≡ part E e.j).
     let i : part E a ≡ part E e.i = sym (part-other E e a na) ∙ (h ∙ part-second E e b jb) in
-    across E e a b (IsConnected-from_part E a e.i i) (IsConnected-from_part E e.j b (sym jb)))
+    across E e e.i e.j a b (joined-first E e) (IsConnected-from_part E a e.i i)
+    (IsConnected-from_part E e.j b (sym jb)))
     (λ (nb : part E b ≢ part E e.j). IsConnected-more E e a b
     (IsConnected-from_part E a b (sym (part-other E e a na) ∙ (h ∙ part-other E e b nb))))
     (cases_eq (part E b) (part E e.j)))

@@ -5,12 +5,13 @@ use Rattle.std.proofs.Common.{arith, ⊎_elim, subst}
 use Rattle.std.specs.List.{All}
 use Rattle.std.proofs.lemmas.Bool.{eqb-true, eq-eqb, ne_eqb, or_cases, both_ways, cases_eq, cond-true, cond-false}
 use Rattle.std.proofs.lemmas.Bool.{cond_both, and_parts}
+use Rattle.std.proofs.lemmas.List.Elements.{All-contains}
 use Rattle.tk_starts.specs.Joints.{may_join, joints, joined}
 use Rattle.tk_starts.specs.PathEnds.{AreBoth, IsLinked, IsEnd, AreEnds, IsSetAt, IsPairWithin}
 use Rattle.tk_starts.specs.declared.merges.pairs.Pair.{Pair}
 use Rattle.tk_starts.proofs.Merging.Paths.EndsJoined.{AreEnds-joined}
 use Rattle.tk_starts.proofs.Merging.Paths.JoinTest.{may_join-test}
-use Rattle.tk_starts.proofs.Merging.Pairs.PairsMerged.{AreEnds-single, IsTaken-from}
+use Rattle.tk_starts.proofs.Merging.Pairs.PairsMerged.{AreEnds-single, IsTaken-from, joints_keep}
 use Rattle.tk_starts.proofs.Merging.Paths.PathLists.{AreBoth-flip, IsLinked-from_links}
 
 -- c is a neighbour of b
@@ -178,15 +179,9 @@ HasArrays-joined n load capacity E p w h k =
       beside = AreBeside-joined E p k.one k.two a.0 a.1 a.2 v.first v.second w.0.0 w.1.0 k.beside;
     }
 
-HasArrays-more : (n : ℕ) (load : ℕ → ℕ) (capacity : ℕ) (pairs E : List Pair) → All (IsPairWithin n) pairs →
-    HasArrays n load E → HasArrays n load (joints load n capacity E pairs)
-unfolding joints
-HasArrays-more n load capacity [] E w k = k
-HasArrays-more n load capacity (p ∷ pairs) E w k =
-    HasArrays-more n load capacity pairs _ (λ i d l. w (suc i) d (omega (arith, l)))
-    (cond_both (may_join load n capacity E p) (p ∷ E) E (λ (x : List Pair). HasArrays n load x)
-    (λ h. HasArrays-joined n load capacity E p (w 0 p (omega arith)) h k) (λ _. k))
-
 pub HasArrays-joints : (n : ℕ) (load : ℕ → ℕ) (capacity : ℕ) (pairs : List Pair) → All (IsPairWithin n) pairs →
     HasArrays n load (joints load n capacity [] pairs)
-HasArrays-joints n load capacity pairs w = HasArrays-more n load capacity pairs [] w (HasArrays-none n load)
+HasArrays-joints n load capacity pairs w =
+    joints_keep (HasArrays n load) load n capacity pairs []
+    (λ p E c h k. HasArrays-joined n load capacity E p (All-contains (IsPairWithin n) pairs p w c) h k)
+    (HasArrays-none n load)
