@@ -1,6 +1,6 @@
 -- The pairs found so far.
 use Rattle.std.proofs.Common.{eqb, ◌&&◌, ◌||◌, Bool, take, ◌≡◌, ℕ, suc, zero, ◌+◌, ◌≤◌, ◌<◌, true, List, [], ◌∷◌, ◌++◌}
-use Rattle.std.proofs.Common.{Some, None, length, get_or, refl, sym, ap, ◌∙◌, ◌⊎◌, inl, inr, arith, ⊎_elim, subst}
+use Rattle.std.proofs.Common.{Some, length, get_or, refl, sym, ap, ◌∙◌, ◌⊎◌, inl, inr, arith, ⊎_elim, subst}
 use Rattle.std.proofs.Math.Bool.{or-false, or_assoc}
 use Rattle.std.specs.List.{Contains}
 use Rattle.std.specs.List.Sorted.{IsPermutation}
@@ -57,9 +57,6 @@ near_one dist near n hub c d p h o m = (
 pub last_one : {X : Type 0} (xs : List X) (q p : X) → q ≡ p → Contains (xs ++ q ∷ []) p
 last_one xs q p e = Contains-append_right xs (q ∷ []) p (0, omega arith, e)
 
-some_same : {X : Type 0} (q p : X) → Some q ≡ Some p → q ≡ p
-some_same q p e = cc
-
 abbrev pub Sound : (ℕ → ℕ → ℕ) → (ℕ → List ℕ) → ℕ → ℕ → List Pair → Type 0
 Sound dist near n hub pairs = (p : Pair) → Contains pairs p → IsCandidate dist near n hub p
 
@@ -96,8 +93,8 @@ here_more dist n hub c items m pairs pairs' q e s all p h k l o =
     ⊎_elim
     (λ w. kept pairs pairs' q p e (s p h k w o))
     (λ w. let t : k ≡ m = omega (arith, l, w) in
-    Contains-permutation _ _ p e
-    (last_one pairs q p (some_same q p (all p h (subst (λ (x : ℕ). IsPairOf c (get_or items x 0) p) t o)))))
+    let same = all p h (subst (λ (x : ℕ). IsPairOf c (get_or items x 0) p) t o) in
+    Contains-permutation _ _ p e (last_one pairs q p cc))
     (cases_lt k m)
 
 pub here_same : (dist : ℕ → ℕ → ℕ) (n hub c : ℕ) (items : List ℕ) (m : ℕ) (pairs : List Pair) →
@@ -151,9 +148,6 @@ cmp_equal a b e o = rw (le-ltb a b (omega (arith, e)), eq-eqb a b e)
 cmp_greater : (a b : ℕ) → b < a → (o : Ordering) → ordering_then (nat_cmp a b) o ≡ Greater
 cmp_greater a b l o = rw (le-ltb a b (omega (arith, l)), ne_eqb a b (λ (e : a ≡ b). omega (arith, e, l)))
 
-no_greater : Greater ≡ Less → ⊥
-no_greater h = cc
-
 nat_less_last : (a b : ℕ) → nat_cmp a b ≡ Less → a < b
 nat_less_last a b h = grind (arith, nat_tests)
 
@@ -161,7 +155,7 @@ nat_less : (a b : ℕ) (o : Ordering) → ordering_then (nat_cmp a b) o ≡ Less
 nat_less a b o h =
     ⊎_elim
     (λ (e : a ≡ b). inr (e, sym (cmp_equal a b e o) ∙ h))
-    (λ k. ⊎_elim (λ l. inl l) (λ l. absurd (no_greater (sym (cmp_greater a b l o) ∙ h))) k)
+    (λ k. ⊎_elim (λ l. inl l) (λ l. let e = sym (cmp_greater a b l o) ∙ h in cc) k)
     (cases_order a b)
 
 pub Before-from_less : (p q : Pair) →
@@ -171,9 +165,6 @@ Before-from_less p q h =
     ⊎_elim (λ k. inl k)
     (λ k. inr (sym k.0, ⊎_elim (λ l. inl l) (λ l. inr (l.0, nat_less_last p.j q.j l.1)) (nat_less p.i q.i _ k.1)))
     (nat_less q.saving.0 p.saving.0 _ h)
-
-pub none_some : {X : Type 0} (x : X) → None ≡ Some x → ⊥
-none_some x h = cc
 
 pair_made : ℕ → ℕ → ℕ → Pair
 pair_made s i j = record { saving = record { 0 = s }; i = i; j = j }

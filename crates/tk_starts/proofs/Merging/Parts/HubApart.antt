@@ -1,12 +1,11 @@
 -- No joint touches the hub.
-use Rattle.std.proofs.Common.{take, map, ◌≡◌, ◌≢◌, ℕ, suc, ◌≤◌, List, [], ◌∷◌, length, get_or, refl, sym, ap, ◌∙◌}
+use Rattle.std.proofs.Common.{take, map, ◌≡◌, ℕ, ◌≤◌, List, [], ◌∷◌, length, get_or, refl, sym, ap, ◌∙◌}
 use Rattle.std.proofs.Common.{arith, subst}
-use Rattle.std.specs.List.{All, Contains, flat_map}
-use Rattle.std.proofs.lemmas.Bool.{cond_both}
+use Rattle.std.specs.List.{All, flat_map}
 use Rattle.std.proofs.lemmas.List.Elements.{All-contains_itself}
 use Rattle.tk_distance.specs.Cities.{IsCity}
 use Rattle.tk_starts.specs.SavingPairs.{AreSavingPairs}
-use Rattle.tk_starts.specs.Joints.{joints_at, may_join, joints, ArePartPaths}
+use Rattle.tk_starts.specs.Joints.{joints_at, joints, ArePartPaths}
 use Rattle.tk_starts.specs.PathEnds.{IsPairWithin, AreJoined, load_of}
 use Rattle.std.proofs.lemmas.List.{take_all}
 use Rattle.std.proofs.lemmas.List.Folds.{flat_map-map}

@@ -1,6 +1,6 @@
 -- No part is over the capacity.
 use Rattle.std.proofs.Common.{◌≡◌, ◌≢◌, ℕ, ◌+◌, ◌≤◌, true, eqb, List, [], ◌∷◌, sym, ap, arith, ⊎_elim, subst}
-use Rattle.std.proofs.lemmas.Bool.{cond_both, eq-eqb, both_ways, cases_eq, and_parts, not-true, leb-true}
+use Rattle.std.proofs.lemmas.Bool.{eq-eqb, both_ways, cases_eq, and_parts, not-true, leb-true}
 use Rattle.tk_distance.specs.Cities.{IsCity}
 use Rattle.tk_starts.specs.Joints.{part, part_load, may_join, joints}
 use Rattle.tk_starts.specs.declared.merges.pairs.Pair.{Pair}

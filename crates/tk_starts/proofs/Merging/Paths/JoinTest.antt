@@ -59,18 +59,13 @@ and_assoc : (a b c : Bool) → (a && b && c) ≡ (a && (b && c))
 and_assoc true b c = refl
 and_assoc false b c = refl
 
+-- two tests, and others that may count on them
 by_ends_at : (a b c c' d e f : Bool) → (a ≡ true → b ≡ true → c ≡ c') → (a ≡ true → b ≡ true → (d && e) ≡ f) →
     (a && b && c && d && e) ≡ (a && b && c' && f)
 by_ends_at false b c c' d e f r s = refl
 by_ends_at true false c c' d e f r s = refl
 by_ends_at true true c c' d e f r s = and_assoc c d e
     ∙ (ap (λ (x : Bool). x && (d && e)) (r refl refl) ∙ ap (λ (x : Bool). c' && x) (s refl refl))
-
--- five tests one after the other
-by_ends : (a a' b b' c c' d e f : Bool) → a ≡ a' → b ≡ b' → (a ≡ true → b ≡ true → c ≡ c') →
-    (a ≡ true → b ≡ true → (d && e) ≡ f) →
-    (a && b && c && d && e) ≡ (a' && b' && c' && f)
-by_ends a a' b b' c c' d e f p q r s = rw (← p, ← q) (by_ends_at a b c c' d e f r s)
 
 -- the test of the code is that of the rule
 pub may_join-test : {n : ℕ} {load : ℕ → ℕ} {E : List Pair} {one two other weight : ℕ → ℕ} →
@@ -81,8 +76,8 @@ unfolding may_join
 may_join-test {n} {load} {E} {one} {two} {other} {weight} s p ri rj ne capacity =
     let ti = end_test (one p.i) (two p.i) _ (s.degree p.i ri) in
     let tj = end_test (one p.j) (two p.j) _ (s.degree p.j rj) in
-    by_ends _ _ _ _ _ _ _ _ _ ti tj
+    rw (← ti, ← tj) (by_ends_at _ _ _ _ _ _ _
     (λ a b. apart_test s p.i p.j ri rj ne (is_end-from _ _ a) (is_end-from _ _ b))
     (λ a b. load_test (weight p.i) (weight p.j) capacity
     ∙ ap (λ (x : ℕ). leb x capacity)
-    (omega (arith, s.total p.i ri (is_end-from _ _ a), s.total p.j rj (is_end-from _ _ b))))
+    (omega (arith, s.total p.i ri (is_end-from _ _ a), s.total p.j rj (is_end-from _ _ b)))))

@@ -1,10 +1,10 @@
 -- The joints that the rule takes have arrays of their cities' neighbours, and two cities that are joined are neighbours
 -- there.
-use Rattle.std.proofs.Common.{◌≡◌, ◌≢◌, ℕ, suc, ◌+◌, ◌<◌, true, cond, eqb, List, [], ◌∷◌, refl, sym, ◌∙◌, ◌⊎◌, inl, inr}
+use Rattle.std.proofs.Common.{◌≡◌, ◌≢◌, ℕ, ◌+◌, ◌<◌, true, cond, eqb, List, [], ◌∷◌, refl, sym, ◌∙◌, ◌⊎◌, inl, inr}
 use Rattle.std.proofs.Common.{arith, ⊎_elim, subst}
 use Rattle.std.specs.List.{All}
 use Rattle.std.proofs.lemmas.Bool.{eqb-true, eq-eqb, ne_eqb, or_cases, both_ways, cases_eq, cond-true, cond-false}
-use Rattle.std.proofs.lemmas.Bool.{cond_both, and_parts}
+use Rattle.std.proofs.lemmas.Bool.{and_parts}
 use Rattle.std.proofs.lemmas.List.Elements.{All-contains}
 use Rattle.tk_starts.specs.Joints.{may_join, joints, joined}
 use Rattle.tk_starts.specs.PathEnds.{AreBoth, IsLinked, IsEnd, AreEnds, IsSetAt, IsPairWithin}

@@ -1,8 +1,8 @@
-use Rattle.std.proofs.Common.{◌≡◌, ℕ, ◌≤◌, ◌<◌, true, List, get_or, subst, sym, arith}
+use Rattle.std.proofs.Common.{◌≡◌, ℕ, true, List, get_or, subst, sym, arith}
 use Rattle.tk_distance.specs.Holding.{holds}
 use Rattle.tk_near.specs.Near.{near_of}
 use Rattle.tk_starts.proofs.Merging.Pairs.PairsFound.{sound_more, kept, here_more, here_same, here_found, earlier_more}
-use Rattle.tk_starts.proofs.Merging.Pairs.PairsFound.{all_found, holds-at, none_some}
+use Rattle.tk_starts.proofs.Merging.Pairs.PairsFound.{all_found, holds-at}
 use Rattle.tk_starts.proofs.merges.pairs.candidate_pairs.Goals as goal
 use Rattle.tk_starts.proofs.merges.pairs.candidate_pairs.Goals.{in-Some+in_ok-push, in_default}
 
@@ -25,7 +25,7 @@ loop-d-preserved g c =
         sound = c.loop-d.invariant.sound;
         earlier = c.loop-d.invariant.earlier;
         here = here_same _ _ _ c.loop-c.c c.of-d-items.result.now c.loop-d.d-index c.loop-d.pairs
-            c.loop-d.invariant.here (λ p h o. none_some p (w.in_default.ensures.all p h o));
+            c.loop-d.invariant.here (λ p h o. let e = w.in_default.ensures.all p h o in cc);
       })
     ]
 
@@ -44,15 +44,11 @@ loop-c-preserved g c = record {
       c.loop-d.pairs c.of-d-items.ensures.value c.loop-d-test.false c.loop-d.invariant.earlier c.loop-d.invariant.here;
 }
 
--- cities have room in a key
-small : (n c : ℕ) → n ≤ 100000 → c ≤ n → c < 131072
-small n c a b = omega arith
-
 pub push-requires : goal.push-requires
 push-requires g c =
     let p = c.in-Some.ensures.some.0 in
     let limit = g.met.M.Metric.size_limit c.args.metric.now in
-    record { cities = (small _ _ limit p.first.0.1, small _ _ limit p.second.0.1) }
+    record { cities = (omega (arith, limit, p.first.0.1), omega (arith, limit, p.second.0.1)) }
 
 pub returns : goal.returns
 returns g c =

@@ -1,5 +1,4 @@
-use Rattle.std.proofs.Common.{ℕ, ◌+◌, ◌≤◌, ◌<◌, [], length, subst, refl, sym, arith, Fits}
-use Rattle.std.proofs.Common.{w64}
+use Rattle.std.proofs.Common.{◌<◌, [], length, subst, refl, sym, arith}
 use Rattle.tk_starts.specs.PathEnds.{IsPairWithin}
 use Rattle.tk_starts.specs.declared.merges.pairs.Pair.{Pair}
 use Rattle.tk_starts.proofs.Merging.Pairs.PairsMerged.{AreEnds-single, IsTaken-from, taken_step, left_step, going_ends}
@@ -11,9 +10,6 @@ pair_within : (c : After-at-pair) → IsPairWithin (length c.args.loads.now) c.a
 pair_within c =
     subst (λ (p : Pair). IsPairWithin (length c.args.loads.now) p) (sym c.at-pair.ensures)
     (c.requires.within c.loop-k.k c.at-pair.result (omega (arith, c.loop-k-test.true, c.len-k-end.ensures)))
-
-fits_sum : (x y capacity : ℕ) → x + y ≤ capacity → Fits w64 capacity → x + y < 18446744073709551616
-fits_sum x y capacity near fits = omega arith
 
 pub loop-k-init : goal.loop-k-init
 loop-k-init c =
@@ -39,7 +35,7 @@ join-requires-clause-load c =
     let w = pair_within (goal.at.join-requires-clause-load c).After-at-pair in
     let t = IsTaken-from c.loop-k.invariant.joined.ends c.at-pair.result w.0 w.1 w.2 c.args.capacity
     (sym c.if-may_join.ensures) in
-    fits_sum _ _ _ t.fits c.ranges.capacity
+    omega (arith, t.fits, c.ranges.capacity)
 
 pub join-requires-clause-ends : goal.join-requires-clause-ends
 join-requires-clause-ends c =

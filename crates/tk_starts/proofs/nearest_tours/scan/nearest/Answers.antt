@@ -7,9 +7,6 @@ use Rattle.tk_starts.proofs.nearest_tours.scan.nearest.Given.{Over}
 use Rattle.tk_starts.proofs.nearest_tours.scan.nearest.Goals as goal
 use Rattle.tk_starts.proofs.nearest_tours.scan.nearest.Goals.{After-swap}
 
-past_end : (c size n : ℕ) → size ≡ n → size + 1 ≤ c → (1 ≤ size + 1 → c ≤ size + 1) → c - 1 ≡ n
-past_end c size n is passed near = omega arith
-
 one_more : (xs ys : List ℕ) (c : ℕ) → 1 ≤ c → ys ≡ xs ++ c ∷ [] →
     (length xs ≡ c - 1) × ((i : ℕ) → i < c - 1 → slice_index xs i ≡ i + 1) →
     (length ys ≡ c + 1 - 1) × ((i : ℕ) → i < c + 1 - 1 → slice_index ys i ≡ i + 1)
@@ -22,7 +19,7 @@ start_first : (g : Over) (c : After-swap g) →
 start_first g c =
     let m = c.args.metric.now in
     let end : c.loop-c.c - 1 ≡ g.M.Metric.size_of m =
-    past_end _ _ _ c.size-c-end.ensures c.loop-c-test.false c.loop-c.auto.c-end in
+    omega (arith, c.size-c-end.ensures, c.loop-c-test.false, c.loop-c.auto.c-end) in
     let h = rw end at c.loop-c.invariant in
     rw c.swap.ensures.items
     (IsNearestTo-start (g.M.Metric.distance m) (g.M.Metric.size_of m) c.args.start c.loop-c.cities.items c.requires
