@@ -21,22 +21,7 @@ same_key_laws = on_equiv key_code nat_eq_equiv
 
 is_listed : (key : Key) → is_member same_key all_keys key ≡ true
 is_listed keys.ProblemFile = refl
-is_listed keys.TourFile = refl
-is_listed keys.SolutionFile = refl
-is_listed keys.InitialTourFile = refl
-is_listed keys.Runs = refl
-is_listed keys.MaxTrials = refl
-is_listed keys.Seed = refl
-is_listed keys.MaxCandidates = refl
-is_listed keys.Construction = refl
-is_listed keys.FinalSweep = refl
-is_listed keys.OrSegment = refl
-is_listed keys.MoveType = refl
-is_listed keys.PatchingA = refl
-is_listed keys.PatchingC = refl
-is_listed keys.Precision = refl
-is_listed keys.TraceLevel = refl
-is_listed keys.Optimum = refl
+is_listed _ = refl
 
 settings_few : (ss : Settings) → HasEachKeyOnce ss → length ss ≤ length all_keys
 settings_few ss apart =

@@ -12,7 +12,6 @@ use Rattle.tk_words.specs.Entry.{in_range, natural_or_zero}
 use Rattle.tk_words.specs.Lex.{integer}
 use Rattle.tk_params.specs.declared.key.Key.{Key}
 use Rattle.tk_params.specs.declared.key.Key.TheVariants as keys
-use Rattle.tk_params.specs.declared.value.Construction.{Construction}
 use Rattle.tk_params.specs.Keys.{all_keys, key_code}
 use Rattle.tk_params.proofs.Keys.{ignored_few}
 use Rattle.tk_params.specs.Values.{File, Number, Way, Switch, Ignored, Settings, Value, construction_of, file_of}
@@ -56,16 +55,11 @@ within key (Some (pos n)) v e = by_test (leb (least key) n && leb n (greatest ke
         subst (IsSetting key) is (record { least = leb-true _ _ b.0; greatest = leb-true _ _ b.1 })
     by_test false h f = absurd cc
 
-way_setting : (key : Key) (o : Option Construction) (v : Value) → option_map Way o ≡ Some v → IsSetting key v
-way_setting key None v e = absurd cc
-way_setting key (Some way) v e = let is : Way way ≡ v = cc in subst (IsSetting key) is tt
-
-switch_setting : (key : Key) (o : Option Bool) (v : Value) → option_map Switch o ≡ Some v → IsSetting key v
-switch_setting key None v e = absurd cc
-switch_setting key (Some on) v e = let is : Switch on ≡ v = cc in subst (IsSetting key) is tt
-
-ignored_setting : (key : Key) (v : Value) → Some Ignored ≡ Some v → IsSetting key v
-ignored_setting key v e = let is : Ignored ≡ v = cc in subst (IsSetting key) is tt
+-- a kind of value that has no limits
+unlimited : {A : Type 0} (key : Key) (kind : A → Value) (o : Option A) (v : Value) →
+    ((x : A) → IsSetting key (kind x)) → option_map kind o ≡ Some v → IsSetting key v
+unlimited key kind None v all e = absurd cc
+unlimited key kind (Some x) v all e = let is : kind x ≡ v = cc in subst (IsSetting key) is (all x)
 
 pub is_setting : (key : Key) (bs : List ℕ) (v : Value) → has_dollar key bs ≡ false → setting_value key bs ≡ Some v →
     IsSetting key v
@@ -78,35 +72,15 @@ is_setting keys.MaxTrials bs v h e = within keys.MaxTrials (integer bs) v e
 is_setting keys.Seed bs v h e = within keys.Seed (integer bs) v e
 is_setting keys.MaxCandidates bs v h e = within keys.MaxCandidates (integer bs) v e
 is_setting keys.OrSegment bs v h e = within keys.OrSegment (integer bs) v e
-is_setting keys.Construction bs v h e = way_setting keys.Construction (construction_of bs) v e
-is_setting keys.FinalSweep bs v h e = switch_setting keys.FinalSweep (switch_of bs) v e
-is_setting keys.MoveType bs v h e = ignored_setting keys.MoveType v e
-is_setting keys.PatchingA bs v h e = ignored_setting keys.PatchingA v e
-is_setting keys.PatchingC bs v h e = ignored_setting keys.PatchingC v e
-is_setting keys.Precision bs v h e = ignored_setting keys.Precision v e
-is_setting keys.TraceLevel bs v h e = ignored_setting keys.TraceLevel v e
-is_setting keys.Optimum bs v h e = ignored_setting keys.Optimum v e
+is_setting keys.Construction bs v h e = unlimited keys.Construction Way (construction_of bs) v (λ way. tt) e
+is_setting keys.FinalSweep bs v h e = unlimited keys.FinalSweep Switch (switch_of bs) v (λ on. tt) e
+is_setting key bs v h e = let is : Ignored ≡ v = cc in subst (IsSetting key) is tt
 
 -- ---- look-ups
 
 at_code : (key : Key) → get_or all_keys (key_code key) keys.Optimum ≡ key
 at_code keys.ProblemFile = refl
-at_code keys.TourFile = refl
-at_code keys.SolutionFile = refl
-at_code keys.InitialTourFile = refl
-at_code keys.Runs = refl
-at_code keys.MaxTrials = refl
-at_code keys.Seed = refl
-at_code keys.MaxCandidates = refl
-at_code keys.Construction = refl
-at_code keys.FinalSweep = refl
-at_code keys.OrSegment = refl
-at_code keys.MoveType = refl
-at_code keys.PatchingA = refl
-at_code keys.PatchingC = refl
-at_code keys.Precision = refl
-at_code keys.TraceLevel = refl
-at_code keys.Optimum = refl
+at_code _ = refl
 
 one_key : (a b : Key) → same_key a b ≡ true → b ≡ a
 one_key a b e = sym (at_code b) ∙ ap (λ n. get_or all_keys n keys.Optimum) (sym (eqb-true _ _ e)) ∙ at_code a
@@ -123,21 +97,13 @@ look_setting key (s ∷ ss) h =
     look_step key s (look key ss) (same_key key s.0) refl (All-head P s ss h) (look_setting key ss (All-tail P s ss h))
 
 file_limits : (key : Key) (o : Option Value) → IfSome o (IsSetting key) → IfSome (file_in o) IsFileName
-file_limits key None h = tt
 file_limits key (Some (File name)) h = h
-file_limits key (Some (Number n)) h = tt
-file_limits key (Some (Way way)) h = tt
-file_limits key (Some (Switch on)) h = tt
-file_limits key (Some Ignored) h = tt
+file_limits key _ h = tt
 
 number_limits : (key : Key) (o : Option Value) → IfSome o (IsSetting key) →
     IfSome (asked_number o) (IsInLimits (least key) (greatest key))
-number_limits key None h = tt
-number_limits key (Some (File name)) h = tt
 number_limits key (Some (Number n)) h = h
-number_limits key (Some (Way way)) h = tt
-number_limits key (Some (Switch on)) h = tt
-number_limits key (Some Ignored) h = tt
+number_limits key _ h = tt
 
 or_default : (low high d : ℕ) (o : Option ℕ) → IfSome o (IsInLimits low high) → low ≤ d → d ≤ high →
     IsInLimits low high (unwrap_or o d)

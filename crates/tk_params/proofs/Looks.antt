@@ -30,39 +30,8 @@ use Rattle.tk_params.specs.Values.{key_means, look, same_key, setting_value}
 -- keys are equal where they have one place
 pub equal_keys : (a b : Key) → eq-value.it a b ≡ same_key a b
 equal_keys keys.ProblemFile keys.ProblemFile = refl
-equal_keys keys.ProblemFile _ = refl
-equal_keys keys.TourFile keys.TourFile = refl
-equal_keys keys.TourFile _ = refl
-equal_keys keys.SolutionFile keys.SolutionFile = refl
-equal_keys keys.SolutionFile _ = refl
-equal_keys keys.InitialTourFile keys.InitialTourFile = refl
-equal_keys keys.InitialTourFile _ = refl
-equal_keys keys.Runs keys.Runs = refl
-equal_keys keys.Runs _ = refl
-equal_keys keys.MaxTrials keys.MaxTrials = refl
-equal_keys keys.MaxTrials _ = refl
-equal_keys keys.Seed keys.Seed = refl
-equal_keys keys.Seed _ = refl
-equal_keys keys.MaxCandidates keys.MaxCandidates = refl
-equal_keys keys.MaxCandidates _ = refl
-equal_keys keys.Construction keys.Construction = refl
-equal_keys keys.Construction _ = refl
-equal_keys keys.FinalSweep keys.FinalSweep = refl
-equal_keys keys.FinalSweep _ = refl
-equal_keys keys.OrSegment keys.OrSegment = refl
-equal_keys keys.OrSegment _ = refl
-equal_keys keys.MoveType keys.MoveType = refl
-equal_keys keys.MoveType _ = refl
-equal_keys keys.PatchingA keys.PatchingA = refl
-equal_keys keys.PatchingA _ = refl
-equal_keys keys.PatchingC keys.PatchingC = refl
-equal_keys keys.PatchingC _ = refl
-equal_keys keys.Precision keys.Precision = refl
-equal_keys keys.Precision _ = refl
-equal_keys keys.TraceLevel keys.TraceLevel = refl
-equal_keys keys.TraceLevel _ = refl
-equal_keys keys.Optimum keys.Optimum = refl
-equal_keys keys.Optimum _ = refl
+equal_keys _ keys.ProblemFile = refl
+equal_keys _ _ = refl
 
 lookup_same : {X : Type 0} (key : Key) (es : List (Key × X)) → lookup (eq-value.it key) es ≡ lookup (same_key key) es
 lookup_same key [] = refl

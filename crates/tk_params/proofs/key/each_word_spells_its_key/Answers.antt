@@ -7,22 +7,7 @@ use Rattle.tk_params.proofs.key.each_word_spells_its_key.Goals as goal
 spelled_back : (key : Key) → key_of (key_word key) ≡ Some key
 unfolding key_of
 spelled_back keys.ProblemFile = refl
-spelled_back keys.TourFile = refl
-spelled_back keys.SolutionFile = refl
-spelled_back keys.InitialTourFile = refl
-spelled_back keys.Runs = refl
-spelled_back keys.MaxTrials = refl
-spelled_back keys.Seed = refl
-spelled_back keys.MaxCandidates = refl
-spelled_back keys.Construction = refl
-spelled_back keys.FinalSweep = refl
-spelled_back keys.OrSegment = refl
-spelled_back keys.MoveType = refl
-spelled_back keys.PatchingA = refl
-spelled_back keys.PatchingC = refl
-spelled_back keys.Precision = refl
-spelled_back keys.TraceLevel = refl
-spelled_back keys.Optimum = refl
+spelled_back _ = refl
 
 pub returns : goal.returns
 returns c = spelled_back
