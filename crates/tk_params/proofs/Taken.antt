@@ -13,19 +13,17 @@ use Rattle.tk_params.proofs.Limits.{asked_within}
 -- the fields of parameters, as they are looked up in settings: s1 to s4 are what is left of them after each of the four
 -- files
 pub record AreLookedUp (ss : Settings) (p : ParamsAre) : Type 0 where
-  pub s0 : Settings
   pub s1 : Settings
   pub s2 : Settings
   pub s3 : Settings
   pub s4 : Settings
   pub limits : AreSettings ss
   pub apart : HasEachKeyOnce ss
-  pub start : s0 ≡ ss
-  pub first : LosesOnly keys.ProblemFile s0 s1
+  pub first : LosesOnly keys.ProblemFile ss s1
   pub second : LosesOnly keys.TourFile s1 s2
   pub third : LosesOnly keys.SolutionFile s2 s3
   pub fourth : LosesOnly keys.InitialTourFile s3 s4
-  pub problem_file : Some p.problem_file ≡ file_in (look keys.ProblemFile s0)
+  pub problem_file : Some p.problem_file ≡ file_in (look keys.ProblemFile ss)
   pub tour_file : p.tour_file ≡ file_in (look keys.TourFile s1)
   pub solution_file : p.solution_file ≡ file_in (look keys.SolutionFile s2)
   pub initial_tour_file : p.initial_tour_file ≡ file_in (look keys.InitialTourFile s3)
@@ -39,52 +37,32 @@ pub record AreLookedUp (ss : Settings) (p : ParamsAre) : Type 0 where
   pub unused : p.ignored ≡ ignored_keys ss
 
 module _ (ss : Settings) (p : ParamsAre) (l : AreLookedUp ss p) where
-  begun : (key : Key) → look key l.s0 ≡ look key ss
-  begun key = ap (look key) l.start
-
   after_all : (key : Key) → same_key keys.ProblemFile key ≡ false → same_key keys.TourFile key ≡ false →
       same_key keys.SolutionFile key ≡ false → same_key keys.InitialTourFile key ≡ false → look key l.s4 ≡ look key ss
-  after_all key a b c d = l.fourth key d ∙ l.third key c ∙ l.second key b ∙ l.first key a ∙ begun key
-
-  named : file_in (look keys.ProblemFile ss) ≡ Some p.problem_file
-  named = sym (l.problem_file ∙ ap file_in (begun keys.ProblemFile))
+  after_all key a b c d = l.fourth key d ∙ l.third key c ∙ l.second key b ∙ l.first key a
 
   is_asked : p ≡ asked_of p.problem_file ss
   unfolding asked_of
   is_asked =
-      let tour = l.tour_file ∙ ap file_in (l.first keys.TourFile refl ∙ begun keys.TourFile) in
-      let solution = l.solution_file
-      ∙ ap file_in (l.second keys.SolutionFile refl ∙ l.first keys.SolutionFile refl ∙ begun keys.SolutionFile) in
-      let initial = l.initial_tour_file
-      ∙ ap file_in (l.third keys.InitialTourFile refl ∙ l.second keys.InitialTourFile refl
-      ∙ l.first keys.InitialTourFile refl ∙ begun keys.InitialTourFile) in
-      let runs = l.runs ∙ ap (λ o. unwrap_or (asked_number o) 10) (after_all keys.Runs refl refl refl refl) in
-      let trials = l.max_trials ∙ ap asked_number (after_all keys.MaxTrials refl refl refl refl) in
-      let seed = l.seed ∙ ap (λ o. unwrap_or (asked_number o) 1) (after_all keys.Seed refl refl refl refl) in
-      let candidates = l.max_candidates
-      ∙ ap (λ o. unwrap_or (asked_number o) 5) (after_all keys.MaxCandidates refl refl refl refl) in
-      let construction = l.construction
-      ∙ ap (λ o. unwrap_or (way_in o) Nearest) (after_all keys.Construction refl refl refl refl) in
-      let sweep = l.final_sweep
-      ∙ ap (λ o. unwrap_or (switch_in o) false) (after_all keys.FinalSweep refl refl refl refl) in
-      let segment = l.or_segment
-      ∙ ap (λ o. unwrap_or (asked_number o) 3) (after_all keys.OrSegment refl refl refl refl) in
       rw (
-        ← tour,
-        ← solution,
-        ← initial,
-        ← runs,
-        ← trials,
-        ← seed,
-        ← candidates,
-        ← construction,
-        ← sweep,
-        ← segment,
+        ← (l.tour_file ∙ ap file_in (l.first keys.TourFile refl)),
+        ← (l.solution_file ∙ ap file_in (l.second keys.SolutionFile refl ∙ l.first keys.SolutionFile refl)),
+        ← (l.initial_tour_file ∙ ap file_in (l.third keys.InitialTourFile refl ∙ l.second keys.InitialTourFile refl
+            ∙ l.first keys.InitialTourFile refl)),
+        ← (l.runs ∙ ap (λ o. unwrap_or (asked_number o) 10) (after_all keys.Runs refl refl refl refl)),
+        ← (l.max_trials ∙ ap asked_number (after_all keys.MaxTrials refl refl refl refl)),
+        ← (l.seed ∙ ap (λ o. unwrap_or (asked_number o) 1) (after_all keys.Seed refl refl refl refl)),
+        ← (l.max_candidates
+            ∙ ap (λ o. unwrap_or (asked_number o) 5) (after_all keys.MaxCandidates refl refl refl refl)),
+        ← (l.construction ∙ ap (λ o. unwrap_or (way_in o) Nearest) (after_all keys.Construction refl refl refl refl)),
+        ← (l.final_sweep ∙ ap (λ o. unwrap_or (switch_in o) false) (after_all keys.FinalSweep refl refl refl refl)),
+        ← (l.or_segment ∙ ap (λ o. unwrap_or (asked_number o) 3) (after_all keys.OrSegment refl refl refl refl)),
         ← l.unused,
       ) refl
 
   pub some_asked : Some p ≡ asked ss
-  some_asked = ap Some is_asked ∙ ap (option_map (λ problem. asked_of problem ss)) (sym named)
+  some_asked = ap Some is_asked ∙ ap (option_map (λ problem. asked_of problem ss)) l.problem_file
 
   pub looked_within : AreWithinLimits p
-  looked_within = subst AreWithinLimits (sym is_asked) (asked_within ss l.limits l.apart p.problem_file named)
+  looked_within =
+      subst AreWithinLimits (sym is_asked) (asked_within ss l.limits l.apart p.problem_file (sym l.problem_file))

@@ -1,6 +1,9 @@
 use Rattle.std.proofs.Common.{◌∙◌, false, ap}
 use Rattle.std.specs.Option.{unwrap_or}
 use Rattle.tk_params.specs.declared.value.Construction.TheVariants.{Nearest}
+use Rattle.tk_params.specs.declared.key.Key.TheVariants as keys
+use Rattle.tk_params.specs.Asked.{file_in}
+use Rattle.tk_params.specs.Values.{look}
 use Rattle.tk_params.specs.Reader.Stored.{params_in, settings_in}
 use Rattle.tk_params.specs.declared.params.Params.TheInside.{Inside as Fields}
 use Rattle.tk_params.proofs.Taken.{AreLookedUp, looked_within, some_asked}
@@ -27,19 +30,18 @@ fields c =
 looked : (c : After-unwrap_or-6) → AreLookedUp c.args.settings (params_in (fields c))
 looked c =
     record {
-      s0 = settings_in c.into_parts-entries.result.0;
       s1 = settings_in c.take_file.new.entries;
       s2 = settings_in c.take_file-2.new.entries;
       s3 = settings_in c.take_file-3.new.entries;
       s4 = settings_in c.take_file-4.new.entries;
       limits = c.into_parts-entries.ensures.limits;
       apart = c.into_parts-entries.ensures.apart;
-      start = c.into_parts-entries.ensures.settings;
-      first = c.take_file.ensures.others;
+      first = rw (← c.into_parts-entries.ensures.settings) c.take_file.ensures.others;
       second = c.take_file-2.ensures.others;
       third = c.take_file-3.ensures.others;
       fourth = c.take_file-4.ensures.others;
-      problem_file = c.in_ok-problem_file.ensures.file;
+      problem_file = c.in_ok-problem_file.ensures.file
+          ∙ ap (λ ss. file_in (look keys.ProblemFile ss)) c.into_parts-entries.ensures.settings;
       tour_file = c.take_file-2.ensures.file;
       solution_file = c.take_file-3.ensures.file;
       initial_tour_file = c.take_file-4.ensures.file;
