@@ -1,6 +1,7 @@
 use Rattle.std.proofs.Common.{◌∙◌, sym, arith}
 use Rattle.tk_words.specs.Lex.{is_blank}
-use Rattle.tk_params.proofs.Words.{behind_at, run_more, take_rest}
+use Rattle.std.proofs.lemmas.List.{take_rest}
+use Rattle.tk_params.proofs.Words.{behind_at, run_more}
 use Rattle.tk_params.proofs.line.without_blanks.Goals as goal
 
 pub returns-then-not-blank : goal.returns-then-not-blank
