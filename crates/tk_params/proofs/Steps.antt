@@ -2,9 +2,13 @@
 use Rattle.std.proofs.Common.{◌≡◌, ℕ, suc, ◌-◌, ◌<◌, ◌≤◌, Bool, true, false, cond, eqb, leb, ltb, not, ◌&&◌, ◌||◌, List}
 use Rattle.std.proofs.Common.{[], ◌∷◌, ◌++◌, length, Option, Some, None, Err, refl, sym, ap, ◌∙◌, arith}
 use Rattle.std.proofs.lemmas.Bool.{eqb-true, ltb-true, ltb-false, lt-ltb, le-ltb, le-leb, and_parts, and_from, and_left}
-use Rattle.std.proofs.lemmas.Bool.{or_right, false_from_ne_true, cond-true, cond-false}
+use Rattle.std.proofs.lemmas.Bool.{or_right, not-true, false_from_ne_true, cond-true, cond-false}
 use Rattle.std.proofs.lemmas.List.{append-nil, length-append}
 use Rattle.std.specs.Char.{to_ascii_uppercase}
+use Rattle.std.specs.List.{list_all}
+use Rattle.std.specs.Prelude.{codes}
+use Rattle.tk_words.proofs.Bools.{and_false}
+use Rattle.tk_words.specs.Words.{spells}
 use Rattle.tk_lines.proofs.Sections.SectionEnds.{first_line}
 use Rattle.tk_lines.proofs.Lines.{begins_no, behind_none}
 use Rattle.tk_lines.proofs.MiddleOfLine.{prepend-nil, prepend-onto, lines-byte, lines-LF, lines_cons}
@@ -17,19 +21,12 @@ use Rattle.tk_params.specs.declared.fault.ParamKind.TheVariants as kinds
 use Rattle.tk_params.specs.Reader.Lines.{IsFaultless}
 use Rattle.tk_params.specs.Reader.Places.{ends_in, params_from_line}
 use Rattle.tk_params.specs.Entries.{Entry, entry_of}
-use Rattle.tk_params.specs.Values.{Settings, Meaning, Nothing, Faulty, Sets, means, line_means, settings_of}
+use Rattle.tk_params.specs.Values.{Settings, Meaning, Faulty, means, line_means, settings_of}
 use Rattle.tk_params.specs.Params.{Answer, Piece, LongLine, End, Open, Holds, after, answer_at_end, behind_word}
 use Rattle.tk_params.specs.Params.{counted}
 use Rattle.tk_params.specs.Params.{is_end, spells_eof, judge_params, line_limit, param_pieces, word_of}
 
 -- ---- EOF
-
-and_no : (t : Bool) → (t && false) ≡ false
-and_no true = refl
-and_no false = refl
-
-letter_word : (b : ℕ) → is_letter b ≡ true → is_word_byte b ≡ true
-letter_word b h = rw h refl
 
 capital : (b k : ℕ) → is_word_byte k ≡ true → k < 91 → to_ascii_uppercase b ≡ k → is_word_byte b ≡ true
 capital b k w lt h = by_tests (ltb b 97) refl (ltb b 123) refl
@@ -37,9 +34,9 @@ capital b k w lt h = by_tests (ltb b 97) refl (ltb b 123) refl
     by_tests : (s : Bool) → ltb b 97 ≡ s → (t : Bool) → ltb b 123 ≡ t → is_word_byte b ≡ true
     by_tests true p t q = let e : b ≡ k = (rw p at h) in rw e w
     by_tests false p true q =
-        letter_word b
-        (or_right (leb 65 b && leb b 90)
-        _ (and_from _ _ (le-leb 97 b (ltb-false _ _ p)) (le-leb b 122 (omega (arith, ltb-true _ _ q)))))
+        let letter : is_letter b ≡ true = or_right (leb 65 b && leb b 90)
+        _ (and_from _ _ (le-leb 97 b (ltb-false _ _ p)) (le-leb b 122 (omega (arith, ltb-true _ _ q)))) in
+        rw letter refl
     by_tests false p false q = let e : b ≡ k = (rw (p, q) at h) in absurd (omega (arith, ltb-false _ _ q, e))
 
 -- bytes that spell EOF are one word
@@ -47,36 +44,25 @@ record IsWord (w : List ℕ) : Type 0 where
   pub word : behind is_word_byte w ≡ []
   pub some : IsEmpty w → ⊥
 
+spelled : (w text : List ℕ) → list_all (λ k. is_word_byte k && ltb k 91) text ≡ true → spells w text ≡ true →
+    behind is_word_byte w ≡ []
+spelled [] text c h = refl
+spelled (b ∷ w) [] c h = absurd cc
+spelled (b ∷ w) (k ∷ text) c h =
+    let same = and_parts (eqb (to_ascii_uppercase b) k) _ h in
+    let all = and_parts (is_word_byte k && ltb k 91) _ c in
+    let one = and_parts (is_word_byte k) _ all.0 in
+    rw (capital b k one.0 (ltb-true _ _ one.1) (eqb-true _ _ same.0)) (spelled w text all.1 same.1)
+
 eof_word : (w : List ℕ) → spells_eof w ≡ true → IsWord w
 eof_word [] h = absurd cc
-eof_word (a ∷ []) h = let k = and_parts (eqb (to_ascii_uppercase a) 69) false h in absurd (let j = k.1 in cc)
-eof_word (a ∷ b ∷ []) h =
-    let k = and_parts (eqb (to_ascii_uppercase a) 69) _ h in
-    let l = and_parts (eqb (to_ascii_uppercase b) 79) false k.1 in
-    absurd (let j = l.1 in cc)
-eof_word (a ∷ b ∷ c ∷ []) h =
-    let k = and_parts (eqb (to_ascii_uppercase a) 69) _ h in
-    let l = and_parts (eqb (to_ascii_uppercase b) 79) _ k.1 in
-    let m = and_parts (eqb (to_ascii_uppercase c) 70) _ l.1 in
-    let wa = capital a 69 refl (omega arith) (eqb-true _ _ k.0) in
-    let wb = capital b 79 refl (omega arith) (eqb-true _ _ l.0) in
-    let wc = capital c 70 refl (omega arith) (eqb-true _ _ m.0) in
-    record { word = rw (wa, wb, wc) refl; some = λ e. e }
-eof_word (a ∷ b ∷ c ∷ d ∷ ds) h =
-    let k = and_parts (eqb (to_ascii_uppercase a) 69) _ h in
-    let l = and_parts (eqb (to_ascii_uppercase b) 79) _ k.1 in
-    let m = and_parts (eqb (to_ascii_uppercase c) 70) false l.1 in
-    absurd (let j = m.1 in cc)
+eof_word (b ∷ w) h = record { word = spelled (b ∷ w) (codes "EOF") refl h; some = λ e. e }
 
 -- ---- one byte more
 
 front_none : (xs : List ℕ) → begins_no is_word_byte xs ≡ true → front is_word_byte xs ≡ []
 front_none [] h = refl
-front_none (b ∷ bs) h = by_test (is_word_byte b) h
-  where
-    by_test : (t : Bool) → not t ≡ true → cond t (b ∷ front is_word_byte bs) [] ≡ []
-    by_test true k = absurd cc
-    by_test false k = refl
+front_none (b ∷ bs) h = rw (not-true _ h) refl
 
 not_none : (h : List ℕ) (c : ℕ) (cs : List ℕ) → h ≡ c ∷ cs → IsEmpty h → ⊥
 not_none [] c cs e = absurd cc
@@ -87,7 +73,7 @@ one_byte b true t = refl
 one_byte b false t = by_test (is_word_byte b)
   where
     by_test : (w : Bool) → (spells_eof (cond w (b ∷ []) []) && t) ≡ false
-    by_test true = and_left _ t (and_no (eqb (to_ascii_uppercase b) 69))
+    by_test true = and_left _ t (and_false (eqb (to_ascii_uppercase b) 69))
     by_test false = refl
 
 on_word : (h : List ℕ) (b : ℕ) → (spells_eof h ≡ true → is_word_byte b ≡ true) →
@@ -96,7 +82,7 @@ on_word h b k = by_test (is_word_byte b) refl
   where
     by_test : (w : Bool) → is_word_byte b ≡ w →
         (spells_eof (h ++ cond w (b ∷ []) []) && not (is_empty (cond w [] (b ∷ [])))) ≡ false
-    by_test true e = and_no _
+    by_test true e = and_false _
     by_test false e =
         and_left _ true (rw (append-nil h) (false_from_ne_true (spells_eof h) (λ t. let j = k t in absurd cc)))
 
@@ -187,10 +173,8 @@ judge_piece : (m : ℕ) (before : Settings) (over last more : Bool) (line : ℕ)
     (cond more None
     (after line (means before entry) (judge_params line (before ++ settings_of (means before entry)) ps))))
 unfolding judge_params
-judge_piece m before true last more line entry ps = refl
-judge_piece m before false true more line entry ps = refl
 judge_piece m before false false true line entry ps = refl
-judge_piece m before false false false line entry ps = refl
+judge_piece m before _ _ _ line entry ps = refl
 
 -- what is judged of a line
 pub judge_line : (m : ℕ) (before : Settings) (l : Line) (ls : List Line) → judge_params m before (param_pieces (l ∷ ls))
@@ -318,9 +302,8 @@ module _ (n : ℕ) (before : Settings) (pre : List ℕ) (none : ends_in pre ≡ 
         (counts_all (record { number = n; bytes = pre; whole = true }) line_ends le) line_ends refl
 
     sound : (m : Meaning) (r : Option Answer) → IsFaultless m → after n m r ≡ r
-    sound Nothing r h = refl
     sound (Faulty kind) r h = absurd h
-    sound (Sets key value) r h = refl
+    sound _ r h = refl
 
     pub from_LF : (e : Bool) (more : List ℕ) → IsFaultless (line_means before (behind is_blank pre))
         → params_from_line n before pre e (LF ∷ more) ≡ params_from_line (suc n)

@@ -17,21 +17,19 @@ use Rattle.tk_params.specs.Params.{Answer, after, answer_at_end, behind_word, co
 use Rattle.tk_params.specs.Params.{line_limit}
 use Rattle.tk_params.specs.Params.{params_decided, param_pieces, word_of}
 use Rattle.tk_params.specs.Reader.Places.{ends_in}
-use Rattle.tk_params.specs.Values.{Settings, Meaning, Nothing, Faulty, Sets, line_means, settings_of}
+use Rattle.tk_params.specs.Values.{Settings, Meaning, Faulty, line_means, settings_of}
 
 -- ---- each text has an answer
 
 some_tests : (a b c : Bool) (x y : Answer) (z : Option Answer) → c ≡ false → IsSome z →
     IsSome (cond a (Some x) (cond b (Some y) (cond c None z)))
-some_tests true b c x y z h k = refl
-some_tests false true c x y z h k = refl
 some_tests false false true x y z h k = absurd cc
 some_tests false false false x y z h k = k
+some_tests _ _ c x y z h k = refl
 
 some_after : (n : ℕ) (m : Meaning) (z : Option Answer) → IsSome z → IsSome (after n m z)
-some_after n Nothing z h = h
 some_after n (Faulty kind) z h = refl
-some_after n (Sets key value) z h = h
+some_after n _ z h = h
 
 some_judged : (n : ℕ) (before : Settings) (ls : List Line) → AreWhole ls →
     IsSome (judge_params n before (param_pieces ls))
@@ -143,16 +141,13 @@ last_stays m n before bs x w rest a h = by_end (ends_in bs) refl
 kept_tests : (c e o : Bool) (x y : Answer) (z z' : Option Answer) (a : Answer) → (z ≡ Some a → z' ≡ Some a) →
     cond c (Some x) (cond e (Some y) (cond o None z)) ≡ Some a →
     cond c (Some x) (cond e (Some y) (cond o None z')) ≡ Some a
-kept_tests true e o x y z z' a g h = h
-kept_tests false true o x y z z' a g h = h
-kept_tests false false true x y z z' a g h = h
 kept_tests false false false x y z z' a g h = g h
+kept_tests _ _ _ x y z z' a g h = h
 
 kept_after : (n : ℕ) (m : Meaning) (z z' : Option Answer) (a : Answer) → (z ≡ Some a → z' ≡ Some a) →
     after n m z ≡ Some a → after n m z' ≡ Some a
-kept_after n Nothing z z' a g h = g h
 kept_after n (Faulty kind) z z' a g h = h
-kept_after n (Sets key value) z z' a g h = g h
+kept_after n _ z z' a g h = g h
 
 module _ (n : ℕ) (bs x : List ℕ) (w : Bool) (rest : List Line) (a : Answer) where
   lines_stay : (front : List Line) (m : ℕ) (before : Settings) →
