@@ -1,42 +1,34 @@
 -- Bytes that are none of the formats' words.
 use Rattle.std.proofs.Common.{◌≡◌, ◌≢◌, ℕ, suc, ◌-◌, ◌<◌, ◌≤◌, Bool, true, false, cond, eqb, leb, ltb, ◌&&◌, List, []}
-use Rattle.std.proofs.Common.{◌∷◌, length, get_or, take, map, Option, Some, None, ℤ, refl, sym, ap, ◌∙◌, arith}
-use Rattle.std.specs.Prelude.{codes}
+use Rattle.std.proofs.Common.{◌∷◌, length, get_or, take, Some, None, ℤ, refl, sym, ap, ◌∙◌, arith}
 use Rattle.std.specs.Char.{to_ascii_uppercase, is_ascii_digit}
-use Rattle.std.proofs.lemmas.Bool.{eqb-true, ne_eqb, le-leb, leb-true, ltb-true, ltb-false, lt-leb}
+use Rattle.std.specs.List.{find}
+use Rattle.std.proofs.lemmas.Bool.{and_parts, cond_both, eqb-true, ne_eqb, le-leb, leb-true, ltb-true, ltb-false}
+use Rattle.std.proofs.lemmas.Bool.{lt-leb}
+use Rattle.tk_words.specs.declared.keyword.Keyword.{Keyword}
+use Rattle.tk_words.specs.declared.keyword.Keyword.TheVariants as words
 use Rattle.tk_words.specs.Lex.{is_letter, natural, integer}
-use Rattle.tk_words.specs.Words.{same_bytes, spells, begins_word, keyword_of}
+use Rattle.tk_words.specs.Words.{all_keywords, spells, begins_word, keyword_of, word}
 use Rattle.tk_words.proofs.Bools.{and_false, or_true}
+use Rattle.tk_words.proofs.Spelling.{differ_in_length}
 use Rattle.tk_words.specs.Entry.{without_colon}
 
--- no word is spelled where no text is that begins with a letter and has at most 20 bytes
-pub keyword_of-none : (bs : List ℕ) →
+-- a word begins with a letter and has at most 20 bytes
+in_form : (keyword : Keyword) → (begins_word (word keyword) && leb (length (word keyword)) 20) ≡ true
+in_form words.Name = refl
+in_form _ = refl
+
+none_found : (test : Keyword → Bool) (ks : List Keyword) → ((k : Keyword) → test k ≡ false) → find test ks ≡ None
+none_found test [] h = refl
+none_found test (k ∷ ks) h = rw (h k) (none_found test ks h)
+
+-- no word is spelled where no text of that form is
+keyword_of-none : (bs : List ℕ) →
     ((text : List ℕ) → (begins_word text && leb (length text) 20) ≡ true → spells bs text ≡ false) →
     keyword_of bs ≡ None
 unfolding keyword_of
-keyword_of-none bs h = rw (
-  h (codes "NAME") refl,
-  h (codes "COMMENT") refl,
-  h (codes "TYPE") refl,
-  h (codes "DIMENSION") refl,
-  h (codes "CAPACITY") refl,
-  h (codes "EDGE_WEIGHT_TYPE") refl,
-  h (codes "EDGE_WEIGHT_FORMAT") refl,
-  h (codes "NODE_COORD_TYPE") refl,
-  h (codes "DISPLAY_DATA_TYPE") refl,
-  h (codes "DISTANCE") refl,
-  h (codes "SERVICE_TIME") refl,
-  h (codes "VEHICLES") refl,
-  h (codes "NODE_COORD_SECTION") refl,
-  h (codes "EDGE_WEIGHT_SECTION") refl,
-  h (codes "DEMAND_SECTION") refl,
-  h (codes "DEPOT_SECTION") refl,
-  h (codes "DISPLAY_DATA_SECTION") refl,
-  h (codes "EDGE_DATA_SECTION") refl,
-  h (codes "FIXED_EDGES_SECTION") refl,
-  h (codes "TOUR_SECTION") refl,
-  h (codes "EOF") refl,
-) refl
+keyword_of-none bs h =
+    none_found (λ keyword. spells bs (word keyword)) all_keywords (λ keyword. h (word keyword) (in_form keyword))
 
 letter_low : (b : ℕ) → 97 ≤ b → b ≤ 122 → is_letter b ≡ true
 letter_low b l h = let p : leb 97 b ≡ true = le-leb _ _ l in let q : leb b 122 ≡ true = le-leb _ _ h in
@@ -56,36 +48,15 @@ upper_other b c h k = by_test (ltb b 97) refl (ltb b 123) refl
     by_test false p false q = same
 
 pub keyword_of-other : (b : ℕ) (bs : List ℕ) → is_letter b ≡ false → keyword_of (b ∷ bs) ≡ None
-keyword_of-other b bs h = keyword_of-none (b ∷ bs) (λ text is. by_text text is)
+keyword_of-other b bs h = keyword_of-none (b ∷ bs) by_text
   where
     by_text : (text : List ℕ) → (begins_word text && leb (length text) 20) ≡ true → spells (b ∷ bs) text ≡ false
     by_text [] is = absurd cc
-    by_text (c ∷ cs) is = by_letter (is_letter c) refl is
-      where
-        by_letter : (t : Bool) → is_letter c ≡ t → (t && leb (length (c ∷ cs)) 20) ≡ true →
-            spells (b ∷ bs) (c ∷ cs) ≡ false
-        by_letter true l is = rw (upper_other b c h l) refl
-        by_letter false l is = absurd cc
-
-same_long : (bs text : List ℕ) → length text < length bs → same_bytes (map to_ascii_uppercase bs) text ≡ false
-same_long [] text h = absurd (omega arith)
-same_long (b ∷ bs) [] h = refl
-same_long (b ∷ bs) (c ∷ cs) h = rw (same_long bs cs (omega arith)) (by_test (eqb (to_ascii_uppercase b) c))
-  where
-    by_test : (t : Bool) → (t && false) ≡ false
-    by_test true = refl
-    by_test false = refl
+    by_text (c ∷ cs) is = rw (upper_other b c h (and_parts (is_letter c) _ is).0) refl
 
 pub keyword_of-long : (bs : List ℕ) → 20 < length bs → keyword_of bs ≡ None
-keyword_of-long bs h =
-    keyword_of-none bs (λ text is. same_long bs text (shorter text (and_right (begins_word text) _ is)))
-  where
-    and_right : (s t : Bool) → (s && t) ≡ true → t ≡ true
-    and_right true t h = h
-    and_right false t h = absurd cc
-
-    shorter : (text : List ℕ) → leb (length text) 20 ≡ true → length text < length bs
-    shorter text le = omega (arith, h, leb-true _ _ le)
+keyword_of-long bs h = keyword_of-none bs (λ text is. differ_in_length bs text
+    (λ e. let short = leb-true _ _ (and_parts (begins_word text) _ is).1 in omega (arith, h, e, short)))
 
 -- ---- a colon at the end
 
@@ -114,11 +85,8 @@ without_colon-empty (b ∷ bs) h = absurd (omega (arith, eqb-true _ _ h))
 
 headed : (b : ℕ) (bs : List ℕ) → is_letter b ≡ false → keyword_of (without_colon (b ∷ bs)) ≡ None
 unfolding keyword_of
-headed b [] h = by_colon (eqb b 58)
-  where
-    by_colon : (t : Bool) → keyword_of (cond t [] (b ∷ [])) ≡ None
-    by_colon true = refl
-    by_colon false = keyword_of-other b [] h
+headed b [] h =
+    cond_both (eqb b 58) [] (b ∷ []) (λ l. keyword_of l ≡ None) (λ t. refl) (λ t. keyword_of-other b [] h)
 headed b (c ∷ bs) h = keyword_of-other b (without_colon (c ∷ bs)) h
 
 letter_digit : (b : ℕ) → is_letter b ≡ true → is_ascii_digit b ≡ false
@@ -132,11 +100,8 @@ letter_digit b h = by_test (leb b 57) refl
         absurd (let k = rw (a, c) at h in cc)
 
 no_natural : (b : ℕ) (bs : List ℕ) → is_letter b ≡ true → natural (b ∷ bs) ≡ None
-no_natural b bs h = rw (letter_digit b h) (by_test (ltb 18 (length (b ∷ bs))))
-  where
-    by_test : (t : Bool) → ◌≡◌ {A = Option ℕ} (cond t None None) None
-    by_test true = refl
-    by_test false = refl
+no_natural b bs h =
+    rw (letter_digit b h) (cond_both (ltb 18 (length (b ∷ bs))) None None (λ o. o ≡ None) (λ t. refl) (λ t. refl))
 
 no_integer : (b : ℕ) (bs : List ℕ) → is_letter b ≡ true → integer (b ∷ bs) ≡ None
 no_integer b bs h = by_sign (eqb b 45) refl (eqb b 43) refl

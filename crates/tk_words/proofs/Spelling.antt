@@ -1,11 +1,8 @@
 -- Comparing bytes one by one.
-use Rattle.std.proofs.Common.{◌≡◌, ◌≢◌, ℕ, suc, Bool, true, false, eqb, ◌&&◌, List, [], ◌∷◌, length, refl, ap, ◌∙◌}
+use Rattle.std.proofs.Common.{◌≡◌, ◌≢◌, ℕ, suc, false, eqb, ◌&&◌, List, [], ◌∷◌, length, refl, ap, ◌∙◌}
 use Rattle.std.specs.Char.{to_ascii_uppercase}
+use Rattle.tk_words.proofs.Bools.{and_false}
 use Rattle.tk_words.specs.Words.{spells}
-
-and_false : (b : Bool) → (b && false) ≡ false
-and_false true = refl
-and_false false = refl
 
 pub differ_in_length : (xs ys : List ℕ) → length xs ≢ length ys → spells xs ys ≡ false
 differ_in_length [] [] h = absurd (h refl)
