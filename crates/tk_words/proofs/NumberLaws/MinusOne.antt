@@ -2,10 +2,12 @@
 use Rattle.std.proofs.Common.{◌≡◌, ℕ, zero, suc, ◌+◌, ◌-◌, ◌*◌, ◌<◌, ◌≤◌, Bool, true, false, cond, eqb, ltb, ◌||◌, List}
 use Rattle.std.proofs.Common.{[], ◌∷◌, ◌++◌, length, Option, Some, None, pos, neg_ℤ, refl, ap, ◌∙◌, append_assoc, arith}
 use Rattle.std.proofs.lemmas.List.{length-append}
-use Rattle.std.proofs.lemmas.Bool.{eqb-true, lt-ltb, le-ltb, ltb-true, ltb-false}
-use Rattle.std.specs.Char.{is_ascii_digit}
+use Rattle.std.proofs.lemmas.Bool.{cond_both, eqb-true, false_from_ne_true, true_from_ne_false, lt-ltb, ltb-true}
+use Rattle.std.proofs.lemmas.Bool.{ltb-false}
 use Rattle.tk_words.specs.Lex.{digits, natural, signed, integer}
 use Rattle.tk_words.specs.MinusOne.{is_minus_one, begins_minus_one}
+use Rattle.tk_words.proofs.Bools.{or_true}
+use Rattle.tk_words.proofs.NumberLaws.Numbers.{digits-first, digits-rest, digits_join, natural-digits, natural-parts}
 
 -- the number of the first bytes of some
 record Split (n : ℕ) (xs ys : List ℕ) (m : ℕ) : Type 0 where
@@ -15,48 +17,15 @@ record Split (n : ℕ) (xs ys : List ℕ) (m : ℕ) : Type 0 where
 
 digits_split : (n : ℕ) (xs ys : List ℕ) (m : ℕ) → digits n (xs ++ ys) ≡ Some m → Split n xs ys m
 digits_split n [] ys m h = record { between = n; front = refl; back = h }
-digits_split n (x ∷ xs) ys m h = by_digit (digits_split (n * 10 + (x - 48)) xs ys m) (is_ascii_digit x) refl
-  where
-    by_digit : (digits (n * 10 + (x - 48)) (xs ++ ys) ≡ Some m → Split (n * 10 + (x - 48)) xs ys m) → (t : Bool) →
-        is_ascii_digit x ≡ t → Split n (x ∷ xs) ys m
-    by_digit rest true is = let s = rest (rw is at h) in
-        record { between = s.between; front = rw is s.front; back = s.back }
-    by_digit rest false is = absurd (let k = rw is at h in cc)
-
-digits_join : (n v : ℕ) (xs ys : List ℕ) → digits n xs ≡ Some v → digits n (xs ++ ys) ≡ digits v ys
-digits_join n v [] ys h = ap (λ (k : ℕ). digits k ys) (same n v h)
-  where
-    same : (a b : ℕ) → ◌≡◌ {A = Option ℕ} (Some a) (Some b) → a ≡ b
-    same a b h = cc
-digits_join n v (x ∷ xs) ys h = by_digit (digits_join (n * 10 + (x - 48)) v xs ys) (is_ascii_digit x) refl
-  where
-    by_digit : (digits (n * 10 + (x - 48)) xs ≡ Some v → digits (n * 10 + (x - 48)) (xs ++ ys) ≡ digits v ys) →
-        (t : Bool) → is_ascii_digit x ≡ t → digits n ((x ∷ xs) ++ ys) ≡ digits v ys
-    by_digit rest true is = rw is (rest (rw is at h))
-    by_digit rest false is = absurd (let k = rw is at h in cc)
+digits_split n (x ∷ xs) ys m h =
+    let s = digits_split (n * 10 + (x - 48)) xs ys m (digits-rest n x (xs ++ ys) m h) in
+    record { between = s.between; front = rw (digits-first n x (xs ++ ys) m h) s.front; back = s.back }
 
 digits_ge : (n : ℕ) (xs : List ℕ) (m : ℕ) → digits n xs ≡ Some m → n ≤ m
 digits_ge n [] m h = let is : n ≡ m = cc in omega (arith, is)
-digits_ge n (x ∷ xs) m h = by_digit (digits_ge (n * 10 + (x - 48)) xs m) (is_ascii_digit x) refl
-  where
-    by_digit : (digits (n * 10 + (x - 48)) xs ≡ Some m → n * 10 + (x - 48) ≤ m) → (t : Bool) →
-        is_ascii_digit x ≡ t → n ≤ m
-    by_digit rest true is = omega (arith, rest (rw is at h))
-    by_digit rest false is = absurd (let k = rw is at h in cc)
+digits_ge n (x ∷ xs) m h = omega (arith, digits_ge (n * 10 + (x - 48)) xs m (digits-rest n x xs m h))
 
 -- ---- 18 digits of the value 1
-
-natural_digits : (bs : List ℕ) (m : ℕ) → natural bs ≡ Some m → (length bs ≤ 18) × (digits 0 bs ≡ Some m)
-natural_digits [] m h = absurd cc
-natural_digits (b ∷ bs) m h = by_length (ltb 18 (length (b ∷ bs))) refl
-  where
-    by_length : (t : Bool) → ltb 18 (length (b ∷ bs)) ≡ t → (length (b ∷ bs) ≤ 18) × (digits 0 (b ∷ bs) ≡ Some m)
-    by_length true is = absurd (let k = rw is at h in cc)
-    by_length false is = (ltb-false _ _ is, rw is at h)
-
-digits_natural : (b : ℕ) (bs : List ℕ) (m : ℕ) → length (b ∷ bs) ≤ 18 → digits 0 (b ∷ bs) ≡ Some m →
-    natural (b ∷ bs) ≡ Some m
-digits_natural b bs m short h = let t : ltb 18 (length (b ∷ bs)) ≡ false = le-ltb _ _ short in rw t h
 
 abbrev is_one : Option ℕ → Bool
 is_one x = is_minus_one (signed (λ n. neg_ℤ (pos n)) x)
@@ -70,7 +39,7 @@ one_is (Some (suc (suc n))) h = absurd (omega (arith, eqb-true (suc n) 0 h))
 ones_front : (xs zs : List ℕ) → is_one (natural (xs ++ zs)) ≡ true →
     (is_one (natural xs) || is_one (natural (xs ++ 49 ∷ []))) ≡ true
 ones_front xs zs h =
-    let all = natural_digits (xs ++ zs) 1 (one_is _ h) in
+    let all = natural-parts (xs ++ zs) 1 (one_is _ h) in
     let parts = digits_split 0 xs zs 1 all.1 in
     by_value xs zs parts.between parts.front parts.back (omega (arith, all.0, length-append xs zs))
   where
@@ -80,15 +49,11 @@ ones_front xs zs h =
     by_value (x ∷ xs) [] zero front back short = absurd cc
     by_value (x ∷ xs) (z ∷ zs) zero front back short =
         let longer : natural ((x ∷ xs) ++ 49 ∷ []) ≡ Some 1 =
-        digits_natural x (xs ++ 49 ∷ []) 1 (omega (arith, short, length-append xs (49 ∷ [])))
-        (digits_join 0 0 (x ∷ xs) (49 ∷ []) front) in
-        rw longer (either (is_one (natural (x ∷ xs))))
-      where
-        either : (t : Bool) → (t || true) ≡ true
-        either true = refl
-        either false = refl
+        natural-digits (x ∷ (xs ++ 49 ∷ [])) (omega arith) (omega (arith, short, length-append xs (49 ∷ [])))
+        ∙ digits_join 0 0 (x ∷ xs) (49 ∷ []) front in
+        rw longer (or_true (is_one (natural (x ∷ xs))))
     by_value (x ∷ xs) zs (suc zero) front back short =
-        let one : natural (x ∷ xs) ≡ Some 1 = digits_natural x xs 1 (omega (arith, short)) front in
+        let one : natural (x ∷ xs) ≡ Some 1 = natural-digits (x ∷ xs) (omega arith) (omega (arith, short)) ∙ front in
         rw one refl
     by_value (x ∷ xs) zs (suc (suc v)) front back short = absurd (omega (arith, digits_ge (suc (suc v)) zs 1 back))
 
@@ -100,38 +65,26 @@ no_minus (Some n) = refl
 
 -- bytes that begin with no minus
 pub other_integer : (b : ℕ) (y : List ℕ) → eqb b 45 ≡ false → is_minus_one (integer (b ∷ y)) ≡ false
-other_integer b y h = rw h (by_plus (eqb b 43))
-  where
-    by_plus : (t : Bool) → is_minus_one (cond t (signed pos (natural y)) (signed pos (natural (b ∷ y)))) ≡ false
-    by_plus true = no_minus (natural y)
-    by_plus false = no_minus (natural (b ∷ y))
+other_integer b y h =
+    rw h (cond_both (eqb b 43) (signed pos (natural y)) (signed pos (natural (b ∷ y))) (λ o. is_minus_one o ≡ false)
+    (λ t. no_minus (natural y)) (λ t. no_minus (natural (b ∷ y))))
 
 pub other_begins : (b : ℕ) (y : List ℕ) → eqb b 45 ≡ false → begins_minus_one (b ∷ y) ≡ false
 other_begins b y h = rw (other_integer b y h, other_integer b (y ++ 49 ∷ []) h) refl
 
 pub begins_minus : (b : ℕ) (y : List ℕ) → begins_minus_one (b ∷ y) ≡ true → b ≡ 45
-begins_minus b y h = by_minus (eqb b 45) refl
-  where
-    by_minus : (t : Bool) → eqb b 45 ≡ t → b ≡ 45
-    by_minus true is = eqb-true b 45 is
-    by_minus false is = absurd (let k = other_begins b y is in cc)
+begins_minus b y h = eqb-true b 45 (true_from_ne_false _ (λ e. absurd (let k = other_begins b y e in cc)))
 
 -- what goes on after the first bytes of a -1 is one no more
 front_begins : (b : ℕ) (xs zs : List ℕ) → is_minus_one (integer ((b ∷ xs) ++ zs)) ≡ true →
     begins_minus_one (b ∷ xs) ≡ true
-front_begins b xs zs h = by_minus (eqb b 45) refl
-  where
-    by_minus : (t : Bool) → eqb b 45 ≡ t → begins_minus_one (b ∷ xs) ≡ true
-    by_minus true is = rw is (ones_front xs zs (rw is at h))
-    by_minus false is = absurd (let k = other_integer b (xs ++ zs) is in cc)
+front_begins b xs zs h =
+    let is = true_from_ne_false (eqb b 45) (λ e. absurd (let k = other_integer b (xs ++ zs) e in cc)) in
+    rw is (ones_front xs zs (rw is at h))
 
 pub no_more : (b : ℕ) (xs zs : List ℕ) → begins_minus_one (b ∷ xs) ≡ false →
     is_minus_one (integer ((b ∷ xs) ++ zs)) ≡ false
-no_more b xs zs h = by_test (is_minus_one (integer ((b ∷ xs) ++ zs))) refl
-  where
-    by_test : (t : Bool) → is_minus_one (integer ((b ∷ xs) ++ zs)) ≡ t → t ≡ false
-    by_test true is = absurd (let k = front_begins b xs zs is in cc)
-    by_test false is = refl
+no_more b xs zs h = false_from_ne_true _ (λ t. absurd (let k = front_begins b xs zs t in cc))
 
 pub no_more_with_one : (b : ℕ) (xs zs : List ℕ) → begins_minus_one (b ∷ xs) ≡ false →
     is_minus_one (integer (((b ∷ xs) ++ zs) ++ 49 ∷ [])) ≡ false
@@ -153,9 +106,8 @@ integer_long (b ∷ bs) h =
   where
     by_sign : (s t : Bool) (x y : Option ℕ) → x ≡ None → y ≡ None →
         cond s (signed (λ n. neg_ℤ (pos n)) x) (cond t (signed pos x) (signed pos y)) ≡ None
-    by_sign true t x y p q = rw p refl
-    by_sign false true x y p q = rw p refl
     by_sign false false x y p q = rw q refl
+    by_sign _ _ x y p q = rw p refl
 
 pub begins_short : (bs : List ℕ) → begins_minus_one bs ≡ true → length bs ≤ 19
 begins_short bs h = by_length (ltb 19 (length bs)) refl

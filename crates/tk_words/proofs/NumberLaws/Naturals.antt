@@ -1,7 +1,7 @@
 -- What the digits of a whole number spell.
-use Rattle.std.proofs.Common.{◌≡◌, ℕ, ◌+◌, ◌-◌, ◌*◌, ◌^◌, ◌<◌, ◌≤◌, List, [], ◌∷◌, ◌++◌, length, take, Bool, true}
+use Rattle.std.proofs.Common.{◌≡◌, ℕ, ◌+◌, ◌-◌, ◌*◌, ◌^◌, ◌<◌, ◌≤◌, List, [], ◌∷◌, ◌++◌, length, take, true}
 use Rattle.std.proofs.Common.{false}
-use Rattle.std.proofs.Common.{◌||◌, ◌==◌, All, Some, Ok, Err, pos, ltb, leb, eqb, arith, ap, sym, ◌∙◌, refl}
+use Rattle.std.proofs.Common.{◌||◌, ◌==◌, All, Some, Ok, Err, pos, leb, eqb, arith, ap, sym, ◌∙◌, refl}
 use Rattle.std.proofs.Common.{option_map, ◌*ℤ◌, of_z, to_z, w64}
 use Rattle.std.proofs.lemmas.Bool.Decides.{nat_tests}
 use Rattle.std.proofs.lemmas.Int.{ints}
@@ -13,32 +13,12 @@ use Rattle.tk_words.specs.declared.fault.TextKind.TheVariants as kinds
 use Rattle.tk_words.specs.Decimal.{decimal_of, limited, number_behind, number_of}
 use Rattle.tk_words.specs.Lex.{behind, digits, front, integer, is_blank, natural}
 use Rattle.tk_words.proofs.NumberLaws.Digits.{billionths_is}
-
-natural-spelled : (bs : List ℕ) (n : ℕ) → natural bs ≡ Some n → digits 0 bs ≡ Some n
-natural-spelled [] n e = cc
-natural-spelled (b ∷ bs) n e = by_length (ltb 18 (length (b ∷ bs))) refl
-  where
-    by_length : (long : Bool) → ltb 18 (length (b ∷ bs)) ≡ long → digits 0 (b ∷ bs) ≡ Some n
-    by_length true p = absurd (let k = rw p at e in cc)
-    by_length false p = rw p at e
-
-digits-first : (n b : ℕ) (bs : List ℕ) (m : ℕ) → digits n (b ∷ bs) ≡ Some m → is_ascii_digit b ≡ true
-digits-first n b bs m e = by_digit (is_ascii_digit b) refl
-  where
-    by_digit : (t : Bool) → is_ascii_digit b ≡ t → is_ascii_digit b ≡ true
-    by_digit true p = p
-    by_digit false p = absurd (let k = rw p at e in cc)
-
-digits-rest : (n b : ℕ) (bs : List ℕ) (m : ℕ) → digits n (b ∷ bs) ≡ Some m → digits (n * 10 + (b - 48)) bs ≡ Some m
-digits-rest n b bs m e = let p = digits-first n b bs m e in rw p at e
+use Rattle.tk_words.proofs.NumberLaws.Numbers.{digits-first, digits-rest, digits_join, natural-parts}
 
 -- one digit more
 pub digits-more : (n : ℕ) (bs : List ℕ) (m b : ℕ) → digits n bs ≡ Some m → is_ascii_digit b ≡ true
     → digits n (bs ++ b ∷ []) ≡ Some (m * 10 + (b - 48))
-digits-more n [] m b e digit = let same : n ≡ m = cc in rw (digit, same) refl
-digits-more n (c ∷ bs) m b e digit =
-    rw (digits-first n c bs m e)
-    (digits-more (n * 10 + (c - 48)) bs m b (digits-rest n c bs m e) digit)
+digits-more n bs m b e digit = digits_join n m bs (b ∷ []) e ∙ rw digit refl
 
 -- digits end no token
 pub digits-solid : (n : ℕ) (bs : List ℕ) (m : ℕ) → digits n bs ≡ Some m
@@ -67,7 +47,7 @@ digits-number n (b ∷ bs) m e = digits-number (n * 10 + (b - 48)) bs m (digits-
 pub natural-integer : (bs : List ℕ) (n : ℕ) → natural bs ≡ Some n → integer bs ≡ Some (pos n)
 natural-integer [] n e = cc
 natural-integer (b ∷ bs) n e =
-    let digit = digits-first 0 b bs n (natural-spelled (b ∷ bs) n e) in
+    let digit = digits-first 0 b bs n (natural-parts (b ∷ bs) n e).1 in
     let no_minus : eqb b 45 ≡ false = grind (arith, nat_tests) in
     let no_plus : eqb b 43 ≡ false = grind (arith, nat_tests) in
     rw (no_minus, no_plus, e) refl
@@ -81,7 +61,7 @@ whole_number w n is =
 pub natural-decimal : (bs : List ℕ) (n : ℕ) → natural bs ≡ Some n → decimal_of bs ≡ Some (pos (n * 10 ^ 9))
 natural-decimal [] n e = cc
 natural-decimal (b ∷ bs) n e =
-    let spelled = natural-spelled (b ∷ bs) n e in
+    let spelled = (natural-parts (b ∷ bs) n e).1 in
     let digit = digits-first 0 b bs n spelled in
     let no_minus : eqb b 45 ≡ false = grind (arith, nat_tests) in
     let no_plus : eqb b 43 ≡ false = grind (arith, nat_tests) in
