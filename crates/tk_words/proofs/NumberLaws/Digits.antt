@@ -2,7 +2,7 @@
 use Rattle.std.proofs.Common.{zero, of_z, ◌-ℤ◌, ℤ, neg_ℤ, leb, ◌&&◌, option_map, pos, to_z, w64, Ok, Err, eqb, Option}
 use Rattle.std.proofs.Common.{Some, None, length-append, get_or, ◌≡◌, ℕ, suc, ◌+◌, ◌-◌, ◌*◌, ◌/◌, ◌^◌, ◌<◌, ◌≤◌, List}
 use Rattle.std.proofs.Common.{[], ◌∷◌, ◌++◌, length, take, drop, min, true, All, arith, lit<, sym, ap, subst, ◌∙◌, refl}
-use Rattle.std.proofs.Common.{length-drop, cond, Bool, false, inl, inr}
+use Rattle.std.proofs.Common.{length-drop, cond, Bool, false, inl, inr, Result}
 use Rattle.std.proofs.Math.Nat.{one-le-pow, mul-le-mul_left, mul_assoc, pow-suc, mul-le-mul_right, pow-le-pow_right}
 use Rattle.std.proofs.Math.Nat.{mul-div_cancel, div-eq_of_lt, div-div-eq-div-mul}
 use Rattle.std.proofs.lemmas.Bool.{cases_lt}
@@ -230,25 +230,19 @@ abs-minus : (n : ℕ) → unsigned_abs (neg_ℤ (pos n)) ≡ n
 abs-minus zero = refl
 abs-minus (suc n) = refl
 
-minus_ok : (t : Bool) (n : ℕ) (z : ℤ) → Ok z ≡ cond t (Ok (pos n)) (Err kinds.OutOfLimit) →
-    cond t (Ok (neg_ℤ (pos n))) (Err kinds.OutOfLimit) ≡ Ok (neg_ℤ z)
-minus_ok true n z e = let same : z ≡ pos n = cc in ap (λ x. Ok (neg_ℤ x)) (sym same)
-minus_ok false n z e = cc
+-- the negative of a number, or the same fault
+abbrev pub negative : Result ℤ TextKind → Result ℤ TextKind
+negative (Ok z) = Ok (neg_ℤ z)
+negative (Err kind) = Err kind
 
-minus_err : (t : Bool) (n : ℕ) (kind : TextKind) → Err kind ≡ cond t (Ok (pos n)) (Err kinds.OutOfLimit) →
-    cond t (Ok (neg_ℤ (pos n))) (Err kinds.OutOfLimit) ≡ Err kind
-minus_err true n kind e = cc
-minus_err false n kind e = sym e
-
-limited-minus : (o : Option ℕ) (z : ℤ) → Ok z ≡ limited (option_map pos o) →
-    limited (option_map (λ n. neg_ℤ (pos n)) o) ≡ Ok (neg_ℤ z)
-limited-minus None z e = cc
-limited-minus (Some n) z e = rw (abs-minus n) (minus_ok (leb n greatest_coordinate) n z e)
-
-limited-minus_err : (o : Option ℕ) (kind : TextKind) → Err kind ≡ limited (option_map pos o) →
-    limited (option_map (λ n. neg_ℤ (pos n)) o) ≡ Err kind
-limited-minus_err None kind e = sym e
-limited-minus_err (Some n) kind e = rw (abs-minus n) (minus_err (leb n greatest_coordinate) n kind e)
+limited-minus : (o : Option ℕ) → limited (option_map (λ n. neg_ℤ (pos n)) o) ≡ negative (limited (option_map pos o))
+limited-minus None = refl
+limited-minus (Some n) = rw (abs-minus n) (by_test (leb n greatest_coordinate))
+  where
+    by_test : (t : Bool) → cond t (Ok (neg_ℤ (pos n))) (Err kinds.OutOfLimit) ≡ negative
+        (cond t (Ok (pos n)) (Err kinds.OutOfLimit))
+    by_test true = refl
+    by_test false = refl
 
 decimal_of-minus : (bs : List ℕ) → 0 < length bs → get_or bs 0 0 ≡ 45 →
     decimal_of bs ≡ option_map (λ n. neg_ℤ (pos n)) (billionths (take (length bs - 1) (drop 1 bs)))
@@ -258,17 +252,10 @@ decimal_of-minus (b ∷ bs) some minus =
     let all : take (suc (length bs) - 1) bs ≡ bs = take_all (suc (length bs) - 1) bs (omega arith) in
     rw (test, all) refl
 
-pub decimal-minus : (bs : List ℕ) (z : ℤ) → 0 < length bs → get_or bs 0 0 ≡ 45 →
-    Ok z ≡ limited (option_map pos (billionths (take (length bs - 1) (drop 1 bs)))) →
-    limited (decimal_of bs) ≡ Ok (neg_ℤ z)
-decimal-minus bs z some minus e =
-    rw (decimal_of-minus bs some minus) (limited-minus (billionths (take (length bs - 1) (drop 1 bs))) z e)
-
-pub decimal-minus_err : (bs : List ℕ) (kind : TextKind) → 0 < length bs → get_or bs 0 0 ≡ 45 →
-    Err kind ≡ limited (option_map pos (billionths (take (length bs - 1) (drop 1 bs)))) →
-    limited (decimal_of bs) ≡ Err kind
-decimal-minus_err bs kind some minus e =
-    rw (decimal_of-minus bs some minus) (limited-minus_err (billionths (take (length bs - 1) (drop 1 bs))) kind e)
+pub decimal-minus : (bs : List ℕ) (r : Result ℤ TextKind) → 0 < length bs → get_or bs 0 0 ≡ 45 →
+    r ≡ limited (option_map pos (billionths (take (length bs - 1) (drop 1 bs)))) → limited (decimal_of bs) ≡ negative r
+decimal-minus bs r some minus e = ap limited (decimal_of-minus bs some minus)
+    ∙ limited-minus (billionths (take (length bs - 1) (drop 1 bs))) ∙ ap negative (sym e)
 
 -- what the code's negation gives
 zero-sub : (z : ℤ) → pos 0 -ℤ z ≡ neg_ℤ z
