@@ -1,6 +1,6 @@
 -- The order of explicit weights, line by line.
-use Rattle.std.proofs.Common.{Bool, true, false, ltb, leb, ◌≡◌, ℕ, zero, suc, ◌+◌, ◌-◌, ◌<◌, ◌≤◌, List, [], ◌∷◌, ◌++◌}
-use Rattle.std.proofs.Common.{map, arith, ap, ◌∙◌, refl, drop, length, sym}
+use Rattle.std.proofs.Common.{Bool, true, false, ltb, leb, ◌&&◌, ◌≡◌, ℕ, zero, suc, ◌+◌, ◌-◌, ◌<◌, ◌≤◌, List, [], ◌∷◌}
+use Rattle.std.proofs.Common.{◌++◌, map, arith, ap, ◌∙◌, refl, drop, length, sym}
 use Rattle.std.specs.List.{range_with_len, flat_map, filter}
 use Rattle.std.proofs.lemmas.List.{append-nil}
 use Rattle.std.proofs.lemmas.List.Elements.{filter-append}
@@ -76,33 +76,24 @@ split h s (suc c) d =
     let f : s + suc c ≡ s + 1 + c = omega arith in
     rw (e, f) (ap (λ ps. h s ∷ ps) (split h (s + 1) c d))
 
-filter_split : (h : ℕ → Place) (p : Place → Bool) (a n : ℕ) → a ≤ n
-    → filter p (map h (range_with_len 0 n)) ≡ filter p (map h (range_with_len 0 a))
-    ++ filter p (map h (range_with_len a (n - a)))
-filter_split h p a n within =
-    let parts : n ≡ a + (n - a) = omega arith in
+filter_split : (h : ℕ → Place) (p : Place → Bool) (s c d : ℕ) → filter p (map h (range_with_len s (c + d))) ≡ filter
+    p (map h (range_with_len s c)) ++ filter p (map h (range_with_len (s + c) d))
+filter_split h p s c d = ap (filter p) (split h s c d)
+    ∙ filter-append p (map h (range_with_len s c)) (map h (range_with_len (s + c) d))
+
+filter_between : (h : ℕ → Place) (p : Place → Bool) (a b n : ℕ) → a ≤ b → b ≤ n
+    → ((m : ℕ) → m < n → p (h m) ≡ (leb a m && ltb m b))
+    → filter p (map h (range_with_len 0 n)) ≡ map h (range_with_len a (b - a))
+filter_between h p a b n some within is =
+    let parts : n ≡ a + (b - a + (n - b)) = omega arith in
     let start : 0 + a ≡ a = omega arith in
-    ap (λ k. filter p (map h (range_with_len 0 k))) parts ∙ ap (filter p) (split h 0 a (n - a))
-    ∙ filter-append p (map h (range_with_len 0 a)) (map h (range_with_len (0 + a) (n - a)))
-    ∙ ap (λ k. filter p (map h (range_with_len 0 a)) ++ filter p (map h (range_with_len k (n - a)))) start
-
-filter_rest : (h : ℕ → Place) (p : Place → Bool) (a n : ℕ) → a ≤ n → ((m : ℕ) → m < a → p (h m) ≡ false)
-    → ((m : ℕ) → a ≤ m → p (h m) ≡ true)
-    → filter p (map h (range_with_len 0 n)) ≡ map h (range_with_len a (n - a))
-filter_rest h p a n within left kept =
-    filter_split h p a n within
-    ∙ ap (λ ps. ps ++ filter p (map h (range_with_len a (n - a))))
-    (filter_none h p 0 a (λ m _ less. left m (omega arith)))
-    ∙ filter_all h p a (n - a) (λ m more _. kept m more)
-
-filter_front : (h : ℕ → Place) (p : Place → Bool) (a n : ℕ) → a ≤ n → ((m : ℕ) → m < a → p (h m) ≡ true)
-    → ((m : ℕ) → a ≤ m → p (h m) ≡ false)
-    → filter p (map h (range_with_len 0 n)) ≡ map h (range_with_len 0 (a - 0))
-filter_front h p a n within kept left =
-    filter_split h p a n within
-    ∙ ap (λ ps. filter p (map h (range_with_len 0 a)) ++ ps) (filter_none h p a (n - a) (λ m more _. left m more))
-    ∙ append-nil (filter p (map h (range_with_len 0 a))) ∙ filter_all h p 0 a (λ m _ less. kept m (omega arith))
-    ∙ ap (λ c. map h (range_with_len 0 c)) (omega arith)
+    let before = filter_none h p 0 a (λ m _ less. is m (omega arith) ∙ grind (arith, nat_tests)) in
+    let among = filter_all h p a (b - a) (λ m more less. is m (omega arith) ∙ grind (arith, nat_tests)) in
+    let after = filter_none h p (a + (b - a)) (n - b)
+    (λ m more less. is m (omega arith) ∙ grind (arith, nat_tests)) in
+    ap (λ c. filter p (map h (range_with_len 0 c))) parts ∙ filter_split h p 0 a (b - a + (n - b))
+    ∙ rw (start, before, filter_split h p a (b - a) (n - b), among, after)
+    (append-nil (map h (range_with_len a (b - a))))
 
 -- lines of all places, and those of a format
 filter-flat_map : (p : Place → Bool) (g : ℕ → List Place) (ks : List ℕ) →
@@ -117,47 +108,33 @@ same_lines g h s zero same = refl
 same_lines g h s (suc c) same = ap (λ ps. ps ++ flat_map g (range_with_len (s + 1) c)) (same s (omega arith))
     ∙ ap (λ ps. h s ++ ps) (same_lines g h (s + 1) c (λ k less. same k (omega arith)))
 
-rest_lines : (h : ℕ → ℕ → Place) (p : Place → Bool) (a : ℕ → ℕ) (n : ℕ) → ((k : ℕ) → k < n → a k ≤ n)
-    → ((k m : ℕ) → m < a k → p (h k m) ≡ false) → ((k m : ℕ) → a k ≤ m → p (h k m) ≡ true)
-    → filter p (flat_map (λ k. map (h k) (range_with_len 0 n)) (range_with_len 0 n)) ≡ flat_map
-    (λ k. map (h k) (range_with_len (a k) (n - a k))) (range_with_len 0 n)
-rest_lines h p a n within left kept =
-    filter-flat_map p (λ k. map (h k) (range_with_len 0 n)) (range_with_len 0 n)
-    ∙ same_lines (λ k. filter p (map (h k) (range_with_len 0 n))) (λ k. map (h k) (range_with_len (a k) (n - a k))) 0 n
-    (λ k less. filter_rest (h k) p (a k) n (within k (omega arith)) (left k) (kept k))
+lines_within : (f : Format) (n k : ℕ) → k < n → (first_item f k ≤ end_item f n k) × (end_item f n k ≤ n)
+lines_within FullMatrix n k less = (omega arith, omega arith)
+lines_within _ n k less = (omega arith, omega arith)
 
-front_lines : (h : ℕ → ℕ → Place) (p : Place → Bool) (a : ℕ → ℕ) (n : ℕ) → ((k : ℕ) → k < n → a k ≤ n)
-    → ((k m : ℕ) → m < a k → p (h k m) ≡ true) → ((k m : ℕ) → a k ≤ m → p (h k m) ≡ false)
-    → filter p (flat_map (λ k. map (h k) (range_with_len 0 n)) (range_with_len 0 n)) ≡ flat_map
-    (λ k. map (h k) (range_with_len 0 (a k - 0))) (range_with_len 0 n)
-front_lines h p a n within kept left =
-    filter-flat_map p (λ k. map (h k) (range_with_len 0 n)) (range_with_len 0 n)
-    ∙ same_lines (λ k. filter p (map (h k) (range_with_len 0 n))) (λ k. map (h k) (range_with_len 0 (a k - 0))) 0 n
-    (λ k less. filter_front (h k) p (a k) n (within k (omega arith)) (kept k) (left k))
+kept_lines : (f : Format) (p : Place → Bool) (n : ℕ)
+    → ((k m : ℕ) → m < n → p (place_on f k m) ≡ (leb (first_item f k) m && ltb m (end_item f n k)))
+    → filter p (flat_map (λ k. map (place_on f k) (range_with_len 0 n)) (range_with_len 0 n)) ≡ weight_lines f n 0 n
+kept_lines f p n is =
+    filter-flat_map p (λ k. map (place_on f k) (range_with_len 0 n)) (range_with_len 0 n)
+    ∙ same_lines (λ k. filter p (map (place_on f k) (range_with_len 0 n)))
+    (λ k. items f k (first_item f k) (end_item f n k)) 0 n (λ k less.
+    let within = lines_within f n k (omega arith) in
+    filter_between (place_on f k) p (first_item f k) (end_item f n k) n within.0 within.1 (is k))
 
 -- the walk by lines is the order
 pub order-lines : (f : Format) (n : ℕ) → order f n ≡ weight_lines f n 0 n
 order-lines FullMatrix n =
     same_lines (λ i. map (λ j. place i j) (range_with_len 0 n)) (λ i. map (λ j. place i j) (range_with_len 0 (n - 0))) 0
     n (λ k less. ap (λ c. map (λ j. place k j) (range_with_len 0 c)) (omega arith))
-order-lines UpperRow n = rest_lines (λ i j. place i j) (λ p. ltb p.row p.column) (λ i. i + 1) n (λ k h. omega arith)
-    (λ k m h. grind (arith, nat_tests)) (λ k m h. grind (arith, nat_tests))
-order-lines LowerRow n = front_lines (λ i j. place i j) (λ p. ltb p.column p.row) (λ i. i) n (λ k h. omega arith)
-    (λ k m h. grind (arith, nat_tests)) (λ k m h. grind (arith, nat_tests))
-order-lines UpperDiagRow n = rest_lines (λ i j. place i j) (λ p. leb p.row p.column) (λ i. i) n (λ k h. omega arith)
-    (λ k m h. grind (arith, nat_tests)) (λ k m h. grind (arith, nat_tests))
-order-lines LowerDiagRow n =
-    front_lines (λ i j. place i j) (λ p. leb p.column p.row) (λ i. i + 1) n (λ k h. omega arith)
-    (λ k m h. grind (arith, nat_tests)) (λ k m h. grind (arith, nat_tests))
-order-lines UpperCol n = front_lines (λ j i. place i j) (λ p. ltb p.row p.column) (λ j. j) n (λ k h. omega arith)
-    (λ k m h. grind (arith, nat_tests)) (λ k m h. grind (arith, nat_tests))
-order-lines LowerCol n = rest_lines (λ j i. place i j) (λ p. ltb p.column p.row) (λ j. j + 1) n (λ k h. omega arith)
-    (λ k m h. grind (arith, nat_tests)) (λ k m h. grind (arith, nat_tests))
-order-lines UpperDiagCol n =
-    front_lines (λ j i. place i j) (λ p. leb p.row p.column) (λ j. j + 1) n (λ k h. omega arith)
-    (λ k m h. grind (arith, nat_tests)) (λ k m h. grind (arith, nat_tests))
-order-lines LowerDiagCol n = rest_lines (λ j i. place i j) (λ p. leb p.column p.row) (λ j. j) n (λ k h. omega arith)
-    (λ k m h. grind (arith, nat_tests)) (λ k m h. grind (arith, nat_tests))
+order-lines UpperRow n = kept_lines UpperRow (λ p. ltb p.row p.column) n (λ k m less. grind (arith, nat_tests))
+order-lines LowerRow n = kept_lines LowerRow (λ p. ltb p.column p.row) n (λ k m less. grind (arith, nat_tests))
+order-lines UpperDiagRow n = kept_lines UpperDiagRow (λ p. leb p.row p.column) n (λ k m less. grind (arith, nat_tests))
+order-lines LowerDiagRow n = kept_lines LowerDiagRow (λ p. leb p.column p.row) n (λ k m less. grind (arith, nat_tests))
+order-lines UpperCol n = kept_lines UpperCol (λ p. ltb p.row p.column) n (λ k m less. grind (arith, nat_tests))
+order-lines LowerCol n = kept_lines LowerCol (λ p. ltb p.column p.row) n (λ k m less. grind (arith, nat_tests))
+order-lines UpperDiagCol n = kept_lines UpperDiagCol (λ p. leb p.row p.column) n (λ k m less. grind (arith, nat_tests))
+order-lines LowerDiagCol n = kept_lines LowerDiagCol (λ p. leb p.column p.row) n (λ k m less. grind (arith, nat_tests))
 
 pub order-lines_rest : (f : Format) (n : ℕ) → order f n ≡ weight_lines f n 0 (n - 0)
 order-lines_rest f n = order-lines f n ∙ ap (weight_lines f n 0) (omega arith)
