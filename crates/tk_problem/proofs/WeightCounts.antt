@@ -68,9 +68,12 @@ total_two v (suc c) i j less inside one_i one_j none = elim (cases_eq c i) as (�
   | inr apart ↦ omega (arith, total_two v c i j less (omega arith) one_i one_j none, none c apart (λ e. omega arith))
 ]
 
-same_total : (v w : ℕ → ℕ) (c : ℕ) → ((k : ℕ) → v k ≡ w k) → total v c ≡ total w c
-same_total v w zero each = refl
-same_total v w (suc c) each = omega (arith, same_total v w c each, each c)
+-- what lines add up to, step by step
+total_is : (v a b : ℕ → ℕ) (c : ℕ) → a 0 ≡ b 0 → ((k : ℕ) → k < c → v k + a (suc k) + b k ≡ a k + b (suc k)) →
+    total v c + a c ≡ b c
+total_is v a b zero start step = omega (arith, start)
+total_is v a b (suc c) start step =
+    omega (arith, total_is v a b c start (λ k less. step k (omega arith)), step c (omega arith))
 
 -- ---- how many entries
 
@@ -79,48 +82,34 @@ twice_pairs zero = refl
 twice_pairs (suc n) = let e : suc n * suc n ≡ n * n + n + n + 1 = omega arith in
     omega (arith, e, twice_pairs n, pairs-suc n)
 
-total_full : (v : ℕ → ℕ) (n c : ℕ) → ((k : ℕ) → v k ≡ n) → total v c ≡ c * n
-total_full v n zero each = omega arith
-total_full v n (suc c) each = let e : suc c * n ≡ c * n + n = omega arith in
-    omega (arith, e, total_full v n c each, each c)
-
-total_below_diagonal : (v : ℕ → ℕ) (c : ℕ) → ((k : ℕ) → v k ≡ k) → total v c ≡ pairs c
-total_below_diagonal v zero each = refl
-total_below_diagonal v (suc c) each = omega (arith, total_below_diagonal v c each, pairs-suc c, each c)
-
-total_to_diagonal : (v : ℕ → ℕ) (c : ℕ) → ((k : ℕ) → v k ≡ k + 1) → total v c ≡ pairs c + c
-total_to_diagonal v zero each = refl
-total_to_diagonal v (suc c) each = omega (arith, total_to_diagonal v c each, pairs-suc c, each c)
-
-total_behind : (v : ℕ → ℕ) (n c : ℕ) → c ≤ n → ((k : ℕ) → v k ≡ n - (k + 1)) → total v c + pairs c + c ≡ c * n
-total_behind v n zero within each = omega arith
-total_behind v n (suc c) within each = let e : suc c * n ≡ c * n + n = omega arith in
-    omega (arith, e, total_behind v n c (omega arith) each, pairs-suc c, each c)
-
-total_from_diagonal : (v : ℕ → ℕ) (n c : ℕ) → c ≤ n → ((k : ℕ) → v k ≡ n - k) → total v c + pairs c ≡ c * n
-total_from_diagonal v n zero within each = omega arith
-total_from_diagonal v n (suc c) within each = let e : suc c * n ≡ c * n + n = omega arith in
-    omega (arith, e, total_from_diagonal v n c (omega arith) each, pairs-suc c, each c)
-
--- an order of lines with these numbers of entries
-length-order_total : (f : Format) (n : ℕ) (v : ℕ → ℕ) → ((k : ℕ) → end_item f n k - first_item f k ≡ v k) →
-    length (order f n) ≡ total v n
-length-order_total f n v each =
-    ap length (order-lines f n) ∙ length-lines (λ k. items f k (first_item f k) (end_item f n k)) n
-    ∙ same_total (λ k. length (items f k (first_item f k) (end_item f n k))) v n
-    (λ k. length-map-range_with_len (place_on f k) (first_item f k) (end_item f n k - first_item f k) ∙ each k)
+-- an order, by the numbers of entries of its lines
+order_is : (f : Format) (n : ℕ) (a b : ℕ → ℕ) → a 0 ≡ b 0
+    → ((k : ℕ) → k < n → end_item f n k - first_item f k + a (suc k) + b k ≡ a k + b (suc k))
+    → length (order f n) + a n ≡ b n
+order_is f n a b start step =
+    let lines = ap length (order-lines f n) ∙ length-lines (λ k. items f k (first_item f k) (end_item f n k)) n in
+    let all = total_is (λ k. length (items f k (first_item f k) (end_item f n k))) a b n start (λ k less.
+    omega (arith, step k less,
+    length-map-range_with_len (place_on f k) (first_item f k) (end_item f n k - first_item f k))) in
+    omega (arith, lines, all)
 
 -- rows or columns of these forms
 full_count : (f : Format) (n : ℕ) → ((k : ℕ) → end_item f n k - first_item f k ≡ n) → length (order f n) ≡ n * n
-full_count f n each = length-order_total f n (λ k. n) each ∙ total_full (λ k. n) n n (λ k. refl)
+full_count f n each =
+    let all = order_is f n (λ c. 0) (λ c. c * n) (omega arith) (λ k less.
+    let e : suc k * n ≡ k * n + n = omega arith in omega (arith, e, each k)) in
+    omega (arith, all)
 
 below_count : (f : Format) (n : ℕ) → ((k : ℕ) → end_item f n k - first_item f k ≡ k) → length (order f n) ≡ pairs n
-below_count f n each = length-order_total f n (λ k. k) each ∙ total_below_diagonal (λ k. k) n (λ k. refl)
+below_count f n each =
+    let all = order_is f n (λ c. 0) pairs refl (λ k less. omega (arith, pairs-suc k, each k)) in omega (arith, all)
 
 behind_count : (f : Format) (n : ℕ) → ((k : ℕ) → end_item f n k - first_item f k ≡ n - (k + 1)) →
     length (order f n) ≡ pairs n
-behind_count f n each = length-order_total f n (λ k. n - (k + 1)) each
-    ∙ omega (arith, total_behind (λ k. n - (k + 1)) n n (omega arith) (λ k. refl), twice_pairs n)
+behind_count f n each =
+    let all = order_is f n (λ c. pairs c + c) (λ c. c * n) (omega arith) (λ k less.
+    let e : suc k * n ≡ k * n + n = omega arith in omega (arith, e, pairs-suc k, each k)) in
+    omega (arith, all, twice_pairs n)
 
 with_diagonal : (n : ℕ) → pairs n + n ≡ n * (n + 1) / 2
 with_diagonal n =
@@ -129,13 +118,16 @@ with_diagonal n =
 
 to_diagonal_count : (f : Format) (n : ℕ) → ((k : ℕ) → end_item f n k - first_item f k ≡ k + 1) →
     length (order f n) ≡ n * (n + 1) / 2
-to_diagonal_count f n each = length-order_total f n (λ k. k + 1) each ∙ total_to_diagonal (λ k. k + 1) n (λ k. refl)
-    ∙ with_diagonal n
+to_diagonal_count f n each =
+    let all = order_is f n (λ c. 0) (λ c. pairs c + c) refl (λ k less. omega (arith, pairs-suc k, each k)) in
+    omega (arith, all) ∙ with_diagonal n
 
 from_diagonal_count : (f : Format) (n : ℕ) → ((k : ℕ) → end_item f n k - first_item f k ≡ n - k) →
     length (order f n) ≡ n * (n + 1) / 2
-from_diagonal_count f n each = length-order_total f n (λ k. n - k) each
-    ∙ omega (arith, total_from_diagonal (λ k. n - k) n n (omega arith) (λ k. refl), twice_pairs n) ∙ with_diagonal n
+from_diagonal_count f n each =
+    let all = order_is f n pairs (λ c. c * n) (omega arith) (λ k less.
+    let e : suc k * n ≡ k * n + n = omega arith in omega (arith, e, pairs-suc k, each k)) in
+    omega (arith, all, twice_pairs n) ∙ with_diagonal n
 
 pub length-order : (f : Format) (n : ℕ) → length (order f n) ≡ entry_count f n
 length-order FullMatrix n = full_count FullMatrix n (λ k. omega arith)
@@ -187,15 +179,11 @@ in_column : (i j k m : ℕ) → is_of i j (place m k) ≡ is_of i j (place k m)
 in_column i j k m = grind (arith, nat_tests)
 
 in_line : (f : Format) (i j k m : ℕ) → is_of i j (place_on f k m) ≡ is_of i j (place k m)
-in_line FullMatrix i j k m = refl
-in_line UpperRow i j k m = refl
-in_line LowerRow i j k m = refl
-in_line UpperDiagRow i j k m = refl
-in_line LowerDiagRow i j k m = refl
 in_line UpperCol i j k m = in_column i j k m
 in_line LowerCol i j k m = in_column i j k m
 in_line UpperDiagCol i j k m = in_column i j k m
 in_line LowerDiagCol i j k m = in_column i j k m
+in_line _ i j k m = refl
 
 abbrev count_in : Format → ℕ → ℕ → ℕ → ℕ → ℕ
 count_in f n i j k = count_by (is_of i j) (items f k (first_item f k) (end_item f n k))
@@ -230,31 +218,29 @@ count-order : (f : Format) (n i j : ℕ) → count_by (is_of i j) (order f n) �
 count-order f n i j = ap (count_by (is_of i j)) (order-lines f n)
     ∙ count-lines (is_of i j) (λ k. items f k (first_item f k) (end_item f n k)) n
 
--- the pair stands in line j alone
+-- the pair stands in line r alone, of the two lines r and s
+once : (f : Format) (n i j r s : ℕ) → r < n → count_in f n i j r ≡ 1 → count_in f n i j s ≡ 0 →
+    ((k : ℕ) → k ≢ r → k ≢ s → count_in f n i j k ≡ 0) → count_by (is_of i j) (order f n) ≡ 1
+once f n i j r s inside here not_s others =
+    count-order f n i j
+    ∙ total_one (count_in f n i j) n r inside here
+    (λ k _ apart. elim (cases_eq k s) as (λ _. count_in f n i j k ≡ 0) [
+      | inl same ↦ ap (count_in f n i j) same ∙ not_s
+      | inr apart_s ↦ others k apart apart_s
+    ])
+
 once_in_j : (f : Format) (n i j : ℕ) → j < i → i < n → first_item f j ≤ i → i < end_item f n j → j < first_item f i →
     count_by (is_of i j) (order f n) ≡ 1
 once_in_j f n i j less inside low high behind =
-    let here = hit f n i j j i (λ m. in_line_j i j m less) low high in
-    let not_i = miss f n i j i j (λ m. in_line_i i j m less) (λ m from _ e. omega arith) in
-    count-order f n i j
-    ∙ total_one (count_in f n i j) n j (omega arith) here
-    (λ k _ apart. elim (cases_eq k i) as (λ _. count_in f n i j k ≡ 0) [
-      | inl same ↦ ap (count_in f n i j) same ∙ not_i
-      | inr apart_i ↦ other f n i j k apart_i apart
-    ])
+    once f n i j j i (omega arith) (hit f n i j j i (λ m. in_line_j i j m less) low high)
+    (miss f n i j i j (λ m. in_line_i i j m less) (λ m from _ e. omega arith)) (λ k apart_j apart_i.
+    other f n i j k apart_i apart_j)
 
--- the pair stands in line i alone
 once_in_i : (f : Format) (n i j : ℕ) → j < i → i < n → first_item f i ≤ j → j < end_item f n i → end_item f n j ≤ i →
     count_by (is_of i j) (order f n) ≡ 1
 once_in_i f n i j less inside low high before =
-    let here = hit f n i j i j (λ m. in_line_i i j m less) low high in
-    let not_j = miss f n i j j i (λ m. in_line_j i j m less) (λ m _ to e. omega arith) in
-    count-order f n i j
-    ∙ total_one (count_in f n i j) n i inside here
-    (λ k _ apart. elim (cases_eq k j) as (λ _. count_in f n i j k ≡ 0) [
-      | inl same ↦ ap (count_in f n i j) same ∙ not_j
-      | inr apart_j ↦ other f n i j k apart apart_j
-    ])
+    once f n i j i j inside (hit f n i j i j (λ m. in_line_i i j m less) low high)
+    (miss f n i j j i (λ m. in_line_j i j m less) (λ m _ to e. omega arith)) (other f n i j)
 
 pub pair-order : (f : Format) (n i j : ℕ) → j < i → i < n → count_by (is_of i j) (order f n) ≡ times_written f
 pair-order FullMatrix n i j less inside =
