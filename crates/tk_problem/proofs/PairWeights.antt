@@ -6,6 +6,7 @@ use Rattle.std.specs.List.{range_with_len, flat_map}
 use Rattle.std.proofs.lemmas.List.Elements.{All-nil, All-cons, All-append, All-filter}
 use Rattle.std.proofs.lemmas.Bool.{cases_lt, false≢true}
 use Rattle.std.proofs.lemmas.Bool.Decides.{nat_tests}
+use Rattle.std.proofs.Math.Bool.{or_comm}
 use Rattle.std.proofs.lemmas.List.{get_or-map, get_or-set_same, get_or-set_other, get_or-replicate, length-replicate}
 use Rattle.std.proofs.lemmas.List.{length-map, ext_get_or}
 use Rattle.std.proofs.lemmas.List.Sums.{fold_push}
@@ -23,11 +24,8 @@ use Rattle.tk_problem.proofs.Triangle.{get_or-lower, place-lower}
 pub two_ways : (a b c d : Bool) → (a && b || c && d) ≡ true → ((a ≡ true) × (b ≡ true)) ⊎ ((c ≡ true) × (d ≡ true))
 two_ways true true c d e = inl (refl, refl)
 two_ways true false true true e = inr (refl, refl)
-two_ways true false true false e = cc
-two_ways true false false d e = cc
 two_ways false b true true e = inr (refl, refl)
-two_ways false b true false e = cc
-two_ways false b false d e = cc
+two_ways _ _ _ _ e = cc
 
 pub same_number : (a b : ℕ) → eqb a b ≡ true → a ≡ b
 same_number a b e = grind (arith, nat_tests)
@@ -129,12 +127,6 @@ lower_of-none n =
     get_or-lower_of n k [] short ∙ sym (get_or-replicate (pairs n) k 0 0 short))
 
 -- the weight of a pair stands at its index
-or_comm : (a b : Bool) → (a || b) ≡ (b || a)
-or_comm true true = refl
-or_comm true false = refl
-or_comm false true = refl
-or_comm false false = refl
-
 weight_from : (w i j : ℕ) (es : List (Place × ℕ)) →
     fold (λ w e. cond (is_of i j e.0) e.1 w) w es ≡ fold (λ w e. cond (is_of j i e.0) e.1 w) w es
 weight_from w i j [] = refl

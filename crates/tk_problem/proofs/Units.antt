@@ -1,5 +1,5 @@
 -- Places in whole numbers of a unit.
-use Rattle.std.proofs.Common.{◌≡◌, ◌≢◌, false, ℤ, ◌≤◌, List, All, get_or, map, pos, ◌*ℤ◌, arith, subst, sym, ap, ◌∙◌}
+use Rattle.std.proofs.Common.{◌≡◌, ◌≢◌, false, ℤ, ◌≤◌, List, All, get_or, map, pos, ◌*ℤ◌, arith, sym, ap, ◌∙◌}
 use Rattle.std.proofs.Common.{true, ◌&&◌, int_eq, to_z, of_z, w32, w64}
 use Rattle.std.proofs.lemmas.Bool.Decides.{Decides-int_eq}
 use Rattle.std.proofs.lemmas.Bool.{and_parts, false≢true}
@@ -11,7 +11,7 @@ use Rattle.tk_problem.specs.declared.limits.TheConstants.{COORDINATE_LIMIT}
 use Rattle.tk_problem.specs.declared.point.Point.{Point}
 use Rattle.tk_problem.specs.declared.point.WholePoint.{WholePoint}
 use Rattle.tk_problem.specs.declared.unit.Unit.{Unit}
-use Rattle.tk_problem.specs.declared.unit.Unit.TheVariants.{One, Tenth, Hundredth, Thousandth}
+use Rattle.tk_problem.specs.declared.unit.Unit.TheVariants.{One}
 use Rattle.tk_problem.specs.Places.{IsNearOrigin}
 use Rattle.tk_problem.specs.Units.{place_in, step_of}
 use Rattle.tk_problem.specs.Laws.Units.{place_in-near}
@@ -24,17 +24,12 @@ product-at : (unit : Unit) (x : ℤ) → unsigned_abs x ≤ COORDINATE_LIMIT
     → to_z w64 (of_z w64 (to_z w64 (of_z w64 (to_z w32 (of_z w32 x))) *ℤ to_z w64 (of_z w64 (pos (step_of unit))))) ≡ x
     *ℤ pos (step_of unit)
 product-at One x near = omega (arith, ints, near)
-product-at Tenth x near = omega (arith, ints, near)
-product-at Hundredth x near = omega (arith, ints, near)
-product-at Thousandth x near = omega (arith, ints, near)
+product-at _ x near = omega (arith, ints, near)
 
 pub product-in : (unit : Unit) (x step : ℤ) → step ≡ pos (step_of unit) → unsigned_abs x ≤ COORDINATE_LIMIT
     → to_z w64 (of_z w64 (to_z w64 (of_z w64 (to_z w32 (of_z w32 x))) *ℤ to_z w64 (of_z w64 step))) ≡ x *ℤ pos
     (step_of unit)
-product-in unit x step is near =
-    subst (λ (s : ℤ). to_z w64 (of_z w64 (to_z w64 (of_z w64 (to_z w32 (of_z w32 x))) *ℤ to_z w64 (of_z w64 s))) ≡ x *ℤ
-    pos (step_of unit))
-    (sym is) (product-at unit x near)
+product-in unit x step is near = rw is (product-at unit x near)
 
 -- ---- points, by their coordinates
 
@@ -55,9 +50,7 @@ quotient-at : (unit : Unit) (w : ℤ) → unsigned_abs w ≤ COORDINATE_LIMIT
     (of_z w32
     (to_z w64 (of_z w64 (quot_z (to_z w64 (of_z w64 (w *ℤ pos (step_of unit)))) (pos (step_of unit)))))) ≡ w
 quotient-at One w near = omega (arith, ints, near)
-quotient-at Tenth w near = omega (arith, ints, near)
-quotient-at Hundredth w near = omega (arith, ints, near)
-quotient-at Thousandth w near = omega (arith, ints, near)
+quotient-at _ w near = omega (arith, ints, near)
 
 pub quotient-in : (unit : Unit) (x quotient w : ℤ) → w *ℤ pos (step_of unit) ≡ x
     → quotient ≡ quot_z (to_z w64 (of_z w64 x)) (pos (step_of unit)) → unsigned_abs w ≤ COORDINATE_LIMIT

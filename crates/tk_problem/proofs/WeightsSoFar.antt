@@ -79,23 +79,20 @@ so_far_push s f n ws w p h = record {
       ∙ lower_of-push n (entries f n ws) p w h.next.row h.next.column h.apart);
 }
 
-so_far_on : (s : Filling) (f : Format) (n : ℕ) (ws : List ℕ) (w : ℕ) (p : Place) → IsSoFar s f n ws → IsNext f n ws p
-    → p.row ≡ p.column
-    → IsSoFar (record { places = drop 1 s.places; weights = s.weights }) f n (ws ++ w ∷ [])
-so_far_on s f n ws w p h next on = record {
-  few = omega (arith, length_push ws w, next.inside);
-  places = places_push s f n ws w h;
-  weights = h.weights
-      ∙ sym (ap (lower_of n) (entries-push f n ws w p next) ∙ lower_of-diagonal n (entries f n ws) p w on);
-}
-
 pub so_far_skip : (s : Filling) (f : Format) (n : ℕ) (ws : List ℕ) (w : ℕ) → IsSoFar s f n ws → 0 < length s.places
     → IfSome (slice_get s.places 0) (λ p. p.row ≡ p.column)
     → IsSoFar (record { places = drop 1 s.places; weights = s.weights }) f n (ws ++ w ∷ [])
-so_far_skip s f n ws w h some on =
+so_far_skip s f n ws w h some diagonal =
     let p : Place = get_or s.places 0 origin in
     let first : slice_get s.places 0 ≡ Some p = slice_get-get_or s.places 0 origin some in
-    so_far_on s f n ws w p h (next_place s f n ws p h first) (subst (λ o. IfSome o (λ q. q.row ≡ q.column)) first on)
+    let next = next_place s f n ws p h first in
+    let on : p.row ≡ p.column = subst (λ o. IfSome o (λ q. q.row ≡ q.column)) first diagonal in
+    record {
+      few = omega (arith, length_push ws w, next.inside);
+      places = places_push s f n ws w h;
+      weights = h.weights
+          ∙ sym (ap (lower_of n) (entries-push f n ws w p next) ∙ lower_of-diagonal n (entries f n ws) p w on);
+    }
 
 weight_so_far : (s : Filling) (f : Format) (n : ℕ) (ws : List ℕ) (p : Place) → IsNextPair s f n ws p
     → get_or s.weights (lower_index p) 0 ≡ weight_of p.row p.column (entries f n ws)
