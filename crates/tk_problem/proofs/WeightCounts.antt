@@ -2,7 +2,7 @@
 use Rattle.std.proofs.Common.{◌≡◌, ◌≢◌, ℕ, zero, suc, ◌+◌, ◌-◌, ◌*◌, ◌/◌, ◌<◌, ◌≤◌, Bool, true, false, cond, eqb, List}
 use Rattle.std.proofs.Common.{[], ◌∷◌, ◌++◌, length, map, arith, sym, ap, ◌∙◌, refl, inl, inr, length-append}
 use Rattle.std.specs.List.{range_with_len, flat_map, count_by}
-use Rattle.std.proofs.lemmas.Bool.{cases_eq}
+use Rattle.std.proofs.lemmas.Bool.{cases_eq, eq-eqb, ne_eqb}
 use Rattle.std.proofs.lemmas.Bool.Decides.{nat_tests}
 use Rattle.std.proofs.lemmas.List.{append-nil}
 use Rattle.std.proofs.lemmas.List.Concat.{flat_map-append}
@@ -79,8 +79,7 @@ total_is v a b (suc c) start step =
 
 twice_pairs : (n : ℕ) → pairs n + pairs n + n ≡ n * n
 twice_pairs zero = refl
-twice_pairs (suc n) = let e : suc n * suc n ≡ n * n + n + n + 1 = omega arith in
-    omega (arith, e, twice_pairs n, pairs-suc n)
+twice_pairs (suc n) = omega (arith, twice_pairs n, pairs-suc n)
 
 -- an order, by the numbers of entries of its lines
 order_is : (f : Format) (n : ℕ) (a b : ℕ → ℕ) → a 0 ≡ b 0
@@ -96,9 +95,7 @@ order_is f n a b start step =
 -- rows or columns of these forms
 full_count : (f : Format) (n : ℕ) → ((k : ℕ) → end_item f n k - first_item f k ≡ n) → length (order f n) ≡ n * n
 full_count f n each =
-    let all = order_is f n (λ c. 0) (λ c. c * n) (omega arith) (λ k less.
-    let e : suc k * n ≡ k * n + n = omega arith in omega (arith, e, each k)) in
-    omega (arith, all)
+    let all = order_is f n (λ c. 0) (λ c. c * n) (omega arith) (λ k less. omega (arith, each k)) in omega (arith, all)
 
 below_count : (f : Format) (n : ℕ) → ((k : ℕ) → end_item f n k - first_item f k ≡ k) → length (order f n) ≡ pairs n
 below_count f n each =
@@ -108,7 +105,7 @@ behind_count : (f : Format) (n : ℕ) → ((k : ℕ) → end_item f n k - first_
     length (order f n) ≡ pairs n
 behind_count f n each =
     let all = order_is f n (λ c. pairs c + c) (λ c. c * n) (omega arith) (λ k less.
-    let e : suc k * n ≡ k * n + n = omega arith in omega (arith, e, pairs-suc k, each k)) in
+    omega (arith, pairs-suc k, each k)) in
     omega (arith, all, twice_pairs n)
 
 with_diagonal : (n : ℕ) → pairs n + n ≡ n * (n + 1) / 2
@@ -125,8 +122,7 @@ to_diagonal_count f n each =
 from_diagonal_count : (f : Format) (n : ℕ) → ((k : ℕ) → end_item f n k - first_item f k ≡ n - k) →
     length (order f n) ≡ n * (n + 1) / 2
 from_diagonal_count f n each =
-    let all = order_is f n pairs (λ c. c * n) (omega arith) (λ k less.
-    let e : suc k * n ≡ k * n + n = omega arith in omega (arith, e, pairs-suc k, each k)) in
+    let all = order_is f n pairs (λ c. c * n) (omega arith) (λ k less. omega (arith, pairs-suc k, each k)) in
     omega (arith, all, twice_pairs n) ∙ with_diagonal n
 
 pub length-order : (f : Format) (n : ℕ) → length (order f n) ≡ entry_count f n
@@ -192,22 +188,16 @@ count_in f n i j k = count_by (is_of i j) (items f k (first_item f k) (end_item 
 abbrev IsAt : ℕ → ℕ → ℕ → ℕ → Type 0
 IsAt i j k t = (m : ℕ) → is_of i j (place k m) ≡ eqb m t
 
-eqb_apart : (m t : ℕ) → m ≢ t → eqb m t ≡ false
-eqb_apart m t apart = grind (arith, nat_tests)
-
-eqb_self : (t : ℕ) → eqb t t ≡ true
-eqb_self t = grind (arith, nat_tests)
-
 hit : (f : Format) (n i j k t : ℕ) → IsAt i j k t → first_item f k ≤ t → t < end_item f n k → count_in f n i j k ≡ 1
 hit f n i j k t at low high =
     count_one (is_of i j) (place_on f k) (first_item f k) (end_item f n k - first_item f k) t low (omega arith)
-    (in_line f i j k t ∙ at t ∙ eqb_self t) (λ m apart. in_line f i j k m ∙ at m ∙ eqb_apart m t apart)
+    (in_line f i j k t ∙ at t ∙ eq-eqb t t refl) (λ m apart. in_line f i j k m ∙ at m ∙ ne_eqb m t apart)
 
 miss : (f : Format) (n i j k t : ℕ) → IsAt i j k t → ((m : ℕ) → first_item f k ≤ m → m < end_item f n k → m ≢ t) →
     count_in f n i j k ≡ 0
 miss f n i j k t at apart =
     count_none (is_of i j) (place_on f k) (first_item f k) (end_item f n k - first_item f k)
-    (λ m low high. in_line f i j k m ∙ at m ∙ eqb_apart m t (apart m low (omega arith)))
+    (λ m low high. in_line f i j k m ∙ at m ∙ ne_eqb m t (apart m low (omega arith)))
 
 other : (f : Format) (n i j k : ℕ) → k ≢ i → k ≢ j → count_in f n i j k ≡ 0
 other f n i j k apart_i apart_j =
