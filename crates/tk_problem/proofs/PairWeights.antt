@@ -1,21 +1,22 @@
 -- The weights of all pairs, as their entries come one by one.
-use Rattle.std.proofs.Common.{◌≡◌, ◌≢◌, ℕ, zero, suc, ◌+◌, ◌<◌, Bool, true, false, ◌&&◌, ◌||◌, cond, eqb, ltb, leb}
+use Rattle.std.proofs.Common.{◌≡◌, ◌≢◌, ℕ, zero, suc, ◌+◌, ◌-◌, ◌<◌, Bool, true, false, ◌&&◌, ◌||◌, cond, eqb}
 use Rattle.std.proofs.Common.{List, [], ◌∷◌, ◌++◌, length, get_or, set, map, replicate, All, arith, sym, ap, ◌∙◌, refl}
-use Rattle.std.proofs.Common.{inl, inr, ◌⊎◌, length-set, fold}
+use Rattle.std.proofs.Common.{subst, inl, inr, ◌⊎◌, length-set, fold}
 use Rattle.std.specs.List.{range_with_len, flat_map}
-use Rattle.std.proofs.lemmas.List.Elements.{All-nil, All-cons, All-append, All-filter}
+use Rattle.std.proofs.lemmas.List.Elements.{All-nil, All-cons, All-append}
 use Rattle.std.proofs.lemmas.Bool.{cases_lt, false≢true}
 use Rattle.std.proofs.lemmas.Bool.Decides.{nat_tests}
 use Rattle.std.proofs.Math.Bool.{or_comm}
+use Rattle.std.proofs.Math.Path.{fun_ext}
+use Rattle.tk_problem.specs.WeightLines.{first_item, end_item, place_on, items}
+use Rattle.tk_problem.proofs.WeightLines.{lines_within, order-lines}
 use Rattle.std.proofs.lemmas.List.{get_or-map, get_or-set_same, get_or-set_other, get_or-replicate, length-replicate}
 use Rattle.std.proofs.lemmas.List.{length-map, ext_get_or}
 use Rattle.std.proofs.lemmas.List.Sums.{fold_push}
 use Rattle.tk_problem.specs.declared.place.Place.{Place}
 use Rattle.tk_problem.specs.declared.weights.Format.{Format}
-use Rattle.tk_problem.specs.declared.weights.Format.TheVariants.{FullMatrix, UpperRow, LowerRow, UpperDiagRow}
-use Rattle.tk_problem.specs.declared.weights.Format.TheVariants.{LowerDiagRow, UpperCol, LowerCol, UpperDiagCol}
-use Rattle.tk_problem.specs.declared.weights.Format.TheVariants.{LowerDiagCol}
-use Rattle.tk_problem.specs.WeightOrder.{by_rows, by_columns, place, order, is_of, weight_of, lower_of, lower_index}
+use Rattle.tk_problem.specs.declared.weights.Format.TheVariants.{FullMatrix, LowerRow}
+use Rattle.tk_problem.specs.WeightOrder.{place, order, is_of, weight_of, lower_of, lower_index}
 use Rattle.tk_problem.proofs.Triangle.{pairs, pairs-below, lower_index-below, lower_index-above, length-lower}
 use Rattle.tk_problem.proofs.Triangle.{get_or-lower, place-lower}
 
@@ -127,14 +128,9 @@ lower_of-none n =
     get_or-lower_of n k [] short ∙ sym (get_or-replicate (pairs n) k 0 0 short))
 
 -- the weight of a pair stands at its index
-weight_from : (w i j : ℕ) (es : List (Place × ℕ)) →
-    fold (λ w e. cond (is_of i j e.0) e.1 w) w es ≡ fold (λ w e. cond (is_of j i e.0) e.1 w) w es
-weight_from w i j [] = refl
-weight_from w i j (e ∷ es) =
-    let p : Place = e.0 in
-    let same : is_of i j p ≡ is_of j i p = or_comm (eqb p.row i && eqb p.column j) (eqb p.row j && eqb p.column i) in
-    ap (λ t. fold (λ w e. cond (is_of i j e.0) e.1 w) (cond t e.1 w) es) same
-    ∙ weight_from (cond (is_of j i p) e.1 w) i j es
+same_weight : (i j : ℕ) (es : List (Place × ℕ)) → weight_of i j es ≡ weight_of j i es
+same_weight i j es = ap (λ (test : Place → Bool). fold (λ w e. cond (test e.0) e.1 w) 0 es)
+    (fun_ext (λ p. or_comm (eqb p.row i && eqb p.column j) (eqb p.row j && eqb p.column i)))
 
 weight_at_index : (n hi lo : ℕ) (es : List (Place × ℕ)) → lo < hi → hi < n →
     get_or (lower_of n es) (pairs hi + lo) 0 ≡ weight_of hi lo es
@@ -151,7 +147,7 @@ weight_at n es p row_in column_in apart =
       | inr more ↦
           let less : p.row < p.column = omega arith in
           ap (λ k. get_or (lower_of n es) k 0) (lower_index-above p.column p.row less)
-          ∙ weight_at_index n p.column p.row es less column_in ∙ weight_from 0 p.column p.row es
+          ∙ weight_at_index n p.column p.row es less column_in ∙ same_weight p.column p.row es
     ]
 
 pub lower_index-lt : (n : ℕ) (p : Place) → p.row < n → p.column < n → p.row ≢ p.column → lower_index p < pairs n
@@ -180,21 +176,14 @@ All-lines P g s zero each = All-nil P
 All-lines P g s (suc c) each = All-append P (g s) (flat_map g (range_with_len (s + 1) c)) (each s (omega arith))
     (All-lines P g (s + 1) c (λ k less. each k (omega arith)))
 
-within_rows : (n : ℕ) → All (IsWithin n) (by_rows n)
-within_rows n = All-lines (IsWithin n) (λ i. map (λ j. place i j) (range_with_len 0 n)) 0 n
-    (λ i i_in. All-line (IsWithin n) (λ j. place i j) 0 n (λ j j_in. (omega arith, omega arith)))
-
-within_columns : (n : ℕ) → All (IsWithin n) (by_columns n)
-within_columns n = All-lines (IsWithin n) (λ j. map (λ i. place i j) (range_with_len 0 n)) 0 n
-    (λ j j_in. All-line (IsWithin n) (λ i. place i j) 0 n (λ i i_in. (omega arith, omega arith)))
+place_within : (f : Format) (n k m : ℕ) → k < n → m < n → IsWithin n (place_on f k m)
+place_within FullMatrix n k m line item = (line, item)
+place_within _ n k m line item = (omega arith, omega arith)
 
 pub order-within : (f : Format) (n : ℕ) → All (IsWithin n) (order f n)
-order-within FullMatrix n = within_rows n
-order-within UpperRow n = All-filter (λ p. ltb p.row p.column) (IsWithin n) (by_rows n) (within_rows n)
-order-within LowerRow n = All-filter (λ p. ltb p.column p.row) (IsWithin n) (by_rows n) (within_rows n)
-order-within UpperDiagRow n = All-filter (λ p. leb p.row p.column) (IsWithin n) (by_rows n) (within_rows n)
-order-within LowerDiagRow n = All-filter (λ p. leb p.column p.row) (IsWithin n) (by_rows n) (within_rows n)
-order-within UpperCol n = All-filter (λ p. ltb p.row p.column) (IsWithin n) (by_columns n) (within_columns n)
-order-within LowerCol n = All-filter (λ p. ltb p.column p.row) (IsWithin n) (by_columns n) (within_columns n)
-order-within UpperDiagCol n = All-filter (λ p. leb p.row p.column) (IsWithin n) (by_columns n) (within_columns n)
-order-within LowerDiagCol n = All-filter (λ p. leb p.column p.row) (IsWithin n) (by_columns n) (within_columns n)
+order-within f n =
+    subst (All (IsWithin n)) (sym (order-lines f n))
+    (All-lines (IsWithin n) (λ k. items f k (first_item f k) (end_item f n k)) 0 n (λ k line.
+    let within = lines_within f n k (omega arith) in
+    All-line (IsWithin n) (place_on f k) (first_item f k) (end_item f n k - first_item f k) (λ m item.
+    place_within f n k m (omega arith) (omega (arith, within, item)))))

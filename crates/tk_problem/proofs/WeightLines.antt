@@ -108,7 +108,7 @@ same_lines g h s zero same = refl
 same_lines g h s (suc c) same = ap (λ ps. ps ++ flat_map g (range_with_len (s + 1) c)) (same s (omega arith))
     ∙ ap (λ ps. h s ++ ps) (same_lines g h (s + 1) c (λ k less. same k (omega arith)))
 
-lines_within : (f : Format) (n k : ℕ) → k < n → (first_item f k ≤ end_item f n k) × (end_item f n k ≤ n)
+pub lines_within : (f : Format) (n k : ℕ) → k < n → (first_item f k ≤ end_item f n k) × (end_item f n k ≤ n)
 lines_within FullMatrix n k less = (omega arith, omega arith)
 lines_within _ n k less = (omega arith, omega arith)
 
