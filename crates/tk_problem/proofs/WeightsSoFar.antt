@@ -1,5 +1,5 @@
 -- One weight more.
-use Rattle.std.proofs.Common.{replicate, ◌≡◌, ◌≢◌, ℕ, ◌+◌, ◌<◌, ◌≤◌, Some, List, [], ◌∷◌, ◌++◌, length, get_or, set}
+use Rattle.std.proofs.Common.{replicate, ◌≡◌, ◌≢◌, ℕ, ◌<◌, ◌≤◌, Some, List, [], ◌∷◌, ◌++◌, length, get_or, set}
 use Rattle.std.proofs.Common.{drop, All, IfSome, arith, sym, ap, subst, ◌∙◌, refl, length-drop}
 use Rattle.std.specs.List.{zip, slice_get}
 use Rattle.std.proofs.lemmas.Option.{slice_get_within, slice_get-get_or}
@@ -28,9 +28,6 @@ pub record IsNext (f : Format) (n : ℕ) (ws : List ℕ) (p : Place) : Type 0 wh
   pub row : p.row < n
   pub column : p.column < n
 
-at_first : (ps : List Place) (p q : Place) (rest : List Place) → slice_get ps 0 ≡ Some p → ps ≡ q ∷ rest → q ≡ p
-at_first ps p q rest e same = let h : Some q ≡ Some p = ap (λ xs. slice_get xs 0) (sym same) ∙ e in cc
-
 pub next_place : (s : Filling) (f : Format) (n : ℕ) (ws : List ℕ) (p : Place) → IsSoFar s f n ws →
     slice_get s.places 0 ≡ Some p → IsNext f n ws p
 next_place s f n ws p h first =
@@ -38,9 +35,9 @@ next_place s f n ws p h first =
     let short : length ws < length (order f n) =
     omega (arith, ap length h.places, length-drop (length ws) (order f n)) in
     let next : Place = get_or (order f n) (length ws) origin in
-    let same : next ≡ p =
-    at_first s.places p next (drop (length ws + 1) (order f n)) first
-    (h.places ∙ drop_more (order f n) (length ws) origin short) in
+    let both : Some next ≡ Some p =
+    ap (λ ps. slice_get ps 0) (sym (h.places ∙ drop_more (order f n) (length ws) origin short)) ∙ first in
+    let same : next ≡ p = cc in
     let within : (next.row < n) × (next.column < n) =
     All-get_or (λ p. (p.row < n) × (p.column < n)) (order f n) (length ws) origin short (order-within f n) in
     let moved : (p.row < n) × (p.column < n) = subst (λ q. (q.row < n) × (q.column < n)) same within in
@@ -94,11 +91,6 @@ so_far_skip s f n ws w h some diagonal =
           ∙ sym (ap (lower_of n) (entries-push f n ws w p next) ∙ lower_of-diagonal n (entries f n ws) p w on);
     }
 
-weight_so_far : (s : Filling) (f : Format) (n : ℕ) (ws : List ℕ) (p : Place) → IsNextPair s f n ws p
-    → get_or s.weights (lower_index p) 0 ≡ weight_of p.row p.column (entries f n ws)
-weight_so_far s f n ws p h = ap (λ vs. get_or vs (lower_index p) 0) h.so_far.weights
-    ∙ weight_at n (entries f n ws) p h.next.row h.next.column h.apart
-
 pub weight_read : (s : Filling) (f : Format) (n : ℕ) (ws : List ℕ) (p : Place) (w : ℕ) → IsNextPair s f n ws p
     → w ≡ get_or s.weights (lower_index p) w → w ≡ weight_of p.row p.column (entries f n ws)
 weight_read s f n ws p w h read =
@@ -109,7 +101,8 @@ weight_read s f n ws p w h read =
       length-lower_of n (entries f n ws),
       lower_index-lt n p h.next.row h.next.column h.apart,
     ) in
-    get_or_read s.weights (lower_index p) w short read 0 ∙ weight_so_far s f n ws p h
+    get_or_read s.weights (lower_index p) w short read 0 ∙ ap (λ vs. get_or vs (lower_index p) 0) h.so_far.weights
+    ∙ weight_at n (entries f n ws) p h.next.row h.next.column h.apart
 
 -- ---- no weight yet
 
