@@ -20,16 +20,11 @@ pub places_in-near : (unit : Unit) (ps : List WholePoint) → All IsNearOrigin (
 places_in-near unit ps = All-map IsNearOrigin (place_in unit) ps (λ k d h. place_in-near unit (get_or ps k d))
 
 -- the code's product of a coordinate and the step of a unit
-product-at : (unit : Unit) (x : ℤ) → unsigned_abs x ≤ COORDINATE_LIMIT
-    → to_z w64 (of_z w64 (to_z w64 (of_z w64 (to_z w32 (of_z w32 x))) *ℤ to_z w64 (of_z w64 (pos (step_of unit))))) ≡ x
-    *ℤ pos (step_of unit)
-product-at One x near = omega (arith, ints, near)
-product-at _ x near = omega (arith, ints, near)
-
 pub product-in : (unit : Unit) (x step : ℤ) → step ≡ pos (step_of unit) → unsigned_abs x ≤ COORDINATE_LIMIT
     → to_z w64 (of_z w64 (to_z w64 (of_z w64 (to_z w32 (of_z w32 x))) *ℤ to_z w64 (of_z w64 step))) ≡ x *ℤ pos
     (step_of unit)
-product-in unit x step is near = rw is (product-at unit x near)
+product-in One x step is near = rw is (omega (arith, ints, near))
+product-in _ x step is near = rw is (omega (arith, ints, near))
 
 -- ---- points, by their coordinates
 

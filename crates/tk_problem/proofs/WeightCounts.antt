@@ -88,8 +88,11 @@ order_is : (f : Format) (n : ℕ) (a b : ℕ → ℕ) → a 0 ≡ b 0
 order_is f n a b start step =
     let lines = ap length (order-lines f n) ∙ length-lines (λ k. items f k (first_item f k) (end_item f n k)) n in
     let all = total_is (λ k. length (items f k (first_item f k) (end_item f n k))) a b n start (λ k less.
-    omega (arith, step k less,
-    length-map-range_with_len (place_on f k) (first_item f k) (end_item f n k - first_item f k))) in
+    omega (
+      arith,
+      step k less,
+      length-map-range_with_len (place_on f k) (first_item f k) (end_item f n k - first_item f k),
+    )) in
     omega (arith, lines, all)
 
 -- rows or columns of these forms
@@ -98,8 +101,7 @@ full_count f n each =
     let all = order_is f n (λ c. 0) (λ c. c * n) (omega arith) (λ k less. omega (arith, each k)) in omega (arith, all)
 
 below_count : (f : Format) (n : ℕ) → ((k : ℕ) → end_item f n k - first_item f k ≡ k) → length (order f n) ≡ pairs n
-below_count f n each =
-    let all = order_is f n (λ c. 0) pairs refl (λ k less. omega (arith, pairs-suc k, each k)) in omega (arith, all)
+below_count f n each = omega (arith, order_is f n (λ c. 0) pairs refl (λ k less. omega (arith, pairs-suc k, each k)))
 
 behind_count : (f : Format) (n : ℕ) → ((k : ℕ) → end_item f n k - first_item f k ≡ n - (k + 1)) →
     length (order f n) ≡ pairs n

@@ -1,9 +1,10 @@
 -- The order of explicit weights, line by line.
 use Rattle.std.proofs.Common.{Bool, true, false, ltb, leb, ◌&&◌, ◌≡◌, ℕ, zero, suc, ◌+◌, ◌-◌, ◌<◌, ◌≤◌, List, [], ◌∷◌}
-use Rattle.std.proofs.Common.{◌++◌, map, arith, ap, ◌∙◌, refl, drop, length, sym}
+use Rattle.std.proofs.Common.{◌++◌, inl, inr, map, arith, ap, ◌∙◌, refl, drop, length, sym}
 use Rattle.std.specs.List.{range_with_len, flat_map, filter}
 use Rattle.std.proofs.lemmas.List.{append-nil}
 use Rattle.std.proofs.lemmas.List.Elements.{filter-append}
+use Rattle.std.proofs.lemmas.Bool.{cases_lt}
 use Rattle.std.proofs.lemmas.Bool.Decides.{nat_tests}
 use Rattle.tk_problem.specs.declared.place.Place.{Place}
 use Rattle.tk_problem.specs.declared.weights.Format.{Format}
@@ -30,26 +31,22 @@ places_more f n line item end less =
 pub places_last : (f : Format) (n line item end : ℕ) → end ≤ item + 1
     → (end ≤ item → weight_lines f n (line + 1) (n - (line + 1)) ≡ []) → 0 < length (places_from f n line item end)
     → weight_lines f n (line + 1) (n - (line + 1)) ≡ drop 1 (places_from f n line item end)
-places_last f n line item end last done more = by_less (ltb item end) refl
+places_last f n line item end last done more =
+    elim (cases_lt item end) as (λ _. rest ≡ drop 1 (places_from f n line item end)) [
+      | inl less ↦
+          let one : places_from f n line item end ≡ place_on f line item ∷ rest =
+          places_more f n line item end less ∙ ap (λ ps. place_on f line item ∷ ps ++ rest) (none (item + 1) last) in
+          sym (ap (drop 1) one)
+      | inr over ↦
+          let empty : places_from f n line item end ≡ [] = rw (none item over, done over) refl in
+          absurd (omega (arith, more, ap length empty))
+    ]
   where
     rest : List Place
     rest = weight_lines f n (line + 1) (n - (line + 1))
 
     none : (from : ℕ) → end ≤ from → items f line from end ≡ []
     none from over = let left : end - from ≡ 0 = omega arith in rw left refl
-
-    empty : end ≤ item → places_from f n line item end ≡ []
-    empty over = rw (none item over, done over) refl
-
-    by_less : (less : Bool) → ltb item end ≡ less → rest ≡ drop 1 (places_from f n line item end)
-    by_less true is =
-        let item_less : item < end = grind (arith, nat_tests) in
-        let one : places_from f n line item end ≡ place_on f line item ∷ rest =
-        places_more f n line item end item_less ∙ ap (λ ps. place_on f line item ∷ ps ++ rest) (none (item + 1) last) in
-        sym (ap (drop 1) one)
-    by_less false is =
-        let over : end ≤ item = grind (arith, nat_tests) in
-        absurd (omega (arith, more, ap length (empty over)))
 
 -- ---- the order, which keeps some of all places, is the walk by lines
 
