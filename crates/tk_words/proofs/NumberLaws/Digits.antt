@@ -5,7 +5,7 @@ use Rattle.std.proofs.Common.{[], ◌∷◌, ◌++◌, length, take, drop, min, 
 use Rattle.std.proofs.Common.{length-drop, cond, Bool, false, inl, inr, Result}
 use Rattle.std.proofs.Math.Nat.{one-le-pow, mul-le-mul_left, mul_assoc, pow-suc, mul-le-mul_right, pow-le-pow_right}
 use Rattle.std.proofs.Math.Nat.{mul-div_cancel, div-eq_of_lt, div-div-eq-div-mul}
-use Rattle.std.proofs.lemmas.Bool.{cases_lt}
+use Rattle.std.proofs.lemmas.Bool.{cases_lt, cond_both}
 use Rattle.std.proofs.lemmas.Bool.Decides.{nat_tests}
 use Rattle.std.proofs.lemmas.List.{append-nil, take-append-drop, take-append-le, take_all, take_min}
 use Rattle.std.proofs.Math.Seq.{take-append-add}
@@ -166,22 +166,20 @@ first_of_two whole fraction count a b is_a is_b =
 
 -- ---- the digits that bytes begin with
 
-All-if : (t : Bool) (xs : List ℕ) → (t ≡ true → All IsAsciiDigit xs) → All IsAsciiDigit (cond t xs [])
-All-if true xs h = h refl
-All-if false xs h = All-nil IsAsciiDigit
-
 IsAsciiDigit-from_test : (b : ℕ) → is_ascii_digit b ≡ true → IsAsciiDigit b
 IsAsciiDigit-from_test b e = grind (arith, nat_tests)
 
 All-front : (bs : List ℕ) → All IsAsciiDigit (front is_ascii_digit bs)
 All-front [] = All-nil IsAsciiDigit
 All-front (b ∷ bs) =
-    All-if (is_ascii_digit b) (b ∷ front is_ascii_digit bs)
+    cond_both (is_ascii_digit b) (b ∷ front is_ascii_digit bs) [] (All IsAsciiDigit)
     (λ e. All-cons IsAsciiDigit b (front is_ascii_digit bs) (IsAsciiDigit-from_test b e) (All-front bs))
+    (λ e. All-nil IsAsciiDigit)
 
 All-fraction : (bs : List ℕ) → All IsAsciiDigit (fraction bs)
 All-fraction [] = All-nil IsAsciiDigit
-All-fraction (b ∷ bs) = All-if (eqb b 46) (front is_ascii_digit bs) (λ _. All-front bs)
+All-fraction (b ∷ bs) = cond_both (eqb b 46) (front is_ascii_digit bs) [] (All IsAsciiDigit) (λ e. All-front bs)
+    (λ e. All-nil IsAsciiDigit)
 
 pub All-digits : (bs ds : List ℕ) → ds ≡ front is_ascii_digit bs → All IsAsciiDigit ds
 All-digits bs ds e = All-same IsAsciiDigit ds (front is_ascii_digit bs) e (All-front bs)
@@ -258,13 +256,11 @@ decimal-minus bs r some minus e = ap limited (decimal_of-minus bs some minus)
     ∙ limited-minus (billionths (take (length bs - 1) (drop 1 bs))) ∙ ap negative (sym e)
 
 -- what the code's negation gives
-zero-sub : (z : ℤ) → pos 0 -ℤ z ≡ neg_ℤ z
-zero-sub z = omega (arith, ints)
-
 pub negated : (z : ℤ) → unsigned_abs z ≤ greatest_coordinate →
     to_z w64 (of_z w64 (pos 0 -ℤ to_z w64 (of_z w64 z))) ≡ neg_ℤ z
 negated z small =
     let fits : FitsSigned w64 z = fits_signed_from_abs w64 z (omega arith) in
-    let same : pos 0 -ℤ to_z w64 (of_z w64 z) ≡ neg_ℤ z = ap (λ x. pos 0 -ℤ x) (to_z-of_z w64 z fits) ∙ zero-sub z in
+    let same : pos 0 -ℤ to_z w64 (of_z w64 z) ≡ neg_ℤ z =
+    ap (λ x. pos 0 -ℤ x) (to_z-of_z w64 z fits) ∙ omega (arith, ints) in
     let fits_minus : FitsSigned w64 (neg_ℤ z) = omega (arith, ints) in
     ap (λ x. to_z w64 (of_z w64 x)) same ∙ to_z-of_z w64 (neg_ℤ z) fits_minus

@@ -1,9 +1,9 @@
 -- A token that is -1, cut short.
-use Rattle.std.proofs.Common.{◌≡◌, ℕ, zero, suc, ◌+◌, ◌-◌, ◌*◌, ◌<◌, ◌≤◌, Bool, true, false, cond, eqb, ltb, ◌||◌, List}
-use Rattle.std.proofs.Common.{[], ◌∷◌, ◌++◌, length, Option, Some, None, pos, neg_ℤ, refl, ap, ◌∙◌, append_assoc, arith}
+use Rattle.std.proofs.Common.{◌≡◌, ℕ, zero, suc, ◌+◌, ◌-◌, ◌*◌, ◌<◌, ◌≤◌, Bool, true, false, eqb, ltb, ◌||◌, List, inl}
+use Rattle.std.proofs.Common.{inr, [], ◌∷◌, ◌++◌, length, Option, Some, None, pos, neg_ℤ, refl, ap, ◌∙◌, append_assoc}
+use Rattle.std.proofs.Common.{arith}
 use Rattle.std.proofs.lemmas.List.{length-append}
-use Rattle.std.proofs.lemmas.Bool.{cond_both, eqb-true, false_from_ne_true, true_from_ne_false, lt-ltb, ltb-true}
-use Rattle.std.proofs.lemmas.Bool.{ltb-false}
+use Rattle.std.proofs.lemmas.Bool.{cases_lt, cond_both, eqb-true, false_from_ne_true, true_from_ne_false, lt-ltb}
 use Rattle.tk_words.specs.Lex.{digits, natural, signed, integer}
 use Rattle.tk_words.specs.MinusOne.{is_minus_one, begins_minus_one}
 use Rattle.tk_words.proofs.Bools.{or_true}
@@ -31,10 +31,9 @@ abbrev is_one : Option ℕ → Bool
 is_one x = is_minus_one (signed (λ n. neg_ℤ (pos n)) x)
 
 one_is : (x : Option ℕ) → is_one x ≡ true → x ≡ Some 1
-one_is None h = absurd (let k : false ≡ true = h in cc)
-one_is (Some zero) h = absurd (let k : false ≡ true = h in cc)
 one_is (Some (suc zero)) h = refl
 one_is (Some (suc (suc n))) h = absurd (omega (arith, eqb-true (suc n) 0 h))
+one_is _ h = absurd (let k : false ≡ true = h in cc)
 
 ones_front : (xs zs : List ℕ) → is_one (natural (xs ++ zs)) ≡ true →
     (is_one (natural xs) || is_one (natural (xs ++ 49 ∷ []))) ≡ true
@@ -100,22 +99,16 @@ natural_long (b ∷ bs) h = let t : ltb 18 (length (b ∷ bs)) ≡ true = lt-ltb
 pub integer_long : (bs : List ℕ) → 19 < length bs → integer bs ≡ None
 integer_long [] h = absurd (omega arith)
 integer_long (b ∷ bs) h =
-    let tail : natural bs ≡ None = natural_long bs (omega arith) in
-    let all : natural (b ∷ bs) ≡ None = natural_long (b ∷ bs) (omega arith) in
-    by_sign (eqb b 45) (eqb b 43) (natural bs) (natural (b ∷ bs)) tail all
-  where
-    by_sign : (s t : Bool) (x y : Option ℕ) → x ≡ None → y ≡ None →
-        cond s (signed (λ n. neg_ℤ (pos n)) x) (cond t (signed pos x) (signed pos y)) ≡ None
-    by_sign false false x y p q = rw q refl
-    by_sign _ _ x y p q = rw p refl
+    let tail = natural_long bs (omega arith) in
+    cond_both (eqb b 45) _ _ (λ o. o ≡ None) (λ t. ap (signed (λ n. neg_ℤ (pos n))) tail)
+    (λ t. cond_both (eqb b 43) _ _ (λ o. o ≡ None) (λ s. ap (signed pos) tail)
+    (λ s. ap (signed pos) (natural_long (b ∷ bs) (omega arith))))
 
 pub begins_short : (bs : List ℕ) → begins_minus_one bs ≡ true → length bs ≤ 19
-begins_short bs h = by_length (ltb 19 (length bs)) refl
-  where
-    by_length : (t : Bool) → ltb 19 (length bs) ≡ t → length bs ≤ 19
-    by_length false is = ltb-false _ _ is
-    by_length true is = absurd (
-        let long : 19 < length bs = ltb-true _ _ is in
-        let one = integer_long bs long in
-        let two = integer_long (bs ++ 49 ∷ []) (omega (arith, long, length-append bs (49 ∷ []))) in
-        let k : false ≡ true = rw (one, two) at h in cc)
+begins_short bs h = elim (cases_lt 19 (length bs)) as (λ _. length bs ≤ 19) [
+  | inl long ↦
+      let one = integer_long bs long in
+      let two = integer_long (bs ++ 49 ∷ []) (omega (arith, long, length-append bs (49 ∷ []))) in
+      absurd (let k : false ≡ true = rw (one, two) at h in cc)
+  | inr short ↦ short
+]
