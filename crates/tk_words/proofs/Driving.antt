@@ -37,8 +37,14 @@ module _ {V E : Type 0} (texts : Texts V E) where
       (texts.decided false (take (suc texts.limit) (bs ++ more))) a (h true more)
       (rw (take_front (suc texts.limit) bs more le) (h false (take (suc texts.limit - length bs) more)))
 
-  answers_more : (bs rest : List ℕ) (a : Result V E) → Answers texts bs a → Answers texts (bs ++ rest) a
-  answers_more bs rest a h more = rw append_assoc (h (rest ++ more))
+  -- what the front of a piece decides, the piece decides
+  answers_piece : (bs piece : List ℕ) (k : ℕ) (a : Result V E) → Answers texts (bs ++ take k piece) a →
+      Answers texts (bs ++ piece) a
+  answers_piece bs piece k a h more =
+      let parts : (bs ++ take k piece) ++ (drop k piece ++ more) ≡ (bs ++ (take k piece ++ drop k piece)) ++ more =
+      simp append_assoc in
+      ap (λ x. answer_of texts ((bs ++ x) ++ more)) (sym (take-append-drop k piece)) ∙ ap (answer_of texts) (sym parts)
+      ∙ h (drop k piece ++ more)
 
   -- all of a text that is not too long
   pub answer_ended : (bs : List ℕ) (a : Result V E) → length bs ≤ texts.limit → texts.decided true bs ≡ Some a →
@@ -91,11 +97,7 @@ module _ (bs piece : List ℕ) (start end : ℕ) (le : start ≤ end) (in_piece 
           length-append bs (take (start + n) piece),
           length-take (start + n) piece,
         ) in
-        let parts : (bs ++ take (start + n) piece) ++ drop (start + n) piece ≡ bs ++ piece =
-        append_assoc bs (take (start + n) piece) (drop (start + n) piece)
-        ∙ ap (λ (x : List ℕ). bs ++ x) (take-append-drop (start + n) piece) in
-        subst (λ (x : List ℕ). Answers texts x a) parts
-        (answers_more texts _ (drop (start + n) piece) a (answers_decided texts _ a front len))
+        answers_piece texts bs piece (start + n) a (answers_decided texts _ a front len)
 
     pub told_within : (f : E) →
         IsTold texts (DecidesWithin texts (bs ++ take start piece) (take (end - start) (drop start piece))) f →
@@ -121,12 +123,9 @@ too_long_at texts bs piece end n lt full some few none =
     ) in
     let len : length (bs ++ take end piece) ≡ texts.limit =
     omega (arith, full, lt, length-append bs (take end piece), length-take end piece) in
-    let parts : ((bs ++ take end piece) ++ byte) ++ drop (end + n) piece ≡ bs ++ piece =
-    ap (λ (l : List ℕ). l ++ drop (end + n) piece) (taken_on bs piece end (end + 1) (omega arith) lt n few)
-    ∙ append_assoc bs (take (end + n) piece) (drop (end + n) piece)
-    ∙ ap (λ (x : List ℕ). bs ++ x) (take-append-drop (end + n) piece) in
-    subst (λ (x : List ℕ). Answers texts x (Err (texts.too_long (line_behind (bs ++ take end piece))))) parts
-    (answers_more texts _ (drop (end + n) piece) _ (answers_too_long texts _ byte len one none))
+    answers_piece texts bs piece (end + n) _
+    (subst (λ (x : List ℕ). Answers texts x (Err (texts.too_long (line_behind (bs ++ take end piece)))))
+    (taken_on bs piece end (end + 1) (omega arith) lt n few) (answers_too_long texts _ byte len one none))
 
 -- ---- the end of the bytes
 
