@@ -5,7 +5,7 @@ use Rattle.std.proofs.Common.{[], ◌∷◌, ◌++◌, length, take, drop, min, 
 use Rattle.std.proofs.Common.{length-drop, cond, Bool, false, inl, inr, Result}
 use Rattle.std.proofs.Math.Nat.{one-le-pow, mul-le-mul_left, mul_assoc, pow-suc, mul-le-mul_right, pow-le-pow_right}
 use Rattle.std.proofs.Math.Nat.{mul-div_cancel, div-eq_of_lt, div-div-eq-div-mul}
-use Rattle.std.proofs.lemmas.Bool.{cases_lt, cond_both}
+use Rattle.std.proofs.lemmas.Bool.{cases_lt, cond_both, cond-false, cond-true, le-leb, lt-leb}
 use Rattle.std.proofs.lemmas.Bool.Decides.{nat_tests}
 use Rattle.std.proofs.lemmas.List.{append-nil, take-append-drop, take-append-le, take_all, take_min}
 use Rattle.std.proofs.Math.Seq.{take-append-add}
@@ -213,14 +213,13 @@ billionths_is bs whole rest digits last up down count is_whole is_rest is_digits
 pub limited-low : (o : Option ℕ) (n v : ℕ) → o ≡ Some v → v ≤ greatest_coordinate → n ≡ v →
     limited (option_map pos o) ≡ Ok (to_z w64 n)
 limited-low o n v e low same =
-    let t : leb v greatest_coordinate ≡ true = grind (arith, nat_tests) in
-    rw (e, t) (ap Ok (sym (to_z_pos w64 n (omega arith) ∙ ap pos same)))
+    ap (λ x. limited (option_map pos x)) e ∙ cond-true _ _ _ (le-leb _ _ low)
+    ∙ ap Ok (sym (to_z_pos w64 n (omega arith) ∙ ap pos same))
 
 pub limited-high : (o : Option ℕ) (v : ℕ) → o ≡ Some v → (v ≤ greatest_coordinate → ⊥) →
     limited (option_map pos o) ≡ Err kinds.OutOfLimit
-limited-high o v e high =
-    let t : leb v greatest_coordinate ≡ false = grind (arith, nat_tests) in
-    rw (e, t) refl
+limited-high o v e high = ap (λ x. limited (option_map pos x)) e
+    ∙ cond-false _ _ _ (lt-leb v greatest_coordinate (omega (arith, high)))
 
 -- ---- a minus sign
 

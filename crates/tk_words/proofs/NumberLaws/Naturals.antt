@@ -1,8 +1,9 @@
 -- What the digits of a whole number spell.
 use Rattle.std.proofs.Common.{◌≡◌, ℕ, ◌+◌, ◌-◌, ◌*◌, ◌^◌, ◌<◌, ◌≤◌, List, [], ◌∷◌, ◌++◌, length, take, true}
 use Rattle.std.proofs.Common.{false}
-use Rattle.std.proofs.Common.{◌||◌, ◌==◌, All, Some, Ok, Err, pos, leb, eqb, arith, ap, sym, ◌∙◌, refl}
+use Rattle.std.proofs.Common.{◌||◌, ◌==◌, All, Some, Ok, Err, pos, eqb, arith, ap, sym, ◌∙◌, refl}
 use Rattle.std.proofs.Common.{option_map, ◌*ℤ◌, of_z, to_z, w64}
+use Rattle.std.proofs.lemmas.Bool.{cond-false, cond-true, le-leb, lt-leb}
 use Rattle.std.proofs.lemmas.Bool.Decides.{nat_tests}
 use Rattle.std.proofs.lemmas.Int.{ints}
 use Rattle.std.proofs.lemmas.List.{append-nil, take_all}
@@ -44,13 +45,14 @@ digits-number : (n : ℕ) (bs : List ℕ) (m : ℕ) → digits n bs ≡ Some m �
 digits-number n [] m e = cc
 digits-number n (b ∷ bs) m e = digits-number (n * 10 + (b - 48)) bs m (digits-rest n b bs m e)
 
+-- a digit is no sign
+no_sign : (b : ℕ) → is_ascii_digit b ≡ true → (eqb b 45 ≡ false) × (eqb b 43 ≡ false)
+no_sign b digit = (grind (arith, nat_tests), grind (arith, nat_tests))
+
 pub natural-integer : (bs : List ℕ) (n : ℕ) → natural bs ≡ Some n → integer bs ≡ Some (pos n)
 natural-integer [] n e = cc
 natural-integer (b ∷ bs) n e =
-    let digit = digits-first 0 b bs n (natural-parts (b ∷ bs) n e).1 in
-    let no_minus : eqb b 45 ≡ false = grind (arith, nat_tests) in
-    let no_plus : eqb b 43 ≡ false = grind (arith, nat_tests) in
-    rw (no_minus, no_plus, e) refl
+    let sign = no_sign b (digits-first 0 b bs n (natural-parts (b ∷ bs) n e).1) in rw (sign.0, sign.1, e) refl
 
 whole_number : (w : List ℕ) (n : ℕ) → number_of w ≡ n
     → number_of (take (length w + 9 + 0 - 0) (w ++ [])) * 10 ^ (length w + 9 + 0 - 0 - length (w ++ [])) ≡ n * 10 ^ 9
@@ -62,26 +64,20 @@ pub natural-decimal : (bs : List ℕ) (n : ℕ) → natural bs ≡ Some n → de
 natural-decimal [] n e = cc
 natural-decimal (b ∷ bs) n e =
     let spelled = (natural-parts (b ∷ bs) n e).1 in
-    let digit = digits-first 0 b bs n spelled in
-    let no_minus : eqb b 45 ≡ false = grind (arith, nat_tests) in
-    let no_plus : eqb b 43 ≡ false = grind (arith, nat_tests) in
+    let sign = no_sign b (digits-first 0 b bs n spelled) in
     let value =
     billionths_is (b ∷ bs) (b ∷ bs) [] [] [] 0 0 (length (b ∷ bs) + 9 + 0 - 0)
     (sym (digits-front 0 (b ∷ bs) n spelled)) (sym (digits-behind 0 (b ∷ bs) n spelled)) refl refl (omega arith) refl
     refl ∙ ap Some (whole_number (b ∷ bs) n (digits-number 0 (b ∷ bs) n spelled)) in
-    rw (no_minus, no_plus) (ap (option_map pos) value)
+    rw (sign.0, sign.1) (ap (option_map pos) value)
 
 pub natural-near : (bs : List ℕ) (n : ℕ) → natural bs ≡ Some n → n * 10 ^ 9 ≤ greatest_coordinate
     → limited (decimal_of bs) ≡ Ok (pos (n * 10 ^ 9))
-natural-near bs n e low =
-    let t : leb (n * 10 ^ 9) greatest_coordinate ≡ true = grind (arith, nat_tests) in
-    ap limited (natural-decimal bs n e) ∙ rw t refl
+natural-near bs n e low = ap limited (natural-decimal bs n e) ∙ cond-true _ _ _ (le-leb _ _ low)
 
 pub natural-far : (bs : List ℕ) (n : ℕ) → natural bs ≡ Some n → greatest_coordinate < n * 10 ^ 9
     → limited (decimal_of bs) ≡ Err kinds.OutOfLimit
-natural-far bs n e high =
-    let t : leb (n * 10 ^ 9) greatest_coordinate ≡ false = grind (arith, nat_tests) in
-    ap limited (natural-decimal bs n e) ∙ rw t refl
+natural-far bs n e high = ap limited (natural-decimal bs n e) ∙ cond-false _ _ _ (lt-leb _ _ high)
 
 -- the code's product of a whole number and a billion
 pub billion-fold : (n : ℕ) → n ≤ 1000000000 → to_z w64 (of_z w64 (to_z w64 n *ℤ pos 1000000000)) ≡ pos (n * 10 ^ 9)

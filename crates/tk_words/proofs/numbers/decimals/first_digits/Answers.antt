@@ -28,16 +28,14 @@ returns-in_err-number-2 c =
     let fraction = c.args.fraction.now in
     let a = c.min-in_whole.result in
     let b = c.min-in_fraction.result in
-    let both = number_behind (number_of (take a whole)) (take b fraction) in
     let same = ap (λ n. number_behind n (take b fraction)) c.in_ok-number.ensures.1 in
     rw c.from_residual-in_err-number-2.ensures (λ low. c.in_err-number-2.ensures (
     omega (
       arith,
       low,
       same,
-      first_of_two whole fraction c.args.count a b c.min-in_whole.ensures
-          c.min-in_fraction.ensures,
-      moved-ge both (c.args.count - a - b),
+      first_of_two whole fraction c.args.count a b c.min-in_whole.ensures c.min-in_fraction.ensures,
+      moved-ge (number_behind (number_of (take a whole)) (take b fraction)) (c.args.count - a - b),
     )))
 
 pub returns : goal.returns
