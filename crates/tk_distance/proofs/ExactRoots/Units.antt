@@ -1,5 +1,5 @@
 -- Squares and lengths in whole numbers of a unit, and those in ones that round alike.
-use Rattle.std.proofs.Common.{◌≡◌, ℕ, ◌+◌, ◌-◌, ◌*◌, ◌/◌, ◌<◌, ◌≤◌, ◌↔◌, subst, sym, refl, inl, inr, arith, min, max}
+use Rattle.std.proofs.Common.{◌≡◌, ℕ, ◌+◌, ◌-◌, ◌*◌, ◌/◌, ◌<◌, ◌≤◌, ◌↔◌, subst, refl, inl, inr, arith, min, max}
 use Rattle.std.proofs.lemmas.Bool.{cases_lt}
 use Rattle.std.proofs.lemmas.Nat.{mul-le}
 use Rattle.std.proofs.lemmas.Grind.{div_ceil_times}
@@ -25,29 +25,7 @@ least_alike P Q d alike is = record {
   least = λ e h. is.least e ((alike e).0 h);
 }
 
--- ---- squares that round alike; o is the double of a number, less one
-
-module _ (square k o : ℕ) (odd : o ≡ 2 * k + 1) where
-  tenths : (o * o * (scale * scale) ≤ 4 * (square * (100000000 * 100000000))) ↔
-      (o * o * (scale * scale) ≤ 4 * ((square + 75) / 100 * (scale * scale)))
-  tenths =
-      subst (λ (x : ℕ). (x * x * (scale * scale) ≤ 4 * (square * (100000000 * 100000000))) ↔
-      (x * x * (scale * scale) ≤ 4 * ((square + 75) / 100 * (scale * scale)))) (sym odd)
-      (λ h. omega (arith, h), λ h. omega (arith, h))
-
-  hundredths : (o * o * (scale * scale) ≤ 4 * (square * (10000000 * 10000000))) ↔
-      (o * o * (scale * scale) ≤ 4 * ((square + 7500) / 10000 * (scale * scale)))
-  hundredths =
-      subst (λ (x : ℕ). (x * x * (scale * scale) ≤ 4 * (square * (10000000 * 10000000))) ↔
-      (x * x * (scale * scale) ≤ 4 * ((square + 7500) / 10000 * (scale * scale)))) (sym odd)
-      (λ h. omega (arith, h), λ h. omega (arith, h))
-
-  thousandths : (o * o * (scale * scale) ≤ 4 * (square * (1000000 * 1000000))) ↔
-      (o * o * (scale * scale) ≤ 4 * ((square + 750000) / 1000000 * (scale * scale)))
-  thousandths =
-      subst (λ (x : ℕ). (x * x * (scale * scale) ≤ 4 * (square * (1000000 * 1000000))) ↔
-      (x * x * (scale * scale) ≤ 4 * ((square + 750000) / 1000000 * (scale * scale)))) (sym odd)
-      (λ h. omega (arith, h), λ h. omega (arith, h))
+-- ---- squares that round alike
 
 -- the square in ones that rounds like a square in a unit
 abbrev pub rounding : Unit → ℕ → ℕ
@@ -56,19 +34,20 @@ rounding Tenth square = (square + 75) / 100
 rounding Hundredth square = (square + 7500) / 10000
 rounding Thousandth square = (square + 750000) / 1000000
 
+rounds_at : (unit : Unit) (square k : ℕ) →
+    ((2 * k + 1) * (2 * k + 1) * (scale * scale) ≤ 4 * (square * (step_of unit * step_of unit))) ↔
+    ((2 * k + 1) * (2 * k + 1) * (scale * scale) ≤ 4 * (rounding unit square * (scale * scale)))
+rounds_at One square k = (λ h. h, λ h. h)
+rounds_at _ square k = (λ h. omega (arith, h), λ h. omega (arith, h))
+
 rounds_alike : (unit : Unit) (square d : ℕ) → 1 ≤ d
     → (RootReaches (square * (step_of unit * step_of unit)) d ↔ RootReaches (rounding unit square * (scale * scale)) d)
-rounds_alike One square d some = (λ h. h, λ h. h)
-rounds_alike Tenth square d some = tenths square (d - 1) (2 * d - 1) (omega arith)
-rounds_alike Hundredth square d some = hundredths square (d - 1) (2 * d - 1) (omega arith)
-rounds_alike Thousandth square d some = thousandths square (d - 1) (2 * d - 1) (omega arith)
+rounds_alike unit square d some = let odd : 2 * d - 1 ≡ 2 * (d - 1) + 1 = omega arith in
+    rw odd (rounds_at unit square (d - 1))
 
 pub rounds_by : (u v : Unit) (square : ℕ) → u ≡ v → (d : ℕ) → 1 ≤ d
     → (RootReaches (square * (step_of u * step_of u)) d ↔ RootReaches (rounding v square * (scale * scale)) d)
-rounds_by u v square is d some =
-    subst (λ (w : Unit). RootReaches (square * (step_of w * step_of w)) d ↔ RootReaches
-    (rounding v square * (scale * scale)) d) (sym is)
-    (rounds_alike v square d some)
+rounds_by u v square is d some = rw is (rounds_alike v square d some)
 
 -- ---- squares below that of a bound less 1/2
 
@@ -137,18 +116,6 @@ module _ (s d b : ℕ) (near : s ≤ 8000000000000000000) where
         (rw zero_is refl)
   ]
 
-  tenth_below : IsGreatest (RootReaches (s * (step_of Tenth * step_of Tenth))) d
-      → ((s < min ((2 * b - 1) * 5) 3000000000 * min ((2 * b - 1) * 5) 3000000000) ↔ (d < b))
-  tenth_below = halves Tenth 5 (λ some. tenth_reached s (2 * b - 1)) (λ none. omega (arith, none))
-
-  hundredth_below : IsGreatest (RootReaches (s * (step_of Hundredth * step_of Hundredth))) d
-      → ((s < min ((2 * b - 1) * 50) 3000000000 * min ((2 * b - 1) * 50) 3000000000) ↔ (d < b))
-  hundredth_below = halves Hundredth 50 (λ some. hundredth_reached s (2 * b - 1)) (λ none. omega (arith, none))
-
-  thousandth_below : IsGreatest (RootReaches (s * (step_of Thousandth * step_of Thousandth))) d
-      → ((s < min ((2 * b - 1) * 500) 3000000000 * min ((2 * b - 1) * 500) 3000000000) ↔ (d < b))
-  thousandth_below = halves Thousandth 500 (λ some. thousandth_reached s (2 * b - 1)) (λ none. omega (arith, none))
-
 -- the code's square at a bound
 abbrev pub square_below : Unit → ℕ → ℕ
 square_below One b = b * b - b + min b 1
@@ -159,16 +126,16 @@ square_below Thousandth b = min ((2 * b - 1) * 500) 3000000000 * min ((2 * b - 1
 below_alike : (unit : Unit) (s d b : ℕ) → s ≤ 8000000000000000000
     → IsGreatest (RootReaches (s * (step_of unit * step_of unit))) d → ((s < square_below unit b) ↔ (d < b))
 below_alike One s d b near is = one_below s d b near is
-below_alike Tenth s d b near is = tenth_below s d b near is
-below_alike Hundredth s d b near is = hundredth_below s d b near is
-below_alike Thousandth s d b near is = thousandth_below s d b near is
+below_alike Tenth s d b near is =
+    halves s d b near Tenth 5 (λ some. tenth_reached s (2 * b - 1)) (λ none. omega (arith, none)) is
+below_alike Hundredth s d b near is =
+    halves s d b near Hundredth 50 (λ some. hundredth_reached s (2 * b - 1)) (λ none. omega (arith, none)) is
+below_alike Thousandth s d b near is =
+    halves s d b near Thousandth 500 (λ some. thousandth_reached s (2 * b - 1)) (λ none. omega (arith, none)) is
 
 pub below_by : (u v : Unit) (s d b r : ℕ) → u ≡ v → r ≡ square_below v b → s ≤ 8000000000000000000
     → IsGreatest (RootReaches (s * (step_of u * step_of u))) d → ((s < r) ↔ (d < b))
-below_by u v s d b r same is near greatest =
-    subst (λ (x : ℕ). (s < x) ↔ (d < b)) (sym is)
-    (below_alike v s d b near
-    (subst (λ (w : Unit). IsGreatest (RootReaches (s * (step_of w * step_of w))) d) same greatest))
+below_by u v s d b r same is near greatest = rw is (below_alike v s d b near (rw same at greatest))
 
 -- ---- squares that are covered alike
 
@@ -182,15 +149,11 @@ covering Thousandth square = (square + 999999) / 1000000
 covered_alike : (unit : Unit) (square n : ℕ) →
     (square * (step_of unit * step_of unit) ≤ n * (scale * scale)) ↔ (covering unit square ≤ n)
 covered_alike One square n = (λ h. omega (arith, h), λ h. omega (arith, h))
-covered_alike Tenth square n = (λ h. omega (arith, h), λ h. omega (arith, h))
-covered_alike Hundredth square n = (λ h. omega (arith, h), λ h. omega (arith, h))
-covered_alike Thousandth square n = (λ h. omega (arith, h), λ h. omega (arith, h))
+covered_alike _ square n = (λ h. omega (arith, h), λ h. omega (arith, h))
 
 pub covers_by : (u v : Unit) (square n : ℕ) → u ≡ v →
     (square * (step_of u * step_of u) ≤ n * (scale * scale)) ↔ (covering v square ≤ n)
-covers_by u v square n is =
-    subst (λ (w : Unit). (square * (step_of w * step_of w) ≤ n * (scale * scale)) ↔ (covering v square ≤ n)) (sym is)
-    (covered_alike v square n)
+covers_by u v square n is = rw is (covered_alike v square n)
 
 -- ---- lengths
 
@@ -203,27 +166,21 @@ rounded Thousandth length = (length + 500) / 1000
 
 rounded-is : (unit : Unit) (length : ℕ) → IsGreatest (Reaches (length * step_of unit)) (rounded unit length)
 rounded-is One length = nearest_length (length * 1000000000) length (omega arith) (omega arith)
-rounded-is Tenth length = nearest_length (length * 100000000) ((length + 5) / 10) (omega arith) (omega arith)
-rounded-is Hundredth length = nearest_length (length * 10000000) ((length + 50) / 100) (omega arith) (omega arith)
-rounded-is Thousandth length = nearest_length (length * 1000000) ((length + 500) / 1000) (omega arith) (omega arith)
+rounded-is unit length = nearest_length (length * step_of unit) (rounded unit length) (omega arith) (omega arith)
 
 pub length_by : (u v : Unit) (length : ℕ) → u ≡ v → IsGreatest (Reaches (length * step_of u)) (rounded v length)
-length_by u v length is = subst (λ (w : Unit). IsGreatest (Reaches (length * step_of w)) (rounded v length)) (sym is)
-    (rounded-is v length)
+length_by u v length is = rw is (rounded-is v length)
 
 -- ---- the distance at whole differences, from the square in ones
 
 pub square-in : (unit : Unit) (x y : ℕ) →
     square_sum x y * (step_of unit * step_of unit) ≡ square_sum (x * step_of unit) (y * step_of unit)
 square-in One x y = omega arith
-square-in Tenth x y = omega arith
-square-in Hundredth x y = omega arith
-square-in Thousandth x y = omega arith
+square-in _ x y = omega arith
 
 module _ (unit : Unit) (dx dy square : ℕ) (is : square ≡ square_sum dx dy) where
   in_unit : square * (step_of unit * step_of unit) ≡ square_sum (dx * step_of unit) (dy * step_of unit)
-  in_unit = subst (λ (s : ℕ). s * (step_of unit * step_of unit) ≡ square_sum (dx * step_of unit) (dy * step_of unit))
-      (sym is) (square-in unit dx dy)
+  in_unit = rw is (square-in unit dx dy)
 
   pub rounded_in : (m d : ℕ)
       → ((e : ℕ) → 1 ≤ e
@@ -260,12 +217,8 @@ module _ (unit : Unit) (dx dy square : ℕ) (is : square ≡ square_sum dx dy) w
 
 pub sum-in : (unit : Unit) (x y : ℕ) → (x + y) * step_of unit ≡ x * step_of unit + y * step_of unit
 sum-in One x y = omega arith
-sum-in Tenth x y = omega arith
-sum-in Hundredth x y = omega arith
-sum-in Thousandth x y = omega arith
+sum-in _ x y = omega arith
 
 pub max-in : (unit : Unit) (x y : ℕ) → max x y * step_of unit ≡ max (x * step_of unit) (y * step_of unit)
 max-in One x y = omega arith
-max-in Tenth x y = omega arith
-max-in Hundredth x y = omega arith
-max-in Thousandth x y = omega arith
+max-in _ x y = omega arith
