@@ -1,7 +1,7 @@
 -- A number is the least that covers a square where it does and its neighbour does not.
-use Rattle.std.proofs.Common.{◌≡◌, ℕ, ◌+◌, ◌-◌, ◌*◌, ◌<◌, ◌≤◌, subst, inl, inr, arith}
-use Rattle.std.proofs.lemmas.Bool.{cases_lt}
+use Rattle.std.proofs.Common.{◌≡◌, ℕ, ◌+◌, ◌-◌, ◌*◌, ◌<◌, ◌≤◌, subst, arith}
 use Rattle.std.proofs.lemmas.Nat.{mul-le}
+use Rattle.tk_distance.proofs.ExactRoots.RootLemmas.{from_not_lt}
 use Rattle.tk_problem.specs.Places.{scale}
 use Rattle.tk_distance.specs.Distance.{IsLeast, Covers, square_sum}
 use Rattle.tk_distance.specs.Roots.{IsRootUp}
@@ -11,14 +11,11 @@ pub least_between : (parts square d : ℕ) → square ≤ parts * (d * scale * (
     → (1 ≤ d → parts * ((d - 1) * scale * ((d - 1) * scale)) < square) → IsLeast (Covers parts square) d
 least_between parts square d reach low = record {
   holds = omega arith;
-  least = λ e h. elim (cases_lt e d) [
-    | inl lt ↦
-        let below = low (omega arith) in
-        let one = mul-le e e (d - 1) (d - 1) (omega arith) (omega arith) in
-        let all = mul-le parts (e * e) parts ((d - 1) * (d - 1)) (omega arith) one in
-        absurd (omega (arith, below, all))
-    | inr le ↦ le
-  ];
+  least = λ e h. from_not_lt e d (λ lt.
+      let below = low (omega arith) in
+      let one = mul-le e e (d - 1) (d - 1) (omega arith) (omega arith) in
+      let all = mul-le parts (e * e) parts ((d - 1) * (d - 1)) (omega arith) one in
+      omega (arith, below, all));
 }
 
 -- the least from the root of a quotient, both rounded up
@@ -31,11 +28,9 @@ least_from_root parts square q r d enough near root above below = record {
       (omega arith) in
       omega (arith, b);
   least = λ e h.
-      let fits : q ≤ e * scale * (e * scale) = elim (cases_lt (e * scale * (e * scale)) q) [
-        | inl lt ↦ let more = mul-le (e * scale * (e * scale) + 1) parts q parts (omega arith) (omega arith) in
-            absurd (omega (arith, more, h))
-        | inr le ↦ le
-      ] in
+      let fits : q ≤ e * scale * (e * scale) = from_not_lt (e * scale * (e * scale)) q (λ lt.
+      let more = mul-le (e * scale * (e * scale) + 1) parts q parts (omega arith) (omega arith) in
+      omega (arith, more, h)) in
       let r_le : r ≤ e * scale = root.least (e * scale) fits in
       omega arith;
 }
@@ -54,10 +49,8 @@ too_small n e k d is low reach le =
 pub least_whole : (n d : ℕ) → n ≤ d * d → (1 ≤ d → d * d + 1 < n + 2 * d) → IsLeast (Covers 1 (n * (scale * scale))) d
 least_whole n d reach low = record {
   holds = omega arith;
-  least = λ e h. elim (cases_lt e d) [
-    | inl lt ↦ absurd (too_small n e (d - 1) d (omega arith) (low (omega arith)) (omega arith) (omega arith))
-    | inr le ↦ le
-  ];
+  least = λ e h. from_not_lt e d (λ lt.
+      too_small n e (d - 1) d (omega arith) (low (omega arith)) (omega arith) (omega arith));
 }
 
 -- ---- along an axis

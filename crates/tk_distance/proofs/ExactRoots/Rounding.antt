@@ -2,6 +2,8 @@
 use Rattle.std.proofs.Common.{◌≡◌, ℕ, ◌+◌, ◌-◌, ◌*◌, ◌<◌, ◌≤◌, ◌/◌, ◌↔◌, subst, refl, inl, inr, arith}
 use Rattle.std.proofs.lemmas.Bool.{cases_lt}
 use Rattle.std.proofs.lemmas.Nat.{mul-le}
+use Rattle.std.proofs.Math.Nat.{lt_of_not-le}
+use Rattle.tk_distance.proofs.ExactRoots.RootLemmas.{from_not_lt}
 use Rattle.tk_problem.specs.Places.{scale}
 use Rattle.tk_distance.specs.Distance.{IsGreatest, RootReaches, Reaches, square_sum}
 
@@ -31,10 +33,8 @@ pub nearest_between : (square d : ℕ) → (d * scale - 500000000) * (d * scale 
     → square < (d * scale + 500000000) * (d * scale + 500000000) → IsGreatest (RootReaches square) d
 nearest_between square d low high = record {
   holds = λ some. reaches_above square d (d * scale - 500000000) some refl low;
-  greatest = λ e one r. elim (cases_lt d e) [
-    | inl lt ↦ absurd (too_great square d (e - (d + 1)) (2 * e - 1) high (omega arith) r)
-    | inr le ↦ le
-  ];
+  greatest = λ e one r. from_not_lt d e (λ lt.
+      too_great square d (e - (d + 1)) (2 * e - 1) high (omega arith) r);
 }
 
 -- the rounded root is below a number just where the square is below that of the number less 1/2
@@ -43,28 +43,21 @@ pub fine_root_below : (square d t : ℕ) → IsGreatest (RootReaches square) d
 fine_root_below square d t is = (below, within)
   where
     below : square < (t * scale - 500000000) * (t * scale - 500000000) → d < t
-    below low = elim (cases_lt d t) [
-      | inl lt ↦ lt
-      | inr le ↦ elim (cases_lt 0 t) [
-        | inl some ↦
-            let m : t * scale - 500000000 ≡ (t - 1) * scale + 500000000 = omega arith in
-            let high = subst (λ (x : ℕ). square < x * x) m low in
-            absurd (too_great square (t - 1) (d - t) (2 * d - 1) high (omega arith) (is.holds (omega arith)))
-        | inr none ↦
-            let m : t * scale - 500000000 ≡ 0 = omega arith in
-            let high = subst (λ (x : ℕ). square < x * x) m low in
-            absurd (omega (arith, high))
-      ]
-    ]
+    below low = lt_of_not-le (λ le. elim (cases_lt 0 t) [
+      | inl some ↦
+          let m : t * scale - 500000000 ≡ (t - 1) * scale + 500000000 = omega arith in
+          let high = subst (λ (x : ℕ). square < x * x) m low in
+          too_great square (t - 1) (d - t) (2 * d - 1) high (omega arith) (is.holds (omega arith))
+      | inr none ↦
+          let m : t * scale - 500000000 ≡ 0 = omega arith in
+          let high = subst (λ (x : ℕ). square < x * x) m low in
+          omega (arith, high)
+    ])
 
     within : d < t → square < (t * scale - 500000000) * (t * scale - 500000000)
-    within lt = elim (cases_lt square ((t * scale - 500000000) * (t * scale - 500000000))) [
-      | inl low ↦ low
-      | inr high ↦
-          let least =
-          is.greatest t (omega arith) (reaches_above square t (t * scale - 500000000) (omega arith) refl high) in
-          absurd (omega (arith, lt, least))
-    ]
+    within lt = lt_of_not-le (λ high.
+        let least = is.greatest t (omega arith) (reaches_above square t _ (omega arith) refl high) in
+        omega (arith, lt, least))
 
 -- the rounded root from the root
 pub nearest_from_root : (square r d : ℕ) → r * r ≤ square → square < (r + 1) * (r + 1)
@@ -99,10 +92,8 @@ nearest_whole n d high low = record {
       let is : d ≡ d - 1 + 1 = omega arith in
       let P : ℕ → Type 0 = λ x. x * x < n + x in
       reaches_whole n (d - 1) (2 * d - 1) (subst P is (low some)) (omega arith);
-  greatest = λ e one r. elim (cases_lt d e) [
-    | inl lt ↦ absurd (too_great_whole n d (e - (d + 1)) (2 * e - 1) high (omega arith) r)
-    | inr le ↦ le
-  ];
+  greatest = λ e one r. from_not_lt d e (λ lt.
+      too_great_whole n d (e - (d + 1)) (2 * e - 1) high (omega arith) r);
 }
 
 -- the rounded root is below a number from 1 on just where the square is below that of the number less 1/2
@@ -110,21 +101,16 @@ pub root_below : (n d t : ℕ) → 1 ≤ t → IsGreatest (RootReaches (n * (sca
 root_below n d t some is = (below, within)
   where
     below : n + t ≤ t * t → d < t
-    below low = elim (cases_lt d t) [
-      | inl lt ↦ lt
-      | inr le ↦ absurd (too_great_whole n (t - 1) (d - t) (2 * d - 1) (under (t - 1) (omega arith) low) (omega arith)
-          (is.holds (omega arith)))
-    ]
+    below low = lt_of_not-le (λ le. too_great_whole n (t - 1) (d - t) (2 * d - 1) (under (t - 1) (omega arith) low)
+        (omega arith) (is.holds (omega arith)))
       where
         under : (k : ℕ) → t ≡ k + 1 → n + t ≤ t * t → n ≤ k * k + k
         under k is low = let P : ℕ → Type 0 = λ x. n + x ≤ x * x in let s : P (k + 1) = subst P is low in
             omega (arith, s)
 
     within : d < t → n + t ≤ t * t
-    within lt = elim (cases_lt (t * t) (n + t)) [
-      | inl more ↦ absurd (omega (arith, lt, is.greatest t some (reaches (t - 1) (omega arith) more)))
-      | inr le ↦ le
-    ]
+    within lt = from_not_lt (t * t) (n + t) (λ more.
+        omega (arith, lt, is.greatest t some (reaches (t - 1) (omega arith) more)))
       where
         reaches : (k : ℕ) → t ≡ k + 1 → t * t < n + t → RootReaches (n * (scale * scale)) t
         reaches k is more = let P : ℕ → Type 0 = λ x. x * x < n + x in
@@ -133,10 +119,8 @@ root_below n d t some is = (below, within)
 -- ---- along an axis
 
 squares-le : (a b : ℕ) → a * a ≤ b * b → a ≤ b
-squares-le a b h = elim (cases_lt b a) [
-  | inl lt ↦ let more = mul-le (b + 1) (b + 1) a a (omega arith) (omega arith) in absurd (omega (arith, more, h))
-  | inr le ↦ le
-]
+squares-le a b h = from_not_lt b a (λ lt.
+    let more = mul-le (b + 1) (b + 1) a a (omega arith) (omega arith) in omega (arith, more, h))
 
 root_reaches : (x o s : ℕ) → s ≡ o * scale → s ≤ 2 * x → o * o * (scale * scale) ≤ 4 * square_sum x 0
 root_reaches x o s is le =

@@ -2,6 +2,7 @@
 use Rattle.std.proofs.Common.{◌≡◌, ℕ, ◌+◌, ◌-◌, ◌*◌, ◌/◌, ◌<◌, ◌≤◌, ◌↔◌, subst, refl, inl, inr, arith, min, max}
 use Rattle.std.proofs.lemmas.Bool.{cases_lt}
 use Rattle.std.proofs.lemmas.Nat.{mul-le}
+use Rattle.std.proofs.Math.Nat.{lt_of_not-le}
 use Rattle.std.proofs.lemmas.Grind.{div_ceil_times}
 use Rattle.std.specs.Int.{div_ceil}
 use Rattle.tk_problem.specs.declared.unit.Unit.{Unit}
@@ -61,14 +62,11 @@ below_at square d b t s near some is at = (below, within)
         omega (arith, h, more)
 
     below : s < min t 3000000000 * min t 3000000000 → d < b
-    below h = elim (cases_lt d b) [
-      | inl lt ↦ lt
-      | inr le ↦
-          let far : RootReaches square d = is.holds (omega arith) in
-          let less = mul-le (2 * b - 1) (2 * b - 1) (2 * d - 1) (2 * d - 1) (omega arith) (omega arith) in
-          let reached : RootReaches square b = omega (arith, far, less) in
-          absurd (omega (arith, at.0 reached, capped h))
-    ]
+    below h = lt_of_not-le (λ le.
+        let far : RootReaches square d = is.holds (omega arith) in
+        let less = mul-le (2 * b - 1) (2 * b - 1) (2 * d - 1) (2 * d - 1) (omega arith) (omega arith) in
+        let reached : RootReaches square b = omega (arith, far, less) in
+        omega (arith, at.0 reached, capped h))
 
     within : d < b → s < min t 3000000000 * min t 3000000000
     within lt = elim (cases_lt s (t * t)) [

@@ -1,6 +1,6 @@
-use Rattle.std.proofs.Common.{◌≡◌, ℕ, ◌+◌, ◌*◌, ◌<◌, ◌≤◌, arith, subst, sym, inl, inr}
+use Rattle.std.proofs.Common.{◌≡◌, ℕ, ◌+◌, ◌*◌, ◌<◌, ◌≤◌, arith, subst, sym}
 use Rattle.std.proofs.lemmas.Nat.{mul-le}
-use Rattle.std.proofs.lemmas.Bool.{cases_lt}
+use Rattle.tk_distance.proofs.ExactRoots.RootLemmas.{from_not_lt}
 use Rattle.std.proofs.lemmas.Grind.{div_ceil_times}
 use Rattle.std.specs.Int.{div_ceil}
 use Rattle.tk_problem.specs.Places.{scale}
@@ -12,11 +12,8 @@ quotient_small : (square parts q : ℕ) → 1 ≤ parts → q ≡ div_ceil squar
 quotient_small square parts q one is small =
     let a = div_ceil_times square parts (omega arith) in
     let top : q * parts < square + parts = subst (λ (x : ℕ). x * parts < square + parts) (sym is) a.1 in
-    elim (cases_lt 8000000000000000000000000000000000000 q) [
-      | inl lt ↦ let more = mul-le 8000000000000000000000000000000000001 parts q parts lt (omega arith) in
-          absurd (omega (arith, more, top))
-      | inr le ↦ le
-    ]
+    from_not_lt 8000000000000000000000000000000000000 q (λ lt.
+    let more = mul-le 8000000000000000000000000000000000001 parts q parts lt (omega arith) in omega (arith, more, top))
 
 pub overflow_cast-result : goal.overflow_cast-result
 overflow_cast-result c =
