@@ -10,7 +10,7 @@ use Rattle.tk_problem.specs.declared.weights.PlaneKind.{PlaneKind}
 use Rattle.tk_problem.specs.declared.weights.PlaneKind.TheVariants.{Euc2d, Ceil2d, Man2d, Max2d, Att}
 use Rattle.tk_distance.specs.Distance.{IsGreatest, IsLeast, Reaches, RootReaches, Covers, IsDistance, square_sum, reach}
 use Rattle.tk_distance.specs.PlaneDistance.{rounded_length, rounded_root, covering_root, distance_at}
-use Rattle.tk_distance.specs.Searching.{last_passing-is, first_passing-is, greatest-unique}
+use Rattle.tk_distance.specs.Searching.{last_passing-is, first_passing-is}
 
 Decides-nat_le : (a b : ℕ) → Decides (nat_le a b) (a ≤ b)
 Decides-nat_le a b = (leb-true a b, le-leb a b)
@@ -31,12 +31,10 @@ square-above : (d : ℕ) → d ≤ d * d
 square-above zero = omega arith
 square-above (suc d) = let more = mul-le 1 (suc d) (suc d) (suc d) (omega arith) (omega arith) in omega (arith, more)
 
-covers_by : (parts d s : ℕ) → 1 ≤ parts → d ≤ s → d ≤ parts * (s * (scale * scale))
-covers_by parts d s some le = let more = mul-le 1 (s * (scale * scale)) parts
-    (s * (scale * scale)) some (omega arith) in omega (arith, more)
-
 covers_itself : (parts d : ℕ) → 1 ≤ parts → Covers parts d d
-covers_itself parts d some = covers_by parts d (d * d) some (square-above d)
+covers_itself parts d some =
+    let more = mul-le 1 (d * d * (scale * scale)) parts (d * d * (scale * scale)) some (omega arith) in
+    omega (arith, more, square-above d)
 
 covering_root-is : (parts square : ℕ) → 1 ≤ parts → IsLeast (Covers parts square) (covering_root parts square)
 unfolding covering_root
@@ -52,24 +50,7 @@ distance_at-is Man2d dx dy = rounded_length-is (dx + dy)
 distance_at-is Max2d dx dy = rounded_length-is (max dx dy)
 distance_at-is Att dx dy = covering_root-is 10 (square_sum dx dy) (omega arith)
 
--- ---- uniqueness, order and bounds
-
-least-unique : (P : ℕ → Type 0) (d e : ℕ) → IsLeast P d → IsLeast P e → d ≤ e
-least-unique P d e a b = a.least e b.holds
-
-below_each_other : (kind : PlaneKind) (dx dy d e : ℕ) → IsDistance kind dx dy d → IsDistance kind dx dy e → d ≤ e
-below_each_other Euc2d dx dy d e a b = greatest-unique (RootReaches (square_sum dx dy)) d e a b
-below_each_other Ceil2d dx dy d e a b = least-unique (Covers 1 (square_sum dx dy)) d e a b
-below_each_other Man2d dx dy d e a b = greatest-unique (Reaches (dx + dy)) d e a b
-below_each_other Max2d dx dy d e a b = greatest-unique (Reaches (max dx dy)) d e a b
-below_each_other Att dx dy d e a b = least-unique (Covers 10 (square_sum dx dy)) d e a b
-
-pub distance-unique : (kind : PlaneKind) (dx dy d : ℕ) → IsDistance kind dx dy d → d ≡ distance_at kind dx dy
-distance-unique kind dx dy d is =
-    let at = distance_at-is kind dx dy in
-    let low = below_each_other kind dx dy d (distance_at kind dx dy) is at in
-    let high = below_each_other kind dx dy (distance_at kind dx dy) d at is in
-    omega (arith, low, high)
+-- ---- order, uniqueness and bounds
 
 greatest-rises : (P Q : ℕ → Type 0) (d e : ℕ) → ((k : ℕ) → P k → Q k) → IsGreatest P d → IsGreatest Q e → d ≤ e
 greatest-rises P Q zero e more a b = omega arith
@@ -101,6 +82,13 @@ rises Att dx dy ex ey d e x y a b =
     let more = square_sum-rises dx dy ex ey x y in
     least-rises (Covers 10 (square_sum dx dy)) (Covers 10 (square_sum ex ey)) d e (λ k h. omega (arith, h, more)) a b
 
+pub distance-unique : (kind : PlaneKind) (dx dy d : ℕ) → IsDistance kind dx dy d → d ≡ distance_at kind dx dy
+distance-unique kind dx dy d is =
+    let at = distance_at-is kind dx dy in
+    let low = rises kind dx dy dx dy d (distance_at kind dx dy) (omega arith) (omega arith) is at in
+    let high = rises kind dx dy dx dy (distance_at kind dx dy) d (omega arith) (omega arith) at is in
+    omega (arith, low, high)
+
 pub distance_at-rises : (kind : PlaneKind) (dx dy ex ey : ℕ) → dx ≤ ex → dy ≤ ey →
     distance_at kind dx dy ≤ distance_at kind ex ey
 distance_at-rises kind dx dy ex ey x y =
@@ -126,9 +114,8 @@ no_root = record {
 nothing : (kind : PlaneKind) → IsDistance kind 0 0 0
 nothing Euc2d = no_root
 nothing Ceil2d = record { holds = omega arith; least = λ e h. omega arith }
-nothing Man2d = record { holds = λ h. absurd (omega arith); greatest = λ e one h. absurd (omega arith) }
-nothing Max2d = record { holds = λ h. absurd (omega arith); greatest = λ e one h. absurd (omega arith) }
 nothing Att = record { holds = omega arith; least = λ e h. omega arith }
+nothing _ = record { holds = λ h. absurd (omega arith); greatest = λ e one h. absurd (omega arith) }
 
 pub distance_at-nothing : (kind : PlaneKind) → distance_at kind 0 0 ≡ 0
 distance_at-nothing kind = sym (distance-unique kind 0 0 0 (nothing kind))
@@ -137,10 +124,7 @@ distance_at-nothing kind = sym (distance-unique kind 0 0 0 (nothing kind))
 
 square_sum-far : (dx dy : ℕ) → dx ≤ reach → dy ≤ reach →
     square_sum dx dy ≤ 8000000000000000000000000000000000000
-square_sum-far dx dy x y =
-    let a = mul-le dx dx reach reach x x in
-    let b = mul-le dy dy reach reach y y in
-    omega (arith, a, b)
+square_sum-far dx dy x y = let most = square_sum-rises dx dy reach reach x y in omega (arith, most)
 
 rounded_root-far : (square d : ℕ) → square ≤ 8000000000000000000000000000000000000 → IsGreatest (RootReaches square) d →
     d ≤ DISTANCE_LIMIT
