@@ -9,7 +9,7 @@ use Rattle.tk_problem.specs.declared.point.Point.{Point}
 use Rattle.tk_problem.specs.declared.point.WholePoint.{WholePoint}
 use Rattle.tk_problem.specs.declared.points.Places.TheVariants.{Whole}
 use Rattle.tk_problem.specs.declared.unit.Unit.{Unit}
-use Rattle.tk_problem.specs.declared.unit.Unit.TheVariants.{One, Tenth, Hundredth, Thousandth}
+use Rattle.tk_problem.specs.declared.unit.Unit.TheVariants.{One}
 use Rattle.tk_problem.specs.declared.weights.PlaneKind.TheVariants.{Euc2d}
 use Rattle.tk_problem.specs.Units.{place_in, step_of}
 use Rattle.tk_problem.specs.PlacesOf.{places_of}
@@ -31,24 +31,16 @@ whole_city_place places c = record { x = (whole_city places c).x; y = (whole_cit
 
 pub whole_gap-limit : (places : List WholePoint) (a b : ℕ) →
     gap (whole_city places a).x (whole_city places b).x ≤ reach
-whole_gap-limit places a b =
-    let p = (whole_city places a).x_near in
-    let q = (whole_city places b).x_near in
-    omega (arith, ints, p, q)
+whole_gap-limit places a b = omega (arith, ints, (whole_city places a).x_near, (whole_city places b).x_near)
 
 pub whole_gap_y-limit : (places : List WholePoint) (a b : ℕ) →
     gap (whole_city places a).y (whole_city places b).y ≤ reach
-whole_gap_y-limit places a b =
-    let p = (whole_city places a).y_near in
-    let q = (whole_city places b).y_near in
-    omega (arith, ints, p, q)
+whole_gap_y-limit places a b = omega (arith, ints, (whole_city places a).y_near, (whole_city places b).y_near)
 
 city_place-whole : (unit : Unit) (places : List WholePoint) (c : ℕ) →
     city_place (map (place_in unit) places) c ≡ place_in unit (whole_city places c)
 city_place-whole One places c = get_or-map (place_in One) places (c - 1) whole_origin
-city_place-whole Tenth places c = get_or-map (place_in Tenth) places (c - 1) whole_origin
-city_place-whole Hundredth places c = get_or-map (place_in Hundredth) places (c - 1) whole_origin
-city_place-whole Thousandth places c = get_or-map (place_in Thousandth) places (c - 1) whole_origin
+city_place-whole unit places c = get_or-map (place_in unit) places (c - 1) whole_origin
 
 -- at a greater difference in whole numbers of a unit the distance is no less
 pub whole_floor-rises : (unit : Unit) (s t : ℕ) → s ≤ t →

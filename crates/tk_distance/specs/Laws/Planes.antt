@@ -10,7 +10,7 @@ use Rattle.tk_problem.specs.declared.point.Point.{Point}
 use Rattle.tk_problem.specs.declared.weights.PlaneKind.{PlaneKind}
 use Rattle.tk_problem.specs.declared.point.WholePoint.{WholePoint}
 use Rattle.tk_problem.specs.declared.unit.Unit.{Unit}
-use Rattle.tk_problem.specs.declared.unit.Unit.TheVariants.{One, Tenth, Hundredth, Thousandth}
+use Rattle.tk_problem.specs.declared.unit.Unit.TheVariants.{One}
 use Rattle.tk_problem.specs.Places.{IsNearOrigin, origin, greatest_coordinate}
 use Rattle.tk_problem.specs.Units.{place_in, step_of}
 use Rattle.tk_distance.specs.Distance.{gap, IsDistance, IsDistanceOf, reach}
@@ -32,9 +32,7 @@ gap-limit x y a b = omega (arith, ints)
 -- whole numbers of a unit, in units of 10^-9
 pub gap-in : (unit : Unit) (x y : ℤ) → gap (x *ℤ pos (step_of unit)) (y *ℤ pos (step_of unit)) ≡ gap x y * step_of unit
 gap-in One x y = omega (arith, ints)
-gap-in Tenth x y = omega (arith, ints)
-gap-in Hundredth x y = omega (arith, ints)
-gap-in Thousandth x y = omega (arith, ints)
+gap-in _ x y = omega (arith, ints)
 
 pub distance_of-swap : (kind : PlaneKind) (p q : Point) → distance_of kind p q ≡ distance_of kind q p
 distance_of-swap kind p q = rw (gap-swap p.x q.x, gap-swap p.y q.y)
@@ -54,16 +52,14 @@ city_place-near places near c = elim (cases_lt (c - 1) (length places)) [
 pub city_gap-limit : (places : List Point) → All IsNearOrigin places → (a b : ℕ) →
     gap (city_place places a).x (city_place places b).x ≤ reach
 city_gap-limit places near a b =
-    let p = city_place-near places near a in
-    let q = city_place-near places near b in
-    gap-limit (city_place places a).x (city_place places b).x p.x q.x
+    gap-limit (city_place places a).x (city_place places b).x (city_place-near places near a).x
+    (city_place-near places near b).x
 
 pub city_gap_y-limit : (places : List Point) → All IsNearOrigin places → (a b : ℕ) →
     gap (city_place places a).y (city_place places b).y ≤ reach
 city_gap_y-limit places near a b =
-    let p = city_place-near places near a in
-    let q = city_place-near places near b in
-    gap-limit (city_place places a).y (city_place places b).y p.y q.y
+    gap-limit (city_place places a).y (city_place places b).y (city_place-near places near a).y
+    (city_place-near places near b).y
 
 distance_of-limit : (kind : PlaneKind) (p q : Point) → IsNearOrigin p → IsNearOrigin q →
     distance_of kind p q ≤ DISTANCE_LIMIT
@@ -80,8 +76,7 @@ whole_places kind unit p q dx dy d x y is =
     ∙ ap (λ g. g * step_of unit) (sym x) in
     let ey : gap (place_in unit p).y (place_in unit q).y ≡ dy * step_of unit = gap-in unit p.y q.y
     ∙ ap (λ g. g * step_of unit) (sym y) in
-    subst (λ (g : ℕ). IsDistance kind g (gap (place_in unit p).y (place_in unit q).y) d) (sym ex)
-    (subst (λ (g : ℕ). IsDistance kind (dx * step_of unit) g d) (sym ey) is)
+    rw (ex, ey) is
 
 pub city_distance-limit : (kind : PlaneKind) (places : List Point) → All IsNearOrigin places → (a b : ℕ) →
     city_distance kind places a b ≤ DISTANCE_LIMIT
