@@ -1,6 +1,6 @@
 -- What bytes decide, they decide for every text that begins with them.
 use Rattle.std.proofs.Common.{◌≡◌, ℕ, zero, suc, ◌+◌, ◌-◌, ◌≤◌, Bool, true, false, cond, leb, List, [], ◌∷◌, ◌++◌}
-use Rattle.std.proofs.Common.{length, take, take-add, drop, Option, Some, None, Result, Ok, Err, IfOk, IfErr, refl}
+use Rattle.std.proofs.Common.{length, take, take-add, drop, Option, Some, None, Result, Ok, Err, refl}
 use Rattle.std.proofs.Common.{sym, ap, subst, ◌∙◌, append_assoc, arith}
 use Rattle.std.specs.Prelude.{unwrap_or}
 use Rattle.std.proofs.lemmas.Bool.{lt-leb, le-leb}
@@ -9,9 +9,11 @@ use Rattle.std.proofs.lemmas.List.{take-append-drop, append-nil}
 use Rattle.tk_words.specs.Taking.{HasEnded}
 use Rattle.tk_words.specs.Texts.{Texts, Decides, DecidesEnded, DecidesWithin, line_behind, IsTold, Answers, answer_of}
 use Rattle.tk_words.specs.Texts.{WantMore}
-use Rattle.tk_words.specs.Texts.{IsReadTo, IsCutOff, WhereTold, IsAnswerWhereTold}
+use Rattle.tk_words.specs.Texts.{IsReadTo, IsCutOff, WhereTold, IsAnswerWhereTold, IsOfSomeText}
+use Rattle.tk_words.specs.Reading.{IsReading}
+use Rattle.tk_words.specs.declared.sources.source.Source.{Ghosts}
 use Rattle.tk_words.specs.declared.sources.reading.TheConstants.{BUFFER_SIZE}
-use Rattle.tk_words.proofs.Told.{told_of}
+use Rattle.tk_words.proofs.Told.{told_of, fault_of}
 use Rattle.std.specs.Io.KnownBytes.{Consumes, IsAtEnd, Keeps}
 
 -- the front of a list, and its rest
@@ -127,18 +129,35 @@ too_long_at texts bs piece end n lt full some few none =
     (subst (λ (x : List ℕ). Answers texts x (Err (texts.too_long (line_behind (bs ++ take end piece)))))
     (taken_on bs piece end (end + 1) (omega arith) lt n few) (answers_too_long texts _ byte len one none))
 
--- ---- the end of the bytes
+-- ---- a source's text is read
 
-module _ {V E W : Type 0} (texts : Texts V E) (view : W → V) (before : List ℕ) where
-  pub ended_value : (r : Result W E) (P : W → Type 0) → HasEnded texts view before r →
-      ((v : W) → DecidesEnded texts before (Ok (view v)) → P v) → IfOk r P
-  ended_value (Ok v) P h k = k v h
-  ended_value (Err f) P h k = tt
+module _ {V E S O : Type 0} (source : Ghosts S) (texts : Texts V E) (view : O → V) (old new : S)
+    (whole : source.broken new ≡ source.broken old) where
+  pub value_read : (v : O) → IsAnswerWhereTold texts (source.left old) (source.left new) (Ok (view v)) →
+      IsOfSomeText texts (Ok (view v)) → IsReading source texts view old new (Ok v)
+  value_read v answer some = record { ok = answer; err = tt; some_text = some; some_fault = tt; intact = whole }
 
-  pub ended_fault : (r : Result W E) (P : E → Type 0) → HasEnded texts view before r →
-      ((f : E) → IsTold texts (DecidesEnded texts before) f → P f) → IfErr r P
-  ended_fault (Ok v) P h k = tt
-  ended_fault (Err f) P h k = k f h
+  -- a fault of memory, or one that is the answer
+  pub fault_read : (P : Result V E → Type 0) (f : E) → WhereTold (source.left old) (source.left new) (IsReadTo texts)
+      → (P (Err f) → IsAnswerWhereTold texts (source.left old) (source.left new) (Err f))
+      → (P (Err f) → IsOfSomeText texts (Err f)) → IsTold texts P f → IsReading source texts view old new (Err f)
+  fault_read P f far answer some told = record {
+    ok = tt;
+    err = fault_of texts (source.broken new) (source.left old) (source.left new) P f (texts.cause f) far answer told;
+    some_text = tt;
+    some_fault = told_of (Unit {0}) (λ e. P (Err e)) (λ e. IsOfSomeText texts (Err e)) f (texts.cause f) some told;
+    intact = λ other. whole;
+  }
+
+  -- at the end of its bytes
+  pub ended_read : (bs : List ℕ) (r : Result O E) → length bs ≤ texts.limit → HasEnded texts view bs r
+      → WhereTold (source.left old) (source.left new) (IsReadTo texts)
+      → ((a : Result V E) → DecidesEnded texts bs a → IsAnswerWhereTold texts (source.left old) (source.left new) a)
+      → IsReading source texts view old new r
+  ended_read bs (Ok v) le h far answer = value_read v (answer (Ok (view v)) h)
+      (bs, answer_ended texts bs (Ok (view v)) le h)
+  ended_read bs (Err f) le h far answer = fault_read (DecidesEnded texts bs) f far (answer (Err f))
+      (λ e. (bs, answer_ended texts bs (Err f) le e)) h
 
 -- ---- what a source has left
 
