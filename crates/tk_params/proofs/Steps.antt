@@ -95,53 +95,57 @@ shorter : (p : ℕ → Bool) (xs : List ℕ) → length (behind p xs) ≤ length
 shorter p [] = omega arith
 shorter p (x ∷ xs) = shorter_step (p x) x xs (behind p xs) (shorter p xs)
 
+-- the word of a line and what comes after it, with more bytes: these begin after blanks alone, or go on where a word
+-- ends, or come later
+pub data Goes (pre x : List ℕ) : Type 0 where
+  Before : behind_word pre ≡ [] → word_of (pre ++ x) ≡ word_of x → behind_word (pre ++ x) ≡ behind_word x → Goes pre x
+  Within : behind_word pre ≡ [] → word_of (pre ++ x) ≡ behind is_blank pre ++ front is_word_byte x →
+      behind_word (pre ++ x) ≡ behind is_word_byte x → Goes pre x
+  Behind : (d : ℕ) (ds : List ℕ) → behind_word pre ≡ d ∷ ds → word_of (pre ++ x) ≡ word_of pre →
+      behind_word (pre ++ x) ≡ d ∷ (ds ++ x) → Goes pre x
+
+pub goes : (pre x : List ℕ) → Goes pre x
+goes pre x = by_held (behind is_blank pre) refl (behind_word pre) refl
+  where
+    by_held : (h : List ℕ) → behind is_blank pre ≡ h → (r : List ℕ) → behind_word pre ≡ r → Goes pre x
+    by_held [] e r f = let all = behind-all is_blank pre x e in
+        Before (ap (behind is_word_byte) e) (ap (front is_word_byte) all) (ap (behind is_word_byte) all)
+    by_held (c ∷ cs) e [] f =
+        let on = behind-on is_blank pre x (not_none _ c cs e) in
+        Within f (ap (front is_word_byte) on ∙ front-all is_word_byte (behind is_blank pre) x f)
+        (ap (behind is_word_byte) on ∙ behind-all is_word_byte (behind is_blank pre) x f)
+    by_held (c ∷ cs) e (d ∷ ds) f =
+        let on = behind-on is_blank pre x (not_none _ c cs e) in
+        let more = not_none _ d ds f in
+        Behind d ds f (ap (front is_word_byte) on ∙ front-on is_word_byte (behind is_blank pre) x more)
+        (ap (behind is_word_byte) on ∙ behind-on is_word_byte (behind is_blank pre) x more
+        ∙ ap (λ (z : List ℕ). z ++ x) f)
+
 module _ (pre : List ℕ) (none : ends_in pre ≡ false) where
   past_word : (d : ℕ) (ds : List ℕ) → behind_word pre ≡ d ∷ ds → spells_eof (word_of pre) ≡ false
   past_word d ds e = false_from_ne_true _ (λ t. let j = rw (e, t) at none in absurd cc)
 
   pub push_open : (b : ℕ) → (spells_eof (behind is_blank pre) ≡ true → is_word_byte b ≡ true) →
       ends_in (pre ++ b ∷ []) ≡ false
-  push_open b k = by_held (behind is_blank pre) refl (behind_word pre) refl
+  push_open b k = by_word (goes pre (b ∷ []))
     where
-      by_held : (h : List ℕ) → behind is_blank pre ≡ h → (r : List ℕ) → behind_word pre ≡ r →
-          ends_in (pre ++ b ∷ []) ≡ false
-      by_held [] e r f =
-          rw (behind-all is_blank pre (b ∷ []) e)
+      by_word : Goes pre (b ∷ []) → ends_in (pre ++ b ∷ []) ≡ false
+      by_word (Before e word rest) =
+          rw (word, rest)
           (one_byte b (is_blank b) (not (is_empty (behind is_word_byte (cond (is_blank b) [] (b ∷ []))))))
-      by_held (c ∷ cs) e [] f =
-          rw (
-            behind-on is_blank pre (b ∷ []) (not_none _ c cs e),
-            front-all is_word_byte (behind is_blank pre) (b ∷ []) f,
-            behind-all is_word_byte (behind is_blank pre) (b ∷ []) f,
-          )
-          (on_word (behind is_blank pre) b k)
-      by_held (c ∷ cs) e (d ∷ ds) f =
-          let more = not_none _ d ds f in
-          rw (
-            behind-on is_blank pre (b ∷ []) (not_none _ c cs e),
-            front-on is_word_byte (behind is_blank pre) (b ∷ []) more,
-          )
-          (and_left _ _ (past_word d ds f))
+      by_word (Within e word rest) = rw (word, rest) (on_word (behind is_blank pre) b k)
+      by_word (Behind d ds e word rest) = rw word (and_left _ _ (past_word d ds e))
 
   -- an EOF that ends later has its end among the later bytes
   late : (x : List ℕ) → spells_eof (word_of (pre ++ x)) ≡ true → length (behind_word (pre ++ x)) ≤ length x
-  late x k = by_held (behind is_blank pre) refl (behind_word pre) refl
+  late x k = by_word (goes pre x)
     where
-      by_held : (h : List ℕ) → behind is_blank pre ≡ h → (r : List ℕ) → behind_word pre ≡ r →
-          length (behind_word (pre ++ x)) ≤ length x
-      by_held [] e r f =
-          rw (behind-all is_blank pre x e) (omega (arith, shorter is_word_byte (behind is_blank x), shorter is_blank x))
-      by_held (c ∷ cs) e [] f =
-          rw (behind-on is_blank pre x (not_none _ c cs e), behind-all is_word_byte (behind is_blank pre) x f)
-          (shorter is_word_byte x)
-      by_held (c ∷ cs) e (d ∷ ds) f =
-          let j =
-          rw (
-            behind-on is_blank pre x (not_none _ c cs e),
-            front-on is_word_byte (behind is_blank pre) x (not_none _ d ds f),
-          ) at k in
-          let l = past_word d ds f in
-          absurd cc
+      by_word : Goes pre x → length (behind_word (pre ++ x)) ≤ length x
+      by_word (Before e word rest) =
+          rw rest (omega (arith, shorter is_word_byte (behind is_blank x), shorter is_blank x))
+      by_word (Within e word rest) = rw rest (shorter is_word_byte x)
+      by_word (Behind d ds e word rest) =
+          absurd (let j : true ≡ false = sym k ∙ ap spells_eof word ∙ past_word d ds e in cc)
 
   -- the line is no EOF
   pub no_end : spells_eof (behind is_blank pre) ≡ false → spells_eof (word_of pre) ≡ false

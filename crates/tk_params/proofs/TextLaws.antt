@@ -5,13 +5,12 @@ use Rattle.std.proofs.Common.{append_assoc, arith}
 use Rattle.std.specs.Option.{IsSome}
 use Rattle.std.proofs.lemmas.Bool.{ltb-true, and_parts, and_from}
 use Rattle.std.proofs.lemmas.List.{length-append, length-take, take-append-drop}
-use Rattle.tk_words.specs.Lex.{Line, is_blank, is_word_byte, is_empty, front, behind, lines}
+use Rattle.tk_words.specs.Lex.{Line, is_blank, is_empty, front, behind, lines}
 use Rattle.tk_words.specs.TextLaws.{HasAnswers, StaysDecided}
 use Rattle.tk_words.proofs.Bools.{or_true}
 use Rattle.tk_lines.proofs.Answered.{AreWhole, whole_lines}
 use Rattle.tk_lines.proofs.Growing.{a_line, lines_grow}
-use Rattle.tk_lines.proofs.MiddleOfLine.{behind-more, front-more}
-use Rattle.tk_params.proofs.Steps.{judge_line, judge_none, over}
+use Rattle.tk_params.proofs.Steps.{Goes, Before, Within, Behind, goes, judge_line, judge_none, over}
 use Rattle.tk_params.specs.declared.fault.ParamKind.TheVariants as kinds
 use Rattle.tk_params.specs.Params.{Answer, after, answer_at_end, behind_word, counted, is_end, spells_eof, judge_params}
 use Rattle.tk_params.specs.Params.{line_limit}
@@ -58,26 +57,22 @@ ended_count : (l : Line) → is_end l ≡ true → counted l ≡ length l.bytes 
 ended_count l h = ap (λ (t : Bool). length l.bytes - cond t (length (behind_word l.bytes)) 0) h
 
 still_ends : (n : ℕ) (bs x : List ℕ) (w : Bool) → ends_in bs ≡ true → StillEnds n bs x w
-still_ends n bs x w h = by_held (behind is_blank bs) refl (behind_word bs) refl
+still_ends n bs x w h = by_word (goes bs x)
   where
-    by_held : (held : List ℕ) → behind is_blank bs ≡ held → (r : List ℕ) → behind_word bs ≡ r → StillEnds n bs x w
-    by_held [] e r f = absurd (
-        let no_word : word_of bs ≡ [] = ap (front is_word_byte) e in
-        let j : false ≡ true = sym (ap spells_eof no_word) ∙ (and_parts _ _ h).0 in cc)
-    by_held (c ∷ cs) e [] f =
-        absurd (let j : false ≡ true = sym (ap (λ (y : List ℕ). not (is_empty y)) f) ∙ (and_parts _ _ h).1 in cc)
-    by_held (c ∷ cs) e (d ∷ ds) f =
-        let on : behind is_blank (bs ++ x) ≡ (c ∷ cs) ++ x = behind-more is_blank bs x c cs e in
-        let past : behind is_word_byte (c ∷ cs) ≡ d ∷ ds = sym (ap (behind is_word_byte) e) ∙ f in
-        let word : word_of (bs ++ x) ≡ word_of bs = ap (front is_word_byte) on
-        ∙ front-more is_word_byte (c ∷ cs) x d ds past ∙ sym (ap (front is_word_byte) e) in
-        let rest : behind_word (bs ++ x) ≡ (d ∷ ds) ++ x = ap (behind is_word_byte) on
-        ∙ behind-more is_word_byte (c ∷ cs) x d ds past in
+    some : behind_word bs ≡ [] → ⊥
+    some e =
+        let both = and_parts (spells_eof (word_of bs)) (not (is_empty (behind_word bs))) h in
+        let j : false ≡ true = sym (ap (λ (y : List ℕ). not (is_empty y)) e) ∙ both.1 in cc
+
+    by_word : Goes bs x → StillEnds n bs x w
+    by_word (Before e word rest) = absurd (some e)
+    by_word (Within e word rest) = absurd (some e)
+    by_word (Behind d ds e word rest) =
         let ends : is_end (a_line n (bs ++ x) w) ≡ true =
         and_from _ _ (ap spells_eof word ∙ (and_parts _ _ h).0) (ap (λ (y : List ℕ). w || not (is_empty y)) rest
         ∙ or_true w) in
         let size : length (bs ++ x) - length (behind_word (bs ++ x)) ≡ length bs - length (behind_word bs) =
-        omega (arith, length-append bs x, length-append (d ∷ ds) x, ap length rest, ap length f) in
+        omega (arith, length-append bs x, length-append (d ∷ ds) x, ap length rest, ap length e) in
         record {
           ends = ends;
           counts = ended_count (a_line n (bs ++ x) w) ends ∙ size
