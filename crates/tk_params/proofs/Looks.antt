@@ -1,6 +1,7 @@
 -- Looking up settings.
 use Rattle.std.proofs.Common.{◌≡◌, ◌∙◌, ◌++◌, ◌≤◌, ℕ, eqb, length, get_or, arith, Bool, true, false, Bor, List, [], ◌∷◌}
 use Rattle.std.proofs.Common.{Option, None, Some, cond, map, option_map, refl, sym, ap, subst}
+use Rattle.std.proofs.Math.Path.{fun_ext}
 use Rattle.std.proofs.lemmas.Map.Made.{lookup-map_values}
 use Rattle.std.proofs.lemmas.List.{append-nil, map-append}
 use Rattle.std.proofs.lemmas.Bool.{cond-false, cond-true, eq-eqb, eqb-true, false_from_ne_true, le-ltb}
@@ -34,9 +35,7 @@ equal_keys _ keys.ProblemFile = refl
 equal_keys _ _ = refl
 
 lookup_same : {X : Type 0} (key : Key) (es : List (Key × X)) → lookup (eq-value.it key) es ≡ lookup (same_key key) es
-lookup_same key [] = refl
-lookup_same key (e ∷ es) = ap (λ t. cond t (Some e.1) (lookup (eq-value.it key) es)) (equal_keys key e.0)
-    ∙ ap (λ r. cond (same_key key e.0) (Some e.1) r) (lookup_same key es)
+lookup_same key es = ap (λ (test : Key → Bool). lookup test es) (fun_ext (equal_keys key))
 
 -- a look-up among what is stored
 pub equal_looks : (key : Key) (es : List (Key × Setting)) →
