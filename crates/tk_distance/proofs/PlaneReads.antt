@@ -1,8 +1,8 @@
 -- The places of cities, as a view of a list keeps them.
 use Rattle.std.proofs.Common.{◌≡◌, ℕ, ◌*◌, ◌-◌, ◌<◌, ◌≤◌, List, length, get_or, ap, ◌∙◌, subst, sym, arith, Bor, pos}
-use Rattle.std.proofs.Common.{to_z, w64}
+use Rattle.std.proofs.Common.{All, ℤ, SFits, to_z, of_z, w64, ◌<ℤ◌, ◌↔◌}
 use Rattle.std.proofs.lemmas.List.{get_or-map, length-map}
-use Rattle.std.proofs.lemmas.Int.{ints}
+use Rattle.std.proofs.lemmas.Int.{ints, to_z-of_z}
 use Rattle.std.specs.Int.RustNames.{unsigned_abs}
 use Rattle.tk_problem.specs.declared.limits.TheConstants.{DISTANCE_LIMIT}
 use Rattle.tk_problem.specs.declared.point.Point.{Point}
@@ -12,13 +12,13 @@ use Rattle.tk_problem.specs.declared.points.Places.TheVariants.{Whole, Fine}
 use Rattle.tk_problem.specs.declared.weights.PlaneKind.{PlaneKind}
 use Rattle.tk_problem.specs.declared.weights.PlaneKind.TheVariants.{Euc2d}
 use Rattle.tk_problem.specs.declared.unit.Unit.{Unit}
-use Rattle.tk_problem.specs.Places.{origin}
+use Rattle.tk_problem.specs.Places.{IsNearOrigin, origin}
 use Rattle.tk_problem.specs.Units.{place_in, step_of}
 use Rattle.tk_problem.specs.PlacesOf.{places_of}
 use Rattle.tk_distance.specs.Cities.{IsCity}
 use Rattle.tk_distance.specs.Distance.{IsDistanceOf, IsGreatest, RootReaches, gap, square_sum}
 use Rattle.tk_distance.specs.Laws.Distances.{distance_at-is}
-use Rattle.tk_distance.specs.Laws.Planes.{distance_of-unique, gap-in}
+use Rattle.tk_distance.specs.Laws.Planes.{city_distance-limit, distance_of-unique, gap-in}
 use Rattle.tk_distance.specs.PlaneOf.{city_place, city_distance, IsCityDistance}
 use Rattle.tk_distance.proofs.ExactRoots.Units.{square-in}
 
@@ -86,6 +86,17 @@ pub signed_distance : (kind : PlaneKind) (ps : List Point) (a b d : ℕ) → IsC
 signed_distance kind ps a b d is low =
     let same : d ≡ unsigned_abs (to_z w64 d) = omega (arith, ints) in
     subst (λ (e : ℕ). IsCityDistance kind ps a b e) same is
+
+-- what tells whether the distance of two cities is below a bound, where this stands for the code's signed limit
+pub below_limit : (kind : PlaneKind) (ps : List Point) (a b bound : ℕ) (limit : ℤ) (T : Type 0) → All IsNearOrigin ps
+    → SFits w64 limit
+    → ((d : ℕ) → d ≤ DISTANCE_LIMIT → ((d < bound) ↔ (pos d <ℤ to_z w64 (of_z w64 limit))))
+    → (T ↔ (city_distance kind ps a b < bound)) → (T ↔ (pos (city_distance kind ps a b) <ℤ limit))
+below_limit kind ps a b bound limit T near fits is test =
+    let d = city_distance kind ps a b in
+    let at = subst (λ z. (d < bound) ↔ (pos d <ℤ z)) (to_z-of_z w64 limit fits)
+    (is d (city_distance-limit kind ps near a b)) in
+    (λ yes. at.0 (test.0 yes), λ below. test.1 (at.1 below))
 
 -- the square of the distance of two places, from whole differences
 square-between : (unit : Unit) (p q : WholePoint) (square : ℕ) → square ≡ square_sum (gap p.x q.x) (gap p.y q.y)
