@@ -3,7 +3,6 @@ pub mod Keys
 pub mod Limits
 pub mod Looks
 pub mod Steps
-pub mod Taken
 pub mod TextLaws
 pub mod Told
 pub mod WordLengths
