@@ -1,6 +1,6 @@
 -- A parameter reader, byte by byte.
 use Rattle.std.proofs.Common.{◌≡◌, ◌≢◌, ℕ, suc, ◌+◌, ◌<◌, Bool, true, false, eqb, List, [], ◌∷◌, ◌++◌, length, Option}
-use Rattle.std.proofs.Common.{Some}
+use Rattle.std.proofs.Common.{Some, cond}
 use Rattle.std.proofs.Common.{◌≤◌, get_or, take, Result, None, Ok, Err, refl, sym, ap, subst, ◌∙◌, append_assoc, arith}
 use Rattle.std.proofs.lemmas.Bool.{eqb-true, ne_eqb}
 use Rattle.std.proofs.lemmas.List.{append-nil, length-append}
@@ -15,7 +15,7 @@ use Rattle.tk_words.specs.declared.sources.text_reader.Step.TheVariants.{Taken, 
 use Rattle.tk_words.specs.Taking as Taking
 use Rattle.tk_words.specs.Taking.{HasEnded}
 use Rattle.tk_words.proofs.FirstBytes.{first_byte, first_decides, first_told}
-use Rattle.tk_words.specs.Texts.{Decides}
+use Rattle.tk_words.specs.Texts.{Decides, line_behind}
 use Rattle.tk_params.specs.Asked.{ParamsAre, asked, asked_of, file_in}
 use Rattle.tk_params.specs.declared.key.Key.TheVariants as keys
 use Rattle.tk_params.specs.declared.fault.ParamFault.{ParamFault}
@@ -94,21 +94,19 @@ hold_more pre [] b e n = absurd cc
 hold_more pre (c ∷ cs) b e n =
     sym (behind-on is_blank pre (b ∷ []) (λ k. subst IsEmpty (sym e) k) ∙ ap (λ (z : List ℕ). z ++ b ∷ []) (sym e))
 
-pub hold_solid : (pre h : List ℕ) (b : ℕ) → h ≡ behind is_blank pre → eqb (length h) 0 ≡ true → is_blank b ≡ false →
-    h ++ b ∷ [] ≡ behind is_blank (pre ++ b ∷ [])
-hold_solid pre [] b e n s = sym (behind-all is_blank pre (b ∷ []) (sym e) ∙ rw s refl)
-hold_solid pre (c ∷ cs) b e n s = absurd (let k = eqb-true _ _ n in omega (arith, k))
-
-pub hold_blank : (pre h : List ℕ) (b : ℕ) → h ≡ behind is_blank pre → eqb (length h) 0 ≡ true → is_blank b ≡ true →
-    h ≡ behind is_blank (pre ++ b ∷ [])
-hold_blank pre [] b e n s = sym (behind-all is_blank pre (b ∷ []) (sym e) ∙ rw s refl)
-hold_blank pre (c ∷ cs) b e n s = absurd (let k = eqb-true _ _ n in omega (arith, k))
+-- the first byte that is no blank is held
+pub hold_first : (pre h : List ℕ) (b : ℕ) (blank : Bool) → h ≡ behind is_blank pre → eqb (length h) 0 ≡ true →
+    is_blank b ≡ blank → cond blank h (h ++ b ∷ []) ≡ behind is_blank (pre ++ b ∷ [])
+hold_first pre [] b blank e n s = sym (behind-all is_blank pre (b ∷ []) (sym e) ∙ rw s refl)
+hold_first pre (c ∷ cs) b blank e n s = absurd (let k = eqb-true _ _ n in omega (arith, k))
 
 -- ---- the reader's places
 
-pub fed_new : (t : ParamReader) → t.line ≡ 1 → t.count ≡ 0 → t.settings ≡ [] →
-    t.held.items ≡ [] → Feeds t []
-fed_new t line count settings held =
+-- at the front of a line
+fed_front : (t : ParamReader) (bs : List ℕ) → t.line ≡ line_behind bs → t.count ≡ 0 → t.held.items ≡ []
+    → ((e : Bool) (more : List ℕ) → params_decided e (bs ++ more) ≡ params_from_line t.line t.settings [] e more)
+    → Feeds t bs
+fed_front t bs line count held same =
     record {
       pre = [];
       line = line;
@@ -116,8 +114,13 @@ fed_new t line count settings held =
       short = omega arith;
       held = held;
       going = refl;
-      same = λ e more. rw (line, settings) (from_nothing e more);
+      same = same;
     }
+
+pub fed_new : (t : ParamReader) → t.line ≡ 1 → t.count ≡ 0 → t.settings ≡ [] →
+    t.held.items ≡ [] → Feeds t []
+fed_new t line count settings held =
+    fed_front t [] line count held (λ e more. rw (line, settings) (from_nothing e more))
 
 -- more bytes decide
 pub fed_open : (s : ParamReader) (bs : List ℕ) → Feeds s bs → params_decided false bs ≡ None
@@ -145,20 +148,11 @@ module _ (s t : ParamReader) (bs : List ℕ) (f : Feeds s bs) (taken : IsLineTak
       u.held.items ≡ [] → Feeds u (bs ++ 10 ∷ [])
   fed_line u line count settings held =
       let next : u.line ≡ suc s.line = omega (arith, line, taken.line) in
-      record {
-        pre = [];
-        line = omega (arith, next, f.line, line_behind-LF bs);
-        count = count;
-        short = omega arith;
-        held = held;
-        going = refl;
-        same = λ e more.
-            on_byte s bs f 10 e more
-            ∙ from_LF s.line s.settings f.pre f.going f.short no_eof e more is_sound
-            ∙ ap (λ ss. params_from_line (suc s.line) ss [] e more) same_settings
-            ∙ ap (λ ss. params_from_line (suc s.line) ss [] e more) (sym settings)
-            ∙ ap (λ n. params_from_line n u.settings [] e more) (sym next);
-      }
+      fed_front u (bs ++ 10 ∷ []) (omega (arith, next, f.line, line_behind-LF bs)) count held (λ e more.
+      on_byte s bs f 10 e more
+      ∙ from_LF s.line s.settings f.pre f.going f.short no_eof e more is_sound
+      ∙ ap (λ ss. params_from_line (suc s.line) ss [] e more) (same_settings ∙ sym settings)
+      ∙ ap (λ n. params_from_line n u.settings [] e more) (sym next))
 
   -- the last line is taken, and nothing follows
   pub ends_line : params_decided true bs ≡ Some (answer_at_end s.line t.settings)
