@@ -1,5 +1,5 @@
 -- Cities whose coordinates are whole numbers of a unit: their places in these, in place of units of 10^-9.
-use Rattle.std.proofs.Common.{◌≡◌, ℕ, ◌-◌, ◌*◌, ◌≤◌, List, map, pos, subst, arith}
+use Rattle.std.proofs.Common.{◌≡◌, ℕ, ◌-◌, ◌*◌, ◌≤◌, List, map, pos, arith}
 use Rattle.std.specs.Borrow.{Bor}
 use Rattle.std.specs.Prelude.{slice_index_or}
 use Rattle.std.proofs.lemmas.Int.{ints}
@@ -49,23 +49,23 @@ whole_floor-rises unit s t below = floor-rises Euc2d (s * step_of unit) (t * ste
     (mul-le s (step_of unit) t (step_of unit) below (omega arith))
 
 module _ (unit : Unit) (places : Bor (List WholePoint)) (a b : ℕ) where
+  in_units : (far here : ℕ) → far ≡ here → distance_at Euc2d far 0 ≤ distance_of Euc2d
+      (place_in unit (whole_city places.now a)) (place_in unit (whole_city places.now b)) →
+      distance_at Euc2d here 0 ≤ city_distance Euc2d (places_of (Whole unit places)) a b
+  in_units far here same floor =
+      rw (city_place-whole unit places.now a, city_place-whole unit places.now b, ← same) floor
+
   -- the distance at a difference in x alone, or in y alone, is at most the distance
   pub whole_floor : distance_at Euc2d (gap (whole_city places.now a).x (whole_city places.now b).x * step_of unit) 0
       ≤ city_distance Euc2d (places_of (Whole unit places)) a b
   whole_floor =
       let p = whole_city places.now a in
       let q = whole_city places.now b in
-      let floor = floor-bounds Euc2d (place_in unit p) (place_in unit q) in
-      rw (city_place-whole unit places.now a, city_place-whole unit places.now b)
-      (subst (λ g. distance_at Euc2d g 0 ≤ distance_of Euc2d (place_in unit p) (place_in unit q))
-      (gap-in unit p.x q.x) floor)
+      in_units _ _ (gap-in unit p.x q.x) (floor-bounds Euc2d (place_in unit p) (place_in unit q))
 
   pub whole_floor_y : distance_at Euc2d (gap (whole_city places.now a).y (whole_city places.now b).y * step_of unit) 0
       ≤ city_distance Euc2d (places_of (Whole unit places)) a b
   whole_floor_y =
       let p = whole_city places.now a in
       let q = whole_city places.now b in
-      let floor = floor-bounds_y Euc2d (place_in unit p) (place_in unit q) in
-      rw (city_place-whole unit places.now a, city_place-whole unit places.now b)
-      (subst (λ g. distance_at Euc2d g 0 ≤ distance_of Euc2d (place_in unit p) (place_in unit q))
-      (gap-in unit p.y q.y) floor)
+      in_units _ _ (gap-in unit p.y q.y) (floor-bounds_y Euc2d (place_in unit p) (place_in unit q))
