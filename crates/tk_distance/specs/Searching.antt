@@ -50,7 +50,3 @@ first_passing-is P passes is k zero m end h none = record {
 first_passing-is P passes is k (suc n) m end h none =
     least_by P k (first_passing passes (suc k) n) (passes k) (is k) none
     (first_passing-is P passes is (suc k) n m (omega arith) h)
-
-pub greatest-unique : (P : ℕ → Type 0) (d e : ℕ) → IsGreatest P d → IsGreatest P e → d ≤ e
-greatest-unique P zero e a b = omega arith
-greatest-unique P (suc d) e a b = b.greatest (suc d) (omega arith) (a.holds (omega arith))

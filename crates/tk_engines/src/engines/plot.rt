@@ -1,5 +1,5 @@
 //! The picture of a problem, and of a tour or of routes that fit it.
-ghost use Rattle.std.specs.Prelude.{◌≡◌, ◌⊎◌, true, IfErr, IfNone, IfSome, OnErr, None, Some, map, option_map};
+ghost use Rattle.std.specs.Prelude.{◌≡◌, ◌⊎◌, IfErr, IfNone, IfSome, OnErr, None, Some, map, option_map};
 ghost use Rattle.tk_problem_text.specs.ProblemOf.{problem_is};
 ghost use Rattle.tk_writers.specs.Puts.{Writes};
 ghost use Rattle.tk_writers.specs.Sinks.{IsBroken};
