@@ -25,6 +25,10 @@ Reaches length d = (2 * d - 1) * scale ≤ 2 * length
 abbrev pub RootReaches : ℕ → ℕ → Type 0
 RootReaches square d = (2 * d - 1) * (2 * d - 1) * (scale * scale) ≤ 4 * square
 
+-- the roots of two squares, rounded to the nearest, are the same
+abbrev pub RoundAlike : ℕ → ℕ → Type 0
+RoundAlike square other = (d : ℕ) → 1 ≤ d → (RootReaches square d ↔ RootReaches other d)
+
 -- squares in units of `step` are less than `parting` just where their roots, rounded to the nearest, are below a bound
 abbrev pub PartsRoots : ℕ → ℕ → ℕ → Type 0
 PartsRoots step bound parting = (square d : ℕ) → square ≤ 8000000000000000000 →

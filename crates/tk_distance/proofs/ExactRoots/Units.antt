@@ -1,5 +1,6 @@
 -- Squares and lengths in whole numbers of a unit, and those in ones that round alike.
-use Rattle.std.proofs.Common.{◌≡◌, ℕ, ◌+◌, ◌-◌, ◌*◌, ◌/◌, ◌<◌, ◌≤◌, ◌↔◌, subst, refl, inl, inr, arith, min, max}
+use Rattle.std.proofs.Common.{◌≡◌, ◌≢◌, ◌⊎◌, ℕ, ◌+◌, ◌-◌, ◌*◌, ◌/◌, ◌<◌, ◌≤◌, ◌↔◌, subst, refl, inl, inr, arith}
+use Rattle.std.proofs.Common.{min, max}
 use Rattle.std.proofs.lemmas.Bool.{cases_lt}
 use Rattle.std.proofs.lemmas.Nat.{mul-le}
 use Rattle.std.proofs.Math.Nat.{lt_of_not-le}
@@ -134,6 +135,24 @@ below_alike Thousandth s d b near is =
 pub below_by : (u v : Unit) (s d b r : ℕ) → u ≡ v → r ≡ square_below v b → s ≤ 8000000000000000000
     → IsGreatest (RootReaches (s * (step_of u * step_of u))) d → ((s < r) ↔ (d < b))
 below_by u v s d b r same is near greatest = rw is (below_alike v s d b near (rw same at greatest))
+
+-- from how many make 1/2 of a unit that is a part of 1
+pub below_half : (u : Unit) (half s d b r : ℕ) → (u ≢ One → 2 * half * step_of u ≡ scale) → u ≢ One
+    → r ≡ min ((2 * b - 1) * half) 3000000000 * min ((2 * b - 1) * half) 3000000000 → s ≤ 8000000000000000000
+    → IsGreatest (RootReaches (s * (step_of u * step_of u))) d → ((s < r) ↔ (d < b))
+below_half One half s d b r make part same near greatest = absurd (part refl)
+below_half Tenth half s d b r make part same near greatest =
+    let five : half ≡ 5 = omega (arith, make part) in rw (same, five) (below_alike Tenth s d b near greatest)
+below_half Hundredth half s d b r make part same near greatest =
+    let fifty : half ≡ 50 = omega (arith, make part) in rw (same, fifty) (below_alike Hundredth s d b near greatest)
+below_half Thousandth half s d b r make part same near greatest =
+    let many : half ≡ 500 = omega (arith, make part) in rw (same, many) (below_alike Thousandth s d b near greatest)
+
+-- a part of 1 is not 1
+pub not_one : (unit : Unit) → (unit ≡ Tenth) ⊎ ((unit ≡ Hundredth) ⊎ (unit ≡ Thousandth)) → unit ≢ One
+not_one unit (inl is) one = absurd cc
+not_one unit (inr (inl is)) one = absurd cc
+not_one unit (inr (inr is)) one = absurd cc
 
 -- ---- squares that are covered alike
 

@@ -1,8 +1,9 @@
 //! Lengths and squares of whole numbers of a unit, brought to ones.
-ghost use Rattle.std.specs.Prelude.{◌≡◌, ℕ, ◌-◌, ◌*◌, ◌≤◌, ◌↔◌, min};
-ghost use Rattle.tk_distance.specs.Distance.{IsGreatest, PartsRoots, Reaches, RootReaches, reach};
+ghost use Rattle.std.specs.Prelude.{◌≡◌, ◌≢◌, ℕ, ◌-◌, ◌*◌, ◌≤◌, ◌↔◌, min};
+ghost use Rattle.tk_distance.specs.Distance.{IsGreatest, PartsRoots, Reaches, RoundAlike, reach};
 ghost use Rattle.tk_problem.specs.Places.{scale};
 ghost use Rattle.tk_problem.specs.Units.{step_of};
+ghost use Rattle.tk_problem.specs.declared.unit.Unit.TheVariants.{One};
 
 use tk_problem::Unit;
 
@@ -10,8 +11,21 @@ use tk_problem::Unit;
 #[inline]
 pub fn rounding_square(unit: Unit, square: u64) -> u64
     requires { square ≤ 8000000000000000000 }
-    ensures reaches { (d : ℕ) → 1 ≤ d → (RootReaches (square * (step_of unit * step_of unit)) d
-        ↔ RootReaches (result * (scale * scale)) d) }
+    ensures alike { RoundAlike (square * (step_of unit * step_of unit)) (result * (scale * scale)) }
+    ensures bound { result ≤ 8000000000000000000 }
+{
+    match unit {
+        Unit::One => square,
+        Unit::Tenth | Unit::Hundredth | Unit::Thousandth => rounding_square_of_parts(unit, square),
+    }
+}
+
+/// The square in ones whose root, rounded to the nearest, is that of a square in parts of 1. It is apart from that of
+/// whole numbers, which are asked for most and need no table of jumps.
+#[inline(never)]
+fn rounding_square_of_parts(unit: Unit, square: u64) -> u64
+    requires { square ≤ 8000000000000000000 }
+    ensures alike { RoundAlike (square * (step_of unit * step_of unit)) (result * (scale * scale)) }
     ensures bound { result ≤ 8000000000000000000 }
 {
     match unit {
@@ -30,9 +44,30 @@ pub fn square_at(unit: Unit, bound: u64) -> u64
 {
     match unit {
         Unit::One => bound * bound - bound + bound.min(1),
-        Unit::Tenth => square_of_half(bound, 5),
-        Unit::Hundredth => square_of_half(bound, 50),
-        Unit::Thousandth => square_of_half(bound, 500),
+        Unit::Tenth | Unit::Hundredth | Unit::Thousandth => square_at_in_parts(unit, bound),
+    }
+}
+
+/// A square in a part of 1: a square is less just where its root, rounded to the nearest, is below a bound.
+#[inline(never)]
+fn square_at_in_parts(unit: Unit, bound: u64) -> u64
+    requires { bound ≤ 4000000001 }
+    ensures { unit ≢ One → PartsRoots (step_of unit) bound result }
+{
+    square_of_half(bound, half_of(unit))
+}
+
+/// How many of a unit make 1/2, of one that is a part of 1.
+#[inline]
+fn half_of(unit: Unit) -> u64
+    ensures half { unit ≢ One → 2 * result * step_of unit ≡ scale }
+    ensures limit { result ≤ 500 }
+{
+    match unit {
+        Unit::One => 0,
+        Unit::Tenth => 5,
+        Unit::Hundredth => 50,
+        Unit::Thousandth => 500,
     }
 }
 

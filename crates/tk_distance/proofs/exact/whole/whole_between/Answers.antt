@@ -9,7 +9,7 @@ pub returns-in-Euc2d : goal.returns-in-Euc2d
 returns-in-Euc2d c =
     let is = whole_euclid c.args.kind c.args.unit c.args.p c.args.q c.square_between.result c.nearest.result
     c.in-Euc2d.is c.square_between.ensures.value
-    (greatest_alike _ _ _ c.rounding_square.ensures.reaches c.nearest.ensures) in
+    (greatest_alike _ _ _ c.rounding_square.ensures.alike c.nearest.ensures) in
     record {
       distance = is;
       limit = IsDistanceOf-limit c.args.kind (place_in c.args.unit c.args.p) (place_in c.args.unit c.args.q)

@@ -8,7 +8,7 @@ use Rattle.tk_distance.proofs.exact.whole.whole_distance.Goals as goal
 pub returns-in-Euc2d : goal.returns-in-Euc2d
 returns-in-Euc2d c =
     rw c.in-Euc2d.is (rounded_in c.args.unit c.args.dx c.args.dy c.square_of.result c.square_of.ensures.value
-    c.rounding_square.result c.nearest.result c.rounding_square.ensures.reaches c.nearest.ensures)
+    c.rounding_square.result c.nearest.result c.rounding_square.ensures.alike c.nearest.ensures)
 
 pub returns-in-Ceil2d : goal.returns-in-Ceil2d
 returns-in-Ceil2d c =
