@@ -190,16 +190,18 @@ pub(crate) fn find_offer<S: TourStore, M: Metric>(
     ensures bound { count.new ≤ count.old + 4 * or_segment * near.now.width }
     ensures known { AreMeasured (M.distance metric.now) steps.new }
 {
-    let _counted = *count;
+    let mut tests = *count;
     let from = look_beside(tour, metric, steps, city);
     let all = pieces_of(tour, metric, steps, &from);
     let pieces = &all[..segment_count(size(tour), or_segment)];
     for y in near.of(city) {
         let y = look_beside(tour, metric, steps, *y);
-        if let Some(found) = try_city(metric, count, &from, pieces, &y) {
+        if let Some(found) = try_city(metric, &mut tests, &from, pieces, &y) {
+            *count = tests;
             return Some(found);
         }
     }
+    *count = tests;
     None
 }
 
