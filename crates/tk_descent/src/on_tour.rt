@@ -1,10 +1,11 @@
 //! The steps of a tour, with the facts that a look needs of them.
-ghost use Rattle.std.specs.Prelude.{◌≡◌, ◌≤◌, length};
+ghost use Rattle.std.specs.Prelude.{◌≡◌, ◌≤◌, All, length};
 ghost use Rattle.tk_problem.specs.declared.limits.TheConstants.{CITY_LIMIT};
 ghost use Rattle.tk_distance.specs.Cities.{IsCity};
+ghost use Rattle.tk_tour.specs.Around.{AreAround};
 ghost use Rattle.tk_tour.specs.Tour.{next_city, prev_city};
 
-use tk_tour::TourStore;
+use tk_tour::{Around, TourStore};
 
 /// How many cities the tour has.
 #[inline]
@@ -33,6 +34,17 @@ pub(crate) fn prev<S: TourStore>(tour: &S, c: u32) -> u32
     ensures city { IsCity (length (S.cities tour.now)) result }
 {
     tour.prev(c)
+}
+
+/// The cities around c.
+#[inline]
+pub(crate) fn around<S: TourStore>(tour: &S, c: u32) -> Around
+    requires city { IsCity (length (S.cities tour.now)) c }
+    ensures around { AreAround (S.cities tour.now) c result }
+    ensures after { All (IsCity (length (S.cities tour.now))) result.after }
+    ensures before { All (IsCity (length (S.cities tour.now))) result.before }
+{
+    tour.around(c)
 }
 
 /// The cities after and before c.

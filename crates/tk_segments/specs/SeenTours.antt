@@ -1,9 +1,10 @@
 -- What is seen of a tour through runs of its array.
-use Rattle.std.specs.Prelude.{◌≡◌, ℕ, ◌+◌, ◌-◌, ◌/◌, ◌≤◌, List, length, vec_len}
+use Rattle.std.specs.Prelude.{◌≡◌, ℕ, ◌+◌, ◌-◌, ◌/◌, ◌<◌, ◌≤◌, List, length, slice_index, vec_len}
 use Rattle.tk_tour.specs.Reversal.{begun_at, reversed_places}
-use Rattle.tk_segments.specs.Runs.{shown}
+use Rattle.tk_segments.specs.Runs.{IsSpot, shown}
 use Rattle.tk_segments.specs.Writes.{ArePaid, changed}
 use Rattle.tk_segments.specs.declared.seen.SeenTour.{SeenTour}
+use Rattle.tk_segments.specs.declared.spots.Spot.{Spot}
 
 -- what the runs show, begun where the list begins
 abbrev pub list_of : SeenTour → List ℕ
@@ -26,6 +27,13 @@ abbrev pub StaysPaid : SeenTour → SeenTour → ℕ → ℕ → Type 0
 StaysPaid old new written swapped = (writes swaps : ℕ) →
     ArePaid (length (list_of old)) (room_of old) writes (run_count_of old) swaps →
     ArePaid (length (list_of old)) (room_of old) (writes + written) (run_count_of new) (swaps + swapped)
+
+-- a city is seen at a spot
+pub record SeesAt (tour : SeenTour) (city : ℕ) (spot : Spot) : Type 0 where
+  pub place : ℕ
+  pub inside : place < tour.runs.size
+  pub is : IsSpot tour.runs.runs.items place spot
+  pub shows : slice_index (shown tour.order.items tour.runs.runs.items) place ≡ city
 
 -- `count` places of the list from the first on, from 0, are reversed; so many places of the array are written for it
 pub record IsReversed (old new : SeenTour) (first count cost : ℕ) : Type 0 where

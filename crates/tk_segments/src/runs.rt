@@ -8,7 +8,7 @@ ghost use Rattle.tk_segments.specs.Runs.{AreFound, AreLaidOut, AreNamed, IsAfter
 use crate::joining::{join_runs, parted_at};
 use crate::naming::name_runs;
 use crate::run::Run;
-use crate::spots::{Spot, beside, spot_at, spot_of};
+use crate::spots::{Spot, after, before, beside, spot_at, spot_of};
 use crate::turning::{begin_seen, turn_rest, turn_seen};
 use std::alloc::{AllocError, Global};
 
@@ -99,6 +99,24 @@ impl Runs {
         ensures { IsSpot self.now.runs.items v result }
     {
         spot_at(&self.runs, self.size, v)
+    }
+
+    /// What is seen after a spot, on the cycle.
+    pub fn after(&self, spot: Spot) -> Spot
+        requires spot { (v : ℕ) × (IsSpot self.now.runs.items v spot) }
+        ensures { (v w : ℕ) → IsSpot self.now.runs.items v spot → IsAfterPlace self.now.size v w
+            → IsSpot self.now.runs.items w result }
+    {
+        after(&self.runs, self.size, spot)
+    }
+
+    /// What is seen before a spot, on the cycle.
+    pub fn before(&self, spot: Spot) -> Spot
+        requires spot { (v : ℕ) × (IsSpot self.now.runs.items v spot) }
+        ensures { (v w : ℕ) → IsSpot self.now.runs.items w spot → IsAfterPlace self.now.size v w
+            → IsSpot self.now.runs.items v result }
+    {
+        before(&self.runs, self.size, spot)
     }
 
     /// What is seen after a spot, and before it, on the cycle.

@@ -1,6 +1,7 @@
 //! A tour as an array that is seen through runs.
 ghost use Rattle.std.specs.Prelude.{◌≡◌, ◌≤◌, ◌<◌, ◌+◌, ◌-◌, ◌*◌, ◌/◌, ℕ, length, slice_index, vec_len};
 ghost use Rattle.tk_distance.specs.Cities.{IsCity};
+ghost use Rattle.tk_tour.specs.Around.{AreAround};
 ghost use Rattle.tk_tour.specs.Places.{IsPlaceFrom};
 ghost use Rattle.tk_tour.specs.Reversal.{IsInverse, begun_at, reversed_places};
 ghost use Rattle.tk_segments.specs.Runs.{shown};
@@ -9,8 +10,9 @@ ghost use Rattle.tk_segments.specs.Writes.{ArePaid, changed};
 
 use crate::exchanging::exchange_seen;
 use crate::runs::Runs;
+use crate::spots::Spot;
 use crate::writing::write_seen;
-use tk_tour::{Placed, place_each};
+use tk_tour::{Around, Placed, place_each};
 
 /// The cities of a tour as an array that is seen through runs, begun at `begin`. A reversal of at most `short` places
 /// exchanges cities, a longer one turns runs round.
@@ -56,7 +58,7 @@ impl Placed for SeenTour {
 }
 
 impl SeenTour {
-    ghost use Rattle.tk_segments.specs.SeenTours.{IsReversed, array_of, list_of, room_of, run_count_of};
+    ghost use Rattle.tk_segments.specs.SeenTours.{IsReversed, SeesAt, array_of, list_of, room_of, run_count_of};
 
     /// The tour stands as the list does.
     pub fn new(
@@ -105,7 +107,7 @@ impl SeenTour {
         requires { IsCity (length (list_of self.now)) c }
         ensures { result ≡ next_city (list_of self.now) c }
     {
-        self.beside(c).0
+        self.after(self.spot_of(c)).1
     }
 
     /// The city before c.
@@ -113,7 +115,7 @@ impl SeenTour {
         requires { IsCity (length (list_of self.now)) c }
         ensures { result ≡ prev_city (list_of self.now) c }
     {
-        self.beside(c).1
+        self.before(self.spot_of(c)).1
     }
 
     /// The cities after and before c.
@@ -122,12 +124,56 @@ impl SeenTour {
         ensures after { result.0 ≡ next_city (list_of self.now) c }
         ensures before { result.1 ≡ prev_city (list_of self.now) c }
     {
-        let (spot, _) = self.runs.spot_of(self.place[c as usize - 1]);
-        let (after, before) = self.runs.beside(spot);
+        let (after, before) = self.runs.beside(self.spot_of(c));
         (
             self.order[after.place as usize],
             self.order[before.place as usize],
         )
+    }
+
+    /// The cities around c.
+    pub fn around(&self, c: u32) -> Around
+        requires { IsCity (length (list_of self.now)) c }
+        ensures { AreAround (list_of self.now) c result }
+    {
+        let spot = self.spot_of(c);
+        let (one_on, after) = self.after(spot);
+        let (two_on, after_2) = self.after(one_on);
+        let (one_back, before) = self.before(spot);
+        let (two_back, before_2) = self.before(one_back);
+        Around {
+            after: [after, after_2, self.after(two_on).1],
+            before: [before, before_2, self.before(two_back).1],
+        }
+    }
+
+    // Where a city is seen.
+    fn spot_of(&self, c: u32) -> Spot
+        requires { IsCity (length (list_of self.now)) c }
+        ensures { SeesAt self.now c result }
+    {
+        let (spot, _) = self.runs.spot_of(self.place[c as usize - 1]);
+        spot
+    }
+
+    // Where the city after one is seen, and that city.
+    fn after(&self, spot: Spot) -> (Spot, u32)
+        requires { (c : ℕ) × SeesAt self.now c spot }
+        ensures { (c : ℕ) → SeesAt self.now c spot → SeesAt self.now result.1 result.0
+            × (result.1 ≡ next_city (list_of self.now) c) }
+    {
+        let after = self.runs.after(spot);
+        (after, self.order[after.place as usize])
+    }
+
+    // Where the city before one is seen, and that city.
+    fn before(&self, spot: Spot) -> (Spot, u32)
+        requires { (c : ℕ) × SeesAt self.now c spot }
+        ensures { (c : ℕ) → SeesAt self.now c spot → SeesAt self.now result.1 result.0
+            × (result.1 ≡ prev_city (list_of self.now) c) }
+    {
+        let before = self.runs.before(spot);
+        (before, self.order[before.place as usize])
     }
 
     // Where the k-th place of the list, from 0, is seen.

@@ -12,7 +12,7 @@ use crate::runs::Runs;
 use crate::seen::SeenTour;
 use std::alloc::Global;
 use tk_problem::CITY_LIMIT;
-use tk_tour::{Flip, TourFault, TourStore, UndoStore, Verdict, place_cities, shorter_side};
+use tk_tour::{Around, Flip, TourFault, TourStore, UndoStore, Verdict, place_cities, shorter_side};
 
 /// So many segments at most.
 pub const MOST: u32 = 250;
@@ -83,6 +83,10 @@ impl TourStore for SegmentTour {
 
     fn beside(&self, c: u32) -> (u32, u32) {
         self.seen.beside(c)
+    }
+
+    fn around(&self, c: u32) -> Around {
+        self.seen.around(c)
     }
 
     fn at(&self, k: u32) -> u32 {

@@ -5,9 +5,10 @@ use Rattle.std.proofs.lemmas.List.{take-append-drop, length-take, get_or-take, d
 use Rattle.std.proofs.lemmas.List.Sums.{sum_by-cons, position_or_len_is}
 use Rattle.std.proofs.lemmas.Bool.{eq-eqb, cases_eq, cases_lt}
 use Rattle.std.proofs.lemmas.Bool.Decides.{eqb_tells}
-use Rattle.std.proofs.Math.Nat.{mod-eq_of_lt, mod_self, add-mul-mod_self_left}
+use Rattle.std.proofs.Math.Nat.{mod-lt, mod-eq_of_lt, mod_self, add-mul-mod_self_left}
 use Rattle.tk_tour.specs.Reversal.{IsInverse}
-use Rattle.tk_tour.specs.Tour.{IsTour, occurrences, place_of, next_city, prev_city}
+use Rattle.tk_distance.specs.Cities.{IsCity}
+use Rattle.tk_tour.specs.Tour.{IsTour, IsSizedTour, occurrences, place_of, next_city, prev_city}
 use Rattle.tk_tour.proofs.Once.{HoldsOnce, occurrences-append, occurrences-cons, occurrences-at}
 
 pub occurrences-other : (c x : ℕ) (xs : List ℕ) → c ≢ x → occurrences c (x ∷ xs) ≡ occurrences c xs
@@ -144,6 +145,18 @@ city_at_place order place c tour inverse low high =
     let f = place_found c order (omega (arith, tour.1 c low high)) in
     let e : get_or place (c - 1) 0 ≡ f.0 = ap (λ v. get_or place (v - 1) 0) (sym f.2) ∙ (inverse.1 f.0 f.1).2 in
     (omega (arith, e, f.1), ap (λ v. get_or order v 0) e ∙ f.2)
+
+-- the cities after one and before it are cities of the tour
+pub next_city-city : (xs : List ℕ) (c : ℕ) → IsSizedTour xs → IsCity (length xs) (next_city xs c)
+unfolding next_city
+next_city-city xs c tour =
+    city_in_range (length xs) xs ((place_of c xs + 1) % length xs) tour.2 (mod-lt _ (omega (arith, tour.0)))
+
+pub prev_city-city : (xs : List ℕ) (c : ℕ) → IsSizedTour xs → IsCity (length xs) (prev_city xs c)
+unfolding prev_city
+prev_city-city xs c tour =
+    city_in_range (length xs) xs ((place_of c xs + length xs - 1) % length xs) tour.2
+    (mod-lt _ (omega (arith, tour.0)))
 
 pub next_city-inside : (xs : List ℕ) (k : ℕ) → HoldsOnce xs → k + 1 < length xs →
     next_city xs (get_or xs k 0) ≡ get_or xs (k + 1) 0

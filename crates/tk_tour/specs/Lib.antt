@@ -1,3 +1,4 @@
+pub mod Around
 pub mod ArrayTours
 pub mod Counters
 pub mod Fault

@@ -14,7 +14,7 @@ mod verdict;
 pub use fault::TourFault;
 pub use measure::length;
 pub use sides::{Placed, shorter_side};
-pub use store::{Flip, TourStore};
+pub use store::{Around, Flip, TourStore};
 pub use stores::array::ArrayTour;
 pub use stores::journal::JournalTour;
 pub use stores::placing::place_each;

@@ -1,6 +1,7 @@
 //! A tour under flips.
 ghost use Rattle.std.specs.Prelude.{◌≡◌, ◌≤◌, ◌+◌, ◌-◌, ◌*◌, ◌/◌, ℕ, List, length, slice_index};
 ghost use Rattle.tk_distance.specs.Cities.{IsCity};
+ghost use Rattle.tk_tour.specs.Around.{AreAround};
 ghost use Rattle.tk_tour.specs.Tour.{IsSizedTour, next_city, prev_city};
 ghost use Rattle.tk_tour.specs.Moves.{CanFlip, IsShorterSide, ReplacesSteps, TwoOptMove};
 ghost use Rattle.tk_tour.specs.Reversal.{reversed_places};
@@ -11,6 +12,13 @@ ghost use Rattle.tk_tour.specs.Counters.{saturated};
 pub struct Flip {
     pub first: u32,
     pub count: u32,
+}
+
+/// The three cities after a city of a tour, and the three before it, each from the nearest on.
+#[derive(Clone, Copy, PartialEq, Eq, Debug)]
+pub struct Around {
+    pub after: [u32; 3],
+    pub before: [u32; 3],
 }
 
 /// A tour of 2 to 100,000 cities under flips, seen as the list of its cities.
@@ -48,6 +56,19 @@ pub trait TourStore {
         ensures before { result.1 ≡ prev_city (cities self.now) c }
     {
         (self.next(c), self.prev(c))
+    }
+
+    /// The cities around c.
+    fn around(&self, c: u32) -> Around
+        requires { IsCity (length (cities self.now)) c }
+        ensures { AreAround (cities self.now) c result }
+    {
+        let (after, before) = self.beside(c);
+        let (after_2, before_2) = (self.next(after), self.prev(before));
+        Around {
+            after: [after, after_2, self.next(after_2)],
+            before: [before, before_2, self.prev(before_2)],
+        }
     }
 
     /// The city at the k-th place, from 1.

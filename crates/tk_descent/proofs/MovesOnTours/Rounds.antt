@@ -1,13 +1,10 @@
 -- Tours by their members, and their steps.
-use Rattle.std.proofs.Common.{◌≡◌, ℕ, ◌<◌, ◌≤◌, ◌⊎◌, true, List, length, sym, ap, ◌∙◌, arith, inl, inr}
-use Rattle.tk_distance.specs.Cities.{IsCity}
-use Rattle.tk_tour.specs.Tour.{IsTour, next_city, prev_city, IsSizedTour}
+use Rattle.std.proofs.Common.{◌≡◌, ℕ, ◌<◌, ◌≤◌, ◌⊎◌, true, List, length, arith, inl, inr}
+use Rattle.tk_tour.specs.Tour.{IsTour, IsSizedTour}
 use Rattle.tk_tour.proofs.Tours.{HoldsOnce-tour, occurrences-outside, inside_or_not}
 use Rattle.tk_distance.specs.Holding.{holds}
 use Rattle.tk_descent.proofs.MovesOnTours.Paths.{IsRound}
-use Rattle.tk_descent.proofs.MovesOnTours.Steps.{held, counted, distinct_of, holds-reverse}
-use Rattle.tk_descent.proofs.OfferLists.OnCycle.{next_member}
-use Rattle.tk_descent.proofs.OfferLists.Ways.{ways_on, ways_back}
+use Rattle.tk_descent.proofs.MovesOnTours.Steps.{held, counted, distinct_of}
 
 outside : (xs : List ℕ) (c : ℕ) → IsTour (length xs) xs → holds xs c ≡ true → (0 < c → length xs < c) → ⊥
 outside xs c h e out = omega (arith, counted xs c e, occurrences-outside (length xs) c xs h out)
@@ -22,15 +19,3 @@ round_of C h = record {
   members = λ c. (λ e. in_range C c h.2 e (inside_or_not (length C) c), λ k. held C c (omega (arith, h.2.1 c k.0 k.1)));
   distinct = distinct_of C (HoldsOnce-tour (length C) C h.2);
 }
-
--- the neighbours of a city of a tour are cities of it
-pub next_range : (C : List ℕ) (c x : ℕ) → IsSizedTour C → IsCity (length C) c → x ≡ next_city C c → IsCity (length C) x
-next_range C c x h in' is =
-    let t = round_of C h in
-    (t.members x).0 (ap (holds C) is ∙ next_member (ways_on C t.distinct) c ((t.members c).1 in'))
-
-pub prev_range : (C : List ℕ) (c x : ℕ) → IsSizedTour C → IsCity (length C) c → x ≡ prev_city C c → IsCity (length C) x
-prev_range C c x h in' is =
-    let t = round_of C h in
-    (t.members x).0 (ap (holds C) is ∙ sym (holds-reverse C (prev_city C c))
-    ∙ next_member (ways_back C t.distinct) c (holds-reverse C c ∙ (t.members c).1 in'))

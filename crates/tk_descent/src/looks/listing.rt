@@ -89,7 +89,7 @@ pub(crate) fn offers_with<S: TourStore>(tour: &S, or_segment: u32, x: u32, y: u3
         c: y,
         d: y_before,
     });
-    let all = segments_of(tour, x, x_after, x_before);
+    let all = segments_of(tour, x);
     for segment in &all[..segment_count(size(tour), or_segment)] {
         offers.push_or(x, y, segment, y_after);
         offers.push_or(x, y, segment, y_before);

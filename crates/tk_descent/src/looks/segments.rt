@@ -6,7 +6,7 @@ ghost use Rattle.tk_descent.specs.Offers.{IsSegmentIn, all_segments, covers, seg
 ghost use Rattle.tk_descent.specs.declared.offer.Offer.TheVariants.{Or};
 
 use crate::offer::{Offer, Segment};
-use crate::on_tour::{next, prev};
+use crate::on_tour::around;
 use tk_tour::TourStore;
 
 impl Segment {
@@ -52,16 +52,14 @@ pub(crate) fn segment_count(n: u32, or_segment: u32) -> usize
 
 /// The segments that begin at x: of one city, of two forward and backward, of three forward and backward.
 #[inline]
-pub(crate) fn segments_of<S: TourStore>(tour: &S, x: u32, after: u32, before: u32) -> [Segment; 5]
-    requires cities { IsCity (length (S.cities tour.now)) x × IsCity (length (S.cities tour.now)) after
-        × IsCity (length (S.cities tour.now)) before }
-    requires after { after ≡ next_city (S.cities tour.now) x }
-    requires before { before ≡ prev_city (S.cities tour.now) x }
+pub(crate) fn segments_of<S: TourStore>(tour: &S, x: u32) -> [Segment; 5]
+    requires { IsCity (length (S.cities tour.now)) x }
     ensures value { result ≡ all_segments (next_city (S.cities tour.now)) (prev_city (S.cities tour.now)) x }
     ensures inside { All (IsSegmentIn (length (S.cities tour.now))) result }
 {
-    let (after_2, before_2) = (next(tour, after), prev(tour, before));
-    let (after_3, before_3) = (next(tour, after_2), prev(tour, before_2));
+    let around = around(tour, x);
+    let [after, after_2, after_3] = around.after;
+    let [before, before_2, before_3] = around.before;
     [
         Segment {
             before,

@@ -112,7 +112,7 @@ pub(crate) fn pieces_of<S: TourStore, M: Metric>(
     ensures shared { All (IsPiece (M.size_of metric.now) (M.distance metric.now) x.now.city) result }
 {
     let city = x.city;
-    let [one, two, two_back, three, three_back] = segments_of(tour, city, x.after, x.before);
+    let [one, two, two_back, three, three_back] = segments_of(tour, city);
     [
         measure_piece(metric, city, x.to_before, x.to_after, one),
         measure_longer(metric, steps, city, x.to_before, two),

@@ -6,7 +6,7 @@ use Rattle.tk_distance.specs.Cities.{IsCity}
 use Rattle.tk_tour.specs.Places.{IsPlaceFrom}
 use Rattle.tk_tour.specs.Reversal.{begun_at, reversed_places}
 use Rattle.tk_segments.specs.Runs.{shown, AreLaidOut, IsSpot, IsAfterPlace}
-use Rattle.tk_segments.specs.SeenTours.{list_of}
+use Rattle.tk_segments.specs.SeenTours.{SeesAt, list_of}
 use Rattle.tk_tour.specs.Tour.{IsTour, IsSizedTour, next_city, prev_city}
 use Rattle.tk_segments.specs.declared.seen.SeenTour.{SeenTour}
 use Rattle.tk_segments.specs.declared.spots.Spot.{Spot}
@@ -73,50 +73,59 @@ sized_tour n list two small tour =
     let P : ℕ → Type 0 = λ u. IsTour u list in
     (omega (arith, tour.0, two), omega (arith, tour.0, small), subst P (sym tour.0) tour)
 
--- beside a city
-pub next_is : (s : SeenTour) (c p v x : ℕ) (spot after : Spot) → IsCity (length (list_of s)) c →
+-- the city of a spot
+pub city_of_spot : (s : SeenTour) (c p v : ℕ) (spot : Spot) → IsCity (length (list_of s)) c →
+    p ≡ get_or s.place.items (c - 1) 0 → IsSpot s.runs.runs.items v spot → spot.place ≡ p → get_or (seen_of s) v 0 ≡ c
+city_of_spot s c p v spot h ep is es =
+    (spot_is s v spot is).1 ∙ ap (λ u. get_or s.order.items u 0) (es ∙ ep) ∙ (city_stands s c h).2
+
+-- where a city is seen, and where the one after it is, or before it
+pub seen_at : (s : SeenTour) (c p v : ℕ) (spot : Spot) → IsCity (length (list_of s)) c →
     p ≡ get_or s.place.items (c - 1) 0 → IsSpot s.runs.runs.items v spot → spot.place ≡ p → v < s.runs.size →
-    ((v w : ℕ) → IsSpot s.runs.runs.items v spot → IsAfterPlace s.runs.size v w → IsSpot s.runs.runs.items w after) →
-    x ≡ get_or s.order.items after.place 0 →
-    x ≡ next_city (list_of s) c
-next_is s c p v x spot after h ep is es lv step ex =
-    let f = facts s in
-    let a = after_place s.runs.size v lv in
-    let here = spot_is s v spot is in
-    let there = spot_is s a.w after (step v a.w is a.after) in
-    next_begun s.runs.size s.begin v a.w c x (seen_of s) f.tour s.begins lv a.after
-    (here.1 ∙ ap (λ u. get_or s.order.items u 0) (es ∙ ep) ∙ (city_stands s c h).2) (ex ∙ sym there.1)
+    SeesAt s c spot
+seen_at s c p v spot h ep is es lv =
+    record { place = v; inside = lv; is = is; shows = city_of_spot s c p v spot h ep is es }
 
-pub prev_is : (s : SeenTour) (c p w x : ℕ) (spot before : Spot) → IsCity (length (list_of s)) c →
-    p ≡ get_or s.place.items (c - 1) 0 → IsSpot s.runs.runs.items w spot → spot.place ≡ p → w < s.runs.size →
-    ((v w : ℕ) → IsSpot s.runs.runs.items w spot → IsAfterPlace s.runs.size v w → IsSpot s.runs.runs.items v before) →
-    x ≡ get_or s.order.items before.place 0 →
-    x ≡ prev_city (list_of s) c
-prev_is s c p w x spot before h ep is es lw step ex =
+pub record Steps (s : SeenTour) (step : List ℕ → ℕ → ℕ) (c : ℕ) (there : Spot) : Type 0 where
+  pub in_array : there.place < s.runs.size
+  pub sees : SeesAt s (get_or s.order.items there.place 0) there
+  pub city : get_or s.order.items there.place 0 ≡ step (list_of s) c
+
+pub step_after : (s : SeenTour) (c : ℕ) (spot after : Spot) → SeesAt s c spot →
+    ((v w : ℕ) → IsSpot s.runs.runs.items v spot → IsAfterPlace s.runs.size v w → IsSpot s.runs.runs.items w after) →
+    Steps s next_city c after
+step_after s c spot after at step =
     let f = facts s in
-    let b = before_place s.runs.size w lw in
+    let a = after_place s.runs.size at.place at.inside in
+    let is = step at.place a.w at.is a.after in
+    let there = spot_is s a.w after is in
+    let lw : a.w < s.runs.size =
+    ⊎_elim (λ (h : (at.place + 1 < s.runs.size) × (a.w ≡ at.place + 1)). omega (arith, h))
+    (λ (h : (at.place + 1 ≡ s.runs.size) × (a.w ≡ 0)). omega (arith, h)) a.after in
+    record {
+      in_array = there.0;
+      sees = record { place = a.w; inside = lw; is = is; shows = there.1 };
+      city = next_begun s.runs.size s.begin at.place a.w c _ (seen_of s) f.tour s.begins at.inside a.after at.shows
+          (sym there.1);
+    }
+
+pub step_before : (s : SeenTour) (c : ℕ) (spot before : Spot) → SeesAt s c spot →
+    ((v w : ℕ) → IsSpot s.runs.runs.items w spot → IsAfterPlace s.runs.size v w → IsSpot s.runs.runs.items v before) →
+    Steps s prev_city c before
+step_before s c spot before at step =
+    let f = facts s in
+    let b = before_place s.runs.size at.place at.inside in
+    let is = step b.v at.place at.is b.after in
+    let there = spot_is s b.v before is in
     let lv : b.v < s.runs.size =
-    ⊎_elim (λ (a : (b.v + 1 < s.runs.size) × (w ≡ b.v + 1)). omega (arith, a))
-    (λ (a : (b.v + 1 ≡ s.runs.size) × (w ≡ 0)). omega (arith, a)) b.after in
-    let here = spot_is s w spot is in
-    let there = spot_is s b.v before (step b.v w is b.after) in
-    prev_begun s.runs.size s.begin b.v w c x (seen_of s) f.tour s.begins lv lw b.after
-    (here.1 ∙ ap (λ u. get_or s.order.items u 0) (es ∙ ep) ∙ (city_stands s c h).2) (ex ∙ sym there.1)
-
--- the place after is one of the array, too
-pub after_in : (s : SeenTour) (v : ℕ) (spot after : Spot) → IsSpot s.runs.runs.items v spot → v < s.runs.size →
-    ((v w : ℕ) → IsSpot s.runs.runs.items v spot → IsAfterPlace s.runs.size v w → IsSpot s.runs.runs.items w after) →
-    after.place < s.runs.size
-after_in s v spot after is lv step =
-    let a = after_place s.runs.size v lv in
-    (spot_is s a.w after (step v a.w is a.after)).0
-
-pub before_in : (s : SeenTour) (w : ℕ) (spot before : Spot) → IsSpot s.runs.runs.items w spot → w < s.runs.size →
-    ((v w : ℕ) → IsSpot s.runs.runs.items w spot → IsAfterPlace s.runs.size v w → IsSpot s.runs.runs.items v before) →
-    before.place < s.runs.size
-before_in s w spot before is lw step =
-    let b = before_place s.runs.size w lw in
-    (spot_is s b.v before (step b.v w is b.after)).0
+    ⊎_elim (λ (h : (b.v + 1 < s.runs.size) × (at.place ≡ b.v + 1)). omega (arith, h))
+    (λ (h : (b.v + 1 ≡ s.runs.size) × (at.place ≡ 0)). omega (arith, h)) b.after in
+    record {
+      in_array = there.0;
+      sees = record { place = b.v; inside = lv; is = is; shows = there.1 };
+      city = prev_begun s.runs.size s.begin b.v at.place c _ (seen_of s) f.tour s.begins lv at.inside b.after at.shows
+          (sym there.1);
+    }
 
 -- what is seen is reversed, wherever the list begins
 pub reversed_tour : (s : SeenTour) (b first count : ℕ) (seen : List ℕ) →
@@ -210,11 +219,6 @@ list_at s k v c lk h e =
     let f = facts s in
     let P : ℕ → Type 0 = λ u. IsPlaceFrom u s.begin k v in
     stands_there s.runs.size s.begin k v c (seen_of s) f.seen s.begins (omega (arith, f.list, lk)) (subst P f.list h) e
-
-pub city_of_spot : (s : SeenTour) (c p v : ℕ) (spot : Spot) → IsCity (length (list_of s)) c →
-    p ≡ get_or s.place.items (c - 1) 0 → IsSpot s.runs.runs.items v spot → spot.place ≡ p → get_or (seen_of s) v 0 ≡ c
-city_of_spot s c p v spot h ep is es =
-    (spot_is s v spot is).1 ∙ ap (λ u. get_or s.order.items u 0) (es ∙ ep) ∙ (city_stands s c h).2
 
 -- as many cities stand in the array
 pub size_again : (s t : SeenTour) → length (list_of t) ≡ length (list_of s) →

@@ -57,6 +57,7 @@ fn expect_same_order<S: TourStore, T: TourStore>(rt: &impl Abort, one: &S, other
         assert!(rt; one.at(k) == other.at(k));
         assert!(rt; one.next(k) == other.next(k));
         assert!(rt; one.prev(k) == other.prev(k));
+        assert!(rt; one.around(k) == other.around(k));
     }
 }
 

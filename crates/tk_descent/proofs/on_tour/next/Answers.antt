@@ -1,5 +1,5 @@
-use Rattle.tk_descent.proofs.MovesOnTours.Rounds.{next_range}
+use Rattle.tk_tour.proofs.Tours.{next_city-city}
 use Rattle.tk_descent.proofs.on_tour.next.Goals as goal
 
 pub returns-clause-city : goal.returns-clause-city
-returns-clause-city g c = next_range _ _ _ (g.met.S.TourStore.is_tour c.args.tour.now) c.requires.city c.next.ensures
+returns-clause-city g c = rw c.next.ensures (next_city-city _ _ (g.met.S.TourStore.is_tour c.args.tour.now))

@@ -1,0 +1,13 @@
+-- The cities around a city of a tour.
+use Rattle.std.specs.Prelude.{◌≡◌, ℕ, List, [], ◌∷◌}
+use Rattle.tk_tour.specs.Tour.{next_city, prev_city}
+use Rattle.tk_tour.specs.declared.store.Around.{Around}
+
+-- the first three cities on a way from c
+abbrev pub three_from : (ℕ → ℕ) → ℕ → List ℕ
+three_from step c = step c ∷ step (step c) ∷ step (step (step c)) ∷ []
+
+-- the three cities after c on a tour, and the three before it
+pub record AreAround (cities : List ℕ) (c : ℕ) (around : Around) : Type 0 where
+  pub after : around.after ≡ three_from (next_city cities) c
+  pub before : around.before ≡ three_from (prev_city cities) c
