@@ -6,6 +6,10 @@ ghost use Rattle.tk_descent.specs.Steps.{AreMeasured, AreTrueOf, IsMeasured, kno
 use std::alloc::{AllocError, Global};
 use tk_distance::Metric;
 
+/// The steps of so many cities at most are remembered. With more, what is remembered does not fit into the processor's
+/// cache beside the places and near lists, and reading it takes longer than the square roots that it saves.
+const REMEMBERED: u32 = 10_000;
+
 /// Two neighbours that a city had on the tour, and how far they are. 0 stands for no city.
 #[derive(Clone, Copy, Drop)]
 pub(crate) struct Measured {
@@ -33,13 +37,16 @@ pub struct Steps {
 }
 
 impl Steps {
-    /// Room for what will be remembered of n cities.
+    /// Room for what will be remembered of n cities; of more than 10,000 nothing is.
     ///
     /// # Errors
     /// `AllocError` where there is no memory for it.
     pub fn new(alloc: Global, n: u32) -> Result<Steps, AllocError>
         ensures { IfOk result (λ s. (distance : ℕ → ℕ → ℕ) → AreTrueOf distance s) }
     {
+        if n > REMEMBERED {
+            return Ok(Steps::none());
+        }
         let none = Measured {
             one: 0,
             other: 0,
